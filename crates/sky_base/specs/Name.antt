@@ -1,0 +1,73 @@
+-- Names: the bytes of a description, one level deep, and their digest.
+use Rattle.std.specs.Prelude.{ℕ, zero, suc, ◌-◌, ◌/◌, ◌%◌, ◌^◌, ℤ, pos, negsuc, List, [], ◌∷◌, ◌++◌, true, false, length}
+use Rattle.sky_base.specs.Val.{Val, Vals, Pairs, Desc, null, truth, num, text, list, dict, fun, ref, no_vals, val, no_pairs, pair, call, out, input, known, count, pair_count}
+
+-- the k low bytes of a number, the highest first
+abbrev pub big_endian : ℕ → ℕ → List ℕ
+big_endian zero n = []
+big_endian (suc k) n = n / 256 ^ k % 256 ∷ big_endian k n
+
+abbrev pub bytes_of_int : ℤ → List ℕ
+bytes_of_int (pos n) = big_endian 8 n
+bytes_of_int (negsuc n) = big_endian 8 (2 ^ 64 - suc n)
+
+abbrev pub bytes_of_text : List ℕ → List ℕ
+bytes_of_text t = big_endian 4 (length t) ++ t
+
+module _ {N : Type 0} (spell : N → List ℕ) (digest : List ℕ → List ℕ) where
+  abbrev mutual
+    pub bytes : (Val N) → List ℕ
+    bytes null = 0 ∷ []
+    bytes (truth false) = 1 ∷ []
+    bytes (truth true) = 2 ∷ []
+    bytes (num z) = 3 ∷ bytes_of_int z
+    bytes (text t) = 4 ∷ bytes_of_text t
+    bytes (list vs) = 5 ∷ (big_endian 4 (count vs) ++ vals_bytes vs)
+    bytes (dict ps) = 6 ∷ (big_endian 4 (pair_count ps) ++ pairs_bytes ps)
+    bytes (fun f) = 7 ∷ bytes_of_text f
+    bytes (ref d) = 8 ∷ name d
+
+    pub vals_bytes : (Vals N) → List ℕ
+    vals_bytes no_vals = []
+    vals_bytes (val v vs) = bytes v ++ vals_bytes vs
+
+    pub pairs_bytes : (Pairs N) → List ℕ
+    pairs_bytes no_pairs = []
+    pairs_bytes (pair k v ps) = bytes_of_text k ++ (bytes v ++ pairs_bytes ps)
+
+    pub name : (Desc N) → List ℕ
+    name (call f vs) = digest (67 ∷ (bytes_of_text f ++ (big_endian 4 (count vs) ++ vals_bytes vs)))
+    name (out x v n i) = digest (69 ∷ (bytes_of_text x ++ (bytes v ++ (big_endian 4 n ++ big_endian 4 i))))
+    name (input k) = digest (73 ∷ bytes_of_text k)
+    name (known n) = spell n
+
+  abbrev pub canon : (Desc N) → List ℕ
+  canon (call f vs) = 67 ∷ (bytes_of_text f ++ (big_endian 4 (count vs) ++ vals_bytes vs))
+  canon (out x v n i) = 69 ∷ (bytes_of_text x ++ (bytes v ++ (big_endian 4 n ++ big_endian 4 i)))
+  canon (input k) = 73 ∷ bytes_of_text k
+  canon (known n) = []
+
+  abbrev mutual
+    pub low : Val N → Val (List ℕ)
+    low null = null
+    low (truth b) = truth b
+    low (num z) = num z
+    low (text t) = text t
+    low (list vs) = list (low_vals vs)
+    low (dict ps) = dict (low_pairs ps)
+    low (fun f) = fun f
+    low (ref d) = ref (known (name d))
+
+    pub low_vals : Vals N → Vals (List ℕ)
+    low_vals no_vals = no_vals
+    low_vals (val v vs) = val (low v) (low_vals vs)
+
+    pub low_pairs : Pairs N → Pairs (List ℕ)
+    low_pairs no_pairs = no_pairs
+    low_pairs (pair k v ps) = pair k (low v) (low_pairs ps)
+
+  abbrev pub low_desc : Desc N → Desc (List ℕ)
+  low_desc (call f vs) = call f (low_vals vs)
+  low_desc (out x v n i) = out x (low v) n i
+  low_desc (input k) = input k
+  low_desc (known n) = known (spell n)

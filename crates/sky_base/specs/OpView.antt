@@ -1,0 +1,25 @@
+-- What an operator of the code answers.
+use Rattle.std.specs.Prelude.{◌≡◌, List, ℕ, Result, Ok, Err}
+use Rattle.sky_base.specs.Val.{Vals, list}
+use Rattle.sky_base.specs.Op.{Answer}
+use Rattle.sky_base.specs.View.{view}
+use Rattle.sky_base.specs.declared.value.Value.{Value}
+use Rattle.sky_base.specs.declared.op.OpRefusal.{OpRefusal}
+
+-- the answer, or want of memory
+abbrev pub Answers : Result Value OpRefusal → Answer (List ℕ) → Type 0
+Answers (Ok v) a = a ≡ Ok (view v)
+Answers (Err (OpRefusal.Refused k)) a = a ≡ Err k
+Answers (Err OpRefusal.Memory) a = Unit {0}
+
+-- the list becomes the answer's, and a refusal leaves it
+abbrev pub Changes : {T : Type 0} → Result T OpRefusal → Answer (List ℕ) → Vals (List ℕ) → Vals (List ℕ) → Type 0
+Changes (Ok u) a old new = a ≡ Ok (list new)
+Changes (Err (OpRefusal.Refused k)) a old new = (a ≡ Err k) × (new ≡ old)
+Changes (Err OpRefusal.Memory) a old new = new ≡ old
+
+-- the value becomes the answer, and a refusal leaves it
+abbrev pub Becomes : {T : Type 0} → Result T OpRefusal → Answer (List ℕ) → Value → Value → Type 0
+Becomes (Ok u) a old new = a ≡ Ok (view new)
+Becomes (Err (OpRefusal.Refused k)) a old new = (a ≡ Err k) × (new ≡ old)
+Becomes (Err OpRefusal.Memory) a old new = new ≡ old

@@ -1,0 +1,142 @@
+// The statements of a script.
+
+ghost use Rattle.std.specs.Prelude.{◌≡◌, ◌<◌, ◌^◌};
+ghost use Rattle.sky_base.specs.Tree.{stm_nodes, stms_nodes, arms_nodes};
+ghost use Rattle.sky_base.specs.StmtView.{stm_view};
+
+use crate::text::Txt;
+use crate::tree::Expr;
+use std::alloc::Global;
+use std::marker::Model;
+
+/// A statement.
+#[cycle(stmt)]
+#[derive(Drop)]
+pub enum Stmt {
+    Set {
+        name: Txt,
+        line: u32,
+        col: u32,
+        value: Expr,
+    },
+    Add {
+        name: Txt,
+        name_line: u32,
+        name_col: u32,
+        line: u32,
+        col: u32,
+        value: Expr,
+    },
+    Put {
+        name: Txt,
+        name_line: u32,
+        name_col: u32,
+        line: u32,
+        col: u32,
+        at: Expr,
+        value: Expr,
+    },
+    Return {
+        line: u32,
+        col: u32,
+        value: Option<Expr>,
+    },
+    If {
+        line: u32,
+        col: u32,
+        arms: Arms,
+        otherwise: Option<Block>,
+    },
+    While {
+        line: u32,
+        col: u32,
+        test: Expr,
+        body: Block,
+    },
+    Do {
+        line: u32,
+        col: u32,
+        body: Block,
+        test: Expr,
+    },
+    For {
+        line: u32,
+        col: u32,
+        name: Txt,
+        list: Expr,
+        body: Block,
+    },
+    Just {
+        line: u32,
+        col: u32,
+        inner: Expr,
+    },
+}
+
+/// A block.
+#[cycle(stmt)]
+#[derive(Drop)]
+pub struct Block {
+    stmts: Vec<Stmt>,
+}
+
+impl Model for Block {
+    ghost use Rattle.sky_base.specs.Tree as logic;
+    ghost use Rattle.sky_base.specs.TreeCode.{stms_code};
+
+    ghost Value = { logic.Stms };
+
+    ghost coded = { stms_code };
+
+    ghost use Rattle.sky_base.specs.StmtView.{stms_view};
+
+    ghost view = { λ a. stms_view a.stmts.items };
+
+    ghost use Rattle.sky_base.specs.Tree.{stms_weight};
+
+    ghost size = { stms_weight };
+
+    ghost use Rattle.sky_base.specs.StmtFalls.{stms_fall};
+    ghost use Rattle.std.proofs.Common.{arith};
+
+    ghost size_decreases = { λ a h. omega (arith, stms_fall a.stmts.items) };
+}
+
+/// An arm of a choice.
+#[cycle(stmt)]
+#[derive(Drop)]
+pub struct Arm {
+    pub line: u32,
+    pub col: u32,
+    pub test: Expr,
+    pub body: Block,
+}
+
+/// The arms of a choice.
+#[cycle(stmt)]
+#[derive(Drop)]
+pub struct Arms {
+    items: Vec<Arm>,
+}
+
+impl Model for Arms {
+    ghost use Rattle.sky_base.specs.Tree as logic;
+    ghost use Rattle.sky_base.specs.TreeCode.{arms_code};
+
+    ghost Value = { logic.Arms };
+
+    ghost coded = { arms_code };
+
+    ghost use Rattle.sky_base.specs.StmtView.{arms_view};
+
+    ghost view = { λ a. arms_view a.items.items };
+
+    ghost use Rattle.sky_base.specs.Tree.{arms_weight};
+
+    ghost size = { arms_weight };
+
+    ghost use Rattle.sky_base.specs.StmtFalls.{arms_fall};
+    ghost use Rattle.std.proofs.Common.{arith};
+
+    ghost size_decreases = { λ a h. omega (arith, arms_fall a.items.items) };
+}

@@ -1,0 +1,145 @@
+// Texts, byte lists and names. A text and a byte list may have several owners, by `Arc`, so that
+// sharing one takes constant time.
+
+ghost use Rattle.std.specs.Prelude.{◌≡◌, ◌↔◌, IfOk, IsTrue, [], length, string_bytes};
+ghost use Rattle.std.specs.Str.{IsUtf8};
+
+use std::alloc::Global;
+use std::convert::AsStr;
+use std::marker::Model;
+use std::sync::{Arc, ArcStr};
+
+/// Want of memory.
+#[derive(Clone, Copy, PartialEq, Eq, Debug)]
+pub struct Memory;
+
+/// A UTF-8 text, which several owners may share. Contracts see it as the list of its bytes.
+#[derive(Drop)]
+pub struct Txt {
+    held: ArcStr,
+}
+
+impl Model for Txt {
+    ghost use Rattle.std.specs.Prelude.{List, ℕ};
+    ghost use Rattle.std.specs.Arc.{arc_str_bytes};
+    ghost use Rattle.std.specs.Str.{IsUtf8};
+
+    ghost Value = { List ℕ };
+
+    ghost view = { λ t. arc_str_bytes t.held };
+
+    ghost invariant = { λ t. IsUtf8 (arc_str_bytes t.held) };
+}
+
+impl Txt {
+    /// A copy of the text.
+    pub fn new(alloc: Global, text: &str) -> Result<Txt, Memory>
+        ensures { IfOk result (λ t. t ≡ text.now) }
+    {
+        match ArcStr::from_str(alloc, text) {
+            Ok(held) => Ok(Txt { held }),
+            Err(_) => Err(Memory),
+        }
+    }
+
+    /// A text that takes over the string's buffer.
+    pub fn from_string(text: String) -> Result<Txt, Memory>
+        ensures { IfOk result (λ t. t ≡ string_bytes text) }
+    {
+        let _bytes = text.as_str();
+        match ArcStr::from_string(text) {
+            Ok(held) => Ok(Txt { held }),
+            Err(_) => Err(Memory),
+        }
+    }
+
+    /// A second owner of the same text, in constant time.
+    pub fn share(&self) -> Result<Txt, Memory>
+        ensures { IfOk result (λ t. t ≡ self.now) }
+    {
+        match self.held.clone() {
+            Ok(held) => Ok(Txt { held }),
+            Err(_) => Err(Memory),
+        }
+    }
+
+    /// The text itself.
+    pub fn as_str(&self) -> &str
+        ensures value { result.now ≡ self.now }
+        ensures utf8 { IsUtf8 self.now }
+    {
+        self.held.as_str()
+    }
+
+    /// The number of bytes.
+    pub fn len(&self) -> usize
+        ensures { result ≡ length self.now }
+    {
+        self.held.as_str().len()
+    }
+
+    /// Whether it has no byte.
+    pub fn is_empty(&self) -> bool
+        ensures { IsTrue result ↔ (self.now ≡ []) }
+    {
+        self.held.as_str().is_empty()
+    }
+}
+
+impl AsStr for Txt {
+    ghost text = { λ t. t };
+
+    fn as_str(&self) -> &str {
+        self.held.as_str()
+    }
+}
+
+/// The name of an object: 20 bytes, compared and ordered as bytes.
+#[derive(Clone, Copy, PartialEq, Eq, PartialOrd, Ord, Debug)]
+pub struct Name {
+    pub bytes: [u8; 20],
+}
+
+/// Bytes, which several owners may share. Contracts see them as a list.
+#[derive(Drop)]
+pub struct Bytes {
+    held: Arc<Vec<u8>, Global>,
+}
+
+impl Model for Bytes {
+    ghost use Rattle.std.specs.Prelude.{List, ℕ};
+    ghost use Rattle.std.specs.Arc.{arc_value};
+
+    ghost Value = { List ℕ };
+
+    ghost view = { λ b. (arc_value b.held).items };
+}
+
+impl Bytes {
+    /// Takes the bytes over.
+    pub fn new(alloc: Global, bytes: Vec<u8>) -> Result<Bytes, Memory>
+        ensures { IfOk result (λ b. b ≡ bytes.items) }
+    {
+        match Arc::new(alloc, bytes) {
+            Ok(held) => Ok(Bytes { held }),
+            Err(_) => Err(Memory),
+        }
+    }
+
+    /// A second owner of the same bytes, in constant time.
+    pub fn share(&self) -> Result<Bytes, Memory>
+        ensures { IfOk result (λ b. b ≡ self.now) }
+    {
+        match Arc::try_clone(&self.held) {
+            Ok(held) => Ok(Bytes { held }),
+            Err(_) => Err(Memory),
+        }
+    }
+
+    /// The bytes themselves.
+    pub fn as_slice(&self) -> &[u8]
+        ensures { result.now ≡ self.now }
+    {
+        self.held.as_slice()
+    }
+}
