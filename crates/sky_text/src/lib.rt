@@ -1,0 +1,4 @@
+// The tokens of Skywriting: their types, and the lexer.
+#![tactic(auto)]
+
+pub mod token;
