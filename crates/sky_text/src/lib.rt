@@ -1,4 +1,5 @@
 // The tokens of Skywriting: their types, and the lexer.
 #![tactic(auto)]
 
+pub mod lex;
 pub mod token;
