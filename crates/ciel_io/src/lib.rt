@@ -3,5 +3,9 @@
 // memory say exactly what they hold; those of the host are the trusted edge, and say nothing.
 #![tactic(auto)]
 
+mod fails;
 pub mod files;
+pub mod mem_sink;
+mod room;
+mod shelf;
 pub mod sink;
