@@ -5,6 +5,7 @@
 
 mod fails;
 pub mod files;
+pub mod host;
 pub mod mem_files;
 pub mod mem_sink;
 mod room;
