@@ -11,3 +11,5 @@ pub mod mem_sink;
 mod room;
 mod shelf;
 pub mod sink;
+#[cfg(test)]
+mod tests;
