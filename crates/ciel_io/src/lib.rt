@@ -3,5 +3,13 @@
 // memory say exactly what they hold; those of the host are the trusted edge, and say nothing.
 #![tactic(auto)]
 
+mod fails;
 pub mod files;
+pub mod host;
+pub mod mem_files;
+pub mod mem_sink;
+mod room;
+mod shelf;
 pub mod sink;
+#[cfg(test)]
+mod tests;
