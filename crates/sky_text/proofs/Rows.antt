@@ -1,5 +1,5 @@
 -- Worked rows of the tokens of a script, each computed from the definition.
-use Rattle.std.proofs.Common.{◌≡◌, ℕ, List, [], ◌∷◌, ◌++◌, pos, Result, Ok, Err, refl}
+use Rattle.std.proofs.Common.{◌≡◌, ℕ, [], ◌∷◌, pos, Ok, Err, refl}
 use Rattle.std.specs.Prelude.{codes}
 use Rattle.std.specs.Str.{is_utf8, chars}
 use Rattle.std.specs.Str.Lossy.{utf8_valid_len}
