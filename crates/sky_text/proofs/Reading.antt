@@ -1,9 +1,9 @@
 -- Reading the pieces of a script one after the other.
-use Rattle.std.proofs.Common.{◌≡◌, ℕ, zero, suc, ◌+◌, ◌-◌, ◌≤◌, ◌<◌, Bool, true, cond, List, [], ◌∷◌, ◌++◌, length, drop, Result, Ok, Err, refl, sym, ap, ◌∙◌, arith, append_assoc}
+use Rattle.std.proofs.Common.{◌≡◌, ℕ, zero, suc, ◌+◌, ◌-◌, ◌≤◌, ◌<◌, Bool, true, false, cond, List, [], ◌∷◌, ◌++◌, length, drop, Result, Ok, Err, refl, sym, ap, ◌∙◌, arith, append_assoc}
 use Rattle.std.specs.Prelude.{◌==◌, nat_lt}
 use Rattle.std.specs.Str.{IsUtf8}
 use Rattle.std.specs.Str.Lossy.{utf8_valid_len}
-use Rattle.std.proofs.lemmas.Bool.{le-ltb, lt-ltb}
+use Rattle.std.proofs.lemmas.Bool.{eqb-true, false_from_ne_true, le-ltb, lt-ltb}
 use Rattle.std.proofs.lemmas.Bool.Decides.{nat_tests}
 use Rattle.std.proofs.lemmas.List.{append-nil}
 use Rattle.std.proofs.lemmas.Str.{utf8_valid_len-IsUtf8}
@@ -90,4 +90,14 @@ eqb_same : (n : ℕ) → (n == n) ≡ true
 eqb_same n = grind (arith, nat_tests)
 
 pub of_utf8 : (bytes : List ℕ) → IsUtf8 bytes → tokens_of bytes ≡ tokens_from bytes 0 0 bytes
+unfolding tokens_of
 of_utf8 bytes u = let all : (utf8_valid_len bytes == length bytes) ≡ true = rw (utf8_valid_len-IsUtf8 bytes u) (eqb_same (length bytes)) in rw all refl
+
+eqb_other : (m n : ℕ) → ¬ (m ≡ n) → (m == n) ≡ false
+eqb_other m n h = false_from_ne_true (m == n) (λ e. h (eqb-true m n e))
+
+pub of_others : (bytes : List ℕ) (n : ℕ) → n ≡ utf8_valid_len bytes → n < length bytes → tokens_of bytes ≡ Err (LexRefusal.BadByte n)
+unfolding tokens_of
+of_others bytes n e h =
+    let short : (utf8_valid_len bytes == length bytes) ≡ false = eqb_other (utf8_valid_len bytes) (length bytes) (λ same. omega arith) in
+    rw (e, short) refl

@@ -134,7 +134,7 @@ tokens_from bytes at zero (b ∷ r) =
 
 -- the tokens of a script, or its first refusal; bytes that are not UTF-8 are refused before all else,
 -- where the longest part in front that is UTF-8 ends
-abbrev pub tokens_of : List ℕ → Result (List Token) LexRefusal
+unfoldable pub tokens_of : List ℕ → Result (List Token) LexRefusal
 tokens_of bytes =
     if utf8_valid_len bytes == length bytes then tokens_from bytes 0 0 bytes
     else Err (LexRefusal.BadByte (utf8_valid_len bytes))
