@@ -1,6 +1,6 @@
 -- The tokens of a script, as the language's reference says them: read from the left, up to the first
 -- refusal. The bytes before a token are a gap: blanks and comments.
-use Rattle.std.specs.Prelude.{ℕ, zero, suc, ◌+◌, ◌-◌, nat_lt, ◌==◌, ◌&&◌, ◌||◌, if◌then◌else◌, not, Bool, true, false, pos, List, [], ◌∷◌, length, map, Option, Some, None, Result, Ok, Err}
+use Rattle.std.specs.Prelude.{ℕ, zero, suc, ◌+◌, ◌-◌, nat_lt, ◌==◌, ◌&&◌, ◌||◌, if◌then◌else◌, not, Bool, false, pos, List, [], ◌∷◌, length, map, Option, Some, None, Result, Ok, Err}
 use Rattle.std.specs.Char.{is_ascii_alphabetic, is_ascii_digit}
 use Rattle.std.specs.Int.Digits.{number_from_digits}
 use Rattle.std.specs.List.{take_while, prefix_len}
@@ -87,6 +87,10 @@ text_from quote at (b ∷ c ∷ r) =
     else Err (LexRefusal.BadEscape at))
     else and_then (text_from quote (at + 1) (c ∷ r)) (with_byte b)
 
+-- the kind of a text, and the place behind it
+abbrev pub text_at : ℕ → List ℕ → Result (TokenKind × ℕ) LexRefusal
+text_at quote r = and_then (text_from quote (quote + 1) r) (λ text. Ok (TokenKind.Text text.0, text.1))
+
 -- Tokens.
 
 -- the sign of one byte, or the refusal of another byte
@@ -107,10 +111,10 @@ sign_at at b (c ∷ r) = long_or_short at (long_sign b c) (short_sign b)
 abbrev pub token_at : ℕ → ℕ → List ℕ → Result (TokenKind × ℕ) LexRefusal
 token_at at b r =
     if begins_name b then
-    (let name = b ∷ take_while goes_on_name r in Ok (named name, at + length name))
+    (let name = take_while goes_on_name (b ∷ r) in Ok (named name, at + length name))
     else if is_ascii_digit b then
     (let digits = take_while is_ascii_digit (b ∷ r) in and_then (number at (number_of digits)) (λ kind. Ok (kind, at + length digits)))
-    else if b == 34 then and_then (text_from at (at + 1) r) (λ text. Ok (TokenKind.Text text.0, text.1))
+    else if b == 34 then text_at at r
     else sign_at at b r
 
 -- the token from one place up to another
@@ -130,7 +134,7 @@ tokens_from bytes at zero (b ∷ r) =
 
 -- the tokens of a script, or its first refusal; bytes that are not UTF-8 are refused before all else,
 -- where the longest part in front that is UTF-8 ends
-abbrev pub tokens_of : List ℕ → Result (List Token) LexRefusal
+unfoldable pub tokens_of : List ℕ → Result (List Token) LexRefusal
 tokens_of bytes =
     if utf8_valid_len bytes == length bytes then tokens_from bytes 0 0 bytes
     else Err (LexRefusal.BadByte (utf8_valid_len bytes))

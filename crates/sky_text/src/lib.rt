@@ -2,4 +2,5 @@
 #![tactic(auto)]
 
 pub mod lex;
+mod scan;
 pub mod token;
