@@ -1,6 +1,6 @@
 -- Lists of values, seen through the list that holds them.
 use Rattle.std.proofs.Common.{◌≡◌, ℕ, zero, suc, List, [], ◌∷◌, ◌++◌, length, Option, Some, None, refl, ap, get_or, arith, ◌+◌, ◌<◌, ◌≤◌, max}
-use Rattle.sky_base.specs.Val.{Val, Vals, no_vals, val, add_val, val_nodes, vals_nodes, sizes, depths, size, depth}
+use Rattle.sky_base.specs.Val.{Val, Vals, no_vals, val, add_val, val_nodes, vals_nodes, pairs_nodes, sizes, depths, size, depth}
 use Rattle.std.specs.Ordering.{nat_cmp, match_ordering}
 use Rattle.std.specs.Cmp.Lexicographic.{slice_cmp}
 use Rattle.std.specs.declared.cmp.Ordering.{Ordering}
@@ -41,6 +41,13 @@ pub value_inside : (vs : List Value) (i : ℕ) (x : Value) → i < length vs →
 value_inside [] i x h e = absurd (omega arith)
 value_inside (v ∷ vs) zero x h e = rw e (omega arith)
 value_inside (v ∷ vs) (suc i) x h e = omega (arith, value_inside vs i x (omega arith) e)
+
+pub pair_inside : (ps : List Pair) (i : ℕ) (x : Pair) → i < length ps → x ≡ get_or ps i x → val_nodes (view x.value) < pairs_nodes (pairs_of ps)
+pair_inside [] i x h e = absurd (omega arith)
+pair_inside (p ∷ ps) zero x h e = rw e (omega arith)
+pair_inside (p ∷ ps) (suc i) x h e = omega (arith, pair_inside ps i x (omega arith) e)
+
+pub ruleset inside = (value_inside, pair_inside)
 
 pub vals_of-append : (vs ws : List Value) → vals_of (vs ++ ws) ≡ join (vals_of vs) (vals_of ws)
 vals_of-append [] ws = refl
