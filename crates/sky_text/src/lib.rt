@@ -3,4 +3,6 @@
 
 pub mod lex;
 mod scan;
+#[cfg(test)]
+mod tests;
 pub mod token;
