@@ -1,3 +1,4 @@
 pub mod Place
 pub mod Words
 pub mod Lexing
+pub mod Spelling

@@ -1,6 +1,7 @@
 // The tokens of Skywriting: their types, and the lexer.
 #![tactic(auto)]
 
+pub mod law;
 pub mod lex;
 mod scan;
 #[cfg(test)]
