@@ -1,5 +1,5 @@
 -- Decimal digits and the tests of a token's bytes.
-use Rattle.std.proofs.Common.{◌≡◌, ℕ, zero, suc, ◌+◌, ◌-◌, ◌≤◌, ◌<◌, Bool, true, false, cond, List, [], ◌∷◌, length, map, refl, sym, ap, ◌∙◌, arith}
+use Rattle.std.proofs.Common.{◌≡◌, ℕ, suc, ◌+◌, ◌-◌, ◌≤◌, ◌<◌, Bool, true, false, List, [], ◌∷◌, length, map, refl, sym, ap, ◌∙◌, arith}
 use Rattle.std.specs.Prelude.{◌==◌, ◌&&◌}
 use Rattle.std.specs.Char.{is_ascii_digit}
 use Rattle.std.specs.Int.Digits.{AllBelowBase, digits_of, number_from_digits}
@@ -41,4 +41,4 @@ decimal_value n = cond_both (n == 0) (48 ∷ []) (map (λ d. d + 48) (digits_of 
 
 pub decimal_some : (n : ℕ) → 1 ≤ length (decimal n)
 decimal_some n = cond_both (n == 0) (48 ∷ []) (map (λ d. d + 48) (digits_of 10 n)) (λ x. 1 ≤ length x) (λ _. omega arith)
-      (λ f. let more : 0 < n = eqb_positive n f in omega (arith, length_shown (digits_of 10 n), length-digits_of_step 10 n (omega arith) more))
+    (λ f. let more : 0 < n = eqb_positive n f in omega (arith, length_shown (digits_of 10 n), length-digits_of_step 10 n (omega arith) more))

@@ -7,3 +7,4 @@ pub mod Reading
 pub mod SpellingUtf8
 pub mod Decimal
 pub mod SpellingLaw
+pub mod PartsLaw

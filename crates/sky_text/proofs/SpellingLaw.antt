@@ -1,18 +1,14 @@
 -- Tokens that are spelled out with a blank between them are those tokens again.
-use Rattle.std.proofs.Common.{◌≡◌, ℕ, zero, suc, ◌+◌, ◌-◌, ◌*◌, ◌≤◌, ◌<◌, Bool, true, false, cond, List, [], ◌∷◌, ◌++◌, length, take, drop, map, pos, negsuc, Option, Some, None, Result, Ok, Err, refl, sym, ap, ◌∙◌, subst, arith, append_assoc}
-use Rattle.std.specs.Prelude.{◌==◌, ◌&&◌, ◌||◌, nat_lt, codes}
+use Rattle.std.proofs.Common.{◌≡◌, ℕ, suc, ◌+◌, ◌-◌, ◌≤◌, Bool, true, false, cond, List, [], ◌∷◌, ◌++◌, length, take, drop, map, pos, negsuc, Option, Some, None, Result, Ok, Err, refl, sym, ap, ◌∙◌, arith, append_assoc}
+use Rattle.std.specs.Prelude.{◌==◌, codes}
 use Rattle.std.specs.Char.{is_ascii_digit}
-use Rattle.std.specs.Int.Digits.{AllBelowBase, digits_of, number_from_digits, number_from_digits_after}
-use Rattle.std.specs.List.{join_with_byte, list_all, prefix_len, take_while}
-use Rattle.std.specs.Str.{IsUtf8}
+use Rattle.std.specs.List.{list_all, prefix_len, take_while}
 use Rattle.std.proofs.lemmas.Bool.{cond_both, eqb-true, false≢true, le-ltb}
 use Rattle.std.proofs.lemmas.Bool.Decides.{nat_tests}
-use Rattle.std.proofs.lemmas.Int.Digits.{all_below_base_digits_of, length-digits_of_step, number_digits_of}
 use Rattle.std.proofs.lemmas.List.{append-nil, drop_at, length-append}
 use Rattle.std.proofs.Math.Seq.{take-append_seam}
-use Rattle.sky_text.specs.Lexing.{and_then, begins_name, begins_with, gap_len, goes_on_name, is_blank, named, number, number_of, text_at, text_from, token_at, token_of, tokens_from, tokens_of, unescaped, with_byte, word_or_name}
+use Rattle.sky_text.specs.Lexing.{and_then, begins_name, gap_len, goes_on_name, is_blank, named, number, number_of, text_from, token_at, token_of, tokens_from, with_byte, word_or_name}
 use Rattle.sky_text.specs.Spelling.{AreKinds, IsKind, IsName, SpelledOutAgain, decimal, quoted, sign_text, spell, spelled_out, word_text}
-use Rattle.sky_text.specs.Words.{word_of}
 use Rattle.sky_text.specs.declared.token.Word.{Word}
 use Rattle.sky_text.specs.declared.token.Sign.{Sign}
 use Rattle.sky_text.specs.declared.token.TokenKind.{TokenKind}
@@ -148,10 +144,10 @@ reads_number at b n q o h e small =
     let fits : number at n ≡ Ok (TokenKind.Number (pos n)) = ap (λ (v : Bool). cond v (Err (LexRefusal.BigNumber at)) (Ok (TokenKind.Number (pos n)))) (le-ltb 9223372036854775807 n small) in
     let Goal : Result (TokenKind × ℕ) LexRefusal → Type 0 = λ z. z ≡ Ok (TokenKind.Number (pos n), at + length (b ∷ q)) in
     cond_both (begins_name b) _ _ Goal (λ t. absurd (false≢true (sym (digit_begins_none b digit) ∙ t)))
-      (λ _. cond_both (is_ascii_digit b) _ _ Goal
-        (λ _. ap (λ (digits : List ℕ). and_then (number at (number_of digits)) (λ kind. Ok (kind, at + length digits))) whole
-          ∙ ap (λ (m : ℕ). and_then (number at m) (λ kind. Ok (kind, at + length (b ∷ q)))) e ∙ ap (λ (r : Result TokenKind LexRefusal). and_then r (λ kind. Ok (kind, at + length (b ∷ q)))) fits)
-        (λ f. absurd (false≢true (sym f ∙ digit))))
+    (λ _. cond_both (is_ascii_digit b) _ _ Goal
+    (λ _. ap (λ (digits : List ℕ). and_then (number at (number_of digits)) (λ kind. Ok (kind, at + length digits))) whole
+    ∙ ap (λ (m : ℕ). and_then (number at m) (λ kind. Ok (kind, at + length (b ∷ q)))) e ∙ ap (λ (r : Result TokenKind LexRefusal). and_then r (λ kind. Ok (kind, at + length (b ∷ q)))) fits)
+    (λ f. absurd (false≢true (sym f ∙ digit))))
 
 number_reads : (at n : ℕ) (s : List ℕ) (o : Option (List ℕ)) → list_all is_ascii_digit s ≡ true → number_of s ≡ n → 1 ≤ length s → n ≤ 9223372036854775807 → Reads at s (TokenKind.Number (pos n)) o
 number_reads at n [] o h e some small = absurd (omega arith)
@@ -169,12 +165,12 @@ quoted_reads quote at (b ∷ content) r =
     let Goal : List ℕ → Type 0 = λ q. text_from quote at (q ++ 34 ∷ r) ≡ Ok (b ∷ content, at + length q + 1) in
     let place : at + 2 + length (quoted content) + 1 ≡ at + suc (suc (length (quoted content))) + 1 = omega arith in
     let one : (c : ℕ) → b ≡ c → ◌≡◌ {A = Result (List ℕ × ℕ) LexRefusal} (and_then (text_from quote (at + 2) (quoted content ++ 34 ∷ r)) (with_byte c)) (Ok (b ∷ content, at + suc (suc (length (quoted content))) + 1)) =
-      λ c e. ap (λ (x : Result (List ℕ × ℕ) LexRefusal). and_then x (with_byte c)) (quoted_reads quote (at + 2) content r) ∙ ap (λ (x : ℕ). Ok (x ∷ content, at + 2 + length (quoted content) + 1)) (sym e) ∙ ap (λ (to : ℕ). Ok (b ∷ content, to)) place in
+    λ c e. ap (λ (x : Result (List ℕ × ℕ) LexRefusal). and_then x (with_byte c)) (quoted_reads quote (at + 2) content r) ∙ ap (λ (x : ℕ). Ok (x ∷ content, at + 2 + length (quoted content) + 1)) (sym e) ∙ ap (λ (to : ℕ). Ok (b ∷ content, to)) place in
     cond_both (b == 34) _ _ Goal (λ t. one 34 (eqb-true b 34 t)) (λ x.
-      cond_both (b == 92) _ _ Goal (λ t. one 92 (eqb-true b 92 t)) (λ y.
-      cond_both (b == 10) _ _ Goal (λ t. one 10 (eqb-true b 10 t)) (λ z.
-      text_plain quote at b (quoted content ++ 34 ∷ r) (unequal b 34 x) (unequal b 10 z) (unequal b 92 y)
-        ∙ ap (λ (x : Result (List ℕ × ℕ) LexRefusal). and_then x (with_byte b)) (quoted_reads quote (at + 1) content r) ∙ ap (λ (to : ℕ). Ok (b ∷ content, to)) (omega arith))))
+    cond_both (b == 92) _ _ Goal (λ t. one 92 (eqb-true b 92 t)) (λ y.
+    cond_both (b == 10) _ _ Goal (λ t. one 10 (eqb-true b 10 t)) (λ z.
+    text_plain quote at b (quoted content ++ 34 ∷ r) (unequal b 34 x) (unequal b 10 z) (unequal b 92 y)
+    ∙ ap (λ (x : Result (List ℕ × ℕ) LexRefusal). and_then x (with_byte b)) (quoted_reads quote (at + 1) content r) ∙ ap (λ (to : ℕ). Ok (b ∷ content, to)) (omega arith))))
 
 text_reads : (at : ℕ) (content : List ℕ) (o : Option (List ℕ)) → Reads at (34 ∷ quoted content ++ 34 ∷ []) (TokenKind.Text content) o
 text_reads at content o =
@@ -198,9 +194,9 @@ one_read bytes at s kind o h =
     let b = h.0 in
     let q = h.1 in
     let left : drop (at + length s - at) (b ∷ (q ++ behind o)) ≡ behind o =
-      ap (λ (x : List ℕ). drop (at + length s - at) (x ++ behind o)) (sym h.2) ∙ drop_at s (behind o) (at + length s - at) (omega arith) in
+    ap (λ (x : List ℕ). drop (at + length s - at) (x ++ behind o)) (sym h.2) ∙ drop_at s (behind o) (at + length s - at) (omega arith) in
     ap (λ (x : List ℕ). tokens_from bytes at 0 (x ++ behind o)) h.2 ∙ at_token bytes at b (q ++ behind o) (kind, at + length s) h.3 h.4
-      ∙ ap (λ (x : List ℕ). and_then (tokens_from bytes (at + length s) 0 x) (λ more. Ok (token_of bytes at kind (at + length s) ∷ more))) left
+    ∙ ap (λ (x : List ℕ). and_then (tokens_from bytes (at + length s) 0 x) (λ more. Ok (token_of bytes at kind (at + length s) ∷ more))) left
 
 again : (bytes : List ℕ) (ks : List TokenKind) → AreKinds ks → (at : ℕ) → (ts : List Token) × (tokens_from bytes at 0 (spelled_out ks) ≡ Ok ts) × (map (λ t. t.kind) ts ≡ ks)
 again bytes [] h at = ([], refl, refl)
@@ -208,10 +204,11 @@ again bytes (k ∷ []) h at =
     (token_of bytes at k (at + length (spell k)) ∷ [], ap (tokens_from bytes at 0) (sym (append-nil (spell k))) ∙ one_read bytes at (spell k) k None (kind_reads at k None h.0), refl)
 again bytes (k ∷ k2 ∷ ks) h at =
     let more = spelled_out (k2 ∷ ks) in
-    let rest = again bytes (k2 ∷ ks) h.1 (at + length (spell k) + 1) in
-    (token_of bytes at k (at + length (spell k)) ∷ rest.0,
-     one_read bytes at (spell k) k (Some more) (kind_reads at k (Some more) h.0) ∙ ap (λ (x : Read). and_then x (λ more. Ok (token_of bytes at k (at + length (spell k)) ∷ more))) rest.1,
-     ap (λ (x : List TokenKind). k ∷ x) rest.2)
+    let rest = again bytes (k2 ∷ ks) h.1 (at + length (spell k) + 1) in (
+      token_of bytes at k (at + length (spell k)) ∷ rest.0,
+      one_read bytes at (spell k) k (Some more) (kind_reads at k (Some more) h.0) ∙ ap (λ (x : Read). and_then x (λ more. Ok (token_of bytes at k (at + length (spell k)) ∷ more))) rest.1,
+      ap (λ (x : List TokenKind). k ∷ x) rest.2,
+    )
 
 pub spelled_out_again : SpelledOutAgain
 spelled_out_again ks h =

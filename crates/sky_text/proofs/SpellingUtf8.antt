@@ -1,5 +1,5 @@
 -- What tokens are spelled with is UTF-8.
-use Rattle.std.proofs.Common.{◌≡◌, ℕ, ◌+◌, ◌≤◌, ◌<◌, Bool, true, false, cond, List, [], ◌∷◌, ◌++◌, map, pos, negsuc, refl, sym, ap, ◌∙◌, subst, arith, append_assoc}
+use Rattle.std.proofs.Common.{◌≡◌, ℕ, ◌<◌, Bool, true, List, [], ◌∷◌, ◌++◌, pos, negsuc, refl, sym, subst, arith, append_assoc}
 use Rattle.std.specs.Prelude.{◌==◌, nat_lt, codes}
 use Rattle.std.specs.Char.{is_ascii_digit}
 use borrow.Author.Tests.{ltb-true}
@@ -7,11 +7,10 @@ use Rattle.std.proofs.lemmas.Bool.Decides.{nat_tests}
 use Rattle.sky_text.proofs.Decimal.{both, decimal_digits, name_goes_on}
 use Rattle.sky_text.proofs.Leaves.{name_byte_ascii}
 use Rattle.std.specs.Str.{IsUtf8}
-use Rattle.std.specs.List.{list_all, join_with_byte}
+use Rattle.std.specs.List.{list_all}
 use Rattle.std.proofs.lemmas.Bool.{cond_both, eqb-true}
-use Rattle.std.proofs.lemmas.Str.{IsUtf8-append, IsUtf8-from_ascii, IsUtf8-from_is_utf8, IsUtf8-nil}
-use Rattle.std.proofs.lemmas.Str.Ascii.{IsAscii-cons}
-use Rattle.sky_text.specs.Lexing.{begins_name, goes_on_name}
+use Rattle.std.proofs.lemmas.Str.{IsUtf8-append, IsUtf8-nil}
+use Rattle.sky_text.specs.Lexing.{goes_on_name}
 use Rattle.sky_text.specs.Spelling.{AreKinds, IsKind, IsName, decimal, quoted, sign_text, spell, spelled_out, word_text}
 use Rattle.sky_text.specs.declared.token.Word.{Word}
 use Rattle.sky_text.specs.declared.token.Sign.{Sign}
@@ -31,9 +30,9 @@ quoted_utf8 xs (b ∷ r) u =
     let Goal : List ℕ → Type 0 = λ q. IsUtf8 (xs ++ q) in
     let one : (c : ℕ) → b < 128 → c < 128 → IsUtf8 (xs ++ 92 ∷ c ∷ quoted r) = λ c h g. subst IsUtf8 (append_assoc xs (92 ∷ c ∷ []) (quoted r)) (quoted_utf8 (xs ++ 92 ∷ c ∷ []) r (escaped xs b 92 c r h (omega arith) g u)) in
     cond_both (b == 34) _ _ Goal (λ t. let e : b ≡ 34 = eqb-true b 34 t in one 34 (omega arith) (omega arith)) (λ _.
-      cond_both (b == 92) _ _ Goal (λ t. let e : b ≡ 92 = eqb-true b 92 t in one 92 (omega arith) (omega arith)) (λ _.
-      cond_both (b == 10) _ _ Goal (λ t. let e : b ≡ 10 = eqb-true b 10 t in one 110 (omega arith) (omega arith)) (λ _.
-      subst IsUtf8 (append_assoc xs (b ∷ []) (quoted r)) (quoted_utf8 (xs ++ b ∷ []) r (subst IsUtf8 (sym (append_assoc xs (b ∷ []) r)) u)))))
+    cond_both (b == 92) _ _ Goal (λ t. let e : b ≡ 92 = eqb-true b 92 t in one 92 (omega arith) (omega arith)) (λ _.
+    cond_both (b == 10) _ _ Goal (λ t. let e : b ≡ 10 = eqb-true b 10 t in one 110 (omega arith) (omega arith)) (λ _.
+    subst IsUtf8 (append_assoc xs (b ∷ []) (quoted r)) (quoted_utf8 (xs ++ b ∷ []) r (subst IsUtf8 (sym (append_assoc xs (b ∷ []) r)) u)))))
 
 utf8_while : (p : ℕ → Bool) → ((b : ℕ) → p b ≡ true → b < 128) → (xs : List ℕ) → list_all p xs ≡ true → IsUtf8 xs
 utf8_while p g [] h = IsUtf8-nil

@@ -1,9 +1,9 @@
 -- How tokens are spelled, and two laws of the definition of a script's tokens: tokens that are spelled
 -- out with a blank between them are those tokens again, and the tokens of a script and the gaps
 -- between them are all of its bytes.
-use Rattle.std.specs.Prelude.{◌≡◌, ℕ, ◌+◌, ◌≤◌, ◌==◌, if◌then◌else◌, true, pos, negsuc, List, [], ◌∷◌, ◌++◌, map, None, Result, Ok, codes}
+use Rattle.std.specs.Prelude.{◌≡◌, ℕ, ◌+◌, ◌≤◌, ◌==◌, if◌then◌else◌, true, pos, negsuc, List, [], ◌∷◌, ◌++◌, map, None, Ok, codes}
 use Rattle.std.specs.Int.Digits.{digits_of}
-use Rattle.std.specs.List.{concat, list_all, join_with_byte}
+use Rattle.std.specs.List.{list_all, join_with_byte}
 use Rattle.std.specs.Str.{IsUtf8}
 use Rattle.sky_text.specs.Lexing.{begins_name, goes_on_name, tokens_of}
 use Rattle.sky_text.specs.Words.{word_of}
