@@ -54,7 +54,7 @@ with_front_more front b (Err e) = refl
 not_equal : (a b : ℕ) → (a ≡ b → ⊥) → (a == b) ≡ false
 not_equal a b h = false_from_ne_true (a == b) (λ e. h (eqb-true a b e))
 
-text_plain : (quote at b : ℕ) (r : List ℕ) → (b ≡ 34 → ⊥) → (b ≡ 10 → ⊥) → (b ≡ 92 → ⊥) → text_from quote at (b ∷ r) ≡ and_then (text_from quote (at + 1) r) (with_byte b)
+pub text_plain : (quote at b : ℕ) (r : List ℕ) → (b ≡ 34 → ⊥) → (b ≡ 10 → ⊥) → (b ≡ 92 → ⊥) → text_from quote at (b ∷ r) ≡ and_then (text_from quote (at + 1) r) (with_byte b)
 text_plain quote at b [] h g k = let x = not_equal b 34 h in rw x refl
 text_plain quote at b (c ∷ r) h g k = let x = not_equal b 34 h in let y = not_equal b 10 g in let z = not_equal b 92 k in rw (x, y, z) refl
 

@@ -4,3 +4,7 @@ pub mod TextUtf8
 pub mod Spans
 pub mod Places
 pub mod Reading
+pub mod SpellingUtf8
+pub mod Decimal
+pub mod SpellingLaw
+pub mod PartsLaw

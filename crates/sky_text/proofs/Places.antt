@@ -7,7 +7,8 @@ use Rattle.std.proofs.lemmas.List.Sums.{sum_by-append, sum_by-cons, sum_by_push}
 use Rattle.std.proofs.Math.Seq.{take-add}
 use Rattle.sky_text.specs.Place.{column_of, is_line_feed, line_of}
 use Rattle.sky_text.specs.Lexing.{gap_len}
-use Rattle.sky_text.proofs.Spans.{NoFeed, Span, gap_feed, gap_no_feed}
+use Rattle.sky_text.specs.Parts.{NoFeed}
+use Rattle.sky_text.proofs.Spans.{Span, gap_feed, gap_no_feed}
 use Rattle.std.specs.Prelude.{◌==◌}
 use Rattle.std.proofs.lemmas.Bool.{cond_both, eqb-true, false≢true}
 

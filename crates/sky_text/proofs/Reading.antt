@@ -3,7 +3,7 @@ use Rattle.std.proofs.Common.{◌≡◌, ℕ, zero, suc, ◌+◌, ◌-◌, ◌�
 use Rattle.std.specs.Prelude.{◌==◌, nat_lt}
 use Rattle.std.specs.Str.{IsUtf8}
 use Rattle.std.specs.Str.Lossy.{utf8_valid_len}
-use Rattle.std.proofs.lemmas.Bool.{eqb-true, false_from_ne_true, le-ltb, lt-ltb}
+use Rattle.std.proofs.lemmas.Bool.{cond_both, eqb-true, false_from_ne_true, le-ltb, lt-ltb}
 use Rattle.std.proofs.lemmas.Bool.Decides.{nat_tests}
 use Rattle.std.proofs.lemmas.List.{append-nil}
 use Rattle.std.proofs.lemmas.Str.{utf8_valid_len-IsUtf8}
@@ -101,3 +101,7 @@ unfolding tokens_of
 of_others bytes n e h =
     let short : (utf8_valid_len bytes == length bytes) ≡ false = eqb_other (utf8_valid_len bytes) (length bytes) (λ same. omega arith) in
     rw (e, short) refl
+
+pub from_tokens : (bytes : List ℕ) (ts : List Token) → tokens_of bytes ≡ Ok ts → tokens_from bytes 0 0 bytes ≡ Ok ts
+unfolding tokens_of
+from_tokens bytes ts e = cond_both (utf8_valid_len bytes == length bytes) (tokens_from bytes 0 0 bytes) (Err (LexRefusal.BadByte (utf8_valid_len bytes))) (λ (r : Read). r ≡ Ok ts → tokens_from bytes 0 0 bytes ≡ Ok ts) (λ _ k. k) (λ _ k. absurd (cc k)) e

@@ -9,16 +9,12 @@ use Rattle.std.proofs.lemmas.Bool.Decides.{nat_tests}
 use Rattle.std.proofs.lemmas.List.Folds.{length-prefix_len}
 use Rattle.std.proofs.lemmas.List.Sums.{prefix_len-le-length}
 use Rattle.sky_text.specs.Lexing.{and_then, begins_name, begins_with, gap_len, goes_on_name, is_blank, is_escape, long_or_short, named, number, number_of, short_or_bad, sign_at, text_from, token_at, unescaped, with_byte}
+use Rattle.sky_text.specs.Parts.{NoFeed}
 use Rattle.sky_text.specs.Place.{is_line_feed}
 use Rattle.sky_text.specs.Words.{long_sign, short_sign}
 use Rattle.sky_text.specs.declared.token.Sign.{Sign}
 use Rattle.sky_text.specs.declared.token.TokenKind.{TokenKind}
 use Rattle.sky_text.specs.declared.lex.LexRefusal.{LexRefusal}
-
--- no byte is a line feed
-abbrev pub NoFeed : List ℕ → Type 0
-NoFeed [] = Unit {0}
-NoFeed (b ∷ r) = (is_line_feed b ≡ false) × NoFeed r
 
 -- from this place to that, the bytes are there, at least one, and have no line feed
 abbrev pub Span : ℕ → ℕ → List ℕ → Type 0

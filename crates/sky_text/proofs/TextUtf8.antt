@@ -13,7 +13,7 @@ use Rattle.sky_text.specs.Lexing.{and_then, is_escape, text_from, unescaped, wit
 use Rattle.sky_text.specs.declared.lex.LexRefusal.{LexRefusal}
 
 -- text may be cut at an ASCII byte
-before_ascii : (xs : List ℕ) (b : ℕ) (r : List ℕ) → IsUtf8 (xs ++ b ∷ r) → b < 128 → IsUtf8 xs
+pub before_ascii : (xs : List ℕ) (b : ℕ) (r : List ℕ) → IsUtf8 (xs ++ b ∷ r) → b < 128 → IsUtf8 xs
 before_ascii xs b r u h =
     let seam : get_or (xs ++ b ∷ r) (length xs) 0 < 128 = rw (get_or-append_seam xs b r 0) h in
     let short : length xs < length (xs ++ b ∷ r) = omega (arith, length-append xs (b ∷ r)) in
@@ -32,7 +32,7 @@ escape_ascii c h = grind (arith, nat_tests)
 unescaped_ascii : (c : ℕ) → is_escape c ≡ true → unescaped c < 128
 unescaped_ascii c h = cond_both (c == 110) 10 _ (λ x. x < 128) (λ _. omega arith) (λ _. cond_both (c == 116) 9 _ (λ x. x < 128) (λ _. omega arith) (λ _. cond_both (c == 114) 13 c (λ x. x < 128) (λ _. omega arith) (λ _. escape_ascii c h)))
 
-ascii_utf8 : (b : ℕ) → b < 128 → IsUtf8 (b ∷ [])
+pub ascii_utf8 : (b : ℕ) → b < 128 → IsUtf8 (b ∷ [])
 ascii_utf8 b h = IsUtf8-from_ascii (b ∷ []) (IsAscii-cons b [] h (λ i. omega arith))
 
 -- an escape and the byte that it stands for
