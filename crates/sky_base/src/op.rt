@@ -2,11 +2,12 @@
 // kind first, then its faults in the order of that table. A value keeps its allocator, so only a call
 // that makes a new text is handed one.
 
-ghost use Rattle.std.specs.Prelude.{◌≡◌, ◌≤◌, ◌<◌, ◌+◌, ◌++◌, IfOk, Some, length};
-ghost use Rattle.sky_base.specs.Op.{plus, plus_num, plus_text, plus_list, minus, times, over, rest, limited};
+ghost use Rattle.std.specs.Prelude.{List, ℕ, ◌≡◌, ◌≤◌, ◌<◌, ◌+◌, ◌++◌, IfOk, Some, length};
+ghost use Rattle.sky_base.specs.Op.{plus, plus_num, plus_text, plus_list, minus, times, over, rest, limited, limited_list};
 ghost use Rattle.sky_base.specs.Op.{index, index_list, index_dict, put, put_val, set_at, set_list, set_dict, append};
 ghost use Rattle.sky_base.specs.OpView.{Answers, Exactly, Changes, ChangesPairs, Becomes};
-ghost use Rattle.sky_base.specs.Val.{size, depth, sizes, pair_sizes, list, dict, add_val, count};
+ghost use Rattle.sky_base.specs.Val as logic;
+ghost use Rattle.sky_base.specs.Val.{Val, size, depth, sizes, pair_sizes, list, dict, add_val, count};
 ghost use Rattle.sky_base.specs.View.{view};
 ghost use Rattle.sky_base.specs.Kept.{Kept};
 
@@ -253,6 +254,122 @@ fn index_dict(ps: &Pairs, at: &Value) -> Result<Value, OpRefusal>
             None => Err(OpRefusal::Refused(FaultKind::NoKey)),
         },
         _ => Err(OpRefusal::Refused(FaultKind::BadKind)),
+    }
+}
+
+/// Puts `e` in the place of the element of a list at a number from 0, or at a text in a dictionary,
+/// where an absent key is added. NoIndex where the list has no such place, then TooDeep, TooLarge
+/// where that would pass a limit, BadKind at other kinds. A refusal leaves `v` unchanged.
+pub fn set_at(v: &mut Value, at: &Value, e: Value) -> Result<(), OpRefusal>
+    requires v { Kept (view v.old) }
+    requires at { Kept (view at.now) }
+    requires e { Kept (view e) }
+    ensures answer { Becomes result (set_at (view v.old) (view at.now) (view e)) v.old v.new }
+    ensures kept { Kept (view v.new) }
+{
+    match v {
+        Value::List(vs) => set_list(vs, at, e),
+        Value::Dict(ps) => set_dict(ps, at, e),
+        _ => Err(OpRefusal::Refused(FaultKind::BadKind)),
+    }
+}
+
+#[tactic(auto, using(crate::proofs::Changes::places))]
+fn set_list(vs: &mut Vals, at: &Value, e: Value) -> Result<(), OpRefusal>
+    requires vs { Kept (list vs.old) }
+    requires e { Kept (view e) }
+    ensures answer { Changes result (set_list vs.old (view at.now) (view e)) vs.old vs.new }
+    ensures kept { Kept (list vs.new) }
+{
+    match at {
+        Value::Int(i) => {
+            if *i < 0 {
+                return Err(OpRefusal::Refused(FaultKind::NoIndex));
+            }
+            let at = *i as usize;
+            if at >= vs.len() {
+                return Err(OpRefusal::Refused(FaultKind::NoIndex));
+            }
+            set_place(vs, at, e)
+        }
+        _ => Err(OpRefusal::Refused(FaultKind::BadKind)),
+    }
+}
+
+#[tactic(auto, using(crate::proofs::Changes::places))]
+fn set_place(vs: &mut Vals, at: usize, e: Value) -> Result<(), OpRefusal>
+    requires at { at < count vs.old }
+    requires vs { Kept (list vs.old) }
+    requires e { Kept (view e) }
+    ensures answer { Changes result (limited_list (put_val vs.old at (view e))) vs.old vs.new }
+    ensures kept { Kept (list vs.new) }
+{
+    if e.depth() >= MOST_DEPTH {
+        return Err(OpRefusal::Refused(FaultKind::TooDeep));
+    }
+    if other_sizes(vs, at) + e.size() >= MOST_SIZE {
+        return Err(OpRefusal::Refused(FaultKind::TooLarge));
+    }
+    vs.set(at, e)?;
+    Ok(())
+}
+
+// The sum of the sizes of the elements but the one at a place.
+#[tactic(auto, using(crate::proofs::Changes::other_places))]
+fn other_sizes(vs: &Vals, at: usize) -> u64
+    requires at { at < count vs.now }
+    requires vs { sizes vs.now ≤ 262144 }
+    ensures most { result ≤ sizes vs.now }
+    ensures sum { (e : Val (List ℕ)) (ws : logic.Vals (List ℕ)) → put_val vs.now at e ≡ Some ws → sizes ws ≡ result + size e }
+{
+    match vs.get(at) {
+        Some(old) => vs.sizes() - old.size(),
+        None => vs.sizes(),
+    }
+}
+
+fn set_dict(ps: &mut Pairs, at: &Value, e: Value) -> Result<(), OpRefusal>
+    requires ps { Kept (dict ps.old) }
+    requires at { Kept (view at.now) }
+    requires e { Kept (view e) }
+    ensures answer { ChangesPairs result (set_dict ps.old (view at.now) (view e)) ps.old ps.new }
+    ensures kept { Kept (dict ps.new) }
+{
+    match at {
+        Value::Text(key) => set_key(ps, key, e),
+        _ => Err(OpRefusal::Refused(FaultKind::BadKind)),
+    }
+}
+
+#[tactic(auto, using(crate::proofs::Changes::keys))]
+fn set_key(ps: &mut Pairs, key: &Txt, e: Value) -> Result<(), OpRefusal>
+    requires ps { Kept (dict ps.old) }
+    requires key { length key.now < 262144 }
+    requires e { Kept (view e) }
+    ensures answer { ChangesPairs result (limited (dict (put key.now (view e) ps.old))) ps.old ps.new }
+    ensures kept { Kept (dict ps.new) }
+{
+    if e.depth() >= MOST_DEPTH {
+        return Err(OpRefusal::Refused(FaultKind::TooDeep));
+    }
+    if other_pair_sizes(ps, key) + e.size() >= MOST_SIZE {
+        return Err(OpRefusal::Refused(FaultKind::TooLarge));
+    }
+    ps.insert(key.share()?, e)?;
+    Ok(())
+}
+
+// The sum of the sizes of the pairs once a key is there, without the value at that key.
+#[tactic(auto, using(crate::proofs::Changes::other_keys))]
+fn other_pair_sizes(ps: &Pairs, key: &Txt) -> u64
+    requires ps { pair_sizes ps.now ≤ 262144 }
+    requires key { length key.now < 262144 }
+    ensures most { result ≤ pair_sizes ps.now + length key.now }
+    ensures sum { (e : Val (List ℕ)) → pair_sizes (put key.now e ps.now) ≡ result + size e }
+{
+    match ps.find(key) {
+        Some(old) => ps.sizes() - old.size(),
+        None => ps.sizes() + key.len() as u64,
     }
 }
 
