@@ -2,4 +2,6 @@
 // what it writes is the meaning; nothing of it is written or proved anew here.
 #![tactic(auto)]
 
+#[cfg(test)]
+mod tests;
 pub mod write;

@@ -1,9 +1,8 @@
 -- What is written has no float, so it is the compact text.
-use Rattle.std.proofs.Common.{◌≡◌, false, true, Some, ap, ◌∙◌, sym}
+use Rattle.std.proofs.Common.{◌≡◌, false, Some, ap, ◌∙◌, sym}
 use Rattle.serde_json.specs.Written.{compact_text, has_float}
 use Rattle.serde_json.specs.View.{view as json_view}
 use Rattle.sky_base.specs.View.{view}
-use Rattle.ciel_json.specs.Text.{text_of}
 use Rattle.ciel_json.proofs.Given.{json-no_float, text_of-plain}
 use Rattle.ciel_json.proofs.write.to_text.Goals as goal
 
