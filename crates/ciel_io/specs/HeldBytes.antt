@@ -22,7 +22,8 @@ pub record FailingBytes : Type 0 where
 -- the bytes told with a piece put behind them, while they fit the room
 abbrev pub grown : ℕ → Option (List ℕ) → List ℕ → Option (List ℕ)
 grown room None piece = None
-grown room (Some bytes) piece = if nat_le (length bytes + length piece) room then Some (bytes ++ piece) else None
+grown room (Some bytes) piece =
+    if nat_le (length bytes + length piece) room then Some (bytes ++ piece) else None
 
 abbrev pub with_piece : HeldBytes → List ℕ → HeldBytes
 with_piece held piece = record held { written = grown held.room held.written piece }
@@ -35,5 +36,9 @@ is_failing sink = is_listed sink.fails (next sink.calls)
 abbrev pub after_put : FailingBytes → List ℕ → FailingBytes
 after_put sink piece =
     if is_failing sink
-    then record sink { held = with_piece sink.held (take (length piece / 2) piece); calls = next sink.calls; faults = next sink.faults }
+    then record sink {
+      held = with_piece sink.held (take (length piece / 2) piece);
+      calls = next sink.calls;
+      faults = next sink.faults;
+    }
     else record sink { held = with_piece sink.held piece; calls = next sink.calls }

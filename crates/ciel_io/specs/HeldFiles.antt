@@ -22,7 +22,8 @@ pub record FailingFiles : Type 0 where
 -- the bytes of the file at a path, where there is one; of two at one path the first counts
 abbrev pub content_at : List (List ℕ × List ℕ) → List ℕ → Option (List ℕ)
 content_at [] path = None
-content_at (file ∷ files) path = if bytes_eq file.0 path then Some file.1 else content_at files path
+content_at (file ∷ files) path =
+    if bytes_eq file.0 path then Some file.1 else content_at files path
 
 -- the bytes of the file at a path, none where there is no such file
 abbrev pub bytes_at : List (List ℕ × List ℕ) → List ℕ → List ℕ
@@ -43,7 +44,8 @@ is_failing f = is_listed f.fails (length f.held.asked + 1)
 
 -- what the next read answers, but for want of memory
 abbrev pub read_answer : FailingFiles → List ℕ → ℕ → Result (List ℕ) FileRefusal
-read_answer f path limit = if is_failing f then Err Failed else found_within limit (content_at f.held.files path)
+read_answer f path limit =
+    if is_failing f then Err Failed else found_within limit (content_at f.held.files path)
 
 abbrev pub with_path : HeldFiles → List ℕ → HeldFiles
 with_path held path = record held { asked = held.asked ++ path ∷ [] }

@@ -10,8 +10,9 @@ IfTooLong (TooLong limit) P = P limit
 IfTooLong Failed P = ⊤
 IfTooLong Memory P = ⊤
 
--- where the paths asked are still told, they grew by this one; for want of memory they are as they were
-abbrev pub Asks : {A : Type 0} → Option (List (List ℕ)) → Option (List (List ℕ)) → List ℕ → Result A FileRefusal → Type 0
+-- where the paths asked are still told, they grew by this one, but stayed for want of memory
+abbrev pub Asks : {A : Type 0} → Option (List (List ℕ)) → Option (List (List ℕ)) → List ℕ
+    → Result A FileRefusal → Type 0
 Asks before now path (Ok _) = Tells before now (path ∷ [])
 Asks before now path (Err (TooLong _)) = Tells before now (path ∷ [])
 Asks before now path (Err Failed) = Tells before now (path ∷ [])

@@ -40,7 +40,8 @@ pub trait Files {
         ensures found { IfOk result (λ b. IfSome (content self.old path.now) (λ file. b ≡ file)) }
         ensures within { IfOk result (λ b. length b ≤ limit) }
         ensures too_long { IfErr result (λ e. IfTooLong e (λ at. at ≡ limit)) }
-        ensures beyond { IfErr result (λ e. IfTooLong e (λ at. IfSome (content self.old path.now) (λ file. at < length file))) }
+        ensures beyond { IfErr result (λ e.
+            IfTooLong e (λ at. IfSome (content self.old path.now) (λ file. at < length file))) }
         ensures cause { result ≡ Err FileRefusal.Failed → HasRisen (faults self.old) (faults self.new) }
         ensures never_falls { faults self.old ≤ faults self.new }
         ensures memory { result ≡ Err FileRefusal.Memory → faults self.new ≡ faults self.old }

@@ -20,7 +20,9 @@ pub struct HostFiles<R: rt::Files> {
 
 impl<R: rt::Files> HostFiles<R> {
     /// The runtime's files, with no fault so far.
-    pub fn new(rt: R) -> HostFiles<R> {
+    pub fn new(rt: R) -> HostFiles<R>
+        ensures { ⟦<HostFiles<R> as Files>⟧.faults result ≡ 0 }
+    {
         HostFiles { rt, faults: 0 }
     }
 
@@ -63,8 +65,8 @@ fn refusal_of(e: &io::Error) -> FileRefusal
     }
 }
 
-/// All bytes that a reader has left, where they are at most `limit`. It takes one byte more than the
-/// limit at most, and refuses a longer reader only after it has taken it.
+/// All bytes that a reader has left, where they are at most `limit`. It takes at most one byte more
+/// than the limit, and refuses a longer reader only after it has taken that byte.
 pub fn read_limited<R: Read + Drop>(
     alloc: Global,
     reader: R,
@@ -74,7 +76,8 @@ pub fn read_limited<R: Read + Drop>(
     ensures found { IfOk result (λ b. IfSome (R.remaining reader) (λ left. b ≡ left)) }
     ensures within { IfOk result (λ b. length b ≤ limit) }
     ensures too_long { IfErr result (λ e. IfTooLong e (λ at. at ≡ limit)) }
-    ensures beyond { IfErr result (λ e. IfTooLong e (λ at. IfSome (R.remaining reader) (λ left. at < length left))) }
+    ensures beyond { IfErr result (λ e.
+        IfTooLong e (λ at. IfSome (R.remaining reader) (λ left. at < length left))) }
 {
     let mut bytes = Vec::new(alloc);
     match reader.take(limit + 1).read_to_end(&mut bytes) {
@@ -105,7 +108,9 @@ pub type HostErr = HostStream<Stderr>;
 
 impl<P: Print> HostStream<P> {
     /// The stream, with no fault so far.
-    pub fn new(stream: P) -> HostStream<P> {
+    pub fn new(stream: P) -> HostStream<P>
+        ensures { ⟦<HostStream<P> as Sink>⟧.faults result ≡ 0 }
+    {
         HostStream { stream, faults: 0 }
     }
 }

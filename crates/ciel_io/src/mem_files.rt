@@ -37,7 +37,8 @@ impl SureFiles {
     }
 
     fn find(&self, alloc: Global, path: &Txt, limit: u64) -> Result<Bytes, FileRefusal>
-        ensures { (result ≡ Err FileRefusal.Memory) ⊎ (result ≡ within limit (bytes_at self.now.files path.now)) }
+        ensures { (result ≡ Err FileRefusal.Memory)
+            ⊎ (result ≡ within limit (bytes_at self.now.files path.now)) }
     {
         match self.shelf.get(path) {
             Some(bytes) => share_within(bytes, limit),
@@ -57,7 +58,8 @@ impl Files for SureFiles {
     ghost faults = { λ _. 0 };
 
     fn read(&mut self, alloc: Global, path: &Txt, limit: u64) -> Result<Bytes, FileRefusal>
-        ensures answer { (result ≡ Err FileRefusal.Memory) ⊎ (result ≡ within limit (bytes_at self.old.files path.now)) }
+        ensures answer { (result ≡ Err FileRefusal.Memory)
+            ⊎ (result ≡ within limit (bytes_at self.old.files path.now)) }
         ensures after { self.new ≡ after_sure_read self.old path.now result }
     {
         let answer = self.find(alloc, path, limit);
@@ -85,10 +87,14 @@ impl Model for MemFiles {
 }
 
 impl MemFiles {
-    /// These files, each a path and its bytes, whose reads of these numbers, from 1, fail. Of two at
-    /// one path the first counts.
+    /// These files, each a path and its bytes, whose reads of these numbers, from 1, fail. Of two
+    /// at one path the first counts.
     pub fn new(alloc: Global, files: Vec<(Txt, Bytes)>, fails: Vec<u32>) -> Result<MemFiles, Memory>
-        ensures { IfOk result (λ f. f ≡ record { held = record { files = files.items; asked = [] }; fails = fails.items; faults = 0 }) }
+        ensures { IfOk result (λ f. f ≡ record {
+          held = record { files = files.items; asked = [] };
+          fails = fails.items;
+          faults = 0;
+        }) }
     {
         Ok(MemFiles {
             shelf: Shelf::new(alloc, files),
@@ -98,7 +104,8 @@ impl MemFiles {
     }
 
     fn find(&self, path: &Txt, limit: u64) -> Result<Bytes, FileRefusal>
-        ensures { (result ≡ Err FileRefusal.Memory) ⊎ (result ≡ read_answer self.now path.now limit) }
+        ensures { (result ≡ Err FileRefusal.Memory)
+            ⊎ (result ≡ read_answer self.now path.now limit) }
     {
         if has_call(self.fails.as_slice(), self.shelf.next_read()) {
             return Err(FileRefusal::Failed);
@@ -118,7 +125,8 @@ impl Files for MemFiles {
     ghost faults = { λ f. f.faults };
 
     fn read(&mut self, alloc: Global, path: &Txt, limit: u64) -> Result<Bytes, FileRefusal>
-        ensures answer { (result ≡ Err FileRefusal.Memory) ⊎ (result ≡ read_answer self.old path.now limit) }
+        ensures answer { (result ≡ Err FileRefusal.Memory)
+            ⊎ (result ≡ read_answer self.old path.now limit) }
         ensures after { self.new ≡ after_read self.old path.now result }
         ensures never_falls { self.old.faults ≤ self.new.faults }
     {

@@ -1,5 +1,5 @@
-// Sinks in memory. They take no memory after they are built, and tell exactly what was put into them
-// as long as it fits the room that they were built with.
+// Sinks in memory. They take no memory after they are built, and tell exactly what was put into
+// them as long as it fits the room that they were built with.
 
 ghost use Rattle.std.specs.Prelude.{◌≡◌, ◌≤◌, ℕ, List, Option, Some, IfOk, IfSome, OnOk, OnErr, IsOk, [], is_err};
 ghost use Rattle.ciel_io.specs.Faults.{HasRisen};
@@ -69,7 +69,6 @@ pub struct MemSink {
 }
 
 impl Model for MemSink {
-    ghost use Rattle.std.specs.Prelude.{};
     ghost use Rattle.ciel_io.specs.HeldBytes.{FailingBytes};
 
     ghost Value = { FailingBytes };
@@ -81,7 +80,12 @@ impl MemSink {
     /// A sink that tells its bytes while they are at most `room`, and whose puts of these numbers,
     /// from 1, fail. The room is made here.
     pub fn new(alloc: Global, room: u64, fails: Vec<u32>) -> Result<MemSink, Memory>
-        ensures { IfOk result (λ s. s ≡ record { held = record { room = room; written = Some [] }; fails = fails.items; calls = 0; faults = 0 }) }
+        ensures { IfOk result (λ s. s ≡ record {
+          held = record { room = room; written = Some [] };
+          fails = fails.items;
+          calls = 0;
+          faults = 0;
+        }) }
     {
         Ok(MemSink {
             room: Room::new(alloc, room as usize)?,

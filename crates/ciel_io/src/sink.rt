@@ -1,5 +1,5 @@
-// Sinks as a trait. The bytes written are a ghost member, told as long as the sink tells them, and a
-// count of faults that the caller can't raise says when a put may give up.
+// Sinks as a trait. The bytes written are a ghost member, told as long as the sink tells them, and
+// a count of faults that the caller can't raise says when a put may give up.
 
 ghost use Rattle.std.specs.Prelude.{◌≤◌, ℕ, List, Option, OnOk, OnErr};
 ghost use Rattle.ciel_io.specs.Faults.{HasRisen};
@@ -19,7 +19,7 @@ pub trait Sink {
 
     /// Writes a piece whole.
     ///
-    /// Answers `Failed` only where the count of faults rose; a prefix of the piece was written then.
+    /// Answers `Failed` only where the count of faults rose, and a prefix of the piece was written.
     fn put(&mut self, piece: &[u8]) -> Result<(), Failed>
         ensures written { OnOk result (Tells (written self.old) (written self.new) piece.now) }
         ensures part { OnErr result (TellsPart (written self.old) (written self.new) piece.now) }

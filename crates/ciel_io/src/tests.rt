@@ -40,7 +40,9 @@ fn two_files(alloc: Global) -> Result<Vec<(Txt, Bytes)>, Fail> {
     let mut files = Vec::new(alloc);
     for (path, text) in [("a", "3\n"), ("b", "hello")] {
         let bytes = Vec::from_slice(alloc, text.as_bytes())?;
-        files.push((Txt::new(alloc, path)?, Bytes::new(alloc, bytes)?)).map_err(|_| Failed)?;
+        files
+            .push((Txt::new(alloc, path)?, Bytes::new(alloc, bytes)?))
+            .map_err(|_| Failed)?;
     }
     Ok(files)
 }
