@@ -1,5 +1,5 @@
 -- The tree of a script, and the numbers of its nodes.
-use Rattle.std.specs.Prelude.{ℕ, ◌+◌, List, Bool, ℤ}
+use Rattle.std.specs.Prelude.{ℕ, ◌+◌, List, [], ◌∷◌, Bool, ℤ}
 use Rattle.sky_base.specs.Op.{Order}
 
 -- a place in the script, from 1; 0 and 0 for no place
@@ -243,3 +243,12 @@ pub record Script : Type 0 where
   pub main : Stms
   -- the names of the inputs
   pub keys : List (List ℕ)
+
+-- the nodes of the functions' bodies
+abbrev pub funs_nodes : List FunDef → ℕ
+funs_nodes [] = 0
+funs_nodes (f ∷ fs) = block_nodes f.body + funs_nodes fs
+
+-- how many nodes a script has
+abbrev pub script_nodes : Script → ℕ
+script_nodes sc = block_nodes sc.main + funs_nodes sc.funs

@@ -1,8 +1,8 @@
 // The statements of a script.
 
 ghost use Rattle.std.specs.Prelude.{◌≡◌, ◌<◌, ◌^◌};
-ghost use Rattle.sky_base.specs.Tree.{stm_nodes, stms_nodes, arms_nodes};
-ghost use Rattle.sky_base.specs.StmtView.{stm_view};
+ghost use Rattle.sky_base.specs.Tree.{stm_nodes, stms_nodes, arms_nodes, else_nodes, block_nodes};
+ghost use Rattle.sky_base.specs.StmtView.{stm_view, stms_view, arms_view, else_view};
 
 use crate::text::Txt;
 use crate::tree::Expr;
@@ -139,4 +139,95 @@ impl Model for Arms {
     ghost use Rattle.std.proofs.Common.{arith};
 
     ghost size_decreases = { λ a h. omega (arith, arms_fall a.items.items) };
+}
+
+impl Block {
+    /// The statements, in order.
+    pub fn of(stmts: Vec<Stmt>) -> Block
+        ensures { result ≡ stms_view stmts.items }
+    {
+        Block { stmts }
+    }
+
+    /// The statements themselves.
+    pub fn as_slice(&self) -> &[Stmt]
+        ensures { stms_view result.now ≡ self.now }
+    {
+        self.stmts.as_slice()
+    }
+
+    /// How many nodes the block has, itself included.
+    #[cycle(nodes)]
+    pub fn nodes(&self) -> u64
+        requires { block_nodes self.now < 2 ^ 32 }
+        ensures { result ≡ block_nodes self.now }
+    {
+        let mut total = 1;
+        for stmt in &self.stmts {
+            total += stmt.nodes();
+        }
+        total
+    }
+}
+
+impl Arms {
+    /// The arms, in order.
+    pub fn of(items: Vec<Arm>) -> Arms
+        ensures { result ≡ arms_view items.items }
+    {
+        Arms { items }
+    }
+
+    /// The arms themselves.
+    pub fn as_slice(&self) -> &[Arm]
+        ensures { arms_view result.now ≡ self.now }
+    {
+        self.items.as_slice()
+    }
+
+    /// How many nodes the tests and the blocks have.
+    #[cycle(nodes)]
+    pub fn nodes(&self) -> u64
+        requires { arms_nodes self.now < 2 ^ 32 }
+        ensures { result ≡ arms_nodes self.now }
+    {
+        let mut total = 0;
+        for arm in &self.items {
+            total += arm.test.nodes() + arm.body.nodes();
+        }
+        total
+    }
+}
+
+impl Stmt {
+    /// How many nodes the statement has.
+    #[cycle(nodes)]
+    pub fn nodes(&self) -> u64
+        requires { stm_nodes (stm_view self.now) < 2 ^ 32 }
+        ensures { result ≡ stm_nodes (stm_view self.now) }
+    {
+        match self {
+            Stmt::Set { value, .. } | Stmt::Add { value, .. } => 1 + value.nodes(),
+            Stmt::Put { at, value, .. } => 1 + at.nodes() + value.nodes(),
+            Stmt::Return { value: None, .. } => 1,
+            Stmt::Return {
+                value: Some(value),
+                ..
+            } => 1 + value.nodes(),
+            Stmt::If {
+                arms,
+                otherwise: None,
+                ..
+            } => 1 + arms.nodes(),
+            Stmt::If {
+                arms,
+                otherwise: Some(block),
+                ..
+            } => 1 + arms.nodes() + block.nodes(),
+            Stmt::While { test, body, .. } => 1 + test.nodes() + body.nodes(),
+            Stmt::Do { body, test, .. } => 1 + body.nodes() + test.nodes(),
+            Stmt::For { list, body, .. } => 1 + list.nodes() + body.nodes(),
+            Stmt::Just { inner, .. } => 1 + inner.nodes(),
+        }
+    }
 }

@@ -1,10 +1,10 @@
 // The tree of a script.
 
-ghost use Rattle.std.specs.Prelude.{◌≡◌, ◌<◌, ◌^◌};
+ghost use Rattle.std.specs.Prelude.{◌≡◌, ◌<◌, ◌^◌, IfOk};
 ghost use Rattle.sky_base.specs.Tree.{nodes, exps_nodes, links_nodes, ands_nodes, steps_nodes};
 ghost use Rattle.sky_base.specs.TreeView.{exp_view, exps_view, links_view, ands_view, steps_view, step_nodes};
 
-use crate::text::Txt;
+use crate::text::{Memory, Txt};
 use std::alloc::Global;
 use std::marker::Model;
 
@@ -367,6 +367,17 @@ impl Expr {
 }
 
 impl Sub {
+    /// The expression, boxed.
+    pub fn new(alloc: Global, node: Expr) -> Result<Sub, Memory>
+        ensures { IfOk result (λ s. s ≡ exp_view node) }
+    {
+        match Box::new(alloc, node) {
+            Ok(node) => Ok(Sub { node }),
+            Err(_) => Err(Memory),
+        }
+    }
+
+    /// The expression itself.
     pub fn get(&self) -> &Expr
         ensures { exp_view result.now ≡ self.now }
     {
@@ -383,6 +394,20 @@ impl Sub {
 }
 
 impl Exprs {
+    /// The expressions, in order.
+    pub fn of(items: Vec<Expr>) -> Exprs
+        ensures { result ≡ exps_view items.items }
+    {
+        Exprs { items }
+    }
+
+    /// The expressions themselves.
+    pub fn as_slice(&self) -> &[Expr]
+        ensures { exps_view result.now ≡ self.now }
+    {
+        self.items.as_slice()
+    }
+
     #[cycle(nodes)]
     pub fn nodes(&self) -> u64
         requires { exps_nodes self.now < 2 ^ 32 }
@@ -397,6 +422,13 @@ impl Exprs {
 }
 
 impl Links {
+    /// The operators and operands, in order.
+    pub fn of(items: Vec<Link>) -> Links
+        ensures { result ≡ links_view items.items }
+    {
+        Links { items }
+    }
+
     pub fn as_slice(&self) -> &[Link]
         ensures { links_view result.now ≡ self.now }
     {
@@ -417,6 +449,13 @@ impl Links {
 }
 
 impl Joins {
+    /// The operands, in order.
+    pub fn of(items: Vec<Join>) -> Joins
+        ensures { result ≡ ands_view items.items }
+    {
+        Joins { items }
+    }
+
     pub fn as_slice(&self) -> &[Join]
         ensures { ands_view result.now ≡ self.now }
     {
@@ -437,6 +476,20 @@ impl Joins {
 }
 
 impl Steps {
+    /// The steps, in order.
+    pub fn of(items: Vec<Step>) -> Steps
+        ensures { result ≡ steps_view items.items }
+    {
+        Steps { items }
+    }
+
+    /// The steps themselves.
+    pub fn as_slice(&self) -> &[Step]
+        ensures { steps_view result.now ≡ self.now }
+    {
+        self.items.as_slice()
+    }
+
     #[cycle(nodes)]
     pub fn nodes(&self) -> u64
         requires { steps_nodes self.now < 2 ^ 32 }
