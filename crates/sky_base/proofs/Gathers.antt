@@ -1,5 +1,5 @@
 -- Gathering the distinct names of a value.
-use Rattle.std.proofs.Common.{◌≡◌, ℕ, zero, suc, List, [], ◌∷◌, ◌++◌, length, Bool, true, false, ◌||◌, refl, ap, sym, ◌∙◌, append_assoc, append-nil}
+use Rattle.std.proofs.Common.{◌≡◌, ℕ, suc, List, [], ◌∷◌, ◌++◌, length, Bool, true, false, ◌||◌, refl, ap, sym, ◌∙◌, append_assoc, append-nil}
 use Rattle.sky_base.specs.Val.{Desc, known, same_text, same_desc, stands_in, unless_in, distinct_from, distinct}
 use Rattle.sky_base.specs.Names.{names_of, is_among, known_of, with_new, gathered}
 use Rattle.sky_base.specs.declared.text.Name.{Name}

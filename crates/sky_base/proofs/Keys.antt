@@ -1,5 +1,5 @@
 -- Keys stay in order.
-use Rattle.std.proofs.Common.{◌≡◌, ℕ, zero, suc, ◌<◌, ◌≤◌, List, [], ◌∷◌, length, get_or, set, refl, ap, sym, ◌∙◌, arith, Some, None}
+use Rattle.std.proofs.Common.{◌≡◌, ℕ, zero, suc, ◌<◌, ◌≤◌, List, [], ◌∷◌, length, get_or, set, refl, ap, sym, ◌∙◌, arith, Some, None, ◌+◌, ◌⊎◌, inl, inr}
 use Rattle.std.specs.List.{insert}
 use Rattle.std.specs.Ordering.{nat_cmp, match_ordering, MatchOrdering, ordering_then, ordering_reverse}
 use Rattle.std.specs.Cmp.Lexicographic.{slice_cmp}
@@ -10,7 +10,6 @@ use Rattle.sky_base.specs.Op.{put, find}
 use Rattle.sky_base.specs.View.{view, pairs_of}
 use Rattle.sky_base.specs.Place.{Passed}
 use Rattle.sky_base.specs.declared.value.Pair.{Pair}
-use Rattle.sky_base.specs.declared.value.Value.{Value}
 
 flipped : (k l : List ℕ) → slice_cmp nat_cmp k l ≡ Ordering.Greater → slice_cmp nat_cmp l k ≡ Ordering.Less
 flipped k l h = nat_list_cmp_total.antisymm l k ∙ ap ordering_reverse h
@@ -70,6 +69,51 @@ put_set (r ∷ ps) zero p n h g =
 put_set (r ∷ ps) (suc i) p n h g =
     ap (pair r.key (view r.value)) (put_set ps i p (omega arith) (λ j d m. h (suc j) d (omega arith)) g)
     ∙ sym (put_past p.key r.key (view p.value) (view r.value) (pairs_of ps) (h zero r (omega arith)))
+
+-- ---- keys that rise
+
+rising_from : (k : List ℕ) (ps : List Pair) (m : ℕ) (d : Pair) → RisingFrom k (pairs_of ps) → m < length ps → slice_cmp nat_cmp k (get_or ps m d).key ≡ Ordering.Less
+rising_from k [] m d r h = absurd (omega arith)
+rising_from k (p ∷ ps) zero d r h = r.0
+rising_from k (p ∷ ps) (suc m) d r h =
+    nat_list_cmp_total.trans k p.key (get_or ps m d).key r.0 (rising_from p.key ps m d r.1 (omega arith))
+
+rising_at : (ps : List Pair) (j m : ℕ) (d : Pair) → Rising (pairs_of ps) → j < m → m < length ps → slice_cmp nat_cmp (get_or ps j d).key (get_or ps m d).key ≡ Ordering.Less
+rising_at [] j m d r h n = absurd (omega arith)
+rising_at (p ∷ ps) j zero d r h n = absurd (omega arith)
+rising_at (p ∷ ps) zero (suc m) d r h n = rising_from p.key ps m d r (omega arith)
+rising_at (p ∷ ps) (suc j) (suc m) d r h n = rising_at ps j m d (rising_tail p ps r) (omega arith) (omega arith)
+  where
+    rising_tail : (p : Pair) (ps : List Pair) → RisingFrom p.key (pairs_of ps) → Rising (pairs_of ps)
+    rising_tail p [] r = tt
+    rising_tail p (q ∷ ps) r = r.1
+
+raised : (k l : List ℕ) → slice_cmp nat_cmp l k ≡ Ordering.Less → slice_cmp nat_cmp k l ≡ Ordering.Greater
+raised k l h = nat_list_cmp_total.antisymm k l ∙ ap ordering_reverse h
+
+-- every key before a place is below the one that is above the key there, or equal to it
+pub passed_below : (ps : List Pair) (m : ℕ) (k : List ℕ) → Rising (pairs_of ps) → m < length ps → ((d : Pair) → slice_cmp nat_cmp k (get_or ps m d).key ≡ Ordering.Greater) → Passed ps k (m + 1)
+passed_below ps m k r n g = λ j d h. from_last j d (split_last j m h)
+  where
+    split_last : (j m : ℕ) → j < m + 1 → (j < m) ⊎ (j ≡ m)
+    split_last j m h = grind arith
+
+    from_last : (j : ℕ) (d : Pair) → (j < m) ⊎ (j ≡ m) → slice_cmp nat_cmp k (get_or ps j d).key ≡ Ordering.Greater
+    from_last j d (inl h) =
+        raised k (get_or ps j d).key (nat_list_cmp_total.trans (get_or ps j d).key (get_or ps m d).key k (rising_at ps j m d r h n) (flipped k (get_or ps m d).key (g d)))
+    from_last j d (inr e) = rw e (g d)
+
+pub passed_equal : (ps : List Pair) (m : ℕ) (k : List ℕ) → Rising (pairs_of ps) → m < length ps → ((d : Pair) → slice_cmp nat_cmp k (get_or ps m d).key ≡ Ordering.Equal) → Passed ps k m
+passed_equal ps m k r n g = λ j d h. raised k (get_or ps j d).key (rw (same_key k (get_or ps m d).key (g d)) (rising_at ps j m d r h n))
+
+same_item : (ps : List Pair) (m : ℕ) (d e : Pair) → m < length ps → get_or ps m d ≡ get_or ps m e
+same_item [] m d e h = absurd (omega arith)
+same_item (p ∷ ps) zero d e h = refl
+same_item (p ∷ ps) (suc m) d e h = same_item ps m d e (omega arith)
+
+-- how a key compares with the one at a place, whatever stands for a place that isn't there
+pub item_is : (ps : List Pair) (m : ℕ) (x : Pair) (k : List ℕ) (o : Ordering) → m < length ps → x ≡ get_or ps m x → slice_cmp nat_cmp k x.key ≡ o → (d : Pair) → slice_cmp nat_cmp k (get_or ps m d).key ≡ o
+item_is ps m x k o h e g d = ap (λ (y : Pair). slice_cmp nat_cmp k y.key) (same_item ps m d x h ∙ sym e) ∙ g
 
 find_past : (k l : List ℕ) (v : Val (List ℕ)) (ps : Pairs (List ℕ)) → slice_cmp nat_cmp k l ≡ Ordering.Greater → find k (pair l v ps) ≡ find k ps
 find_past k l v ps h = ap (λ o. match_ordering o None (Some v) (find k ps)) h

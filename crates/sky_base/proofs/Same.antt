@@ -1,5 +1,5 @@
 -- Lists of different lengths are not equal.
-use Rattle.std.proofs.Common.{◌≡◌, ◌≢◌, ℕ, suc, List, [], ◌∷◌, length, Bool, false, true, ◌&&◌, refl, ap, ◌∙◌, arith}
+use Rattle.std.proofs.Common.{◌≡◌, ◌≢◌, ℕ, suc, List, [], ◌∷◌, length, Bool, false, true, ◌&&◌, refl, ap}
 use Rattle.sky_base.specs.Val.{same_val, same_vals, same_pairs, same_text}
 use Rattle.sky_base.specs.View.{view, vals_of, pairs_of}
 use Rattle.sky_base.specs.declared.value.Value.{Value}

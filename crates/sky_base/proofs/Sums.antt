@@ -2,7 +2,7 @@
 use Rattle.std.proofs.Common.{◌≡◌, ℕ, zero, suc, ◌+◌, ◌<◌, ◌≤◌, ◌-◌, ◌^◌, min, max, ◌⊎◌, inl, inr, subst, List, [], ◌∷◌, length, get_or, set, Some, refl, ap, arith}
 use Rattle.std.specs.List.{insert}
 use Rattle.std.specs.Option.{option_map}
-use Rattle.sky_base.specs.Val.{Val, Vals, val, sizes, depths, size, depth, pair_sizes, pair_depths, count}
+use Rattle.sky_base.specs.Val.{val, sizes, depths, size, depth, pair_sizes, pair_depths}
 use Rattle.sky_base.specs.Op.{put_val}
 use Rattle.sky_base.specs.View.{view, vals_of, pairs_of}
 use Rattle.sky_base.specs.Totals.{Totals}

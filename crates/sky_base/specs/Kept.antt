@@ -1,5 +1,5 @@
 -- The limits of values.
-use Rattle.std.specs.Prelude.{ℕ, ◌≤◌}
+use Rattle.std.specs.Prelude.{◌≤◌}
 use Rattle.sky_base.specs.Val.{Val, size, depth}
 
 -- a value within the limits of depth and size

@@ -1,7 +1,9 @@
-// Pairs in order of their keys.
+// The place of a key among pairs, by halving.
 
 ghost use Rattle.std.specs.Prelude.{◌≡◌, IfOk, IfErr};
 ghost use Rattle.sky_base.specs.Place.{IsPlace};
+ghost use Rattle.sky_base.specs.Val.{Rising};
+ghost use Rattle.sky_base.specs.View.{pairs_of};
 
 use crate::text::Txt;
 use crate::value::Pair;
@@ -9,14 +11,18 @@ use std::cmp::Ordering;
 
 /// The place of a key, or the one where it is to be put.
 pub fn place(items: &[Pair], key: &Txt) -> Result<usize, usize>
+    requires { Rising (pairs_of items.now) }
     ensures { IsPlace result items.now key.now }
 {
-    for (i, p) in items.iter().enumerate() {
-        match key.as_str().cmp(p.key.as_str()) {
-            Ordering::Less => return Err(i),
-            Ordering::Equal => return Ok(i),
-            Ordering::Greater => {}
+    let mut low = 0;
+    let mut high = items.len();
+    while low < high {
+        let middle = low + (high - low) / 2;
+        match key.as_str().cmp(items[middle].key.as_str()) {
+            Ordering::Less => high = middle,
+            Ordering::Equal => return Ok(middle),
+            Ordering::Greater => low = middle + 1,
         }
     }
-    Err(items.len())
+    Err(low)
 }

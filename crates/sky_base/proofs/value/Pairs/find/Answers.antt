@@ -1,7 +1,6 @@
-use Rattle.std.proofs.Common.{Err, ap, sym, ◌∙◌, subst}
+use Rattle.std.proofs.Common.{ap, sym, ◌∙◌}
 use Rattle.sky_base.specs.View.{pairs_of}
 use Rattle.sky_base.specs.Op.{find}
-use Rattle.sky_base.specs.Place.{IsPlace}
 use Rattle.sky_base.proofs.Keys.{find_nowhere}
 use Rattle.sky_base.proofs.value.Pairs.find.Goals as goal
 

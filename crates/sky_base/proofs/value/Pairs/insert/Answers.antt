@@ -1,4 +1,4 @@
-use Rattle.std.proofs.Common.{◌≡◌, ap, sym, ◌∙◌, ◌<◌, length, subst, get_or, arith, rules, Ok, Err}
+use Rattle.std.proofs.Common.{◌≡◌, ap, sym, ◌∙◌, subst, get_or, arith, rules, Ok, Err}
 use Rattle.sky_base.specs.Val.{Rising}
 use Rattle.sky_base.specs.View.{view, pairs_of}
 use Rattle.sky_base.specs.Op.{put}

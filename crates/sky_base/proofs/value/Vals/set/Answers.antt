@@ -1,4 +1,4 @@
-use Rattle.std.proofs.Common.{◌≡◌, ap, sym, ◌∙◌, ◌<◌, length, subst, get_or, arith}
+use Rattle.std.proofs.Common.{◌≡◌, ap, sym, ◌∙◌, ◌<◌, length, subst, get_or}
 use Rattle.sky_base.specs.Val.{count}
 use Rattle.sky_base.specs.Held.{held}
 use Rattle.sky_base.proofs.Sums.{vals_replaced}
