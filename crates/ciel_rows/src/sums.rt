@@ -3,7 +3,7 @@
 
 use ciel_io::mem_files::{MemFiles, SureFiles};
 use ciel_io::mem_sink::{MemSink, SureSink};
-use ciel_run::top::{ciel_main, Ended, Why};
+use ciel_run::top::{Ended, Why, ciel_main};
 use sky_base::fault::{Fault, FaultKind};
 use sky_base::text::{Bytes, Txt};
 use std::alloc::Global;
@@ -49,7 +49,12 @@ fn sums_are_written(rt: HostRuntime) -> Result<(), Fail> {
     writes(&rt, alloc, "return 0;", "0\n")?;
     writes(&rt, alloc, "return 0009;", "9\n")?;
     writes(&rt, alloc, " return\t1\r\n+\n2 ; ", "3\n")?;
-    writes(&rt, alloc, "return 9223372036854775806+1;", "9223372036854775807\n")
+    writes(
+        &rt,
+        alloc,
+        "return 9223372036854775806+1;",
+        "9223372036854775807\n",
+    )
 }
 
 fn is_not_built(rt: &impl Abort, alloc: Global, source: &[u8]) -> Result<(), Fail> {
@@ -95,9 +100,17 @@ fn is_fault(rt: &impl Abort, alloc: Global, source: &[u8], want: Fault) -> Resul
 #[test]
 fn sums_past_the_limits_are_faults(rt: HostRuntime) -> Result<(), Fail> {
     let alloc = rt.alloc();
-    let overflow = Fault { kind: FaultKind::Overflow, line: 1, col: 28 };
+    let overflow = Fault {
+        kind: FaultKind::Overflow,
+        line: 1,
+        col: 28,
+    };
     is_fault(&rt, alloc, b"return 9223372036854775807 + 1;", overflow)?;
-    let too_long = Fault { kind: FaultKind::TooLong, line: 1, col: 1_000_008 };
+    let too_long = Fault {
+        kind: FaultKind::TooLong,
+        line: 1,
+        col: 1_000_008,
+    };
     is_fault(&rt, alloc, &ones(alloc, 500_001)?, too_long)?;
     let (ended, out) = outcome(alloc, &ones(alloc, 500_000)?)?;
     assert_eq!(rt; ended.status, 0);
@@ -126,7 +139,9 @@ fn the_limit_of_a_script(rt: HostRuntime) -> Result<(), Fail> {
     assert!(rt; out.bytes() == "3\n".as_bytes());
     let (ended, _) = outcome(alloc, &filled(alloc, 1_048_577)?)?;
     assert_eq!(rt; ended.status, 11);
-    assert!(rt; matches!(&ended.why, Why::TooLongInput { path, limit: 1_048_576 } if names_s(path)));
+    assert!(rt;
+        matches!(&ended.why, Why::TooLongInput { path, limit: 1_048_576 } if names_s(path))
+    );
     Ok(())
 }
 
