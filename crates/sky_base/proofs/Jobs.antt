@@ -95,12 +95,12 @@ unfolding visits others see round wave job_answer is_utf8 chars encode
 computing = 0
 
 -- `curr = ref("n"); do { prev = curr; curr = spawn_exec("half", {"in": [prev]}, 1)[0]; } while (!*spawn_exec("same", {"in": [prev, curr]}, 1)[0]); return curr;` with n = `5` LF: the values are 5, 2, 1, 0, 0
-row9 : Job
-row9 = record { script = record { funs = []; main = block (Stm.set curr (at 1) (form Form.ref 8 (t (110 ∷ []) 12 ∷ [])) ∷ Stm.repeat (at 20) (block (Stm.set prev (at 25) (name curr 30) ∷ Stm.set curr (at 35) (executes half_name 40 (name prev 66 ∷ [])) ∷ [])) (Exp.prefix (record { sign = Sign.not; place = at 100 } ∷ record { sign = Sign.star; place = at 101 } ∷ []) (executes same_name 102 (name prev 128 ∷ name curr 134 ∷ []))) ∷ Stm.return (at 160) (name curr 167) ∷ []); keys = (110 ∷ []) ∷ [] }; inputs = (110 ∷ [], 53 ∷ 10 ∷ []) ∷ [] }
+fixed_point_row : Job
+fixed_point_row = record { script = record { funs = []; main = block (Stm.set curr (at 1) (form Form.ref 8 (t (110 ∷ []) 12 ∷ [])) ∷ Stm.repeat (at 20) (block (Stm.set prev (at 25) (name curr 30) ∷ Stm.set curr (at 35) (executes half_name 40 (name prev 66 ∷ [])) ∷ [])) (Exp.prefix (record { sign = Sign.not; place = at 100 } ∷ record { sign = Sign.star; place = at 101 } ∷ []) (executes same_name 102 (name prev 128 ∷ name curr 134 ∷ []))) ∷ Stm.return (at 160) (name curr 167) ∷ []); keys = (110 ∷ []) ∷ [] }; inputs = (110 ∷ [], 53 ∷ 10 ∷ []) ∷ [] }
 
-row9_answer : job_answer row9 kit 8 ≡ Answered.bytes (48 ∷ 10 ∷ [])
-unfolding computing row9
-row9_answer = refl
+fixed_point_row_answer : job_answer fixed_point_row kit 8 ≡ Answered.bytes (48 ∷ 10 ∷ [])
+unfolding computing fixed_point_row
+fixed_point_row_answer = refl
 
 -- `function p() { return 1 / 0; } function q() { return [][0]; } return spawn_exec("cat", {"in": [spawn(p, []), spawn(q, [])]}, 1)[0];`, and the two spawns exchanged
 abbrev spawns : List ℕ → ℕ → Exp
@@ -112,18 +112,18 @@ p = 112 ∷ []
 abbrev q : List ℕ
 q = 113 ∷ []
 
-row15 : List Exp → Job
-row15 es = record { script = record { funs = record { name = p; params = []; body = block (Stm.return (at 16) (Exp.chain (n 1 23) (Links.link Oper.over (at 25) (n 0 27) Links.no_links)) ∷ []); place = at 10 } ∷ record { name = q; params = []; body = block (Stm.return (at 47) (first (form Form.list 54 []) 56) ∷ []); place = at 41 } ∷ []; main = block (Stm.return (at 62) (executes (99 ∷ 97 ∷ 116 ∷ []) 69 es) ∷ []); keys = [] }; inputs = [] }
+two_faults_row : List Exp → Job
+two_faults_row es = record { script = record { funs = record { name = p; params = []; body = block (Stm.return (at 16) (Exp.chain (n 1 23) (Links.link Oper.over (at 25) (n 0 27) Links.no_links)) ∷ []); place = at 10 } ∷ record { name = q; params = []; body = block (Stm.return (at 47) (first (form Form.list 54 []) 56) ∷ []); place = at 41 } ∷ []; main = block (Stm.return (at 62) (executes (99 ∷ 97 ∷ 116 ∷ []) 69 es) ∷ []); keys = [] }; inputs = [] }
 
-row15_p : job_answer (row15 (spawns p 100 ∷ spawns q 114 ∷ [])) kit 4 ≡ Answered.fault (record { kind = FaultKind.DivZero; line = 1; col = 25 })
-unfolding computing row15
-row15_p = refl
+two_faults_row_p : job_answer (two_faults_row (spawns p 100 ∷ spawns q 114 ∷ [])) kit 4 ≡ Answered.fault (record { kind = FaultKind.DivZero; line = 1; col = 25 })
+unfolding computing two_faults_row
+two_faults_row_p = refl
 
-row15_q : job_answer (row15 (spawns q 100 ∷ spawns p 114 ∷ [])) kit 4 ≡ Answered.fault (record { kind = FaultKind.NoIndex; line = 1; col = 56 })
-unfolding computing row15
-row15_q = refl
+two_faults_row_q : job_answer (two_faults_row (spawns q 100 ∷ spawns p 114 ∷ [])) kit 4 ≡ Answered.fault (record { kind = FaultKind.NoIndex; line = 1; col = 56 })
+unfolding computing two_faults_row
+two_faults_row_q = refl
 
 -- with too little fuel there is no answer yet
-row15_short : job_answer (row15 (spawns p 100 ∷ spawns q 114 ∷ [])) kit 1 ≡ Answered.not_yet
-unfolding computing row15
-row15_short = refl
+two_faults_row_short : job_answer (two_faults_row (spawns p 100 ∷ spawns q 114 ∷ [])) kit 1 ≡ Answered.not_yet
+unfolding computing two_faults_row
+two_faults_row_short = refl

@@ -649,7 +649,7 @@ module _ {N : Type 0} (spell : N → List ℕ) (digest : List ℕ → List ℕ) 
   left_low (suc k) no_vals = refl
   left_low (suc k) (val v vs) = left_low k vs
 
-  -- ---- D12: a name is the digest of one level, whose inner references are names
+  -- ---- a name is the digest of one level, whose inner references are names
 
   mutual
     bytes_low : (v : Val N) → bytes (λ n. n) digest (low spell digest v) ≡ bytes spell digest v

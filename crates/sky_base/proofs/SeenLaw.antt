@@ -139,7 +139,7 @@ module _ {A : Type 0} (turn_to : Obj → Result A Fault) where
           subst (λ x. Kept not_yet (gather_one (few d) turn_to (gather few turn_to ds)) (gather_one x turn_to (gather more turn_to ds))) e g
 
 module _ (job : Job) (around : Around) where
-  -- D9: what is seen stays with more fuel
+  -- what is seen stays with more fuel
   pub see_kept : (n : ℕ) (d : Desc) → Kept None (see job around n d) (see job around (suc n) d)
   unfolding see
   see_kept zero d = inl refl
@@ -150,7 +150,7 @@ module _ (job : Job) (around : Around) where
   see_kept (suc n) (input k) = inr refl
   see_kept (suc n) (known b) = absurd b
 
-  -- D9: what a task did stays, and grows
+  -- what a task did stays, and grows
   pub acts_grow : (n : ℕ) (f : List ℕ) (vs : Vals) → Begins (acts (see job around n) (run_of job around f vs)) (acts (see job around (suc n)) (run_of job around f vs))
   acts_grow n f vs = acts_begin (see job around n) (see job around (suc n)) (see_kept n) (run_of job around f vs)
 
@@ -205,12 +205,12 @@ module _ (job : Job) (around : Around) where
   round_kept n zero a = inr refl
   round_kept n (suc k) a = on_turn_kept n (turn job around n a) (turn job around (suc n) a) _ _ (turn_kept n a) (λ u. round_kept n k u)
 
-  -- D9: an answer stays with more fuel
+  -- an answer stays with more fuel
   pub answer_kept : (n : ℕ) → Kept Answered.not_yet (job_answer job around n) (job_answer job around (suc n))
   unfolding job_answer
   answer_kept n = round_kept n 101 (ref main_call)
 
-  -- D9: a job means at most one answer
+  -- a job means at most one answer
   pub means_one : (a b : Answered) → Means job around a → Means job around b → a ≡ b
   means_one a b (n, e, na) (m, g, nb) = kept_one Answered.not_yet (job_answer job around) answer_kept n m a b e g na nb
 
@@ -247,7 +247,7 @@ module _ (job : Job) (around : Around) where
   some_same : {A : Type 0} (a b : A) → Some a ≡ Some b → a ≡ b
   some_same a b e = cc
 
-  -- D10: `wait` is a function where it exists
+  -- `wait` is a function where it exists
   pub wait_one : (t : Task) (j : ℕ) (ds es : List Desc) → WaitOf job around t j ds → WaitOf job around t j es → ds ≡ es
   wait_one t j ds es (n, e) (m, g) =
       some_same ds es (kept_one None (λ i. wait_at job around i t j) (wait_kept t j) n m (Some ds) (Some es) e g (some_not ds) (some_not es))
@@ -261,7 +261,7 @@ module _ (job : Job) (around : Around) where
   stands_kept (Task.of (input k)) j n = inr refl
   stands_kept (Task.of (known b)) j n = absurd b
 
-  -- D16: so is `at`
+  -- so is the state of a task at a wait
   pub stands_one : (t : Task) (j : ℕ) (s u : State) → StandsAt job around t j s → StandsAt job around t j u → s ≡ u
   stands_one t j s u (n, e) (m, g) =
       some_same s u (kept_one None (λ i. stands_at job around i t j) (stands_kept t j) n m (Some s) (Some u) e g (some_not s) (some_not u))

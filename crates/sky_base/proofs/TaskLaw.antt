@@ -51,7 +51,7 @@ module _ (job : Job) (around : Around) where
       rest_low =
           rel_rest (λ n. absurd n) digest (world_of job.script around) (named_as digest) read (λ d. ap known (name_low (λ n. absurd n) digest d)) reads_alike others h.wait h.forms h.st os
 
-      -- T2, stacks: what `resume` does where no names clash
+      -- what the step machine is to do where no names clash
       pub resume_halts : first_halt onward_low ≡ option_map (low_halt (λ n. absurd n) digest) (halt see (suc j) (run_of job around f vs))
       resume_halts = first_halt_low (λ n. absurd n) digest onward onward_low rest_low ∙ ap (option_map (low_halt (λ n. absurd n) digest)) (sym task_halts)
 
