@@ -558,5 +558,5 @@ module _ (N : Type 0) where
         refs_ok = refs_sound;
         call_ok = λ f vs h. h;
         out_ok = λ x a n i t h lt le. (t.0, h.0, h.1, lt, le);
-        input_ok = λ k. tt
+        input_ok = λ k. tt;
       }
