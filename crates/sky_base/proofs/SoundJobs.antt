@@ -28,7 +28,7 @@ none_some a e = cc
 -- ---- what is read from a run that is fine
 
 module _ {N : Type 0} (w : World N) (P : v.Val N → Type 0) (Q : v.Desc N → Type 0) where
-  abbrev SeenOk : Option (Object N) → Type 0
+  abbrev pub SeenOk : Option (Object N) → Type 0
   SeenOk None = Unit {0}
   SeenOk (Some o) = ObjectOk w P Q o
 
@@ -40,11 +40,11 @@ module _ {N : Type 0} (w : World N) (P : v.Val N → Type 0) (Q : v.Desc N → T
   OutcomeOk (Outcome.ended e st) = EndOk w P Q e × PairsOk w P Q st.vars
   OutcomeOk no_fuel = Unit {0}
 
-  abbrev HaltOk : ℕ → Option (Halt N) → Type 0
+  abbrev pub HaltOk : ℕ → Option (Halt N) → Type 0
   HaltOk d None = Unit {0}
   HaltOk d (Some h) = Each Q (refs_of h.wait) × FormsOk w P Q d h.forms × PairsOk w P Q h.st.vars
 
-  abbrev ActOk : Act N → Type 0
+  abbrev pub ActOk : Act N → Type 0
   ActOk (made d) = Q d
   ActOk (waited ds) = Each Q ds
 
@@ -72,7 +72,7 @@ module _ {N : Type 0} (w : World N) (P : v.Val N → Type 0) (Q : v.Desc N → T
     halt_on None k j d h g = tt
     halt_on (Some os) k j d h g = g os h
 
-    halt_fine : (j : ℕ) (r : Res N) (d : ℕ) → Fine w P Q d r → HaltOk d (halt look j r)
+    pub halt_fine : (j : ℕ) (r : Res N) (d : ℕ) → Fine w P Q d r → HaltOk d (halt look j r)
     halt_fine j (Fin e st) d g = tt
     halt_fine j (Tell o r) d g = halt_fine j r d g.1
     halt_fine zero (Ask q fr st k) d g = g.0
@@ -173,7 +173,7 @@ module _ {N : Type 0} (w : World N) (P : v.Val N → Type 0) (Q : v.Desc N → T
   front_length t vs (f ∷ fs) = refl
 
   -- the frames and the bodies that may still be opened are as many as may be open
-  frames_left : (fr : List (Entry N)) (d : ℕ) (f : List ℕ) (xs : v.Pairs N) → FormsOk w P Q d fr → length (frames_of fr f xs) + inner w fr d ≡ suc d
+  pub frames_left : (fr : List (Entry N)) (d : ℕ) (f : List ℕ) (xs : v.Pairs N) → FormsOk w P Q d fr → length (frames_of fr f xs) + inner w fr d ≡ suc d
   frames_left [] d f xs h = omega arith
   frames_left (en ∷ fr) d f xs h = go (opens en) refl h.0.1 (λ g. frames_left fr (inside w en d) g xs h.1)
     where
