@@ -36,18 +36,18 @@ module _ {N : Type 0} (w : World N) where
   good_later (Tell o r) d b c le g = (tt, good_later r d b c le g.1)
   good_later (Ask q fr st k) d b c le g = λ os. ((g os).0, good_later (k os) d b c le (g os).1)
 
-  alike : (x : Res N) (d c : ℕ) (en : Entry N) (k q : End N → St N → Res N) → ((e : End N) (st : St N) → Late c e st → k e st ≡ q e st) → Good d c x → then_do x en k ≡ then_do x en q
+  pub alike : (x : Res N) (d c : ℕ) (en : Entry N) (k q : End N → St N → Res N) → ((e : End N) (st : St N) → Late c e st → k e st ≡ q e st) → Good d c x → then_do x en k ≡ then_do x en q
   alike (Fin e st) d c en k q same h = same e st h
   alike (Tell o r) d c en k q same h = ap (Tell o) (alike r d c en k q same h.1)
   alike (Ask y fr st p) d c en k q same h = ap (Ask y (en ∷ fr) st) (fun_ext (λ os. alike (p os) d c en k q same (h os).1))
 
-  got_alike : (c : ℕ) (k q : Val N → St N → Res N) → ((v : Val N) (st : St N) → Within c st → k v st ≡ q v st) → (e : End N) (st : St N) → Late c e st → on_got k e st ≡ on_got q e st
+  pub got_alike : (c : ℕ) (k q : Val N → St N → Res N) → ((v : Val N) (st : St N) → Within c st → k v st ≡ q v st) → (e : End N) (st : St N) → Late c e st → on_got k e st ≡ on_got q e st
   got_alike c k q same End.goes st h = refl
   got_alike c k q same (End.got v) st h = same v st h
   got_alike c k q same (End.returned v) st h = refl
   got_alike c k q same (End.failed f) st h = refl
 
-  goes_alike : (c : ℕ) (k q : St N → Res N) → ((st : St N) → Within c st → k st ≡ q st) → (e : End N) (st : St N) → Late c e st → on_goes k e st ≡ on_goes q e st
+  pub goes_alike : (c : ℕ) (k q : St N → Res N) → ((st : St N) → Within c st → k st ≡ q st) → (e : End N) (st : St N) → Late c e st → on_goes k e st ≡ on_goes q e st
   goes_alike c k q same End.goes st h = same st h
   goes_alike c k q same (End.got v) st h = refl
   goes_alike c k q same (End.returned v) st h = refl
@@ -130,7 +130,7 @@ module _ {N : Type 0} (w : World N) where
   good_decide (fun f) p d b st on off g h = tt
   good_decide (ref e) p d b st on off g h = tt
 
-  decide_alike : (v : Val N) (p : Place) (st : St N) (on on' off : St N → Res N) → on st ≡ on' st → decide v p st on off ≡ decide v p st on' off
+  pub decide_alike : (v : Val N) (p : Place) (st : St N) (on on' off : St N → Res N) → on st ≡ on' st → decide v p st on off ≡ decide v p st on' off
   decide_alike (truth true) p st on on' off e = e
   decide_alike (truth false) p st on on' off e = refl
   decide_alike null p st on on' off e = refl
@@ -312,7 +312,7 @@ module _ {N : Type 0} (w : World N) where
         good_then (body_at w d f vs p st) d st.count b (call_open n k m f st.vars ss) _ (good_call n k m f st.vars ss vs p st h.1) (λ e s i. refl) (λ e s i. good_body d st.count b st.vars _ e s i (λ v u j. g v u (omega arith, omega arith)))
 
     mutual
-      good_eval : (e : Exp) (n : ℕ) (st : St N) → Good d (st.count + 1) (eval w (body_at w d) e n st)
+      pub good_eval : (e : Exp) (n : ℕ) (st : St N) → Good d (st.count + 1) (eval w (body_at w d) e n st)
       good_eval (Exp.literal v p) n st = good_visit p d (st.count + 1) st _ (λ lt. good_answer (limited (lit_val v)) p d (st.count + 1) (counted st) gives (λ x. (omega arith, omega arith)))
       good_eval (Exp.name x p) n st = good_visit p d (st.count + 1) st (λ s. answer (named (find x s.vars) x w.script.funs) p s gives) (λ lt. good_answer (named (find x st.vars) x w.script.funs) p d (st.count + 1) (counted st) gives (λ y. (omega arith, omega arith)))
       good_eval (Exp.parens e) n st = good_part _ d (st.count + 1) (st.count + 1) (parens_in n) _ (good_eval e (n + 1) st) (omega arith) (λ e s. refl) (λ v s h. h)

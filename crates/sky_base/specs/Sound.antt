@@ -1,6 +1,12 @@
 -- Values that keep the limits of depth and size, with all that they refer to.
-use Rattle.std.specs.Prelude.{ℕ, ◌≤◌, ◌<◌, List}
+use Rattle.sky_base.specs.See as see
+use Rattle.std.specs.Prelude.{ℕ, ◌≤◌, ◌<◌, List, Ok, Err}
 use Rattle.sky_base.specs.Val.{Val, Vals, Pairs, Desc, null, truth, num, text, list, dict, fun, ref, no_vals, val, no_pairs, pair, call, out, input, known}
+use Rattle.sky_base.specs.Op.{Answer}
+use Rattle.sky_base.specs.Res.{Object}
+use Rattle.sky_base.specs.Read.{Frame}
+use Rattle.sky_base.specs.Needed.{Task, State}
+use Rattle.sky_base.specs.Tasks.{Each}
 use Rattle.sky_base.specs.Kept.{Kept}
 
 module _ {N : Type 0} where
@@ -34,3 +40,33 @@ module _ {N : Type 0} where
   -- a value that keeps the limits, and whose descriptions are sound
   abbrev pub Sound : Val N → Type 0
   Sound v = Kept v × RefsSound v
+
+  -- an object whose value, if it has one, is sound
+  abbrev pub SoundObject : Object N → Type 0
+  SoundObject (Object.bytes b) = Unit {0}
+  SoundObject (Object.data_of v) = Sound v
+  SoundObject (Object.fault f) = Unit {0}
+
+  -- each variable is sound
+  abbrev pub SoundVars : Pairs N → Type 0
+  SoundVars no_pairs = Unit {0}
+  SoundVars (pair k v ps) = Sound v × SoundVars ps
+
+  abbrev pub SoundFrame : Frame N → Type 0
+  SoundFrame f = SoundVars f.vars × Each Sound f.stack
+
+abbrev pub SoundState : State → Type 0
+SoundState (State.run r) = Each SoundFrame r.frames
+SoundState (State.show_at v j) = Sound v
+
+abbrev pub SoundTask : Task → Type 0
+SoundTask Task.show = Unit {0}
+SoundTask (Task.of d) = SoundDesc d
+
+abbrev pub SoundRead : Answer ⊥ → Type 0
+SoundRead (Ok v) = Sound v
+SoundRead (Err k) = Unit {0}
+
+-- what is read as data is sound
+abbrev pub SoundReads : see.Around → Type 0
+SoundReads around = (b : List ℕ) → SoundRead (around.reads b)
