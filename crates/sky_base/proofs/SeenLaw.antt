@@ -17,7 +17,7 @@ module _ {A : Type 0} where
   kept_map bot x y low f e (inl h) = inl (ap f h ∙ e)
   kept_map bot x y low f e (inr h) = inr (ap f h)
 
-  kept_over : (bot x y z : A) → Kept bot x y → Kept bot y z → Kept bot x z
+  pub kept_over : (bot x y z : A) → Kept bot x y → Kept bot y z → Kept bot x z
   kept_over bot x y z (inl h) g = inl h
   kept_over bot x y z (inr h) (inl g) = inl (h ∙ g)
   kept_over bot x y z (inr h) (inr g) = inr (h ∙ g)
@@ -29,7 +29,7 @@ module _ {A : Type 0} where
   abbrev pub Begins : List A → List A → Type 0
   Begins xs ys = (zs : List A) × (ys ≡ xs ++ zs)
 
-  begins_cons : (x : A) (xs ys : List A) → Begins xs ys → Begins (x ∷ xs) (x ∷ ys)
+  pub begins_cons : (x : A) (xs ys : List A) → Begins xs ys → Begins (x ∷ xs) (x ∷ ys)
   begins_cons x xs ys b = (b.0, ap (λ zs. x ∷ zs) b.1)
 
 -- n and so many more
@@ -69,7 +69,7 @@ module _ {N : Type 0} (few more : v.Desc N → Option (Object N)) (grows : (d : 
       none (Some o) = refl
   join_kept x x' y y' (inr e) (inr g) = inr (ap₂ joined e g)
 
-  all_kept : (ds : List (v.Desc N)) → Kept None (see_all few ds) (see_all more ds)
+  pub all_kept : (ds : List (v.Desc N)) → Kept None (see_all few ds) (see_all more ds)
   all_kept [] = inr refl
   all_kept (d ∷ ds) = join_kept (few d) (more d) (see_all few ds) (see_all more ds) (grows d) (all_kept ds)
 
@@ -129,7 +129,7 @@ module _ {A : Type 0} (turn_to : Obj → Result A Fault) where
       none (Err f) = refl
   one_kept (Some o) r r' (inr e) = inr (ap (gather_on (turn_to o)) e)
 
-  gather_kept : (few more : Desc → Option Obj) → ((d : Desc) → Kept None (few d) (more d)) → (ds : List Desc) → Kept not_yet (gather few turn_to ds) (gather more turn_to ds)
+  pub gather_kept : (few more : Desc → Option Obj) → ((d : Desc) → Kept None (few d) (more d)) → (ds : List Desc) → Kept not_yet (gather few turn_to ds) (gather more turn_to ds)
   gather_kept few more h [] = inr refl
   gather_kept few more h (d ∷ ds) = step (h d) (one_kept (few d) (gather few turn_to ds) (gather more turn_to ds) (gather_kept few more h ds))
     where
@@ -188,7 +188,7 @@ module _ (job : Job) (around : Around) where
   refs_kept n (d ∷ ds) (dict ps) = all_turn_kept n (dict ps)
   refs_kept n (d ∷ ds) (fun f) = all_turn_kept n (fun f)
 
-  turn_kept : (n : ℕ) (a : Val) → Kept blind (turn job around n a) (turn job around (suc n) a)
+  pub turn_kept : (n : ℕ) (a : Val) → Kept blind (turn job around n a) (turn job around (suc n) a)
   turn_kept n a = refs_kept n (refs a) a
 
   on_turn_kept : (n : ℕ) (t t' : Turn) (go go' : Val → Answered) → Kept blind t t' → ((u : Val) → Kept Answered.not_yet (go u) (go' u)) → Kept Answered.not_yet (on_turn job around n t go) (on_turn job around (suc n) t' go')
@@ -223,7 +223,7 @@ module _ (job : Job) (around : Around) where
       same None = inr refl
       same (Some u) = kept_map blind _ _ None (λ t. wave_on job around n (Some t)) refl (turn_kept n u)
 
-  wave_kept : (n k : ℕ) → Kept None (wave job around n k) (wave job around (suc n) k)
+  pub wave_kept : (n k : ℕ) → Kept None (wave job around n k) (wave job around (suc n) k)
   unfolding wave
   wave_kept n zero = inr refl
   wave_kept n (suc k) = wave_step n (wave job around n k) (wave job around (suc n) k) (wave_kept n k)
@@ -233,7 +233,7 @@ module _ (job : Job) (around : Around) where
   only_kept false x y h = inr refl
 
   -- what a task waits for stays with more fuel
-  wait_kept : (t : Task) (j n : ℕ) → Kept None (wait_at job around n t j) (wait_at job around (suc n) t j)
+  pub wait_kept : (t : Task) (j n : ℕ) → Kept None (wait_at job around n t j) (wait_at job around (suc n) t j)
   wait_kept Task.show zero n = inr refl
   wait_kept Task.show (suc j) n = only_kept (nat_le (suc j) 100) _ _ (kept_map None _ _ None wave_refs refl (wave_kept n (suc j)))
   wait_kept (Task.of (call f vs)) zero n = inr refl
@@ -247,12 +247,12 @@ module _ (job : Job) (around : Around) where
   some_same : {A : Type 0} (a b : A) → Some a ≡ Some b → a ≡ b
   some_same a b e = cc
 
-  -- `wait` is a function where it exists
+  -- a task's wait is a function where it exists
   pub wait_one : (t : Task) (j : ℕ) (ds es : List Desc) → WaitOf job around t j ds → WaitOf job around t j es → ds ≡ es
   wait_one t j ds es (n, e) (m, g) =
       some_same ds es (kept_one None (λ i. wait_at job around i t j) (wait_kept t j) n m (Some ds) (Some es) e g (some_not ds) (some_not es))
 
-  stands_kept : (t : Task) (j n : ℕ) → Kept None (stands_at job around n t j) (stands_at job around (suc n) t j)
+  pub stands_kept : (t : Task) (j n : ℕ) → Kept None (stands_at job around n t j) (stands_at job around (suc n) t j)
   stands_kept Task.show j n = kept_map None _ _ None (wave_state j) refl (wave_kept n j)
   stands_kept (Task.of (call f vs)) zero n = inr refl
   stands_kept (Task.of (call f vs)) (suc j) n =
@@ -261,7 +261,7 @@ module _ (job : Job) (around : Around) where
   stands_kept (Task.of (input k)) j n = inr refl
   stands_kept (Task.of (known b)) j n = absurd b
 
-  -- so is the state of a task at a wait
+  -- so is how a task stands at it
   pub stands_one : (t : Task) (j : ℕ) (s u : State) → StandsAt job around t j s → StandsAt job around t j u → s ≡ u
   stands_one t j s u (n, e) (m, g) =
       some_same s u (kept_one None (λ i. stands_at job around i t j) (stands_kept t j) n m (Some s) (Some u) e g (some_not s) (some_not u))
