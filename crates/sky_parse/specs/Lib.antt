@@ -1,0 +1,4 @@
+pub mod Signs
+pub mod Levels
+pub mod Grammar
+pub mod Parts
