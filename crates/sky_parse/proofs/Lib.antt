@@ -1,3 +1,4 @@
 pub mod Tokens
 pub mod Builds
+pub mod Wholes
 pub mod Push

@@ -1,8 +1,10 @@
 -- One more at the end of a list of parts.
-use Rattle.std.proofs.Common.{◌≡◌, ℕ, suc, ◌<◌, ◌≤◌, Bool, true, false, List, [], ◌∷◌, ◌++◌, length, Option, Some, None, refl, sym, ap, ◌∙◌, arith}
+use Rattle.std.proofs.Common.{◌≡◌, ℕ, suc, ◌<◌, ◌≤◌, Bool, true, false, List, [], ◌∷◌, ◌++◌, length, Option, Some, None, refl, sym, ap, subst, ◌∙◌, arith}
 use Rattle.sky_base.specs.Tree.{Place, Exp, Exps, Links, Ands, Steps, Junction}
-use Rattle.sky_base.specs.Proper.{level, oper_level}
-use Rattle.sky_base.specs.TreeView.{at, arith_view, exp_view, exps_view, links_view, ands_view, steps_view, signs_view}
+use Rattle.std.specs.Prelude.{◌%◌, ◌==◌, if◌then◌else◌, Result, Ok, Err, IfOk}
+use Rattle.std.proofs.lemmas.Bool.{eqb-true}
+use Rattle.sky_base.specs.Proper.{exps_count}
+use Rattle.sky_base.specs.TreeView.{at, arith_view, order_view, exp_view, exps_view, links_view, ands_view, steps_view, signs_view}
 use Rattle.sky_base.specs.declared.tree.ArithOp.{ArithOp}
 use Rattle.sky_base.specs.declared.tree.Expr.{Expr}
 use Rattle.sky_base.specs.declared.tree.Link.{Link}
@@ -12,9 +14,14 @@ use Rattle.sky_base.specs.declared.tree.SignAt.{SignAt}
 use Rattle.sky_text.specs.declared.token.Sign.{Sign}
 use Rattle.sky_text.specs.declared.token.Token.{Token}
 use Rattle.sky_parse.specs.declared.level.Level.{Level}
+use Rattle.sky_parse.specs.declared.parts.Shape.{Shape}
+use Rattle.sky_parse.specs.declared.parts.StepHead.{StepHead}
+use Rattle.sky_parse.specs.declared.look.Fail.{Fail}
+use Rattle.sky_base.specs.declared.tree.Cmp.{Cmp}
 use Rattle.sky_parse.specs.Signs.{is}
+use Rattle.sky_parse.specs.Parts.{Has, spell_open, spell_parts, separator, ready, step_sign, step_shape}
 use Rattle.sky_parse.specs.Levels.{rank, tighter, junction, join_sign}
-use Rattle.sky_parse.specs.Grammar.{Mark, sign, sign_at, oper_sign, junction_sign, IsTree, AreTrees, AreLinks, AreAnds, AreSteps, spell, spell_exps, spell_others, spell_pairs, spell_other_pairs, spell_links, spell_ands, spell_steps, spell_signs, paired, Follows, Spelled}
+use Rattle.sky_parse.specs.Grammar.{Mark, sign, sign_at, oper_sign, order_sign, junction_sign, IsTree, AreTrees, AreLinks, AreAnds, AreSteps, spell, spell_exps, spell_others, spell_pairs, spell_value, spell_other_pairs, spell_links, spell_ands, spell_steps, spell_signs, paired, valued, Follows, Spelled}
 use Rattle.sky_parse.proofs.Tokens.{is_sign}
 
 above : Option Level → ℕ
@@ -116,29 +123,70 @@ pub are_exps_push : (xs : List Expr) (x : Expr) → AreTrees (exps_view xs) → 
 are_exps_push [] x h g = (g, tt)
 are_exps_push (y ∷ xs) x h g = (h.0, are_exps_push xs x h.1 g)
 
-pub exps_spelled : (ts rest after next : List Token) (t : Token) (xs : List Expr) (e : Expr) → 0 < length xs → Spelled (spell_exps (exps_view xs)) ts rest → rest ≡ t ∷ after → is Sign.Comma t.kind ≡ true → Spelled (spell (exp_view e)) after next
-    → Spelled (spell_exps (exps_view (xs ++ e ∷ []))) ts next
-exps_spelled ts rest after next t xs e some s r h g = λ more f.
-    let one : Follows (sign Sign.Comma ∷ spell (exp_view e) more) rest = rw r (is_sign Sign.Comma t.kind h, g more f) in
-    rw (exps_push xs e more some) (s (sign Sign.Comma ∷ spell (exp_view e) more) one)
+-- the sign between a key and its value, or between two pairs
+mutual
+  other_pairs_push : (xs : List Expr) (x : Expr) (more : List Mark) → spell_other_pairs (exps_view (xs ++ x ∷ [])) more ≡ spell_other_pairs (exps_view xs) (sign (if paired (exps_view xs) then Sign.Comma else Sign.Colon) ∷ spell (exp_view x) more)
+  other_pairs_push [] x more = refl
+  other_pairs_push (y ∷ xs) x more = ap (λ (ms : List Mark). sign Sign.Comma ∷ spell (exp_view y) ms) (value_push xs x more)
 
-other_pairs_push : (xs : List Expr) (k v : Expr) (more : List Mark) → paired (exps_view xs) ≡ true → spell_other_pairs (exps_view ((xs ++ k ∷ []) ++ v ∷ [])) more ≡ spell_other_pairs (exps_view xs) (sign Sign.Comma ∷ spell (exp_view k) (sign Sign.Colon ∷ spell (exp_view v) more))
-other_pairs_push [] k v more h = refl
-other_pairs_push (x ∷ []) k v more h = absurd cc
-other_pairs_push (x ∷ y ∷ xs) k v more h = ap (λ (ms : List Mark). sign Sign.Comma ∷ spell (exp_view x) (sign Sign.Colon ∷ spell (exp_view y) ms)) (other_pairs_push xs k v more h)
+  value_push : (xs : List Expr) (x : Expr) (more : List Mark) → spell_value (exps_view (xs ++ x ∷ [])) more ≡ spell_value (exps_view xs) (sign (if valued (exps_view xs) then Sign.Comma else Sign.Colon) ∷ spell (exp_view x) more)
+  value_push [] x more = refl
+  value_push (y ∷ xs) x more = ap (λ (ms : List Mark). sign Sign.Colon ∷ spell (exp_view y) ms) (other_pairs_push xs x more)
 
-pairs_push : (xs : List Expr) (k v : Expr) (more : List Mark) → 0 < length xs → paired (exps_view xs) ≡ true → spell_pairs (exps_view ((xs ++ k ∷ []) ++ v ∷ [])) more ≡ spell_pairs (exps_view xs) (sign Sign.Comma ∷ spell (exp_view k) (sign Sign.Colon ∷ spell (exp_view v) more))
-pairs_push [] k v more some h = absurd (omega arith)
-pairs_push (x ∷ []) k v more some h = absurd cc
-pairs_push (x ∷ y ∷ xs) k v more some h = ap (λ (ms : List Mark). spell (exp_view x) (sign Sign.Colon ∷ spell (exp_view y) ms)) (other_pairs_push xs k v more h)
+pairs_push : (xs : List Expr) (x : Expr) (more : List Mark) → 0 < length xs → spell_pairs (exps_view (xs ++ x ∷ [])) more ≡ spell_pairs (exps_view xs) (sign (if paired (exps_view xs) then Sign.Comma else Sign.Colon) ∷ spell (exp_view x) more)
+pairs_push [] x more h = absurd (omega arith)
+pairs_push (y ∷ xs) x more h = ap (spell (exp_view y)) (value_push xs x more)
 
-pub paired_push : (xs : List Expr) (k v : Expr) → paired (exps_view xs) ≡ true → paired (exps_view ((xs ++ k ∷ []) ++ v ∷ [])) ≡ true
-paired_push [] k v h = refl
-paired_push (x ∷ []) k v h = absurd cc
-paired_push (x ∷ y ∷ xs) k v h = paired_push xs k v h
+-- pairs have an even number of parts
+suc_even : (n : ℕ) → (suc (suc n) % 2 == 0) ≡ (n % 2 == 0)
+suc_even n = let h : suc (suc n) % 2 ≡ n % 2 = omega arith in ap (λ (m : ℕ). m == 0) h
 
-pub pairs_spelled : (ts rest after next : List Token) (t : Token) (xs : List Expr) (k v : Expr) → 0 < length xs → paired (exps_view xs) ≡ true → Spelled (spell_pairs (exps_view xs)) ts rest → rest ≡ t ∷ after → is Sign.Comma t.kind ≡ true
-    → Spelled (spell_pairs (exps_view (k ∷ v ∷ []))) after next → Spelled (spell_pairs (exps_view ((xs ++ k ∷ []) ++ v ∷ []))) ts next
-pairs_spelled ts rest after next t xs k v some even s r h g = λ more f.
-    let one : Follows (sign Sign.Comma ∷ spell (exp_view k) (sign Sign.Colon ∷ spell (exp_view v) more)) rest = rw r (is_sign Sign.Comma t.kind h, g more f) in
-    rw (pairs_push xs k v more some even) (s (sign Sign.Comma ∷ spell (exp_view k) (sign Sign.Colon ∷ spell (exp_view v) more)) one)
+pub even_is : (xs : List Expr) → (length xs % 2 == 0) ≡ paired (exps_view xs)
+even_is [] = refl
+even_is (x ∷ []) = refl
+even_is (x ∷ y ∷ xs) = suc_even (length xs) ∙ even_is xs
+
+suc_odd : (n : ℕ) → (suc (suc n) % 2 == 1) ≡ (n % 2 == 1)
+suc_odd n = let h : suc (suc n) % 2 ≡ n % 2 = omega arith in ap (λ (m : ℕ). m == 1) h
+
+odd_sign : (xs : List Expr) → (if length xs % 2 == 1 then Sign.Colon else Sign.Comma) ≡ (if paired (exps_view xs) then Sign.Comma else Sign.Colon)
+odd_sign [] = refl
+odd_sign (x ∷ []) = refl
+odd_sign (x ∷ y ∷ xs) = ap (λ (b : Bool). if b then Sign.Colon else Sign.Comma) (suc_odd (length xs)) ∙ odd_sign xs
+
+open_push : (sh : Shape) (xs : List Expr) (x : Expr) (more : List Mark) → 0 < length xs → spell_open sh (exps_view (xs ++ x ∷ [])) more ≡ spell_open sh (exps_view xs) (sign (separator sh (length xs)) ∷ spell (exp_view x) more)
+open_push (Shape.Many s) xs x more h = exps_push xs x more h
+open_push (Shape.Fixed n s) xs x more h = exps_push xs x more h
+open_push Shape.Pairs xs x more h = pairs_push xs x more h ∙ ap (λ (s : Sign). spell_pairs (exps_view xs) (sign s ∷ spell (exp_view x) more)) (sym (odd_sign xs))
+
+pub parts_spelled : (ts rest after next : List Token) (t : Token) (sh : Shape) (xs : List Expr) (e : Expr) → 0 < length xs → Spelled (spell_open sh (exps_view xs)) ts rest → rest ≡ t ∷ after → is (separator sh (length xs)) t.kind ≡ true
+    → Spelled (spell (exp_view e)) after next → Spelled (spell_open sh (exps_view (xs ++ e ∷ []))) ts next
+parts_spelled ts rest after next t sh xs e some s r h g = λ more f.
+    let one : Follows (sign (separator sh (length xs)) ∷ spell (exp_view e) more) rest = rw r (is_sign (separator sh (length xs)) t.kind h, g more f) in
+    rw (open_push sh xs e more some) (s (sign (separator sh (length xs)) ∷ spell (exp_view e) more) one)
+
+count_is : (xs : List Expr) → exps_count (exps_view xs) ≡ length xs
+count_is [] = refl
+count_is (x ∷ xs) = ap suc (count_is xs)
+
+pub has_parts : (sh : Shape) (xs : List Expr) → ready sh (length xs) ≡ true → Has sh (exps_view xs)
+has_parts (Shape.Many s) xs h = tt
+has_parts (Shape.Fixed n s) xs h = count_is xs ∙ eqb-true (length xs) n h
+has_parts Shape.Pairs xs h = sym (even_is xs) ∙ h
+
+pub step_spelled : (rest after next : List Token) (t : Token) (k : StepHead) (x : Step) (es : Exps) → rest ≡ t ∷ after → is (step_sign k) t.kind ≡ true → Spelled (spell_parts (step_shape k) es) after next
+    → ((more : List Mark) → spell_steps (steps_view (x ∷ [])) more ≡ sign_at (step_sign k) (at t.line t.col) ∷ spell_parts (step_shape k) es more) → Spelled (spell_steps (steps_view (x ∷ []))) rest next
+step_spelled rest after next t k x es r h s e = λ more f.
+    let one : Follows (sign_at (step_sign k) (at t.line t.col) ∷ spell_parts (step_shape k) es more) rest = rw r ((is_sign (step_sign k) t.kind h, refl), s more f) in
+    subst (λ (ms : List Mark). Follows ms rest) (sym (e more)) one
+
+pub compared_spelled : (from ts rest next : List Token) (t : Token) (o : Cmp) (first right whole : Exp) → ts ≡ t ∷ rest → is (order_sign (order_view o)) t.kind ≡ true → Spelled (spell right) rest next
+    → ((more : List Mark) → spell whole more ≡ spell first (sign_at (order_sign (order_view o)) (at t.line t.col) ∷ spell right more)) → Spelled (spell first) from ts → Spelled (spell whole) from next
+compared_spelled from ts rest next t o first right whole r h g e s = λ more f.
+    let mark = sign_at (order_sign (order_view o)) (at t.line t.col) in
+    let one : Follows (mark ∷ spell right more) ts = rw r ((is_sign (order_sign (order_view o)) t.kind h, refl), g more f) in
+    subst (λ (ms : List Mark). Follows ms from) (sym (e more)) (s (mark ∷ spell right more) one)
+
+pub ok_map : {X : Type 0} (r : Result X Fail) (P Q : X → Type 0) → ((x : X) → P x → Q x) → IfOk r P → IfOk r Q
+ok_map (Ok x) P Q f h = f x h
+ok_map (Err e) P Q f h = tt

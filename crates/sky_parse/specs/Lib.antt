@@ -2,3 +2,4 @@ pub mod Signs
 pub mod Levels
 pub mod Grammar
 pub mod Parts
+pub mod Begun

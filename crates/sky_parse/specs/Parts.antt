@@ -6,6 +6,7 @@ use Rattle.sky_text.specs.declared.token.Sign.{Sign}
 use Rattle.sky_text.specs.declared.token.Word.{Word}
 use Rattle.sky_parse.specs.declared.parts.Shape.{Shape}
 use Rattle.sky_parse.specs.declared.parts.Head.{Head}
+use Rattle.sky_parse.specs.declared.parts.StepHead.{StepHead}
 use Rattle.sky_parse.specs.Grammar.{Mark, sign, sign_at, word_at, spell, spell_exps, spell_pairs, paired}
 
 abbrev pub head_shape : Head → Shape
@@ -70,3 +71,11 @@ spell_head Head.Len p more = word_at Word.Len p ∷ sign Sign.OpenRound ∷ more
 spell_head Head.Keys p more = word_at Word.Keys p ∷ sign Sign.OpenRound ∷ more
 spell_head Head.Has p more = word_at Word.Has p ∷ sign Sign.OpenRound ∷ more
 spell_head Head.Range p more = word_at Word.Range p ∷ sign Sign.OpenRound ∷ more
+
+abbrev pub step_shape : StepHead → Shape
+step_shape StepHead.Index = Shape.Fixed 1 Sign.CloseSquare
+step_shape StepHead.Call = Shape.Many Sign.CloseRound
+
+abbrev pub step_sign : StepHead → Sign
+step_sign StepHead.Index = Sign.OpenSquare
+step_sign StepHead.Call = Sign.OpenRound

@@ -30,7 +30,14 @@ pub fn chain(alloc: Global, level: Level, first: Expr, rest: Vec<Link>) -> Resul
 
 /// A comparison.
 #[tactic(auto, using(crate::proofs::Builds::builds))]
-pub fn compare(alloc: Global, left: Expr, how: Cmp, line: u32, col: u32, right: Expr) -> Result<Expr, Memory>
+pub fn compare(
+    alloc: Global,
+    left: Expr,
+    how: Cmp,
+    line: u32,
+    col: u32,
+    right: Expr,
+) -> Result<Expr, Memory>
     requires left { IsTree (exp_view left) × (2 < level_of (exp_view left)) }
     requires right { IsTree (exp_view right) × (2 < level_of (exp_view right)) }
     ensures { IfOk result (λ e. IsTree (exp_view e) × (2 ≤ level_of (exp_view e)) × ((more : List Mark) → spell (exp_view e) more

@@ -51,7 +51,8 @@ impl Level {
     {
         match self {
             Level::Both => Sign::And,
-            Level::Either | Level::Comparison | Level::Sum | Level::Product | Level::Prefix => Sign::Or,
+            Level::Either | Level::Comparison | Level::Sum | Level::Product | Level::Prefix =>
+                Sign::Or,
         }
     }
 }

@@ -1,7 +1,10 @@
 // The parser: from the tokens of a script to its trees.
 #![tactic(auto)]
 
+pub mod begin;
 pub mod build;
+pub mod expr;
 pub mod level;
 pub mod look;
 pub mod parts;
+pub mod whole;

@@ -82,7 +82,8 @@ pub fn is_sign(kind: &TokenKind, sign: Sign) -> bool
 {
     match kind {
         TokenKind::Sign(own) => sign_code(*own) == sign_code(sign),
-        TokenKind::Name(_) | TokenKind::Number(_) | TokenKind::Text(_) | TokenKind::Word(_) => false,
+        TokenKind::Name(_) | TokenKind::Number(_) | TokenKind::Text(_) | TokenKind::Word(_) =>
+            false,
     }
 }
 
@@ -92,7 +93,8 @@ pub fn is_word(kind: &TokenKind, word: Word) -> bool
 {
     match kind {
         TokenKind::Word(own) => word_code(*own) == word_code(word),
-        TokenKind::Name(_) | TokenKind::Number(_) | TokenKind::Text(_) | TokenKind::Sign(_) => false,
+        TokenKind::Name(_) | TokenKind::Number(_) | TokenKind::Text(_) | TokenKind::Sign(_) =>
+            false,
     }
 }
 
@@ -102,7 +104,11 @@ pub fn eat(ts: &[Token], sign: Sign) -> Option<(&Token, &[Token])>
     ensures none { IfNone result (at_sign sign ts.now ≡ false) }
 {
     let (first, rest) = ts.split_first()?;
-    if is_sign(&first.kind, sign) { Some((first, rest)) } else { None }
+    if is_sign(&first.kind, sign) {
+        Some((first, rest))
+    } else {
+        None
+    }
 }
 
 /// The word, if it stands first, and what follows.
@@ -111,7 +117,11 @@ pub fn eat_word(ts: &[Token], word: Word) -> Option<(&Token, &[Token])>
     ensures none { IfNone result (at_word word ts.now ≡ false) }
 {
     let (first, rest) = ts.split_first()?;
-    if is_word(&first.kind, word) { Some((first, rest)) } else { None }
+    if is_word(&first.kind, word) {
+        Some((first, rest))
+    } else {
+        None
+    }
 }
 
 /// What follows the sign, which has to stand first.

@@ -4,7 +4,7 @@
 ghost use Rattle.std.specs.Prelude.{◌≡◌, ◌<◌, ◌∷◌, List, length, true, false, IfOk, IfSome, IfNone};
 ghost use Rattle.sky_base.specs.Tree.{Exps};
 ghost use Rattle.sky_parse.specs.Signs.{is};
-ghost use Rattle.sky_parse.specs.Parts.{Has, spell_parts, separator, full, ready, closing, head_shape};
+ghost use Rattle.sky_parse.specs.Parts.{Has, spell_parts, separator, full, ready, closing, head_shape, step_shape};
 ghost use Rattle.sky_parse.specs.Grammar.{Spelled};
 ghost use Rattle.sky_parse.specs.Grammar as g;
 
@@ -53,6 +53,25 @@ impl Head {
     }
 }
 
+/// An index or a call.
+#[derive(Clone, Copy, Debug)]
+pub enum StepHead {
+    Index,
+    Call,
+}
+
+impl StepHead {
+    /// How its parts stand.
+    pub fn shape(self) -> Shape
+        ensures { result ≡ step_shape self }
+    {
+        match self {
+            StepHead::Index => Shape::Fixed(1, Sign::CloseSquare),
+            StepHead::Call => Shape::Many(Sign::CloseRound),
+        }
+    }
+}
+
 impl Shape {
     /// The sign between so many parts and the next one.
     fn separator(self, count: usize) -> Sign
@@ -60,7 +79,11 @@ impl Shape {
     {
         match self {
             Shape::Many(_) | Shape::Fixed(_, _) => Sign::Comma,
-            Shape::Pairs => if count % 2 == 1 { Sign::Colon } else { Sign::Comma },
+            Shape::Pairs => if count % 2 == 1 {
+                Sign::Colon
+            } else {
+                Sign::Comma
+            },
         }
     }
 
