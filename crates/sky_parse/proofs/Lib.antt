@@ -2,3 +2,4 @@ pub mod Tokens
 pub mod Builds
 pub mod Wholes
 pub mod Push
+pub mod Statements

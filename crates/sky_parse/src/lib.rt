@@ -7,4 +7,5 @@ pub mod expr;
 pub mod level;
 pub mod look;
 pub mod parts;
+pub mod stmt;
 pub mod whole;

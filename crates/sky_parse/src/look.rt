@@ -98,6 +98,16 @@ pub fn is_word(kind: &TokenKind, word: Word) -> bool
     }
 }
 
+/// Whether the sign stands first.
+pub fn stands(ts: &[Token], sign: Sign) -> bool
+    ensures { result ≡ at_sign sign ts.now }
+{
+    match ts.split_first() {
+        Some((first, _)) => is_sign(&first.kind, sign),
+        None => false,
+    }
+}
+
 /// The sign, if it stands first, and what follows.
 pub fn eat(ts: &[Token], sign: Sign) -> Option<(&Token, &[Token])>
     ensures some { IfSome result (λ x. (ts.now ≡ x.0.now ∷ x.1.now) × (is sign x.0.now.kind ≡ true)) }
@@ -150,6 +160,7 @@ pub fn want_word(ts: &[Token], word: Word) -> Result<&[Token], Fail>
 
 /// A name, which has to stand first: its text, its line and column, and what follows.
 pub fn want_name(ts: &[Token]) -> Result<(Txt, u32, u32, &[Token]), Fail>
+    ensures plain { IfOk result (λ x. Spelled (λ more. g.Mark.plain (TokenKind.Name x.0) ∷ more) ts.now x.3.now) }
     ensures spelled { IfOk result (λ x. Spelled (λ more. g.Mark.placed (TokenKind.Name x.0) (at x.1 x.2) ∷ more) ts.now x.3.now) }
     ensures less { IfOk result (λ x. length x.3.now < length ts.now) }
 {
