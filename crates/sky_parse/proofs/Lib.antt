@@ -3,3 +3,5 @@ pub mod Builds
 pub mod Wholes
 pub mod Push
 pub mod Statements
+pub mod Tops
+pub mod Counts

@@ -2,10 +2,12 @@
 #![tactic(auto)]
 
 pub mod begin;
+pub mod brackets;
 pub mod build;
 pub mod expr;
 pub mod level;
 pub mod look;
 pub mod parts;
+pub mod script;
 pub mod stmt;
 pub mod whole;
