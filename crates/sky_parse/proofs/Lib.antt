@@ -1,0 +1,7 @@
+pub mod Tokens
+pub mod Builds
+pub mod Wholes
+pub mod Push
+pub mod Statements
+pub mod Tops
+pub mod Counts

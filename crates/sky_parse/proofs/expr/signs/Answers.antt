@@ -1,0 +1,11 @@
+use Rattle.std.proofs.Common.{arith}
+use Rattle.sky_parse.proofs.Push.{signs_spelled}
+use Rattle.sky_parse.proofs.expr.signs.Goals as goal
+
+pub loop-sign-preserved : goal.loop-sign-preserved
+loop-sign-preserved c =
+    let some = c.in-Some.ensures.some in
+    record {
+      spelled = rw c.in-Ok.ensures.items (signs_spelled c.args.ts.now c.loop-sign.rest.now c.in-Some.after.now c.loop-sign.items.items c.in-Some.sign c.loop-sign.invariant.spelled some.1);
+      less = omega (arith, c.loop-sign.invariant.less, some.0);
+    }

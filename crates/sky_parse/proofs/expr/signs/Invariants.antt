@@ -1,0 +1,13 @@
+use Rattle.std.proofs.Common.{◌≤◌, length}
+use Rattle.sky_base.specs.TreeView.{signs_view}
+use Rattle.sky_parse.specs.Grammar.{Spelled, spell_signs}
+use Rattle.sky_parse.proofs.expr.signs.Given as goal
+
+abbrev pub invariant-loop-sign : goal.invariant-loop-sign
+invariant-loop-sign l = record {
+  spelled : Spelled (spell_signs (signs_view l.items.items)) l.ts l.rest;
+  less : length l.rest ≤ length l.ts;
+}
+
+abbrev pub decreases-loop-sign : goal.decreases-loop-sign
+decreases-loop-sign l = length l.rest

@@ -1,0 +1,14 @@
+use Rattle.std.proofs.Common.{◌<◌, length}
+use Rattle.sky_parse.specs.Grammar.{Spelled, spell_params}
+use Rattle.sky_parse.specs.Scripts.{params_view}
+use Rattle.sky_parse.proofs.script.params.Given as goal
+
+abbrev pub invariant-loop-after : goal.invariant-loop-after
+invariant-loop-after l = record {
+  spelled : Spelled (spell_params (params_view l.items.items)) l.ts l.rest;
+  some : 0 < length l.items.items;
+  less : length l.rest < length l.ts;
+}
+
+abbrev pub decreases-loop-after : goal.decreases-loop-after
+decreases-loop-after l = length l.rest

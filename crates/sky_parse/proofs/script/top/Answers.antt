@@ -1,0 +1,32 @@
+use Rattle.std.proofs.Common.{◌≡◌, List, [], ◌∷◌, ◌++◌, ap, ◌∙◌}
+use Rattle.sky_base.specs.TreeView.{at}
+use Rattle.sky_base.specs.StmtView.{stm_view}
+use Rattle.sky_base.specs.declared.stmt.Stmt.{Stmt}
+use Rattle.sky_base.specs.declared.script.FunDef.{FunDef as Def}
+use Rattle.sky_parse.specs.Grammar.{Fun}
+use Rattle.sky_parse.specs.Scripts.{Top}
+use Rattle.sky_parse.proofs.Tops.{fun_stands, read_fun, read_stmt, def_is}
+use Rattle.sky_parse.proofs.script.top.Goals as goal
+
+pub returns-in-Some-clause-tree : goal.returns-in-Some-clause-tree
+returns-in-Some-clause-tree c =
+    let d = c.in_ok-fun.fun in
+    let tree = c.in_ok-fun.ensures.tree in
+    let f : Fun = record { name = d.name; place = at d.line d.col; params = tree.0; body = d.body } in
+    let some = c.in-Some.ensures.some in
+    let all : c.push_reserved.new.self.items ≡ c.args.read.now.funs.items ++ d ∷ [] = c.push_reserved.ensures.items ∙ ap (λ (xs : List Def). xs ++ d ∷ []) c.reserve.ensures.items in (
+      Top.fun f,
+      tree.2,
+      fun_stands c.args.ts.now c.in-Some.after.now c.in_ok-fun.rest.now c.in-Some.field-0-0.now f some.0 some.1 tree.3,
+      λ tops h. read_fun c.args.read.now.funs.items c.push_reserved.new.self.items c.args.read.now.main.items c.reserve-2.new.self.items d f tops all c.reserve-2.ensures.items (def_is d tree.0 tree.1) h.0 h.1,
+    )
+
+pub returns-clause-tree : goal.returns-clause-tree
+returns-clause-tree c =
+    let s = c.in_ok-item.ensures.tree in
+    let all : c.push_reserved-2.new.self.items ≡ c.args.read.now.main.items ++ c.in_ok-item.item ∷ [] = c.push_reserved-2.ensures.items ∙ ap (λ (xs : List Stmt). xs ++ c.in_ok-item.item ∷ []) c.reserve-2.ensures.items in (
+      Top.stmt (stm_view c.in_ok-item.item),
+      s.0,
+      s.1,
+      λ tops h. read_stmt c.args.read.now.funs.items c.reserve.new.self.items c.args.read.now.main.items c.push_reserved-2.new.self.items c.in_ok-item.item tops c.reserve.ensures.items all h.0 h.1,
+    )

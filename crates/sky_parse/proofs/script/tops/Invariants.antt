@@ -1,0 +1,10 @@
+use Rattle.std.proofs.Common.{List, length}
+use Rattle.sky_parse.specs.Grammar.{Spelled}
+use Rattle.sky_parse.specs.Scripts.{Top, AreTops, IsRead, spell_tops}
+use Rattle.sky_parse.proofs.script.tops.Given as goal
+
+abbrev pub invariant-loop-rest : goal.invariant-loop-rest
+invariant-loop-rest l = (tops : List Top) × IsRead l.read tops × AreTops tops × Spelled (spell_tops tops) l.ts l.rest
+
+abbrev pub decreases-loop-rest : goal.decreases-loop-rest
+decreases-loop-rest l = length l.rest

@@ -1,0 +1,134 @@
+// How a primary and a step begin: the token or tokens in front of the first part.
+
+ghost use Rattle.std.specs.Prelude.{◌≡◌, ◌<◌, ◌≤◌, ◌∷◌, [], List, true, length, IfOk, IfSome};
+ghost use Rattle.sky_base.specs.Tree.{Place};
+ghost use Rattle.sky_base.specs.TreeView.{at, exp_view, lit_view};
+ghost use Rattle.sky_parse.specs.Signs.{is};
+ghost use Rattle.sky_parse.specs.Parts.{spell_head, step_sign};
+ghost use Rattle.sky_parse.specs.Begun.{Begun};
+ghost use Rattle.sky_parse.specs.Grammar.{Mark, Fits, Spelled, lit_kind};
+ghost use Rattle.sky_parse.specs.Grammar as g;
+ghost use Rattle.sky_text.specs.declared.token.Token.{Token};
+ghost use Rattle.sky_text.specs.declared.token.TokenKind.{TokenKind};
+
+use crate::look::{Fail, eat, want};
+use crate::parts::{Head, StepHead};
+use sky_base::tree::{Expr, Lit};
+use sky_text::token::{Sign, Token, TokenKind, Word};
+
+/// How a primary begins.
+#[derive(Drop)]
+pub enum Opening {
+    /// It is this one token.
+    Leaf(Expr),
+    /// It is this form, at this line and column, and its parts follow.
+    Open(Head, u32, u32),
+}
+
+/// The literal that is a word.
+fn literal(word: Word) -> Option<Lit>
+    ensures { IfSome result (λ v. lit_kind (lit_view v) ≡ TokenKind.Word word) }
+{
+    match word {
+        Word::True => Some(Lit::Bool(true)),
+        Word::False => Some(Lit::Bool(false)),
+        Word::Null => Some(Lit::Null),
+        _ => None,
+    }
+}
+
+/// The form that begins with a word.
+fn word_head(word: Word) -> Option<Head>
+    ensures { IfSome result (λ h. (p : Place) (more : List Mark) → spell_head h p more ≡ g.word_at word p ∷ g.sign Sign.OpenRound ∷ more) }
+{
+    match word {
+        Word::Spawn => Some(Head::Spawn),
+        Word::SpawnExec => Some(Head::SpawnExec),
+        Word::Exec => Some(Head::Exec),
+        Word::Ref => Some(Head::Ref),
+        Word::Len => Some(Head::Len),
+        Word::Keys => Some(Head::Keys),
+        Word::Has => Some(Head::Has),
+        Word::Range => Some(Head::Range),
+        _ => None,
+    }
+}
+
+/// The form that begins with a sign.
+fn sign_head(sign: Sign) -> Option<Head>
+    ensures { IfSome result (λ h. (t : Token) (p : Place) (ts : List Token) → Fits (g.sign_at sign p) t → Spelled (spell_head h p) (t ∷ ts) ts) }
+{
+    match sign {
+        Sign::OpenRound => Some(Head::Parens),
+        Sign::OpenSquare => Some(Head::List),
+        Sign::OpenCurly => Some(Head::Dict),
+        _ => None,
+    }
+}
+
+/// What begins with a word, behind it.
+fn begin_word(word: Word, line: u32, col: u32, ts: &[Token]) -> Result<(Opening, &[Token]), Fail>
+    ensures tree { IfOk result (λ x. (t : Token) → Fits (g.word_at word (at line col)) t → Begun x.0 (t ∷ ts.now) x.1.now) }
+    ensures less { IfOk result (λ x. length x.1.now ≤ length ts.now) }
+{
+    if let Some(value) = literal(word) {
+        return Ok((Opening::Leaf(Expr::Literal { value, line, col }), ts));
+    }
+    let Some(head) = word_head(word) else {
+        return Err(Fail::Stuck(ts.len() + 1))
+    };
+    let rest = want(ts, Sign::OpenRound)?;
+    Ok((Opening::Open(head, line, col), rest))
+}
+
+/// What begins with a sign, behind it.
+fn begin_sign(sign: Sign, line: u32, col: u32, ts: &[Token]) -> Result<(Opening, &[Token]), Fail>
+    ensures tree { IfOk result (λ x. (t : Token) → Fits (g.sign_at sign (at line col)) t → Begun x.0 (t ∷ ts.now) x.1.now) }
+    ensures less { IfOk result (λ x. length x.1.now ≤ length ts.now) }
+{
+    match sign_head(sign) {
+        Some(head) => Ok((Opening::Open(head, line, col), ts)),
+        None => Err(Fail::Stuck(ts.len() + 1)),
+    }
+}
+
+/// The beginning of a primary.
+pub fn start(ts: &[Token]) -> Result<(Opening, &[Token]), Fail>
+    ensures tree { IfOk result (λ x. Begun x.0 ts.now x.1.now) }
+    ensures less { IfOk result (λ x. length x.1.now < length ts.now) }
+{
+    let Some((first, rest)) = ts.split_first() else {
+        return Err(Fail::Stuck(0))
+    };
+    let (line, col) = (first.line, first.col);
+    match &first.kind {
+        TokenKind::Name(name) => match name.share() {
+            Ok(name) => Ok((Opening::Leaf(Expr::Name { name, line, col }), rest)),
+            Err(_) => Err(Fail::Memory),
+        },
+        TokenKind::Number(value) => {
+            let value = Lit::Int(*value);
+            Ok((Opening::Leaf(Expr::Literal { value, line, col }), rest))
+        }
+        TokenKind::Text(text) => match text.share() {
+            Ok(text) => {
+                let value = Lit::Text(text);
+                Ok((Opening::Leaf(Expr::Literal { value, line, col }), rest))
+            }
+            Err(_) => Err(Fail::Memory),
+        },
+        TokenKind::Word(word) => begin_word(*word, line, col, rest),
+        TokenKind::Sign(sign) => begin_sign(*sign, line, col, rest),
+    }
+}
+
+/// The bracket of an index or a call, if one stands first, and what follows.
+pub fn begin_step(ts: &[Token]) -> Option<(StepHead, &Token, &[Token])>
+    ensures some { IfSome result (λ x. (ts.now ≡ x.1.now ∷ x.2.now) × (is (step_sign x.0) x.1.now.kind ≡ true)) }
+{
+    if let Some((sign, rest)) = eat(ts, Sign::OpenSquare) {
+        return Some((StepHead::Index, sign, rest));
+    }
+    let (sign, rest) = eat(ts, Sign::OpenRound)?;
+    Some((StepHead::Call, sign, rest))
+}
