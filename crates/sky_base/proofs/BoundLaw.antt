@@ -81,7 +81,7 @@ module _ {N : Type 0} (w : World N) where
         refs_ok = λ ds le h. tt;
         call_ok = λ f vs h. tt;
         out_ok = λ x a n i h j lt le. tt;
-        input_ok = λ k. tt
+        input_ok = λ k. tt;
       }
 
   any_seen : (o : Option (Object N)) → SeenOk w Any Made o
