@@ -25,42 +25,42 @@ abbrev gives_first : List (List ℕ) → Result (List (List ℕ)) FaultKind
 gives_first [] = Err FaultKind.BadKind
 gives_first (b ∷ bs) = Ok (b ∷ [])
 
-abbrev plain : Around
+abbrev pub plain : Around
 plain = record { runs = λ x v bs n. gives_first bs; reads = λ b. Err FaultKind.NotData; writes = write_val }
 
-abbrev at : ℕ → Place
+abbrev pub at : ℕ → Place
 at c = record { line = 1; col = c }
 
-abbrev n : ℕ → ℕ → Exp
+abbrev pub n : ℕ → ℕ → Exp
 n k c = Exp.literal (Lit.num (pos k)) (at c)
 
-abbrev t : List ℕ → ℕ → Exp
+abbrev pub t : List ℕ → ℕ → Exp
 t k c = Exp.literal (Lit.text k) (at c)
 
-abbrev b : Bool → ℕ → Exp
+abbrev pub b : Bool → ℕ → Exp
 b k c = Exp.literal (Lit.truth k) (at c)
 
-abbrev name : List ℕ → ℕ → Exp
+abbrev pub name : List ℕ → ℕ → Exp
 name x c = Exp.name x (at c)
 
-abbrev exps : List Exp → Exps
+abbrev pub exps : List Exp → Exps
 exps [] = Exps.no_exps
 exps (e ∷ es) = Exps.exp e (exps es)
 
-abbrev block : List Stm → Stms
+abbrev pub block : List Stm → Stms
 block [] = Stms.no_stms
 block (s ∷ ss) = Stms.stm s (block ss)
 
-abbrev op : Exp → Oper → ℕ → Exp → Exp
+abbrev pub op : Exp → Oper → ℕ → Exp → Exp
 op x o c y = Exp.chain x (Links.link o (at c) y Links.no_links)
 
-abbrev form : Form → ℕ → List Exp → Exp
+abbrev pub form : Form → ℕ → List Exp → Exp
 form o c es = Exp.parts o (at c) (exps es)
 
-abbrev main_of : List Stm → Job
+abbrev pub main_of : List Stm → Job
 main_of ss = record { script = record { funs = []; main = block ss; keys = [] }; inputs = [] }
 
-abbrev with_fun : List ℕ → List (List ℕ) → List Stm → List Stm → Job
+abbrev pub with_fun : List ℕ → List (List ℕ) → List Stm → List Stm → Job
 with_fun f xs body ss =
     record { script = record { funs = record { name = f; params = xs; body = block body; place = at 10 } ∷ []; main = block ss; keys = [] }; inputs = [] }
 
@@ -69,25 +69,25 @@ computing : ℕ
 unfolding visits others see round wave job_answer is_utf8 chars encode
 computing = 0
 
-abbrev out_of : Job → ℕ → Outcome ⊥
+abbrev pub out_of : Job → ℕ → Outcome ⊥
 out_of job k = outcome (see job plain k) (run_of job plain [] no_vals)
 
 -- how main ends with its count, where it waits for nothing
-abbrev end_of : Outcome ⊥ → Option (End ⊥ × ℕ)
+abbrev pub end_of : Outcome ⊥ → Option (End ⊥ × ℕ)
 end_of (ended e s) = Some (e, s.count)
 end_of no_fuel = None
 
-abbrev ends : Job → ℕ → Option (End ⊥ × ℕ)
+abbrev pub ends : Job → ℕ → Option (End ⊥ × ℕ)
 ends job k = end_of (out_of job k)
 
-abbrev returns : Val → ℕ → Option (End ⊥ × ℕ)
+abbrev pub returns : Val → ℕ → Option (End ⊥ × ℕ)
 returns v c = Some (End.returned v, c)
 
-abbrev fails : FaultKind → ℕ → ℕ → Option (End ⊥ × ℕ)
+abbrev pub fails : FaultKind → ℕ → ℕ → Option (End ⊥ × ℕ)
 fails k c m = Some (End.failed (record { kind = k; line = 1; col = c }), m)
 
 -- `return 1 + 2;`
-abbrev row1 : Job
+abbrev pub row1 : Job
 row1 = main_of (Stm.return (at 1) (op (n 1 8) Oper.plus 10 (n 2 12)) ∷ [])
 
 see_row1 : see row1 plain 1 main_call ≡ Some (Object.data_of (num (pos 3)))
@@ -104,16 +104,16 @@ unfolding computing
 answer_row2 = refl
 
 -- `function f(x) { return x * x; } a = spawn(f, [3]); b = spawn(f, [4]); return *a + *b;`
-abbrev f_of : ℕ → ℕ → Exp
+abbrev pub f_of : ℕ → ℕ → Exp
 f_of k c = form Form.spawn c (name (102 ∷ []) (c + 6) ∷ form Form.list (c + 9) (n k (c + 10) ∷ []) ∷ [])
 
-abbrev star : ℕ → Exp → Exp
+abbrev pub star : ℕ → Exp → Exp
 star c e = Exp.prefix (record { sign = Sign.star; place = at c } ∷ []) e
 
-abbrev row3 : Job
+abbrev pub row3 : Job
 row3 = with_fun (102 ∷ []) ((120 ∷ []) ∷ []) (Stm.return (at 17) (op (name (120 ∷ []) 24) Oper.times 26 (name (120 ∷ []) 28)) ∷ []) (Stm.set (97 ∷ []) (at 33) (f_of 3 37) ∷ Stm.set (98 ∷ []) (at 52) (f_of 4 56) ∷ Stm.return (at 71) (op (star 78 (name (97 ∷ []) 79)) Oper.plus 81 (star 83 (name (98 ∷ []) 84))) ∷ [])
 
-abbrev f : ℕ → Desc
+abbrev pub f : ℕ → Desc
 f k = call (102 ∷ []) (val (num (pos k)) no_vals)
 
 row3_short : job_answer row3 plain 1 ≡ Answered.not_yet
@@ -157,7 +157,7 @@ unfolding computing
 row3_made1 = refl
 
 -- `function bad(){return 1/0;} return *spawn(bad, []);`
-abbrev bad : List ℕ
+abbrev pub bad : List ℕ
 bad = 98 ∷ 97 ∷ 100 ∷ []
 
 abbrev row5 : Job
@@ -171,7 +171,7 @@ row5_answer = refl
 abbrev again : ℕ → Stm
 again c = Stm.return (at c) (star (c + 7) (form Form.spawn (c + 8) (name (102 ∷ []) (c + 14) ∷ form Form.list (c + 17) [] ∷ [])))
 
-abbrev row6 : Job
+abbrev pub row6 : Job
 row6 = with_fun (102 ∷ []) [] (again 16 ∷ []) (again 40 ∷ [])
 
 row6_answer : job_answer row6 plain 100 ≡ Answered.not_yet
@@ -218,7 +218,7 @@ unfolding computing
 dict_key = refl
 
 -- `i = 0; do { i += 1; } while (i < 3); return i;`
-abbrev i : List ℕ
+abbrev pub i : List ℕ
 i = 105 ∷ []
 
 repeat_row : ends (main_of (Stm.set i (at 1) (n 0 5) ∷ Stm.repeat (at 8) (block (Stm.add i (at 13) (at 15) (n 1 18) ∷ [])) (op (name i 30) (Oper.compare Order.lt) 32 (n 3 34)) ∷ Stm.return (at 38) (name i 45) ∷ [])) 0 ≡ returns (num (pos 3)) 20
@@ -274,7 +274,7 @@ unfolding computing
 row30 = refl
 
 -- `function f(n){ if (n == 0) { return 0; } return f(n - 1); } return f(62);`; the same with 63
-abbrev calls : Exp → ℕ → Exp
+abbrev pub calls : Exp → ℕ → Exp
 calls e c = Exp.postfix (name (102 ∷ []) c) (Steps.call (exps (e ∷ [])) (at (c + 1)) Steps.no_steps)
 
 abbrev down : ℕ → Job
@@ -300,13 +300,13 @@ unfolding computing
 row34 = refl
 
 -- `x = exec("cat", {"in": ref("t")}, 1); return x[0];` with t = `a`
-abbrev cat : List ℕ
+abbrev pub cat : List ℕ
 cat = 99 ∷ 97 ∷ 116 ∷ []
 
-abbrev row33 : Job
+abbrev pub row33 : Job
 row33 = record { script = record { funs = []; main = block (Stm.set (120 ∷ []) (at 1) (form Form.exec 5 (t cat 10 ∷ form Form.dict 17 (t (105 ∷ 110 ∷ []) 18 ∷ form Form.ref 24 (t (116 ∷ []) 28 ∷ []) ∷ []) ∷ n 1 35 ∷ [])) ∷ Stm.return (at 39) (Exp.postfix (name (120 ∷ []) 46) (Steps.index (n 0 48) (at 47) Steps.no_steps)) ∷ []); keys = (116 ∷ []) ∷ [] }; inputs = (116 ∷ [], 97 ∷ []) ∷ [] }
 
-abbrev cat_out : Desc
+abbrev pub cat_out : Desc
 cat_out = out cat (dict (pair (105 ∷ 110 ∷ []) (ref (input (116 ∷ []))) no_pairs)) 1 0
 
 row33_answer : job_answer row33 plain 3 ≡ Answered.bytes (97 ∷ [])
@@ -355,7 +355,7 @@ unfolding computing
 no_functions = refl
 
 -- `function f(x) { return x * x; } return [spawn(f, [2]), [spawn(f, [3])]];`: the value at wave 2 has no reference
-abbrev row12 : Job
+abbrev pub row12 : Job
 row12 = with_fun (102 ∷ []) ((120 ∷ []) ∷ []) (Stm.return (at 17) (op (name (120 ∷ []) 24) Oper.times 26 (name (120 ∷ []) 28)) ∷ []) (Stm.return (at 33) (form Form.list 40 (f_of 2 41 ∷ form Form.list 56 (f_of 3 57 ∷ []) ∷ [])) ∷ [])
 
 row12_wave : wave row12 plain 2 2 ≡ Some (list (vals_of (num (pos 4) ∷ list (vals_of (num (pos 9) ∷ [])) ∷ [])))
