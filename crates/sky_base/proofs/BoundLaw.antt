@@ -61,7 +61,7 @@ module _ {N : Type 0} (w : World N) where
         truth_ok = λ b. tt;
         taken_ok = λ t. tt;
         lit_ok = λ l. any_answer (limited (lit_val l));
-        fun_ok = λ x. any_answer (limited (fun x));
+        fun_ok = λ x i. any_answer (limited (fun x));
         list_ok = λ vs h. any_answer (limited (list (vals_of vs)));
         dict_ok = λ vs h. any_answer (dict_from vs no_pairs);
         oper_ok = λ o a b h i. any_answer (oper o a b);
@@ -79,7 +79,7 @@ module _ {N : Type 0} (w : World N) where
         ref_ok = λ d h. tt;
         to_ok = λ d h. tt;
         refs_ok = λ ds le h. tt;
-        call_ok = λ f vs h. tt;
+        call_ok = λ f vs i h. tt;
         out_ok = λ x a n i h j lt le. tt;
         input_ok = λ k. tt
       }
