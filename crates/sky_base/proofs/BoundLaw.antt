@@ -36,10 +36,10 @@ module _ {N : Type 0} (w : World N) (d : ℕ) (n m : ℕ) (p : Place) (e : Exp) 
 -- ---- open bodies
 
 module _ {N : Type 0} (w : World N) where
-  abbrev Any : Val N → Type 0
+  abbrev pub Any : Val N → Type 0
   Any v = Unit {0}
 
-  abbrev Made : Desc N → Type 0
+  abbrev pub Made : Desc N → Type 0
   Made d = Unit {0}
 
   any_answer : (o : Answer N) → AnswerOk w Any Made o
@@ -90,13 +90,15 @@ module _ {N : Type 0} (w : World N) where
   any_seen (Some (Object.data_of v)) = tt
   any_seen (Some (Object.fault f)) = tt
 
+  -- what holds of every run at its waits
+  pub any_halt : (see : Desc N → Option (Object N)) (d j : ℕ) (f : List ℕ) (vs : Vals N) (p : Place) (st : St N) (h : Halt N) → halt see j (body_at w (suc d) f vs p st) ≡ Some h → HaltOk w Any Made d (Some h)
+  any_halt see d j f vs p st h e =
+      subst (HaltOk w Any Made d) e (halt_fine w Any Made see (λ x i. any_seen (see x)) j (body_at w (suc d) f vs p st) d (fine_call w Any Made any_closed d f vs p st (any_pairs st.vars) (any_vals vs)))
+
   -- at each wait the bodies that are open and those that may still be opened are as many as may be open: where none may
   -- be opened any more, and a call is TooDeep, all of them are open
   pub open_left : (see : Desc N → Option (Object N)) (d j : ℕ) (f : List ℕ) (vs : Vals N) (p : Place) (st : St N) (h : Halt N) → halt see j (body_at w (suc d) f vs p st) ≡ Some h → length (frames_of h.forms f h.st.vars) + inner w h.forms d ≡ suc d
-  open_left see d j f vs p st h e =
-      let fine : Fine w Any Made d (body_at w (suc d) f vs p st) = fine_call w Any Made any_closed d f vs p st (any_pairs st.vars) (any_vals vs) in
-      let at : HaltOk w Any Made d (Some h) = subst (HaltOk w Any Made d) e (halt_fine w Any Made see (λ x i. any_seen (see x)) j (body_at w (suc d) f vs p st) d fine) in
-      frames_left w Any Made h.forms d f h.st.vars at.1
+  open_left see d j f vs p st h e = frames_left w Any Made h.forms d f h.st.vars (any_halt see d j f vs p st h e).1
 
 module _ (job : Job) (around : Around) where
   -- a task's stack has up to 64 frames, and as many further bodies may be opened as are missing to 64

@@ -82,11 +82,21 @@ module _ {N : Type 0} (w : World N) (P : Val N → Type 0) (Q : Desc N → Type 
   FormsOk d [] = Unit {0}
   FormsOk d (en ∷ fr) = EntryOk d en × FormsOk (inside w en d) fr
 
+  -- the innermost form keeps what is waited for
+  abbrev pub waiting : Wait N → Val N
+  waiting (one_of p x) = ref x
+  waiting (all_of ds) = list (refs_to ds)
+
+  abbrev pub Waits : Wait N → List (Entry N) → Type 0
+  Waits q [] = ⊥
+  Waits q (en ∷ []) = kept_of en ≡ waiting q ∷ []
+  Waits q (en ∷ e ∷ fr) = Waits q (e ∷ fr)
+
   abbrev pub Fine : ℕ → Res N → Type 0
   Fine d (Fin e st) = EndOk e × PairsOk st.vars
   Fine d (Tell o r) = Q o × Fine d r
   Fine d (Ask q fr st k) =
-      (Each Q (refs_of q) × FormsOk d fr × PairsOk st.vars) × ((os : List (Object N)) → Each ObjectOk os → Fine d (k os))
+      (Each Q (refs_of q) × FormsOk d fr × PairsOk st.vars × Waits q fr) × ((os : List (Object N)) → Each ObjectOk os → Fine d (k os))
 
   -- ---- variables
 
@@ -123,11 +133,15 @@ module _ {N : Type 0} (w : World N) (P : Val N → Type 0) (Q : Desc N → Type 
 
   -- ---- the forms
 
+  waits_more : (q : Wait N) (en : Entry N) (fr : List (Entry N)) → Waits q fr → Waits q (en ∷ fr)
+  waits_more q en [] h = absurd h
+  waits_more q en (e ∷ fr) h = h
+
   fine_then : (r : Res N) (d : ℕ) (en : Entry N) (k : End N → St N → Res N) → EntryOk d en → Fine (inside w en d) r → ((e : End N) (st : St N) → EndOk e → PairsOk st.vars → Fine d (k e st)) → Fine d (then_do r en k)
   fine_then (Fin e st) d en k i g h = h e st g.0 g.1
   fine_then (Tell o r) d en k i g h = (g.0, fine_then r d en k i g.1 h)
   fine_then (Ask q fr st p) d en k i g h =
-      ((g.0.0, (i, g.0.1), g.0.2), λ os o. fine_then (p os) d en k i (g.1 os o) h)
+      ((g.0.0, (i, g.0.1), g.0.2, waits_more q en fr g.0.3), λ os o. fine_then (p os) d en k i (g.1 os o) h)
 
   fine_got : (r : Res N) (d : ℕ) (en : Entry N) (k : Val N → St N → Res N) → EntryOk d en → Fine (inside w en d) r → ((v : Val N) (st : St N) → P v → PairsOk st.vars → Fine d (k v st)) → Fine d (then_do r en (on_got k))
   fine_got r d en k i g h = fine_then r d en (on_got k) i g pass
@@ -137,6 +151,15 @@ module _ {N : Type 0} (w : World N) (P : Val N → Type 0) (Q : Desc N → Type 
       pass (End.got v) st o l = h v st o l
       pass (End.returned v) st o l = (o, l)
       pass (End.failed f) st o l = (tt, l)
+
+  fine_wait : (q : Wait N) (d : ℕ) (en : Entry N) (st : St N) (go : Val N → St N → Res N) → EntryOk d en → kept_of en ≡ waiting q ∷ [] → Each Q (refs_of q) → PairsOk st.vars → ((os : List (Object N)) → Each ObjectOk os → EndOk (wait_end w q os)) → ((v : Val N) (t : St N) → P v → PairsOk t.vars → Fine d (go v t)) → Fine d (then_do (ask w q st) en (on_got go))
+  fine_wait q d en st go i e qs l ends h = ((qs, (i, tt), l, e), λ os o. pass (wait_end w q os) (ends os o))
+    where
+      pass : (x : End N) → EndOk x → Fine d (on_got go x st)
+      pass End.goes o = (tt, l)
+      pass (End.got v) o = h v st o l
+      pass (End.returned v) o = (o, l)
+      pass (End.failed f) o = (tt, l)
 
   fine_goes : (r : Res N) (d : ℕ) (en : Entry N) (k : St N → Res N) → EntryOk d en → Fine (inside w en d) r → ((st : St N) → PairsOk st.vars → Fine d (k st)) → Fine d (then_do r en (on_goes k))
   fine_goes r d en k i g h = fine_then r d en (on_goes k) i g pass
@@ -339,7 +362,7 @@ module _ {N : Type 0} (w : World N) (P : Val N → Type 0) (Q : Desc N → Type 
 
     fine_exec_ask : (n : ℕ) (ds : List (Desc N)) (d : ℕ) (st : St N) → PairsOk st.vars → length ds ≤ 64 → Each (λ x. P (ref x)) ds → Fine d (exec_ask w n ds st)
     fine_exec_ask n ds d st l le h =
-        fine_got (ask w (all_of ds) st) d (exec_wait n ds) gives ((c.refs_ok ds le h, tt), tt) ((asked_ok ds h, tt, l), λ os o. (end_exec ds os (c.refs_ok ds le h), l)) (λ v s i m. (i, m))
+        fine_wait (all_of ds) d (exec_wait n ds) st gives ((c.refs_ok ds le h, tt), tt) refl (asked_ok ds h) l (λ os o. end_exec ds os (c.refs_ok ds le h)) (λ v s i m. (i, m))
 
     fine_input_if : (b : Bool) (k : List ℕ) (p : Place) (d : ℕ) (st : St N) → PairsOk st.vars → Fine d (input_if w b k p st)
     fine_input_if false k p d st l = (tt, l)
@@ -374,7 +397,7 @@ module _ {N : Type 0} (w : World N) (P : Val N → Type 0) (Q : Desc N → Type 
 
     fine_deref : (v : Val N) (n k : ℕ) (ss : List SignAt) (p : Place) (d : ℕ) (st : St N) (go : Val N → St N → Res N) → PairsOk st.vars → P v → ((u : Val N) (t : St N) → P u → PairsOk t.vars → Fine d (go u t)) → Fine d (deref w v n k ss p st go)
     fine_deref (ref x) n k ss p d st go l h g =
-        fine_got (ask w (one_of p x) st) d (star_wait n k x ss) go ((h, tt), tt) (((c.to_ok x h, tt), tt, l), λ os o. (end_one p x os o, l)) g
+        fine_wait (one_of p x) d (star_wait n k x ss) st go ((h, tt), tt) refl (c.to_ok x h, tt) l (λ os o. end_one p x os o) g
     fine_deref null n k ss p d st go l h g = (tt, l)
     fine_deref (truth b) n k ss p d st go l h g = (tt, l)
     fine_deref (num z) n k ss p d st go l h g = (tt, l)

@@ -15,7 +15,7 @@ use Rattle.sky_base.specs.Kept.{Kept}
 use Rattle.sky_base.specs.Sound.{IsFun, RefsSound, ValsSound, PairsSound, SoundDesc, Sound, SoundObject, SoundVars, SoundFrame, SoundState, SoundTask, SoundRead, SoundReads}
 use Rattle.sky_base.specs.declared.fault.Fault.{Fault}
 use Rattle.sky_base.proofs.Law.{inner}
-use Rattle.sky_base.proofs.FineLaw.{Closed, ValsOk, PairsOk, ObjectOk, EndOk, OpenOk, EntryOk, FormsOk, Fine, bind_ok, fine_call}
+use Rattle.sky_base.proofs.FineLaw.{Closed, ValsOk, PairsOk, ObjectOk, EndOk, OpenOk, EntryOk, FormsOk, Waits, Fine, bind_ok, fine_call}
 use Rattle.sky_base.proofs.SoundOps.{SoundAnswer, sound_closed}
 use Rattle.sky_base.proofs.TaskOutputs.{in_contains, each_in, in_each, distinct_refs_in}
 
@@ -42,7 +42,7 @@ module _ {N : Type 0} (w : World N) (P : v.Val N → Type 0) (Q : v.Desc N → T
 
   abbrev pub HaltOk : ℕ → Option (Halt N) → Type 0
   HaltOk d None = Unit {0}
-  HaltOk d (Some h) = Each Q (refs_of h.wait) × FormsOk w P Q d h.forms × PairsOk w P Q h.st.vars
+  HaltOk d (Some h) = Each Q (refs_of h.wait) × FormsOk w P Q d h.forms × PairsOk w P Q h.st.vars × Waits w P Q h.wait h.forms
 
   abbrev pub ActOk : Act N → Type 0
   ActOk (made d) = Q d
