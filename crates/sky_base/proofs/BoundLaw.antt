@@ -1,17 +1,16 @@
 -- The bound of a loop is never met, and a body can't be opened exactly where 64 are open.
-use Rattle.std.proofs.Common.{◌≡◌, ℕ, zero, suc, ◌+◌, ◌<◌, ◌≤◌, List, [], ◌∷◌, length, Option, Some, None, Ok, Err, refl, sym, ap, ◌∙◌, subst, arith}
+use Rattle.std.proofs.Common.{◌≡◌, ℕ, zero, suc, ◌+◌, ◌<◌, ◌≤◌, List, length, Option, Some, None, Ok, Err, subst, arith}
 use Rattle.sky_base.specs.Val.{Val, Vals, Pairs, Desc, no_vals, val, no_pairs, pair, vals_of}
 use Rattle.sky_base.specs.Op.{Answer, index, set_at, grown, negated, opposite, len, keys, has, range, limited, dict_from}
 use Rattle.sky_base.specs.Val.{list, fun}
 use Rattle.sky_base.specs.Tree.{Place, nowhere, Exp, Stms}
-use Rattle.sky_base.specs.Res.{visits, others, bodies, Object, End, St, Entry, while_test, while_body, repeat_body, repeat_test, Res, Fin}
+use Rattle.sky_base.specs.Res.{visits, others, bodies, Object, St, while_test, while_body, repeat_body, repeat_test, Res}
 use Rattle.sky_base.specs.Eval.{World, lit_val, oper, turns, repeats, eval, eval_block, body_at, go_while, go_repeat}
-use Rattle.sky_base.specs.Read.{Halt, Run, halt, frames_of, run_of_halt}
+use Rattle.sky_base.specs.Read.{Halt, halt, frames_of, run_of_halt}
 use Rattle.sky_base.specs.See.{Job, Around, world_of, start_st, run_of}
 use Rattle.sky_base.specs.Bounds.{turns_or, repeats_or}
-use Rattle.sky_base.specs.Tasks.{Each}
 use Rattle.sky_base.proofs.Law.{alike, got_alike, goes_alike, decide_alike, good_eval, good_call, good_block, inner}
-use Rattle.sky_base.proofs.FineLaw.{Closed, AnswerOk, ValsOk, PairsOk, ObjectOk, Fine, fine_call}
+use Rattle.sky_base.proofs.FineLaw.{Closed, AnswerOk, ValsOk, PairsOk, fine_call}
 use Rattle.sky_base.proofs.SoundJobs.{SeenOk, HaltOk, halt_fine, frames_left}
 
 module _ {N : Type 0} (w : World N) (d : ℕ) (n m : ℕ) (p : Place) (e : Exp) (blk : Stms) (met : St N → Res N) where
@@ -81,7 +80,7 @@ module _ {N : Type 0} (w : World N) where
         refs_ok = λ ds le h. tt;
         call_ok = λ f vs i h. tt;
         out_ok = λ x a n i h j lt le. tt;
-        input_ok = λ k. tt
+        input_ok = λ k. tt;
       }
 
   any_seen : (o : Option (Object N)) → SeenOk w Any Made o

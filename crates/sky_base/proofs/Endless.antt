@@ -1,5 +1,5 @@
 -- `while (true) { }` ends with TooLong: a row of a million visits, by induction.
-use Rattle.std.proofs.Common.{◌≡◌, ℕ, zero, suc, ◌+◌, ◌<◌, ◌≤◌, List, [], ◌∷◌, Bool, true, false, Option, Some, nat_lt, refl, sym, ap, ◌∙◌, arith, ltb-true, ltb-false, lt-ltb}
+use Rattle.std.proofs.Common.{◌≡◌, ℕ, zero, suc, ◌+◌, ◌<◌, ◌≤◌, [], ◌∷◌, Bool, true, false, Some, nat_lt, refl, ap, arith, ltb-true, ltb-false}
 use Rattle.sky_base.specs.Val.{truth, no_vals, no_pairs}
 use Rattle.sky_base.specs.Tree.{Place, Lit, Exp, Stm, Stms}
 use Rattle.sky_base.specs.Res.{visits, others, Object, End, St, while_test, while_body, block_at, Res, Fin, fault_at, then_do, on_got, on_goes, gives, counted, visited}

@@ -1,5 +1,5 @@
 -- What holds of the values that a run begins with, and is kept by each operator, holds of every value that it makes.
-use Rattle.std.proofs.Common.{◌≡◌, ℕ, zero, suc, ◌+◌, ◌<◌, ◌≤◌, Bool, true, false, List, [], ◌∷◌, ◌++◌, map, length, reverse, Option, Some, None, Ok, Err, nat_lt, nat_eq, is_some, ◌&&◌, pos, negsuc, refl, sym, ap, ◌∙◌, subst, arith, ltb-true, leb-true}
+use Rattle.std.proofs.Common.{◌≡◌, ℕ, zero, suc, ◌+◌, ◌<◌, ◌≤◌, Bool, true, false, List, [], ◌∷◌, ◌++◌, map, length, reverse, Option, Some, None, Ok, Err, nat_lt, nat_eq, is_some, ◌&&◌, pos, negsuc, refl, ap, arith, ltb-true}
 use Rattle.std.specs.Ordering.{nat_cmp, match_ordering}
 use Rattle.std.specs.Cmp.Lexicographic.{slice_cmp}
 use Rattle.std.specs.declared.cmp.Ordering.{Ordering}
@@ -8,7 +8,7 @@ use Rattle.sky_base.specs.Op.{Answer, index, find, put, negated, opposite, len, 
 use Rattle.sky_base.specs.Tree.{Place, nowhere, Lit, Oper, Junction, Sign, SignAt, Form, Exp, Exps, Links, Ands, Steps, Stm, Stms, Arms, Else, FunDef, nodes, stm_nodes, block_nodes, arms_nodes}
 use Rattle.sky_base.specs.Res.{visits, Object, End, St, Entry, parens_in, part_at, chain_first, chain_more, logic_at, prefix_part, star_wait, postfix_first, index_at, arg_at, call_open, exec_wait, set_part, add_part, put_index, put_value, return_part, just_part, arm_test, while_test, while_body, repeat_body, repeat_test, for_list, for_body, block_at, Wait, one_of, all_of, Res, Fin, Tell, Ask, kept_of, opens, then_do, on_got, on_goes, with_vars, on_body, gives, counted, visited, visit, answer, tell_all}
 use Rattle.sky_base.specs.Eval.{World, find_fun, is_one_of, Body, body_of, bind, set_var, lit_val, fun_named, named, oper, exec_end, read_end, outputs, truth_of, decide, joins, add_to, put_in, turns, repeats, each, each_of, with_one, with_two, with_three, wait_end, ask, make_one, spawn_if, spawn_fun, spawn_list, spawned, outputs_if, outputs_count, outputs_of, exec_ask, input_if, input_of, formed, deref, signed, signs, call_if, call_fun, called, enter, eval, eval_parts, eval_links, eval_ands, eval_steps, eval_args, eval_stm, eval_stms, eval_arms, eval_else, in_body, body_at, inside}
-use Rattle.sky_base.specs.Read.{Halt, Outcome, ended, no_fuel, refs_of, see_all, joined, on_seen, halts_seen, acts_seen, outcome, halt, acts, Act, made, waited}
+use Rattle.sky_base.specs.Read.{refs_of}
 use Rattle.sky_base.specs.Tasks.{Each}
 use Rattle.sky_base.specs.Sound.{IsFun}
 

@@ -1,13 +1,13 @@
 -- Further worked rows, computed: of tasks, of what they make and hold, and of lists.
-use Rattle.std.proofs.Common.{◌≡◌, ℕ, ◌+◌, List, [], ◌∷◌, Option, Some, None, Ok, Err, pos, refl, Bool, true, false}
+use Rattle.std.proofs.Common.{◌≡◌, ℕ, List, [], ◌∷◌, Some, None, Ok, Err, pos, refl, true, false}
 use Rattle.std.specs.Str.{is_utf8, chars}
 use lib.Utf8.{encode}
-use Rattle.sky_base.specs.Val.{null, num, text, list, dict, ref, no_vals, val, no_pairs, pair, call, out, input, vals_of, refs}
+use Rattle.sky_base.specs.Val.{num, list, ref, no_vals, call, out, input, vals_of, refs}
 use Rattle.sky_base.specs.Op.{plus, index, set_at, append}
-use Rattle.sky_base.specs.Tree.{Lit, Oper, Form, Exp, Stm}
+use Rattle.sky_base.specs.Tree.{Oper, Form, Stm}
 use Rattle.sky_base.specs.Res.{visits, others, Object}
 use Rattle.sky_base.specs.Read.{made, waited}
-use Rattle.sky_base.specs.See.{Val, Vals, Desc, Job, see, round, wave, job_answer, Answered, main_call}
+use Rattle.sky_base.specs.See.{Val, Desc, Job, see, round, wave, job_answer, Answered, main_call}
 use Rattle.sky_base.specs.Needed.{Task, wait_at}
 use Rattle.sky_base.specs.Tasks.{same, maker, outputs_of, first_of, waves_from, acts_of, ended, held_at, made_between, made_after}
 use Rattle.sky_base.specs.declared.fault.FaultKind.{FaultKind}

@@ -1,21 +1,20 @@
 -- Every value that a job makes keeps the limits; a task has at most 64 bodies open.
 use Rattle.sky_base.specs.Val as v
-use Rattle.std.proofs.Common.{◌≡◌, ◌≢◌, ℕ, zero, suc, ◌+◌, ◌<◌, ◌≤◌, List, [], ◌∷◌, ◌++◌, length, Bool, true, false, Option, Some, None, Result, Ok, Err, Contains, nat_lt, nat_le, refl, sym, ap, ◌∙◌, subst, arith, ltb-false, lt-ltb, ◌⊎◌, inl, inr}
+use Rattle.std.proofs.Common.{◌≡◌, ℕ, zero, suc, ◌+◌, ◌<◌, ◌≤◌, List, [], ◌∷◌, ◌++◌, length, Bool, true, false, Option, Some, None, Result, Ok, Err, nat_lt, nat_le, refl, ap, ◌∙◌, subst, arith, ltb-false, lt-ltb, ◌⊎◌, inl, inr}
 use Rattle.std.specs.Str.{is_utf8}
 use Rattle.sky_base.specs.Val.{null, truth, num, text, list, dict, fun, ref, no_vals, val, no_pairs, pair, call, out, input, known, refs, vals_refs, pairs_refs, size, depth}
 use Rattle.sky_base.specs.Op.{Answer}
 use Rattle.sky_base.specs.Tree.{nowhere, Script}
-use Rattle.sky_base.specs.Res.{others, Object, End, St, Entry, parens_in, part_at, chain_first, chain_more, logic_at, prefix_part, star_wait, postfix_first, index_at, arg_at, call_open, exec_wait, set_part, add_part, put_index, put_value, return_part, just_part, arm_test, while_test, while_body, repeat_body, repeat_test, for_list, for_body, block_at, Res, Fin, Tell, Ask, kept_of, opens}
+use Rattle.sky_base.specs.Res.{others, Object, End, Entry, parens_in, part_at, chain_first, chain_more, logic_at, prefix_part, star_wait, postfix_first, index_at, arg_at, call_open, exec_wait, set_part, add_part, put_index, put_value, return_part, just_part, arm_test, while_test, while_body, repeat_body, repeat_test, for_list, for_body, block_at, Res, Fin, Tell, Ask, kept_of, opens}
 use Rattle.sky_base.specs.Eval.{World, Body, body_of, bind, inside}
-use Rattle.sky_base.specs.Read.{Outcome, no_fuel, Act, made, waited, Halt, Todo, Frame, refs_of, joined, see_all, on_seen, acts_seen, halts_seen, outcome, acts, halt, todo_of, in_front, frame_of, frames_of, run_of_halt}
-use Rattle.sky_base.specs.See.{Val, Vals, Desc, Obj, Job, Around, Gathered, gather_on, gather_one, gather, as_bytes, as_value, read_or_text, text_if, val_of, replaced, vals_replaced, pairs_replaced, run_output, output_at, executed_on, object_of, world_of, start_st, run_of, see, Turn, next_if, next_within, next_value, lone, turn_all, turn_refs, turn, wave_on, turn_of, wave, main_call}
+use Rattle.sky_base.specs.Read.{Outcome, no_fuel, Act, made, waited, Halt, Todo, Frame, refs_of, joined, see_all, on_seen, acts_seen, halts_seen, outcome, acts, halt, todo_of, in_front, frame_of, frames_of}
+use Rattle.sky_base.specs.See.{Val, Vals, Desc, Obj, Job, Around, Gathered, gather_on, gather_one, gather, as_value, read_or_text, text_if, val_of, replaced, vals_replaced, pairs_replaced, run_output, output_at, executed_on, object_of, world_of, start_st, run_of, see, Turn, next_if, next_within, next_value, lone, turn_all, turn_refs, turn, wave_on, turn_of, wave, main_call}
 use Rattle.sky_base.specs.Needed.{Task, task_of, distinct_refs, unless_none, wave_refs, only_if, halt_refs, wait_at, WaitOf, State, start_frame, halt_state, wave_state, stands_at, StandsAt, Needed, root}
-use Rattle.sky_base.specs.Tasks.{In, Each, maker}
-use Rattle.sky_base.specs.Kept.{Kept}
+use Rattle.sky_base.specs.Tasks.{Each, maker}
 use Rattle.sky_base.specs.Sound.{IsFun, RefsSound, ValsSound, PairsSound, SoundDesc, Sound, SoundObject, SoundVars, SoundFrame, SoundState, SoundTask, SoundRead, SoundReads}
 use Rattle.sky_base.specs.declared.fault.Fault.{Fault}
 use Rattle.sky_base.proofs.Law.{inner}
-use Rattle.sky_base.proofs.FineLaw.{Closed, ValsOk, PairsOk, ObjectOk, EndOk, OpenOk, EntryOk, FormsOk, Waits, Fine, bind_ok, fine_call}
+use Rattle.sky_base.proofs.FineLaw.{Closed, PairsOk, ObjectOk, EndOk, OpenOk, FormsOk, Waits, Fine, bind_ok, fine_call}
 use Rattle.sky_base.proofs.SoundOps.{SoundAnswer, sound_closed}
 use Rattle.sky_base.proofs.TaskOutputs.{in_contains, each_in, in_each, distinct_refs_in}
 

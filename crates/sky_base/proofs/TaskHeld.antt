@@ -1,13 +1,13 @@
 -- What a task waits for is among what it holds.
-use Rattle.std.proofs.Common.{◌≡◌, ℕ, zero, suc, List, [], ◌∷◌, ◌++◌, Option, Some, None, Bool, true, false, nat_le, ◌⊎◌, inl, inr, refl, sym, ap, ◌∙◌, subst}
+use Rattle.std.proofs.Common.{◌≡◌, ℕ, zero, suc, List, [], ◌∷◌, ◌++◌, Option, Some, None, Bool, true, false, nat_le, inl, inr, refl, sym, ◌∙◌, subst}
 use Rattle.std.specs.Option.{option_map}
-use Rattle.sky_base.specs.Val.{Pairs, ref, call, out, input, known, refs, vals_refs, pairs_refs, refs_to, distinct}
+use Rattle.sky_base.specs.Val.{Pairs, call, out, input, known, refs, vals_refs, pairs_refs, refs_to}
 use Rattle.sky_base.specs.Tree.{nowhere}
 use Rattle.sky_base.specs.Res.{others, Entry, Wait, one_of, all_of, kept_of, opens}
 use Rattle.sky_base.specs.Eval.{World}
 use Rattle.sky_base.specs.Read.{Halt, Todo, Frame, refs_of, halt, todo_of, in_front, frame_of, frames_of, run_of_halt}
 use Rattle.sky_base.specs.See.{Val, Vals, Desc, Job, Around, see, world_of, start_st, run_of, wave, main_call}
-use Rattle.sky_base.specs.Needed.{Task, distinct_refs, unless_none, wave_refs, only_if, halt_refs, State, halt_state, wave_state, wait_at, stands_at}
+use Rattle.sky_base.specs.Needed.{Task, distinct_refs, unless_none, wave_refs, only_if, halt_refs, halt_state, wave_state, wait_at}
 use Rattle.sky_base.specs.Tasks.{In, vals_held, frames_held, held, held_at}
 use Rattle.sky_base.proofs.FineLaw.{waiting, Waits}
 use Rattle.sky_base.proofs.BoundLaw.{Any, Made, any_halt}

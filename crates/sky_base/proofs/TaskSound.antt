@@ -1,12 +1,12 @@
 -- All that a needed task makes or waits for has its task; data without functions and references is sound.
-use Rattle.std.proofs.Common.{◌≡◌, ℕ, zero, suc, ◌-◌, List, [], ◌∷◌, Option, Some, None, Ok, Err, Bool, true, false, ◌&&◌, inl, inr, refl, subst}
+use Rattle.std.proofs.Common.{◌≡◌, ℕ, zero, suc, ◌-◌, List, [], ◌∷◌, Option, Some, None, Ok, Err, true, inl, inr, refl}
 use Rattle.sky_base.specs.Val.{null, truth, num, text, list, dict, fun, ref, no_vals, val, no_pairs, pair, call, out, input, known, is_plain, vals_plain, pairs_plain, Pairs}
 use Rattle.sky_base.specs.Op.{Answer}
 use Rattle.sky_base.specs.Tree.{Script}
 use Rattle.sky_base.specs.Read.{Act, made, waited, acts}
 use Rattle.sky_base.specs.See.{Val, Vals, Desc, Job, Around, world_of, run_of, see, wave}
 use Rattle.sky_base.specs.Needed.{Task, task_of, wave_refs, WaitOf, Needed}
-use Rattle.sky_base.specs.Tasks.{In, Each, maker, waits_in, after_wait, made_before, made_in, wait_then, waves_from, acts_of, made_between, made_after}
+use Rattle.sky_base.specs.Tasks.{In, Each, maker, after_wait, made_before, made_in, wait_then, waves_from, acts_of, made_between, made_after}
 use Rattle.sky_base.specs.Kept.{Kept}
 use Rattle.sky_base.specs.Sound.{RefsSound, ValsSound, PairsSound, SoundDesc, Sound, SoundTask, SoundRead, SoundReads}
 use Rattle.sky_base.proofs.Exact.{both_first, both_second}
