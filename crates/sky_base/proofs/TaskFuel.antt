@@ -285,7 +285,7 @@ module _ (job : Job) (around : Around) where
   unfolding see
   unseen d = refl
 
-  out_alike : (n : ℕ) (x : List ℕ) (a : Val) (m i j : ℕ) → is_some (see job around (suc n) (out x a m i)) ≡ is_some (see job around (suc n) (out x a m j))
+  pub out_alike : (n : ℕ) (x : List ℕ) (a : Val) (m i j : ℕ) → is_some (see job around (suc n) (out x a m i)) ≡ is_some (see job around (suc n) (out x a m j))
   unfolding see
   out_alike n x a m i j = go (gather (λ d. see job around n d) (as_bytes around) (refs a))
     where
