@@ -1,17 +1,16 @@
 -- The bound of a loop is never met, and a body can't be opened exactly where 64 are open.
-use Rattle.std.proofs.Common.{◌≡◌, ℕ, zero, suc, ◌+◌, ◌<◌, ◌≤◌, List, [], ◌∷◌, length, Option, Some, None, Ok, Err, refl, sym, ap, ◌∙◌, subst, arith}
+use Rattle.std.proofs.Common.{◌≡◌, ℕ, zero, suc, ◌+◌, ◌<◌, ◌≤◌, List, length, Option, Some, None, Ok, Err, subst, arith}
 use Rattle.sky_base.specs.Val.{Val, Vals, Pairs, Desc, no_vals, val, no_pairs, pair, vals_of}
 use Rattle.sky_base.specs.Op.{Answer, index, set_at, grown, negated, opposite, len, keys, has, range, limited, dict_from}
 use Rattle.sky_base.specs.Val.{list, fun}
 use Rattle.sky_base.specs.Tree.{Place, nowhere, Exp, Stms}
-use Rattle.sky_base.specs.Res.{visits, others, bodies, Object, End, St, Entry, while_test, while_body, repeat_body, repeat_test, Res, Fin}
+use Rattle.sky_base.specs.Res.{visits, others, bodies, Object, St, while_test, while_body, repeat_body, repeat_test, Res}
 use Rattle.sky_base.specs.Eval.{World, lit_val, oper, turns, repeats, eval, eval_block, body_at, go_while, go_repeat}
-use Rattle.sky_base.specs.Read.{Halt, Run, halt, frames_of, run_of_halt}
+use Rattle.sky_base.specs.Read.{Halt, halt, frames_of, run_of_halt}
 use Rattle.sky_base.specs.See.{Job, Around, world_of, start_st, run_of}
 use Rattle.sky_base.specs.Bounds.{turns_or, repeats_or}
-use Rattle.sky_base.specs.Tasks.{Each}
 use Rattle.sky_base.proofs.Law.{alike, got_alike, goes_alike, decide_alike, good_eval, good_call, good_block, inner}
-use Rattle.sky_base.proofs.FineLaw.{Closed, AnswerOk, ValsOk, PairsOk, ObjectOk, Fine, fine_call}
+use Rattle.sky_base.proofs.FineLaw.{Closed, AnswerOk, ValsOk, PairsOk, fine_call}
 use Rattle.sky_base.proofs.SoundJobs.{SeenOk, HaltOk, halt_fine, frames_left}
 
 module _ {N : Type 0} (w : World N) (d : ℕ) (n m : ℕ) (p : Place) (e : Exp) (blk : Stms) (met : St N → Res N) where
@@ -36,10 +35,10 @@ module _ {N : Type 0} (w : World N) (d : ℕ) (n m : ℕ) (p : Place) (e : Exp) 
 -- ---- open bodies
 
 module _ {N : Type 0} (w : World N) where
-  abbrev Any : Val N → Type 0
+  abbrev pub Any : Val N → Type 0
   Any v = Unit {0}
 
-  abbrev Made : Desc N → Type 0
+  abbrev pub Made : Desc N → Type 0
   Made d = Unit {0}
 
   any_answer : (o : Answer N) → AnswerOk w Any Made o
@@ -61,7 +60,7 @@ module _ {N : Type 0} (w : World N) where
         truth_ok = λ b. tt;
         taken_ok = λ t. tt;
         lit_ok = λ l. any_answer (limited (lit_val l));
-        fun_ok = λ x. any_answer (limited (fun x));
+        fun_ok = λ x i. any_answer (limited (fun x));
         list_ok = λ vs h. any_answer (limited (list (vals_of vs)));
         dict_ok = λ vs h. any_answer (dict_from vs no_pairs);
         oper_ok = λ o a b h i. any_answer (oper o a b);
@@ -79,7 +78,7 @@ module _ {N : Type 0} (w : World N) where
         ref_ok = λ d h. tt;
         to_ok = λ d h. tt;
         refs_ok = λ ds le h. tt;
-        call_ok = λ f vs h. tt;
+        call_ok = λ f vs i h. tt;
         out_ok = λ x a n i h j lt le. tt;
         input_ok = λ k. tt;
       }
@@ -90,13 +89,15 @@ module _ {N : Type 0} (w : World N) where
   any_seen (Some (Object.data_of v)) = tt
   any_seen (Some (Object.fault f)) = tt
 
+  -- what holds of every run at its waits
+  pub any_halt : (see : Desc N → Option (Object N)) (d j : ℕ) (f : List ℕ) (vs : Vals N) (p : Place) (st : St N) (h : Halt N) → halt see j (body_at w (suc d) f vs p st) ≡ Some h → HaltOk w Any Made d (Some h)
+  any_halt see d j f vs p st h e =
+      subst (HaltOk w Any Made d) e (halt_fine w Any Made see (λ x i. any_seen (see x)) j (body_at w (suc d) f vs p st) d (fine_call w Any Made any_closed d f vs p st (any_pairs st.vars) (any_vals vs)))
+
   -- at each wait the bodies that are open and those that may still be opened are as many as may be open: where none may
   -- be opened any more, and a call is TooDeep, all of them are open
   pub open_left : (see : Desc N → Option (Object N)) (d j : ℕ) (f : List ℕ) (vs : Vals N) (p : Place) (st : St N) (h : Halt N) → halt see j (body_at w (suc d) f vs p st) ≡ Some h → length (frames_of h.forms f h.st.vars) + inner w h.forms d ≡ suc d
-  open_left see d j f vs p st h e =
-      let fine : Fine w Any Made d (body_at w (suc d) f vs p st) = fine_call w Any Made any_closed d f vs p st (any_pairs st.vars) (any_vals vs) in
-      let at : HaltOk w Any Made d (Some h) = subst (HaltOk w Any Made d) e (halt_fine w Any Made see (λ x i. any_seen (see x)) j (body_at w (suc d) f vs p st) d fine) in
-      frames_left w Any Made h.forms d f h.st.vars at.1
+  open_left see d j f vs p st h e = frames_left w Any Made h.forms d f h.st.vars (any_halt see d j f vs p st h e).1
 
 module _ (job : Job) (around : Around) where
   -- a task's stack has up to 64 frames, and as many further bodies may be opened as are missing to 64

@@ -1,5 +1,5 @@
 -- What holds of the values that a run begins with, and is kept by each operator, holds of every value that it makes.
-use Rattle.std.proofs.Common.{◌≡◌, ℕ, zero, suc, ◌+◌, ◌<◌, ◌≤◌, Bool, true, false, List, [], ◌∷◌, ◌++◌, map, length, reverse, Option, Some, None, Ok, Err, nat_lt, nat_eq, ◌&&◌, pos, negsuc, refl, sym, ap, ◌∙◌, subst, arith, ltb-true, leb-true}
+use Rattle.std.proofs.Common.{◌≡◌, ℕ, zero, suc, ◌+◌, ◌<◌, ◌≤◌, Bool, true, false, List, [], ◌∷◌, ◌++◌, map, length, reverse, Option, Some, None, Ok, Err, nat_lt, nat_eq, is_some, ◌&&◌, pos, negsuc, refl, ap, arith, ltb-true}
 use Rattle.std.specs.Ordering.{nat_cmp, match_ordering}
 use Rattle.std.specs.Cmp.Lexicographic.{slice_cmp}
 use Rattle.std.specs.declared.cmp.Ordering.{Ordering}
@@ -8,8 +8,9 @@ use Rattle.sky_base.specs.Op.{Answer, index, find, put, negated, opposite, len, 
 use Rattle.sky_base.specs.Tree.{Place, nowhere, Lit, Oper, Junction, Sign, SignAt, Form, Exp, Exps, Links, Ands, Steps, Stm, Stms, Arms, Else, FunDef, nodes, stm_nodes, block_nodes, arms_nodes}
 use Rattle.sky_base.specs.Res.{visits, Object, End, St, Entry, parens_in, part_at, chain_first, chain_more, logic_at, prefix_part, star_wait, postfix_first, index_at, arg_at, call_open, exec_wait, set_part, add_part, put_index, put_value, return_part, just_part, arm_test, while_test, while_body, repeat_body, repeat_test, for_list, for_body, block_at, Wait, one_of, all_of, Res, Fin, Tell, Ask, kept_of, opens, then_do, on_got, on_goes, with_vars, on_body, gives, counted, visited, visit, answer, tell_all}
 use Rattle.sky_base.specs.Eval.{World, find_fun, is_one_of, Body, body_of, bind, set_var, lit_val, fun_named, named, oper, exec_end, read_end, outputs, truth_of, decide, joins, add_to, put_in, turns, repeats, each, each_of, with_one, with_two, with_three, wait_end, ask, make_one, spawn_if, spawn_fun, spawn_list, spawned, outputs_if, outputs_count, outputs_of, exec_ask, input_if, input_of, formed, deref, signed, signs, call_if, call_fun, called, enter, eval, eval_parts, eval_links, eval_ands, eval_steps, eval_args, eval_stm, eval_stms, eval_arms, eval_else, in_body, body_at, inside}
-use Rattle.sky_base.specs.Read.{Halt, Outcome, ended, no_fuel, refs_of, see_all, joined, on_seen, halts_seen, acts_seen, outcome, halt, acts, Act, made, waited}
+use Rattle.sky_base.specs.Read.{refs_of}
 use Rattle.sky_base.specs.Tasks.{Each}
+use Rattle.sky_base.specs.Sound.{IsFun}
 
 -- w is what a run is run with, P what holds of values, and Q what holds of the descriptions that are made
 module _ {N : Type 0} (w : World N) (P : Val N → Type 0) (Q : Desc N → Type 0) where
@@ -35,7 +36,7 @@ module _ {N : Type 0} (w : World N) (P : Val N → Type 0) (Q : Desc N → Type 
     pub truth_ok : (b : Bool) → P (truth b)
     pub taken_ok : (t : ℕ) → P (num (pos t))
     pub lit_ok : (l : Lit) → AnswerOk (limited (lit_val l))
-    pub fun_ok : (x : List ℕ) → AnswerOk (limited (fun x))
+    pub fun_ok : (x : List ℕ) → IsFun w.script x → AnswerOk (limited (fun x))
     pub list_ok : (vs : List (Val N)) → Each P vs → AnswerOk (limited (list (vals_of vs)))
     pub dict_ok : (vs : List (Val N)) → Each P vs → AnswerOk (dict_from vs no_pairs)
     pub oper_ok : (o : Oper) (a b : Val N) → P a → P b → AnswerOk (oper o a b)
@@ -53,7 +54,7 @@ module _ {N : Type 0} (w : World N) (P : Val N → Type 0) (Q : Desc N → Type 
     pub ref_ok : (d : Desc N) → Q d → P (ref (w.make d))
     pub to_ok : (d : Desc N) → P (ref d) → Q d
     pub refs_ok : (ds : List (Desc N)) → length ds ≤ 64 → Each (λ d. P (ref d)) ds → P (list (refs_to ds))
-    pub call_ok : (f : List ℕ) (vs : Vals N) → P (list vs) → Q (call f vs)
+    pub call_ok : (f : List ℕ) (vs : Vals N) → IsFun w.script f → P (list vs) → Q (call f vs)
     pub out_ok : (x : List ℕ) (a : Val N) (n i : ℕ) → P (text x) → P a → i < n → n ≤ 64 → Q (out x a n i)
     pub input_ok : (k : List ℕ) → Q (input k)
 
@@ -68,10 +69,10 @@ module _ {N : Type 0} (w : World N) (P : Val N → Type 0) (Q : Desc N → Type 
   EndOk (End.returned v) = P v
   EndOk (End.failed f) = Unit {0}
 
-  -- an open call stands only where a body may be opened
+  -- an open call is of a function of the script, and stands only where a body may be opened
   abbrev pub OpenOk : ℕ → Option (List ℕ × Pairs N) → Type 0
   OpenOk d None = Unit {0}
-  OpenOk d (Some o) = (0 < d) × PairsOk o.1
+  OpenOk d (Some o) = (0 < d) × IsFun w.script o.0 × PairsOk o.1
 
   abbrev pub EntryOk : ℕ → Entry N → Type 0
   EntryOk d en = Each P (kept_of en) × OpenOk d (opens en)
@@ -81,11 +82,21 @@ module _ {N : Type 0} (w : World N) (P : Val N → Type 0) (Q : Desc N → Type 
   FormsOk d [] = Unit {0}
   FormsOk d (en ∷ fr) = EntryOk d en × FormsOk (inside w en d) fr
 
+  -- the innermost form keeps what is waited for
+  abbrev pub waiting : Wait N → Val N
+  waiting (one_of p x) = ref x
+  waiting (all_of ds) = list (refs_to ds)
+
+  abbrev pub Waits : Wait N → List (Entry N) → Type 0
+  Waits q [] = ⊥
+  Waits q (en ∷ []) = kept_of en ≡ waiting q ∷ []
+  Waits q (en ∷ e ∷ fr) = Waits q (e ∷ fr)
+
   abbrev pub Fine : ℕ → Res N → Type 0
   Fine d (Fin e st) = EndOk e × PairsOk st.vars
   Fine d (Tell o r) = Q o × Fine d r
   Fine d (Ask q fr st k) =
-      (Each Q (refs_of q) × FormsOk d fr × PairsOk st.vars) × ((os : List (Object N)) → Each ObjectOk os → Fine d (k os))
+      (Each Q (refs_of q) × FormsOk d fr × PairsOk st.vars × Waits q fr) × ((os : List (Object N)) → Each ObjectOk os → Fine d (k os))
 
   -- ---- variables
 
@@ -122,11 +133,15 @@ module _ {N : Type 0} (w : World N) (P : Val N → Type 0) (Q : Desc N → Type 
 
   -- ---- the forms
 
+  waits_more : (q : Wait N) (en : Entry N) (fr : List (Entry N)) → Waits q fr → Waits q (en ∷ fr)
+  waits_more q en [] h = absurd h
+  waits_more q en (e ∷ fr) h = h
+
   fine_then : (r : Res N) (d : ℕ) (en : Entry N) (k : End N → St N → Res N) → EntryOk d en → Fine (inside w en d) r → ((e : End N) (st : St N) → EndOk e → PairsOk st.vars → Fine d (k e st)) → Fine d (then_do r en k)
   fine_then (Fin e st) d en k i g h = h e st g.0 g.1
   fine_then (Tell o r) d en k i g h = (g.0, fine_then r d en k i g.1 h)
   fine_then (Ask q fr st p) d en k i g h =
-      ((g.0.0, (i, g.0.1), g.0.2), λ os o. fine_then (p os) d en k i (g.1 os o) h)
+      ((g.0.0, (i, g.0.1), g.0.2, waits_more q en fr g.0.3), λ os o. fine_then (p os) d en k i (g.1 os o) h)
 
   fine_got : (r : Res N) (d : ℕ) (en : Entry N) (k : Val N → St N → Res N) → EntryOk d en → Fine (inside w en d) r → ((v : Val N) (st : St N) → P v → PairsOk st.vars → Fine d (k v st)) → Fine d (then_do r en (on_got k))
   fine_got r d en k i g h = fine_then r d en (on_got k) i g pass
@@ -136,6 +151,15 @@ module _ {N : Type 0} (w : World N) (P : Val N → Type 0) (Q : Desc N → Type 
       pass (End.got v) st o l = h v st o l
       pass (End.returned v) st o l = (o, l)
       pass (End.failed f) st o l = (tt, l)
+
+  fine_wait : (q : Wait N) (d : ℕ) (en : Entry N) (st : St N) (go : Val N → St N → Res N) → EntryOk d en → kept_of en ≡ waiting q ∷ [] → Each Q (refs_of q) → PairsOk st.vars → ((os : List (Object N)) → Each ObjectOk os → EndOk (wait_end w q os)) → ((v : Val N) (t : St N) → P v → PairsOk t.vars → Fine d (go v t)) → Fine d (then_do (ask w q st) en (on_got go))
+  fine_wait q d en st go i e qs l ends h = ((qs, (i, tt), l, e), λ os o. pass (wait_end w q os) (ends os o))
+    where
+      pass : (x : End N) → EndOk x → Fine d (on_got go x st)
+      pass End.goes o = (tt, l)
+      pass (End.got v) o = h v st o l
+      pass (End.returned v) o = (o, l)
+      pass (End.failed f) o = (tt, l)
 
   fine_goes : (r : Res N) (d : ℕ) (en : Entry N) (k : St N → Res N) → EntryOk d en → Fine (inside w en d) r → ((st : St N) → PairsOk st.vars → Fine d (k st)) → Fine d (then_do r en (on_goes k))
   fine_goes r d en k i g h = fine_then r d en (on_goes k) i g pass
@@ -182,11 +206,11 @@ module _ {N : Type 0} (w : World N) (P : Val N → Type 0) (Q : Desc N → Type 
   fine_call_if false p d st r l g = (tt, l)
   fine_call_if true p d st r l g = g
 
-  fine_call_fun : (o : Option FunDef) (vs : Vals N) (p : Place) (d : ℕ) (st : St N) (r : Res N) → PairsOk st.vars → Fine d r → Fine d (call_fun w o vs p st r)
+  fine_call_fun : (o : Option FunDef) (vs : Vals N) (p : Place) (d : ℕ) (st : St N) (r : Res N) → PairsOk st.vars → (is_some o ≡ true → Fine d r) → Fine d (call_fun w o vs p st r)
   fine_call_fun None vs p d st r l g = (tt, l)
-  fine_call_fun (Some x) vs p d st r l g = fine_call_if (nat_eq (length x.params) (count vs)) p d st r l g
+  fine_call_fun (Some x) vs p d st r l g = fine_call_if (nat_eq (length x.params) (count vs)) p d st r l (g refl)
 
-  fine_called : (v : Val N) (vs : Vals N) (p : Place) (d : ℕ) (st : St N) (k : List ℕ → Res N) → PairsOk st.vars → ((f : List ℕ) → Fine d (k f)) → Fine d (called w v vs p st k)
+  fine_called : (v : Val N) (vs : Vals N) (p : Place) (d : ℕ) (st : St N) (k : List ℕ → Res N) → PairsOk st.vars → ((f : List ℕ) → IsFun w.script f → Fine d (k f)) → Fine d (called w v vs p st k)
   fine_called (fun f) vs p d st k l g = fine_call_fun (find_fun f w.script.funs) vs p d st (k f) l (g f)
   fine_called null vs p d st k l g = (tt, l)
   fine_called (truth b) vs p d st k l g = (tt, l)
@@ -227,13 +251,13 @@ module _ {N : Type 0} (w : World N) (P : Val N → Type 0) (Q : Desc N → Type 
   length_outputs x a n i (suc m) = ap suc (length_outputs x a n (suc i) m)
 
   module _ (c : Closed) where
-    named_ok : (o : Option (Val N)) (x : List ℕ) (fs : List FunDef) → OptionOk o → AnswerOk (named o x fs)
-    named_ok (Some v) x fs h = h
-    named_ok None x fs h = go (find_fun x fs)
+    named_ok : (o : Option (Val N)) (x : List ℕ) → OptionOk o → AnswerOk (named o x w.script.funs)
+    named_ok (Some v) x h = h
+    named_ok None x h = go (find_fun x w.script.funs) refl
       where
-        go : (f : Option FunDef) → AnswerOk (fun_named f x)
-        go None = tt
-        go (Some f) = c.fun_ok x
+        go : (f : Option FunDef) → find_fun x w.script.funs ≡ f → AnswerOk (fun_named f x)
+        go None e = tt
+        go (Some f) e = c.fun_ok x (ap is_some e)
 
     truth_of_ok : (v : Val N) → AnswerOk (truth_of v)
     truth_of_ok (truth b) = c.truth_ok b
@@ -262,12 +286,12 @@ module _ {N : Type 0} (w : World N) (P : Val N → Type 0) (Q : Desc N → Type 
     fine_spawn_if false x p d st l q = (tt, l)
     fine_spawn_if true x p d st l q = fine_make x d st l q
 
-    fine_spawn_fun : (o : Option FunDef) (f : List ℕ) (vs : Vals N) (p : Place) (d : ℕ) (st : St N) → PairsOk st.vars → Q (call f vs) → Fine d (spawn_fun w o f vs p st)
+    fine_spawn_fun : (o : Option FunDef) (f : List ℕ) (vs : Vals N) (p : Place) (d : ℕ) (st : St N) → PairsOk st.vars → (is_some o ≡ true → Q (call f vs)) → Fine d (spawn_fun w o f vs p st)
     fine_spawn_fun None f vs p d st l q = (tt, l)
-    fine_spawn_fun (Some x) f vs p d st l q = fine_spawn_if (nat_eq (length x.params) (count vs)) (call f vs) p d st l q
+    fine_spawn_fun (Some x) f vs p d st l q = fine_spawn_if (nat_eq (length x.params) (count vs)) (call f vs) p d st l (q refl)
 
     fine_spawn_list : (f : List ℕ) (a : Val N) (p : Place) (d : ℕ) (st : St N) → PairsOk st.vars → P a → Fine d (spawn_list w f a p st)
-    fine_spawn_list f (list vs) p d st l h = fine_spawn_fun (find_fun f w.script.funs) f vs p d st l (c.call_ok f vs h)
+    fine_spawn_list f (list vs) p d st l h = fine_spawn_fun (find_fun f w.script.funs) f vs p d st l (λ i. c.call_ok f vs i h)
     fine_spawn_list f null p d st l h = (tt, l)
     fine_spawn_list f (truth b) p d st l h = (tt, l)
     fine_spawn_list f (num z) p d st l h = (tt, l)
@@ -338,7 +362,7 @@ module _ {N : Type 0} (w : World N) (P : Val N → Type 0) (Q : Desc N → Type 
 
     fine_exec_ask : (n : ℕ) (ds : List (Desc N)) (d : ℕ) (st : St N) → PairsOk st.vars → length ds ≤ 64 → Each (λ x. P (ref x)) ds → Fine d (exec_ask w n ds st)
     fine_exec_ask n ds d st l le h =
-        fine_got (ask w (all_of ds) st) d (exec_wait n ds) gives ((c.refs_ok ds le h, tt), tt) ((asked_ok ds h, tt, l), λ os o. (end_exec ds os (c.refs_ok ds le h), l)) (λ v s i m. (i, m))
+        fine_wait (all_of ds) d (exec_wait n ds) st gives ((c.refs_ok ds le h, tt), tt) refl (asked_ok ds h) l (λ os o. end_exec ds os (c.refs_ok ds le h)) (λ v s i m. (i, m))
 
     fine_input_if : (b : Bool) (k : List ℕ) (p : Place) (d : ℕ) (st : St N) → PairsOk st.vars → Fine d (input_if w b k p st)
     fine_input_if false k p d st l = (tt, l)
@@ -373,7 +397,7 @@ module _ {N : Type 0} (w : World N) (P : Val N → Type 0) (Q : Desc N → Type 
 
     fine_deref : (v : Val N) (n k : ℕ) (ss : List SignAt) (p : Place) (d : ℕ) (st : St N) (go : Val N → St N → Res N) → PairsOk st.vars → P v → ((u : Val N) (t : St N) → P u → PairsOk t.vars → Fine d (go u t)) → Fine d (deref w v n k ss p st go)
     fine_deref (ref x) n k ss p d st go l h g =
-        fine_got (ask w (one_of p x) st) d (star_wait n k x ss) go ((h, tt), tt) (((c.to_ok x h, tt), tt, l), λ os o. (end_one p x os o, l)) g
+        fine_wait (one_of p x) d (star_wait n k x ss) st go ((h, tt), tt) refl (c.to_ok x h, tt) l (λ os o. end_one p x os o) g
     fine_deref null n k ss p d st go l h g = (tt, l)
     fine_deref (truth b) n k ss p d st go l h g = (tt, l)
     fine_deref (num z) n k ss p d st go l h g = (tt, l)
@@ -403,12 +427,12 @@ module _ {N : Type 0} (w : World N) (P : Val N → Type 0) (Q : Desc N → Type 
         fine_answer (set_at v k e) p d st _ l (c.set_ok v k e h i) (λ u j. (tt, put_ok x u st.vars j l))
 
     -- where d bodies may be opened, and a call of one of them is fine
-    module _ (d : ℕ) (body : List ℕ → Vals N → Place → St N → Res N) (enters : (f : List ℕ) (vs : Vals N) (p : Place) (n k m : ℕ) (ss : Steps) (st : St N) (go : Val N → St N → Res N) → PairsOk st.vars → ValsOk vs → ((y : Val N) (u : St N) → P y → PairsOk u.vars → Fine d (go y u)) → Fine d (enter w body f vs p n k m ss st go)) where
+    module _ (d : ℕ) (body : List ℕ → Vals N → Place → St N → Res N) (enters : (f : List ℕ) (vs : Vals N) (p : Place) (n k m : ℕ) (ss : Steps) (st : St N) (go : Val N → St N → Res N) → IsFun w.script f → PairsOk st.vars → ValsOk vs → ((y : Val N) (u : St N) → P y → PairsOk u.vars → Fine d (go y u)) → Fine d (enter w body f vs p n k m ss st go)) where
       mutual
         fine_eval : (e : Exp) (n : ℕ) (st : St N) → PairsOk st.vars → Fine d (eval w body e n st)
         fine_eval (Exp.literal v p) n st l = fine_visit p d st _ l (fine_gives (limited (lit_val v)) p d (counted st) l (c.lit_ok v))
         fine_eval (Exp.name x p) n st l =
-            fine_visit p d st (λ s. answer (named (find x s.vars) x w.script.funs) p s gives) l (fine_gives (named (find x st.vars) x w.script.funs) p d (counted st) l (named_ok (find x st.vars) x w.script.funs (find_ok x st.vars l)))
+            fine_visit p d st (λ s. answer (named (find x s.vars) x w.script.funs) p s gives) l (fine_gives (named (find x st.vars) x w.script.funs) p d (counted st) l (named_ok (find x st.vars) x (find_ok x st.vars l)))
         fine_eval (Exp.parens e) n st l = fine_got (eval w body e (n + 1) st) d (parens_in n) gives (tt, tt) (fine_eval e (n + 1) st l) (λ v s i m. (i, m))
         fine_eval (Exp.parts o p es) n st l = fine_parts es n 1 (n + 1) o p [] st l tt
         fine_eval (Exp.chain e ls) n st l =
@@ -443,7 +467,7 @@ module _ {N : Type 0} (w : World N) (P : Val N → Type 0) (Q : Desc N → Type 
 
         fine_args : (es : Exps) (n k m : ℕ) (p : Place) (g : Val N) (vs : List (Val N)) (ss : Steps) (st : St N) → PairsOk st.vars → P g → Each P vs → ((i j : ℕ) (y : Val N) (u : St N) → P y → PairsOk u.vars → Fine d (eval_steps w body ss n i j y u)) → Fine d (eval_args w body es n k m p g vs ss (λ i j f us s. enter w body f us p n i j ss s (λ y u. eval_steps w body ss n (i + 1) j y u)) st)
         fine_args Exps.no_exps n k m p g vs ss st l hg h steps =
-            fine_visit p d st _ l (fine_called g (vals_of vs) p d (counted st) _ l (λ f. enters f (vals_of vs) p n k m ss (counted st) _ l (vals_ok vs h) (λ y u i z. steps (k + 1) m y u i z)))
+            fine_visit p d st _ l (fine_called g (vals_of vs) p d (counted st) _ l (λ f i. enters f (vals_of vs) p n k m ss (counted st) _ i l (vals_ok vs h) (λ y u i z. steps (k + 1) m y u i z)))
         fine_args (Exps.exp e es) n k m p g vs ss st l hg h steps =
             fine_got _ d (arg_at n k (m + nodes e) p g vs es ss) _ ((hg, h), tt) (fine_eval e m st l) (λ v s i u. fine_args es n (k + 1) (m + nodes e) p g (vs ++ v ∷ []) ss s u hg (more_ok vs v h i) steps)
 
@@ -523,6 +547,6 @@ module _ {N : Type 0} (w : World N) (P : Val N → Type 0) (Q : Desc N → Type 
     -- every run of a body is fine, where d others may be opened
     pub fine_call : (d : ℕ) (f : List ℕ) (vs : Vals N) (p : Place) (st : St N) → PairsOk st.vars → ValsOk vs → Fine d (body_at w (suc d) f vs p st)
     fine_call zero f vs p st l h =
-        fine_in_body (body_of f w.script) vs p zero st _ l h (λ blk n s i. fine_stms zero (body_at w zero) (λ f' vs' p' n' k' m' ss' st' go' l' h' g'. (tt, l')) blk n 0 (n + 1) s i)
+        fine_in_body (body_of f w.script) vs p zero st _ l h (λ blk n s i. fine_stms zero (body_at w zero) (λ f' vs' p' n' k' m' ss' st' go' i' l' h' g'. (tt, l')) blk n 0 (n + 1) s i)
     fine_call (suc d) f vs p st l h =
-        fine_in_body (body_of f w.script) vs p (suc d) st _ l h (λ blk n s i. fine_stms (suc d) (body_at w (suc d)) (λ f' vs' p' n' k' m' ss' st' go' l' h' g'. fine_then (body_at w (suc d) f' vs' p' st') (suc d) (call_open n' k' m' f' st'.vars ss') (on_body st'.vars go') (tt, (omega arith, l')) (fine_call d f' vs' p' st' l' h') (fine_body st'.vars (suc d) go' l' g')) blk n 0 (n + 1) s i)
+        fine_in_body (body_of f w.script) vs p (suc d) st _ l h (λ blk n s i. fine_stms (suc d) (body_at w (suc d)) (λ f' vs' p' n' k' m' ss' st' go' i' l' h' g'. fine_then (body_at w (suc d) f' vs' p' st') (suc d) (call_open n' k' m' f' st'.vars ss') (on_body st'.vars go') (tt, (omega arith, i', l')) (fine_call d f' vs' p' st' l' h') (fine_body st'.vars (suc d) go' l' g')) blk n 0 (n + 1) s i)

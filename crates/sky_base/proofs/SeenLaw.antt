@@ -41,11 +41,11 @@ on_is : (k n : ℕ) → on k n ≡ k + n
 on_is zero n = omega arith
 on_is (suc k) n = ap suc (on_is k n) ∙ omega arith
 
-on_either : (n m : ℕ) → on n m ≡ on m n
+pub on_either : (n m : ℕ) → on n m ≡ on m n
 on_either n m = on_is n m ∙ omega arith ∙ sym (on_is m n)
 
 module _ {A : Type 0} (bot : A) (f : ℕ → A) (step : (n : ℕ) → Kept bot (f n) (f (suc n))) where
-  kept_on : (k n : ℕ) → Kept bot (f n) (f (on k n))
+  pub kept_on : (k n : ℕ) → Kept bot (f n) (f (on k n))
   kept_on zero n = inr refl
   kept_on (suc k) n = kept_over bot (f n) (f (on k n)) (f (suc (on k n))) (kept_on k n) (step (on k n))
 

@@ -1,48 +1,47 @@
 -- Each operator gives values within the limits from values within the limits, and refers to nothing else than these do.
-use Rattle.std.proofs.Common.{◌≡◌, ℕ, ℤ, zero, suc, ◌+◌, ◌*◌, ◌<◌, ◌≤◌, max, Bool, true, false, not, ◌&&◌, List, [], ◌∷◌, ◌++◌, length, Option, Some, None, Ok, Err, nat_lt, pos, negsuc, ◌+ℤ◌, ◌-ℤ◌, ◌*ℤ◌, int_div, int_rem, refl, sym, ap, ◌∙◌, subst, arith, ltb-false}
+use Rattle.std.proofs.Common.{◌≡◌, ℕ, ℤ, zero, suc, ◌+◌, ◌*◌, ◌≤◌, Bool, true, false, not, ◌&&◌, List, [], ◌∷◌, ◌++◌, length, Option, Some, None, Ok, Err, nat_lt, pos, negsuc, ◌+ℤ◌, ◌-ℤ◌, ◌*ℤ◌, int_div, int_rem, refl, arith, ltb-false, inr}
 use Rattle.std.specs.Option.{option_map}
 use Rattle.std.specs.Ordering.{nat_cmp, int_cmp, match_ordering, is_lt, is_le, is_gt, is_ge}
 use Rattle.std.specs.Cmp.Lexicographic.{slice_cmp}
 use Rattle.std.specs.declared.cmp.Ordering.{Ordering}
-use Rattle.sky_base.specs.Val.{Val, Vals, Pairs, Desc, null, truth, num, text, list, dict, fun, ref, no_vals, val, no_pairs, pair, call, out, input, add_val, vals_of, refs_to, size, sizes, depth, depths, pair_sizes, pair_depths, is_plain, same_val}
-use Rattle.sky_base.specs.Op.{Answer, if_fits, fits, checked, unless, limited, join, plus, minus, times, over, over_num, rest, rest_num, val_at, find, put, or_else, index, put_val, limited_list, set_at, append, equal_if, equal, unequal, ordered, compare, Order, negated, opposite, len, all_keys, keys, has, numbers, range_if, range, span, grown, with_key, dict_from}
-use Rattle.sky_base.specs.Tree.{Lit, Oper}
+use Rattle.sky_base.specs.Val.{Val, Vals, Pairs, Desc, null, truth, num, text, list, dict, fun, ref, no_vals, val, no_pairs, pair, add_val, vals_of, refs_to, size, sizes, depth, depths, pair_sizes, pair_depths, is_plain, same_val}
+use Rattle.sky_base.specs.Op.{Answer, if_fits, fits, checked, unless, limited, join, plus, minus, times, over, over_num, rest, rest_num, val_at, find, put, or_else, index, put_val, limited_list, set_at, equal_if, ordered, compare, Order, negated, opposite, len, all_keys, keys, has, numbers, range_if, range, span, grown, with_key, dict_from}
+use Rattle.sky_base.specs.Tree.{Lit, Oper, Script}
 use Rattle.sky_base.specs.Eval.{World, lit_val, oper}
-use Rattle.sky_base.specs.Kept.{Kept}
-use Rattle.sky_base.specs.Sound.{RefsSound, ValsSound, PairsSound, SoundDesc, Sound}
+use Rattle.sky_base.specs.Sound.{IsFun, RefsSound, ValsSound, PairsSound, SoundDesc, Sound}
 use Rattle.sky_base.specs.Tasks.{Each}
 use Rattle.sky_base.proofs.FineLaw.{Closed}
 
-module _ (N : Type 0) where
+module _ (N : Type 0) (sc : Script) where
   -- what an operator gives is sound
   abbrev pub SoundAnswer : Answer N → Type 0
-  SoundAnswer (Ok v) = Sound v
+  SoundAnswer (Ok v) = Sound sc v
   SoundAnswer (Err k) = Unit {0}
 
   abbrev pub SoundOption : Option (Val N) → Type 0
   SoundOption None = Unit {0}
-  SoundOption (Some v) = Sound v
+  SoundOption (Some v) = Sound sc v
 
   abbrev SoundVals : Vals N → Type 0
   SoundVals no_vals = Unit {0}
-  SoundVals (val v vs) = Sound v × SoundVals vs
+  SoundVals (val v vs) = Sound sc v × SoundVals vs
 
   -- a value of size and depth 1
-  sound_one : (v : Val N) → depth v ≡ 1 → size v ≡ 1 → RefsSound v → Sound v
+  sound_one : (v : Val N) → depth v ≡ 1 → size v ≡ 1 → RefsSound sc v → Sound sc v
   sound_one v d s r = (record { deep = omega arith; large = omega arith }, r)
 
-  sound_num : (z : ℤ) → Sound {N = N} (num z)
+  sound_num : (z : ℤ) → Sound {N = N} sc (num z)
   sound_num z = sound_one (num z) refl refl tt
 
-  sound_truth : (b : Bool) → Sound {N = N} (truth b)
+  sound_truth : (b : Bool) → Sound {N = N} sc (truth b)
   sound_truth b = sound_one (truth b) refl refl tt
 
-  sound_null : Sound {N = N} null
+  sound_null : Sound {N = N} sc null
   sound_null = sound_one null refl refl tt
 
   -- ---- what is tested against the limits
 
-  limited_ok : (v : Val N) → RefsSound v → SoundAnswer (limited v)
+  limited_ok : (v : Val N) → RefsSound sc v → SoundAnswer (limited v)
   limited_ok v r = go (nat_lt 100 (depth v)) (nat_lt 262144 (size v)) refl refl
     where
       go : (a b : Bool) → nat_lt 100 (depth v) ≡ a → nat_lt 262144 (size v) ≡ b → SoundAnswer (unless a b v)
@@ -62,12 +61,12 @@ module _ (N : Type 0) where
 
   -- ---- parts of values
 
-  vals_inside : (vs : Vals N) → depths vs ≤ 100 → sizes vs ≤ 262144 → ValsSound vs → SoundVals vs
+  vals_inside : (vs : Vals N) → depths vs ≤ 100 → sizes vs ≤ 262144 → ValsSound sc vs → SoundVals vs
   vals_inside no_vals d s r = tt
   vals_inside (val v vs) d s r =
       ((record { deep = omega arith; large = omega arith }, r.0), vals_inside vs (omega arith) (omega arith) r.1)
 
-  list_inside : (vs : Vals N) → Sound (list vs) → SoundVals vs
+  list_inside : (vs : Vals N) → Sound sc (list vs) → SoundVals vs
   list_inside vs h =
       let d : 1 + depths vs ≤ 100 = h.0.deep in
       let s : 1 + sizes vs ≤ 262144 = h.0.large in
@@ -78,12 +77,12 @@ module _ (N : Type 0) where
   val_at_ok (val v vs) zero h = h.0
   val_at_ok (val v vs) (suc i) h = val_at_ok vs i h.1
 
-  find_inside : (k : List ℕ) (ps : Pairs N) → pair_depths ps ≤ 100 → pair_sizes ps ≤ 262144 → PairsSound ps → SoundOption (find k ps)
+  find_inside : (k : List ℕ) (ps : Pairs N) → pair_depths ps ≤ 100 → pair_sizes ps ≤ 262144 → PairsSound sc ps → SoundOption (find k ps)
   find_inside k no_pairs d s r = tt
   find_inside k (pair l v ps) d s r =
       go (slice_cmp nat_cmp k l) (record { deep = omega arith; large = omega arith }, r.0) (find_inside k ps (omega arith) (omega arith) r.1)
     where
-      go : (o : Ordering) → Sound v → SoundOption (find k ps) → SoundOption (match_ordering o None (Some v) (find k ps))
+      go : (o : Ordering) → Sound sc v → SoundOption (find k ps) → SoundOption (match_ordering o None (Some v) (find k ps))
       go Ordering.Less h i = tt
       go Ordering.Equal h i = h
       go Ordering.Greater h i = i
@@ -92,28 +91,28 @@ module _ (N : Type 0) where
   or_else_ok None k h = tt
   or_else_ok (Some v) k h = h
 
-  join_refs : (vs ws : Vals N) → ValsSound vs → ValsSound ws → ValsSound (join vs ws)
+  join_refs : (vs ws : Vals N) → ValsSound sc vs → ValsSound sc ws → ValsSound sc (join vs ws)
   join_refs no_vals ws h i = i
   join_refs (val v vs) ws h i = (h.0, join_refs vs ws h.1 i)
 
-  add_refs : (vs : Vals N) (e : Val N) → ValsSound vs → RefsSound e → ValsSound (add_val vs e)
+  add_refs : (vs : Vals N) (e : Val N) → ValsSound sc vs → RefsSound sc e → ValsSound sc (add_val vs e)
   add_refs no_vals e h i = (i, tt)
   add_refs (val v vs) e h i = (h.0, add_refs vs e h.1 i)
 
-  put_refs : (k : List ℕ) (v : Val N) (ps : Pairs N) → RefsSound v → PairsSound ps → PairsSound (put k v ps)
+  put_refs : (k : List ℕ) (v : Val N) (ps : Pairs N) → RefsSound sc v → PairsSound sc ps → PairsSound sc (put k v ps)
   put_refs k v no_pairs h i = (h, tt)
   put_refs k v (pair l u ps) h i = go (slice_cmp nat_cmp k l) (put_refs k v ps h i.1)
     where
-      go : (o : Ordering) → PairsSound (put k v ps) → PairsSound (match_ordering o (pair k v (pair l u ps)) (pair l v ps) (pair l u (put k v ps)))
+      go : (o : Ordering) → PairsSound sc (put k v ps) → PairsSound sc (match_ordering o (pair k v (pair l u ps)) (pair l v ps) (pair l u (put k v ps)))
       go Ordering.Less j = (h, i)
       go Ordering.Equal j = (h, i.1)
       go Ordering.Greater j = (i.0, j)
 
   abbrev SomeRefs : Option (Vals N) → Type 0
   SomeRefs None = Unit {0}
-  SomeRefs (Some vs) = ValsSound vs
+  SomeRefs (Some vs) = ValsSound sc vs
 
-  put_val_refs : (vs : Vals N) (i : ℕ) (e : Val N) → ValsSound vs → RefsSound e → SomeRefs (put_val vs i e)
+  put_val_refs : (vs : Vals N) (i : ℕ) (e : Val N) → ValsSound sc vs → RefsSound sc e → SomeRefs (put_val vs i e)
   put_val_refs no_vals i e h r = tt
   put_val_refs (val v vs) zero e h r = (r, h.1)
   put_val_refs (val v vs) (suc i) e h r = go (put_val vs i e) (put_val_refs vs i e h.1 r)
@@ -128,7 +127,7 @@ module _ (N : Type 0) where
 
   -- ---- operators
 
-  plus_ok : (a b : Val N) → RefsSound a → RefsSound b → SoundAnswer (plus a b)
+  plus_ok : (a b : Val N) → RefsSound sc a → RefsSound sc b → SoundAnswer (plus a b)
   plus_ok (num a) (num b) h i = checked_ok (a +ℤ b)
   plus_ok (num a) null h i = tt
   plus_ok (num a) (truth b) h i = tt
@@ -291,7 +290,7 @@ module _ (N : Type 0) where
   compare_ok Order.gt v w = ordered_ok is_gt v w
   compare_ok Order.ge v w = ordered_ok is_ge v w
 
-  pub oper_sound : (o : Oper) (a b : Val N) → Sound a → Sound b → SoundAnswer (oper o a b)
+  pub oper_sound : (o : Oper) (a b : Val N) → Sound sc a → Sound sc b → SoundAnswer (oper o a b)
   oper_sound Oper.plus a b h i = plus_ok a b h.1 i.1
   oper_sound Oper.minus a b h i = minus_ok a b
   oper_sound Oper.times a b h i = times_ok a b
@@ -310,7 +309,7 @@ module _ (N : Type 0) where
   list_index vs (fun f) h = tt
   list_index vs (ref d) h = tt
 
-  dict_index : (ps : Pairs N) (i : Val N) → Sound (dict ps) → SoundAnswer (index (dict ps) i)
+  dict_index : (ps : Pairs N) (i : Val N) → Sound sc (dict ps) → SoundAnswer (index (dict ps) i)
   dict_index ps (text k) h =
       let d : 1 + pair_depths ps ≤ 100 = h.0.deep in
       let s : 1 + pair_sizes ps ≤ 262144 = h.0.large in
@@ -323,7 +322,7 @@ module _ (N : Type 0) where
   dict_index ps (fun f) h = tt
   dict_index ps (ref d) h = tt
 
-  pub index_sound : (v i : Val N) → Sound v → SoundAnswer (index v i)
+  pub index_sound : (v i : Val N) → Sound sc v → SoundAnswer (index v i)
   index_sound (list vs) i h = list_index vs i (list_inside vs h)
   index_sound (dict ps) i h = dict_index ps i h
   index_sound null i h = tt
@@ -333,7 +332,7 @@ module _ (N : Type 0) where
   index_sound (fun f) i h = tt
   index_sound (ref d) i h = tt
 
-  list_set : (vs : Vals N) (i e : Val N) → ValsSound vs → RefsSound e → SoundAnswer (set_at (list vs) i e)
+  list_set : (vs : Vals N) (i e : Val N) → ValsSound sc vs → RefsSound sc e → SoundAnswer (set_at (list vs) i e)
   list_set vs (num (pos i)) e h r = limited_list_ok (put_val vs i e) (put_val_refs vs i e h r)
   list_set vs (num (negsuc i)) e h r = tt
   list_set vs null e h r = tt
@@ -344,7 +343,7 @@ module _ (N : Type 0) where
   list_set vs (fun f) e h r = tt
   list_set vs (ref d) e h r = tt
 
-  dict_set : (ps : Pairs N) (i e : Val N) → PairsSound ps → RefsSound e → SoundAnswer (set_at (dict ps) i e)
+  dict_set : (ps : Pairs N) (i e : Val N) → PairsSound sc ps → RefsSound sc e → SoundAnswer (set_at (dict ps) i e)
   dict_set ps (text k) e h r = limited_ok (dict (put k e ps)) (put_refs k e ps r h)
   dict_set ps null e h r = tt
   dict_set ps (truth b) e h r = tt
@@ -354,7 +353,7 @@ module _ (N : Type 0) where
   dict_set ps (fun f) e h r = tt
   dict_set ps (ref d) e h r = tt
 
-  pub set_at_sound : (v i e : Val N) → Sound v → Sound e → SoundAnswer (set_at v i e)
+  pub set_at_sound : (v i e : Val N) → Sound sc v → Sound sc e → SoundAnswer (set_at v i e)
   set_at_sound (list vs) i e h r = list_set vs i e h.1 r.1
   set_at_sound (dict ps) i e h r = dict_set ps i e h.1 r.1
   set_at_sound null i e h r = tt
@@ -364,7 +363,7 @@ module _ (N : Type 0) where
   set_at_sound (fun f) i e h r = tt
   set_at_sound (ref d) i e h r = tt
 
-  pub grown_sound : (v e : Val N) → Sound v → Sound e → SoundAnswer (grown v e)
+  pub grown_sound : (v e : Val N) → Sound sc v → Sound sc e → SoundAnswer (grown v e)
   grown_sound (list vs) e h r = limited_ok (list (add_val vs e)) (add_refs vs e h.1 r.1)
   grown_sound null e h r = tt
   grown_sound (truth b) e h r = tt
@@ -404,7 +403,7 @@ module _ (N : Type 0) where
   len_sound (fun f) = tt
   len_sound (ref d) = tt
 
-  keys_refs : (ps : Pairs N) → ValsSound (all_keys ps)
+  keys_refs : (ps : Pairs N) → ValsSound sc (all_keys ps)
   keys_refs no_pairs = tt
   keys_refs (pair k v ps) = (tt, keys_refs ps)
 
@@ -446,7 +445,7 @@ module _ (N : Type 0) where
   depths_numbers zero a = omega arith
   depths_numbers (suc n) a = omega (arith, depths_numbers n (a +ℤ pos 1))
 
-  numbers_refs : (n : ℕ) (a : ℤ) → ValsSound (numbers {N = N} n a)
+  numbers_refs : (n : ℕ) (a : ℤ) → ValsSound sc (numbers {N = N} n a)
   numbers_refs zero a = tt
   numbers_refs (suc n) a = (tt, numbers_refs n (a +ℤ pos 1))
 
@@ -481,14 +480,14 @@ module _ (N : Type 0) where
 
   -- ---- forms of parts
 
-  parts_refs : (vs : List (Val N)) → Each Sound vs → ValsSound (vals_of vs)
+  parts_refs : (vs : List (Val N)) → Each (Sound sc) vs → ValsSound sc (vals_of vs)
   parts_refs [] h = tt
   parts_refs (v ∷ vs) h = (h.0.1, parts_refs vs h.1)
 
-  list_sound : (vs : List (Val N)) → Each Sound vs → SoundAnswer (limited (list (vals_of vs)))
+  list_sound : (vs : List (Val N)) → Each (Sound sc) vs → SoundAnswer (limited (list (vals_of vs)))
   list_sound vs h = limited_ok (list (vals_of vs)) (parts_refs vs h)
 
-  with_key_ok : (k v : Val N) (ps : Pairs N) (go : Pairs N → Answer N) → PairsSound ps → RefsSound v → ((qs : Pairs N) → PairsSound qs → SoundAnswer (go qs)) → SoundAnswer (with_key k v ps go)
+  with_key_ok : (k v : Val N) (ps : Pairs N) (go : Pairs N → Answer N) → PairsSound sc ps → RefsSound sc v → ((qs : Pairs N) → PairsSound sc qs → SoundAnswer (go qs)) → SoundAnswer (with_key k v ps go)
   with_key_ok (text k) v ps go h r g = g (put k v ps) (put_refs k v ps r h)
   with_key_ok null v ps go h r g = tt
   with_key_ok (truth b) v ps go h r g = tt
@@ -498,7 +497,7 @@ module _ (N : Type 0) where
   with_key_ok (fun f) v ps go h r g = tt
   with_key_ok (ref d) v ps go h r g = tt
 
-  dict_sound : (vs : List (Val N)) (ps : Pairs N) → Each Sound vs → PairsSound ps → SoundAnswer (dict_from vs ps)
+  dict_sound : (vs : List (Val N)) (ps : Pairs N) → Each (Sound sc) vs → PairsSound sc ps → SoundAnswer (dict_from vs ps)
   dict_sound [] ps h r = limited_ok (dict ps) r
   dict_sound (k ∷ []) ps h r = tt
   dict_sound (k ∷ v ∷ vs) ps h r = with_key_ok k v ps _ r h.1.0.1 (λ qs i. dict_sound vs qs h.1.1 i)
@@ -519,26 +518,26 @@ module _ (N : Type 0) where
   depths_refs [] = omega arith
   depths_refs (d ∷ ds) = omega (arith, depths_refs ds)
 
-  refs_refs : (ds : List (Desc N)) → Each (λ d. Sound (ref d)) ds → ValsSound (refs_to ds)
+  refs_refs : (ds : List (Desc N)) → Each (λ d. (Sound sc) (ref d)) ds → ValsSound sc (refs_to ds)
   refs_refs [] h = tt
   refs_refs (d ∷ ds) h = (h.0.1, refs_refs ds h.1)
 
-  refs_sound : (ds : List (Desc N)) → length ds ≤ 64 → Each (λ d. Sound (ref d)) ds → Sound (list (refs_to ds))
+  refs_sound : (ds : List (Desc N)) → length ds ≤ 64 → Each (λ d. (Sound sc) (ref d)) ds → Sound sc (list (refs_to ds))
   refs_sound ds le h =
       (record { deep = omega (arith, depths_refs ds); large = omega (arith, sizes_refs ds) }, refs_refs ds h)
 
-  ref_sound : (d : Desc N) → SoundDesc d → Sound (ref d)
+  ref_sound : (d : Desc N) → SoundDesc sc d → Sound sc (ref d)
   ref_sound d h = (record { deep = omega arith; large = omega arith }, h)
 
   -- what the operators give is sound, where what is read and what a reference holds is
-  pub sound_closed : (w : World N) → ((b : List ℕ) → SoundAnswer (w.reads b)) → ((d : Desc N) → SoundDesc d → SoundDesc (w.make d)) → Closed w Sound SoundDesc
-  sound_closed w reads make =
+  pub sound_closed : (w : World N) → ((f : List ℕ) → IsFun w.script f → IsFun sc f) → ((b : List ℕ) → SoundAnswer (w.reads b)) → ((d : Desc N) → SoundDesc sc d → SoundDesc sc (w.make d)) → Closed w (Sound sc) (SoundDesc sc)
+  sound_closed w named reads make =
       record {
         null_ok = sound_null;
         truth_ok = sound_truth;
         taken_ok = λ t. sound_num (pos t);
         lit_ok = lit_sound;
-        fun_ok = λ x. limited_ok (fun x) tt;
+        fun_ok = λ x i. limited_ok (fun x) (named x i);
         list_ok = list_sound;
         dict_ok = λ vs h. dict_sound vs no_pairs h tt;
         oper_ok = oper_sound;
@@ -556,7 +555,7 @@ module _ (N : Type 0) where
         ref_ok = λ d h. ref_sound (w.make d) (make d h);
         to_ok = λ d h. h.1;
         refs_ok = refs_sound;
-        call_ok = λ f vs h. h;
+        call_ok = λ f vs i h. (h.0, h.1, inr (named f i));
         out_ok = λ x a n i t h lt le. (t.0, h.0, h.1, lt, le);
         input_ok = λ k. tt;
       }

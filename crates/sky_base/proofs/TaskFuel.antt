@@ -1,15 +1,15 @@
 -- More fuel keeps the ends and the states of tasks and lengthens what they did; where a task has ended, all that it waited for is seen.
 use Rattle.sky_base.specs.Val as v
-use Rattle.std.proofs.Common.{◌≡◌, ◌≢◌, ℕ, zero, suc, ◌+◌, ◌<◌, ◌≤◌, List, [], ◌∷◌, ◌++◌, Option, Some, None, Result, Ok, Err, is_some, slice_get, Bool, true, false, nat_lt, nat_le, ◌⊎◌, inl, inr, refl, sym, ap, ◌∙◌, subst, arith, leb-true, leb-false}
+use Rattle.std.proofs.Common.{◌≡◌, ◌≢◌, ℕ, zero, suc, ◌+◌, ◌<◌, ◌≤◌, List, [], ◌∷◌, ◌++◌, Option, Some, None, Result, Ok, Err, is_some, slice_get, Bool, true, false, nat_lt, nat_le, inl, inr, refl, sym, ap, ◌∙◌, subst, arith, leb-true, leb-false}
 use Rattle.std.specs.Option.{option_map}
 use Rattle.sky_base.specs.Val.{null, truth, num, text, list, dict, fun, ref, call, out, input, known, refs, vals_refs, pairs_refs}
 use Rattle.sky_base.specs.Res.{Object, Res, Fin, Tell, Ask}
 use Rattle.sky_base.specs.Read.{joined, Outcome, no_fuel, Act, made, waited, Halt, refs_of, see_all, on_seen, acts_seen, halts_seen, seen_list, outcome, acts, halt, segment, segment_from}
 use Rattle.sky_base.specs.See.{Val, Vals, Desc, Obj, Job, Around, Gathered, not_yet, gather_on, gather_one, gather, as_bytes, as_value, executed_on, object_of, run_of, see, Answered, Turn, next_value, lone, turn_all, turn_refs, turn, on_turn, round, wave_on, turn_of, wave, job_answer, main_call}
-use Rattle.sky_base.specs.Needed.{Task, distinct_refs, unless_none, wave_refs, only_if, halt_refs, wait_at, State, stands_at}
-use Rattle.sky_base.specs.Tasks.{In, Each, maker, outputs_of, first_of, waits_in, after_wait, made_before, held, is_answer, wait_then, waves_from, acts_of, ended, held_at, HeldAt}
+use Rattle.sky_base.specs.Needed.{Task, distinct_refs, unless_none, wave_refs, only_if, halt_refs, wait_at}
+use Rattle.sky_base.specs.Tasks.{In, Each, maker, first_of, waits_in, after_wait, made_before, held, is_answer, wait_then, waves_from, acts_of, ended, held_at, HeldAt}
 use Rattle.sky_base.specs.declared.fault.Fault.{Fault}
-use Rattle.sky_base.proofs.SeenLaw.{Kept, kept_map, kept_is, kept_one, Begins, begins_cons, acts_begin, all_kept, see_kept, acts_grow, turn_kept, answer_kept, wave_kept, stands_kept}
+use Rattle.sky_base.proofs.SeenLaw.{Kept, kept_map, kept_is, kept_one, Begins, begins_cons, all_kept, see_kept, acts_grow, turn_kept, answer_kept, wave_kept, stands_kept}
 use Rattle.sky_base.proofs.TaskOutputs.{each_in, in_each, distinct_refs_in, in_distinct_refs}
 
 yes_no : true ≡ false → ⊥
@@ -285,7 +285,7 @@ module _ (job : Job) (around : Around) where
   unfolding see
   unseen d = refl
 
-  out_alike : (n : ℕ) (x : List ℕ) (a : Val) (m i j : ℕ) → is_some (see job around (suc n) (out x a m i)) ≡ is_some (see job around (suc n) (out x a m j))
+  pub out_alike : (n : ℕ) (x : List ℕ) (a : Val) (m i j : ℕ) → is_some (see job around (suc n) (out x a m i)) ≡ is_some (see job around (suc n) (out x a m j))
   unfolding see
   out_alike n x a m i j = go (gather (λ d. see job around n d) (as_bytes around) (refs a))
     where

@@ -1,12 +1,12 @@
 -- What a task makes between two waits is one list, and so is the next wait.
-use Rattle.std.proofs.Common.{◌≡◌, ◌≢◌, ℕ, zero, suc, ◌+◌, ◌-◌, ◌<◌, ◌≤◌, List, [], ◌∷◌, ◌++◌, Option, Some, None, slice_get, Bool, true, false, nat_lt, ◌⊎◌, inl, inr, refl, sym, ap, ◌∙◌, subst, arith, ltb-true, ltb-false}
+use Rattle.std.proofs.Common.{◌≡◌, ℕ, zero, suc, ◌+◌, ◌-◌, ◌<◌, ◌≤◌, List, [], ◌∷◌, ◌++◌, Option, Some, None, slice_get, Bool, true, false, nat_lt, inl, inr, refl, sym, ap, ◌∙◌, arith, ltb-true, ltb-false}
 use Rattle.std.specs.Option.{option_map}
 use Rattle.sky_base.specs.Val as v
 use Rattle.sky_base.specs.Read.{Act, made, waited}
 use Rattle.sky_base.specs.See.{Desc, Job, Around}
-use Rattle.sky_base.specs.Needed.{Task, wait_at, WaitOf, only_if}
-use Rattle.sky_base.specs.Tasks.{In, Each, waits_in, after_wait, made_before, made_in, acts_of, ended, made_between, made_after, MadeBetween, MadeAfter, NextWait, NextEnd}
-use Rattle.sky_base.proofs.SeenLaw.{Kept, kept_map, kept_one, Begins, on, wait_kept, wait_one}
+use Rattle.sky_base.specs.Needed.{Task, wait_at, only_if}
+use Rattle.sky_base.specs.Tasks.{waits_in, after_wait, made_before, made_in, acts_of, ended, made_between, made_after, MadeBetween, MadeAfter, NextWait, NextEnd}
+use Rattle.sky_base.proofs.SeenLaw.{Kept, kept_one, Begins, on, wait_kept}
 use Rattle.sky_base.proofs.TaskOutputs.{in_each}
 use Rattle.sky_base.proofs.TaskFuel.{more, kept, waits_at}
 

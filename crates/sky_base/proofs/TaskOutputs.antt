@@ -1,6 +1,6 @@
 -- Which task makes a description and what a task makes fit together; no description stands twice in a list of distinct ones.
 use Rattle.sky_base.specs.Val as v
-use Rattle.std.proofs.Common.{◌≡◌, ℕ, zero, suc, ◌+◌, ◌<◌, ◌≤◌, List, [], ◌∷◌, Option, Some, None, Bool, true, false, ◌||◌, nat_lt, Contains, get_or, length, ◌⊎◌, inl, inr, refl, sym, ap, ◌∙◌, subst, arith, ltb-true, lt-ltb}
+use Rattle.std.proofs.Common.{◌≡◌, ℕ, zero, suc, ◌+◌, ◌<◌, ◌≤◌, List, [], ◌∷◌, Some, None, Bool, true, false, ◌||◌, nat_lt, Contains, ◌⊎◌, inl, inr, refl, sym, ap, ◌∙◌, subst, arith, ltb-true, lt-ltb}
 use Rattle.sky_base.specs.Val.{call, out, input, known, refs, same_desc, stands_in, unless_in, distinct_from, distinct}
 use Rattle.sky_base.specs.Eval.{outputs}
 use Rattle.sky_base.specs.See.{Val, Desc}

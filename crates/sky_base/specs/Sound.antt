@@ -1,17 +1,24 @@
--- Values that keep the limits of depth and size, with all that they refer to.
+-- Values that keep the limits of depth and size and name functions of the script alone, with all that they refer to.
 use Rattle.sky_base.specs.See as see
-use Rattle.std.specs.Prelude.{ℕ, ◌≤◌, ◌<◌, List, Ok, Err}
+use Rattle.std.specs.Prelude.{◌≡◌, ℕ, ◌≤◌, ◌<◌, List, [], Ok, Err, IsSome, ◌⊎◌}
 use Rattle.sky_base.specs.Val.{Val, Vals, Pairs, Desc, null, truth, num, text, list, dict, fun, ref, no_vals, val, no_pairs, pair, call, out, input, known}
 use Rattle.sky_base.specs.Op.{Answer}
+use Rattle.sky_base.specs.Tree.{Script}
+use Rattle.sky_base.specs.Eval.{find_fun}
 use Rattle.sky_base.specs.Res.{Object}
 use Rattle.sky_base.specs.Read.{Frame}
 use Rattle.sky_base.specs.Needed.{Task, State}
 use Rattle.sky_base.specs.Tasks.{Each}
 use Rattle.sky_base.specs.Kept.{Kept}
 
-module _ {N : Type 0} where
-  -- each description that a value refers to is sound; one is sound where its arguments keep the limits, each description
-  -- in them is sound, and the index of an output is below the number of outputs, which is up to 64
+-- a script has a function of this name
+abbrev pub IsFun : Script → List ℕ → Type 0
+IsFun sc f = IsSome (find_fun f sc.funs)
+
+module _ {N : Type 0} (sc : Script) where
+  -- each function in a value is of the script, and each description that it refers to is sound; one is sound where its
+  -- arguments keep the limits and are so too, a call is of `main` or of a function of the script, and the index of an
+  -- output is below the number of outputs, which is up to 64
   abbrev mutual
     pub RefsSound : Val N → Type 0
     RefsSound null = Unit {0}
@@ -20,7 +27,7 @@ module _ {N : Type 0} where
     RefsSound (text t) = Unit {0}
     RefsSound (list vs) = ValsSound vs
     RefsSound (dict ps) = PairsSound ps
-    RefsSound (fun f) = Unit {0}
+    RefsSound (fun f) = IsFun sc f
     RefsSound (ref d) = SoundDesc d
 
     pub ValsSound : Vals N → Type 0
@@ -32,7 +39,7 @@ module _ {N : Type 0} where
     PairsSound (pair k v ps) = RefsSound v × PairsSound ps
 
     pub SoundDesc : Desc N → Type 0
-    SoundDesc (call f vs) = Kept (list vs) × ValsSound vs
+    SoundDesc (call f vs) = Kept (list vs) × ValsSound vs × ((f ≡ []) ⊎ IsFun sc f)
     SoundDesc (out x v n i) = Kept {N = N} (text x) × Kept v × RefsSound v × (i < n) × (n ≤ 64)
     SoundDesc (input k) = Unit {0}
     SoundDesc (known b) = Unit {0}
@@ -53,20 +60,21 @@ module _ {N : Type 0} where
   SoundVars (pair k v ps) = Sound v × SoundVars ps
 
   abbrev pub SoundFrame : Frame N → Type 0
-  SoundFrame f = SoundVars f.vars × Each Sound f.stack
+  SoundFrame f = SoundVars f.vars × Each Sound f.stack × ((f.fun ≡ []) ⊎ IsFun sc f.fun)
 
-abbrev pub SoundState : State → Type 0
-SoundState (State.run r) = Each SoundFrame r.frames
-SoundState (State.show_at v j) = Sound v
+module _ (sc : Script) where
+  abbrev pub SoundState : State → Type 0
+  SoundState (State.run r) = Each (SoundFrame sc) r.frames
+  SoundState (State.show_at v j) = Sound sc v
 
-abbrev pub SoundTask : Task → Type 0
-SoundTask Task.show = Unit {0}
-SoundTask (Task.of d) = SoundDesc d
+  abbrev pub SoundTask : Task → Type 0
+  SoundTask Task.show = Unit {0}
+  SoundTask (Task.of d) = SoundDesc sc d
 
-abbrev pub SoundRead : Answer ⊥ → Type 0
-SoundRead (Ok v) = Sound v
-SoundRead (Err k) = Unit {0}
+  abbrev pub SoundRead : Answer ⊥ → Type 0
+  SoundRead (Ok v) = Sound sc v
+  SoundRead (Err k) = Unit {0}
 
--- what is read as data is sound
-abbrev pub SoundReads : see.Around → Type 0
-SoundReads around = (b : List ℕ) → SoundRead (around.reads b)
+  -- what is read as data is sound
+  abbrev pub SoundReads : see.Around → Type 0
+  SoundReads around = (b : List ℕ) → SoundRead (around.reads b)
