@@ -1,12 +1,12 @@
 -- Keys stay in order.
-use Rattle.std.proofs.Common.{◌≡◌, ℕ, zero, suc, ◌<◌, ◌≤◌, List, [], ◌∷◌, length, get_or, set, refl, ap, sym, ◌∙◌, arith}
+use Rattle.std.proofs.Common.{◌≡◌, ℕ, zero, suc, ◌<◌, ◌≤◌, List, [], ◌∷◌, length, get_or, set, refl, ap, sym, ◌∙◌, arith, Some, None}
 use Rattle.std.specs.List.{insert}
-use Rattle.std.specs.Ordering.{nat_cmp, match_ordering, ordering_reverse}
+use Rattle.std.specs.Ordering.{nat_cmp, match_ordering, MatchOrdering, ordering_then, ordering_reverse}
 use Rattle.std.specs.Cmp.Lexicographic.{slice_cmp}
-use Rattle.std.proofs.lemmas.Cmp.{nat_list_cmp_total}
+use Rattle.std.proofs.lemmas.Cmp.{nat_list_cmp_total, ranked}
 use Rattle.std.specs.declared.cmp.Ordering.{Ordering}
 use Rattle.sky_base.specs.Val.{Val, Pairs, no_pairs, pair, Rising, RisingFrom}
-use Rattle.sky_base.specs.Op.{put}
+use Rattle.sky_base.specs.Op.{put, find}
 use Rattle.sky_base.specs.View.{view, pairs_of}
 use Rattle.sky_base.specs.Place.{Passed}
 use Rattle.sky_base.specs.declared.value.Pair.{Pair}
@@ -51,18 +51,43 @@ put_insert (q ∷ ps) (suc i) p h g n =
     ap (pair q.key (view q.value)) (put_insert ps i p (λ j d m. h (suc j) d (omega arith)) (λ d m. g d (omega arith)) (omega arith))
     ∙ sym (put_past p.key q.key (view p.value) (view q.value) (pairs_of ps) (h zero q (omega arith)))
 
-pub put_set : (ps : List Pair) (i : ℕ) (p q : Pair) → Passed ps q.key i → ((d : Pair) → slice_cmp nat_cmp q.key (get_or ps i d).key ≡ Ordering.Equal) → i < length ps → p.key ≡ (get_or ps i p).key → view p.value ≡ view q.value → pairs_of (set ps i p) ≡ put q.key (view q.value) (pairs_of ps)
-put_set [] i p q h g n e f = absurd (omega arith)
-put_set (r ∷ ps) zero p q h g n e f = (λ j. pair (e j) (f j) (pairs_of ps)) ∙ sym (put_here q.key r.key (view q.value) (view r.value) (pairs_of ps) (g r))
-put_set (r ∷ ps) (suc i) p q h g n e f =
-    ap (pair r.key (view r.value)) (put_set ps i p q (λ j d m. h (suc j) d (omega arith)) g (omega arith) e f)
-    ∙ sym (put_past q.key r.key (view q.value) (view r.value) (pairs_of ps) (h zero r (omega arith)))
+same_step : (o : Ordering) (x y : ℕ) (xs ys : List ℕ) → MatchOrdering o (x < y) (x ≡ y) (y < x) → ordering_then o (slice_cmp nat_cmp xs ys) ≡ Ordering.Equal → (slice_cmp nat_cmp xs ys ≡ Ordering.Equal → xs ≡ ys) → x ∷ xs ≡ y ∷ ys
+same_step Ordering.Less x y xs ys m e f = absurd cc
+same_step Ordering.Equal x y xs ys m e f = λ i. m i ∷ f e i
+same_step Ordering.Greater x y xs ys m e f = absurd cc
 
-pub set_over : (ps : List Pair) (i : ℕ) (x : Pair) (k : List ℕ) (v : Value) → i < length ps → Passed ps k i → ((d : Pair) → slice_cmp nat_cmp k (get_or ps i d).key ≡ Ordering.Equal) → x ≡ get_or ps i x → pairs_of (set ps i (record { key = x.key; value = v })) ≡ put k (view v) (pairs_of ps)
-set_over [] i x k v n h g e = absurd (omega arith)
-set_over (r ∷ ps) zero x k v n h g e = ap (λ y. pair y.key (view v) (pairs_of ps)) e ∙ sym (put_here k r.key (view v) (view r.value) (pairs_of ps) (g r))
-set_over (r ∷ ps) (suc i) x k v n h g e =
-    ap (pair r.key (view r.value)) (set_over ps i x k v (omega arith) (λ j d m. h (suc j) d (omega arith)) g e)
-    ∙ sym (put_past k r.key (view v) (view r.value) (pairs_of ps) (h zero r (omega arith)))
+-- keys that compare as equal are equal
+pub same_key : (k l : List ℕ) → slice_cmp nat_cmp k l ≡ Ordering.Equal → k ≡ l
+same_key [] [] e = refl
+same_key [] (y ∷ ys) e = absurd cc
+same_key (x ∷ xs) [] e = absurd cc
+same_key (x ∷ xs) (y ∷ ys) e = same_step (nat_cmp x y) x y xs ys (ranked x y (nat_cmp x y) refl) e (same_key xs ys)
+
+pub put_set : (ps : List Pair) (i : ℕ) (p : Pair) → i < length ps → Passed ps p.key i → ((d : Pair) → slice_cmp nat_cmp p.key (get_or ps i d).key ≡ Ordering.Equal) → pairs_of (set ps i p) ≡ put p.key (view p.value) (pairs_of ps)
+put_set [] i p n h g = absurd (omega arith)
+put_set (r ∷ ps) zero p n h g =
+    (λ j. pair (same_key p.key r.key (g r) j) (view p.value) (pairs_of ps)) ∙ sym (put_here p.key r.key (view p.value) (view r.value) (pairs_of ps) (g r))
+put_set (r ∷ ps) (suc i) p n h g =
+    ap (pair r.key (view r.value)) (put_set ps i p (omega arith) (λ j d m. h (suc j) d (omega arith)) g)
+    ∙ sym (put_past p.key r.key (view p.value) (view r.value) (pairs_of ps) (h zero r (omega arith)))
+
+find_past : (k l : List ℕ) (v : Val (List ℕ)) (ps : Pairs (List ℕ)) → slice_cmp nat_cmp k l ≡ Ordering.Greater → find k (pair l v ps) ≡ find k ps
+find_past k l v ps h = ap (λ o. match_ordering o None (Some v) (find k ps)) h
+
+pub find_here : (ps : List Pair) (i : ℕ) (k : List ℕ) (x : Pair) → i < length ps → Passed ps k i → ((d : Pair) → slice_cmp nat_cmp k (get_or ps i d).key ≡ Ordering.Equal) → find k (pairs_of ps) ≡ Some (view (get_or ps i x).value)
+find_here [] i k x n h g = absurd (omega arith)
+find_here (q ∷ ps) zero k x n h g = ap (λ o. match_ordering o None (Some (view q.value)) (find k (pairs_of ps))) (g q)
+find_here (q ∷ ps) (suc i) k x n h g =
+    find_past k q.key (view q.value) (pairs_of ps) (h zero q (omega arith))
+    ∙ find_here ps i k x (omega arith) (λ j d m. h (suc j) d (omega arith)) g
+
+pub find_nowhere : (ps : List Pair) (i : ℕ) (k : List ℕ) → i ≤ length ps → Passed ps k i → ((d : Pair) → i < length ps → slice_cmp nat_cmp k (get_or ps i d).key ≡ Ordering.Less) → find k (pairs_of ps) ≡ None
+find_nowhere [] i k n h g = refl
+find_nowhere (q ∷ ps) zero k n h g = ap (λ o. match_ordering o None (Some (view q.value)) (find k (pairs_of ps))) (g q (omega arith))
+find_nowhere (q ∷ ps) (suc i) k n h g =
+    find_past k q.key (view q.value) (pairs_of ps) (h zero q (omega arith))
+    ∙ find_nowhere ps i k (omega arith) (λ j d m. h (suc j) d (omega arith)) (λ d m. g d (omega arith))
+
+pub ruleset finds = (find_here, find_nowhere)
 
 pub ruleset keys = (Rising-put, put_insert, put_set)

@@ -1,0 +1,5 @@
+pub mod Place
+pub mod Words
+pub mod Lexing
+pub mod Spelling
+pub mod Parts

@@ -1,4 +1,9 @@
 // The tokens of Skywriting: their types, and the lexer.
 #![tactic(auto)]
 
+pub mod law;
+pub mod lex;
+mod scan;
+#[cfg(test)]
+mod tests;
 pub mod token;

@@ -1,0 +1,6 @@
+// The worked rows of the language and of the program, over files and sinks in memory. They stand in
+// a crate of their own, since a crate with tests is proved twice.
+#![tactic(auto)]
+
+#[cfg(test)]
+mod sums;

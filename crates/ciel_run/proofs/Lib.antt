@@ -1,0 +1,4 @@
+pub mod Ends
+pub mod Meaning
+pub mod Tails
+pub mod Answers

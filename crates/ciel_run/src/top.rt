@@ -1,0 +1,149 @@
+// The top call: the words, the read of the script, its tokens, their sum, and the writing. Each
+// way in which it ends is a `Why`, and each `Why` but want of memory has a clause that says when it
+// comes.
+
+ghost use Rattle.std.specs.Prelude.{◌≡◌, ◌≢◌, ◌<◌, ◌↔◌, ℕ, List, Some, None, length};
+ghost use Rattle.sky_base.specs.See.{Answered};
+ghost use Rattle.ciel_io.specs.Faults.{HasRisen};
+ghost use Rattle.ciel_run.specs.Words.{path_of, paths};
+ghost use Rattle.ciel_run.specs.Source.{source_script, IsAnswer};
+ghost use Rattle.ciel_run.specs.Ending.{limit, status_of, IfFault, IfNotBuilt, IfTooLong, IfReadFault, WritesAnswer, WritesPart, IsExpected, AsksFor};
+
+use crate::refusal::{Refusal, evaluate};
+use crate::words::script_path;
+use ciel_io::files::{FileRefusal, Files};
+use ciel_io::sink::Sink;
+use sky_base::fault::Fault;
+use sky_base::text::Txt;
+use std::alloc::Global;
+
+/// The greatest number of bytes of a script.
+pub const LIMIT: u64 = 1_048_576;
+
+/// Why a call of the program ended.
+#[derive(Drop)]
+pub enum Why {
+    /// The answer was written. Status 0.
+    Done,
+    /// The words are no line of the command. Status 1.
+    Usage,
+    /// The job means this fault. Status 3.
+    Fault(Fault),
+    /// The file at the path could not be read. Status 8.
+    ReadFault { path: Txt },
+    /// The answer could not be written whole. Status 9.
+    WriteFault,
+    /// Want of memory. Status 10.
+    Memory,
+    /// The file at the path has more bytes than the limit. Status 11.
+    TooLongInput { path: Txt, limit: u64 },
+    /// The script has a form that isn't built yet. Its place is 0:0. Status 12.
+    NotBuilt { line: u32, col: u32 },
+}
+
+/// How a call of the program ended: the status of the process, and why.
+#[derive(Drop)]
+pub struct Ended {
+    pub status: u8,
+    pub why: Why,
+}
+
+impl Why {
+    ghost use Rattle.std.specs.Prelude.{◌≡◌};
+    ghost use Rattle.ciel_run.specs.Ending.{status_of};
+
+    /// The status of the process.
+    pub fn status(&self) -> u8
+        ensures { result ≡ status_of self.now }
+    {
+        match self {
+            Why::Done => 0,
+            Why::Usage => 1,
+            Why::Fault(_) => 3,
+            Why::ReadFault { .. } => 8,
+            Why::WriteFault => 9,
+            Why::Memory => 10,
+            Why::TooLongInput { .. } => 11,
+            Why::NotBuilt { .. } => 12,
+        }
+    }
+}
+
+/// Runs the program on the words of its command line, without the program's own name: reads the
+/// script that they name, and writes the answer of its job to `out` in one `put`.
+///
+/// The words are one path. A script of this stage is `"return" NUMBER { "+" NUMBER } ";"` with
+/// blanks between the tokens, of at most 1,048,576 bytes.
+pub fn ciel_main<F: Files, O: Sink>(
+    alloc: Global,
+    words: &[Txt],
+    files: &mut F,
+    out: &mut O,
+) -> Ended
+    // What is written where it ends well.
+    ensures bytes { result.status ≡ 0 → (path source : List ℕ) → path_of words.now ≡ Some path → F.content files.old path ≡ Some source → WritesAnswer source (O.written out.old) (O.written out.new) }
+
+    // When each other end comes.
+    ensures usage { (result.why ≡ Why.Usage) ↔ (path_of words.now ≡ None) }
+    ensures fault { IfFault result.why (λ fault. (path source : List ℕ) → path_of words.now ≡ Some path → F.content files.old path ≡ Some source → IsAnswer source (Answered.fault fault)) }
+    ensures not_built { IfNotBuilt result.why (λ line col. (line ≡ 0) × (col ≡ 0) × ((path source : List ℕ) → path_of words.now ≡ Some path → F.content files.old path ≡ Some source → source_script source ≡ None)) }
+    ensures too_long { IfTooLong result.why (λ path at. (path_of words.now ≡ Some path) × (at ≡ limit) × ((source : List ℕ) → F.content files.old path ≡ Some source → limit < length source)) }
+    ensures read_fault { IfReadFault result.why (λ path. (path_of words.now ≡ Some path) × HasRisen (F.faults files.old) (F.faults files.new)) }
+    ensures write_fault { result.why ≡ Why.WriteFault → HasRisen (O.faults out.old) (O.faults out.new) }
+
+    // Which end comes where files tell, and reading and writing go well.
+    ensures complete { (path source : List ℕ) → path_of words.now ≡ Some path → F.content files.old path ≡ Some source → ¬ HasRisen (F.faults files.old) (F.faults files.new) → ¬ HasRisen (O.faults out.old) (O.faults out.new) → IsExpected source result.why }
+
+    // What was asked, and what was written where it doesn't end well.
+    ensures asked { AsksFor result.why (paths (path_of words.now)) (F.asked files.old) (F.asked files.new) }
+    ensures part { result.why ≡ Why.WriteFault → (path source : List ℕ) → path_of words.now ≡ Some path → F.content files.old path ≡ Some source → WritesPart source (O.written out.old) (O.written out.new) }
+    ensures nothing { result.why ≢ Why.Done → result.why ≢ Why.WriteFault → out.new ≡ out.old }
+
+    ensures status { result.status ≡ status_of result.why }
+{
+    let why = run(alloc, words, files, out);
+    Ended {
+        status: why.status(),
+        why,
+    }
+}
+
+/// Reads, evaluates and writes.
+fn run<F: Files, O: Sink>(alloc: Global, words: &[Txt], files: &mut F, out: &mut O) -> Why
+    ensures bytes { result ≡ Why.Done → (path source : List ℕ) → path_of words.now ≡ Some path → F.content files.old path ≡ Some source → WritesAnswer source (O.written out.old) (O.written out.new) }
+    ensures usage { (result ≡ Why.Usage) ↔ (path_of words.now ≡ None) }
+    ensures fault { IfFault result (λ fault. (path source : List ℕ) → path_of words.now ≡ Some path → F.content files.old path ≡ Some source → IsAnswer source (Answered.fault fault)) }
+    ensures not_built { IfNotBuilt result (λ line col. (line ≡ 0) × (col ≡ 0) × ((path source : List ℕ) → path_of words.now ≡ Some path → F.content files.old path ≡ Some source → source_script source ≡ None)) }
+    ensures too_long { IfTooLong result (λ path at. (path_of words.now ≡ Some path) × (at ≡ limit) × ((source : List ℕ) → F.content files.old path ≡ Some source → limit < length source)) }
+    ensures read_fault { IfReadFault result (λ path. (path_of words.now ≡ Some path) × HasRisen (F.faults files.old) (F.faults files.new)) }
+    ensures write_fault { result ≡ Why.WriteFault → HasRisen (O.faults out.old) (O.faults out.new) }
+    ensures complete { (path source : List ℕ) → path_of words.now ≡ Some path → F.content files.old path ≡ Some source → ¬ HasRisen (F.faults files.old) (F.faults files.new) → ¬ HasRisen (O.faults out.old) (O.faults out.new) → IsExpected source result }
+    ensures asked { AsksFor result (paths (path_of words.now)) (F.asked files.old) (F.asked files.new) }
+    ensures part { result ≡ Why.WriteFault → (path source : List ℕ) → path_of words.now ≡ Some path → F.content files.old path ≡ Some source → WritesPart source (O.written out.old) (O.written out.new) }
+    ensures nothing { result ≢ Why.Done → result ≢ Why.WriteFault → out.new ≡ out.old }
+{
+    let Some(path) = script_path(words) else {
+        return Why::Usage;
+    };
+    let Ok(shared) = path.share() else {
+        return Why::Memory;
+    };
+    let source = match files.read(alloc, path, LIMIT) {
+        Ok(source) => source,
+        Err(FileRefusal::Failed) => return Why::ReadFault { path: shared },
+        Err(FileRefusal::TooLong { limit }) => return Why::TooLongInput {
+            path: shared,
+            limit,
+        },
+        Err(FileRefusal::Memory) => return Why::Memory,
+    };
+    match evaluate(alloc, source.as_slice()) {
+        Ok(text) => match out.put(text.as_bytes()) {
+            Ok(()) => Why::Done,
+            Err(_) => Why::WriteFault,
+        },
+        Err(Refusal::NotBuilt) => Why::NotBuilt { line: 0, col: 0 },
+        Err(Refusal::Fault(fault)) => Why::Fault(fault),
+        Err(Refusal::Memory) => Why::Memory,
+    }
+}

@@ -1,0 +1,73 @@
+// Lists of names.
+
+ghost use Rattle.std.specs.Prelude.{◌≡◌, [], ◌∷◌, ◌++◌, IfOk, IfErr, length};
+ghost use Rattle.sky_base.specs.Names.{names_of, is_among};
+
+use crate::text::{Memory, Name};
+use std::alloc::Global;
+use std::marker::Model;
+
+/// A list of names. Contracts see it as the list of the names' bytes.
+#[derive(Drop)]
+pub struct Names {
+    items: Vec<Name>,
+}
+
+impl Model for Names {
+    ghost use Rattle.std.specs.Prelude.{List, ℕ};
+    ghost use Rattle.sky_base.specs.Names.{names_of};
+
+    ghost Value = { List (List ℕ) };
+
+    ghost view = { λ a. names_of a.items.items };
+}
+
+impl Names {
+    /// The empty list.
+    pub fn new(alloc: Global) -> Names
+        ensures { result ≡ [] }
+    {
+        Names {
+            items: Vec::new(alloc),
+        }
+    }
+
+    /// The names in order.
+    pub fn as_slice(&self) -> &[Name]
+        ensures { names_of result.now ≡ self.now }
+    {
+        self.items.as_slice()
+    }
+
+    /// How many names there are.
+    #[tactic(auto, using(crate::proofs::Gathers::named))]
+    pub fn len(&self) -> usize
+        ensures { result ≡ length self.now }
+    {
+        self.items.len()
+    }
+
+    /// Whether a name is in the list.
+    pub fn contains(&self, name: &Name) -> bool
+        ensures { result ≡ is_among name.now.bytes self.now }
+    {
+        for held in &self.items {
+            if name.bytes.as_slice().cmp(held.bytes.as_slice()).is_eq() {
+                return true;
+            }
+        }
+        false
+    }
+
+    /// Puts a name at the end. After `Memory` the list is as it was.
+    #[tactic(auto, using(crate::proofs::Gathers::named))]
+    pub fn push(&mut self, name: Name) -> Result<(), Memory>
+        ensures ok { IfOk result (λ _. self.new ≡ self.old ++ name.bytes ∷ []) }
+        ensures err { IfErr result (λ _. self.new ≡ self.old) }
+    {
+        match self.items.push(name) {
+            Ok(()) => Ok(()),
+            Err(_) => Err(Memory),
+        }
+    }
+}

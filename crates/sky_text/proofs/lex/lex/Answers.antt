@@ -1,0 +1,9 @@
+-- Where the bytes are not UTF-8.
+use Rattle.std.proofs.Common.{◌∙◌, arith, inr}
+use Rattle.sky_text.proofs.Reading.{of_others}
+use Rattle.sky_text.proofs.lex.lex.Goals as goal
+
+pub returns-in-Err-clause-refused : goal.returns-in-Err-clause-refused
+returns-in-Err-clause-refused c =
+    let short = c.in-Err.ensures.cases.1.short in
+    inr (of_others c.args.bytes.now c.valid_up_to.result (c.valid_up_to.ensures ∙ c.in-Err.ensures.valid_len) (omega (arith, short, c.valid_up_to.ensures)))
