@@ -37,8 +37,9 @@ pub struct Read {
     pub same: Option<(u32, u32)>,
 }
 
-/// Why tokens are no script.
-#[derive(Clone, Copy, Debug)]
+/// Why tokens are no script. `TooNested` is tried first, `SameName` last; each place is the line and the
+/// column of a token, or for `NoSentence` also the end of the text.
+#[derive(Clone, Copy, PartialEq, Eq, Debug)]
 pub enum ParseRefusal {
     /// At this opening sign 64 brackets are open already.
     TooNested { line: u32, col: u32 },
