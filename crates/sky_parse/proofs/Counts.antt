@@ -6,7 +6,7 @@ use Rattle.sky_text.specs.declared.token.Sign.{Sign}
 use Rattle.sky_text.specs.declared.token.Word.{Word}
 use Rattle.sky_text.specs.declared.token.Token.{Token}
 use Rattle.sky_parse.specs.Grammar.{Mark, Param, Fun, sign, word, spell, spell_exps, spell_others, spell_pairs, spell_value, spell_other_pairs, spell_links, spell_ands, spell_steps, spell_signs, spell_stm, spell_stms, spell_arms, spell_other_arms, spell_else, spell_test, spell_block, spell_params, spell_other_params, spell_fun, started, some_arms, IsTree, AreTrees, AreLinks, AreAnds, AreSteps, IsStm, AreStms, AreArms, IsElse, Follows}
-use Rattle.sky_parse.specs.Scripts.{Top, IsTop, AreTops, Spells, spell_top, spell_tops, defs_of, main_of}
+use Rattle.sky_parse.specs.Tops.{Top, IsTop, AreTops, Spells, spell_top, spell_tops, defs_of, main_of}
 
 signs_fit : (ss : List SignAt) (ms : List Mark) → length ms ≤ length (spell_signs ss ms)
 signs_fit [] ms = omega arith

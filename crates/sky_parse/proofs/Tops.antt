@@ -1,5 +1,5 @@
 -- One more function or statement, and what is read of it.
-use Rattle.std.proofs.Common.{◌≡◌, ℕ, ◌<◌, true, List, [], ◌∷◌, ◌++◌, length, refl, sym, ap, subst, ◌∙◌, arith}
+use Rattle.std.proofs.Common.{◌≡◌, ℕ, ◌<◌, true, Bool, List, [], ◌∷◌, ◌++◌, length, Option, Some, None, append_assoc, append-nil, refl, sym, ap, subst, ◌∙◌, arith}
 use Rattle.sky_base.specs.Tree.{Place, Stm, Stms, FunDef}
 use Rattle.sky_base.specs.TreeView.{at}
 use Rattle.sky_base.specs.StmtView.{stm_view, stms_view}
@@ -13,7 +13,10 @@ use Rattle.sky_text.specs.declared.token.Token.{Token}
 use Rattle.sky_parse.specs.declared.script.Parameter.{Parameter}
 use Rattle.sky_parse.specs.Signs.{is, is_word}
 use Rattle.sky_parse.specs.Grammar.{Mark, Param, Fun, sign, name_at, spell_params, spell_other_params, spell_block, spell_fun, spell_stm, Follows, Spelled}
-use Rattle.sky_parse.specs.Scripts.{Top, spell_top, spell_tops, IsTop, AreTops, defs_of, main_of, def_of, params_view, param_names}
+use Rattle.sky_parse.specs.Tops.{Top, spell_top, spell_tops, IsTop, AreTops, defs_of, main_of, def_of, param_names}
+use Rattle.sky_parse.specs.Scripts.{params_view}
+use Rattle.sky_parse.specs.Nesting.{place_of}
+use Rattle.sky_parse.specs.Names.{among, first_of, at_twice, same_params, same_names, fun_names, top_names}
 use Rattle.sky_parse.proofs.Tokens.{is_sign, is_that_word}
 
 other_params_push : (xs : List Parameter) (x : Parameter) (more : List Mark) → spell_other_params (params_view (xs ++ x ∷ [])) more ≡ spell_other_params (params_view xs) (sign Sign.Comma ∷ name_at x.name (at x.line x.col) ∷ more)
@@ -75,15 +78,66 @@ main_fun [] f = refl
 main_fun (Top.fun g ∷ tops) f = main_fun tops f
 main_fun (Top.stmt r ∷ tops) f = ap (Stms.stm r) (main_fun tops f)
 
-pub read_fun : (funs funs2 : List Def) (main main2 : List Stmt) (d : Def) (f : Fun) (tops : List Top) → funs2 ≡ funs ++ d ∷ [] → main2 ≡ main → fun_view d ≡ def_of f → funs_view funs ≡ defs_of tops → stms_view main ≡ main_of tops
-    → (funs_view funs2 ≡ defs_of (tops ++ Top.fun f ∷ [])) × (stms_view main2 ≡ main_of (tops ++ Top.fun f ∷ []))
-read_fun funs funs2 main main2 d f tops e g h hf hm =
-    (ap funs_view e ∙ funs_view_push funs d ∙ (λ i. hf i ++ h i ∷ []) ∙ sym (defs_fun tops f), ap stms_view g ∙ hm ∙ sym (main_fun tops f))
+pub first_assoc : (a b c : Option Place) → first_of (first_of a b) c ≡ first_of a (first_of b c)
+first_assoc (Some p) b c = refl
+first_assoc None b c = refl
 
-pub read_stmt : (funs funs2 : List Def) (main main2 : List Stmt) (s : Stmt) (tops : List Top) → funs2 ≡ funs → main2 ≡ main ++ s ∷ [] → funs_view funs ≡ defs_of tops → stms_view main ≡ main_of tops
-    → (funs_view funs2 ≡ defs_of (tops ++ Top.stmt (stm_view s) ∷ [])) × (stms_view main2 ≡ main_of (tops ++ Top.stmt (stm_view s) ∷ []))
-read_stmt funs funs2 main main2 s tops e g hf hm =
-    (ap funs_view e ∙ hf ∙ sym (defs_stmt tops (stm_view s)), ap stms_view g ∙ stms_view_push main s ∙ ap (λ (ss : Stms). snoc ss (stm_view s)) hm ∙ sym (main_stmt tops (stm_view s)))
+first_none : (a : Option Place) → first_of a None ≡ a
+first_none (Some p) = refl
+first_none None = refl
+
+-- what a function adds to the names that stand twice
+twice_in : List (List ℕ) → Fun → Option Place
+twice_in seen f = first_of (at_twice (among f.name seen) f.place) (same_params [] f.params)
+
+same_fun : (seen : List (List ℕ)) (tops : List Top) (f : Fun) → same_names seen (tops ++ Top.fun f ∷ []) ≡ first_of (same_names seen tops) (twice_in (seen ++ top_names tops) f)
+unfolding twice_in
+same_fun seen [] f = ap (first_of (at_twice (among f.name seen) f.place)) (first_none (same_params [] f.params)) ∙ ap (λ (l : List (List ℕ)). first_of (at_twice (among f.name l) f.place) (same_params [] f.params)) (sym (append-nil seen))
+same_fun seen (Top.fun g ∷ tops) f =
+    let here = at_twice (among g.name seen) g.place in
+    let own = same_params [] g.params in
+    let later = same_names (seen ++ g.name ∷ []) tops in
+    let l : (seen ++ g.name ∷ []) ++ top_names tops ≡ seen ++ (g.name ∷ top_names tops) = append_assoc seen (g.name ∷ []) (top_names tops) in
+    ap (λ (p : Option Place). first_of here (first_of own p)) (same_fun (seen ++ g.name ∷ []) tops f ∙ ap (λ (m : List (List ℕ)). first_of later (twice_in m f)) l)
+    ∙ ap (first_of here) (sym (first_assoc own later (twice_in (seen ++ (g.name ∷ top_names tops)) f))) ∙ sym (first_assoc here (first_of own later) (twice_in (seen ++ (g.name ∷ top_names tops)) f))
+same_fun seen (Top.stmt s ∷ tops) f = same_fun seen tops f
+
+same_stmt : (seen : List (List ℕ)) (tops : List Top) (s : Stm) → same_names seen (tops ++ Top.stmt s ∷ []) ≡ same_names seen tops
+same_stmt seen [] s = refl
+same_stmt seen (Top.fun g ∷ tops) s = ap (λ (p : Option Place). first_of (at_twice (among g.name seen) g.place) (first_of (same_params [] g.params) p)) (same_stmt (seen ++ g.name ∷ []) tops s)
+same_stmt seen (Top.stmt r ∷ tops) s = same_stmt seen tops s
+
+def_names : List FunDef → List (List ℕ)
+def_names [] = []
+def_names (f ∷ fs) = f.name ∷ def_names fs
+
+names_of_funs : (xs : List Def) → fun_names xs ≡ def_names (funs_view xs)
+unfolding def_names
+names_of_funs [] = refl
+names_of_funs (x ∷ xs) = ap (λ (l : List (List ℕ)). x.name ∷ l) (names_of_funs xs)
+
+names_of_tops : (tops : List Top) → top_names tops ≡ def_names (defs_of tops)
+unfolding def_names
+names_of_tops [] = refl
+names_of_tops (Top.fun f ∷ tops) = ap (λ (l : List (List ℕ)). f.name ∷ l) (names_of_tops tops)
+names_of_tops (Top.stmt s ∷ tops) = names_of_tops tops
+
+pub read_fun : (funs funs2 : List Def) (main main2 : List Stmt) (old new : Option Place) (d : Def) (f : Fun) (tops : List Top) → funs2 ≡ funs ++ d ∷ [] → main2 ≡ main → fun_view d ≡ def_of f
+    → new ≡ first_of (first_of old (at_twice (among f.name (fun_names funs)) f.place)) (same_params [] f.params) → funs_view funs ≡ defs_of tops → stms_view main ≡ main_of tops → old ≡ same_names [] tops
+    → (funs_view funs2 ≡ defs_of (tops ++ Top.fun f ∷ [])) × (stms_view main2 ≡ main_of (tops ++ Top.fun f ∷ [])) × (new ≡ same_names [] (tops ++ Top.fun f ∷ []))
+unfolding twice_in
+read_fun funs funs2 main main2 old new d f tops e g h n hf hm hs =
+    let names : fun_names funs ≡ top_names tops = names_of_funs funs ∙ ap def_names hf ∙ sym (names_of_tops tops) in (
+      ap funs_view e ∙ funs_view_push funs d ∙ (λ i. hf i ++ h i ∷ []) ∙ sym (defs_fun tops f),
+      ap stms_view g ∙ hm ∙ sym (main_fun tops f),
+      n ∙ first_assoc old (at_twice (among f.name (fun_names funs)) f.place) (same_params [] f.params)
+          ∙ (λ i. first_of (hs i) (first_of (at_twice (among f.name (names i)) f.place) (same_params [] f.params))) ∙ sym (same_fun [] tops f),
+    )
+
+pub read_stmt : (funs funs2 : List Def) (main main2 : List Stmt) (old : Option Place) (s : Stmt) (tops : List Top) → funs2 ≡ funs → main2 ≡ main ++ s ∷ [] → funs_view funs ≡ defs_of tops → stms_view main ≡ main_of tops → old ≡ same_names [] tops
+    → (funs_view funs2 ≡ defs_of (tops ++ Top.stmt (stm_view s) ∷ [])) × (stms_view main2 ≡ main_of (tops ++ Top.stmt (stm_view s) ∷ [])) × (old ≡ same_names [] (tops ++ Top.stmt (stm_view s) ∷ []))
+read_stmt funs funs2 main main2 old s tops e g hf hm hs =
+    (ap funs_view e ∙ hf ∙ sym (defs_stmt tops (stm_view s)), ap stms_view g ∙ stms_view_push main s ∙ ap (λ (ss : Stms). snoc ss (stm_view s)) hm ∙ sym (main_stmt tops (stm_view s)), hs ∙ sym (same_stmt [] tops (stm_view s)))
 
 pub def_is : (d : Def) (ps : List Param) → param_names ps ≡ d.params → fun_view d ≡ def_of (record { name = d.name; place = at d.line d.col; params = ps; body = d.body })
 def_is d ps e = λ i. record { name = d.name; params = sym e i; body = d.body; place = at d.line d.col }

@@ -4,5 +4,7 @@ pub mod Grammar
 pub mod Parts
 pub mod Begun
 pub mod Nesting
+pub mod Tops
+pub mod Names
 pub mod Scripts
 pub mod Parsed

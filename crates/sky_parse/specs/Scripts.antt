@@ -1,81 +1,30 @@
--- A script as a whole: functions and statements, in the order of the text.
-use Rattle.std.specs.Prelude.{◌≡◌, ℕ, List, [], ◌∷◌, ◌++◌, Option, Some, None}
-use Rattle.sky_base.specs.Tree.{Place, Stm, Stms, FunDef, Script}
+-- What the code holds of a script that was read so far.
+use Rattle.std.specs.Prelude.{◌≡◌, ℕ, List, [], ◌∷◌, ◌++◌, Option}
 use Rattle.sky_base.specs.TreeView.{at}
 use Rattle.sky_base.specs.StmtView.{stms_view}
 use Rattle.sky_base.specs.ScriptView.{funs_view}
-use Rattle.sky_base.specs.Tree as logic
 use Rattle.sky_base.specs.declared.script.FunDef.{FunDef as Def}
 use Rattle.sky_text.specs.declared.token.Word.{Word}
 use Rattle.sky_text.specs.declared.token.TokenKind.{TokenKind}
 use Rattle.sky_text.specs.declared.token.Token.{Token}
-use Rattle.sky_parse.specs.Grammar.{Mark, Param, Fun, spell_fun, spell_stm, IsStm, AreStms, Follows, Spelled}
+use Rattle.sky_parse.specs.Grammar.{Param, spell_fun, AreStms, Spelled}
+use Rattle.sky_parse.specs.Nesting.{place_of}
+use Rattle.sky_parse.specs.Tops.{Top, spell_top, IsTop, param_names, defs_of, main_of}
+use Rattle.sky_parse.specs.Names.{same_params, same_names}
 use Rattle.sky_parse.specs.declared.script.Parameter.{Parameter}
 use Rattle.sky_parse.specs.declared.script.Read.{Read}
 
-pub data Top : Type 0 where
-  fun : Fun → Top
-  stmt : Stm → Top
-
-abbrev pub spell_top : Top → List Mark → List Mark
-spell_top (Top.fun f) more = spell_fun f more
-spell_top (Top.stmt s) more = spell_stm s more
-
-abbrev pub spell_tops : List Top → List Mark → List Mark
-spell_tops [] more = more
-spell_tops (t ∷ ts) more = spell_top t (spell_tops ts more)
-
-abbrev pub IsTop : Top → Type 0
-IsTop (Top.fun f) = AreStms f.body
-IsTop (Top.stmt s) = IsStm s
-
-abbrev pub AreTops : List Top → Type 0
-AreTops [] = Unit {0}
-AreTops (t ∷ ts) = IsTop t × AreTops ts
-
--- The functions and statements spell the tokens.
-abbrev pub Spells : List Top → List Token → Type 0
-Spells tops ts = AreTops tops × Follows (spell_tops tops []) ts
-
-abbrev pub param_names : List Param → List (List ℕ)
-param_names [] = []
-param_names (x ∷ xs) = x.name ∷ param_names xs
-
-abbrev pub def_of : Fun → FunDef
-def_of f = record { name = f.name; params = param_names f.params; body = f.body; place = f.place }
-
-abbrev pub top_defs : Top → List FunDef → List FunDef
-top_defs (Top.fun f) rest = def_of f ∷ rest
-top_defs (Top.stmt s) rest = rest
-
-abbrev pub top_main : Top → Stms → Stms
-top_main (Top.fun f) rest = rest
-top_main (Top.stmt s) rest = Stms.stm s rest
-
--- the functions of a script
-abbrev pub defs_of : List Top → List FunDef
-defs_of [] = []
-defs_of (t ∷ ts) = top_defs t (defs_of ts)
-
--- the statements outside of functions
-abbrev pub main_of : List Top → Stms
-main_of [] = Stms.no_stms
-main_of (t ∷ ts) = top_main t (main_of ts)
-
-abbrev pub script_of : List (List ℕ) → List Top → Script
-script_of keys tops = record { funs = defs_of tops; main = main_of tops; keys = keys }
-
--- What the code holds of the parameters of a function, and of a script that was read so far.
 abbrev pub params_view : List Parameter → List Param
 params_view [] = []
 params_view (x ∷ xs) = record { name = x.name; place = at x.line x.col } ∷ params_view xs
 
-abbrev pub IsFunction : Def → List Token → List Token → Type 0
-IsFunction d ts rest = (ps : List Param) × (param_names ps ≡ d.params) × AreStms d.body
+-- a function, and the place of the first of its parameters whose name an earlier one has
+abbrev pub IsFunction : Def → Option (ℕ × ℕ) → List Token → List Token → Type 0
+IsFunction d twice ts rest = (ps : List Param) × (param_names ps ≡ d.params) × AreStms d.body × (place_of twice ≡ same_params [] ps)
     × ((t : Token) → t.kind ≡ TokenKind.Word Word.Function → Spelled (spell_fun (record { name = d.name; place = at d.line d.col; params = ps; body = d.body })) (t ∷ ts) rest)
 
 abbrev pub IsRead : Read → List Top → Type 0
-IsRead r tops = (funs_view r.funs.items ≡ defs_of tops) × (stms_view r.main.items ≡ main_of tops)
+IsRead r tops = (funs_view r.funs.items ≡ defs_of tops) × (stms_view r.main.items ≡ main_of tops) × (place_of r.same ≡ same_names [] tops)
 
 abbrev pub Reads : Read → Read → List Token → List Token → Type 0
 Reads old new ts rest = (one : Top) × IsTop one × Spelled (spell_top one) ts rest × ((tops : List Top) → IsRead old tops → IsRead new (tops ++ one ∷ []))

@@ -10,4 +10,6 @@ pub mod look;
 pub mod parts;
 pub mod script;
 pub mod stmt;
+#[cfg(test)]
+mod tests;
 pub mod whole;

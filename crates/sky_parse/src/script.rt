@@ -2,10 +2,14 @@
 // statements, in order, into the main body.
 
 ghost use Rattle.std.specs.Prelude.{◌≡◌, ◌<◌, ◌≤◌, ◌∷◌, [], List, true, length, IfOk};
+ghost use Rattle.sky_base.specs.TreeView.{at};
 ghost use Rattle.sky_parse.specs.Grammar.{Mark, Spelled, spell_params};
 ghost use Rattle.sky_parse.specs.Grammar as g;
-ghost use Rattle.sky_parse.specs.Scripts.{Top, Spells, IsFunction, IsRead, Reads, params_view, param_names, script_of};
-ghost use Rattle.sky_parse.specs.Parsed.{IsScript, Nested};
+ghost use Rattle.sky_parse.specs.Nesting.{place_of};
+ghost use Rattle.sky_parse.specs.Names.{among, first_of, at_twice, same_params, fun_names};
+ghost use Rattle.sky_parse.specs.Tops.{Top, Spells, param_names};
+ghost use Rattle.sky_parse.specs.Scripts.{IsFunction, IsRead, Reads, params_view};
+ghost use Rattle.sky_parse.specs.Parsed.{IsScript, Nested, Named};
 
 use crate::brackets::too_nested;
 use crate::look::{Fail, eat, eat_word, want, want_name};
@@ -29,10 +33,13 @@ pub struct Parameter {
 pub struct Read {
     pub funs: Vec<FunDef>,
     pub main: Vec<Stmt>,
+    /// The line and column of the first name that stands twice.
+    pub same: Option<(u32, u32)>,
 }
 
-/// Why tokens are no script.
-#[derive(Clone, Copy, Debug)]
+/// Why tokens are no script. `TooNested` is tried first, `SameName` last; each place is the line and the
+/// column of a token, or for `NoSentence` also the end of the text.
+#[derive(Clone, Copy, PartialEq, Eq, Debug)]
 pub enum ParseRefusal {
     /// At this opening sign 64 brackets are open already.
     TooNested { line: u32, col: u32 },
@@ -68,28 +75,74 @@ fn params(alloc: Global, ts: &[Token]) -> Result<(Vec<Parameter>, &[Token]), Fai
     Ok((items, rest))
 }
 
-/// The names of parameters.
-fn names(alloc: Global, params: &[Parameter]) -> Result<Texts, Memory>
-    ensures { IfOk result (λ t. t ≡ param_names (params_view params.now)) }
+/// Whether the name is one of these.
+fn among(name: &Txt, names: &[Txt]) -> bool
+    ensures { result ≡ among name.now names.now }
+{
+    for other in names {
+        if other.as_str() == name.as_str() {
+            return true;
+        }
+    }
+    false
+}
+
+/// Whether one of these functions has the name.
+fn taken(name: &Txt, funs: &[FunDef]) -> bool
+    ensures { result ≡ among name.now (fun_names funs.now) }
+{
+    for fun in funs {
+        if fun.name.as_str() == name.as_str() {
+            return true;
+        }
+    }
+    false
+}
+
+/// A place that was found, else this one, if its name stands twice.
+fn noted(found: Option<(u32, u32)>, twice: bool, line: u32, col: u32) -> Option<(u32, u32)>
+    ensures { place_of result ≡ first_of (place_of found) (at_twice twice (at line col)) }
+{
+    match found {
+        Some(place) => Some(place),
+        None => if twice { Some((line, col)) } else { None },
+    }
+}
+
+/// A place that was found, else the other one.
+fn or_else(found: Option<(u32, u32)>, other: Option<(u32, u32)>) -> Option<(u32, u32)>
+    ensures { place_of result ≡ first_of (place_of found) (place_of other) }
+{
+    match found {
+        Some(place) => Some(place),
+        None => other,
+    }
+}
+
+/// The names of parameters, and the place of the first that an earlier one has.
+fn names(alloc: Global, params: &[Parameter]) -> Result<(Texts, Option<(u32, u32)>), Memory>
+    ensures { IfOk result (λ x. (x.0 ≡ param_names (params_view params.now)) × (place_of x.1 ≡ same_params [] (params_view params.now))) }
 {
     let mut items = Vec::new(alloc);
+    let mut same = None;
     for param in params {
+        same = noted(same, among(&param.name, &items), param.line, param.col);
         let Ok(()) = items.push(param.name.share()?) else {
             return Err(Memory)
         };
     }
-    Ok(Texts::of(items))
+    Ok((Texts::of(items), same))
 }
 
 /// What stands behind the word `function`.
-fn function(alloc: Global, ts: &[Token]) -> Result<(FunDef, &[Token]), Fail>
-    ensures tree { IfOk result (λ x. IsFunction x.0 ts.now x.1.now) }
-    ensures less { IfOk result (λ x. length x.1.now < length ts.now) }
+fn function(alloc: Global, ts: &[Token]) -> Result<(FunDef, Option<(u32, u32)>, &[Token]), Fail>
+    ensures tree { IfOk result (λ x. IsFunction x.0 x.1 ts.now x.2.now) }
+    ensures less { IfOk result (λ x. length x.2.now < length ts.now) }
 {
     let (name, line, col, rest) = want_name(ts)?;
     let rest = want(rest, Sign::OpenRound)?;
     let (params, rest) = params(alloc, rest)?;
-    let Ok(params) = names(alloc, &params) else {
+    let Ok((params, twice)) = names(alloc, &params) else {
         return Err(Fail::Memory)
     };
     let (body, rest) = block(alloc, rest)?;
@@ -101,6 +154,7 @@ fn function(alloc: Global, ts: &[Token]) -> Result<(FunDef, &[Token]), Fail>
             line,
             col,
         },
+        twice,
         rest,
     ))
 }
@@ -117,7 +171,9 @@ fn top<'a>(alloc: Global, read: &mut Read, ts: &'a [Token]) -> Result<&'a [Token
         return Err(Fail::Memory)
     };
     if let Some((_, after)) = eat_word(ts, Word::Function) {
-        let (fun, rest) = function(alloc, after)?;
+        let (fun, twice, rest) = function(alloc, after)?;
+        let known = taken(&fun.name, &read.funs);
+        read.same = or_else(noted(read.same, known, fun.line, fun.col), twice);
         read.funs.push_reserved(fun);
         return Ok(rest);
     }
@@ -133,6 +189,7 @@ fn tops(alloc: Global, ts: &[Token]) -> Result<Read, Fail>
     let mut read = Read {
         funs: Vec::new(alloc),
         main: Vec::new(alloc),
+        same: None,
     };
     let mut rest = ts;
     while !rest.is_empty() {
@@ -160,6 +217,8 @@ pub fn parse(
     requires { length tokens.now ≤ 1048576 }
     // Its functions and statements are trees of the grammar and spell the tokens, places included.
     ensures spelled { IfOk result (λ script. IsScript keys tokens.now script) }
+    // A name that stands twice is refused where functions and statements spell the tokens, exactly there.
+    ensures named { Named tokens.now result }
     // Brackets that are nested too deep are refused, before all else and exactly where they are.
     ensures nested { Nested tokens.now result }
 {
@@ -167,7 +226,10 @@ pub fn parse(
         return Err(ParseRefusal::TooNested { line, col });
     }
     match tops(alloc, tokens) {
-        Ok(read) => Ok(Script::new(FunDefs::of(read.funs), Block::of(read.main), keys)),
+        Ok(read) => match read.same {
+            Some((line, col)) => Err(ParseRefusal::SameName { line, col }),
+            None => Ok(Script::new(FunDefs::of(read.funs), Block::of(read.main), keys)),
+        },
         Err(Fail::Memory) => Err(ParseRefusal::Memory),
         Err(Fail::Stuck(left)) => {
             let (line, col) = place(tokens, left, end);

@@ -1,10 +1,12 @@
-use Rattle.std.proofs.Common.{◌≡◌, List, [], ◌∷◌, ◌++◌, ap, ◌∙◌}
+use Rattle.std.proofs.Common.{◌≡◌, Bool, List, [], ◌∷◌, ◌++◌, ap, ◌∙◌}
 use Rattle.sky_base.specs.TreeView.{at}
 use Rattle.sky_base.specs.StmtView.{stm_view}
 use Rattle.sky_base.specs.declared.stmt.Stmt.{Stmt}
 use Rattle.sky_base.specs.declared.script.FunDef.{FunDef as Def}
 use Rattle.sky_parse.specs.Grammar.{Fun}
-use Rattle.sky_parse.specs.Scripts.{Top}
+use Rattle.sky_parse.specs.Nesting.{place_of}
+use Rattle.sky_parse.specs.Names.{among, first_of, at_twice, fun_names}
+use Rattle.sky_parse.specs.Tops.{Top}
 use Rattle.sky_parse.proofs.Tops.{fun_stands, read_fun, read_stmt, def_is}
 use Rattle.sky_parse.proofs.script.top.Goals as goal
 
@@ -14,11 +16,15 @@ returns-in-Some-clause-tree c =
     let tree = c.in_ok-fun.ensures.tree in
     let f : Fun = record { name = d.name; place = at d.line d.col; params = tree.0; body = d.body } in
     let some = c.in-Some.ensures.some in
-    let all : c.push_reserved.new.self.items ≡ c.args.read.now.funs.items ++ d ∷ [] = c.push_reserved.ensures.items ∙ ap (λ (xs : List Def). xs ++ d ∷ []) c.reserve.ensures.items in (
+    let old = place_of c.args.read.now.same in
+    let all : c.push_reserved.new.self.items ≡ c.args.read.now.funs.items ++ d ∷ [] = c.push_reserved.ensures.items ∙ ap (λ (xs : List Def). xs ++ d ∷ []) c.reserve.ensures.items in
+    let known : c.taken-known.result ≡ among d.name (fun_names c.args.read.now.funs.items) = c.taken-known.ensures ∙ ap (λ (xs : List Def). among d.name (fun_names xs)) (c.deref.ensures.value ∙ c.reserve.ensures.items) in
+    let noted : place_of c.noted.result ≡ first_of old (at_twice (among d.name (fun_names c.args.read.now.funs.items)) (at d.line d.col)) = c.noted.ensures ∙ ap (λ (b : Bool). first_of old (at_twice b (at d.line d.col))) known in (
       Top.fun f,
       tree.2,
-      fun_stands c.args.ts.now c.in-Some.after.now c.in_ok-fun.rest.now c.in-Some.field-0-0.now f some.0 some.1 tree.3,
-      λ tops h. read_fun c.args.read.now.funs.items c.push_reserved.new.self.items c.args.read.now.main.items c.reserve-2.new.self.items d f tops all c.reserve-2.ensures.items (def_is d tree.0 tree.1) h.0 h.1,
+      fun_stands c.args.ts.now c.in-Some.after.now c.in_ok-fun.rest.now c.in-Some.field-0-0.now f some.0 some.1 tree.4,
+      λ tops h. read_fun c.args.read.now.funs.items c.push_reserved.new.self.items c.args.read.now.main.items c.reserve-2.new.self.items old (place_of c.or_else-read.result) d f tops all c.reserve-2.ensures.items (def_is d tree.0 tree.1)
+          (c.or_else-read.ensures ∙ (λ i. first_of (noted i) (tree.3 i))) h.0 h.1 h.2,
     )
 
 pub returns-clause-tree : goal.returns-clause-tree
@@ -28,5 +34,5 @@ returns-clause-tree c =
       Top.stmt (stm_view c.in_ok-item.item),
       s.0,
       s.1,
-      λ tops h. read_stmt c.args.read.now.funs.items c.reserve.new.self.items c.args.read.now.main.items c.push_reserved-2.new.self.items c.in_ok-item.item tops c.reserve.ensures.items all h.0 h.1,
+      λ tops h. read_stmt c.args.read.now.funs.items c.reserve.new.self.items c.args.read.now.main.items c.push_reserved-2.new.self.items (place_of c.args.read.now.same) c.in_ok-item.item tops c.reserve.ensures.items all h.0 h.1 h.2,
     )

@@ -1,6 +1,7 @@
 use Rattle.std.proofs.Common.{List, length}
 use Rattle.sky_parse.specs.Grammar.{Spelled}
-use Rattle.sky_parse.specs.Scripts.{Top, AreTops, IsRead, spell_tops}
+use Rattle.sky_parse.specs.Tops.{Top, AreTops, spell_tops}
+use Rattle.sky_parse.specs.Scripts.{IsRead}
 use Rattle.sky_parse.proofs.script.tops.Given as goal
 
 abbrev pub invariant-loop-rest : goal.invariant-loop-rest
