@@ -35,16 +35,16 @@ module _ {N : Type 0} (w : World N) (d n m : ℕ) (p q : Place) where
           let is : st.count ≡ visits = omega arith in
           ap (λ c. Fin (End.failed (fault_at FaultKind.TooLong q)) (record { vars = st.vars; count = c })) is
 
-abbrev row21 : Job
-row21 = main_of (Stm.while (at 1) (b true 8) (block []) ∷ [])
+abbrev endless_loop_row : Job
+endless_loop_row = main_of (Stm.while (at 1) (b true 8) (block []) ∷ [])
 
-row21_run : run_of row21 plain [] no_vals ≡ Fin (End.failed (fault_at FaultKind.TooLong (at 8))) (record { vars = no_pairs; count = visits })
-row21_run = go (nat_lt 0 visits) refl
+endless_loop_row_run : run_of endless_loop_row plain [] no_vals ≡ Fin (End.failed (fault_at FaultKind.TooLong (at 8))) (record { vars = no_pairs; count = visits })
+endless_loop_row_run = go (nat_lt 0 visits) refl
   where
-    go : (x : Bool) → nat_lt 0 visits ≡ x → then_do (visited x (at 1) start_st (λ s. loop (world_of row21.script plain) others 1 3 (at 1) (at 8) (suc visits) s)) (block_at 0 1 4 Stms.no_stms) (on_goes (λ s. Fin End.goes s)) ≡ Fin (End.failed (fault_at FaultKind.TooLong (at 8))) (record { vars = no_pairs; count = visits })
-    go true e = ap (λ r. then_do r (block_at 0 1 4 Stms.no_stms) (on_goes (λ s. Fin End.goes s))) (endless (world_of row21.script plain) others 1 3 (at 1) (at 8) (suc visits) (counted start_st) (omega (arith, some_visits)) (omega arith))
+    go : (x : Bool) → nat_lt 0 visits ≡ x → then_do (visited x (at 1) start_st (λ s. loop (world_of endless_loop_row.script plain) others 1 3 (at 1) (at 8) (suc visits) s)) (block_at 0 1 4 Stms.no_stms) (on_goes (λ s. Fin End.goes s)) ≡ Fin (End.failed (fault_at FaultKind.TooLong (at 8))) (record { vars = no_pairs; count = visits })
+    go true e = ap (λ r. then_do r (block_at 0 1 4 Stms.no_stms) (on_goes (λ s. Fin End.goes s))) (endless (world_of endless_loop_row.script plain) others 1 3 (at 1) (at 8) (suc visits) (counted start_st) (omega (arith, some_visits)) (omega arith))
     go false e = let le : visits ≤ 0 = ltb-false 0 visits e in absurd (omega (arith, some_visits))
 
-row21_see : see row21 plain 1 main_call ≡ Some (Object.fault (fault_at FaultKind.TooLong (at 8)))
+endless_loop_row_see : see endless_loop_row plain 1 main_call ≡ Some (Object.fault (fault_at FaultKind.TooLong (at 8)))
 unfolding see
-row21_see = ap (λ r. object_of (outcome (λ d. see row21 plain 0 d) r)) row21_run
+endless_loop_row_see = ap (λ r. object_of (outcome (λ d. see endless_loop_row plain 0 d) r)) endless_loop_row_run

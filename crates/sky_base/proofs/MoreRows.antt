@@ -11,7 +11,7 @@ use Rattle.sky_base.specs.See.{Val, Desc, Job, see, round, wave, job_answer, Ans
 use Rattle.sky_base.specs.Needed.{Task, wait_at}
 use Rattle.sky_base.specs.Tasks.{same, maker, outputs_of, first_of, waves_from, acts_of, ended, held_at, made_between, made_after}
 use Rattle.sky_base.specs.declared.fault.FaultKind.{FaultKind}
-use Rattle.sky_base.proofs.Rows.{plain, at, n, t, b, name, block, op, form, main_of, with_fun, ends, returns, fails, row1, row3, row6, row12, row33, star, f_of, f, cat, cat_out, bad}
+use Rattle.sky_base.proofs.Rows.{plain, at, n, t, b, name, block, op, form, main_of, with_fun, ends, returns, fails, sum_row, squares_row, self_spawn_row, nested_row, waiting_exec_row, star, f_of, f, cat, cat_out, bad}
 
 -- all that tasks compute with
 computing : ℕ
@@ -22,84 +22,84 @@ abbrev main_task : Task
 main_task = Task.of main_call
 
 -- `return 1 + 2;`: four visits
-row1_end : ends row1 0 ≡ returns (num (pos 3)) 4
+sum_row_end : ends sum_row 0 ≡ returns (num (pos 3)) 4
 unfolding computing
-row1_end = refl
+sum_row_end = refl
 
 -- `function bad() { return 1 / 0; } x = spawn(bad, []); return 7;`: what is spawned and not waited for is not needed
-abbrev row4 : Job
-row4 =
+abbrev unread_fault_row : Job
+unread_fault_row =
     with_fun bad [] (Stm.return (at 18) (op (n 1 25) Oper.over 27 (n 0 29)) ∷ []) (Stm.set (120 ∷ []) (at 34) (form Form.spawn 38 (name bad 44 ∷ form Form.list 49 [] ∷ [])) ∷ Stm.return (at 54) (n 7 61) ∷ [])
 
-row4_answer : job_answer row4 plain 1 ≡ Answered.bytes (55 ∷ 10 ∷ [])
+unread_fault_row_answer : job_answer unread_fault_row plain 1 ≡ Answered.bytes (55 ∷ 10 ∷ [])
 unfolding computing
-row4_answer = refl
+unread_fault_row_answer = refl
 
-row4_acts : acts_of row4 plain 1 main_task ≡ made (call bad no_vals) ∷ []
+unread_fault_row_acts : acts_of unread_fault_row plain 1 main_task ≡ made (call bad no_vals) ∷ []
 unfolding computing
-row4_acts = refl
+unread_fault_row_acts = refl
 
-row4_waits : wait_at row4 plain 5 main_task 1 ≡ None
+unread_fault_row_waits : wait_at unread_fault_row plain 5 main_task 1 ≡ None
 unfolding computing
-row4_waits = refl
+unread_fault_row_waits = refl
 
 -- `function f(x) { return x * x; } a = spawn(f, [3]); b = spawn(f, [3]); return *a + *b;`: one description, made and waited for twice
-abbrev row7 : Job
-row7 = with_fun (102 ∷ []) ((120 ∷ []) ∷ []) (Stm.return (at 17) (op (name (120 ∷ []) 24) Oper.times 26 (name (120 ∷ []) 28)) ∷ []) (Stm.set (97 ∷ []) (at 33) (f_of 3 37) ∷ Stm.set (98 ∷ []) (at 52) (f_of 3 56) ∷ Stm.return (at 71) (op (star 78 (name (97 ∷ []) 79)) Oper.plus 81 (star 83 (name (98 ∷ []) 84))) ∷ [])
+abbrev spawned_twice_row : Job
+spawned_twice_row = with_fun (102 ∷ []) ((120 ∷ []) ∷ []) (Stm.return (at 17) (op (name (120 ∷ []) 24) Oper.times 26 (name (120 ∷ []) 28)) ∷ []) (Stm.set (97 ∷ []) (at 33) (f_of 3 37) ∷ Stm.set (98 ∷ []) (at 52) (f_of 3 56) ∷ Stm.return (at 71) (op (star 78 (name (97 ∷ []) 79)) Oper.plus 81 (star 83 (name (98 ∷ []) 84))) ∷ [])
 
-row7_end : ends row7 1 ≡ returns (num (pos 18)) 16
+spawned_twice_row_end : ends spawned_twice_row 1 ≡ returns (num (pos 18)) 16
 unfolding computing
-row7_end = refl
+spawned_twice_row_end = refl
 
-row7_see : see row7 plain 2 main_call ≡ Some (Object.data_of (num (pos 18)))
+spawned_twice_row_see : see spawned_twice_row plain 2 main_call ≡ Some (Object.data_of (num (pos 18)))
 unfolding computing
-row7_see = refl
+spawned_twice_row_see = refl
 
-row7_acts : acts_of row7 plain 1 main_task ≡ made (f 3) ∷ made (f 3) ∷ waited (f 3 ∷ []) ∷ waited (f 3 ∷ []) ∷ []
+spawned_twice_row_acts : acts_of spawned_twice_row plain 1 main_task ≡ made (f 3) ∷ made (f 3) ∷ waited (f 3 ∷ []) ∷ waited (f 3 ∷ []) ∷ []
 unfolding computing
-row7_acts = refl
+spawned_twice_row_acts = refl
 
-row7_held : held_at row7 plain 1 main_task 1 ≡ Some (f 3 ∷ [])
+spawned_twice_row_held : held_at spawned_twice_row plain 1 main_task 1 ≡ Some (f 3 ∷ [])
 unfolding computing
-row7_held = refl
+spawned_twice_row_held = refl
 
 -- the two squares: what main holds and makes, and when it has ended
-row3_held : held_at row3 plain 1 main_task 2 ≡ Some (f 3 ∷ f 4 ∷ [])
+squares_row_held : held_at squares_row plain 1 main_task 2 ≡ Some (f 3 ∷ f 4 ∷ [])
 unfolding computing
-row3_held = refl
+squares_row_held = refl
 
-row3_between : made_between row3 plain 1 main_task 0 2 ≡ f 3 ∷ f 4 ∷ []
+squares_row_between : made_between squares_row plain 1 main_task 0 2 ≡ f 3 ∷ f 4 ∷ []
 unfolding computing
-row3_between = refl
+squares_row_between = refl
 
-row3_later : made_after row3 plain 1 main_task 1 ≡ []
+squares_row_later : made_after squares_row plain 1 main_task 1 ≡ []
 unfolding computing
-row3_later = refl
+squares_row_later = refl
 
-row3_not_ended : ended row3 plain 0 main_task ≡ false
+squares_row_not_ended : ended squares_row plain 0 main_task ≡ false
 unfolding computing
-row3_not_ended = refl
+squares_row_not_ended = refl
 
-row3_ended : ended row3 plain 1 main_task ≡ true
+squares_row_ended : ended squares_row plain 1 main_task ≡ true
 unfolding computing
-row3_ended = refl
+squares_row_ended = refl
 
-row3_show : ended row3 plain 1 Task.show ≡ false
+squares_row_show : ended squares_row plain 1 Task.show ≡ false
 unfolding computing
-row3_show = refl
+squares_row_show = refl
 
-row6_not_ended : ended row6 plain 50 main_task ≡ false
+self_spawn_row_not_ended : ended self_spawn_row plain 50 main_task ≡ false
 unfolding computing
-row6_not_ended = refl
+self_spawn_row_not_ended = refl
 
 -- nested references: one wait, at wave 1, and the result has ended
-row12_acts : acts_of row12 plain 2 Task.show ≡ waited (f 2 ∷ f 3 ∷ []) ∷ []
+nested_row_acts : acts_of nested_row plain 2 Task.show ≡ waited (f 2 ∷ f 3 ∷ []) ∷ []
 unfolding computing
-row12_acts = refl
+nested_row_acts = refl
 
-row12_held : held_at row12 plain 2 Task.show 1 ≡ Some (f 2 ∷ f 3 ∷ [])
+nested_row_held : held_at nested_row plain 2 Task.show 1 ≡ Some (f 2 ∷ f 3 ∷ [])
 unfolding computing
-row12_held = refl
+nested_row_held = refl
 
 -- an executor task: its outputs, its first wait, what it holds
 abbrev pair_of : ℕ → Desc
@@ -117,13 +117,13 @@ no_maker_row = refl
 first_row : first_of (Task.of (pair_of 0)) ≡ input (116 ∷ []) ∷ []
 first_row = refl
 
-held_row : held_at row33 plain 0 (Task.of (pair_of 0)) 0 ≡ Some (input (116 ∷ []) ∷ [])
+held_row : held_at waiting_exec_row plain 0 (Task.of (pair_of 0)) 0 ≡ Some (input (116 ∷ []) ∷ [])
 unfolding computing
 held_row = refl
 
-row33_ended : ended row33 plain 1 (Task.of cat_out) ≡ true
+waiting_exec_row_ended : ended waiting_exec_row plain 1 (Task.of cat_out) ≡ true
 unfolding computing
-row33_ended = refl
+waiting_exec_row_ended = refl
 
 same_row : same (f 3) (f 3) ≡ true
 same_row = refl
@@ -164,10 +164,10 @@ refs_row : refs (l (5 ∷ 6 ∷ [])) ≡ []
 refs_row = refl
 
 -- `x = "ab"; while (true) { x = x + x; }`: the text of 262,144 bytes would be too large
-row24 : Job
-row24 =
+doubled_text_row : Job
+doubled_text_row =
     main_of (Stm.set (120 ∷ []) (at 1) (t (97 ∷ 98 ∷ []) 5) ∷ Stm.while (at 11) (b true 18) (block (Stm.set (120 ∷ []) (at 26) (op (name (120 ∷ []) 30) Oper.plus 32 (name (120 ∷ []) 34)) ∷ [])) ∷ [])
 
-row24_end : ends row24 0 ≡ fails FaultKind.TooLarge 32 88
-unfolding computing row24
-row24_end = refl
+doubled_text_row_end : ends doubled_text_row 0 ≡ fails FaultKind.TooLarge 32 88
+unfolding computing doubled_text_row
+doubled_text_row_end = refl

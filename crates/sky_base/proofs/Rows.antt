@@ -87,21 +87,21 @@ abbrev pub fails : FaultKind → ℕ → ℕ → Option (End ⊥ × ℕ)
 fails k c m = Some (End.failed (record { kind = k; line = 1; col = c }), m)
 
 -- `return 1 + 2;`
-abbrev pub row1 : Job
-row1 = main_of (Stm.return (at 1) (op (n 1 8) Oper.plus 10 (n 2 12)) ∷ [])
+abbrev pub sum_row : Job
+sum_row = main_of (Stm.return (at 1) (op (n 1 8) Oper.plus 10 (n 2 12)) ∷ [])
 
-see_row1 : see row1 plain 1 main_call ≡ Some (Object.data_of (num (pos 3)))
+see_sum_row : see sum_row plain 1 main_call ≡ Some (Object.data_of (num (pos 3)))
 unfolding computing
-see_row1 = refl
+see_sum_row = refl
 
-answer_row1 : job_answer row1 plain 1 ≡ Answered.bytes (51 ∷ 10 ∷ [])
+answer_sum_row : job_answer sum_row plain 1 ≡ Answered.bytes (51 ∷ 10 ∷ [])
 unfolding computing
-answer_row1 = refl
+answer_sum_row = refl
 
 -- an empty script
-answer_row2 : job_answer (main_of []) plain 1 ≡ Answered.bytes (110 ∷ 117 ∷ 108 ∷ 108 ∷ 10 ∷ [])
+answer_empty_row : job_answer (main_of []) plain 1 ≡ Answered.bytes (110 ∷ 117 ∷ 108 ∷ 108 ∷ 10 ∷ [])
 unfolding computing
-answer_row2 = refl
+answer_empty_row = refl
 
 -- `function f(x) { return x * x; } a = spawn(f, [3]); b = spawn(f, [4]); return *a + *b;`
 abbrev pub f_of : ℕ → ℕ → Exp
@@ -110,83 +110,83 @@ f_of k c = form Form.spawn c (name (102 ∷ []) (c + 6) ∷ form Form.list (c + 
 abbrev pub star : ℕ → Exp → Exp
 star c e = Exp.prefix (record { sign = Sign.star; place = at c } ∷ []) e
 
-abbrev pub row3 : Job
-row3 = with_fun (102 ∷ []) ((120 ∷ []) ∷ []) (Stm.return (at 17) (op (name (120 ∷ []) 24) Oper.times 26 (name (120 ∷ []) 28)) ∷ []) (Stm.set (97 ∷ []) (at 33) (f_of 3 37) ∷ Stm.set (98 ∷ []) (at 52) (f_of 4 56) ∷ Stm.return (at 71) (op (star 78 (name (97 ∷ []) 79)) Oper.plus 81 (star 83 (name (98 ∷ []) 84))) ∷ [])
+abbrev pub squares_row : Job
+squares_row = with_fun (102 ∷ []) ((120 ∷ []) ∷ []) (Stm.return (at 17) (op (name (120 ∷ []) 24) Oper.times 26 (name (120 ∷ []) 28)) ∷ []) (Stm.set (97 ∷ []) (at 33) (f_of 3 37) ∷ Stm.set (98 ∷ []) (at 52) (f_of 4 56) ∷ Stm.return (at 71) (op (star 78 (name (97 ∷ []) 79)) Oper.plus 81 (star 83 (name (98 ∷ []) 84))) ∷ [])
 
 abbrev pub f : ℕ → Desc
 f k = call (102 ∷ []) (val (num (pos k)) no_vals)
 
-row3_short : job_answer row3 plain 1 ≡ Answered.not_yet
+squares_row_short : job_answer squares_row plain 1 ≡ Answered.not_yet
 unfolding computing
-row3_short = refl
+squares_row_short = refl
 
-row3_see : see row3 plain 2 main_call ≡ Some (Object.data_of (num (pos 25)))
+squares_row_see : see squares_row plain 2 main_call ≡ Some (Object.data_of (num (pos 25)))
 unfolding computing
-row3_see = refl
+squares_row_see = refl
 
-row3_acts : acts (see row3 plain 1) (run_of row3 plain [] no_vals) ≡ made (f 3) ∷ made (f 4) ∷ waited (f 3 ∷ []) ∷ waited (f 4 ∷ []) ∷ []
+squares_row_acts : acts (see squares_row plain 1) (run_of squares_row plain [] no_vals) ≡ made (f 3) ∷ made (f 4) ∷ waited (f 3 ∷ []) ∷ waited (f 4 ∷ []) ∷ []
 unfolding computing
-row3_acts = refl
+squares_row_acts = refl
 
-row3_short_acts : acts (see row3 plain 0) (run_of row3 plain [] no_vals) ≡ made (f 3) ∷ made (f 4) ∷ waited (f 3 ∷ []) ∷ []
+squares_row_short_acts : acts (see squares_row plain 0) (run_of squares_row plain [] no_vals) ≡ made (f 3) ∷ made (f 4) ∷ waited (f 3 ∷ []) ∷ []
 unfolding computing
-row3_short_acts = refl
+squares_row_short_acts = refl
 
-row3_start : stands_at row3 plain 1 (Task.of main_call) 0 ≡ Some (State.run (record { frames = record { fun = []; vars = no_pairs; stack = []; todo = record { node = 0; step = 0 } ∷ [] } ∷ []; count = 0; waits = 0 }))
+squares_row_start : stands_at squares_row plain 1 (Task.of main_call) 0 ≡ Some (State.run (record { frames = record { fun = []; vars = no_pairs; stack = []; todo = record { node = 0; step = 0 } ∷ [] } ∷ []; count = 0; waits = 0 }))
 unfolding computing
-row3_start = refl
+squares_row_start = refl
 
-row3_wait1 : stands_at row3 plain 0 (Task.of main_call) 1 ≡ Some (State.run (record { frames = record { fun = []; vars = pair (97 ∷ []) (ref (f 3)) (pair (98 ∷ []) (ref (f 4)) no_pairs); stack = ref (f 3) ∷ []; todo = record { node = 0; step = 3 } ∷ record { node = 11; step = 1 } ∷ record { node = 12; step = 1 } ∷ record { node = 13; step = 2 } ∷ [] } ∷ []; count = 13; waits = 1 }))
+squares_row_wait1 : stands_at squares_row plain 0 (Task.of main_call) 1 ≡ Some (State.run (record { frames = record { fun = []; vars = pair (97 ∷ []) (ref (f 3)) (pair (98 ∷ []) (ref (f 4)) no_pairs); stack = ref (f 3) ∷ []; todo = record { node = 0; step = 3 } ∷ record { node = 11; step = 1 } ∷ record { node = 12; step = 1 } ∷ record { node = 13; step = 2 } ∷ [] } ∷ []; count = 13; waits = 1 }))
 unfolding computing
-row3_wait1 = refl
+squares_row_wait1 = refl
 
-row3_wait2 : stands_at row3 plain 1 (Task.of main_call) 2 ≡ Some (State.run (record { frames = record { fun = []; vars = pair (97 ∷ []) (ref (f 3)) (pair (98 ∷ []) (ref (f 4)) no_pairs); stack = num (pos 9) ∷ ref (f 4) ∷ []; todo = record { node = 0; step = 3 } ∷ record { node = 11; step = 1 } ∷ record { node = 12; step = 2 } ∷ record { node = 15; step = 2 } ∷ [] } ∷ []; count = 15; waits = 2 }))
+squares_row_wait2 : stands_at squares_row plain 1 (Task.of main_call) 2 ≡ Some (State.run (record { frames = record { fun = []; vars = pair (97 ∷ []) (ref (f 3)) (pair (98 ∷ []) (ref (f 4)) no_pairs); stack = num (pos 9) ∷ ref (f 4) ∷ []; todo = record { node = 0; step = 3 } ∷ record { node = 11; step = 1 } ∷ record { node = 12; step = 2 } ∷ record { node = 15; step = 2 } ∷ [] } ∷ []; count = 15; waits = 2 }))
 unfolding computing
-row3_wait2 = refl
+squares_row_wait2 = refl
 
-row3_end : ends row3 1 ≡ returns (num (pos 25)) 16
+squares_row_end : ends squares_row 1 ≡ returns (num (pos 25)) 16
 unfolding computing
-row3_end = refl
+squares_row_end = refl
 
-row3_made : made_from row3 plain 1 [] no_vals 0 ≡ f 3 ∷ f 4 ∷ []
+squares_row_made : made_from squares_row plain 1 [] no_vals 0 ≡ f 3 ∷ f 4 ∷ []
 unfolding computing
-row3_made = refl
+squares_row_made = refl
 
-row3_made1 : made_from row3 plain 1 [] no_vals 1 ≡ []
+squares_row_made1 : made_from squares_row plain 1 [] no_vals 1 ≡ []
 unfolding computing
-row3_made1 = refl
+squares_row_made1 = refl
 
 -- `function bad(){return 1/0;} return *spawn(bad, []);`
 abbrev pub bad : List ℕ
 bad = 98 ∷ 97 ∷ 100 ∷ []
 
-abbrev row5 : Job
-row5 = with_fun bad [] (Stm.return (at 16) (op (n 1 23) Oper.over 24 (n 0 25)) ∷ []) (Stm.return (at 29) (star 36 (form Form.spawn 37 (name bad 43 ∷ form Form.list 48 [] ∷ []))) ∷ [])
+abbrev spawned_fault_row : Job
+spawned_fault_row = with_fun bad [] (Stm.return (at 16) (op (n 1 23) Oper.over 24 (n 0 25)) ∷ []) (Stm.return (at 29) (star 36 (form Form.spawn 37 (name bad 43 ∷ form Form.list 48 [] ∷ []))) ∷ [])
 
-row5_answer : job_answer row5 plain 2 ≡ Answered.fault (record { kind = FaultKind.DivZero; line = 1; col = 24 })
+spawned_fault_row_answer : job_answer spawned_fault_row plain 2 ≡ Answered.fault (record { kind = FaultKind.DivZero; line = 1; col = 24 })
 unfolding computing
-row5_answer = refl
+spawned_fault_row_answer = refl
 
 -- `function f() { return *spawn(f, []); } return *spawn(f, []);`
 abbrev again : ℕ → Stm
 again c = Stm.return (at c) (star (c + 7) (form Form.spawn (c + 8) (name (102 ∷ []) (c + 14) ∷ form Form.list (c + 17) [] ∷ [])))
 
-abbrev pub row6 : Job
-row6 = with_fun (102 ∷ []) [] (again 16 ∷ []) (again 40 ∷ [])
+abbrev pub self_spawn_row : Job
+self_spawn_row = with_fun (102 ∷ []) [] (again 16 ∷ []) (again 40 ∷ [])
 
-row6_answer : job_answer row6 plain 100 ≡ Answered.not_yet
+self_spawn_row_answer : job_answer self_spawn_row plain 100 ≡ Answered.not_yet
 unfolding computing
-row6_answer = refl
+self_spawn_row_answer = refl
 
 -- what main waits for is what f waits for, at every number
-row6_wait : wait_at row6 plain 1 (Task.of main_call) 1 ≡ Some (call (102 ∷ []) no_vals ∷ [])
+self_spawn_row_wait : wait_at self_spawn_row plain 1 (Task.of main_call) 1 ≡ Some (call (102 ∷ []) no_vals ∷ [])
 unfolding computing
-row6_wait = refl
+self_spawn_row_wait = refl
 
 -- `return 9223372036854775807 + 1;`
-row14 : ends (main_of (Stm.return (at 1) (op (n 9223372036854775807 8) Oper.plus 28 (n 1 30)) ∷ [])) 0 ≡ fails FaultKind.Overflow 28 4
+overflow_row : ends (main_of (Stm.return (at 1) (op (n 9223372036854775807 8) Oper.plus 28 (n 1 30)) ∷ [])) 0 ≡ fails FaultKind.Overflow 28 4
 unfolding computing
-row14 = refl
+overflow_row = refl
 
 -- `return false && x;` and `return true && 1;`, whose last operand is no truth value
 and_skips : ends (main_of (Stm.return (at 1) (Exp.logic Junction.both (b false 8) (Ands.and (at 14) (name (120 ∷ []) 17) Ands.no_ands)) ∷ [])) 0 ≡ returns (truth false) 3
@@ -256,9 +256,9 @@ else_if_kind = refl
 abbrev d : List ℕ
 d = 100 ∷ []
 
-row29 : ends (main_of (Stm.set d (at 1) (form Form.dict 5 (t (98 ∷ []) 6 ∷ n 2 11 ∷ t (97 ∷ []) 14 ∷ n 1 19 ∷ [])) ∷ Stm.put d (at 23) (at 24) (t (99 ∷ []) 25) (n 3 32) ∷ Stm.return (at 35) (form Form.list 42 (name d 43 ∷ form Form.keys 46 (name d 51 ∷ []) ∷ form Form.has 55 (name d 59 ∷ t (122 ∷ []) 62 ∷ []) ∷ form Form.len 68 (name d 72 ∷ []) ∷ [])) ∷ [])) 0 ≡ returns (list (vals_of (dict (pair (97 ∷ []) (num (pos 1)) (pair (98 ∷ []) (num (pos 2)) (pair (99 ∷ []) (num (pos 3)) no_pairs))) ∷ list (vals_of (text (97 ∷ []) ∷ text (98 ∷ []) ∷ text (99 ∷ []) ∷ [])) ∷ truth false ∷ num (pos 3) ∷ []))) 19
+dictionaries_row : ends (main_of (Stm.set d (at 1) (form Form.dict 5 (t (98 ∷ []) 6 ∷ n 2 11 ∷ t (97 ∷ []) 14 ∷ n 1 19 ∷ [])) ∷ Stm.put d (at 23) (at 24) (t (99 ∷ []) 25) (n 3 32) ∷ Stm.return (at 35) (form Form.list 42 (name d 43 ∷ form Form.keys 46 (name d 51 ∷ []) ∷ form Form.has 55 (name d 59 ∷ t (122 ∷ []) 62 ∷ []) ∷ form Form.len 68 (name d 72 ∷ []) ∷ [])) ∷ [])) 0 ≡ returns (list (vals_of (dict (pair (97 ∷ []) (num (pos 1)) (pair (98 ∷ []) (num (pos 2)) (pair (99 ∷ []) (num (pos 3)) no_pairs))) ∷ list (vals_of (text (97 ∷ []) ∷ text (98 ∷ []) ∷ text (99 ∷ []) ∷ [])) ∷ truth false ∷ num (pos 3) ∷ []))) 19
 unfolding computing
-row29 = refl
+dictionaries_row = refl
 
 -- `x[0] = 1;` where x isn't set: after both parts, at the name
 put_unset : ends (main_of (Stm.put (120 ∷ []) (at 1) (at 2) (n 0 3) (n 1 8) ∷ [])) 0 ≡ fails FaultKind.Unknown 1 3
@@ -269,9 +269,9 @@ put_unset = refl
 abbrev neg : ℕ → ℕ → Exp
 neg k c = Exp.prefix (record { sign = Sign.minus; place = at c } ∷ []) (n k (c + 1))
 
-row30 : ends (main_of (Stm.return (at 1) (form Form.list 8 (op (n 7 9) Oper.over 11 (n 2 13) ∷ op (neg 7 16) Oper.over 19 (n 2 21) ∷ op (neg 7 24) Oper.rest 27 (n 2 29) ∷ op (n 7 32) Oper.rest 34 (neg 2 36) ∷ [])) ∷ [])) 0 ≡ returns (list (vals_of (num (pos 3) ∷ num (negsuc 2) ∷ num (negsuc 0) ∷ num (pos 1) ∷ []))) 17
+divisions_row : ends (main_of (Stm.return (at 1) (form Form.list 8 (op (n 7 9) Oper.over 11 (n 2 13) ∷ op (neg 7 16) Oper.over 19 (n 2 21) ∷ op (neg 7 24) Oper.rest 27 (n 2 29) ∷ op (n 7 32) Oper.rest 34 (neg 2 36) ∷ [])) ∷ [])) 0 ≡ returns (list (vals_of (num (pos 3) ∷ num (negsuc 2) ∷ num (negsuc 0) ∷ num (pos 1) ∷ []))) 17
 unfolding computing
-row30 = refl
+divisions_row = refl
 
 -- `function f(n){ if (n == 0) { return 0; } return f(n - 1); } return f(62);`; the same with 63
 abbrev pub calls : Exp → ℕ → Exp
@@ -281,49 +281,49 @@ abbrev down : ℕ → Job
 down k =
     with_fun (102 ∷ []) ((110 ∷ []) ∷ []) (Stm.cases (at 16) (Arms.arm (at 16) (op (name (110 ∷ []) 20) (Oper.compare Order.eq) 22 (n 0 25)) (block (Stm.return (at 30) (n 0 37) ∷ [])) Arms.no_arms) Else.no_else ∷ Stm.return (at 42) (calls (op (name (110 ∷ []) 51) Oper.minus 53 (n 1 55)) 49) ∷ []) (Stm.return (at 61) (calls (n k 70) 68) ∷ [])
 
-row23 : job_answer (down 62) plain 1 ≡ Answered.bytes (48 ∷ 10 ∷ [])
+recursion_row : job_answer (down 62) plain 1 ≡ Answered.bytes (48 ∷ 10 ∷ [])
 unfolding computing
-row23 = refl
+recursion_row = refl
 
-row23_deep : job_answer (down 63) plain 1 ≡ Answered.fault (record { kind = FaultKind.TooDeep; line = 1; col = 50 })
+recursion_row_deep : job_answer (down 63) plain 1 ≡ Answered.fault (record { kind = FaultKind.TooDeep; line = 1; col = 50 })
 unfolding computing
-row23_deep = refl
+recursion_row_deep = refl
 
 -- `function f() { return spawn(f, []); } return spawn(f, []);`: the waves never end
-row25 : job_answer (with_fun (102 ∷ []) [] (Stm.return (at 16) (form Form.spawn 23 (name (102 ∷ []) 29 ∷ form Form.list 32 [] ∷ [])) ∷ []) (Stm.return (at 40) (form Form.spawn 47 (name (102 ∷ []) 53 ∷ form Form.list 56 [] ∷ [])) ∷ [])) plain 2 ≡ Answered.fault (record { kind = FaultKind.TooDeep; line = 0; col = 0 })
+own_reference_row : job_answer (with_fun (102 ∷ []) [] (Stm.return (at 16) (form Form.spawn 23 (name (102 ∷ []) 29 ∷ form Form.list 32 [] ∷ [])) ∷ []) (Stm.return (at 40) (form Form.spawn 47 (name (102 ∷ []) 53 ∷ form Form.list 56 [] ∷ [])) ∷ [])) plain 2 ≡ Answered.fault (record { kind = FaultKind.TooDeep; line = 0; col = 0 })
 unfolding computing
-row25 = refl
+own_reference_row = refl
 
 -- `function f() { return 1; } return f;`
-row34 : job_answer (with_fun (102 ∷ []) [] (Stm.return (at 16) (n 1 23) ∷ []) (Stm.return (at 28) (name (102 ∷ []) 35) ∷ [])) plain 1 ≡ Answered.fault (record { kind = FaultKind.NotText; line = 0; col = 0 })
+returned_function_row : job_answer (with_fun (102 ∷ []) [] (Stm.return (at 16) (n 1 23) ∷ []) (Stm.return (at 28) (name (102 ∷ []) 35) ∷ [])) plain 1 ≡ Answered.fault (record { kind = FaultKind.NotText; line = 0; col = 0 })
 unfolding computing
-row34 = refl
+returned_function_row = refl
 
 -- `x = exec("cat", {"in": ref("t")}, 1); return x[0];` with t = `a`
 abbrev pub cat : List ℕ
 cat = 99 ∷ 97 ∷ 116 ∷ []
 
-abbrev pub row33 : Job
-row33 = record { script = record { funs = []; main = block (Stm.set (120 ∷ []) (at 1) (form Form.exec 5 (t cat 10 ∷ form Form.dict 17 (t (105 ∷ 110 ∷ []) 18 ∷ form Form.ref 24 (t (116 ∷ []) 28 ∷ []) ∷ []) ∷ n 1 35 ∷ [])) ∷ Stm.return (at 39) (Exp.postfix (name (120 ∷ []) 46) (Steps.index (n 0 48) (at 47) Steps.no_steps)) ∷ []); keys = (116 ∷ []) ∷ [] }; inputs = (116 ∷ [], 97 ∷ []) ∷ [] }
+abbrev pub waiting_exec_row : Job
+waiting_exec_row = record { script = record { funs = []; main = block (Stm.set (120 ∷ []) (at 1) (form Form.exec 5 (t cat 10 ∷ form Form.dict 17 (t (105 ∷ 110 ∷ []) 18 ∷ form Form.ref 24 (t (116 ∷ []) 28 ∷ []) ∷ []) ∷ n 1 35 ∷ [])) ∷ Stm.return (at 39) (Exp.postfix (name (120 ∷ []) 46) (Steps.index (n 0 48) (at 47) Steps.no_steps)) ∷ []); keys = (116 ∷ []) ∷ [] }; inputs = (116 ∷ [], 97 ∷ []) ∷ [] }
 
 abbrev pub cat_out : Desc
 cat_out = out cat (dict (pair (105 ∷ 110 ∷ []) (ref (input (116 ∷ []))) no_pairs)) 1 0
 
-row33_answer : job_answer row33 plain 3 ≡ Answered.bytes (97 ∷ [])
+waiting_exec_row_answer : job_answer waiting_exec_row plain 3 ≡ Answered.bytes (97 ∷ [])
 unfolding computing
-row33_answer = refl
+waiting_exec_row_answer = refl
 
-row33_acts : acts (see row33 plain 2) (run_of row33 plain [] no_vals) ≡ made (input (116 ∷ [])) ∷ made cat_out ∷ waited (cat_out ∷ []) ∷ []
+waiting_exec_row_acts : acts (see waiting_exec_row plain 2) (run_of waiting_exec_row plain [] no_vals) ≡ made (input (116 ∷ [])) ∷ made cat_out ∷ waited (cat_out ∷ []) ∷ []
 unfolding computing
-row33_acts = refl
+waiting_exec_row_acts = refl
 
-row33_wait : stands_at row33 plain 0 (Task.of main_call) 1 ≡ Some (State.run (record { frames = record { fun = []; vars = no_pairs; stack = list (vals_of (ref cat_out ∷ [])) ∷ []; todo = record { node = 0; step = 1 } ∷ record { node = 1; step = 1 } ∷ record { node = 2; step = 4 } ∷ [] } ∷ []; count = 8; waits = 1 }))
+waiting_exec_row_wait : stands_at waiting_exec_row plain 0 (Task.of main_call) 1 ≡ Some (State.run (record { frames = record { fun = []; vars = no_pairs; stack = list (vals_of (ref cat_out ∷ [])) ∷ []; todo = record { node = 0; step = 1 } ∷ record { node = 1; step = 1 } ∷ record { node = 2; step = 4 } ∷ [] } ∷ []; count = 8; waits = 1 }))
 unfolding computing
-row33_wait = refl
+waiting_exec_row_wait = refl
 
-row33_show : wait_at row33 plain 3 Task.show 1 ≡ Some (cat_out ∷ [])
+waiting_exec_row_show : wait_at waiting_exec_row plain 3 Task.show 1 ≡ Some (cat_out ∷ [])
 unfolding computing
-row33_show = refl
+waiting_exec_row_show = refl
 
 -- `function f(x) { return *x + 1; } return f(spawn(f, [2]));`: two frames at the first wait, of which the upper one is f's
 abbrev two_frames : Job
@@ -355,43 +355,43 @@ unfolding computing
 no_functions = refl
 
 -- `function f(x) { return x * x; } return [spawn(f, [2]), [spawn(f, [3])]];`: the value at wave 2 has no reference
-abbrev pub row12 : Job
-row12 = with_fun (102 ∷ []) ((120 ∷ []) ∷ []) (Stm.return (at 17) (op (name (120 ∷ []) 24) Oper.times 26 (name (120 ∷ []) 28)) ∷ []) (Stm.return (at 33) (form Form.list 40 (f_of 2 41 ∷ form Form.list 56 (f_of 3 57 ∷ []) ∷ [])) ∷ [])
+abbrev pub nested_row : Job
+nested_row = with_fun (102 ∷ []) ((120 ∷ []) ∷ []) (Stm.return (at 17) (op (name (120 ∷ []) 24) Oper.times 26 (name (120 ∷ []) 28)) ∷ []) (Stm.return (at 33) (form Form.list 40 (f_of 2 41 ∷ form Form.list 56 (f_of 3 57 ∷ []) ∷ [])) ∷ [])
 
-row12_wave : wave row12 plain 2 2 ≡ Some (list (vals_of (num (pos 4) ∷ list (vals_of (num (pos 9) ∷ [])) ∷ [])))
+nested_row_wave : wave nested_row plain 2 2 ≡ Some (list (vals_of (num (pos 4) ∷ list (vals_of (num (pos 9) ∷ [])) ∷ [])))
 unfolding computing
-row12_wave = refl
+nested_row_wave = refl
 
-row12_show : wait_at row12 plain 2 Task.show 1 ≡ Some (f 2 ∷ f 3 ∷ [])
+nested_row_show : wait_at nested_row plain 2 Task.show 1 ≡ Some (f 2 ∷ f 3 ∷ [])
 unfolding computing
-row12_show = refl
+nested_row_show = refl
 
-row12_no_show : wait_at row12 plain 5 Task.show 2 ≡ None
+nested_row_no_show : wait_at nested_row plain 5 Task.show 2 ≡ None
 unfolding computing
-row12_no_show = refl
+nested_row_no_show = refl
 
 -- `return [ref("t")];`, `return ref("t");` and `return *ref("t");` with t = `a`
-abbrev row13 : Exp → Job
-row13 e =
+abbrev input_row : Exp → Job
+input_row e =
     record { script = record { funs = []; main = block (Stm.return (at 1) e ∷ []); keys = (116 ∷ []) ∷ [] }; inputs = (116 ∷ [], 97 ∷ []) ∷ [] }
 
 abbrev t_of : ℕ → Exp
 t_of c = form Form.ref c (t (116 ∷ []) (c + 4) ∷ [])
 
-row13_bytes : job_answer (row13 (t_of 8)) plain 2 ≡ Answered.bytes (97 ∷ [])
+input_row_bytes : job_answer (input_row (t_of 8)) plain 2 ≡ Answered.bytes (97 ∷ [])
 unfolding computing
-row13_bytes = refl
+input_row_bytes = refl
 
-row13_text : wave (row13 (form Form.list 8 (t_of 9 ∷ []))) plain 2 2 ≡ Some (list (vals_of (text (97 ∷ []) ∷ [])))
+input_row_text : wave (input_row (form Form.list 8 (t_of 9 ∷ []))) plain 2 2 ≡ Some (list (vals_of (text (97 ∷ []) ∷ [])))
 unfolding computing
-row13_text = refl
+input_row_text = refl
 
-row13_data : job_answer (row13 (star 8 (t_of 9))) plain 2 ≡ Answered.fault (record { kind = FaultKind.NotData; line = 1; col = 8 })
+input_row_data : job_answer (input_row (star 8 (t_of 9))) plain 2 ≡ Answered.fault (record { kind = FaultKind.NotData; line = 1; col = 8 })
 unfolding computing
-row13_data = refl
+input_row_data = refl
 
 -- `return -*ref("t");`, stopped at its wait: the `*` is the nearest operator, at step 2
-minus_star : stands_at (row13 (Exp.prefix (record { sign = Sign.minus; place = at 8 } ∷ record { sign = Sign.star; place = at 9 } ∷ []) (t_of 10))) plain 0 (Task.of main_call) 1 ≡ Some (State.run (record { frames = record { fun = []; vars = no_pairs; stack = ref (input (116 ∷ [])) ∷ []; todo = record { node = 0; step = 1 } ∷ record { node = 1; step = 1 } ∷ record { node = 2; step = 2 } ∷ [] } ∷ []; count = 4; waits = 1 }))
+minus_star : stands_at (input_row (Exp.prefix (record { sign = Sign.minus; place = at 8 } ∷ record { sign = Sign.star; place = at 9 } ∷ []) (t_of 10))) plain 0 (Task.of main_call) 1 ≡ Some (State.run (record { frames = record { fun = []; vars = no_pairs; stack = ref (input (116 ∷ [])) ∷ []; todo = record { node = 0; step = 1 } ∷ record { node = 1; step = 1 } ∷ record { node = 2; step = 2 } ∷ [] } ∷ []; count = 4; waits = 1 }))
 unfolding computing
 minus_star = refl
 
@@ -475,8 +475,8 @@ unfolding computing
 add_unset = refl
 
 -- the trees of these rows are trees of the grammar
-row3_proper : proper_stms row3.script.main ≡ true
-row3_proper = refl
+squares_row_proper : proper_stms squares_row.script.main ≡ true
+squares_row_proper = refl
 
 waves_proper : proper_stms (waves 3).script.main ≡ true
 waves_proper = refl
