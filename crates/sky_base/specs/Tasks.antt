@@ -7,7 +7,7 @@ use Rattle.sky_base.specs.Val.{call, out, input, known, refs, pairs_refs, same_d
 use Rattle.sky_base.specs.Eval.{outputs}
 use Rattle.sky_base.specs.Read.{Act, made, waited, Frame, acts}
 use Rattle.sky_base.specs.See.{Val, Desc, Job, Around, Answered, main_call, run_of, see, wave, job_answer}
-use Rattle.sky_base.specs.Needed.{Task, distinct_refs, wave_refs, only_if, State, wait_at, WaitOf, stands_at}
+use Rattle.sky_base.specs.Needed.{Task, task_of, distinct_refs, wave_refs, only_if, State, wait_at, WaitOf, stands_at}
 
 module _ {A : Type 0} where
   abbrev pub In : A → List A → Type 0
@@ -178,3 +178,19 @@ module _ (job : Job) (around : Around) where
     -- there is no such wait
     abbrev pub NextEnd : Task → ℕ → Type 0
     NextEnd t j = (i : ℕ) → Passes t j i
+
+  -- ---- circles
+
+  -- at one of its waits t waits for something that u makes
+  pub record WaitsFor (t u : Task) : Type 0 where
+    pub wait : ℕ
+    pub waits : List Desc
+    pub waited : WaitOf job around t wait waits
+    pub what : Desc
+    pub is_waited : In what waits
+    pub is_made : task_of what ≡ Some u
+
+  -- from t on, each task waits for the next one, up to u
+  pub data Chain : Task → Task → Type 0 where
+    last : {t u : Task} → WaitsFor t u → Chain t u
+    link : {t s u : Task} → WaitsFor t s → Chain s u → Chain t u

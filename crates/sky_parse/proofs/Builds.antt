@@ -1,18 +1,16 @@
 -- What was read behind an operand makes a tree with it.
-use Rattle.std.proofs.Common.{◌≡◌, ℕ, suc, ◌<◌, ◌≤◌, Bool, true, false, List, [], ◌∷◌, length, refl, arith}
+use Rattle.std.proofs.Common.{◌≡◌, ℕ, suc, ◌<◌, true, false, List, [], ◌∷◌, length, refl, arith}
 use Rattle.std.specs.Prelude.{◌==◌}
 use Rattle.std.proofs.lemmas.Bool.{eqb-true}
-use Rattle.sky_base.specs.Op.{Order}
-use Rattle.sky_base.specs.Tree.{Place, Oper, Exp, Links}
-use Rattle.sky_base.specs.Proper.{oper_level, links_enough, some_ands, some_signs, some_steps}
-use Rattle.sky_base.specs.TreeView.{arith_view, order_view, exp_view, links_view, ands_view, steps_view, signs_view}
+use Rattle.sky_base.specs.Tree.{Place, Exp, Links}
+use Rattle.sky_base.specs.Proper.{links_enough, some_ands, some_signs, some_steps, links_level}
+use Rattle.sky_base.specs.TreeView.{arith_view, links_view, ands_view, steps_view, signs_view}
 use Rattle.sky_base.specs.declared.tree.ArithOp.{ArithOp}
-use Rattle.sky_base.specs.declared.tree.Cmp.{Cmp}
 use Rattle.sky_base.specs.declared.tree.Link.{Link}
 use Rattle.sky_base.specs.declared.tree.Join.{Join}
 use Rattle.sky_base.specs.declared.tree.SignAt.{SignAt}
 use Rattle.sky_base.specs.declared.tree.Step.{Step}
-use Rattle.sky_parse.specs.Grammar.{Mark, links_level, AreLinks}
+use Rattle.sky_parse.specs.Grammar.{AreLinks}
 
 enough : (o : ArithOp) (p : Place) (e : Exp) (ls : Links) → links_enough (Links.link (arith_view o) p e ls) ≡ true
 enough ArithOp.Plus p e ls = refl

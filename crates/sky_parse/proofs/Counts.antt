@@ -1,12 +1,12 @@
 -- A tree has at most as many nodes as tokens, so the nodes of a script can be counted.
-use Rattle.std.proofs.Common.{◌≡◌, ℕ, suc, ◌+◌, ◌<◌, ◌≤◌, Bool, true, false, List, [], ◌∷◌, length, refl, ap, subst, arith}
-use Rattle.sky_base.specs.Tree.{Place, Lit, Oper, SignAt, Form, Exp, Exps, Links, Ands, Steps, Stm, Stms, Arms, Else, FunDef, Script, Junction, nodes, exps_nodes, links_nodes, ands_nodes, steps_nodes, stm_nodes, stms_nodes, arms_nodes, else_nodes, block_nodes, funs_nodes, script_nodes}
+use Rattle.std.proofs.Common.{◌≡◌, ℕ, suc, ◌+◌, ◌<◌, ◌≤◌, true, List, [], ◌∷◌, length, refl, ap, arith}
+use Rattle.sky_base.specs.Tree.{Place, SignAt, Form, Exp, Exps, Links, Ands, Steps, Stm, Stms, Arms, Else, FunDef, Junction, nodes, exps_nodes, links_nodes, ands_nodes, steps_nodes, stm_nodes, stms_nodes, arms_nodes, else_nodes, funs_nodes, script_nodes}
 use Rattle.sky_base.specs.Proper.{links_enough, some_ands, some_signs, some_steps}
 use Rattle.sky_text.specs.declared.token.Sign.{Sign}
 use Rattle.sky_text.specs.declared.token.Word.{Word}
 use Rattle.sky_text.specs.declared.token.Token.{Token}
-use Rattle.sky_parse.specs.Grammar.{Mark, Param, Fun, sign, word, spell, spell_exps, spell_others, spell_pairs, spell_value, spell_other_pairs, spell_links, spell_ands, spell_steps, spell_signs, spell_stm, spell_stms, spell_arms, spell_other_arms, spell_else, spell_test, spell_block, spell_params, spell_other_params, spell_fun, started, some_arms, IsTree, AreTrees, AreLinks, AreAnds, AreSteps, IsStm, AreStms, AreArms, IsElse, Follows}
-use Rattle.sky_parse.specs.Tops.{Top, IsTop, AreTops, Spells, spell_top, spell_tops, defs_of, main_of}
+use Rattle.sky_parse.specs.Grammar.{Mark, Param, sign, word, spell, spell_exps, spell_others, spell_pairs, spell_value, spell_other_pairs, spell_links, spell_ands, spell_steps, spell_signs, spell_stm, spell_stms, spell_arms, spell_other_arms, spell_else, spell_test, spell_block, spell_params, spell_other_params, started, some_arms, IsTree, AreTrees, AreLinks, AreAnds, AreSteps, IsStm, AreStms, AreArms, IsElse, Follows}
+use Rattle.sky_parse.specs.Tops.{Top, AreTops, Spells, spell_tops, defs_of, main_of}
 
 signs_fit : (ss : List SignAt) (ms : List Mark) → length ms ≤ length (spell_signs ss ms)
 signs_fit [] ms = omega arith

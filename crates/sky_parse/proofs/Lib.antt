@@ -5,3 +5,4 @@ pub mod Push
 pub mod Statements
 pub mod Tops
 pub mod Counts
+pub mod Complete

@@ -1,6 +1,6 @@
 -- One more at the end of a list of parts.
-use Rattle.std.proofs.Common.{◌≡◌, ℕ, suc, ◌<◌, ◌≤◌, Bool, true, false, List, [], ◌∷◌, ◌++◌, length, Option, Some, None, refl, sym, ap, subst, ◌∙◌, arith}
-use Rattle.sky_base.specs.Tree.{Place, Exp, Exps, Links, Ands, Steps, Junction}
+use Rattle.std.proofs.Common.{◌≡◌, ℕ, suc, ◌<◌, ◌≤◌, Bool, true, List, [], ◌∷◌, ◌++◌, length, Option, Some, None, refl, sym, ap, subst, ◌∙◌, arith}
+use Rattle.sky_base.specs.Tree.{Exp, Exps, Junction}
 use Rattle.std.specs.Prelude.{◌%◌, ◌==◌, if◌then◌else◌, Result, Ok, Err, IfOk}
 use Rattle.std.proofs.lemmas.Bool.{eqb-true}
 use Rattle.sky_base.specs.Proper.{exps_count}

@@ -1,17 +1,15 @@
 -- Statements of the tokens that were read, and one more at the end of a list of them.
-use Rattle.std.proofs.Common.{◌≡◌, ℕ, suc, ◌<◌, ◌≤◌, Bool, true, false, List, [], ◌∷◌, ◌++◌, length, refl, sym, ap, subst, ◌∙◌, arith}
-use Rattle.sky_base.specs.Tree.{Place, Exp, Exps, Links, Ands, Steps, Stm, Stms, Arms, Else}
-use Rattle.sky_base.specs.TreeView.{at, exp_view, steps_view}
+use Rattle.std.proofs.Common.{◌≡◌, ℕ, ◌<◌, true, List, [], ◌∷◌, ◌++◌, length, refl, sym, ap, subst, arith}
+use Rattle.sky_base.specs.Tree.{Place, Exp, Steps, Stm, Stms, Arms, Else}
+use Rattle.sky_base.specs.TreeView.{at, exp_view}
 use Rattle.sky_base.specs.StmtView.{stm_view, stms_view, arms_view}
 use Rattle.sky_base.specs.declared.stmt.Stmt.{Stmt}
 use Rattle.sky_base.specs.declared.stmt.Arm.{Arm}
-use Rattle.sky_base.specs.declared.tree.Expr.{Expr}
 use Rattle.sky_text.specs.declared.token.Sign.{Sign}
 use Rattle.sky_text.specs.declared.token.Word.{Word}
-use Rattle.sky_text.specs.declared.token.TokenKind.{TokenKind}
 use Rattle.sky_text.specs.declared.token.Token.{Token}
 use Rattle.sky_parse.specs.Signs.{is, is_word}
-use Rattle.sky_parse.specs.Grammar.{Mark, sign, sign_at, word, word_at, name_at, Fits, Follows, Spelled, place, started, spell, spell_steps, spell_test, spell_block, spell_stm, spell_stms, spell_arms, spell_other_arms, spell_else, IsTree, IsStm, AreStms, AreArms, IsElse, some_arms}
+use Rattle.sky_parse.specs.Grammar.{Mark, sign, sign_at, word, word_at, name_at, Fits, Follows, Spelled, place, started, spell, spell_steps, spell_test, spell_block, spell_stm, spell_stms, spell_arms, spell_other_arms, IsStm, AreStms, AreArms, some_arms}
 use Rattle.sky_parse.proofs.Tokens.{is_sign, is_that_word}
 
 pub start_fits : (p : Place) (ms : List Mark) (t : Token) (ts : List Token) → p ≡ place t → Follows ms (t ∷ ts) → Follows (started p ms) (t ∷ ts)

@@ -1,5 +1,5 @@
 -- One more function or statement, and what is read of it.
-use Rattle.std.proofs.Common.{◌≡◌, ℕ, ◌<◌, true, Bool, List, [], ◌∷◌, ◌++◌, length, Option, Some, None, append_assoc, append-nil, refl, sym, ap, subst, ◌∙◌, arith}
+use Rattle.std.proofs.Common.{◌≡◌, ℕ, ◌<◌, true, List, [], ◌∷◌, ◌++◌, length, Option, Some, None, append_assoc, append-nil, refl, sym, ap, subst, ◌∙◌, arith}
 use Rattle.sky_base.specs.Tree.{Place, Stm, Stms, FunDef}
 use Rattle.sky_base.specs.TreeView.{at}
 use Rattle.sky_base.specs.StmtView.{stm_view, stms_view}
@@ -12,10 +12,9 @@ use Rattle.sky_text.specs.declared.token.TokenKind.{TokenKind}
 use Rattle.sky_text.specs.declared.token.Token.{Token}
 use Rattle.sky_parse.specs.declared.script.Parameter.{Parameter}
 use Rattle.sky_parse.specs.Signs.{is, is_word}
-use Rattle.sky_parse.specs.Grammar.{Mark, Param, Fun, sign, name_at, spell_params, spell_other_params, spell_block, spell_fun, spell_stm, Follows, Spelled}
+use Rattle.sky_parse.specs.Grammar.{Mark, Param, Fun, sign, name_at, spell_params, spell_other_params, spell_block, spell_fun, Follows, Spelled}
 use Rattle.sky_parse.specs.Tops.{Top, spell_top, spell_tops, IsTop, AreTops, defs_of, main_of, def_of, param_names}
 use Rattle.sky_parse.specs.Scripts.{params_view}
-use Rattle.sky_parse.specs.Nesting.{place_of}
 use Rattle.sky_parse.specs.Names.{among, first_of, at_twice, same_params, same_names, fun_names, top_names}
 use Rattle.sky_parse.proofs.Tokens.{is_sign, is_that_word}
 

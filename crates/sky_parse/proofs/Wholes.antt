@@ -1,8 +1,7 @@
 -- How many parts there are, where the last is taken away.
-use Rattle.std.proofs.Common.{◌≡◌, ℕ, suc, ◌+◌, ◌≤◌, List, [], ◌∷◌, ◌++◌, length, refl, ap, arith}
-use Rattle.sky_base.specs.Tree.{Exp, Exps}
+use Rattle.std.proofs.Common.{◌≡◌, suc, List, [], ◌∷◌, ◌++◌, length, refl, ap, arith}
 use Rattle.sky_base.specs.Proper.{exps_count}
-use Rattle.sky_base.specs.TreeView.{exp_view, exps_view, one, two, three}
+use Rattle.sky_base.specs.TreeView.{exps_view}
 use Rattle.sky_base.specs.declared.tree.Expr.{Expr}
 
 pub count_push : (xs : List Expr) (x : Expr) → exps_count (exps_view (xs ++ x ∷ [])) ≡ suc (exps_count (exps_view xs))

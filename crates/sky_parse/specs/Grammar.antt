@@ -1,10 +1,10 @@
 -- The grammar of the language, as a function from trees to tokens. Each form has one clause of
 -- `spell`; which trees are trees of the grammar is said below it.
-use Rattle.std.specs.Prelude.{◌≡◌, ℕ, suc, ◌≤◌, ◌<◌, Bool, true, false, List, [], ◌∷◌}
+use Rattle.std.specs.Prelude.{◌≡◌, ℕ, ◌≤◌, ◌<◌, Bool, true, false, List, [], ◌∷◌}
 use Rattle.sky_base.specs.Op.{Order}
-use Rattle.sky_base.specs.Tree.{Place, Lit, Oper, Junction, SignAt, Form, Exp, Exps, Links, Ands, Steps, Stm, Stms, Arms, Else, FunDef, Script}
+use Rattle.sky_base.specs.Tree.{Place, Lit, Oper, Junction, SignAt, Form, Exp, Exps, Links, Ands, Steps, Stm, Stms, Arms, Else}
 use Rattle.sky_base.specs.Tree as tree
-use Rattle.sky_base.specs.Proper.{oper_level, junction_level, level, exps_count, links_enough, some_ands, some_signs, some_steps}
+use Rattle.sky_base.specs.Proper.{oper_level, junction_level, links_level, level, exps_count, links_enough, some_ands, some_signs, some_steps}
 use Rattle.sky_text.specs.declared.token.Sign.{Sign}
 use Rattle.sky_text.specs.declared.token.Word.{Word}
 use Rattle.sky_text.specs.declared.token.TokenKind.{TokenKind}
@@ -179,12 +179,6 @@ pub record Fun : Type 0 where
   pub params : List Param
   pub body : Stms
 
--- the functions and statements of a script, in the order of the text
-pub data Tops : Type 0 where
-  no_tops : Tops
-  fun : Fun → Tops → Tops
-  stmt : Stm → Tops → Tops
-
 abbrev pub spell_other_params : List Param → List Mark → List Mark
 spell_other_params [] more = more
 spell_other_params (x ∷ xs) more = sign Sign.Comma ∷ name_at x.name x.place ∷ spell_other_params xs more
@@ -195,11 +189,6 @@ spell_params (x ∷ xs) more = name_at x.name x.place ∷ spell_other_params xs 
 
 abbrev pub spell_fun : Fun → List Mark → List Mark
 spell_fun f more = word Word.Function ∷ name_at f.name f.place ∷ sign Sign.OpenRound ∷ spell_params f.params (sign Sign.CloseRound ∷ spell_block f.body more)
-
-abbrev pub spell_tops : Tops → List Mark → List Mark
-spell_tops Tops.no_tops more = more
-spell_tops (Tops.fun f ts) more = spell_fun f (spell_tops ts more)
-spell_tops (Tops.stmt s ts) more = spell_stm s (spell_tops ts more)
 
 -- whether each key has a value
 abbrev mutual
@@ -223,10 +212,6 @@ Fills Form.len es = exps_count es ≡ 1
 Fills Form.keys es = exps_count es ≡ 1
 Fills Form.has es = exps_count es ≡ 2
 Fills Form.range es = exps_count es ≡ 2
-
-abbrev pub links_level : Links → ℕ
-links_level Links.no_links = 0
-links_level (Links.link o p e ls) = oper_level o
 
 -- A tree of the grammar. Each operand stands at a level above that of its operator, so that a sum under a
 -- product is in parentheses; a level with one operand and no operator makes no node.
@@ -287,11 +272,6 @@ abbrev mutual
   pub IsElse : Else → Type 0
   IsElse Else.no_else = Unit {0}
   IsElse (Else.otherwise b) = AreStms b
-
-abbrev pub AreTops : Tops → Type 0
-AreTops Tops.no_tops = Unit {0}
-AreTops (Tops.fun f ts) = AreStms f.body × AreTops ts
-AreTops (Tops.stmt s ts) = IsStm s × AreTops ts
 
 -- The tokens are these marks.
 abbrev pub place : Token → Place

@@ -1,5 +1,5 @@
 -- The levels of chains: which operators each has, and which level its operands have.
-use Rattle.std.specs.Prelude.{ℕ, Bool, true, false, ◌||◌, List, [], ◌∷◌, Option, Some, None}
+use Rattle.std.specs.Prelude.{ℕ, Bool, false, ◌||◌, List, [], ◌∷◌, Option, Some, None}
 use Rattle.sky_base.specs.Tree.{Junction}
 use Rattle.sky_text.specs.declared.token.Sign.{Sign}
 use Rattle.sky_text.specs.declared.token.TokenKind.{TokenKind}

@@ -8,3 +8,5 @@ pub mod Tops
 pub mod Names
 pub mod Scripts
 pub mod Parsed
+pub mod Machine
+pub mod Reading

@@ -1,6 +1,6 @@
 -- Names that stand twice: a function's that is that of an earlier function, or a parameter's that is that
 -- of an earlier parameter of the same function.
-use Rattle.std.specs.Prelude.{ℕ, ◌||◌, if◌then◌else◌, Bool, true, false, List, [], ◌∷◌, ◌++◌, Option, Some, None}
+use Rattle.std.specs.Prelude.{ℕ, ◌||◌, if◌then◌else◌, Bool, false, List, [], ◌∷◌, ◌++◌, Option, Some, None}
 use Rattle.std.specs.Str.{bytes_eq}
 use Rattle.sky_base.specs.Tree.{Place}
 use Rattle.sky_base.specs.declared.script.FunDef.{FunDef as Def}

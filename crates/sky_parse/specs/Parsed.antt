@@ -1,8 +1,9 @@
 -- What the parser answers.
-use Rattle.std.specs.Prelude.{◌≡◌, ℕ, List, [], Option, Some, None, Result, Ok, Err}
-use Rattle.sky_base.specs.Tree.{Script}
+use Rattle.std.specs.Prelude.{◌≡◌, ℕ, List, [], Some, None, Result, Ok, Err, Option, slice_get}
+use Rattle.sky_base.specs.Tree.{Place, Script}
 use Rattle.sky_base.specs.TreeView.{at}
 use Rattle.sky_text.specs.declared.token.Token.{Token}
+use Rattle.sky_parse.specs.Grammar.{place}
 use Rattle.sky_parse.specs.Nesting.{too_nested}
 use Rattle.sky_parse.specs.Tops.{Top, Spells, script_of}
 use Rattle.sky_parse.specs.Names.{same_names}
@@ -11,6 +12,22 @@ use Rattle.sky_parse.specs.declared.script.ParseRefusal.{ParseRefusal}
 -- The script is that of functions and statements that spell the tokens, and no name stands twice.
 abbrev pub IsScript : List (List ℕ) → List Token → Script → Type 0
 IsScript keys ts script = (tops : List Top) × Spells tops ts × (same_names [] tops ≡ None) × (script ≡ script_of keys tops)
+
+-- the place of a token by its number from 0, or of the end where there is none
+abbrev pub token_place : Option Token → Place → Place
+token_place (Some t) end = place t
+token_place None end = end
+
+abbrev pub place_at : List Token → ℕ → Place → Place
+place_at ts n end = token_place (slice_get ts n) end
+
+-- a place where no sentence goes on is that of a token or the end
+abbrev pub Placed : {X : Type 0} → List Token → Place → Result X ParseRefusal → Type 0
+Placed ts end (Ok x) = Unit {0}
+Placed ts end (Err (ParseRefusal.TooNested l c)) = Unit {0}
+Placed ts end (Err (ParseRefusal.NoSentence l c)) = (n : ℕ) × (at l c ≡ place_at ts n end)
+Placed ts end (Err (ParseRefusal.SameName l c)) = Unit {0}
+Placed ts end (Err ParseRefusal.Memory) = Unit {0}
 
 -- whether a refusal says that brackets are nested too deep, exactly there
 abbrev pub Nested : {X : Type 0} → List Token → Result X ParseRefusal → Type 0

@@ -1,13 +1,13 @@
 -- What stands between brackets, for each form with brackets.
-use Rattle.std.specs.Prelude.{◌≡◌, ℕ, ◌==◌, ◌%◌, if◌then◌else◌, Bool, true, false, List, [], ◌∷◌}
-use Rattle.sky_base.specs.Tree.{Place, Form, Exp, Exps}
+use Rattle.std.specs.Prelude.{◌≡◌, ℕ, ◌==◌, ◌%◌, if◌then◌else◌, Bool, true, false, List, ◌∷◌}
+use Rattle.sky_base.specs.Tree.{Place, Exps}
 use Rattle.sky_base.specs.Proper.{exps_count}
 use Rattle.sky_text.specs.declared.token.Sign.{Sign}
 use Rattle.sky_text.specs.declared.token.Word.{Word}
 use Rattle.sky_parse.specs.declared.parts.Shape.{Shape}
 use Rattle.sky_parse.specs.declared.parts.Head.{Head}
 use Rattle.sky_parse.specs.declared.parts.StepHead.{StepHead}
-use Rattle.sky_parse.specs.Grammar.{Mark, sign, sign_at, word_at, spell, spell_exps, spell_pairs, paired}
+use Rattle.sky_parse.specs.Grammar.{Mark, sign, sign_at, word_at, spell_exps, spell_pairs, paired}
 
 abbrev pub head_shape : Head → Shape
 head_shape Head.Parens = Shape.Fixed 1 Sign.CloseRound

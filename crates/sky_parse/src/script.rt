@@ -1,7 +1,7 @@
 // Scripts as a whole: functions and statements in any order. Functions go into one list and the other
 // statements, in order, into the main body.
 
-ghost use Rattle.std.specs.Prelude.{◌≡◌, ◌<◌, ◌≤◌, ◌∷◌, [], List, true, length, IfOk};
+ghost use Rattle.std.specs.Prelude.{◌≡◌, ◌<◌, ◌≤◌, ◌-◌, ◌∷◌, [], List, true, length, IfOk};
 ghost use Rattle.sky_base.specs.TreeView.{at};
 ghost use Rattle.sky_parse.specs.Grammar.{Mark, Spelled, spell_params};
 ghost use Rattle.sky_parse.specs.Grammar as g;
@@ -9,7 +9,7 @@ ghost use Rattle.sky_parse.specs.Nesting.{place_of};
 ghost use Rattle.sky_parse.specs.Names.{among, first_of, at_twice, same_params, fun_names};
 ghost use Rattle.sky_parse.specs.Tops.{Top, Spells, param_names};
 ghost use Rattle.sky_parse.specs.Scripts.{IsFunction, IsRead, Reads, params_view};
-ghost use Rattle.sky_parse.specs.Parsed.{IsScript, Nested, Named};
+ghost use Rattle.sky_parse.specs.Parsed.{IsScript, Nested, Named, Placed, place_at};
 
 use crate::brackets::too_nested;
 use crate::look::{Fail, eat, eat_word, want, want_name};
@@ -199,7 +199,9 @@ fn tops(alloc: Global, ts: &[Token]) -> Result<Read, Fail>
 }
 
 /// The place of the token at which so many are left, or the end.
-fn place(ts: &[Token], left: usize, end: (u32, u32)) -> (u32, u32) {
+fn place(ts: &[Token], left: usize, end: (u32, u32)) -> (u32, u32)
+    ensures { at result.0 result.1 ≡ place_at ts.now (length ts.now - left) (at end.0 end.1) }
+{
     match ts.get(ts.len().saturating_sub(left)) {
         Some(token) => (token.line, token.col),
         None => end,
@@ -219,6 +221,8 @@ pub fn parse(
     ensures spelled { IfOk result (λ script. IsScript keys tokens.now script) }
     // A name that stands twice is refused where functions and statements spell the tokens, exactly there.
     ensures named { Named tokens.now result }
+    // The place where no sentence goes on is that of a token, or the end.
+    ensures placed { Placed tokens.now (at end.0 end.1) result }
     // Brackets that are nested too deep are refused, before all else and exactly where they are.
     ensures nested { Nested tokens.now result }
 {

@@ -1,9 +1,9 @@
-use Rattle.std.proofs.Common.{rules, ◌≡◌, ◌<◌, ◌≤◌, ◌∷◌, [], ◌++◌, List, length, length-append, ℕ, true, refl, sym, ap, subst, ◌∙◌, arith}
+use Rattle.std.proofs.Common.{◌≡◌, ◌∷◌, [], length, length-append, ℕ, true, ap, subst, ◌∙◌, arith}
 use Rattle.sky_base.specs.TreeView.{exp_view, exps_view}
 use Rattle.sky_text.specs.declared.token.Sign.{Sign}
 use Rattle.sky_parse.specs.Signs.{is}
 use Rattle.sky_parse.specs.Levels.{rank, junction}
-use Rattle.sky_parse.specs.Parts.{Has, separator, ready, closing, step_shape, spell_parts}
+use Rattle.sky_parse.specs.Parts.{separator, ready, closing, step_shape, spell_parts}
 use Rattle.sky_parse.specs.declared.parts.Shape.{Shape}
 use Rattle.sky_parse.specs.Grammar as g
 use Rattle.sky_parse.specs.Grammar.{Spelled}

@@ -1,4 +1,4 @@
-use Rattle.std.proofs.Common.{◌≡◌, ◌<◌, ◌≤◌, true, List, length, ◌+◌, ◌-◌, ◌*◌}
+use Rattle.std.proofs.Common.{◌<◌, ◌≤◌, List, length, ◌+◌, ◌-◌, ◌*◌}
 use Rattle.sky_base.specs.TreeView.{exps_view, links_view, ands_view, steps_view}
 use Rattle.sky_parse.specs.Levels.{rank, junction}
 use Rattle.sky_parse.specs.Parts.{spell_open}

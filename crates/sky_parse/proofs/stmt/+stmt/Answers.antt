@@ -1,4 +1,4 @@
-use Rattle.std.proofs.Common.{◌≡◌, ◌∷◌, [], ◌++◌, ◌∙◌, List, length, length-append, refl, sym, ap, arith}
+use Rattle.std.proofs.Common.{◌≡◌, ◌∷◌, [], ◌++◌, ◌∙◌, List, length, length-append, ap, arith}
 use Rattle.sky_base.specs.TreeView.{at, exp_view}
 use Rattle.sky_base.specs.StmtView.{arms_view}
 use Rattle.sky_base.specs.declared.stmt.Stmt.{Stmt}

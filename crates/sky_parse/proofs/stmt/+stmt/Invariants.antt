@@ -1,10 +1,9 @@
-use Rattle.std.proofs.Common.{◌≡◌, ◌<◌, ◌≤◌, ◌∷◌, List, length, ◌+◌, ◌*◌}
+use Rattle.std.proofs.Common.{◌<◌, ◌≤◌, ◌∷◌, length, ◌+◌, ◌*◌}
 use Rattle.sky_base.specs.TreeView.{at}
 use Rattle.sky_base.specs.StmtView.{stms_view, arms_view}
-use Rattle.sky_text.specs.declared.token.Sign.{Sign}
 use Rattle.sky_text.specs.declared.token.Word.{Word}
 use Rattle.sky_text.specs.declared.token.Token.{Token}
-use Rattle.sky_parse.specs.Grammar.{Fits, word_at, AreStms, AreArms, Spelled, sign, spell_stms, spell_arms}
+use Rattle.sky_parse.specs.Grammar.{Fits, word_at, AreStms, AreArms, Spelled, spell_stms, spell_arms}
 use Rattle.sky_parse.proofs.stmt.+stmt.Given as goal
 
 abbrev pub decreases-stmt : goal.decreases-stmt
