@@ -1,7 +1,7 @@
 -- Stacks over names are the stacks over whole descriptions, lowered.
 use Rattle.std.proofs.Common.{◌≡◌, ℕ, List, [], ◌∷◌, ◌++◌, map, Option, Some, None, refl, sym, ap, ap₂, ◌∙◌}
 use Rattle.std.specs.Option.{option_map}
-use Rattle.sky_base.specs.Val.{Val, Vals, Pairs, list, known}
+use Rattle.sky_base.specs.Val.{Val, Vals, Pairs, Desc, list, known}
 use Rattle.sky_base.specs.Name.{low, low_vals, low_pairs, low_desc}
 use Rattle.sky_base.specs.Op.{Answer}
 use Rattle.sky_base.specs.Tree.{nowhere}
@@ -17,18 +17,18 @@ map_join : {A B : Type 0} (f : A → B) (xs ys : List A) → map f (xs ++ ys) �
 map_join f [] ys = refl
 map_join f (x ∷ xs) ys = ap (λ zs. f x ∷ zs) (map_join f xs ys)
 
-module _ {N : Type 0} (spell : N → List ℕ) (digest : List ℕ → List ℕ) where
+module _ {N : Type 0} (spell : N → List ℕ) (tag : Desc (List ℕ) → List ℕ) where
   abbrev low_open : List ℕ × Pairs N → List ℕ × Pairs (List ℕ)
-  low_open c = (c.0, low_pairs spell digest c.1)
+  low_open c = (c.0, low_pairs spell tag c.1)
 
   -- what a lowered entry keeps, and whether it opens a call
   record Alike (en : Entry N) : Type 0 where
-    node : node_of (low_entry spell digest en) ≡ node_of en
-    step : step_of (low_entry spell digest en) ≡ step_of en
-    kept : kept_of (low_entry spell digest en) ≡ map (low spell digest) (kept_of en)
-    open_call : opens (low_entry spell digest en) ≡ option_map low_open (opens en)
+    node : node_of (low_entry spell tag en) ≡ node_of en
+    step : step_of (low_entry spell tag en) ≡ step_of en
+    kept : kept_of (low_entry spell tag en) ≡ map (low spell tag) (kept_of en)
+    open_call : opens (low_entry spell tag en) ≡ option_map low_open (opens en)
 
-  abbrev plain_alike : (en : Entry N) → node_of (low_entry spell digest en) ≡ node_of en → step_of (low_entry spell digest en) ≡ step_of en → kept_of (low_entry spell digest en) ≡ map (low spell digest) (kept_of en) → opens (low_entry spell digest en) ≡ option_map low_open (opens en) → Alike en
+  abbrev plain_alike : (en : Entry N) → node_of (low_entry spell tag en) ≡ node_of en → step_of (low_entry spell tag en) ≡ step_of en → kept_of (low_entry spell tag en) ≡ map (low spell tag) (kept_of en) → opens (low_entry spell tag en) ≡ option_map low_open (opens en) → Alike en
   plain_alike en n s k o = record { node = n; step = s; kept = k; open_call = o }
 
   alike : (en : Entry N) → Alike en
@@ -43,7 +43,7 @@ module _ {N : Type 0} (spell : N → List ℕ) (digest : List ℕ → List ℕ) 
   alike (index_at n k m p v ss) = plain_alike _ refl refl refl refl
   alike (arg_at n k m p g vs es ss) = plain_alike _ refl refl refl refl
   alike (call_open n k m f xs ss) = plain_alike _ refl refl refl refl
-  alike (exec_wait n ds) = plain_alike (exec_wait n ds) refl refl (ap (λ us. list us ∷ []) (refs_to_low spell digest ds)) refl
+  alike (exec_wait n ds) = plain_alike (exec_wait n ds) refl refl (ap (λ us. list us ∷ []) (refs_to_low spell tag ds)) refl
   alike (set_part n x) = plain_alike _ refl refl refl refl
   alike (add_part n x q p) = plain_alike _ refl refl refl refl
   alike (put_index n m x q p e) = plain_alike _ refl refl refl refl
@@ -59,47 +59,47 @@ module _ {N : Type 0} (spell : N → List ℕ) (digest : List ℕ → List ℕ) 
   alike (for_body n m t p x vs b) = plain_alike _ refl refl refl refl
   alike (block_at n k m b) = plain_alike _ refl refl refl refl
 
-  front_low : (t : Todo) (vs : List (Val N)) (fs : List (Frame N)) → in_front t (map (low spell digest) vs) (map (low_frame spell digest) fs) ≡ map (low_frame spell digest) (in_front t vs fs)
+  front_low : (t : Todo) (vs : List (Val N)) (fs : List (Frame N)) → in_front t (map (low spell tag) vs) (map (low_frame spell tag) fs) ≡ map (low_frame spell tag) (in_front t vs fs)
   front_low t vs [] = refl
   front_low t vs (f ∷ fs) =
-      ap (λ ks. record { fun = f.fun; vars = low_pairs spell digest f.vars; stack = ks; todo = t ∷ f.todo } ∷ map (low_frame spell digest) fs) (sym (map_join (low spell digest) vs f.stack))
+      ap (λ ks. record { fun = f.fun; vars = low_pairs spell tag f.vars; stack = ks; todo = t ∷ f.todo } ∷ map (low_frame spell tag) fs) (sym (map_join (low spell tag) vs f.stack))
 
-  frame_low : (o : Option (List ℕ × Pairs N)) (f : List ℕ) (t : Todo) (vs : List (Val N)) (same : List (Frame N)) (same' : List (Frame (List ℕ))) (above : List ℕ → List (Frame N)) (above' : List ℕ → List (Frame (List ℕ))) → same' ≡ map (low_frame spell digest) same → ((g : List ℕ) → above' g ≡ map (low_frame spell digest) (above g)) → frame_of (option_map low_open o) f t (map (low spell digest) vs) same' above' ≡ map (low_frame spell digest) (frame_of o f t vs same above)
-  frame_low None f t vs same same' above above' e g = ap (in_front t (map (low spell digest) vs)) e ∙ front_low t vs same
+  frame_low : (o : Option (List ℕ × Pairs N)) (f : List ℕ) (t : Todo) (vs : List (Val N)) (same : List (Frame N)) (same' : List (Frame (List ℕ))) (above : List ℕ → List (Frame N)) (above' : List ℕ → List (Frame (List ℕ))) → same' ≡ map (low_frame spell tag) same → ((g : List ℕ) → above' g ≡ map (low_frame spell tag) (above g)) → frame_of (option_map low_open o) f t (map (low spell tag) vs) same' above' ≡ map (low_frame spell tag) (frame_of o f t vs same above)
+  frame_low None f t vs same same' above above' e g = ap (in_front t (map (low spell tag) vs)) e ∙ front_low t vs same
   frame_low (Some c) f t vs same same' above above' e g =
-      ap (λ fs. record { fun = f; vars = low_pairs spell digest c.1; stack = map (low spell digest) vs; todo = t ∷ [] } ∷ fs) (g c.0)
+      ap (λ fs. record { fun = f; vars = low_pairs spell tag c.1; stack = map (low spell tag) vs; todo = t ∷ [] } ∷ fs) (g c.0)
 
-  pub frames_low : (fr : List (Entry N)) (f : List ℕ) (xs : Pairs N) → frames_of (map (low_entry spell digest) fr) f (low_pairs spell digest xs) ≡ map (low_frame spell digest) (frames_of fr f xs)
+  pub frames_low : (fr : List (Entry N)) (f : List ℕ) (xs : Pairs N) → frames_of (map (low_entry spell tag) fr) f (low_pairs spell tag xs) ≡ map (low_frame spell tag) (frames_of fr f xs)
   frames_low [] f xs = refl
   frames_low (en ∷ fr) f xs =
-      ap (λ o. frame_of o f (todo_of (low_entry spell digest en)) (kept_of (low_entry spell digest en)) (frames_of (map (low_entry spell digest) fr) f (low_pairs spell digest xs)) (λ g. frames_of (map (low_entry spell digest) fr) g (low_pairs spell digest xs))) (alike en).open_call
-      ∙ ap₂ (λ i j. frame_of (option_map low_open (opens en)) f (record { node = i; step = j }) (kept_of (low_entry spell digest en)) (frames_of (map (low_entry spell digest) fr) f (low_pairs spell digest xs)) (λ g. frames_of (map (low_entry spell digest) fr) g (low_pairs spell digest xs))) (alike en).node (alike en).step
-      ∙ ap (λ ks. frame_of (option_map low_open (opens en)) f (todo_of en) ks (frames_of (map (low_entry spell digest) fr) f (low_pairs spell digest xs)) (λ g. frames_of (map (low_entry spell digest) fr) g (low_pairs spell digest xs))) (alike en).kept
+      ap (λ o. frame_of o f (todo_of (low_entry spell tag en)) (kept_of (low_entry spell tag en)) (frames_of (map (low_entry spell tag) fr) f (low_pairs spell tag xs)) (λ g. frames_of (map (low_entry spell tag) fr) g (low_pairs spell tag xs))) (alike en).open_call
+      ∙ ap₂ (λ i j. frame_of (option_map low_open (opens en)) f (record { node = i; step = j }) (kept_of (low_entry spell tag en)) (frames_of (map (low_entry spell tag) fr) f (low_pairs spell tag xs)) (λ g. frames_of (map (low_entry spell tag) fr) g (low_pairs spell tag xs))) (alike en).node (alike en).step
+      ∙ ap (λ ks. frame_of (option_map low_open (opens en)) f (todo_of en) ks (frames_of (map (low_entry spell tag) fr) f (low_pairs spell tag xs)) (λ g. frames_of (map (low_entry spell tag) fr) g (low_pairs spell tag xs))) (alike en).kept
       ∙ frame_low (opens en) f (todo_of en) (kept_of en) (frames_of fr f xs) _ (λ g. frames_of fr g xs) _ (frames_low fr f xs) (λ g. frames_low fr g xs)
 
   -- the stack at a wait
-  pub stack_low : (f : List ℕ) (j : ℕ) (h : Halt N) → run_of_halt f j (low_halt spell digest h) ≡ low_run spell digest (run_of_halt f j h)
+  pub stack_low : (f : List ℕ) (j : ℕ) (h : Halt N) → run_of_halt f j (low_halt spell tag h) ≡ low_run spell tag (run_of_halt f j h)
   stack_low f j h = ap (λ fs. record { frames = fs; count = h.st.count; waits = j }) (frames_low h.forms f h.st.vars)
 
   -- ---- what a run over names does up to its next wait
 
-  pub segment_low : (r : Res N) (q : Res (List ℕ)) → Rel spell digest r q → segment q ≡ map (low_desc spell digest) (segment r)
+  pub segment_low : (r : Res N) (q : Res (List ℕ)) → Rel spell tag r q → segment q ≡ map (low_desc spell tag) (segment r)
   segment_low (Fin e st) q g = ap segment g
-  segment_low (Tell d r) q g = ap segment g.1 ∙ ap (λ ds. low_desc spell digest d ∷ ds) (segment_low r g.0 g.2)
+  segment_low (Tell d r) q g = ap segment g.1 ∙ ap (λ ds. low_desc spell tag d ∷ ds) (segment_low r g.0 g.2)
   segment_low (Ask w fr st k) q g = ap segment g.1
 
-  pub first_end_low : (r : Res N) (q : Res (List ℕ)) → Rel spell digest r q → first_end q ≡ option_map (low_stop spell digest) (first_end r)
+  pub first_end_low : (r : Res N) (q : Res (List ℕ)) → Rel spell tag r q → first_end q ≡ option_map (low_stop spell tag) (first_end r)
   first_end_low (Fin e st) q g = ap first_end g
   first_end_low (Tell d r) q g = ap first_end g.1 ∙ first_end_low r g.0 g.2
   first_end_low (Ask w fr st k) q g = ap first_end g.1
 
-  pub first_halt_low : (r : Res N) (q : Res (List ℕ)) → Rel spell digest r q → first_halt q ≡ option_map (low_halt spell digest) (first_halt r)
+  pub first_halt_low : (r : Res N) (q : Res (List ℕ)) → Rel spell tag r q → first_halt q ≡ option_map (low_halt spell tag) (first_halt r)
   first_halt_low (Fin e st) q g = ap first_halt g
   first_halt_low (Tell d r) q g = ap first_halt g.1 ∙ first_halt_low r g.0 g.2
   first_halt_low (Ask w fr st k) q g = ap first_halt g.1
 
 -- a task's run over names, where what is read as data is the same; no description has a name inside, so nothing needs spelling
-module _ (job : Job) (around : Around) (digest : List ℕ → List ℕ) (read : List ℕ → Answer (List ℕ)) (reads_alike : (b : List ℕ) → read b ≡ lower {N = ⊥} (λ n. absurd n) digest (around.reads b)) where
-  pub job_low : (f : List ℕ) (vs : Vals ⊥) → Rel (λ n. absurd n) digest (run_of job around f vs) (body_at (names_world digest job.script read) bodies f (low_vals (λ n. absurd n) digest vs) nowhere start_st)
+module _ (job : Job) (around : Around) (tag : Desc (List ℕ) → List ℕ) (read : List ℕ → Answer (List ℕ)) (reads_alike : (b : List ℕ) → read b ≡ lower {N = ⊥} (λ n. absurd n) tag (around.reads b)) where
+  pub job_low : (f : List ℕ) (vs : Vals ⊥) → Rel (λ n. absurd n) tag (run_of job around f vs) (body_at (names_world tag job.script read) bodies f (low_vals (λ n. absurd n) tag vs) nowhere start_st)
   job_low f vs =
-      rel_call (λ n. absurd n) digest (world_of job.script around) (named_as digest) read (λ d. ap known (name_low (λ n. absurd n) digest d)) reads_alike bodies f vs nowhere start_st
+      rel_call (λ n. absurd n) tag (world_of job.script around) (named_as tag) read (λ d. ap known (name_low (λ n. absurd n) tag d)) reads_alike bodies f vs nowhere start_st

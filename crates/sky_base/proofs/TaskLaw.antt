@@ -41,22 +41,22 @@ module _ (job : Job) (around : Around) where
     pub task_makes : segment_from see (suc j) (run_of job around f vs) ≡ segment onward
     task_makes = makes_on (world_of job.script around) others see (run_of job around f vs) 0 j h os (task_good f vs) at seen
 
-    module _ (digest : List ℕ → List ℕ) (read : List ℕ → Answer (List ℕ)) (reads_alike : (b : List ℕ) → read b ≡ lower {N = ⊥} (λ n. absurd n) digest (around.reads b)) where
+    module _ (tag : Desc (List ℕ) → List ℕ) (read : List ℕ → Answer (List ℕ)) (reads_alike : (b : List ℕ) → read b ≡ lower {N = ⊥} (λ n. absurd n) tag (around.reads b)) where
       -- the rest of the task over names: from the lowered forms and the lowered objects
       abbrev pub onward_low : Res (List ℕ)
       onward_low =
-          rest_of (names_world digest job.script read) others (low_halt (λ n. absurd n) digest h) (map (low_obj (λ n. absurd n) digest) os)
+          rest_of (names_world tag job.script read) others (low_halt (λ n. absurd n) tag h) (map (low_obj (λ n. absurd n) tag) os)
 
-      pub rest_low : Rel (λ n. absurd n) digest onward onward_low
+      pub rest_low : Rel (λ n. absurd n) tag onward onward_low
       rest_low =
-          rel_rest (λ n. absurd n) digest (world_of job.script around) (named_as digest) read (λ d. ap known (name_low (λ n. absurd n) digest d)) reads_alike others h.wait h.forms h.st os
+          rel_rest (λ n. absurd n) tag (world_of job.script around) (named_as tag) read (λ d. ap known (name_low (λ n. absurd n) tag d)) reads_alike others h.wait h.forms h.st os
 
       -- what the step machine is to do where no names clash
-      pub resume_halts : first_halt onward_low ≡ option_map (low_halt (λ n. absurd n) digest) (halt see (suc j) (run_of job around f vs))
-      resume_halts = first_halt_low (λ n. absurd n) digest onward onward_low rest_low ∙ ap (option_map (low_halt (λ n. absurd n) digest)) (sym task_halts)
+      pub resume_halts : first_halt onward_low ≡ option_map (low_halt (λ n. absurd n) tag) (halt see (suc j) (run_of job around f vs))
+      resume_halts = first_halt_low (λ n. absurd n) tag onward onward_low rest_low ∙ ap (option_map (low_halt (λ n. absurd n) tag)) (sym task_halts)
 
-      pub resume_makes : segment onward_low ≡ map (low_desc (λ n. absurd n) digest) (segment_from see (suc j) (run_of job around f vs))
-      resume_makes = segment_low (λ n. absurd n) digest onward onward_low rest_low ∙ ap (map (low_desc (λ n. absurd n) digest)) (sym task_makes)
+      pub resume_makes : segment onward_low ≡ map (low_desc (λ n. absurd n) tag) (segment_from see (suc j) (run_of job around f vs))
+      resume_makes = segment_low (λ n. absurd n) tag onward onward_low rest_low ∙ ap (map (low_desc (λ n. absurd n) tag)) (sym task_makes)
 
-      pub resume_ends : first_end onward_low ≡ option_map (low_stop (λ n. absurd n) digest) (first_end onward)
-      resume_ends = first_end_low (λ n. absurd n) digest onward onward_low rest_low
+      pub resume_ends : first_end onward_low ≡ option_map (low_stop (λ n. absurd n) tag) (first_end onward)
+      resume_ends = first_end_low (λ n. absurd n) tag onward onward_low rest_low

@@ -8,28 +8,28 @@ use Rattle.sky_base.specs.Tree.{Script}
 use Rattle.sky_base.specs.Eval.{World}
 use Rattle.sky_base.specs.Read.{Halt, Frame, Run}
 
-module _ {N : Type 0} (spell : N → List ℕ) (digest : List ℕ → List ℕ) where
+module _ {N : Type 0} (spell : N → List ℕ) (tag : Desc (List ℕ) → List ℕ) where
   -- what a reference to a description holds when it is lowered
   abbrev pub low_ref : Desc N → Desc (List ℕ)
-  low_ref d = known (name spell digest d)
+  low_ref d = known (name spell tag d)
 
   abbrev pub lower : Answer N → Answer (List ℕ)
-  lower (Ok v) = Ok (low spell digest v)
+  lower (Ok v) = Ok (low spell tag v)
   lower (Err k) = Err k
 
   abbrev pub low_obj : Object N → Object (List ℕ)
   low_obj (Object.bytes b) = Object.bytes b
-  low_obj (Object.data_of v) = Object.data_of (low spell digest v)
+  low_obj (Object.data_of v) = Object.data_of (low spell tag v)
   low_obj (Object.fault f) = Object.fault f
 
   abbrev pub low_end : End N → End (List ℕ)
   low_end End.goes = End.goes
-  low_end (End.got v) = End.got (low spell digest v)
-  low_end (End.returned v) = End.returned (low spell digest v)
+  low_end (End.got v) = End.got (low spell tag v)
+  low_end (End.returned v) = End.returned (low spell tag v)
   low_end (End.failed f) = End.failed f
 
   abbrev pub low_st : St N → St (List ℕ)
-  low_st st = record { vars = low_pairs spell digest st.vars; count = st.count }
+  low_st st = record { vars = low_pairs spell tag st.vars; count = st.count }
 
   abbrev pub low_wait : Wait N → Wait (List ℕ)
   low_wait (one_of p d) = one_of p (low_ref d)
@@ -37,21 +37,21 @@ module _ {N : Type 0} (spell : N → List ℕ) (digest : List ℕ → List ℕ) 
 
   abbrev pub low_entry : Entry N → Entry (List ℕ)
   low_entry (parens_in n) = parens_in n
-  low_entry (part_at n k m o p vs es) = part_at n k m o p (map (low spell digest) vs) es
+  low_entry (part_at n k m o p vs es) = part_at n k m o p (map (low spell tag) vs) es
   low_entry (chain_first n m ls) = chain_first n m ls
-  low_entry (chain_more n k m o p v ls) = chain_more n k m o p (low spell digest v) ls
+  low_entry (chain_more n k m o p v ls) = chain_more n k m o p (low spell tag v) ls
   low_entry (logic_at n k m j p ls) = logic_at n k m j p ls
   low_entry (prefix_part n ss) = prefix_part n ss
   low_entry (star_wait n k d ss) = star_wait n k (low_ref d) ss
   low_entry (postfix_first n m ss) = postfix_first n m ss
-  low_entry (index_at n k m p v ss) = index_at n k m p (low spell digest v) ss
-  low_entry (arg_at n k m p f vs es ss) = arg_at n k m p (low spell digest f) (map (low spell digest) vs) es ss
-  low_entry (call_open n k m f xs ss) = call_open n k m f (low_pairs spell digest xs) ss
+  low_entry (index_at n k m p v ss) = index_at n k m p (low spell tag v) ss
+  low_entry (arg_at n k m p f vs es ss) = arg_at n k m p (low spell tag f) (map (low spell tag) vs) es ss
+  low_entry (call_open n k m f xs ss) = call_open n k m f (low_pairs spell tag xs) ss
   low_entry (exec_wait n ds) = exec_wait n (map low_ref ds)
   low_entry (set_part n x) = set_part n x
   low_entry (add_part n x q p) = add_part n x q p
   low_entry (put_index n m x q p e) = put_index n m x q p e
-  low_entry (put_value n x q p v) = put_value n x q p (low spell digest v)
+  low_entry (put_value n x q p v) = put_value n x q p (low spell tag v)
   low_entry (return_part n) = return_part n
   low_entry (just_part n) = just_part n
   low_entry (arm_test n k m i p b arms els) = arm_test n k m i p b arms els
@@ -60,12 +60,12 @@ module _ {N : Type 0} (spell : N → List ℕ) (digest : List ℕ → List ℕ) 
   low_entry (repeat_body n m p b e) = repeat_body n m p b e
   low_entry (repeat_test n m p b e) = repeat_test n m p b e
   low_entry (for_list n m p x b) = for_list n m p x b
-  low_entry (for_body n m t p x vs b) = for_body n m t p x (low_vals spell digest vs) b
+  low_entry (for_body n m t p x vs b) = for_body n m t p x (low_vals spell tag vs) b
   low_entry (block_at n k m b) = block_at n k m b
 
   abbrev pub low_frame : Frame N → Frame (List ℕ)
   low_frame f =
-      record { fun = f.fun; vars = low_pairs spell digest f.vars; stack = map (low spell digest) f.stack; todo = f.todo }
+      record { fun = f.fun; vars = low_pairs spell tag f.vars; stack = map (low spell tag) f.stack; todo = f.todo }
 
   abbrev pub low_run : Run N → Run (List ℕ)
   low_run r = record { frames = map low_frame r.frames; count = r.count; waits = r.waits }
@@ -78,9 +78,9 @@ module _ {N : Type 0} (spell : N → List ℕ) (digest : List ℕ → List ℕ) 
   low_stop e = (low_end e.0, low_st e.1)
 
 -- a script over names: a reference to a new description holds its name
-module _ (digest : List ℕ → List ℕ) where
+module _ (tag : Desc (List ℕ) → List ℕ) where
   abbrev pub named_as : Desc (List ℕ) → Desc (List ℕ)
-  named_as d = known (name (λ n. n) digest d)
+  named_as d = known (name (λ n. n) tag d)
 
   abbrev pub names_world : Script → (List ℕ → Answer (List ℕ)) → World (List ℕ)
   names_world script read = record { make = named_as; reads = read; script = script }

@@ -14,39 +14,8 @@ bytes_of_int (negsuc n) = big_endian 8 (2 ^ 64 - suc n)
 abbrev pub bytes_of_text : List ℕ → List ℕ
 bytes_of_text t = big_endian 4 (length t) ++ t
 
-module _ {N : Type 0} (spell : N → List ℕ) (digest : List ℕ → List ℕ) where
-  abbrev mutual
-    pub bytes : (Val N) → List ℕ
-    bytes null = 0 ∷ []
-    bytes (truth false) = 1 ∷ []
-    bytes (truth true) = 2 ∷ []
-    bytes (num z) = 3 ∷ bytes_of_int z
-    bytes (text t) = 4 ∷ bytes_of_text t
-    bytes (list vs) = 5 ∷ (big_endian 4 (count vs) ++ vals_bytes vs)
-    bytes (dict ps) = 6 ∷ (big_endian 4 (pair_count ps) ++ pairs_bytes ps)
-    bytes (fun f) = 7 ∷ bytes_of_text f
-    bytes (ref d) = 8 ∷ name d
-
-    pub vals_bytes : (Vals N) → List ℕ
-    vals_bytes no_vals = []
-    vals_bytes (val v vs) = bytes v ++ vals_bytes vs
-
-    pub pairs_bytes : (Pairs N) → List ℕ
-    pairs_bytes no_pairs = []
-    pairs_bytes (pair k v ps) = bytes_of_text k ++ (bytes v ++ pairs_bytes ps)
-
-    pub name : (Desc N) → List ℕ
-    name (call f vs) = digest (67 ∷ (bytes_of_text f ++ (big_endian 4 (count vs) ++ vals_bytes vs)))
-    name (out x v n i) = digest (69 ∷ (bytes_of_text x ++ (bytes v ++ (big_endian 4 n ++ big_endian 4 i))))
-    name (input k) = digest (73 ∷ bytes_of_text k)
-    name (known n) = spell n
-
-  abbrev pub canon : (Desc N) → List ℕ
-  canon (call f vs) = 67 ∷ (bytes_of_text f ++ (big_endian 4 (count vs) ++ vals_bytes vs))
-  canon (out x v n i) = 69 ∷ (bytes_of_text x ++ (bytes v ++ (big_endian 4 n ++ big_endian 4 i)))
-  canon (input k) = 73 ∷ bytes_of_text k
-  canon (known n) = []
-
+-- a value, and a description, in which each description is replaced by its name; `tag` names a description in which that was done
+module _ {N : Type 0} (spell : N → List ℕ) (tag : Desc (List ℕ) → List ℕ) where
   abbrev mutual
     pub low : Val N → Val (List ℕ)
     low null = null
@@ -66,8 +35,51 @@ module _ {N : Type 0} (spell : N → List ℕ) (digest : List ℕ → List ℕ) 
     low_pairs no_pairs = no_pairs
     low_pairs (pair k v ps) = pair k (low v) (low_pairs ps)
 
+    pub name : Desc N → List ℕ
+    name (call f vs) = tag (call f (low_vals vs))
+    name (out x v n i) = tag (out x (low v) n i)
+    name (input k) = tag (input k)
+    name (known n) = spell n
+
   abbrev pub low_desc : Desc N → Desc (List ℕ)
   low_desc (call f vs) = call f (low_vals vs)
   low_desc (out x v n i) = out x (low v) n i
   low_desc (input k) = input k
   low_desc (known n) = known (spell n)
+
+-- ---- bytes over names
+
+abbrev pub held_name : Desc (List ℕ) → List ℕ
+held_name (known n) = n
+held_name d = []
+
+abbrev mutual
+  pub bytes : Val (List ℕ) → List ℕ
+  bytes null = 0 ∷ []
+  bytes (truth false) = 1 ∷ []
+  bytes (truth true) = 2 ∷ []
+  bytes (num z) = 3 ∷ bytes_of_int z
+  bytes (text t) = 4 ∷ bytes_of_text t
+  bytes (list vs) = 5 ∷ (big_endian 4 (count vs) ++ vals_bytes vs)
+  bytes (dict ps) = 6 ∷ (big_endian 4 (pair_count ps) ++ pairs_bytes ps)
+  bytes (fun f) = 7 ∷ bytes_of_text f
+  bytes (ref d) = 8 ∷ held_name d
+
+  pub vals_bytes : Vals (List ℕ) → List ℕ
+  vals_bytes no_vals = []
+  vals_bytes (val v vs) = bytes v ++ vals_bytes vs
+
+  pub pairs_bytes : Pairs (List ℕ) → List ℕ
+  pairs_bytes no_pairs = []
+  pairs_bytes (pair k v ps) = bytes_of_text k ++ (bytes v ++ pairs_bytes ps)
+
+-- the canonical bytes of a description, one level deep
+abbrev pub canon : Desc (List ℕ) → List ℕ
+canon (call f vs) = 67 ∷ (bytes_of_text f ++ (big_endian 4 (count vs) ++ vals_bytes vs))
+canon (out x v n i) = 69 ∷ (bytes_of_text x ++ (bytes v ++ (big_endian 4 n ++ big_endian 4 i)))
+canon (input k) = 73 ∷ bytes_of_text k
+canon (known n) = []
+
+-- the name of a description is a digest of its canonical bytes
+abbrev pub digested : (List ℕ → List ℕ) → Desc (List ℕ) → List ℕ
+digested digest d = digest (canon d)

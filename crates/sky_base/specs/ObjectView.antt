@@ -19,9 +19,9 @@ object_view (Object.Bytes b) = logic.Object.bytes b
 object_view (Object.Data v) = logic.Object.data_of (view v)
 object_view (Object.Fault f) = logic.Object.fault f
 
--- whether an identity stands for a task, where names are made by this digest
-abbrev pub StandsForTask : (List ℕ → List ℕ) → TaskId → Task → Type 0
-StandsForTask digest TaskId.Show Task.show = Unit {0}
-StandsForTask digest TaskId.Show (Task.of d) = ⊥
-StandsForTask digest (TaskId.Of n) Task.show = ⊥
-StandsForTask digest (TaskId.Of n) (Task.of d) = n.bytes ≡ name (λ b. absurd b) digest d
+-- whether an identity stands for a task, where names are made by this tag
+abbrev pub StandsForTask : (Desc (List ℕ) → List ℕ) → TaskId → Task → Type 0
+StandsForTask tag TaskId.Show Task.show = Unit {0}
+StandsForTask tag TaskId.Show (Task.of d) = ⊥
+StandsForTask tag (TaskId.Of n) Task.show = ⊥
+StandsForTask tag (TaskId.Of n) (Task.of d) = n.bytes ≡ name (λ b. absurd b) tag d
