@@ -303,12 +303,12 @@ module _ (sc : Script) where
       (record { deep = omega arith; large = omega arith }, (record { deep = omega arith; large = omega arith }, tt, inl refl))
 
 module _ (job : Job) (around : Around) (reads : SoundReads job.script around) where
-  read_ok : (o : Answer ⊥) → SoundRead job.script o → SoundAnswer ⊥ job.script o
+  read_ok : (o : Answer ⊥) → SoundRead job.script o → SoundAnswer ⊥ (λ b. Unit {0}) job.script o
   read_ok (Ok u) h = h
   read_ok (Err k) h = tt
 
   closed : Closed (world_of job.script around) (Sound job.script) (SoundDesc job.script)
-  closed = sound_closed ⊥ job.script (world_of job.script around) (λ f i. i) (λ b. read_ok (around.reads b) (reads b)) (λ d h. h)
+  closed = sound_closed ⊥ (λ b. Unit {0}) job.script (world_of job.script around) (λ f i. i) (λ b. read_ok (around.reads b) (reads b)) (λ d h. h)
 
   run_fine : (f : List ℕ) (vs : Vals) → SoundDesc job.script (call f vs) → Fine (world_of job.script around) (Sound job.script) (SoundDesc job.script) others (run_of job around f vs)
   run_fine f vs h =

@@ -8,40 +8,40 @@ use Rattle.sky_base.specs.Val.{Val, Vals, Pairs, Desc, null, truth, num, text, l
 use Rattle.sky_base.specs.Op.{Answer, if_fits, fits, checked, unless, limited, join, plus, minus, times, over, over_num, rest, rest_num, val_at, find, put, or_else, index, put_val, limited_list, set_at, equal_if, ordered, compare, Order, negated, opposite, len, all_keys, keys, has, numbers, range_if, range, span, grown, with_key, dict_from}
 use Rattle.sky_base.specs.Tree.{Lit, Oper, Script}
 use Rattle.sky_base.specs.Eval.{World, lit_val, oper}
-use Rattle.sky_base.specs.Sound.{IsFun, RefsSound, ValsSound, PairsSound, SoundDesc, Sound}
+use Rattle.sky_base.specs.Sound.{IsFun, RefsOver, ValsOver, PairsOver, DescOver, SoundOver}
 use Rattle.sky_base.specs.Tasks.{Each}
 use Rattle.sky_base.proofs.FineLaw.{Closed}
 
-module _ (N : Type 0) (sc : Script) where
+module _ (N : Type 0) (K : N → Type 0) (sc : Script) where
   -- what an operator gives is sound
   abbrev pub SoundAnswer : Answer N → Type 0
-  SoundAnswer (Ok v) = Sound sc v
+  SoundAnswer (Ok v) = SoundOver K sc v
   SoundAnswer (Err k) = Unit {0}
 
   abbrev pub SoundOption : Option (Val N) → Type 0
   SoundOption None = Unit {0}
-  SoundOption (Some v) = Sound sc v
+  SoundOption (Some v) = SoundOver K sc v
 
   abbrev SoundVals : Vals N → Type 0
   SoundVals no_vals = Unit {0}
-  SoundVals (val v vs) = Sound sc v × SoundVals vs
+  SoundVals (val v vs) = SoundOver K sc v × SoundVals vs
 
   -- a value of size and depth 1
-  sound_one : (v : Val N) → depth v ≡ 1 → size v ≡ 1 → RefsSound sc v → Sound sc v
+  sound_one : (v : Val N) → depth v ≡ 1 → size v ≡ 1 → RefsOver K sc v → SoundOver K sc v
   sound_one v d s r = (record { deep = omega arith; large = omega arith }, r)
 
-  sound_num : (z : ℤ) → Sound {N = N} sc (num z)
+  sound_num : (z : ℤ) → SoundOver {N = N} K sc (num z)
   sound_num z = sound_one (num z) refl refl tt
 
-  sound_truth : (b : Bool) → Sound {N = N} sc (truth b)
+  sound_truth : (b : Bool) → SoundOver {N = N} K sc (truth b)
   sound_truth b = sound_one (truth b) refl refl tt
 
-  sound_null : Sound {N = N} sc null
+  sound_null : SoundOver {N = N} K sc null
   sound_null = sound_one null refl refl tt
 
   -- ---- what is tested against the limits
 
-  limited_ok : (v : Val N) → RefsSound sc v → SoundAnswer (limited v)
+  limited_ok : (v : Val N) → RefsOver K sc v → SoundAnswer (limited v)
   limited_ok v r = go (nat_lt 100 (depth v)) (nat_lt 262144 (size v)) refl refl
     where
       go : (a b : Bool) → nat_lt 100 (depth v) ≡ a → nat_lt 262144 (size v) ≡ b → SoundAnswer (unless a b v)
@@ -61,12 +61,12 @@ module _ (N : Type 0) (sc : Script) where
 
   -- ---- parts of values
 
-  vals_inside : (vs : Vals N) → depths vs ≤ 100 → sizes vs ≤ 262144 → ValsSound sc vs → SoundVals vs
+  vals_inside : (vs : Vals N) → depths vs ≤ 100 → sizes vs ≤ 262144 → ValsOver K sc vs → SoundVals vs
   vals_inside no_vals d s r = tt
   vals_inside (val v vs) d s r =
       ((record { deep = omega arith; large = omega arith }, r.0), vals_inside vs (omega arith) (omega arith) r.1)
 
-  list_inside : (vs : Vals N) → Sound sc (list vs) → SoundVals vs
+  list_inside : (vs : Vals N) → SoundOver K sc (list vs) → SoundVals vs
   list_inside vs h =
       let d : 1 + depths vs ≤ 100 = h.0.deep in
       let s : 1 + sizes vs ≤ 262144 = h.0.large in
@@ -77,12 +77,12 @@ module _ (N : Type 0) (sc : Script) where
   val_at_ok (val v vs) zero h = h.0
   val_at_ok (val v vs) (suc i) h = val_at_ok vs i h.1
 
-  find_inside : (k : List ℕ) (ps : Pairs N) → pair_depths ps ≤ 100 → pair_sizes ps ≤ 262144 → PairsSound sc ps → SoundOption (find k ps)
+  find_inside : (k : List ℕ) (ps : Pairs N) → pair_depths ps ≤ 100 → pair_sizes ps ≤ 262144 → PairsOver K sc ps → SoundOption (find k ps)
   find_inside k no_pairs d s r = tt
   find_inside k (pair l v ps) d s r =
       go (slice_cmp nat_cmp k l) (record { deep = omega arith; large = omega arith }, r.0) (find_inside k ps (omega arith) (omega arith) r.1)
     where
-      go : (o : Ordering) → Sound sc v → SoundOption (find k ps) → SoundOption (match_ordering o None (Some v) (find k ps))
+      go : (o : Ordering) → SoundOver K sc v → SoundOption (find k ps) → SoundOption (match_ordering o None (Some v) (find k ps))
       go Ordering.Less h i = tt
       go Ordering.Equal h i = h
       go Ordering.Greater h i = i
@@ -91,28 +91,28 @@ module _ (N : Type 0) (sc : Script) where
   or_else_ok None k h = tt
   or_else_ok (Some v) k h = h
 
-  join_refs : (vs ws : Vals N) → ValsSound sc vs → ValsSound sc ws → ValsSound sc (join vs ws)
+  join_refs : (vs ws : Vals N) → ValsOver K sc vs → ValsOver K sc ws → ValsOver K sc (join vs ws)
   join_refs no_vals ws h i = i
   join_refs (val v vs) ws h i = (h.0, join_refs vs ws h.1 i)
 
-  add_refs : (vs : Vals N) (e : Val N) → ValsSound sc vs → RefsSound sc e → ValsSound sc (add_val vs e)
+  add_refs : (vs : Vals N) (e : Val N) → ValsOver K sc vs → RefsOver K sc e → ValsOver K sc (add_val vs e)
   add_refs no_vals e h i = (i, tt)
   add_refs (val v vs) e h i = (h.0, add_refs vs e h.1 i)
 
-  put_refs : (k : List ℕ) (v : Val N) (ps : Pairs N) → RefsSound sc v → PairsSound sc ps → PairsSound sc (put k v ps)
+  put_refs : (k : List ℕ) (v : Val N) (ps : Pairs N) → RefsOver K sc v → PairsOver K sc ps → PairsOver K sc (put k v ps)
   put_refs k v no_pairs h i = (h, tt)
   put_refs k v (pair l u ps) h i = go (slice_cmp nat_cmp k l) (put_refs k v ps h i.1)
     where
-      go : (o : Ordering) → PairsSound sc (put k v ps) → PairsSound sc (match_ordering o (pair k v (pair l u ps)) (pair l v ps) (pair l u (put k v ps)))
+      go : (o : Ordering) → PairsOver K sc (put k v ps) → PairsOver K sc (match_ordering o (pair k v (pair l u ps)) (pair l v ps) (pair l u (put k v ps)))
       go Ordering.Less j = (h, i)
       go Ordering.Equal j = (h, i.1)
       go Ordering.Greater j = (i.0, j)
 
   abbrev SomeRefs : Option (Vals N) → Type 0
   SomeRefs None = Unit {0}
-  SomeRefs (Some vs) = ValsSound sc vs
+  SomeRefs (Some vs) = ValsOver K sc vs
 
-  put_val_refs : (vs : Vals N) (i : ℕ) (e : Val N) → ValsSound sc vs → RefsSound sc e → SomeRefs (put_val vs i e)
+  put_val_refs : (vs : Vals N) (i : ℕ) (e : Val N) → ValsOver K sc vs → RefsOver K sc e → SomeRefs (put_val vs i e)
   put_val_refs no_vals i e h r = tt
   put_val_refs (val v vs) zero e h r = (r, h.1)
   put_val_refs (val v vs) (suc i) e h r = go (put_val vs i e) (put_val_refs vs i e h.1 r)
@@ -127,7 +127,7 @@ module _ (N : Type 0) (sc : Script) where
 
   -- ---- operators
 
-  plus_ok : (a b : Val N) → RefsSound sc a → RefsSound sc b → SoundAnswer (plus a b)
+  plus_ok : (a b : Val N) → RefsOver K sc a → RefsOver K sc b → SoundAnswer (plus a b)
   plus_ok (num a) (num b) h i = checked_ok (a +ℤ b)
   plus_ok (num a) null h i = tt
   plus_ok (num a) (truth b) h i = tt
@@ -290,7 +290,7 @@ module _ (N : Type 0) (sc : Script) where
   compare_ok Order.gt v w = ordered_ok is_gt v w
   compare_ok Order.ge v w = ordered_ok is_ge v w
 
-  pub oper_sound : (o : Oper) (a b : Val N) → Sound sc a → Sound sc b → SoundAnswer (oper o a b)
+  pub oper_sound : (o : Oper) (a b : Val N) → SoundOver K sc a → SoundOver K sc b → SoundAnswer (oper o a b)
   oper_sound Oper.plus a b h i = plus_ok a b h.1 i.1
   oper_sound Oper.minus a b h i = minus_ok a b
   oper_sound Oper.times a b h i = times_ok a b
@@ -309,7 +309,7 @@ module _ (N : Type 0) (sc : Script) where
   list_index vs (fun f) h = tt
   list_index vs (ref d) h = tt
 
-  dict_index : (ps : Pairs N) (i : Val N) → Sound sc (dict ps) → SoundAnswer (index (dict ps) i)
+  dict_index : (ps : Pairs N) (i : Val N) → SoundOver K sc (dict ps) → SoundAnswer (index (dict ps) i)
   dict_index ps (text k) h =
       let d : 1 + pair_depths ps ≤ 100 = h.0.deep in
       let s : 1 + pair_sizes ps ≤ 262144 = h.0.large in
@@ -322,7 +322,7 @@ module _ (N : Type 0) (sc : Script) where
   dict_index ps (fun f) h = tt
   dict_index ps (ref d) h = tt
 
-  pub index_sound : (v i : Val N) → Sound sc v → SoundAnswer (index v i)
+  pub index_sound : (v i : Val N) → SoundOver K sc v → SoundAnswer (index v i)
   index_sound (list vs) i h = list_index vs i (list_inside vs h)
   index_sound (dict ps) i h = dict_index ps i h
   index_sound null i h = tt
@@ -332,7 +332,7 @@ module _ (N : Type 0) (sc : Script) where
   index_sound (fun f) i h = tt
   index_sound (ref d) i h = tt
 
-  list_set : (vs : Vals N) (i e : Val N) → ValsSound sc vs → RefsSound sc e → SoundAnswer (set_at (list vs) i e)
+  list_set : (vs : Vals N) (i e : Val N) → ValsOver K sc vs → RefsOver K sc e → SoundAnswer (set_at (list vs) i e)
   list_set vs (num (pos i)) e h r = limited_list_ok (put_val vs i e) (put_val_refs vs i e h r)
   list_set vs (num (negsuc i)) e h r = tt
   list_set vs null e h r = tt
@@ -343,7 +343,7 @@ module _ (N : Type 0) (sc : Script) where
   list_set vs (fun f) e h r = tt
   list_set vs (ref d) e h r = tt
 
-  dict_set : (ps : Pairs N) (i e : Val N) → PairsSound sc ps → RefsSound sc e → SoundAnswer (set_at (dict ps) i e)
+  dict_set : (ps : Pairs N) (i e : Val N) → PairsOver K sc ps → RefsOver K sc e → SoundAnswer (set_at (dict ps) i e)
   dict_set ps (text k) e h r = limited_ok (dict (put k e ps)) (put_refs k e ps r h)
   dict_set ps null e h r = tt
   dict_set ps (truth b) e h r = tt
@@ -353,7 +353,7 @@ module _ (N : Type 0) (sc : Script) where
   dict_set ps (fun f) e h r = tt
   dict_set ps (ref d) e h r = tt
 
-  pub set_at_sound : (v i e : Val N) → Sound sc v → Sound sc e → SoundAnswer (set_at v i e)
+  pub set_at_sound : (v i e : Val N) → SoundOver K sc v → SoundOver K sc e → SoundAnswer (set_at v i e)
   set_at_sound (list vs) i e h r = list_set vs i e h.1 r.1
   set_at_sound (dict ps) i e h r = dict_set ps i e h.1 r.1
   set_at_sound null i e h r = tt
@@ -363,7 +363,7 @@ module _ (N : Type 0) (sc : Script) where
   set_at_sound (fun f) i e h r = tt
   set_at_sound (ref d) i e h r = tt
 
-  pub grown_sound : (v e : Val N) → Sound sc v → Sound sc e → SoundAnswer (grown v e)
+  pub grown_sound : (v e : Val N) → SoundOver K sc v → SoundOver K sc e → SoundAnswer (grown v e)
   grown_sound (list vs) e h r = limited_ok (list (add_val vs e)) (add_refs vs e h.1 r.1)
   grown_sound null e h r = tt
   grown_sound (truth b) e h r = tt
@@ -403,7 +403,7 @@ module _ (N : Type 0) (sc : Script) where
   len_sound (fun f) = tt
   len_sound (ref d) = tt
 
-  keys_refs : (ps : Pairs N) → ValsSound sc (all_keys ps)
+  keys_refs : (ps : Pairs N) → ValsOver K sc (all_keys ps)
   keys_refs no_pairs = tt
   keys_refs (pair k v ps) = (tt, keys_refs ps)
 
@@ -445,7 +445,7 @@ module _ (N : Type 0) (sc : Script) where
   depths_numbers zero a = omega arith
   depths_numbers (suc n) a = omega (arith, depths_numbers n (a +ℤ pos 1))
 
-  numbers_refs : (n : ℕ) (a : ℤ) → ValsSound sc (numbers {N = N} n a)
+  numbers_refs : (n : ℕ) (a : ℤ) → ValsOver K sc (numbers {N = N} n a)
   numbers_refs zero a = tt
   numbers_refs (suc n) a = (tt, numbers_refs n (a +ℤ pos 1))
 
@@ -480,14 +480,14 @@ module _ (N : Type 0) (sc : Script) where
 
   -- ---- forms of parts
 
-  parts_refs : (vs : List (Val N)) → Each (Sound sc) vs → ValsSound sc (vals_of vs)
+  parts_refs : (vs : List (Val N)) → Each (SoundOver K sc) vs → ValsOver K sc (vals_of vs)
   parts_refs [] h = tt
   parts_refs (v ∷ vs) h = (h.0.1, parts_refs vs h.1)
 
-  list_sound : (vs : List (Val N)) → Each (Sound sc) vs → SoundAnswer (limited (list (vals_of vs)))
+  list_sound : (vs : List (Val N)) → Each (SoundOver K sc) vs → SoundAnswer (limited (list (vals_of vs)))
   list_sound vs h = limited_ok (list (vals_of vs)) (parts_refs vs h)
 
-  with_key_ok : (k v : Val N) (ps : Pairs N) (go : Pairs N → Answer N) → PairsSound sc ps → RefsSound sc v → ((qs : Pairs N) → PairsSound sc qs → SoundAnswer (go qs)) → SoundAnswer (with_key k v ps go)
+  with_key_ok : (k v : Val N) (ps : Pairs N) (go : Pairs N → Answer N) → PairsOver K sc ps → RefsOver K sc v → ((qs : Pairs N) → PairsOver K sc qs → SoundAnswer (go qs)) → SoundAnswer (with_key k v ps go)
   with_key_ok (text k) v ps go h r g = g (put k v ps) (put_refs k v ps r h)
   with_key_ok null v ps go h r g = tt
   with_key_ok (truth b) v ps go h r g = tt
@@ -497,7 +497,7 @@ module _ (N : Type 0) (sc : Script) where
   with_key_ok (fun f) v ps go h r g = tt
   with_key_ok (ref d) v ps go h r g = tt
 
-  dict_sound : (vs : List (Val N)) (ps : Pairs N) → Each (Sound sc) vs → PairsSound sc ps → SoundAnswer (dict_from vs ps)
+  dict_sound : (vs : List (Val N)) (ps : Pairs N) → Each (SoundOver K sc) vs → PairsOver K sc ps → SoundAnswer (dict_from vs ps)
   dict_sound [] ps h r = limited_ok (dict ps) r
   dict_sound (k ∷ []) ps h r = tt
   dict_sound (k ∷ v ∷ vs) ps h r = with_key_ok k v ps _ r h.1.0.1 (λ qs i. dict_sound vs qs h.1.1 i)
@@ -518,19 +518,19 @@ module _ (N : Type 0) (sc : Script) where
   depths_refs [] = omega arith
   depths_refs (d ∷ ds) = omega (arith, depths_refs ds)
 
-  refs_refs : (ds : List (Desc N)) → Each (λ d. (Sound sc) (ref d)) ds → ValsSound sc (refs_to ds)
+  refs_refs : (ds : List (Desc N)) → Each (λ d. (SoundOver K sc) (ref d)) ds → ValsOver K sc (refs_to ds)
   refs_refs [] h = tt
   refs_refs (d ∷ ds) h = (h.0.1, refs_refs ds h.1)
 
-  refs_sound : (ds : List (Desc N)) → length ds ≤ 64 → Each (λ d. (Sound sc) (ref d)) ds → Sound sc (list (refs_to ds))
+  refs_sound : (ds : List (Desc N)) → length ds ≤ 64 → Each (λ d. (SoundOver K sc) (ref d)) ds → SoundOver K sc (list (refs_to ds))
   refs_sound ds le h =
       (record { deep = omega (arith, depths_refs ds); large = omega (arith, sizes_refs ds) }, refs_refs ds h)
 
-  ref_sound : (d : Desc N) → SoundDesc sc d → Sound sc (ref d)
+  ref_sound : (d : Desc N) → DescOver K sc d → SoundOver K sc (ref d)
   ref_sound d h = (record { deep = omega arith; large = omega arith }, h)
 
   -- what the operators give is sound, where what is read and what a reference holds is
-  pub sound_closed : (w : World N) → ((f : List ℕ) → IsFun w.script f → IsFun sc f) → ((b : List ℕ) → SoundAnswer (w.reads b)) → ((d : Desc N) → SoundDesc sc d → SoundDesc sc (w.make d)) → Closed w (Sound sc) (SoundDesc sc)
+  pub sound_closed : (w : World N) → ((f : List ℕ) → IsFun w.script f → IsFun sc f) → ((b : List ℕ) → SoundAnswer (w.reads b)) → ((d : Desc N) → DescOver K sc d → DescOver K sc (w.make d)) → Closed w (SoundOver K sc) (DescOver K sc)
   sound_closed w named reads make =
       record {
         null_ok = sound_null;

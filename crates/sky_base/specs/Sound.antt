@@ -15,38 +15,56 @@ use Rattle.sky_base.specs.Kept.{Kept}
 abbrev pub IsFun : Script → List ℕ → Type 0
 IsFun sc f = IsSome (find_fun f sc.funs)
 
-module _ {N : Type 0} (sc : Script) where
+-- K says which names may stand inside
+module _ {N : Type 0} (K : N → Type 0) (sc : Script) where
   -- each function in a value is of the script, and each description that it refers to is sound; one is sound where its
   -- arguments keep the limits and are so too, a call is of `main` or of a function of the script, and the index of an
   -- output is below the number of outputs, which is up to 64
   abbrev mutual
-    pub RefsSound : Val N → Type 0
-    RefsSound null = Unit {0}
-    RefsSound (truth b) = Unit {0}
-    RefsSound (num z) = Unit {0}
-    RefsSound (text t) = Unit {0}
-    RefsSound (list vs) = ValsSound vs
-    RefsSound (dict ps) = PairsSound ps
-    RefsSound (fun f) = IsFun sc f
-    RefsSound (ref d) = SoundDesc d
+    pub RefsOver : Val N → Type 0
+    RefsOver null = Unit {0}
+    RefsOver (truth b) = Unit {0}
+    RefsOver (num z) = Unit {0}
+    RefsOver (text t) = Unit {0}
+    RefsOver (list vs) = ValsOver vs
+    RefsOver (dict ps) = PairsOver ps
+    RefsOver (fun f) = IsFun sc f
+    RefsOver (ref d) = DescOver d
 
-    pub ValsSound : Vals N → Type 0
-    ValsSound no_vals = Unit {0}
-    ValsSound (val v vs) = RefsSound v × ValsSound vs
+    pub ValsOver : Vals N → Type 0
+    ValsOver no_vals = Unit {0}
+    ValsOver (val v vs) = RefsOver v × ValsOver vs
 
-    pub PairsSound : Pairs N → Type 0
-    PairsSound no_pairs = Unit {0}
-    PairsSound (pair k v ps) = RefsSound v × PairsSound ps
+    pub PairsOver : Pairs N → Type 0
+    PairsOver no_pairs = Unit {0}
+    PairsOver (pair k v ps) = RefsOver v × PairsOver ps
 
-    pub SoundDesc : Desc N → Type 0
-    SoundDesc (call f vs) = Kept (list vs) × ValsSound vs × ((f ≡ []) ⊎ IsFun sc f)
-    SoundDesc (out x v n i) = Kept {N = N} (text x) × Kept v × RefsSound v × (i < n) × (n ≤ 64)
-    SoundDesc (input k) = Unit {0}
-    SoundDesc (known b) = Unit {0}
+    pub DescOver : Desc N → Type 0
+    DescOver (call f vs) = Kept (list vs) × ValsOver vs × ((f ≡ []) ⊎ IsFun sc f)
+    DescOver (out x v n i) = Kept {N = N} (text x) × Kept v × RefsOver v × (i < n) × (n ≤ 64)
+    DescOver (input k) = Unit {0}
+    DescOver (known b) = K b
 
   -- a value that keeps the limits, and whose descriptions are sound
+  abbrev pub SoundOver : Val N → Type 0
+  SoundOver v = Kept v × RefsOver v
+
+-- the same where any name may stand inside
+module _ {N : Type 0} (sc : Script) where
+  abbrev pub RefsSound : Val N → Type 0
+  RefsSound v = RefsOver (λ b. Unit {0}) sc v
+
+  abbrev pub ValsSound : Vals N → Type 0
+  ValsSound vs = ValsOver (λ b. Unit {0}) sc vs
+
+  abbrev pub PairsSound : Pairs N → Type 0
+  PairsSound ps = PairsOver (λ b. Unit {0}) sc ps
+
+  abbrev pub SoundDesc : Desc N → Type 0
+  SoundDesc d = DescOver (λ b. Unit {0}) sc d
+
   abbrev pub Sound : Val N → Type 0
-  Sound v = Kept v × RefsSound v
+  Sound v = SoundOver (λ b. Unit {0}) sc v
 
   -- an object whose value, if it has one, is sound
   abbrev pub SoundObject : Object N → Type 0
