@@ -3,7 +3,7 @@
 // items, so that each check of a limit takes constant time too.
 
 ghost use Rattle.std.specs.Prelude.{◌≡◌, ◌≤◌, ◌<◌, ◌+◌, ◌-◌, ◌^◌, Some, IfSome, IfOk, IfErr, MatchOption, IsTrue, ◌↔◌, ◌⊎◌, length, min, max, nat_lt};
-ghost use Rattle.sky_base.specs.Val.{count, pair_count};
+ghost use Rattle.sky_base.specs.Val.{Rising, count, pair_count};
 ghost use Rattle.sky_base.specs.Op.{val_at, join, find, put, put_val};
 ghost use Rattle.sky_base.specs.Val.{no_vals, add_val, no_pairs};
 ghost use Rattle.sky_base.specs.Val.{size, sizes, pair_sizes, depth, depths, pair_depths};
@@ -399,9 +399,10 @@ impl Pairs {
         }
     }
 
-    /// The pairs in the order of their keys.
+    /// The pairs in the order of their keys, which rise.
     pub fn as_slice(&self) -> &[Pair]
-        ensures { pairs_of result.now ≡ self.now }
+        ensures pairs { pairs_of result.now ≡ self.now }
+        ensures rising { Rising self.now }
     {
         self.items.as_slice()
     }
