@@ -1,2 +1,5 @@
 mod Nested
 mod Given
+mod Taken
+pub mod ReadLaw
+pub mod LowLaw

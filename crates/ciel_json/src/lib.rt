@@ -1,7 +1,9 @@
-// JSON: values of scripts as JSON texts. The texts are those of `serde_json`, and its definition of
-// what it writes is the meaning; nothing of it is written or proved anew here.
+// JSON: values of scripts as JSON texts, and JSON texts as values of scripts. The texts are read and
+// written by `serde_json`, and its definitions are the meaning; nothing of it is written or proved
+// anew here.
 #![tactic(auto)]
 
+pub mod read;
 #[cfg(test)]
 mod tests;
 pub mod write;

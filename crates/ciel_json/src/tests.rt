@@ -1,9 +1,10 @@
-// The texts of some values, from outside the definitions.
+// The texts of some values and the values of some texts, from outside the definitions.
 
+use crate::read::{ToValue, to_value};
 use crate::write::{ToText, to_text};
 use sky_base::text::{Name, Txt};
 use sky_base::value::{Pairs, Vals, Value};
-use std::alloc::Global;
+use std::alloc::{AllocError, Global};
 use std::process::Abort;
 use std::test::Fail;
 
@@ -71,4 +72,117 @@ fn numbers_and_texts(rt: HostRuntime) -> Result<(), Fail> {
         Err(ToText::NotText),
     );
     Ok(())
+}
+
+// What bytes are read as, written out again.
+fn reads(rt: &impl Abort, alloc: Global, bytes: &[u8], want: &str) {
+    match to_value(alloc, bytes) {
+        Ok(value) => writes(rt, alloc, value, Ok(want)),
+        Err(_) => assert!(rt; false, "{want}"),
+    }
+}
+
+fn refuses(rt: &impl Abort, alloc: Global, bytes: &[u8], want: ToValue) {
+    match to_value(alloc, bytes) {
+        Ok(_) => assert!(rt; false, "a value"),
+        Err(refusal) => assert!(rt; refusal == want),
+    }
+}
+
+// So many bytes, then some in the middle, then so many others.
+fn around(
+    alloc: Global,
+    opening: u8,
+    middle: &[u8],
+    closing: u8,
+    times: usize,
+) -> Result<Vec<u8>, AllocError> {
+    let mut bytes = Vec::new(alloc);
+    for _ in 0..times {
+        bytes.push(opening)?;
+    }
+    bytes.extend_from_slice(middle)?;
+    for _ in 0..times {
+        bytes.push(closing)?;
+    }
+    Ok(bytes)
+}
+
+#[test]
+fn texts_are_read_as_values(rt: HostRuntime) {
+    let alloc = rt.alloc();
+    reads(&rt, alloc, b"[1, \"a\"]", "[1,\"a\"]");
+    reads(
+        &rt,
+        alloc,
+        b" {\"b\": [null, true], \"a\": {}}\n",
+        "{\"a\":{},\"b\":[null,true]}",
+    );
+    reads(&rt, alloc, b"-9223372036854775808", "-9223372036854775808");
+    reads(&rt, alloc, b"9223372036854775807", "9223372036854775807");
+    reads(&rt, alloc, b"\"\\u0041\\n\"", "\"A\\n\"");
+}
+
+#[test]
+fn what_is_no_data_is_refused(rt: HostRuntime) {
+    let alloc = rt.alloc();
+    let texts = [
+        "",
+        "1.5",
+        "1e2",
+        "9223372036854775808",
+        "-9223372036854775809",
+        "01",
+        "nul",
+        "1 2",
+        "[1,]",
+        "\"\\ud800\"",
+    ];
+    for text in texts {
+        refuses(&rt, alloc, text.as_bytes(), ToValue::NotData);
+    }
+    refuses(&rt, alloc, &[255], ToValue::NotData);
+}
+
+#[test]
+fn brackets_and_depths_have_limits(rt: HostRuntime) -> Result<(), Fail> {
+    let alloc = rt.alloc();
+    refuses(&rt, alloc, &[b'['; 100], ToValue::NotData);
+    refuses(&rt, alloc, &[b'['; 101], ToValue::TooDeep);
+    let empty = around(alloc, b'[', b"", b']', 100)?;
+    assert!(rt; to_value(alloc, empty.as_slice()).is_ok());
+    let one = around(alloc, b'[', b"1", b']', 100)?;
+    refuses(&rt, alloc, one.as_slice(), ToValue::TooDeep);
+    let open = around(alloc, b'[', b"", b'[', 60)?;
+    refuses(&rt, alloc, open.as_slice(), ToValue::TooDeep);
+    let text = quoted(alloc, open.as_slice())?;
+    assert!(rt; to_value(alloc, text.as_slice()).is_ok());
+    Ok(())
+}
+
+#[test]
+fn bytes_and_sizes_have_limits(rt: HostRuntime) -> Result<(), Fail> {
+    let alloc = rt.alloc();
+    let blanks = around(alloc, b' ', b"", b' ', 4_194_304)?;
+    refuses(&rt, alloc, blanks.as_slice(), ToValue::NotData);
+    let more = around(alloc, b' ', b"1", b' ', 4_194_304)?;
+    refuses(&rt, alloc, more.as_slice(), ToValue::TooLarge);
+    let greatest = around(alloc, b'a', b"b", b'a', 131_071)?;
+    assert!(rt; to_value(alloc, quoted(alloc, greatest.as_slice())?.as_slice()).is_ok());
+    let larger = around(alloc, b'a', b"", b'a', 131_072)?;
+    refuses(
+        &rt,
+        alloc,
+        quoted(alloc, larger.as_slice())?.as_slice(),
+        ToValue::TooLarge,
+    );
+    Ok(())
+}
+
+fn quoted(alloc: Global, text: &[u8]) -> Result<Vec<u8>, AllocError> {
+    let mut bytes = Vec::new(alloc);
+    bytes.push(b'"')?;
+    bytes.extend_from_slice(text)?;
+    bytes.push(b'"')?;
+    Ok(bytes)
 }
