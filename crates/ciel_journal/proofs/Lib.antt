@@ -1,0 +1,12 @@
+pub mod Tests
+pub mod Append
+pub mod Circle
+pub mod Turn
+pub mod Good
+pub mod Booked
+pub mod Starts
+pub mod Numbers
+pub mod Bound
+pub mod Text
+pub mod FixedLaw
+pub mod Near
