@@ -1,9 +1,9 @@
 -- The book after more descriptions were learned.
-use Rattle.std.proofs.Common.{◌≡◌, ℕ, suc, ◌+◌, ◌≤◌, List, [], ◌∷◌, ◌++◌, length, Bool, true, false, not, cond, ◌||◌, Option, Some, None, ◌⊎◌, inl, inr, refl, ap, sym, ◌∙◌, subst, arith, filter}
+use Rattle.std.proofs.Common.{◌≡◌, List, [], ◌∷◌, ◌++◌, Bool, true, false, cond, ◌||◌, ◌⊎◌, inl, inr, refl, ap}
 use Rattle.std.specs.List.{list_any}
-use Rattle.ciel_journal.specs.Job.{Digest, Each, In, IsJob, Job, Task}
-use Rattle.ciel_journal.specs.History.{Order, Save, Standing, learned}
-use Rattle.ciel_journal.proofs.Tests.{bool_cases, or_true, any_in, in_any}
+use Rattle.ciel_journal.specs.Job.{Each, In, IsJob, Job}
+use Rattle.ciel_journal.specs.History.{learned}
+use Rattle.ciel_journal.proofs.Tests.{or_true}
 
 module _ {A : Type 0} where
   pub each_more : (P Q : A → Type 0) → ((x : A) → P x → Q x) → (xs : List A) → Each P xs → Each Q xs

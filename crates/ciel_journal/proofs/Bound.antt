@@ -1,30 +1,30 @@
 -- Between two losses no task is started twice from one wait.
-use Rattle.std.proofs.Common.{◌≡◌, ℕ, zero, suc, ◌+◌, ◌*◌, ◌≤◌, ◌<◌, List, [], ◌∷◌, ◌++◌, length, Bool, true, false, not, cond, ◌&&◌, ◌||◌, zero-add, nat_eq, nat_lt, Option, Some, None, ◌⊎◌, inl, inr, refl, ap, sym, ◌∙◌, subst, arith, filter, eqb-true, eq-eqb, suc-mul, zero-mul, ltb-true, ltb-false}
+use Rattle.std.proofs.Common.{◌≡◌, ℕ, zero, suc, ◌+◌, ◌*◌, ◌≤◌, ◌<◌, List, [], ◌∷◌, ◌++◌, length, Bool, true, false, cond, ◌&&◌, ◌||◌, zero-add, nat_eq, nat_lt, Option, Some, None, ◌⊎◌, inl, inr, refl, ap, sym, ◌∙◌, subst, arith, eqb-true, eq-eqb, suc-mul, zero-mul, ltb-true, ltb-false}
 use Rattle.std.specs.List.{list_any, IsDistinct}
-use Rattle.ciel_journal.specs.Job.{Digest, Each, In, IsJob, Job, Needed, Task, WaitOf, of, show}
-use Rattle.ciel_journal.specs.History.{Event, Order, Plan, Save, Standing, after, after_all, before_all, better, closed, done, done_with, ends_show, find_order, is_out, last, last_save, live, live_if, live_in, lost, missed, missed_with, names_of, needs, order_of, placed, same_task, saved, saved_with, start, wait_number}
+use Rattle.ciel_journal.specs.Job.{Digest, Each, In, IsJob, Job, Task, WaitOf, of, show}
+use Rattle.ciel_journal.specs.History.{Event, Order, Plan, Save, Standing, after, after_all, before_all, better, closed, done, done_with, ends_show, last, last_save, live, live_if, lost, missed, names_of, needs, order_of, placed, same_task, saved, saved_with, start, wait_number}
 use Rattle.ciel_journal.specs.Lawful.{Lawful, LawfulFrom, Marked, Step}
 use Rattle.ciel_journal.specs.Work.{Covers, Slot, losses_of, same_slot}
-use Rattle.ciel_journal.proofs.Tests.{bool_cases, or_true, in_any, any_in, distinct_more, distinct_none, fewer}
+use Rattle.ciel_journal.proofs.Tests.{bool_cases, or_true, any_in, distinct_more, distinct_none, fewer}
 use Rattle.ciel_journal.proofs.Good.{after_done, after_saved, after_missed, SavesOk, saves_step, saves_start, last_ok}
 use Rattle.ciel_journal.proofs.Booked.{each_more}
 use Rattle.ciel_journal.proofs.Numbers.{Numbered, numbered_step, stays, in_left, each_at, last_in}
 
 module _ {D : Type 0} (job : Job D) (laws : IsJob job) where
-  task_refl : (t : Task D) → same_task job t t ≡ true
+  pub task_refl : (t : Task D) → same_task job t t ≡ true
   task_refl show = refl
   task_refl (of d) = laws.same_refl d
 
-  task_exact : (t u : Task D) → same_task job t u ≡ true → t ≡ u
+  pub task_exact : (t u : Task D) → same_task job t u ≡ true → t ≡ u
   task_exact show show h = refl
   task_exact show (of e) h = cc
   task_exact (of d) show h = cc
   task_exact (of d) (of e) h = ap of (laws.same_exact d e h)
 
-  slot_refl : (s : Slot D) → (same_slot job) s s ≡ true
+  pub slot_refl : (s : Slot D) → (same_slot job) s s ≡ true
   slot_refl s = ap (λ b. b && nat_eq s.from s.from) (task_refl s.task) ∙ eq-eqb s.from s.from refl
 
-  slot_exact : (s t : Slot D) → (same_slot job) s t ≡ true → s ≡ t
+  pub slot_exact : (s t : Slot D) → (same_slot job) s t ≡ true → s ≡ t
   slot_exact s t h = pick (bool_cases (same_task job s.task t.task))
     where
       pick : ((same_task job s.task t.task ≡ true) ⊎ (same_task job s.task t.task ≡ false)) → s ≡ t
@@ -196,7 +196,7 @@ module _ {D : Type 0} (job : Job D) (laws : IsJob job) where
   spent_start v s k w t from (is_live h l) = is_live h l
   spent_start v s k w t from (is_past l) = is_past l
 
-  out_test : (t : Task D) (os : List (Order D)) (o : Order D) → In o os → o.task ≡ t → list_any (λ (q : Order D). same_task job t q.task) os ≡ true
+  pub out_test : (t : Task D) (os : List (Order D)) (o : Order D) → In o os → o.task ≡ t → list_any (λ (q : Order D). same_task job t q.task) os ≡ true
   out_test t [] o i e = absurd i
   out_test t (q ∷ qs) o (inl s) e =
       ap (λ b. b || list_any (λ (q : Order D). same_task job t q.task) qs) (subst (λ u. same_task job t u ≡ true) (sym e ∙ ap (λ (x : Order D). x.task) s) (task_refl t))

@@ -1,7 +1,7 @@
 -- A circle of waits means that the root task never ends.
-use Rattle.std.proofs.Common.{◌≡◌, ◌≢◌, ℕ, zero, suc, ◌+◌, List, [], ◌∷◌, ◌++◌, Bool, true, false, Option, Some, None, slice_get, ◌⊎◌, inl, inr, refl, ap, sym, ◌∙◌, subst, arith, append_assoc, append-nil, add_comm, add-suc, add-zero, suc-add, zero-add}
-use Rattle.ciel_journal.specs.Job.{Act, Digest, Each, Held, In, IsJob, IsPrefix, Job, Needed, Never, Task, WaitOf, made, of, show, wait, waits_in}
-use Rattle.ciel_journal.specs.History.{Order, Standing, live, needs}
+use Rattle.std.proofs.Common.{◌≡◌, ◌≢◌, ℕ, zero, suc, ◌+◌, List, [], ◌∷◌, ◌++◌, Bool, true, false, Option, Some, None, slice_get, inl, inr, refl, ap, sym, ◌∙◌, subst, append_assoc, append-nil, add_comm, suc-add, zero-add}
+use Rattle.ciel_journal.specs.Job.{Act, Digest, Each, In, IsJob, IsPrefix, Job, Never, Task, WaitOf, made, show, wait, waits_in}
+use Rattle.ciel_journal.specs.History.{Standing, needs}
 use Rattle.ciel_journal.specs.Turns.{Chain, Circle, Reached, WaitsOn, root, through}
 
 pub get_front : {A : Type 0} (xs ys : List A) (i : ℕ) (x : A) → slice_get xs i ≡ Some x → slice_get (xs ++ ys) i ≡ Some x

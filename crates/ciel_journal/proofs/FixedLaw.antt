@@ -1,9 +1,8 @@
 -- Jobs with fixed lists have the laws of a job.
-use Rattle.std.proofs.Common.{◌≡◌, ◌≢◌, ℕ, zero, suc, ◌+◌, ◌≤◌, ◌<◌, List, [], ◌∷◌, ◌++◌, length, length-append, Bool, true, false, cond, ◌&&◌, Option, Some, None, slice_get, ◌⊎◌, inl, inr, refl, ap, sym, ◌∙◌, subst, arith, nat_eq, nat_le, append-nil, eqb-true, eq-eqb, leb-true, le-leb}
-use Rattle.ciel_journal.specs.Job.{Digest, Task, show, of, Act, made, wait, Held, Job, In, Each, IsPrefix, waits_in, IsJob}
+use Rattle.std.proofs.Common.{◌≡◌, ◌≢◌, ℕ, zero, suc, ◌≤◌, ◌<◌, List, [], ◌∷◌, length, length-append, Bool, true, false, cond, ◌&&◌, Option, Some, None, slice_get, inl, inr, refl, ap, sym, ◌∙◌, subst, arith, nat_eq, nat_le, eqb-true, eq-eqb, leb-true, le-leb}
+use Rattle.ciel_journal.specs.Job.{Task, show, of, Act, made, wait, Held, In, Each, IsPrefix, waits_in, IsJob}
 use Rattle.ciel_journal.specs.Fixed.{Fixed, all_seen, until, passes, acts_by, ends_by, seen_by, seen_with, fixed_job, IsFixed, Piece, number, piece_task, piece_outputs, piece_first, small_lists}
 use Rattle.ciel_journal.specs.Fixed as f
-use Rattle.ciel_journal.proofs.Tests.{bool_cases}
 use Rattle.ciel_journal.proofs.Circle.{waits_join}
 
 and_parts : (b c : Bool) → b && c ≡ true → (b ≡ true) × (c ≡ true)

@@ -1,11 +1,9 @@
 -- What holds of what stands after a lawful history.
-use Rattle.std.proofs.Common.{◌≡◌, ◌≢◌, ℕ, zero, suc, ◌+◌, ◌-◌, ◌≤◌, ◌<◌, List, [], ◌∷◌, ◌++◌, length, Bool, true, false, not, cond, Option, Some, None, ◌⊎◌, inl, inr, refl, ap, sym, ◌∙◌, subst, arith, nat_eq, nat_lt, filter}
-use Rattle.std.specs.List.{list_any, IsDistinct}
-use Rattle.ciel_journal.specs.Job.{Digest, Each, In, IsJob, Job, Needed, Never, Task, WaitOf, of, show}
-use Rattle.ciel_journal.specs.History.{Event, Order, Plan, Save, Standing, after, after_all, before_all, better, close_with, closed, done, done_with, find_order, is_out, last, last_save, live, lost, missed, missed_with, needs, needs_of, same_task, saved, saved_with, start, wait_number}
-use Rattle.ciel_journal.specs.Lawful.{Allowed, Lawful, LawfulFrom, StartAllowed, Step}
-use Rattle.ciel_journal.specs.Turns.{Circle, Reached, Ready, root, through}
-use Rattle.ciel_journal.proofs.Tests.{bool_cases, each_of}
+use Rattle.std.proofs.Common.{◌≡◌, ℕ, List, [], ◌∷◌, ◌++◌, Bool, true, false, cond, Option, Some, None, refl, ap, sym, subst, nat_lt, filter}
+use Rattle.ciel_journal.specs.Job.{Digest, Each, IsJob, Job, Needed, Never, Task, WaitOf, of, show}
+use Rattle.ciel_journal.specs.History.{Event, Order, Plan, Save, Standing, after, after_all, before_all, better, close_with, closed, done, done_with, find_order, last_save, lost, missed, missed_with, needs_of, same_task, saved, saved_with, start, wait_number}
+use Rattle.ciel_journal.specs.Lawful.{Lawful, LawfulFrom, Step}
+use Rattle.ciel_journal.specs.Turns.{Circle, Reached, root, through}
 use Rattle.ciel_journal.proofs.Circle.{Waiting, circle_never}
 
 module _ {A : Type 0} (P : A → Type 0) where

@@ -10,3 +10,8 @@ pub mod Bound
 pub mod Text
 pub mod FixedLaw
 pub mod Near
+pub mod Started
+pub mod Shelved
+pub mod Unique
+pub mod Published
+pub mod OneWorker

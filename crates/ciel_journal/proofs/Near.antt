@@ -1,11 +1,11 @@
 -- Where nothing is open, a task is ready or there is a circle: what reached tasks wait for is among finitely many
 -- descriptions, since each saved wait names finitely many, and what a task waits for at first is smaller than what it makes.
-use Rattle.std.proofs.Common.{◌≡◌, ◌≢◌, ℕ, zero, suc, ◌+◌, ◌≤◌, ◌<◌, List, [], ◌∷◌, ◌++◌, length, Bool, true, false, cond, nat_lt, Option, Some, None, ◌⊎◌, inl, inr, refl, ap, sym, ◌∙◌, subst, arith}
+use Rattle.std.proofs.Common.{◌≡◌, ℕ, zero, suc, ◌≤◌, ◌<◌, List, [], ◌∷◌, ◌++◌, Bool, true, false, cond, nat_lt, Option, Some, None, ◌⊎◌, inl, inr, refl, ap, sym, ◌∙◌, subst, arith}
 use Rattle.std.specs.List.{list_any}
-use Rattle.ciel_journal.specs.Job.{Task, show, of, Job, In, Each, IsJob}
-use Rattle.ciel_journal.specs.History.{Save, Standing, better, last_save, needs_of, needs, live, same_task}
+use Rattle.ciel_journal.specs.Job.{Task, show, Job, In, Each, IsJob}
+use Rattle.ciel_journal.specs.History.{Save, Standing, better, last_save, needs_of, needs, same_task}
 use Rattle.ciel_journal.specs.Turns.{Reached, root, through, Ready, Circle}
-use Rattle.ciel_journal.proofs.Tests.{bool_cases, in_any}
+use Rattle.ciel_journal.proofs.Tests.{in_any}
 use Rattle.ciel_journal.proofs.Numbers.{in_left}
 use Rattle.ciel_journal.proofs.Turn.{ready_or_circle}
 

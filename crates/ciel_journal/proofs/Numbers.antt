@@ -1,8 +1,7 @@
 -- Each number names at most one open Start.
-use Rattle.std.proofs.Common.{◌≡◌, ℕ, suc, ◌+◌, ◌≤◌, ◌<◌, List, [], ◌∷◌, ◌++◌, length, Bool, true, false, not, cond, nat_eq, Option, Some, None, ◌⊎◌, inl, inr, refl, ap, sym, ◌∙◌, subst, arith, filter, eqb-true}
-use Rattle.std.specs.List.{list_any}
-use Rattle.ciel_journal.specs.Job.{Digest, Each, In, IsJob, Job, Task}
-use Rattle.ciel_journal.specs.History.{Event, Order, Plan, Standing, after, closed, done, done_with, find_order, lost, missed, missed_with, saved, saved_with, start}
+use Rattle.std.proofs.Common.{◌≡◌, ℕ, ◌+◌, ◌<◌, List, [], ◌∷◌, ◌++◌, Bool, true, false, not, cond, nat_eq, Some, ◌⊎◌, inl, inr, refl, ap, sym, ◌∙◌, subst, arith, filter, eqb-true}
+use Rattle.ciel_journal.specs.Job.{Each, In, IsJob, Job}
+use Rattle.ciel_journal.specs.History.{Event, Order, Plan, Standing, after, closed, done, done_with, find_order, lost, missed, saved, saved_with, start}
 use Rattle.ciel_journal.specs.Lawful.{Step}
 use Rattle.ciel_journal.proofs.Tests.{bool_cases}
 use Rattle.ciel_journal.proofs.Good.{after_done, after_saved, after_missed, each_join, each_filter}

@@ -1,13 +1,7 @@
 -- A task waits for one list at each of its waits.
-use Rattle.std.proofs.Common.{◌≡◌, ◌≢◌, ℕ, zero, suc, ◌+◌, ◌-◌, ◌≤◌, ◌<◌, List, [], ◌∷◌, ◌++◌, length, Bool, true, false, cond, Option, Some, None, ◌⊎◌, inl, inr, refl, ap, sym, ◌∙◌, subst, arith, nat_lt, slice_get, add_comm}
-use Rattle.std.specs.List.{list_any}
-use Rattle.ciel_journal.specs.Job.{Act, Digest, Each, In, IsJob, Job, Needed, Task, WaitOf, of, show, waits_in}
-use Rattle.ciel_journal.specs.History.{Event, Order, Plan, Save, Standing, better, last, last_save, live, needs, needs_of, same_task, start, wait_number}
-use Rattle.ciel_journal.specs.Lawful.{StartAllowed, Step}
-use Rattle.ciel_journal.specs.Turns.{Reached, Ready, root, through}
-use Rattle.ciel_journal.proofs.Tests.{each_of}
+use Rattle.std.proofs.Common.{◌≡◌, ℕ, zero, suc, ◌+◌, List, ◌++◌, Some, ap, sym, ◌∙◌, slice_get, add_comm}
+use Rattle.ciel_journal.specs.Job.{IsJob, Job, Task, WaitOf, waits_in}
 use Rattle.ciel_journal.proofs.Circle.{acts_grow, waits_join, get_front}
-use Rattle.ciel_journal.proofs.Good.{SavesOk, last_ok, reached_needed}
 
 module _ {D : Type 0} (job : Job D) (laws : IsJob job) where
   -- what was met stays with more fuel

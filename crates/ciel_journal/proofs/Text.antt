@@ -1,36 +1,22 @@
 -- Who has a description, said of the whole history at once.
-use Rattle.std.proofs.Common.{◌≡◌, ℕ, suc, ◌+◌, ◌≤◌, ◌<◌, List, [], ◌∷◌, ◌++◌, append_assoc, append-nil, Bool, true, false, not, cond, ◌||◌, ◌&&◌, nat_eq, Option, Some, None, ◌⊎◌, inl, inr, refl, ap, sym, ◌∙◌, subst, arith, filter, eqb-true, eq-eqb, ◌↔◌}
+use Rattle.std.proofs.Common.{◌≡◌, ℕ, ◌+◌, ◌<◌, List, [], ◌∷◌, ◌++◌, append_assoc, append-nil, Bool, true, false, not, cond, ◌||◌, nat_eq, ◌⊎◌, inl, inr, refl, ap, sym, ◌∙◌, subst, arith, filter, eqb-true, eq-eqb, ◌↔◌}
 use Rattle.std.specs.List.{list_any}
-use Rattle.ciel_journal.specs.Job.{Digest, Each, In, IsJob, Job, Task}
-use Rattle.ciel_journal.specs.History.{Event, Order, Plan, Standing, after, after_all, before_all, closed, done, done_with, find_order, lost, missed, missed_with, names_of, order_of, placed, saved, saved_with, start}
+use Rattle.ciel_journal.specs.Job.{Digest, In, IsJob, Job, Task}
+use Rattle.ciel_journal.specs.History.{Event, Order, Plan, Standing, after, after_all, before_all, done, lost, missed, names_of, order_of, placed, saved, start}
+use Rattle.ciel_journal.specs.Live.{Published, LostIn}
 use Rattle.ciel_journal.specs.Lawful.{Lawful, LawfulFrom, Step}
-use Rattle.ciel_journal.proofs.Tests.{bool_cases, or_true, agree}
+use Rattle.ciel_journal.proofs.Tests.{bool_cases, or_true}
 use Rattle.ciel_journal.proofs.Good.{after_done, after_saved, after_missed}
 use Rattle.ciel_journal.proofs.Booked.{any_join_left, any_join_last, any_join_cases}
-use Rattle.ciel_journal.proofs.Numbers.{Numbered, numbered_step, in_left, last_in, in_last, in_filter, each_at, found_in}
+use Rattle.ciel_journal.proofs.Numbers.{Numbered, numbered_step, in_left, last_in, in_last, in_filter, found_in}
 
 module _ {D : Type 0} where
-  -- a Done at w, with d among what was made or copied
-  pub record Published (h : List (Event D)) (w : ℕ) (d : D) : Type 0 where
-    pub number : ℕ
-    pub task : Task D
-    pub from : ℕ
-    pub begun : In (start number w task from) h
-    pub made : List (D × Digest)
-    pub copied : List D
-    pub spawned : List D
-    pub ended : In (done number made copied spawned) h
-    pub has : In d (names_of made) ⊎ In d copied
-
-  abbrev pub LostIn : List (Event D) → ℕ → Type 0
-  LostIn h w = (c : ℕ) × In (lost w c) h
-
   abbrev pub Has : (D → List ℕ) → ℕ → D → Type 0
   Has f w d = list_any (nat_eq w) (f d) ≡ true
 
 module _ {D : Type 0} (job : Job D) (laws : IsJob job) where
   -- who has a description after names were placed
-  placed_cases : (ns : List D) (u : ℕ) (f : D → List ℕ) (w : ℕ) (d : D) → Has (placed job ns u f) w d → Has f w d ⊎ ((w ≡ u) × In d ns)
+  pub placed_cases : (ns : List D) (u : ℕ) (f : D → List ℕ) (w : ℕ) (d : D) → Has (placed job ns u f) w d → Has f w d ⊎ ((w ≡ u) × In d ns)
   placed_cases [] u f w d h = inl h
   placed_cases (n ∷ ns) u f w d h = turn (placed_cases ns u (λ e. cond (job.same n e) (f e ++ u ∷ []) (f e)) w d h)
     where
@@ -61,7 +47,7 @@ module _ {D : Type 0} (job : Job D) (laws : IsJob job) where
       placed_keeps ns u (λ e. cond (job.same n e) (f e ++ u ∷ []) (f e)) u d
       (ap (λ b. list_any (nat_eq u) (cond b (f d ++ u ∷ []) (f d))) (subst (λ x. job.same x d ≡ true) s (laws.same_refl d)) ∙ any_join_last (nat_eq u) (f d) u (eq-eqb u u refl))
 
-  filter_has : (v w : ℕ) (xs : List ℕ) → list_any (nat_eq w) (filter (λ u. not (nat_eq v u)) xs) ≡ true → (list_any (nat_eq w) xs ≡ true) × (v ≡ w → ⊥)
+  pub filter_has : (v w : ℕ) (xs : List ℕ) → list_any (nat_eq w) (filter (λ u. not (nat_eq v u)) xs) ≡ true → (list_any (nat_eq w) xs ≡ true) × (v ≡ w → ⊥)
   filter_has v w [] h = cc
   filter_has v w (x ∷ xs) h = pick (bool_cases (nat_eq v x)) (filter_has v w xs)
     where
@@ -97,6 +83,7 @@ module _ {D : Type 0} (job : Job D) (laws : IsJob job) where
     pub below : (k w : ℕ) (t : Task D) (f : ℕ) → In (start k w t f) g → k < v.starts
     pub closes : (k : ℕ) (made : List (D × Digest)) (copied spawned : List D) → In (done k made copied spawned) g → k < v.starts
     pub one : (k w : ℕ) (t : Task D) (f u : ℕ) (s : Task D) (i : ℕ) → In (start k w t f) g → In (start k u s i) g → w ≡ u
+    pub one_task : (k w : ℕ) (t : Task D) (f u : ℕ) (s : Task D) (i : ℕ) → In (start k w t f) g → In (start k u s i) g → t ≡ s
     pub gone : (w : ℕ) → LostIn g w → list_any (nat_eq w) v.gone ≡ true
 
   more : (g : List (Event D)) (e x : Event D) → In x g → In x (g ++ e ∷ [])
@@ -153,6 +140,7 @@ module _ {D : Type 0} (job : Job D) (laws : IsJob job) where
         below = λ k w t f i. subst (λ m. k < m) (sym st) (s.below k w t f (quiet_start g e q k w t f i));
         closes = λ k m c x i. subst (λ y. k < y) (sym st) (s.closes k m c x (quiet_done g e q k m c x i));
         one = λ k w t f y z i a b. s.one k w t f y z i (quiet_start g e q k w t f a) (quiet_start g e q k y z i b);
+        one_task = λ k w t f y z i a b. s.one_task k w t f y z i (quiet_start g e q k w t f a) (quiet_start g e q k y z i b);
         gone = λ w l. subst (λ ws. list_any (nat_eq w) ws ≡ true) (sym go) (s.gone w (lost_back g e n w l));
       }
 
@@ -167,6 +155,7 @@ module _ {D : Type 0} (job : Job D) (laws : IsJob job) where
         below = λ j w t f i. s.below j w t f (starts j w t f i);
         closes = λ j m c x i. closes j m c x (in_last (done j m c x) g e i);
         one = λ j w t f y z i a b. s.one j w t f y z i (starts j w t f a) (starts j y z i b);
+        one_task = λ j w t f y z i a b. s.one_task j w t f y z i (starts j w t f a) (starts j y z i b);
         gone = λ w l. s.gone w (lost_back g e no w l);
       })
     where
@@ -242,6 +231,7 @@ module _ {D : Type 0} (job : Job D) (laws : IsJob job) where
         below = λ j x u f i. below j x u f (in_last (start j x u f) g (start k w t from) i);
         closes = λ j m c x i. let a = s.closes j m c x (dones j m c x i) in omega (arith, a);
         one = λ j x u f y z i a b. one j x u f y z i (in_last (start j x u f) g (start k w t from) a) (in_last (start j y z i) g (start k w t from) b);
+        one_task = λ j x u f y z i a b. one_task j x u f y z i (in_last (start j x u f) g (start k w t from) a) (in_last (start j y z i) g (start k w t from) b);
         gone = λ x l. s.gone x (lost_back g (start k w t from) no x l);
       }
     where
@@ -284,6 +274,12 @@ module _ {D : Type 0} (job : Job D) (laws : IsJob job) where
       one j x u f y z i (inr a) (inl b) = let n : j ≡ k = cc in let c = s.below j y z i b in let e = step.allowed.number in absurd (omega (arith, n, c, e))
       one j x u f y z i (inr a) (inr b) = let p : x ≡ w = cc in let q : y ≡ w = cc in p ∙ sym q
 
+      one_task : (j x : ℕ) (u : Task D) (f y : ℕ) (z : Task D) (i : ℕ) → (In (start j x u f) g ⊎ (start j x u f ≡ start k w t from)) → (In (start j y z i) g ⊎ (start j y z i ≡ start k w t from)) → u ≡ z
+      one_task j x u f y z i (inl a) (inl b) = s.one_task j x u f y z i a b
+      one_task j x u f y z i (inl a) (inr b) = let n : j ≡ k = cc in let c = s.below j x u f a in let e = step.allowed.number in absurd (omega (arith, n, c, e))
+      one_task j x u f y z i (inr a) (inl b) = let n : j ≡ k = cc in let c = s.below j y z i b in let e = step.allowed.number in absurd (omega (arith, n, c, e))
+      one_task j x u f y z i (inr a) (inr b) = let p : u ≡ t = cc in let q : z ≡ t = cc in p ∙ sym q
+
   says_lost : (p : Plan) (g : List (Event D)) (v : Standing D) (w c : ℕ) → Says g v → Step job p v (lost w c) → Says (g ++ lost w c ∷ []) (after job v (lost w c))
   says_lost p g v w c s step =
       record {
@@ -294,6 +290,7 @@ module _ {D : Type 0} (job : Job D) (laws : IsJob job) where
         below = λ k x t f i. s.below k x t f (quiet_start g (lost w c) quiet k x t f i);
         closes = λ k m y x i. s.closes k m y x (quiet_done g (lost w c) quiet k m y x i);
         one = λ k x t f y z i a b. s.one k x t f y z i (quiet_start g (lost w c) quiet k x t f a) (quiet_start g (lost w c) quiet k y z i b);
+        one_task = λ k x t f y z i a b. s.one_task k x t f y z i (quiet_start g (lost w c) quiet k x t f a) (quiet_start g (lost w c) quiet k y z i b);
         gone = λ x l. gone x (in_last (lost x l.0) g (lost w c) l.1);
       }
     where
@@ -341,10 +338,9 @@ module _ {D : Type 0} (job : Job D) (laws : IsJob job) where
   says_all p g v (e ∷ es) s l =
       subst (λ x. Says x (after_all job (after job v e) es)) (append_assoc g (e ∷ []) es) (says_all p (g ++ e ∷ []) (after job v e) es (says_step p g v e s l.0) l.1)
 
-  -- who has a description after a lawful history is who has a Done with it and no Lost
-  pub places_text : (p : Plan) (h : List (Event D)) → Lawful job p h → (w : ℕ) (d : D) → Has (after_all job (before_all job) h).places w d ↔ (Published h w d × (LostIn h w → ⊥))
-  places_text p h l w d =
-      let s = says_all p [] (before_all job) h (record {
+  pub says_lawful : (p : Plan) (h : List (Event D)) → Lawful job p h → Says h (after_all job (before_all job) h)
+  says_lawful p h l =
+      says_all p [] (before_all job) h (record {
         numbered = record { below = tt; one = λ a b i j q. absurd i };
         told = λ w d a. cc;
         stands = λ w d q n. absurd q.begun;
@@ -352,6 +348,10 @@ module _ {D : Type 0} (job : Job D) (laws : IsJob job) where
         below = λ k w t f i. absurd i;
         closes = λ k m c x i. absurd i;
         one = λ k w t f u s i a b. absurd a;
+        one_task = λ k w t f u s i a b. absurd a;
         gone = λ w l. absurd l.1;
-      }) l in
-      (s.told w d, λ q. s.stands w d q.0 q.1)
+      }) l
+
+  -- who has a description after a lawful history is who has a Done with it and no Lost
+  pub places_text : (p : Plan) (h : List (Event D)) → Lawful job p h → (w : ℕ) (d : D) → Has (after_all job (before_all job) h).places w d ↔ (Published h w d × (LostIn h w → ⊥))
+  places_text p h l w d = let s = says_lawful p h l in (s.told w d, λ q. s.stands w d q.0 q.1)

@@ -1,8 +1,8 @@
 -- Where nothing is open, a task is ready or the waits have a circle.
-use Rattle.std.proofs.Common.{◌≡◌, ◌≢◌, ℕ, zero, suc, ◌+◌, ◌≤◌, ◌<◌, List, [], ◌∷◌, ◌++◌, length, Bool, true, false, Option, Some, None, ◌⊎◌, inl, inr, refl, ap, sym, ◌∙◌, subst, arith}
+use Rattle.std.proofs.Common.{◌≡◌, ℕ, zero, suc, ◌+◌, ◌<◌, List, [], ◌∷◌, length, true, false, Option, Some, None, ◌⊎◌, inl, inr, refl, ap, subst, arith}
 use Rattle.std.specs.List.{list_any, IsDistinct}
-use Rattle.ciel_journal.specs.Job.{Digest, Each, In, IsJob, Job, Task, of, show}
-use Rattle.ciel_journal.specs.History.{Order, Standing, is_out, live, live_if, live_in, needs, same_task}
+use Rattle.ciel_journal.specs.Job.{Each, In, IsJob, Job, Task, show}
+use Rattle.ciel_journal.specs.History.{Order, Standing, is_out, live, live_if, needs, same_task}
 use Rattle.ciel_journal.specs.Turns.{Chain, Circle, Reached, Ready, WaitsOn, root, through}
 use Rattle.ciel_journal.proofs.Tests.{bool_cases, any_in, distinct_more, distinct_none, fewer, each_of}
 

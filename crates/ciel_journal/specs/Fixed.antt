@@ -1,7 +1,7 @@
 -- Jobs whose tasks follow fixed lists of acts: each task makes and waits for what its list says, and comes to its end
 -- once all that it waits for is seen. A small one is written out.
-use Rattle.std.specs.Prelude.{◌≡◌, ℕ, zero, suc, ◌+◌, ◌<◌, List, [], ◌∷◌, length, Bool, true, false, cond, ◌&&◌, Option, Some, None, nat_eq, nat_le}
-use Rattle.ciel_journal.specs.Job.{Digest, Task, show, of, Act, made, wait, Held, Job, In, waits_in}
+use Rattle.std.specs.Prelude.{◌≡◌, ℕ, zero, suc, ◌<◌, List, [], ◌∷◌, length, Bool, true, false, cond, ◌&&◌, Option, Some, None, nat_eq, nat_le}
+use Rattle.ciel_journal.specs.Job.{Digest, Task, show, of, Act, made, wait, Job, In, waits_in}
 
 pub record Fixed (D : Type 0) : Type 0 where
   pub same : D → D → Bool

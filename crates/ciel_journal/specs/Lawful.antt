@@ -1,5 +1,5 @@
 -- Which histories are lawful: what is asked of each event, where this stands before it.
-use Rattle.std.specs.Prelude.{◌≡◌, ℕ, zero, suc, ◌+◌, ◌-◌, ◌≤◌, ◌<◌, List, [], ◌∷◌, length, Bool, true, false, cond, Option, Some, None, nat_eq, nat_lt, slice_get, ◌⊎◌}
+use Rattle.std.specs.Prelude.{◌≡◌, ℕ, ◌-◌, ◌≤◌, ◌<◌, List, [], ◌∷◌, length, true, false, cond, Option, Some, None, nat_eq, nat_lt, slice_get, ◌⊎◌}
 use Rattle.std.specs.List.{list_any, IsDistinct}
 use Rattle.ciel_journal.specs.Job.{Digest, Task, show, of, Held, Job, In, Each, WaitOf, Ends, Needed, ObjectOf, StateOf, waits_in, after_wait, made_before, made_in}
 use Rattle.ciel_journal.specs.History.{Event, start, done, saved, missed, lost, Order, Standing, Plan, live_in, live, last, is_out, find_order, after, before_all}

@@ -1,6 +1,7 @@
 pub mod Job
 pub mod History
 pub mod Lawful
+pub mod Live
 pub mod Turns
 pub mod Work
 pub mod Names

@@ -1,5 +1,5 @@
 -- The journal as the code keeps it: names in place of descriptions, and nothing of what was spawned, waited for or held.
-use Rattle.std.specs.Prelude.{◌≡◌, ℕ, List, [], ◌∷◌, Option, Some}
+use Rattle.std.specs.Prelude.{ℕ, List, [], ◌∷◌}
 use Rattle.ciel_journal.specs.Job.{Digest, Task, show, of, Job}
 use Rattle.ciel_journal.specs.History.{Event, start, done, saved, missed, lost}
 

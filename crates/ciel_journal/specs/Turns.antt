@@ -1,7 +1,7 @@
 -- Which task and worker come next: the turns of a run, and histories that keep to them.
 use Rattle.std.specs.Prelude.{◌≡◌, ℕ, zero, suc, ◌+◌, ◌*◌, ◌/◌, ◌%◌, ◌^◌, ◌≤◌, ◌<◌, List, [], ◌∷◌, length, Bool, true, false, cond, not, ◌&&◌, Option, Some, None, nat_eq, slice_get, ◌⊎◌}
 use Rattle.std.specs.List.{list_any}
-use Rattle.ciel_journal.specs.Job.{Digest, Task, show, of, Job, In, Each}
+use Rattle.ciel_journal.specs.Job.{Task, show, of, Job, In, Each}
 use Rattle.ciel_journal.specs.History.{Event, start, done, saved, missed, lost, Order, Standing, Plan, live, needs, is_out, after, before_all}
 use Rattle.ciel_journal.specs.Lawful.{Step}
 

@@ -1,7 +1,7 @@
 -- How much work a job is, and how often a history starts and loses.
-use Rattle.std.specs.Prelude.{◌≡◌, ℕ, suc, List, [], ◌∷◌, Bool, true, ◌&&◌, nat_eq}
+use Rattle.std.specs.Prelude.{◌≡◌, ℕ, suc, ◌+◌, ◌≤◌, ◌<◌, ◌↔◌, List, [], ◌∷◌, Bool, true, ◌&&◌, nat_eq, Some, slice_get}
 use Rattle.std.specs.List.{list_any}
-use Rattle.ciel_journal.specs.Job.{Task, Job, WaitOf, Needed}
+use Rattle.ciel_journal.specs.Job.{Task, Job, In, WaitOf, Needed}
 use Rattle.ciel_journal.specs.History.{Event, start, done, saved, missed, lost, same_task}
 
 -- a task, and a wait that it is started from
@@ -31,7 +31,19 @@ module _ {D : Type 0} (job : Job D) where
   starts_of (missed k d loss ∷ es) = starts_of es
   starts_of (lost w closes ∷ es) = starts_of es
 
-  -- the work of a job, as a list: each needed task stands in it with each of its waits, the one before its start included
+  -- each needed task stands in the list with each of its waits, the one before its start included
   abbrev pub Covers : List (Slot D) → Type 0
   Covers slots =
       (t : Task D) (j : ℕ) (ds : List D) → Needed job t → WaitOf job t j ds → (s : Slot D) → s.task ≡ t → s.from ≡ j → list_any (same_slot s) slots ≡ true
+
+  abbrev pub total : List (Task D × ℕ) → ℕ
+  total [] = 0
+  total (x ∷ xs) = suc x.1 + total xs
+
+  -- the work of a job: one for each needed task and one for each of its waits
+  pub record Work (m : ℕ) : Type 0 where
+    pub tasks : List (Task D × ℕ)
+    pub apart : (i j : ℕ) (t : Task D) (a b : ℕ) → slice_get tasks i ≡ Some (t, a) → slice_get tasks j ≡ Some (t, b) → i ≡ j
+    pub needed : (t : Task D) → Needed job t ↔ ((k : ℕ) × In (t, k) tasks)
+    pub waits : (t : Task D) (k : ℕ) → In (t, k) tasks → (j : ℕ) → 0 < j → (j ≤ k) ↔ ((ds : List D) × WaitOf job t j ds)
+    pub sum : total tasks ≡ m
