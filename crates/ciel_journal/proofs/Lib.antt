@@ -1,7 +1,7 @@
 pub mod Tests
 pub mod Append
 pub mod Circle
-pub mod Turn
+pub mod ReadyOrCircle
 pub mod Good
 pub mod Booked
 pub mod Starts
@@ -15,3 +15,11 @@ pub mod Shelved
 pub mod Unique
 pub mod Published
 pub mod OneWorker
+pub mod Check
+pub mod CheckTurns
+pub mod SmallHistories
+pub mod SmallBroken
+pub mod Searching
+pub mod Walking
+pub mod IdleLaw
+pub mod DueLaw

@@ -7,7 +7,7 @@ use Rattle.ciel_journal.specs.History.{Save, Standing, better, last_save, needs_
 use Rattle.ciel_journal.specs.Turns.{Reached, root, through, Ready, Circle}
 use Rattle.ciel_journal.proofs.Tests.{in_any}
 use Rattle.ciel_journal.proofs.Numbers.{in_left}
-use Rattle.ciel_journal.proofs.Turn.{ready_or_circle}
+use Rattle.ciel_journal.proofs.ReadyOrCircle.{ready_or_circle}
 
 module _ {A : Type 0} where
   pub in_right : (x : A) (xs ys : List A) → In x ys → In x (xs ++ ys)

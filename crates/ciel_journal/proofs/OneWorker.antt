@@ -203,12 +203,12 @@ module _ {D : Type 0} (job : Job D) (laws : IsJob job) where
   keeps_unique P (x ∷ xs) ts us (inr a) (inl b) = absurd (a.0 b.0)
   keeps_unique P (x ∷ xs) ts us (inr a) (inr b) = keeps_unique P xs ts us a.1 b.1
 
-  first_one : (p : Plan) (v : Standing D) (w u : ℕ) → FirstDue job p v w → FirstDue job p v u → w ≡ u
-  first_one p v w u x y = pick (x.least y.loss y.count u y.due) (y.least x.loss x.count w x.due)
+  first_one : (p : Plan) (v : Standing D) (w u i j : ℕ) → FirstDue p.losses v.closes v.gone i w → FirstDue p.losses v.closes v.gone j u → w ≡ u
+  first_one p v w u i j x y = pick (x.least j y.count u y.due) (y.least i x.count w x.due)
     where
-      at : x.loss ≡ y.loss → w ≡ u
+      at : i ≡ j → w ≡ u
       at e =
-          let a : slice_get p.losses y.loss ≡ Some (x.count, w) = subst (λ i. slice_get p.losses i ≡ Some (x.count, w)) e x.due.planned in
+          let a : slice_get p.losses j ≡ Some (x.count, w) = subst (λ l. slice_get p.losses l ≡ Some (x.count, w)) e x.due.planned in
           let b : Some (x.count, w) ≡ Some (y.count, u) = sym a ∙ y.due.planned in
           let c : (x.count, w) ≡ (y.count, u) = some_inj b in
           ap (λ (z : ℕ × ℕ). z.1) c
@@ -216,7 +216,7 @@ module _ {D : Type 0} (job : Job D) (laws : IsJob job) where
           some_inj : {a b : ℕ × ℕ} → Some a ≡ Some b → a ≡ b
           some_inj e = cc
 
-      pick : ((x.count < y.count) ⊎ ((x.count ≡ y.count) × (x.loss ≤ y.loss))) → ((y.count < x.count) ⊎ ((y.count ≡ x.count) × (y.loss ≤ x.loss))) → w ≡ u
+      pick : ((x.count < y.count) ⊎ ((x.count ≡ y.count) × (i ≤ j))) → ((y.count < x.count) ⊎ ((y.count ≡ x.count) × (j ≤ i))) → w ≡ u
       pick (inl a) (inl b) = absurd (omega (arith, a, b))
       pick (inl a) (inr b) = let c = b.0 in absurd (omega (arith, a, c))
       pick (inr a) (inl b) = let c = a.0 in absurd (omega (arith, b, c))
@@ -288,12 +288,12 @@ module _ {D : Type 0} (job : Job D) (laws : IsJob job) where
 
   same_event : (p : Plan) (v : Standing D) → Lone v → (a b : Event D) → Step job p v a → Turn job p v a → Step job p v b → Turn job p v b → a ≡ b
   same_event p v l (lost w c) (lost u e) x s y t =
-      let i : w ≡ u = first_one p v w u s t in let j : c ≡ e = x.allowed.now ∙ sym y.allowed.now in cc
-  same_event p v l (lost w c) (start k u z from) x s y t = absurd (t.nothing_due s.loss s.count w s.due)
-  same_event p v l (lost w c) (done k m d e) x s y t = absurd (t.0 s.loss s.count w s.due)
-  same_event p v l (lost w c) (saved k j m r h e) x s y t = absurd (t.0 s.loss s.count w s.due)
-  same_event p v l (lost w c) (missed k d i) x s y t = absurd (t.0 s.loss s.count w s.due)
-  same_event p v l (start k w z from) (lost u e) x s y t = absurd (s.nothing_due t.loss t.count u t.due)
+      let i : w ≡ u = first_one p v w u s.0 t.0 s.1 t.1 in let j : c ≡ e = x.allowed.now ∙ sym y.allowed.now in cc
+  same_event p v l (lost w c) (start k u z from) x s y t = absurd (t.nothing_due s.0 s.1.count w s.1.due)
+  same_event p v l (lost w c) (done k m d e) x s y t = absurd (t.0 s.0 s.1.count w s.1.due)
+  same_event p v l (lost w c) (saved k j m r h e) x s y t = absurd (t.0 s.0 s.1.count w s.1.due)
+  same_event p v l (lost w c) (missed k d i) x s y t = absurd (t.0 s.0 s.1.count w s.1.due)
+  same_event p v l (start k w z from) (lost u e) x s y t = absurd (s.nothing_due t.0 t.1.count u t.1.due)
   same_event p v l (start k w z from) (start i u q f) x s y t =
       let c = same_chosen p v w u z q s t in
       let a : w ≡ u = c.0 in
@@ -303,14 +303,14 @@ module _ {D : Type 0} (job : Job D) (laws : IsJob job) where
   same_event p v l (start k w z from) (done i m d e) x s y t = absurd (not_rests p v w z s t)
   same_event p v l (start k w z from) (saved i j m r h e) x s y t = absurd (not_rests p v w z s t)
   same_event p v l (start k w z from) (missed i d e) x s y t = absurd (not_rests p v w z s t)
-  same_event p v l (done k m d e) (lost u c) x s y t = absurd (s.0 t.loss t.count u t.due)
+  same_event p v l (done k m d e) (lost u c) x s y t = absurd (s.0 t.0 t.1.count u t.1.due)
   same_event p v l (done k m d e) (start i u q f) x s y t = absurd (not_rests p v u q t s)
   same_event p v l (done k m d e) (done i n f g) x s y t =
       let a = x.allowed in let b = y.allowed in same_done v l k i m n d f e g a.0 a.1 a.2 b.0 b.1 b.2
   same_event p v l (done k m d e) (saved i j n r h g) x s y t =
       let a = x.allowed in let b = y.allowed in absurd (not_both v l k i j n m d e r h g a.0 a.1 a.2 b.0 b.1 b.2)
   same_event p v l (done k m d e) (missed i f j) x s y t = absurd (no_missed p v l i f j y)
-  same_event p v l (saved k j n r h g) (lost u c) x s y t = absurd (s.0 t.loss t.count u t.due)
+  same_event p v l (saved k j n r h g) (lost u c) x s y t = absurd (s.0 t.0 t.1.count u t.1.due)
   same_event p v l (saved k j n r h g) (start i u q f) x s y t = absurd (not_rests p v u q t s)
   same_event p v l (saved k j n r h g) (done i m d e) x s y t =
       let a = x.allowed in let b = y.allowed in absurd (not_both v l i k j n m d e r h g b.0 b.1 b.2 a.0 a.1 a.2)

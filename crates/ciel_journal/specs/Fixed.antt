@@ -144,6 +144,13 @@ piece_holds (of left) j = text ∷ []
 piece_holds (of right) j = []
 piece_holds (of text) j = []
 
+-- the marks of objects and of states at a wait
+abbrev pub object_mark : Piece → Digest
+object_mark d = 200 ∷ number d ∷ []
+
+abbrev pub state_mark : ℕ → Digest
+state_mark j = 100 ∷ j ∷ []
+
 abbrev pub small_lists : Bool → Fixed Piece
 small_lists reads =
     record {
@@ -155,8 +162,8 @@ small_lists reads =
       first = piece_first;
       script = piece_script reads;
       holds = piece_holds;
-      state_mark = λ t j. 100 ∷ j ∷ [];
-      object_mark = λ d. 200 ∷ number d ∷ [];
+      state_mark = λ t j. state_mark j;
+      object_mark = object_mark;
     }
 
 -- the job whose result is the sum of the squares, and the one whose result is read from the lines

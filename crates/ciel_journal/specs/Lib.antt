@@ -3,7 +3,10 @@ pub mod History
 pub mod Lawful
 pub mod Live
 pub mod Turns
+pub mod Search
 pub mod Work
 pub mod Names
 pub mod Fixed
+pub mod SmallHistories
+pub mod SmallFacts
 pub mod Laws

@@ -1,5 +1,5 @@
 -- Which task and worker come next: the turns of a run, and histories that keep to them.
-use Rattle.std.specs.Prelude.{◌≡◌, ℕ, zero, suc, ◌+◌, ◌*◌, ◌/◌, ◌%◌, ◌^◌, ◌≤◌, ◌<◌, List, [], ◌∷◌, length, Bool, true, false, cond, not, ◌&&◌, Option, Some, None, nat_eq, slice_get, ◌⊎◌}
+use Rattle.std.specs.Prelude.{◌≡◌, ℕ, zero, suc, ◌+◌, ◌*◌, ◌/◌, ◌%◌, ◌^◌, ◌≤◌, ◌<◌, List, [], ◌∷◌, length, Bool, true, false, cond, not, ◌&&◌, Option, Some, None, nat_eq, nat_le, slice_get, ◌⊎◌}
 use Rattle.std.specs.List.{list_any}
 use Rattle.ciel_journal.specs.Job.{Task, show, of, Job, In, Each}
 use Rattle.ciel_journal.specs.History.{Event, start, done, saved, missed, lost, Order, Standing, Plan, live, needs, is_out, after, before_all}
@@ -15,6 +15,41 @@ state_after seed (suc k) = (state_after seed k * 6364136223846793005 + 144269504
 -- the draw of this number, from 0
 abbrev pub draw : (seed number : ℕ) → ℕ
 draw seed k = state_after seed (suc k) / 2 ^ 33
+
+-- ---- workers
+
+abbrev pub is_idle : (gone busy : List ℕ) → ℕ → Bool
+is_idle gone busy w = not (list_any (nat_eq w) gone) && not (list_any (nat_eq w) busy)
+
+abbrev pub idle_from : (gone busy : List ℕ) → (w n : ℕ) → List ℕ
+idle_from gone busy w zero = []
+idle_from gone busy w (suc n) =
+    cond (is_idle gone busy w) (w ∷ idle_from gone busy (w + 1) n) (idle_from gone busy (w + 1) n)
+
+-- of so many workers those that are neither lost nor busy, rising
+abbrev pub idle_workers : (workers : ℕ) → (gone busy : List ℕ) → List ℕ
+idle_workers workers gone busy = idle_from gone busy 0 workers
+
+-- ---- losses, each a count of closes and a worker
+
+abbrev pub due_test : (closes : ℕ) → (gone : List ℕ) → ℕ × ℕ → Bool
+due_test closes gone x = nat_le x.0 closes && not (list_any (nat_eq x.1) gone)
+
+module _ (losses : List (ℕ × ℕ)) (closes : ℕ) (gone : List ℕ) where
+  -- the loss at this place of the list is due
+  pub record IsDue (loss count worker : ℕ) : Type 0 where
+    pub planned : slice_get losses loss ≡ Some (count, worker)
+    pub reached : count ≤ closes
+    pub here : list_any (nat_eq worker) gone ≡ false
+
+  abbrev pub NothingDue : Type 0
+  NothingDue = (loss count worker : ℕ) → IsDue loss count worker → ⊥
+
+  -- the loss at this place is the first that is due, by its count and then by its place
+  pub record FirstDue (loss worker : ℕ) : Type 0 where
+    pub count : ℕ
+    pub due : IsDue loss count worker
+    pub least : (i k u : ℕ) → IsDue i k u → (count < k) ⊎ ((count ≡ k) × (loss ≤ i))
 
 module _ {D : Type 0} (job : Job D) where
   -- ---- tasks
@@ -49,53 +84,35 @@ module _ {D : Type 0} (job : Job D) where
   abbrev pub IsReadyList : Standing D → List (Task D) → Type 0
   IsReadyList v ts = Keeps (Ready v) (tasks_of v.book) ts
 
-  -- ---- workers
+  -- ---- workers and losses
 
-  abbrev pub is_idle : Standing D → ℕ → Bool
-  is_idle v w = not (list_any (nat_eq w) v.gone) && not (list_any (λ (o : Order D). nat_eq w o.worker) v.orders)
-
-  abbrev pub idle_from : Standing D → ℕ → ℕ → List ℕ
-  idle_from v w zero = []
-  idle_from v w (suc n) = cond (is_idle v w) (w ∷ idle_from v (w + 1) n) (idle_from v (w + 1) n)
+  abbrev pub busy : List (Order D) → List ℕ
+  busy [] = []
+  busy (o ∷ os) = o.worker ∷ busy os
 
   -- the workers that aren't lost and have no open Start, rising
   abbrev pub idle : Plan → Standing D → List ℕ
-  idle p v = idle_from v 0 p.workers
+  idle p v = idle_workers p.workers v.gone (busy v.orders)
 
-  -- ---- losses
-
-  -- the loss at this place of the plan is due
-  pub record IsDue (p : Plan) (v : Standing D) (loss count worker : ℕ) : Type 0 where
-    pub planned : slice_get p.losses loss ≡ Some (count, worker)
-    pub reached : count ≤ v.closes
-    pub here : list_any (nat_eq worker) v.gone ≡ false
-
-  abbrev pub NothingDue : Plan → Standing D → Type 0
-  NothingDue p v = (loss count worker : ℕ) → IsDue p v loss count worker → ⊥
-
-  -- the first loss that is due, by its count and then by its place in the plan, is of this worker
-  pub record FirstDue (p : Plan) (v : Standing D) (worker : ℕ) : Type 0 where
-    pub loss : ℕ
-    pub count : ℕ
-    pub due : IsDue p v loss count worker
-    pub least : (i k u : ℕ) → IsDue p v i k u → (count < k) ⊎ ((count ≡ k) × (loss ≤ i))
+  abbrev pub Undue : Plan → Standing D → Type 0
+  Undue p v = NothingDue p.losses v.closes v.gone
 
   -- ---- turns
 
   -- nothing is due, and nothing can be started
   abbrev pub Rests : Plan → Standing D → Type 0
-  Rests p v = NothingDue p v × (IsReadyList v [] ⊎ (idle p v ≡ []))
+  Rests p v = Undue p v × (IsReadyList v [] ⊎ (idle p v ≡ []))
 
   -- nothing is due, and two draws choose the task and the worker
   pub record Chosen (p : Plan) (v : Standing D) (w : ℕ) (t : Task D) : Type 0 where
-    pub nothing_due : NothingDue p v
+    pub nothing_due : Undue p v
     pub tasks : List (Task D)
     pub ready : IsReadyList v tasks
     pub task : slice_get tasks (draw p.seed (2 * v.starts) % length tasks) ≡ Some t
     pub worker : slice_get (idle p v) (draw p.seed (2 * v.starts + 1) % length (idle p v)) ≡ Some w
 
   abbrev pub Turn : Plan → Standing D → Event D → Type 0
-  Turn p v (lost w closes) = FirstDue p v w
+  Turn p v (lost w closes) = (loss : ℕ) × FirstDue p.losses v.closes v.gone loss w
   Turn p v (start k w t from) = Chosen p v w t
   Turn p v (done k made copied spawned) = Rests p v
   Turn p v (saved k j mark refs holds spawned) = Rests p v

@@ -3,3 +3,5 @@
 #![tactic(auto)]
 
 pub mod law;
+pub mod search;
+pub mod turn;
