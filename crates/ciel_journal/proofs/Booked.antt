@@ -3,7 +3,7 @@ use Rattle.std.proofs.Common.{◌≡◌, List, [], ◌∷◌, ◌++◌, Bool, tr
 use Rattle.std.specs.List.{list_any}
 use Rattle.ciel_journal.specs.Job.{Each, In, IsJob, Job}
 use Rattle.ciel_journal.specs.History.{learned}
-use Rattle.ciel_journal.proofs.Tests.{or_true}
+use Rattle.ciel_journal.proofs.Members.{or_true}
 
 module _ {A : Type 0} where
   pub each_more : (P Q : A → Type 0) → ((x : A) → P x → Q x) → (xs : List A) → Each P xs → Each Q xs

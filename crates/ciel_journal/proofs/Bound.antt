@@ -5,7 +5,7 @@ use Rattle.ciel_journal.specs.Job.{Digest, Each, In, IsJob, Job, Task, WaitOf, o
 use Rattle.ciel_journal.specs.History.{Event, Order, Plan, Save, Standing, after, after_all, before_all, better, closed, done, done_with, ends_show, last, last_save, live, live_if, lost, missed, names_of, needs, order_of, placed, same_task, saved, saved_with, start, wait_number}
 use Rattle.ciel_journal.specs.Lawful.{Lawful, LawfulFrom, Marked, Step}
 use Rattle.ciel_journal.specs.Work.{Covers, Slot, losses_of, same_slot}
-use Rattle.ciel_journal.proofs.Tests.{bool_cases, or_true, any_in, distinct_more, distinct_none, fewer}
+use Rattle.ciel_journal.proofs.Members.{bool_cases, or_true, any_in, distinct_more, distinct_none, fewer}
 use Rattle.ciel_journal.proofs.Good.{after_done, after_saved, after_missed, SavesOk, saves_step, saves_start, last_ok}
 use Rattle.ciel_journal.proofs.Booked.{each_more}
 use Rattle.ciel_journal.proofs.Numbers.{Numbered, numbered_step, stays, in_left, each_at, last_in}

@@ -1,10 +1,10 @@
 -- A test of histories that is computed: what passes it is lawful and driven. The small histories are shown by it.
-use Rattle.std.proofs.Common.{◌≡◌, ◌≢◌, ℕ, zero, suc, ◌+◌, ◌-◌, ◌*◌, ◌%◌, ◌≤◌, ◌<◌, List, [], ◌∷◌, ◌++◌, length, Bool, true, false, not, cond, ◌&&◌, ◌||◌, Option, Some, None, is_some, slice_get, ◌⊎◌, inl, inr, refl, ap, sym, ◌∙◌, subst, arith, nat_eq, nat_lt, nat_le, filter, eqb-true, ltb-true, leb-true, zero-add}
+use Rattle.std.proofs.Common.{◌≡◌, ℕ, zero, suc, ◌-◌, ◌≤◌, ◌<◌, List, [], ◌∷◌, length, Bool, true, false, not, ◌&&◌, ◌||◌, Option, Some, None, is_some, slice_get, ◌⊎◌, inl, inr, refl, ap, sym, ◌∙◌, subst, arith, nat_eq, nat_lt, nat_le, eqb-true, ltb-true, leb-true}
 use Rattle.std.specs.List.{list_any, IsDistinct}
-use Rattle.ciel_journal.specs.Job.{Digest, Task, show, of, Act, made, wait, Held, Job, In, Each, IsJob, WaitOf, Needed, waits_in, after_wait, made_before, made_in}
-use Rattle.ciel_journal.specs.History.{Event, start, done, saved, missed, lost, Order, Plan, Save, Standing, after, after_all, before_all, find_order, is_out, last, live, live_in, needs, same_task}
-use Rattle.ciel_journal.specs.Lawful.{Copied, DoneAllowed, FetchedFrom, Given, HeldAt, LawfulFrom, LostAllowed, Marked, MissedAllowed, NextEnd, NextWait, NoClash, SavedAllowed, SpawnedTo, SpawnedToEnd, StartAllowed, Step, Allowed, least, own_name}
-use Rattle.ciel_journal.proofs.Tests.{any_in, bool_cases, distinct_more, distinct_none}
+use Rattle.ciel_journal.specs.Job.{Digest, Task, show, of, Held, Job, In, Each, IsJob, WaitOf, Needed, waits_in, after_wait, made_before, made_in}
+use Rattle.ciel_journal.specs.History.{Event, start, done, saved, missed, lost, Order, Plan, Standing, after, find_order, is_out, last, live, live_in, needs, same_task}
+use Rattle.ciel_journal.specs.Lawful.{Copied, DoneAllowed, FetchedFrom, Given, HeldAt, LawfulFrom, LostAllowed, Marked, MissedAllowed, NextEnd, NextWait, NoClash, SavedAllowed, StartAllowed, Step, Allowed, least, own_name}
+use Rattle.ciel_journal.proofs.Members.{any_in, bool_cases, distinct_more, distinct_none}
 use Rattle.ciel_journal.proofs.Bound.{task_exact}
 use Rattle.ciel_journal.proofs.Circle.{wait_at_end}
 use Rattle.ciel_journal.proofs.Good.{SavesOk, saves_step, last_ok}

@@ -1,13 +1,12 @@
 -- A test of turns that is computed: what passes it is driven.
-use Rattle.std.proofs.Common.{◌≡◌, ◌≢◌, ℕ, zero, suc, ◌+◌, ◌-◌, ◌*◌, ◌%◌, ◌≤◌, ◌<◌, List, [], ◌∷◌, ◌++◌, length, Bool, true, false, not, cond, ◌&&◌, ◌||◌, Option, Some, None, slice_get, ◌⊎◌, inl, inr, refl, ap, sym, ◌∙◌, subst, arith, nat_eq, nat_lt, nat_le, filter, eqb-true, ltb-true, ltb-false, leb-true, le-leb}
+use Rattle.std.proofs.Common.{◌≡◌, ℕ, zero, suc, ◌+◌, ◌*◌, ◌%◌, ◌≤◌, ◌<◌, List, [], ◌∷◌, ◌++◌, length, Bool, true, false, not, cond, ◌&&◌, ◌||◌, Option, Some, None, slice_get, ◌⊎◌, inl, inr, refl, ap, sym, ◌∙◌, subst, arith, nat_eq, nat_lt, nat_le, filter, eqb-true, ltb-true, ltb-false, leb-true, le-leb}
 use Rattle.std.specs.List.{list_any}
-use Rattle.ciel_journal.specs.Job.{Digest, Task, show, of, Job, In, Each, IsJob, Needed}
-use Rattle.ciel_journal.specs.History.{Event, start, done, saved, missed, lost, Order, Plan, Standing, after, before_all, is_out, live, live_if, needs, same_task}
-use Rattle.ciel_journal.specs.Lawful.{Step}
+use Rattle.ciel_journal.specs.Job.{Task, show, Job, In, Each, IsJob, Needed}
+use Rattle.ciel_journal.specs.History.{Event, start, done, saved, missed, lost, Plan, Standing, after, is_out, live, needs, same_task}
 use Rattle.ciel_journal.specs.Turns.{Chosen, DrivenFrom, FirstDue, IsDue, IsReadyList, Keeps, NothingDue, due_test, Reached, Ready, Rests, Turn, Undue, root, through, draw, idle, tasks_of}
-use Rattle.ciel_journal.proofs.Tests.{any_in, in_any, bool_cases}
+use Rattle.ciel_journal.proofs.Members.{any_in, in_any, bool_cases}
 use Rattle.ciel_journal.proofs.Bound.{task_exact, task_refl}
-use Rattle.ciel_journal.proofs.Check.{all_true, AllTrue, parts, not_true, each_passes, passes_each, is_that, that_exact, step_test, step_true}
+use Rattle.ciel_journal.proofs.Check.{all_true, parts, not_true, each_passes, passes_each, is_that, that_exact, step_test, step_true}
 use Rattle.ciel_journal.proofs.Good.{SavesOk, saves_step}
 
 -- ---- losses

@@ -1,5 +1,5 @@
 -- The first loss that is due among those up to a place.
-use Rattle.std.proofs.Common.{◌≡◌, ℕ, zero, suc, ◌+◌, ◌≤◌, ◌<◌, List, [], ◌∷◌, length, Bool, true, false, Option, Some, None, IfSome, IfNone, slice_get, ◌⊎◌, inl, inr, refl, ap, sym, ◌∙◌, subst, arith}
+use Rattle.std.proofs.Common.{◌≡◌, ℕ, zero, suc, ◌+◌, ◌≤◌, ◌<◌, List, [], ◌∷◌, length, true, false, Option, Some, None, IfSome, IfNone, slice_get, ◌⊎◌, inl, inr, ap, sym, ◌∙◌, subst, arith}
 use Rattle.ciel_journal.specs.Turns.{FirstDue, IsDue, NothingDue, due_test}
 use Rattle.ciel_journal.proofs.CheckTurns.{is_due, due_is}
 

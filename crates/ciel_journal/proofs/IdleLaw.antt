@@ -1,5 +1,5 @@
 -- The idle workers from one on.
-use Rattle.std.proofs.Common.{◌≡◌, ℕ, suc, ◌+◌, ◌-◌, ◌<◌, List, [], ◌∷◌, ◌++◌, Bool, true, false, cond, ap, sym, ◌∙◌, refl, arith, append_assoc}
+use Rattle.std.proofs.Common.{◌≡◌, ℕ, suc, ◌+◌, ◌-◌, ◌<◌, List, [], ◌∷◌, ◌++◌, true, false, cond, ap, sym, ◌∙◌, arith, append_assoc}
 use Rattle.ciel_journal.specs.Turns.{idle_from, is_idle}
 
 idle_next : (gone busy : List ℕ) (w n : ℕ) → w < n → idle_from gone busy w (n - w) ≡ cond (is_idle gone busy w) (w ∷ idle_from gone busy (w + 1) (n - (w + 1))) (idle_from gone busy (w + 1) (n - (w + 1)))

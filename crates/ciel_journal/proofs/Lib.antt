@@ -1,4 +1,4 @@
-pub mod Tests
+pub mod Members
 pub mod Append
 pub mod Circle
 pub mod ReadyOrCircle
@@ -23,3 +23,4 @@ pub mod Searching
 pub mod Walking
 pub mod IdleLaw
 pub mod DueLaw
+pub mod ThreeLaw

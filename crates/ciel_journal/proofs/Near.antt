@@ -5,7 +5,7 @@ use Rattle.std.specs.List.{list_any}
 use Rattle.ciel_journal.specs.Job.{Task, show, Job, In, Each, IsJob}
 use Rattle.ciel_journal.specs.History.{Save, Standing, better, last_save, needs_of, needs, same_task}
 use Rattle.ciel_journal.specs.Turns.{Reached, root, through, Ready, Circle}
-use Rattle.ciel_journal.proofs.Tests.{in_any}
+use Rattle.ciel_journal.proofs.Members.{in_any}
 use Rattle.ciel_journal.proofs.Numbers.{in_left}
 use Rattle.ciel_journal.proofs.ReadyOrCircle.{ready_or_circle}
 

@@ -3,7 +3,7 @@ use Rattle.std.proofs.Common.{◌≡◌, ℕ, ◌+◌, ◌<◌, List, [], ◌∷
 use Rattle.ciel_journal.specs.Job.{Each, In, IsJob, Job}
 use Rattle.ciel_journal.specs.History.{Event, Order, Plan, Standing, after, closed, done, done_with, find_order, lost, missed, saved, saved_with, start}
 use Rattle.ciel_journal.specs.Lawful.{Step}
-use Rattle.ciel_journal.proofs.Tests.{bool_cases}
+use Rattle.ciel_journal.proofs.Members.{bool_cases}
 use Rattle.ciel_journal.proofs.Good.{after_done, after_saved, after_missed, each_join, each_filter}
 use Rattle.ciel_journal.proofs.Booked.{each_more}
 

@@ -5,7 +5,7 @@ use Rattle.ciel_journal.specs.History.{Event, start, done, saved, missed, lost, 
 use Rattle.ciel_journal.specs.Lawful.{Lawful, Step, Marked, NoClash}
 use Rattle.ciel_journal.specs.Names.{Entry, low_made, journal_of}
 use Rattle.ciel_journal.specs.Laws.{Publishes}
-use Rattle.ciel_journal.proofs.Tests.{each_of}
+use Rattle.ciel_journal.proofs.Members.{each_of}
 use Rattle.ciel_journal.proofs.Append.{lawful_split, after_join}
 use Rattle.ciel_journal.proofs.Numbers.{found_in, in_left}
 use Rattle.ciel_journal.proofs.Shelved.{shelved_start, shelved_all, book_all, apart_all, one_name}

@@ -4,7 +4,7 @@ use Rattle.std.specs.List.{list_any, IsDistinct}
 use Rattle.ciel_journal.specs.Job.{Each, In, IsJob, Job, Task, show}
 use Rattle.ciel_journal.specs.History.{Order, Standing, is_out, live, live_if, needs, same_task}
 use Rattle.ciel_journal.specs.Turns.{Chain, Circle, Reached, Ready, WaitsOn, root, through}
-use Rattle.ciel_journal.proofs.Tests.{bool_cases, any_in, distinct_more, distinct_none, fewer, each_of}
+use Rattle.ciel_journal.proofs.Members.{bool_cases, any_in, distinct_more, distinct_none, fewer, each_of}
 
 module _ {D : Type 0} (job : Job D) (laws : IsJob job) (v : Standing D) where
   unmet : (ds : List D) → Each (λ d. live job v d ≡ true) ds ⊎ ((d : D) × In d ds × (live job v d ≡ false))

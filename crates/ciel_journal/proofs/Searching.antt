@@ -1,5 +1,5 @@
 -- The search keeps that all it has seen is reached, and that what it has worked off leads nowhere new.
-use Rattle.std.proofs.Common.{◌≡◌, ℕ, zero, suc, ◌+◌, ◌-◌, ◌*◌, ◌≤◌, ◌<◌, List, [], ◌∷◌, ◌++◌, length, length-append, append_assoc, append-nil, Bool, true, false, cond, ◌||◌, nat_eq, Option, Some, None, ◌⊎◌, inl, inr, refl, ap, sym, ◌∙◌, subst, arith, eqb-true, eq-eqb}
+use Rattle.std.proofs.Common.{◌≡◌, ℕ, ◌≤◌, List, [], ◌∷◌, ◌++◌, length, append_assoc, append-nil, Bool, true, false, cond, ◌||◌, nat_eq, Option, Some, None, ◌⊎◌, inl, inr, refl, ap, sym, ◌∙◌, subst, arith, eqb-true, eq-eqb}
 use Rattle.std.specs.List.{list_any, IsDistinct, AllByRecursion}
 use Rattle.std.proofs.lemmas.Map.Made.{length-le_from_is_member}
 use Rattle.std.specs.Cmp.{IsEquivalence}
@@ -33,7 +33,7 @@ among_cases e (x ∷ xs) ys h = pick (nat_eq e x) (among_cases e xs ys) h
     pick true r h = inl refl
     pick false r h = r h
 
-among_one : (e x : ℕ) → Among e (x ∷ []) → e ≡ x
+pub among_one : (e x : ℕ) → Among e (x ∷ []) → e ≡ x
 among_one e x h = pick (bool_cases (nat_eq e x))
   where
     pick : ((nat_eq e x ≡ true) ⊎ (nat_eq e x ≡ false)) → e ≡ x
@@ -43,7 +43,7 @@ among_one e x h = pick (bool_cases (nat_eq e x))
 among_self : (e : ℕ) (xs : List ℕ) → Among e (e ∷ xs)
 among_self e xs = ap (λ b. b || list_any (nat_eq e) xs) (eq-eqb e e refl)
 
-among_head : (e x : ℕ) (xs : List ℕ) → Among e (x ∷ xs) → (e ≡ x) ⊎ Among e xs
+pub among_head : (e x : ℕ) (xs : List ℕ) → Among e (x ∷ xs) → (e ≡ x) ⊎ Among e xs
 among_head e x xs h = pick (bool_cases (nat_eq e x))
   where
     pick : ((nat_eq e x ≡ true) ⊎ (nat_eq e x ≡ false)) → (e ≡ x) ⊎ Among e xs

@@ -5,7 +5,7 @@ use Rattle.std.specs.List.{list_any}
 use Rattle.ciel_journal.specs.Job.{Digest, Task, show, of, Job, In, Each, IsJob, Needed}
 use Rattle.ciel_journal.specs.History.{Event, start, done, saved, missed, lost, Order, Plan, Standing, after, after_all, before_all, closed, done_with, saved_with, learned, names_of, order_of, placed}
 use Rattle.ciel_journal.specs.Lawful.{Copied, FetchedFrom, LawfulFrom, Marked, NoClash, StartAllowed, Step, least, least_with, own_name}
-use Rattle.ciel_journal.proofs.Tests.{any_in, in_any, each_of, or_true}
+use Rattle.ciel_journal.proofs.Members.{any_in, in_any, each_of, or_true}
 use Rattle.ciel_journal.proofs.Booked.{each_more, learned_keeps}
 use Rattle.ciel_journal.proofs.Good.{after_done, after_saved, after_missed, each_join, each_filter}
 use Rattle.ciel_journal.proofs.Numbers.{found_in}

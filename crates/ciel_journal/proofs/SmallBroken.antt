@@ -1,14 +1,13 @@
 -- Why the small histories that break a law do.
-use Rattle.std.proofs.Common.{◌≡◌, ℕ, zero, suc, ◌+◌, ◌≤◌, ◌<◌, List, [], ◌∷◌, ◌++◌, Bool, true, false, cond, Option, Some, None, slice_get, ◌⊎◌, inl, inr, refl, ap, sym, ◌∙◌, subst, arith}
-use Rattle.ciel_journal.specs.Job.{Digest, Task, show, of, Act, made, wait, Job, In, Each, IsPrefix, WaitOf, Needed, root, waited, waits_in}
-use Rattle.ciel_journal.specs.History.{Event, Plan, before_all, standing, live}
+use Rattle.std.proofs.Common.{◌≡◌, ℕ, zero, suc, List, [], ◌∷◌, ◌++◌, Bool, true, false, cond, Some, slice_get, ◌⊎◌, inl, inr, refl, ap, sym, ◌∙◌, subst, arith}
+use Rattle.ciel_journal.specs.Job.{Task, show, of, Act, made, wait, In, IsPrefix, WaitOf, Needed, root, waited, waits_in}
+use Rattle.ciel_journal.specs.History.{before_all, standing, live}
 use Rattle.ciel_journal.specs.Fixed.{Fixed, Piece, all_seen, until, acts_by, seen_with, fixed_job, small_lists, squares, piece_task}
 use Rattle.ciel_journal.specs.Fixed as f
 use Rattle.ciel_journal.specs.SmallHistories as h
 use Rattle.ciel_journal.specs.SmallFacts.{BreaksLaw, BreaksTurns}
 use Rattle.ciel_journal.proofs.Check.{lawful_true}
 use Rattle.ciel_journal.proofs.Circle.{get_front, waits_join}
-use Rattle.ciel_journal.proofs.Near.{in_join}
 use Rattle.ciel_journal.proofs.SmallHistories.{laws_of, squares_needed, squares_are}
 
 -- ---- which tasks are needed
@@ -134,8 +133,8 @@ dropped =
     record {
       lawful = lawful_true squares (laws_of false) 8 squares_needed squares_are h.one_worker (before_all squares) h.begun tt refl;
       broken = λ l. let a = l.1.0.allowed.2.spawns in
-      let o = l.1.0.allowed.1 in
-      cc;
+          let o = l.1.0.allowed.1 in
+          cc;
     }
 
 pub undone : BreaksTurns h.loss_of_the_only h.leaves_losses_undone

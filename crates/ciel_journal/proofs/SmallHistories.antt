@@ -1,7 +1,7 @@
 -- The small histories, by the tests that are computed.
-use Rattle.std.proofs.Common.{◌≡◌, ℕ, zero, suc, ◌+◌, ◌≤◌, ◌<◌, List, [], ◌∷◌, ◌++◌, Bool, true, false, cond, Option, Some, None, slice_get, ◌⊎◌, inl, inr, refl, ap, sym, ◌∙◌, subst, arith}
-use Rattle.ciel_journal.specs.Job.{Digest, Task, show, of, Act, made, wait, Job, In, Each, IsJob, IsPrefix, WaitOf, Needed, root, waited, waits_in}
-use Rattle.ciel_journal.specs.History.{Event, Plan, before_all, standing, live}
+use Rattle.std.proofs.Common.{List, [], ◌∷◌, Bool, true, false, inl, refl}
+use Rattle.ciel_journal.specs.Job.{Task, show, of, Each, IsJob, Needed, root, waited}
+use Rattle.ciel_journal.specs.History.{before_all}
 use Rattle.ciel_journal.specs.Lawful.{Lawful}
 use Rattle.ciel_journal.specs.Turns.{Driven}
 use Rattle.ciel_journal.specs.Fixed.{Fixed, Piece, all_seen, until, acts_by, seen_with, fixed_job, small_lists, squares, lines}

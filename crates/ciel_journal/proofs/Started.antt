@@ -9,7 +9,7 @@ use Rattle.ciel_journal.specs.Work.{Slot, same_slot, Covers, Work, total, starts
 use Rattle.ciel_journal.proofs.Append.{lawful_split}
 use Rattle.ciel_journal.proofs.Text.{places_text}
 use Rattle.ciel_journal.proofs.Bound.{slot_refl, starts_bound}
-use Rattle.ciel_journal.proofs.Tests.{in_any}
+use Rattle.ciel_journal.proofs.Members.{in_any}
 use Rattle.ciel_journal.proofs.Numbers.{in_left}
 use Rattle.ciel_journal.proofs.Near.{in_right}
 

@@ -5,7 +5,7 @@ use Rattle.ciel_journal.specs.Job.{Digest, In, IsJob, Job, Task}
 use Rattle.ciel_journal.specs.History.{Event, Order, Plan, Standing, after, after_all, before_all, done, lost, missed, names_of, order_of, placed, saved, start}
 use Rattle.ciel_journal.specs.Live.{Published, LostIn}
 use Rattle.ciel_journal.specs.Lawful.{Lawful, LawfulFrom, Step}
-use Rattle.ciel_journal.proofs.Tests.{bool_cases, or_true}
+use Rattle.ciel_journal.proofs.Members.{bool_cases, or_true}
 use Rattle.ciel_journal.proofs.Good.{after_done, after_saved, after_missed}
 use Rattle.ciel_journal.proofs.Booked.{any_join_left, any_join_last, any_join_cases}
 use Rattle.ciel_journal.proofs.Numbers.{Numbered, numbered_step, in_left, last_in, in_last, in_filter, found_in}

@@ -4,7 +4,7 @@ use Rattle.ciel_journal.specs.Job.{Act, Digest, Each, Held, In, IsJob, Job, Task
 use Rattle.ciel_journal.specs.History.{Event, Order, Plan, Standing, after, before_all, done, find_order, lost, missed, saved, start}
 use Rattle.ciel_journal.specs.Lawful.{Copied, DoneAllowed, FetchedFrom, HeldAt, Lawful, LawfulFrom, Marked, MissedAllowed, NoClash, SavedAllowed, SpawnedTo, SpawnedToEnd, Step, own_name}
 use Rattle.ciel_journal.specs.Names.{journal_of, low, low_names, low_task}
-use Rattle.ciel_journal.proofs.Tests.{each_of}
+use Rattle.ciel_journal.proofs.Members.{each_of}
 use Rattle.ciel_journal.proofs.Circle.{acts_grow, ended_stays}
 use Rattle.ciel_journal.proofs.Numbers.{found_in}
 use Rattle.ciel_journal.proofs.Shelved.{Shelved, shelved_start, shelved_step, fetched_in, started_own, one_name}

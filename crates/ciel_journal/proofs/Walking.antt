@@ -1,12 +1,12 @@
 -- A walk along unmet needs: each name of the trail waits for the next one.
-use Rattle.std.proofs.Common.{◌≡◌, ℕ, zero, suc, ◌+◌, ◌-◌, ◌≤◌, ◌<◌, List, [], ◌∷◌, ◌++◌, length, length-append, drop, Bool, true, false, ◌||◌, nat_eq, Option, Some, None, slice_get, ◌⊎◌, inl, inr, refl, ap, sym, ◌∙◌, subst, arith, eqb-true, eq-eqb}
+use Rattle.std.proofs.Common.{◌≡◌, ℕ, zero, suc, ◌-◌, ◌≤◌, List, [], ◌∷◌, ◌++◌, length, drop, Bool, true, false, ◌||◌, nat_eq, Option, Some, None, slice_get, ◌⊎◌, inl, inr, refl, ap, sym, ◌∙◌, subst, arith, eqb-true, eq-eqb}
 use Rattle.std.proofs.Math.ListN.{take}
 use Rattle.std.proofs.Math.Seq.{take-length}
 use Rattle.std.proofs.lemmas.List.{length-drop}
-use Rattle.std.specs.List.{list_any, IsDistinct, AllByRecursion}
+use Rattle.std.specs.List.{list_any, IsDistinct}
 use Rattle.ciel_journal.specs.Search.{Among, IsCircle, IsReached, IsWithin, LedTo, Links, SomeMet, first, further, unmet}
 use Rattle.ciel_journal.proofs.Searching.{distinct_last, distinct_nothing, few_of}
-use Rattle.ciel_journal.proofs.Tests.{bool_cases}
+use Rattle.ciel_journal.proofs.Members.{bool_cases}
 
 module _ (needs : Option ℕ → List ℕ) (live : ℕ → Bool) where
   -- from x on each name stands among what the one before waits for, up to the one at the end

@@ -4,6 +4,7 @@ pub mod Lawful
 pub mod Live
 pub mod Turns
 pub mod Search
+pub mod Three
 pub mod Work
 pub mod Names
 pub mod Fixed

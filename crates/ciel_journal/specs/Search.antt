@@ -1,5 +1,5 @@
 -- What is reached backward from a root, through what isn't live.
-use Rattle.std.specs.Prelude.{◌≡◌, ◌≢◌, ℕ, List, [], ◌∷◌, ◌++◌, Bool, true, false, cond, not, filter, nat_eq, Option, Some, None, length, ◌⊎◌}
+use Rattle.std.specs.Prelude.{◌≡◌, ℕ, List, [], ◌∷◌, ◌++◌, Bool, true, cond, not, filter, nat_eq, Option, Some, None, length}
 use Rattle.std.specs.List.{list_any, IsDistinct}
 
 abbrev pub Among : ℕ → List ℕ → Type 0

@@ -1,10 +1,9 @@
 -- What is lawful and driven of the small histories, and what isn't.
-use Rattle.std.specs.Prelude.{ℕ, List, [], ◌∷◌, ◌++◌}
+use Rattle.std.specs.Prelude.{List}
 use Rattle.ciel_journal.specs.History.{Event, Plan}
 use Rattle.ciel_journal.specs.Lawful.{Lawful}
 use Rattle.ciel_journal.specs.Turns.{Driven}
-use Rattle.ciel_journal.specs.Fixed.{Piece, squares, lines}
-use Rattle.ciel_journal.specs.SmallHistories.{one_worker, leaves_losses_undone, loss_of_the_only}
+use Rattle.ciel_journal.specs.Fixed.{Piece, squares}
 
 -- before is lawful for this plan, and not with what the whole adds
 pub record BreaksLaw (p : Plan) (before whole : List (Event Piece)) : Type 0 where

@@ -1,8 +1,8 @@
 -- Histories of the small jobs.
-use Rattle.std.specs.Prelude.{ℕ, List, [], ◌∷◌, ◌++◌}
-use Rattle.ciel_journal.specs.Job.{Digest, Task, show, of}
+use Rattle.std.specs.Prelude.{List, [], ◌∷◌, ◌++◌}
+use Rattle.ciel_journal.specs.Job.{show, of}
 use Rattle.ciel_journal.specs.History.{Event, start, done, saved, missed, lost, Plan}
-use Rattle.ciel_journal.specs.Fixed.{Piece, main, one, two, left, right, text, object_mark, state_mark}
+use Rattle.ciel_journal.specs.Fixed.{Piece, main, one, two, left, right, object_mark, state_mark}
 
 abbrev pub one_worker : Plan
 one_worker = record { workers = 1; seed = 0; losses = []; limit = 65536 }

@@ -1,13 +1,43 @@
 //! Laws of histories, over every job. Each is the contract of a function that does nothing.
 
+ghost use Rattle.std.specs.Prelude.{◌++◌};
 ghost use Rattle.ciel_journal.specs.Fixed.{squares, lines};
 ghost use Rattle.ciel_journal.specs.Job.{IsJob};
+ghost use Rattle.ciel_journal.specs.Lawful.{Lawful};
+ghost use Rattle.ciel_journal.specs.SmallFacts.{BreaksLaw, BreaksTurns};
+ghost use Rattle.ciel_journal.specs.SmallHistories as h;
+ghost use Rattle.ciel_journal.specs.Turns.{Driven};
 ghost use Rattle.ciel_journal.specs.Laws.{CircleIsEndless, FewStarts, LiveIsTold, MadeIsSeen, NamesDetermine, OneMark, OneState, OneWorker, ReadyOrCircle, StartedIsMissing, StartedIsNeeded};
 
 /// The two small jobs have the laws that are asked of a job.
 pub fn small_jobs_are_jobs()
     ensures squares { IsJob squares }
     ensures lines { IsJob lines }
+{}
+
+/// Histories of the small jobs that are driven: the squares with one worker; with two, of which the
+/// first is lost after two closes; with one that is lost before all else; and the lines with two
+/// workers, where what is read from another worker is copied. One more is lawful: a square that is
+/// missed and made again.
+pub fn small_histories_are_driven()
+    ensures alone { Driven squares h.one_worker h.squares_alone }
+    ensures recovered { Driven squares h.loss_after_two h.squares_recovered }
+    ensures lost { Driven squares h.loss_at_once h.lost_at_once }
+    ensures copied { Driven lines h.two_workers h.lines_copied }
+    ensures missed { Lawful squares h.loss_of_the_first h.missed_and_made_again }
+{}
+
+/// Histories of the small job that are lawful up to their last event and not with it: one starts what
+/// nobody needs, one runs a live task again, one keeps places of a lost worker, one resumes another
+/// wait, one drops what was spawned at a save. One more is lawful and not driven: it leaves a loss
+/// undone.
+pub fn small_histories_break_laws()
+    ensures needless { BreaksLaw h.one_worker h.saved_once h.starts_what_nobody_needs }
+    ensures again { BreaksLaw h.one_worker (h.saved_once ++ h.first_square) h.runs_a_live_task_again }
+    ensures kept_places { BreaksLaw h.loss_of_the_first h.square_lost h.keeps_places_of_a_lost_worker }
+    ensures other_wait { BreaksLaw h.one_worker (h.saved_once ++ h.first_square) h.resumes_another_wait }
+    ensures dropped { BreaksLaw h.one_worker h.begun h.drops_spawned_at_a_save }
+    ensures undone { BreaksTurns h.loss_of_the_only h.leaves_losses_undone }
 {}
 
 /// What is live by what stands after a lawful history is an input, or a description with a Done

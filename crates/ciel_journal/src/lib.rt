@@ -4,4 +4,6 @@
 
 pub mod law;
 pub mod search;
+#[cfg(test)]
+mod tests;
 pub mod turn;

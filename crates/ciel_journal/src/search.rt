@@ -9,6 +9,7 @@ use std::alloc::{AllocError, Global};
 /// What waits for what. A name is a number; `None` is the root.
 pub trait Waits {
     ghost needs: { Self → Option ℕ → List ℕ };
+
     ghost live: { Self → ℕ → Bool };
 
     /// What a name, or the root, waits for.
@@ -28,7 +29,11 @@ pub fn has(names: &[u32], name: u32) -> bool
 }
 
 /// What a name, or the root, waits for and isn't live.
-pub fn unmet_needs<W: Waits>(alloc: Global, waits: &W, from: Option<u32>) -> Result<Vec<u32>, AllocError>
+pub fn unmet_needs<W: Waits>(
+    alloc: Global,
+    waits: &W,
+    from: Option<u32>,
+) -> Result<Vec<u32>, AllocError>
     ensures unmet { IfOk result (λ ns. ns.items ≡ unmet (W.needs waits.now) (W.live waits.now) from) }
 {
     let needs = waits.needs(alloc, from)?;
@@ -76,7 +81,11 @@ pub fn reached<W: Waits>(alloc: Global, waits: &W, bound: usize) -> Result<Vec<u
 }
 
 /// The first of what a name, or the root, waits for and isn't live.
-fn first_unmet<W: Waits>(alloc: Global, waits: &W, from: Option<u32>) -> Result<Option<u32>, AllocError>
+fn first_unmet<W: Waits>(
+    alloc: Global,
+    waits: &W,
+    from: Option<u32>,
+) -> Result<Option<u32>, AllocError>
     ensures first { IfOk result (λ o. o ≡ slice_get (unmet (W.needs waits.now) (W.live waits.now) from) 0) }
 {
     let unmet = unmet_needs(alloc, waits, from)?;
@@ -103,7 +112,11 @@ fn place_of(names: &[u32], name: u32) -> Option<usize>
 /// Goes from the root to the first of what it waits for and isn't live, and so on. Where a name
 /// comes again, that is a circle of waits. `None` where nothing is unmet. `bound` is the length of a
 /// list that has all that is reached.
-pub fn follow<W: Waits>(alloc: Global, waits: &W, bound: usize) -> Result<Option<Vec<u32>>, AllocError>
+pub fn follow<W: Waits>(
+    alloc: Global,
+    waits: &W,
+    bound: usize,
+) -> Result<Option<Vec<u32>>, AllocError>
     requires within { IsWithin (W.needs waits.now) (W.live waits.now) bound }
     ensures circle { IfOk result (λ o. IfSome o (λ c. IsCircle (W.needs waits.now) (W.live waits.now) c.items)) }
     ensures met { IfOk result (λ o. IfNone o (SomeMet (W.needs waits.now) (W.live waits.now))) }

@@ -1,6 +1,6 @@
-use Rattle.std.proofs.Common.{◌≡◌, ◌++◌, ◌∷◌, [], ◌+◌, ◌-◌, ◌*◌, ◌<◌, ◌≤◌, ◌∙◌, ap, sym, subst, refl, arith, length, length-append, drop, nat_eq, false, slice_get, ℕ, List, Bool, Option, Some, None}
+use Rattle.std.proofs.Common.{◌≡◌, ◌++◌, ◌∷◌, [], ◌+◌, ◌∙◌, ap, sym, subst, arith, length, length-append, drop, nat_eq, false, slice_get, ℕ, List, Some}
 use Rattle.std.specs.List.{list_any}
-use Rattle.ciel_journal.specs.Search.{IsCircle, LedTo, Among, unmet}
+use Rattle.ciel_journal.specs.Search.{IsCircle}
 use Rattle.ciel_journal.proofs.Walking.{Walking, walk_start, walk_step, walk_met, walk_circle, take_rest}
 use Rattle.ciel_journal.proofs.search.follow.Goals as goal
 

@@ -1,5 +1,5 @@
-use Rattle.std.proofs.Common.{◌≡◌, ◌++◌, ◌∷◌, [], ◌+◌, ◌-◌, ◌*◌, ◌<◌, ◌≤◌, ◌∙◌, ap, sym, subst, refl, arith, length, length-append, ℕ, List, Bool, Option, Some, None}
-use Rattle.ciel_journal.specs.Search.{news, LedTo, Among, unmet}
+use Rattle.std.proofs.Common.{◌≡◌, ◌++◌, ◌∷◌, [], ◌+◌, ◌∙◌, ap, sym, subst, arith, length, length-append, ℕ, List, Some, None}
+use Rattle.ciel_journal.specs.Search.{news, unmet}
 use Rattle.ciel_journal.proofs.Searching.{Searching, search_start, search_step, search_end, nothing}
 use Rattle.ciel_journal.proofs.search.reached.Goals as goal
 

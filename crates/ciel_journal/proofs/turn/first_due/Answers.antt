@@ -14,24 +14,24 @@ loop-i-preserved c =
     let x : ℕ × ℕ = common.get_or losses n (0, 0) in
     let g = slice_get-get_or losses n (0, 0) c.loop-i-test.true in
     elim c.if-is_due.branch [
-      then-is_due+in-Some+then-losses-i w ↦
-      let b : Below losses closes gone n (Some w.in-Some.j) = subst (Below losses closes gone n) w.in-Some.is c.loop-i.invariant in
-      let l = b.0 in
-      let m = c.loop-i-test.true in
-      let y : ℕ × ℕ = common.get_or losses w.in-Some.j (0, 0) in
-      let h = slice_get-get_or losses w.in-Some.j (0, 0) (omega (arith, l, m)) in
-      below_next losses closes gone n c.if-is_due.first (subst (Below losses closes gone (suc n)) (sym w.first-is) (below_better losses closes gone n w.in-Some.j x y g h (sym c.is_due.ensures.due ∙ w.if-is_due.true) w.if-losses-i.true b))
-    | then-is_due+in-Some+else-losses-i w ↦
-      let b : Below losses closes gone n (Some w.in-Some.j) = subst (Below losses closes gone n) w.in-Some.is c.loop-i.invariant in
-      let l = b.0 in
-      let m = c.loop-i-test.true in
-      let y : ℕ × ℕ = common.get_or losses w.in-Some.j (0, 0) in
-      let h = slice_get-get_or losses w.in-Some.j (0, 0) (omega (arith, l, m)) in
-      below_next losses closes gone n c.if-is_due.first (subst (Below losses closes gone (suc n)) (sym w.first-is) (below_keep losses closes gone n w.in-Some.j x y g h w.if-losses-i.false b))
-    | then-is_due+in_default w ↦
-      below_next losses closes gone n c.if-is_due.first (subst (Below losses closes gone (suc n)) (sym w.first-is) (below_first losses closes gone n x g (sym c.is_due.ensures.due ∙ w.if-is_due.true) (subst (Below losses closes gone n) w.in_default.is c.loop-i.invariant)))
-    | else-is_due w ↦
-      below_next losses closes gone n c.if-is_due.first (subst (Below losses closes gone (suc n)) (sym w.first-is) (below_skip losses closes gone n c.loop-i.first x g (sym c.is_due.ensures.due ∙ w.if-is_due.false) c.loop-i.invariant))
+      | then-is_due+in-Some+then-losses-i w ↦
+          let b : Below losses closes gone n (Some w.in-Some.j) = subst (Below losses closes gone n) w.in-Some.is c.loop-i.invariant in
+          let l = b.0 in
+          let m = c.loop-i-test.true in
+          let y : ℕ × ℕ = common.get_or losses w.in-Some.j (0, 0) in
+          let h = slice_get-get_or losses w.in-Some.j (0, 0) (omega (arith, l, m)) in
+          below_next losses closes gone n c.if-is_due.first (subst (Below losses closes gone (suc n)) (sym w.first-is) (below_better losses closes gone n w.in-Some.j x y g h (sym c.is_due.ensures.due ∙ w.if-is_due.true) w.if-losses-i.true b))
+      | then-is_due+in-Some+else-losses-i w ↦
+          let b : Below losses closes gone n (Some w.in-Some.j) = subst (Below losses closes gone n) w.in-Some.is c.loop-i.invariant in
+          let l = b.0 in
+          let m = c.loop-i-test.true in
+          let y : ℕ × ℕ = common.get_or losses w.in-Some.j (0, 0) in
+          let h = slice_get-get_or losses w.in-Some.j (0, 0) (omega (arith, l, m)) in
+          below_next losses closes gone n c.if-is_due.first (subst (Below losses closes gone (suc n)) (sym w.first-is) (below_keep losses closes gone n w.in-Some.j x y g h w.if-losses-i.false b))
+      | then-is_due+in_default w ↦
+          below_next losses closes gone n c.if-is_due.first (subst (Below losses closes gone (suc n)) (sym w.first-is) (below_first losses closes gone n x g (sym c.is_due.ensures.due ∙ w.if-is_due.true) (subst (Below losses closes gone n) w.in_default.is c.loop-i.invariant)))
+      | else-is_due w ↦
+          below_next losses closes gone n c.if-is_due.first (subst (Below losses closes gone (suc n)) (sym w.first-is) (below_skip losses closes gone n c.loop-i.first x g (sym c.is_due.ensures.due ∙ w.if-is_due.false) c.loop-i.invariant))
     ]
 
 pub returns-clause-first : goal.returns-clause-first
