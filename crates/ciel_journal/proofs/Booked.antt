@@ -49,7 +49,7 @@ module _ {D : Type 0} (job : Job D) (laws : IsJob job) where
   learned_keeps book [] d h = h
   learned_keeps book (e ∷ es) d h = learned_keeps (cond (list_any (job.same e) book) book (book ++ e ∷ [])) es d (one_keeps book e d h)
 
-  one_has : (book : List D) (e : D) → Holds (cond (list_any (job.same e) book) book (book ++ e ∷ [])) e
+  pub one_has : (book : List D) (e : D) → Holds (cond (list_any (job.same e) book) book (book ++ e ∷ [])) e
   one_has book e = pick (list_any (job.same e) book) refl
     where
       pick : (b : Bool) → list_any (job.same e) book ≡ b → Holds (cond b book (book ++ e ∷ [])) e

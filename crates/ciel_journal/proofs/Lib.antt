@@ -24,3 +24,6 @@ pub mod Walking
 pub mod IdleLaw
 pub mod DueLaw
 pub mod ThreeLaw
+pub mod BookKnown
+pub mod Startable
+pub mod SmallKnown

@@ -62,7 +62,7 @@ module _ {D : Type 0} (job : Job D) (laws : IsJob job) where
   learned_in book ds d i =
       any_in job.same laws.same_exact d (learned job book ds) (learned_keeps job laws book ds d (in_any job.same laws.same_refl d book i))
 
-  made_output : (ds : List D) (made : List (D × Digest)) → Marked job ds made → (d : D) → In d (names_of made) → In d ds
+  pub made_output : (ds : List D) (made : List (D × Digest)) → Marked job ds made → (d : D) → In d (names_of made) → In d ds
   made_output [] [] m d i = i
   made_output [] (x ∷ xs) m d i = absurd m
   made_output (e ∷ es) [] m d i = absurd m

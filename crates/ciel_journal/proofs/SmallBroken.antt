@@ -12,7 +12,7 @@ use Rattle.ciel_journal.proofs.SmallHistories.{laws_of, squares_needed, squares_
 
 -- ---- which tasks are needed
 
-until_prefix : {D : Type 0} (s : D → Bool) (es : List (Act D)) → IsPrefix (until s es) es
+pub until_prefix : {D : Type 0} (s : D → Bool) (es : List (Act D)) → IsPrefix (until s es) es
 until_prefix s [] = ([], refl)
 until_prefix s (made d ∷ es) = let p = until_prefix s es in (p.0, ap (λ xs. made d ∷ xs) p.1)
 until_prefix s (wait ds ∷ es) = pick (all_seen s ds) (until_prefix s es)
@@ -21,7 +21,7 @@ until_prefix s (wait ds ∷ es) = pick (all_seen s ds) (until_prefix s es)
     pick true p = (p.0, ap (λ xs. wait ds ∷ xs) p.1)
     pick false p = (es, refl)
 
-acts_prefix : {D : Type 0} (x : Fixed D) (s : D → Bool) (t : Task D) → IsPrefix (acts_by x s t) (x.script t)
+pub acts_prefix : {D : Type 0} (x : Fixed D) (s : D → Bool) (t : Task D) → IsPrefix (acts_by x s t) (x.script t)
 acts_prefix x s t = pick (all_seen s (x.first t))
   where
     pick : (b : Bool) → IsPrefix (cond b (until s (x.script t)) []) (x.script t)
@@ -29,7 +29,7 @@ acts_prefix x s t = pick (all_seen s (x.first t))
     pick false = (x.script t, refl)
 
 -- what is waited for stands in the list of the task
-script_wait : {D : Type 0} (x : Fixed D) (t : Task D) (j : ℕ) (ds : List D) → WaitOf (fixed_job x) t (suc j) ds → slice_get (waits_in (x.script t)) j ≡ Some ds
+pub script_wait : {D : Type 0} (x : Fixed D) (t : Task D) (j : ℕ) (ds : List D) → WaitOf (fixed_job x) t (suc j) ds → slice_get (waits_in (x.script t)) j ≡ Some ds
 script_wait x t j ds w =
     let p = acts_prefix x (seen_with x w.0) t in
     let a = get_front (waits_in (acts_by x (seen_with x w.0) t)) (waits_in p.0) j ds w.1 in
@@ -41,7 +41,7 @@ Wanted d = (d ≡ f.main) ⊎ ((d ≡ f.one) ⊎ (d ≡ f.two))
 abbrev Among : Task Piece → Type 0
 Among t = (t ≡ show) ⊎ ((d : Piece) × Wanted d × (t ≡ of d))
 
-one_of : (d x : Piece) → In d (x ∷ []) → d ≡ x
+pub one_of : (d x : Piece) → In d (x ∷ []) → d ≡ x
 one_of d x (inl s) = s
 one_of d x (inr i) = absurd i
 

@@ -1,6 +1,7 @@
 -- Jobs whose tasks follow fixed lists of acts: each task makes and waits for what its list says, and comes to its end
 -- once all that it waits for is seen. A small one is written out.
 use Rattle.std.specs.Prelude.{◌≡◌, ℕ, zero, suc, ◌<◌, List, [], ◌∷◌, length, Bool, true, false, cond, ◌&&◌, Option, Some, None, nat_eq, nat_le}
+use Rattle.ciel_journal.specs.Known.{Inner}
 use Rattle.ciel_journal.specs.Job.{Digest, Task, show, of, Act, made, wait, Job, In, waits_in}
 
 pub record Fixed (D : Type 0) : Type 0 where
@@ -77,8 +78,8 @@ module _ {D : Type 0} (f : Fixed D) where
     pub size : D → ℕ
     pub first_smaller : (d e : D) (t : Task D) → f.task_of d ≡ Some t → In e (f.first t) → (t ≡ show → ⊥) → size e < size d
 
--- ---- a small job: the main call spawns two squares and a task over the lines of a text, and waits for the squares, one
--- after the other
+-- ---- a small job: the main call spawns two squares, names a text, spawns a task over its lines, and waits for the squares,
+-- one after the other
 
 pub data Piece : Type 0 where
   main : Piece
@@ -126,7 +127,7 @@ piece_first (of text) = []
 abbrev pub piece_script : Bool → Task Piece → List (Act Piece)
 piece_script reads show = cond reads (wait (left ∷ []) ∷ []) []
 piece_script reads (of main) =
-    made one ∷ made two ∷ made left ∷ made right ∷ wait (one ∷ []) ∷ wait (two ∷ []) ∷ []
+    made one ∷ made two ∷ made text ∷ made left ∷ made right ∷ wait (one ∷ []) ∷ wait (two ∷ []) ∷ []
 piece_script reads (of one) = []
 piece_script reads (of two) = []
 piece_script reads (of left) = []
@@ -172,3 +173,23 @@ squares = fixed_job (small_lists false)
 
 abbrev pub lines : Job Piece
 lines = fixed_job (small_lists true)
+
+-- what stands inside a description, and what its object holds
+abbrev pub piece_inside : Piece → List Piece
+piece_inside main = []
+piece_inside one = []
+piece_inside two = []
+piece_inside left = text ∷ []
+piece_inside right = text ∷ []
+piece_inside text = []
+
+abbrev pub piece_carries : Bool → Piece → List Piece
+piece_carries reads main = cond reads (left ∷ []) []
+piece_carries reads one = []
+piece_carries reads two = []
+piece_carries reads left = []
+piece_carries reads right = []
+piece_carries reads text = []
+
+abbrev pub small_inner : Bool → Inner Piece
+small_inner reads = record { inside = piece_inside; carries = λ n d. piece_carries reads d }

@@ -1,10 +1,11 @@
 -- The laws of a run's journal, each said of every job.
-use Rattle.std.specs.Prelude.{◌≡◌, ℕ, ◌+◌, ◌*◌, ◌≤◌, List, [], ◌∷◌, ◌++◌, length, true, ◌⊎◌, ◌↔◌}
+use Rattle.std.specs.Prelude.{◌≡◌, ℕ, ◌+◌, ◌*◌, ◌≤◌, List, [], ◌∷◌, ◌++◌, length, true, false, ◌⊎◌, ◌↔◌}
 use Rattle.ciel_journal.specs.Job.{Digest, Task, show, Job, In, IsJob, IsPrefix, Needed, Never, ObjectOf}
-use Rattle.ciel_journal.specs.History.{Event, start, done, saved, Plan, live, standing}
+use Rattle.ciel_journal.specs.History.{Event, start, done, saved, Plan, last, live, standing}
+use Rattle.ciel_journal.specs.Known.{Inner, Knows}
 use Rattle.ciel_journal.specs.Lawful.{Lawful}
 use Rattle.ciel_journal.specs.Live.{Live}
-use Rattle.ciel_journal.specs.Turns.{Ready, Circle, Driven}
+use Rattle.ciel_journal.specs.Turns.{Ready, IsReadyList, Circle, Driven, idle}
 use Rattle.ciel_journal.specs.Work.{Work, losses_of, starts_of}
 use Rattle.ciel_journal.specs.Names.{Entry, journal_of}
 
@@ -40,6 +41,16 @@ module _ (D : Type 0) where
   abbrev pub ReadyOrCircle : Type 0
   ReadyOrCircle =
       (job : Job D) → IsJob job → (p : Plan) (h : List (Event D)) → Lawful job p h → (standing job h).orders ≡ [] → ((t : Task D) × Ready job (standing job h) t) ⊎ ((ds : List D) × Circle job (standing job h) ds)
+
+  -- where a job tells where all comes from, and nothing is open, the list of ready tasks isn't empty or there is a circle
+  abbrev pub ListedOrCircle : Type 0
+  ListedOrCircle =
+      (job : Job D) → IsJob job → (inner : Inner D) → Knows job inner → (p : Plan) (h : List (Event D)) → Lawful job p h → (standing job h).orders ≡ [] → (ts : List (Task D)) → IsReadyList job (standing job h) ts → ((t : Task D) × In t ts) ⊎ ((ds : List D) × Circle job (standing job h) ds)
+
+  -- there, where the root task isn't done, a ready task may be started at an idle worker
+  abbrev pub ReadyStarts : Type 0
+  ReadyStarts =
+      (job : Job D) → IsJob job → (inner : Inner D) → Knows job inner → (p : Plan) (h : List (Event D)) → 1 ≤ p.limit → Lawful job p h → (standing job h).over ≡ false → (t : Task D) → Ready job (standing job h) t → (w : ℕ) → In w (idle job p (standing job h)) → Lawful job p (h ++ start (standing job h).starts w t (last job (standing job h) t) ∷ [])
 
   -- a lawful history has no more Starts than there is work, once for each loss and once more
   abbrev pub FewStarts : Type 0

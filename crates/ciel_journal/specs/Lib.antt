@@ -1,6 +1,7 @@
 pub mod Job
 pub mod History
 pub mod Lawful
+pub mod Known
 pub mod Live
 pub mod Turns
 pub mod Search

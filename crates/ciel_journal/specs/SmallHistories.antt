@@ -2,7 +2,7 @@
 use Rattle.std.specs.Prelude.{List, [], ◌∷◌, ◌++◌}
 use Rattle.ciel_journal.specs.Job.{show, of}
 use Rattle.ciel_journal.specs.History.{Event, start, done, saved, missed, lost, Plan}
-use Rattle.ciel_journal.specs.Fixed.{Piece, main, one, two, left, right, object_mark, state_mark}
+use Rattle.ciel_journal.specs.Fixed.{Piece, main, one, two, left, right, text, object_mark, state_mark}
 
 abbrev pub one_worker : Plan
 one_worker = record { workers = 1; seed = 0; losses = []; limit = 65536 }
@@ -12,7 +12,7 @@ one_worker = record { workers = 1; seed = 0; losses = []; limit = 65536 }
 abbrev pub squares_alone : List (Event Piece)
 squares_alone =
     start 0 0 (of main) 0
-    ∷ saved 0 1 (state_mark 1) (one ∷ []) (one ∷ two ∷ left ∷ right ∷ []) (one ∷ two ∷ left ∷ right ∷ [])
+    ∷ saved 0 1 (state_mark 1) (one ∷ []) (one ∷ two ∷ left ∷ right ∷ []) (one ∷ two ∷ text ∷ left ∷ right ∷ [])
     ∷ start 1 0 (of one) 0
     ∷ done 1 ((one, object_mark one) ∷ []) ([]) ([])
     ∷ start 2 0 (of main) 1
@@ -32,12 +32,12 @@ loss_after_two = record { workers = 2; seed = 0; losses = (2, 0) ∷ []; limit =
 abbrev pub squares_recovered : List (Event Piece)
 squares_recovered =
     start 0 0 (of main) 0
-    ∷ saved 0 1 (state_mark 1) (one ∷ []) (one ∷ two ∷ left ∷ right ∷ []) (one ∷ two ∷ left ∷ right ∷ [])
+    ∷ saved 0 1 (state_mark 1) (one ∷ []) (one ∷ two ∷ left ∷ right ∷ []) (one ∷ two ∷ text ∷ left ∷ right ∷ [])
     ∷ start 1 0 (of one) 0
     ∷ done 1 ((one, object_mark one) ∷ []) ([]) ([])
     ∷ lost 0 2
     ∷ start 2 1 (of main) 0
-    ∷ saved 2 1 (state_mark 1) (one ∷ []) (one ∷ two ∷ left ∷ right ∷ []) (one ∷ two ∷ left ∷ right ∷ [])
+    ∷ saved 2 1 (state_mark 1) (one ∷ []) (one ∷ two ∷ left ∷ right ∷ []) (one ∷ two ∷ text ∷ left ∷ right ∷ [])
     ∷ start 3 1 (of one) 0
     ∷ done 3 ((one, object_mark one) ∷ []) ([]) ([])
     ∷ start 4 1 (of main) 1
@@ -66,7 +66,7 @@ two_workers = record { workers = 2; seed = 4; losses = []; limit = 65536 }
 abbrev pub lines_copied : List (Event Piece)
 lines_copied =
     start 0 0 (of main) 0
-    ∷ saved 0 1 (state_mark 1) (one ∷ []) (one ∷ two ∷ left ∷ right ∷ []) (one ∷ two ∷ left ∷ right ∷ [])
+    ∷ saved 0 1 (state_mark 1) (one ∷ []) (one ∷ two ∷ left ∷ right ∷ []) (one ∷ two ∷ text ∷ left ∷ right ∷ [])
     ∷ start 1 1 (of one) 0
     ∷ done 1 ((one, object_mark one) ∷ []) ([]) ([])
     ∷ start 2 1 (of main) 1
@@ -91,7 +91,7 @@ loss_of_the_first = record { workers = 2; seed = 1; losses = (2, 0) ∷ []; limi
 abbrev pub missed_and_made_again : List (Event Piece)
 missed_and_made_again =
     start 0 1 (of main) 0
-    ∷ saved 0 1 (state_mark 1) (one ∷ []) (one ∷ two ∷ left ∷ right ∷ []) (one ∷ two ∷ left ∷ right ∷ [])
+    ∷ saved 0 1 (state_mark 1) (one ∷ []) (one ∷ two ∷ left ∷ right ∷ []) (one ∷ two ∷ text ∷ left ∷ right ∷ [])
     ∷ start 1 0 (of one) 0
     ∷ done 1 ((one, object_mark one) ∷ []) ([]) ([])
     ∷ start 2 1 (of main) 1
@@ -106,7 +106,7 @@ missed_and_made_again =
 abbrev pub saved_once : List (Event Piece)
 saved_once =
     start 0 0 (of main) 0
-    ∷ saved 0 1 (state_mark 1) (one ∷ []) (one ∷ two ∷ left ∷ right ∷ []) (one ∷ two ∷ left ∷ right ∷ [])
+    ∷ saved 0 1 (state_mark 1) (one ∷ []) (one ∷ two ∷ left ∷ right ∷ []) (one ∷ two ∷ text ∷ left ∷ right ∷ [])
     ∷ []
 
 abbrev pub first_square : List (Event Piece)
@@ -127,7 +127,7 @@ runs_a_live_task_again = saved_once ++ (first_square ++ start 2 0 (of one) 0 ∷
 abbrev pub square_lost : List (Event Piece)
 square_lost =
     start 0 1 (of main) 0
-    ∷ saved 0 1 (state_mark 1) (one ∷ []) (one ∷ two ∷ left ∷ right ∷ []) (one ∷ two ∷ left ∷ right ∷ [])
+    ∷ saved 0 1 (state_mark 1) (one ∷ []) (one ∷ two ∷ left ∷ right ∷ []) (one ∷ two ∷ text ∷ left ∷ right ∷ [])
     ∷ start 1 0 (of one) 0
     ∷ done 1 ((one, object_mark one) ∷ []) ([]) ([])
     ∷ lost 0 2

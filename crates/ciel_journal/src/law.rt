@@ -1,18 +1,21 @@
 //! Laws of histories, over every job. Each is the contract of a function that does nothing.
 
-ghost use Rattle.std.specs.Prelude.{◌++◌};
-ghost use Rattle.ciel_journal.specs.Fixed.{squares, lines};
+ghost use Rattle.std.specs.Prelude.{◌++◌, false, true};
+ghost use Rattle.ciel_journal.specs.Fixed.{squares, lines, small_inner};
 ghost use Rattle.ciel_journal.specs.Job.{IsJob};
 ghost use Rattle.ciel_journal.specs.Lawful.{Lawful};
 ghost use Rattle.ciel_journal.specs.SmallFacts.{BreaksLaw, BreaksTurns};
 ghost use Rattle.ciel_journal.specs.SmallHistories as h;
 ghost use Rattle.ciel_journal.specs.Turns.{Driven};
-ghost use Rattle.ciel_journal.specs.Laws.{CircleIsEndless, FewStarts, LiveIsTold, MadeIsSeen, NamesDetermine, OneMark, OneState, OneWorker, ReadyOrCircle, StartedIsMissing, StartedIsNeeded};
+ghost use Rattle.ciel_journal.specs.Known.{Knows};
+ghost use Rattle.ciel_journal.specs.Laws.{CircleIsEndless, FewStarts, ListedOrCircle, LiveIsTold, MadeIsSeen, NamesDetermine, OneMark, OneState, OneWorker, ReadyOrCircle, ReadyStarts, StartedIsMissing, StartedIsNeeded};
 
 /// The two small jobs have the laws that are asked of a job.
 pub fn small_jobs_are_jobs()
     ensures squares { IsJob squares }
+    ensures squares_known { Knows squares (small_inner false) }
     ensures lines { IsJob lines }
+    ensures lines_known { Knows lines (small_inner true) }
 {}
 
 /// Histories of the small jobs that are driven: the squares with one worker; with two, of which the
@@ -61,6 +64,14 @@ pub fn circle_is_endless<D>()
 /// Where nothing is open after a lawful history, a task is ready or there is a circle.
 pub fn ready_or_circle<D>()
     ensures answer { ReadyOrCircle D }
+{}
+
+/// Where a job tells where all comes from that its tasks wait for and hold, all of it is in the
+/// book: so where nothing is open, the list of ready tasks isn't empty or there is a circle; and a
+/// ready task may be started at an idle worker.
+pub fn ready_is_listed<D>()
+    ensures listed { ListedOrCircle D }
+    ensures starts { ReadyStarts D }
 {}
 
 /// A lawful history has no more Starts than there is work, once for each loss and once more.

@@ -98,6 +98,7 @@ fn the_laws_hold_at_a_type() {
     law::started_is_needed::<u32>();
     law::circle_is_endless::<u32>();
     law::ready_or_circle::<u32>();
+    law::ready_is_listed::<u32>();
     law::few_starts::<u32>();
     law::names_have_one_mark::<u32>();
     law::names_determine::<u32>();
