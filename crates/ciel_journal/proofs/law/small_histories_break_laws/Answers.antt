@@ -1,0 +1,20 @@
+use Rattle.ciel_journal.proofs.SmallBroken as h
+use Rattle.ciel_journal.proofs.law.small_histories_break_laws.Goals as goal
+
+pub returns-clause-needless : goal.returns-clause-needless
+returns-clause-needless c = h.needless
+
+pub returns-clause-again : goal.returns-clause-again
+returns-clause-again c = h.again
+
+pub returns-clause-kept_places : goal.returns-clause-kept_places
+returns-clause-kept_places c = h.kept_places
+
+pub returns-clause-other_wait : goal.returns-clause-other_wait
+returns-clause-other_wait c = h.other_wait
+
+pub returns-clause-dropped : goal.returns-clause-dropped
+returns-clause-dropped c = h.dropped
+
+pub returns-clause-undone : goal.returns-clause-undone
+returns-clause-undone c = h.undone

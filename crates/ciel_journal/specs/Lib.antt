@@ -1,0 +1,14 @@
+pub mod Job
+pub mod History
+pub mod Lawful
+pub mod Known
+pub mod Live
+pub mod Turns
+pub mod Search
+pub mod Three
+pub mod Work
+pub mod Names
+pub mod Fixed
+pub mod SmallHistories
+pub mod SmallFacts
+pub mod Laws

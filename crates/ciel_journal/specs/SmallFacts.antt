@@ -1,0 +1,16 @@
+-- What is lawful and driven of the small histories, and what isn't.
+use Rattle.std.specs.Prelude.{List}
+use Rattle.ciel_journal.specs.History.{Event, Plan}
+use Rattle.ciel_journal.specs.Lawful.{Lawful}
+use Rattle.ciel_journal.specs.Turns.{Driven}
+use Rattle.ciel_journal.specs.Fixed.{Piece, squares}
+
+-- before is lawful for this plan, and not with what the whole adds
+pub record BreaksLaw (p : Plan) (before whole : List (Event Piece)) : Type 0 where
+  pub lawful : Lawful squares p before
+  pub broken : Lawful squares p whole → ⊥
+
+-- the history is lawful, but not in its turns
+pub record BreaksTurns (p : Plan) (h : List (Event Piece)) : Type 0 where
+  pub lawful : Lawful squares p h
+  pub broken : Driven squares p h → ⊥

@@ -1,0 +1,100 @@
+//! Laws of histories, over every job. Each is the contract of a function that does nothing.
+
+ghost use Rattle.std.specs.Prelude.{◌++◌, false, true};
+ghost use Rattle.ciel_journal.specs.Fixed.{squares, lines, small_inner};
+ghost use Rattle.ciel_journal.specs.Job.{IsJob};
+ghost use Rattle.ciel_journal.specs.Lawful.{Lawful};
+ghost use Rattle.ciel_journal.specs.SmallFacts.{BreaksLaw, BreaksTurns};
+ghost use Rattle.ciel_journal.specs.SmallHistories as h;
+ghost use Rattle.ciel_journal.specs.Turns.{Driven};
+ghost use Rattle.ciel_journal.specs.Known.{Knows};
+ghost use Rattle.ciel_journal.specs.Laws.{CircleIsEndless, FewStarts, ListedOrCircle, LiveIsTold, MadeIsSeen, NamesDetermine, OneMark, OneState, OneWorker, ReadyOrCircle, ReadyStarts, StartedIsMissing, StartedIsNeeded};
+
+/// The two small jobs have the laws that are asked of a job.
+pub fn small_jobs_are_jobs()
+    ensures squares { IsJob squares }
+    ensures squares_known { Knows squares (small_inner false) }
+    ensures lines { IsJob lines }
+    ensures lines_known { Knows lines (small_inner true) }
+{}
+
+/// Histories of the small jobs that are driven: the squares with one worker; with two, of which the
+/// first is lost after two closes; with one that is lost before all else; and the lines with two
+/// workers, where what is read from another worker is copied. One more is lawful: a square that is
+/// missed and made again.
+pub fn small_histories_are_driven()
+    ensures alone { Driven squares h.one_worker h.squares_alone }
+    ensures recovered { Driven squares h.loss_after_two h.squares_recovered }
+    ensures lost { Driven squares h.loss_at_once h.lost_at_once }
+    ensures copied { Driven lines h.two_workers h.lines_copied }
+    ensures missed { Lawful squares h.loss_of_the_first h.missed_and_made_again }
+{}
+
+/// Histories of the small job that are lawful up to their last event and not with it: one starts what
+/// nobody needs, one runs a live task again, one keeps places of a lost worker, one resumes another
+/// wait, one drops what was spawned at a save. One more is lawful and not driven: it leaves a loss
+/// undone.
+pub fn small_histories_break_laws()
+    ensures needless { BreaksLaw h.one_worker h.saved_once h.starts_what_nobody_needs }
+    ensures again { BreaksLaw h.one_worker (h.saved_once ++ h.first_square) h.runs_a_live_task_again }
+    ensures kept_places { BreaksLaw h.loss_of_the_first h.square_lost h.keeps_places_of_a_lost_worker }
+    ensures other_wait { BreaksLaw h.one_worker (h.saved_once ++ h.first_square) h.resumes_another_wait }
+    ensures dropped { BreaksLaw h.one_worker h.begun h.drops_spawned_at_a_save }
+    ensures undone { BreaksTurns h.loss_of_the_only h.leaves_losses_undone }
+{}
+
+/// What is live by what stands after a lawful history is an input, or a description with a Done
+/// that made or copied it and no Lost of that worker after it.
+pub fn live_is_told<D>()
+    ensures live { LiveIsTold D }
+{}
+
+/// Each task started was needed, and none was started whose outputs were all live. The root task
+/// has no outputs.
+pub fn started_is_needed<D>()
+    ensures needed { StartedIsNeeded D }
+    ensures missing { StartedIsMissing D }
+{}
+
+/// A circle of waits after a lawful history means that the job has no answer.
+pub fn circle_is_endless<D>()
+    ensures endless { CircleIsEndless D }
+{}
+
+/// Where nothing is open after a lawful history, a task is ready or there is a circle.
+pub fn ready_or_circle<D>()
+    ensures answer { ReadyOrCircle D }
+{}
+
+/// Where a job tells where all comes from that its tasks wait for and hold, all of it is in the
+/// book: so where nothing is open, the list of ready tasks isn't empty or there is a circle; and a
+/// ready task may be started at an idle worker.
+pub fn ready_is_listed<D>()
+    ensures listed { ListedOrCircle D }
+    ensures starts { ReadyStarts D }
+{}
+
+/// A lawful history has no more Starts than there is work, once for each loss and once more.
+pub fn few_starts<D>()
+    ensures starts { FewStarts D }
+{}
+
+/// Each name made is that of one description of the book, beside the mark of the one object that
+/// the job sees for it. No name stands with two marks, and two saved entries of one task and one
+/// wait have one mark.
+pub fn names_have_one_mark<D>()
+    ensures made { MadeIsSeen D }
+    ensures one_mark { OneMark D }
+    ensures one_state { OneState D }
+{}
+
+/// The journal of names determines the history.
+pub fn names_determine<D>()
+    ensures history { NamesDetermine D }
+{}
+
+/// With one worker a driven history is a function of the job, the seed and the losses: of two, the
+/// shorter begins the longer.
+pub fn one_worker_is_determined<D>()
+    ensures prefix { OneWorker D }
+{}
