@@ -6,3 +6,5 @@ pub mod Statements
 pub mod Tops
 pub mod Counts
 pub mod Complete
+pub mod CompleteStatements
+pub mod Exact

@@ -10,3 +10,4 @@ pub mod Scripts
 pub mod Parsed
 pub mod Machine
 pub mod Reading
+pub mod Laws
