@@ -7,4 +7,7 @@ pub mod Tops
 pub mod Counts
 pub mod Complete
 pub mod CompleteStatements
+pub mod Means
+pub mod Back
+pub mod Fill
 pub mod Exact

@@ -1,9 +1,9 @@
--- Laws of the grammar. Each is the contract of a function of `law.rs` that does nothing.
-use Rattle.std.specs.Prelude.{◌≡◌, List, [], ◌∷◌}
+-- Laws of the grammar. Each is the contract of a function of `law.rt` that does nothing.
+use Rattle.std.specs.Prelude.{◌≡◌, ◌⊎◌, ℕ, List}
 use Rattle.sky_text.specs.declared.token.Token.{Token}
 use Rattle.sky_parse.specs.Tops.{Top, Spells}
-use Rattle.sky_parse.specs.Machine.{Item, Out, run, kinds}
+use Rattle.sky_parse.specs.Reading.{IsRefused}
 
--- What a script spells is read to the end.
-abbrev pub ReadToTheEnd : Type 0
-ReadToTheEnd = (tops : List Top) (ts : List Token) → Spells tops ts → run (Item.tops ∷ []) (kinds ts) ≡ Out.done
+-- Some script spells the tokens, or they are refused at one place and no other.
+abbrev pub SpelledOrRefused : Type 0
+SpelledOrRefused = (ts : List Token) → ((tops : List Top) × Spells tops ts) ⊎ ((n : ℕ) × IsRefused ts n × ((m : ℕ) → IsRefused ts m → m ≡ n))

@@ -6,6 +6,7 @@ use Rattle.sky_text.specs.declared.token.Token.{Token}
 use Rattle.sky_parse.specs.Grammar.{place}
 use Rattle.sky_parse.specs.Nesting.{too_nested}
 use Rattle.sky_parse.specs.Tops.{Top, Spells, script_of}
+use Rattle.sky_parse.specs.Reading.{IsRefused}
 use Rattle.sky_parse.specs.Names.{same_names}
 use Rattle.sky_parse.specs.declared.script.ParseRefusal.{ParseRefusal}
 
@@ -28,6 +29,18 @@ Placed ts end (Err (ParseRefusal.TooNested l c)) = Unit {0}
 Placed ts end (Err (ParseRefusal.NoSentence l c)) = (n : ℕ) × (at l c ≡ place_at ts n end)
 Placed ts end (Err (ParseRefusal.SameName l c)) = Unit {0}
 Placed ts end (Err ParseRefusal.Memory) = Unit {0}
+
+-- the place of a refusal: that of the first token with which the tokens begin no sentence, or the end
+abbrev pub RefusedAt : List Token → Place → Place → Type 0
+RefusedAt ts end p = (n : ℕ) × IsRefused ts n × (p ≡ place_at ts n end)
+
+-- whether a refusal says that the tokens are no sentence, exactly there: then no script spells them
+abbrev pub Refused : {X : Type 0} → List Token → Place → Result X ParseRefusal → Type 0
+Refused ts end (Ok x) = Unit {0}
+Refused ts end (Err (ParseRefusal.TooNested l c)) = Unit {0}
+Refused ts end (Err (ParseRefusal.NoSentence l c)) = RefusedAt ts end (at l c)
+Refused ts end (Err (ParseRefusal.SameName l c)) = Unit {0}
+Refused ts end (Err ParseRefusal.Memory) = Unit {0}
 
 -- whether a refusal says that brackets are nested too deep, exactly there
 abbrev pub Nested : {X : Type 0} → List Token → Result X ParseRefusal → Type 0

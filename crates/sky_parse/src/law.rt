@@ -1,9 +1,10 @@
 // Laws of the grammar: what a script is, and how far tokens go that are none. Each is the contract of
 // a function that does nothing.
 
-ghost use Rattle.sky_parse.specs.Laws.{ReadToTheEnd};
+ghost use Rattle.sky_parse.specs.Laws.{SpelledOrRefused};
 
-/// The machine that the parser follows reads to the end what a script spells.
-pub fn read_to_the_end()
-    ensures { ReadToTheEnd }
+/// Some script spells the tokens, or no script does, and then there is exactly one place where they go
+/// wrong: the tokens before it begin a sentence, and with the token that stands there they begin none.
+pub fn spelled_or_refused()
+    ensures { SpelledOrRefused }
 {}
