@@ -196,7 +196,7 @@ oper_stops (Oper.compare Order.le) p ms = refl
 oper_stops (Oper.compare Order.gt) p ms = refl
 oper_stops (Oper.compare Order.ge) p ms = refl
 
-oper_opens : (o : Oper) → opens (level_of_oper o) (TokenKind.Sign (oper_sign o)) ≡ true
+pub oper_opens : (o : Oper) → opens (level_of_oper o) (TokenKind.Sign (oper_sign o)) ≡ true
 oper_opens Oper.plus = refl
 oper_opens Oper.minus = refl
 oper_opens Oper.times = refl
@@ -240,7 +240,7 @@ oper_back Oper.over = refl
 oper_back Oper.rest = refl
 oper_back (Oper.compare o) = refl
 
-same_level : (o : Oper) (l : Level) → oper_level o ≡ rank l → level_of_oper o ≡ l
+pub same_level : (o : Oper) (l : Level) → oper_level o ≡ rank l → level_of_oper o ≡ l
 same_level o l e = sym (oper_back o) ∙ ap from_rank e ∙ rank_back l
 
 oper_rank : (o : Oper) → rank (level_of_oper o) ≡ oper_level o
@@ -251,7 +251,7 @@ oper_rank Oper.over = refl
 oper_rank Oper.rest = refl
 oper_rank (Oper.compare o) = refl
 
-rank_step : (l : Level) → rank (operand_of l) ≤ suc (rank l)
+pub rank_step : (l : Level) → rank (operand_of l) ≤ suc (rank l)
 rank_step Level.Either = omega arith
 rank_step Level.Both = omega arith
 rank_step Level.Comparison = omega arith
@@ -267,7 +267,7 @@ tighter_stops Level.Sum more s = right (stops_at Level.Sum more) (stops Level.Pr
 tighter_stops Level.Product more s = right (stops_at Level.Product more) (stops Level.Prefix more) s
 tighter_stops Level.Prefix more s = s
 
-stops_here : (l : Level) (more : List Mark) → stops l more ≡ true → stops_at l more ≡ true
+pub stops_here : (l : Level) (more : List Mark) → stops l more ≡ true → stops_at l more ≡ true
 stops_here Level.Either more s = left (stops_at Level.Either more) (stops Level.Both more) s
 stops_here Level.Both more s = left (stops_at Level.Both more) (stops Level.Comparison more) s
 stops_here Level.Comparison more s = left (stops_at Level.Comparison more) (stops Level.Sum more) s

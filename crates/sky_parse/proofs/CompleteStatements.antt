@@ -19,7 +19,7 @@ use Rattle.sky_parse.specs.Machine.{Item, Out, tails, run, kind, kinds_of}
 use Rattle.sky_parse.proofs.Complete.{complete, first, begins, semicolon, fixed_is}
 
 -- a token with which no statement begins
-abbrev outer : TokenKind → Bool
+abbrev pub outer : TokenKind → Bool
 outer t = is Sign.CloseCurly t || (is_word Word.Else t || is_word Word.Function t)
 
 abbrev pub begins_outer : List Mark → Bool
@@ -38,7 +38,7 @@ signs_inner : (ss : List SignAt) (more : List Mark) → some_signs ss ≡ true �
 signs_inner [] more h = absurd cc
 signs_inner (s ∷ ss) more h = sign_inner s.sign
 
-exp_inner : (e : Exp) → IsTree e → (more : List Mark) → begins_outer (spell e more) ≡ false
+pub exp_inner : (e : Exp) → IsTree e → (more : List Mark) → begins_outer (spell e more) ≡ false
 exp_inner (Exp.literal Lit.null p) t more = refl
 exp_inner (Exp.literal (Lit.truth true) p) t more = refl
 exp_inner (Exp.literal (Lit.truth false) p) t more = refl
@@ -69,7 +69,7 @@ pub started_kinds : (p : Place) (ms : List Mark) → kinds_of (started p ms) ≡
 started_kinds p [] = refl
 started_kinds p (m ∷ ms) = refl
 
-stm_inner : (s : Stm) → IsStm s → (more : List Mark) → begins_outer (spell_stm s more) ≡ false
+pub stm_inner : (s : Stm) → IsStm s → (more : List Mark) → begins_outer (spell_stm s more) ≡ false
 stm_inner (Stm.set x p e) t more = refl
 stm_inner (Stm.add x q p e) t more = refl
 stm_inner (Stm.put x q p i e) t more = refl
@@ -83,7 +83,7 @@ stm_inner (Stm.for p x e b) t more = refl
 stm_inner (Stm.just p e) t more = started_outer p (spell e (sign Sign.Semicolon ∷ more)) ∙ exp_inner e t (sign Sign.Semicolon ∷ more)
 
 -- An expression statement: a name that begins one is read apart, since an assignment may begin so too.
-abbrev stops_assign : List Mark → Bool
+abbrev pub stops_assign : List Mark → Bool
 stops_assign [] = true
 stops_assign (m ∷ ms) = if is Sign.Assign (kind m) then false else if is Sign.AddAssign (kind m) then false else true
 
@@ -92,16 +92,16 @@ neither true c e = absurd cc
 neither false true e = absurd cc
 neither false false e = (refl, refl)
 
-abbrev at_square : List Mark → Bool
+abbrev pub at_square : List Mark → Bool
 at_square [] = false
 at_square (m ∷ ms) = is Sign.OpenSquare (kind m)
 
 -- what stands behind a name that begins an expression
-data Behind : List Mark → Type 0 where
+pub data Behind : List Mark → Type 0 where
   other : (ms : List Mark) → stops_assign ms ≡ true → at_square ms ≡ false → Behind ms
   index : (i : Exp) (q : Place) (ms : List Mark) → IsTree i → stops_assign ms ≡ true → Behind (sign_at Sign.OpenSquare q ∷ spell i (sign Sign.CloseSquare ∷ ms))
 
-behind_stops : {ms : List Mark} → Behind ms → stops_assign ms ≡ true
+pub behind_stops : {ms : List Mark} → Behind ms → stops_assign ms ≡ true
 behind_stops (Behind.other ms s n) = s
 behind_stops (Behind.index i q ms t s) = refl
 
@@ -125,7 +125,7 @@ steps_assign Steps.no_steps more s = s
 steps_assign (Steps.index e p ss) more s = refl
 steps_assign (Steps.call es p ss) more s = refl
 
-steps_behind : (ss : Steps) → AreSteps ss → (more : List Mark) → Behind more → Behind (spell_steps ss more)
+pub steps_behind : (ss : Steps) → AreSteps ss → (more : List Mark) → Behind more → Behind (spell_steps ss more)
 steps_behind Steps.no_steps t more b = b
 steps_behind (Steps.index e p ss) t more b = Behind.index e p (spell_steps ss more) t.0 (steps_assign ss more (behind_stops b))
 steps_behind (Steps.call es p ss) t more b = Behind.other (spell_steps (Steps.call es p ss) more) refl refl
@@ -143,11 +143,11 @@ oper_behind (Oper.compare Order.le) p ms = Behind.other (sign_at Sign.LessEqual 
 oper_behind (Oper.compare Order.gt) p ms = Behind.other (sign_at Sign.Greater p ∷ ms) refl refl
 oper_behind (Oper.compare Order.ge) p ms = Behind.other (sign_at Sign.GreaterEqual p ∷ ms) refl refl
 
-links_behind : (ls : Links) (more : List Mark) → Behind more → Behind (spell_links ls more)
+pub links_behind : (ls : Links) (more : List Mark) → Behind more → Behind (spell_links ls more)
 links_behind Links.no_links more b = b
 links_behind (Links.link o p e ls) more b = oper_behind o p (spell e (spell_links ls more))
 
-ands_behind : (j : Junction) (ls : Ands) (more : List Mark) → Behind more → Behind (spell_ands j ls more)
+pub ands_behind : (j : Junction) (ls : Ands) (more : List Mark) → Behind more → Behind (spell_ands j ls more)
 ands_behind j Ands.no_ands more b = b
 ands_behind Junction.both (Ands.and p e ls) more b = Behind.other (sign_at Sign.And p ∷ spell e (spell_ands Junction.both ls more)) refl refl
 ands_behind Junction.either (Ands.and p e ls) more b = Behind.other (sign_at Sign.Or p ∷ spell e (spell_ands Junction.either ls more)) refl refl
@@ -196,11 +196,11 @@ begins_back k [] b = absurd cc
 begins_back k (t ∷ ts) b = rw b refl
 
 -- the statements of a block end here
-abbrev ends_block : List Mark → Bool
+abbrev pub ends_block : List Mark → Bool
 ends_block [] = true
 ends_block (m ∷ ms) = is Sign.CloseCurly (kind m)
 
-abbrev at_else : List Mark → Bool
+abbrev pub at_else : List Mark → Bool
 at_else [] = false
 at_else (m ∷ ms) = is_word Word.Else (kind m)
 
@@ -231,7 +231,7 @@ end_not_else : (ms : List Mark) → ends_block ms ≡ true → at_else ms ≡ fa
 end_not_else [] s = refl
 end_not_else (m ∷ ms) s = curly_not_else (kind m) s
 
-stms_not_else : (ss : Stms) → AreStms ss → (more : List Mark) → ends_block more ≡ true → at_else (spell_stms ss more) ≡ false
+pub stms_not_else : (ss : Stms) → AreStms ss → (more : List Mark) → ends_block more ≡ true → at_else (spell_stms ss more) ≡ false
 stms_not_else Stms.no_stms t more s = end_not_else more s
 stms_not_else (Stms.stm a ss) t more s = inner_not_else (spell_stm a (spell_stms ss more)) (stm_inner a t.0 (spell_stms ss more))
 
@@ -296,7 +296,7 @@ begins_tops k (m ∷ ms) b =
     let c = (inner_words (kind m) b).1 in
     rw c refl
 
-tops_not_else : (tops : List Top) → AreTops tops → at_else (spell_tops tops []) ≡ false
+pub tops_not_else : (tops : List Top) → AreTops tops → at_else (spell_tops tops []) ≡ false
 tops_not_else [] t = refl
 tops_not_else (Top.fun f ∷ tops) t = refl
 tops_not_else (Top.stmt s ∷ tops) t = inner_not_else (spell_stm s (spell_tops tops [])) (stm_inner s t.0 (spell_tops tops []))

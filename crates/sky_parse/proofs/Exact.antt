@@ -17,7 +17,7 @@ use Rattle.sky_parse.proofs.Means.{Stack}
 use Rattle.sky_parse.proofs.Back.{Leads, back_step}
 use Rattle.sky_parse.proofs.Fill.{fill, ends_empty}
 
-fits_kind : (m : Mark) (t : Token) → Fits m t → t.kind ≡ kind m
+pub fits_kind : (m : Mark) (t : Token) → Fits m t → t.kind ≡ kind m
 fits_kind (Mark.placed k p) t f = f.0
 fits_kind (Mark.plain k) t f = f
 fits_kind (Mark.also p m) t f = fits_kind m t f.1
@@ -43,7 +43,7 @@ accepted tops ts s = ap (run (Item.tops ∷ [])) (follows_kinds (spell_tops tops
 spells_of : (ts : List Token) → Stack (Item.tops ∷ []) ts → (tops : List Top) × Spells tops ts
 spells_of ts s = (s.1.0, (s.1.1, s.1.2 [] (subst (λ (r : List Token). Follows [] r) (sym s.2) tt)))
 
-begins : (front more : List Token) → Stack (Item.tops ∷ []) (front ++ more) → Begins front
+pub begins : (front more : List Token) → Stack (Item.tops ∷ []) (front ++ more) → Begins front
 begins front more s = let x = spells_of (front ++ more) s in (x.0, more, x.1)
 
 done_end : (b : Bool) (k : List Item) → (b ≡ true → Stack k []) → cond b Out.done (Out.stuck 0) ≡ Out.done → Stack k []

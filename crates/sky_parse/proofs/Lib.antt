@@ -11,3 +11,5 @@ pub mod Means
 pub mod Back
 pub mod Fill
 pub mod Exact
+pub mod Partial
+pub mod BeginsLaw

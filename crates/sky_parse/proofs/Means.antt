@@ -205,7 +205,7 @@ unstack Level.Comparison k ts st = un_comparison k ts st
 unstack Level.Both k ts st = un_both k ts st
 unstack Level.Either k ts st = let u = un_both (Item.tail Level.Either ∷ k) ts st in (u.2.0, (u.0, u.1, u.2.1), u.2.2)
 
-links_low : (ls : Links) → links_level ls ≤ 4
+pub links_low : (ls : Links) → links_level ls ≤ 4
 links_low Links.no_links = omega arith
 links_low (Links.link Oper.plus p e ls) = omega arith
 links_low (Links.link Oper.minus p e ls) = omega arith
@@ -214,7 +214,7 @@ links_low (Links.link Oper.over p e ls) = omega arith
 links_low (Links.link Oper.rest p e ls) = omega arith
 links_low (Links.link (Oper.compare o) p e ls) = omega arith
 
-junction_low : (j : Junction) → junction_level j ≤ 1
+pub junction_low : (j : Junction) → junction_level j ≤ 1
 junction_low Junction.both = omega arith
 junction_low Junction.either = omega arith
 

@@ -10,4 +10,5 @@ pub mod Scripts
 pub mod Parsed
 pub mod Machine
 pub mod Reading
+pub mod Partial
 pub mod Laws
