@@ -415,11 +415,11 @@ pairs_end n k more h g = rw (h, g) refl
 many_goes : (s : Sign) (n : ℕ) (k : List Item) (ms : List Mark) → run (Item.others (Shape.Many s) n ∷ k) (kinds_of (sign Sign.Comma ∷ ms)) ≡ run (Item.level Level.Either ∷ Item.others (Shape.Many s) (suc n) ∷ k) (kinds_of ms)
 many_goes s n k ms = refl
 
-value_stop : (es : Exps) (more : List Mark) → valued es ≡ true → stops Level.Either (spell_value es more) ≡ true
+pub value_stop : (es : Exps) (more : List Mark) → valued es ≡ true → stops Level.Either (spell_value es more) ≡ true
 value_stop Exps.no_exps more h = absurd cc
 value_stop (Exps.exp v es) more h = refl
 
-pairs_stop : (es : Exps) (more : List Mark) → stops Level.Either (spell_other_pairs es (sign Sign.CloseCurly ∷ more)) ≡ true
+pub pairs_stop : (es : Exps) (more : List Mark) → stops Level.Either (spell_other_pairs es (sign Sign.CloseCurly ∷ more)) ≡ true
 pairs_stop Exps.no_exps more = refl
 pairs_stop (Exps.exp k es) more = refl
 

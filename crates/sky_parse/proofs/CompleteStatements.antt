@@ -1,6 +1,6 @@
 -- What a script spells is read: statements, functions and the whole.
-use Rattle.std.proofs.Common.{◌≡◌, Bool, true, false, cond, List, [], ◌∷◌, refl, sym, ap, ◌∙◌}
-use Rattle.std.proofs.lemmas.Bool.{or_parts}
+use Rattle.std.proofs.Common.{◌≡◌, suc, Option, length, Bool, true, false, cond, List, [], ◌∷◌, refl, sym, ap, ◌∙◌}
+use Rattle.std.proofs.lemmas.Bool.{or_parts, cond-false}
 use Rattle.std.specs.Prelude.{if◌then◌else◌, ◌||◌}
 use Rattle.sky_base.specs.Tree.{Place, Lit, Form, SignAt, Exp, Exps, Links, Ands, Steps, Stm, Stms, Arms, Else}
 use Rattle.sky_base.specs.Tree as tree
@@ -15,7 +15,7 @@ use Rattle.sky_parse.specs.declared.parts.Shape.{Shape}
 use Rattle.sky_parse.specs.Signs.{is, is_word}
 use Rattle.sky_parse.specs.Grammar.{Mark, Param, Fun, sign, sign_at, word, prefix_sign, oper_sign, started, spell, spell_signs, spell_links, spell_ands, spell_steps, spell_stm, spell_stms, spell_other_arms, spell_else, spell_params, spell_other_params, spell_fun, IsTree, AreSteps, IsStm, AreStms, AreArms, IsElse}
 use Rattle.sky_parse.specs.Tops.{Top, spell_tops, AreTops}
-use Rattle.sky_parse.specs.Machine.{Item, Out, tails, run, kind, kinds_of}
+use Rattle.sky_parse.specs.Machine.{Item, Out, tails, step, goes, run, kind, kinds_of}
 use Rattle.sky_parse.proofs.Complete.{complete, first, begins, semicolon, fixed_is}
 
 -- a token with which no statement begins
@@ -214,7 +214,9 @@ skip_arms k (m ∷ ms) s = rw s refl
 
 begins_stms : (k : List Item) (ms : List Mark) → begins_outer ms ≡ false → run (Item.stmts ∷ k) (kinds_of ms) ≡ run (Item.stmt ∷ Item.stmts ∷ k) (kinds_of ms)
 begins_stms k [] b = absurd cc
-begins_stms k (m ∷ ms) b = let c = (or_parts (is Sign.CloseCurly (kind m)) (is_word Word.Else (kind m) || is_word Word.Function (kind m)) b).0 in rw c refl
+begins_stms k (m ∷ ms) b =
+    let c = (or_parts (is Sign.CloseCurly (kind m)) (is_word Word.Else (kind m) || is_word Word.Function (kind m)) b).0 in
+    ap (λ (o : Option (List Item)). goes o (λ l. run l (kinds_of ms)) (Out.stuck (suc (length (kinds_of ms))))) (cond-false (is Sign.CloseCurly (kind m)) (step k (kind m)) (step (Item.stmt ∷ Item.stmts ∷ k) (kind m)) c)
 
 inner_not_else : (ms : List Mark) → begins_outer ms ≡ false → at_else ms ≡ false
 inner_not_else [] b = refl

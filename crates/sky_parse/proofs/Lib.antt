@@ -13,3 +13,7 @@ pub mod Fill
 pub mod Exact
 pub mod Partial
 pub mod BeginsLaw
+pub mod Aligned
+pub mod UniqueExpressions
+pub mod UniqueChains
+pub mod UniqueScripts

@@ -12,3 +12,7 @@ SpelledOrRefused = (ts : List Token) → ((tops : List Top) × Spells tops ts) �
 -- A tree or a partial tree spells the tokens exactly where some script's tokens begin with them.
 abbrev pub BeginsByPartialTrees : Type 0
 BeginsByPartialTrees = (ts : List Token) → Begins ts ↔ PartlySpelled ts
+
+-- No two scripts spell the same tokens.
+abbrev pub OneScript : Type 0
+OneScript = (tops us : List Top) (ts : List Token) → Spells tops ts → Spells us ts → tops ≡ us

@@ -1,7 +1,7 @@
 // Laws of the grammar: what a script is, and how far tokens go that are none. Each is the contract of
 // a function that does nothing.
 
-ghost use Rattle.sky_parse.specs.Laws.{BeginsByPartialTrees, SpelledOrRefused};
+ghost use Rattle.sky_parse.specs.Laws.{BeginsByPartialTrees, OneScript, SpelledOrRefused};
 
 /// Some script spells the tokens, or no script does, and then there is exactly one place where they go
 /// wrong: the tokens before it begin a sentence, and with the token that stands there they begin none.
@@ -13,4 +13,9 @@ pub fn spelled_or_refused()
 /// a tree that is cut at its right edge spells them.
 pub fn begins_by_partial_trees()
     ensures { BeginsByPartialTrees }
+{}
+
+/// No two scripts spell the same tokens at the same places, so what a text means is one script.
+pub fn one_script()
+    ensures { OneScript }
 {}
