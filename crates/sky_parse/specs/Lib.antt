@@ -9,5 +9,6 @@ pub mod Names
 pub mod Scripts
 pub mod Parsed
 pub mod Machine
+pub mod Runs
 pub mod Reading
 pub mod Laws
