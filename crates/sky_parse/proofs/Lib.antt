@@ -6,6 +6,8 @@ pub mod Statements
 pub mod Tops
 pub mod Counts
 pub mod Complete
+pub mod Moves
+pub mod StmtMoves
 pub mod CompleteStatements
 pub mod Means
 pub mod Back

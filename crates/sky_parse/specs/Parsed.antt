@@ -22,14 +22,6 @@ token_place None end = end
 abbrev pub place_at : List Token → ℕ → Place → Place
 place_at ts n end = token_place (slice_get ts n) end
 
--- a place where no sentence goes on is that of a token or the end
-abbrev pub Placed : {X : Type 0} → List Token → Place → Result X ParseRefusal → Type 0
-Placed ts end (Ok x) = Unit {0}
-Placed ts end (Err (ParseRefusal.TooNested l c)) = Unit {0}
-Placed ts end (Err (ParseRefusal.NoSentence l c)) = (n : ℕ) × (at l c ≡ place_at ts n end)
-Placed ts end (Err (ParseRefusal.SameName l c)) = Unit {0}
-Placed ts end (Err ParseRefusal.Memory) = Unit {0}
-
 -- the place of a refusal: that of the first token with which the tokens begin no sentence, or the end
 abbrev pub RefusedAt : List Token → Place → Place → Type 0
 RefusedAt ts end p = (n : ℕ) × IsRefused ts n × (p ≡ place_at ts n end)
