@@ -13,6 +13,7 @@ use Rattle.sky_parse.specs.Reading.{Begins, IsRefused}
 use Rattle.sky_parse.specs.Parsed.{place_at, RefusedAt}
 use Rattle.sky_parse.specs.Laws.{SpelledOrRefused}
 use Rattle.sky_parse.proofs.CompleteStatements.{tops_claim}
+use Rattle.sky_parse.proofs.Moves.{length_kinds}
 use Rattle.sky_parse.proofs.Means.{Stack}
 use Rattle.sky_parse.proofs.Back.{Leads, back_step}
 use Rattle.sky_parse.proofs.Fill.{fill, ends_empty}
@@ -31,10 +32,6 @@ follows_kinds (m ∷ ms) (t ∷ ts) f = let g = follows_kinds ms ts f.1 in let h
 kinds_append : (a b : List Token) → kinds (a ++ b) ≡ kinds a ++ kinds b
 kinds_append [] b = refl
 kinds_append (t ∷ a) b = ap (λ (ks : List TokenKind). t.kind ∷ ks) (kinds_append a b)
-
-pub length_kinds : (a : List Token) → length (kinds a) ≡ length a
-length_kinds [] = refl
-length_kinds (t ∷ a) = ap suc (length_kinds a)
 
 -- what some script spells is read to the end
 pub accepted : (tops : List Top) (ts : List Token) → Spells tops ts → run (Item.tops ∷ []) (kinds ts) ≡ Out.done

@@ -19,3 +19,4 @@ pub mod Aligned
 pub mod UniqueExpressions
 pub mod UniqueChains
 pub mod UniqueScripts
+pub mod Valid

@@ -14,6 +14,19 @@ use Rattle.sky_parse.specs.declared.script.ParseRefusal.{ParseRefusal}
 abbrev pub IsScript : List (List ℕ) → List Token → Script → Type 0
 IsScript keys ts script = (tops : List Top) × Spells tops ts × (same_names [] tops ≡ None) × (script ≡ script_of keys tops)
 
+-- The functions and statements are a valid script: they spell the tokens, no bracket is nested too deep, and no
+-- name stands twice.
+abbrev pub IsValid : List Top → List Token → Type 0
+IsValid tops ts = Spells tops ts × (too_nested 0 ts ≡ None) × (same_names [] tops ≡ None)
+
+-- the answer is the script of these functions and statements, but for want of memory
+abbrev pub Gives : List (List ℕ) → List Top → Result Script ParseRefusal → Type 0
+Gives keys tops (Ok script) = script ≡ script_of keys tops
+Gives keys tops (Err (ParseRefusal.TooNested l c)) = ⊥
+Gives keys tops (Err (ParseRefusal.NoSentence l c)) = ⊥
+Gives keys tops (Err (ParseRefusal.SameName l c)) = ⊥
+Gives keys tops (Err ParseRefusal.Memory) = Unit {0}
+
 -- the place of a token by its number from 0, or of the end where there is none
 abbrev pub token_place : Option Token → Place → Place
 token_place (Some t) end = place t

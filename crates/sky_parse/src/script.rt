@@ -11,7 +11,7 @@ ghost use Rattle.sky_parse.specs.Nesting.{place_of};
 ghost use Rattle.sky_parse.specs.Names.{among, first_of, at_twice, same_params, fun_names};
 ghost use Rattle.sky_parse.specs.Tops.{Top, Spells, param_names};
 ghost use Rattle.sky_parse.specs.Scripts.{IsFunction, IsRead, Reads, params_view};
-ghost use Rattle.sky_parse.specs.Parsed.{IsScript, Nested, Named, Refused, place_at};
+ghost use Rattle.sky_parse.specs.Parsed.{Gives, IsScript, IsValid, Named, Nested, Refused, place_at};
 
 use crate::brackets::too_nested;
 use crate::look::{Fail, eat, eat_word, want, want_name};
@@ -224,6 +224,8 @@ pub fn parse(
     keys: Texts,
 ) -> Result<Script, ParseRefusal>
     requires { length tokens.now ≤ 1048576 }
+    // A valid script is answered as what it is, but for want of memory.
+    ensures valid { (tops : List Top) → IsValid tops tokens.now → Gives keys tops result }
     // Its functions and statements are trees of the grammar and spell the tokens, places included.
     ensures spelled { IfOk result (λ script. IsScript keys tokens.now script) }
     // A name that stands twice is refused where functions and statements spell the tokens, exactly there.
