@@ -1,5 +1,5 @@
 -- What a tree spells is read: expressions.
-use Rattle.std.proofs.Common.{◌≡◌, ℕ, zero, suc, ◌+◌, ◌<◌, ◌≤◌, Bool, true, false, cond, List, [], ◌∷◌, length, Option, Some, None, refl, sym, ap, subst, ◌∙◌, arith, eq-eqb}
+use Rattle.std.proofs.Common.{◌≡◌, ℕ, zero, suc, ◌+◌, ◌≤◌, Bool, true, false, cond, List, [], ◌∷◌, length, Option, refl, sym, ap, subst, ◌∙◌, arith, eq-eqb}
 use Rattle.std.proofs.lemmas.Bool.{eqb-true, false_from_ne_true, false≢true}
 use Rattle.std.specs.Prelude.{if◌then◌else◌, ◌&&◌, ◌==◌, ◌%◌}
 use Rattle.sky_base.specs.Op.{Order}
@@ -11,7 +11,7 @@ use Rattle.sky_text.specs.declared.token.TokenKind.{TokenKind}
 use Rattle.sky_parse.specs.declared.level.Level.{Level}
 use Rattle.sky_parse.specs.declared.parts.Shape.{Shape}
 use Rattle.sky_parse.specs.Signs.{is}
-use Rattle.sky_parse.specs.Levels.{rank, opens, junction}
+use Rattle.sky_parse.specs.Levels.{rank, opens}
 use Rattle.sky_parse.specs.Grammar.{Mark, sign, sign_at, prefix_sign, oper_sign, junction_sign, spell, spell_signs, spell_links, spell_ands, spell_steps, spell_exps, spell_others, spell_pairs, spell_value, spell_other_pairs, paired, valued, AreTrees, AreLinks, AreAnds, AreSteps, IsTree}
 use Rattle.sky_parse.specs.Machine.{Item, Out, operand_of, again, tails, step, goes, run, kind, kinds_of}
 
@@ -196,7 +196,7 @@ oper_stops (Oper.compare Order.le) p ms = refl
 oper_stops (Oper.compare Order.gt) p ms = refl
 oper_stops (Oper.compare Order.ge) p ms = refl
 
-oper_opens : (o : Oper) → opens (level_of_oper o) (TokenKind.Sign (oper_sign o)) ≡ true
+pub oper_opens : (o : Oper) → opens (level_of_oper o) (TokenKind.Sign (oper_sign o)) ≡ true
 oper_opens Oper.plus = refl
 oper_opens Oper.minus = refl
 oper_opens Oper.times = refl
@@ -240,7 +240,7 @@ oper_back Oper.over = refl
 oper_back Oper.rest = refl
 oper_back (Oper.compare o) = refl
 
-same_level : (o : Oper) (l : Level) → oper_level o ≡ rank l → level_of_oper o ≡ l
+pub same_level : (o : Oper) (l : Level) → oper_level o ≡ rank l → level_of_oper o ≡ l
 same_level o l e = sym (oper_back o) ∙ ap from_rank e ∙ rank_back l
 
 oper_rank : (o : Oper) → rank (level_of_oper o) ≡ oper_level o
@@ -251,7 +251,7 @@ oper_rank Oper.over = refl
 oper_rank Oper.rest = refl
 oper_rank (Oper.compare o) = refl
 
-rank_step : (l : Level) → rank (operand_of l) ≤ suc (rank l)
+pub rank_step : (l : Level) → rank (operand_of l) ≤ suc (rank l)
 rank_step Level.Either = omega arith
 rank_step Level.Both = omega arith
 rank_step Level.Comparison = omega arith
@@ -267,7 +267,7 @@ tighter_stops Level.Sum more s = right (stops_at Level.Sum more) (stops Level.Pr
 tighter_stops Level.Product more s = right (stops_at Level.Product more) (stops Level.Prefix more) s
 tighter_stops Level.Prefix more s = s
 
-stops_here : (l : Level) (more : List Mark) → stops l more ≡ true → stops_at l more ≡ true
+pub stops_here : (l : Level) (more : List Mark) → stops l more ≡ true → stops_at l more ≡ true
 stops_here Level.Either more s = left (stops_at Level.Either more) (stops Level.Both more) s
 stops_here Level.Both more s = left (stops_at Level.Both more) (stops Level.Comparison more) s
 stops_here Level.Comparison more s = left (stops_at Level.Comparison more) (stops Level.Sum more) s
@@ -415,11 +415,11 @@ pairs_end n k more h g = rw (h, g) refl
 many_goes : (s : Sign) (n : ℕ) (k : List Item) (ms : List Mark) → run (Item.others (Shape.Many s) n ∷ k) (kinds_of (sign Sign.Comma ∷ ms)) ≡ run (Item.level Level.Either ∷ Item.others (Shape.Many s) (suc n) ∷ k) (kinds_of ms)
 many_goes s n k ms = refl
 
-value_stop : (es : Exps) (more : List Mark) → valued es ≡ true → stops Level.Either (spell_value es more) ≡ true
+pub value_stop : (es : Exps) (more : List Mark) → valued es ≡ true → stops Level.Either (spell_value es more) ≡ true
 value_stop Exps.no_exps more h = absurd cc
 value_stop (Exps.exp v es) more h = refl
 
-pairs_stop : (es : Exps) (more : List Mark) → stops Level.Either (spell_other_pairs es (sign Sign.CloseCurly ∷ more)) ≡ true
+pub pairs_stop : (es : Exps) (more : List Mark) → stops Level.Either (spell_other_pairs es (sign Sign.CloseCurly ∷ more)) ≡ true
 pairs_stop Exps.no_exps more = refl
 pairs_stop (Exps.exp k es) more = refl
 
@@ -490,17 +490,17 @@ mutual
       let inside = rank_step (level_of_oper o) in
       let same = oper_rank o in
       at_oper o (Exp.chain e (Links.link o p f ls)) (λ k more s.
-        ap (λ (i : List Item). run (Item.level Level.Prefix ∷ i) (kinds_of (spell e (spell_links (Links.link o p f ls) more)))) (tails_oper o k)
-        ∙ at_level (operand_of l) (level e) e (omega (arith, inside, same, t.1)) (claim e t.0) (Item.tail l ∷ k) (spell_links (Links.link o p f ls) more) (oper_stops o p (spell f (spell_links ls more)))
-        ∙ oper_read o p k (spell f (spell_links ls more))
-        ∙ whole (operand_of l) f (omega (arith, inside, same, t.2.2)) (claim f t.2.1) (again l k) (spell_links ls more) (links_stop l ls more (subst (λ (n : ℕ). AreLinks n ls) (sym same) t.2.3) s)
-        ∙ rest_read o p f ls k more t.3 (λ ar. links_claim ls l (subst (λ (n : ℕ). AreLinks n ls) (sym same) t.2.3) ar k more s))
+      ap (λ (i : List Item). run (Item.level Level.Prefix ∷ i) (kinds_of (spell e (spell_links (Links.link o p f ls) more)))) (tails_oper o k)
+      ∙ at_level (operand_of l) (level e) e (omega (arith, inside, same, t.1)) (claim e t.0) (Item.tail l ∷ k) (spell_links (Links.link o p f ls) more) (oper_stops o p (spell f (spell_links ls more)))
+      ∙ oper_read o p k (spell f (spell_links ls more))
+      ∙ whole (operand_of l) f (omega (arith, inside, same, t.2.2)) (claim f t.2.1) (again l k) (spell_links ls more) (links_stop l ls more (subst (λ (n : ℕ). AreLinks n ls) (sym same) t.2.3) s)
+      ∙ rest_read o p f ls k more t.3 (λ ar. links_claim ls l (subst (λ (n : ℕ). AreLinks n ls) (sym same) t.2.3) ar k more s))
   claim (Exp.logic j e ls) t =
       let l = level_of_junction j in
       at_junction j (Exp.logic j e ls) (λ k more s.
-        ap (λ (i : List Item). run (Item.level Level.Prefix ∷ i) (kinds_of (spell e (spell_ands j ls more)))) (tails_junction j k)
-        ∙ at_level (operand_of l) (level e) e (omega (arith, rank_step (level_of_junction j), junction_rank j, t.1)) (claim e t.0) (Item.tail l ∷ k) (spell_ands j ls more) (ands_stop j ls more s)
-        ∙ ands_claim ls j t.2 k more s)
+      ap (λ (i : List Item). run (Item.level Level.Prefix ∷ i) (kinds_of (spell e (spell_ands j ls more)))) (tails_junction j k)
+      ∙ at_level (operand_of l) (level e) e (omega (arith, rank_step (level_of_junction j), junction_rank j, t.1)) (claim e t.0) (Item.tail l ∷ k) (spell_ands j ls more) (ands_stop j ls more s)
+      ∙ ands_claim ls j t.2 k more s)
   claim (Exp.prefix ss e) t = λ k more s. signs_claim ss k (spell e more) ∙ prefix_at (level e) e (omega (arith, t.1)) (claim e t.0) k more s
   claim (Exp.postfix e ss) t = λ k more s. primary_at (level e) e t.1 (claim e t.0) k (spell_steps ss more) ∙ steps_claim ss t.2 k more s
 

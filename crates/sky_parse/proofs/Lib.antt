@@ -6,3 +6,17 @@ pub mod Statements
 pub mod Tops
 pub mod Counts
 pub mod Complete
+pub mod Moves
+pub mod StmtMoves
+pub mod CompleteStatements
+pub mod Means
+pub mod Back
+pub mod Fill
+pub mod Exact
+pub mod Partial
+pub mod BeginsLaw
+pub mod Aligned
+pub mod UniqueExpressions
+pub mod UniqueChains
+pub mod UniqueScripts
+pub mod Valid

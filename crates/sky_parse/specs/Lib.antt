@@ -9,4 +9,7 @@ pub mod Names
 pub mod Scripts
 pub mod Parsed
 pub mod Machine
+pub mod Runs
 pub mod Reading
+pub mod Partial
+pub mod Laws

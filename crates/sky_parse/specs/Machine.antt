@@ -1,6 +1,6 @@
 -- What is still to come, from token to token: the grammar as a machine that takes one token a step. It is
 -- structural on the tokens, so a reader that stops is stuck whatever follows.
-use Rattle.std.specs.Prelude.{◌≡◌, ℕ, suc, ◌==◌, ◌&&◌, ◌||◌, if◌then◌else◌, Bool, true, false, List, [], ◌∷◌, length, Option, Some, None}
+use Rattle.std.specs.Prelude.{ℕ, suc, ◌&&◌, ◌||◌, if◌then◌else◌, Bool, true, false, List, [], ◌∷◌, length, Option, Some, None}
 use Rattle.sky_text.specs.declared.token.Sign.{Sign}
 use Rattle.sky_text.specs.declared.token.Word.{Word}
 use Rattle.sky_text.specs.declared.token.TokenKind.{TokenKind}
@@ -170,12 +170,12 @@ abbrev pub on_rest : List Item → TokenKind → Option (List Item)
 on_rest k t =
     let e = Item.sign Sign.Semicolon ∷ k in
     on_steps (tails Level.Either e) t
-      (on_tail Level.Product (Item.tail Level.Sum ∷ Item.tail Level.Comparison ∷ Item.tail Level.Both ∷ Item.tail Level.Either ∷ e) t
-        (on_tail Level.Sum (Item.tail Level.Comparison ∷ Item.tail Level.Both ∷ Item.tail Level.Either ∷ e) t
-          (on_tail Level.Comparison (Item.tail Level.Both ∷ Item.tail Level.Either ∷ e) t
-            (on_tail Level.Both (Item.tail Level.Either ∷ e) t
-              (on_tail Level.Either e t
-                (if is Sign.Semicolon t then Some k else None))))))
+    (on_tail Level.Product (Item.tail Level.Sum ∷ Item.tail Level.Comparison ∷ Item.tail Level.Both ∷ Item.tail Level.Either ∷ e) t
+    (on_tail Level.Sum (Item.tail Level.Comparison ∷ Item.tail Level.Both ∷ Item.tail Level.Either ∷ e) t
+    (on_tail Level.Comparison (Item.tail Level.Both ∷ Item.tail Level.Either ∷ e) t
+    (on_tail Level.Both (Item.tail Level.Either ∷ e) t
+    (on_tail Level.Either e t
+    (if is Sign.Semicolon t then Some k else None))))))
 
 abbrev pub on_name : List Item → TokenKind → Option (List Item)
 on_name k (TokenKind.Name x) = Some k

@@ -6,12 +6,26 @@ use Rattle.sky_text.specs.declared.token.Token.{Token}
 use Rattle.sky_parse.specs.Grammar.{place}
 use Rattle.sky_parse.specs.Nesting.{too_nested}
 use Rattle.sky_parse.specs.Tops.{Top, Spells, script_of}
+use Rattle.sky_parse.specs.Reading.{IsRefused}
 use Rattle.sky_parse.specs.Names.{same_names}
 use Rattle.sky_parse.specs.declared.script.ParseRefusal.{ParseRefusal}
 
 -- The script is that of functions and statements that spell the tokens, and no name stands twice.
 abbrev pub IsScript : List (List ℕ) → List Token → Script → Type 0
 IsScript keys ts script = (tops : List Top) × Spells tops ts × (same_names [] tops ≡ None) × (script ≡ script_of keys tops)
+
+-- The functions and statements are a valid script: they spell the tokens, no bracket is nested too deep, and no
+-- name stands twice.
+abbrev pub IsValid : List Top → List Token → Type 0
+IsValid tops ts = Spells tops ts × (too_nested 0 ts ≡ None) × (same_names [] tops ≡ None)
+
+-- the answer is the script of these functions and statements, but for want of memory
+abbrev pub Gives : List (List ℕ) → List Top → Result Script ParseRefusal → Type 0
+Gives keys tops (Ok script) = script ≡ script_of keys tops
+Gives keys tops (Err (ParseRefusal.TooNested l c)) = ⊥
+Gives keys tops (Err (ParseRefusal.NoSentence l c)) = ⊥
+Gives keys tops (Err (ParseRefusal.SameName l c)) = ⊥
+Gives keys tops (Err ParseRefusal.Memory) = Unit {0}
 
 -- the place of a token by its number from 0, or of the end where there is none
 abbrev pub token_place : Option Token → Place → Place
@@ -21,13 +35,17 @@ token_place None end = end
 abbrev pub place_at : List Token → ℕ → Place → Place
 place_at ts n end = token_place (slice_get ts n) end
 
--- a place where no sentence goes on is that of a token or the end
-abbrev pub Placed : {X : Type 0} → List Token → Place → Result X ParseRefusal → Type 0
-Placed ts end (Ok x) = Unit {0}
-Placed ts end (Err (ParseRefusal.TooNested l c)) = Unit {0}
-Placed ts end (Err (ParseRefusal.NoSentence l c)) = (n : ℕ) × (at l c ≡ place_at ts n end)
-Placed ts end (Err (ParseRefusal.SameName l c)) = Unit {0}
-Placed ts end (Err ParseRefusal.Memory) = Unit {0}
+-- the place of a refusal: that of the first token with which the tokens begin no sentence, or the end
+abbrev pub RefusedAt : List Token → Place → Place → Type 0
+RefusedAt ts end p = (n : ℕ) × IsRefused ts n × (p ≡ place_at ts n end)
+
+-- whether a refusal says that the tokens are no sentence, exactly there: then no script spells them
+abbrev pub Refused : {X : Type 0} → List Token → Place → Result X ParseRefusal → Type 0
+Refused ts end (Ok x) = Unit {0}
+Refused ts end (Err (ParseRefusal.TooNested l c)) = Unit {0}
+Refused ts end (Err (ParseRefusal.NoSentence l c)) = RefusedAt ts end (at l c)
+Refused ts end (Err (ParseRefusal.SameName l c)) = Unit {0}
+Refused ts end (Err ParseRefusal.Memory) = Unit {0}
 
 -- whether a refusal says that brackets are nested too deep, exactly there
 abbrev pub Nested : {X : Type 0} → List Token → Result X ParseRefusal → Type 0

@@ -1,9 +1,11 @@
 // How a primary and a step begin: the token or tokens in front of the first part.
 
-ghost use Rattle.std.specs.Prelude.{◌≡◌, ◌<◌, ◌≤◌, ◌∷◌, [], List, true, length, IfOk, IfSome};
+ghost use Rattle.std.specs.Prelude.{◌≡◌, ◌<◌, ◌≤◌, ◌∷◌, [], List, true, false, length, IfOk, IfSome, IfNone};
 ghost use Rattle.sky_base.specs.Tree.{Place};
 ghost use Rattle.sky_base.specs.TreeView.{at, exp_view, lit_view};
-ghost use Rattle.sky_parse.specs.Signs.{is};
+ghost use Rattle.sky_parse.specs.Signs.{is, at_sign};
+ghost use Rattle.sky_parse.specs.Machine.{Item, run, kinds, is_literal, word_head, sign_head};
+ghost use Rattle.sky_parse.specs.Runs.{Goes, behind};
 ghost use Rattle.sky_parse.specs.Parts.{spell_head, step_sign};
 ghost use Rattle.sky_parse.specs.Begun.{Begun};
 ghost use Rattle.sky_parse.specs.Grammar.{Mark, Fits, Spelled, lit_kind};
@@ -27,19 +29,36 @@ pub enum Opening {
 
 /// The literal that is a word.
 fn literal(word: Word) -> Option<Lit>
-    ensures { IfSome result (λ v. lit_kind (lit_view v) ≡ TokenKind.Word word) }
+    ensures some { IfSome result (λ v. (is_literal word ≡ true) × (lit_kind (lit_view v) ≡ TokenKind.Word word)) }
+    ensures none { IfNone result (is_literal word ≡ false) }
 {
     match word {
         Word::True => Some(Lit::Bool(true)),
         Word::False => Some(Lit::Bool(false)),
         Word::Null => Some(Lit::Null),
-        _ => None,
+        Word::Function
+        | Word::Return
+        | Word::If
+        | Word::Else
+        | Word::While
+        | Word::Do
+        | Word::For
+        | Word::In
+        | Word::Spawn
+        | Word::SpawnExec
+        | Word::Exec
+        | Word::Ref
+        | Word::Len
+        | Word::Keys
+        | Word::Has
+        | Word::Range => None,
     }
 }
 
 /// The form that begins with a word.
 fn word_head(word: Word) -> Option<Head>
-    ensures { IfSome result (λ h. (p : Place) (more : List Mark) → spell_head h p more ≡ g.word_at word p ∷ g.sign Sign.OpenRound ∷ more) }
+    ensures exact { result ≡ word_head word }
+    ensures some { IfSome result (λ h. (p : Place) (more : List Mark) → spell_head h p more ≡ g.word_at word p ∷ g.sign Sign.OpenRound ∷ more) }
 {
     match word {
         Word::Spawn => Some(Head::Spawn),
@@ -50,24 +69,57 @@ fn word_head(word: Word) -> Option<Head>
         Word::Keys => Some(Head::Keys),
         Word::Has => Some(Head::Has),
         Word::Range => Some(Head::Range),
-        _ => None,
+        Word::Function
+        | Word::Return
+        | Word::If
+        | Word::Else
+        | Word::While
+        | Word::Do
+        | Word::For
+        | Word::In
+        | Word::True
+        | Word::False
+        | Word::Null => None,
     }
 }
 
 /// The form that begins with a sign.
 fn sign_head(sign: Sign) -> Option<Head>
-    ensures { IfSome result (λ h. (t : Token) (p : Place) (ts : List Token) → Fits (g.sign_at sign p) t → Spelled (spell_head h p) (t ∷ ts) ts) }
+    ensures exact { result ≡ sign_head sign }
+    ensures some { IfSome result (λ h. (t : Token) (p : Place) (ts : List Token) → Fits (g.sign_at sign p) t → Spelled (spell_head h p) (t ∷ ts) ts) }
 {
     match sign {
         Sign::OpenRound => Some(Head::Parens),
         Sign::OpenSquare => Some(Head::List),
         Sign::OpenCurly => Some(Head::Dict),
-        _ => None,
+        Sign::CloseRound
+        | Sign::CloseCurly
+        | Sign::CloseSquare
+        | Sign::Comma
+        | Sign::Semicolon
+        | Sign::Colon
+        | Sign::Assign
+        | Sign::AddAssign
+        | Sign::Plus
+        | Sign::Minus
+        | Sign::Star
+        | Sign::Slash
+        | Sign::Percent
+        | Sign::Not
+        | Sign::Equal
+        | Sign::NotEqual
+        | Sign::Less
+        | Sign::LessEqual
+        | Sign::Greater
+        | Sign::GreaterEqual
+        | Sign::And
+        | Sign::Or => None,
     }
 }
 
 /// What begins with a word, behind it.
 fn begin_word(word: Word, line: u32, col: u32, ts: &[Token]) -> Result<(Opening, &[Token]), Fail>
+    ensures read { Goes (λ x k. run (behind x.0 k) (kinds x.1.now)) (λ k. run (Item.primary ∷ k) (TokenKind.Word word ∷ kinds ts.now)) result }
     ensures tree { IfOk result (λ x. (t : Token) → Fits (g.word_at word (at line col)) t → Begun x.0 (t ∷ ts.now) x.1.now) }
     ensures less { IfOk result (λ x. length x.1.now ≤ length ts.now) }
 {
@@ -83,6 +135,7 @@ fn begin_word(word: Word, line: u32, col: u32, ts: &[Token]) -> Result<(Opening,
 
 /// What begins with a sign, behind it.
 fn begin_sign(sign: Sign, line: u32, col: u32, ts: &[Token]) -> Result<(Opening, &[Token]), Fail>
+    ensures read { Goes (λ x k. run (behind x.0 k) (kinds x.1.now)) (λ k. run (Item.primary ∷ k) (TokenKind.Sign sign ∷ kinds ts.now)) result }
     ensures tree { IfOk result (λ x. (t : Token) → Fits (g.sign_at sign (at line col)) t → Begun x.0 (t ∷ ts.now) x.1.now) }
     ensures less { IfOk result (λ x. length x.1.now ≤ length ts.now) }
 {
@@ -94,6 +147,7 @@ fn begin_sign(sign: Sign, line: u32, col: u32, ts: &[Token]) -> Result<(Opening,
 
 /// The beginning of a primary.
 pub fn start(ts: &[Token]) -> Result<(Opening, &[Token]), Fail>
+    ensures read { Goes (λ x k. run (behind x.0 k) (kinds x.1.now)) (λ k. run (Item.primary ∷ k) (kinds ts.now)) result }
     ensures tree { IfOk result (λ x. Begun x.0 ts.now x.1.now) }
     ensures less { IfOk result (λ x. length x.1.now < length ts.now) }
 {
@@ -125,6 +179,7 @@ pub fn start(ts: &[Token]) -> Result<(Opening, &[Token]), Fail>
 /// The bracket of an index or a call, if one stands first, and what follows.
 pub fn begin_step(ts: &[Token]) -> Option<(StepHead, &Token, &[Token])>
     ensures some { IfSome result (λ x. (ts.now ≡ x.1.now ∷ x.2.now) × (is (step_sign x.0) x.1.now.kind ≡ true)) }
+    ensures none { IfNone result ((at_sign Sign.OpenSquare ts.now ≡ false) × (at_sign Sign.OpenRound ts.now ≡ false)) }
 {
     if let Some((sign, rest)) = eat(ts, Sign::OpenSquare) {
         return Some((StepHead::Index, sign, rest));

@@ -6,6 +6,8 @@ ghost use Rattle.sky_base.specs.Proper.{level as level_of};
 ghost use Rattle.sky_base.specs.TreeView.{exp_view, exps_view, links_view, ands_view, steps_view, signs_view};
 ghost use Rattle.sky_parse.specs.Levels.{rank, junction};
 ghost use Rattle.sky_parse.specs.Parts.{Has, spell_parts};
+ghost use Rattle.sky_parse.specs.Machine.{Item, tails, run, kinds};
+ghost use Rattle.sky_parse.specs.Runs.{Runs, Goes, Takes};
 ghost use Rattle.sky_parse.specs.Grammar.{IsTree, AreTrees, AreLinks, AreAnds, AreSteps, Spelled, spell, spell_links, spell_ands, spell_steps, spell_signs};
 ghost use Rattle.sky_text.specs.declared.token.Token.{Token};
 
@@ -21,6 +23,7 @@ use std::alloc::Global;
 
 /// An expression at the front.
 pub fn expr(alloc: Global, ts: &[Token]) -> Result<(Expr, &[Token]), Fail>
+    ensures read { Runs (λ x. x.1.now) (λ k. run (Item.level Level.Either ∷ k) (kinds ts.now)) result }
     ensures tree { IfOk result (λ x. IsTree (exp_view x.0) × Spelled (spell (exp_view x.0)) ts.now x.1.now) }
     ensures less { IfOk result (λ x. length x.1.now < length ts.now) }
 {
@@ -30,6 +33,7 @@ pub fn expr(alloc: Global, ts: &[Token]) -> Result<(Expr, &[Token]), Fail>
 /// An expression of a level or of a tighter one.
 #[cycle(expr)]
 fn at_level(alloc: Global, level: Level, ts: &[Token]) -> Result<(Expr, &[Token]), Fail>
+    ensures read { Runs (λ x. x.1.now) (λ k. run (Item.level level ∷ k) (kinds ts.now)) result }
     ensures tree { IfOk result (λ x. IsTree (exp_view x.0) × (rank level ≤ level_of (exp_view x.0)) × Spelled (spell (exp_view x.0)) ts.now x.1.now) }
     ensures less { IfOk result (λ x. length x.1.now < length ts.now) }
 {
@@ -47,6 +51,7 @@ pub fn onward(
     ts: &[Token],
 ) -> Result<(Expr, &[Token]), Fail>
     requires { IsTree (exp_view first) × (5 ≤ level_of (exp_view first)) }
+    ensures read { Runs (λ x. x.1.now) (λ k. run (tails level k) (kinds ts.now)) result }
     ensures tree { IfOk result (λ x. IsTree (exp_view x.0) × (rank level ≤ level_of (exp_view x.0)) × ((from : List Token) → Spelled (spell (exp_view first)) from ts.now → Spelled (spell (exp_view x.0)) from x.1.now)) }
     ensures less { IfOk result (λ x. length x.1.now ≤ length ts.now) }
 {
@@ -68,6 +73,7 @@ fn tail(
 ) -> Result<(Expr, &[Token]), Fail>
     requires tighter { rank inner ≡ rank level + 1 }
     requires operand { IsTree (exp_view first) × (rank level < level_of (exp_view first)) }
+    ensures read { Runs (λ x. x.1.now) (λ k. run (Item.tail level ∷ k) (kinds ts.now)) result }
     ensures tree { IfOk result (λ x. IsTree (exp_view x.0) × (rank level ≤ level_of (exp_view x.0)) × ((from : List Token) → Spelled (spell (exp_view first)) from ts.now → Spelled (spell (exp_view x.0)) from x.1.now)) }
     ensures less { IfOk result (λ x. length x.1.now ≤ length ts.now) }
 {
@@ -101,6 +107,7 @@ fn compared(
 ) -> Result<(Expr, &[Token]), Fail>
     requires tighter { rank inner ≡ 3 }
     requires operand { IsTree (exp_view first) × (2 < level_of (exp_view first)) }
+    ensures read { Runs (λ x. x.1.now) (λ k. run (Item.tail Level.Comparison ∷ k) (kinds ts.now)) result }
     ensures tree { IfOk result (λ x. IsTree (exp_view x.0) × (2 ≤ level_of (exp_view x.0)) × ((from : List Token) → Spelled (spell (exp_view first)) from ts.now → Spelled (spell (exp_view x.0)) from x.1.now)) }
     ensures less { IfOk result (λ x. length x.1.now ≤ length ts.now) }
 {
@@ -124,6 +131,7 @@ fn links(
 ) -> Result<(Vec<Link>, &[Token]), Fail>
     requires tighter { rank inner ≡ rank level + 1 }
     requires arithmetic { (3 ≤ rank level) × (rank level ≤ 4) }
+    ensures read { Runs (λ x. x.1.now) (λ k. run (Item.tail level ∷ k) (kinds ts.now)) result }
     ensures tree { IfOk result (λ x. AreLinks (rank level) (links_view x.0.items) × Spelled (spell_links (links_view x.0.items)) ts.now x.1.now) }
     ensures less { IfOk result (λ x. length x.1.now ≤ length ts.now) }
 {
@@ -155,6 +163,7 @@ fn joins(
 ) -> Result<(Vec<Join>, &[Token]), Fail>
     requires tighter { rank inner ≡ rank level + 1 }
     requires of_truth { rank level ≤ 1 }
+    ensures read { Runs (λ x. x.1.now) (λ k. run (Item.tail level ∷ k) (kinds ts.now)) result }
     ensures tree { IfOk result (λ x. AreAnds (rank level) (ands_view x.0.items) × Spelled (spell_ands (junction level) (ands_view x.0.items)) ts.now x.1.now) }
     ensures less { IfOk result (λ x. length x.1.now ≤ length ts.now) }
 {
@@ -177,6 +186,7 @@ fn joins(
 
 /// A sign of a prefix, if one stands first, and what follows.
 fn sign_op(ts: &[Token]) -> Option<(SignAt, &[Token])>
+    ensures read { Takes (λ x k. run (Item.level Level.Prefix ∷ k) (kinds x.1.now)) (λ k. run (Item.stepped ∷ k) (kinds ts.now)) (λ k. run (Item.level Level.Prefix ∷ k) (kinds ts.now)) result }
     ensures some { IfSome result (λ x. (length x.1.now < length ts.now) × Spelled (spell_signs (signs_view (x.0 ∷ []))) ts.now x.1.now) }
 {
     if let Some((at, rest)) = eat(ts, Sign::Not) {
@@ -212,6 +222,7 @@ fn sign_op(ts: &[Token]) -> Option<(SignAt, &[Token])>
 
 /// The signs of a prefix.
 fn signs(alloc: Global, ts: &[Token]) -> Result<(Vec<SignAt>, &[Token]), Fail>
+    ensures read { Goes (λ x k. run (Item.stepped ∷ k) (kinds x.1.now)) (λ k. run (Item.level Level.Prefix ∷ k) (kinds ts.now)) result }
     ensures spelled { IfOk result (λ x. Spelled (spell_signs (signs_view x.0.items)) ts.now x.1.now) }
     ensures less { IfOk result (λ x. length x.1.now ≤ length ts.now) }
 {
@@ -229,6 +240,7 @@ fn signs(alloc: Global, ts: &[Token]) -> Result<(Vec<SignAt>, &[Token]), Fail>
 /// An operand of a product.
 #[cycle(expr)]
 fn operand(alloc: Global, ts: &[Token]) -> Result<(Expr, &[Token]), Fail>
+    ensures read { Runs (λ x. x.1.now) (λ k. run (Item.level Level.Prefix ∷ k) (kinds ts.now)) result }
     ensures tree { IfOk result (λ x. IsTree (exp_view x.0) × (5 ≤ level_of (exp_view x.0)) × Spelled (spell (exp_view x.0)) ts.now x.1.now) }
     ensures less { IfOk result (λ x. length x.1.now < length ts.now) }
 {
@@ -243,6 +255,7 @@ fn operand(alloc: Global, ts: &[Token]) -> Result<(Expr, &[Token]), Fail>
 /// A primary with its indices and calls.
 #[cycle(expr)]
 fn stepped(alloc: Global, ts: &[Token]) -> Result<(Expr, &[Token]), Fail>
+    ensures read { Runs (λ x. x.1.now) (λ k. run (Item.stepped ∷ k) (kinds ts.now)) result }
     ensures tree { IfOk result (λ x. IsTree (exp_view x.0) × (6 ≤ level_of (exp_view x.0)) × Spelled (spell (exp_view x.0)) ts.now x.1.now) }
     ensures less { IfOk result (λ x. length x.1.now < length ts.now) }
 {
@@ -258,6 +271,7 @@ fn stepped(alloc: Global, ts: &[Token]) -> Result<(Expr, &[Token]), Fail>
 #[cycle(expr)]
 pub fn steps(alloc: Global, read: Vec<Step>, ts: &[Token]) -> Result<(Vec<Step>, &[Token]), Fail>
     requires { AreSteps (steps_view read.items) }
+    ensures read { Runs (λ x. x.1.now) (λ k. run (Item.steps ∷ k) (kinds ts.now)) result }
     ensures tree { IfOk result (λ x. AreSteps (steps_view x.0.items) × ((from : List Token) → Spelled (spell_steps (steps_view read.items)) from ts.now → Spelled (spell_steps (steps_view x.0.items)) from x.1.now)) }
     ensures less { IfOk result (λ x. length x.1.now ≤ length ts.now) }
 {
@@ -277,6 +291,7 @@ pub fn steps(alloc: Global, read: Vec<Step>, ts: &[Token]) -> Result<(Vec<Step>,
 /// An expression that is no chain, no prefix and no postfix.
 #[cycle(expr)]
 fn primary(alloc: Global, ts: &[Token]) -> Result<(Expr, &[Token]), Fail>
+    ensures read { Runs (λ x. x.1.now) (λ k. run (Item.primary ∷ k) (kinds ts.now)) result }
     ensures tree { IfOk result (λ x. IsTree (exp_view x.0) × (7 ≤ level_of (exp_view x.0)) × Spelled (spell (exp_view x.0)) ts.now x.1.now) }
     ensures less { IfOk result (λ x. length x.1.now < length ts.now) }
 {
@@ -296,6 +311,7 @@ fn primary(alloc: Global, ts: &[Token]) -> Result<(Expr, &[Token]), Fail>
 /// The parts of a form, behind its opening bracket, and the sign that closes them.
 #[cycle(expr)]
 fn parts(alloc: Global, shape: Shape, ts: &[Token]) -> Result<(Vec<Expr>, &[Token]), Fail>
+    ensures read { Runs (λ x. x.1.now) (λ k. run (Item.parts shape ∷ k) (kinds ts.now)) result }
     ensures tree { IfOk result (λ x. AreTrees (exps_view x.0.items) × Has shape (exps_view x.0.items) × Spelled (spell_parts shape (exps_view x.0.items)) ts.now x.1.now) }
     ensures less { IfOk result (λ x. length x.1.now < length ts.now) }
 {

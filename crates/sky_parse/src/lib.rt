@@ -5,6 +5,7 @@ pub mod begin;
 pub mod brackets;
 pub mod build;
 pub mod expr;
+pub mod law;
 pub mod level;
 pub mod look;
 pub mod parts;

@@ -5,6 +5,8 @@ ghost use Rattle.std.specs.Prelude.{◌≡◌, ◌∷◌, ◌<◌, List, length,
 ghost use Rattle.sky_parse.specs.Signs.{sign_code, word_code, is, is_word, at_sign, at_word};
 ghost use Rattle.sky_base.specs.TreeView.{at};
 ghost use Rattle.sky_parse.specs.Grammar.{Spelled};
+ghost use Rattle.sky_parse.specs.Machine.{Item, run, kinds};
+ghost use Rattle.sky_parse.specs.Runs.{Runs};
 ghost use Rattle.sky_parse.specs.Grammar as g;
 ghost use Rattle.sky_text.specs.declared.token.TokenKind.{TokenKind};
 
@@ -135,8 +137,9 @@ pub fn eat_word(ts: &[Token], word: Word) -> Option<(&Token, &[Token])>
 }
 
 /// What follows the sign, which has to stand first.
-#[tactic(auto, using(crate::proofs::Tokens::tokens))]
+#[tactic(auto, using(crate::proofs::Tokens::tokens, crate::proofs::Moves::signs))]
 pub fn want(ts: &[Token], sign: Sign) -> Result<&[Token], Fail>
+    ensures read { Runs (λ x. x.now) (λ k. run (Item.sign sign ∷ k) (kinds ts.now)) result }
     ensures spelled { IfOk result (λ x. Spelled (λ more. g.sign sign ∷ more) ts.now x.now) }
     ensures less { IfOk result (λ x. length x.now < length ts.now) }
 {
@@ -147,8 +150,9 @@ pub fn want(ts: &[Token], sign: Sign) -> Result<&[Token], Fail>
 }
 
 /// What follows the word, which has to stand first.
-#[tactic(auto, using(crate::proofs::Tokens::tokens))]
+#[tactic(auto, using(crate::proofs::Tokens::tokens, crate::proofs::Moves::signs))]
 pub fn want_word(ts: &[Token], word: Word) -> Result<&[Token], Fail>
+    ensures read { Runs (λ x. x.now) (λ k. run (Item.word word ∷ k) (kinds ts.now)) result }
     ensures spelled { IfOk result (λ x. Spelled (λ more. g.word word ∷ more) ts.now x.now) }
     ensures less { IfOk result (λ x. length x.now < length ts.now) }
 {
@@ -160,6 +164,7 @@ pub fn want_word(ts: &[Token], word: Word) -> Result<&[Token], Fail>
 
 /// A name, which has to stand first: its text, its line and column, and what follows.
 pub fn want_name(ts: &[Token]) -> Result<(Txt, u32, u32, &[Token]), Fail>
+    ensures read { Runs (λ x. x.3.now) (λ k. run (Item.name ∷ k) (kinds ts.now)) result }
     ensures plain { IfOk result (λ x. Spelled (λ more. g.Mark.plain (TokenKind.Name x.0) ∷ more) ts.now x.3.now) }
     ensures spelled { IfOk result (λ x. Spelled (λ more. g.Mark.placed (TokenKind.Name x.0) (at x.1 x.2) ∷ more) ts.now x.3.now) }
     ensures less { IfOk result (λ x. length x.3.now < length ts.now) }

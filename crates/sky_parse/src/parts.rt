@@ -1,11 +1,14 @@
 // What stands between brackets: which separators and which closing sign each form has, and how many
 // parts. One loop of the parser reads them all by these.
 
-ghost use Rattle.std.specs.Prelude.{◌≡◌, ◌<◌, ◌∷◌, List, length, true, false, IfOk, IfSome, IfNone};
+ghost use Rattle.std.specs.Prelude.{◌≡◌, ◌<◌, ◌∷◌, suc, List, length, true, false, IfOk, IfSome, IfNone};
 ghost use Rattle.sky_base.specs.Tree.{Exps};
 ghost use Rattle.sky_parse.specs.Signs.{is};
 ghost use Rattle.sky_parse.specs.Parts.{Has, spell_parts, separator, full, ready, closing, head_shape, step_shape};
 ghost use Rattle.sky_parse.specs.Grammar.{Spelled};
+ghost use Rattle.sky_parse.specs.Machine.{Item, run, kinds};
+ghost use Rattle.sky_parse.specs.Runs.{Runs, Takes, at_next};
+ghost use Rattle.sky_parse.specs.declared.level.Level.{Level};
 ghost use Rattle.sky_parse.specs.Grammar as g;
 
 use crate::look::{Fail, eat, want};
@@ -120,7 +123,9 @@ impl Shape {
     }
 
     /// What follows the brackets, if they may be empty and are.
+    #[tactic(auto, using(crate::proofs::Moves::shapes))]
     pub fn empty(self, ts: &[Token]) -> Option<&[Token]>
+        ensures read { Takes (λ x k. run k (kinds x.now)) (λ k. run (Item.level Level.Either ∷ Item.others self 1 ∷ k) (kinds ts.now)) (λ k. run (Item.parts self ∷ k) (kinds ts.now)) result }
         ensures some { IfSome result (λ x. (length x.now < length ts.now) × Has self Exps.no_exps × Spelled (spell_parts self Exps.no_exps) ts.now x.now) }
     {
         match self {
@@ -137,8 +142,11 @@ impl Shape {
     }
 
     /// The sign behind so many parts, if one more follows, and what follows the sign.
+    #[tactic(auto, using(crate::proofs::Moves::shapes, crate::proofs::Moves::others_goes))]
     pub fn again(self, count: usize, ts: &[Token]) -> Option<(&Token, &[Token])>
         ensures some { IfSome result (λ x. (ts.now ≡ x.0.now ∷ x.1.now) × (is (separator self count) x.0.now.kind ≡ true)) }
+        ensures read { IfSome result (λ x. (k : List Item) → run (Item.others self count ∷ k) (kinds ts.now) ≡ run (Item.level Level.Either ∷ Item.others self (suc count) ∷ k) (kinds x.1.now)) }
+        ensures none { IfNone result (at_next self count ts.now ≡ false) }
     {
         if self.full(count) {
             return None;
@@ -147,7 +155,9 @@ impl Shape {
     }
 
     /// What follows the closing sign, which has to stand behind so many parts.
+    #[tactic(auto, using(crate::proofs::Moves::shapes))]
     pub fn close(self, count: usize, ts: &[Token]) -> Result<&[Token], Fail>
+        ensures read { at_next self count ts.now ≡ false → Runs (λ x. x.now) (λ k. run (Item.others self count ∷ k) (kinds ts.now)) result }
         ensures ready { IfOk result (λ x. ready self count ≡ true) }
         ensures spelled { IfOk result (λ x. Spelled (λ more. g.sign (closing self) ∷ more) ts.now x.now) }
         ensures less { IfOk result (λ x. length x.now < length ts.now) }

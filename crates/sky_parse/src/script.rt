@@ -5,11 +5,13 @@ ghost use Rattle.std.specs.Prelude.{◌≡◌, ◌<◌, ◌≤◌, ◌-◌, ◌�
 ghost use Rattle.sky_base.specs.TreeView.{at};
 ghost use Rattle.sky_parse.specs.Grammar.{Mark, Spelled, spell_params};
 ghost use Rattle.sky_parse.specs.Grammar as g;
+ghost use Rattle.sky_parse.specs.Machine.{Item, run, kinds};
+ghost use Rattle.sky_parse.specs.Runs.{Runs, Goes};
 ghost use Rattle.sky_parse.specs.Nesting.{place_of};
 ghost use Rattle.sky_parse.specs.Names.{among, first_of, at_twice, same_params, fun_names};
 ghost use Rattle.sky_parse.specs.Tops.{Top, Spells, param_names};
 ghost use Rattle.sky_parse.specs.Scripts.{IsFunction, IsRead, Reads, params_view};
-ghost use Rattle.sky_parse.specs.Parsed.{IsScript, Nested, Named, Placed, place_at};
+ghost use Rattle.sky_parse.specs.Parsed.{Gives, IsScript, IsValid, Named, Nested, Refused, place_at};
 
 use crate::brackets::too_nested;
 use crate::look::{Fail, eat, eat_word, want, want_name};
@@ -53,6 +55,7 @@ pub enum ParseRefusal {
 
 /// The parameters of a function and the sign that closes them.
 fn params(alloc: Global, ts: &[Token]) -> Result<(Vec<Parameter>, &[Token]), Fail>
+    ensures read { Runs (λ x. x.1.now) (λ k. run (Item.params ∷ k) (kinds ts.now)) result }
     ensures tree { IfOk result (λ x. Spelled (λ more. spell_params (params_view x.0.items) (g.sign Sign.CloseRound ∷ more)) ts.now x.1.now) }
     ensures less { IfOk result (λ x. length x.1.now < length ts.now) }
 {
@@ -136,6 +139,7 @@ fn names(alloc: Global, params: &[Parameter]) -> Result<(Texts, Option<(u32, u32
 
 /// What stands behind the word `function`.
 fn function(alloc: Global, ts: &[Token]) -> Result<(FunDef, Option<(u32, u32)>, &[Token]), Fail>
+    ensures read { Runs (λ x. x.2.now) (λ k. run (Item.name ∷ Item.sign Sign.OpenRound ∷ Item.params ∷ Item.block ∷ k) (kinds ts.now)) result }
     ensures tree { IfOk result (λ x. IsFunction x.0 x.1 ts.now x.2.now) }
     ensures less { IfOk result (λ x. length x.2.now < length ts.now) }
 {
@@ -161,6 +165,8 @@ fn function(alloc: Global, ts: &[Token]) -> Result<(FunDef, Option<(u32, u32)>, 
 
 /// A function or a statement, put behind those that were read.
 fn top<'a>(alloc: Global, read: &mut Read, ts: &'a [Token]) -> Result<&'a [Token], Fail>
+    requires { 0 < length ts.now }
+    ensures read { Goes (λ x k. run (Item.tops ∷ k) (kinds x.now)) (λ k. run (Item.tops ∷ k) (kinds ts.now)) result }
     ensures tree { IfOk result (λ x. Reads read.old read.new ts.now x.now) }
     ensures less { IfOk result (λ x. length x.now < length ts.now) }
 {
@@ -184,7 +190,8 @@ fn top<'a>(alloc: Global, read: &mut Read, ts: &'a [Token]) -> Result<&'a [Token
 
 /// All functions and statements.
 fn tops(alloc: Global, ts: &[Token]) -> Result<Read, Fail>
-    ensures { IfOk result (λ r. (tops : List Top) × IsRead r tops × Spells tops ts.now) }
+    ensures read { Goes (λ x k. run k []) (λ k. run (Item.tops ∷ k) (kinds ts.now)) result }
+    ensures tree { IfOk result (λ r. (tops : List Top) × IsRead r tops × Spells tops ts.now) }
 {
     let mut read = Read {
         funs: Vec::new(alloc),
@@ -217,12 +224,15 @@ pub fn parse(
     keys: Texts,
 ) -> Result<Script, ParseRefusal>
     requires { length tokens.now ≤ 1048576 }
+    // A valid script is answered as what it is, but for want of memory.
+    ensures valid { (tops : List Top) → IsValid tops tokens.now → Gives keys tops result }
     // Its functions and statements are trees of the grammar and spell the tokens, places included.
     ensures spelled { IfOk result (λ script. IsScript keys tokens.now script) }
     // A name that stands twice is refused where functions and statements spell the tokens, exactly there.
     ensures named { Named tokens.now result }
-    // The place where no sentence goes on is that of a token, or the end.
-    ensures placed { Placed tokens.now (at end.0 end.1) result }
+    // Where no sentence goes on, no script spells the tokens, and the place is that of the first token with
+    // which they begin none, or else the end.
+    ensures refused { Refused tokens.now (at end.0 end.1) result }
     // Brackets that are nested too deep are refused, before all else and exactly where they are.
     ensures nested { Nested tokens.now result }
 {

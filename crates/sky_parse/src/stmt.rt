@@ -3,6 +3,8 @@
 ghost use Rattle.std.specs.Prelude.{◌≡◌, ◌<◌, ◌≤◌, ◌∷◌, [], List, true, length, IfOk, IfSome};
 ghost use Rattle.sky_base.specs.TreeView.{at, exp_view, steps_view};
 ghost use Rattle.sky_base.specs.StmtView.{stm_view, arms_view};
+ghost use Rattle.sky_parse.specs.Machine.{Item, tails, test_then, run, kinds};
+ghost use Rattle.sky_parse.specs.Runs.{Runs, Goes};
 ghost use Rattle.sky_parse.specs.Grammar.{Fits, IsTree, IsStm, AreStms, AreArms, AreSteps, Spelled, spell, spell_steps, spell_stm, spell_stms, spell_test, spell_block, name_at, word_at, sign_at};
 ghost use Rattle.sky_parse.specs.Grammar as g;
 ghost use Rattle.sky_text.specs.declared.token.Token.{Token};
@@ -20,6 +22,7 @@ use std::alloc::Global;
 
 /// An expression and the semicolon behind it.
 fn ended(alloc: Global, ts: &[Token]) -> Result<(Expr, &[Token]), Fail>
+    ensures read { Runs (λ x. x.1.now) (λ k. run (Item.level Level.Either ∷ Item.sign Sign.Semicolon ∷ k) (kinds ts.now)) result }
     ensures tree { IfOk result (λ x. IsTree (exp_view x.0) × Spelled (λ more. spell (exp_view x.0) (g.sign Sign.Semicolon ∷ more)) ts.now x.1.now) }
     ensures less { IfOk result (λ x. length x.1.now < length ts.now) }
 {
@@ -30,6 +33,7 @@ fn ended(alloc: Global, ts: &[Token]) -> Result<(Expr, &[Token]), Fail>
 
 /// A test in parentheses.
 fn test(alloc: Global, ts: &[Token]) -> Result<(Expr, &[Token]), Fail>
+    ensures read { Runs (λ x. x.1.now) (λ k. run (test_then k) (kinds ts.now)) result }
     ensures tree { IfOk result (λ x. IsTree (exp_view x.0) × Spelled (spell_test (exp_view x.0)) ts.now x.1.now) }
     ensures less { IfOk result (λ x. length x.1.now < length ts.now) }
 {
@@ -41,6 +45,7 @@ fn test(alloc: Global, ts: &[Token]) -> Result<(Expr, &[Token]), Fail>
 
 /// What stands in the parentheses of a `for`, and these.
 fn each_of(alloc: Global, ts: &[Token]) -> Result<(Txt, Expr, &[Token]), Fail>
+    ensures read { Runs (λ x. x.2.now) (λ k. run (Item.sign Sign.OpenRound ∷ Item.name ∷ Item.word Word.In ∷ Item.level Level.Either ∷ Item.sign Sign.CloseRound ∷ k) (kinds ts.now)) result }
     ensures tree { IfOk result (λ x. IsTree (exp_view x.1) × Spelled (λ more. g.sign Sign.OpenRound ∷ g.Mark.plain (TokenKind.Name x.0) ∷ g.word Word.In ∷ spell (exp_view x.1) (g.sign Sign.CloseRound ∷ more)) ts.now x.2.now) }
     ensures less { IfOk result (λ x. length x.2.now < length ts.now) }
 {
@@ -62,6 +67,7 @@ fn just(
     ts: &[Token],
 ) -> Result<(Stmt, &[Token]), Fail>
     requires { AreSteps (steps_view read.items) }
+    ensures read { Runs (λ x. x.1.now) (λ k. run (Item.steps ∷ tails Level.Either (Item.sign Sign.Semicolon ∷ k)) (kinds ts.now)) result }
     ensures tree { IfOk result (λ x. IsStm (stm_view x.0) × ((t : Token) (from : List Token)
         → Fits (name_at name (at line col)) t → Spelled (spell_steps (steps_view read.items)) from ts.now → Spelled (spell_stm (stm_view x.0)) (t ∷ from) x.1.now)) }
     ensures less { IfOk result (λ x. length x.1.now < length ts.now) }
@@ -85,6 +91,7 @@ fn indexed(
     col: u32,
     ts: &[Token],
 ) -> Result<(Stmt, &[Token]), Fail>
+    ensures read { Runs (λ x. x.1.now) (λ k. run (Item.level Level.Either ∷ Item.sign Sign.CloseSquare ∷ Item.indexed ∷ k) (kinds ts.now)) result }
     ensures tree { IfOk result (λ x. IsStm (stm_view x.0) × ((t b : Token)
         → Fits (name_at name (at name_line name_col)) t → Fits (sign_at Sign.OpenSquare (at line col)) b → Spelled (spell_stm (stm_view x.0)) (t ∷ b ∷ ts.now) x.1.now)) }
     ensures less { IfOk result (λ x. length x.1.now < length ts.now) }
@@ -121,6 +128,7 @@ fn named(
     col: u32,
     ts: &[Token],
 ) -> Result<(Stmt, &[Token]), Fail>
+    ensures read { Runs (λ x. x.1.now) (λ k. run (Item.named ∷ k) (kinds ts.now)) result }
     ensures tree { IfOk result (λ x. IsStm (stm_view x.0) × ((t : Token)
         → Fits (name_at name (at line col)) t → Spelled (spell_stm (stm_view x.0)) (t ∷ ts.now) x.1.now)) }
     ensures less { IfOk result (λ x. length x.1.now < length ts.now) }
@@ -160,6 +168,7 @@ fn named(
 
 /// What stands behind the word `return`.
 fn back(alloc: Global, line: u32, col: u32, ts: &[Token]) -> Result<(Stmt, &[Token]), Fail>
+    ensures read { Runs (λ x. x.1.now) (λ k. run (Item.back ∷ k) (kinds ts.now)) result }
     ensures tree { IfOk result (λ x. IsStm (stm_view x.0) × ((t : Token)
         → Fits (word_at Word.Return (at line col)) t → Spelled (spell_stm (stm_view x.0)) (t ∷ ts.now) x.1.now)) }
     ensures less { IfOk result (λ x. length x.1.now < length ts.now) }
@@ -188,6 +197,7 @@ fn back(alloc: Global, line: u32, col: u32, ts: &[Token]) -> Result<(Stmt, &[Tok
 /// A statement at the front.
 #[cycle(stmt)]
 pub fn stmt(alloc: Global, ts: &[Token]) -> Result<(Stmt, &[Token]), Fail>
+    ensures read { Runs (λ x. x.1.now) (λ k. run (Item.stmt ∷ k) (kinds ts.now)) result }
     ensures tree { IfOk result (λ x. IsStm (stm_view x.0) × Spelled (spell_stm (stm_view x.0)) ts.now x.1.now) }
     ensures less { IfOk result (λ x. length x.1.now < length ts.now) }
 {
@@ -223,6 +233,7 @@ pub fn stmt(alloc: Global, ts: &[Token]) -> Result<(Stmt, &[Token]), Fail>
 /// What stands behind the first `if` of a choice.
 #[cycle(stmt)]
 fn choice(alloc: Global, line: u32, col: u32, ts: &[Token]) -> Result<(Stmt, &[Token]), Fail>
+    ensures read { Runs (λ x. x.1.now) (λ k. run (test_then (Item.block ∷ Item.arms ∷ k)) (kinds ts.now)) result }
     ensures tree { IfOk result (λ x. IsStm (stm_view x.0) × ((t : Token)
         → Fits (word_at Word.If (at line col)) t → Spelled (spell_stm (stm_view x.0)) (t ∷ ts.now) x.1.now)) }
     ensures less { IfOk result (λ x. length x.1.now < length ts.now) }
@@ -267,6 +278,7 @@ fn choice(alloc: Global, line: u32, col: u32, ts: &[Token]) -> Result<(Stmt, &[T
 /// The test and the block of an arm, behind its `if`.
 #[cycle(stmt)]
 fn arm(alloc: Global, line: u32, col: u32, ts: &[Token]) -> Result<(Arm, &[Token]), Fail>
+    ensures read { Runs (λ x. x.1.now) (λ k. run (test_then (Item.block ∷ k)) (kinds ts.now)) result }
     ensures place { IfOk result (λ x. (x.0.line ≡ line) × (x.0.col ≡ col)) }
     ensures tree { IfOk result (λ x. AreArms (arms_view (x.0 ∷ [])) × Spelled (λ more. spell_test (exp_view x.0.test) (spell_block x.0.body more)) ts.now x.1.now) }
     ensures less { IfOk result (λ x. length x.1.now < length ts.now) }
@@ -287,6 +299,7 @@ fn arm(alloc: Global, line: u32, col: u32, ts: &[Token]) -> Result<(Arm, &[Token
 /// What stands behind the word `while` that begins a statement.
 #[cycle(stmt)]
 fn while_loop(alloc: Global, line: u32, col: u32, ts: &[Token]) -> Result<(Stmt, &[Token]), Fail>
+    ensures read { Runs (λ x. x.1.now) (λ k. run (test_then (Item.block ∷ k)) (kinds ts.now)) result }
     ensures tree { IfOk result (λ x. IsStm (stm_view x.0) × ((t : Token)
         → Fits (word_at Word.While (at line col)) t → Spelled (spell_stm (stm_view x.0)) (t ∷ ts.now) x.1.now)) }
     ensures less { IfOk result (λ x. length x.1.now < length ts.now) }
@@ -307,6 +320,7 @@ fn while_loop(alloc: Global, line: u32, col: u32, ts: &[Token]) -> Result<(Stmt,
 /// What stands behind the word `do`.
 #[cycle(stmt)]
 fn do_loop(alloc: Global, line: u32, col: u32, ts: &[Token]) -> Result<(Stmt, &[Token]), Fail>
+    ensures read { Runs (λ x. x.1.now) (λ k. run (Item.block ∷ Item.word Word.While ∷ test_then (Item.sign Sign.Semicolon ∷ k)) (kinds ts.now)) result }
     ensures tree { IfOk result (λ x. IsStm (stm_view x.0) × ((t : Token)
         → Fits (word_at Word.Do (at line col)) t → Spelled (spell_stm (stm_view x.0)) (t ∷ ts.now) x.1.now)) }
     ensures less { IfOk result (λ x. length x.1.now < length ts.now) }
@@ -329,6 +343,7 @@ fn do_loop(alloc: Global, line: u32, col: u32, ts: &[Token]) -> Result<(Stmt, &[
 /// What stands behind the word `for`.
 #[cycle(stmt)]
 fn for_loop(alloc: Global, line: u32, col: u32, ts: &[Token]) -> Result<(Stmt, &[Token]), Fail>
+    ensures read { Runs (λ x. x.1.now) (λ k. run (Item.sign Sign.OpenRound ∷ Item.name ∷ Item.word Word.In ∷ Item.level Level.Either ∷ Item.sign Sign.CloseRound ∷ Item.block ∷ k) (kinds ts.now)) result }
     ensures tree { IfOk result (λ x. IsStm (stm_view x.0) × ((t : Token)
         → Fits (word_at Word.For (at line col)) t → Spelled (spell_stm (stm_view x.0)) (t ∷ ts.now) x.1.now)) }
     ensures less { IfOk result (λ x. length x.1.now < length ts.now) }
@@ -350,6 +365,7 @@ fn for_loop(alloc: Global, line: u32, col: u32, ts: &[Token]) -> Result<(Stmt, &
 /// The statements up to the end of their block.
 #[cycle(stmt)]
 fn stmts(alloc: Global, ts: &[Token]) -> Result<(Block, &[Token]), Fail>
+    ensures read { Goes (λ x k. run (Item.sign Sign.CloseCurly ∷ k) (kinds x.1.now)) (λ k. run (Item.stmts ∷ Item.sign Sign.CloseCurly ∷ k) (kinds ts.now)) result }
     ensures tree { IfOk result (λ x. AreStms x.0 × Spelled (spell_stms x.0) ts.now x.1.now) }
     ensures less { IfOk result (λ x. length x.1.now ≤ length ts.now) }
 {
@@ -369,6 +385,7 @@ fn stmts(alloc: Global, ts: &[Token]) -> Result<(Block, &[Token]), Fail>
 /// A block.
 #[cycle(stmt)]
 pub fn block(alloc: Global, ts: &[Token]) -> Result<(Block, &[Token]), Fail>
+    ensures read { Runs (λ x. x.1.now) (λ k. run (Item.block ∷ k) (kinds ts.now)) result }
     ensures tree { IfOk result (λ x. AreStms x.0 × Spelled (spell_block x.0) ts.now x.1.now) }
     ensures less { IfOk result (λ x. length x.1.now < length ts.now) }
 {

@@ -8,6 +8,9 @@ use Rattle.sky_parse.specs.Nesting.{place_of}
 use Rattle.sky_parse.specs.Names.{among, first_of, at_twice, fun_names}
 use Rattle.sky_parse.specs.Tops.{Top}
 use Rattle.sky_parse.proofs.Tops.{fun_stands, read_fun, read_stmt, def_is}
+use Rattle.sky_parse.specs.Machine.{Item, run, kinds}
+use Rattle.sky_parse.proofs.Moves.{exit}
+use Rattle.sky_parse.proofs.StmtMoves.{top_stmt}
 use Rattle.sky_parse.proofs.script.top.Goals as goal
 
 pub returns-in-Some-clause-tree : goal.returns-in-Some-clause-tree
@@ -36,3 +39,7 @@ returns-clause-tree c =
       s.1,
       λ tops h. read_stmt c.args.read.now.funs.items c.reserve.new.self.items c.args.read.now.main.items c.push_reserved-2.new.self.items (place_of c.args.read.now.same) c.in_ok-item.item tops c.reserve.ensures.items all h.0 h.1 h.2,
     )
+
+pub returns-in_err-item-clause-read : goal.returns-in_err-item-clause-read
+returns-in_err-item-clause-read c = exit c.from_residual-in_err-item.result c.in_err-item.field-0.0 (λ x k. run (Item.tops ∷ k) (kinds x.now)) (λ k. run (Item.tops ∷ k) (kinds c.args.ts.now)) (λ k. run (Item.stmt ∷ k) (kinds c.args.ts.now))
+    (λ k. Item.tops ∷ k) c.from_residual-in_err-item.ensures.1 (λ k. top_stmt k c.args.ts.now c.requires c.in_default-eat_word.ensures.none) c.in_err-item.ensures.read

@@ -1,8 +1,10 @@
-use Rattle.std.proofs.Common.{◌<◌, ◌≤◌, ◌∷◌, length, ◌+◌, ◌*◌}
+use Rattle.std.proofs.Common.{◌≡◌, List, ◌<◌, ◌≤◌, ◌∷◌, length, ◌+◌, ◌*◌}
 use Rattle.sky_base.specs.TreeView.{at}
 use Rattle.sky_base.specs.StmtView.{stms_view, arms_view}
+use Rattle.sky_text.specs.declared.token.Sign.{Sign}
 use Rattle.sky_text.specs.declared.token.Word.{Word}
 use Rattle.sky_text.specs.declared.token.Token.{Token}
+use Rattle.sky_parse.specs.Machine.{Item, test_then, run, kinds}
 use Rattle.sky_parse.specs.Grammar.{Fits, word_at, AreStms, AreArms, Spelled, spell_stms, spell_arms}
 use Rattle.sky_parse.proofs.stmt.+stmt.Given as goal
 
@@ -32,6 +34,7 @@ decreases-stmts l = 4 * length l.ts.now + 1
 
 abbrev pub invariant-stmts-loop-alloc : goal.invariant-stmts-loop-alloc
 invariant-stmts-loop-alloc l = record {
+  read : (k : List Item) → run (Item.stmts ∷ Item.sign Sign.CloseCurly ∷ k) (kinds l.ts) ≡ run (Item.stmts ∷ Item.sign Sign.CloseCurly ∷ k) (kinds l.rest);
   trees : AreStms (stms_view l.items.items);
   spelled : Spelled (spell_stms (stms_view l.items.items)) l.ts l.rest;
   less : length l.rest ≤ length l.ts;
@@ -42,6 +45,7 @@ decreases-stmts-loop-alloc l = length l.rest
 
 abbrev pub invariant-choice-loop-after : goal.invariant-choice-loop-after
 invariant-choice-loop-after l = record {
+  read : (k : List Item) → run (test_then (Item.block ∷ Item.arms ∷ k)) (kinds l.ts) ≡ run (Item.arms ∷ k) (kinds l.rest);
   trees : AreArms (arms_view l.items.items);
   some : 0 < length l.items.items;
   spelled : (t : Token) → Fits (word_at Word.If (at l.line l.col)) t → Spelled (spell_arms (arms_view l.items.items)) (t ∷ l.ts) l.rest;
