@@ -27,6 +27,7 @@ Joins j ts rest = (ls : Ands) × AreAnds (junction_level j) ls × Spelled (spell
 abbrev pub Chain : ℕ → List Token → List Token → Type 0
 Chain n ts rest = (ls : Links) × AreLinks n ls × Spelled (spell_links ls) ts rest
 
+-- a comparison has one operator
 abbrev pub one_at_most : Links → Bool
 one_at_most Links.no_links = true
 one_at_most (Links.link o p e Links.no_links) = true
@@ -64,6 +65,7 @@ Chains Level.Either ts rest = ToEither ts rest
 abbrev pub StepsOf : List Token → List Token → Type 0
 StepsOf ts rest = (ss : Steps) × AreSteps ss × Spelled (spell_steps ss) ts rest
 
+-- a form that takes so many parts takes at least one
 abbrev pub Possible : Shape → Type 0
 Possible (Shape.Many s) = Unit {0}
 Possible (Shape.Fixed m s) = 1 ≤ m
@@ -83,8 +85,8 @@ Others (Shape.Many s) n ts rest = (es : Exps) × AreTrees es × Spelled (λ more
 Others (Shape.Fixed m s) n ts rest = n ≤ m → (es : Exps) × AreTrees es × (n + exps_count es ≡ m) × Spelled (λ more. spell_others es (sign s ∷ more)) ts rest
 Others Shape.Pairs n ts rest = Pairs (n % 2 == 1) ts rest
 
-abbrev pub A : Sign → List Token → List Token → Type 0
-A s ts rest = Spelled (λ more. sign s ∷ more) ts rest
+abbrev pub ASign : Sign → List Token → List Token → Type 0
+ASign s ts rest = Spelled (λ more. sign s ∷ more) ts rest
 
 abbrev pub AWord : Word → List Token → List Token → Type 0
 AWord w ts rest = Spelled (λ more. word w ∷ more) ts rest
@@ -101,6 +103,7 @@ Block ts rest = (b : Stms) × AreStms b × Spelled (spell_block b) ts rest
 abbrev pub OtherArms : List Token → List Token → Type 0
 OtherArms ts rest = (arms : Arms) × (el : Else) × AreArms arms × IsElse el × Spelled (λ more. spell_other_arms arms (spell_else el more)) ts rest
 
+-- What may stand for an item. Behind a word or a name that was taken already, it is what the whole may be with it.
 abbrev pub Means : Item → List Token → List Token → Type 0
 Means (Item.level l) ts rest = At (rank l) ts rest
 Means (Item.tail l) ts rest = Tail l ts rest
@@ -109,7 +112,7 @@ Means Item.primary ts rest = At 7 ts rest
 Means Item.steps ts rest = StepsOf ts rest
 Means (Item.parts h) ts rest = Parts h ts rest
 Means (Item.others h n) ts rest = Others h n ts rest
-Means (Item.sign s) ts rest = A s ts rest
+Means (Item.sign s) ts rest = ASign s ts rest
 Means (Item.word w) ts rest = AWord w ts rest
 Means Item.name ts rest = AName ts rest
 Means Item.stmt ts rest = AStm ts rest
@@ -245,15 +248,15 @@ single s a b p = single_of s a b (p (omega arith))
 abbrev pub Test : List Token → List Token → Type 0
 Test ts rest = (e : Exp) × IsTree e × Spelled (spell_test e) ts rest
 
-pub test_of : (a b c d : List Token) → A Sign.OpenRound a b → At 0 b c → A Sign.CloseRound c d → Test a d
+pub test_of : (a b c d : List Token) → ASign Sign.OpenRound a b → At 0 b c → ASign Sign.CloseRound c d → Test a d
 test_of a b c d o e s = (e.0, e.1, λ more f. o (spell e.0 (sign Sign.CloseRound ∷ more)) (e.3 (sign Sign.CloseRound ∷ more) (s more f)))
 
 -- an expression and its semicolon are a statement
-pub just_of : (t : Token) (ts a rest : List Token) → At 0 (t ∷ ts) a → A Sign.Semicolon a rest → AStm (t ∷ ts) rest
+pub just_of : (t : Token) (ts a rest : List Token) → At 0 (t ∷ ts) a → ASign Sign.Semicolon a rest → AStm (t ∷ ts) rest
 just_of t ts a rest e s = (Stm.just (place t) e.0, e.1, λ more f. start_fits (place t) (spell e.0 (sign Sign.Semicolon ∷ more)) t ts refl (e.3 (sign Sign.Semicolon ∷ more) (s more f)))
 
 -- so they are where the expression begins with a name
-pub rest_of : (t : Token) (from a b c rest : List Token) → At 7 (t ∷ from) a → StepsOf a b → Chains Level.Either b c → A Sign.Semicolon c rest → AStm (t ∷ from) rest
+pub rest_of : (t : Token) (from a b c rest : List Token) → At 7 (t ∷ from) a → StepsOf a b → Chains Level.Either b c → ASign Sign.Semicolon c rest → AStm (t ∷ from) rest
 rest_of t from a b c rest p ss ls s = just_of t from c rest (gather Level.Either (t ∷ from) b c (lower 5 6 (t ∷ from) b (omega arith) (with_steps (t ∷ from) a b p ss)) ls) s
 
 pub unplaced : (k : TokenKind) (p : Place) (more : List Mark) (ts : List Token) → Follows (Mark.placed k p ∷ more) ts → Follows (Mark.plain k ∷ more) ts

@@ -17,7 +17,7 @@ use Rattle.sky_parse.proofs.Means.{links_low, junction_low}
 use Rattle.sky_parse.proofs.Aligned.{Both, swap, peel, same_kind, same_place, no_end, exp_peel, exps_peel}
 use Rattle.sky_parse.proofs.UniqueExpressions.{UniqueAt, unique_exps, unique_primary, both_via}
 
--- the trees that may be known, with what stops them
+-- the same of prefixes and postfixes, where no index and no call follows
 abbrev UniqueTo : ℕ → ℕ → Type 0
 UniqueTo n l = (e d : Exp) → IsTree e → IsTree d → l ≤ level e → l ≤ level d → weight e ≤ n → (a b : List Mark) → stops_steps a ≡ true → stops_steps b ≡ true → Both (spell e a) (spell d b) → e ≡ d
 
@@ -64,6 +64,7 @@ unique_steps n u (Steps.call es p ss) (Steps.call ds q rs) t r w a b s z h =
     let rest = unique_steps n u ss rs t.1 r.1 (omega (arith, w)) a b s z (peel later) in
     λ i. Steps.call (same i) (ep i) (rest i)
 
+-- a postfix is a primary and its steps; a primary alone has none
 stepped : Exp → Steps → Exp
 stepped e Steps.no_steps = e
 stepped e (Steps.index i p ss) = Exp.postfix e (Steps.index i p ss)
@@ -163,6 +164,7 @@ unique_signs (s ∷ ss) (r ∷ rs) x y g k h =
     let rest = unique_signs ss rs x y g k (peel h) in
     ((λ i. record { sign = es i; place = ep i } ∷ rest.0 i), rest.1)
 
+-- an operand with the signs in front of it, which may be none
 prefixed : List SignAt → Exp → Exp
 prefixed [] e = e
 prefixed (s ∷ ss) e = Exp.prefix (s ∷ ss) e
@@ -253,6 +255,7 @@ unique_links l n u (Links.link o p e ls) (Links.link q c d ks) t r w a b s z h =
     let rest = unique_links l n u ls ks t.3 r.3 (omega (arith, w)) a b s z later in
     λ i. Links.link (eo i) (ep i) (same i) (rest i)
 
+-- an operand with the operators behind it, which may be none
 chained : Exp → Links → Exp
 chained e Links.no_links = e
 chained e (Links.link o p f ls) = Exp.chain e (Links.link o p f ls)
@@ -328,6 +331,7 @@ unique_ands j n u (Ands.and p e ls) (Ands.and c d ks) t r w a b s z h =
     let rest = unique_ands j n u ls ks t.2 r.2 (omega (arith, w)) a b s z later in
     λ i. Ands.and (ep i) (same i) (rest i)
 
+-- an operand with the `&&` or `||` behind it, which may be none
 joined : Junction → Exp → Ands → Exp
 joined j e Ands.no_ands = e
 joined j e (Ands.and p f ls) = Exp.logic j e (Ands.and p f ls)

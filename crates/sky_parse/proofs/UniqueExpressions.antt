@@ -1,4 +1,4 @@
--- No two expressions of the grammar spell the same tokens.
+-- No two expressions of the grammar spell the same tokens: lists in brackets, and primaries.
 use Rattle.std.proofs.Common.{◌≡◌, ◌⊎◌, inl, inr, ℕ, suc, ◌<◌, ◌≤◌, Bool, true, false, List, [], ◌∷◌, refl, sym, ap, subst, ◌∙◌, arith}
 use Rattle.std.proofs.lemmas.Bool.{false≢true, eq-eqb}
 use Rattle.sky_base.specs.Tree.{Place, Lit, Form, Exp, Exps, nowhere, weight, exps_weight}
@@ -18,14 +18,16 @@ use Rattle.sky_parse.proofs.Complete.{stops, Closes, round, square, curly, semic
 use Rattle.sky_parse.proofs.Means.{links_low, junction_low}
 use Rattle.sky_parse.proofs.Aligned.{Both, swap, peel, same_kind, same_place, no_end, exp_peel}
 
--- The trees of a level, of no more than a weight, are known by their tokens.
+-- Two trees of a level that spell the same tokens are one, if no more than so much weighs the first and nothing that
+-- follows them goes on them.
 abbrev pub UniqueAt : ℕ → Level → Type 0
 UniqueAt n l = (e d : Exp) → IsTree e → IsTree d → rank l ≤ level e → rank l ≤ level d → weight e ≤ n → (a b : List Mark) → stops l a ≡ true → stops l b ≡ true → Both (spell e a) (spell d b) → e ≡ d
 
+-- the same of primaries, whatever follows them
 abbrev pub Unique : ℕ → ℕ → Type 0
 Unique n l = (e d : Exp) → IsTree e → IsTree d → l ≤ level e → l ≤ level d → weight e ≤ n → (a b : List Mark) → Both (spell e a) (spell d b) → e ≡ d
 
--- what begins with a sign has not this one, or it has
+-- marks that begin with a sign and marks that don't spell no tokens in common
 pub apart : {s : Sign} (ks : List Mark) (b : List Mark) → begins s (kinds_of ks) ≡ false → Both ks (sign s ∷ b) → ⊥
 apart [] b e h = no_end h
 apart {s = s} (m ∷ ks) b e h = false≢true (sym e ∙ ap (is s) (same_kind h) ∙ self s)
