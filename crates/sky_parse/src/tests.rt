@@ -112,3 +112,14 @@ fn nests(rt: HostRuntime) {
         assert!(rt; refusal(alloc, &text).is_none());
     }
 }
+
+/// Brackets that are nested too deep come before a name that stands twice and a sign that goes on no sentence.
+#[test]
+fn nested_first(rt: HostRuntime) {
+    let alloc = rt.alloc();
+    let found = match many(alloc, "function f(x, x) { } ) ", b'(', 65, "") {
+        Some(text) => refusal(alloc, &text),
+        None => None,
+    };
+    assert!(rt; found == Some(ParseRefusal::TooNested { line: 1, col: 88 }));
+}
