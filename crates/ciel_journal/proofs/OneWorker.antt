@@ -1,8 +1,8 @@
 -- With one worker each turn allows one event.
-use Rattle.std.proofs.Common.{◌≡◌, ℕ, ◌+◌, ◌*◌, ◌%◌, ◌≤◌, ◌<◌, List, [], ◌∷◌, ◌++◌, length, Bool, true, false, not, cond, ◌||◌, Option, Some, None, slice_get, ◌⊎◌, inl, inr, refl, ap, sym, ◌∙◌, subst, arith, nat_eq, nat_lt, filter, eqb-true, eq-eqb}
+use Rattle.std.proofs.Common.{◌≡◌, ℕ, ◌+◌, ◌*◌, ◌%◌, ◌≤◌, ◌<◌, List, [], ◌∷◌, ◌++◌, length, Bool, true, false, not, cond, ◌||◌, Option, Some, None, slice_get, ◌⊎◌, inl, inr, refl, ap, sym, ◌∙◌, subst, arith, nat_eq, nat_lt, filter, eqb-true, eq-eqb, append-nil}
 use Rattle.std.specs.List.{list_any}
 use Rattle.ciel_journal.specs.Job.{Digest, Task, Job, In, Each, IsPrefix, IsJob}
-use Rattle.ciel_journal.specs.History.{Event, start, done, saved, missed, lost, Order, Plan, Save, Standing, after, before_all, better, closed, done_with, saved_with, find_order, last, last_save, names_of, order_of, placed, same_task, stack_of}
+use Rattle.ciel_journal.specs.History.{Event, start, done, saved, missed, lost, Order, Plan, Save, Standing, after, before_all, better, closed, done_with, saved_with, find_order, last, last_save, names_of, order_of, placed, same_task, stack_of, after_all}
 use Rattle.ciel_journal.specs.Lawful.{Copied, DoneAllowed, FetchedFrom, Given, HeldAt, NextEnd, NextWait, SavedAllowed, Step, own_name}
 use Rattle.ciel_journal.specs.Turns.{Chosen, Driven, DrivenFrom, FirstDue, Keeps, Ready, Rests, Turn, draw, idle, tasks_of}
 use Rattle.ciel_journal.proofs.Members.{each_of, bool_cases}
@@ -331,3 +331,28 @@ module _ {D : Type 0} (job : Job D) (laws : IsJob job) where
   -- of two driven histories with one worker the shorter begins the longer
   pub one_worker : (p : Plan) → p.workers ≡ 1 → (g h : List (Event D)) → Driven job p g → Driven job p h → length g ≤ length h → IsPrefix g h
   one_worker p n g h x y le = same_from p n (before_all job) lone_start g h x y le
+
+  -- a driven history whose root task is done is not begun by another
+  driven_split : (p : Plan) (v : Standing D) (g h : List (Event D)) → DrivenFrom job p v (g ++ h) → DrivenFrom job p (after_all job v g) h
+  driven_split p v [] h d = d
+  driven_split p v (e ∷ es) h d = driven_split p (after job v e) es h d.2
+
+  ended_prefix : (p : Plan) (g h : List (Event D)) → Driven job p h → (after_all job (before_all job) g).over ≡ true → IsPrefix g h → g ≡ h
+  ended_prefix p g h d o x = pick x.0 x.1
+    where
+      pick : (rest : List (Event D)) → g ++ rest ≡ h → g ≡ h
+      pick [] e = sym (append-nil g) ∙ e
+      pick (a ∷ as_) e =
+          let s = (driven_split p (before_all job) g (a ∷ as_) (subst (Driven job p) (sym e) d)).0.going in
+          let bad : true ≡ false = sym o ∙ s in cc
+
+  -- two whole runs are one
+  pub one_whole : (p : Plan) → p.workers ≡ 1 → (g h : List (Event D)) → Driven job p g → Driven job p h → (after_all job (before_all job) g).over ≡ true → (after_all job (before_all job) h).over ≡ true → g ≡ h
+  one_whole p n g h x y a b = pick (cases (length g) (length h))
+    where
+      cases : (i j : ℕ) → (i ≤ j) ⊎ (j ≤ i)
+      cases i j = grind arith
+
+      pick : ((length g ≤ length h) ⊎ (length h ≤ length g)) → g ≡ h
+      pick (inl l) = ended_prefix p g h y a (one_worker p n g h x y l)
+      pick (inr l) = sym (ended_prefix p h g x b (one_worker p n h g y x l))

@@ -81,3 +81,8 @@ module _ (D : Type 0) where
   abbrev pub OneWorker : Type 0
   OneWorker =
       (job : Job D) → IsJob job → (p : Plan) → p.workers ≡ 1 → (g h : List (Event D)) → Driven job p g → Driven job p h → length g ≤ length h → IsPrefix g h
+
+  -- and two whole runs are one
+  abbrev pub OneWhole : Type 0
+  OneWhole =
+      (job : Job D) → IsJob job → (p : Plan) → p.workers ≡ 1 → (g h : List (Event D)) → Driven job p g → Driven job p h → (standing job g).over ≡ true → (standing job h).over ≡ true → g ≡ h

@@ -8,7 +8,7 @@ ghost use Rattle.ciel_journal.specs.SmallFacts.{BreaksLaw, BreaksTurns};
 ghost use Rattle.ciel_journal.specs.SmallHistories as h;
 ghost use Rattle.ciel_journal.specs.Turns.{Driven};
 ghost use Rattle.ciel_journal.specs.Known.{Knows};
-ghost use Rattle.ciel_journal.specs.Laws.{CircleIsEndless, FewStarts, ListedOrCircle, LiveIsTold, MadeIsSeen, NamesDetermine, OneMark, OneState, OneWorker, ReadyOrCircle, ReadyStarts, StartedIsMissing, StartedIsNeeded};
+ghost use Rattle.ciel_journal.specs.Laws.{CircleIsEndless, FewStarts, ListedOrCircle, LiveIsTold, MadeIsSeen, NamesDetermine, OneMark, OneState, OneWhole, OneWorker, ReadyOrCircle, ReadyStarts, StartedIsMissing, StartedIsNeeded};
 
 /// The two small jobs have the laws that are asked of a job.
 pub fn small_jobs_are_jobs()
@@ -94,7 +94,8 @@ pub fn names_determine<D>()
 {}
 
 /// With one worker a driven history is a function of the job, the seed and the losses: of two, the
-/// shorter begins the longer.
+/// shorter begins the longer, and two in which the root task is done are equal.
 pub fn one_worker_is_determined<D>()
     ensures prefix { OneWorker D }
+    ensures whole { OneWhole D }
 {}

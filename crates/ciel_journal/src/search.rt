@@ -1,7 +1,7 @@
 //! A search backward from a root through what isn't live, and a walk along unmet needs.
 
 ghost use Rattle.std.specs.Prelude.{◌≡◌, ◌<◌, ◌++◌, length, ℕ, List, Bool, Option, Some, None, IfNone, IfOk, IfSome, OnOk, nat_eq, slice_get, false};
-ghost use Rattle.std.specs.List.{list_any};
+ghost use Rattle.std.specs.List.{IsDistinct, list_any};
 ghost use Rattle.ciel_journal.specs.Search.{Among, IsCircle, IsWithin, LedTo, SomeMet, news, unmet};
 
 use std::alloc::{AllocError, Global};
@@ -68,6 +68,7 @@ pub fn reached<W: Waits>(alloc: Global, waits: &W, bound: usize) -> Result<Vec<u
     requires within { IsWithin (W.needs waits.now) (W.live waits.now) bound }
     ensures all { IfOk result (λ ns. (e : ℕ) → LedTo (W.needs waits.now) (W.live waits.now) e → Among e ns.items) }
     ensures only { IfOk result (λ ns. (e : ℕ) → Among e ns.items → LedTo (W.needs waits.now) (W.live waits.now) e) }
+    ensures once { IfOk result (λ ns. IsDistinct nat_eq ns.items) }
 {
     let mut seen = Vec::new(alloc);
     let mut todo = Vec::new(alloc);
