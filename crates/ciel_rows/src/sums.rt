@@ -25,19 +25,21 @@ fn at_s(alloc: Global, source: &[u8]) -> Result<Vec<(Txt, Bytes)>, Fail> {
     only(alloc, (Txt::new(alloc, "s")?, bytes))
 }
 
-/// How the program ends over a script at its one word, and what it writes.
-fn outcome(alloc: Global, source: &[u8]) -> Result<(Ended, SureSink), Fail> {
+/// How the program ends over a script at its one word, what it writes, and what it tells on its log.
+fn outcome(alloc: Global, source: &[u8]) -> Result<(Ended, SureSink, SureSink), Fail> {
     let mut files = SureFiles::new(alloc, at_s(alloc, source)?)?;
     let mut out = SureSink::new(alloc, 100)?;
+    let mut log = SureSink::new(alloc, 200)?;
     let words = only(alloc, Txt::new(alloc, "s")?)?;
-    let ended = ciel_main(alloc, &words, &mut files, &mut out);
-    Ok((ended, out))
+    let ended = ciel_main(alloc, &words, &mut files, &mut out, &mut log);
+    Ok((ended, out, log))
 }
 
 fn writes(rt: &impl Abort, alloc: Global, source: &str, want: &str) -> Result<(), Fail> {
-    let (ended, out) = outcome(alloc, source.as_bytes())?;
+    let (ended, out, log) = outcome(alloc, source.as_bytes())?;
     assert_eq!(rt; ended.status, 0, "{source}");
     assert!(rt; out.bytes() == want.as_bytes(), "{source}");
+    assert!(rt; log.bytes().is_empty(), "{source}");
     Ok(())
 }
 
@@ -58,10 +60,11 @@ fn sums_are_written(rt: HostRuntime) -> Result<(), Fail> {
 }
 
 fn is_not_built(rt: &impl Abort, alloc: Global, source: &[u8]) -> Result<(), Fail> {
-    let (ended, out) = outcome(alloc, source)?;
+    let (ended, out, log) = outcome(alloc, source)?;
     assert_eq!(rt; ended.status, 12);
     assert!(rt; matches!(ended.why, Why::NotBuilt { line: 0, col: 0 }));
     assert!(rt; out.bytes().is_empty());
+    assert!(rt; log.bytes() == b"ciel: not built 0:0\n".as_slice());
     Ok(())
 }
 
@@ -89,11 +92,18 @@ fn ones(alloc: Global, count: u32) -> Result<Vec<u8>, Fail> {
     Ok(source)
 }
 
-fn is_fault(rt: &impl Abort, alloc: Global, source: &[u8], want: Fault) -> Result<(), Fail> {
-    let (ended, out) = outcome(alloc, source)?;
+fn is_fault(
+    rt: &impl Abort,
+    alloc: Global,
+    source: &[u8],
+    want: Fault,
+    message: &str,
+) -> Result<(), Fail> {
+    let (ended, out, log) = outcome(alloc, source)?;
     assert_eq!(rt; ended.status, 3);
     assert!(rt; matches!(&ended.why, Why::Fault(fault) if *fault == want));
     assert!(rt; out.bytes().is_empty());
+    assert!(rt; log.bytes() == message.as_bytes(), "{message}");
     Ok(())
 }
 
@@ -105,14 +115,26 @@ fn sums_past_the_limits_are_faults(rt: HostRuntime) -> Result<(), Fail> {
         line: 1,
         col: 28,
     };
-    is_fault(&rt, alloc, b"return 9223372036854775807 + 1;", overflow)?;
+    is_fault(
+        &rt,
+        alloc,
+        b"return 9223372036854775807 + 1;",
+        overflow,
+        "ciel: fault Overflow 1:28\n",
+    )?;
     let too_long = Fault {
         kind: FaultKind::TooLong,
         line: 1,
         col: 1_000_008,
     };
-    is_fault(&rt, alloc, &ones(alloc, 500_001)?, too_long)?;
-    let (ended, out) = outcome(alloc, &ones(alloc, 500_000)?)?;
+    is_fault(
+        &rt,
+        alloc,
+        &ones(alloc, 500_001)?,
+        too_long,
+        "ciel: fault TooLong 1:1000008\n",
+    )?;
+    let (ended, out, _) = outcome(alloc, &ones(alloc, 500_000)?)?;
     assert_eq!(rt; ended.status, 0);
     assert!(rt; out.bytes() == "500000\n".as_bytes());
     Ok(())
@@ -134,14 +156,15 @@ fn names_s(path: &Txt) -> bool {
 #[test]
 fn the_limit_of_a_script(rt: HostRuntime) -> Result<(), Fail> {
     let alloc = rt.alloc();
-    let (ended, out) = outcome(alloc, &filled(alloc, 1_048_576)?)?;
+    let (ended, out, _) = outcome(alloc, &filled(alloc, 1_048_576)?)?;
     assert_eq!(rt; ended.status, 0);
     assert!(rt; out.bytes() == "3\n".as_bytes());
-    let (ended, _) = outcome(alloc, &filled(alloc, 1_048_577)?)?;
+    let (ended, _, log) = outcome(alloc, &filled(alloc, 1_048_577)?)?;
     assert_eq!(rt; ended.status, 11);
     assert!(rt;
         matches!(&ended.why, Why::TooLongInput { path, limit: 1_048_576 } if names_s(path))
     );
+    assert!(rt; log.bytes() == b"ciel: too long s 1048576\n".as_slice());
     Ok(())
 }
 
@@ -150,11 +173,13 @@ fn a_failing_file(rt: HostRuntime) -> Result<(), Fail> {
     let alloc = rt.alloc();
     let mut files = MemFiles::new(alloc, at_s(alloc, b"return 1 + 2;")?, only(alloc, 1u32)?)?;
     let mut out = SureSink::new(alloc, 100)?;
+    let mut log = SureSink::new(alloc, 200)?;
     let words = only(alloc, Txt::new(alloc, "s")?)?;
-    let ended = ciel_main(alloc, &words, &mut files, &mut out);
+    let ended = ciel_main(alloc, &words, &mut files, &mut out, &mut log);
     assert_eq!(rt; ended.status, 8);
     assert!(rt; matches!(&ended.why, Why::ReadFault { path } if names_s(path)));
     assert!(rt; out.bytes().is_empty());
+    assert!(rt; log.bytes() == b"ciel: read fault s\n".as_slice());
     Ok(())
 }
 
@@ -163,19 +188,42 @@ fn a_failing_output(rt: HostRuntime) -> Result<(), Fail> {
     let alloc = rt.alloc();
     let mut files = SureFiles::new(alloc, at_s(alloc, b"return 1 + 2;")?)?;
     let mut out = MemSink::new(alloc, 100, only(alloc, 1u32)?)?;
+    let mut log = SureSink::new(alloc, 200)?;
     let words = only(alloc, Txt::new(alloc, "s")?)?;
-    let ended = ciel_main(alloc, &words, &mut files, &mut out);
+    let ended = ciel_main(alloc, &words, &mut files, &mut out, &mut log);
     assert_eq!(rt; ended.status, 9);
     assert!(rt; matches!(ended.why, Why::WriteFault));
     assert!(rt; b"3\n".starts_with(out.bytes()));
+    assert!(rt; log.bytes() == b"ciel: write fault\n".as_slice());
     Ok(())
 }
+
+#[test]
+fn a_failing_log_changes_no_status(rt: HostRuntime) -> Result<(), Fail> {
+    let alloc = rt.alloc();
+    let mut files = SureFiles::new(alloc, at_s(alloc, b"return 9223372036854775807 + 1;")?)?;
+    let mut out = SureSink::new(alloc, 100)?;
+    let mut log = MemSink::new(alloc, 200, only(alloc, 1u32)?)?;
+    let words = only(alloc, Txt::new(alloc, "s")?)?;
+    let ended = ciel_main(alloc, &words, &mut files, &mut out, &mut log);
+    assert_eq!(rt; ended.status, 3);
+    assert!(rt; out.bytes().is_empty());
+    assert!(rt; b"ciel: fault Overflow 1:28\n".starts_with(log.bytes()));
+    assert!(rt; log.bytes().len() < 26);
+    Ok(())
+}
+
+/// The message for words that are no line.
+const USAGE: &str =
+    "ciel: usage: ciel SCRIPT [--workers N] [--seed N] [--lose K:W,K:W] [--trace] [--plain] [NAME=PATH]... or ciel --generate N\n";
 
 fn ends_with(rt: &impl Abort, alloc: Global, words: &[Txt], want: u8) -> Result<(), Fail> {
     let mut files = SureFiles::new(alloc, at_s(alloc, b"return 1;")?)?;
     let mut out = SureSink::new(alloc, 100)?;
-    let ended = ciel_main(alloc, words, &mut files, &mut out);
+    let mut log = SureSink::new(alloc, 200)?;
+    let ended = ciel_main(alloc, words, &mut files, &mut out, &mut log);
     assert_eq!(rt; ended.status, want);
+    assert_eq!(rt; log.bytes() == USAGE.as_bytes(), want == 1);
     Ok(())
 }
 

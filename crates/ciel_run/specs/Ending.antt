@@ -14,12 +14,15 @@ limit = 1048576
 abbrev pub status_of : Why → ℕ
 status_of Why.Done = 0
 status_of Why.Usage = 1
+status_of (Why.Syntax kind line col) = 2
 status_of (Why.Fault fault) = 3
+status_of (Why.TooMany held given) = 5
 status_of (Why.ReadFault path) = 8
 status_of Why.WriteFault = 9
 status_of Why.Memory = 10
 status_of (Why.TooLongInput path at) = 11
 status_of (Why.NotBuilt line col) = 12
+status_of (Why.TooDeepPlain depth) = 13
 
 -- the fact, of the fault that ended the call
 abbrev pub IfFault : Why → (Fault → Type 0) → Type 0
@@ -66,3 +69,13 @@ IsExpected source (Why.NotBuilt line col) = (length source ≤ limit) × (source
 IsExpected source Why.Usage = ⊥
 IsExpected source (Why.ReadFault path) = ⊥
 IsExpected source Why.WriteFault = ⊥
+IsExpected source (Why.Syntax kind line col) = ⊥
+IsExpected source (Why.TooMany held given) = ⊥
+IsExpected source (Why.TooDeepPlain depth) = ⊥
+
+-- an end that a script of this stage can have: what is no such script isn't built, and none makes descriptions
+abbrev pub IsBuilt : Why → Type 0
+IsBuilt (Why.Syntax kind line col) = ⊥
+IsBuilt (Why.TooMany held given) = ⊥
+IsBuilt (Why.TooDeepPlain depth) = ⊥
+IsBuilt _ = Unit {0}

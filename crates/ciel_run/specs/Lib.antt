@@ -5,3 +5,4 @@ pub mod Yields
 pub mod Source
 pub mod Ending
 pub mod Refused
+pub mod Message

@@ -3,6 +3,7 @@
 // the program does is under its contract; `main` only makes the real ones.
 #![tactic(auto)]
 
+pub mod message;
 mod refusal;
 mod sum;
 pub mod top;

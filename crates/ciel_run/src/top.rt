@@ -7,18 +7,34 @@ ghost use Rattle.sky_base.specs.See.{Answered};
 ghost use Rattle.ciel_io.specs.Faults.{HasRisen};
 ghost use Rattle.ciel_run.specs.Words.{path_of, paths};
 ghost use Rattle.ciel_run.specs.Source.{source_script, IsAnswer};
-ghost use Rattle.ciel_run.specs.Ending.{limit, status_of, IfFault, IfNotBuilt, IfTooLong, IfReadFault, WritesAnswer, WritesPart, IsExpected, AsksFor};
+ghost use Rattle.ciel_io.specs.Tells.{Tells, TellsPart};
+ghost use Rattle.ciel_run.specs.Ending.{limit, status_of, IfFault, IfNotBuilt, IfTooLong, IfReadFault, WritesAnswer, WritesPart, IsExpected, AsksFor, IsBuilt};
+ghost use Rattle.ciel_run.specs.Message.{message_of};
 
+use crate::message::put_message;
 use crate::refusal::{Refusal, evaluate};
 use crate::words::script_path;
 use ciel_io::files::{FileRefusal, Files};
 use ciel_io::sink::Sink;
 use sky_base::fault::Fault;
+use sky_base::object::Desc1;
 use sky_base::text::Txt;
 use std::alloc::Global;
 
 /// The greatest number of bytes of a script.
 pub const LIMIT: u64 = 1_048_576;
+
+/// Why the bytes of a script are no script.
+#[derive(Clone, Copy, Debug, PartialEq, Eq)]
+pub enum SyntaxKind {
+    BadByte,
+    OpenText,
+    BadEscape,
+    BigNumber,
+    TooNested,
+    NoSentence,
+    SameName,
+}
 
 /// Why a call of the program ended.
 #[derive(Drop)]
@@ -27,18 +43,42 @@ pub enum Why {
     Done,
     /// The words are no line of the command. Status 1.
     Usage,
+    /// The bytes of the script are no script. Status 2.
+    Syntax {
+        kind: SyntaxKind,
+        line: u32,
+        col: u32,
+    },
     /// The job means this fault. Status 3.
     Fault(Fault),
+    /// So many distinct descriptions are held, and a further one, where it is given, is named.
+    /// Status 5.
+    TooMany {
+        held: u32,
+        given: Option<Desc1>,
+    },
     /// The file at the path could not be read. Status 8.
-    ReadFault { path: Txt },
+    ReadFault {
+        path: Txt,
+    },
     /// The answer could not be written whole. Status 9.
     WriteFault,
     /// Want of memory. Status 10.
     Memory,
     /// The file at the path has more bytes than the limit. Status 11.
-    TooLongInput { path: Txt, limit: u64 },
+    TooLongInput {
+        path: Txt,
+        limit: u64,
+    },
     /// The script has a form that isn't built yet. Its place is 0:0. Status 12.
-    NotBuilt { line: u32, col: u32 },
+    NotBuilt {
+        line: u32,
+        col: u32,
+    },
+    /// So many descriptions are open, each waited for by the one before it. Status 13.
+    TooDeepPlain {
+        depth: u32,
+    },
 }
 
 /// How a call of the program ended: the status of the process, and why.
@@ -59,26 +99,31 @@ impl Why {
         match self {
             Why::Done => 0,
             Why::Usage => 1,
+            Why::Syntax { .. } => 2,
             Why::Fault(_) => 3,
+            Why::TooMany { .. } => 5,
             Why::ReadFault { .. } => 8,
             Why::WriteFault => 9,
             Why::Memory => 10,
             Why::TooLongInput { .. } => 11,
             Why::NotBuilt { .. } => 12,
+            Why::TooDeepPlain { .. } => 13,
         }
     }
 }
 
 /// Runs the program on the words of its command line, without the program's own name: reads the
-/// script that they name, and writes the answer of its job to `out` in one `put`.
+/// script that they name, and writes the answer of its job to `out` in one `put`. Where the status
+/// isn't 0, the message goes to `log`, and a failure there changes nothing else.
 ///
 /// The words are one path. A script of this stage is `"return" NUMBER { "+" NUMBER } ";"` with
 /// blanks between the tokens, of at most 1,048,576 bytes.
-pub fn ciel_main<F: Files, O: Sink>(
+pub fn ciel_main<F: Files, O: Sink, J: Sink>(
     alloc: Global,
     words: &[Txt],
     files: &mut F,
     out: &mut O,
+    log: &mut J,
 ) -> Ended
     // What is written where it ends well.
     ensures bytes { result.status ≡ 0 → (path source : List ℕ) → path_of words.now ≡ Some path → F.content files.old path ≡ Some source → WritesAnswer source (O.written out.old) (O.written out.new) }
@@ -99,13 +144,30 @@ pub fn ciel_main<F: Files, O: Sink>(
     ensures part { result.why ≡ Why.WriteFault → (path source : List ℕ) → path_of words.now ≡ Some path → F.content files.old path ≡ Some source → WritesPart source (O.written out.old) (O.written out.new) }
     ensures nothing { result.why ≢ Why.Done → result.why ≢ Why.WriteFault → out.new ≡ out.old }
 
+    // What is put on the log: the message, which is empty for an answer that was written.
+    ensures message { ¬ HasRisen (J.faults log.old) (J.faults log.new) → Tells (J.written log.old) (J.written log.new) (message_of result.why) }
+    ensures message_part { TellsPart (J.written log.old) (J.written log.new) (message_of result.why) }
+
     ensures status { result.status ≡ status_of result.why }
+    ensures built { IsBuilt result.why }
 {
     let why = run(alloc, words, files, out);
+    tell(&why, log);
     Ended {
         status: why.status(),
         why,
     }
+}
+
+/// Puts the message on the log, where there is one.
+fn tell<J: Sink>(why: &Why, log: &mut J)
+    ensures message { ¬ HasRisen (J.faults log.old) (J.faults log.new) → Tells (J.written log.old) (J.written log.new) (message_of why.now) }
+    ensures message_part { TellsPart (J.written log.old) (J.written log.new) (message_of why.now) }
+{
+    if matches!(why, Why::Done) {
+        return;
+    }
+    let _ = put_message(why, log);
 }
 
 /// Reads, evaluates and writes.
@@ -121,6 +183,7 @@ fn run<F: Files, O: Sink>(alloc: Global, words: &[Txt], files: &mut F, out: &mut
     ensures asked { AsksFor result (paths (path_of words.now)) (F.asked files.old) (F.asked files.new) }
     ensures part { result ≡ Why.WriteFault → (path source : List ℕ) → path_of words.now ≡ Some path → F.content files.old path ≡ Some source → WritesPart source (O.written out.old) (O.written out.new) }
     ensures nothing { result ≢ Why.Done → result ≢ Why.WriteFault → out.new ≡ out.old }
+    ensures built { IsBuilt result }
 {
     let Some(path) = script_path(words) else {
         return Why::Usage;
