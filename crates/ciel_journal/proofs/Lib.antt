@@ -11,6 +11,7 @@ pub mod Text
 pub mod FixedLaw
 pub mod Near
 pub mod Started
+pub mod Told
 pub mod Shelved
 pub mod Unique
 pub mod Published

@@ -1,10 +1,10 @@
 -- The laws of a run's journal, each said of every job.
 use Rattle.std.specs.Prelude.{◌≡◌, ℕ, ◌+◌, ◌*◌, ◌≤◌, List, [], ◌∷◌, ◌++◌, length, true, false, ◌⊎◌, ◌↔◌}
 use Rattle.ciel_journal.specs.Job.{Digest, Task, show, Job, In, IsJob, IsPrefix, Needed, Never, ObjectOf}
-use Rattle.ciel_journal.specs.History.{Event, start, done, saved, Plan, last, live, standing}
+use Rattle.ciel_journal.specs.History.{Event, start, done, saved, Plan, last, live, standing, learned}
 use Rattle.ciel_journal.specs.Known.{Inner, Knows}
 use Rattle.ciel_journal.specs.Lawful.{Lawful}
-use Rattle.ciel_journal.specs.Live.{Live}
+use Rattle.ciel_journal.specs.Live.{Live, closes_of, spawned_of}
 use Rattle.ciel_journal.specs.Turns.{Ready, IsReadyList, Circle, Driven, idle}
 use Rattle.ciel_journal.specs.Work.{Work, losses_of, starts_of}
 use Rattle.ciel_journal.specs.Names.{Entry, journal_of}
@@ -21,6 +21,16 @@ module _ (D : Type 0) where
   abbrev pub LiveIsTold : Type 0
   LiveIsTold =
       (job : Job D) → IsJob job → (p : Plan) (h : List (Event D)) → Lawful job p h → (d : D) → (live job (standing job h) d ≡ true) ↔ Live job h d
+
+  -- Starts and closes are counted
+  abbrev pub CountsAreTold : Type 0
+  CountsAreTold =
+      (job : Job D) → IsJob job → (h : List (Event D)) → ((standing job h).starts ≡ starts_of job h) × ((standing job h).closes ≡ closes_of h)
+
+  -- the book is the main call, and then all that was spawned, each description at its first place only
+  abbrev pub BookIsTold : Type 0
+  BookIsTold =
+      (job : Job D) → IsJob job → (p : Plan) (h : List (Event D)) → Lawful job p h → (standing job h).book ≡ learned job (job.main ∷ []) (spawned_of h)
 
   -- each task started was needed
   abbrev pub StartedIsNeeded : Type 0

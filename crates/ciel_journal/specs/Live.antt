@@ -1,7 +1,7 @@
 -- Where an object is live, said of the whole history at once.
-use Rattle.std.specs.Prelude.{◌≡◌, ℕ, List, None, ◌⊎◌}
+use Rattle.std.specs.Prelude.{◌≡◌, ℕ, suc, List, [], ◌∷◌, ◌++◌, None, ◌⊎◌}
 use Rattle.ciel_journal.specs.Job.{Digest, Task, Job, In}
-use Rattle.ciel_journal.specs.History.{Event, start, done, lost, names_of}
+use Rattle.ciel_journal.specs.History.{Event, done, lost, missed, names_of, saved, start}
 
 module _ {D : Type 0} where
   -- a Start at w has a Done with d among what was made or copied
@@ -27,3 +27,22 @@ module _ {D : Type 0} (job : Job D) where
   -- an input, or what is live at some worker
   abbrev pub Live : List (Event D) → D → Type 0
   Live h d = (job.task_of d ≡ None) ⊎ ((w : ℕ) × LiveAt h w d)
+
+module _ {D : Type 0} where
+  -- how many entries close a Start
+  abbrev pub closes_of : List (Event D) → ℕ
+  closes_of [] = 0
+  closes_of (start k w t from ∷ es) = closes_of es
+  closes_of (done k made copied spawned ∷ es) = suc (closes_of es)
+  closes_of (saved k j mark refs holds spawned ∷ es) = suc (closes_of es)
+  closes_of (missed k d loss ∷ es) = suc (closes_of es)
+  closes_of (lost w after ∷ es) = closes_of es
+
+  -- all that was spawned, in order
+  abbrev pub spawned_of : List (Event D) → List D
+  spawned_of [] = []
+  spawned_of (start k w t from ∷ es) = spawned_of es
+  spawned_of (done k made copied spawned ∷ es) = spawned ++ spawned_of es
+  spawned_of (saved k j mark refs holds spawned ∷ es) = spawned ++ spawned_of es
+  spawned_of (missed k d loss ∷ es) = spawned_of es
+  spawned_of (lost w after ∷ es) = spawned_of es
