@@ -8,7 +8,7 @@ ghost use Rattle.ciel_journal.specs.SmallFacts.{BreaksLaw, BreaksTurns};
 ghost use Rattle.ciel_journal.specs.SmallHistories as h;
 ghost use Rattle.ciel_journal.specs.Turns.{Driven};
 ghost use Rattle.ciel_journal.specs.Known.{Knows};
-ghost use Rattle.ciel_journal.specs.Laws.{BookIsTold, CircleIsEndless, CountsAreTold, FewStarts, ListedOrCircle, LiveIsTold, MadeIsSeen, NamesDetermine, OneMark, OneState, OneWhole, OneWorker, ReadyOrCircle, ReadyStarts, StartedIsMissing, StartedIsNeeded};
+ghost use Rattle.ciel_journal.specs.Laws.{BookIsTold, CircleIsEndless, CountsAreTold, FewStarts, ListedOrCircle, LiveIsTold, MadeIsSeen, NamesDetermine, OneMark, OneState, OneWhole, OneWorker, OpenIsTold, ReadyOrCircle, ReadyStarts, SavedIsTold, StartedIsMissing, StartedIsNeeded};
 
 /// The two small jobs have the laws that are asked of a job.
 pub fn small_jobs_are_jobs()
@@ -44,11 +44,14 @@ pub fn small_histories_break_laws()
 {}
 
 /// What stands after a history, said of the whole of it. What is live after a lawful one is an input,
-/// or a description with a Done that made or copied it and no Lost of that worker. Starts and
-/// closes are counted. The book is the main call and then all that was spawned, each at its first
+/// or a description with a Done that made or copied it and no Lost of that worker. The open Starts
+/// are those that no entry has closed and whose worker has no Lost, the saved waits those of the
+/// Saved whose worker has no Lost. Starts and closes are counted. The book is the main call and then all that was spawned, each at its first
 /// place only.
 pub fn live_is_told<D>()
     ensures live { LiveIsTold D }
+    ensures open { OpenIsTold D }
+    ensures saved { SavedIsTold D }
     ensures counts { CountsAreTold D }
     ensures book { BookIsTold D }
 {}
