@@ -13,6 +13,7 @@ pub mod Near
 pub mod Started
 pub mod Told
 pub mod OpenTold
+pub mod WantedLaw
 pub mod Shelved
 pub mod Unique
 pub mod Published

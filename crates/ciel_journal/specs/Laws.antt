@@ -1,11 +1,13 @@
 -- The laws of a run's journal, each said of every job.
-use Rattle.std.specs.Prelude.{◌≡◌, ℕ, ◌+◌, ◌*◌, ◌≤◌, List, [], ◌∷◌, ◌++◌, length, true, false, ◌⊎◌, ◌↔◌}
+use Rattle.std.specs.Prelude.{◌≡◌, ℕ, ◌+◌, ◌*◌, ◌≤◌, List, [], ◌∷◌, ◌++◌, length, true, false, ◌⊎◌, ◌↔◌, Option, Bool}
 use Rattle.ciel_journal.specs.Job.{Digest, Task, show, Job, In, IsJob, IsPrefix, Needed, Never, ObjectOf}
-use Rattle.ciel_journal.specs.History.{Event, Order, Plan, Save, done, last, learned, live, saved, standing, start}
+use Rattle.ciel_journal.specs.History.{Event, Order, Plan, Save, done, last, learned, live, saved, standing, start, Standing}
 use Rattle.ciel_journal.specs.Known.{Inner, Knows}
 use Rattle.ciel_journal.specs.Lawful.{Lawful}
 use Rattle.ciel_journal.specs.Live.{Live, OpenIn, SavedIn, closes_of, spawned_of}
 use Rattle.ciel_journal.specs.Turns.{Ready, IsReadyList, Circle, Driven, idle}
+use Rattle.ciel_journal.specs.Search.{LedTo}
+use Rattle.ciel_journal.specs.Wanted.{IsGraph, Wanted}
 use Rattle.ciel_journal.specs.Work.{Work, losses_of, starts_of}
 use Rattle.ciel_journal.specs.Names.{Entry, journal_of}
 
@@ -106,3 +108,8 @@ module _ (D : Type 0) where
   abbrev pub OneWhole : Type 0
   OneWhole =
       (job : Job D) → IsJob job → (p : Plan) → p.workers ≡ 1 → (g h : List (Event D)) → Driven job p g → Driven job p h → (standing job g).over ≡ true → (standing job h).over ≡ true → g ≡ h
+
+  -- a search of the graph of what is waited for finds the numbers of what is wanted
+  abbrev pub SearchFinds : Type 0
+  SearchFinds =
+      (job : Job D) (v : Standing D) (row : D → ℕ) (graph : Option ℕ → List ℕ) (live_row : ℕ → Bool) → IsGraph job v row graph live_row → (e : ℕ) → LedTo graph live_row e ↔ ((d : D) × Wanted job v d × (row d ≡ e))

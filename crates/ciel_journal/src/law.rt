@@ -8,7 +8,7 @@ ghost use Rattle.ciel_journal.specs.SmallFacts.{BreaksLaw, BreaksTurns};
 ghost use Rattle.ciel_journal.specs.SmallHistories as h;
 ghost use Rattle.ciel_journal.specs.Turns.{Driven};
 ghost use Rattle.ciel_journal.specs.Known.{Knows};
-ghost use Rattle.ciel_journal.specs.Laws.{BookIsTold, CircleIsEndless, CountsAreTold, FewStarts, ListedOrCircle, LiveIsTold, MadeIsSeen, NamesDetermine, OneMark, OneState, OneWhole, OneWorker, OpenIsTold, ReadyOrCircle, ReadyStarts, SavedIsTold, StartedIsMissing, StartedIsNeeded};
+ghost use Rattle.ciel_journal.specs.Laws.{BookIsTold, CircleIsEndless, CountsAreTold, FewStarts, ListedOrCircle, LiveIsTold, MadeIsSeen, NamesDetermine, OneMark, OneState, OneWhole, OneWorker, OpenIsTold, ReadyOrCircle, ReadyStarts, SavedIsTold, SearchFinds, StartedIsMissing, StartedIsNeeded};
 
 /// The two small jobs have the laws that are asked of a job.
 pub fn small_jobs_are_jobs()
@@ -105,4 +105,10 @@ pub fn names_determine<D>()
 pub fn one_worker_is_determined<D>()
     ensures prefix { OneWorker D }
     ensures whole { OneWhole D }
+{}
+
+/// A search (`search::reached`) of the graph of what is waited for after a history finds the
+/// numbers of what is wanted: what a reached task without an open Start waits for and isn't live.
+pub fn search_finds_what_is_wanted<D>()
+    ensures wanted { SearchFinds D }
 {}
