@@ -11,6 +11,9 @@ pub mod Text
 pub mod FixedLaw
 pub mod Near
 pub mod Started
+pub mod Told
+pub mod OpenTold
+pub mod WantedLaw
 pub mod Shelved
 pub mod Unique
 pub mod Published

@@ -86,7 +86,7 @@ module _ {D : Type 0} (job : Job D) (laws : IsJob job) where
     pub one_task : (k w : ℕ) (t : Task D) (f u : ℕ) (s : Task D) (i : ℕ) → In (start k w t f) g → In (start k u s i) g → t ≡ s
     pub gone : (w : ℕ) → LostIn g w → list_any (nat_eq w) v.gone ≡ true
 
-  more : (g : List (Event D)) (e x : Event D) → In x g → In x (g ++ e ∷ [])
+  pub more : (g : List (Event D)) (e x : Event D) → In x g → In x (g ++ e ∷ [])
   more g e x i = in_left x g (e ∷ []) i
 
   pub_more : (g : List (Event D)) (e : Event D) (w : ℕ) (d : D) → Published g w d → Published (g ++ e ∷ []) w d
@@ -97,14 +97,14 @@ module _ {D : Type 0} (job : Job D) (laws : IsJob job) where
   abbrev pub NotLost : Event D → Type 0
   NotLost e = (w c : ℕ) → lost w c ≡ e → ⊥
 
-  lost_back : (g : List (Event D)) (e : Event D) → NotLost e → (w : ℕ) → LostIn (g ++ e ∷ []) w → LostIn g w
+  pub lost_back : (g : List (Event D)) (e : Event D) → NotLost e → (w : ℕ) → LostIn (g ++ e ∷ []) w → LostIn g w
   lost_back g e n w l = pick (in_last (lost w l.0) g e l.1)
     where
       pick : (In (lost w l.0) g ⊎ (lost w l.0 ≡ e)) → LostIn g w
       pick (inl i) = (l.0, i)
       pick (inr s) = absurd (n w l.0 s)
 
-  lost_on : (g : List (Event D)) (e : Event D) (w : ℕ) → LostIn g w → LostIn (g ++ e ∷ []) w
+  pub lost_on : (g : List (Event D)) (e : Event D) (w : ℕ) → LostIn g w → LostIn (g ++ e ∷ []) w
   lost_on g e w l = (l.0, more g e _ l.1)
 
   -- what is neither a Start nor a Done publishes nothing
@@ -320,7 +320,7 @@ module _ {D : Type 0} (job : Job D) (laws : IsJob job) where
               turn (inl h) = let q : nat_eq w y.worker ≡ true = eq-eqb w y.worker (e ∙ ap (λ (z : Order D). z.worker) h) in cc
               turn (inr j) = r j e
 
-  says_step : (p : Plan) (g : List (Event D)) (v : Standing D) (e : Event D) → Says g v → Step job p v e → Says (g ++ e ∷ []) (after job v e)
+  pub says_step : (p : Plan) (g : List (Event D)) (v : Standing D) (e : Event D) → Says g v → Step job p v e → Says (g ++ e ∷ []) (after job v e)
   says_step p g v (start k w t from) s step = says_start p g v k w t from s step
   says_step p g v (done k made copied spawned) s step = says_done p g v k made copied spawned s step
   says_step p g v (saved k j mark refs holds spawned) s step =
@@ -338,9 +338,9 @@ module _ {D : Type 0} (job : Job D) (laws : IsJob job) where
   says_all p g v (e ∷ es) s l =
       subst (λ x. Says x (after_all job (after job v e) es)) (append_assoc g (e ∷ []) es) (says_all p (g ++ e ∷ []) (after job v e) es (says_step p g v e s l.0) l.1)
 
-  pub says_lawful : (p : Plan) (h : List (Event D)) → Lawful job p h → Says h (after_all job (before_all job) h)
-  says_lawful p h l =
-      says_all p [] (before_all job) h (record {
+  pub says_start_none : Says [] (before_all job)
+  says_start_none =
+      record {
         numbered = record { below = tt; one = λ a b i j q. absurd i };
         told = λ w d a. cc;
         stands = λ w d q n. absurd q.begun;
@@ -350,7 +350,11 @@ module _ {D : Type 0} (job : Job D) (laws : IsJob job) where
         one = λ k w t f u s i a b. absurd a;
         one_task = λ k w t f u s i a b. absurd a;
         gone = λ w l. absurd l.1;
-      }) l
+      }
+
+  pub says_lawful : (p : Plan) (h : List (Event D)) → Lawful job p h → Says h (after_all job (before_all job) h)
+  says_lawful p h l =
+      says_all p [] (before_all job) h says_start_none l
 
   -- who has a description after a lawful history is who has a Done with it and no Lost
   pub places_text : (p : Plan) (h : List (Event D)) → Lawful job p h → (w : ℕ) (d : D) → Has (after_all job (before_all job) h).places w d ↔ (Published h w d × (LostIn h w → ⊥))

@@ -1,11 +1,13 @@
 -- The laws of a run's journal, each said of every job.
-use Rattle.std.specs.Prelude.{◌≡◌, ℕ, ◌+◌, ◌*◌, ◌≤◌, List, [], ◌∷◌, ◌++◌, length, true, false, ◌⊎◌, ◌↔◌}
+use Rattle.std.specs.Prelude.{◌≡◌, ℕ, ◌+◌, ◌*◌, ◌≤◌, List, [], ◌∷◌, ◌++◌, length, true, false, ◌⊎◌, ◌↔◌, Option, Bool}
 use Rattle.ciel_journal.specs.Job.{Digest, Task, show, Job, In, IsJob, IsPrefix, Needed, Never, ObjectOf}
-use Rattle.ciel_journal.specs.History.{Event, start, done, saved, Plan, last, live, standing}
+use Rattle.ciel_journal.specs.History.{Event, Order, Plan, Save, done, last, learned, live, saved, standing, start, Standing}
 use Rattle.ciel_journal.specs.Known.{Inner, Knows}
 use Rattle.ciel_journal.specs.Lawful.{Lawful}
-use Rattle.ciel_journal.specs.Live.{Live}
+use Rattle.ciel_journal.specs.Live.{Live, OpenIn, SavedIn, closes_of, spawned_of}
 use Rattle.ciel_journal.specs.Turns.{Ready, IsReadyList, Circle, Driven, idle}
+use Rattle.ciel_journal.specs.Search.{LedTo}
+use Rattle.ciel_journal.specs.Wanted.{IsGraph, Wanted}
 use Rattle.ciel_journal.specs.Work.{Work, losses_of, starts_of}
 use Rattle.ciel_journal.specs.Names.{Entry, journal_of}
 
@@ -21,6 +23,26 @@ module _ (D : Type 0) where
   abbrev pub LiveIsTold : Type 0
   LiveIsTold =
       (job : Job D) → IsJob job → (p : Plan) (h : List (Event D)) → Lawful job p h → (d : D) → (live job (standing job h) d ≡ true) ↔ Live job h d
+
+  -- Starts and closes are counted
+  abbrev pub CountsAreTold : Type 0
+  CountsAreTold =
+      (job : Job D) → IsJob job → (h : List (Event D)) → ((standing job h).starts ≡ starts_of job h) × ((standing job h).closes ≡ closes_of h)
+
+  -- the open Starts are those that no entry has closed and whose worker has no Lost
+  abbrev pub OpenIsTold : Type 0
+  OpenIsTold =
+      (job : Job D) → IsJob job → (p : Plan) (h : List (Event D)) → Lawful job p h → (k w : ℕ) (t : Task D) (from : ℕ) → ((o : Order D) × In o (standing job h).orders × (o.number ≡ k) × (o.worker ≡ w) × (o.task ≡ t) × (o.from ≡ from)) ↔ OpenIn h k w t from
+
+  -- the saved waits are those of the Saved whose worker has no Lost
+  abbrev pub SavedIsTold : Type 0
+  SavedIsTold =
+      (job : Job D) → IsJob job → (p : Plan) (h : List (Event D)) → Lawful job p h → (s : Save D) → In s (standing job h).saves ↔ SavedIn h s.worker s.task s.j s.refs s.holds
+
+  -- the book is the main call, and then all that was spawned, each description at its first place only
+  abbrev pub BookIsTold : Type 0
+  BookIsTold =
+      (job : Job D) → IsJob job → (p : Plan) (h : List (Event D)) → Lawful job p h → (standing job h).book ≡ learned job (job.main ∷ []) (spawned_of h)
 
   -- each task started was needed
   abbrev pub StartedIsNeeded : Type 0
@@ -86,3 +108,8 @@ module _ (D : Type 0) where
   abbrev pub OneWhole : Type 0
   OneWhole =
       (job : Job D) → IsJob job → (p : Plan) → p.workers ≡ 1 → (g h : List (Event D)) → Driven job p g → Driven job p h → (standing job g).over ≡ true → (standing job h).over ≡ true → g ≡ h
+
+  -- a search of the graph of what is waited for finds the numbers of what is wanted
+  abbrev pub SearchFinds : Type 0
+  SearchFinds =
+      (job : Job D) (v : Standing D) (row : D → ℕ) (graph : Option ℕ → List ℕ) (live_row : ℕ → Bool) → IsGraph job v row graph live_row → (e : ℕ) → LedTo graph live_row e ↔ ((d : D) × Wanted job v d × (row d ≡ e))

@@ -6,6 +6,7 @@ pub mod Live
 pub mod Turns
 pub mod Search
 pub mod Three
+pub mod Wanted
 pub mod Work
 pub mod Names
 pub mod Fixed

@@ -8,7 +8,7 @@ ghost use Rattle.ciel_journal.specs.SmallFacts.{BreaksLaw, BreaksTurns};
 ghost use Rattle.ciel_journal.specs.SmallHistories as h;
 ghost use Rattle.ciel_journal.specs.Turns.{Driven};
 ghost use Rattle.ciel_journal.specs.Known.{Knows};
-ghost use Rattle.ciel_journal.specs.Laws.{CircleIsEndless, FewStarts, ListedOrCircle, LiveIsTold, MadeIsSeen, NamesDetermine, OneMark, OneState, OneWhole, OneWorker, ReadyOrCircle, ReadyStarts, StartedIsMissing, StartedIsNeeded};
+ghost use Rattle.ciel_journal.specs.Laws.{BookIsTold, CircleIsEndless, CountsAreTold, FewStarts, ListedOrCircle, LiveIsTold, MadeIsSeen, NamesDetermine, OneMark, OneState, OneWhole, OneWorker, OpenIsTold, ReadyOrCircle, ReadyStarts, SavedIsTold, SearchFinds, StartedIsMissing, StartedIsNeeded};
 
 /// The two small jobs have the laws that are asked of a job.
 pub fn small_jobs_are_jobs()
@@ -43,10 +43,17 @@ pub fn small_histories_break_laws()
     ensures undone { BreaksTurns h.loss_of_the_only h.leaves_losses_undone }
 {}
 
-/// What is live by what stands after a lawful history is an input, or a description with a Done
-/// that made or copied it and no Lost of that worker after it.
+/// What stands after a history, said of the whole of it. What is live after a lawful one is an input,
+/// or a description with a Done that made or copied it and no Lost of that worker. The open Starts
+/// are those that no entry has closed and whose worker has no Lost, the saved waits those of the
+/// Saved whose worker has no Lost. Starts and closes are counted. The book is the main call and then all that was spawned, each at its first
+/// place only.
 pub fn live_is_told<D>()
     ensures live { LiveIsTold D }
+    ensures open { OpenIsTold D }
+    ensures saved { SavedIsTold D }
+    ensures counts { CountsAreTold D }
+    ensures book { BookIsTold D }
 {}
 
 /// Each task started was needed, and none was started whose outputs were all live. The root task
@@ -98,4 +105,10 @@ pub fn names_determine<D>()
 pub fn one_worker_is_determined<D>()
     ensures prefix { OneWorker D }
     ensures whole { OneWhole D }
+{}
+
+/// A search (`search::reached`) of the graph of what is waited for after a history finds the
+/// numbers of what is wanted: what a reached task without an open Start waits for and isn't live.
+pub fn search_finds_what_is_wanted<D>()
+    ensures wanted { SearchFinds D }
 {}

@@ -103,6 +103,7 @@ fn the_laws_hold_at_a_type() {
     law::names_have_one_mark::<u32>();
     law::names_determine::<u32>();
     law::one_worker_is_determined::<u32>();
+    law::search_finds_what_is_wanted::<u32>();
     law::small_jobs_are_jobs();
     law::small_histories_are_driven();
     law::small_histories_break_laws();
