@@ -1,0 +1,202 @@
+-- What an executor task comes to over numbers is what is seen of its outputs.
+use Rattle.std.proofs.Common.{◌≡◌, ◌<◌, ℕ, zero, suc, ◌+◌, List, [], ◌∷◌, length, map, Option, Some, Result, Ok, Err, slice_get, inl, inr, refl, sym, ap, ap₂, subst, ◌∙◌}
+use Rattle.std.proofs.lemmas.List.{append-nil}
+use Rattle.sky_base.specs.Val as v
+use Rattle.sky_base.specs.Val.{null, truth, num, text, list, dict, fun, ref, no_vals, val, no_pairs, pair, call, out, input, known, refs, vals_refs, pairs_refs}
+use Rattle.sky_base.specs.Name.{low, low_vals, low_pairs, low_desc}
+use Rattle.sky_base.specs.Res.{Object}
+use Rattle.sky_base.specs.Op.{Answer}
+use Rattle.sky_base.specs.Lower.{lower, low_ref, low_obj}
+use Rattle.sky_base.specs.See as m
+use Rattle.sky_base.specs.See.{Val, Vals, Desc, Obj, Job, Around, Gathered, gather, gather_on, gather_one, as_bytes, written, executed_on, replaced, vals_replaced, pairs_replaced, input_bytes, see, slot}
+use Rattle.sky_base.specs.Needed.{Task, task_of, distinct_refs}
+use Rattle.sky_base.specs.Tasks.{In}
+use Rattle.sky_base.proofs.RefsLow.{refs_low}
+use Rattle.sky_base.proofs.TaskOutputs.{in_distinct_refs}
+use Rattle.sky_base.specs.declared.fault.FaultKind.{FaultKind}
+use Rattle.sky_base.specs.declared.fault.Fault.{Fault}
+use Rattle.sky_plain.specs.Walk.{Row, known_of, number_of}
+use Rattle.sky_plain.specs.Number.{tag_of, Grown}
+use Rattle.sky_plain.specs.Stand.{spell, Sees, Knows, Puts, Opened, Opens}
+use Rattle.sky_plain.specs.Stage.{AllKnown}
+use Rattle.sky_plain.specs.Perform.{bytes_of, bytes_seen, one_more, collect, output_at, run_output, performed_on, performed}
+use Rattle.sky_plain.proofs.Knows.{SeenNext, learns_one}
+use Rattle.sky_plain.proofs.Chains.{held_ref, opened_at}
+use Rattle.sky_plain.proofs.Numbers.{got_more}
+use Rattle.sky_plain.proofs.Stages.{in_map, map_in}
+
+length-map : {A B : Type 0} (f : A → B) (xs : List A) → length (map f xs) ≡ length xs
+length-map f [] = refl
+length-map f (x ∷ xs) = ap suc (length-map f xs)
+
+-- ---- slots take no notice of what they replace
+
+module _ (tag : Row → List ℕ) where
+  same_refs : (a : Val) → length (refs (low spell tag a)) ≡ length (refs a)
+  same_refs a = ap length (refs_low spell tag a) ∙ length-map (low_ref spell tag) (refs a)
+
+  abbrev to_slot : {N : Type 0} → ℕ → v.Desc N → v.Val (List ℕ)
+  to_slot k d = ref (known (slot k))
+
+  mutual
+    slots_low : (i : ℕ) (a : Val) → replaced to_slot i (low spell tag a) ≡ replaced to_slot i a
+    slots_low i null = refl
+    slots_low i (truth b) = refl
+    slots_low i (num z) = refl
+    slots_low i (text t) = refl
+    slots_low i (list vs) = ap list (vals_slots_low i vs)
+    slots_low i (dict ps) = ap dict (pairs_slots_low i ps)
+    slots_low i (fun f) = refl
+    slots_low i (ref d) = refl
+
+    vals_slots_low : (i : ℕ) (vs : Vals) → vals_replaced to_slot i (low_vals spell tag vs) ≡ vals_replaced to_slot i vs
+    vals_slots_low i no_vals = refl
+    vals_slots_low i (val a vs) =
+        ap₂ val (slots_low i a) (ap (λ n. vals_replaced to_slot (i + n) (low_vals spell tag vs)) (same_refs a) ∙ vals_slots_low (i + length (refs a)) vs)
+
+    pairs_slots_low : (i : ℕ) (ps : v.Pairs ⊥) → pairs_replaced to_slot i (low_pairs spell tag ps) ≡ pairs_replaced to_slot i ps
+    pairs_slots_low i no_pairs = refl
+    pairs_slots_low i (pair k a ps) =
+        ap₂ (pair k) (slots_low i a) (ap (λ n. pairs_replaced to_slot (i + n) (low_pairs spell tag ps)) (same_refs a) ∙ pairs_slots_low (i + length (refs a)) ps)
+
+  output_low : (bs : List (List ℕ)) (i : ℕ) → low_obj spell tag (m.output_at bs i) ≡ output_at bs i
+  output_low [] i = refl
+  output_low (b ∷ bs) zero = refl
+  output_low (b ∷ bs) (suc i) = output_low bs i
+
+  run_output_low : (r : Result (List (List ℕ)) FaultKind) (i : ℕ) → low_obj spell tag (m.run_output r i) ≡ run_output r i
+  run_output_low (Ok bs) i = output_low bs i
+  run_output_low (Err k) i = refl
+
+abbrev gathered : Result (List (List ℕ)) Fault → Gathered (List ℕ)
+gathered (Ok bs) = Gathered.all bs
+gathered (Err f) = Gathered.faulty f
+
+gathered_more : (r : Result (List ℕ) Fault) (rest : Result (List (List ℕ)) Fault) → gather_on r (gathered rest) ≡ gathered (one_more r rest)
+gathered_more (Err f) (Err e) = refl
+gathered_more (Err f) (Ok bs) = refl
+gathered_more (Ok b) (Err e) = refl
+gathered_more (Ok b) (Ok bs) = refl
+
+module _ (job : Job) (around : Around) (writes : v.Val (List ℕ) → Option (List ℕ)) (writes_alike : (tag : Row → List ℕ) (a : Val) → writes (low spell tag a) ≡ around.writes a) where
+  bytes_low : (tag : Row → List ℕ) (o : Obj) → bytes_of writes (low_obj spell tag o) ≡ as_bytes around o
+  bytes_low tag (Object.bytes b) = refl
+  bytes_low tag (Object.data_of a) = ap written (writes_alike tag a)
+  bytes_low tag (Object.fault f) = refl
+
+  module _ (tag : Row → List ℕ) (n : ℕ) (knows : Row → Option (Object (List ℕ))) where
+    abbrev Settled : List Desc → Type 0
+    Settled ds = (d : Desc) → In d ds → (o : Object (List ℕ)) × (knows (low_ref spell tag d) ≡ Some o) × Sees job around tag n d o
+
+    gather_is : (ds : List Desc) → Settled ds → gather (see job around n) (as_bytes around) ds ≡ gathered (collect (λ d. bytes_seen writes (knows d)) (map (low_ref spell tag) ds))
+    gather_is [] s = refl
+    gather_is (d ∷ ds) s = go (s d (inl refl)) (gather_is ds (λ c i. s c (inr i)))
+      where
+        rest : Result (List (List ℕ)) Fault
+        rest = collect (λ d. bytes_seen writes (knows d)) (map (low_ref spell tag) ds)
+
+        go : (o : Object (List ℕ)) × (knows (low_ref spell tag d) ≡ Some o) × Sees job around tag n d o → gather (see job around n) (as_bytes around) ds ≡ gathered rest → gather (see job around n) (as_bytes around) (d ∷ ds) ≡ gathered (one_more (bytes_seen writes (knows (low_ref spell tag d))) rest)
+        go (o, k, (p, e, l)) h =
+            ap₂ (λ x r. gather_one x (as_bytes around) r) e h ∙ ap (λ x. gather_on x (gathered rest)) (sym (bytes_low tag p)) ∙ gathered_more (bytes_of writes (low_obj spell tag p)) rest ∙ ap (λ x. gathered (one_more x rest)) (ap (bytes_of writes) l ∙ ap (bytes_seen writes) (sym k))
+
+    executed_is : (x : List ℕ) (a : Val) (c i : ℕ) (r : Result (List (List ℕ)) Fault) → (p : Obj) × (executed_on around x a c i (gathered r) ≡ Some p) × (low_obj spell tag p ≡ performed_on around.runs x (low spell tag a) c i r)
+    executed_is x a c i (Err f) = (Object.fault f, refl, refl)
+    executed_is x a c i (Ok bs) =
+        (m.run_output (around.runs x (replaced (to_slot tag) 0 a) bs c) i, refl, run_output_low tag (around.runs x (replaced (to_slot tag) 0 a) bs c) i ∙ ap (λ s. run_output (around.runs x s bs c) i) (sym (slots_low tag 0 a)))
+
+    sees_out : (x : List ℕ) (a : Val) (c i : ℕ) → Settled (refs a) → Sees job around tag (suc n) (out x a c i) (performed around.runs writes knows x (low spell tag a) c i)
+    unfolding see
+    sees_out x a c i s = go (executed_is x a c i collected)
+      where
+        collected : Result (List (List ℕ)) Fault
+        collected = collect (λ d. bytes_seen writes (knows d)) (map (low_ref spell tag) (refs a))
+
+        go : (p : Obj) × (executed_on around x a c i (gathered collected) ≡ Some p) × (low_obj spell tag p ≡ performed_on around.runs x (low spell tag a) c i collected) → Sees job around tag (suc n) (out x a c i) (performed around.runs writes knows x (low spell tag a) c i)
+        go (p, e, l) =
+            (p, ap (executed_on around x a c i) (gather_is (refs a) s) ∙ e, l ∙ ap (λ ds. performed_on around.runs x (low spell tag a) c i (collect (λ d. bytes_seen writes (knows d)) ds)) (sym (refs_low spell tag a)))
+
+-- ---- rows of executor tasks and of inputs
+
+from_out : (d : Desc) (tag : Row → List ℕ) (x : List ℕ) (us : v.Val (List ℕ)) (c i : ℕ) → low_desc spell tag d ≡ out x us c i → (a : Val) × (d ≡ out x a c i) × (low spell tag a ≡ us)
+from_out (call f vs) tag x us c i e = absurd cc
+from_out (out y a b j) tag x us c i e =
+    (a, (λ t. out (name_is y x (low spell tag a) us b c j i e t) a (many_is y x (low spell tag a) us b c j i e t) (at_is y x (low spell tag a) us b c j i e t)), args_is y x (low spell tag a) us b c j i e)
+  where
+    name_is : (y x : List ℕ) (u w : v.Val (List ℕ)) (b c j i : ℕ) → out y u b j ≡ out x w c i → y ≡ x
+    name_is y x u w b c j i e = cc
+
+    args_is : (y x : List ℕ) (u w : v.Val (List ℕ)) (b c j i : ℕ) → out y u b j ≡ out x w c i → u ≡ w
+    args_is y x u w b c j i e = cc
+
+    many_is : (y x : List ℕ) (u w : v.Val (List ℕ)) (b c j i : ℕ) → out y u b j ≡ out x w c i → b ≡ c
+    many_is y x u w b c j i e = cc
+
+    at_is : (y x : List ℕ) (u w : v.Val (List ℕ)) (b c j i : ℕ) → out y u b j ≡ out x w c i → j ≡ i
+    at_is y x u w b c j i e = cc
+from_out (input k) tag x us c i e = absurd cc
+from_out (known b) tag x us c i e = absurd b
+
+from_input : (d : Desc) (tag : Row → List ℕ) (key : List ℕ) → low_desc spell tag d ≡ input key → d ≡ input key
+from_input (call f vs) tag key e = absurd cc
+from_input (out x a c i) tag key e = absurd cc
+from_input (input k) tag key e = ap input (key_is k key e)
+  where
+    key_is : (k l : List ℕ) → ◌≡◌ {A = Row} (input k) (input l) → k ≡ l
+    key_is k l e = cc
+from_input (known b) tag key e = absurd b
+
+module _ (job : Job) (around : Around) (reads : List ℕ → Answer (List ℕ)) (alike : (tag : Row → List ℕ) (b : List ℕ) → reads b ≡ lower {N = ⊥} spell tag (around.reads b)) (writes : v.Val (List ℕ) → Option (List ℕ)) (writes_alike : (tag : Row → List ℕ) (a : Val) → writes (low spell tag a) ≡ around.writes a) (rows : List Row) (objects : List (Option (Object (List ℕ)))) (knows : Knows job around rows objects) where
+  -- output i of an executor task whose inputs are known
+  pub learns_out : (objects' : List (Option (Object (List ℕ)))) (k : ℕ) (x : List ℕ) (us : v.Val (List ℕ)) (c i : ℕ) → slice_get rows k ≡ Some (out x us c i) → AllKnown objects (refs us) → Puts objects k (performed around.runs writes (known_of objects) x us c i) objects' → Knows job around rows objects'
+  learns_out objects' k x us c i at all puts =
+      learns_one job around reads alike rows [] rows objects objects' k (out x us c i) (performed around.runs writes (known_of objects) x us c i) knows (sym (append-nil rows)) at seen puts
+    where
+      seen : (later : List Row) → Grown rows later → SeenNext job around reads alike later objects (out x us c i) (performed around.runs writes (known_of objects) x us c i)
+      seen later g n kn d row = of_out (from_out d (tag_of later) x us c i row)
+        where
+          tag : Row → List ℕ
+          tag = tag_of later
+
+          of_out : (a : Val) × (d ≡ out x a c i) × (low spell tag a ≡ us) → Sees job around tag (suc n) d (performed around.runs writes (known_of objects) x us c i)
+          of_out (a, is, l) =
+              subst (λ z. Sees job around tag (suc n) z (performed around.runs writes (known_of objects) x us c i)) (sym is) (subst (λ z. Sees job around tag (suc n) (out x a c i) (performed around.runs writes (known_of objects) x z c i)) l (sees_out job around writes writes_alike tag n (known_of objects) x a c i settled))
+            where
+              settled : Settled job around writes writes_alike tag n (known_of objects) (refs a)
+              settled e h = of_known (all (low_ref spell tag e) (subst (In (low_ref spell tag e)) (sym (refs_low spell tag a) ∙ ap refs l) (map_in (low_ref spell tag) e (refs a) h)))
+                where
+                  of_known : (o : Object (List ℕ)) × (known_of objects (low_ref spell tag e) ≡ Some o) → (o : Object (List ℕ)) × (known_of objects (low_ref spell tag e) ≡ Some o) × Sees job around tag n e o
+                  of_known (o, q) = (o, q, kn e o q)
+
+  sees_input : (tag : Row → List ℕ) (n : ℕ) (key : List ℕ) → Sees job around tag (suc n) (input key) (Object.bytes (input_bytes key job.inputs))
+  unfolding see
+  sees_input tag n key = (Object.bytes (input_bytes key job.inputs), refl, refl)
+
+  -- an input
+  pub learns_input : (objects' : List (Option (Object (List ℕ)))) (k : ℕ) (key : List ℕ) → slice_get rows k ≡ Some (input key) → Puts objects k (Object.bytes (input_bytes key job.inputs)) objects' → Knows job around rows objects'
+  learns_input objects' k key at puts =
+      learns_one job around reads alike rows [] rows objects objects' k (input key) (Object.bytes (input_bytes key job.inputs)) knows (sym (append-nil rows)) at (λ later g n kn d row. subst (λ z. Sees job around (tag_of later) (suc n) z (Object.bytes (input_bytes key job.inputs))) (sym (from_input d (tag_of later) key row)) (sees_input (tag_of later) n key)) puts
+
+module _ (job : Job) (around : Around) where
+  -- what an executor task has among its inputs goes on the chain
+  pub opens_out : (rows : List Row) (k : ℕ) (ks : List ℕ) (x : List ℕ) (us : v.Val (List ℕ)) (c i : ℕ) (name : List ℕ) → slice_get rows k ≡ Some (out x us c i) → Opens job around rows (k ∷ ks) → In (known name) (refs us) → number_of name < length rows → Opens job around rows (number_of name ∷ k ∷ ks)
+  opens_out rows k ks x us c i name at opens is below later g = go (opens later g)
+    where
+      tag : Row → List ℕ
+      tag = tag_of later
+
+      some_is : (a b : Row) → Some a ≡ Some b → a ≡ b
+      some_is a b q = cc
+
+      go : (d : Desc) × Opened job around later (k ∷ ks) d → (d : Desc) × Opened job around later (number_of name ∷ k ∷ ks) d
+      go (d, od) = of_out (from_out d tag x us c i row)
+        where
+          row : low_desc spell tag d ≡ out x us c i
+          row =
+              some_is _ _ (sym (opened_at job around later k ks d od) ∙ subst (λ z. slice_get z k ≡ Some (out x us c i)) (sym g.begins) (got_more rows g.more k (out x us c i) at))
+
+          of_out : (a : Val) × (d ≡ out x a c i) × (low spell tag a ≡ us) → (e : Desc) × Opened job around later (number_of name ∷ k ∷ ks) e
+          of_out (a, d_is, l) = of_ref (in_map (low_ref spell tag) (known name) (refs a) (subst (In (known name)) (ap refs (sym l) ∙ refs_low spell tag a) is))
+            where
+              of_ref : (e : Desc) × In e (refs a) × (low_ref spell tag e ≡ known name) → (e : Desc) × Opened job around later (number_of name ∷ k ∷ ks) e
+              of_ref (e, h, q) =
+                  (e, (held_ref job around rows later e name g below q, (d, Task.of (out x a c 0), od, ap task_of d_is, (0, distinct_refs a, (0, refl), in_distinct_refs a e h))))

@@ -1,0 +1,14 @@
+pub mod Walk
+pub mod RowCode
+pub mod Plain
+pub mod RunView
+pub mod StateCode
+pub mod Known
+pub mod GroundView
+pub mod Number
+pub mod Needs
+pub mod Stand
+pub mod Wave
+pub mod WaveView
+pub mod Stage
+pub mod Perform

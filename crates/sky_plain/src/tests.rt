@@ -1,0 +1,95 @@
+// The descriptions and objects that are known, and waves of the result.
+
+use crate::json::Json;
+use crate::objects::{Objects, number_of, slot};
+use crate::reader::Reader;
+use crate::rows::Rows;
+use crate::wave::{Turned, last_turn, turn};
+use sky_base::fault::FaultKind;
+use sky_base::object::{Desc1, Object};
+use sky_base::text::{Bytes, Memory, Txt};
+use sky_base::value::{Vals, Value};
+use std::alloc::Global;
+use std::rt::HostRuntime;
+
+// The call of a function on no arguments.
+fn call(alloc: Global, name: &str) -> Result<Desc1, Memory> {
+    Ok(Desc1::Call {
+        fun: Txt::new(alloc, name)?,
+        args: Vals::new(alloc),
+    })
+}
+
+// The numbers of two calls, of the first again, and whether a third is held.
+fn numbers(alloc: Global) -> Result<(Option<u32>, Option<u32>, Option<u32>, bool), Memory> {
+    let mut rows = Rows::new(alloc);
+    let f = rows.learn(call(alloc, "f")?)?;
+    let g = rows.learn(call(alloc, "g")?)?;
+    let again = rows.learn(call(alloc, "f")?)?;
+    let h = call(alloc, "h")?;
+    Ok((f, g, again, rows.find(&h).is_some()))
+}
+
+#[test]
+fn each_once(rt: HostRuntime) {
+    let found = numbers(rt.alloc());
+    assert!(rt; matches!(found, Ok((Some(0), Some(1), Some(0), false))));
+}
+
+// The value at the next wave of a list that refers to a number that is known.
+fn waves(alloc: Global) -> Result<Turned, Memory> {
+    let mut objects = Objects::new(alloc);
+    objects.set(1, Object::Data(Value::Int(7)))?;
+    let mut values = Vals::new(alloc);
+    values.push(Value::Ref(slot(1)))?;
+    turn(alloc, &Value::List(values), &objects)
+}
+
+#[test]
+fn a_wave_fills_in(rt: HostRuntime) {
+    match waves(rt.alloc()) {
+        Ok(Turned::Next(Value::List(values))) => {
+            assert!(rt; values.len() == 1);
+            assert!(rt; matches!(values.get(0), Some(Value::Int(7))));
+        }
+        _ => assert!(rt; false),
+    }
+}
+
+// The answer of a number.
+fn text(alloc: Global) -> Result<Turned, Memory> {
+    turn(alloc, &Value::Int(-3), &Objects::new(alloc))
+}
+
+#[test]
+fn a_value_is_written(rt: HostRuntime) {
+    match text(rt.alloc()) {
+        Ok(Turned::Text(bytes)) => assert!(rt; bytes.as_slice() == b"-3\n".as_slice()),
+        _ => assert!(rt; false),
+    }
+}
+
+#[test]
+fn the_last_wave_is_too_deep(rt: HostRuntime) {
+    match last_turn(rt.alloc(), &Value::Ref(slot(3))) {
+        Ok(Turned::Fault(fault)) => assert!(rt; fault.kind == FaultKind::TooDeep),
+        _ => assert!(rt; false),
+    }
+}
+
+// What `[1]` is read as.
+fn read(alloc: Global) -> Result<Result<Value, FaultKind>, Memory> {
+    let mut bytes = Vec::new(alloc);
+    for b in b"[1]".as_slice() {
+        let Ok(()) = bytes.push(*b) else {
+            return Err(Memory)
+        };
+    }
+    Json.read(alloc, &Bytes::new(alloc, bytes)?)
+}
+
+#[test]
+fn data_is_read(rt: HostRuntime) {
+    assert!(rt; matches!(read(rt.alloc()), Ok(Ok(Value::List(_)))));
+    assert!(rt; number_of(&slot(258)) == 258);
+}
