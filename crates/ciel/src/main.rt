@@ -12,7 +12,12 @@ use sky_base::text::Txt;
 use std::alloc::Global;
 use std::process::ExitCode;
 use std::rt::Env;
+use std::thread::Builder;
 use std::{env, io};
+
+/// The bytes of stack that a run gets. The interpreter recurses over the tree of the script, through up to
+/// 64 brackets in each of up to 64 bodies, which the stack that a process begins with may not hold.
+const STACK: usize = 256 << 20;
 
 /// The words of the command line, without the program's name. Words that aren't UTF-8 are no line.
 fn words(rt: &(impl Env + Alloc<A = Global>)) -> Result<Vec<Txt>, Why>
@@ -41,18 +46,31 @@ fn why(e: io::Error) -> Why
     }
 }
 
-fn main(rt: HostRuntime) -> ExitCode {
+/// Runs the program, and gives the status of the process.
+fn run(rt: HostRuntime) -> u8 {
     let mut log = HostErr::new(rt.stderr());
-    let status = match words(&rt) {
+    match words(&rt) {
         Ok(words) => {
             let mut out = HostOut::new(rt.stdout());
             let mut files = HostFiles::new(rt);
             ciel_main(rt.alloc(), &words, &mut files, &mut out, &mut log).status
         }
-        Err(why) => {
-            let _ = put_message(&why, &mut log);
-            why.status()
-        }
-    };
-    ExitCode::from(status)
+        Err(why) => refused(&why, &mut log),
+    }
+}
+
+/// Puts the message on the log, and gives the status of the process.
+fn refused(why: &Why, log: &mut HostErr) -> u8
+    requires { why.now ≢ Why.Done }
+{
+    let _ = put_message(why, log);
+    why.status()
+}
+
+fn main(rt: HostRuntime) -> ExitCode {
+    let thread = Builder::new().stack_size(STACK).spawn(&rt, move || run(rt));
+    ExitCode::from(match thread {
+        Ok(thread) => thread.join(&rt),
+        Err(_) => refused(&Why::Memory, &mut HostErr::new(rt.stderr())),
+    })
 }

@@ -1,5 +1,4 @@
-pub mod Ends
-pub mod Meaning
-pub mod Tails
+pub mod Tokens
 pub mod Answers
+pub mod Exact
 mod Pieces

@@ -1,9 +1,12 @@
 -- How a call of the program ends.
-use Rattle.std.specs.Prelude.{◌≡◌, ◌<◌, ◌≤◌, ℕ, List, Option, None, length}
+use Rattle.std.specs.Prelude.{◌≡◌, ◌<◌, ◌≤◌, ℕ, List, Option, length}
 use Rattle.sky_base.specs.See.{Answered}
 use Rattle.sky_base.specs.declared.fault.Fault.{Fault}
+use Rattle.sky_base.specs.declared.object.Desc1.{Desc1}
 use Rattle.ciel_io.specs.Tells.{Tells, TellsPart}
-use Rattle.ciel_run.specs.Source.{source_script, IsAnswer}
+use Rattle.ciel_run.specs.Source.{IsLater, IsAnswer, HasChain, Makes}
+use Rattle.ciel_run.specs.Syntax.{IsSyntaxFault}
+use Rattle.ciel_run.specs.declared.top.SyntaxKind.{SyntaxKind}
 use Rattle.ciel_run.specs.declared.top.Why.{Why}
 
 -- the greatest number of bytes of a script
@@ -24,10 +27,20 @@ status_of (Why.TooLongInput path at) = 11
 status_of (Why.NotBuilt line col) = 12
 status_of (Why.TooDeepPlain depth) = 13
 
+-- the fact, of the kind and the place of what is no script
+abbrev pub IfSyntax : Why → (SyntaxKind → ℕ → ℕ → Type 0) → Type 0
+IfSyntax (Why.Syntax kind line col) P = P kind line col
+IfSyntax _ P = Unit {0}
+
 -- the fact, of the fault that ended the call
 abbrev pub IfFault : Why → (Fault → Type 0) → Type 0
 IfFault (Why.Fault fault) P = P fault
 IfFault _ P = Unit {0}
+
+-- the fact, of how many descriptions are held, and of a further one where it is given
+abbrev pub IfTooMany : Why → (ℕ → Option Desc1 → Type 0) → Type 0
+IfTooMany (Why.TooMany held given) P = P held given
+IfTooMany _ P = Unit {0}
 
 -- the fact, of the path whose read failed
 abbrev pub IfReadFault : Why → (List ℕ → Type 0) → Type 0
@@ -44,6 +57,11 @@ abbrev pub IfNotBuilt : Why → (ℕ → ℕ → Type 0) → Type 0
 IfNotBuilt (Why.NotBuilt line col) P = P line col
 IfNotBuilt _ P = Unit {0}
 
+-- the fact, of how many descriptions are open
+abbrev pub IfTooDeep : Why → (ℕ → Type 0) → Type 0
+IfTooDeep (Why.TooDeepPlain depth) P = P depth
+IfTooDeep _ P = Unit {0}
+
 -- what was written is the answer of the script with this source
 abbrev pub WritesAnswer : List ℕ → Option (List ℕ) → Option (List ℕ) → Type 0
 WritesAnswer source before now = (a : List ℕ) × IsAnswer source (Answered.bytes a) × Tells before now a
@@ -58,24 +76,17 @@ abbrev pub AsksFor : Why → List (List ℕ) → Option (List (List ℕ)) → Op
 AsksFor Why.Memory paths before now = TellsPart before now paths
 AsksFor _ paths before now = Tells before now paths
 
--- how a call ends over a script with this source, where reading and writing go well: but for want of
--- memory, with its answer or its fault, or with the refusal of what is no script of this stage
+-- how a call ends over a script with this source, where reading and writing go well: one that is too long is
+-- refused, and any other ends with what its bytes or its job come to, but for want of memory
 abbrev pub IsExpected : List ℕ → Why → Type 0
 IsExpected source Why.Done = (length source ≤ limit) × ((a : List ℕ) × IsAnswer source (Answered.bytes a))
+IsExpected source (Why.Syntax kind line col) = (length source ≤ limit) × IsSyntaxFault source kind line col
 IsExpected source (Why.Fault fault) = (length source ≤ limit) × IsAnswer source (Answered.fault fault)
-IsExpected source Why.Memory = Unit {0}
+IsExpected source (Why.TooMany held given) = (length source ≤ limit) × Makes source 65537
+IsExpected source (Why.TooDeepPlain depth) = (length source ≤ limit) × HasChain source 4096
+IsExpected source (Why.NotBuilt line col) = (length source ≤ limit) × IsLater source line col
 IsExpected source (Why.TooLongInput path at) = limit < length source
-IsExpected source (Why.NotBuilt line col) = (length source ≤ limit) × (source_script source ≡ None)
+IsExpected source Why.Memory = Unit {0}
 IsExpected source Why.Usage = ⊥
 IsExpected source (Why.ReadFault path) = ⊥
 IsExpected source Why.WriteFault = ⊥
-IsExpected source (Why.Syntax kind line col) = ⊥
-IsExpected source (Why.TooMany held given) = ⊥
-IsExpected source (Why.TooDeepPlain depth) = ⊥
-
--- an end that a script of this stage can have: what is no such script isn't built, and none makes descriptions
-abbrev pub IsBuilt : Why → Type 0
-IsBuilt (Why.Syntax kind line col) = ⊥
-IsBuilt (Why.TooMany held given) = ⊥
-IsBuilt (Why.TooDeepPlain depth) = ⊥
-IsBuilt _ = Unit {0}

@@ -1,8 +1,7 @@
-pub mod Sum
-pub mod Totals
 pub mod Words
-pub mod Yields
 pub mod Source
-pub mod Ending
+pub mod Syntax
 pub mod Refused
+pub mod Ending
+pub mod Laws
 pub mod Message

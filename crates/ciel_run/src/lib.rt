@@ -1,10 +1,11 @@
 // The top call of the program `ciel`: from the words of the command line and the bytes of the
-// script to the bytes that go out. It is generic over the files and the output, so that all that
-// the program does is under its contract; `main` only makes the real ones.
+// script to the bytes that go out. It is generic over the files, the output and the log, so that all
+// that the program does is under its contract; `main` only makes the real ones.
 #![tactic(auto)]
 
+mod answer;
+pub mod law;
 pub mod message;
-mod refusal;
-mod sum;
+mod script;
 pub mod top;
 mod words;

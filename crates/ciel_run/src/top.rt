@@ -1,18 +1,18 @@
-// The top call: the words, the read of the script, its tokens, their sum, and the writing. Each
-// way in which it ends is a `Why`, and each `Why` but want of memory has a clause that says when it
-// comes.
+// The top call: the words, the read of the script, its answer, and the writing. Each way in which it
+// ends is a `Why`, and each `Why` but want of memory has a clause that says when it comes.
 
 ghost use Rattle.std.specs.Prelude.{◌≡◌, ◌≢◌, ◌<◌, ◌↔◌, ℕ, List, Some, None, length};
 ghost use Rattle.sky_base.specs.See.{Answered};
 ghost use Rattle.ciel_io.specs.Faults.{HasRisen};
 ghost use Rattle.ciel_run.specs.Words.{path_of, paths};
-ghost use Rattle.ciel_run.specs.Source.{source_script, IsAnswer};
+ghost use Rattle.ciel_run.specs.Source.{IsAnswer, IsLater, HasChain, Makes};
+ghost use Rattle.ciel_run.specs.Syntax.{IsSyntaxFault};
 ghost use Rattle.ciel_io.specs.Tells.{Tells, TellsPart};
-ghost use Rattle.ciel_run.specs.Ending.{limit, status_of, IfFault, IfNotBuilt, IfTooLong, IfReadFault, WritesAnswer, WritesPart, IsExpected, AsksFor, IsBuilt};
+ghost use Rattle.ciel_run.specs.Ending.{limit, status_of, IfSyntax, IfFault, IfTooMany, IfNotBuilt, IfTooDeep, IfTooLong, IfReadFault, WritesAnswer, WritesPart, IsExpected, AsksFor};
 ghost use Rattle.ciel_run.specs.Message.{message_of};
 
+use crate::answer::{Refusal, answer};
 use crate::message::put_message;
-use crate::refusal::{Refusal, evaluate};
 use crate::words::script_path;
 use ciel_io::files::{FileRefusal, Files};
 use ciel_io::sink::Sink;
@@ -51,8 +51,8 @@ pub enum Why {
     },
     /// The job means this fault. Status 3.
     Fault(Fault),
-    /// So many distinct descriptions are held, and a further one, where it is given, is named.
-    /// Status 5.
+    /// So many distinct descriptions are held, 65,536, and a further one is made, which isn't given by
+    /// a sequential run. Status 5.
     TooMany {
         held: u32,
         given: Option<Desc1>,
@@ -70,12 +70,13 @@ pub enum Why {
         path: Txt,
         limit: u64,
     },
-    /// The script has a form that isn't built yet. Its place is 0:0. Status 12.
+    /// The script has a word that isn't built yet, `ref`, `exec` or `spawn_exec`, first at this place.
+    /// Status 12.
     NotBuilt {
         line: u32,
         col: u32,
     },
-    /// So many descriptions are open, each waited for by the one before it. Status 13.
+    /// So many descriptions are open, 4,096, each waited for by the one before it. Status 13.
     TooDeepPlain {
         depth: u32,
     },
@@ -116,8 +117,8 @@ impl Why {
 /// script that they name, and writes the answer of its job to `out` in one `put`. Where the status
 /// isn't 0, the message goes to `log`, and a failure there changes nothing else.
 ///
-/// The words are one path. A script of this stage is `"return" NUMBER { "+" NUMBER } ";"` with
-/// blanks between the tokens, of at most 1,048,576 bytes.
+/// The words are one path. A script has at most 1,048,576 bytes, and is one of the whole language
+/// but for the words `ref`, `exec` and `spawn_exec`: it has no inputs and knows no executors.
 pub fn ciel_main<F: Files, O: Sink, J: Sink>(
     alloc: Global,
     words: &[Txt],
@@ -130,8 +131,11 @@ pub fn ciel_main<F: Files, O: Sink, J: Sink>(
 
     // When each other end comes.
     ensures usage { (result.why ≡ Why.Usage) ↔ (path_of words.now ≡ None) }
+    ensures syntax { IfSyntax result.why (λ kind line col. (path source : List ℕ) → path_of words.now ≡ Some path → F.content files.old path ≡ Some source → IsSyntaxFault source kind line col) }
     ensures fault { IfFault result.why (λ fault. (path source : List ℕ) → path_of words.now ≡ Some path → F.content files.old path ≡ Some source → IsAnswer source (Answered.fault fault)) }
-    ensures not_built { IfNotBuilt result.why (λ line col. (line ≡ 0) × (col ≡ 0) × ((path source : List ℕ) → path_of words.now ≡ Some path → F.content files.old path ≡ Some source → source_script source ≡ None)) }
+    ensures too_many { IfTooMany result.why (λ held given. (held ≡ 65536) × (given ≡ None) × ((path source : List ℕ) → path_of words.now ≡ Some path → F.content files.old path ≡ Some source → Makes source 65537)) }
+    ensures not_built { IfNotBuilt result.why (λ line col. (path source : List ℕ) → path_of words.now ≡ Some path → F.content files.old path ≡ Some source → IsLater source line col) }
+    ensures too_deep { IfTooDeep result.why (λ depth. (depth ≡ 4096) × ((path source : List ℕ) → path_of words.now ≡ Some path → F.content files.old path ≡ Some source → HasChain source 4096)) }
     ensures too_long { IfTooLong result.why (λ path at. (path_of words.now ≡ Some path) × (at ≡ limit) × ((source : List ℕ) → F.content files.old path ≡ Some source → limit < length source)) }
     ensures read_fault { IfReadFault result.why (λ path. (path_of words.now ≡ Some path) × HasRisen (F.faults files.old) (F.faults files.new)) }
     ensures write_fault { result.why ≡ Why.WriteFault → HasRisen (O.faults out.old) (O.faults out.new) }
@@ -149,7 +153,6 @@ pub fn ciel_main<F: Files, O: Sink, J: Sink>(
     ensures message_part { TellsPart (J.written log.old) (J.written log.new) (message_of result.why) }
 
     ensures status { result.status ≡ status_of result.why }
-    ensures built { IsBuilt result.why }
 {
     let why = run(alloc, words, files, out);
     tell(&why, log);
@@ -170,12 +173,15 @@ fn tell<J: Sink>(why: &Why, log: &mut J)
     let _ = put_message(why, log);
 }
 
-/// Reads, evaluates and writes.
+/// Reads the script, runs it and writes.
 fn run<F: Files, O: Sink>(alloc: Global, words: &[Txt], files: &mut F, out: &mut O) -> Why
     ensures bytes { result ≡ Why.Done → (path source : List ℕ) → path_of words.now ≡ Some path → F.content files.old path ≡ Some source → WritesAnswer source (O.written out.old) (O.written out.new) }
     ensures usage { (result ≡ Why.Usage) ↔ (path_of words.now ≡ None) }
+    ensures syntax { IfSyntax result (λ kind line col. (path source : List ℕ) → path_of words.now ≡ Some path → F.content files.old path ≡ Some source → IsSyntaxFault source kind line col) }
     ensures fault { IfFault result (λ fault. (path source : List ℕ) → path_of words.now ≡ Some path → F.content files.old path ≡ Some source → IsAnswer source (Answered.fault fault)) }
-    ensures not_built { IfNotBuilt result (λ line col. (line ≡ 0) × (col ≡ 0) × ((path source : List ℕ) → path_of words.now ≡ Some path → F.content files.old path ≡ Some source → source_script source ≡ None)) }
+    ensures too_many { IfTooMany result (λ held given. (held ≡ 65536) × (given ≡ None) × ((path source : List ℕ) → path_of words.now ≡ Some path → F.content files.old path ≡ Some source → Makes source 65537)) }
+    ensures not_built { IfNotBuilt result (λ line col. (path source : List ℕ) → path_of words.now ≡ Some path → F.content files.old path ≡ Some source → IsLater source line col) }
+    ensures too_deep { IfTooDeep result (λ depth. (depth ≡ 4096) × ((path source : List ℕ) → path_of words.now ≡ Some path → F.content files.old path ≡ Some source → HasChain source 4096)) }
     ensures too_long { IfTooLong result (λ path at. (path_of words.now ≡ Some path) × (at ≡ limit) × ((source : List ℕ) → F.content files.old path ≡ Some source → limit < length source)) }
     ensures read_fault { IfReadFault result (λ path. (path_of words.now ≡ Some path) × HasRisen (F.faults files.old) (F.faults files.new)) }
     ensures write_fault { result ≡ Why.WriteFault → HasRisen (O.faults out.old) (O.faults out.new) }
@@ -183,7 +189,6 @@ fn run<F: Files, O: Sink>(alloc: Global, words: &[Txt], files: &mut F, out: &mut
     ensures asked { AsksFor result (paths (path_of words.now)) (F.asked files.old) (F.asked files.new) }
     ensures part { result ≡ Why.WriteFault → (path source : List ℕ) → path_of words.now ≡ Some path → F.content files.old path ≡ Some source → WritesPart source (O.written out.old) (O.written out.new) }
     ensures nothing { result ≢ Why.Done → result ≢ Why.WriteFault → out.new ≡ out.old }
-    ensures built { IsBuilt result }
 {
     let Some(path) = script_path(words) else {
         return Why::Usage;
@@ -200,13 +205,16 @@ fn run<F: Files, O: Sink>(alloc: Global, words: &[Txt], files: &mut F, out: &mut
         },
         Err(FileRefusal::Memory) => return Why::Memory,
     };
-    match evaluate(alloc, source.as_slice()) {
-        Ok(text) => match out.put(text.as_bytes()) {
+    match answer(alloc, source.as_slice()) {
+        Ok(bytes) => match out.put(bytes.as_slice()) {
             Ok(()) => Why::Done,
             Err(_) => Why::WriteFault,
         },
-        Err(Refusal::NotBuilt) => Why::NotBuilt { line: 0, col: 0 },
+        Err(Refusal::Syntax { kind, line, col }) => Why::Syntax { kind, line, col },
+        Err(Refusal::NotBuilt { line, col }) => Why::NotBuilt { line, col },
         Err(Refusal::Fault(fault)) => Why::Fault(fault),
+        Err(Refusal::TooMany { held }) => Why::TooMany { held, given: None },
+        Err(Refusal::TooDeep { depth }) => Why::TooDeepPlain { depth },
         Err(Refusal::Memory) => Why::Memory,
     }
 }

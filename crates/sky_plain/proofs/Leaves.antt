@@ -26,7 +26,8 @@ use Rattle.sky_base.specs.declared.object.Object.{Object}
 use Rattle.sky_base.specs.Res.{visits, counted}
 use Rattle.sky_plain.specs.Walk as known
 use Rattle.sky_plain.specs.Walk.{Row, Seen, seen_one, look, number_of, from_digits, object_at, learn_to}
-use Rattle.sky_plain.specs.Plain.{Obj, Vars, Cutoff, Out, items, place_of, learned, learn_all, Ground, outputs_count, outputs_if, outputs_of, exec_seen, exec_ask, visit, visited, formed}
+use Rattle.sky_plain.specs.Number.{index_of}
+use Rattle.sky_plain.specs.Plain.{Obj, Vars, Cutoff, Out, items, learned, learn_all, Ground, outputs_count, outputs_if, outputs_of, exec_seen, exec_ask, visit, visited, formed}
 use Rattle.sky_plain.specs.Known.{with_object, KeptOption, KeptObjects, KeptObject}
 
 size_some : (v : Val (List ℕ)) → 1 ≤ size v
@@ -99,6 +100,13 @@ object_pad [] (suc k) o h = refl
 object_pad (x ∷ os) zero o h = absurd (omega arith)
 object_pad (x ∷ os) (suc k) o h = ap (λ r. option_map object_view x ∷ r) (object_pad os k o (omega arith))
 
+-- a place with no object in it changes no number's object
+pub pad_at : (os : List (Option Object)) (k : ℕ) → object_at (map (option_map object_view) (os ++ None ∷ [])) k ≡ object_at (map (option_map object_view) os) k
+pad_at [] zero = refl
+pad_at [] (suc k) = refl
+pad_at (x ∷ os) zero = refl
+pad_at (x ∷ os) (suc k) = pad_at os k
+
 pub object_set : (os : List (Option Object)) (k : ℕ) (o : Object) → k < length os → map (option_map object_view) (set os k (Some o)) ≡ with_object k (object_view o) (map (option_map object_view) os)
 object_set [] k o h = absurd (omega arith)
 object_set (x ∷ os) zero o h = refl
@@ -109,7 +117,7 @@ kept_set [] k o a h = tt
 kept_set (x ∷ os) zero o a h = (a, h.1)
 kept_set (x ∷ os) (suc k) o a h = (h.0, kept_set os k o a h.1)
 
-pub ruleset knowns = (known_past, known_here, kept_object_at, kept_push, object_pad, object_set, kept_set)
+pub ruleset knowns = (known_past, known_here, kept_object_at, kept_push, object_pad, pad_at, object_set, kept_set)
 
 -- ---- bodies
 
@@ -222,7 +230,7 @@ module _ (see : Row → Option Obj) (ds rows : List Row) (st : Vars) where
 -- ---- outputs, one at a time
 
 module _ (x : List ℕ) (a : Val (List ℕ)) (n i : ℕ) (rows : List Row) (names : List (List ℕ)) (k : List Row → List Row → Out) where
-  pub outputs_step : (more : List Row) (name : List ℕ) → i < n → learn_to rows (out x a n i) ≡ Some more → slot (place_of (out x a n i) more) ≡ name → learn_all (outputs x a n i (n - i)) rows (λ ns last. k (known_of names ++ ns) last) ≡ learn_all (outputs x a n (i + 1) (n - (i + 1))) more (λ ns last. k (known_of (names ++ name ∷ []) ++ ns) last)
+  pub outputs_step : (more : List Row) (name : List ℕ) → i < n → learn_to rows (out x a n i) ≡ Some more → slot (index_of (out x a n i) more) ≡ name → learn_all (outputs x a n i (n - i)) rows (λ ns last. k (known_of names ++ ns) last) ≡ learn_all (outputs x a n (i + 1) (n - (i + 1))) more (λ ns last. k (known_of (names ++ name ∷ []) ++ ns) last)
   outputs_step more name h e f =
       let c : n - i ≡ suc (n - (i + 1)) = omega arith in
       let j : suc i ≡ i + 1 = omega arith in

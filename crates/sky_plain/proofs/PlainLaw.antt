@@ -13,8 +13,9 @@ use Rattle.sky_base.specs.Eval.{World, find_fun, Body, body_of, bind, set_var, i
 use Rattle.sky_base.specs.declared.fault.FaultKind.{FaultKind}
 use Rattle.sky_base.proofs.Exact.{exact_desc, exact_text, self_desc, self_text}
 use Rattle.sky_plain.specs.Walk.{Row, Seen, Stop, Walked, stops, in_room, if_new, learn_to, is_held, on_learned, on_seen, seen_one, look, walk, known_of, Numbers}
+use Rattle.sky_plain.specs.Number.{index_if, index_of}
 use Rattle.sky_plain.specs.Plain as plain
-use Rattle.sky_plain.specs.Plain.{Val, Vals, Pairs, Obj, Vars, Answer, Ground, Cutoff, Out, value_of, on_listed, items, place_of, place_if, learned, learn, learn_all}
+use Rattle.sky_plain.specs.Plain.{Val, Vals, Pairs, Obj, Vars, Answer, Ground, Cutoff, Out, value_of, on_listed, items, learned, learn, learn_all}
 
 abbrev pub told_stop : Stop → List Row → Out
 told_stop (Stop.ended End.goes st) rows = Out.goes rows st
@@ -45,7 +46,7 @@ never_listed (Stop.full d) rows more vs st e = absurd cc
 
 -- ---- names of descriptions
 
-place_in_if : (b : Bool) (d e : Row) (es : List Row) (n : ℕ) → same_desc same_text d e ≡ b → (b ≡ false → slice_get es n ≡ Some d) → slice_get (e ∷ es) (place_if b n) ≡ Some d
+place_in_if : (b : Bool) (d e : Row) (es : List Row) (n : ℕ) → same_desc same_text d e ≡ b → (b ≡ false → slice_get es n ≡ Some d) → slice_get (e ∷ es) (index_if b n) ≡ Some d
 place_in_if true d e es n h k = ap Some (sym (exact_desc same_text exact_text d e h))
 place_in_if false d e es n h k = k refl
 
@@ -54,10 +55,10 @@ or_right true b e h = absurd cc
 or_right false b e h = h
 
 -- a description that is held stands at its first place
-pub place_in : (d : Row) (es : List Row) → is_held d es ≡ true → slice_get es (place_of d es) ≡ Some d
+pub place_in : (d : Row) (es : List Row) → is_held d es ≡ true → slice_get es (index_of d es) ≡ Some d
 place_in d [] h = absurd cc
 place_in d (e ∷ es) h =
-    place_in_if (same_desc same_text d e) d e es (place_of d es) refl (λ f. place_in d es (or_right (same_desc same_text d e) (stands_in same_text d es) f h))
+    place_in_if (same_desc same_text d e) d e es (index_of d es) refl (λ f. place_in d es (or_right (same_desc same_text d e) (stands_in same_text d es) f h))
 
 or_true : (a : Bool) → a || true ≡ true
 or_true true = refl
@@ -258,18 +259,18 @@ module _ (g : Ground) (make : Row → Row) where
   numbers_back : (d : Row) (rows more : List Row) → learn_to rows d ≡ Some more → Numbers more make → Numbers rows make
   numbers_back d rows more e n = λ k x h. n k x ((is_learned d rows more e).keeps k x h)
 
-  number_is : (d : Row) (rows more : List Row) → learn_to rows d ≡ Some more → Numbers more make → make d ≡ known (slot (place_of d more))
-  number_is d rows more e n = n (place_of d more) d (place_in d more (is_learned d rows more e).is_in)
+  number_is : (d : Row) (rows more : List Row) → learn_to rows d ≡ Some more → Numbers more make → make d ≡ known (slot (index_of d more))
+  number_is d rows more e n = n (index_of d more) d (place_in d more (is_learned d rows more e).is_in)
 
   module _ (d : Row) (f : Row → List Row → Out) (rows : List Row) where
     learned_back : (q : Option (List Row)) → ((more : List Row) → q ≡ Some more → learn_to rows d ≡ Some more) → ((m : Row) (more : List Row) → Numbers (held (f m more)) make → Numbers more make) → Numbers (held (learned q rows d f)) make → Numbers rows make
     learned_back None e b n = n
-    learned_back (Some more) e b n = numbers_back d rows more (e more refl) (b (known (slot (place_of d more))) more n)
+    learned_back (Some more) e b n = numbers_back d rows more (e more refl) (b (known (slot (index_of d more))) more n)
 
     learned_same : (q : Option (List Row)) (r : Res (List ℕ)) → ((more : List Row) → q ≡ Some more → learn_to rows d ≡ Some more) → ((m : Row) (more : List Row) → Numbers (held (f m more)) make → Numbers more make) → ((more : List Row) → Numbers (held (f (make d) more)) make → told (walk see more r) ≡ f (make d) more) → Numbers (held (learned q rows d f)) make → told (on_learned q rows d (λ more. walk see more r)) ≡ learned q rows d f
     learned_same None r e b h n = refl
     learned_same (Some more) r e b h n =
-        let c = number_is d rows more (e more refl) (b (known (slot (place_of d more))) more n) in
+        let c = number_is d rows more (e more refl) (b (known (slot (index_of d more))) more n) in
         h more (subst (λ m. Numbers (held (f m more)) make) (sym c) n) ∙ ap (λ m. f m more) c
 
     agree_learn : (r : Res (List ℕ)) → ((m : Row) (more : List Row) → Numbers (held (f m more)) make → Numbers more make) → ((more : List Row) → Numbers (held (f (make d) more)) make → told (walk see more r) ≡ f (make d) more) → Agree rows (Tell d r) (learn d rows f)

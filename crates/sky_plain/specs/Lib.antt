@@ -12,3 +12,10 @@ pub mod Wave
 pub mod WaveView
 pub mod Stage
 pub mod Perform
+pub mod Ran
+pub mod Settle
+pub mod Sums
+pub mod Latest
+pub mod HeldView
+pub mod Faulty
+pub mod Whole

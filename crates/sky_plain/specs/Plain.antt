@@ -2,7 +2,7 @@
 -- without the numbers of nodes, and with the number of a description in each reference to it.
 use Rattle.std.specs.Prelude.{ℕ, zero, suc, List, [], ◌∷◌, length, reverse, Bool, true, false, ◌&&◌, Option, Some, None, Ok, Err, nat_eq, nat_lt, pos, negsuc}
 use Rattle.sky_base.specs.Val as logic
-use Rattle.sky_base.specs.Val.{Desc, null, truth, num, text, list, fun, ref, no_vals, val, no_pairs, add_val, call, out, input, known, count, refs_to, same_text, same_desc}
+use Rattle.sky_base.specs.Val.{Desc, null, truth, num, text, list, fun, ref, no_vals, val, no_pairs, add_val, call, out, input, known, count, refs_to}
 use Rattle.sky_base.specs.Op as op
 use Rattle.sky_base.specs.Op.{limited, find, put, negated, opposite, len, keys, has, range, grown, dict_from}
 use Rattle.sky_base.specs.Tree.{Place, nowhere, Junction, Sign, SignAt, Form, Exp, Exps, Links, Ands, Steps, Stm, Stms, Arms, Else, FunDef, Script}
@@ -12,6 +12,7 @@ use Rattle.sky_base.specs.See.{slot}
 use Rattle.sky_base.specs.declared.fault.FaultKind.{FaultKind}
 use Rattle.sky_base.specs.declared.fault.Fault.{Fault}
 use Rattle.sky_plain.specs.Walk.{Row, learn_to, known_of, Seen, look}
+use Rattle.sky_plain.specs.Number.{index_of}
 
 abbrev pub Val : Type 0
 Val = logic.Val (List ℕ)
@@ -112,18 +113,9 @@ joins Junction.either v p rows st more = decide v p rows (Out.got (truth true) r
 
 -- ---- descriptions
 
-abbrev pub place_if : Bool → ℕ → ℕ
-place_if true n = zero
-place_if false n = suc n
-
--- the number of a description: its first place
-abbrev pub place_of : Row → List Row → ℕ
-place_of d [] = zero
-place_of d (e ∷ es) = place_if (same_desc same_text d e) (place_of d es)
-
 abbrev pub learned : Option (List Row) → List Row → Row → (Row → List Row → Out) → Out
 learned None rows d k = Out.cut Cutoff.full rows
-learned (Some more) rows d k = k (known (slot (place_of d more))) more
+learned (Some more) rows d k = k (known (slot (index_of d more))) more
 
 -- the name of a description, which is held from then on
 abbrev pub learn : Row → List Row → (Row → List Row → Out) → Out

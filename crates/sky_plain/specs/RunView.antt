@@ -14,7 +14,8 @@ use Rattle.sky_base.specs.Names.{known_of}
 use Rattle.sky_base.specs.See.{slot}
 use Rattle.sky_base.specs.declared.text.Name.{Name}
 use Rattle.sky_plain.specs.Walk.{Row, learn_to}
-use Rattle.sky_plain.specs.Plain.{Obj, Val, Vals, Pairs, Vars, Answer, Cutoff, Out, answer, decide, visit, place_of, outputs_count}
+use Rattle.sky_plain.specs.Number.{index_of}
+use Rattle.sky_plain.specs.Plain.{Obj, Val, Vals, Pairs, Vars, Answer, Cutoff, Out, answer, decide, visit, outputs_count}
 use Rattle.sky_plain.specs.declared.cut.Cut.{Cut}
 use Rattle.sky_plain.specs.declared.cut.Flow.{Flow}
 
@@ -82,7 +83,7 @@ given a p rows st = visit p rows st (λ s. answer a p rows (λ u. Out.got u rows
 
 -- the name of a description that is held now, but for want of memory
 abbrev pub Learns : Result Name Cut → List Row → List Row → Row → Type 0
-Learns (Ok n) old new d = (learn_to old d ≡ Some new) × (slot (place_of d new) ≡ n.bytes)
+Learns (Ok n) old new d = (learn_to old d ≡ Some new) × (slot (index_of d new) ≡ n.bytes)
 Learns (Err c) old new d = c ≢ Cut.Memory → (c ≡ Cut.Full) × (learn_to old d ≡ None) × (new ≡ old)
 
 -- the names of descriptions that are all held now, but for want of memory

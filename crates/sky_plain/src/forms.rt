@@ -13,7 +13,7 @@ ghost use Rattle.sky_base.specs.ObjectView.{desc_view, object_view};
 ghost use Rattle.sky_base.specs.TreeView.{at, at as place, signs_view, sign_view};
 ghost use Rattle.sky_plain.specs.Walk.{Row, look, known_of};
 ghost use Rattle.sky_plain.specs.Plain as plain;
-ghost use Rattle.sky_plain.specs.Plain.{Out, Answer, Vars, visit, formed, spawned, input_of, called, exec_seen, signed, outputs_of};
+ghost use Rattle.sky_plain.specs.Plain.{Val, Out, Answer, Vars, visit, formed, spawned, input_of, called, exec_seen, signed, outputs_of};
 ghost use Rattle.sky_plain.specs.GroundView.{ground_of};
 ghost use Rattle.sky_plain.specs.RunView.{Comes, given, DecidesAt, Learns, LearnsAll, Wanted, WaitsForAll, GoesOn, SignsOn, three_vals, fault_first, cut_of};
 
@@ -73,7 +73,8 @@ pub fn give_exact(
 
 /// By a truth value; BadKind at its place.
 pub fn decide(v: &Value, line: u32, col: u32) -> Result<bool, Cut>
-    ensures { DecidesAt result (view v.now) (at line col) }
+    ensures decides { DecidesAt result (view v.now) (at line col) }
+    ensures truth { IfErr result (λ c. (rows : List Row) (k : Val → Out) → plain.answer (run.truth_of (view v.now)) (at line col) rows k ≡ Out.cut (cut_of c) rows) }
 {
     match truth(v) {
         Ok(b) => Ok(b),

@@ -1,18 +1,26 @@
-// The sequential interpreter: what a job means, computed without an engine. Today it has its parts: the
-// descriptions and the objects that are known, the operators and forms, and the waves of the result.
+// The sequential interpreter: what a job means, computed without an engine. A call's run goes up to its
+// end or to an object that isn't known; then that object is made first, and the run begins anew.
 #![tactic(auto)]
 
 mod cut;
+mod expr;
 mod forms;
 mod funs;
+mod given;
 mod ground;
-pub mod json;
-pub mod objects;
+mod json;
+mod objects;
 mod ops;
-pub mod reader;
-pub mod rows;
-pub mod same;
+pub mod plain;
+mod reader;
+mod rows;
+mod run;
+mod same;
+mod settle;
+mod stack;
 mod state;
+mod stmt;
+mod sum;
 #[cfg(test)]
 mod tests;
-pub mod wave;
+mod wave;

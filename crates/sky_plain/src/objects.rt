@@ -1,6 +1,6 @@
 // The objects that are known, by the numbers of their descriptions, and the names that hold a number.
 
-ghost use Rattle.std.specs.Prelude.{◌≡◌, ◌<◌, ◌≤◌, ◌+◌, ◌^◌, ◌-◌, ℕ, [], None, Some, IfOk, IfSome, MatchOption, min, map, length};
+ghost use Rattle.std.specs.Prelude.{◌≡◌, ◌<◌, ◌≤◌, ◌+◌, ◌^◌, ◌-◌, ℕ, [], None, Some, IfOk, IfErr, IfSome, MatchOption, min, map, length};
 ghost use Rattle.std.specs.Option.{option_map};
 ghost use Rattle.sky_base.specs.Val.{known};
 ghost use Rattle.sky_base.specs.See.{slot};
@@ -78,23 +78,28 @@ impl Objects {
         }
     }
 
-    /// Puts an object under a number. After `Memory` nothing that is known has changed.
+    /// Puts an object under a number. After `Memory` each number still has the object that it had, if it had one; the list
+    /// that contracts see may have more places with none at its end.
     #[tactic(auto, using(crate::proofs::Leaves::knowns))]
     pub fn set(&mut self, number: u32, object: Object) -> Result<(), Memory>
         requires { KeptObject (object_view object) }
-        ensures { IfOk result (λ _. self.new ≡ with_object number (object_view object) self.old) }
+        ensures put { IfOk result (λ _. self.new ≡ with_object number (object_view object) self.old) }
+        ensures err { IfErr result (λ _. (k : ℕ) → object_at self.new k ≡ object_at self.old k) }
     {
         let at = number as usize;
-        pad(&mut self.items, at + 1)?;
+        let Ok(()) = pad(&mut self.items, at + 1) else {
+            return Err(Memory)
+        };
         self.items[at] = Some(object);
         Ok(())
     }
 }
 
-// Puts places at the end, with no object in them, until there are so many.
+// Puts places at the end, with no object in them, until there are so many. Each number keeps its object.
 fn pad(items: &mut Vec<Option<Object>>, count: usize) -> Result<(), Memory>
     ensures long { IfOk result (λ _. count ≤ length items.new.items) }
     ensures same { IfOk result (λ _. (k : ℕ) (o : Obj) → k + 1 ≡ count → with_object k o (map (option_map object_view) items.new.items) ≡ with_object k o (map (option_map object_view) items.old.items)) }
+    ensures places { (k : ℕ) → object_at (map (option_map object_view) items.new.items) k ≡ object_at (map (option_map object_view) items.old.items) k }
     ensures kept { KeptObjects (map (option_map object_view) items.old.items) → KeptObjects (map (option_map object_view) items.new.items) }
 {
     while items.len() < count {

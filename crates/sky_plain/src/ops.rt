@@ -1,11 +1,11 @@
 // The operators that only the interpreter uses, each exactly as the language defines it, and what an
 // operator of a chain makes of two values.
 
-ghost use Rattle.std.specs.Prelude.{◌≡◌, IfOk};
+ghost use Rattle.std.specs.Prelude.{◌≡◌, ◌-ℤ◌, IfOk};
 ghost use Rattle.sky_base.specs.Kept.{Kept};
 ghost use Rattle.sky_base.specs.Val.{no_pairs};
 ghost use Rattle.sky_base.specs.View.{view};
-ghost use Rattle.sky_base.specs.Op.{compare, negated, opposite, len, keys, has, all_keys, dict_from, limited};
+ghost use Rattle.sky_base.specs.Op.{compare, negated, opposite, len, keys, has, range, numbers, span, all_keys, dict_from, limited};
 ghost use Rattle.sky_base.specs.OpView.{Answers, Exactly};
 ghost use Rattle.sky_base.specs.Eval.{oper, truth_of, lit_val};
 ghost use Rattle.sky_base.specs.TreeView.{arith_view, order_view, lit_view};
@@ -146,6 +146,39 @@ pub fn has(v: &Value, key: &Value) -> Result<Value, FaultKind>
         },
         _ => Err(FaultKind::BadKind),
     }
+}
+
+/// The numbers from one up to, and without, another; TooLarge above 262,143 numbers, BadKind at other
+/// kinds.
+#[tactic(auto, using(crate::proofs::Leaves::spans))]
+pub fn range(alloc: Global, from: &Value, to: &Value) -> Result<Value, OpRefusal>
+    ensures answer { Answers result (range (view from.now) (view to.now)) }
+    ensures kept { IfOk result (λ v. Kept (view v)) }
+{
+    let Value::Int(from) = from else {
+        return Err(OpRefusal::Refused(FaultKind::BadKind));
+    };
+    let Value::Int(to) = to else {
+        return Err(OpRefusal::Refused(FaultKind::BadKind));
+    };
+    if *to as i128 - *from as i128 > 262_143 {
+        return Err(OpRefusal::Refused(FaultKind::TooLarge));
+    }
+    let numbers = numbers(alloc, *from, *to)?;
+    Ok(Value::List(numbers))
+}
+
+#[tactic(auto, using(crate::proofs::Leaves::rows_of_numbers))]
+fn numbers(alloc: Global, from: i64, to: i64) -> Result<Vals, Memory>
+    ensures { IfOk result (λ vs. vs ≡ numbers (span (to -ℤ from)) from) }
+{
+    let mut numbers = Vals::new(alloc);
+    let mut next = from;
+    while next < to {
+        numbers.push(Value::Int(next))?;
+        next += 1;
+    }
+    Ok(numbers)
 }
 
 /// The dictionary of these keys and values in turn, where of equal keys the last stands. BadKind where

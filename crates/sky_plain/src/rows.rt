@@ -1,9 +1,12 @@
-// The descriptions that a run holds, each once, under their numbers.
+// The descriptions that a run holds, each once, under their numbers. A description is looked up by its
+// sum, and then compared itself with each that has this sum.
 
 use crate::same::is_same_desc;
+use crate::sum::sum;
 use sky_base::object::Desc1;
 use sky_base::text::Memory;
 use std::alloc::Global;
+use std::collections::BTreeMap;
 use std::marker::Model;
 
 /// How many descriptions a run may hold.
@@ -12,13 +15,22 @@ pub const MOST_ROWS: usize = 65_536;
 /// The descriptions that a run holds, at most 65,536 and each once. Contracts see them as a list.
 #[derive(Drop)]
 pub struct Rows {
-    items: Vec<Desc1>,
+    items: Vec<Held>,
+    // The number of the last description with each sum.
+    latest: BTreeMap<u64, u32>,
+}
+
+// A description, and the number of the last one before it with its sum.
+#[derive(Drop)]
+struct Held {
+    desc: Desc1,
+    earlier: Option<u32>,
 }
 
 impl Model for Rows {
-    ghost use Rattle.std.specs.Prelude.{◌≤◌, List, map, length};
-    ghost use Rattle.sky_base.specs.ObjectView.{desc_view};
+    ghost use Rattle.std.specs.Prelude.{◌≤◌, List, length};
     ghost use Rattle.sky_base.specs.Tasks.{Apart};
+    ghost use Rattle.sky_plain.specs.HeldView.{rows_of, Finds};
     ghost use Rattle.sky_plain.specs.RowCode.{rows_code};
     ghost use Rattle.sky_plain.specs.Walk.{Row, most_rows};
 
@@ -26,9 +38,9 @@ impl Model for Rows {
 
     ghost coded = { rows_code };
 
-    ghost view = { λ a. map desc_view a.items.items };
+    ghost view = { λ a. rows_of a.items.items };
 
-    ghost invariant = { λ a. Apart (map desc_view a.items.items) × (length a.items.items ≤ most_rows) };
+    ghost invariant = { λ a. Apart (rows_of a.items.items) × (length a.items.items ≤ most_rows) × Finds a.latest a.items.items };
 }
 
 impl Rows {
@@ -36,7 +48,7 @@ impl Rows {
     ghost use Rattle.sky_base.specs.Tasks.{Apart};
     ghost use Rattle.sky_base.specs.ObjectView.{desc_view};
     ghost use Rattle.sky_plain.specs.Walk.{learn_to, is_held, most_rows};
-    ghost use Rattle.sky_plain.specs.Plain.{place_of};
+    ghost use Rattle.sky_plain.specs.Number.{index_of};
 
     /// None is held.
     #[tactic(auto, using(crate::proofs::Places::places))]
@@ -45,6 +57,7 @@ impl Rows {
     {
         Rows {
             items: Vec::new(alloc),
+            latest: BTreeMap::new(alloc),
         }
     }
 
@@ -53,7 +66,10 @@ impl Rows {
     pub fn get(&self, number: u32) -> Option<&Desc1>
         ensures { MatchOption result (slice_get self.now number ≡ None) (λ d. slice_get self.now number ≡ Some (desc_view d.now)) }
     {
-        self.items.get(number as usize)
+        match self.items.get(number as usize) {
+            Some(held) => Some(&held.desc),
+            None => None,
+        }
     }
 
     /// How many descriptions are held: at most 65,536, and each once.
@@ -72,7 +88,7 @@ impl Rows {
         requires held { number < length self.now }
         ensures { slice_get self.now number ≡ Some (desc_view result.now) }
     {
-        &self.items[number as usize]
+        &self.items[number as usize].desc
     }
 
     /// The number of a description, if it is held.
@@ -80,11 +96,13 @@ impl Rows {
     pub fn find(&self, desc: &Desc1) -> Option<u32>
         ensures { MatchOption result (is_held (desc_view desc.now) self.now ≡ false) (λ k. slice_get self.now k ≡ Some (desc_view desc.now)) }
     {
-        let items = self.items.as_slice();
-        for (i, held) in items.iter().enumerate() {
-            if is_same_desc(desc, held) {
-                return Some(i as u32);
+        let mut next = self.latest.get(&sum(desc)).copied();
+        while let Some(number) = next {
+            let held = &self.items[number as usize];
+            if is_same_desc(desc, &held.desc) {
+                return Some(number);
             }
+            next = held.earlier;
         }
         None
     }
@@ -95,7 +113,7 @@ impl Rows {
     pub fn learn(&mut self, desc: Desc1) -> Result<Option<u32>, Memory>
         ensures held { IfOk result (λ o. IfSome o (λ k. learn_to self.old (desc_view desc) ≡ Some self.new)) }
         ensures number { IfOk result (λ o. IfSome o (λ k. slice_get self.new k ≡ Some (desc_view desc))) }
-        ensures place { IfOk result (λ o. IfSome o (λ k. place_of (desc_view desc) self.new ≡ k)) }
+        ensures place { IfOk result (λ o. IfSome o (λ k. index_of (desc_view desc) self.new ≡ k)) }
         ensures full { IfOk result (λ o. o ≡ None → learn_to self.old (desc_view desc) ≡ None) }
         ensures kept { IfOk result (λ o. o ≡ None → self.new ≡ self.old) }
         ensures err { IfErr result (λ _. self.new ≡ self.old) }
@@ -123,9 +141,15 @@ impl Rows {
         ensures err { IfErr result (λ _. self.new ≡ self.old) }
     {
         let number = self.items.len() as u32;
-        match self.items.push(desc) {
-            Ok(()) => Ok(number),
-            Err(_) => Err(Memory),
-        }
+        let sum = sum(&desc);
+        let earlier = self.latest.get(&sum).copied();
+        let Ok(()) = self.items.push(Held { desc, earlier }) else {
+            return Err(Memory);
+        };
+        let Ok(_) = self.latest.insert(sum, number) else {
+            let _ = self.items.pop();
+            return Err(Memory);
+        };
+        Ok(number)
     }
 }

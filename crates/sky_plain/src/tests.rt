@@ -4,6 +4,7 @@ use crate::json::Json;
 use crate::objects::{Objects, number_of, slot};
 use crate::reader::Reader;
 use crate::rows::Rows;
+use crate::sum::sum;
 use crate::wave::{Turned, last_turn, turn};
 use sky_base::fault::FaultKind;
 use sky_base::object::{Desc1, Object};
@@ -34,6 +35,69 @@ fn numbers(alloc: Global) -> Result<(Option<u32>, Option<u32>, Option<u32>, bool
 fn each_once(rt: HostRuntime) {
     let found = numbers(rt.alloc());
     assert!(rt; matches!(found, Ok((Some(0), Some(1), Some(0), false))));
+}
+
+// The call of `f` on numbers.
+fn call_on(alloc: Global, numbers: &[i64]) -> Result<Desc1, Memory> {
+    let mut args = Vals::new(alloc);
+    for number in numbers {
+        args.push(Value::Int(*number))?;
+    }
+    Ok(Desc1::Call {
+        fun: Txt::new(alloc, "f")?,
+        args,
+    })
+}
+
+// Whether the calls `f(0)`, `f(1)`, .. are held under their numbers, and then found there, and the next
+// call isn't.
+fn are_found(alloc: Global, count: u32) -> Result<bool, Memory> {
+    let mut rows = Rows::new(alloc);
+    for i in 0..count {
+        if rows.learn(call_on(alloc, &[i as i64])?)? != Some(i) {
+            return Ok(false);
+        }
+    }
+    for i in 0..count {
+        if rows.find(&call_on(alloc, &[i as i64])?) != Some(i) {
+            return Ok(false);
+        }
+    }
+    Ok(rows.find(&call_on(alloc, &[count as i64])?).is_none())
+}
+
+#[test]
+fn many_are_found(rt: HostRuntime) {
+    assert!(rt; matches!(are_found(rt.alloc(), 400), Ok(true)));
+}
+
+// Calls on two numbers, with one sum.
+const OF_ONE_SUM: [[i64; 2]; 3] = [[0, 0], [1, 2358710677322311239], [2, 4717421354644622478]];
+
+// Whether each is held under a number of its own, and found there.
+fn are_apart(alloc: Global) -> Result<bool, Memory> {
+    let mut rows = Rows::new(alloc);
+    let first = sum(&call_on(alloc, &OF_ONE_SUM[0])?);
+    for (i, numbers) in OF_ONE_SUM.iter().enumerate() {
+        let desc = call_on(alloc, numbers)?;
+        if sum(&desc) != first || rows.find(&desc).is_some() {
+            return Ok(false);
+        }
+        if rows.learn(desc)? != Some(i as u32) {
+            return Ok(false);
+        }
+    }
+    for (i, numbers) in OF_ONE_SUM.iter().enumerate() {
+        if rows.find(&call_on(alloc, numbers)?) != Some(i as u32) {
+            return Ok(false);
+        }
+    }
+    Ok(rows.find(&call_on(alloc, &[1, 0])?).is_none())
+}
+
+#[test]
+fn one_sum_is_not_enough(rt: HostRuntime) {
+    assert!(rt; matches!(are_apart(rt.alloc()), Ok(true)));
 }
 
 // The value at the next wave of a list that refers to a number that is known.

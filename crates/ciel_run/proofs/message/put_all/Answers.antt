@@ -1,5 +1,5 @@
 -- The piece at the index is put behind those that were put, or a part of it is.
-use Rattle.std.proofs.Common.{◌≡◌, ◌≤◌, ◌<◌, ◌+◌, ◌++◌, ◌∙◌, ℕ, List, [], Bor, OnErr, length, take, drop, get_or, sym, ap, subst, arith}
+use Rattle.std.proofs.Common.{◌≡◌, ◌<◌, ◌+◌, ◌++◌, ◌∙◌, ℕ, List, [], Bor, length, take, drop, sym, ap, subst, arith}
 use Rattle.ciel_io.specs.Tells.{Tells, TellsPart}
 use Rattle.ciel_run.proofs.Pieces.{joined, joined_next, joined_parts, tells_more, part_more, on_err}
 use Rattle.ciel_run.proofs.message.put_all.Goals as goal

@@ -1,5 +1,5 @@
 -- What was put is the message of the end.
-use Rattle.std.proofs.Common.{◌≡◌, ◌∙◌, ℕ, List, [], ◌∷◌, codes, decimal, OnOk, OnErr, sym, ap, ap₂, subst}
+use Rattle.std.proofs.Common.{◌≡◌, ◌∙◌, ℕ, List, [], ◌∷◌, codes, OnOk, OnErr, sym, ap, ap₂, subst}
 use Rattle.std.specs.List.{concat}
 use Rattle.ciel_io.specs.Tells.{Tells, TellsPart}
 use Rattle.ciel_run.specs.Message.{placed, counted, message_of}

@@ -1,6 +1,7 @@
 use Rattle.std.proofs.Common.{◌≡◌, ◌+◌, ◌-◌, ℕ, map, length}
 use Rattle.std.specs.Option.{option_map}
 use Rattle.sky_base.specs.ObjectView.{object_view}
+use Rattle.sky_plain.specs.Walk.{object_at}
 use Rattle.sky_plain.specs.Known.{with_object, KeptObjects}
 use Rattle.sky_plain.specs.Plain.{Obj}
 use Rattle.sky_plain.proofs.objects.pad.Given as goal
@@ -8,6 +9,7 @@ use Rattle.sky_plain.proofs.objects.pad.Given as goal
 abbrev pub invariant-loop-items : goal.invariant-loop-items
 invariant-loop-items l = record {
   same : (k : ℕ) (o : Obj) → k + 1 ≡ l.count → with_object k o (map (option_map object_view) l.items.items) ≡ with_object k o (map (option_map object_view) l.initial.items.items);
+  places : (k : ℕ) → object_at (map (option_map object_view) l.items.items) k ≡ object_at (map (option_map object_view) l.initial.items.items) k;
   kept : KeptObjects (map (option_map object_view) l.initial.items.items) → KeptObjects (map (option_map object_view) l.items.items);
 }
 

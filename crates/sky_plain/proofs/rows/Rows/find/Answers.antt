@@ -1,8 +1,22 @@
-use Rattle.std.proofs.Common.{Some, slice_get, sym, ap, ◌∙◌}
+use Rattle.std.proofs.Common.{sym, ◌∙◌, false}
 use Rattle.sky_base.specs.ObjectView.{desc_view}
-use Rattle.sky_plain.proofs.Places.{held-here, same_is}
+use Rattle.sky_plain.proofs.Found.{leads-next, falls-next, found, leads-none}
+use Rattle.sky_plain.specs.HeldView.{rows_of}
 use Rattle.sky_plain.proofs.rows.Rows.find.Goals as goal
 
 pub returns-then-is_same_desc : goal.returns-then-is_same_desc
 returns-then-is_same_desc c =
-    ap (λ x. slice_get x c.loop-i.i) c.loop-i.invariant.seen ∙ held-here c.as_slice-items.result.now c.loop-i.i c.index-items-i.result c.loop-i-test.true c.index-items-i.is ∙ ap Some (sym (same_is (desc_view c.args.desc.now) (desc_view c.index-items-i.result) (sym c.is_same_desc.ensures ∙ c.if-is_same_desc.true)))
+    let e = found c.self.inside.items.items (desc_view c.args.desc.now) c.loop-next.next c.in-Some.number c.index-held.result.now c.loop-next.invariant c.in-Some.is c.index-held.ensures (sym c.is_same_desc.ensures ∙ c.if-is_same_desc.true) in
+    rw (← c.self.view_is) e
+
+pub loop-next-smaller : goal.loop-next-smaller
+loop-next-smaller c =
+    falls-next c.self.inside.items.items (desc_view c.args.desc.now) c.loop-next.next c.in-Some.number c.index-held.result.now c.self.inside.latest c.loop-next.invariant c.in-Some.is c.index-held.ensures c.self.invariant.2
+
+pub loop-next-preserved : goal.loop-next-preserved
+loop-next-preserved c =
+    leads-next c.self.inside.items.items (desc_view c.args.desc.now) c.loop-next.next c.in-Some.number c.index-held.result.now c.self.inside.latest c.loop-next.invariant c.in-Some.is c.index-held.ensures c.self.invariant.2 (sym c.is_same_desc.ensures ∙ c.if-is_same_desc.false)
+
+pub returns : goal.returns
+returns c =
+    rw (← c.self.view_is) (leads-none (rows_of c.self.inside.items.items) (desc_view c.args.desc.now) c.loop-next.next c.loop-next.invariant c.in_default.is)

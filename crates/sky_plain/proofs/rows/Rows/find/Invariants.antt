@@ -1,10 +1,12 @@
-use Rattle.std.proofs.Common.{◌≡◌, map, drop}
+use Rattle.std.proofs.Common.{suc}
+use Rattle.std.specs.Option.{option_map_or}
 use Rattle.sky_base.specs.ObjectView.{desc_view}
-use Rattle.sky_plain.specs.Walk.{is_held}
+use Rattle.sky_plain.specs.HeldView.{rows_of}
+use Rattle.sky_plain.proofs.Found.{Leads}
 use Rattle.sky_plain.proofs.rows.Rows.find.Given as goal
 
-abbrev pub invariant-loop-i : goal.invariant-loop-i
-invariant-loop-i l = record {
-  seen : l.self ≡ map desc_view l.items;
-  rest : is_held (desc_view l.desc) l.self ≡ is_held (desc_view l.desc) (map desc_view (drop l.i l.items));
-}
+abbrev pub invariant-loop-next : goal.invariant-loop-next
+invariant-loop-next l = Leads (rows_of l.self-inside.items.items) (desc_view l.desc) l.next
+
+abbrev pub decreases-loop-next : goal.decreases-loop-next
+decreases-loop-next l = option_map_or suc l.next 0

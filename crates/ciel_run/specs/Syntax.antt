@@ -1,0 +1,36 @@
+-- Which bytes are no script, why and where.
+use Rattle.std.specs.Prelude.{◌≡◌, ℕ, List, [], Some, None, Err, length}
+use Rattle.sky_base.specs.Tree.{Place}
+use Rattle.sky_base.specs.TreeView.{at}
+use Rattle.sky_text.specs.Lexing.{tokens_of}
+use Rattle.sky_text.specs.Place.{place_of}
+use Rattle.sky_text.specs.declared.lex.LexRefusal.{LexRefusal}
+use Rattle.sky_text.specs.declared.token.Token.{Token}
+use Rattle.sky_parse.specs.Names.{same_names}
+use Rattle.sky_parse.specs.Nesting.{too_nested}
+use Rattle.sky_parse.specs.Parsed.{RefusedAt}
+use Rattle.sky_parse.specs.Tops.{Top, Spells}
+use Rattle.ciel_run.specs.Source.{HasTokens}
+use Rattle.ciel_run.specs.declared.top.SyntaxKind.{SyntaxKind}
+
+-- the bytes are refused so before they have tokens, at the byte of this place
+abbrev pub NoTokens : (ℕ → LexRefusal) → List ℕ → ℕ → ℕ → Type 0
+NoTokens refusal source line col = (byte : ℕ) × (tokens_of source ≡ Err (refusal byte)) × (place_of source byte ≡ (line, col))
+
+-- the place behind the last byte
+abbrev pub end_of : List ℕ → Place
+end_of source = at (place_of source (length source)).0 (place_of source (length source)).1
+
+-- the bytes are no script: their first refusal is of this kind, at this line and column
+abbrev pub IsSyntaxFault : List ℕ → SyntaxKind → ℕ → ℕ → Type 0
+IsSyntaxFault source SyntaxKind.BadByte line col = NoTokens (λ byte. LexRefusal.BadByte byte) source line col
+IsSyntaxFault source SyntaxKind.OpenText line col = NoTokens (λ byte. LexRefusal.OpenText byte) source line col
+IsSyntaxFault source SyntaxKind.BadEscape line col = NoTokens (λ byte. LexRefusal.BadEscape byte) source line col
+IsSyntaxFault source SyntaxKind.BigNumber line col = NoTokens (λ byte. LexRefusal.BigNumber byte) source line col
+IsSyntaxFault source SyntaxKind.TooNested line col =
+    (ts : List Token) × HasTokens source ts × (too_nested 0 ts ≡ Some (at line col))
+IsSyntaxFault source SyntaxKind.NoSentence line col =
+    (ts : List Token) × HasTokens source ts × (too_nested 0 ts ≡ None) × RefusedAt ts (end_of source) (at line col)
+IsSyntaxFault source SyntaxKind.SameName line col =
+    (ts : List Token) × (tops : List Top) × HasTokens source ts × (too_nested 0 ts ≡ None) × Spells tops ts
+    × (same_names [] tops ≡ Some (at line col))

@@ -1,0 +1,28 @@
+// Laws of the ends, over the definitions alone. The clause `complete` of the top call tells each end
+// with its cause, and by these laws the causes of refusals exclude each other and all that a script
+// comes to: so bytes that are refused are refused in exactly one way, at exactly one place, but for
+// want of memory. Each is the contract of a function that does nothing.
+
+ghost use Rattle.ciel_run.specs.Laws.{LaterWordIsRefused, NoScriptIsRefused, ScriptIsRun, TooLongIsRefused};
+
+/// Bytes that are no script are refused by the kind and at the place of their first refusal, and for
+/// nothing else: the kind and the place are one.
+pub fn no_script_is_refused()
+    ensures { NoScriptIsRefused }
+{}
+
+/// Bytes that have tokens, some of them words that aren't built, are refused at the place of the first
+/// such word, and for nothing else.
+pub fn later_word_is_refused()
+    ensures { LaterWordIsRefused }
+{}
+
+/// Bytes that are a script are one, and the end is what the job of that one comes to.
+pub fn script_is_run()
+    ensures { ScriptIsRun }
+{}
+
+/// Bytes that are too many are refused as such.
+pub fn too_long_is_refused()
+    ensures { TooLongIsRefused }
+{}

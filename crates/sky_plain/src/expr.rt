@@ -1,0 +1,599 @@
+// The value of an expression. The functions call each other down the tree, and at a call a body is run;
+// chains and signs are loops. A form gets the values of its parts first, and is then visited.
+
+ghost use Rattle.std.specs.Prelude.{◌≡◌, ◌≤◌, IfOk};
+ghost use Rattle.sky_base.specs.Kept.{Kept};
+ghost use Rattle.sky_base.specs.Tree.{Exp, Oper, Form, nodes, exps_nodes, links_nodes, ands_nodes, steps_nodes, script_nodes};
+ghost use Rattle.sky_base.specs.Tree as tree;
+ghost use Rattle.sky_base.specs.TreeView.{at, one, two, three, order_view, signs_view, exp_view, links_view, ands_view, steps_view, step_view, step_nodes, arith_view};
+ghost use Rattle.sky_base.specs.Val.{no_vals};
+ghost use Rattle.sky_base.specs.View.{view};
+ghost use Rattle.sky_plain.specs.GroundView.{ground_of};
+ghost use Rattle.sky_plain.specs.Plain.{exp, values, links, ands, steps, opened, body_at};
+ghost use Rattle.sky_plain.specs.RunView.{Comes, Lists, KeptVals, junction};
+
+use crate::cut::{Cut, Flow};
+use crate::forms::{callee, decide, exec, give, input, named, signs, spawn, spawn_exec};
+use crate::given::{
+    compared_given, dict_given, has_given, keys_given, len_given, list_given, literal_given,
+    range_given,
+};
+use crate::ground::Ground;
+use crate::ops::apply;
+use crate::reader::Reader;
+use crate::rows::Rows;
+use crate::state::State;
+use crate::stmt::body;
+use sky_base::op::index;
+use sky_base::tree::{Cmp, Expr, Exprs, Join, Joins, Link, Links, SignAt, Step, Steps, Sub};
+use sky_base::value::{Vals, Value};
+
+/// The value of an expression.
+#[cycle(run)]
+#[tactic(auto, using(crate::proofs::RunRules::run_rules))]
+pub fn expr<R: Reader>(
+    ground: &Ground<R>,
+    rows: &mut Rows,
+    state: &mut State,
+    bodies: u32,
+    e: &Expr,
+) -> Result<Value, Cut>
+    requires { nodes (exp_view e.now) ≤ script_nodes ground.now.script.now }
+    ensures answer { Comes result rows.new state.new (exp (ground_of R.reads ground.now) (body_at (ground_of R.reads ground.now) bodies) (exp_view e.now) rows.old state.old) }
+    ensures kept { IfOk result (λ v. Kept (view v)) }
+{
+    match e {
+        Expr::Literal { value, line, col } => literal_given(state, value, *line, *col),
+        Expr::Name { name, line, col } => named(ground, state, name, *line, *col),
+        Expr::Parens { inner } => expr(ground, rows, state, bodies, inner.get()),
+        Expr::List { items, line, col } => list_of(ground, rows, state, bodies, items, *line, *col),
+        Expr::Dict { items, line, col } => dict_of(ground, rows, state, bodies, items, *line, *col),
+        Expr::Chain { first, rest } => chain(ground, rows, state, bodies, first, rest),
+        Expr::Compare {
+            left,
+            how,
+            line,
+            col,
+            right,
+        } => compare(ground, rows, state, bodies, left, *how, *line, *col, right),
+        Expr::And { first, rest } => logic(ground, rows, state, bodies, false, first, rest),
+        Expr::Or { first, rest } => logic(ground, rows, state, bodies, true, first, rest),
+        Expr::Prefix { signs: of, operand } => prefix(ground, rows, state, bodies, of, operand),
+        Expr::Postfix { first, rest } => postfix(ground, rows, state, bodies, first, rest),
+        Expr::Spawn {
+            fun,
+            args,
+            line,
+            col,
+        } => spawn_of(ground, rows, state, bodies, fun, args, *line, *col),
+        Expr::SpawnExec {
+            executor,
+            args,
+            outputs,
+            line,
+            col,
+        } => spawn_exec_of(
+            ground, rows, state, bodies, executor, args, outputs, *line, *col,
+        ),
+        Expr::Exec {
+            executor,
+            args,
+            outputs,
+            line,
+            col,
+        } => exec_of(
+            ground, rows, state, bodies, executor, args, outputs, *line, *col,
+        ),
+        Expr::Ref { key, line, col } => ref_of(ground, rows, state, bodies, key, *line, *col),
+        Expr::Len { of, line, col } => len_of(ground, rows, state, bodies, of, *line, *col),
+        Expr::Keys { of, line, col } => keys_of(ground, rows, state, bodies, of, *line, *col),
+        Expr::Has {
+            dict,
+            key,
+            line,
+            col,
+        } => has_of(ground, rows, state, bodies, dict, key, *line, *col),
+        Expr::Range {
+            from,
+            to,
+            line,
+            col,
+        } => range_of(ground, rows, state, bodies, from, to, *line, *col),
+    }
+}
+
+/// The value of a list's literal.
+#[cycle(run)]
+#[tactic(auto, using(crate::proofs::RunRules::run_rules))]
+fn list_of<R: Reader>(
+    ground: &Ground<R>,
+    rows: &mut Rows,
+    state: &mut State,
+    bodies: u32,
+    items: &Exprs,
+    line: u32,
+    col: u32,
+) -> Result<Value, Cut>
+    requires { nodes (Exp.parts Form.list (at line col) items.now) ≤ script_nodes ground.now.script.now }
+    ensures answer { Comes result rows.new state.new (exp (ground_of R.reads ground.now) (body_at (ground_of R.reads ground.now) bodies) (Exp.parts Form.list (at line col) items.now) rows.old state.old) }
+    ensures kept { IfOk result (λ v. Kept (view v)) }
+{
+    let vs = values(ground, rows, state, bodies, items)?;
+    list_given(state, vs, line, col)
+}
+
+/// The value of a dictionary's literal.
+#[cycle(run)]
+#[tactic(auto, using(crate::proofs::RunRules::run_rules))]
+fn dict_of<R: Reader>(
+    ground: &Ground<R>,
+    rows: &mut Rows,
+    state: &mut State,
+    bodies: u32,
+    items: &Exprs,
+    line: u32,
+    col: u32,
+) -> Result<Value, Cut>
+    requires { nodes (Exp.parts Form.dict (at line col) items.now) ≤ script_nodes ground.now.script.now }
+    ensures answer { Comes result rows.new state.new (exp (ground_of R.reads ground.now) (body_at (ground_of R.reads ground.now) bodies) (Exp.parts Form.dict (at line col) items.now) rows.old state.old) }
+    ensures kept { IfOk result (λ v. Kept (view v)) }
+{
+    let vs = values(ground, rows, state, bodies, items)?;
+    dict_given(state, ground.alloc, &vs, line, col)
+}
+
+/// The value of a chain of operators.
+#[cycle(run)]
+#[tactic(auto, using(crate::proofs::RunRules::run_rules))]
+fn chain<R: Reader>(
+    ground: &Ground<R>,
+    rows: &mut Rows,
+    state: &mut State,
+    bodies: u32,
+    first: &Sub,
+    rest: &Links,
+) -> Result<Value, Cut>
+    requires { nodes (Exp.chain first.now rest.now) ≤ script_nodes ground.now.script.now }
+    ensures answer { Comes result rows.new state.new (exp (ground_of R.reads ground.now) (body_at (ground_of R.reads ground.now) bodies) (Exp.chain first.now rest.now) rows.old state.old) }
+    ensures kept { IfOk result (λ v. Kept (view v)) }
+{
+    let v = expr(ground, rows, state, bodies, first.get())?;
+    links(ground, rows, state, bodies, v, rest.as_slice())
+}
+
+/// The value of a comparison.
+#[cycle(run)]
+#[tactic(auto, using(crate::proofs::RunRules::run_rules))]
+fn compare<R: Reader>(
+    ground: &Ground<R>,
+    rows: &mut Rows,
+    state: &mut State,
+    bodies: u32,
+    left: &Sub,
+    how: Cmp,
+    line: u32,
+    col: u32,
+    right: &Sub,
+) -> Result<Value, Cut>
+    requires { nodes (Exp.chain left.now (tree.link (Oper.compare (order_view how)) (at line col) right.now tree.no_links)) ≤ script_nodes ground.now.script.now }
+    ensures answer { Comes result rows.new state.new (exp (ground_of R.reads ground.now) (body_at (ground_of R.reads ground.now) bodies) (Exp.chain left.now (tree.link (Oper.compare (order_view how)) (at line col) right.now tree.no_links)) rows.old state.old) }
+    ensures kept { IfOk result (λ v. Kept (view v)) }
+{
+    let a = expr(ground, rows, state, bodies, left.get())?;
+    let b = expr(ground, rows, state, bodies, right.get())?;
+    compared_given(state, how, &a, &b, line, col)
+}
+
+/// The value of a chain of `&&`, or of `||`, which stops at true.
+#[cycle(run)]
+#[tactic(auto, using(crate::proofs::RunRules::run_rules))]
+fn logic<R: Reader>(
+    ground: &Ground<R>,
+    rows: &mut Rows,
+    state: &mut State,
+    bodies: u32,
+    stop: bool,
+    first: &Sub,
+    rest: &Joins,
+) -> Result<Value, Cut>
+    requires { nodes (Exp.logic (junction stop) first.now rest.now) ≤ script_nodes ground.now.script.now }
+    ensures answer { Comes result rows.new state.new (exp (ground_of R.reads ground.now) (body_at (ground_of R.reads ground.now) bodies) (Exp.logic (junction stop) first.now rest.now) rows.old state.old) }
+    ensures kept { IfOk result (λ v. Kept (view v)) }
+{
+    let v = expr(ground, rows, state, bodies, first.get())?;
+    joins(ground, rows, state, bodies, stop, v, rest.as_slice())
+}
+
+/// The value of an operand under signs.
+#[cycle(run)]
+#[tactic(auto, using(crate::proofs::RunRules::run_rules))]
+fn prefix<R: Reader>(
+    ground: &Ground<R>,
+    rows: &mut Rows,
+    state: &mut State,
+    bodies: u32,
+    of: &[SignAt],
+    operand: &Sub,
+) -> Result<Value, Cut>
+    requires { nodes (Exp.prefix (signs_view of.now) operand.now) ≤ script_nodes ground.now.script.now }
+    ensures answer { Comes result rows.new state.new (exp (ground_of R.reads ground.now) (body_at (ground_of R.reads ground.now) bodies) (Exp.prefix (signs_view of.now) operand.now) rows.old state.old) }
+    ensures kept { IfOk result (λ v. Kept (view v)) }
+{
+    let v = expr(ground, rows, state, bodies, operand.get())?;
+    signs(ground, state, of, v)
+}
+
+/// The value of an operand with indices and calls.
+#[cycle(run)]
+#[tactic(auto, using(crate::proofs::RunRules::run_rules))]
+fn postfix<R: Reader>(
+    ground: &Ground<R>,
+    rows: &mut Rows,
+    state: &mut State,
+    bodies: u32,
+    first: &Sub,
+    rest: &Steps,
+) -> Result<Value, Cut>
+    requires { nodes (Exp.postfix first.now rest.now) ≤ script_nodes ground.now.script.now }
+    ensures answer { Comes result rows.new state.new (exp (ground_of R.reads ground.now) (body_at (ground_of R.reads ground.now) bodies) (Exp.postfix first.now rest.now) rows.old state.old) }
+    ensures kept { IfOk result (λ v. Kept (view v)) }
+{
+    let v = expr(ground, rows, state, bodies, first.get())?;
+    steps(ground, rows, state, bodies, v, rest.as_slice())
+}
+
+/// The reference that `spawn` gives.
+#[cycle(run)]
+#[tactic(auto, using(crate::proofs::RunRules::run_rules))]
+fn spawn_of<R: Reader>(
+    ground: &Ground<R>,
+    rows: &mut Rows,
+    state: &mut State,
+    bodies: u32,
+    fun: &Sub,
+    args: &Sub,
+    line: u32,
+    col: u32,
+) -> Result<Value, Cut>
+    requires { nodes (Exp.parts Form.spawn (at line col) (two fun.now args.now)) ≤ script_nodes ground.now.script.now }
+    ensures answer { Comes result rows.new state.new (exp (ground_of R.reads ground.now) (body_at (ground_of R.reads ground.now) bodies) (Exp.parts Form.spawn (at line col) (two fun.now args.now)) rows.old state.old) }
+    ensures kept { IfOk result (λ v. Kept (view v)) }
+{
+    let f = expr(ground, rows, state, bodies, fun.get())?;
+    let a = expr(ground, rows, state, bodies, args.get())?;
+    spawn(ground, rows, state, &f, &a, line, col)
+}
+
+/// The references that `spawn_exec` gives.
+#[cycle(run)]
+#[tactic(auto, using(crate::proofs::RunRules::run_rules))]
+fn spawn_exec_of<R: Reader>(
+    ground: &Ground<R>,
+    rows: &mut Rows,
+    state: &mut State,
+    bodies: u32,
+    executor: &Sub,
+    args: &Sub,
+    outputs: &Sub,
+    line: u32,
+    col: u32,
+) -> Result<Value, Cut>
+    requires { nodes (Exp.parts Form.spawn_exec (at line col) (three executor.now args.now outputs.now)) ≤ script_nodes ground.now.script.now }
+    ensures answer { Comes result rows.new state.new (exp (ground_of R.reads ground.now) (body_at (ground_of R.reads ground.now) bodies) (Exp.parts Form.spawn_exec (at line col) (three executor.now args.now outputs.now)) rows.old state.old) }
+    ensures kept { IfOk result (λ v. Kept (view v)) }
+{
+    let x = expr(ground, rows, state, bodies, executor.get())?;
+    let a = expr(ground, rows, state, bodies, args.get())?;
+    let n = expr(ground, rows, state, bodies, outputs.get())?;
+    spawn_exec(ground, rows, state, &x, &a, &n, line, col)
+}
+
+/// The references that `exec` gives.
+#[cycle(run)]
+#[tactic(auto, using(crate::proofs::RunRules::run_rules))]
+fn exec_of<R: Reader>(
+    ground: &Ground<R>,
+    rows: &mut Rows,
+    state: &mut State,
+    bodies: u32,
+    executor: &Sub,
+    args: &Sub,
+    outputs: &Sub,
+    line: u32,
+    col: u32,
+) -> Result<Value, Cut>
+    requires { nodes (Exp.parts Form.exec (at line col) (three executor.now args.now outputs.now)) ≤ script_nodes ground.now.script.now }
+    ensures answer { Comes result rows.new state.new (exp (ground_of R.reads ground.now) (body_at (ground_of R.reads ground.now) bodies) (Exp.parts Form.exec (at line col) (three executor.now args.now outputs.now)) rows.old state.old) }
+    ensures kept { IfOk result (λ v. Kept (view v)) }
+{
+    let x = expr(ground, rows, state, bodies, executor.get())?;
+    let a = expr(ground, rows, state, bodies, args.get())?;
+    let n = expr(ground, rows, state, bodies, outputs.get())?;
+    exec(ground, rows, state, &x, &a, &n, line, col)
+}
+
+/// The reference to an input.
+#[cycle(run)]
+#[tactic(auto, using(crate::proofs::RunRules::run_rules))]
+fn ref_of<R: Reader>(
+    ground: &Ground<R>,
+    rows: &mut Rows,
+    state: &mut State,
+    bodies: u32,
+    key: &Sub,
+    line: u32,
+    col: u32,
+) -> Result<Value, Cut>
+    requires { nodes (Exp.parts Form.ref (at line col) (one key.now)) ≤ script_nodes ground.now.script.now }
+    ensures answer { Comes result rows.new state.new (exp (ground_of R.reads ground.now) (body_at (ground_of R.reads ground.now) bodies) (Exp.parts Form.ref (at line col) (one key.now)) rows.old state.old) }
+    ensures kept { IfOk result (λ v. Kept (view v)) }
+{
+    let k = expr(ground, rows, state, bodies, key.get())?;
+    input(ground, rows, state, &k, line, col)
+}
+
+/// The length of a value.
+#[cycle(run)]
+#[tactic(auto, using(crate::proofs::RunRules::run_rules))]
+fn len_of<R: Reader>(
+    ground: &Ground<R>,
+    rows: &mut Rows,
+    state: &mut State,
+    bodies: u32,
+    of: &Sub,
+    line: u32,
+    col: u32,
+) -> Result<Value, Cut>
+    requires { nodes (Exp.parts Form.len (at line col) (one of.now)) ≤ script_nodes ground.now.script.now }
+    ensures answer { Comes result rows.new state.new (exp (ground_of R.reads ground.now) (body_at (ground_of R.reads ground.now) bodies) (Exp.parts Form.len (at line col) (one of.now)) rows.old state.old) }
+    ensures kept { IfOk result (λ v. Kept (view v)) }
+{
+    let v = expr(ground, rows, state, bodies, of.get())?;
+    len_given(state, &v, line, col)
+}
+
+/// The keys of a dictionary.
+#[cycle(run)]
+#[tactic(auto, using(crate::proofs::RunRules::run_rules))]
+fn keys_of<R: Reader>(
+    ground: &Ground<R>,
+    rows: &mut Rows,
+    state: &mut State,
+    bodies: u32,
+    of: &Sub,
+    line: u32,
+    col: u32,
+) -> Result<Value, Cut>
+    requires { nodes (Exp.parts Form.keys (at line col) (one of.now)) ≤ script_nodes ground.now.script.now }
+    ensures answer { Comes result rows.new state.new (exp (ground_of R.reads ground.now) (body_at (ground_of R.reads ground.now) bodies) (Exp.parts Form.keys (at line col) (one of.now)) rows.old state.old) }
+    ensures kept { IfOk result (λ v. Kept (view v)) }
+{
+    let v = expr(ground, rows, state, bodies, of.get())?;
+    keys_given(state, ground.alloc, &v, line, col)
+}
+
+/// Whether a dictionary has a key.
+#[cycle(run)]
+#[tactic(auto, using(crate::proofs::RunRules::run_rules))]
+fn has_of<R: Reader>(
+    ground: &Ground<R>,
+    rows: &mut Rows,
+    state: &mut State,
+    bodies: u32,
+    dict: &Sub,
+    key: &Sub,
+    line: u32,
+    col: u32,
+) -> Result<Value, Cut>
+    requires { nodes (Exp.parts Form.has (at line col) (two dict.now key.now)) ≤ script_nodes ground.now.script.now }
+    ensures answer { Comes result rows.new state.new (exp (ground_of R.reads ground.now) (body_at (ground_of R.reads ground.now) bodies) (Exp.parts Form.has (at line col) (two dict.now key.now)) rows.old state.old) }
+    ensures kept { IfOk result (λ v. Kept (view v)) }
+{
+    let d = expr(ground, rows, state, bodies, dict.get())?;
+    let k = expr(ground, rows, state, bodies, key.get())?;
+    has_given(state, &d, &k, line, col)
+}
+
+/// A list of numbers in turn.
+#[cycle(run)]
+#[tactic(auto, using(crate::proofs::RunRules::run_rules))]
+fn range_of<R: Reader>(
+    ground: &Ground<R>,
+    rows: &mut Rows,
+    state: &mut State,
+    bodies: u32,
+    from: &Sub,
+    to: &Sub,
+    line: u32,
+    col: u32,
+) -> Result<Value, Cut>
+    requires { nodes (Exp.parts Form.range (at line col) (two from.now to.now)) ≤ script_nodes ground.now.script.now }
+    ensures answer { Comes result rows.new state.new (exp (ground_of R.reads ground.now) (body_at (ground_of R.reads ground.now) bodies) (Exp.parts Form.range (at line col) (two from.now to.now)) rows.old state.old) }
+    ensures kept { IfOk result (λ v. Kept (view v)) }
+{
+    let a = expr(ground, rows, state, bodies, from.get())?;
+    let b = expr(ground, rows, state, bodies, to.get())?;
+    range_given(state, ground.alloc, &a, &b, line, col)
+}
+
+/// The values of expressions, in order.
+#[cycle(run)]
+#[tactic(auto, using(crate::proofs::RunRules::run_rules))]
+fn values<R: Reader>(
+    ground: &Ground<R>,
+    rows: &mut Rows,
+    state: &mut State,
+    bodies: u32,
+    es: &Exprs,
+) -> Result<Vals, Cut>
+    requires { exps_nodes es.now ≤ script_nodes ground.now.script.now }
+    ensures answer { Lists result rows.new state.new (values (ground_of R.reads ground.now) (body_at (ground_of R.reads ground.now) bodies) es.now no_vals rows.old state.old) }
+    ensures kept { IfOk result KeptVals }
+{
+    let mut vs = Vals::new(ground.alloc);
+    for e in es.as_slice() {
+        let v = expr(ground, rows, state, bodies, e)?;
+        vs.push(v)?;
+    }
+    Ok(vs)
+}
+
+/// What the operators of a chain make of its first value.
+#[cycle(run)]
+#[tactic(auto, using(crate::proofs::RunRules::run_rules))]
+fn links<R: Reader>(
+    ground: &Ground<R>,
+    rows: &mut Rows,
+    state: &mut State,
+    bodies: u32,
+    first: Value,
+    rest: &[Link],
+) -> Result<Value, Cut>
+    requires fits { links_nodes (links_view rest.now) ≤ script_nodes ground.now.script.now }
+    requires kept { Kept (view first) }
+    ensures answer { Comes result rows.new state.new (links (ground_of R.reads ground.now) (body_at (ground_of R.reads ground.now) bodies) (links_view rest.now) (view first) rows.old state.old) }
+    ensures kept { IfOk result (λ v. Kept (view v)) }
+{
+    let mut v = first;
+    for link in rest {
+        v = linked(ground, rows, state, bodies, &v, link)?;
+    }
+    Ok(v)
+}
+
+/// What one operator of a chain makes of the value before it.
+#[cycle(run)]
+#[tactic(auto, using(crate::proofs::RunRules::run_rules))]
+fn linked<R: Reader>(
+    ground: &Ground<R>,
+    rows: &mut Rows,
+    state: &mut State,
+    bodies: u32,
+    v: &Value,
+    link: &Link,
+) -> Result<Value, Cut>
+    requires fits { nodes (exp_view link.now.operand) ≤ script_nodes ground.now.script.now }
+    requires kept { Kept (view v.now) }
+    ensures answer { Comes result rows.new state.new (links (ground_of R.reads ground.now) (body_at (ground_of R.reads ground.now) bodies) (tree.link (arith_view link.now.op) (at link.now.line link.now.col) (exp_view link.now.operand) tree.no_links) (view v.now) rows.old state.old) }
+    ensures kept { IfOk result (λ v. Kept (view v)) }
+{
+    let right = expr(ground, rows, state, bodies, &link.operand)?;
+    give(
+        state,
+        apply(ground.alloc, link.op, v, &right),
+        link.line,
+        link.col,
+    )
+}
+
+/// What a chain of `&&`, which stops at false, or of `||`, which stops at true, makes of its first
+/// value.
+#[cycle(run)]
+#[tactic(auto, using(crate::proofs::RunRules::run_rules))]
+fn joins<R: Reader>(
+    ground: &Ground<R>,
+    rows: &mut Rows,
+    state: &mut State,
+    bodies: u32,
+    stop: bool,
+    first: Value,
+    rest: &[Join],
+) -> Result<Value, Cut>
+    requires fits { ands_nodes (ands_view rest.now) ≤ script_nodes ground.now.script.now }
+    requires kept { Kept (view first) }
+    ensures answer { Comes result rows.new state.new (ands (ground_of R.reads ground.now) (body_at (ground_of R.reads ground.now) bodies) (ands_view rest.now) (junction stop) (at 0 0) (view first) rows.old state.old) }
+    ensures kept { IfOk result (λ v. Kept (view v)) }
+{
+    let mut v = first;
+    let mut line = 0;
+    let mut col = 0;
+    for join in rest {
+        line = join.line;
+        col = join.col;
+        state.visit(line, col)?;
+        if decide(&v, line, col)? == stop {
+            return Ok(Value::Bool(stop));
+        }
+        v = expr(ground, rows, state, bodies, &join.operand)?;
+    }
+    Ok(Value::Bool(decide(&v, line, col)?))
+}
+
+/// What indices and calls make of a value.
+#[cycle(run)]
+#[tactic(auto, using(crate::proofs::RunRules::run_rules))]
+fn steps<R: Reader>(
+    ground: &Ground<R>,
+    rows: &mut Rows,
+    state: &mut State,
+    bodies: u32,
+    first: Value,
+    rest: &[Step],
+) -> Result<Value, Cut>
+    requires fits { steps_nodes (steps_view rest.now) ≤ script_nodes ground.now.script.now }
+    requires kept { Kept (view first) }
+    ensures answer { Comes result rows.new state.new (steps (ground_of R.reads ground.now) (body_at (ground_of R.reads ground.now) bodies) (steps_view rest.now) (view first) rows.old state.old) }
+    ensures kept { IfOk result (λ v. Kept (view v)) }
+{
+    let mut v = first;
+    for step in rest {
+        v = stepped(ground, rows, state, bodies, &v, step)?;
+    }
+    Ok(v)
+}
+
+/// What one index or call makes of the value before it.
+#[cycle(run)]
+#[tactic(auto, using(crate::proofs::RunRules::run_rules))]
+fn stepped<R: Reader>(
+    ground: &Ground<R>,
+    rows: &mut Rows,
+    state: &mut State,
+    bodies: u32,
+    v: &Value,
+    step: &Step,
+) -> Result<Value, Cut>
+    requires fits { step_nodes step.now ≤ script_nodes ground.now.script.now }
+    requires kept { Kept (view v.now) }
+    ensures answer { Comes result rows.new state.new (steps (ground_of R.reads ground.now) (body_at (ground_of R.reads ground.now) bodies) (step_view step.now tree.no_steps) (view v.now) rows.old state.old) }
+    ensures kept { IfOk result (λ v. Kept (view v)) }
+{
+    match step {
+        Step::Index { at, line, col } => {
+            let i = expr(ground, rows, state, bodies, at)?;
+            give(state, index(v, &i), *line, *col)
+        }
+        Step::Call { args, line, col } => {
+            let args = values(ground, rows, state, bodies, args)?;
+            state.visit(*line, *col)?;
+            call(ground, rows, state, bodies, v, &args, *line, *col)
+        }
+    }
+}
+
+/// The value of a call, visited before.
+#[cycle(run)]
+#[tactic(auto, using(crate::proofs::RunRules::run_rules))]
+fn call<R: Reader>(
+    ground: &Ground<R>,
+    rows: &mut Rows,
+    state: &mut State,
+    bodies: u32,
+    f: &Value,
+    args: &Vals,
+    line: u32,
+    col: u32,
+) -> Result<Value, Cut>
+    requires { KeptVals args.now }
+    ensures answer { Comes result rows.new state.new (opened (ground_of R.reads ground.now) (body_at (ground_of R.reads ground.now) bodies) (view f.now) args.now (at line col) rows.old state.old) }
+    ensures kept { IfOk result (λ v. Kept (view v)) }
+{
+    let name = callee(ground, f, args, line, col)?;
+    let mut inner = State::new(ground.alloc, state.count());
+    let flow = body(ground, rows, &mut inner, bodies, name, args, line, col)?;
+    state.resume(&inner);
+    match flow {
+        Flow::Goes => Ok(Value::Null),
+        Flow::Returned(v) => Ok(v),
+    }
+}

@@ -1,0 +1,71 @@
+// The run of one call's body, up to its end or to what it waits for.
+
+ghost use Rattle.std.specs.Prelude.{IfOk};
+ghost use Rattle.sky_base.specs.Kept.{Kept};
+ghost use Rattle.sky_base.specs.Val.{list};
+ghost use Rattle.sky_plain.specs.Ran.{Begins, RanSo, KeptRan};
+
+use crate::cut::{Cut, Flow};
+use crate::ground::Ground;
+use crate::objects::Objects;
+use crate::reader::Reader;
+use crate::rows::Rows;
+use crate::state::State;
+use crate::stmt::body;
+use sky_base::object::Object;
+use sky_base::script::Script;
+use sky_base::text::{Memory, Name, Txt};
+use sky_base::value::{Vals, Value};
+use std::alloc::Global;
+
+/// How many bodies may be open at once.
+const MOST_BODIES: u32 = 64;
+
+/// How a call's run stops.
+#[derive(Drop)]
+pub enum Ran {
+    /// It ends with this object.
+    Object(Object),
+    /// It waits for the object of this name.
+    Waits(Name),
+    /// It makes one description too many.
+    Full,
+}
+
+/// Runs the body of a function on its arguments.
+#[tactic(auto, using(crate::proofs::RunEnds::run_ends))]
+pub fn run_call<R: Reader>(
+    alloc: Global,
+    script: &Script,
+    rows: &mut Rows,
+    objects: &Objects,
+    reader: &R,
+    fun: &Txt,
+    args: &Vals,
+) -> Result<Ran, Memory>
+    requires { Kept (list args.now) }
+    ensures grows { IfOk result (λ _. Begins rows.old rows.new) }
+    ensures runs { IfOk result (λ r. RanSo script.now (R.reads reader.now) objects.now rows.old fun.now args.now rows.new r) }
+    ensures kept { IfOk result (λ r. KeptRan r) }
+{
+    let ground = Ground {
+        alloc,
+        script,
+        objects,
+        reader,
+    };
+    let mut state = State::new(alloc, 0);
+    let flow = body(&ground, rows, &mut state, MOST_BODIES, fun, args, 0, 0);
+    // Each description is held once.
+    let _held = rows.len();
+    match flow {
+        Ok(Flow::Goes) => Ok(Ran::Object(Object::Data(Value::Null))),
+        Ok(Flow::Returned(v)) => Ok(Ran::Object(Object::Data(v))),
+        Err(cut) => match cut {
+            Cut::Fault(fault) => Ok(Ran::Object(Object::Fault(fault))),
+            Cut::Waits(name) => Ok(Ran::Waits(name)),
+            Cut::Full => Ok(Ran::Full),
+            Cut::Memory => Err(Memory),
+        },
+    }
+}

@@ -1,0 +1,290 @@
+// Open work: which description is to have its object next. A run that needs an object that isn't
+// known is left, and begins anew when the object is there, so no recursion goes from one description
+// into another.
+
+ghost use Rattle.std.specs.Prelude.{◌≡◌, ◌<◌, ◌≤◌, ◌++◌, Err, Ok, IfOk, IfErr, Some, None, MatchOption, length, slice_get, List, [], ◌∷◌};
+ghost use Rattle.sky_base.specs.JobView.{job_view};
+ghost use Rattle.sky_base.specs.See.{input_bytes};
+ghost use Rattle.ciel_json.specs.Around.{json_around};
+ghost use Rattle.sky_plain.specs.Stand.{Opens, Standing};
+ghost use Rattle.sky_plain.specs.Ran.{Begins};
+ghost use Rattle.sky_plain.specs.Settle.{CallsKept, Stepped, SettledSo};
+ghost use Rattle.sky_base.specs.Kept.{Kept};
+ghost use Rattle.sky_base.specs.Val.{list, call, out, input, known, refs, vals_refs, pairs_refs};
+ghost use Rattle.sky_base.specs.View.{view, vals_of, pairs_of};
+ghost use Rattle.sky_base.specs.ObjectView.{object_view};
+ghost use Rattle.sky_base.specs.Tasks.{In};
+ghost use Rattle.ciel_json.specs.Text.{text_of as writes};
+ghost use Rattle.sky_plain.specs.Walk.{known_of};
+ghost use Rattle.sky_plain.specs.Stage.{AllKnown};
+ghost use Rattle.sky_plain.specs.Perform.{bytes_of, bytes_seen, collect};
+ghost use Rattle.sky_plain.specs.Faulty.{FaultIs, FaultsAre, NoExecutors, OutFault};
+
+use crate::json::Json;
+use crate::objects::{Objects, number_of};
+use crate::rows::Rows;
+use crate::run::{Ran, run_call};
+use crate::stack::Stack;
+use crate::wave::no_place;
+use sky_base::compare::is_plain;
+use sky_base::fault::{Fault, FaultKind};
+use sky_base::job::{Inputs, Job};
+use sky_base::kit::Kit;
+use sky_base::object::{Desc1, Object};
+use sky_base::text::{Bytes, Memory, Name, Txt};
+use sky_base::value::{Pair, Vals, Value};
+use std::alloc::Global;
+
+/// What a step comes to.
+#[derive(Clone, Copy, Debug)]
+pub enum Step {
+    /// The object is known now.
+    Known,
+    /// The description of this number is to have its object first.
+    Waits(u32),
+    /// One description too many is made.
+    Full,
+}
+
+// The object of a call that is open last, or what it waits for.
+fn called<K: Kit>(
+    alloc: Global,
+    job: &Job,
+    kit: &K,
+    rows: &mut Rows,
+    objects: &mut Objects,
+    number: u32,
+    fun: &Txt,
+    args: &Vals,
+) -> Result<Step, Memory>
+    requires at { slice_get rows.old number ≡ Some (call fun.now args.now) }
+    requires kept { Kept (list args.now) }
+    ensures grows { IfOk result (λ _. Begins rows.old rows.new) }
+    ensures step { IfOk result (λ s. (ks : List _) → Standing (job_view job.now) (json_around (K.gives kit.now)) rows.old objects.old → Opens (job_view job.now) (json_around (K.gives kit.now)) rows.old (number ∷ ks) → Stepped (job_view job.now) (json_around (K.gives kit.now)) ks number rows.new objects.old objects.new s) }
+{
+    let ran = run_call(alloc, &job.script, rows, objects, &Json, fun, args)?;
+    let _held = rows.len();
+    match ran {
+        Ran::Object(object) => {
+            objects.set(number, object)?;
+            Ok(Step::Known)
+        }
+        Ran::Waits(name) => Ok(Step::Waits(number_of(&name))),
+        Ran::Full => Ok(Step::Full),
+    }
+}
+
+/// The first name in the value whose object isn't known.
+#[tactic(auto, using(crate::proofs::Lacks::lacks))]
+pub fn unknown(alloc: Global, value: &Value, objects: &Objects) -> Result<Option<Name>, Memory>
+    ensures { IfOk result (λ o. MatchOption o (AllKnown objects.now (refs (view value.now))) (λ n. In (known n.bytes) (refs (view value.now)) × (known_of objects.now (known n.bytes) ≡ None))) }
+{
+    let names = value.refs(alloc)?;
+    for name in names.as_slice() {
+        let Some(_) = objects.known(name) else {
+            return Ok(Some(*name))
+        };
+    }
+    Ok(None)
+}
+
+// The fault that an object is as an executor's input, if it is one.
+fn fault_of(object: &Object) -> Option<Fault>
+    ensures { FaultIs result (bytes_of writes (object_view object.now)) }
+{
+    match object {
+        Object::Bytes(_) => None,
+        Object::Data(value) => {
+            if is_plain(value) {
+                None
+            } else {
+                Some(no_place(FaultKind::NotText))
+            }
+        }
+        Object::Fault(fault) => Some(*fault),
+    }
+}
+
+// The first fault among what the value refers to, as an executor's inputs, if there is one.
+#[cycle(faults)]
+fn first_fault(value: &Value, objects: &Objects) -> Option<Fault>
+    ensures { FaultsAre result (collect (λ d. bytes_seen writes (known_of objects.now d)) (refs (view value.now))) }
+{
+    match value {
+        Value::List(values) => fault_in(values.as_slice(), objects),
+        Value::Dict(pairs) => fault_in_pairs(pairs.as_slice(), objects),
+        Value::Ref(name) => match objects.known(name) {
+            Some(object) => fault_of(object),
+            None => Some(no_place(FaultKind::NotText)),
+        },
+        _ => None,
+    }
+}
+
+#[cycle(faults)]
+#[tactic(auto, using(sky_base::proofs::Values::inside, crate::proofs::Lacks::faults))]
+fn fault_in(values: &[Value], objects: &Objects) -> Option<Fault>
+    ensures { FaultsAre result (collect (λ d. bytes_seen writes (known_of objects.now d)) (vals_refs (vals_of values.now))) }
+{
+    for value in values {
+        if let Some(fault) = first_fault(value, objects) {
+            return Some(fault);
+        }
+    }
+    None
+}
+
+#[cycle(faults)]
+#[tactic(auto, using(sky_base::proofs::Values::inside, crate::proofs::Lacks::faults))]
+fn fault_in_pairs(pairs: &[Pair], objects: &Objects) -> Option<Fault>
+    ensures { FaultsAre result (collect (λ d. bytes_seen writes (known_of objects.now d)) (pairs_refs (pairs_of pairs.now))) }
+{
+    for pair in pairs {
+        if let Some(fault) = first_fault(&pair.value, objects) {
+            return Some(fault);
+        }
+    }
+    None
+}
+
+// An output of an executor task whose inputs are known, where no executor is known: the first fault
+// among the inputs, else BadExec. Or what isn't known of them.
+fn executed<K: Kit>(
+    alloc: Global,
+    job: &Job,
+    kit: &K,
+    rows: &Rows,
+    objects: &mut Objects,
+    number: u32,
+    args: &Value,
+) -> Result<Step, Memory>
+    requires none { NoExecutors (K.gives kit.now) }
+    ensures step { IfOk result (λ s. (ks : List _) (x : List _) (n i : _) → slice_get rows.now number ≡ Some (out x (view args.now) n i) → Standing (job_view job.now) (json_around (K.gives kit.now)) rows.now objects.old → Opens (job_view job.now) (json_around (K.gives kit.now)) rows.now (number ∷ ks) → Stepped (job_view job.now) (json_around (K.gives kit.now)) ks number rows.now objects.old objects.new s) }
+{
+    let _held = rows.len();
+    if let Some(name) = unknown(alloc, args, objects)? {
+        return Ok(Step::Waits(number_of(&name)));
+    }
+    let fault = out_fault(args, objects);
+    objects.set(number, Object::Fault(fault))?;
+    Ok(Step::Known)
+}
+
+// The first fault among an executor's inputs, else that there is no executor.
+fn out_fault(args: &Value, objects: &Objects) -> Fault
+    ensures { OutFault result (collect (λ d. bytes_seen writes (known_of objects.now d)) (refs (view args.now))) }
+{
+    match first_fault(args, objects) {
+        Some(fault) => fault,
+        None => no_place(FaultKind::BadExec),
+    }
+}
+
+// The bytes of an input; nothing where there is none of this name.
+#[tactic(auto, using(crate::proofs::Inputs::inputs))]
+fn input(alloc: Global, inputs: &Inputs, key: &Txt) -> Result<Bytes, Memory>
+    ensures { IfOk result (λ b. b ≡ input_bytes key.now inputs.now) }
+{
+    for input in inputs.as_slice() {
+        if key.as_str().cmp(input.0.as_str()).is_eq() {
+            return input.1.share();
+        }
+    }
+    Bytes::new(alloc, Vec::new(alloc))
+}
+
+// The object of the description of this number, or what it waits for.
+fn advance<K: Kit>(
+    alloc: Global,
+    job: &Job,
+    kit: &K,
+    rows: &mut Rows,
+    objects: &mut Objects,
+    number: u32,
+) -> Result<Step, Memory>
+    requires none { NoExecutors (K.gives kit.now) }
+    requires held { number < length rows.old }
+    requires kept { CallsKept rows.old }
+    ensures grows { IfOk result (λ _. Begins rows.old rows.new) }
+    ensures step { IfOk result (λ s. (ks : List _) → Standing (job_view job.now) (json_around (K.gives kit.now)) rows.old objects.old → Opens (job_view job.now) (json_around (K.gives kit.now)) rows.old (number ∷ ks) → Stepped (job_view job.now) (json_around (K.gives kit.now)) ks number rows.new objects.old objects.new s) }
+{
+    let desc = rows.desc(number).copy()?;
+    match desc {
+        Desc1::Call { fun, args } => called(alloc, job, kit, rows, objects, number, &fun, &args),
+        Desc1::Exec { args, .. } => executed(alloc, job, kit, rows, objects, number, &args),
+        Desc1::Input { key } => given(alloc, job, kit, rows, objects, number, &key),
+    }
+}
+
+// An input.
+fn given<K: Kit>(
+    alloc: Global,
+    job: &Job,
+    _kit: &K,
+    rows: &Rows,
+    objects: &mut Objects,
+    number: u32,
+    key: &Txt,
+) -> Result<Step, Memory>
+    requires at { slice_get rows.now number ≡ Some (input key.now) }
+    ensures step { IfOk result (λ s. (ks : List _) → Standing (job_view job.now) (json_around (K.gives _kit.now)) rows.now objects.old → Opens (job_view job.now) (json_around (K.gives _kit.now)) rows.now (number ∷ ks) → Stepped (job_view job.now) (json_around (K.gives _kit.now)) ks number rows.now objects.old objects.new s) }
+{
+    let bytes = input(alloc, &job.inputs, key)?;
+    objects.set(number, Object::Bytes(bytes))?;
+    Ok(Step::Known)
+}
+
+/// How many descriptions may be open at once, each waited for by the task of the one before it.
+pub const MOST_OPEN: usize = 4096;
+
+/// How the open work ends.
+#[derive(Clone, Copy, Debug)]
+pub enum Settled {
+    /// The object is known.
+    Known,
+    /// 4,096 descriptions are open, and the last one waits for a further one.
+    TooDeep,
+    /// One description too many is made.
+    Full,
+}
+
+/// Goes on until the object of the description of this number is known. A run that waits for what
+/// isn't known is left, and begins anew when that is known.
+#[tactic(auto, using(crate::proofs::OpenWork::work))]
+pub fn settle<K: Kit>(
+    alloc: Global,
+    job: &Job,
+    kit: &K,
+    rows: &mut Rows,
+    objects: &mut Objects,
+    first: u32,
+) -> Result<Settled, Memory>
+    requires none { NoExecutors (K.gives kit.now) }
+    requires held { first < length rows.old }
+    requires small { length objects.old ≤ 65536 }
+    requires standing { Standing (job_view job.now) (json_around (K.gives kit.now)) rows.old objects.old }
+    requires opens { Opens (job_view job.now) (json_around (K.gives kit.now)) rows.old (first ∷ []) }
+    ensures grows { IfOk result (λ _. Begins rows.old rows.new) }
+    ensures settled { IfOk result (λ s. SettledSo (job_view job.now) (json_around (K.gives kit.now)) first rows.new objects.old objects.new s) }
+{
+    let mut open = Stack::new(alloc);
+    open.push(first)?;
+    while let Some(top) = open.top() {
+        let _held = rows.len();
+        if objects.has(top) {
+            open.pop();
+            continue;
+        }
+        match advance(alloc, job, kit, rows, objects, top)? {
+            Step::Known => {}
+            Step::Full => return Ok(Settled::Full),
+            Step::Waits(next) => {
+                if open.len() >= MOST_OPEN {
+                    return Ok(Settled::TooDeep);
+                }
+                open.push(next)?;
+            }
+        }
+    }
+    Ok(Settled::Known)
+}

@@ -1,0 +1,476 @@
+// What bodies, blocks and statements do. The functions call each other down the tree; statements in turn
+// and the turns of a loop are loops.
+
+ghost use Rattle.std.specs.Prelude.{◌≡◌, ◌≤◌, ◌+◌, suc, IfOk};
+ghost use Rattle.sky_base.specs.Kept.{Kept};
+ghost use Rattle.sky_base.specs.Res.{visits};
+ghost use Rattle.sky_base.specs.StmtView.{stm_view, return_view, arms_view, else_view};
+ghost use Rattle.sky_base.specs.Tree.{Stm, nodes, stm_nodes, block_nodes, arms_nodes, else_nodes, script_nodes};
+ghost use Rattle.sky_base.specs.TreeView.{at, at as place, exp_view};
+ghost use Rattle.sky_base.specs.View.{view};
+ghost use Rattle.sky_plain.specs.GroundView.{ground_of};
+ghost use Rattle.sky_plain.specs.Plain.{exp, stm, stms, arms, other, turns, repeats, each_of, body_at};
+ghost use Rattle.sky_plain.specs.RunView.{Flows, KeptVals, KeptFlow};
+
+use crate::cut::{Cut, Flow, fault};
+use crate::expr::expr;
+use crate::forms::decide;
+use crate::funs::code_of;
+use crate::ground::Ground;
+use crate::reader::Reader;
+use crate::rows::Rows;
+use crate::state::{MOST_VISITS, State};
+use sky_base::fault::FaultKind;
+use sky_base::stmt::{Arm, Arms, Block, Stmt};
+use sky_base::text::Txt;
+use sky_base::tree::Expr;
+use sky_base::value::{Vals, Value};
+
+/// Runs the body of the function of a name, where so many bodies may still be opened, this one
+/// included.
+#[cycle(run)]
+#[tactic(auto, using(crate::proofs::RunRules::run_rules))]
+pub fn body<R: Reader>(
+    ground: &Ground<R>,
+    rows: &mut Rows,
+    state: &mut State,
+    bodies: u32,
+    name: &Txt,
+    args: &Vals,
+    line: u32,
+    col: u32,
+) -> Result<Flow, Cut>
+    requires { KeptVals args.now }
+    ensures answer { Flows result rows.new state.new (body_at (ground_of R.reads ground.now) bodies name.now args.now (at line col) rows.old state.old.count) }
+    ensures kept { IfOk result KeptFlow }
+{
+    if bodies == 0 {
+        return Err(fault(FaultKind::TooDeep, line, col));
+    }
+    let Some(code) = code_of(ground.script, name) else {
+        return Err(fault(FaultKind::BadKind, line, col));
+    };
+    state.bind(ground.alloc, code.params, args)?;
+    block(ground, rows, state, bodies - 1, code.block)
+}
+
+/// Runs the statements of a block.
+#[cycle(run)]
+#[tactic(auto, using(crate::proofs::RunRules::run_rules))]
+fn block<R: Reader>(
+    ground: &Ground<R>,
+    rows: &mut Rows,
+    state: &mut State,
+    bodies: u32,
+    b: &Block,
+) -> Result<Flow, Cut>
+    requires { block_nodes b.now ≤ script_nodes ground.now.script.now }
+    ensures answer { Flows result rows.new state.new (stms (ground_of R.reads ground.now) (body_at (ground_of R.reads ground.now) bodies) b.now rows.old state.old) }
+    ensures kept { IfOk result KeptFlow }
+{
+    for s in b.as_slice() {
+        if let Flow::Returned(v) = stmt(ground, rows, state, bodies, s)? {
+            return Ok(Flow::Returned(v));
+        }
+    }
+    Ok(Flow::Goes)
+}
+
+/// Runs a statement.
+#[cycle(run)]
+#[tactic(auto, using(crate::proofs::RunRules::run_rules))]
+fn stmt<R: Reader>(
+    ground: &Ground<R>,
+    rows: &mut Rows,
+    state: &mut State,
+    bodies: u32,
+    s: &Stmt,
+) -> Result<Flow, Cut>
+    requires { stm_nodes (stm_view s.now) ≤ script_nodes ground.now.script.now }
+    ensures answer { Flows result rows.new state.new (stm (ground_of R.reads ground.now) (body_at (ground_of R.reads ground.now) bodies) (stm_view s.now) rows.old state.old) }
+    ensures kept { IfOk result KeptFlow }
+{
+    match s {
+        Stmt::Set {
+            name,
+            line,
+            col,
+            value,
+        } => set_of(ground, rows, state, bodies, name, *line, *col, value),
+        Stmt::Add {
+            name,
+            name_line,
+            name_col,
+            line,
+            col,
+            value,
+        } => add_of(
+            ground, rows, state, bodies, name, *name_line, *name_col, *line, *col, value,
+        ),
+        Stmt::Put {
+            name,
+            name_line,
+            name_col,
+            line,
+            col,
+            at,
+            value,
+        } => put_of(
+            ground, rows, state, bodies, name, *name_line, *name_col, *line, *col, at, value,
+        ),
+        Stmt::Return { line, col, value } => {
+            return_of(ground, rows, state, bodies, *line, *col, value)
+        }
+        Stmt::If {
+            line,
+            col,
+            arms: of,
+            otherwise,
+        } => if_of(ground, rows, state, bodies, *line, *col, of, otherwise),
+        Stmt::While {
+            line,
+            col,
+            test,
+            body,
+        } => while_of(ground, rows, state, bodies, *line, *col, test, body),
+        Stmt::Do {
+            line,
+            col,
+            body,
+            test,
+        } => do_of(ground, rows, state, bodies, *line, *col, body, test),
+        Stmt::For {
+            line,
+            col,
+            name,
+            list,
+            body,
+        } => for_of(ground, rows, state, bodies, *line, *col, name, list, body),
+        Stmt::Just { line, col, inner } => just_of(ground, rows, state, bodies, *line, *col, inner),
+    }
+}
+
+/// Runs `x = e;`.
+#[cycle(run)]
+#[tactic(auto, using(crate::proofs::RunRules::run_rules))]
+fn set_of<R: Reader>(
+    ground: &Ground<R>,
+    rows: &mut Rows,
+    state: &mut State,
+    bodies: u32,
+    name: &Txt,
+    line: u32,
+    col: u32,
+    value: &Expr,
+) -> Result<Flow, Cut>
+    requires { stm_nodes (Stm.set name.now (place line col) (exp_view value.now)) ≤ script_nodes ground.now.script.now }
+    ensures answer { Flows result rows.new state.new (stm (ground_of R.reads ground.now) (body_at (ground_of R.reads ground.now) bodies) (Stm.set name.now (place line col) (exp_view value.now)) rows.old state.old) }
+    ensures kept { IfOk result KeptFlow }
+{
+    state.visit(line, col)?;
+    let v = expr(ground, rows, state, bodies, value)?;
+    state.set(name, v)?;
+    Ok(Flow::Goes)
+}
+
+/// Runs `x += e;`.
+#[cycle(run)]
+#[tactic(auto, using(crate::proofs::RunRules::run_rules))]
+fn add_of<R: Reader>(
+    ground: &Ground<R>,
+    rows: &mut Rows,
+    state: &mut State,
+    bodies: u32,
+    name: &Txt,
+    name_line: u32,
+    name_col: u32,
+    line: u32,
+    col: u32,
+    value: &Expr,
+) -> Result<Flow, Cut>
+    requires { stm_nodes (Stm.add name.now (place name_line name_col) (place line col) (exp_view value.now)) ≤ script_nodes ground.now.script.now }
+    ensures answer { Flows result rows.new state.new (stm (ground_of R.reads ground.now) (body_at (ground_of R.reads ground.now) bodies) (Stm.add name.now (place name_line name_col) (place line col) (exp_view value.now)) rows.old state.old) }
+    ensures kept { IfOk result KeptFlow }
+{
+    state.visit(line, col)?;
+    let e = expr(ground, rows, state, bodies, value)?;
+    state.grow(ground.alloc, name, name_line, name_col, line, col, e)?;
+    Ok(Flow::Goes)
+}
+
+/// Runs `x[i] = e;`.
+#[cycle(run)]
+#[tactic(auto, using(crate::proofs::RunRules::run_rules))]
+fn put_of<R: Reader>(
+    ground: &Ground<R>,
+    rows: &mut Rows,
+    state: &mut State,
+    bodies: u32,
+    name: &Txt,
+    name_line: u32,
+    name_col: u32,
+    line: u32,
+    col: u32,
+    at: &Expr,
+    value: &Expr,
+) -> Result<Flow, Cut>
+    requires { stm_nodes (Stm.put name.now (place name_line name_col) (place line col) (exp_view at.now) (exp_view value.now)) ≤ script_nodes ground.now.script.now }
+    ensures answer { Flows result rows.new state.new (stm (ground_of R.reads ground.now) (body_at (ground_of R.reads ground.now) bodies) (Stm.put name.now (place name_line name_col) (place line col) (exp_view at.now) (exp_view value.now)) rows.old state.old) }
+    ensures kept { IfOk result KeptFlow }
+{
+    state.visit(line, col)?;
+    let i = expr(ground, rows, state, bodies, at)?;
+    let e = expr(ground, rows, state, bodies, value)?;
+    state.put(name, name_line, name_col, line, col, &i, e)?;
+    Ok(Flow::Goes)
+}
+
+/// Runs a `return`.
+#[cycle(run)]
+#[tactic(auto, using(crate::proofs::RunRules::run_rules))]
+fn return_of<R: Reader>(
+    ground: &Ground<R>,
+    rows: &mut Rows,
+    state: &mut State,
+    bodies: u32,
+    line: u32,
+    col: u32,
+    value: &Option<Expr>,
+) -> Result<Flow, Cut>
+    requires { stm_nodes (return_view value.now (place line col)) ≤ script_nodes ground.now.script.now }
+    ensures answer { Flows result rows.new state.new (stm (ground_of R.reads ground.now) (body_at (ground_of R.reads ground.now) bodies) (return_view value.now (place line col)) rows.old state.old) }
+    ensures kept { IfOk result KeptFlow }
+{
+    state.visit(line, col)?;
+    match value {
+        Some(value) => {
+            let v = expr(ground, rows, state, bodies, value)?;
+            Ok(Flow::Returned(v))
+        }
+        None => Ok(Flow::Returned(Value::Null)),
+    }
+}
+
+/// Runs an `if`.
+#[cycle(run)]
+#[tactic(auto, using(crate::proofs::RunRules::run_rules))]
+fn if_of<R: Reader>(
+    ground: &Ground<R>,
+    rows: &mut Rows,
+    state: &mut State,
+    bodies: u32,
+    line: u32,
+    col: u32,
+    of: &Arms,
+    otherwise: &Option<Block>,
+) -> Result<Flow, Cut>
+    requires { stm_nodes (Stm.cases (place line col) of.now (else_view otherwise.now)) ≤ script_nodes ground.now.script.now }
+    ensures answer { Flows result rows.new state.new (stm (ground_of R.reads ground.now) (body_at (ground_of R.reads ground.now) bodies) (Stm.cases (place line col) of.now (else_view otherwise.now)) rows.old state.old) }
+    ensures kept { IfOk result KeptFlow }
+{
+    state.visit(line, col)?;
+    arms(ground, rows, state, bodies, of.as_slice(), otherwise)
+}
+
+/// Runs a `while`.
+#[cycle(run)]
+#[tactic(auto, using(crate::proofs::RunRules::run_rules))]
+fn while_of<R: Reader>(
+    ground: &Ground<R>,
+    rows: &mut Rows,
+    state: &mut State,
+    bodies: u32,
+    line: u32,
+    col: u32,
+    test: &Expr,
+    body: &Block,
+) -> Result<Flow, Cut>
+    requires { stm_nodes (Stm.while (place line col) (exp_view test.now) body.now) ≤ script_nodes ground.now.script.now }
+    ensures answer { Flows result rows.new state.new (stm (ground_of R.reads ground.now) (body_at (ground_of R.reads ground.now) bodies) (Stm.while (place line col) (exp_view test.now) body.now) rows.old state.old) }
+    ensures kept { IfOk result KeptFlow }
+{
+    state.visit(line, col)?;
+    while_loop(ground, rows, state, bodies, test, body, line, col)
+}
+
+/// Runs a `do`.
+#[cycle(run)]
+#[tactic(auto, using(crate::proofs::RunRules::run_rules))]
+fn do_of<R: Reader>(
+    ground: &Ground<R>,
+    rows: &mut Rows,
+    state: &mut State,
+    bodies: u32,
+    line: u32,
+    col: u32,
+    body: &Block,
+    test: &Expr,
+) -> Result<Flow, Cut>
+    requires { stm_nodes (Stm.repeat (place line col) body.now (exp_view test.now)) ≤ script_nodes ground.now.script.now }
+    ensures answer { Flows result rows.new state.new (stm (ground_of R.reads ground.now) (body_at (ground_of R.reads ground.now) bodies) (Stm.repeat (place line col) body.now (exp_view test.now)) rows.old state.old) }
+    ensures kept { IfOk result KeptFlow }
+{
+    state.visit(line, col)?;
+    do_loop(ground, rows, state, bodies, body, test, line, col)
+}
+
+/// Runs a `for`.
+#[cycle(run)]
+#[tactic(auto, using(crate::proofs::RunRules::run_rules))]
+fn for_of<R: Reader>(
+    ground: &Ground<R>,
+    rows: &mut Rows,
+    state: &mut State,
+    bodies: u32,
+    line: u32,
+    col: u32,
+    name: &Txt,
+    list: &Expr,
+    body: &Block,
+) -> Result<Flow, Cut>
+    requires { stm_nodes (Stm.for (place line col) name.now (exp_view list.now) body.now) ≤ script_nodes ground.now.script.now }
+    ensures answer { Flows result rows.new state.new (stm (ground_of R.reads ground.now) (body_at (ground_of R.reads ground.now) bodies) (Stm.for (place line col) name.now (exp_view list.now) body.now) rows.old state.old) }
+    ensures kept { IfOk result KeptFlow }
+{
+    state.visit(line, col)?;
+    let v = expr(ground, rows, state, bodies, list)?;
+    for_loop(ground, rows, state, bodies, name, &v, body, line, col)
+}
+
+/// Runs an expression as a statement.
+#[cycle(run)]
+#[tactic(auto, using(crate::proofs::RunRules::run_rules))]
+fn just_of<R: Reader>(
+    ground: &Ground<R>,
+    rows: &mut Rows,
+    state: &mut State,
+    bodies: u32,
+    line: u32,
+    col: u32,
+    inner: &Expr,
+) -> Result<Flow, Cut>
+    requires { stm_nodes (Stm.just (place line col) (exp_view inner.now)) ≤ script_nodes ground.now.script.now }
+    ensures answer { Flows result rows.new state.new (stm (ground_of R.reads ground.now) (body_at (ground_of R.reads ground.now) bodies) (Stm.just (place line col) (exp_view inner.now)) rows.old state.old) }
+    ensures kept { IfOk result KeptFlow }
+{
+    state.visit(line, col)?;
+    expr(ground, rows, state, bodies, inner)?;
+    Ok(Flow::Goes)
+}
+
+/// Runs the block of the first arm whose test holds, else the last block.
+#[cycle(run)]
+#[tactic(auto, using(crate::proofs::RunRules::run_rules))]
+fn arms<R: Reader>(
+    ground: &Ground<R>,
+    rows: &mut Rows,
+    state: &mut State,
+    bodies: u32,
+    of: &[Arm],
+    otherwise: &Option<Block>,
+) -> Result<Flow, Cut>
+    requires { arms_nodes (arms_view of.now) + else_nodes (else_view otherwise.now) ≤ script_nodes ground.now.script.now }
+    ensures answer { Flows result rows.new state.new (arms (ground_of R.reads ground.now) (body_at (ground_of R.reads ground.now) bodies) (arms_view of.now) (other (ground_of R.reads ground.now) (body_at (ground_of R.reads ground.now) bodies) (else_view otherwise.now)) rows.old state.old) }
+    ensures kept { IfOk result KeptFlow }
+{
+    for arm in of {
+        let v = expr(ground, rows, state, bodies, &arm.test)?;
+        if decide(&v, arm.line, arm.col)? {
+            return block(ground, rows, state, bodies, &arm.body);
+        }
+    }
+    match otherwise {
+        Some(b) => block(ground, rows, state, bodies, b),
+        None => Ok(Flow::Goes),
+    }
+}
+
+/// Runs a `while`, visited before.
+#[cycle(run)]
+#[tactic(auto, using(crate::proofs::RunRules::run_rules))]
+fn while_loop<R: Reader>(
+    ground: &Ground<R>,
+    rows: &mut Rows,
+    state: &mut State,
+    bodies: u32,
+    test: &Expr,
+    body: &Block,
+    line: u32,
+    col: u32,
+) -> Result<Flow, Cut>
+    requires { nodes (exp_view test.now) + block_nodes body.now ≤ script_nodes ground.now.script.now }
+    ensures answer { Flows result rows.new state.new (turns (suc visits) (at line col) (exp (ground_of R.reads ground.now) (body_at (ground_of R.reads ground.now) bodies) (exp_view test.now)) (stms (ground_of R.reads ground.now) (body_at (ground_of R.reads ground.now) bodies) body.now) rows.old state.old) }
+    ensures kept { IfOk result KeptFlow }
+{
+    for _turn in 0..MOST_VISITS + 1 {
+        let v = expr(ground, rows, state, bodies, test)?;
+        if !decide(&v, line, col)? {
+            return Ok(Flow::Goes);
+        }
+        if let Flow::Returned(v) = block(ground, rows, state, bodies, body)? {
+            return Ok(Flow::Returned(v));
+        }
+    }
+    Err(fault(FaultKind::TooLong, line, col))
+}
+
+/// Runs a `do`, visited before.
+#[cycle(run)]
+#[tactic(auto, using(crate::proofs::RunRules::run_rules))]
+fn do_loop<R: Reader>(
+    ground: &Ground<R>,
+    rows: &mut Rows,
+    state: &mut State,
+    bodies: u32,
+    body: &Block,
+    test: &Expr,
+    line: u32,
+    col: u32,
+) -> Result<Flow, Cut>
+    requires { nodes (exp_view test.now) + block_nodes body.now ≤ script_nodes ground.now.script.now }
+    ensures answer { Flows result rows.new state.new (repeats (suc visits) (at line col) (stms (ground_of R.reads ground.now) (body_at (ground_of R.reads ground.now) bodies) body.now) (exp (ground_of R.reads ground.now) (body_at (ground_of R.reads ground.now) bodies) (exp_view test.now)) rows.old state.old) }
+    ensures kept { IfOk result KeptFlow }
+{
+    for _turn in 0..MOST_VISITS + 1 {
+        if let Flow::Returned(v) = block(ground, rows, state, bodies, body)? {
+            return Ok(Flow::Returned(v));
+        }
+        let v = expr(ground, rows, state, bodies, test)?;
+        if !decide(&v, line, col)? {
+            return Ok(Flow::Goes);
+        }
+    }
+    Err(fault(FaultKind::TooLong, line, col))
+}
+
+/// Runs a `for` over the elements of a list, visited before.
+#[cycle(run)]
+#[tactic(auto, using(crate::proofs::RunRules::run_rules))]
+fn for_loop<R: Reader>(
+    ground: &Ground<R>,
+    rows: &mut Rows,
+    state: &mut State,
+    bodies: u32,
+    name: &Txt,
+    list: &Value,
+    body: &Block,
+    line: u32,
+    col: u32,
+) -> Result<Flow, Cut>
+    requires fits { block_nodes body.now ≤ script_nodes ground.now.script.now }
+    requires kept { Kept (view list.now) }
+    ensures answer { Flows result rows.new state.new (each_of (view list.now) (at line col) name.now (stms (ground_of R.reads ground.now) (body_at (ground_of R.reads ground.now) bodies) body.now) rows.old state.old) }
+    ensures kept { IfOk result KeptFlow }
+{
+    let Value::List(vs) = list else {
+        return Err(fault(FaultKind::BadKind, line, col));
+    };
+    for v in vs.as_slice() {
+        state.visit(line, col)?;
+        state.set(name, v.copy()?)?;
+        if let Flow::Returned(v) = block(ground, rows, state, bodies, body)? {
+            return Ok(Flow::Returned(v));
+        }
+    }
+    Ok(Flow::Goes)
+}
