@@ -1,5 +1,6 @@
 // The program `ciel`: makes the real files, the real output and the real log, calls the top call on
-// the words of its command line, and ends with its status. All that it does is under the contract of that call.
+// the words of its command line, on a thread with a stack of its own, and ends with its status. What
+// is read, run and written is under the contract of that call.
 #![tactic(auto)]
 
 ghost use Rattle.std.specs.Prelude.{◌≢◌, IfErr};
