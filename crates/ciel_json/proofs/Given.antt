@@ -41,7 +41,7 @@ module _ {N : Type 0} where
     json-no_float (text t) = refl
     json-no_float (list vs) = items-no_float vs
     json-no_float (dict ps) = members-no_float ps no_members refl
-    json-no_float (fun f) = refl
+    json-no_float (fun f c) = refl
     json-no_float (ref d) = refl
 
     items-no_float : (vs : Vals N) → items_have_float (items_of vs) ≡ false

@@ -107,7 +107,7 @@ module _ {N : Type 0} (spell : N → List ℕ) (tag : Desc (List ℕ) → List �
     plain_low (text t) = refl
     plain_low (list vs) = vals_plain_low vs
     plain_low (dict ps) = pairs_plain_low ps
-    plain_low (fun f) = refl
+    plain_low (fun f c) = refl
     plain_low (ref d) = refl
 
     vals_plain_low : (vs : Vals N) → vals_plain (low_vals spell tag vs) ≡ vals_plain vs
@@ -126,7 +126,7 @@ module _ {N : Type 0} (spell : N → List ℕ) (tag : Desc (List ℕ) → List �
     json_low (text t) = refl
     json_low (list vs) = ap json.array (items_of_low vs)
     json_low (dict ps) = ap json.object (members_of_low ps no_members)
-    json_low (fun f) = refl
+    json_low (fun f c) = refl
     json_low (ref d) = refl
 
     items_of_low : (vs : Vals N) → items_of (low_vals spell tag vs) ≡ items_of vs

@@ -17,7 +17,7 @@ module _ {N : Type 0} where
     json_of (text t) = json.string t
     json_of (list vs) = json.array (items_of vs)
     json_of (dict ps) = json.object (members_of ps no_members)
-    json_of (fun f) = json.null
+    json_of (fun f c) = json.null
     json_of (ref d) = json.null
 
     pub items_of : Vals N → Items

@@ -49,7 +49,7 @@ fn lists_and_dictionaries(rt: HostRuntime) -> Result<(), Fail> {
     writes(&rt, alloc, Value::Dict(Pairs::new(alloc)), Ok("{}"));
     let keyed = keyed(alloc, [("b", 2), ("a", 1), ("c", 3)])?;
     writes(&rt, alloc, keyed, Ok("{\"a\":1,\"b\":2,\"c\":3}"));
-    let name = Value::Ref(Name { bytes: [0; 20] });
+    let name = Value::Ref(Name::short([0; 20]));
     writes(
         &rt,
         alloc,

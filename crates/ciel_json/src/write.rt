@@ -78,7 +78,7 @@ fn give(alloc: Global, value: &Value) -> Result<Json, ToText>
         Value::Text(text) => Ok(Json::String(String::from_str(alloc, text.as_str())?)),
         Value::List(values) => Ok(Json::Array(give_items(alloc, values.as_slice())?)),
         Value::Dict(pairs) => Ok(Json::Object(give_members(alloc, pairs.as_slice())?)),
-        Value::Fun(_) | Value::Ref(_) => Err(ToText::NotText),
+        Value::Fun { .. } | Value::Ref(_) => Err(ToText::NotText),
     }
 }
 

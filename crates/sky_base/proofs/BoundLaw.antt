@@ -5,7 +5,7 @@ use Rattle.sky_base.specs.Op.{Answer, index, set_at, grown, negated, opposite, l
 use Rattle.sky_base.specs.Val.{list, fun}
 use Rattle.sky_base.specs.Tree.{Place, nowhere, Exp, Stms}
 use Rattle.sky_base.specs.Res.{visits, others, bodies, Object, St, while_test, while_body, repeat_body, repeat_test, Res}
-use Rattle.sky_base.specs.Eval.{World, lit_val, oper, turns, repeats, eval, eval_block, body_at, go_while, go_repeat}
+use Rattle.sky_base.specs.Eval.{caught_by, World, lit_val, oper, turns, repeats, eval, eval_block, body_at, go_while, go_repeat}
 use Rattle.sky_base.specs.Read.{Halt, halt, frames_of, run_of_halt}
 use Rattle.sky_base.specs.See.{Job, Around, world_of, start_st, run_of}
 use Rattle.sky_base.specs.Bounds.{turns_or, repeats_or}
@@ -60,7 +60,9 @@ module _ {N : Type 0} (w : World N) where
         truth_ok = λ b. tt;
         taken_ok = λ t. tt;
         lit_ok = λ l. any_answer (limited (lit_val l));
-        fun_ok = λ x i. any_answer (limited (fun x));
+        fun_ok = λ x i. any_answer (limited (fun x no_pairs));
+        closed_ok = λ f x xs e l. any_answer (limited (fun x (caught_by f.uses xs)));
+        caught_ok = λ f ca h. any_pairs ca;
         list_ok = λ vs h. any_answer (limited (list (vals_of vs)));
         dict_ok = λ vs h. any_answer (dict_from vs no_pairs);
         oper_ok = λ o a b h i. any_answer (oper o a b);
@@ -78,7 +80,7 @@ module _ {N : Type 0} (w : World N) where
         ref_ok = λ d h. tt;
         to_ok = λ d h. tt;
         refs_ok = λ ds le h. tt;
-        call_ok = λ f vs i h. tt;
+        call_ok = λ f c vs i z h. tt;
         out_ok = λ x a n i h j lt le. tt;
         input_ok = λ k. tt;
       }
@@ -90,16 +92,16 @@ module _ {N : Type 0} (w : World N) where
   any_seen (Some (Object.fault f)) = tt
 
   -- what holds of every run at its waits
-  pub any_halt : (see : Desc N → Option (Object N)) (d j : ℕ) (f : List ℕ) (vs : Vals N) (p : Place) (st : St N) (h : Halt N) → halt see j (body_at w (suc d) f vs p st) ≡ Some h → HaltOk w Any Made d (Some h)
-  any_halt see d j f vs p st h e =
-      subst (HaltOk w Any Made d) e (halt_fine w Any Made see (λ x i. any_seen (see x)) j (body_at w (suc d) f vs p st) d (fine_call w Any Made any_closed d f vs p st (any_pairs st.vars) (any_vals vs)))
+  pub any_halt : (see : Desc N → Option (Object N)) (d j : ℕ) (f : List ℕ) (c : Pairs N) (vs : Vals N) (p : Place) (st : St N) (h : Halt N) → halt see j (body_at w (suc d) f c vs p st) ≡ Some h → HaltOk w Any Made d (Some h)
+  any_halt see d j f c vs p st h e =
+      subst (HaltOk w Any Made d) e (halt_fine w Any Made see (λ x i. any_seen (see x)) j (body_at w (suc d) f c vs p st) d (fine_call w Any Made any_closed d f c vs p st (any_pairs st.vars) (any_pairs c) (any_vals vs)))
 
   -- at each wait the bodies that are open and those that may still be opened are as many as may be open: where none may
   -- be opened any more, and a call is TooDeep, all of them are open
-  pub open_left : (see : Desc N → Option (Object N)) (d j : ℕ) (f : List ℕ) (vs : Vals N) (p : Place) (st : St N) (h : Halt N) → halt see j (body_at w (suc d) f vs p st) ≡ Some h → length (frames_of h.forms f h.st.vars) + inner w h.forms d ≡ suc d
-  open_left see d j f vs p st h e = frames_left w Any Made h.forms d f h.st.vars (any_halt see d j f vs p st h e).1
+  pub open_left : (see : Desc N → Option (Object N)) (d j : ℕ) (f : List ℕ) (c : Pairs N) (vs : Vals N) (p : Place) (st : St N) (h : Halt N) → halt see j (body_at w (suc d) f c vs p st) ≡ Some h → length (frames_of h.forms f h.st.vars) + inner w h.forms d ≡ suc d
+  open_left see d j f c vs p st h e = frames_left w Any Made h.forms d f h.st.vars (any_halt see d j f c vs p st h e).1
 
 module _ (job : Job) (around : Around) where
   -- a task's stack has up to 64 frames, and as many further bodies may be opened as are missing to 64
-  pub task_open : (see : _) (j : ℕ) (f : List ℕ) (vs : Vals ⊥) (h : Halt ⊥) → halt see j (run_of job around f vs) ≡ Some h → length (run_of_halt f (suc j) h).frames + inner (world_of job.script around) h.forms others ≡ bodies
-  task_open see j f vs h e = open_left (world_of job.script around) see others j f vs nowhere start_st h e
+  pub task_open : (see : _) (j : ℕ) (f : List ℕ) (c : Pairs ⊥) (vs : Vals ⊥) (h : Halt ⊥) → halt see j (run_of job around f c vs) ≡ Some h → length (run_of_halt f (suc j) h).frames + inner (world_of job.script around) h.forms others ≡ bodies
+  task_open see j f c vs h e = open_left (world_of job.script around) see others j f c vs nowhere start_st h e

@@ -4,7 +4,7 @@ use Rattle.sky_base.specs.Val.{Val, Vals, Pairs, Desc, null, truth, num, text, l
 use Rattle.sky_base.specs.Op.{Answer, index, find, negated, opposite, len, keys, has, range, limited, set_at, grown, dict_from}
 use Rattle.sky_base.specs.Tree.{Place, nowhere, Junction, Sign, SignAt, Form, Exp, Exps, Links, Ands, Steps, Stm, Stms, Arms, Else, FunDef, nodes, stm_nodes, block_nodes, arms_nodes}
 use Rattle.sky_base.specs.Res.{visits, Object, End, St, Entry, parens_in, part_at, chain_first, chain_more, logic_at, prefix_part, star_wait, postfix_first, index_at, arg_at, call_open, exec_wait, set_part, add_part, put_index, put_value, return_part, just_part, arm_test, while_test, while_body, repeat_body, repeat_test, for_list, for_body, block_at, one_of, all_of, Res, Fin, Tell, Ask, then_do, on_got, on_goes, with_vars, on_body, gives, counted, visited, visit, answer, tell_all}
-use Rattle.sky_base.specs.Eval.{World, find_fun, is_one_of, Body, body_of, bind, set_var, lit_val, named, oper, outputs, truth_of, decide, joins, add_to, put_in, turns, repeats, each, each_of, with_one, with_two, with_three, ask, spawn_if, spawn_fun, spawn_list, spawned, outputs_if, outputs_count, outputs_of, exec_ask, input_if, input_of, formed, deref, signed, signs, call_if, call_fun, called, enter, eval, eval_parts, eval_links, eval_ands, eval_steps, eval_args, eval_stm, eval_stms, eval_arms, eval_else, in_body, body_at}
+use Rattle.sky_base.specs.Eval.{World, find_fun, is_one_of, Body, body_of, bind, set_var, lit_val, named, closed, oper, outputs, truth_of, decide, joins, add_to, put_in, turns, repeats, each, each_of, with_one, with_two, with_three, ask, spawn_if, spawn_fun, spawn_list, spawned, outputs_if, outputs_count, outputs_of, exec_ask, input_if, input_of, formed, deref, signed, signs, call_if, call_fun, called, enter, eval, eval_parts, eval_links, eval_ands, eval_steps, eval_args, eval_stm, eval_stms, eval_arms, eval_else, in_body, body_at}
 use Rattle.sky_base.specs.Res.{Wait}
 use Rattle.sky_base.specs.Read.{Halt, see_all, refs_of, halts_seen, halt}
 use Rattle.sky_base.proofs.Law.{Within, Late, late_wait}
@@ -70,7 +70,7 @@ module _ {N : Type 0} (w : World N) where
   climbs_decide (text y) p b st on off g h = tt
   climbs_decide (list ys) p b st on off g h = tt
   climbs_decide (dict ys) p b st on off g h = tt
-  climbs_decide (fun y) p b st on off g h = tt
+  climbs_decide (fun y c) p b st on off g h = tt
   climbs_decide (ref y) p b st on off g h = tt
 
   climbs_joins : (j : Junction) (v : Val N) (p : Place) (b : ℕ) (st : St N) (k : St N → Res N) → Within w b st → Climbs b (k st) → Climbs b (joins j v p st k)
@@ -89,22 +89,22 @@ module _ {N : Type 0} (w : World N) where
   climbs_spawn_if false d p b st l = tt
   climbs_spawn_if true d p b st l = (tt, l)
 
-  climbs_spawn_fun : (o : Option FunDef) (f : List ℕ) (vs : Vals N) (p : Place) (b : ℕ) (st : St N) → Within w b st → Climbs b (spawn_fun w o f vs p st)
-  climbs_spawn_fun None f vs p b st l = tt
-  climbs_spawn_fun (Some x) f vs p b st l = climbs_spawn_if _ _ p b st l
+  climbs_spawn_fun : (o : Option FunDef) (f : List ℕ) (c : Pairs N) (vs : Vals N) (p : Place) (b : ℕ) (st : St N) → Within w b st → Climbs b (spawn_fun w o f c vs p st)
+  climbs_spawn_fun None f c vs p b st l = tt
+  climbs_spawn_fun (Some x) f c vs p b st l = climbs_spawn_if _ _ p b st l
 
-  climbs_spawn_list : (f : List ℕ) (a : Val N) (p : Place) (b : ℕ) (st : St N) → Within w b st → Climbs b (spawn_list w f a p st)
-  climbs_spawn_list f (list vs) p b st l = climbs_spawn_fun (find_fun f w.script.funs) f vs p b st l
-  climbs_spawn_list f null p b st l = tt
-  climbs_spawn_list f (truth y) p b st l = tt
-  climbs_spawn_list f (num y) p b st l = tt
-  climbs_spawn_list f (text y) p b st l = tt
-  climbs_spawn_list f (dict ys) p b st l = tt
-  climbs_spawn_list f (fun y) p b st l = tt
-  climbs_spawn_list f (ref y) p b st l = tt
+  climbs_spawn_list : (f : List ℕ) (c : Pairs N) (a : Val N) (p : Place) (b : ℕ) (st : St N) → Within w b st → Climbs b (spawn_list w f c a p st)
+  climbs_spawn_list f c (list vs) p b st l = climbs_spawn_fun (find_fun f w.script.funs) f c vs p b st l
+  climbs_spawn_list f c null p b st l = tt
+  climbs_spawn_list f c (truth y) p b st l = tt
+  climbs_spawn_list f c (num y) p b st l = tt
+  climbs_spawn_list f c (text y) p b st l = tt
+  climbs_spawn_list f c (dict ys) p b st l = tt
+  climbs_spawn_list f c (fun y cb) p b st l = tt
+  climbs_spawn_list f c (ref y) p b st l = tt
 
   climbs_spawned : (g a : Val N) (p : Place) (b : ℕ) (st : St N) → Within w b st → Climbs b (spawned w g a p st)
-  climbs_spawned (fun f) a p b st l = climbs_spawn_list f a p b st l
+  climbs_spawned (fun f c) a p b st l = climbs_spawn_list f c a p b st l
   climbs_spawned null a p b st l = tt
   climbs_spawned (truth y) a p b st l = tt
   climbs_spawned (num y) a p b st l = tt
@@ -130,7 +130,7 @@ module _ {N : Type 0} (w : World N) where
     climbs_outputs_count x a (text y) p = tt
     climbs_outputs_count x a (list ys) p = tt
     climbs_outputs_count x a (dict ys) p = tt
-    climbs_outputs_count x a (fun y) p = tt
+    climbs_outputs_count x a (fun y c) p = tt
     climbs_outputs_count x a (ref y) p = tt
 
     climbs_outputs : (x a n : Val N) (p : Place) → Climbs b (outputs_of w x a n p st k)
@@ -140,7 +140,7 @@ module _ {N : Type 0} (w : World N) where
     climbs_outputs (num y) a n p = tt
     climbs_outputs (list ys) a n p = tt
     climbs_outputs (dict ys) a n p = tt
-    climbs_outputs (fun y) a n p = tt
+    climbs_outputs (fun y c) a n p = tt
     climbs_outputs (ref y) a n p = tt
 
   climbs_input_if : (x : Bool) (k : List ℕ) (p : Place) (b : ℕ) (st : St N) → Within w b st → Climbs b (input_if w x k p st)
@@ -154,7 +154,7 @@ module _ {N : Type 0} (w : World N) where
   climbs_input (num y) p b st l = tt
   climbs_input (list ys) p b st l = tt
   climbs_input (dict ys) p b st l = tt
-  climbs_input (fun y) p b st l = tt
+  climbs_input (fun y c) p b st l = tt
   climbs_input (ref y) p b st l = tt
 
   climbs_one : (vs : List (Val N)) (p : Place) (b : ℕ) (st : St N) (k : Val N → Res N) → ((x : Val N) → Climbs b (k x)) → Climbs b (with_one vs p st k)
@@ -200,7 +200,7 @@ module _ {N : Type 0} (w : World N) where
   climbs_deref (text y) n k ss p b st go l lt g = tt
   climbs_deref (list ys) n k ss p b st go l lt g = tt
   climbs_deref (dict ys) n k ss p b st go l lt g = tt
-  climbs_deref (fun y) n k ss p b st go l lt g = tt
+  climbs_deref (fun y c) n k ss p b st go l lt g = tt
 
   climbs_signed : (s : Sign) (v : Val N) (n k : ℕ) (ss : List SignAt) (p : Place) (b : ℕ) (st : St N) (go : Val N → St N → Res N) → Within w b st → b < st.count → ((c : ℕ) (u : Val N) (t : St N) → Within w c t → Climbs c (go u t)) → Climbs b (signed w s v n k ss p st go)
   climbs_signed Sign.not v n k ss p b st go l lt g = climbs_answer (opposite v) p b st go (λ u. g b u st l)
@@ -220,8 +220,8 @@ module _ {N : Type 0} (w : World N) where
   climbs_call_fun None vs p b st r g = tt
   climbs_call_fun (Some x) vs p b st r g = climbs_call_if (nat_eq (length x.params) (count vs)) p b st r g
 
-  climbs_called : (v : Val N) (vs : Vals N) (p : Place) (b : ℕ) (st : St N) (k : List ℕ → Res N) → ((f : List ℕ) → Climbs b (k f)) → Climbs b (called w v vs p st k)
-  climbs_called (fun f) vs p b st k g = climbs_call_fun (find_fun f w.script.funs) vs p b st (k f) (g f)
+  climbs_called : (v : Val N) (vs : Vals N) (p : Place) (b : ℕ) (st : St N) (k : List ℕ → Pairs N → Res N) → ((f : List ℕ) (c : Pairs N) → Climbs b (k f c)) → Climbs b (called w v vs p st k)
+  climbs_called (fun f c) vs p b st k g = climbs_call_fun (find_fun f w.script.funs) vs p b st (k f c) (g f c)
   climbs_called null vs p b st k g = tt
   climbs_called (truth y) vs p b st k g = tt
   climbs_called (num y) vs p b st k g = tt
@@ -230,11 +230,12 @@ module _ {N : Type 0} (w : World N) where
   climbs_called (dict ys) vs p b st k g = tt
   climbs_called (ref y) vs p b st k g = tt
 
-  module _ (body : List ℕ → Vals N → Place → St N → Res N) (bodies_climb : (f : List ℕ) (vs : Vals N) (p : Place) (b : ℕ) (st : St N) → Within w b st → Climbs b (body f vs p st)) where
+  module _ (body : List ℕ → Pairs N → Vals N → Place → St N → Res N) (bodies_climb : (f : List ℕ) (c : Pairs N) (vs : Vals N) (p : Place) (b : ℕ) (st : St N) → Within w b st → Climbs b (body f c vs p st)) where
     mutual
       climbs_eval : (e : Exp) (n b : ℕ) (st : St N) → Within w b st → Climbs b (eval w body e n st)
       climbs_eval (Exp.literal v p) n b st l = climbs_visit p b st _ l (λ s m lt. climbs_answer (limited (lit_val v)) p b s gives (λ x. m))
       climbs_eval (Exp.name x p) n b st l = climbs_visit p b st (λ s. answer (named (find x s.vars) x w.script.funs) p s gives) l (λ s m lt. climbs_answer (named (find x s.vars) x w.script.funs) p b s gives (λ y. m))
+      climbs_eval (Exp.func x p) n b st l = climbs_visit p b st (λ s. answer (closed (find_fun x w.script.funs) x s.vars) p s gives) l (λ s m lt. climbs_answer (closed (find_fun x w.script.funs) x s.vars) p b s gives (λ y. m))
       climbs_eval (Exp.parens e) n b st l = climbs_got (eval w body e (n + 1) st) b (parens_in n) gives (climbs_eval e (n + 1) b st l) (λ c v s m. m)
       climbs_eval (Exp.parts o p es) n b st l = climbs_parts es n 1 (n + 1) o p [] b st l
       climbs_eval (Exp.chain e ls) n b st l = climbs_got _ b (chain_first n (n + 1 + nodes e) ls) _ (climbs_eval e (n + 1) b st l) (λ c v s m. climbs_links ls n 2 (n + 1 + nodes e) v c s m)
@@ -262,9 +263,9 @@ module _ {N : Type 0} (w : World N) where
           climbs_got _ b (index_at n k (m + nodes e) p v ss) _ (climbs_eval e m b st l) (λ c x s i. climbs_visit p c s _ i (λ t j lt. climbs_answer (index v x) p c t _ (λ y. climbs_steps ss n (k + 1) (m + nodes e) y c t j)))
       climbs_steps (Steps.call es p ss) n k m v b st l = climbs_args es n k m p v [] ss b st l (λ i h y c u z. climbs_steps ss n i h y c u z)
 
-      climbs_args : (es : Exps) (n k m : ℕ) (p : Place) (g : Val N) (vs : List (Val N)) (ss : Steps) (b : ℕ) (st : St N) → Within w b st → ((i h : ℕ) (y : Val N) (c : ℕ) (u : St N) → Within w c u → Climbs c (eval_steps w body ss n i h y u)) → Climbs b (eval_args w body es n k m p g vs ss (λ l i f us s. enter w body f us p n l i ss s (λ y u. eval_steps w body ss n (l + 1) i y u)) st)
+      climbs_args : (es : Exps) (n k m : ℕ) (p : Place) (g : Val N) (vs : List (Val N)) (ss : Steps) (b : ℕ) (st : St N) → Within w b st → ((i h : ℕ) (y : Val N) (c : ℕ) (u : St N) → Within w c u → Climbs c (eval_steps w body ss n i h y u)) → Climbs b (eval_args w body es n k m p g vs ss (λ l i f c us s. enter w body f c us p n l i ss s (λ y u. eval_steps w body ss n (l + 1) i y u)) st)
       climbs_args Exps.no_exps n k m p g vs ss b st l steps =
-          climbs_visit p b st _ l (λ s i lt. climbs_called g (vals_of vs) p b s _ (λ x. climbs_then (body x (vals_of vs) p s) b (call_open n k m x s.vars ss) (on_body s.vars (λ y u. eval_steps w body ss n (k + 1) m y u)) (bodies_climb x (vals_of vs) p b s i) (climbs_body s.vars _ (λ c y u z. steps (k + 1) m y c u z))))
+          climbs_visit p b st _ l (λ s i lt. climbs_called g (vals_of vs) p b s _ (λ x c. climbs_then (body x c (vals_of vs) p s) b (call_open n k m x s.vars ss) (on_body s.vars (λ y u. eval_steps w body ss n (k + 1) m y u)) (bodies_climb x c (vals_of vs) p b s i) (climbs_body s.vars _ (λ c y u z. steps (k + 1) m y c u z))))
       climbs_args (Exps.exp e es) n k m p g vs ss b st l steps =
           climbs_got _ b (arg_at n k (m + nodes e) p g vs es ss) _ (climbs_eval e m b st l) (λ c v s i. climbs_args es n (k + 1) (m + nodes e) p g (vs ++ v ∷ []) ss c s i steps)
 
@@ -291,7 +292,7 @@ module _ {N : Type 0} (w : World N) where
       climbs_each_of (num y) x b st l = tt
       climbs_each_of (text y) x b st l = tt
       climbs_each_of (dict ys) x b st l = tt
-      climbs_each_of (fun y) x b st l = tt
+      climbs_each_of (fun y c) x b st l = tt
       climbs_each_of (ref y) x b st l = tt
 
     mutual
@@ -320,14 +321,14 @@ module _ {N : Type 0} (w : World N) where
       climbs_else Else.no_else n b st l = l
       climbs_else (Else.otherwise blk) n b st l = climbs_stms blk n 0 (n + 1) b st l
 
-  climbs_in_body : (o : Option Body) (vs : Vals N) (p : Place) (b : ℕ) (st : St N) (run : Stms → ℕ → St N → Res N) → Within w b st → ((blk : Stms) (n : ℕ) (s : St N) → Within w b s → Climbs b (run blk n s)) → Climbs b (in_body w o vs p st run)
-  climbs_in_body None vs p b st run l g = tt
-  climbs_in_body (Some x) vs p b st run l g = g x.block x.node (with_vars (bind x.params vs no_pairs) st) l
+  climbs_in_body : (o : Option Body) (c : Pairs N) (vs : Vals N) (p : Place) (b : ℕ) (st : St N) (run : Stms → ℕ → St N → Res N) → Within w b st → ((blk : Stms) (n : ℕ) (s : St N) → Within w b s → Climbs b (run blk n s)) → Climbs b (in_body w o c vs p st run)
+  climbs_in_body None c vs p b st run l g = tt
+  climbs_in_body (Some x) c vs p b st run l g = g x.block x.node (with_vars (bind x.params vs c) st) l
 
-  pub climbs_call : (d : ℕ) (f : List ℕ) (vs : Vals N) (p : Place) (b : ℕ) (st : St N) → Within w b st → Climbs b (body_at w d f vs p st)
-  climbs_call zero f vs p b st l = tt
-  climbs_call (suc d) f vs p b st l =
-      climbs_in_body (body_of f w.script) vs p b st _ l (λ blk n s i. climbs_stms (body_at w d) (λ f' vs' p' b' st' l'. climbs_call d f' vs' p' b' st' l') blk n 0 (n + 1) b s i)
+  pub climbs_call : (d : ℕ) (f : List ℕ) (c : Pairs N) (vs : Vals N) (p : Place) (b : ℕ) (st : St N) → Within w b st → Climbs b (body_at w d f c vs p st)
+  climbs_call zero f c vs p b st l = tt
+  climbs_call (suc d) f c vs p b st l =
+      climbs_in_body (body_of f w.script) c vs p b st _ l (λ blk n s i. climbs_stms (body_at w d) (λ f' c' vs' p' b' st' l'. climbs_call d f' c' vs' p' b' st' l') blk n 0 (n + 1) b s i)
 
   module _ (see : Desc N → Option (Object N)) where
     abbrev pub Enough : ℕ → ℕ → Option (Halt N) → Type 0

@@ -38,7 +38,7 @@ module _ {N : Type 0} (w : World N) (d n m : ℕ) (p q : Place) where
 abbrev endless_loop_row : Job
 endless_loop_row = main_of (Stm.while (at 1) (b true 8) (block []) ∷ [])
 
-endless_loop_row_run : run_of endless_loop_row plain [] no_vals ≡ Fin (End.failed (fault_at FaultKind.TooLong (at 8))) (record { vars = no_pairs; count = visits })
+endless_loop_row_run : run_of endless_loop_row plain [] no_pairs no_vals ≡ Fin (End.failed (fault_at FaultKind.TooLong (at 8))) (record { vars = no_pairs; count = visits })
 endless_loop_row_run = go (nat_lt 0 visits) refl
   where
     go : (x : Bool) → nat_lt 0 visits ≡ x → then_do (visited x (at 1) start_st (λ s. loop (world_of endless_loop_row.script plain) others 1 3 (at 1) (at 8) (suc visits) s)) (block_at 0 1 4 Stms.no_stms) (on_goes (λ s. Fin End.goes s)) ≡ Fin (End.failed (fault_at FaultKind.TooLong (at 8))) (record { vars = no_pairs; count = visits })

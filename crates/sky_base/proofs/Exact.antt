@@ -55,7 +55,7 @@ module _ {N : Type 0} where
   null_true (text t) e = absurd cc
   null_true (list us) e = absurd cc
   null_true (dict us) e = absurd cc
-  null_true (fun f) e = absurd cc
+  null_true (fun f c) e = absurd cc
   null_true (ref d) e = absurd cc
 
   truth_true : {P : Type 0} (w : Val N) (k : Bool → Bool) → if_truth w k ≡ true → ((c : Bool) → w ≡ truth c → k c ≡ true → P) → P
@@ -65,7 +65,7 @@ module _ {N : Type 0} where
   truth_true (text t) k e go = absurd cc
   truth_true (list us) k e go = absurd cc
   truth_true (dict us) k e go = absurd cc
-  truth_true (fun f) k e go = absurd cc
+  truth_true (fun f c) k e go = absurd cc
   truth_true (ref d) k e go = absurd cc
 
   num_true : {P : Type 0} (w : Val N) (k : ℤ → Bool) → if_num w k ≡ true → ((y : ℤ) → w ≡ num y → k y ≡ true → P) → P
@@ -75,7 +75,7 @@ module _ {N : Type 0} where
   num_true (text t) k e go = absurd cc
   num_true (list us) k e go = absurd cc
   num_true (dict us) k e go = absurd cc
-  num_true (fun f) k e go = absurd cc
+  num_true (fun f c) k e go = absurd cc
   num_true (ref d) k e go = absurd cc
 
   text_true : {P : Type 0} (w : Val N) (k : List ℕ → Bool) → if_text w k ≡ true → ((s : List ℕ) → w ≡ text s → k s ≡ true → P) → P
@@ -85,7 +85,7 @@ module _ {N : Type 0} where
   text_true (text t) k e go = go t refl e
   text_true (list us) k e go = absurd cc
   text_true (dict us) k e go = absurd cc
-  text_true (fun f) k e go = absurd cc
+  text_true (fun f c) k e go = absurd cc
   text_true (ref d) k e go = absurd cc
 
   list_true : {P : Type 0} (w : Val N) (k : Vals N → Bool) → if_list w k ≡ true → ((ws : Vals N) → w ≡ list ws → k ws ≡ true → P) → P
@@ -95,7 +95,7 @@ module _ {N : Type 0} where
   list_true (text t) k e go = absurd cc
   list_true (list us) k e go = go us refl e
   list_true (dict us) k e go = absurd cc
-  list_true (fun f) k e go = absurd cc
+  list_true (fun f c) k e go = absurd cc
   list_true (ref d) k e go = absurd cc
 
   dict_true : {P : Type 0} (w : Val N) (k : Pairs N → Bool) → if_dict w k ≡ true → ((ws : Pairs N) → w ≡ dict ws → k ws ≡ true → P) → P
@@ -105,17 +105,17 @@ module _ {N : Type 0} where
   dict_true (text t) k e go = absurd cc
   dict_true (list us) k e go = absurd cc
   dict_true (dict us) k e go = go us refl e
-  dict_true (fun f) k e go = absurd cc
+  dict_true (fun f c) k e go = absurd cc
   dict_true (ref d) k e go = absurd cc
 
-  fun_true : {P : Type 0} (w : Val N) (k : List ℕ → Bool) → if_fun w k ≡ true → ((g : List ℕ) → w ≡ fun g → k g ≡ true → P) → P
+  fun_true : {P : Type 0} (w : Val N) (k : List ℕ → Pairs N → Bool) → if_fun w k ≡ true → ((g : List ℕ) (qs : Pairs N) → w ≡ fun g qs → k g qs ≡ true → P) → P
   fun_true null k e go = absurd cc
   fun_true (truth b) k e go = absurd cc
   fun_true (num z) k e go = absurd cc
   fun_true (text t) k e go = absurd cc
   fun_true (list us) k e go = absurd cc
   fun_true (dict us) k e go = absurd cc
-  fun_true (fun f) k e go = go f refl e
+  fun_true (fun f c) k e go = go f c refl e
   fun_true (ref d) k e go = absurd cc
 
   ref_true : {P : Type 0} (w : Val N) (k : Desc N → Bool) → if_ref w k ≡ true → ((e : Desc N) → w ≡ ref e → k e ≡ true → P) → P
@@ -125,7 +125,7 @@ module _ {N : Type 0} where
   ref_true (text t) k e go = absurd cc
   ref_true (list us) k e go = absurd cc
   ref_true (dict us) k e go = absurd cc
-  ref_true (fun f) k e go = absurd cc
+  ref_true (fun f c) k e go = absurd cc
   ref_true (ref d) k e go = go d refl e
 
   no_vals_true : (ws : Vals N) → if_no_vals ws ≡ true → ws ≡ no_vals
@@ -144,26 +144,26 @@ module _ {N : Type 0} where
   pair_true no_pairs k e go = absurd cc
   pair_true (pair l w rs) k e go = go l w rs refl e
 
-  call_true : {P : Type 0} (d : Desc N) (k : List ℕ → Vals N → Bool) → if_call d k ≡ true → ((g : List ℕ) (ws : Vals N) → d ≡ call g ws → k g ws ≡ true → P) → P
-  call_true (call f vs) k e go = go f vs refl e
+  call_true : {P : Type 0} (d : Desc N) (k : List ℕ → Pairs N → Vals N → Bool) → if_call d k ≡ true → ((g : List ℕ) (qs : Pairs N) (ws : Vals N) → d ≡ call g qs ws → k g qs ws ≡ true → P) → P
+  call_true (call f c vs) k e go = go f c vs refl e
   call_true (out x v n i) k e go = absurd cc
   call_true (input l) k e go = absurd cc
   call_true (known b) k e go = absurd cc
 
   out_true : {P : Type 0} (d : Desc N) (k : List ℕ → Val N → ℕ → ℕ → Bool) → if_out d k ≡ true → ((y : List ℕ) (w : Val N) (m j : ℕ) → d ≡ out y w m j → k y w m j ≡ true → P) → P
-  out_true (call g vs) k e go = absurd cc
+  out_true (call g c vs) k e go = absurd cc
   out_true (out x v n i) k e go = go x v n i refl e
   out_true (input l) k e go = absurd cc
   out_true (known b) k e go = absurd cc
 
   input_true : {P : Type 0} (d : Desc N) (k : List ℕ → Bool) → if_input d k ≡ true → ((l : List ℕ) → d ≡ input l → k l ≡ true → P) → P
-  input_true (call g vs) k e go = absurd cc
+  input_true (call g c vs) k e go = absurd cc
   input_true (out x v n i) k e go = absurd cc
   input_true (input l) k e go = go l refl e
   input_true (known b) k e go = absurd cc
 
   known_true : {P : Type 0} (d : Desc N) (k : N → Bool) → if_known d k ≡ true → ((c : N) → d ≡ known c → k c ≡ true → P) → P
-  known_true (call g vs) k e go = absurd cc
+  known_true (call g c vs) k e go = absurd cc
   known_true (out x v n i) k e go = absurd cc
   known_true (input l) k e go = absurd cc
   known_true (known b) k e go = go b refl e
@@ -177,7 +177,8 @@ module _ {N : Type 0} (same_known : N → N → Bool) (exact_known : (b c : N) �
     exact_val (text s) w e = text_true w _ e (λ t h g. ap text (exact_text s t g) ∙ sym h)
     exact_val (list vs) w e = list_true w _ e (λ ws h g. ap list (exact_vals vs ws g) ∙ sym h)
     exact_val (dict ps) w e = dict_true w _ e (λ qs h g. ap dict (exact_pairs ps qs g) ∙ sym h)
-    exact_val (fun s) w e = fun_true w _ e (λ t h g. ap fun (exact_text s t g) ∙ sym h)
+    exact_val (fun s c) w e =
+        fun_true w _ e (λ t qs h g. (λ i. fun (exact_text s t (both_first _ _ g) i) (exact_pairs c qs (both_second _ _ g) i)) ∙ sym h)
     exact_val (ref d) w e = ref_true w _ e (λ c h g. ap ref (exact_desc d c g) ∙ sym h)
 
     pub exact_vals : (vs ws : Vals N) → same_vals same_known vs ws ≡ true → vs ≡ ws
@@ -191,8 +192,8 @@ module _ {N : Type 0} (same_known : N → N → Bool) (exact_known : (b c : N) �
         pair_true qs _ e (λ l w rs h g. (λ i. pair (exact_text k l (both_first _ _ g) i) (exact_val v w (both_first _ _ (both_second _ _ g)) i) (exact_pairs ps rs (both_second _ _ (both_second _ _ g)) i)) ∙ sym h)
 
     pub exact_desc : (d c : Desc N) → same_desc same_known d c ≡ true → d ≡ c
-    exact_desc (call f vs) c e =
-        call_true c _ e (λ g ws h t. (λ i. call (exact_text f g (both_first _ _ t) i) (exact_vals vs ws (both_second _ _ t) i)) ∙ sym h)
+    exact_desc (call f ca vs) c e =
+        call_true c _ e (λ g qs ws h t. (λ i. call (exact_text f g (both_first _ _ t) i) (exact_pairs ca qs (both_first _ _ (both_second _ _ t)) i) (exact_vals vs ws (both_second _ _ (both_second _ _ t)) i)) ∙ sym h)
     exact_desc (out x v n k) c e =
         out_true c _ e (λ y w m j h t.
         let numbers : nat_eq n m && nat_eq k j ≡ true = both_second (same_val same_known v w) _ (both_second (same_text x y) _ t) in
@@ -209,7 +210,7 @@ module _ {N : Type 0} (same_known : N → N → Bool) (self_known : (b : N) → 
     self_val (text s) = self_text s
     self_val (list vs) = self_vals vs
     self_val (dict ps) = self_pairs ps
-    self_val (fun s) = self_text s
+    self_val (fun s c) = both_true _ _ (self_text s) (self_pairs c)
     self_val (ref d) = self_desc d
 
     pub self_vals : (vs : Vals N) → same_vals same_known vs vs ≡ true
@@ -221,7 +222,7 @@ module _ {N : Type 0} (same_known : N → N → Bool) (self_known : (b : N) → 
     self_pairs (pair k v ps) = both_true _ _ (self_text k) (both_true _ _ (self_val v) (self_pairs ps))
 
     pub self_desc : (d : Desc N) → same_desc same_known d d ≡ true
-    self_desc (call f vs) = both_true _ _ (self_text f) (self_vals vs)
+    self_desc (call f c vs) = both_true _ _ (self_text f) (both_true _ _ (self_pairs c) (self_vals vs))
     self_desc (out x v n i) = both_true _ _ (self_text x) (both_true _ _ (self_val v) (both_true _ _ (eq-eqb n n refl) (eq-eqb i i refl)))
     self_desc (input k) = self_text k
     self_desc (known b) = self_known b

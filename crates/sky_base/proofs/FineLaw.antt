@@ -7,7 +7,7 @@ use Rattle.sky_base.specs.Val.{Val, Vals, Pairs, Desc, null, truth, num, text, l
 use Rattle.sky_base.specs.Op.{Answer, index, find, put, negated, opposite, len, keys, has, range, limited, set_at, grown, dict_from}
 use Rattle.sky_base.specs.Tree.{Place, nowhere, Lit, Oper, Junction, Sign, SignAt, Form, Exp, Exps, Links, Ands, Steps, Stm, Stms, Arms, Else, FunDef, nodes, stm_nodes, block_nodes, arms_nodes}
 use Rattle.sky_base.specs.Res.{visits, Object, End, St, Entry, parens_in, part_at, chain_first, chain_more, logic_at, prefix_part, star_wait, postfix_first, index_at, arg_at, call_open, exec_wait, set_part, add_part, put_index, put_value, return_part, just_part, arm_test, while_test, while_body, repeat_body, repeat_test, for_list, for_body, block_at, Wait, one_of, all_of, Res, Fin, Tell, Ask, kept_of, opens, then_do, on_got, on_goes, with_vars, on_body, gives, counted, visited, visit, answer, tell_all}
-use Rattle.sky_base.specs.Eval.{World, find_fun, is_one_of, Body, body_of, bind, set_var, lit_val, fun_named, named, oper, exec_end, read_end, outputs, truth_of, decide, joins, add_to, put_in, turns, repeats, each, each_of, with_one, with_two, with_three, wait_end, ask, make_one, spawn_if, spawn_fun, spawn_list, spawned, outputs_if, outputs_count, outputs_of, exec_ask, input_if, input_of, formed, deref, signed, signs, call_if, call_fun, called, enter, eval, eval_parts, eval_links, eval_ands, eval_steps, eval_args, eval_stm, eval_stms, eval_arms, eval_else, in_body, body_at, inside}
+use Rattle.sky_base.specs.Eval.{World, find_fun, is_one_of, Body, body_of, bind, set_var, lit_val, fun_named, named, closed, caught_by, oper, exec_end, read_end, outputs, truth_of, decide, joins, add_to, put_in, turns, repeats, each, each_of, with_one, with_two, with_three, wait_end, ask, make_one, spawn_if, spawn_fun, spawn_list, spawned, outputs_if, outputs_count, outputs_of, exec_ask, input_if, input_of, formed, deref, signed, signs, call_if, call_fun, called, enter, eval, eval_parts, eval_links, eval_ands, eval_steps, eval_args, eval_stm, eval_stms, eval_arms, eval_else, in_body, body_at, inside}
 use Rattle.sky_base.specs.Read.{refs_of}
 use Rattle.sky_base.specs.Tasks.{Each}
 use Rattle.sky_base.specs.Sound.{IsFun}
@@ -36,7 +36,9 @@ module _ {N : Type 0} (w : World N) (P : Val N → Type 0) (Q : Desc N → Type 
     pub truth_ok : (b : Bool) → P (truth b)
     pub taken_ok : (t : ℕ) → P (num (pos t))
     pub lit_ok : (l : Lit) → AnswerOk (limited (lit_val l))
-    pub fun_ok : (x : List ℕ) → IsFun w.script x → AnswerOk (limited (fun x))
+    pub fun_ok : (x : List ℕ) → IsFun w.script x → AnswerOk (limited (fun x no_pairs))
+    pub closed_ok : (f : FunDef) (x : List ℕ) (xs : Pairs N) → find_fun x w.script.funs ≡ Some f → PairsOk xs → AnswerOk (limited (fun x (caught_by f.uses xs)))
+    pub caught_ok : (f : List ℕ) (ca : Pairs N) → P (fun f ca) → PairsOk ca
     pub list_ok : (vs : List (Val N)) → Each P vs → AnswerOk (limited (list (vals_of vs)))
     pub dict_ok : (vs : List (Val N)) → Each P vs → AnswerOk (dict_from vs no_pairs)
     pub oper_ok : (o : Oper) (a b : Val N) → P a → P b → AnswerOk (oper o a b)
@@ -54,7 +56,7 @@ module _ {N : Type 0} (w : World N) (P : Val N → Type 0) (Q : Desc N → Type 
     pub ref_ok : (d : Desc N) → Q d → P (ref (w.make d))
     pub to_ok : (d : Desc N) → P (ref d) → Q d
     pub refs_ok : (ds : List (Desc N)) → length ds ≤ 64 → Each (λ d. P (ref d)) ds → P (list (refs_to ds))
-    pub call_ok : (f : List ℕ) (vs : Vals N) → IsFun w.script f → P (list vs) → Q (call f vs)
+    pub call_ok : (f : List ℕ) (ca : Pairs N) (vs : Vals N) → IsFun w.script f → P (fun f ca) → P (list vs) → Q (call f ca vs)
     pub out_ok : (x : List ℕ) (a : Val N) (n i : ℕ) → P (text x) → P a → i < n → n ≤ 64 → Q (out x a n i)
     pub input_ok : (k : List ℕ) → Q (input k)
 
@@ -189,7 +191,7 @@ module _ {N : Type 0} (w : World N) (P : Val N → Type 0) (Q : Desc N → Type 
   fine_decide (text t) p d st on off l g h = (tt, l)
   fine_decide (list vs) p d st on off l g h = (tt, l)
   fine_decide (dict ps) p d st on off l g h = (tt, l)
-  fine_decide (fun f) p d st on off l g h = (tt, l)
+  fine_decide (fun f ca) p d st on off l g h = (tt, l)
   fine_decide (ref x) p d st on off l g h = (tt, l)
 
   end_read : (o : Answer N) (p : Place) → AnswerOk o → EndOk (read_end o p)
@@ -210,15 +212,15 @@ module _ {N : Type 0} (w : World N) (P : Val N → Type 0) (Q : Desc N → Type 
   fine_call_fun None vs p d st r l g = (tt, l)
   fine_call_fun (Some x) vs p d st r l g = fine_call_if (nat_eq (length x.params) (count vs)) p d st r l (g refl)
 
-  fine_called : (v : Val N) (vs : Vals N) (p : Place) (d : ℕ) (st : St N) (k : List ℕ → Res N) → PairsOk st.vars → ((f : List ℕ) → IsFun w.script f → Fine d (k f)) → Fine d (called w v vs p st k)
-  fine_called (fun f) vs p d st k l g = fine_call_fun (find_fun f w.script.funs) vs p d st (k f) l (g f)
-  fine_called null vs p d st k l g = (tt, l)
-  fine_called (truth b) vs p d st k l g = (tt, l)
-  fine_called (num z) vs p d st k l g = (tt, l)
-  fine_called (text t) vs p d st k l g = (tt, l)
-  fine_called (list us) vs p d st k l g = (tt, l)
-  fine_called (dict ps) vs p d st k l g = (tt, l)
-  fine_called (ref x) vs p d st k l g = (tt, l)
+  fine_called : (v : Val N) (vs : Vals N) (p : Place) (d : ℕ) (st : St N) (k : List ℕ → Pairs N → Res N) → PairsOk st.vars → P v → ((f : List ℕ) (ca : Pairs N) → IsFun w.script f → P (fun f ca) → Fine d (k f ca)) → Fine d (called w v vs p st k)
+  fine_called (fun f ca) vs p d st k l h g = fine_call_fun (find_fun f w.script.funs) vs p d st (k f ca) l (λ i. g f ca i h)
+  fine_called null vs p d st k l h g = (tt, l)
+  fine_called (truth b) vs p d st k l h g = (tt, l)
+  fine_called (num z) vs p d st k l h g = (tt, l)
+  fine_called (text t) vs p d st k l h g = (tt, l)
+  fine_called (list us) vs p d st k l h g = (tt, l)
+  fine_called (dict ps) vs p d st k l h g = (tt, l)
+  fine_called (ref x) vs p d st k l h g = (tt, l)
 
   fine_one : (vs : List (Val N)) (p : Place) (d : ℕ) (st : St N) (k : Val N → Res N) → PairsOk st.vars → Each P vs → ((x : Val N) → P x → Fine d (k x)) → Fine d (with_one vs p st k)
   fine_one [] p d st k l h g = (tt, l)
@@ -266,7 +268,7 @@ module _ {N : Type 0} (w : World N) (P : Val N → Type 0) (Q : Desc N → Type 
     truth_of_ok (text t) = tt
     truth_of_ok (list vs) = tt
     truth_of_ok (dict ps) = tt
-    truth_of_ok (fun f) = tt
+    truth_of_ok (fun f ca) = tt
     truth_of_ok (ref x) = tt
 
     end_one : (p : Place) (x : Desc N) (os : List (Object N)) → Each ObjectOk os → EndOk (wait_end w (one_of p x) os)
@@ -282,33 +284,40 @@ module _ {N : Type 0} (w : World N) (P : Val N → Type 0) (Q : Desc N → Type 
     fine_make : (x : Desc N) (d : ℕ) (st : St N) → PairsOk st.vars → Q x → Fine d (make_one w x st)
     fine_make x d st l q = (q, (c.ref_ok x q, l))
 
+    closed_fine : (x : List ℕ) (xs : Pairs N) → PairsOk xs → AnswerOk (closed (find_fun x w.script.funs) x xs)
+    closed_fine x xs l = go (find_fun x w.script.funs) refl
+      where
+        go : (o : Option FunDef) → find_fun x w.script.funs ≡ o → AnswerOk (closed o x xs)
+        go None e = tt
+        go (Some f) e = c.closed_ok f x xs e l
+
     fine_spawn_if : (b : Bool) (x : Desc N) (p : Place) (d : ℕ) (st : St N) → PairsOk st.vars → Q x → Fine d (spawn_if w b x p st)
     fine_spawn_if false x p d st l q = (tt, l)
     fine_spawn_if true x p d st l q = fine_make x d st l q
 
-    fine_spawn_fun : (o : Option FunDef) (f : List ℕ) (vs : Vals N) (p : Place) (d : ℕ) (st : St N) → PairsOk st.vars → (is_some o ≡ true → Q (call f vs)) → Fine d (spawn_fun w o f vs p st)
-    fine_spawn_fun None f vs p d st l q = (tt, l)
-    fine_spawn_fun (Some x) f vs p d st l q = fine_spawn_if (nat_eq (length x.params) (count vs)) (call f vs) p d st l (q refl)
+    fine_spawn_fun : (o : Option FunDef) (f : List ℕ) (ca : Pairs N) (vs : Vals N) (p : Place) (d : ℕ) (st : St N) → PairsOk st.vars → (is_some o ≡ true → Q (call f ca vs)) → Fine d (spawn_fun w o f ca vs p st)
+    fine_spawn_fun None f ca vs p d st l q = (tt, l)
+    fine_spawn_fun (Some x) f ca vs p d st l q = fine_spawn_if (nat_eq (length x.params) (count vs)) (call f ca vs) p d st l (q refl)
 
-    fine_spawn_list : (f : List ℕ) (a : Val N) (p : Place) (d : ℕ) (st : St N) → PairsOk st.vars → P a → Fine d (spawn_list w f a p st)
-    fine_spawn_list f (list vs) p d st l h = fine_spawn_fun (find_fun f w.script.funs) f vs p d st l (λ i. c.call_ok f vs i h)
-    fine_spawn_list f null p d st l h = (tt, l)
-    fine_spawn_list f (truth b) p d st l h = (tt, l)
-    fine_spawn_list f (num z) p d st l h = (tt, l)
-    fine_spawn_list f (text t) p d st l h = (tt, l)
-    fine_spawn_list f (dict ps) p d st l h = (tt, l)
-    fine_spawn_list f (fun g) p d st l h = (tt, l)
-    fine_spawn_list f (ref x) p d st l h = (tt, l)
+    fine_spawn_list : (f : List ℕ) (ca : Pairs N) (a : Val N) (p : Place) (d : ℕ) (st : St N) → PairsOk st.vars → P (fun f ca) → P a → Fine d (spawn_list w f ca a p st)
+    fine_spawn_list f ca (list vs) p d st l z h = fine_spawn_fun (find_fun f w.script.funs) f ca vs p d st l (λ i. c.call_ok f ca vs i z h)
+    fine_spawn_list f ca null p d st l z h = (tt, l)
+    fine_spawn_list f ca (truth b) p d st l z h = (tt, l)
+    fine_spawn_list f ca (num y) p d st l z h = (tt, l)
+    fine_spawn_list f ca (text t) p d st l z h = (tt, l)
+    fine_spawn_list f ca (dict ps) p d st l z h = (tt, l)
+    fine_spawn_list f ca (fun g cb) p d st l z h = (tt, l)
+    fine_spawn_list f ca (ref x) p d st l z h = (tt, l)
 
-    fine_spawned : (g a : Val N) (p : Place) (d : ℕ) (st : St N) → PairsOk st.vars → P a → Fine d (spawned w g a p st)
-    fine_spawned (fun f) a p d st l h = fine_spawn_list f a p d st l h
-    fine_spawned null a p d st l h = (tt, l)
-    fine_spawned (truth b) a p d st l h = (tt, l)
-    fine_spawned (num z) a p d st l h = (tt, l)
-    fine_spawned (text t) a p d st l h = (tt, l)
-    fine_spawned (list vs) a p d st l h = (tt, l)
-    fine_spawned (dict ps) a p d st l h = (tt, l)
-    fine_spawned (ref x) a p d st l h = (tt, l)
+    fine_spawned : (g a : Val N) (p : Place) (d : ℕ) (st : St N) → PairsOk st.vars → P g → P a → Fine d (spawned w g a p st)
+    fine_spawned (fun f ca) a p d st l z h = fine_spawn_list f ca a p d st l z h
+    fine_spawned null a p d st l z h = (tt, l)
+    fine_spawned (truth b) a p d st l z h = (tt, l)
+    fine_spawned (num y) a p d st l z h = (tt, l)
+    fine_spawned (text t) a p d st l z h = (tt, l)
+    fine_spawned (list vs) a p d st l z h = (tt, l)
+    fine_spawned (dict ps) a p d st l z h = (tt, l)
+    fine_spawned (ref x) a p d st l z h = (tt, l)
 
     outputs_ok : (x : List ℕ) (a : Val N) (n i m : ℕ) → P (text x) → P a → n ≤ 64 → i + m ≤ n → Each Q (outputs x a n i m)
     outputs_ok x a n i zero hx ha le lt = tt
@@ -347,7 +356,7 @@ module _ {N : Type 0} (w : World N) (P : Val N → Type 0) (Q : Desc N → Type 
       fine_outputs_count x a (text t) p hx ha = (tt, l)
       fine_outputs_count x a (list vs) p hx ha = (tt, l)
       fine_outputs_count x a (dict ps) p hx ha = (tt, l)
-      fine_outputs_count x a (fun f) p hx ha = (tt, l)
+      fine_outputs_count x a (fun f ca) p hx ha = (tt, l)
       fine_outputs_count x a (ref y) p hx ha = (tt, l)
 
       fine_outputs : (x a n : Val N) (p : Place) → P x → P a → Fine d (outputs_of w x a n p st k)
@@ -357,7 +366,7 @@ module _ {N : Type 0} (w : World N) (P : Val N → Type 0) (Q : Desc N → Type 
       fine_outputs (num z) a n p hx ha = (tt, l)
       fine_outputs (list vs) a n p hx ha = (tt, l)
       fine_outputs (dict ps) a n p hx ha = (tt, l)
-      fine_outputs (fun f) a n p hx ha = (tt, l)
+      fine_outputs (fun f ca) a n p hx ha = (tt, l)
       fine_outputs (ref y) a n p hx ha = (tt, l)
 
     fine_exec_ask : (n : ℕ) (ds : List (Desc N)) (d : ℕ) (st : St N) → PairsOk st.vars → length ds ≤ 64 → Each (λ x. P (ref x)) ds → Fine d (exec_ask w n ds st)
@@ -375,7 +384,7 @@ module _ {N : Type 0} (w : World N) (P : Val N → Type 0) (Q : Desc N → Type 
     fine_input (num z) p d st l = (tt, l)
     fine_input (list vs) p d st l = (tt, l)
     fine_input (dict ps) p d st l = (tt, l)
-    fine_input (fun f) p d st l = (tt, l)
+    fine_input (fun f ca) p d st l = (tt, l)
     fine_input (ref x) p d st l = (tt, l)
 
     fine_gives : (o : Answer N) (p : Place) (d : ℕ) (st : St N) → PairsOk st.vars → AnswerOk o → Fine d (answer o p st gives)
@@ -384,7 +393,7 @@ module _ {N : Type 0} (w : World N) (P : Val N → Type 0) (Q : Desc N → Type 
     fine_formed : (o : Form) (vs : List (Val N)) (n : ℕ) (p : Place) (d : ℕ) (st : St N) → PairsOk st.vars → Each P vs → Fine d (formed w o vs n p st)
     fine_formed Form.list vs n p d st l h = fine_gives (limited (list (vals_of vs))) p d st l (c.list_ok vs h)
     fine_formed Form.dict vs n p d st l h = fine_gives (dict_from vs no_pairs) p d st l (c.dict_ok vs h)
-    fine_formed Form.spawn vs n p d st l h = fine_two vs p d st _ l h (λ x y i j. fine_spawned x y p d st l j)
+    fine_formed Form.spawn vs n p d st l h = fine_two vs p d st _ l h (λ x y i j. fine_spawned x y p d st l i j)
     fine_formed Form.spawn_exec vs n p d st l h =
         fine_three vs p d st _ l h (λ x y z i j k. fine_outputs d st l _ (λ es le u. (c.refs_ok es le u, l)) x y z p i j)
     fine_formed Form.exec vs n p d st l h =
@@ -404,7 +413,7 @@ module _ {N : Type 0} (w : World N) (P : Val N → Type 0) (Q : Desc N → Type 
     fine_deref (text t) n k ss p d st go l h g = (tt, l)
     fine_deref (list vs) n k ss p d st go l h g = (tt, l)
     fine_deref (dict ps) n k ss p d st go l h g = (tt, l)
-    fine_deref (fun f) n k ss p d st go l h g = (tt, l)
+    fine_deref (fun f ca) n k ss p d st go l h g = (tt, l)
 
     fine_signed : (s : Sign) (v : Val N) (n k : ℕ) (ss : List SignAt) (p : Place) (d : ℕ) (st : St N) (go : Val N → St N → Res N) → PairsOk st.vars → P v → ((u : Val N) (t : St N) → P u → PairsOk t.vars → Fine d (go u t)) → Fine d (signed w s v n k ss p st go)
     fine_signed Sign.not v n k ss p d st go l h g = fine_answer (opposite v) p d st go l (c.opposite_ok v) (λ u i. g u st i l)
@@ -427,12 +436,14 @@ module _ {N : Type 0} (w : World N) (P : Val N → Type 0) (Q : Desc N → Type 
         fine_answer (set_at v k e) p d st _ l (c.set_ok v k e h i) (λ u j. (tt, put_ok x u st.vars j l))
 
     -- where d bodies may be opened, and a call of one of them is fine
-    module _ (d : ℕ) (body : List ℕ → Vals N → Place → St N → Res N) (enters : (f : List ℕ) (vs : Vals N) (p : Place) (n k m : ℕ) (ss : Steps) (st : St N) (go : Val N → St N → Res N) → IsFun w.script f → PairsOk st.vars → ValsOk vs → ((y : Val N) (u : St N) → P y → PairsOk u.vars → Fine d (go y u)) → Fine d (enter w body f vs p n k m ss st go)) where
+    module _ (d : ℕ) (body : List ℕ → Pairs N → Vals N → Place → St N → Res N) (enters : (f : List ℕ) (ca : Pairs N) (vs : Vals N) (p : Place) (n k m : ℕ) (ss : Steps) (st : St N) (go : Val N → St N → Res N) → IsFun w.script f → PairsOk st.vars → PairsOk ca → ValsOk vs → ((y : Val N) (u : St N) → P y → PairsOk u.vars → Fine d (go y u)) → Fine d (enter w body f ca vs p n k m ss st go)) where
       mutual
         fine_eval : (e : Exp) (n : ℕ) (st : St N) → PairsOk st.vars → Fine d (eval w body e n st)
         fine_eval (Exp.literal v p) n st l = fine_visit p d st _ l (fine_gives (limited (lit_val v)) p d (counted st) l (c.lit_ok v))
         fine_eval (Exp.name x p) n st l =
             fine_visit p d st (λ s. answer (named (find x s.vars) x w.script.funs) p s gives) l (fine_gives (named (find x st.vars) x w.script.funs) p d (counted st) l (named_ok (find x st.vars) x (find_ok x st.vars l)))
+        fine_eval (Exp.func x p) n st l =
+            fine_visit p d st (λ s. answer (closed (find_fun x w.script.funs) x s.vars) p s gives) l (fine_gives (closed (find_fun x w.script.funs) x st.vars) p d (counted st) l (closed_fine x st.vars l))
         fine_eval (Exp.parens e) n st l = fine_got (eval w body e (n + 1) st) d (parens_in n) gives (tt, tt) (fine_eval e (n + 1) st l) (λ v s i m. (i, m))
         fine_eval (Exp.parts o p es) n st l = fine_parts es n 1 (n + 1) o p [] st l tt
         fine_eval (Exp.chain e ls) n st l =
@@ -465,9 +476,9 @@ module _ {N : Type 0} (w : World N) (P : Val N → Type 0) (Q : Desc N → Type 
             fine_got _ d (index_at n k (m + nodes e) p v ss) _ ((h, tt), tt) (fine_eval e m st l) (λ x s i u. fine_visit p d s _ u (fine_answer (index v x) p d (counted s) _ u (c.index_ok v x h) (λ y j. fine_steps ss n (k + 1) (m + nodes e) y (counted s) u j)))
         fine_steps (Steps.call es p ss) n k m v st l h = fine_args es n k m p v [] ss st l h tt (λ i j y u z q. fine_steps ss n i j y u q z)
 
-        fine_args : (es : Exps) (n k m : ℕ) (p : Place) (g : Val N) (vs : List (Val N)) (ss : Steps) (st : St N) → PairsOk st.vars → P g → Each P vs → ((i j : ℕ) (y : Val N) (u : St N) → P y → PairsOk u.vars → Fine d (eval_steps w body ss n i j y u)) → Fine d (eval_args w body es n k m p g vs ss (λ i j f us s. enter w body f us p n i j ss s (λ y u. eval_steps w body ss n (i + 1) j y u)) st)
+        fine_args : (es : Exps) (n k m : ℕ) (p : Place) (g : Val N) (vs : List (Val N)) (ss : Steps) (st : St N) → PairsOk st.vars → P g → Each P vs → ((i j : ℕ) (y : Val N) (u : St N) → P y → PairsOk u.vars → Fine d (eval_steps w body ss n i j y u)) → Fine d (eval_args w body es n k m p g vs ss (λ i j f c us s. enter w body f c us p n i j ss s (λ y u. eval_steps w body ss n (i + 1) j y u)) st)
         fine_args Exps.no_exps n k m p g vs ss st l hg h steps =
-            fine_visit p d st _ l (fine_called g (vals_of vs) p d (counted st) _ l (λ f i. enters f (vals_of vs) p n k m ss (counted st) _ i l (vals_ok vs h) (λ y u i z. steps (k + 1) m y u i z)))
+            fine_visit p d st _ l (fine_called g (vals_of vs) p d (counted st) _ l hg (λ f ca i z. enters f ca (vals_of vs) p n k m ss (counted st) _ i l (c.caught_ok f ca z) (vals_ok vs h) (λ y u i z. steps (k + 1) m y u i z)))
         fine_args (Exps.exp e es) n k m p g vs ss st l hg h steps =
             fine_got _ d (arg_at n k (m + nodes e) p g vs es ss) _ ((hg, h), tt) (fine_eval e m st l) (λ v s i u. fine_args es n (k + 1) (m + nodes e) p g (vs ++ v ∷ []) ss s u hg (more_ok vs v h i) steps)
 
@@ -494,7 +505,7 @@ module _ {N : Type 0} (w : World N) (P : Val N → Type 0) (Q : Desc N → Type 
         fine_each_of (num z) x st l h = (tt, l)
         fine_each_of (text t) x st l h = (tt, l)
         fine_each_of (dict ps) x st l h = (tt, l)
-        fine_each_of (fun f) x st l h = (tt, l)
+        fine_each_of (fun f ca) x st l h = (tt, l)
         fine_each_of (ref y) x st l h = (tt, l)
 
       mutual
@@ -533,10 +544,10 @@ module _ {N : Type 0} (w : World N) (P : Val N → Type 0) (Q : Desc N → Type 
         fine_else Else.no_else n st l = (tt, l)
         fine_else (Else.otherwise blk) n st l = fine_stms blk n 0 (n + 1) st l
 
-    fine_in_body : (o : Option Body) (vs : Vals N) (p : Place) (d : ℕ) (st : St N) (run : Stms → ℕ → St N → Res N) → PairsOk st.vars → ValsOk vs → ((blk : Stms) (n : ℕ) (s : St N) → PairsOk s.vars → Fine d (run blk n s)) → Fine d (in_body w o vs p st run)
-    fine_in_body None vs p d st run l h g = (tt, l)
-    fine_in_body (Some x) vs p d st run l h g =
-        g x.block x.node (with_vars (bind x.params vs no_pairs) st) (bind_ok x.params vs no_pairs h tt)
+    fine_in_body : (o : Option Body) (ca : Pairs N) (vs : Vals N) (p : Place) (d : ℕ) (st : St N) (run : Stms → ℕ → St N → Res N) → PairsOk st.vars → PairsOk ca → ValsOk vs → ((blk : Stms) (n : ℕ) (s : St N) → PairsOk s.vars → Fine d (run blk n s)) → Fine d (in_body w o ca vs p st run)
+    fine_in_body None ca vs p d st run l z h g = (tt, l)
+    fine_in_body (Some x) ca vs p d st run l z h g =
+        g x.block x.node (with_vars (bind x.params vs ca) st) (bind_ok x.params vs ca h z)
 
     fine_body : (xs : Pairs N) (d : ℕ) (k : Val N → St N → Res N) → PairsOk xs → ((v : Val N) (st : St N) → P v → PairsOk st.vars → Fine d (k v st)) → (e : End N) (st : St N) → EndOk e → PairsOk st.vars → Fine d (on_body xs k e st)
     fine_body xs d k l g End.goes st o i = g null (with_vars xs st) c.null_ok l
@@ -545,8 +556,8 @@ module _ {N : Type 0} (w : World N) (P : Val N → Type 0) (Q : Desc N → Type 
     fine_body xs d k l g (End.failed f) st o i = (tt, l)
 
     -- every run of a body is fine, where d others may be opened
-    pub fine_call : (d : ℕ) (f : List ℕ) (vs : Vals N) (p : Place) (st : St N) → PairsOk st.vars → ValsOk vs → Fine d (body_at w (suc d) f vs p st)
-    fine_call zero f vs p st l h =
-        fine_in_body (body_of f w.script) vs p zero st _ l h (λ blk n s i. fine_stms zero (body_at w zero) (λ f' vs' p' n' k' m' ss' st' go' i' l' h' g'. (tt, l')) blk n 0 (n + 1) s i)
-    fine_call (suc d) f vs p st l h =
-        fine_in_body (body_of f w.script) vs p (suc d) st _ l h (λ blk n s i. fine_stms (suc d) (body_at w (suc d)) (λ f' vs' p' n' k' m' ss' st' go' i' l' h' g'. fine_then (body_at w (suc d) f' vs' p' st') (suc d) (call_open n' k' m' f' st'.vars ss') (on_body st'.vars go') (tt, (omega arith, i', l')) (fine_call d f' vs' p' st' l' h') (fine_body st'.vars (suc d) go' l' g')) blk n 0 (n + 1) s i)
+    pub fine_call : (d : ℕ) (f : List ℕ) (ca : Pairs N) (vs : Vals N) (p : Place) (st : St N) → PairsOk st.vars → PairsOk ca → ValsOk vs → Fine d (body_at w (suc d) f ca vs p st)
+    fine_call zero f ca vs p st l z h =
+        fine_in_body (body_of f w.script) ca vs p zero st _ l z h (λ blk n s i. fine_stms zero (body_at w zero) (λ f' ca' vs' p' n' k' m' ss' st' go' i' l' z' h' g'. (tt, l')) blk n 0 (n + 1) s i)
+    fine_call (suc d) f ca vs p st l z h =
+        fine_in_body (body_of f w.script) ca vs p (suc d) st _ l z h (λ blk n s i. fine_stms (suc d) (body_at w (suc d)) (λ f' ca' vs' p' n' k' m' ss' st' go' i' l' z' h' g'. fine_then (body_at w (suc d) f' ca' vs' p' st') (suc d) (call_open n' k' m' f' st'.vars ss') (on_body st'.vars go') (tt, (omega arith, i', l')) (fine_call d f' ca' vs' p' st' l' z' h') (fine_body st'.vars (suc d) go' l' g')) blk n 0 (n + 1) s i)

@@ -1,17 +1,8 @@
 -- Gathering the distinct names of a value.
 use Rattle.std.proofs.Common.{◌≡◌, ℕ, suc, List, [], ◌∷◌, ◌++◌, length, Bool, true, false, ◌||◌, refl, ap, sym, ◌∙◌, append_assoc, append-nil}
 use Rattle.sky_base.specs.Val.{Desc, known, same_text, same_desc, stands_in, unless_in, distinct_from, distinct}
-use Rattle.sky_base.specs.Names.{names_of, is_among, known_of, with_new, gathered}
-use Rattle.sky_base.specs.declared.text.Name.{Name}
+use Rattle.sky_base.specs.Names.{is_among, known_of, with_new, gathered}
 use Rattle.sky_base.proofs.Exact.{exact_text, exact_desc}
-
-pub length-names_of : (ns : List Name) → length (names_of ns) ≡ length ns
-length-names_of [] = refl
-length-names_of (n ∷ ns) = ap suc (length-names_of ns)
-
-pub names_of-push : (ns : List Name) (n : Name) → names_of (ns ++ n ∷ []) ≡ names_of ns ++ (n.bytes ∷ [])
-names_of-push [] n = refl
-names_of-push (m ∷ ns) n = ap (λ ms. m.bytes ∷ ms) (names_of-push ns n)
 
 pub known_of-push : (ns : List (List ℕ)) (n : List ℕ) → known_of (ns ++ n ∷ []) ≡ known_of ns ++ (known n ∷ [])
 known_of-push [] n = refl
@@ -70,6 +61,6 @@ gathered-distinct (e ∷ es) ds before a =
 pub gathered_is : (es : List (Desc (List ℕ))) → gathered [] es ≡ distinct same_text es
 gathered_is es = gathered-distinct es [] [] (λ d. refl)
 
-pub ruleset named = (length-names_of, names_of-push, known_of-push, stands_in-known)
+pub ruleset named = (known_of-push, stands_in-known)
 
 pub ruleset gathers = (gathered-append, gathered_is)

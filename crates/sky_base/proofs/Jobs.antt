@@ -113,7 +113,7 @@ abbrev q : List ℕ
 q = 113 ∷ []
 
 two_faults_row : List Exp → Job
-two_faults_row es = record { script = record { funs = record { name = p; params = []; body = block (Stm.return (at 16) (Exp.chain (n 1 23) (Links.link Oper.over (at 25) (n 0 27) Links.no_links)) ∷ []); place = at 10 } ∷ record { name = q; params = []; body = block (Stm.return (at 47) (first (form Form.list 54 []) 56) ∷ []); place = at 41 } ∷ []; main = block (Stm.return (at 62) (executes (99 ∷ 97 ∷ 116 ∷ []) 69 es) ∷ []); keys = [] }; inputs = [] }
+two_faults_row es = record { script = record { funs = record { name = p; params = []; body = block (Stm.return (at 16) (Exp.chain (n 1 23) (Links.link Oper.over (at 25) (n 0 27) Links.no_links)) ∷ []); place = at 10; uses = [] } ∷ record { name = q; params = []; body = block (Stm.return (at 47) (first (form Form.list 54 []) 56) ∷ []); place = at 41; uses = [] } ∷ []; main = block (Stm.return (at 62) (executes (99 ∷ 97 ∷ 116 ∷ []) 69 es) ∷ []); keys = [] }; inputs = [] }
 
 two_faults_row_p : job_answer (two_faults_row (spawns p 100 ∷ spawns q 114 ∷ [])) kit 4 ≡ Answered.fault (record { kind = FaultKind.DivZero; line = 1; col = 25 })
 unfolding computing two_faults_row

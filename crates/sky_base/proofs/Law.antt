@@ -5,7 +5,7 @@ use Rattle.sky_base.specs.Val.{Val, Vals, Pairs, Desc, null, truth, num, text, l
 use Rattle.sky_base.specs.Op.{Answer, index, find, negated, opposite, len, keys, has, range, limited, set_at, grown, dict_from}
 use Rattle.sky_base.specs.Tree.{Place, nowhere, Junction, Sign, SignAt, Form, Exp, Exps, Links, Ands, Steps, Stm, Stms, Arms, Else, FunDef, nodes, stm_nodes, block_nodes, arms_nodes}
 use Rattle.sky_base.specs.Res.{visits, Object, End, St, Entry, parens_in, part_at, chain_first, chain_more, logic_at, prefix_part, star_wait, postfix_first, index_at, arg_at, call_open, exec_wait, set_part, add_part, put_index, put_value, return_part, just_part, arm_test, while_test, while_body, repeat_body, repeat_test, for_list, for_body, block_at, Wait, one_of, all_of, Res, Fin, Tell, Ask, then_do, on_got, on_goes, with_vars, on_body, gives, counted, visited, visit, answer, tell_all}
-use Rattle.sky_base.specs.Eval.{World, find_fun, is_one_of, Body, body_of, bind, set_var, lit_val, named, oper, exec_end, read_end, outputs, truth_of, decide, joins, add_to, put_in, left, turns, repeats, each, each_of, with_one, with_two, with_three, wait_end, ask, make_one, spawn_if, spawn_fun, spawn_list, spawned, outputs_if, outputs_count, outputs_of, exec_ask, input_if, input_of, formed, deref, signed, signs, call_if, call_fun, called, enter, eval, eval_parts, eval_links, eval_ands, eval_steps, eval_args, eval_stm, eval_stms, eval_arms, eval_else, eval_block, after, in_body, body_at, inside, plug}
+use Rattle.sky_base.specs.Eval.{World, find_fun, is_one_of, Body, body_of, bind, set_var, lit_val, named, closed, oper, exec_end, read_end, outputs, truth_of, decide, joins, add_to, put_in, left, turns, repeats, each, each_of, with_one, with_two, with_three, wait_end, ask, make_one, spawn_if, spawn_fun, spawn_list, spawned, outputs_if, outputs_count, outputs_of, exec_ask, input_if, input_of, formed, deref, signed, signs, call_if, call_fun, called, enter, eval, eval_parts, eval_links, eval_ands, eval_steps, eval_args, eval_stm, eval_stms, eval_arms, eval_else, eval_block, after, in_body, body_at, inside, plug}
 
 module _ {N : Type 0} (w : World N) where
   -- what a form under way does where d bodies may be opened
@@ -127,7 +127,7 @@ module _ {N : Type 0} (w : World N) where
   good_decide (text t) p d b st on off g h = tt
   good_decide (list vs) p d b st on off g h = tt
   good_decide (dict ps) p d b st on off g h = tt
-  good_decide (fun f) p d b st on off g h = tt
+  good_decide (fun f c) p d b st on off g h = tt
   good_decide (ref e) p d b st on off g h = tt
 
   pub decide_alike : (v : Val N) (p : Place) (st : St N) (on on' off : St N → Res N) → on st ≡ on' st → decide v p st on off ≡ decide v p st on' off
@@ -138,7 +138,7 @@ module _ {N : Type 0} (w : World N) where
   decide_alike (text t) p st on on' off e = refl
   decide_alike (list vs) p st on on' off e = refl
   decide_alike (dict ps) p st on on' off e = refl
-  decide_alike (fun f) p st on on' off e = refl
+  decide_alike (fun f c) p st on on' off e = refl
   decide_alike (ref d) p st on on' off e = refl
 
   good_joins : (j : Junction) (v : Val N) (p : Place) (d b : ℕ) (st : St N) (k : St N → Res N) → Within b st → Good d b (k st) → Good d b (joins j v p st k)
@@ -154,22 +154,22 @@ module _ {N : Type 0} (w : World N) where
   good_spawn_if false o p d b st h = tt
   good_spawn_if true o p d b st h = good_make o d b st h
 
-  good_spawn_fun : (o : Option FunDef) (f : List ℕ) (vs : Vals N) (p : Place) (d b : ℕ) (st : St N) → Within b st → Good d b (spawn_fun w o f vs p st)
-  good_spawn_fun None f vs p d b st h = tt
-  good_spawn_fun (Some x) f vs p d b st h = good_spawn_if _ _ p d b st h
+  good_spawn_fun : (o : Option FunDef) (f : List ℕ) (c : Pairs N) (vs : Vals N) (p : Place) (d b : ℕ) (st : St N) → Within b st → Good d b (spawn_fun w o f c vs p st)
+  good_spawn_fun None f c vs p d b st h = tt
+  good_spawn_fun (Some x) f c vs p d b st h = good_spawn_if _ _ p d b st h
 
-  good_spawn_list : (f : List ℕ) (a : Val N) (p : Place) (d b : ℕ) (st : St N) → Within b st → Good d b (spawn_list w f a p st)
-  good_spawn_list f (list vs) p d b st h = good_spawn_fun (find_fun f w.script.funs) f vs p d b st h
-  good_spawn_list f null p d b st h = tt
-  good_spawn_list f (truth x) p d b st h = tt
-  good_spawn_list f (num z) p d b st h = tt
-  good_spawn_list f (text t) p d b st h = tt
-  good_spawn_list f (dict ps) p d b st h = tt
-  good_spawn_list f (fun g) p d b st h = tt
-  good_spawn_list f (ref e) p d b st h = tt
+  good_spawn_list : (f : List ℕ) (c : Pairs N) (a : Val N) (p : Place) (d b : ℕ) (st : St N) → Within b st → Good d b (spawn_list w f c a p st)
+  good_spawn_list f c (list vs) p d b st h = good_spawn_fun (find_fun f w.script.funs) f c vs p d b st h
+  good_spawn_list f c null p d b st h = tt
+  good_spawn_list f c (truth x) p d b st h = tt
+  good_spawn_list f c (num z) p d b st h = tt
+  good_spawn_list f c (text t) p d b st h = tt
+  good_spawn_list f c (dict ps) p d b st h = tt
+  good_spawn_list f c (fun g cb) p d b st h = tt
+  good_spawn_list f c (ref e) p d b st h = tt
 
   good_spawned : (g a : Val N) (p : Place) (d b : ℕ) (st : St N) → Within b st → Good d b (spawned w g a p st)
-  good_spawned (fun f) a p d b st h = good_spawn_list f a p d b st h
+  good_spawned (fun f c) a p d b st h = good_spawn_list f c a p d b st h
   good_spawned null a p d b st h = tt
   good_spawned (truth x) a p d b st h = tt
   good_spawned (num z) a p d b st h = tt
@@ -194,7 +194,7 @@ module _ {N : Type 0} (w : World N) where
   good_outputs_count x a (text t) p d b st k g = tt
   good_outputs_count x a (list vs) p d b st k g = tt
   good_outputs_count x a (dict ps) p d b st k g = tt
-  good_outputs_count x a (fun f) p d b st k g = tt
+  good_outputs_count x a (fun f c) p d b st k g = tt
   good_outputs_count x a (ref e) p d b st k g = tt
 
   good_outputs : (x a n : Val N) (p : Place) (d b : ℕ) (st : St N) (k : List (Desc N) → St N → Res N) → ((es : List (Desc N)) → Good d b (k es st)) → Good d b (outputs_of w x a n p st k)
@@ -204,7 +204,7 @@ module _ {N : Type 0} (w : World N) where
   good_outputs (num z) a n p d b st k g = tt
   good_outputs (list vs) a n p d b st k g = tt
   good_outputs (dict ps) a n p d b st k g = tt
-  good_outputs (fun f) a n p d b st k g = tt
+  good_outputs (fun f c) a n p d b st k g = tt
   good_outputs (ref e) a n p d b st k g = tt
 
   good_exec_ask : (n : ℕ) (ds : List (Desc N)) (d b : ℕ) (st : St N) → Within b st → Good d b (exec_ask w n ds st)
@@ -221,7 +221,7 @@ module _ {N : Type 0} (w : World N) where
   good_input (num z) p d b st h = tt
   good_input (list vs) p d b st h = tt
   good_input (dict ps) p d b st h = tt
-  good_input (fun f) p d b st h = tt
+  good_input (fun f c) p d b st h = tt
   good_input (ref e) p d b st h = tt
 
   good_one : (vs : List (Val N)) (p : Place) (d b : ℕ) (st : St N) (k : Val N → Res N) → ((x : Val N) → Good d b (k x)) → Good d b (with_one vs p st k)
@@ -267,7 +267,7 @@ module _ {N : Type 0} (w : World N) where
   good_deref (text t) n k ss p d b st h g = tt
   good_deref (list vs) n k ss p d b st h g = tt
   good_deref (dict ps) n k ss p d b st h g = tt
-  good_deref (fun f) n k ss p d b st h g = tt
+  good_deref (fun f c) n k ss p d b st h g = tt
 
   good_signed : (o : Sign) (v : Val N) (n k : ℕ) (ss : List SignAt) (p : Place) (d b : ℕ) (st : St N) → Within b st → ((u : Val N) (t : St N) → Within b t → Good d b (signs w ss n (k + 1) u t)) → Good d b (signed w o v n k ss p st (λ u t. signs w ss n (k + 1) u t))
   good_signed Sign.not v n k ss p d b st h g = good_answer (opposite v) p d b st _ (λ u. g u st h)
@@ -295,8 +295,8 @@ module _ {N : Type 0} (w : World N) where
   good_call_fun None vs p d b st r g = tt
   good_call_fun (Some x) vs p d b st r g = good_call_if (nat_eq (length x.params) (count vs)) p d b st r g
 
-  good_called : (v : Val N) (vs : Vals N) (p : Place) (d b : ℕ) (st : St N) (k : List ℕ → Res N) → ((f : List ℕ) → Good d b (k f)) → Good d b (called w v vs p st k)
-  good_called (fun f) vs p d b st k g = good_call_fun (find_fun f w.script.funs) vs p d b st (k f) (g f)
+  good_called : (v : Val N) (vs : Vals N) (p : Place) (d b : ℕ) (st : St N) (k : List ℕ → Pairs N → Res N) → ((f : List ℕ) (c : Pairs N) → Good d b (k f c)) → Good d b (called w v vs p st k)
+  good_called (fun f c) vs p d b st k g = good_call_fun (find_fun f w.script.funs) vs p d b st (k f c) (g f c)
   good_called null vs p d b st k g = tt
   good_called (truth y) vs p d b st k g = tt
   good_called (num z) vs p d b st k g = tt
@@ -306,15 +306,16 @@ module _ {N : Type 0} (w : World N) where
   good_called (ref e) vs p d b st k g = tt
 
   -- where d bodies may be opened, and each of them is good
-  module _ (d : ℕ) (good_call : (n k m : ℕ) (f : List ℕ) (xs : Pairs N) (ss : Steps) (vs : Vals N) (p : Place) (st : St N) → st.count ≤ visits → Good (inside w (call_open n k m f xs ss) d) st.count (body_at w d f vs p st)) where
-    good_enter : (f : List ℕ) (vs : Vals N) (p : Place) (n k m : ℕ) (ss : Steps) (b : ℕ) (st : St N) → Within b st → ((y : Val N) (u : St N) → Within b u → Good d b (eval_steps w (body_at w d) ss n (k + 1) m y u)) → Good d b (enter w (body_at w d) f vs p n k m ss st (λ y u. eval_steps w (body_at w d) ss n (k + 1) m y u))
-    good_enter f vs p n k m ss b st h g =
-        good_then (body_at w d f vs p st) d st.count b (call_open n k m f st.vars ss) _ (good_call n k m f st.vars ss vs p st h.1) (λ e s i. refl) (λ e s i. good_body d st.count b st.vars _ e s i (λ v u j. g v u (omega arith, omega arith)))
+  module _ (d : ℕ) (good_call : (n k m : ℕ) (f : List ℕ) (xs : Pairs N) (ss : Steps) (c : Pairs N) (vs : Vals N) (p : Place) (st : St N) → st.count ≤ visits → Good (inside w (call_open n k m f xs ss) d) st.count (body_at w d f c vs p st)) where
+    good_enter : (f : List ℕ) (c : Pairs N) (vs : Vals N) (p : Place) (n k m : ℕ) (ss : Steps) (b : ℕ) (st : St N) → Within b st → ((y : Val N) (u : St N) → Within b u → Good d b (eval_steps w (body_at w d) ss n (k + 1) m y u)) → Good d b (enter w (body_at w d) f c vs p n k m ss st (λ y u. eval_steps w (body_at w d) ss n (k + 1) m y u))
+    good_enter f c vs p n k m ss b st h g =
+        good_then (body_at w d f c vs p st) d st.count b (call_open n k m f st.vars ss) _ (good_call n k m f st.vars ss c vs p st h.1) (λ e s i. refl) (λ e s i. good_body d st.count b st.vars _ e s i (λ v u j. g v u (omega arith, omega arith)))
 
     mutual
       pub good_eval : (e : Exp) (n : ℕ) (st : St N) → Good d (st.count + 1) (eval w (body_at w d) e n st)
       good_eval (Exp.literal v p) n st = good_visit p d (st.count + 1) st _ (λ lt. good_answer (limited (lit_val v)) p d (st.count + 1) (counted st) gives (λ x. (omega arith, omega arith)))
       good_eval (Exp.name x p) n st = good_visit p d (st.count + 1) st (λ s. answer (named (find x s.vars) x w.script.funs) p s gives) (λ lt. good_answer (named (find x st.vars) x w.script.funs) p d (st.count + 1) (counted st) gives (λ y. (omega arith, omega arith)))
+      good_eval (Exp.func x p) n st = good_visit p d (st.count + 1) st (λ s. answer (closed (find_fun x w.script.funs) x s.vars) p s gives) (λ lt. good_answer (closed (find_fun x w.script.funs) x st.vars) p d (st.count + 1) (counted st) gives (λ y. (omega arith, omega arith)))
       good_eval (Exp.parens e) n st = good_part _ d (st.count + 1) (st.count + 1) (parens_in n) _ (good_eval e (n + 1) st) (omega arith) (λ e s. refl) (λ v s h. h)
       good_eval (Exp.parts o p es) n st = good_parts es n 1 (n + 1) o p [] st
       good_eval (Exp.chain e ls) n st =
@@ -349,9 +350,9 @@ module _ {N : Type 0} (w : World N) where
       good_steps (Steps.call es p ss) n k m v b st h =
           good_args es n k m p v [] ss b st h (λ l i y u j. good_steps ss n l i y b u j)
 
-      good_args : (es : Exps) (n k m : ℕ) (p : Place) (g : Val N) (vs : List (Val N)) (ss : Steps) (b : ℕ) (st : St N) → Within b st → ((l i : ℕ) (y : Val N) (u : St N) → Within b u → Good d b (eval_steps w (body_at w d) ss n l i y u)) → Good d b (eval_args w (body_at w d) es n k m p g vs ss (λ l i f us s. enter w (body_at w d) f us p n l i ss s (λ y u. eval_steps w (body_at w d) ss n (l + 1) i y u)) st)
+      good_args : (es : Exps) (n k m : ℕ) (p : Place) (g : Val N) (vs : List (Val N)) (ss : Steps) (b : ℕ) (st : St N) → Within b st → ((l i : ℕ) (y : Val N) (u : St N) → Within b u → Good d b (eval_steps w (body_at w d) ss n l i y u)) → Good d b (eval_args w (body_at w d) es n k m p g vs ss (λ l i f c us s. enter w (body_at w d) f c us p n l i ss s (λ y u. eval_steps w (body_at w d) ss n (l + 1) i y u)) st)
       good_args Exps.no_exps n k m p g vs ss b st h steps =
-          good_visit p d b st _ (λ lt. good_called g (vals_of vs) p d b (counted st) _ (λ f. good_enter f (vals_of vs) p n k m ss b (counted st) (omega arith, omega arith) (λ y u i. steps (k + 1) m y u i)))
+          good_visit p d b st _ (λ lt. good_called g (vals_of vs) p d b (counted st) _ (λ f c. good_enter f c (vals_of vs) p n k m ss b (counted st) (omega arith, omega arith) (λ y u i. steps (k + 1) m y u i)))
       good_args (Exps.exp e es) n k m p g vs ss b st h steps =
           good_part _ d (st.count + 1) b (arg_at n k (m + nodes e) p g vs es ss) _ (good_eval e m st) (omega arith) (λ e s. refl) (λ v s i. good_args es n (k + 1) (m + nodes e) p g (vs ++ v ∷ []) ss b s (omega arith, omega arith) steps)
 
@@ -397,7 +398,7 @@ module _ {N : Type 0} (w : World N) where
       good_each_of (num z) x b st h = tt
       good_each_of (text t) x b st h = tt
       good_each_of (dict ps) x b st h = tt
-      good_each_of (fun f) x b st h = tt
+      good_each_of (fun f c) x b st h = tt
       good_each_of (ref e) x b st h = tt
 
     -- the block of a `do` is at the node after its own, and its test at the node m
@@ -450,22 +451,22 @@ module _ {N : Type 0} (w : World N) where
       good_else (Else.otherwise blk) n b st h = good_stms blk n 0 (n + 1) b st h
 
   -- a body is good, however many bodies may be opened
-  good_in_body : (d : ℕ) (o : Option Body) (vs : Vals N) (p : Place) (st : St N) (run : Stms → ℕ → St N → Res N) → ((b : Stms) (n : ℕ) (s : St N) → s.count ≤ visits → Good d s.count (run b n s)) → st.count ≤ visits → Good d st.count (in_body w o vs p st run)
-  good_in_body d None vs p st run good h = tt
-  good_in_body d (Some x) vs p st run good h = good x.block x.node (with_vars (bind x.params vs no_pairs) st) h
+  good_in_body : (d : ℕ) (o : Option Body) (c : Pairs N) (vs : Vals N) (p : Place) (st : St N) (run : Stms → ℕ → St N → Res N) → ((b : Stms) (n : ℕ) (s : St N) → s.count ≤ visits → Good d s.count (run b n s)) → st.count ≤ visits → Good d st.count (in_body w o c vs p st run)
+  good_in_body d None c vs p st run good h = tt
+  good_in_body d (Some x) c vs p st run good h = good x.block x.node (with_vars (bind x.params vs c) st) h
 
-  pub good_call : (d n k m : ℕ) (f : List ℕ) (xs : Pairs N) (ss : Steps) (vs : Vals N) (p : Place) (st : St N) → st.count ≤ visits → Good (inside w (call_open n k m f xs ss) d) st.count (body_at w d f vs p st)
-  good_call zero n k m f xs ss vs p st h = tt
-  good_call (suc d) n k m f xs ss vs p st h =
-      good_in_body d (body_of f w.script) vs p st _ (λ b i s j. good_stms d (good_call d) b i 0 (i + 1) s.count s (omega arith, j)) h
+  pub good_call : (d n k m : ℕ) (f : List ℕ) (xs : Pairs N) (ss : Steps) (c : Pairs N) (vs : Vals N) (p : Place) (st : St N) → st.count ≤ visits → Good (inside w (call_open n k m f xs ss) d) st.count (body_at w d f c vs p st)
+  good_call zero n k m f xs ss c vs p st h = tt
+  good_call (suc d) n k m f xs ss c vs p st h =
+      good_in_body d (body_of f w.script) c vs p st _ (λ b i s j. good_stms d (good_call d) b i 0 (i + 1) s.count s (omega arith, j)) h
 
   -- the block of a body
   pub good_block : (d : ℕ) (b : Stms) (n : ℕ) (st : St N) → st.count ≤ visits → Good d st.count (eval_block w (body_at w d) b n st)
   good_block d b n st h = good_stms d (good_call d) b n 0 (n + 1) st.count st (omega arith, h)
 
   -- a task's own body
-  pub good_task : (d : ℕ) (f : List ℕ) (vs : Vals N) (p : Place) (st : St N) → st.count ≤ visits → Good d st.count (body_at w (suc d) f vs p st)
-  good_task d f vs p st h = good_call (suc d) 0 0 0 f no_pairs Steps.no_steps vs p st h
+  pub good_task : (d : ℕ) (f : List ℕ) (c : Pairs N) (vs : Vals N) (p : Place) (st : St N) → st.count ≤ visits → Good d st.count (body_at w (suc d) f c vs p st)
+  good_task d f c vs p st h = good_call (suc d) 0 0 0 f no_pairs Steps.no_steps c vs p st h
 
   -- how many bodies may be opened inside of these forms
   abbrev pub inner : List (Entry N) → ℕ → ℕ

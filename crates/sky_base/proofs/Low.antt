@@ -1,5 +1,5 @@
 -- An operator on lowered values gives the lowered answer.
-use Rattle.std.proofs.Common.{◌≡◌, ℕ, zero, suc, ◌+◌, max, ℤ, pos, negsuc, ◌+ℤ◌, ◌-ℤ◌, ◌*ℤ◌, int_div, List, [], ◌∷◌, ◌++◌, map, Bool, true, false, not, ◌&&◌, Ok, Option, Some, None, nat_lt, refl, sym, ap, ap₂, ◌∙◌}
+use Rattle.std.proofs.Common.{length, ◌≡◌, ℕ, zero, suc, ◌+◌, max, ℤ, pos, negsuc, ◌+ℤ◌, ◌-ℤ◌, ◌*ℤ◌, int_div, List, [], ◌∷◌, ◌++◌, map, Bool, true, false, not, ◌&&◌, Ok, Option, Some, None, nat_lt, refl, sym, ap, ap₂, ◌∙◌}
 use Rattle.std.specs.Ordering.{nat_cmp, int_eq, match_ordering, is_lt, is_le, is_gt, is_ge}
 use Rattle.std.specs.Cmp.Lexicographic.{slice_cmp}
 use Rattle.std.specs.declared.cmp.Ordering.{Ordering}
@@ -20,7 +20,7 @@ module _ {N : Type 0} (spell : N → List ℕ) (tag : Desc (List ℕ) → List �
     size_low (text t) = refl
     size_low (list vs) = ap (λ n. 1 + n) (sizes_low vs)
     size_low (dict ps) = ap (λ n. 1 + n) (pair_sizes_low ps)
-    size_low (fun f) = refl
+    size_low (fun f c) = ap (λ n. 1 + (length f + n)) (pair_sizes_low c)
     size_low (ref d) = refl
 
     pub sizes_low : (vs : Vals N) → sizes (low_vals spell tag vs) ≡ sizes vs
@@ -39,7 +39,7 @@ module _ {N : Type 0} (spell : N → List ℕ) (tag : Desc (List ℕ) → List �
     depth_low (text t) = refl
     depth_low (list vs) = ap (λ n. 1 + n) (depths_low vs)
     depth_low (dict ps) = ap (λ n. 1 + n) (pair_depths_low ps)
-    depth_low (fun f) = refl
+    depth_low (fun f c) = ap (λ n. 1 + n) (pair_depths_low c)
     depth_low (ref d) = refl
 
     pub depths_low : (vs : Vals N) → depths (low_vals spell tag vs) ≡ depths vs
@@ -78,7 +78,7 @@ module _ {N : Type 0} (spell : N → List ℕ) (tag : Desc (List ℕ) → List �
   plus_num_low a (text t) = refl
   plus_num_low a (list vs) = refl
   plus_num_low a (dict ps) = refl
-  plus_num_low a (fun f) = refl
+  plus_num_low a (fun f c) = refl
   plus_num_low a (ref d) = refl
 
   plus_text_low : (s : List ℕ) (b : Val N) → plus_text s (low spell tag b) ≡ lower spell tag (plus_text s b)
@@ -88,7 +88,7 @@ module _ {N : Type 0} (spell : N → List ℕ) (tag : Desc (List ℕ) → List �
   plus_text_low s (truth b) = refl
   plus_text_low s (list vs) = refl
   plus_text_low s (dict ps) = refl
-  plus_text_low s (fun f) = refl
+  plus_text_low s (fun f c) = refl
   plus_text_low s (ref d) = refl
 
   plus_list_low : (a : Vals N) (b : Val N) → plus_list (low_vals spell tag a) (low spell tag b) ≡ lower spell tag (plus_list a b)
@@ -98,7 +98,7 @@ module _ {N : Type 0} (spell : N → List ℕ) (tag : Desc (List ℕ) → List �
   plus_list_low a (truth b) = refl
   plus_list_low a (text t) = refl
   plus_list_low a (dict ps) = refl
-  plus_list_low a (fun f) = refl
+  plus_list_low a (fun f c) = refl
   plus_list_low a (ref d) = refl
 
   pub plus_low : (a b : Val N) → plus (low spell tag a) (low spell tag b) ≡ lower spell tag (plus a b)
@@ -108,7 +108,7 @@ module _ {N : Type 0} (spell : N → List ℕ) (tag : Desc (List ℕ) → List �
   plus_low null b = refl
   plus_low (truth a) b = refl
   plus_low (dict ps) b = refl
-  plus_low (fun f) b = refl
+  plus_low (fun f c) b = refl
   plus_low (ref d) b = refl
 
   val_at_low : (vs : Vals N) (i : ℕ) (k : FaultKind) → or_else (val_at (low_vals spell tag vs) i) k ≡ lower spell tag (or_else (val_at vs i) k)
@@ -156,7 +156,7 @@ module _ {N : Type 0} (spell : N → List ℕ) (tag : Desc (List ℕ) → List �
   set_list_low vs (text t) e = refl
   set_list_low vs (list ws) e = refl
   set_list_low vs (dict ps) e = refl
-  set_list_low vs (fun f) e = refl
+  set_list_low vs (fun f c) e = refl
   set_list_low vs (ref d) e = refl
 
   set_dict_low : (ps : Pairs N) (i e : Val N) → set_dict (low_pairs spell tag ps) (low spell tag i) (low spell tag e) ≡ lower spell tag (set_dict ps i e)
@@ -166,7 +166,7 @@ module _ {N : Type 0} (spell : N → List ℕ) (tag : Desc (List ℕ) → List �
   set_dict_low ps (truth b) e = refl
   set_dict_low ps (list ws) e = refl
   set_dict_low ps (dict qs) e = refl
-  set_dict_low ps (fun f) e = refl
+  set_dict_low ps (fun f c) e = refl
   set_dict_low ps (ref d) e = refl
 
   pub set_at_low : (v i e : Val N) → set_at (low spell tag v) (low spell tag i) (low spell tag e) ≡ lower spell tag (set_at v i e)
@@ -176,7 +176,7 @@ module _ {N : Type 0} (spell : N → List ℕ) (tag : Desc (List ℕ) → List �
   set_at_low null i e = refl
   set_at_low (truth b) i e = refl
   set_at_low (text t) i e = refl
-  set_at_low (fun f) i e = refl
+  set_at_low (fun f c) i e = refl
   set_at_low (ref d) i e = refl
 
   index_list_low : (vs : Vals N) (i : Val N) → index_list (low_vals spell tag vs) (low spell tag i) ≡ lower spell tag (index_list vs i)
@@ -187,7 +187,7 @@ module _ {N : Type 0} (spell : N → List ℕ) (tag : Desc (List ℕ) → List �
   index_list_low vs (text t) = refl
   index_list_low vs (list ws) = refl
   index_list_low vs (dict ps) = refl
-  index_list_low vs (fun f) = refl
+  index_list_low vs (fun f c) = refl
   index_list_low vs (ref d) = refl
 
   index_dict_low : (ps : Pairs N) (i : Val N) → index_dict (low_pairs spell tag ps) (low spell tag i) ≡ lower spell tag (index_dict ps i)
@@ -197,7 +197,7 @@ module _ {N : Type 0} (spell : N → List ℕ) (tag : Desc (List ℕ) → List �
   index_dict_low ps (truth b) = refl
   index_dict_low ps (list ws) = refl
   index_dict_low ps (dict qs) = refl
-  index_dict_low ps (fun f) = refl
+  index_dict_low ps (fun f c) = refl
   index_dict_low ps (ref d) = refl
 
   pub index_low : (v i : Val N) → index (low spell tag v) (low spell tag i) ≡ lower spell tag (index v i)
@@ -207,7 +207,7 @@ module _ {N : Type 0} (spell : N → List ℕ) (tag : Desc (List ℕ) → List �
   index_low null i = refl
   index_low (truth b) i = refl
   index_low (text t) i = refl
-  index_low (fun f) i = refl
+  index_low (fun f c) i = refl
   index_low (ref d) i = refl
 
   -- ---- the other operators
@@ -219,7 +219,7 @@ module _ {N : Type 0} (spell : N → List ℕ) (tag : Desc (List ℕ) → List �
   minus_num_low a (text x) = refl
   minus_num_low a (list xs) = refl
   minus_num_low a (dict xs) = refl
-  minus_num_low a (fun x) = refl
+  minus_num_low a (fun x c) = refl
   minus_num_low a (ref x) = refl
 
   pub minus_low : (a b : Val N) → minus (low spell tag a) (low spell tag b) ≡ lower spell tag (minus a b)
@@ -229,7 +229,7 @@ module _ {N : Type 0} (spell : N → List ℕ) (tag : Desc (List ℕ) → List �
   minus_low (text x) b = refl
   minus_low (list xs) b = refl
   minus_low (dict xs) b = refl
-  minus_low (fun x) b = refl
+  minus_low (fun x c) b = refl
   minus_low (ref x) b = refl
 
   times_num_low : (a : ℤ) (b : Val N) → times_num a (low spell tag b) ≡ lower spell tag (times_num a b)
@@ -239,7 +239,7 @@ module _ {N : Type 0} (spell : N → List ℕ) (tag : Desc (List ℕ) → List �
   times_num_low a (text x) = refl
   times_num_low a (list xs) = refl
   times_num_low a (dict xs) = refl
-  times_num_low a (fun x) = refl
+  times_num_low a (fun x c) = refl
   times_num_low a (ref x) = refl
 
   pub times_low : (a b : Val N) → times (low spell tag a) (low spell tag b) ≡ lower spell tag (times a b)
@@ -249,7 +249,7 @@ module _ {N : Type 0} (spell : N → List ℕ) (tag : Desc (List ℕ) → List �
   times_low (text x) b = refl
   times_low (list xs) b = refl
   times_low (dict xs) b = refl
-  times_low (fun x) b = refl
+  times_low (fun x c) b = refl
   times_low (ref x) b = refl
 
   over_num_low : (a b : ℤ) → over_num a b ≡ lower spell tag (over_num a b)
@@ -269,7 +269,7 @@ module _ {N : Type 0} (spell : N → List ℕ) (tag : Desc (List ℕ) → List �
   over_by_low a (text x) = refl
   over_by_low a (list xs) = refl
   over_by_low a (dict xs) = refl
-  over_by_low a (fun x) = refl
+  over_by_low a (fun x c) = refl
   over_by_low a (ref x) = refl
 
   pub over_low : (a b : Val N) → over (low spell tag a) (low spell tag b) ≡ lower spell tag (over a b)
@@ -279,7 +279,7 @@ module _ {N : Type 0} (spell : N → List ℕ) (tag : Desc (List ℕ) → List �
   over_low (text x) b = refl
   over_low (list xs) b = refl
   over_low (dict xs) b = refl
-  over_low (fun x) b = refl
+  over_low (fun x c) b = refl
   over_low (ref x) b = refl
 
   rest_by_low : (a : ℤ) (b : Val N) → rest_by a (low spell tag b) ≡ lower spell tag (rest_by a b)
@@ -289,7 +289,7 @@ module _ {N : Type 0} (spell : N → List ℕ) (tag : Desc (List ℕ) → List �
   rest_by_low a (text x) = refl
   rest_by_low a (list xs) = refl
   rest_by_low a (dict xs) = refl
-  rest_by_low a (fun x) = refl
+  rest_by_low a (fun x c) = refl
   rest_by_low a (ref x) = refl
 
   pub rest_low : (a b : Val N) → rest (low spell tag a) (low spell tag b) ≡ lower spell tag (rest a b)
@@ -299,7 +299,7 @@ module _ {N : Type 0} (spell : N → List ℕ) (tag : Desc (List ℕ) → List �
   rest_low (text x) b = refl
   rest_low (list xs) b = refl
   rest_low (dict xs) b = refl
-  rest_low (fun x) b = refl
+  rest_low (fun x c) b = refl
   rest_low (ref x) b = refl
 
   add_val_low : (vs : Vals N) (e : Val N) → add_val (low_vals spell tag vs) (low spell tag e) ≡ low_vals spell tag (add_val vs e)
@@ -313,7 +313,7 @@ module _ {N : Type 0} (spell : N → List ℕ) (tag : Desc (List ℕ) → List �
   append_low (num x) e = refl
   append_low (text x) e = refl
   append_low (dict xs) e = refl
-  append_low (fun x) e = refl
+  append_low (fun x c) e = refl
   append_low (ref x) e = refl
 
   pub grown_low : (v e : Val N) → grown (low spell tag v) (low spell tag e) ≡ lower spell tag (grown v e)
@@ -323,7 +323,7 @@ module _ {N : Type 0} (spell : N → List ℕ) (tag : Desc (List ℕ) → List �
   grown_low (num x) e = plus_low (num x) e
   grown_low (text x) e = plus_low (text x) e
   grown_low (dict xs) e = plus_low (dict xs) e
-  grown_low (fun x) e = plus_low (fun x) e
+  grown_low (fun x c) e = plus_low (fun x c) e
   grown_low (ref x) e = plus_low (ref x) e
 
   if_null_low : (u : Val N) → if_null (low spell tag u) ≡ if_null u
@@ -333,7 +333,7 @@ module _ {N : Type 0} (spell : N → List ℕ) (tag : Desc (List ℕ) → List �
   if_null_low (text x) = refl
   if_null_low (list xs) = refl
   if_null_low (dict xs) = refl
-  if_null_low (fun x) = refl
+  if_null_low (fun x c) = refl
   if_null_low (ref x) = refl
 
   if_truth_low : (u : Val N) (k : Bool → Bool) → if_truth (low spell tag u) k ≡ if_truth u k
@@ -343,7 +343,7 @@ module _ {N : Type 0} (spell : N → List ℕ) (tag : Desc (List ℕ) → List �
   if_truth_low (text x) k = refl
   if_truth_low (list xs) k = refl
   if_truth_low (dict xs) k = refl
-  if_truth_low (fun x) k = refl
+  if_truth_low (fun x c) k = refl
   if_truth_low (ref x) k = refl
 
   if_num_low : (u : Val N) (k : ℤ → Bool) → if_num (low spell tag u) k ≡ if_num u k
@@ -353,7 +353,7 @@ module _ {N : Type 0} (spell : N → List ℕ) (tag : Desc (List ℕ) → List �
   if_num_low (text x) k = refl
   if_num_low (list xs) k = refl
   if_num_low (dict xs) k = refl
-  if_num_low (fun x) k = refl
+  if_num_low (fun x c) k = refl
   if_num_low (ref x) k = refl
 
   if_text_low : (u : Val N) (k : List ℕ → Bool) → if_text (low spell tag u) k ≡ if_text u k
@@ -363,7 +363,7 @@ module _ {N : Type 0} (spell : N → List ℕ) (tag : Desc (List ℕ) → List �
   if_text_low (text x) k = refl
   if_text_low (list xs) k = refl
   if_text_low (dict xs) k = refl
-  if_text_low (fun x) k = refl
+  if_text_low (fun x c) k = refl
   if_text_low (ref x) k = refl
 
   if_list_low : (u : Val N) (k : Vals (List ℕ) → Bool) (h : Vals N → Bool) → ((ws : Vals N) → k (low_vals spell tag ws) ≡ h ws) → if_list (low spell tag u) k ≡ if_list u h
@@ -373,7 +373,7 @@ module _ {N : Type 0} (spell : N → List ℕ) (tag : Desc (List ℕ) → List �
   if_list_low (num x) k h e = refl
   if_list_low (text x) k h e = refl
   if_list_low (dict xs) k h e = refl
-  if_list_low (fun x) k h e = refl
+  if_list_low (fun x c) k h e = refl
   if_list_low (ref x) k h e = refl
 
   if_dict_low : (u : Val N) (k : Pairs (List ℕ) → Bool) (h : Pairs N → Bool) → ((ws : Pairs N) → k (low_pairs spell tag ws) ≡ h ws) → if_dict (low spell tag u) k ≡ if_dict u h
@@ -383,7 +383,7 @@ module _ {N : Type 0} (spell : N → List ℕ) (tag : Desc (List ℕ) → List �
   if_dict_low (num x) k h e = refl
   if_dict_low (text x) k h e = refl
   if_dict_low (list xs) k h e = refl
-  if_dict_low (fun x) k h e = refl
+  if_dict_low (fun x c) k h e = refl
   if_dict_low (ref x) k h e = refl
 
   and_first : (a b : Bool) → a && b ≡ true → a ≡ true
@@ -418,7 +418,7 @@ module _ {N : Type 0} (spell : N → List ℕ) (tag : Desc (List ℕ) → List �
     same_low (text s) u e = if_text_low u (λ t. same_text s t)
     same_low (list vs) u e = if_list_low u _ _ (λ ws. same_vals_low vs ws e)
     same_low (dict ps) u e = if_dict_low u _ _ (λ ws. same_pairs_low ps ws e)
-    same_low (fun f) u e = absurd cc
+    same_low (fun f c) u e = absurd cc
     same_low (ref d) u e = absurd cc
 
     same_vals_low : (vs us : Vals N) → vals_plain vs ≡ true → same_vals (λ x y. false) (low_vals spell tag vs) (low_vals spell tag us) ≡ same_vals (λ x y. false) vs us
@@ -439,7 +439,7 @@ module _ {N : Type 0} (spell : N → List ℕ) (tag : Desc (List ℕ) → List �
     plain_low (text t) = refl
     plain_low (list vs) = vals_plain_low vs
     plain_low (dict ps) = pairs_plain_low ps
-    plain_low (fun f) = refl
+    plain_low (fun f c) = refl
     plain_low (ref d) = refl
 
     vals_plain_low : (vs : Vals N) → vals_plain (low_vals spell tag vs) ≡ vals_plain vs
@@ -469,7 +469,7 @@ module _ {N : Type 0} (spell : N → List ℕ) (tag : Desc (List ℕ) → List �
   order_num_low t a (text x) = refl
   order_num_low t a (list xs) = refl
   order_num_low t a (dict xs) = refl
-  order_num_low t a (fun x) = refl
+  order_num_low t a (fun x c) = refl
   order_num_low t a (ref x) = refl
 
   order_text_low : (t : Ordering → Bool) (a : List ℕ) (b : Val N) → order_text t a (low spell tag b) ≡ lower spell tag (order_text t a b)
@@ -479,7 +479,7 @@ module _ {N : Type 0} (spell : N → List ℕ) (tag : Desc (List ℕ) → List �
   order_text_low t a (text x) = refl
   order_text_low t a (list xs) = refl
   order_text_low t a (dict xs) = refl
-  order_text_low t a (fun x) = refl
+  order_text_low t a (fun x c) = refl
   order_text_low t a (ref x) = refl
 
   ordered_low : (t : Ordering → Bool) (a b : Val N) → ordered t (low spell tag a) (low spell tag b) ≡ lower spell tag (ordered t a b)
@@ -489,7 +489,7 @@ module _ {N : Type 0} (spell : N → List ℕ) (tag : Desc (List ℕ) → List �
   ordered_low t (truth x) b = refl
   ordered_low t (list xs) b = refl
   ordered_low t (dict xs) b = refl
-  ordered_low t (fun x) b = refl
+  ordered_low t (fun x c) b = refl
   ordered_low t (ref x) b = refl
 
   pub compare_low : (o : Order) (a b : Val N) → compare o (low spell tag a) (low spell tag b) ≡ lower spell tag (compare o a b)
@@ -507,7 +507,7 @@ module _ {N : Type 0} (spell : N → List ℕ) (tag : Desc (List ℕ) → List �
   negated_low (text x) = refl
   negated_low (list xs) = refl
   negated_low (dict xs) = refl
-  negated_low (fun x) = refl
+  negated_low (fun x c) = refl
   negated_low (ref x) = refl
 
   pub opposite_low : (v : Val N) → opposite (low spell tag v) ≡ lower spell tag (opposite v)
@@ -517,7 +517,7 @@ module _ {N : Type 0} (spell : N → List ℕ) (tag : Desc (List ℕ) → List �
   opposite_low (text x) = refl
   opposite_low (list xs) = refl
   opposite_low (dict xs) = refl
-  opposite_low (fun x) = refl
+  opposite_low (fun x c) = refl
   opposite_low (ref x) = refl
 
   pub count_low : (vs : Vals N) → count (low_vals spell tag vs) ≡ count vs
@@ -535,7 +535,7 @@ module _ {N : Type 0} (spell : N → List ℕ) (tag : Desc (List ℕ) → List �
   len_low (truth x) = refl
   len_low (num x) = refl
   len_low (text x) = refl
-  len_low (fun x) = refl
+  len_low (fun x c) = refl
   len_low (ref x) = refl
 
   all_keys_low : (ps : Pairs N) → all_keys (low_pairs spell tag ps) ≡ low_vals spell tag (all_keys ps)
@@ -549,7 +549,7 @@ module _ {N : Type 0} (spell : N → List ℕ) (tag : Desc (List ℕ) → List �
   keys_low (num x) = refl
   keys_low (text x) = refl
   keys_low (list xs) = refl
-  keys_low (fun x) = refl
+  keys_low (fun x c) = refl
   keys_low (ref x) = refl
 
   found_step : (o : Ordering) (v : Val N) (a : Option (Val (List ℕ))) (b : Option (Val N)) → a ≡ option_map (low spell tag) b → match_ordering o None (Some (low spell tag v)) a ≡ option_map (low spell tag) (match_ordering o None (Some v) b)
@@ -573,7 +573,7 @@ module _ {N : Type 0} (spell : N → List ℕ) (tag : Desc (List ℕ) → List �
   has_key_low ps (num x) = refl
   has_key_low ps (list xs) = refl
   has_key_low ps (dict xs) = refl
-  has_key_low ps (fun x) = refl
+  has_key_low ps (fun x c) = refl
   has_key_low ps (ref x) = refl
 
   pub has_low : (v k : Val N) → has (low spell tag v) (low spell tag k) ≡ lower spell tag (has v k)
@@ -583,7 +583,7 @@ module _ {N : Type 0} (spell : N → List ℕ) (tag : Desc (List ℕ) → List �
   has_low (num x) k = refl
   has_low (text x) k = refl
   has_low (list xs) k = refl
-  has_low (fun x) k = refl
+  has_low (fun x c) k = refl
   has_low (ref x) k = refl
 
   numbers_low : (n : ℕ) (a : ℤ) → numbers n a ≡ low_vals spell tag (numbers n a)
@@ -601,7 +601,7 @@ module _ {N : Type 0} (spell : N → List ℕ) (tag : Desc (List ℕ) → List �
   range_to_low a (text x) = refl
   range_to_low a (list xs) = refl
   range_to_low a (dict xs) = refl
-  range_to_low a (fun x) = refl
+  range_to_low a (fun x c) = refl
   range_to_low a (ref x) = refl
 
   pub range_low : (a b : Val N) → range (low spell tag a) (low spell tag b) ≡ lower spell tag (range a b)
@@ -611,7 +611,7 @@ module _ {N : Type 0} (spell : N → List ℕ) (tag : Desc (List ℕ) → List �
   range_low (text x) b = refl
   range_low (list xs) b = refl
   range_low (dict xs) b = refl
-  range_low (fun x) b = refl
+  range_low (fun x c) b = refl
   range_low (ref x) b = refl
 
   with_key_low : (k v : Val N) (ps : Pairs N) (go : Pairs (List ℕ) → Answer (List ℕ)) (to : Pairs N → Answer N) → ((qs : Pairs N) → go (low_pairs spell tag qs) ≡ lower spell tag (to qs)) → with_key (low spell tag k) (low spell tag v) (low_pairs spell tag ps) go ≡ lower spell tag (with_key k v ps to)
@@ -621,7 +621,7 @@ module _ {N : Type 0} (spell : N → List ℕ) (tag : Desc (List ℕ) → List �
   with_key_low (num x) v ps go to e = refl
   with_key_low (list xs) v ps go to e = refl
   with_key_low (dict xs) v ps go to e = refl
-  with_key_low (fun x) v ps go to e = refl
+  with_key_low (fun x c) v ps go to e = refl
   with_key_low (ref x) v ps go to e = refl
 
   pub dict_from_low : (vs : List (Val N)) (ps : Pairs N) → dict_from (map (low spell tag) vs) (low_pairs spell tag ps) ≡ lower spell tag (dict_from vs ps)
@@ -659,7 +659,7 @@ module _ {N : Type 0} (spell : N → List ℕ) (tag : Desc (List ℕ) → List �
     again_low (text t) = refl
     again_low (list vs) = ap list (vals_again vs)
     again_low (dict ps) = ap dict (pairs_again ps)
-    again_low (fun f) = refl
+    again_low (fun f c) = ap (fun f) (pairs_again c)
     again_low (ref d) = refl
 
     vals_again : (vs : Vals N) → low_vals (λ n. n) tag (low_vals spell tag vs) ≡ low_vals spell tag vs
@@ -672,7 +672,7 @@ module _ {N : Type 0} (spell : N → List ℕ) (tag : Desc (List ℕ) → List �
 
   -- a name is that of the lowered description
   pub name_low : (d : Desc N) → name (λ n. n) tag (low_desc spell tag d) ≡ name spell tag d
-  name_low (call f vs) = ap (λ us. tag (call f us)) (vals_again vs)
+  name_low (call f c vs) = ap₂ (λ qs us. tag (call f qs us)) (pairs_again c) (vals_again vs)
   name_low (out x v n i) = ap (λ u. tag (out x u n i)) (again_low v)
   name_low (input k) = refl
   name_low (known b) = refl

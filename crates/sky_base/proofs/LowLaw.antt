@@ -1,12 +1,12 @@
 -- A run over names is the run over whole descriptions, lowered.
 use Rattle.std.proofs.Common.{◌≡◌, ℕ, zero, suc, ◌+◌, Bool, true, false, List, [], ◌∷◌, ◌++◌, map, length, reverse, Option, Some, None, Ok, Err, nat_lt, nat_eq, ◌&&◌, pos, negsuc, refl, sym, ap, ap₂, ◌∙◌, subst}
 use Rattle.std.specs.Option.{option_map}
-use Rattle.sky_base.specs.Val.{Val, Vals, Pairs, Desc, null, truth, num, text, list, dict, fun, ref, no_vals, val, no_pairs, call, out, input, count, vals_of, refs_to}
+use Rattle.sky_base.specs.Val.{Val, Vals, Pairs, Desc, null, truth, num, text, list, dict, fun, ref, no_vals, val, no_pairs, pair, call, out, input, count, vals_of, refs_to}
 use Rattle.sky_base.specs.Name.{low, low_vals, low_pairs, low_desc}
 use Rattle.sky_base.specs.Op.{Answer, index, find, negated, opposite, len, keys, has, range, limited, set_at, grown, dict_from}
 use Rattle.sky_base.specs.Tree.{Place, nowhere, Lit, Oper, Junction, Sign, SignAt, Form, Exp, Exps, Links, Ands, Steps, Stm, Stms, Arms, Else, FunDef, nodes, stm_nodes, block_nodes, arms_nodes}
 use Rattle.sky_base.specs.Res.{visits, Object, End, St, Entry, parens_in, part_at, chain_first, chain_more, logic_at, prefix_part, star_wait, postfix_first, index_at, arg_at, call_open, exec_wait, set_part, add_part, put_index, put_value, return_part, just_part, arm_test, while_test, while_body, repeat_body, repeat_test, for_list, for_body, block_at, Wait, one_of, all_of, Res, Fin, Tell, Ask, then_do, on_got, on_goes, with_vars, on_body, gives, counted, visited, visit, answer, tell_all}
-use Rattle.sky_base.specs.Eval.{World, find_fun, is_one_of, Body, body_of, bind, set_var, lit_val, named, fun_named, oper, exec_end, read_end, outputs, truth_of, decide, joins, add_to, put_in, left, turns, repeats, each, each_of, with_one, with_two, with_three, wait_end, ask, make_one, spawn_if, spawn_fun, spawn_list, spawned, outputs_if, outputs_count, outputs_of, exec_ask, input_if, input_of, formed, deref, signed, signs, call_if, call_fun, called, enter, eval, eval_parts, eval_links, eval_ands, eval_steps, eval_args, eval_stm, eval_stms, eval_arms, eval_else, eval_block, go_while, go_repeat, after, in_body, body_at, inside, plug}
+use Rattle.sky_base.specs.Eval.{World, find_fun, is_one_of, Body, body_of, bind, set_var, lit_val, named, closed, caught_if, caught_by, fun_named, oper, exec_end, read_end, outputs, truth_of, decide, joins, add_to, put_in, left, turns, repeats, each, each_of, with_one, with_two, with_three, wait_end, ask, make_one, spawn_if, spawn_fun, spawn_list, spawned, outputs_if, outputs_count, outputs_of, exec_ask, input_if, input_of, formed, deref, signed, signs, call_if, call_fun, called, enter, eval, eval_parts, eval_links, eval_ands, eval_steps, eval_args, eval_stm, eval_stms, eval_arms, eval_else, eval_block, go_while, go_repeat, after, in_body, body_at, inside, plug}
 use Rattle.sky_base.specs.Lower.{low_ref, lower, low_obj, low_end, low_st, low_wait, low_entry}
 use Rattle.sky_base.proofs.Low.{limited_low, plus_low, minus_low, times_low, over_low, rest_low, compare_low, index_low, set_at_low, grown_low, negated_low, opposite_low, len_low, keys_low, has_low, range_low, dict_from_low, found_low, put_low, vals_of_low, refs_to_low, bind_low, count_low, left_low}
 
@@ -75,7 +75,7 @@ module _ {N : Type 0} (spell : N → List ℕ) (tag : Desc (List ℕ) → List �
   rel_decide (text t) p st on off on' off' g h = refl
   rel_decide (list vs) p st on off on' off' g h = refl
   rel_decide (dict ps) p st on off on' off' g h = refl
-  rel_decide (fun f) p st on off on' off' g h = refl
+  rel_decide (fun f c) p st on off on' off' g h = refl
   rel_decide (ref d) p st on off on' off' g h = refl
 
   rel_joins : (j : Junction) (v : Val N) (p : Place) (st : St N) (k : St N → Res N) (h : St (List ℕ) → Res (List ℕ)) → Rel (k st) (h (low_st spell tag st)) → Rel (joins j v p st k) (joins j (low spell tag v) p (low_st spell tag st) h)
@@ -89,7 +89,7 @@ module _ {N : Type 0} (spell : N → List ℕ) (tag : Desc (List ℕ) → List �
   truth_low (text t) = refl
   truth_low (list vs) = refl
   truth_low (dict ps) = refl
-  truth_low (fun f) = refl
+  truth_low (fun f c) = refl
   truth_low (ref d) = refl
 
   oper_low : (o : Oper) (a b : Val N) → oper o (low spell tag a) (low spell tag b) ≡ lower spell tag (oper o a b)
@@ -112,7 +112,19 @@ module _ {N : Type 0} (spell : N → List ℕ) (tag : Desc (List ℕ) → List �
     where
       fun_low : (o : Option FunDef) → fun_named o x ≡ lower spell tag (fun_named o x)
       fun_low None = refl
-      fun_low (Some f) = limited_low spell tag (fun x)
+      fun_low (Some f) = limited_low spell tag (fun x no_pairs)
+
+  caught_low : (us : List (List ℕ)) (xs : Pairs N) → caught_by us (low_pairs spell tag xs) ≡ low_pairs spell tag (caught_by us xs)
+  caught_low us no_pairs = refl
+  caught_low us (pair k v ps) = ap (caught_if (is_one_of k us) k (low spell tag v)) (caught_low us ps) ∙ go (is_one_of k us)
+    where
+      go : (b : Bool) → caught_if b k (low spell tag v) (low_pairs spell tag (caught_by us ps)) ≡ low_pairs spell tag (caught_if b k v (caught_by us ps))
+      go true = refl
+      go false = refl
+
+  closed_low : (o : Option FunDef) (x : List ℕ) (xs : Pairs N) → closed o x (low_pairs spell tag xs) ≡ lower spell tag (closed o x xs)
+  closed_low None x xs = refl
+  closed_low (Some f) x xs = ap (λ ps. limited (fun x ps)) (caught_low f.uses xs) ∙ limited_low spell tag (fun x (caught_by f.uses xs))
 
   var_low : (x : List ℕ) (xs : Pairs N) (fs : List FunDef) → named (find x (low_pairs spell tag xs)) x fs ≡ lower spell tag (named (find x xs) x fs)
   var_low x xs fs = ap (λ o. named o x fs) (found_low spell tag x xs) ∙ named_low (find x xs) x fs
@@ -188,23 +200,23 @@ module _ {N : Type 0} (spell : N → List ℕ) (tag : Desc (List ℕ) → List �
     rel_spawn_if false d p st = refl
     rel_spawn_if true d p st = rel_make d st
 
-    rel_spawn_fun : (o : Option FunDef) (f : List ℕ) (vs : Vals N) (p : Place) (st : St N) → Rel (spawn_fun w o f vs p st) (spawn_fun over_names o f (low_vals spell tag vs) p (low_st spell tag st))
-    rel_spawn_fun None f vs p st = refl
-    rel_spawn_fun (Some x) f vs p st =
-        same_as _ _ _ (ap (λ n. spawn_if over_names (nat_eq (length x.params) n) (call f (low_vals spell tag vs)) p (low_st spell tag st)) (sym (count_low spell tag vs))) (rel_spawn_if (nat_eq (length x.params) (count vs)) (call f vs) p st)
+    rel_spawn_fun : (o : Option FunDef) (f : List ℕ) (c : Pairs N) (vs : Vals N) (p : Place) (st : St N) → Rel (spawn_fun w o f c vs p st) (spawn_fun over_names o f (low_pairs spell tag c) (low_vals spell tag vs) p (low_st spell tag st))
+    rel_spawn_fun None f c vs p st = refl
+    rel_spawn_fun (Some x) f c vs p st =
+        same_as _ _ _ (ap (λ n. spawn_if over_names (nat_eq (length x.params) n) (call f (low_pairs spell tag c) (low_vals spell tag vs)) p (low_st spell tag st)) (sym (count_low spell tag vs))) (rel_spawn_if (nat_eq (length x.params) (count vs)) (call f c vs) p st)
 
-    rel_spawn_list : (f : List ℕ) (a : Val N) (p : Place) (st : St N) → Rel (spawn_list w f a p st) (spawn_list over_names f (low spell tag a) p (low_st spell tag st))
-    rel_spawn_list f (list vs) p st = rel_spawn_fun (find_fun f w.script.funs) f vs p st
-    rel_spawn_list f null p st = refl
-    rel_spawn_list f (truth b) p st = refl
-    rel_spawn_list f (num z) p st = refl
-    rel_spawn_list f (text t) p st = refl
-    rel_spawn_list f (dict ps) p st = refl
-    rel_spawn_list f (fun g) p st = refl
-    rel_spawn_list f (ref d) p st = refl
+    rel_spawn_list : (f : List ℕ) (c : Pairs N) (a : Val N) (p : Place) (st : St N) → Rel (spawn_list w f c a p st) (spawn_list over_names f (low_pairs spell tag c) (low spell tag a) p (low_st spell tag st))
+    rel_spawn_list f c (list vs) p st = rel_spawn_fun (find_fun f w.script.funs) f c vs p st
+    rel_spawn_list f c null p st = refl
+    rel_spawn_list f c (truth b) p st = refl
+    rel_spawn_list f c (num z) p st = refl
+    rel_spawn_list f c (text t) p st = refl
+    rel_spawn_list f c (dict ps) p st = refl
+    rel_spawn_list f c (fun g cb) p st = refl
+    rel_spawn_list f c (ref d) p st = refl
 
     rel_spawned : (g a : Val N) (p : Place) (st : St N) → Rel (spawned w g a p st) (spawned over_names (low spell tag g) (low spell tag a) p (low_st spell tag st))
-    rel_spawned (fun f) a p st = rel_spawn_list f a p st
+    rel_spawned (fun f c) a p st = rel_spawn_list f c a p st
     rel_spawned null a p st = refl
     rel_spawned (truth b) a p st = refl
     rel_spawned (num z) a p st = refl
@@ -228,7 +240,7 @@ module _ {N : Type 0} (spell : N → List ℕ) (tag : Desc (List ℕ) → List �
       rel_outputs_count x a (text t) p st = refl
       rel_outputs_count x a (list vs) p st = refl
       rel_outputs_count x a (dict ps) p st = refl
-      rel_outputs_count x a (fun f) p st = refl
+      rel_outputs_count x a (fun f c) p st = refl
       rel_outputs_count x a (ref d) p st = refl
 
       rel_outputs : (x a n : Val N) (p : Place) (st : St N) → Rel (outputs_of w x a n p st k) (outputs_of over_names (low spell tag x) (low spell tag a) (low spell tag n) p (low_st spell tag st) h)
@@ -238,7 +250,7 @@ module _ {N : Type 0} (spell : N → List ℕ) (tag : Desc (List ℕ) → List �
       rel_outputs (num z) a n p st = refl
       rel_outputs (list vs) a n p st = refl
       rel_outputs (dict ps) a n p st = refl
-      rel_outputs (fun f) a n p st = refl
+      rel_outputs (fun f c) a n p st = refl
       rel_outputs (ref d) a n p st = refl
 
     rel_exec_ask : (n : ℕ) (ds : List (Desc N)) (st : St N) → Rel (exec_ask w n ds st) (exec_ask over_names n (map (low_ref spell tag) ds) (low_st spell tag st))
@@ -255,7 +267,7 @@ module _ {N : Type 0} (spell : N → List ℕ) (tag : Desc (List ℕ) → List �
     rel_input (num z) p st = refl
     rel_input (list vs) p st = refl
     rel_input (dict ps) p st = refl
-    rel_input (fun f) p st = refl
+    rel_input (fun f c) p st = refl
     rel_input (ref d) p st = refl
 
     rel_one : (vs : List (Val N)) (p : Place) (st : St N) (k : Val N → Res N) (h : Val (List ℕ) → Res (List ℕ)) → ((x : Val N) → Rel (k x) (h (low spell tag x))) → Rel (with_one vs p st k) (with_one (map (low spell tag) vs) p (low_st spell tag st) h)
@@ -301,7 +313,7 @@ module _ {N : Type 0} (spell : N → List ℕ) (tag : Desc (List ℕ) → List �
     rel_deref (text t) n k ss p st go to g = refl
     rel_deref (list vs) n k ss p st go to g = refl
     rel_deref (dict ps) n k ss p st go to g = refl
-    rel_deref (fun f) n k ss p st go to g = refl
+    rel_deref (fun f c) n k ss p st go to g = refl
 
     rel_signed : (o : Sign) (v : Val N) (n k : ℕ) (ss : List SignAt) (p : Place) (st : St N) (go : Val N → St N → Res N) (to : Val (List ℕ) → St (List ℕ) → Res (List ℕ)) → ((u : Val N) (s : St N) → Rel (go u s) (to (low spell tag u) (low_st spell tag s))) → Rel (signed w o v n k ss p st go) (signed over_names o (low spell tag v) n k ss p (low_st spell tag st) to)
     rel_signed Sign.not v n k ss p st go to g = rel_answer (opposite v) _ p st _ _ (opposite_low spell tag v) (λ u. g u st)
@@ -324,8 +336,8 @@ module _ {N : Type 0} (spell : N → List ℕ) (tag : Desc (List ℕ) → List �
     rel_call_fun (Some x) vs p st r q g =
         same_as _ _ _ (ap (λ n. call_if over_names (nat_eq (length x.params) n) p (low_st spell tag st) q) (sym (count_low spell tag vs))) (rel_call_if (nat_eq (length x.params) (count vs)) p st r q g)
 
-    rel_called : (v : Val N) (vs : Vals N) (p : Place) (st : St N) (k : List ℕ → Res N) (h : List ℕ → Res (List ℕ)) → ((f : List ℕ) → Rel (k f) (h f)) → Rel (called w v vs p st k) (called over_names (low spell tag v) (low_vals spell tag vs) p (low_st spell tag st) h)
-    rel_called (fun f) vs p st k h g = rel_call_fun (find_fun f w.script.funs) vs p st (k f) (h f) (g f)
+    rel_called : (v : Val N) (vs : Vals N) (p : Place) (st : St N) (k : List ℕ → Pairs N → Res N) (h : List ℕ → Pairs (List ℕ) → Res (List ℕ)) → ((f : List ℕ) (c : Pairs N) → Rel (k f c) (h f (low_pairs spell tag c))) → Rel (called w v vs p st k) (called over_names (low spell tag v) (low_vals spell tag vs) p (low_st spell tag st) h)
+    rel_called (fun f c) vs p st k h g = rel_call_fun (find_fun f w.script.funs) vs p st (k f c) (h f (low_pairs spell tag c)) (g f c)
     rel_called null vs p st k h g = refl
     rel_called (truth b) vs p st k h g = refl
     rel_called (num z) vs p st k h g = refl
@@ -334,15 +346,16 @@ module _ {N : Type 0} (spell : N → List ℕ) (tag : Desc (List ℕ) → List �
     rel_called (dict ps) vs p st k h g = refl
     rel_called (ref d) vs p st k h g = refl
 
-    module _ (run : List ℕ → Vals N → Place → St N → Res N) (walk : List ℕ → Vals (List ℕ) → Place → St (List ℕ) → Res (List ℕ)) (bodies_alike : (f : List ℕ) (vs : Vals N) (p : Place) (st : St N) → Rel (run f vs p st) (walk f (low_vals spell tag vs) p (low_st spell tag st))) where
-      rel_enter : (f : List ℕ) (vs : Vals N) (p : Place) (n k m : ℕ) (ss : Steps) (st : St N) (go : Val N → St N → Res N) (to : Val (List ℕ) → St (List ℕ) → Res (List ℕ)) → ((u : Val N) (s : St N) → Rel (go u s) (to (low spell tag u) (low_st spell tag s))) → Rel (enter w run f vs p n k m ss st go) (enter over_names walk f (low_vals spell tag vs) p n k m ss (low_st spell tag st) to)
-      rel_enter f vs p n k m ss st go to g =
-          rel_then (run f vs p st) (walk f (low_vals spell tag vs) p (low_st spell tag st)) (call_open n k m f st.vars ss) (on_body st.vars go) (on_body (low_pairs spell tag st.vars) to) (bodies_alike f vs p st) (rel_body st.vars go to g)
+    module _ (run : List ℕ → Pairs N → Vals N → Place → St N → Res N) (walk : List ℕ → Pairs (List ℕ) → Vals (List ℕ) → Place → St (List ℕ) → Res (List ℕ)) (bodies_alike : (f : List ℕ) (c : Pairs N) (vs : Vals N) (p : Place) (st : St N) → Rel (run f c vs p st) (walk f (low_pairs spell tag c) (low_vals spell tag vs) p (low_st spell tag st))) where
+      rel_enter : (f : List ℕ) (c : Pairs N) (vs : Vals N) (p : Place) (n k m : ℕ) (ss : Steps) (st : St N) (go : Val N → St N → Res N) (to : Val (List ℕ) → St (List ℕ) → Res (List ℕ)) → ((u : Val N) (s : St N) → Rel (go u s) (to (low spell tag u) (low_st spell tag s))) → Rel (enter w run f c vs p n k m ss st go) (enter over_names walk f (low_pairs spell tag c) (low_vals spell tag vs) p n k m ss (low_st spell tag st) to)
+      rel_enter f c vs p n k m ss st go to g =
+          rel_then (run f c vs p st) (walk f (low_pairs spell tag c) (low_vals spell tag vs) p (low_st spell tag st)) (call_open n k m f st.vars ss) (on_body st.vars go) (on_body (low_pairs spell tag st.vars) to) (bodies_alike f c vs p st) (rel_body st.vars go to g)
 
       mutual
         rel_eval : (e : Exp) (n : ℕ) (st : St N) → Rel (eval w run e n st) (eval over_names walk e n (low_st spell tag st))
         rel_eval (Exp.literal v p) n st = rel_visit p st _ _ (λ s. rel_answer (limited (lit_val v)) _ p s gives gives (lit_low v) (λ x. refl))
         rel_eval (Exp.name x p) n st = rel_visit p st (λ s. answer (named (find x s.vars) x w.script.funs) p s gives) (λ s. answer (named (find x s.vars) x w.script.funs) p s gives) (λ s. rel_answer (named (find x s.vars) x w.script.funs) _ p s gives gives (var_low x s.vars w.script.funs) (λ y. refl))
+        rel_eval (Exp.func x p) n st = rel_visit p st (λ s. answer (closed (find_fun x w.script.funs) x s.vars) p s gives) (λ s. answer (closed (find_fun x w.script.funs) x s.vars) p s gives) (λ s. rel_answer (closed (find_fun x w.script.funs) x s.vars) _ p s gives gives (closed_low (find_fun x w.script.funs) x s.vars) (λ y. refl))
         rel_eval (Exp.parens e) n st = rel_got (eval w run e (n + 1) st) (eval over_names walk e (n + 1) (low_st spell tag st)) (parens_in n) gives gives (rel_eval e (n + 1) st) (λ v s. refl)
         rel_eval (Exp.parts o p es) n st = rel_parts es n 1 (n + 1) o p [] st
         rel_eval (Exp.chain e ls) n st = rel_got _ _ (chain_first n (n + 1 + nodes e) ls) _ _ (rel_eval e (n + 1) st) (λ v s. rel_links ls n 2 (n + 1 + nodes e) v s)
@@ -370,11 +383,11 @@ module _ {N : Type 0} (spell : N → List ℕ) (tag : Desc (List ℕ) → List �
         rel_steps (Steps.index e p ss) n k m v st =
             rel_got _ _ (index_at n k (m + nodes e) p v ss) _ _ (rel_eval e m st) (λ x s. rel_visit p s _ _ (λ t. rel_answer (index v x) _ p t _ _ (index_low spell tag v x) (λ y. rel_steps ss n (k + 1) (m + nodes e) y t)))
         rel_steps (Steps.call es p ss) n k m v st =
-            rel_args es n k m p v [] ss _ _ (λ l i f us s. rel_enter f us p n l i ss s (λ y u. eval_steps w run ss n (l + 1) i y u) (λ y u. eval_steps over_names walk ss n (l + 1) i y u) (λ y u. rel_steps ss n (l + 1) i y u)) st
+            rel_args es n k m p v [] ss _ _ (λ l i f c us s. rel_enter f c us p n l i ss s (λ y u. eval_steps w run ss n (l + 1) i y u) (λ y u. eval_steps over_names walk ss n (l + 1) i y u) (λ y u. rel_steps ss n (l + 1) i y u)) st
 
-        rel_args : (es : Exps) (n k m : ℕ) (p : Place) (g : Val N) (vs : List (Val N)) (ss : Steps) (go : ℕ → ℕ → List ℕ → Vals N → St N → Res N) (to : ℕ → ℕ → List ℕ → Vals (List ℕ) → St (List ℕ) → Res (List ℕ)) → ((l i : ℕ) (f : List ℕ) (us : Vals N) (s : St N) → Rel (go l i f us s) (to l i f (low_vals spell tag us) (low_st spell tag s))) → (st : St N) → Rel (eval_args w run es n k m p g vs ss go st) (eval_args over_names walk es n k m p (low spell tag g) (map (low spell tag) vs) ss to (low_st spell tag st))
+        rel_args : (es : Exps) (n k m : ℕ) (p : Place) (g : Val N) (vs : List (Val N)) (ss : Steps) (go : ℕ → ℕ → List ℕ → Pairs N → Vals N → St N → Res N) (to : ℕ → ℕ → List ℕ → Pairs (List ℕ) → Vals (List ℕ) → St (List ℕ) → Res (List ℕ)) → ((l i : ℕ) (f : List ℕ) (c : Pairs N) (us : Vals N) (s : St N) → Rel (go l i f c us s) (to l i f (low_pairs spell tag c) (low_vals spell tag us) (low_st spell tag s))) → (st : St N) → Rel (eval_args w run es n k m p g vs ss go st) (eval_args over_names walk es n k m p (low spell tag g) (map (low spell tag) vs) ss to (low_st spell tag st))
         rel_args Exps.no_exps n k m p g vs ss go to h st =
-            rel_visit p st _ _ (λ s. same_as _ _ _ (ap (λ us. called over_names (low spell tag g) us p (low_st spell tag s) (λ f. to k m f us (low_st spell tag s))) (sym (vals_of_low spell tag vs))) (rel_called g (vals_of vs) p s _ _ (λ f. h k m f (vals_of vs) s)))
+            rel_visit p st _ _ (λ s. same_as _ _ _ (ap (λ us. called over_names (low spell tag g) us p (low_st spell tag s) (λ f c. to k m f c us (low_st spell tag s))) (sym (vals_of_low spell tag vs))) (rel_called g (vals_of vs) p s _ _ (λ f c. h k m f c (vals_of vs) s)))
         rel_args (Exps.exp e es) n k m p g vs ss go to h st =
             rel_got _ _ (arg_at n k (m + nodes e) p g vs es ss) _ _ (rel_eval e m st) (λ v s. same_as _ _ _ (ap (λ us. eval_args over_names walk es n (k + 1) (m + nodes e) p (low spell tag g) us ss to (low_st spell tag s)) (map_push (low spell tag) vs v)) (rel_args es n (k + 1) (m + nodes e) p g (vs ++ v ∷ []) ss go to h s))
 
@@ -403,7 +416,7 @@ module _ {N : Type 0} (spell : N → List ℕ) (tag : Desc (List ℕ) → List �
         rel_each_of (num z) x st = refl
         rel_each_of (text t) x st = refl
         rel_each_of (dict ps) x st = refl
-        rel_each_of (fun f) x st = refl
+        rel_each_of (fun f c) x st = refl
         rel_each_of (ref d) x st = refl
 
       mutual
@@ -480,7 +493,7 @@ module _ {N : Type 0} (spell : N → List ℕ) (tag : Desc (List ℕ) → List �
       rel_after (index_at n k m p v ss) =
           rel_got_end _ (λ x s. visit p s (λ t. answer (index (low spell tag v) x) p t (λ y u. eval_steps over_names walk ss n (k + 1) m y u))) (λ x s. rel_visit p s _ _ (λ t. rel_answer (index v x) _ p t _ _ (index_low spell tag v x) (λ y. rel_steps ss n (k + 1) m y t)))
       rel_after (arg_at n k m p g vs es ss) =
-          rel_got_end _ (λ v s. eval_args over_names walk es n (k + 1) m p (low spell tag g) (map (low spell tag) vs ++ v ∷ []) ss (λ l i f us s. enter over_names walk f us p n l i ss s (λ y u. eval_steps over_names walk ss n (l + 1) i y u)) s) (λ v s. same_as _ _ _ (ap (λ us. eval_args over_names walk es n (k + 1) m p (low spell tag g) us ss (λ l i f us s. enter over_names walk f us p n l i ss s (λ y u. eval_steps over_names walk ss n (l + 1) i y u)) (low_st spell tag s)) (map_push (low spell tag) vs v)) (rel_args es n (k + 1) m p g (vs ++ v ∷ []) ss _ _ (λ l i f us s. rel_enter f us p n l i ss s (λ y u. eval_steps w run ss n (l + 1) i y u) (λ y u. eval_steps over_names walk ss n (l + 1) i y u) (λ y u. rel_steps ss n (l + 1) i y u)) s))
+          rel_got_end _ (λ v s. eval_args over_names walk es n (k + 1) m p (low spell tag g) (map (low spell tag) vs ++ v ∷ []) ss (λ l i f c us s. enter over_names walk f c us p n l i ss s (λ y u. eval_steps over_names walk ss n (l + 1) i y u)) s) (λ v s. same_as _ _ _ (ap (λ us. eval_args over_names walk es n (k + 1) m p (low spell tag g) us ss (λ l i f c us s. enter over_names walk f c us p n l i ss s (λ y u. eval_steps over_names walk ss n (l + 1) i y u)) (low_st spell tag s)) (map_push (low spell tag) vs v)) (rel_args es n (k + 1) m p g (vs ++ v ∷ []) ss _ _ (λ l i f c us s. rel_enter f c us p n l i ss s (λ y u. eval_steps w run ss n (l + 1) i y u) (λ y u. eval_steps over_names walk ss n (l + 1) i y u) (λ y u. rel_steps ss n (l + 1) i y u)) s))
       rel_after (call_open n k m f xs ss) = rel_body xs (λ y u. eval_steps w run ss n (k + 1) m y u) (λ y u. eval_steps over_names walk ss n (k + 1) m y u) (λ y u. rel_steps ss n (k + 1) m y u)
       rel_after (exec_wait n ds) = rel_got_end gives gives (λ v s. refl)
       rel_after (set_part n x) = rel_got_end (λ v t. Fin End.goes (set_var x v t)) (λ v t. Fin End.goes (set_var x v t)) (λ v t. rel_set x v t)
@@ -506,16 +519,16 @@ module _ {N : Type 0} (spell : N → List ℕ) (tag : Desc (List ℕ) → List �
           rel_goes_end _ (each (left t (low_vals spell tag vs)) n m t p x (low_vals spell tag vs) b (eval_block over_names walk b m)) (λ s. same_as _ _ _ (ap (λ us. each us n m t p x (low_vals spell tag vs) b (eval_block over_names walk b m) (low_st spell tag s)) (sym (left_low spell tag t vs))) (rel_each n m p b (eval_block w run b m) (eval_block over_names walk b m) (rel_block b m) (left t vs) t x vs s))
       rel_after (block_at n k m b) = rel_goes_end _ (λ s. eval_stms over_names walk b n k m s) (λ s. rel_stms b n k m s)
 
-    rel_in_body : (o : Option Body) (vs : Vals N) (p : Place) (st : St N) (run : Stms → ℕ → St N → Res N) (walk : Stms → ℕ → St (List ℕ) → Res (List ℕ)) → ((b : Stms) (n : ℕ) (s : St N) → Rel (run b n s) (walk b n (low_st spell tag s))) → Rel (in_body w o vs p st run) (in_body over_names o (low_vals spell tag vs) p (low_st spell tag st) walk)
-    rel_in_body None vs p st run walk g = refl
-    rel_in_body (Some x) vs p st run walk g =
-        same_as _ _ _ (ap (λ (xs : Pairs (List ℕ)). walk x.block x.node (record { vars = xs; count = st.count })) (sym (bind_low spell tag x.params vs no_pairs))) (g x.block x.node (with_vars (bind x.params vs no_pairs) st))
+    rel_in_body : (o : Option Body) (c : Pairs N) (vs : Vals N) (p : Place) (st : St N) (run : Stms → ℕ → St N → Res N) (walk : Stms → ℕ → St (List ℕ) → Res (List ℕ)) → ((b : Stms) (n : ℕ) (s : St N) → Rel (run b n s) (walk b n (low_st spell tag s))) → Rel (in_body w o c vs p st run) (in_body over_names o (low_pairs spell tag c) (low_vals spell tag vs) p (low_st spell tag st) walk)
+    rel_in_body None c vs p st run walk g = refl
+    rel_in_body (Some x) c vs p st run walk g =
+        same_as _ _ _ (ap (λ (xs : Pairs (List ℕ)). walk x.block x.node (record { vars = xs; count = st.count })) (sym (bind_low spell tag x.params vs c))) (g x.block x.node (with_vars (bind x.params vs c) st))
 
     -- the body of a function on lowered arguments
-    pub rel_call : (d : ℕ) (f : List ℕ) (vs : Vals N) (p : Place) (st : St N) → Rel (body_at w d f vs p st) (body_at over_names d f (low_vals spell tag vs) p (low_st spell tag st))
-    rel_call zero f vs p st = refl
-    rel_call (suc d) f vs p st =
-        rel_in_body (body_of f w.script) vs p st _ (λ b n s. eval_block over_names (body_at over_names d) b n s) (λ b n s. rel_stms (body_at w d) (body_at over_names d) (λ g us q t. rel_call d g us q t) b n 0 (n + 1) s)
+    pub rel_call : (d : ℕ) (f : List ℕ) (c : Pairs N) (vs : Vals N) (p : Place) (st : St N) → Rel (body_at w d f c vs p st) (body_at over_names d f (low_pairs spell tag c) (low_vals spell tag vs) p (low_st spell tag st))
+    rel_call zero f c vs p st = refl
+    rel_call (suc d) f c vs p st =
+        rel_in_body (body_of f w.script) c vs p st _ (λ b n s. eval_block over_names (body_at over_names d) b n s) (λ b n s. rel_stms (body_at w d) (body_at over_names d) (λ g us q t. rel_call d g us q t) b n 0 (n + 1) s)
 
     inside_low : (en : Entry N) (d : ℕ) → inside over_names (low_entry spell tag en) d ≡ inside w en d
     inside_low (call_open n k m f xs ss) zero = refl

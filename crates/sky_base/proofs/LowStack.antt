@@ -100,6 +100,6 @@ module _ {N : Type 0} (spell : N → List ℕ) (tag : Desc (List ℕ) → List �
 
 -- a task's run over names, where what is read as data is the same; no description has a name inside, so nothing needs spelling
 module _ (job : Job) (around : Around) (tag : Desc (List ℕ) → List ℕ) (read : List ℕ → Answer (List ℕ)) (reads_alike : (b : List ℕ) → read b ≡ lower {N = ⊥} (λ n. absurd n) tag (around.reads b)) where
-  pub job_low : (f : List ℕ) (vs : Vals ⊥) → Rel (λ n. absurd n) tag (run_of job around f vs) (body_at (names_world tag job.script read) bodies f (low_vals (λ n. absurd n) tag vs) nowhere start_st)
-  job_low f vs =
-      rel_call (λ n. absurd n) tag (world_of job.script around) (named_as tag) read (λ d. ap known (name_low (λ n. absurd n) tag d)) reads_alike bodies f vs nowhere start_st
+  pub job_low : (f : List ℕ) (c : Pairs ⊥) (vs : Vals ⊥) → Rel (λ n. absurd n) tag (run_of job around f c vs) (body_at (names_world tag job.script read) bodies f (low_pairs (λ n. absurd n) tag c) (low_vals (λ n. absurd n) tag vs) nowhere start_st)
+  job_low f c vs =
+      rel_call (λ n. absurd n) tag (world_of job.script around) (named_as tag) read (λ d. ap known (name_low (λ n. absurd n) tag d)) reads_alike bodies f c vs nowhere start_st

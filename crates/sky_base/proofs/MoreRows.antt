@@ -2,7 +2,7 @@
 use Rattle.std.proofs.Common.{◌≡◌, ℕ, List, [], ◌∷◌, Some, None, Ok, Err, pos, refl, true, false}
 use Rattle.std.specs.Str.{is_utf8, chars}
 use lib.Utf8.{encode}
-use Rattle.sky_base.specs.Val.{num, list, ref, no_vals, call, out, input, vals_of, refs}
+use Rattle.sky_base.specs.Val.{num, list, ref, no_vals, no_pairs, call, out, input, vals_of, refs}
 use Rattle.sky_base.specs.Op.{plus, index, set_at, append}
 use Rattle.sky_base.specs.Tree.{Oper, Form, Stm}
 use Rattle.sky_base.specs.Res.{visits, others, Object}
@@ -35,7 +35,7 @@ unread_fault_row_answer : job_answer unread_fault_row plain 1 ≡ Answered.bytes
 unfolding computing
 unread_fault_row_answer = refl
 
-unread_fault_row_acts : acts_of unread_fault_row plain 1 main_task ≡ made (call bad no_vals) ∷ []
+unread_fault_row_acts : acts_of unread_fault_row plain 1 main_task ≡ made (call bad no_pairs no_vals) ∷ []
 unfolding computing
 unread_fault_row_acts = refl
 

@@ -37,7 +37,7 @@ module _ (job : Job) (around : Around) where
 
   pub first_is : (m : ℕ) (t : Task) (ds : List Desc) → wait_at job around m t 0 ≡ Some ds → first_of t ≡ ds
   first_is m Task.show ds e = some_is _ ds e
-  first_is m (Task.of (call f vs)) ds e = some_is _ ds e
+  first_is m (Task.of (call f c vs)) ds e = some_is _ ds e
   first_is m (Task.of (out x a k i)) ds e = some_is _ ds e
   first_is m (Task.of (input k)) ds e = absurd (none_some ds e)
   first_is m (Task.of (known b)) ds e = absurd b
@@ -48,7 +48,7 @@ module _ (job : Job) (around : Around) where
   waits_all_seen n t (suc j) ds h (m, e) = later_seen job around n t j ds h (wait_ended n m t j ds h e)
 
   pub task_ended : (n : ℕ) (d : Desc) (t : Task) → task_of d ≡ Some t → is_some (see job around (suc n) d) ≡ ended job around n t
-  task_ended n (call f vs) t e = ap (ended job around n) (some_is _ t e)
+  task_ended n (call f c vs) t e = ap (ended job around n) (some_is _ t e)
   task_ended n (out x a m i) t e = out_alike job around n x a m i 0 ∙ ap (ended job around n) (some_is _ t e)
   task_ended n (input k) t e = absurd (none_some t e)
   task_ended n (known b) t e = absurd b

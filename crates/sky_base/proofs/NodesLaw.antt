@@ -14,6 +14,7 @@ mutual
   exp_count : (e : Exp) → length (pre_exp e) ≡ nodes e
   exp_count (Exp.literal l p) = refl
   exp_count (Exp.name x p) = refl
+  exp_count (Exp.func x p) = refl
   exp_count (Exp.parens e) = omega (arith, exp_count e)
   exp_count (Exp.parts o p es) = omega (arith, exps_count es)
   exp_count (Exp.chain e ls) = omega (arith, length_join (pre_exp e) (pre_links ls), exp_count e, links_count ls)
@@ -101,6 +102,7 @@ module _ (at : ℕ → Option Node) where
     has_exp : (e : Exp) (n : ℕ) → From n (pre_exp e) → HasExp at e n
     has_exp (Exp.literal l p) n h = head_of n _ _ h
     has_exp (Exp.name x p) n h = head_of n _ _ h
+    has_exp (Exp.func x p) n h = head_of n _ _ h
     has_exp (Exp.parens e) n h = (head_of n _ _ h, has_exp e (n + 1) (tail_of n _ _ h))
     has_exp (Exp.parts o p es) n h = (head_of n _ _ h, has_exps es (n + 1) (tail_of n _ _ h))
     has_exp (Exp.chain e ls) n h =

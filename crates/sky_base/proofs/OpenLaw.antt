@@ -5,7 +5,7 @@ use Rattle.sky_base.specs.Val.{Val, Vals, Pairs, Desc, null, truth, num, text, l
 use Rattle.sky_base.specs.Op.{Answer, index, find, negated, opposite, len, keys, has, range, limited, set_at, grown, dict_from}
 use Rattle.sky_base.specs.Tree.{Place, nowhere, Oper, Junction, Sign, SignAt, Form, Exp, Exps, Links, Ands, Steps, Stm, Stms, Arms, Else, FunDef, Script, nodes, exps_nodes, stm_nodes, block_nodes, arms_nodes}
 use Rattle.sky_base.specs.Res.{visits, Object, End, St, Entry, parens_in, part_at, chain_first, chain_more, logic_at, prefix_part, star_wait, postfix_first, index_at, arg_at, call_open, exec_wait, set_part, add_part, put_index, put_value, return_part, just_part, arm_test, while_test, while_body, repeat_body, repeat_test, for_list, for_body, block_at, one_of, all_of, Res, Fin, Tell, Ask, then_do, on_got, on_goes, with_vars, on_body, gives, counted, visited, visit, answer, tell_all}
-use Rattle.sky_base.specs.Eval.{World, find_fun, is_one_of, Body, find_body, find_body_if, body_of, bind, set_var, lit_val, named, oper, outputs, truth_of, decide, joins, add_to, put_in, turns, repeats, each, each_of, with_one, with_two, with_three, ask, spawn_if, spawn_fun, spawn_list, spawned, outputs_if, outputs_count, outputs_of, exec_ask, input_if, input_of, formed, deref, signed, signs, call_if, call_fun, called, enter, eval, eval_parts, eval_links, eval_ands, eval_steps, eval_args, eval_stm, eval_stms, eval_arms, eval_else, in_body, body_at}
+use Rattle.sky_base.specs.Eval.{World, find_fun, is_one_of, Body, find_body, find_body_if, body_of, bind, set_var, lit_val, named, closed, oper, outputs, truth_of, decide, joins, add_to, put_in, turns, repeats, each, each_of, with_one, with_two, with_three, ask, spawn_if, spawn_fun, spawn_list, spawned, outputs_if, outputs_count, outputs_of, exec_ask, input_if, input_of, formed, deref, signed, signs, call_if, call_fun, called, enter, eval, eval_parts, eval_links, eval_ands, eval_steps, eval_args, eval_stm, eval_stms, eval_arms, eval_else, in_body, body_at}
 use Rattle.sky_base.specs.Opened.{Node, exp_node, stm_node, block_node, next_part, next_link, next_and, next_arm, next_stm, Pos, in_index, in_args, enter_pos, next_pos, times, next_sign, descs_of, part_open, link_open, and_open, sign_open, pos_open, chain_open, logic_open, prefix_open, postfix_open, form_open, arm_open, cases_open, stms_open, opened, HasExp, HasExps, HasLinks, HasAnds, HasSteps, HasStm, HasStms, HasArms, HasElse, HasFuns, HasScript, Opened}
 
 module _ {N : Type 0} (w : World N) (at : ℕ → Option Node) where
@@ -66,7 +66,7 @@ module _ {N : Type 0} (w : World N) (at : ℕ → Option Node) where
   opens_decide (text t) p st on off g h = tt
   opens_decide (list vs) p st on off g h = tt
   opens_decide (dict ps) p st on off g h = tt
-  opens_decide (fun f) p st on off g h = tt
+  opens_decide (fun f c) p st on off g h = tt
   opens_decide (ref e) p st on off g h = tt
 
   opens_joins : (j : Junction) (v : Val N) (p : Place) (st : St N) (k : St N → Res N) → Opens (k st) → Opens (joins j v p st k)
@@ -91,22 +91,22 @@ module _ {N : Type 0} (w : World N) (at : ℕ → Option Node) where
   opens_spawn_if false d p st = tt
   opens_spawn_if true d p st = (tt, tt)
 
-  opens_spawn_fun : (o : Option FunDef) (f : List ℕ) (vs : Vals N) (p : Place) (st : St N) → Opens (spawn_fun w o f vs p st)
-  opens_spawn_fun None f vs p st = tt
-  opens_spawn_fun (Some x) f vs p st = opens_spawn_if _ _ p st
+  opens_spawn_fun : (o : Option FunDef) (f : List ℕ) (c : Pairs N) (vs : Vals N) (p : Place) (st : St N) → Opens (spawn_fun w o f c vs p st)
+  opens_spawn_fun None f c vs p st = tt
+  opens_spawn_fun (Some x) f c vs p st = opens_spawn_if _ _ p st
 
-  opens_spawn_list : (f : List ℕ) (a : Val N) (p : Place) (st : St N) → Opens (spawn_list w f a p st)
-  opens_spawn_list f (list vs) p st = opens_spawn_fun (find_fun f w.script.funs) f vs p st
-  opens_spawn_list f null p st = tt
-  opens_spawn_list f (truth x) p st = tt
-  opens_spawn_list f (num z) p st = tt
-  opens_spawn_list f (text t) p st = tt
-  opens_spawn_list f (dict ps) p st = tt
-  opens_spawn_list f (fun g) p st = tt
-  opens_spawn_list f (ref e) p st = tt
+  opens_spawn_list : (f : List ℕ) (c : Pairs N) (a : Val N) (p : Place) (st : St N) → Opens (spawn_list w f c a p st)
+  opens_spawn_list f c (list vs) p st = opens_spawn_fun (find_fun f w.script.funs) f c vs p st
+  opens_spawn_list f c null p st = tt
+  opens_spawn_list f c (truth x) p st = tt
+  opens_spawn_list f c (num z) p st = tt
+  opens_spawn_list f c (text t) p st = tt
+  opens_spawn_list f c (dict ps) p st = tt
+  opens_spawn_list f c (fun g cb) p st = tt
+  opens_spawn_list f c (ref e) p st = tt
 
   opens_spawned : (g a : Val N) (p : Place) (st : St N) → Opens (spawned w g a p st)
-  opens_spawned (fun f) a p st = opens_spawn_list f a p st
+  opens_spawned (fun f c) a p st = opens_spawn_list f c a p st
   opens_spawned null a p st = tt
   opens_spawned (truth x) a p st = tt
   opens_spawned (num z) a p st = tt
@@ -132,7 +132,7 @@ module _ {N : Type 0} (w : World N) (at : ℕ → Option Node) where
     opens_outputs_count x a (text t) p st = tt
     opens_outputs_count x a (list vs) p st = tt
     opens_outputs_count x a (dict ps) p st = tt
-    opens_outputs_count x a (fun f) p st = tt
+    opens_outputs_count x a (fun f c) p st = tt
     opens_outputs_count x a (ref d) p st = tt
 
     opens_outputs : (x a n : Val N) (p : Place) (st : St N) → Opens (outputs_of w x a n p st k)
@@ -142,7 +142,7 @@ module _ {N : Type 0} (w : World N) (at : ℕ → Option Node) where
     opens_outputs (num z) a n p st = tt
     opens_outputs (list vs) a n p st = tt
     opens_outputs (dict ps) a n p st = tt
-    opens_outputs (fun f) a n p st = tt
+    opens_outputs (fun f c) a n p st = tt
     opens_outputs (ref d) a n p st = tt
 
   opens_input_if : (b : Bool) (k : List ℕ) (p : Place) (st : St N) → Opens (input_if w b k p st)
@@ -156,7 +156,7 @@ module _ {N : Type 0} (w : World N) (at : ℕ → Option Node) where
   opens_input (num z) p st = tt
   opens_input (list vs) p st = tt
   opens_input (dict ps) p st = tt
-  opens_input (fun f) p st = tt
+  opens_input (fun f c) p st = tt
   opens_input (ref e) p st = tt
 
   opens_one : (vs : List (Val N)) (p : Place) (st : St N) (k : Val N → Res N) → ((x : Val N) → Opens (k x)) → Opens (with_one vs p st k)
@@ -245,7 +245,7 @@ module _ {N : Type 0} (w : World N) (at : ℕ → Option Node) where
   opens_deref (text t) n k i o ss all f p st go here rest is g = tt
   opens_deref (list vs) n k i o ss all f p st go here rest is g = tt
   opens_deref (dict ps) n k i o ss all f p st go here rest is g = tt
-  opens_deref (fun h) n k i o ss all f p st go here rest is g = tt
+  opens_deref (fun h c) n k i o ss all f p st go here rest is g = tt
 
   opens_signed : (s : Sign) (v : Val N) (n k i : ℕ) (o : SignAt) (ss all : List SignAt) (f : Exp) (p : Place) (st : St N) (go : Val N → St N → Res N) → at n ≡ Some (exp_node (Exp.prefix all f)) → times next_sign i (reverse all) ≡ o ∷ ss → k ≡ suc (suc i) → ((u : Val N) (t : St N) → Opens (go u t)) → Opens (signed w s v n k ss p st go)
   opens_signed Sign.not v n k i o ss all f p st go here rest is g = opens_answer (opposite v) p st go (λ u. g u st)
@@ -267,8 +267,8 @@ module _ {N : Type 0} (w : World N) (at : ℕ → Option Node) where
   opens_call_fun None vs p st r g = tt
   opens_call_fun (Some x) vs p st r g = opens_call_if (nat_eq (length x.params) (count vs)) p st r g
 
-  opens_called : (v : Val N) (vs : Vals N) (p : Place) (st : St N) (k : List ℕ → Res N) → ((f : List ℕ) → Opens (k f)) → Opens (called w v vs p st k)
-  opens_called (fun f) vs p st k g = opens_call_fun (find_fun f w.script.funs) vs p st (k f) (g f)
+  opens_called : (v : Val N) (vs : Vals N) (p : Place) (st : St N) (k : List ℕ → Pairs N → Res N) → ((f : List ℕ) (c : Pairs N) → Opens (k f c)) → Opens (called w v vs p st k)
+  opens_called (fun f c) vs p st k g = opens_call_fun (find_fun f w.script.funs) vs p st (k f c) (g f c)
   opens_called null vs p st k g = tt
   opens_called (truth y) vs p st k g = tt
   opens_called (num z) vs p st k g = tt
@@ -277,11 +277,12 @@ module _ {N : Type 0} (w : World N) (at : ℕ → Option Node) where
   opens_called (dict ps) vs p st k g = tt
   opens_called (ref e) vs p st k g = tt
 
-  module _ (body : List ℕ → Vals N → Place → St N → Res N) (bodies_open : (f : List ℕ) (vs : Vals N) (p : Place) (st : St N) → Opens (body f vs p st)) where
+  module _ (body : List ℕ → Pairs N → Vals N → Place → St N → Res N) (bodies_open : (f : List ℕ) (c : Pairs N) (vs : Vals N) (p : Place) (st : St N) → Opens (body f c vs p st)) where
     mutual
       opens_eval : (e : Exp) (n : ℕ) (st : St N) → HasExp at e n → Opens (eval w body e n st)
       opens_eval (Exp.literal v p) n st h = opens_visit p st _ (λ s. opens_answer (limited (lit_val v)) p s gives (λ x. tt))
       opens_eval (Exp.name x p) n st h = opens_visit p st (λ s. answer (named (find x s.vars) x w.script.funs) p s gives) (λ s. opens_answer (named (find x s.vars) x w.script.funs) p s gives (λ y. tt))
+      opens_eval (Exp.func x p) n st h = opens_visit p st (λ s. answer (closed (find_fun x w.script.funs) x s.vars) p s gives) (λ s. opens_answer (closed (find_fun x w.script.funs) x s.vars) p s gives (λ y. tt))
       opens_eval (Exp.parens e) n st h = opens_got (eval w body e (n + 1) st) (parens_in n) gives (opens_eval e (n + 1) st h.1) (exp_node (Exp.parens e), h.0, refl) (λ v s. tt)
       opens_eval (Exp.parts o p es) n st h = opens_parts es n 1 (n + 1) 0 o p [] es st h.0 refl (omega arith) refl h.1
       opens_eval (Exp.chain e ls) n st h =
@@ -315,9 +316,9 @@ module _ {N : Type 0} (w : World N) (at : ℕ → Option Node) where
       opens_steps (Steps.call es p ss) n k m i v f all st here rest is h =
           opens_args es n k m i p v [] ss f all st here rest is h.0 (m + exps_nodes es) refl (λ l m' i' y u walk count is_next. opens_steps ss n l m' i' y f all u here walk count (subst (HasSteps at ss) (sym is_next) h.1))
 
-      opens_args : (es : Exps) (n k m i : ℕ) (p : Place) (g : Val N) (vs : List (Val N)) (ss : Steps) (f : Exp) (all : Steps) (st : St N) → at n ≡ Some (exp_node (Exp.postfix f all)) → times next_pos i (enter_pos (n + 1 + nodes f) all) ≡ in_args m es p ss → k ≡ suc (suc i) → HasExps at es m → (end : ℕ) → m + exps_nodes es ≡ end → ((l m' i' : ℕ) (y : Val N) (u : St N) → times next_pos i' (enter_pos (n + 1 + nodes f) all) ≡ enter_pos m' ss → l ≡ suc (suc i') → m' ≡ end → Opens (eval_steps w body ss n l m' y u)) → Opens (eval_args w body es n k m p g vs ss (λ l i f us s. enter w body f us p n l i ss s (λ y u. eval_steps w body ss n (l + 1) i y u)) st)
+      opens_args : (es : Exps) (n k m i : ℕ) (p : Place) (g : Val N) (vs : List (Val N)) (ss : Steps) (f : Exp) (all : Steps) (st : St N) → at n ≡ Some (exp_node (Exp.postfix f all)) → times next_pos i (enter_pos (n + 1 + nodes f) all) ≡ in_args m es p ss → k ≡ suc (suc i) → HasExps at es m → (end : ℕ) → m + exps_nodes es ≡ end → ((l m' i' : ℕ) (y : Val N) (u : St N) → times next_pos i' (enter_pos (n + 1 + nodes f) all) ≡ enter_pos m' ss → l ≡ suc (suc i') → m' ≡ end → Opens (eval_steps w body ss n l m' y u)) → Opens (eval_args w body es n k m p g vs ss (λ l i f c us s. enter w body f c us p n l i ss s (λ y u. eval_steps w body ss n (l + 1) i y u)) st)
       opens_args Exps.no_exps n k m i p g vs ss f all st here rest is h end reach steps =
-          opens_visit p st _ (λ s. opens_called g (vals_of vs) p s _ (λ x. opens_then (body x (vals_of vs) p s) (call_open n k m x s.vars ss) (on_body s.vars (λ y u. eval_steps w body ss n (k + 1) m y u)) (bodies_open x (vals_of vs) p s) (exp_node (Exp.postfix f all), here, pos_opened n k i [] (Some (x, s.vars)) (in_args m Exps.no_exps p ss) (λ j. call_open n j m x s.vars ss) f all rest is (λ j. refl)) (opens_body s.vars _ (λ y u. steps (k + 1) m (suc i) y u (ap next_pos rest) (up_two k i is) (omega (arith, reach))))))
+          opens_visit p st _ (λ s. opens_called g (vals_of vs) p s _ (λ x c. opens_then (body x c (vals_of vs) p s) (call_open n k m x s.vars ss) (on_body s.vars (λ y u. eval_steps w body ss n (k + 1) m y u)) (bodies_open x c (vals_of vs) p s) (exp_node (Exp.postfix f all), here, pos_opened n k i [] (Some (x, s.vars)) (in_args m Exps.no_exps p ss) (λ j. call_open n j m x s.vars ss) f all rest is (λ j. refl)) (opens_body s.vars _ (λ y u. steps (k + 1) m (suc i) y u (ap next_pos rest) (up_two k i is) (omega (arith, reach))))))
       opens_args (Exps.exp e es) n k m i p g vs ss f all st here rest is h end reach steps =
           opens_got _ (arg_at n k (m + nodes e) p g vs es ss) _ (opens_eval e m st h.0) (exp_node (Exp.postfix f all), here, pos_opened n k i (g ∷ vs) None (in_args m (Exps.exp e es) p ss) (λ j. arg_at n j (m + nodes e) p g vs es ss) f all rest is (λ j. refl)) (λ v s. opens_args es n (k + 1) (m + nodes e) (suc i) p g (vs ++ v ∷ []) ss f all s here (ap next_pos rest) (up_two k i is) h.1 end (omega (arith, reach)) steps)
 
@@ -346,7 +347,7 @@ module _ {N : Type 0} (w : World N) (at : ℕ → Option Node) where
       opens_each_of (num z) x e st here is = tt
       opens_each_of (text t) x e st here is = tt
       opens_each_of (dict ps) x e st here is = tt
-      opens_each_of (fun f) x e st here is = tt
+      opens_each_of (fun f c) x e st here is = tt
       opens_each_of (ref d) x e st here is = tt
 
     arm_opened : (n k m i : ℕ) (p : Place) (e : Exp) (b : Stms) (arms all : Arms) (els : Else) (q : Place) → at n ≡ Some (stm_node (Stm.cases q all els)) → times next_arm i (n + 1, all) ≡ (m, Arms.arm p e b arms) → k ≡ suc i → Opened at {N = N} (arm_test n k (m + nodes e) (n + 1 + arms_nodes all) p b arms els)
@@ -399,10 +400,10 @@ module _ {N : Type 0} (w : World N) (at : ℕ → Option Node) where
   HasBody None = Unit {0}
   HasBody (Some b) = (at b.node ≡ Some (block_node b.block)) × HasStms at b.block (b.node + 1)
 
-  opens_in_body : (o : Option Body) (vs : Vals N) (p : Place) (st : St N) (run : Stms → ℕ → St N → Res N) → HasBody o → ((b : Stms) (n : ℕ) (s : St N) → (at n ≡ Some (block_node b)) × HasStms at b (n + 1) → Opens (run b n s)) → Opens (in_body w o vs p st run)
+  opens_in_body : (o : Option Body) (c : Pairs N) (vs : Vals N) (p : Place) (st : St N) (run : Stms → ℕ → St N → Res N) → HasBody o → ((b : Stms) (n : ℕ) (s : St N) → (at n ≡ Some (block_node b)) × HasStms at b (n + 1) → Opens (run b n s)) → Opens (in_body w o c vs p st run)
   unfolding HasBody
-  opens_in_body None vs p st run h g = tt
-  opens_in_body (Some x) vs p st run h g = g x.block x.node (with_vars (bind x.params vs no_pairs) st) h
+  opens_in_body None c vs p st run h g = tt
+  opens_in_body (Some x) c vs p st run h g = g x.block x.node (with_vars (bind x.params vs c) st) h
 
   has_found : (b : Bool) (f : FunDef) (i : ℕ) (o : Option Body) → (at i ≡ Some (block_node f.body)) × HasStms at f.body (i + 1) → HasBody o → HasBody (find_body_if b f i o)
   unfolding HasBody
@@ -420,7 +421,7 @@ module _ {N : Type 0} (w : World N) (at : ℕ → Option Node) where
   has_body (x ∷ xs) sc h = has_find (x ∷ xs) sc.funs (block_nodes sc.main) h.1
 
   -- every form under way at a wait of a body is opened by what is saved of it
-  pub opens_call : (d : ℕ) (f : List ℕ) (vs : Vals N) (p : Place) (st : St N) → HasScript at w.script → Opens (body_at w d f vs p st)
-  opens_call zero f vs p st h = tt
-  opens_call (suc d) f vs p st h =
-      opens_in_body (body_of f w.script) vs p st _ (has_body f w.script h) (λ b n s g. opens_stms (body_at w d) (λ f' vs' p' st'. opens_call d f' vs' p' st' h) b n 0 (n + 1) b s g.0 refl g.1)
+  pub opens_call : (d : ℕ) (f : List ℕ) (c : Pairs N) (vs : Vals N) (p : Place) (st : St N) → HasScript at w.script → Opens (body_at w d f c vs p st)
+  opens_call zero f c vs p st h = tt
+  opens_call (suc d) f c vs p st h =
+      opens_in_body (body_of f w.script) c vs p st _ (has_body f w.script h) (λ b n s g. opens_stms (body_at w d) (λ f' c' vs' p' st'. opens_call d f' c' vs' p' st' h) b n 0 (n + 1) b s g.0 refl g.1)

@@ -16,7 +16,7 @@ module _ {N : Type 0} (spell : N → List ℕ) (tag : Desc (List ℕ) → List �
     refs_low (text t) = refl
     refs_low (list vs) = vals_refs_low vs
     refs_low (dict ps) = pairs_refs_low ps
-    refs_low (fun f) = refl
+    refs_low (fun f c) = pairs_refs_low c
     refs_low (ref d) = refl
 
     pub vals_refs_low : (vs : Vals N) → vals_refs (low_vals spell tag vs) ≡ map (low_ref spell tag) (vals_refs vs)

@@ -62,7 +62,7 @@ main_of ss = record { script = record { funs = []; main = block ss; keys = [] };
 
 abbrev pub with_fun : List ℕ → List (List ℕ) → List Stm → List Stm → Job
 with_fun f xs body ss =
-    record { script = record { funs = record { name = f; params = xs; body = block body; place = at 10 } ∷ []; main = block ss; keys = [] }; inputs = [] }
+    record { script = record { funs = record { name = f; params = xs; body = block body; place = at 10; uses = [] } ∷ []; main = block ss; keys = [] }; inputs = [] }
 
 -- all that a run computes with
 computing : ℕ
@@ -70,7 +70,7 @@ unfolding visits others see round wave job_answer is_utf8 chars encode
 computing = 0
 
 abbrev pub out_of : Job → ℕ → Outcome ⊥
-out_of job k = outcome (see job plain k) (run_of job plain [] no_vals)
+out_of job k = outcome (see job plain k) (run_of job plain [] no_pairs no_vals)
 
 -- how main ends with its count, where it waits for nothing
 abbrev pub end_of : Outcome ⊥ → Option (End ⊥ × ℕ)
@@ -114,7 +114,7 @@ abbrev pub squares_row : Job
 squares_row = with_fun (102 ∷ []) ((120 ∷ []) ∷ []) (Stm.return (at 17) (op (name (120 ∷ []) 24) Oper.times 26 (name (120 ∷ []) 28)) ∷ []) (Stm.set (97 ∷ []) (at 33) (f_of 3 37) ∷ Stm.set (98 ∷ []) (at 52) (f_of 4 56) ∷ Stm.return (at 71) (op (star 78 (name (97 ∷ []) 79)) Oper.plus 81 (star 83 (name (98 ∷ []) 84))) ∷ [])
 
 abbrev pub f : ℕ → Desc
-f k = call (102 ∷ []) (val (num (pos k)) no_vals)
+f k = call (102 ∷ []) no_pairs (val (num (pos k)) no_vals)
 
 squares_row_short : job_answer squares_row plain 1 ≡ Answered.not_yet
 unfolding computing
@@ -124,11 +124,11 @@ squares_row_see : see squares_row plain 2 main_call ≡ Some (Object.data_of (nu
 unfolding computing
 squares_row_see = refl
 
-squares_row_acts : acts (see squares_row plain 1) (run_of squares_row plain [] no_vals) ≡ made (f 3) ∷ made (f 4) ∷ waited (f 3 ∷ []) ∷ waited (f 4 ∷ []) ∷ []
+squares_row_acts : acts (see squares_row plain 1) (run_of squares_row plain [] no_pairs no_vals) ≡ made (f 3) ∷ made (f 4) ∷ waited (f 3 ∷ []) ∷ waited (f 4 ∷ []) ∷ []
 unfolding computing
 squares_row_acts = refl
 
-squares_row_short_acts : acts (see squares_row plain 0) (run_of squares_row plain [] no_vals) ≡ made (f 3) ∷ made (f 4) ∷ waited (f 3 ∷ []) ∷ []
+squares_row_short_acts : acts (see squares_row plain 0) (run_of squares_row plain [] no_pairs no_vals) ≡ made (f 3) ∷ made (f 4) ∷ waited (f 3 ∷ []) ∷ []
 unfolding computing
 squares_row_short_acts = refl
 
@@ -148,11 +148,11 @@ squares_row_end : ends squares_row 1 ≡ returns (num (pos 25)) 16
 unfolding computing
 squares_row_end = refl
 
-squares_row_made : made_from squares_row plain 1 [] no_vals 0 ≡ f 3 ∷ f 4 ∷ []
+squares_row_made : made_from squares_row plain 1 [] no_pairs no_vals 0 ≡ f 3 ∷ f 4 ∷ []
 unfolding computing
 squares_row_made = refl
 
-squares_row_made1 : made_from squares_row plain 1 [] no_vals 1 ≡ []
+squares_row_made1 : made_from squares_row plain 1 [] no_pairs no_vals 1 ≡ []
 unfolding computing
 squares_row_made1 = refl
 
@@ -179,7 +179,7 @@ unfolding computing
 self_spawn_row_answer = refl
 
 -- what main waits for is what f waits for, at every number
-self_spawn_row_wait : wait_at self_spawn_row plain 1 (Task.of main_call) 1 ≡ Some (call (102 ∷ []) no_vals ∷ [])
+self_spawn_row_wait : wait_at self_spawn_row plain 1 (Task.of main_call) 1 ≡ Some (call (102 ∷ []) no_pairs no_vals ∷ [])
 unfolding computing
 self_spawn_row_wait = refl
 
@@ -313,7 +313,7 @@ waiting_exec_row_answer : job_answer waiting_exec_row plain 3 ≡ Answered.bytes
 unfolding computing
 waiting_exec_row_answer = refl
 
-waiting_exec_row_acts : acts (see waiting_exec_row plain 2) (run_of waiting_exec_row plain [] no_vals) ≡ made (input (116 ∷ [])) ∷ made cat_out ∷ waited (cat_out ∷ []) ∷ []
+waiting_exec_row_acts : acts (see waiting_exec_row plain 2) (run_of waiting_exec_row plain [] no_pairs no_vals) ≡ made (input (116 ∷ [])) ∷ made cat_out ∷ waited (cat_out ∷ []) ∷ []
 unfolding computing
 waiting_exec_row_acts = refl
 

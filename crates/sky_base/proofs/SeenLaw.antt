@@ -4,7 +4,7 @@ use Rattle.std.proofs.Common.{◌≡◌, ◌≢◌, ℕ, zero, suc, ◌+◌, Lis
 use Rattle.sky_base.specs.Val.{null, truth, num, text, list, dict, fun, ref, call, out, input, known, refs, depth, size}
 use Rattle.sky_base.specs.Res.{Object, Res, Fin, Tell, Ask}
 use Rattle.sky_base.specs.Read.{joined, Outcome, no_fuel, Act, made, waited, Halt, refs_of, see_all, on_seen, acts_seen, halts_seen, outcome, acts, halt}
-use Rattle.sky_base.specs.See.{Val, Vals, Desc, Obj, Job, Around, Gathered, not_yet, all, gather_on, gather_one, gather, as_bytes, as_value, executed_on, object_of, run_of, see, Answered, Turn, next_value, lone, turn_all, turn_refs, turn, on_turn, round, wave_on, turn_of, wave, job_answer, main_call, Means}
+use Rattle.sky_base.specs.See.{Val, Vals, Pairs, Desc, Obj, Job, Around, Gathered, not_yet, all, gather_on, gather_one, gather, as_bytes, as_value, executed_on, object_of, run_of, see, Answered, Turn, next_value, lone, turn_all, turn_refs, turn, on_turn, round, wave_on, turn_of, wave, job_answer, main_call, Means}
 use Rattle.sky_base.specs.Needed.{Task, wait_at, WaitOf, wave_refs, only_if, halt_refs, State, stands_at, StandsAt, wave_state, halt_state}
 use Rattle.sky_base.specs.declared.fault.Fault.{Fault}
 
@@ -143,16 +143,16 @@ module _ (job : Job) (around : Around) where
   pub see_kept : (n : ℕ) (d : Desc) → Kept None (see job around n d) (see job around (suc n) d)
   unfolding see
   see_kept zero d = inl refl
-  see_kept (suc n) (call f vs) =
-      kept_map no_fuel _ _ None object_of refl (outcome_kept (λ d. see job around n d) (λ d. see job around (suc n) d) (λ d. see_kept n d) (run_of job around f vs))
+  see_kept (suc n) (call f c vs) =
+      kept_map no_fuel _ _ None object_of refl (outcome_kept (λ d. see job around n d) (λ d. see job around (suc n) d) (λ d. see_kept n d) (run_of job around f c vs))
   see_kept (suc n) (out x a m i) =
       kept_map not_yet _ _ None (executed_on around x a m i) refl (gather_kept (as_bytes around) (λ d. see job around n d) (λ d. see job around (suc n) d) (λ d. see_kept n d) (refs a))
   see_kept (suc n) (input k) = inr refl
   see_kept (suc n) (known b) = absurd b
 
   -- what a task did stays, and grows
-  pub acts_grow : (n : ℕ) (f : List ℕ) (vs : Vals) → Begins (acts (see job around n) (run_of job around f vs)) (acts (see job around (suc n)) (run_of job around f vs))
-  acts_grow n f vs = acts_begin (see job around n) (see job around (suc n)) (see_kept n) (run_of job around f vs)
+  pub acts_grow : (n : ℕ) (f : List ℕ) (c : Pairs) (vs : Vals) → Begins (acts (see job around n) (run_of job around f c vs)) (acts (see job around (suc n)) (run_of job around f c vs))
+  acts_grow n f c vs = acts_begin (see job around n) (see job around (suc n)) (see_kept n) (run_of job around f c vs)
 
   abbrev blind : Turn
   blind = Turn.ends Answered.not_yet
@@ -186,7 +186,7 @@ module _ (job : Job) (around : Around) where
   refs_kept n (d ∷ ds) (text t) = all_turn_kept n (text t)
   refs_kept n (d ∷ ds) (list vs) = all_turn_kept n (list vs)
   refs_kept n (d ∷ ds) (dict ps) = all_turn_kept n (dict ps)
-  refs_kept n (d ∷ ds) (fun f) = all_turn_kept n (fun f)
+  refs_kept n (d ∷ ds) (fun f c) = all_turn_kept n (fun f c)
 
   pub turn_kept : (n : ℕ) (a : Val) → Kept blind (turn job around n a) (turn job around (suc n) a)
   turn_kept n a = refs_kept n (refs a) a
@@ -236,9 +236,9 @@ module _ (job : Job) (around : Around) where
   pub wait_kept : (t : Task) (j n : ℕ) → Kept None (wait_at job around n t j) (wait_at job around (suc n) t j)
   wait_kept Task.show zero n = inr refl
   wait_kept Task.show (suc j) n = only_kept (nat_le (suc j) 100) _ _ (kept_map None _ _ None wave_refs refl (wave_kept n (suc j)))
-  wait_kept (Task.of (call f vs)) zero n = inr refl
-  wait_kept (Task.of (call f vs)) (suc j) n =
-      kept_map None _ _ None halt_refs refl (halt_kept (see job around n) (see job around (suc n)) (see_kept n) j (run_of job around f vs))
+  wait_kept (Task.of (call f c vs)) zero n = inr refl
+  wait_kept (Task.of (call f c vs)) (suc j) n =
+      kept_map None _ _ None halt_refs refl (halt_kept (see job around n) (see job around (suc n)) (see_kept n) j (run_of job around f c vs))
   wait_kept (Task.of (out x a m i)) zero n = inr refl
   wait_kept (Task.of (out x a m i)) (suc j) n = inr refl
   wait_kept (Task.of (input k)) j n = inr refl
@@ -254,9 +254,9 @@ module _ (job : Job) (around : Around) where
 
   pub stands_kept : (t : Task) (j n : ℕ) → Kept None (stands_at job around n t j) (stands_at job around (suc n) t j)
   stands_kept Task.show j n = kept_map None _ _ None (wave_state j) refl (wave_kept n j)
-  stands_kept (Task.of (call f vs)) zero n = inr refl
-  stands_kept (Task.of (call f vs)) (suc j) n =
-      kept_map None _ _ None (halt_state f (suc j)) refl (halt_kept (see job around n) (see job around (suc n)) (see_kept n) j (run_of job around f vs))
+  stands_kept (Task.of (call f c vs)) zero n = inr refl
+  stands_kept (Task.of (call f c vs)) (suc j) n =
+      kept_map None _ _ None (halt_state f (suc j)) refl (halt_kept (see job around n) (see job around (suc n)) (see_kept n) j (run_of job around f c vs))
   stands_kept (Task.of (out x a m i)) j n = inr refl
   stands_kept (Task.of (input k)) j n = inr refl
   stands_kept (Task.of (known b)) j n = absurd b

@@ -1,21 +1,21 @@
 -- Every value that a job makes keeps the limits; a task has at most 64 bodies open.
 use Rattle.sky_base.specs.Val as v
-use Rattle.std.proofs.Common.{◌≡◌, ℕ, zero, suc, ◌+◌, ◌<◌, ◌≤◌, List, [], ◌∷◌, ◌++◌, length, Bool, true, false, Option, Some, None, Result, Ok, Err, nat_lt, nat_le, refl, ap, ◌∙◌, subst, arith, ltb-false, lt-ltb, ◌⊎◌, inl, inr}
+use Rattle.std.proofs.Common.{IsSome, ◌≡◌, ℕ, zero, suc, ◌+◌, ◌<◌, ◌≤◌, List, [], ◌∷◌, ◌++◌, length, Bool, true, false, Option, Some, None, Result, Ok, Err, nat_lt, nat_le, refl, ap, ◌∙◌, subst, arith, ltb-false, lt-ltb, ◌⊎◌, inl, inr}
 use Rattle.std.specs.Str.{is_utf8}
 use Rattle.sky_base.specs.Val.{null, truth, num, text, list, dict, fun, ref, no_vals, val, no_pairs, pair, call, out, input, known, refs, vals_refs, pairs_refs, size, depth}
 use Rattle.sky_base.specs.Op.{Answer}
-use Rattle.sky_base.specs.Tree.{nowhere, Script}
+use Rattle.sky_base.specs.Tree.{FunDef, nowhere, Script}
 use Rattle.sky_base.specs.Res.{others, Object, End, Entry, parens_in, part_at, chain_first, chain_more, logic_at, prefix_part, star_wait, postfix_first, index_at, arg_at, call_open, exec_wait, set_part, add_part, put_index, put_value, return_part, just_part, arm_test, while_test, while_body, repeat_body, repeat_test, for_list, for_body, block_at, Res, Fin, Tell, Ask, kept_of, opens}
-use Rattle.sky_base.specs.Eval.{World, Body, body_of, bind, inside}
+use Rattle.sky_base.specs.Eval.{find_fun, World, Body, body_of, bind, inside}
 use Rattle.sky_base.specs.Read.{Outcome, no_fuel, Act, made, waited, Halt, Todo, Frame, refs_of, joined, see_all, on_seen, acts_seen, halts_seen, outcome, acts, halt, todo_of, in_front, frame_of, frames_of}
-use Rattle.sky_base.specs.See.{Val, Vals, Desc, Obj, Job, Around, Gathered, gather_on, gather_one, gather, as_value, read_or_text, text_if, val_of, replaced, vals_replaced, pairs_replaced, run_output, output_at, executed_on, object_of, world_of, start_st, run_of, see, Turn, next_if, next_within, next_value, lone, turn_all, turn_refs, turn, wave_on, turn_of, wave, main_call}
+use Rattle.sky_base.specs.See.{Val, Vals, Pairs, Desc, Obj, Job, Around, Gathered, gather_on, gather_one, gather, as_value, read_or_text, text_if, val_of, replaced, vals_replaced, pairs_replaced, run_output, output_at, executed_on, object_of, world_of, start_st, run_of, see, Turn, next_if, next_within, next_value, lone, turn_all, turn_refs, turn, wave_on, turn_of, wave, main_call}
 use Rattle.sky_base.specs.Needed.{Task, task_of, distinct_refs, unless_none, wave_refs, only_if, halt_refs, wait_at, WaitOf, State, start_frame, halt_state, wave_state, stands_at, StandsAt, Needed, root}
 use Rattle.sky_base.specs.Tasks.{Each, maker}
-use Rattle.sky_base.specs.Sound.{IsFun, RefsSound, ValsSound, PairsSound, SoundDesc, Sound, SoundObject, SoundVars, SoundFrame, SoundState, SoundTask, SoundRead, SoundReads}
+use Rattle.sky_base.specs.Sound.{AllUsed, TakesIf, IsFun, RefsSound, ValsSound, PairsSound, SoundDesc, Sound, SoundObject, SoundVars, SoundFrame, SoundState, SoundTask, SoundRead, SoundReads}
 use Rattle.sky_base.specs.declared.fault.Fault.{Fault}
 use Rattle.sky_base.proofs.Law.{inner}
 use Rattle.sky_base.proofs.FineLaw.{Closed, PairsOk, ObjectOk, EndOk, OpenOk, FormsOk, Waits, Fine, bind_ok, fine_call}
-use Rattle.sky_base.proofs.SoundOps.{SoundAnswer, sound_closed}
+use Rattle.sky_base.proofs.SoundOps.{dict_inside, SoundAnswer, sound_closed}
 use Rattle.sky_base.proofs.TaskOutputs.{in_contains, each_in, in_each, distinct_refs_in}
 
 some_is : {A : Type 0} (a b : A) → Some a ≡ Some b → a ≡ b
@@ -207,7 +207,7 @@ module _ (sc : Script) where
     sound_refs (text t) h = tt
     sound_refs (list vs) h = sound_vals_refs vs h
     sound_refs (dict ps) h = sound_pairs_refs ps h
-    sound_refs (fun f) h = tt
+    sound_refs (fun f c) h = sound_pairs_refs c h.1
     sound_refs (ref d) h = (h, tt)
 
     sound_vals_refs : (vs : Vals) → ValsSound sc vs → Each (SoundDesc sc) (vals_refs vs)
@@ -219,6 +219,14 @@ module _ (sc : Script) where
     sound_pairs_refs (pair k a ps) h = each_both (refs a) (pairs_refs ps) (sound_refs a h.0) (sound_pairs_refs ps h.1)
 
   module _ (f : ℕ → Desc → Val) (h : (k : ℕ) (d : Desc) → RefsSound sc (f k d)) where
+    replaced_used : (us : List (List ℕ)) (i : ℕ) (ps : v.Pairs ⊥) → AllUsed us ps → AllUsed us (pairs_replaced f i ps)
+    replaced_used us i no_pairs r = tt
+    replaced_used us i (pair k a ps) r = (r.0, replaced_used us (i + length (refs a)) ps r.1)
+
+    replaced_takes : (i : ℕ) (o : Option FunDef) (ps : v.Pairs ⊥) → TakesIf o ps → TakesIf o (pairs_replaced f i ps)
+    replaced_takes i None ps r = r
+    replaced_takes i (Some d) ps r = replaced_used d.uses i ps r
+
     mutual
       replaced_refs : (i : ℕ) (a : Val) → RefsSound sc a → RefsSound sc (replaced f i a)
       replaced_refs i null r = tt
@@ -227,7 +235,7 @@ module _ (sc : Script) where
       replaced_refs i (text t) r = tt
       replaced_refs i (list vs) r = replaced_vals i vs r
       replaced_refs i (dict ps) r = replaced_pairs i ps r
-      replaced_refs i (fun g) r = r
+      replaced_refs i (fun g c) r = (replaced_takes i _ c r.0, replaced_pairs i c r.1)
       replaced_refs i (ref d) r = h i d
 
       replaced_vals : (i : ℕ) (vs : Vals) → ValsSound sc vs → ValsSound sc (vals_replaced f i vs)
@@ -300,7 +308,7 @@ module _ (sc : Script) where
 
   main_sound : Sound sc (ref main_call)
   main_sound =
-      (record { deep = omega arith; large = omega arith }, (record { deep = omega arith; large = omega arith }, tt, inl refl))
+      (record { deep = omega arith; large = omega arith }, (record { deep = omega arith; large = omega arith }, record { deep = omega arith; large = omega arith }, tt, tt, inl (refl, refl)))
 
 module _ (job : Job) (around : Around) (reads : SoundReads job.script around) where
   read_ok : (o : Answer ⊥) → SoundRead job.script o → SoundAnswer ⊥ (λ b. Unit {0}) job.script o
@@ -308,11 +316,11 @@ module _ (job : Job) (around : Around) (reads : SoundReads job.script around) wh
   read_ok (Err k) h = tt
 
   closed : Closed (world_of job.script around) (Sound job.script) (SoundDesc job.script)
-  closed = sound_closed ⊥ (λ b. Unit {0}) job.script (world_of job.script around) (λ f i. i) (λ b. read_ok (around.reads b) (reads b)) (λ d h. h)
+  closed = sound_closed ⊥ (λ b. Unit {0}) job.script (world_of job.script around) (λ f. refl) (λ b. read_ok (around.reads b) (reads b)) (λ d h. h)
 
-  run_fine : (f : List ℕ) (vs : Vals) → SoundDesc job.script (call f vs) → Fine (world_of job.script around) (Sound job.script) (SoundDesc job.script) others (run_of job around f vs)
-  run_fine f vs h =
-      fine_call (world_of job.script around) (Sound job.script) (SoundDesc job.script) closed others f vs nowhere start_st tt (closed.inside_ok vs (h.0, h.1))
+  run_fine : (f : List ℕ) (c : Pairs) (vs : Vals) → SoundDesc job.script (call f c vs) → Fine (world_of job.script around) (Sound job.script) (SoundDesc job.script) others (run_of job around f c vs)
+  run_fine f c vs h =
+      fine_call (world_of job.script around) (Sound job.script) (SoundDesc job.script) closed others f c vs nowhere start_st tt (dict_inside ⊥ (λ b. Unit {0}) job.script c (h.1, h.3)) (closed.inside_ok vs (h.0, h.2))
 
   object_ok : (o : Outcome ⊥) → OutcomeOk (world_of job.script around) (Sound job.script) (SoundDesc job.script) o → SoundSeen job.script (object_of o)
   object_ok (Outcome.ended End.goes st) h = closed.null_ok
@@ -344,8 +352,8 @@ module _ (job : Job) (around : Around) (reads : SoundReads job.script around) wh
   see_ok : (n : ℕ) (d : Desc) → SoundDesc job.script d → SoundSeen job.script (see job around n d)
   unfolding see
   see_ok zero d h = tt
-  see_ok (suc n) (call f vs) h =
-      object_ok (outcome (λ d. see job around n d) (run_of job around f vs)) (outcome_fine (world_of job.script around) (Sound job.script) (SoundDesc job.script) (λ d. see job around n d) (λ d i. seen_ok (see job around n d) (see_ok n d i)) (run_of job around f vs) others (run_fine f vs h))
+  see_ok (suc n) (call f c vs) h =
+      object_ok (outcome (λ d. see job around n d) (run_of job around f c vs)) (outcome_fine (world_of job.script around) (Sound job.script) (SoundDesc job.script) (λ d. see job around n d) (λ d i. seen_ok (see job around n d) (see_ok n d i)) (run_of job around f c vs) others (run_fine f c vs h))
   see_ok (suc n) (out x a m i) h = executed_ok x a m i _
   see_ok (suc n) (input k) h = tt
   see_ok (suc n) (known b) h = absurd b
@@ -358,13 +366,13 @@ module _ (job : Job) (around : Around) (reads : SoundReads job.script around) wh
   see_sound n d o h e = subst (SoundSeen job.script) e (see_ok n d h)
 
   -- each description that a call makes or waits for is sound
-  pub acts_sound : (n : ℕ) (f : List ℕ) (vs : Vals) → SoundDesc job.script (call f vs) → Each (ActOk (world_of job.script around) (Sound job.script) (SoundDesc job.script)) (acts (see job around n) (run_of job around f vs))
-  acts_sound n f vs h =
-      acts_fine (world_of job.script around) (Sound job.script) (SoundDesc job.script) (see job around n) (looks n) (run_of job around f vs) others (run_fine f vs h)
+  pub acts_sound : (n : ℕ) (f : List ℕ) (c : Pairs) (vs : Vals) → SoundDesc job.script (call f c vs) → Each (ActOk (world_of job.script around) (Sound job.script) (SoundDesc job.script)) (acts (see job around n) (run_of job around f c vs))
+  acts_sound n f c vs h =
+      acts_fine (world_of job.script around) (Sound job.script) (SoundDesc job.script) (see job around n) (looks n) (run_of job around f c vs) others (run_fine f c vs h)
 
-  halt_sound : (n j : ℕ) (f : List ℕ) (vs : Vals) → SoundDesc job.script (call f vs) → HaltOk (world_of job.script around) (Sound job.script) (SoundDesc job.script) others (halt (see job around n) j (run_of job around f vs))
-  halt_sound n j f vs h =
-      halt_fine (world_of job.script around) (Sound job.script) (SoundDesc job.script) (see job around n) (looks n) j (run_of job around f vs) others (run_fine f vs h)
+  halt_sound : (n j : ℕ) (f : List ℕ) (c : Pairs) (vs : Vals) → SoundDesc job.script (call f c vs) → HaltOk (world_of job.script around) (Sound job.script) (SoundDesc job.script) others (halt (see job around n) j (run_of job around f c vs))
+  halt_sound n j f c vs h =
+      halt_fine (world_of job.script around) (Sound job.script) (SoundDesc job.script) (see job around n) (looks n) j (run_of job around f c vs) others (run_fine f c vs h)
 
   -- ---- the result
 
@@ -401,7 +409,7 @@ module _ (job : Job) (around : Around) (reads : SoundReads job.script around) wh
   turn_refs_sound n (d ∷ ds) (text t) h = all_sound n (text t) h
   turn_refs_sound n (d ∷ ds) (list vs) h = all_sound n (list vs) h
   turn_refs_sound n (d ∷ ds) (dict ps) h = all_sound n (dict ps) h
-  turn_refs_sound n (d ∷ ds) (fun f) h = all_sound n (fun f) h
+  turn_refs_sound n (d ∷ ds) (fun f c) h = all_sound n (fun f c) h
 
   next_wave : (n : ℕ) (o : Option Val) → OptionSound job.script o → OptionSound job.script (wave_on job around n (turn_of job around n o))
   next_wave n None h = tt
@@ -445,8 +453,8 @@ module _ (job : Job) (around : Around) (reads : SoundReads job.script around) wh
   wait_ok : (n : ℕ) (t : Task) (j : ℕ) → SoundTask job.script t → RefsList (wait_at job around n t j)
   wait_ok n Task.show zero h = ((main_sound job.script).1, tt)
   wait_ok n Task.show (suc j) h = only_ok (nat_le (suc j) 100) (wave_refs (wave job around n (suc j))) (wave_refs_ok (wave job around n (suc j)) (wave_ok n (suc j)))
-  wait_ok n (Task.of (call f vs)) zero h = tt
-  wait_ok n (Task.of (call f vs)) (suc j) h = halt_refs_ok (halt (see job around n) j (run_of job around f vs)) (halt_sound n j f vs h)
+  wait_ok n (Task.of (call f c vs)) zero h = tt
+  wait_ok n (Task.of (call f c vs)) (suc j) h = halt_refs_ok (halt (see job around n) j (run_of job around f c vs)) (halt_sound n j f c vs h)
   wait_ok n (Task.of (out x a m i)) zero h = distinct_sound job.script a h.2
   wait_ok n (Task.of (out x a m i)) (suc j) h = tt
   wait_ok n (Task.of (input k)) j h = tt
@@ -457,7 +465,7 @@ module _ (job : Job) (around : Around) (reads : SoundReads job.script around) wh
   wait_sound t j ds h (n, e) = subst RefsList e (wait_ok n t j h)
 
   task_sound : (d : Desc) (t : Task) → SoundDesc job.script d → task_of d ≡ Some t → SoundTask job.script t
-  task_sound (call f vs) t h e = subst (SoundTask job.script) (some_is _ t e) h
+  task_sound (call f c vs) t h e = subst (SoundTask job.script) (some_is _ t e) h
   task_sound (out x a m i) t h e = subst (SoundTask job.script) (some_is _ t e) (h.0, h.1, h.2, omega (arith, h.3), h.4)
   task_sound (input k) t h e = absurd (none_some t e)
   task_sound (known b) t h e = absurd b
@@ -472,10 +480,18 @@ module _ (job : Job) (around : Around) (reads : SoundReads job.script around) wh
   StateOk None = Unit {0}
   StateOk (Some s) = SoundState job.script s
 
-  start_ok : (f : List ℕ) (vs : Vals) (o : Option Body) → SoundDesc job.script (call f vs) → StateOk (start_frame f vs o)
-  start_ok f vs None h = tt
-  start_ok f vs (Some b) h =
-      ((sound_vars job.script around (bind b.params vs no_pairs) (bind_ok (world_of job.script around) (Sound job.script) (SoundDesc job.script) b.params vs no_pairs (closed.inside_ok vs (h.0, h.1)) tt), tt, h.2), tt)
+  has_fun : (o : Option FunDef) (c : Pairs) → TakesIf o c → IsSome o
+  has_fun None c h = absurd h
+  has_fun (Some f) c h = refl
+
+  named_or_main : (f : List ℕ) (c : Pairs) → ((f ≡ []) × (c ≡ no_pairs)) ⊎ TakesIf (find_fun f job.script.funs) c → (f ≡ []) ⊎ IsFun job.script f
+  named_or_main f c (inl e) = inl e.0
+  named_or_main f c (inr i) = inr (has_fun (find_fun f job.script.funs) c i)
+
+  start_ok : (f : List ℕ) (c : Pairs) (vs : Vals) (o : Option Body) → SoundDesc job.script (call f c vs) → StateOk (start_frame f c vs o)
+  start_ok f c vs None h = tt
+  start_ok f c vs (Some b) h =
+      ((sound_vars job.script around (bind b.params vs c) (bind_ok (world_of job.script around) (Sound job.script) (SoundDesc job.script) b.params vs c (closed.inside_ok vs (h.0, h.2)) (dict_inside ⊥ (λ b. Unit {0}) job.script c (h.1, h.3))), tt, named_or_main f c h.4), tt)
 
   halt_state_ok : (f : List ℕ) (j : ℕ) (o : Option (Halt ⊥)) → (f ≡ []) ⊎ IsFun job.script f → HaltOk (world_of job.script around) (Sound job.script) (SoundDesc job.script) others o → StateOk (halt_state f j o)
   halt_state_ok f j None z h = tt
@@ -488,8 +504,8 @@ module _ (job : Job) (around : Around) (reads : SoundReads job.script around) wh
 
   stands_ok : (n : ℕ) (t : Task) (j : ℕ) → SoundTask job.script t → StateOk (stands_at job around n t j)
   stands_ok n Task.show j h = wave_state_ok j (wave job around n j) (wave_ok n j)
-  stands_ok n (Task.of (call f vs)) zero h = start_ok f vs (body_of f job.script) h
-  stands_ok n (Task.of (call f vs)) (suc j) h = halt_state_ok f (suc j) (halt (see job around n) j (run_of job around f vs)) h.2 (halt_sound n j f vs h)
+  stands_ok n (Task.of (call f c vs)) zero h = start_ok f c vs (body_of f job.script) h
+  stands_ok n (Task.of (call f c vs)) (suc j) h = halt_state_ok f (suc j) (halt (see job around n) j (run_of job around f c vs)) (named_or_main f c h.4) (halt_sound n j f c vs h)
   stands_ok n (Task.of (out x a m i)) j h = tt
   stands_ok n (Task.of (input k)) j h = tt
   stands_ok n (Task.of (known b)) j h = absurd b
@@ -501,7 +517,7 @@ module _ (job : Job) (around : Around) (reads : SoundReads job.script around) wh
 module _ (sc : Script) where
   -- a sound description that isn't an input has its task
   pub sound_maker : (d : Desc) → SoundDesc sc d → maker d ≡ task_of d
-  sound_maker (call f vs) h = refl
+  sound_maker (call f c vs) h = refl
   sound_maker (out x a m i) h = ap (λ b. only_if b (Some (Task.of (out x a m 0)))) (lt-ltb i m h.3)
   sound_maker (input k) h = refl
   sound_maker (known b) h = absurd b

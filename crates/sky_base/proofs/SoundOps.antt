@@ -1,15 +1,16 @@
 -- Each operator gives values within the limits from values within the limits, and refers to nothing else than these do.
-use Rattle.std.proofs.Common.{◌≡◌, ℕ, ℤ, zero, suc, ◌+◌, ◌*◌, ◌≤◌, Bool, true, false, not, ◌&&◌, List, [], ◌∷◌, ◌++◌, length, Option, Some, None, Ok, Err, nat_lt, pos, negsuc, ◌+ℤ◌, ◌-ℤ◌, ◌*ℤ◌, int_div, int_rem, refl, arith, ltb-false, inr}
+use Rattle.std.proofs.Common.{◌≡◌, ℕ, ℤ, zero, suc, ◌+◌, ◌*◌, ◌≤◌, Bool, true, false, not, ◌&&◌, List, [], ◌∷◌, ◌++◌, length, Option, Some, None, Ok, Err, nat_lt, pos, negsuc, ◌+ℤ◌, ◌-ℤ◌, ◌*ℤ◌, int_div, int_rem, refl, arith, ltb-false, inr, subst, sym, ◌∙◌, IsSome}
 use Rattle.std.specs.Option.{option_map}
 use Rattle.std.specs.Ordering.{nat_cmp, int_cmp, match_ordering, is_lt, is_le, is_gt, is_ge}
 use Rattle.std.specs.Cmp.Lexicographic.{slice_cmp}
 use Rattle.std.specs.declared.cmp.Ordering.{Ordering}
 use Rattle.sky_base.specs.Val.{Val, Vals, Pairs, Desc, null, truth, num, text, list, dict, fun, ref, no_vals, val, no_pairs, pair, add_val, vals_of, refs_to, size, sizes, depth, depths, pair_sizes, pair_depths, is_plain, same_val}
 use Rattle.sky_base.specs.Op.{Answer, if_fits, fits, checked, unless, limited, join, plus, minus, times, over, over_num, rest, rest_num, val_at, find, put, or_else, index, put_val, limited_list, set_at, equal_if, ordered, compare, Order, negated, opposite, len, all_keys, keys, has, numbers, range_if, range, span, grown, with_key, dict_from}
-use Rattle.sky_base.specs.Tree.{Lit, Oper, Script}
-use Rattle.sky_base.specs.Eval.{World, lit_val, oper}
-use Rattle.sky_base.specs.Sound.{IsFun, RefsOver, ValsOver, PairsOver, DescOver, SoundOver}
+use Rattle.sky_base.specs.Tree.{Lit, Oper, FunDef, Script}
+use Rattle.sky_base.specs.Eval.{World, find_fun, is_one_of, caught_if, caught_by, lit_val, oper}
+use Rattle.sky_base.specs.Sound.{IsFun, AllUsed, TakesIf, RefsOver, ValsOver, PairsOver, DescOver, SoundOver}
 use Rattle.sky_base.specs.Tasks.{Each}
+use Rattle.sky_base.specs.Kept.{Kept}
 use Rattle.sky_base.proofs.FineLaw.{Closed}
 
 module _ (N : Type 0) (K : N → Type 0) (sc : Script) where
@@ -17,6 +18,10 @@ module _ (N : Type 0) (K : N → Type 0) (sc : Script) where
   abbrev pub SoundAnswer : Answer N → Type 0
   SoundAnswer (Ok v) = SoundOver K sc v
   SoundAnswer (Err k) = Unit {0}
+
+  abbrev pub SoundPairs : Pairs N → Type 0
+  SoundPairs no_pairs = Unit {0}
+  SoundPairs (pair k v ps) = SoundOver K sc v × SoundPairs ps
 
   abbrev pub SoundOption : Option (Val N) → Type 0
   SoundOption None = Unit {0}
@@ -71,6 +76,47 @@ module _ (N : Type 0) (K : N → Type 0) (sc : Script) where
       let d : 1 + depths vs ≤ 100 = h.0.deep in
       let s : 1 + sizes vs ≤ 262144 = h.0.large in
       vals_inside vs (omega arith) (omega arith) h.1
+
+  pairs_inside : (ps : Pairs N) → pair_depths ps ≤ 100 → pair_sizes ps ≤ 262144 → PairsOver K sc ps → SoundPairs ps
+  pairs_inside no_pairs d s r = tt
+  pairs_inside (pair k v ps) d s r =
+      ((record { deep = omega arith; large = omega arith }, r.0), pairs_inside ps (omega arith) (omega arith) r.1)
+
+  pub dict_inside : (ps : Pairs N) → SoundOver K sc (dict ps) → SoundPairs ps
+  dict_inside ps h =
+      let d : 1 + pair_depths ps ≤ 100 = h.0.deep in
+      let s : 1 + pair_sizes ps ≤ 262144 = h.0.large in
+      pairs_inside ps (omega arith) (omega arith) h.1
+
+  -- what a function captured keeps the limits as a dictionary does
+  caught_kept : (f : List ℕ) (ps : Pairs N) → Kept (fun f ps) → Kept (dict ps)
+  caught_kept f ps h =
+      let d : 1 + pair_depths ps ≤ 100 = h.deep in
+      let s : 1 + (length f + pair_sizes ps) ≤ 262144 = h.large in
+      record { deep = omega arith; large = omega arith }
+
+  takes_none : (o : Option FunDef) → IsSome o → TakesIf {N = N} o no_pairs
+  takes_none (Some f) i = tt
+  takes_none None i = absurd cc
+
+  all_used : (us : List (List ℕ)) (ps : Pairs N) → AllUsed us (caught_by us ps)
+  all_used us no_pairs = tt
+  all_used us (pair k v ps) = go (is_one_of k us) refl (all_used us ps)
+    where
+      go : (b : Bool) → is_one_of k us ≡ b → AllUsed us (caught_by us ps) → AllUsed us (caught_if b k v (caught_by us ps))
+      go true e h = (e, h)
+      go false e h = h
+
+  caught_refs : (us : List (List ℕ)) (ps : Pairs N) → SoundPairs ps → PairsOver K sc (caught_by us ps)
+  caught_refs us no_pairs h = tt
+  caught_refs us (pair k v ps) h = go (is_one_of k us) (caught_refs us ps h.1)
+    where
+      go : (b : Bool) → PairsOver K sc (caught_by us ps) → PairsOver K sc (caught_if b k v (caught_by us ps))
+      go true i = (h.0.1, i)
+      go false i = i
+
+  takes_caught : (o : Option FunDef) (f : FunDef) (ps : Pairs N) → o ≡ Some f → TakesIf o (caught_by f.uses ps)
+  takes_caught o f ps e = subst (λ x. TakesIf x (caught_by f.uses ps)) (sym e) (all_used f.uses ps)
 
   val_at_ok : (vs : Vals N) (i : ℕ) → SoundVals vs → SoundOption (val_at vs i)
   val_at_ok no_vals i h = tt
@@ -134,7 +180,7 @@ module _ (N : Type 0) (K : N → Type 0) (sc : Script) where
   plus_ok (num a) (text t) h i = tt
   plus_ok (num a) (list vs) h i = tt
   plus_ok (num a) (dict ps) h i = tt
-  plus_ok (num a) (fun f) h i = tt
+  plus_ok (num a) (fun f c) h i = tt
   plus_ok (num a) (ref d) h i = tt
   plus_ok (text s) (text t) h i = limited_ok (text (s ++ t)) tt
   plus_ok (text s) null h i = tt
@@ -142,7 +188,7 @@ module _ (N : Type 0) (K : N → Type 0) (sc : Script) where
   plus_ok (text s) (num z) h i = tt
   plus_ok (text s) (list vs) h i = tt
   plus_ok (text s) (dict ps) h i = tt
-  plus_ok (text s) (fun f) h i = tt
+  plus_ok (text s) (fun f c) h i = tt
   plus_ok (text s) (ref d) h i = tt
   plus_ok (list vs) (list ws) h i = limited_ok (list (join vs ws)) (join_refs vs ws h i)
   plus_ok (list vs) null h i = tt
@@ -150,12 +196,12 @@ module _ (N : Type 0) (K : N → Type 0) (sc : Script) where
   plus_ok (list vs) (num z) h i = tt
   plus_ok (list vs) (text t) h i = tt
   plus_ok (list vs) (dict ps) h i = tt
-  plus_ok (list vs) (fun f) h i = tt
+  plus_ok (list vs) (fun f c) h i = tt
   plus_ok (list vs) (ref d) h i = tt
   plus_ok null b h i = tt
   plus_ok (truth c) b h i = tt
   plus_ok (dict ps) b h i = tt
-  plus_ok (fun f) b h i = tt
+  plus_ok (fun f c) b h i = tt
   plus_ok (ref d) b h i = tt
 
   num_minus : (a : ℤ) (v : Val N) → SoundAnswer (minus (num a) v)
@@ -165,7 +211,7 @@ module _ (N : Type 0) (K : N → Type 0) (sc : Script) where
   num_minus a (text t) = tt
   num_minus a (list vs) = tt
   num_minus a (dict ps) = tt
-  num_minus a (fun f) = tt
+  num_minus a (fun f c) = tt
   num_minus a (ref d) = tt
 
   minus_ok : (v w : Val N) → SoundAnswer (minus v w)
@@ -175,7 +221,7 @@ module _ (N : Type 0) (K : N → Type 0) (sc : Script) where
   minus_ok (text t) w = tt
   minus_ok (list vs) w = tt
   minus_ok (dict ps) w = tt
-  minus_ok (fun f) w = tt
+  minus_ok (fun f c) w = tt
   minus_ok (ref d) w = tt
 
   num_times : (a : ℤ) (v : Val N) → SoundAnswer (times (num a) v)
@@ -185,7 +231,7 @@ module _ (N : Type 0) (K : N → Type 0) (sc : Script) where
   num_times a (text t) = tt
   num_times a (list vs) = tt
   num_times a (dict ps) = tt
-  num_times a (fun f) = tt
+  num_times a (fun f c) = tt
   num_times a (ref d) = tt
 
   times_ok : (v w : Val N) → SoundAnswer (times v w)
@@ -195,7 +241,7 @@ module _ (N : Type 0) (K : N → Type 0) (sc : Script) where
   times_ok (text t) w = tt
   times_ok (list vs) w = tt
   times_ok (dict ps) w = tt
-  times_ok (fun f) w = tt
+  times_ok (fun f c) w = tt
   times_ok (ref d) w = tt
 
   quotient_ok : (a b : ℤ) → SoundAnswer (over_num a b)
@@ -210,7 +256,7 @@ module _ (N : Type 0) (K : N → Type 0) (sc : Script) where
   num_over a (text t) = tt
   num_over a (list vs) = tt
   num_over a (dict ps) = tt
-  num_over a (fun f) = tt
+  num_over a (fun f c) = tt
   num_over a (ref d) = tt
 
   over_ok : (v w : Val N) → SoundAnswer (over v w)
@@ -220,7 +266,7 @@ module _ (N : Type 0) (K : N → Type 0) (sc : Script) where
   over_ok (text t) w = tt
   over_ok (list vs) w = tt
   over_ok (dict ps) w = tt
-  over_ok (fun f) w = tt
+  over_ok (fun f c) w = tt
   over_ok (ref d) w = tt
 
   remainder_ok : (a b : ℤ) → SoundAnswer (rest_num a b)
@@ -235,7 +281,7 @@ module _ (N : Type 0) (K : N → Type 0) (sc : Script) where
   num_rest a (text t) = tt
   num_rest a (list vs) = tt
   num_rest a (dict ps) = tt
-  num_rest a (fun f) = tt
+  num_rest a (fun f c) = tt
   num_rest a (ref d) = tt
 
   rest_ok : (v w : Val N) → SoundAnswer (rest v w)
@@ -245,7 +291,7 @@ module _ (N : Type 0) (K : N → Type 0) (sc : Script) where
   rest_ok (text t) w = tt
   rest_ok (list vs) w = tt
   rest_ok (dict ps) w = tt
-  rest_ok (fun f) w = tt
+  rest_ok (fun f c) w = tt
   rest_ok (ref d) w = tt
 
   equal_if_ok : (b c : Bool) → SoundAnswer (equal_if b c)
@@ -259,7 +305,7 @@ module _ (N : Type 0) (K : N → Type 0) (sc : Script) where
   num_ordered t a (text s) = tt
   num_ordered t a (list vs) = tt
   num_ordered t a (dict ps) = tt
-  num_ordered t a (fun f) = tt
+  num_ordered t a (fun f c) = tt
   num_ordered t a (ref d) = tt
 
   text_ordered : (t : Ordering → Bool) (a : List ℕ) (v : Val N) → SoundAnswer (ordered t (text a) v)
@@ -269,7 +315,7 @@ module _ (N : Type 0) (K : N → Type 0) (sc : Script) where
   text_ordered t a (num z) = tt
   text_ordered t a (list vs) = tt
   text_ordered t a (dict ps) = tt
-  text_ordered t a (fun f) = tt
+  text_ordered t a (fun f c) = tt
   text_ordered t a (ref d) = tt
 
   ordered_ok : (t : Ordering → Bool) (v w : Val N) → SoundAnswer (ordered t v w)
@@ -279,7 +325,7 @@ module _ (N : Type 0) (K : N → Type 0) (sc : Script) where
   ordered_ok t (truth b) w = tt
   ordered_ok t (list vs) w = tt
   ordered_ok t (dict ps) w = tt
-  ordered_ok t (fun f) w = tt
+  ordered_ok t (fun f c) w = tt
   ordered_ok t (ref d) w = tt
 
   compare_ok : (o : Order) (v w : Val N) → SoundAnswer (compare o v w)
@@ -306,7 +352,7 @@ module _ (N : Type 0) (K : N → Type 0) (sc : Script) where
   list_index vs (text t) h = tt
   list_index vs (list us) h = tt
   list_index vs (dict ps) h = tt
-  list_index vs (fun f) h = tt
+  list_index vs (fun f c) h = tt
   list_index vs (ref d) h = tt
 
   dict_index : (ps : Pairs N) (i : Val N) → SoundOver K sc (dict ps) → SoundAnswer (index (dict ps) i)
@@ -319,7 +365,7 @@ module _ (N : Type 0) (K : N → Type 0) (sc : Script) where
   dict_index ps (num z) h = tt
   dict_index ps (list us) h = tt
   dict_index ps (dict qs) h = tt
-  dict_index ps (fun f) h = tt
+  dict_index ps (fun f c) h = tt
   dict_index ps (ref d) h = tt
 
   pub index_sound : (v i : Val N) → SoundOver K sc v → SoundAnswer (index v i)
@@ -329,7 +375,7 @@ module _ (N : Type 0) (K : N → Type 0) (sc : Script) where
   index_sound (truth b) i h = tt
   index_sound (num z) i h = tt
   index_sound (text t) i h = tt
-  index_sound (fun f) i h = tt
+  index_sound (fun f c) i h = tt
   index_sound (ref d) i h = tt
 
   list_set : (vs : Vals N) (i e : Val N) → ValsOver K sc vs → RefsOver K sc e → SoundAnswer (set_at (list vs) i e)
@@ -340,7 +386,7 @@ module _ (N : Type 0) (K : N → Type 0) (sc : Script) where
   list_set vs (text t) e h r = tt
   list_set vs (list us) e h r = tt
   list_set vs (dict ps) e h r = tt
-  list_set vs (fun f) e h r = tt
+  list_set vs (fun f c) e h r = tt
   list_set vs (ref d) e h r = tt
 
   dict_set : (ps : Pairs N) (i e : Val N) → PairsOver K sc ps → RefsOver K sc e → SoundAnswer (set_at (dict ps) i e)
@@ -350,7 +396,7 @@ module _ (N : Type 0) (K : N → Type 0) (sc : Script) where
   dict_set ps (num z) e h r = tt
   dict_set ps (list us) e h r = tt
   dict_set ps (dict qs) e h r = tt
-  dict_set ps (fun f) e h r = tt
+  dict_set ps (fun f c) e h r = tt
   dict_set ps (ref d) e h r = tt
 
   pub set_at_sound : (v i e : Val N) → SoundOver K sc v → SoundOver K sc e → SoundAnswer (set_at v i e)
@@ -360,7 +406,7 @@ module _ (N : Type 0) (K : N → Type 0) (sc : Script) where
   set_at_sound (truth b) i e h r = tt
   set_at_sound (num z) i e h r = tt
   set_at_sound (text t) i e h r = tt
-  set_at_sound (fun f) i e h r = tt
+  set_at_sound (fun f c) i e h r = tt
   set_at_sound (ref d) i e h r = tt
 
   pub grown_sound : (v e : Val N) → SoundOver K sc v → SoundOver K sc e → SoundAnswer (grown v e)
@@ -370,7 +416,7 @@ module _ (N : Type 0) (K : N → Type 0) (sc : Script) where
   grown_sound (num z) e h r = plus_ok (num z) e h.1 r.1
   grown_sound (text t) e h r = plus_ok (text t) e h.1 r.1
   grown_sound (dict ps) e h r = tt
-  grown_sound (fun f) e h r = tt
+  grown_sound (fun f c) e h r = tt
   grown_sound (ref d) e h r = tt
 
   negated_sound : (v : Val N) → SoundAnswer (negated v)
@@ -380,7 +426,7 @@ module _ (N : Type 0) (K : N → Type 0) (sc : Script) where
   negated_sound (text t) = tt
   negated_sound (list vs) = tt
   negated_sound (dict ps) = tt
-  negated_sound (fun f) = tt
+  negated_sound (fun f c) = tt
   negated_sound (ref d) = tt
 
   opposite_sound : (v : Val N) → SoundAnswer (opposite v)
@@ -390,7 +436,7 @@ module _ (N : Type 0) (K : N → Type 0) (sc : Script) where
   opposite_sound (text t) = tt
   opposite_sound (list vs) = tt
   opposite_sound (dict ps) = tt
-  opposite_sound (fun f) = tt
+  opposite_sound (fun f c) = tt
   opposite_sound (ref d) = tt
 
   len_sound : (v : Val N) → SoundAnswer (len v)
@@ -400,7 +446,7 @@ module _ (N : Type 0) (K : N → Type 0) (sc : Script) where
   len_sound null = tt
   len_sound (truth b) = tt
   len_sound (num z) = tt
-  len_sound (fun f) = tt
+  len_sound (fun f c) = tt
   len_sound (ref d) = tt
 
   keys_refs : (ps : Pairs N) → ValsOver K sc (all_keys ps)
@@ -414,7 +460,7 @@ module _ (N : Type 0) (K : N → Type 0) (sc : Script) where
   keys_sound (num z) = tt
   keys_sound (text t) = tt
   keys_sound (list vs) = tt
-  keys_sound (fun f) = tt
+  keys_sound (fun f c) = tt
   keys_sound (ref d) = tt
 
   dict_has : (ps : Pairs N) (k : Val N) → SoundAnswer (has (dict ps) k)
@@ -424,7 +470,7 @@ module _ (N : Type 0) (K : N → Type 0) (sc : Script) where
   dict_has ps (num z) = tt
   dict_has ps (list vs) = tt
   dict_has ps (dict qs) = tt
-  dict_has ps (fun f) = tt
+  dict_has ps (fun f c) = tt
   dict_has ps (ref d) = tt
 
   has_sound : (v k : Val N) → SoundAnswer (has v k)
@@ -434,7 +480,7 @@ module _ (N : Type 0) (K : N → Type 0) (sc : Script) where
   has_sound (num z) k = tt
   has_sound (text t) k = tt
   has_sound (list vs) k = tt
-  has_sound (fun f) k = tt
+  has_sound (fun f c) k = tt
   has_sound (ref d) k = tt
 
   sizes_numbers : (n : ℕ) (a : ℤ) → sizes (numbers {N = N} n a) ≡ n
@@ -465,7 +511,7 @@ module _ (N : Type 0) (K : N → Type 0) (sc : Script) where
   num_range a (text t) = tt
   num_range a (list vs) = tt
   num_range a (dict ps) = tt
-  num_range a (fun f) = tt
+  num_range a (fun f c) = tt
   num_range a (ref d) = tt
 
   range_sound : (a b : Val N) → SoundAnswer (range a b)
@@ -475,7 +521,7 @@ module _ (N : Type 0) (K : N → Type 0) (sc : Script) where
   range_sound (text t) w = tt
   range_sound (list vs) w = tt
   range_sound (dict ps) w = tt
-  range_sound (fun f) w = tt
+  range_sound (fun f c) w = tt
   range_sound (ref d) w = tt
 
   -- ---- forms of parts
@@ -494,7 +540,7 @@ module _ (N : Type 0) (K : N → Type 0) (sc : Script) where
   with_key_ok (num z) v ps go h r g = tt
   with_key_ok (list vs) v ps go h r g = tt
   with_key_ok (dict qs) v ps go h r g = tt
-  with_key_ok (fun f) v ps go h r g = tt
+  with_key_ok (fun f c) v ps go h r g = tt
   with_key_ok (ref d) v ps go h r g = tt
 
   dict_sound : (vs : List (Val N)) (ps : Pairs N) → Each (SoundOver K sc) vs → PairsOver K sc ps → SoundAnswer (dict_from vs ps)
@@ -510,7 +556,7 @@ module _ (N : Type 0) (K : N → Type 0) (sc : Script) where
 
   -- ---- references
 
-  sizes_refs : (ds : List (Desc N)) → sizes (refs_to ds) ≡ 20 * length ds
+  sizes_refs : (ds : List (Desc N)) → sizes (refs_to ds) ≡ 32 * length ds
   sizes_refs [] = refl
   sizes_refs (d ∷ ds) = omega (arith, sizes_refs ds)
 
@@ -530,14 +576,16 @@ module _ (N : Type 0) (K : N → Type 0) (sc : Script) where
   ref_sound d h = (record { deep = omega arith; large = omega arith }, h)
 
   -- what the operators give is sound, where what is read and what a reference holds is
-  pub sound_closed : (w : World N) → ((f : List ℕ) → IsFun w.script f → IsFun sc f) → ((b : List ℕ) → SoundAnswer (w.reads b)) → ((d : Desc N) → DescOver K sc d → DescOver K sc (w.make d)) → Closed w (SoundOver K sc) (DescOver K sc)
-  sound_closed w named reads make =
+  pub sound_closed : (w : World N) → ((f : List ℕ) → find_fun f w.script.funs ≡ find_fun f sc.funs) → ((b : List ℕ) → SoundAnswer (w.reads b)) → ((d : Desc N) → DescOver K sc d → DescOver K sc (w.make d)) → Closed w (SoundOver K sc) (DescOver K sc)
+  sound_closed w same reads make =
       record {
         null_ok = sound_null;
         truth_ok = sound_truth;
         taken_ok = λ t. sound_num (pos t);
         lit_ok = lit_sound;
-        fun_ok = λ x i. limited_ok (fun x) (named x i);
+        fun_ok = λ x i. limited_ok (fun x no_pairs) (takes_none (find_fun x sc.funs) (subst IsSome (same x) i), tt);
+        closed_ok = λ f x ps e l. limited_ok (fun x (caught_by f.uses ps)) (takes_caught (find_fun x sc.funs) f ps (sym (same x) ∙ e), caught_refs f.uses ps l);
+        caught_ok = λ f ps h. dict_inside ps (caught_kept f ps h.0, h.1.1);
         list_ok = list_sound;
         dict_ok = λ vs h. dict_sound vs no_pairs h tt;
         oper_ok = oper_sound;
@@ -555,7 +603,7 @@ module _ (N : Type 0) (K : N → Type 0) (sc : Script) where
         ref_ok = λ d h. ref_sound (w.make d) (make d h);
         to_ok = λ d h. h.1;
         refs_ok = refs_sound;
-        call_ok = λ f vs i h. (h.0, h.1, inr (named f i));
+        call_ok = λ f ps vs i z h. (h.0, caught_kept f ps z.0, h.1, z.1.1, inr z.1.0);
         out_ok = λ x a n i t h lt le. (t.0, h.0, h.1, lt, le);
         input_ok = λ k. tt;
       }

@@ -5,7 +5,7 @@ use Rattle.std.specs.Option.{option_map}
 use Rattle.sky_base.specs.Val.{null, truth, num, text, list, dict, fun, ref, call, out, input, known, refs, vals_refs, pairs_refs}
 use Rattle.sky_base.specs.Res.{Object, Res, Fin, Tell, Ask}
 use Rattle.sky_base.specs.Read.{joined, Outcome, no_fuel, Act, made, waited, Halt, refs_of, see_all, on_seen, acts_seen, halts_seen, seen_list, outcome, acts, halt, segment, segment_from}
-use Rattle.sky_base.specs.See.{Val, Vals, Desc, Obj, Job, Around, Gathered, not_yet, gather_on, gather_one, gather, as_bytes, as_value, executed_on, object_of, run_of, see, Answered, Turn, next_value, lone, turn_all, turn_refs, turn, on_turn, round, wave_on, turn_of, wave, job_answer, main_call}
+use Rattle.sky_base.specs.See.{Val, Vals, Pairs, Desc, Obj, Job, Around, Gathered, not_yet, gather_on, gather_one, gather, as_bytes, as_value, executed_on, object_of, run_of, see, Answered, Turn, next_value, lone, turn_all, turn_refs, turn, on_turn, round, wave_on, turn_of, wave, job_answer, main_call}
 use Rattle.sky_base.specs.Needed.{Task, distinct_refs, unless_none, wave_refs, only_if, halt_refs, wait_at}
 use Rattle.sky_base.specs.Tasks.{In, Each, maker, first_of, waits_in, after_wait, made_before, held, is_answer, wait_then, waves_from, acts_of, ended, held_at, HeldAt}
 use Rattle.sky_base.specs.declared.fault.Fault.{Fault}
@@ -144,7 +144,7 @@ module _ (job : Job) (around : Around) where
   turn_seen n (text t) ne = tt
   turn_seen n (list vs) ne = refs_turn_seen n (list vs) (vals_refs vs) refl (λ d es. refl) ne
   turn_seen n (dict ps) ne = refs_turn_seen n (dict ps) (pairs_refs ps) refl (λ d es. refl) ne
-  turn_seen n (fun f) ne = tt
+  turn_seen n (fun f c) ne = refs_turn_seen n (fun f c) (pairs_refs c) refl (λ d es. refl) ne
   turn_seen n (ref d) ne =
       (λ e. ne (ap (λ x. lone x (turn_all job around n (ref d))) e ∙ ap (λ x. next_value (gather_one x (as_value around) (Gathered.all [])) (ref d)) e), tt)
 
@@ -194,7 +194,7 @@ module _ (job : Job) (around : Around) where
   -- what a task did begins what it does with more fuel
   pub more : (n : ℕ) (t : Task) → Begins (acts_of job around n t) (acts_of job around (suc n) t)
   more n Task.show = waves_begin n 100 1
-  more n (Task.of (call f vs)) = acts_grow job around n f vs
+  more n (Task.of (call f c vs)) = acts_grow job around n f c vs
   more n (Task.of (out x a m i)) = ([], refl)
   more n (Task.of (input k)) = ([], refl)
   more n (Task.of (known b)) = absurd b
@@ -236,9 +236,9 @@ module _ (job : Job) (around : Around) where
   unfolding job_answer
   answered_not n h e = yes_no (sym h ∙ ap is_answer e)
 
-  call_ends : (n : ℕ) (f : List ℕ) (vs : Vals) → is_some (see job around (suc n) (call f vs)) ≡ true → outcome (see job around n) (run_of job around f vs) ≢ no_fuel
+  call_ends : (n : ℕ) (f : List ℕ) (c : Pairs) (vs : Vals) → is_some (see job around (suc n) (call f c vs)) ≡ true → outcome (see job around n) (run_of job around f c vs) ≢ no_fuel
   unfolding see
-  call_ends n f vs h e = yes_no (sym h ∙ ap (λ o. is_some (object_of o)) e)
+  call_ends n f c vs h e = yes_no (sym h ∙ ap (λ o. is_some (object_of o)) e)
 
   out_ends : (n : ℕ) (x : List ℕ) (a : Val) (m i : ℕ) → is_some (see job around (suc n) (out x a m i)) ≡ true → gather (see job around n) (as_bytes around) (refs a) ≢ not_yet
   unfolding see
@@ -257,8 +257,8 @@ module _ (job : Job) (around : Around) where
   pub kept : (n : ℕ) (t : Task) → ended job around n t ≡ true → (acts_of job around (suc n) t ≡ acts_of job around n t) × (ended job around (suc n) t ≡ true)
   kept n Task.show h =
       (waves_same n 100 0 (ref main_call) (wave_zero n) (wave_zero (suc n)) (answered_not n h), ended_stays n Task.show h)
-  kept n (Task.of (call f vs)) h =
-      (acts_stay (see job around n) (see job around (suc n)) (see_kept job around n) (run_of job around f vs) (call_ends n f vs h), ended_stays n (Task.of (call f vs)) h)
+  kept n (Task.of (call f c vs)) h =
+      (acts_stay (see job around n) (see job around (suc n)) (see_kept job around n) (run_of job around f c vs) (call_ends n f c vs h), ended_stays n (Task.of (call f c vs)) h)
   kept n (Task.of (out x a m i)) h = (refl, ended_stays n (Task.of (out x a m i)) h)
   kept n (Task.of (input k)) h = (refl, ended_stays n (Task.of (input k)) h)
   kept n (Task.of (known b)) h = absurd b
@@ -266,7 +266,7 @@ module _ (job : Job) (around : Around) where
   -- where a task has ended, what it waited for before it started is seen
   pub first_seen : (n : ℕ) (t : Task) → ended job around n t ≡ true → Each (λ d. see job around n d ≢ None) (first_of t)
   first_seen n Task.show h = turn_seen n (ref main_call) (round_turn n 100 (ref main_call) (answered_not n h))
-  first_seen n (Task.of (call f vs)) h = tt
+  first_seen n (Task.of (call f c vs)) h = tt
   first_seen n (Task.of (out x a m i)) h =
       each_distinct n a (gather_seen (as_bytes around) (see job around n) (refs a) (out_ends n x a m i h))
   first_seen n (Task.of (input k)) h = tt
@@ -275,7 +275,7 @@ module _ (job : Job) (around : Around) where
   -- where a task has ended, what it waited for later is seen
   pub later_seen : (n : ℕ) (t : Task) (j : ℕ) (ds : List Desc) → ended job around n t ≡ true → slice_get (waits_in (acts_of job around n t)) j ≡ Some ds → Each (λ d. see job around n d ≢ None) ds
   later_seen n Task.show j ds h at = waves_seen n 100 0 (ref main_call) j ds (wave_zero n) (answered_not n h) at
-  later_seen n (Task.of (call f vs)) j ds h at = waits_seen (see job around n) (run_of job around f vs) j ds (call_ends n f vs h) at
+  later_seen n (Task.of (call f c vs)) j ds h at = waits_seen (see job around n) (run_of job around f c vs) j ds (call_ends n f c vs h) at
   later_seen n (Task.of (out x a m i)) j ds h at = absurd (none_some ds at)
   later_seen n (Task.of (input k)) j ds h at = absurd (none_some ds at)
   later_seen n (Task.of (known b)) j ds h at = absurd b
@@ -296,7 +296,7 @@ module _ (job : Job) (around : Around) where
 
   -- a description is seen with one more exactly where its task has ended
   pub seen_ended : (n : ℕ) (d : Desc) (t : Task) → maker d ≡ Some t → is_some (see job around (suc n) d) ≡ ended job around n t
-  seen_ended n (call f vs) t e = ap (ended job around n) (some_is _ t e)
+  seen_ended n (call f c vs) t e = ap (ended job around n) (some_is _ t e)
   seen_ended n (out x a m i) t e = go (nat_lt i m) e
     where
       go : (b : Bool) → only_if b (Some (Task.of (out x a m 0))) ≡ Some t → is_some (see job around (suc n) (out x a m i)) ≡ ended job around n t
@@ -372,15 +372,15 @@ module _ (job : Job) (around : Around) where
       go false e =
           let gt : 100 < suc j = leb-false (suc j) 100 e in
           waves_past n 100 1 j (omega arith)
-  waits_at n (Task.of (call f vs)) j =
-      halt_waits (see job around n) (run_of job around f vs) j ∙ halt_refs_is (halt (see job around n) j (run_of job around f vs))
+  waits_at n (Task.of (call f c vs)) j =
+      halt_waits (see job around n) (run_of job around f c vs) j ∙ halt_refs_is (halt (see job around n) j (run_of job around f c vs))
   waits_at n (Task.of (out x a m i)) j = refl
   waits_at n (Task.of (input k)) j = refl
   waits_at n (Task.of (known b)) j = absurd b
 
   -- what is waited for before the start is the wait of number 0
   pub first_waits : (n : ℕ) (d : Desc) (t : Task) → maker d ≡ Some t → wait_at job around n t 0 ≡ Some (first_of t)
-  first_waits n (call f vs) t e = subst (λ u. wait_at job around n u 0 ≡ Some (first_of u)) (some_is _ t e) refl
+  first_waits n (call f c vs) t e = subst (λ u. wait_at job around n u 0 ≡ Some (first_of u)) (some_is _ t e) refl
   first_waits n (out x a m i) t e = go (nat_lt i m) e
     where
       go : (b : Bool) → only_if b (Some (Task.of (out x a m 0))) ≡ Some t → wait_at job around n t 0 ≡ Some (first_of t)
@@ -392,7 +392,7 @@ module _ (job : Job) (around : Around) where
   -- what a task holds at a wait stays with more fuel
   pub held_kept : (t : Task) (j n : ℕ) → Kept None (held_at job around n t j) (held_at job around (suc n) t j)
   held_kept Task.show j n = kept_map None _ _ None (option_map held) refl (stands_kept job around Task.show j n)
-  held_kept (Task.of (call f vs)) j n = kept_map None _ _ None (option_map held) refl (stands_kept job around (Task.of (call f vs)) j n)
+  held_kept (Task.of (call f c vs)) j n = kept_map None _ _ None (option_map held) refl (stands_kept job around (Task.of (call f c vs)) j n)
   held_kept (Task.of (out x a m i)) zero n = inr refl
   held_kept (Task.of (out x a m i)) (suc j) n = inr refl
   held_kept (Task.of (input k)) j n = inr refl

@@ -76,11 +76,11 @@ module _ (d : Desc) where
   in_waiting w (all_of ds) h = refs_back ds h
 
   module _ (job : Job) (around : Around) where
-    halt_held : (n j : ℕ) (f : List ℕ) (vs : Vals) (x : Option (Halt ⊥)) (ds hs : List Desc) → halt (see job around n) j (run_of job around f vs) ≡ x → halt_refs x ≡ Some ds → option_map held (halt_state f (suc j) x) ≡ Some hs → In d ds → In d hs
-    halt_held n j f vs None ds hs at e g i = absurd (none_some ds e)
-    halt_held n j f vs (Some h) ds hs at e g i =
+    halt_held : (n j : ℕ) (f : List ℕ) (c : Pairs ⊥) (vs : Vals) (x : Option (Halt ⊥)) (ds hs : List Desc) → halt (see job around n) j (run_of job around f c vs) ≡ x → halt_refs x ≡ Some ds → option_map held (halt_state f (suc j) x) ≡ Some hs → In d ds → In d hs
+    halt_held n j f c vs None ds hs at e g i = absurd (none_some ds e)
+    halt_held n j f c vs (Some h) ds hs at e g i =
         let asked : In d (refs_of h.wait) = subst (In d) (sym (some_is _ ds e)) i in
-        subst (In d) (some_is _ hs g) (in_distinct (λ a b. true) (λ a b c. absurd a) (λ a. absurd a) (frames_held (run_of_halt f (suc j) h).frames) d (wait_held (world_of job.script around) h.wait h.forms f h.st.vars (any_halt (world_of job.script around) (see job around n) others j f vs nowhere start_st h at).3 (in_waiting (world_of job.script around) h.wait asked)))
+        subst (In d) (some_is _ hs g) (in_distinct (λ a b. true) (λ a b c. absurd a) (λ a. absurd a) (frames_held (run_of_halt f (suc j) h).frames) d (wait_held (world_of job.script around) h.wait h.forms f h.st.vars (any_halt (world_of job.script around) (see job around n) others j f c vs nowhere start_st h at).3 (in_waiting (world_of job.script around) h.wait asked)))
 
     unless_held : (es ds : List Desc) → unless_none es ≡ Some ds → In d ds → In d es
     unless_held [] ds e i = absurd (none_some ds e)
@@ -99,8 +99,8 @@ module _ (d : Desc) where
     pub waits_held : (n : ℕ) (t : Task) (j : ℕ) (ds hs : List Desc) → wait_at job around n t j ≡ Some ds → held_at job around n t j ≡ Some hs → In d ds → In d hs
     waits_held n Task.show zero ds hs e g i = main_held n hs g (subst (In d) (sym (some_is _ ds e)) i)
     waits_held n Task.show (suc j) ds hs e g i = wave_held (suc j) (nat_le (suc j) 100) (wave job around n (suc j)) ds hs e g i
-    waits_held n (Task.of (call f vs)) zero ds hs e g i = absurd (subst (In d) (sym (some_is _ ds e)) i)
-    waits_held n (Task.of (call f vs)) (suc j) ds hs e g i = halt_held n j f vs (halt (see job around n) j (run_of job around f vs)) ds hs refl e g i
+    waits_held n (Task.of (call f c vs)) zero ds hs e g i = absurd (subst (In d) (sym (some_is _ ds e)) i)
+    waits_held n (Task.of (call f c vs)) (suc j) ds hs e g i = halt_held n j f c vs (halt (see job around n) j (run_of job around f c vs)) ds hs refl e g i
     waits_held n (Task.of (out x a m k)) zero ds hs e g i = subst (In d) (some_is _ hs (sym e ∙ g)) i
     waits_held n (Task.of (out x a m k)) (suc j) ds hs e g i = absurd (none_some ds e)
     waits_held n (Task.of (input k)) j ds hs e g i = absurd (none_some ds e)

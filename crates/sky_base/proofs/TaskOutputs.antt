@@ -62,7 +62,7 @@ out_of x a n (suc m) j d (inr h) = further (out_of x a n m (suc j) d h)
 
 -- a description is among the outputs of its task
 pub made_by : (d : Desc) (t : Task) → maker d ≡ Some t → In d (outputs_of t)
-made_by (call f vs) t e = subst (λ u. In (call f vs) (outputs_of u)) (some_is _ t e) (inl refl)
+made_by (call f c vs) t e = subst (λ u. In (call f c vs) (outputs_of u)) (some_is _ t e) (inl refl)
 made_by (out x a n i) t e = go (nat_lt i n) refl e
   where
     go : (b : Bool) → nat_lt i n ≡ b → only_if b (Some (Task.of (out x a n 0))) ≡ Some t → In (out x a n i) (outputs_of t)
@@ -74,8 +74,8 @@ made_by (known b) t e = absurd b
 -- each output of a task is of this task
 pub makes : (d : Desc) (t : Task) → In d (outputs_of t) → maker d ≡ Some t
 makes d Task.show h = absurd h
-makes d (Task.of (call f vs)) (inl e) = ap maker e
-makes d (Task.of (call f vs)) (inr h) = absurd h
+makes d (Task.of (call f c vs)) (inl e) = ap maker e
+makes d (Task.of (call f c vs)) (inr h) = absurd h
 makes d (Task.of (out x a n zero)) h = go (out_of x a n n 0 d h)
   where
     go : (i : ℕ) × (0 ≤ i) × (i < 0 + n) × (d ≡ out x a n i) → maker d ≡ Some (Task.of (out x a n 0))
@@ -94,7 +94,7 @@ no_maker x a n i le = go (nat_lt i n) refl
 
 -- a task that makes a description is the one that it names
 pub maker_is : (d : Desc) (t : Task) → maker d ≡ Some t → task_of d ≡ Some t
-maker_is (call f vs) t e = e
+maker_is (call f c vs) t e = e
 maker_is (out x a n i) t e = go (nat_lt i n) e
   where
     go : (b : Bool) → only_if b (Some (Task.of (out x a n 0))) ≡ Some t → Some (Task.of (out x a n 0)) ≡ Some t
@@ -116,7 +116,7 @@ outputs_apart x a n (suc m) j = (λ h. later (out_of x a n m (suc j) (out x a n 
 -- the outputs of a task are distinct
 pub apart_outputs : (t : Task) → Apart (outputs_of t)
 apart_outputs Task.show = tt
-apart_outputs (Task.of (call f vs)) = (λ h. h, tt)
+apart_outputs (Task.of (call f c vs)) = (λ h. h, tt)
 apart_outputs (Task.of (out x a n zero)) = outputs_apart x a n n 0
 apart_outputs (Task.of (out x a n (suc i))) = tt
 apart_outputs (Task.of (input k)) = tt

@@ -23,7 +23,7 @@ module _ (sc : Script) where
     plain_sound (text t) e = tt
     plain_sound (list vs) e = plain_vals vs e
     plain_sound (dict ps) e = plain_pairs ps e
-    plain_sound (fun f) e = absurd cc
+    plain_sound (fun f c) e = absurd cc
     plain_sound (ref d) e = absurd cc
 
     plain_vals : (vs : Vals) → vals_plain vs ≡ true → ValsSound sc vs
@@ -87,8 +87,8 @@ module _ (job : Job) (around : Around) where
     -- each description that a sound task makes is sound
     pub made_sound : (n : ℕ) (t : Task) (d : Desc) → SoundTask job.script t → In d (made_in (acts_of job around n t)) → SoundDesc job.script d
     made_sound n Task.show d h i = absurd (waves_none d n 100 1 i)
-    made_sound n (Task.of (call f vs)) d h i =
-        in_each (SoundDesc job.script) (made_in (acts (see job around n) (run_of job around f vs))) d (made_each (acts (see job around n) (run_of job around f vs)) (acts_sound job around reads n f vs h)) i
+    made_sound n (Task.of (call f c vs)) d h i =
+        in_each (SoundDesc job.script) (made_in (acts (see job around n) (run_of job around f c vs))) d (made_each (acts (see job around n) (run_of job around f c vs)) (acts_sound job around reads n f c vs h)) i
     made_sound n (Task.of (out x a m k)) d h i = absurd i
     made_sound n (Task.of (input k)) d h i = absurd i
     made_sound n (Task.of (known b)) d h i = absurd b

@@ -245,7 +245,7 @@ module _ (job : Job) (around : Around) where
 
   first_wait : (n : ℕ) (t : Task) (d : Desc) → In d (first_of t) → wait_at job around n t 0 ≡ Some (first_of t)
   first_wait n Task.show d i = refl
-  first_wait n (Task.of (call f vs)) d i = refl
+  first_wait n (Task.of (call f c vs)) d i = refl
   first_wait n (Task.of (out x a m k)) d i = refl
   first_wait n (Task.of (input k)) d i = absurd i
   first_wait n (Task.of (known b)) d i = absurd b

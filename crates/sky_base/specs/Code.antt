@@ -17,7 +17,7 @@ abbrev mutual
   code (num (pos n)) = gcons (gnum 0) (gnum n)
   code (num (negsuc n)) = gcons (gnum 1) (gnum n)
   code (text t) = gcons (gnum 2) (bytes t)
-  code (fun f) = gcons (gnum 3) (bytes f)
+  code (fun f c) = gcons (gnum 3) (gcons (bytes f) (pair_codes c))
   code (list vs) = gcons (gnum 4) (codes vs)
   code (dict ps) = gcons (gnum 5) (pair_codes ps)
   code (ref d) = gcons (gnum 6) (desc_code d)
@@ -31,7 +31,7 @@ abbrev mutual
   pair_codes (pair k v ps) = gcons (gcons (bytes k) (code v)) (pair_codes ps)
 
   pub desc_code : (Desc (List ℕ)) → Gv
-  desc_code (call f vs) = gcons (gcons (gnum 0) (bytes f)) (codes vs)
+  desc_code (call f c vs) = gcons (gcons (gnum 0) (bytes f)) (gcons (pair_codes c) (codes vs))
   desc_code (out x v n i) = gcons (gcons (gnum 1) (bytes x)) (gcons (code v) (gcons (gnum n) (gnum i)))
   desc_code (input k) = gcons (gcons (gnum 2) (bytes k)) gnil
   desc_code (known n) = gcons (gcons (gnum 3) (bytes n)) gnil
@@ -80,7 +80,7 @@ abbrev mutual
   back gnil = null
   back (gnum n) = truth (bit_back n)
   back (gcons t a) =
-      pick (num_back t) (num (pos (num_back a))) (num (negsuc (num_back a))) (text (bytes_back a)) (fun (bytes_back a)) (list (vals_back a)) (dict (pairs_back a)) (ref (desc_back a))
+      pick (num_back t) (num (pos (num_back a))) (num (negsuc (num_back a))) (text (bytes_back a)) (fun (bytes_back (head a)) (pairs_behind a)) (list (vals_back a)) (dict (pairs_back a)) (ref (desc_back a))
 
   pub vals_back : Gv → (Vals (List ℕ))
   vals_back gnil = no_vals
@@ -94,14 +94,19 @@ abbrev mutual
   pairs_back (gcons (gnum n) b) = no_pairs
   pairs_back (gcons (gcons k v) b) = pair (bytes_back k) (back v) (pairs_back b)
 
+  pub pairs_behind : Gv → (Pairs (List ℕ))
+  pairs_behind gnil = no_pairs
+  pairs_behind (gnum n) = no_pairs
+  pairs_behind (gcons a b) = pairs_back b
+
   pub desc_back : Gv → (Desc (List ℕ))
   desc_back gnil = input []
   desc_back (gnum n) = input []
   desc_back (gcons gnil r) = input []
   desc_back (gcons (gnum n) r) = input []
-  desc_back (gcons (gcons t f) gnil) = pick_desc (num_back t) (call (bytes_back f) no_vals) (input []) (input (bytes_back f)) (known (bytes_back f))
+  desc_back (gcons (gcons t f) gnil) = pick_desc (num_back t) (input []) (input []) (input (bytes_back f)) (known (bytes_back f))
   desc_back (gcons (gcons t f) (gnum n)) = input []
-  desc_back (gcons (gcons t f) (gcons v w)) = pick_desc (num_back t) (call (bytes_back f) (val (back v) (vals_back w))) (out (bytes_back f) (back v) (num_back (head w)) (num_back (tail w))) (input []) (input [])
+  desc_back (gcons (gcons t f) (gcons v w)) = pick_desc (num_back t) (call (bytes_back f) (pairs_back v) (vals_back w)) (out (bytes_back f) (back v) (num_back (head w)) (num_back (tail w))) (input []) (input [])
 
 pub bytes_same : (bs : List ℕ) → bytes_back (bytes bs) ≡ bs
 bytes_same [] = refl
@@ -115,7 +120,7 @@ mutual
   same (num (pos n)) = refl
   same (num (negsuc n)) = refl
   same (text t) = ap text (bytes_same t)
-  same (fun f) = ap fun (bytes_same f)
+  same (fun f c) = λ i. fun (bytes_same f i) (pairs_same c i)
   same (list vs) = ap list (vals_same vs)
   same (dict ps) = ap dict (pairs_same ps)
   same (ref d) = ap ref (desc_same d)
@@ -129,8 +134,7 @@ mutual
   pairs_same (pair k v ps) = λ i. pair (bytes_same k i) (same v i) (pairs_same ps i)
 
   pub desc_same : (d : (Desc (List ℕ))) → desc_back (desc_code d) ≡ d
-  desc_same (call f no_vals) = λ i. call (bytes_same f i) no_vals
-  desc_same (call f (val v vs)) = λ i. call (bytes_same f i) (val (same v i) (vals_same vs i))
+  desc_same (call f c vs) = λ i. call (bytes_same f i) (pairs_same c i) (vals_same vs i)
   desc_same (out x v n k) = λ i. out (bytes_same x i) (same v i) n k
   desc_same (input k) = ap input (bytes_same k)
   desc_same (known n) = ap known (bytes_same n)

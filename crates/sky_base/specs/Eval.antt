@@ -1,6 +1,6 @@
 -- What a piece of script does.
 use Rattle.std.specs.Prelude.{ℕ, zero, suc, ◌+◌, List, [], ◌∷◌, ◌++◌, length, reverse, map, Bool, true, false, ◌&&◌, Option, Some, None, Ok, Err, nat_eq, nat_lt, pos, negsuc}
-use Rattle.sky_base.specs.Val.{Val, Vals, Pairs, Desc, null, truth, num, text, list, fun, ref, no_vals, val, no_pairs, call, out, input, count, vals_of, refs_to, same_text}
+use Rattle.sky_base.specs.Val.{Val, Vals, Pairs, Desc, null, truth, num, text, list, fun, ref, no_vals, val, no_pairs, pair, call, out, input, count, vals_of, refs_to, same_text}
 use Rattle.sky_base.specs.Op.{Answer, plus, minus, times, over, rest, compare, index, set_at, limited, find, put, negated, opposite, len, keys, has, range, grown, dict_from}
 use Rattle.sky_base.specs.Tree.{Place, nowhere, Lit, Oper, Junction, Sign, SignAt, Form, Exp, Exps, Links, Ands, Steps, Stm, Stms, Arms, Else, FunDef, Script, nodes, stm_nodes, block_nodes, arms_nodes}
 use Rattle.sky_base.specs.Res.{visits, Object, End, St, Entry, parens_in, part_at, chain_first, chain_more, logic_at, prefix_part, star_wait, postfix_first, index_at, arg_at, call_open, exec_wait, set_part, add_part, put_index, put_value, return_part, just_part, arm_test, while_test, while_body, repeat_body, repeat_test, for_list, for_body, block_at, Wait, one_of, all_of, Res, Fin, Tell, Ask, fault_at, then_do, on_got, on_goes, with_vars, on_body, fails, gives, visit, answer, tell_all}
@@ -68,7 +68,21 @@ module _ {N : Type 0} where
   -- the variable, else the function of that name, else Unknown
   abbrev pub fun_named : Option FunDef → List ℕ → Answer N
   fun_named None x = Err FaultKind.Unknown
-  fun_named (Some f) x = limited (fun x)
+  fun_named (Some f) x = limited (fun x no_pairs)
+
+  -- those of the pairs whose keys are among these names
+  abbrev pub caught_if : Bool → List ℕ → Val N → Pairs N → Pairs N
+  caught_if true k v ps = pair k v ps
+  caught_if false k v ps = ps
+
+  abbrev pub caught_by : List (List ℕ) → Pairs N → Pairs N
+  caught_by xs no_pairs = no_pairs
+  caught_by xs (pair k v ps) = caught_if (is_one_of k xs) k v (caught_by xs ps)
+
+  -- an anonymous function, which captures the variables that its body uses
+  abbrev pub closed : Option FunDef → List ℕ → Pairs N → Answer N
+  closed None x vars = Err FaultKind.Unknown
+  closed (Some f) x vars = limited (fun x (caught_by f.uses vars))
 
   abbrev pub named : Option (Val N) → List ℕ → List FunDef → Answer N
   named (Some v) x fs = Ok v
@@ -191,16 +205,16 @@ module _ {N : Type 0} (w : World N) where
   spawn_if false d p st = fails FaultKind.WrongCount p st
   spawn_if true d p st = make_one d st
 
-  abbrev pub spawn_fun : Option FunDef → List ℕ → Vals N → Place → St N → Res N
-  spawn_fun None f vs p st = fails FaultKind.BadKind p st
-  spawn_fun (Some d) f vs p st = spawn_if (nat_eq (length d.params) (count vs)) (call f vs) p st
+  abbrev pub spawn_fun : Option FunDef → List ℕ → Pairs N → Vals N → Place → St N → Res N
+  spawn_fun None f c vs p st = fails FaultKind.BadKind p st
+  spawn_fun (Some d) f c vs p st = spawn_if (nat_eq (length d.params) (count vs)) (call f c vs) p st
 
-  abbrev pub spawn_list : List ℕ → Val N → Place → St N → Res N
-  spawn_list f (list vs) p st = spawn_fun (find_fun f w.script.funs) f vs p st
-  spawn_list f _ p st = fails FaultKind.BadKind p st
+  abbrev pub spawn_list : List ℕ → Pairs N → Val N → Place → St N → Res N
+  spawn_list f c (list vs) p st = spawn_fun (find_fun f w.script.funs) f c vs p st
+  spawn_list f c _ p st = fails FaultKind.BadKind p st
 
   abbrev pub spawned : Val N → Val N → Place → St N → Res N
-  spawned (fun f) a p st = spawn_list f a p st
+  spawned (fun f c) a p st = spawn_list f c a p st
   spawned _ a p st = fails FaultKind.BadKind p st
 
   -- the outputs of an executor task where their number is right, made in order, with the references to them
@@ -268,21 +282,22 @@ module _ {N : Type 0} (w : World N) where
   call_fun None vs p st r = fails FaultKind.BadKind p st
   call_fun (Some d) vs p st r = call_if (nat_eq (length d.params) (count vs)) p st r
 
-  abbrev pub called : Val N → Vals N → Place → St N → (List ℕ → Res N) → Res N
-  called (fun f) vs p st k = call_fun (find_fun f w.script.funs) vs p st (k f)
+  abbrev pub called : Val N → Vals N → Place → St N → (List ℕ → Pairs N → Res N) → Res N
+  called (fun f c) vs p st k = call_fun (find_fun f w.script.funs) vs p st (k f c)
   called _ vs p st k = fails FaultKind.BadKind p st
 
   -- what a call of a function with this number of arguments does: handed in, for the bodies below
-  module _ (body : List ℕ → Vals N → Place → St N → Res N) where
+  module _ (body : List ℕ → Pairs N → Vals N → Place → St N → Res N) where
     -- opens the body, and goes on with its value and the caller's variables
-    abbrev pub enter : List ℕ → Vals N → Place → (n step next : ℕ) → Steps → St N → (Val N → St N → Res N) → Res N
-    enter f vs p n k m ss st go = then_do (body f vs p st) (call_open n k m f st.vars ss) (on_body st.vars go)
+    abbrev pub enter : List ℕ → Pairs N → Vals N → Place → (n step next : ℕ) → Steps → St N → (Val N → St N → Res N) → Res N
+    enter f c vs p n k m ss st go = then_do (body f c vs p st) (call_open n k m f st.vars ss) (on_body st.vars go)
 
     abbrev mutual
       -- an expression at its node
       pub eval : Exp → ℕ → St N → Res N
       eval (Exp.literal v p) n st = visit p st (λ s. answer (limited (lit_val v)) p s gives)
       eval (Exp.name x p) n st = visit p st (λ s. answer (named (find x s.vars) x w.script.funs) p s gives)
+      eval (Exp.func x p) n st = visit p st (λ s. answer (closed (find_fun x w.script.funs) x s.vars) p s gives)
       eval (Exp.parens e) n st = then_do (eval e (n + 1) st) (parens_in n) (on_got gives)
       eval (Exp.parts o p es) n st = eval_parts es n 1 (n + 1) o p [] st
       eval (Exp.chain e ls) n st =
@@ -318,12 +333,12 @@ module _ {N : Type 0} (w : World N) where
       eval_steps (Steps.index e p ss) n k m v st =
           then_do (eval e m st) (index_at n k (m + nodes e) p v ss) (on_got (λ x s. visit p s (λ t. answer (index v x) p t (λ y u. eval_steps ss n (k + 1) (m + nodes e) y u))))
       eval_steps (Steps.call es p ss) n k m v st =
-          eval_args es n k m p v [] ss (λ l i f vs s. enter f vs p n l i ss s (λ y u. eval_steps ss n (l + 1) i y u)) st
+          eval_args es n k m p v [] ss (λ l i f c vs s. enter f c vs p n l i ss s (λ y u. eval_steps ss n (l + 1) i y u)) st
 
       -- the arguments from a step and a node, with those so far; then the call, at the step and the node that come next
-      pub eval_args : Exps → (n step next : ℕ) → Place → Val N → List (Val N) → Steps → (ℕ → ℕ → List ℕ → Vals N → St N → Res N) → St N → Res N
+      pub eval_args : Exps → (n step next : ℕ) → Place → Val N → List (Val N) → Steps → (ℕ → ℕ → List ℕ → Pairs N → Vals N → St N → Res N) → St N → Res N
       eval_args Exps.no_exps n k m p g vs ss go st =
-          visit p st (λ s. called g (vals_of vs) p s (λ f. go k m f (vals_of vs) s))
+          visit p st (λ s. called g (vals_of vs) p s (λ f c. go k m f c (vals_of vs) s))
       eval_args (Exps.exp e es) n k m p g vs ss go st =
           then_do (eval e m st) (arg_at n k (m + nodes e) p g vs es ss) (on_got (λ v s. eval_args es n (k + 1) (m + nodes e) p g (vs ++ v ∷ []) ss go s))
 
@@ -390,7 +405,7 @@ module _ {N : Type 0} (w : World N) where
     after (index_at n k m p v ss) =
         on_got (λ x s. visit p s (λ t. answer (index v x) p t (λ y u. eval_steps ss n (k + 1) m y u)))
     after (arg_at n k m p g vs es ss) =
-        on_got (λ v s. eval_args es n (k + 1) m p g (vs ++ v ∷ []) ss (λ l i f us s. enter f us p n l i ss s (λ y u. eval_steps ss n (l + 1) i y u)) s)
+        on_got (λ v s. eval_args es n (k + 1) m p g (vs ++ v ∷ []) ss (λ l i f c us s. enter f c us p n l i ss s (λ y u. eval_steps ss n (l + 1) i y u)) s)
     after (call_open n k m f xs ss) = on_body xs (λ y u. eval_steps ss n (k + 1) m y u)
     after (exec_wait n ds) = on_got gives
     after (set_part n x) = on_got (λ v t. Fin End.goes (set_var x v t))
@@ -413,14 +428,14 @@ module _ {N : Type 0} (w : World N) where
     after (block_at n k m more) = on_goes (λ s. eval_stms more n k m s)
 
   -- a body on its arguments, where its block is run by `run`
-  abbrev pub in_body : Option Body → Vals N → Place → St N → (Stms → ℕ → St N → Res N) → Res N
-  in_body None vs p st run = fails FaultKind.BadKind p st
-  in_body (Some b) vs p st run = run b.block b.node (with_vars (bind b.params vs no_pairs) st)
+  abbrev pub in_body : Option Body → Pairs N → Vals N → Place → St N → (Stms → ℕ → St N → Res N) → Res N
+  in_body None c vs p st run = fails FaultKind.BadKind p st
+  in_body (Some b) c vs p st run = run b.block b.node (with_vars (bind b.params vs c) st)
 
   -- the body of a function, where so many bodies may still be opened, this one included
-  abbrev pub body_at : ℕ → List ℕ → Vals N → Place → St N → Res N
-  body_at zero f vs p st = fails FaultKind.TooDeep p st
-  body_at (suc d) f vs p st = in_body (body_of f w.script) vs p st (λ b n s. eval_block (body_at d) b n s)
+  abbrev pub body_at : ℕ → List ℕ → Pairs N → Vals N → Place → St N → Res N
+  body_at zero f c vs p st = fails FaultKind.TooDeep p st
+  body_at (suc d) f c vs p st = in_body (body_of f w.script) c vs p st (λ b n s. eval_block (body_at d) b n s)
 
   -- an open call leaves one body less
   abbrev pub inside : Entry N → ℕ → ℕ

@@ -20,7 +20,7 @@ value_falls (Value.Int z) = omega arith
 value_falls (Value.Text t) = omega arith
 value_falls (Value.List vs) = omega arith
 value_falls (Value.Dict ps) = omega arith
-value_falls (Value.Fun f) = omega arith
+value_falls (Value.Fun f c) = omega arith
 value_falls (Value.Ref n) = omega arith
 
 pub vals_fall : (vs : List Value) → most deep-Value vs ≤ vals_nodes (vals_of vs)

@@ -1,12 +1,6 @@
 -- Lists of names, and the names in a value.
 use Rattle.std.specs.Prelude.{ℕ, List, [], ◌∷◌, ◌++◌, Bool, true, false, ◌||◌}
 use Rattle.sky_base.specs.Val.{Desc, known, same_text, stands_in}
-use Rattle.sky_base.specs.declared.text.Name.{Name}
-
--- the bytes of each name
-abbrev pub names_of : List Name → List (List ℕ)
-names_of [] = []
-names_of (n ∷ ns) = n.bytes ∷ names_of ns
 
 -- whether a name is in a list
 abbrev pub is_among : List ℕ → List (List ℕ) → Bool

@@ -1,9 +1,9 @@
 -- Which tasks a job needs, what each waits for, how each stands at a wait, and how much work that is.
 use Rattle.std.specs.Prelude.{◌≡◌, ℕ, zero, suc, ◌+◌, ◌≤◌, ◌<◌, List, [], ◌∷◌, Bool, true, false, Option, Some, None, ◌↔◌, nat_le, sum_by, Contains, slice_get}
-use Rattle.sky_base.specs.Val.{no_pairs, call, out, input, known, refs, distinct}
+use Rattle.sky_base.specs.Val.{call, out, input, known, refs, distinct}
 use Rattle.sky_base.specs.Eval.{Body, bind, body_of}
 use Rattle.sky_base.specs.Read.{Halt, Run, halt, refs_of, run_of_halt, segment_from}
-use Rattle.sky_base.specs.See.{Val, Vals, Desc, Job, Around, see, run_of, wave, main_call}
+use Rattle.sky_base.specs.See.{Val, Vals, Pairs, Desc, Job, Around, see, run_of, wave, main_call}
 
 pub data Task : Type 0 where
   show : Task
@@ -11,7 +11,7 @@ pub data Task : Type 0 where
 
 -- the task that makes what a description refers to
 abbrev pub task_of : Desc → Option Task
-task_of (call f vs) = Some (Task.of (call f vs))
+task_of (call f c vs) = Some (Task.of (call f c vs))
 task_of (out x v n i) = Some (Task.of (out x v n 0))
 task_of (input k) = None
 task_of (known b) = absurd b
@@ -41,10 +41,10 @@ pub data State : Type 0 where
   run : Run ⊥ → State
   show_at : Val → ℕ → State
 
-abbrev pub start_frame : List ℕ → Vals → Option Body → Option State
-start_frame f vs None = None
-start_frame f vs (Some b) =
-    Some (State.run (record { frames = record { fun = f; vars = bind b.params vs no_pairs; stack = []; todo = record { node = b.node; step = 0 } ∷ [] } ∷ []; count = 0; waits = 0 }))
+abbrev pub start_frame : List ℕ → Pairs → Vals → Option Body → Option State
+start_frame f c vs None = None
+start_frame f c vs (Some b) =
+    Some (State.run (record { frames = record { fun = f; vars = bind b.params vs c; stack = []; todo = record { node = b.node; step = 0 } ∷ [] } ∷ []; count = 0; waits = 0 }))
 
 abbrev pub halt_state : List ℕ → ℕ → Option (Halt ⊥) → Option State
 halt_state f j None = None
@@ -59,8 +59,8 @@ module _ (job : Job) (around : Around) where
   abbrev pub wait_at : ℕ → Task → ℕ → Option (List Desc)
   wait_at n Task.show zero = Some (main_call ∷ [])
   wait_at n Task.show (suc j) = only_if (nat_le (suc j) 100) (wave_refs (wave job around n (suc j)))
-  wait_at n (Task.of (call f vs)) zero = Some []
-  wait_at n (Task.of (call f vs)) (suc j) = halt_refs (halt (see job around n) j (run_of job around f vs))
+  wait_at n (Task.of (call f c vs)) zero = Some []
+  wait_at n (Task.of (call f c vs)) (suc j) = halt_refs (halt (see job around n) j (run_of job around f c vs))
   wait_at n (Task.of (out x v m i)) zero = Some (distinct_refs v)
   wait_at n (Task.of (out x v m i)) (suc j) = None
   wait_at n (Task.of (input k)) j = None
@@ -73,9 +73,9 @@ module _ (job : Job) (around : Around) where
   -- how a task stands at its j-th wait, as far as n tells; at 0, at its start
   abbrev pub stands_at : ℕ → Task → ℕ → Option State
   stands_at n Task.show j = wave_state j (wave job around n j)
-  stands_at n (Task.of (call f vs)) zero = start_frame f vs (body_of f job.script)
-  stands_at n (Task.of (call f vs)) (suc j) =
-      halt_state f (suc j) (halt (see job around n) j (run_of job around f vs))
+  stands_at n (Task.of (call f c vs)) zero = start_frame f c vs (body_of f job.script)
+  stands_at n (Task.of (call f c vs)) (suc j) =
+      halt_state f (suc j) (halt (see job around n) j (run_of job around f c vs))
   stands_at n (Task.of (out x v m i)) j = None
   stands_at n (Task.of (input k)) j = None
   stands_at n (Task.of (known b)) j = absurd b
@@ -84,8 +84,8 @@ module _ (job : Job) (around : Around) where
   StandsAt t j s = (n : ℕ) × (stands_at n t j ≡ Some s)
 
   -- what a call makes after its wait j and before the next one, as far as n tells
-  abbrev pub made_from : ℕ → List ℕ → Vals → ℕ → List Desc
-  made_from n f vs j = segment_from (see job around n) j (run_of job around f vs)
+  abbrev pub made_from : ℕ → List ℕ → Pairs → Vals → ℕ → List Desc
+  made_from n f c vs j = segment_from (see job around n) j (run_of job around f c vs)
 
   pub data Needed : Task → Type 0 where
     root : Needed Task.show

@@ -7,6 +7,7 @@ abbrev mutual
   pub pre_exp : Exp → List Node
   pre_exp (Exp.literal l p) = exp_node (Exp.literal l p) ∷ []
   pre_exp (Exp.name x p) = exp_node (Exp.name x p) ∷ []
+  pre_exp (Exp.func x p) = exp_node (Exp.func x p) ∷ []
   pre_exp (Exp.parens e) = exp_node (Exp.parens e) ∷ pre_exp e
   pre_exp (Exp.parts o p es) = exp_node (Exp.parts o p es) ∷ pre_exps es
   pre_exp (Exp.chain e ls) = exp_node (Exp.chain e ls) ∷ (pre_exp e ++ pre_links ls)

@@ -10,7 +10,7 @@ use Rattle.sky_base.specs.declared.object.TaskId.{TaskId}
 use Rattle.sky_base.specs.declared.object.Object.{Object}
 
 abbrev pub desc_view : Desc1 → Desc (List ℕ)
-desc_view (Desc1.Call f vs) = call f vs
+desc_view (Desc1.Call f c vs) = call f c vs
 desc_view (Desc1.Exec x v n i) = out x (view v) n i
 desc_view (Desc1.Input k) = input k
 
@@ -24,4 +24,4 @@ abbrev pub StandsForTask : (Desc (List ℕ) → List ℕ) → TaskId → Task �
 StandsForTask tag TaskId.Show Task.show = Unit {0}
 StandsForTask tag TaskId.Show (Task.of d) = ⊥
 StandsForTask tag (TaskId.Of n) Task.show = ⊥
-StandsForTask tag (TaskId.Of n) (Task.of d) = n.bytes ≡ name (λ b. absurd b) tag d
+StandsForTask tag (TaskId.Of n) (Task.of d) = n ≡ name (λ b. absurd b) tag d

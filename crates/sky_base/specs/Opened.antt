@@ -138,6 +138,7 @@ module _ {N : Type 0} where
   abbrev pub opened_exp : Exp → (n k : ℕ) → List (Val N) → Option (List ℕ × Pairs N) → Option (Entry N)
   opened_exp (Exp.literal l p) n k vs c = None
   opened_exp (Exp.name x p) n k vs c = None
+  opened_exp (Exp.func x p) n k vs c = None
   opened_exp (Exp.parens e) n k vs c = at_first k vs (parens_in n)
   opened_exp (Exp.parts o p es) n k vs c = form_open o p es n k vs
   opened_exp (Exp.chain e ls) n k vs c = chain_open e ls n k vs
@@ -194,6 +195,7 @@ module _ (at : ℕ → Option Node) where
     pub HasExp : Exp → ℕ → Type 0
     HasExp (Exp.literal l p) n = at n ≡ Some (exp_node (Exp.literal l p))
     HasExp (Exp.name x p) n = at n ≡ Some (exp_node (Exp.name x p))
+    HasExp (Exp.func x p) n = at n ≡ Some (exp_node (Exp.func x p))
     HasExp (Exp.parens e) n = (at n ≡ Some (exp_node (Exp.parens e))) × HasExp e (n + 1)
     HasExp (Exp.parts o p es) n = (at n ≡ Some (exp_node (Exp.parts o p es))) × HasExps es (n + 1)
     HasExp (Exp.chain e ls) n = (at n ≡ Some (exp_node (Exp.chain e ls))) × HasExp e (n + 1) × HasLinks ls (n + 1 + nodes e)

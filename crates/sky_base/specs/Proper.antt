@@ -23,6 +23,7 @@ links_level (Links.link o p e ls) = oper_level o
 abbrev pub level : Exp → ℕ
 level (Exp.literal l p) = 7
 level (Exp.name x p) = 7
+level (Exp.func x p) = 7
 level (Exp.parens e) = 7
 level (Exp.parts o p es) = 7
 level (Exp.chain e ls) = links_level ls
@@ -81,6 +82,7 @@ abbrev mutual
   pub proper : Exp → Bool
   proper (Exp.literal l p) = is_token l
   proper (Exp.name x p) = true
+  proper (Exp.func x p) = true
   proper (Exp.parens e) = proper e
   proper (Exp.parts o p es) = has_parts o (exps_count es) && proper_exps es
   proper (Exp.chain e ls) = links_enough ls && (nat_lt (links_level ls) (level e) && (proper e && proper_links (links_level ls) ls))

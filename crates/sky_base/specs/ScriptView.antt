@@ -5,7 +5,7 @@ use Rattle.sky_base.specs.TreeView.{at}
 use Rattle.sky_base.specs.declared.script.FunDef.{FunDef}
 
 abbrev pub fun_view : FunDef → logic.FunDef
-fun_view f = record { name = f.name; params = f.params; body = f.body; place = at f.line f.col }
+fun_view f = record { name = f.name; params = f.params; body = f.body; place = at f.line f.col; uses = f.uses }
 
 abbrev pub funs_view : List FunDef → List logic.FunDef
 funs_view [] = []

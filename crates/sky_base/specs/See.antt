@@ -19,6 +19,9 @@ Val = v.Val ⊥
 abbrev pub Vals : Type 0
 Vals = v.Vals ⊥
 
+abbrev pub Pairs : Type 0
+Pairs = v.Pairs ⊥
+
 abbrev pub Desc : Type 0
 Desc = v.Desc ⊥
 
@@ -64,7 +67,7 @@ module _ {N M : Type 0} (f : ℕ → v.Desc N → v.Val M) where
     replaced i (text t) = text t
     replaced i (list vs) = list (vals_replaced i vs)
     replaced i (dict ps) = dict (pairs_replaced i ps)
-    replaced i (fun g) = fun g
+    replaced i (fun g c) = fun g (pairs_replaced i c)
     replaced i (ref d) = f i d
 
     pub vals_replaced : ℕ → v.Vals N → v.Vals M
@@ -140,13 +143,13 @@ start_st = record { vars = no_pairs; count = 0 }
 
 module _ (job : Job) (around : Around) where
   -- the run of a call
-  abbrev pub run_of : List ℕ → Vals → Res ⊥
-  run_of f vs = body_at (world_of job.script around) bodies f vs nowhere start_st
+  abbrev pub run_of : List ℕ → Pairs → Vals → Res ⊥
+  run_of f c vs = body_at (world_of job.script around) bodies f c vs nowhere start_st
 
   -- what is seen of a description where tasks see others at most so deep
   unfoldable pub see : ℕ → Desc → Option Obj
   see zero d = None
-  see (suc n) (call f vs) = object_of (outcome (λ d. see n d) (run_of f vs))
+  see (suc n) (call f c vs) = object_of (outcome (λ d. see n d) (run_of f c vs))
   see (suc n) (out x v m i) = executed_on around x v m i (gather (λ d. see n d) (as_bytes around) (refs v))
   see (suc n) (input k) = Some (Object.bytes (input_bytes k job.inputs))
   see (suc n) (known b) = absurd b
@@ -177,7 +180,7 @@ val_of (v ∷ vs) zero = v
 val_of (v ∷ vs) (suc k) = val_of vs k
 
 abbrev pub main_call : Desc
-main_call = call [] no_vals
+main_call = call [] no_pairs no_vals
 
 -- what a wave of the result comes to: the answer, or the value at the next wave
 pub data Turn : Type 0 where

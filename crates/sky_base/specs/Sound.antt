@@ -1,10 +1,10 @@
 -- Values that keep the limits of depth and size and name functions of the script alone, with all that they refer to.
 use Rattle.sky_base.specs.See as see
-use Rattle.std.specs.Prelude.{◌≡◌, ℕ, ◌≤◌, ◌<◌, List, [], Ok, Err, IsSome, ◌⊎◌}
+use Rattle.std.specs.Prelude.{◌≡◌, ℕ, ◌≤◌, ◌<◌, List, [], Bool, true, Option, Some, None, Ok, Err, IsSome, ◌⊎◌}
 use Rattle.sky_base.specs.Val.{Val, Vals, Pairs, Desc, null, truth, num, text, list, dict, fun, ref, no_vals, val, no_pairs, pair, call, out, input, known}
 use Rattle.sky_base.specs.Op.{Answer}
-use Rattle.sky_base.specs.Tree.{Script}
-use Rattle.sky_base.specs.Eval.{find_fun}
+use Rattle.sky_base.specs.Tree.{FunDef, Script}
+use Rattle.sky_base.specs.Eval.{find_fun, is_one_of}
 use Rattle.sky_base.specs.Res.{Object}
 use Rattle.sky_base.specs.Read.{Frame}
 use Rattle.sky_base.specs.Needed.{Task, State}
@@ -14,6 +14,15 @@ use Rattle.sky_base.specs.Kept.{Kept}
 -- a script has a function of this name
 abbrev pub IsFun : Script → List ℕ → Type 0
 IsFun sc f = IsSome (find_fun f sc.funs)
+
+-- a script has a function of this name, and the keys of the pairs are variables that it captures
+abbrev pub AllUsed : {N : Type 0} → List (List ℕ) → Pairs N → Type 0
+AllUsed us no_pairs = Unit {0}
+AllUsed us (pair k v ps) = (is_one_of k us ≡ true) × AllUsed us ps
+
+abbrev pub TakesIf : {N : Type 0} → Option FunDef → Pairs N → Type 0
+TakesIf None c = ⊥
+TakesIf (Some f) c = AllUsed f.uses c
 
 -- K says which names may stand inside
 module _ {N : Type 0} (K : N → Type 0) (sc : Script) where
@@ -28,7 +37,7 @@ module _ {N : Type 0} (K : N → Type 0) (sc : Script) where
     RefsOver (text t) = Unit {0}
     RefsOver (list vs) = ValsOver vs
     RefsOver (dict ps) = PairsOver ps
-    RefsOver (fun f) = IsFun sc f
+    RefsOver (fun f c) = TakesIf (find_fun f sc.funs) c × PairsOver c
     RefsOver (ref d) = DescOver d
 
     pub ValsOver : Vals N → Type 0
@@ -40,7 +49,7 @@ module _ {N : Type 0} (K : N → Type 0) (sc : Script) where
     PairsOver (pair k v ps) = RefsOver v × PairsOver ps
 
     pub DescOver : Desc N → Type 0
-    DescOver (call f vs) = Kept (list vs) × ValsOver vs × ((f ≡ []) ⊎ IsFun sc f)
+    DescOver (call f c vs) = Kept (list vs) × Kept (dict c) × ValsOver vs × PairsOver c × (((f ≡ []) × (c ≡ no_pairs)) ⊎ TakesIf (find_fun f sc.funs) c)
     DescOver (out x v n i) = Kept {N = N} (text x) × Kept v × RefsOver v × (i < n) × (n ≤ 64)
     DescOver (input k) = Unit {0}
     DescOver (known b) = K b

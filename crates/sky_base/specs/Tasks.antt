@@ -31,7 +31,7 @@ same d e = same_desc (λ a b. true) d e
 
 -- the task that makes what a description refers to; an output whose index isn't below the number of outputs is of no task
 abbrev pub maker : Desc → Option Task
-maker (call f vs) = Some (Task.of (call f vs))
+maker (call f c vs) = Some (Task.of (call f c vs))
 maker (out x v n i) = only_if (nat_lt i n) (Some (Task.of (out x v n 0)))
 maker (input k) = None
 maker (known b) = absurd b
@@ -39,7 +39,7 @@ maker (known b) = absurd b
 -- what a task makes, in order
 abbrev pub outputs_of : Task → List Desc
 outputs_of Task.show = []
-outputs_of (Task.of (call f vs)) = call f vs ∷ []
+outputs_of (Task.of (call f c vs)) = call f c vs ∷ []
 outputs_of (Task.of (out x v n zero)) = outputs x v n 0 n
 outputs_of (Task.of (out x v n (suc i))) = []
 outputs_of (Task.of (input k)) = []
@@ -48,7 +48,7 @@ outputs_of (Task.of (known b)) = absurd b
 -- what a task waits for before it starts
 abbrev pub first_of : Task → List Desc
 first_of Task.show = main_call ∷ []
-first_of (Task.of (call f vs)) = []
+first_of (Task.of (call f c vs)) = []
 first_of (Task.of (out x v n i)) = distinct_refs v
 first_of (Task.of (input k)) = []
 first_of (Task.of (known b)) = absurd b
@@ -117,7 +117,7 @@ module _ (job : Job) (around : Around) where
   -- what a task makes and waits for after its start, in order
   abbrev pub acts_of : ℕ → Task → List (Act ⊥)
   acts_of n Task.show = waves_from n 100 1
-  acts_of n (Task.of (call f vs)) = acts (see job around n) (run_of job around f vs)
+  acts_of n (Task.of (call f c vs)) = acts (see job around n) (run_of job around f c vs)
   acts_of n (Task.of (out x v m i)) = []
   acts_of n (Task.of (input k)) = []
   acts_of n (Task.of (known b)) = absurd b
@@ -130,7 +130,7 @@ module _ (job : Job) (around : Around) where
   -- what a task holds at its j-th wait, at 0 at its start: what its state holds, or the references of an executor's arguments
   abbrev pub held_at : ℕ → Task → ℕ → Option (List Desc)
   held_at n Task.show j = option_map held (stands_at job around n Task.show j)
-  held_at n (Task.of (call f vs)) j = option_map held (stands_at job around n (Task.of (call f vs)) j)
+  held_at n (Task.of (call f c vs)) j = option_map held (stands_at job around n (Task.of (call f c vs)) j)
   held_at n (Task.of (out x v m i)) zero = Some (distinct_refs v)
   held_at n (Task.of (out x v m i)) (suc j) = None
   held_at n (Task.of (input k)) j = None

@@ -56,6 +56,8 @@ mutual
   pub data Exp : Type 0 where
     literal : Lit → Place → Exp
     name : List ℕ → Place → Exp
+    -- an anonymous function by its name `#k`, with the place of its word; its body stands among the functions
+    func : List ℕ → Place → Exp
     parens : Exp → Exp
     -- a list, a dictionary or a word with its parts
     parts : Form → Place → Exps → Exp
@@ -124,6 +126,7 @@ abbrev mutual
   pub nodes : Exp → ℕ
   nodes (Exp.literal v p) = 1
   nodes (Exp.name x p) = 1
+  nodes (Exp.func x p) = 1
   nodes (Exp.parens e) = 1 + nodes e
   nodes (Exp.parts o p es) = 1 + exps_nodes es
   nodes (Exp.chain e ls) = 1 + (nodes e + links_nodes ls)
@@ -153,6 +156,7 @@ abbrev mutual
   pub weight : Exp → ℕ
   weight (Exp.literal v p) = 1
   weight (Exp.name x p) = 1
+  weight (Exp.func x p) = 1
   weight (Exp.parens e) = 1 + weight e
   weight (Exp.parts o p es) = 1 + exps_weight es
   weight (Exp.chain e ls) = 1 + (weight e + links_weight ls)
@@ -237,6 +241,8 @@ pub record FunDef : Type 0 where
   pub params : List (List ℕ)
   pub body : Stms
   pub place : Place
+  -- the names of the variables that it captures, rising; none for a named function
+  pub uses : List (List ℕ)
 
 pub record Script : Type 0 where
   pub funs : List FunDef

@@ -150,6 +150,7 @@ abbrev mutual
   pub exp_to : Exp → Gv
   exp_to (Exp.literal x0 x1) = gcons (gnum 0) (gcons (lit_to x0) (gcons (place_code x1) gnil))
   exp_to (Exp.name x0 x1) = gcons (gnum 1) (gcons (bytes x0) (gcons (place_code x1) gnil))
+  exp_to (Exp.func x0 x1) = gcons (gnum 5) (gcons (bytes x0) (gcons (place_code x1) gnil))
   exp_to (Exp.parens x0) = gcons (gnum 0) (gcons (exp_to x0) gnil)
   exp_to (Exp.parts x0 x1 x2) = gcons (gnum 0) (gcons (form_code x0) (gcons (place_code x1) (gcons (exps_to x2) gnil)))
   exp_to (Exp.chain x0 x1) = gcons (gnum 2) (gcons (exp_to x0) (gcons (links_to x1) gnil))
@@ -182,7 +183,7 @@ abbrev mutual
   exp_from (gcons t (gnum n)) = Exp.literal Lit.null no_place
   exp_from (gcons t (gcons x0 gnil)) = Exp.parens (exp_from x0)
   exp_from (gcons t (gcons x0 (gnum n))) = Exp.literal Lit.null no_place
-  exp_from (gcons t (gcons x0 (gcons x1 gnil))) = nth (num_back t) ((Exp.literal (lit_from x0) (place_back x1)) ∷ (Exp.name (bytes_back x0) (place_back x1)) ∷ (Exp.chain (exp_from x0) (links_from x1)) ∷ (Exp.prefix (signs_back x0) (exp_from x1)) ∷ (Exp.postfix (exp_from x0) (steps_from x1)) ∷ []) (Exp.literal Lit.null no_place)
+  exp_from (gcons t (gcons x0 (gcons x1 gnil))) = nth (num_back t) ((Exp.literal (lit_from x0) (place_back x1)) ∷ (Exp.name (bytes_back x0) (place_back x1)) ∷ (Exp.chain (exp_from x0) (links_from x1)) ∷ (Exp.prefix (signs_back x0) (exp_from x1)) ∷ (Exp.postfix (exp_from x0) (steps_from x1)) ∷ (Exp.func (bytes_back x0) (place_back x1)) ∷ []) (Exp.literal Lit.null no_place)
   exp_from (gcons t (gcons x0 (gcons x1 (gnum n)))) = Exp.literal Lit.null no_place
   exp_from (gcons t (gcons x0 (gcons x1 (gcons x2 gnil)))) = nth (num_back t) ((Exp.parts (form_back x0) (place_back x1) (exps_from x2)) ∷ (Exp.logic (junction_back x0) (exp_from x1) (ands_from x2)) ∷ []) (Exp.literal Lit.null no_place)
   exp_from (gcons t (gcons x0 (gcons x1 (gcons x2 (gnum n))))) = Exp.literal Lit.null no_place
@@ -244,6 +245,7 @@ mutual
   pub exp_same : (x : Exp) → exp_from (exp_to x) ≡ x
   exp_same (Exp.literal x0 x1) = λ i. Exp.literal (lit_same x0 i) (place_same x1 i)
   exp_same (Exp.name x0 x1) = λ i. Exp.name (bytes_same x0 i) (place_same x1 i)
+  exp_same (Exp.func x0 x1) = λ i. Exp.func (bytes_same x0 i) (place_same x1 i)
   exp_same (Exp.parens x0) = λ i. Exp.parens (exp_same x0 i)
   exp_same (Exp.parts x0 x1 x2) = λ i. Exp.parts (form_same x0 i) (place_same x1 i) (exps_same x2 i)
   exp_same (Exp.chain x0 x1) = λ i. Exp.chain (exp_same x0 i) (links_same x1 i)

@@ -13,6 +13,7 @@ use Rattle.sky_base.specs.declared.tree.Exprs.TheDeep.{deep-Expr, deep-Join, dee
 pub exp_falls : (e : Expr) → deep-Expr e ≤ weight (exp_view e)
 exp_falls (Expr.Literal v l c) = omega arith
 exp_falls (Expr.Name x l c) = omega arith
+exp_falls (Expr.Function x l c) = omega arith
 exp_falls (Expr.Parens e) = omega arith
 exp_falls (Expr.List es l c) = omega arith
 exp_falls (Expr.Dict es l c) = omega arith

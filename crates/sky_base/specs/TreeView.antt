@@ -58,6 +58,7 @@ three a b c = Exps.exp a (two b c)
 abbrev pub exp_view : Expr → Exp
 exp_view (Expr.Literal v l c) = Exp.literal (lit_view v) (at l c)
 exp_view (Expr.Name x l c) = Exp.name x (at l c)
+exp_view (Expr.Function x l c) = Exp.func x (at l c)
 exp_view (Expr.Parens e) = Exp.parens e
 exp_view (Expr.List es l c) = Exp.parts Form.list (at l c) es
 exp_view (Expr.Dict es l c) = Exp.parts Form.dict (at l c) es

@@ -12,8 +12,8 @@ view (Value.Int z) = num z
 view (Value.Text t) = text t
 view (Value.List vs) = list vs
 view (Value.Dict ps) = dict ps
-view (Value.Fun f) = fun f
-view (Value.Ref n) = ref (known n.bytes)
+view (Value.Fun f c) = fun f c
+view (Value.Ref n) = ref (known n)
 
 abbrev pub vals_of : List Value → (Vals (List ℕ))
 vals_of [] = no_vals

@@ -66,7 +66,7 @@ pub fn is_plain(v: &Value) -> bool
     match v {
         Value::List(vs) => are_plain(vs.as_slice()),
         Value::Dict(ps) => are_pairs_plain(ps.as_slice()),
-        Value::Fun(_) | Value::Ref(_) => false,
+        Value::Fun { .. } | Value::Ref(_) => false,
         _ => true,
     }
 }
@@ -127,8 +127,9 @@ fn is_same(a: &Value, b: &Value) -> bool
             Value::Dict(b) => are_pairs_same(a.as_slice(), b.as_slice()),
             _ => false,
         },
-        Value::Fun(a) => match b {
-            Value::Fun(b) => is_same_text(a, b),
+        Value::Fun { name: a, caught: c } => match b {
+            Value::Fun { name: b, caught: d } => is_same_text(a, b)
+                && are_pairs_same(c.as_slice(), d.as_slice()),
             _ => false,
         },
         Value::Ref(_) => false,

@@ -1,9 +1,10 @@
 // Lists of names.
 
 ghost use Rattle.std.specs.Prelude.{◌≡◌, [], ◌∷◌, ◌++◌, IfOk, IfErr, length};
-ghost use Rattle.sky_base.specs.Names.{names_of, is_among};
+ghost use Rattle.sky_base.specs.Names.{is_among};
 
-use crate::text::{Memory, Name};
+use crate::name::Name;
+use crate::text::Memory;
 use std::alloc::Global;
 use std::marker::Model;
 
@@ -15,11 +16,10 @@ pub struct Names {
 
 impl Model for Names {
     ghost use Rattle.std.specs.Prelude.{List, ℕ};
-    ghost use Rattle.sky_base.specs.Names.{names_of};
 
     ghost Value = { List (List ℕ) };
 
-    ghost view = { λ a. names_of a.items.items };
+    ghost view = { λ a. a.items.items };
 }
 
 impl Names {
@@ -34,7 +34,7 @@ impl Names {
 
     /// The names in order.
     pub fn as_slice(&self) -> &[Name]
-        ensures { names_of result.now ≡ self.now }
+        ensures { result.now ≡ self.now }
     {
         self.items.as_slice()
     }
@@ -49,10 +49,10 @@ impl Names {
 
     /// Whether a name is in the list.
     pub fn contains(&self, name: &Name) -> bool
-        ensures { result ≡ is_among name.now.bytes self.now }
+        ensures { result ≡ is_among name.now self.now }
     {
         for held in &self.items {
-            if name.bytes.as_slice().cmp(held.bytes.as_slice()).is_eq() {
+            if name.bytes().cmp(held.bytes()).is_eq() {
                 return true;
             }
         }
@@ -62,7 +62,7 @@ impl Names {
     /// Puts a name at the end. After `Memory` the list is as it was.
     #[tactic(auto, using(crate::proofs::Gathers::named))]
     pub fn push(&mut self, name: Name) -> Result<(), Memory>
-        ensures ok { IfOk result (λ _. self.new ≡ self.old ++ name.bytes ∷ []) }
+        ensures ok { IfOk result (λ _. self.new ≡ self.old ++ name ∷ []) }
         ensures err { IfErr result (λ _. self.new ≡ self.old) }
     {
         match self.items.push(name) {

@@ -3,8 +3,9 @@
 ghost use Rattle.std.specs.Prelude.{◌≡◌, IfOk};
 
 use crate::fault::Fault;
-use crate::text::{Bytes, Memory, Name, Txt};
-use crate::value::{Vals, Value};
+use crate::name::Name;
+use crate::text::{Bytes, Memory, Txt};
+use crate::value::{Pairs, Vals, Value};
 
 /// A description one level deep: what an object is the result of. The script's main body is the call
 /// with the empty function name and no arguments.
@@ -13,6 +14,7 @@ pub enum Desc1 {
     /// What a call of a function of the script returns.
     Call {
         fun: Txt,
+        caught: Pairs,
         args: Vals,
     },
     /// Output `index`, from 0, of an executor that makes `outputs` outputs.
@@ -58,8 +60,9 @@ impl Desc1 {
         ensures { IfOk result (λ d. d ≡ self.now) }
     {
         match self {
-            Desc1::Call { fun, args } => Ok(Desc1::Call {
+            Desc1::Call { fun, caught, args } => Ok(Desc1::Call {
                 fun: fun.share()?,
+                caught: caught.copy()?,
                 args: args.copy()?,
             }),
             Desc1::Exec {

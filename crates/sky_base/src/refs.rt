@@ -5,8 +5,9 @@ ghost use Rattle.sky_base.specs.Names.{known_of, gathered};
 ghost use Rattle.sky_base.specs.Val.{refs, vals_refs, pairs_refs, distinct, same_text, known};
 ghost use Rattle.sky_base.specs.View.{view, vals_of, pairs_of};
 
+use crate::name::Name;
 use crate::names::Names;
-use crate::text::{Memory, Name};
+use crate::text::Memory;
 use crate::value::{Pair, Value};
 use std::alloc::Global;
 
@@ -31,6 +32,7 @@ fn gather(v: &Value, names: &mut Names) -> Result<(), Memory>
     match v {
         Value::List(vs) => gather_all(vs.as_slice(), names),
         Value::Dict(ps) => gather_pairs(ps.as_slice(), names),
+        Value::Fun { caught, .. } => gather_pairs(caught.as_slice(), names),
         Value::Ref(name) => add(name, names),
         _ => Ok(()),
     }
@@ -38,7 +40,7 @@ fn gather(v: &Value, names: &mut Names) -> Result<(), Memory>
 
 #[tactic(auto, using(crate::proofs::Gathers::named))]
 fn add(name: &Name, names: &mut Names) -> Result<(), Memory>
-    ensures { IfOk result (λ _. known_of names.new ≡ gathered (known_of names.old) (known name.now.bytes ∷ [])) }
+    ensures { IfOk result (λ _. known_of names.new ≡ gathered (known_of names.old) (known name.now ∷ [])) }
 {
     if names.contains(name) {
         return Ok(());

@@ -48,6 +48,8 @@ pub struct FunDef {
     pub body: Block,
     pub line: u32,
     pub col: u32,
+    /// The names of the variables that it captures, rising; none for a named function.
+    pub uses: Texts,
 }
 
 /// Functions, in order.

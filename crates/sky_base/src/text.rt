@@ -94,12 +94,6 @@ impl AsStr for Txt {
     }
 }
 
-/// The name of an object: 20 bytes, compared and ordered as bytes.
-#[derive(Clone, Copy, PartialEq, Eq, PartialOrd, Ord, Debug)]
-pub struct Name {
-    pub bytes: [u8; 20],
-}
-
 /// Bytes, which several owners may share. Contracts see them as a list.
 #[derive(Drop)]
 pub struct Bytes {

@@ -45,7 +45,6 @@ pub enum Lit {
 
 /// An expression.
 #[cycle(expr)]
-#[derive(Drop)]
 pub enum Expr {
     Literal {
         value: Lit,
@@ -53,6 +52,12 @@ pub enum Expr {
         col: u32,
     },
     Name {
+        name: Txt,
+        line: u32,
+        col: u32,
+    },
+    /// An anonymous function, by its name; its body stands among the functions of the script.
+    Function {
         name: Txt,
         line: u32,
         col: u32,
@@ -145,6 +150,102 @@ pub enum Expr {
         line: u32,
         col: u32,
     },
+}
+
+impl Drop for Expr {
+    #[cycle(drop)]
+    fn drop(self) {
+        match self {
+            Expr::Literal {
+                value: _,
+                line: _,
+                col: _,
+            } => {}
+            Expr::Name {
+                name: _,
+                line: _,
+                col: _,
+            } => {}
+            Expr::Function {
+                name: _,
+                line: _,
+                col: _,
+            } => {}
+            Expr::Parens { inner: _ } => {}
+            Expr::List {
+                items: _,
+                line: _,
+                col: _,
+            } => {}
+            Expr::Dict {
+                items: _,
+                line: _,
+                col: _,
+            } => {}
+            Expr::Chain { first: _, rest: _ } => {}
+            Expr::Compare {
+                left: _,
+                how: _,
+                line: _,
+                col: _,
+                right: _,
+            } => {}
+            Expr::And { first: _, rest: _ } => {}
+            Expr::Or { first: _, rest: _ } => {}
+            Expr::Prefix {
+                signs: _,
+                operand: _,
+            } => {}
+            Expr::Postfix { first: _, rest: _ } => {}
+            Expr::Spawn {
+                fun: _,
+                args: _,
+                line: _,
+                col: _,
+            } => {}
+            Expr::SpawnExec {
+                executor: _,
+                args: _,
+                outputs: _,
+                line: _,
+                col: _,
+            } => {}
+            Expr::Exec {
+                executor: _,
+                args: _,
+                outputs: _,
+                line: _,
+                col: _,
+            } => {}
+            Expr::Ref {
+                key: _,
+                line: _,
+                col: _,
+            } => {}
+            Expr::Len {
+                of: _,
+                line: _,
+                col: _,
+            } => {}
+            Expr::Keys {
+                of: _,
+                line: _,
+                col: _,
+            } => {}
+            Expr::Has {
+                dict: _,
+                key: _,
+                line: _,
+                col: _,
+            } => {}
+            Expr::Range {
+                from: _,
+                to: _,
+                line: _,
+                col: _,
+            } => {}
+        }
+    }
 }
 
 /// A boxed expression.
@@ -335,7 +436,7 @@ impl Expr {
         ensures { result ≡ nodes (exp_view self.now) }
     {
         match self {
-            Expr::Literal { .. } | Expr::Name { .. } => 1,
+            Expr::Literal { .. } | Expr::Name { .. } | Expr::Function { .. } => 1,
             Expr::Parens { inner } => 1 + inner.nodes(),
             Expr::List { items, .. } | Expr::Dict { items, .. } => 1 + items.nodes(),
             Expr::Chain { first, rest } => 1 + first.nodes() + rest.nodes(),

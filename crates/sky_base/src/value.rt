@@ -10,9 +10,10 @@ ghost use Rattle.sky_base.specs.Val.{size, sizes, pair_sizes, depth, depths, pai
 ghost use Rattle.sky_base.specs.View.{view, vals_of, pairs_of};
 ghost use Rattle.sky_base.specs.Totals.{Totals};
 
+use crate::name::Name;
 use crate::place::place;
 use crate::shared::{Share, Shared, copy_onto};
-use crate::text::{Memory, Name, Txt};
+use crate::text::{Memory, Txt};
 use std::alloc::Global;
 use std::marker::Model;
 
@@ -24,7 +25,6 @@ pub const MOST_DEPTH: u32 = 100;
 
 /// A value of a script.
 #[cycle(value)]
-#[derive(Drop)]
 pub enum Value {
     Null,
     Bool(bool),
@@ -32,10 +32,26 @@ pub enum Value {
     Text(Txt),
     List(Vals),
     Dict(Pairs),
-    /// A function, by its name.
-    Fun(Txt),
+    /// A function, by its name, and what it captured.
+    Fun { name: Txt, caught: Pairs },
     /// A reference to the object of this name.
     Ref(Name),
+}
+
+impl Drop for Value {
+    #[cycle(value_drop)]
+    fn drop(self) {
+        match self {
+            Value::Null => {}
+            Value::Bool(_) => {}
+            Value::Int(_) => {}
+            Value::Text(_) => {}
+            Value::Fun { name: _, caught: _ } => {}
+            Value::List(_) => {}
+            Value::Dict(_) => {}
+            Value::Ref(_) => {}
+        }
+    }
 }
 
 /// A list of values, which several owners may share.
@@ -190,8 +206,11 @@ impl Value {
             Value::Text(t) => Total::of_bytes(t.len()),
             Value::List(vs) => vs.totals.around(),
             Value::Dict(ps) => ps.totals.around(),
-            Value::Fun(f) => Total::of_bytes(f.len()),
-            Value::Ref(_) => Total { size: 20, depth: 1 },
+            Value::Fun { name, caught } => caught.totals.around().with(Total {
+                size: name.len() as u64,
+                depth: 0,
+            }),
+            Value::Ref(_) => Total { size: 32, depth: 1 },
         }
     }
 
@@ -239,7 +258,10 @@ impl Value {
             Value::Text(t) => Ok(Value::Text(t.share()?)),
             Value::List(vs) => Ok(Value::List(vs.copy()?)),
             Value::Dict(ps) => Ok(Value::Dict(ps.copy()?)),
-            Value::Fun(f) => Ok(Value::Fun(f.share()?)),
+            Value::Fun { name, caught } => Ok(Value::Fun {
+                name: name.share()?,
+                caught: caught.copy()?,
+            }),
             Value::Ref(n) => Ok(Value::Ref(*n)),
         }
     }
