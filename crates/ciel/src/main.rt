@@ -3,7 +3,9 @@
 // is read, run and written is under the contract of that call.
 #![tactic(auto)]
 
-ghost use Rattle.std.specs.Prelude.{◌≢◌, IfErr};
+ghost use Rattle.std.specs.Prelude.{◌≡◌, ◌≢◌, IfErr};
+ghost use Rattle.ciel.specs.Refused.{IsUsageOrMemory};
+ghost use Rattle.ciel_run.specs.Ending.{status_of};
 ghost use Rattle.ciel_run.specs.declared.top.Why.{Why};
 
 use ciel_io::host::{HostErr, HostFiles, HostOut};
@@ -13,16 +15,21 @@ use sky_base::text::Txt;
 use std::alloc::Global;
 use std::process::ExitCode;
 use std::rt::Env;
-use std::thread::Builder;
+use std::thread::{Anything, Builder};
 use std::{env, io};
 
 /// The bytes of stack that a run gets. The interpreter recurses over the tree of the script, through up to
 /// 64 brackets in each of up to 64 bodies, which the stack that a process begins with may not hold.
 const STACK: usize = 256 << 20;
 
-/// The words of the command line, without the program's name. Words that aren't UTF-8 are no line.
+/// The bytes of stack that are tried where no thread can have so many. The deepest script that was found
+/// takes 20 MiB.
+const LESS_STACK: usize = 32 << 20;
+
+/// The words of the command line, without the program's name. Words that aren't UTF-8 are no line, and
+/// there may be no memory for them.
 fn words(rt: &(impl Env + Alloc<A = Global>)) -> Result<Vec<Txt>, Why>
-    ensures { IfErr result (λ why. why ≢ Why.Done) }
+    ensures { IfErr result IsUsageOrMemory }
 {
     let alloc = rt.alloc();
     let mut words = Vec::new(alloc);
@@ -37,8 +44,9 @@ fn words(rt: &(impl Env + Alloc<A = Global>)) -> Result<Vec<Txt>, Why>
     Ok(words)
 }
 
+/// Why the words can't be had.
 fn why(e: io::Error) -> Why
-    ensures { result ≢ Why.Done }
+    ensures { IsUsageOrMemory result }
 {
     if e.kind() == io::ErrorKind::OutOfMemory {
         Why::Memory
@@ -63,15 +71,23 @@ fn run(rt: HostRuntime) -> u8 {
 /// Puts the message on the log, and gives the status of the process.
 fn refused(why: &Why, log: &mut HostErr) -> u8
     requires { why.now ≢ Why.Done }
+    ensures { result ≡ status_of why.now }
 {
     let _ = put_message(why, log);
     why.status()
 }
 
+/// Runs the program on a thread with a large stack, else on one with a smaller stack, else on its own.
 fn main(rt: HostRuntime) -> ExitCode {
-    let thread = Builder::new().stack_size(STACK).spawn(&rt, move || run(rt));
-    ExitCode::from(match thread {
+    let run = move || run(rt);
+    ExitCode::from(match Builder::new().stack_size(STACK).spawn_with(&rt, Anything, run) {
         Ok(thread) => thread.join(&rt),
-        Err(_) => refused(&Why::Memory, &mut HostErr::new(rt.stderr())),
+        Err(refused) => match Builder::new()
+            .stack_size(LESS_STACK)
+            .spawn_with(&rt, Anything, refused.value)
+        {
+            Ok(thread) => thread.join(&rt),
+            Err(refused) => (refused.value)(),
+        },
     })
 }

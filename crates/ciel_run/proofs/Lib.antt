@@ -1,4 +1,3 @@
-pub mod Tokens
 pub mod Answers
 pub mod Exact
 mod Pieces

@@ -3,7 +3,7 @@
 
 ghost use Rattle.std.specs.Prelude.{◌≡◌, ◌≤◌, ◌⊎◌, IfOk, IfErr, Err, length};
 ghost use Rattle.sky_parse.specs.Nesting.{place_of};
-ghost use Rattle.sky_text.specs.Lexing.{tokens_of};
+ghost use Rattle.sky_text.specs.Lexing.{byte_of, tokens_of};
 ghost use Rattle.sky_text.specs.Place.{line_of, column_of};
 ghost use Rattle.ciel_run.specs.Source.{is_later, first_later, IsScript};
 ghost use Rattle.ciel_run.specs.Refused.{RefusedSo};
@@ -58,6 +58,7 @@ pub fn script(alloc: Global, source: &[u8]) -> Result<Script, Refusal>
 fn no_tokens(source: &[u8], refusal: LexRefusal) -> Refusal
     requires few { length source.now ≤ 1048576 }
     requires refused { (refusal ≡ LexRefusal.Memory) ⊎ (tokens_of source.now ≡ Err refusal) }
+    requires within { byte_of refusal ≤ length source.now }
     ensures { RefusedSo source.now result }
 {
     match refusal {

@@ -62,6 +62,7 @@ mutual
   pub exp_peel : (x : Exp) {a b : List Mark} → Both (spell x a) (spell x b) → Both a b
   exp_peel (Exp.literal v p) h = peel h
   exp_peel (Exp.name x p) h = peel h
+  exp_peel (Exp.func x p) h = peel h
   exp_peel (Exp.parens e) h = peel (exp_peel e (peel h))
   exp_peel (Exp.parts Form.list p es) h = peel (exps_peel es (peel h))
   exp_peel (Exp.parts Form.dict p es) h = peel (pairs_peel es (peel h))

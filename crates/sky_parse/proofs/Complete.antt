@@ -341,6 +341,7 @@ first c (Exp.literal (Lit.truth false) p) t more = refl
 first c (Exp.literal (Lit.num z) p) t more = refl
 first c (Exp.literal (Lit.text x) p) t more = refl
 first c (Exp.name x p) t more = refl
+first c (Exp.func x p) t more = absurd t
 first round (Exp.parens e) t more = refl
 first square (Exp.parens e) t more = refl
 first curly (Exp.parens e) t more = refl
@@ -472,6 +473,7 @@ mutual
   claim (Exp.literal (Lit.num z) p) t = λ k more. refl
   claim (Exp.literal (Lit.text x) p) t = λ k more. refl
   claim (Exp.name x p) t = λ k more. refl
+  claim (Exp.func x p) t = absurd t
   claim (Exp.parens e) t = λ k more. fixed_is 1 Sign.CloseRound (Item.steps ∷ k) (kinds_of (spell e (sign Sign.CloseRound ∷ more)))
       ∙ whole Level.Either e (omega arith) (claim e t) (Item.others (Shape.Fixed 1 Sign.CloseRound) 1 ∷ Item.steps ∷ k) (sign Sign.CloseRound ∷ more) refl ∙ fixed_ends round 1 1 (Item.steps ∷ k) more refl
   claim (Exp.parts Form.list p es) t = λ k more. many_claim es t.0 Sign.CloseSquare square (Item.steps ∷ k) more

@@ -20,6 +20,7 @@ mutual
   exp_fits : (e : Exp) → IsTree e → (more : List Mark) → nodes e + length more ≤ length (spell e more)
   exp_fits (Exp.literal v p) h more = omega arith
   exp_fits (Exp.name x p) h more = omega arith
+  exp_fits (Exp.func x p) h more = absurd h
   exp_fits (Exp.parens e) h more = omega (arith, exp_fits e h (sign Sign.CloseRound ∷ more))
   exp_fits (Exp.parts Form.list p es) h more = omega (arith, exps_fit es h.0 (sign Sign.CloseSquare ∷ more))
   exp_fits (Exp.parts Form.dict p es) h more = omega (arith, pairs_fit es h.0 (sign Sign.CloseCurly ∷ more))

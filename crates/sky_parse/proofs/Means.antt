@@ -228,6 +228,7 @@ one_sign s t ts rest e fit h l g = (Exp.prefix (s ∷ []) e, (h, l, refl), omega
 pub with_sign : (s : SignAt) (t : Token) (ts rest : List Token) → Fits (sign_at (prefix_sign s.sign) s.place) t → At 5 ts rest → At 5 (t ∷ ts) rest
 with_sign s t ts rest fit (Exp.literal v p, h, l, g) = one_sign s t ts rest (Exp.literal v p) fit h (omega arith) g
 with_sign s t ts rest fit (Exp.name x p, h, l, g) = one_sign s t ts rest (Exp.name x p) fit h (omega arith) g
+with_sign s t ts rest fit (Exp.func x p, h, l, g) = absurd h
 with_sign s t ts rest fit (Exp.parens e, h, l, g) = one_sign s t ts rest (Exp.parens e) fit h (omega arith) g
 with_sign s t ts rest fit (Exp.parts o p es, h, l, g) = one_sign s t ts rest (Exp.parts o p es) fit h (omega arith) g
 with_sign s t ts rest fit (Exp.chain e ls, h, l, g) = absurd (omega (arith, l, links_low ls))

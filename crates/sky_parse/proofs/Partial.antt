@@ -50,6 +50,7 @@ mutual
   cut_front : (x : Exp) (K : List Mark → Type 0) (more : List Mark) → Fronts K more → Fronts (cut x K) (spell x more)
   cut_front (Exp.literal v p) K more h = tok_front (Mark.placed (lit_kind v) p) _ _ h
   cut_front (Exp.name x p) K more h = tok_front (name_at x p) _ _ h
+  cut_front (Exp.func x p) K more h = tok_front (word_at Word.Function p) _ _ h
   cut_front (Exp.parens e) K more h = tok_front (sign Sign.OpenRound) _ _ (cut_front e _ _ (tok_front (sign Sign.CloseRound) _ _ h))
   cut_front (Exp.parts Form.list p es) K more h = tok_front (sign_at Sign.OpenSquare p) _ _ (cut_exps_front es _ _ (tok_front (sign Sign.CloseSquare) _ _ h))
   cut_front (Exp.parts Form.dict p es) K more h = tok_front (sign_at Sign.OpenCurly p) _ _ (cut_pairs_front es _ _ (tok_front (sign Sign.CloseCurly) _ _ h))
@@ -161,6 +162,7 @@ mutual
   cut_back : (x : Exp) (K : List Mark → Type 0) (more : List Mark) → Covers K more → Covers (cut x K) (spell x more)
   cut_back (Exp.literal v p) K more h = tok_back (Mark.placed (lit_kind v) p) _ _ h
   cut_back (Exp.name x p) K more h = tok_back (name_at x p) _ _ h
+  cut_back (Exp.func x p) K more h = tok_back (word_at Word.Function p) _ _ h
   cut_back (Exp.parens e) K more h = tok_back (sign Sign.OpenRound) _ _ (cut_back e _ _ (tok_back (sign Sign.CloseRound) _ _ h))
   cut_back (Exp.parts Form.list p es) K more h = tok_back (sign_at Sign.OpenSquare p) _ _ (cut_exps_back es _ _ (tok_back (sign Sign.CloseSquare) _ _ h))
   cut_back (Exp.parts Form.dict p es) K more h = tok_back (sign_at Sign.OpenCurly p) _ _ (cut_pairs_back es _ _ (tok_back (sign Sign.CloseCurly) _ _ h))

@@ -138,8 +138,8 @@ pub read_stmt : (funs funs2 : List Def) (main main2 : List Stmt) (old : Option P
 read_stmt funs funs2 main main2 old s tops e g hf hm hs =
     (ap funs_view e ∙ hf ∙ sym (defs_stmt tops (stm_view s)), ap stms_view g ∙ stms_view_push main s ∙ ap (λ (ss : Stms). snoc ss (stm_view s)) hm ∙ sym (main_stmt tops (stm_view s)), hs ∙ sym (same_stmt [] tops (stm_view s)))
 
-pub def_is : (d : Def) (ps : List Param) → param_names ps ≡ d.params → fun_view d ≡ def_of (record { name = d.name; place = at d.line d.col; params = ps; body = d.body })
-def_is d ps e = λ i. record { name = d.name; params = sym e i; body = d.body; place = at d.line d.col }
+pub def_is : (d : Def) (ps : List Param) → param_names ps ≡ d.params → d.uses ≡ [] → fun_view d ≡ def_of (record { name = d.name; place = at d.line d.col; params = ps; body = d.body })
+def_is d ps e u = λ i. record { name = d.name; params = sym e i; body = d.body; place = at d.line d.col; uses = u i }
 
 tops_push : (xs : List Top) (x : Top) (more : List Mark) → spell_tops (xs ++ x ∷ []) more ≡ spell_tops xs (spell_top x more)
 tops_push [] x more = refl

@@ -81,6 +81,7 @@ stepped_view : (n : ℕ) (e : Exp) → IsTree e → 6 ≤ level e → weight e �
 unfolding stepped
 stepped_view n (Exp.literal v p) t l w = alone_stepped n (Exp.literal v p) t (omega arith) w
 stepped_view n (Exp.name x p) t l w = alone_stepped n (Exp.name x p) t (omega arith) w
+stepped_view n (Exp.func x p) t l w = absurd t
 stepped_view n (Exp.parens e) t l w = alone_stepped n (Exp.parens e) t (omega arith) w
 stepped_view n (Exp.parts o p es) t l w = alone_stepped n (Exp.parts o p es) t (omega arith) w
 stepped_view n (Exp.chain e ls) t l w = absurd (omega (arith, l, links_low ls))
@@ -118,6 +119,7 @@ primary_plain (Exp.literal (Lit.truth false) p) t l more = refl
 primary_plain (Exp.literal (Lit.num z) p) t l more = refl
 primary_plain (Exp.literal (Lit.text x) p) t l more = refl
 primary_plain (Exp.name x p) t l more = refl
+primary_plain (Exp.func x p) t l more = absurd t
 primary_plain (Exp.parens e) t l more = refl
 primary_plain (Exp.parts Form.list p es) t l more = refl
 primary_plain (Exp.parts Form.dict p es) t l more = refl
@@ -180,6 +182,7 @@ prefixed_view : (n : ℕ) (e : Exp) → IsTree e → 5 ≤ level e → weight e 
 unfolding prefixed
 prefixed_view n (Exp.literal v p) t l w = alone_prefixed n (Exp.literal v p) t (omega arith) w
 prefixed_view n (Exp.name x p) t l w = alone_prefixed n (Exp.name x p) t (omega arith) w
+prefixed_view n (Exp.func x p) t l w = absurd t
 prefixed_view n (Exp.parens e) t l w = alone_prefixed n (Exp.parens e) t (omega arith) w
 prefixed_view n (Exp.parts o p es) t l w = alone_prefixed n (Exp.parts o p es) t (omega arith) w
 prefixed_view n (Exp.chain e ls) t l w = absurd (omega (arith, l, links_low ls))
@@ -288,6 +291,7 @@ at_or_above m n h = pick (cases_order m n)
 chained_view : (l : Level) (n : ℕ) → IsChain l → (e : Exp) → IsTree e → rank l ≤ level e → weight e ≤ n → Chained l n e
 chained_view l n c (Exp.literal v p) t g w = let up = rank_step l in alone_chained l n (Exp.literal v p) t (omega (arith, up, c.1)) w
 chained_view l n c (Exp.name x p) t g w = let up = rank_step l in alone_chained l n (Exp.name x p) t (omega (arith, up, c.1)) w
+chained_view l n c (Exp.func x p) t g w = absurd t
 chained_view l n c (Exp.parens e) t g w = let up = rank_step l in alone_chained l n (Exp.parens e) t (omega (arith, up, c.1)) w
 chained_view l n c (Exp.parts o p es) t g w = let up = rank_step l in alone_chained l n (Exp.parts o p es) t (omega (arith, up, c.1)) w
 chained_view l n c (Exp.chain e Links.no_links) t g w = absurd (false≢true t.3)
@@ -355,6 +359,7 @@ joined_view : (j : Junction) (n : ℕ) (e : Exp) → IsTree e → junction_level
 unfolding joined
 joined_view j n (Exp.literal v p) t g w = alone_joined j n (Exp.literal v p) t (omega arith) w
 joined_view j n (Exp.name x p) t g w = alone_joined j n (Exp.name x p) t (omega arith) w
+joined_view j n (Exp.func x p) t g w = absurd t
 joined_view j n (Exp.parens e) t g w = alone_joined j n (Exp.parens e) t (omega arith) w
 joined_view j n (Exp.parts o p es) t g w = alone_joined j n (Exp.parts o p es) t (omega arith) w
 joined_view j n (Exp.chain e Links.no_links) t g w = absurd (false≢true t.3)
@@ -382,6 +387,7 @@ unique_junction j n u e d t r g m w a b s z h =
 some_weight : (e : Exp) → 1 ≤ weight e
 some_weight (Exp.literal v p) = omega arith
 some_weight (Exp.name x p) = omega arith
+some_weight (Exp.func x p) = omega arith
 some_weight (Exp.parens e) = omega arith
 some_weight (Exp.parts o p es) = omega arith
 some_weight (Exp.chain e ls) = omega arith

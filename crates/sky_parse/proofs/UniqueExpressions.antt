@@ -159,6 +159,7 @@ primary_view (Exp.literal (Lit.truth false) p) t l = inl (TokenKind.Word Word.Fa
 primary_view (Exp.literal (Lit.num z) p) t l = inl (TokenKind.Number z, p, refl, refl, λ more. refl)
 primary_view (Exp.literal (Lit.text x) p) t l = inl (TokenKind.Text x, p, refl, refl, λ more. refl)
 primary_view (Exp.name x p) t l = inl (TokenKind.Name x, p, refl, refl, λ more. refl)
+primary_view (Exp.func x p) t l = absurd t
 primary_view (Exp.parens e) t l = inr (Head.Parens, nowhere, Exps.exp e Exps.no_exps, (t, tt), refl, refl, omega arith, λ more. refl)
 primary_view (Exp.parts Form.list p es) t l = inr (Head.List, p, es, t.0, tt, refl, omega arith, λ more. refl)
 primary_view (Exp.parts Form.dict p es) t l = inr (Head.Dict, p, es, t.0, t.1, refl, omega arith, λ more. refl)

@@ -75,6 +75,7 @@ exp_first (Exp.literal (Lit.truth false) p) t more = refl
 exp_first (Exp.literal (Lit.num z) p) t more = refl
 exp_first (Exp.literal (Lit.text x) p) t more = refl
 exp_first (Exp.name x p) t more = refl
+exp_first (Exp.func x p) t more = absurd t
 exp_first (Exp.parens e) t more = refl
 exp_first (Exp.parts Form.list p es) t more = refl
 exp_first (Exp.parts Form.dict p es) t more = refl
@@ -104,6 +105,7 @@ named_behind (Exp.literal (Lit.truth false) p) t more b x q rest h = let k = sam
 named_behind (Exp.literal (Lit.num z) p) t more b x q rest h = let k = same_kind h in absurd cc
 named_behind (Exp.literal (Lit.text y) p) t more b x q rest h = let k = same_kind h in absurd cc
 named_behind (Exp.name y p) t more b x q rest h = (more, b, peel h)
+named_behind (Exp.func y p) t more b x q rest h = absurd t
 named_behind (Exp.parens e) t more b x q rest h = let k = same_kind h in absurd cc
 named_behind (Exp.parts Form.list p es) t more b x q rest h = let k = same_kind h in absurd cc
 named_behind (Exp.parts Form.dict p es) t more b x q rest h = let k = same_kind h in absurd cc

@@ -72,6 +72,7 @@ abbrev mutual
   pub spell : Exp → List Mark → List Mark
   spell (Exp.literal v p) more = Mark.placed (lit_kind v) p ∷ more
   spell (Exp.name x p) more = name_at x p ∷ more
+  spell (Exp.func x p) more = word_at Word.Function p ∷ more
   spell (Exp.parens e) more = sign Sign.OpenRound ∷ spell e (sign Sign.CloseRound ∷ more)
   spell (Exp.parts Form.list p es) more = sign_at Sign.OpenSquare p ∷ spell_exps es (sign Sign.CloseSquare ∷ more)
   spell (Exp.parts Form.dict p es) more = sign_at Sign.OpenCurly p ∷ spell_pairs es (sign Sign.CloseCurly ∷ more)
@@ -219,6 +220,7 @@ abbrev mutual
   pub IsTree : Exp → Type 0
   IsTree (Exp.literal v p) = Unit {0}
   IsTree (Exp.name x p) = Unit {0}
+  IsTree (Exp.func x p) = ⊥
   IsTree (Exp.parens e) = IsTree e
   IsTree (Exp.parts o p es) = AreTrees es × Fills o es
   IsTree (Exp.chain e ls) = IsTree e × (links_level ls < level e) × AreLinks (links_level ls) ls × (links_enough ls ≡ true)

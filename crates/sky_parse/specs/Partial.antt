@@ -29,6 +29,7 @@ abbrev mutual
   pub cut : Exp → (List Mark → Type 0) → List Mark → Type 0
   cut (Exp.literal v p) K = tok (Mark.placed (lit_kind v) p) K
   cut (Exp.name x p) K = tok (name_at x p) K
+  cut (Exp.func x p) K = tok (word_at Word.Function p) K
   cut (Exp.parens e) K = tok (sign Sign.OpenRound) (cut e (tok (sign Sign.CloseRound) K))
   cut (Exp.parts Form.list p es) K = tok (sign_at Sign.OpenSquare p) (cut_exps es (tok (sign Sign.CloseSquare) K))
   cut (Exp.parts Form.dict p es) K = tok (sign_at Sign.OpenCurly p) (cut_pairs es (tok (sign Sign.CloseCurly) K))

@@ -20,7 +20,7 @@ params_view (x ∷ xs) = record { name = x.name; place = at x.line x.col } ∷ p
 
 -- a function, and the place of the first of its parameters whose name an earlier one has
 abbrev pub IsFunction : Def → Option (ℕ × ℕ) → List Token → List Token → Type 0
-IsFunction d twice ts rest = (ps : List Param) × (param_names ps ≡ d.params) × AreStms d.body × (place_of twice ≡ same_params [] ps)
+IsFunction d twice ts rest = (ps : List Param) × (param_names ps ≡ d.params) × (d.uses ≡ []) × AreStms d.body × (place_of twice ≡ same_params [] ps)
     × ((t : Token) → t.kind ≡ TokenKind.Word Word.Function → Spelled (spell_fun (record { name = d.name; place = at d.line d.col; params = ps; body = d.body })) (t ∷ ts) rest)
 
 abbrev pub IsRead : Read → List Top → Type 0

@@ -33,7 +33,7 @@ param_names [] = []
 param_names (x ∷ xs) = x.name ∷ param_names xs
 
 abbrev pub def_of : Fun → FunDef
-def_of f = record { name = f.name; params = param_names f.params; body = f.body; place = f.place }
+def_of f = record { name = f.name; params = param_names f.params; body = f.body; place = f.place; uses = [] }
 
 abbrev pub top_defs : Top → List FunDef → List FunDef
 top_defs (Top.fun f) rest = def_of f ∷ rest

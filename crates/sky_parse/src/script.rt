@@ -150,6 +150,8 @@ fn function(alloc: Global, ts: &[Token]) -> Result<(FunDef, Option<(u32, u32)>, 
         return Err(Fail::Memory)
     };
     let (body, rest) = block(alloc, rest)?;
+    // A function with a name captures nothing.
+    let uses = Texts::of(Vec::new(alloc));
     Ok((
         FunDef {
             name,
@@ -157,6 +159,7 @@ fn function(alloc: Global, ts: &[Token]) -> Result<(FunDef, Option<(u32, u32)>, 
             body,
             line,
             col,
+            uses,
         },
         twice,
         rest,

@@ -8,3 +8,4 @@ pub mod SpellingUtf8
 pub mod Decimal
 pub mod SpellingLaw
 pub mod PartsLaw
+pub mod Within

@@ -138,3 +138,11 @@ unfoldable pub tokens_of : List ℕ → Result (List Token) LexRefusal
 tokens_of bytes =
     if utf8_valid_len bytes == length bytes then tokens_from bytes 0 0 bytes
     else Err (LexRefusal.BadByte (utf8_valid_len bytes))
+
+-- the byte at which bytes are refused
+abbrev pub byte_of : LexRefusal → ℕ
+byte_of (LexRefusal.BadByte byte) = byte
+byte_of (LexRefusal.OpenText byte) = byte
+byte_of (LexRefusal.BadEscape byte) = byte
+byte_of (LexRefusal.BigNumber byte) = byte
+byte_of LexRefusal.Memory = 0

@@ -2,7 +2,7 @@
 
 ghost use Rattle.std.specs.Prelude.{◌≡◌, ◌≤◌, ◌<◌, ◌+◌, ◌^◌, ◌==◌, if◌then◌else◌, ◌⊎◌, count_by, length, not, IfOk, IfErr, Ok, Err};
 ghost use Rattle.std.specs.Str.{IsUtf8};
-ghost use Rattle.sky_text.specs.Lexing.{tokens_of};
+ghost use Rattle.sky_text.specs.Lexing.{byte_of, tokens_of};
 ghost use Rattle.sky_text.specs.Place.{is_line_feed, place_of};
 ghost use Rattle.std.specs.List.{suffix_len};
 
@@ -32,7 +32,11 @@ pub enum LexRefusal {
 pub fn lex(alloc: Global, bytes: &[u8]) -> Result<Vec<Token>, LexRefusal>
     requires { length bytes.now ≤ 1048576 }
     ensures tokens { IfOk result (λ ts. tokens_of bytes.now ≡ Ok ts.items) }
+    // No token is without a byte.
+    ensures few { IfOk result (λ ts. length ts.items ≤ length bytes.now) }
     ensures refused { IfErr result (λ e. (e ≡ LexRefusal.Memory) ⊎ (tokens_of bytes.now ≡ Err e)) }
+    // What is refused is a byte of these, or their end.
+    ensures within { IfErr result (λ e. byte_of e ≤ length bytes.now) }
 {
     match str::from_utf8(bytes) {
         Ok(_) => read(alloc, bytes),

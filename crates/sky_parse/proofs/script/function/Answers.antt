@@ -14,6 +14,7 @@ returns-clause-tree c =
     let seen = c.deref.ensures.value in (
       ps,
       sym (c.in-Ok.ensures.0 ∙ ap (λ (xs : List Parameter). param_names (params_view xs)) seen),
+      c.of-uses.ensures ∙ c.new.ensures.items,
       b.0,
       c.in-Ok.ensures.1 ∙ ap (λ (xs : List Parameter). same_params [] (params_view xs)) seen,
       λ t k. fun_spelled t c.args.ts.now c.in_ok-name.rest.now c.in_ok-rest.rest.now c.in_ok-params.rest.now c.in_ok-body.rest.now

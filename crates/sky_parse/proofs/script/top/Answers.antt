@@ -24,10 +24,10 @@ returns-in-Some-clause-tree c =
     let known : c.taken-known.result ≡ among d.name (fun_names c.args.read.now.funs.items) = c.taken-known.ensures ∙ ap (λ (xs : List Def). among d.name (fun_names xs)) (c.deref.ensures.value ∙ c.reserve.ensures.items) in
     let noted : place_of c.noted.result ≡ first_of old (at_twice (among d.name (fun_names c.args.read.now.funs.items)) (at d.line d.col)) = c.noted.ensures ∙ ap (λ (b : Bool). first_of old (at_twice b (at d.line d.col))) known in (
       Top.fun f,
-      tree.2,
-      fun_stands c.args.ts.now c.in-Some.after.now c.in_ok-fun.rest.now c.in-Some.field-0-0.now f some.0 some.1 tree.4,
-      λ tops h. read_fun c.args.read.now.funs.items c.push_reserved.new.self.items c.args.read.now.main.items c.reserve-2.new.self.items old (place_of c.or_else-read.result) d f tops all c.reserve-2.ensures.items (def_is d tree.0 tree.1)
-          (c.or_else-read.ensures ∙ (λ i. first_of (noted i) (tree.3 i))) h.0 h.1 h.2,
+      tree.3,
+      fun_stands c.args.ts.now c.in-Some.after.now c.in_ok-fun.rest.now c.in-Some.field-0-0.now f some.0 some.1 tree.5,
+      λ tops h. read_fun c.args.read.now.funs.items c.push_reserved.new.self.items c.args.read.now.main.items c.reserve-2.new.self.items old (place_of c.or_else-read.result) d f tops all c.reserve-2.ensures.items (def_is d tree.0 tree.1 tree.2)
+          (c.or_else-read.ensures ∙ (λ i. first_of (noted i) (tree.4 i))) h.0 h.1 h.2,
     )
 
 pub returns-clause-tree : goal.returns-clause-tree

@@ -1,24 +1,17 @@
 -- A script has no more tokens than bytes, and no byte that is refused stands behind their end.
-use Rattle.std.proofs.Common.{◌≡◌, ℕ, zero, suc, ◌+◌, ◌-◌, ◌≤◌, Bool, cond, List, [], ◌∷◌, length, Option, Some, None, Result, Ok, Err, ◌⊎◌, inl, inr, subst, arith}
+use Rattle.std.proofs.Common.{Vec, Global, ◌≡◌, ℕ, zero, suc, ◌+◌, ◌-◌, ◌≤◌, Bool, cond, List, [], ◌∷◌, length, Option, Some, None, Result, Ok, Err, IfOk, IfErr, ◌⊎◌, inl, inr, subst, arith}
 use Rattle.std.specs.Prelude.{◌==◌, nat_lt}
 use Rattle.std.specs.Char.{is_ascii_digit}
 use Rattle.std.specs.List.{take_while}
 use Rattle.std.specs.Str.Lossy.{utf8_valid_len}
 use Rattle.std.proofs.lemmas.Bool.{cond_both}
 use Rattle.std.proofs.lemmas.Str.{utf8_valid_len_le}
-use Rattle.sky_text.specs.Lexing.{and_then, with_byte, unescaped, is_escape, named, number, number_of, begins_name, goes_on_name, gap_len, text_from, text_at, short_or_bad, long_or_short, sign_at, token_at, token_of, tokens_from, tokens_of}
+use Rattle.sky_text.specs.Lexing.{and_then, with_byte, unescaped, is_escape, named, number, number_of, begins_name, goes_on_name, gap_len, text_from, text_at, short_or_bad, long_or_short, sign_at, token_at, token_of, tokens_from, tokens_of, byte_of}
 use Rattle.sky_text.specs.Words.{short_sign, long_sign}
 use Rattle.sky_text.specs.declared.token.Sign.{Sign}
 use Rattle.sky_text.specs.declared.token.TokenKind.{TokenKind}
 use Rattle.sky_text.specs.declared.token.Token.{Token}
 use Rattle.sky_text.specs.declared.lex.LexRefusal.{LexRefusal}
-
-abbrev pub byte_of : LexRefusal → ℕ
-byte_of (LexRefusal.BadByte byte) = byte
-byte_of (LexRefusal.OpenText byte) = byte
-byte_of (LexRefusal.BadEscape byte) = byte
-byte_of (LexRefusal.BigNumber byte) = byte
-byte_of LexRefusal.Memory = 0
 
 -- a refusal stands at this byte or before it
 abbrev Refuses : {A : Type 0} → ℕ → Result A LexRefusal → Type 0
@@ -121,10 +114,13 @@ tokens_within bytes =
     (λ _. let none : 0 + length bytes ≡ length bytes = omega arith in subst (λ (x : ℕ). Within (length bytes) x (tokens_from bytes 0 0 bytes)) none (within_from bytes 0 0 bytes))
     (λ _. utf8_valid_len_le bytes)
 
--- what a script's bytes are refused at is one of them, or their end
-pub refused_at : (bytes : List ℕ) (e : LexRefusal) → (e ≡ LexRefusal.Memory) ⊎ (tokens_of bytes ≡ Err e) → byte_of e ≤ length bytes
-refused_at bytes e (inl h) = rw h (omega arith)
-refused_at bytes e (inr h) = subst (λ (r : Result (List Token) LexRefusal). Within (length bytes) (length bytes) r) h (tokens_within bytes)
+-- no more tokens than bytes, where this is their answer
+pub few_tokens : (bytes : List ℕ) (r : Result (Vec Token Global) LexRefusal) → IfOk r (λ ts. tokens_of bytes ≡ Ok ts.items) → IfOk r (λ ts. length ts.items ≤ length bytes)
+few_tokens bytes (Ok ts) h = subst (λ (x : Result (List Token) LexRefusal). Within (length bytes) (length bytes) x) h (tokens_within bytes)
+few_tokens bytes (Err e) h = tt
 
-pub few_tokens : (bytes : List ℕ) (ts : List Token) → tokens_of bytes ≡ Ok ts → length ts ≤ length bytes
-few_tokens bytes ts h = subst (λ (r : Result (List Token) LexRefusal). Within (length bytes) (length bytes) r) h (tokens_within bytes)
+-- what is refused is a byte of these, or their end
+pub refused_within : {A : Type 0} (bytes : List ℕ) (r : Result A LexRefusal) → IfErr r (λ e. (e ≡ LexRefusal.Memory) ⊎ (tokens_of bytes ≡ Err e)) → IfErr r (λ e. byte_of e ≤ length bytes)
+refused_within bytes (Ok a) h = tt
+refused_within bytes (Err e) (inl h) = rw h (omega arith)
+refused_within bytes (Err e) (inr h) = subst (λ (x : Result (List Token) LexRefusal). Within (length bytes) (length bytes) x) h (tokens_within bytes)

@@ -1,0 +1,10 @@
+use Rattle.std.proofs.Common.{rules, ◌≡◌, sym, subst, ap, ◌∙◌, None}
+use Rattle.std.specs.Prelude.{IsSome}
+use Rattle.ciel_lanes.specs.Seen.{known, DeskSeen}
+use Rattle.ciel_lanes.proofs.Seeing.{fitting, after_take}
+use Rattle.ciel_lanes.proofs.desk.Desk.take.Goals as goal
+
+pub returns-in-Output : goal.returns-in-Output
+returns-in-Output g c = record {
+  taken = after_take g.W.Work.takes g.W.Work.fits (known c.self.inside.pass) (known c.receive.new.pass) _ c.args.self.now c.self.view_is c.self.invariant.2 c.requires.out (c.in-Output.ensures.taken.0 c.self.invariant.2.0);
+}
