@@ -4,6 +4,4 @@
 #![tactic(auto)]
 
 pub mod read;
-#[cfg(test)]
-mod tests;
 pub mod write;

@@ -59,7 +59,7 @@ mutual
   rank_in (v.text t) d i = absurd i
   rank_in (v.list vs) d i = ranks_in vs d i
   rank_in (v.dict ps) d i = pair_ranks_in ps d i
-  rank_in (v.fun f) d i = absurd i
+  rank_in (v.fun f c) d i = pair_ranks_in c d i
   rank_in (v.ref e) d (inl s) = let q = ap desc_rank s in omega (arith, q)
   rank_in (v.ref e) d (inr i) = absurd i
 
@@ -91,7 +91,7 @@ module _ (job : s.Job) (around : s.Around) (name : s.Desc → Digest) (mark : s.
   marks_each k (d ∷ ds) h = (mark_seen (s.see job around k d) h.0, marks_each k ds h.1)
 
   own : (d e : s.Desc) → t.maker e ≡ Some (n.Task.of d) → t.maker d ≡ Some (n.Task.of d)
-  own d (v.call f vs) h = let q : v.call f vs ≡ d = cc in subst (λ x. t.maker x ≡ Some (n.Task.of x)) q refl
+  own d (v.call f c vs) h = let q : v.call f c vs ≡ d = cc in subst (λ x. t.maker x ≡ Some (n.Task.of x)) q refl
   own d (v.out x a m i) h = pick (nat_lt i m) refl h
     where
       pick : (b : Bool) → nat_lt i m ≡ b → n.only_if b (Some (n.Task.of (v.out x a m 0))) ≡ Some (n.Task.of d) → t.maker d ≡ Some (n.Task.of d)
@@ -105,7 +105,7 @@ module _ (job : s.Job) (around : s.Around) (name : s.Desc → Digest) (mark : s.
 
   smaller : (d e : s.Desc) (u : n.Task) → t.maker d ≡ Some u → In e (t.first_of u) → (u ≡ n.Task.show → ⊥) → desc_rank e < desc_rank d
   smaller d e n.Task.show h i nr = absurd (nr refl)
-  smaller d e (n.Task.of (v.call f vs)) h i nr = absurd i
+  smaller d e (n.Task.of (v.call f c vs)) h i nr = absurd i
   smaller d e (n.Task.of (v.out x a m j)) h i nr = go d h
     where
       below : desc_rank e ≤ rank a
@@ -116,7 +116,7 @@ module _ (job : s.Job) (around : s.Around) (name : s.Desc → Digest) (mark : s.
       out_go y b k l false g = cc
 
       go : (d : s.Desc) → t.maker d ≡ Some (n.Task.of (v.out x a m j)) → desc_rank e < desc_rank d
-      go (v.call f vs) g = cc
+      go (v.call f c vs) g = cc
       go (v.out y b k l) g = out_go y b k l (nat_lt l k) g
       go (v.input k) g = cc
       go (v.known b) g = absurd b

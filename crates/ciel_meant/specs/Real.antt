@@ -60,7 +60,7 @@ abbrev mutual
   rank (v.text t) = 0
   rank (v.list vs) = ranks vs
   rank (v.dict ps) = pair_ranks ps
-  rank (v.fun f) = 0
+  rank (v.fun f c) = pair_ranks c
   rank (v.ref d) = desc_rank d
 
   pub ranks : v.Vals ⊥ → ℕ
@@ -72,7 +72,7 @@ abbrev mutual
   pair_ranks (v.pair k x ps) = rank x + pair_ranks ps
 
   pub desc_rank : v.Desc ⊥ → ℕ
-  desc_rank (v.call f vs) = suc (ranks vs)
+  desc_rank (v.call f c vs) = suc (pair_ranks c + ranks vs)
   desc_rank (v.out x a n i) = suc (rank a)
   desc_rank (v.input k) = 0
   desc_rank (v.known b) = 0

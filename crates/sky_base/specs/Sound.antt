@@ -26,9 +26,9 @@ TakesIf (Some f) c = AllUsed f.uses c
 
 -- K says which names may stand inside
 module _ {N : Type 0} (K : N → Type 0) (sc : Script) where
-  -- each function in a value is of the script, and each description that it refers to is sound; one is sound where its
-  -- arguments keep the limits and are so too, a call is of `main` or of a function of the script, and the index of an
-  -- output is below the number of outputs, which is up to 64
+  -- each function in a value is of the script and captured only what it uses, and each description that it refers to is
+  -- sound; one is sound where its arguments and captured pairs keep the limits and are so too, a call is of `main` with
+  -- nothing captured or of such a function, and the index of an output is below the number of outputs, which is up to 64
   abbrev mutual
     pub RefsOver : Val N → Type 0
     RefsOver null = Unit {0}

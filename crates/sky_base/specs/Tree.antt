@@ -236,12 +236,13 @@ abbrev mutual
 abbrev pub block_nodes : Stms → ℕ
 block_nodes b = 1 + stms_nodes b
 
+-- a named function with the place of its name, or an anonymous one, whose name is `#k`, with the place of its word
 pub record FunDef : Type 0 where
   pub name : List ℕ
   pub params : List (List ℕ)
   pub body : Stms
   pub place : Place
-  -- the names of the variables that it captures, rising; none for a named function
+  -- the names that an anonymous one captures where they are set: those in its body that are no parameters; none for a named one
   pub uses : List (List ℕ)
 
 pub record Script : Type 0 where

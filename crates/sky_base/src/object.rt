@@ -8,10 +8,11 @@ use crate::text::{Bytes, Memory, Txt};
 use crate::value::{Pairs, Vals, Value};
 
 /// A description one level deep: what an object is the result of. The script's main body is the call
-/// with the empty function name and no arguments.
+/// with the empty function name, nothing captured and no arguments.
 #[derive(Drop)]
 pub enum Desc1 {
-    /// What a call of a function of the script returns.
+    /// What a call of a function of the script returns. `caught` is what the function captured, none for
+    /// a named one.
     Call {
         fun: Txt,
         caught: Pairs,

@@ -40,7 +40,8 @@ impl Texts {
     }
 }
 
-/// A function of a script, with the place of its name.
+/// A function of a script: a named one with the place of its name, or an anonymous one, whose name is
+/// `#k`, with the place of its word.
 #[derive(Drop)]
 pub struct FunDef {
     pub name: Txt,
@@ -48,7 +49,8 @@ pub struct FunDef {
     pub body: Block,
     pub line: u32,
     pub col: u32,
-    /// The names of the variables that it captures, rising; none for a named function.
+    /// The names that an anonymous function captures where they are set: those that stand in its body,
+    /// bodies inside it included, without its parameters. None for a named function.
     pub uses: Texts,
 }
 

@@ -11,7 +11,6 @@ use std::marker::Model;
 
 /// A statement.
 #[cycle(stmt)]
-#[derive(Drop)]
 pub enum Stmt {
     Set {
         name: Txt,
@@ -71,6 +70,73 @@ pub enum Stmt {
         col: u32,
         inner: Expr,
     },
+}
+
+// Written by hand, so that a statement that is let go of is one call and not a match over all forms.
+impl Drop for Stmt {
+    #[cycle(stmt_drop)]
+    fn drop(self) {
+        match self {
+            Stmt::Set {
+                name: _,
+                line: _,
+                col: _,
+                value: _,
+            } => {}
+            Stmt::Add {
+                name: _,
+                name_line: _,
+                name_col: _,
+                line: _,
+                col: _,
+                value: _,
+            } => {}
+            Stmt::Put {
+                name: _,
+                name_line: _,
+                name_col: _,
+                line: _,
+                col: _,
+                at: _,
+                value: _,
+            } => {}
+            Stmt::Return {
+                line: _,
+                col: _,
+                value: _,
+            } => {}
+            Stmt::If {
+                line: _,
+                col: _,
+                arms: _,
+                otherwise: _,
+            } => {}
+            Stmt::While {
+                line: _,
+                col: _,
+                test: _,
+                body: _,
+            } => {}
+            Stmt::Do {
+                line: _,
+                col: _,
+                body: _,
+                test: _,
+            } => {}
+            Stmt::For {
+                line: _,
+                col: _,
+                name: _,
+                list: _,
+                body: _,
+            } => {}
+            Stmt::Just {
+                line: _,
+                col: _,
+                inner: _,
+            } => {}
+        }
+    }
 }
 
 /// A block.

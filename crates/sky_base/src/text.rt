@@ -1,4 +1,4 @@
-// Texts, byte lists and names. A text and a byte list may have several owners, by `Arc`, so that
+// Texts and byte lists. A text and a byte list may have several owners, by `Arc`, so that
 // sharing one takes constant time.
 
 ghost use Rattle.std.specs.Prelude.{◌≡◌, ◌↔◌, IfOk, IsTrue, [], length, string_bytes};

@@ -152,8 +152,9 @@ pub enum Expr {
     },
 }
 
+// Written by hand, so that a value that is let go of is one call and not a match over all forms.
 impl Drop for Expr {
-    #[cycle(drop)]
+    #[cycle(expr_drop)]
     fn drop(self) {
         match self {
             Expr::Literal {

@@ -32,12 +32,14 @@ pub enum Value {
     Text(Txt),
     List(Vals),
     Dict(Pairs),
-    /// A function, by its name, and what it captured.
+    /// A function, by its name, with the pairs that it captured: variables of its body from the start. A
+    /// named function has none; an anonymous one has the name `#k`, k its number in the script.
     Fun { name: Txt, caught: Pairs },
     /// A reference to the object of this name.
     Ref(Name),
 }
 
+// Written by hand, so that a value that is let go of is one call and not a match over all kinds.
 impl Drop for Value {
     #[cycle(value_drop)]
     fn drop(self) {
@@ -46,9 +48,9 @@ impl Drop for Value {
             Value::Bool(_) => {}
             Value::Int(_) => {}
             Value::Text(_) => {}
-            Value::Fun { name: _, caught: _ } => {}
             Value::List(_) => {}
             Value::Dict(_) => {}
+            Value::Fun { name: _, caught: _ } => {}
             Value::Ref(_) => {}
         }
     }
@@ -215,8 +217,9 @@ impl Value {
     }
 
     /// The size, at most 262,144. Null, a truth value and a number have size 1, a text 1 and its bytes,
-    /// a function 1 and the bytes of its name, a list 1 and the sizes of its elements, a dictionary 1,
-    /// the bytes of its keys and the sizes of its values, and a reference 20.
+    /// a function 1, the bytes of its name, the bytes of its captured keys and the sizes of its captured
+    /// values, a list 1 and the sizes of its elements, a dictionary 1, the bytes of its keys and the sizes
+    /// of its values, and a reference 32, however long names are.
     pub fn size(&self) -> u64
         requires { size (view self.now) ≤ 262144 }
         ensures { result ≡ size (view self.now) }
@@ -224,8 +227,8 @@ impl Value {
         self.totals().size
     }
 
-    /// The depth, at most 100: 1, and for a list or a dictionary that isn't empty 1 more than that of
-    /// the deepest value in it.
+    /// The depth, at most 100: 1, and for a list or a dictionary that isn't empty, or a function that
+    /// captured something, 1 more than that of the deepest value in it.
     pub fn depth(&self) -> u32
         requires { depth (view self.now) ≤ 100 }
         ensures { result ≡ depth (view self.now) }

@@ -1,8 +1,9 @@
 // The texts of some values and the values of some texts, from outside the definitions.
 
-use crate::read::{ToValue, to_value};
-use crate::write::{ToText, to_text};
-use sky_base::text::{Name, Txt};
+use ciel_json::read::{ToValue, to_value};
+use ciel_json::write::{ToText, to_text};
+use sky_base::name::Name;
+use sky_base::text::Txt;
 use sky_base::value::{Pairs, Vals, Value};
 use std::alloc::{AllocError, Global};
 use std::process::Abort;
@@ -65,12 +66,11 @@ fn numbers_and_texts(rt: HostRuntime) -> Result<(), Fail> {
     writes(&rt, alloc, Value::Int(i64::MIN), Ok("-9223372036854775808"));
     let escaped = Ok("\"x\\n\\\"\\\\/\\u0001\u{e9}\"");
     writes(&rt, alloc, text(alloc, "x\n\"\\/\u{1}\u{e9}")?, escaped);
-    writes(
-        &rt,
-        alloc,
-        Value::Fun(Txt::new(alloc, "f")?),
-        Err(ToText::NotText),
-    );
+    let fun = Value::Fun {
+        name: Txt::new(alloc, "f")?,
+        caught: Pairs::new(alloc),
+    };
+    writes(&rt, alloc, fun, Err(ToText::NotText));
     Ok(())
 }
 

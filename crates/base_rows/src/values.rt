@@ -1,17 +1,17 @@
-// Answers that come from outside the definitions, and each call that may answer `Memory` once with
-// ample memory. The steps are small functions, since each is proved.
+// Operators on values: answers that come from outside the definitions, and each call that may answer
+// `Memory` once with ample memory. The steps are small functions, since each is proved.
 
 ghost use Rattle.std.specs.Prelude.{◌≡◌, IfOk};
 ghost use Rattle.sky_base.specs.Kept.{Kept};
 ghost use Rattle.sky_base.specs.View.{view};
 
-use crate::compare::compare;
-use crate::fault::FaultKind;
-use crate::object::{Desc1, Named, Object};
-use crate::op::{OpRefusal, append, index, limited, minus, over, plus, rest, set_at, times};
-use crate::text::{Bytes, Name, Txt};
-use crate::tree::Cmp;
-use crate::value::{Pairs, Vals, Value};
+use sky_base::compare::compare;
+use sky_base::fault::FaultKind;
+use sky_base::name::Name;
+use sky_base::op::{OpRefusal, append, index, limited, minus, over, plus, rest, set_at, times};
+use sky_base::text::Txt;
+use sky_base::tree::Cmp;
+use sky_base::value::{Pairs, Vals, Value};
 use std::alloc::Global;
 use std::test::Fail;
 
@@ -105,8 +105,8 @@ fn lists_are_joined_indexed_set_and_grown(rt: HostRuntime) -> Result<(), Fail> {
 }
 
 fn number(answer: Result<Value, FaultKind>) -> Result<i64, FaultKind> {
-    match answer? {
-        Value::Int(n) => Ok(n),
+    match &answer? {
+        Value::Int(n) => Ok(*n),
         _ => Err(FaultKind::WrongCount),
     }
 }
@@ -166,7 +166,7 @@ fn values_are_compared(rt: HostRuntime) -> Result<(), Fail> {
     ] {
         assert!(rt; is_before(alloc, how)? == Ok(want));
     }
-    let name = Value::Ref(Name { bytes: [1; 20] });
+    let name = Value::Ref(Name::short([1; 20]));
     assert!(rt; compare(Cmp::Eq, &Value::Int(0), &Value::Bool(false)) == Ok(false));
     assert!(rt; compare(Cmp::Lt, &Value::Int(0), &Value::Null) == Err(FaultKind::BadKind));
     assert!(rt; compare(Cmp::Ne, &name, &Value::Null) == Err(FaultKind::BadKind));
@@ -239,43 +239,5 @@ fn values_end_at_their_limits(rt: HostRuntime) -> Result<(), Fail> {
     assert!(rt; joins_to(alloc, 131_072)? == Err(OpRefusal::Refused(FaultKind::TooLarge)));
     assert!(rt; nests_to(alloc, 98)? == Ok(()));
     assert!(rt; nests_to(alloc, 99)? == Err(OpRefusal::Refused(FaultKind::TooDeep)));
-    Ok(())
-}
-
-fn keeps_first_places(alloc: Global) -> Result<bool, Fail> {
-    let mut values = Vals::new(alloc);
-    for byte in [2, 1, 2] {
-        values.push(Value::Ref(Name { bytes: [byte; 20] }))?;
-    }
-    let names = Value::List(values).refs(alloc)?;
-    Ok(names.as_slice() == [Name { bytes: [2; 20] }, Name { bytes: [1; 20] }].as_slice())
-}
-
-fn copies_a_description(alloc: Global) -> Result<bool, Fail> {
-    let name = Name { bytes: [1; 20] };
-    let desc = Desc1::Input {
-        key: Txt::new(alloc, "a")?,
-    };
-    match (Named { name, desc }).copy()?.desc {
-        Desc1::Input { key } => Ok(key.share()?.as_str() == "a"),
-        _ => Ok(false),
-    }
-}
-
-fn copies_an_object(alloc: Global) -> Result<bool, Fail> {
-    let mut bytes = Vec::new(alloc);
-    bytes.push(b'a')?;
-    match Object::Bytes(Bytes::new(alloc, bytes)?).copy()? {
-        Object::Bytes(bytes) => Ok(bytes.as_slice() == b"a".as_slice()),
-        _ => Ok(false),
-    }
-}
-
-#[test]
-fn names_and_contents_are_copied(rt: HostRuntime) -> Result<(), Fail> {
-    let alloc = rt.alloc();
-    assert!(rt; keeps_first_places(alloc)?);
-    assert!(rt; copies_a_description(alloc)?);
-    assert!(rt; copies_an_object(alloc)?);
     Ok(())
 }

@@ -1,0 +1,12 @@
+// Worked rows of values, names and data, called one by one. They stand in a crate of their own, since
+// a crate with tests is proved twice.
+#![tactic(auto)]
+
+#[cfg(test)]
+mod data;
+#[cfg(test)]
+mod functions;
+#[cfg(test)]
+mod names;
+#[cfg(test)]
+mod values;
