@@ -1,5 +1,5 @@
 -- The outputs of the lanes that were ended.
-use Rattle.std.proofs.Common.{◌≡◌, ℕ, zero, suc, ◌+◌, ◌≤◌, ◌<◌, List, [], ◌∷◌, ◌++◌, length, sym, refl, ap, ◌∙◌, subst, arith, length-append, append_assoc, true, false}
+use Rattle.std.proofs.Common.{◌≡◌, ℕ, ◌+◌, ◌≤◌, List, [], ◌∷◌, ◌++◌, length, sym, refl, ap, ◌∙◌, subst, arith, length-append, true, false}
 use Rattle.std.specs.Prelude.{Option, Some, None, IsNone, IsSomeAnd, MatchOption}
 use Rattle.std.proofs.lemmas.List.{append-nil}
 use Rattle.ciel_lanes.specs.Seen.{LaneSeen, Closes}

@@ -1,15 +1,14 @@
 -- Each step of a desk keeps its rule.
-use Rattle.std.proofs.Common.{◌≡◌, ℕ, zero, suc, ◌+◌, ◌<◌, List, [], ◌∷◌, ◌++◌, length, set, sym, refl, ap, ◌∙◌, subst, arith, length-append, inl, inr}
-use Rattle.std.specs.Prelude.{Option, Some, None, ⊤, ◌⊎◌}
+use Rattle.std.proofs.Common.{◌≡◌, ℕ, zero, suc, ◌+◌, List, [], ◌∷◌, ◌++◌, length, set, sym, refl, ap, ◌∙◌, subst, arith, length-append, inl, inr}
+use Rattle.std.specs.Prelude.{Some}
 use mathlib.Core.Option.{some, some-injective, some-ne-none}
 use lib.ListN.{get_elem?}
-use Rattle.crossbeam_channel.specs.Fifo.{Pushes, Pops, Forks, Learns}
+use Rattle.crossbeam_channel.specs.Fifo.{Pushes, Pops, Forks}
 use Rattle.ciel_lanes.specs.declared.notes.Knows.{Knows}
-use Rattle.ciel_lanes.specs.declared.notes.Role.{Role}
 use Rattle.ciel_lanes.specs.declared.notes.Role.TheVariants.{Alone, Master, Worker}
 use Rattle.ciel_lanes.specs.declared.notes.Note.{Note}
 use Rattle.ciel_lanes.specs.declared.notes.Note.TheVariants.{Job, Output}
-use Rattle.ciel_lanes.specs.Desk.{alone, master, worker, fresh_master, fresh_worker, Idle, Waits, Works, Done, Case, idle, waits, works, done, Both, Stands, opened, both, TakesOutput, TakesJobBack, TakesJob, TakesOutputBack, HasPut, HasTaken, MayPut, MayTake}
+use Rattle.ciel_lanes.specs.Desk.{alone, fresh_master, fresh_worker, Case, idle, waits, works, done, Stands, opened, both, HasPut, HasTaken, MayPut, MayTake}
 
 at_one : {I : Type 0} (a v : Knows I) (pass : ℕ) → get_elem? (a ∷ []) pass ≡ some v → a ≡ v
 at_one a v zero e = some-injective a v e

@@ -1,9 +1,9 @@
 -- What is seen of a desk after a step.
-use Rattle.std.proofs.Common.{◌≡◌, ℕ, zero, suc, ◌+◌, ◌==◌, ◌<◌, List, [], ◌∷◌, ◌++◌, length, sym, refl, ap, ◌∙◌, subst, arith, length-append, inl, inr, true, false}
-use Rattle.std.specs.Prelude.{Option, Some, None, IfSome, IsSome, ◌⊎◌}
+use Rattle.std.proofs.Common.{◌≡◌, ℕ, ◌+◌, ◌==◌, ◌<◌, List, [], ◌∷◌, ◌++◌, length, sym, refl, ap, ◌∙◌, subst, arith, length-append, inl, inr, true, false}
+use Rattle.std.specs.Prelude.{Option, Some, None, IfSome, IsSome}
 use Rattle.std.proofs.lemmas.Bool.Decides.{nat_tests}
 use Rattle.ciel_lanes.specs.declared.notes.Knows.{Knows}
-use Rattle.ciel_lanes.specs.declared.notes.Role.TheVariants.{Master, Worker}
+use Rattle.ciel_lanes.specs.declared.notes.Role.TheVariants.{Master}
 use Rattle.ciel_lanes.specs.Desk.{TakesOutput}
 use Rattle.ciel_lanes.specs.Seen.{DeskSeen, desk_seen, last_of, IsDesk}
 

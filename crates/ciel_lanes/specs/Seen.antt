@@ -1,5 +1,5 @@
 -- What contracts see of a desk and of a chair.
-use Rattle.std.specs.Prelude.{◌≡◌, ℕ, ◌+◌, ◌==◌, Bool, true, false, List, [], ◌∷◌, ◌++◌, length, Option, Some, None, IsSome, MatchOption, slice_index_or, slice_set, ◌<◌, ◌⊎◌, if◌then◌else◌}
+use Rattle.std.specs.Prelude.{◌≡◌, ℕ, ◌+◌, ◌==◌, List, [], ◌∷◌, length, Option, Some, None, IsSome, MatchOption, slice_index_or, slice_set, ◌<◌, ◌⊎◌, if◌then◌else◌}
 use Rattle.ciel_lanes.specs.declared.notes.Knows.{Knows}
 use Rattle.ciel_lanes.specs.declared.notes.Role.TheVariants.{Master, Worker}
 use Rattle.crossbeam_channel.specs.Claims.{Pass, view}

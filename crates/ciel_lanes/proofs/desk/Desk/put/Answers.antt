@@ -1,4 +1,4 @@
-use Rattle.std.proofs.Common.{rules, ◌≡◌, sym, subst, ap, ◌∙◌, ◌++◌, ◌∷◌, [], Some, None}
+use Rattle.std.proofs.Common.{ap, ◌∙◌, ◌++◌, ◌∷◌, [], Some}
 use Rattle.ciel_lanes.specs.Seen.{known, DeskSeen}
 use Rattle.ciel_lanes.proofs.Seeing.{none_out, seen_put, is_put}
 use Rattle.ciel_lanes.proofs.desk.Desk.put.Goals as goal

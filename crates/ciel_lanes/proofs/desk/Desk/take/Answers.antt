@@ -1,7 +1,5 @@
-use Rattle.std.proofs.Common.{rules, ◌≡◌, sym, subst, ap, ◌∙◌, None}
-use Rattle.std.specs.Prelude.{IsSome}
-use Rattle.ciel_lanes.specs.Seen.{known, DeskSeen}
-use Rattle.ciel_lanes.proofs.Seeing.{fitting, after_take}
+use Rattle.ciel_lanes.specs.Seen.{known}
+use Rattle.ciel_lanes.proofs.Seeing.{after_take}
 use Rattle.ciel_lanes.proofs.desk.Desk.take.Goals as goal
 
 pub returns-in-Output : goal.returns-in-Output

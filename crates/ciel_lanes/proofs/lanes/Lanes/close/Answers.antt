@@ -1,4 +1,4 @@
-use Rattle.std.proofs.Common.{rules, ◌≡◌, ◌+◌, ◌++◌, ◌∷◌, [], length, sym, ap, ◌∙◌, subst, arith, length-append, append_assoc}
+use Rattle.std.proofs.Common.{◌++◌, ◌∷◌, [], sym, ap, ◌∙◌, arith, length-append, append_assoc}
 use Rattle.ciel_lanes.proofs.Closing.{closes, longer}
 use Rattle.ciel_lanes.proofs.lanes.Lanes.close.Goals as goal
 

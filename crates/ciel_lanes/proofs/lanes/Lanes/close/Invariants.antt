@@ -1,4 +1,4 @@
-use Rattle.std.proofs.Common.{◌≡◌, ◌≤◌, ◌+◌, ◌++◌, ◌^◌, ◌<◌, [], length, vec_capacity, None}
+use Rattle.std.proofs.Common.{◌≡◌, ◌≤◌, ◌++◌, ◌^◌, ◌<◌, length, vec_capacity}
 use Rattle.ciel_lanes.specs.Seen.{Closes}
 use Rattle.ciel_lanes.proofs.lanes.Lanes.close.Given as goal
 

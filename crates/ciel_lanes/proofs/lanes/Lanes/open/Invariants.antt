@@ -1,4 +1,4 @@
-use Rattle.std.proofs.Common.{◌≡◌, ◌≤◌, ◌+◌, [], length, vec_capacity, None}
+use Rattle.std.proofs.Common.{◌≡◌, ◌+◌, [], length, vec_capacity, None}
 use Rattle.std.specs.Prelude.{All}
 use Rattle.ciel_lanes.proofs.lanes.Lanes.open.Given as goal
 
