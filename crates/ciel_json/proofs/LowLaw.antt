@@ -9,9 +9,9 @@ use Rattle.serde_json.specs.Written.{compact_text}
 use Rattle.sky_base.specs.Val.{Val, Vals, Pairs, Desc, null, truth, num, text, list, dict, fun, ref, no_vals, val, no_pairs, pair, is_plain, vals_plain, pairs_plain}
 use Rattle.sky_base.specs.Op as op
 use Rattle.sky_base.specs.Name.{low, low_vals, low_pairs}
-use Rattle.sky_base.specs.Lower.{lower}
+use Rattle.sky_law.specs.Lower.{lower}
 use Rattle.sky_base.specs.declared.fault.FaultKind.{FaultKind}
-use Rattle.sky_base.proofs.Low.{limited_low, put_low}
+use Rattle.sky_law.proofs.Low.{limited_low, put_low}
 use Rattle.ciel_json.specs.Read.{value_of, values_of, pairs_onto, value_read, within_limits, nests_too_deep, reads}
 use Rattle.ciel_json.specs.Text.{json_of, items_of, members_of, text_of}
 

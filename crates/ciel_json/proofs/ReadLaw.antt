@@ -10,7 +10,7 @@ use Rattle.serde_json.specs.Read.{read}
 use Rattle.sky_base.specs.Val.{Val, Vals, Pairs, num, list, dict, val, no_pairs, pair, size, depth}
 use Rattle.sky_base.specs.Op.{Answer, limited, unless, put}
 use Rattle.sky_base.specs.Tree.{Script}
-use Rattle.sky_base.specs.Sound.{RefsOver, ValsOver, PairsOver, SoundOver, SoundRead, SoundReads}
+use Rattle.sky_law.specs.Sound.{RefsOver, ValsOver, PairsOver, SoundOver, SoundRead, SoundReads}
 use Rattle.sky_base.specs.KitView.{Gives}
 use Rattle.sky_base.specs.declared.fault.FaultKind.{FaultKind}
 use Rattle.ciel_json.specs.Read.{value_of, values_of, pairs_onto, value_read, within_limits, nests_too_deep, reads}

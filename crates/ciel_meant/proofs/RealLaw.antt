@@ -1,12 +1,12 @@
 -- The real job has the laws of a job.
 use Rattle.sky_base.specs.Val as v
-use Rattle.sky_base.specs.Tasks as t
+use Rattle.sky_law.specs.Tasks as t
 use Rattle.sky_base.specs.See as s
 use Rattle.sky_base.specs.Read as r
 use Rattle.sky_base.specs.Needed as n
-use Rattle.sky_base.proofs.TaskFuel as fuel
-use Rattle.sky_base.proofs.TaskOutputs as outs
-use Rattle.sky_base.proofs.SeenLaw as seen
+use Rattle.sky_law.proofs.TaskFuel as fuel
+use Rattle.sky_law.proofs.TaskOutputs as outs
+use Rattle.sky_law.proofs.SeenLaw as seen
 use Rattle.std.proofs.Common.{◌≡◌, ◌≢◌, ℕ, suc, ◌+◌, ◌≤◌, ◌<◌, List, [], ◌∷◌, ◌++◌, Bool, true, false, Option, Some, None, slice_get, inl, inr, refl, ap, sym, ◌∙◌, subst, arith, nat_lt, ltb-true, lt-ltb}
 use Rattle.ciel_journal.specs.Job.{Digest, Task, show, of, Held, Job, In, Each, IsJob, waits_in}
 use Rattle.ciel_meant.specs.Real.{back, forth, forth_if, act_of, acts_of, held_if, mark_if, real_job, rank, ranks, pair_ranks, desc_rank}

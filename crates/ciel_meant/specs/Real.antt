@@ -1,6 +1,6 @@
 -- The real job as a job of journals.
 use Rattle.sky_base.specs.Val as v
-use Rattle.sky_base.specs.Tasks as t
+use Rattle.sky_law.specs.Tasks as t
 use Rattle.sky_base.specs.See as s
 use Rattle.sky_base.specs.Read as r
 use Rattle.sky_base.specs.Needed as n
