@@ -8,10 +8,10 @@ use Rattle.sky_base.specs.Res.{bodies, Object}
 use Rattle.sky_base.specs.Eval.{World, body_at}
 use Rattle.sky_base.specs.ObjectView.{object_view}
 use Rattle.sky_base.specs.See.{Job, start_st, no_place, input_bytes}
-use Rattle.sky_base.specs.Sound.{RefsOver, ValsOver, PairsOver, DescOver}
+use Rattle.sky_law.specs.Sound.{RefsOver, ValsOver, PairsOver, DescOver}
 use Rattle.sky_base.specs.declared.fault.FaultKind.{FaultKind}
 use Rattle.sky_base.specs.declared.fault.Fault.{Fault}
-use Rattle.sky_base.specs.Tasks.{In, Apart}
+use Rattle.sky_law.specs.Tasks.{In, Apart}
 use Rattle.sky_base.specs.declared.object.Object as code
 use Rattle.ciel_json.specs.Around.{json_around}
 use Rattle.ciel_json.specs.Read.{reads}

@@ -5,11 +5,11 @@ use Rattle.sky_base.specs.Name.{low_vals, low_desc}
 use Rattle.sky_base.specs.Op.{Answer}
 use Rattle.sky_base.specs.Res.{Object}
 use Rattle.sky_base.specs.Read.{refs_of}
-use Rattle.sky_base.specs.Lower.{lower, low_ref}
+use Rattle.sky_law.specs.Lower.{lower, low_ref}
 use Rattle.sky_base.specs.See.{Desc, Job, Around, run_of, slot}
 use Rattle.sky_base.specs.Needed.{Task, task_of, halt_refs, Needed}
-use Rattle.sky_base.specs.Tasks.{In}
-use Rattle.sky_base.proofs.TaskOutputs.{contains_in}
+use Rattle.sky_law.specs.Tasks.{In}
+use Rattle.sky_law.proofs.TaskOutputs.{contains_in}
 use Rattle.sky_plain.specs.Walk.{Row, Stop, stops, number_of, learn_to}
 use Rattle.sky_plain.specs.Number.{index_of, tag_of, Grown}
 use Rattle.sky_plain.specs.Needs.{Waits, Chain, Makes}

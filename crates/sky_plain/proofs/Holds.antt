@@ -7,10 +7,10 @@ use Rattle.sky_base.specs.Tree.{nowhere, Script}
 use Rattle.sky_base.specs.Res.{others, bodies, Object, End}
 use Rattle.sky_base.specs.Eval.{World, body_at}
 use Rattle.sky_base.specs.See.{slot, start_st}
-use Rattle.sky_base.specs.Tasks.{In, Apart}
-use Rattle.sky_base.specs.Sound.{DescOver, SoundOver}
-use Rattle.sky_base.proofs.FineLaw.{Closed, ObjectOk, fine_call}
-use Rattle.sky_base.proofs.SoundOps.{SoundAnswer, sound_closed}
+use Rattle.sky_law.specs.Tasks.{In, Apart}
+use Rattle.sky_law.specs.Sound.{DescOver, SoundOver}
+use Rattle.sky_law.proofs.FineLaw.{Closed, ObjectOk, fine_call}
+use Rattle.sky_law.proofs.SoundOps.{SoundAnswer, sound_closed}
 use Rattle.sky_plain.specs.Walk.{Row, Stop, stops, walk, known_of, object_at, number_of, Numbers, most_rows}
 use Rattle.sky_plain.specs.Number.{index_of}
 use Rattle.sky_plain.specs.Stand.{Runs, EndsAs, WaitsFor, Puts, Below, RowFits, ObjectFits, Fits, StopFits, ReadFits}

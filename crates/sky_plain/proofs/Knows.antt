@@ -8,10 +8,10 @@ use Rattle.sky_base.specs.Tree.{nowhere}
 use Rattle.sky_base.specs.Res.{bodies, Object, End, St}
 use Rattle.sky_base.specs.Eval.{body_at}
 use Rattle.sky_base.specs.Read.{ended, outcome}
-use Rattle.sky_base.specs.Lower.{lower, low_ref, low_obj, low_end}
+use Rattle.sky_law.specs.Lower.{lower, low_ref, low_obj, low_end}
 use Rattle.sky_base.specs.See.{Desc, Job, Around, see, run_of, object_of, world_of, start_st}
-use Rattle.sky_base.proofs.LowLaw.{Rel, rel_call}
-use Rattle.sky_base.proofs.SeenLaw.{see_kept}
+use Rattle.sky_law.proofs.LowLaw.{Rel, rel_call}
+use Rattle.sky_law.proofs.SeenLaw.{see_kept}
 use Rattle.sky_plain.specs.Walk.{Row, Stop, stops, walk, known_of, object_at, Numbers, most_rows}
 use Rattle.sky_plain.specs.Number.{index_of, tag_of, numbered, Grown}
 use Rattle.sky_plain.specs.Stand.{spell, end_object, Runs, EndsAs, Puts, Sees, KnownAt, Knows}

@@ -4,14 +4,14 @@ use Rattle.std.proofs.lemmas.List.{append_assoc}
 use Rattle.sky_base.specs.Val.{Val, Desc, known, refs, vals_refs, pairs_refs, distinct, same_text}
 use Rattle.sky_base.specs.Names as names
 use Rattle.sky_base.specs.Res.{Object}
-use Rattle.sky_base.specs.Tasks.{In}
+use Rattle.sky_law.specs.Tasks.{In}
 use Rattle.sky_base.specs.View.{view, vals_of, pairs_of}
 use Rattle.sky_base.specs.declared.value.Value.{Value}
 use Rattle.sky_base.specs.declared.value.Pair.{Pair}
 use Rattle.sky_base.specs.declared.text.Name.{Name}
 use Rattle.sky_base.specs.declared.fault.Fault.{Fault}
 use Rattle.sky_base.proofs.Exact.{exact_text, self_text}
-use Rattle.sky_base.proofs.TaskOutputs.{in_distinct, distinct_in}
+use Rattle.sky_law.proofs.TaskOutputs.{in_distinct, distinct_in}
 use Rattle.sky_plain.specs.Walk.{Row, known_of}
 use Rattle.sky_plain.specs.Stage.{AllKnown}
 use Rattle.sky_plain.specs.Perform.{one_more, collect}

@@ -1,6 +1,6 @@
 -- What is held once one more description is made.
 use Rattle.std.proofs.Common.{◌≡◌, List, [], ◌∷◌, ◌++◌, length, Bool, true, false, Option, Some, None, ◌⊎◌, inl, inr, nat_lt}
-use Rattle.sky_base.specs.Tasks.{In}
+use Rattle.sky_law.specs.Tasks.{In}
 use Rattle.sky_plain.specs.Walk.{Row, in_room, if_new, most_rows}
 
 pub in_end : (e d : Row) (rows : List Row) → In e (rows ++ d ∷ []) → In e rows ⊎ (e ≡ d)

@@ -4,7 +4,7 @@ use Rattle.std.proofs.lemmas.List.{append-nil}
 use Rattle.sky_base.specs.Val.{same_text, same_desc, stands_in}
 use Rattle.sky_base.specs.Name.{low_desc}
 use Rattle.sky_base.specs.See.{Desc, Job, Around}
-use Rattle.sky_base.specs.Tasks.{In, Each, Apart}
+use Rattle.sky_law.specs.Tasks.{In, Each, Apart}
 use Rattle.sky_base.proofs.Exact.{self_text, self_desc}
 use Rattle.sky_plain.specs.Walk.{Row, is_held, in_room, if_new, learn_to, most_rows}
 use Rattle.sky_plain.specs.Number.{tag_of, Grown}

@@ -2,7 +2,7 @@
 use Rattle.std.proofs.Common.{◌≡◌, ◌<◌, ℕ, zero, suc, List, [], ◌∷◌, ◌++◌, length, Bool, true, false, Some, slice_get, ◌⊎◌, inl, inr, refl, sym, ap, subst, ◌∙◌, arith}
 use Rattle.sky_base.specs.Val.{known, same_text, same_desc}
 use Rattle.sky_base.specs.See.{slot}
-use Rattle.sky_base.specs.Tasks.{In, Apart}
+use Rattle.sky_law.specs.Tasks.{In, Apart}
 use Rattle.sky_base.proofs.Exact.{exact_text, self_text, exact_desc, self_desc}
 use Rattle.sky_plain.specs.Walk.{Row, number_of, Numbers}
 use Rattle.sky_plain.specs.Number.{index_if, index_of, tag_of}

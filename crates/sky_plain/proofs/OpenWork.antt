@@ -2,7 +2,7 @@
 use Rattle.std.proofs.Common.{◌≡◌, ◌≤◌, ◌<◌, ℕ, zero, suc, ◌+◌, ◌-◌, ◌*◌, List, [], ◌∷◌, ◌++◌, length, Bool, true, false, Option, Some, None, ◌⊎◌, inl, inr, refl, sym, ap, subst, ◌∙◌, arith}
 use Rattle.std.proofs.lemmas.List.{append_assoc, append-nil}
 use Rattle.sky_base.specs.See.{Desc, Job, Around}
-use Rattle.sky_base.specs.Tasks.{Apart}
+use Rattle.sky_law.specs.Tasks.{Apart}
 use Rattle.sky_base.specs.Val.{call}
 use Rattle.sky_plain.specs.Plain.{Obj}
 use Rattle.sky_plain.specs.Walk.{Row, object_at, is_known, most_rows}

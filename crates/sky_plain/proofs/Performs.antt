@@ -6,13 +6,13 @@ use Rattle.sky_base.specs.Val.{null, truth, num, text, list, dict, fun, ref, no_
 use Rattle.sky_base.specs.Name.{low, low_vals, low_pairs, low_desc}
 use Rattle.sky_base.specs.Res.{Object}
 use Rattle.sky_base.specs.Op.{Answer}
-use Rattle.sky_base.specs.Lower.{lower, low_ref, low_obj}
+use Rattle.sky_law.specs.Lower.{lower, low_ref, low_obj}
 use Rattle.sky_base.specs.See as m
 use Rattle.sky_base.specs.See.{Val, Vals, Desc, Obj, Job, Around, Gathered, gather, gather_on, gather_one, as_bytes, written, executed_on, replaced, vals_replaced, pairs_replaced, input_bytes, see, slot}
 use Rattle.sky_base.specs.Needed.{Task, task_of, distinct_refs}
-use Rattle.sky_base.specs.Tasks.{In}
-use Rattle.sky_base.proofs.RefsLow.{refs_low}
-use Rattle.sky_base.proofs.TaskOutputs.{in_distinct_refs}
+use Rattle.sky_law.specs.Tasks.{In}
+use Rattle.sky_law.proofs.RefsLow.{refs_low}
+use Rattle.sky_law.proofs.TaskOutputs.{in_distinct_refs}
 use Rattle.sky_base.specs.declared.fault.FaultKind.{FaultKind}
 use Rattle.sky_base.specs.declared.fault.Fault.{Fault}
 use Rattle.sky_plain.specs.Walk.{Row, known_of, number_of}

@@ -7,7 +7,7 @@ use Rattle.sky_base.proofs.Exact.{exact_text, exact_desc}
 use Rattle.sky_plain.specs.HeldView.{row_of, rows_of}
 use Rattle.sky_plain.specs.declared.rows.Held.{Held}
 use Rattle.sky_plain.specs.Walk.{Row, is_held, in_room, if_new, learn_to, most_rows}
-use Rattle.sky_base.specs.Tasks.{In, Apart}
+use Rattle.sky_law.specs.Tasks.{In, Apart}
 use Rattle.sky_plain.proofs.Knows.{most_is}
 use Rattle.sky_plain.proofs.Learn.{in_end}
 use Rattle.sky_plain.proofs.Numbers.{got_in, index_at}

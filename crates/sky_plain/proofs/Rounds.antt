@@ -9,9 +9,9 @@ use Rattle.sky_base.specs.Op.{Answer}
 use Rattle.sky_base.specs.Tree.{Script}
 use Rattle.sky_base.specs.Res.{Object}
 use Rattle.sky_base.specs.See.{Job, Around, Answered, Means, slot}
-use Rattle.sky_base.specs.Sound.{RefsOver, ValsOver, PairsOver, SoundOver}
+use Rattle.sky_law.specs.Sound.{RefsOver, ValsOver, PairsOver, SoundOver}
 use Rattle.sky_base.specs.declared.fault.Fault.{Fault}
-use Rattle.sky_base.specs.Tasks.{In, Apart}
+use Rattle.sky_law.specs.Tasks.{In, Apart}
 use Rattle.ciel_json.specs.Around.{json_around}
 use Rattle.ciel_json.proofs.LowLaw.{reads_named, text_named}
 use Rattle.sky_plain.specs.Plain.{Obj}

@@ -7,7 +7,7 @@ use Rattle.sky_base.specs.Op.{Answer}
 use Rattle.sky_base.specs.Eval as run
 use Rattle.sky_base.specs.Eval.{World}
 use Rattle.sky_base.specs.See.{start_st}
-use Rattle.sky_base.specs.Tasks.{Apart}
+use Rattle.sky_law.specs.Tasks.{Apart}
 use Rattle.sky_base.specs.declared.fault.Fault.{Fault}
 use Rattle.sky_base.specs.View.{view}
 use Rattle.sky_base.specs.declared.value.Value.{Value}

@@ -3,10 +3,10 @@ use Rattle.std.proofs.Common.{◌≡◌, ℕ, zero, suc, List, [], ◌∷◌, ma
 use Rattle.sky_base.specs.Name.{low_desc}
 use Rattle.sky_base.specs.Res.{Object, End, St, Wait, one_of, all_of, Res, Fin, Tell, Ask}
 use Rattle.sky_base.specs.Read.{ended, Halt, refs_of, see_all, joined, on_seen, halts_seen, acts_seen, outcome, halt, acts}
-use Rattle.sky_base.specs.Lower.{low_ref, low_obj, low_end, low_st, low_wait}
+use Rattle.sky_law.specs.Lower.{low_ref, low_obj, low_end, low_st, low_wait}
 use Rattle.sky_base.specs.See.{Desc, Obj, Job, Around, see}
-use Rattle.sky_base.specs.Tasks.{In, made_in}
-use Rattle.sky_base.proofs.LowLaw.{Rel}
+use Rattle.sky_law.specs.Tasks.{In, made_in}
+use Rattle.sky_law.proofs.LowLaw.{Rel}
 use Rattle.sky_plain.specs.Stand.{spell, Sees}
 use Rattle.sky_plain.proofs.Learn.{Learned, learned_new}
 use Rattle.sky_plain.specs.Walk as w

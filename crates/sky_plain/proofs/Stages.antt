@@ -5,14 +5,14 @@ use Rattle.sky_base.specs.Val.{ref, refs, call, known, no_vals}
 use Rattle.sky_base.specs.Name.{low}
 use Rattle.sky_base.specs.Op.{Answer}
 use Rattle.sky_base.specs.Res.{Object}
-use Rattle.sky_base.specs.Lower.{lower, low_ref}
+use Rattle.sky_law.specs.Lower.{lower, low_ref}
 use Rattle.sky_base.specs.See as m
 use Rattle.sky_base.specs.See.{Val, Desc, Obj, Job, Around, Answered, Means, Turn, turn, on_turn, last_turn, round, wave, job_answer, main_call, see, slot}
 use Rattle.sky_base.specs.Needed.{Task, wave_refs, unless_none, only_if, distinct_refs}
-use Rattle.sky_base.specs.Tasks.{In}
-use Rattle.sky_base.proofs.RefsLow.{refs_low}
-use Rattle.sky_base.proofs.SeenLaw.{on, on_either, kept_on, kept_is, see_kept, turn_kept}
-use Rattle.sky_base.proofs.TaskOutputs.{in_distinct_refs}
+use Rattle.sky_law.specs.Tasks.{In}
+use Rattle.sky_law.proofs.RefsLow.{refs_low}
+use Rattle.sky_law.proofs.SeenLaw.{on, on_either, kept_on, kept_is, see_kept, turn_kept}
+use Rattle.sky_law.proofs.TaskOutputs.{in_distinct_refs}
 use Rattle.sky_plain.specs.Walk.{Row, known_of, number_of}
 use Rattle.sky_plain.specs.Number.{tag_of, Grown}
 use Rattle.sky_plain.specs.Needs.{Waits}

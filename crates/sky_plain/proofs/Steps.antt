@@ -6,9 +6,9 @@ use Rattle.sky_base.specs.Val.{Vals, list, no_vals, call, out, input, known, ref
 use Rattle.sky_base.specs.Name.{low, low_desc}
 use Rattle.sky_base.specs.Op.{Answer}
 use Rattle.sky_base.specs.Res.{Object}
-use Rattle.sky_base.specs.Lower.{lower, low_ref}
+use Rattle.sky_law.specs.Lower.{lower, low_ref}
 use Rattle.sky_base.specs.See.{Val, Desc, Job, Around, main_call, input_bytes}
-use Rattle.sky_base.specs.Tasks.{In, Apart}
+use Rattle.sky_law.specs.Tasks.{In, Apart}
 use Rattle.sky_plain.specs.Walk.{Row, known_of, number_of, object_at, learn_to, most_rows}
 use Rattle.sky_plain.specs.Number.{tag_of}
 use Rattle.sky_plain.specs.Needs.{Makes, MakesMany, Chain}

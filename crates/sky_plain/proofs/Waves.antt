@@ -7,12 +7,12 @@ use Rattle.sky_base.specs.Val.{null, truth, num, text, list, dict, fun, ref, no_
 use Rattle.sky_base.specs.Name.{low, low_vals, low_pairs}
 use Rattle.sky_base.specs.Op.{Answer}
 use Rattle.sky_base.specs.Res.{Object}
-use Rattle.sky_base.specs.Lower.{lower, low_ref, low_obj}
+use Rattle.sky_law.specs.Lower.{lower, low_ref, low_obj}
 use Rattle.sky_base.specs.See as m
 use Rattle.sky_base.specs.See.{Val, Vals, Desc, Obj, Job, Around, Answered, Gathered, gather, gather_on, gather_one, as_value, val_of, replaced, vals_replaced, pairs_replaced, Turn, turn, next_value, next_within, see}
-use Rattle.sky_base.specs.Tasks.{In}
-use Rattle.sky_base.proofs.Low.{size_low, depth_low}
-use Rattle.sky_base.proofs.RefsLow.{refs_low}
+use Rattle.sky_law.specs.Tasks.{In}
+use Rattle.sky_law.proofs.Low.{size_low, depth_low}
+use Rattle.sky_law.proofs.RefsLow.{refs_low}
 use Rattle.sky_base.specs.declared.fault.Fault.{Fault}
 use Rattle.sky_plain.specs.Walk.{Row}
 use Rattle.sky_plain.specs.Stand.{spell, Sees}

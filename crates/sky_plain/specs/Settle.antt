@@ -2,7 +2,7 @@
 use Rattle.std.specs.Prelude.{◌≡◌, ℕ, zero, suc, ◌+◌, ◌-◌, ◌*◌, ◌<◌, ◌≤◌, List, [], ◌∷◌, ◌++◌, length, Bool, true, false, Option, Some, None, slice_get}
 use Rattle.sky_base.specs.KitView.{Gives}
 use Rattle.sky_base.specs.See.{Desc, Job, Around}
-use Rattle.sky_base.specs.Tasks.{In}
+use Rattle.sky_law.specs.Tasks.{In}
 use Rattle.sky_base.specs.Kept.{Kept}
 use Rattle.sky_base.specs.Val.{list, call}
 use Rattle.sky_plain.specs.Plain.{Obj, Vals}

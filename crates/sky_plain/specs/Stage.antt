@@ -5,8 +5,8 @@ use Rattle.sky_base.specs.Val.{refs}
 use Rattle.sky_base.specs.Name.{low}
 use Rattle.sky_base.specs.See.{Val, Job, Around, wave, round, job_answer}
 use Rattle.sky_base.specs.Res.{Object}
-use Rattle.sky_base.specs.Tasks.{In}
-use Rattle.sky_base.proofs.SeenLaw.{on}
+use Rattle.sky_law.specs.Tasks.{In}
+use Rattle.sky_law.proofs.SeenLaw.{on}
 use Rattle.std.specs.Prelude.{Option}
 use Rattle.sky_plain.specs.Walk.{Row, known_of}
 use Rattle.sky_plain.specs.Number.{tag_of, Grown}

@@ -5,10 +5,10 @@ use Rattle.sky_base.specs.Tree.{nowhere, Script}
 use Rattle.sky_base.specs.Op.{Answer}
 use Rattle.sky_base.specs.Res.{bodies, Object, End}
 use Rattle.sky_base.specs.Eval.{World, body_at}
-use Rattle.sky_base.specs.Lower.{low_ref, low_obj}
+use Rattle.sky_law.specs.Lower.{low_ref, low_obj}
 use Rattle.sky_base.specs.See.{Desc, Obj, Job, Around, see, start_st}
-use Rattle.sky_base.specs.Sound.{DescOver, SoundOver}
-use Rattle.sky_base.specs.Tasks.{In}
+use Rattle.sky_law.specs.Sound.{DescOver, SoundOver}
+use Rattle.sky_law.specs.Tasks.{In}
 use Rattle.sky_base.specs.Name.{low_desc}
 use Rattle.sky_base.specs.Needed.{Task, task_of}
 use Rattle.sky_plain.specs.Needs.{Waits, Makes}

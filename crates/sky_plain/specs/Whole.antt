@@ -2,7 +2,7 @@
 use Rattle.std.specs.Prelude.{◌≡◌, ◌<◌, ◌≤◌, ℕ, List, [], ◌∷◌, length, Option}
 use Rattle.sky_base.specs.Val.{known}
 use Rattle.sky_base.specs.See.{Desc, Job, Around, Answered, Means}
-use Rattle.sky_base.specs.Tasks.{In}
+use Rattle.sky_law.specs.Tasks.{In}
 use Rattle.sky_plain.specs.Plain.{Obj}
 use Rattle.sky_plain.specs.Walk.{Row, number_of, most_rows}
 use Rattle.sky_plain.specs.Needs.{Chain, MakesMany}

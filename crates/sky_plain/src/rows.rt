@@ -29,7 +29,7 @@ struct Held {
 
 impl Model for Rows {
     ghost use Rattle.std.specs.Prelude.{◌≤◌, List, length};
-    ghost use Rattle.sky_base.specs.Tasks.{Apart};
+    ghost use Rattle.sky_law.specs.Tasks.{Apart};
     ghost use Rattle.sky_plain.specs.HeldView.{rows_of, Finds};
     ghost use Rattle.sky_plain.specs.RowCode.{rows_code};
     ghost use Rattle.sky_plain.specs.Walk.{Row, most_rows};
@@ -45,7 +45,7 @@ impl Model for Rows {
 
 impl Rows {
     ghost use Rattle.std.specs.Prelude.{◌≡◌, Option, Some, None, IfOk, IfErr, IfSome, IfNone, MatchOption, slice_get, false, [], ◌∷◌, ◌++◌, ◌<◌, ◌≤◌, length};
-    ghost use Rattle.sky_base.specs.Tasks.{Apart};
+    ghost use Rattle.sky_law.specs.Tasks.{Apart};
     ghost use Rattle.sky_base.specs.ObjectView.{desc_view};
     ghost use Rattle.sky_plain.specs.Walk.{learn_to, is_held, most_rows};
     ghost use Rattle.sky_plain.specs.Number.{index_of};

@@ -13,7 +13,7 @@ ghost use Rattle.sky_base.specs.Kept.{Kept};
 ghost use Rattle.sky_base.specs.Val.{list, call, out, input, known, refs, vals_refs, pairs_refs};
 ghost use Rattle.sky_base.specs.View.{view, vals_of, pairs_of};
 ghost use Rattle.sky_base.specs.ObjectView.{object_view};
-ghost use Rattle.sky_base.specs.Tasks.{In};
+ghost use Rattle.sky_law.specs.Tasks.{In};
 ghost use Rattle.ciel_json.specs.Text.{text_of as writes};
 ghost use Rattle.sky_plain.specs.Walk.{known_of};
 ghost use Rattle.sky_plain.specs.Stage.{AllKnown};

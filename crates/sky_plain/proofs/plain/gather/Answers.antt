@@ -1,7 +1,7 @@
 use Rattle.std.proofs.Common.{◌≡◌, ◌≤◌, ◌<◌, ◌-◌, List, [], ◌∷◌, length, Some, None, sym, ap, subst, ◌∙◌, arith}
 use Rattle.std.specs.Option.{MatchOption}
 use Rattle.sky_base.specs.JobView.{job_view}
-use Rattle.sky_base.specs.Tasks.{In}
+use Rattle.sky_law.specs.Tasks.{In}
 use Rattle.sky_base.specs.Val.{known, refs}
 use Rattle.sky_base.specs.View.{view}
 use Rattle.ciel_json.specs.Around.{json_around}

@@ -4,7 +4,7 @@ use Rattle.sky_base.specs.Val.{known, refs}
 use Rattle.sky_base.specs.View.{view}
 use Rattle.sky_base.specs.Res.{Object}
 use Rattle.sky_base.specs.JobView.{job_view}
-use Rattle.sky_base.specs.Tasks.{In}
+use Rattle.sky_law.specs.Tasks.{In}
 use Rattle.ciel_json.specs.Around.{json_around}
 use Rattle.sky_plain.specs.Walk.{known_of, number_of, object_at}
 use Rattle.sky_plain.specs.Stage.{AllKnown}
