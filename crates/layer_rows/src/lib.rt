@@ -3,3 +3,5 @@
 
 #[cfg(test)]
 mod lanes;
+#[cfg(test)]
+mod store;
