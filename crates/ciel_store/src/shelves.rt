@@ -5,9 +5,9 @@ ghost use Rattle.ciel_store.specs.Seen.{ShelvesSeen, PlaceSeen, IsPlaceOf, marke
 ghost use Rattle.ciel_store.specs.Words.{Has, AllIn, loss};
 ghost use Rattle.ciel_store.specs.declared.loss.Loss.{Loss};
 
+use crate::loss::Loss;
 use crate::rule::{Confirms, Looks, Marks, NewEye, Shows, Takes, Words};
 use crate::seats::{Eye, Marker, Seen};
-use crate::loss::Loss;
 use boxcar::{Pushed, Vec as Row};
 use std::alloc::{AllocError, Global};
 use std::marker::Model;
