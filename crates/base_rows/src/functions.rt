@@ -132,10 +132,15 @@ fn is_appended(alloc: Global, n: u32) -> Result<Result<(), OpRefusal>, Fail> {
     Ok(append(&mut v, more))
 }
 
+fn count_names(alloc: Global, n: u32) -> Result<usize, Fail> {
+    Ok(references(alloc, n)?.refs(alloc)?.len())
+}
+
 #[test]
 fn a_list_holds_8191_references(rt: HostRuntime) -> Result<(), Fail> {
     let alloc = rt.alloc();
     assert!(rt; references(alloc, 8_191)?.size() == 262_113);
+    assert!(rt; count_names(alloc, 8_191)? == 8_191);
     assert!(rt; is_appended(alloc, 8_190)? == Ok(()));
     assert!(rt; is_appended(alloc, 8_191)? == Err(OpRefusal::Refused(FaultKind::TooLarge)));
     Ok(())

@@ -12,6 +12,10 @@ pub record World (N : Type 0) : Type 0 where
   pub reads : List ℕ → Answer N
   pub script : Script
 
+-- how many outputs an executor task may have
+abbrev pub most_outputs : ℕ
+most_outputs = 64
+
 -- ---- functions and names
 
 abbrev pub find_fun_if : Bool → FunDef → Option FunDef → Option FunDef
@@ -223,7 +227,7 @@ module _ {N : Type 0} (w : World N) where
   outputs_if true ds p st k = tell_all ds (k (map w.make ds) st)
 
   abbrev pub outputs_count : List ℕ → Val N → Val N → Place → St N → (List (Desc N) → St N → Res N) → Res N
-  outputs_count x a (num (pos n)) p st k = outputs_if (nat_lt 0 n && nat_lt n 65) (outputs x a n 0 n) p st k
+  outputs_count x a (num (pos n)) p st k = outputs_if (nat_lt 0 n && nat_lt n (suc most_outputs)) (outputs x a n 0 n) p st k
   outputs_count x a (num (negsuc n)) p st k = fails FaultKind.BadCount p st
   outputs_count x a _ p st k = fails FaultKind.BadKind p st
 

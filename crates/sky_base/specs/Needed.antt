@@ -3,7 +3,7 @@ use Rattle.std.specs.Prelude.{◌≡◌, ℕ, zero, suc, ◌+◌, ◌≤◌, ◌
 use Rattle.sky_base.specs.Val.{call, out, input, known, refs, distinct}
 use Rattle.sky_base.specs.Eval.{Body, bind, body_of}
 use Rattle.sky_base.specs.Read.{Halt, Run, halt, refs_of, run_of_halt, segment_from}
-use Rattle.sky_base.specs.See.{Val, Vals, Pairs, Desc, Job, Around, see, run_of, wave, main_call}
+use Rattle.sky_base.specs.See.{Val, Vals, Pairs, Desc, Job, Around, see, run_of, wave, main_call, most_waves}
 
 pub data Task : Type 0 where
   show : Task
@@ -58,7 +58,7 @@ module _ (job : Job) (around : Around) where
   -- what a task waits for at its j-th wait, as far as n tells
   abbrev pub wait_at : ℕ → Task → ℕ → Option (List Desc)
   wait_at n Task.show zero = Some (main_call ∷ [])
-  wait_at n Task.show (suc j) = only_if (nat_le (suc j) 100) (wave_refs (wave job around n (suc j)))
+  wait_at n Task.show (suc j) = only_if (nat_le (suc j) most_waves) (wave_refs (wave job around n (suc j)))
   wait_at n (Task.of (call f c vs)) zero = Some []
   wait_at n (Task.of (call f c vs)) (suc j) = halt_refs (halt (see job around n) j (run_of job around f c vs))
   wait_at n (Task.of (out x v m i)) zero = Some (distinct_refs v)

@@ -4,7 +4,7 @@ use Rattle.std.specs.Option.{option_map}
 use Rattle.std.specs.Ordering.{nat_cmp, int_cmp, match_ordering, is_lt, is_le, is_gt, is_ge}
 use Rattle.std.specs.declared.cmp.Ordering.{Ordering}
 use Rattle.std.specs.Cmp.Lexicographic.{slice_cmp}
-use Rattle.sky_base.specs.Val.{Val, Vals, Pairs, truth, num, text, list, dict, no_vals, val, no_pairs, pair, size, depth, count, pair_count, add_val, is_plain, same_val}
+use Rattle.sky_base.specs.Val.{Val, Vals, Pairs, truth, num, text, list, dict, no_vals, val, no_pairs, pair, size, depth, most_depth, most_size, count, pair_count, add_val, is_plain, same_val}
 use Rattle.sky_base.specs.declared.fault.FaultKind.{FaultKind}
 
 abbrev pub Answer : Type 0 → Type 0
@@ -32,7 +32,7 @@ module _ {N : Type 0} where
 
   -- the value, within the limits of depth and size
   abbrev pub limited : (Val N) → Answer N
-  limited v = unless (nat_lt 100 (depth v)) (nat_lt 262144 (size v)) v
+  limited v = unless (nat_lt most_depth (depth v)) (nat_lt most_size (size v)) v
 
   abbrev pub join : (Vals N) → (Vals N) → (Vals N)
   join no_vals ws = ws

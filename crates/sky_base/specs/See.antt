@@ -2,7 +2,7 @@
 use Rattle.sky_base.specs.Val as v
 use Rattle.std.specs.Prelude.{◌≡◌, ◌≢◌, ℕ, zero, suc, ◌+◌, List, [], ◌∷◌, ◌++◌, length, Bool, true, false, Option, Some, None, Result, Ok, Err, nat_lt, replicate}
 use Rattle.std.specs.Str.{is_utf8}
-use Rattle.sky_base.specs.Val.{null, truth, num, text, list, dict, fun, ref, no_vals, val, no_pairs, pair, call, out, input, known, depth, size, refs, same_text}
+use Rattle.sky_base.specs.Val.{null, truth, num, text, list, dict, fun, ref, no_vals, val, no_pairs, pair, call, out, input, known, depth, size, most_depth, most_size, refs, same_text}
 use Rattle.sky_base.specs.Op.{Answer}
 use Rattle.sky_base.specs.Name.{big_endian}
 use Rattle.sky_base.specs.Tree.{nowhere, Script}
@@ -182,6 +182,10 @@ val_of (v ∷ vs) (suc k) = val_of vs k
 abbrev pub main_call : Desc
 main_call = call [] no_pairs no_vals
 
+-- how many waves the result may have after the first wait
+abbrev pub most_waves : ℕ
+most_waves = 100
+
 -- what a wave of the result comes to: the answer, or the value at the next wave
 pub data Turn : Type 0 where
   ends : Answered → Turn
@@ -197,7 +201,7 @@ next_if false true v = Turn.ends (Answered.fault (no_place FaultKind.TooLarge))
 next_if false false v = Turn.next v
 
 abbrev pub next_within : Val → Turn
-next_within v = next_if (nat_lt 100 (depth v)) (nat_lt 262144 (size v)) v
+next_within v = next_if (nat_lt most_depth (depth v)) (nat_lt most_size (size v)) v
 
 abbrev pub next_value : Gathered Val → Val → Turn
 next_value Gathered.not_yet v = Turn.ends Answered.not_yet
@@ -224,7 +228,7 @@ module _ (job : Job) (around : Around) (n : ℕ) where
   turn_refs (d ∷ ds) (ref e) = lone (see job around n e) (turn_all (ref e))
   turn_refs (d ∷ ds) v = turn_all v
 
-  -- a wave up to 100
+  -- a wave up to the last one
   abbrev pub turn : Val → Turn
   turn v = turn_refs (refs v) v
 
@@ -232,7 +236,7 @@ module _ (job : Job) (around : Around) (n : ℕ) where
   on_turn (Turn.ends a) go = a
   on_turn (Turn.next v) go = go v
 
-  -- the waves of the result, of which so many are left before the one above 100
+  -- the waves of the result, of which so many are left before the one after the last
   unfoldable pub round : ℕ → Val → Answered
   round zero v = last_turn (refs v) (around.writes v)
   round (suc k) v = on_turn (turn v) (λ u. round k u)
@@ -246,13 +250,13 @@ module _ (job : Job) (around : Around) (n : ℕ) where
   turn_of None = None
   turn_of (Some v) = Some (turn v)
 
-  -- the value at a wave up to 101, where the result comes to it
+  -- the value at a wave, up to the one after the last, where the result comes to it
   unfoldable pub wave : ℕ → Option Val
   wave zero = Some (ref main_call)
   wave (suc k) = wave_on (turn_of (wave k))
 
 unfoldable pub job_answer : Job → Around → ℕ → Answered
-job_answer job around n = round job around n 101 (ref main_call)
+job_answer job around n = round job around n (suc most_waves) (ref main_call)
 
 abbrev pub Means : Job → Around → Answered → Type 0
 Means job around a = (n : ℕ) × (job_answer job around n ≡ a) × (a ≢ Answered.not_yet)

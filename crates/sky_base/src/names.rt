@@ -1,7 +1,6 @@
 // Lists of names.
 
 ghost use Rattle.std.specs.Prelude.{◌≡◌, [], ◌∷◌, ◌++◌, IfOk, IfErr, length};
-ghost use Rattle.sky_base.specs.Names.{is_among};
 
 use crate::name::Name;
 use crate::text::Memory;
@@ -32,6 +31,13 @@ impl Names {
         }
     }
 
+    /// The names, in order.
+    pub fn of(items: Vec<Name>) -> Names
+        ensures { result ≡ items.items }
+    {
+        Names { items }
+    }
+
     /// The names in order.
     pub fn as_slice(&self) -> &[Name]
         ensures { result.now ≡ self.now }
@@ -45,18 +51,6 @@ impl Names {
         ensures { result ≡ length self.now }
     {
         self.items.len()
-    }
-
-    /// Whether a name is in the list.
-    pub fn contains(&self, name: &Name) -> bool
-        ensures { result ≡ is_among name.now self.now }
-    {
-        for held in &self.items {
-            if name.bytes().cmp(held.bytes()).is_eq() {
-                return true;
-            }
-        }
-        false
     }
 
     /// Puts a name at the end. After `Memory` the list is as it was.

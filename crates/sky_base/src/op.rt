@@ -7,7 +7,7 @@ ghost use Rattle.sky_base.specs.Op.{plus, plus_num, plus_text, plus_list, minus,
 ghost use Rattle.sky_base.specs.Op.{index, index_list, index_dict, put, put_val, set_at, set_list, set_dict, append};
 ghost use Rattle.sky_base.specs.OpView.{Answers, Exactly, Changes, ChangesPairs, Becomes};
 ghost use Rattle.sky_base.specs.Val as logic;
-ghost use Rattle.sky_base.specs.Val.{Val, size, depth, sizes, pair_sizes, list, dict, add_val, count};
+ghost use Rattle.sky_base.specs.Val.{Val, size, depth, sizes, pair_sizes, list, dict, add_val, count, most_size};
 ghost use Rattle.sky_base.specs.View.{view};
 ghost use Rattle.sky_base.specs.Kept.{Kept};
 
@@ -92,7 +92,7 @@ fn plus_int(a: i64, b: &Value) -> Result<Value, OpRefusal>
 }
 
 fn plus_text(alloc: Global, a: &Txt, b: &Value) -> Result<Value, OpRefusal>
-    requires a { length a.now < 262144 }
+    requires a { length a.now < most_size }
     requires b { Kept (view b.now) }
     ensures answer { Answers result (plus_text a.now (view b.now)) }
     ensures kept { IfOk result (λ v. Kept (view v)) }
@@ -318,7 +318,7 @@ fn set_place(vs: &mut Vals, at: usize, e: Value) -> Result<(), OpRefusal>
 #[tactic(auto, using(crate::proofs::Changes::other_places))]
 fn other_sizes(vs: &Vals, at: usize) -> u64
     requires at { at < count vs.now }
-    requires vs { sizes vs.now ≤ 262144 }
+    requires vs { sizes vs.now ≤ most_size }
     ensures most { result ≤ sizes vs.now }
     ensures sum { (e : Val (List ℕ)) (ws : logic.Vals (List ℕ)) → put_val vs.now at e ≡ Some ws → sizes ws ≡ result + size e }
 {
@@ -344,7 +344,7 @@ fn set_dict(ps: &mut Pairs, at: &Value, e: Value) -> Result<(), OpRefusal>
 #[tactic(auto, using(crate::proofs::Changes::keys))]
 fn set_key(ps: &mut Pairs, key: &Txt, e: Value) -> Result<(), OpRefusal>
     requires ps { Kept (dict ps.old) }
-    requires key { length key.now < 262144 }
+    requires key { length key.now < most_size }
     requires e { Kept (view e) }
     ensures answer { ChangesPairs result (limited (dict (put key.now (view e) ps.old))) ps.old ps.new }
     ensures kept { Kept (dict ps.new) }
@@ -362,8 +362,8 @@ fn set_key(ps: &mut Pairs, key: &Txt, e: Value) -> Result<(), OpRefusal>
 // The sum of the sizes of the pairs once a key is there, without the value at that key.
 #[tactic(auto, using(crate::proofs::Changes::other_keys))]
 fn other_pair_sizes(ps: &Pairs, key: &Txt) -> u64
-    requires ps { pair_sizes ps.now ≤ 262144 }
-    requires key { length key.now < 262144 }
+    requires ps { pair_sizes ps.now ≤ most_size }
+    requires key { length key.now < most_size }
     ensures most { result ≤ pair_sizes ps.now + length key.now }
     ensures sum { (e : Val (List ℕ)) → pair_sizes (put key.now e ps.now) ≡ result + size e }
 {

@@ -18,7 +18,7 @@ pub fn place(items: &[Pair], key: &Txt) -> Result<usize, usize>
     let mut high = items.len();
     while low < high {
         let middle = low + (high - low) / 2;
-        match key.as_str().cmp(items[middle].key.as_str()) {
+        match key.cmp(&items[middle].key) {
             Ordering::Less => high = middle,
             Ordering::Equal => return Ok(middle),
             Ordering::Greater => low = middle + 1,

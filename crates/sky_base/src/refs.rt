@@ -1,4 +1,5 @@
-// The names that a value holds.
+// The names that a value holds. Beside the list of those found so far stands an ordered set of them,
+// so that a value with many references is read in little more than linear time.
 
 ghost use Rattle.std.specs.Prelude.{◌≡◌, [], ◌∷◌, IfOk};
 ghost use Rattle.sky_base.specs.Names.{known_of, gathered};
@@ -10,6 +11,62 @@ use crate::names::Names;
 use crate::text::Memory;
 use crate::value::{Pair, Value};
 use std::alloc::Global;
+use std::collections::BTreeSet;
+use std::marker::Model;
+
+// The names found so far, in order, and the set of them.
+#[derive(Drop)]
+struct Found {
+    names: Vec<Name>,
+    seen: BTreeSet<Name>,
+}
+
+impl Model for Found {
+    ghost use Rattle.std.specs.Prelude.{List, ℕ};
+    ghost use Rattle.sky_base.specs.Names.{HasSame};
+
+    ghost Value = { List (List ℕ) };
+
+    ghost view = { λ a. a.names.items };
+
+    ghost invariant = { λ a. HasSame a.seen a.names.items };
+}
+
+impl Found {
+    fn new(alloc: Global) -> Found
+        ensures { result ≡ [] }
+    {
+        Found {
+            names: Vec::new(alloc),
+            seen: BTreeSet::new(alloc),
+        }
+    }
+
+    // Puts a name at the end, unless it is there.
+    fn add(&mut self, name: &Name) -> Result<(), Memory>
+        ensures { IfOk result (λ _. known_of self.new ≡ gathered (known_of self.old) (known name.now ∷ [])) }
+    {
+        if self.names.reserve(1).is_err() {
+            return Err(Memory);
+        }
+        match self.seen.insert(*name) {
+            Ok(true) => {
+                self.names.push_reserved(*name);
+                Ok(())
+            }
+            Ok(false) => Ok(()),
+            Err(_) => Err(Memory),
+        }
+    }
+
+    fn into_names(self) -> Names
+        ensures { result ≡ self }
+    {
+        let Found { names, seen } = self;
+        drop(seen);
+        Names::of(names)
+    }
+}
 
 impl Value {
     /// The distinct names in the value, in the order of their first places.
@@ -17,55 +74,45 @@ impl Value {
     pub fn refs(&self, alloc: Global) -> Result<Names, Memory>
         ensures { IfOk result (λ names. known_of names ≡ distinct same_text (refs (view self.now))) }
     {
-        let mut names = Names::new(alloc);
-        gather(self, &mut names)?;
-        Ok(names)
+        let mut found = Found::new(alloc);
+        gather(self, &mut found)?;
+        Ok(found.into_names())
     }
 }
 
 // Puts the names in the value at the end, each that isn't there yet.
 #[cycle(gather)]
 #[tactic(auto, using(crate::proofs::Gathers::gathers))]
-fn gather(v: &Value, names: &mut Names) -> Result<(), Memory>
-    ensures { IfOk result (λ _. known_of names.new ≡ gathered (known_of names.old) (refs (view v.now))) }
+fn gather(v: &Value, found: &mut Found) -> Result<(), Memory>
+    ensures { IfOk result (λ _. known_of found.new ≡ gathered (known_of found.old) (refs (view v.now))) }
 {
     match v {
-        Value::List(vs) => gather_all(vs.as_slice(), names),
-        Value::Dict(ps) => gather_pairs(ps.as_slice(), names),
-        Value::Fun { caught, .. } => gather_pairs(caught.as_slice(), names),
-        Value::Ref(name) => add(name, names),
+        Value::List(vs) => gather_all(vs.as_slice(), found),
+        Value::Dict(ps) => gather_pairs(ps.as_slice(), found),
+        Value::Fun { caught, .. } => gather_pairs(caught.as_slice(), found),
+        Value::Ref(name) => found.add(name),
         _ => Ok(()),
     }
 }
 
-#[tactic(auto, using(crate::proofs::Gathers::named))]
-fn add(name: &Name, names: &mut Names) -> Result<(), Memory>
-    ensures { IfOk result (λ _. known_of names.new ≡ gathered (known_of names.old) (known name.now ∷ [])) }
-{
-    if names.contains(name) {
-        return Ok(());
-    }
-    names.push(*name)
-}
-
 #[cycle(gather)]
 #[tactic(auto, using(crate::proofs::Gathers::gathers, crate::proofs::Values::inside))]
-fn gather_all(vs: &[Value], names: &mut Names) -> Result<(), Memory>
-    ensures { IfOk result (λ _. known_of names.new ≡ gathered (known_of names.old) (vals_refs (vals_of vs.now))) }
+fn gather_all(vs: &[Value], found: &mut Found) -> Result<(), Memory>
+    ensures { IfOk result (λ _. known_of found.new ≡ gathered (known_of found.old) (vals_refs (vals_of vs.now))) }
 {
     for v in vs {
-        gather(v, names)?;
+        gather(v, found)?;
     }
     Ok(())
 }
 
 #[cycle(gather)]
 #[tactic(auto, using(crate::proofs::Gathers::gathers, crate::proofs::Values::inside))]
-fn gather_pairs(ps: &[Pair], names: &mut Names) -> Result<(), Memory>
-    ensures { IfOk result (λ _. known_of names.new ≡ gathered (known_of names.old) (pairs_refs (pairs_of ps.now))) }
+fn gather_pairs(ps: &[Pair], found: &mut Found) -> Result<(), Memory>
+    ensures { IfOk result (λ _. known_of found.new ≡ gathered (known_of found.old) (pairs_refs (pairs_of ps.now))) }
 {
     for p in ps {
-        gather(&p.value, names)?;
+        gather(&p.value, found)?;
     }
     Ok(())
 }

@@ -2,9 +2,16 @@
 // sharing one takes constant time.
 
 ghost use Rattle.std.specs.Prelude.{◌≡◌, ◌↔◌, IfOk, IsTrue, [], length, string_bytes};
+ghost use Rattle.std.proofs.Common.{rules};
+ghost use Rattle.std.specs.Cmp.{partial_order_from_own_ties};
+ghost use Rattle.std.specs.Cmp.Lexicographic.{slice_cmp};
+ghost use Rattle.std.specs.Cmp.Rules.{comparing};
+ghost use Rattle.std.specs.Ordering.{nat_cmp, as_partial_cmp};
 ghost use Rattle.std.specs.Str.{IsUtf8};
+ghost use Rattle.sky_base.specs.Val.{same_text};
 
 use std::alloc::Global;
+use std::cmp::Ordering;
 use std::convert::AsStr;
 use std::marker::Model;
 use std::sync::{Arc, ArcStr};
@@ -13,7 +20,8 @@ use std::sync::{Arc, ArcStr};
 #[derive(Clone, Copy, PartialEq, Eq, Debug)]
 pub struct Memory;
 
-/// A UTF-8 text, which several owners may share. Contracts see it as the list of its bytes.
+/// A UTF-8 text, which several owners may share, ordered by its bytes. Contracts see it as the list of
+/// its bytes.
 #[derive(Drop)]
 pub struct Txt {
     held: ArcStr,
@@ -83,6 +91,44 @@ impl Txt {
         ensures { IsTrue result ↔ (self.now ≡ []) }
     {
         self.held.as_str().is_empty()
+    }
+}
+
+impl PartialEq for Txt {
+    ghost eq = { same_text };
+
+    ghost laws = { Prim.search (comparing, rules) };
+
+    fn eq(&self, other: &Txt) -> bool {
+        self.as_str().cmp(other.as_str()).is_eq()
+    }
+}
+
+impl Eq for Txt {
+    ghost laws = { Prim.search (comparing, rules) };
+}
+
+impl Ord for Txt {
+    ghost cmp = { slice_cmp nat_cmp };
+
+    ghost total = { Prim.search (comparing, rules) };
+
+    ghost matches_partial_cmp = { Prim.search (comparing, rules) };
+
+    ghost matches_eq = { Prim.search (comparing, rules) };
+
+    fn cmp(&self, other: &Txt) -> Ordering {
+        self.as_str().cmp(other.as_str())
+    }
+}
+
+impl PartialOrd for Txt {
+    ghost partial_cmp = { as_partial_cmp (slice_cmp nat_cmp) };
+
+    ghost laws = { partial_order_from_own_ties (Prim.search (comparing, rules)) (Prim.search (comparing, rules)) };
+
+    fn partial_cmp(&self, other: &Txt) -> Option<Ordering> {
+        Some(self.cmp(other))
     }
 }
 

@@ -6,7 +6,7 @@ ghost use Rattle.std.specs.Prelude.{◌≡◌, ◌≤◌, ◌<◌, ◌+◌, ◌-
 ghost use Rattle.sky_base.specs.Val.{Rising, count, pair_count};
 ghost use Rattle.sky_base.specs.Op.{val_at, join, find, put, put_val};
 ghost use Rattle.sky_base.specs.Val.{no_vals, add_val, no_pairs};
-ghost use Rattle.sky_base.specs.Val.{size, sizes, pair_sizes, depth, depths, pair_depths};
+ghost use Rattle.sky_base.specs.Val.{size, sizes, pair_sizes, depth, depths, pair_depths, most_depth, most_size};
 ghost use Rattle.sky_base.specs.View.{view, vals_of, pairs_of};
 ghost use Rattle.sky_base.specs.Totals.{Totals};
 
@@ -221,7 +221,7 @@ impl Value {
     /// values, a list 1 and the sizes of its elements, a dictionary 1, the bytes of its keys and the sizes
     /// of its values, and a reference 32, however long names are.
     pub fn size(&self) -> u64
-        requires { size (view self.now) ≤ 262144 }
+        requires { size (view self.now) ≤ most_size }
         ensures { result ≡ size (view self.now) }
     {
         self.totals().size
@@ -230,7 +230,7 @@ impl Value {
     /// The depth, at most 100: 1, and for a list or a dictionary that isn't empty, or a function that
     /// captured something, 1 more than that of the deepest value in it.
     pub fn depth(&self) -> u32
-        requires { depth (view self.now) ≤ 100 }
+        requires { depth (view self.now) ≤ most_depth }
         ensures { result ≡ depth (view self.now) }
     {
         self.totals().depth
@@ -238,14 +238,14 @@ impl Value {
 
     /// Whether the size is above its limit, 262,144.
     pub fn is_too_large(&self) -> bool
-        ensures { result ≡ nat_lt 262144 (size (view self.now)) }
+        ensures { result ≡ nat_lt most_size (size (view self.now)) }
     {
         self.totals().size > MOST_SIZE
     }
 
     /// Whether the depth is above its limit, 100.
     pub fn is_too_deep(&self) -> bool
-        ensures { result ≡ nat_lt 100 (depth (view self.now)) }
+        ensures { result ≡ nat_lt most_depth (depth (view self.now)) }
     {
         self.totals().depth > MOST_DEPTH
     }
@@ -363,7 +363,7 @@ impl Vals {
 
     /// The sum of the sizes of the elements, at most 262,144.
     pub fn sizes(&self) -> u64
-        requires { sizes self.now ≤ 262144 }
+        requires { sizes self.now ≤ most_size }
         ensures { result ≡ sizes self.now }
     {
         self.totals.size
@@ -484,7 +484,7 @@ impl Pairs {
 
     /// The sum of the bytes of the keys and the sizes of the values, at most 262,144.
     pub fn sizes(&self) -> u64
-        requires { pair_sizes self.now ≤ 262144 }
+        requires { pair_sizes self.now ≤ most_size }
         ensures { result ≡ pair_sizes self.now }
     {
         self.totals.size

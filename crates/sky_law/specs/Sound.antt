@@ -4,7 +4,7 @@ use Rattle.std.specs.Prelude.{◌≡◌, ℕ, ◌≤◌, ◌<◌, List, [], Bool
 use Rattle.sky_base.specs.Val.{Val, Vals, Pairs, Desc, null, truth, num, text, list, dict, fun, ref, no_vals, val, no_pairs, pair, call, out, input, known}
 use Rattle.sky_base.specs.Op.{Answer}
 use Rattle.sky_base.specs.Tree.{FunDef, Script}
-use Rattle.sky_base.specs.Eval.{find_fun, is_one_of}
+use Rattle.sky_base.specs.Eval.{find_fun, is_one_of, most_outputs}
 use Rattle.sky_base.specs.Res.{Object}
 use Rattle.sky_base.specs.Read.{Frame}
 use Rattle.sky_base.specs.Needed.{Task, State}
@@ -28,7 +28,7 @@ TakesIf (Some f) c = AllUsed f.uses c
 module _ {N : Type 0} (K : N → Type 0) (sc : Script) where
   -- each function in a value is of the script and captured only what it uses, and each description that it refers to is
   -- sound; one is sound where its arguments and captured pairs keep the limits and are so too, a call is of `main` with
-  -- nothing captured or of such a function, and the index of an output is below the number of outputs, which is up to 64
+  -- nothing captured or of such a function, and the index of an output is below the number of outputs, of which there are not too many
   abbrev mutual
     pub RefsOver : Val N → Type 0
     RefsOver null = Unit {0}
@@ -50,7 +50,7 @@ module _ {N : Type 0} (K : N → Type 0) (sc : Script) where
 
     pub DescOver : Desc N → Type 0
     DescOver (call f c vs) = Kept (list vs) × Kept (dict c) × ValsOver vs × PairsOver c × (((f ≡ []) × (c ≡ no_pairs)) ⊎ TakesIf (find_fun f sc.funs) c)
-    DescOver (out x v n i) = Kept {N = N} (text x) × Kept v × RefsOver v × (i < n) × (n ≤ 64)
+    DescOver (out x v n i) = Kept {N = N} (text x) × Kept v × RefsOver v × (i < n) × (n ≤ most_outputs)
     DescOver (input k) = Unit {0}
     DescOver (known b) = K b
 

@@ -6,7 +6,7 @@ use Rattle.std.specs.Option.{option_map}
 use Rattle.sky_base.specs.Val.{call, out, input, known, refs, pairs_refs, same_desc, distinct}
 use Rattle.sky_base.specs.Eval.{outputs}
 use Rattle.sky_base.specs.Read.{Act, made, waited, Frame, acts}
-use Rattle.sky_base.specs.See.{Val, Desc, Job, Around, Answered, main_call, run_of, see, wave, job_answer}
+use Rattle.sky_base.specs.See.{Val, Desc, Job, Around, Answered, main_call, most_waves, run_of, see, wave, job_answer}
 use Rattle.sky_base.specs.Needed.{Task, task_of, distinct_refs, wave_refs, only_if, State, wait_at, WaitOf, stands_at}
 
 module _ {A : Type 0} where
@@ -116,7 +116,7 @@ module _ (job : Job) (around : Around) where
 
   -- what a task makes and waits for after its start, in order
   abbrev pub acts_of : ℕ → Task → List (Act ⊥)
-  acts_of n Task.show = waves_from n 100 1
+  acts_of n Task.show = waves_from n most_waves 1
   acts_of n (Task.of (call f c vs)) = acts (see job around n) (run_of job around f c vs)
   acts_of n (Task.of (out x v m i)) = []
   acts_of n (Task.of (input k)) = []

@@ -12,8 +12,8 @@ gather_all-loop-v-preserved t c =
     let x = c.v-item.result in
     let cut : drop i vs ≡ x ∷ drop (i + 1) vs = rw (add-one i) (drop-cons vs i x (omega arith) ∙ ap (λ y. y ∷ drop (suc i) vs) (sym c.v-item.is)) in
     c.loop-v.invariant
-    ∙ ap (λ ys. gathered (known_of c.loop-v.names) (vals_refs (vals_of ys))) cut
-    ∙ gathered-append (known_of c.loop-v.names) (refs (view x)) (vals_refs (vals_of (drop (i + 1) vs)))
+    ∙ ap (λ ys. gathered (known_of c.loop-v.found) (vals_refs (vals_of ys))) cut
+    ∙ gathered-append (known_of c.loop-v.found) (refs (view x)) (vals_refs (vals_of (drop (i + 1) vs)))
     ∙ ap (λ ds. gathered ds (vals_refs (vals_of (drop (i + 1) vs)))) (sym c.in_ok-gather.ensures)
 
 pub gather_pairs-loop-p-preserved : goal.gather_pairs-loop-p-preserved
@@ -23,6 +23,6 @@ gather_pairs-loop-p-preserved t c =
     let x = c.p-item.result in
     let cut : drop i ps ≡ x ∷ drop (i + 1) ps = rw (add-one i) (drop-cons ps i x (omega arith) ∙ ap (λ y. y ∷ drop (suc i) ps) (sym c.p-item.is)) in
     c.loop-p.invariant
-    ∙ ap (λ ys. gathered (known_of c.loop-p.names) (pairs_refs (pairs_of ys))) cut
-    ∙ gathered-append (known_of c.loop-p.names) (refs (view x.value)) (pairs_refs (pairs_of (drop (i + 1) ps)))
+    ∙ ap (λ ys. gathered (known_of c.loop-p.found) (pairs_refs (pairs_of ys))) cut
+    ∙ gathered-append (known_of c.loop-p.found) (refs (view x.value)) (pairs_refs (pairs_of (drop (i + 1) ps)))
     ∙ ap (λ ds. gathered ds (pairs_refs (pairs_of (drop (i + 1) ps)))) (sym c.in_ok-gather.ensures)

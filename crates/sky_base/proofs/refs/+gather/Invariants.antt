@@ -6,11 +6,11 @@ use Rattle.sky_base.proofs.refs.+gather.Given as goal
 
 abbrev pub invariant-gather_all-loop-v : goal.invariant-gather_all-loop-v
 invariant-gather_all-loop-v l =
-    gathered (known_of l.initial.names) (vals_refs (vals_of l.vs)) ≡ gathered (known_of l.names) (vals_refs (vals_of (drop l.v-index l.vs)))
+    gathered (known_of l.initial.found) (vals_refs (vals_of l.vs)) ≡ gathered (known_of l.found) (vals_refs (vals_of (drop l.v-index l.vs)))
 
 abbrev pub invariant-gather_pairs-loop-p : goal.invariant-gather_pairs-loop-p
 invariant-gather_pairs-loop-p l =
-    gathered (known_of l.initial.names) (pairs_refs (pairs_of l.ps)) ≡ gathered (known_of l.names) (pairs_refs (pairs_of (drop l.p-index l.ps)))
+    gathered (known_of l.initial.found) (pairs_refs (pairs_of l.ps)) ≡ gathered (known_of l.found) (pairs_refs (pairs_of (drop l.p-index l.ps)))
 
 abbrev pub decreases-gather : goal.decreases-gather
 decreases-gather l = val_nodes (view l.v.now)
