@@ -80,9 +80,9 @@ module _ {N : Type 0} (w : World N) where
         ref_ok = λ d h. tt;
         to_ok = λ d h. tt;
         refs_ok = λ ds le h. tt;
-        call_ok = λ f c vs i z h. tt;
+        call_ok = λ f c vs x e n z h. tt;
         out_ok = λ x a n i h j lt le. tt;
-        input_ok = λ k. tt;
+        input_ok = λ k e. tt;
       }
 
   any_seen : (o : Option (Object N)) → SeenOk w Any Made o

@@ -1,5 +1,5 @@
 -- What holds of the values that a run begins with, and is kept by each operator, holds of every value that it makes.
-use Rattle.std.proofs.Common.{◌≡◌, ℕ, zero, suc, ◌+◌, ◌<◌, ◌≤◌, Bool, true, false, List, [], ◌∷◌, ◌++◌, map, length, reverse, Option, Some, None, Ok, Err, nat_lt, nat_eq, is_some, ◌&&◌, pos, negsuc, refl, ap, arith, ltb-true}
+use Rattle.std.proofs.Common.{◌≡◌, ℕ, zero, suc, ◌+◌, ◌<◌, ◌≤◌, Bool, true, false, List, [], ◌∷◌, ◌++◌, map, length, reverse, Option, Some, None, Ok, Err, nat_lt, nat_eq, is_some, ◌&&◌, pos, negsuc, refl, ap, arith, ltb-true, eqb-true}
 use Rattle.std.specs.Ordering.{nat_cmp, match_ordering}
 use Rattle.std.specs.Cmp.Lexicographic.{slice_cmp}
 use Rattle.std.specs.declared.cmp.Ordering.{Ordering}
@@ -56,9 +56,9 @@ module _ {N : Type 0} (w : World N) (P : Val N → Type 0) (Q : Desc N → Type 
     pub ref_ok : (d : Desc N) → Q d → P (ref (w.make d))
     pub to_ok : (d : Desc N) → P (ref d) → Q d
     pub refs_ok : (ds : List (Desc N)) → length ds ≤ 64 → Each (λ d. P (ref d)) ds → P (list (refs_to ds))
-    pub call_ok : (f : List ℕ) (ca : Pairs N) (vs : Vals N) → IsFun w.script f → P (fun f ca) → P (list vs) → Q (call f ca vs)
+    pub call_ok : (f : List ℕ) (ca : Pairs N) (vs : Vals N) (x : FunDef) → find_fun f w.script.funs ≡ Some x → length x.params ≡ count vs → P (fun f ca) → P (list vs) → Q (call f ca vs)
     pub out_ok : (x : List ℕ) (a : Val N) (n i : ℕ) → P (text x) → P a → i < n → n ≤ 64 → Q (out x a n i)
-    pub input_ok : (k : List ℕ) → Q (input k)
+    pub input_ok : (k : List ℕ) → is_one_of k w.script.keys ≡ true → Q (input k)
 
   abbrev pub ObjectOk : Object N → Type 0
   ObjectOk (Object.bytes b) = Unit {0}
@@ -291,16 +291,16 @@ module _ {N : Type 0} (w : World N) (P : Val N → Type 0) (Q : Desc N → Type 
         go None e = tt
         go (Some f) e = c.closed_ok f x xs e l
 
-    fine_spawn_if : (b : Bool) (x : Desc N) (p : Place) (d : ℕ) (st : St N) → PairsOk st.vars → Q x → Fine d (spawn_if w b x p st)
+    fine_spawn_if : (b : Bool) (x : Desc N) (p : Place) (d : ℕ) (st : St N) → PairsOk st.vars → (b ≡ true → Q x) → Fine d (spawn_if w b x p st)
     fine_spawn_if false x p d st l q = (tt, l)
-    fine_spawn_if true x p d st l q = fine_make x d st l q
+    fine_spawn_if true x p d st l q = fine_make x d st l (q refl)
 
-    fine_spawn_fun : (o : Option FunDef) (f : List ℕ) (ca : Pairs N) (vs : Vals N) (p : Place) (d : ℕ) (st : St N) → PairsOk st.vars → (is_some o ≡ true → Q (call f ca vs)) → Fine d (spawn_fun w o f ca vs p st)
+    fine_spawn_fun : (o : Option FunDef) (f : List ℕ) (ca : Pairs N) (vs : Vals N) (p : Place) (d : ℕ) (st : St N) → PairsOk st.vars → ((x : FunDef) → o ≡ Some x → length x.params ≡ count vs → Q (call f ca vs)) → Fine d (spawn_fun w o f ca vs p st)
     fine_spawn_fun None f ca vs p d st l q = (tt, l)
-    fine_spawn_fun (Some x) f ca vs p d st l q = fine_spawn_if (nat_eq (length x.params) (count vs)) (call f ca vs) p d st l (q refl)
+    fine_spawn_fun (Some x) f ca vs p d st l q = fine_spawn_if (nat_eq (length x.params) (count vs)) (call f ca vs) p d st l (λ e. q x refl (eqb-true (length x.params) (count vs) e))
 
     fine_spawn_list : (f : List ℕ) (ca : Pairs N) (a : Val N) (p : Place) (d : ℕ) (st : St N) → PairsOk st.vars → P (fun f ca) → P a → Fine d (spawn_list w f ca a p st)
-    fine_spawn_list f ca (list vs) p d st l z h = fine_spawn_fun (find_fun f w.script.funs) f ca vs p d st l (λ i. c.call_ok f ca vs i z h)
+    fine_spawn_list f ca (list vs) p d st l z h = fine_spawn_fun (find_fun f w.script.funs) f ca vs p d st l (λ x e n. c.call_ok f ca vs x e n z h)
     fine_spawn_list f ca null p d st l z h = (tt, l)
     fine_spawn_list f ca (truth b) p d st l z h = (tt, l)
     fine_spawn_list f ca (num y) p d st l z h = (tt, l)
@@ -373,12 +373,12 @@ module _ {N : Type 0} (w : World N) (P : Val N → Type 0) (Q : Desc N → Type 
     fine_exec_ask n ds d st l le h =
         fine_wait (all_of ds) d (exec_wait n ds) st gives ((c.refs_ok ds le h, tt), tt) refl (asked_ok ds h) l (λ os o. end_exec ds os (c.refs_ok ds le h)) (λ v s i m. (i, m))
 
-    fine_input_if : (b : Bool) (k : List ℕ) (p : Place) (d : ℕ) (st : St N) → PairsOk st.vars → Fine d (input_if w b k p st)
-    fine_input_if false k p d st l = (tt, l)
-    fine_input_if true k p d st l = fine_make (input k) d st l (c.input_ok k)
+    fine_input_if : (b : Bool) (k : List ℕ) (p : Place) (d : ℕ) (st : St N) → PairsOk st.vars → (b ≡ true → Q (input k)) → Fine d (input_if w b k p st)
+    fine_input_if false k p d st l q = (tt, l)
+    fine_input_if true k p d st l q = fine_make (input k) d st l (q refl)
 
     fine_input : (v : Val N) (p : Place) (d : ℕ) (st : St N) → PairsOk st.vars → Fine d (input_of w v p st)
-    fine_input (text k) p d st l = fine_input_if (is_one_of k w.script.keys) k p d st l
+    fine_input (text k) p d st l = fine_input_if (is_one_of k w.script.keys) k p d st l (c.input_ok k)
     fine_input null p d st l = (tt, l)
     fine_input (truth b) p d st l = (tt, l)
     fine_input (num z) p d st l = (tt, l)

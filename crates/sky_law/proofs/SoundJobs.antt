@@ -11,7 +11,7 @@ use Rattle.sky_base.specs.Read.{Outcome, no_fuel, Act, made, waited, Halt, Todo,
 use Rattle.sky_base.specs.See.{Val, Vals, Pairs, Desc, Obj, Job, Around, Gathered, gather_on, gather_one, gather, as_value, read_or_text, text_if, val_of, replaced, vals_replaced, pairs_replaced, run_output, output_at, executed_on, object_of, world_of, start_st, run_of, see, Turn, next_if, next_within, next_value, lone, turn_all, turn_refs, turn, wave_on, turn_of, wave, main_call}
 use Rattle.sky_base.specs.Needed.{Task, task_of, distinct_refs, unless_none, wave_refs, only_if, halt_refs, wait_at, WaitOf, State, start_frame, halt_state, wave_state, stands_at, StandsAt, Needed, root}
 use Rattle.sky_law.specs.Tasks.{Each, maker}
-use Rattle.sky_law.specs.Sound.{AllUsed, TakesIf, IsFun, RefsSound, ValsSound, PairsSound, SoundDesc, Sound, SoundObject, SoundVars, SoundFrame, SoundState, SoundTask, SoundRead, SoundReads}
+use Rattle.sky_law.specs.Sound.{AllUsed, TakesIf, CallsIf, IsMain, IsFun, RefsSound, ValsSound, PairsSound, SoundDesc, Sound, SoundObject, SoundVars, SoundFrame, SoundState, SoundTask, SoundRead, SoundReads}
 use Rattle.sky_base.specs.declared.fault.Fault.{Fault}
 use Rattle.sky_law.proofs.FormsLaw.{inner}
 use Rattle.sky_law.proofs.FineLaw.{Closed, PairsOk, ObjectOk, EndOk, OpenOk, FormsOk, Waits, Fine, bind_ok, fine_call}
@@ -308,7 +308,7 @@ module _ (sc : Script) where
 
   main_sound : Sound sc (ref main_call)
   main_sound =
-      (record { deep = omega arith; large = omega arith }, (record { deep = omega arith; large = omega arith }, record { deep = omega arith; large = omega arith }, tt, tt, inl (refl, refl)))
+      (record { deep = omega arith; large = omega arith }, (record { deep = omega arith; large = omega arith }, record { deep = omega arith; large = omega arith }, tt, tt, inl (refl, refl, refl)))
 
 module _ (job : Job) (around : Around) (reads : SoundReads job.script around) where
   read_ok : (o : Answer ⊥) → SoundRead job.script o → SoundAnswer ⊥ (λ b. Unit {0}) job.script o
@@ -316,7 +316,7 @@ module _ (job : Job) (around : Around) (reads : SoundReads job.script around) wh
   read_ok (Err k) h = tt
 
   closed : Closed (world_of job.script around) (Sound job.script) (SoundDesc job.script)
-  closed = sound_closed ⊥ (λ b. Unit {0}) job.script (world_of job.script around) (λ f. refl) (λ b. read_ok (around.reads b) (reads b)) (λ d h. h)
+  closed = sound_closed ⊥ (λ b. Unit {0}) job.script (world_of job.script around) (λ f. refl) (λ k. refl) (λ b. read_ok (around.reads b) (reads b)) (λ d h. h)
 
   run_fine : (f : List ℕ) (c : Pairs) (vs : Vals) → SoundDesc job.script (call f c vs) → Fine (world_of job.script around) (Sound job.script) (SoundDesc job.script) others (run_of job around f c vs)
   run_fine f c vs h =
@@ -480,18 +480,18 @@ module _ (job : Job) (around : Around) (reads : SoundReads job.script around) wh
   StateOk None = Unit {0}
   StateOk (Some s) = SoundState job.script s
 
-  has_fun : (o : Option FunDef) (c : Pairs) → TakesIf o c → IsSome o
-  has_fun None c h = absurd h
-  has_fun (Some f) c h = refl
+  has_fun : (o : Option FunDef) (c : Pairs) (vs : Vals) → CallsIf o c vs → IsSome o
+  has_fun None c vs h = absurd h
+  has_fun (Some f) c vs h = refl
 
-  named_or_main : (f : List ℕ) (c : Pairs) → ((f ≡ []) × (c ≡ no_pairs)) ⊎ TakesIf (find_fun f job.script.funs) c → (f ≡ []) ⊎ IsFun job.script f
-  named_or_main f c (inl e) = inl e.0
-  named_or_main f c (inr i) = inr (has_fun (find_fun f job.script.funs) c i)
+  named_or_main : (f : List ℕ) (c : Pairs) (vs : Vals) → IsMain f c vs ⊎ CallsIf (find_fun f job.script.funs) c vs → (f ≡ []) ⊎ IsFun job.script f
+  named_or_main f c vs (inl e) = inl e.0
+  named_or_main f c vs (inr i) = inr (has_fun (find_fun f job.script.funs) c vs i)
 
   start_ok : (f : List ℕ) (c : Pairs) (vs : Vals) (o : Option Body) → SoundDesc job.script (call f c vs) → StateOk (start_frame f c vs o)
   start_ok f c vs None h = tt
   start_ok f c vs (Some b) h =
-      ((sound_vars job.script around (bind b.params vs c) (bind_ok (world_of job.script around) (Sound job.script) (SoundDesc job.script) b.params vs c (closed.inside_ok vs (h.0, h.2)) (dict_inside ⊥ (λ b. Unit {0}) job.script c (h.1, h.3))), tt, named_or_main f c h.4), tt)
+      ((sound_vars job.script around (bind b.params vs c) (bind_ok (world_of job.script around) (Sound job.script) (SoundDesc job.script) b.params vs c (closed.inside_ok vs (h.0, h.2)) (dict_inside ⊥ (λ b. Unit {0}) job.script c (h.1, h.3))), tt, named_or_main f c vs h.4), tt)
 
   halt_state_ok : (f : List ℕ) (j : ℕ) (o : Option (Halt ⊥)) → (f ≡ []) ⊎ IsFun job.script f → HaltOk (world_of job.script around) (Sound job.script) (SoundDesc job.script) others o → StateOk (halt_state f j o)
   halt_state_ok f j None z h = tt
@@ -505,7 +505,7 @@ module _ (job : Job) (around : Around) (reads : SoundReads job.script around) wh
   stands_ok : (n : ℕ) (t : Task) (j : ℕ) → SoundTask job.script t → StateOk (stands_at job around n t j)
   stands_ok n Task.show j h = wave_state_ok j (wave job around n j) (wave_ok n j)
   stands_ok n (Task.of (call f c vs)) zero h = start_ok f c vs (body_of f job.script) h
-  stands_ok n (Task.of (call f c vs)) (suc j) h = halt_state_ok f (suc j) (halt (see job around n) j (run_of job around f c vs)) (named_or_main f c h.4) (halt_sound n j f c vs h)
+  stands_ok n (Task.of (call f c vs)) (suc j) h = halt_state_ok f (suc j) (halt (see job around n) j (run_of job around f c vs)) (named_or_main f c vs h.4) (halt_sound n j f c vs h)
   stands_ok n (Task.of (out x a m i)) j h = tt
   stands_ok n (Task.of (input k)) j h = tt
   stands_ok n (Task.of (known b)) j h = absurd b

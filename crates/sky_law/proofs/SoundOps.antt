@@ -1,14 +1,14 @@
 -- Each operator gives values within the limits from values within the limits, and refers to nothing else than these do.
-use Rattle.std.proofs.Common.{◌≡◌, ℕ, ℤ, zero, suc, ◌+◌, ◌*◌, ◌≤◌, Bool, true, false, not, ◌&&◌, List, [], ◌∷◌, ◌++◌, length, Option, Some, None, Ok, Err, nat_lt, pos, negsuc, ◌+ℤ◌, ◌-ℤ◌, ◌*ℤ◌, int_div, int_rem, refl, arith, ltb-false, inr, subst, sym, ◌∙◌, IsSome}
+use Rattle.std.proofs.Common.{◌≡◌, ℕ, ℤ, zero, suc, ◌+◌, ◌*◌, ◌≤◌, Bool, true, false, not, ◌&&◌, List, [], ◌∷◌, ◌++◌, length, Option, Some, None, Ok, Err, nat_lt, pos, negsuc, ◌+ℤ◌, ◌-ℤ◌, ◌*ℤ◌, int_div, int_rem, refl, ap, arith, ltb-false, inr, subst, sym, ◌∙◌, IsSome}
 use Rattle.std.specs.Option.{option_map}
 use Rattle.std.specs.Ordering.{nat_cmp, int_cmp, match_ordering, is_lt, is_le, is_gt, is_ge}
 use Rattle.std.specs.Cmp.Lexicographic.{slice_cmp}
 use Rattle.std.specs.declared.cmp.Ordering.{Ordering}
-use Rattle.sky_base.specs.Val.{Val, Vals, Pairs, Desc, null, truth, num, text, list, dict, fun, ref, no_vals, val, no_pairs, pair, add_val, vals_of, refs_to, size, sizes, depth, depths, pair_sizes, pair_depths, is_plain, same_val}
+use Rattle.sky_base.specs.Val.{Val, Vals, Pairs, Desc, null, truth, num, text, list, dict, fun, ref, no_vals, val, no_pairs, pair, add_val, vals_of, refs_to, size, sizes, depth, depths, pair_sizes, pair_depths, is_plain, same_val, count}
 use Rattle.sky_base.specs.Op.{Answer, if_fits, fits, checked, unless, limited, join, plus, minus, times, over, over_num, rest, rest_num, val_at, find, put, or_else, index, put_val, limited_list, set_at, equal_if, ordered, compare, Order, negated, opposite, len, all_keys, keys, has, numbers, range_if, range, span, grown, with_key, dict_from}
 use Rattle.sky_base.specs.Tree.{Lit, Oper, FunDef, Script}
 use Rattle.sky_base.specs.Eval.{World, find_fun, is_one_of, caught_if, caught_by, lit_val, oper}
-use Rattle.sky_law.specs.Sound.{IsFun, AllUsed, TakesIf, RefsOver, ValsOver, PairsOver, DescOver, SoundOver}
+use Rattle.sky_law.specs.Sound.{IsFun, AllUsed, TakesIf, CallsIf, RefsOver, ValsOver, PairsOver, DescOver, SoundOver}
 use Rattle.sky_law.specs.Tasks.{Each}
 use Rattle.sky_base.specs.Kept.{Kept}
 use Rattle.sky_law.proofs.FineLaw.{Closed}
@@ -114,6 +114,10 @@ module _ (N : Type 0) (K : N → Type 0) (sc : Script) where
       go : (b : Bool) → PairsOver K sc (caught_by us ps) → PairsOver K sc (caught_if b k v (caught_by us ps))
       go true i = (h.0.1, i)
       go false i = i
+
+  calls_if : (o : Option FunDef) (x : FunDef) (c : Pairs N) (vs : Vals N) → o ≡ Some x → length x.params ≡ count vs → TakesIf o c → CallsIf o c vs
+  calls_if None x c vs e n t = absurd t
+  calls_if (Some f) x c vs e n t = let q : f ≡ x = cc in (t, ap (λ g. length g.params) q ∙ n)
 
   takes_caught : (o : Option FunDef) (f : FunDef) (ps : Pairs N) → o ≡ Some f → TakesIf o (caught_by f.uses ps)
   takes_caught o f ps e = subst (λ x. TakesIf x (caught_by f.uses ps)) (sym e) (all_used f.uses ps)
@@ -576,8 +580,8 @@ module _ (N : Type 0) (K : N → Type 0) (sc : Script) where
   ref_sound d h = (record { deep = omega arith; large = omega arith }, h)
 
   -- what the operators give is sound, where what is read and what a reference holds is
-  pub sound_closed : (w : World N) → ((f : List ℕ) → find_fun f w.script.funs ≡ find_fun f sc.funs) → ((b : List ℕ) → SoundAnswer (w.reads b)) → ((d : Desc N) → DescOver K sc d → DescOver K sc (w.make d)) → Closed w (SoundOver K sc) (DescOver K sc)
-  sound_closed w same reads make =
+  pub sound_closed : (w : World N) → ((f : List ℕ) → find_fun f w.script.funs ≡ find_fun f sc.funs) → ((k : List ℕ) → is_one_of k w.script.keys ≡ is_one_of k sc.keys) → ((b : List ℕ) → SoundAnswer (w.reads b)) → ((d : Desc N) → DescOver K sc d → DescOver K sc (w.make d)) → Closed w (SoundOver K sc) (DescOver K sc)
+  sound_closed w same keys reads make =
       record {
         null_ok = sound_null;
         truth_ok = sound_truth;
@@ -603,7 +607,7 @@ module _ (N : Type 0) (K : N → Type 0) (sc : Script) where
         ref_ok = λ d h. ref_sound (w.make d) (make d h);
         to_ok = λ d h. h.1;
         refs_ok = refs_sound;
-        call_ok = λ f ps vs i z h. (h.0, caught_kept f ps z.0, h.1, z.1.1, inr z.1.0);
+        call_ok = λ f ps vs x e n z h. (h.0, caught_kept f ps z.0, h.1, z.1.1, inr (calls_if (find_fun f sc.funs) x ps vs (sym (same f) ∙ e) n z.1.0));
         out_ok = λ x a n i t h lt le. (t.0, h.0, h.1, lt, le);
-        input_ok = λ k. tt;
+        input_ok = λ k e. sym (keys k) ∙ e;
       }

@@ -1,7 +1,7 @@
 -- Values that keep the limits of depth and size and name functions of the script alone, with all that they refer to.
 use Rattle.sky_base.specs.See as see
-use Rattle.std.specs.Prelude.{◌≡◌, ℕ, ◌≤◌, ◌<◌, List, [], Bool, true, Option, Some, None, Ok, Err, IsSome, ◌⊎◌}
-use Rattle.sky_base.specs.Val.{Val, Vals, Pairs, Desc, null, truth, num, text, list, dict, fun, ref, no_vals, val, no_pairs, pair, call, out, input, known}
+use Rattle.std.specs.Prelude.{◌≡◌, ℕ, ◌≤◌, ◌<◌, List, [], Bool, true, Option, Some, None, Ok, Err, IsSome, ◌⊎◌, length}
+use Rattle.sky_base.specs.Val.{Val, Vals, Pairs, Desc, null, truth, num, text, list, dict, fun, ref, no_vals, val, no_pairs, pair, call, out, input, known, count}
 use Rattle.sky_base.specs.Op.{Answer}
 use Rattle.sky_base.specs.Tree.{FunDef, Script}
 use Rattle.sky_base.specs.Eval.{find_fun, is_one_of, most_outputs}
@@ -15,20 +15,31 @@ use Rattle.sky_base.specs.Kept.{Kept}
 abbrev pub IsFun : Script → List ℕ → Type 0
 IsFun sc f = IsSome (find_fun f sc.funs)
 
--- a script has a function of this name, and the keys of the pairs are variables that it captures
+-- the keys of the pairs are among these names
 abbrev pub AllUsed : {N : Type 0} → List (List ℕ) → Pairs N → Type 0
 AllUsed us no_pairs = Unit {0}
 AllUsed us (pair k v ps) = (is_one_of k us ≡ true) × AllUsed us ps
 
+-- there is a function, and the keys of the pairs are names that it uses
 abbrev pub TakesIf : {N : Type 0} → Option FunDef → Pairs N → Type 0
 TakesIf None c = ⊥
 TakesIf (Some f) c = AllUsed f.uses c
 
+-- and it has so many parameters
+abbrev pub CallsIf : {N : Type 0} → Option FunDef → Pairs N → Vals N → Type 0
+CallsIf None c vs = ⊥
+CallsIf (Some f) c vs = AllUsed f.uses c × (length f.params ≡ count vs)
+
+-- the call of `main`
+abbrev pub IsMain : {N : Type 0} → List ℕ → Pairs N → Vals N → Type 0
+IsMain f c vs = (f ≡ []) × (c ≡ no_pairs) × (vs ≡ no_vals)
+
 -- K says which names may stand inside
 module _ {N : Type 0} (K : N → Type 0) (sc : Script) where
   -- each function in a value is of the script and captured only what it uses, and each description that it refers to is
-  -- sound; one is sound where its arguments and captured pairs keep the limits and are so too, a call is of `main` with
-  -- nothing captured or of such a function, and the index of an output is below the number of outputs, of which there are not too many
+  -- sound; one is sound where its arguments and captured pairs keep the limits and are so too, a call is that of `main` or
+  -- one of such a function with as many arguments as it has parameters, the index of an output is below the number of
+  -- outputs, of which there are not too many, and an input is one of the script's
   abbrev mutual
     pub RefsOver : Val N → Type 0
     RefsOver null = Unit {0}
@@ -49,9 +60,9 @@ module _ {N : Type 0} (K : N → Type 0) (sc : Script) where
     PairsOver (pair k v ps) = RefsOver v × PairsOver ps
 
     pub DescOver : Desc N → Type 0
-    DescOver (call f c vs) = Kept (list vs) × Kept (dict c) × ValsOver vs × PairsOver c × (((f ≡ []) × (c ≡ no_pairs)) ⊎ TakesIf (find_fun f sc.funs) c)
+    DescOver (call f c vs) = Kept (list vs) × Kept (dict c) × ValsOver vs × PairsOver c × (IsMain f c vs ⊎ CallsIf (find_fun f sc.funs) c vs)
     DescOver (out x v n i) = Kept {N = N} (text x) × Kept v × RefsOver v × (i < n) × (n ≤ most_outputs)
-    DescOver (input k) = Unit {0}
+    DescOver (input k) = is_one_of k sc.keys ≡ true
     DescOver (known b) = K b
 
   -- a value that keeps the limits, and whose descriptions are sound
