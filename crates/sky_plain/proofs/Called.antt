@@ -44,28 +44,28 @@ read_fits sc b = go (Data b) refl
     go (Err k) e = tt
 
 -- what a run waits for isn't known
-waits_unknown : (script : Script) (objects : List (Option (Object (List ℕ)))) (rows after : List Row) (f : List ℕ) (us : Vals (List ℕ)) (n : List ℕ) → Apart after → Runs script Data objects rows f us after (WaitsFor n) → object_at objects (number_of n) ≡ None
-waits_unknown script objects rows after f us n apart run = go (run (numbered after Data script) refl refl (numbers_hold after apart))
+waits_unknown : (script : Script) (objects : List (Option (Object (List ℕ)))) (rows after : List Row) (f : List ℕ) (ca : Pairs (List ℕ)) (us : Vals (List ℕ)) (n : List ℕ) → Apart after → Runs script Data objects rows f ca us after (WaitsFor n) → object_at objects (number_of n) ≡ None
+waits_unknown script objects rows after f ca us n apart run = go (run (numbered after Data script) refl refl (numbers_hold after apart))
   where
-    go : (s : Stop) × (walk (known_of objects) rows (body_at (numbered after Data script) bodies f us nowhere start_st) ≡ stops after s) × WaitsFor n s → object_at objects (number_of n) ≡ None
+    go : (s : Stop) × (walk (known_of objects) rows (body_at (numbered after Data script) bodies f ca us nowhere start_st) ≡ stops after s) × WaitsFor n s → object_at objects (number_of n) ≡ None
     go (s, e, is) =
-        subst (WaitsAt (known_of objects)) e (walk_waits (known_of objects) (body_at (numbered after Data script) bodies f us nowhere start_st) rows) (known n) is
+        subst (WaitsAt (known_of objects)) e (walk_waits (known_of objects) (body_at (numbered after Data script) bodies f ca us nowhere start_st) rows) (known n) is
 
-module _ (job : Job) (gives : Gives) (rows after : List Row) (objects : List (Option (Object (List ℕ)))) (k : ℕ) (f : List ℕ) (us : Vals (List ℕ)) (begins : Begins rows after) (apart : Apart after) (room : length after ≤ most_rows) (at : slice_get rows k ≡ Some (call f us)) (ks : List ℕ) (standing : Standing job (json_around gives) rows objects) (opens : Opens job (json_around gives) rows (k ∷ ks)) where
-  pub called_ends : (o : Object (List ℕ)) → Runs job.script Data objects rows f us after (EndsAs o) → Standing job (json_around gives) after (with_object k o objects)
+module _ (job : Job) (gives : Gives) (rows after : List Row) (objects : List (Option (Object (List ℕ)))) (k : ℕ) (f : List ℕ) (ca : Pairs (List ℕ)) (us : Vals (List ℕ)) (begins : Begins rows after) (apart : Apart after) (room : length after ≤ most_rows) (at : slice_get rows k ≡ Some (call f ca us)) (ks : List ℕ) (standing : Standing job (json_around gives) rows objects) (opens : Opens job (json_around gives) rows (k ∷ ks)) where
+  pub called_ends : (o : Object (List ℕ)) → Runs job.script Data objects rows f ca us after (EndsAs o) → Standing job (json_around gives) after (with_object k o objects)
   called_ends o run =
-      standing_ends job (json_around gives) Data (λ tag b. reads_named tag b) (read_fits job.script) rows begins.0 after objects standing begins.1 apart room k f us at ks o (with_object k o objects) opens run (puts_with k o objects)
+      standing_ends job (json_around gives) Data (λ tag b. reads_named tag b) (read_fits job.script) rows begins.0 after objects standing begins.1 apart room k f ca us at ks o (with_object k o objects) opens run (puts_with k o objects)
 
-  pub called_waits : (n : List ℕ) → Runs job.script Data objects rows f us after (WaitsFor n) → Standing job (json_around gives) after objects × (number_of n < length after) × Opens job (json_around gives) after (number_of n ∷ k ∷ ks)
+  pub called_waits : (n : List ℕ) → Runs job.script Data objects rows f ca us after (WaitsFor n) → Standing job (json_around gives) after objects × (number_of n < length after) × Opens job (json_around gives) after (number_of n ∷ k ∷ ks)
   called_waits n run =
-      standing_waits job (json_around gives) Data (λ tag b. reads_named tag b) (read_fits job.script) rows begins.0 after objects standing begins.1 apart room k f us at ks n opens run
+      standing_waits job (json_around gives) Data (λ tag b. reads_named tag b) (read_fits job.script) rows begins.0 after objects standing begins.1 apart room k f ca us at ks n opens run
 
-  pub called_unknown : (n : List ℕ) → Runs job.script Data objects rows f us after (WaitsFor n) → object_at objects (number_of n) ≡ None
-  called_unknown n run = waits_unknown job.script objects rows after f us n apart run
+  pub called_unknown : (n : List ℕ) → Runs job.script Data objects rows f ca us after (WaitsFor n) → object_at objects (number_of n) ≡ None
+  called_unknown n run = waits_unknown job.script objects rows after f ca us n apart run
 
-  pub called_many : Runs job.script Data objects rows f us after IsFull → MakesMany job (json_around gives) 65537
+  pub called_many : Runs job.script Data objects rows f ca us after IsFull → MakesMany job (json_around gives) 65537
   called_many run =
-      standing_many job (json_around gives) Data (λ tag b. reads_named tag b) (read_fits job.script) rows begins.0 after objects standing begins.1 apart room k f us at ks opens run
+      standing_many job (json_around gives) Data (λ tag b. reads_named tag b) (read_fits job.script) rows begins.0 after objects standing begins.1 apart room k f ca us at ks opens run
 
 -- ---- rows of executor tasks, where no executor is known, and of inputs
 
@@ -97,7 +97,7 @@ module _ (sc : Script) (m : ℕ) (n : List ℕ) where
     in_val (text t) h j = absurd j
     in_val (list vs) h j = in_vals vs h j
     in_val (dict ps) h j = in_pairs ps h j
-    in_val (fun f) h j = absurd j
+    in_val (fun f c) h j = in_pairs c h.1 j
     in_val (ref d) h (inl e) = subst (DescOver (Below m) sc) (sym e) h
     in_val (ref d) h (inr j) = absurd j
 

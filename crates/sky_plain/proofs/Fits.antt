@@ -22,7 +22,7 @@ module _ {N : Type 0} (sc : Script) (K L : N → Type 0) (more : (b : N) → K b
     refs_over (text t) h = tt
     refs_over (list vs) h = vals_over vs h
     refs_over (dict ps) h = pairs_over ps h
-    refs_over (fun f) h = h
+    refs_over (fun f c) h = (h.0, pairs_over c h.1)
     refs_over (ref d) h = desc_over d h
 
     pub vals_over : (vs : Vals N) → ValsOver K sc vs → ValsOver L sc vs
@@ -34,7 +34,7 @@ module _ {N : Type 0} (sc : Script) (K L : N → Type 0) (more : (b : N) → K b
     pairs_over (pair k v ps) h = (refs_over v h.0, pairs_over ps h.1)
 
     pub desc_over : (d : Desc N) → DescOver K sc d → DescOver L sc d
-    desc_over (call f vs) h = (h.0, vals_over vs h.1, h.2)
+    desc_over (call f c vs) h = (h.0, h.1, vals_over vs h.2, pairs_over c h.3, h.4)
     desc_over (out x v n i) h = (h.0, h.1, refs_over v h.2, h.3, h.4)
     desc_over (input k) h = tt
     desc_over (known b) h = more b h

@@ -1,5 +1,5 @@
 -- How the parts of a run follow each other, and how the code's early ends say what they come to.
-use Rattle.std.proofs.Common.{◌≡◌, ◌≢◌, ℕ, zero, suc, ◌+◌, ◌-◌, ◌<◌, ◌≤◌, List, [], ◌∷◌, length, drop, get_or, Bool, true, false, Ok, Err, nat_lt, Result, refl, ap, sym, ◌∙◌, subst, arith}
+use Rattle.std.proofs.Common.{◌≡◌, ◌≢◌, ℕ, zero, suc, ◌+◌, ◌-◌, ◌<◌, ◌≤◌, List, [], ◌∷◌, length, drop, get_or, Bool, true, false, Option, Ok, Err, nat_lt, Result, refl, ap, sym, ◌∙◌, subst, arith}
 use Rattle.std.specs.Result.{IsErrAnd}
 use Rattle.sky_base.specs.Tree.{Place, FunDef, Oper, Form, Exp, Exps, Links, Steps}
 use Rattle.sky_base.specs.TreeView.{one, two, exp_view, links_view, steps_view, step_view, arith_view, at}
@@ -7,13 +7,13 @@ use Rattle.sky_base.specs.Val.{truth, no_vals, val, add_val}
 use Rattle.sky_base.specs.View.{view}
 use Rattle.sky_base.specs.Res.{visits, counted}
 use Rattle.sky_base.specs.Op as op
-use Rattle.sky_base.specs.Eval.{named, oper}
+use Rattle.sky_base.specs.Eval.{named, closed, oper}
 use Rattle.sky_base.specs.declared.fault.FaultKind.{FaultKind}
 use Rattle.sky_base.specs.declared.value.Value.{Value}
 use Rattle.sky_base.specs.declared.tree.Link.{Link}
 use Rattle.sky_base.specs.declared.tree.Step.{Step}
 use Rattle.sky_plain.specs.Walk.{Row}
-use Rattle.sky_plain.specs.Plain.{Val, Vals, Vars, Out, Answer, Ground, fails, visited, visit, answer, on_got, on_goes, on_listed, decide, formed, exp, values, opened, links, steps, turns, repeats}
+use Rattle.sky_plain.specs.Plain.{Val, Vals, Pairs, Vars, Out, Answer, Ground, fails, visited, visit, answer, on_got, on_goes, on_listed, decide, formed, exp, values, opened, links, steps, turns, repeats}
 use Rattle.sky_plain.specs.RunView.{Comes, Flows, cut_of}
 use Rattle.sky_plain.specs.declared.cut.Cut.{Cut}
 use Rattle.sky_plain.specs.declared.cut.Flow.{Flow}
@@ -71,6 +71,11 @@ pub name_given : (b : Bool) (x : List ℕ) (fs : List FunDef) (p : Place) (rows 
 name_given true x fs p rows st = refl
 name_given false x fs p rows st = refl
 
+-- so is what an anonymous function captures
+pub func_given : (b : Bool) (x : List ℕ) (o : Option FunDef) (p : Place) (rows : List Row) (st : Vars) → visited b p rows st (λ s. answer (closed o x s.vars) p rows (λ u. Out.got u rows s)) ≡ visited b p rows st (λ s. answer (closed o x st.vars) p rows (λ u. Out.got u rows s))
+func_given true x o p rows st = refl
+func_given false x o p rows st = refl
+
 -- ---- one operator, then the others
 
 ap_got : (o : Out) (f h : Val → List Row → Vars → Out) → ((v : Val) (more : List Row) (s : Vars) → f v more s ≡ h v more s) → on_got o f ≡ on_got o h
@@ -91,7 +96,7 @@ visited_call : (b : Bool) (p : Place) (rows : List Row) (st : Vars) (o : Vars �
 visited_call true p rows st o k = got_got (o (counted st)) (λ y last u. Out.got y last u) k
 visited_call false p rows st o k = refl
 
-module _ (g : Ground) (body : List ℕ → Vals → Place → List Row → ℕ → Out) where
+module _ (g : Ground) (body : List ℕ → Pairs → Vals → Place → List Row → ℕ → Out) where
   values_none : (es : Exps) (vs : Vals) (rows : List Row) (st : Vars) → NotGot (values g body es vs rows st)
   values_none Exps.no_exps vs rows st = tt
   values_none (Exps.exp e es) vs rows st =
@@ -122,7 +127,7 @@ module _ (g : Ground) (body : List ℕ → Vals → Place → List Row → ℕ �
       let i = listed_got o f (λ y more t. steps g body ks y more t) (values_none es no_vals rows st) in
       sym (i ∙ ap_listed o (λ vs more s. on_got (f vs more s) (λ y last t. steps g body ks y last t)) h (λ vs more s. visited_call (nat_lt s.count visits) p more s (λ t. opened g body v vs p more t) (λ y last t. steps g body ks y last t)))
 
-module _ (g : Ground) (body : List ℕ → Vals → Place → List Row → ℕ → Out) where
+module _ (g : Ground) (body : List ℕ → Pairs → Vals → Place → List Row → ℕ → Out) where
   -- a form whose parts have come to these values
   pub parts_are : (f : Form) (es : Exps) (p : Place) (rows : List Row) (st : Vars) (vs : Vals) (more : List Row) (s : Vars) → values g body es no_vals rows st ≡ Out.listed vs more s → exp g body (Exp.parts f p es) rows st ≡ visit p more s (λ t. formed g f vs p more t)
   parts_are f es p rows st vs more s h = ap (λ o. on_listed o (λ xs last t. visit p last t (λ u. formed g f xs p last u))) h
@@ -135,7 +140,7 @@ module _ (g : Ground) (body : List ℕ → Vals → Place → List Row → ℕ �
   two_are f a b p rows st v more s u last t h k =
       parts_are f (two a b) p rows st (val v (val u no_vals)) last t (ap (λ o. on_got o (λ x now z. values g body (one b) (add_val no_vals x) now z)) h ∙ ap (λ o. on_got o (λ x now z. values g body Exps.no_exps (add_val (val v no_vals) x) now z)) k)
 
-module _ (g : Ground) (body : List ℕ → Vals → Place → List Row → ℕ → Out) where
+module _ (g : Ground) (body : List ℕ → Pairs → Vals → Place → List Row → ℕ → Out) where
   -- a chain of one operator whose two sides have come to these values
   pub chain_is : (o : Oper) (a b : Exp) (p : Place) (rows : List Row) (st : Vars) (v : Val) (more : List Row) (s : Vars) (u : Val) (last : List Row) (t : Vars) → exp g body a rows st ≡ Out.got v more s → exp g body b more s ≡ Out.got u last t → exp g body (Exp.chain a (Links.link o p b Links.no_links)) rows st ≡ visit p last t (λ z. answer (oper o v u) p last (λ y. Out.got y last z))
   chain_is o a b p rows st v more s u last t h k =

@@ -1,7 +1,7 @@
 -- After a run, what is referred to is held still.
 use Rattle.std.proofs.Common.{◌≡◌, ◌≤◌, ◌<◌, ℕ, zero, ◌+◌, List, ◌++◌, length, Bool, true, false, Option, Some, Ok, Err, ◌⊎◌, inl, inr, nat_lt, refl, sym, ap, subst, ◌∙◌, arith, nat_eq, eqb-true, eq-eqb, ltb-true, lt-ltb}
 use Rattle.std.proofs.lemmas.List.{length-append}
-use Rattle.sky_base.specs.Val.{Val, Vals, call, known}
+use Rattle.sky_base.specs.Val.{Val, Vals, Pairs, call, known}
 use Rattle.sky_base.specs.Op.{Answer}
 use Rattle.sky_base.specs.Tree.{nowhere, Script}
 use Rattle.sky_base.specs.Res.{others, bodies, Object, End}
@@ -10,7 +10,7 @@ use Rattle.sky_base.specs.See.{slot, start_st}
 use Rattle.sky_law.specs.Tasks.{In, Apart}
 use Rattle.sky_law.specs.Sound.{DescOver, SoundOver}
 use Rattle.sky_law.proofs.FineLaw.{Closed, ObjectOk, fine_call}
-use Rattle.sky_law.proofs.SoundOps.{SoundAnswer, sound_closed}
+use Rattle.sky_law.proofs.SoundOps.{SoundAnswer, sound_closed, dict_inside}
 use Rattle.sky_plain.specs.Walk.{Row, Stop, stops, walk, known_of, object_at, number_of, Numbers, most_rows}
 use Rattle.sky_plain.specs.Number.{index_of}
 use Rattle.sky_plain.specs.Stand.{Runs, EndsAs, WaitsFor, Puts, Below, RowFits, ObjectFits, Fits, StopFits, ReadFits}
@@ -83,7 +83,7 @@ module _ (sc : Script) (reads : List ℕ → Answer (List ℕ)) (read_fits : (b 
 
     closed : Closed safe_world P Q
     closed =
-        sound_closed (List ℕ) K sc safe_world (λ f i. i) (λ b. read_answer (length after) (reads b) (read_fits b)) (λ d h. slot_below d)
+        sound_closed (List ℕ) K sc safe_world (λ f. refl) (λ b. read_answer (length after) (reads b) (read_fits b)) (λ d h. slot_below d)
 
     object_ok : (o : Object (List ℕ)) → ObjectFits sc (length after) o → ObjectOk safe_world P Q o
     object_ok (Object.bytes b) h = tt
@@ -93,7 +93,7 @@ module _ (sc : Script) (reads : List ℕ → Answer (List ℕ)) (read_fits : (b 
     known_ok : (d : Row) (o : Object (List ℕ)) → Q d → known_of objects d ≡ Some o → ObjectOk safe_world P Q o
     known_ok (known b) o q e =
         object_ok o (object_more sc (length rows) (length after) o longer (fits.objects_fit (number_of b) o e))
-    known_ok (call f vs) o q e = absurd cc
+    known_ok (call f c vs) o q e = absurd cc
     known_ok _ o q e = absurd cc
 
     stop_fits : (s : Stop) → StopOk safe_world P Q (known_of objects) known_ok s → StopFits sc (length after) s
@@ -111,22 +111,22 @@ module _ (sc : Script) (reads : List ℕ → Answer (List ℕ)) (read_fits : (b 
     abbrev Fit : Stop → Type 0
     Fit s = ((d : Row) → In d after → RowFits sc (length after) d) × StopFits sc (length after) s
 
-    ran_fits : (f : List ℕ) (us : Vals (List ℕ)) (S : Stop → Type 0) → In (call f us) rows → Runs sc reads objects rows f us after S → (s : Stop) × Fit s × S s
-    ran_fits f us S i run = go (run safe_world refl refl (safe_numbers after apart))
+    ran_fits : (f : List ℕ) (ca : Pairs (List ℕ)) (us : Vals (List ℕ)) (S : Stop → Type 0) → In (call f ca us) rows → Runs sc reads objects rows f ca us after S → (s : Stop) × Fit s × S s
+    ran_fits f ca us S i run = go (run safe_world refl refl (safe_numbers after apart))
       where
-        args : RowFits sc (length after) (call f us)
-        args = before_fits (call f us) i
+        args : RowFits sc (length after) (call f ca us)
+        args = before_fits (call f ca us) i
 
         either : (d : Row) → In d rows ⊎ Q d → RowFits sc (length after) d
         either d (inl j) = before_fits d j
         either d (inr h) = h
 
-        go : (s : Stop) × (walk (known_of objects) rows (body_at safe_world bodies f us nowhere start_st) ≡ stops after s) × S s → (s : Stop) × Fit s × S s
+        go : (s : Stop) × (walk (known_of objects) rows (body_at safe_world bodies f ca us nowhere start_st) ≡ stops after s) × S s → (s : Stop) × Fit s × S s
         go (s, e, is) = (s, fit, is)
           where
             ok : WalkOk safe_world P Q (known_of objects) known_ok rows (stops after s)
             ok =
-                subst (WalkOk safe_world P Q (known_of objects) known_ok rows) e (walk_ok safe_world P Q (known_of objects) known_ok (body_at safe_world bodies f us nowhere start_st) others rows (fine_call safe_world P Q closed others f us nowhere start_st tt (closed.inside_ok us (args.0, args.1))))
+                subst (WalkOk safe_world P Q (known_of objects) known_ok rows) e (walk_ok safe_world P Q (known_of objects) known_ok (body_at safe_world bodies f ca us nowhere start_st) others rows (fine_call safe_world P Q closed others f ca us nowhere start_st tt (dict_inside (List ℕ) K sc ca (args.1, args.3)) (closed.inside_ok us (args.0, args.2))))
 
             fit : Fit s
             fit = (λ d j. either d (ok.rows_ok d j), stop_fits s ok.stop_ok)
@@ -135,8 +135,8 @@ module _ (sc : Script) (reads : List ℕ → Answer (List ℕ)) (read_fits : (b 
     same_objects k o e = object_more sc (length rows) (length after) o longer (fits.objects_fit k o e)
 
     -- where a run waits, what it waits for is held
-    pub fits_waiting : (f : List ℕ) (us : Vals (List ℕ)) (n : List ℕ) → In (call f us) rows → Runs sc reads objects rows f us after (WaitsFor n) → Fits sc after objects × (number_of n < length after)
-    fits_waiting f us n i run = go (ran_fits f us (WaitsFor n) i run)
+    pub fits_waiting : (f : List ℕ) (ca : Pairs (List ℕ)) (us : Vals (List ℕ)) (n : List ℕ) → In (call f ca us) rows → Runs sc reads objects rows f ca us after (WaitsFor n) → Fits sc after objects × (number_of n < length after)
+    fits_waiting f ca us n i run = go (ran_fits f ca us (WaitsFor n) i run)
       where
         go : (s : Stop) × Fit s × WaitsFor n s → Fits sc after objects × (number_of n < length after)
         go (s, h, is) = (record { rows_fit = h.0; objects_fit = same_objects }, below)
@@ -145,8 +145,8 @@ module _ (sc : Script) (reads : List ℕ → Answer (List ℕ)) (read_fits : (b 
             below = subst (StopFits sc (length after)) is h.1
 
     -- where it ends, its object may be kept
-    pub fits_learning : (objects' : List (Option (Object (List ℕ)))) (k : ℕ) (f : List ℕ) (us : Vals (List ℕ)) (o : Object (List ℕ)) → In (call f us) rows → Runs sc reads objects rows f us after (EndsAs o) → Puts objects k o objects' → Fits sc after objects'
-    fits_learning objects' k f us o i run puts = go (ran_fits f us (EndsAs o) i run)
+    pub fits_learning : (objects' : List (Option (Object (List ℕ)))) (k : ℕ) (f : List ℕ) (ca : Pairs (List ℕ)) (us : Vals (List ℕ)) (o : Object (List ℕ)) → In (call f ca us) rows → Runs sc reads objects rows f ca us after (EndsAs o) → Puts objects k o objects' → Fits sc after objects'
+    fits_learning objects' k f ca us o i run puts = go (ran_fits f ca us (EndsAs o) i run)
       where
         some_is : (a b : Object (List ℕ)) → Some a ≡ Some b → a ≡ b
         some_is a b q = cc

@@ -1,8 +1,8 @@
 -- What a sequential run learns is what the meaning sees.
 use Rattle.std.proofs.Common.{◌≡◌, ◌≤◌, ◌<◌, ℕ, suc, ◌+◌, List, ◌++◌, length, Bool, true, false, Option, Some, None, slice_get, nat_eq, ◌⊎◌, inl, inr, refl, sym, ap, subst, ◌∙◌, arith, eqb-true, eq-eqb}
 use Rattle.std.proofs.lemmas.List.{append_assoc, length-append}
-use Rattle.sky_base.specs.Val.{Vals, call, out, input, known}
-use Rattle.sky_base.specs.Name.{low_vals, low_desc}
+use Rattle.sky_base.specs.Val.{Vals, Pairs, call, out, input, known}
+use Rattle.sky_base.specs.Name.{low_vals, low_pairs, low_desc}
 use Rattle.sky_base.specs.Op.{Answer}
 use Rattle.sky_base.specs.Tree.{nowhere}
 use Rattle.sky_base.specs.Res.{bodies, Object, End, St}
@@ -65,7 +65,7 @@ grown_back rows more after later e g =
     }
 
 pub name_tag : (tag : Row → List ℕ) (d : Desc) → low_ref spell tag d ≡ known (tag (low_desc spell tag d))
-name_tag tag (call f vs) = refl
+name_tag tag (call f c vs) = refl
 name_tag tag (out x v n i) = refl
 name_tag tag (input k) = refl
 name_tag tag (known b) = absurd b
@@ -75,20 +75,21 @@ pub object_is : (objects : List (Option (Object (List ℕ)))) (later : List Row)
 object_is objects later d room =
     ap (known_of objects) (name_tag (tag_of later) d) ∙ ap (object_at objects) (number_slot (index_of (low_desc spell (tag_of later) d) later) (index_most (low_desc spell (tag_of later) d) later room))
 
-abbrev IsCall : Desc → (Row → List ℕ) → List ℕ → Vals (List ℕ) → Type 0
-IsCall d tag f us = (vs : Vals ⊥) × (d ≡ call f vs) × (low_vals spell tag vs ≡ us)
-
-pub from_call : (d : Desc) (tag : Row → List ℕ) (f : List ℕ) (us : Vals (List ℕ)) → low_desc spell tag d ≡ call f us → (vs : Vals ⊥) × (d ≡ call f vs) × (low_vals spell tag vs ≡ us)
-from_call (call g vs) tag f us e = (vs, ap (λ x. call x vs) (fun_is g f (low_vals spell tag vs) us e), args_are g f (low_vals spell tag vs) us e)
+pub from_call : (d : Desc) (tag : Row → List ℕ) (f : List ℕ) (ca : Pairs (List ℕ)) (us : Vals (List ℕ)) → low_desc spell tag d ≡ call f ca us → (cs : Pairs ⊥) × (vs : Vals ⊥) × (d ≡ call f cs vs) × (low_pairs spell tag cs ≡ ca) × (low_vals spell tag vs ≡ us)
+from_call (call g cs vs) tag f ca us e =
+    (cs, vs, ap (λ x. call x cs vs) (fun_is g f (low_pairs spell tag cs) ca (low_vals spell tag vs) us e), caught_are g f (low_pairs spell tag cs) ca (low_vals spell tag vs) us e, args_are g f (low_pairs spell tag cs) ca (low_vals spell tag vs) us e)
   where
-    fun_is : (g f : List ℕ) (a b : Vals (List ℕ)) → call g a ≡ call f b → g ≡ f
-    fun_is g f a b e = cc
+    fun_is : (g f : List ℕ) (p q : Pairs (List ℕ)) (a b : Vals (List ℕ)) → call g p a ≡ call f q b → g ≡ f
+    fun_is g f p q a b e = cc
 
-    args_are : (g f : List ℕ) (a b : Vals (List ℕ)) → call g a ≡ call f b → a ≡ b
-    args_are g f a b e = cc
-from_call (out x v n i) tag f us e = absurd cc
-from_call (input k) tag f us e = absurd cc
-from_call (known b) tag f us e = absurd b
+    caught_are : (g f : List ℕ) (p q : Pairs (List ℕ)) (a b : Vals (List ℕ)) → call g p a ≡ call f q b → p ≡ q
+    caught_are g f p q a b e = cc
+
+    args_are : (g f : List ℕ) (p q : Pairs (List ℕ)) (a b : Vals (List ℕ)) → call g p a ≡ call f q b → a ≡ b
+    args_are g f p q a b e = cc
+from_call (out x v n i) tag f ca us e = absurd cc
+from_call (input k) tag f ca us e = absurd cc
+from_call (known b) tag f ca us e = absurd b
 
 end_low : (tag : Row → List ℕ) (x : End ⊥) → low_obj spell tag (end_object x) ≡ end_object (low_end spell tag x)
 end_low tag End.goes = refl
@@ -103,21 +104,21 @@ end_seen (End.returned v) y = refl
 end_seen (End.failed f) y = refl
 
 module _ (job : Job) (around : Around) (reads : List ℕ → Answer (List ℕ)) (alike : (tag : Row → List ℕ) (b : List ℕ) → reads b ≡ lower {N = ⊥} spell tag (around.reads b)) where
-  task_rel : (rows : List Row) (f : List ℕ) (vs : Vals ⊥) → Rel spell (tag_of rows) (run_of job around f vs) (body_at (numbered rows reads job.script) bodies f (low_vals spell (tag_of rows) vs) nowhere start_st)
-  task_rel rows f vs =
-      rel_call spell (tag_of rows) (world_of job.script around) (λ d. known (tag_of rows d)) reads (λ d. sym (name_tag (tag_of rows) d)) (alike (tag_of rows)) bodies f vs nowhere start_st
+  task_rel : (rows : List Row) (f : List ℕ) (cs : Pairs ⊥) (vs : Vals ⊥) → Rel spell (tag_of rows) (run_of job around f cs vs) (body_at (numbered rows reads job.script) bodies f (low_pairs spell (tag_of rows) cs) (low_vals spell (tag_of rows) vs) nowhere start_st)
+  task_rel rows f cs vs =
+      rel_call spell (tag_of rows) (world_of job.script around) (λ d. known (tag_of rows d)) reads (λ d. sym (name_tag (tag_of rows) d)) (alike (tag_of rows)) bodies f cs vs nowhere start_st
 
   -- a run over numbers shows the run of each description that stands for it
-  pub ran : (rows after later : List Row) (objects : List (Option (Object (List ℕ)))) (n : ℕ) (f : List ℕ) (vs : Vals ⊥) (S : Stop → Type 0) → Grown after later → KnownAt job around later objects n → Runs job.script reads objects rows f (low_vals spell (tag_of later) vs) after S → (s : Stop) × Sim job around (tag_of later) n (run_of job around f vs) rows (stops after s) × FullAt (stops after s) × S s
-  ran rows after later objects n f vs S g kn run = go (run (numbered later reads job.script) refl refl numbers)
+  pub ran : (rows after later : List Row) (objects : List (Option (Object (List ℕ)))) (n : ℕ) (f : List ℕ) (cs : Pairs ⊥) (vs : Vals ⊥) (S : Stop → Type 0) → Grown after later → KnownAt job around later objects n → Runs job.script reads objects rows f (low_pairs spell (tag_of later) cs) (low_vals spell (tag_of later) vs) after S → (s : Stop) × Sim job around (tag_of later) n (run_of job around f cs vs) rows (stops after s) × FullAt (stops after s) × S s
+  ran rows after later objects n f cs vs S g kn run = go (run (numbered later reads job.script) refl refl numbers)
     where
       numbers : Numbers after (λ d. known (tag_of later d))
       numbers =
           numbers_front after g.more (λ d. known (tag_of later d)) (subst (λ x. Numbers x (λ d. known (tag_of later d))) g.begins (numbers_hold later g.apart))
 
-      go : (s : Stop) × (walk (known_of objects) rows (body_at (numbered later reads job.script) bodies f (low_vals spell (tag_of later) vs) nowhere start_st) ≡ stops after s) × S s → (s : Stop) × Sim job around (tag_of later) n (run_of job around f vs) rows (stops after s) × FullAt (stops after s) × S s
+      go : (s : Stop) × (walk (known_of objects) rows (body_at (numbered later reads job.script) bodies f (low_pairs spell (tag_of later) cs) (low_vals spell (tag_of later) vs) nowhere start_st) ≡ stops after s) × S s → (s : Stop) × Sim job around (tag_of later) n (run_of job around f cs vs) rows (stops after s) × FullAt (stops after s) × S s
       go (s, e, is) =
-          (s, subst (Sim job around (tag_of later) n (run_of job around f vs) rows) e (sim job around (tag_of later) n (known_of objects) kn (run_of job around f vs) (body_at (numbered later reads job.script) bodies f (low_vals spell (tag_of later) vs) nowhere start_st) rows (task_rel later f vs)), subst FullAt e (walk_full (known_of objects) (body_at (numbered later reads job.script) bodies f (low_vals spell (tag_of later) vs) nowhere start_st) rows), is)
+          (s, subst (Sim job around (tag_of later) n (run_of job around f cs vs) rows) e (sim job around (tag_of later) n (known_of objects) kn (run_of job around f cs vs) (body_at (numbered later reads job.script) bodies f (low_pairs spell (tag_of later) cs) (low_vals spell (tag_of later) vs) nowhere start_st) rows (task_rel later f cs vs)), subst FullAt e (walk_full (known_of objects) (body_at (numbered later reads job.script) bodies f (low_pairs spell (tag_of later) cs) (low_vals spell (tag_of later) vs) nowhere start_st) rows), is)
 
   sees_more : (tag : Row → List ℕ) (n : ℕ) (d : Desc) (o : Object (List ℕ)) → Sees job around tag n d o → Sees job around tag (suc n) d o
   sees_more tag n d o (p, e, l) = (p, go (see_kept job around n d), l)
@@ -126,9 +127,9 @@ module _ (job : Job) (around : Around) (reads : List ℕ → Answer (List ℕ)) 
       go (inl h) = absurd cc
       go (inr h) = sym h ∙ e
 
-  sees_call : (tag : Row → List ℕ) (n : ℕ) (d : Desc) (f : List ℕ) (vs : Vals ⊥) (x : End ⊥) (y : St ⊥) → d ≡ call f vs → outcome (see job around n) (run_of job around f vs) ≡ ended x y → see job around (suc n) d ≡ Some (end_object x)
+  sees_call : (tag : Row → List ℕ) (n : ℕ) (d : Desc) (f : List ℕ) (cs : Pairs ⊥) (vs : Vals ⊥) (x : End ⊥) (y : St ⊥) → d ≡ call f cs vs → outcome (see job around n) (run_of job around f cs vs) ≡ ended x y → see job around (suc n) d ≡ Some (end_object x)
   unfolding see
-  sees_call tag n d f vs x y e o = ap (see job around (suc n)) e ∙ (ap object_of o ∙ end_seen x y)
+  sees_call tag n d f cs vs x y e o = ap (see job around (suc n)) e ∙ (ap object_of o ∙ end_seen x y)
 
   -- ---- one more object is known
 
@@ -171,21 +172,21 @@ module _ (job : Job) (around : Around) (reads : List ℕ → Answer (List ℕ)) 
       go (n, kn) = (suc n, each n kn)
 
   -- the end of a call's run is what is seen of it
-  pub learns_call : (rows more after : List Row) (objects objects' : List (Option (Object (List ℕ)))) (k : ℕ) (f : List ℕ) (us : Vals (List ℕ)) (o : Object (List ℕ)) → Knows job around rows objects → after ≡ rows ++ more → slice_get after k ≡ Some (call f us) → Runs job.script reads objects rows f us after (EndsAs o) → Puts objects k o objects' → Knows job around after objects'
-  learns_call rows more after objects objects' k f us o knows begins at run puts =
-      learns_one rows more after objects objects' k (call f us) o knows begins at seen puts
+  pub learns_call : (rows more after : List Row) (objects objects' : List (Option (Object (List ℕ)))) (k : ℕ) (f : List ℕ) (ca : Pairs (List ℕ)) (us : Vals (List ℕ)) (o : Object (List ℕ)) → Knows job around rows objects → after ≡ rows ++ more → slice_get after k ≡ Some (call f ca us) → Runs job.script reads objects rows f ca us after (EndsAs o) → Puts objects k o objects' → Knows job around after objects'
+  learns_call rows more after objects objects' k f ca us o knows begins at run puts =
+      learns_one rows more after objects objects' k (call f ca us) o knows begins at seen puts
     where
-      seen : (later : List Row) → Grown after later → SeenNext later objects (call f us) o
-      seen later g n kn d row = of_call (from_call d (tag_of later) f us row)
+      seen : (later : List Row) → Grown after later → SeenNext later objects (call f ca us) o
+      seen later g n kn d row = of_call (from_call d (tag_of later) f ca us row)
         where
-          of_end : (vs : Vals ⊥) (s : Stop) → d ≡ call f vs → StopIs job around (tag_of later) n (run_of job around f vs) s → EndsAs o s → Sees job around (tag_of later) (suc n) d o
-          of_end vs (Stop.ended e st) is (x, y, out_is, end_is, st_is) q =
-              (end_object x, sees_call (tag_of later) n d f vs x y is out_is, end_low (tag_of later) x ∙ ap end_object end_is ∙ q)
-          of_end vs (Stop.waits e) is h q = absurd q
-          of_end vs (Stop.full e) is h q = absurd q
+          of_end : (cs : Pairs ⊥) (vs : Vals ⊥) (s : Stop) → d ≡ call f cs vs → StopIs job around (tag_of later) n (run_of job around f cs vs) s → EndsAs o s → Sees job around (tag_of later) (suc n) d o
+          of_end cs vs (Stop.ended e st) is (x, y, out_is, end_is, st_is) q =
+              (end_object x, sees_call (tag_of later) n d f cs vs x y is out_is, end_low (tag_of later) x ∙ ap end_object end_is ∙ q)
+          of_end cs vs (Stop.waits e) is h q = absurd q
+          of_end cs vs (Stop.full e) is h q = absurd q
 
-          of_call : (vs : Vals ⊥) × (d ≡ call f vs) × (low_vals spell (tag_of later) vs ≡ us) → Sees job around (tag_of later) (suc n) d o
-          of_call (vs, is, low) = of_run (ran rows after later objects n f vs (EndsAs o) g kn (subst (λ us. Runs job.script reads objects rows f us after (EndsAs o)) (sym low) run))
+          of_call : (cs : Pairs ⊥) × (vs : Vals ⊥) × (d ≡ call f cs vs) × (low_pairs spell (tag_of later) cs ≡ ca) × (low_vals spell (tag_of later) vs ≡ us) → Sees job around (tag_of later) (suc n) d o
+          of_call (cs, vs, is, caught, low) = of_run (ran rows after later objects n f cs vs (EndsAs o) g kn (subst (λ us. Runs job.script reads objects rows f (low_pairs spell (tag_of later) cs) us after (EndsAs o)) (sym low) (subst (λ ca. Runs job.script reads objects rows f ca us after (EndsAs o)) (sym caught) run)))
             where
-              of_run : (s : Stop) × Sim job around (tag_of later) n (run_of job around f vs) rows (stops after s) × FullAt (stops after s) × EndsAs o s → Sees job around (tag_of later) (suc n) d o
-              of_run (s, sim, full, q) = of_end vs s is sim.stop_is q
+              of_run : (s : Stop) × Sim job around (tag_of later) n (run_of job around f cs vs) rows (stops after s) × FullAt (stops after s) × EndsAs o s → Sees job around (tag_of later) (suc n) d o
+              of_run (s, sim, full, q) = of_end cs vs s is sim.stop_is q

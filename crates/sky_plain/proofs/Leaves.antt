@@ -13,8 +13,7 @@ use Rattle.sky_base.specs.declared.value.Value.{Value}
 use Rattle.sky_base.specs.declared.value.Pair.{Pair}
 use Rattle.sky_base.specs.Tree.{Place, Form, FunDef, Script, block_nodes, funs_nodes}
 use Rattle.sky_base.specs.Eval.{Body, find_fun, find_fun_if, find_body, find_body_if, body_of}
-use Rattle.sky_base.specs.Names.{names_of, known_of}
-use Rattle.sky_base.specs.declared.text.Name.{Name}
+use Rattle.sky_base.specs.Names.{known_of}
 use Rattle.sky_base.specs.declared.fault.Fault.{Fault}
 use Rattle.sky_base.specs.See.{slot}
 use Rattle.sky_base.specs.Eval.{outputs}
@@ -37,7 +36,7 @@ size_some (num z) = omega arith
 size_some (text t) = omega arith
 size_some (list vs) = omega arith
 size_some (dict ps) = omega arith
-size_some (fun f) = omega arith
+size_some (fun f c) = omega arith
 size_some (ref d) = omega arith
 
 pub count_least : (vs : Vals (List ℕ)) → count vs ≤ sizes vs
@@ -148,15 +147,7 @@ missing_body (b ∷ bs) sc n e = body_missing (b ∷ bs) sc.funs (block_nodes sc
 pub main_body : (x : List ℕ) (sc : Script) → x ≡ [] → code_of (body_of x sc) ≡ Some ([], sc.main)
 main_body x sc e = rw e refl
 
-pub found_fits : (x : List ℕ) (fs : List FunDef) (d : FunDef) → find_fun x fs ≡ Some d → block_nodes d.body ≤ funs_nodes fs
-found_fits x [] d e = absurd cc
-found_fits x (f ∷ fs) d e = fits_if (same_text x f.name) f d (find_fun x fs) (funs_nodes fs) e (found_fits x fs d)
-  where
-    fits_if : (b : Bool) (f d : FunDef) (r : Option FunDef) (n : ℕ) → find_fun_if b f r ≡ Some d → (r ≡ Some d → block_nodes d.body ≤ n) → block_nodes d.body ≤ block_nodes f.body + n
-    fits_if true f d r n e h = let g : f ≡ d = cc in rw (← g) (omega arith)
-    fits_if false f d r n e h = omega (arith, h e)
-
-pub ruleset found_bodies = (found_fits, found_body, missing_body, main_body)
+pub ruleset found_bodies = (found_body, missing_body, main_body)
 
 -- ---- lists that grow
 
@@ -178,7 +169,7 @@ pub ruleset joined = (join_step, join_end, pairs_end)
 
 -- ---- references
 
-pub refs_size : (ns : List (List ℕ)) → sizes (refs_to (known_of ns)) ≡ 20 * length ns
+pub refs_size : (ns : List (List ℕ)) → sizes (refs_to (known_of ns)) ≡ 32 * length ns
 refs_size [] = refl
 refs_size (n ∷ ns) = omega (arith, refs_size ns)
 
@@ -189,22 +180,22 @@ refs_depth (n ∷ ns) = omega (arith, refs_depth ns)
 pub refs_kept : (ns : List (List ℕ)) (v : Val (List ℕ)) → length ns ≤ 64 → v ≡ list (refs_to (known_of ns)) → Kept v
 refs_kept ns v h e = rw e (record { deep = omega (arith, refs_depth ns); large = omega (arith, refs_size ns) })
 
-names_at : (ns : List Name) (i : ℕ) (d : Name) → i < length ns → known_of (names_of (drop i ns)) ≡ known (get_or ns i d).bytes ∷ known_of (names_of (drop (i + 1) ns))
+names_at : (ns : List (List ℕ)) (i : ℕ) (d : List ℕ) → i < length ns → known_of (drop i ns) ≡ known (get_or ns i d) ∷ known_of (drop (i + 1) ns)
 names_at [] i d h = absurd (omega arith)
 names_at (n ∷ ns) zero d h = refl
 names_at (n ∷ ns) (suc i) d h = let e : suc i + 1 ≡ suc (i + 1) = omega arith in rw e (names_at ns i d (omega arith))
 
-names_past : (ns : List Name) (i : ℕ) → length ns ≤ i → known_of (names_of (drop i ns)) ≡ []
+names_past : (ns : List (List ℕ)) (i : ℕ) → length ns ≤ i → known_of (drop i ns) ≡ []
 names_past [] zero h = refl
 names_past [] (suc i) h = refl
 names_past (n ∷ ns) zero h = absurd (omega arith)
 names_past (n ∷ ns) (suc i) h = names_past ns i (omega arith)
 
-pub refs_step : (vs : Vals (List ℕ)) (ns : List Name) (i : ℕ) (d : Name) → i < length ns → join (add_val vs (ref (known (get_or ns i d).bytes))) (refs_to (known_of (names_of (drop (i + 1) ns)))) ≡ join vs (refs_to (known_of (names_of (drop i ns))))
+pub refs_step : (vs : Vals (List ℕ)) (ns : List (List ℕ)) (i : ℕ) (d : List ℕ) → i < length ns → join (add_val vs (ref (known (get_or ns i d)))) (refs_to (known_of (drop (i + 1) ns))) ≡ join vs (refs_to (known_of (drop i ns)))
 refs_step vs ns i d h =
-    join_step vs (refs_to (known_of (names_of (drop (i + 1) ns)))) (ref (known (get_or ns i d).bytes)) ∙ ap (λ ds. join vs (refs_to ds)) (sym (names_at ns i d h))
+    join_step vs (refs_to (known_of (drop (i + 1) ns))) (ref (known (get_or ns i d))) ∙ ap (λ ds. join vs (refs_to ds)) (sym (names_at ns i d h))
 
-pub refs_end : (vs : Vals (List ℕ)) (ns : List Name) (i : ℕ) → length ns ≤ i → join vs (refs_to (known_of (names_of (drop i ns)))) ≡ vs
+pub refs_end : (vs : Vals (List ℕ)) (ns : List (List ℕ)) (i : ℕ) → length ns ≤ i → join vs (refs_to (known_of (drop i ns))) ≡ vs
 refs_end vs ns i h = ap (λ ds. join vs (refs_to ds)) (names_past ns i h) ∙ join_end vs
 
 pub ruleset refs_list = (refs_kept, refs_step, refs_end)
@@ -212,19 +203,19 @@ pub ruleset refs_list = (refs_kept, refs_step, refs_end)
 -- ---- waiting for several objects
 
 module _ (see : Row → Option Obj) (ds rows : List Row) (st : Vars) where
-  pub waits_step : (f : Option Fault) (ns : List Name) (i : ℕ) (d : Name) (o : Obj) → i < length ns → see (known (get_or ns i d).bytes) ≡ Some o → seen_after f (look see (known_of (names_of (drop i ns)))) ds rows st ≡ seen_after (fault_first f o) (look see (known_of (names_of (drop (i + 1) ns)))) ds rows st
-  waits_step f ns i d o h e =
-      let rest = known_of (names_of (drop (i + 1) ns)) in
-      let x = known (get_or ns i d).bytes in
-      ap (λ es. seen_after f (look see es) ds rows st) (names_at ns i d h) ∙ ap (λ q. seen_after f (seen_one q x (look see rest)) ds rows st) e ∙ seen_step f o (look see rest) ds rows st
+  pub waits_step : (f : Option Fault) (ns : List (List ℕ)) (i : ℕ) (d : List ℕ) (o : Obj) → i < length ns → d ≡ get_or ns i d → see (known d) ≡ Some o → seen_after f (look see (known_of (drop i ns))) ds rows st ≡ seen_after (fault_first f o) (look see (known_of (drop (i + 1) ns))) ds rows st
+  waits_step f ns i d o h q e =
+      let rest = known_of (drop (i + 1) ns) in
+      let x = known (get_or ns i d) in
+      ap (λ es. seen_after f (look see es) ds rows st) (names_at ns i d h) ∙ ap (λ z. seen_after f (seen_one z x (look see rest)) ds rows st) (ap (λ z. see (known z)) (sym q) ∙ e) ∙ seen_step f o (look see rest) ds rows st
 
-  pub waits_stop : (f : Option Fault) (ns : List Name) (i : ℕ) (d : Name) → i < length ns → see (known (get_or ns i d).bytes) ≡ None → seen_after f (look see (known_of (names_of (drop i ns)))) ds rows st ≡ Out.cut (Cutoff.waits (known (get_or ns i d).bytes)) rows
-  waits_stop f ns i d h e =
-      let rest = known_of (names_of (drop (i + 1) ns)) in
-      let x = known (get_or ns i d).bytes in
-      ap (λ es. seen_after f (look see es) ds rows st) (names_at ns i d h) ∙ ap (λ q. seen_after f (seen_one q x (look see rest)) ds rows st) e
+  pub waits_stop : (f : Option Fault) (ns : List (List ℕ)) (i : ℕ) (d : List ℕ) → i < length ns → d ≡ get_or ns i d → see (known d) ≡ None → seen_after f (look see (known_of (drop i ns))) ds rows st ≡ Out.cut (Cutoff.waits (known d)) rows
+  waits_stop f ns i d h q e =
+      let rest = known_of (drop (i + 1) ns) in
+      let x = known (get_or ns i d) in
+      ap (λ es. seen_after f (look see es) ds rows st) (names_at ns i d h) ∙ ap (λ z. seen_after f (seen_one z x (look see rest)) ds rows st) (ap (λ z. see (known z)) (sym q) ∙ e) ∙ ap (λ z. Out.cut (Cutoff.waits (known z)) rows) (sym q)
 
-  pub waits_end : (f : Option Fault) (ns : List Name) (i : ℕ) → length ns ≤ i → seen_after f (look see (known_of (names_of (drop i ns)))) ds rows st ≡ seen_after f (Seen.all []) ds rows st
+  pub waits_end : (f : Option Fault) (ns : List (List ℕ)) (i : ℕ) → length ns ≤ i → seen_after f (look see (known_of (drop i ns))) ds rows st ≡ seen_after f (Seen.all []) ds rows st
   waits_end f ns i h = ap (λ es. seen_after f (look see es) ds rows st) (names_past ns i h)
 
 -- ---- outputs, one at a time

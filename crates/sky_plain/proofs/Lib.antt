@@ -24,10 +24,11 @@ pub mod Inputs
 pub mod OpenWork
 pub mod Stacks
 pub mod Vars
+pub mod Catches
+pub mod FunPlaces
 pub mod Signs
 pub mod Awaits
 pub mod Weights
-pub mod Budget
 pub mod RunRules
 pub mod Flow
 pub mod RunEnds

@@ -109,7 +109,9 @@ module _ (job : Job) (around : Around) where
       go (d, od) = got_below rows k _ (opened_at job around rows k ks d od)
 
   pub calls_kept : (rows : List Row) (objects : List (Option Obj)) → Standing job around rows objects → CallsKept rows
-  calls_kept rows objects standing k f vs e = (standing.fits.rows_fit (call f vs) (got_in rows k (call f vs) e)).0
+  calls_kept rows objects standing k f c vs e =
+      let fit = standing.fits.rows_fit (call f c vs) (got_in rows k (call f c vs) e) in
+      (fit.0, fit.1)
 
   -- 4,096 descriptions are open
   pub open_deep : (rows : List Row) (objects : List (Option Obj)) (first k : ℕ) (ks : List ℕ) → Apart rows → length rows ≤ most_rows → length (k ∷ ks) ≡ most_open → Open job around rows objects first (k ∷ ks) → (d : Desc) × Chain job around most_open d

@@ -46,7 +46,7 @@ module _ (tag : Row → List ℕ) where
     slots_low i (text t) = refl
     slots_low i (list vs) = ap list (vals_slots_low i vs)
     slots_low i (dict ps) = ap dict (pairs_slots_low i ps)
-    slots_low i (fun f) = refl
+    slots_low i (fun f c) = ap (fun f) (pairs_slots_low i c)
     slots_low i (ref d) = refl
 
     vals_slots_low : (i : ℕ) (vs : Vals) → vals_replaced to_slot i (low_vals spell tag vs) ≡ vals_replaced to_slot i vs
@@ -118,7 +118,7 @@ module _ (job : Job) (around : Around) (writes : v.Val (List ℕ) → Option (Li
 -- ---- rows of executor tasks and of inputs
 
 from_out : (d : Desc) (tag : Row → List ℕ) (x : List ℕ) (us : v.Val (List ℕ)) (c i : ℕ) → low_desc spell tag d ≡ out x us c i → (a : Val) × (d ≡ out x a c i) × (low spell tag a ≡ us)
-from_out (call f vs) tag x us c i e = absurd cc
+from_out (call f z vs) tag x us c i e = absurd cc
 from_out (out y a b j) tag x us c i e =
     (a, (λ t. out (name_is y x (low spell tag a) us b c j i e t) a (many_is y x (low spell tag a) us b c j i e t) (at_is y x (low spell tag a) us b c j i e t)), args_is y x (low spell tag a) us b c j i e)
   where
@@ -137,7 +137,7 @@ from_out (input k) tag x us c i e = absurd cc
 from_out (known b) tag x us c i e = absurd b
 
 from_input : (d : Desc) (tag : Row → List ℕ) (key : List ℕ) → low_desc spell tag d ≡ input key → d ≡ input key
-from_input (call f vs) tag key e = absurd cc
+from_input (call f z vs) tag key e = absurd cc
 from_input (out x a c i) tag key e = absurd cc
 from_input (input k) tag key e = ap input (key_is k key e)
   where

@@ -9,7 +9,7 @@ use Rattle.sky_base.specs.Res.{visits, Object, End, Entry, star_wait, exec_wait,
 use Rattle.sky_base.specs.Read.{refs_of}
 use Rattle.sky_base.specs.See.{slot}
 use Rattle.sky_base.specs.Eval as run
-use Rattle.sky_base.specs.Eval.{World, find_fun, Body, body_of, bind, set_var, is_one_of, named, lit_val, oper, outputs, truth_of, wait_end, exec_end, eval, eval_parts, eval_links, eval_ands, eval_steps, eval_args, eval_stm, eval_stms, eval_arms, eval_else, turns, repeats, each, each_of, decide, joins, signs, signed, deref, formed, called, enter, in_body, body_at}
+use Rattle.sky_base.specs.Eval.{World, find_fun, Body, body_of, bind, set_var, is_one_of, named, closed, lit_val, oper, outputs, truth_of, wait_end, exec_end, eval, eval_parts, eval_links, eval_ands, eval_steps, eval_args, eval_stm, eval_stms, eval_arms, eval_else, turns, repeats, each, each_of, decide, joins, signs, signed, deref, formed, called, enter, in_body, body_at}
 use Rattle.sky_base.specs.declared.fault.FaultKind.{FaultKind}
 use Rattle.sky_base.proofs.Exact.{exact_desc, exact_text, self_desc, self_text}
 use Rattle.sky_plain.specs.Walk.{Row, Seen, Stop, Walked, stops, in_room, if_new, learn_to, is_held, on_learned, on_seen, seen_one, look, walk, known_of, Numbers}
@@ -247,7 +247,7 @@ module _ (g : Ground) (make : Row → Row) where
   agree_decide (text t) p rows st on off x y a b = agree_fails FaultKind.BadKind p rows st
   agree_decide (list vs) p rows st on off x y a b = agree_fails FaultKind.BadKind p rows st
   agree_decide (dict ps) p rows st on off x y a b = agree_fails FaultKind.BadKind p rows st
-  agree_decide (fun s) p rows st on off x y a b = agree_fails FaultKind.BadKind p rows st
+  agree_decide (fun s z) p rows st on off x y a b = agree_fails FaultKind.BadKind p rows st
   agree_decide (ref d) p rows st on off x y a b = agree_fails FaultKind.BadKind p rows st
 
   agree_joins : (j : Junction) (v : Val) (p : Place) (rows : List Row) (st : Vars) (k : Vars → Res (List ℕ)) (x : Out) → Agree rows (k st) x → Agree rows (joins j v p st k) (plain.joins j v p rows st x)
@@ -299,19 +299,19 @@ module _ (g : Ground) (make : Row → Row) where
   agree_spawn_if true d p rows st = agree_make d rows st
   agree_spawn_if false d p rows st = agree_fails FaultKind.WrongCount p rows st
 
-  agree_spawn_fun : (q : Option FunDef) (f : List ℕ) (vs : Vals) (p : Place) (rows : List Row) (st : Vars) → Agree rows (run.spawn_fun world q f vs p st) (plain.spawn_fun q f vs p rows st)
-  agree_spawn_fun None f vs p rows st = agree_fails FaultKind.BadKind p rows st
-  agree_spawn_fun (Some d) f vs p rows st = agree_spawn_if (nat_eq (length d.params) (count vs)) (call f vs) p rows st
+  agree_spawn_fun : (q : Option FunDef) (f : List ℕ) (c : Pairs) (vs : Vals) (p : Place) (rows : List Row) (st : Vars) → Agree rows (run.spawn_fun world q f c vs p st) (plain.spawn_fun q f c vs p rows st)
+  agree_spawn_fun None f c vs p rows st = agree_fails FaultKind.BadKind p rows st
+  agree_spawn_fun (Some d) f c vs p rows st = agree_spawn_if (nat_eq (length d.params) (count vs)) (call f c vs) p rows st
 
-  agree_spawn_list : (f : List ℕ) (a : Val) (p : Place) (rows : List Row) (st : Vars) → Agree rows (run.spawn_list world f a p st) (plain.spawn_list g f a p rows st)
-  agree_spawn_list f null p rows st = agree_fails FaultKind.BadKind p rows st
-  agree_spawn_list f (truth b) p rows st = agree_fails FaultKind.BadKind p rows st
-  agree_spawn_list f (num z) p rows st = agree_fails FaultKind.BadKind p rows st
-  agree_spawn_list f (text t) p rows st = agree_fails FaultKind.BadKind p rows st
-  agree_spawn_list f (list vs) p rows st = agree_spawn_fun (find_fun f g.script.funs) f vs p rows st
-  agree_spawn_list f (dict ps) p rows st = agree_fails FaultKind.BadKind p rows st
-  agree_spawn_list f (fun x) p rows st = agree_fails FaultKind.BadKind p rows st
-  agree_spawn_list f (ref d) p rows st = agree_fails FaultKind.BadKind p rows st
+  agree_spawn_list : (f : List ℕ) (c : Pairs) (a : Val) (p : Place) (rows : List Row) (st : Vars) → Agree rows (run.spawn_list world f c a p st) (plain.spawn_list g f c a p rows st)
+  agree_spawn_list f c null p rows st = agree_fails FaultKind.BadKind p rows st
+  agree_spawn_list f c (truth b) p rows st = agree_fails FaultKind.BadKind p rows st
+  agree_spawn_list f c (num z) p rows st = agree_fails FaultKind.BadKind p rows st
+  agree_spawn_list f c (text t) p rows st = agree_fails FaultKind.BadKind p rows st
+  agree_spawn_list f c (list vs) p rows st = agree_spawn_fun (find_fun f g.script.funs) f c vs p rows st
+  agree_spawn_list f c (dict ps) p rows st = agree_fails FaultKind.BadKind p rows st
+  agree_spawn_list f c (fun x z) p rows st = agree_fails FaultKind.BadKind p rows st
+  agree_spawn_list f c (ref d) p rows st = agree_fails FaultKind.BadKind p rows st
 
   agree_spawned : (f a : Val) (p : Place) (rows : List Row) (st : Vars) → Agree rows (run.spawned world f a p st) (plain.spawned g f a p rows st)
   agree_spawned null a p rows st = agree_fails FaultKind.BadKind p rows st
@@ -320,7 +320,7 @@ module _ (g : Ground) (make : Row → Row) where
   agree_spawned (text t) a p rows st = agree_fails FaultKind.BadKind p rows st
   agree_spawned (list vs) a p rows st = agree_fails FaultKind.BadKind p rows st
   agree_spawned (dict ps) a p rows st = agree_fails FaultKind.BadKind p rows st
-  agree_spawned (fun x) a p rows st = agree_spawn_list x a p rows st
+  agree_spawned (fun x z) a p rows st = agree_spawn_list x z a p rows st
   agree_spawned (ref d) a p rows st = agree_fails FaultKind.BadKind p rows st
 
   module _ (p : Place) (rows : List Row) (st : Vars) (k : List Row → Vars → Res (List ℕ)) (f : List Row → List Row → Out) (h : (ms more : List Row) → Agree more (k ms st) (f ms more)) where
@@ -336,7 +336,7 @@ module _ (g : Ground) (make : Row → Row) where
     agree_outputs_count x a (text t) = agree_fails FaultKind.BadKind p rows st
     agree_outputs_count x a (list vs) = agree_fails FaultKind.BadKind p rows st
     agree_outputs_count x a (dict ps) = agree_fails FaultKind.BadKind p rows st
-    agree_outputs_count x a (fun y) = agree_fails FaultKind.BadKind p rows st
+    agree_outputs_count x a (fun y z) = agree_fails FaultKind.BadKind p rows st
     agree_outputs_count x a (ref d) = agree_fails FaultKind.BadKind p rows st
 
     agree_outputs_of : (x a n : Val) → Agree rows (run.outputs_of world x a n p st k) (plain.outputs_of x a n p rows f)
@@ -346,7 +346,7 @@ module _ (g : Ground) (make : Row → Row) where
     agree_outputs_of (text x) a n = agree_outputs_count x a n
     agree_outputs_of (list vs) a n = agree_fails FaultKind.BadKind p rows st
     agree_outputs_of (dict ps) a n = agree_fails FaultKind.BadKind p rows st
-    agree_outputs_of (fun y) a n = agree_fails FaultKind.BadKind p rows st
+    agree_outputs_of (fun y z) a n = agree_fails FaultKind.BadKind p rows st
     agree_outputs_of (ref d) a n = agree_fails FaultKind.BadKind p rows st
 
   ended_exec : (ds : List Row) (os : List Obj) (rows : List Row) (st : Vars) → told (walk see rows (on_got gives (exec_end ds os) st)) ≡ plain.exec_end ds os rows st
@@ -384,7 +384,7 @@ module _ (g : Ground) (make : Row → Row) where
   agree_input (text k) p rows st = agree_input_if (is_one_of k g.script.keys) k p rows st
   agree_input (list vs) p rows st = agree_fails FaultKind.BadKind p rows st
   agree_input (dict ps) p rows st = agree_fails FaultKind.BadKind p rows st
-  agree_input (fun x) p rows st = agree_fails FaultKind.BadKind p rows st
+  agree_input (fun x z) p rows st = agree_fails FaultKind.BadKind p rows st
   agree_input (ref d) p rows st = agree_fails FaultKind.BadKind p rows st
 
   agree_one : (vs : List Val) (p : Place) (rows : List Row) (st : Vars) (k : Val → Res (List ℕ)) (f : Val → Out) → ((a : Val) → Agree rows (k a) (f a)) → Agree rows (run.with_one vs p st k) (plain.with_one (vals_of vs) p rows f)
@@ -460,7 +460,7 @@ module _ (g : Ground) (make : Row → Row) where
     agree_deref (text t) = agree_fails FaultKind.BadKind p rows st
     agree_deref (list vs) = agree_fails FaultKind.BadKind p rows st
     agree_deref (dict ps) = agree_fails FaultKind.BadKind p rows st
-    agree_deref (fun x) = agree_fails FaultKind.BadKind p rows st
+    agree_deref (fun x z) = agree_fails FaultKind.BadKind p rows st
     agree_deref (ref d) = agree_object d p rows st (star_wait m i d ss) k f h
 
     agree_signed : (o : Sign) (v : Val) → Agree rows (signed world o v m i ss p st k) (plain.signed g o v p rows f)
@@ -488,14 +488,14 @@ module _ (g : Ground) (make : Row → Row) where
 
   -- ---- calls
 
-  module _ (p : Place) (rows : List Row) (st : Vars) (k : List ℕ → Res (List ℕ)) (f : List ℕ → Out) (h : Val → List Row → Vars → Out) (a : (x : List ℕ) → Agree rows (k x) (plain.on_got (f x) h)) where
-    agree_call_if : (b : Bool) (x : List ℕ) → Agree rows (run.call_if world b p st (k x)) (plain.on_got (plain.call_if g b p rows (f x)) h)
-    agree_call_if true x = a x
-    agree_call_if false x = agree_fails FaultKind.WrongCount p rows st
+  module _ (p : Place) (rows : List Row) (st : Vars) (k : List ℕ → Pairs → Res (List ℕ)) (f : List ℕ → Pairs → Out) (h : Val → List Row → Vars → Out) (a : (x : List ℕ) (c : Pairs) → Agree rows (k x c) (plain.on_got (f x c) h)) where
+    agree_call_if : (b : Bool) (x : List ℕ) (c : Pairs) → Agree rows (run.call_if world b p st (k x c)) (plain.on_got (plain.call_if g b p rows (f x c)) h)
+    agree_call_if true x c = a x c
+    agree_call_if false x c = agree_fails FaultKind.WrongCount p rows st
 
-    agree_call_fun : (q : Option FunDef) (vs : Vals) (x : List ℕ) → Agree rows (run.call_fun world q vs p st (k x)) (plain.on_got (plain.call_fun g q vs p rows (f x)) h)
-    agree_call_fun None vs x = agree_fails FaultKind.BadKind p rows st
-    agree_call_fun (Some d) vs x = agree_call_if (nat_eq (length d.params) (count vs)) x
+    agree_call_fun : (q : Option FunDef) (vs : Vals) (x : List ℕ) (c : Pairs) → Agree rows (run.call_fun world q vs p st (k x c)) (plain.on_got (plain.call_fun g q vs p rows (f x c)) h)
+    agree_call_fun None vs x c = agree_fails FaultKind.BadKind p rows st
+    agree_call_fun (Some d) vs x c = agree_call_if (nat_eq (length d.params) (count vs)) x c
 
     agree_called : (v : Val) (vs : Vals) → Agree rows (called world v vs p st k) (plain.on_got (plain.called g v vs p rows f) h)
     agree_called null vs = agree_fails FaultKind.BadKind p rows st
@@ -504,7 +504,7 @@ module _ (g : Ground) (make : Row → Row) where
     agree_called (text t) vs = agree_fails FaultKind.BadKind p rows st
     agree_called (list us) vs = agree_fails FaultKind.BadKind p rows st
     agree_called (dict ps) vs = agree_fails FaultKind.BadKind p rows st
-    agree_called (fun x) vs = agree_call_fun (find_fun x g.script.funs) vs x
+    agree_called (fun x z) vs = agree_call_fun (find_fun x g.script.funs) vs x z
     agree_called (ref d) vs = agree_fails FaultKind.BadKind p rows st
 
   -- ---- loops
@@ -533,7 +533,7 @@ module _ (g : Ground) (make : Row → Row) where
     agree_each_of (text t) rows st = agree_fails FaultKind.BadKind p rows st
     agree_each_of (list vs) rows st = agree_each vs 0 vs rows st
     agree_each_of (dict ps) rows st = agree_fails FaultKind.BadKind p rows st
-    agree_each_of (fun y) rows st = agree_fails FaultKind.BadKind p rows st
+    agree_each_of (fun y z) rows st = agree_fails FaultKind.BadKind p rows st
     agree_each_of (ref d) rows st = agree_fails FaultKind.BadKind p rows st
 
   agree_add : (q : Option Val) (x : List ℕ) (o p : Place) (e : Val) (rows : List Row) (st : Vars) → Agree rows (run.add_to q x o p e st) (plain.add_to q x o p e rows st)
@@ -558,11 +558,12 @@ module _ (g : Ground) (make : Row → Row) where
   agree_parens rows r o en a =
       record { back = a.back; same = λ n. told_got gives r en rows ∙ parens_told (walk see rows r).stop (walk see rows r).rows ∙ a.same n }
 
-  module _ (body : List ℕ → Vals → Place → Vars → Res (List ℕ)) (bodies : List ℕ → Vals → Place → List Row → ℕ → Out) (bs : (f : List ℕ) (vs : Vals) (p : Place) (rows : List Row) (st : Vars) → Agree rows (body f vs p st) (bodies f vs p rows st.count)) where
+  module _ (body : List ℕ → Pairs → Vals → Place → Vars → Res (List ℕ)) (bodies : List ℕ → Pairs → Vals → Place → List Row → ℕ → Out) (bs : (f : List ℕ) (c : Pairs) (vs : Vals) (p : Place) (rows : List Row) (st : Vars) → Agree rows (body f c vs p st) (bodies f c vs p rows st.count)) where
     mutual
       pub agree_exp : (e : Exp) (n : ℕ) (rows : List Row) (st : Vars) → Agree rows (eval world body e n st) (plain.exp g bodies e rows st)
       agree_exp (Exp.literal v p) n rows st = agree_visit p rows st _ _ (λ s. agree_op (op.limited (lit_val v)) p rows s)
       agree_exp (Exp.name x p) n rows st = agree_visit p rows st _ _ (λ s. agree_op (named (find x s.vars) x g.script.funs) p rows s)
+      agree_exp (Exp.func x p) n rows st = agree_visit p rows st _ _ (λ s. agree_op (closed (find_fun x g.script.funs) x s.vars) p rows s)
       agree_exp (Exp.parens e) n rows st = agree_parens rows _ _ _ (agree_exp e (n + 1) rows st)
       agree_exp (Exp.parts o p es) n rows st = agree_parts es n 1 (n + 1) o p [] rows st
       agree_exp (Exp.chain e ls) n rows st =
@@ -594,11 +595,11 @@ module _ (g : Ground) (make : Row → Row) where
       agree_steps (Steps.index e p ss) n k m v rows st =
           agree_got _ _ (λ x more s. agree_visit p more s _ _ (λ t. agree_answer (op.index v x) p more t _ _ (λ y. agree_steps ss n (k + 1) (m + nodes e) y more t))) rows _ _ _ (agree_exp e m rows st)
       agree_steps (Steps.call es p ss) n k m v rows st =
-          agree_args es n k m p v [] ss _ (λ y last u. plain.steps g bodies ss y last u) (λ l i f vs more s. agree_body (λ y u. eval_steps world body ss n (l + 1) i y u) s.vars (λ y last u. plain.steps g bodies ss y last u) (λ y last u. agree_steps ss n (l + 1) i y last u) more _ _ _ (bs f vs p more s)) rows st
+          agree_args es n k m p v [] ss _ (λ y last u. plain.steps g bodies ss y last u) (λ l i f c vs more s. agree_body (λ y u. eval_steps world body ss n (l + 1) i y u) s.vars (λ y last u. plain.steps g bodies ss y last u) (λ y last u. agree_steps ss n (l + 1) i y last u) more _ _ _ (bs f c vs p more s)) rows st
 
-      agree_args : (es : Exps) (n k m : ℕ) (p : Place) (v : Val) (vs : List Val) (ss : Steps) (go : ℕ → ℕ → List ℕ → Vals → Vars → Res (List ℕ)) (h : Val → List Row → Vars → Out) → ((l i : ℕ) (f : List ℕ) (us : Vals) (more : List Row) (s : Vars) → Agree more (go l i f us s) (plain.on_got (value_of s.vars (bodies f us p more s.count)) h)) → (rows : List Row) (st : Vars) → Agree rows (eval_args world body es n k m p v vs ss go st) (on_listed (plain.values g bodies es (vals_of vs) rows st) (λ us more s. plain.visit p more s (λ t. plain.on_got (plain.opened g bodies v us p more t) h)))
+      agree_args : (es : Exps) (n k m : ℕ) (p : Place) (v : Val) (vs : List Val) (ss : Steps) (go : ℕ → ℕ → List ℕ → Pairs → Vals → Vars → Res (List ℕ)) (h : Val → List Row → Vars → Out) → ((l i : ℕ) (f : List ℕ) (c : Pairs) (us : Vals) (more : List Row) (s : Vars) → Agree more (go l i f c us s) (plain.on_got (value_of s.vars (bodies f c us p more s.count)) h)) → (rows : List Row) (st : Vars) → Agree rows (eval_args world body es n k m p v vs ss go st) (on_listed (plain.values g bodies es (vals_of vs) rows st) (λ us more s. plain.visit p more s (λ t. plain.on_got (plain.opened g bodies v us p more t) h)))
       agree_args Exps.no_exps n k m p v vs ss go h a rows st =
-          agree_visit p rows st _ _ (λ s. agree_called p rows s _ _ h (λ f. a k m f (vals_of vs) rows s) v (vals_of vs))
+          agree_visit p rows st _ _ (λ s. agree_called p rows s _ _ h (λ f c. a k m f c (vals_of vs) rows s) v (vals_of vs))
       agree_args (Exps.exp e es) n k m p v vs ss go h a rows st =
           agree_to rows _ _ _ (listed_got (plain.exp g bodies e rows st) (λ x more s. plain.values g bodies es (add_val (vals_of vs) x) more s) _) (agree_got _ _ (λ x more s. agree_to more _ _ _ (ap (λ us. on_listed (plain.values g bodies es us more s) (λ us last z. plain.visit p last z (λ t. plain.on_got (plain.opened g bodies v us p last t) h))) (vals_more vs x)) (agree_args es n (k + 1) (m + nodes e) p v (vs ++ x ∷ []) ss go h a more s)) rows _ _ _ (agree_exp e m rows st))
 
@@ -638,24 +639,24 @@ module _ (g : Ground) (make : Row → Row) where
       agree_other Else.no_else n rows st = agree_end rows st
       agree_other (Else.otherwise b) n rows st = agree_stms b n 0 (n + 1) rows st
 
-  agree_in : (d : ℕ) → ((f : List ℕ) (vs : Vals) (p : Place) (rows : List Row) (st : Vars) → Agree rows (body_at world d f vs p st) (plain.body_at g d f vs p rows st.count)) → (q : Option Body) (vs : Vals) (p : Place) (rows : List Row) (st : Vars) → Agree rows (in_body world q vs p st (λ b n s. run.eval_block world (body_at world d) b n s)) (plain.in_body g q vs p rows st.count (plain.stms g (plain.body_at g d)))
-  agree_in d h None vs p rows st = agree_fails FaultKind.BadKind p rows st
-  agree_in d h (Some b) vs p rows st =
-      agree_stms (body_at world d) (plain.body_at g d) h b.block b.node 0 (b.node + 1) rows (with_vars (bind b.params vs no_pairs) st)
+  agree_in : (d : ℕ) → ((f : List ℕ) (c : Pairs) (vs : Vals) (p : Place) (rows : List Row) (st : Vars) → Agree rows (body_at world d f c vs p st) (plain.body_at g d f c vs p rows st.count)) → (q : Option Body) (c : Pairs) (vs : Vals) (p : Place) (rows : List Row) (st : Vars) → Agree rows (in_body world q c vs p st (λ b n s. run.eval_block world (body_at world d) b n s)) (plain.in_body g q c vs p rows st.count (plain.stms g (plain.body_at g d)))
+  agree_in d h None c vs p rows st = agree_fails FaultKind.BadKind p rows st
+  agree_in d h (Some b) c vs p rows st =
+      agree_stms (body_at world d) (plain.body_at g d) h b.block b.node 0 (b.node + 1) rows (with_vars (bind b.params vs c) st)
 
   -- a body, where so many may still be opened
-  pub agree_call : (d : ℕ) (f : List ℕ) (vs : Vals) (p : Place) (rows : List Row) (st : Vars) → Agree rows (body_at world d f vs p st) (plain.body_at g d f vs p rows st.count)
-  agree_call zero f vs p rows st = agree_fails FaultKind.TooDeep p rows st
-  agree_call (suc d) f vs p rows st = agree_in d (agree_call d) (body_of f g.script) vs p rows st
+  pub agree_call : (d : ℕ) (f : List ℕ) (c : Pairs) (vs : Vals) (p : Place) (rows : List Row) (st : Vars) → Agree rows (body_at world d f c vs p st) (plain.body_at g d f c vs p rows st.count)
+  agree_call zero f c vs p rows st = agree_fails FaultKind.TooDeep p rows st
+  agree_call (suc d) f c vs p rows st = agree_in d (agree_call d) (body_of f g.script) c vs p rows st
 
 world_is : (g : Ground) (w : World (List ℕ)) → w.script ≡ g.script → w.reads ≡ g.reads → w ≡ world g w.make
 world_is g w s r = λ i. record { make = w.make; reads = r i; script = s i }
 
 -- In each world of this script and this reading that gives the descriptions held at the end their numbers, the walk of
 -- a body comes to what the body does.
-pub plain_walk : (g : Ground) (w : World (List ℕ)) → w.script ≡ g.script → w.reads ≡ g.reads → (d : ℕ) (f : List ℕ) (vs : Vals) (p : Place) (rows : List Row) (st : Vars) → Numbers (held (plain.body_at g d f vs p rows st.count)) w.make → told (walk (known_of g.objects) rows (body_at w d f vs p st)) ≡ plain.body_at g d f vs p rows st.count
-plain_walk g w s r d f vs p rows st n =
-    ap (λ x. told (walk (known_of g.objects) rows (body_at x d f vs p st))) (world_is g w s r) ∙ (agree_call g w.make d f vs p rows st).same n
+pub plain_walk : (g : Ground) (w : World (List ℕ)) → w.script ≡ g.script → w.reads ≡ g.reads → (d : ℕ) (f : List ℕ) (c : Pairs) (vs : Vals) (p : Place) (rows : List Row) (st : Vars) → Numbers (held (plain.body_at g d f c vs p rows st.count)) w.make → told (walk (known_of g.objects) rows (body_at w d f c vs p st)) ≡ plain.body_at g d f c vs p rows st.count
+plain_walk g w s r d f c vs p rows st n =
+    ap (λ x. told (walk (known_of g.objects) rows (body_at x d f c vs p st))) (world_is g w s r) ∙ (agree_call g w.make d f c vs p rows st).same n
 
 -- ---- a walk only adds descriptions
 
@@ -713,7 +714,7 @@ stop_is (Stop.waits d) rows = refl
 stop_is (Stop.full d) rows = (d, refl)
 
 -- the walk of a body stops as what the body does
-pub plain_ends : (g : Ground) (w : World (List ℕ)) → w.script ≡ g.script → w.reads ≡ g.reads → (d : ℕ) (f : List ℕ) (vs : Vals) (p : Place) (rows : List Row) (st : Vars) → Numbers (held (plain.body_at g d f vs p rows st.count)) w.make → Ends (plain.body_at g d f vs p rows st.count) (walk (known_of g.objects) rows (body_at w d f vs p st))
-plain_ends g w s r d f vs p rows st n =
-    let x = walk (known_of g.objects) rows (body_at w d f vs p st) in
-    subst (λ o. Ends o x) (plain_walk g w s r d f vs p rows st n) (stop_is x.stop x.rows)
+pub plain_ends : (g : Ground) (w : World (List ℕ)) → w.script ≡ g.script → w.reads ≡ g.reads → (d : ℕ) (f : List ℕ) (c : Pairs) (vs : Vals) (p : Place) (rows : List Row) (st : Vars) → Numbers (held (plain.body_at g d f c vs p rows st.count)) w.make → Ends (plain.body_at g d f c vs p rows st.count) (walk (known_of g.objects) rows (body_at w d f c vs p st))
+plain_ends g w s r d f c vs p rows st n =
+    let x = walk (known_of g.objects) rows (body_at w d f c vs p st) in
+    subst (λ o. Ends o x) (plain_walk g w s r d f c vs p rows st n) (stop_is x.stop x.rows)

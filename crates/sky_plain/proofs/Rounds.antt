@@ -6,17 +6,18 @@ use Rattle.sky_base.specs.Val.{Val, Vals, Pairs, null, truth, num, text, list, d
 use Rattle.sky_base.specs.KitView.{Gives}
 use Rattle.sky_base.specs.Kept.{Kept}
 use Rattle.sky_base.specs.Op.{Answer}
-use Rattle.sky_base.specs.Tree.{Script}
+use Rattle.sky_base.specs.Eval.{find_fun, is_one_of}
+use Rattle.sky_base.specs.Tree.{FunDef, Script}
 use Rattle.sky_base.specs.Res.{Object}
 use Rattle.sky_base.specs.See.{Job, Around, Answered, Means, slot}
-use Rattle.sky_law.specs.Sound.{RefsOver, ValsOver, PairsOver, SoundOver}
+use Rattle.sky_law.specs.Sound.{RefsOver, ValsOver, PairsOver, SoundOver, AllUsed, TakesIf}
 use Rattle.sky_base.specs.declared.fault.Fault.{Fault}
 use Rattle.sky_law.specs.Tasks.{In, Apart}
 use Rattle.ciel_json.specs.Around.{json_around}
 use Rattle.ciel_json.proofs.LowLaw.{reads_named, text_named}
 use Rattle.sky_plain.specs.Plain.{Obj}
 use Rattle.sky_plain.specs.Walk.{Row, known_of, number_of, object_at, is_known, most_rows, learn_to}
-use Rattle.sky_plain.specs.Wave.{Turned, text_if, data_or_text, value_of, value_seen, on_list, on_dict, on_val, on_pair, fill, fill_vals, fill_pairs, next_if, next_of, lone, turn_all, turn_refs, turn_at, last_at}
+use Rattle.sky_plain.specs.Wave.{Turned, text_if, data_or_text, value_of, value_seen, on_list, on_dict, on_fun, on_val, on_pair, fill, fill_vals, fill_pairs, next_if, next_of, lone, turn_all, turn_refs, turn_at, last_at}
 use Rattle.sky_plain.specs.WaveView.{TurnsSo, EndsSo}
 use Rattle.sky_plain.specs.Ran.{Begins}
 use Rattle.sky_plain.specs.Stand.{Below, Fits, ReadFits, Opens, Standing}
@@ -84,6 +85,10 @@ on_dict_over : (K : List ℕ → Type 0) (sc : Script) (r : Result (Pairs (List 
 on_dict_over K sc (Ok us) w f e = subst (RefsOver K sc) (ok_is (dict us) w e) (f us refl)
 on_dict_over K sc (Err q) w f e = absurd cc
 
+on_fun_over : (K : List ℕ → Type 0) (sc : Script) (f : List ℕ) (r : Result (Pairs (List ℕ)) Fault) (w : Val (List ℕ)) → ((us : Pairs (List ℕ)) → r ≡ Ok us → TakesIf (find_fun f sc.funs) us) → ((us : Pairs (List ℕ)) → r ≡ Ok us → PairsOver K sc us) → on_fun f r ≡ Ok w → RefsOver K sc w
+on_fun_over K sc f (Ok us) w t g e = subst (RefsOver K sc) (ok_is (fun f us) w e) (t us refl, g us refl)
+on_fun_over K sc f (Err q) w t g e = absurd cc
+
 on_val_over : (K : List ℕ → Type 0) (sc : Script) (r : Result (Val (List ℕ)) Fault) (s : Result (Vals (List ℕ)) Fault) (ws : Vals (List ℕ)) → ((u : Val (List ℕ)) → r ≡ Ok u → RefsOver K sc u) → ((us : Vals (List ℕ)) → s ≡ Ok us → ValsOver K sc us) → on_val r s ≡ Ok ws → ValsOver K sc ws
 on_val_over K sc (Err q) s ws f g e = absurd cc
 on_val_over K sc (Ok u) (Err q) ws f g e = absurd cc
@@ -94,6 +99,22 @@ on_pair_over K sc k (Err q) s ws f g e = absurd cc
 on_pair_over K sc k (Ok u) (Err q) ws f g e = absurd cc
 on_pair_over K sc k (Ok u) (Ok us) ws f g e = subst (PairsOver K sc) (ok_is (pair k u us) ws e) (f u refl, g us refl)
 
+-- what is filled in has the keys that stood before
+
+pair_used : (xs : List (List ℕ)) (k : List ℕ) (r : Result (Val (List ℕ)) Fault) (s : Result (Pairs (List ℕ)) Fault) (ws : Pairs (List ℕ)) → is_one_of k xs ≡ true → ((us : Pairs (List ℕ)) → s ≡ Ok us → AllUsed xs us) → on_pair k r s ≡ Ok ws → AllUsed xs ws
+pair_used xs k (Err q) s ws h g e = absurd cc
+pair_used xs k (Ok u) (Err q) ws h g e = absurd cc
+pair_used xs k (Ok u) (Ok us) ws h g e = subst (AllUsed xs) (ok_is (pair k u us) ws e) (h, g us refl)
+
+fill_used : (g : Row → Result (Val (List ℕ)) Fault) (xs : List (List ℕ)) (ps ws : Pairs (List ℕ)) → AllUsed xs ps → fill_pairs g ps ≡ Ok ws → AllUsed xs ws
+fill_used g xs no_pairs ws h e = subst (AllUsed xs) (ok_is no_pairs ws e) tt
+fill_used g xs (pair k v ps) ws h e =
+    pair_used xs k (fill g v) (fill_pairs g ps) ws h.0 (λ us q. fill_used g xs ps us h.1 q) e
+
+fill_taken : (g : Row → Result (Val (List ℕ)) Fault) (o : Option FunDef) (ps ws : Pairs (List ℕ)) → TakesIf o ps → fill_pairs g ps ≡ Ok ws → TakesIf o ws
+fill_taken g None ps ws h e = h
+fill_taken g (Some f) ps ws h e = fill_used g f.uses ps ws h e
+
 module _ (K : List ℕ → Type 0) (sc : Script) (g : Row → Result (Val (List ℕ)) Fault) (fine : (d : Row) (v : Val (List ℕ)) → g d ≡ Ok v → RefsOver K sc v) where
   mutual
     fill_over : (v w : Val (List ℕ)) → RefsOver K sc v → fill g v ≡ Ok w → RefsOver K sc w
@@ -103,7 +124,7 @@ module _ (K : List ℕ → Type 0) (sc : Script) (g : Row → Result (Val (List 
     fill_over (text t) w h e = subst (RefsOver K sc) (ok_is (text t) w e) tt
     fill_over (list vs) w h e = on_list_over K sc (fill_vals g vs) w (λ us q. fill_vals_over vs us h q) e
     fill_over (dict ps) w h e = on_dict_over K sc (fill_pairs g ps) w (λ us q. fill_pairs_over ps us h q) e
-    fill_over (fun f) w h e = subst (RefsOver K sc) (ok_is (fun f) w e) h
+    fill_over (fun f c) w h e = on_fun_over K sc f (fill_pairs g c) w (λ us q. fill_taken g (find_fun f sc.funs) c us h.0 q) (λ us q. fill_pairs_over c us h.1 q) e
     fill_over (ref d) w h e = fine d w e
 
     fill_vals_over : (vs ws : Vals (List ℕ)) → ValsOver K sc vs → fill_vals g vs ≡ Ok ws → ValsOver K sc ws
@@ -140,7 +161,7 @@ module _ (sc : Script) (rows : List Row) (objects : List (Option Obj)) (fits : F
       go : (x : Option Obj) → object_at objects (number_of n) ≡ x → value_seen Data x ≡ Ok v → RefsOver (Below (length rows)) sc v
       go None at e = absurd cc
       go (Some o) at e = value_fine o v (number_of n) at e
-  seen_fine (call f vs) v e = absurd cc
+  seen_fine (call f c vs) v e = absurd cc
   seen_fine (out x a n i) v e = absurd cc
   seen_fine (input k) v e = absurd cc
 
@@ -174,7 +195,7 @@ module _ (sc : Script) (rows : List Row) (objects : List (Option Obj)) (fits : F
   refs_fine (d ∷ ds) (text t) b h e = all_fine (text t) b h e
   refs_fine (d ∷ ds) (list vs) b h e = all_fine (list vs) b h e
   refs_fine (d ∷ ds) (dict ps) b h e = all_fine (dict ps) b h e
-  refs_fine (d ∷ ds) (fun f) b h e = all_fine (fun f) b h e
+  refs_fine (d ∷ ds) (fun f c) b h e = all_fine (fun f c) b h e
 
   -- the value at the next wave keeps the limits and refers to what is held
   pub next_fine : (a b : Val (List ℕ)) → SoundOver (Below (length rows)) sc a → turn_at Data Writes (known_of objects) a ≡ Turned.next b → SoundOver (Below (length rows)) sc b
@@ -244,16 +265,16 @@ fault_some f e = absurd cc
 
 -- ---- the start
 
-start_row : learn_to [] (call [] no_vals) ≡ Some (call [] no_vals ∷ [])
+start_row : learn_to [] (call [] no_pairs no_vals) ≡ Some (call [] no_pairs no_vals ∷ [])
 unfolding most_rows
 start_row = refl
 
 rows_is : (a b : List Row) → Some a ≡ Some b → a ≡ b
 rows_is a b e = cc
 
-pub main_learned : (rows after : List Row) (f : List ℕ) (us : Vals (List ℕ)) → rows ≡ [] → f ≡ [] → us ≡ no_vals → learn_to rows (call f us) ≡ Some after → after ≡ call [] no_vals ∷ []
-main_learned rows after f us p q r e =
-    rows_is after (call [] no_vals ∷ []) (sym e ∙ ap (λ x. learn_to x (call f us)) p ∙ ap (λ x. learn_to [] (call x us)) q ∙ ap (λ x. learn_to [] (call [] x)) r ∙ start_row)
+pub main_learned : (rows after : List Row) (f : List ℕ) (ca : Pairs (List ℕ)) (us : Vals (List ℕ)) → rows ≡ [] → f ≡ [] → ca ≡ no_pairs → us ≡ no_vals → learn_to rows (call f ca us) ≡ Some after → after ≡ call [] no_pairs no_vals ∷ []
+main_learned rows after f ca us p q t r e =
+    rows_is after (call [] no_pairs no_vals ∷ []) (sym e ∙ ap (λ x. learn_to x (call f ca us)) p ∙ ap (λ x. learn_to [] (call x ca us)) q ∙ ap (λ x. learn_to [] (call [] x us)) t ∙ ap (λ x. learn_to [] (call [] no_pairs x)) r ∙ start_row)
 
 pub never_full : (rows : List Row) (d : Row) → rows ≡ [] → learn_to rows d ≡ None → ⊥
 never_full rows d p e =

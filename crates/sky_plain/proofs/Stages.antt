@@ -1,7 +1,7 @@
 -- From wave to wave, up to the answer.
 use Rattle.std.proofs.Common.{◌≡◌, ◌≢◌, ◌≤◌, ◌<◌, ℕ, zero, suc, ◌+◌, List, [], ◌∷◌, ◌++◌, length, map, Option, Some, None, slice_get, inl, inr, refl, sym, ap, ap₂, subst, ◌∙◌, arith, le-leb}
 use Rattle.sky_base.specs.Val as v
-use Rattle.sky_base.specs.Val.{ref, refs, call, known, no_vals}
+use Rattle.sky_base.specs.Val.{ref, refs, call, known, no_pairs, no_vals}
 use Rattle.sky_base.specs.Name.{low}
 use Rattle.sky_base.specs.Op.{Answer}
 use Rattle.sky_base.specs.Res.{Object}
@@ -57,9 +57,9 @@ module _ (job : Job) (around : Around) where
   start_reached n = record { wave_is = refl; answer_is = refl }
 
   -- the result begins as the reference to the main call
-  pub stage_start : (rows : List Row) → slice_get rows 0 ≡ Some (call [] no_vals) → Stage job around rows 0 101 (ref (known (slot 0)))
+  pub stage_start : (rows : List Row) → slice_get rows 0 ≡ Some (call [] no_pairs no_vals) → Stage job around rows 0 101 (ref (known (slot 0)))
   stage_start rows at later g =
-      (0, ref main_call, ap (λ i. ref (known (slot i))) (index_at later 0 (call [] no_vals) g.apart (subst (λ x. slice_get x 0 ≡ Some (call [] no_vals)) (sym g.begins) (got_more rows g.more 0 (call [] no_vals) at))), λ m. start_reached (on m 0))
+      (0, ref main_call, ap (λ i. ref (known (slot i))) (index_at later 0 (call [] no_pairs no_vals) g.apart (subst (λ x. slice_get x 0 ≡ Some (call [] no_pairs no_vals)) (sym g.begins) (got_more rows g.more 0 (call [] no_pairs no_vals) at))), λ m. start_reached (on m 0))
 
   -- it stays where more is held
   pub stage_more : (rows more after : List Row) (j k : ℕ) (a : v.Val (List ℕ)) → after ≡ rows ++ more → Stage job around rows j k a → Stage job around after j k a

@@ -2,7 +2,7 @@
 use Rattle.std.proofs.Common.{◌≡◌, ◌≤◌, ◌<◌, ℕ, zero, suc, ◌+◌, List, [], ◌∷◌, ◌++◌, length, Bool, true, false, Option, Some, None, Result, Ok, Err, slice_get, nat_eq, inl, inr, refl, sym, ap, subst, ◌∙◌, arith, eqb-true, eq-eqb}
 use Rattle.std.proofs.lemmas.List.{length-append}
 use Rattle.sky_base.specs.Val as v
-use Rattle.sky_base.specs.Val.{Vals, list, no_vals, call, out, input, known, ref, refs}
+use Rattle.sky_base.specs.Val.{Vals, Pairs, list, no_vals, no_pairs, call, out, input, known, ref, refs}
 use Rattle.sky_base.specs.Name.{low, low_desc}
 use Rattle.sky_base.specs.Op.{Answer}
 use Rattle.sky_base.specs.Res.{Object}
@@ -44,7 +44,7 @@ module _ (job : Job) (around : Around) where
       go (d, od) = (d, chain_of job around rows ks d od)
 
   -- at first the main call alone is held
-  pub standing_start : Standing job around (call [] no_vals ∷ []) []
+  pub standing_start : Standing job around (call [] no_pairs no_vals ∷ []) []
   standing_start =
       record {
         knows = λ later g. (0, λ d o e. absurd (nothing (low_ref spell (tag_of later) d) o e));
@@ -54,21 +54,21 @@ module _ (job : Job) (around : Around) where
       }
     where
       nothing : (d : Row) (o : Object (List ℕ)) → known_of [] d ≡ Some o → ⊥
-      nothing (call f vs) o e = absurd cc
+      nothing (call f c vs) o e = absurd cc
       nothing (out x a n i) o e = absurd cc
       nothing (input k) o e = absurd cc
       nothing (known n) o e = absurd cc
 
-      main_fits : (d : Row) → In d (call [] no_vals ∷ []) → RowFits job.script 1 d
+      main_fits : (d : Row) → In d (call [] no_pairs no_vals ∷ []) → RowFits job.script 1 d
       main_fits d (inl e) =
-          subst (λ x. RowFits job.script 1 x) (sym e) (record { deep = omega arith; large = omega arith }, tt, inl refl)
+          subst (λ x. RowFits job.script 1 x) (sym e) (record { deep = omega arith; large = omega arith }, record { deep = omega arith; large = omega arith }, tt, tt, inl (refl, refl))
       main_fits d (inr i) = absurd i
 
-      main_made : Made job around (call [] no_vals ∷ [])
+      main_made : Made job around (call [] no_pairs no_vals ∷ [])
       main_made later g d (inl e) = (main_call, inl refl, sym e)
       main_made later g d (inr i) = absurd i
 
-  module _ (reads : List ℕ → Answer (List ℕ)) (alike : (tag : Row → List ℕ) (b : List ℕ) → reads b ≡ lower {N = ⊥} spell tag (around.reads b)) (read_fits : (b : List ℕ) → ReadFits job.script (reads b)) (rows more after : List Row) (objects : List (Option (Object (List ℕ)))) (standing : Standing job around rows objects) (begins : after ≡ rows ++ more) (apart : Apart after) (room : length after ≤ most_rows) (k : ℕ) (f : List ℕ) (us : Vals (List ℕ)) (at : slice_get rows k ≡ Some (call f us)) where
+  module _ (reads : List ℕ → Answer (List ℕ)) (alike : (tag : Row → List ℕ) (b : List ℕ) → reads b ≡ lower {N = ⊥} spell tag (around.reads b)) (read_fits : (b : List ℕ) → ReadFits job.script (reads b)) (rows more after : List Row) (objects : List (Option (Object (List ℕ)))) (standing : Standing job around rows objects) (begins : after ≡ rows ++ more) (apart : Apart after) (room : length after ≤ most_rows) (k : ℕ) (f : List ℕ) (ca : Pairs (List ℕ)) (us : Vals (List ℕ)) (at : slice_get rows k ≡ Some (call f ca us)) where
     longer : length rows ≤ length after
     longer =
         let h : length after ≡ length rows + length more = ap length begins ∙ length-append rows more in
@@ -77,46 +77,46 @@ module _ (job : Job) (around : Around) where
     some : 0 < length after
     some = go rows standing.main_is longer
       where
-        go : (rs : List Row) → slice_get rs 0 ≡ Some (call [] no_vals) → length rs ≤ length after → 0 < length after
+        go : (rs : List Row) → slice_get rs 0 ≡ Some (call [] no_pairs no_vals) → length rs ≤ length after → 0 < length after
         go [] e l = absurd cc
         go (r ∷ rs) e l = omega (arith, l)
 
-    main_stays : slice_get after 0 ≡ Some (call [] no_vals)
-    main_stays = subst (λ x. slice_get x 0 ≡ Some (call [] no_vals)) (sym begins) (got_more rows more 0 (call [] no_vals) standing.main_is)
+    main_stays : slice_get after 0 ≡ Some (call [] no_pairs no_vals)
+    main_stays = subst (λ x. slice_get x 0 ≡ Some (call [] no_pairs no_vals)) (sym begins) (got_more rows more 0 (call [] no_pairs no_vals) standing.main_is)
 
     -- a call that is open last ends
-    pub standing_ends : (ks : List ℕ) (o : Object (List ℕ)) (objects' : List (Option (Object (List ℕ)))) → Opens job around rows (k ∷ ks) → Runs job.script reads objects rows f us after (EndsAs o) → Puts objects k o objects' → Standing job around after objects'
+    pub standing_ends : (ks : List ℕ) (o : Object (List ℕ)) (objects' : List (Option (Object (List ℕ)))) → Opens job around rows (k ∷ ks) → Runs job.script reads objects rows f ca us after (EndsAs o) → Puts objects k o objects' → Standing job around after objects'
     standing_ends ks o objects' opens run puts =
         record {
-          knows = learns_call job around reads alike rows more after objects objects' k f us o standing.knows begins (subst (λ x. slice_get x k ≡ Some (call f us)) (sym begins) (got_more rows more k (call f us) at)) run puts;
-          fits = fits_learning job.script reads read_fits rows more after objects standing.fits begins apart room some objects' k f us o (got_in rows k (call f us) at) run puts;
-          made = made_more job around reads alike rows more after objects standing.knows begins k ks f us at opens (EndsAs o) standing.made run;
+          knows = learns_call job around reads alike rows more after objects objects' k f ca us o standing.knows begins (subst (λ x. slice_get x k ≡ Some (call f ca us)) (sym begins) (got_more rows more k (call f ca us) at)) run puts;
+          fits = fits_learning job.script reads read_fits rows more after objects standing.fits begins apart room some objects' k f ca us o (got_in rows k (call f ca us) at) run puts;
+          made = made_more job around reads alike rows more after objects standing.knows begins k ks f ca us at opens (EndsAs o) standing.made run;
           main_is = main_stays;
         }
 
     -- it waits for what isn't known
-    pub standing_waits : (ks : List ℕ) (name : List ℕ) → Opens job around rows (k ∷ ks) → Runs job.script reads objects rows f us after (WaitsFor name) → Standing job around after objects × (number_of name < length after) × Opens job around after (number_of name ∷ k ∷ ks)
-    standing_waits ks name opens run = go (fits_waiting job.script reads read_fits rows more after objects standing.fits begins apart room some f us name (got_in rows k (call f us) at) run)
+    pub standing_waits : (ks : List ℕ) (name : List ℕ) → Opens job around rows (k ∷ ks) → Runs job.script reads objects rows f ca us after (WaitsFor name) → Standing job around after objects × (number_of name < length after) × Opens job around after (number_of name ∷ k ∷ ks)
+    standing_waits ks name opens run = go (fits_waiting job.script reads read_fits rows more after objects standing.fits begins apart room some f ca us name (got_in rows k (call f ca us) at) run)
       where
         go : Fits job.script after objects × (number_of name < length after) → Standing job around after objects × (number_of name < length after) × Opens job around after (number_of name ∷ k ∷ ks)
         go (fits, below) = (
           record {
             knows = λ later g. standing.knows later (grown_back rows more after later begins g);
             fits = fits;
-            made = made_more job around reads alike rows more after objects standing.knows begins k ks f us at opens (WaitsFor name) standing.made run;
+            made = made_more job around reads alike rows more after objects standing.knows begins k ks f ca us at opens (WaitsFor name) standing.made run;
             main_is = main_stays;
           },
           below,
-          opens_more job around reads alike rows more after objects standing.knows begins k ks f us at opens name below run,
+          opens_more job around reads alike rows more after objects standing.knows begins k ks f ca us at opens name below run,
         )
 
     -- it makes one description too many
-    pub standing_many : (ks : List ℕ) → Opens job around rows (k ∷ ks) → Runs job.script reads objects rows f us after IsFull → MakesMany job around 65537
-    standing_many ks opens run = go (made_last job around reads alike rows more after objects standing.knows begins k ks f us at opens (itself job around after apart room) run)
+    pub standing_many : (ks : List ℕ) → Opens job around rows (k ∷ ks) → Runs job.script reads objects rows f ca us after IsFull → MakesMany job around 65537
+    standing_many ks opens run = go (made_last job around reads alike rows more after objects standing.knows begins k ks f ca us at opens (itself job around after apart room) run)
       where
         go : (e : Row) × (d : Desc) × (learn_to after e ≡ None) × Makes job around d × (low_desc spell (tag_of after) d ≡ e) → MakesMany job around 65537
         go (e, d, none, makes, is) =
-            makes_many job around after e apart room none (made_more job around reads alike rows more after objects standing.knows begins k ks f us at opens IsFull standing.made run) (d, makes, is)
+            makes_many job around after e apart room none (made_more job around reads alike rows more after objects standing.knows begins k ks f ca us at opens IsFull standing.made run) (d, makes, is)
 
   -- ---- rows that no run makes anything of
 

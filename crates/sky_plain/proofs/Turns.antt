@@ -1,12 +1,11 @@
 -- Waves of values that aren't one reference.
 use Rattle.std.proofs.Common.{◌≡◌, ℕ, List, [], ◌∷◌, length, Option, refl, ap, ◌∙◌}
-use Rattle.sky_base.specs.Val.{Val, list, dict, refs, distinct, same_text}
+use Rattle.sky_base.specs.Val.{Val, list, dict, fun, refs, distinct, same_text}
 use Rattle.sky_base.specs.Names.{known_of}
 use Rattle.sky_base.specs.Op.{Answer}
 use Rattle.sky_base.specs.Res.{Object}
 use Rattle.sky_base.specs.View.{view}
 use Rattle.sky_base.specs.declared.value.Value.{Value}
-use Rattle.sky_base.specs.declared.text.Name.{Name}
 use Rattle.sky_plain.specs.Walk.{Row}
 use Rattle.sky_base.specs.See.{Answered, no_place}
 use Rattle.sky_base.specs.declared.fault.FaultKind.{FaultKind}
@@ -21,14 +20,18 @@ module _ (reads : List ℕ → Answer (List ℕ)) (writes : Val (List ℕ) → O
   dict_turn [] ps h = absurd (h refl)
   dict_turn (d ∷ ds) ps h = refl
 
-  pub other_turn : (v : Value) → ((n : Name) → v ≡ Value.Ref n → ⊥) → (refs (view v) ≡ [] → ⊥) → turn_at reads writes knows (view v) ≡ turn_all reads writes knows (view v)
+  fun_turn : (ds : List Row) (f : List ℕ) (ps : _) → (ds ≡ [] → ⊥) → turn_refs reads writes knows ds (fun f ps) ≡ turn_all reads writes knows (fun f ps)
+  fun_turn [] f ps h = absurd (h refl)
+  fun_turn (d ∷ ds) f ps h = refl
+
+  pub other_turn : (v : Value) → ((n : List ℕ) → v ≡ Value.Ref n → ⊥) → (refs (view v) ≡ [] → ⊥) → turn_at reads writes knows (view v) ≡ turn_all reads writes knows (view v)
   other_turn Value.Null isnt h = absurd (h refl)
   other_turn (Value.Bool b) isnt h = absurd (h refl)
   other_turn (Value.Int z) isnt h = absurd (h refl)
   other_turn (Value.Text t) isnt h = absurd (h refl)
   other_turn (Value.List vs) isnt h = list_turn (refs (list vs)) vs h
   other_turn (Value.Dict ps) isnt h = dict_turn (refs (dict ps)) ps h
-  other_turn (Value.Fun f) isnt h = absurd (h refl)
+  other_turn (Value.Fun f c) isnt h = fun_turn (refs (fun f c)) f c h
   other_turn (Value.Ref n) isnt h = absurd (isnt n refl)
 
 no_names : (ns : List (List ℕ)) → known_of ns ≡ [] → length ns ≡ 0

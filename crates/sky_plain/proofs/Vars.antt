@@ -93,7 +93,7 @@ grown_list (num z) e h = absurd cc
 grown_list (text t) e h = absurd cc
 grown_list (list vs) e h = refl
 grown_list (dict ps) e h = absurd cc
-grown_list (fun f) e h = absurd cc
+grown_list (fun f c) e h = absurd cc
 grown_list (ref d) e h = absurd cc
 
 pub grown_other : (v e : Val) → is_list v ≡ false → grown v e ≡ plus v e
@@ -103,7 +103,7 @@ grown_other (num z) e h = refl
 grown_other (text t) e h = refl
 grown_other (list vs) e h = absurd cc
 grown_other (dict ps) e h = refl
-grown_other (fun f) e h = refl
+grown_other (fun f c) e h = refl
 grown_other (ref d) e h = refl
 
 pub ruleset grows = (grown_list, grown_other)

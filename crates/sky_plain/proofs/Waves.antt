@@ -17,7 +17,7 @@ use Rattle.sky_base.specs.declared.fault.Fault.{Fault}
 use Rattle.sky_plain.specs.Walk.{Row}
 use Rattle.sky_plain.specs.Stand.{spell, Sees}
 use Rattle.sky_plain.specs.Wave as wave
-use Rattle.sky_plain.specs.Wave.{value_of, value_seen, data_or_text, on_list, on_dict, on_val, on_pair, fill, fill_vals, fill_pairs, Turned, next_of, turn_all, turn_refs, turn_at}
+use Rattle.sky_plain.specs.Wave.{value_of, value_seen, data_or_text, on_list, on_dict, on_fun, on_val, on_pair, fill, fill_vals, fill_pairs, Turned, next_of, turn_all, turn_refs, turn_at}
 
 -- ---- what is gathered in order, against what is filled in
 
@@ -70,6 +70,10 @@ module _ (g : Desc → Result Val Fault) where
   dict_filled ps (Err f) s e = ap on_dict e
   dict_filled ps (Ok us) s (n, e) = (n, λ front back. ap on_dict (e front back))
 
+  fun_filled : (f : List ℕ) (ps : v.Pairs ⊥) (rs : Result (List Val) Fault) (s : Result (v.Pairs ⊥) Fault) → Filled (λ h i. pairs_replaced h i ps) (length (pairs_refs ps)) rs s → Filled (λ h i. replaced h i (fun f ps)) (length (pairs_refs ps)) rs (on_fun f s)
+  fun_filled f ps (Err q) s e = ap (on_fun f) e
+  fun_filled f ps (Ok us) s (n, e) = (n, λ front back. ap (on_fun f) (e front back))
+
   list_one : (front us ws back : List Val) → front ++ us ++ (ws ++ back) ≡ front ++ (us ++ ws) ++ back
   list_one front us ws back =
       sym (append_assoc (front ++ us) ws back) ∙ ap (λ x. x ++ back) (append_assoc front us ws)
@@ -106,7 +110,7 @@ module _ (g : Desc → Result Val Fault) where
     filled (text t) = nothing_filled (text t) (λ h i. refl)
     filled (list vs) = list_filled vs (results (vals_refs vs)) (fill_vals g vs) (vals_filled vs)
     filled (dict ps) = dict_filled ps (results (pairs_refs ps)) (fill_pairs g ps) (pairs_filled ps)
-    filled (fun f) = nothing_filled (fun f) (λ h i. refl)
+    filled (fun f c) = fun_filled f c (results (pairs_refs c)) (fill_pairs g c) (pairs_filled c)
     filled (ref d) = ref_filled d (g d)
 
     vals_filled : (vs : Vals) → Filled (λ h i. vals_replaced h i vs) (length (vals_refs vs)) (results (vals_refs vs)) (fill_vals g vs)
@@ -155,6 +159,10 @@ module _ (tag : Row → List ℕ) where
   dict_low (Ok vs) = refl
   dict_low (Err f) = refl
 
+  fun_low : (f : List ℕ) (r : Result (v.Pairs ⊥) Fault) → on_fun f (low_entries r) ≡ low_result (on_fun f r)
+  fun_low f (Ok ps) = refl
+  fun_low f (Err e) = refl
+
   val_low : (a : Result Val Fault) (r : Result Vals Fault) → on_val (low_result a) (low_results r) ≡ low_results (on_val a r)
   val_low (Err f) r = refl
   val_low (Ok a) (Err f) = refl
@@ -177,7 +185,7 @@ module _ (tag : Row → List ℕ) where
       fill_low (text t) e = refl
       fill_low (list vs) e = ap on_list (fill_vals_low vs e) ∙ list_low (fill_vals g vs)
       fill_low (dict ps) e = ap on_dict (fill_pairs_low ps e) ∙ dict_low (fill_pairs g ps)
-      fill_low (fun f) e = refl
+      fill_low (fun f c) e = ap (on_fun f) (fill_pairs_low c e) ∙ fun_low f (fill_pairs g c)
       fill_low (ref d) e = e d (inl refl)
 
       fill_vals_low : (vs : Vals) → Alike (vals_refs vs) → fill_vals h (low_vals spell tag vs) ≡ low_results (fill_vals g vs)
@@ -296,7 +304,7 @@ module _ (job : Job) (around : Around) (reads : List ℕ → Answer (List ℕ)) 
   turn_refs_low (d ∷ ds) (text t) s = all_low (text t) s
   turn_refs_low (d ∷ ds) (list vs) s = all_low (list vs) s
   turn_refs_low (d ∷ ds) (dict ps) s = all_low (dict ps) s
-  turn_refs_low (d ∷ ds) (fun f) s = all_low (fun f) s
+  turn_refs_low (d ∷ ds) (fun f c) s = all_low (fun f c) s
 
   pub turn_low : (a : Val) → Settled (refs a) → low_turn tag (turn job around n a) ≡ turn_at reads writes knows (low spell tag a)
   turn_low a s =

@@ -3,7 +3,7 @@ use Rattle.std.proofs.Common.{◌≡◌, ◌≢◌, ℕ, zero, suc, ◌+◌, ◌
 use Rattle.sky_base.specs.Tree.{Place, Exps, Links, Ands, Stms, nodes, exps_nodes, links_nodes, ands_nodes, steps_nodes, stm_nodes, stms_nodes, arms_nodes, block_nodes}
 use Rattle.sky_base.specs.TreeView.{exp_view, exps_view, links_view, ands_view, steps_view, step_nodes, arith_view, at}
 use Rattle.sky_base.specs.StmtView.{stm_view, stms_view, arms_view}
-use Rattle.sky_base.specs.Val.{no_vals, val, add_val, list, no_pairs}
+use Rattle.sky_base.specs.Val.{no_vals, val, add_val, list, dict, fun, no_pairs, pair}
 use Rattle.sky_base.specs.View.{view, vals_of}
 use Rattle.sky_base.specs.Kept.{Kept}
 use Rattle.sky_base.specs.Eval.{Body, body_of, bind}
@@ -11,8 +11,8 @@ use Rattle.sky_base.specs.declared.value.Value.{Value}
 use Rattle.sky_base.specs.declared.fault.FaultKind.{FaultKind}
 use Rattle.sky_base.proofs.Sums.{size_at, depth_at}
 use Rattle.sky_plain.specs.Walk.{Row}
-use Rattle.sky_plain.specs.Plain.{Val, Vals, Vars, Out, Ground, fails, in_body, body_at, stms}
-use Rattle.sky_plain.specs.RunView.{KeptVals, code_of}
+use Rattle.sky_plain.specs.Plain.{Val, Vals, Pairs, Vars, Out, Ground, fails, in_body, body_at, stms}
+use Rattle.sky_plain.specs.RunView.{KeptVals, KeptPairs, code_of}
 use Rattle.sky_base.specs.declared.tree.Expr.{Expr}
 use Rattle.sky_base.specs.declared.tree.Link.{Link}
 use Rattle.sky_base.specs.declared.tree.Join.{Join}
@@ -80,23 +80,35 @@ kept_parts no_vals h = tt
 kept_parts (val v vs) h =
     (record { deep = omega (arith, h.deep); large = omega (arith, h.large) }, kept_parts vs (record { deep = omega (arith, h.deep); large = omega (arith, h.large) }))
 
+pub kept_pairs : (ps : Pairs) → Kept (dict ps) → KeptPairs ps
+kept_pairs no_pairs h = tt
+kept_pairs (pair k v ps) h =
+    (record { deep = omega (arith, h.deep); large = omega (arith, h.large) }, kept_pairs ps (record { deep = omega (arith, h.deep); large = omega (arith, h.large) }))
+
+-- what a function captured
+pub kept_caught : (f : List ℕ) (ps : Pairs) → Kept (fun f ps) → KeptPairs ps
+kept_caught f ps h =
+    kept_pairs ps (record { deep = omega (arith, h.deep); large = omega (arith, h.large) })
+
+pub ruleset calls = (kept_caught)
+
 pub kept_item : (vs : List Value) (i : ℕ) (x : Value) → i < length vs → x ≡ get_or vs i x → Kept (list (vals_of vs)) → Kept (view x)
 kept_item vs i x h e k = rw e (record { deep = omega (arith, depth_at vs i x h, k.deep); large = omega (arith, size_at vs i x h, k.large) })
 
 -- ---- bodies
 
-pub body_opens : (g : Ground) (d : ℕ) (f : List ℕ) (vs : Vals) (p : Place) (rows : List Row) (n : ℕ) → d ≢ 0 → body_at g d f vs p rows n ≡ in_body g (body_of f g.script) vs p rows n (stms g (body_at g (d - 1)))
-body_opens g zero f vs p rows n h = absurd (h refl)
-body_opens g (suc d) f vs p rows n h = let e : suc d - 1 ≡ d = omega arith in rw e refl
+pub body_opens : (g : Ground) (d : ℕ) (f : List ℕ) (ca : Pairs) (vs : Vals) (p : Place) (rows : List Row) (n : ℕ) → d ≢ 0 → body_at g d f ca vs p rows n ≡ in_body g (body_of f g.script) ca vs p rows n (stms g (body_at g (d - 1)))
+body_opens g zero f ca vs p rows n h = absurd (h refl)
+body_opens g (suc d) f ca vs p rows n h = let e : suc d - 1 ≡ d = omega arith in rw e refl
 
-abbrev pub run_code : Vals → Place → List Row → ℕ → (Stms → List Row → Vars → Out) → Option (List (List ℕ) × Stms) → Out
-run_code vs p rows n go None = fails FaultKind.BadKind p rows
-run_code vs p rows n go (Some x) = go x.1 rows (record { vars = bind x.0 vs no_pairs; count = n })
+abbrev pub run_code : Pairs → Vals → Place → List Row → ℕ → (Stms → List Row → Vars → Out) → Option (List (List ℕ) × Stms) → Out
+run_code ca vs p rows n go None = fails FaultKind.BadKind p rows
+run_code ca vs p rows n go (Some x) = go x.1 rows (record { vars = bind x.0 vs ca; count = n })
 
-pub code_runs : (g : Ground) (q : Option Body) (xs : List (List ℕ)) (b : Stms) (vs : Vals) (p : Place) (rows : List Row) (n : ℕ) (go : Stms → List Row → Vars → Out) → code_of q ≡ Some (xs, b) → in_body g q vs p rows n go ≡ go b rows (record { vars = bind xs vs no_pairs; count = n })
-code_runs g None xs b vs p rows n go e = ap (run_code vs p rows n go) e
-code_runs g (Some c) xs b vs p rows n go e = ap (run_code vs p rows n go) e
+pub code_runs : (g : Ground) (q : Option Body) (xs : List (List ℕ)) (b : Stms) (ca : Pairs) (vs : Vals) (p : Place) (rows : List Row) (n : ℕ) (go : Stms → List Row → Vars → Out) → code_of q ≡ Some (xs, b) → in_body g q ca vs p rows n go ≡ go b rows (record { vars = bind xs vs ca; count = n })
+code_runs g None xs b ca vs p rows n go e = ap (run_code ca vs p rows n go) e
+code_runs g (Some c) xs b ca vs p rows n go e = ap (run_code ca vs p rows n go) e
 
-pub code_missing : (g : Ground) (q : Option Body) (vs : Vals) (p : Place) (rows : List Row) (n : ℕ) (go : Stms → List Row → Vars → Out) → code_of q ≡ None → in_body g q vs p rows n go ≡ fails FaultKind.BadKind p rows
-code_missing g None vs p rows n go e = refl
-code_missing g (Some c) vs p rows n go e = absurd cc
+pub code_missing : (g : Ground) (q : Option Body) (ca : Pairs) (vs : Vals) (p : Place) (rows : List Row) (n : ℕ) (go : Stms → List Row → Vars → Out) → code_of q ≡ None → in_body g q ca vs p rows n go ≡ fails FaultKind.BadKind p rows
+code_missing g None ca vs p rows n go e = refl
+code_missing g (Some c) ca vs p rows n go e = absurd cc

@@ -19,3 +19,5 @@ pub mod Latest
 pub mod HeldView
 pub mod Faulty
 pub mod Whole
+pub mod Runs
+pub mod FunPlace

@@ -7,7 +7,7 @@ use Rattle.sky_base.specs.Op as op
 use Rattle.sky_base.specs.Op.{limited, find, put, negated, opposite, len, keys, has, range, grown, dict_from}
 use Rattle.sky_base.specs.Tree.{Place, nowhere, Junction, Sign, SignAt, Form, Exp, Exps, Links, Ands, Steps, Stm, Stms, Arms, Else, FunDef, Script}
 use Rattle.sky_base.specs.Res.{visits, Object, St, fault_at, with_vars, counted}
-use Rattle.sky_base.specs.Eval.{find_fun, is_one_of, Body, body_of, bind, set_var, lit_val, named, oper, outputs, truth_of}
+use Rattle.sky_base.specs.Eval.{find_fun, is_one_of, Body, body_of, bind, set_var, lit_val, named, closed, oper, outputs, truth_of}
 use Rattle.sky_base.specs.See.{slot}
 use Rattle.sky_base.specs.declared.fault.FaultKind.{FaultKind}
 use Rattle.sky_base.specs.declared.fault.Fault.{Fault}
@@ -150,9 +150,9 @@ abbrev pub spawn_if : Bool → Row → Place → List Row → Vars → Out
 spawn_if false d p rows st = fails FaultKind.WrongCount p rows
 spawn_if true d p rows st = make_one d rows st
 
-abbrev pub spawn_fun : Option FunDef → List ℕ → Vals → Place → List Row → Vars → Out
-spawn_fun None f vs p rows st = fails FaultKind.BadKind p rows
-spawn_fun (Some d) f vs p rows st = spawn_if (nat_eq (length d.params) (count vs)) (call f vs) p rows st
+abbrev pub spawn_fun : Option FunDef → List ℕ → Pairs → Vals → Place → List Row → Vars → Out
+spawn_fun None f c vs p rows st = fails FaultKind.BadKind p rows
+spawn_fun (Some d) f c vs p rows st = spawn_if (nat_eq (length d.params) (count vs)) (call f c vs) p rows st
 
 abbrev pub outputs_if : Bool → List Row → Place → List Row → (List Row → List Row → Out) → Out
 outputs_if false ds p rows k = fails FaultKind.BadCount p rows
@@ -212,12 +212,12 @@ each_of (list vs) p x run rows st = each vs p x run rows st
 each_of _ p x run rows st = fails FaultKind.BadKind p rows
 
 module _ (g : Ground) where
-  abbrev pub spawn_list : List ℕ → Val → Place → List Row → Vars → Out
-  spawn_list f (list vs) p rows st = spawn_fun (find_fun f g.script.funs) f vs p rows st
-  spawn_list f _ p rows st = fails FaultKind.BadKind p rows
+  abbrev pub spawn_list : List ℕ → Pairs → Val → Place → List Row → Vars → Out
+  spawn_list f c (list vs) p rows st = spawn_fun (find_fun f g.script.funs) f c vs p rows st
+  spawn_list f c _ p rows st = fails FaultKind.BadKind p rows
 
   abbrev pub spawned : Val → Val → Place → List Row → Vars → Out
-  spawned (fun f) a p rows st = spawn_list f a p rows st
+  spawned (fun f c) a p rows st = spawn_list f c a p rows st
   spawned _ a p rows st = fails FaultKind.BadKind p rows
 
   abbrev pub exec_ask : List Row → List Row → Vars → Out
@@ -272,20 +272,21 @@ module _ (g : Ground) where
   call_fun None vs p rows o = fails FaultKind.BadKind p rows
   call_fun (Some d) vs p rows o = call_if (nat_eq (length d.params) (count vs)) p rows o
 
-  abbrev pub called : Val → Vals → Place → List Row → (List ℕ → Out) → Out
-  called (fun f) vs p rows k = call_fun (find_fun f g.script.funs) vs p rows (k f)
+  abbrev pub called : Val → Vals → Place → List Row → (List ℕ → Pairs → Out) → Out
+  called (fun f c) vs p rows k = call_fun (find_fun f g.script.funs) vs p rows (k f c)
   called _ vs p rows k = fails FaultKind.BadKind p rows
 
-  -- what a body does on its arguments, after so many visits: handed in
-  module _ (body : List ℕ → Vals → Place → List Row → ℕ → Out) where
+  -- what a body does on what its function captured and on its arguments, after so many visits: handed in
+  module _ (body : List ℕ → Pairs → Vals → Place → List Row → ℕ → Out) where
     -- the call of a value on its arguments, visited before
     abbrev pub opened : Val → Vals → Place → List Row → Vars → Out
-    opened v vs p rows st = called v vs p rows (λ f. value_of st.vars (body f vs p rows st.count))
+    opened v vs p rows st = called v vs p rows (λ f c. value_of st.vars (body f c vs p rows st.count))
 
     abbrev mutual
       pub exp : Exp → List Row → Vars → Out
       exp (Exp.literal v p) rows st = visit p rows st (λ s. answer (limited (lit_val v)) p rows (λ u. Out.got u rows s))
       exp (Exp.name x p) rows st = visit p rows st (λ s. answer (named (find x s.vars) x g.script.funs) p rows (λ u. Out.got u rows s))
+      exp (Exp.func x p) rows st = visit p rows st (λ s. answer (closed (find_fun x g.script.funs) x s.vars) p rows (λ u. Out.got u rows s))
       exp (Exp.parens e) rows st = exp e rows st
       exp (Exp.parts o p es) rows st =
           on_listed (values es no_vals rows st) (λ vs more s. visit p more s (λ t. formed o vs p more t))
@@ -348,12 +349,12 @@ module _ (g : Ground) where
       other Else.no_else rows st = Out.goes rows st
       other (Else.otherwise b) rows st = stms b rows st
 
-  -- a body on its arguments, where its block is run by `run`
-  abbrev pub in_body : Option Body → Vals → Place → List Row → ℕ → (Stms → List Row → Vars → Out) → Out
-  in_body None vs p rows n run = fails FaultKind.BadKind p rows
-  in_body (Some b) vs p rows n run = run b.block rows (record { vars = bind b.params vs no_pairs; count = n })
+  -- a body on what its function captured and on its arguments, where its block is run by `run`
+  abbrev pub in_body : Option Body → Pairs → Vals → Place → List Row → ℕ → (Stms → List Row → Vars → Out) → Out
+  in_body None c vs p rows n run = fails FaultKind.BadKind p rows
+  in_body (Some b) c vs p rows n run = run b.block rows (record { vars = bind b.params vs c; count = n })
 
   -- the body of a function, where so many bodies may still be opened, this one included
-  abbrev pub body_at : ℕ → List ℕ → Vals → Place → List Row → ℕ → Out
-  body_at zero f vs p rows n = fails FaultKind.TooDeep p rows
-  body_at (suc d) f vs p rows n = in_body (body_of f g.script) vs p rows n (stms (body_at d))
+  abbrev pub body_at : ℕ → List ℕ → Pairs → Vals → Place → List Row → ℕ → Out
+  body_at zero f c vs p rows n = fails FaultKind.TooDeep p rows
+  body_at (suc d) f c vs p rows n = in_body (body_of f g.script) c vs p rows n (stms (body_at d))

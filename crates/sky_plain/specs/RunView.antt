@@ -12,7 +12,6 @@ use Rattle.sky_base.specs.declared.op.OpRefusal.{OpRefusal}
 use Rattle.sky_base.specs.declared.value.Value.{Value}
 use Rattle.sky_base.specs.Names.{known_of}
 use Rattle.sky_base.specs.See.{slot}
-use Rattle.sky_base.specs.declared.text.Name.{Name}
 use Rattle.sky_plain.specs.Walk.{Row, learn_to}
 use Rattle.sky_plain.specs.Number.{index_of}
 use Rattle.sky_plain.specs.Plain.{Obj, Val, Vals, Pairs, Vars, Answer, Cutoff, Out, answer, decide, visit, outputs_count}
@@ -27,7 +26,7 @@ raised OpRefusal.Memory p = Cut.Memory
 -- what a stop of the code stands for; want of memory for none
 abbrev pub cut_of : Cut → Cutoff
 cut_of (Cut.Fault f) = Cutoff.fault f
-cut_of (Cut.Waits n) = Cutoff.waits (known n.bytes)
+cut_of (Cut.Waits n) = Cutoff.waits (known n)
 cut_of Cut.Full = Cutoff.full
 cut_of Cut.Memory = Cutoff.full
 
@@ -82,8 +81,8 @@ abbrev pub given : Answer → Place → List Row → Vars → Out
 given a p rows st = visit p rows st (λ s. answer a p rows (λ u. Out.got u rows s))
 
 -- the name of a description that is held now, but for want of memory
-abbrev pub Learns : Result Name Cut → List Row → List Row → Row → Type 0
-Learns (Ok n) old new d = (learn_to old d ≡ Some new) × (slot (index_of d new) ≡ n.bytes)
+abbrev pub Learns : Result (List ℕ) Cut → List Row → List Row → Row → Type 0
+Learns (Ok n) old new d = (learn_to old d ≡ Some new) × (slot (index_of d new) ≡ n)
 Learns (Err c) old new d = c ≢ Cut.Memory → (c ≡ Cut.Full) × (learn_to old d ≡ None) × (new ≡ old)
 
 -- the names of descriptions that are all held now, but for want of memory

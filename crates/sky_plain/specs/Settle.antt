@@ -4,8 +4,8 @@ use Rattle.sky_base.specs.KitView.{Gives}
 use Rattle.sky_base.specs.See.{Desc, Job, Around}
 use Rattle.sky_law.specs.Tasks.{In}
 use Rattle.sky_base.specs.Kept.{Kept}
-use Rattle.sky_base.specs.Val.{list, call}
-use Rattle.sky_plain.specs.Plain.{Obj, Vals}
+use Rattle.sky_base.specs.Val.{list, dict, call}
+use Rattle.sky_plain.specs.Plain.{Obj, Pairs, Vals}
 use Rattle.sky_plain.specs.Walk.{Row, object_at, is_known}
 use Rattle.sky_plain.specs.Known.{with_object}
 use Rattle.sky_plain.specs.Needs.{Chain, MakesMany}
@@ -33,9 +33,9 @@ abbrev pub rank : List (Option Obj) → List ℕ → ℕ
 rank objects [] = (65536 - count objects) * 8194
 rank objects (k ∷ ks) = (65536 - count objects) * 8194 + height (is_known (object_at objects k)) (suc (length ks))
 
--- the arguments of each call that is held keep the limits
+-- the arguments of each call that is held keep the limits, and so does what its function captured
 abbrev pub CallsKept : List Row → Type 0
-CallsKept rows = (k : ℕ) (f : List ℕ) (vs : Vals) → slice_get rows k ≡ Some (call f vs) → Kept (list vs)
+CallsKept rows = (k : ℕ) (f : List ℕ) (c : Pairs) (vs : Vals) → slice_get rows k ≡ Some (call f c vs) → Kept (list vs) × Kept (dict c)
 
 -- ---- one step: the object of the description that is open last, or what it waits for
 

@@ -1,6 +1,6 @@
 -- What a sequential run knows of a job: of each description whose object it holds, the object that the meaning sees.
 use Rattle.std.specs.Prelude.{◌≡◌, ◌≢◌, ◌<◌, ℕ, List, [], ◌∷◌, length, Option, Some, Ok, Err, slice_get}
-use Rattle.sky_base.specs.Val.{Vals, no_vals, call, null, known}
+use Rattle.sky_base.specs.Val.{Vals, Pairs, no_vals, no_pairs, call, null, known}
 use Rattle.sky_base.specs.Tree.{nowhere, Script}
 use Rattle.sky_base.specs.Op.{Answer}
 use Rattle.sky_base.specs.Res.{bodies, Object, End}
@@ -27,9 +27,9 @@ end_object (End.returned v) = Object.data_of v
 end_object (End.failed f) = Object.fault f
 
 -- a call's run from these descriptions on ends with those, and stops as S says
-abbrev pub Runs : Script → (List ℕ → Answer (List ℕ)) → List (Option (Object (List ℕ))) → List Row → List ℕ → Vals (List ℕ) → List Row → (Stop → Type 0) → Type 0
-Runs script reads objects rows f vs after S =
-    (w : World (List ℕ)) → w.script ≡ script → w.reads ≡ reads → Numbers after w.make → (s : Stop) × (walk (known_of objects) rows (body_at w bodies f vs nowhere start_st) ≡ stops after s) × S s
+abbrev pub Runs : Script → (List ℕ → Answer (List ℕ)) → List (Option (Object (List ℕ))) → List Row → List ℕ → Pairs (List ℕ) → Vals (List ℕ) → List Row → (Stop → Type 0) → Type 0
+Runs script reads objects rows f c vs after S =
+    (w : World (List ℕ)) → w.script ≡ script → w.reads ≡ reads → Numbers after w.make → (s : Stop) × (walk (known_of objects) rows (body_at w bodies f c vs nowhere start_st) ≡ stops after s) × S s
 
 -- it ends, and this is its object
 abbrev pub EndsAs : Object (List ℕ) → Stop → Type 0
@@ -115,4 +115,4 @@ module _ (job : Job) (around : Around) where
     pub knows : Knows rows objects
     pub fits : Fits job.script rows objects
     pub made : Made rows
-    pub main_is : slice_get rows 0 ≡ Some (call [] no_vals)
+    pub main_is : slice_get rows 0 ≡ Some (call [] no_pairs no_vals)

@@ -23,7 +23,7 @@ abbrev mutual
   val_sum s (text t) = text_sum (mixed s 4) t
   val_sum s (list vs) = vals_sum (mixed s 5) vs
   val_sum s (dict ps) = pairs_sum (mixed s 6) ps
-  val_sum s (fun f) = text_sum (mixed s 7) f
+  val_sum s (fun f c) = pairs_sum (text_sum (mixed s 7) f) c
   val_sum s (ref d) = desc_sum (mixed s 8) d
 
   -- a sum with values, and behind them what is no kind
@@ -36,7 +36,7 @@ abbrev mutual
   pairs_sum s (pair k v ps) = pairs_sum (val_sum (text_sum s k) v) ps
 
   pub desc_sum : ℕ → Row → ℕ
-  desc_sum s (call f vs) = vals_sum (text_sum (mixed s 10) f) vs
+  desc_sum s (call f c vs) = vals_sum (pairs_sum (text_sum (mixed s 10) f) c) vs
   desc_sum s (out x v n i) = mixed (mixed (val_sum (text_sum (mixed s 11) x) v) n) i
   desc_sum s (input k) = text_sum (mixed s 12) k
   desc_sum s (known n) = text_sum (mixed s 13) n

@@ -40,6 +40,10 @@ module _ {N : Type 0} where
   on_dict (Ok ps) = Ok (dict ps)
   on_dict (Err f) = Err f
 
+  abbrev pub on_fun : List ℕ → Result (Pairs N) Fault → Result (Val N) Fault
+  on_fun f (Ok c) = Ok (fun f c)
+  on_fun f (Err e) = Err e
+
   abbrev pub on_val : Result (Val N) Fault → Result (Vals N) Fault → Result (Vals N) Fault
   on_val (Err f) rest = Err f
   on_val (Ok v) (Err f) = Err f
@@ -59,7 +63,7 @@ module _ {N : Type 0} where
       fill (text t) = Ok (text t)
       fill (list vs) = on_list (fill_vals vs)
       fill (dict ps) = on_dict (fill_pairs ps)
-      fill (fun f) = Ok (fun f)
+      fill (fun f c) = on_fun f (fill_pairs c)
       fill (ref d) = g d
 
       pub fill_vals : Vals N → Result (Vals N) Fault

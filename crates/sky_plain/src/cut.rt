@@ -6,8 +6,9 @@ ghost use Rattle.sky_base.specs.TreeView.{at};
 ghost use Rattle.sky_plain.specs.RunView.{raised};
 
 use sky_base::fault::{Fault, FaultKind};
+use sky_base::name::Name;
 use sky_base::op::OpRefusal;
-use sky_base::text::{Memory, Name};
+use sky_base::text::Memory;
 use sky_base::value::Value;
 
 /// Why a run stops before its end.

@@ -10,10 +10,11 @@ ghost use Rattle.sky_base.specs.Val.{no_vals};
 ghost use Rattle.sky_base.specs.View.{view};
 ghost use Rattle.sky_plain.specs.GroundView.{ground_of};
 ghost use Rattle.sky_plain.specs.Plain.{exp, values, links, ands, steps, opened, body_at};
+ghost use Rattle.sky_plain.specs.Runs.{CanRun, RunsBody};
 ghost use Rattle.sky_plain.specs.RunView.{Comes, Lists, KeptVals, junction};
 
 use crate::cut::{Cut, Flow};
-use crate::forms::{callee, decide, exec, give, input, named, signs, spawn, spawn_exec};
+use crate::forms::{callee, decide, exec, function, give, input, named, signs, spawn, spawn_exec};
 use crate::given::{
     compared_given, dict_given, has_given, keys_given, len_given, list_given, literal_given,
     range_given,
@@ -23,49 +24,63 @@ use crate::ops::apply;
 use crate::reader::Reader;
 use crate::rows::Rows;
 use crate::state::State;
-use crate::stmt::body;
 use sky_base::op::index;
+use sky_base::text::Txt;
 use sky_base::tree::{Cmp, Expr, Exprs, Join, Joins, Link, Links, SignAt, Step, Steps, Sub};
-use sky_base::value::{Vals, Value};
+use sky_base::value::{Pairs, Vals, Value};
 
 /// The value of an expression.
-#[cycle(run)]
-#[tactic(auto, using(crate::proofs::RunRules::run_rules))]
-pub fn expr<R: Reader>(
+#[cycle(exp)]
+#[tactic(auto, using(crate::proofs::RunRules::exp_rules))]
+pub fn expr<
+    R: Reader,
+    F: Fn(&mut Rows, &mut State, &Txt, &Pairs, &Vals, u32, u32) -> Result<Flow, Cut>,
+>(
     ground: &Ground<R>,
     rows: &mut Rows,
     state: &mut State,
     bodies: u32,
+    run: &F,
     e: &Expr,
 ) -> Result<Value, Cut>
-    requires { nodes (exp_view e.now) ≤ script_nodes ground.now.script.now }
+    requires can { CanRun (F.pre run.now) }
+    requires runs { RunsBody (F.post run.now) (ground_of R.reads ground.now) bodies }
     ensures answer { Comes result rows.new state.new (exp (ground_of R.reads ground.now) (body_at (ground_of R.reads ground.now) bodies) (exp_view e.now) rows.old state.old) }
     ensures kept { IfOk result (λ v. Kept (view v)) }
 {
     match e {
         Expr::Literal { value, line, col } => literal_given(state, value, *line, *col),
         Expr::Name { name, line, col } => named(ground, state, name, *line, *col),
-        Expr::Parens { inner } => expr(ground, rows, state, bodies, inner.get()),
-        Expr::List { items, line, col } => list_of(ground, rows, state, bodies, items, *line, *col),
-        Expr::Dict { items, line, col } => dict_of(ground, rows, state, bodies, items, *line, *col),
-        Expr::Chain { first, rest } => chain(ground, rows, state, bodies, first, rest),
+        Expr::Function { name, line, col } => function(ground, state, name, *line, *col),
+        Expr::Parens { inner } => expr(ground, rows, state, bodies, run, inner.get()),
+        Expr::List { items, line, col } => list_of(
+            ground, rows, state, bodies, run, items, *line, *col,
+        ),
+        Expr::Dict { items, line, col } => dict_of(
+            ground, rows, state, bodies, run, items, *line, *col,
+        ),
+        Expr::Chain { first, rest } => chain(ground, rows, state, bodies, run, first, rest),
         Expr::Compare {
             left,
             how,
             line,
             col,
             right,
-        } => compare(ground, rows, state, bodies, left, *how, *line, *col, right),
-        Expr::And { first, rest } => logic(ground, rows, state, bodies, false, first, rest),
-        Expr::Or { first, rest } => logic(ground, rows, state, bodies, true, first, rest),
-        Expr::Prefix { signs: of, operand } => prefix(ground, rows, state, bodies, of, operand),
-        Expr::Postfix { first, rest } => postfix(ground, rows, state, bodies, first, rest),
+        } => compare(
+            ground, rows, state, bodies, run, left, *how, *line, *col, right,
+        ),
+        Expr::And { first, rest } => logic(ground, rows, state, bodies, run, false, first, rest),
+        Expr::Or { first, rest } => logic(ground, rows, state, bodies, run, true, first, rest),
+        Expr::Prefix { signs: of, operand } => prefix(
+            ground, rows, state, bodies, run, of, operand,
+        ),
+        Expr::Postfix { first, rest } => postfix(ground, rows, state, bodies, run, first, rest),
         Expr::Spawn {
             fun,
             args,
             line,
             col,
-        } => spawn_of(ground, rows, state, bodies, fun, args, *line, *col),
+        } => spawn_of(ground, rows, state, bodies, run, fun, args, *line, *col),
         Expr::SpawnExec {
             executor,
             args,
@@ -73,7 +88,7 @@ pub fn expr<R: Reader>(
             line,
             col,
         } => spawn_exec_of(
-            ground, rows, state, bodies, executor, args, outputs, *line, *col,
+            ground, rows, state, bodies, run, executor, args, outputs, *line, *col,
         ),
         Expr::Exec {
             executor,
@@ -82,402 +97,492 @@ pub fn expr<R: Reader>(
             line,
             col,
         } => exec_of(
-            ground, rows, state, bodies, executor, args, outputs, *line, *col,
+            ground, rows, state, bodies, run, executor, args, outputs, *line, *col,
         ),
-        Expr::Ref { key, line, col } => ref_of(ground, rows, state, bodies, key, *line, *col),
-        Expr::Len { of, line, col } => len_of(ground, rows, state, bodies, of, *line, *col),
-        Expr::Keys { of, line, col } => keys_of(ground, rows, state, bodies, of, *line, *col),
+        Expr::Ref { key, line, col } => ref_of(ground, rows, state, bodies, run, key, *line, *col),
+        Expr::Len { of, line, col } => len_of(ground, rows, state, bodies, run, of, *line, *col),
+        Expr::Keys { of, line, col } => keys_of(ground, rows, state, bodies, run, of, *line, *col),
         Expr::Has {
             dict,
             key,
             line,
             col,
-        } => has_of(ground, rows, state, bodies, dict, key, *line, *col),
+        } => has_of(ground, rows, state, bodies, run, dict, key, *line, *col),
         Expr::Range {
             from,
             to,
             line,
             col,
-        } => range_of(ground, rows, state, bodies, from, to, *line, *col),
+        } => range_of(ground, rows, state, bodies, run, from, to, *line, *col),
     }
 }
 
 /// The value of a list's literal.
-#[cycle(run)]
-#[tactic(auto, using(crate::proofs::RunRules::run_rules))]
-fn list_of<R: Reader>(
+#[cycle(exp)]
+#[tactic(auto, using(crate::proofs::RunRules::exp_rules))]
+fn list_of<
+    R: Reader,
+    F: Fn(&mut Rows, &mut State, &Txt, &Pairs, &Vals, u32, u32) -> Result<Flow, Cut>,
+>(
     ground: &Ground<R>,
     rows: &mut Rows,
     state: &mut State,
     bodies: u32,
+    run: &F,
     items: &Exprs,
     line: u32,
     col: u32,
 ) -> Result<Value, Cut>
-    requires { nodes (Exp.parts Form.list (at line col) items.now) ≤ script_nodes ground.now.script.now }
+    requires can { CanRun (F.pre run.now) }
+    requires runs { RunsBody (F.post run.now) (ground_of R.reads ground.now) bodies }
     ensures answer { Comes result rows.new state.new (exp (ground_of R.reads ground.now) (body_at (ground_of R.reads ground.now) bodies) (Exp.parts Form.list (at line col) items.now) rows.old state.old) }
     ensures kept { IfOk result (λ v. Kept (view v)) }
 {
-    let vs = values(ground, rows, state, bodies, items)?;
+    let vs = values(ground, rows, state, bodies, run, items)?;
     list_given(state, vs, line, col)
 }
 
 /// The value of a dictionary's literal.
-#[cycle(run)]
-#[tactic(auto, using(crate::proofs::RunRules::run_rules))]
-fn dict_of<R: Reader>(
+#[cycle(exp)]
+#[tactic(auto, using(crate::proofs::RunRules::exp_rules))]
+fn dict_of<
+    R: Reader,
+    F: Fn(&mut Rows, &mut State, &Txt, &Pairs, &Vals, u32, u32) -> Result<Flow, Cut>,
+>(
     ground: &Ground<R>,
     rows: &mut Rows,
     state: &mut State,
     bodies: u32,
+    run: &F,
     items: &Exprs,
     line: u32,
     col: u32,
 ) -> Result<Value, Cut>
-    requires { nodes (Exp.parts Form.dict (at line col) items.now) ≤ script_nodes ground.now.script.now }
+    requires can { CanRun (F.pre run.now) }
+    requires runs { RunsBody (F.post run.now) (ground_of R.reads ground.now) bodies }
     ensures answer { Comes result rows.new state.new (exp (ground_of R.reads ground.now) (body_at (ground_of R.reads ground.now) bodies) (Exp.parts Form.dict (at line col) items.now) rows.old state.old) }
     ensures kept { IfOk result (λ v. Kept (view v)) }
 {
-    let vs = values(ground, rows, state, bodies, items)?;
+    let vs = values(ground, rows, state, bodies, run, items)?;
     dict_given(state, ground.alloc, &vs, line, col)
 }
 
 /// The value of a chain of operators.
-#[cycle(run)]
-#[tactic(auto, using(crate::proofs::RunRules::run_rules))]
-fn chain<R: Reader>(
+#[cycle(exp)]
+#[tactic(auto, using(crate::proofs::RunRules::exp_rules))]
+fn chain<
+    R: Reader,
+    F: Fn(&mut Rows, &mut State, &Txt, &Pairs, &Vals, u32, u32) -> Result<Flow, Cut>,
+>(
     ground: &Ground<R>,
     rows: &mut Rows,
     state: &mut State,
     bodies: u32,
+    run: &F,
     first: &Sub,
     rest: &Links,
 ) -> Result<Value, Cut>
-    requires { nodes (Exp.chain first.now rest.now) ≤ script_nodes ground.now.script.now }
+    requires can { CanRun (F.pre run.now) }
+    requires runs { RunsBody (F.post run.now) (ground_of R.reads ground.now) bodies }
     ensures answer { Comes result rows.new state.new (exp (ground_of R.reads ground.now) (body_at (ground_of R.reads ground.now) bodies) (Exp.chain first.now rest.now) rows.old state.old) }
     ensures kept { IfOk result (λ v. Kept (view v)) }
 {
-    let v = expr(ground, rows, state, bodies, first.get())?;
-    links(ground, rows, state, bodies, v, rest.as_slice())
+    let v = expr(ground, rows, state, bodies, run, first.get())?;
+    links(ground, rows, state, bodies, run, v, rest.as_slice())
 }
 
 /// The value of a comparison.
-#[cycle(run)]
-#[tactic(auto, using(crate::proofs::RunRules::run_rules))]
-fn compare<R: Reader>(
+#[cycle(exp)]
+#[tactic(auto, using(crate::proofs::RunRules::exp_rules))]
+fn compare<
+    R: Reader,
+    F: Fn(&mut Rows, &mut State, &Txt, &Pairs, &Vals, u32, u32) -> Result<Flow, Cut>,
+>(
     ground: &Ground<R>,
     rows: &mut Rows,
     state: &mut State,
     bodies: u32,
+    run: &F,
     left: &Sub,
     how: Cmp,
     line: u32,
     col: u32,
     right: &Sub,
 ) -> Result<Value, Cut>
-    requires { nodes (Exp.chain left.now (tree.link (Oper.compare (order_view how)) (at line col) right.now tree.no_links)) ≤ script_nodes ground.now.script.now }
+    requires can { CanRun (F.pre run.now) }
+    requires runs { RunsBody (F.post run.now) (ground_of R.reads ground.now) bodies }
     ensures answer { Comes result rows.new state.new (exp (ground_of R.reads ground.now) (body_at (ground_of R.reads ground.now) bodies) (Exp.chain left.now (tree.link (Oper.compare (order_view how)) (at line col) right.now tree.no_links)) rows.old state.old) }
     ensures kept { IfOk result (λ v. Kept (view v)) }
 {
-    let a = expr(ground, rows, state, bodies, left.get())?;
-    let b = expr(ground, rows, state, bodies, right.get())?;
+    let a = expr(ground, rows, state, bodies, run, left.get())?;
+    let b = expr(ground, rows, state, bodies, run, right.get())?;
     compared_given(state, how, &a, &b, line, col)
 }
 
 /// The value of a chain of `&&`, or of `||`, which stops at true.
-#[cycle(run)]
-#[tactic(auto, using(crate::proofs::RunRules::run_rules))]
-fn logic<R: Reader>(
+#[cycle(exp)]
+#[tactic(auto, using(crate::proofs::RunRules::exp_rules))]
+fn logic<
+    R: Reader,
+    F: Fn(&mut Rows, &mut State, &Txt, &Pairs, &Vals, u32, u32) -> Result<Flow, Cut>,
+>(
     ground: &Ground<R>,
     rows: &mut Rows,
     state: &mut State,
     bodies: u32,
+    run: &F,
     stop: bool,
     first: &Sub,
     rest: &Joins,
 ) -> Result<Value, Cut>
-    requires { nodes (Exp.logic (junction stop) first.now rest.now) ≤ script_nodes ground.now.script.now }
+    requires can { CanRun (F.pre run.now) }
+    requires runs { RunsBody (F.post run.now) (ground_of R.reads ground.now) bodies }
     ensures answer { Comes result rows.new state.new (exp (ground_of R.reads ground.now) (body_at (ground_of R.reads ground.now) bodies) (Exp.logic (junction stop) first.now rest.now) rows.old state.old) }
     ensures kept { IfOk result (λ v. Kept (view v)) }
 {
-    let v = expr(ground, rows, state, bodies, first.get())?;
-    joins(ground, rows, state, bodies, stop, v, rest.as_slice())
+    let v = expr(ground, rows, state, bodies, run, first.get())?;
+    joins(ground, rows, state, bodies, run, stop, v, rest.as_slice())
 }
 
 /// The value of an operand under signs.
-#[cycle(run)]
-#[tactic(auto, using(crate::proofs::RunRules::run_rules))]
-fn prefix<R: Reader>(
+#[cycle(exp)]
+#[tactic(auto, using(crate::proofs::RunRules::exp_rules))]
+fn prefix<
+    R: Reader,
+    F: Fn(&mut Rows, &mut State, &Txt, &Pairs, &Vals, u32, u32) -> Result<Flow, Cut>,
+>(
     ground: &Ground<R>,
     rows: &mut Rows,
     state: &mut State,
     bodies: u32,
+    run: &F,
     of: &[SignAt],
     operand: &Sub,
 ) -> Result<Value, Cut>
-    requires { nodes (Exp.prefix (signs_view of.now) operand.now) ≤ script_nodes ground.now.script.now }
+    requires can { CanRun (F.pre run.now) }
+    requires runs { RunsBody (F.post run.now) (ground_of R.reads ground.now) bodies }
     ensures answer { Comes result rows.new state.new (exp (ground_of R.reads ground.now) (body_at (ground_of R.reads ground.now) bodies) (Exp.prefix (signs_view of.now) operand.now) rows.old state.old) }
     ensures kept { IfOk result (λ v. Kept (view v)) }
 {
-    let v = expr(ground, rows, state, bodies, operand.get())?;
+    let v = expr(ground, rows, state, bodies, run, operand.get())?;
     signs(ground, state, of, v)
 }
 
 /// The value of an operand with indices and calls.
-#[cycle(run)]
-#[tactic(auto, using(crate::proofs::RunRules::run_rules))]
-fn postfix<R: Reader>(
+#[cycle(exp)]
+#[tactic(auto, using(crate::proofs::RunRules::exp_rules))]
+fn postfix<
+    R: Reader,
+    F: Fn(&mut Rows, &mut State, &Txt, &Pairs, &Vals, u32, u32) -> Result<Flow, Cut>,
+>(
     ground: &Ground<R>,
     rows: &mut Rows,
     state: &mut State,
     bodies: u32,
+    run: &F,
     first: &Sub,
     rest: &Steps,
 ) -> Result<Value, Cut>
-    requires { nodes (Exp.postfix first.now rest.now) ≤ script_nodes ground.now.script.now }
+    requires can { CanRun (F.pre run.now) }
+    requires runs { RunsBody (F.post run.now) (ground_of R.reads ground.now) bodies }
     ensures answer { Comes result rows.new state.new (exp (ground_of R.reads ground.now) (body_at (ground_of R.reads ground.now) bodies) (Exp.postfix first.now rest.now) rows.old state.old) }
     ensures kept { IfOk result (λ v. Kept (view v)) }
 {
-    let v = expr(ground, rows, state, bodies, first.get())?;
-    steps(ground, rows, state, bodies, v, rest.as_slice())
+    let v = expr(ground, rows, state, bodies, run, first.get())?;
+    steps(ground, rows, state, bodies, run, v, rest.as_slice())
 }
 
 /// The reference that `spawn` gives.
-#[cycle(run)]
-#[tactic(auto, using(crate::proofs::RunRules::run_rules))]
-fn spawn_of<R: Reader>(
+#[cycle(exp)]
+#[tactic(auto, using(crate::proofs::RunRules::exp_rules))]
+fn spawn_of<
+    R: Reader,
+    F: Fn(&mut Rows, &mut State, &Txt, &Pairs, &Vals, u32, u32) -> Result<Flow, Cut>,
+>(
     ground: &Ground<R>,
     rows: &mut Rows,
     state: &mut State,
     bodies: u32,
+    run: &F,
     fun: &Sub,
     args: &Sub,
     line: u32,
     col: u32,
 ) -> Result<Value, Cut>
-    requires { nodes (Exp.parts Form.spawn (at line col) (two fun.now args.now)) ≤ script_nodes ground.now.script.now }
+    requires can { CanRun (F.pre run.now) }
+    requires runs { RunsBody (F.post run.now) (ground_of R.reads ground.now) bodies }
     ensures answer { Comes result rows.new state.new (exp (ground_of R.reads ground.now) (body_at (ground_of R.reads ground.now) bodies) (Exp.parts Form.spawn (at line col) (two fun.now args.now)) rows.old state.old) }
     ensures kept { IfOk result (λ v. Kept (view v)) }
 {
-    let f = expr(ground, rows, state, bodies, fun.get())?;
-    let a = expr(ground, rows, state, bodies, args.get())?;
+    let f = expr(ground, rows, state, bodies, run, fun.get())?;
+    let a = expr(ground, rows, state, bodies, run, args.get())?;
     spawn(ground, rows, state, &f, &a, line, col)
 }
 
 /// The references that `spawn_exec` gives.
-#[cycle(run)]
-#[tactic(auto, using(crate::proofs::RunRules::run_rules))]
-fn spawn_exec_of<R: Reader>(
+#[cycle(exp)]
+#[tactic(auto, using(crate::proofs::RunRules::exp_rules))]
+fn spawn_exec_of<
+    R: Reader,
+    F: Fn(&mut Rows, &mut State, &Txt, &Pairs, &Vals, u32, u32) -> Result<Flow, Cut>,
+>(
     ground: &Ground<R>,
     rows: &mut Rows,
     state: &mut State,
     bodies: u32,
+    run: &F,
     executor: &Sub,
     args: &Sub,
     outputs: &Sub,
     line: u32,
     col: u32,
 ) -> Result<Value, Cut>
-    requires { nodes (Exp.parts Form.spawn_exec (at line col) (three executor.now args.now outputs.now)) ≤ script_nodes ground.now.script.now }
+    requires can { CanRun (F.pre run.now) }
+    requires runs { RunsBody (F.post run.now) (ground_of R.reads ground.now) bodies }
     ensures answer { Comes result rows.new state.new (exp (ground_of R.reads ground.now) (body_at (ground_of R.reads ground.now) bodies) (Exp.parts Form.spawn_exec (at line col) (three executor.now args.now outputs.now)) rows.old state.old) }
     ensures kept { IfOk result (λ v. Kept (view v)) }
 {
-    let x = expr(ground, rows, state, bodies, executor.get())?;
-    let a = expr(ground, rows, state, bodies, args.get())?;
-    let n = expr(ground, rows, state, bodies, outputs.get())?;
+    let x = expr(ground, rows, state, bodies, run, executor.get())?;
+    let a = expr(ground, rows, state, bodies, run, args.get())?;
+    let n = expr(ground, rows, state, bodies, run, outputs.get())?;
     spawn_exec(ground, rows, state, &x, &a, &n, line, col)
 }
 
 /// The references that `exec` gives.
-#[cycle(run)]
-#[tactic(auto, using(crate::proofs::RunRules::run_rules))]
-fn exec_of<R: Reader>(
+#[cycle(exp)]
+#[tactic(auto, using(crate::proofs::RunRules::exp_rules))]
+fn exec_of<
+    R: Reader,
+    F: Fn(&mut Rows, &mut State, &Txt, &Pairs, &Vals, u32, u32) -> Result<Flow, Cut>,
+>(
     ground: &Ground<R>,
     rows: &mut Rows,
     state: &mut State,
     bodies: u32,
+    run: &F,
     executor: &Sub,
     args: &Sub,
     outputs: &Sub,
     line: u32,
     col: u32,
 ) -> Result<Value, Cut>
-    requires { nodes (Exp.parts Form.exec (at line col) (three executor.now args.now outputs.now)) ≤ script_nodes ground.now.script.now }
+    requires can { CanRun (F.pre run.now) }
+    requires runs { RunsBody (F.post run.now) (ground_of R.reads ground.now) bodies }
     ensures answer { Comes result rows.new state.new (exp (ground_of R.reads ground.now) (body_at (ground_of R.reads ground.now) bodies) (Exp.parts Form.exec (at line col) (three executor.now args.now outputs.now)) rows.old state.old) }
     ensures kept { IfOk result (λ v. Kept (view v)) }
 {
-    let x = expr(ground, rows, state, bodies, executor.get())?;
-    let a = expr(ground, rows, state, bodies, args.get())?;
-    let n = expr(ground, rows, state, bodies, outputs.get())?;
+    let x = expr(ground, rows, state, bodies, run, executor.get())?;
+    let a = expr(ground, rows, state, bodies, run, args.get())?;
+    let n = expr(ground, rows, state, bodies, run, outputs.get())?;
     exec(ground, rows, state, &x, &a, &n, line, col)
 }
 
 /// The reference to an input.
-#[cycle(run)]
-#[tactic(auto, using(crate::proofs::RunRules::run_rules))]
-fn ref_of<R: Reader>(
+#[cycle(exp)]
+#[tactic(auto, using(crate::proofs::RunRules::exp_rules))]
+fn ref_of<
+    R: Reader,
+    F: Fn(&mut Rows, &mut State, &Txt, &Pairs, &Vals, u32, u32) -> Result<Flow, Cut>,
+>(
     ground: &Ground<R>,
     rows: &mut Rows,
     state: &mut State,
     bodies: u32,
+    run: &F,
     key: &Sub,
     line: u32,
     col: u32,
 ) -> Result<Value, Cut>
-    requires { nodes (Exp.parts Form.ref (at line col) (one key.now)) ≤ script_nodes ground.now.script.now }
+    requires can { CanRun (F.pre run.now) }
+    requires runs { RunsBody (F.post run.now) (ground_of R.reads ground.now) bodies }
     ensures answer { Comes result rows.new state.new (exp (ground_of R.reads ground.now) (body_at (ground_of R.reads ground.now) bodies) (Exp.parts Form.ref (at line col) (one key.now)) rows.old state.old) }
     ensures kept { IfOk result (λ v. Kept (view v)) }
 {
-    let k = expr(ground, rows, state, bodies, key.get())?;
+    let k = expr(ground, rows, state, bodies, run, key.get())?;
     input(ground, rows, state, &k, line, col)
 }
 
 /// The length of a value.
-#[cycle(run)]
-#[tactic(auto, using(crate::proofs::RunRules::run_rules))]
-fn len_of<R: Reader>(
+#[cycle(exp)]
+#[tactic(auto, using(crate::proofs::RunRules::exp_rules))]
+fn len_of<
+    R: Reader,
+    F: Fn(&mut Rows, &mut State, &Txt, &Pairs, &Vals, u32, u32) -> Result<Flow, Cut>,
+>(
     ground: &Ground<R>,
     rows: &mut Rows,
     state: &mut State,
     bodies: u32,
+    run: &F,
     of: &Sub,
     line: u32,
     col: u32,
 ) -> Result<Value, Cut>
-    requires { nodes (Exp.parts Form.len (at line col) (one of.now)) ≤ script_nodes ground.now.script.now }
+    requires can { CanRun (F.pre run.now) }
+    requires runs { RunsBody (F.post run.now) (ground_of R.reads ground.now) bodies }
     ensures answer { Comes result rows.new state.new (exp (ground_of R.reads ground.now) (body_at (ground_of R.reads ground.now) bodies) (Exp.parts Form.len (at line col) (one of.now)) rows.old state.old) }
     ensures kept { IfOk result (λ v. Kept (view v)) }
 {
-    let v = expr(ground, rows, state, bodies, of.get())?;
+    let v = expr(ground, rows, state, bodies, run, of.get())?;
     len_given(state, &v, line, col)
 }
 
 /// The keys of a dictionary.
-#[cycle(run)]
-#[tactic(auto, using(crate::proofs::RunRules::run_rules))]
-fn keys_of<R: Reader>(
+#[cycle(exp)]
+#[tactic(auto, using(crate::proofs::RunRules::exp_rules))]
+fn keys_of<
+    R: Reader,
+    F: Fn(&mut Rows, &mut State, &Txt, &Pairs, &Vals, u32, u32) -> Result<Flow, Cut>,
+>(
     ground: &Ground<R>,
     rows: &mut Rows,
     state: &mut State,
     bodies: u32,
+    run: &F,
     of: &Sub,
     line: u32,
     col: u32,
 ) -> Result<Value, Cut>
-    requires { nodes (Exp.parts Form.keys (at line col) (one of.now)) ≤ script_nodes ground.now.script.now }
+    requires can { CanRun (F.pre run.now) }
+    requires runs { RunsBody (F.post run.now) (ground_of R.reads ground.now) bodies }
     ensures answer { Comes result rows.new state.new (exp (ground_of R.reads ground.now) (body_at (ground_of R.reads ground.now) bodies) (Exp.parts Form.keys (at line col) (one of.now)) rows.old state.old) }
     ensures kept { IfOk result (λ v. Kept (view v)) }
 {
-    let v = expr(ground, rows, state, bodies, of.get())?;
+    let v = expr(ground, rows, state, bodies, run, of.get())?;
     keys_given(state, ground.alloc, &v, line, col)
 }
 
 /// Whether a dictionary has a key.
-#[cycle(run)]
-#[tactic(auto, using(crate::proofs::RunRules::run_rules))]
-fn has_of<R: Reader>(
+#[cycle(exp)]
+#[tactic(auto, using(crate::proofs::RunRules::exp_rules))]
+fn has_of<
+    R: Reader,
+    F: Fn(&mut Rows, &mut State, &Txt, &Pairs, &Vals, u32, u32) -> Result<Flow, Cut>,
+>(
     ground: &Ground<R>,
     rows: &mut Rows,
     state: &mut State,
     bodies: u32,
+    run: &F,
     dict: &Sub,
     key: &Sub,
     line: u32,
     col: u32,
 ) -> Result<Value, Cut>
-    requires { nodes (Exp.parts Form.has (at line col) (two dict.now key.now)) ≤ script_nodes ground.now.script.now }
+    requires can { CanRun (F.pre run.now) }
+    requires runs { RunsBody (F.post run.now) (ground_of R.reads ground.now) bodies }
     ensures answer { Comes result rows.new state.new (exp (ground_of R.reads ground.now) (body_at (ground_of R.reads ground.now) bodies) (Exp.parts Form.has (at line col) (two dict.now key.now)) rows.old state.old) }
     ensures kept { IfOk result (λ v. Kept (view v)) }
 {
-    let d = expr(ground, rows, state, bodies, dict.get())?;
-    let k = expr(ground, rows, state, bodies, key.get())?;
+    let d = expr(ground, rows, state, bodies, run, dict.get())?;
+    let k = expr(ground, rows, state, bodies, run, key.get())?;
     has_given(state, &d, &k, line, col)
 }
 
 /// A list of numbers in turn.
-#[cycle(run)]
-#[tactic(auto, using(crate::proofs::RunRules::run_rules))]
-fn range_of<R: Reader>(
+#[cycle(exp)]
+#[tactic(auto, using(crate::proofs::RunRules::exp_rules))]
+fn range_of<
+    R: Reader,
+    F: Fn(&mut Rows, &mut State, &Txt, &Pairs, &Vals, u32, u32) -> Result<Flow, Cut>,
+>(
     ground: &Ground<R>,
     rows: &mut Rows,
     state: &mut State,
     bodies: u32,
+    run: &F,
     from: &Sub,
     to: &Sub,
     line: u32,
     col: u32,
 ) -> Result<Value, Cut>
-    requires { nodes (Exp.parts Form.range (at line col) (two from.now to.now)) ≤ script_nodes ground.now.script.now }
+    requires can { CanRun (F.pre run.now) }
+    requires runs { RunsBody (F.post run.now) (ground_of R.reads ground.now) bodies }
     ensures answer { Comes result rows.new state.new (exp (ground_of R.reads ground.now) (body_at (ground_of R.reads ground.now) bodies) (Exp.parts Form.range (at line col) (two from.now to.now)) rows.old state.old) }
     ensures kept { IfOk result (λ v. Kept (view v)) }
 {
-    let a = expr(ground, rows, state, bodies, from.get())?;
-    let b = expr(ground, rows, state, bodies, to.get())?;
+    let a = expr(ground, rows, state, bodies, run, from.get())?;
+    let b = expr(ground, rows, state, bodies, run, to.get())?;
     range_given(state, ground.alloc, &a, &b, line, col)
 }
 
 /// The values of expressions, in order.
-#[cycle(run)]
-#[tactic(auto, using(crate::proofs::RunRules::run_rules))]
-fn values<R: Reader>(
+#[cycle(exp)]
+#[tactic(auto, using(crate::proofs::RunRules::exp_rules))]
+fn values<
+    R: Reader,
+    F: Fn(&mut Rows, &mut State, &Txt, &Pairs, &Vals, u32, u32) -> Result<Flow, Cut>,
+>(
     ground: &Ground<R>,
     rows: &mut Rows,
     state: &mut State,
     bodies: u32,
+    run: &F,
     es: &Exprs,
 ) -> Result<Vals, Cut>
-    requires { exps_nodes es.now ≤ script_nodes ground.now.script.now }
+    requires can { CanRun (F.pre run.now) }
+    requires runs { RunsBody (F.post run.now) (ground_of R.reads ground.now) bodies }
     ensures answer { Lists result rows.new state.new (values (ground_of R.reads ground.now) (body_at (ground_of R.reads ground.now) bodies) es.now no_vals rows.old state.old) }
     ensures kept { IfOk result KeptVals }
 {
     let mut vs = Vals::new(ground.alloc);
     for e in es.as_slice() {
-        let v = expr(ground, rows, state, bodies, e)?;
+        let v = expr(ground, rows, state, bodies, run, e)?;
         vs.push(v)?;
     }
     Ok(vs)
 }
 
 /// What the operators of a chain make of its first value.
-#[cycle(run)]
-#[tactic(auto, using(crate::proofs::RunRules::run_rules))]
-fn links<R: Reader>(
+#[cycle(exp)]
+#[tactic(auto, using(crate::proofs::RunRules::exp_rules))]
+fn links<
+    R: Reader,
+    F: Fn(&mut Rows, &mut State, &Txt, &Pairs, &Vals, u32, u32) -> Result<Flow, Cut>,
+>(
     ground: &Ground<R>,
     rows: &mut Rows,
     state: &mut State,
     bodies: u32,
+    run: &F,
     first: Value,
     rest: &[Link],
 ) -> Result<Value, Cut>
-    requires fits { links_nodes (links_view rest.now) ≤ script_nodes ground.now.script.now }
+    requires can { CanRun (F.pre run.now) }
+    requires runs { RunsBody (F.post run.now) (ground_of R.reads ground.now) bodies }
     requires kept { Kept (view first) }
     ensures answer { Comes result rows.new state.new (links (ground_of R.reads ground.now) (body_at (ground_of R.reads ground.now) bodies) (links_view rest.now) (view first) rows.old state.old) }
     ensures kept { IfOk result (λ v. Kept (view v)) }
 {
     let mut v = first;
     for link in rest {
-        v = linked(ground, rows, state, bodies, &v, link)?;
+        v = linked(ground, rows, state, bodies, run, &v, link)?;
     }
     Ok(v)
 }
 
 /// What one operator of a chain makes of the value before it.
-#[cycle(run)]
-#[tactic(auto, using(crate::proofs::RunRules::run_rules))]
-fn linked<R: Reader>(
+#[cycle(exp)]
+#[tactic(auto, using(crate::proofs::RunRules::exp_rules))]
+fn linked<
+    R: Reader,
+    F: Fn(&mut Rows, &mut State, &Txt, &Pairs, &Vals, u32, u32) -> Result<Flow, Cut>,
+>(
     ground: &Ground<R>,
     rows: &mut Rows,
     state: &mut State,
     bodies: u32,
+    run: &F,
     v: &Value,
     link: &Link,
 ) -> Result<Value, Cut>
-    requires fits { nodes (exp_view link.now.operand) ≤ script_nodes ground.now.script.now }
+    requires can { CanRun (F.pre run.now) }
+    requires runs { RunsBody (F.post run.now) (ground_of R.reads ground.now) bodies }
     requires kept { Kept (view v.now) }
     ensures answer { Comes result rows.new state.new (links (ground_of R.reads ground.now) (body_at (ground_of R.reads ground.now) bodies) (tree.link (arith_view link.now.op) (at link.now.line link.now.col) (exp_view link.now.operand) tree.no_links) (view v.now) rows.old state.old) }
     ensures kept { IfOk result (λ v. Kept (view v)) }
 {
-    let right = expr(ground, rows, state, bodies, &link.operand)?;
+    let right = expr(ground, rows, state, bodies, run, &link.operand)?;
     give(
         state,
         apply(ground.alloc, link.op, v, &right),
@@ -488,18 +593,23 @@ fn linked<R: Reader>(
 
 /// What a chain of `&&`, which stops at false, or of `||`, which stops at true, makes of its first
 /// value.
-#[cycle(run)]
-#[tactic(auto, using(crate::proofs::RunRules::run_rules))]
-fn joins<R: Reader>(
+#[cycle(exp)]
+#[tactic(auto, using(crate::proofs::RunRules::exp_rules))]
+fn joins<
+    R: Reader,
+    F: Fn(&mut Rows, &mut State, &Txt, &Pairs, &Vals, u32, u32) -> Result<Flow, Cut>,
+>(
     ground: &Ground<R>,
     rows: &mut Rows,
     state: &mut State,
     bodies: u32,
+    run: &F,
     stop: bool,
     first: Value,
     rest: &[Join],
 ) -> Result<Value, Cut>
-    requires fits { ands_nodes (ands_view rest.now) ≤ script_nodes ground.now.script.now }
+    requires can { CanRun (F.pre run.now) }
+    requires runs { RunsBody (F.post run.now) (ground_of R.reads ground.now) bodies }
     requires kept { Kept (view first) }
     ensures answer { Comes result rows.new state.new (ands (ground_of R.reads ground.now) (body_at (ground_of R.reads ground.now) bodies) (ands_view rest.now) (junction stop) (at 0 0) (view first) rows.old state.old) }
     ensures kept { IfOk result (λ v. Kept (view v)) }
@@ -514,83 +624,99 @@ fn joins<R: Reader>(
         if decide(&v, line, col)? == stop {
             return Ok(Value::Bool(stop));
         }
-        v = expr(ground, rows, state, bodies, &join.operand)?;
+        v = expr(ground, rows, state, bodies, run, &join.operand)?;
     }
     Ok(Value::Bool(decide(&v, line, col)?))
 }
 
 /// What indices and calls make of a value.
-#[cycle(run)]
-#[tactic(auto, using(crate::proofs::RunRules::run_rules))]
-fn steps<R: Reader>(
+#[cycle(exp)]
+#[tactic(auto, using(crate::proofs::RunRules::exp_rules))]
+fn steps<
+    R: Reader,
+    F: Fn(&mut Rows, &mut State, &Txt, &Pairs, &Vals, u32, u32) -> Result<Flow, Cut>,
+>(
     ground: &Ground<R>,
     rows: &mut Rows,
     state: &mut State,
     bodies: u32,
+    run: &F,
     first: Value,
     rest: &[Step],
 ) -> Result<Value, Cut>
-    requires fits { steps_nodes (steps_view rest.now) ≤ script_nodes ground.now.script.now }
+    requires can { CanRun (F.pre run.now) }
+    requires runs { RunsBody (F.post run.now) (ground_of R.reads ground.now) bodies }
     requires kept { Kept (view first) }
     ensures answer { Comes result rows.new state.new (steps (ground_of R.reads ground.now) (body_at (ground_of R.reads ground.now) bodies) (steps_view rest.now) (view first) rows.old state.old) }
     ensures kept { IfOk result (λ v. Kept (view v)) }
 {
     let mut v = first;
     for step in rest {
-        v = stepped(ground, rows, state, bodies, &v, step)?;
+        v = stepped(ground, rows, state, bodies, run, &v, step)?;
     }
     Ok(v)
 }
 
 /// What one index or call makes of the value before it.
-#[cycle(run)]
-#[tactic(auto, using(crate::proofs::RunRules::run_rules))]
-fn stepped<R: Reader>(
+#[cycle(exp)]
+#[tactic(auto, using(crate::proofs::RunRules::exp_rules))]
+fn stepped<
+    R: Reader,
+    F: Fn(&mut Rows, &mut State, &Txt, &Pairs, &Vals, u32, u32) -> Result<Flow, Cut>,
+>(
     ground: &Ground<R>,
     rows: &mut Rows,
     state: &mut State,
     bodies: u32,
+    run: &F,
     v: &Value,
     step: &Step,
 ) -> Result<Value, Cut>
-    requires fits { step_nodes step.now ≤ script_nodes ground.now.script.now }
+    requires can { CanRun (F.pre run.now) }
+    requires runs { RunsBody (F.post run.now) (ground_of R.reads ground.now) bodies }
     requires kept { Kept (view v.now) }
     ensures answer { Comes result rows.new state.new (steps (ground_of R.reads ground.now) (body_at (ground_of R.reads ground.now) bodies) (step_view step.now tree.no_steps) (view v.now) rows.old state.old) }
     ensures kept { IfOk result (λ v. Kept (view v)) }
 {
     match step {
         Step::Index { at, line, col } => {
-            let i = expr(ground, rows, state, bodies, at)?;
+            let i = expr(ground, rows, state, bodies, run, at)?;
             give(state, index(v, &i), *line, *col)
         }
         Step::Call { args, line, col } => {
-            let args = values(ground, rows, state, bodies, args)?;
+            let args = values(ground, rows, state, bodies, run, args)?;
             state.visit(*line, *col)?;
-            call(ground, rows, state, bodies, v, &args, *line, *col)
+            call(ground, rows, state, bodies, run, v, &args, *line, *col)
         }
     }
 }
 
 /// The value of a call, visited before.
-#[cycle(run)]
-#[tactic(auto, using(crate::proofs::RunRules::run_rules))]
-fn call<R: Reader>(
+#[tactic(auto, using(crate::proofs::RunRules::exp_rules))]
+fn call<
+    R: Reader,
+    F: Fn(&mut Rows, &mut State, &Txt, &Pairs, &Vals, u32, u32) -> Result<Flow, Cut>,
+>(
     ground: &Ground<R>,
     rows: &mut Rows,
     state: &mut State,
     bodies: u32,
+    run: &F,
     f: &Value,
     args: &Vals,
     line: u32,
     col: u32,
 ) -> Result<Value, Cut>
-    requires { KeptVals args.now }
+    requires can { CanRun (F.pre run.now) }
+    requires runs { RunsBody (F.post run.now) (ground_of R.reads ground.now) bodies }
+    requires kept { Kept (view f.now) }
+    requires args { KeptVals args.now }
     ensures answer { Comes result rows.new state.new (opened (ground_of R.reads ground.now) (body_at (ground_of R.reads ground.now) bodies) (view f.now) args.now (at line col) rows.old state.old) }
     ensures kept { IfOk result (λ v. Kept (view v)) }
 {
-    let name = callee(ground, f, args, line, col)?;
+    let fun = callee(ground, f, args, line, col)?;
     let mut inner = State::new(ground.alloc, state.count());
-    let flow = body(ground, rows, &mut inner, bodies, name, args, line, col)?;
+    let flow = run(rows, &mut inner, fun.name, fun.caught, args, line, col)?;
     state.resume(&inner);
     match flow {
         Flow::Goes => Ok(Value::Null),

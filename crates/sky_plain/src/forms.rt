@@ -13,25 +13,27 @@ ghost use Rattle.sky_base.specs.ObjectView.{desc_view, object_view};
 ghost use Rattle.sky_base.specs.TreeView.{at, at as place, signs_view, sign_view};
 ghost use Rattle.sky_plain.specs.Walk.{Row, look, known_of};
 ghost use Rattle.sky_plain.specs.Plain as plain;
-ghost use Rattle.sky_plain.specs.Plain.{Val, Out, Answer, Vars, visit, formed, spawned, input_of, called, exec_seen, signed, outputs_of};
+ghost use Rattle.sky_plain.specs.Plain.{Val, Pairs, Out, Answer, Vars, visit, formed, spawned, input_of, called, exec_seen, signed, outputs_of};
 ghost use Rattle.sky_plain.specs.GroundView.{ground_of};
-ghost use Rattle.sky_plain.specs.RunView.{Comes, given, DecidesAt, Learns, LearnsAll, Wanted, WaitsForAll, GoesOn, SignsOn, three_vals, fault_first, cut_of};
+ghost use Rattle.sky_plain.specs.RunView.{Comes, given, KeptPairs, DecidesAt, Learns, LearnsAll, Wanted, WaitsForAll, GoesOn, SignsOn, three_vals, fault_first, cut_of};
 
 use crate::cut::{Cut, fault};
-use crate::funs::{find_fun, fun_named, is_one_of};
+use crate::funs::{fun_named, is_one_of};
 use crate::ground::Ground;
 use crate::objects::{Objects, slot};
 use crate::ops::{negated, opposite, truth};
+use crate::program::Program;
 use crate::reader::Reader;
 use crate::rows::Rows;
 use crate::state::State;
 use sky_base::fault::{Fault, FaultKind};
+use sky_base::name::Name;
 use sky_base::names::Names;
 use sky_base::object::{Desc1, Object};
-use sky_base::op::OpRefusal;
-use sky_base::text::{Memory, Name, Txt};
+use sky_base::op::{OpRefusal, limited};
+use sky_base::text::{Memory, Txt};
 use sky_base::tree::{SignAt, SignOp};
-use sky_base::value::{Vals, Value};
+use sky_base::value::{Pairs, Vals, Value};
 use std::alloc::Global;
 
 /// Visits the node of a form, and gives the value that was made of its parts; or its refusal, at its
@@ -95,9 +97,37 @@ pub fn named<R: Reader>(
 {
     let answer = match state.find(name)? {
         Some(v) => Ok(v),
-        None => fun_named(ground.script.funs().as_slice(), name),
+        None => fun_named(ground.alloc, ground.script, name),
     };
     give(state, answer, line, col)
+}
+
+/// An anonymous function, which captures the variables that its body uses.
+pub fn function<R: Reader>(
+    ground: &Ground<R>,
+    state: &mut State,
+    name: &Txt,
+    line: u32,
+    col: u32,
+) -> Result<Value, Cut>
+    ensures answer { (rows : List Row) → Comes result rows state.new (given (run.closed (run.find_fun name.now (ground_of R.reads ground.now).script.funs) name.now state.old.vars) (at line col) rows state.old) }
+    ensures kept { IfOk result (λ v. Kept (view v)) }
+{
+    let answer = closed(ground.alloc, ground.script, state, name);
+    give(state, answer, line, col)
+}
+
+// The function of this name with those of the variables that its body uses.
+fn closed(alloc: Global, script: &Program, state: &State, name: &Txt) -> Result<Value, OpRefusal>
+    ensures answer { Answers result (run.closed (run.find_fun name.now script.now.funs) name.now state.now.vars) }
+    ensures kept { IfOk result (λ v. Kept (view v)) }
+{
+    let Some(fun) = script.find(name) else {
+        return Err(OpRefusal::Refused(FaultKind::Unknown));
+    };
+    let caught = state.caught(alloc, fun.uses.as_slice())?;
+    let name = name.share()?;
+    Ok(limited(Value::Fun { name, caught })?)
 }
 
 /// Holds a description, and gives its name.
@@ -124,13 +154,13 @@ pub fn spawn<R: Reader>(
     ensures kept { IfOk result (λ v. Kept (view v)) }
 {
     state.visit(line, col)?;
-    let Value::Fun(name) = fun else {
+    let Value::Fun { name, caught } = fun else {
         return Err(fault(FaultKind::BadKind, line, col));
     };
     let Value::List(args) = args else {
         return Err(fault(FaultKind::BadKind, line, col));
     };
-    let Some(fun) = find_fun(ground.script.funs().as_slice(), name) else {
+    let Some(fun) = ground.script.find(name) else {
         return Err(fault(FaultKind::BadKind, line, col));
     };
     if fun.params.as_slice().len() != args.len() {
@@ -138,6 +168,7 @@ pub fn spawn<R: Reader>(
     }
     let desc = Desc1::Call {
         fun: name.share()?,
+        caught: caught.copy()?,
         args: args.copy()?,
     };
     let name = learn(ground.alloc, rows, desc)?;
@@ -160,7 +191,7 @@ pub fn input<R: Reader>(
     let Value::Text(key) = key else {
         return Err(fault(FaultKind::BadKind, line, col));
     };
-    if !is_one_of(ground.script.keys().as_slice(), key) {
+    if !is_one_of(ground.script.keys(), key) {
         return Err(fault(FaultKind::Unknown, line, col));
     }
     let desc = Desc1::Input { key: key.share()? };
@@ -381,25 +412,35 @@ pub fn signs<R: Reader>(
     Ok(v)
 }
 
-/// Whether a value may be called on so many arguments: the name of the function.
+/// A function that may be called: its name, and what it captured.
+#[derive(Drop)]
+pub struct Callable<'a> {
+    pub name: &'a Txt,
+    pub caught: &'a Pairs,
+}
+
+/// Whether a value may be called on so many arguments: the function.
+#[tactic(auto, using(crate::proofs::Weights::calls))]
 pub fn callee<'a, R: Reader>(
     ground: &Ground<R>,
     f: &'a Value,
     args: &Vals,
     line: u32,
     col: u32,
-) -> Result<&'a Txt, Cut>
-    ensures ok { IfOk result (λ name. (rows : List Row) (k : List ℕ → Out) → called (ground_of R.reads ground.now) (view f.now) args.now (at line col) rows k ≡ k name.now) }
-    ensures cut { IfErr result (λ c. (rows : List Row) (k : List ℕ → Out) → called (ground_of R.reads ground.now) (view f.now) args.now (at line col) rows k ≡ Out.cut (cut_of c) rows) }
+) -> Result<Callable<'a>, Cut>
+    requires { Kept (view f.now) }
+    ensures ok { IfOk result (λ g. (rows : List Row) (k : List ℕ → Pairs → Out) → called (ground_of R.reads ground.now) (view f.now) args.now (at line col) rows k ≡ k g.name.now g.caught.now) }
+    ensures kept { IfOk result (λ g. KeptPairs g.caught.now) }
+    ensures cut { IfErr result (λ c. (rows : List Row) (k : List ℕ → Pairs → Out) → called (ground_of R.reads ground.now) (view f.now) args.now (at line col) rows k ≡ Out.cut (cut_of c) rows) }
 {
-    let Value::Fun(name) = f else {
+    let Value::Fun { name, caught } = f else {
         return Err(fault(FaultKind::BadKind, line, col));
     };
-    let Some(fun) = find_fun(ground.script.funs().as_slice(), name) else {
+    let Some(fun) = ground.script.find(name) else {
         return Err(fault(FaultKind::BadKind, line, col));
     };
     if fun.params.as_slice().len() != args.len() {
         return Err(fault(FaultKind::WrongCount, line, col));
     }
-    Ok(name)
+    Ok(Callable { name, caught })
 }

@@ -1,41 +1,31 @@
-// The functions of a script, by their names.
+// The functions of a script as values, and what a call of one runs.
 
-ghost use Rattle.std.specs.Prelude.{◌≡◌, ◌≤◌, Some, None, IfOk, IfSome, MatchOption};
-ghost use Rattle.sky_base.specs.Tree.{block_nodes, script_nodes};
+ghost use Rattle.std.specs.Prelude.{◌≡◌, Some, None, IfOk, MatchOption};
 ghost use Rattle.sky_base.specs.Kept.{Kept};
 ghost use Rattle.sky_base.specs.View.{view};
-ghost use Rattle.sky_base.specs.Op.{find};
 ghost use Rattle.sky_base.specs.OpView.{Answers};
 ghost use Rattle.sky_base.specs.Eval.{find_fun, fun_named, is_one_of, body_of};
-ghost use Rattle.sky_base.specs.ScriptView.{fun_view, funs_view};
 ghost use Rattle.sky_plain.specs.RunView.{code_of};
 
+use crate::program::Program;
 use sky_base::fault::FaultKind;
 use sky_base::op::{OpRefusal, limited};
-use sky_base::script::{FunDef, Script};
 use sky_base::stmt::Block;
 use sky_base::text::Txt;
-use sky_base::value::Value;
+use sky_base::value::{Pairs, Value};
+use std::alloc::Global;
 
-/// The first function of this name.
-pub fn find_fun<'a>(funs: &'a [FunDef], name: &Txt) -> Option<&'a FunDef>
-    ensures { MatchOption result (find_fun name.now (funs_view funs.now) ≡ None) (λ f. find_fun name.now (funs_view funs.now) ≡ Some (fun_view f.now)) }
-{
-    for fun in funs {
-        if name.as_str().cmp(fun.name.as_str()).is_eq() {
-            return Some(fun);
-        }
-    }
-    None
-}
-
-/// The function of this name as a value; Unknown where there is none.
-pub fn fun_named(funs: &[FunDef], name: &Txt) -> Result<Value, OpRefusal>
-    ensures answer { Answers result (fun_named (find_fun name.now (funs_view funs.now)) name.now) }
+/// The function of this name as a value, which captures nothing; Unknown where there is none.
+pub fn fun_named(alloc: Global, script: &Program, name: &Txt) -> Result<Value, OpRefusal>
+    ensures answer { Answers result (fun_named (find_fun name.now script.now.funs) name.now) }
     ensures kept { IfOk result (λ v. Kept (view v)) }
 {
-    match find_fun(funs, name) {
-        Some(_) => Ok(limited(Value::Fun(name.share()?))?),
+    match script.find(name) {
+        Some(_) => {
+            let name = name.share()?;
+            let caught = Pairs::new(alloc);
+            Ok(limited(Value::Fun { name, caught })?)
+        }
         None => Err(OpRefusal::Refused(FaultKind::Unknown)),
     }
 }
@@ -61,9 +51,8 @@ pub struct Code<'a> {
 
 /// What a call of the function of this name runs; the empty name is that of the main body.
 #[tactic(auto, using(crate::proofs::Leaves::found_bodies))]
-pub fn code_of<'a>(script: &'a Script, name: &Txt) -> Option<Code<'a>>
-    ensures fits { IfSome result (λ c. block_nodes c.block.now ≤ script_nodes script.now) }
-    ensures code { MatchOption result (code_of (body_of name.now script.now) ≡ None) (λ c. code_of (body_of name.now script.now) ≡ Some (c.params.now, c.block.now)) }
+pub fn code_of<'a>(script: &'a Program, name: &Txt) -> Option<Code<'a>>
+    ensures { MatchOption result (code_of (body_of name.now script.now) ≡ None) (λ c. code_of (body_of name.now script.now) ≡ Some (c.params.now, c.block.now)) }
 {
     if name.is_empty() {
         return Some(Code {
@@ -71,7 +60,7 @@ pub fn code_of<'a>(script: &'a Script, name: &Txt) -> Option<Code<'a>>
             block: script.main(),
         });
     }
-    match find_fun(script.funs().as_slice(), name) {
+    match script.find(name) {
         Some(fun) => Some(Code {
             params: fun.params.as_slice(),
             block: &fun.body,

@@ -12,6 +12,7 @@ mod json;
 mod objects;
 mod ops;
 pub mod plain;
+mod program;
 mod reader;
 mod rows;
 mod run;

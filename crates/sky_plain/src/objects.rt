@@ -9,8 +9,9 @@ ghost use Rattle.sky_plain.specs.Walk.{number_of, known_of, object_at, is_known}
 ghost use Rattle.sky_plain.specs.Known.{with_object, KeptObject, KeptObjects};
 ghost use Rattle.sky_plain.specs.Plain.{Obj};
 
+use sky_base::name::Name;
 use sky_base::object::Object;
-use sky_base::text::{Memory, Name};
+use sky_base::text::Memory;
 use std::alloc::Global;
 use std::marker::Model;
 
@@ -50,7 +51,7 @@ impl Objects {
     /// The object under the number that a name ends with, if it is known.
     #[tactic(auto, using(crate::proofs::Leaves::knowns))]
     pub fn known(&self, name: &Name) -> Option<&Object>
-        ensures value { MatchOption result (known_of self.now (known name.now.bytes) ≡ None) (λ o. known_of self.now (known name.now.bytes) ≡ Some (object_view o.now)) }
+        ensures value { MatchOption result (known_of self.now (known name.now) ≡ None) (λ o. known_of self.now (known name.now) ≡ Some (object_view o.now)) }
         ensures kept { IfSome result (λ o. KeptObject (object_view o.now)) }
     {
         let at = number(name) as usize;
@@ -113,29 +114,27 @@ fn pad(items: &mut Vec<Option<Object>>, count: usize) -> Result<(), Memory>
 // The number that a name ends with, up to the greatest of its type.
 #[tactic(auto, using(crate::proofs::Leaves::digits))]
 fn number(name: &Name) -> u64
-    ensures { result ≡ min (number_of name.now.bytes) (2 ^ 64 - 1) }
+    ensures { result ≡ min (number_of name.now) (2 ^ 64 - 1) }
 {
     let mut number = 0u64;
-    for b in name.bytes.as_slice() {
+    for b in name.bytes() {
         number = number.saturating_mul(256).saturating_add(*b as u64);
     }
     number
 }
 
-/// The name that holds a number: 16 zero bytes, then the number, its highest byte first.
+/// The name of 20 bytes that holds a number: 16 zero bytes, then the number, its highest byte first.
 pub fn slot(number: u32) -> Name
-    ensures { result.bytes ≡ slot number }
+    ensures { result ≡ slot number }
 {
     let [a, b, c, d] = number.to_be_bytes();
-    Name {
-        bytes: [0, 0, 0, 0, 0, 0, 0, 0, 0, 0, 0, 0, 0, 0, 0, 0, a, b, c, d],
-    }
+    Name::short([0, 0, 0, 0, 0, 0, 0, 0, 0, 0, 0, 0, 0, 0, 0, 0, a, b, c, d])
 }
 
 /// The number that a name ends with, where it is one of a description.
 #[tactic(auto, using(crate::proofs::Leaves::digits))]
 pub fn number_of(name: &Name) -> u32
-    ensures { number_of name.now.bytes < 2 ^ 32 → result ≡ number_of name.now.bytes }
+    ensures { number_of name.now < 2 ^ 32 → result ≡ number_of name.now }
 {
     number(name).min(u32::MAX as u64) as u32
 }

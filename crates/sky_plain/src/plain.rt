@@ -11,6 +11,7 @@ ghost use Rattle.sky_plain.specs.Faulty.{NoExecutors};
 ghost use Rattle.sky_plain.specs.Whole.{OpensAll, GatheredSo, AnswersSo};
 
 use crate::objects::{Objects, number_of, slot};
+use crate::program::Program;
 use crate::rows::Rows;
 use crate::settle::{Settled, settle, unknown};
 use crate::wave::{Turned, last_turn, turn};
@@ -19,7 +20,7 @@ use sky_base::job::Job;
 use sky_base::kit::Kit;
 use sky_base::object::Desc1;
 use sky_base::text::{Bytes, Memory, Txt};
-use sky_base::value::{Vals, Value};
+use sky_base::value::{Pairs, Vals, Value};
 use std::alloc::Global;
 
 /// How a sequential run of a job ends.
@@ -40,14 +41,14 @@ pub fn plain<K: Kit>(alloc: Global, job: &Job, kit: &K) -> Result<Answer, Memory
     requires none { NoExecutors (K.gives kit.now) }
     ensures answer { IfOk result (λ a. AnswersSo (job_view job.now) (json_around (K.gives kit.now)) a) }
 {
+    let program = Program::new(alloc, &job.script)?;
     let mut rows = Rows::new(alloc);
     let mut objects = Objects::new(alloc);
-    let main = Desc1::Call {
-        fun: Txt::new(alloc, "")?,
-        args: Vals::new(alloc),
-    };
-    match rows.learn(main)? {
-        Some(_) => rounds(alloc, job, kit, &mut rows, &mut objects),
+    let fun = Txt::new(alloc, "")?;
+    let caught = Pairs::new(alloc);
+    let args = Vals::new(alloc);
+    match rows.learn(Desc1::Call { fun, caught, args })? {
+        Some(_) => rounds(alloc, job, &program, kit, &mut rows, &mut objects),
         None => unreachable!(),
     }
 }
@@ -56,10 +57,12 @@ pub fn plain<K: Kit>(alloc: Global, job: &Job, kit: &K) -> Result<Answer, Memory
 fn rounds<K: Kit>(
     alloc: Global,
     job: &Job,
+    program: &Program,
     kit: &K,
     rows: &mut Rows,
     objects: &mut Objects,
 ) -> Result<Answer, Memory>
+    requires script { program.now ≡ (job_view job.now).script }
     requires none { NoExecutors (K.gives kit.now) }
     requires small { length objects.old ≤ 65536 }
     requires standing { Standing (job_view job.now) (json_around (K.gives kit.now)) rows.old objects.old }
@@ -68,7 +71,7 @@ fn rounds<K: Kit>(
     let mut value = Value::Ref(slot(0));
     let mut wave = 0u32;
     while wave <= 100 {
-        match gather(alloc, job, kit, rows, objects, &value)? {
+        match gather(alloc, job, program, kit, rows, objects, &value)? {
             Settled::Known => {}
             Settled::TooDeep => return Ok(Answer::TooDeepPlain { depth: 4096 }),
             Settled::Full => return Ok(Answer::TooMany { held: 65_536 }),
@@ -93,11 +96,13 @@ fn rounds<K: Kit>(
 fn gather<K: Kit>(
     alloc: Global,
     job: &Job,
+    program: &Program,
     kit: &K,
     rows: &mut Rows,
     objects: &mut Objects,
     value: &Value,
 ) -> Result<Settled, Memory>
+    requires script { program.now ≡ (job_view job.now).script }
     requires none { NoExecutors (K.gives kit.now) }
     requires small { length objects.old ≤ 65536 }
     requires standing { Standing (job_view job.now) (json_around (K.gives kit.now)) rows.old objects.old }
@@ -107,7 +112,7 @@ fn gather<K: Kit>(
 {
     while let Some(name) = unknown(alloc, value, objects)? {
         let _held = rows.len();
-        match settle(alloc, job, kit, rows, objects, number_of(&name))? {
+        match settle(alloc, job, program, kit, rows, objects, number_of(&name))? {
             Settled::Known => {}
             Settled::TooDeep => return Ok(Settled::TooDeep),
             Settled::Full => return Ok(Settled::Full),

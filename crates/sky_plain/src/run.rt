@@ -2,20 +2,21 @@
 
 ghost use Rattle.std.specs.Prelude.{IfOk};
 ghost use Rattle.sky_base.specs.Kept.{Kept};
-ghost use Rattle.sky_base.specs.Val.{list};
+ghost use Rattle.sky_base.specs.Val.{dict, list};
 ghost use Rattle.sky_plain.specs.Ran.{Begins, RanSo, KeptRan};
 
 use crate::cut::{Cut, Flow};
 use crate::ground::Ground;
 use crate::objects::Objects;
+use crate::program::Program;
 use crate::reader::Reader;
 use crate::rows::Rows;
 use crate::state::State;
 use crate::stmt::body;
+use sky_base::name::Name;
 use sky_base::object::Object;
-use sky_base::script::Script;
-use sky_base::text::{Memory, Name, Txt};
-use sky_base::value::{Vals, Value};
+use sky_base::text::{Memory, Txt};
+use sky_base::value::{Pairs, Vals, Value};
 use std::alloc::Global;
 
 /// How many bodies may be open at once.
@@ -32,20 +33,22 @@ pub enum Ran {
     Full,
 }
 
-/// Runs the body of a function on its arguments.
+/// Runs the body of a function on what it captured and on its arguments.
 #[tactic(auto, using(crate::proofs::RunEnds::run_ends))]
 pub fn run_call<R: Reader>(
     alloc: Global,
-    script: &Script,
+    script: &Program,
     rows: &mut Rows,
     objects: &Objects,
     reader: &R,
     fun: &Txt,
+    caught: &Pairs,
     args: &Vals,
 ) -> Result<Ran, Memory>
-    requires { Kept (list args.now) }
+    requires caught { Kept (dict caught.now) }
+    requires args { Kept (list args.now) }
     ensures grows { IfOk result (λ _. Begins rows.old rows.new) }
-    ensures runs { IfOk result (λ r. RanSo script.now (R.reads reader.now) objects.now rows.old fun.now args.now rows.new r) }
+    ensures runs { IfOk result (λ r. RanSo script.now (R.reads reader.now) objects.now rows.old fun.now caught.now args.now rows.new r) }
     ensures kept { IfOk result (λ r. KeptRan r) }
 {
     let ground = Ground {
@@ -55,7 +58,17 @@ pub fn run_call<R: Reader>(
         reader,
     };
     let mut state = State::new(alloc, 0);
-    let flow = body(&ground, rows, &mut state, MOST_BODIES, fun, args, 0, 0);
+    let flow = body(
+        &ground,
+        rows,
+        &mut state,
+        MOST_BODIES,
+        fun,
+        caught,
+        args,
+        0,
+        0,
+    );
     // Each description is held once.
     let _held = rows.len();
     match flow {

@@ -14,10 +14,18 @@ pub fn is_same_desc(a: &Desc1, b: &Desc1) -> bool
     ensures { result ≡ same_desc same_text (desc_view a.now) (desc_view b.now) }
 {
     match a {
-        Desc1::Call { fun: f, args: vs } => match b {
-            Desc1::Call { fun: g, args: ws } => {
-                is_same_text(f, g) && are_same(vs.as_slice(), ws.as_slice())
-            }
+        Desc1::Call {
+            fun: f,
+            caught: c,
+            args: vs,
+        } => match b {
+            Desc1::Call {
+                fun: g,
+                caught: d,
+                args: ws,
+            } => is_same_text(f, g)
+                && are_pairs_same(c.as_slice(), d.as_slice())
+                && are_same(vs.as_slice(), ws.as_slice()),
             _ => false,
         },
         Desc1::Exec {
@@ -77,12 +85,13 @@ fn is_same(a: &Value, b: &Value) -> bool
             Value::Dict(b) => are_pairs_same(a.as_slice(), b.as_slice()),
             _ => false,
         },
-        Value::Fun(a) => match b {
-            Value::Fun(b) => is_same_text(a, b),
+        Value::Fun { name: a, caught: c } => match b {
+            Value::Fun { name: b, caught: d } => is_same_text(a, b)
+                && are_pairs_same(c.as_slice(), d.as_slice()),
             _ => false,
         },
         Value::Ref(a) => match b {
-            Value::Ref(b) => a.bytes.as_slice().cmp(b.bytes.as_slice()).is_eq(),
+            Value::Ref(b) => a.bytes().cmp(b.bytes()).is_eq(),
             _ => false,
         },
     }

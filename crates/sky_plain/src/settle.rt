@@ -10,7 +10,7 @@ ghost use Rattle.sky_plain.specs.Stand.{Opens, Standing};
 ghost use Rattle.sky_plain.specs.Ran.{Begins};
 ghost use Rattle.sky_plain.specs.Settle.{CallsKept, Stepped, SettledSo};
 ghost use Rattle.sky_base.specs.Kept.{Kept};
-ghost use Rattle.sky_base.specs.Val.{list, call, out, input, known, refs, vals_refs, pairs_refs};
+ghost use Rattle.sky_base.specs.Val.{list, dict, call, out, input, known, refs, vals_refs, pairs_refs};
 ghost use Rattle.sky_base.specs.View.{view, vals_of, pairs_of};
 ghost use Rattle.sky_base.specs.ObjectView.{object_view};
 ghost use Rattle.sky_law.specs.Tasks.{In};
@@ -22,6 +22,7 @@ ghost use Rattle.sky_plain.specs.Faulty.{FaultIs, FaultsAre, NoExecutors, OutFau
 
 use crate::json::Json;
 use crate::objects::{Objects, number_of};
+use crate::program::Program;
 use crate::rows::Rows;
 use crate::run::{Ran, run_call};
 use crate::stack::Stack;
@@ -30,9 +31,10 @@ use sky_base::compare::is_plain;
 use sky_base::fault::{Fault, FaultKind};
 use sky_base::job::{Inputs, Job};
 use sky_base::kit::Kit;
+use sky_base::name::Name;
 use sky_base::object::{Desc1, Object};
-use sky_base::text::{Bytes, Memory, Name, Txt};
-use sky_base::value::{Pair, Vals, Value};
+use sky_base::text::{Bytes, Memory, Txt};
+use sky_base::value::{Pair, Pairs, Vals, Value};
 use std::alloc::Global;
 
 /// What a step comes to.
@@ -50,19 +52,23 @@ pub enum Step {
 fn called<K: Kit>(
     alloc: Global,
     job: &Job,
+    program: &Program,
     kit: &K,
     rows: &mut Rows,
     objects: &mut Objects,
     number: u32,
     fun: &Txt,
+    caught: &Pairs,
     args: &Vals,
 ) -> Result<Step, Memory>
-    requires at { slice_get rows.old number ≡ Some (call fun.now args.now) }
+    requires script { program.now ≡ (job_view job.now).script }
+    requires at { slice_get rows.old number ≡ Some (call fun.now caught.now args.now) }
     requires kept { Kept (list args.now) }
+    requires kept_caught { Kept (dict caught.now) }
     ensures grows { IfOk result (λ _. Begins rows.old rows.new) }
     ensures step { IfOk result (λ s. (ks : List _) → Standing (job_view job.now) (json_around (K.gives kit.now)) rows.old objects.old → Opens (job_view job.now) (json_around (K.gives kit.now)) rows.old (number ∷ ks) → Stepped (job_view job.now) (json_around (K.gives kit.now)) ks number rows.new objects.old objects.new s) }
 {
-    let ran = run_call(alloc, &job.script, rows, objects, &Json, fun, args)?;
+    let ran = run_call(alloc, program, rows, objects, &Json, fun, caught, args)?;
     let _held = rows.len();
     match ran {
         Ran::Object(object) => {
@@ -77,7 +83,7 @@ fn called<K: Kit>(
 /// The first name in the value whose object isn't known.
 #[tactic(auto, using(crate::proofs::Lacks::lacks))]
 pub fn unknown(alloc: Global, value: &Value, objects: &Objects) -> Result<Option<Name>, Memory>
-    ensures { IfOk result (λ o. MatchOption o (AllKnown objects.now (refs (view value.now))) (λ n. In (known n.bytes) (refs (view value.now)) × (known_of objects.now (known n.bytes) ≡ None))) }
+    ensures { IfOk result (λ o. MatchOption o (AllKnown objects.now (refs (view value.now))) (λ n. In (known n) (refs (view value.now)) × (known_of objects.now (known n) ≡ None))) }
 {
     let names = value.refs(alloc)?;
     for name in names.as_slice() {
@@ -113,6 +119,7 @@ fn first_fault(value: &Value, objects: &Objects) -> Option<Fault>
     match value {
         Value::List(values) => fault_in(values.as_slice(), objects),
         Value::Dict(pairs) => fault_in_pairs(pairs.as_slice(), objects),
+        Value::Fun { caught, .. } => fault_in_pairs(caught.as_slice(), objects),
         Value::Ref(name) => match objects.known(name) {
             Some(object) => fault_of(object),
             None => Some(no_place(FaultKind::NotText)),
@@ -197,11 +204,13 @@ fn input(alloc: Global, inputs: &Inputs, key: &Txt) -> Result<Bytes, Memory>
 fn advance<K: Kit>(
     alloc: Global,
     job: &Job,
+    program: &Program,
     kit: &K,
     rows: &mut Rows,
     objects: &mut Objects,
     number: u32,
 ) -> Result<Step, Memory>
+    requires script { program.now ≡ (job_view job.now).script }
     requires none { NoExecutors (K.gives kit.now) }
     requires held { number < length rows.old }
     requires kept { CallsKept rows.old }
@@ -210,7 +219,9 @@ fn advance<K: Kit>(
 {
     let desc = rows.desc(number).copy()?;
     match desc {
-        Desc1::Call { fun, args } => called(alloc, job, kit, rows, objects, number, &fun, &args),
+        Desc1::Call { fun, caught, args } => called(
+            alloc, job, program, kit, rows, objects, number, &fun, &caught, &args,
+        ),
         Desc1::Exec { args, .. } => executed(alloc, job, kit, rows, objects, number, &args),
         Desc1::Input { key } => given(alloc, job, kit, rows, objects, number, &key),
     }
@@ -254,11 +265,13 @@ pub enum Settled {
 pub fn settle<K: Kit>(
     alloc: Global,
     job: &Job,
+    program: &Program,
     kit: &K,
     rows: &mut Rows,
     objects: &mut Objects,
     first: u32,
 ) -> Result<Settled, Memory>
+    requires script { program.now ≡ (job_view job.now).script }
     requires none { NoExecutors (K.gives kit.now) }
     requires held { first < length rows.old }
     requires small { length objects.old ≤ 65536 }
@@ -275,7 +288,7 @@ pub fn settle<K: Kit>(
             open.pop();
             continue;
         }
-        match advance(alloc, job, kit, rows, objects, top)? {
+        match advance(alloc, job, program, kit, rows, objects, top)? {
             Step::Known => {}
             Step::Full => return Ok(Settled::Full),
             Step::Waits(next) => {

@@ -7,7 +7,7 @@ ghost use Rattle.sky_base.specs.Val.{no_pairs, null};
 ghost use Rattle.sky_base.specs.View.{view};
 ghost use Rattle.sky_base.specs.Op.{find, grown};
 ghost use Rattle.sky_base.specs.Res.{visits, counted, with_vars, fault_at};
-ghost use Rattle.sky_base.specs.Eval.{set_var, bind};
+ghost use Rattle.sky_base.specs.Eval.{set_var, bind, caught_by};
 ghost use Rattle.sky_base.specs.TreeView.{at};
 ghost use Rattle.sky_plain.specs.Walk.{Row};
 ghost use Rattle.sky_plain.specs.Plain.{add_to, put_in};
@@ -104,13 +104,30 @@ impl State {
         self.vars.insert(name.share()?, v)
     }
 
-    /// Binds parameters to arguments, in place of all variables.
-    pub fn bind(&mut self, alloc: Global, params: &[Txt], args: &Vals) -> Result<(), Memory>
-        requires { KeptVals args.now }
-        ensures { IfOk result (λ _. self.new ≡ with_vars (bind params.now args.now no_pairs) self.old) }
+    /// Binds parameters to arguments, over what the function captured, in place of all variables.
+    pub fn bind(&mut self, caught: &Pairs, params: &[Txt], args: &Vals) -> Result<(), Memory>
+        requires caught { KeptPairs caught.now }
+        requires args { KeptVals args.now }
+        ensures { IfOk result (λ _. self.new ≡ with_vars (bind params.now args.now caught.now) self.old) }
     {
-        self.vars = bound(alloc, params, args)?;
+        self.vars = bound(caught, params, args)?;
         Ok(())
+    }
+
+    /// Those of the variables whose names are among these.
+    #[tactic(auto, using(crate::proofs::Catches::catches))]
+    pub fn caught(&self, alloc: Global, names: &[Txt]) -> Result<Pairs, Memory>
+        ensures { IfOk result (λ ps. ps ≡ caught_by names.now self.now.vars) }
+    {
+        let mut caught = Pairs::new(alloc);
+        // The names of the variables rise.
+        let _vars = self.vars.as_slice();
+        for name in names {
+            if let Some(v) = self.vars.find(name) {
+                caught.insert(name.share()?, v.copy()?)?;
+            }
+        }
+        Ok(caught)
     }
 
     // The value of a variable, which is null from then on, so that nobody else need hold the value.
@@ -182,13 +199,14 @@ impl State {
     }
 }
 
-// The parameters bound to the arguments.
-fn bound(alloc: Global, params: &[Txt], args: &Vals) -> Result<Pairs, Memory>
-    requires { KeptVals args.now }
-    ensures value { IfOk result (λ ps. ps ≡ bind params.now args.now no_pairs) }
+// The parameters bound to the arguments, over what was captured.
+fn bound(caught: &Pairs, params: &[Txt], args: &Vals) -> Result<Pairs, Memory>
+    requires caught { KeptPairs caught.now }
+    requires args { KeptVals args.now }
+    ensures value { IfOk result (λ ps. ps ≡ bind params.now args.now caught.now) }
     ensures kept { IfOk result (λ ps. KeptPairs ps) }
 {
-    let mut vars = Pairs::new(alloc);
+    let mut vars = caught.copy()?;
     for (i, param) in params.iter().enumerate() {
         let Some(arg) = args.get(i) else {
             return Ok(vars);

@@ -10,7 +10,8 @@ ghost use Rattle.sky_base.specs.TreeView.{at, at as place, exp_view};
 ghost use Rattle.sky_base.specs.View.{view};
 ghost use Rattle.sky_plain.specs.GroundView.{ground_of};
 ghost use Rattle.sky_plain.specs.Plain.{exp, stm, stms, arms, other, turns, repeats, each_of, body_at};
-ghost use Rattle.sky_plain.specs.RunView.{Flows, KeptVals, KeptFlow};
+ghost use Rattle.sky_plain.specs.Runs.{CanRun, RunsBody};
+ghost use Rattle.sky_plain.specs.RunView.{Flows, KeptVals, KeptPairs, KeptFlow};
 
 use crate::cut::{Cut, Flow, fault};
 use crate::expr::expr;
@@ -24,24 +25,25 @@ use sky_base::fault::FaultKind;
 use sky_base::stmt::{Arm, Arms, Block, Stmt};
 use sky_base::text::Txt;
 use sky_base::tree::Expr;
-use sky_base::value::{Vals, Value};
+use sky_base::value::{Pairs, Vals, Value};
 
-/// Runs the body of the function of a name, where so many bodies may still be opened, this one
+/// Runs the body of the function of a name on what it captured and on its arguments, where so many bodies may still be opened, this one
 /// included.
-#[cycle(run)]
-#[tactic(auto, using(crate::proofs::RunRules::run_rules))]
+#[tactic(auto, using(crate::proofs::RunRules::body_rules))]
 pub fn body<R: Reader>(
     ground: &Ground<R>,
     rows: &mut Rows,
     state: &mut State,
     bodies: u32,
     name: &Txt,
+    caught: &Pairs,
     args: &Vals,
     line: u32,
     col: u32,
 ) -> Result<Flow, Cut>
-    requires { KeptVals args.now }
-    ensures answer { Flows result rows.new state.new (body_at (ground_of R.reads ground.now) bodies name.now args.now (at line col) rows.old state.old.count) }
+    requires caught { KeptPairs caught.now }
+    requires args { KeptVals args.now }
+    ensures answer { Flows result rows.new state.new (body_at (ground_of R.reads ground.now) bodies name.now caught.now args.now (at line col) rows.old state.old.count) }
     ensures kept { IfOk result KeptFlow }
 {
     if bodies == 0 {
@@ -50,26 +52,41 @@ pub fn body<R: Reader>(
     let Some(code) = code_of(ground.script, name) else {
         return Err(fault(FaultKind::BadKind, line, col));
     };
-    state.bind(ground.alloc, code.params, args)?;
-    block(ground, rows, state, bodies - 1, code.block)
+    state.bind(caught, code.params, args)?;
+    let left = bodies - 1;
+    let run = move |rows: &mut Rows, state: &mut State, name: &Txt, caught: &Pairs, args: &Vals, line: u32, col: u32| -> Result<
+        Flow,
+        Cut,
+    >
+        requires caught { KeptPairs caught.now }
+        requires args { KeptVals args.now }
+        ensures answer { Flows result rows.new state.new (body_at (ground_of R.reads ground.entry.now) left name.now caught.now args.now (at line col) rows.old state.old.count) }
+        ensures kept { IfOk result KeptFlow }
+    { body(ground, rows, state, left, name, caught, args, line, col) };
+    block(ground, rows, state, left, &run, code.block)
 }
 
 /// Runs the statements of a block.
-#[cycle(run)]
-#[tactic(auto, using(crate::proofs::RunRules::run_rules))]
-fn block<R: Reader>(
+#[cycle(stm)]
+#[tactic(auto, using(crate::proofs::RunRules::stm_rules))]
+fn block<
+    R: Reader,
+    F: Fn(&mut Rows, &mut State, &Txt, &Pairs, &Vals, u32, u32) -> Result<Flow, Cut>,
+>(
     ground: &Ground<R>,
     rows: &mut Rows,
     state: &mut State,
     bodies: u32,
+    run: &F,
     b: &Block,
 ) -> Result<Flow, Cut>
-    requires { block_nodes b.now ≤ script_nodes ground.now.script.now }
+    requires can { CanRun (F.pre run.now) }
+    requires runs { RunsBody (F.post run.now) (ground_of R.reads ground.now) bodies }
     ensures answer { Flows result rows.new state.new (stms (ground_of R.reads ground.now) (body_at (ground_of R.reads ground.now) bodies) b.now rows.old state.old) }
     ensures kept { IfOk result KeptFlow }
 {
     for s in b.as_slice() {
-        if let Flow::Returned(v) = stmt(ground, rows, state, bodies, s)? {
+        if let Flow::Returned(v) = stmt(ground, rows, state, bodies, run, s)? {
             return Ok(Flow::Returned(v));
         }
     }
@@ -77,16 +94,21 @@ fn block<R: Reader>(
 }
 
 /// Runs a statement.
-#[cycle(run)]
-#[tactic(auto, using(crate::proofs::RunRules::run_rules))]
-fn stmt<R: Reader>(
+#[cycle(stm)]
+#[tactic(auto, using(crate::proofs::RunRules::stm_rules))]
+fn stmt<
+    R: Reader,
+    F: Fn(&mut Rows, &mut State, &Txt, &Pairs, &Vals, u32, u32) -> Result<Flow, Cut>,
+>(
     ground: &Ground<R>,
     rows: &mut Rows,
     state: &mut State,
     bodies: u32,
+    run: &F,
     s: &Stmt,
 ) -> Result<Flow, Cut>
-    requires { stm_nodes (stm_view s.now) ≤ script_nodes ground.now.script.now }
+    requires can { CanRun (F.pre run.now) }
+    requires runs { RunsBody (F.post run.now) (ground_of R.reads ground.now) bodies }
     ensures answer { Flows result rows.new state.new (stm (ground_of R.reads ground.now) (body_at (ground_of R.reads ground.now) bodies) (stm_view s.now) rows.old state.old) }
     ensures kept { IfOk result KeptFlow }
 {
@@ -96,7 +118,7 @@ fn stmt<R: Reader>(
             line,
             col,
             value,
-        } => set_of(ground, rows, state, bodies, name, *line, *col, value),
+        } => set_of(ground, rows, state, bodies, run, name, *line, *col, value),
         Stmt::Add {
             name,
             name_line,
@@ -105,7 +127,7 @@ fn stmt<R: Reader>(
             col,
             value,
         } => add_of(
-            ground, rows, state, bodies, name, *name_line, *name_col, *line, *col, value,
+            ground, rows, state, bodies, run, name, *name_line, *name_col, *line, *col, value,
         ),
         Stmt::Put {
             name,
@@ -116,71 +138,82 @@ fn stmt<R: Reader>(
             at,
             value,
         } => put_of(
-            ground, rows, state, bodies, name, *name_line, *name_col, *line, *col, at, value,
+            ground, rows, state, bodies, run, name, *name_line, *name_col, *line, *col, at, value,
         ),
         Stmt::Return { line, col, value } => {
-            return_of(ground, rows, state, bodies, *line, *col, value)
+            return_of(ground, rows, state, bodies, run, *line, *col, value)
         }
         Stmt::If {
             line,
             col,
             arms: of,
             otherwise,
-        } => if_of(ground, rows, state, bodies, *line, *col, of, otherwise),
+        } => if_of(ground, rows, state, bodies, run, *line, *col, of, otherwise),
         Stmt::While {
             line,
             col,
             test,
             body,
-        } => while_of(ground, rows, state, bodies, *line, *col, test, body),
+        } => while_of(ground, rows, state, bodies, run, *line, *col, test, body),
         Stmt::Do {
             line,
             col,
             body,
             test,
-        } => do_of(ground, rows, state, bodies, *line, *col, body, test),
+        } => do_of(ground, rows, state, bodies, run, *line, *col, body, test),
         Stmt::For {
             line,
             col,
             name,
             list,
             body,
-        } => for_of(ground, rows, state, bodies, *line, *col, name, list, body),
-        Stmt::Just { line, col, inner } => just_of(ground, rows, state, bodies, *line, *col, inner),
+        } => for_of(
+            ground, rows, state, bodies, run, *line, *col, name, list, body,
+        ),
+        Stmt::Just { line, col, inner } => just_of(
+            ground, rows, state, bodies, run, *line, *col, inner,
+        ),
     }
 }
 
 /// Runs `x = e;`.
-#[cycle(run)]
-#[tactic(auto, using(crate::proofs::RunRules::run_rules))]
-fn set_of<R: Reader>(
+#[tactic(auto, using(crate::proofs::RunRules::stm_rules))]
+fn set_of<
+    R: Reader,
+    F: Fn(&mut Rows, &mut State, &Txt, &Pairs, &Vals, u32, u32) -> Result<Flow, Cut>,
+>(
     ground: &Ground<R>,
     rows: &mut Rows,
     state: &mut State,
     bodies: u32,
+    run: &F,
     name: &Txt,
     line: u32,
     col: u32,
     value: &Expr,
 ) -> Result<Flow, Cut>
-    requires { stm_nodes (Stm.set name.now (place line col) (exp_view value.now)) ≤ script_nodes ground.now.script.now }
+    requires can { CanRun (F.pre run.now) }
+    requires runs { RunsBody (F.post run.now) (ground_of R.reads ground.now) bodies }
     ensures answer { Flows result rows.new state.new (stm (ground_of R.reads ground.now) (body_at (ground_of R.reads ground.now) bodies) (Stm.set name.now (place line col) (exp_view value.now)) rows.old state.old) }
     ensures kept { IfOk result KeptFlow }
 {
     state.visit(line, col)?;
-    let v = expr(ground, rows, state, bodies, value)?;
+    let v = expr(ground, rows, state, bodies, run, value)?;
     state.set(name, v)?;
     Ok(Flow::Goes)
 }
 
 /// Runs `x += e;`.
-#[cycle(run)]
-#[tactic(auto, using(crate::proofs::RunRules::run_rules))]
-fn add_of<R: Reader>(
+#[tactic(auto, using(crate::proofs::RunRules::stm_rules))]
+fn add_of<
+    R: Reader,
+    F: Fn(&mut Rows, &mut State, &Txt, &Pairs, &Vals, u32, u32) -> Result<Flow, Cut>,
+>(
     ground: &Ground<R>,
     rows: &mut Rows,
     state: &mut State,
     bodies: u32,
+    run: &F,
     name: &Txt,
     name_line: u32,
     name_col: u32,
@@ -188,24 +221,28 @@ fn add_of<R: Reader>(
     col: u32,
     value: &Expr,
 ) -> Result<Flow, Cut>
-    requires { stm_nodes (Stm.add name.now (place name_line name_col) (place line col) (exp_view value.now)) ≤ script_nodes ground.now.script.now }
+    requires can { CanRun (F.pre run.now) }
+    requires runs { RunsBody (F.post run.now) (ground_of R.reads ground.now) bodies }
     ensures answer { Flows result rows.new state.new (stm (ground_of R.reads ground.now) (body_at (ground_of R.reads ground.now) bodies) (Stm.add name.now (place name_line name_col) (place line col) (exp_view value.now)) rows.old state.old) }
     ensures kept { IfOk result KeptFlow }
 {
     state.visit(line, col)?;
-    let e = expr(ground, rows, state, bodies, value)?;
+    let e = expr(ground, rows, state, bodies, run, value)?;
     state.grow(ground.alloc, name, name_line, name_col, line, col, e)?;
     Ok(Flow::Goes)
 }
 
 /// Runs `x[i] = e;`.
-#[cycle(run)]
-#[tactic(auto, using(crate::proofs::RunRules::run_rules))]
-fn put_of<R: Reader>(
+#[tactic(auto, using(crate::proofs::RunRules::stm_rules))]
+fn put_of<
+    R: Reader,
+    F: Fn(&mut Rows, &mut State, &Txt, &Pairs, &Vals, u32, u32) -> Result<Flow, Cut>,
+>(
     ground: &Ground<R>,
     rows: &mut Rows,
     state: &mut State,
     bodies: u32,
+    run: &F,
     name: &Txt,
     name_line: u32,
     name_col: u32,
@@ -214,37 +251,42 @@ fn put_of<R: Reader>(
     at: &Expr,
     value: &Expr,
 ) -> Result<Flow, Cut>
-    requires { stm_nodes (Stm.put name.now (place name_line name_col) (place line col) (exp_view at.now) (exp_view value.now)) ≤ script_nodes ground.now.script.now }
+    requires can { CanRun (F.pre run.now) }
+    requires runs { RunsBody (F.post run.now) (ground_of R.reads ground.now) bodies }
     ensures answer { Flows result rows.new state.new (stm (ground_of R.reads ground.now) (body_at (ground_of R.reads ground.now) bodies) (Stm.put name.now (place name_line name_col) (place line col) (exp_view at.now) (exp_view value.now)) rows.old state.old) }
     ensures kept { IfOk result KeptFlow }
 {
     state.visit(line, col)?;
-    let i = expr(ground, rows, state, bodies, at)?;
-    let e = expr(ground, rows, state, bodies, value)?;
+    let i = expr(ground, rows, state, bodies, run, at)?;
+    let e = expr(ground, rows, state, bodies, run, value)?;
     state.put(name, name_line, name_col, line, col, &i, e)?;
     Ok(Flow::Goes)
 }
 
 /// Runs a `return`.
-#[cycle(run)]
-#[tactic(auto, using(crate::proofs::RunRules::run_rules))]
-fn return_of<R: Reader>(
+#[tactic(auto, using(crate::proofs::RunRules::stm_rules))]
+fn return_of<
+    R: Reader,
+    F: Fn(&mut Rows, &mut State, &Txt, &Pairs, &Vals, u32, u32) -> Result<Flow, Cut>,
+>(
     ground: &Ground<R>,
     rows: &mut Rows,
     state: &mut State,
     bodies: u32,
+    run: &F,
     line: u32,
     col: u32,
     value: &Option<Expr>,
 ) -> Result<Flow, Cut>
-    requires { stm_nodes (return_view value.now (place line col)) ≤ script_nodes ground.now.script.now }
+    requires can { CanRun (F.pre run.now) }
+    requires runs { RunsBody (F.post run.now) (ground_of R.reads ground.now) bodies }
     ensures answer { Flows result rows.new state.new (stm (ground_of R.reads ground.now) (body_at (ground_of R.reads ground.now) bodies) (return_view value.now (place line col)) rows.old state.old) }
     ensures kept { IfOk result KeptFlow }
 {
     state.visit(line, col)?;
     match value {
         Some(value) => {
-            let v = expr(ground, rows, state, bodies, value)?;
+            let v = expr(ground, rows, state, bodies, run, value)?;
             Ok(Flow::Returned(v))
         }
         None => Ok(Flow::Returned(Value::Null)),
@@ -252,162 +294,196 @@ fn return_of<R: Reader>(
 }
 
 /// Runs an `if`.
-#[cycle(run)]
-#[tactic(auto, using(crate::proofs::RunRules::run_rules))]
-fn if_of<R: Reader>(
+#[cycle(stm)]
+#[tactic(auto, using(crate::proofs::RunRules::stm_rules))]
+fn if_of<
+    R: Reader,
+    F: Fn(&mut Rows, &mut State, &Txt, &Pairs, &Vals, u32, u32) -> Result<Flow, Cut>,
+>(
     ground: &Ground<R>,
     rows: &mut Rows,
     state: &mut State,
     bodies: u32,
+    run: &F,
     line: u32,
     col: u32,
     of: &Arms,
     otherwise: &Option<Block>,
 ) -> Result<Flow, Cut>
-    requires { stm_nodes (Stm.cases (place line col) of.now (else_view otherwise.now)) ≤ script_nodes ground.now.script.now }
+    requires can { CanRun (F.pre run.now) }
+    requires runs { RunsBody (F.post run.now) (ground_of R.reads ground.now) bodies }
     ensures answer { Flows result rows.new state.new (stm (ground_of R.reads ground.now) (body_at (ground_of R.reads ground.now) bodies) (Stm.cases (place line col) of.now (else_view otherwise.now)) rows.old state.old) }
     ensures kept { IfOk result KeptFlow }
 {
     state.visit(line, col)?;
-    arms(ground, rows, state, bodies, of.as_slice(), otherwise)
+    arms(ground, rows, state, bodies, run, of.as_slice(), otherwise)
 }
 
 /// Runs a `while`.
-#[cycle(run)]
-#[tactic(auto, using(crate::proofs::RunRules::run_rules))]
-fn while_of<R: Reader>(
+#[cycle(stm)]
+#[tactic(auto, using(crate::proofs::RunRules::stm_rules))]
+fn while_of<
+    R: Reader,
+    F: Fn(&mut Rows, &mut State, &Txt, &Pairs, &Vals, u32, u32) -> Result<Flow, Cut>,
+>(
     ground: &Ground<R>,
     rows: &mut Rows,
     state: &mut State,
     bodies: u32,
+    run: &F,
     line: u32,
     col: u32,
     test: &Expr,
     body: &Block,
 ) -> Result<Flow, Cut>
-    requires { stm_nodes (Stm.while (place line col) (exp_view test.now) body.now) ≤ script_nodes ground.now.script.now }
+    requires can { CanRun (F.pre run.now) }
+    requires runs { RunsBody (F.post run.now) (ground_of R.reads ground.now) bodies }
     ensures answer { Flows result rows.new state.new (stm (ground_of R.reads ground.now) (body_at (ground_of R.reads ground.now) bodies) (Stm.while (place line col) (exp_view test.now) body.now) rows.old state.old) }
     ensures kept { IfOk result KeptFlow }
 {
     state.visit(line, col)?;
-    while_loop(ground, rows, state, bodies, test, body, line, col)
+    while_loop(ground, rows, state, bodies, run, test, body, line, col)
 }
 
 /// Runs a `do`.
-#[cycle(run)]
-#[tactic(auto, using(crate::proofs::RunRules::run_rules))]
-fn do_of<R: Reader>(
+#[cycle(stm)]
+#[tactic(auto, using(crate::proofs::RunRules::stm_rules))]
+fn do_of<
+    R: Reader,
+    F: Fn(&mut Rows, &mut State, &Txt, &Pairs, &Vals, u32, u32) -> Result<Flow, Cut>,
+>(
     ground: &Ground<R>,
     rows: &mut Rows,
     state: &mut State,
     bodies: u32,
+    run: &F,
     line: u32,
     col: u32,
     body: &Block,
     test: &Expr,
 ) -> Result<Flow, Cut>
-    requires { stm_nodes (Stm.repeat (place line col) body.now (exp_view test.now)) ≤ script_nodes ground.now.script.now }
+    requires can { CanRun (F.pre run.now) }
+    requires runs { RunsBody (F.post run.now) (ground_of R.reads ground.now) bodies }
     ensures answer { Flows result rows.new state.new (stm (ground_of R.reads ground.now) (body_at (ground_of R.reads ground.now) bodies) (Stm.repeat (place line col) body.now (exp_view test.now)) rows.old state.old) }
     ensures kept { IfOk result KeptFlow }
 {
     state.visit(line, col)?;
-    do_loop(ground, rows, state, bodies, body, test, line, col)
+    do_loop(ground, rows, state, bodies, run, body, test, line, col)
 }
 
 /// Runs a `for`.
-#[cycle(run)]
-#[tactic(auto, using(crate::proofs::RunRules::run_rules))]
-fn for_of<R: Reader>(
+#[cycle(stm)]
+#[tactic(auto, using(crate::proofs::RunRules::stm_rules))]
+fn for_of<
+    R: Reader,
+    F: Fn(&mut Rows, &mut State, &Txt, &Pairs, &Vals, u32, u32) -> Result<Flow, Cut>,
+>(
     ground: &Ground<R>,
     rows: &mut Rows,
     state: &mut State,
     bodies: u32,
+    run: &F,
     line: u32,
     col: u32,
     name: &Txt,
     list: &Expr,
     body: &Block,
 ) -> Result<Flow, Cut>
-    requires { stm_nodes (Stm.for (place line col) name.now (exp_view list.now) body.now) ≤ script_nodes ground.now.script.now }
+    requires can { CanRun (F.pre run.now) }
+    requires runs { RunsBody (F.post run.now) (ground_of R.reads ground.now) bodies }
     ensures answer { Flows result rows.new state.new (stm (ground_of R.reads ground.now) (body_at (ground_of R.reads ground.now) bodies) (Stm.for (place line col) name.now (exp_view list.now) body.now) rows.old state.old) }
     ensures kept { IfOk result KeptFlow }
 {
     state.visit(line, col)?;
-    let v = expr(ground, rows, state, bodies, list)?;
-    for_loop(ground, rows, state, bodies, name, &v, body, line, col)
+    let v = expr(ground, rows, state, bodies, run, list)?;
+    for_loop(ground, rows, state, bodies, run, name, &v, body, line, col)
 }
 
 /// Runs an expression as a statement.
-#[cycle(run)]
-#[tactic(auto, using(crate::proofs::RunRules::run_rules))]
-fn just_of<R: Reader>(
+#[tactic(auto, using(crate::proofs::RunRules::stm_rules))]
+fn just_of<
+    R: Reader,
+    F: Fn(&mut Rows, &mut State, &Txt, &Pairs, &Vals, u32, u32) -> Result<Flow, Cut>,
+>(
     ground: &Ground<R>,
     rows: &mut Rows,
     state: &mut State,
     bodies: u32,
+    run: &F,
     line: u32,
     col: u32,
     inner: &Expr,
 ) -> Result<Flow, Cut>
-    requires { stm_nodes (Stm.just (place line col) (exp_view inner.now)) ≤ script_nodes ground.now.script.now }
+    requires can { CanRun (F.pre run.now) }
+    requires runs { RunsBody (F.post run.now) (ground_of R.reads ground.now) bodies }
     ensures answer { Flows result rows.new state.new (stm (ground_of R.reads ground.now) (body_at (ground_of R.reads ground.now) bodies) (Stm.just (place line col) (exp_view inner.now)) rows.old state.old) }
     ensures kept { IfOk result KeptFlow }
 {
     state.visit(line, col)?;
-    expr(ground, rows, state, bodies, inner)?;
+    expr(ground, rows, state, bodies, run, inner)?;
     Ok(Flow::Goes)
 }
 
 /// Runs the block of the first arm whose test holds, else the last block.
-#[cycle(run)]
-#[tactic(auto, using(crate::proofs::RunRules::run_rules))]
-fn arms<R: Reader>(
+#[cycle(stm)]
+#[tactic(auto, using(crate::proofs::RunRules::stm_rules))]
+fn arms<
+    R: Reader,
+    F: Fn(&mut Rows, &mut State, &Txt, &Pairs, &Vals, u32, u32) -> Result<Flow, Cut>,
+>(
     ground: &Ground<R>,
     rows: &mut Rows,
     state: &mut State,
     bodies: u32,
+    run: &F,
     of: &[Arm],
     otherwise: &Option<Block>,
 ) -> Result<Flow, Cut>
-    requires { arms_nodes (arms_view of.now) + else_nodes (else_view otherwise.now) ≤ script_nodes ground.now.script.now }
+    requires can { CanRun (F.pre run.now) }
+    requires runs { RunsBody (F.post run.now) (ground_of R.reads ground.now) bodies }
     ensures answer { Flows result rows.new state.new (arms (ground_of R.reads ground.now) (body_at (ground_of R.reads ground.now) bodies) (arms_view of.now) (other (ground_of R.reads ground.now) (body_at (ground_of R.reads ground.now) bodies) (else_view otherwise.now)) rows.old state.old) }
     ensures kept { IfOk result KeptFlow }
 {
     for arm in of {
-        let v = expr(ground, rows, state, bodies, &arm.test)?;
+        let v = expr(ground, rows, state, bodies, run, &arm.test)?;
         if decide(&v, arm.line, arm.col)? {
-            return block(ground, rows, state, bodies, &arm.body);
+            return block(ground, rows, state, bodies, run, &arm.body);
         }
     }
     match otherwise {
-        Some(b) => block(ground, rows, state, bodies, b),
+        Some(b) => block(ground, rows, state, bodies, run, b),
         None => Ok(Flow::Goes),
     }
 }
 
 /// Runs a `while`, visited before.
-#[cycle(run)]
-#[tactic(auto, using(crate::proofs::RunRules::run_rules))]
-fn while_loop<R: Reader>(
+#[cycle(stm)]
+#[tactic(auto, using(crate::proofs::RunRules::stm_rules))]
+fn while_loop<
+    R: Reader,
+    F: Fn(&mut Rows, &mut State, &Txt, &Pairs, &Vals, u32, u32) -> Result<Flow, Cut>,
+>(
     ground: &Ground<R>,
     rows: &mut Rows,
     state: &mut State,
     bodies: u32,
+    run: &F,
     test: &Expr,
     body: &Block,
     line: u32,
     col: u32,
 ) -> Result<Flow, Cut>
-    requires { nodes (exp_view test.now) + block_nodes body.now ≤ script_nodes ground.now.script.now }
+    requires can { CanRun (F.pre run.now) }
+    requires runs { RunsBody (F.post run.now) (ground_of R.reads ground.now) bodies }
     ensures answer { Flows result rows.new state.new (turns (suc visits) (at line col) (exp (ground_of R.reads ground.now) (body_at (ground_of R.reads ground.now) bodies) (exp_view test.now)) (stms (ground_of R.reads ground.now) (body_at (ground_of R.reads ground.now) bodies) body.now) rows.old state.old) }
     ensures kept { IfOk result KeptFlow }
 {
     for _turn in 0..MOST_VISITS + 1 {
-        let v = expr(ground, rows, state, bodies, test)?;
+        let v = expr(ground, rows, state, bodies, run, test)?;
         if !decide(&v, line, col)? {
             return Ok(Flow::Goes);
         }
-        if let Flow::Returned(v) = block(ground, rows, state, bodies, body)? {
+        if let Flow::Returned(v) = block(ground, rows, state, bodies, run, body)? {
             return Ok(Flow::Returned(v));
         }
     }
@@ -415,27 +491,32 @@ fn while_loop<R: Reader>(
 }
 
 /// Runs a `do`, visited before.
-#[cycle(run)]
-#[tactic(auto, using(crate::proofs::RunRules::run_rules))]
-fn do_loop<R: Reader>(
+#[cycle(stm)]
+#[tactic(auto, using(crate::proofs::RunRules::stm_rules))]
+fn do_loop<
+    R: Reader,
+    F: Fn(&mut Rows, &mut State, &Txt, &Pairs, &Vals, u32, u32) -> Result<Flow, Cut>,
+>(
     ground: &Ground<R>,
     rows: &mut Rows,
     state: &mut State,
     bodies: u32,
+    run: &F,
     body: &Block,
     test: &Expr,
     line: u32,
     col: u32,
 ) -> Result<Flow, Cut>
-    requires { nodes (exp_view test.now) + block_nodes body.now ≤ script_nodes ground.now.script.now }
+    requires can { CanRun (F.pre run.now) }
+    requires runs { RunsBody (F.post run.now) (ground_of R.reads ground.now) bodies }
     ensures answer { Flows result rows.new state.new (repeats (suc visits) (at line col) (stms (ground_of R.reads ground.now) (body_at (ground_of R.reads ground.now) bodies) body.now) (exp (ground_of R.reads ground.now) (body_at (ground_of R.reads ground.now) bodies) (exp_view test.now)) rows.old state.old) }
     ensures kept { IfOk result KeptFlow }
 {
     for _turn in 0..MOST_VISITS + 1 {
-        if let Flow::Returned(v) = block(ground, rows, state, bodies, body)? {
+        if let Flow::Returned(v) = block(ground, rows, state, bodies, run, body)? {
             return Ok(Flow::Returned(v));
         }
-        let v = expr(ground, rows, state, bodies, test)?;
+        let v = expr(ground, rows, state, bodies, run, test)?;
         if !decide(&v, line, col)? {
             return Ok(Flow::Goes);
         }
@@ -444,20 +525,25 @@ fn do_loop<R: Reader>(
 }
 
 /// Runs a `for` over the elements of a list, visited before.
-#[cycle(run)]
-#[tactic(auto, using(crate::proofs::RunRules::run_rules))]
-fn for_loop<R: Reader>(
+#[cycle(stm)]
+#[tactic(auto, using(crate::proofs::RunRules::stm_rules))]
+fn for_loop<
+    R: Reader,
+    F: Fn(&mut Rows, &mut State, &Txt, &Pairs, &Vals, u32, u32) -> Result<Flow, Cut>,
+>(
     ground: &Ground<R>,
     rows: &mut Rows,
     state: &mut State,
     bodies: u32,
+    run: &F,
     name: &Txt,
     list: &Value,
     body: &Block,
     line: u32,
     col: u32,
 ) -> Result<Flow, Cut>
-    requires fits { block_nodes body.now ≤ script_nodes ground.now.script.now }
+    requires can { CanRun (F.pre run.now) }
+    requires runs { RunsBody (F.post run.now) (ground_of R.reads ground.now) bodies }
     requires kept { Kept (view list.now) }
     ensures answer { Flows result rows.new state.new (each_of (view list.now) (at line col) name.now (stms (ground_of R.reads ground.now) (body_at (ground_of R.reads ground.now) bodies) body.now) rows.old state.old) }
     ensures kept { IfOk result KeptFlow }
@@ -468,7 +554,7 @@ fn for_loop<R: Reader>(
     for v in vs.as_slice() {
         state.visit(line, col)?;
         state.set(name, v.copy()?)?;
-        if let Flow::Returned(v) = block(ground, rows, state, bodies, body)? {
+        if let Flow::Returned(v) = block(ground, rows, state, bodies, run, body)? {
             return Ok(Flow::Returned(v));
         }
     }

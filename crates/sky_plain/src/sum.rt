@@ -24,8 +24,9 @@ pub fn sum(desc: &Desc1) -> u64
     ensures { result ≡ sum_of (desc_view desc.now) }
 {
     match desc {
-        Desc1::Call { fun, args } => {
+        Desc1::Call { fun, caught, args } => {
             let sum = with_bytes(with(0, 10), fun.as_str().as_bytes());
+            let sum = with_pairs(sum, caught.as_slice());
             with_values(sum, args.as_slice())
         }
         Desc1::Exec {
@@ -73,8 +74,11 @@ fn with_value(sum: u64, value: &Value) -> u64
         Value::Text(text) => with_bytes(with(sum, 4), text.as_str().as_bytes()),
         Value::List(values) => with_values(with(sum, 5), values.as_slice()),
         Value::Dict(pairs) => with_pairs(with(sum, 6), pairs.as_slice()),
-        Value::Fun(name) => with_bytes(with(sum, 7), name.as_str().as_bytes()),
-        Value::Ref(name) => with_bytes(with(with(sum, 8), 13), name.bytes.as_slice()),
+        Value::Fun { name, caught } => {
+            let sum = with_bytes(with(sum, 7), name.as_str().as_bytes());
+            with_pairs(sum, caught.as_slice())
+        }
+        Value::Ref(name) => with_bytes(with(with(sum, 8), 13), name.bytes()),
     }
 }
 

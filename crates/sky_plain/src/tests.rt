@@ -9,7 +9,7 @@ use crate::wave::{Turned, last_turn, turn};
 use sky_base::fault::FaultKind;
 use sky_base::object::{Desc1, Object};
 use sky_base::text::{Bytes, Memory, Txt};
-use sky_base::value::{Vals, Value};
+use sky_base::value::{Pairs, Vals, Value};
 use std::alloc::Global;
 use std::rt::HostRuntime;
 
@@ -17,6 +17,7 @@ use std::rt::HostRuntime;
 fn call(alloc: Global, name: &str) -> Result<Desc1, Memory> {
     Ok(Desc1::Call {
         fun: Txt::new(alloc, name)?,
+        caught: Pairs::new(alloc),
         args: Vals::new(alloc),
     })
 }
@@ -45,6 +46,7 @@ fn call_on(alloc: Global, numbers: &[i64]) -> Result<Desc1, Memory> {
     }
     Ok(Desc1::Call {
         fun: Txt::new(alloc, "f")?,
+        caught: Pairs::new(alloc),
         args,
     })
 }
@@ -111,7 +113,7 @@ fn waves(alloc: Global) -> Result<Turned, Memory> {
 
 #[test]
 fn a_wave_fills_in(rt: HostRuntime) {
-    match waves(rt.alloc()) {
+    match &waves(rt.alloc()) {
         Ok(Turned::Next(Value::List(values))) => {
             assert!(rt; values.len() == 1);
             assert!(rt; matches!(values.get(0), Some(Value::Int(7))));
@@ -154,6 +156,6 @@ fn read(alloc: Global) -> Result<Result<Value, FaultKind>, Memory> {
 
 #[test]
 fn data_is_read(rt: HostRuntime) {
-    assert!(rt; matches!(read(rt.alloc()), Ok(Ok(Value::List(_)))));
+    assert!(rt; matches!(&read(rt.alloc()), Ok(Ok(Value::List(_)))));
     assert!(rt; number_of(&slot(258)) == 258);
 }

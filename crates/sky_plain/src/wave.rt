@@ -78,6 +78,15 @@ fn fill<R: Reader>(
                 Err(fault) => Ok(Err(fault)),
             }
         }
+        Value::Fun { name, caught } => {
+            match fill_pairs(alloc, caught.as_slice(), objects, reader)? {
+                Ok(caught) => Ok(Ok(Value::Fun {
+                    name: name.share()?,
+                    caught,
+                })),
+                Err(fault) => Ok(Err(fault)),
+            }
+        }
         Value::Ref(name) => match objects.known(name) {
             Some(object) => as_value(alloc, object, reader),
             None => Ok(Err(no_place(FaultKind::NotText))),

@@ -15,6 +15,6 @@ loop-index-preserved c =
     let l = c.loop-index in
     let h = rw (c.in_ok-share.ensures, c.in_ok-copy.ensures) at c.in-Ok.ensures in
     rw c.in_ok-push.ensures.ok (record {
-      count = omega (arith, length-append l.names (c.in-Ok.name.bytes ∷ []), l.invariant.count);
-      same = λ k. l.invariant.same k ∙ outputs_step c.in-Text.executor (view c.args.args.now) c.in_ok-n.n l.index l.rows l.names k c.learn.new.rows c.in-Ok.name.bytes c.loop-index-test.true h.0 h.1;
+      count = omega (arith, length-append l.names (c.in-Ok.name ∷ []), l.invariant.count);
+      same = λ k. l.invariant.same k ∙ outputs_step c.in-Text.executor (view c.args.args.now) c.in_ok-n.n l.index l.rows l.names k c.learn.new.rows c.in-Ok.name c.loop-index-test.true h.0 h.1;
     })

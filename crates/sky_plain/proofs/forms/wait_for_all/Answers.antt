@@ -1,5 +1,5 @@
 use Rattle.std.proofs.Common.{◌∙◌, [], sym, ap, arith}
-use Rattle.sky_base.specs.Names.{names_of, known_of as known_names}
+use Rattle.sky_base.specs.Names.{known_of as known_names}
 use Rattle.sky_base.specs.ObjectView.{object_view}
 use Rattle.sky_plain.specs.Walk.{look, known_of, Seen}
 use Rattle.sky_plain.specs.Plain.{exec_seen}
@@ -8,16 +8,16 @@ use Rattle.sky_plain.proofs.Leaves.{waits_step, waits_stop, waits_end}
 use Rattle.sky_plain.proofs.forms.wait_for_all.Goals as goal
 
 pub loop-name-init : goal.loop-name-init
-loop-name-init c = λ ds rows st. seen_start (look (known_of c.args.objects.now) (known_names (names_of c.as_slice-name-items.result.now))) ds rows st
+loop-name-init c = λ ds rows st. seen_start (look (known_of c.args.objects.now) (known_names c.as_slice-name-items.result.now)) ds rows st
 
 pub loop-name-preserved : goal.loop-name-preserved
 loop-name-preserved c = λ ds rows st.
-    c.loop-name.invariant ds rows st ∙ rw c.fault_first-first.ensures (waits_step (known_of c.args.objects.now) ds rows st c.loop-name.first c.as_slice-name-items.result.now c.loop-name.name-index _ (object_view c.in-Some.object.now) (omega arith) c.in-Some.ensures.value)
+    c.loop-name.invariant ds rows st ∙ rw c.fault_first-first.ensures (waits_step (known_of c.args.objects.now) ds rows st c.loop-name.first c.as_slice-name-items.result.now c.loop-name.name-index c.name-item.result (object_view c.in-Some.object.now) (omega arith) c.name-item.is c.in-Some.ensures.value)
 
 pub returns-in_default : goal.returns-in_default
 returns-in_default c = λ rows st.
     let ds = known_names c.args.names.now in
-    ap (λ ns. exec_seen (look (known_of c.args.objects.now) (known_names ns)) ds rows st) (sym c.as_slice-name-items.ensures) ∙ c.loop-name.invariant ds rows st ∙ waits_stop (known_of c.args.objects.now) ds rows st c.loop-name.first c.as_slice-name-items.result.now c.loop-name.name-index _ (omega arith) c.in_default.ensures.value
+    ap (λ ns. exec_seen (look (known_of c.args.objects.now) (known_names ns)) ds rows st) (sym c.as_slice-name-items.ensures) ∙ c.loop-name.invariant ds rows st ∙ waits_stop (known_of c.args.objects.now) ds rows st c.loop-name.first c.as_slice-name-items.result.now c.loop-name.name-index c.name-item.result (omega arith) c.name-item.is c.in_default.ensures.value
 
 pub returns-in-Some-first : goal.returns-in-Some-first
 returns-in-Some-first c = λ rows st.

@@ -2,7 +2,7 @@ use Rattle.std.proofs.Common.{◌≡◌, ◌≤◌, ◌<◌, ◌+◌, ◌-◌, �
 use Rattle.sky_base.specs.JobView.{job_view}
 use Rattle.sky_base.specs.See.{Job, Around, Answered, slot}
 use Rattle.sky_law.specs.Sound.{SoundOver}
-use Rattle.sky_base.specs.Val.{call, known, no_vals, ref, refs}
+use Rattle.sky_base.specs.Val.{call, known, no_pairs, no_vals, ref, refs}
 use Rattle.sky_base.specs.View.{view}
 use Rattle.ciel_json.specs.Around.{json_around}
 use Rattle.sky_plain.specs.Walk.{known_of}
@@ -26,7 +26,7 @@ loop-wave-init g c =
       standing = c.requires.standing;
       small = c.requires.small;
       stage = subst (λ b. Stage (job_view c.args.job.now) (json_around (g.K.Kit.gives c.args.kit.now)) c.args.rows.now 0 101 (ref (known b))) (sym c.slot.ensures) (stage_start (job_view c.args.job.now) (json_around (g.K.Kit.gives c.args.kit.now)) c.args.rows.now first);
-      fine = subst (λ b. SoundOver (Below (length c.args.rows.now)) c.args.job.now.script (ref (known b))) (sym c.slot.ensures) (start_fine c.args.job.now.script c.args.rows.now (got_below c.args.rows.now 0 (call [] no_vals) first));
+      fine = subst (λ b. SoundOver (Below (length c.args.rows.now)) c.args.job.now.script (ref (known b))) (sym c.slot.ensures) (start_fine c.args.job.now.script c.args.rows.now (got_below c.args.rows.now 0 (call [] no_pairs no_vals) first));
       few = omega arith;
     }
 

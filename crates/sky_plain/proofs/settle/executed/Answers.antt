@@ -17,11 +17,11 @@ pub returns-in-Some : goal.returns-in-Some
 returns-in-Some g c =
     record {
       step = λ ks x n i at standing opens.
-          let found = subst (λ o. MatchOption o (AllKnown c.args.objects.now (refs (view c.args.args.now))) (λ m. In (known m.bytes) (refs (view c.args.args.now)) × (known_of c.args.objects.now (known m.bytes) ≡ None))) c.in-Some.is c.in_ok-name.ensures in
-          let w = executed_waits (job_view c.args.job.now) (g.K.Kit.gives c.args.kit.now) c.args.rows.now c.args.objects.now c.args.number standing x (view c.args.args.now) n i at ks c.in-Some.name.bytes opens found.0 in
+          let found = subst (λ o. MatchOption o (AllKnown c.args.objects.now (refs (view c.args.args.now))) (λ m. In (known m) (refs (view c.args.args.now)) × (known_of c.args.objects.now (known m) ≡ None))) c.in-Some.is c.in_ok-name.ensures in
+          let w = executed_waits (job_view c.args.job.now) (g.K.Kit.gives c.args.kit.now) c.args.rows.now c.args.objects.now c.args.number standing x (view c.args.args.now) n i at ks c.in-Some.name opens found.0 in
           let small : length c.args.rows.now ≤ 65536 = subst (λ m. length c.args.rows.now ≤ m) most_is c.len-held.ensures.room in
-          let below : number_of c.in-Some.name.bytes < length c.args.rows.now = w.0 in
-          let is : c.number_of.result ≡ number_of c.in-Some.name.bytes = c.number_of.ensures (omega (arith, small, below)) in
+          let below : number_of c.in-Some.name < length c.args.rows.now = w.0 in
+          let is : c.number_of.result ≡ number_of c.in-Some.name = c.number_of.ensures (omega (arith, small, below)) in
           (standing, refl, subst (λ j. j < length c.args.rows.now) (sym is) w.0, ap (object_at c.args.objects.now) is ∙ found.1, subst (λ j. Opens (job_view c.args.job.now) (json_around (g.K.Kit.gives c.args.kit.now)) c.args.rows.now (j ∷ c.args.number ∷ ks)) (sym is) w.1);
     }
 
@@ -29,6 +29,6 @@ pub returns : goal.returns
 returns g c =
     record {
       step = λ ks x n i at standing opens.
-          let all = subst (λ o. MatchOption o (AllKnown c.args.objects.now (refs (view c.args.args.now))) (λ m. In (known m.bytes) (refs (view c.args.args.now)) × (known_of c.args.objects.now (known m.bytes) ≡ None))) c.in_default.is c.in_ok-name.ensures in
+          let all = subst (λ o. MatchOption o (AllKnown c.args.objects.now (refs (view c.args.args.now))) (λ m. In (known m) (refs (view c.args.args.now)) × (known_of c.args.objects.now (known m) ≡ None))) c.in_default.is c.in_ok-name.ensures in
           (subst (Standing (job_view c.args.job.now) (json_around (g.K.Kit.gives c.args.kit.now)) c.args.rows.now) (sym c.in_ok-set.ensures.put) (executed_known (job_view c.args.job.now) (g.K.Kit.gives c.args.kit.now) c.args.rows.now c.args.objects.now c.args.number standing x (view c.args.args.now) n i at c.requires.none all c.out_fault-fault.result c.out_fault-fault.ensures), (Object.fault c.out_fault-fault.result, c.in_ok-set.ensures.put));
     }

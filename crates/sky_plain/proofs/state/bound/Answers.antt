@@ -12,7 +12,7 @@ loop-i-preserved c =
     let v = view c.in-Some.arg.now in
     let cut : drop i xs ≡ x ∷ drop (i + 1) xs = rw (add-one i) (drop-cons xs i x (omega arith) ∙ ap (λ y. y ∷ drop (suc i) xs) (sym c.index-params-i.is)) in
     rw (c.in_ok-insert.ensures.ok, c.in_ok-copy.ensures, c.in_ok-share.ensures) (record {
-      kept = kept_put x v c.loop-i.vars (kept_at c.args.args.now i v c.in-Some.ensures c.requires) c.loop-i.invariant.kept;
+      kept = kept_put x v c.loop-i.vars (kept_at c.args.args.now i v c.in-Some.ensures c.requires.args) c.loop-i.invariant.kept;
       bound = c.loop-i.invariant.bound ∙ ap (λ ys. bind ys (left i c.args.args.now) c.loop-i.vars) cut ∙ bind_here x (drop (i + 1) xs) c.args.args.now i v c.loop-i.vars c.in-Some.ensures;
     })
 

@@ -1,5 +1,4 @@
 use Rattle.std.proofs.Common.{◌≡◌, drop}
-use Rattle.sky_base.specs.Val.{no_pairs}
 use Rattle.sky_base.specs.Eval.{bind, left}
 use Rattle.sky_plain.specs.RunView.{KeptPairs}
 use Rattle.sky_plain.proofs.state.bound.Given as goal
@@ -7,5 +6,5 @@ use Rattle.sky_plain.proofs.state.bound.Given as goal
 abbrev pub invariant-loop-i : goal.invariant-loop-i
 invariant-loop-i l = record {
   kept : KeptPairs l.vars;
-  bound : bind l.params l.args no_pairs ≡ bind (drop l.i l.params) (left l.i l.args) l.vars;
+  bound : bind l.params l.args l.caught ≡ bind (drop l.i l.params) (left l.i l.args) l.vars;
 }

@@ -11,82 +11,19 @@ use Rattle.sky_base.specs.Res.{counted, visits}
 use Rattle.sky_plain.specs.Walk.{Row}
 use Rattle.sky_base.specs.Tree.{Form, Oper}
 use Rattle.sky_base.specs.Op as op
-use Rattle.sky_plain.proofs.+run.Goals as goal
+use Rattle.sky_base.specs.StmtView.{arms_view, else_view}
+use Rattle.sky_plain.specs.Plain.{arms, other}
+use Rattle.sky_plain.proofs.Flow.{flows_on}
+use Rattle.sky_plain.proofs.stmt.+stm.Goals as goal
 
-pub expr::values-loop-e-preserved : goal.expr::values-loop-e-preserved
-expr::values-loop-e-preserved g t c =
-    let l = c.loop-e in
-    let run = ground_of g.R.Reader.reads c.args.ground.now in
-    let body = body_at run c.args.bodies in
-    let es = c.as_slice-e-items.result.now in
-    rw c.in_ok-push.ensures.ok (record {
-      kept = kept_add l.vs (view c.in_ok-v.v) l.invariant.kept c.in_ok-v.ensures.kept;
-      same = l.invariant.same ∙ ap (λ xs. values run body xs l.vs l.rows l.state) (exps_at es l.e-index c.e-item.result (omega arith) c.e-item.is) ∙ ap (λ o. on_got o (λ v more s. values run body (exps_view (drop (l.e-index + 1) es)) (add_val l.vs v) more s)) c.in_ok-v.ensures.answer;
-    })
-
-pub expr::links-loop-link-preserved : goal.expr::links-loop-link-preserved
-expr::links-loop-link-preserved g t c =
-    let l = c.loop-link in
-    let run = ground_of g.R.Reader.reads c.args.ground.now in
-    let body = body_at run c.args.bodies in
-    let ks = links_view (drop (l.link-index + 1) c.args.rest.now) in
-    record {
-      kept = c.in_ok-v.ensures.kept;
-      same = l.invariant.same ∙ ap (λ xs. links run body xs (view l.v) l.rows l.state) (links_at c.args.rest.now l.link-index c.link-item.result (omega arith) c.link-item.is) ∙ links_first run body c.link-item.result ks (view l.v) l.rows l.state ∙ ap (λ o. on_got o (λ y more t. links run body ks y more t)) c.in_ok-v.ensures.answer;
-    }
-
-pub expr::linked-returns-clause-answer : goal.expr::linked-returns-clause-answer
-expr::linked-returns-clause-answer g t c =
-    let k = c.args.link.now in
-    let v = view c.args.v.now in
-    let p = at k.line k.col in
-    comes_on c.give.result c.expr.new.rows c.give.new.state _ _ (ap (λ o. on_got o (λ x more s. visit p more s (λ t. answer (oper (arith_view k.op) v x) p more (λ y. Out.got y more t)))) c.in_ok-right.ensures.answer) (c.give.ensures.answer (oper (arith_view k.op) v (view c.in_ok-right.right)) c.apply.ensures.answer c.expr.new.rows)
-
-pub expr::steps-loop-step-preserved : goal.expr::steps-loop-step-preserved
-expr::steps-loop-step-preserved g t c =
-    let l = c.loop-step in
-    let run = ground_of g.R.Reader.reads c.args.ground.now in
-    let body = body_at run c.args.bodies in
-    let ks = steps_view (drop (l.step-index + 1) c.args.rest.now) in
-    record {
-      kept = c.in_ok-v.ensures.kept;
-      same = l.invariant.same ∙ ap (λ xs. steps run body xs (view l.v) l.rows l.state) (steps_at c.args.rest.now l.step-index c.step-item.result (omega arith) c.step-item.is) ∙ steps_first run body c.step-item.result ks (view l.v) l.rows l.state ∙ ap (λ o. on_got o (λ y more t. steps run body ks y more t)) c.in_ok-v.ensures.answer;
-    }
-
-pub expr::steps-returns-in_err-v-clause-answer : goal.expr::steps-returns-in_err-v-clause-answer
-expr::steps-returns-in_err-v-clause-answer g t c =
-    let l = c.loop-step in
-    let run = ground_of g.R.Reader.reads c.args.ground.now in
-    let body = body_at run c.args.bodies in
-    let ks = steps_view (drop (l.step-index + 1) c.args.rest.now) in
-    comes_err c.from_residual.result c.in_err-v.field-0.0 c.stepped.new.rows c.stepped.new.state (steps run body (steps_view c.args.rest.now) (view c.args.first) c.args.rows.now c.args.state.now) c.from_residual.ensures.1
-    (λ ne. l.invariant.same ∙ ap (λ xs. steps run body xs (view l.v) l.rows l.state) (steps_at c.args.rest.now l.step-index c.step-item.result (omega arith) c.step-item.is) ∙ steps_first run body c.step-item.result ks (view l.v) l.rows l.state ∙ ap (λ o. on_got o (λ y more t. steps run body ks y more t)) (c.in_err-v.ensures.answer ne))
-
-pub expr::stepped-returns-in_ok-i-in-Index-clause-answer : goal.expr::stepped-returns-in_ok-i-in-Index-clause-answer
-expr::stepped-returns-in_ok-i-in-Index-clause-answer g t c =
-    let v = view c.args.v.now in
-    let p = at c.in-Index.line c.in-Index.col in
-    rw c.in-Index.is (comes_on c.give.result c.expr.new.rows c.give.new.state _ _ (ap (λ o. on_got o (λ x more s. visit p more s (λ t. answer (op.index v x) p more (λ y. Out.got y more t)))) c.in_ok-i-in-Index.ensures.answer) (c.give.ensures.answer (op.index v (view c.in_ok-i-in-Index.i)) c.index.ensures.answer c.expr.new.rows))
-
-pub expr::stepped-returns-in_ok-visit-in-Call-clause-answer : goal.expr::stepped-returns-in_ok-visit-in-Call-clause-answer
-expr::stepped-returns-in_ok-visit-in-Call-clause-answer g t c =
-    let run = ground_of g.R.Reader.reads c.args.ground.now in
-    let body = body_at run c.args.bodies in
-    let v = view c.args.v.now in
-    let p = at c.in-Call.line c.in-Call.col in
-    let vs = c.in_ok-args-in-Call.args in
-    let rows = c.values.new.rows in
-    let st = c.values.new.state in
-    rw c.in-Call.is (comes_on c.call.result c.call.new.rows c.call.new.state _ (on_got (opened run body v vs p rows c.visit.new.self) (λ y last u. Out.got y last u)) (ap (λ o. on_listed o (λ xs more s. visit p more s (λ t. on_got (opened run body v xs p more t) (λ y last u. Out.got y last u)))) c.in_ok-args-in-Call.ensures.answer ∙ ap (λ b. visited b p rows st (λ t. on_got (opened run body v vs p rows t) (λ y last u. Out.got y last u))) c.in_ok-visit-in-Call.ensures.ok.0 ∙ ap (λ t. on_got (opened run body v vs p rows t) (λ y last u. Out.got y last u)) (sym c.in_ok-visit-in-Call.ensures.ok.1)) (comes_got c.call.result c.call.new.rows c.call.new.state (opened run body v vs p rows c.visit.new.self) c.call.ensures.answer))
-
-pub stmt::while_loop-loop-turn-init : goal.stmt::while_loop-loop-turn-init
-stmt::while_loop-loop-turn-init g t c =
+pub while_loop-loop-turn-init : goal.while_loop-loop-turn-init
+while_loop-loop-turn-init g t c =
     let run = ground_of g.R.Reader.reads c.args.ground.now in
     let body = body_at run c.args.bodies in
     turns_start (suc visits) (at c.args.line c.args.col) (exp run body (exp_view c.args.test.now)) (stms run body c.args.body.now) c.args.rows.now c.args.state.now
 
-pub stmt::while_loop-returns-in_err-v-clause-answer : goal.stmt::while_loop-returns-in_err-v-clause-answer
-stmt::while_loop-returns-in_err-v-clause-answer g t c =
+pub while_loop-returns-in_err-v-clause-answer : goal.while_loop-returns-in_err-v-clause-answer
+while_loop-returns-in_err-v-clause-answer g t c =
     let l = c.loop-turn in
     let run = ground_of g.R.Reader.reads c.args.ground.now in
     let body = body_at run c.args.bodies in
@@ -97,8 +34,8 @@ stmt::while_loop-returns-in_err-v-clause-answer g t c =
     flows_err c.from_residual.result c.in_err-v.field-0.0 c.expr.new.rows c.expr.new.state (turns (suc visits) p test blk c.args.rows.now c.args.state.now) c.from_residual.ensures.1
     (λ ne. l.invariant ∙ turns_next (suc visits) l._turn p test blk l.rows l.state h ∙ ap (λ o. on_got o (λ v more s. decide v p more (on_goes (blk more s) (λ last t. turns (suc visits - (l._turn + 1)) p test blk last t)) (Out.goes more s))) (c.in_err-v.ensures.answer ne))
 
-pub stmt::while_loop-returns-in_err-decide-clause-answer : goal.stmt::while_loop-returns-in_err-decide-clause-answer
-stmt::while_loop-returns-in_err-decide-clause-answer g t c =
+pub while_loop-returns-in_err-decide-clause-answer : goal.while_loop-returns-in_err-decide-clause-answer
+while_loop-returns-in_err-decide-clause-answer g t c =
     let l = c.loop-turn in
     let run = ground_of g.R.Reader.reads c.args.ground.now in
     let body = body_at run c.args.bodies in
@@ -109,8 +46,8 @@ stmt::while_loop-returns-in_err-decide-clause-answer g t c =
     flows_err c.from_residual-in_err-decide.result c.in_err-decide.field-0.0 c.expr.new.rows c.expr.new.state (turns (suc visits) p test blk c.args.rows.now c.args.state.now) c.from_residual-in_err-decide.ensures.1
     (λ ne. l.invariant ∙ turns_next (suc visits) l._turn p test blk l.rows l.state h ∙ ap (λ o. on_got o (λ v more s. decide v p more (on_goes (blk more s) (λ last t. turns (suc visits - (l._turn + 1)) p test blk last t)) (Out.goes more s))) c.in_ok-v.ensures.answer ∙ c.in_err-decide.ensures.decides c.expr.new.rows (on_goes (blk c.expr.new.rows c.expr.new.state) (λ last t. turns (suc visits - (l._turn + 1)) p test blk last t)) (Out.goes c.expr.new.rows c.expr.new.state))
 
-pub stmt::while_loop-returns-then-not-branch-clause-answer : goal.stmt::while_loop-returns-then-not-branch-clause-answer
-stmt::while_loop-returns-then-not-branch-clause-answer g t c =
+pub while_loop-returns-then-not-branch-clause-answer : goal.while_loop-returns-then-not-branch-clause-answer
+while_loop-returns-then-not-branch-clause-answer g t c =
     let l = c.loop-turn in
     let run = ground_of g.R.Reader.reads c.args.ground.now in
     let body = body_at run c.args.bodies in
@@ -121,8 +58,8 @@ stmt::while_loop-returns-then-not-branch-clause-answer g t c =
     let off : c.in_ok-decide.field-0 ≡ false = search rules in
     l.invariant ∙ turns_next (suc visits) l._turn p test blk l.rows l.state h ∙ ap (λ o. on_got o (λ v more s. decide v p more (on_goes (blk more s) (λ last t. turns (suc visits - (l._turn + 1)) p test blk last t)) (Out.goes more s))) c.in_ok-v.ensures.answer ∙ decide_off c.in_ok-decide.field-0 (view c.in_ok-v.v) p c.expr.new.rows (on_goes (blk c.expr.new.rows c.expr.new.state) (λ last t. turns (suc visits - (l._turn + 1)) p test blk last t)) (Out.goes c.expr.new.rows c.expr.new.state) c.in_ok-decide.ensures.decides off
 
-pub stmt::while_loop-returns-in_err-v-2-clause-answer : goal.stmt::while_loop-returns-in_err-v-2-clause-answer
-stmt::while_loop-returns-in_err-v-2-clause-answer g t c =
+pub while_loop-returns-in_err-v-2-clause-answer : goal.while_loop-returns-in_err-v-2-clause-answer
+while_loop-returns-in_err-v-2-clause-answer g t c =
     let l = c.loop-turn in
     let run = ground_of g.R.Reader.reads c.args.ground.now in
     let body = body_at run c.args.bodies in
@@ -134,8 +71,8 @@ stmt::while_loop-returns-in_err-v-2-clause-answer g t c =
     flows_err c.from_residual-in_err-v-2.result c.in_err-v-2.field-0.0 c.block.new.rows c.block.new.state (turns (suc visits) p test blk c.args.rows.now c.args.state.now) c.from_residual-in_err-v-2.ensures.1
     (λ ne. l.invariant ∙ turns_next (suc visits) l._turn p test blk l.rows l.state h ∙ ap (λ o. on_got o (λ v more s. decide v p more (on_goes (blk more s) (λ last t. turns (suc visits - (l._turn + 1)) p test blk last t)) (Out.goes more s))) c.in_ok-v.ensures.answer ∙ decide_on c.in_ok-decide.field-0 (view c.in_ok-v.v) p c.expr.new.rows (on_goes (blk c.expr.new.rows c.expr.new.state) (λ last t. turns (suc visits - (l._turn + 1)) p test blk last t)) (Out.goes c.expr.new.rows c.expr.new.state) c.in_ok-decide.ensures.decides on ∙ ap (λ o. on_goes o (λ last t. turns (suc visits - (l._turn + 1)) p test blk last t)) (c.in_err-v-2.ensures.answer ne))
 
-pub stmt::while_loop-returns-in-Returned-clause-answer : goal.stmt::while_loop-returns-in-Returned-clause-answer
-stmt::while_loop-returns-in-Returned-clause-answer g t c =
+pub while_loop-returns-in-Returned-clause-answer : goal.while_loop-returns-in-Returned-clause-answer
+while_loop-returns-in-Returned-clause-answer g t c =
     let l = c.loop-turn in
     let run = ground_of g.R.Reader.reads c.args.ground.now in
     let body = body_at run c.args.bodies in
@@ -146,8 +83,8 @@ stmt::while_loop-returns-in-Returned-clause-answer g t c =
     let on : c.in_ok-decide.field-0 ≡ true = search rules in
     l.invariant ∙ turns_next (suc visits) l._turn p test blk l.rows l.state h ∙ ap (λ o. on_got o (λ v more s. decide v p more (on_goes (blk more s) (λ last t. turns (suc visits - (l._turn + 1)) p test blk last t)) (Out.goes more s))) c.in_ok-v.ensures.answer ∙ decide_on c.in_ok-decide.field-0 (view c.in_ok-v.v) p c.expr.new.rows (on_goes (blk c.expr.new.rows c.expr.new.state) (λ last t. turns (suc visits - (l._turn + 1)) p test blk last t)) (Out.goes c.expr.new.rows c.expr.new.state) c.in_ok-decide.ensures.decides on ∙ ap (λ o. on_goes o (λ last t. turns (suc visits - (l._turn + 1)) p test blk last t)) (flows_returned c.in_ok-v-2.field-0 c.in-Returned.v c.block.new.rows c.block.new.state (blk c.expr.new.rows c.expr.new.state) c.in-Returned.is c.in_ok-v-2.ensures.answer)
 
-pub stmt::while_loop-loop-turn-preserved : goal.stmt::while_loop-loop-turn-preserved
-stmt::while_loop-loop-turn-preserved g t c =
+pub while_loop-loop-turn-preserved : goal.while_loop-loop-turn-preserved
+while_loop-loop-turn-preserved g t c =
     let l = c.loop-turn in
     let run = ground_of g.R.Reader.reads c.args.ground.now in
     let body = body_at run c.args.bodies in
@@ -158,22 +95,22 @@ stmt::while_loop-loop-turn-preserved g t c =
     let on : c.in_ok-decide.field-0 ≡ true = search rules in
     l.invariant ∙ turns_next (suc visits) l._turn p test blk l.rows l.state h ∙ ap (λ o. on_got o (λ v more s. decide v p more (on_goes (blk more s) (λ last t. turns (suc visits - (l._turn + 1)) p test blk last t)) (Out.goes more s))) c.in_ok-v.ensures.answer ∙ decide_on c.in_ok-decide.field-0 (view c.in_ok-v.v) p c.expr.new.rows (on_goes (blk c.expr.new.rows c.expr.new.state) (λ last t. turns (suc visits - (l._turn + 1)) p test blk last t)) (Out.goes c.expr.new.rows c.expr.new.state) c.in_ok-decide.ensures.decides on ∙ ap (λ o. on_goes o (λ last t. turns (suc visits - (l._turn + 1)) p test blk last t)) (flows_goes c.in_ok-v-2.field-0 c.block.new.rows c.block.new.state (blk c.expr.new.rows c.expr.new.state) c.in_default.not-Returned c.in_ok-v-2.ensures.answer)
 
-pub stmt::while_loop-returns-clause-answer : goal.stmt::while_loop-returns-clause-answer
-stmt::while_loop-returns-clause-answer g t c = λ ne.
+pub while_loop-returns-clause-answer : goal.while_loop-returns-clause-answer
+while_loop-returns-clause-answer g t c = λ ne.
     let l = c.loop-turn in
     let run = ground_of g.R.Reader.reads c.args.ground.now in
     let body = body_at run c.args.bodies in
     let p = at c.args.line c.args.col in
     rw c.fault.ensures (l.invariant ∙ turns_over (suc visits) l._turn p (exp run body (exp_view c.args.test.now)) (stms run body c.args.body.now) l.rows l.state (omega (arith, most_turns, c.loop-turn-test.false)))
 
-pub stmt::do_loop-loop-turn-init : goal.stmt::do_loop-loop-turn-init
-stmt::do_loop-loop-turn-init g t c =
+pub do_loop-loop-turn-init : goal.do_loop-loop-turn-init
+do_loop-loop-turn-init g t c =
     let run = ground_of g.R.Reader.reads c.args.ground.now in
     let body = body_at run c.args.bodies in
     repeats_start (suc visits) (at c.args.line c.args.col) (stms run body c.args.body.now) (exp run body (exp_view c.args.test.now)) c.args.rows.now c.args.state.now
 
-pub stmt::do_loop-returns-in_err-v-clause-answer : goal.stmt::do_loop-returns-in_err-v-clause-answer
-stmt::do_loop-returns-in_err-v-clause-answer g t c =
+pub do_loop-returns-in_err-v-clause-answer : goal.do_loop-returns-in_err-v-clause-answer
+do_loop-returns-in_err-v-clause-answer g t c =
     let l = c.loop-turn in
     let run = ground_of g.R.Reader.reads c.args.ground.now in
     let body = body_at run c.args.bodies in
@@ -184,8 +121,8 @@ stmt::do_loop-returns-in_err-v-clause-answer g t c =
     flows_err c.from_residual.result c.in_err-v.field-0.0 c.block.new.rows c.block.new.state (repeats (suc visits) p blk test c.args.rows.now c.args.state.now) c.from_residual.ensures.1
     (λ ne. l.invariant ∙ repeats_next (suc visits) l._turn p blk test l.rows l.state h ∙ ap (λ o. on_goes o (λ more s. on_got (test more s) (λ v last t. decide v p last (repeats (suc visits - (l._turn + 1)) p blk test last t) (Out.goes last t)))) (c.in_err-v.ensures.answer ne))
 
-pub stmt::do_loop-returns-in-Returned-clause-answer : goal.stmt::do_loop-returns-in-Returned-clause-answer
-stmt::do_loop-returns-in-Returned-clause-answer g t c =
+pub do_loop-returns-in-Returned-clause-answer : goal.do_loop-returns-in-Returned-clause-answer
+do_loop-returns-in-Returned-clause-answer g t c =
     let l = c.loop-turn in
     let run = ground_of g.R.Reader.reads c.args.ground.now in
     let body = body_at run c.args.bodies in
@@ -195,8 +132,8 @@ stmt::do_loop-returns-in-Returned-clause-answer g t c =
     let h : l._turn < suc visits = omega (arith, most_turns, c.loop-turn-test.true) in
     l.invariant ∙ repeats_next (suc visits) l._turn p blk test l.rows l.state h ∙ ap (λ o. on_goes o (λ more s. on_got (test more s) (λ v last t. decide v p last (repeats (suc visits - (l._turn + 1)) p blk test last t) (Out.goes last t)))) (flows_returned c.in_ok-v.field-0 c.in-Returned.v c.block.new.rows c.block.new.state (blk l.rows l.state) c.in-Returned.is c.in_ok-v.ensures.answer)
 
-pub stmt::do_loop-returns-in_err-v-2-clause-answer : goal.stmt::do_loop-returns-in_err-v-2-clause-answer
-stmt::do_loop-returns-in_err-v-2-clause-answer g t c =
+pub do_loop-returns-in_err-v-2-clause-answer : goal.do_loop-returns-in_err-v-2-clause-answer
+do_loop-returns-in_err-v-2-clause-answer g t c =
     let l = c.loop-turn in
     let run = ground_of g.R.Reader.reads c.args.ground.now in
     let body = body_at run c.args.bodies in
@@ -207,8 +144,8 @@ stmt::do_loop-returns-in_err-v-2-clause-answer g t c =
     flows_err c.from_residual-in_err-v-2.result c.in_err-v-2.field-0.0 c.expr.new.rows c.expr.new.state (repeats (suc visits) p blk test c.args.rows.now c.args.state.now) c.from_residual-in_err-v-2.ensures.1
     (λ ne. l.invariant ∙ repeats_next (suc visits) l._turn p blk test l.rows l.state h ∙ ap (λ o. on_goes o (λ more s. on_got (test more s) (λ v last t. decide v p last (repeats (suc visits - (l._turn + 1)) p blk test last t) (Out.goes last t)))) (flows_goes c.in_ok-v.field-0 c.block.new.rows c.block.new.state (blk l.rows l.state) c.in_default.not-Returned c.in_ok-v.ensures.answer) ∙ ap (λ o. on_got o (λ v last t. decide v p last (repeats (suc visits - (l._turn + 1)) p blk test last t) (Out.goes last t))) (c.in_err-v-2.ensures.answer ne))
 
-pub stmt::do_loop-returns-in_err-decide-clause-answer : goal.stmt::do_loop-returns-in_err-decide-clause-answer
-stmt::do_loop-returns-in_err-decide-clause-answer g t c =
+pub do_loop-returns-in_err-decide-clause-answer : goal.do_loop-returns-in_err-decide-clause-answer
+do_loop-returns-in_err-decide-clause-answer g t c =
     let l = c.loop-turn in
     let run = ground_of g.R.Reader.reads c.args.ground.now in
     let body = body_at run c.args.bodies in
@@ -219,8 +156,8 @@ stmt::do_loop-returns-in_err-decide-clause-answer g t c =
     flows_err c.from_residual-in_err-decide.result c.in_err-decide.field-0.0 c.expr.new.rows c.expr.new.state (repeats (suc visits) p blk test c.args.rows.now c.args.state.now) c.from_residual-in_err-decide.ensures.1
     (λ ne. l.invariant ∙ repeats_next (suc visits) l._turn p blk test l.rows l.state h ∙ ap (λ o. on_goes o (λ more s. on_got (test more s) (λ v last t. decide v p last (repeats (suc visits - (l._turn + 1)) p blk test last t) (Out.goes last t)))) (flows_goes c.in_ok-v.field-0 c.block.new.rows c.block.new.state (blk l.rows l.state) c.in_default.not-Returned c.in_ok-v.ensures.answer) ∙ ap (λ o. on_got o (λ v last t. decide v p last (repeats (suc visits - (l._turn + 1)) p blk test last t) (Out.goes last t))) c.in_ok-v-2.ensures.answer ∙ c.in_err-decide.ensures.decides c.expr.new.rows (repeats (suc visits - (l._turn + 1)) p blk test c.expr.new.rows c.expr.new.state) (Out.goes c.expr.new.rows c.expr.new.state))
 
-pub stmt::do_loop-returns-then-not-branch-clause-answer : goal.stmt::do_loop-returns-then-not-branch-clause-answer
-stmt::do_loop-returns-then-not-branch-clause-answer g t c =
+pub do_loop-returns-then-not-branch-clause-answer : goal.do_loop-returns-then-not-branch-clause-answer
+do_loop-returns-then-not-branch-clause-answer g t c =
     let l = c.loop-turn in
     let run = ground_of g.R.Reader.reads c.args.ground.now in
     let body = body_at run c.args.bodies in
@@ -231,8 +168,8 @@ stmt::do_loop-returns-then-not-branch-clause-answer g t c =
     let no : c.in_ok-decide.field-0 ≡ false = search rules in
     l.invariant ∙ repeats_next (suc visits) l._turn p blk test l.rows l.state h ∙ ap (λ o. on_goes o (λ more s. on_got (test more s) (λ v last t. decide v p last (repeats (suc visits - (l._turn + 1)) p blk test last t) (Out.goes last t)))) (flows_goes c.in_ok-v.field-0 c.block.new.rows c.block.new.state (blk l.rows l.state) c.in_default.not-Returned c.in_ok-v.ensures.answer) ∙ ap (λ o. on_got o (λ v last t. decide v p last (repeats (suc visits - (l._turn + 1)) p blk test last t) (Out.goes last t))) c.in_ok-v-2.ensures.answer ∙ decide_off c.in_ok-decide.field-0 (view c.in_ok-v-2.v) p c.expr.new.rows (repeats (suc visits - (l._turn + 1)) p blk test c.expr.new.rows c.expr.new.state) (Out.goes c.expr.new.rows c.expr.new.state) c.in_ok-decide.ensures.decides no
 
-pub stmt::do_loop-loop-turn-preserved : goal.stmt::do_loop-loop-turn-preserved
-stmt::do_loop-loop-turn-preserved g t c =
+pub do_loop-loop-turn-preserved : goal.do_loop-loop-turn-preserved
+do_loop-loop-turn-preserved g t c =
     let l = c.loop-turn in
     let run = ground_of g.R.Reader.reads c.args.ground.now in
     let body = body_at run c.args.bodies in
@@ -243,81 +180,24 @@ stmt::do_loop-loop-turn-preserved g t c =
     let yes : c.in_ok-decide.field-0 ≡ true = search rules in
     l.invariant ∙ repeats_next (suc visits) l._turn p blk test l.rows l.state h ∙ ap (λ o. on_goes o (λ more s. on_got (test more s) (λ v last t. decide v p last (repeats (suc visits - (l._turn + 1)) p blk test last t) (Out.goes last t)))) (flows_goes c.in_ok-v.field-0 c.block.new.rows c.block.new.state (blk l.rows l.state) c.in_default.not-Returned c.in_ok-v.ensures.answer) ∙ ap (λ o. on_got o (λ v last t. decide v p last (repeats (suc visits - (l._turn + 1)) p blk test last t) (Out.goes last t))) c.in_ok-v-2.ensures.answer ∙ decide_on c.in_ok-decide.field-0 (view c.in_ok-v-2.v) p c.expr.new.rows (repeats (suc visits - (l._turn + 1)) p blk test c.expr.new.rows c.expr.new.state) (Out.goes c.expr.new.rows c.expr.new.state) c.in_ok-decide.ensures.decides yes
 
-pub stmt::do_loop-returns-clause-answer : goal.stmt::do_loop-returns-clause-answer
-stmt::do_loop-returns-clause-answer g t c = λ ne.
+pub do_loop-returns-clause-answer : goal.do_loop-returns-clause-answer
+do_loop-returns-clause-answer g t c = λ ne.
     let l = c.loop-turn in
     let run = ground_of g.R.Reader.reads c.args.ground.now in
     let body = body_at run c.args.bodies in
     let p = at c.args.line c.args.col in
     rw c.fault.ensures (l.invariant ∙ repeats_over (suc visits) l._turn p (stms run body c.args.body.now) (exp run body (exp_view c.args.test.now)) l.rows l.state (omega (arith, most_turns, c.loop-turn-test.false)))
 
-pub expr::list_of-returns-clause-answer : goal.expr::list_of-returns-clause-answer
-expr::list_of-returns-clause-answer g t c =
+pub if_of-returns-clause-answer : goal.if_of-returns-clause-answer
+if_of-returns-clause-answer g t c =
     let run = ground_of g.R.Reader.reads c.args.ground.now in
     let body = body_at run c.args.bodies in
     let p = at c.args.line c.args.col in
     let rows = c.args.rows.now in
     let st = c.args.state.now in
-    comes_on c.list_given.result c.values.new.rows c.list_given.new.state _ _ (parts_are run body Form.list c.args.items.now p rows st c.in_ok-vs.vs c.values.new.rows c.values.new.state c.in_ok-vs.ensures.answer) (c.list_given.ensures.answer c.values.new.rows)
+    let els = else_view c.args.otherwise.now in
+    let xs = arms_view c.as_slice.result.now in
+    flows_on c.arms.result c.arms.new.rows c.arms.new.state _ (arms run body xs (λ more z. other run body els more z) rows c.visit.new.self) (ap (λ ys. visit p rows st (λ s. arms run body ys (λ more z. other run body els more z) rows s)) (sym c.as_slice.ensures) ∙ ap (λ b. visited b p rows st (λ s. arms run body xs (λ more z. other run body els more z) rows s)) c.in_ok-visit.ensures.ok.0 ∙ ap (λ s. arms run body xs (λ more z. other run body els more z) rows s) (sym c.in_ok-visit.ensures.ok.1)) c.arms.ensures.answer
 
-pub expr::len_of-returns-clause-answer : goal.expr::len_of-returns-clause-answer
-expr::len_of-returns-clause-answer g t c =
-    let run = ground_of g.R.Reader.reads c.args.ground.now in
-    let body = body_at run c.args.bodies in
-    let p = at c.args.line c.args.col in
-    let rows = c.args.rows.now in
-    let st = c.args.state.now in
-    let h = ap (λ e. exp run body e rows st) (sym c.get.ensures) ∙ c.in_ok-v.ensures.answer in
-    comes_on c.len_given.result c.expr.new.rows c.len_given.new.state _ _ (one_is run body Form.len c.args.of.now p rows st (view c.in_ok-v.v) c.expr.new.rows c.expr.new.state h) (c.len_given.ensures.answer c.expr.new.rows)
-
-pub expr::keys_of-returns-clause-answer : goal.expr::keys_of-returns-clause-answer
-expr::keys_of-returns-clause-answer g t c =
-    let run = ground_of g.R.Reader.reads c.args.ground.now in
-    let body = body_at run c.args.bodies in
-    let p = at c.args.line c.args.col in
-    let rows = c.args.rows.now in
-    let st = c.args.state.now in
-    let h = ap (λ e. exp run body e rows st) (sym c.get.ensures) ∙ c.in_ok-v.ensures.answer in
-    comes_on c.keys_given.result c.expr.new.rows c.keys_given.new.state _ _ (one_is run body Form.keys c.args.of.now p rows st (view c.in_ok-v.v) c.expr.new.rows c.expr.new.state h) (c.keys_given.ensures.answer c.expr.new.rows)
-
-pub expr::has_of-returns-clause-answer : goal.expr::has_of-returns-clause-answer
-expr::has_of-returns-clause-answer g t c =
-    let run = ground_of g.R.Reader.reads c.args.ground.now in
-    let body = body_at run c.args.bodies in
-    let p = at c.args.line c.args.col in
-    let rows = c.args.rows.now in
-    let st = c.args.state.now in
-    let h = ap (λ e. exp run body e rows st) (sym c.get.ensures) ∙ c.in_ok-d.ensures.answer in
-    let k = ap (λ e. exp run body e c.expr.new.rows c.expr.new.state) (sym c.get-2.ensures) ∙ c.in_ok-k.ensures.answer in
-    comes_on c.has_given.result c.expr-2.new.rows c.has_given.new.state _ _ (two_are run body Form.has c.args.dict.now c.args.key.now p rows st (view c.in_ok-d.d) c.expr.new.rows c.expr.new.state (view c.in_ok-k.k) c.expr-2.new.rows c.expr-2.new.state h k) (c.has_given.ensures.answer c.expr-2.new.rows)
-
-pub expr::range_of-returns-clause-answer : goal.expr::range_of-returns-clause-answer
-expr::range_of-returns-clause-answer g t c =
-    let run = ground_of g.R.Reader.reads c.args.ground.now in
-    let body = body_at run c.args.bodies in
-    let p = at c.args.line c.args.col in
-    let rows = c.args.rows.now in
-    let st = c.args.state.now in
-    let h = ap (λ e. exp run body e rows st) (sym c.get.ensures) ∙ c.in_ok-a.ensures.answer in
-    let k = ap (λ e. exp run body e c.expr.new.rows c.expr.new.state) (sym c.get-2.ensures) ∙ c.in_ok-b.ensures.answer in
-    comes_on c.range_given.result c.expr-2.new.rows c.range_given.new.state _ _ (two_are run body Form.range c.args.from.now c.args.to.now p rows st (view c.in_ok-a.a) c.expr.new.rows c.expr.new.state (view c.in_ok-b.b) c.expr-2.new.rows c.expr-2.new.state h k) (c.range_given.ensures.answer c.expr-2.new.rows)
-
-pub expr::compare-returns-clause-answer : goal.expr::compare-returns-clause-answer
-expr::compare-returns-clause-answer g t c =
-    let run = ground_of g.R.Reader.reads c.args.ground.now in
-    let body = body_at run c.args.bodies in
-    let p = at c.args.line c.args.col in
-    let rows = c.args.rows.now in
-    let st = c.args.state.now in
-    let h = ap (λ e. exp run body e rows st) (sym c.get.ensures) ∙ c.in_ok-a.ensures.answer in
-    let k = ap (λ e. exp run body e c.expr.new.rows c.expr.new.state) (sym c.get-2.ensures) ∙ c.in_ok-b.ensures.answer in
-    comes_on c.compared_given.result c.expr-2.new.rows c.compared_given.new.state _ _ (chain_is run body (Oper.compare (order_view c.args.how)) c.args.left.now c.args.right.now p rows st (view c.in_ok-a.a) c.expr.new.rows c.expr.new.state (view c.in_ok-b.b) c.expr-2.new.rows c.expr-2.new.state h k) (c.compared_given.ensures.answer c.expr-2.new.rows)
-
-pub expr::expr-returns-in-Literal-clause-answer : goal.expr::expr-returns-in-Literal-clause-answer
-expr::expr-returns-in-Literal-clause-answer g t c = rw c.in-Literal.is (c.literal_given.ensures.answer c.args.rows.now)
-
-pub expr::expr-returns-in-Name-clause-answer : goal.expr::expr-returns-in-Name-clause-answer
-expr::expr-returns-in-Name-clause-answer g t c =
-    let rows = c.args.rows.now in
-    let st = c.args.state.now in
-    rw c.in-Name.is (comes_on c.named.result rows c.named.new.state _ _ (name_given (nat_lt st.count visits) c.in-Name.name c.args.ground.now.script.now.funs (at c.in-Name.line c.in-Name.col) rows st) (c.named.ensures.answer rows))
+pub stmt-returns-in-Do-clause-answer : goal.stmt-returns-in-Do-clause-answer
+stmt-returns-in-Do-clause-answer g t c = rw c.in-Do.is c.do_of.ensures.answer
