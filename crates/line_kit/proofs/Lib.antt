@@ -1,0 +1,12 @@
+pub mod WrittenLaw
+pub mod Cut
+pub mod Found
+pub mod Digits
+pub mod OpenLaw
+pub mod Splitting
+pub mod TotalsLaw
+pub mod Seen
+pub mod SumsLaw
+pub mod HalfLaw
+pub mod PartsLaw
+pub mod Sorting

@@ -1,0 +1,10 @@
+pub mod Lines
+pub mod Words
+pub mod Numbers
+pub mod Orders
+pub mod Parts
+pub mod Table
+pub mod Gives
+pub mod Totals
+pub mod Counts
+pub mod Written

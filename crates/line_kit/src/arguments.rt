@@ -1,0 +1,134 @@
+// The arguments of an executor: a dictionary with the key `in`, a reference or a list of references,
+// for `grep` the key `text` and for `head` the key `lines`, and no other key.
+
+ghost use Rattle.std.specs.Prelude.{◌≡◌};
+ghost use Rattle.sky_base.specs.View.{view, vals_of, pairs_of};
+ghost use Rattle.line_kit.specs.Table.{has_key, has_keys, all_fit, fits, fits_in, fits_other, is_ref, are_refs, text_in, text_of, number_in, lines_of};
+
+use crate::executor::Executor;
+use sky_base::value::{Pair, Value};
+
+fn has_key(args: &[Pair], key: &str) -> bool
+    ensures { result ≡ has_key (pairs_of args.now) key.now }
+{
+    for pair in args {
+        if pair.key.as_str() == key {
+            return true;
+        }
+    }
+    false
+}
+
+/// Whether each key of the executor is there.
+pub(crate) fn has_keys(executor: Executor, args: &[Pair]) -> bool
+    ensures { result ≡ has_keys executor (pairs_of args.now) }
+{
+    match executor {
+        Executor::Grep => has_key(args, "in") && has_key(args, "text"),
+        Executor::Head => has_key(args, "in") && has_key(args, "lines"),
+        _ => has_key(args, "in"),
+    }
+}
+
+fn is_ref(value: &Value) -> bool
+    ensures { result ≡ is_ref (view value.now) }
+{
+    matches!(value, Value::Ref(_))
+}
+
+fn are_refs(values: &[Value]) -> bool
+    ensures { result ≡ are_refs (vals_of values.now) }
+{
+    for value in values {
+        if !is_ref(value) {
+            return false;
+        }
+    }
+    true
+}
+
+fn fits_in(executor: Executor, value: &Value) -> bool
+    ensures { result ≡ fits_in executor (view value.now) }
+{
+    match value {
+        Value::Ref(_) => executor != Executor::Same,
+        Value::List(inputs) => {
+            are_refs(inputs.as_slice()) && (executor != Executor::Same || inputs.len() == 2)
+        }
+        _ => false,
+    }
+}
+
+fn fits_other(executor: Executor, key: &str, value: &Value) -> bool
+    ensures { result ≡ fits_other executor key.now (view value.now) }
+{
+    match (executor, value) {
+        (Executor::Grep, Value::Text(_)) => key == "text",
+        (Executor::Head, Value::Int(lines)) => key == "lines" && *lines >= 0,
+        _ => false,
+    }
+}
+
+fn fits(executor: Executor, key: &str, value: &Value) -> bool
+    ensures { result ≡ fits executor key.now (view value.now) }
+{
+    if key == "in" {
+        fits_in(executor, value)
+    } else {
+        fits_other(executor, key, value)
+    }
+}
+
+/// Whether each pair is one that the executor has.
+pub(crate) fn all_fit(executor: Executor, args: &[Pair]) -> bool
+    ensures { result ≡ all_fit executor (pairs_of args.now) }
+{
+    for pair in args {
+        if !fits(executor, pair.key.as_str(), &pair.value) {
+            return false;
+        }
+    }
+    true
+}
+
+fn text_in(value: &Value) -> &[u8]
+    ensures { result.now ≡ text_in (view value.now) }
+{
+    match value {
+        Value::Text(text) => text.as_str().as_bytes(),
+        _ => &[],
+    }
+}
+
+/// The text at the key `text`.
+pub(crate) fn text_of(args: &[Pair]) -> &[u8]
+    ensures { result.now ≡ text_of (pairs_of args.now) }
+{
+    for pair in args {
+        if pair.key.as_str() == "text" {
+            return text_in(&pair.value);
+        }
+    }
+    &[]
+}
+
+fn number_in(value: &Value) -> u64
+    ensures { result ≡ number_in (view value.now) }
+{
+    match value {
+        Value::Int(number) if *number >= 0 => *number as u64,
+        _ => 0,
+    }
+}
+
+/// The number at the key `lines`.
+pub(crate) fn lines_of(args: &[Pair]) -> u64
+    ensures { result ≡ lines_of (pairs_of args.now) }
+{
+    for pair in args {
+        if pair.key.as_str() == "lines" {
+            return number_in(&pair.value);
+        }
+    }
+    0
+}

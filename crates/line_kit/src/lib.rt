@@ -1,0 +1,16 @@
+// Executors over lines: what they give is the table in specs/Gives, row by row.
+#![tactic(auto)]
+
+mod arguments;
+mod counts;
+pub mod executor;
+pub mod kit;
+mod lines;
+mod numbers;
+mod orders;
+mod output;
+mod parts;
+mod picks;
+mod same;
+mod totals;
+mod words;
