@@ -80,14 +80,19 @@ fn refused(why: &Why, log: &mut HostErr) -> u8
 /// Runs the program on a thread with a large stack, else on one with a smaller stack, else on its own.
 fn main(rt: HostRuntime) -> ExitCode {
     let run = move || run(rt);
-    ExitCode::from(match Builder::new().stack_size(STACK).spawn_with(&rt, Anything, run) {
-        Ok(thread) => thread.join(&rt),
-        Err(refused) => match Builder::new()
-            .stack_size(LESS_STACK)
-            .spawn_with(&rt, Anything, refused.value)
+    ExitCode::from(
+        match Builder::new()
+            .stack_size(STACK)
+            .spawn_with(&rt, Anything, run)
         {
             Ok(thread) => thread.join(&rt),
-            Err(refused) => (refused.value)(),
+            Err(refused) => match Builder::new()
+                .stack_size(LESS_STACK)
+                .spawn_with(&rt, Anything, refused.value)
+            {
+                Ok(thread) => thread.join(&rt),
+                Err(refused) => (refused.value)(),
+            },
         },
-    })
+    )
 }

@@ -38,8 +38,8 @@ bools_alike false false f g = refl
 same_test : (k n : List ℕ) → is_eq (name_cmp k n) ≡ same_text n k
 same_test k n =
     bools_alike (is_eq (name_cmp k n)) (same_text n k)
-      (λ e. subst (λ m. same_text m k ≡ true) (exact_text k n (then_second (nat_cmp (length k) (length n)) (slice_cmp nat_cmp k n) e)) (self_text k))
-      (λ e. subst (λ m. is_eq (name_cmp k m) ≡ true) (sym (exact_text n k e)) (self_name k))
+    (λ e. subst (λ m. same_text m k ≡ true) (exact_text k n (then_second (nat_cmp (length k) (length n)) (slice_cmp nat_cmp k n) e)) (self_text k))
+    (λ e. subst (λ m. is_eq (name_cmp k m) ≡ true) (sym (exact_text n k e)) (self_name k))
 
 -- ---- one name more
 

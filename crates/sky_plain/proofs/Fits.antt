@@ -36,7 +36,7 @@ module _ {N : Type 0} (sc : Script) (K L : N → Type 0) (more : (b : N) → K b
     pub desc_over : (d : Desc N) → DescOver K sc d → DescOver L sc d
     desc_over (call f c vs) h = (h.0, h.1, vals_over vs h.2, pairs_over c h.3, h.4)
     desc_over (out x v n i) h = (h.0, h.1, refs_over v h.2, h.3, h.4)
-    desc_over (input k) h = tt
+    desc_over (input k) h = h
     desc_over (known b) h = more b h
 
   pub sound_over : (v : Val N) → SoundOver K sc v → SoundOver L sc v

@@ -83,7 +83,7 @@ module _ (sc : Script) (reads : List ℕ → Answer (List ℕ)) (read_fits : (b 
 
     closed : Closed safe_world P Q
     closed =
-        sound_closed (List ℕ) K sc safe_world (λ f. refl) (λ b. read_answer (length after) (reads b) (read_fits b)) (λ d h. slot_below d)
+        sound_closed (List ℕ) K sc safe_world (λ f. refl) (λ k. refl) (λ b. read_answer (length after) (reads b) (read_fits b)) (λ d h. slot_below d)
 
     object_ok : (o : Object (List ℕ)) → ObjectFits sc (length after) o → ObjectOk safe_world P Q o
     object_ok (Object.bytes b) h = tt

@@ -61,7 +61,7 @@ module _ (job : Job) (around : Around) where
 
       main_fits : (d : Row) → In d (call [] no_pairs no_vals ∷ []) → RowFits job.script 1 d
       main_fits d (inl e) =
-          subst (λ x. RowFits job.script 1 x) (sym e) (record { deep = omega arith; large = omega arith }, record { deep = omega arith; large = omega arith }, tt, tt, inl (refl, refl))
+          subst (λ x. RowFits job.script 1 x) (sym e) (record { deep = omega arith; large = omega arith }, record { deep = omega arith; large = omega arith }, tt, tt, inl (refl, refl, refl))
       main_fits d (inr i) = absurd i
 
       main_made : Made job around (call [] no_pairs no_vals ∷ [])
