@@ -9,7 +9,7 @@ use Rattle.sky_base.specs.Val.{known, same_text}
 use Rattle.sky_base.specs.Names.{HasSame, is_among, known_of, with_new, gathered}
 use Rattle.sky_base.specs.NameOrder.{name_cmp}
 use Rattle.sky_base.proofs.Exact.{exact_text, self_text}
-use Rattle.sky_base.proofs.Gathers.{known_of-push, stands_in-known}
+use Rattle.sky_base.proofs.Gathers.{known_of-push, stands_in-known, swapped}
 
 not_true : (b : Bool) → true ≡ not b → b ≡ false
 not_true true e = cc
@@ -29,7 +29,7 @@ then_second Ordering.Greater b e = cc
 self_name : (n : List ℕ) → is_eq (name_cmp n n) ≡ true
 self_name n = ap (λ o. is_eq (ordering_then o (slice_cmp nat_cmp n n))) (tied_itself nat_cmp_total (length n)) ∙ self_text n
 
-bools_alike : (a b : Bool) → (a ≡ true → b ≡ true) → (b ≡ true → a ≡ true) → a ≡ b
+pub bools_alike : (a b : Bool) → (a ≡ true → b ≡ true) → (b ≡ true → a ≡ true) → a ≡ b
 bools_alike true true f g = refl
 bools_alike true false f g = sym (f refl)
 bools_alike false true f g = g refl
@@ -42,12 +42,6 @@ same_test k n =
     (λ e. subst (λ m. is_eq (name_cmp k m) ≡ true) (sym (exact_text n k e)) (self_name k))
 
 -- ---- one name more
-
-swapped : (a b c : Bool) → a || (b || c) ≡ b || (a || c)
-swapped true true c = refl
-swapped true false c = refl
-swapped false true c = refl
-swapped false false c = refl
 
 among_push : (n k : List ℕ) (ns : List (List ℕ)) → is_among n (ns ++ k ∷ []) ≡ same_text n k || is_among n ns
 among_push n k [] = refl

@@ -1,5 +1,5 @@
 -- Gathering the distinct names of a value.
-use Rattle.std.proofs.Common.{◌≡◌, ℕ, suc, List, [], ◌∷◌, ◌++◌, length, Bool, true, false, ◌||◌, refl, ap, sym, ◌∙◌, append_assoc, append-nil}
+use Rattle.std.proofs.Common.{◌≡◌, ℕ, List, [], ◌∷◌, ◌++◌, Bool, true, false, ◌||◌, refl, ap, sym, ◌∙◌, append_assoc, append-nil}
 use Rattle.sky_base.specs.Val.{Desc, known, same_text, same_desc, stands_in, unless_in, distinct_from, distinct}
 use Rattle.sky_base.specs.Names.{is_among, known_of, with_new, gathered}
 use Rattle.sky_base.proofs.Exact.{exact_text, exact_desc}
@@ -20,7 +20,7 @@ gathered-append ds (e ∷ es) fs = gathered-append (with_new (stands_in same_tex
 abbrev Alike : List (Desc (List ℕ)) → List (Desc (List ℕ)) → Type 0
 Alike ds before = (d : Desc (List ℕ)) → stands_in same_text d ds ≡ stands_in same_text d before
 
-swapped : (a b c : Bool) → a || (b || c) ≡ b || (a || c)
+pub swapped : (a b c : Bool) → a || (b || c) ≡ b || (a || c)
 swapped true true c = refl
 swapped true false c = refl
 swapped false true c = refl

@@ -1,5 +1,5 @@
 -- What a name holds, and the list of its bytes.
-use Rattle.std.specs.Prelude.{◌≡◌, ℕ, List, length, nat_eq, Bool, true, false, refl}
+use Rattle.std.specs.Prelude.{◌≡◌, ℕ, List, length, nat_eq, Bool, true, false}
 use Rattle.std.proofs.Common.{ap}
 use Rattle.sky_base.specs.declared.name.Held.{Held}
 

@@ -3,7 +3,7 @@ use Rattle.std.proofs.Common.{◌≡◌, ℕ, zero, suc, ◌+◌, ◌/◌, ◌%�
 use Rattle.std.specs.Str.{is_utf8, chars}
 use lib.Utf8.{encode}
 use Rattle.sky_base.specs.Val.{null, num, text, list, fun, ref, no_vals, val, no_pairs, pair, call, input, known, vals_of, refs_to, size, depth, refs}
-use Rattle.sky_base.specs.Op.{limited, grown}
+use Rattle.sky_base.specs.Op.{grown}
 use Rattle.sky_base.specs.Name.{bytes, canon, low_desc}
 use Rattle.sky_base.specs.Tree.{Oper, Form, Lit, Exp, Steps, FunDef, Stm}
 use Rattle.sky_base.specs.Res.{visits, others, Object}

@@ -1,10 +1,9 @@
 -- The laws of more fuel, from n to any m that isn't below it.
-use Rattle.std.proofs.Common.{◌≡◌, ◌≢◌, ℕ, zero, suc, ◌+◌, ◌-◌, ◌≤◌, List, [], ◌++◌, true, Option, Some, None, refl, sym, ap, ◌∙◌, subst, arith, append_assoc, append-nil}
-use Rattle.sky_base.specs.Read.{Act}
+use Rattle.std.proofs.Common.{◌≡◌, ◌≢◌, ℕ, zero, suc, ◌-◌, ◌≤◌, List, [], ◌++◌, true, Some, None, refl, sym, ap, ◌∙◌, subst, arith, append_assoc, append-nil}
 use Rattle.sky_base.specs.See.{Desc, Obj, Job, Around, Answered, see, job_answer}
 use Rattle.sky_base.specs.Needed.{Task}
 use Rattle.sky_law.specs.Tasks.{acts_of, ended}
-use Rattle.sky_law.proofs.SeenLaw.{Kept, Begins, on, on_is, kept_on, kept_is, see_kept, answer_kept}
+use Rattle.sky_law.proofs.SeenLaw.{Begins, on, on_is, kept_on, kept_is, see_kept, answer_kept}
 use Rattle.sky_law.proofs.TaskFuel.{more, kept}
 
 on_to : (n m : ℕ) → n ≤ m → on (m - n) n ≡ m

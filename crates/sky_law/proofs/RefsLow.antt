@@ -6,6 +6,7 @@ use Rattle.sky_base.specs.Name.{low, low_vals, low_pairs, name}
 use Rattle.sky_law.specs.Lower.{low_ref}
 use Rattle.sky_law.specs.Tasks.{In}
 use Rattle.sky_base.proofs.Exact.{exact_text, self_text, exact_desc, self_desc}
+use Rattle.sky_base.proofs.Found.{bools_alike}
 
 module _ {N : Type 0} (spell : N → List ℕ) (tag : Desc (List ℕ) → List ℕ) where
   mutual
@@ -35,12 +36,6 @@ module _ {N : Type 0} (spell : N → List ℕ) (tag : Desc (List ℕ) → List �
   -- no two of these descriptions that differ have one name
   abbrev pub NoClash : List (Desc N) → Type 0
   NoClash ds = (d e : Desc N) → In d ds → In e ds → name spell tag d ≡ name spell tag e → d ≡ e
-
-  bools_alike : (a b : Bool) → (a ≡ true → b ≡ true) → (b ≡ true → a ≡ true) → a ≡ b
-  bools_alike true true f g = refl
-  bools_alike true false f g = sym (f refl)
-  bools_alike false true f g = g refl
-  bools_alike false false f g = refl
 
   -- the test by names is the test by descriptions
   same_low : (d e : Desc N) → (name spell tag d ≡ name spell tag e → d ≡ e) → same_text (name spell tag d) (name spell tag e) ≡ same_desc same_known d e

@@ -8,7 +8,7 @@ use Rattle.sky_base.specs.Val.{Val, Vals, Pairs, Desc, null, truth, num, text, l
 use Rattle.sky_base.specs.Op.{Answer, if_fits, fits, checked, unless, limited, join, plus, minus, times, over, over_num, rest, rest_num, val_at, find, put, or_else, index, put_val, limited_list, set_at, equal_if, ordered, compare, Order, negated, opposite, len, all_keys, keys, has, numbers, range_if, range, span, grown, with_key, dict_from}
 use Rattle.sky_base.specs.Tree.{Lit, Oper, FunDef, Script}
 use Rattle.sky_base.specs.Eval.{World, find_fun, is_one_of, caught_if, caught_by, lit_val, oper}
-use Rattle.sky_law.specs.Sound.{IsFun, AllUsed, TakesIf, CallsIf, RefsOver, ValsOver, PairsOver, DescOver, SoundOver}
+use Rattle.sky_law.specs.Sound.{AllUsed, TakesIf, CallsIf, RefsOver, ValsOver, PairsOver, DescOver, SoundOver}
 use Rattle.sky_law.specs.Tasks.{Each}
 use Rattle.sky_base.specs.Kept.{Kept}
 use Rattle.sky_law.proofs.FineLaw.{Closed}

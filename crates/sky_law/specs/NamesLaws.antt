@@ -1,5 +1,5 @@
 -- Names in place of descriptions: what is done with the one is done with the other, whatever gives the names.
-use Rattle.std.specs.Prelude.{◌≡◌, ℕ, List, map, Option, Some, ◌++◌}
+use Rattle.std.specs.Prelude.{◌≡◌, ℕ, List, map}
 use Rattle.std.specs.Option.{option_map}
 use Rattle.sky_base.specs.Val.{refs, distinct, same_text, known}
 use Rattle.sky_base.specs.Val as v

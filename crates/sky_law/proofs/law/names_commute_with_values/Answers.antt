@@ -1,4 +1,4 @@
-use Rattle.std.proofs.Common.{true, refl}
+use Rattle.std.proofs.Common.{true}
 use Rattle.sky_law.specs.NamesLaws.{no_name}
 use Rattle.sky_law.proofs.Low.{plus_low, minus_low, times_low, over_low, rest_low, compare_low, index_low, set_at_low, append_low}
 use Rattle.sky_law.proofs.RefsLow.{refs_low, distinct_refs_low}

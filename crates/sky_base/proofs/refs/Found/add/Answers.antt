@@ -1,4 +1,4 @@
-use Rattle.std.proofs.Common.{◌≡◌, ◌∷◌, [], ◌∙◌, ap, sym, subst}
+use Rattle.std.proofs.Common.{◌∷◌, [], ◌∙◌, ap, sym, subst}
 use Rattle.sky_base.specs.Val.{known}
 use Rattle.sky_base.specs.Names.{HasSame, known_of, gathered}
 use Rattle.sky_base.proofs.Found.{same_more, found_new, found_old}
