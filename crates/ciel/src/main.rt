@@ -15,7 +15,7 @@ use sky_base::text::Txt;
 use std::alloc::Global;
 use std::process::ExitCode;
 use std::rt::Env;
-use std::thread::{Anything, Builder};
+use std::thread::{Builder, Promise};
 use std::{env, io};
 
 /// The bytes of stack that a run gets. The interpreter recurses over the tree of the script, through up to
@@ -25,6 +25,16 @@ const STACK: usize = 256 << 20;
 /// The bytes of stack that are tried where no thread can have so many. The deepest script that was found
 /// takes 20 MiB.
 const LESS_STACK: usize = 32 << 20;
+
+/// What the thread of a run promises of the status that it gives: nothing.
+#[derive(Clone, Copy)]
+struct Anything;
+
+impl Promise<u8> for Anything {
+    ghost use Rattle.std.specs.Prelude.{⊤};
+
+    ghost kept_by = { λ _ _. ⊤ };
+}
 
 /// The words of the command line, without the program's name. Words that aren't UTF-8 are no line, and
 /// there may be no memory for them.
