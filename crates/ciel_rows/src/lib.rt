@@ -11,4 +11,6 @@ mod messages;
 #[cfg(test)]
 mod outside;
 #[cfg(test)]
+mod plain_rows;
+#[cfg(test)]
 mod scripts;

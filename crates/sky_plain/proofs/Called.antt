@@ -14,58 +14,56 @@ use Rattle.sky_base.specs.declared.fault.Fault.{Fault}
 use Rattle.sky_law.specs.Tasks.{In, Apart}
 use Rattle.sky_base.specs.declared.object.Object as code
 use Rattle.ciel_json.specs.Around.{json_around}
-use Rattle.ciel_json.specs.Read.{reads}
+use Rattle.sky_rows.specs.Data.{data_of}
 use Rattle.ciel_json.specs.Text.{text_of}
 use Rattle.ciel_json.proofs.LowLaw.{reads_named, text_named}
 use Rattle.ciel_json.proofs.ReadLaw.{reads_sound}
-use Rattle.sky_plain.specs.Walk.{Row, Stop, stops, walk, known_of, number_of, object_at, most_rows}
-use Rattle.sky_plain.specs.Known.{with_object}
+use Rattle.sky_rows.specs.Walk.{Row, Stop, stops, walk, known_of, number_of, object_at, most_rows}
+use Rattle.sky_rows.specs.Known.{with_object}
 use Rattle.sky_plain.specs.Needs.{MakesMany}
-use Rattle.sky_plain.specs.Number.{numbered}
-use Rattle.sky_plain.specs.Ran.{Begins}
-use Rattle.sky_plain.specs.Stand.{Runs, EndsAs, WaitsFor, IsFull, Below, Fits, Puts, ReadFits, Opens, Standing}
+use Rattle.sky_rows.specs.Number.{numbered}
+use Rattle.sky_body.specs.Ran.{Begins}
+use Rattle.sky_plain.specs.Stand.{Below, Fits, Puts, ReadFits, Opens, Standing}
+use Rattle.sky_body.specs.Stops.{Runs, EndsAs, WaitsFor, IsFull}
 use Rattle.sky_plain.specs.Stage.{AllKnown}
 use Rattle.sky_plain.specs.Perform.{bytes_seen, collect, slots, run_output, performed_on, performed}
 use Rattle.sky_plain.specs.Faulty.{NoExecutors, OutFault}
 use Rattle.sky_plain.proofs.Counts.{puts_with}
 use Rattle.sky_plain.proofs.Full.{WaitsAt, walk_waits}
-use Rattle.sky_plain.proofs.Numbers.{numbers_hold, got_in}
+use Rattle.sky_rows.proofs.Numbers.{numbers_hold, got_in}
 use Rattle.sky_plain.proofs.Performs.{opens_out}
 use Rattle.sky_plain.proofs.Steps.{standing_ends, standing_waits, standing_many, standing_out, standing_input}
 
-abbrev pub Data : List ℕ → Answer (List ℕ)
-Data b = reads {N = List ℕ} b
-
-pub read_fits : (sc : Script) (b : List ℕ) → ReadFits sc (Data b)
-read_fits sc b = go (Data b) refl
+pub read_fits : (sc : Script) (b : List ℕ) → ReadFits sc (data_of b)
+read_fits sc b = go (data_of b) refl
   where
-    go : (a : Answer (List ℕ)) → Data b ≡ a → ReadFits sc a
+    go : (a : Answer (List ℕ)) → data_of b ≡ a → ReadFits sc a
     go (Ok v) e = reads_sound (λ n. ⊥) sc b v e
     go (Err k) e = tt
 
 -- what a run waits for isn't known
-waits_unknown : (script : Script) (objects : List (Option (Object (List ℕ)))) (rows after : List Row) (f : List ℕ) (ca : Pairs (List ℕ)) (us : Vals (List ℕ)) (n : List ℕ) → Apart after → Runs script Data objects rows f ca us after (WaitsFor n) → object_at objects (number_of n) ≡ None
-waits_unknown script objects rows after f ca us n apart run = go (run (numbered after Data script) refl refl (numbers_hold after apart))
+waits_unknown : (script : Script) (objects : List (Option (Object (List ℕ)))) (rows after : List Row) (f : List ℕ) (ca : Pairs (List ℕ)) (us : Vals (List ℕ)) (n : List ℕ) → Apart after → Runs script data_of objects rows f ca us after (WaitsFor n) → object_at objects (number_of n) ≡ None
+waits_unknown script objects rows after f ca us n apart run = go (run (numbered after data_of script) refl refl (numbers_hold after apart))
   where
-    go : (s : Stop) × (walk (known_of objects) rows (body_at (numbered after Data script) bodies f ca us nowhere start_st) ≡ stops after s) × WaitsFor n s → object_at objects (number_of n) ≡ None
+    go : (s : Stop) × (walk (known_of objects) rows (body_at (numbered after data_of script) bodies f ca us nowhere start_st) ≡ stops after s) × WaitsFor n s → object_at objects (number_of n) ≡ None
     go (s, e, is) =
-        subst (WaitsAt (known_of objects)) e (walk_waits (known_of objects) (body_at (numbered after Data script) bodies f ca us nowhere start_st) rows) (known n) is
+        subst (WaitsAt (known_of objects)) e (walk_waits (known_of objects) (body_at (numbered after data_of script) bodies f ca us nowhere start_st) rows) (known n) is
 
 module _ (job : Job) (gives : Gives) (rows after : List Row) (objects : List (Option (Object (List ℕ)))) (k : ℕ) (f : List ℕ) (ca : Pairs (List ℕ)) (us : Vals (List ℕ)) (begins : Begins rows after) (apart : Apart after) (room : length after ≤ most_rows) (at : slice_get rows k ≡ Some (call f ca us)) (ks : List ℕ) (standing : Standing job (json_around gives) rows objects) (opens : Opens job (json_around gives) rows (k ∷ ks)) where
-  pub called_ends : (o : Object (List ℕ)) → Runs job.script Data objects rows f ca us after (EndsAs o) → Standing job (json_around gives) after (with_object k o objects)
+  pub called_ends : (o : Object (List ℕ)) → Runs job.script data_of objects rows f ca us after (EndsAs o) → Standing job (json_around gives) after (with_object k o objects)
   called_ends o run =
-      standing_ends job (json_around gives) Data (λ tag b. reads_named tag b) (read_fits job.script) rows begins.0 after objects standing begins.1 apart room k f ca us at ks o (with_object k o objects) opens run (puts_with k o objects)
+      standing_ends job (json_around gives) data_of (λ tag b. reads_named tag b) (read_fits job.script) rows begins.0 after objects standing begins.1 apart room k f ca us at ks o (with_object k o objects) opens run (puts_with k o objects)
 
-  pub called_waits : (n : List ℕ) → Runs job.script Data objects rows f ca us after (WaitsFor n) → Standing job (json_around gives) after objects × (number_of n < length after) × Opens job (json_around gives) after (number_of n ∷ k ∷ ks)
+  pub called_waits : (n : List ℕ) → Runs job.script data_of objects rows f ca us after (WaitsFor n) → Standing job (json_around gives) after objects × (number_of n < length after) × Opens job (json_around gives) after (number_of n ∷ k ∷ ks)
   called_waits n run =
-      standing_waits job (json_around gives) Data (λ tag b. reads_named tag b) (read_fits job.script) rows begins.0 after objects standing begins.1 apart room k f ca us at ks n opens run
+      standing_waits job (json_around gives) data_of (λ tag b. reads_named tag b) (read_fits job.script) rows begins.0 after objects standing begins.1 apart room k f ca us at ks n opens run
 
-  pub called_unknown : (n : List ℕ) → Runs job.script Data objects rows f ca us after (WaitsFor n) → object_at objects (number_of n) ≡ None
+  pub called_unknown : (n : List ℕ) → Runs job.script data_of objects rows f ca us after (WaitsFor n) → object_at objects (number_of n) ≡ None
   called_unknown n run = waits_unknown job.script objects rows after f ca us n apart run
 
-  pub called_many : Runs job.script Data objects rows f ca us after IsFull → MakesMany job (json_around gives) 65537
+  pub called_many : Runs job.script data_of objects rows f ca us after IsFull → MakesMany job (json_around gives) 65537
   called_many run =
-      standing_many job (json_around gives) Data (λ tag b. reads_named tag b) (read_fits job.script) rows begins.0 after objects standing begins.1 apart room k f ca us at ks opens run
+      standing_many job (json_around gives) data_of (λ tag b. reads_named tag b) (read_fits job.script) rows begins.0 after objects standing begins.1 apart room k f ca us at ks opens run
 
 -- ---- rows of executor tasks, where no executor is known, and of inputs
 
@@ -125,7 +123,7 @@ module _ (job : Job) (gives : Gives) (rows : List Row) (objects : List (Option (
 
     executed : (f : Fault) → AllKnown objects (refs us) → performed gives Writes (known_of objects) x us c i ≡ Object.fault f → Standing job (json_around gives) rows (with_object k (Object.fault f) objects)
     executed f all is =
-        standing_out job (json_around gives) Data (λ tag b. reads_named tag b) Writes (λ tag a. text_named tag a) rows objects (with_object k (Object.fault f) objects) standing k x us c i at all (subst (λ o. Puts objects k o (with_object k (Object.fault f) objects)) (sym is) (puts_with k (Object.fault f) objects))
+        standing_out job (json_around gives) data_of (λ tag b. reads_named tag b) Writes (λ tag a. text_named tag a) rows objects (with_object k (Object.fault f) objects) standing k x us c i at all (subst (λ o. Puts objects k o (with_object k (Object.fault f) objects)) (sym is) (puts_with k (Object.fault f) objects))
 
     pub executed_known : NoExecutors gives → AllKnown objects (refs us) → (f : Fault) → OutFault f Inputs → Standing job (json_around gives) rows (with_object k (Object.fault f) objects)
     executed_known no_one all f (inl e) = executed f all (ap (performed_on gives x us c i) e)
@@ -134,4 +132,4 @@ module _ (job : Job) (gives : Gives) (rows : List Row) (objects : List (Option (
 
   pub inputs_known : (key : List ℕ) → slice_get rows k ≡ Some (input key) → Standing job (json_around gives) rows (with_object k (Object.bytes (input_bytes key job.inputs)) objects)
   inputs_known key at =
-      standing_input job (json_around gives) Data (λ tag b. reads_named tag b) Writes (λ tag a. text_named tag a) rows objects (with_object k (Object.bytes (input_bytes key job.inputs)) objects) standing k key at (puts_with k (Object.bytes (input_bytes key job.inputs)) objects)
+      standing_input job (json_around gives) data_of (λ tag b. reads_named tag b) Writes (λ tag a. text_named tag a) rows objects (with_object k (Object.bytes (input_bytes key job.inputs)) objects) standing k key at (puts_with k (Object.bytes (input_bytes key job.inputs)) objects)

@@ -10,13 +10,14 @@ use Rattle.sky_base.specs.See.{Desc, Job, Around, run_of, slot}
 use Rattle.sky_base.specs.Needed.{Task, task_of, halt_refs, Needed}
 use Rattle.sky_law.specs.Tasks.{In}
 use Rattle.sky_law.proofs.TaskOutputs.{contains_in}
-use Rattle.sky_plain.specs.Walk.{Row, Stop, stops, number_of, learn_to}
-use Rattle.sky_plain.specs.Number.{index_of, tag_of, Grown}
+use Rattle.sky_rows.specs.Walk.{Row, Stop, stops, number_of, learn_to}
+use Rattle.sky_rows.specs.Number.{index_of, tag_of, Grown}
 use Rattle.sky_plain.specs.Needs.{Waits, Chain, Makes}
-use Rattle.sky_plain.specs.Stand.{spell, Runs, WaitsFor, IsFull, KnownAt, Knows, Holds, Opened, Opens, Made}
+use Rattle.sky_plain.specs.Stand.{spell, KnownAt, Knows, Holds, Opened, Opens, Made}
+use Rattle.sky_body.specs.Stops.{Runs, WaitsFor, IsFull}
 use Rattle.sky_plain.proofs.Full.{FullAt}
 use Rattle.sky_plain.proofs.Sim.{Sim, StopIs, MadeBy}
-use Rattle.sky_plain.proofs.Numbers.{got_more, number_slot}
+use Rattle.sky_rows.proofs.Numbers.{got_more, number_slot}
 use Rattle.sky_plain.proofs.Knows.{name_tag, index_most, held_at, grown_back, from_call, ran}
 
 some_is : {A : Type 0} (a b : A) → Some a ≡ Some b → a ≡ b

@@ -1,8 +1,8 @@
 -- How many objects are known, as more become known.
 use Rattle.std.proofs.Common.{◌≡◌, ◌≢◌, ◌≤◌, ◌<◌, ℕ, zero, suc, ◌+◌, ◌-◌, ◌*◌, max, List, [], ◌∷◌, length, Bool, true, false, Option, Some, None, refl, sym, ap, ◌∙◌, arith}
-use Rattle.sky_plain.specs.Plain.{Obj}
-use Rattle.sky_plain.specs.Walk.{object_at}
-use Rattle.sky_plain.specs.Known.{with_object}
+use Rattle.sky_rows.specs.Walk.{Obj}
+use Rattle.sky_rows.specs.Walk.{object_at}
+use Rattle.sky_rows.specs.Known.{with_object}
 use Rattle.sky_plain.specs.Stand.{Puts}
 use Rattle.sky_plain.specs.Settle.{count}
 

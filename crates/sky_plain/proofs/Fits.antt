@@ -8,8 +8,8 @@ use Rattle.sky_base.specs.Read.{refs_of}
 use Rattle.sky_law.specs.Tasks.{In, Each}
 use Rattle.sky_law.specs.Sound.{RefsOver, ValsOver, PairsOver, DescOver, SoundOver}
 use Rattle.sky_law.proofs.FineLaw.{Fine, ObjectOk, EndOk}
-use Rattle.sky_plain.proofs.Learn.{Learned, learned_new}
-use Rattle.sky_plain.specs.Walk.{Row, is_held, Seen, seen_one, Stop, Walked, learn_to, on_learned, on_seen, look, walk}
+use Rattle.sky_rows.proofs.Learn.{Learned, learned_new}
+use Rattle.sky_rows.specs.Walk.{Row, is_held, Seen, seen_one, Stop, Walked, learn_to, on_learned, on_seen, look, walk}
 
 -- ---- more names may stand inside
 

@@ -11,11 +11,12 @@ use Rattle.sky_law.specs.Tasks.{In, Apart}
 use Rattle.sky_law.specs.Sound.{DescOver, SoundOver}
 use Rattle.sky_law.proofs.FineLaw.{Closed, ObjectOk, fine_call}
 use Rattle.sky_law.proofs.SoundOps.{SoundAnswer, sound_closed, dict_inside}
-use Rattle.sky_plain.specs.Walk.{Row, Stop, stops, walk, known_of, object_at, number_of, Numbers, most_rows}
-use Rattle.sky_plain.specs.Number.{index_of}
-use Rattle.sky_plain.specs.Stand.{Runs, EndsAs, WaitsFor, Puts, Below, RowFits, ObjectFits, Fits, StopFits, ReadFits}
-use Rattle.sky_plain.proofs.Numbers.{got_below, index_at, number_slot}
-use Rattle.sky_plain.proofs.Knows.{most_is}
+use Rattle.sky_rows.specs.Walk.{Row, Stop, stops, walk, known_of, object_at, number_of, Numbers, most_rows}
+use Rattle.sky_rows.specs.Number.{index_of}
+use Rattle.sky_plain.specs.Stand.{Puts, Below, RowFits, ObjectFits, Fits, StopFits, ReadFits}
+use Rattle.sky_body.specs.Stops.{Runs, EndsAs, WaitsFor}
+use Rattle.sky_rows.proofs.Numbers.{got_below, index_at, number_slot}
+use Rattle.sky_rows.proofs.Learn.{most_is}
 use Rattle.sky_plain.proofs.Fits.{desc_over, sound_over, StopOk, WalkOk, walk_ok}
 
 -- a number that is held in any case

@@ -12,16 +12,14 @@ use Rattle.sky_law.specs.Lower.{lower, low_ref, low_obj, low_end}
 use Rattle.sky_base.specs.See.{Desc, Job, Around, see, run_of, object_of, world_of, start_st}
 use Rattle.sky_law.proofs.LowLaw.{Rel, rel_call}
 use Rattle.sky_law.proofs.SeenLaw.{see_kept}
-use Rattle.sky_plain.specs.Walk.{Row, Stop, stops, walk, known_of, object_at, Numbers, most_rows}
-use Rattle.sky_plain.specs.Number.{index_of, tag_of, numbered, Grown}
-use Rattle.sky_plain.specs.Stand.{spell, end_object, Runs, EndsAs, Puts, Sees, KnownAt, Knows}
+use Rattle.sky_rows.specs.Walk.{Row, Stop, stops, walk, known_of, object_at, Numbers, most_rows}
+use Rattle.sky_rows.specs.Number.{index_of, tag_of, numbered, Grown}
+use Rattle.sky_rows.proofs.Learn.{most_is}
+use Rattle.sky_plain.specs.Stand.{spell, Puts, Sees, KnownAt, Knows}
+use Rattle.sky_body.specs.Stops.{end_object, Runs, EndsAs}
 use Rattle.sky_plain.proofs.Full.{FullAt, walk_full}
 use Rattle.sky_plain.proofs.Sim.{Sim, StopIs, sim}
-use Rattle.sky_plain.proofs.Numbers.{index_found, got_below, got_front, numbers_hold, numbers_front, number_slot}
-
-pub most_is : most_rows ≡ 65536
-unfolding most_rows
-most_is = refl
+use Rattle.sky_rows.proofs.Numbers.{index_found, got_below, got_front, numbers_hold, numbers_front, number_slot}
 
 -- a description's number is that of its place, or past the end
 abbrev Later : List Row → List Row → ℕ → Type 0

@@ -11,7 +11,7 @@ use Rattle.sky_base.specs.declared.value.Pair.{Pair}
 use Rattle.sky_base.specs.declared.fault.Fault.{Fault}
 use Rattle.sky_base.proofs.Exact.{exact_text, self_text}
 use Rattle.sky_law.proofs.TaskOutputs.{in_distinct, distinct_in}
-use Rattle.sky_plain.specs.Walk.{Row, known_of}
+use Rattle.sky_rows.specs.Walk.{Row, known_of}
 use Rattle.sky_plain.specs.Stage.{AllKnown}
 use Rattle.sky_plain.specs.Perform.{one_more, collect}
 use Rattle.sky_plain.specs.Faulty.{FaultsAre}

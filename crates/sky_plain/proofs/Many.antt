@@ -6,35 +6,11 @@ use Rattle.sky_base.specs.Name.{low_desc}
 use Rattle.sky_base.specs.See.{Desc, Job, Around}
 use Rattle.sky_law.specs.Tasks.{In, Each, Apart}
 use Rattle.sky_base.proofs.Exact.{self_text, self_desc}
-use Rattle.sky_plain.specs.Walk.{Row, is_held, in_room, if_new, learn_to, most_rows}
-use Rattle.sky_plain.specs.Number.{tag_of, Grown}
+use Rattle.sky_rows.specs.Walk.{Row, is_held, in_room, if_new, learn_to, most_rows}
+use Rattle.sky_rows.specs.Number.{tag_of, Grown}
 use Rattle.sky_plain.specs.Needs.{Makes, MakesMany}
 use Rattle.sky_plain.specs.Stand.{spell, Made}
-use Rattle.sky_plain.proofs.Knows.{most_is}
-
-pub in_held : (d : Row) (rows : List Row) → In d rows → is_held d rows ≡ true
-in_held d [] i = absurd i
-in_held d (r ∷ rows) (inl e) = ap (λ b. b || stands_in same_text d rows) (ap (same_desc same_text d) (sym e) ∙ self_desc same_text self_text d)
-in_held d (r ∷ rows) (inr i) = or_true (same_desc same_text d r) (stands_in same_text d rows) (in_held d rows i)
-  where
-    or_true : (a b : Bool) → b ≡ true → a || b ≡ true
-    or_true true b e = refl
-    or_true false b e = e
-
--- it is new, and there is no room
-pub full_means : (rows : List Row) (d : Row) → learn_to rows d ≡ None → (In d rows → ⊥) × (65536 ≤ length rows)
-full_means rows d h = go (is_held d rows) refl h
-  where
-    no_true : false ≡ true → ⊥
-    no_true q = absurd cc
-
-    crowded : (b : Bool) → nat_lt (length rows) most_rows ≡ b → in_room b rows d ≡ None → 65536 ≤ length rows
-    crowded true e q = absurd cc
-    crowded false e q = subst (λ m. m ≤ length rows) most_is (ltb-false (length rows) most_rows e)
-
-    go : (b : Bool) → is_held d rows ≡ b → if_new b rows d ≡ None → (In d rows → ⊥) × (65536 ≤ length rows)
-    go true e q = absurd cc
-    go false e q = (λ i. no_true (sym e ∙ in_held d rows i), crowded (nat_lt (length rows) most_rows) refl q)
+use Rattle.sky_rows.proofs.Learn.{most_is, full_means}
 
 -- ---- so many distinct descriptions are made
 

@@ -4,13 +4,13 @@ use Rattle.std.proofs.lemmas.List.{append_assoc, append-nil}
 use Rattle.sky_base.specs.See.{Desc, Job, Around}
 use Rattle.sky_law.specs.Tasks.{Apart}
 use Rattle.sky_base.specs.Val.{call}
-use Rattle.sky_plain.specs.Plain.{Obj}
-use Rattle.sky_plain.specs.Walk.{Row, object_at, is_known, most_rows}
-use Rattle.sky_plain.specs.Known.{with_object}
+use Rattle.sky_rows.specs.Walk.{Obj}
+use Rattle.sky_rows.specs.Walk.{Row, object_at, is_known, most_rows}
+use Rattle.sky_rows.specs.Known.{with_object}
 use Rattle.sky_plain.specs.Needs.{Chain, MakesMany}
-use Rattle.sky_plain.specs.Ran.{Begins}
+use Rattle.sky_body.specs.Ran.{Begins}
 use Rattle.sky_plain.specs.Stand.{Opened, Opens, Standing}
-use Rattle.sky_plain.proofs.Numbers.{got_below, got_in}
+use Rattle.sky_rows.proofs.Numbers.{got_below, got_in}
 use Rattle.sky_plain.proofs.Chains.{opened_at}
 use Rattle.sky_plain.proofs.Many.{itself}
 use Rattle.sky_plain.specs.Settle.{CallsKept, count, height, rank, most_open, Stays, Bottom, Open}

@@ -15,14 +15,14 @@ use Rattle.sky_law.proofs.RefsLow.{refs_low}
 use Rattle.sky_law.proofs.TaskOutputs.{in_distinct_refs}
 use Rattle.sky_base.specs.declared.fault.FaultKind.{FaultKind}
 use Rattle.sky_base.specs.declared.fault.Fault.{Fault}
-use Rattle.sky_plain.specs.Walk.{Row, known_of, number_of}
-use Rattle.sky_plain.specs.Number.{tag_of, Grown}
+use Rattle.sky_rows.specs.Walk.{Row, known_of, number_of}
+use Rattle.sky_rows.specs.Number.{tag_of, Grown}
 use Rattle.sky_plain.specs.Stand.{spell, Sees, Knows, Puts, Opened, Opens}
 use Rattle.sky_plain.specs.Stage.{AllKnown}
 use Rattle.sky_plain.specs.Perform.{bytes_of, bytes_seen, one_more, collect, output_at, run_output, performed_on, performed}
 use Rattle.sky_plain.proofs.Knows.{SeenNext, learns_one}
 use Rattle.sky_plain.proofs.Chains.{held_ref, opened_at}
-use Rattle.sky_plain.proofs.Numbers.{got_more}
+use Rattle.sky_rows.proofs.Numbers.{got_more}
 use Rattle.sky_plain.proofs.Stages.{in_map, map_in}
 
 length-map : {A B : Type 0} (f : A → B) (xs : List A) → length (map f xs) ≡ length xs

@@ -15,20 +15,22 @@ use Rattle.sky_base.specs.declared.fault.Fault.{Fault}
 use Rattle.sky_law.specs.Tasks.{In, Apart}
 use Rattle.ciel_json.specs.Around.{json_around}
 use Rattle.ciel_json.proofs.LowLaw.{reads_named, text_named}
-use Rattle.sky_plain.specs.Plain.{Obj}
-use Rattle.sky_plain.specs.Walk.{Row, known_of, number_of, object_at, is_known, most_rows, learn_to}
-use Rattle.sky_plain.specs.Wave.{Turned, text_if, data_or_text, value_of, value_seen, on_list, on_dict, on_fun, on_val, on_pair, fill, fill_vals, fill_pairs, next_if, next_of, lone, turn_all, turn_refs, turn_at, last_at}
-use Rattle.sky_plain.specs.WaveView.{TurnsSo, EndsSo}
-use Rattle.sky_plain.specs.Ran.{Begins}
+use Rattle.sky_rows.specs.Data.{data_of}
+use Rattle.sky_rows.specs.Walk.{Obj}
+use Rattle.sky_rows.specs.Walk.{Row, known_of, number_of, object_at, is_known, most_rows, learn_to}
+use Rattle.sky_waves.specs.Wave.{Turned, text_if, data_or_text, value_of, value_seen, on_list, on_dict, on_fun, on_val, on_pair, fill, fill_vals, fill_pairs, next_if, next_of, lone, turn_all, turn_refs, turn_at, last_at}
+use Rattle.sky_waves.specs.WaveView.{TurnsSo, EndsSo}
+use Rattle.sky_body.specs.Ran.{Begins}
 use Rattle.sky_plain.specs.Stand.{Below, Fits, ReadFits, Opens, Standing}
 use Rattle.sky_plain.specs.Stage.{Stage, AllKnown}
 use Rattle.sky_plain.specs.Settle.{count, Stays}
 use Rattle.sky_plain.specs.Whole.{OpensAll}
 use Rattle.sky_plain.proofs.Fits.{refs_over, sound_over}
-use Rattle.sky_plain.proofs.Many.{itself, full_means}
+use Rattle.sky_plain.proofs.Many.{itself}
+use Rattle.sky_rows.proofs.Learn.{full_means}
 use Rattle.sky_plain.proofs.Stages.{stage_more, stage_next, stage_end, stage_last, opens_first}
 use Rattle.sky_plain.proofs.Steps.{opens_grow}
-use Rattle.sky_plain.proofs.Called.{Data, Writes, read_fits, in_val}
+use Rattle.sky_plain.proofs.Called.{Writes, read_fits, in_val}
 
 -- ---- how many objects are known
 
@@ -141,8 +143,8 @@ next_is : (a b : Val (List ℕ)) → Turned.next a ≡ Turned.next b → a ≡ b
 next_is a b e = cc
 
 module _ (sc : Script) (rows : List Row) (objects : List (Option Obj)) (fits : Fits sc rows objects) where
-  value_fine : (o : Obj) (v : Val (List ℕ)) → (k : ℕ) → object_at objects k ≡ Some o → value_of Data o ≡ Ok v → RefsOver (Below (length rows)) sc v
-  value_fine (Object.bytes b) v k at e = go (Data b) (read_fits sc b) e
+  value_fine : (o : Obj) (v : Val (List ℕ)) → (k : ℕ) → object_at objects k ≡ Some o → value_of data_of o ≡ Ok v → RefsOver (Below (length rows)) sc v
+  value_fine (Object.bytes b) v k at e = go (data_of b) (read_fits sc b) e
     where
       text_fine : (u : Bool) → text_if u b ≡ Ok v → RefsOver (Below (length rows)) sc v
       text_fine true e = subst (RefsOver (Below (length rows)) sc) (ok_is (text b) v e) tt
@@ -155,20 +157,20 @@ module _ (sc : Script) (rows : List Row) (objects : List (Option Obj)) (fits : F
       subst (RefsOver (Below (length rows)) sc) (ok_is u v e) (fits.objects_fit k (Object.data_of u) at).1
   value_fine (Object.fault f) v k at e = absurd cc
 
-  seen_fine : (d : Row) (v : Val (List ℕ)) → value_seen Data (known_of objects d) ≡ Ok v → RefsOver (Below (length rows)) sc v
+  seen_fine : (d : Row) (v : Val (List ℕ)) → value_seen data_of (known_of objects d) ≡ Ok v → RefsOver (Below (length rows)) sc v
   seen_fine (known n) v e = go (object_at objects (number_of n)) refl e
     where
-      go : (x : Option Obj) → object_at objects (number_of n) ≡ x → value_seen Data x ≡ Ok v → RefsOver (Below (length rows)) sc v
+      go : (x : Option Obj) → object_at objects (number_of n) ≡ x → value_seen data_of x ≡ Ok v → RefsOver (Below (length rows)) sc v
       go None at e = absurd cc
       go (Some o) at e = value_fine o v (number_of n) at e
   seen_fine (call f c vs) v e = absurd cc
   seen_fine (out x a n i) v e = absurd cc
   seen_fine (input k) v e = absurd cc
 
-  all_fine : (a b : Val (List ℕ)) → SoundOver (Below (length rows)) sc a → turn_all Data Writes (known_of objects) a ≡ Turned.next b → SoundOver (Below (length rows)) sc b
-  all_fine a b h e = go (fill (λ d. value_seen Data (known_of objects d)) a) refl e
+  all_fine : (a b : Val (List ℕ)) → SoundOver (Below (length rows)) sc a → turn_all data_of Writes (known_of objects) a ≡ Turned.next b → SoundOver (Below (length rows)) sc b
+  all_fine a b h e = go (fill (λ d. value_seen data_of (known_of objects d)) a) refl e
     where
-      go : (r : Result (Val (List ℕ)) Fault) → fill (λ d. value_seen Data (known_of objects d)) a ≡ r → next_of r ≡ Turned.next b → SoundOver (Below (length rows)) sc b
+      go : (r : Result (Val (List ℕ)) Fault) → fill (λ d. value_seen data_of (known_of objects d)) a ≡ r → next_of r ≡ Turned.next b → SoundOver (Below (length rows)) sc b
       go (Err f) q e = absurd cc
       go (Ok u) q e = within (nat_lt 100 (depth u)) refl (nat_lt 262144 (size u)) refl e
         where
@@ -178,15 +180,15 @@ module _ (sc : Script) (rows : List Row) (objects : List (Option Obj)) (fits : F
           within false p false r e =
               let d : depth u ≤ 100 = ltb-false 100 (depth u) p in
               let s : size u ≤ 262144 = ltb-false 262144 (size u) r in
-              subst (SoundOver (Below (length rows)) sc) (next_is u b e) (record { deep = d; large = s }, fill_over (Below (length rows)) sc (λ d. value_seen Data (known_of objects d)) seen_fine a u h.1 q)
+              subst (SoundOver (Below (length rows)) sc) (next_is u b e) (record { deep = d; large = s }, fill_over (Below (length rows)) sc (λ d. value_seen data_of (known_of objects d)) seen_fine a u h.1 q)
 
-  lone_fine : (x : Option Obj) (a b : Val (List ℕ)) → SoundOver (Below (length rows)) sc a → lone x (turn_all Data Writes (known_of objects) a) ≡ Turned.next b → SoundOver (Below (length rows)) sc b
+  lone_fine : (x : Option Obj) (a b : Val (List ℕ)) → SoundOver (Below (length rows)) sc a → lone x (turn_all data_of Writes (known_of objects) a) ≡ Turned.next b → SoundOver (Below (length rows)) sc b
   lone_fine None a b h e = all_fine a b h e
   lone_fine (Some (Object.bytes c)) a b h e = absurd cc
   lone_fine (Some (Object.data_of v)) a b h e = all_fine a b h e
   lone_fine (Some (Object.fault f)) a b h e = all_fine a b h e
 
-  refs_fine : (ds : List Row) (a b : Val (List ℕ)) → SoundOver (Below (length rows)) sc a → turn_refs Data Writes (known_of objects) ds a ≡ Turned.next b → SoundOver (Below (length rows)) sc b
+  refs_fine : (ds : List Row) (a b : Val (List ℕ)) → SoundOver (Below (length rows)) sc a → turn_refs data_of Writes (known_of objects) ds a ≡ Turned.next b → SoundOver (Below (length rows)) sc b
   refs_fine [] a b h e = absurd cc
   refs_fine (d ∷ ds) (ref c) b h e = lone_fine (known_of objects c) (ref c) b h e
   refs_fine (d ∷ ds) null b h e = all_fine null b h e
@@ -198,7 +200,7 @@ module _ (sc : Script) (rows : List Row) (objects : List (Option Obj)) (fits : F
   refs_fine (d ∷ ds) (fun f c) b h e = all_fine (fun f c) b h e
 
   -- the value at the next wave keeps the limits and refers to what is held
-  pub next_fine : (a b : Val (List ℕ)) → SoundOver (Below (length rows)) sc a → turn_at Data Writes (known_of objects) a ≡ Turned.next b → SoundOver (Below (length rows)) sc b
+  pub next_fine : (a b : Val (List ℕ)) → SoundOver (Below (length rows)) sc a → turn_at data_of Writes (known_of objects) a ≡ Turned.next b → SoundOver (Below (length rows)) sc b
   next_fine a b h e = refs_fine (refs a) a b h e
 
 -- it does so where more is held
@@ -242,20 +244,20 @@ module _ (job : Job) (gives : Gives) where
     stage_suc : Stage job (json_around gives) rows j (suc (100 - j)) a
     stage_suc = subst (λ k. Stage job (json_around gives) rows j k a) (left_is j le) st
 
-    pub wave_next : (b : Val (List ℕ)) → turn_at Data Writes (known_of objects) a ≡ Turned.next b → Stage job (json_around gives) rows (j + 1) (101 - (j + 1)) b
+    pub wave_next : (b : Val (List ℕ)) → turn_at data_of Writes (known_of objects) a ≡ Turned.next b → Stage job (json_around gives) rows (j + 1) (101 - (j + 1)) b
     wave_next b e =
         let more : suc j ≡ j + 1 = omega arith in
         let fewer : 100 - j ≡ 101 - (j + 1) = omega (arith, le) in
-        subst (λ i. Stage job (json_around gives) rows i (101 - (j + 1)) b) more (subst (λ k. Stage job (json_around gives) rows (suc j) k b) fewer (stage_next job (json_around gives) Data Writes (λ tag b. reads_named tag b) (λ tag a. text_named tag a) rows j (100 - j) a b objects stage_suc standing.knows all e))
+        subst (λ i. Stage job (json_around gives) rows i (101 - (j + 1)) b) more (subst (λ k. Stage job (json_around gives) rows (suc j) k b) fewer (stage_next job (json_around gives) data_of Writes (λ tag b. reads_named tag b) (λ tag a. text_named tag a) rows j (100 - j) a b objects stage_suc standing.knows all e))
 
-    pub wave_ends : (x : Answered) → Apart rows → length rows ≤ most_rows → x ≢ Answered.not_yet → turn_at Data Writes (known_of objects) a ≡ Turned.ends x → Means job (json_around gives) x
+    pub wave_ends : (x : Answered) → Apart rows → length rows ≤ most_rows → x ≢ Answered.not_yet → turn_at data_of Writes (known_of objects) a ≡ Turned.ends x → Means job (json_around gives) x
     wave_ends x apart room ne e =
-        stage_end job (json_around gives) Data Writes (λ tag b. reads_named tag b) (λ tag a. text_named tag a) rows j (100 - j) a x objects (itself job (json_around gives) rows apart room) ne stage_suc standing.knows all e
+        stage_end job (json_around gives) data_of Writes (λ tag b. reads_named tag b) (λ tag a. text_named tag a) rows j (100 - j) a x objects (itself job (json_around gives) rows apart room) ne stage_suc standing.knows all e
 
   pub wave_last : (rows : List Row) (j : ℕ) (a : Val (List ℕ)) (x : Answered) → 100 < j → j ≤ 101 → Stage job (json_around gives) rows j (101 - j) a → Apart rows → length rows ≤ most_rows → x ≢ Answered.not_yet → last_at (refs a) (Writes a) ≡ x → Means job (json_around gives) x
   wave_last rows j a x h l st apart room ne e =
       let none : 101 - j ≡ 0 = omega (arith, h, l) in
-      stage_last job (json_around gives) Data Writes (λ tag b. reads_named tag b) (λ tag a. text_named tag a) rows j a x (itself job (json_around gives) rows apart room) ne (subst (λ k. Stage job (json_around gives) rows j k a) none st) e
+      stage_last job (json_around gives) data_of Writes (λ tag b. reads_named tag b) (λ tag a. text_named tag a) rows j a x (itself job (json_around gives) rows apart room) ne (subst (λ k. Stage job (json_around gives) rows j k a) none st) e
 
 pub bytes_some : (b : List ℕ) → Answered.bytes b ≢ Answered.not_yet
 bytes_some b e = absurd cc

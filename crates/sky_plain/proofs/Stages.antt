@@ -13,14 +13,14 @@ use Rattle.sky_law.specs.Tasks.{In}
 use Rattle.sky_law.proofs.RefsLow.{refs_low}
 use Rattle.sky_law.proofs.SeenLaw.{on, on_either, kept_on, kept_is, see_kept, turn_kept}
 use Rattle.sky_law.proofs.TaskOutputs.{in_distinct_refs}
-use Rattle.sky_plain.specs.Walk.{Row, known_of, number_of}
-use Rattle.sky_plain.specs.Number.{tag_of, Grown}
+use Rattle.sky_rows.specs.Walk.{Row, known_of, number_of}
+use Rattle.sky_rows.specs.Number.{tag_of, Grown}
 use Rattle.sky_plain.specs.Needs.{Waits}
 use Rattle.sky_plain.specs.Stand.{spell, Sees, KnownAt, Knows, Opened, Opens}
-use Rattle.sky_plain.specs.Wave as wave
-use Rattle.sky_plain.specs.Wave.{Turned, turn_at}
+use Rattle.sky_waves.specs.Wave as wave
+use Rattle.sky_waves.specs.Wave.{Turned, turn_at}
 use Rattle.sky_plain.specs.Stage.{Reached, Stage, AllKnown}
-use Rattle.sky_plain.proofs.Numbers.{index_at, got_more}
+use Rattle.sky_rows.proofs.Numbers.{index_at, got_more}
 use Rattle.sky_plain.proofs.Knows.{grown_back}
 use Rattle.sky_plain.proofs.Chains.{held_ref}
 use Rattle.sky_plain.proofs.Waves.{Settled, low_turn, turn_low}

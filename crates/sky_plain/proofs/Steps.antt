@@ -9,15 +9,16 @@ use Rattle.sky_base.specs.Res.{Object}
 use Rattle.sky_law.specs.Lower.{lower, low_ref}
 use Rattle.sky_base.specs.See.{Val, Desc, Job, Around, main_call, input_bytes}
 use Rattle.sky_law.specs.Tasks.{In, Apart}
-use Rattle.sky_plain.specs.Walk.{Row, known_of, number_of, object_at, learn_to, most_rows}
-use Rattle.sky_plain.specs.Number.{tag_of}
+use Rattle.sky_rows.specs.Walk.{Row, known_of, number_of, object_at, learn_to, most_rows}
+use Rattle.sky_rows.specs.Number.{tag_of}
 use Rattle.sky_plain.specs.Needs.{Makes, MakesMany, Chain}
-use Rattle.sky_plain.specs.Stand.{spell, Runs, EndsAs, WaitsFor, IsFull, Puts, ReadFits, RowFits, ObjectFits, Fits, Knows, Opened, Opens, Made, Standing}
+use Rattle.sky_plain.specs.Stand.{spell, Puts, ReadFits, RowFits, ObjectFits, Fits, Knows, Opened, Opens, Made, Standing}
+use Rattle.sky_body.specs.Stops.{Runs, EndsAs, WaitsFor, IsFull}
 use Rattle.sky_plain.specs.Stage.{AllKnown}
 use Rattle.sky_plain.specs.Perform.{bytes_seen, collect, slots, output_at, run_output, performed_on, performed}
 use Rattle.sky_base.specs.declared.fault.FaultKind.{FaultKind}
 use Rattle.sky_base.specs.declared.fault.Fault.{Fault}
-use Rattle.sky_plain.proofs.Numbers.{got_in, got_more}
+use Rattle.sky_rows.proofs.Numbers.{got_in, got_more}
 use Rattle.sky_plain.proofs.Knows.{learns_call, grown_back}
 use Rattle.sky_plain.proofs.Holds.{fits_waiting, fits_learning}
 use Rattle.sky_plain.proofs.Chains.{chain_of, opens_more, made_more, made_last}

@@ -14,10 +14,10 @@ use Rattle.sky_law.specs.Tasks.{In}
 use Rattle.sky_law.proofs.Low.{size_low, depth_low}
 use Rattle.sky_law.proofs.RefsLow.{refs_low}
 use Rattle.sky_base.specs.declared.fault.Fault.{Fault}
-use Rattle.sky_plain.specs.Walk.{Row}
+use Rattle.sky_rows.specs.Walk.{Row}
 use Rattle.sky_plain.specs.Stand.{spell, Sees}
-use Rattle.sky_plain.specs.Wave as wave
-use Rattle.sky_plain.specs.Wave.{value_of, value_seen, data_or_text, on_list, on_dict, on_fun, on_val, on_pair, fill, fill_vals, fill_pairs, Turned, next_of, turn_all, turn_refs, turn_at}
+use Rattle.sky_waves.specs.Wave as wave
+use Rattle.sky_waves.specs.Wave.{value_of, value_seen, data_or_text, on_list, on_dict, on_fun, on_val, on_pair, fill, fill_vals, fill_pairs, Turned, next_of, turn_all, turn_refs, turn_at}
 
 -- ---- what is gathered in order, against what is filled in
 

@@ -6,7 +6,7 @@ use Rattle.sky_base.specs.KitView.{Gives}
 use Rattle.sky_base.specs.See.{slot, replaced, no_place, written}
 use Rattle.sky_base.specs.declared.fault.FaultKind.{FaultKind}
 use Rattle.sky_base.specs.declared.fault.Fault.{Fault}
-use Rattle.sky_plain.specs.Walk.{Row}
+use Rattle.sky_rows.specs.Walk.{Row}
 
 -- an object as an executor's input
 abbrev pub bytes_of : (Val (List ℕ) → Option (List ℕ)) → Object (List ℕ) → Result (List ℕ) Fault

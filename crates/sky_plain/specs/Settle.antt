@@ -5,9 +5,10 @@ use Rattle.sky_base.specs.See.{Desc, Job, Around}
 use Rattle.sky_law.specs.Tasks.{In}
 use Rattle.sky_base.specs.Kept.{Kept}
 use Rattle.sky_base.specs.Val.{list, dict, call}
-use Rattle.sky_plain.specs.Plain.{Obj, Pairs, Vals}
-use Rattle.sky_plain.specs.Walk.{Row, object_at, is_known}
-use Rattle.sky_plain.specs.Known.{with_object}
+use Rattle.sky_forms.specs.Plain.{Pairs, Vals}
+use Rattle.sky_rows.specs.Walk.{Obj}
+use Rattle.sky_rows.specs.Walk.{Row, object_at, is_known}
+use Rattle.sky_rows.specs.Known.{with_object}
 use Rattle.sky_plain.specs.Needs.{Chain, MakesMany}
 use Rattle.sky_plain.specs.Stand.{Opens, Standing}
 use Rattle.sky_plain.specs.declared.settle.Step.{Step}

@@ -8,8 +8,8 @@ use Rattle.sky_base.specs.Res.{Object}
 use Rattle.sky_law.specs.Tasks.{In}
 use Rattle.sky_law.proofs.SeenLaw.{on}
 use Rattle.std.specs.Prelude.{Option}
-use Rattle.sky_plain.specs.Walk.{Row, known_of}
-use Rattle.sky_plain.specs.Number.{tag_of, Grown}
+use Rattle.sky_rows.specs.Walk.{Row, known_of}
+use Rattle.sky_rows.specs.Number.{tag_of, Grown}
 use Rattle.sky_plain.specs.Stand.{spell}
 
 module _ (job : Job) (around : Around) where

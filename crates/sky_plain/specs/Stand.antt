@@ -11,41 +11,14 @@ use Rattle.sky_law.specs.Sound.{DescOver, SoundOver}
 use Rattle.sky_law.specs.Tasks.{In}
 use Rattle.sky_base.specs.Name.{low_desc}
 use Rattle.sky_base.specs.Needed.{Task, task_of}
+use Rattle.sky_body.specs.Stops.{end_object}
 use Rattle.sky_plain.specs.Needs.{Waits, Makes}
-use Rattle.sky_plain.specs.Walk.{Row, Stop, walk, stops, known_of, object_at, number_of, Numbers}
-use Rattle.sky_plain.specs.Number.{tag_of, Grown}
+use Rattle.sky_rows.specs.Walk.{Row, Stop, walk, stops, known_of, object_at, number_of, Numbers}
+use Rattle.sky_rows.specs.Number.{tag_of, Grown}
 
 -- no name stands inside a described value, so nothing needs spelling
 abbrev pub spell : ⊥ → List ℕ
 spell b = absurd b
-
--- the object of a call, by how its body ends
-abbrev pub end_object : {N : Type 0} → End N → Object N
-end_object End.goes = Object.data_of null
-end_object (End.got v) = Object.data_of v
-end_object (End.returned v) = Object.data_of v
-end_object (End.failed f) = Object.fault f
-
--- a call's run from these descriptions on ends with those, and stops as S says
-abbrev pub Runs : Script → (List ℕ → Answer (List ℕ)) → List (Option (Object (List ℕ))) → List Row → List ℕ → Pairs (List ℕ) → Vals (List ℕ) → List Row → (Stop → Type 0) → Type 0
-Runs script reads objects rows f c vs after S =
-    (w : World (List ℕ)) → w.script ≡ script → w.reads ≡ reads → Numbers after w.make → (s : Stop) × (walk (known_of objects) rows (body_at w bodies f c vs nowhere start_st) ≡ stops after s) × S s
-
--- it ends, and this is its object
-abbrev pub EndsAs : Object (List ℕ) → Stop → Type 0
-EndsAs o (Stop.ended e st) = end_object e ≡ o
-EndsAs o (Stop.waits d) = ⊥
-EndsAs o (Stop.full d) = ⊥
-
--- it waits for the description of this name
-abbrev pub WaitsFor : List ℕ → Stop → Type 0
-WaitsFor n s = s ≡ Stop.waits (known n)
-
--- it makes one description too many
-abbrev pub IsFull : Stop → Type 0
-IsFull (Stop.ended e st) = ⊥
-IsFull (Stop.waits d) = ⊥
-IsFull (Stop.full d) = Unit {0}
 
 -- one more object is known
 pub record Puts (objects : List (Option (Object (List ℕ)))) (k : ℕ) (o : Object (List ℕ)) (after : List (Option (Object (List ℕ)))) : Type 0 where

@@ -6,21 +6,21 @@ ghost use Rattle.sky_base.specs.Val.{refs};
 ghost use Rattle.sky_base.specs.View.{view};
 ghost use Rattle.ciel_json.specs.Around.{json_around};
 ghost use Rattle.sky_plain.specs.Stand.{Standing};
-ghost use Rattle.sky_plain.specs.Ran.{Begins};
+ghost use Rattle.sky_body.specs.Ran.{Begins};
 ghost use Rattle.sky_plain.specs.Faulty.{NoExecutors};
 ghost use Rattle.sky_plain.specs.Whole.{OpensAll, GatheredSo, AnswersSo};
 
-use crate::objects::{Objects, number_of, slot};
-use crate::program::Program;
-use crate::rows::Rows;
 use crate::settle::{Settled, settle, unknown};
-use crate::wave::{Turned, last_turn, turn};
 use sky_base::fault::Fault;
 use sky_base::job::Job;
 use sky_base::kit::Kit;
 use sky_base::object::Desc1;
 use sky_base::text::{Bytes, Memory, Txt};
 use sky_base::value::{Pairs, Vals, Value};
+use sky_forms::program::Program;
+use sky_rows::objects::{Objects, number_of, slot};
+use sky_rows::rows::Rows;
+use sky_waves::wave::{Turned, last_turn, turn};
 use std::alloc::Global;
 
 /// How a sequential run of a job ends.

@@ -7,7 +7,7 @@ ghost use Rattle.sky_base.specs.JobView.{job_view};
 ghost use Rattle.sky_base.specs.See.{input_bytes};
 ghost use Rattle.ciel_json.specs.Around.{json_around};
 ghost use Rattle.sky_plain.specs.Stand.{Opens, Standing};
-ghost use Rattle.sky_plain.specs.Ran.{Begins};
+ghost use Rattle.sky_body.specs.Ran.{Begins};
 ghost use Rattle.sky_plain.specs.Settle.{CallsKept, Stepped, SettledSo};
 ghost use Rattle.sky_base.specs.Kept.{Kept};
 ghost use Rattle.sky_base.specs.Val.{list, dict, call, out, input, known, refs, vals_refs, pairs_refs};
@@ -15,18 +15,12 @@ ghost use Rattle.sky_base.specs.View.{view, vals_of, pairs_of};
 ghost use Rattle.sky_base.specs.ObjectView.{object_view};
 ghost use Rattle.sky_law.specs.Tasks.{In};
 ghost use Rattle.ciel_json.specs.Text.{text_of as writes};
-ghost use Rattle.sky_plain.specs.Walk.{known_of};
+ghost use Rattle.sky_rows.specs.Walk.{known_of};
 ghost use Rattle.sky_plain.specs.Stage.{AllKnown};
 ghost use Rattle.sky_plain.specs.Perform.{bytes_of, bytes_seen, collect};
 ghost use Rattle.sky_plain.specs.Faulty.{FaultIs, FaultsAre, NoExecutors, OutFault};
 
-use crate::json::Json;
-use crate::objects::{Objects, number_of};
-use crate::program::Program;
-use crate::rows::Rows;
-use crate::run::{Ran, run_call};
 use crate::stack::Stack;
-use crate::wave::no_place;
 use sky_base::compare::is_plain;
 use sky_base::fault::{Fault, FaultKind};
 use sky_base::job::{Inputs, Job};
@@ -35,6 +29,11 @@ use sky_base::name::Name;
 use sky_base::object::{Desc1, Object};
 use sky_base::text::{Bytes, Memory, Txt};
 use sky_base::value::{Pair, Pairs, Vals, Value};
+use sky_body::run::{Ran, run_call};
+use sky_forms::program::Program;
+use sky_rows::objects::{Objects, number_of};
+use sky_rows::rows::Rows;
+use sky_waves::wave::no_place;
 use std::alloc::Global;
 
 /// What a step comes to.
@@ -68,7 +67,7 @@ fn called<K: Kit>(
     ensures grows { IfOk result (λ _. Begins rows.old rows.new) }
     ensures step { IfOk result (λ s. (ks : List _) → Standing (job_view job.now) (json_around (K.gives kit.now)) rows.old objects.old → Opens (job_view job.now) (json_around (K.gives kit.now)) rows.old (number ∷ ks) → Stepped (job_view job.now) (json_around (K.gives kit.now)) ks number rows.new objects.old objects.new s) }
 {
-    let ran = run_call(alloc, program, rows, objects, &Json, fun, caught, args)?;
+    let ran = run_call(alloc, program, rows, objects, fun, caught, args)?;
     let _held = rows.len();
     match ran {
         Ran::Object(object) => {

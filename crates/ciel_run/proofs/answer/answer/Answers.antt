@@ -3,7 +3,7 @@ use Rattle.std.proofs.Common.{◌≡◌, ◌∙◌, ℕ, List, [], subst}
 use Rattle.sky_base.specs.See.{Desc}
 use Rattle.sky_plain.specs.Needs.{Chain, MakesMany}
 use Rattle.sky_plain.specs.Settle.{most_open}
-use Rattle.sky_plain.specs.Walk.{most_rows}
+use Rattle.sky_rows.specs.Walk.{most_rows}
 use Rattle.ciel_run.specs.Source.{alone}
 use Rattle.ciel_run.proofs.answer.answer.Goals as goal
 

@@ -5,12 +5,12 @@ use Rattle.sky_law.specs.Tasks.{In}
 use Rattle.sky_base.specs.Val.{known, refs}
 use Rattle.sky_base.specs.View.{view}
 use Rattle.ciel_json.specs.Around.{json_around}
-use Rattle.sky_plain.specs.Walk.{known_of, number_of, object_at}
+use Rattle.sky_rows.specs.Walk.{known_of, number_of, object_at}
 use Rattle.sky_plain.specs.Settle.{count, SettledSo}
 use Rattle.sky_plain.specs.Stage.{AllKnown}
 use Rattle.sky_plain.specs.Stand.{Opens}
 use Rattle.sky_plain.proofs.Counts.{count_most}
-use Rattle.sky_plain.proofs.Knows.{most_is}
+use Rattle.sky_rows.proofs.Learn.{most_is}
 use Rattle.sky_plain.proofs.OpenWork.{begins_self, begins_over}
 use Rattle.sky_plain.proofs.Rounds.{count_less, opens_all_grow}
 use Rattle.sky_plain.proofs.plain.gather.Goals as goal

@@ -5,15 +5,16 @@ use Rattle.sky_law.specs.Sound.{SoundOver}
 use Rattle.sky_base.specs.Val.{call, known, no_pairs, no_vals, ref, refs}
 use Rattle.sky_base.specs.View.{view}
 use Rattle.ciel_json.specs.Around.{json_around}
-use Rattle.sky_plain.specs.Walk.{known_of}
-use Rattle.sky_plain.specs.Wave.{last_at, turn_at}
-use Rattle.sky_plain.specs.WaveView.{EndsSo, TurnsSo}
+use Rattle.sky_rows.specs.Data.{data_of}
+use Rattle.sky_rows.specs.Walk.{known_of}
+use Rattle.sky_waves.specs.Wave.{last_at, turn_at}
+use Rattle.sky_waves.specs.WaveView.{EndsSo, TurnsSo}
 use Rattle.sky_plain.specs.Stage.{Stage}
 use Rattle.sky_plain.specs.Stand.{Below}
 use Rattle.sky_plain.specs.Whole.{GatheredSo}
-use Rattle.sky_plain.proofs.Called.{Data, Writes}
-use Rattle.sky_plain.proofs.Knows.{most_is}
-use Rattle.sky_plain.proofs.Numbers.{got_below}
+use Rattle.sky_plain.proofs.Called.{Writes}
+use Rattle.sky_rows.proofs.Learn.{most_is}
+use Rattle.sky_rows.proofs.Numbers.{got_below}
 use Rattle.sky_plain.proofs.OpenWork.{most_open_is}
 use Rattle.sky_plain.proofs.Rounds.{bytes_some, fault_some, fine_more, next_fine, opens_all, start_fine, wave_ends, wave_last, wave_next}
 use Rattle.sky_plain.proofs.Stages.{stage_more, stage_start}
@@ -65,7 +66,7 @@ returns-in-Text g c =
     let le : c.loop-wave.wave ≤ 100 = c.loop-wave-test.true in
     let more = c.in_ok-gather.ensures.grows in
     let stage = stage_more job around c.loop-wave.rows more.0 c.gather.new.rows c.loop-wave.wave (101 - c.loop-wave.wave) (view c.loop-wave.value) more.1 c.loop-wave.invariant.stage in
-    let turned = subst (λ t. TurnsSo t (turn_at Data Writes (known_of c.gather.new.objects) (view c.loop-wave.value))) c.in-Text.is c.in_ok-bytes.ensures in
+    let turned = subst (λ t. TurnsSo t (turn_at data_of Writes (known_of c.gather.new.objects) (view c.loop-wave.value))) c.in-Text.is c.in_ok-bytes.ensures in
     record {
       answer = wave_ends (job_view c.args.job.now) (g.K.Kit.gives c.args.kit.now) c.gather.new.rows c.gather.new.objects c.loop-wave.wave le (view c.loop-wave.value) stage gathered.0 gathered.1 (Answered.bytes c.in-Text.bytes) c.len-held.ensures.apart c.len-held.ensures.room (bytes_some c.in-Text.bytes) turned;
     }
@@ -78,7 +79,7 @@ returns-in-Fault g c =
     let le : c.loop-wave.wave ≤ 100 = c.loop-wave-test.true in
     let more = c.in_ok-gather.ensures.grows in
     let stage = stage_more job around c.loop-wave.rows more.0 c.gather.new.rows c.loop-wave.wave (101 - c.loop-wave.wave) (view c.loop-wave.value) more.1 c.loop-wave.invariant.stage in
-    let turned = subst (λ t. TurnsSo t (turn_at Data Writes (known_of c.gather.new.objects) (view c.loop-wave.value))) c.in-Fault.is c.in_ok-bytes.ensures in
+    let turned = subst (λ t. TurnsSo t (turn_at data_of Writes (known_of c.gather.new.objects) (view c.loop-wave.value))) c.in-Fault.is c.in_ok-bytes.ensures in
     record {
       answer = wave_ends (job_view c.args.job.now) (g.K.Kit.gives c.args.kit.now) c.gather.new.rows c.gather.new.objects c.loop-wave.wave le (view c.loop-wave.value) stage gathered.0 gathered.1 (Answered.fault c.in-Fault.fault) c.len-held.ensures.apart c.len-held.ensures.room (fault_some c.in-Fault.fault) turned;
     }
@@ -91,7 +92,7 @@ loop-wave-preserved g c =
     let le : c.loop-wave.wave ≤ 100 = c.loop-wave-test.true in
     let more = c.in_ok-gather.ensures.grows in
     let stage = stage_more job around c.loop-wave.rows more.0 c.gather.new.rows c.loop-wave.wave (101 - c.loop-wave.wave) (view c.loop-wave.value) more.1 c.loop-wave.invariant.stage in
-    let turned = subst (λ t. TurnsSo t (turn_at Data Writes (known_of c.gather.new.objects) (view c.loop-wave.value))) c.in-Next.is c.in_ok-bytes.ensures in
+    let turned = subst (λ t. TurnsSo t (turn_at data_of Writes (known_of c.gather.new.objects) (view c.loop-wave.value))) c.in-Next.is c.in_ok-bytes.ensures in
     record {
       standing = gathered.0;
       small = gathered.2;

@@ -2,7 +2,7 @@ use Rattle.std.proofs.Common.{◌≡◌, List, ℕ, None, drop, subst}
 use Rattle.sky_base.specs.Val.{refs, vals_refs, pairs_refs}
 use Rattle.sky_base.specs.View.{view, vals_of, pairs_of}
 use Rattle.ciel_json.specs.Text.{text_of as writes}
-use Rattle.sky_plain.specs.Walk.{known_of}
+use Rattle.sky_rows.specs.Walk.{known_of}
 use Rattle.sky_plain.specs.Perform.{bytes_seen, collect}
 use Rattle.sky_plain.specs.Faulty.{FaultsAre}
 use Rattle.sky_plain.proofs.Lacks.{Grabs, front-step, front-fault, pairs-step, pairs-fault}

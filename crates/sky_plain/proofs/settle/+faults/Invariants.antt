@@ -2,7 +2,7 @@ use Rattle.sky_base.specs.Val.{vals_refs, pairs_refs, val_nodes, vals_nodes, pai
 use Rattle.sky_base.specs.View.{view, vals_of, pairs_of}
 use Rattle.std.proofs.Common.{drop}
 use Rattle.ciel_json.specs.Text.{text_of as writes}
-use Rattle.sky_plain.specs.Walk.{known_of}
+use Rattle.sky_rows.specs.Walk.{known_of}
 use Rattle.sky_plain.specs.Perform.{bytes_seen, collect}
 use Rattle.sky_plain.proofs.Lacks.{Front}
 use Rattle.sky_plain.proofs.settle.+faults.Given as goal

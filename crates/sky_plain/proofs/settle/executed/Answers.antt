@@ -6,10 +6,10 @@ use Rattle.sky_base.specs.Res.{Object}
 use Rattle.sky_base.specs.JobView.{job_view}
 use Rattle.sky_law.specs.Tasks.{In}
 use Rattle.ciel_json.specs.Around.{json_around}
-use Rattle.sky_plain.specs.Walk.{known_of, number_of, object_at}
+use Rattle.sky_rows.specs.Walk.{known_of, number_of, object_at}
 use Rattle.sky_plain.specs.Stage.{AllKnown}
 use Rattle.sky_plain.specs.Stand.{Opens, Standing}
-use Rattle.sky_plain.proofs.Knows.{most_is}
+use Rattle.sky_rows.proofs.Learn.{most_is}
 use Rattle.sky_plain.proofs.Called.{executed_waits, executed_known}
 use Rattle.sky_plain.proofs.settle.executed.Goals as goal
 

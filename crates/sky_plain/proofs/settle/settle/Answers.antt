@@ -2,11 +2,11 @@ use Rattle.std.proofs.Common.{◌≡◌, ◌≤◌, ◌<◌, List, ℕ, zero, su
 use Rattle.sky_base.specs.JobView.{job_view}
 use Rattle.sky_base.specs.See.{Job, Around}
 use Rattle.ciel_json.specs.Around.{json_around}
-use Rattle.sky_plain.specs.Walk.{is_known, object_at}
-use Rattle.sky_plain.specs.Known.{with_object}
+use Rattle.sky_rows.specs.Walk.{is_known, object_at}
+use Rattle.sky_rows.specs.Known.{with_object}
 use Rattle.sky_plain.specs.Stand.{Standing}
 use Rattle.sky_plain.specs.Settle.{rank, Stepped, Open, Stays}
-use Rattle.sky_plain.proofs.Knows.{most_is}
+use Rattle.sky_rows.proofs.Learn.{most_is}
 use Rattle.sky_plain.proofs.Counts.{length_with}
 use Rattle.sky_plain.proofs.OpenWork.{calls_kept, begins_self, begins_over, stays_self, stays_over, stays_with, pop_falls, known_falls, push_falls, open_popped, open_known, open_more, open_held, open_deep, most_open_is}
 use Rattle.sky_plain.proofs.settle.settle.Goals as goal

@@ -1,0 +1,5 @@
+pub mod Weights
+pub mod RunRules
+pub mod Flow
+pub mod RunEnds
+pub mod PlainLaw

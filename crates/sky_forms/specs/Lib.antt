@@ -1,0 +1,5 @@
+pub mod Plain
+pub mod RunView
+pub mod StateCode
+pub mod GroundView
+pub mod FunPlace

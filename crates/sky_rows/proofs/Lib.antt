@@ -1,0 +1,6 @@
+pub mod Learn
+pub mod Numbers
+pub mod Uneven
+pub mod Found
+pub mod Places
+pub mod KnownAt

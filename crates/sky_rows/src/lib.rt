@@ -1,0 +1,9 @@
+// Descriptions under numbers, each held once, the objects that are known of them, and bytes as data: what
+// a sequential run of a job holds.
+#![tactic(auto)]
+
+pub mod data;
+pub mod objects;
+pub mod rows;
+mod same;
+pub mod sum;

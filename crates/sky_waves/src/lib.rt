@@ -1,0 +1,4 @@
+// A wave of the result: the value with each reference replaced by what it refers to.
+#![tactic(auto)]
+
+pub mod wave;
