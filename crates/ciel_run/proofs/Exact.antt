@@ -17,10 +17,11 @@ use Rattle.sky_parse.specs.Tops.{Top, Spells, script_of}
 use Rattle.sky_parse.proofs.Exact.{spelled_or_refused}
 use Rattle.sky_parse.proofs.UniqueScripts.{one_script}
 use Rattle.sky_plain.specs.Needs.{Chain, MakesMany}
-use Rattle.ciel_run.specs.Source.{IsLater, HasTokens, IsScript, first_later, job_of, alone}
+use Rattle.sky_law.proofs.SeenLaw.{means_one}
+use Rattle.ciel_run.specs.Source.{IsAnswer, IsLater, HasTokens, IsScript, first_later, job_of, alone}
 use Rattle.ciel_run.specs.Syntax.{IsSyntaxFault, end_of}
 use Rattle.ciel_run.specs.Ending.{limit, IsExpected}
-use Rattle.ciel_run.specs.Laws.{EndsSo, NoScriptIsRefused, LaterWordIsRefused, EndsScript, ScriptIsRun, TooLongIsRefused}
+use Rattle.ciel_run.specs.Laws.{EndsSo, NoScriptIsRefused, LaterWordIsRefused, EndsScript, ScriptIsRun, TooLongIsRefused, MeansOneAnswer}
 use Rattle.ciel_run.specs.declared.top.SyntaxKind.{SyntaxKind}
 use Rattle.ciel_run.specs.declared.top.Why.{Why}
 
@@ -202,3 +203,7 @@ too_long source h Why.WriteFault y = absurd y
 
 pub too_long_is_refused : TooLongIsRefused
 too_long_is_refused = λ source h why y. too_long source h why y
+
+pub means_one_answer : MeansOneAnswer
+means_one_answer source a b x y =
+    means_one (job_of x.0) alone a b x.2 (subst (λ (s : Script). Means (job_of s) alone b) (same_script source y.0 x.0 y.1 x.1) y.2)

@@ -4,7 +4,7 @@ use Rattle.std.specs.Prelude.{◌≡◌, ◌⊎◌, ◌<◌, ◌≤◌, ℕ, Lis
 use Rattle.sky_base.specs.See.{Desc, Answered, Means}
 use Rattle.sky_base.specs.Tree.{Script}
 use Rattle.sky_plain.specs.Needs.{Chain, MakesMany}
-use Rattle.ciel_run.specs.Source.{IsLater, IsScript, job_of, alone}
+use Rattle.ciel_run.specs.Source.{IsAnswer, IsLater, IsScript, job_of, alone}
 use Rattle.ciel_run.specs.Syntax.{IsSyntaxFault}
 use Rattle.ciel_run.specs.Ending.{limit, IsExpected}
 use Rattle.ciel_run.specs.declared.top.SyntaxKind.{SyntaxKind}
@@ -45,3 +45,7 @@ ScriptIsRun = (source : List ℕ) (script : Script) → IsScript source script �
 -- Bytes that are too many are refused as such, whatever they are.
 abbrev pub TooLongIsRefused : Type 0
 TooLongIsRefused = (source : List ℕ) → limit < length source → (why : Why) → IsExpected source why → (why ≡ Why.Memory) ⊎ ((path : List ℕ) × (at : ℕ) × (why ≡ Why.TooLongInput path at))
+
+-- The bytes of a script mean at most one answer.
+abbrev pub MeansOneAnswer : Type 0
+MeansOneAnswer = (source : List ℕ) (a b : Answered) → IsAnswer source a → IsAnswer source b → a ≡ b

@@ -3,7 +3,7 @@
 // comes to: so bytes that are refused are refused in exactly one way, at exactly one place, but for
 // want of memory. Each is the contract of a function that does nothing.
 
-ghost use Rattle.ciel_run.specs.Laws.{LaterWordIsRefused, NoScriptIsRefused, ScriptIsRun, TooLongIsRefused};
+ghost use Rattle.ciel_run.specs.Laws.{LaterWordIsRefused, MeansOneAnswer, NoScriptIsRefused, ScriptIsRun, TooLongIsRefused};
 
 /// Bytes that are no script are refused by the kind and at the place of their first refusal, and for
 /// nothing else: the kind and the place are one.
@@ -25,4 +25,9 @@ pub fn script_is_run()
 /// Bytes that are too many are refused as such.
 pub fn too_long_is_refused()
     ensures { TooLongIsRefused }
+{}
+
+/// Bytes mean at most one answer: so what is written, or told as a fault, is the one that they mean.
+pub fn source_means_one_answer()
+    ensures { MeansOneAnswer }
 {}
