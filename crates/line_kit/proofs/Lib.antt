@@ -9,4 +9,5 @@ pub mod Seen
 pub mod SumsLaw
 pub mod HalfLaw
 pub mod PartsLaw
+pub mod FindLaw
 pub mod Sorting

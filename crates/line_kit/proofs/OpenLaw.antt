@@ -3,7 +3,7 @@ use Rattle.std.proofs.Common.{◌≡◌, ℕ, suc, ◌+◌, ◌-◌, Bool, true,
 use Rattle.std.specs.Prelude.{◌==◌, not, count_by, slice_get}
 use Rattle.std.proofs.lemmas.Bool.{eqb-true}
 use Rattle.std.proofs.lemmas.List.Sums.{sum_by-cons}
-use Rattle.line_kit.specs.Lines.{lines, with_byte, joined, is_open}
+use Rattle.line_kit.specs.Lines.{is_feed, lines, with_byte, joined, is_open}
 
 -- where there are bytes there is a line
 some_line : (x : ℕ) (b : Bool) (ms : List (List ℕ)) → (l : List ℕ) × (ls : List (List ℕ)) × (cond b ([] ∷ ms) (with_byte x ms) ≡ l ∷ ls)
@@ -47,9 +47,6 @@ length-one x false = refl
 length-more : (x y : ℕ) (ys : List ℕ) (b : Bool) → length (cond b ([] ∷ lines (y ∷ ys)) (with_byte x (lines (y ∷ ys)))) ≡ cond b 1 0 + length (lines (y ∷ ys))
 length-more x y ys true = omega arith
 length-more x y ys false = let s = lines_some y ys in length-with_byte x (lines (y ∷ ys)) s.0 s.1 s.2 ∙ omega arith
-
-abbrev is_feed : ℕ → Bool
-is_feed b = b == 10
 
 count_by-cons : (x : ℕ) (xs : List ℕ) → count_by is_feed (x ∷ xs) ≡ cond (is_feed x) 1 0 + count_by is_feed xs
 count_by-cons x xs = sum_by-cons (λ y. cond (is_feed y) 1 0) x xs

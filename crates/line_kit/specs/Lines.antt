@@ -25,6 +25,9 @@ ended line = line ++ 10 ∷ []
 abbrev pub joined : List (List ℕ) → List ℕ
 joined = flat_map ended
 
+abbrev pub is_feed : ℕ → Bool
+is_feed b = b == 10
+
 -- the last line has no line feed
 abbrev pub is_open : List ℕ → Bool
 is_open [] = false

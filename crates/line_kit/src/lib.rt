@@ -12,5 +12,6 @@ mod output;
 mod parts;
 mod picks;
 mod same;
+mod search;
 mod totals;
 mod words;

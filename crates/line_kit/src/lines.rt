@@ -18,9 +18,10 @@ pub(crate) fn place_of(byte: u8, bytes: &[u8]) -> usize
 }
 
 /// The first line, and what follows its line feed.
-fn first_line<'a>(bytes: &'a [u8]) -> (&'a [u8], &'a [u8])
+pub(crate) fn first_line<'a>(bytes: &'a [u8]) -> (&'a [u8], &'a [u8])
     requires { 0 < length bytes.now }
-    ensures { lines bytes.now ≡ result.0.now ∷ lines result.1.now }
+    ensures cut { lines bytes.now ≡ result.0.now ∷ lines result.1.now }
+    ensures shorter { length result.1.now < length bytes.now }
 {
     let end = place_of(b'\n', bytes);
     let (line, rest) = bytes.split_at(end);

@@ -1,14 +1,13 @@
-// The executors that give lines as they are: all, those with a text, the first ones.
+// The executors that give the first lines or all of them.
 
-ghost use Rattle.std.specs.Prelude.{◌≡◌, IfOk, filter, take, drop};
+ghost use Rattle.std.specs.Prelude.{◌≡◌, IfOk, take, drop};
 ghost use Rattle.sky_base.specs.KitView.{RunsSo};
-ghost use Rattle.line_kit.specs.Lines.{lines, all_lines, joined, contains};
+ghost use Rattle.line_kit.specs.Lines.{lines, all_lines, joined};
 ghost use Rattle.line_kit.specs.Gives.{one};
 ghost use Rattle.line_kit.specs.Written.{extended, finished};
 
 use crate::lines::{Lines, is_open};
 use crate::output::{Answer, Output};
-use memchr::memmem::Finder;
 use sky_base::text::{Bytes, Memory};
 use std::alloc::Global;
 
@@ -32,28 +31,6 @@ pub(crate) fn cat(alloc: Global, inputs: &[Bytes]) -> Answer
     let mut out = Output::new(alloc);
     for input in inputs {
         put_lines(&mut out, input.as_slice())?;
-    }
-    out.alone(alloc)
-}
-
-fn has_text(finder: &Finder, line: &[u8]) -> bool
-    ensures { result ≡ contains line.now finder.now }
-{
-    finder.find(line).is_some()
-}
-
-/// The lines that contain a text.
-#[tactic(auto, using(crate::proofs::WrittenLaw::pieces))]
-pub(crate) fn grep(alloc: Global, text: &[u8], inputs: &[Bytes]) -> Answer
-    ensures { IfOk result (λ r. RunsSo r (one (filter (λ line. contains line text.now) (all_lines inputs.now)))) }
-{
-    let finder = Finder::new(text);
-    let mut out = Output::new(alloc);
-    let mut lines = Lines::new(inputs);
-    while let Some(line) = lines.next_line() {
-        if has_text(&finder, line) {
-            out.put_line(line)?;
-        }
     }
     out.alone(alloc)
 }

@@ -9,8 +9,8 @@ nothing : (xs : List ℕ) → length xs ≡ 0 → xs ≡ []
 nothing [] e = refl
 nothing (x ∷ xs) e = absurd (omega (arith, e))
 
-pub returns-then-is_empty : goal.returns-then-is_empty
-returns-then-is_empty c =
+pub returns-then-is_empty-clause-cut : goal.returns-then-is_empty-clause-cut
+returns-then-is_empty-clause-cut c =
     let xs = c.args.bytes.now in
     let end = c.place_of-end.result in
     let none : c.split_at.result.1.now ≡ [] = nothing c.split_at.result.1.now (eqb-true _ 0 (sym c.is_empty.ensures ∙ c.if-is_empty.true)) in
@@ -19,8 +19,8 @@ returns-then-is_empty c =
     lines_whole xs c.requires (λ k l. c.place_of-end.ensures.clean k (omega arith))
     ∙ sym (ap₂ (λ a b. a ∷ lines b) all none)
 
-pub returns-else-is_empty : goal.returns-else-is_empty
-returns-else-is_empty c =
+pub returns-else-is_empty-clause-cut : goal.returns-else-is_empty-clause-cut
+returns-else-is_empty-clause-cut c =
     let xs = c.args.bytes.now in
     let end = c.place_of-end.result in
     let back = c.split_at.result.1.now in
