@@ -1,5 +1,2 @@
-pub mod Weights
-pub mod RunRules
-pub mod Flow
 pub mod RunEnds
 pub mod PlainLaw

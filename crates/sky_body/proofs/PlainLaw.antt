@@ -14,8 +14,8 @@ use Rattle.sky_base.specs.declared.fault.FaultKind.{FaultKind}
 use Rattle.sky_base.proofs.Exact.{exact_desc, exact_text, self_desc, self_text}
 use Rattle.sky_rows.specs.Walk.{Row, Seen, Stop, Walked, stops, in_room, if_new, learn_to, is_held, on_learned, on_seen, seen_one, look, walk, known_of, Numbers}
 use Rattle.sky_rows.specs.Number.{index_if, index_of}
-use Rattle.sky_forms.specs.Plain as plain
-use Rattle.sky_forms.specs.Plain.{Val, Vals, Pairs, Vars, Answer, Ground, Cutoff, Out, value_of, on_listed, items, learned, learn, learn_all}
+use Rattle.sky_scope.specs.Plain as plain
+use Rattle.sky_scope.specs.Plain.{Val, Vals, Pairs, Vars, Answer, Ground, Cutoff, Out, value_of, on_listed, items, learned, learn, learn_all}
 use Rattle.sky_rows.specs.Walk.{Obj}
 
 abbrev pub told_stop : Stop → List Row → Out

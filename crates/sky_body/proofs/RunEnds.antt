@@ -11,15 +11,15 @@ use Rattle.sky_law.specs.Tasks.{Apart}
 use Rattle.sky_base.specs.declared.fault.Fault.{Fault}
 use Rattle.sky_base.specs.View.{view}
 use Rattle.sky_base.specs.declared.value.Value.{Value}
-use Rattle.sky_forms.specs.declared.cut.Cut.{Cut}
-use Rattle.sky_forms.specs.declared.cut.Flow.{Flow}
-use Rattle.sky_forms.specs.RunView.{Flows, cut_of}
+use Rattle.sky_scope.specs.declared.cut.Cut.{Cut}
+use Rattle.sky_scope.specs.declared.cut.Flow.{Flow}
+use Rattle.sky_scope.specs.RunView.{Flows, cut_of}
 use Rattle.sky_rows.specs.Walk.{Row, Stop, Walked, stops, walk, known_of, Numbers}
 use Rattle.sky_rows.specs.Number.{tag_of}
 use Rattle.sky_body.specs.Stops.{Runs, EndsAs, WaitsFor, IsFull}
 use Rattle.sky_body.specs.Ran.{Begins}
-use Rattle.sky_forms.specs.Plain as plain
-use Rattle.sky_forms.specs.Plain.{Val, Vals, Pairs, Vars, Out, Cutoff, Ground}
+use Rattle.sky_scope.specs.Plain as plain
+use Rattle.sky_scope.specs.Plain.{Val, Vals, Pairs, Vars, Out, Cutoff, Ground}
 use Rattle.sky_body.proofs.PlainLaw.{plain_ends, walk_begins, held, Ends}
 use Rattle.sky_rows.proofs.Numbers.{numbers_hold}
 

@@ -11,12 +11,12 @@ use sky_base::name::Name;
 use sky_base::object::Object;
 use sky_base::text::{Memory, Txt};
 use sky_base::value::{Pairs, Vals, Value};
-use sky_forms::cut::{Cut, Flow};
 use sky_forms::ground::Ground;
-use sky_forms::program::Program;
-use sky_forms::state::State;
 use sky_rows::objects::Objects;
 use sky_rows::rows::Rows;
+use sky_scope::cut::{Cut, Flow};
+use sky_scope::program::Program;
+use sky_scope::state::State;
 use std::alloc::Global;
 
 /// How many bodies may be open at once.

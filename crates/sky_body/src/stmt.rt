@@ -9,26 +9,26 @@ ghost use Rattle.sky_base.specs.Tree.{Stm, nodes, stm_nodes, block_nodes, arms_n
 ghost use Rattle.sky_base.specs.TreeView.{at, at as place, exp_view};
 ghost use Rattle.sky_base.specs.View.{view};
 ghost use Rattle.sky_forms.specs.GroundView.{body_on, exp_on, stm_on, stms_on, arms_on, other_on};
-ghost use Rattle.sky_forms.specs.Plain.{turns, repeats, each_of};
-ghost use Rattle.sky_body.specs.Runs.{CanRun, RunsBody};
-ghost use Rattle.sky_forms.specs.RunView.{Flows, KeptVals, KeptPairs, KeptFlow};
+ghost use Rattle.sky_scope.specs.Plain.{turns, repeats, each_of};
+ghost use Rattle.sky_expr.specs.Runs.{CanRun, RunsBody};
+ghost use Rattle.sky_scope.specs.RunView.{Flows, KeptVals, KeptPairs, KeptFlow};
 
-use crate::expr::expr;
 use sky_base::fault::FaultKind;
 use sky_base::stmt::{Arm, Block, Stmt};
 use sky_base::text::Txt;
 use sky_base::tree::Expr;
 use sky_base::value::{Pairs, Vals, Value};
-use sky_forms::cut::{Cut, Flow, fault};
+use sky_expr::expr::expr;
 use sky_forms::forms::decide;
-use sky_forms::funs::code_of;
 use sky_forms::ground::Ground;
-use sky_forms::state::{MOST_VISITS, State};
 use sky_rows::rows::Rows;
+use sky_scope::cut::{Cut, Flow, fault};
+use sky_scope::funs::code_of;
+use sky_scope::state::{MOST_VISITS, State};
 
 /// Runs the body of the function of a name on what it captured and on its arguments, where so many bodies may still be opened, this one
 /// included.
-#[tactic(auto, using(crate::proofs::RunRules::body_rules))]
+#[tactic(auto, using(sky_expr::proofs::RunRules::body_rules))]
 pub fn body(
     ground: &Ground,
     rows: &mut Rows,
@@ -67,7 +67,7 @@ pub fn body(
 
 /// Runs the statements of a block.
 #[cycle(stms)]
-#[tactic(auto, using(crate::proofs::RunRules::stm_rules))]
+#[tactic(auto, using(sky_expr::proofs::RunRules::stm_rules))]
 fn block<F: Fn(&mut Rows, &mut State, &Txt, &Pairs, &Vals, u32, u32) -> Result<Flow, Cut>>(
     ground: &Ground,
     rows: &mut Rows,
@@ -91,7 +91,7 @@ fn block<F: Fn(&mut Rows, &mut State, &Txt, &Pairs, &Vals, u32, u32) -> Result<F
 
 /// Runs a statement.
 #[cycle(stms)]
-#[tactic(auto, using(crate::proofs::RunRules::stm_rules))]
+#[tactic(auto, using(sky_expr::proofs::RunRules::stm_rules))]
 fn stmt<F: Fn(&mut Rows, &mut State, &Txt, &Pairs, &Vals, u32, u32) -> Result<Flow, Cut>>(
     ground: &Ground,
     rows: &mut Rows,
@@ -183,7 +183,7 @@ fn stmt<F: Fn(&mut Rows, &mut State, &Txt, &Pairs, &Vals, u32, u32) -> Result<Fl
 }
 
 /// Runs `x = e;`.
-#[tactic(auto, using(crate::proofs::RunRules::stm_rules))]
+#[tactic(auto, using(sky_expr::proofs::RunRules::stm_rules))]
 fn set_of<F: Fn(&mut Rows, &mut State, &Txt, &Pairs, &Vals, u32, u32) -> Result<Flow, Cut>>(
     ground: &Ground,
     rows: &mut Rows,
@@ -207,7 +207,7 @@ fn set_of<F: Fn(&mut Rows, &mut State, &Txt, &Pairs, &Vals, u32, u32) -> Result<
 }
 
 /// Runs `x += e;`.
-#[tactic(auto, using(crate::proofs::RunRules::stm_rules))]
+#[tactic(auto, using(sky_expr::proofs::RunRules::stm_rules))]
 fn add_of<F: Fn(&mut Rows, &mut State, &Txt, &Pairs, &Vals, u32, u32) -> Result<Flow, Cut>>(
     ground: &Ground,
     rows: &mut Rows,
@@ -233,7 +233,7 @@ fn add_of<F: Fn(&mut Rows, &mut State, &Txt, &Pairs, &Vals, u32, u32) -> Result<
 }
 
 /// Runs `x[i] = e;`.
-#[tactic(auto, using(crate::proofs::RunRules::stm_rules))]
+#[tactic(auto, using(sky_expr::proofs::RunRules::stm_rules))]
 fn put_of<F: Fn(&mut Rows, &mut State, &Txt, &Pairs, &Vals, u32, u32) -> Result<Flow, Cut>>(
     ground: &Ground,
     rows: &mut Rows,
@@ -261,7 +261,7 @@ fn put_of<F: Fn(&mut Rows, &mut State, &Txt, &Pairs, &Vals, u32, u32) -> Result<
 }
 
 /// Runs a `return`.
-#[tactic(auto, using(crate::proofs::RunRules::stm_rules))]
+#[tactic(auto, using(sky_expr::proofs::RunRules::stm_rules))]
 fn return_of<F: Fn(&mut Rows, &mut State, &Txt, &Pairs, &Vals, u32, u32) -> Result<Flow, Cut>>(
     ground: &Ground,
     rows: &mut Rows,
@@ -288,7 +288,7 @@ fn return_of<F: Fn(&mut Rows, &mut State, &Txt, &Pairs, &Vals, u32, u32) -> Resu
 }
 
 /// Runs an expression as a statement.
-#[tactic(auto, using(crate::proofs::RunRules::stm_rules))]
+#[tactic(auto, using(sky_expr::proofs::RunRules::stm_rules))]
 fn just_of<F: Fn(&mut Rows, &mut State, &Txt, &Pairs, &Vals, u32, u32) -> Result<Flow, Cut>>(
     ground: &Ground,
     rows: &mut Rows,
@@ -311,7 +311,7 @@ fn just_of<F: Fn(&mut Rows, &mut State, &Txt, &Pairs, &Vals, u32, u32) -> Result
 
 /// Runs the block of the first arm whose test holds, else the last block.
 #[cycle(stms)]
-#[tactic(auto, using(crate::proofs::RunRules::stm_rules))]
+#[tactic(auto, using(sky_expr::proofs::RunRules::stm_rules))]
 fn arms<F: Fn(&mut Rows, &mut State, &Txt, &Pairs, &Vals, u32, u32) -> Result<Flow, Cut>>(
     ground: &Ground,
     rows: &mut Rows,
@@ -340,7 +340,7 @@ fn arms<F: Fn(&mut Rows, &mut State, &Txt, &Pairs, &Vals, u32, u32) -> Result<Fl
 
 /// Runs a `while`, visited before.
 #[cycle(stms)]
-#[tactic(auto, using(crate::proofs::RunRules::stm_rules))]
+#[tactic(auto, using(sky_expr::proofs::RunRules::stm_rules))]
 fn while_loop<F: Fn(&mut Rows, &mut State, &Txt, &Pairs, &Vals, u32, u32) -> Result<Flow, Cut>>(
     ground: &Ground,
     rows: &mut Rows,
@@ -371,7 +371,7 @@ fn while_loop<F: Fn(&mut Rows, &mut State, &Txt, &Pairs, &Vals, u32, u32) -> Res
 
 /// Runs a `do`, visited before.
 #[cycle(stms)]
-#[tactic(auto, using(crate::proofs::RunRules::stm_rules))]
+#[tactic(auto, using(sky_expr::proofs::RunRules::stm_rules))]
 fn do_loop<F: Fn(&mut Rows, &mut State, &Txt, &Pairs, &Vals, u32, u32) -> Result<Flow, Cut>>(
     ground: &Ground,
     rows: &mut Rows,
@@ -402,7 +402,7 @@ fn do_loop<F: Fn(&mut Rows, &mut State, &Txt, &Pairs, &Vals, u32, u32) -> Result
 
 /// Runs a `for` over the elements of a list, visited before.
 #[cycle(stms)]
-#[tactic(auto, using(crate::proofs::RunRules::stm_rules))]
+#[tactic(auto, using(sky_expr::proofs::RunRules::stm_rules))]
 fn for_loop<F: Fn(&mut Rows, &mut State, &Txt, &Pairs, &Vals, u32, u32) -> Result<Flow, Cut>>(
     ground: &Ground,
     rows: &mut Rows,

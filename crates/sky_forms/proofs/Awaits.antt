@@ -3,8 +3,8 @@ use Rattle.std.proofs.Common.{◌≡◌, List, Option, Some, None, refl}
 use Rattle.sky_base.specs.Res.{Object}
 use Rattle.sky_base.specs.declared.fault.Fault.{Fault}
 use Rattle.sky_rows.specs.Walk.{Row, Seen, seen_more}
-use Rattle.sky_forms.specs.RunView.{fault_first}
-use Rattle.sky_forms.specs.Plain.{Vars, Cutoff, Out, exec_end, exec_seen}
+use Rattle.sky_scope.specs.RunView.{fault_first}
+use Rattle.sky_scope.specs.Plain.{Vars, Cutoff, Out, exec_end, exec_seen}
 use Rattle.sky_rows.specs.Walk.{Obj}
 
 -- where this fault, if there is one, was met before

@@ -1,6 +1,3 @@
-pub mod Leaves
-pub mod Vars
-pub mod Catches
-pub mod FunPlaces
+pub mod FormLaw
 pub mod Signs
 pub mod Awaits

@@ -3,8 +3,8 @@ use Rattle.std.specs.Prelude.{ℕ, List}
 use Rattle.sky_base.specs.Tree.{Place, Exp, Exps, Links, Ands, Steps, Junction, Stm, Stms, Arms, Else}
 use Rattle.sky_rows.specs.Data.{data_of}
 use Rattle.sky_rows.specs.Walk.{Row}
-use Rattle.sky_forms.specs.Plain as plain
-use Rattle.sky_forms.specs.Plain.{Val, Vals, Pairs, Vars, Out}
+use Rattle.sky_scope.specs.Plain as plain
+use Rattle.sky_scope.specs.Plain.{Val, Vals, Pairs, Vars, Out}
 use Rattle.sky_forms.specs.declared.ground.Ground.{Ground}
 
 abbrev pub ground_of : Ground → plain.Ground

@@ -1,5 +1,1 @@
-pub mod Plain
-pub mod RunView
-pub mod StateCode
 pub mod GroundView
-pub mod FunPlace

@@ -12,17 +12,12 @@ ghost use Rattle.sky_base.specs.OpView.{Answers, Exactly};
 ghost use Rattle.sky_base.specs.ObjectView.{desc_view, object_view};
 ghost use Rattle.sky_base.specs.TreeView.{at, at as place, signs_view, sign_view};
 ghost use Rattle.sky_rows.specs.Walk.{Row, look, known_of};
-ghost use Rattle.sky_forms.specs.Plain as plain;
-ghost use Rattle.sky_forms.specs.Plain.{Val, Pairs, Out, Answer, Vars, visit, formed, spawned, input_of, called, exec_seen, signed, outputs_of};
+ghost use Rattle.sky_scope.specs.Plain as plain;
+ghost use Rattle.sky_scope.specs.Plain.{Val, Pairs, Out, Answer, Vars, visit, formed, spawned, input_of, called, exec_seen, signed, outputs_of};
 ghost use Rattle.sky_forms.specs.GroundView.{ground_of};
-ghost use Rattle.sky_forms.specs.RunView.{Comes, given, KeptPairs, DecidesAt, Learns, LearnsAll, Wanted, WaitsForAll, GoesOn, SignsOn, three_vals, fault_first, cut_of};
+ghost use Rattle.sky_scope.specs.RunView.{Comes, given, KeptPairs, DecidesAt, Learns, LearnsAll, Wanted, WaitsForAll, GoesOn, SignsOn, three_vals, fault_first, cut_of};
 
-use crate::cut::{Cut, fault};
-use crate::funs::{fun_named, is_one_of};
 use crate::ground::Ground;
-use crate::ops::{negated, opposite, truth};
-use crate::program::Program;
-use crate::state::State;
 use sky_base::fault::{Fault, FaultKind};
 use sky_base::name::Name;
 use sky_base::names::Names;
@@ -34,6 +29,11 @@ use sky_base::value::{Pairs, Vals, Value};
 use sky_rows::data::read;
 use sky_rows::objects::{Objects, slot};
 use sky_rows::rows::Rows;
+use sky_scope::cut::{Cut, fault};
+use sky_scope::funs::{fun_named, is_one_of};
+use sky_scope::ops::{negated, opposite, truth};
+use sky_scope::program::Program;
+use sky_scope::state::State;
 use std::alloc::Global;
 
 /// Visits the node of a form, and gives the value that was made of its parts; or its refusal, at its
@@ -247,7 +247,7 @@ fn outputs(
 }
 
 /// The list of the references to these, at most 64.
-#[tactic(auto, using(crate::proofs::Leaves::refs_list))]
+#[tactic(auto, using(crate::proofs::FormLaw::refs_list))]
 fn references(alloc: Global, names: &Names) -> Result<Value, Memory>
     requires { length names.now ≤ 64 }
     ensures value { IfOk result (λ v. view v ≡ list (refs_to (known_names names.now))) }
@@ -409,7 +409,7 @@ pub struct Callable<'a> {
 }
 
 /// Whether a value may be called on so many arguments: the function.
-#[tactic(auto, using(crate::proofs::Vars::calls))]
+#[tactic(auto, using(sky_scope::proofs::Vars::calls))]
 pub fn callee<'a>(
     ground: &Ground,
     f: &'a Value,

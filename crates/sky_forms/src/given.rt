@@ -8,16 +8,16 @@ ghost use Rattle.sky_base.specs.Op as op;
 ghost use Rattle.sky_base.specs.Eval as run;
 ghost use Rattle.sky_base.specs.TreeView.{at, lit_view, order_view};
 ghost use Rattle.sky_rows.specs.Walk.{Row};
-ghost use Rattle.sky_forms.specs.Plain as plain;
-ghost use Rattle.sky_forms.specs.RunView.{Comes, given};
+ghost use Rattle.sky_scope.specs.Plain as plain;
+ghost use Rattle.sky_scope.specs.RunView.{Comes, given};
 
-use crate::cut::Cut;
 use crate::forms::{give, give_exact};
-use crate::ops::{compared, dictionary, has, keys, len, literal, range};
-use crate::state::State;
 use sky_base::op::limited;
 use sky_base::tree::{Cmp, Lit};
 use sky_base::value::{Vals, Value};
+use sky_scope::cut::Cut;
+use sky_scope::ops::{compared, dictionary, has, keys, len, literal, range};
+use sky_scope::state::State;
 use std::alloc::Global;
 
 /// A literal, visited.

@@ -1,7 +1,7 @@
 // What a run stands on.
 
-use crate::program::Program;
 use sky_rows::objects::Objects;
+use sky_scope::program::Program;
 use std::alloc::Global;
 
 /// What a run stands on: its script, and the objects that are known.

@@ -5,7 +5,7 @@ use Rattle.sky_base.specs.See.{Desc, Job, Around}
 use Rattle.sky_law.specs.Tasks.{In}
 use Rattle.sky_base.specs.Kept.{Kept}
 use Rattle.sky_base.specs.Val.{list, dict, call}
-use Rattle.sky_forms.specs.Plain.{Pairs, Vals}
+use Rattle.sky_scope.specs.Plain.{Pairs, Vals}
 use Rattle.sky_rows.specs.Walk.{Obj}
 use Rattle.sky_rows.specs.Walk.{Row, object_at, is_known}
 use Rattle.sky_rows.specs.Known.{with_object}

@@ -17,7 +17,7 @@ use sky_base::kit::Kit;
 use sky_base::object::Desc1;
 use sky_base::text::{Bytes, Memory, Txt};
 use sky_base::value::{Pairs, Vals, Value};
-use sky_forms::program::Program;
+use sky_scope::program::Program;
 use sky_rows::objects::{Objects, number_of, slot};
 use sky_rows::rows::Rows;
 use sky_waves::wave::{Turned, last_turn, turn};

@@ -1,9 +1,9 @@
 use Rattle.std.proofs.Common.{◌≡◌, ◌≢◌, ◌∙◌, Ok, Err, ap}
 use Rattle.sky_base.specs.View.{view}
 use Rattle.sky_rows.specs.Data.{data_of}
-use Rattle.sky_forms.specs.declared.cut.Cut.{Cut}
+use Rattle.sky_scope.specs.declared.cut.Cut.{Cut}
 use Rattle.sky_body.proofs.RunEnds.{went, gave, was_cut, run_goes, run_returned, run_fault, run_waits, run_full, begins_goes, begins_returned, begins_fault, begins_waits, begins_full}
-use Rattle.sky_forms.proofs.Vars.{kept_parts, kept_pairs}
+use Rattle.sky_scope.proofs.Vars.{kept_parts, kept_pairs}
 use Rattle.sky_body.proofs.run.run_call.Goals as goal
 
 pub body-flow-requires-clause-caught : goal.body-flow-requires-clause-caught

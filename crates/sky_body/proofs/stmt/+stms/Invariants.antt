@@ -7,8 +7,8 @@ use Rattle.sky_base.specs.TreeView.{at, exp_view, exps_view, links_view, ands_vi
 use Rattle.sky_base.specs.StmtView.{stm_view, stms_view, return_view, arms_view, else_view}
 use Rattle.sky_base.specs.Res.{visits}
 use Rattle.sky_forms.specs.GroundView.{ground_of}
-use Rattle.sky_forms.specs.Plain.{exp, values, links, ands, steps, stms, arms, other, turns, repeats, each, body_at}
-use Rattle.sky_forms.specs.RunView.{KeptVals, junction}
+use Rattle.sky_scope.specs.Plain.{exp, values, links, ands, steps, stms, arms, other, turns, repeats, each, body_at}
+use Rattle.sky_scope.specs.RunView.{KeptVals, junction}
 use Rattle.sky_body.proofs.stmt.+stms.Given as goal
 
 abbrev pub decreases-block : goal.decreases-block

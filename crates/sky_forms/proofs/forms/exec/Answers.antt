@@ -3,10 +3,10 @@ use Rattle.sky_base.specs.Names.{known_of}
 use Rattle.sky_base.specs.View.{view}
 use Rattle.sky_base.specs.TreeView.{at}
 use Rattle.sky_base.specs.Res.{counted}
-use Rattle.sky_forms.specs.Plain.{Out}
-use Rattle.sky_forms.specs.RunView.{cut_of}
+use Rattle.sky_scope.specs.Plain.{Out}
+use Rattle.sky_scope.specs.RunView.{cut_of}
 use Rattle.sky_forms.specs.GroundView.{ground_of}
-use Rattle.sky_forms.proofs.Leaves.{exec_is}
+use Rattle.sky_forms.proofs.FormLaw.{exec_is}
 use Rattle.sky_forms.proofs.forms.exec.Goals as goal
 
 pub returns-in-Ok-clause-answer : goal.returns-in-Ok-clause-answer

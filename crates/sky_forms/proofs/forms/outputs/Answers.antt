@@ -1,7 +1,7 @@
 use Rattle.std.proofs.Common.{◌∙◌, ◌∷◌, [], length-append, arith}
 use Rattle.sky_base.specs.View.{view}
 use Rattle.sky_base.specs.TreeView.{at}
-use Rattle.sky_forms.proofs.Leaves.{outputs_are, outputs_step, outputs_full_in}
+use Rattle.sky_forms.proofs.FormLaw.{outputs_are, outputs_step, outputs_full_in}
 use Rattle.sky_forms.proofs.forms.outputs.Goals as goal
 
 pub returns-in-Err-clause-answer : goal.returns-in-Err-clause-answer

@@ -3,7 +3,7 @@ use Rattle.sky_base.specs.Names.{known_of as known_names}
 use Rattle.sky_base.specs.View.{view}
 use Rattle.sky_base.specs.Eval.{outputs}
 use Rattle.sky_rows.specs.Walk.{Row}
-use Rattle.sky_forms.specs.Plain.{Out, learn_all}
+use Rattle.sky_scope.specs.Plain.{Out, learn_all}
 use Rattle.sky_forms.proofs.forms.outputs.Given as goal
 
 abbrev pub invariant-loop-index : goal.invariant-loop-index

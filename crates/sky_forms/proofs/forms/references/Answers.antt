@@ -1,7 +1,7 @@
 use Rattle.std.proofs.Common.{sym, ap, ◌∙◌, arith}
 use Rattle.sky_base.specs.Val.{list, refs_to}
 use Rattle.sky_base.specs.Names.{known_of}
-use Rattle.sky_forms.proofs.Leaves.{refs_end, refs_kept}
+use Rattle.sky_forms.proofs.FormLaw.{refs_end, refs_kept}
 use Rattle.sky_forms.proofs.forms.references.Goals as goal
 
 pub returns-clause-kept : goal.returns-clause-kept

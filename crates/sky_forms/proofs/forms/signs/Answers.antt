@@ -1,7 +1,7 @@
 use Rattle.std.proofs.Common.{◌∙◌, ◌-◌, reverse, take, ap, arith}
 use Rattle.sky_base.specs.View.{view}
 use Rattle.sky_base.specs.TreeView.{signs_view}
-use Rattle.sky_forms.specs.Plain as plain
+use Rattle.sky_scope.specs.Plain as plain
 use Rattle.sky_forms.specs.GroundView.{ground_of}
 use Rattle.sky_forms.proofs.Signs.{signs_one}
 use Rattle.sky_forms.proofs.forms.signs.Goals as goal

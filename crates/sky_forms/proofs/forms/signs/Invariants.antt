@@ -3,7 +3,7 @@ use Rattle.sky_base.specs.Kept.{Kept}
 use Rattle.sky_base.specs.View.{view}
 use Rattle.sky_base.specs.TreeView.{signs_view}
 use Rattle.sky_rows.specs.Walk.{Row}
-use Rattle.sky_forms.specs.Plain.{signs}
+use Rattle.sky_scope.specs.Plain.{signs}
 use Rattle.sky_forms.specs.GroundView.{ground_of}
 use Rattle.sky_forms.proofs.forms.signs.Given as goal
 

@@ -2,9 +2,9 @@ use Rattle.std.proofs.Common.{◌∙◌, [], sym, ap, arith}
 use Rattle.sky_base.specs.Names.{known_of as known_names}
 use Rattle.sky_base.specs.ObjectView.{object_view}
 use Rattle.sky_rows.specs.Walk.{look, known_of, Seen}
-use Rattle.sky_forms.specs.Plain.{exec_seen}
+use Rattle.sky_scope.specs.Plain.{exec_seen}
 use Rattle.sky_forms.proofs.Awaits.{seen_after, seen_start}
-use Rattle.sky_forms.proofs.Leaves.{waits_step, waits_stop, waits_end}
+use Rattle.sky_forms.proofs.FormLaw.{waits_step, waits_stop, waits_end}
 use Rattle.sky_forms.proofs.forms.wait_for_all.Goals as goal
 
 pub loop-name-init : goal.loop-name-init

@@ -1,7 +1,7 @@
 use Rattle.std.proofs.Common.{◌≡◌, List, drop}
 use Rattle.sky_base.specs.Names.{known_of as known_names}
 use Rattle.sky_rows.specs.Walk.{Row, look, known_of}
-use Rattle.sky_forms.specs.Plain.{Vars, exec_seen}
+use Rattle.sky_scope.specs.Plain.{Vars, exec_seen}
 use Rattle.sky_forms.proofs.Awaits.{seen_after}
 use Rattle.sky_forms.proofs.forms.wait_for_all.Given as goal
 

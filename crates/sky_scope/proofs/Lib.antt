@@ -1,0 +1,4 @@
+pub mod OpLaw
+pub mod Vars
+pub mod Catches
+pub mod FunPlaces

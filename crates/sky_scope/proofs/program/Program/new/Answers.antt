@@ -1,0 +1,12 @@
+use Rattle.std.proofs.Common.{◌≡◌, take, sym, ap, ◌∙◌}
+use Rattle.sky_base.specs.Val.{same_text}
+use Rattle.sky_base.specs.ScriptView.{funs_view}
+use Rattle.sky_scope.specs.FunPlace.{fun_place, or_here}
+use Rattle.sky_scope.proofs.FunPlaces.{place_more}
+use Rattle.sky_scope.proofs.program.Program.new.Goals as goal
+
+pub loop-place-preserved : goal.loop-place-preserved
+loop-place-preserved c = λ x.
+    let i = c.loop-place.place in
+    let f = c.index-funs-place.result in
+    c.in_ok-add.ensures x ∙ ap (λ o. or_here o (same_text x c.as_str.result.now) i) (c.loop-place.invariant x) ∙ ap (λ n. or_here (fun_place x (funs_view (take i c.as_slice-funs.result.now))) (same_text x n) i) c.as_str.ensures.value ∙ sym (place_more x c.as_slice-funs.result.now i f c.loop-place-test.true c.index-funs-place.is)

@@ -1,0 +1,4 @@
+pub mod Plain
+pub mod RunView
+pub mod StateCode
+pub mod FunPlace
