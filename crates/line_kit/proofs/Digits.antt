@@ -1,31 +1,42 @@
 -- Numbers read digit by digit.
-use Rattle.std.proofs.Common.{◌≡◌, ℕ, suc, ◌||◌, ◌&&◌, nat_lt, nat_le, Bool, true, false, cond, Some, None, ◌+◌, ◌-◌, ◌*◌, ◌<◌, ◌≤◌, List, [], ◌∷◌, length, map, take, drop, ◌^◌, get_or, refl, sym, ap, ◌∙◌, arith}
+use Rattle.std.proofs.Common.{◌≡◌, ℕ, zero, suc, ◌||◌, ◌&&◌, nat_lt, nat_le, Bool, true, false, cond, Some, None, ◌+◌, ◌-◌, ◌*◌, ◌<◌, ◌≤◌, List, [], ◌∷◌, length, take, drop, ◌^◌, get_or, refl, sym, ap, ◌∙◌, arith}
 use Rattle.std.proofs.lemmas.List.{drop_more}
-use Rattle.std.proofs.lemmas.Int.Digits.{number_after_ge}
-use Rattle.std.specs.Prelude.{not}
+use Rattle.std.proofs.lemmas.Str.{digit_value_digit}
+use Rattle.std.specs.Char.{is_ascii_digit, digit_value}
+use Rattle.std.specs.Int.{IsInRange}
+use Rattle.std.specs.Str.Parse.{digits_value, digits_value_after}
+use Rattle.std.specs.Prelude.{not, ◌==◌}
 use Rattle.std.specs.Option.{option_map}
-use Rattle.std.specs.List.{list_any, position_or_len}
+use Rattle.std.specs.List.{list_all, list_any, position_or_len}
 use Rattle.std.proofs.lemmas.Bool.Decides.{nat_tests}
-use Rattle.std.specs.Int.Digits.{number_from_digits_after}
-use Rattle.line_kit.specs.Numbers.{value, number, is_digits, is_space, counted}
+use Rattle.line_kit.proofs.Truth.{and_both}
+use Rattle.line_kit.specs.Numbers.{number, is_digits, is_space, counted}
 
--- the number that the digits write behind those with this value
-abbrev pub value_past : ℕ → List ℕ → ℕ
-value_past n digits = number_from_digits_after 10 n (map (λ d. d - 48) digits)
+all_at : (p : ℕ → Bool) (xs : List ℕ) (i d : ℕ) → list_all p xs ≡ true → i < length xs → p (get_or xs i d) ≡ true
+all_at p [] i d e h = absurd (omega arith)
+all_at p (x ∷ xs) zero d e h = (and_both (p x) (list_all p xs) e).0
+all_at p (x ∷ xs) (suc i) d e h = all_at p xs i d (and_both (p x) (list_all p xs) e).1 (omega arith)
 
-pub value_step : (n : ℕ) (digits : List ℕ) (i : ℕ) → i < length digits → value_past n (drop i digits) ≡ value_past (n * 10 + (get_or digits i 0 - 48)) (drop (i + 1) digits)
-value_step n digits i h = ap (value_past n) (drop_more digits i 0 h)
+digit_is : (c : ℕ) → is_ascii_digit c ≡ true → digit_value c ≡ c - 48
+digit_is c e = let range : IsInRange 48 57 c = grind (arith, nat_tests) in omega (arith, digit_value_digit c range, range)
 
-pub value_grows : (n : ℕ) (digits : List ℕ) → n ≤ value_past n digits
-value_grows n digits = number_after_ge 10 n (map (λ d. d - 48) digits) (omega arith)
+pub value_step : (n : ℕ) (digits : List ℕ) (i : ℕ) → is_digits digits ≡ true → i < length digits
+    → digits_value_after 10 n (drop i digits) ≡ digits_value_after 10 (n * 10 + (get_or digits i 0 - 48)) (drop (i + 1) digits)
+value_step n digits i e h =
+    let digit = all_at is_ascii_digit digits i 0 (and_both (not (length digits == 0)) (list_all is_ascii_digit digits) e).1 h in
+    ap (digits_value_after 10 n) (drop_more digits i 0 h) ∙ ap (λ d. digits_value_after 10 (n * 10 + d) (drop (i + 1) digits)) (digit_is (get_or digits i 0) digit)
+
+pub value_grows : (n : ℕ) (digits : List ℕ) → n ≤ digits_value_after 10 n digits
+value_grows n [] = omega arith
+value_grows n (d ∷ ds) = omega (arith, value_grows (n * 10 + digit_value d) ds)
 
 cut : (a b : Bool) (n : ℕ) → b ≡ false → cond (a && b) (Some n) None ≡ None
 cut true b n e = rw e refl
 cut false b n e = refl
 
 -- a number above the greatest is none
-pub number_none : (most : ℕ) (digits : List ℕ) → most < value digits → number most digits ≡ None
-number_none most digits h = cut (is_digits digits) (nat_le (value digits) most) (value digits) (grind (arith, nat_tests))
+pub number_none : (most : ℕ) (digits : List ℕ) → most < digits_value 10 digits → number most digits ≡ None
+number_none most digits h = cut (is_digits digits) (nat_le (digits_value 10 digits) most) (digits_value 10 digits) (grind (arith, nat_tests))
 
 any_step : (p : ℕ → Bool) (x : ℕ) (xs : List ℕ) (b : Bool) → list_any p xs ≡ nat_lt (position_or_len p xs) (length xs)
     → (b || list_any p xs) ≡ nat_lt (cond (not b) (1 + position_or_len p xs) 0) (suc (length xs))

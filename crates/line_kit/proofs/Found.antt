@@ -1,9 +1,10 @@
 -- What a search finds, against `contains`.
-use Rattle.std.proofs.Common.{◌≡◌, ℕ, zero, suc, ◌+◌, ◌<◌, Bool, true, false, ◌||◌, List, [], ◌∷◌, Option, Some, None, is_some, length, take, slice_index, refl, sym, ap, ◌∙◌, arith, ⊎_elim, length-take}
+use Rattle.std.proofs.Common.{◌≡◌, ℕ, zero, suc, ◌+◌, ◌<◌, true, false, List, [], ◌∷◌, Option, Some, None, is_some, length, take, slice_index, sym, ap, ◌∙◌, arith, ⊎_elim, length-take}
 use Rattle.std.proofs.lemmas.Bool.{cases_Bool, or_from}
 use Rattle.std.proofs.lemmas.Slice.Eq.{bytes_eq-Decides}
 use Rattle.memchr.specs.Find.{OccursAt, FindsNeedle}
 use Rattle.memchr.proofs.lemmas.MatchLemmas.{OccursAt-part, OccursAt-from_part}
+use Rattle.line_kit.proofs.Truth.{or_right}
 use Rattle.line_kit.specs.Lines.{begins, contains}
 
 begins-true : (hay needle : List ℕ) → OccursAt hay needle 0 → begins hay needle ≡ true
@@ -25,10 +26,6 @@ sooner x xs needle k h = record {
   fits = omega (arith, h.fits);
   reads = λ j l. let e : suc k + j ≡ suc (k + j) = omega arith in ap (slice_index (x ∷ xs)) e ∙ h.reads j l;
 }
-
-or_right : (a b : Bool) → b ≡ true → (a || b) ≡ true
-or_right true b e = refl
-or_right false b e = e
 
 contains-some : (hay needle : List ℕ) (k : ℕ) → OccursAt hay needle k → contains hay needle ≡ true
 contains-some [] needle zero h = begins-true [] needle h

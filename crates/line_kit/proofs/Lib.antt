@@ -1,3 +1,4 @@
+pub mod Truth
 pub mod WrittenLaw
 pub mod Cut
 pub mod Found

@@ -4,12 +4,9 @@ use Rattle.std.specs.Prelude.{not}
 use Rattle.std.specs.List.{prefix_len}
 use Rattle.std.proofs.lemmas.Bool.{true≢false}
 use Rattle.std.proofs.lemmas.List.Sums.{prefix_len-le-length}
+use Rattle.line_kit.proofs.Truth.{false_from_not}
 use Rattle.line_kit.specs.Lines.{with_byte}
 use Rattle.line_kit.specs.Words.{is_gap, begins_word, words}
-
-not-true : (b : Bool) → not b ≡ true → b ≡ false
-not-true true e = absurd (true≢false (sym e))
-not-true false e = refl
 
 abbrev no_gap : ℕ → Bool
 no_gap b = not (is_gap b)
@@ -50,7 +47,7 @@ first_step x xs false e h = let none = none_begins xs e in rw none refl
 pub words_first : (xs : List ℕ) → begins_word xs ≡ true → words xs ≡ take (prefix_len no_gap xs) xs ∷ words (drop (prefix_len no_gap xs) xs)
 words_first [] h = absurd (true≢false (sym h))
 words_first (x ∷ xs) h =
-    let gap : is_gap x ≡ false = not-true (is_gap x) h in
+    let gap : is_gap x ≡ false = false_from_not (is_gap x) h in
     let one : 1 + prefix_len no_gap xs ≡ suc (prefix_len no_gap xs) = omega arith in
     rw (gap, one) (first_step x xs (begins_word xs) refl (words_first xs))
 

@@ -7,12 +7,12 @@ use Rattle.std.specs.BTreeMap.{insert_entry, is_at}
 use Rattle.std.specs.BTreeSet.{insert_key}
 use Rattle.std.specs.Map.{lookup}
 use Rattle.std.specs.Str.{bytes_eq}
-use Rattle.std.proofs.lemmas.Bool.{true≢false}
 use Rattle.std.proofs.lemmas.Cmp.{nat_list_cmp_total}
 use Rattle.std.proofs.lemmas.Map.Text.{is_eq-slice_cmp}
 use Rattle.std.proofs.lemmas.Slice.Eq.{bytes_eq-Decides}
 use Rattle.std.proofs.lemmas.List.{map-append}
 use Rattle.std.proofs.lemmas.List.Sums.{fold-append}
+use Rattle.line_kit.proofs.Truth.{or_none}
 use Rattle.line_kit.specs.Orders.{total, rests}
 use Rattle.line_kit.specs.Totals.{sum_at, with_more, totals}
 
@@ -130,10 +130,6 @@ or_turn true true c = refl
 or_turn true false c = refl
 or_turn false true c = refl
 or_turn false false c = refl
-
-or_none : (a b : Bool) → a || b ≡ false → (a ≡ false) × (b ≡ false)
-or_none true b e = absurd (true≢false e)
-or_none false b e = (refl, e)
 
 or_zero : (a : Bool) → a || false ≡ a
 or_zero true = refl

@@ -1,21 +1,17 @@
 -- Numbers in lines.
-use Rattle.std.specs.Prelude.{ℕ, ◌-◌, ◌^◌, ◌==◌, ◌&&◌, Bool, not, nat_le, ℤ, pos, neg_ℤ, List, [], ◌∷◌, ◌++◌, length, map, Option, Some, None, decimal, if◌then◌else◌}
+use Rattle.std.specs.Prelude.{ℕ, ◌-◌, ◌^◌, ◌==◌, ◌&&◌, Bool, not, nat_le, ℤ, pos, neg_ℤ, List, [], ◌∷◌, ◌++◌, length, Option, Some, None, decimal, if◌then◌else◌}
 use Rattle.std.specs.Char.{is_ascii_digit}
-use Rattle.std.specs.Int.Digits.{number_from_digits}
 use Rattle.std.specs.List.{list_all, list_any, before_first, after_first}
 use Rattle.std.specs.Option.{option_map}
+use Rattle.std.specs.Str.Parse.{digits_value}
 
 -- one or more decimal digits
 abbrev pub is_digits : List ℕ → Bool
 is_digits bytes = not (length bytes == 0) && list_all is_ascii_digit bytes
 
--- the number that the digits write
-abbrev pub value : List ℕ → ℕ
-value digits = number_from_digits 10 (map (λ d. d - 48) digits)
-
 -- the number that the bytes write, where they are digits and it is at most `most`
 abbrev pub number : ℕ → List ℕ → Option ℕ
-number most bytes = if is_digits bytes && nat_le (value bytes) most then Some (value bytes) else None
+number most bytes = if is_digits bytes && nat_le (digits_value 10 bytes) most then Some (digits_value 10 bytes) else None
 
 -- the number of 64 signed bits that the bytes write, with an optional `-`
 abbrev pub signed_number : List ℕ → Option ℤ

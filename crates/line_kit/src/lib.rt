@@ -5,6 +5,7 @@ mod arguments;
 mod counts;
 pub mod executor;
 pub mod kit;
+pub mod laws;
 mod lines;
 mod numbers;
 mod orders;

@@ -1,6 +1,6 @@
 // Numbers in lines.
 
-ghost use Rattle.std.specs.Prelude.{◌≡◌, ◌<◌, ◌≤◌, ◌^◌, IfSome, Some, None, IfOk, neg_ℤ, pos, map};
+ghost use Rattle.std.specs.Prelude.{◌≡◌, ◌<◌, ◌≤◌, ◌^◌, IfSome, Some, None, IfOk, neg_ℤ, pos, map, int_div};
 ghost use Rattle.std.specs.Option.{option_map};
 ghost use Rattle.sky_base.specs.KitView.{RunsSo};
 ghost use Rattle.line_kit.specs.Lines.{all_lines};
@@ -85,6 +85,13 @@ pub(crate) fn counted(line: &[u8]) -> Option<(&[u8], u64)>
     Some((&line[end + 1..], number))
 }
 
+// The half towards zero.
+fn half_of(number: i64) -> i64
+    ensures { result ≡ int_div number (pos 2) }
+{
+    number / 2
+}
+
 /// The half of the number in each line.
 pub(crate) fn half(alloc: Global, inputs: &[Bytes]) -> Answer
     ensures { IfOk result (λ r. RunsSo r (halved (read_each signed_number (all_lines inputs.now)))) }
@@ -93,7 +100,7 @@ pub(crate) fn half(alloc: Global, inputs: &[Bytes]) -> Answer
     let mut lines = Lines::new(inputs);
     while let Some(line) = lines.next_line() {
         match signed_number(line) {
-            Some(number) => out.put_signed(number / 2)?,
+            Some(number) => out.put_signed(half_of(number))?,
             None => return Ok(Err(FaultKind::BadLine)),
         }
     }

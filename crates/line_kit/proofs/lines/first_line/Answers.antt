@@ -1,19 +1,15 @@
-use Rattle.std.proofs.Common.{◌≡◌, ℕ, ◌<◌, ◌≤◌, ◌+◌, ◌-◌, length, List, [], ◌∷◌, take, drop, suc, refl, sym, ap, ap₂, ◌∙◌, arith, rules, length-drop, drop-drop}
-use Rattle.std.proofs.lemmas.List.{take_all}
+use Rattle.std.proofs.Common.{◌≡◌, ◌<◌, ◌≤◌, ◌+◌, ◌-◌, length, [], ◌∷◌, take, drop, suc, sym, ap, ap₂, ◌∙◌, arith, rules, length-drop, drop-drop}
+use Rattle.std.proofs.lemmas.List.{take_all, nil_from_length}
 use Rattle.std.proofs.lemmas.Bool.{eqb-true}
 use Rattle.line_kit.specs.Lines.{lines}
 use Rattle.line_kit.proofs.Cut.{lines_cut, lines_whole}
 use Rattle.line_kit.proofs.lines.first_line.Goals as goal
 
-nothing : (xs : List ℕ) → length xs ≡ 0 → xs ≡ []
-nothing [] e = refl
-nothing (x ∷ xs) e = absurd (omega (arith, e))
-
 pub returns-then-is_empty-clause-cut : goal.returns-then-is_empty-clause-cut
 returns-then-is_empty-clause-cut c =
     let xs = c.args.bytes.now in
     let end = c.place_of-end.result in
-    let none : c.split_at.result.1.now ≡ [] = nothing c.split_at.result.1.now (eqb-true _ 0 (sym c.is_empty.ensures ∙ c.if-is_empty.true)) in
+    let none : c.split_at.result.1.now ≡ [] = nil_from_length c.split_at.result.1.now (eqb-true _ 0 (sym c.is_empty.ensures ∙ c.if-is_empty.true)) in
     let whole : length xs ≤ end = omega (arith, c.split_at.ensures.back_len, ap length none) in
     let all : c.split_at.result.0.now ≡ xs = c.split_at.ensures.front ∙ take_all end xs whole in
     lines_whole xs c.requires (λ k l. c.place_of-end.ensures.clean k (omega arith))

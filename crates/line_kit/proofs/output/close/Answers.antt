@@ -1,13 +1,10 @@
 -- Each output in turn: one that is over ends the answer, and the others stand in it.
-use Rattle.std.proofs.Common.{◌≡◌, ℕ, length, List, [], ◌∷◌, ◌++◌, Option, Some, None, refl, sym, ap, ◌∙◌, arith, rules}
+use Rattle.std.proofs.Common.{◌≡◌, ℕ, length, List, [], ◌∷◌, ◌++◌, Option, Some, None, sym, ap, ◌∙◌, arith, rules}
 use Rattle.std.specs.Vec.Iter.{into_iter_items}
+use Rattle.std.proofs.lemmas.List.{nil_from_length}
 use Rattle.line_kit.specs.Written.{closed}
 use Rattle.line_kit.proofs.WrittenLaw.{behind, closed-over, closed-more, behind-none}
 use Rattle.line_kit.proofs.output.close.Goals as goal
-
-nothing : (xs : List (Option (List ℕ))) → length xs ≡ 0 → xs ≡ []
-nothing [] e = refl
-nothing (x ∷ xs) e = absurd (omega (arith, e))
 
 pub returns-then-output : goal.returns-then-output
 returns-then-output c =
@@ -35,5 +32,5 @@ loop-output-preserved c =
 pub returns : goal.returns
 returns c =
     let done = c.loop-output.all.items in
-    let empty : into_iter_items c.loop-output.output-iterator ≡ [] = nothing _ (sym c.loop-output.invariant.count ∙ c.in-None.ensures.steps.0) in
+    let empty : into_iter_items c.loop-output.output-iterator ≡ [] = nil_from_length _ (sym c.loop-output.invariant.count ∙ c.in-None.ensures.steps.0) in
     c.loop-output.invariant.rest ∙ ap (λ (os : List (Option (List ℕ))). behind done (closed os)) empty ∙ behind-none done
