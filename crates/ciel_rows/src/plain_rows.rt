@@ -153,7 +153,9 @@ fn names_hold_numbers(rt: HostRuntime) {
     for number in [0, 1, 255, 256, 65_536, 4_294_967_295] {
         assert_eq!(&rt; number_of(&slot(number)), number);
     }
-    assert!(&rt; slot(258) == Name::short([0, 0, 0, 0, 0, 0, 0, 0, 0, 0, 0, 0, 0, 0, 0, 0, 0, 0, 1, 2]));
+    assert!(&rt;
+        slot(258) == Name::short([0, 0, 0, 0, 0, 0, 0, 0, 0, 0, 0, 0, 0, 0, 0, 0, 0, 0, 1, 2])
+    );
 }
 
 #[test]

@@ -17,9 +17,9 @@ use sky_base::kit::Kit;
 use sky_base::object::Desc1;
 use sky_base::text::{Bytes, Memory, Txt};
 use sky_base::value::{Pairs, Vals, Value};
-use sky_scope::program::Program;
 use sky_rows::objects::{Objects, number_of, slot};
 use sky_rows::rows::Rows;
+use sky_scope::program::Program;
 use sky_waves::wave::{Turned, last_turn, turn};
 use std::alloc::Global;
 

@@ -30,9 +30,9 @@ use sky_base::object::{Desc1, Object};
 use sky_base::text::{Bytes, Memory, Txt};
 use sky_base::value::{Pair, Pairs, Vals, Value};
 use sky_body::run::{Ran, run_call};
-use sky_scope::program::Program;
 use sky_rows::objects::{Objects, number_of};
 use sky_rows::rows::Rows;
+use sky_scope::program::Program;
 use sky_waves::wave::no_place;
 use std::alloc::Global;
 
