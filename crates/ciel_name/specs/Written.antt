@@ -1,0 +1,1 @@
+-- Which values have bytes.

@@ -1,0 +1,6 @@
+// The bytes of values, descriptions and objects, and the names that are made of them. Two workers that meet the same
+// description give it the same bytes, so they give it the same name and need not ask each other.
+#![tactic(auto)]
+
+pub mod write;
+mod writer;
