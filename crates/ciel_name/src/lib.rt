@@ -2,5 +2,8 @@
 // description give it the same bytes, so they give it the same name and need not ask each other.
 #![tactic(auto)]
 
+pub mod name;
+pub mod object;
+pub mod text;
 pub mod write;
 mod writer;

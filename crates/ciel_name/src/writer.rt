@@ -85,7 +85,14 @@ impl Writer {
         self.raw(text.as_str().as_bytes())
     }
 
-    /// All that was written.
+    /// What was written so far.
+    pub(crate) fn as_slice(&self) -> &[u8]
+        ensures { result.now ≡ self.now }
+    {
+        self.held.as_slice()
+    }
+
+    /// All that was written, handed over.
     pub(crate) fn finish(self, alloc: Global) -> Result<Bytes, Memory>
         ensures { IfOk result (λ b. b ≡ self) }
     {
