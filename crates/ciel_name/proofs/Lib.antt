@@ -1,1 +1,4 @@
 pub mod Numbers
+pub mod Tags
+pub mod Spelling
+pub mod Reading

@@ -1,7 +1,10 @@
 -- Numbers by their bytes, and bytes put one behind the other.
-use Rattle.std.proofs.Common.{◌≡◌, ◌/◌, ◌%◌, ◌^◌, ◌-◌, ◌+◌, ℕ, zero, suc, ℤ, pos, negsuc, List, [], ◌∷◌, ◌++◌, drop, refl, ap, ap₂, sym, ◌∙◌, append_assoc, append-nil}
+use Rattle.std.proofs.Common.{◌≡◌, ◌/◌, ◌%◌, ◌^◌, ◌-◌, ◌+◌, ℕ, zero, suc, ℤ, pos, negsuc, List, [], ◌∷◌, ◌++◌, drop, refl, ap, ap₂, sym, ◌∙◌, append_assoc, take, length, get_or, ◌<◌}
+use Rattle.std.proofs.lemmas.Int.{of_z-to_z}
+use Rattle.std.proofs.lemmas.Nat.{be_bytes_8}
+use Rattle.std.proofs.lemmas.List.{take-append-drop}
 use Rattle.std.proofs.Math.Nat.{div-one}
-use Rattle.std.specs.Int.{w32, w64, byte_at, bytes_high_first, to_be_bytes, cast_unsigned}
+use Rattle.std.specs.Int.{w32, w64, byte_at, bytes_high_first, to_be_bytes, cast_unsigned, cast_signed, from_be_bytes}
 use Rattle.sky_base.specs.Name.{big_endian, bytes_of_int}
 
 byte_at-is : (k n : ℕ) → byte_at k n ≡ n / 256 ^ k % 256
@@ -28,3 +31,19 @@ pub append_one : (x : ℕ) (s t : List ℕ) → s ++ x ∷ [] ++ t ≡ s ++ x �
 append_one x s t = append_assoc s (x ∷ []) t
 
 pub ruleset appends = (append_assoc, append_one)
+
+pub four_read : (bs s : List ℕ) (n : ℕ) → bs ≡ take 4 s → big_endian 4 n ≡ bs → s ≡ big_endian 4 n ++ drop 4 s
+four_read bs s n e f = sym (take-append-drop 4 s) ∙ ap (λ t. t ++ drop 4 s) (sym (f ∙ e))
+
+pub eight_read : (bs s : List ℕ) (z : ℤ) → bs ≡ take 8 s → bytes_of_int z ≡ bs → s ≡ bytes_of_int z ++ drop 8 s
+eight_read bs s z e f = sym (take-append-drop 8 s) ∙ ap (λ t. t ++ drop 8 s) (sym (f ∙ e))
+
+pub ruleset parts = (four_read, eight_read)
+
+pub int_read : (bs : List ℕ) (n : ℕ) → length bs ≡ 8 → ((i : ℕ) → get_or bs i 0 < 256) → n < 2 ^ 64 → n ≡ from_be_bytes w64 bs → bytes_of_int (cast_signed w64 n) ≡ bs
+int_read bs n len small fits e =
+    sym (be_bytes_int (cast_signed w64 n)) ∙ ap (to_be_bytes w64) (of_z-to_z w64 n fits) ∙ be_bytes_8 bs n len small e
+
+pub signed_twice : (n : ℕ) → n < 2 ^ 64 → cast_signed w64 (cast_unsigned w64 (cast_signed w64 n)) ≡ cast_signed w64 n
+signed_twice n fits = ap (cast_signed w64) (of_z-to_z w64 n fits)
+

@@ -1,3 +1,5 @@
 pub mod Object
 pub mod Names
 pub mod Texts
+pub mod Spelled
+pub mod Bodies

@@ -4,6 +4,8 @@
 
 pub mod name;
 pub mod object;
+pub mod read;
+mod reader;
 pub mod text;
 pub mod write;
 mod writer;
