@@ -2,3 +2,4 @@ pub mod Numbers
 pub mod Tags
 pub mod Spelling
 pub mod Reading
+pub mod Items

@@ -32,13 +32,10 @@ append_one x s t = append_assoc s (x ∷ []) t
 
 pub ruleset appends = (append_assoc, append_one)
 
-pub four_read : (bs s : List ℕ) (n : ℕ) → bs ≡ take 4 s → big_endian 4 n ≡ bs → s ≡ big_endian 4 n ++ drop 4 s
-four_read bs s n e f = sym (take-append-drop 4 s) ∙ ap (λ t. t ++ drop 4 s) (sym (f ∙ e))
+pub taken : (bs s : List ℕ) (n : ℕ) → bs ≡ take n s → s ≡ bs ++ drop n s
+taken bs s n e = sym (take-append-drop n s) ∙ ap (λ t. t ++ drop n s) (sym e)
 
-pub eight_read : (bs s : List ℕ) (z : ℤ) → bs ≡ take 8 s → bytes_of_int z ≡ bs → s ≡ bytes_of_int z ++ drop 8 s
-eight_read bs s z e f = sym (take-append-drop 8 s) ∙ ap (λ t. t ++ drop 8 s) (sym (f ∙ e))
-
-pub ruleset parts = (four_read, eight_read)
+pub ruleset takes = (taken, taken)
 
 pub int_read : (bs : List ℕ) (n : ℕ) → length bs ≡ 8 → ((i : ℕ) → get_or bs i 0 < 256) → n < 2 ^ 64 → n ≡ from_be_bytes w64 bs → bytes_of_int (cast_signed w64 n) ≡ bs
 int_read bs n len small fits e =

@@ -1,9 +1,9 @@
 -- What was read, and what can't be read, step by step.
-use Rattle.std.proofs.Common.{◌≡◌, ◌≤◌, ◌<◌, ◌+◌, ◌-◌, ◌^◌, max, ℕ, zero, suc, ℤ, List, [], ◌∷◌, ◌++◌, Bool, true, false, nat_eq, length, refl, ap, ap₂, sym, ◌∙◌, subst, arith, append_assoc, length-append, FitsSigned, IsUtf8, ◌⊎◌, inl, inr}
-use Rattle.sky_base.specs.Val.{Val, Vals, Pairs, Desc, null, truth, num, text, list, dict, fun, ref, no_vals, val, no_pairs, pair, known, count, pair_count, depth, depths, pair_depths, add_val, Rising}
+use Rattle.std.proofs.Common.{◌≡◌, ◌≤◌, ◌<◌, ◌+◌, ◌-◌, ◌^◌, max, ℕ, zero, suc, ℤ, List, [], ◌∷◌, ◌++◌, Bool, true, false, nat_eq, length, refl, ap, ap₂, sym, ◌∙◌, subst, arith, append_assoc, length-append, append-nil, FitsSigned, IsUtf8, ◌⊎◌, inl, inr}
+use Rattle.sky_base.specs.Val.{Val, Vals, Pairs, Desc, null, truth, num, text, list, dict, fun, ref, no_vals, val, no_pairs, pair, known, count, pair_count, depth, depths, pair_depths, add_val, Rising, most_depth, most_size, size}
 use Rattle.sky_base.specs.Name.{bytes, vals_bytes, pairs_bytes, bytes_of_int, bytes_of_text, big_endian, is_anonymous, held_name}
-use Rattle.ciel_name.specs.declared.read.Decode.{Decode}
-use Rattle.ciel_name.specs.Spelled.{IsText, IsName, CapturesSo, Spelled, AllSpelled, PairsSpelled, Refuses, Read, NoneRead, TextRead, NoTextRead}
+use Rattle.ciel_name.specs.declared.refusal.Decode.{Decode}
+use Rattle.ciel_name.specs.Spelled.{IsText, IsName, CapturesSo, Spelled, AllSpelled, PairsSpelled, Refuses, Read, NoneRead, TextRead, NoTextRead, IsData, NoData}
 use Rattle.ciel_name.specs.Bodies.{tag, fun_tag, ref_tag, body, is_short, BodyRead, NoBody, ItemsRead, NoItems, PairsRead, NoPairs}
 use Rattle.ciel_name.proofs.Tags.{bytes-is, when_num, when_text, when_list, when_dict, when_named, when_anonymous, when_short_ref, when_long_ref}
 use Rattle.ciel_name.proofs.Spelling.{four_free, length-int, text_free, short_name, long_name, val_free, split_same, fun_body_is, captures, pair_bytes}
@@ -202,3 +202,25 @@ short_read left mid n new h e l = (ap (λ k. ref_tag (nat_eq k 20)) l, (e, (inl 
 
 pub long_read : (left : ℕ) (mid n new : List ℕ) → 0 < left → mid ≡ n ++ new → length n ≡ 32 → BodyRead 9 left mid (ref (known n)) new
 long_read left mid n new h e l = (ap (λ k. ref_tag (nat_eq k 20)) l, (e, (inr l, omega (arith, h))))
+
+-- ---- the whole
+
+pub data_none : (bs : List ℕ) → NoneRead most_depth bs → NoData bs
+data_none bs n v d e = n v [] d.spelled d.kept.deep (sym e ∙ sym (append-nil (bytes v)))
+
+-- where a value stands in front, no other has all the bytes
+the_value : (bs : List ℕ) (v : Val (List ℕ)) (rest : List ℕ) (w : Val (List ℕ)) → Read most_depth bs v rest → IsData w → bytes w ≡ bs → (v ≡ w) × (rest ≡ [])
+the_value bs v rest w r d e =
+    val_free v w rest [] r.1.0 d.spelled (sym r.0 ∙ sym e ∙ sym (append-nil (bytes w)))
+
+pub data_more : (bs : List ℕ) (v : Val (List ℕ)) (rest : List ℕ) → Read most_depth bs v rest → (rest ≡ [] → ⊥) → NoData bs
+data_more bs v rest r n w d e = n (the_value bs v rest w r d e).1
+
+pub data_large : (bs : List ℕ) (v : Val (List ℕ)) (rest : List ℕ) → Read most_depth bs v rest → most_size < size v → NoData bs
+data_large bs v rest r n w d e =
+    let same = (the_value bs v rest w r d e).0 in
+    let small : size v ≤ most_size = subst (λ x. size x ≤ most_size) (sym same) d.kept.large in
+    absurd (omega (arith, n, small))
+
+pub data_read : (bs : List ℕ) (v : Val (List ℕ)) (rest : List ℕ) → Read most_depth bs v rest → rest ≡ [] → bytes v ≡ bs
+data_read bs v rest r e = sym (append-nil (bytes v)) ∙ ap (λ x. bytes v ++ x) (sym e) ∙ sym r.0

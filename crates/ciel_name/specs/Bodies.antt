@@ -1,6 +1,8 @@
 -- A value's bytes as a first byte, which tells its kind, and what stands behind it.
 use Rattle.std.specs.Prelude.{◌≡◌, ◌≤◌, ◌<◌, ◌^◌, ℕ, List, [], ◌++◌, Bool, true, false, nat_eq, length}
-use Rattle.sky_base.specs.Val.{Val, Vals, Pairs, Desc, null, truth, num, text, list, dict, fun, ref, count, pair_count, depth, depths, pair_depths, Rising}
+use Rattle.sky_base.specs.Val.{Val, Vals, Pairs, Desc, null, truth, num, text, list, dict, fun, ref, no_pairs, pair, count, pair_count, depth, depths, pair_depths, Rising}
+use Rattle.std.specs.Ordering.{nat_cmp, is_lt}
+use Rattle.std.specs.Cmp.Lexicographic.{slice_cmp}
 use Rattle.sky_base.specs.Name.{vals_bytes, pairs_bytes, bytes_of_int, bytes_of_text, big_endian, is_anonymous, held_name}
 use Rattle.ciel_name.specs.Spelled.{Spelled, AllSpelled, PairsSpelled}
 
@@ -61,3 +63,12 @@ PairsRead n left old ps new = (old ≡ pairs_bytes ps ++ new) × (PairsSpelled p
 
 abbrev pub NoPairs : ℕ → ℕ → List ℕ → Type 0
 NoPairs n left old = (ps : Pairs (List ℕ)) (rest : List ℕ) → PairsSpelled ps → Rising ps → pair_depths ps ≤ left → pair_count ps ≡ n → old ≡ pairs_bytes ps ++ rest → ⊥
+
+-- whether a key is above the last one of the pairs
+abbrev pub above_from : List ℕ → Pairs (List ℕ) → List ℕ → Bool
+above_from last no_pairs k = is_lt (slice_cmp nat_cmp last k)
+above_from last (pair l v ps) k = above_from l ps k
+
+abbrev pub is_above : List ℕ → Pairs (List ℕ) → Bool
+is_above k no_pairs = true
+is_above k (pair l v ps) = above_from l ps k

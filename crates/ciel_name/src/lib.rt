@@ -6,6 +6,7 @@ pub mod name;
 pub mod object;
 pub mod read;
 mod reader;
+pub mod refusal;
 pub mod text;
 pub mod write;
 mod writer;

@@ -6,6 +6,7 @@ ghost use Rattle.sky_base.specs.Name.{big_endian, bytes_of_int};
 use std::marker::Model;
 
 /// Bytes, of which some were read. Contracts see those that are left.
+#[derive(Drop)]
 pub(crate) struct Reader<'a> {
     left: &'a [u8],
 }
@@ -55,24 +56,28 @@ impl<'a> Reader<'a> {
         Some(front)
     }
 
-    #[tactic(auto, using(crate::proofs::Numbers::parts))]
+    /// The next `N` bytes, if there are as many.
+    #[tactic(auto, using(crate::proofs::Numbers::takes))]
+    pub(crate) fn array<const N: usize>(&mut self) -> Option<[u8; N]>
+        ensures { MatchOption result (length self.old < N) (λ s. (self.old ≡ s ++ self.new) × (length s ≡ N)) }
+    {
+        let (bytes, rest) = self.left.split_first_chunk::<N>()?;
+        self.left = rest;
+        Some(*bytes)
+    }
+
     /// The number in the next four bytes, if there are as many.
     pub(crate) fn number(&mut self) -> Option<u32>
         ensures { MatchOption result (length self.old < 4) (λ n. self.old ≡ big_endian 4 n ++ self.new) }
     {
-        let (bytes, rest) = self.left.split_first_chunk::<4>()?;
-        self.left = rest;
-        Some(number_of(*bytes))
+        Some(number_of(self.array::<4>()?))
     }
 
-    #[tactic(auto, using(crate::proofs::Numbers::parts))]
     /// The number in the next eight bytes, in two's complement, if there are as many.
     pub(crate) fn int(&mut self) -> Option<i64>
         ensures { MatchOption result (length self.old < 8) (λ z. self.old ≡ bytes_of_int z ++ self.new) }
     {
-        let (bytes, rest) = self.left.split_first_chunk::<8>()?;
-        self.left = rest;
-        Some(int_of(*bytes))
+        Some(int_of(self.array::<8>()?))
     }
 }
 
