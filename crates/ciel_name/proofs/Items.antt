@@ -33,9 +33,10 @@ pub items_start : (left : ℕ) (old : List ℕ) → ItemsRead 0 left old no_vals
 items_start left old = (refl, (tt, (omega arith, refl)))
 
 pub items_more : (i left : ℕ) (old : List ℕ) (vs : Vals (List ℕ)) (mid : List ℕ) (v : Val (List ℕ)) (new : List ℕ) → ItemsRead i left old vs mid → Read left mid v new → ItemsRead (i + 1) left old (add_val vs v) new
-items_more i left old vs mid v new p q =
-    (p.0 ∙ ap (λ b. vals_bytes vs ++ b) q.0 ∙ sym (append_assoc (vals_bytes vs) (bytes v) new) ∙ ap (λ b. b ++ new) (sym (bytes-add vs v)),
-      (spelled-add vs v p.1.0 q.1.0, (omega (arith, depths-add vs v, p.1.1.0, q.1.1), count-add vs v ∙ ap (λ n. n + 1) p.1.1.1)))
+items_more i left old vs mid v new p q = (
+  p.0 ∙ ap (λ b. vals_bytes vs ++ b) q.0 ∙ sym (append_assoc (vals_bytes vs) (bytes v) new) ∙ ap (λ b. b ++ new) (sym (bytes-add vs v)),
+  (spelled-add vs v p.1.0 q.1.0, (omega (arith, depths-add vs v, p.1.1.0, q.1.1), count-add vs v ∙ ap (λ n. n + 1) p.1.1.1)),
+)
 
 -- where more values stand in front, one more stands behind the first ones
 vals_prefix : {P : Type 0} (vs ws : Vals (List ℕ)) (mid rest : List ℕ) → AllSpelled vs → AllSpelled ws → count vs < count ws → vals_bytes vs ++ mid ≡ vals_bytes ws ++ rest → ((w : Val (List ℕ)) (more : List ℕ) → Spelled w → depth w ≤ depths ws → mid ≡ bytes w ++ more → P) → P
@@ -75,9 +76,10 @@ Behind ps k v qs =
     (pairs_bytes qs ≡ pairs_bytes ps ++ (bytes_of_text k ++ bytes v)) × ((pair_count qs ≡ pair_count ps + 1) × ((pair_depths qs ≡ max (pair_depths ps) (depth v)) × (PairsSpelled ps → IsText k → Spelled v → PairsSpelled qs)))
 
 behind_step : (l : List ℕ) (w : Val (List ℕ)) (ps : Pairs (List ℕ)) (k : List ℕ) (v : Val (List ℕ)) (qs : Pairs (List ℕ)) → Behind ps k v qs → Behind (pair l w ps) k v (pair l w qs)
-behind_step l w ps k v qs b =
-    (ap (λ x. bytes_of_text l ++ (bytes w ++ x)) b.0 ∙ sym (pair_bytes (bytes_of_text l) (bytes w) (pairs_bytes ps) (bytes_of_text k ++ bytes v)),
-      (omega (arith, b.1.0), (omega (arith, b.1.1.0), λ p q r. (p.0, (p.1.0, b.1.1.1 p.1.1 q r)))))
+behind_step l w ps k v qs b = (
+  ap (λ x. bytes_of_text l ++ (bytes w ++ x)) b.0 ∙ sym (pair_bytes (bytes_of_text l) (bytes w) (pairs_bytes ps) (bytes_of_text k ++ bytes v)),
+  (omega (arith, b.1.0), (omega (arith, b.1.1.0), λ p q r. (p.0, (p.1.0, b.1.1.1 p.1.1 q r)))),
+)
 
 behind_from : (l : List ℕ) (w : Val (List ℕ)) (ps : Pairs (List ℕ)) (k : List ℕ) (v : Val (List ℕ)) → RisingFrom l ps → above_from l ps k ≡ true → Behind (pair l w ps) k v (put k v (pair l w ps))
 behind_from l w no_pairs k v r a =
@@ -95,9 +97,10 @@ pairs_start left old = (refl, (tt, (tt, (omega arith, refl))))
 
 pub pairs_more : (i left : ℕ) (old : List ℕ) (ps : Pairs (List ℕ)) (mid k inner : List ℕ) (v : Val (List ℕ)) (new : List ℕ) → PairsRead i left old ps mid → TextRead mid k inner → is_above k ps ≡ true → Read left inner v new → PairsRead (i + 1) left old (put k v ps) new
 pairs_more i left old ps mid k inner v new p t a q =
-    let b = behind ps k v p.1.1.0 a in
-    (p.0 ∙ ap (λ x. pairs_bytes ps ++ x) (t.0 ∙ ap (λ x. bytes_of_text k ++ x) q.0) ∙ sym (pair_bytes (pairs_bytes ps) (bytes_of_text k) (bytes v) new) ∙ ap (λ x. x ++ new) (sym b.0),
-      (b.1.1.1 p.1.0 t.1 q.1.0, (Rising-put k v ps p.1.1.0, (omega (arith, b.1.1.0, p.1.1.1.0, q.1.1), b.1.0 ∙ ap (λ n. n + 1) p.1.1.1.1))))
+    let b = behind ps k v p.1.1.0 a in (
+      p.0 ∙ ap (λ x. pairs_bytes ps ++ x) (t.0 ∙ ap (λ x. bytes_of_text k ++ x) q.0) ∙ sym (pair_bytes (pairs_bytes ps) (bytes_of_text k) (bytes v) new) ∙ ap (λ x. x ++ new) (sym b.0),
+      (b.1.1.1 p.1.0 t.1 q.1.0, (Rising-put k v ps p.1.1.0, (omega (arith, b.1.1.0, p.1.1.1.0, q.1.1), b.1.0 ∙ ap (λ n. n + 1) p.1.1.1.1))),
+    )
 
 -- a further pair, whose key is above the last one
 abbrev Further : Pairs (List ℕ) → ℕ → List ℕ → Type 0 → Type 0

@@ -3,3 +3,4 @@ pub mod Tags
 pub mod Spelling
 pub mod Reading
 pub mod Items
+pub mod Canon

@@ -43,4 +43,3 @@ int_read bs n len small fits e =
 
 pub signed_twice : (n : ℕ) → n < 2 ^ 64 → cast_signed w64 (cast_unsigned w64 (cast_signed w64 n)) ≡ cast_signed w64 n
 signed_twice n fits = ap (cast_signed w64) (of_z-to_z w64 n fits)
-

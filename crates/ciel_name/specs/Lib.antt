@@ -3,3 +3,4 @@ pub mod Names
 pub mod Texts
 pub mod Spelled
 pub mod Bodies
+pub mod Laws

@@ -2,6 +2,7 @@
 // description give it the same bytes, so they give it the same name and need not ask each other.
 #![tactic(auto)]
 
+pub mod law;
 pub mod name;
 pub mod object;
 pub mod read;

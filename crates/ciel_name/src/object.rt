@@ -77,7 +77,13 @@ fn put_call(out: &mut Writer, fun: &Txt, caught: &Pairs, args: &Vals) -> Result<
 
 /// Writes the canonical bytes of an executor's output.
 #[tactic(auto, using(crate::proofs::Numbers::appends))]
-pub(crate) fn put_output(out: &mut Writer, executor: &Txt, args: &Value, outputs: u32, index: u32) -> Result<(), Memory>
+pub(crate) fn put_output(
+    out: &mut Writer,
+    executor: &Txt,
+    args: &Value,
+    outputs: u32,
+    index: u32,
+) -> Result<(), Memory>
     ensures { IfOk result (λ _. out.new ≡ out.old ++ canon (output executor.now (view args.now) outputs index)) }
 {
     out.byte(b'E')?;

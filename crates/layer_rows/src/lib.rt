@@ -6,4 +6,6 @@ mod gates;
 #[cfg(test)]
 mod lanes;
 #[cfg(test)]
+mod names;
+#[cfg(test)]
 mod store;
