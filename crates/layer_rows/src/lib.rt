@@ -12,4 +12,6 @@ mod line_faults;
 #[cfg(test)]
 mod line_rows;
 #[cfg(test)]
+mod names;
+#[cfg(test)]
 mod store;

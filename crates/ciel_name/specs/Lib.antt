@@ -1,0 +1,6 @@
+pub mod Object
+pub mod Names
+pub mod Texts
+pub mod Spelled
+pub mod Bodies
+pub mod Laws
