@@ -1,6 +1,6 @@
 -- Where an executor gives no fault, it gives as many outputs as were asked for. This is the proof of a law of
 -- kits, which an implementation needs beside its definitions.
-use Rattle.std.specs.Prelude.{◌≡◌, ℕ, ◌*◌, ℤ, pos, int_div, decimal, nat_lt, Bool, true, false, ◌==◌, List, [], ◌∷◌, length, map, filter, take, drop, Option, Some, None, IfOk, Ok, Err}
+use Rattle.std.specs.Prelude.{◌≡◌, ℕ, ◌*◌, ℤ, pos, int_div, decimal, nat_lt, Bool, true, false, ◌==◌, List, [], ◌∷◌, length, map, take, drop, Option, Some, None, IfOk, Ok, Err}
 use Rattle.std.specs.Fmt.{signed_decimal}
 use Rattle.std.proofs.Common.{cond, refl, sym, ◌∙◌}
 use Rattle.std.specs.List.{list_any, flat_map, range_with_len}
@@ -9,7 +9,7 @@ use Rattle.std.proofs.lemmas.List.{length-map}
 use Rattle.std.proofs.lemmas.List.FromFn.{length-map-range_with_len}
 use Rattle.sky_base.specs.Val.{Val, Pairs, null, truth, num, text, list, dict, fun, ref}
 use Rattle.sky_base.specs.declared.fault.FaultKind.TheVariants.{BadCount, BadKind, NoKey, Overflow, TooLarge}
-use Rattle.line_kit.specs.Lines.{all_lines, lines, joined, contains, same_lines}
+use Rattle.line_kit.specs.Lines.{all_lines, lines, joined, with_text, same_lines}
 use Rattle.line_kit.specs.Words.{words}
 use Rattle.line_kit.specs.Numbers.{signed_number, counted, count_line}
 use Rattle.line_kit.specs.Orders.{in_order, total, rests}
@@ -46,7 +46,7 @@ many_counts f n = unless_large_counts (map joined (map f (range_with_len 0 n))) 
 
 row_counts : (e : Executor) (args : Pairs (List ℕ)) (inputs : List (List ℕ)) (n : ℕ) → may_have e n ≡ true → IfOk (row e args inputs n) (λ r. length r ≡ n)
 row_counts Cat args inputs n h = one_counts (all_lines inputs) n h
-row_counts Grep args inputs n h = one_counts (filter (λ line. contains line (text_of args)) (all_lines inputs)) n h
+row_counts Grep args inputs n h = one_counts (with_text (text_of args) (all_lines inputs)) n h
 row_counts Words args inputs n h = one_counts (flat_map words (all_lines inputs)) n h
 row_counts Split args inputs n h = many_counts (λ i. take (share (length (all_lines inputs)) n) (drop (i * share (length (all_lines inputs)) n) (all_lines inputs))) n
 row_counts Deal args inputs n h = many_counts (λ i. every n i 0 (all_lines inputs)) n

@@ -1,5 +1,5 @@
 -- What each executor gives: the table of the executors, row by row, and the order of their faults.
-use Rattle.std.specs.Prelude.{ℕ, nat_lt, Bool, ℤ, pos, List, [], ◌∷◌, length, take, map, filter, slice_index_or, option_and_then, Option, Some, None, Result, Ok, Err, codes, decimal, int_div, if◌then◌else◌}
+use Rattle.std.specs.Prelude.{ℕ, nat_lt, Bool, ℤ, pos, List, [], ◌∷◌, length, take, map, slice_index_or, option_and_then, Option, Some, None, Result, Ok, Err, codes, decimal, int_div, if◌then◌else◌}
 use Rattle.std.specs.Fmt.{signed_decimal}
 use Rattle.std.specs.List.{flat_map, list_any}
 use Rattle.std.specs.Option.{option_map}
@@ -7,7 +7,7 @@ use Rattle.sky_base.specs.KitView.{Gives}
 use Rattle.sky_base.specs.Val.{Val, Pairs, dict}
 use Rattle.sky_base.specs.declared.fault.FaultKind.{FaultKind}
 use Rattle.sky_base.specs.declared.fault.FaultKind.TheVariants.{BadExec, BadCount, BadKind, NoKey, BadLine, Overflow, TooLarge}
-use Rattle.line_kit.specs.Lines.{all_lines, lines, joined, contains, same_lines}
+use Rattle.line_kit.specs.Lines.{all_lines, lines, joined, with_text, same_lines}
 use Rattle.line_kit.specs.Words.{words}
 use Rattle.line_kit.specs.Numbers.{signed_number, counted, count_line}
 use Rattle.line_kit.specs.Orders.{in_order, distinct_in_order, times, total, rests}
@@ -62,7 +62,7 @@ input inputs i = slice_index_or inputs i []
 -- what an executor gives for right arguments
 abbrev pub row : Executor → Pairs (List ℕ) → List (List ℕ) → ℕ → Answer
 row Cat args inputs n = one (all_lines inputs)
-row Grep args inputs n = one (filter (λ line. contains line (text_of args)) (all_lines inputs))
+row Grep args inputs n = one (with_text (text_of args) (all_lines inputs))
 row Words args inputs n = one (flat_map words (all_lines inputs))
 row Split args inputs n = with_lines (cut n (all_lines inputs))
 row Deal args inputs n = with_lines (dealt n (all_lines inputs))

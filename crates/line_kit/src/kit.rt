@@ -109,7 +109,8 @@ impl Kit for LineKit {
     /// Whether the name is one of the table.
     fn known(&self, executor: &Txt) -> bool
         ensures table { result ≡ is_some (executor_of executor.now) }
-        ensures unknown { result ≡ false → (args : _) (inputs : _) (n : _) → given executor.now args inputs n ≡ Err kind.BadExec }
+        ensures unknown { result ≡ false
+            → (args : _) (inputs : _) (n : _) → given executor.now args inputs n ≡ Err kind.BadExec }
     {
         executor_of(executor.as_str()).is_some()
     }

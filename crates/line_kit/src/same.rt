@@ -42,7 +42,8 @@ fn truth_text(holds: bool) -> &'static [u8]
 
 /// Whether the first two inputs have the same lines, in a line.
 pub(crate) fn same(alloc: Global, inputs: &[Bytes]) -> Answer
-    ensures { IfOk result (λ r. RunsSo r (one (truth_text (same_lines (lines (input inputs.now 0)) (lines (input inputs.now 1))) ∷ []))) }
+    ensures { IfOk result (λ r. RunsSo r
+        (one (truth_text (same_lines (lines (input inputs.now 0)) (lines (input inputs.now 1))) ∷ []))) }
 {
     one_line(
         alloc,
