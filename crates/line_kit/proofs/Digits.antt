@@ -10,7 +10,7 @@ use Rattle.std.specs.Option.{option_map}
 use Rattle.std.specs.List.{list_all, list_any, position_or_len}
 use Rattle.std.proofs.lemmas.Bool.Decides.{nat_tests}
 use Rattle.line_kit.proofs.Truth.{and_both}
-use Rattle.line_kit.specs.Numbers.{number, is_digits, is_space, counted}
+use Rattle.line_kit.specs.Numbers.{number_up_to, is_digits, is_space, counted}
 
 all_at : (p : ℕ → Bool) (xs : List ℕ) (i d : ℕ) → list_all p xs ≡ true → i < length xs → p (get_or xs i d) ≡ true
 all_at p [] i d e h = absurd (omega arith)
@@ -35,7 +35,7 @@ cut true b n e = rw e refl
 cut false b n e = refl
 
 -- a number above the greatest is none
-pub number_none : (most : ℕ) (digits : List ℕ) → most < digits_value 10 digits → number most digits ≡ None
+pub number_none : (most : ℕ) (digits : List ℕ) → most < digits_value 10 digits → number_up_to most digits ≡ None
 number_none most digits h = cut (is_digits digits) (nat_le (digits_value 10 digits) most) (digits_value 10 digits) (grind (arith, nat_tests))
 
 any_step : (p : ℕ → Bool) (x : ℕ) (xs : List ℕ) (b : Bool) → list_any p xs ≡ nat_lt (position_or_len p xs) (length xs)
@@ -53,7 +53,7 @@ counted_none line end e f =
     let past : list_any is_space line ≡ false = any_position is_space line ∙ grind (arith, nat_tests) in
     rw past refl
 
-pub counted_some : (line : List ℕ) (end n : ℕ) → end ≡ position_or_len is_space line → end < length line → number (2 ^ 63 - 1) (take end line) ≡ Some n → counted line ≡ Some (drop (end + 1) line, n)
+pub counted_some : (line : List ℕ) (end n : ℕ) → end ≡ position_or_len is_space line → end < length line → number_up_to (2 ^ 63 - 1) (take end line) ≡ Some n → counted line ≡ Some (drop (end + 1) line, n)
 counted_some line end n e f read =
     let there : list_any is_space line ≡ true = any_position is_space line ∙ grind (arith, nat_tests) in
-    rw there (ap (λ i. option_map (λ m. (drop (i + 1) line, m)) (number (2 ^ 63 - 1) (take i line))) (sym e) ∙ ap (option_map (λ m. (drop (end + 1) line, m))) read)
+    rw there (ap (λ i. option_map (λ m. (drop (i + 1) line, m)) (number_up_to (2 ^ 63 - 1) (take i line))) (sym e) ∙ ap (option_map (λ m. (drop (end + 1) line, m))) read)

@@ -1,6 +1,6 @@
 -- Lines with a text, by a search of all bytes: before the line around the first place of the text no line
 -- has it, and that line has it.
-use Rattle.std.proofs.Common.{◌≡◌, ◌≢◌, ℕ, zero, suc, ◌+◌, ◌<◌, ◌≤◌, Bool, true, false, ◌&&◌, ◌||◌, cond, List, [], ◌∷◌, ◌++◌, filter, length, take, drop, slice_index, refl, sym, ap, ap₂, ◌∙◌, arith, length-take, length-drop}
+use Rattle.std.proofs.Common.{◌≡◌, ◌≢◌, ℕ, zero, suc, ◌+◌, ◌<◌, ◌≤◌, Bool, true, false, ◌&&◌, ◌||◌, cond, List, [], ◌∷◌, ◌++◌, length, take, drop, slice_index, refl, sym, ap, ap₂, ◌∙◌, arith, length-take, length-drop}
 use Rattle.std.specs.Prelude.{◌==◌, nat_eq}
 use Rattle.std.specs.List.{list_any}
 use Rattle.std.proofs.lemmas.Bool.{true≢false, eqb-true, eq-eqb, ne_eqb}
@@ -9,7 +9,7 @@ use Rattle.std.proofs.lemmas.Slice.Eq.{bytes_eq-Decides}
 use Rattle.memchr.specs.Find.{OccursAt}
 use Rattle.memchr.proofs.lemmas.MatchLemmas.{OccursAt-from_part}
 use Rattle.line_kit.proofs.Truth.{and_both, or_none, or_right, or_left, not_true}
-use Rattle.line_kit.specs.Lines.{lines, all_lines, with_byte, begins, contains, is_feed}
+use Rattle.line_kit.specs.Lines.{lines, all_lines, with_byte, begins, contains, with_text, is_feed}
 
 -- ---- a text that stands first
 
@@ -97,9 +97,6 @@ first_none [] n e = e
 first_none (x ∷ xs) n e =
     let parts = or_none (begins (x ∷ xs) n) (contains xs n) e in
     first_none_by x xs n (x == 10) (sym (begins-first_in (x ∷ xs) n) ∙ parts.0) (first_none xs n parts.1)
-
-abbrev pub with_text : List ℕ → List (List ℕ) → List (List ℕ)
-with_text n ls = filter (λ line. contains line n) ls
 
 drop_first : (n l : List ℕ) (ls : List (List ℕ)) → contains l n ≡ false → with_text n (l ∷ ls) ≡ with_text n ls
 drop_first n l ls e = rw e refl

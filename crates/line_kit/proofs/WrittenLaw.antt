@@ -5,7 +5,7 @@ use Rattle.std.specs.List.{list_any}
 use Rattle.sky_base.specs.declared.fault.FaultKind.TheVariants.{TooLarge}
 use Rattle.std.proofs.lemmas.Grind.{flat_map-append}
 use Rattle.line_kit.specs.Lines.{joined, ended}
-use Rattle.line_kit.specs.Gives.{Answer, limited, with_lines, one}
+use Rattle.line_kit.specs.Gives.{Answer, unless_large, with_lines, one}
 use Rattle.line_kit.specs.Written.{capped, extended, finished, with_first, answered, closed}
 
 pub extended-none : (piece : List ℕ) → extended None piece ≡ None
@@ -50,18 +50,18 @@ extended-extended (Some x) a b =
 
 -- ---- closing
 
-limited-cons : (x : List ℕ) (xs : List (List ℕ)) (s t : Bool) → is_over x ≡ s → list_any is_over xs ≡ t → with_first (cond s None (Some x)) (cond t (Err TooLarge) (Ok xs)) ≡ cond (s || t) (Err TooLarge) (Ok (x ∷ xs))
-limited-cons x xs true t e f = refl
-limited-cons x xs false true e f = refl
-limited-cons x xs false false e f = refl
+unless_large-cons : (x : List ℕ) (xs : List (List ℕ)) (s t : Bool) → is_over x ≡ s → list_any is_over xs ≡ t → with_first (cond s None (Some x)) (cond t (Err TooLarge) (Ok xs)) ≡ cond (s || t) (Err TooLarge) (Ok (x ∷ xs))
+unless_large-cons x xs true t e f = refl
+unless_large-cons x xs false true e f = refl
+unless_large-cons x xs false false e f = refl
 
-with_first-limited : (x : List ℕ) (xs : List (List ℕ)) → with_first (capped x) (limited xs) ≡ limited (x ∷ xs)
-with_first-limited x xs =
-    ap (λ o. with_first o (limited xs)) (capped-if x (is_over x) refl) ∙ limited-cons x xs (is_over x) (list_any is_over xs) refl refl
+with_first-unless_large : (x : List ℕ) (xs : List (List ℕ)) → with_first (capped x) (unless_large xs) ≡ unless_large (x ∷ xs)
+with_first-unless_large x xs =
+    ap (λ o. with_first o (unless_large xs)) (capped-if x (is_over x) refl) ∙ unless_large-cons x xs (is_over x) (list_any is_over xs) refl refl
 
 pub answered-capped : (ls : List (List (List ℕ))) → answered (map (λ l. capped (joined l)) ls) ≡ with_lines ls
 answered-capped [] = refl
-answered-capped (l ∷ ls) = ap (with_first (capped (joined l))) (answered-capped ls) ∙ with_first-limited (joined l) (map joined ls)
+answered-capped (l ∷ ls) = ap (with_first (capped (joined l))) (answered-capped ls) ∙ with_first-unless_large (joined l) (map joined ls)
 
 pub closed_with : (outputs : List (Option (List ℕ))) (ls : List (List (List ℕ))) → map finished outputs ≡ map (λ l. capped (joined l)) ls → closed outputs ≡ with_lines ls
 closed_with outputs ls e = ap answered e ∙ answered-capped ls

@@ -1,32 +1,33 @@
--- Where an executor gives no fault, it gives as many outputs as were asked for.
-use Rattle.std.specs.Prelude.{◌≡◌, ℕ, ◌*◌, ℤ, pos, int_div, decimal, nat_lt, Bool, true, false, ◌==◌, List, [], ◌∷◌, length, map, filter, take, drop, Option, Some, None, IfOk, Ok, Err}
+-- Where an executor gives no fault, it gives as many outputs as were asked for. This is the proof of a law of
+-- kits, which an implementation needs beside its definitions.
+use Rattle.std.specs.Prelude.{◌≡◌, ℕ, ◌*◌, ℤ, pos, int_div, decimal, nat_lt, Bool, true, false, ◌==◌, List, [], ◌∷◌, length, map, take, drop, Option, Some, None, IfOk, Ok, Err}
 use Rattle.std.specs.Fmt.{signed_decimal}
 use Rattle.std.proofs.Common.{cond, refl, sym, ◌∙◌}
 use Rattle.std.specs.List.{list_any, flat_map, range_with_len}
 use Rattle.std.proofs.lemmas.Bool.{eqb-true}
 use Rattle.std.proofs.lemmas.List.{length-map}
 use Rattle.std.proofs.lemmas.List.FromFn.{length-map-range_with_len}
-use Rattle.sky_base.specs.Val.{Val, Pairs, null, truth as truth_value, num, text, list, dict, fun, ref}
+use Rattle.sky_base.specs.Val.{Val, Pairs, null, truth, num, text, list, dict, fun, ref}
 use Rattle.sky_base.specs.declared.fault.FaultKind.TheVariants.{BadCount, BadKind, NoKey, Overflow, TooLarge}
-use Rattle.line_kit.specs.Lines.{all_lines, lines, joined, contains, same_lines}
+use Rattle.line_kit.specs.Lines.{all_lines, lines, joined, with_text, same_lines}
 use Rattle.line_kit.specs.Words.{words}
 use Rattle.line_kit.specs.Numbers.{signed_number, counted, count_line}
 use Rattle.line_kit.specs.Orders.{in_order, total, rests}
 use Rattle.line_kit.specs.Parts.{share, every}
-use Rattle.line_kit.specs.Gives.{Answer, limited, with_lines, one, row, summed, halved, tallied, read_each, truth, input, with_args, with_executor, gives}
+use Rattle.line_kit.specs.Gives.{Answer, unless_large, with_lines, one, row, summed, halved, tallied, read_each, truth_text, input, with_args, with_executor, gives}
 use Rattle.line_kit.specs.Table.{executor_of, may_have, has_keys, all_fit, text_of, lines_of}
 use Rattle.line_kit.specs.declared.executor.Executor.{Executor}
 use Rattle.line_kit.specs.declared.executor.Executor.TheVariants.{Cat, Grep, Words, Split, Deal, Sort, Tally, Count, Sum, Head, Half, Same}
 
-limited_by : (b : Bool) (outputs : List (List ℕ)) (n : ℕ) → length outputs ≡ n → IfOk (cond b (Err TooLarge) (Ok outputs)) (λ r. length r ≡ n)
-limited_by true outputs n e = tt
-limited_by false outputs n e = e
+unless_large_by : (b : Bool) (outputs : List (List ℕ)) (n : ℕ) → length outputs ≡ n → IfOk (cond b (Err TooLarge) (Ok outputs)) (λ r. length r ≡ n)
+unless_large_by true outputs n e = tt
+unless_large_by false outputs n e = e
 
-limited_counts : (outputs : List (List ℕ)) (n : ℕ) → length outputs ≡ n → IfOk (limited outputs) (λ r. length r ≡ n)
-limited_counts outputs n e = limited_by (list_any (λ bytes. nat_lt 67108864 (length bytes)) outputs) outputs n e
+unless_large_counts : (outputs : List (List ℕ)) (n : ℕ) → length outputs ≡ n → IfOk (unless_large outputs) (λ r. length r ≡ n)
+unless_large_counts outputs n e = unless_large_by (list_any (λ bytes. nat_lt 67108864 (length bytes)) outputs) outputs n e
 
 one_counts : (ls : List (List ℕ)) (n : ℕ) → (n == 1) ≡ true → IfOk (one ls) (λ r. length r ≡ n)
-one_counts ls n e = limited_counts (joined ls ∷ []) n (sym (eqb-true n 1 e))
+one_counts ls n e = unless_large_counts (joined ls ∷ []) n (sym (eqb-true n 1 e))
 
 summed_by : (b : Bool) (ls : List (List ℕ)) (n : ℕ) → (n == 1) ≡ true → IfOk (cond b (Err Overflow) (one ls)) (λ r. length r ≡ n)
 summed_by true ls n e = tt
@@ -41,11 +42,11 @@ halved_counts None n e = tt
 halved_counts (Some zs) n e = one_counts (map (λ z. signed_decimal (int_div z (pos 2))) zs) n e
 
 many_counts : (f : ℕ → List (List ℕ)) (n : ℕ) → IfOk (with_lines (map f (range_with_len 0 n))) (λ r. length r ≡ n)
-many_counts f n = limited_counts (map joined (map f (range_with_len 0 n))) n (length-map (map f (range_with_len 0 n)) joined ∙ length-map-range_with_len f 0 n)
+many_counts f n = unless_large_counts (map joined (map f (range_with_len 0 n))) n (length-map (map f (range_with_len 0 n)) joined ∙ length-map-range_with_len f 0 n)
 
 row_counts : (e : Executor) (args : Pairs (List ℕ)) (inputs : List (List ℕ)) (n : ℕ) → may_have e n ≡ true → IfOk (row e args inputs n) (λ r. length r ≡ n)
 row_counts Cat args inputs n h = one_counts (all_lines inputs) n h
-row_counts Grep args inputs n h = one_counts (filter (λ line. contains line (text_of args)) (all_lines inputs)) n h
+row_counts Grep args inputs n h = one_counts (with_text (text_of args) (all_lines inputs)) n h
 row_counts Words args inputs n h = one_counts (flat_map words (all_lines inputs)) n h
 row_counts Split args inputs n h = many_counts (λ i. take (share (length (all_lines inputs)) n) (drop (i * share (length (all_lines inputs)) n) (all_lines inputs))) n
 row_counts Deal args inputs n h = many_counts (λ i. every n i 0 (all_lines inputs)) n
@@ -55,7 +56,7 @@ row_counts Count args inputs n h = one_counts (decimal (length (all_lines inputs
 row_counts Sum args inputs n h = summed_counts (read_each counted (all_lines inputs)) n h
 row_counts Head args inputs n h = one_counts (take (lines_of args) (all_lines inputs)) n h
 row_counts Half args inputs n h = halved_counts (read_each signed_number (all_lines inputs)) n h
-row_counts Same args inputs n h = one_counts (truth (same_lines (lines (input inputs 0)) (lines (input inputs 1))) ∷ []) n h
+row_counts Same args inputs n h = one_counts (truth_text (same_lines (lines (input inputs 0)) (lines (input inputs 1))) ∷ []) n h
 
 args_by : (keys fit : Bool) (a : Answer) (n : ℕ) → IfOk a (λ r. length r ≡ n) → IfOk (cond keys (cond fit a (Err BadKind)) (Err NoKey)) (λ r. length r ≡ n)
 args_by true true a n h = h
@@ -64,7 +65,7 @@ args_by false fit a n h = tt
 
 args_counts : (e : Executor) (args : Val (List ℕ)) (inputs : List (List ℕ)) (n : ℕ) → may_have e n ≡ true → IfOk (with_args e args inputs n) (λ r. length r ≡ n)
 args_counts e null inputs n h = tt
-args_counts e (truth_value b) inputs n h = tt
+args_counts e (truth b) inputs n h = tt
 args_counts e (num z) inputs n h = tt
 args_counts e (text t) inputs n h = tt
 args_counts e (list vs) inputs n h = tt

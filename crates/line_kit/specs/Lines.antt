@@ -1,5 +1,5 @@
 -- The lines of some bytes.
-use Rattle.std.specs.Prelude.{ℕ, ◌==◌, ◌||◌, ◌&&◌, Bool, true, false, not, List, [], ◌∷◌, ◌++◌, take, length, if◌then◌else◌}
+use Rattle.std.specs.Prelude.{ℕ, ◌==◌, ◌||◌, ◌&&◌, Bool, true, false, not, List, [], ◌∷◌, ◌++◌, take, filter, length, if◌then◌else◌}
 use Rattle.std.specs.List.{flat_map}
 use Rattle.std.specs.Str.{bytes_eq}
 
@@ -42,6 +42,10 @@ begins bytes text = bytes_eq (take (length text) bytes) text
 abbrev pub contains : List ℕ → List ℕ → Bool
 contains [] text = begins [] text
 contains (x ∷ xs) text = begins (x ∷ xs) text || contains xs text
+
+-- the lines that contain the text
+abbrev pub with_text : List ℕ → List (List ℕ) → List (List ℕ)
+with_text text ls = filter (λ line. contains line text) ls
 
 -- two lists have the same lines
 abbrev pub same_lines : List (List ℕ) → List (List ℕ) → Bool

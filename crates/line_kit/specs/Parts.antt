@@ -10,7 +10,7 @@ share m n = (m + (n - 1)) / n
 abbrev pub cut : ℕ → List (List ℕ) → List (List (List ℕ))
 cut n lines = map (λ i. take (share (length lines) n) (drop (i * share (length lines) n) lines)) (range_with_len 0 n)
 
--- of lines whose places begin at p those whose place leaves i when divided by n
+-- of lines that have the places p, p + 1 and so on those whose place leaves i when divided by n
 abbrev pub every : ℕ → ℕ → ℕ → List (List ℕ) → List (List ℕ)
 every n i p [] = []
 every n i p (line ∷ more) = if p % n == i then line ∷ every n i (p + 1) more else every n i (p + 1) more

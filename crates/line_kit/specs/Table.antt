@@ -2,6 +2,7 @@
 use Rattle.std.specs.Prelude.{ℕ, ◌==◌, ◌&&◌, ◌||◌, nat_le, Bool, true, false, ℤ, pos, negsuc, List, [], ◌∷◌, Option, Some, None, codes, if◌then◌else◌}
 use Rattle.std.specs.List.{list_all}
 use Rattle.std.specs.Str.{bytes_eq}
+use Rattle.sky_base.specs.Op.{find, is_there}
 use Rattle.sky_base.specs.Val.{Val, Vals, Pairs, no_vals, val, no_pairs, pair, text, num, count, if_ref, if_list, if_text, if_num}
 use Rattle.line_kit.specs.declared.executor.Executor.{Executor}
 use Rattle.line_kit.specs.declared.executor.Executor.TheVariants.{Cat, Grep, Words, Split, Deal, Sort, Tally, Count, Sum, Head, Half, Same}
@@ -57,36 +58,30 @@ fits_other Grep k v = bytes_eq k (codes "text") && if_text v (λ t. true)
 fits_other Head k v = bytes_eq k (codes "lines") && if_num v is_natural
 fits_other _ k v = false
 
-abbrev pub fits : Executor → List ℕ → Val (List ℕ) → Bool
-fits e k v = if bytes_eq k (codes "in") then fits_in e v else fits_other e k v
-
-abbrev pub has_key : Pairs (List ℕ) → List ℕ → Bool
-has_key no_pairs k = false
-has_key (pair l v ps) k = bytes_eq l k || has_key ps k
+abbrev pub fits_at : Executor → List ℕ → Val (List ℕ) → Bool
+fits_at e k v = if bytes_eq k (codes "in") then fits_in e v else fits_other e k v
 
 -- whether each key of the executor is there
 abbrev pub has_keys : Executor → Pairs (List ℕ) → Bool
-has_keys e ps = list_all (has_key ps) (keys_of e)
+has_keys e args = list_all (λ k. is_there (find k args)) (keys_of e)
 
 -- whether each pair is one that the executor has
 abbrev pub all_fit : Executor → Pairs (List ℕ) → Bool
 all_fit e no_pairs = true
-all_fit e (pair k v ps) = fits e k v && all_fit e ps
+all_fit e (pair k v ps) = fits_at e k v && all_fit e ps
 
-abbrev pub text_in : Val (List ℕ) → List ℕ
-text_in (text t) = t
+abbrev pub text_in : Option (Val (List ℕ)) → List ℕ
+text_in (Some (text t)) = t
 text_in _ = []
 
-abbrev pub number_in : Val (List ℕ) → ℕ
-number_in (num (pos n)) = n
-number_in _ = 0
+abbrev pub natural_in : Option (Val (List ℕ)) → ℕ
+natural_in (Some (num (pos n))) = n
+natural_in _ = 0
 
 -- the text at the key `text`
 abbrev pub text_of : Pairs (List ℕ) → List ℕ
-text_of no_pairs = []
-text_of (pair k v ps) = if bytes_eq k (codes "text") then text_in v else text_of ps
+text_of args = text_in (find (codes "text") args)
 
 -- the number at the key `lines`
 abbrev pub lines_of : Pairs (List ℕ) → ℕ
-lines_of no_pairs = 0
-lines_of (pair k v ps) = if bytes_eq k (codes "lines") then number_in v else lines_of ps
+lines_of args = natural_in (find (codes "lines") args)

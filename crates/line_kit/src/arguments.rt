@@ -1,22 +1,33 @@
 // The arguments of an executor: a dictionary with the key `in`, a reference or a list of references,
 // for `grep` the key `text` and for `head` the key `lines`, and no other key.
 
-ghost use Rattle.std.specs.Prelude.{◌≡◌};
+ghost use Rattle.std.specs.Prelude.{◌≡◌, Some, None, MatchOption};
 ghost use Rattle.sky_base.specs.View.{view, vals_of, pairs_of};
-ghost use Rattle.line_kit.specs.Table.{has_key, has_keys, all_fit, fits, fits_in, fits_other, is_ref, are_refs, text_in, text_of, number_in, lines_of};
+ghost use Rattle.sky_base.specs.Op.{find, is_there};
+ghost use Rattle.line_kit.specs.Table.{has_keys, all_fit, fits_at, fits_in, fits_other, is_ref, are_refs, text_of, lines_of};
 
 use crate::executor::Executor;
 use sky_base::value::{Pair, Value};
+use std::cmp::Ordering;
 
-fn has_key(args: &[Pair], key: &str) -> bool
-    ensures { result ≡ has_key (pairs_of args.now) key.now }
+/// The value at a key.
+fn find<'a>(args: &'a [Pair], key: &str) -> Option<&'a Value>
+    ensures { MatchOption result (find key.now (pairs_of args.now) ≡ None) (λ v. find key.now (pairs_of args.now) ≡ Some (view v.now)) }
 {
     for pair in args {
-        if pair.key.as_str() == key {
-            return true;
+        match key.cmp(pair.key.as_str()) {
+            Ordering::Less => return None,
+            Ordering::Equal => return Some(&pair.value),
+            Ordering::Greater => {}
         }
     }
-    false
+    None
+}
+
+fn has_key(args: &[Pair], key: &str) -> bool
+    ensures { result ≡ is_there (find key.now (pairs_of args.now)) }
+{
+    find(args, key).is_some()
 }
 
 /// Whether each key of the executor is there.
@@ -69,8 +80,8 @@ fn fits_other(executor: Executor, key: &str, value: &Value) -> bool
     }
 }
 
-fn fits(executor: Executor, key: &str, value: &Value) -> bool
-    ensures { result ≡ fits executor key.now (view value.now) }
+fn fits_at(executor: Executor, key: &str, value: &Value) -> bool
+    ensures { result ≡ fits_at executor key.now (view value.now) }
 {
     if key == "in" {
         fits_in(executor, value)
@@ -84,40 +95,20 @@ pub(crate) fn all_fit(executor: Executor, args: &[Pair]) -> bool
     ensures { result ≡ all_fit executor (pairs_of args.now) }
 {
     for pair in args {
-        if !fits(executor, pair.key.as_str(), &pair.value) {
+        if !fits_at(executor, pair.key.as_str(), &pair.value) {
             return false;
         }
     }
     true
 }
 
-fn text_in(value: &Value) -> &[u8]
-    ensures { result.now ≡ text_in (view value.now) }
-{
-    match value {
-        Value::Text(text) => text.as_str().as_bytes(),
-        _ => &[],
-    }
-}
-
 /// The text at the key `text`.
 pub(crate) fn text_of(args: &[Pair]) -> &[u8]
     ensures { result.now ≡ text_of (pairs_of args.now) }
 {
-    for pair in args {
-        if pair.key.as_str() == "text" {
-            return text_in(&pair.value);
-        }
-    }
-    &[]
-}
-
-fn number_in(value: &Value) -> u64
-    ensures { result ≡ number_in (view value.now) }
-{
-    match value {
-        Value::Int(number) if *number >= 0 => *number as u64,
-        _ => 0,
+    match find(args, "text") {
+        Some(Value::Text(text)) => text.as_str().as_bytes(),
+        _ => &[],
     }
 }
 
@@ -125,10 +116,8 @@ fn number_in(value: &Value) -> u64
 pub(crate) fn lines_of(args: &[Pair]) -> u64
     ensures { result ≡ lines_of (pairs_of args.now) }
 {
-    for pair in args {
-        if pair.key.as_str() == "lines" {
-            return number_in(&pair.value);
-        }
+    match find(args, "lines") {
+        Some(Value::Int(lines)) if *lines >= 0 => *lines as u64,
+        _ => 0,
     }
-    0
 }

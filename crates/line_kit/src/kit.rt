@@ -44,7 +44,7 @@ fn row(alloc: Global, executor: Executor, args: &[Pair], inputs: &[Bytes], outpu
     }
 }
 
-// What an executor gives that may have so many outputs: the arguments are checked first.
+// What an executor gives that may have so many outputs, once its arguments are seen to be right.
 fn with_args(
     alloc: Global,
     executor: Executor,
@@ -69,6 +69,30 @@ fn with_args(
 }
 
 /// The executors over lines.
+///
+/// A line ends before a line feed, or at the end of its input if it isn't empty. The lines of an executor are
+/// those of its inputs, one input after the other. Each line of an output is followed by a line feed. The
+/// arguments are a dictionary with the key `in`, a reference or a list of references.
+///
+/// | executor | outputs | other key | each output |
+/// |---|---|---|---|
+/// | `cat` | 1 | | all lines |
+/// | `grep` | 1 | `text`, a text | the lines that contain the text |
+/// | `words` | 1 | | the words of the lines, between spaces, tabs and carriage returns, one per line |
+/// | `split` | 1 to 64 | | the next lines, the least number for each output with which all have a place |
+/// | `deal` | 1 to 64 | | every line whose turn it is: the outputs take turns |
+/// | `sort` | 1 | | the lines in order of their bytes |
+/// | `tally` | 1 | | for each distinct line, in order of bytes, how often it occurs, a space, the line |
+/// | `count` | 1 | | the number of lines |
+/// | `sum` | 1 | | of lines with a number, a space and a rest, for each distinct rest the sum, a space, the rest |
+/// | `head` | 1 | `lines`, a number from 0 | the first so many lines |
+/// | `half` | 1 | | the half of the number in each line, towards zero |
+/// | `same` | 1 | | `in` is a list of two: `true` or `false`, whether both have the same lines |
+///
+/// The first of these faults comes: BadExec for another name, BadCount for another number of outputs, BadKind
+/// for arguments that are no dictionary, NoKey for a missing key, BadKind for another key or a value of another
+/// kind, BadLine for a line of `sum` or `half` without its number of at most 64 signed bits, Overflow for a sum
+/// above 9,223,372,036,854,775,807, TooLarge for an output of more than 67,108,864 bytes.
 pub struct LineKit;
 
 impl Kit for LineKit {
@@ -85,7 +109,8 @@ impl Kit for LineKit {
     /// Whether the name is one of the table.
     fn known(&self, executor: &Txt) -> bool
         ensures table { result ≡ is_some (executor_of executor.now) }
-        ensures unknown { result ≡ false → (args : _) (inputs : _) (n : _) → given executor.now args inputs n ≡ Err kind.BadExec }
+        ensures unknown { result ≡ false
+            → (args : _) (inputs : _) (n : _) → given executor.now args inputs n ≡ Err kind.BadExec }
     {
         executor_of(executor.as_str()).is_some()
     }

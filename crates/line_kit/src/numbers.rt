@@ -6,7 +6,7 @@ ghost use Rattle.sky_base.specs.KitView.{RunsSo};
 ghost use Rattle.line_kit.specs.Lines.{all_lines};
 ghost use Rattle.std.specs.Char.{is_ascii_digit};
 ghost use Rattle.std.specs.List.{list_all, position_or_len};
-ghost use Rattle.line_kit.specs.Numbers.{is_digits, is_space, number, signed_number, counted};
+ghost use Rattle.line_kit.specs.Numbers.{is_digits, is_space, number_up_to, signed_number, counted};
 ghost use Rattle.line_kit.specs.Gives.{halved, read_each};
 
 use crate::lines::{Lines, place_of};
@@ -31,8 +31,8 @@ fn is_digits(bytes: &[u8]) -> bool
 }
 
 // The number that the bytes write, where they are digits and it is at most `most`.
-fn number(bytes: &[u8], most: u64) -> Option<u64>
-    ensures { result ≡ number most bytes.now }
+fn number_up_to(bytes: &[u8], most: u64) -> Option<u64>
+    ensures { result ≡ number_up_to most bytes.now }
 {
     if !is_digits(bytes) {
         return None;
@@ -60,8 +60,8 @@ fn signed_number(bytes: &[u8]) -> Option<i64>
     ensures { result ≡ signed_number bytes.now }
 {
     match bytes {
-        [b'-', digits @ ..] => Some(negated(number(digits, MOST + 1)?)),
-        _ => Some(number(bytes, MOST)? as i64),
+        [b'-', digits @ ..] => Some(negated(number_up_to(digits, MOST + 1)?)),
+        _ => Some(number_up_to(bytes, MOST)? as i64),
     }
 }
 
@@ -81,7 +81,7 @@ pub(crate) fn counted(line: &[u8]) -> Option<(&[u8], u64)>
     if end == line.len() {
         return None;
     }
-    let number = number(&line[..end], MOST)?;
+    let number = number_up_to(&line[..end], MOST)?;
     Some((&line[end + 1..], number))
 }
 

@@ -16,7 +16,7 @@ use std::alloc::Global;
 use std::marker::Model;
 
 /// The most bytes that an output may have.
-pub const MOST_BYTES: usize = 67_108_864;
+const MOST_BYTES: usize = 67_108_864;
 
 /// What an executor answers: its outputs or a fault, or want of memory.
 pub(crate) type Answer = Result<Result<Vec<Bytes>, FaultKind>, Memory>;

@@ -3,7 +3,7 @@
 ghost use Rattle.std.specs.Prelude.{◌≡◌, ◌∷◌, [], IfOk};
 ghost use Rattle.sky_base.specs.KitView.{RunsSo};
 ghost use Rattle.line_kit.specs.Lines.{lines, same_lines};
-ghost use Rattle.line_kit.specs.Gives.{one, truth, input};
+ghost use Rattle.line_kit.specs.Gives.{one, truth_text, input};
 
 use crate::lines::Lines;
 use crate::output::{Answer, one_line};
@@ -34,15 +34,19 @@ fn same_lines(one: &[u8], other: &[u8]) -> bool
     others.next_line().is_none()
 }
 
-fn truth(holds: bool) -> &'static [u8]
-    ensures { result.now ≡ truth holds }
+fn truth_text(holds: bool) -> &'static [u8]
+    ensures { result.now ≡ truth_text holds }
 {
     if holds { b"true" } else { b"false" }
 }
 
 /// Whether the first two inputs have the same lines, in a line.
 pub(crate) fn same(alloc: Global, inputs: &[Bytes]) -> Answer
-    ensures { IfOk result (λ r. RunsSo r (one (truth (same_lines (lines (input inputs.now 0)) (lines (input inputs.now 1))) ∷ []))) }
+    ensures { IfOk result (λ r. RunsSo r
+        (one (truth_text (same_lines (lines (input inputs.now 0)) (lines (input inputs.now 1))) ∷ []))) }
 {
-    one_line(alloc, truth(same_lines(input(inputs, 0), input(inputs, 1))))
+    one_line(
+        alloc,
+        truth_text(same_lines(input(inputs, 0), input(inputs, 1))),
+    )
 }

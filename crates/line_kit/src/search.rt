@@ -2,10 +2,10 @@
 // no more than the search: where the text is found, the line around it is cut out, and the search goes
 // on behind it.
 
-ghost use Rattle.std.specs.Prelude.{◌≡◌, ◌≢◌, ℕ, ◌+◌, ◌<◌, ◌≤◌, ◌∷◌, [], false, IfOk, MatchOption, length, slice_index, filter};
+ghost use Rattle.std.specs.Prelude.{◌≡◌, ◌≢◌, ℕ, ◌+◌, ◌<◌, ◌≤◌, ◌∷◌, [], false, IfOk, MatchOption, length, slice_index};
 ghost use Rattle.std.specs.List.{list_any};
 ghost use Rattle.sky_base.specs.KitView.{RunsSo};
-ghost use Rattle.line_kit.specs.Lines.{lines, all_lines, joined, contains, is_feed};
+ghost use Rattle.line_kit.specs.Lines.{lines, all_lines, joined, with_text, is_feed};
 ghost use Rattle.line_kit.specs.Gives.{one};
 ghost use Rattle.line_kit.specs.Written.{extended, finished};
 
@@ -38,8 +38,8 @@ fn line_start(bytes: &[u8], at: usize) -> usize
 // The first line that contains the text, and what follows it.
 fn next_found<'a>(finder: &Finder, bytes: &'a [u8]) -> Option<(&'a [u8], &'a [u8])>
     requires { list_any is_feed finder.now ≡ false }
-    ensures { MatchOption result (filter (λ line. contains line finder.now) (lines bytes.now) ≡ [])
-        (λ f. (filter (λ line. contains line finder.now) (lines bytes.now) ≡ f.0.now ∷ filter (λ line. contains line finder.now) (lines f.1.now))
+    ensures { MatchOption result (with_text finder.now (lines bytes.now) ≡ [])
+        (λ f. (with_text finder.now (lines bytes.now) ≡ f.0.now ∷ with_text finder.now (lines f.1.now))
         × (length f.1.now < length bytes.now)) }
 {
     if bytes.is_empty() {
@@ -55,7 +55,7 @@ fn next_found<'a>(finder: &Finder, bytes: &'a [u8]) -> Option<(&'a [u8], &'a [u8
 #[tactic(auto, using(crate::proofs::WrittenLaw::pieces))]
 fn put_found(out: &mut Output, finder: &Finder, bytes: &[u8]) -> Result<(), Memory>
     requires { list_any is_feed finder.now ≡ false }
-    ensures { IfOk result (λ _. finished out.new ≡ extended out.old (joined (filter (λ line. contains line finder.now) (lines bytes.now)))) }
+    ensures { IfOk result (λ _. finished out.new ≡ extended out.old (joined (with_text finder.now (lines bytes.now)))) }
 {
     let mut rest = bytes;
     while let Some((line, after)) = next_found(finder, rest) {
@@ -68,7 +68,7 @@ fn put_found(out: &mut Output, finder: &Finder, bytes: &[u8]) -> Result<(), Memo
 /// The lines that contain a text.
 #[tactic(auto, using(crate::proofs::WrittenLaw::pieces))]
 pub(crate) fn grep(alloc: Global, text: &[u8], inputs: &[Bytes]) -> Answer
-    ensures { IfOk result (λ r. RunsSo r (one (filter (λ line. contains line text.now) (all_lines inputs.now)))) }
+    ensures { IfOk result (λ r. RunsSo r (one (with_text text.now (all_lines inputs.now)))) }
 {
     let mut out = Output::new(alloc);
     if has_line_feed(text) {

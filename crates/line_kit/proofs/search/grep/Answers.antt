@@ -1,10 +1,10 @@
 use Rattle.std.proofs.Common.{◌≡◌, ◌+◌, ℕ, List, [], ◌∷◌, drop, sym, ap, ◌∙◌}
 use Rattle.std.proofs.lemmas.List.{drop_more}
 use Rattle.std.proofs.lemmas.List.Elements.{filter-append}
-use Rattle.line_kit.specs.Lines.{joined, lines, all_lines, contains}
+use Rattle.line_kit.specs.Lines.{with_text, joined, lines, all_lines, contains}
 use Rattle.line_kit.specs.Written.{capped, extended, finished}
 use Rattle.line_kit.proofs.WrittenLaw.{further, extended-start, joined-append}
-use Rattle.line_kit.proofs.FindLaw.{with_text, none_at_all}
+use Rattle.line_kit.proofs.FindLaw.{none_at_all}
 use Rattle.line_kit.proofs.search.grep.Goals as goal
 
 pub returns-then-has_line_feed : goal.returns-then-has_line_feed

@@ -1,7 +1,6 @@
 use Rattle.std.proofs.Common.{◌≡◌, drop}
-use Rattle.line_kit.specs.Lines.{all_lines, joined}
+use Rattle.line_kit.specs.Lines.{with_text, all_lines, joined}
 use Rattle.line_kit.specs.Written.{capped, extended}
-use Rattle.line_kit.proofs.FindLaw.{with_text}
 use Rattle.line_kit.proofs.search.grep.Given as goal
 
 abbrev pub invariant-loop-input : goal.invariant-loop-input

@@ -3,9 +3,9 @@ use Rattle.std.proofs.Common.{◌≡◌, ◌≢◌, ℕ, ◌+◌, ◌-◌, ◌<�
 use Rattle.std.proofs.lemmas.List.{take_all, drop-drop, get_or-drop}
 use Rattle.std.proofs.lemmas.Slice.Eq.{bytes_eq-Decides}
 use Rattle.memchr.proofs.lemmas.MatchLemmas.{OccursAt-part}
-use Rattle.line_kit.specs.Lines.{lines, contains}
+use Rattle.line_kit.specs.Lines.{with_text, lines, contains}
 use Rattle.line_kit.proofs.Found.{contains-found}
-use Rattle.line_kit.proofs.FindLaw.{with_text, first_in, begins-first_in, NotBefore, none_with, line_has, first_line_of, keep_first, skipped}
+use Rattle.line_kit.proofs.FindLaw.{first_in, begins-first_in, NotBefore, none_with, line_has, first_line_of, keep_first, skipped}
 use Rattle.line_kit.proofs.search.next_found.Goals as goal
 
 pub returns-in-None : goal.returns-in-None

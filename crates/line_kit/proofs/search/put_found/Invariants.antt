@@ -1,7 +1,6 @@
 use Rattle.std.proofs.Common.{◌≡◌, length}
-use Rattle.line_kit.specs.Lines.{lines, joined}
+use Rattle.line_kit.specs.Lines.{with_text, lines, joined}
 use Rattle.line_kit.specs.Written.{extended}
-use Rattle.line_kit.proofs.FindLaw.{with_text}
 use Rattle.line_kit.proofs.search.put_found.Given as goal
 
 abbrev pub invariant-loop-line : goal.invariant-loop-line

@@ -3,7 +3,7 @@ use Rattle.std.proofs.Common.{◌≡◌, true, ◌+◌, ◌-◌, ◌*◌, ◌<�
 use Rattle.std.specs.Str.Parse.{digits_value, digits_value_after}
 use Rattle.line_kit.specs.Numbers.{is_digits}
 use Rattle.line_kit.proofs.Digits.{value_step, value_grows, number_none}
-use Rattle.line_kit.proofs.numbers.number.Goals as goal
+use Rattle.line_kit.proofs.numbers.number_up_to.Goals as goal
 
 pub returns-then-more-from : goal.returns-then-more-from
 returns-then-more-from c =

@@ -1,6 +1,6 @@
 use Rattle.std.proofs.Common.{◌≡◌, ◌≤◌, drop}
 use Rattle.std.specs.Str.Parse.{digits_value, digits_value_after}
-use Rattle.line_kit.proofs.numbers.number.Given as goal
+use Rattle.line_kit.proofs.numbers.number_up_to.Given as goal
 
 abbrev pub invariant-loop-digit : goal.invariant-loop-digit
 invariant-loop-digit l = record {
