@@ -19,12 +19,12 @@ there None h = absurd (h refl)
 there (Some a) h = refl
 
 module _ {A : Type 0} where
-  pub in_left : (d : A) (xs ys : List A) → In d xs → In d (xs ++ ys)
+  in_left : (d : A) (xs ys : List A) → In d xs → In d (xs ++ ys)
   in_left d [] ys h = absurd h
   in_left d (x ∷ xs) ys (inl e) = inl e
   in_left d (x ∷ xs) ys (inr h) = inr (in_left d xs ys h)
 
-  pub in_right : (d : A) (xs ys : List A) → In d ys → In d (xs ++ ys)
+  in_right : (d : A) (xs ys : List A) → In d ys → In d (xs ++ ys)
   in_right d [] ys h = h
   in_right d (x ∷ xs) ys h = inr (in_right d xs ys h)
 
