@@ -9,13 +9,13 @@ use Rattle.sky_text.specs.Lexing.{tokens_of}
 use Rattle.sky_text.specs.Place.{place_of}
 use Rattle.sky_text.specs.declared.lex.LexRefusal.{LexRefusal}
 use Rattle.sky_text.specs.declared.token.Token.{Token}
-use Rattle.sky_parse.specs.Names.{same_names}
-use Rattle.sky_parse.specs.Nesting.{too_nested}
+use Rattle.sky_grammar.specs.Names.{same_names}
+use Rattle.sky_grammar.specs.Nesting.{too_nested}
 use Rattle.sky_parse.specs.Parsed.{RefusedAt, IsValid, place_at}
-use Rattle.sky_parse.specs.Reading.{IsRefused}
-use Rattle.sky_parse.specs.Tops.{Top, Spells, script_of}
-use Rattle.sky_parse.proofs.Exact.{spelled_or_refused}
-use Rattle.sky_parse.proofs.UniqueScripts.{one_script}
+use Rattle.sky_grammar.specs.Reading.{IsRefused}
+use Rattle.sky_grammar.specs.Tops.{Top, Spells, script_of}
+use Rattle.sky_grammar.proofs.Exact.{spelled_or_refused}
+use Rattle.sky_grammar.proofs.UniqueScripts.{one_script}
 use Rattle.sky_plain.specs.Needs.{Chain, MakesMany}
 use Rattle.sky_law.proofs.SeenLaw.{means_one}
 use Rattle.ciel_run.specs.Source.{IsAnswer, IsLater, HasTokens, IsScript, first_later, job_of, alone}

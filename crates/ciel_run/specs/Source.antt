@@ -9,9 +9,9 @@ use Rattle.sky_text.specs.Lexing.{tokens_of}
 use Rattle.sky_text.specs.declared.token.Token.{Token}
 use Rattle.sky_text.specs.declared.token.TokenKind.{TokenKind}
 use Rattle.sky_text.specs.declared.token.Word.{Word}
-use Rattle.sky_parse.specs.Grammar.{place}
+use Rattle.sky_grammar.specs.Grammar.{place}
 use Rattle.sky_parse.specs.Parsed.{IsValid}
-use Rattle.sky_parse.specs.Tops.{Top, script_of}
+use Rattle.sky_grammar.specs.Tops.{Top, script_of}
 use Rattle.ciel_json.specs.Around.{json_around}
 use Rattle.sky_plain.specs.Needs.{Chain, MakesMany}
 

@@ -6,10 +6,10 @@ use Rattle.sky_text.specs.Lexing.{tokens_of}
 use Rattle.sky_text.specs.Place.{place_of}
 use Rattle.sky_text.specs.declared.lex.LexRefusal.{LexRefusal}
 use Rattle.sky_text.specs.declared.token.Token.{Token}
-use Rattle.sky_parse.specs.Names.{same_names}
-use Rattle.sky_parse.specs.Nesting.{too_nested}
+use Rattle.sky_grammar.specs.Names.{same_names}
+use Rattle.sky_grammar.specs.Nesting.{too_nested}
 use Rattle.sky_parse.specs.Parsed.{RefusedAt}
-use Rattle.sky_parse.specs.Tops.{Top, Spells}
+use Rattle.sky_grammar.specs.Tops.{Top, Spells}
 use Rattle.ciel_run.specs.Source.{HasTokens}
 use Rattle.ciel_run.specs.declared.top.SyntaxKind.{SyntaxKind}
 

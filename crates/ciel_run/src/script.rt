@@ -2,7 +2,7 @@
 // built yet, and then the script that they spell. Where they are none, the first refusal counts.
 
 ghost use Rattle.std.specs.Prelude.{◌≡◌, ◌≤◌, ◌⊎◌, IfOk, IfErr, Err, length};
-ghost use Rattle.sky_parse.specs.Nesting.{place_of};
+ghost use Rattle.sky_grammar.specs.Nesting.{place_of};
 ghost use Rattle.sky_text.specs.Lexing.{byte_of, tokens_of};
 ghost use Rattle.sky_text.specs.Place.{line_of, column_of};
 ghost use Rattle.ciel_run.specs.Source.{is_later, first_later, IsScript};

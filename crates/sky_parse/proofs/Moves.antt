@@ -9,18 +9,18 @@ use Rattle.sky_text.specs.declared.token.Sign.{Sign}
 use Rattle.sky_text.specs.declared.token.Word.{Word}
 use Rattle.sky_text.specs.declared.token.TokenKind.{TokenKind}
 use Rattle.sky_text.specs.declared.token.Token.{Token}
-use Rattle.sky_parse.specs.declared.level.Level.{Level}
-use Rattle.sky_parse.specs.declared.parts.Shape.{Shape}
-use Rattle.sky_parse.specs.declared.parts.Head.{Head}
-use Rattle.sky_parse.specs.declared.parts.StepHead.{StepHead}
+use Rattle.sky_grammar.specs.declared.level.Level.{Level}
+use Rattle.sky_grammar.specs.declared.parts.Shape.{Shape}
+use Rattle.sky_grammar.specs.declared.parts.Head.{Head}
+use Rattle.sky_grammar.specs.declared.parts.StepHead.{StepHead}
 use Rattle.sky_parse.specs.declared.look.Fail.{Fail}
-use Rattle.sky_parse.specs.Signs.{is, is_word, at_sign, at_word}
-use Rattle.sky_parse.specs.Levels.{rank, tighter, join_sign, opens, at_oper}
-use Rattle.sky_parse.specs.Parts.{separator, full, ready, closing, step_sign, step_shape, head_shape}
-use Rattle.sky_parse.specs.Grammar.{oper_sign, order_sign}
-use Rattle.sky_parse.specs.Machine.{Item, Out, operand_of, again, tails, is_literal, word_head, sign_head, is_prefix, step, goes, run, kinds}
+use Rattle.sky_grammar.specs.Signs.{is, is_word, at_sign, at_word}
+use Rattle.sky_grammar.specs.Levels.{rank, tighter, join_sign, opens, at_oper}
+use Rattle.sky_grammar.specs.Parts.{separator, full, ready, closing, step_sign, step_shape, head_shape}
+use Rattle.sky_grammar.specs.Grammar.{oper_sign, order_sign}
+use Rattle.sky_grammar.specs.Machine.{Item, Out, operand_of, again, tails, is_literal, is_function, word_head, sign_head, is_prefix, step, goes, run, kinds}
 use Rattle.sky_parse.specs.Runs.{Stops, Goes, at_next}
-use Rattle.sky_parse.proofs.Tokens.{is_sign}
+use Rattle.sky_grammar.proofs.Tokens.{is_sign}
 
 pub length_kinds : (ts : List Token) → length (kinds ts) ≡ length ts
 length_kinds [] = refl
@@ -77,11 +77,22 @@ name_none k ts rest t r n = rw r (kind_none t.kind k rest n)
 pub leaf_word : (w : Word) (k : List Item) (ts : List Token) → is_literal w ≡ true → run (Item.primary ∷ k) (TokenKind.Word w ∷ kinds ts) ≡ run k (kinds ts)
 leaf_word w k ts h = rw h refl
 
-pub head_word : (w : Word) (h : Head) (k : List Item) (ts : List Token) → is_literal w ≡ false → word_head w ≡ Some h → run (Item.primary ∷ k) (TokenKind.Word w ∷ kinds ts) ≡ run (Item.sign Sign.OpenRound ∷ Item.parts (head_shape h) ∷ k) (kinds ts)
-head_word w h k ts e f = rw (e, f) refl
+head_not_function : (w : Word) (h : Head) → word_head w ≡ Some h → is_function w ≡ false
+head_not_function Word.Function h e = absurd cc
+head_not_function w h e = refl
 
-pub no_word : (w : Word) (k : List Item) (ts : List Token) (n : ℕ) → is_literal w ≡ false → word_head w ≡ None → n ≡ suc (length ts) → run (Item.primary ∷ k) (TokenKind.Word w ∷ kinds ts) ≡ Out.stuck n
-no_word w k ts n e f g = rw (e, f) (stuck_here n ts g)
+not_function : (w : Word) → (w ≡ Word.Function → ⊥) → is_function w ≡ false
+not_function Word.Function n = absurd (n refl)
+not_function w n = refl
+
+pub head_word : (w : Word) (h : Head) (k : List Item) (ts : List Token) → is_literal w ≡ false → word_head w ≡ Some h → run (Item.primary ∷ k) (TokenKind.Word w ∷ kinds ts) ≡ run (Item.sign Sign.OpenRound ∷ Item.parts (head_shape h) ∷ k) (kinds ts)
+head_word w h k ts e f = let g = head_not_function w h f in rw (e, g, f) refl
+
+pub no_word : (w : Word) (k : List Item) (ts : List Token) (n : ℕ) → is_literal w ≡ false → (w ≡ Word.Function → ⊥) → word_head w ≡ None → n ≡ suc (length ts) → run (Item.primary ∷ k) (TokenKind.Word w ∷ kinds ts) ≡ Out.stuck n
+no_word w k ts n e o f g = let c = not_function w o in rw (e, c, f) (stuck_here n ts g)
+
+pub function_word : (w : Word) (k : List Item) (ts : List Token) → w ≡ Word.Function → run (Item.primary ∷ k) (TokenKind.Word w ∷ kinds ts) ≡ run (Item.sign Sign.OpenRound ∷ Item.params ∷ Item.block ∷ k) (kinds ts)
+function_word w k ts e = rw e refl
 
 pub head_sign : (s : Sign) (h : Head) (k : List Item) (ts : List Token) → sign_head s ≡ Some h → run (Item.primary ∷ k) (TokenKind.Sign s ∷ kinds ts) ≡ run (Item.parts (head_shape h) ∷ k) (kinds ts)
 head_sign s h k ts f = rw f refl

@@ -1,15 +1,16 @@
 -- What the machine does at statements and at functions, as the functions of the parser see it.
-use Rattle.std.proofs.Common.{◌≡◌, ℕ, ◌<◌, true, false, List, [], ◌∷◌, length, refl, arith}
+use Rattle.std.proofs.Common.{◌≡◌, ℕ, ◌<◌, Bool, true, false, cond, List, [], ◌∷◌, length, refl, sym, subst, ◌∙◌, arith}
 use Rattle.std.specs.Prelude.{◌==◌}
 use Rattle.std.proofs.lemmas.Bool.{eqb-true}
 use Rattle.sky_text.specs.declared.token.Sign.{Sign}
 use Rattle.sky_text.specs.declared.token.Word.{Word}
 use Rattle.sky_text.specs.declared.token.TokenKind.{TokenKind}
 use Rattle.sky_text.specs.declared.token.Token.{Token}
-use Rattle.sky_parse.specs.declared.level.Level.{Level}
-use Rattle.sky_parse.specs.Signs.{is, is_word, at_sign, at_word}
-use Rattle.sky_parse.specs.Machine.{Item, tails, test_then, run, kinds}
-use Rattle.sky_parse.proofs.Tokens.{is_sign, is_that_word}
+use Rattle.sky_grammar.specs.declared.level.Level.{Level}
+use Rattle.sky_grammar.specs.Signs.{is, is_word, at_sign, at_word}
+use Rattle.sky_grammar.specs.Machine.{Item, tails, test_then, run, kinds}
+use Rattle.sky_parse.specs.Scripts.{no_function}
+use Rattle.sky_grammar.proofs.Tokens.{is_sign, is_that_word}
 
 -- Behind a name that begins a statement.
 pub set_goes : (k : List Item) (ts rest : List Token) (t : Token) → ts ≡ t ∷ rest → is Sign.Assign t.kind ≡ true → run (Item.named ∷ k) (kinds ts) ≡ run (Item.level Level.Either ∷ Item.sign Sign.Semicolon ∷ k) (kinds rest)
@@ -132,12 +133,27 @@ pub params_end : (k : List Item) (ts : List Token) → at_sign Sign.Comma ts ≡
 params_end k [] e = refl
 params_end k (t ∷ ts) e = rw e refl
 
-pub top_fun : (k : List Item) (ts rest : List Token) (t : Token) → ts ≡ t ∷ rest → is_word Word.Function t.kind ≡ true → run (Item.tops ∷ k) (kinds ts) ≡ run (Item.name ∷ Item.sign Sign.OpenRound ∷ Item.params ∷ Item.block ∷ Item.tops ∷ k) (kinds rest)
-top_fun k ts rest t r h = rw (r, h) refl
+named_word : (k : List Item) (ts : List Token) → at_sign Sign.OpenRound ts ≡ false → run (Item.after_function ∷ k) (kinds ts) ≡ run (Item.name ∷ Item.sign Sign.OpenRound ∷ Item.params ∷ Item.block ∷ Item.tops ∷ k) (kinds ts)
+named_word k [] e = refl
+named_word k (t ∷ ts) e = rw e refl
 
-pub top_stmt : (k : List Item) (ts : List Token) → 0 < length ts → at_word Word.Function ts ≡ false → run (Item.tops ∷ k) (kinds ts) ≡ run (Item.stmt ∷ Item.tops ∷ k) (kinds ts)
+pub top_fun : (k : List Item) (ts rest : List Token) (t : Token) → ts ≡ t ∷ rest → is_word Word.Function t.kind ≡ true → at_sign Sign.OpenRound rest ≡ false → run (Item.tops ∷ k) (kinds ts) ≡ run (Item.name ∷ Item.sign Sign.OpenRound ∷ Item.params ∷ Item.block ∷ Item.tops ∷ k) (kinds rest)
+top_fun k ts rest t r h e = first ∙ named_word k rest e
+  where
+    first : run (Item.tops ∷ k) (kinds ts) ≡ run (Item.after_function ∷ k) (kinds rest)
+    first = rw (r, h) refl
+
+anonymous_word : (k : List Item) (ts : List Token) → at_sign Sign.OpenRound ts ≡ true → run (Item.tops ∷ k) (TokenKind.Word Word.Function ∷ kinds ts) ≡ run (Item.stmt ∷ Item.tops ∷ k) (TokenKind.Word Word.Function ∷ kinds ts)
+anonymous_word k [] e = absurd cc
+anonymous_word k (t ∷ ts) e = rw e refl
+
+pub top_stmt : (k : List Item) (ts : List Token) → 0 < length ts → no_function ts ≡ true → run (Item.tops ∷ k) (kinds ts) ≡ run (Item.stmt ∷ Item.tops ∷ k) (kinds ts)
 top_stmt k [] n h = absurd (omega arith)
-top_stmt k (t ∷ ts) n h = rw h refl
+top_stmt k (t ∷ ts) n h = either (is_word Word.Function t.kind) refl h
+  where
+    either : (c : Bool) → is_word Word.Function t.kind ≡ c → cond c (at_sign Sign.OpenRound ts) true ≡ true → run (Item.tops ∷ k) (t.kind ∷ kinds ts) ≡ run (Item.stmt ∷ Item.tops ∷ k) (t.kind ∷ kinds ts)
+    either true c e = subst (λ (d : TokenKind). run (Item.tops ∷ k) (d ∷ kinds ts) ≡ run (Item.stmt ∷ Item.tops ∷ k) (d ∷ kinds ts)) (sym (is_that_word Word.Function t.kind c)) (anonymous_word k ts e)
+    either false c e = rw c refl
 
 pub tops_end : (k : List Item) (ts : List Token) → (length ts == 0) ≡ true → run (Item.tops ∷ k) (kinds ts) ≡ run k []
 tops_end k [] h = refl

@@ -3,11 +3,11 @@ use Rattle.std.specs.Prelude.{◌≡◌, ℕ, List, [], Some, None, Result, Ok, 
 use Rattle.sky_base.specs.Tree.{Place, Script}
 use Rattle.sky_base.specs.TreeView.{at}
 use Rattle.sky_text.specs.declared.token.Token.{Token}
-use Rattle.sky_parse.specs.Grammar.{place}
-use Rattle.sky_parse.specs.Nesting.{too_nested}
-use Rattle.sky_parse.specs.Tops.{Top, Spells, script_of}
-use Rattle.sky_parse.specs.Reading.{IsRefused}
-use Rattle.sky_parse.specs.Names.{same_names}
+use Rattle.sky_grammar.specs.Grammar.{place}
+use Rattle.sky_grammar.specs.Nesting.{too_nested}
+use Rattle.sky_grammar.specs.Tops.{Top, Spells, script_of}
+use Rattle.sky_grammar.specs.Reading.{IsRefused}
+use Rattle.sky_grammar.specs.Names.{same_names}
 use Rattle.sky_parse.specs.declared.script.ParseRefusal.{ParseRefusal}
 
 -- The script is that of functions and statements that spell the tokens, and no name stands twice.
@@ -63,3 +63,19 @@ Named ts (Err (ParseRefusal.TooNested l c)) = Unit {0}
 Named ts (Err (ParseRefusal.NoSentence l c)) = Unit {0}
 Named ts (Err (ParseRefusal.SameName l c)) = (tops : List Top) × Spells tops ts × (same_names [] tops ≡ Some (at l c))
 Named ts (Err ParseRefusal.Memory) = Unit {0}
+
+-- the answer is that a name stands twice, there, but for want of memory
+abbrev pub IsTwice : {X : Type 0} → Place → Result X ParseRefusal → Type 0
+IsTwice p (Ok x) = ⊥
+IsTwice p (Err (ParseRefusal.TooNested l c)) = ⊥
+IsTwice p (Err (ParseRefusal.NoSentence l c)) = ⊥
+IsTwice p (Err (ParseRefusal.SameName l c)) = at l c ≡ p
+IsTwice p (Err ParseRefusal.Memory) = Unit {0}
+
+-- the answer for functions and statements that were read: that a name stands twice, or their script, but for want of memory
+abbrev pub made_if : Option Place → List (List ℕ) → List Top → Result Script ParseRefusal → Type 0
+made_if (Some p) keys tops r = IsTwice p r
+made_if None keys tops r = Gives keys tops r
+
+abbrev pub IsMade : List (List ℕ) → List Top → Result Script ParseRefusal → Type 0
+IsMade keys tops r = made_if (same_names [] tops) keys tops r

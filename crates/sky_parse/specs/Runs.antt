@@ -1,12 +1,13 @@
 -- What the functions of the parser say of the machine, for all that is to come behind what they read.
 use Rattle.std.specs.Prelude.{◌≡◌, ℕ, if◌then◌else◌, Bool, false, List, ◌∷◌, Option, Some, None, Result, Ok, Err}
+use Rattle.sky_text.specs.declared.token.Sign.{Sign}
 use Rattle.sky_text.specs.declared.token.Token.{Token}
 use Rattle.sky_parse.specs.declared.look.Fail.{Fail}
 use Rattle.sky_parse.specs.declared.begin.Opening.{Opening}
-use Rattle.sky_parse.specs.declared.parts.Shape.{Shape}
-use Rattle.sky_parse.specs.Signs.{at_sign}
-use Rattle.sky_parse.specs.Parts.{head_shape, separator, full}
-use Rattle.sky_parse.specs.Machine.{Item, Out, run, kinds}
+use Rattle.sky_grammar.specs.declared.parts.Shape.{Shape}
+use Rattle.sky_grammar.specs.Signs.{at_sign}
+use Rattle.sky_grammar.specs.Parts.{head_shape, separator, full}
+use Rattle.sky_grammar.specs.Machine.{Item, Out, run, kinds}
 
 -- The machine stops with so many tokens left, or there is no memory.
 abbrev pub Stops : (List Item → Out) → Fail → Type 0
@@ -31,6 +32,7 @@ Takes to without from None = (k : List Item) → from k ≡ without k
 abbrev pub behind : Opening → List Item → List Item
 behind (Opening.Leaf e) k = k
 behind (Opening.Open h l c) k = Item.parts (head_shape h) ∷ k
+behind (Opening.Function l c) k = Item.sign Sign.OpenRound ∷ Item.params ∷ Item.block ∷ k
 
 -- whether the sign stands first behind which one more part follows
 abbrev pub at_next : Shape → ℕ → List Token → Bool

@@ -3,19 +3,21 @@
 ghost use Rattle.std.specs.Prelude.{◌≡◌, ◌<◌, ◌≤◌, ◌∷◌, [], List, true, false, length, IfOk, IfSome, IfNone};
 ghost use Rattle.sky_base.specs.Tree.{Place};
 ghost use Rattle.sky_base.specs.TreeView.{at, exp_view, lit_view};
-ghost use Rattle.sky_parse.specs.Signs.{is, at_sign};
-ghost use Rattle.sky_parse.specs.Machine.{Item, run, kinds, is_literal, word_head, sign_head};
+ghost use Rattle.sky_grammar.specs.Signs.{is, at_sign};
+ghost use Rattle.sky_grammar.specs.Machine.{Item, run, kinds, is_literal, word_head, sign_head};
 ghost use Rattle.sky_parse.specs.Runs.{Goes, behind};
-ghost use Rattle.sky_parse.specs.Parts.{spell_head, step_sign};
+ghost use Rattle.sky_grammar.specs.Parts.{spell_head, step_sign};
+ghost use Rattle.sky_parse.specs.Held.{Held};
 ghost use Rattle.sky_parse.specs.Begun.{Begun};
-ghost use Rattle.sky_parse.specs.Grammar.{Mark, Fits, Spelled, lit_kind};
-ghost use Rattle.sky_parse.specs.Grammar as g;
+ghost use Rattle.sky_grammar.specs.Grammar.{Mark, Fits, Spelled, lit_kind};
+ghost use Rattle.sky_grammar.specs.Grammar as g;
 ghost use Rattle.sky_text.specs.declared.token.Token.{Token};
 ghost use Rattle.sky_text.specs.declared.token.TokenKind.{TokenKind};
 
 use crate::look::{Fail, eat, want};
-use crate::parts::{Head, StepHead};
+use crate::made::Made;
 use sky_base::tree::{Expr, Lit};
+use sky_grammar::parts::{Head, StepHead};
 use sky_text::token::{Sign, Token, TokenKind, Word};
 
 /// How a primary begins.
@@ -25,6 +27,8 @@ pub enum Opening {
     Leaf(Expr),
     /// It is this form, at this line and column, and its parts follow.
     Open(Head, u32, u32),
+    /// It is an anonymous function, whose word stands at this line and column.
+    Function(u32, u32),
 }
 
 /// The literal that is a word.
@@ -120,11 +124,14 @@ fn sign_head(sign: Sign) -> Option<Head>
 /// What begins with a word, behind it.
 fn begin_word(word: Word, line: u32, col: u32, ts: &[Token]) -> Result<(Opening, &[Token]), Fail>
     ensures read { Goes (λ x k. run (behind x.0 k) (kinds x.1.now)) (λ k. run (Item.primary ∷ k) (TokenKind.Word word ∷ kinds ts.now)) result }
-    ensures tree { IfOk result (λ x. (t : Token) → Fits (g.word_at word (at line col)) t → Begun x.0 (t ∷ ts.now) x.1.now) }
+    ensures tree { IfOk result (λ x. (h : Held) (t : Token) → Fits (g.word_at word (at line col)) t → Begun x.0 h h (t ∷ ts.now) x.1.now) }
     ensures less { IfOk result (λ x. length x.1.now ≤ length ts.now) }
 {
     if let Some(value) = literal(word) {
         return Ok((Opening::Leaf(Expr::Literal { value, line, col }), ts));
+    }
+    if let Word::Function = word {
+        return Ok((Opening::Function(line, col), ts));
     }
     let Some(head) = word_head(word) else {
         return Err(Fail::Stuck(ts.len() + 1))
@@ -136,7 +143,7 @@ fn begin_word(word: Word, line: u32, col: u32, ts: &[Token]) -> Result<(Opening,
 /// What begins with a sign, behind it.
 fn begin_sign(sign: Sign, line: u32, col: u32, ts: &[Token]) -> Result<(Opening, &[Token]), Fail>
     ensures read { Goes (λ x k. run (behind x.0 k) (kinds x.1.now)) (λ k. run (Item.primary ∷ k) (TokenKind.Sign sign ∷ kinds ts.now)) result }
-    ensures tree { IfOk result (λ x. (t : Token) → Fits (g.sign_at sign (at line col)) t → Begun x.0 (t ∷ ts.now) x.1.now) }
+    ensures tree { IfOk result (λ x. (h : Held) (t : Token) → Fits (g.sign_at sign (at line col)) t → Begun x.0 h h (t ∷ ts.now) x.1.now) }
     ensures less { IfOk result (λ x. length x.1.now ≤ length ts.now) }
 {
     match sign_head(sign) {
@@ -145,10 +152,10 @@ fn begin_sign(sign: Sign, line: u32, col: u32, ts: &[Token]) -> Result<(Opening,
     }
 }
 
-/// The beginning of a primary.
-pub fn start(ts: &[Token]) -> Result<(Opening, &[Token]), Fail>
+/// The beginning of a primary. A name is held.
+pub fn start<'a>(made: &mut Made, ts: &'a [Token]) -> Result<(Opening, &'a [Token]), Fail>
     ensures read { Goes (λ x k. run (behind x.0 k) (kinds x.1.now)) (λ k. run (Item.primary ∷ k) (kinds ts.now)) result }
-    ensures tree { IfOk result (λ x. Begun x.0 ts.now x.1.now) }
+    ensures tree { IfOk result (λ x. Begun x.0 made.old made.new ts.now x.1.now) }
     ensures less { IfOk result (λ x. length x.1.now < length ts.now) }
 {
     let Some((first, rest)) = ts.split_first() else {
@@ -156,10 +163,12 @@ pub fn start(ts: &[Token]) -> Result<(Opening, &[Token]), Fail>
     };
     let (line, col) = (first.line, first.col);
     match &first.kind {
-        TokenKind::Name(name) => match name.share() {
-            Ok(name) => Ok((Opening::Leaf(Expr::Name { name, line, col }), rest)),
-            Err(_) => Err(Fail::Memory),
-        },
+        TokenKind::Name(name) => {
+            let Ok(name) = made.seen(name) else {
+                return Err(Fail::Memory)
+            };
+            Ok((Opening::Leaf(Expr::Name { name, line, col }), rest))
+        }
         TokenKind::Number(value) => {
             let value = Lit::Int(*value);
             Ok((Opening::Leaf(Expr::Literal { value, line, col }), rest))

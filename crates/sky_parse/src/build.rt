@@ -1,22 +1,19 @@
 // Trees from an operand and what was read behind it. Where nothing was, the operand stands itself.
 
-ghost use Rattle.std.specs.Prelude.{◌≡◌, ◌<◌, ◌≤◌, ◌∷◌, true, List, IfOk};
-ghost use Rattle.sky_base.specs.Proper.{level as level_of};
+ghost use Rattle.std.specs.Prelude.{◌≡◌, IfOk};
 ghost use Rattle.sky_base.specs.TreeView.{at, exp_view, links_view, ands_view, steps_view, signs_view, order_view};
-ghost use Rattle.sky_parse.specs.Levels.{rank, junction};
-ghost use Rattle.sky_parse.specs.Grammar.{Mark, IsTree, AreLinks, AreAnds, AreSteps, spell, spell_links, spell_ands, spell_steps, spell_signs, sign_at, order_sign};
+ghost use Rattle.sky_grammar.specs.Levels.{junction};
+ghost use Rattle.sky_parse.specs.Built.{chained, compared, joined, prefixed, stepped};
 
-use crate::level::Level;
 use sky_base::text::Memory;
 use sky_base::tree::{Cmp, Expr, Join, Joins, Link, Links, SignAt, Step, Steps, Sub};
+use sky_grammar::level::Level;
 use std::alloc::Global;
 
 /// A sum or a product.
 #[tactic(auto, using(crate::proofs::Builds::builds))]
-pub fn chain(alloc: Global, level: Level, first: Expr, rest: Vec<Link>) -> Result<Expr, Memory>
-    requires operand { IsTree (exp_view first) × (rank level < level_of (exp_view first)) }
-    requires operators { AreLinks (rank level) (links_view rest.items) }
-    ensures { IfOk result (λ e. IsTree (exp_view e) × (rank level ≤ level_of (exp_view e)) × ((more : List Mark) → spell (exp_view e) more ≡ spell (exp_view first) (spell_links (links_view rest.items) more))) }
+pub fn chain(alloc: Global, first: Expr, rest: Vec<Link>) -> Result<Expr, Memory>
+    ensures { IfOk result (λ e. exp_view e ≡ chained (exp_view first) (links_view rest.items)) }
 {
     if rest.is_empty() {
         return Ok(first);
@@ -29,7 +26,6 @@ pub fn chain(alloc: Global, level: Level, first: Expr, rest: Vec<Link>) -> Resul
 }
 
 /// A comparison.
-#[tactic(auto, using(crate::proofs::Builds::builds))]
 pub fn compare(
     alloc: Global,
     left: Expr,
@@ -38,10 +34,7 @@ pub fn compare(
     col: u32,
     right: Expr,
 ) -> Result<Expr, Memory>
-    requires left { IsTree (exp_view left) × (2 < level_of (exp_view left)) }
-    requires right { IsTree (exp_view right) × (2 < level_of (exp_view right)) }
-    ensures { IfOk result (λ e. IsTree (exp_view e) × (2 ≤ level_of (exp_view e)) × ((more : List Mark) → spell (exp_view e) more
-        ≡ spell (exp_view left) (sign_at (order_sign (order_view how)) (at line col) ∷ spell (exp_view right) more))) }
+    ensures { IfOk result (λ e. exp_view e ≡ compared (exp_view left) (order_view how) (at line col) (exp_view right)) }
 {
     let left = Sub::new(alloc, left)?;
     let right = Sub::new(alloc, right)?;
@@ -57,10 +50,7 @@ pub fn compare(
 /// A chain of `&&`, or of `||` at another level.
 #[tactic(auto, using(crate::proofs::Builds::builds))]
 pub fn logic(alloc: Global, level: Level, first: Expr, rest: Vec<Join>) -> Result<Expr, Memory>
-    requires operand { IsTree (exp_view first) × (rank level < level_of (exp_view first)) }
-    requires operators { AreAnds (rank level) (ands_view rest.items) }
-    requires of_truth { rank level ≤ 1 }
-    ensures { IfOk result (λ e. IsTree (exp_view e) × (rank level ≤ level_of (exp_view e)) × ((more : List Mark) → spell (exp_view e) more ≡ spell (exp_view first) (spell_ands (junction level) (ands_view rest.items) more))) }
+    ensures { IfOk result (λ e. exp_view e ≡ joined (junction level) (exp_view first) (ands_view rest.items)) }
 {
     if rest.is_empty() {
         return Ok(first);
@@ -77,9 +67,8 @@ pub fn logic(alloc: Global, level: Level, first: Expr, rest: Vec<Join>) -> Resul
 
 /// An operand with the signs in front of it.
 #[tactic(auto, using(crate::proofs::Builds::builds))]
-pub fn prefixed(alloc: Global, signs: Vec<SignAt>, operand: Expr) -> Result<Expr, Memory>
-    requires { IsTree (exp_view operand) × (6 ≤ level_of (exp_view operand)) }
-    ensures { IfOk result (λ e. IsTree (exp_view e) × (5 ≤ level_of (exp_view e)) × ((more : List Mark) → spell (exp_view e) more ≡ spell_signs (signs_view signs.items) (spell (exp_view operand) more))) }
+pub fn prefix(alloc: Global, signs: Vec<SignAt>, operand: Expr) -> Result<Expr, Memory>
+    ensures { IfOk result (λ e. exp_view e ≡ prefixed (signs_view signs.items) (exp_view operand)) }
 {
     if signs.is_empty() {
         return Ok(operand);
@@ -91,8 +80,7 @@ pub fn prefixed(alloc: Global, signs: Vec<SignAt>, operand: Expr) -> Result<Expr
 /// A primary with its indices and calls.
 #[tactic(auto, using(crate::proofs::Builds::builds))]
 pub fn postfix(alloc: Global, first: Expr, rest: Vec<Step>) -> Result<Expr, Memory>
-    requires { IsTree (exp_view first) × (7 ≤ level_of (exp_view first)) × AreSteps (steps_view rest.items) }
-    ensures { IfOk result (λ e. IsTree (exp_view e) × (6 ≤ level_of (exp_view e)) × ((more : List Mark) → spell (exp_view e) more ≡ spell (exp_view first) (spell_steps (steps_view rest.items) more))) }
+    ensures { IfOk result (λ e. exp_view e ≡ stepped (exp_view first) (steps_view rest.items)) }
 {
     if rest.is_empty() {
         return Ok(first);

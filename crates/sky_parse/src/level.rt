@@ -1,61 +1,17 @@
-// The levels of chains, from the loosest to the tightest, and their operators. A chain's operands are
-// those of the next tighter level, so one pair of functions reads every level.
+// The operators of chains, each with the level of its chain.
 
 ghost use Rattle.std.specs.Prelude.{◌≡◌, ◌∷◌, ◌≤◌, IfSome, IfNone, true, false};
 ghost use Rattle.sky_base.specs.Proper.{oper_level};
 ghost use Rattle.sky_base.specs.TreeView.{arith_view, order_view};
-ghost use Rattle.sky_base.specs.Tree.{Oper};
-ghost use Rattle.sky_parse.specs.Signs.{is};
-ghost use Rattle.sky_parse.specs.Grammar.{oper_sign, order_sign};
-ghost use Rattle.sky_parse.specs.Levels.{rank, tighter, join_sign, at_oper, at_order};
+ghost use Rattle.sky_grammar.specs.Signs.{is};
+ghost use Rattle.sky_grammar.specs.Grammar.{oper_sign, order_sign};
+ghost use Rattle.sky_grammar.specs.Levels.{rank, at_oper, at_order};
+ghost use Rattle.sky_grammar.specs.declared.level.Level.{Level};
 
 use crate::look::eat;
 use sky_base::tree::{ArithOp, Cmp};
+use sky_grammar::level::Level;
 use sky_text::token::{Sign, Token};
-
-/// A level of chains.
-#[derive(Clone, Copy, Debug)]
-pub enum Level {
-    /// `||`
-    Either,
-    /// `&&`
-    Both,
-    /// One of `==`, `!=`, `<`, `<=`, `>`, `>=`, at most once.
-    Comparison,
-    /// `+` and `-`
-    Sum,
-    /// `*`, `/` and `%`
-    Product,
-    /// No chain: an operand of a product.
-    Prefix,
-}
-
-impl Level {
-    /// The level of the operands of its chains.
-    pub fn tighter(self) -> Option<Level>
-        ensures { result ≡ tighter self }
-    {
-        match self {
-            Level::Either => Some(Level::Both),
-            Level::Both => Some(Level::Comparison),
-            Level::Comparison => Some(Level::Sum),
-            Level::Sum => Some(Level::Product),
-            Level::Product => Some(Level::Prefix),
-            Level::Prefix => None,
-        }
-    }
-
-    /// The sign of a chain of truth values.
-    pub fn join_sign(self) -> Sign
-        ensures { result ≡ join_sign self }
-    {
-        match self {
-            Level::Both => Sign::And,
-            Level::Either | Level::Comparison | Level::Sum | Level::Product | Level::Prefix =>
-                Sign::Or,
-        }
-    }
-}
 
 /// An operator of a product, if one stands first, and what follows.
 fn product_op(ts: &[Token]) -> Option<(ArithOp, &Token, &[Token])>

@@ -1,42 +1,40 @@
-// Scripts as a whole: functions and statements in any order. Functions go into one list and the other
-// statements, in order, into the main body.
+// Scripts as a whole: functions and statements in any order. Named functions go into one list and the
+// other statements, in order, into the main body; the anonymous functions stand behind the named ones.
 
-ghost use Rattle.std.specs.Prelude.{◌≡◌, ◌<◌, ◌≤◌, ◌-◌, ◌∷◌, [], List, true, length, IfOk};
+ghost use Rattle.std.specs.Prelude.{◌≡◌, ◌<◌, ◌≤◌, ◌-◌, ◌^◌, ◌∷◌, [], List, Some, None, true, false, length, IfOk, IfSome, IfNone};
+ghost use Rattle.sky_base.specs.Tree.{Place, script_nodes};
 ghost use Rattle.sky_base.specs.TreeView.{at};
-ghost use Rattle.sky_parse.specs.Grammar.{Mark, Spelled, spell_params};
-ghost use Rattle.sky_parse.specs.Grammar as g;
-ghost use Rattle.sky_parse.specs.Machine.{Item, run, kinds};
+ghost use Rattle.sky_base.specs.ScriptView.{fun_view};
+ghost use Rattle.sky_grammar.specs.Lifted.{text_cmp};
+ghost use Rattle.sky_grammar.specs.Machine.{Item, run, kinds};
+ghost use Rattle.sky_grammar.specs.Names.{same_names};
+ghost use Rattle.sky_grammar.specs.Signs.{at_sign, is_word};
+ghost use Rattle.sky_grammar.specs.Nesting.{too_nested};
+ghost use Rattle.sky_grammar.specs.Tops.{Top, Spells, script_of};
 ghost use Rattle.sky_parse.specs.Runs.{Runs, Goes};
-ghost use Rattle.sky_parse.specs.Nesting.{place_of};
-ghost use Rattle.sky_parse.specs.Names.{among, first_of, at_twice, same_params, fun_names};
-ghost use Rattle.sky_parse.specs.Tops.{Top, Spells, param_names};
-ghost use Rattle.sky_parse.specs.Scripts.{IsFunction, IsRead, Reads, params_view};
-ghost use Rattle.sky_parse.specs.Parsed.{Gives, IsScript, IsValid, Named, Nested, Refused, place_at};
+ghost use Rattle.sky_parse.specs.Scripts.{IsRead, no_function, ReadsFun, SoFar};
+ghost use Rattle.sky_parse.specs.Parsed.{Gives, IsMade, IsScript, IsTwice, IsValid, Named, Nested, Refused, place_at};
+ghost use Rattle.std.specs.BTreeSet.{insert_key};
 
+use crate::body::{top_stmt, whole_block};
 use crate::brackets::too_nested;
-use crate::look::{Fail, eat, eat_word, want, want_name};
-use crate::stmt::{block, stmt};
+use crate::function::params;
+use crate::look::{Fail, eat_word, stands, want, want_name};
+use crate::made::Made;
+use crate::names::{Known, noted, parameters};
 use sky_base::script::{FunDef, FunDefs, Script, Texts};
 use sky_base::stmt::{Block, Stmt};
-use sky_base::text::{Memory, Txt};
 use sky_text::token::{Sign, Token, Word};
 use std::alloc::Global;
 
-/// A parameter of a function, with the place of its name.
+/// What was read of a script so far: its named functions, its statements, the names of those functions,
+/// and what is held of all.
 #[derive(Drop)]
-pub struct Parameter {
-    pub name: Txt,
-    pub line: u32,
-    pub col: u32,
-}
-
-/// What was read of a script so far.
-#[derive(Drop)]
-pub struct Read {
-    pub funs: Vec<FunDef>,
-    pub main: Vec<Stmt>,
-    /// The line and column of the first name that stands twice.
-    pub same: Option<(u32, u32)>,
+pub(crate) struct Read {
+    pub(crate) funs: Vec<FunDef>,
+    pub(crate) main: Vec<Stmt>,
+    pub(crate) known: Known,
+    pub(crate) made: Made,
 }
 
 /// Why tokens are no script. `TooNested` is tried first, `SameName` last; each place is the line and the
@@ -53,105 +51,30 @@ pub enum ParseRefusal {
     Memory,
 }
 
-/// The parameters of a function and the sign that closes them.
-fn params(alloc: Global, ts: &[Token]) -> Result<(Vec<Parameter>, &[Token]), Fail>
-    ensures read { Runs (λ x. x.1.now) (λ k. run (Item.params ∷ k) (kinds ts.now)) result }
-    ensures tree { IfOk result (λ x. Spelled (λ more. spell_params (params_view x.0.items) (g.sign Sign.CloseRound ∷ more)) ts.now x.1.now) }
+/// What stands behind the word of a named function.
+fn named_function<'a>(
+    alloc: Global,
+    known: &mut Known,
+    made: &mut Made,
+    ts: &'a [Token],
+) -> Result<(FunDef, &'a [Token]), Fail>
+    ensures read { Runs (λ x. x.1.now) (λ k. run (Item.name ∷ Item.sign Sign.OpenRound ∷ Item.params ∷ Item.block ∷ k) (kinds ts.now)) result }
+    ensures tree { IfOk result (λ x. ReadsFun (fun_view x.0) known.old made.old made.new ts.now x.1.now) }
+    ensures known { IfOk result (λ x. known.new ≡ insert_key text_cmp known.old x.0.name) }
     ensures less { IfOk result (λ x. length x.1.now < length ts.now) }
-{
-    let mut items = Vec::new(alloc);
-    if let Some((_, rest)) = eat(ts, Sign::CloseRound) {
-        return Ok((items, rest));
-    }
-    let (name, line, col, mut rest) = want_name(ts)?;
-    let Ok(()) = items.push(Parameter { name, line, col }) else {
-        return Err(Fail::Memory)
-    };
-    while let Some((_, after)) = eat(rest, Sign::Comma) {
-        let (name, line, col, after) = want_name(after)?;
-        let Ok(()) = items.push(Parameter { name, line, col }) else {
-            return Err(Fail::Memory)
-        };
-        rest = after;
-    }
-    let rest = want(rest, Sign::CloseRound)?;
-    Ok((items, rest))
-}
-
-/// Whether the name is one of these.
-fn among(name: &Txt, names: &[Txt]) -> bool
-    ensures { result ≡ among name.now names.now }
-{
-    for other in names {
-        if other.as_str() == name.as_str() {
-            return true;
-        }
-    }
-    false
-}
-
-/// Whether one of these functions has the name.
-fn taken(name: &Txt, funs: &[FunDef]) -> bool
-    ensures { result ≡ among name.now (fun_names funs.now) }
-{
-    for fun in funs {
-        if fun.name.as_str() == name.as_str() {
-            return true;
-        }
-    }
-    false
-}
-
-/// A place that was found, else this one, if its name stands twice.
-fn noted(found: Option<(u32, u32)>, twice: bool, line: u32, col: u32) -> Option<(u32, u32)>
-    ensures { place_of result ≡ first_of (place_of found) (at_twice twice (at line col)) }
-{
-    match found {
-        Some(place) => Some(place),
-        None => if twice { Some((line, col)) } else { None },
-    }
-}
-
-/// A place that was found, else the other one.
-fn or_else(found: Option<(u32, u32)>, other: Option<(u32, u32)>) -> Option<(u32, u32)>
-    ensures { place_of result ≡ first_of (place_of found) (place_of other) }
-{
-    match found {
-        Some(place) => Some(place),
-        None => other,
-    }
-}
-
-/// The names of parameters, and the place of the first that an earlier one has.
-fn names(alloc: Global, params: &[Parameter]) -> Result<(Texts, Option<(u32, u32)>), Memory>
-    ensures { IfOk result (λ x. (x.0 ≡ param_names (params_view params.now)) × (place_of x.1 ≡ same_params [] (params_view params.now))) }
-{
-    let mut items = Vec::new(alloc);
-    let mut same = None;
-    for param in params {
-        same = noted(same, among(&param.name, &items), param.line, param.col);
-        let Ok(()) = items.push(param.name.share()?) else {
-            return Err(Memory)
-        };
-    }
-    Ok((Texts::of(items), same))
-}
-
-/// What stands behind the word `function`.
-fn function(alloc: Global, ts: &[Token]) -> Result<(FunDef, Option<(u32, u32)>, &[Token]), Fail>
-    ensures read { Runs (λ x. x.2.now) (λ k. run (Item.name ∷ Item.sign Sign.OpenRound ∷ Item.params ∷ Item.block ∷ k) (kinds ts.now)) result }
-    ensures tree { IfOk result (λ x. IsFunction x.0 x.1 ts.now x.2.now) }
-    ensures less { IfOk result (λ x. length x.2.now < length ts.now) }
 {
     let (name, line, col, rest) = want_name(ts)?;
     let rest = want(rest, Sign::OpenRound)?;
     let (params, rest) = params(alloc, rest)?;
-    let Ok((params, twice)) = names(alloc, &params) else {
+    let Ok(twice) = known.put(&name) else {
         return Err(Fail::Memory)
     };
-    let (body, rest) = block(alloc, rest)?;
-    // A function with a name captures nothing.
-    let uses = Texts::of(Vec::new(alloc));
+    let Ok((params, same)) = parameters(alloc, &params) else {
+        return Err(Fail::Memory)
+    };
+    made.twice(noted(None, twice, line, col));
+    made.twice(same);
+    let (body, rest) = whole_block(alloc, made, rest)?;
     Ok((
         FunDef {
             name,
@@ -159,18 +82,30 @@ fn function(alloc: Global, ts: &[Token]) -> Result<(FunDef, Option<(u32, u32)>, 
             body,
             line,
             col,
-            uses,
+            uses: Texts::of(Vec::new(alloc)),
         },
-        twice,
         rest,
     ))
+}
+
+/// The word of a named function, if one stands first, and what follows: behind the word of an anonymous
+/// function, which begins a statement, stands a bracket.
+fn begin_named(ts: &[Token]) -> Option<&[Token]>
+    ensures some { IfSome result (λ x. (t : Token) × (ts.now ≡ t ∷ x.now) × (is_word Word.Function t.kind ≡ true) × (at_sign Sign.OpenRound x.now ≡ false)) }
+    ensures none { IfNone result (no_function ts.now ≡ true) }
+{
+    let (_, after) = eat_word(ts, Word::Function)?;
+    if stands(after, Sign::OpenRound) {
+        return None;
+    }
+    Some(after)
 }
 
 /// A function or a statement, put behind those that were read.
 fn top<'a>(alloc: Global, read: &mut Read, ts: &'a [Token]) -> Result<&'a [Token], Fail>
     requires { 0 < length ts.now }
     ensures read { Goes (λ x k. run (Item.tops ∷ k) (kinds x.now)) (λ k. run (Item.tops ∷ k) (kinds ts.now)) result }
-    ensures tree { IfOk result (λ x. Reads read.old read.new ts.now x.now) }
+    ensures tree { IfOk result (λ x. (start : List Token) → SoFar read.old start ts.now → SoFar read.new start x.now) }
     ensures less { IfOk result (λ x. length x.now < length ts.now) }
 {
     let Ok(()) = read.funs.reserve(1) else {
@@ -179,14 +114,12 @@ fn top<'a>(alloc: Global, read: &mut Read, ts: &'a [Token]) -> Result<&'a [Token
     let Ok(()) = read.main.reserve(1) else {
         return Err(Fail::Memory)
     };
-    if let Some((_, after)) = eat_word(ts, Word::Function) {
-        let (fun, twice, rest) = function(alloc, after)?;
-        let known = taken(&fun.name, &read.funs);
-        read.same = or_else(noted(read.same, known, fun.line, fun.col), twice);
+    if let Some(after) = begin_named(ts) {
+        let (fun, rest) = named_function(alloc, &mut read.known, &mut read.made, after)?;
         read.funs.push_reserved(fun);
         return Ok(rest);
     }
-    let (item, rest) = stmt(alloc, ts)?;
+    let (item, rest) = top_stmt(alloc, &mut read.made, ts)?;
     read.main.push_reserved(item);
     Ok(rest)
 }
@@ -199,7 +132,8 @@ fn tops(alloc: Global, ts: &[Token]) -> Result<Read, Fail>
     let mut read = Read {
         funs: Vec::new(alloc),
         main: Vec::new(alloc),
-        same: None,
+        known: Known::new(alloc),
+        made: Made::new(alloc),
     };
     let mut rest = ts;
     while !rest.is_empty() {
@@ -218,6 +152,28 @@ fn place(ts: &[Token], left: usize, end: (u32, u32)) -> (u32, u32)
     }
 }
 
+/// The script of what was read: its named functions and behind them the anonymous ones, unless a name
+/// stands twice.
+fn script(read: Read, keys: Texts) -> Result<Script, ParseRefusal>
+    requires { (tops : List Top) × IsRead read tops × (script_nodes (script_of keys tops) < 2 ^ 32) }
+    ensures { (tops : List Top) → IsRead read tops → IsMade keys tops result }
+{
+    let Read {
+        mut funs,
+        main,
+        known: _,
+        made,
+    } = read;
+    let (mut anonymous, same) = made.into_parts();
+    if let Some((line, col)) = same {
+        return Err(ParseRefusal::SameName { line, col });
+    }
+    match funs.append(&mut anonymous) {
+        Ok(()) => Ok(Script::new(FunDefs::of(funs), Block::of(main), keys)),
+        Err(_) => Err(ParseRefusal::Memory),
+    }
+}
+
 /// The script that the tokens spell. `end` is the line and column of the end of the text, and `keys` are
 /// the names of the inputs, which the script keeps.
 pub fn parse(
@@ -233,6 +189,8 @@ pub fn parse(
     ensures spelled { IfOk result (λ script. IsScript keys tokens.now script) }
     // A name that stands twice is refused where functions and statements spell the tokens, exactly there.
     ensures named { Named tokens.now result }
+    // Where they do, no bracket is one too many and a name stands twice, that is the answer, but for want of memory.
+    ensures twice { (tops : List Top) (p : Place) → Spells tops tokens.now → too_nested 0 tokens.now ≡ None → same_names [] tops ≡ Some p → IsTwice p result }
     // Where no sentence goes on, no script spells the tokens, and the place is that of the first token with
     // which they begin none, or else the end.
     ensures refused { Refused tokens.now (at end.0 end.1) result }
@@ -243,10 +201,7 @@ pub fn parse(
         return Err(ParseRefusal::TooNested { line, col });
     }
     match tops(alloc, tokens) {
-        Ok(read) => match read.same {
-            Some((line, col)) => Err(ParseRefusal::SameName { line, col }),
-            None => Ok(Script::new(FunDefs::of(read.funs), Block::of(read.main), keys)),
-        },
+        Ok(read) => script(read, keys),
         Err(Fail::Memory) => Err(ParseRefusal::Memory),
         Err(Fail::Stuck(left)) => {
             let (line, col) = place(tokens, left, end);

@@ -1,105 +1,140 @@
-// Statements and blocks. The functions call each other only where a block opens.
+// Statements and blocks. The functions call each other only where a block opens. Names are held where
+// they stand, in front of what follows them.
 
-ghost use Rattle.std.specs.Prelude.{◌≡◌, ◌<◌, ◌≤◌, ◌∷◌, [], List, true, length, IfOk, IfSome};
+ghost use Rattle.std.specs.Prelude.{◌≡◌, ◌<◌, ◌≤◌, ◌∷◌, ◌++◌, [], List, true, length, IfOk, IfSome};
 ghost use Rattle.sky_base.specs.TreeView.{at, exp_view, steps_view};
 ghost use Rattle.sky_base.specs.StmtView.{stm_view, arms_view};
-ghost use Rattle.sky_parse.specs.Machine.{Item, tails, test_then, run, kinds};
+ghost use Rattle.sky_grammar.specs.Machine.{Item, tails, test_then, run, kinds};
+ghost use Rattle.sky_grammar.specs.Grammar.{Fits, Spelled, name_at, word_at, sign_at};
+ghost use Rattle.sky_grammar.specs.Grammar as g;
+ghost use Rattle.sky_parse.specs.Held.{Held, seen_name};
+ghost use Rattle.sky_parse.specs.Reads.{Onto, ReadsArm, ReadsBlock, ReadsEach, ReadsEnded, ReadsStm, ReadsStms, ReadsSteps, ReadsTest};
+ghost use Rattle.sky_parse.specs.Bodies.{CanRead, ReadsBodies};
 ghost use Rattle.sky_parse.specs.Runs.{Runs, Goes};
-ghost use Rattle.sky_parse.specs.Grammar.{Fits, IsTree, IsStm, AreStms, AreArms, AreSteps, Spelled, spell, spell_steps, spell_stm, spell_stms, spell_test, spell_block, name_at, word_at, sign_at};
-ghost use Rattle.sky_parse.specs.Grammar as g;
 ghost use Rattle.sky_text.specs.declared.token.Token.{Token};
-ghost use Rattle.sky_text.specs.declared.token.TokenKind.{TokenKind};
 
 use crate::build::postfix;
 use crate::expr::{expr, onward, steps};
-use crate::level::Level;
 use crate::look::{Fail, eat, eat_word, is_word, stands, want, want_name, want_word};
+use crate::made::Made;
 use sky_base::stmt::{Arm, Arms, Block, Stmt};
 use sky_base::text::Txt;
 use sky_base::tree::{Expr, Step};
+use sky_grammar::level::Level;
 use sky_text::token::{Sign, Token, TokenKind, Word};
 use std::alloc::Global;
 
 /// An expression and the semicolon behind it.
-fn ended(alloc: Global, ts: &[Token]) -> Result<(Expr, &[Token]), Fail>
+fn ended<'a, F: for<'b> Fn(&mut Made, &'b [Token]) -> Result<(Block, &'b [Token]), Fail>>(
+    alloc: Global,
+    body: &F,
+    made: &mut Made,
+    ts: &'a [Token],
+) -> Result<(Expr, &'a [Token]), Fail>
+    requires can { CanRead (F.pre body.now) (length ts.now) }
+    requires bodies { ReadsBodies (F.post body.now) }
     ensures read { Runs (λ x. x.1.now) (λ k. run (Item.level Level.Either ∷ Item.sign Sign.Semicolon ∷ k) (kinds ts.now)) result }
-    ensures tree { IfOk result (λ x. IsTree (exp_view x.0) × Spelled (λ more. spell (exp_view x.0) (g.sign Sign.Semicolon ∷ more)) ts.now x.1.now) }
+    ensures tree { IfOk result (λ x. ReadsEnded (exp_view x.0) made.old made.new ts.now x.1.now) }
     ensures less { IfOk result (λ x. length x.1.now < length ts.now) }
 {
-    let (e, rest) = expr(alloc, ts)?;
+    let (e, rest) = expr(alloc, body, made, ts)?;
     let rest = want(rest, Sign::Semicolon)?;
     Ok((e, rest))
 }
 
 /// A test in parentheses.
-fn test(alloc: Global, ts: &[Token]) -> Result<(Expr, &[Token]), Fail>
+fn test<'a, F: for<'b> Fn(&mut Made, &'b [Token]) -> Result<(Block, &'b [Token]), Fail>>(
+    alloc: Global,
+    body: &F,
+    made: &mut Made,
+    ts: &'a [Token],
+) -> Result<(Expr, &'a [Token]), Fail>
+    requires can { CanRead (F.pre body.now) (length ts.now) }
+    requires bodies { ReadsBodies (F.post body.now) }
     ensures read { Runs (λ x. x.1.now) (λ k. run (test_then k) (kinds ts.now)) result }
-    ensures tree { IfOk result (λ x. IsTree (exp_view x.0) × Spelled (spell_test (exp_view x.0)) ts.now x.1.now) }
+    ensures tree { IfOk result (λ x. ReadsTest (exp_view x.0) made.old made.new ts.now x.1.now) }
     ensures less { IfOk result (λ x. length x.1.now < length ts.now) }
 {
     let rest = want(ts, Sign::OpenRound)?;
-    let (e, rest) = expr(alloc, rest)?;
+    let (e, rest) = expr(alloc, body, made, rest)?;
     let rest = want(rest, Sign::CloseRound)?;
     Ok((e, rest))
 }
 
 /// What stands in the parentheses of a `for`, and these.
-fn each_of(alloc: Global, ts: &[Token]) -> Result<(Txt, Expr, &[Token]), Fail>
-    ensures read { Runs (λ x. x.2.now) (λ k. run (Item.sign Sign.OpenRound ∷ Item.name ∷ Item.word Word.In ∷ Item.level Level.Either ∷ Item.sign Sign.CloseRound ∷ k) (kinds ts.now)) result }
-    ensures tree { IfOk result (λ x. IsTree (exp_view x.1) × Spelled (λ more. g.sign Sign.OpenRound ∷ g.Mark.plain (TokenKind.Name x.0) ∷ g.word Word.In ∷ spell (exp_view x.1) (g.sign Sign.CloseRound ∷ more)) ts.now x.2.now) }
-    ensures less { IfOk result (λ x. length x.2.now < length ts.now) }
+fn each_of<'a, F: for<'b> Fn(&mut Made, &'b [Token]) -> Result<(Block, &'b [Token]), Fail>>(
+    alloc: Global,
+    body: &F,
+    made: &mut Made,
+    ts: &'a [Token],
+) -> Result<((Txt, Expr), &'a [Token]), Fail>
+    requires can { CanRead (F.pre body.now) (length ts.now) }
+    requires bodies { ReadsBodies (F.post body.now) }
+    ensures read { Runs (λ x. x.1.now) (λ k. run (Item.sign Sign.OpenRound ∷ Item.name ∷ Item.word Word.In ∷ Item.level Level.Either ∷ Item.sign Sign.CloseRound ∷ k) (kinds ts.now)) result }
+    ensures tree { IfOk result (λ x. ReadsEach x.0.0 (exp_view x.0.1) made.old made.new ts.now x.1.now) }
+    ensures less { IfOk result (λ x. length x.1.now < length ts.now) }
 {
     let rest = want(ts, Sign::OpenRound)?;
     let (name, _, _, rest) = want_name(rest)?;
+    let Ok(name) = made.seen(&name) else {
+        return Err(Fail::Memory)
+    };
     let rest = want_word(rest, Word::In)?;
-    let (list, rest) = expr(alloc, rest)?;
+    let (list, rest) = expr(alloc, body, made, rest)?;
     let rest = want(rest, Sign::CloseRound)?;
-    Ok((name, list, rest))
+    Ok(((name, list), rest))
 }
 
-/// An expression statement that begins with a name and with these steps.
-fn just(
+/// An expression statement that begins with a name, which is held, and with these steps.
+fn just<'a, F: for<'b> Fn(&mut Made, &'b [Token]) -> Result<(Block, &'b [Token]), Fail>>(
     alloc: Global,
+    body: &F,
+    made: &mut Made,
     name: Txt,
     line: u32,
     col: u32,
     read: Vec<Step>,
-    ts: &[Token],
-) -> Result<(Stmt, &[Token]), Fail>
-    requires { AreSteps (steps_view read.items) }
+    ts: &'a [Token],
+) -> Result<(Stmt, &'a [Token]), Fail>
+    requires can { CanRead (F.pre body.now) (length ts.now) }
+    requires bodies { ReadsBodies (F.post body.now) }
     ensures read { Runs (λ x. x.1.now) (λ k. run (Item.steps ∷ tails Level.Either (Item.sign Sign.Semicolon ∷ k)) (kinds ts.now)) result }
-    ensures tree { IfOk result (λ x. IsStm (stm_view x.0) × ((t : Token) (from : List Token)
-        → Fits (name_at name (at line col)) t → Spelled (spell_steps (steps_view read.items)) from ts.now → Spelled (spell_stm (stm_view x.0)) (t ∷ from) x.1.now)) }
+    ensures tree { IfOk result (λ x. (h a : Held) (t : Token) (from : List Token) → a ≡ seen_name name h → Fits (name_at name (at line col)) t
+        → Onto (λ ys. ReadsSteps (steps_view ys)) read.items a made.old from ts.now → ReadsStm (stm_view x.0) h made.new (t ∷ from) x.1.now) }
     ensures less { IfOk result (λ x. length x.1.now < length ts.now) }
 {
-    let (steps, rest) = steps(alloc, read, ts)?;
+    let (steps, rest) = steps(alloc, body, made, read, ts)?;
     let Ok(first) = postfix(alloc, Expr::Name { name, line, col }, steps) else {
         return Err(Fail::Memory)
     };
-    let (inner, rest) = onward(alloc, Level::Either, first, rest)?;
+    let (inner, rest) = onward(alloc, body, made, Level::Either, first, rest)?;
     let rest = want(rest, Sign::Semicolon)?;
     Ok((Stmt::Just { line, col, inner }, rest))
 }
 
 /// A statement that begins with a name, behind this name and the bracket that opens an index.
-fn indexed(
+fn indexed<'a, F: for<'b> Fn(&mut Made, &'b [Token]) -> Result<(Block, &'b [Token]), Fail>>(
     alloc: Global,
+    body: &F,
+    made: &mut Made,
     name: Txt,
     name_line: u32,
     name_col: u32,
     line: u32,
     col: u32,
-    ts: &[Token],
-) -> Result<(Stmt, &[Token]), Fail>
+    ts: &'a [Token],
+) -> Result<(Stmt, &'a [Token]), Fail>
+    requires can { CanRead (F.pre body.now) (length ts.now) }
+    requires bodies { ReadsBodies (F.post body.now) }
     ensures read { Runs (λ x. x.1.now) (λ k. run (Item.level Level.Either ∷ Item.sign Sign.CloseSquare ∷ Item.indexed ∷ k) (kinds ts.now)) result }
-    ensures tree { IfOk result (λ x. IsStm (stm_view x.0) × ((t b : Token)
-        → Fits (name_at name (at name_line name_col)) t → Fits (sign_at Sign.OpenSquare (at line col)) b → Spelled (spell_stm (stm_view x.0)) (t ∷ b ∷ ts.now) x.1.now)) }
+    ensures tree { IfOk result (λ x. (h : Held) (t b : Token) → made.old ≡ seen_name name h → Fits (name_at name (at name_line name_col)) t
+        → Fits (sign_at Sign.OpenSquare (at line col)) b → ReadsStm (stm_view x.0) h made.new (t ∷ b ∷ ts.now) x.1.now) }
     ensures less { IfOk result (λ x. length x.1.now < length ts.now) }
 {
-    let (at, rest) = expr(alloc, ts)?;
+    let (at, rest) = expr(alloc, body, made, ts)?;
     let rest = want(rest, Sign::CloseSquare)?;
     if let Some((_, rest)) = eat(rest, Sign::Assign) {
-        let (value, rest) = ended(alloc, rest)?;
+        let (value, rest) = ended(alloc, body, made, rest)?;
         return Ok((
             Stmt::Put {
                 name,
@@ -117,24 +152,28 @@ fn indexed(
     let Ok(()) = read.push(Step::Index { at, line, col }) else {
         return Err(Fail::Memory)
     };
-    just(alloc, name, name_line, name_col, read, rest)
+    just(alloc, body, made, name, name_line, name_col, read, rest)
 }
 
-/// A statement that begins with a name, behind this name.
-fn named(
+/// A statement that begins with a name, behind this name, which is held.
+fn named<'a, F: for<'b> Fn(&mut Made, &'b [Token]) -> Result<(Block, &'b [Token]), Fail>>(
     alloc: Global,
+    body: &F,
+    made: &mut Made,
     name: Txt,
     line: u32,
     col: u32,
-    ts: &[Token],
-) -> Result<(Stmt, &[Token]), Fail>
+    ts: &'a [Token],
+) -> Result<(Stmt, &'a [Token]), Fail>
+    requires can { CanRead (F.pre body.now) (length ts.now) }
+    requires bodies { ReadsBodies (F.post body.now) }
     ensures read { Runs (λ x. x.1.now) (λ k. run (Item.named ∷ k) (kinds ts.now)) result }
-    ensures tree { IfOk result (λ x. IsStm (stm_view x.0) × ((t : Token)
-        → Fits (name_at name (at line col)) t → Spelled (spell_stm (stm_view x.0)) (t ∷ ts.now) x.1.now)) }
+    ensures tree { IfOk result (λ x. (h : Held) (t : Token) → made.old ≡ seen_name name h → Fits (name_at name (at line col)) t
+        → ReadsStm (stm_view x.0) h made.new (t ∷ ts.now) x.1.now) }
     ensures less { IfOk result (λ x. length x.1.now < length ts.now) }
 {
     if let Some((_, rest)) = eat(ts, Sign::Assign) {
-        let (value, rest) = ended(alloc, rest)?;
+        let (value, rest) = ended(alloc, body, made, rest)?;
         return Ok((
             Stmt::Set {
                 name,
@@ -146,7 +185,7 @@ fn named(
         ));
     }
     if let Some((sign, rest)) = eat(ts, Sign::AddAssign) {
-        let (value, rest) = ended(alloc, rest)?;
+        let (value, rest) = ended(alloc, body, made, rest)?;
         let (name_line, name_col) = (line, col);
         return Ok((
             Stmt::Add {
@@ -161,16 +200,26 @@ fn named(
         ));
     }
     if let Some((sign, rest)) = eat(ts, Sign::OpenSquare) {
-        return indexed(alloc, name, line, col, sign.line, sign.col, rest);
+        return indexed(
+            alloc, body, made, name, line, col, sign.line, sign.col, rest,
+        );
     }
-    just(alloc, name, line, col, Vec::new(alloc), ts)
+    just(alloc, body, made, name, line, col, Vec::new(alloc), ts)
 }
 
 /// What stands behind the word `return`.
-fn back(alloc: Global, line: u32, col: u32, ts: &[Token]) -> Result<(Stmt, &[Token]), Fail>
+fn back<'a, F: for<'b> Fn(&mut Made, &'b [Token]) -> Result<(Block, &'b [Token]), Fail>>(
+    alloc: Global,
+    body: &F,
+    made: &mut Made,
+    line: u32,
+    col: u32,
+    ts: &'a [Token],
+) -> Result<(Stmt, &'a [Token]), Fail>
+    requires can { CanRead (F.pre body.now) (length ts.now) }
+    requires bodies { ReadsBodies (F.post body.now) }
     ensures read { Runs (λ x. x.1.now) (λ k. run (Item.back ∷ k) (kinds ts.now)) result }
-    ensures tree { IfOk result (λ x. IsStm (stm_view x.0) × ((t : Token)
-        → Fits (word_at Word.Return (at line col)) t → Spelled (spell_stm (stm_view x.0)) (t ∷ ts.now) x.1.now)) }
+    ensures tree { IfOk result (λ x. (t : Token) → Fits (word_at Word.Return (at line col)) t → ReadsStm (stm_view x.0) made.old made.new (t ∷ ts.now) x.1.now) }
     ensures less { IfOk result (λ x. length x.1.now < length ts.now) }
 {
     if let Some((_, rest)) = eat(ts, Sign::Semicolon) {
@@ -183,7 +232,7 @@ fn back(alloc: Global, line: u32, col: u32, ts: &[Token]) -> Result<(Stmt, &[Tok
             rest,
         ));
     }
-    let (value, rest) = ended(alloc, ts)?;
+    let (value, rest) = ended(alloc, body, made, ts)?;
     Ok((
         Stmt::Return {
             line,
@@ -196,9 +245,16 @@ fn back(alloc: Global, line: u32, col: u32, ts: &[Token]) -> Result<(Stmt, &[Tok
 
 /// A statement at the front.
 #[cycle(stmt)]
-pub fn stmt(alloc: Global, ts: &[Token]) -> Result<(Stmt, &[Token]), Fail>
+pub fn stmt<'a, F: for<'b> Fn(&mut Made, &'b [Token]) -> Result<(Block, &'b [Token]), Fail>>(
+    alloc: Global,
+    body: &F,
+    made: &mut Made,
+    ts: &'a [Token],
+) -> Result<(Stmt, &'a [Token]), Fail>
+    requires can { CanRead (F.pre body.now) (length ts.now) }
+    requires bodies { ReadsBodies (F.post body.now) }
     ensures read { Runs (λ x. x.1.now) (λ k. run (Item.stmt ∷ k) (kinds ts.now)) result }
-    ensures tree { IfOk result (λ x. IsStm (stm_view x.0) × Spelled (spell_stm (stm_view x.0)) ts.now x.1.now) }
+    ensures tree { IfOk result (λ x. ReadsStm (stm_view x.0) made.old made.new ts.now x.1.now) }
     ensures less { IfOk result (λ x. length x.1.now < length ts.now) }
 {
     let Some((first, rest)) = ts.split_first() else {
@@ -206,46 +262,55 @@ pub fn stmt(alloc: Global, ts: &[Token]) -> Result<(Stmt, &[Token]), Fail>
     };
     let (line, col) = (first.line, first.col);
     if let TokenKind::Name(name) = &first.kind {
-        let Ok(name) = name.share() else {
+        let Ok(name) = made.seen(name) else {
             return Err(Fail::Memory)
         };
-        return named(alloc, name, line, col, rest);
+        return named(alloc, body, made, name, line, col, rest);
     }
     if is_word(&first.kind, Word::Return) {
-        return back(alloc, line, col, rest);
+        return back(alloc, body, made, line, col, rest);
     }
     if is_word(&first.kind, Word::If) {
-        return choice(alloc, line, col, rest);
+        return choice(alloc, body, made, line, col, rest);
     }
     if is_word(&first.kind, Word::While) {
-        return while_loop(alloc, line, col, rest);
+        return while_loop(alloc, body, made, line, col, rest);
     }
     if is_word(&first.kind, Word::Do) {
-        return do_loop(alloc, line, col, rest);
+        return do_loop(alloc, body, made, line, col, rest);
     }
     if is_word(&first.kind, Word::For) {
-        return for_loop(alloc, line, col, rest);
+        return for_loop(alloc, body, made, line, col, rest);
     }
-    let (inner, rest) = ended(alloc, ts)?;
+    let (inner, rest) = ended(alloc, body, made, ts)?;
     Ok((Stmt::Just { line, col, inner }, rest))
 }
 
 /// What stands behind the first `if` of a choice.
 #[cycle(stmt)]
-fn choice(alloc: Global, line: u32, col: u32, ts: &[Token]) -> Result<(Stmt, &[Token]), Fail>
+fn choice<'a, F: for<'b> Fn(&mut Made, &'b [Token]) -> Result<(Block, &'b [Token]), Fail>>(
+    alloc: Global,
+    body: &F,
+    made: &mut Made,
+    line: u32,
+    col: u32,
+    ts: &'a [Token],
+) -> Result<(Stmt, &'a [Token]), Fail>
+    requires can { CanRead (F.pre body.now) (length ts.now) }
+    requires bodies { ReadsBodies (F.post body.now) }
     ensures read { Runs (λ x. x.1.now) (λ k. run (test_then (Item.block ∷ Item.arms ∷ k)) (kinds ts.now)) result }
-    ensures tree { IfOk result (λ x. IsStm (stm_view x.0) × ((t : Token)
-        → Fits (word_at Word.If (at line col)) t → Spelled (spell_stm (stm_view x.0)) (t ∷ ts.now) x.1.now)) }
+    ensures tree { IfOk result (λ x. (t : Token) → Fits (word_at Word.If (at line col)) t → ReadsStm (stm_view x.0) made.old made.new (t ∷ ts.now) x.1.now) }
     ensures less { IfOk result (λ x. length x.1.now < length ts.now) }
 {
-    let (first, mut rest) = arm(alloc, line, col, ts)?;
     let mut items = Vec::new(alloc);
-    let Ok(()) = items.push(first) else {
+    let Ok(()) = items.reserve(1) else {
         return Err(Fail::Memory)
     };
+    let (first, mut rest) = arm(alloc, body, made, line, col, ts)?;
+    items.push_reserved(first);
     while let Some((_, after)) = eat_word(rest, Word::Else) {
         let Some((sign, after)) = eat_word(after, Word::If) else {
-            let (block, behind) = block(alloc, after)?;
+            let (block, behind) = block(alloc, body, made, after)?;
             let arms = Arms::of(items);
             return Ok((
                 Stmt::If {
@@ -257,10 +322,11 @@ fn choice(alloc: Global, line: u32, col: u32, ts: &[Token]) -> Result<(Stmt, &[T
                 behind,
             ))
         };
-        let (item, after) = arm(alloc, sign.line, sign.col, after)?;
-        let Ok(()) = items.push(item) else {
+        let Ok(()) = items.reserve(1) else {
             return Err(Fail::Memory)
         };
+        let (item, after) = arm(alloc, body, made, sign.line, sign.col, after)?;
+        items.push_reserved(item);
         rest = after;
     }
     let arms = Arms::of(items);
@@ -277,20 +343,29 @@ fn choice(alloc: Global, line: u32, col: u32, ts: &[Token]) -> Result<(Stmt, &[T
 
 /// The test and the block of an arm, behind its `if`.
 #[cycle(stmt)]
-fn arm(alloc: Global, line: u32, col: u32, ts: &[Token]) -> Result<(Arm, &[Token]), Fail>
+fn arm<'a, F: for<'b> Fn(&mut Made, &'b [Token]) -> Result<(Block, &'b [Token]), Fail>>(
+    alloc: Global,
+    body: &F,
+    made: &mut Made,
+    line: u32,
+    col: u32,
+    ts: &'a [Token],
+) -> Result<(Arm, &'a [Token]), Fail>
+    requires can { CanRead (F.pre body.now) (length ts.now) }
+    requires bodies { ReadsBodies (F.post body.now) }
     ensures read { Runs (λ x. x.1.now) (λ k. run (test_then (Item.block ∷ k)) (kinds ts.now)) result }
     ensures place { IfOk result (λ x. (x.0.line ≡ line) × (x.0.col ≡ col)) }
-    ensures tree { IfOk result (λ x. AreArms (arms_view (x.0 ∷ [])) × Spelled (λ more. spell_test (exp_view x.0.test) (spell_block x.0.body more)) ts.now x.1.now) }
+    ensures tree { IfOk result (λ x. ReadsArm (exp_view x.0.test) x.0.body made.old made.new ts.now x.1.now) }
     ensures less { IfOk result (λ x. length x.1.now < length ts.now) }
 {
-    let (test, rest) = test(alloc, ts)?;
-    let (body, rest) = block(alloc, rest)?;
+    let (test, rest) = test(alloc, body, made, ts)?;
+    let (block, rest) = block(alloc, body, made, rest)?;
     Ok((
         Arm {
             line,
             col,
             test,
-            body,
+            body: block,
         },
         rest,
     ))
@@ -298,20 +373,28 @@ fn arm(alloc: Global, line: u32, col: u32, ts: &[Token]) -> Result<(Arm, &[Token
 
 /// What stands behind the word `while` that begins a statement.
 #[cycle(stmt)]
-fn while_loop(alloc: Global, line: u32, col: u32, ts: &[Token]) -> Result<(Stmt, &[Token]), Fail>
+fn while_loop<'a, F: for<'b> Fn(&mut Made, &'b [Token]) -> Result<(Block, &'b [Token]), Fail>>(
+    alloc: Global,
+    body: &F,
+    made: &mut Made,
+    line: u32,
+    col: u32,
+    ts: &'a [Token],
+) -> Result<(Stmt, &'a [Token]), Fail>
+    requires can { CanRead (F.pre body.now) (length ts.now) }
+    requires bodies { ReadsBodies (F.post body.now) }
     ensures read { Runs (λ x. x.1.now) (λ k. run (test_then (Item.block ∷ k)) (kinds ts.now)) result }
-    ensures tree { IfOk result (λ x. IsStm (stm_view x.0) × ((t : Token)
-        → Fits (word_at Word.While (at line col)) t → Spelled (spell_stm (stm_view x.0)) (t ∷ ts.now) x.1.now)) }
+    ensures tree { IfOk result (λ x. (t : Token) → Fits (word_at Word.While (at line col)) t → ReadsStm (stm_view x.0) made.old made.new (t ∷ ts.now) x.1.now) }
     ensures less { IfOk result (λ x. length x.1.now < length ts.now) }
 {
-    let (test, rest) = test(alloc, ts)?;
-    let (body, rest) = block(alloc, rest)?;
+    let (test, rest) = test(alloc, body, made, ts)?;
+    let (block, rest) = block(alloc, body, made, rest)?;
     Ok((
         Stmt::While {
             line,
             col,
             test,
-            body,
+            body: block,
         },
         rest,
     ))
@@ -319,21 +402,29 @@ fn while_loop(alloc: Global, line: u32, col: u32, ts: &[Token]) -> Result<(Stmt,
 
 /// What stands behind the word `do`.
 #[cycle(stmt)]
-fn do_loop(alloc: Global, line: u32, col: u32, ts: &[Token]) -> Result<(Stmt, &[Token]), Fail>
+fn do_loop<'a, F: for<'b> Fn(&mut Made, &'b [Token]) -> Result<(Block, &'b [Token]), Fail>>(
+    alloc: Global,
+    body: &F,
+    made: &mut Made,
+    line: u32,
+    col: u32,
+    ts: &'a [Token],
+) -> Result<(Stmt, &'a [Token]), Fail>
+    requires can { CanRead (F.pre body.now) (length ts.now) }
+    requires bodies { ReadsBodies (F.post body.now) }
     ensures read { Runs (λ x. x.1.now) (λ k. run (Item.block ∷ Item.word Word.While ∷ test_then (Item.sign Sign.Semicolon ∷ k)) (kinds ts.now)) result }
-    ensures tree { IfOk result (λ x. IsStm (stm_view x.0) × ((t : Token)
-        → Fits (word_at Word.Do (at line col)) t → Spelled (spell_stm (stm_view x.0)) (t ∷ ts.now) x.1.now)) }
+    ensures tree { IfOk result (λ x. (t : Token) → Fits (word_at Word.Do (at line col)) t → ReadsStm (stm_view x.0) made.old made.new (t ∷ ts.now) x.1.now) }
     ensures less { IfOk result (λ x. length x.1.now < length ts.now) }
 {
-    let (body, rest) = block(alloc, ts)?;
+    let (block, rest) = block(alloc, body, made, ts)?;
     let rest = want_word(rest, Word::While)?;
-    let (test, rest) = test(alloc, rest)?;
+    let (test, rest) = test(alloc, body, made, rest)?;
     let rest = want(rest, Sign::Semicolon)?;
     Ok((
         Stmt::Do {
             line,
             col,
-            body,
+            body: block,
             test,
         },
         rest,
@@ -342,21 +433,29 @@ fn do_loop(alloc: Global, line: u32, col: u32, ts: &[Token]) -> Result<(Stmt, &[
 
 /// What stands behind the word `for`.
 #[cycle(stmt)]
-fn for_loop(alloc: Global, line: u32, col: u32, ts: &[Token]) -> Result<(Stmt, &[Token]), Fail>
+fn for_loop<'a, F: for<'b> Fn(&mut Made, &'b [Token]) -> Result<(Block, &'b [Token]), Fail>>(
+    alloc: Global,
+    body: &F,
+    made: &mut Made,
+    line: u32,
+    col: u32,
+    ts: &'a [Token],
+) -> Result<(Stmt, &'a [Token]), Fail>
+    requires can { CanRead (F.pre body.now) (length ts.now) }
+    requires bodies { ReadsBodies (F.post body.now) }
     ensures read { Runs (λ x. x.1.now) (λ k. run (Item.sign Sign.OpenRound ∷ Item.name ∷ Item.word Word.In ∷ Item.level Level.Either ∷ Item.sign Sign.CloseRound ∷ Item.block ∷ k) (kinds ts.now)) result }
-    ensures tree { IfOk result (λ x. IsStm (stm_view x.0) × ((t : Token)
-        → Fits (word_at Word.For (at line col)) t → Spelled (spell_stm (stm_view x.0)) (t ∷ ts.now) x.1.now)) }
+    ensures tree { IfOk result (λ x. (t : Token) → Fits (word_at Word.For (at line col)) t → ReadsStm (stm_view x.0) made.old made.new (t ∷ ts.now) x.1.now) }
     ensures less { IfOk result (λ x. length x.1.now < length ts.now) }
 {
-    let (name, list, rest) = each_of(alloc, ts)?;
-    let (body, rest) = block(alloc, rest)?;
+    let ((name, list), rest) = each_of(alloc, body, made, ts)?;
+    let (block, rest) = block(alloc, body, made, rest)?;
     Ok((
         Stmt::For {
             line,
             col,
             name,
             list,
-            body,
+            body: block,
         },
         rest,
     ))
@@ -364,9 +463,16 @@ fn for_loop(alloc: Global, line: u32, col: u32, ts: &[Token]) -> Result<(Stmt, &
 
 /// The statements up to the end of their block.
 #[cycle(stmt)]
-fn stmts(alloc: Global, ts: &[Token]) -> Result<(Block, &[Token]), Fail>
+fn stmts<'a, F: for<'b> Fn(&mut Made, &'b [Token]) -> Result<(Block, &'b [Token]), Fail>>(
+    alloc: Global,
+    body: &F,
+    made: &mut Made,
+    ts: &'a [Token],
+) -> Result<(Block, &'a [Token]), Fail>
+    requires can { CanRead (F.pre body.now) (length ts.now) }
+    requires bodies { ReadsBodies (F.post body.now) }
     ensures read { Goes (λ x k. run (Item.sign Sign.CloseCurly ∷ k) (kinds x.1.now)) (λ k. run (Item.stmts ∷ Item.sign Sign.CloseCurly ∷ k) (kinds ts.now)) result }
-    ensures tree { IfOk result (λ x. AreStms x.0 × Spelled (spell_stms x.0) ts.now x.1.now) }
+    ensures tree { IfOk result (λ x. ReadsStms x.0 made.old made.new ts.now x.1.now) }
     ensures less { IfOk result (λ x. length x.1.now ≤ length ts.now) }
 {
     let mut items = Vec::new(alloc);
@@ -375,7 +481,7 @@ fn stmts(alloc: Global, ts: &[Token]) -> Result<(Block, &[Token]), Fail>
         let Ok(()) = items.reserve(1) else {
             return Err(Fail::Memory)
         };
-        let (item, after) = stmt(alloc, rest)?;
+        let (item, after) = stmt(alloc, body, made, rest)?;
         items.push_reserved(item);
         rest = after;
     }
@@ -384,13 +490,20 @@ fn stmts(alloc: Global, ts: &[Token]) -> Result<(Block, &[Token]), Fail>
 
 /// A block.
 #[cycle(stmt)]
-pub fn block(alloc: Global, ts: &[Token]) -> Result<(Block, &[Token]), Fail>
+pub fn block<'a, F: for<'b> Fn(&mut Made, &'b [Token]) -> Result<(Block, &'b [Token]), Fail>>(
+    alloc: Global,
+    body: &F,
+    made: &mut Made,
+    ts: &'a [Token],
+) -> Result<(Block, &'a [Token]), Fail>
+    requires can { CanRead (F.pre body.now) (length ts.now) }
+    requires bodies { ReadsBodies (F.post body.now) }
     ensures read { Runs (λ x. x.1.now) (λ k. run (Item.block ∷ k) (kinds ts.now)) result }
-    ensures tree { IfOk result (λ x. AreStms x.0 × Spelled (spell_block x.0) ts.now x.1.now) }
+    ensures tree { IfOk result (λ x. ReadsBlock x.0 made.old made.new ts.now x.1.now) }
     ensures less { IfOk result (λ x. length x.1.now < length ts.now) }
 {
     let rest = want(ts, Sign::OpenCurly)?;
-    let (block, rest) = stmts(alloc, rest)?;
+    let (block, rest) = stmts(alloc, body, made, rest)?;
     let rest = want(rest, Sign::CloseCurly)?;
     Ok((block, rest))
 }

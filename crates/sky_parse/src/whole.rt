@@ -1,20 +1,20 @@
 // A form with brackets from its parts.
 
-ghost use Rattle.std.specs.Prelude.{◌≡◌, ◌≤◌, ◌∷◌, ◌++◌, [], List, IfOk};
-ghost use Rattle.sky_base.specs.Proper.{level as level_of, exps_count};
-ghost use Rattle.sky_base.specs.TreeView.{at, exp_view, exps_view, steps_view, one, two, three};
-ghost use Rattle.sky_parse.specs.Parts.{Has, spell_head, spell_parts, head_shape, step_shape, step_sign};
-ghost use Rattle.sky_parse.specs.Grammar.{Mark, IsTree, AreTrees, AreSteps, spell, spell_steps, sign_at};
+ghost use Rattle.std.specs.Prelude.{◌≡◌, ◌≤◌, ◌∷◌, ◌++◌, [], true, length, List, IfOk};
+ghost use Rattle.sky_base.specs.Tree.{Steps};
+ghost use Rattle.sky_base.specs.TreeView.{at, exp_view, exps_view, step_view, one, two, three};
+ghost use Rattle.sky_grammar.specs.Parts.{ready, head_shape, step_shape};
+ghost use Rattle.sky_parse.specs.Built.{formed, step_formed};
 
-use crate::parts::{Head, StepHead};
 use sky_base::text::Memory;
 use sky_base::tree::{Expr, Exprs, Step, Sub};
+use sky_grammar::parts::{Head, StepHead};
 use std::alloc::Global;
 
 /// The last of some expressions.
 #[tactic(auto, using(crate::proofs::Wholes::wholes))]
 fn last(items: Vec<Expr>) -> (Expr, Vec<Expr>)
-    requires { 1 ≤ exps_count (exps_view items.items) }
+    requires { 1 ≤ length items.items }
     ensures { items.items ≡ result.1.items ++ result.0 ∷ [] }
 {
     let mut items = items;
@@ -27,7 +27,7 @@ fn last(items: Vec<Expr>) -> (Expr, Vec<Expr>)
 /// The only one of some expressions.
 #[tactic(auto, using(crate::proofs::Wholes::wholes))]
 fn only(items: Vec<Expr>) -> Expr
-    requires { exps_count (exps_view items.items) ≡ 1 }
+    requires { length items.items ≡ 1 }
     ensures { exps_view items.items ≡ one (exp_view result) }
 {
     let (a, _) = last(items);
@@ -36,7 +36,7 @@ fn only(items: Vec<Expr>) -> Expr
 
 /// One expression, boxed.
 fn one_of(alloc: Global, items: Vec<Expr>) -> Result<Sub, Memory>
-    requires { exps_count (exps_view items.items) ≡ 1 }
+    requires { length items.items ≡ 1 }
     ensures { IfOk result (λ a. exps_view items.items ≡ one a) }
 {
     Sub::new(alloc, only(items))
@@ -45,7 +45,7 @@ fn one_of(alloc: Global, items: Vec<Expr>) -> Result<Sub, Memory>
 /// Two expressions, boxed.
 #[tactic(auto, using(crate::proofs::Wholes::wholes))]
 fn two_of(alloc: Global, items: Vec<Expr>) -> Result<(Sub, Sub), Memory>
-    requires { exps_count (exps_view items.items) ≡ 2 }
+    requires { length items.items ≡ 2 }
     ensures { IfOk result (λ x. exps_view items.items ≡ two x.0 x.1) }
 {
     let (b, items) = last(items);
@@ -58,7 +58,7 @@ fn two_of(alloc: Global, items: Vec<Expr>) -> Result<(Sub, Sub), Memory>
 /// Three expressions, boxed.
 #[tactic(auto, using(crate::proofs::Wholes::wholes))]
 fn three_of(alloc: Global, items: Vec<Expr>) -> Result<(Sub, Sub, Sub), Memory>
-    requires { exps_count (exps_view items.items) ≡ 3 }
+    requires { length items.items ≡ 3 }
     ensures { IfOk result (λ x. exps_view items.items ≡ three x.0 x.1 x.2) }
 {
     let (c, items) = last(items);
@@ -70,7 +70,7 @@ fn three_of(alloc: Global, items: Vec<Expr>) -> Result<(Sub, Sub, Sub), Memory>
     Ok((a, b, c))
 }
 
-/// The form of these parts.
+/// The form of these parts, which are as many as it takes.
 pub fn whole(
     alloc: Global,
     head: Head,
@@ -78,8 +78,8 @@ pub fn whole(
     col: u32,
     items: Vec<Expr>,
 ) -> Result<Expr, Memory>
-    requires { AreTrees (exps_view items.items) × Has (head_shape head) (exps_view items.items) }
-    ensures { IfOk result (λ e. IsTree (exp_view e) × (7 ≤ level_of (exp_view e)) × ((more : List Mark) → spell (exp_view e) more ≡ spell_head head (at line col) (spell_parts (head_shape head) (exps_view items.items) more))) }
+    requires { ready (head_shape head) (length items.items) ≡ true }
+    ensures { IfOk result (λ e. exp_view e ≡ formed head (at line col) (exps_view items.items)) }
 {
     match head {
         Head::Parens => Ok(Expr::Parens {
@@ -162,8 +162,8 @@ pub fn whole(
 
 /// The index or the call of these parts.
 pub fn step_of(kind: StepHead, line: u32, col: u32, items: Vec<Expr>) -> Step
-    requires { AreTrees (exps_view items.items) × Has (step_shape kind) (exps_view items.items) }
-    ensures { AreSteps (steps_view (result ∷ [])) × ((more : List Mark) → spell_steps (steps_view (result ∷ [])) more ≡ sign_at (step_sign kind) (at line col) ∷ spell_parts (step_shape kind) (exps_view items.items) more) }
+    requires { ready (step_shape kind) (length items.items) ≡ true }
+    ensures { (more : Steps) → step_view result more ≡ step_formed kind (at line col) (exps_view items.items) more }
 {
     match kind {
         StepHead::Index => Step::Index {

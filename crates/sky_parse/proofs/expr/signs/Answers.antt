@@ -1,5 +1,5 @@
 use Rattle.std.proofs.Common.{◌∙◌, arith}
-use Rattle.sky_parse.proofs.Push.{signs_spelled}
+use Rattle.sky_parse.proofs.ExpLaw.{signs_spelled}
 use Rattle.sky_parse.proofs.expr.signs.Goals as goal
 
 pub loop-sign-preserved : goal.loop-sign-preserved

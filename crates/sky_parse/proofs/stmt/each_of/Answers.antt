@@ -1,18 +1,12 @@
-use Rattle.std.proofs.Common.{◌∷◌}
-use Rattle.sky_base.specs.TreeView.{exp_view}
-use Rattle.sky_text.specs.declared.token.Sign.{Sign}
-use Rattle.sky_text.specs.declared.token.Word.{Word}
+use Rattle.std.proofs.Common.{ℕ, List, ◌∷◌, sym, ap, subst, ◌∙◌}
 use Rattle.sky_text.specs.declared.token.TokenKind.{TokenKind}
-use Rattle.sky_parse.specs.Grammar as g
-use Rattle.sky_parse.specs.Grammar.{Mark, spell}
+use Rattle.sky_grammar.specs.Grammar.{Mark, Spelled}
+use Rattle.sky_parse.specs.Held.{seen_name}
+use Rattle.sky_parse.proofs.StmLaw.{read_each}
 use Rattle.sky_parse.proofs.stmt.each_of.Goals as goal
 
 pub returns-clause-tree : goal.returns-clause-tree
-returns-clause-tree c = (
-  c.in_ok-list.ensures.tree.0,
-  λ more f.
-      let close = g.sign Sign.CloseRound ∷ more in
-      let list = g.word Word.In ∷ spell (exp_view c.in_ok-list.list) close in
-      let name = Mark.plain (TokenKind.Name c.in_ok-name.name) ∷ list in
-      c.in_ok-rest.ensures.spelled name (c.in_ok-name.ensures.plain list (c.in_ok-rest-2.ensures.spelled (spell (exp_view c.in_ok-list.list) close) (c.in_ok-list.ensures.tree.1 close (c.in_ok-rest-3.ensures.spelled more f)))),
-)
+returns-clause-tree g c =
+    let same = sym c.in-Ok.ensures.0 in
+    read_each c.in-Ok.name c.in_ok-rest.ensures.spelled (subst (λ (x : List ℕ). Spelled (λ more. Mark.plain (TokenKind.Name x) ∷ more) c.in_ok-rest.rest.now c.in_ok-name.rest.now) same c.in_ok-name.ensures.plain)
+    (c.in-Ok.ensures.1 ∙ ap (λ (x : List ℕ). seen_name x c.args.made.now) same) c.in_ok-rest-2.ensures.spelled c.in_ok-list.ensures.tree c.in_ok-rest-3.ensures.spelled

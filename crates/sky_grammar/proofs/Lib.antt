@@ -1,0 +1,17 @@
+pub mod LiftedLaw
+pub mod UsesLaw
+pub mod Tokens
+pub mod Aligned
+pub mod Counts
+pub mod Operands
+pub mod Statements
+pub mod Complete
+pub mod Means
+pub mod Back
+pub mod Fill
+pub mod Exact
+pub mod Partial
+pub mod BeginsLaw
+pub mod UniqueExpressions
+pub mod UniqueChains
+pub mod UniqueScripts
