@@ -49,6 +49,22 @@ fn scripts_are_answered(rt: HostRuntime) -> Result<(), Fail> {
             "1\n",
         ),
         (
+            "k = 10; g = function(x) { return x + k; }; k = 20; return [g(1), spawn(g, [1])];",
+            "[11,11]\n",
+        ),
+        (
+            "function twice(f, x) { return f(f(x)); } n = 3; return twice(function(x) { return x * n; }, 5);",
+            "45\n",
+        ),
+        (
+            "add = function(a) { return function(b) { return a + b; }; }; return add(2)(3);",
+            "5\n",
+        ),
+        (
+            "f = function() { x = 1; g = function() { return x; }; x = 2; return g() + x; }; return f();",
+            "3\n",
+        ),
+        (
             "return \"ref\" + \"\\t\\\"exec\"; // ref(1)",
             "\"ref\\t\\\"exec\"\n",
         ),
@@ -88,6 +104,26 @@ fn faults_have_their_places(rt: HostRuntime) -> Result<(), Fail> {
             "ciel: fault NotText 0:0\n",
         ),
         ("return f;", "ciel: fault Unknown 1:8\n"),
+        (
+            "return function() { return 1; };",
+            "ciel: fault NotText 0:0\n",
+        ),
+        (
+            "g = function() { return z; }; z = 1; return g();",
+            "ciel: fault Unknown 1:25\n",
+        ),
+        (
+            "g = function() { return g; }; return g()();",
+            "ciel: fault Unknown 1:25\n",
+        ),
+        (
+            "f = 1; while (true) { f = function() { return f; }; }",
+            "ciel: fault TooDeep 1:27\n",
+        ),
+        (
+            "return function(x) { return x; }();",
+            "ciel: fault WrongCount 1:33\n",
+        ),
         ("x = 1;\nx();", "ciel: fault BadKind 2:2\n"),
         ("return [1][1];", "ciel: fault NoIndex 1:11\n"),
         ("return {}[\"a\"];", "ciel: fault NoKey 1:10\n"),
@@ -123,6 +159,22 @@ fn no_scripts_are_refused(rt: HostRuntime) -> Result<(), Fail> {
         (
             b"function f(x, x) { }".as_slice(),
             "ciel: syntax SameName 1:15\n",
+        ),
+        (
+            b"function(x, x) { };".as_slice(),
+            "ciel: syntax SameName 1:13\n",
+        ),
+        (
+            b"f = function(x) { g = function(y, y) { }; };".as_slice(),
+            "ciel: syntax SameName 1:35\n",
+        ),
+        (
+            b"function() { }".as_slice(),
+            "ciel: syntax NoSentence 1:15\n",
+        ),
+        (
+            b"f = function(x { };".as_slice(),
+            "ciel: syntax NoSentence 1:16\n",
         ),
         (
             b"function f() { }\nfunction f() { }".as_slice(),
