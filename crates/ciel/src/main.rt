@@ -23,8 +23,8 @@ use std::{env, io};
 const STACK: usize = 256 << 20;
 
 /// The bytes of stack that are tried where no thread can have so many. The deepest script that was found
-/// takes 20 MiB.
-const LESS_STACK: usize = 32 << 20;
+/// takes 44 MiB.
+const LESS_STACK: usize = 64 << 20;
 
 /// What the thread of a run promises of the status that it gives: nothing.
 #[derive(Clone, Copy)]
