@@ -132,7 +132,7 @@ const SAMPLES: [(&str, u32); 12] = [
 /// How many of the bytes with one changed are a value's. Each of those is encoded to just these bytes again, and no
 /// bytes that are cut short or go on are a value's.
 fn changed(alloc: Global, bytes: &mut Vec<u8>) -> Result<Option<u32>, Fail> {
-    let mut values = 0;
+    let mut values: u32 = 0;
     for at in 0..bytes.len() {
         let old = bytes[at];
         for new in 0..=255u8 {
@@ -141,7 +141,7 @@ fn changed(alloc: Global, bytes: &mut Vec<u8>) -> Result<Option<u32>, Fail> {
                 if same.as_slice() != bytes.as_slice() {
                     return Ok(None);
                 }
-                values += 1;
+                values = values.saturating_add(1);
             }
         }
         bytes[at] = old;
