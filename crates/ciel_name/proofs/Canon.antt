@@ -6,21 +6,11 @@ use Rattle.sky_base.specs.See as see
 use Rattle.sky_base.specs.Name.{bytes, vals_bytes, pairs_bytes, bytes_of_text, big_endian, is_anonymous, call_bytes, canon, low, low_vals, low_pairs, low_desc, name, digested}
 use Rattle.sky_base.proofs.Exact.{exact_text, self_text}
 use Rattle.sky_law.specs.Tasks.{In}
+use Rattle.sky_law.proofs.WorkLaw.{in_left, in_right}
 use Rattle.sky_law.specs.NamesLaws.{Tag, NoClash, no_name}
 use Rattle.ciel_name.specs.Spelled.{IsText, CapturesSo, Spelled, AllSpelled, PairsSpelled}
 use Rattle.ciel_name.specs.Laws.{OneSpelling, OneCanon, SpelledDesc, inner, canon_of, ApartInSet, ApartByInner}
 use Rattle.ciel_name.proofs.Spelling.{four_free, text_free, val_free, vals_free, pairs_free}
-
--- what is in one of two lists is in both together
-module _ {A : Type 0} where
-  in_left : (d : A) (xs ys : List A) → In d xs → In d (xs ++ ys)
-  in_left d [] ys h = absurd h
-  in_left d (x ∷ xs) ys (inl e) = inl e
-  in_left d (x ∷ xs) ys (inr h) = inr (in_left d xs ys h)
-
-  in_right : (d : A) (xs ys : List A) → In d ys → In d (xs ++ ys)
-  in_right d [] ys h = h
-  in_right d (x ∷ xs) ys h = inr (in_right d xs ys h)
 
 heads : (a b : ℕ) (r s : List ℕ) → nat_eq a b ≡ false → a ∷ r ≡ b ∷ s → ⊥
 heads a b r s n e = let h : a ≡ b = cc in false≢true (sym n ∙ eq-eqb a b h)

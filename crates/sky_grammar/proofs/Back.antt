@@ -6,7 +6,7 @@ use Rattle.std.proofs.lemmas.Bool.{and_parts, eqb-true, eqb-false}
 use Rattle.sky_base.specs.Op.{Order}
 use Rattle.sky_base.specs.Tree.{Place, Lit, Form, Oper, Junction, SignAt}
 use Rattle.sky_base.specs.Tree as tree
-use Rattle.sky_base.specs.Proper.{oper_level}
+use Rattle.sky_grammar.specs.Levels.{oper_level}
 use Rattle.sky_text.specs.declared.token.Sign.{Sign}
 use Rattle.sky_text.specs.declared.token.Word.{Word}
 use Rattle.sky_text.specs.declared.token.TokenKind.{TokenKind}

@@ -3,7 +3,7 @@ use Rattle.std.proofs.Common.{◌≡◌, ℕ, suc, ◌+◌, ◌≤◌, true, fal
 use Rattle.std.proofs.lemmas.Bool.{eqb-true, false_from_ne_true, false≢true}
 use Rattle.std.specs.Prelude.{◌==◌, ◌%◌}
 use Rattle.sky_base.specs.Tree.{Lit, Form, Junction}
-use Rattle.sky_base.specs.Proper.{junction_level}
+use Rattle.sky_grammar.specs.Levels.{junction_level}
 use Rattle.sky_text.specs.declared.token.Sign.{Sign}
 use Rattle.sky_grammar.specs.declared.level.Level.{Level}
 use Rattle.sky_grammar.specs.declared.parts.Shape.{Shape}

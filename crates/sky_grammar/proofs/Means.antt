@@ -2,7 +2,7 @@
 use Rattle.std.proofs.Common.{◌≡◌, ℕ, suc, ◌+◌, ◌≤◌, Bool, true, false, List, [], ◌∷◌, refl, sym, subst, arith}
 use Rattle.std.specs.Prelude.{◌==◌, ◌%◌}
 use Rattle.sky_base.specs.Tree.{Place, Oper, Junction, SignAt}
-use Rattle.sky_base.specs.Proper.{oper_level, junction_level}
+use Rattle.sky_grammar.specs.Levels.{oper_level, junction_level}
 use Rattle.sky_text.specs.declared.token.Sign.{Sign}
 use Rattle.sky_text.specs.declared.token.Word.{Word}
 use Rattle.sky_text.specs.declared.token.TokenKind.{TokenKind}

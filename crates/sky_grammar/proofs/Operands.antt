@@ -4,7 +4,7 @@ use Rattle.std.specs.Prelude.{if◌then◌else◌, ◌&&◌, ◌==◌, ◌%◌}
 use Rattle.sky_base.specs.Op.{Order}
 use Rattle.sky_base.specs.Tree.{Place, Lit, Form, Oper, Junction, SignAt}
 use Rattle.sky_base.specs.Tree as tree
-use Rattle.sky_base.specs.Proper.{oper_level, junction_level}
+use Rattle.sky_grammar.specs.Levels.{oper_level, junction_level}
 use Rattle.sky_text.specs.declared.token.Sign.{Sign}
 use Rattle.sky_text.specs.declared.token.TokenKind.{TokenKind}
 use Rattle.sky_grammar.specs.declared.level.Level.{Level}

@@ -1,11 +1,24 @@
 -- The levels of chains: which operators each has, and which level its operands have.
 use Rattle.std.specs.Prelude.{ℕ, Bool, false, ◌||◌, List, [], ◌∷◌, Option, Some, None}
-use Rattle.sky_base.specs.Tree.{Junction}
+use Rattle.sky_base.specs.Tree.{Oper, Junction}
 use Rattle.sky_text.specs.declared.token.Sign.{Sign}
 use Rattle.sky_text.specs.declared.token.TokenKind.{TokenKind}
 use Rattle.sky_text.specs.declared.token.Token.{Token}
 use Rattle.sky_grammar.specs.declared.level.Level.{Level}
 use Rattle.sky_grammar.specs.Signs.{is}
+
+-- how tightly an operator binds: a comparison 2, a sum 3, a product 4
+abbrev pub oper_level : Oper → ℕ
+oper_level Oper.plus = 3
+oper_level Oper.minus = 3
+oper_level Oper.times = 4
+oper_level Oper.over = 4
+oper_level Oper.rest = 4
+oper_level (Oper.compare o) = 2
+
+abbrev pub junction_level : Junction → ℕ
+junction_level Junction.either = 0
+junction_level Junction.both = 1
 
 -- the level of the chains in the grammar
 abbrev pub rank : Level → ℕ

@@ -5,7 +5,6 @@ use lib.Utf8.{encode}
 use Rattle.sky_base.specs.Val.{null, truth, num, text, list, dict, ref, no_vals, val, no_pairs, pair, call, out, input, vals_of}
 use Rattle.sky_base.specs.Op.{Order, over_num, rest_num}
 use Rattle.sky_base.specs.Tree.{Place, Lit, Oper, Junction, Sign, Form, Exp, Exps, Links, Ands, Steps, Stm, Stms, Arms, Else}
-use Rattle.sky_base.specs.Proper.{proper_stms}
 use Rattle.sky_base.specs.Res.{visits, others, Object, End}
 use Rattle.sky_base.specs.Read.{Outcome, ended, no_fuel, made, waited, outcome, acts}
 use Rattle.sky_base.specs.See.{Val, Desc, Job, Around, see, run_of, round, wave, job_answer, Answered, main_call}
@@ -473,14 +472,3 @@ put_no_index = refl
 add_unset : ends (main_of (Stm.add (121 ∷ []) (at 1) (at 3) (n 1 6) ∷ [])) 0 ≡ fails FaultKind.Unknown 1 2
 unfolding computing
 add_unset = refl
-
--- the trees of these rows are trees of the grammar
-squares_row_proper : proper_stms squares_row.script.main ≡ true
-squares_row_proper = refl
-
-waves_proper : proper_stms (waves 3).script.main ≡ true
-waves_proper = refl
-
--- `1 + 2 * 3` as a chain of both is not
-mixed_chain : proper_stms (block (Stm.just (at 1) (Exp.chain (n 1 1) (Links.link Oper.plus (at 3) (n 2 5) (Links.link Oper.times (at 7) (n 3 9) Links.no_links))) ∷ [])) ≡ false
-mixed_chain = refl

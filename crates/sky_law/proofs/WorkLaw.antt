@@ -18,13 +18,14 @@ there : {A : Type 0} (o : Option A) → o ≢ None → is_some o ≡ true
 there None h = absurd (h refl)
 there (Some a) h = refl
 
+-- what is in one of two lists is in both together
 module _ {A : Type 0} where
-  in_left : (d : A) (xs ys : List A) → In d xs → In d (xs ++ ys)
+  pub in_left : (d : A) (xs ys : List A) → In d xs → In d (xs ++ ys)
   in_left d [] ys h = absurd h
   in_left d (x ∷ xs) ys (inl e) = inl e
   in_left d (x ∷ xs) ys (inr h) = inr (in_left d xs ys h)
 
-  in_right : (d : A) (xs ys : List A) → In d ys → In d (xs ++ ys)
+  pub in_right : (d : A) (xs ys : List A) → In d ys → In d (xs ++ ys)
   in_right d [] ys h = h
   in_right d (x ∷ xs) ys h = inr (in_right d xs ys h)
 

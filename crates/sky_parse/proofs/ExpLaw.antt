@@ -8,7 +8,7 @@ use Rattle.sky_base.specs.Tree.{Place, Lit, Oper, Junction, SignAt, Form, nowher
 use Rattle.sky_base.specs.TreeView.{exp_view, exps_view, signs_view}
 use Rattle.sky_base.specs.declared.tree.Expr.{Expr}
 use Rattle.sky_base.specs.declared.tree.SignAt.{SignAt as CodeSign}
-use Rattle.sky_base.specs.Proper.{oper_level, junction_level}
+use Rattle.sky_grammar.specs.Levels.{oper_level, junction_level}
 use Rattle.sky_text.specs.declared.token.Sign.{Sign}
 use Rattle.sky_text.specs.declared.token.TokenKind.{TokenKind}
 use Rattle.sky_text.specs.declared.token.Token.{Token}

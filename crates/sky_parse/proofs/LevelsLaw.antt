@@ -1,6 +1,6 @@
 -- The levels of chains by their ranks.
 use Rattle.std.proofs.Common.{◌≡◌, ◌⊎◌, inl, inr, ℕ, suc, ◌≤◌, Option, Some, None, refl, sym, ap, ◌∙◌, arith}
-use Rattle.sky_base.specs.Proper.{junction_level}
+use Rattle.sky_grammar.specs.Levels.{junction_level}
 use Rattle.sky_grammar.specs.declared.level.Level.{Level}
 use Rattle.sky_grammar.specs.Levels.{rank, tighter, junction, join_sign}
 use Rattle.sky_grammar.specs.Grammar.{junction_sign}

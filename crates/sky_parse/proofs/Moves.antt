@@ -2,7 +2,7 @@
 use Rattle.std.proofs.Common.{◌≡◌, ℕ, zero, suc, ◌+◌, ◌≤◌, Bool, true, false, cond, List, [], ◌∷◌, length, Option, Some, None, refl, sym, ap, subst, ◌∙◌, arith}
 use Rattle.std.specs.Prelude.{◌&&◌, if◌then◌else◌, Result, Ok, Err, IsErrAnd}
 use Rattle.sky_base.specs.TreeView.{arith_view, order_view}
-use Rattle.sky_base.specs.Proper.{oper_level}
+use Rattle.sky_grammar.specs.Levels.{oper_level}
 use Rattle.sky_base.specs.declared.tree.ArithOp.{ArithOp}
 use Rattle.sky_base.specs.declared.tree.Cmp.{Cmp}
 use Rattle.sky_text.specs.declared.token.Sign.{Sign}

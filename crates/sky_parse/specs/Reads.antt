@@ -3,7 +3,7 @@
 use Rattle.std.specs.Prelude.{◌≡◌, ℕ, zero, suc, ◌+◌, ◌%◌, ◌==◌, ◌≤◌, if◌then◌else◌, List, [], ◌∷◌, ◌++◌, length, drop, true}
 use Rattle.sky_base.specs.Tree as run
 use Rattle.sky_base.specs.Tree.{Place, Junction}
-use Rattle.sky_base.specs.Proper.{junction_level}
+use Rattle.sky_grammar.specs.Levels.{junction_level}
 use Rattle.sky_text.specs.declared.token.Sign.{Sign}
 use Rattle.sky_text.specs.declared.token.Word.{Word}
 use Rattle.sky_text.specs.declared.token.TokenKind.{TokenKind}

@@ -1,7 +1,7 @@
 // The operators of chains, each with the level of its chain.
 
 ghost use Rattle.std.specs.Prelude.{◌≡◌, ◌∷◌, ◌≤◌, IfSome, IfNone, true, false};
-ghost use Rattle.sky_base.specs.Proper.{oper_level};
+ghost use Rattle.sky_grammar.specs.Levels.{oper_level};
 ghost use Rattle.sky_base.specs.TreeView.{arith_view, order_view};
 ghost use Rattle.sky_grammar.specs.Signs.{is};
 ghost use Rattle.sky_grammar.specs.Grammar.{oper_sign, order_sign};
