@@ -1,3 +1,5 @@
-pub mod Answers
+mod Ends
 pub mod Exact
+mod Loaded
 mod Pieces
+mod Taken

@@ -4,12 +4,12 @@ use Rattle.std.specs.List.{concat}
 use Rattle.std.proofs.lemmas.List.{append-nil, take_all}
 use Rattle.ciel_io.specs.Tells.{Tells, TellsPart}
 
-pub tells_none : (b : Option (List ℕ)) → Tells b b []
+pub tells_none : {A : Type 0} (b : Option (List A)) → Tells b b []
 tells_none None = tt
 tells_none (Some bytes) = (bytes, refl, sym (append-nil bytes))
 
 -- one piece behind another
-pub tells_more : (b m n : Option (List ℕ)) (p q : List ℕ) → Tells b m p → Tells m n q → Tells b n (p ++ q)
+pub tells_more : {A : Type 0} (b m n : Option (List A)) (p q : List A) → Tells b m p → Tells m n q → Tells b n (p ++ q)
 tells_more b m None p q g h = tt
 tells_more b None (Some n) p q g h = let e : None ≡ Some h.0 = h.1 in absurd cc
 tells_more b (Some m) (Some n) p q g h =

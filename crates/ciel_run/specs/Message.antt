@@ -52,5 +52,4 @@ message_of Why.WriteFault = codes "ciel: write fault\n"
 message_of Why.Memory = codes "ciel: no memory\n"
 message_of (Why.TooLongInput path limit) =
     concat (codes "ciel: too long " ∷ path ∷ codes " " ∷ decimal limit ∷ codes "\n" ∷ [])
-message_of (Why.NotBuilt line col) = placed (codes "ciel: ") (codes "not built") line col
 message_of (Why.TooDeepPlain depth) = counted (codes "ciel: plain run too deep ") depth

@@ -1,14 +1,20 @@
--- Why the bytes of a script have no answer.
+-- Why bytes are no script, and why a job has no bytes.
 use Rattle.std.specs.Prelude.{◌≡◌, ℕ, List}
-use Rattle.sky_base.specs.See.{Answered}
-use Rattle.ciel_run.specs.Source.{IsLater, IsAnswer, HasChain, Makes}
+use Rattle.sky_base.specs.See.{Answered, Desc, Job, Means}
+use Rattle.sky_plain.specs.Needs.{Chain, MakesMany}
+use Rattle.ciel_run.specs.Source.{over_lines}
 use Rattle.ciel_run.specs.Syntax.{IsSyntaxFault}
-use Rattle.ciel_run.specs.declared.answer.Refusal.{Refusal}
+use Rattle.ciel_run.specs.declared.script.NoScript.{NoScript}
+use Rattle.ciel_run.specs.declared.answer.NoAnswer.{NoAnswer}
 
-abbrev pub RefusedSo : List ℕ → Refusal → Type 0
-RefusedSo source (Refusal.Syntax kind line col) = IsSyntaxFault source kind line col
-RefusedSo source (Refusal.NotBuilt line col) = IsLater source line col
-RefusedSo source (Refusal.Fault fault) = IsAnswer source (Answered.fault fault)
-RefusedSo source (Refusal.TooMany held) = (held ≡ 65536) × Makes source 65537
-RefusedSo source (Refusal.TooDeep depth) = (depth ≡ 4096) × HasChain source 4096
-RefusedSo source Refusal.Memory = Unit {0}
+-- bytes are no script
+abbrev pub RefusedSo : List ℕ → NoScript → Type 0
+RefusedSo source (NoScript.Syntax kind line col) = IsSyntaxFault source kind line col
+RefusedSo source NoScript.Memory = Unit {0}
+
+-- a job means no bytes, or its descriptions are too many for a sequential run
+abbrev pub NotAnswered : Job → NoAnswer → Type 0
+NotAnswered job (NoAnswer.Fault fault) = Means job over_lines (Answered.fault fault)
+NotAnswered job (NoAnswer.TooMany held) = (held ≡ 65536) × MakesMany job over_lines 65537
+NotAnswered job (NoAnswer.TooDeep depth) = (depth ≡ 4096) × ((d : Desc) × Chain job over_lines 4096 d)
+NotAnswered job NoAnswer.Memory = Unit {0}

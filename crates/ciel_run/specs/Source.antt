@@ -1,63 +1,46 @@
--- The bytes of a script: their tokens, the script that they are, and what its job comes to.
-use Rattle.std.specs.Prelude.{◌≡◌, ℕ, if◌then◌else◌, List, [], ◌∷◌, Bool, true, false, Option, Some, None, Ok, Err}
-use Rattle.sky_base.specs.KitView.{Gives}
+-- The bytes of a script: the script that they are, and what its job over inputs comes to.
+use Rattle.std.specs.Prelude.{◌≡◌, ℕ, List, map, Ok}
 use Rattle.sky_base.specs.See.{Desc, Job, Around, Answered, Means}
-use Rattle.sky_base.specs.Tree.{Place, Script}
-use Rattle.sky_base.specs.TreeView.{at}
-use Rattle.sky_base.specs.declared.fault.FaultKind.{FaultKind}
+use Rattle.sky_base.specs.Tree.{Script}
 use Rattle.sky_text.specs.Lexing.{tokens_of}
 use Rattle.sky_text.specs.declared.token.Token.{Token}
-use Rattle.sky_text.specs.declared.token.TokenKind.{TokenKind}
-use Rattle.sky_text.specs.declared.token.Word.{Word}
-use Rattle.sky_grammar.specs.Grammar.{place}
 use Rattle.sky_parse.specs.Parsed.{IsValid}
 use Rattle.sky_grammar.specs.Tops.{Top, script_of}
 use Rattle.ciel_json.specs.Around.{json_around}
+use Rattle.line_kit.specs.Gives.{gives}
 use Rattle.sky_plain.specs.Needs.{Chain, MakesMany}
 
--- a word that isn't built yet
-abbrev pub is_later : TokenKind → Bool
-is_later (TokenKind.Word Word.Ref) = true
-is_later (TokenKind.Word Word.Exec) = true
-is_later (TokenKind.Word Word.SpawnExec) = true
-is_later _ = false
+-- an input: its name and its bytes
+abbrev pub Input : Type 0
+Input = List ℕ × List ℕ
 
--- the place of the first such token
-abbrev pub first_later : List Token → Option Place
-first_later [] = None
-first_later (t ∷ ts) = if is_later t.kind then Some (place t) else first_later ts
+abbrev pub keys_of : List Input → List (List ℕ)
+keys_of inputs = map (λ i. i.0) inputs
 
--- the bytes have tokens, and this is the place of the first that isn't built
-abbrev pub IsLater : List ℕ → ℕ → ℕ → Type 0
-IsLater source line col = (ts : List Token) × (tokens_of source ≡ Ok ts) × (first_later ts ≡ Some (at line col))
+-- the bytes are a script that may name inputs by these keys
+abbrev pub IsScript : List ℕ → List (List ℕ) → Script → Type 0
+IsScript source keys script =
+    (ts : List Token) × (tops : List Top) × (tokens_of source ≡ Ok ts) × IsValid tops ts × (script ≡ script_of keys tops)
 
--- the bytes have these tokens, and each of them is built
-abbrev pub HasTokens : List ℕ → List Token → Type 0
-HasTokens source ts = (tokens_of source ≡ Ok ts) × (first_later ts ≡ None)
+-- the job of a script over inputs
+abbrev pub job_of : Script → List Input → Job
+job_of script inputs = record { script = script; inputs = inputs }
 
--- the bytes are this script
-abbrev pub IsScript : List ℕ → Script → Type 0
-IsScript source script = (ts : List Token) × (tops : List Top) × HasTokens source ts × IsValid tops ts × (script ≡ script_of [] tops)
+-- the executors are those over lines, and data is JSON
+abbrev pub over_lines : Around
+over_lines = json_around gives
 
--- the job of a script that has no inputs
-abbrev pub job_of : Script → Job
-job_of script = record { script = script; inputs = [] }
-
--- no executor is known, and data is JSON
-abbrev pub no_executors : Gives
-no_executors x args inputs n = Err FaultKind.BadExec
-
-abbrev pub alone : Around
-alone = json_around no_executors
-
--- the bytes are a script whose job means this answer
-abbrev pub IsAnswer : List ℕ → Answered → Type 0
-IsAnswer source answer = (script : Script) × IsScript source script × Means (job_of script) alone answer
+-- the bytes are a script whose job over these inputs means this answer
+abbrev pub IsAnswer : List ℕ → List Input → Answered → Type 0
+IsAnswer source inputs answer =
+    (script : Script) × IsScript source (keys_of inputs) script × Means (job_of script inputs) over_lines answer
 
 -- the bytes are a script whose job has a chain of so many descriptions, each waited for by the one before it
-abbrev pub HasChain : List ℕ → ℕ → Type 0
-HasChain source n = (script : Script) × IsScript source script × ((d : Desc) × Chain (job_of script) alone n d)
+abbrev pub HasChain : List ℕ → List Input → ℕ → Type 0
+HasChain source inputs n =
+    (script : Script) × IsScript source (keys_of inputs) script × ((d : Desc) × Chain (job_of script inputs) over_lines n d)
 
 -- the bytes are a script whose job makes so many distinct descriptions
-abbrev pub Makes : List ℕ → ℕ → Type 0
-Makes source n = (script : Script) × IsScript source script × MakesMany (job_of script) alone n
+abbrev pub Makes : List ℕ → List Input → ℕ → Type 0
+Makes source inputs n =
+    (script : Script) × IsScript source (keys_of inputs) script × MakesMany (job_of script inputs) over_lines n

@@ -1,5 +1,5 @@
 -- Which bytes are no script, why and where.
-use Rattle.std.specs.Prelude.{◌≡◌, ℕ, List, [], Some, None, Err, length}
+use Rattle.std.specs.Prelude.{◌≡◌, ℕ, List, [], Some, None, Ok, Err, length}
 use Rattle.sky_base.specs.Tree.{Place}
 use Rattle.sky_base.specs.TreeView.{at}
 use Rattle.sky_text.specs.Lexing.{tokens_of}
@@ -10,7 +10,6 @@ use Rattle.sky_grammar.specs.Names.{same_names}
 use Rattle.sky_grammar.specs.Nesting.{too_nested}
 use Rattle.sky_parse.specs.Parsed.{RefusedAt}
 use Rattle.sky_grammar.specs.Tops.{Top, Spells}
-use Rattle.ciel_run.specs.Source.{HasTokens}
 use Rattle.ciel_run.specs.declared.top.SyntaxKind.{SyntaxKind}
 
 -- the bytes are refused so before they have tokens, at the byte of this place
@@ -28,9 +27,9 @@ IsSyntaxFault source SyntaxKind.OpenText line col = NoTokens (λ byte. LexRefusa
 IsSyntaxFault source SyntaxKind.BadEscape line col = NoTokens (λ byte. LexRefusal.BadEscape byte) source line col
 IsSyntaxFault source SyntaxKind.BigNumber line col = NoTokens (λ byte. LexRefusal.BigNumber byte) source line col
 IsSyntaxFault source SyntaxKind.TooNested line col =
-    (ts : List Token) × HasTokens source ts × (too_nested 0 ts ≡ Some (at line col))
+    (ts : List Token) × (tokens_of source ≡ Ok ts) × (too_nested 0 ts ≡ Some (at line col))
 IsSyntaxFault source SyntaxKind.NoSentence line col =
-    (ts : List Token) × HasTokens source ts × (too_nested 0 ts ≡ None) × RefusedAt ts (end_of source) (at line col)
+    (ts : List Token) × (tokens_of source ≡ Ok ts) × (too_nested 0 ts ≡ None) × RefusedAt ts (end_of source) (at line col)
 IsSyntaxFault source SyntaxKind.SameName line col =
-    (ts : List Token) × (tops : List Top) × HasTokens source ts × (too_nested 0 ts ≡ None) × Spells tops ts
+    (ts : List Token) × (tops : List Top) × (tokens_of source ≡ Ok ts) × (too_nested 0 ts ≡ None) × Spells tops ts
     × (same_names [] tops ≡ Some (at line col))

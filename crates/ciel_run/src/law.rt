@@ -3,7 +3,7 @@
 // comes to: so bytes that are refused are refused in exactly one way, at exactly one place, but for
 // want of memory. Each is the contract of a function that does nothing.
 
-ghost use Rattle.ciel_run.specs.Laws.{LaterWordIsRefused, MeansOneAnswer, NoScriptIsRefused, ScriptIsRun, TooLongIsRefused};
+ghost use Rattle.ciel_run.specs.Laws.{MeansOneAnswer, NoScriptIsRefused, ScriptIsRun, TooLongIsRefused, TooLongInputIsRefused};
 
 /// Bytes that are no script are refused by the kind and at the place of their first refusal, and for
 /// nothing else: the kind and the place are one.
@@ -11,23 +11,23 @@ pub fn no_script_is_refused()
     ensures { NoScriptIsRefused }
 {}
 
-/// Bytes that have tokens, some of them words that aren't built, are refused at the place of the first
-/// such word, and for nothing else.
-pub fn later_word_is_refused()
-    ensures { LaterWordIsRefused }
-{}
-
-/// Bytes that are a script are one, and the end is what the job of that one comes to.
+/// Bytes that are a script are one, and the end is what the job of that one over the inputs comes to.
 pub fn script_is_run()
     ensures { ScriptIsRun }
 {}
 
-/// Bytes that are too many are refused as such.
+/// Bytes that are too many for a script are refused as such.
 pub fn too_long_is_refused()
     ensures { TooLongIsRefused }
 {}
 
-/// Bytes mean at most one answer: so what is written, or told as a fault, is the one that they mean.
+/// The first input that has too many bytes is refused as such, where there is a script.
+pub fn too_long_input_is_refused()
+    ensures { TooLongInputIsRefused }
+{}
+
+/// Bytes mean at most one answer over their inputs: so what is written, or told as a fault, is the one that
+/// they mean.
 pub fn source_means_one_answer()
     ensures { MeansOneAnswer }
 {}

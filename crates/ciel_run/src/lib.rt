@@ -4,8 +4,11 @@
 #![tactic(auto)]
 
 mod answer;
+mod inputs;
 pub mod law;
+mod load;
 pub mod message;
+mod read;
 mod script;
 pub mod top;
 mod words;

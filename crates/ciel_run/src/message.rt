@@ -51,7 +51,6 @@ pub fn put_message<J: Sink>(why: &Why, log: &mut J) -> Result<(), Failed>
             let limit = digits.format(*limit);
             put_all(log, &["ciel: too long ", path.as_str(), " ", limit, "\n"])
         }
-        Why::NotBuilt { line, col } => put_place(log, "ciel: ", "not built", *line, *col),
         Why::TooDeepPlain { depth } => put_count(log, "ciel: plain run too deep ", *depth),
     }
 }

@@ -1,20 +1,21 @@
 // The top call: the words, the read of the script, its answer, and the writing. Each way in which it
 // ends is a `Why`, and each `Why` but want of memory has a clause that says when it comes.
 
-ghost use Rattle.std.specs.Prelude.{◌≡◌, ◌≢◌, ◌<◌, ◌↔◌, ℕ, List, Some, None, length};
+ghost use Rattle.std.specs.Prelude.{◌≡◌, ◌≢◌, ◌↔◌, Some, None, Contains};
 ghost use Rattle.sky_base.specs.See.{Answered};
 ghost use Rattle.ciel_io.specs.Faults.{HasRisen};
-ghost use Rattle.ciel_run.specs.Words.{path_of, paths};
-ghost use Rattle.ciel_run.specs.Source.{IsAnswer, IsLater, HasChain, Makes};
-ghost use Rattle.ciel_run.specs.Syntax.{IsSyntaxFault};
 ghost use Rattle.ciel_io.specs.Tells.{Tells, TellsPart};
-ghost use Rattle.ciel_run.specs.Ending.{limit, status_of, IfSyntax, IfFault, IfTooMany, IfNotBuilt, IfTooDeep, IfTooLong, IfReadFault, WritesAnswer, WritesPart, IsExpected, AsksFor};
+ghost use Rattle.ciel_run.specs.Words.{Line, line_of, paths_of, paths};
+ghost use Rattle.ciel_run.specs.Source.{IsAnswer, HasChain, Makes};
+ghost use Rattle.ciel_run.specs.Syntax.{IsSyntaxFault};
+ghost use Rattle.ciel_run.specs.Found.{OverFiles, OverScript};
+ghost use Rattle.ciel_run.specs.Ending.{status_of, IfSyntax, IfFault, IfTooMany, IfTooDeep, IfTooLong, IfReadFault, IsOver, WritesAnswer, WritesPart, IsExpected, AsksFor};
 ghost use Rattle.ciel_run.specs.Message.{message_of};
 
-use crate::answer::{Refusal, answer};
+use crate::answer::{NoAnswer, answer};
+use crate::load::{NoJob, load};
 use crate::message::put_message;
-use crate::words::script_path;
-use ciel_io::files::{FileRefusal, Files};
+use ciel_io::files::Files;
 use ciel_io::sink::Sink;
 use sky_base::fault::Fault;
 use sky_base::object::Desc1;
@@ -70,12 +71,6 @@ pub enum Why {
         path: Txt,
         limit: u64,
     },
-    /// The script has a word that isn't built yet, `ref`, `exec` or `spawn_exec`, first at this place.
-    /// Status 12.
-    NotBuilt {
-        line: u32,
-        col: u32,
-    },
     /// So many descriptions are open, 4,096, each waited for by the one before it. Status 13.
     TooDeepPlain {
         depth: u32,
@@ -107,18 +102,18 @@ impl Why {
             Why::WriteFault => 9,
             Why::Memory => 10,
             Why::TooLongInput { .. } => 11,
-            Why::NotBuilt { .. } => 12,
             Why::TooDeepPlain { .. } => 13,
         }
     }
 }
 
 /// Runs the program on the words of its command line, without the program's own name: reads the
-/// script that they name, and writes the answer of its job to `out` in one `put`. Where the status
-/// isn't 0, the message goes to `log`, and a failure there changes nothing else.
+/// script and the inputs that they name, and writes the answer of their job to `out` in one `put`. Where
+/// the status isn't 0, the message goes to `log`, and a failure there changes nothing else.
 ///
-/// The words are one path. A script has at most 1,048,576 bytes, and is one of the whole language
-/// but for the words `ref`, `exec` and `spawn_exec`: it has no inputs and knows no executors.
+/// The words are SCRIPT, then at most 256 times NAME=PATH. A script has at most 1,048,576 bytes, and an
+/// input at most 16,777,216. The inputs are read in the order of the words, after the script was seen to be
+/// one. The executors are those over lines.
 pub fn ciel_main<F: Files, O: Sink, J: Sink>(
     alloc: Global,
     words: &[Txt],
@@ -127,25 +122,24 @@ pub fn ciel_main<F: Files, O: Sink, J: Sink>(
     log: &mut J,
 ) -> Ended
     // What is written where it ends well.
-    ensures bytes { result.status ≡ 0 → (path source : List ℕ) → path_of words.now ≡ Some path → F.content files.old path ≡ Some source → WritesAnswer source (O.written out.old) (O.written out.new) }
+    ensures bytes { result.status ≡ 0 → OverFiles (F.content files.old) words.now (λ line source inputs. WritesAnswer source inputs (O.written out.old) (O.written out.new)) }
 
     // When each other end comes.
-    ensures usage { (result.why ≡ Why.Usage) ↔ (path_of words.now ≡ None) }
-    ensures syntax { IfSyntax result.why (λ kind line col. (path source : List ℕ) → path_of words.now ≡ Some path → F.content files.old path ≡ Some source → IsSyntaxFault source kind line col) }
-    ensures fault { IfFault result.why (λ fault. (path source : List ℕ) → path_of words.now ≡ Some path → F.content files.old path ≡ Some source → IsAnswer source (Answered.fault fault)) }
-    ensures too_many { IfTooMany result.why (λ held given. (held ≡ 65536) × (given ≡ None) × ((path source : List ℕ) → path_of words.now ≡ Some path → F.content files.old path ≡ Some source → Makes source 65537)) }
-    ensures not_built { IfNotBuilt result.why (λ line col. (path source : List ℕ) → path_of words.now ≡ Some path → F.content files.old path ≡ Some source → IsLater source line col) }
-    ensures too_deep { IfTooDeep result.why (λ depth. (depth ≡ 4096) × ((path source : List ℕ) → path_of words.now ≡ Some path → F.content files.old path ≡ Some source → HasChain source 4096)) }
-    ensures too_long { IfTooLong result.why (λ path at. (path_of words.now ≡ Some path) × (at ≡ limit) × ((source : List ℕ) → F.content files.old path ≡ Some source → limit < length source)) }
-    ensures read_fault { IfReadFault result.why (λ path. (path_of words.now ≡ Some path) × HasRisen (F.faults files.old) (F.faults files.new)) }
+    ensures usage { (result.why ≡ Why.Usage) ↔ (line_of words.now ≡ None) }
+    ensures syntax { IfSyntax result.why (λ kind line col. OverScript (F.content files.old) words.now (λ source. IsSyntaxFault source kind line col)) }
+    ensures fault { IfFault result.why (λ fault. OverFiles (F.content files.old) words.now (λ line source inputs. IsAnswer source inputs (Answered.fault fault))) }
+    ensures too_many { IfTooMany result.why (λ held given. (held ≡ 65536) × (given ≡ None) × OverFiles (F.content files.old) words.now (λ line source inputs. Makes source inputs 65537)) }
+    ensures too_deep { IfTooDeep result.why (λ depth. (depth ≡ 4096) × OverFiles (F.content files.old) words.now (λ line source inputs. HasChain source inputs 4096)) }
+    ensures too_long { IfTooLong result.why (λ path at. (line : Line) × (line_of words.now ≡ Some line) × IsOver (F.content files.old) line path at) }
+    ensures read_fault { IfReadFault result.why (λ path. Contains (paths (line_of words.now)) path × HasRisen (F.faults files.old) (F.faults files.new)) }
     ensures write_fault { result.why ≡ Why.WriteFault → HasRisen (O.faults out.old) (O.faults out.new) }
 
     // Which end comes where files tell, and reading and writing go well.
-    ensures complete { (path source : List ℕ) → path_of words.now ≡ Some path → F.content files.old path ≡ Some source → ¬ HasRisen (F.faults files.old) (F.faults files.new) → ¬ HasRisen (O.faults out.old) (O.faults out.new) → IsExpected source result.why }
+    ensures complete { ¬ HasRisen (F.faults files.old) (F.faults files.new) → ¬ HasRisen (O.faults out.old) (O.faults out.new) → OverFiles (F.content files.old) words.now (λ line source inputs. IsExpected line source inputs result.why) }
 
     // What was asked, and what was written where it doesn't end well.
-    ensures asked { AsksFor result.why (paths (path_of words.now)) (F.asked files.old) (F.asked files.new) }
-    ensures part { result.why ≡ Why.WriteFault → (path source : List ℕ) → path_of words.now ≡ Some path → F.content files.old path ≡ Some source → WritesPart source (O.written out.old) (O.written out.new) }
+    ensures asked { AsksFor result.why (paths (line_of words.now)) (F.asked files.old) (F.asked files.new) }
+    ensures part { result.why ≡ Why.WriteFault → OverFiles (F.content files.old) words.now (λ line source inputs. WritesPart source inputs (O.written out.old) (O.written out.new)) }
     ensures nothing { result.why ≢ Why.Done → result.why ≢ Why.WriteFault → out.new ≡ out.old }
 
     // What is put on the log: the message, which is empty for an answer that was written.
@@ -173,48 +167,38 @@ fn tell<J: Sink>(why: &Why, log: &mut J)
     let _ = put_message(why, log);
 }
 
-/// Reads the script, runs it and writes.
+/// Reads the script and the inputs, runs the job and writes.
 fn run<F: Files, O: Sink>(alloc: Global, words: &[Txt], files: &mut F, out: &mut O) -> Why
-    ensures bytes { result ≡ Why.Done → (path source : List ℕ) → path_of words.now ≡ Some path → F.content files.old path ≡ Some source → WritesAnswer source (O.written out.old) (O.written out.new) }
-    ensures usage { (result ≡ Why.Usage) ↔ (path_of words.now ≡ None) }
-    ensures syntax { IfSyntax result (λ kind line col. (path source : List ℕ) → path_of words.now ≡ Some path → F.content files.old path ≡ Some source → IsSyntaxFault source kind line col) }
-    ensures fault { IfFault result (λ fault. (path source : List ℕ) → path_of words.now ≡ Some path → F.content files.old path ≡ Some source → IsAnswer source (Answered.fault fault)) }
-    ensures too_many { IfTooMany result (λ held given. (held ≡ 65536) × (given ≡ None) × ((path source : List ℕ) → path_of words.now ≡ Some path → F.content files.old path ≡ Some source → Makes source 65537)) }
-    ensures not_built { IfNotBuilt result (λ line col. (path source : List ℕ) → path_of words.now ≡ Some path → F.content files.old path ≡ Some source → IsLater source line col) }
-    ensures too_deep { IfTooDeep result (λ depth. (depth ≡ 4096) × ((path source : List ℕ) → path_of words.now ≡ Some path → F.content files.old path ≡ Some source → HasChain source 4096)) }
-    ensures too_long { IfTooLong result (λ path at. (path_of words.now ≡ Some path) × (at ≡ limit) × ((source : List ℕ) → F.content files.old path ≡ Some source → limit < length source)) }
-    ensures read_fault { IfReadFault result (λ path. (path_of words.now ≡ Some path) × HasRisen (F.faults files.old) (F.faults files.new)) }
+    ensures bytes { result ≡ Why.Done → OverFiles (F.content files.old) words.now (λ line source inputs. WritesAnswer source inputs (O.written out.old) (O.written out.new)) }
+    ensures usage { (result ≡ Why.Usage) ↔ (line_of words.now ≡ None) }
+    ensures syntax { IfSyntax result (λ kind line col. OverScript (F.content files.old) words.now (λ source. IsSyntaxFault source kind line col)) }
+    ensures fault { IfFault result (λ fault. OverFiles (F.content files.old) words.now (λ line source inputs. IsAnswer source inputs (Answered.fault fault))) }
+    ensures too_many { IfTooMany result (λ held given. (held ≡ 65536) × (given ≡ None) × OverFiles (F.content files.old) words.now (λ line source inputs. Makes source inputs 65537)) }
+    ensures too_deep { IfTooDeep result (λ depth. (depth ≡ 4096) × OverFiles (F.content files.old) words.now (λ line source inputs. HasChain source inputs 4096)) }
+    ensures too_long { IfTooLong result (λ path at. (line : Line) × (line_of words.now ≡ Some line) × IsOver (F.content files.old) line path at) }
+    ensures read_fault { IfReadFault result (λ path. Contains (paths (line_of words.now)) path × HasRisen (F.faults files.old) (F.faults files.new)) }
     ensures write_fault { result ≡ Why.WriteFault → HasRisen (O.faults out.old) (O.faults out.new) }
-    ensures complete { (path source : List ℕ) → path_of words.now ≡ Some path → F.content files.old path ≡ Some source → ¬ HasRisen (F.faults files.old) (F.faults files.new) → ¬ HasRisen (O.faults out.old) (O.faults out.new) → IsExpected source result }
-    ensures asked { AsksFor result (paths (path_of words.now)) (F.asked files.old) (F.asked files.new) }
-    ensures part { result ≡ Why.WriteFault → (path source : List ℕ) → path_of words.now ≡ Some path → F.content files.old path ≡ Some source → WritesPart source (O.written out.old) (O.written out.new) }
+    ensures complete { ¬ HasRisen (F.faults files.old) (F.faults files.new) → ¬ HasRisen (O.faults out.old) (O.faults out.new) → OverFiles (F.content files.old) words.now (λ line source inputs. IsExpected line source inputs result) }
+    ensures asked { AsksFor result (paths (line_of words.now)) (F.asked files.old) (F.asked files.new) }
+    ensures part { result ≡ Why.WriteFault → OverFiles (F.content files.old) words.now (λ line source inputs. WritesPart source inputs (O.written out.old) (O.written out.new)) }
     ensures nothing { result ≢ Why.Done → result ≢ Why.WriteFault → out.new ≡ out.old }
 {
-    let Some(path) = script_path(words) else {
-        return Why::Usage;
+    let job = match load(alloc, words, files) {
+        Ok(job) => job,
+        Err(NoJob::Usage) => return Why::Usage,
+        Err(NoJob::Syntax { kind, line, col }) => return Why::Syntax { kind, line, col },
+        Err(NoJob::Failed { path }) => return Why::ReadFault { path },
+        Err(NoJob::TooLong { path, limit }) => return Why::TooLongInput { path, limit },
+        Err(NoJob::Memory) => return Why::Memory,
     };
-    let Ok(shared) = path.share() else {
-        return Why::Memory;
-    };
-    let source = match files.read(alloc, path, LIMIT) {
-        Ok(source) => source,
-        Err(FileRefusal::Failed) => return Why::ReadFault { path: shared },
-        Err(FileRefusal::TooLong { limit }) => return Why::TooLongInput {
-            path: shared,
-            limit,
-        },
-        Err(FileRefusal::Memory) => return Why::Memory,
-    };
-    match answer(alloc, source.as_slice()) {
+    match answer(alloc, &job) {
         Ok(bytes) => match out.put(bytes.as_slice()) {
             Ok(()) => Why::Done,
             Err(_) => Why::WriteFault,
         },
-        Err(Refusal::Syntax { kind, line, col }) => Why::Syntax { kind, line, col },
-        Err(Refusal::NotBuilt { line, col }) => Why::NotBuilt { line, col },
-        Err(Refusal::Fault(fault)) => Why::Fault(fault),
-        Err(Refusal::TooMany { held }) => Why::TooMany { held, given: None },
-        Err(Refusal::TooDeep { depth }) => Why::TooDeepPlain { depth },
-        Err(Refusal::Memory) => Why::Memory,
+        Err(NoAnswer::Fault(fault)) => Why::Fault(fault),
+        Err(NoAnswer::TooMany { held }) => Why::TooMany { held, given: None },
+        Err(NoAnswer::TooDeep { depth }) => Why::TooDeepPlain { depth },
+        Err(NoAnswer::Memory) => Why::Memory,
     }
 }

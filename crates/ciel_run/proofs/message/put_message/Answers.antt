@@ -41,18 +41,6 @@ returns-in-TooMany-clause-part g c =
     ap message_of (sym c.in-TooMany.is) in
     subst (λ (m : List ℕ). OnErr c.put_count.result (TellsPart (g.J.Sink.written c.args.log.now) (g.J.Sink.written c.put_count.new.log) m)) same c.put_count.ensures.part
 
-pub returns-in-NotBuilt-clause-written : goal.returns-in-NotBuilt-clause-written
-returns-in-NotBuilt-clause-written g c =
-    let same : placed (codes "ciel: ") (codes "not built") c.in-NotBuilt.line c.in-NotBuilt.col ≡ message_of c.args.why.now =
-    ap message_of (sym c.in-NotBuilt.is) in
-    subst (λ (m : List ℕ). OnOk c.put_place-in-NotBuilt.result (Tells (g.J.Sink.written c.args.log.now) (g.J.Sink.written c.put_place-in-NotBuilt.new.log) m)) same c.put_place-in-NotBuilt.ensures.written
-
-pub returns-in-NotBuilt-clause-part : goal.returns-in-NotBuilt-clause-part
-returns-in-NotBuilt-clause-part g c =
-    let same : placed (codes "ciel: ") (codes "not built") c.in-NotBuilt.line c.in-NotBuilt.col ≡ message_of c.args.why.now =
-    ap message_of (sym c.in-NotBuilt.is) in
-    subst (λ (m : List ℕ). OnErr c.put_place-in-NotBuilt.result (TellsPart (g.J.Sink.written c.args.log.now) (g.J.Sink.written c.put_place-in-NotBuilt.new.log) m)) same c.put_place-in-NotBuilt.ensures.part
-
 pub returns-in-TooDeepPlain-clause-written : goal.returns-in-TooDeepPlain-clause-written
 returns-in-TooDeepPlain-clause-written g c =
     let same : counted (codes "ciel: plain run too deep ") c.in-TooDeepPlain.depth ≡ message_of c.args.why.now =
