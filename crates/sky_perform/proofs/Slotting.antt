@@ -87,4 +87,5 @@ meets_step front xs i x v h e m =
     subst (λ q. Meets q (pairs_of (drop (i + 1) xs))) (sym (put_end front x.key v at.0)) (meets_end front x.key (view x.value) v (pairs_of (drop (i + 1) xs)) at)
 
 pub ruleset few = (few-kept)
+
 pub ruleset slotting = (vals-done, pairs-done, no-vals-left, no-pairs-left)

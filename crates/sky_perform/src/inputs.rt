@@ -33,7 +33,11 @@ fn as_bytes(alloc: Global, object: &Object) -> Result<Result<Bytes, Fault>, Memo
 
 /// The inputs of a task with these arguments, or the first fault among them, in order. An object that isn't
 /// known is NotText.
-pub fn inputs(alloc: Global, args: &Value, objects: &Objects) -> Result<Result<Vec<Bytes>, Fault>, Memory>
+pub fn inputs(
+    alloc: Global,
+    args: &Value,
+    objects: &Objects,
+) -> Result<Result<Vec<Bytes>, Fault>, Memory>
     ensures { IfOk result (λ r. listed r ≡ all_bytes writes (known_of objects.now) (refs (view args.now))) }
 {
     let mut inputs = Vec::new(alloc);
@@ -45,7 +49,12 @@ pub fn inputs(alloc: Global, args: &Value, objects: &Objects) -> Result<Result<V
 
 // Puts the inputs that a value refers to at the end, up to the first fault.
 #[cycle(put_all)]
-fn put_all(alloc: Global, value: &Value, objects: &Objects, inputs: &mut Vec<Bytes>) -> Result<Option<Fault>, Memory>
+fn put_all(
+    alloc: Global,
+    value: &Value,
+    objects: &Objects,
+    inputs: &mut Vec<Bytes>,
+) -> Result<Option<Fault>, Memory>
     ensures { IfOk result (λ o. PutsSo o inputs.new.items (behind inputs.old.items (all_bytes writes (known_of objects.now) (refs (view value.now))))) }
 {
     match value {
@@ -80,7 +89,12 @@ fn put_one(alloc: Global, object: &Object, inputs: &mut Vec<Bytes>) -> Result<Op
 
 #[cycle(put_all)]
 #[tactic(auto, using(sky_base::proofs::Values::inside, crate::proofs::Takes::inputs))]
-fn put_values(alloc: Global, values: &[Value], objects: &Objects, inputs: &mut Vec<Bytes>) -> Result<Option<Fault>, Memory>
+fn put_values(
+    alloc: Global,
+    values: &[Value],
+    objects: &Objects,
+    inputs: &mut Vec<Bytes>,
+) -> Result<Option<Fault>, Memory>
     ensures { IfOk result (λ o. PutsSo o inputs.new.items (behind inputs.old.items (all_bytes writes (known_of objects.now) (vals_refs (vals_of values.now))))) }
 {
     for value in values {
@@ -93,7 +107,12 @@ fn put_values(alloc: Global, values: &[Value], objects: &Objects, inputs: &mut V
 
 #[cycle(put_all)]
 #[tactic(auto, using(sky_base::proofs::Values::inside, crate::proofs::Takes::inputs))]
-fn put_pairs(alloc: Global, pairs: &[Pair], objects: &Objects, inputs: &mut Vec<Bytes>) -> Result<Option<Fault>, Memory>
+fn put_pairs(
+    alloc: Global,
+    pairs: &[Pair],
+    objects: &Objects,
+    inputs: &mut Vec<Bytes>,
+) -> Result<Option<Fault>, Memory>
     ensures { IfOk result (λ o. PutsSo o inputs.new.items (behind inputs.old.items (all_bytes writes (known_of objects.now) (pairs_refs (pairs_of pairs.now))))) }
 {
     for pair in pairs {

@@ -3,6 +3,6 @@
 #![tactic(auto)]
 
 pub mod inputs;
+pub mod outputs;
 pub mod slots;
 pub mod task;
-pub mod outputs;

@@ -54,8 +54,8 @@ module _ (k : ℕ) (o : Obj) (os after : List (Option Obj)) (is : after ≡ with
   pub stays_put : Stays os after
   stays_put = subst (Stays os) (sym is) (stays_with k o os)
 
-  pub small_with : {rows : List Row} → k < length rows → length rows ≤ most_rows → length os ≤ 65536 → length after ≤ 65536
-  small_with {rows} below room small =
+  pub small_with : (rows : List Row) → k < length rows → length rows ≤ most_rows → length os ≤ 65536 → length after ≤ 65536
+  small_with rows below room small =
       let l : length rows ≤ 65536 = subst (λ m. length rows ≤ m) most_is room in
       subst (λ z. length z ≤ 65536) (sym is) (length_with k 65536 o os (omega (arith, below, l)) small)
 

@@ -153,7 +153,9 @@ fn advance<K: Kit>(
             args,
             outputs,
             ..
-        } => executed(alloc, job, kit, rows, objects, number, &executor, &args, outputs),
+        } => executed(
+            alloc, job, kit, rows, objects, number, &executor, &args, outputs,
+        ),
         Desc1::Input { key } => given(alloc, job, kit, rows, objects, number, &key),
     }
 }

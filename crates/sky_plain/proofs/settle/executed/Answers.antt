@@ -32,9 +32,10 @@ returns g c =
       step = λ ks i at standing opens.
           let all = subst (λ o. MatchOption o (AllKnown c.args.objects.now (refs (view c.args.args.now))) (λ m. In (known m) (refs (view c.args.args.now)) × (known_of c.args.objects.now (known m) ≡ None))) c.in_default.is c.in_ok-name.ensures in
           let small : length c.args.rows.now ≤ 65536 = subst (λ m. length c.args.rows.now ≤ m) most_is c.len-held.ensures.room in
-          let only = subst (λ r. OnlyOutputs c.args.rows.now c.args.executor.now (view c.args.args.now) c.args.outputs r c.args.outputs c.args.objects.now c.tell.new.objects) c.in_ok-made.ensures c.tell.ensures.only in
-          (executed_known (job_view c.args.job.now) (g.K.Kit.gives c.args.kit.now) c.args.rows.now c.args.objects.now c.args.number standing c.args.executor.now (view c.args.args.now) c.args.outputs i at c.tell.new.objects all only,
-           executed_here (job_view c.args.job.now) (g.K.Kit.gives c.args.kit.now) c.args.rows.now c.args.objects.now c.args.number standing c.args.executor.now (view c.args.args.now) c.args.outputs i at c.tell.new.objects c.in_ok-tell.ensures.known,
-           stays_keeps c.args.objects.now c.tell.new.objects c.tell.ensures.kept,
-           λ few. c.in_ok-tell.ensures.room 65536 few small);
+          let only = subst (λ r. OnlyOutputs c.args.rows.now c.args.executor.now (view c.args.args.now) c.args.outputs r c.args.outputs c.args.objects.now c.tell.new.objects) c.in_ok-made.ensures.made c.tell.ensures.only in (
+            executed_known (job_view c.args.job.now) (g.K.Kit.gives c.args.kit.now) c.args.rows.now c.args.objects.now c.args.number standing c.args.executor.now (view c.args.args.now) c.args.outputs i at c.tell.new.objects all only,
+            executed_here (job_view c.args.job.now) (g.K.Kit.gives c.args.kit.now) c.args.rows.now c.args.objects.now c.args.number standing c.args.executor.now (view c.args.args.now) c.args.outputs i at c.tell.new.objects c.in_ok-tell.ensures.known,
+            stays_keeps c.args.objects.now c.tell.new.objects c.tell.ensures.kept,
+            λ few. c.in_ok-tell.ensures.room 65536 few small,
+          );
     }
