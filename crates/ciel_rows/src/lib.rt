@@ -3,6 +3,8 @@
 #![tactic(auto)]
 
 #[cfg(test)]
+mod executors;
+#[cfg(test)]
 mod large;
 #[cfg(test)]
 mod memory;

@@ -1,5 +1,5 @@
 -- A call that is open last, where data is JSON.
-use Rattle.std.proofs.Common.{◌≡◌, ◌≤◌, ◌<◌, ℕ, List, [], ◌∷◌, ◌++◌, length, Option, Some, None, Result, Ok, Err, slice_get, ◌⊎◌, inl, inr, refl, sym, ap, subst, ◌∙◌}
+use Rattle.std.proofs.Common.{◌≡◌, ◌≤◌, ◌<◌, ℕ, List, [], ◌∷◌, ◌++◌, length, true, Option, Some, None, Result, Ok, Err, slice_get, ◌⊎◌, inl, inr, refl, sym, ap, subst, ◌∙◌}
 use Rattle.sky_base.specs.Val.{Val, Vals, Pairs, null, truth, num, text, list, dict, fun, ref, no_vals, val, no_pairs, pair, call, out, input, known, refs, vals_refs, pairs_refs}
 use Rattle.sky_base.specs.KitView.{Gives}
 use Rattle.sky_base.specs.Op.{Answer}
@@ -18,7 +18,7 @@ use Rattle.sky_rows.specs.Data.{data_of}
 use Rattle.ciel_json.specs.Text.{text_of}
 use Rattle.ciel_json.proofs.LowLaw.{reads_named, text_named}
 use Rattle.ciel_json.proofs.ReadLaw.{reads_sound}
-use Rattle.sky_rows.specs.Walk.{Row, Stop, stops, walk, known_of, number_of, object_at, most_rows}
+use Rattle.sky_rows.specs.Walk.{Row, Stop, stops, walk, known_of, number_of, object_at, is_known, most_rows}
 use Rattle.sky_rows.specs.Known.{with_object}
 use Rattle.sky_plain.specs.Needs.{MakesMany}
 use Rattle.sky_rows.specs.Number.{numbered}
@@ -26,13 +26,13 @@ use Rattle.sky_body.specs.Ran.{Begins}
 use Rattle.sky_plain.specs.Stand.{Below, Fits, Puts, ReadFits, Opens, Standing}
 use Rattle.sky_body.specs.Stops.{Runs, EndsAs, WaitsFor, IsFull}
 use Rattle.sky_plain.specs.Stage.{AllKnown}
-use Rattle.sky_plain.specs.Perform.{bytes_seen, collect, slots, run_output, performed_on, performed}
-use Rattle.sky_plain.specs.Faulty.{NoExecutors, OutFault}
+use Rattle.sky_perform.specs.Perform.{made}
+use Rattle.sky_perform.specs.Outputs.{Keeps, InRoom, OnlyOutputs, KnownOutputs}
 use Rattle.sky_plain.proofs.Counts.{puts_with}
 use Rattle.sky_plain.proofs.Full.{WaitsAt, walk_waits}
 use Rattle.sky_rows.proofs.Numbers.{numbers_hold, got_in}
 use Rattle.sky_plain.proofs.Performs.{opens_out}
-use Rattle.sky_plain.proofs.Steps.{standing_ends, standing_waits, standing_many, standing_out, standing_input}
+use Rattle.sky_plain.proofs.Steps.{standing_ends, standing_waits, standing_many, standing_outputs, standing_input}
 
 pub read_fits : (sc : Script) (b : List ℕ) → ReadFits sc (data_of b)
 read_fits sc b = go (data_of b) refl
@@ -65,7 +65,7 @@ module _ (job : Job) (gives : Gives) (rows after : List Row) (objects : List (Op
   called_many run =
       standing_many job (json_around gives) data_of (λ tag b. reads_named tag b) (read_fits job.script) rows begins.0 after objects standing begins.1 apart room k f ca us at ks opens run
 
--- ---- rows of executor tasks, where no executor is known, and of inputs
+-- ---- rows of executor tasks and of inputs
 
 abbrev pub Writes : Val (List ℕ) → Option (List ℕ)
 Writes v = text_of {N = List ℕ} v
@@ -118,17 +118,13 @@ module _ (job : Job) (gives : Gives) (rows : List Row) (objects : List (Option (
         let below : number_of n < length rows = fits_number job.script rows objects k x us c i n standing.fits at is in
         (below, opens_out job (json_around gives) rows k ks x us c i n at opens is below)
 
-    abbrev Inputs : Result (List (List ℕ)) Fault
-    Inputs = collect (λ d. bytes_seen Writes (known_of objects d)) (refs us)
+    -- all its outputs that are held are known then, this one among them
+    pub executed_known : (objects' : List (Option (Object (List ℕ)))) → AllKnown objects (refs us) → OnlyOutputs rows x us c (made gives Writes (known_of objects) x us c) c objects objects' → Standing job (json_around gives) rows objects'
+    executed_known objects' all only =
+        standing_outputs job (json_around gives) data_of (λ tag b. reads_named tag b) Writes (λ tag a. text_named tag a) rows objects objects' standing x us c c all only
 
-    executed : (f : Fault) → AllKnown objects (refs us) → performed gives Writes (known_of objects) x us c i ≡ Object.fault f → Standing job (json_around gives) rows (with_object k (Object.fault f) objects)
-    executed f all is =
-        standing_out job (json_around gives) data_of (λ tag b. reads_named tag b) Writes (λ tag a. text_named tag a) rows objects (with_object k (Object.fault f) objects) standing k x us c i at all (subst (λ o. Puts objects k o (with_object k (Object.fault f) objects)) (sym is) (puts_with k (Object.fault f) objects))
-
-    pub executed_known : NoExecutors gives → AllKnown objects (refs us) → (f : Fault) → OutFault f Inputs → Standing job (json_around gives) rows (with_object k (Object.fault f) objects)
-    executed_known no_one all f (inl e) = executed f all (ap (performed_on gives x us c i) e)
-    executed_known no_one all f (inr (is, (bs, e))) =
-        executed f all (ap (performed_on gives x us c i) e ∙ ap (λ r. run_output r i) (no_one x (slots us) bs c) ∙ ap Object.fault (sym is))
+    pub executed_here : (objects' : List (Option (Object (List ℕ)))) → KnownOutputs rows x us c c objects' → is_known (object_at objects' k) ≡ true
+    executed_here objects' all = all i (standing.fits.rows_fit (out x us c i) (got_in rows k (out x us c i) at)).3 k at
 
   pub inputs_known : (key : List ℕ) → slice_get rows k ≡ Some (input key) → Standing job (json_around gives) rows (with_object k (Object.bytes (input_bytes key job.inputs)) objects)
   inputs_known key at =

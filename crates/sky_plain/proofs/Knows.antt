@@ -17,6 +17,7 @@ use Rattle.sky_rows.specs.Number.{index_of, tag_of, numbered, Grown}
 use Rattle.sky_rows.proofs.Learn.{most_is}
 use Rattle.sky_plain.specs.Stand.{spell, Puts, Sees, KnownAt, Knows}
 use Rattle.sky_body.specs.Stops.{end_object, Runs, EndsAs}
+use Rattle.sky_perform.proofs.Withs.{nat_same}
 use Rattle.sky_plain.proofs.Full.{FullAt, walk_full}
 use Rattle.sky_plain.proofs.Sim.{Sim, StopIs, sim}
 use Rattle.sky_rows.proofs.Numbers.{index_found, got_below, got_front, numbers_hold, numbers_front, number_slot}
@@ -135,39 +136,47 @@ module _ (job : Job) (around : Around) (reads : List ℕ → Answer (List ℕ)) 
   abbrev pub SeenNext : List Row → List (Option (Object (List ℕ))) → Row → Object (List ℕ) → Type 0
   SeenNext later objects r o = (n : ℕ) → KnownAt job around later objects n → (d : Desc) → low_desc spell (tag_of later) d ≡ r → Sees job around (tag_of later) (suc n) d o
 
-  pub learns_one : (rows more after : List Row) (objects objects' : List (Option (Object (List ℕ)))) (k : ℕ) (r : Row) (o : Object (List ℕ)) → Knows job around rows objects → after ≡ rows ++ more → slice_get after k ≡ Some r → ((later : List Row) → Grown after later → SeenNext later objects r o) → Puts objects k o objects' → Knows job around after objects'
-  learns_one rows more after objects objects' k r o knows begins at seen puts later g = go (knows later (grown_back rows more after later begins g))
+  -- this object under number k is what is seen of its description
+  abbrev pub SeenAt : List Row → List (Option (Object (List ℕ))) → ℕ → Object (List ℕ) → Type 0
+  SeenAt rows objects k u = (r : Row) × (slice_get rows k ≡ Some r) × ((later : List Row) → Grown rows later → SeenNext later objects r u)
+
+  -- whatever is known besides is what is seen
+  pub learns : (rows more after : List Row) (objects objects' : List (Option (Object (List ℕ)))) → Knows job around rows objects → after ≡ rows ++ more → ((k : ℕ) (u : Object (List ℕ)) → object_at objects' k ≡ Some u → (object_at objects k ≡ Some u) ⊎ SeenAt after objects k u) → Knows job around after objects'
+  learns rows more after objects objects' knows begins from later g = go (knows later (grown_back rows more after later begins g))
     where
       tag : Row → List ℕ
       tag = tag_of later
 
       each : (n : ℕ) → KnownAt job around later objects n → (d : Desc) (u : Object (List ℕ)) → known_of objects' (low_ref spell tag d) ≡ Some u → Sees job around tag (suc n) d u
-      each n kn d u h = test (nat_eq i k) refl
+      each n kn d u h = of_from (from i u (sym (object_is objects' later d g.room) ∙ h))
         where
           i : ℕ
           i = index_of (low_desc spell tag d) later
 
-          at_i : object_at objects' i ≡ Some u
-          at_i = sym (object_is objects' later d g.room) ∙ h
-
           some_is : {A : Type 0} (a b : A) → Some a ≡ Some b → a ≡ b
           some_is a b q = cc
 
-          test : (b : Bool) → nat_eq i k ≡ b → Sees job around tag (suc n) d u
-          test true q =
-              let i_is : i ≡ k = eqb-true i k q in
-              subst (Sees job around tag (suc n) d) (sym (some_is u o (sym at_i ∙ ap (object_at objects') i_is ∙ puts.here))) (seen later g n kn d (some_is (low_desc spell tag d) r (sym (held_at after later (low_desc spell tag d) k g i_is (got_below after k r at)) ∙ at)))
-          test false q =
-              sees_more tag n d u (kn d u (object_is objects later d g.room ∙ sym (puts.there i (λ same. differ same)) ∙ at_i))
-            where
-              differ : i ≡ k → ⊥
-              differ same = false_true (sym q ∙ eq-eqb i k same)
-                where
-                  false_true : false ≡ true → ⊥
-                  false_true p = absurd cc
+          of_from : (object_at objects i ≡ Some u) ⊎ SeenAt after objects i u → Sees job around tag (suc n) d u
+          of_from (inl e) = sees_more tag n d u (kn d u (object_is objects later d g.room ∙ e))
+          of_from (inr (r, at, seen)) =
+              seen later g n kn d (some_is (low_desc spell tag d) r (sym (held_at after later (low_desc spell tag d) i g refl (got_below after i r at)) ∙ at))
 
       go : (n : ℕ) × KnownAt job around later objects n → (n : ℕ) × KnownAt job around later objects' n
       go (n, kn) = (suc n, each n kn)
+
+  pub learns_one : (rows more after : List Row) (objects objects' : List (Option (Object (List ℕ)))) (k : ℕ) (r : Row) (o : Object (List ℕ)) → Knows job around rows objects → after ≡ rows ++ more → slice_get after k ≡ Some r → ((later : List Row) → Grown after later → SeenNext later objects r o) → Puts objects k o objects' → Knows job around after objects'
+  learns_one rows more after objects objects' k r o knows begins at seen puts = learns rows more after objects objects' knows begins from
+    where
+      some_is : (a b : Object (List ℕ)) → Some a ≡ Some b → a ≡ b
+      some_is a b q = cc
+
+      from : (j : ℕ) (u : Object (List ℕ)) → object_at objects' j ≡ Some u → (object_at objects j ≡ Some u) ⊎ SeenAt after objects j u
+      from j u e = test (nat_same j k)
+        where
+          test : (j ≡ k) ⊎ (j ≡ k → ⊥) → (object_at objects j ≡ Some u) ⊎ SeenAt after objects j u
+          test (inl q) =
+              inr (r, ap (slice_get after) q ∙ at, subst (λ z. (later : List Row) → Grown after later → SeenNext later objects r z) (some_is o u (sym puts.here ∙ ap (object_at objects') (sym q) ∙ e)) seen)
+          test (inr n) = inl (sym (puts.there j n) ∙ e)
 
   -- the end of a call's run is what is seen of it
   pub learns_call : (rows more after : List Row) (objects objects' : List (Option (Object (List ℕ)))) (k : ℕ) (f : List ℕ) (ca : Pairs (List ℕ)) (us : Vals (List ℕ)) (o : Object (List ℕ)) → Knows job around rows objects → after ≡ rows ++ more → slice_get after k ≡ Some (call f ca us) → Runs job.script reads objects rows f ca us after (EndsAs o) → Puts objects k o objects' → Knows job around after objects'

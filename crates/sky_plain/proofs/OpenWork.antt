@@ -1,20 +1,23 @@
 -- The open work: what stays true of it, and that it comes to an end.
-use Rattle.std.proofs.Common.{◌≡◌, ◌≤◌, ◌<◌, ℕ, zero, suc, ◌+◌, ◌-◌, ◌*◌, List, [], ◌∷◌, ◌++◌, length, Bool, true, false, Option, Some, None, ◌⊎◌, inl, inr, refl, sym, ap, subst, ◌∙◌, arith}
+use Rattle.std.proofs.Common.{◌≡◌, ◌≤◌, ◌<◌, ℕ, zero, suc, ◌+◌, ◌-◌, ◌*◌, List, [], ◌∷◌, ◌++◌, length, Bool, true, false, Option, Some, None, slice_get, ◌⊎◌, inl, inr, refl, sym, ap, subst, ◌∙◌, arith}
 use Rattle.std.proofs.lemmas.List.{append_assoc, append-nil}
 use Rattle.sky_base.specs.See.{Desc, Job, Around}
 use Rattle.sky_law.specs.Tasks.{Apart}
-use Rattle.sky_base.specs.Val.{call}
+use Rattle.sky_base.specs.Val.{call, out}
 use Rattle.sky_rows.specs.Walk.{Obj}
 use Rattle.sky_rows.specs.Walk.{Row, object_at, is_known, most_rows}
 use Rattle.sky_rows.specs.Known.{with_object}
 use Rattle.sky_plain.specs.Needs.{Chain, MakesMany}
 use Rattle.sky_body.specs.Ran.{Begins}
 use Rattle.sky_plain.specs.Stand.{Opened, Opens, Standing}
-use Rattle.sky_rows.proofs.Numbers.{got_below, got_in}
+use Rattle.sky_rows.proofs.Learn.{most_is}
+use Rattle.sky_rows.proofs.Numbers.{got_below, got_in, got_more}
 use Rattle.sky_plain.proofs.Chains.{opened_at}
 use Rattle.sky_plain.proofs.Many.{itself}
-use Rattle.sky_plain.specs.Settle.{CallsKept, count, height, rank, most_open, Stays, Bottom, Open}
-use Rattle.sky_plain.proofs.Counts.{count_most, count_more, length_with, with_here, with_there}
+use Rattle.sky_plain.specs.Settle.{ArgsKept, CallsKept, count, height, rank, most_open, Stays, Bottom, Open}
+use Rattle.sky_perform.specs.Outputs.{Keeps}
+use Rattle.sky_perform.proofs.Withs.{nat_same, length_with, with_here, with_there, known_some}
+use Rattle.sky_plain.proofs.Counts.{count_most, count_less}
 use Rattle.sky_plain.proofs.Steps.{opens_grow, opens_rest, opens_chain}
 
 pub begins_self : (rows : List Row) → Begins rows rows
@@ -29,22 +32,36 @@ stays_self os k e = e
 pub stays_over : (a b c : List (Option Obj)) → Stays a b → Stays b c → Stays a c
 stays_over a b c f g k e = g k (f k e)
 
-nat_same : (a b : ℕ) → (a ≡ b) ⊎ (a ≡ b → ⊥)
-nat_same zero zero = inl refl
-nat_same zero (suc b) = inr (λ e. absurd cc)
-nat_same (suc a) zero = inr (λ e. absurd cc)
-nat_same (suc a) (suc b) = go (nat_same a b)
-  where
-    go : (a ≡ b) ⊎ (a ≡ b → ⊥) → (suc a ≡ suc b) ⊎ (suc a ≡ suc b → ⊥)
-    go (inl e) = inl (ap suc e)
-    go (inr n) = inr (λ e. n cc)
-
 pub stays_with : (k : ℕ) (o : Obj) (os : List (Option Obj)) → Stays os (with_object k o os)
 stays_with k o os i e = go (nat_same i k)
   where
     go : (i ≡ k) ⊎ (i ≡ k → ⊥) → is_known (object_at (with_object k o os) i) ≡ true
     go (inl q) = ap (λ j. is_known (object_at (with_object k o os) j)) q ∙ ap is_known (with_here k o os)
     go (inr n) = ap is_known (with_there k i o os n) ∙ e
+
+-- what is kept as it was stays known
+pub stays_keeps : (a b : List (Option Obj)) → Keeps a b → Stays a b
+stays_keeps a b keeps k e = go (known_some (object_at a k) e)
+  where
+    go : (o : Obj) × (object_at a k ≡ Some o) → is_known (object_at b k) ≡ true
+    go (o, q) = ap is_known (keeps k o q)
+
+-- one more object
+module _ (k : ℕ) (o : Obj) (os after : List (Option Obj)) (is : after ≡ with_object k o os) where
+  pub known_with : is_known (object_at after k) ≡ true
+  known_with = ap (λ z. is_known (object_at z k)) is ∙ ap is_known (with_here k o os)
+
+  pub stays_put : Stays os after
+  stays_put = subst (Stays os) (sym is) (stays_with k o os)
+
+  pub small_with : (rows : List Row) → k < length rows → length rows ≤ most_rows → length os ≤ 65536 → length after ≤ 65536
+  small_with rows below room small =
+      let l : length rows ≤ 65536 = subst (λ m. length rows ≤ m) most_is room in
+      subst (λ z. length z ≤ 65536) (sym is) (length_with k 65536 o os (omega (arith, below, l)) small)
+
+-- what is held is held later
+pub held_more : (rows after : List Row) (k : ℕ) (d : Row) → Begins rows after → slice_get rows k ≡ Some d → k < length after
+held_more rows after k d (more, e) at = got_below after k d (subst (λ z. slice_get z k ≡ Some d) (sym e) (got_more rows more k d at))
 
 -- ---- the measure
 
@@ -73,11 +90,11 @@ pop_falls objects k (l ∷ ks) e =
     rest false h = omega (arith, h)
 
 -- what becomes known
-pub known_falls : (objects : List (Option Obj)) (k : ℕ) (o : Obj) (ks : List ℕ) → length (with_object k o objects) ≤ 65536 → suc (length ks) ≤ 4096 → is_known (object_at objects k) ≡ false → rank (with_object k o objects) (k ∷ ks) < rank objects (k ∷ ks)
-known_falls objects k o ks small le e =
-    let more : count (with_object k o objects) ≡ suc (count objects) = count_more k o objects (unknown_is (object_at objects k) e) in
-    let most : count (with_object k o objects) ≤ length (with_object k o objects) = count_most (with_object k o objects) in
-    let high : height (is_known (object_at (with_object k o objects) k)) (suc (length ks)) ≤ suc (length ks) + 4097 = height_most (is_known (object_at (with_object k o objects) k)) (suc (length ks)) le in
+pub known_falls : (objects after : List (Option Obj)) (k : ℕ) (ks : List ℕ) → Stays objects after → is_known (object_at after k) ≡ true → length after ≤ 65536 → suc (length ks) ≤ 4096 → is_known (object_at objects k) ≡ false → rank after (k ∷ ks) < rank objects (k ∷ ks)
+known_falls objects after k ks stays has small le e =
+    let more : count objects < count after = count_less k objects after stays (unknown_is (object_at objects k) e) has in
+    let most : count after ≤ length after = count_most after in
+    let high : height (is_known (object_at after k)) (suc (length ks)) ≤ suc (length ks) + 4097 = height_most (is_known (object_at after k)) (suc (length ks)) le in
     omega (arith, more, most, high, small, le)
 
 -- one more is open
@@ -107,6 +124,9 @@ module _ (job : Job) (around : Around) where
     where
       go : (d : Desc) × Opened job around rows (k ∷ ks) d → k < length rows
       go (d, od) = got_below rows k _ (opened_at job around rows k ks d od)
+
+  pub args_kept : (rows : List Row) (objects : List (Option Obj)) → Standing job around rows objects → ArgsKept rows
+  args_kept rows objects standing k x v n i e = (standing.fits.rows_fit (out x v n i) (got_in rows k (out x v n i) e)).1
 
   pub calls_kept : (rows : List Row) (objects : List (Option Obj)) → Standing job around rows objects → CallsKept rows
   calls_kept rows objects standing k f c vs e =

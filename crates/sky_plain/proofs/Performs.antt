@@ -1,5 +1,5 @@
 -- What an executor task comes to over numbers is what is seen of its outputs.
-use Rattle.std.proofs.Common.{◌≡◌, ◌<◌, ℕ, zero, suc, ◌+◌, List, [], ◌∷◌, length, map, Option, Some, Result, Ok, Err, slice_get, inl, inr, refl, sym, ap, ap₂, subst, ◌∙◌}
+use Rattle.std.proofs.Common.{◌≡◌, ◌<◌, ℕ, zero, suc, ◌+◌, List, [], ◌∷◌, length, map, Option, Some, Result, Ok, Err, slice_get, ◌⊎◌, inl, inr, refl, sym, ap, ap₂, subst, ◌∙◌}
 use Rattle.std.proofs.lemmas.List.{append-nil}
 use Rattle.sky_base.specs.Val as v
 use Rattle.sky_base.specs.Val.{null, truth, num, text, list, dict, fun, ref, no_vals, val, no_pairs, pair, call, out, input, known, refs, vals_refs, pairs_refs}
@@ -15,12 +15,13 @@ use Rattle.sky_law.proofs.RefsLow.{refs_low}
 use Rattle.sky_law.proofs.TaskOutputs.{in_distinct_refs}
 use Rattle.sky_base.specs.declared.fault.FaultKind.{FaultKind}
 use Rattle.sky_base.specs.declared.fault.Fault.{Fault}
-use Rattle.sky_rows.specs.Walk.{Row, known_of, number_of}
+use Rattle.sky_rows.specs.Walk.{Row, known_of, number_of, object_at}
 use Rattle.sky_rows.specs.Number.{tag_of, Grown}
 use Rattle.sky_plain.specs.Stand.{spell, Sees, Knows, Puts, Opened, Opens}
 use Rattle.sky_plain.specs.Stage.{AllKnown}
-use Rattle.sky_plain.specs.Perform.{bytes_of, bytes_seen, one_more, collect, output_at, run_output, performed_on, performed}
-use Rattle.sky_plain.proofs.Knows.{SeenNext, learns_one}
+use Rattle.sky_perform.specs.Perform.{bytes_of, bytes_seen, one_more, collect, all_bytes, in_slot, output_at, output_of, without_place, made_of, made}
+use Rattle.sky_perform.specs.Outputs.{OnlyOutputs}
+use Rattle.sky_plain.proofs.Knows.{SeenNext, SeenAt, learns, learns_one}
 use Rattle.sky_plain.proofs.Chains.{held_ref, opened_at}
 use Rattle.sky_rows.proofs.Numbers.{got_more}
 use Rattle.sky_plain.proofs.Stages.{in_map, map_in}
@@ -35,11 +36,8 @@ module _ (tag : Row → List ℕ) where
   same_refs : (a : Val) → length (refs (low spell tag a)) ≡ length (refs a)
   same_refs a = ap length (refs_low spell tag a) ∙ length-map (low_ref spell tag) (refs a)
 
-  abbrev to_slot : {N : Type 0} → ℕ → v.Desc N → v.Val (List ℕ)
-  to_slot k d = ref (known (slot k))
-
   mutual
-    slots_low : (i : ℕ) (a : Val) → replaced to_slot i (low spell tag a) ≡ replaced to_slot i a
+    slots_low : (i : ℕ) (a : Val) → replaced in_slot i (low spell tag a) ≡ replaced in_slot i a
     slots_low i null = refl
     slots_low i (truth b) = refl
     slots_low i (num z) = refl
@@ -49,22 +47,22 @@ module _ (tag : Row → List ℕ) where
     slots_low i (fun f c) = ap (fun f) (pairs_slots_low i c)
     slots_low i (ref d) = refl
 
-    vals_slots_low : (i : ℕ) (vs : Vals) → vals_replaced to_slot i (low_vals spell tag vs) ≡ vals_replaced to_slot i vs
+    vals_slots_low : (i : ℕ) (vs : Vals) → vals_replaced in_slot i (low_vals spell tag vs) ≡ vals_replaced in_slot i vs
     vals_slots_low i no_vals = refl
     vals_slots_low i (val a vs) =
-        ap₂ val (slots_low i a) (ap (λ n. vals_replaced to_slot (i + n) (low_vals spell tag vs)) (same_refs a) ∙ vals_slots_low (i + length (refs a)) vs)
+        ap₂ val (slots_low i a) (ap (λ n. vals_replaced in_slot (i + n) (low_vals spell tag vs)) (same_refs a) ∙ vals_slots_low (i + length (refs a)) vs)
 
-    pairs_slots_low : (i : ℕ) (ps : v.Pairs ⊥) → pairs_replaced to_slot i (low_pairs spell tag ps) ≡ pairs_replaced to_slot i ps
+    pairs_slots_low : (i : ℕ) (ps : v.Pairs ⊥) → pairs_replaced in_slot i (low_pairs spell tag ps) ≡ pairs_replaced in_slot i ps
     pairs_slots_low i no_pairs = refl
     pairs_slots_low i (pair k a ps) =
-        ap₂ (pair k) (slots_low i a) (ap (λ n. pairs_replaced to_slot (i + n) (low_pairs spell tag ps)) (same_refs a) ∙ pairs_slots_low (i + length (refs a)) ps)
+        ap₂ (pair k) (slots_low i a) (ap (λ n. pairs_replaced in_slot (i + n) (low_pairs spell tag ps)) (same_refs a) ∙ pairs_slots_low (i + length (refs a)) ps)
 
   output_low : (bs : List (List ℕ)) (i : ℕ) → low_obj spell tag (m.output_at bs i) ≡ output_at bs i
   output_low [] i = refl
   output_low (b ∷ bs) zero = refl
   output_low (b ∷ bs) (suc i) = output_low bs i
 
-  run_output_low : (r : Result (List (List ℕ)) FaultKind) (i : ℕ) → low_obj spell tag (m.run_output r i) ≡ run_output r i
+  run_output_low : (r : Result (List (List ℕ)) FaultKind) (i : ℕ) → low_obj spell tag (m.run_output r i) ≡ output_of (without_place r) i
   run_output_low (Ok bs) i = output_low bs i
   run_output_low (Err k) i = refl
 
@@ -88,32 +86,32 @@ module _ (job : Job) (around : Around) (writes : v.Val (List ℕ) → Option (Li
     abbrev Settled : List Desc → Type 0
     Settled ds = (d : Desc) → In d ds → (o : Object (List ℕ)) × (knows (low_ref spell tag d) ≡ Some o) × Sees job around tag n d o
 
-    gather_is : (ds : List Desc) → Settled ds → gather (see job around n) (as_bytes around) ds ≡ gathered (collect (λ d. bytes_seen writes (knows d)) (map (low_ref spell tag) ds))
+    gather_is : (ds : List Desc) → Settled ds → gather (see job around n) (as_bytes around) ds ≡ gathered (all_bytes writes knows (map (low_ref spell tag) ds))
     gather_is [] s = refl
     gather_is (d ∷ ds) s = go (s d (inl refl)) (gather_is ds (λ c i. s c (inr i)))
       where
         rest : Result (List (List ℕ)) Fault
-        rest = collect (λ d. bytes_seen writes (knows d)) (map (low_ref spell tag) ds)
+        rest = all_bytes writes knows (map (low_ref spell tag) ds)
 
         go : (o : Object (List ℕ)) × (knows (low_ref spell tag d) ≡ Some o) × Sees job around tag n d o → gather (see job around n) (as_bytes around) ds ≡ gathered rest → gather (see job around n) (as_bytes around) (d ∷ ds) ≡ gathered (one_more (bytes_seen writes (knows (low_ref spell tag d))) rest)
         go (o, k, (p, e, l)) h =
             ap₂ (λ x r. gather_one x (as_bytes around) r) e h ∙ ap (λ x. gather_on x (gathered rest)) (sym (bytes_low tag p)) ∙ gathered_more (bytes_of writes (low_obj spell tag p)) rest ∙ ap (λ x. gathered (one_more x rest)) (ap (bytes_of writes) l ∙ ap (bytes_seen writes) (sym k))
 
-    executed_is : (x : List ℕ) (a : Val) (c i : ℕ) (r : Result (List (List ℕ)) Fault) → (p : Obj) × (executed_on around x a c i (gathered r) ≡ Some p) × (low_obj spell tag p ≡ performed_on around.runs x (low spell tag a) c i r)
+    executed_is : (x : List ℕ) (a : Val) (c i : ℕ) (r : Result (List (List ℕ)) Fault) → (p : Obj) × (executed_on around x a c i (gathered r) ≡ Some p) × (low_obj spell tag p ≡ output_of (made_of around.runs x (low spell tag a) c r) i)
     executed_is x a c i (Err f) = (Object.fault f, refl, refl)
     executed_is x a c i (Ok bs) =
-        (m.run_output (around.runs x (replaced (to_slot tag) 0 a) bs c) i, refl, run_output_low tag (around.runs x (replaced (to_slot tag) 0 a) bs c) i ∙ ap (λ s. run_output (around.runs x s bs c) i) (sym (slots_low tag 0 a)))
+        (m.run_output (around.runs x (replaced in_slot 0 a) bs c) i, refl, run_output_low tag (around.runs x (replaced in_slot 0 a) bs c) i ∙ ap (λ s. output_of (without_place (around.runs x s bs c)) i) (sym (slots_low tag 0 a)))
 
-    sees_out : (x : List ℕ) (a : Val) (c i : ℕ) → Settled (refs a) → Sees job around tag (suc n) (out x a c i) (performed around.runs writes knows x (low spell tag a) c i)
+    sees_out : (x : List ℕ) (a : Val) (c i : ℕ) → Settled (refs a) → Sees job around tag (suc n) (out x a c i) (output_of (made around.runs writes knows x (low spell tag a) c) i)
     unfolding see
     sees_out x a c i s = go (executed_is x a c i collected)
       where
         collected : Result (List (List ℕ)) Fault
-        collected = collect (λ d. bytes_seen writes (knows d)) (map (low_ref spell tag) (refs a))
+        collected = all_bytes writes knows (map (low_ref spell tag) (refs a))
 
-        go : (p : Obj) × (executed_on around x a c i (gathered collected) ≡ Some p) × (low_obj spell tag p ≡ performed_on around.runs x (low spell tag a) c i collected) → Sees job around tag (suc n) (out x a c i) (performed around.runs writes knows x (low spell tag a) c i)
+        go : (p : Obj) × (executed_on around x a c i (gathered collected) ≡ Some p) × (low_obj spell tag p ≡ output_of (made_of around.runs x (low spell tag a) c collected) i) → Sees job around tag (suc n) (out x a c i) (output_of (made around.runs writes knows x (low spell tag a) c) i)
         go (p, e, l) =
-            (p, ap (executed_on around x a c i) (gather_is (refs a) s) ∙ e, l ∙ ap (λ ds. performed_on around.runs x (low spell tag a) c i (collect (λ d. bytes_seen writes (knows d)) ds)) (sym (refs_low spell tag a)))
+            (p, ap (executed_on around x a c i) (gather_is (refs a) s) ∙ e, l ∙ ap (λ ds. output_of (made_of around.runs x (low spell tag a) c (all_bytes writes knows ds)) i) (sym (refs_low spell tag a)))
 
 -- ---- rows of executor tasks and of inputs
 
@@ -146,26 +144,36 @@ from_input (input k) tag key e = ap input (key_is k key e)
 from_input (known b) tag key e = absurd b
 
 module _ (job : Job) (around : Around) (reads : List ℕ → Answer (List ℕ)) (alike : (tag : Row → List ℕ) (b : List ℕ) → reads b ≡ lower {N = ⊥} spell tag (around.reads b)) (writes : v.Val (List ℕ) → Option (List ℕ)) (writes_alike : (tag : Row → List ℕ) (a : Val) → writes (low spell tag a) ≡ around.writes a) (rows : List Row) (objects : List (Option (Object (List ℕ)))) (knows : Knows job around rows objects) where
-  -- output i of an executor task whose inputs are known
-  pub learns_out : (objects' : List (Option (Object (List ℕ)))) (k : ℕ) (x : List ℕ) (us : v.Val (List ℕ)) (c i : ℕ) → slice_get rows k ≡ Some (out x us c i) → AllKnown objects (refs us) → Puts objects k (performed around.runs writes (known_of objects) x us c i) objects' → Knows job around rows objects'
-  learns_out objects' k x us c i at all puts =
-      learns_one job around reads alike rows [] rows objects objects' k (out x us c i) (performed around.runs writes (known_of objects) x us c i) knows (sym (append-nil rows)) at seen puts
+  -- outputs of an executor task whose inputs are known
+  pub learns_outputs : (objects' : List (Option (Object (List ℕ)))) (x : List ℕ) (us : v.Val (List ℕ)) (c l : ℕ) → AllKnown objects (refs us) → OnlyOutputs rows x us c (made around.runs writes (known_of objects) x us c) l objects objects' → Knows job around rows objects'
+  learns_outputs objects' x us c l all only = learns job around reads alike rows [] rows objects objects' knows (sym (append-nil rows)) from
     where
-      seen : (later : List Row) → Grown rows later → SeenNext job around reads alike later objects (out x us c i) (performed around.runs writes (known_of objects) x us c i)
-      seen later g n kn d row = of_out (from_out d (tag_of later) x us c i row)
+      output : ℕ → Object (List ℕ)
+      output i = output_of (made around.runs writes (known_of objects) x us c) i
+
+      seen : (i : ℕ) (later : List Row) → Grown rows later → SeenNext job around reads alike later objects (out x us c i) (output i)
+      seen i later g n kn d row = of_out (from_out d (tag_of later) x us c i row)
         where
           tag : Row → List ℕ
           tag = tag_of later
 
-          of_out : (a : Val) × (d ≡ out x a c i) × (low spell tag a ≡ us) → Sees job around tag (suc n) d (performed around.runs writes (known_of objects) x us c i)
+          of_out : (a : Val) × (d ≡ out x a c i) × (low spell tag a ≡ us) → Sees job around tag (suc n) d (output i)
           of_out (a, is, l) =
-              subst (λ z. Sees job around tag (suc n) z (performed around.runs writes (known_of objects) x us c i)) (sym is) (subst (λ z. Sees job around tag (suc n) (out x a c i) (performed around.runs writes (known_of objects) x z c i)) l (sees_out job around writes writes_alike tag n (known_of objects) x a c i settled))
+              subst (λ z. Sees job around tag (suc n) z (output i)) (sym is) (subst (λ z. Sees job around tag (suc n) (out x a c i) (output_of (made around.runs writes (known_of objects) x z c) i)) l (sees_out job around writes writes_alike tag n (known_of objects) x a c i settled))
             where
               settled : Settled job around writes writes_alike tag n (known_of objects) (refs a)
               settled e h = of_known (all (low_ref spell tag e) (subst (In (low_ref spell tag e)) (sym (refs_low spell tag a) ∙ ap refs l) (map_in (low_ref spell tag) e (refs a) h)))
                 where
                   of_known : (o : Object (List ℕ)) × (known_of objects (low_ref spell tag e) ≡ Some o) → (o : Object (List ℕ)) × (known_of objects (low_ref spell tag e) ≡ Some o) × Sees job around tag n e o
                   of_known (o, q) = (o, q, kn e o q)
+
+      from : (k : ℕ) (u : Object (List ℕ)) → object_at objects' k ≡ Some u → (object_at objects k ≡ Some u) ⊎ SeenAt job around reads alike rows objects k u
+      from k u e = go (only k u e)
+        where
+          go : (object_at objects k ≡ Some u) ⊎ ((i : ℕ) × (i < l) × (slice_get rows k ≡ Some (out x us c i)) × (u ≡ output i)) → (object_at objects k ≡ Some u) ⊎ SeenAt job around reads alike rows objects k u
+          go (inl h) = inl h
+          go (inr (i, h, at, is)) =
+              inr (out x us c i, at, subst (λ z. (later : List Row) → Grown rows later → SeenNext job around reads alike later objects (out x us c i) z) (sym is) (seen i))
 
   sees_input : (tag : Row → List ℕ) (n : ℕ) (key : List ℕ) → Sees job around tag (suc n) (input key) (Object.bytes (input_bytes key job.inputs))
   unfolding see

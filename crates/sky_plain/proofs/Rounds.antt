@@ -32,45 +32,6 @@ use Rattle.sky_plain.proofs.Stages.{stage_more, stage_next, stage_end, stage_las
 use Rattle.sky_plain.proofs.Steps.{opens_grow}
 use Rattle.sky_plain.proofs.Called.{Writes, read_fits, in_val}
 
--- ---- how many objects are known
-
-pub count_grow : (xs ys : List (Option Obj)) → Stays xs ys → count xs ≤ count ys
-count_grow [] ys s = omega arith
-count_grow (None ∷ xs) [] s = count_grow xs [] (λ k e. s (suc k) e)
-count_grow (Some o ∷ xs) [] s = absurd (no_more (s zero refl))
-  where
-    no_more : false ≡ true → ⊥
-    no_more e = absurd cc
-count_grow (None ∷ xs) (None ∷ ys) s = count_grow xs ys (λ k e. s (suc k) e)
-count_grow (None ∷ xs) (Some p ∷ ys) s =
-    let h : count xs ≤ count ys = count_grow xs ys (λ k e. s (suc k) e) in omega (arith, h)
-count_grow (Some o ∷ xs) (None ∷ ys) s = absurd (no_more (s zero refl))
-  where
-    no_more : false ≡ true → ⊥
-    no_more e = absurd cc
-count_grow (Some o ∷ xs) (Some p ∷ ys) s =
-    let h : count xs ≤ count ys = count_grow xs ys (λ k e. s (suc k) e) in omega (arith, h)
-
-pub count_less : (k : ℕ) (xs ys : List (Option Obj)) → Stays xs ys → object_at xs k ≡ None → is_known (object_at ys k) ≡ true → count xs < count ys
-count_less k xs [] s e f = absurd cc
-count_less zero [] (None ∷ ys) s e f = absurd cc
-count_less zero [] (Some p ∷ ys) s e f = omega arith
-count_less zero (None ∷ xs) (None ∷ ys) s e f = absurd cc
-count_less zero (None ∷ xs) (Some p ∷ ys) s e f =
-    let h : count xs ≤ count ys = count_grow xs ys (λ k e. s (suc k) e) in omega (arith, h)
-count_less zero (Some o ∷ xs) (y ∷ ys) s e f = absurd cc
-count_less (suc k) [] (None ∷ ys) s e f = count_less k [] ys (λ i q. absurd cc) refl f
-count_less (suc k) [] (Some p ∷ ys) s e f = omega arith
-count_less (suc k) (None ∷ xs) (None ∷ ys) s e f = count_less k xs ys (λ i q. s (suc i) q) e f
-count_less (suc k) (None ∷ xs) (Some p ∷ ys) s e f =
-    let h : count xs < count ys = count_less k xs ys (λ i q. s (suc i) q) e f in omega (arith, h)
-count_less (suc k) (Some o ∷ xs) (None ∷ ys) s e f = absurd (no_more (s zero refl))
-  where
-    no_more : false ≡ true → ⊥
-    no_more e = absurd cc
-count_less (suc k) (Some o ∷ xs) (Some p ∷ ys) s e f =
-    let h : count xs < count ys = count_less k xs ys (λ i q. s (suc i) q) e f in omega (arith, h)
-
 -- ---- what stands in the place of references refers to what is held
 
 abbrev okay : {A : Type 0} → A → Result A Fault

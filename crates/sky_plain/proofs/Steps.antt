@@ -1,5 +1,5 @@
 -- What stands of a sequential run, step by step.
-use Rattle.std.proofs.Common.{◌≡◌, ◌≤◌, ◌<◌, ℕ, zero, suc, ◌+◌, List, [], ◌∷◌, ◌++◌, length, Bool, true, false, Option, Some, None, Result, Ok, Err, slice_get, nat_eq, inl, inr, refl, sym, ap, subst, ◌∙◌, arith, eqb-true, eq-eqb}
+use Rattle.std.proofs.Common.{◌≡◌, ◌≤◌, ◌<◌, ℕ, zero, suc, ◌+◌, List, [], ◌∷◌, ◌++◌, length, Bool, true, false, Option, Some, None, Result, Ok, Err, slice_get, ◌⊎◌, inl, inr, refl, sym, ap, subst, ◌∙◌, arith}
 use Rattle.std.proofs.lemmas.List.{length-append}
 use Rattle.sky_base.specs.Val as v
 use Rattle.sky_base.specs.Val.{Vals, Pairs, list, no_vals, no_pairs, call, out, input, known, ref, refs}
@@ -15,7 +15,9 @@ use Rattle.sky_plain.specs.Needs.{Makes, MakesMany, Chain}
 use Rattle.sky_plain.specs.Stand.{spell, Puts, ReadFits, RowFits, ObjectFits, Fits, Knows, Opened, Opens, Made, Standing}
 use Rattle.sky_body.specs.Stops.{Runs, EndsAs, WaitsFor, IsFull}
 use Rattle.sky_plain.specs.Stage.{AllKnown}
-use Rattle.sky_plain.specs.Perform.{bytes_seen, collect, slots, output_at, run_output, performed_on, performed}
+use Rattle.sky_perform.specs.Perform.{all_bytes, slots, output_at, output_of, without_place, made_of, made}
+use Rattle.sky_perform.specs.Outputs.{OnlyOutputs}
+use Rattle.sky_perform.proofs.Withs.{nat_same}
 use Rattle.sky_base.specs.declared.fault.FaultKind.{FaultKind}
 use Rattle.sky_base.specs.declared.fault.Fault.{Fault}
 use Rattle.sky_rows.proofs.Numbers.{got_in, got_more}
@@ -23,7 +25,7 @@ use Rattle.sky_plain.proofs.Knows.{learns_call, grown_back}
 use Rattle.sky_plain.proofs.Holds.{fits_waiting, fits_learning}
 use Rattle.sky_plain.proofs.Chains.{chain_of, opens_more, made_more, made_last}
 use Rattle.sky_plain.proofs.Many.{itself, makes_many}
-use Rattle.sky_plain.proofs.Performs.{learns_out, learns_input}
+use Rattle.sky_plain.proofs.Performs.{learns_outputs, learns_input}
 
 module _ (job : Job) (around : Around) where
   -- a chain stays one where more is held
@@ -131,47 +133,50 @@ module _ (job : Job) (around : Around) where
   no_value_fits n (Object.data_of a) h = absurd h
   no_value_fits n (Object.fault f) h = tt
 
-  standing_one : (rows : List Row) (objects objects' : List (Option (Object (List ℕ)))) (k : ℕ) (o : Object (List ℕ)) → Standing job around rows objects → NoValue o → Puts objects k o objects' → Knows job around rows objects' → Standing job around rows objects'
-  standing_one rows objects objects' k o standing no_value puts knows =
+  -- what is known besides is no value
+  standing_known : (rows : List Row) (objects objects' : List (Option (Object (List ℕ)))) → Standing job around rows objects → ((k : ℕ) (u : Object (List ℕ)) → object_at objects' k ≡ Some u → (object_at objects k ≡ Some u) ⊎ NoValue u) → Knows job around rows objects' → Standing job around rows objects'
+  standing_known rows objects objects' standing from knows =
       record { knows = knows; fits = record { rows_fit = standing.fits.rows_fit; objects_fit = each }; made = standing.made; main_is = standing.main_is }
+    where
+      each : (j : ℕ) (u : Object (List ℕ)) → object_at objects' j ≡ Some u → ObjectFits job.script (length rows) u
+      each j u q = go (from j u q)
+        where
+          go : (object_at objects j ≡ Some u) ⊎ NoValue u → ObjectFits job.script (length rows) u
+          go (inl h) = standing.fits.objects_fit j u h
+          go (inr no_value) = no_value_fits (length rows) u no_value
+
+  puts_from : (objects objects' : List (Option (Object (List ℕ)))) (k : ℕ) (o : Object (List ℕ)) → NoValue o → Puts objects k o objects' → (j : ℕ) (u : Object (List ℕ)) → object_at objects' j ≡ Some u → (object_at objects j ≡ Some u) ⊎ NoValue u
+  puts_from objects objects' k o no_value puts j u e = test (nat_same j k)
     where
       some_is : (a b : Object (List ℕ)) → Some a ≡ Some b → a ≡ b
       some_is a b q = cc
 
-      each : (j : ℕ) (u : Object (List ℕ)) → object_at objects' j ≡ Some u → ObjectFits job.script (length rows) u
-      each j u q = test (nat_eq j k) refl
-        where
-          test : (b : Bool) → nat_eq j k ≡ b → ObjectFits job.script (length rows) u
-          test true t =
-              subst (ObjectFits job.script (length rows)) (some_is o u (sym puts.here ∙ ap (object_at objects') (sym (eqb-true j k t)) ∙ q)) (no_value_fits (length rows) o no_value)
-          test false t = standing.fits.objects_fit j u (sym (puts.there j (λ same. differ same)) ∙ q)
-            where
-              false_true : false ≡ true → ⊥
-              false_true p = absurd cc
-
-              differ : j ≡ k → ⊥
-              differ same = false_true (sym t ∙ eq-eqb j k same)
+      test : (j ≡ k) ⊎ (j ≡ k → ⊥) → (object_at objects j ≡ Some u) ⊎ NoValue u
+      test (inl q) = inr (subst NoValue (some_is o u (sym puts.here ∙ ap (object_at objects') (sym q) ∙ e)) no_value)
+      test (inr n) = inl (sym (puts.there j n) ∙ e)
 
   output_no_value : (bs : List (List ℕ)) (i : ℕ) → NoValue (output_at bs i)
   output_no_value [] i = tt
   output_no_value (b ∷ bs) zero = tt
   output_no_value (b ∷ bs) (suc i) = output_no_value bs i
 
-  performed_no_value : (x : List ℕ) (us : v.Val (List ℕ)) (c i : ℕ) (r : Result (List (List ℕ)) Fault) → NoValue (performed_on around.runs x us c i r)
-  performed_no_value x us c i (Err f) = tt
-  performed_no_value x us c i (Ok bs) = of_run (around.runs x (slots us) bs c)
-    where
-      of_run : (r : Result (List (List ℕ)) FaultKind) → NoValue (run_output r i)
-      of_run (Ok os) = output_no_value os i
-      of_run (Err k) = tt
+  made_no_value : (r : Result (List (List ℕ)) Fault) (i : ℕ) → NoValue (output_of r i)
+  made_no_value (Ok bs) i = output_no_value bs i
+  made_no_value (Err f) i = tt
 
-  module _ (reads : List ℕ → Answer (List ℕ)) (alike : (tag : Row → List ℕ) (b : List ℕ) → reads b ≡ lower {N = ⊥} spell tag (around.reads b)) (writes : v.Val (List ℕ) → Option (List ℕ)) (writes_alike : (tag : Row → List ℕ) (a : Val) → writes (low spell tag a) ≡ around.writes a) (rows : List Row) (objects objects' : List (Option (Object (List ℕ)))) (standing : Standing job around rows objects) (k : ℕ) where
-    -- output i of an executor task whose inputs are known
-    pub standing_out : (x : List ℕ) (us : v.Val (List ℕ)) (c i : ℕ) → slice_get rows k ≡ Some (out x us c i) → AllKnown objects (refs us) → Puts objects k (performed around.runs writes (known_of objects) x us c i) objects' → Standing job around rows objects'
-    standing_out x us c i at all puts =
-        standing_one rows objects objects' k (performed around.runs writes (known_of objects) x us c i) standing (performed_no_value x us c i (collect (λ d. bytes_seen writes (known_of objects d)) (refs us))) puts (learns_out job around reads alike writes writes_alike rows objects standing.knows objects' k x us c i at all puts)
+  module _ (reads : List ℕ → Answer (List ℕ)) (alike : (tag : Row → List ℕ) (b : List ℕ) → reads b ≡ lower {N = ⊥} spell tag (around.reads b)) (writes : v.Val (List ℕ) → Option (List ℕ)) (writes_alike : (tag : Row → List ℕ) (a : Val) → writes (low spell tag a) ≡ around.writes a) (rows : List Row) (objects objects' : List (Option (Object (List ℕ)))) (standing : Standing job around rows objects) where
+    -- outputs of an executor task whose inputs are known
+    pub standing_outputs : (x : List ℕ) (us : v.Val (List ℕ)) (c l : ℕ) → AllKnown objects (refs us) → OnlyOutputs rows x us c (made around.runs writes (known_of objects) x us c) l objects objects' → Standing job around rows objects'
+    standing_outputs x us c l all only = standing_known rows objects objects' standing from (learns_outputs job around reads alike writes writes_alike rows objects standing.knows objects' x us c l all only)
+      where
+        from : (k : ℕ) (u : Object (List ℕ)) → object_at objects' k ≡ Some u → (object_at objects k ≡ Some u) ⊎ NoValue u
+        from k u e = go (only k u e)
+          where
+            go : (object_at objects k ≡ Some u) ⊎ ((i : ℕ) × (i < l) × (slice_get rows k ≡ Some (out x us c i)) × (u ≡ output_of (made around.runs writes (known_of objects) x us c) i)) → (object_at objects k ≡ Some u) ⊎ NoValue u
+            go (inl h) = inl h
+            go (inr (i, h, at, is)) = inr (subst NoValue (sym is) (made_no_value (made around.runs writes (known_of objects) x us c) i))
 
     -- an input
-    pub standing_input : (key : List ℕ) → slice_get rows k ≡ Some (input key) → Puts objects k (Object.bytes (input_bytes key job.inputs)) objects' → Standing job around rows objects'
-    standing_input key at puts =
-        standing_one rows objects objects' k (Object.bytes (input_bytes key job.inputs)) standing tt puts (learns_input job around reads alike writes writes_alike rows objects standing.knows objects' k key at puts)
+    pub standing_input : (k : ℕ) (key : List ℕ) → slice_get rows k ≡ Some (input key) → Puts objects k (Object.bytes (input_bytes key job.inputs)) objects' → Standing job around rows objects'
+    standing_input k key at puts =
+        standing_known rows objects objects' standing (puts_from objects objects' k (Object.bytes (input_bytes key job.inputs)) tt puts) (learns_input job around reads alike writes writes_alike rows objects standing.knows objects' k key at puts)

@@ -4,11 +4,10 @@ use Rattle.sky_base.specs.KitView.{Gives}
 use Rattle.sky_base.specs.See.{Desc, Job, Around}
 use Rattle.sky_law.specs.Tasks.{In}
 use Rattle.sky_base.specs.Kept.{Kept}
-use Rattle.sky_base.specs.Val.{list, dict, call}
+use Rattle.sky_base.specs.Val.{Val, list, dict, call, out}
 use Rattle.sky_scope.specs.Plain.{Pairs, Vals}
 use Rattle.sky_rows.specs.Walk.{Obj}
 use Rattle.sky_rows.specs.Walk.{Row, object_at, is_known}
-use Rattle.sky_rows.specs.Known.{with_object}
 use Rattle.sky_plain.specs.Needs.{Chain, MakesMany}
 use Rattle.sky_plain.specs.Stand.{Opens, Standing}
 use Rattle.sky_plain.specs.declared.settle.Step.{Step}
@@ -38,19 +37,23 @@ rank objects (k ∷ ks) = (65536 - count objects) * 8194 + height (is_known (obj
 abbrev pub CallsKept : List Row → Type 0
 CallsKept rows = (k : ℕ) (f : List ℕ) (c : Pairs) (vs : Vals) → slice_get rows k ≡ Some (call f c vs) → Kept (list vs) × Kept (dict c)
 
--- ---- one step: the object of the description that is open last, or what it waits for
-
-module _ (job : Job) (around : Around) where
-  abbrev pub Stepped : List ℕ → ℕ → List Row → List (Option Obj) → List (Option Obj) → Step → Type 0
-  Stepped ks k rows before objects Step.Known =
-      Standing job around rows objects × ((o : Obj) × (objects ≡ with_object k o before))
-  Stepped ks k rows before objects (Step.Waits j) =
-      Standing job around rows objects × (objects ≡ before) × (j < length rows) × (object_at objects j ≡ None) × Opens job around rows (j ∷ k ∷ ks)
-  Stepped ks k rows before objects Step.Full = MakesMany job around 65537
+-- and those of each executor task
+abbrev pub ArgsKept : List Row → Type 0
+ArgsKept rows = (k : ℕ) (x : List ℕ) (v : Val (List ℕ)) (n i : ℕ) → slice_get rows k ≡ Some (out x v n i) → Kept v
 
 -- what was known stays known
 abbrev pub Stays : List (Option Obj) → List (Option Obj) → Type 0
 Stays before objects = (k : ℕ) → is_known (object_at before k) ≡ true → is_known (object_at objects k) ≡ true
+
+-- ---- one step: the object of the description that is open last, and maybe of more, or what it waits for
+
+module _ (job : Job) (around : Around) where
+  abbrev pub Stepped : List ℕ → ℕ → List Row → List (Option Obj) → List (Option Obj) → Step → Type 0
+  Stepped ks k rows before objects Step.Known =
+      Standing job around rows objects × (is_known (object_at objects k) ≡ true) × Stays before objects × (length before ≤ 65536 → length objects ≤ 65536)
+  Stepped ks k rows before objects (Step.Waits j) =
+      Standing job around rows objects × (objects ≡ before) × (j < length rows) × (object_at objects j ≡ None) × Opens job around rows (j ∷ k ∷ ks)
+  Stepped ks k rows before objects Step.Full = MakesMany job around 65537
 
 -- the last of these is the first that was opened
 abbrev pub Bottom : ℕ → List ℕ → Type 0

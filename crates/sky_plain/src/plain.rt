@@ -7,7 +7,6 @@ ghost use Rattle.sky_base.specs.View.{view};
 ghost use Rattle.ciel_json.specs.Around.{json_around};
 ghost use Rattle.sky_plain.specs.Stand.{Standing};
 ghost use Rattle.sky_body.specs.Ran.{Begins};
-ghost use Rattle.sky_plain.specs.Faulty.{NoExecutors};
 ghost use Rattle.sky_plain.specs.Whole.{OpensAll, GatheredSo, AnswersSo};
 
 use crate::settle::{Settled, settle, unknown};
@@ -38,7 +37,6 @@ pub enum Answer {
 
 /// What a job means, or that its chains or its descriptions are too many for a sequential run.
 pub fn plain<K: Kit>(alloc: Global, job: &Job, kit: &K) -> Result<Answer, Memory>
-    requires none { NoExecutors (K.gives kit.now) }
     ensures answer { IfOk result (λ a. AnswersSo (job_view job.now) (json_around (K.gives kit.now)) a) }
 {
     let program = Program::new(alloc, &job.script)?;
@@ -63,7 +61,6 @@ fn rounds<K: Kit>(
     objects: &mut Objects,
 ) -> Result<Answer, Memory>
     requires script { program.now ≡ (job_view job.now).script }
-    requires none { NoExecutors (K.gives kit.now) }
     requires small { length objects.old ≤ 65536 }
     requires standing { Standing (job_view job.now) (json_around (K.gives kit.now)) rows.old objects.old }
     ensures answer { IfOk result (λ a. AnswersSo (job_view job.now) (json_around (K.gives kit.now)) a) }
@@ -103,7 +100,6 @@ fn gather<K: Kit>(
     value: &Value,
 ) -> Result<Settled, Memory>
     requires script { program.now ≡ (job_view job.now).script }
-    requires none { NoExecutors (K.gives kit.now) }
     requires small { length objects.old ≤ 65536 }
     requires standing { Standing (job_view job.now) (json_around (K.gives kit.now)) rows.old objects.old }
     requires opens { OpensAll (job_view job.now) (json_around (K.gives kit.now)) rows.old (refs (view value.now)) }

@@ -8,32 +8,27 @@ ghost use Rattle.sky_base.specs.See.{input_bytes};
 ghost use Rattle.ciel_json.specs.Around.{json_around};
 ghost use Rattle.sky_plain.specs.Stand.{Opens, Standing};
 ghost use Rattle.sky_body.specs.Ran.{Begins};
-ghost use Rattle.sky_plain.specs.Settle.{CallsKept, Stepped, SettledSo};
+ghost use Rattle.sky_plain.specs.Settle.{ArgsKept, CallsKept, Stepped, SettledSo};
 ghost use Rattle.sky_base.specs.Kept.{Kept};
-ghost use Rattle.sky_base.specs.Val.{list, dict, call, out, input, known, refs, vals_refs, pairs_refs};
-ghost use Rattle.sky_base.specs.View.{view, vals_of, pairs_of};
-ghost use Rattle.sky_base.specs.ObjectView.{object_view};
+ghost use Rattle.sky_base.specs.Val.{list, dict, call, out, input, known, refs};
+ghost use Rattle.sky_base.specs.View.{view};
 ghost use Rattle.sky_law.specs.Tasks.{In};
-ghost use Rattle.ciel_json.specs.Text.{text_of as writes};
 ghost use Rattle.sky_rows.specs.Walk.{known_of};
 ghost use Rattle.sky_plain.specs.Stage.{AllKnown};
-ghost use Rattle.sky_plain.specs.Perform.{bytes_of, bytes_seen, collect};
-ghost use Rattle.sky_plain.specs.Faulty.{FaultIs, FaultsAre, NoExecutors, OutFault};
 
 use crate::stack::Stack;
-use sky_base::compare::is_plain;
-use sky_base::fault::{Fault, FaultKind};
 use sky_base::job::{Inputs, Job};
 use sky_base::kit::Kit;
 use sky_base::name::Name;
 use sky_base::object::{Desc1, Object};
 use sky_base::text::{Bytes, Memory, Txt};
-use sky_base::value::{Pair, Pairs, Vals, Value};
+use sky_base::value::{Pairs, Vals, Value};
 use sky_body::run::{Ran, run_call};
+use sky_perform::outputs::tell;
+use sky_perform::task::perform;
 use sky_rows::objects::{Objects, number_of};
 use sky_rows::rows::Rows;
 use sky_scope::program::Program;
-use sky_waves::wave::no_place;
 use std::alloc::Global;
 
 /// What a step comes to.
@@ -93,68 +88,8 @@ pub fn unknown(alloc: Global, value: &Value, objects: &Objects) -> Result<Option
     Ok(None)
 }
 
-// The fault that an object is as an executor's input, if it is one.
-fn fault_of(object: &Object) -> Option<Fault>
-    ensures { FaultIs result (bytes_of writes (object_view object.now)) }
-{
-    match object {
-        Object::Bytes(_) => None,
-        Object::Data(value) => {
-            if is_plain(value) {
-                None
-            } else {
-                Some(no_place(FaultKind::NotText))
-            }
-        }
-        Object::Fault(fault) => Some(*fault),
-    }
-}
-
-// The first fault among what the value refers to, as an executor's inputs, if there is one.
-#[cycle(faults)]
-fn first_fault(value: &Value, objects: &Objects) -> Option<Fault>
-    ensures { FaultsAre result (collect (λ d. bytes_seen writes (known_of objects.now d)) (refs (view value.now))) }
-{
-    match value {
-        Value::List(values) => fault_in(values.as_slice(), objects),
-        Value::Dict(pairs) => fault_in_pairs(pairs.as_slice(), objects),
-        Value::Fun { caught, .. } => fault_in_pairs(caught.as_slice(), objects),
-        Value::Ref(name) => match objects.known(name) {
-            Some(object) => fault_of(object),
-            None => Some(no_place(FaultKind::NotText)),
-        },
-        _ => None,
-    }
-}
-
-#[cycle(faults)]
-#[tactic(auto, using(sky_base::proofs::Values::inside, crate::proofs::Lacks::faults))]
-fn fault_in(values: &[Value], objects: &Objects) -> Option<Fault>
-    ensures { FaultsAre result (collect (λ d. bytes_seen writes (known_of objects.now d)) (vals_refs (vals_of values.now))) }
-{
-    for value in values {
-        if let Some(fault) = first_fault(value, objects) {
-            return Some(fault);
-        }
-    }
-    None
-}
-
-#[cycle(faults)]
-#[tactic(auto, using(sky_base::proofs::Values::inside, crate::proofs::Lacks::faults))]
-fn fault_in_pairs(pairs: &[Pair], objects: &Objects) -> Option<Fault>
-    ensures { FaultsAre result (collect (λ d. bytes_seen writes (known_of objects.now d)) (pairs_refs (pairs_of pairs.now))) }
-{
-    for pair in pairs {
-        if let Some(fault) = first_fault(&pair.value, objects) {
-            return Some(fault);
-        }
-    }
-    None
-}
-
-// An output of an executor task whose inputs are known, where no executor is known: the first fault
-// among the inputs, else BadExec. Or what isn't known of them.
+// An output of an executor task: all its outputs become known by one run, where its inputs are known. Or
+// what isn't known of these.
 fn executed<K: Kit>(
     alloc: Global,
     job: &Job,
@@ -162,28 +97,20 @@ fn executed<K: Kit>(
     rows: &Rows,
     objects: &mut Objects,
     number: u32,
+    executor: &Txt,
     args: &Value,
+    outputs: u32,
 ) -> Result<Step, Memory>
-    requires none { NoExecutors (K.gives kit.now) }
-    ensures step { IfOk result (λ s. (ks : List _) (x : List _) (n i : _) → slice_get rows.now number ≡ Some (out x (view args.now) n i) → Standing (job_view job.now) (json_around (K.gives kit.now)) rows.now objects.old → Opens (job_view job.now) (json_around (K.gives kit.now)) rows.now (number ∷ ks) → Stepped (job_view job.now) (json_around (K.gives kit.now)) ks number rows.now objects.old objects.new s) }
+    requires kept { Kept (view args.now) }
+    ensures step { IfOk result (λ s. (ks : List _) (i : _) → slice_get rows.now number ≡ Some (out executor.now (view args.now) outputs i) → Standing (job_view job.now) (json_around (K.gives kit.now)) rows.now objects.old → Opens (job_view job.now) (json_around (K.gives kit.now)) rows.now (number ∷ ks) → Stepped (job_view job.now) (json_around (K.gives kit.now)) ks number rows.now objects.old objects.new s) }
 {
     let _held = rows.len();
     if let Some(name) = unknown(alloc, args, objects)? {
         return Ok(Step::Waits(number_of(&name)));
     }
-    let fault = out_fault(args, objects);
-    objects.set(number, Object::Fault(fault))?;
+    let made = perform(alloc, kit, executor, args, outputs, objects)?;
+    tell(rows, objects, executor, args, outputs, &made)?;
     Ok(Step::Known)
-}
-
-// The first fault among an executor's inputs, else that there is no executor.
-fn out_fault(args: &Value, objects: &Objects) -> Fault
-    ensures { OutFault result (collect (λ d. bytes_seen writes (known_of objects.now d)) (refs (view args.now))) }
-{
-    match first_fault(args, objects) {
-        Some(fault) => fault,
-        None => no_place(FaultKind::BadExec),
-    }
 }
 
 // The bytes of an input; nothing where there is none of this name.
@@ -210,9 +137,9 @@ fn advance<K: Kit>(
     number: u32,
 ) -> Result<Step, Memory>
     requires script { program.now ≡ (job_view job.now).script }
-    requires none { NoExecutors (K.gives kit.now) }
     requires held { number < length rows.old }
     requires kept { CallsKept rows.old }
+    requires kept_args { ArgsKept rows.old }
     ensures grows { IfOk result (λ _. Begins rows.old rows.new) }
     ensures step { IfOk result (λ s. (ks : List _) → Standing (job_view job.now) (json_around (K.gives kit.now)) rows.old objects.old → Opens (job_view job.now) (json_around (K.gives kit.now)) rows.old (number ∷ ks) → Stepped (job_view job.now) (json_around (K.gives kit.now)) ks number rows.new objects.old objects.new s) }
 {
@@ -221,7 +148,14 @@ fn advance<K: Kit>(
         Desc1::Call { fun, caught, args } => called(
             alloc, job, program, kit, rows, objects, number, &fun, &caught, &args,
         ),
-        Desc1::Exec { args, .. } => executed(alloc, job, kit, rows, objects, number, &args),
+        Desc1::Exec {
+            executor,
+            args,
+            outputs,
+            ..
+        } => executed(
+            alloc, job, kit, rows, objects, number, &executor, &args, outputs,
+        ),
         Desc1::Input { key } => given(alloc, job, kit, rows, objects, number, &key),
     }
 }
@@ -239,6 +173,7 @@ fn given<K: Kit>(
     requires at { slice_get rows.now number ≡ Some (input key.now) }
     ensures step { IfOk result (λ s. (ks : List _) → Standing (job_view job.now) (json_around (K.gives _kit.now)) rows.now objects.old → Opens (job_view job.now) (json_around (K.gives _kit.now)) rows.now (number ∷ ks) → Stepped (job_view job.now) (json_around (K.gives _kit.now)) ks number rows.now objects.old objects.new s) }
 {
+    let _held = rows.len();
     let bytes = input(alloc, &job.inputs, key)?;
     objects.set(number, Object::Bytes(bytes))?;
     Ok(Step::Known)
@@ -271,7 +206,6 @@ pub fn settle<K: Kit>(
     first: u32,
 ) -> Result<Settled, Memory>
     requires script { program.now ≡ (job_view job.now).script }
-    requires none { NoExecutors (K.gives kit.now) }
     requires held { first < length rows.old }
     requires small { length objects.old ≤ 65536 }
     requires standing { Standing (job_view job.now) (json_around (K.gives kit.now)) rows.old objects.old }

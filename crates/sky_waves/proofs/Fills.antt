@@ -18,7 +18,7 @@ module _ {N : Type 0} where
   behind front (Err f) = Err f
   behind front (Ok vs) = Ok (join front vs)
 
-  joined_one : (us : Vals N) (v : Val N) (vs : Vals N) → join (add_val us v) vs ≡ join us (val v vs)
+  pub joined_one : (us : Vals N) (v : Val N) (vs : Vals N) → join (add_val us v) vs ≡ join us (val v vs)
   joined_one no_vals v vs = refl
   joined_one (val u us) v vs = ap (val u) (joined_one us v vs)
 
@@ -26,7 +26,7 @@ module _ {N : Type 0} where
   behind_one front v (Err f) = refl
   behind_one front v (Ok vs) = ap Ok (joined_one front v vs)
 
-  join_none : (us : Vals N) → join us no_vals ≡ us
+  pub join_none : (us : Vals N) → join us no_vals ≡ us
   join_none no_vals = refl
   join_none (val u us) = ap (val u) (join_none us)
 
@@ -38,7 +38,7 @@ module _ {N : Type 0} where
   behind_pairs front (Err f) = Err f
   behind_pairs front (Ok ps) = Ok (joined front ps)
 
-  joined_none : (ps : Pairs N) → joined ps no_pairs ≡ ps
+  pub joined_none : (ps : Pairs N) → joined ps no_pairs ≡ ps
   joined_none no_pairs = refl
   joined_none (pair k v ps) = ap (pair k v) (joined_none ps)
 
@@ -89,10 +89,10 @@ Meets front (pair k v ps) = AllBelow front k × RisingFrom k ps
 above : (j k : List ℕ) → slice_cmp nat_cmp j k ≡ Ordering.Less → slice_cmp nat_cmp k j ≡ Ordering.Greater
 above j k h = nat_list_cmp_total.antisymm k j ∙ ap ordering_reverse h
 
-abbrev add_pair : Pairs (List ℕ) → List ℕ → Val (List ℕ) → Pairs (List ℕ)
+abbrev pub add_pair : Pairs (List ℕ) → List ℕ → Val (List ℕ) → Pairs (List ℕ)
 add_pair ps k v = joined ps (pair k v no_pairs)
 
-put_end : (front : Pairs (List ℕ)) (k : List ℕ) (v : Val (List ℕ)) → AllBelow front k → put k v front ≡ add_pair front k v
+pub put_end : (front : Pairs (List ℕ)) (k : List ℕ) (v : Val (List ℕ)) → AllBelow front k → put k v front ≡ add_pair front k v
 put_end no_pairs k v h = refl
 put_end (pair j w ps) k v h =
     ap (λ o. match_ordering o (pair k v (pair j w ps)) (pair j v ps) (pair j w (put k v ps))) (above j k h.0) ∙ ap (pair j w) (put_end ps k v h.1)
@@ -105,11 +105,11 @@ below_end : (front : Pairs (List ℕ)) (k l : List ℕ) (v : Val (List ℕ)) →
 below_end no_pairs k l v h e = (e, tt)
 below_end (pair j w ps) k l v h e = (nat_list_cmp_total.trans j k l h.0 e, below_end ps k l v h.1 e)
 
-meets_end : (front : Pairs (List ℕ)) (k : List ℕ) (v w : Val (List ℕ)) (ps : Pairs (List ℕ)) → Meets front (pair k v ps) → Meets (add_pair front k w) ps
+pub meets_end : (front : Pairs (List ℕ)) (k : List ℕ) (v w : Val (List ℕ)) (ps : Pairs (List ℕ)) → Meets front (pair k v ps) → Meets (add_pair front k w) ps
 meets_end front k v w no_pairs h = tt
 meets_end front k v w (pair l u ps) h = (below_end front k l w h.0 h.1.0, h.1.1)
 
-joined_pair : (front : Pairs (List ℕ)) (k : List ℕ) (v : Val (List ℕ)) (ps : Pairs (List ℕ)) → joined (add_pair front k v) ps ≡ joined front (pair k v ps)
+pub joined_pair : (front : Pairs (List ℕ)) (k : List ℕ) (v : Val (List ℕ)) (ps : Pairs (List ℕ)) → joined (add_pair front k v) ps ≡ joined front (pair k v ps)
 joined_pair no_pairs k v ps = refl
 joined_pair (pair j w qs) k v ps = ap (pair j w) (joined_pair qs k v ps)
 

@@ -1,5 +1,5 @@
 -- Waves of values that aren't one reference.
-use Rattle.std.proofs.Common.{◌≡◌, ℕ, List, [], ◌∷◌, length, Option, refl, ap, ◌∙◌}
+use Rattle.std.proofs.Common.{◌≡◌, ℕ, List, [], ◌∷◌, ◌++◌, length, Option, Some, None, Result, Ok, Err, refl, ap, ◌∙◌}
 use Rattle.sky_base.specs.Val.{Val, list, dict, fun, refs, distinct, same_text}
 use Rattle.sky_base.specs.Names.{known_of}
 use Rattle.sky_base.specs.Op.{Answer}
@@ -7,8 +7,9 @@ use Rattle.sky_base.specs.Res.{Object}
 use Rattle.sky_base.specs.View.{view}
 use Rattle.sky_base.specs.declared.value.Value.{Value}
 use Rattle.sky_rows.specs.Walk.{Row}
-use Rattle.sky_base.specs.See.{Answered, no_place}
+use Rattle.sky_base.specs.See.{Answered, no_place, written, text_of}
 use Rattle.sky_base.specs.declared.fault.FaultKind.{FaultKind}
+use Rattle.sky_base.specs.declared.fault.Fault.{Fault}
 use Rattle.sky_waves.specs.Wave.{turn_all, turn_refs, turn_at, last_at}
 
 module _ (reads : List ℕ → Answer (List ℕ)) (writes : Val (List ℕ) → Option (List ℕ)) (knows : Row → Option (Object (List ℕ))) where
@@ -45,3 +46,21 @@ some_refs ns ds e h q = h (no_names ns (e ∙ ap (distinct same_text) q))
 pub last_some : (ds : List Row) (t : Option (List ℕ)) → (ds ≡ [] → ⊥) → last_at ds t ≡ Answered.fault (no_place FaultKind.TooDeep)
 last_some [] t h = absurd (h refl)
 last_some (d ∷ ds) t h = refl
+
+-- ---- what is written as an input is the same as what is answered
+
+pub written-text : (t : Option (List ℕ)) (b : List ℕ) → written t ≡ Ok b → text_of t ≡ Answered.bytes b
+written-text None b e = absurd cc
+written-text (Some s) b e = ap Answered.bytes (ok_is (s ++ 10 ∷ []) b e)
+  where
+    ok_is : (x y : List ℕ) → ◌≡◌ {A = Result (List ℕ) Fault} (Ok x) (Ok y) → x ≡ y
+    ok_is x y q = cc
+
+pub written-fault : (t : Option (List ℕ)) (f : Fault) → written t ≡ Err f → text_of t ≡ Answered.fault f
+written-fault None f e = ap Answered.fault (err_is (no_place FaultKind.NotText) f e)
+  where
+    err_is : (x y : Fault) → ◌≡◌ {A = Result (List ℕ) Fault} (Err x) (Err y) → x ≡ y
+    err_is x y q = cc
+written-fault (Some s) f e = absurd cc
+
+pub ruleset texts = (written-text, written-fault)

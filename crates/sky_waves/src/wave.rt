@@ -6,7 +6,7 @@ ghost use Rattle.sky_base.specs.View.{view, vals_of, pairs_of};
 ghost use Rattle.sky_base.specs.ObjectView.{object_view};
 ghost use Rattle.sky_rows.specs.Walk.{known_of};
 ghost use Rattle.sky_waves.specs.Wave.{value_of, value_seen, fill, fill_vals, fill_pairs, next_of, lone, turn_all, turn_at, last_at};
-ghost use Rattle.sky_base.specs.See.{no_place};
+ghost use Rattle.sky_base.specs.See.{no_place, written};
 ghost use Rattle.sky_waves.specs.WaveView.{FilledBy, ValsFilledBy, PairsFilledBy, EndsSo, TurnsSo};
 ghost use Rattle.sky_base.specs.Kept.{Kept};
 ghost use Rattle.sky_base.specs.See.{text_of};
@@ -132,10 +132,11 @@ pub enum Turned {
     Next(Value),
 }
 
-// The JSON text of a value and a line feed, or NotText.
-fn text(alloc: Global, value: &Value) -> Result<Turned, Memory>
+/// The JSON text of a value and a line feed; NotText, with no place, where it holds a function or a
+/// reference.
+pub fn json_line(alloc: Global, value: &Value) -> Result<Result<Bytes, Fault>, Memory>
     requires { Kept (view value.now) }
-    ensures { IfOk result (λ t. EndsSo t (text_of (writes (view value.now)))) }
+    ensures { IfOk result (λ r. r ≡ written (writes (view value.now))) }
 {
     match to_text(alloc, value) {
         Ok(text) => {
@@ -146,10 +147,22 @@ fn text(alloc: Global, value: &Value) -> Result<Turned, Memory>
             let Ok(()) = bytes.push(b'\n') else {
                 return Err(Memory)
             };
-            Ok(Turned::Text(Bytes::new(alloc, bytes)?))
+            Ok(Ok(Bytes::new(alloc, bytes)?))
         }
-        Err(ToText::NotText) => Ok(Turned::Fault(no_place(FaultKind::NotText))),
+        Err(ToText::NotText) => Ok(Err(no_place(FaultKind::NotText))),
         Err(ToText::Memory) => Err(Memory),
+    }
+}
+
+// The JSON text of a value and a line feed as the answer, or NotText.
+#[tactic(auto, using(crate::proofs::Turns::texts))]
+fn text(alloc: Global, value: &Value) -> Result<Turned, Memory>
+    requires { Kept (view value.now) }
+    ensures { IfOk result (λ t. EndsSo t (text_of (writes (view value.now)))) }
+{
+    match json_line(alloc, value)? {
+        Ok(bytes) => Ok(Turned::Text(bytes)),
+        Err(fault) => Ok(Turned::Fault(fault)),
     }
 }
 

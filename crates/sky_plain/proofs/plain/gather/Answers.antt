@@ -9,10 +9,10 @@ use Rattle.sky_rows.specs.Walk.{known_of, number_of, object_at}
 use Rattle.sky_plain.specs.Settle.{count, SettledSo}
 use Rattle.sky_plain.specs.Stage.{AllKnown}
 use Rattle.sky_plain.specs.Stand.{Opens}
-use Rattle.sky_plain.proofs.Counts.{count_most}
+use Rattle.sky_plain.proofs.Counts.{count_most, count_less}
 use Rattle.sky_rows.proofs.Learn.{most_is}
 use Rattle.sky_plain.proofs.OpenWork.{begins_self, begins_over}
-use Rattle.sky_plain.proofs.Rounds.{count_less, opens_all_grow}
+use Rattle.sky_plain.proofs.Rounds.{opens_all_grow}
 use Rattle.sky_plain.proofs.plain.gather.Goals as goal
 
 pub loop-name-init : goal.loop-name-init

@@ -9,13 +9,15 @@ use Rattle.sky_plain.specs.Stand.{Opens, Standing}
 use Rattle.sky_body.specs.Ran.{RanSo}
 use Rattle.sky_body.specs.declared.run.Ran.{Ran}
 use Rattle.sky_rows.proofs.Learn.{most_is}
+use Rattle.sky_base.specs.Val.{call}
+use Rattle.sky_plain.proofs.OpenWork.{known_with, stays_put, small_with, held_more}
 use Rattle.sky_plain.proofs.Called.{called_ends, called_waits, called_unknown, called_many}
 use Rattle.sky_plain.proofs.settle.called.Goals as goal
 
 pub returns-in_ok-set-in-Object-clause-step : goal.returns-in_ok-set-in-Object-clause-step
 returns-in_ok-set-in-Object-clause-step g c = λ ks standing opens.
     let ran = subst (λ sc. RanSo sc data_of c.args.objects.now c.args.rows.now c.args.fun.now c.args.caught.now c.args.args.now c.run_call.new.rows (Ran.Object c.in-Object.object)) c.requires.script (subst (RanSo c.args.program.now data_of c.args.objects.now c.args.rows.now c.args.fun.now c.args.caught.now c.args.args.now c.run_call.new.rows) c.in-Object.is c.in_ok-ran.ensures.runs) in
-    (subst (Standing (job_view c.args.job.now) (json_around (g.K.Kit.gives c.args.kit.now)) c.run_call.new.rows) (sym c.in_ok-set-in-Object.ensures.put) (called_ends (job_view c.args.job.now) (g.K.Kit.gives c.args.kit.now) c.args.rows.now c.run_call.new.rows c.args.objects.now c.args.number c.args.fun.now c.args.caught.now c.args.args.now c.in_ok-ran.ensures.grows c.len-held.ensures.apart c.len-held.ensures.room c.requires.at ks standing opens (object_view c.in-Object.object) ran), (object_view c.in-Object.object, c.in_ok-set-in-Object.ensures.put))
+    (subst (Standing (job_view c.args.job.now) (json_around (g.K.Kit.gives c.args.kit.now)) c.run_call.new.rows) (sym c.in_ok-set-in-Object.ensures.put) (called_ends (job_view c.args.job.now) (g.K.Kit.gives c.args.kit.now) c.args.rows.now c.run_call.new.rows c.args.objects.now c.args.number c.args.fun.now c.args.caught.now c.args.args.now c.in_ok-ran.ensures.grows c.len-held.ensures.apart c.len-held.ensures.room c.requires.at ks standing opens (object_view c.in-Object.object) ran), known_with c.args.number (object_view c.in-Object.object) c.args.objects.now c.set.new.self c.in_ok-set-in-Object.ensures.put, stays_put c.args.number (object_view c.in-Object.object) c.args.objects.now c.set.new.self c.in_ok-set-in-Object.ensures.put, small_with c.args.number (object_view c.in-Object.object) c.args.objects.now c.set.new.self c.in_ok-set-in-Object.ensures.put c.run_call.new.rows (held_more c.args.rows.now c.run_call.new.rows c.args.number (call c.args.fun.now c.args.caught.now c.args.args.now) c.in_ok-ran.ensures.grows c.requires.at) c.len-held.ensures.room)
 
 pub returns-in-Waits-clause-step : goal.returns-in-Waits-clause-step
 returns-in-Waits-clause-step g c = λ ks standing opens.

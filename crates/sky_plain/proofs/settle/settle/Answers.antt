@@ -3,12 +3,9 @@ use Rattle.sky_base.specs.JobView.{job_view}
 use Rattle.sky_base.specs.See.{Job, Around}
 use Rattle.ciel_json.specs.Around.{json_around}
 use Rattle.sky_rows.specs.Walk.{is_known, object_at}
-use Rattle.sky_rows.specs.Known.{with_object}
 use Rattle.sky_plain.specs.Stand.{Standing}
 use Rattle.sky_plain.specs.Settle.{rank, Stepped, Open, Stays}
-use Rattle.sky_rows.proofs.Learn.{most_is}
-use Rattle.sky_plain.proofs.Counts.{length_with}
-use Rattle.sky_plain.proofs.OpenWork.{calls_kept, begins_self, begins_over, stays_self, stays_over, stays_with, pop_falls, known_falls, push_falls, open_popped, open_known, open_more, open_held, open_deep, most_open_is}
+use Rattle.sky_plain.proofs.OpenWork.{args_kept, calls_kept, begins_self, begins_over, stays_self, stays_over, pop_falls, known_falls, push_falls, open_popped, open_known, open_more, open_held, open_deep, most_open_is}
 use Rattle.sky_plain.proofs.settle.settle.Goals as goal
 
 pub loop-top-init : goal.loop-top-init
@@ -47,6 +44,10 @@ pub advance-requires-clause-kept : goal.advance-requires-clause-kept
 advance-requires-clause-kept g c =
     calls_kept (job_view c.args.job.now) (json_around (g.K.Kit.gives c.args.kit.now)) c.loop-top.rows c.loop-top.objects c.loop-top.invariant.standing
 
+pub advance-requires-clause-kept_args : goal.advance-requires-clause-kept_args
+advance-requires-clause-kept_args g c =
+    args_kept (job_view c.args.job.now) (json_around (g.K.Kit.gives c.args.kit.now)) c.loop-top.rows c.loop-top.objects c.loop-top.invariant.standing
+
 pub loop-top-smaller-in-Known : goal.loop-top-smaller-in-Known
 loop-top-smaller-in-Known g c =
     let job : Job = job_view c.args.job.now in
@@ -55,12 +56,10 @@ loop-top-smaller-in-Known g c =
     let is = c.in-Some.ensures.1 in
     let work = subst (Open job around c.loop-top.rows c.loop-top.objects c.args.first) is c.loop-top.invariant.open_work in
     let step = subst (Stepped job around rest c.in-Some.top c.advance.new.rows c.loop-top.objects c.advance.new.objects) c.in-Known.is (c.in_ok-advance.ensures.step rest c.loop-top.invariant.standing work.0) in
-    let below : c.in-Some.top < length c.loop-top.rows = open_held job around c.loop-top.rows c.loop-top.objects c.args.first c.in-Some.top rest c.len-held.ensures.apart c.len-held.ensures.room work in
-    let room : length c.loop-top.rows ≤ 65536 = subst (λ m. length c.loop-top.rows ≤ m) most_is c.len-held.ensures.room in
     let few : length c.loop-top.open ≤ 4096 = c.loop-top.invariant.few in
     let same : length c.loop-top.open ≡ suc (length rest) = ap length is in
-    let falls = known_falls c.loop-top.objects c.in-Some.top step.1.0 rest (length_with c.in-Some.top 65536 step.1.0 c.loop-top.objects (omega (arith, below, room)) c.loop-top.invariant.small) (omega (arith, few, same)) (sym c.has.ensures ∙ c.if-has.false) in
-    subst (λ z. rank z c.loop-top.open < rank c.loop-top.objects c.loop-top.open) (sym step.1.1) (subst (λ z. rank (with_object c.in-Some.top step.1.0 c.loop-top.objects) z < rank c.loop-top.objects z) (sym is) falls)
+    let falls = known_falls c.loop-top.objects c.advance.new.objects c.in-Some.top rest step.2 step.1 (step.3 c.loop-top.invariant.small) (omega (arith, few, same)) (sym c.has.ensures ∙ c.if-has.false) in
+    subst (λ z. rank c.advance.new.objects z < rank c.loop-top.objects z) (sym is) falls
 
 pub loop-top-preserved-in-Known : goal.loop-top-preserved-in-Known
 loop-top-preserved-in-Known g c =
@@ -70,13 +69,11 @@ loop-top-preserved-in-Known g c =
     let is = c.in-Some.ensures.1 in
     let work = subst (Open job around c.loop-top.rows c.loop-top.objects c.args.first) is c.loop-top.invariant.open_work in
     let step = subst (Stepped job around rest c.in-Some.top c.advance.new.rows c.loop-top.objects c.advance.new.objects) c.in-Known.is (c.in_ok-advance.ensures.step rest c.loop-top.invariant.standing work.0) in
-    let below : c.in-Some.top < length c.loop-top.rows = open_held job around c.loop-top.rows c.loop-top.objects c.args.first c.in-Some.top rest c.len-held.ensures.apart c.len-held.ensures.room work in
-    let room : length c.loop-top.rows ≤ 65536 = subst (λ m. length c.loop-top.rows ≤ m) most_is c.len-held.ensures.room in
     record {
       standing = step.0;
       grows = begins_over c.args.rows.now c.loop-top.rows c.advance.new.rows c.loop-top.invariant.grows c.in_ok-advance.ensures.grows;
-      small = subst (λ z. length z ≤ 65536) (sym step.1.1) (length_with c.in-Some.top 65536 step.1.0 c.loop-top.objects (omega (arith, below, room)) c.loop-top.invariant.small);
-      stays = subst (Stays c.args.objects.now) (sym step.1.1) (stays_over c.args.objects.now c.loop-top.objects (with_object c.in-Some.top step.1.0 c.loop-top.objects) c.loop-top.invariant.stays (stays_with c.in-Some.top step.1.0 c.loop-top.objects));
+      small = step.3 c.loop-top.invariant.small;
+      stays = stays_over c.args.objects.now c.loop-top.objects c.advance.new.objects c.loop-top.invariant.stays step.2;
       open_work = subst (Open job around c.advance.new.rows c.advance.new.objects c.args.first) (sym is) (open_known job around c.loop-top.rows c.advance.new.rows c.loop-top.objects c.advance.new.objects c.args.first c.in-Some.top rest c.in_ok-advance.ensures.grows work);
       few = c.loop-top.invariant.few;
     }

@@ -1,0 +1,4 @@
+pub mod Slotting
+pub mod Takes
+pub mod Tells
+pub mod Withs
