@@ -1,5 +1,5 @@
 -- What the job that was loaded comes to is what the script and the inputs that stand where the words say come to.
-use Rattle.std.proofs.Common.{◌≡◌, ◌≤◌, ℕ, List, [], Option, Some, sym, ap, subst, ◌∙◌}
+use Rattle.std.proofs.Common.{◌≡◌, ◌≤◌, ℕ, List, [], Option, Some, refl, sym, ap, subst, ◌∙◌}
 use Rattle.sky_base.specs.See.{Desc, Job, Answered, Means}
 use Rattle.sky_plain.specs.Needs.{Chain, MakesMany}
 use Rattle.ciel_io.specs.Tells.{Tells, TellsPart}
@@ -7,6 +7,8 @@ use Rattle.ciel_run.specs.Words.{Line, line_of}
 use Rattle.ciel_run.specs.Source.{Input, keys_of, IsScript, IsAnswer, HasChain, Makes, job_of, over_lines}
 use Rattle.ciel_run.specs.Found.{Holds, Fits, OverFiles}
 use Rattle.ciel_run.specs.Loading.{IsLoaded}
+use Rattle.ciel_run.specs.Ending.{status_of}
+use Rattle.ciel_run.specs.declared.top.Why.{Why}
 
 module _ (content : List ℕ → Option (List ℕ)) (words : List (List ℕ)) (job : Job) (loaded : IsLoaded content words job) where
   pub found : (line : Line) (source : List ℕ) (inputs : List Input) → line_of words ≡ Some line → Holds content line source inputs → Fits source inputs × IsScript source (keys_of inputs) job.script × (job.inputs ≡ inputs)
@@ -35,3 +37,16 @@ module _ (content : List ℕ → Option (List ℕ)) (words : List (List ℕ)) (j
   chain n m line source inputs e h =
       let o = over (λ j. (d : Desc) × Chain j over_lines n d) m line source inputs e h in
       (job.script, o.0, o.1)
+
+-- status 0 is that of an answer that was written
+pub done_is : (why : Why) → status_of why ≡ 0 → why ≡ Why.Done
+done_is Why.Done e = refl
+done_is Why.Usage e = absurd cc
+done_is (Why.Syntax kind line col) e = absurd cc
+done_is (Why.Fault fault) e = absurd cc
+done_is (Why.TooMany held given) e = absurd cc
+done_is (Why.ReadFault path) e = absurd cc
+done_is Why.WriteFault e = absurd cc
+done_is Why.Memory e = absurd cc
+done_is (Why.TooLongInput path limit) e = absurd cc
+done_is (Why.TooDeepPlain depth) e = absurd cc

@@ -35,10 +35,10 @@ source_is None read source e h = absurd cc
 source_is (Some f) read source e h = h ∙ cc
 
 -- what a job asks where a file wasn't read is what its reads asked
-pub job_asks : (A B : Type 0) (e : Unread) (b n : Option (List (List ℕ))) (ps : List (List ℕ)) → AsksEach {A = A} (Err e) ps b n → AsksJob {A = B} (Err (unread e)) ps b n
-job_asks A B (Unread.Failed path) b n ps a = a
-job_asks A B (Unread.TooLong path at) b n ps a = a
-job_asks A B Unread.Memory b n ps a = a
+pub job_asks : (A : Type 0) (e : Unread) (b n : Option (List (List ℕ))) (ps : List (List ℕ)) → AsksEach {A = A} (Err e) ps b n → AsksJob (unread e) ps b n
+job_asks A (Unread.Failed path) b n ps a = a
+job_asks A (Unread.TooLong path at) b n ps a = a
+job_asks A Unread.Memory b n ps a = a
 
 module _ (content : Files) (words : List (List ℕ)) (path : List ℕ) (ws : List (List ℕ)) (is_line : line_of words ≡ Some (line_with path ws)) where
   -- the script of a line was read, and is one
@@ -101,12 +101,12 @@ module _ (content : Files) (words : List (List ℕ)) (path : List ℕ) (ws : Lis
   all_asked b m n t u =
       at_line (Tells b n) (tells_more b m n (path ∷ []) (map (λ i. i.1) (map input_in ws)) t (subst (Tells m n) (sym (path_list ws)) u))
 
-  pub input_asked : (A B : Type 0) (e : Unread) (b m n : Option (List (List ℕ))) → Tells b m (path ∷ []) → AsksEach {A = A} (Err e) (map path_in ws) m n → AsksJob {A = B} (Err (unread e)) (paths (line_of words)) b n
-  input_asked A B e b m n t u =
-      at_line (λ ps. AsksJob {A = B} (Err (unread e)) ps b n)
-      (job_asks A B e b n (path ∷ map (λ i. i.1) (map input_in ws)) (asks_more {A = A} (Err e) b m n path (map (λ i. i.1) (map input_in ws)) t (subst (λ (ps : List (List ℕ)). AsksEach {A = A} (Err e) ps m n) (sym (path_list ws)) u)))
+  pub input_asked : (A : Type 0) (e : Unread) (b m n : Option (List (List ℕ))) → Tells b m (path ∷ []) → AsksEach {A = A} (Err e) (map path_in ws) m n → AsksJob (unread e) (paths (line_of words)) b n
+  input_asked A e b m n t u =
+      at_line (λ ps. AsksJob (unread e) ps b n)
+      (job_asks A e b n (path ∷ map (λ i. i.1) (map input_in ws)) (asks_more {A = A} (Err e) b m n path (map (λ i. i.1) (map input_in ws)) t (subst (λ (ps : List (List ℕ)). AsksEach {A = A} (Err e) ps m n) (sym (path_list ws)) u)))
 
-  pub script_asked : (A B : Type 0) (e : Unread) (b n : Option (List (List ℕ))) → AsksEach {A = A} (Err e) (path ∷ []) b n → AsksJob {A = B} (Err (unread e)) (paths (line_of words)) b n
-  script_asked A B e b n u =
-      at_line (λ ps. AsksJob {A = B} (Err (unread e)) ps b n)
-      (job_asks A B e b n (path ∷ map (λ i. i.1) (map input_in ws)) (asks_first A A e b n path (map (λ i. i.1) (map input_in ws)) u))
+  pub script_asked : (A : Type 0) (e : Unread) (b n : Option (List (List ℕ))) → AsksEach {A = A} (Err e) (path ∷ []) b n → AsksJob (unread e) (paths (line_of words)) b n
+  script_asked A e b n u =
+      at_line (λ ps. AsksJob (unread e) ps b n)
+      (job_asks A e b n (path ∷ map (λ i. i.1) (map input_in ws)) (asks_first A A e b n path (map (λ i. i.1) (map input_in ws)) u))

@@ -40,7 +40,7 @@ part_more b m n p q rest g h =
     )
 
 -- the whole is a part
-pub part_whole : (b n : Option (List ℕ)) (p : List ℕ) → Tells b n p → TellsPart b n p
+pub part_whole : {A : Type 0} (b n : Option (List A)) (p : List A) → Tells b n p → TellsPart b n p
 part_whole b n p h = let n_all : length p ≤ length p = omega arith in (length p, subst (Tells b n) (sym (take_all (length p) p n_all)) h)
 
 -- ---- the pieces before a place, at it and behind it

@@ -1,5 +1,5 @@
 -- What the words, the script and the inputs come to: a job, or why there is none.
-use Rattle.std.specs.Prelude.{◌≡◌, ◌≢◌, ◌≤◌, ℕ, List, [], Option, Some, None, Result, Ok, Err, Contains, length, take}
+use Rattle.std.specs.Prelude.{◌≡◌, ◌≢◌, ◌≤◌, ℕ, List, [], Option, Some, None, Contains, length, take}
 use Rattle.sky_base.specs.See.{Job}
 use Rattle.ciel_io.specs.Tells.{Tells, TellsPart}
 use Rattle.ciel_run.specs.Words.{Line, line_of, paths_of}
@@ -33,11 +33,11 @@ module _ (content : List ℕ → Option (List ℕ)) (words : List (List ℕ)) wh
       × ((source : List ℕ) (inputs : List Input) → Holds content line source inputs → IsTooLong line source inputs path at)
   NotLoaded risen NoJob.Memory = line_of words ≢ None
 
--- which paths were asked for a job
-abbrev pub AsksJob : {A : Type 0} → Result A NoJob → List (List ℕ) → Option (List (List ℕ)) → Option (List (List ℕ)) → Type 0
-AsksJob (Ok job) paths before now = Tells before now paths
-AsksJob (Err NoJob.Usage) paths before now = Tells before now paths
-AsksJob (Err (NoJob.Syntax kind l c)) paths before now = Tells before now (take 1 paths)
-AsksJob (Err (NoJob.Failed path)) paths before now = AsksUpTo path paths before now
-AsksJob (Err (NoJob.TooLong path at)) paths before now = AsksUpTo path paths before now
-AsksJob (Err NoJob.Memory) paths before now = TellsPart before now paths
+-- which paths were asked where there is none: that of the script where it is none, those up to the one that could not be read, or for want
+-- of memory some of the first
+abbrev pub AsksJob : NoJob → List (List ℕ) → Option (List (List ℕ)) → Option (List (List ℕ)) → Type 0
+AsksJob NoJob.Usage paths before now = Tells before now paths
+AsksJob (NoJob.Syntax kind l c) paths before now = Tells before now (take 1 paths)
+AsksJob (NoJob.Failed path) paths before now = AsksUpTo path paths before now
+AsksJob (NoJob.TooLong path at) paths before now = AsksUpTo path paths before now
+AsksJob NoJob.Memory paths before now = TellsPart before now paths

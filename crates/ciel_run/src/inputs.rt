@@ -65,7 +65,10 @@ fn read_on<F: Files>(
     let Some((word, more)) = words.split_first() else {
         return Ok(());
     };
-    let input = input(alloc, word, files)?;
+    let input = match input(alloc, word, files) {
+        Ok(input) => input,
+        Err(why) => return Err(why),
+    };
     if items.push(input).is_err() {
         return Err(Unread::Memory);
     }

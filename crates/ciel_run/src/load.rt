@@ -1,9 +1,10 @@
 // From the words to a job: the words are a line, the script that they name is read and is one, and then
 // its inputs are read, each in its turn.
 
-ghost use Rattle.std.specs.Prelude.{◌≡◌, IfOk, IfErr};
+ghost use Rattle.std.specs.Prelude.{◌≡◌, IfOk, IfErr, OnOk};
 ghost use Rattle.sky_base.specs.JobView.{job_view};
 ghost use Rattle.ciel_io.specs.Faults.{HasRisen};
+ghost use Rattle.ciel_io.specs.Tells.{Tells};
 ghost use Rattle.ciel_run.specs.Words.{line_of, paths};
 ghost use Rattle.ciel_run.specs.Loading.{unread, IsLoaded, NotLoaded, AsksJob};
 
@@ -56,7 +57,8 @@ fn unread(why: Unread) -> NoJob
 pub fn load<F: Files>(alloc: Global, words: &[Txt], files: &mut F) -> Result<Job, NoJob>
     ensures job { IfOk result (λ job. IsLoaded (F.content files.old) words.now (job_view job)) }
     ensures refused { IfErr result (NotLoaded (F.content files.old) words.now (HasRisen (F.faults files.old) (F.faults files.new))) }
-    ensures asks { AsksJob result (paths (line_of words.now)) (F.asked files.old) (F.asked files.new) }
+    ensures asked { OnOk result (Tells (F.asked files.old) (F.asked files.new) (paths (line_of words.now))) }
+    ensures asks { IfErr result (λ why. AsksJob why (paths (line_of words.now)) (F.asked files.old) (F.asked files.new)) }
 {
     let Some((path, words)) = line(words) else {
         return Err(NoJob::Usage);

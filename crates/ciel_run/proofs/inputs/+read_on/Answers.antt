@@ -1,5 +1,5 @@
 -- The first input and those behind it.
-use Rattle.std.proofs.Common.{◌≡◌, ◌≤◌, ℕ, List, [], ◌∷◌, Result, IfErr, map, sym, ap, subst, ◌∙◌}
+use Rattle.std.proofs.Common.{◌≡◌, ◌≤◌, ℕ, List, [], ◌∷◌, Result, Err, IfErr, map, sym, ap, subst, ◌∙◌}
 use Rattle.sky_base.specs.declared.text.Txt.{Txt}
 use Rattle.ciel_io.specs.Faults.{HasRisen}
 use Rattle.ciel_io.specs.Tells.{Tells, TellsPart}
@@ -12,24 +12,24 @@ use Rattle.ciel_run.proofs.inputs.+read_on.Goals as goal
 pub returns-then-is_err-clause-asks : goal.returns-then-is_err-clause-asks
 returns-then-is_err-clause-asks g t c =
     let first : c.args.words.now ≡ c.in-Some.word.now ∷ c.in-Some.more.now = c.in-Some.ensures.cases.0 in
-    subst (λ (ws : List (List ℕ)). TellsPart (g.F.Files.asked c.args.files.now) (g.F.Files.asked c.input.new.files) (map path_in ws)) (sym first) (1, c.in_ok-input.ensures.asks)
+    subst (λ (ws : List (List ℕ)). TellsPart (g.F.Files.asked c.args.files.now) (g.F.Files.asked c.input.new.files) (map path_in ws)) (sym first) (1, c.in-Ok.ensures.asks)
 
 pub returns-clause-unread : goal.returns-clause-unread
 returns-clause-unread g t c =
     let first : c.args.words.now ≡ c.in-Some.word.now ∷ c.in-Some.more.now = c.in-Some.ensures.cases.0 in
-    let later = subst (λ (content : List ℕ → _). IfErr c.read_on.result (UnreadOf content (map input_in c.in-Some.more.now) (HasRisen (g.F.Files.faults c.input.new.files) (g.F.Files.faults c.read_on.new.files)))) c.in_ok-input.ensures.kept c.read_on.ensures.unread in
+    let later = subst (λ (content : List ℕ → _). IfErr c.read_on.result (UnreadOf content (map input_in c.in-Some.more.now) (HasRisen (g.F.Files.faults c.input.new.files) (g.F.Files.faults c.read_on.new.files)))) c.in-Ok.ensures.kept c.read_on.ensures.unread in
     subst (λ (ws : List (List ℕ)). IfErr c.read_on.result (UnreadOf (g.F.Files.content c.args.files.now) (map input_in ws) (HasRisen (g.F.Files.faults c.args.files.now) (g.F.Files.faults c.read_on.new.files)))) (sym first)
-    (results_later (g.F.Files.content c.args.files.now) (input_in c.in-Some.word.now) (map input_in c.in-Some.more.now) c.in_ok-input.input (HasRisen (g.F.Files.faults c.input.new.files) (g.F.Files.faults c.read_on.new.files)) (HasRisen (g.F.Files.faults c.args.files.now) (g.F.Files.faults c.read_on.new.files)) c.read_on.result
-    (risen_before (g.F.Files.faults c.args.files.now) (g.F.Files.faults c.input.new.files) (g.F.Files.faults c.read_on.new.files) c.in_ok-input.ensures.never_falls) c.in_ok-input.ensures.read later)
+    (results_later (g.F.Files.content c.args.files.now) (input_in c.in-Some.word.now) (map input_in c.in-Some.more.now) c.in-Ok.input (HasRisen (g.F.Files.faults c.input.new.files) (g.F.Files.faults c.read_on.new.files)) (HasRisen (g.F.Files.faults c.args.files.now) (g.F.Files.faults c.read_on.new.files)) c.read_on.result
+    (risen_before (g.F.Files.faults c.args.files.now) (g.F.Files.faults c.input.new.files) (g.F.Files.faults c.read_on.new.files) c.in-Ok.ensures.never_falls) c.in-Ok.ensures.read later)
 
 pub returns-clause-asks : goal.returns-clause-asks
 returns-clause-asks g t c =
     let first : c.args.words.now ≡ c.in-Some.word.now ∷ c.in-Some.more.now = c.in-Some.ensures.cases.0 in
     subst (λ (ws : List (List ℕ)). AsksEach c.read_on.result (map path_in ws) (g.F.Files.asked c.args.files.now) (g.F.Files.asked c.read_on.new.files)) (sym first)
-    (asks_more c.read_on.result (g.F.Files.asked c.args.files.now) (g.F.Files.asked c.input.new.files) (g.F.Files.asked c.read_on.new.files) (path_in c.in-Some.word.now) (map path_in c.in-Some.more.now) c.in_ok-input.ensures.asks c.read_on.ensures.asks)
+    (asks_more c.read_on.result (g.F.Files.asked c.args.files.now) (g.F.Files.asked c.input.new.files) (g.F.Files.asked c.read_on.new.files) (path_in c.in-Some.word.now) (map path_in c.in-Some.more.now) c.in-Ok.ensures.asks c.read_on.ensures.asks)
 
-pub returns-in_err-input-clause-asks : goal.returns-in_err-input-clause-asks
-returns-in_err-input-clause-asks g t c =
+pub returns-in-Err-clause-asks : goal.returns-in-Err-clause-asks
+returns-in-Err-clause-asks g t c =
     let first : c.args.words.now ≡ c.in-Some.word.now ∷ c.in-Some.more.now = c.in-Some.ensures.cases.0 in
-    subst (λ (ws : List (List ℕ)). AsksEach c.from_residual.result (map path_in ws) (g.F.Files.asked c.args.files.now) (g.F.Files.asked c.input.new.files)) (sym first)
-    (rw c.from_residual.ensures (asks_first _ _ c.in_err-input.field-0.0 (g.F.Files.asked c.args.files.now) (g.F.Files.asked c.input.new.files) (path_in c.in-Some.word.now) (map path_in c.in-Some.more.now) c.in_err-input.ensures.asks))
+    subst (λ (ws : List (List ℕ)). AsksEach {A = Unit {0}} (Err c.in-Err.why) (map path_in ws) (g.F.Files.asked c.args.files.now) (g.F.Files.asked c.input.new.files)) (sym first)
+    (asks_first Input (Unit {0}) c.in-Err.why (g.F.Files.asked c.args.files.now) (g.F.Files.asked c.input.new.files) (path_in c.in-Some.word.now) (map path_in c.in-Some.more.now) c.in-Err.ensures.asks)

@@ -23,8 +23,8 @@ returns-in-Err-clause-refused g c =
 
 pub returns-in-Err-clause-asks : goal.returns-in-Err-clause-asks
 returns-in-Err-clause-asks g c =
-    subst (λ (why : NoJob). AsksJob (Err why) (paths (line_of c.args.words.now)) (g.F.Files.asked c.args.files.now) (g.F.Files.asked c.read.new.files)) (sym c.unread.ensures)
-    (script_asked (g.F.Files.content c.args.files.now) c.args.words.now c.in-Some.path.now c.in-Some.words.now c.in-Some.ensures (List ℕ) _ c.in-Err.why (g.F.Files.asked c.args.files.now) (g.F.Files.asked c.read.new.files)
+    subst (λ (why : NoJob). AsksJob why (paths (line_of c.args.words.now)) (g.F.Files.asked c.args.files.now) (g.F.Files.asked c.read.new.files)) (sym c.unread.ensures)
+    (script_asked (g.F.Files.content c.args.files.now) c.args.words.now c.in-Some.path.now c.in-Some.words.now c.in-Some.ensures (List ℕ) c.in-Err.why (g.F.Files.asked c.args.files.now) (g.F.Files.asked c.read.new.files)
     (subst (λ (p : List ℕ). AsksEach {A = List ℕ} (Err c.in-Err.why) (p ∷ []) (g.F.Files.asked c.args.files.now) (g.F.Files.asked c.read.new.files)) c.in-Ok-share.ensures c.in-Err.ensures.asks))
 
 pub returns-in-Err-Memory-clause-asks : goal.returns-in-Err-Memory-clause-asks
@@ -36,13 +36,13 @@ returns-in-Err-Memory-clause-asks g c =
 pub returns-in-Ok-inputs-clause-job : goal.returns-in-Ok-inputs-clause-job
 returns-in-Ok-inputs-clause-job g c =
     let found : IfSome (g.F.Files.content c.args.files.now c.in-Some.path.now) (λ file. c.in-Ok-read.source ≡ file) =
-      subst (λ (p : List ℕ). IfSome (g.F.Files.content c.args.files.now p) (λ file. c.in-Ok-read.source ≡ file)) c.in-Ok-share.ensures c.in-Ok-read.ensures.found in
+    subst (λ (p : List ℕ). IfSome (g.F.Files.content c.args.files.now p) (λ file. c.in-Ok-read.source ≡ file)) c.in-Ok-share.ensures c.in-Ok-read.ensures.found in
     let is = subst (λ (bytes : List ℕ). IsScript bytes c.in-Ok.keys c.in-Ok-script.script) c.as_slice.ensures c.in-Ok-script.ensures.script in
     let all = subst (λ (content : List ℕ → Option (List ℕ)). ReadAll content (map input_in c.in-Some.words.now) c.in-Ok-inputs.inputs) c.read.ensures.kept c.in-Ok-inputs.ensures.read in
     loaded (g.F.Files.content c.args.files.now) c.args.words.now c.in-Some.path.now c.in-Some.words.now c.in-Some.ensures (record { script = c.in-Ok-script.script; inputs = c.in-Ok-inputs.inputs }) c.in-Ok-read.source c.in-Ok.keys found c.in-Ok-read.ensures.within c.in-Ok.ensures is all
 
-pub returns-in-Ok-inputs-clause-asks : goal.returns-in-Ok-inputs-clause-asks
-returns-in-Ok-inputs-clause-asks g c =
+pub returns-in-Ok-inputs-clause-asked : goal.returns-in-Ok-inputs-clause-asked
+returns-in-Ok-inputs-clause-asked g c =
     let at : c.in-Ok-share.path ≡ c.in-Some.path.now = c.in-Ok-share.ensures in
     all_asked (g.F.Files.content c.args.files.now) c.args.words.now c.in-Some.path.now c.in-Some.words.now c.in-Some.ensures (g.F.Files.asked c.args.files.now) (g.F.Files.asked c.read.new.files) (g.F.Files.asked c.inputs.new.files)
     (subst (λ (p : List ℕ). Tells (g.F.Files.asked c.args.files.now) (g.F.Files.asked c.read.new.files) (p ∷ [])) at c.in-Ok-read.ensures.asks) c.in-Ok-inputs.ensures.asks
@@ -50,7 +50,7 @@ returns-in-Ok-inputs-clause-asks g c =
 pub returns-clause-refused : goal.returns-clause-refused
 returns-clause-refused g c =
     let found : IfSome (g.F.Files.content c.args.files.now c.in-Some.path.now) (λ file. c.in-Ok-read.source ≡ file) =
-      subst (λ (p : List ℕ). IfSome (g.F.Files.content c.args.files.now p) (λ file. c.in-Ok-read.source ≡ file)) c.in-Ok-share.ensures c.in-Ok-read.ensures.found in
+    subst (λ (p : List ℕ). IfSome (g.F.Files.content c.args.files.now p) (λ file. c.in-Ok-read.source ≡ file)) c.in-Ok-share.ensures c.in-Ok-read.ensures.found in
     let is = subst (λ (bytes : List ℕ). IsScript bytes c.in-Ok.keys c.in-Ok-script.script) c.as_slice.ensures c.in-Ok-script.ensures.script in
     let risen = HasRisen (g.F.Files.faults c.args.files.now) (g.F.Files.faults c.inputs.new.files) in
     let later = HasRisen (g.F.Files.faults c.read.new.files) (g.F.Files.faults c.inputs.new.files) in
@@ -62,6 +62,6 @@ returns-clause-refused g c =
 
 pub returns-clause-asks : goal.returns-clause-asks
 returns-clause-asks g c =
-    subst (λ (why : NoJob). AsksJob (Err why) (paths (line_of c.args.words.now)) (g.F.Files.asked c.args.files.now) (g.F.Files.asked c.inputs.new.files)) (sym c.unread-in-Err-inputs.ensures)
-    (input_asked (g.F.Files.content c.args.files.now) c.args.words.now c.in-Some.path.now c.in-Some.words.now c.in-Some.ensures (List Input) _ c.in-Err-inputs.why (g.F.Files.asked c.args.files.now) (g.F.Files.asked c.read.new.files) (g.F.Files.asked c.inputs.new.files)
+    subst (λ (why : NoJob). AsksJob why (paths (line_of c.args.words.now)) (g.F.Files.asked c.args.files.now) (g.F.Files.asked c.inputs.new.files)) (sym c.unread-in-Err-inputs.ensures)
+    (input_asked (g.F.Files.content c.args.files.now) c.args.words.now c.in-Some.path.now c.in-Some.words.now c.in-Some.ensures (List Input) c.in-Err-inputs.why (g.F.Files.asked c.args.files.now) (g.F.Files.asked c.read.new.files) (g.F.Files.asked c.inputs.new.files)
     (subst (λ (p : List ℕ). Tells (g.F.Files.asked c.args.files.now) (g.F.Files.asked c.read.new.files) (p ∷ [])) c.in-Ok-share.ensures c.in-Ok-read.ensures.asks) c.in-Err-inputs.ensures.asks)

@@ -2,6 +2,8 @@
 use Rattle.std.proofs.Common.{◌≡◌, ℕ, List, refl, subst}
 use Rattle.sky_base.specs.See.{Answered}
 use Rattle.ciel_io.specs.Tells.{Tells, TellsPart}
+use Rattle.ciel_run.specs.Words.{line_of, paths}
+use Rattle.ciel_run.proofs.Pieces.{part_whole}
 use Rattle.ciel_run.proofs.Ends.{found, means, makes, chain}
 use Rattle.ciel_run.proofs.top.run.Goals as goal
 
@@ -44,7 +46,7 @@ pub returns-in-Err-Fault-clause-complete : goal.returns-in-Err-Fault-clause-comp
 returns-in-Err-Fault-clause-complete g c =
     let refused = rw c.in-Err-Fault.field-0-is at c.in-Err-Fault.ensures.refused in
     λ no_read_fault no_write_fault line source inputs e h.
-        ((found (g.F.Files.content c.args.files.now) c.args.words.now (record { script = c.in-Ok.job.script; inputs = c.in-Ok.job.inputs }) c.in-Ok.ensures.job line source inputs e h).0, means (g.F.Files.content c.args.files.now) c.args.words.now (record { script = c.in-Ok.job.script; inputs = c.in-Ok.job.inputs }) c.in-Ok.ensures.job (Answered.fault c.in-Err-Fault.fault) refused line source inputs e h)
+    ((found (g.F.Files.content c.args.files.now) c.args.words.now (record { script = c.in-Ok.job.script; inputs = c.in-Ok.job.inputs }) c.in-Ok.ensures.job line source inputs e h).0, means (g.F.Files.content c.args.files.now) c.args.words.now (record { script = c.in-Ok.job.script; inputs = c.in-Ok.job.inputs }) c.in-Ok.ensures.job (Answered.fault c.in-Err-Fault.fault) refused line source inputs e h)
 
 pub returns-in-Err-TooMany-clause-too_many : goal.returns-in-Err-TooMany-clause-too_many
 returns-in-Err-TooMany-clause-too_many g c =
@@ -55,7 +57,7 @@ pub returns-in-Err-TooMany-clause-complete : goal.returns-in-Err-TooMany-clause-
 returns-in-Err-TooMany-clause-complete g c =
     let refused = rw c.in-Err-TooMany.field-0-is at c.in-Err-TooMany.ensures.refused in
     λ no_read_fault no_write_fault line source inputs e h.
-        ((found (g.F.Files.content c.args.files.now) c.args.words.now (record { script = c.in-Ok.job.script; inputs = c.in-Ok.job.inputs }) c.in-Ok.ensures.job line source inputs e h).0, makes (g.F.Files.content c.args.files.now) c.args.words.now (record { script = c.in-Ok.job.script; inputs = c.in-Ok.job.inputs }) c.in-Ok.ensures.job 65537 refused.1 line source inputs e h)
+    ((found (g.F.Files.content c.args.files.now) c.args.words.now (record { script = c.in-Ok.job.script; inputs = c.in-Ok.job.inputs }) c.in-Ok.ensures.job line source inputs e h).0, makes (g.F.Files.content c.args.files.now) c.args.words.now (record { script = c.in-Ok.job.script; inputs = c.in-Ok.job.inputs }) c.in-Ok.ensures.job 65537 refused.1 line source inputs e h)
 
 pub returns-in-Err-TooDeep-clause-too_deep : goal.returns-in-Err-TooDeep-clause-too_deep
 returns-in-Err-TooDeep-clause-too_deep g c =
@@ -66,4 +68,8 @@ pub returns-in-Err-TooDeep-clause-complete : goal.returns-in-Err-TooDeep-clause-
 returns-in-Err-TooDeep-clause-complete g c =
     let refused = rw c.in-Err-TooDeep.field-0-is at c.in-Err-TooDeep.ensures.refused in
     λ no_read_fault no_write_fault line source inputs e h.
-        ((found (g.F.Files.content c.args.files.now) c.args.words.now (record { script = c.in-Ok.job.script; inputs = c.in-Ok.job.inputs }) c.in-Ok.ensures.job line source inputs e h).0, chain (g.F.Files.content c.args.files.now) c.args.words.now (record { script = c.in-Ok.job.script; inputs = c.in-Ok.job.inputs }) c.in-Ok.ensures.job 4096 refused.1 line source inputs e h)
+    ((found (g.F.Files.content c.args.files.now) c.args.words.now (record { script = c.in-Ok.job.script; inputs = c.in-Ok.job.inputs }) c.in-Ok.ensures.job line source inputs e h).0, chain (g.F.Files.content c.args.files.now) c.args.words.now (record { script = c.in-Ok.job.script; inputs = c.in-Ok.job.inputs }) c.in-Ok.ensures.job 4096 refused.1 line source inputs e h)
+
+pub returns-clause-asked : goal.returns-clause-asked
+returns-clause-asked g c =
+    part_whole (g.F.Files.asked c.args.files.now) (g.F.Files.asked c.load.new.files) (paths (line_of c.args.words.now)) c.in-Ok.ensures.asked
