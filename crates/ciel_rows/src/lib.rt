@@ -5,6 +5,8 @@
 #[cfg(test)]
 mod executors;
 #[cfg(test)]
+mod inputs;
+#[cfg(test)]
 mod large;
 #[cfg(test)]
 mod memory;

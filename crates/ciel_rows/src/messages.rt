@@ -59,12 +59,6 @@ fn messages_of_places(rt: HostRuntime) -> Result<(), Fail> {
         alloc,
         faulty(FaultKind::TooDeep, 0, 0),
         "ciel: fault TooDeep 0:0\n",
-    )?;
-    says(
-        &rt,
-        alloc,
-        Why::NotBuilt { line: 1, col: 8 },
-        "ciel: not built 1:8\n",
     )
 }
 

@@ -108,6 +108,8 @@ fn words_that_are_no_line(rt: HostRuntime) -> Result<(), Fail> {
     ends_with(&rt, alloc, &[], 1)?;
     let two = [Txt::new(alloc, "s")?, Txt::new(alloc, "t")?];
     ends_with(&rt, alloc, &two, 1)?;
+    let two = [Txt::new(alloc, "s")?, Txt::new(alloc, "t=u")?];
+    ends_with(&rt, alloc, &two, 0)?;
     word_ends_with(&rt, alloc, "", 1)?;
     word_ends_with(&rt, alloc, "--help", 1)?;
     word_ends_with(&rt, alloc, "-s", 1)?;

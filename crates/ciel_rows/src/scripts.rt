@@ -190,20 +190,3 @@ fn no_scripts_are_refused(rt: HostRuntime) -> Result<(), Fail> {
     }
     Ok(())
 }
-
-#[test]
-fn some_words_are_not_built(rt: HostRuntime) -> Result<(), Fail> {
-    let rows = [
-        ("return ref(\"t\");", "ciel: not built 1:8\n"),
-        (
-            "return spawn_exec(\"cat\", {\"in\": ref(\"t\")}, 1)[0];",
-            "ciel: not built 1:8\n",
-        ),
-        ("x = 1;\n  exec ref", "ciel: not built 2:3\n"),
-        ("x = ; ref", "ciel: not built 1:7\n"),
-    ];
-    for (source, want) in rows {
-        tells(&rt, rt.alloc(), source.as_bytes(), 12, want)?;
-    }
-    Ok(())
-}
