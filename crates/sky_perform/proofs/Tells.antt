@@ -1,11 +1,10 @@
 -- Outputs that become known one after the other.
-use Rattle.std.proofs.Common.{◌≡◌, ◌≢◌, ◌≤◌, ◌<◌, ℕ, zero, suc, ◌+◌, List, [], ◌∷◌, length, Bool, true, false, Option, Some, None, Result, Ok, Err, slice_get, slice_index_or, ◌⊎◌, inl, inr, refl, sym, ap, subst, ◌∙◌, arith}
+use Rattle.std.proofs.Common.{◌≡◌, ◌≤◌, ◌<◌, ℕ, zero, suc, ◌+◌, List, [], ◌∷◌, length, Bool, true, false, Option, Some, Result, slice_get, slice_index_or, ◌⊎◌, inl, inr, refl, sym, ap, ◌∙◌, arith}
 use Rattle.sky_base.specs.Res.{Object}
 use Rattle.sky_base.specs.Val.{Val, out}
 use Rattle.sky_base.specs.declared.fault.Fault.{Fault}
-use Rattle.sky_law.specs.Tasks.{In, Apart}
+use Rattle.sky_law.specs.Tasks.{Apart}
 use Rattle.sky_rows.specs.Known.{with_object}
-use Rattle.sky_rows.specs.Number.{index_of}
 use Rattle.sky_rows.specs.Walk.{Row, Obj, object_at, is_known, is_held}
 use Rattle.sky_rows.proofs.Learn.{in_held}
 use Rattle.sky_rows.proofs.Numbers.{got_in, got_below, index_at}

@@ -1,5 +1,5 @@
 -- One more object under a number.
-use Rattle.std.proofs.Common.{◌≡◌, ◌≢◌, ◌≤◌, ◌<◌, ℕ, zero, suc, List, [], ◌∷◌, length, Bool, true, false, Option, Some, None, ◌⊎◌, inl, inr, refl, sym, ap, ◌∙◌, arith}
+use Rattle.std.proofs.Common.{◌≡◌, ◌≢◌, ◌≤◌, ◌<◌, ℕ, zero, suc, List, [], ◌∷◌, length, true, Option, Some, None, ◌⊎◌, inl, inr, refl, ap, arith}
 use Rattle.sky_rows.specs.Walk.{Obj, object_at, is_known}
 use Rattle.sky_rows.specs.Known.{with_object}
 

@@ -1,18 +1,14 @@
 -- A call that is open last, where data is JSON.
-use Rattle.std.proofs.Common.{◌≡◌, ◌≤◌, ◌<◌, ℕ, List, [], ◌∷◌, ◌++◌, length, true, Option, Some, None, Result, Ok, Err, slice_get, ◌⊎◌, inl, inr, refl, sym, ap, subst, ◌∙◌}
+use Rattle.std.proofs.Common.{◌≡◌, ◌≤◌, ◌<◌, ℕ, List, [], ◌∷◌, ◌++◌, length, true, Option, Some, None, Ok, Err, slice_get, ◌⊎◌, inl, inr, refl, sym, subst}
 use Rattle.sky_base.specs.Val.{Val, Vals, Pairs, null, truth, num, text, list, dict, fun, ref, no_vals, val, no_pairs, pair, call, out, input, known, refs, vals_refs, pairs_refs}
 use Rattle.sky_base.specs.KitView.{Gives}
 use Rattle.sky_base.specs.Op.{Answer}
 use Rattle.sky_base.specs.Tree.{nowhere, Script}
 use Rattle.sky_base.specs.Res.{bodies, Object}
-use Rattle.sky_base.specs.Eval.{World, body_at}
-use Rattle.sky_base.specs.ObjectView.{object_view}
-use Rattle.sky_base.specs.See.{Job, start_st, no_place, input_bytes}
+use Rattle.sky_base.specs.Eval.{body_at}
+use Rattle.sky_base.specs.See.{Job, start_st, input_bytes}
 use Rattle.sky_law.specs.Sound.{RefsOver, ValsOver, PairsOver, DescOver}
-use Rattle.sky_base.specs.declared.fault.FaultKind.{FaultKind}
-use Rattle.sky_base.specs.declared.fault.Fault.{Fault}
 use Rattle.sky_law.specs.Tasks.{In, Apart}
-use Rattle.sky_base.specs.declared.object.Object as code
 use Rattle.ciel_json.specs.Around.{json_around}
 use Rattle.sky_rows.specs.Data.{data_of}
 use Rattle.ciel_json.specs.Text.{text_of}
@@ -23,11 +19,11 @@ use Rattle.sky_rows.specs.Known.{with_object}
 use Rattle.sky_plain.specs.Needs.{MakesMany}
 use Rattle.sky_rows.specs.Number.{numbered}
 use Rattle.sky_body.specs.Ran.{Begins}
-use Rattle.sky_plain.specs.Stand.{Below, Fits, Puts, ReadFits, Opens, Standing}
+use Rattle.sky_plain.specs.Stand.{Below, Fits, ReadFits, Opens, Standing}
 use Rattle.sky_body.specs.Stops.{Runs, EndsAs, WaitsFor, IsFull}
 use Rattle.sky_plain.specs.Stage.{AllKnown}
 use Rattle.sky_perform.specs.Perform.{made}
-use Rattle.sky_perform.specs.Outputs.{Keeps, InRoom, OnlyOutputs, KnownOutputs}
+use Rattle.sky_perform.specs.Outputs.{OnlyOutputs, KnownOutputs}
 use Rattle.sky_plain.proofs.Counts.{puts_with}
 use Rattle.sky_plain.proofs.Full.{WaitsAt, walk_waits}
 use Rattle.sky_rows.proofs.Numbers.{numbers_hold, got_in}

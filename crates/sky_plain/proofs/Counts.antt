@@ -1,5 +1,5 @@
 -- How many objects are known, as more become known.
-use Rattle.std.proofs.Common.{◌≡◌, ◌≢◌, ◌≤◌, ◌<◌, ℕ, zero, suc, ◌+◌, ◌-◌, ◌*◌, max, List, [], ◌∷◌, length, Bool, true, false, Option, Some, None, refl, sym, ap, ◌∙◌, arith}
+use Rattle.std.proofs.Common.{◌≡◌, ◌≤◌, ◌<◌, ℕ, zero, suc, List, [], ◌∷◌, length, true, false, Option, Some, None, refl, arith}
 use Rattle.sky_rows.specs.Walk.{Obj, object_at, is_known}
 use Rattle.sky_rows.specs.Known.{with_object}
 use Rattle.sky_perform.proofs.Withs.{with_here, with_there}

@@ -1,5 +1,5 @@
 -- The first input of a name.
-use Rattle.std.proofs.Common.{◌≡◌, ◌≤◌, ◌<◌, ℕ, zero, suc, ◌+◌, List, [], ◌∷◌, length, map, drop, Bool, true, false, slice_index_or, refl, sym, ap, ◌∙◌, arith}
+use Rattle.std.proofs.Common.{◌≡◌, ◌≤◌, ◌<◌, ℕ, zero, suc, ◌+◌, List, [], ◌∷◌, length, drop, true, false, slice_index_or, refl, sym, ap, ◌∙◌, arith}
 use Rattle.sky_base.specs.Val.{same_text}
 use Rattle.sky_base.specs.See.{input_bytes, input_bytes_if}
 

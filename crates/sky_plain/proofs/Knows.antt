@@ -1,5 +1,5 @@
 -- What a sequential run learns is what the meaning sees.
-use Rattle.std.proofs.Common.{◌≡◌, ◌≤◌, ◌<◌, ℕ, suc, ◌+◌, List, ◌++◌, length, Bool, true, false, Option, Some, None, slice_get, nat_eq, ◌⊎◌, inl, inr, refl, sym, ap, subst, ◌∙◌, arith, eqb-true, eq-eqb}
+use Rattle.std.proofs.Common.{◌≡◌, ◌≤◌, ◌<◌, ℕ, suc, ◌+◌, List, ◌++◌, length, Option, Some, None, slice_get, ◌⊎◌, inl, inr, refl, sym, ap, subst, ◌∙◌, arith}
 use Rattle.std.proofs.lemmas.List.{append_assoc, length-append}
 use Rattle.sky_base.specs.Val.{Vals, Pairs, call, out, input, known}
 use Rattle.sky_base.specs.Name.{low_vals, low_pairs, low_desc}

@@ -1,6 +1,6 @@
 -- What isn't known of a value's references.
-use Rattle.std.proofs.Common.{◌≡◌, ◌≤◌, ◌<◌, ℕ, zero, suc, ◌+◌, List, [], ◌∷◌, ◌++◌, length, drop, Bool, true, false, Option, Some, None, Result, Ok, Err, slice_index_or, ◌⊎◌, inl, inr, refl, sym, ap, ap₂, subst, ◌∙◌, arith}
-use Rattle.sky_base.specs.Val.{Val, Desc, known, refs, vals_refs, pairs_refs, distinct, same_text}
+use Rattle.std.proofs.Common.{◌≡◌, ◌≤◌, ◌<◌, ℕ, zero, suc, ◌+◌, List, [], ◌∷◌, length, Option, Some, slice_index_or, inl, inr, refl, sym, subst, arith}
+use Rattle.sky_base.specs.Val.{known, distinct, same_text}
 use Rattle.sky_base.specs.Names as names
 use Rattle.sky_base.specs.Res.{Object}
 use Rattle.sky_law.specs.Tasks.{In}

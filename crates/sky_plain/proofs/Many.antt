@@ -1,12 +1,10 @@
 -- Where no more descriptions can be held, a job makes that many and one more.
-use Rattle.std.proofs.Common.{◌≡◌, ◌≤◌, ℕ, suc, List, [], ◌∷◌, length, map, Bool, true, false, ◌||◌, None, inl, inr, nat_lt, refl, sym, ap, ap₂, subst, ◌∙◌, arith, ltb-false}
+use Rattle.std.proofs.Common.{◌≡◌, ◌≤◌, ℕ, suc, List, [], ◌∷◌, length, map, None, inl, inr, refl, sym, ap, ap₂, subst, ◌∙◌, arith}
 use Rattle.std.proofs.lemmas.List.{append-nil}
-use Rattle.sky_base.specs.Val.{same_text, same_desc, stands_in}
 use Rattle.sky_base.specs.Name.{low_desc}
 use Rattle.sky_base.specs.See.{Desc, Job, Around}
 use Rattle.sky_law.specs.Tasks.{In, Each, Apart}
-use Rattle.sky_base.proofs.Exact.{self_text, self_desc}
-use Rattle.sky_rows.specs.Walk.{Row, is_held, in_room, if_new, learn_to, most_rows}
+use Rattle.sky_rows.specs.Walk.{Row, learn_to, most_rows}
 use Rattle.sky_rows.specs.Number.{tag_of, Grown}
 use Rattle.sky_plain.specs.Needs.{Makes, MakesMany}
 use Rattle.sky_plain.specs.Stand.{spell, Made}

@@ -1,5 +1,5 @@
 -- The open work: what stays true of it, and that it comes to an end.
-use Rattle.std.proofs.Common.{◌≡◌, ◌≤◌, ◌<◌, ℕ, zero, suc, ◌+◌, ◌-◌, ◌*◌, List, [], ◌∷◌, ◌++◌, length, Bool, true, false, Option, Some, None, slice_get, ◌⊎◌, inl, inr, refl, sym, ap, subst, ◌∙◌, arith}
+use Rattle.std.proofs.Common.{◌≡◌, ◌≤◌, ◌<◌, ℕ, suc, ◌+◌, ◌-◌, ◌*◌, List, [], ◌∷◌, ◌++◌, length, Bool, true, false, Option, Some, None, slice_get, ◌⊎◌, inl, inr, refl, sym, ap, subst, ◌∙◌, arith}
 use Rattle.std.proofs.lemmas.List.{append_assoc, append-nil}
 use Rattle.sky_base.specs.See.{Desc, Job, Around}
 use Rattle.sky_law.specs.Tasks.{Apart}
@@ -7,14 +7,14 @@ use Rattle.sky_base.specs.Val.{call, out}
 use Rattle.sky_rows.specs.Walk.{Obj}
 use Rattle.sky_rows.specs.Walk.{Row, object_at, is_known, most_rows}
 use Rattle.sky_rows.specs.Known.{with_object}
-use Rattle.sky_plain.specs.Needs.{Chain, MakesMany}
+use Rattle.sky_plain.specs.Needs.{Chain}
 use Rattle.sky_body.specs.Ran.{Begins}
 use Rattle.sky_plain.specs.Stand.{Opened, Opens, Standing}
 use Rattle.sky_rows.proofs.Learn.{most_is}
 use Rattle.sky_rows.proofs.Numbers.{got_below, got_in, got_more}
 use Rattle.sky_plain.proofs.Chains.{opened_at}
 use Rattle.sky_plain.proofs.Many.{itself}
-use Rattle.sky_plain.specs.Settle.{ArgsKept, CallsKept, count, height, rank, most_open, Stays, Bottom, Open}
+use Rattle.sky_plain.specs.Settle.{ArgsKept, CallsKept, count, height, rank, most_open, Stays, Open}
 use Rattle.sky_perform.specs.Outputs.{Keeps}
 use Rattle.sky_perform.proofs.Withs.{nat_same, length_with, with_here, with_there, known_some}
 use Rattle.sky_plain.proofs.Counts.{count_most, count_less}

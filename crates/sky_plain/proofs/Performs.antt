@@ -19,7 +19,7 @@ use Rattle.sky_rows.specs.Walk.{Row, known_of, number_of, object_at}
 use Rattle.sky_rows.specs.Number.{tag_of, Grown}
 use Rattle.sky_plain.specs.Stand.{spell, Sees, Knows, Puts, Opened, Opens}
 use Rattle.sky_plain.specs.Stage.{AllKnown}
-use Rattle.sky_perform.specs.Perform.{bytes_of, bytes_seen, one_more, collect, all_bytes, in_slot, output_at, output_of, without_place, made_of, made}
+use Rattle.sky_perform.specs.Perform.{bytes_of, bytes_seen, one_more, all_bytes, in_slot, output_at, output_of, without_place, made_of, made}
 use Rattle.sky_perform.specs.Outputs.{OnlyOutputs}
 use Rattle.sky_plain.proofs.Knows.{SeenNext, SeenAt, learns, learns_one}
 use Rattle.sky_plain.proofs.Chains.{held_ref, opened_at}

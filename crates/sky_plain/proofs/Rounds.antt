@@ -1,34 +1,31 @@
 -- From wave to wave, where data is JSON: each value keeps the limits, and all that it refers to becomes known.
-use Rattle.std.proofs.Common.{◌≡◌, ◌≢◌, ◌≤◌, ◌<◌, ℕ, zero, suc, ◌+◌, ◌-◌, List, [], ◌∷◌, ◌++◌, length, Bool, true, false, nat_lt, Option, Some, None, Result, Ok, Err, slice_get, ltb-false, refl, sym, ap, subst, ◌∙◌, arith}
+use Rattle.std.proofs.Common.{◌≡◌, ◌≢◌, ◌≤◌, ◌<◌, ℕ, suc, ◌+◌, ◌-◌, List, [], ◌∷◌, length, Bool, true, false, nat_lt, Option, Some, None, Result, Ok, Err, ltb-false, refl, sym, ap, subst, ◌∙◌, arith}
 use Rattle.std.proofs.lemmas.List.{length-append}
 use Rattle.std.specs.Str.{is_utf8}
-use Rattle.sky_base.specs.Val.{Val, Vals, Pairs, null, truth, num, text, list, dict, fun, ref, no_vals, val, no_pairs, pair, call, out, input, known, refs, vals_refs, pairs_refs, depth, size}
+use Rattle.sky_base.specs.Val.{Val, Vals, Pairs, null, truth, num, text, list, dict, fun, ref, no_vals, val, no_pairs, pair, call, out, input, known, refs, depth, size}
 use Rattle.sky_base.specs.KitView.{Gives}
-use Rattle.sky_base.specs.Kept.{Kept}
 use Rattle.sky_base.specs.Op.{Answer}
 use Rattle.sky_base.specs.Eval.{find_fun, is_one_of}
 use Rattle.sky_base.specs.Tree.{FunDef, Script}
 use Rattle.sky_base.specs.Res.{Object}
-use Rattle.sky_base.specs.See.{Job, Around, Answered, Means, slot}
+use Rattle.sky_base.specs.See.{Job, Answered, Means, slot}
 use Rattle.sky_law.specs.Sound.{RefsOver, ValsOver, PairsOver, SoundOver, AllUsed, TakesIf}
 use Rattle.sky_base.specs.declared.fault.Fault.{Fault}
-use Rattle.sky_law.specs.Tasks.{In, Apart}
+use Rattle.sky_law.specs.Tasks.{Apart}
 use Rattle.ciel_json.specs.Around.{json_around}
 use Rattle.ciel_json.proofs.LowLaw.{reads_named, text_named}
 use Rattle.sky_rows.specs.Data.{data_of}
 use Rattle.sky_rows.specs.Walk.{Obj}
-use Rattle.sky_rows.specs.Walk.{Row, known_of, number_of, object_at, is_known, most_rows, learn_to}
+use Rattle.sky_rows.specs.Walk.{Row, known_of, number_of, object_at, most_rows, learn_to}
 use Rattle.sky_waves.specs.Wave.{Turned, text_if, data_or_text, value_of, value_seen, on_list, on_dict, on_fun, on_val, on_pair, fill, fill_vals, fill_pairs, next_if, next_of, lone, turn_all, turn_refs, turn_at, last_at}
-use Rattle.sky_waves.specs.WaveView.{TurnsSo, EndsSo}
 use Rattle.sky_body.specs.Ran.{Begins}
-use Rattle.sky_plain.specs.Stand.{Below, Fits, ReadFits, Opens, Standing}
+use Rattle.sky_plain.specs.Stand.{Below, Fits, ReadFits, Standing}
 use Rattle.sky_plain.specs.Stage.{Stage, AllKnown}
-use Rattle.sky_plain.specs.Settle.{count, Stays}
 use Rattle.sky_plain.specs.Whole.{OpensAll}
 use Rattle.sky_plain.proofs.Fits.{refs_over, sound_over}
 use Rattle.sky_plain.proofs.Many.{itself}
 use Rattle.sky_rows.proofs.Learn.{full_means}
-use Rattle.sky_plain.proofs.Stages.{stage_more, stage_next, stage_end, stage_last, opens_first}
+use Rattle.sky_plain.proofs.Stages.{stage_next, stage_end, stage_last, opens_first}
 use Rattle.sky_plain.proofs.Steps.{opens_grow}
 use Rattle.sky_plain.proofs.Called.{Writes, read_fits, in_val}
 

@@ -1,5 +1,5 @@
 -- What stands of a sequential run, step by step.
-use Rattle.std.proofs.Common.{◌≡◌, ◌≤◌, ◌<◌, ℕ, zero, suc, ◌+◌, List, [], ◌∷◌, ◌++◌, length, Bool, true, false, Option, Some, None, Result, Ok, Err, slice_get, ◌⊎◌, inl, inr, refl, sym, ap, subst, ◌∙◌, arith}
+use Rattle.std.proofs.Common.{◌≡◌, ◌≤◌, ◌<◌, ℕ, zero, suc, ◌+◌, List, [], ◌∷◌, ◌++◌, length, Option, Some, None, Result, Ok, Err, slice_get, ◌⊎◌, inl, inr, refl, sym, ap, subst, ◌∙◌, arith}
 use Rattle.std.proofs.lemmas.List.{length-append}
 use Rattle.sky_base.specs.Val as v
 use Rattle.sky_base.specs.Val.{Vals, Pairs, list, no_vals, no_pairs, call, out, input, known, ref, refs}
@@ -15,10 +15,9 @@ use Rattle.sky_plain.specs.Needs.{Makes, MakesMany, Chain}
 use Rattle.sky_plain.specs.Stand.{spell, Puts, ReadFits, RowFits, ObjectFits, Fits, Knows, Opened, Opens, Made, Standing}
 use Rattle.sky_body.specs.Stops.{Runs, EndsAs, WaitsFor, IsFull}
 use Rattle.sky_plain.specs.Stage.{AllKnown}
-use Rattle.sky_perform.specs.Perform.{all_bytes, slots, output_at, output_of, without_place, made_of, made}
+use Rattle.sky_perform.specs.Perform.{output_at, output_of, made}
 use Rattle.sky_perform.specs.Outputs.{OnlyOutputs}
 use Rattle.sky_perform.proofs.Withs.{nat_same}
-use Rattle.sky_base.specs.declared.fault.FaultKind.{FaultKind}
 use Rattle.sky_base.specs.declared.fault.Fault.{Fault}
 use Rattle.sky_rows.proofs.Numbers.{got_in, got_more}
 use Rattle.sky_plain.proofs.Knows.{learns_call, grown_back}

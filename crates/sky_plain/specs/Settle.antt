@@ -1,8 +1,6 @@
 -- What the code answers that brings descriptions to their objects.
-use Rattle.std.specs.Prelude.{◌≡◌, ℕ, zero, suc, ◌+◌, ◌-◌, ◌*◌, ◌<◌, ◌≤◌, List, [], ◌∷◌, ◌++◌, length, Bool, true, false, Option, Some, None, slice_get}
-use Rattle.sky_base.specs.KitView.{Gives}
+use Rattle.std.specs.Prelude.{◌≡◌, ℕ, suc, ◌+◌, ◌-◌, ◌*◌, ◌<◌, ◌≤◌, List, [], ◌∷◌, length, Bool, true, false, Option, Some, None, slice_get}
 use Rattle.sky_base.specs.See.{Desc, Job, Around}
-use Rattle.sky_law.specs.Tasks.{In}
 use Rattle.sky_base.specs.Kept.{Kept}
 use Rattle.sky_base.specs.Val.{Val, list, dict, call, out}
 use Rattle.sky_scope.specs.Plain.{Pairs, Vals}
@@ -54,6 +52,11 @@ module _ (job : Job) (around : Around) where
   Stepped ks k rows before objects (Step.Waits j) =
       Standing job around rows objects × (objects ≡ before) × (j < length rows) × (object_at objects j ≡ None) × Opens job around rows (j ∷ k ∷ ks)
   Stepped ks k rows before objects Step.Full = MakesMany job around 65537
+
+  -- a step from what stands, with k open last, whatever is open before it
+  abbrev pub Steps : ℕ → List Row → List Row → List (Option Obj) → List (Option Obj) → Step → Type 0
+  Steps k rows after before objects s =
+      (ks : List ℕ) → Standing job around rows before → Opens job around rows (k ∷ ks) → Stepped ks k after before objects s
 
 -- the last of these is the first that was opened
 abbrev pub Bottom : ℕ → List ℕ → Type 0

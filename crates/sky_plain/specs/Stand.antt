@@ -1,19 +1,18 @@
 -- What a sequential run knows of a job: of each description whose object it holds, the object that the meaning sees.
 use Rattle.std.specs.Prelude.{◌≡◌, ◌≢◌, ◌<◌, ℕ, List, [], ◌∷◌, length, Option, Some, Ok, Err, slice_get}
-use Rattle.sky_base.specs.Val.{Vals, Pairs, no_vals, no_pairs, call, null, known}
-use Rattle.sky_base.specs.Tree.{nowhere, Script}
+use Rattle.sky_base.specs.Val.{no_vals, no_pairs, call}
+use Rattle.sky_base.specs.Tree.{Script}
 use Rattle.sky_base.specs.Op.{Answer}
-use Rattle.sky_base.specs.Res.{bodies, Object, End}
-use Rattle.sky_base.specs.Eval.{World, body_at}
+use Rattle.sky_base.specs.Res.{Object}
 use Rattle.sky_law.specs.Lower.{low_ref, low_obj}
-use Rattle.sky_base.specs.See.{Desc, Obj, Job, Around, see, start_st}
+use Rattle.sky_base.specs.See.{Desc, Obj, Job, Around, see}
 use Rattle.sky_law.specs.Sound.{DescOver, SoundOver}
 use Rattle.sky_law.specs.Tasks.{In}
 use Rattle.sky_base.specs.Name.{low_desc}
 use Rattle.sky_base.specs.Needed.{Task, task_of}
 use Rattle.sky_body.specs.Stops.{end_object}
 use Rattle.sky_plain.specs.Needs.{Waits, Makes}
-use Rattle.sky_rows.specs.Walk.{Row, Stop, walk, stops, known_of, object_at, number_of, Numbers}
+use Rattle.sky_rows.specs.Walk.{Row, Stop, known_of, object_at, number_of}
 use Rattle.sky_rows.specs.Number.{tag_of, Grown}
 
 -- no name stands inside a described value, so nothing needs spelling

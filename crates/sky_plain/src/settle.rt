@@ -8,7 +8,7 @@ ghost use Rattle.sky_base.specs.See.{input_bytes};
 ghost use Rattle.ciel_json.specs.Around.{json_around};
 ghost use Rattle.sky_plain.specs.Stand.{Opens, Standing};
 ghost use Rattle.sky_body.specs.Ran.{Begins};
-ghost use Rattle.sky_plain.specs.Settle.{ArgsKept, CallsKept, Stepped, SettledSo};
+ghost use Rattle.sky_plain.specs.Settle.{ArgsKept, CallsKept, Steps, SettledSo};
 ghost use Rattle.sky_base.specs.Kept.{Kept};
 ghost use Rattle.sky_base.specs.Val.{list, dict, call, out, input, known, refs};
 ghost use Rattle.sky_base.specs.View.{view};
@@ -60,7 +60,7 @@ fn called<K: Kit>(
     requires kept { Kept (list args.now) }
     requires kept_caught { Kept (dict caught.now) }
     ensures grows { IfOk result (λ _. Begins rows.old rows.new) }
-    ensures step { IfOk result (λ s. (ks : List _) → Standing (job_view job.now) (json_around (K.gives kit.now)) rows.old objects.old → Opens (job_view job.now) (json_around (K.gives kit.now)) rows.old (number ∷ ks) → Stepped (job_view job.now) (json_around (K.gives kit.now)) ks number rows.new objects.old objects.new s) }
+    ensures step { IfOk result (Steps (job_view job.now) (json_around (K.gives kit.now)) number rows.old rows.new objects.old objects.new) }
 {
     let ran = run_call(alloc, program, rows, objects, fun, caught, args)?;
     let _held = rows.len();
@@ -102,7 +102,7 @@ fn executed<K: Kit>(
     outputs: u32,
 ) -> Result<Step, Memory>
     requires kept { Kept (view args.now) }
-    ensures step { IfOk result (λ s. (ks : List _) (i : _) → slice_get rows.now number ≡ Some (out executor.now (view args.now) outputs i) → Standing (job_view job.now) (json_around (K.gives kit.now)) rows.now objects.old → Opens (job_view job.now) (json_around (K.gives kit.now)) rows.now (number ∷ ks) → Stepped (job_view job.now) (json_around (K.gives kit.now)) ks number rows.now objects.old objects.new s) }
+    ensures step { IfOk result (λ s. (i : _) → slice_get rows.now number ≡ Some (out executor.now (view args.now) outputs i) → Steps (job_view job.now) (json_around (K.gives kit.now)) number rows.now rows.now objects.old objects.new s) }
 {
     let _held = rows.len();
     if let Some(name) = unknown(alloc, args, objects)? {
@@ -141,7 +141,7 @@ fn advance<K: Kit>(
     requires kept { CallsKept rows.old }
     requires kept_args { ArgsKept rows.old }
     ensures grows { IfOk result (λ _. Begins rows.old rows.new) }
-    ensures step { IfOk result (λ s. (ks : List _) → Standing (job_view job.now) (json_around (K.gives kit.now)) rows.old objects.old → Opens (job_view job.now) (json_around (K.gives kit.now)) rows.old (number ∷ ks) → Stepped (job_view job.now) (json_around (K.gives kit.now)) ks number rows.new objects.old objects.new s) }
+    ensures step { IfOk result (Steps (job_view job.now) (json_around (K.gives kit.now)) number rows.old rows.new objects.old objects.new) }
 {
     let desc = rows.desc(number).copy()?;
     match desc {
@@ -171,7 +171,7 @@ fn given<K: Kit>(
     key: &Txt,
 ) -> Result<Step, Memory>
     requires at { slice_get rows.now number ≡ Some (input key.now) }
-    ensures step { IfOk result (λ s. (ks : List _) → Standing (job_view job.now) (json_around (K.gives _kit.now)) rows.now objects.old → Opens (job_view job.now) (json_around (K.gives _kit.now)) rows.now (number ∷ ks) → Stepped (job_view job.now) (json_around (K.gives _kit.now)) ks number rows.now objects.old objects.new s) }
+    ensures step { IfOk result (Steps (job_view job.now) (json_around (K.gives _kit.now)) number rows.now rows.now objects.old objects.new) }
 {
     let _held = rows.len();
     let bytes = input(alloc, &job.inputs, key)?;

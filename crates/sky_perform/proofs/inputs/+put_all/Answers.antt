@@ -1,6 +1,6 @@
-use Rattle.std.proofs.Common.{◌≡◌, List, ℕ, Some, None, Ok, Err, drop, sym, ap, subst, ◌∙◌, arith}
-use Rattle.sky_base.specs.Val.{refs, vals_refs, pairs_refs}
-use Rattle.sky_base.specs.View.{view, vals_of, pairs_of}
+use Rattle.std.proofs.Common.{List, ℕ, subst, ◌∙◌, arith}
+use Rattle.sky_base.specs.Val.{refs}
+use Rattle.sky_base.specs.View.{view}
 use Rattle.ciel_json.specs.Text.{text_of as writes}
 use Rattle.sky_base.proofs.Values.{value_inside, pair_inside}
 use Rattle.sky_rows.specs.Walk.{known_of}

@@ -1,5 +1,5 @@
 use Rattle.std.proofs.Common.{◌≡◌, drop}
-use Rattle.sky_base.specs.Val.{refs, vals_refs, pairs_refs, val_nodes, vals_nodes, pairs_nodes}
+use Rattle.sky_base.specs.Val.{vals_refs, pairs_refs, val_nodes, vals_nodes, pairs_nodes}
 use Rattle.sky_base.specs.View.{view, vals_of, pairs_of}
 use Rattle.ciel_json.specs.Text.{text_of as writes}
 use Rattle.sky_rows.specs.Walk.{known_of}

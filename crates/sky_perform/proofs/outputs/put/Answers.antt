@@ -1,4 +1,4 @@
-use Rattle.std.proofs.Common.{◌≡◌, ◌≤◌, ℕ, Some, false, slice_get, length, sym, subst}
+use Rattle.std.proofs.Common.{◌≡◌, Some, false, slice_get, sym, subst}
 use Rattle.std.specs.Option.{MatchOption}
 use Rattle.sky_base.specs.ObjectView.{desc_view, object_view}
 use Rattle.sky_rows.specs.Walk.{is_held}

@@ -1,6 +1,6 @@
-use Rattle.std.proofs.Common.{◌≡◌, ◌+◌, ◌<◌, ◌^◌, List, ℕ, length, drop, sym, ap, ap₂, subst, ◌∙◌, arith}
+use Rattle.std.proofs.Common.{◌≡◌, ◌+◌, drop, sym, ap, ap₂, subst, ◌∙◌, arith}
 use Rattle.sky_base.specs.Op.{join, put}
-use Rattle.sky_base.specs.Val.{add_val, refs, vals_refs, pairs_refs}
+use Rattle.sky_base.specs.Val.{add_val}
 use Rattle.sky_base.specs.See.{replaced, vals_replaced, pairs_replaced}
 use Rattle.sky_base.specs.View.{view, vals_of, pairs_of}
 use Rattle.sky_base.proofs.Values.{value_inside, pair_inside}

@@ -1,4 +1,4 @@
-use Rattle.std.proofs.Common.{◌≡◌, List, [], ◌∷◌, Some, None, sym, subst}
+use Rattle.std.proofs.Common.{◌≡◌, [], ◌∷◌, Some, sym, subst}
 use Rattle.std.specs.Option.{IfSome}
 use Rattle.sky_base.specs.JobView.{job_view}
 use Rattle.sky_base.specs.Val.{call, no_pairs, no_vals}

@@ -1,6 +1,6 @@
-use Rattle.std.proofs.Common.{◌≡◌, ◌≤◌, ◌<◌, ◌+◌, ◌-◌, ℕ, List, [], ◌∷◌, length, Some, refl, sym, ap, subst, ◌∙◌, arith}
+use Rattle.std.proofs.Common.{◌≤◌, ◌-◌, [], length, sym, subst, arith}
 use Rattle.sky_base.specs.JobView.{job_view}
-use Rattle.sky_base.specs.See.{Job, Around, Answered, slot}
+use Rattle.sky_base.specs.See.{Job, Around, Answered}
 use Rattle.sky_law.specs.Sound.{SoundOver}
 use Rattle.sky_base.specs.Val.{call, known, no_pairs, no_vals, ref, refs}
 use Rattle.sky_base.specs.View.{view}

@@ -1,4 +1,4 @@
-use Rattle.std.proofs.Common.{◌≡◌, List, ℕ, Result, Ok, Err, Some, IfOk, sym, ap, ◌∙◌}
+use Rattle.std.proofs.Common.{Result, Ok, Err, Some, IfOk, sym, ap, ◌∙◌}
 use Rattle.sky_base.specs.ObjectView.{desc_view}
 use Rattle.sky_plain.proofs.settle.advance.Goals as goal
 
@@ -8,4 +8,4 @@ if_ok (Err e) P Q f h = tt
 
 pub returns-in-Exec-clause-step : goal.returns-in-Exec-clause-step
 returns-in-Exec-clause-step g c =
-    if_ok c.executed.result _ _ (λ s h ks standing opens. h ks c.in-Exec.index (c.desc.ensures ∙ ap (λ d. Some (desc_view d)) (sym c.in_ok-desc.ensures ∙ c.in-Exec.is)) standing opens) c.executed.ensures.step
+    if_ok c.executed.result _ _ (λ s h. h c.in-Exec.index (c.desc.ensures ∙ ap (λ d. Some (desc_view d)) (sym c.in_ok-desc.ensures ∙ c.in-Exec.is))) c.executed.ensures.step

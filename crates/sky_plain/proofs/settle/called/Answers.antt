@@ -1,10 +1,9 @@
-use Rattle.std.proofs.Common.{◌≡◌, ◌≤◌, ◌<◌, List, ℕ, ◌∷◌, length, refl, sym, ap, subst, ◌∙◌, arith}
+use Rattle.std.proofs.Common.{◌≡◌, ◌≤◌, ◌<◌, ◌∷◌, length, refl, sym, ap, subst, ◌∙◌, arith}
 use Rattle.sky_base.specs.ObjectView.{object_view}
 use Rattle.sky_base.specs.JobView.{job_view}
 use Rattle.ciel_json.specs.Around.{json_around}
 use Rattle.sky_rows.specs.Data.{data_of}
-use Rattle.sky_rows.specs.Walk.{number_of, object_at, most_rows}
-use Rattle.sky_rows.specs.Known.{with_object}
+use Rattle.sky_rows.specs.Walk.{number_of, object_at}
 use Rattle.sky_plain.specs.Stand.{Opens, Standing}
 use Rattle.sky_body.specs.Ran.{RanSo}
 use Rattle.sky_body.specs.declared.run.Ran.{Ran}

@@ -1,4 +1,4 @@
-use Rattle.std.proofs.Common.{◌≡◌, ◌≤◌, ◌<◌, List, ℕ, ◌∷◌, length, Some, None, refl, sym, ap, subst, ◌∙◌, arith}
+use Rattle.std.proofs.Common.{◌≡◌, ◌≤◌, ◌<◌, ◌∷◌, length, None, refl, sym, ap, subst, ◌∙◌, arith}
 use Rattle.std.specs.Option.{MatchOption}
 use Rattle.sky_base.specs.Val.{known, refs}
 use Rattle.sky_base.specs.View.{view}
@@ -7,7 +7,7 @@ use Rattle.sky_law.specs.Tasks.{In}
 use Rattle.ciel_json.specs.Around.{json_around}
 use Rattle.sky_rows.specs.Walk.{known_of, number_of, object_at}
 use Rattle.sky_plain.specs.Stage.{AllKnown}
-use Rattle.sky_plain.specs.Stand.{Opens, Standing}
+use Rattle.sky_plain.specs.Stand.{Opens}
 use Rattle.sky_rows.proofs.Learn.{most_is}
 use Rattle.sky_perform.specs.Outputs.{OnlyOutputs}
 use Rattle.sky_plain.proofs.Called.{executed_waits, executed_known, executed_here}
@@ -17,7 +17,7 @@ use Rattle.sky_plain.proofs.settle.executed.Goals as goal
 pub returns-in-Some : goal.returns-in-Some
 returns-in-Some g c =
     record {
-      step = λ ks i at standing opens.
+      step = λ i at ks standing opens.
           let found = subst (λ o. MatchOption o (AllKnown c.args.objects.now (refs (view c.args.args.now))) (λ m. In (known m) (refs (view c.args.args.now)) × (known_of c.args.objects.now (known m) ≡ None))) c.in-Some.is c.in_ok-name.ensures in
           let w = executed_waits (job_view c.args.job.now) (g.K.Kit.gives c.args.kit.now) c.args.rows.now c.args.objects.now c.args.number standing c.args.executor.now (view c.args.args.now) c.args.outputs i at ks c.in-Some.name opens found.0 in
           let small : length c.args.rows.now ≤ 65536 = subst (λ m. length c.args.rows.now ≤ m) most_is c.len-held.ensures.room in
@@ -29,7 +29,7 @@ returns-in-Some g c =
 pub returns : goal.returns
 returns g c =
     record {
-      step = λ ks i at standing opens.
+      step = λ i at ks standing opens.
           let all = subst (λ o. MatchOption o (AllKnown c.args.objects.now (refs (view c.args.args.now))) (λ m. In (known m) (refs (view c.args.args.now)) × (known_of c.args.objects.now (known m) ≡ None))) c.in_default.is c.in_ok-name.ensures in
           let small : length c.args.rows.now ≤ 65536 = subst (λ m. length c.args.rows.now ≤ m) most_is c.len-held.ensures.room in
           let only = subst (λ r. OnlyOutputs c.args.rows.now c.args.executor.now (view c.args.args.now) c.args.outputs r c.args.outputs c.args.objects.now c.tell.new.objects) c.in_ok-made.ensures.made c.tell.ensures.only in (

@@ -1,4 +1,4 @@
-use Rattle.std.proofs.Common.{◌≡◌, List, ℕ, sym, ap, subst, ◌∙◌}
+use Rattle.std.proofs.Common.{◌≡◌, sym, ap, subst, ◌∙◌}
 use Rattle.sky_base.specs.Res.{Object}
 use Rattle.sky_base.specs.JobView.{job_view}
 use Rattle.sky_base.specs.See.{input_bytes}

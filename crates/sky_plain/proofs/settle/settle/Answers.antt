@@ -1,11 +1,9 @@
-use Rattle.std.proofs.Common.{◌≡◌, ◌≤◌, ◌<◌, List, ℕ, zero, suc, ◌∷◌, [], length, drop, Bool, true, false, refl, sym, ap, subst, ◌∙◌, arith}
+use Rattle.std.proofs.Common.{◌≡◌, ◌≤◌, ◌<◌, suc, ◌∷◌, length, drop, refl, sym, ap, subst, ◌∙◌, arith}
 use Rattle.sky_base.specs.JobView.{job_view}
 use Rattle.sky_base.specs.See.{Job, Around}
 use Rattle.ciel_json.specs.Around.{json_around}
-use Rattle.sky_rows.specs.Walk.{is_known, object_at}
-use Rattle.sky_plain.specs.Stand.{Standing}
 use Rattle.sky_plain.specs.Settle.{rank, Stepped, Open, Stays}
-use Rattle.sky_plain.proofs.OpenWork.{args_kept, calls_kept, begins_self, begins_over, stays_self, stays_over, pop_falls, known_falls, push_falls, open_popped, open_known, open_more, open_held, open_deep, most_open_is}
+use Rattle.sky_plain.proofs.OpenWork.{args_kept, calls_kept, begins_self, begins_over, stays_self, stays_over, known_falls, open_popped, open_known, open_more, open_held, open_deep, most_open_is}
 use Rattle.sky_plain.proofs.settle.settle.Goals as goal
 
 pub loop-top-init : goal.loop-top-init
