@@ -1,8 +1,8 @@
 -- Saved waits of one task: their numbers rise, so the last one has the greatest.
-use Rattle.std.proofs.Common.{◌≡◌, ℕ, ◌<◌, ◌-◌, List, [], ◌∷◌, ◌++◌, Bool, true, false, cond, filter, length, slice_get, refl, ap, sym, ◌∙◌, arith, Option, Some, None, MatchOption, Bor}
+use Rattle.std.proofs.Common.{◌≡◌, ℕ, ◌<◌, ◌-◌, List, [], ◌∷◌, ◌++◌, Bool, true, false, cond, filter, length, slice_get, refl, ap, sym, ◌∙◌, subst, arith, Option, Some, None, MatchOption, Bor, nat_lt}
 use Rattle.std.specs.List.{AllByRecursion}
 use Rattle.std.specs.Option.{option_copied}
-use Rattle.std.proofs.lemmas.Bool.{le-ltb}
+use Rattle.std.proofs.lemmas.Bool.{le-ltb, ltb-true, ltb-false}
 use Rattle.ciel_table.specs.Seen.{latest, later}
 use Rattle.ciel_table.specs.Sound.{Rising, IsAbove, WaitsSound, Here}
 use Rattle.ciel_table.specs.declared.wait.Wait.{Wait}
@@ -63,3 +63,39 @@ module _ {P : Type 0} where
         rising = rising_filter test ws s.rising;
         here = all_filter (λ (x : Wait P). Here gone (at x.place)) (λ (x : Wait P). Here after (at x.place)) test f ws s.here;
       }
+
+  latest_none : (ws : List (Wait P)) → latest ws ≡ None → ws ≡ []
+  latest_none [] e = refl
+  latest_none (w ∷ ws) e = turn (latest ws) e
+    where
+      turn : (o : Option (Wait P)) → later w o ≡ None → w ∷ ws ≡ []
+      turn None h = cc
+      turn (Some v) h = pick (nat_lt v.j w.j) h
+        where
+          pick : (b : Bool) → cond b (Some w) (Some v) ≡ None → w ∷ ws ≡ []
+          pick true k = cc
+          pick false k = cc
+
+  -- where no wait is saved, each number is above all
+  pub above_none : (j : ℕ) (ws : List (Wait P)) → latest ws ≡ None → IsAbove j ws
+  above_none j ws e = subst (IsAbove j) (sym (latest_none ws e)) tt
+
+  -- what is above the greatest is above all
+  pub above_latest : (j : ℕ) (ws : List (Wait P)) (w : Wait P) → latest ws ≡ Some w → w.j < j → IsAbove j ws
+  above_latest j [] w e l = tt
+  above_latest j (v ∷ vs) w e l = turn (latest vs) refl e (above_latest j vs)
+    where
+      turn : (o : Option (Wait P)) → latest vs ≡ o → later v o ≡ Some w → ((u : Wait P) → latest vs ≡ Some u → u.j < j → IsAbove j vs) → IsAbove j (v ∷ vs)
+      turn None q h r =
+          let s : v ≡ w = cc in (subst (λ (x : Wait P). x.j < j) (sym s) l, above_none j vs q)
+      turn (Some u) q h r = pick (nat_lt u.j v.j) refl h
+        where
+          pick : (b : Bool) → nat_lt u.j v.j ≡ b → cond b (Some v) (Some u) ≡ Some w → IsAbove j (v ∷ vs)
+          pick true t k =
+              let s : v ≡ w = cc in
+              let m : v.j < j = subst (λ (x : Wait P). x.j < j) (sym s) l in
+              let n : u.j < v.j = ltb-true u.j v.j t in (m, r u q (omega (arith, m, n)))
+          pick false t k =
+              let s : u ≡ w = cc in
+              let m : u.j < j = subst (λ (x : Wait P). x.j < j) (sym s) l in
+              let n = ltb-false u.j v.j t in (omega (arith, m, n), r u q m)

@@ -108,6 +108,7 @@ impl<P: At + Drop> Table<P> {
     pub fn learn<N: Namer>(&mut self, named: &Named, namer: &N) -> Result<RowId, Learn>
         ensures row { IfOk result (λ id. learn_answer named.now self.old ≡ Ok id) }
         ensures refused { IfErr result (λ e. Refuses e (learn_answer named.now self.old ≡ Err e)) }
+        ensures found { IfOk result (λ id. find named.now.name self.new ≡ Some id) }
         ensures learned { OnOk result (self.new ≡ learned (N.digest namer.now) named.now self.old) }
         ensures kept { OnErr result (self.new ≡ self.old) }
     {
@@ -121,6 +122,7 @@ impl<P: At + Drop> Table<P> {
     fn held(&self, id: RowId, named: &Named) -> Result<RowId, Learn>
         requires held { find named.now.name self.now ≡ Some id }
         ensures row { IfOk result (λ i. learn_answer named.now self.now ≡ Ok i) }
+        ensures found { IfOk result (λ i. find named.now.name self.now ≡ Some i) }
         ensures refused { IfErr result (λ e. Refuses e (learn_answer named.now self.now ≡ Err e)) }
     {
         let alloc = *self.rows.allocator();
@@ -138,6 +140,7 @@ impl<P: At + Drop> Table<P> {
         requires new { find named.now.name self.old ≡ None }
         ensures row { IfOk result (λ id. learn_answer named.now self.old ≡ Ok id) }
         ensures refused { IfErr result (λ e. Refuses e (learn_answer named.now self.old ≡ Err e)) }
+        ensures found { IfOk result (λ id. find named.now.name self.new ≡ Some id) }
         ensures learned { OnOk result (self.new ≡ learned (N.digest namer.now) named.now self.old) }
         ensures kept { OnErr result (self.new ≡ self.old) }
     {
