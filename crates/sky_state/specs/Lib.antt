@@ -1,0 +1,3 @@
+pub mod Stand
+pub mod StandCode
+pub mod StandView
