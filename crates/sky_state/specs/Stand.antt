@@ -1,7 +1,7 @@
 -- What stands of a task at a wait: the stack of a call, or the value of the result at its wave. References are whole descriptions
 -- where N is empty, and names where N is lists of bytes.
 use Rattle.std.specs.Prelude.{ℕ, List}
-use Rattle.sky_base.specs.Val.{Val, Desc}
+use Rattle.sky_base.specs.Val.{Val}
 use Rattle.sky_base.specs.Read.{Run}
 use Rattle.sky_base.specs.Needed.{State}
 use Rattle.sky_base.specs.Name.{low}

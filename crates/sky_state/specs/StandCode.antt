@@ -1,5 +1,5 @@
 -- A code for frames and for descriptions with their names, by which a proof tells them apart.
-use Rattle.std.specs.Prelude.{◌≡◌, ℕ, List, refl}
+use Rattle.std.specs.Prelude.{ℕ, List, refl}
 use Rattle.std.proofs.Common.{sym, ap, ◌∙◌}
 use Rattle.std.specs.Coded.{Coded, code_by, coded×, coded_ℕ, coded_list}
 use Rattle.sky_base.specs.Val.{Val, Pairs, Desc}
