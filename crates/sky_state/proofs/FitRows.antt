@@ -1,5 +1,5 @@
 -- Worked rows: states that fit a script, and states that don't.
-use Rattle.std.proofs.Common.{◌≡◌, ℕ, ◌+◌, true, false, List, [], ◌∷◌, map, pos, refl, inl, inr, ◌⊎◌, ◌<◌, ◌≤◌, ◌↔◌, arith}
+use Rattle.std.proofs.Common.{◌≡◌, ℕ, ◌+◌, true, false, List, [], ◌∷◌, map, pos, refl, ap, inl, inr, ◌⊎◌, ◌<◌, ◌≤◌, ◌↔◌, arith}
 use Rattle.sky_base.specs.Val.{Val, Pairs, null, num, list, ref, no_vals, val, no_pairs, pair, known}
 use Rattle.sky_base.specs.Tree.{Oper, Sign, Form, Exp, Exps, Steps, Stm, Arms, Else, Script}
 use Rattle.sky_base.specs.Res.{visits, others, bodies}
@@ -151,7 +151,7 @@ in_turn = record { frames = in_turn_frame0 ∷ []; count = 9; waits = 1 }
 
 in_turn_fits0 : FitsFrame over_list in_turn_frame0
 in_turn_fits0 =
-    record { bottom = refl; steps = (tt, (tt, (tt, (tt, (tt, tt))))); parts = (inl refl, (inl refl, (inl refl, (inl refl, tt)))); as_many = refl; kinds = (tt, (tt, (tt, (tt, (tt, tt))))); taken = (tt, (omega arith, (tt, (tt, (tt, tt))))); vars = ((num_ok over_list 1), tt); values = ((nums_ok over_list), ((num_ok over_list 1), ((name_ok over_list 65), tt))) }
+    record { bottom = refl; steps = (tt, (tt, (tt, (tt, (tt, tt))))); parts = (inl refl, (inl refl, (inl refl, (inl refl, tt)))); as_many = refl; kinds = (tt, ((tt, tt), (tt, (tt, (tt, tt))))); taken = (tt, (omega arith, (tt, (tt, (tt, tt))))); vars = ((num_ok over_list 1), tt); values = ((nums_ok over_list), ((num_ok over_list 1), ((name_ok over_list 65), tt))) }
 
 in_turn_fits : FitsRun over_list in_turn
 in_turn_fits =
@@ -190,7 +190,7 @@ in_exec = record { frames = in_exec_frame0 ∷ []; count = 8; waits = 1 }
 
 in_exec_fits0 : FitsFrame executing in_exec_frame0
 in_exec_fits0 =
-    record { bottom = refl; steps = (tt, (tt, (tt, tt))); parts = (inl refl, (inl refl, tt)); as_many = refl; kinds = (tt, (tt, (tt, tt))); taken = (tt, (tt, (tt, tt))); vars = tt; values = ((refs_ok executing 65), tt) }
+    record { bottom = refl; steps = (tt, (tt, (tt, tt))); parts = (inl refl, (inl refl, tt)); as_many = refl; kinds = (tt, (tt, ((tt, tt), tt))); taken = (tt, (tt, (tt, tt))); vars = tt; values = ((refs_ok executing 65), tt) }
 
 in_exec_fits : FitsRun executing in_exec
 in_exec_fits =
@@ -233,7 +233,7 @@ start_of_f = started f seven
 
 is_start : IsStart squares start_of_f
 is_start =
-    record { frame = record { bottom = refl; at_start = refl; stack = refl; vars = ((inl refl, tt), ((num (pos 7), refl), tt)) }; count = refl; waits = refl }
+    record { frame = record { bottom = refl; at_start = refl; stack = refl; vars = ((inl (inl refl), tt), (inl refl, tt)) }; count = refl; waits = refl }
 
 start_fits : FitsRun squares start_of_f
 start_fits =
@@ -294,16 +294,21 @@ no_wait h = go h.top
 no_count_of_waits : FitsRun squares (squares_with entries (at_name 65 ∷ []) 0) → ⊥
 no_count_of_waits h = absurd (omega (arith, h.started.1 (λ s. omega (arith, s.count))))
 
+abbrev first_byte : List ℕ → ℕ
+first_byte [] = 0
+first_byte (b ∷ bs) = b
+
 -- a start of `f` that sets another name, or not its parameter
 no_other_name : IsStart squares (started f (pair x null (pair (121 ∷ []) null no_pairs))) → ⊥
 no_other_name s = go s.frame.vars.0.1.0
   where
-    go : (is_one_of (121 ∷ []) (x ∷ []) ≡ true) ⊎ (is_one_of (121 ∷ []) [] ≡ true) → ⊥
-    go (inl e) = cc
+    go : In {A = List ℕ} (121 ∷ []) (x ∷ []) ⊎ (is_one_of (121 ∷ []) [] ≡ true) → ⊥
+    go (inl (inl e)) = omega (arith, ap first_byte e)
+    go (inl (inr e)) = e
     go (inr e) = cc
 
 no_parameter : IsStart squares (started f no_pairs) → ⊥
-no_parameter s = cc
+no_parameter s = s.frame.vars.1.0
 
 -- a function that isn't of the script
 no_function : FitsRun squares (started (103 ∷ []) no_pairs) → ⊥

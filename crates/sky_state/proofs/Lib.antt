@@ -1,1 +1,9 @@
 pub mod FitRows
+pub mod Bodies
+pub mod Binds
+pub mod Gathers
+pub mod LinkLaw
+pub mod StackLaw
+pub mod StartLaw
+pub mod Starts
+pub mod LowFits

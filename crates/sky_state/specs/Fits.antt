@@ -1,7 +1,6 @@
 -- When a state fits a script.
 use Rattle.std.specs.Prelude.{◌≡◌, ℕ, ◌≤◌, ◌<◌, List, [], ◌∷◌, map, length, take, drop, sum_by, Option, Some, None, true, pos, ◌⊎◌, ◌↔◌}
 use Rattle.sky_base.specs.Val.{Val, Vals, Pairs, num, list, ref, no_vals, val, no_pairs, pair, count, refs}
-use Rattle.sky_base.specs.Op.{find}
 use Rattle.sky_base.specs.Tree.{FunDef, Script}
 use Rattle.sky_base.specs.Res.{visits, bodies}
 use Rattle.sky_base.specs.Eval.{find_fun, is_one_of, Body, body_of}
@@ -16,25 +15,55 @@ use Rattle.sky_state.specs.Table.{Row, turn, star, outputs, row, keeps, places, 
 -- ---- the values that an entry keeps
 
 module _ {N : Type 0} where
-  abbrev pub AllRefs : Vals N → Type 0
-  AllRefs no_vals = Unit {0}
-  AllRefs (val (ref d) vs) = AllRefs vs
-  AllRefs (val _ vs) = ⊥
+  abbrev pub IsList : Val N → Type 0
+  IsList (list us) = Unit {0}
+  IsList _ = ⊥
+
+  abbrev pub IsNumber : Val N → Type 0
+  IsNumber (num z) = Unit {0}
+  IsNumber _ = ⊥
+
+  abbrev pub IsReference : Val N → Type 0
+  IsReference (ref d) = Unit {0}
+  IsReference _ = ⊥
+
+  abbrev pub AllReferences : Vals N → Type 0
+  AllReferences no_vals = Unit {0}
+  AllReferences (val v vs) = IsReference v × AllReferences vs
+
+  abbrev pub IsListOfReferences : Val N → Type 0
+  IsListOfReferences (list us) = AllReferences us
+  IsListOfReferences _ = ⊥
+
+  -- there is one value, with this property
+  abbrev pub One : (Val N → Type 0) → List (Val N) → Type 0
+  One P (v ∷ []) = P v
+  One P _ = ⊥
+
+  -- there are two, which are so
+  abbrev pub Two : (Val N → Val N → Type 0) → List (Val N) → Type 0
+  Two P (v ∷ u ∷ []) = P v u
+  Two P _ = ⊥
 
   -- these are of the kinds that the row names
   abbrev pub OfKinds : Row → List (Val N) → Type 0
-  OfKinds (turn m) (list us ∷ num z ∷ []) = Unit {0}
-  OfKinds (turn m) _ = ⊥
-  OfKinds star (ref d ∷ []) = Unit {0}
-  OfKinds star _ = ⊥
-  OfKinds outputs (list us ∷ []) = AllRefs us
-  OfKinds outputs _ = ⊥
+  OfKinds (turn m) vs = Two (λ v u. IsList v × IsNumber u) vs
+  OfKinds star vs = One IsReference vs
+  OfKinds outputs vs = One IsListOfReferences vs
   OfKinds _ vs = Unit {0}
+
+  -- the number is from 0 to the length
+  abbrev pub UpTo : ℕ → Val N → Type 0
+  UpTo n (num (pos t)) = t ≤ n
+  UpTo n _ = ⊥
+
+  abbrev pub UpToLength : Val N → Val N → Type 0
+  UpToLength (list us) u = UpTo (count us) u
+  UpToLength _ u = ⊥
 
   -- the number of a `for` is from 0 to its list's length
   abbrev pub TakenFrom : Row → List (Val N) → Type 0
-  TakenFrom (turn m) (list us ∷ num (pos t) ∷ []) = t ≤ count us
-  TakenFrom (turn m) _ = ⊥
+  TakenFrom (turn m) vs = Two UpToLength vs
   TakenFrom _ vs = Unit {0}
 
   -- the values of the stack that belong to each entry, the deepest first
@@ -69,10 +98,11 @@ module _ {N : Type 0} where
   -- each variable is a parameter or a name that the function uses
   abbrev pub KeysFrom : (params uses : List (List ℕ)) → Pairs N → Type 0
   KeysFrom xs us no_pairs = Unit {0}
-  KeysFrom xs us (pair k v ps) = ((is_one_of k xs ≡ true) ⊎ (is_one_of k us ≡ true)) × KeysFrom xs us ps
+  KeysFrom xs us (pair k v ps) = (In k xs ⊎ (is_one_of k us ≡ true)) × KeysFrom xs us ps
 
-  abbrev pub IsSet : Pairs N → List ℕ → Type 0
-  IsSet ps x = (v : Val N) × (find x ps ≡ Some v)
+  abbrev pub HasKey : Pairs N → List ℕ → Type 0
+  HasKey no_pairs x = ⊥
+  HasKey (pair k v ps) x = (x ≡ k) ⊎ HasKey ps x
 
 module _ (sc : Script) where
   -- what the table says of a saved entry
@@ -114,7 +144,7 @@ module _ (sc : Script) where
     -- the variables are exactly the parameters and captured pairs
     abbrev pub StartVars : Option Body → List (List ℕ) → Pairs N → Type 0
     StartVars None us ps = ⊥
-    StartVars (Some b) us ps = KeysFrom b.params us ps × Each (IsSet ps) b.params
+    StartVars (Some b) us ps = KeysFrom b.params us ps × Each (HasKey ps) b.params
 
     pub record StartFrame (f : Frame N) : Type 0 where
       pub bottom : OnBody (body_of f.fun sc) f.todo

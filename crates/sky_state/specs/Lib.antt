@@ -3,3 +3,9 @@ pub mod StandCode
 pub mod StandView
 pub mod Table
 pub mod Fits
+pub mod Chained
+pub mod Pending
+pub mod Start
+pub mod BodyView
+pub mod StateView
+pub mod Stands

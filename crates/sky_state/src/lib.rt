@@ -5,4 +5,5 @@
 
 pub mod frame;
 pub mod spawned;
+mod start;
 pub mod state;
