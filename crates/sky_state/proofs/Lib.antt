@@ -7,3 +7,4 @@ pub mod StackLaw
 pub mod StartLaw
 pub mod Starts
 pub mod LowFits
+pub mod FitsLaw

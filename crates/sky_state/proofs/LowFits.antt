@@ -15,7 +15,7 @@ use Rattle.sky_state.specs.Table.{Row, part, turn, star, outputs, open_call, no_
 use Rattle.sky_state.specs.Fits.{IsList, IsNumber, IsReference, AllReferences, IsListOfReferences, One, Two, OfKinds, UpTo, UpToLength, TakenFrom, shares}
 
 module _ {N : Type 0} (spell : N → List ℕ) (tag : Desc (List ℕ) → List ℕ) where
-  used_low : (us : List (List ℕ)) (ps : Pairs N) → AllUsed us ps → AllUsed us (low_pairs spell tag ps)
+  pub used_low : (us : List (List ℕ)) (ps : Pairs N) → AllUsed us ps → AllUsed us (low_pairs spell tag ps)
   used_low us no_pairs h = tt
   used_low us (pair k v ps) h = (h.0, used_low us ps h.1)
 
