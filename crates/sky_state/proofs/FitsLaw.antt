@@ -45,7 +45,7 @@ some_is a b e = cc
 -- ---- the forms under way at a wait
 
 module _ {N : Type 0} (w : World N) (at : ℕ → Option Node) (look : v.Desc N → Option (Object N)) where
-  abbrev ChainedHalt : List ℕ → Option (Halt N) → Type 0
+  abbrev pub ChainedHalt : List ℕ → Option (Halt N) → Type 0
   ChainedHalt ps None = Unit {0}
   ChainedHalt ps (Some h) = Chained w.script at ps h.forms
 

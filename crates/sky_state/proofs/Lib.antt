@@ -8,3 +8,4 @@ pub mod StartLaw
 pub mod Starts
 pub mod LowFits
 pub mod FitsLaw
+pub mod HeldLaw

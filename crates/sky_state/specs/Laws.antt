@@ -1,5 +1,5 @@
 -- The laws of states, each as one statement over every job.
-use Rattle.std.specs.Prelude.{◌≡◌, ℕ, List, map, true, Some, None}
+use Rattle.std.specs.Prelude.{◌≡◌, ℕ, List, map, Bool, true, Some, None}
 use Rattle.sky_base.specs.Val as v
 use Rattle.sky_base.specs.Val.{call, known, same_text, distinct}
 use Rattle.sky_base.specs.Name.{low_vals, low_pairs, name}
@@ -41,7 +41,11 @@ module _ (tag : Tag) where
   StandsHolds =
       (job : Job) (around : Around) (s : Stand (List ℕ)) (t : Task) (j : ℕ) (ds : List Desc) → Stands job around tag s t j → HeldAt job around t j ds → NoClash tag ds → held_in same_text s ≡ map (low_ref no_name tag) ds
 
--- a task stops next at one wait, or comes to its end
-abbrev pub OneNext : Type 1
+-- what a test says is at hand
+abbrev pub AtHand : (Desc → Bool) → Desc → Type 0
+AtHand S d = S d ≡ true
+
+-- with what is at hand a task stops next at one wait, or comes to its end
+abbrev pub OneNext : Type 0
 OneNext =
-    (job : Job) (around : Around) (S : Desc → Type 0) (t : Task) (j i k : ℕ) → Next job around S t j (Some i) → (Next job around S t j (Some k) → i ≡ k) × (Next job around S t j None → ⊥)
+    (job : Job) (around : Around) (S : Desc → Bool) (t : Task) (j i k : ℕ) → Next job around (AtHand S) t j (Some i) → (Next job around (AtHand S) t j (Some k) → i ≡ k) × (Next job around (AtHand S) t j None → ⊥)

@@ -4,6 +4,7 @@
 #![tactic(auto)]
 
 pub mod frame;
+pub mod law;
 pub mod spawned;
 mod start;
 pub mod state;
