@@ -29,7 +29,7 @@ use Rattle.sky_state.specs.Stand.{Stand, low_state}
 use Rattle.sky_state.specs.Fits.{Last, Before, row_of, FitsFrame, FunsOf, IsStart, FitsRun, FitsShow, Fits}
 use Rattle.sky_state.specs.Table.{IsOpenCall, IsWaiting}
 use Rattle.sky_state.specs.Start.{StartsIn, StartsCall, SoundVals, CanStart}
-use Rattle.sky_state.specs.Stands.{Stands}
+use Rattle.sky_state.specs.Stands.{Stands, StandsForCall, StandsForShow}
 use Rattle.sky_state.specs.Chained.{body_places, Chained}
 use Rattle.sky_state.proofs.LinkLaw.{Linked, linked_call}
 use Rattle.sky_state.proofs.LowFits.{used_low, sound_low, vars_low, stack_low, shares_kinds_low, shares_taken_low}
@@ -210,3 +210,17 @@ module _ (tag : Tag) (job : Job) (around : Around) where
     stands_fits (Task.of (out x u m k)) j a ds h s g = absurd (none_some a s.1)
     stands_fits (Task.of (input k)) j a ds h s g = absurd (none_some a s.1)
     stands_fits (Task.of (known b)) j a ds h s g = absurd b
+
+-- whatever gives the names
+pub starts_stand : (sc : Script) (f : List ℕ) (caught : v.Pairs (List ℕ)) (args : v.Vals (List ℕ)) (s : Stand (List ℕ)) → StartsCall sc f caught args s → StandsForCall sc f caught args s
+starts_stand sc f caught args s h tag job around c vs is is_caught is_args =
+    start_of_call tag job around f c vs s (subst (λ x. StartsCall x f (low_pairs no_name tag c) (low_vals no_name tag vs) s) (sym is) (subst (λ x. StartsCall sc f x (low_vals no_name tag vs) s) is_caught (subst (λ x. StartsCall sc f caught x s) is_args h)))
+
+pub show_stands : (main : List ℕ) → StandsForShow main (Stand.show_at (v.Val.ref (known main)) 0)
+show_stands main tag job around is =
+    subst (λ n. Stands job around tag (Stand.show_at (v.Val.ref (known n)) 0) Task.show 0) (sym is) (start_of_show tag job around)
+
+-- a reference at wave 0 fits every script
+pub show_fits_any : (main : List ℕ) (sc : Script) → Fits sc (Stand.show_at (v.Val.ref (known main)) 0)
+show_fits_any main sc =
+    record { wave = omega arith; value = (record { deep = omega arith; large = omega arith }, tt); refers = omega arith }

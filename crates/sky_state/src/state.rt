@@ -1,6 +1,7 @@
 // A state: what stands of a task that can start, or that waits.
 
 ghost use Rattle.std.specs.Prelude.{◌≡◌, [], ◌∷◌, ◌++◌, IfOk};
+ghost use Rattle.sky_base.specs.Tree as logic_tree;
 ghost use Rattle.sky_base.specs.Val as logic;
 ghost use Rattle.sky_base.specs.Val.{vals_refs, known, same_text};
 ghost use Rattle.sky_base.specs.Names.{known_of};
@@ -9,6 +10,7 @@ ghost use Rattle.sky_state.specs.Pending.{pending_in, held_in, frames_refs, stac
 ghost use Rattle.sky_state.specs.Stand.{Stand};
 ghost use Rattle.sky_state.specs.StandView.{frames_view, stack_view};
 ghost use Rattle.sky_state.specs.Start.{CanStart, StartsCall};
+ghost use Rattle.sky_state.specs.Stands.{StandsForCall, StandsForShow};
 ghost use Rattle.sky_state.specs.StateView.{stand_of, spawned_of};
 
 use crate::frame::{Frame, Frames, Stack, Todo, Todos};
@@ -56,6 +58,7 @@ impl State {
         ensures start { IfOk result (λ s. StartsCall script.now fun.now caught.now args.now (stand_of s)) }
         ensures spawned { IfOk result (λ s. spawned_of s ≡ []) }
         ensures fits { IfOk result (λ s. Fits script.now (stand_of s)) }
+        ensures stands { IfOk result (λ s. StandsForCall script.now fun.now caught.now args.now (stand_of s)) }
     {
         let body = find_body(script, fun);
         let vars = bound(caught, body.params, args)?;
@@ -67,6 +70,8 @@ impl State {
     pub fn start_show(main: Name) -> State
         ensures value { stand_of result ≡ Stand.show_at (logic.Val.ref (known main)) 0 }
         ensures spawned { spawned_of result ≡ [] }
+        ensures fits { (script : logic_tree.Script) → Fits script (stand_of result) }
+        ensures stands { StandsForShow main (stand_of result) }
     {
         State::Show {
             value: Value::Ref(main),

@@ -4,6 +4,7 @@ use Rattle.sky_base.specs.Read.{Run}
 use Rattle.sky_state.specs.Stand.{Stand}
 use Rattle.sky_state.specs.Start.{StartsCall}
 use Rattle.sky_state.proofs.Starts.{begun, starts_call, starts_fit}
+use Rattle.sky_state.proofs.FitsLaw.{starts_stand}
 use Rattle.sky_state.proofs.state.State.start_call.Goals as goal
 
 pub returns-clause-start : goal.returns-clause-start
@@ -17,3 +18,7 @@ returns-clause-start c =
 pub returns-clause-fits : goal.returns-clause-fits
 returns-clause-fits c =
     starts_fit c.args.script.now c.args.fun.now c.args.caught.now c.args.args.now _ c.requires (returns-clause-start c)
+
+pub returns-clause-stands : goal.returns-clause-stands
+returns-clause-stands c =
+    starts_stand c.args.script.now c.args.fun.now c.args.caught.now c.args.args.now _ (returns-clause-start c)
