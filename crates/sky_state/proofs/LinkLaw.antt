@@ -406,15 +406,15 @@ module _ {N : Type 0} (w : World N) (at : ℕ → Option Node) where
       linked_steps : (ss : Steps) (ps : List ℕ) (n k m i : ℕ) (v : Val N) (f : Exp) (all : Steps) (st : St N) → In n ps → at n ≡ Some (exp_node (Exp.postfix f all)) → on_by past_spot i (spot_of (n + 1 + nodes f) all) ≡ Some (spot_of m ss) → k ≡ suc (suc i) → HasSteps at ss m → Linked ps (eval_steps w body ss n k m v st)
       linked_steps Steps.no_steps ps n k m i v f all st a here rest is h = tt
       linked_steps (Steps.index e p ss) ps n k m i v f all st a here rest is h =
-          linked_got ps 1 m _ (index_at n k (m + nodes e) p v ss) _ a (spot_at_row n k i (in_index m e ss) f all here rest is) refl refl (linked_eval e (m ∷ []) m st (inl refl) h.0) (λ x s. linked_visit ps p s _ (λ t. linked_answer ps (index v x) p t _ (λ y. linked_steps ss ps n (k + 1) (m + nodes e) (suc i) y f all t a here (next_place past_spot i (spot_of (n + 1 + nodes f) all) (in_index m e ss) (spot_of (m + nodes e) ss) rest refl) (up_two k i is) h.1)))
+          linked_got ps 1 m _ (index_at n k (m + nodes e) p v ss) _ a (spot_at_row n k i (in_index m e p ss) f all here rest is) refl refl (linked_eval e (m ∷ []) m st (inl refl) h.0) (λ x s. linked_visit ps p s _ (λ t. linked_answer ps (index v x) p t _ (λ y. linked_steps ss ps n (k + 1) (m + nodes e) (suc i) y f all t a here (next_place past_spot i (spot_of (n + 1 + nodes f) all) (in_index m e p ss) (spot_of (m + nodes e) ss) rest refl) (up_two k i is) h.1)))
       linked_steps (Steps.call es p ss) ps n k m i v f all st a here rest is h =
           linked_args es ps n k m i 0 p v [] ss f all st a here rest is refl h.0 (m + exps_nodes es) refl (λ l m' i' y u walk count is_next. linked_steps ss ps n l m' i' y f all u a here walk count (subst (HasSteps at ss) (sym is_next) h.1))
 
-      linked_args : (es : Exps) (ps : List ℕ) (n k m i j : ℕ) (p : Place) (g : Val N) (vs : List (Val N)) (ss : Steps) (f : Exp) (all : Steps) (st : St N) → In n ps → at n ≡ Some (exp_node (Exp.postfix f all)) → on_by past_spot i (spot_of (n + 1 + nodes f) all) ≡ Some (in_call m j es ss) → k ≡ suc (suc i) → length vs ≡ j → HasExps at es m → (end : ℕ) → m + exps_nodes es ≡ end → ((l m' i' : ℕ) (y : Val N) (u : St N) → on_by past_spot i' (spot_of (n + 1 + nodes f) all) ≡ Some (spot_of m' ss) → l ≡ suc (suc i') → m' ≡ end → Linked ps (eval_steps w body ss n l m' y u)) → Linked ps (eval_args w body es n k m p g vs ss (λ l i f c us s. enter w body f c us p n l i ss s (λ y u. eval_steps w body ss n (l + 1) i y u)) st)
+      linked_args : (es : Exps) (ps : List ℕ) (n k m i j : ℕ) (p : Place) (g : Val N) (vs : List (Val N)) (ss : Steps) (f : Exp) (all : Steps) (st : St N) → In n ps → at n ≡ Some (exp_node (Exp.postfix f all)) → on_by past_spot i (spot_of (n + 1 + nodes f) all) ≡ Some (in_call m j es p ss) → k ≡ suc (suc i) → length vs ≡ j → HasExps at es m → (end : ℕ) → m + exps_nodes es ≡ end → ((l m' i' : ℕ) (y : Val N) (u : St N) → on_by past_spot i' (spot_of (n + 1 + nodes f) all) ≡ Some (spot_of m' ss) → l ≡ suc (suc i') → m' ≡ end → Linked ps (eval_steps w body ss n l m' y u)) → Linked ps (eval_args w body es n k m p g vs ss (λ l i f c us s. enter w body f c us p n l i ss s (λ y u. eval_steps w body ss n (l + 1) i y u)) st)
       linked_args Exps.no_exps ps n k m i j p g vs ss f all st a here rest is long h end reach steps =
-          linked_visit ps p st _ (λ s. linked_called ps g (vals_of vs) p s _ (λ x c is_fun. linked_enter ps x c (vals_of vs) p n k m ss s (λ y u. eval_steps w body ss n (k + 1) m y u) a (spot_at_row n k i (in_call m j Exps.no_exps ss) f all here rest is) is_fun (λ y u. steps (k + 1) m (suc i) y u (next_place past_spot i (spot_of (n + 1 + nodes f) all) (in_call m j Exps.no_exps ss) (spot_of m ss) rest refl) (up_two k i is) (omega (arith, reach)))))
+          linked_visit ps p st _ (λ s. linked_called ps g (vals_of vs) p s _ (λ x c is_fun. linked_enter ps x c (vals_of vs) p n k m ss s (λ y u. eval_steps w body ss n (k + 1) m y u) a (spot_at_row n k i (in_call m j Exps.no_exps p ss) f all here rest is) is_fun (λ y u. steps (k + 1) m (suc i) y u (next_place past_spot i (spot_of (n + 1 + nodes f) all) (in_call m j Exps.no_exps p ss) (spot_of m ss) rest refl) (up_two k i is) (omega (arith, reach)))))
       linked_args (Exps.exp e es) ps n k m i j p g vs ss f all st a here rest is long h end reach steps =
-          linked_got ps (1 + j) m _ (arg_at n k (m + nodes e) p g vs es ss) _ a (spot_at_row n k i (in_call m j (Exps.exp e es) ss) f all here rest is) (omega (arith, long)) refl (linked_eval e (m ∷ []) m st (inl refl) h.0) (λ v s. linked_args es ps n (k + 1) (m + nodes e) (suc i) (j + 1) p g (vs ++ v ∷ []) ss f all s a here (next_place past_spot i (spot_of (n + 1 + nodes f) all) (in_call m j (Exps.exp e es) ss) (in_call (m + nodes e) (j + 1) es ss) rest refl) (up_two k i is) (omega (arith, length_push vs v j long)) h.1 end (omega (arith, reach)) steps)
+          linked_got ps (1 + j) m _ (arg_at n k (m + nodes e) p g vs es ss) _ a (spot_at_row n k i (in_call m j (Exps.exp e es) p ss) f all here rest is) (omega (arith, long)) refl (linked_eval e (m ∷ []) m st (inl refl) h.0) (λ v s. linked_args es ps n (k + 1) (m + nodes e) (suc i) (j + 1) p g (vs ++ v ∷ []) ss f all s a here (next_place past_spot i (spot_of (n + 1 + nodes f) all) (in_call m j (Exps.exp e es) p ss) (in_call (m + nodes e) (j + 1) es p ss) rest refl) (up_two k i is) (omega (arith, length_push vs v j long)) h.1 end (omega (arith, reach)) steps)
 
     -- ---- loops
 

@@ -1,7 +1,7 @@
 -- The table of saved forms: which part of a form is pending or running at a step, and what the form keeps there.
 use Rattle.std.specs.Prelude.{ℕ, zero, suc, ◌+◌, List, [], ◌∷◌, ◌++◌, reverse, Option, Some, None}
 use Rattle.std.specs.Option.{option_and_then}
-use Rattle.sky_base.specs.Tree.{Sign, SignAt, Form, Exp, Exps, Links, Ands, Steps, Stm, Stms, Arms, Else, nodes, stm_nodes, block_nodes, arms_nodes}
+use Rattle.sky_base.specs.Tree.{Place, Sign, SignAt, Form, Exp, Exps, Links, Ands, Steps, Stm, Stms, Arms, Else, nodes, stm_nodes, block_nodes, arms_nodes}
 use Rattle.sky_law.specs.Opened.{Node, exp_node, stm_node, block_node}
 
 pub data Row : Type 0 where
@@ -56,19 +56,19 @@ past_sign (s ∷ ss) = Some ss
 -- a place in a postfix: at its end, at an index, or at an argument of a call, or behind the last one; so many arguments come before it
 pub data Spot : Type 0 where
   finished : Spot
-  in_index : (node : ℕ) → Exp → Steps → Spot
-  in_call : (node before : ℕ) → Exps → Steps → Spot
+  in_index : (node : ℕ) → Exp → Place → Steps → Spot
+  in_call : (node before : ℕ) → Exps → Place → Steps → Spot
 
 abbrev pub spot_of : ℕ → Steps → Spot
 spot_of m Steps.no_steps = finished
-spot_of m (Steps.index e p ss) = in_index m e ss
-spot_of m (Steps.call es p ss) = in_call m 0 es ss
+spot_of m (Steps.index e p ss) = in_index m e p ss
+spot_of m (Steps.call es p ss) = in_call m 0 es p ss
 
 abbrev pub past_spot : Spot → Option Spot
 past_spot finished = None
-past_spot (in_index m e ss) = Some (spot_of (m + nodes e) ss)
-past_spot (in_call m i Exps.no_exps ss) = Some (spot_of m ss)
-past_spot (in_call m i (Exps.exp e es) ss) = Some (in_call (m + nodes e) (i + 1) es ss)
+past_spot (in_index m e p ss) = Some (spot_of (m + nodes e) ss)
+past_spot (in_call m i Exps.no_exps p ss) = Some (spot_of m ss)
+past_spot (in_call m i (Exps.exp e es) p ss) = Some (in_call (m + nodes e) (i + 1) es p ss)
 
 -- ---- expressions
 
@@ -101,9 +101,9 @@ sign_row _ = no_step
 
 -- at an argument the value so far and the arguments so far are kept
 abbrev pub spot_row : Option Spot → Row
-spot_row (Some (in_index m e ss)) = pending 1 m
-spot_row (Some (in_call m i (Exps.exp e es) ss)) = pending (1 + i) m
-spot_row (Some (in_call m i Exps.no_exps ss)) = open_call
+spot_row (Some (in_index m e p ss)) = pending 1 m
+spot_row (Some (in_call m i (Exps.exp e es) p ss)) = pending (1 + i) m
+spot_row (Some (in_call m i Exps.no_exps p ss)) = open_call
 spot_row _ = no_step
 
 -- the expression at the node n, at the step k

@@ -100,7 +100,7 @@ impl State {
                 let values = all_values(alloc, run.frames.as_slice())?;
                 Value::List(values).refs(alloc)
             }
-            State::Show { value, .. } => value.refs(alloc),
+            State::Show { value, wave: _ } => value.refs(alloc),
         }
     }
 
