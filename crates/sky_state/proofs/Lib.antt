@@ -9,3 +9,4 @@ pub mod Starts
 pub mod LowFits
 pub mod FitsLaw
 pub mod HeldLaw
+pub mod OpenEntry
