@@ -10,3 +10,4 @@ pub mod LowFits
 pub mod FitsLaw
 pub mod HeldLaw
 pub mod OpenEntry
+pub mod OpenFrames
