@@ -1,24 +1,23 @@
 -- A state that stands for a task at a wait fits the script.
-use Rattle.std.proofs.Common.{◌≡◌, ℕ, zero, suc, ◌+◌, ◌≤◌, ◌<◌, ◌⊎◌, inl, inr, Bool, true, false, List, [], ◌∷◌, map, length, Option, Some, None, nat_le, leb-true, refl, sym, ap, ◌∙◌, subst, arith}
+use Rattle.std.proofs.Common.{◌≡◌, ℕ, zero, suc, ◌+◌, ◌≤◌, ◌<◌, ◌⊎◌, inl, inr, Bool, true, false, List, [], ◌∷◌, length, Option, Some, None, nat_le, leb-true, refl, sym, ap, ◌∙◌, subst, arith}
 use Rattle.std.proofs.lemmas.List.{length-map}
 use Rattle.sky_base.specs.Val as v
 use Rattle.sky_base.specs.Val.{call, out, input, known, refs, distinct, no_vals, val, no_pairs, pair}
 use Rattle.sky_base.specs.Name.{low, low_vals, low_pairs, name}
 use Rattle.sky_base.specs.Kept.{Kept}
 use Rattle.sky_base.specs.Tree.{FunDef, Script, nowhere}
-use Rattle.sky_base.specs.Res.{bodies, others, visits, Object, Entry, Res, Fin, Tell, Ask}
+use Rattle.sky_base.specs.Res.{bodies, others, visits, Object, Res, Fin, Tell, Ask}
 use Rattle.sky_base.specs.Eval.{World, Body, bind, body_of, find_fun}
-use Rattle.sky_base.specs.Read.{Halt, Frame, Run, see_all, refs_of, halts_seen, halt, frames_of, run_of_halt}
+use Rattle.sky_base.specs.Read.{Halt, see_all, refs_of, halts_seen, halt, frames_of, run_of_halt}
 use Rattle.sky_base.specs.See.{Val, Vals, Pairs, Desc, Job, Around, see, run_of, world_of, start_st, wave, main_call}
-use Rattle.sky_base.specs.Needed.{Task, State, StandsAt, stands_at, WaitOf, wait_at, halt_state, start_frame, wave_state, distinct_refs, wave_refs, unless_none, only_if}
-use Rattle.sky_law.specs.Lower.{low_ref, low_frame, low_run}
+use Rattle.sky_base.specs.Needed.{Task, State, StandsAt, WaitOf, halt_state, start_frame, wave_state, distinct_refs, wave_refs, unless_none, only_if}
+use Rattle.sky_law.specs.Lower.{low_ref, low_run}
 use Rattle.sky_law.specs.NamesLaws.{Tag, no_name}
 use Rattle.sky_law.specs.Opened.{Node}
 use Rattle.sky_law.specs.Nodes.{node_at}
-use Rattle.sky_law.specs.Sound.{IsFun, IsMain, CallsIf, ValsSound, PairsSound, SoundDesc, Sound, SoundVars, SoundFrame, SoundState, SoundReads, SoundTask}
-use Rattle.sky_law.specs.Tasks.{Each}
+use Rattle.sky_law.specs.Sound.{IsMain, CallsIf, ValsSound, PairsSound, SoundDesc, Sound, SoundVars, SoundState, SoundReads, SoundTask}
 use Rattle.sky_law.proofs.BoundLaw.{task_open}
-use Rattle.sky_law.proofs.CountLaw.{Climbs, climbs_call, Enough, enough}
+use Rattle.sky_law.proofs.CountLaw.{climbs_call, Enough, enough}
 use Rattle.sky_law.proofs.NodesLaw.{has_script}
 use Rattle.sky_law.proofs.FormsLaw.{Within, inner}
 use Rattle.sky_law.proofs.Low.{bind_low, count_low}
@@ -26,15 +25,14 @@ use Rattle.sky_law.proofs.RefsLow.{refs_low}
 use Rattle.sky_law.proofs.SeenLaw.{stands_one}
 use Rattle.sky_law.proofs.SoundJobs.{stands_sound, wave_sound}
 use Rattle.sky_state.specs.Stand.{Stand, low_state}
-use Rattle.sky_state.specs.Fits.{Last, Before, row_of, FitsFrame, FunsOf, IsStart, FitsRun, FitsShow, Fits}
-use Rattle.sky_state.specs.Table.{IsOpenCall, IsWaiting}
+use Rattle.sky_state.specs.Fits.{FitsRun, FitsShow, Fits}
 use Rattle.sky_state.specs.Start.{StartsIn, StartsCall, SoundVals, CanStart}
 use Rattle.sky_state.specs.Stands.{Stands, StandsForCall, StandsForShow}
 use Rattle.sky_state.specs.Chained.{body_places, Chained}
 use Rattle.sky_state.proofs.LinkLaw.{Linked, linked_call}
-use Rattle.sky_state.proofs.LowFits.{used_low, sound_low, vars_low, stack_low, shares_kinds_low, shares_taken_low}
+use Rattle.sky_state.proofs.LowFits.{used_low, sound_low, vars_low}
 use Rattle.sky_state.proofs.Starts.{starts_fit}
-use Rattle.sky_state.proofs.StackLaw.{FirstIn, Laid, Called, LaidAll, Stacked, stacked, on_body}
+use Rattle.sky_state.proofs.SavedLaw.{saved_fits, fits_low}
 
 none_some : {A : Type 0} (a : A) → None ≡ Some a → ⊥
 none_some a e = cc
@@ -58,51 +56,6 @@ module _ {N : Type 0} (w : World N) (at : ℕ → Option Node) (look : v.Desc N 
   chained_halt ps (Tell d r) j g = chained_halt ps r j g.1
   chained_halt ps (Ask q fr st k) zero g = g.0
   chained_halt ps (Ask q fr st k) (suc j) g = chained_on ps (see_all look (refs_of q)) j k (λ os. chained_halt ps (k os) j (g.1 os))
-
--- ---- the frames over names
-
-module _ (tag : Tag) (sc : Script) where
-  abbrev Lowered : Frame ⊥ → Frame (List ℕ)
-  Lowered f = low_frame no_name tag f
-
-  frame_fits : (ps : List ℕ) (f : Frame ⊥) → ps ≡ body_places (body_of f.fun sc) → Laid sc ps f → SoundFrame sc f → FitsFrame sc (Lowered f)
-  frame_fits ps f e l s =
-      record { bottom = on_body sc (body_of f.fun sc) f.todo (subst (λ qs. FirstIn sc qs f.todo) e l.first); steps = l.steps; parts = l.parts; as_many = length-map f.stack (low no_name tag) ∙ l.as_many; kinds = shares_kinds_low no_name tag (map (row_of sc) f.todo) f.stack l.kinds; taken = shares_taken_low no_name tag (map (row_of sc) f.todo) f.stack l.taken; vars = vars_low no_name tag sc f.vars s.0; values = stack_low no_name tag sc f.stack s.1 }
-
-  called_fit : (fs : List (Frame ⊥)) → Each (Called sc) fs → Each (SoundFrame sc) fs → Each (FitsFrame sc) (map Lowered fs)
-  called_fit [] h s = tt
-  called_fit (f ∷ fs) h s = (frame_fits (body_places (body_of f.fun sc)) f refl h.0.1 s.0, called_fit fs h.1 s.1)
-
-  called_funs : (fs : List (Frame ⊥)) → Each (Called sc) fs → Each (λ (g : Frame (List ℕ)). IsFun sc g.fun) (map Lowered fs)
-  called_funs [] h = tt
-  called_funs (f ∷ fs) h = (h.0.0, called_funs fs h.1)
-
-  frames_fit : (f : List ℕ) (fs : List (Frame ⊥)) → LaidAll sc f (body_places (body_of f sc)) fs → Each (SoundFrame sc) fs → Each (FitsFrame sc) (map Lowered fs)
-  frames_fit f [] h s = absurd h
-  frames_fit f (g ∷ gs) h s =
-      (frame_fits (body_places (body_of f sc)) g (ap (λ x. body_places (body_of x sc)) (sym h.0)) h.1 s.0, called_fit gs h.2 s.1)
-
-  funs_of : (f : List ℕ) (fs : List (Frame ⊥)) → LaidAll sc f (body_places (body_of f sc)) fs → Each (SoundFrame sc) fs → FunsOf sc (map Lowered fs)
-  funs_of f [] h s = absurd h
-  funs_of f (g ∷ gs) h s = (s.0.2, called_funs gs h.2)
-
-  some_frame : (f : List ℕ) (fs : List (Frame ⊥)) → LaidAll sc f (body_places (body_of f sc)) fs → 0 < length (map Lowered fs)
-  some_frame f [] h = absurd h
-  some_frame f (g ∷ gs) h = omega arith
-
-  last_low : (P : Frame (List ℕ) → Type 0) (fs : List (Frame ⊥)) → Last (λ f. P (Lowered f)) fs → Last P (map Lowered fs)
-  last_low P [] h = h
-  last_low P (f ∷ []) h = h
-  last_low P (f ∷ g ∷ gs) h = last_low P (g ∷ gs) h
-
-  before_low : (P : Frame (List ℕ) → Type 0) (fs : List (Frame ⊥)) → Before (λ f. P (Lowered f)) fs → Before P (map Lowered fs)
-  before_low P [] h = tt
-  before_low P (f ∷ []) h = tt
-  before_low P (f ∷ g ∷ gs) h = (h.0, before_low P (g ∷ gs) h.1)
-
-  run_fits : (f : List ℕ) (r : Run ⊥) → Stacked sc f (body_places (body_of f sc)) r.frames → Each (SoundFrame sc) r.frames → length r.frames ≤ bodies → r.count ≤ visits → 0 < r.waits → r.waits ≤ r.count → FitsRun sc (low_run no_name tag r)
-  run_fits f r h s few most some waits =
-      record { some_frame = some_frame f r.frames h.frames; few_frames = subst (λ n. n ≤ bodies) (sym (length-map r.frames Lowered)) few; count = most; waits = waits; functions = funs_of f r.frames h.frames s; frames = frames_fit f r.frames h.frames s; calls = before_low (λ g. Last (λ t. IsOpenCall (row_of sc t)) g.todo) r.frames h.calls; top = inl (last_low (λ g. Last (λ t. IsWaiting (row_of sc t)) g.todo) r.frames h.top); started = (λ _ i. absurd (omega (arith, i.waits, some)), λ _. some) }
 
 -- ---- a call that may be started
 
@@ -167,7 +120,7 @@ module _ (tag : Tag) (job : Job) (around : Around) where
         let chain : Chained job.script (λ k. node_at job.script k) (body_places (body_of f job.script)) h.forms = subst (ChainedHalt w (λ k. node_at job.script k) (see job around n) (body_places (body_of f job.script))) e (chained_halt w (λ k. node_at job.script k) (see job around n) (body_places (body_of f job.script)) (run_of job around f c vs) i (linked_call w (λ k. node_at job.script k) bodies f c vs nowhere start_st (has_script job.script))) in
         let frames_left : length (frames_of h.forms f h.st.vars) + inner w h.forms others ≡ bodies = task_open job around (see job around n) i f c vs h e in
         let visits_at : (0 + i < h.st.count) × (h.st.count ≤ visits) = subst (Enough w (see job around n) 0 i) e (enough w (see job around n) (run_of job around f c vs) 0 i (climbs_call w bodies f c vs nowhere 0 start_st within)) in
-        run_fits tag job.script f (run_of_halt f (suc i) h) (stacked job.script h.forms (body_places (body_of f job.script)) f h.st.vars chain) s (omega (arith, frames_left)) visits_at.1 (omega arith) (omega (arith, visits_at.0))
+        fits_low no_name tag job.script (run_of_halt f (suc i) h) (saved_fits job.script f (suc i) h chain s (omega (arith, frames_left)) visits_at.1 (omega arith) (omega (arith, visits_at.0))) (omega arith)
 
     call_fits : (n i : ℕ) (f : List ℕ) (c : Pairs) (vs : Vals) (x : Option (Halt ⊥)) (a : State) → halt (see job around n) i (run_of job around f c vs) ≡ x → halt_state f (suc i) x ≡ Some a → SoundState job.script a → Fits job.script (low_state tag a)
     call_fits n i f c vs None a e g s = absurd (none_some a g)

@@ -1,8 +1,8 @@
 -- The references of lists of values and of frames, one at a time.
-use Rattle.std.proofs.Common.{◌≡◌, ℕ, suc, ◌-◌, List, [], ◌∷◌, ◌++◌, map, flat_map, length, slice_get, Some, None, refl, sym, ap, ◌∙◌, append_assoc, append-nil, arith}
+use Rattle.std.proofs.Common.{◌≡◌, ℕ, suc, ◌-◌, List, [], ◌∷◌, ◌++◌, length, slice_get, Some, None, refl, sym, ap, ◌∙◌, append_assoc, append-nil, arith}
 use Rattle.std.proofs.lemmas.List.{map-append}
 use Rattle.std.proofs.lemmas.Grind.{flat_map-append}
-use Rattle.sky_base.specs.Val.{Val, Vals, Desc, no_vals, val, add_val, refs, vals_refs, pairs_refs}
+use Rattle.sky_base.specs.Val.{Val, Vals, no_vals, val, add_val, refs, vals_refs, pairs_refs}
 use Rattle.sky_base.specs.View.{view}
 use Rattle.sky_base.specs.declared.value.Value.{Value}
 use Rattle.sky_state.specs.declared.frame.Frame.{Frame}

@@ -1,21 +1,21 @@
 -- What a state over names waits for and holds.
-use Rattle.std.proofs.Common.{◌≡◌, ℕ, zero, suc, ◌≤◌, ◌⊎◌, inl, inr, Bool, true, false, List, [], ◌∷◌, ◌++◌, map, flat_map, Option, Some, None, nat_le, refl, sym, ap, ◌∙◌, subst, append_assoc}
+use Rattle.std.proofs.Common.{◌≡◌, ℕ, zero, suc, inl, inr, Bool, true, false, List, [], ◌∷◌, ◌++◌, map, Option, Some, None, nat_le, refl, sym, ap, ◌∙◌, subst, append_assoc}
 use Rattle.std.specs.Option.{option_map}
 use Rattle.std.proofs.lemmas.List.{map-append}
 use Rattle.sky_base.specs.Val as v
 use Rattle.sky_base.specs.Val.{call, out, input, known, refs, vals_refs, pairs_refs, refs_to, same_text, stands_in, unless_in, distinct_from, distinct, no_pairs}
-use Rattle.sky_base.specs.Name.{low, low_pairs, name}
-use Rattle.sky_base.specs.Tree.{Script, nowhere}
+use Rattle.sky_base.specs.Name.{low}
+use Rattle.sky_base.specs.Tree.{nowhere}
 use Rattle.sky_base.specs.Res.{others, Entry, Wait, one_of, all_of, kept_of, opens}
 use Rattle.sky_base.specs.Eval.{World, Body, body_of}
-use Rattle.sky_base.specs.Read.{Halt, Todo, Frame, refs_of, halt, todo_of, in_front, frame_of, frames_of, run_of_halt}
+use Rattle.sky_base.specs.Read.{Halt, Todo, Frame, refs_of, halt, todo_of, in_front, frame_of, frames_of}
 use Rattle.sky_base.specs.See.{Val, Vals, Pairs, Desc, Job, Around, see, run_of, world_of, start_st, wave, main_call}
-use Rattle.sky_base.specs.Needed.{Task, State, StandsAt, stands_at, WaitOf, wait_at, halt_state, halt_refs, start_frame, wave_state, distinct_refs, wave_refs, unless_none, only_if}
+use Rattle.sky_base.specs.Needed.{Task, State, StandsAt, WaitOf, halt_state, halt_refs, start_frame, wave_state, distinct_refs, wave_refs, unless_none, only_if}
 use Rattle.sky_law.specs.Lower.{low_ref, low_frame}
 use Rattle.sky_law.specs.NamesLaws.{Tag, no_name, NoClash}
 use Rattle.sky_law.specs.Opened.{Node}
 use Rattle.sky_law.specs.Nodes.{node_at}
-use Rattle.sky_law.specs.Tasks.{In, Apart, vals_held, frames_held, held, held_at, HeldAt}
+use Rattle.sky_law.specs.Tasks.{In, Apart, vals_held, frames_held, held, HeldAt}
 use Rattle.sky_law.proofs.BoundLaw.{Any, Made, any_halt}
 use Rattle.sky_law.proofs.FineLaw.{waiting, Waits}
 use Rattle.sky_law.proofs.NodesLaw.{has_script}
@@ -28,7 +28,7 @@ use Rattle.sky_state.specs.Stands.{Stands}
 use Rattle.sky_state.specs.Table.{Row, part, turn, star, outputs, open_call, no_step}
 use Rattle.sky_state.specs.Fits.{Last}
 use Rattle.sky_state.specs.Chained.{body_places, row_at, Above, Chained}
-use Rattle.sky_state.specs.Pending.{last_refs, top_refs, waited_refs, stack_refs, frames_refs, all_refs, pending_in, held_in}
+use Rattle.sky_state.specs.Pending.{last_refs, top_refs, stack_refs, frames_refs, all_refs, pending_in, held_in}
 use Rattle.sky_state.proofs.LinkLaw.{linked_call}
 use Rattle.sky_state.proofs.FitsLaw.{ChainedHalt, chained_halt}
 

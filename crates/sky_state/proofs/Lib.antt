@@ -7,6 +7,7 @@ pub mod StackLaw
 pub mod StartLaw
 pub mod Starts
 pub mod LowFits
+pub mod SavedLaw
 pub mod FitsLaw
 pub mod HeldLaw
 pub mod OpenEntry

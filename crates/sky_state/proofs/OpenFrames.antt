@@ -1,5 +1,5 @@
 -- A stack that fits its script is that of forms under way, each of which is opened by what is saved of it.
-use Rattle.std.proofs.Common.{◌≡◌, ℕ, zero, suc, ◌+◌, ◌≤◌, ◌<◌, ◌⊎◌, inl, inr, List, [], ◌∷◌, ◌++◌, map, length, take, drop, Option, Some, None, refl, sym, ap, ◌∙◌, subst, arith, append-nil}
+use Rattle.std.proofs.Common.{◌≡◌, ℕ, ◌+◌, ◌<◌, ◌⊎◌, inl, inr, List, [], ◌∷◌, ◌++◌, map, length, take, drop, Option, Some, None, refl, sym, ap, ◌∙◌, subst, arith, append-nil}
 use Rattle.std.proofs.lemmas.List.{length-take-le, length-drop, take-append-drop, take_all}
 use Rattle.sky_base.specs.Val.{Val, Pairs}
 use Rattle.sky_base.specs.Tree.{Script}
@@ -12,14 +12,9 @@ use Rattle.sky_law.specs.Tasks.{In, Each}
 use Rattle.sky_law.specs.Sound.{IsFun}
 use Rattle.sky_state.specs.Table.{Row, part, turn, star, outputs, open_call, no_step, row, keeps, places, IsStep, IsOpenCall, IsWaiting}
 use Rattle.sky_state.specs.Fits.{OfKinds, TakenFrom, shares, Last, Before, row_of, OnBody, Parts, kept_in_all, FitsFrame, FunsOf, IsStart, FitsRun}
-use Rattle.sky_state.specs.Chained.{body_places, row_at, KeptBy, Above, Chained}
+use Rattle.sky_state.specs.Chained.{body_places, row_at, KeptBy, Above, Chained, Formed}
 use Rattle.sky_state.proofs.OpenEntry.{call_if, Form_of, form_of}
 use Rattle.sky_state.proofs.StackLaw.{kept_more}
-
--- each form is opened by its node, its step and what it keeps
-abbrev pub AllOpened : {N : Type 0} → (ℕ → Option Node) → List (Entry N) → Type 0
-AllOpened at [] = Unit {0}
-AllOpened at (en ∷ fr) = Opened at en × AllOpened at fr
 
 last_map : (P Q : Todo → Type 0) → ((t : Todo) → P t → Q t) → (ts : List Todo) → Last P ts → Last Q ts
 last_map P Q f [] h = absurd h
@@ -70,13 +65,6 @@ module _ {N : Type 0} (sc : Script) where
 
   -- ---- the entries of a frame
 
-  -- forms that follow each other from one of these nodes on, whose frames these are
-  pub record Formed (ps f : List ℕ) (xs : Pairs N) (fs : List (Frame N)) : Type 0 where
-    pub forms : List (Entry N)
-    pub chained : Chain ps forms
-    pub all_opened : AllOpened (At sc) forms
-    pub frames : frames_of forms f xs ≡ fs
-
   among : (x : ℕ) (ps : List ℕ) (fr : List (Entry N)) → In x ps → Chain (x ∷ []) fr → Chain ps fr
   among x ps [] i c = absurd c
   among x ps (en ∷ fr) i c = (go c.0, c.1, c.2)
@@ -104,12 +92,12 @@ module _ {N : Type 0} (sc : Script) where
 
     -- the last entry, with what is above
     abbrev Lasts : Todo → Type 0
-    Lasts t = (vs : List (Val N)) → IsStep (row_of sc t) → Keeps (row_of sc t) vs → Formed (t.node ∷ []) f xs (F vs (t ∷ []) ∷ tail)
+    Lasts t = (vs : List (Val N)) → IsStep (row_of sc t) → Keeps (row_of sc t) vs → Formed sc (t.node ∷ []) f xs (F vs (t ∷ []) ∷ tail)
 
     front_is : (t : Todo) (vs ws : List (Val N)) (ts : List Todo) → in_front t vs (F ws ts ∷ tail) ≡ F (vs ++ ws) (t ∷ ts) ∷ tail
     front_is t vs ws ts = refl
 
-    more : (t u : Todo) (us : List Todo) (vs : List (Val N)) → IsStep (row_of sc t) → Keeps (row_of sc t) (take (keeps (row_of sc t)) vs) → In u.node (places (row_of sc t)) → Formed (u.node ∷ []) f xs (F (drop (keeps (row_of sc t)) vs) (u ∷ us) ∷ tail) → Formed (t.node ∷ []) f xs (F vs (t ∷ u ∷ us) ∷ tail)
+    more : (t u : Todo) (us : List Todo) (vs : List (Val N)) → IsStep (row_of sc t) → Keeps (row_of sc t) (take (keeps (row_of sc t)) vs) → In u.node (places (row_of sc t)) → Formed sc (u.node ∷ []) f xs (F (drop (keeps (row_of sc t)) vs) (u ∷ us) ∷ tail) → Formed sc (t.node ∷ []) f xs (F vs (t ∷ u ∷ us) ∷ tail)
     more t u us vs s k i g =
         let n = keeps (row_of sc t) in
         let up = over (row_of sc t) c u.node g.forms (g.forms ≡ []) i g.chained in
@@ -119,7 +107,7 @@ module _ {N : Type 0} (sc : Script) where
     kept_first : (r : Row) (vs : List (Val N)) (m : ℕ) → length vs ≡ keeps r + m → OfKinds r (take (keeps r) vs) → TakenFrom r (take (keeps r) vs) → Keeps r (take (keeps r) vs)
     kept_first r vs m e k t = record { as_many = length-take-le (keeps r) vs (omega (arith, e)); kinds = k; taken = t }
 
-    entries : (ts : List Todo) (t : Todo) (vs : List (Val N)) → Each (λ u. IsStep (row_of sc u)) (t ∷ ts) → Parts sc (t ∷ ts) → length vs ≡ kept_in_all sc (t ∷ ts) → Each (λ s. OfKinds s.0 s.1) (shares (map (row_of sc) (t ∷ ts)) vs) → Each (λ s. TakenFrom s.0 s.1) (shares (map (row_of sc) (t ∷ ts)) vs) → Last Lasts (t ∷ ts) → Formed (t.node ∷ []) f xs (F vs (t ∷ ts) ∷ tail)
+    entries : (ts : List Todo) (t : Todo) (vs : List (Val N)) → Each (λ u. IsStep (row_of sc u)) (t ∷ ts) → Parts sc (t ∷ ts) → length vs ≡ kept_in_all sc (t ∷ ts) → Each (λ s. OfKinds s.0 s.1) (shares (map (row_of sc) (t ∷ ts)) vs) → Each (λ s. TakenFrom s.0 s.1) (shares (map (row_of sc) (t ∷ ts)) vs) → Last Lasts (t ∷ ts) → Formed sc (t.node ∷ []) f xs (F vs (t ∷ ts) ∷ tail)
     entries [] t vs s p m k h last =
         let e : length vs ≡ keeps (row_of sc t) + 0 = m ∙ kept_more sc t [] in
         let all : take (keeps (row_of sc t)) vs ≡ vs = take_all (keeps (row_of sc t)) vs (omega (arith, e)) in
@@ -159,7 +147,7 @@ module _ {N : Type 0} (sc : Script) where
       record { forms = e.form ∷ []; chained = chain_more t vs None e [] k up.1; all_opened = (e.is_opened, tt); frames = (λ j. frame_of (e.call j) f (e.todo j) (e.kept j) (record { fun = f; vars = xs; stack = []; todo = [] } ∷ []) (λ h. record { fun = h; vars = xs; stack = []; todo = [] } ∷ [])) ∙ ap (λ ws. record { fun = f; vars = xs; stack = ws; todo = t ∷ [] } ∷ []) (append-nil vs) }
 
   -- in each other one it is an open call of the next frame's function
-  low_last : (f : List ℕ) (xs zs : Pairs N) (g : List ℕ) (gs : List (Frame N)) → IsFun sc g → Formed (body_places (body_of g sc)) g xs gs → (t : Todo) → IsOpenCall (row_of sc t) → Lasts f xs zs gs (g, zs) t
+  low_last : (f : List ℕ) (xs zs : Pairs N) (g : List ℕ) (gs : List (Frame N)) → IsFun sc g → Formed sc (body_places (body_of g sc)) g xs gs → (t : Todo) → IsOpenCall (row_of sc t) → Lasts f xs zs gs (g, zs) t
   low_last f xs zs g gs is h t w vs s k =
       let up = calls_some (row_of sc t) (g, zs) (h.forms ≡ []) (λ ms. Chain ms h.forms) w is h.chained in
       let e : Entered t vs (Some (g, zs)) = subst (Entered t vs) up.0 (entered (g, zs) t vs s k) in
@@ -167,16 +155,16 @@ module _ {N : Type 0} (sc : Script) where
 
   -- ---- frames
 
-  formed_from : (x : ℕ) (ps f : List ℕ) (xs : Pairs N) (fs : List (Frame N)) → In x ps → Formed (x ∷ []) f xs fs → Formed ps f xs fs
+  formed_from : (x : ℕ) (ps f : List ℕ) (xs : Pairs N) (fs : List (Frame N)) → In x ps → Formed sc (x ∷ []) f xs fs → Formed sc ps f xs fs
   formed_from x ps f xs fs i g =
       record { forms = g.forms; chained = among x ps g.forms i g.chained; all_opened = g.all_opened; frames = g.frames }
 
-  one_frame : (f : List ℕ) (zs : Pairs N) (vs : List (Val N)) (ts : List Todo) (xs : Pairs N) (tail : List (Frame N)) (c : List ℕ × Pairs N) → FitsFrame sc (record { fun = f; vars = zs; stack = vs; todo = ts }) → Last (Lasts f xs zs tail c) ts → Formed (body_places (body_of f sc)) f xs (record { fun = f; vars = zs; stack = vs; todo = ts } ∷ tail)
+  one_frame : (f : List ℕ) (zs : Pairs N) (vs : List (Val N)) (ts : List Todo) (xs : Pairs N) (tail : List (Frame N)) (c : List ℕ × Pairs N) → FitsFrame sc (record { fun = f; vars = zs; stack = vs; todo = ts }) → Last (Lasts f xs zs tail c) ts → Formed sc (body_places (body_of f sc)) f xs (record { fun = f; vars = zs; stack = vs; todo = ts } ∷ tail)
   one_frame f zs vs [] xs tail c h last = absurd (no_body sc (body_of f sc) h.bottom)
   one_frame f zs vs (t ∷ ts) xs tail c h last =
       formed_from t.node (body_places (body_of f sc)) f xs _ (on_body sc (body_of f sc) t ts h.bottom) (entries f xs zs tail c ts t vs h.steps h.parts h.as_many h.kinds h.taken last)
 
-  frames_formed : (fs : List (Frame N)) (f : Frame N) → FitsFrame sc f → Each (FitsFrame sc) fs → Each (λ g. IsFun sc g.fun) fs → Before (λ g. Last (λ t. IsOpenCall (row_of sc t)) g.todo) (f ∷ fs) → Last (λ g. Last (λ t. IsWaiting (row_of sc t)) g.todo) (f ∷ fs) → (xs : Pairs N) × Formed (body_places (body_of f.fun sc)) f.fun xs (f ∷ fs)
+  frames_formed : (fs : List (Frame N)) (f : Frame N) → FitsFrame sc f → Each (FitsFrame sc) fs → Each (λ g. IsFun sc g.fun) fs → Before (λ g. Last (λ t. IsOpenCall (row_of sc t)) g.todo) (f ∷ fs) → Last (λ g. Last (λ t. IsWaiting (row_of sc t)) g.todo) (f ∷ fs) → (xs : Pairs N) × Formed sc (body_places (body_of f.fun sc)) f.fun xs (f ∷ fs)
   frames_formed [] f h hs is calls top =
       (f.vars, one_frame f.fun f.vars f.stack f.todo f.vars [] (f.fun, f.vars) h (last_map (λ t. IsWaiting (row_of sc t)) (Lasts f.fun f.vars f.vars [] (f.fun, f.vars)) (top_last f.fun f.vars (f.fun, f.vars)) f.todo top))
   frames_formed (g ∷ gs) f h hs is calls top =
@@ -188,13 +176,13 @@ module _ {N : Type 0} (sc : Script) where
   bottom_fun (f ∷ fs) = f.fun
 
   -- the forms under way of a stack that waits and fits
-  pub run_formed : (r : Run N) → FitsRun sc r → 0 < r.waits → (f : List ℕ) × (xs : Pairs N) × Formed (body_places (body_of f sc)) f xs r.frames
+  pub run_formed : (r : Run N) → FitsRun sc r → 0 < r.waits → (f : List ℕ) × (xs : Pairs N) × Formed sc (body_places (body_of f sc)) f xs r.frames
   run_formed r h w = go r.frames h.some_frame h.functions h.frames h.calls (waiting h.top)
     where
       waiting : Last (λ g. Last (λ t. IsWaiting (row_of sc t)) g.todo) r.frames ⊎ IsStart sc r → Last (λ g. Last (λ t. IsWaiting (row_of sc t)) g.todo) r.frames
       waiting (inl l) = l
       waiting (inr s) = absurd (omega (arith, s.waits, w))
 
-      go : (fs : List (Frame N)) → 0 < length fs → FunsOf sc fs → Each (FitsFrame sc) fs → Before (λ g. Last (λ t. IsOpenCall (row_of sc t)) g.todo) fs → Last (λ g. Last (λ t. IsWaiting (row_of sc t)) g.todo) fs → (f : List ℕ) × (xs : Pairs N) × Formed (body_places (body_of f sc)) f xs fs
+      go : (fs : List (Frame N)) → 0 < length fs → FunsOf sc fs → Each (FitsFrame sc) fs → Before (λ g. Last (λ t. IsOpenCall (row_of sc t)) g.todo) fs → Last (λ g. Last (λ t. IsWaiting (row_of sc t)) g.todo) fs → (f : List ℕ) × (xs : Pairs N) × Formed sc (body_places (body_of f sc)) f xs fs
       go [] some is hs calls top = absurd (omega (arith, some))
       go (f ∷ fs) some is hs calls top = let up = frames_formed fs f hs.0 hs.1 is.1 calls top in (f.fun, up.0, up.1)

@@ -1,18 +1,18 @@
 -- The frames of forms that follow each other: each begins with its body's block, and its entries and values are as the table says.
-use Rattle.std.proofs.Common.{◌≡◌, ℕ, zero, suc, ◌+◌, ◌≤◌, ◌<◌, ◌⊎◌, inl, inr, List, [], ◌∷◌, ◌++◌, map, length, take, drop, sum_by, Option, Some, None, refl, sym, ap, ◌∙◌, subst, arith, append-nil}
+use Rattle.std.proofs.Common.{◌≡◌, ℕ, ◌+◌, inl, inr, List, [], ◌∷◌, ◌++◌, map, length, take, drop, Option, Some, None, refl, sym, ap, ◌∙◌, subst, arith, append-nil}
 use Rattle.std.proofs.lemmas.List.{take_at, drop_at}
 use Rattle.std.proofs.lemmas.List.Sums.{sum_by-cons}
-use Rattle.sky_base.specs.Val.{Val, Vals, Pairs}
+use Rattle.sky_base.specs.Val.{Val, Pairs}
 use Rattle.sky_base.specs.Tree.{Script}
-use Rattle.sky_base.specs.Res.{Entry, node_of, step_of, kept_of, opens}
+use Rattle.sky_base.specs.Res.{Entry, kept_of, opens}
 use Rattle.sky_base.specs.Eval.{Body, body_of}
 use Rattle.sky_base.specs.Read.{Todo, Frame, todo_of, in_front, frame_of, frames_of}
 use Rattle.sky_law.specs.Nodes.{node_at}
 use Rattle.sky_law.specs.Tasks.{In, Each}
 use Rattle.sky_law.specs.Sound.{IsFun}
-use Rattle.sky_state.specs.Table.{Row, part, turn, star, outputs, open_call, no_step, row, keeps, places, IsStep, IsOpenCall, IsWaiting}
+use Rattle.sky_state.specs.Table.{Row, part, turn, star, outputs, open_call, no_step, keeps, places, IsStep, IsOpenCall, IsWaiting}
 use Rattle.sky_state.specs.Fits.{OfKinds, TakenFrom, shares, Last, Before, row_of, OnBody, Parts, kept_in_all}
-use Rattle.sky_state.specs.Chained.{body_places, row_at, KeptBy, Above, Chained}
+use Rattle.sky_state.specs.Chained.{body_places, KeptBy, Above, Chained}
 
 module _ (sc : Script) where
   -- the first entry is one of these nodes

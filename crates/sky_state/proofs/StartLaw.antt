@@ -1,22 +1,18 @@
 -- A start state fits its script.
-use Rattle.std.proofs.Common.{◌≡◌, ℕ, zero, suc, ◌+◌, ◌≤◌, ◌<◌, ◌⊎◌, ◌↔◌, inl, inr, Bool, true, false, List, [], ◌∷◌, length, take, Option, Some, None, refl, sym, ap, ◌∙◌, subst, arith}
+use Rattle.std.proofs.Common.{◌≡◌, ℕ, ◌+◌, ◌⊎◌, inl, inr, Bool, true, false, List, [], ◌∷◌, length, take, Option, Some, None, refl, sym, ap, ◌∙◌, subst, arith}
 use Rattle.std.specs.Ordering.{nat_cmp, match_ordering}
 use Rattle.std.specs.Cmp.Lexicographic.{slice_cmp}
 use Rattle.std.specs.declared.cmp.Ordering.{Ordering}
 use Rattle.sky_base.specs.Val.{Val, Vals, Pairs, no_vals, val, no_pairs, pair, count, same_text}
 use Rattle.sky_base.specs.Op.{put}
 use Rattle.sky_base.specs.Tree.{FunDef, Script, block_nodes}
-use Rattle.sky_base.specs.Res.{visits, others, bodies}
-use Rattle.sky_base.specs.Eval.{find_fun, find_fun_if, is_one_of, Body, find_body, find_body_if, body_of, bind}
-use Rattle.sky_base.specs.Read.{Todo, Frame, Run}
+use Rattle.sky_base.specs.Eval.{find_fun, find_fun_if, Body, find_body, find_body_if, body_of, bind}
+use Rattle.sky_base.specs.Read.{Frame, Run}
 use Rattle.sky_base.proofs.Keys.{same_key}
-use Rattle.sky_law.specs.Opened.{Node, block_node}
-use Rattle.sky_law.specs.Nodes.{node_at}
 use Rattle.sky_law.specs.Tasks.{In, Each}
 use Rattle.sky_law.specs.Sound.{IsFun, AllUsed, IsMain, CallsIf, Sound, SoundVars}
-use Rattle.sky_law.proofs.NodesLaw.{has_script}
-use Rattle.sky_state.specs.Table.{Row, part, row, keeps, IsStep}
-use Rattle.sky_state.specs.Fits.{row_of, OnBody, OfKinds, TakenFrom, kept_in_all, uses_of, KeysFrom, HasKey, StartVars, StartFrame, IsStart, FitsFrame, FitsRun}
+use Rattle.sky_state.specs.Table.{part, row, keeps, IsStep}
+use Rattle.sky_state.specs.Fits.{row_of, OnBody, OfKinds, TakenFrom, kept_in_all, uses_of, KeysFrom, HasKey, StartVars, IsStart, FitsFrame, FitsRun}
 use Rattle.sky_state.specs.Start.{SoundVals, CanStart}
 use Rattle.sky_state.proofs.LinkLaw.{block_of_body}
 use Rattle.sky_state.proofs.StackLaw.{kept_more}

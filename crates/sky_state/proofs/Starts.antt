@@ -1,16 +1,16 @@
 -- The state with which a call starts.
-use Rattle.std.proofs.Common.{◌≡◌, ℕ, ◌+◌, ◌⊎◌, inl, inr, Bool, true, false, List, [], ◌∷◌, Option, Some, None, refl, sym, ap, ◌∙◌, subst}
+use Rattle.std.proofs.Common.{◌≡◌, ℕ, ◌+◌, ◌⊎◌, inl, inr, Bool, true, false, List, [], ◌∷◌, Option, Some, None, refl, sym, subst}
 use Rattle.sky_base.specs.Val.{Vals, Pairs, same_text}
 use Rattle.sky_base.specs.Tree.{FunDef, Script, block_nodes}
 use Rattle.sky_base.specs.Eval.{find_fun, find_fun_if, Body, find_body, find_body_if, body_of, bind}
 use Rattle.sky_base.specs.Read.{Run}
 use Rattle.sky_law.specs.Sound.{IsMain, CallsIf}
 use Rattle.sky_state.specs.Stand.{Stand}
-use Rattle.sky_state.specs.Start.{start_in, StartsIn, StartsCall, CanStart}
-use Rattle.sky_state.specs.Fits.{Fits, FitsRun}
+use Rattle.sky_state.specs.Start.{StartsIn, StartsCall, CanStart}
+use Rattle.sky_state.specs.Fits.{Fits}
 use Rattle.sky_state.specs.BodyView.{IsBody}
 use Rattle.sky_state.specs.declared.start.Body as code
-use Rattle.sky_state.proofs.StartLaw.{start_run, start_fits}
+use Rattle.sky_state.proofs.StartLaw.{start_fits}
 
 -- a function of the script has a body
 body_if : (t : Bool) (g : FunDef) (i : ℕ) (o : Option Body) (p : Option FunDef) (d : FunDef) → find_fun_if t g p ≡ Some d → find_body_if t g i o ≡ None → (p ≡ Some d → o ≡ None → ⊥) → ⊥

@@ -5,10 +5,12 @@ use Rattle.sky_base.specs.Val.{Val, Pairs}
 use Rattle.sky_base.specs.Tree.{Script}
 use Rattle.sky_base.specs.Res.{Entry, node_of, step_of, kept_of, opens}
 use Rattle.sky_base.specs.Eval.{Body, body_of}
-use Rattle.sky_law.specs.Opened.{Node}
+use Rattle.sky_base.specs.Read.{Frame, frames_of}
+use Rattle.sky_law.specs.Opened.{Node, Opened}
+use Rattle.sky_law.specs.Nodes.{node_at}
 use Rattle.sky_law.specs.Tasks.{In}
 use Rattle.sky_law.specs.Sound.{IsFun}
-use Rattle.sky_state.specs.Table.{Row, part, turn, star, outputs, open_call, no_step, row, keeps}
+use Rattle.sky_state.specs.Table.{Row, part, turn, star, outputs, open_call, row, keeps}
 use Rattle.sky_state.specs.Fits.{OfKinds, TakenFrom}
 
 -- the node of the block with which a body begins
@@ -41,3 +43,16 @@ module _ {N : Type 0} (sc : Script) (at : ℕ → Option Node) where
   Chained ps [] = ⊥
   Chained ps (en ∷ fr) =
       In (node_of en) ps × KeptBy (row_at en) (kept_of en) × Above (row_at en) (opens en) (fr ≡ []) (λ ms. Chained ms fr)
+
+-- each form is what its node, its step and what it keeps open
+abbrev pub AllOpened : {N : Type 0} → (ℕ → Option Node) → List (Entry N) → Type 0
+AllOpened at [] = Unit {0}
+AllOpened at (en ∷ fr) = Opened at en × AllOpened at fr
+
+-- these frames are of forms under way that follow each other from one of these nodes on, each opened by what is saved of it; f is
+-- the function of the bottom frame, and xs are the variables of the top one
+pub record Formed {N : Type 0} (sc : Script) (ps f : List ℕ) (xs : Pairs N) (fs : List (Frame N)) : Type 0 where
+  pub forms : List (Entry N)
+  pub chained : Chained sc (λ i. node_at sc i) ps forms
+  pub all_opened : AllOpened (λ i. node_at sc i) forms
+  pub frames : frames_of forms f xs ≡ fs

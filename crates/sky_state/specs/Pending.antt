@@ -1,7 +1,7 @@
 -- What a state waits for, and what it holds.
-use Rattle.std.specs.Prelude.{ℕ, List, [], ◌∷◌, ◌++◌, Bool, flat_map}
+use Rattle.std.specs.Prelude.{List, [], ◌∷◌, ◌++◌, Bool, flat_map}
 use Rattle.sky_base.specs.Val.{Val, Desc, refs, pairs_refs, distinct}
-use Rattle.sky_base.specs.Read.{Frame, Run}
+use Rattle.sky_base.specs.Read.{Frame}
 use Rattle.sky_state.specs.Stand.{Stand}
 
 module _ {N : Type 0} where

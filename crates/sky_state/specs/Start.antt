@@ -1,6 +1,6 @@
 -- The start of a call, and of the root task.
 use Rattle.std.specs.Prelude.{◌≡◌, ℕ, List, [], ◌∷◌, Option, Some, None, ◌⊎◌}
-use Rattle.sky_base.specs.Val.{Val, Vals, Pairs, Desc, no_vals, val}
+use Rattle.sky_base.specs.Val.{Vals, Pairs, no_vals, val}
 use Rattle.sky_base.specs.Tree.{Script}
 use Rattle.sky_base.specs.Eval.{Body, bind, body_of, find_fun}
 use Rattle.sky_law.specs.Sound.{IsMain, CallsIf, Sound, SoundVars}

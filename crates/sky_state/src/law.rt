@@ -1,7 +1,7 @@
 // Laws of states. Each is the contract of a function that does nothing.
 
 ghost use Rattle.sky_law.specs.NamesLaws.{Tag};
-ghost use Rattle.sky_state.specs.Laws.{OneNext, StandsFits, StandsHolds, StandsPending, StartOfCall, StartOfShow};
+ghost use Rattle.sky_state.specs.Laws.{OneNext, StackIsSaved, StackOpens, StandsFits, StandsHolds, StandsPending, StartOfCall, StartOfShow};
 
 /// The start of a call stands for the call at its start, and the start of the root task for the root task.
 pub fn starts_stand()
@@ -16,6 +16,13 @@ pub fn states_that_stand()
     ensures fits { (tag : Tag) → StandsFits tag }
     ensures pending { (tag : Tag) → StandsPending tag }
     ensures holds { (tag : Tag) → StandsHolds tag }
+{}
+
+/// A stack that fits a script and waits is that of forms under way, each of which is opened by its node, its step and the
+/// values that it keeps; and the stack of such forms at a wait fits.
+pub fn stacks_open()
+    ensures opened { StackOpens }
+    ensures saved { StackIsSaved }
 {}
 
 /// Where a task stops next, with some descriptions at hand, is one wait or its end.

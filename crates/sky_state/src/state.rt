@@ -1,7 +1,7 @@
 // A state: what stands of a task that can start, or that waits.
 
 ghost use Rattle.std.specs.Prelude.{◌≡◌, [], ◌∷◌, ◌++◌, IfOk};
-ghost use Rattle.sky_base.specs.Tree as logic_tree;
+ghost use Rattle.sky_base.specs.Tree as tree;
 ghost use Rattle.sky_base.specs.Val as logic;
 ghost use Rattle.sky_base.specs.Val.{vals_refs, known, same_text};
 ghost use Rattle.sky_base.specs.Names.{known_of};
@@ -70,7 +70,7 @@ impl State {
     pub fn start_show(main: Name) -> State
         ensures value { stand_of result ≡ Stand.show_at (logic.Val.ref (known main)) 0 }
         ensures spawned { spawned_of result ≡ [] }
-        ensures fits { (script : logic_tree.Script) → Fits script (stand_of result) }
+        ensures fits { (script : tree.Script) → Fits script (stand_of result) }
         ensures stands { StandsForShow main (stand_of result) }
     {
         State::Show {

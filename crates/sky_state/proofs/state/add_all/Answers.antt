@@ -1,4 +1,4 @@
-use Rattle.std.proofs.Common.{◌≡◌, ◌+◌, ◌++◌, suc, [], ◌∷◌, take, sym, ap, ◌∙◌, arith, add-one, take-suc, append_assoc}
+use Rattle.std.proofs.Common.{◌≡◌, ◌+◌, ◌++◌, [], ◌∷◌, take, sym, ap, ◌∙◌, arith, add-one, take-suc, append_assoc}
 use Rattle.std.proofs.lemmas.List.{take_all}
 use Rattle.sky_base.specs.Val.{vals_refs, refs}
 use Rattle.sky_base.specs.View.{view}

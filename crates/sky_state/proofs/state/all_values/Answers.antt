@@ -1,4 +1,4 @@
-use Rattle.std.proofs.Common.{◌≡◌, ◌+◌, ◌++◌, suc, [], ◌∷◌, take, sym, ap, ◌∙◌, arith, add-one, take-suc, append_assoc}
+use Rattle.std.proofs.Common.{◌≡◌, ◌+◌, ◌++◌, [], ◌∷◌, take, sym, ap, ◌∙◌, arith, add-one, take-suc, append_assoc}
 use Rattle.sky_base.specs.Val.{vals_refs, pairs_refs, dict}
 use Rattle.sky_state.specs.Pending.{frames_refs, stack_refs}
 use Rattle.sky_state.specs.StandView.{stack_view, frames_view}

@@ -4,7 +4,7 @@ use Rattle.sky_base.specs.Names.{known_of}
 use Rattle.sky_base.specs.View.{view}
 use Rattle.sky_state.specs.Pending.{last_refs, top_refs}
 use Rattle.sky_state.specs.StandView.{stack_view, frames_view}
-use Rattle.sky_state.proofs.Gathers.{last_some, last_none, top_some, top_none}
+use Rattle.sky_state.proofs.Gathers.{last_some, last_none, top_some}
 use Rattle.sky_state.proofs.state.last_refs.Goals as goal
 
 pub returns-in-Some-last : goal.returns-in-Some-last

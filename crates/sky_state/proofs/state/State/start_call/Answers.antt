@@ -1,6 +1,5 @@
-use Rattle.std.proofs.Common.{◌≡◌, ◌∷◌, [], ◌∙◌, sym, ap, subst, refl}
+use Rattle.std.proofs.Common.{◌≡◌, ◌∷◌, [], ◌∙◌, sym, ap, subst}
 use Rattle.sky_base.specs.Eval.{bind}
-use Rattle.sky_base.specs.Read.{Run}
 use Rattle.sky_state.specs.Stand.{Stand}
 use Rattle.sky_state.specs.Start.{StartsCall}
 use Rattle.sky_state.proofs.Starts.{begun, starts_call, starts_fit}
