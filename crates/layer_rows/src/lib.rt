@@ -14,4 +14,6 @@ mod line_rows;
 #[cfg(test)]
 mod names;
 #[cfg(test)]
+mod states;
+#[cfg(test)]
 mod store;

@@ -1,0 +1,14 @@
+pub mod FitRows
+pub mod Bodies
+pub mod Binds
+pub mod Gathers
+pub mod LinkLaw
+pub mod StackLaw
+pub mod StartLaw
+pub mod Starts
+pub mod LowFits
+pub mod SavedLaw
+pub mod FitsLaw
+pub mod HeldLaw
+pub mod OpenEntry
+pub mod OpenFrames

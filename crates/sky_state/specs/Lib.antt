@@ -1,0 +1,12 @@
+pub mod Stand
+pub mod StandCode
+pub mod StandView
+pub mod Table
+pub mod Fits
+pub mod Chained
+pub mod Pending
+pub mod Start
+pub mod BodyView
+pub mod StateView
+pub mod Stands
+pub mod Laws
