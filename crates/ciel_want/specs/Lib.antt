@@ -1,3 +1,0 @@
-pub mod Waited
-pub mod Marked
-pub mod Board
