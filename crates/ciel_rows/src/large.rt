@@ -89,12 +89,38 @@ fn a_chain_without_end(rt: HostRuntime) -> Result<(), Fail> {
     )
 }
 
+/// The main call and one for each number from the given one down to 0 wait for each other.
 #[test]
-fn a_long_chain(rt: HostRuntime) -> Result<(), Fail> {
+fn a_chain_as_long_as_may_be(rt: HostRuntime) -> Result<(), Fail> {
     writes(
         &rt,
         rt.alloc(),
-        b"function f(n) { if (n == 0) { return 0; } return *spawn(f, [n - 1]); } return *spawn(f, [4000]);",
+        b"function f(n) { if (n == 0) { return 0; } return *spawn(f, [n - 1]); } return *spawn(f, [4094]);",
         "0\n",
+    )?;
+    tells(
+        &rt,
+        rt.alloc(),
+        b"function f(n) { if (n == 0) { return 0; } return *spawn(f, [n - 1]); } return *spawn(f, [4095]);",
+        13,
+        "ciel: plain run too deep 4096\n",
+    )
+}
+
+/// The result is a reference to a reference, and so on.
+#[test]
+fn as_many_waves_as_may_be(rt: HostRuntime) -> Result<(), Fail> {
+    writes(
+        &rt,
+        rt.alloc(),
+        b"function f(n) { if (n == 0) { return 0; } return spawn(f, [n - 1]); } return spawn(f, [99]);",
+        "0\n",
+    )?;
+    tells(
+        &rt,
+        rt.alloc(),
+        b"function f(n) { if (n == 0) { return 0; } return spawn(f, [n - 1]); } return spawn(f, [100]);",
+        3,
+        "ciel: fault TooDeep 0:0\n",
     )
 }

@@ -15,6 +15,8 @@ mod messages;
 #[cfg(test)]
 mod outside;
 #[cfg(test)]
+mod parser_rows;
+#[cfg(test)]
 mod plain_rows;
 #[cfg(test)]
 mod scripts;

@@ -8,6 +8,7 @@ fn scripts_are_answered(rt: HostRuntime) -> Result<(), Fail> {
     let rows = [
         ("", "null\n"),
         ("return 1 + 2;", "3\n"),
+        ("return 40 + 2;", "42\n"),
         (" return\t1\r\n+\n0002 ; // three", "3\n"),
         (
             "function f(x) { return x * x; } a = spawn(f, [3]); b = spawn(f, [4]); return *a + *b;",
