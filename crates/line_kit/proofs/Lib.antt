@@ -12,3 +12,4 @@ pub mod HalfLaw
 pub mod PartsLaw
 pub mod FindLaw
 pub mod Sorting
+pub mod FeedLaw

@@ -8,14 +8,16 @@ ghost use Rattle.line_kit.specs.Gives.{one};
 use crate::lines::is_open;
 use crate::output::{Answer, one_line};
 use itoa::Buffer;
+use memchr::memchr_iter;
 use sky_base::text::Bytes;
 use std::alloc::Global;
 
+#[tactic(auto, using(crate::proofs::FeedLaw::feeds))]
 fn line_feeds(bytes: &[u8]) -> usize
     ensures value { result ≡ count_by (λ b. b == 10) bytes.now }
     ensures bound { result ≤ length bytes.now }
 {
-    bytes.iter().filter(|b| **b == b'\n').count()
+    memchr_iter(b'\n', bytes).count()
 }
 
 // One for each line feed, and one for a last line that has none.
