@@ -14,6 +14,8 @@ refs_push no_vals v = append-nil (refs v)
 refs_push (val u vs) v =
     ap (λ ds. refs u ++ ds) (refs_push vs v) ∙ sym (append_assoc (refs u) (vals_refs vs) (refs v))
 
+pub ruleset pushes = (refs_push, refs_push)
+
 pub stack_push : (vs : List Value) (v : Value) → stack_refs (stack_view (vs ++ v ∷ [])) ≡ stack_refs (stack_view vs) ++ refs (view v)
 stack_push vs v =
     ap stack_refs (map-append view vs (v ∷ []))

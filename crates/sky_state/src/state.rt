@@ -3,7 +3,8 @@
 ghost use Rattle.std.specs.Prelude.{◌≡◌, [], ◌∷◌, ◌++◌, IfOk};
 ghost use Rattle.sky_base.specs.Tree as tree;
 ghost use Rattle.sky_base.specs.Val as logic;
-ghost use Rattle.sky_base.specs.Val.{vals_refs, known, same_text};
+ghost use Rattle.sky_base.specs.Val.{refs, vals_refs, pairs_refs, known, same_text};
+ghost use Rattle.sky_base.specs.View.{view};
 ghost use Rattle.sky_base.specs.Names.{known_of};
 ghost use Rattle.sky_state.specs.Fits.{Fits};
 ghost use Rattle.sky_state.specs.Pending.{pending_in, held_in, frames_refs, stack_refs};
@@ -160,16 +161,25 @@ fn last_refs(alloc: Global, frames: &[Frame]) -> Result<Names, Memory>
     }
 }
 
-// All values of the frames, in order; the variables of a frame are one dictionary. A copy of a value takes constant time.
+// All values of the frames, in order; the variables of a frame are one dictionary.
 fn all_values(alloc: Global, frames: &[Frame]) -> Result<Vals, Memory>
     ensures { IfOk result (λ vs. vals_refs vs ≡ frames_refs (frames_view frames.now)) }
 {
     let mut values = Vals::new(alloc);
     for frame in frames {
-        values.push(Value::Dict(frame.vars.copy()?))?;
+        add_variables(&mut values, &frame.vars)?;
         add_all(&mut values, frame.stack.as_slice())?;
     }
     Ok(values)
+}
+
+// Puts the variables at the end of the list, as a dictionary.
+#[tactic(auto, using(crate::proofs::Gathers::pushes))]
+fn add_variables(values: &mut Vals, vars: &Pairs) -> Result<(), Memory>
+    ensures { IfOk result (λ _. vals_refs values.new ≡ vals_refs values.old ++ pairs_refs vars.now) }
+{
+    values.push(Value::Dict(vars.copy()?))?;
+    Ok(())
 }
 
 // Puts the values at the end of the list.
@@ -177,7 +187,16 @@ fn add_all(values: &mut Vals, stack: &[Value]) -> Result<(), Memory>
     ensures { IfOk result (λ _. vals_refs values.new ≡ vals_refs values.old ++ stack_refs (stack_view stack.now)) }
 {
     for value in stack {
-        values.push(value.copy()?)?;
+        add(values, value)?;
     }
+    Ok(())
+}
+
+// Puts a value at the end of the list; a copy of it takes constant time.
+#[tactic(auto, using(crate::proofs::Gathers::pushes))]
+fn add(values: &mut Vals, value: &Value) -> Result<(), Memory>
+    ensures { IfOk result (λ _. vals_refs values.new ≡ vals_refs values.old ++ refs (view value.now)) }
+{
+    values.push(value.copy()?)?;
     Ok(())
 }
