@@ -17,3 +17,5 @@ mod names;
 mod states;
 #[cfg(test)]
 mod store;
+#[cfg(test)]
+mod table;
