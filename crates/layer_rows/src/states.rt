@@ -1,8 +1,13 @@
 // States: how a call and the root task start, and what a state waits for, holds and has made.
 
+ghost use Rattle.std.specs.Prelude.{◌≡◌, IfOk};
+ghost use Rattle.sky_base.specs.StmtView.{stm_view};
+ghost use Rattle.sky_base.specs.Tree.{nodes, links_nodes, stm_nodes, stms_nodes, funs_nodes};
+ghost use Rattle.sky_base.specs.TreeView.{exp_view};
+
 use sky_base::name::Name;
 use sky_base::object::{Desc1, Named};
-use sky_base::script::{FunDef, FunDefs, Script, Texts};
+use sky_base::script::{FunDefs, Script, Texts};
 use sky_base::stmt::{Block, Stmt};
 use sky_base::text::Txt;
 use sky_base::tree::{ArithOp, Expr, Link, Links, Lit, Sub};
@@ -21,7 +26,9 @@ fn reference(byte: u8) -> Value {
     Value::Ref(name(byte))
 }
 
-fn number(value: i64, col: u32) -> Expr {
+fn number(value: i64, col: u32) -> Expr
+    ensures { nodes (exp_view result) ≡ 1 }
+{
     Expr::Literal {
         value: Lit::Int(value),
         line: 1,
@@ -29,27 +36,48 @@ fn number(value: i64, col: u32) -> Expr {
     }
 }
 
-/// `return 1 + 2;`
-fn sum(alloc: Global) -> Result<Script, Fail> {
+/// `+ 2`
+fn plus_two(alloc: Global) -> Result<Links, Fail>
+    ensures { IfOk result (λ ls. links_nodes ls ≡ 1) }
+{
+    let operand = number(2, 12);
     let mut links = Vec::new(alloc);
     links.push(Link {
         op: ArithOp::Plus,
         line: 1,
         col: 10,
-        operand: number(2, 12),
+        operand,
     })?;
-    let value = Expr::Chain {
-        first: Sub::new(alloc, number(1, 8))?,
-        rest: Links::of(links),
-    };
-    let mut stmts = Vec::new(alloc);
-    stmts.push(Stmt::Return {
+    Ok(Links::of(links))
+}
+
+/// `return 1 + 2;`
+fn returns_sum(alloc: Global) -> Result<Stmt, Fail>
+    ensures { IfOk result (λ s. stm_nodes (stm_view s) ≡ 4) }
+{
+    let rest = plus_two(alloc)?;
+    let first = Sub::new(alloc, number(1, 8))?;
+    Ok(Stmt::Return {
         line: 1,
         col: 1,
-        value: Some(value),
-    })?;
+        value: Some(Expr::Chain { first, rest }),
+    })
+}
+
+/// The body that is this statement.
+fn body_of(alloc: Global, stmt: Stmt) -> Result<Block, Fail>
+    ensures { IfOk result (λ b. stms_nodes b ≡ stm_nodes (stm_view stmt)) }
+{
+    let mut stmts = Vec::new(alloc);
+    stmts.push(stmt)?;
+    Ok(Block::of(stmts))
+}
+
+/// The script `return 1 + 2;`.
+fn sum(alloc: Global) -> Result<Script, Fail> {
+    let main = body_of(alloc, returns_sum(alloc)?)?;
     let funs = FunDefs::of(Vec::new(alloc));
-    Ok(Script::new(funs, Block::of(stmts), Texts::of(Vec::new(alloc))))
+    Ok(Script::new(funs, main, Texts::of(Vec::new(alloc))))
 }
 
 /// Whether the state waits for these names, and holds those, by their bytes.
@@ -89,43 +117,6 @@ fn the_main_body_starts_with_nothing(rt: HostRuntime) -> Result<(), Fail> {
     };
     assert!(rt; frame.fun.is_empty() && frame.vars.len() == 0 && frame.stack.as_slice().is_empty());
     assert!(rt; frame.todo.as_slice() == [Todo { node: 0, step: 0 }].as_slice());
-    Ok(())
-}
-
-/// `function f(x) { }`, and nothing else.
-fn one_function(alloc: Global) -> Result<Script, Fail> {
-    let mut params = Vec::new(alloc);
-    params.push(Txt::new(alloc, "x")?)?;
-    let mut funs = Vec::new(alloc);
-    funs.push(FunDef {
-        name: Txt::new(alloc, "f")?,
-        params: Texts::of(params),
-        body: Block::of(Vec::new(alloc)),
-        line: 1,
-        col: 10,
-        uses: Texts::of(Vec::new(alloc)),
-    })?;
-    let main = Block::of(Vec::new(alloc));
-    Ok(Script::new(FunDefs::of(funs), main, Texts::of(Vec::new(alloc))))
-}
-
-#[test]
-fn a_call_starts_with_its_arguments(rt: HostRuntime) -> Result<(), Fail> {
-    let alloc = rt.alloc();
-    let script = one_function(alloc)?;
-    let (fun, caught) = (Txt::new(alloc, "f")?, Pairs::new(alloc));
-    let mut args = Vals::new(alloc);
-    args.push(reference(2))?;
-    let state = State::start_call(alloc, &script, &fun, &caught, &args)?;
-    assert!(rt; names(rt.alloc(), &state, &[], &[2])?);
-    let State::Run(run) = &state else {
-        return Err(Fail::from("no run"));
-    };
-    let [frame] = run.frames.as_slice() else {
-        return Err(Fail::from("not one frame"));
-    };
-    assert!(rt; frame.vars.find(&Txt::new(alloc, "x")?).is_some());
-    assert!(rt; frame.todo.as_slice() == [Todo { node: 1, step: 0 }].as_slice());
     Ok(())
 }
 
