@@ -3,10 +3,6 @@
 #![tactic(auto)]
 
 #[cfg(test)]
-mod executors;
-#[cfg(test)]
-mod inputs;
-#[cfg(test)]
 mod large;
 #[cfg(test)]
 mod memory;
@@ -14,8 +10,6 @@ mod memory;
 mod messages;
 #[cfg(test)]
 mod outside;
-#[cfg(test)]
-mod parser_rows;
 #[cfg(test)]
 mod plain_rows;
 #[cfg(test)]

@@ -17,5 +17,3 @@ mod names;
 mod states;
 #[cfg(test)]
 mod store;
-#[cfg(test)]
-mod table;
