@@ -7,7 +7,6 @@ pub mod Turns
 pub mod Search
 pub mod Three
 pub mod Wanted
-pub mod Graph
 pub mod Work
 pub mod Names
 pub mod Fixed
