@@ -22,7 +22,7 @@ use sky_base::fault::{Fault, FaultKind};
 use sky_base::name::Name;
 use sky_base::names::Names;
 use sky_base::object::{Desc1, Object};
-use sky_base::op::{OpRefusal, limited};
+use sky_base::op::OpRefusal;
 use sky_base::text::{Memory, Txt};
 use sky_base::tree::{SignAt, SignOp};
 use sky_base::value::{Pairs, Vals, Value};
@@ -30,9 +30,8 @@ use sky_rows::data::read;
 use sky_rows::objects::{Objects, slot};
 use sky_rows::rows::Rows;
 use sky_scope::cut::{Cut, fault};
-use sky_scope::funs::{fun_named, is_one_of};
+use sky_scope::funs::{closed, fun_named, is_one_of};
 use sky_scope::ops::{negated, opposite, truth};
-use sky_scope::program::Program;
 use sky_scope::state::State;
 use std::alloc::Global;
 
@@ -115,19 +114,6 @@ pub fn function(
 {
     let answer = closed(ground.alloc, ground.script, state, name);
     give(state, answer, line, col)
-}
-
-// The function of this name with those of the variables that its body uses.
-fn closed(alloc: Global, script: &Program, state: &State, name: &Txt) -> Result<Value, OpRefusal>
-    ensures answer { Answers result (run.closed (run.find_fun name.now script.now.funs) name.now state.now.vars) }
-    ensures kept { IfOk result (λ v. Kept (view v)) }
-{
-    let Some(fun) = script.find(name) else {
-        return Err(OpRefusal::Refused(FaultKind::Unknown));
-    };
-    let caught = state.caught(alloc, fun.uses.as_slice())?;
-    let name = name.share()?;
-    Ok(limited(Value::Fun { name, caught })?)
 }
 
 /// Holds a description, and gives its name.
@@ -248,7 +234,7 @@ fn outputs(
 
 /// The list of the references to these, at most 64.
 #[tactic(auto, using(crate::proofs::FormLaw::refs_list))]
-fn references(alloc: Global, names: &Names) -> Result<Value, Memory>
+pub fn references(alloc: Global, names: &Names) -> Result<Value, Memory>
     requires { length names.now ≤ 64 }
     ensures value { IfOk result (λ v. view v ≡ list (refs_to (known_names names.now))) }
     ensures kept { IfOk result (λ v. Kept (view v)) }

@@ -649,30 +649,9 @@ module _ {N : Type 0} (spell : N → List ℕ) (tag : Desc (List ℕ) → List �
   left_low (suc k) no_vals = refl
   left_low (suc k) (val v vs) = left_low k vs
 
-  -- ---- what is lowered stays so
-
-  mutual
-    again_low : (v : Val N) → low (λ n. n) tag (low spell tag v) ≡ low spell tag v
-    again_low null = refl
-    again_low (truth b) = refl
-    again_low (num z) = refl
-    again_low (text t) = refl
-    again_low (list vs) = ap list (vals_again vs)
-    again_low (dict ps) = ap dict (pairs_again ps)
-    again_low (fun f c) = ap (fun f) (pairs_again c)
-    again_low (ref d) = refl
-
-    vals_again : (vs : Vals N) → low_vals (λ n. n) tag (low_vals spell tag vs) ≡ low_vals spell tag vs
-    vals_again no_vals = refl
-    vals_again (val v vs) = ap₂ val (again_low v) (vals_again vs)
-
-    pairs_again : (ps : Pairs N) → low_pairs (λ n. n) tag (low_pairs spell tag ps) ≡ low_pairs spell tag ps
-    pairs_again no_pairs = refl
-    pairs_again (pair k v ps) = ap₂ (λ u qs. pair k u qs) (again_low v) (pairs_again ps)
-
-  -- a name is that of the lowered description
-  pub name_low : (d : Desc N) → name (λ n. n) tag (low_desc spell tag d) ≡ name spell tag d
-  name_low (call f c vs) = ap₂ (λ qs us. tag (call f qs us)) (pairs_again c) (vals_again vs)
-  name_low (out x v n i) = ap (λ u. tag (out x u n i)) (again_low v)
-  name_low (input k) = refl
-  name_low (known b) = refl
+-- where no description has a name inside, its name is that of the lowered description
+pub tag_low : (tag : Desc (List ℕ) → List ℕ) (d : Desc ⊥) → tag (low_desc (λ n. absurd n) tag d) ≡ name (λ n. absurd n) tag d
+tag_low tag (call f c vs) = refl
+tag_low tag (out x v n i) = refl
+tag_low tag (input k) = refl
+tag_low tag (known n) = absurd n

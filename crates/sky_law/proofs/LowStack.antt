@@ -10,7 +10,7 @@ use Rattle.sky_base.specs.Eval.{body_at}
 use Rattle.sky_base.specs.Read.{Halt, Frame, Todo, todo_of, in_front, frame_of, frames_of, run_of_halt, segment, first_end, first_halt}
 use Rattle.sky_law.specs.Lower.{lower, low_entry, low_frame, low_run, low_halt, low_stop, named_as, names_world}
 use Rattle.sky_base.specs.See.{Job, Around, run_of, world_of, start_st}
-use Rattle.sky_law.proofs.Low.{refs_to_low, name_low}
+use Rattle.sky_law.proofs.Low.{refs_to_low, tag_low}
 use Rattle.sky_law.proofs.LowLaw.{Rel, rel_call}
 
 map_join : {A B : Type 0} (f : A → B) (xs ys : List A) → map f (xs ++ ys) ≡ map f xs ++ map f ys
@@ -102,4 +102,4 @@ module _ {N : Type 0} (spell : N → List ℕ) (tag : Desc (List ℕ) → List �
 module _ (job : Job) (around : Around) (tag : Desc (List ℕ) → List ℕ) (read : List ℕ → Answer (List ℕ)) (reads_alike : (b : List ℕ) → read b ≡ lower {N = ⊥} (λ n. absurd n) tag (around.reads b)) where
   pub job_low : (f : List ℕ) (c : Pairs ⊥) (vs : Vals ⊥) → Rel (λ n. absurd n) tag (run_of job around f c vs) (body_at (names_world tag job.script read) bodies f (low_pairs (λ n. absurd n) tag c) (low_vals (λ n. absurd n) tag vs) nowhere start_st)
   job_low f c vs =
-      rel_call (λ n. absurd n) tag (world_of job.script around) (named_as tag) read (λ d. ap known (name_low (λ n. absurd n) tag d)) reads_alike bodies f c vs nowhere start_st
+      rel_call (λ n. absurd n) tag (world_of job.script around) (named_as tag) read (λ d. ap known (tag_low tag d)) reads_alike bodies f c vs nowhere start_st

@@ -9,7 +9,7 @@ use Rattle.sky_base.specs.Res.{others, Object, Res, Fin, Tell, Ask}
 use Rattle.sky_base.specs.Read.{Halt, refs_of, see_all, segment, outcome, halt, segment_from, first_end, first_halt, rest_of}
 use Rattle.sky_law.specs.Lower.{lower, low_obj, low_halt, low_stop, named_as, names_world}
 use Rattle.sky_base.specs.See.{Job, Around, run_of, world_of, start_st}
-use Rattle.sky_law.proofs.Low.{name_low}
+use Rattle.sky_law.proofs.Low.{tag_low}
 use Rattle.sky_law.proofs.FormsLaw.{Good, good_task}
 use Rattle.sky_law.proofs.WaitsLaw.{ends_on, halts_on, makes_on}
 use Rattle.sky_law.proofs.LowLaw.{Rel, rel_rest}
@@ -49,7 +49,7 @@ module _ (job : Job) (around : Around) where
 
       pub rest_low : Rel (λ n. absurd n) tag onward onward_low
       rest_low =
-          rel_rest (λ n. absurd n) tag (world_of job.script around) (named_as tag) read (λ d. ap known (name_low (λ n. absurd n) tag d)) reads_alike others h.wait h.forms h.st os
+          rel_rest (λ n. absurd n) tag (world_of job.script around) (named_as tag) read (λ d. ap known (tag_low tag d)) reads_alike others h.wait h.forms h.st os
 
       -- what the step machine is to do where no names clash
       pub resume_halts : first_halt onward_low ≡ option_map (low_halt (λ n. absurd n) tag) (halt see (suc j) (run_of job around f c vs))

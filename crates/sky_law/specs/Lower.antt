@@ -80,7 +80,7 @@ module _ {N : Type 0} (spell : N → List ℕ) (tag : Desc (List ℕ) → List �
 -- a script over names: a reference to a new description holds its name
 module _ (tag : Desc (List ℕ) → List ℕ) where
   abbrev pub named_as : Desc (List ℕ) → Desc (List ℕ)
-  named_as d = known (name (λ n. n) tag d)
+  named_as d = known (tag d)
 
   abbrev pub names_world : Script → (List ℕ → Answer (List ℕ)) → World (List ℕ)
   names_world script read = record { make = named_as; reads = read; script = script }

@@ -1,5 +1,5 @@
 -- Variables within the limits.
-use Rattle.std.proofs.Common.{◌≡◌, ℕ, zero, suc, ◌≤◌, List, Option, Some, None, refl, ap, ◌∙◌, subst, arith, ◌+◌, [], ◌∷◌, true, false, drop, length}
+use Rattle.std.proofs.Common.{◌≡◌, ℕ, zero, suc, ◌≤◌, List, Option, Some, None, refl, sym, ap, ◌∙◌, subst, arith, ◌+◌, [], ◌∷◌, true, false, drop, length}
 use Rattle.std.specs.Ordering.{nat_cmp, match_ordering}
 use Rattle.std.specs.Cmp.Lexicographic.{slice_cmp}
 use Rattle.std.specs.declared.cmp.Ordering.{Ordering}
@@ -46,6 +46,17 @@ pub put_again : (k : List ℕ) (u v : Val) (ps : Pairs) → put k v (put k u ps)
 put_again k u v no_pairs = ap (λ o. match_ordering o (pair k v (pair k u no_pairs)) (pair k v no_pairs) (pair k u (put k v no_pairs))) (tied_itself nat_list_cmp_total k)
 put_again k u v (pair l w ps) = again_step (slice_cmp nat_cmp k l) k l u v w ps (put k u ps) (put k v ps) refl (put_again k u v ps)
 
+same_step : (o : Ordering) (k l : List ℕ) (u v : Val) (ps qs : Pairs) (r : Option Val) → match_ordering o None (Some u) r ≡ Some v → (r ≡ Some v → qs ≡ ps) → match_ordering o (pair k v (pair l u ps)) (pair l v ps) (pair l u qs) ≡ pair l u ps
+same_step Ordering.Less k l u v ps qs r e h = absurd cc
+same_step Ordering.Equal k l u v ps qs r e h = let f : u ≡ v = cc in ap (λ x. pair l x ps) (sym f)
+same_step Ordering.Greater k l u v ps qs r e h = ap (λ xs. pair l u xs) (h e)
+
+-- to put what stands there changes nothing
+pub put_same : (k : List ℕ) (v : Val) (ps : Pairs) → find k ps ≡ Some v → put k v ps ≡ ps
+put_same k v no_pairs e = absurd cc
+put_same k v (pair l u ps) e =
+    same_step (slice_cmp nat_cmp k l) k l u v ps (put k v ps) (find k ps) e (λ f. put_same k v ps f)
+
 pub kept_at : (vs : Vals) (i : ℕ) (v : Val) → val_at vs i ≡ Some v → KeptVals vs → Kept v
 kept_at no_vals i v e h = absurd cc
 kept_at (val u vs) zero v e h = let f : u ≡ v = cc in subst (λ x. Kept x) f h.0
@@ -68,7 +79,7 @@ kept_caught f ps h =
 
 pub ruleset calls = (kept_caught)
 
-pub ruleset vars = (kept_null, kept_found, kept_put, put_again, kept_at)
+pub ruleset vars = (kept_null, kept_found, kept_put, put_again, put_same, kept_at)
 
 -- ---- arguments, one at a time
 

@@ -4,10 +4,11 @@ ghost use Rattle.std.specs.Prelude.{◌≡◌, Some, None, IfOk, MatchOption};
 ghost use Rattle.sky_base.specs.Kept.{Kept};
 ghost use Rattle.sky_base.specs.View.{view};
 ghost use Rattle.sky_base.specs.OpView.{Answers};
-ghost use Rattle.sky_base.specs.Eval.{find_fun, fun_named, is_one_of, body_of};
+ghost use Rattle.sky_base.specs.Eval.{find_fun, fun_named, closed, is_one_of, body_of};
 ghost use Rattle.sky_scope.specs.RunView.{code_of};
 
 use crate::program::Program;
+use crate::state::State;
 use sky_base::fault::FaultKind;
 use sky_base::op::{OpRefusal, limited};
 use sky_base::stmt::Block;
@@ -28,6 +29,25 @@ pub fn fun_named(alloc: Global, script: &Program, name: &Txt) -> Result<Value, O
         }
         None => Err(OpRefusal::Refused(FaultKind::Unknown)),
     }
+}
+
+/// The function of this name with those of the variables that its body uses; Unknown where there is none, then TooDeep,
+/// TooLarge where it passes a limit.
+pub fn closed(
+    alloc: Global,
+    script: &Program,
+    state: &State,
+    name: &Txt,
+) -> Result<Value, OpRefusal>
+    ensures answer { Answers result (closed (find_fun name.now script.now.funs) name.now state.now.vars) }
+    ensures kept { IfOk result (λ v. Kept (view v)) }
+{
+    let Some(fun) = script.find(name) else {
+        return Err(OpRefusal::Refused(FaultKind::Unknown));
+    };
+    let caught = state.caught(alloc, fun.uses.as_slice())?;
+    let name = name.share()?;
+    Ok(limited(Value::Fun { name, caught })?)
 }
 
 /// Whether a text is among others.

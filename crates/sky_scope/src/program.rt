@@ -4,8 +4,8 @@
 ghost use Rattle.std.specs.Prelude.{◌≡◌, List, ℕ, Some, None, IfOk, MatchOption};
 ghost use Rattle.sky_base.specs.Val.{same_text};
 ghost use Rattle.sky_base.specs.Eval.{find_fun};
-ghost use Rattle.sky_base.specs.ScriptView.{fun_view};
-ghost use Rattle.sky_scope.specs.FunPlace.{place_at, or_here};
+ghost use Rattle.sky_base.specs.ScriptView.{fun_view, funs_view};
+ghost use Rattle.sky_scope.specs.FunPlace.{fun_place, place_at, or_here};
 
 use sky_base::script::{FunDef, Script};
 use sky_base::stmt::Block;
@@ -62,6 +62,23 @@ impl<'a> Program<'a> {
             },
             None => None,
         }
+    }
+
+    /// The place of the first function of this name, among the functions from 0.
+    pub fn place(&self, name: &Txt) -> Option<usize>
+        ensures { result ≡ fun_place name.now self.now.funs }
+    {
+        match self.places.get(name.as_str()) {
+            Some(place) => Some(*place),
+            None => None,
+        }
+    }
+
+    /// The functions, in the order of the text.
+    pub fn funs(&self) -> &[FunDef]
+        ensures { funs_view result.now ≡ self.now.funs }
+    {
+        self.script.funs().as_slice()
     }
 
     /// The statements outside of functions.

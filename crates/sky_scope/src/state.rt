@@ -1,6 +1,6 @@
 // The variables of a body that is run, and how many nodes its task has visited.
 
-ghost use Rattle.std.specs.Prelude.{List, ◌≡◌, ◌<◌, ◌^◌, ◌+◌, true, false, nat_lt, Option, Some, None, IfOk, IfErr, IfSome, MatchOption};
+ghost use Rattle.std.specs.Prelude.{List, ◌≡◌, ◌≢◌, ◌<◌, ◌^◌, ◌+◌, true, false, nat_lt, Option, Some, None, IfOk, IfErr, IfSome, MatchOption};
 ghost use Rattle.std.specs.Option.{option_map};
 ghost use Rattle.sky_base.specs.Kept.{Kept};
 ghost use Rattle.sky_base.specs.Val.{no_pairs, null};
@@ -75,6 +75,7 @@ impl State {
     pub fn visit(&mut self, line: u32, col: u32) -> Result<(), Cut>
         ensures ok { IfOk result (λ _. (nat_lt self.old.count visits ≡ true) × (self.new ≡ counted self.old)) }
         ensures cut { IfErr result (λ c. (nat_lt self.old.count visits ≡ false) × (c ≡ Cut.Fault (fault_at FaultKind.TooLong (at line col)))) }
+        ensures still { IfErr result (λ _. self.new ≡ self.old) }
     {
         if self.count >= MOST_VISITS {
             return Err(fault(FaultKind::TooLong, line, col));
@@ -135,6 +136,7 @@ impl State {
     fn take(&mut self, name: &Txt) -> Result<Option<Value>, Memory>
         ensures none { IfOk result (λ o. o ≡ None → find name.now self.old.vars ≡ None) }
         ensures some { IfOk result (λ o. IfSome o (λ v. (find name.now self.old.vars ≡ Some (view v)) × (self.new ≡ set_var name.now null self.old) × Kept (view v))) }
+        ensures still { IfOk result (λ o. o ≡ None → self.new ≡ self.old) }
     {
         let Some(v) = self.find(name)? else {
             return Ok(None);
@@ -144,7 +146,7 @@ impl State {
     }
 
     /// `x += e;` with the places of the name and of the `+=`. A list that nobody else holds grows in
-    /// place.
+    /// place. After a fault the variables are as they were.
     #[tactic(auto, using(crate::proofs::Vars::vars))]
     pub fn grow(
         &mut self,
@@ -157,21 +159,25 @@ impl State {
         e: Value,
     ) -> Result<(), Cut>
         requires { Kept (view e) }
-        ensures { (rows : List Row) → Changes result rows self.new (add_to (find name.now self.old.vars) name.now (at name_line name_col) (at line col) (view e) rows self.old) }
+        ensures changes { (rows : List Row) → Changes result rows self.new (add_to (find name.now self.old.vars) name.now (at name_line name_col) (at line col) (view e) rows self.old) }
+        ensures still { IfErr result (λ c. c ≢ Cut.Memory → self.new ≡ self.old) }
     {
         let Some(mut v) = self.take(name)? else {
             return Err(fault(FaultKind::Unknown, name_line, name_col));
         };
         match grow(alloc, &mut v, e) {
             Ok(()) => {}
-            Err(refusal) => return Err(raise(refusal, line, col)),
+            Err(refusal) => {
+                self.set(name, v)?;
+                return Err(raise(refusal, line, col));
+            }
         }
         self.set(name, v)?;
         Ok(())
     }
 
     /// `x[i] = e;` with the places of the name and of the `[`. A list or a dictionary that nobody else
-    /// holds is changed in place.
+    /// holds is changed in place. After a fault the variables are as they were.
     #[tactic(auto, using(crate::proofs::Vars::vars))]
     pub fn put(
         &mut self,
@@ -185,14 +191,18 @@ impl State {
     ) -> Result<(), Cut>
         requires i { Kept (view i.now) }
         requires e { Kept (view e) }
-        ensures { (rows : List Row) → Changes result rows self.new (put_in (find name.now self.old.vars) name.now (at name_line name_col) (at line col) (view i.now) (view e) rows self.old) }
+        ensures changes { (rows : List Row) → Changes result rows self.new (put_in (find name.now self.old.vars) name.now (at name_line name_col) (at line col) (view i.now) (view e) rows self.old) }
+        ensures still { IfErr result (λ c. c ≢ Cut.Memory → self.new ≡ self.old) }
     {
         let Some(mut v) = self.take(name)? else {
             return Err(fault(FaultKind::Unknown, name_line, name_col));
         };
         match set_at(&mut v, i, e) {
             Ok(()) => {}
-            Err(refusal) => return Err(raise(refusal, line, col)),
+            Err(refusal) => {
+                self.set(name, v)?;
+                return Err(raise(refusal, line, col));
+            }
         }
         self.set(name, v)?;
         Ok(())
@@ -228,7 +238,8 @@ fn grow(alloc: Global, v: &mut Value, e: Value) -> Result<(), OpRefusal>
     requires v { Kept (view v.old) }
     requires e { Kept (view e) }
     ensures answer { Grows result (grown (view v.old) (view e)) v.new }
-    ensures kept { IfOk result (λ _. Kept (view v.new)) }
+    ensures kept { Kept (view v.new) }
+    ensures still { IfErr result (λ _. v.new ≡ v.old) }
 {
     if is_list(v) {
         return append(v, e);

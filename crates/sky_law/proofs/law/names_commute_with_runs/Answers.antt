@@ -4,7 +4,7 @@ use Rattle.sky_base.specs.Res.{Res, others}
 use Rattle.sky_base.specs.See.{world_of}
 use Rattle.sky_law.specs.Lower.{named_as}
 use Rattle.sky_law.specs.NamesLaws.{Tag, RunsAlike, no_name}
-use Rattle.sky_law.proofs.Low.{name_low}
+use Rattle.sky_law.proofs.Low.{tag_low}
 use Rattle.sky_law.proofs.LowLaw.{Rel, rel_rest}
 use Rattle.sky_law.proofs.LowStack.{job_low, stack_low, segment_low, first_end_low, first_halt_low}
 use Rattle.sky_law.proofs.law.names_commute_with_runs.Goals as goal
@@ -18,7 +18,7 @@ returns-clause-call c tag job around read reads f ca vs = alike tag _ _ (job_low
 
 pub returns-clause-rest : goal.returns-clause-rest
 returns-clause-rest c tag job around read reads h os =
-    alike tag _ _ (rel_rest no_name tag (world_of job.script around) (named_as tag) read (λ d. ap known (name_low no_name tag d)) reads others h.wait h.forms h.st os)
+    alike tag _ _ (rel_rest no_name tag (world_of job.script around) (named_as tag) read (λ d. ap known (tag_low tag d)) reads others h.wait h.forms h.st os)
 
 pub returns-clause-stack : goal.returns-clause-stack
 returns-clause-stack c tag f j h = stack_low no_name tag f j h

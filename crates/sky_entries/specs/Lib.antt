@@ -1,0 +1,4 @@
+pub mod Entries
+pub mod Ready
+pub mod Config
+pub mod Falls

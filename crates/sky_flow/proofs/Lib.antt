@@ -1,0 +1,4 @@
+pub mod Turns
+pub mod Blocks
+pub mod Choices
+pub mod Changes

@@ -1,0 +1,7 @@
+// One step of each statement and of each block: how it is begun, and how it goes on.
+#![tactic(auto)]
+
+pub mod arms;
+pub mod block;
+pub mod loops;
+pub mod stmt;
