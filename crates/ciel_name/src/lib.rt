@@ -10,4 +10,4 @@ mod reader;
 pub mod refusal;
 pub mod text;
 pub mod write;
-mod writer;
+pub mod writer;

@@ -1,0 +1,5 @@
+// The worked rows of frozen states. They stand in a crate of their own, since a crate with tests is proved twice.
+#![tactic(auto)]
+
+#[cfg(test)]
+mod frozen;
