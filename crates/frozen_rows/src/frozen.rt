@@ -20,12 +20,20 @@ fn run(alloc: Global, frame: Frame, count: u32, waits: u32) -> Result<State, Fai
 {
     let mut frames = Vec::new(alloc);
     frames.push(frame)?;
-    Ok(State::Run(RunState {
-        frames: Frames::of(frames),
+    let state = run_of(alloc, Frames::of(frames), count, waits);
+    Ok(state)
+}
+
+/// The run of these frames, with nothing made.
+pub fn run_of(alloc: Global, frames: Frames, count: u32, waits: u32) -> State
+    ensures { spawned_of result ≡ [] }
+{
+    State::Run(RunState {
+        frames,
         count,
         waits,
         spawned: Spawned::new(alloc),
-    }))
+    })
 }
 
 /// A frame of the main body.
@@ -48,7 +56,7 @@ fn bytes_of_thawed(alloc: Global, state: &State) -> Result<Vec<u8>, Fail>
 }
 
 /// The state has these bytes, and so has the one that is thawed.
-fn freezes(rt: &impl Abort, alloc: Global, state: &State, want: &[u8]) -> Result<(), Fail>
+pub fn freezes(rt: &impl Abort, alloc: Global, state: &State, want: &[u8]) -> Result<(), Fail>
     requires { spawned_of state.now ≡ [] }
 {
     let frozen = freeze(alloc, state)?;
@@ -79,7 +87,7 @@ fn a_start_has_39_bytes(rt: HostRuntime) -> Result<(), Fail> {
 }
 
 /// The variables `a` and `b`, which refer to these objects.
-fn two(alloc: Global, first: Name, second: Name) -> Result<Pairs, Fail> {
+pub fn two(alloc: Global, first: Name, second: Name) -> Result<Pairs, Fail> {
     let mut vars = Pairs::new(alloc);
     vars.insert(Txt::new(alloc, "a")?, Value::Ref(first))?;
     vars.insert(Txt::new(alloc, "b")?, Value::Ref(second))?;
@@ -105,7 +113,7 @@ fn waiting(alloc: Global, first: Name, second: Name) -> Result<State, Fail>
 }
 
 /// Its bytes, where a reference begins with this byte.
-fn squares(alloc: Global, kind: u8, first: &[u8], second: &[u8]) -> Result<Vec<u8>, Fail> {
+pub fn squares(alloc: Global, kind: u8, first: &[u8], second: &[u8]) -> Result<Vec<u8>, Fail> {
     let mut bytes = Vec::new(alloc);
     bytes.extend_from_slice(
         b"K\x01\x00\0\0\0\x0d\0\0\0\x01\0\0\0\x01\0\0\0\0\0\0\0\x02\0\0\0\x01a",

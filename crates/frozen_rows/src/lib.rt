@@ -1,5 +1,7 @@
-// The worked rows of frozen states. They stand in a crate of their own, since a crate with tests is proved twice.
+// The worked rows of frozen states and of the machine's forms that are saved. They stand in a crate of their own, since a crate with tests is proved twice.
 #![tactic(auto)]
 
 #[cfg(test)]
 mod frozen;
+#[cfg(test)]
+mod saved;
