@@ -1,0 +1,4 @@
+pub mod Told
+pub mod Items
+pub mod Pieces
+pub mod Forms
