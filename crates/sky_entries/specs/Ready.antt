@@ -1,12 +1,12 @@
 -- What holds of the forms under way: the nodes that are still to come stand at their numbers in the script, values keep
 -- the limits, and the numbers of steps fit.
 use Rattle.std.specs.Prelude.{◌≡◌, ◌<◌, ◌≤◌, ◌+◌, ◌^◌, ℕ, List, [], ◌∷◌, length, Option, Some}
-use Rattle.sky_base.specs.Val.{Val, vals_of, list}
-use Rattle.sky_base.specs.Tree.{Exps, Steps, Stms, Script, exps_nodes, block_nodes}
+use Rattle.sky_base.specs.Val.{vals_of, list}
+use Rattle.sky_base.specs.Tree.{Steps, Stms, Script, exps_nodes, block_nodes}
 use Rattle.sky_base.specs.TreeView.{exp_view}
 use Rattle.sky_base.specs.StmtView.{stm_view}
 use Rattle.sky_base.specs.Kept.{Kept}
-use Rattle.sky_base.specs.Res.{Entry, parens_in, part_at, chain_first, chain_more, logic_at, prefix_part, star_wait, postfix_first, index_at, arg_at, call_open, exec_wait, set_part, add_part, put_index, put_value, return_part, just_part, arm_test, while_test, while_body, repeat_body, repeat_test, for_list, for_body, block_at}
+use Rattle.sky_base.specs.Res.{parens_in, part_at, chain_first, chain_more, logic_at, prefix_part, star_wait, postfix_first, index_at, arg_at, call_open, exec_wait, set_part, add_part, put_index, put_value, return_part, just_part, arm_test, while_test, while_body, repeat_body, repeat_test, for_list, for_body, block_at}
 use Rattle.sky_base.specs.View.{view}
 use Rattle.sky_law.specs.Opened.{Node, block_node, HasExp, HasExps, HasLinks, HasAnds, HasSteps, HasStm, HasStms, HasArms, HasElse}
 use Rattle.sky_law.specs.Nodes.{node_at}
