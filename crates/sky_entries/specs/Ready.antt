@@ -41,7 +41,7 @@ module _ (at : ℕ → Option Node) where
   IsReady (chain_more n k m o p v ls) = (k < m) × HasLinks at ls m × Kept v
   IsReady (logic_at n k m j p ls) = (k < m) × HasAnds at ls m
   IsReady (prefix_part n ss) = Unit {0}
-  IsReady (star_wait n k d ss) = k + length ss < 2 ^ 128
+  IsReady (star_wait n k d ss) = k + 1 + length ss < 2 ^ 128
   IsReady (postfix_first n m ss) = HasSteps at ss m × (2 + steps_left ss < 2 ^ 128)
   IsReady (index_at n k m p v ss) = HasSteps at ss m × Kept v × (k + 1 + steps_left ss < 2 ^ 128)
   IsReady (arg_at n k m p f vs es ss) =
