@@ -1,0 +1,11 @@
+pub mod Marking
+pub mod Rows
+pub mod Picking
+pub mod Waiting
+pub mod Reaching
+pub mod Listing
+pub mod Ringing
+pub mod Listed
+pub mod Outing
+pub mod Running
+pub mod Wanting
