@@ -9,3 +9,5 @@ pub mod Listed
 pub mod Outing
 pub mod Running
 pub mod Wanting
+pub mod Naming
+pub mod Testing

@@ -132,7 +132,7 @@ module _ {P : Type 0} (main : List ℕ) (t : TableSeen P) (out : List TaskId) wh
 
         next : Reaches from → Reaches task
         next q =
-            let b = blocks_known t main whole n (all_in (Known t) (needs main t from) n (needs_known t main whole from) i) v in
+            let b = blocks_known t main whole n (all_in (Known t) (needs main t from) n (needs_known t main whole out from l) i) v in
             let s : Some task ≡ Some (TaskId.Of b.1.task) = sym k ∙ maker_of t n b.0 b.1 in
             let same : task ≡ TaskId.Of b.1.task = cc in
             here b.0 b.1 same (led q b.0 (leads_has q.from from n b.0 q.is o i b.1))

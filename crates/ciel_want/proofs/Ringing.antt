@@ -227,7 +227,7 @@ module _ {P : Type 0} (main : List ℕ) (t : TableSeen P) where
 
       live : (n : List ℕ) → In n (needs main t (maker_at t s.from)) → is_live n t ≡ true
       live n i =
-          let p = some_place row_name n t.rows (all_in (Known t) (needs main t (maker_at t s.from)) n (needs_known t main whole (maker_at t s.from)) i) in
+          let p = some_place row_name n t.rows (all_in (Known t) (needs main t (maker_at t s.from)) n (needs_known t main whole [] (maker_at t s.from) (led s.from s.reached)) i) in
           let q = item_at row_name n t.rows p.0 p.1 in
           let f = filter_none (λ x. not (live_at t x)) p.0 (row_leads main t s.from) s.met (rows_has (needs main t (maker_at t s.from)) n p.0 i p.1) in
           ap (λ (o : Option (Row P)). option_map_or is_live_row o false) q.is_found

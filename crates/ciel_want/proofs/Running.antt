@@ -5,6 +5,7 @@ use Rattle.sky_base.specs.declared.object.TaskId.{TaskId}
 use Rattle.ciel_journal.specs.Graph.{Led, Runnable}
 use Rattle.ciel_journal.specs.Job.{Each, In}
 use Rattle.ciel_journal.specs.Search.{Among}
+use Rattle.ciel_journal.proofs.Members.{each_of}
 use Rattle.ciel_table.specs.Seen.{TableSeen, Known, is_live}
 use Rattle.ciel_table.proofs.Lists.{bool_cases}
 use Rattle.ciel_want.specs.Board.{blockers_of, can_run_test, is_none}
@@ -52,11 +53,6 @@ not_true : (b : Bool) → not b ≡ true → b ≡ false
 not_true true e = cc
 not_true false e = refl
 
-each_of : {A : Type 0} (P : A → Type 0) (x : A) (xs : List A) → Each P xs → In x xs → P x
-each_of P x [] h i = absurd i
-each_of P x (y ∷ ys) h (inl s) = subst P (sym s) h.0
-each_of P x (y ∷ ys) h (inr i) = each_of P x ys h.1 i
-
 module _ {P : Type 0} (main : List ℕ) (t : TableSeen P) (whole : Whole main t) (out : List TaskId) where
   pub test_runs : (task : TaskId) → Led (graph main t out) task → can_run_test main t out task ≡ true → Runnable (graph main t out) task
   test_runs task l h =
@@ -69,7 +65,7 @@ module _ {P : Type 0} (main : List ℕ) (t : TableSeen P) (whole : Whole main t)
           turn : ((is_live n t ≡ true) ⊎ (is_live n t ≡ false)) → is_live n t ≡ true
           turn (inl y) = y
           turn (inr d) =
-              let b = blocks_known t main whole n (all_in (Known t) (needs main t task) n (needs_known t main whole task) i) d in
+              let b = blocks_known t main whole n (all_in (Known t) (needs main t task) n (needs_known t main whole out task l) i) d in
               absurd (none_among b.0 (blockers_of t (needs main t task)) k (blockers_has t (needs main t task) n b.0 i (blocker_of t n b.0 b.1)))
 
       all : (ns : List (List ℕ)) → ((n : List ℕ) → In n ns → is_live n t ≡ true) → Each (λ d. is_live d t ≡ true) ns
@@ -84,7 +80,7 @@ module _ {P : Type 0} (main : List ℕ) (t : TableSeen P) (whole : Whole main t)
       empty (x ∷ xs) e =
           let q = blockers_from t (needs main t task) x (subst (Among x) (sym e) (among_here x xs)) in
           let d = dead_of t q.0 x (blocks_of t q.0 x q.2) in
-          let l = each_of (λ n. is_live n t ≡ true) q.0 (needs main t task) r.met q.1 in
+          let l = each_of (λ n. is_live n t ≡ true) q.0 (needs main t task) q.1 r.met in
           let c : true ≡ false = sym l ∙ d in
           cc
 

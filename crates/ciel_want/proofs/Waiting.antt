@@ -5,6 +5,7 @@ use Rattle.std.specs.Option.{option_map_or, option_and_then}
 use Rattle.sky_base.specs.Names.{known_of}
 use Rattle.sky_base.specs.declared.object.Desc1.{Desc1}
 use Rattle.sky_base.specs.declared.object.TaskId.{TaskId}
+use Rattle.ciel_journal.specs.Graph.{Led, root, through}
 use Rattle.ciel_journal.specs.Job.{In}
 use Rattle.ciel_journal.specs.Search.{Among}
 use Rattle.ciel_journal.proofs.Searching.{among_head}
@@ -15,7 +16,7 @@ use Rattle.ciel_table.specs.declared.wait.Saves.{Saves}
 use Rattle.ciel_table.specs.declared.wait.Wait.{Wait}
 use Rattle.ciel_table.proofs.Lists.{bool_cases}
 use Rattle.ciel_want.specs.Board.{blocker, blockers_of, blocking, task_row, with_some}
-use Rattle.ciel_want.specs.Waited.{RowWhole, TaskKnown, WaitsWhole, Whole, first_needs, first_refs, made_by, maker, names_of, needs, needs_at}
+use Rattle.ciel_want.specs.Waited.{RowWhole, TaskKnown, Whole, graph, made_by, maker, names_of, needs}
 use Rattle.ciel_want.proofs.Rows.{all_found, item_at, some_place}
 
 pub all_in : {A : Type 0} (Q : A → Type 0) (xs : List A) (x : A) → AllByRecursion Q xs → In x xs → Q x
@@ -48,7 +49,7 @@ or_false false b e = (refl, e)
 
 module _ {P : Type 0} where
   -- the greatest is one of them
-  latest_all : (Q : Wait P → Type 0) (ws : List (Wait P)) (w : Wait P) → AllByRecursion Q ws → latest ws ≡ Some w → Q w
+  pub latest_all : (Q : Wait P → Type 0) (ws : List (Wait P)) (w : Wait P) → AllByRecursion Q ws → latest ws ≡ Some w → Q w
   latest_all Q [] w a e = cc
   latest_all Q (v ∷ vs) w a e = turn (latest vs) refl e (latest_all Q vs w a.1)
     where
@@ -130,52 +131,38 @@ module _ {P : Type 0} (t : TableSeen P) where
 
   -- ---- what a whole table says
 
-  module _ (main : List ℕ) (whole : Whole main t) where
-    refs_known : (d : Desc1) → (is_input d ≡ false → AllByRecursion (Known t) (first_refs d)) → AllByRecursion (Known t) (first_refs d)
-    refs_known (Desc1.Call f c vs) h = tt
-    refs_known (Desc1.Exec x v n i) h = h refl
-    refs_known (Desc1.Input k) h = tt
+  module _ (main : List ℕ) where
+    row_whole : (r : Row P) → RowWhole main t (is_input r.desc) r → is_input r.desc ≡ false → TaskKnown t r.task × AllByRecursion (Known t) (needs main t r.task)
+    row_whole r h e = subst (λ b. RowWhole main t b r) e h
 
-    row_whole : (r : Row P) → RowWhole t (is_input r.desc) r → is_input r.desc ≡ false → TaskKnown t r.task × AllByRecursion (Known t) (first_refs r.desc)
-    row_whole r h e = subst (λ b. RowWhole t b r) e h
+    module _ (whole : Whole main t) where
+      -- what a reached task waits for has a row
+      pub needs_known : (out : List TaskId) (task : TaskId) → Led (graph main t out) task → AllByRecursion (Known t) (needs main t task)
+      needs_known out task (root) = whole.root
+      needs_known out task (through l o n i v k) = found_row (row_named n t) refl k
+        where
+          made : (r : Row P) → row_named n t ≡ Some r → (b : Bool) → is_input r.desc ≡ b → cond b None (Some r.task) ≡ Some task → AllByRecursion (Known t) (needs main t task)
+          made r q true d h = cc
+          made r q false d h =
+              let s : r.task ≡ task = cc in
+              let w = row_whole r (all_found row_name (λ (x : Row P). RowWhole main t (is_input x.desc) x) n t.rows r whole.rows q) d in
+              subst (λ x. AllByRecursion (Known t) (needs main t x)) s w.1
 
-    waits_whole : (task : TaskId) → WaitsWhole t (waits_of task t)
-    waits_whole TaskId.Show = whole.shown
-    waits_whole (TaskId.Of n) = turn (found saves_name n t.saved) refl
-      where
-        turn : (o : Option (Saves P)) → found saves_name n t.saved ≡ o → WaitsWhole t (option_map_or (λ (s : Saves P). s.waits) o [])
-        turn None e = tt
-        turn (Some s) e = all_found saves_name (λ (x : Saves P). WaitsWhole t x.waits) n t.saved s whole.saved e
+          found_row : (o : Option (Row P)) → row_named n t ≡ o → option_and_then (made_by t) o ≡ Some task → AllByRecursion (Known t) (needs main t task)
+          found_row None q h = cc
+          found_row (Some r) q h = made r q (is_input r.desc) refl h
 
-    first_known : (task : TaskId) → AllByRecursion (Known t) (first_needs main t task)
-    first_known TaskId.Show = (whole.entry, tt)
-    first_known (TaskId.Of n) = turn (row_named n t) refl
-      where
-        turn : (o : Option (Row P)) → row_named n t ≡ o → AllByRecursion (Known t) (option_map_or (λ (r : Row P). first_refs r.desc) o [])
-        turn None e = tt
-        turn (Some r) e =
-            refs_known r.desc (λ i. (row_whole r (all_found row_name (λ (x : Row P). RowWhole t (is_input x.desc) x) n t.rows r whole.rows e) i).1)
-
-    -- what a task waits for has a row
-    pub needs_known : (task : TaskId) → AllByRecursion (Known t) (needs main t task)
-    needs_known task = turn (last_wait task t) refl
-      where
-        turn : (o : Option (Wait P)) → last_wait task t ≡ o → AllByRecursion (Known t) (needs_at main t o task)
-        turn None e = first_known task
-        turn (Some w) e =
-            latest_all (λ (x : Wait P). AllByRecursion (Known t) x.refs) (waits_of task t) w (waits_whole task) e
-
-    -- where that isn't live, it blocks
-    pub blocks_known : (n : List ℕ) → Known t n → is_live n t ≡ false → (e : ℕ) × Blocks n e
-    blocks_known n k l =
-        let p = some_place row_name n t.rows k in
-        let q = item_at row_name n t.rows p.0 p.1 in
-        let dead : is_live_row q.item ≡ false = sym (ap (λ (o : Option (Row P)). option_map_or is_live_row o false) q.is_found) ∙ l in
-        let w = row_whole q.item (all_found row_name (λ (x : Row P). RowWhole t (is_input x.desc) x) n t.rows q.item whole.rows q.is_found) (or_false (is_input q.item.desc) (has_place q.item.places) dead).0 in
-        task q.item q.is_found dead q.item.task refl w.0
-      where
-        task : (r : Row P) → row_named n t ≡ Some r → is_live_row r ≡ false → (k : TaskId) → r.task ≡ k → TaskKnown t k → (e : ℕ) × Blocks n e
-        task r q d TaskId.Show s w = absurd w
-        task r q d (TaskId.Of m) s w =
-            let p = some_place row_name m t.rows w in
-            (p.0, record { row = r; named = q; dead = d; task = m; is = s; own = p.1 })
+      -- where that isn't live, it blocks
+      pub blocks_known : (n : List ℕ) → Known t n → is_live n t ≡ false → (e : ℕ) × Blocks n e
+      blocks_known n k l =
+          let p = some_place row_name n t.rows k in
+          let q = item_at row_name n t.rows p.0 p.1 in
+          let dead : is_live_row q.item ≡ false = sym (ap (λ (o : Option (Row P)). option_map_or is_live_row o false) q.is_found) ∙ l in
+          let w = row_whole q.item (all_found row_name (λ (x : Row P). RowWhole main t (is_input x.desc) x) n t.rows q.item whole.rows q.is_found) (or_false (is_input q.item.desc) (has_place q.item.places) dead).0 in
+          task q.item q.is_found dead q.item.task refl w.0
+        where
+          task : (r : Row P) → row_named n t ≡ Some r → is_live_row r ≡ false → (k : TaskId) → r.task ≡ k → TaskKnown t k → (e : ℕ) × Blocks n e
+          task r q d TaskId.Show s w = absurd w
+          task r q d (TaskId.Of m) s w =
+              let p = some_place row_name m t.rows w in
+              (p.0, record { row = r; named = q; dead = d; task = m; is = s; own = p.1 })

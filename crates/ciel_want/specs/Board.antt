@@ -1,8 +1,8 @@
 -- The graph of a table by numbers of rows: each stands for the task of its name.
-use Rattle.std.specs.Prelude.{◌≡◌, ℕ, List, [], ◌∷◌, Bool, true, false, cond, not, filter, Option, Some, None, IsSome, ◌&&◌, slice_get, slice_set, length, ◌<◌, ◌⊎◌}
+use Rattle.std.specs.Prelude.{◌≡◌, ℕ, List, [], ◌∷◌, Bool, true, false, cond, not, filter, Option, Some, None, IsSome, ◌&&◌, ◌||◌, slice_get, slice_set, length, ◌<◌, ◌⊎◌}
 use Rattle.std.specs.Option.{option_map_or, option_and_then}
 use Rattle.sky_base.specs.declared.object.TaskId.{TaskId}
-use Rattle.ciel_table.specs.Seen.{TableSeen, find, is_live_row, row_name, row_named}
+use Rattle.ciel_table.specs.Seen.{TableSeen, find, is_input, is_live_row, row_name, row_named}
 use Rattle.ciel_table.specs.declared.row.Row.{Row}
 use Rattle.ciel_want.specs.Waited.{needs, is_in}
 
@@ -102,3 +102,26 @@ can_run_test main t out task = not (is_in out task) && is_none (blockers_of t (n
 abbrev pub IsSet : Bool → Option Bool → Option Bool → Type 0
 IsSet true old new = new ≡ Some true
 IsSet false old new = new ≡ old
+
+-- ---- the test of what is asked of a table
+
+module _ {P : Type 0} (t : TableSeen P) where
+  -- each of the names has a row
+  abbrev pub all_known : List (List ℕ) → Bool
+  all_known [] = true
+  all_known (n ∷ ns) = option_map_or (λ (e : ℕ). all_known ns) (find n t) false
+
+  abbrev pub task_known : TaskId → Bool
+  task_known TaskId.Show = false
+  task_known (TaskId.Of n) = option_map_or (λ (e : ℕ). true) (find n t) false
+
+module _ {P : Type 0} (main : List ℕ) (t : TableSeen P) where
+  abbrev pub row_whole : Row P → Bool
+  row_whole r = is_input r.desc || (task_known t r.task && all_known t (needs main t r.task))
+
+  abbrev pub rows_whole : List (Row P) → Bool
+  rows_whole [] = true
+  rows_whole (r ∷ rs) = row_whole r && rows_whole rs
+
+  abbrev pub whole : Bool
+  whole = all_known t (needs main t TaskId.Show) && rows_whole t.rows

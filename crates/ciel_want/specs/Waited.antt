@@ -49,9 +49,14 @@ module _ {P : Type 0} where
   abbrev pub tasks_in_order : TableSeen P → List TaskId
   tasks_in_order t = tasks_after (TaskId.Show ∷ []) t.rows
 
--- ---- what is asked of a table
-
 module _ {P : Type 0} (t : TableSeen P) where
+  abbrev pub made_by : Row P → Option TaskId
+  made_by r = cond (is_input r.desc) None (Some r.task)
+
+  -- the task that makes a name; none makes an input
+  abbrev pub maker : List ℕ → Option TaskId
+  maker n = option_and_then made_by (row_named n t)
+
   abbrev pub AllKnown : List (List ℕ) → Type 0
   AllKnown ns = AllByRecursion (Known t) ns
 
@@ -60,30 +65,7 @@ module _ {P : Type 0} (t : TableSeen P) where
   TaskKnown TaskId.Show = ⊥
   TaskKnown (TaskId.Of n) = Known t n
 
-  -- an input's row, or one whose task has a row, and all that it waits for at first
-  abbrev pub RowWhole : Bool → Row P → Type 0
-  RowWhole true r = Unit {0}
-  RowWhole false r = TaskKnown r.task × AllKnown (first_refs r.desc)
-
-  abbrev pub WaitsWhole : List (Wait P) → Type 0
-  WaitsWhole ws = AllByRecursion (λ (w : Wait P). AllKnown w.refs) ws
-
-  abbrev pub made_by : Row P → Option TaskId
-  made_by r = cond (is_input r.desc) None (Some r.task)
-
-  -- the task that makes a name; none makes an input
-  abbrev pub maker : List ℕ → Option TaskId
-  maker n = option_and_then made_by (row_named n t)
-
 module _ {P : Type 0} (main : List ℕ) (t : TableSeen P) where
-  -- the main call, and each name that a saved wait or an executor's arguments name, has a row, and so has the task of each
-  -- row that isn't an input's
-  pub record Whole : Type 0 where
-    pub entry : Known t main
-    pub rows : AllByRecursion (λ (r : Row P). RowWhole t (is_input r.desc) r) t.rows
-    pub shown : WaitsWhole t t.shown
-    pub saved : AllByRecursion (λ (s : Saves P). WaitsWhole t s.waits) t.saved
-
   -- ---- the graph
 
   -- what a task waits for before it starts; the root task waits for the main call
@@ -109,3 +91,32 @@ module _ {P : Type 0} (main : List ℕ) (t : TableSeen P) where
         maker = maker t;
         out = is_in out;
       }
+
+  -- ---- what is asked of a table
+
+  -- an input's row, or one whose task has a row, as has all that it waits for
+  abbrev pub RowWhole : Bool → Row P → Type 0
+  RowWhole true r = Unit {0}
+  RowWhole false r = TaskKnown t r.task × AllKnown t (needs r.task)
+
+  -- what the root task and the tasks of the rows wait for has rows
+  pub record Whole : Type 0 where
+    pub root : AllKnown t (needs TaskId.Show)
+    pub rows : AllByRecursion (λ (r : Row P). RowWhole (is_input r.desc) r) t.rows
+
+  -- ---- a condition that implies this, of each row and each saved wait by itself
+
+  abbrev pub RowNamed : Bool → Row P → Type 0
+  RowNamed true r = Unit {0}
+  RowNamed false r = TaskKnown t r.task × AllKnown t (first_refs r.desc)
+
+  abbrev pub WaitsNamed : List (Wait P) → Type 0
+  WaitsNamed ws = AllByRecursion (λ (w : Wait P). AllKnown t w.refs) ws
+
+  -- the main call, and each name that a saved wait or an executor's arguments name, has a row, and so has the task of each
+  -- row that isn't an input's
+  pub record AllNamed : Type 0 where
+    pub entry : Known t main
+    pub rows : AllByRecursion (λ (r : Row P). RowNamed (is_input r.desc) r) t.rows
+    pub shown : WaitsNamed t.shown
+    pub saved : AllByRecursion (λ (s : Saves P). WaitsNamed s.waits) t.saved

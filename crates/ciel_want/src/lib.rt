@@ -9,3 +9,4 @@ mod order;
 mod flags;
 mod search;
 pub mod want;
+pub mod whole;
