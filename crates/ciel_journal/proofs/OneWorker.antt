@@ -4,8 +4,8 @@ use Rattle.std.specs.List.{list_any}
 use Rattle.ciel_journal.specs.Job.{Digest, Task, Job, In, Each, IsPrefix, IsJob}
 use Rattle.ciel_journal.specs.History.{Event, start, done, saved, missed, lost, Order, Plan, Save, Standing, after, before_all, better, closed, done_with, saved_with, find_order, last, last_save, names_of, order_of, placed, same_task, stack_of, after_all}
 use Rattle.ciel_journal.specs.Lawful.{Copied, DoneAllowed, FetchedFrom, Given, HeldAt, NextEnd, NextWait, SavedAllowed, Step, own_name}
-use Rattle.ciel_journal.specs.Graph.{Picks}
 use Rattle.ciel_journal.specs.Turns.{Chosen, Driven, DrivenFrom, FirstDue, Ready, Rests, Turn, draw, idle, tasks_of}
+use Rattle.ciel_journal.proofs.Picked.{picks_unique}
 use Rattle.ciel_journal.proofs.Members.{each_of, bool_cases}
 use Rattle.ciel_journal.proofs.Good.{after_done, after_saved, after_missed}
 use Rattle.ciel_journal.proofs.Numbers.{found_in, in_filter, in_last}
@@ -195,14 +195,6 @@ module _ {D : Type 0} (job : Job D) (laws : IsJob job) where
       pick (inr x) = zero_not (l.stacks step.allowed.0 order step.allowed.2.worker x.1)
 
   -- ---- one event for each turn
-
-  pub picks_unique : (P : Task D → Type 0) (xs ts us : List (Task D)) → Picks P xs ts → Picks P xs us → ts ≡ us
-  picks_unique P [] ts us a b = a ∙ sym b
-  picks_unique P (x ∷ xs) ts us (inl a) (inl b) =
-      a.1.1 ∙ (ap (λ zs. x ∷ zs) (picks_unique P xs a.1.0 b.1.0 a.1.2 b.1.2) ∙ sym b.1.1)
-  picks_unique P (x ∷ xs) ts us (inl a) (inr b) = absurd (b.0 a.0)
-  picks_unique P (x ∷ xs) ts us (inr a) (inl b) = absurd (a.0 b.0)
-  picks_unique P (x ∷ xs) ts us (inr a) (inr b) = picks_unique P xs ts us a.1 b.1
 
   first_one : (p : Plan) (v : Standing D) (w u i j : ℕ) → FirstDue p.losses v.closes v.gone i w → FirstDue p.losses v.closes v.gone j u → w ≡ u
   first_one p v w u i j x y = pick (x.least j y.count u y.due) (y.least i x.count w x.due)

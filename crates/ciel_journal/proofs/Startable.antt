@@ -5,8 +5,9 @@ use Rattle.ciel_journal.specs.Job.{Task, show, of, Job, In, Each, IsJob}
 use Rattle.ciel_journal.specs.History.{Event, start, Order, Plan, Save, Standing, after, after_all, before_all, last, live, needs, needs_of, standing, last_save}
 use Rattle.ciel_journal.specs.Lawful.{Lawful, LawfulFrom, NoClash, Step, own_name}
 use Rattle.ciel_journal.specs.Known.{Inner, Knows}
-use Rattle.ciel_journal.specs.Graph.{Picks, root, through}
+use Rattle.ciel_journal.specs.Graph.{root, through}
 use Rattle.ciel_journal.specs.Turns.{CircleAtRest, IsReadyList, Reached, Ready, busy, idle, idle_from, is_first, is_idle, tasks_of}
+use Rattle.ciel_journal.proofs.Picked.{picks_in}
 use Rattle.ciel_journal.proofs.Append.{lawful_append}
 use Rattle.ciel_journal.proofs.BookKnown.{Informed, informed_all, informed_start, last_cases}
 use Rattle.ciel_journal.proofs.Good.{last_ok, reached_needed}
@@ -92,13 +93,6 @@ module _ {D : Type 0} (job : Job D) (laws : IsJob job) (inner : Inner D) (knows 
         named : (t : Task D) → Reached job v t → (x : D) → t ≡ of x → job.task_of x ≡ Some (of x)
         named t root x e = cc
         named t (through r o d i l f) x e = laws.own x d (f ∙ ap Some e)
-
-    picks_in : (P : Task D → Type 0) (xs ts : List (Task D)) → Picks P xs ts → (t : Task D) → In t xs → P t → In t ts
-    picks_in P [] ts k t i h = absurd i
-    picks_in P (x ∷ xs) ts (inl k) t (inl s) h = subst (In t) (sym k.1.1) (inl s)
-    picks_in P (x ∷ xs) ts (inl k) t (inr i) h = subst (In t) (sym k.1.1) (inr (picks_in P xs k.1.0 k.1.2 t i h))
-    picks_in P (x ∷ xs) ts (inr k) t (inl s) h = absurd (k.0 (subst P s h))
-    picks_in P (x ∷ xs) ts (inr k) t (inr i) h = picks_in P xs ts k.1 t i h
 
     pub ready_listed : (ts : List (Task D)) → IsReadyList job v ts → (t : Task D) → Ready job v t → In t ts
     ready_listed ts k t r = picks_in (Ready job v) (tasks_of job v.book) ts k t (reached_listed t r.reached) r

@@ -1,6 +1,7 @@
 -- What waits for what: which tasks are reached backward from the root task, which can run, and circles. It is said once of
 -- tasks of any kind and of names of any kind, so that it serves a table and what stands after a history.
-use Rattle.std.specs.Prelude.{◌≡◌, List, [], ◌∷◌, Bool, true, false, Option, Some, ◌⊎◌}
+use Rattle.std.specs.Prelude.{◌≡◌, List, [], ◌∷◌, Bool, true, false, map, Option, Some, ◌⊎◌}
+use Rattle.std.specs.Option.{option_map}
 use Rattle.ciel_journal.specs.Job.{Task, show, Job, In, Each}
 use Rattle.ciel_journal.specs.History.{Standing, is_out, live, needs}
 
@@ -42,6 +43,16 @@ module _ {T N : Type 0} (g : Graph T N) where
 abbrev pub Picks : {A : Type 0} → (A → Type 0) → List A → List A → Type 0
 Picks P [] ts = ts ≡ []
 Picks {A} P (x ∷ xs) ts = (P x × ((rest : List A) × (ts ≡ x ∷ rest) × Picks P xs rest)) ⊎ ((P x → ⊥) × Picks P xs ts)
+
+-- A graph seen as another: each task and each name has one there. It is asked of the tasks that are reached, and of the
+-- names that these wait for
+module _ {T N U M : Type 0} (g : Graph T N) (h : Graph U M) (task : T → U) (name : N → M) where
+  pub record SeenAs : Type 0 where
+    pub root : task g.root ≡ h.root
+    pub out : (t : T) → Led g t → h.out (task t) ≡ g.out t
+    pub needs : (t : T) → Led g t → h.needs (task t) ≡ map name (g.needs t)
+    pub live : (t : T) (d : N) → Led g t → In d (g.needs t) → h.live (name d) ≡ g.live d
+    pub maker : (t : T) (d : N) → Led g t → In d (g.needs t) → g.live d ≡ false → h.maker (name d) ≡ option_map task (g.maker d)
 
 -- what stands after a history, as a graph
 abbrev pub standing_graph : {D : Type 0} (job : Job D) → Standing D → Graph (Task D) D
