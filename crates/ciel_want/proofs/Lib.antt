@@ -11,3 +11,4 @@ pub mod Running
 pub mod Wanting
 pub mod Naming
 pub mod Testing
+pub mod Agreeing

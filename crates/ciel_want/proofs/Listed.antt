@@ -13,7 +13,7 @@ use Rattle.ciel_table.specs.declared.row.Row.{Row}
 use Rattle.ciel_table.proofs.Lists.{bool_cases}
 use Rattle.ciel_want.specs.Waited.{graph, is_in, made_by, maker, same_id, tasks_after, tasks_in_order, unless}
 
-same_exact : (a b : TaskId) → same_id a b ≡ true → a ≡ b
+pub same_exact : (a b : TaskId) → same_id a b ≡ true → a ≡ b
 same_exact TaskId.Show TaskId.Show e = refl
 same_exact TaskId.Show (TaskId.Of m) e = cc
 same_exact (TaskId.Of n) TaskId.Show e = cc

@@ -3,10 +3,11 @@
 //! with a flag for each row, and looks names up in the table's map.
 #![tactic(auto)]
 
+mod flags;
 mod follow;
+pub mod law;
 mod needs;
 mod order;
-mod flags;
 mod search;
 pub mod want;
 pub mod whole;
