@@ -7,8 +7,8 @@ ghost use Rattle.ciel_want.specs.Board.{first_unmet, live_at, maker_at, names_at
 ghost use Rattle.ciel_want.specs.Marked.{AllBelow};
 ghost use Rattle.ciel_want.specs.Waited.{first_refs, needs};
 
-use crate::needs::{push, row_named};
 use crate::flags::no_flags;
+use crate::needs::{push, row_named};
 use ciel_table::table::Table;
 use sky_base::at::At;
 use sky_base::name::Name;

@@ -5,8 +5,8 @@ ghost use Rattle.ciel_journal.specs.Search.{LedTo, news};
 ghost use Rattle.ciel_want.specs.Board.{Outs, leads, never, task_at};
 ghost use Rattle.ciel_want.specs.Marked.{AllBelow, Flagged, Marked};
 
-use crate::needs::{blockers, push};
 use crate::flags::{Out, no_flags};
+use crate::needs::{blockers, push};
 use ciel_table::table::Table;
 use sky_base::at::At;
 use sky_base::name::Name;

@@ -8,10 +8,10 @@ ghost use Rattle.ciel_journal.specs.Graph.{Circle, Led, Picks, Runnable};
 ghost use Rattle.ciel_want.specs.Board.{HasRow, Outs, can_run_test};
 ghost use Rattle.ciel_want.specs.Waited.{Whole, graph, tasks_in_order};
 
+use crate::flags::Out;
 use crate::follow::follow;
 use crate::needs::{blockers, task_row};
 use crate::order::{add, in_order};
-use crate::flags::Out;
 use crate::search::reached;
 use ciel_table::table::Table;
 use sky_base::at::At;

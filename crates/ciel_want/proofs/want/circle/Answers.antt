@@ -25,7 +25,7 @@ pub returns-clause-none : goal.returns-clause-none
 returns-clause-none g c =
     let ready = c.in_ok-ready.ready in
     let some : length ready.items ≡ 0 → ⊥ = λ z. let v : vec_len ready ≡ 0 = omega (arith, z, ready.ok.0) in
-            let b : (vec_len ready == 0) ≡ true = eq-eqb (vec_len ready) 0 v in
-            let e : true ≡ false = sym b ∙ (sym c.is_empty.ensures ∙ c.if-is_empty.false) in
-            cc in
+    let b : (vec_len ready == 0) ≡ true = eq-eqb (vec_len ready) 0 v in
+    let e : true ≡ false = sym b ∙ (sym c.is_empty.ensures ∙ c.if-is_empty.false) in
+    cc in
     one_runs c.args.main.now c.args.table.now c.requires.whole ready.items some c.in_ok-ready.ensures.runnable
