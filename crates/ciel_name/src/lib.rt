@@ -6,7 +6,7 @@ pub mod law;
 pub mod name;
 pub mod object;
 pub mod read;
-mod reader;
+pub mod reader;
 pub mod refusal;
 pub mod text;
 pub mod write;

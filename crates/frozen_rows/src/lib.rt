@@ -4,4 +4,6 @@
 #[cfg(test)]
 mod frozen;
 #[cfg(test)]
+mod read;
+#[cfg(test)]
 mod saved;

@@ -4,4 +4,6 @@
 
 mod copies;
 pub mod frozen;
+pub mod read;
+pub mod refusal;
 mod write;
