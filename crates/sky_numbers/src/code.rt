@@ -1,0 +1,44 @@
+// A script made ready to be run.
+
+ghost use Rattle.std.specs.Prelude.{◌≡◌, ◌++◌, IfOk, length};
+ghost use Rattle.sky_base.specs.ScriptView.{funs_view};
+ghost use Rattle.sky_law.specs.Nodes.{pre_funs};
+ghost use Rattle.sky_code.specs.Numbers.{starts_from};
+ghost use Rattle.sky_numbers.specs.Filled.{Filled, Fits};
+
+use crate::stmts::number_block;
+use sky_base::script::{FunDef, Script};
+use sky_base::text::Memory;
+use sky_code::code::Code;
+use sky_scope::program::Program;
+use std::alloc::Global;
+
+/// The script with its functions by their names and the numbers of its nodes. Each node is met once.
+pub fn code_of<'a>(alloc: Global, script: &'a Script) -> Result<Code<'a>, Memory>
+    ensures { IfOk result (λ c. c ≡ script.now) }
+{
+    let program = Program::new(alloc, script)?;
+    let _nodes = script.nodes();
+    let mut ends = Vec::new(alloc);
+    let mut starts = Vec::new(alloc);
+    number_block(&mut ends, script.main())?;
+    number_funs(&mut ends, &mut starts, script.funs().as_slice())?;
+    Ok(Code::of(program, ends, starts))
+}
+
+// The blocks of functions, with the node of each.
+fn number_funs(ends: &mut Vec<u32>, starts: &mut Vec<u32>, funs: &[FunDef]) -> Result<(), Memory>
+    requires { Fits ends.old.items (pre_funs (funs_view funs.now)) }
+    ensures ends { IfOk result (λ _. Filled ends.old.items ends.new.items (pre_funs (funs_view funs.now))) }
+    ensures starts { IfOk result (λ _. starts.new.items ≡ starts.old.items ++ starts_from (funs_view funs.now) (length ends.old.items)) }
+{
+    let mut rest = funs;
+    while let Some((fun, more)) = rest.split_first() {
+        let Ok(()) = starts.push(ends.len() as u32) else {
+            return Err(Memory);
+        };
+        number_block(ends, &fun.body)?;
+        rest = more;
+    }
+    Ok(())
+}
