@@ -167,7 +167,12 @@ fn read_dict(alloc: Global, reader: &mut Reader, left: u32) -> Result<Value, Dec
 
 /// So many pairs with keys that rise, each with a value of at most so many levels.
 #[cycle(read)]
-pub fn read_pairs(alloc: Global, reader: &mut Reader, count: u32, left: u32) -> Result<Pairs, Decode>
+pub fn read_pairs(
+    alloc: Global,
+    reader: &mut Reader,
+    count: u32,
+    left: u32,
+) -> Result<Pairs, Decode>
     ensures pairs { IfOk result (λ ps. PairsRead count left reader.old ps reader.new) }
     ensures refused { IfErr result (λ e. Refuses e (NoPairs count left reader.old)) }
 {

@@ -12,6 +12,7 @@ type Row = (&'static str, &'static str, &'static str, &'static str);
 // As many opening brackets as data may have, and one more.
 const HUNDRED: &str =
     "[[[[[[[[[[[[[[[[[[[[[[[[[[[[[[[[[[[[[[[[[[[[[[[[[[[[[[[[[[[[[[[[[[[[[[[[[[[[[[[[[[[[[[[[[[[[[[[[[[[[";
+
 const HUNDRED_AND_ONE: &str =
     "[[[[[[[[[[[[[[[[[[[[[[[[[[[[[[[[[[[[[[[[[[[[[[[[[[[[[[[[[[[[[[[[[[[[[[[[[[[[[[[[[[[[[[[[[[[[[[[[[[[[[";
 
@@ -80,7 +81,11 @@ fn faults(rt: &impl Abort, alloc: Global, row: &Row) -> Result<(), Fail> {
         Some(told) => told,
         None => return Err(Fail::from("no fault")),
     };
-    assert!(rt; told.strip_suffix(b"\n".as_slice()) == Some(row.3.as_bytes()), "not {}", row.3);
+    assert!(rt;
+        told.strip_suffix(b"\n".as_slice()) == Some(row.3.as_bytes()),
+        "not {}",
+        row.3
+    );
     Ok(())
 }
 

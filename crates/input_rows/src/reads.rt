@@ -26,21 +26,49 @@ fn ends(
 
 #[test]
 fn a_read_that_fails(rt: HostRuntime) -> Result<(), Fail> {
-    ends(&rt, rt.alloc(), 2, "return 1;", &["t=f"], (8, "ciel: read fault f\n"))
+    ends(
+        &rt,
+        rt.alloc(),
+        2,
+        "return 1;",
+        &["t=f"],
+        (8, "ciel: read fault f\n"),
+    )
 }
 
 #[test]
 fn the_first_that_fails_is_told(rt: HostRuntime) -> Result<(), Fail> {
     let more = ["t=f", "u=g", "v=h"];
-    ends(&rt, rt.alloc(), 9, "return 1;", &more, (8, "ciel: read fault g\n"))
+    ends(
+        &rt,
+        rt.alloc(),
+        9,
+        "return 1;",
+        &more,
+        (8, "ciel: read fault g\n"),
+    )
 }
 
 #[test]
 fn no_input_is_read_where_the_script_is_none(rt: HostRuntime) -> Result<(), Fail> {
-    ends(&rt, rt.alloc(), 9, "return 1", &["t=g"], (2, "ciel: syntax NoSentence 1:9\n"))
+    ends(
+        &rt,
+        rt.alloc(),
+        9,
+        "return 1",
+        &["t=g"],
+        (2, "ciel: syntax NoSentence 1:9\n"),
+    )
 }
 
 #[test]
 fn one_file_under_two_names_is_read_twice(rt: HostRuntime) -> Result<(), Fail> {
-    ends(&rt, rt.alloc(), 3, "return 1;", &["a=f", "b=f"], (8, "ciel: read fault f\n"))
+    ends(
+        &rt,
+        rt.alloc(),
+        3,
+        "return 1;",
+        &["a=f", "b=f"],
+        (8, "ciel: read fault f\n"),
+    )
 }

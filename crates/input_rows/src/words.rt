@@ -22,7 +22,14 @@ fn checks(rt: &impl Abort, alloc: Global, more: &[&str], want: bool) -> Result<(
 }
 
 static GOOD: [&str; 8] = [
-    "a=f", "_=f", "9=f", "a.b-c_D=f", "a=f=f", "a=-", "a==", "a= f",
+    "a=f",
+    "_=f",
+    "9=f",
+    "a.b-c_D=f",
+    "a=f=f",
+    "a=-",
+    "a==",
+    "a= f",
 ];
 
 static BAD: [&str; 10] = [
