@@ -5,7 +5,8 @@ use Rattle.sky_base.specs.Tree.{Script}
 use Rattle.ciel_io.specs.Faults.{HasRisen}
 use Rattle.ciel_io.specs.Tells.{Tells, TellsPart}
 use Rattle.ciel_run.specs.Words.{line_of, line_with, input_in, path_in, paths}
-use Rattle.ciel_run.specs.Source.{Input, IsScript}
+use Rattle.sky_parse.specs.Source.{IsScript}
+use Rattle.ciel_run.specs.Source.{Input}
 use Rattle.ciel_run.specs.Found.{limit}
 use Rattle.ciel_run.specs.Reading.{ReadAll, UnreadSo, UnreadOf, AsksEach}
 use Rattle.ciel_run.specs.Loading.{unread, IsLoaded, NotLoaded, AsksJob}
