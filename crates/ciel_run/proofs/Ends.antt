@@ -3,7 +3,8 @@ use Rattle.std.proofs.Common.{◌≡◌, ℕ, List, Option, Some, refl, sym, sub
 use Rattle.sky_base.specs.See.{Desc, Job, Answered, Means}
 use Rattle.sky_plain.specs.Needs.{Chain, MakesMany}
 use Rattle.ciel_run.specs.Words.{Line, line_of}
-use Rattle.ciel_run.specs.Source.{Input, keys_of, IsScript, IsAnswer, HasChain, Makes, job_of, over_lines}
+use Rattle.sky_parse.specs.Source.{IsScript}
+use Rattle.ciel_run.specs.Source.{Input, keys_of, IsAnswer, HasChain, Makes, job_of, over_lines}
 use Rattle.ciel_run.specs.Found.{Holds, Fits, OverFiles}
 use Rattle.ciel_run.specs.Loading.{IsLoaded}
 use Rattle.ciel_run.specs.Ending.{status_of}

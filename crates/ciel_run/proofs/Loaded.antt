@@ -4,7 +4,8 @@ use Rattle.sky_base.specs.See.{Job}
 use Rattle.sky_base.specs.Tree.{Script}
 use Rattle.ciel_io.specs.Tells.{Tells, TellsPart}
 use Rattle.ciel_run.specs.Words.{Line, line_of, line_with, key_in, path_in, input_in, paths, paths_of}
-use Rattle.ciel_run.specs.Source.{Input, keys_of, IsScript}
+use Rattle.sky_parse.specs.Source.{IsScript}
+use Rattle.ciel_run.specs.Source.{Input, keys_of}
 use Rattle.ciel_run.specs.Found.{limit, Holds, HoldAll}
 use Rattle.ciel_run.specs.Ending.{PassesIfTold}
 use Rattle.ciel_run.specs.Reading.{ReadAll, UnreadSo, UnreadOf, AsksEach}

@@ -6,7 +6,8 @@ use Rattle.sky_base.specs.declared.object.Desc1.{Desc1}
 use Rattle.ciel_io.specs.Tells.{Tells, TellsPart}
 use Rattle.sky_base.specs.Tree.{Script}
 use Rattle.ciel_run.specs.Words.{Line}
-use Rattle.ciel_run.specs.Source.{Input, keys_of, IsScript, IsAnswer, HasChain, Makes}
+use Rattle.sky_parse.specs.Source.{IsScript}
+use Rattle.ciel_run.specs.Source.{Input, keys_of, IsAnswer, HasChain, Makes}
 use Rattle.ciel_run.specs.Found.{limit, input_limit, Fits}
 use Rattle.ciel_run.specs.Syntax.{IsSyntaxFault}
 use Rattle.ciel_run.specs.declared.top.SyntaxKind.{SyntaxKind}

@@ -5,7 +5,8 @@ use Rattle.sky_base.specs.See.{Desc, Answered, Means}
 use Rattle.sky_base.specs.Tree.{Script}
 use Rattle.sky_plain.specs.Needs.{Chain, MakesMany}
 use Rattle.ciel_run.specs.Words.{Line}
-use Rattle.ciel_run.specs.Source.{Input, keys_of, IsAnswer, IsScript, job_of, over_lines}
+use Rattle.sky_parse.specs.Source.{IsScript}
+use Rattle.ciel_run.specs.Source.{Input, keys_of, IsAnswer, job_of, over_lines}
 use Rattle.ciel_run.specs.Syntax.{IsSyntaxFault}
 use Rattle.ciel_run.specs.Found.{limit, input_limit, Fits}
 use Rattle.ciel_run.specs.Ending.{IsExpected, IsFirstOver}

@@ -3,7 +3,8 @@ use Rattle.std.specs.Prelude.{◌≡◌, ◌≢◌, ◌≤◌, ℕ, List, Option
 use Rattle.sky_base.specs.See.{Job}
 use Rattle.ciel_io.specs.Tells.{Tells, TellsPart}
 use Rattle.ciel_run.specs.Words.{Line, line_of, paths_of}
-use Rattle.ciel_run.specs.Source.{Input, keys_of, IsScript}
+use Rattle.sky_parse.specs.Source.{IsScript}
+use Rattle.ciel_run.specs.Source.{Input, keys_of}
 use Rattle.ciel_run.specs.Syntax.{IsSyntaxFault}
 use Rattle.ciel_run.specs.Found.{limit, Holds, Fits, OverScript}
 use Rattle.ciel_run.specs.Ending.{IsOver, IsTooLong, AsksUpTo}

@@ -1,11 +1,8 @@
--- The bytes of a script: the script that they are, and what its job over inputs comes to.
-use Rattle.std.specs.Prelude.{◌≡◌, ℕ, List, map, Ok}
+-- The bytes of a script over inputs: what its job comes to.
+use Rattle.std.specs.Prelude.{ℕ, List, map}
 use Rattle.sky_base.specs.See.{Desc, Job, Around, Answered, Means}
 use Rattle.sky_base.specs.Tree.{Script}
-use Rattle.sky_text.specs.Lexing.{tokens_of}
-use Rattle.sky_text.specs.declared.token.Token.{Token}
-use Rattle.sky_parse.specs.Parsed.{IsValid}
-use Rattle.sky_grammar.specs.Tops.{Top, script_of}
+use Rattle.sky_parse.specs.Source.{IsScript}
 use Rattle.ciel_json.specs.Around.{json_around}
 use Rattle.line_kit.specs.Gives.{gives}
 use Rattle.sky_plain.specs.Needs.{Chain, MakesMany}
@@ -16,11 +13,6 @@ Input = List ℕ × List ℕ
 
 abbrev pub keys_of : List Input → List (List ℕ)
 keys_of inputs = map (λ i. i.0) inputs
-
--- the bytes are a script that may name inputs by these keys
-abbrev pub IsScript : List ℕ → List (List ℕ) → Script → Type 0
-IsScript source keys script =
-    (ts : List Token) × (tops : List Top) × (tokens_of source ≡ Ok ts) × IsValid tops ts × (script ≡ script_of keys tops)
 
 -- the job of a script over inputs
 abbrev pub job_of : Script → List Input → Job

@@ -1,24 +1,15 @@
 -- Which bytes are no script, why and where.
-use Rattle.std.specs.Prelude.{◌≡◌, ℕ, List, [], Some, None, Ok, Err, length}
-use Rattle.sky_base.specs.Tree.{Place}
+use Rattle.std.specs.Prelude.{◌≡◌, ℕ, List, [], Some, None, Ok}
 use Rattle.sky_base.specs.TreeView.{at}
 use Rattle.sky_text.specs.Lexing.{tokens_of}
-use Rattle.sky_text.specs.Place.{place_of}
 use Rattle.sky_text.specs.declared.lex.LexRefusal.{LexRefusal}
 use Rattle.sky_text.specs.declared.token.Token.{Token}
 use Rattle.sky_grammar.specs.Names.{same_names}
 use Rattle.sky_grammar.specs.Nesting.{too_nested}
 use Rattle.sky_parse.specs.Parsed.{RefusedAt}
+use Rattle.sky_parse.specs.Source.{NoTokens, end_of}
 use Rattle.sky_grammar.specs.Tops.{Top, Spells}
 use Rattle.ciel_run.specs.declared.top.SyntaxKind.{SyntaxKind}
-
--- the bytes are refused so before they have tokens, at the byte of this place
-abbrev pub NoTokens : (ℕ → LexRefusal) → List ℕ → ℕ → ℕ → Type 0
-NoTokens refusal source line col = (byte : ℕ) × (tokens_of source ≡ Err (refusal byte)) × (place_of source byte ≡ (line, col))
-
--- the place behind the last byte
-abbrev pub end_of : List ℕ → Place
-end_of source = at (place_of source (length source)).0 (place_of source (length source)).1
 
 -- the bytes are no script: their first refusal is of this kind, at this line and column
 abbrev pub IsSyntaxFault : List ℕ → SyntaxKind → ℕ → ℕ → Type 0

@@ -4,7 +4,7 @@
 ghost use Rattle.std.specs.Prelude.{◌≡◌, ◌≤◌, ◌⊎◌, IfOk, IfErr, Err, length};
 ghost use Rattle.sky_text.specs.Lexing.{byte_of, tokens_of};
 ghost use Rattle.sky_text.specs.Place.{line_of, column_of};
-ghost use Rattle.ciel_run.specs.Source.{IsScript};
+ghost use Rattle.sky_parse.specs.Source.{IsScript};
 ghost use Rattle.ciel_run.specs.Refused.{RefusedSo};
 
 use crate::top::SyntaxKind;

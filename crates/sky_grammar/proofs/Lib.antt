@@ -1,4 +1,6 @@
 pub mod LiftedLaw
+pub mod OrderLaw
+pub mod WordsLaw
 pub mod UsesLaw
 pub mod Tokens
 pub mod Aligned

@@ -30,7 +30,7 @@ numbered_append n (suc k) m =
     let f : n + 1 + k ≡ n + suc k = omega arith in
     ap (numbered n) e ∙ ap (λ xs. number_name n ∷ xs) (numbered_append (n + 1) k m ∙ ap (λ i. numbered (n + 1) k ++ numbered i m) f)
 
-both : (n k m : ℕ) (fs gs : List run.FunDef) → fun_names fs ≡ numbered n k → fun_names gs ≡ numbered (n + k) m → fun_names (fs ++ gs) ≡ numbered n (k + m)
+pub both : (n k m : ℕ) (fs gs : List run.FunDef) → fun_names fs ≡ numbered n k → fun_names gs ≡ numbered (n + k) m → fun_names (fs ++ gs) ≡ numbered n (k + m)
 both n k m fs gs e f = names_append fs gs ∙ (λ i. e i ++ f i) ∙ sym (numbered_append n k m)
 
 pub names_length : (fs : List run.FunDef) → length fs ≡ length (fun_names fs)

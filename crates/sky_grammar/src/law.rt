@@ -1,7 +1,7 @@
 // Laws of the grammar: what a script is, and how far tokens go that are none. Each is the contract of
 // a function that does nothing.
 
-ghost use Rattle.sky_grammar.specs.Laws.{BeginsByPartialTrees, OneScript, SpelledOrRefused, UsesTheNames};
+ghost use Rattle.sky_grammar.specs.Laws.{AtTheirWords, BeginsByPartialTrees, NumberedInOrder, OneScript, SpelledOrRefused, UsesTheNames};
 
 /// Some script spells the tokens, or no script does, and then there is exactly one place where they go
 /// wrong: the tokens before it begin a sentence, and with the token that stands there they begin none.
@@ -24,4 +24,14 @@ pub fn one_script()
 /// included, and are none of its parameters.
 pub fn uses_are_the_names()
     ensures { UsesTheNames }
+{}
+
+/// The anonymous functions of a script stand at the words that begin one, in the order of the text.
+pub fn at_their_words()
+    ensures { AtTheirWords }
+{}
+
+/// The anonymous function with so many before it in the text has their number in its name.
+pub fn numbered_in_order()
+    ensures { NumberedInOrder }
 {}

@@ -1,14 +1,4 @@
-pub mod Builds
-pub mod Wholes
-pub mod Moves
 pub mod StmtMoves
-pub mod HeldLaw
-pub mod ReadsLaw
-pub mod ExpLaw
-pub mod NamesLaw
 pub mod ScriptLaw
-pub mod MadeLaw
-pub mod FunctionLaw
-pub mod LevelsLaw
 pub mod StmLaw
 pub mod ParsedLaw

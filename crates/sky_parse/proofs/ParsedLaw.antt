@@ -15,7 +15,7 @@ use Rattle.sky_grammar.specs.Nesting.{too_nested}
 use Rattle.sky_grammar.specs.Tops.{Top, Spells, script_of}
 use Rattle.sky_grammar.proofs.Exact.{exact}
 use Rattle.sky_grammar.proofs.UniqueScripts.{one_script}
-use Rattle.sky_parse.specs.Parsed.{IsScript, IsValid, Gives, IsTwice, Named, Nested, Refused, RefusedAt, made_if, place_at}
+use Rattle.sky_parse.specs.Parsed.{IsSpelled, IsValid, Gives, IsTwice, Named, Nested, Refused, RefusedAt, made_if, place_at}
 use Rattle.sky_parse.specs.Scripts.{IsRead}
 use Rattle.sky_parse.specs.declared.script.Read.{Read}
 use Rattle.sky_parse.specs.declared.script.ParseRefusal.{ParseRefusal}
@@ -50,11 +50,11 @@ module _ (keys : List (List ℕ)) (ts : List Token) (tops : List Top) (spells : 
       let none : same_names [] tops ≡ None = ap (same_names []) (sym same) ∙ v.2 in
       subst (λ xs. Gives keys xs r) (sym same) (subst (λ o. made_if o keys tops r) none m)
 
-  pub is_spelled : (r : Result Script ParseRefusal) → made_if (same_names [] tops) keys tops r → IfOk r (λ s. IsScript keys ts s)
+  pub is_spelled : (r : Result Script ParseRefusal) → made_if (same_names [] tops) keys tops r → IfOk r (λ s. IsSpelled keys ts s)
   is_spelled (Err e) m = tt
   is_spelled (Ok s) m = go (same_names [] tops) refl m
     where
-      go : (o : Option Place) → same_names [] tops ≡ o → made_if o keys tops (Ok s) → IsScript keys ts s
+      go : (o : Option Place) → same_names [] tops ≡ o → made_if o keys tops (Ok s) → IsSpelled keys ts s
       go (Some p) e h = absurd h
       go None e h = (tops, spells, e, h)
 

@@ -1,10 +1,9 @@
 -- Parameters, functions and statements at the top of a script, as they are read one behind the other.
-use Rattle.std.proofs.Common.{◌≡◌, ℕ, ◌+◌, ◌<◌, true, List, [], ◌∷◌, ◌++◌, length, append_assoc, append-nil, Option, refl, sym, ap, subst, ◌∙◌, arith}
+use Rattle.std.proofs.Common.{◌≡◌, ℕ, ◌+◌, true, List, [], ◌∷◌, ◌++◌, length, append_assoc, append-nil, Option, refl, sym, ap, subst, ◌∙◌}
 use Rattle.std.specs.BTreeSet.{insert_key}
 use Rattle.sky_base.specs.Eval.{is_one_of}
 use Rattle.sky_base.specs.Tree as run
 use Rattle.sky_base.specs.Tree.{Place}
-use Rattle.sky_base.specs.TreeView.{at}
 use Rattle.sky_base.specs.StmtView.{stm_view, stms_view}
 use Rattle.sky_base.specs.ScriptView.{fun_view, funs_view}
 use Rattle.sky_base.specs.declared.stmt.Stmt.{Stmt}
@@ -16,30 +15,16 @@ use Rattle.sky_grammar.specs.Source.{Param}
 use Rattle.sky_grammar.specs.Lifted.{text_cmp, param_names, stms_tree, stm_count, stms_count, stm_made, stms_made}
 use Rattle.sky_grammar.specs.Names.{first_of, at_twice, same_params, stm_same, stms_same, same_names}
 use Rattle.sky_grammar.specs.Tops.{Top, Spells, spell_tops, defs_of, main_of, made_of}
-use Rattle.sky_grammar.specs.Signs.{is, is_word}
-use Rattle.sky_grammar.specs.Grammar.{Mark, sign, name_at, spell_params, spell_other_params, spell_block, Follows, Spelled}
-use Rattle.sky_grammar.proofs.Tokens.{is_sign, is_that_word}
-use Rattle.sky_parse.specs.declared.made.Parameter.{Parameter}
+use Rattle.sky_grammar.specs.Signs.{is_word}
+use Rattle.sky_grammar.specs.Grammar.{sign, name_at, spell_params, spell_block, Follows, Spelled}
+use Rattle.sky_grammar.proofs.Tokens.{is_that_word}
 use Rattle.sky_parse.specs.declared.script.Read.{Read}
-use Rattle.sky_parse.specs.Held.{Held, after, seen_twice, stm_part, stms_part, nothing_held}
-use Rattle.sky_parse.specs.Reads.{ReadsBlock, ReadsStm}
-use Rattle.sky_parse.specs.Scripts.{params_view, ReadsFun, SoFar, IsRead}
-use Rattle.sky_parse.proofs.HeldLaw.{first_assoc, first_none, number, stm_sized, stms_sized}
-use Rattle.sky_parse.proofs.NamesLaw.{known_more}
-
-other_params_push : (xs : List Parameter) (x : Parameter) (more : List Mark) → spell_other_params (params_view (xs ++ x ∷ [])) more ≡ spell_other_params (params_view xs) (sign Sign.Comma ∷ name_at x.name (at x.line x.col) ∷ more)
-other_params_push [] x more = refl
-other_params_push (y ∷ xs) x more = ap (λ (ms : List Mark). sign Sign.Comma ∷ name_at y.name (at y.line y.col) ∷ ms) (other_params_push xs x more)
-
-params_push : (xs : List Parameter) (x : Parameter) (more : List Mark) → 0 < length xs → spell_params (params_view (xs ++ x ∷ [])) more ≡ spell_params (params_view xs) (sign Sign.Comma ∷ name_at x.name (at x.line x.col) ∷ more)
-params_push [] x more h = absurd (omega arith)
-params_push (y ∷ xs) x more h = ap (λ (ms : List Mark). name_at y.name (at y.line y.col) ∷ ms) (other_params_push xs x more)
-
-pub params_spelled : (ts rest after next : List Token) (t : Token) (xs : List Parameter) (x : Parameter) → 0 < length xs → Spelled (spell_params (params_view xs)) ts rest → rest ≡ t ∷ after → is Sign.Comma t.kind ≡ true
-    → Spelled (λ more. name_at x.name (at x.line x.col) ∷ more) after next → Spelled (spell_params (params_view (xs ++ x ∷ []))) ts next
-params_spelled ts rest after next t xs x some s r h g = λ more f.
-    let one : Follows (sign Sign.Comma ∷ name_at x.name (at x.line x.col) ∷ more) rest = rw r (is_sign Sign.Comma t.kind h, g more f) in
-    rw (params_push xs x more some) (s (sign Sign.Comma ∷ name_at x.name (at x.line x.col) ∷ more) one)
+use Rattle.sky_parse_expr.specs.Held.{Held, after, seen_twice, stm_part, stms_part, nothing_held}
+use Rattle.sky_parse_expr.specs.Reads.{ReadsBlock}
+use Rattle.sky_parse.specs.Statements.{ReadsStm}
+use Rattle.sky_parse.specs.Scripts.{ReadsFun, SoFar, IsRead}
+use Rattle.sky_parse_expr.proofs.HeldLaw.{first_assoc, first_none, number, stm_sized, stms_sized}
+use Rattle.sky_parse_expr.proofs.NamesLaw.{known_more}
 
 -- ---- named functions
 

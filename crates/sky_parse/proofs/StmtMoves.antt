@@ -119,20 +119,6 @@ after_else_block k [] e = refl
 after_else_block k (t ∷ ts) e = rw e refl
 
 -- Functions.
-pub params_empty : (k : List Item) (ts rest : List Token) (t : Token) → ts ≡ t ∷ rest → is Sign.CloseRound t.kind ≡ true → run (Item.params ∷ k) (kinds ts) ≡ run (k) (kinds rest)
-params_empty k ts rest t r h = rw (r, h) refl
-
-pub params_first : (k : List Item) (ts : List Token) → at_sign Sign.CloseRound ts ≡ false → run (Item.params ∷ k) (kinds ts) ≡ run (Item.name ∷ Item.other_params ∷ k) (kinds ts)
-params_first k [] e = refl
-params_first k (t ∷ ts) e = rw e refl
-
-pub params_go : (k : List Item) (ts rest : List Token) (t : Token) → ts ≡ t ∷ rest → is Sign.Comma t.kind ≡ true → run (Item.other_params ∷ k) (kinds ts) ≡ run (Item.name ∷ Item.other_params ∷ k) (kinds rest)
-params_go k ts rest t r h = rw (r, h) refl
-
-pub params_end : (k : List Item) (ts : List Token) → at_sign Sign.Comma ts ≡ false → run (Item.other_params ∷ k) (kinds ts) ≡ run (Item.sign Sign.CloseRound ∷ k) (kinds ts)
-params_end k [] e = refl
-params_end k (t ∷ ts) e = rw e refl
-
 named_word : (k : List Item) (ts : List Token) → at_sign Sign.OpenRound ts ≡ false → run (Item.after_function ∷ k) (kinds ts) ≡ run (Item.name ∷ Item.sign Sign.OpenRound ∷ Item.params ∷ Item.block ∷ Item.tops ∷ k) (kinds ts)
 named_word k [] e = refl
 named_word k (t ∷ ts) e = rw e refl

@@ -1,8 +1,4 @@
-pub mod Built
-pub mod Held
-pub mod Reads
-pub mod Runs
-pub mod Bodies
-pub mod Begun
+pub mod Statements
 pub mod Scripts
 pub mod Parsed
+pub mod Source

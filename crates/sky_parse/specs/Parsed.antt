@@ -11,8 +11,8 @@ use Rattle.sky_grammar.specs.Names.{same_names}
 use Rattle.sky_parse.specs.declared.script.ParseRefusal.{ParseRefusal}
 
 -- The script is that of functions and statements that spell the tokens, and no name stands twice.
-abbrev pub IsScript : List (List ℕ) → List Token → Script → Type 0
-IsScript keys ts script = (tops : List Top) × Spells tops ts × (same_names [] tops ≡ None) × (script ≡ script_of keys tops)
+abbrev pub IsSpelled : List (List ℕ) → List Token → Script → Type 0
+IsSpelled keys ts script = (tops : List Top) × Spells tops ts × (same_names [] tops ≡ None) × (script ≡ script_of keys tops)
 
 -- The functions and statements are a valid script: they spell the tokens, no bracket is nested too deep, and no
 -- name stands twice.

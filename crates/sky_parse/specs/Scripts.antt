@@ -2,8 +2,6 @@
 use Rattle.std.specs.Prelude.{◌≡◌, ℕ, List, [], ◌∷◌, ◌++◌, length, Bool, true, if◌then◌else◌}
 use Rattle.sky_base.specs.Eval.{is_one_of}
 use Rattle.sky_base.specs.Tree as run
-use Rattle.sky_base.specs.Tree.{Place}
-use Rattle.sky_base.specs.TreeView.{at}
 use Rattle.sky_base.specs.StmtView.{stms_view}
 use Rattle.sky_base.specs.ScriptView.{funs_view}
 use Rattle.sky_base.specs.declared.stmt.Stmt.{Stmt}
@@ -12,17 +10,11 @@ use Rattle.sky_text.specs.declared.token.Sign.{Sign}
 use Rattle.sky_text.specs.declared.token.Word.{Word}
 use Rattle.sky_text.specs.declared.token.Token.{Token}
 use Rattle.sky_grammar.specs.Signs.{at_sign, is_word}
-use Rattle.sky_grammar.specs.Source.{Param}
 use Rattle.sky_grammar.specs.Grammar.{Fun, sign, name_at, spell_params, spell_block, AreStms, Spelled}
 use Rattle.sky_grammar.specs.Names.{first_of, at_twice, same_params, same_names}
 use Rattle.sky_grammar.specs.Tops.{Top, spell_tops, AreTops, def_of, defs_of, main_of, made_of}
-use Rattle.sky_parse.specs.Held.{Held, after, seen_twice, stms_part}
-use Rattle.sky_parse.specs.declared.made.Parameter.{Parameter}
+use Rattle.sky_parse_expr.specs.Held.{Held, after, seen_twice, stms_part}
 use Rattle.sky_parse.specs.declared.script.Read.{Read}
-
-abbrev pub params_view : List Parameter → List Param
-params_view [] = []
-params_view (x ∷ xs) = record { name = x.name; place = at x.line x.col } ∷ params_view xs
 
 -- a named function was read behind its word, where functions of these names came before
 pub record ReadsFun (d : run.FunDef) (known : List (List ℕ)) (old new : Held) (ts rest : List Token) : Type 0 where

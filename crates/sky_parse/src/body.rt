@@ -4,14 +4,15 @@
 ghost use Rattle.std.specs.Prelude.{◌≡◌, ◌<◌, ◌∷◌, List, length, IfOk};
 ghost use Rattle.sky_base.specs.StmtView.{stm_view};
 ghost use Rattle.sky_grammar.specs.Machine.{Item, run, kinds};
-ghost use Rattle.sky_parse.specs.Reads.{ReadsBlock, ReadsStm};
-ghost use Rattle.sky_parse.specs.Bodies.{CanRead, ReadsBodies};
-ghost use Rattle.sky_parse.specs.Runs.{Runs};
+ghost use Rattle.sky_parse_expr.specs.Reads.{ReadsBlock};
+ghost use Rattle.sky_parse.specs.Statements.{ReadsStm};
+ghost use Rattle.sky_parse_expr.specs.Bodies.{CanRead, ReadsBodies};
+ghost use Rattle.sky_parse_expr.specs.Runs.{Runs};
 
-use crate::look::Fail;
-use crate::made::Made;
 use crate::stmt::{block, stmt};
 use sky_base::stmt::{Block, Stmt};
+use sky_parse_expr::look::Fail;
+use sky_parse_expr::made::Made;
 use sky_text::token::Token;
 use std::alloc::Global;
 

@@ -4,7 +4,7 @@
 ghost use Rattle.std.specs.Prelude.{◌≡◌, ◌≤◌, IfSome};
 ghost use Rattle.sky_grammar.specs.Nesting.{opening, closing, open_after, too_nested, place_of};
 
-use crate::look::is_sign;
+use sky_parse_expr::look::is_sign;
 use sky_text::token::{Sign, Token, TokenKind};
 
 /// Whether the token is `(`, `[` or `{`.

@@ -11,19 +11,19 @@ ghost use Rattle.sky_grammar.specs.Names.{same_names};
 ghost use Rattle.sky_grammar.specs.Signs.{at_sign, is_word};
 ghost use Rattle.sky_grammar.specs.Nesting.{too_nested};
 ghost use Rattle.sky_grammar.specs.Tops.{Top, Spells, script_of};
-ghost use Rattle.sky_parse.specs.Runs.{Runs, Goes};
+ghost use Rattle.sky_parse_expr.specs.Runs.{Runs, Goes};
 ghost use Rattle.sky_parse.specs.Scripts.{IsRead, no_function, ReadsFun, SoFar};
-ghost use Rattle.sky_parse.specs.Parsed.{Gives, IsMade, IsScript, IsTwice, IsValid, Named, Nested, Refused, place_at};
+ghost use Rattle.sky_parse.specs.Parsed.{Gives, IsMade, IsSpelled, IsTwice, IsValid, Named, Nested, Refused, place_at};
 ghost use Rattle.std.specs.BTreeSet.{insert_key};
 
 use crate::body::{top_stmt, whole_block};
 use crate::brackets::too_nested;
-use crate::function::params;
-use crate::look::{Fail, eat_word, stands, want, want_name};
-use crate::made::Made;
-use crate::names::{Known, noted, parameters};
 use sky_base::script::{FunDef, FunDefs, Script, Texts};
 use sky_base::stmt::{Block, Stmt};
+use sky_parse_expr::function::params;
+use sky_parse_expr::look::{Fail, eat_word, stands, want, want_name};
+use sky_parse_expr::made::Made;
+use sky_parse_expr::names::{Known, noted, parameters};
 use sky_text::token::{Sign, Token, Word};
 use std::alloc::Global;
 
@@ -186,7 +186,7 @@ pub fn parse(
     // A valid script is answered as what it is, but for want of memory.
     ensures valid { (tops : List Top) → IsValid tops tokens.now → Gives keys tops result }
     // Its functions and statements are trees of the grammar and spell the tokens, places included.
-    ensures spelled { IfOk result (λ script. IsScript keys tokens.now script) }
+    ensures spelled { IfOk result (λ script. IsSpelled keys tokens.now script) }
     // A name that stands twice is refused where functions and statements spell the tokens, exactly there.
     ensures named { Named tokens.now result }
     // Where they do, no bracket is one too many and a name stands twice, that is the answer, but for want of memory.

@@ -3,7 +3,8 @@ use Rattle.std.proofs.Common.{◌≡◌, ℕ, List, [], ◌∷◌, Option, Err, 
 use Rattle.ciel_io.specs.Faults.{HasRisen}
 use Rattle.ciel_io.specs.Tells.{Tells}
 use Rattle.ciel_run.specs.Words.{line_of, input_in, paths}
-use Rattle.ciel_run.specs.Source.{Input, IsScript}
+use Rattle.sky_parse.specs.Source.{IsScript}
+use Rattle.ciel_run.specs.Source.{Input}
 use Rattle.ciel_run.specs.Found.{limit}
 use Rattle.ciel_run.specs.Reading.{ReadAll, UnreadSo, UnreadOf, AsksEach}
 use Rattle.ciel_run.specs.Loading.{unread, NotLoaded, AsksJob}

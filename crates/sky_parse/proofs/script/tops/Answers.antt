@@ -1,7 +1,7 @@
 use Rattle.std.proofs.Common.{List, ◌∙◌, sym, refl, subst}
 use Rattle.sky_text.specs.declared.token.Token.{Token}
 use Rattle.sky_parse.specs.Scripts.{SoFar}
-use Rattle.sky_parse.proofs.Builds.{emptied}
+use Rattle.sky_parse_expr.proofs.Builds.{emptied}
 use Rattle.sky_parse.proofs.StmtMoves.{tops_end}
 use Rattle.sky_parse.proofs.ScriptLaw.{so_none, so_all}
 use Rattle.sky_parse.proofs.script.tops.Goals as goal

@@ -11,11 +11,12 @@ use Rattle.sky_text.specs.declared.token.Token.{Token}
 use Rattle.sky_grammar.specs.declared.level.Level.{Level}
 use Rattle.sky_grammar.specs.Grammar.{place}
 use Rattle.sky_grammar.specs.Machine.{Item, test_then, run, kinds}
-use Rattle.sky_parse.specs.Held.{Held}
-use Rattle.sky_parse.specs.Reads.{Onto, ReadsEnded, ReadsStm, ReadsStms}
-use Rattle.sky_parse.proofs.Moves.{exit}
+use Rattle.sky_parse_expr.specs.Held.{Held}
+use Rattle.sky_parse_expr.specs.Reads.{Onto}
+use Rattle.sky_parse.specs.Statements.{ReadsEnded, ReadsStm, ReadsStms}
+use Rattle.sky_parse_expr.proofs.Moves.{exit}
 use Rattle.sky_parse.proofs.StmtMoves.{block_is, stmts_goes, stmts_end, arms_go, after_else_if, after_else_block, stmt_else}
-use Rattle.sky_parse.proofs.ReadsLaw.{word_front, word_placed, onto_none, onto_one, onto_end}
+use Rattle.sky_parse_expr.proofs.ReadsLaw.{word_front, word_placed, onto_none, onto_one, onto_end}
 use Rattle.sky_parse.proofs.StmLaw.{read_just, read_while, read_do, read_for, read_no_stms, read_stms, read_block, read_arm, read_no_else, read_else, choice_begun, choice_next, choice_done}
 use Rattle.sky_parse.proofs.stmt.+stmt.Goals as goal
 

@@ -4,7 +4,8 @@ use Rattle.sky_base.specs.StmtView.{stms_view}
 use Rattle.sky_base.specs.declared.stmt.Stmt.{Stmt}
 use Rattle.sky_text.specs.declared.token.Sign.{Sign}
 use Rattle.sky_grammar.specs.Machine.{Item, test_then, run, kinds}
-use Rattle.sky_parse.specs.Reads.{Onto, ReadsStms}
+use Rattle.sky_parse_expr.specs.Reads.{Onto}
+use Rattle.sky_parse.specs.Statements.{ReadsStms}
 use Rattle.sky_parse.proofs.StmLaw.{ChoiceSo}
 use Rattle.sky_parse.proofs.stmt.+stmt.Given as goal
 

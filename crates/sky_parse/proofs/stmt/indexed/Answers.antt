@@ -5,12 +5,12 @@ use Rattle.sky_text.specs.declared.token.Sign.{Sign}
 use Rattle.sky_text.specs.declared.token.Token.{Token}
 use Rattle.sky_grammar.specs.declared.level.Level.{Level}
 use Rattle.sky_grammar.specs.Machine.{Item, tails, run, kinds}
-use Rattle.sky_parse.specs.Held.{Held}
-use Rattle.sky_parse.specs.Reads.{Onto, ReadsSteps}
-use Rattle.sky_parse.proofs.Moves.{passed}
+use Rattle.sky_parse_expr.specs.Held.{Held}
+use Rattle.sky_parse_expr.specs.Reads.{Onto, ReadsSteps}
+use Rattle.sky_parse_expr.proofs.Moves.{passed}
 use Rattle.sky_parse.proofs.StmtMoves.{indexed_else}
-use Rattle.sky_parse.proofs.ReadsLaw.{sign_front, ok_map}
-use Rattle.sky_parse.proofs.ExpLaw.{read_index}
+use Rattle.sky_parse_expr.proofs.ReadsLaw.{sign_front, ok_map}
+use Rattle.sky_parse_expr.proofs.ExpLaw.{read_index}
 use Rattle.sky_parse.proofs.StmLaw.{read_put}
 use Rattle.sky_parse.proofs.stmt.indexed.Goals as goal
 

@@ -3,10 +3,10 @@ use Rattle.sky_base.specs.declared.tree.Step.{Step}
 use Rattle.sky_base.specs.TreeView.{at, steps_view}
 use Rattle.sky_text.specs.declared.token.Token.{Token}
 use Rattle.sky_grammar.specs.Grammar.{name_at}
-use Rattle.sky_parse.specs.Held.{Held}
-use Rattle.sky_parse.specs.Reads.{ReadsSteps}
-use Rattle.sky_parse.proofs.ReadsLaw.{at_front, onto_end}
-use Rattle.sky_parse.proofs.ExpLaw.{as_is, lower, read_name, read_stepped, read_no_steps}
+use Rattle.sky_parse_expr.specs.Held.{Held}
+use Rattle.sky_parse_expr.specs.Reads.{ReadsSteps}
+use Rattle.sky_parse_expr.proofs.ReadsLaw.{at_front, onto_end}
+use Rattle.sky_parse_expr.proofs.ExpLaw.{as_is, lower, read_name, read_stepped, read_no_steps}
 use Rattle.sky_parse.proofs.StmLaw.{read_ended, read_just}
 use Rattle.sky_parse.proofs.stmt.just.Goals as goal
 

@@ -8,11 +8,12 @@ use Rattle.sky_grammar.specs.declared.level.Level.{Level}
 use Rattle.sky_grammar.specs.Grammar.{place}
 use Rattle.sky_grammar.specs.Machine.{Item, tails, run, kinds}
 use Rattle.sky_grammar.proofs.Tokens.{is_sign}
-use Rattle.sky_parse.specs.Held.{Held}
-use Rattle.sky_parse.specs.Reads.{Onto, ReadsSteps, ReadsStm}
-use Rattle.sky_parse.proofs.Moves.{passed}
+use Rattle.sky_parse_expr.specs.Held.{Held}
+use Rattle.sky_parse_expr.specs.Reads.{Onto, ReadsSteps}
+use Rattle.sky_parse.specs.Statements.{ReadsStm}
+use Rattle.sky_parse_expr.proofs.Moves.{passed}
 use Rattle.sky_parse.proofs.StmtMoves.{named_else}
-use Rattle.sky_parse.proofs.ReadsLaw.{sign_front, sign_placed, onto_none, ok_map}
+use Rattle.sky_parse_expr.proofs.ReadsLaw.{sign_front, sign_placed, onto_none, ok_map}
 use Rattle.sky_parse.proofs.StmLaw.{read_set, read_add}
 use Rattle.sky_parse.proofs.stmt.named.Goals as goal
 
