@@ -3,7 +3,7 @@ use Rattle.std.proofs.Common.{◌≡◌, ◌<◌, ◌^◌, ℕ, List, [], ◌∷
 use Rattle.sky_base.specs.Eval.{find_fun, find_fun_if}
 use Rattle.sky_base.specs.Name.{is_anonymous}
 use Rattle.sky_base.specs.Tree.{FunDef, Script}
-use Rattle.sky_base.specs.Val.{Val, Vals, Pairs, Desc, null, truth, num, text, list, dict, fun, ref, no_vals, val, no_pairs, pair, call, out, input, known, count, pair_count, Rising, same_text}
+use Rattle.sky_base.specs.Val.{Val, Vals, Pairs, Desc, null, truth, num, text, list, dict, fun, ref, no_vals, val, no_pairs, pair, call, out, input, known, pair_count, Rising, same_text}
 use Rattle.sky_base.proofs.Exact.{exact_text}
 use Rattle.sky_law.specs.Sound.{AllUsed, CallsIf, IsMain, PairsSound, RefsSound, Sound, SoundDesc, TakesIf, ValsSound}
 use Rattle.ciel_name.specs.Laws.{SpelledDesc}

@@ -1,5 +1,5 @@
 -- The functions of a script that trees make: named ones use nothing, the others are anonymous.
-use Rattle.std.proofs.Common.{◌≡◌, ℕ, ◌+◌, List, [], ◌∷◌, ◌++◌, false, refl}
+use Rattle.std.proofs.Common.{ℕ, ◌+◌, List, [], ◌∷◌, ◌++◌, refl}
 use Rattle.sky_base.specs.Tree.{FunDef}
 use Rattle.sky_grammar.specs.Source.{Exp, Exps, Links, Ands, Steps, Stm, Stms, Arms, Else}
 use Rattle.sky_grammar.specs.Lifted.{count, exps_count, stm_count, stms_count, arms_count, made, exps_made, links_made, ands_made, steps_made, stm_made, stms_made, arms_made, else_made}
