@@ -1,5 +1,5 @@
 -- Lists of those of a list of which something holds, in order.
-use Rattle.std.proofs.Common.{◌≡◌, List, [], ◌∷◌, ap, sym, ◌∙◌, subst, ◌⊎◌, inl, inr}
+use Rattle.std.proofs.Common.{◌≡◌, List, [], ◌∷◌, ap, sym, ◌∙◌, subst, inl, inr}
 use Rattle.ciel_journal.specs.Graph.{Picks}
 use Rattle.ciel_journal.specs.Job.{In}
 

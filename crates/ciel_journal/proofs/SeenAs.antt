@@ -1,5 +1,5 @@
 -- A graph seen as another has the same reached tasks, the same that can run, and the same circles.
-use Rattle.std.proofs.Common.{◌≡◌, List, [], ◌∷◌, Bool, true, false, map, refl, ap, sym, ◌∙◌, subst, ◌⊎◌, inl, inr, Option, Some, None}
+use Rattle.std.proofs.Common.{◌≡◌, List, [], ◌∷◌, true, false, map, refl, ap, sym, ◌∙◌, subst, inl, inr, Option, Some, None}
 use Rattle.std.specs.Option.{option_map}
 use Rattle.ciel_journal.specs.Graph.{Chain, Circle, Graph, Led, Runnable, SeenAs, WaitsOn, root, through}
 use Rattle.ciel_journal.specs.Job.{Each, In}

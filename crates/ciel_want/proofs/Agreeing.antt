@@ -5,18 +5,18 @@ use Rattle.std.specs.Option.{option_map, option_and_then}
 use Rattle.sky_base.specs.Val.{same_text}
 use Rattle.sky_base.specs.declared.object.TaskId.{TaskId}
 use Rattle.sky_base.proofs.Exact.{exact_text, self_text}
-use Rattle.ciel_journal.specs.Graph.{Led, Picks, Runnable, SeenAs, root, standing_graph, through}
+use Rattle.ciel_journal.specs.Graph.{Picks, Runnable, SeenAs, root, standing_graph, through}
 use Rattle.ciel_journal.specs.History.{Order, Standing, is_out, needs as needs_after, same_task}
-use Rattle.ciel_journal.specs.Job.{Each, In, IsJob, Job, Task, of, show}
-use Rattle.ciel_journal.specs.Turns.{IsReadyList, Reached, Ready, is_first, tasks_of}
+use Rattle.ciel_journal.specs.Job.{In, IsJob, Job, Task, of, show}
+use Rattle.ciel_journal.specs.Turns.{Reached, Ready, is_first, tasks_of}
 use Rattle.ciel_journal.proofs.Members.{each_of}
 use Rattle.ciel_journal.proofs.SeenAs.{circle_here, led_here, led_there, runs_here, runs_there}
 use Rattle.ciel_table.specs.Named.{found}
-use Rattle.ciel_table.specs.Seen.{TableSeen, is_input, row_name, row_named}
+use Rattle.ciel_table.specs.Seen.{TableSeen, row_name, row_named}
 use Rattle.ciel_table.specs.declared.row.Row.{Row}
 use Rattle.ciel_table.proofs.Lists.{bool_cases}
 use Rattle.ciel_want.specs.History.{Agree, AreRowsOf, IsHistory, IsRowOf, Listed, own, own_if, task_id}
-use Rattle.ciel_want.specs.Waited.{graph, is_in, made_by, maker, same_id, tasks_after, tasks_in_order, unless}
+use Rattle.ciel_want.specs.Waited.{graph, is_in, made_by, maker, same_id, tasks_after, unless}
 use Rattle.ciel_want.proofs.Listed.{same_exact}
 
 -- ---- two lists that are picked side by side

@@ -1,6 +1,5 @@
 -- Each reached task stands in the order of tasks.
 use Rattle.std.proofs.Common.{◌≡◌, ℕ, List, [], ◌∷◌, Bool, true, false, cond, ◌||◌, refl, ap, sym, ◌∙◌, subst, ◌⊎◌, inl, inr, Option, Some, None}
-use Rattle.std.specs.List.{list_any}
 use Rattle.std.specs.Option.{option_and_then}
 use Rattle.sky_base.specs.Val.{same_text}
 use Rattle.sky_base.specs.declared.object.TaskId.{TaskId}
@@ -11,7 +10,7 @@ use Rattle.ciel_table.specs.Named.{found}
 use Rattle.ciel_table.specs.Seen.{TableSeen, is_input, row_name, row_named}
 use Rattle.ciel_table.specs.declared.row.Row.{Row}
 use Rattle.ciel_table.proofs.Lists.{bool_cases}
-use Rattle.ciel_want.specs.Waited.{graph, is_in, made_by, maker, same_id, tasks_after, tasks_in_order, unless}
+use Rattle.ciel_want.specs.Waited.{graph, is_in, made_by, same_id, tasks_after, tasks_in_order, unless}
 
 pub same_exact : (a b : TaskId) → same_id a b ≡ true → a ≡ b
 same_exact TaskId.Show TaskId.Show e = refl

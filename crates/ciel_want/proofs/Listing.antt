@@ -1,6 +1,5 @@
 -- Listing the flagged tasks, each at its first row.
 use Rattle.std.proofs.Common.{◌≡◌, ℕ, zero, suc, ◌<◌, ◌≤◌, List, [], ◌∷◌, ◌++◌, Bool, true, false, cond, ◌||◌, drop, get_or, length, length-set, set, slice_get, append_assoc, refl, ap, sym, ◌∙◌, subst, ◌⊎◌, inl, inr, arith, Option, Some, None, nat_eq, eqb-true}
-use Rattle.std.specs.List.{list_any}
 use Rattle.std.specs.Option.{option_map_or}
 use Rattle.sky_base.specs.Val.{same_text}
 use Rattle.sky_base.specs.declared.object.TaskId.{TaskId}
@@ -10,7 +9,7 @@ use Rattle.ciel_table.specs.Seen.{TableSeen, find, row_name}
 use Rattle.ciel_table.specs.declared.row.Row.{Row}
 use Rattle.ciel_table.proofs.Lists.{bool_cases}
 use Rattle.ciel_want.specs.Board.{IsFlagged, cleared, is_set, task_row}
-use Rattle.ciel_want.specs.Waited.{is_in, same_id, tasks_after, tasks_in_order, unless}
+use Rattle.ciel_want.specs.Waited.{is_in, tasks_after, tasks_in_order, unless}
 use Rattle.ciel_want.proofs.Marking.{set_other}
 use Rattle.ciel_want.proofs.Rows.{item_at}
 

@@ -1,16 +1,15 @@
 -- The rows to which the root task leads are those of the reached tasks.
-use Rattle.std.proofs.Common.{◌≡◌, ℕ, zero, suc, ◌<◌, List, [], ◌∷◌, Bool, true, false, cond, not, filter, length, slice_get, refl, ap, sym, ◌∙◌, subst, ◌⊎◌, inl, inr, arith, Option, Some, None, IfSome, IsSome, nat_eq, eq-eqb, ◌||◌}
-use Rattle.std.specs.List.{list_any}
-use Rattle.std.specs.Option.{option_map_or, option_and_then}
+use Rattle.std.proofs.Common.{◌≡◌, ℕ, zero, suc, ◌<◌, List, [], ◌∷◌, Bool, true, false, cond, not, filter, length, slice_get, refl, ap, sym, ◌∙◌, subst, ◌⊎◌, inl, inr, arith, Option, Some, None, IfSome, IsSome}
+use Rattle.std.specs.Option.{option_map_or}
 use Rattle.sky_base.specs.declared.object.TaskId.{TaskId}
 use Rattle.ciel_journal.specs.Graph.{Led, root, through}
 use Rattle.ciel_journal.specs.Job.{In}
 use Rattle.ciel_journal.specs.Search.{Among, IsWithin, LedTo, first, further, unmet}
-use Rattle.ciel_table.specs.Seen.{TableSeen, Known, find, is_live, row_name}
+use Rattle.ciel_table.specs.Seen.{TableSeen, Known, find, row_name}
 use Rattle.ciel_table.specs.declared.row.Row.{Row}
-use Rattle.ciel_want.specs.Board.{HasRow, IsFlagged, blocker, blockers_of, is_set, leads, never, task_at, task_row}
+use Rattle.ciel_want.specs.Board.{HasRow, IsFlagged, blockers_of, is_set, leads, never, task_at, task_row}
 use Rattle.ciel_want.specs.Marked.{Flagged}
-use Rattle.ciel_want.specs.Waited.{Whole, graph, is_in, maker, needs}
+use Rattle.ciel_want.specs.Waited.{Whole, graph, is_in, needs}
 use Rattle.ciel_want.proofs.Waiting.{Blocks, all_in, among_here, among_more, blocker_of, blockers_from, blockers_has, blocks_known, blocks_of, dead_of, maker_of, needs_known}
 use Rattle.ciel_want.proofs.Rows.{item_at, some_place}
 

@@ -1,24 +1,23 @@
 -- A circle by rows is a circle of waits, and where a row waits for nothing that isn't live a task can run.
-use Rattle.std.proofs.Common.{◌≡◌, ℕ, zero, suc, ◌<◌, List, [], ◌∷◌, ◌++◌, drop, Bool, true, false, cond, not, filter, length, slice_get, refl, ap, sym, ◌∙◌, subst, ◌⊎◌, inl, inr, arith, Option, Some, None, nat_eq, eq-eqb, eqb-true, ◌||◌}
-use Rattle.std.specs.List.{AllByRecursion, IsDistinct, list_any}
+use Rattle.std.proofs.Common.{◌≡◌, ℕ, zero, suc, ◌<◌, List, [], ◌∷◌, ◌++◌, drop, Bool, true, false, cond, not, filter, length, slice_get, refl, ap, sym, ◌∙◌, subst, ◌⊎◌, inl, inr, Option, Some, None, nat_eq, eq-eqb, ◌||◌}
+use Rattle.std.specs.List.{AllByRecursion, IsDistinct}
 use Rattle.std.specs.Option.{option_map_or, option_and_then}
 use Rattle.sky_base.specs.Val.{same_text}
 use Rattle.sky_base.specs.declared.object.TaskId.{TaskId}
-use Rattle.sky_base.proofs.Exact.{exact_text, self_text}
+use Rattle.sky_base.proofs.Exact.{exact_text}
 use Rattle.ciel_journal.specs.Graph.{Chain, Circle, Led, Runnable, WaitsOn, root, through}
 use Rattle.ciel_journal.specs.Job.{Each, In}
 use Rattle.ciel_journal.specs.Search.{Among, IsCircle, IsWithin, LedTo, Links, SomeMet, first, further, unmet}
 use Rattle.ciel_journal.proofs.Searching.{among_head}
-use Rattle.ciel_table.specs.Named.{IsOnce}
 use Rattle.ciel_table.specs.Seen.{TableSeen, Known, find, has_place, is_input, is_live, is_live_row, row_name, row_named}
 use Rattle.ciel_table.specs.declared.row.Row.{Row}
 use Rattle.ciel_table.proofs.Lists.{bool_cases}
 use Rattle.ciel_want.specs.Board.{live_at, maker_at, names_at, row_leads, rows_of, with_some}
 use Rattle.ciel_want.specs.Marked.{AllBelow}
-use Rattle.ciel_want.specs.Waited.{Whole, graph, is_in, made_by, maker, needs}
+use Rattle.ciel_want.specs.Waited.{Whole, graph, made_by, maker, needs}
 use Rattle.ciel_want.proofs.Waiting.{all_in, among_here, among_more, needs_known}
 use Rattle.ciel_want.proofs.Reaching.{upto, upto_has, upto_long}
-use Rattle.ciel_want.proofs.Rows.{item_at, own_place, some_place}
+use Rattle.ciel_want.proofs.Rows.{item_at, some_place}
 
 or_false : (a b : Bool) → a || b ≡ false → (a ≡ false) × (b ≡ false)
 or_false true b e = cc

@@ -1,5 +1,5 @@
 -- Which of the reached tasks can run.
-use Rattle.std.proofs.Common.{◌≡◌, ℕ, zero, suc, List, [], ◌∷◌, Bool, true, false, ◌&&◌, ◌==◌, not, length, refl, ap, sym, ◌∙◌, subst, ◌⊎◌, inl, inr, arith, eqb-true, Option, Some, None, IfSome, IfNone}
+use Rattle.std.proofs.Common.{◌≡◌, ℕ, List, [], ◌∷◌, Bool, true, false, ◌&&◌, ◌==◌, not, length, refl, ap, sym, ◌∙◌, subst, ◌⊎◌, inl, inr, arith, eqb-true, Option, Some, None, IfSome, IfNone}
 use Rattle.std.specs.List.{AllByRecursion}
 use Rattle.sky_base.specs.declared.object.TaskId.{TaskId}
 use Rattle.ciel_journal.specs.Graph.{Led, Runnable}

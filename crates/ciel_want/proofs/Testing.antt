@@ -3,7 +3,7 @@ use Rattle.std.proofs.Common.{◌≡◌, ◌↔◌, ℕ, suc, List, [], ◌∷�
 use Rattle.std.specs.List.{AllByRecursion}
 use Rattle.std.specs.Option.{option_map_or}
 use Rattle.sky_base.specs.declared.object.TaskId.{TaskId}
-use Rattle.ciel_table.specs.Seen.{TableSeen, Known, find, is_input}
+use Rattle.ciel_table.specs.Seen.{TableSeen, find, is_input}
 use Rattle.ciel_table.specs.declared.row.Row.{Row}
 use Rattle.ciel_want.proofs.Listing.{drop_at}
 use Rattle.ciel_want.specs.Board.{all_known, row_whole, rows_whole, task_known, whole}

@@ -1,20 +1,16 @@
 -- What the tasks of a table wait for, and the rows to which it leads.
-use Rattle.std.proofs.Common.{◌≡◌, ℕ, List, [], ◌∷◌, ◌++◌, Bool, true, false, cond, ◌||◌, slice_get, refl, ap, sym, ◌∙◌, subst, ◌⊎◌, inl, inr, Option, Some, None, IsSome, nat_eq, eq-eqb, nat_lt}
+use Rattle.std.proofs.Common.{◌≡◌, ℕ, List, [], ◌∷◌, ◌++◌, Bool, true, false, cond, ◌||◌, refl, ap, sym, ◌∙◌, subst, ◌⊎◌, inl, inr, Option, Some, None, nat_eq, eq-eqb, nat_lt}
 use Rattle.std.specs.List.{AllByRecursion, list_any}
 use Rattle.std.specs.Option.{option_map_or, option_and_then}
 use Rattle.sky_base.specs.Names.{known_of}
-use Rattle.sky_base.specs.declared.object.Desc1.{Desc1}
 use Rattle.sky_base.specs.declared.object.TaskId.{TaskId}
 use Rattle.ciel_journal.specs.Graph.{Led, root, through}
 use Rattle.ciel_journal.specs.Job.{In}
 use Rattle.ciel_journal.specs.Search.{Among}
 use Rattle.ciel_journal.proofs.Searching.{among_head}
-use Rattle.ciel_table.specs.Named.{found}
-use Rattle.ciel_table.specs.Seen.{TableSeen, Known, find, has_place, is_input, is_live, is_live_row, last_wait, later, latest, row_name, row_named, saves_name, waits_in, waits_of}
+use Rattle.ciel_table.specs.Seen.{TableSeen, Known, find, has_place, is_input, is_live, is_live_row, later, latest, row_name, row_named}
 use Rattle.ciel_table.specs.declared.row.Row.{Row}
-use Rattle.ciel_table.specs.declared.wait.Saves.{Saves}
 use Rattle.ciel_table.specs.declared.wait.Wait.{Wait}
-use Rattle.ciel_table.proofs.Lists.{bool_cases}
 use Rattle.ciel_want.specs.Board.{blocker, blockers_of, blocking, task_row, with_some}
 use Rattle.ciel_want.specs.Waited.{RowWhole, TaskKnown, Whole, graph, made_by, maker, names_of, needs}
 use Rattle.ciel_want.proofs.Rows.{all_found, item_at, some_place}

@@ -1,5 +1,5 @@
 -- What the tasks of a table wait for, as a graph, and what is asked of a table.
-use Rattle.std.specs.Prelude.{◌≡◌, ℕ, List, [], ◌∷◌, Bool, true, false, cond, Option, Some, None, IsSome}
+use Rattle.std.specs.Prelude.{ℕ, List, [], ◌∷◌, Bool, true, false, cond, Option, Some, None}
 use Rattle.std.specs.List.{list_any, AllByRecursion}
 use Rattle.std.specs.Option.{option_map_or, option_and_then}
 use Rattle.sky_base.specs.Name.{held_name}
@@ -8,7 +8,7 @@ use Rattle.sky_base.specs.View.{view}
 use Rattle.sky_base.specs.declared.object.Desc1.{Desc1}
 use Rattle.sky_base.specs.declared.object.TaskId.{TaskId}
 use Rattle.ciel_journal.specs.Graph.{Graph}
-use Rattle.ciel_table.specs.Seen.{TableSeen, Known, find, is_input, is_live, last_wait, row_named}
+use Rattle.ciel_table.specs.Seen.{TableSeen, Known, is_input, is_live, last_wait, row_named}
 use Rattle.ciel_table.specs.declared.row.Row.{Row}
 use Rattle.ciel_table.specs.declared.wait.Wait.{Wait}
 use Rattle.ciel_table.specs.declared.wait.Saves.{Saves}

@@ -86,7 +86,7 @@ fn open(alloc: Global, limit: u32) -> Result<Table<Spot>, Memory>
 }
 
 /// A table that takes so many rows, with none yet.
-pub fn case(alloc: Global, limit: u32) -> Result<Case, Memory>
+pub fn make_case(alloc: Global, limit: u32) -> Result<Case, Memory>
     ensures { IfOk result (λ c. c.table.gone ≡ []) }
 {
     let main = main_call(alloc)?;
@@ -127,7 +127,7 @@ pub fn learn_square(case: &mut Case) -> (&'static str, u32)
 pub fn both(alloc: Global) -> Result<Case, Fail>
     ensures { IfOk result (λ c. c.table.gone ≡ []) }
 {
-    let mut case = case(alloc, 4)?;
+    let mut case = make_case(alloc, 4)?;
     let _ = learn_main(&mut case);
     let _ = learn_square(&mut case);
     Ok(case)

@@ -1,8 +1,8 @@
 // The table: rows under their names, places, saved waits, and a worker that is dropped.
 
 use crate::case::{
-    Case, Spot, both, case, lasts, learn_main, learn_square, live, named, place_main, place_square,
-    save_main, save_show,
+    Case, Spot, both, lasts, learn_main, learn_square, live, make_case, named, place_main,
+    place_square, save_main, save_show,
 };
 use ciel_name::name::{Sha1Namer, task_of};
 use ciel_name::object::canon;
@@ -44,7 +44,7 @@ fn clashes(alloc: Global, case: &mut Case) -> Result<bool, Fail> {
 
 #[test]
 fn a_name_has_one_description(rt: HostRuntime) -> Result<(), Fail> {
-    let mut case = case(rt.alloc(), 1)?;
+    let mut case = make_case(rt.alloc(), 1)?;
     assert_eq!(rt; learn_main(&mut case), ("row", 0));
     assert_eq!(rt; learn_main(&mut case), ("row", 0));
     assert_eq!(rt; learn_square(&mut case), ("full", 1));

@@ -1,5 +1,4 @@
-use Rattle.std.proofs.Common.{◌∙◌, ap, arith, set, slice_get, subst, sym, true, Some}
-use Rattle.sky_base.specs.declared.object.TaskId.{TaskId}
+use Rattle.std.proofs.Common.{◌∙◌, arith, set, slice_get, subst, sym, true, Some}
 use Rattle.ciel_table.specs.Seen.{row_name}
 use Rattle.ciel_table.proofs.ByName.{place_within}
 use Rattle.ciel_want.specs.Board.{IsSet, task_at}

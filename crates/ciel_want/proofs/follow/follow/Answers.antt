@@ -1,12 +1,12 @@
-use Rattle.std.proofs.Common.{◌≡◌, ◌<◌, ◌++◌, ◌∷◌, [], ◌+◌, ◌∙◌, ap, sym, subst, arith, length, length-append, length-set, drop, false, true, Bool, List, ℕ, None, Some, Option, nat_eq, refl, replicate, set, slice_get}
+use Rattle.std.proofs.Common.{◌≡◌, ◌<◌, ◌++◌, ◌∷◌, [], ◌+◌, ◌∙◌, ap, sym, subst, arith, length, length-append, length-set, drop, false, true, List, ℕ, Some, Option, nat_eq, refl, replicate, set, slice_get}
 use Rattle.std.specs.List.{list_any}
 use Rattle.std.specs.Option.{option_map_or}
 use Rattle.std.proofs.lemmas.List.{length-replicate}
 use Rattle.sky_base.specs.declared.object.TaskId.{TaskId}
-use Rattle.ciel_journal.specs.Search.{Among, IsCircle, unmet}
+use Rattle.ciel_journal.specs.Search.{Among, unmet}
 use Rattle.ciel_journal.proofs.Walking.{Walking, walk_circle, walk_met, walk_start, walk_step}
 use Rattle.ciel_table.specs.declared.row.Row.{Row}
-use Rattle.ciel_want.specs.Board.{first_unmet, live_at, maker_at, row_leads}
+use Rattle.ciel_want.specs.Board.{first_unmet, live_at, row_leads}
 use Rattle.ciel_want.specs.Marked.{AllBelow, Marked}
 use Rattle.ciel_want.specs.Waited.{needs}
 use Rattle.ciel_want.proofs.Marking.{flag_is, marked_more, none_marked}

@@ -1,6 +1,6 @@
 use Rattle.std.proofs.Common.{◌≡◌, ◌<◌, ◌&&◌, ◌==◌, ◌∙◌, ap, sym, subst, arith, length, not, true, false, IfSome}
 use Rattle.std.specs.Vec.{vec_len}
-use Rattle.ciel_want.specs.Board.{blockers_of, is_none, task_at, task_row}
+use Rattle.ciel_want.specs.Board.{blockers_of, is_none, task_at}
 use Rattle.ciel_want.specs.Waited.{is_in, needs}
 use Rattle.ciel_want.proofs.Reaching.{task_at_row, task_row_within}
 use Rattle.ciel_want.proofs.Running.{none_is}

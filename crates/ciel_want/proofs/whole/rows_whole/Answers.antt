@@ -1,4 +1,4 @@
-use Rattle.std.proofs.Common.{◌∙◌, ◌≡◌, add-one, ap, drop, suc}
+use Rattle.std.proofs.Common.{◌∙◌, add-one, ap, drop}
 use Rattle.ciel_want.specs.Board.{rows_whole}
 use Rattle.ciel_want.proofs.Testing.{row_goes, row_stops}
 use Rattle.ciel_want.proofs.whole.rows_whole.Goals as goal
