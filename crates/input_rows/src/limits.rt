@@ -9,10 +9,10 @@ use std::test::Fail;
 fn line_feeds(alloc: Global, count: usize) -> Result<Bytes, Fail> {
     let line = [b'\n'; 4096];
     let mut text = Vec::new(alloc);
-    while text.len() + 4096 <= count {
+    for _ in 0..count / 4096 {
         text.extend_from_slice(&line)?;
     }
-    while text.len() < count {
+    for _ in 0..count % 4096 {
         text.push(b'\n')?;
     }
     Ok(Bytes::new(alloc, text)?)
