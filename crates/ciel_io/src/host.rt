@@ -8,6 +8,7 @@ use crate::files::{FileRefusal, Files};
 use crate::sink::{Failed, Sink};
 use sky_base::text::{Bytes, Memory, Txt};
 use std::alloc::Global;
+use std::fs::OpenFile;
 use std::io::{ErrorKind, Read, Stderr, Stdout};
 use std::{fs, io, rt};
 
@@ -32,7 +33,10 @@ impl<R: rt::Files> HostFiles<R> {
         ensures too_long { IfErr result (λ e. IfTooLong e (λ at. at ≡ limit)) }
     {
         match fs::open(&self.rt, path.as_str()) {
-            Ok(file) => read_limited(alloc, file, limit),
+            Ok(file) => {
+                let expected = length_of(&file);
+                read_limited(alloc, file, limit, expected)
+            }
             Err(e) => Err(refusal_of(&e)),
         }
     }
@@ -65,12 +69,22 @@ fn refusal_of(e: &io::Error) -> FileRefusal
     }
 }
 
+/// How many bytes a file says that it has, or none where it doesn't tell. What is read may be more or less.
+fn length_of<F: OpenFile>(file: &F) -> u64 {
+    match file.metadata() {
+        Ok(metadata) => metadata.len(),
+        Err(_) => 0,
+    }
+}
+
 /// All bytes that a reader has left, where they are at most `limit`. It takes at most one byte more
-/// than the limit, and refuses a longer reader only after it has taken that byte.
+/// than the limit, and refuses a longer reader only after it has taken that byte. Room is made at once for
+/// so many bytes as are expected, within the limit, and for the one that would be too many.
 pub fn read_limited<R: Read + Drop>(
     alloc: Global,
     reader: R,
     limit: u64,
+    expected: u64,
 ) -> Result<Bytes, FileRefusal>
     requires { limit < 2 ^ 64 - 1 }
     ensures found { IfOk result (λ b. IfSome (R.remaining reader) (λ left. b ≡ left)) }
@@ -79,7 +93,10 @@ pub fn read_limited<R: Read + Drop>(
     ensures beyond { IfErr result (λ e.
         IfTooLong e (λ at. IfSome (R.remaining reader) (λ left. at < length left))) }
 {
-    let mut bytes = Vec::new(alloc);
+    let room = expected.min(limit) + 1;
+    let Ok(mut bytes) = Vec::with_capacity(alloc, room as usize) else {
+        return Err(FileRefusal::Memory);
+    };
     match reader.take(limit + 1).read_to_end(&mut bytes) {
         Ok(_) => {}
         Err(e) => return Err(refusal_of(&e)),

@@ -3,7 +3,8 @@ use Rattle.std.proofs.Common.{◌≡◌, ℕ, zero, suc, ◌+◌, ◌*◌, ◌%�
 use Rattle.std.specs.List.{list_any}
 use Rattle.ciel_journal.specs.Job.{Task, show, Job, In, Each, IsJob, Needed}
 use Rattle.ciel_journal.specs.History.{Event, start, done, saved, missed, lost, Plan, Standing, after, is_out, live, needs, same_task}
-use Rattle.ciel_journal.specs.Turns.{Chosen, DrivenFrom, FirstDue, IsDue, IsReadyList, Keeps, NothingDue, due_test, Reached, Ready, Rests, Turn, Undue, root, through, draw, idle, tasks_of}
+use Rattle.ciel_journal.specs.Graph.{Picks, root, through}
+use Rattle.ciel_journal.specs.Turns.{Chosen, DrivenFrom, FirstDue, IsDue, IsReadyList, NothingDue, due_test, Reached, Ready, Rests, Turn, Undue, draw, idle, tasks_of}
 use Rattle.ciel_journal.proofs.Members.{any_in, in_any, bool_cases}
 use Rattle.ciel_journal.proofs.Bound.{task_exact, task_refl}
 use Rattle.ciel_journal.proofs.Check.{all_true, parts, not_true, each_passes, passes_each, is_that, that_exact, step_test, step_true}
@@ -273,11 +274,11 @@ module _ {D : Type 0} (job : Job D) (laws : IsJob job) where
             ap (λ b. b && (not (is_out job v t) && (each_passes (live job v) (needs job v t) && true))) x
             ∙ (ap (λ b. b && (each_passes (live job v) (needs job v t) && true)) y ∙ ap (λ b. b && true) z)
 
-        keeps : (xs : List (Task D)) → Keeps job (Ready job v) xs (filter (ready_test S) xs)
+        keeps : (xs : List (Task D)) → Picks (Ready job v) xs (filter (ready_test S) xs)
         keeps [] = refl
         keeps (x ∷ xs) = pick (ready_test S x) refl (keeps xs)
           where
-            pick : (c : Bool) → ready_test S x ≡ c → Keeps job (Ready job v) xs (filter (ready_test S) xs) → Keeps job (Ready job v) (x ∷ xs) (cond c (x ∷ filter (ready_test S) xs) (filter (ready_test S) xs))
+            pick : (c : Bool) → ready_test S x ≡ c → Picks (Ready job v) xs (filter (ready_test S) xs) → Picks (Ready job v) (x ∷ xs) (cond c (x ∷ filter (ready_test S) xs) (filter (ready_test S) xs))
             pick true e k = inl (sound x e, (filter (ready_test S) xs, refl, k))
             pick false e k = inr ((λ r. let y = complete x r in let bad : true ≡ false = sym y ∙ e in cc), k)
 

@@ -2,7 +2,8 @@
 use Rattle.std.proofs.Common.{◌≡◌, ◌≢◌, ℕ, zero, suc, ◌+◌, List, [], ◌∷◌, ◌++◌, Bool, true, false, Option, Some, None, slice_get, inl, inr, refl, ap, sym, ◌∙◌, subst, append_assoc, append-nil, add_comm, suc-add, zero-add}
 use Rattle.ciel_journal.specs.Job.{Act, Digest, Each, In, IsJob, IsPrefix, Job, Never, Task, WaitOf, made, show, wait, waits_in}
 use Rattle.ciel_journal.specs.History.{Standing, needs}
-use Rattle.ciel_journal.specs.Turns.{Chain, Circle, Reached, WaitsOn, root, through}
+use Rattle.ciel_journal.specs.Graph.{Chain, WaitsOn, root, standing_graph, through}
+use Rattle.ciel_journal.specs.Turns.{CircleAtRest, Reached}
 
 pub get_front : {A : Type 0} (xs ys : List A) (i : ℕ) (x : A) → slice_get xs i ≡ Some x → slice_get (xs ++ ys) i ≡ Some x
 get_front [] ys i x e = cc
@@ -64,7 +65,7 @@ module _ {D : Type 0} (job : Job D) (laws : IsJob job) where
     needs_seen n t d h i = let w = waiting t in each_in (SeenAt n) d _ i (end_needs n t w.0 _ h w.1)
 
     abbrev pub Turns : List D → Type 0
-    Turns cs = (d : D) → In d cs → (e : D) × In e cs × WaitsOn job v d e
+    Turns cs = (d : D) → In d cs → (e : D) × In e cs × WaitsOn (standing_graph job v) d e
 
     none_or : (x : Option Digest) → (x ≢ None → ⊥) → x ≡ None
     none_or None h = refl
@@ -91,25 +92,25 @@ module _ {D : Type 0} (job : Job D) (laws : IsJob job) where
     never_up t (through r o d i l e) h n =
         never_up _ r (λ m. false_or _ (λ s. needs_seen m _ d s i (never_seen d t e h m))) n
 
-    next_of : (first d : D) (ds : List D) → Chain job v first d ds → (x : D) → In x (d ∷ ds) → (e : D) × In e (first ∷ d ∷ ds) × WaitsOn job v x e
-    next_of first d [] c x (inl s) = (first, inl refl, subst (λ y. WaitsOn job v y first) (sym s) c)
+    next_of : (first d : D) (ds : List D) → Chain (standing_graph job v) first d ds → (x : D) → In x (d ∷ ds) → (e : D) × In e (first ∷ d ∷ ds) × WaitsOn (standing_graph job v) x e
+    next_of first d [] c x (inl s) = (first, inl refl, subst (λ y. WaitsOn (standing_graph job v) y first) (sym s) c)
     next_of first d [] c x (inr i) = absurd i
-    next_of first d (e ∷ es) c x (inl s) = (e, inr (inr (inl refl)), subst (λ y. WaitsOn job v y e) (sym s) c.0)
+    next_of first d (e ∷ es) c x (inl s) = (e, inr (inr (inl refl)), subst (λ y. WaitsOn (standing_graph job v) y e) (sym s) c.0)
     next_of first d (e ∷ es) c x (inr i) = let r = next_of first e es c.1 x i in (r.0, widen r.1, r.2)
       where
         widen : {y : D} → In y (first ∷ e ∷ es) → In y (first ∷ d ∷ e ∷ es)
         widen (inl s) = inl s
         widen (inr i) = inr (inr i)
 
-    turns_of : (d : D) (ds : List D) → Chain job v d d ds → Turns (d ∷ ds)
+    turns_of : (d : D) (ds : List D) → Chain (standing_graph job v) d d ds → Turns (d ∷ ds)
     turns_of d ds c x i = let r = next_of d d ds c x i in (r.0, same r.1, r.2)
       where
         same : {y : D} → In y (d ∷ d ∷ ds) → In y (d ∷ ds)
         same (inl s) = inl s
         same (inr i) = i
 
-    pub circle_never : (ds : List D) → Circle job v ds → Never job
-    circle_never [] c n = absurd c
+    pub circle_never : (ds : List D) → CircleAtRest job v ds → Never job
+    circle_never [] c n = absurd c.1
     circle_never (d ∷ ds) c n =
         let turns = turns_of d ds c.1 in
         let w = (turns d (inl refl)).2 in

@@ -3,7 +3,8 @@ use Rattle.std.proofs.Common.{◌≡◌, ℕ, List, [], ◌∷◌, ◌++◌, Boo
 use Rattle.ciel_journal.specs.Job.{Digest, Each, IsJob, Job, Needed, Never, Task, WaitOf, of, show}
 use Rattle.ciel_journal.specs.History.{Event, Order, Plan, Save, Standing, after, after_all, before_all, better, close_with, closed, done, done_with, find_order, last_save, lost, missed, missed_with, needs_of, same_task, saved, saved_with, start, wait_number}
 use Rattle.ciel_journal.specs.Lawful.{Lawful, LawfulFrom, Step}
-use Rattle.ciel_journal.specs.Turns.{Circle, Reached, root, through}
+use Rattle.ciel_journal.specs.Graph.{root, through}
+use Rattle.ciel_journal.specs.Turns.{CircleAtRest, Reached}
 use Rattle.ciel_journal.proofs.Circle.{Waiting, circle_never}
 
 module _ {A : Type 0} (P : A → Type 0) where
@@ -79,7 +80,7 @@ module _ {D : Type 0} (job : Job D) (laws : IsJob job) where
   waiting_ok v h t = (_, last_ok t v.saves h)
 
   -- an endless circle after a lawful history
-  pub lawful_circle : (p : Plan) (h : List (Event D)) → Lawful job p h → (ds : List D) → Circle job (after_all job (before_all job) h) ds → Never job
+  pub lawful_circle : (p : Plan) (h : List (Event D)) → Lawful job p h → (ds : List D) → CircleAtRest job (after_all job (before_all job) h) ds → Never job
   lawful_circle p h l ds c = circle_never job laws (after_all job (before_all job) h) (waiting_ok (after_all job (before_all job) h) (saves_all p (before_all job) h saves_start l)) ds c
 
   -- what is reached is needed

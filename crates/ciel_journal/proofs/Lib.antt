@@ -30,3 +30,5 @@ pub mod ThreeLaw
 pub mod BookKnown
 pub mod Startable
 pub mod SmallKnown
+pub mod Picked
+pub mod SeenAs

@@ -4,7 +4,8 @@ use Rattle.std.proofs.Common.{◌≡◌, ℕ, zero, suc, ◌≤◌, ◌<◌, Lis
 use Rattle.std.specs.List.{list_any}
 use Rattle.ciel_journal.specs.Job.{Task, show, Job, In, Each, IsJob}
 use Rattle.ciel_journal.specs.History.{Save, Standing, better, last_save, needs_of, needs, same_task}
-use Rattle.ciel_journal.specs.Turns.{Reached, root, through, Ready, Circle}
+use Rattle.ciel_journal.specs.Graph.{root, through}
+use Rattle.ciel_journal.specs.Turns.{CircleAtRest, Reached, Ready}
 use Rattle.ciel_journal.proofs.Members.{in_any}
 use Rattle.ciel_journal.proofs.Numbers.{in_left}
 use Rattle.ciel_journal.proofs.ReadyOrCircle.{ready_or_circle}
@@ -130,6 +131,6 @@ module _ {D : Type 0} (job : Job D) (laws : IsJob job) where
         pick (inl a) k = near_root e (inr a)
         pick (inr b) k = near_first d e k (subst (λ o. In e (first_if o)) (sym h) b)
 
-    pub ready_or_round : v.orders ≡ [] → ((t : Task D) × Ready job v t) ⊎ ((ds : List D) × Circle job v ds)
+    pub ready_or_round : v.orders ≡ [] → ((t : Task D) × Ready job v t) ⊎ ((ds : List D) × CircleAtRest job v ds)
     ready_or_round none =
         ready_or_circle job laws v none near (λ t r. each_all (λ d. list_any (job.same d) near ≡ true) (needs job v t) (λ d i. in_any job.same laws.same_refl d near (reached_near t r d i)))

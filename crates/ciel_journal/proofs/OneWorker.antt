@@ -4,7 +4,8 @@ use Rattle.std.specs.List.{list_any}
 use Rattle.ciel_journal.specs.Job.{Digest, Task, Job, In, Each, IsPrefix, IsJob}
 use Rattle.ciel_journal.specs.History.{Event, start, done, saved, missed, lost, Order, Plan, Save, Standing, after, before_all, better, closed, done_with, saved_with, find_order, last, last_save, names_of, order_of, placed, same_task, stack_of, after_all}
 use Rattle.ciel_journal.specs.Lawful.{Copied, DoneAllowed, FetchedFrom, Given, HeldAt, NextEnd, NextWait, SavedAllowed, Step, own_name}
-use Rattle.ciel_journal.specs.Turns.{Chosen, Driven, DrivenFrom, FirstDue, Keeps, Ready, Rests, Turn, draw, idle, tasks_of}
+use Rattle.ciel_journal.specs.Turns.{Chosen, Driven, DrivenFrom, FirstDue, Ready, Rests, Turn, draw, idle, tasks_of}
+use Rattle.ciel_journal.proofs.Picked.{picks_unique}
 use Rattle.ciel_journal.proofs.Members.{each_of, bool_cases}
 use Rattle.ciel_journal.proofs.Good.{after_done, after_saved, after_missed}
 use Rattle.ciel_journal.proofs.Numbers.{found_in, in_filter, in_last}
@@ -195,14 +196,6 @@ module _ {D : Type 0} (job : Job D) (laws : IsJob job) where
 
   -- ---- one event for each turn
 
-  pub keeps_unique : (P : Task D → Type 0) (xs ts us : List (Task D)) → Keeps job P xs ts → Keeps job P xs us → ts ≡ us
-  keeps_unique P [] ts us a b = a ∙ sym b
-  keeps_unique P (x ∷ xs) ts us (inl a) (inl b) =
-      a.1.1 ∙ (ap (λ zs. x ∷ zs) (keeps_unique P xs a.1.0 b.1.0 a.1.2 b.1.2) ∙ sym b.1.1)
-  keeps_unique P (x ∷ xs) ts us (inl a) (inr b) = absurd (b.0 a.0)
-  keeps_unique P (x ∷ xs) ts us (inr a) (inl b) = absurd (a.0 b.0)
-  keeps_unique P (x ∷ xs) ts us (inr a) (inr b) = keeps_unique P xs ts us a.1 b.1
-
   first_one : (p : Plan) (v : Standing D) (w u i j : ℕ) → FirstDue p.losses v.closes v.gone i w → FirstDue p.losses v.closes v.gone j u → w ≡ u
   first_one p v w u i j x y = pick (x.least j y.count u y.due) (y.least i x.count w x.due)
     where
@@ -224,7 +217,7 @@ module _ {D : Type 0} (job : Job D) (laws : IsJob job) where
 
   not_rests : (p : Plan) (v : Standing D) (w : ℕ) (t : Task D) → Chosen job p v w t → Rests job p v → ⊥
   not_rests p v w t c (n, inl r) =
-      let e : c.tasks ≡ [] = keeps_unique (Ready job v) (tasks_of job v.book) c.tasks [] c.ready r in
+      let e : c.tasks ≡ [] = picks_unique (Ready job v) (tasks_of job v.book) c.tasks [] c.ready r in
       let a : slice_get [] (draw p.seed (2 * v.starts) % length c.tasks) ≡ Some t = subst (λ ts. slice_get ts (draw p.seed (2 * v.starts) % length c.tasks) ≡ Some t) e c.task in cc
   not_rests p v w t c (n, inr r) =
       let a : slice_get [] (draw p.seed (2 * v.starts + 1) % length (idle job p v)) ≡ Some w = subst (λ ws. slice_get ws (draw p.seed (2 * v.starts + 1) % length (idle job p v)) ≡ Some w) r c.worker in cc
@@ -237,7 +230,7 @@ module _ {D : Type 0} (job : Job D) (laws : IsJob job) where
 
       tasks : t ≡ s
       tasks =
-          let e : x.tasks ≡ y.tasks = keeps_unique (Ready job v) (tasks_of job v.book) x.tasks y.tasks x.ready y.ready in
+          let e : x.tasks ≡ y.tasks = picks_unique (Ready job v) (tasks_of job v.book) x.tasks y.tasks x.ready y.ready in
           let a : slice_get y.tasks (draw p.seed (2 * v.starts) % length y.tasks) ≡ Some t = subst (λ ts. slice_get ts (draw p.seed (2 * v.starts) % length ts) ≡ Some t) e x.task in
           let b : Some t ≡ Some s = sym a ∙ y.task in cc
 

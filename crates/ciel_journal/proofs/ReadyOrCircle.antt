@@ -3,7 +3,8 @@ use Rattle.std.proofs.Common.{◌≡◌, ℕ, zero, suc, ◌+◌, ◌<◌, List,
 use Rattle.std.specs.List.{list_any, IsDistinct}
 use Rattle.ciel_journal.specs.Job.{Each, In, IsJob, Job, Task, show}
 use Rattle.ciel_journal.specs.History.{Order, Standing, is_out, live, live_if, needs, same_task}
-use Rattle.ciel_journal.specs.Turns.{Chain, Circle, Reached, Ready, WaitsOn, root, through}
+use Rattle.ciel_journal.specs.Graph.{Chain, WaitsOn, root, standing_graph, through}
+use Rattle.ciel_journal.specs.Turns.{CircleAtRest, Reached, Ready}
 use Rattle.ciel_journal.proofs.Members.{bool_cases, any_in, distinct_more, distinct_none, fewer, each_of}
 
 module _ {D : Type 0} (job : Job D) (laws : IsJob job) (v : Standing D) where
@@ -23,10 +24,10 @@ module _ {D : Type 0} (job : Job D) (laws : IsJob job) (v : Standing D) where
   abbrev pub Linked : List D → Type 0
   Linked [] = Unit {0}
   Linked (d ∷ []) = Unit {0}
-  Linked (d ∷ e ∷ rest) = WaitsOn job v e d × Linked (e ∷ rest)
+  Linked (d ∷ e ∷ rest) = WaitsOn (standing_graph job v) e d × Linked (e ∷ rest)
 
-  closing : (first d : D) (es rest : List D) → v.orders ≡ [] → Chain job v first d es → Linked (d ∷ rest) → In first (d ∷ rest) → (ds : List D) × Circle job v ds
-  closing first d es rest o c l (inl s) = (d ∷ es, (o, subst (λ x. Chain job v x d es) s c))
+  closing : (first d : D) (es rest : List D) → v.orders ≡ [] → Chain (standing_graph job v) first d es → Linked (d ∷ rest) → In first (d ∷ rest) → (ds : List D) × CircleAtRest job v ds
+  closing first d es rest o c l (inl s) = (d ∷ es, (o, subst (λ x. Chain (standing_graph job v) x d es) s c))
   closing first d es [] o c l (inr i) = absurd i
   closing first d es (e ∷ rest) o c l (inr i) = closing first e (d ∷ es) rest o (l.0, c) l.1 i
 
@@ -40,7 +41,7 @@ module _ {D : Type 0} (job : Job D) (laws : IsJob job) (v : Standing D) where
     Booked d = list_any (job.same d) known ≡ true
 
     abbrev pub Answer : Type 0
-    Answer = ((t : Task D) × Ready job v t) ⊎ ((ds : List D) × Circle job v ds)
+    Answer = ((t : Task D) × Ready job v t) ⊎ ((ds : List D) × CircleAtRest job v ds)
 
     none_is_out : (t : Task D) → is_out job v t ≡ false
     none_is_out t = ap (λ os. list_any (λ (o : Order D). same_task job t o.task) os) none_out

@@ -5,7 +5,9 @@ use Rattle.ciel_journal.specs.Job.{Task, show, of, Job, In, Each, IsJob}
 use Rattle.ciel_journal.specs.History.{Event, start, Order, Plan, Save, Standing, after, after_all, before_all, last, live, needs, needs_of, standing, last_save}
 use Rattle.ciel_journal.specs.Lawful.{Lawful, LawfulFrom, NoClash, Step, own_name}
 use Rattle.ciel_journal.specs.Known.{Inner, Knows}
-use Rattle.ciel_journal.specs.Turns.{Circle, IsReadyList, Keeps, Reached, Ready, busy, idle, idle_from, is_first, is_idle, root, tasks_of, through}
+use Rattle.ciel_journal.specs.Graph.{root, through}
+use Rattle.ciel_journal.specs.Turns.{CircleAtRest, IsReadyList, Reached, Ready, busy, idle, idle_from, is_first, is_idle, tasks_of}
+use Rattle.ciel_journal.proofs.Picked.{picks_in}
 use Rattle.ciel_journal.proofs.Append.{lawful_append}
 use Rattle.ciel_journal.proofs.BookKnown.{Informed, informed_all, informed_start, last_cases}
 use Rattle.ciel_journal.proofs.Good.{last_ok, reached_needed}
@@ -92,15 +94,8 @@ module _ {D : Type 0} (job : Job D) (laws : IsJob job) (inner : Inner D) (knows 
         named t root x e = cc
         named t (through r o d i l f) x e = laws.own x d (f ∙ ap Some e)
 
-    keeps_in : (P : Task D → Type 0) (xs ts : List (Task D)) → Keeps job P xs ts → (t : Task D) → In t xs → P t → In t ts
-    keeps_in P [] ts k t i h = absurd i
-    keeps_in P (x ∷ xs) ts (inl k) t (inl s) h = subst (In t) (sym k.1.1) (inl s)
-    keeps_in P (x ∷ xs) ts (inl k) t (inr i) h = subst (In t) (sym k.1.1) (inr (keeps_in P xs k.1.0 k.1.2 t i h))
-    keeps_in P (x ∷ xs) ts (inr k) t (inl s) h = absurd (k.0 (subst P s h))
-    keeps_in P (x ∷ xs) ts (inr k) t (inr i) h = keeps_in P xs ts k.1 t i h
-
     pub ready_listed : (ts : List (Task D)) → IsReadyList job v ts → (t : Task D) → Ready job v t → In t ts
-    ready_listed ts k t r = keeps_in (Ready job v) (tasks_of job v.book) ts k t (reached_listed t r.reached) r
+    ready_listed ts k t r = picks_in (Ready job v) (tasks_of job v.book) ts k t (reached_listed t r.reached) r
 
     -- ---- a Start
 
@@ -158,9 +153,9 @@ module _ {D : Type 0} (job : Job D) (laws : IsJob job) (inner : Inner D) (knows 
       (ready_step (standing job h) (informed p h l) p t w going (room_all p (before_all job) h one l) (book_apart job laws p h l) r i)
 
   -- where nothing is open, the list of ready tasks isn't empty or there is a circle
-  pub listed_or_circle : (p : Plan) (h : List (Event D)) → Lawful job p h → (standing job h).orders ≡ [] → (ts : List (Task D)) → IsReadyList job (standing job h) ts → ((t : Task D) × In t ts) ⊎ ((ds : List D) × Circle job (standing job h) ds)
+  pub listed_or_circle : (p : Plan) (h : List (Event D)) → Lawful job p h → (standing job h).orders ≡ [] → (ts : List (Task D)) → IsReadyList job (standing job h) ts → ((t : Task D) × In t ts) ⊎ ((ds : List D) × CircleAtRest job (standing job h) ds)
   listed_or_circle p h l none ts k = pick (ready_or_round job laws (standing job h) none)
     where
-      pick : (((t : Task D) × Ready job (standing job h) t) ⊎ ((ds : List D) × Circle job (standing job h) ds)) → ((t : Task D) × In t ts) ⊎ ((ds : List D) × Circle job (standing job h) ds)
+      pick : (((t : Task D) × Ready job (standing job h) t) ⊎ ((ds : List D) × CircleAtRest job (standing job h) ds)) → ((t : Task D) × In t ts) ⊎ ((ds : List D) × CircleAtRest job (standing job h) ds)
       pick (inl r) = inl (r.0, ready_listed (standing job h) (informed p h l) ts k r.0 r.1)
       pick (inr c) = inr c

@@ -3,7 +3,8 @@ use Rattle.std.proofs.Common.{◌≡◌, ℕ, List, [], ◌∷◌, Bool, true, f
 use Rattle.std.specs.List.{list_any}
 use Rattle.ciel_journal.specs.Job.{Task, show, Job, In}
 use Rattle.ciel_journal.specs.History.{Standing, is_out, live, live_if, needs}
-use Rattle.ciel_journal.specs.Turns.{Reached, root, through}
+use Rattle.ciel_journal.specs.Graph.{root, through}
+use Rattle.ciel_journal.specs.Turns.{Reached}
 use Rattle.ciel_journal.specs.Search.{Among, LedTo, first, further, unmet}
 use Rattle.ciel_journal.specs.Wanted.{IsGraph, Wanted, open_needs, rows}
 use Rattle.ciel_journal.proofs.Members.{bool_cases}

@@ -5,7 +5,7 @@ use Rattle.ciel_journal.specs.History.{Event, Order, Plan, Save, done, last, lea
 use Rattle.ciel_journal.specs.Known.{Inner, Knows}
 use Rattle.ciel_journal.specs.Lawful.{Lawful}
 use Rattle.ciel_journal.specs.Live.{Live, OpenIn, SavedIn, closes_of, spawned_of}
-use Rattle.ciel_journal.specs.Turns.{Ready, IsReadyList, Circle, Driven, idle}
+use Rattle.ciel_journal.specs.Turns.{Ready, IsReadyList, CircleAtRest, Driven, idle}
 use Rattle.ciel_journal.specs.Search.{LedTo}
 use Rattle.ciel_journal.specs.Wanted.{IsGraph, Wanted}
 use Rattle.ciel_journal.specs.Work.{Work, losses_of, starts_of}
@@ -57,17 +57,17 @@ module _ (D : Type 0) where
   -- a circle of waits after a lawful history means that the job has no answer
   abbrev pub CircleIsEndless : Type 0
   CircleIsEndless =
-      (job : Job D) → IsJob job → (p : Plan) (h : List (Event D)) → Lawful job p h → (ds : List D) → Circle job (standing job h) ds → Never job
+      (job : Job D) → IsJob job → (p : Plan) (h : List (Event D)) → Lawful job p h → (ds : List D) → CircleAtRest job (standing job h) ds → Never job
 
   -- where nothing is open, a task is ready or there is a circle
   abbrev pub ReadyOrCircle : Type 0
   ReadyOrCircle =
-      (job : Job D) → IsJob job → (p : Plan) (h : List (Event D)) → Lawful job p h → (standing job h).orders ≡ [] → ((t : Task D) × Ready job (standing job h) t) ⊎ ((ds : List D) × Circle job (standing job h) ds)
+      (job : Job D) → IsJob job → (p : Plan) (h : List (Event D)) → Lawful job p h → (standing job h).orders ≡ [] → ((t : Task D) × Ready job (standing job h) t) ⊎ ((ds : List D) × CircleAtRest job (standing job h) ds)
 
   -- where a job tells where all comes from, and nothing is open, the list of ready tasks isn't empty or there is a circle
   abbrev pub ListedOrCircle : Type 0
   ListedOrCircle =
-      (job : Job D) → IsJob job → (inner : Inner D) → Knows job inner → (p : Plan) (h : List (Event D)) → Lawful job p h → (standing job h).orders ≡ [] → (ts : List (Task D)) → IsReadyList job (standing job h) ts → ((t : Task D) × In t ts) ⊎ ((ds : List D) × Circle job (standing job h) ds)
+      (job : Job D) → IsJob job → (inner : Inner D) → Knows job inner → (p : Plan) (h : List (Event D)) → Lawful job p h → (standing job h).orders ≡ [] → (ts : List (Task D)) → IsReadyList job (standing job h) ts → ((t : Task D) × In t ts) ⊎ ((ds : List D) × CircleAtRest job (standing job h) ds)
 
   -- there, where the root task isn't done, a ready task may be started at an idle worker
   abbrev pub ReadyStarts : Type 0

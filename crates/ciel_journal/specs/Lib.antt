@@ -3,6 +3,7 @@ pub mod History
 pub mod Lawful
 pub mod Known
 pub mod Live
+pub mod Graph
 pub mod Turns
 pub mod Search
 pub mod Three

@@ -1,8 +1,9 @@
 -- Which task and worker come next: the turns of a run, and histories that keep to them.
 use Rattle.std.specs.Prelude.{◌≡◌, ℕ, zero, suc, ◌+◌, ◌*◌, ◌/◌, ◌%◌, ◌^◌, ◌≤◌, ◌<◌, List, [], ◌∷◌, length, Bool, true, false, cond, not, ◌&&◌, Option, Some, None, nat_eq, nat_le, slice_get, ◌⊎◌}
 use Rattle.std.specs.List.{list_any}
-use Rattle.ciel_journal.specs.Job.{Task, show, of, Job, In, Each}
-use Rattle.ciel_journal.specs.History.{Event, start, done, saved, missed, lost, Order, Standing, Plan, live, needs, is_out, after, before_all}
+use Rattle.ciel_journal.specs.Graph.{Circle, Led, Picks, Runnable, standing_graph}
+use Rattle.ciel_journal.specs.Job.{Task, show, of, Job}
+use Rattle.ciel_journal.specs.History.{Event, start, done, saved, missed, lost, Order, Standing, Plan, after, before_all}
 use Rattle.ciel_journal.specs.Lawful.{Step}
 
 -- ---- the generator
@@ -55,20 +56,12 @@ module _ {D : Type 0} (job : Job D) where
   -- ---- tasks
 
   -- the root task, and each task that makes what a reached task without an open Start waits for and isn't live
-  pub data Reached (v : Standing D) : Task D → Type 0 where
-    root : Reached v show
-    through : {t u : Task D} → Reached v t → is_out job v t ≡ false → (d : D) → In d (needs job v t) → live job v d ≡ false → job.task_of d ≡ Some u → Reached v u
+  abbrev pub Reached : Standing D → Task D → Type 0
+  Reached v = Led (standing_graph job v)
 
-  pub record Ready (v : Standing D) (t : Task D) : Type 0 where
-    pub reached : Reached v t
-    pub not_out : is_out job v t ≡ false
-    pub met : Each (λ d. live job v d ≡ true) (needs job v t)
-
-  -- ts lists those of xs of which P holds, in order
-  abbrev pub Keeps : (Task D → Type 0) → List (Task D) → List (Task D) → Type 0
-  Keeps P [] ts = ts ≡ []
-  Keeps P (x ∷ xs) ts =
-      (P x × ((rest : List (Task D)) × (ts ≡ x ∷ rest) × Keeps P xs rest)) ⊎ ((P x → ⊥) × Keeps P xs ts)
+  -- reached, without an open Start, and all that it waits for is live
+  abbrev pub Ready : Standing D → Task D → Type 0
+  Ready v = Runnable (standing_graph job v)
 
   abbrev pub is_first : D → Option (Task D) → Bool
   is_first d None = false
@@ -82,7 +75,7 @@ module _ {D : Type 0} (job : Job D) where
 
   -- the ready tasks in their order
   abbrev pub IsReadyList : Standing D → List (Task D) → Type 0
-  IsReadyList v ts = Keeps (Ready v) (tasks_of v.book) ts
+  IsReadyList v ts = Picks (Ready v) (tasks_of v.book) ts
 
   -- ---- workers and losses
 
@@ -129,16 +122,6 @@ module _ {D : Type 0} (job : Job D) where
 
   -- ---- circles
 
-  -- d isn't live, its task is reached and waits for e
-  abbrev pub WaitsOn : Standing D → D → D → Type 0
-  WaitsOn v d e =
-      (t : Task D) × (job.task_of d ≡ Some t) × Reached v t × (live job v d ≡ false) × In e (needs job v t)
-
-  -- each waits for the next one, and the last for the first
-  abbrev pub Chain : Standing D → D → D → List D → Type 0
-  Chain v first d [] = WaitsOn v d first
-  Chain v first d (e ∷ es) = WaitsOn v d e × Chain v first e es
-
-  abbrev pub Circle : Standing D → List D → Type 0
-  Circle v [] = ⊥
-  Circle v (d ∷ ds) = (v.orders ≡ []) × Chain v d d ds
+  -- nothing is open, and these wait for each other in a circle
+  abbrev pub CircleAtRest : Standing D → List D → Type 0
+  CircleAtRest v ds = (v.orders ≡ []) × Circle (standing_graph job v) ds

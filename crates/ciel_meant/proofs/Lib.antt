@@ -1,1 +1,2 @@
 pub mod RealLaw
+pub mod AlikeLaw

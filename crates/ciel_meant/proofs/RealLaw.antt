@@ -7,36 +7,36 @@ use Rattle.sky_base.specs.Needed as n
 use Rattle.sky_law.proofs.TaskFuel as fuel
 use Rattle.sky_law.proofs.TaskOutputs as outs
 use Rattle.sky_law.proofs.SeenLaw as seen
-use Rattle.std.proofs.Common.{◌≡◌, ◌≢◌, ℕ, suc, ◌+◌, ◌≤◌, ◌<◌, List, [], ◌∷◌, ◌++◌, Bool, true, false, Option, Some, None, slice_get, inl, inr, refl, ap, sym, ◌∙◌, subst, arith, nat_lt, ltb-true, lt-ltb}
+use Rattle.std.proofs.Common.{◌≡◌, ◌≢◌, ℕ, zero, suc, ◌+◌, ◌≤◌, ◌<◌, List, [], ◌∷◌, ◌++◌, Bool, true, false, Option, Some, None, slice_get, inl, inr, refl, ap, sym, ◌∙◌, subst, arith, nat_lt, ltb-true, lt-ltb}
 use Rattle.ciel_journal.specs.Job.{Digest, Task, show, of, Held, Job, In, Each, IsJob, waits_in}
-use Rattle.ciel_meant.specs.Real.{back, forth, forth_if, act_of, acts_of, held_if, mark_if, real_job, rank, ranks, pair_ranks, desc_rank}
+use Rattle.ciel_meant.specs.Real.{back, forth, forth_if, act_of, acts_of, held_if, at_of, mark_if, real_job, rank, ranks, pair_ranks, desc_rank}
 
-in_to : {A : Type 0} (d : A) (xs : List A) → t.In d xs → In d xs
+pub in_to : {A : Type 0} (d : A) (xs : List A) → t.In d xs → In d xs
 in_to d [] i = absurd i
 in_to d (x ∷ xs) (inl s) = inl s
 in_to d (x ∷ xs) (inr i) = inr (in_to d xs i)
 
-in_from : {A : Type 0} (d : A) (xs : List A) → In d xs → t.In d xs
+pub in_from : {A : Type 0} (d : A) (xs : List A) → In d xs → t.In d xs
 in_from d [] i = absurd i
 in_from d (x ∷ xs) (inl s) = inl s
 in_from d (x ∷ xs) (inr i) = inr (in_from d xs i)
 
-back_forth : (u : n.Task) → back (forth u) ≡ u
+pub back_forth : (u : n.Task) → back (forth u) ≡ u
 back_forth n.Task.show = refl
 back_forth (n.Task.of d) = refl
 
-made_of : (d : s.Desc) (u : Task s.Desc) → forth_if (t.maker d) ≡ Some u → t.maker d ≡ Some (back u)
+pub made_of : (d : s.Desc) (u : Task s.Desc) → forth_if (t.maker d) ≡ Some u → t.maker d ≡ Some (back u)
 made_of d u h = pick (t.maker d) refl h
   where
     pick : (o : Option n.Task) → t.maker d ≡ o → forth_if o ≡ Some u → t.maker d ≡ Some (back u)
     pick None e k = cc
     pick (Some w) e k = let q : forth w ≡ u = cc in e ∙ ap Some (sym (back_forth w) ∙ ap back q)
 
-of_made : (d : s.Desc) (u : Task s.Desc) → t.maker d ≡ Some (back u) → forth_if (t.maker d) ≡ Some u
+pub of_made : (d : s.Desc) (u : Task s.Desc) → t.maker d ≡ Some (back u) → forth_if (t.maker d) ≡ Some u
 of_made d show h = ap forth_if h
 of_made d (of x) h = ap forth_if h
 
-waits_are : (es : List (r.Act ⊥)) → waits_in (acts_of es) ≡ t.waits_in es
+pub waits_are : (es : List (r.Act ⊥)) → waits_in (acts_of es) ≡ t.waits_in es
 waits_are [] = refl
 waits_are (r.made d ∷ es) = waits_are es
 waits_are (r.waited ds ∷ es) = ap (λ xs. ds ∷ xs) (waits_are es)
@@ -71,7 +71,7 @@ mutual
   pair_ranks_in v.no_pairs d i = absurd i
   pair_ranks_in (v.pair k x ps) d i = pick_in (v.refs x) (v.pairs_refs ps) d (rank x) (pair_ranks ps) (rank_in x d) (pair_ranks_in ps d) i
 
-module _ (job : s.Job) (around : s.Around) (name : s.Desc → Digest) (mark : s.Obj → Digest) (frozen : n.Task → ℕ → Digest) where
+module _ (job : s.Job) (around : s.Around) (name : s.Desc → Digest) (mark : s.Obj → Digest) (frozen : n.State → Digest) where
   abbrev the : Job s.Desc
   the = real_job job around name mark frozen
 
@@ -137,7 +137,7 @@ module _ (job : s.Job) (around : s.Around) (name : s.Desc → Digest) (mark : s.
         first_smaller = λ d e u h i nr. smaller d e (back u) (made_of d u h) i (λ z. nr (shown u z));
         more = λ k u. let p = fuel.more job around k (back u) in (acts_of p.0, sym (acts_join (t.acts_of job around k (back u)) p.0) ∙ ap acts_of (sym p.1));
         kept = λ k u h. let p = fuel.kept job around k (back u) h in (ap acts_of p.0, p.1);
-        held_kept = λ k u j a h. held_more (frozen (back u) j) (t.held_at job around k (back u) j) (t.held_at job around (suc k) (back u) j) a (fuel.held_kept job around (back u) j k) h;
+        held_kept = λ k u j a h. at_more (back u) k j a h;
         object_kept = λ k d m h. object_more (s.see job around k d) (s.see job around (suc k) d) m (seen.see_kept job around k d) h;
         first_seen = λ k u h. marks_each k (t.first_of (back u)) (fuel.first_seen job around k (back u) h);
         later_seen = λ k u j ds h g. marks_each k ds (fuel.later_seen job around k (back u) j ds h (ap (λ xs. slice_get xs j) (sym (waits_are (t.acts_of job around k (back u)))) ∙ g));
@@ -149,9 +149,19 @@ module _ (job : s.Job) (around : s.Around) (name : s.Desc → Digest) (mark : s.
       shown show z = refl
       shown (of d) z = cc
 
-      held_more : (m : Digest) (x y : Option (List s.Desc)) (a : Held s.Desc) → seen.Kept None x y → held_if job around name mark frozen m x ≡ Some a → held_if job around name mark frozen m y ≡ Some a
-      held_more m x y a (inl e) h = let bad : None ≡ Some a = sym (ap (held_if job around name mark frozen m) e) ∙ h in cc
-      held_more m x y a (inr e) h = ap (held_if job around name mark frozen m) (sym e) ∙ h
+      held_more : (x y : Option n.State) (a : Held s.Desc) → seen.Kept None x y → held_if job around name mark frozen x ≡ Some a → held_if job around name mark frozen y ≡ Some a
+      held_more x y a (inl e) h = let bad : None ≡ Some a = sym (ap (held_if job around name mark frozen) e) ∙ h in cc
+      held_more x y a (inr e) h = ap (held_if job around name mark frozen) (sym e) ∙ h
+
+      at_more : (u : n.Task) (k j : ℕ) (a : Held s.Desc) → at_of job around name mark frozen k u j ≡ Some a → at_of job around name mark frozen (suc k) u j ≡ Some a
+      at_more n.Task.show k j a h =
+          held_more (n.stands_at job around k n.Task.show j) (n.stands_at job around (suc k) n.Task.show j) a (seen.stands_kept job around n.Task.show j k) h
+      at_more (n.Task.of (v.call f c vs)) k j a h =
+          held_more (n.stands_at job around k (n.Task.of (v.call f c vs)) j) (n.stands_at job around (suc k) (n.Task.of (v.call f c vs)) j) a (seen.stands_kept job around (n.Task.of (v.call f c vs)) j k) h
+      at_more (n.Task.of (v.out x b m i)) k zero a h = h
+      at_more (n.Task.of (v.out x b m i)) k (suc j) a h = h
+      at_more (n.Task.of (v.input y)) k j a h = h
+      at_more (n.Task.of (v.known b)) k j a h = absurd b
 
       object_more : (x y : Option s.Obj) (m : Digest) → seen.Kept None x y → marked x ≡ Some m → marked y ≡ Some m
       object_more x y m (inl e) h = let bad : None ≡ Some m = sym (ap marked e) ∙ h in cc

@@ -4,7 +4,7 @@ use Rattle.sky_law.specs.Tasks as t
 use Rattle.sky_base.specs.See as s
 use Rattle.sky_base.specs.Read as r
 use Rattle.sky_base.specs.Needed as n
-use Rattle.std.specs.Prelude.{ℕ, suc, ◌+◌, List, [], ◌∷◌, Option, Some, None}
+use Rattle.std.specs.Prelude.{ℕ, zero, suc, ◌+◌, List, [], ◌∷◌, Option, Some, None}
 use Rattle.ciel_journal.specs.Job.{Digest, Task, show, of, Act, made, wait, Held, Job}
 
 abbrev pub back : Task s.Desc → n.Task
@@ -27,10 +27,20 @@ abbrev pub acts_of : List (r.Act ⊥) → List (Act s.Desc)
 acts_of [] = []
 acts_of (a ∷ as_) = act_of a ∷ acts_of as_
 
-module _ (job : s.Job) (around : s.Around) (name : s.Desc → Digest) (mark : s.Obj → Digest) (frozen : n.Task → ℕ → Digest) where
-  abbrev pub held_if : Digest → Option (List s.Desc) → Option (Held s.Desc)
-  held_if m None = None
-  held_if m (Some ds) = Some (record { names = ds; mark = m })
+-- `mark` is the mark of an object, `frozen` that of a state
+module _ (job : s.Job) (around : s.Around) (name : s.Desc → Digest) (mark : s.Obj → Digest) (frozen : n.State → Digest) where
+  abbrev pub held_if : Option n.State → Option (Held s.Desc)
+  held_if None = None
+  held_if (Some a) = Some (record { names = t.held a; mark = frozen a })
+
+  -- an executor's task has no state: at its start it holds what its arguments refer to
+  abbrev pub at_of : ℕ → n.Task → ℕ → Option (Held s.Desc)
+  at_of k n.Task.show j = held_if (n.stands_at job around k n.Task.show j)
+  at_of k (n.Task.of (v.call f c vs)) j = held_if (n.stands_at job around k (n.Task.of (v.call f c vs)) j)
+  at_of k (n.Task.of (v.out x a m i)) zero = Some (record { names = n.distinct_refs a; mark = [] })
+  at_of k (n.Task.of (v.out x a m i)) (suc j) = None
+  at_of k (n.Task.of (v.input y)) j = None
+  at_of k (n.Task.of (v.known b)) j = absurd b
 
   abbrev pub mark_if : Option s.Obj → Option Digest
   mark_if None = None
@@ -47,7 +57,7 @@ module _ (job : s.Job) (around : s.Around) (name : s.Desc → Digest) (mark : s.
         first = λ u. t.first_of (back u);
         acts = λ k u. acts_of (t.acts_of job around k (back u));
         ended = λ k u. t.ended job around k (back u);
-        at = λ k u j. held_if (frozen (back u) j) (t.held_at job around k (back u) j);
+        at = λ k u j. at_of k (back u) j;
         object = λ k d. mark_if (s.see job around k d);
       }
 

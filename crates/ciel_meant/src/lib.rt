@@ -1,10 +1,30 @@
 //! The job that a script means, as a job of journals.
 #![tactic(auto)]
 
-ghost use Rattle.ciel_meant.specs.RealLaws.{RealIsJob};
+ghost use Rattle.ciel_meant.specs.RealLaws.{OfReal, RealIsJob, WaitsAlike, OutputsAlike, EndsAlike, NeverAlike, AnswerAlike, ObjectsAlike, StatesAlike, MadeAlike, NeededAlike, WorkIsFinite};
 
 /// The job that a script means has the laws that the journal asks of a job, whatever its names and
 /// marks are.
 pub fn real_job_is_a_job()
     ensures job { RealIsJob }
+{}
+
+/// Its functions are the meaning's: what its tasks wait for, make and come to, which objects are seen, and in which
+/// states its tasks stand, whatever its names and marks are.
+pub fn real_job_is_the_meaning()
+    ensures waits { OfReal WaitsAlike }
+    ensures outputs { OfReal OutputsAlike }
+    ensures ends { OfReal EndsAlike }
+    ensures never { OfReal NeverAlike }
+    ensures answer { OfReal AnswerAlike }
+    ensures objects { OfReal ObjectsAlike }
+    ensures states { OfReal StatesAlike }
+    ensures made { OfReal MadeAlike }
+{}
+
+/// Where what is read as data is sound, the same tasks are needed as in the meaning, and a job that means an answer has a
+/// finite amount of work.
+pub fn real_job_needs_what_the_meaning_does()
+    ensures needed { OfReal NeededAlike }
+    ensures work { OfReal WorkIsFinite }
 {}

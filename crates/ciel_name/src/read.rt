@@ -43,7 +43,7 @@ pub fn decode(alloc: Global, encoded: &[u8]) -> Result<Value, Decode>
 
 /// A value of at most so many levels.
 #[cycle(read)]
-fn read_value(alloc: Global, reader: &mut Reader, left: u32) -> Result<Value, Decode>
+pub fn read_value(alloc: Global, reader: &mut Reader, left: u32) -> Result<Value, Decode>
     ensures value { IfOk result (λ v. Read left reader.old (view v) reader.new) }
     ensures refused { IfErr result (λ e. Refuses e (NoneRead left reader.old)) }
 {
@@ -102,7 +102,7 @@ fn read_text_value(alloc: Global, reader: &mut Reader, left: u32) -> Result<Valu
 }
 
 /// A text behind the number of its bytes.
-fn read_text(alloc: Global, reader: &mut Reader) -> Result<Txt, Decode>
+pub fn read_text(alloc: Global, reader: &mut Reader) -> Result<Txt, Decode>
     ensures text { IfOk result (λ t. TextRead reader.old t reader.new) }
     ensures refused { IfErr result (λ e. Refuses e (NoTextRead reader.old)) }
 {
@@ -167,7 +167,12 @@ fn read_dict(alloc: Global, reader: &mut Reader, left: u32) -> Result<Value, Dec
 
 /// So many pairs with keys that rise, each with a value of at most so many levels.
 #[cycle(read)]
-fn read_pairs(alloc: Global, reader: &mut Reader, count: u32, left: u32) -> Result<Pairs, Decode>
+pub fn read_pairs(
+    alloc: Global,
+    reader: &mut Reader,
+    count: u32,
+    left: u32,
+) -> Result<Pairs, Decode>
     ensures pairs { IfOk result (λ ps. PairsRead count left reader.old ps reader.new) }
     ensures refused { IfErr result (λ e. Refuses e (NoPairs count left reader.old)) }
 {

@@ -7,7 +7,7 @@ use std::marker::Model;
 
 /// Bytes, of which some were read. Contracts see those that are left.
 #[derive(Drop)]
-pub(crate) struct Reader<'a> {
+pub struct Reader<'a> {
     left: &'a [u8],
 }
 
@@ -21,21 +21,21 @@ impl<'a> Model for Reader<'a> {
 
 impl<'a> Reader<'a> {
     /// Nothing is read yet.
-    pub(crate) fn new(bytes: &'a [u8]) -> Reader<'a>
+    pub fn new(bytes: &'a [u8]) -> Reader<'a>
         ensures { result ≡ bytes.now }
     {
         Reader { left: bytes }
     }
 
     /// Whether all is read.
-    pub(crate) fn is_empty(&self) -> bool
+    pub fn is_empty(&self) -> bool
         ensures { IsTrue result ↔ (self.now ≡ []) }
     {
         self.left.is_empty()
     }
 
     /// The next byte, if there is one.
-    pub(crate) fn byte(&mut self) -> Option<u8>
+    pub fn byte(&mut self) -> Option<u8>
         ensures { MatchOption result (self.old ≡ []) (λ b. self.old ≡ b ∷ self.new) }
     {
         let (first, rest) = self.left.split_first()?;
@@ -44,7 +44,7 @@ impl<'a> Reader<'a> {
     }
 
     /// The next `count` bytes, if there are as many.
-    pub(crate) fn bytes(&mut self, count: usize) -> Option<&'a [u8]>
+    pub fn bytes(&mut self, count: usize) -> Option<&'a [u8]>
         ensures { MatchOption result (length self.old < count)
             (λ s. (self.old ≡ s.now ++ self.new) × (length s.now ≡ count)) }
     {
@@ -58,7 +58,7 @@ impl<'a> Reader<'a> {
 
     /// The next `N` bytes, if there are as many.
     #[tactic(auto, using(crate::proofs::Numbers::takes))]
-    pub(crate) fn array<const N: usize>(&mut self) -> Option<[u8; N]>
+    pub fn array<const N: usize>(&mut self) -> Option<[u8; N]>
         ensures { MatchOption result (length self.old < N) (λ s. (self.old ≡ s ++ self.new) × (length s ≡ N)) }
     {
         let (bytes, rest) = self.left.split_first_chunk::<N>()?;
@@ -67,14 +67,14 @@ impl<'a> Reader<'a> {
     }
 
     /// The number in the next four bytes, if there are as many.
-    pub(crate) fn number(&mut self) -> Option<u32>
+    pub fn number(&mut self) -> Option<u32>
         ensures { MatchOption result (length self.old < 4) (λ n. self.old ≡ big_endian 4 n ++ self.new) }
     {
         Some(number_of(self.array::<4>()?))
     }
 
     /// The number in the next eight bytes, in two's complement, if there are as many.
-    pub(crate) fn int(&mut self) -> Option<i64>
+    pub fn int(&mut self) -> Option<i64>
         ensures { MatchOption result (length self.old < 8) (λ z. self.old ≡ bytes_of_int z ++ self.new) }
     {
         Some(int_of(self.array::<8>()?))

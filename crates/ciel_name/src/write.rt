@@ -30,7 +30,7 @@ pub fn encode(alloc: Global, value: &Value) -> Result<Bytes, Memory>
 /// Writes the bytes of a value.
 #[cycle(put)]
 #[tactic(auto, using(crate::proofs::Numbers::appends))]
-pub(crate) fn put_value(out: &mut Writer, value: &Value) -> Result<(), Memory>
+pub fn put_value(out: &mut Writer, value: &Value) -> Result<(), Memory>
     ensures { IfOk result (λ _. out.new ≡ out.old ++ bytes (view value.now)) }
 {
     match value {
@@ -72,7 +72,7 @@ pub(crate) fn put_value(out: &mut Writer, value: &Value) -> Result<(), Memory>
 /// Writes the count of the elements, and then each.
 #[cycle(put)]
 #[tactic(auto, using(crate::proofs::Numbers::appends, sky_base::proofs::Values::inside))]
-pub(crate) fn put_values(out: &mut Writer, values: &Vals) -> Result<(), Memory>
+pub fn put_values(out: &mut Writer, values: &Vals) -> Result<(), Memory>
     ensures { IfOk result (λ _. out.new ≡ out.old ++ (big_endian 4 (count values.now) ++ vals_bytes values.now)) }
 {
     out.count(values.len())?;
@@ -85,7 +85,7 @@ pub(crate) fn put_values(out: &mut Writer, values: &Vals) -> Result<(), Memory>
 /// Writes the count of the pairs, and then each: its key as text, its value.
 #[cycle(put)]
 #[tactic(auto, using(crate::proofs::Numbers::appends, sky_base::proofs::Values::inside))]
-pub(crate) fn put_pairs(out: &mut Writer, pairs: &Pairs) -> Result<(), Memory>
+pub fn put_pairs(out: &mut Writer, pairs: &Pairs) -> Result<(), Memory>
     ensures { IfOk result (λ _. out.new ≡ out.old ++ (big_endian 4 (pair_count pairs.now) ++ pairs_bytes pairs.now)) }
 {
     out.count(pairs.len())?;

@@ -9,7 +9,7 @@ use std::marker::Model;
 
 /// Bytes that are written one behind the other. Contracts see the list of those so far.
 #[derive(Drop)]
-pub(crate) struct Writer {
+pub struct Writer {
     held: Vec<u8>,
 }
 
@@ -23,7 +23,7 @@ impl Model for Writer {
 
 impl Writer {
     /// No bytes.
-    pub(crate) fn new(alloc: Global) -> Writer
+    pub fn new(alloc: Global) -> Writer
         ensures { result ≡ [] }
     {
         Writer {
@@ -32,7 +32,7 @@ impl Writer {
     }
 
     /// Writes one byte.
-    pub(crate) fn byte(&mut self, byte: u8) -> Result<(), Memory>
+    pub fn byte(&mut self, byte: u8) -> Result<(), Memory>
         ensures { IfOk result (λ _. self.new ≡ self.old ++ byte ∷ []) }
     {
         match self.held.push(byte) {
@@ -42,7 +42,7 @@ impl Writer {
     }
 
     /// Writes bytes as they are.
-    pub(crate) fn raw(&mut self, bytes: &[u8]) -> Result<(), Memory>
+    pub fn raw(&mut self, bytes: &[u8]) -> Result<(), Memory>
         ensures { IfOk result (λ _. self.new ≡ self.old ++ bytes.now) }
     {
         match self.held.extend_from_slice(bytes) {
@@ -53,7 +53,7 @@ impl Writer {
 
     /// Writes a number in eight bytes, a negative one as its two's complement.
     #[tactic(auto, using(crate::proofs::Numbers::numbers))]
-    pub(crate) fn int(&mut self, number: i64) -> Result<(), Memory>
+    pub fn int(&mut self, number: i64) -> Result<(), Memory>
         ensures { IfOk result (λ _. self.new ≡ self.old ++ bytes_of_int number) }
     {
         self.raw(&number.to_be_bytes())
@@ -61,7 +61,7 @@ impl Writer {
 
     /// Writes a number of 32 bits in four bytes.
     #[tactic(auto, using(crate::proofs::Numbers::numbers))]
-    pub(crate) fn number(&mut self, number: u32) -> Result<(), Memory>
+    pub fn number(&mut self, number: u32) -> Result<(), Memory>
         ensures { IfOk result (λ _. self.new ≡ self.old ++ big_endian 4 number) }
     {
         self.raw(&number.to_be_bytes())
@@ -69,7 +69,7 @@ impl Writer {
 
     /// Writes how many there are of something, in four bytes: the low ones, where more are wanted.
     #[tactic(auto, using(crate::proofs::Numbers::numbers))]
-    pub(crate) fn count(&mut self, count: usize) -> Result<(), Memory>
+    pub fn count(&mut self, count: usize) -> Result<(), Memory>
         ensures { IfOk result (λ _. self.new ≡ self.old ++ big_endian 4 count) }
     {
         let bytes = (count as u64).to_be_bytes();
@@ -78,7 +78,7 @@ impl Writer {
 
     /// Writes the number of bytes of a text in four bytes, and then the text.
     #[tactic(auto, using(crate::proofs::Numbers::appends))]
-    pub(crate) fn text(&mut self, text: &Txt) -> Result<(), Memory>
+    pub fn text(&mut self, text: &Txt) -> Result<(), Memory>
         ensures { IfOk result (λ _. self.new ≡ self.old ++ bytes_of_text text.now) }
     {
         self.count(text.len())?;
@@ -86,14 +86,14 @@ impl Writer {
     }
 
     /// What was written so far.
-    pub(crate) fn as_slice(&self) -> &[u8]
+    pub fn as_slice(&self) -> &[u8]
         ensures { result.now ≡ self.now }
     {
         self.held.as_slice()
     }
 
     /// All that was written, handed over.
-    pub(crate) fn finish(self, alloc: Global) -> Result<Bytes, Memory>
+    pub fn finish(self, alloc: Global) -> Result<Bytes, Memory>
         ensures { IfOk result (λ b. b ≡ self) }
     {
         let Writer { held } = self;

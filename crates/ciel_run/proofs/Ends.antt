@@ -1,8 +1,7 @@
 -- What the job that was loaded comes to is what the script and the inputs that stand where the words say come to.
-use Rattle.std.proofs.Common.{◌≡◌, ◌≤◌, ℕ, List, [], Option, Some, refl, sym, ap, subst, ◌∙◌}
+use Rattle.std.proofs.Common.{◌≡◌, ℕ, List, Option, Some, refl, sym, subst, ◌∙◌}
 use Rattle.sky_base.specs.See.{Desc, Job, Answered, Means}
 use Rattle.sky_plain.specs.Needs.{Chain, MakesMany}
-use Rattle.ciel_io.specs.Tells.{Tells, TellsPart}
 use Rattle.ciel_run.specs.Words.{Line, line_of}
 use Rattle.ciel_run.specs.Source.{Input, keys_of, IsScript, IsAnswer, HasChain, Makes, job_of, over_lines}
 use Rattle.ciel_run.specs.Found.{Holds, Fits, OverFiles}

@@ -19,7 +19,7 @@ use Rattle.sky_grammar.proofs.UniqueScripts.{one_script}
 use Rattle.sky_plain.specs.Needs.{Chain, MakesMany}
 use Rattle.sky_law.proofs.SeenLaw.{means_one}
 use Rattle.ciel_run.specs.Words.{Line}
-use Rattle.ciel_run.specs.Source.{Input, keys_of, IsAnswer, IsScript, job_of, over_lines}
+use Rattle.ciel_run.specs.Source.{Input, keys_of, IsScript, job_of, over_lines}
 use Rattle.ciel_run.specs.Syntax.{IsSyntaxFault, end_of}
 use Rattle.ciel_run.specs.Found.{limit, input_limit, AllWithin, Fits}
 use Rattle.ciel_run.specs.Ending.{IsExpected, IsFirstOver}

@@ -1,11 +1,11 @@
 -- From what was read to the job that the words name, and why there is none.
-use Rattle.std.proofs.Common.{◌≡◌, ◌≢◌, ◌≤◌, inl, inr, ℕ, List, [], ◌∷◌, Option, Some, None, IfSome, Result, Err, length, map, refl, sym, ap, subst, ◌∙◌, arith}
+use Rattle.std.proofs.Common.{◌≡◌, ◌≢◌, ◌≤◌, inl, inr, ℕ, List, [], ◌∷◌, Option, Some, None, IfSome, Err, length, map, refl, sym, ap, subst, ◌∙◌, arith}
 use Rattle.sky_base.specs.See.{Job}
 use Rattle.sky_base.specs.Tree.{Script}
 use Rattle.ciel_io.specs.Tells.{Tells, TellsPart}
 use Rattle.ciel_run.specs.Words.{Line, line_of, line_with, key_in, path_in, input_in, paths, paths_of}
 use Rattle.ciel_run.specs.Source.{Input, keys_of, IsScript}
-use Rattle.ciel_run.specs.Found.{limit, Holds, HoldAll, Fits}
+use Rattle.ciel_run.specs.Found.{limit, Holds, HoldAll}
 use Rattle.ciel_run.specs.Ending.{PassesIfTold}
 use Rattle.ciel_run.specs.Reading.{ReadAll, UnreadSo, UnreadOf, AsksEach}
 use Rattle.ciel_run.specs.Loading.{unread, IsLoaded, NotLoaded, AsksJob}

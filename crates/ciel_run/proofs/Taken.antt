@@ -1,5 +1,5 @@
 -- Inputs are read one after the other: what a first one and the others come to, all come to.
-use Rattle.std.proofs.Common.{◌≡◌, ◌≤◌, ◌<◌, ◌⊎◌, inl, inr, ℕ, zero, suc, ◌+◌, List, [], ◌∷◌, ◌++◌, Option, Some, None, IfSome, IfErr, Result, Ok, Err, Contains, length, map, take, slice_get, refl, sym, ap, subst, ◌∙◌, append_assoc, arith}
+use Rattle.std.proofs.Common.{◌≡◌, ◌≤◌, inl, inr, ℕ, zero, suc, ◌+◌, List, [], ◌∷◌, Option, Some, None, IfSome, IfErr, Result, Ok, Err, Contains, length, map, take, slice_get, refl, sym, subst, ◌∙◌, arith}
 use Rattle.ciel_io.specs.Faults.{HasRisen}
 use Rattle.ciel_io.specs.Tells.{Tells, TellsPart}
 use Rattle.ciel_run.specs.Source.{Input}

@@ -1,7 +1,7 @@
 -- What the words of the command line name, and what stands there.
-use Rattle.std.specs.Prelude.{◌≡◌, ◌≤◌, ◌<◌, ℕ, List, [], ◌∷◌, Option, Some, IfSome, length}
+use Rattle.std.specs.Prelude.{◌≡◌, ◌≤◌, ℕ, List, [], ◌∷◌, Option, Some, length}
 use Rattle.ciel_run.specs.Words.{Line, line_of}
-use Rattle.ciel_run.specs.Source.{Input, keys_of}
+use Rattle.ciel_run.specs.Source.{Input}
 
 -- the greatest number of bytes of a script
 abbrev pub limit : ℕ

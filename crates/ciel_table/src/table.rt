@@ -68,11 +68,12 @@ impl<P: At + Drop> Table<P> {
     }
 
     /// How many rows there are, and what holds of every table.
-    pub fn len(&self) -> usize
+    pub fn len(&self) -> u32
         ensures number { result ≡ length self.now.rows }
         ensures sound { TableSound P.at self.now }
     {
-        self.rows.len()
+        prove!(self.rows.len() <= self.limit as usize);
+        self.rows.len() as u32
     }
 
     /// The row of a name; `None` exactly where no row has it. It takes no memory.

@@ -9,7 +9,7 @@ use Rattle.sky_base.specs.Res.{visits, Object, End, Entry, star_wait, exec_wait,
 use Rattle.sky_base.specs.Read.{refs_of}
 use Rattle.sky_base.specs.See.{slot}
 use Rattle.sky_base.specs.Eval as run
-use Rattle.sky_base.specs.Eval.{World, find_fun, Body, body_of, bind, set_var, is_one_of, named, closed, lit_val, oper, outputs, truth_of, wait_end, exec_end, eval, eval_parts, eval_links, eval_ands, eval_steps, eval_args, eval_stm, eval_stms, eval_arms, eval_else, turns, repeats, each, each_of, decide, joins, signs, signed, deref, formed, called, enter, in_body, body_at}
+use Rattle.sky_base.specs.Eval.{World, find_fun, Body, body_of, bind, set_var, is_one_of, named, closed, lit_val, oper, outputs, truth_of, wait_end, exec_end, eval, eval_parts, eval_links, eval_ands, eval_steps, eval_args, eval_stm, eval_stms, eval_arms, eval_else, turns, repeats, each, each_of, decide, joins, signs, signed, deref, formed, called, in_body, body_at}
 use Rattle.sky_base.specs.declared.fault.FaultKind.{FaultKind}
 use Rattle.sky_base.proofs.Exact.{exact_desc, exact_text, self_desc, self_text}
 use Rattle.sky_rows.specs.Walk.{Row, Seen, Stop, Walked, stops, in_room, if_new, learn_to, is_held, on_learned, on_seen, seen_one, look, walk, known_of, Numbers}

@@ -14,7 +14,7 @@ use Rattle.sky_base.specs.declared.value.Value.{Value}
 use Rattle.sky_scope.specs.declared.cut.Cut.{Cut}
 use Rattle.sky_scope.specs.declared.cut.Flow.{Flow}
 use Rattle.sky_scope.specs.RunView.{Flows, cut_of}
-use Rattle.sky_rows.specs.Walk.{Row, Stop, Walked, stops, walk, known_of, Numbers}
+use Rattle.sky_rows.specs.Walk.{Row, Stop, Walked, walk, known_of, Numbers}
 use Rattle.sky_rows.specs.Number.{tag_of}
 use Rattle.sky_body.specs.Stops.{Runs, EndsAs, WaitsFor, IsFull}
 use Rattle.sky_body.specs.Ran.{Begins}

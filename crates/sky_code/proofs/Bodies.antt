@@ -1,5 +1,5 @@
 -- What stands at a number, and what a call runs.
-use Rattle.std.proofs.Common.{◌≡◌, ◌≢◌, ◌<◌, ℕ, zero, suc, ◌+◌, List, [], ◌∷◌, Bool, true, false, Option, Some, None, slice_get, slice_index, refl, sym, ap, ◌∙◌, arith}
+use Rattle.std.proofs.Common.{◌≡◌, ◌≢◌, ◌<◌, ℕ, zero, suc, ◌+◌, List, [], ◌∷◌, Bool, true, false, Option, Some, None, slice_get, slice_index, refl, ◌∙◌, arith}
 use Rattle.sky_base.specs.Tree.{Exp, Stm, FunDef, Script, nodes, stm_nodes, block_nodes}
 use Rattle.sky_base.specs.Val.{same_text}
 use Rattle.sky_base.specs.Eval.{Body, find_fun, find_fun_if, find_body, find_body_if, body_of}

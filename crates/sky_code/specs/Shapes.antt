@@ -1,7 +1,7 @@
 -- What an expression of the code is seen as when it is begun, and what is left of its parts.
 use Rattle.std.specs.Prelude.{Bool, true, false}
 use Rattle.sky_base.specs.Tree.{Oper, Junction, Form, Exp, Exps, Links}
-use Rattle.sky_base.specs.TreeView.{at, arith_view, order_view, lit_view, signs_view, one, two, three, exp_view, exps_view, links_view, ands_view, steps_view}
+use Rattle.sky_base.specs.TreeView.{at, arith_view, order_view, lit_view, signs_view, one, two, three, exps_view, links_view, ands_view, steps_view}
 use Rattle.sky_code.specs.declared.shape.PartForm.{PartForm}
 use Rattle.sky_code.specs.declared.shape.Op.{Op}
 use Rattle.sky_code.specs.declared.shape.Rest.{Rest}

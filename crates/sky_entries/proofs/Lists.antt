@@ -1,7 +1,7 @@
 -- One more form under way.
-use Rattle.std.proofs.Common.{◌≡◌, ℕ, suc, ◌+◌, List, [], ◌∷◌, ◌++◌, map, length, refl, sym, ap, ◌∙◌, subst, arith}
+use Rattle.std.proofs.Common.{◌≡◌, ℕ, ◌+◌, List, [], ◌∷◌, ◌++◌, refl, sym, ap, ◌∙◌, subst, arith}
 use Rattle.sky_base.specs.Tree.{Script}
-use Rattle.sky_base.specs.Res.{others, Entry, parens_in, part_at, chain_first, chain_more, logic_at, prefix_part, star_wait, postfix_first, index_at, arg_at, call_open, exec_wait, set_part, add_part, put_index, put_value, return_part, just_part, arm_test, while_test, while_body, repeat_body, repeat_test, for_list, for_body, block_at, then_do}
+use Rattle.sky_base.specs.Res.{others, parens_in, part_at, chain_first, chain_more, logic_at, prefix_part, star_wait, postfix_first, index_at, arg_at, call_open, exec_wait, set_part, add_part, put_index, put_value, return_part, just_part, arm_test, while_test, while_body, repeat_body, repeat_test, for_list, for_body, block_at, then_do}
 use Rattle.sky_base.specs.Eval.{World, inside, plug}
 use Rattle.sky_law.proofs.FormsLaw.{inner, plug_push}
 use Rattle.sky_law.specs.Nodes.{node_at}

@@ -4,7 +4,7 @@ use Rattle.sky_base.specs.Val.{Vals}
 use Rattle.sky_base.specs.Tree.{Place}
 use Rattle.sky_base.specs.TreeView.{exp_view}
 use Rattle.sky_base.specs.StmtView.{stm_view}
-use Rattle.sky_base.specs.Res.{others, Entry, call_open, End, Res, Fin, then_do}
+use Rattle.sky_base.specs.Res.{others, call_open, End, Res, Fin}
 use Rattle.sky_base.specs.Eval.{World, eval, eval_stm, ask, after, body_at, plug}
 use Rattle.sky_law.proofs.FormsLaw.{inner}
 use Rattle.sky_scope.specs.Plain.{Pairs, Vars}

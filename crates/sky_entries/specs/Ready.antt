@@ -1,12 +1,12 @@
 -- What holds of the forms under way: the nodes that are still to come stand at their numbers in the script, values keep
 -- the limits, and the numbers of steps fit.
 use Rattle.std.specs.Prelude.{◌≡◌, ◌<◌, ◌≤◌, ◌+◌, ◌^◌, ℕ, List, [], ◌∷◌, length, Option, Some}
-use Rattle.sky_base.specs.Val.{Val, vals_of, list}
-use Rattle.sky_base.specs.Tree.{Exps, Steps, Stms, Script, exps_nodes, block_nodes}
+use Rattle.sky_base.specs.Val.{vals_of, list}
+use Rattle.sky_base.specs.Tree.{Steps, Stms, Script, exps_nodes, block_nodes}
 use Rattle.sky_base.specs.TreeView.{exp_view}
 use Rattle.sky_base.specs.StmtView.{stm_view}
 use Rattle.sky_base.specs.Kept.{Kept}
-use Rattle.sky_base.specs.Res.{Entry, parens_in, part_at, chain_first, chain_more, logic_at, prefix_part, star_wait, postfix_first, index_at, arg_at, call_open, exec_wait, set_part, add_part, put_index, put_value, return_part, just_part, arm_test, while_test, while_body, repeat_body, repeat_test, for_list, for_body, block_at}
+use Rattle.sky_base.specs.Res.{parens_in, part_at, chain_first, chain_more, logic_at, prefix_part, star_wait, postfix_first, index_at, arg_at, call_open, exec_wait, set_part, add_part, put_index, put_value, return_part, just_part, arm_test, while_test, while_body, repeat_body, repeat_test, for_list, for_body, block_at}
 use Rattle.sky_base.specs.View.{view}
 use Rattle.sky_law.specs.Opened.{Node, block_node, HasExp, HasExps, HasLinks, HasAnds, HasSteps, HasStm, HasStms, HasArms, HasElse}
 use Rattle.sky_law.specs.Nodes.{node_at}
@@ -41,7 +41,7 @@ module _ (at : ℕ → Option Node) where
   IsReady (chain_more n k m o p v ls) = (k < m) × HasLinks at ls m × Kept v
   IsReady (logic_at n k m j p ls) = (k < m) × HasAnds at ls m
   IsReady (prefix_part n ss) = Unit {0}
-  IsReady (star_wait n k d ss) = k + length ss < 2 ^ 128
+  IsReady (star_wait n k d ss) = k + 1 + length ss < 2 ^ 128
   IsReady (postfix_first n m ss) = HasSteps at ss m × (2 + steps_left ss < 2 ^ 128)
   IsReady (index_at n k m p v ss) = HasSteps at ss m × Kept v × (k + 1 + steps_left ss < 2 ^ 128)
   IsReady (arg_at n k m p f vs es ss) =

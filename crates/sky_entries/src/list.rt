@@ -31,6 +31,7 @@ pub fn push<'a>(entries: &mut Vec<Entry<'a>>, entry: Entry<'a>) -> Result<(), Me
 pub fn pop<'a>(entries: &mut Vec<Entry<'a>>) -> Option<Entry<'a>>
     ensures some { IfSome result (λ en. entries.old.items ≡ entries.new.items ++ en ∷ []) }
     ensures empty { IfNone result (entries.old.items ≡ []) }
+    ensures still { IfNone result (entries.new.items ≡ []) }
 {
     entries.pop()
 }

@@ -2,7 +2,7 @@
 use Rattle.std.proofs.Common.{◌≡◌, ◌≢◌, ℕ, zero, suc, ◌+◌, ◌-◌, ◌<◌, ◌≤◌, List, [], ◌∷◌, length, drop, get_or, Bool, true, false, Option, Ok, Err, nat_lt, Result, refl, ap, sym, ◌∙◌, subst, arith}
 use Rattle.std.specs.Result.{IsErrAnd}
 use Rattle.sky_base.specs.Tree.{Place, FunDef, Oper, Form, Exp, Exps, Links, Steps}
-use Rattle.sky_base.specs.TreeView.{one, two, exp_view, links_view, steps_view, step_view, arith_view, at}
+use Rattle.sky_base.specs.TreeView.{one, two, exp_view, steps_view, step_view, arith_view, at}
 use Rattle.sky_base.specs.Val.{truth, no_vals, val, add_val}
 use Rattle.sky_base.specs.View.{view}
 use Rattle.sky_base.specs.Res.{visits, counted}

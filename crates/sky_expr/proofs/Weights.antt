@@ -1,9 +1,9 @@
 -- How many nodes the parts of trees have, and how much work may still be opened.
-use Rattle.std.proofs.Common.{◌≡◌, ◌≢◌, ℕ, zero, suc, ◌+◌, ◌*◌, ◌-◌, ◌<◌, ◌≤◌, List, [], ◌∷◌, length, drop, get_or, refl, ap, arith, Option, Some, None}
+use Rattle.std.proofs.Common.{◌≡◌, ◌≢◌, ℕ, zero, suc, ◌+◌, ◌-◌, ◌<◌, ◌≤◌, List, [], ◌∷◌, length, drop, get_or, refl, ap, arith, Option, Some, None}
 use Rattle.sky_base.specs.Tree.{Place, Exps, Links, Ands, Stms, nodes, exps_nodes, links_nodes, ands_nodes, steps_nodes, stm_nodes, stms_nodes, arms_nodes, block_nodes}
 use Rattle.sky_base.specs.TreeView.{exp_view, exps_view, links_view, ands_view, steps_view, step_nodes, arith_view, at}
 use Rattle.sky_base.specs.StmtView.{stm_view, stms_view, arms_view}
-use Rattle.sky_base.specs.Val.{no_vals, val, add_val, list, dict, fun, no_pairs, pair}
+use Rattle.sky_base.specs.Val.{no_vals, val, add_val, list}
 use Rattle.sky_base.specs.View.{view, vals_of}
 use Rattle.sky_base.specs.Kept.{Kept}
 use Rattle.sky_base.specs.Eval.{Body, body_of, bind}
@@ -12,7 +12,7 @@ use Rattle.sky_base.specs.declared.fault.FaultKind.{FaultKind}
 use Rattle.sky_base.proofs.Sums.{size_at, depth_at}
 use Rattle.sky_rows.specs.Walk.{Row}
 use Rattle.sky_scope.specs.Plain.{Val, Vals, Pairs, Vars, Out, Ground, fails, in_body, body_at, stms}
-use Rattle.sky_scope.specs.RunView.{KeptVals, KeptPairs, code_of}
+use Rattle.sky_scope.specs.RunView.{KeptVals, code_of}
 use Rattle.sky_base.specs.declared.tree.Expr.{Expr}
 use Rattle.sky_base.specs.declared.tree.Link.{Link}
 use Rattle.sky_base.specs.declared.tree.Join.{Join}

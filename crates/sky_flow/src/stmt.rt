@@ -17,7 +17,7 @@ ghost use Rattle.sky_entries.specs.Config.{Run, body_in, goes_on, rest_in, confi
 ghost use Rattle.sky_entries.specs.Entries.{last_block, entry_of, end_of, forms};
 ghost use Rattle.sky_flow.specs.Returns.{returned};
 ghost use Rattle.sky_entries.specs.Falls.{GoesIn, load};
-ghost use Rattle.sky_entries.specs.Ready.{Ready, AllReady, Goes};
+ghost use Rattle.sky_entries.specs.Ready.{EndReady, Ready, AllReady, Goes};
 
 use crate::arms::{Choice, next_arm};
 use crate::loops::{again, turn};
@@ -450,6 +450,7 @@ fn begin_just<'a>(
 pub fn set(state: &mut State, set: Set, v: Value) -> Result<End, Memory>
     requires kept { Kept (view v) }
     ensures same { IfOk result (λ e. (w : World (List ℕ)) (body : List ℕ → Pairs → Vals (List ℕ) → Place → Vars → Run) → after w body (entry_of (Entry.Stmt (InStmt.Set set.entry))) (logic.End.got (view v)) state.old ≡ Fin (end_of e) state.new) }
+    ensures ready { IfOk result EndReady }
     ensures count { IfOk result (λ e. state.new.count ≡ state.old.count) }
 {
     state.set(set.name, v)?;
@@ -460,6 +461,7 @@ pub fn set(state: &mut State, set: Set, v: Value) -> Result<End, Memory>
 pub fn add(alloc: Global, state: &mut State, add: Add, v: Value) -> Result<End, Memory>
     requires kept { Kept (view v) }
     ensures same { IfOk result (λ e. (w : World (List ℕ)) (body : List ℕ → Pairs → Vals (List ℕ) → Place → Vars → Run) → after w body (entry_of (Entry.Stmt (InStmt.Add add.entry))) (logic.End.got (view v)) state.old ≡ Fin (end_of e) state.new) }
+    ensures ready { IfOk result EndReady }
     ensures count { IfOk result (λ e. state.new.count ≡ state.old.count) }
 {
     let Add {
@@ -523,6 +525,7 @@ pub fn put_value(state: &mut State, put: PutValue, v: Value) -> Result<End, Memo
     requires at { Kept (view put.at) }
     requires kept { Kept (view v) }
     ensures same { IfOk result (λ e. (w : World (List ℕ)) (body : List ℕ → Pairs → Vals (List ℕ) → Place → Vars → Run) → after w body (entry_of (Entry.Stmt (InStmt.PutValue put.entry))) (logic.End.got (view v)) state.old ≡ Fin (end_of e) state.new) }
+    ensures ready { IfOk result EndReady }
     ensures count { IfOk result (λ e. state.new.count ≡ state.old.count) }
 {
     let PutValue {

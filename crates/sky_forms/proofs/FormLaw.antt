@@ -1,34 +1,23 @@
 -- Lists of references, waiting for several objects, and outputs one at a time.
-use Rattle.std.proofs.Common.{◌≡◌, ℕ, zero, suc, ◌+◌, ◌*◌, ◌-◌, ◌<◌, ◌≤◌, ◌^◌, min, List, [], ◌∷◌, ◌++◌, length, take, map, drop, Bool, true, false, ◌&&◌, Option, Some, None, refl, sym, ap, ◌∙◌, subst, arith, get_or, set, append-nil, ℤ, pos, negsuc, ◌+ℤ◌, ◌-ℤ◌, ◌≤ℤ◌, ◌<ℤ◌, nat_lt}
-use Rattle.std.specs.Option.{option_map}
-use Rattle.std.proofs.lemmas.List.{length-map}
-use Rattle.std.proofs.lemmas.Int.{ints, to_z-of_z}
+use Rattle.std.proofs.Common.{◌≡◌, ℕ, zero, suc, ◌+◌, ◌*◌, ◌-◌, ◌<◌, ◌≤◌, List, [], ◌∷◌, ◌++◌, length, drop, true, ◌&&◌, Option, Some, None, refl, sym, ap, ◌∙◌, arith, get_or, append-nil, pos, nat_lt}
 use Rattle.std.proofs.lemmas.Bool.Decides.{nat_tests}
-use Rattle.std.proofs.lemmas.Bool.{lt-ltb, le-ltb}
-use Rattle.sky_base.specs.Val.{Val, Vals, Pairs, no_vals, val, no_pairs, pair, size, sizes, pair_sizes, count, pair_count, null, truth, num, text, list, dict, fun, ref}
-use Rattle.sky_base.specs.Op.{join, put, dict_from, span, numbers}
-use Rattle.sky_base.specs.Val.{add_val, same_text, refs_to, depths, known, out}
-use Rattle.sky_base.specs.View.{view, vals_of, pairs_of}
-use Rattle.sky_base.specs.declared.value.Value.{Value}
-use Rattle.sky_base.specs.declared.value.Pair.{Pair}
-use Rattle.sky_base.specs.Tree.{Place, Form, FunDef, Script, block_nodes, funs_nodes}
-use Rattle.sky_base.specs.Eval.{Body, find_fun, find_fun_if, find_body, find_body_if, body_of}
+use Rattle.sky_base.specs.Val.{Val, Vals, sizes, count, num, list, ref}
+use Rattle.sky_base.specs.Op.{join}
+use Rattle.sky_base.specs.Val.{add_val, refs_to, depths, known, out}
+use Rattle.sky_base.specs.Tree.{Place, Form}
 use Rattle.sky_base.specs.Names.{known_of}
 use Rattle.sky_base.specs.declared.fault.Fault.{Fault}
 use Rattle.sky_base.specs.See.{slot}
 use Rattle.sky_base.specs.Eval.{outputs}
 use Rattle.sky_base.specs.Kept.{Kept}
-use Rattle.sky_base.specs.ObjectView.{object_view}
-use Rattle.sky_scope.specs.RunView.{code_of, fault_first, three_vals}
+use Rattle.sky_scope.specs.RunView.{fault_first, three_vals}
 use Rattle.sky_forms.proofs.Awaits.{seen_after, seen_step}
-use Rattle.sky_base.specs.declared.object.Object.{Object}
 use Rattle.sky_base.specs.Res.{visits, counted}
 use Rattle.sky_rows.specs.Walk as known
-use Rattle.sky_rows.specs.Walk.{Row, Seen, seen_one, look, number_of, from_digits, object_at, learn_to}
+use Rattle.sky_rows.specs.Walk.{Row, Seen, seen_one, look, learn_to}
 use Rattle.sky_rows.specs.Number.{index_of}
-use Rattle.sky_scope.specs.Plain.{Vars, Cutoff, Out, items, learned, learn_all, Ground, outputs_count, outputs_if, outputs_of, exec_seen, exec_ask, visit, visited, formed}
+use Rattle.sky_scope.specs.Plain.{Vars, Cutoff, Out, learned, learn_all, Ground, outputs_count, outputs_if, outputs_of, exec_seen, exec_ask, visit, visited, formed}
 use Rattle.sky_rows.specs.Walk.{Obj}
-use Rattle.sky_rows.specs.Known.{with_object, KeptOption, KeptObjects, KeptObject}
 use Rattle.sky_scope.proofs.OpLaw.{join_step, join_end}
 
 -- ---- references

@@ -1,7 +1,7 @@
 -- More fuel changes nothing that is seen, and adds to what is done.
 use Rattle.sky_base.specs.Val as v
 use Rattle.std.proofs.Common.{◌≡◌, ◌≢◌, ℕ, zero, suc, ◌+◌, List, [], ◌∷◌, ◌++◌, Option, Some, None, Result, Ok, Err, ◌⊎◌, inl, inr, refl, sym, ap, ap₂, ◌∙◌, subst, arith, Bool, true, false, nat_le}
-use Rattle.sky_base.specs.Val.{null, truth, num, text, list, dict, fun, ref, call, out, input, known, refs, depth, size}
+use Rattle.sky_base.specs.Val.{null, truth, num, text, list, dict, fun, ref, call, out, input, known, refs}
 use Rattle.sky_base.specs.Res.{Object, Res, Fin, Tell, Ask}
 use Rattle.sky_base.specs.Read.{joined, Outcome, no_fuel, Act, made, waited, Halt, refs_of, see_all, on_seen, acts_seen, halts_seen, outcome, acts, halt}
 use Rattle.sky_base.specs.See.{Val, Vals, Pairs, Desc, Obj, Job, Around, Gathered, not_yet, all, gather_on, gather_one, gather, as_bytes, as_value, executed_on, object_of, run_of, see, Answered, Turn, next_value, lone, turn_all, turn_refs, turn, on_turn, round, wave_on, turn_of, wave, job_answer, main_call, Means}

@@ -1,7 +1,7 @@
 -- Names in place of descriptions: what is done with the one is done with the other, whatever gives the names.
 use Rattle.std.specs.Prelude.{◌≡◌, ℕ, List, map}
 use Rattle.std.specs.Option.{option_map}
-use Rattle.sky_base.specs.Val.{refs, distinct, same_text, known}
+use Rattle.sky_base.specs.Val.{refs, distinct, same_text}
 use Rattle.sky_base.specs.Val as v
 use Rattle.sky_base.specs.Name.{low, low_vals, low_pairs, low_desc, name}
 use Rattle.sky_base.specs.Op.{Answer, Order, plus, minus, times, over, rest, compare, index, set_at, append}

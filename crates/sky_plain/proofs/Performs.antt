@@ -2,13 +2,13 @@
 use Rattle.std.proofs.Common.{◌≡◌, ◌<◌, ℕ, zero, suc, ◌+◌, List, [], ◌∷◌, length, map, Option, Some, Result, Ok, Err, slice_get, ◌⊎◌, inl, inr, refl, sym, ap, ap₂, subst, ◌∙◌}
 use Rattle.std.proofs.lemmas.List.{append-nil}
 use Rattle.sky_base.specs.Val as v
-use Rattle.sky_base.specs.Val.{null, truth, num, text, list, dict, fun, ref, no_vals, val, no_pairs, pair, call, out, input, known, refs, vals_refs, pairs_refs}
+use Rattle.sky_base.specs.Val.{null, truth, num, text, list, dict, fun, ref, no_vals, val, no_pairs, pair, call, out, input, known, refs}
 use Rattle.sky_base.specs.Name.{low, low_vals, low_pairs, low_desc}
 use Rattle.sky_base.specs.Res.{Object}
 use Rattle.sky_base.specs.Op.{Answer}
 use Rattle.sky_law.specs.Lower.{lower, low_ref, low_obj}
 use Rattle.sky_base.specs.See as m
-use Rattle.sky_base.specs.See.{Val, Vals, Desc, Obj, Job, Around, Gathered, gather, gather_on, gather_one, as_bytes, written, executed_on, replaced, vals_replaced, pairs_replaced, input_bytes, see, slot}
+use Rattle.sky_base.specs.See.{Val, Vals, Desc, Obj, Job, Around, Gathered, gather, gather_on, gather_one, as_bytes, written, executed_on, replaced, vals_replaced, pairs_replaced, input_bytes, see}
 use Rattle.sky_base.specs.Needed.{Task, task_of, distinct_refs}
 use Rattle.sky_law.specs.Tasks.{In}
 use Rattle.sky_law.proofs.RefsLow.{refs_low}

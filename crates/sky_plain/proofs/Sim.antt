@@ -10,7 +10,7 @@ use Rattle.sky_law.proofs.LowLaw.{Rel}
 use Rattle.sky_plain.specs.Stand.{spell, Sees}
 use Rattle.sky_rows.proofs.Learn.{Learned, learned_new}
 use Rattle.sky_rows.specs.Walk as w
-use Rattle.sky_rows.specs.Walk.{Row, is_held, Seen, seen_more, seen_one, Stop, Walked, stops, in_room, if_new, learn_to, most_rows, on_learned, look, walk}
+use Rattle.sky_rows.specs.Walk.{Row, is_held, Seen, seen_one, Stop, Walked, learn_to, on_learned, look, walk}
 
 module _ (job : Job) (around : Around) (tag : Row → List ℕ) (n : ℕ) where
   -- the run makes what is lowered to this

@@ -7,7 +7,7 @@ use Rattle.sky_base.specs.Op.{Answer}
 use Rattle.sky_base.specs.Res.{Object}
 use Rattle.sky_law.specs.Lower.{lower, low_ref}
 use Rattle.sky_base.specs.See as m
-use Rattle.sky_base.specs.See.{Val, Desc, Obj, Job, Around, Answered, Means, Turn, turn, on_turn, last_turn, round, wave, job_answer, main_call, see, slot}
+use Rattle.sky_base.specs.See.{Val, Desc, Job, Around, Answered, Means, Turn, turn, on_turn, last_turn, round, wave, job_answer, main_call, see, slot}
 use Rattle.sky_base.specs.Needed.{Task, wave_refs, unless_none, only_if, distinct_refs}
 use Rattle.sky_law.specs.Tasks.{In}
 use Rattle.sky_law.proofs.RefsLow.{refs_low}

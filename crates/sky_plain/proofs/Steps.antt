@@ -2,7 +2,7 @@
 use Rattle.std.proofs.Common.{◌≡◌, ◌≤◌, ◌<◌, ℕ, zero, suc, ◌+◌, List, [], ◌∷◌, ◌++◌, length, Option, Some, None, Result, Ok, Err, slice_get, ◌⊎◌, inl, inr, refl, sym, ap, subst, ◌∙◌, arith}
 use Rattle.std.proofs.lemmas.List.{length-append}
 use Rattle.sky_base.specs.Val as v
-use Rattle.sky_base.specs.Val.{Vals, Pairs, list, no_vals, no_pairs, call, out, input, known, ref, refs}
+use Rattle.sky_base.specs.Val.{Vals, Pairs, no_vals, no_pairs, call, out, input, known, refs}
 use Rattle.sky_base.specs.Name.{low, low_desc}
 use Rattle.sky_base.specs.Op.{Answer}
 use Rattle.sky_base.specs.Res.{Object}

@@ -1,7 +1,6 @@
 -- How far the result has come: the value at a wave, and how many waves are left before the one above 100.
 use Rattle.std.specs.Prelude.{◌≡◌, ℕ, List, Some}
 use Rattle.sky_base.specs.Val as v
-use Rattle.sky_base.specs.Val.{refs}
 use Rattle.sky_base.specs.Name.{low}
 use Rattle.sky_base.specs.See.{Val, Job, Around, wave, round, job_answer}
 use Rattle.sky_base.specs.Res.{Object}

@@ -1,6 +1,5 @@
 -- Functions are found at their places.
-use Rattle.std.proofs.Common.{◌≡◌, ◌≤◌, ◌<◌, ℕ, zero, suc, ◌+◌, List, [], ◌∷◌, ◌++◌, length, take, Bool, true, false, cond, is_some, Option, Some, None, slice_get, get_or, refl, sym, ap, subst, ◌∙◌, arith}
-use Rattle.std.specs.Option.{option_map}
+use Rattle.std.proofs.Common.{◌≡◌, ◌≤◌, ◌<◌, ℕ, zero, suc, ◌+◌, List, [], ◌∷◌, length, take, Bool, true, false, cond, is_some, Option, Some, None, slice_get, get_or, refl, sym, ap, ◌∙◌, arith}
 use Rattle.std.specs.Str.{bytes_eq}
 use Rattle.std.specs.BTreeMap.{BTreeMap}
 use Rattle.std.specs.Borrow.{Bor}
@@ -15,7 +14,7 @@ use Rattle.sky_base.specs.Tree as logic
 use Rattle.sky_base.specs.Eval.{find_fun, find_fun_if}
 use Rattle.sky_base.specs.ScriptView.{fun_view, funs_view}
 use Rattle.sky_base.specs.declared.script.FunDef.{FunDef}
-use Rattle.sky_scope.specs.FunPlace.{place_if, fun_place, place_at, or_here, FindsEach}
+use Rattle.sky_scope.specs.FunPlace.{place_if, fun_place, place_at, or_here}
 
 -- ---- one more function
 

@@ -2,7 +2,7 @@
 -- without the numbers of nodes, and with the number of a description in each reference to it.
 use Rattle.std.specs.Prelude.{ℕ, zero, suc, List, [], ◌∷◌, length, reverse, Bool, true, false, ◌&&◌, Option, Some, None, Ok, Err, nat_eq, nat_lt, pos, negsuc}
 use Rattle.sky_base.specs.Val as logic
-use Rattle.sky_base.specs.Val.{Desc, null, truth, num, text, list, fun, ref, no_vals, val, no_pairs, add_val, call, out, input, known, count, refs_to}
+use Rattle.sky_base.specs.Val.{null, truth, num, text, list, fun, ref, no_vals, val, no_pairs, add_val, call, input, known, count, refs_to}
 use Rattle.sky_base.specs.Op as op
 use Rattle.sky_base.specs.Op.{limited, find, put, negated, opposite, len, keys, has, range, grown, dict_from}
 use Rattle.sky_base.specs.Tree.{Place, nowhere, Junction, Sign, SignAt, Form, Exp, Exps, Links, Ands, Steps, Stm, Stms, Arms, Else, FunDef, Script}

@@ -56,6 +56,22 @@ impl State {
         }
     }
 
+    /// These variables, after so many visits.
+    pub fn of(vars: Pairs, count: u32) -> State
+        requires { KeptPairs vars }
+        ensures { result ≡ record { vars = vars; count = count } }
+    {
+        State { vars, count }
+    }
+
+    /// The variables.
+    pub fn vars(&self) -> &Pairs
+        ensures variables { result.now ≡ self.now.vars }
+        ensures kept { KeptPairs result.now }
+    {
+        &self.vars
+    }
+
     /// How many nodes the task has visited.
     pub fn count(&self) -> u32
         ensures { result ≡ self.now.count }

@@ -7,7 +7,7 @@ use Rattle.sky_base.specs.Read.{Todo, Frame, Run}
 use Rattle.sky_law.specs.Sound.{Sound}
 use Rattle.sky_law.specs.Tasks.{In}
 use Rattle.sky_law.proofs.Rows.{at, n, t, b, name, block, form, op, with_fun, star, squares_row, waiting_exec_row}
-use Rattle.sky_state.specs.Table.{Row, part, pending, turn, outputs, open_call, no_step, row, IsWaiting, IsStep}
+use Rattle.sky_state.specs.Table.{part, pending, no_step, IsWaiting}
 use Rattle.sky_state.specs.Table as table
 use Rattle.sky_state.specs.Fits.{row_of, FitsFrame, FitsRun, IsStart, Last, Fits}
 use Rattle.sky_state.specs.Stand.{Stand}

@@ -3,7 +3,7 @@ use Rattle.std.proofs.Common.{◌≡◌, ℕ, zero, suc, inl, inr, Bool, true, f
 use Rattle.std.specs.Option.{option_map}
 use Rattle.std.proofs.lemmas.List.{map-append}
 use Rattle.sky_base.specs.Val as v
-use Rattle.sky_base.specs.Val.{call, out, input, known, refs, vals_refs, pairs_refs, refs_to, same_text, stands_in, unless_in, distinct_from, distinct, no_pairs}
+use Rattle.sky_base.specs.Val.{call, out, input, known, refs, vals_refs, pairs_refs, refs_to, same_text, stands_in, unless_in, distinct_from, distinct}
 use Rattle.sky_base.specs.Name.{low}
 use Rattle.sky_base.specs.Tree.{nowhere}
 use Rattle.sky_base.specs.Res.{others, Entry, Wait, one_of, all_of, kept_of, opens}

@@ -11,7 +11,7 @@ use Rattle.sky_law.specs.Nodes.{node_at}
 use Rattle.sky_law.specs.Tasks.{In}
 use Rattle.sky_law.proofs.NodesLaw.{has_script}
 use Rattle.sky_law.specs.Sound.{IsFun}
-use Rattle.sky_state.specs.Table.{Row, part, pending, turn, open_call, no_step, on_by, past_part, past_link, past_and, past_arm, past_stm, past_sign, Spot, in_index, in_call, spot_of, past_spot, part_row, link_row, and_row, sign_row, spot_row, exp_row, arm_row, arm_blocks, else_block, stm_row, stm_places, ran_row, block_row, row}
+use Rattle.sky_state.specs.Table.{Row, part, pending, turn, open_call, on_by, past_part, past_link, past_and, past_arm, past_stm, past_sign, Spot, in_index, in_call, spot_of, past_spot, part_row, link_row, and_row, sign_row, spot_row, exp_row, arm_row, arm_blocks, else_block, stm_row, stm_places, ran_row, block_row, row}
 use Rattle.sky_state.specs.Table as table
 use Rattle.sky_state.specs.Fits.{AllReferences}
 use Rattle.sky_state.specs.Chained.{body_places, row_at, KeptBy, Above, Chained}

@@ -1,11 +1,10 @@
 -- The first input and those behind it.
-use Rattle.std.proofs.Common.{◌≡◌, ◌≤◌, ℕ, List, [], ◌∷◌, Result, Err, IfErr, map, sym, ap, subst, ◌∙◌}
-use Rattle.sky_base.specs.declared.text.Txt.{Txt}
+use Rattle.std.proofs.Common.{◌≡◌, ℕ, List, ◌∷◌, Err, IfErr, map, sym, subst}
 use Rattle.ciel_io.specs.Faults.{HasRisen}
-use Rattle.ciel_io.specs.Tells.{Tells, TellsPart}
+use Rattle.ciel_io.specs.Tells.{TellsPart}
 use Rattle.ciel_run.specs.Words.{path_in, input_in}
 use Rattle.ciel_run.specs.Source.{Input}
-use Rattle.ciel_run.specs.Reading.{ReadSo, UnreadOf, AsksEach}
+use Rattle.ciel_run.specs.Reading.{UnreadOf, AsksEach}
 use Rattle.ciel_run.proofs.Taken.{asks_first, asks_more, results_later, risen_before}
 use Rattle.ciel_run.proofs.inputs.+read_on.Goals as goal
 

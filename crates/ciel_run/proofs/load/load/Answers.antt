@@ -1,14 +1,12 @@
 -- What was read is the job that the words name, or tells why there is none.
-use Rattle.std.proofs.Common.{◌≡◌, ◌≤◌, ℕ, List, [], ◌∷◌, Option, Result, Ok, Err, IfSome, map, length, sym, ap, subst, ◌∙◌}
-use Rattle.sky_base.specs.JobView.{job_view}
-use Rattle.sky_base.specs.Tree.{Script}
+use Rattle.std.proofs.Common.{◌≡◌, ℕ, List, [], ◌∷◌, Option, Err, IfSome, map, sym, subst}
 use Rattle.ciel_io.specs.Faults.{HasRisen}
-use Rattle.ciel_io.specs.Tells.{Tells, TellsPart}
-use Rattle.ciel_run.specs.Words.{line_of, line_with, input_in, path_in, paths}
+use Rattle.ciel_io.specs.Tells.{Tells}
+use Rattle.ciel_run.specs.Words.{line_of, input_in, paths}
 use Rattle.ciel_run.specs.Source.{Input, IsScript}
 use Rattle.ciel_run.specs.Found.{limit}
 use Rattle.ciel_run.specs.Reading.{ReadAll, UnreadSo, UnreadOf, AsksEach}
-use Rattle.ciel_run.specs.Loading.{unread, IsLoaded, NotLoaded, AsksJob}
+use Rattle.ciel_run.specs.Loading.{unread, NotLoaded, AsksJob}
 use Rattle.ciel_run.specs.declared.load.NoJob.{NoJob}
 use Rattle.ciel_run.proofs.Taken.{risen_before}
 use Rattle.ciel_run.proofs.Loaded.{loaded, script_unread, input_unread, script_part, all_asked, input_asked, script_asked}

@@ -1,5 +1,5 @@
 -- What was put is the answer of the job that was loaded, and each other end has its cause.
-use Rattle.std.proofs.Common.{◌≡◌, ℕ, List, refl, subst}
+use Rattle.std.proofs.Common.{ℕ, List, refl, subst}
 use Rattle.sky_base.specs.See.{Answered}
 use Rattle.ciel_io.specs.Tells.{Tells, TellsPart}
 use Rattle.ciel_run.specs.Words.{line_of, paths}

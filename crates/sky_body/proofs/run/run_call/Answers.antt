@@ -1,4 +1,4 @@
-use Rattle.std.proofs.Common.{◌≡◌, ◌≢◌, ◌∙◌, Ok, Err, ap}
+use Rattle.std.proofs.Common.{◌∙◌, Ok, Err, ap}
 use Rattle.sky_base.specs.View.{view}
 use Rattle.sky_rows.specs.Data.{data_of}
 use Rattle.sky_scope.specs.declared.cut.Cut.{Cut}

@@ -1,17 +1,12 @@
-use Rattle.std.proofs.Common.{nat_lt, ◌≡◌, ◌+◌, ◌∙◌, drop, ap, arith, sym, rules, ◌<◌, ◌≤◌, ◌-◌, suc, true, false, List}
-use Rattle.sky_base.specs.Val.{add_val}
+use Rattle.std.proofs.Common.{◌≡◌, ◌+◌, ◌∙◌, ap, arith, sym, rules, ◌<◌, ◌-◌, suc, true, false}
 use Rattle.sky_base.specs.View.{view}
-use Rattle.sky_base.specs.TreeView.{order_view, exps_view, links_view, at, arith_view, steps_view, exp_view}
+use Rattle.sky_base.specs.TreeView.{at, exp_view}
 use Rattle.sky_forms.specs.GroundView.{ground_of}
-use Rattle.sky_scope.specs.Plain.{values, on_got, body_at, links, Out, visit, answer, steps, on_listed, visited, opened, Val, Vars, exp, stms, turns, decide, on_goes, repeats}
-use Rattle.sky_expr.proofs.Weights.{exps_at, kept_add, links_at}
-use Rattle.sky_expr.proofs.Flow.{links_first, comes_on, steps_first, steps_at, comes_err, comes_got, turns_start, turns_next, turns_over, most_turns, decide_on, decide_off, flows_err, flows_returned, flows_goes, repeats_start, repeats_next, repeats_over, parts_are, one_is, two_are, chain_is, name_given}
-use Rattle.sky_base.specs.Eval.{oper}
-use Rattle.sky_base.specs.Res.{counted, visits}
-use Rattle.sky_rows.specs.Walk.{Row}
-use Rattle.sky_base.specs.Tree.{Form, Oper}
+use Rattle.sky_scope.specs.Plain.{on_got, body_at, Out, visit, answer, exp, stms, turns, decide, on_goes, repeats}
+use Rattle.sky_expr.proofs.Flow.{turns_start, turns_next, turns_over, most_turns, decide_on, decide_off, flows_err, flows_returned, flows_goes, repeats_start, repeats_next, repeats_over}
+use Rattle.sky_base.specs.Res.{visits}
 use Rattle.sky_base.specs.Op as op
-use Rattle.sky_base.specs.StmtView.{arms_view, else_view}
+use Rattle.sky_base.specs.StmtView.{else_view}
 use Rattle.sky_scope.specs.Plain.{arms, other, each_of}
 use Rattle.sky_expr.proofs.Flow.{flows_on, visited_goes}
 use Rattle.sky_body.proofs.stmt.+stms.Goals as goal

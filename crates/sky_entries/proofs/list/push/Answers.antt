@@ -1,4 +1,4 @@
-use Rattle.std.proofs.Common.{◌≡◌, ◌++◌, ◌∷◌, [], List, sym, ap, ◌∙◌, subst}
+use Rattle.std.proofs.Common.{◌++◌, ◌∷◌, [], List, sym, ap, ◌∙◌, subst}
 use Rattle.sky_entries.specs.Config.{opened, room, rest_in}
 use Rattle.sky_entries.specs.Entries.{forms}
 use Rattle.sky_entries.specs.Ready.{AllReady}

@@ -1,13 +1,11 @@
-use Rattle.std.proofs.Common.{◌≡◌, ◌≤◌, ◌+◌, ◌*◌, ◌-◌, suc, drop}
+use Rattle.std.proofs.Common.{◌≡◌, ◌+◌, ◌*◌, ◌-◌, drop}
 use Rattle.sky_base.specs.Kept.{Kept}
 use Rattle.sky_base.specs.Val.{no_vals}
-use Rattle.sky_base.specs.View.{view, vals_of}
-use Rattle.sky_base.specs.Tree.{nodes, exps_nodes, links_nodes, ands_nodes, steps_nodes, stm_nodes, block_nodes, arms_nodes, else_nodes, script_nodes}
+use Rattle.sky_base.specs.View.{view}
+use Rattle.sky_base.specs.Tree.{nodes, exps_nodes, links_nodes, ands_nodes, steps_nodes}
 use Rattle.sky_base.specs.TreeView.{at, exp_view, exps_view, links_view, ands_view, steps_view, step_nodes}
-use Rattle.sky_base.specs.StmtView.{stm_view, stms_view, return_view, arms_view, else_view}
-use Rattle.sky_base.specs.Res.{visits}
 use Rattle.sky_forms.specs.GroundView.{ground_of}
-use Rattle.sky_scope.specs.Plain.{exp, values, links, ands, steps, stms, arms, other, turns, repeats, each, body_at}
+use Rattle.sky_scope.specs.Plain.{values, links, ands, steps, body_at}
 use Rattle.sky_scope.specs.RunView.{KeptVals, junction}
 use Rattle.sky_expr.proofs.expr.+exp.Given as goal
 

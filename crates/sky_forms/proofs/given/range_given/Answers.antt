@@ -1,8 +1,6 @@
-use Rattle.sky_base.specs.Val.{list, no_pairs}
 use Rattle.sky_base.specs.View.{view}
 use Rattle.sky_base.specs.Op as op
 use Rattle.sky_base.specs.Eval as run
-use Rattle.sky_base.specs.TreeView.{lit_view, order_view}
 use Rattle.sky_scope.specs.Plain as plain
 use Rattle.sky_forms.proofs.given.range_given.Goals as goal
 

@@ -1,4 +1,4 @@
-use Rattle.std.proofs.Common.{rules, ◌≡◌, ◌∙◌, ◌+ℤ◌, pos}
+use Rattle.std.proofs.Common.{rules, ◌∙◌, ◌+ℤ◌, pos}
 use Rattle.std.specs.Int.Signed.{◌<ℤ◌, lt_z, lt_z_yes}
 use Rattle.std.proofs.lemmas.Int.{to_z-of_z}
 use Rattle.std.proofs.lemmas.Float.{T_from_true}

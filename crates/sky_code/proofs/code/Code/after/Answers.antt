@@ -1,4 +1,4 @@
-use Rattle.std.proofs.Common.{slice_index, sym, ap, ◌∙◌}
+use Rattle.std.proofs.Common.{slice_index, ap, ◌∙◌}
 use Rattle.sky_code.specs.Numbers.{ends_of}
 use Rattle.sky_code.proofs.Bodies.{end_at}
 use Rattle.sky_code.proofs.code.Code.after.Goals as goal

@@ -1,9 +1,8 @@
-use Rattle.std.proofs.Common.{◌≡◌, ◌≢◌, [], Some, None, sym, ap, ◌∙◌, slice_index, arith, ltb-false, length, rules}
+use Rattle.std.proofs.Common.{◌≡◌, ◌≢◌, [], Some, sym, ap, ◌∙◌, slice_index, arith, ltb-false, length, rules}
 use Rattle.sky_base.specs.Eval.{find_fun, body_of}
-use Rattle.sky_base.specs.ScriptView.{funs_view, fun_view}
+use Rattle.sky_base.specs.ScriptView.{fun_view}
 use Rattle.sky_scope.specs.FunPlace.{fun_place}
 use Rattle.sky_scope.proofs.FunPlaces.{found_at, found_within}
-use Rattle.sky_code.specs.Numbers.{starts_of}
 use Rattle.sky_code.proofs.Bodies.{body_none, body_some}
 use Rattle.sky_code.proofs.code.Code.body.Goals as goal
 

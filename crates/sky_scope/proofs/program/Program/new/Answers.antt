@@ -1,4 +1,4 @@
-use Rattle.std.proofs.Common.{◌≡◌, take, sym, ap, ◌∙◌}
+use Rattle.std.proofs.Common.{take, sym, ap, ◌∙◌}
 use Rattle.sky_base.specs.Val.{same_text}
 use Rattle.sky_base.specs.ScriptView.{funs_view}
 use Rattle.sky_scope.specs.FunPlace.{fun_place, or_here}

@@ -1,0 +1,5 @@
+use Rattle.ciel_want.proofs.Naming.{named_whole}
+use Rattle.ciel_want.proofs.law.named_is_whole.Goals as goal
+
+pub returns : goal.returns
+returns g c = record { whole = λ main t named. named_whole main t named }

@@ -1,0 +1,4 @@
+pub mod Waited
+pub mod Marked
+pub mod Board
+pub mod History

@@ -1,0 +1,109 @@
+//! What is wanted, what can run, and circles.
+
+ghost use Rattle.std.specs.Prelude.{◌≡◌, [], IfNone, IfOk, IfSome};
+ghost use Rattle.std.specs.List.{IsDistinct};
+ghost use Rattle.sky_base.specs.Val.{same_text};
+ghost use Rattle.sky_base.specs.declared.object.TaskId.{TaskId};
+ghost use Rattle.ciel_journal.specs.Graph.{Circle, Led, Picks, Runnable};
+ghost use Rattle.ciel_want.specs.Board.{HasRow, Outs, can_run_test};
+ghost use Rattle.ciel_want.specs.Waited.{Whole, graph, tasks_in_order};
+
+use crate::flags::Out;
+use crate::follow::follow;
+use crate::needs::{blockers, task_row};
+use crate::order::{add, in_order};
+use crate::search::reached;
+use ciel_table::table::Table;
+use sky_base::at::At;
+use sky_base::name::Name;
+use sky_base::names::Names;
+use sky_base::object::TaskId;
+use sky_base::text::Memory;
+use std::alloc::Global;
+
+/// The wanted tasks: those that are reached backward from the root task through what each waits for and isn't live. They
+/// stand in the order of their least rows, the root task last.
+///
+/// Answers `Memory` for want of memory.
+pub fn wanted<P: At + Drop>(
+    alloc: Global,
+    table: &Table<P>,
+    main: &Name,
+) -> Result<Vec<TaskId>, Memory>
+    requires whole { Whole main.now table.now }
+    ensures wanted { IfOk result (λ ts. Picks (Led (graph main.now table.now [])) (tasks_in_order table.now) ts.items) }
+{
+    let out = Out::of(alloc, table, &[])?;
+    let flags = reached(alloc, table, main, &out)?;
+    let tasks = in_order(alloc, table, flags)?;
+    Ok(tasks)
+}
+
+/// The tasks that can run: reached, where a task that is out isn't searched through; not out; and all that they wait for is
+/// live. They stand in the same order.
+///
+/// Answers `Memory` for want of memory.
+pub fn runnable<P: At + Drop>(
+    alloc: Global,
+    table: &Table<P>,
+    main: &Name,
+    out: &[TaskId],
+) -> Result<Vec<TaskId>, Memory>
+    requires whole { Whole main.now table.now }
+    ensures runnable { IfOk result (λ ts. Picks (Runnable (graph main.now table.now out.now)) (tasks_in_order table.now) ts.items) }
+{
+    let out = Out::of(alloc, table, out)?;
+    let flags = reached(alloc, table, main, &out)?;
+    let tasks = in_order(alloc, table, flags)?;
+    let mut ready = Vec::new(alloc);
+    for i in 0..tasks.len() {
+        if can_run(alloc, table, main, &out, &tasks[i])? {
+            add(&mut ready, tasks[i])?;
+        }
+    }
+    Ok(ready)
+}
+
+/// Whether a task isn't out and all that it waits for is live.
+fn can_run<P: At + Drop>(
+    alloc: Global,
+    table: &Table<P>,
+    main: &Name,
+    out: &Out<'_>,
+    task: &TaskId,
+) -> Result<bool, Memory>
+    requires out { Outs table.now out.now.tasks.now out.now.rows.items out.now.show }
+    requires row { HasRow table.now task.now }
+    ensures { IfOk result (λ b. b ≡ can_run_test main.now table.now out.now.tasks.now task.now) }
+{
+    let row = task_row(table, task);
+    if out.has(table, row) {
+        return Ok(false);
+    }
+    let rows = blockers(alloc, table, main, task)?;
+    Ok(rows.is_empty())
+}
+
+/// A circle of waits, where nothing is out: distinct names that aren't live, the task of each of which is wanted and waits
+/// for the next one, and the last one's for the first. `None` exactly where a wanted task can run: elsewhere there is a
+/// circle.
+///
+/// Answers `Memory` for want of memory.
+pub fn circle<P: At + Drop>(
+    alloc: Global,
+    table: &Table<P>,
+    main: &Name,
+) -> Result<Option<Names>, Memory>
+    requires whole { Whole main.now table.now }
+    ensures circle { IfOk result (λ o. IfSome o (λ ns. Circle (graph main.now table.now []) ns)) }
+    ensures distinct { IfOk result (λ o. IfSome o (λ ns. IsDistinct same_text ns)) }
+    ensures stuck { IfOk result (λ o. IfSome o (λ _. (task : TaskId) → Runnable (graph main.now table.now []) task → ⊥)) }
+    ensures none { IfOk result (λ o. IfNone o ((task : TaskId) × Runnable (graph main.now table.now []) task)) }
+{
+    let ready = runnable(alloc, table, main, &[])?;
+    if ready.is_empty() {
+        let names = follow(alloc, table, main)?;
+        return Ok(names);
+    }
+    Ok(None)
+}
