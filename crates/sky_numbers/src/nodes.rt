@@ -1,8 +1,9 @@
 // The nodes of a script by their numbers.
 
-ghost use Rattle.std.specs.Prelude.{◌≡◌, Some, None, MatchOption};
+ghost use Rattle.std.specs.Prelude.{◌≡◌, Some, None, MatchOption, IfSome};
 ghost use Rattle.sky_law.specs.Nodes.{pre_script, node_at};
 ghost use Rattle.sky_numbers.specs.Filled.{node_view, nodes_view};
+ghost use Rattle.sky_numbers.specs.Standing.{HasNode};
 
 use crate::node::NodeRef;
 use sky_base::script::Script;
@@ -40,9 +41,10 @@ impl<'a> Nodes<'a> {
         Nodes { script, items }
     }
 
-    /// The node of this number, if there is one.
+    /// The node of this number, if there is one; all that is in it stands at the numbers that follow.
     pub fn at(&self, number: u32) -> Option<NodeRef<'a>>
-        ensures { MatchOption result (node_at self.now number ≡ None) (λ r. node_at self.now number ≡ Some (node_view r)) }
+        ensures node { MatchOption result (node_at self.now number ≡ None) (λ r. node_at self.now number ≡ Some (node_view r)) }
+        ensures whole { IfSome result (λ r. HasNode (λ i. node_at self.now i) (node_view r) number) }
     {
         match self.items.get(number as usize) {
             Some(node) => Some(*node),
