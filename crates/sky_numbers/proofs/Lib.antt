@@ -1,2 +1,4 @@
 pub mod Counts
 pub mod Tables
+pub mod Places
+pub mod Inside

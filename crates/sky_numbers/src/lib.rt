@@ -1,7 +1,10 @@
-// The numbers of a script's nodes, counted once for a script: where each node ends, and where the functions' blocks stand.
+// The numbers of a script's nodes, counted once for a script: where each node ends, where the functions' blocks stand, and
+// which node has a number.
 #![tactic(auto)]
 
 pub mod code;
 mod exprs;
+pub mod node;
+pub mod nodes;
 mod stmts;
 mod table;
