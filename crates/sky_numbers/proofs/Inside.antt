@@ -1,7 +1,7 @@
 -- At each number of a script stands a node with all that is in it.
-use Rattle.std.proofs.Common.{◌≡◌, ◌<◌, ◌≤◌, ◌+◌, ◌⊎◌, inl, inr, ℕ, zero, suc, List, [], ◌∷◌, length, Option, Some, None, slice_get, refl, sym, ap, ◌∙◌, subst, arith}
+use Rattle.std.proofs.Common.{◌≡◌, ◌<◌, ◌≤◌, ◌+◌, ◌⊎◌, inl, inr, ℕ, zero, suc, List, [], ◌∷◌, length, Option, Some, slice_get, refl, sym, ap, ◌∙◌, subst, arith}
 use Rattle.sky_base.specs.Tree.{Exp, Exps, Links, Ands, Steps, Stm, Stms, Arms, Else, FunDef, Script, nodes, exps_nodes, links_nodes, ands_nodes, steps_nodes, stm_nodes, stms_nodes, arms_nodes, else_nodes, block_nodes, funs_nodes, script_nodes}
-use Rattle.sky_law.specs.Opened.{Node, exp_node, stm_node, block_node, HasExp, HasExps, HasLinks, HasAnds, HasSteps, HasStm, HasStms, HasArms, HasElse, HasFuns, HasScript}
+use Rattle.sky_law.specs.Opened.{Node, exp_node, stm_node, block_node, HasExp, HasExps, HasLinks, HasAnds, HasSteps, HasStm, HasStms, HasArms, HasElse, HasFuns}
 use Rattle.sky_law.specs.Nodes.{pre_script, node_at}
 use Rattle.sky_law.proofs.NodesLaw.{has_script}
 use Rattle.sky_numbers.specs.Standing.{HasNode}
