@@ -27,6 +27,7 @@ pub mod Walking
 pub mod IdleLaw
 pub mod DueLaw
 pub mod ThreeLaw
+pub mod Splits
 pub mod BookKnown
 pub mod Startable
 pub mod SmallKnown

@@ -4,7 +4,7 @@ use Rattle.std.specs.List.{list_any}
 use Rattle.ciel_journal.specs.Job.{Task, show, of, Job, In, Each, IsJob}
 use Rattle.ciel_journal.specs.History.{Event, start, Order, Plan, Save, Standing, after, after_all, before_all, last, live, needs, needs_of, standing, last_save}
 use Rattle.ciel_journal.specs.Lawful.{Lawful, LawfulFrom, NoClash, Step, own_name}
-use Rattle.ciel_journal.specs.Known.{Inner, Knows}
+use Rattle.ciel_journal.specs.Known.{Begins, Inner, Knows, TellsTo}
 use Rattle.ciel_journal.specs.Graph.{root, through}
 use Rattle.ciel_journal.specs.Turns.{CircleAtRest, IsReadyList, Reached, Ready, busy, idle, idle_from, is_first, is_idle, tasks_of}
 use Rattle.ciel_journal.proofs.Picked.{picks_in}
@@ -37,6 +37,10 @@ module _ {D : Type 0} (job : Job D) (laws : IsJob job) (inner : Inner D) (knows 
     own_booked d (of x) i e =
         each_of (λ y. In y v.book) x (job.outputs (of x)) (laws.made_by x (of x) (laws.own x d e)) (outputs_booked d (of x) i e)
 
+    -- before its wait 0 a task saw nothing and made nothing
+    nothing_yet : (t : Task D) → Begins job inner v.book t → TellsTo job inner v.book t 0
+    nothing_yet t b = record { begins = b; reads = λ k ds d e m l w i c. absurd (omega (arith, l)); makes = λ m l. tt }
+
     needs_booked : (t : Task D) → In (own_name job t) v.book → (d : D) → In d (needs job v t) → In d v.book
     needs_booked t own d i = pick (last_cases job laws inner knows t v.saves)
       where
@@ -44,7 +48,7 @@ module _ {D : Type 0} (job : Job D) (laws : IsJob job) (inner : Inner D) (knows 
         at_first show o j =
             each_of (λ y. In y v.book) d (job.main ∷ []) (subst (In d) laws.first_show j) (inf.shelved.main, tt)
         at_first (of x) o j =
-            each_of (λ y. In y v.book) d (inner.inside x) (knows.start_waits d x j) (inf.whole x o).0
+            each_of (λ y. In y v.book) d (job.first (of x)) j (knows.waits_told v.book (of x) 0 (job.first (of x)) (nothing_yet (of x) (inf.whole x o).0) refl)
 
         pick : ((last_save job t v.saves ≡ None) ⊎ ((s : Save D) × In s v.saves × (s.task ≡ t) × (last_save job t v.saves ≡ Some s))) → In d v.book
         pick (inl n) = at_first t own (subst (λ o. In d (needs_of job t o)) n i)
