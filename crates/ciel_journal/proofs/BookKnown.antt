@@ -17,6 +17,20 @@ use Rattle.ciel_journal.proofs.Text.{Has, filter_has, placed_cases}
 use Rattle.ciel_journal.proofs.Splits.{get_short, made_split, before_split, later_part, part_before}
 use Rattle.ciel_journal.proofs.Unique.{spawned_end_unique, spawned_to_unique}
 
+module _ {D : Type 0} (job : Job D) (laws : IsJob job) where
+  pub learned_has : (book ds : List D) (d : D) → In d ds → In d (learned job book ds)
+  learned_has book [] d i = absurd i
+  learned_has book (e ∷ es) d (inl s) =
+      learned_in job laws (cond (list_any (job.same e) book) book (book ++ e ∷ [])) es d (subst (λ x. In x (cond (list_any (job.same e) book) book (book ++ e ∷ []))) (sym s) (any_in job.same laws.same_exact e (cond (list_any (job.same e) book) book (book ++ e ∷ [])) (one_has job laws book e)))
+  learned_has book (e ∷ es) d (inr i) = learned_has (cond (list_any (job.same e) book) book (book ++ e ∷ [])) es d i
+
+  pub learned_from : (book ds : List D) (d : D) → In d (learned job book ds) → In d book ⊎ In d ds
+  learned_from book ds d i = pick (learned_cases job laws book ds d (in_any job.same laws.same_refl d (learned job book ds) i))
+    where
+      pick : ((list_any (job.same d) book ≡ true) ⊎ In d ds) → In d book ⊎ In d ds
+      pick (inl h) = inl (any_in job.same laws.same_exact d book h)
+      pick (inr j) = inr j
+
 module _ {D : Type 0} (job : Job D) (laws : IsJob job) (inner : Inner D) (knows : Knows job inner) where
   pub record OrderKnown (S : List D) (o : Order D) : Type 0 where
     pub told : TellsTo job inner S o.task o.from
@@ -64,19 +78,6 @@ module _ {D : Type 0} (job : Job D) (laws : IsJob job) (inner : Inner D) (knows 
   save_more : (S T : List D) → Grows S T → (s : Save D) → SaveKnown S s → SaveKnown T s
   save_more S T g s k =
       record { refs = each_more (λ d. In d S) (λ d. In d T) g s.refs k.refs; told = tells_more S T g s.task s.j k.told }
-
-  learned_has : (book ds : List D) (d : D) → In d ds → In d (learned job book ds)
-  learned_has book [] d i = absurd i
-  learned_has book (e ∷ es) d (inl s) =
-      learned_in job laws (cond (list_any (job.same e) book) book (book ++ e ∷ [])) es d (subst (λ x. In x (cond (list_any (job.same e) book) book (book ++ e ∷ []))) (sym s) (any_in job.same laws.same_exact e (cond (list_any (job.same e) book) book (book ++ e ∷ [])) (one_has job laws book e)))
-  learned_has book (e ∷ es) d (inr i) = learned_has (cond (list_any (job.same e) book) book (book ++ e ∷ [])) es d i
-
-  learned_from : (book ds : List D) (d : D) → In d (learned job book ds) → In d book ⊎ In d ds
-  learned_from book ds d i = pick (learned_cases job laws book ds d (in_any job.same laws.same_refl d (learned job book ds) i))
-    where
-      pick : ((list_any (job.same d) book ≡ true) ⊎ In d ds) → In d book ⊎ In d ds
-      pick (inl h) = inl (any_in job.same laws.same_exact d book h)
-      pick (inr j) = inr j
 
   -- ---- what an order brings along
 
@@ -231,7 +232,7 @@ module _ {D : Type 0} (job : Job D) (laws : IsJob job) (inner : Inner D) (knows 
 
       tells : TellsToEnd job inner (learned job v.book spawned) step.allowed.0.task
       tells =
-          tells_end (learned job v.book spawned) step.allowed.0 spawned known step.allowed.2.next step.allowed.2.spawns (each_all (λ d. In d (learned job v.book spawned)) spawned (learned_has v.book spawned))
+          tells_end (learned job v.book spawned) step.allowed.0 spawned known step.allowed.2.next step.allowed.2.spawns (each_all (λ d. In d (learned job v.book spawned)) spawned (learned_has job laws v.book spawned))
 
       new : Each (Whole job inner (learned job v.book spawned)) spawned
       new =
@@ -240,7 +241,7 @@ module _ {D : Type 0} (job : Job D) (laws : IsJob job) (inner : Inner D) (knows 
           (knows.end_told (learned job v.book spawned) step.allowed.0.task s.0 tells s.1)
 
       whole : (d : D) → In d (learned job v.book spawned) → Whole job inner (learned job v.book spawned) d
-      whole d i = pick (learned_from v.book spawned d i)
+      whole d i = pick (learned_from job laws v.book spawned d i)
         where
           pick : (In d v.book ⊎ In d spawned) → Whole job inner (learned job v.book spawned) d
           pick (inl j) = whole_more v.book (learned job v.book spawned) grow d (inf.whole d j)
@@ -285,7 +286,7 @@ module _ {D : Type 0} (job : Job D) (laws : IsJob job) (inner : Inner D) (knows 
 
       tells : TellsTo job inner (learned job v.book spawned) step.allowed.0.task j
       tells =
-          tells_to (learned job v.book spawned) step.allowed.0 j refs spawned known step.allowed.2.next step.allowed.2.spawns (each_all (λ d. In d (learned job v.book spawned)) spawned (learned_has v.book spawned))
+          tells_to (learned job v.book spawned) step.allowed.0 j refs spawned known step.allowed.2.next step.allowed.2.spawns (each_all (λ d. In d (learned job v.book spawned)) spawned (learned_has job laws v.book spawned))
 
       new : Each (Whole job inner (learned job v.book spawned)) spawned
       new =
@@ -295,7 +296,7 @@ module _ {D : Type 0} (job : Job D) (laws : IsJob job) (inner : Inner D) (knows 
           (knows.made_told (learned job v.book spawned) step.allowed.0.task j s.0 tells s.1)
 
       whole : (d : D) → In d (learned job v.book spawned) → Whole job inner (learned job v.book spawned) d
-      whole d i = pick (learned_from v.book spawned d i)
+      whole d i = pick (learned_from job laws v.book spawned d i)
         where
           pick : (In d v.book ⊎ In d spawned) → Whole job inner (learned job v.book spawned) d
           pick (inl q) = whole_more v.book (learned job v.book spawned) grow d (inf.whole d q)

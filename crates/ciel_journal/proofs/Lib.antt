@@ -29,6 +29,7 @@ pub mod DueLaw
 pub mod ThreeLaw
 pub mod Splits
 pub mod BookKnown
+pub mod Traced
 pub mod Startable
 pub mod SmallKnown
 pub mod Picked

@@ -8,17 +8,10 @@ use Rattle.ciel_journal.specs.Fixed as f
 use Rattle.ciel_journal.proofs.Circle.{waits_join}
 use Rattle.ciel_journal.proofs.Members.{each_of}
 use Rattle.ciel_journal.proofs.Near.{each_all}
-use Rattle.ciel_journal.proofs.Splits.{get_short}
+use Rattle.ciel_journal.proofs.Splits.{before_in, get_short}
 use Rattle.ciel_journal.proofs.SmallBroken.{acts_prefix, script_wait, one_of}
 
 module _ {D : Type 0} where
-  before_in : (a : ℕ) (es : List (Act D)) (d : D) → In d (made_before a es) → In d (made_in es)
-  before_in zero es d i = absurd i
-  before_in (suc a) [] d i = absurd i
-  before_in (suc a) (made x ∷ es) d (inl s) = inl s
-  before_in (suc a) (made x ∷ es) d (inr i) = inr (before_in (suc a) es d i)
-  before_in (suc a) (wait ds ∷ es) d i = before_in a es d i
-
   made_join : (xs ys : List (Act D)) (d : D) → In d (made_in xs) → In d (made_in (xs ++ ys))
   made_join [] ys d i = absurd i
   made_join (made x ∷ xs) ys d (inl s) = inl s

@@ -1,6 +1,6 @@
 -- What is made, cut at waits.
-use Rattle.std.proofs.Common.{◌≡◌, ℕ, zero, suc, ◌-◌, ◌≤◌, List, [], ◌∷◌, ◌++◌, length, Some, refl, ap, sym, ◌∙◌, subst, arith, slice_get}
-use Rattle.ciel_journal.specs.Job.{Act, made, wait, Each, after_wait, made_before, made_in}
+use Rattle.std.proofs.Common.{◌≡◌, ℕ, zero, suc, ◌-◌, ◌≤◌, List, [], ◌∷◌, ◌++◌, length, Some, inl, inr, refl, ap, sym, ◌∙◌, subst, arith, slice_get}
+use Rattle.ciel_journal.specs.Job.{Act, made, wait, In, Each, after_wait, made_before, made_in}
 
 pub get_short : {A : Type 0} (xs : List A) (i : ℕ) (x : A) → slice_get xs i ≡ Some x → suc i ≤ length xs
 get_short [] i x h = cc
@@ -42,3 +42,21 @@ module _ {D : Type 0} where
   pub part_before : (P : D → Type 0) (xs : List (Act D)) (j i : ℕ) (ds : List D) → j ≤ i → ds ≡ made_before (i - j) (after_wait j xs) → Each P (made_before i xs) → Each P ds
   part_before P xs j i ds l e h =
       subst (Each P) (sym e) (each_right P (made_before j xs) (made_before (i - j) (after_wait j xs)) (subst (Each P) (before_split j i xs l) h))
+
+  -- what is made before a wait is made
+  pub before_in : (a : ℕ) (es : List (Act D)) (d : D) → In d (made_before a es) → In d (made_in es)
+  before_in zero es d i = absurd i
+  before_in (suc a) [] d i = absurd i
+  before_in (suc a) (made x ∷ es) d (inl s) = inl s
+  before_in (suc a) (made x ∷ es) d (inr i) = inr (before_in (suc a) es d i)
+  before_in (suc a) (wait ds ∷ es) d i = before_in a es d i
+
+  -- and so is what is made after one
+  pub made_after_in : (j : ℕ) (xs : List (Act D)) (d : D) → In d (made_in (after_wait j xs)) → In d (made_in xs)
+  made_after_in zero xs d i = i
+  made_after_in (suc j) [] d i = absurd i
+  made_after_in (suc j) (made x ∷ xs) d i = inr (made_after_in (suc j) xs d i)
+  made_after_in (suc j) (wait ds ∷ xs) d i = made_after_in j xs d i
+
+  pub made_between_in : (j a : ℕ) (xs : List (Act D)) (d : D) → In d (made_before a (after_wait j xs)) → In d (made_in xs)
+  made_between_in j a xs d i = made_after_in j xs d (before_in a (after_wait j xs) d i)

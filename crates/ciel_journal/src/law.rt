@@ -8,7 +8,7 @@ ghost use Rattle.ciel_journal.specs.SmallFacts.{BreaksLaw, BreaksTurns};
 ghost use Rattle.ciel_journal.specs.SmallHistories as h;
 ghost use Rattle.ciel_journal.specs.Turns.{Driven};
 ghost use Rattle.ciel_journal.specs.Known.{Knows};
-ghost use Rattle.ciel_journal.specs.Laws.{BookIsTold, CircleIsEndless, CountsAreTold, FewStarts, ListedOrCircle, LiveIsTold, MadeIsSeen, NamesDetermine, OneMark, OneState, OneWhole, OneWorker, OpenIsTold, ReadyOrCircle, ReadyStarts, SavedIsTold, SearchFinds, StartedIsMissing, StartedIsNeeded};
+ghost use Rattle.ciel_journal.specs.Laws.{BookIsMade, BookIsTold, BookIsWhole, CircleIsEndless, CountsAreTold, FewStarts, ListedOrCircle, LiveIsTold, MadeIsSeen, NamesDetermine, OneMark, OneState, OneWhole, OneWorker, OpenIsBooked, OpenIsNeeded, OpenIsTold, PlacedIsBooked, ReadyOrCircle, ReadyStarts, SavedIsBooked, SavedIsState, SavedIsTold, SearchFinds, StartedIsMissing, StartedIsNeeded};
 
 /// The two small jobs have the laws that are asked of a job.
 pub fn small_jobs_are_jobs()
@@ -54,6 +54,24 @@ pub fn live_is_told<D>()
     ensures saved { SavedIsTold D }
     ensures counts { CountsAreTold D }
     ensures book { BookIsTold D }
+{}
+
+/// Each description of the book is the main call or made by a needed task. What is open or saved is of a
+/// needed task that goes by a name of the book, and a saved wait has what its state holds.
+pub fn book_is_made<D>()
+    ensures book { BookIsMade D }
+    ensures open { OpenIsNeeded D }
+    ensures saved { SavedIsState D }
+{}
+
+/// Where a job tells where all comes from that its tasks wait for and hold, all of it is in the book: what
+/// stands inside its descriptions, and all outputs of their tasks; what the objects hold that some worker
+/// has; what is waited for and held at a saved wait; and what the task of an open Start held.
+pub fn all_is_booked<D>()
+    ensures whole { BookIsWhole D }
+    ensures placed { PlacedIsBooked D }
+    ensures saved { SavedIsBooked D }
+    ensures open { OpenIsBooked D }
 {}
 
 /// Each task started was needed, and none was started whose outputs were all live. The root task
