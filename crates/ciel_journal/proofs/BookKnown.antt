@@ -2,7 +2,7 @@
 use Rattle.std.proofs.Common.{◌≡◌, ℕ, zero, suc, ◌-◌, ◌≤◌, ◌<◌, List, [], ◌∷◌, ◌++◌, length, Bool, true, false, not, cond, ◌||◌, Option, Some, None, ◌⊎◌, inl, inr, refl, ap, sym, ◌∙◌, subst, arith, nat_eq, nat_lt, eq-eqb}
 use Rattle.std.specs.List.{list_any}
 use Rattle.ciel_journal.specs.Job.{Task, show, of, Job, In, Each, IsJob, WaitOf, after_wait, made_before, made_in, waits_in}
-use Rattle.ciel_journal.specs.History.{Event, start, done, saved, missed, lost, Order, Plan, Save, Standing, after, after_all, before_all, better, last, last_save, learned, live_if, live_in, names_of, needs, order_of, placed, same_task, wait_number}
+use Rattle.ciel_journal.specs.History.{Event, start, done, saved, missed, lost, OpenStart, Plan, Save, Standing, after, after_all, before_all, better, last, last_save, learned, live_if, live_in, names_of, needs, order_of, placed, same_task, wait_number}
 use Rattle.ciel_journal.specs.Lawful.{Copied, Given, LawfulFrom, NextEnd, NextWait, SpawnedTo, SpawnedToEnd, Step, own_name}
 use Rattle.ciel_journal.specs.Known.{Begins, Inner, Knows, TellsTo, TellsToEnd, Whole}
 use Rattle.ciel_journal.proofs.Members.{any_in, in_any, each_of, bool_cases}
@@ -32,7 +32,7 @@ module _ {D : Type 0} (job : Job D) (laws : IsJob job) where
       pick (inr j) = inr j
 
 module _ {D : Type 0} (job : Job D) (laws : IsJob job) (inner : Inner D) (knows : Knows job inner) where
-  pub record OrderKnown (S : List D) (o : Order D) : Type 0 where
+  pub record OrderKnown (S : List D) (o : OpenStart D) : Type 0 where
     pub told : TellsTo job inner S o.task o.from
     pub had : (d : D) (w : ℕ) → Has o.had w d → (n : ℕ) (e : D) → In e (inner.carries n d) → In e S
     pub met : (ds : List D) → WaitOf job o.task o.from ds → Each (λ d. live_in job o.had d ≡ true) ds
@@ -48,7 +48,7 @@ module _ {D : Type 0} (job : Job D) (laws : IsJob job) (inner : Inner D) (knows 
     pub whole : (d : D) → In d v.book → Whole job inner v.book d
     pub carried : (d : D) (w : ℕ) → Has v.places w d → (n : ℕ) (e : D) → In e (inner.carries n d) → In e v.book
     pub saves : (s : Save D) → In s v.saves → SaveKnown v.book s
-    pub orders : (o : Order D) → In o v.orders → OrderKnown v.book o
+    pub orders : (o : OpenStart D) → In o v.orders → OrderKnown v.book o
 
   -- ---- the book as it grows
 
@@ -71,7 +71,7 @@ module _ {D : Type 0} (job : Job D) (laws : IsJob job) (inner : Inner D) (knows 
         makes = λ n l. each_more (λ d. In d S) (λ d. In d T) g (made_before i (job.acts n t)) (k.makes n l);
       }
 
-  order_more : (S T : List D) → Grows S T → (o : Order D) → OrderKnown S o → OrderKnown T o
+  order_more : (S T : List D) → Grows S T → (o : OpenStart D) → OrderKnown S o → OrderKnown T o
   order_more S T g o k =
       record { told = tells_more S T g o.task o.from k.told; had = λ d w h n e i. g e (k.had d w h n e i); met = k.met; here = k.here }
 
@@ -81,7 +81,7 @@ module _ {D : Type 0} (job : Job D) (laws : IsJob job) (inner : Inner D) (knows 
 
   -- ---- what an order brings along
 
-  live_carried : (S : List D) (o : Order D) → OrderKnown S o → (d : D) → live_in job o.had d ≡ true → (n : ℕ) (e : D) → In e (inner.carries n d) → In e S
+  live_carried : (S : List D) (o : OpenStart D) → OrderKnown S o → (d : D) → live_in job o.had d ≡ true → (n : ℕ) (e : D) → In e (inner.carries n d) → In e S
   live_carried S o k d l n e i = pick (job.task_of d) refl l
     where
       some_has : (ws : List ℕ) (t : Task D) → live_if job (Some t) ws ≡ true → (w : ℕ) × (list_any (nat_eq w) ws ≡ true)
@@ -96,7 +96,7 @@ module _ {D : Type 0} (job : Job D) (laws : IsJob job) (inner : Inner D) (knows 
   cases a b = grind arith
 
   -- the task comes to the wait from which the order goes on
-  comes_to : (o : Order D) (ds : List D) (n : ℕ) → WaitOf job o.task o.from ds → job.ended n o.task ≡ true → o.from ≤ length (waits_in (job.acts n o.task))
+  comes_to : (o : OpenStart D) (ds : List D) (n : ℕ) → WaitOf job o.task o.from ds → job.ended n o.task ≡ true → o.from ≤ length (waits_in (job.acts n o.task))
   comes_to o ds n w e = go o.from w
     where
       go : (j : ℕ) → WaitOf job o.task j ds → j ≤ length (waits_in (job.acts n o.task))
@@ -104,7 +104,7 @@ module _ {D : Type 0} (job : Job D) (laws : IsJob job) (inner : Inner D) (knows 
       go (suc j) h = get_short (waits_in (job.acts n o.task)) j ds (wait_at_end job laws n o.task j ds e h)
 
   -- what the objects hold that the task of an order waits for at its wait or later
-  later_read : (S : List D) (o : Order D) → OrderKnown S o → (k : ℕ) (ds : List D) (d e : D) (n : ℕ) → (o.from < k → Each (Given job o) ds) → WaitOf job o.task k ds → In d ds → In e (inner.carries n d) → In e S
+  later_read : (S : List D) (o : OpenStart D) → OrderKnown S o → (k : ℕ) (ds : List D) (d e : D) (n : ℕ) → (o.from < k → Each (Given job o) ds) → WaitOf job o.task k ds → In d ds → In e (inner.carries n d) → In e S
   later_read S o known k ds d e n given w i c = pick (cases o.from k)
     where
       pick : ((k < o.from) ⊎ (o.from ≡ k) ⊎ (o.from < k)) → In e S
@@ -113,7 +113,7 @@ module _ {D : Type 0} (job : Job D) (laws : IsJob job) (inner : Inner D) (knows 
           live_carried S o known d (each_of (λ x. live_in job o.had x ≡ true) d ds i (known.met ds (subst (λ j. WaitOf job o.task j ds) (sym s) w))) n e c
       pick (inr (inr l)) = live_carried S o known d (each_of (Given job o) d ds i (given l)).1 n e c
 
-  tells_end : (S : List D) (o : Order D) (spawned : List D) → OrderKnown S o → NextEnd job o → SpawnedToEnd job o spawned → Each (λ d. In d S) spawned → TellsToEnd job inner S o.task
+  tells_end : (S : List D) (o : OpenStart D) (spawned : List D) → OrderKnown S o → NextEnd job o → SpawnedToEnd job o spawned → Each (λ d. In d S) spawned → TellsToEnd job inner S o.task
   tells_end S o spawned known next spawns all =
       record {
         begins = known.told.begins;
@@ -123,7 +123,7 @@ module _ {D : Type 0} (job : Job D) (laws : IsJob job) (inner : Inner D) (knows 
             (each_join (λ d. In d S) (made_before o.from (job.acts n o.task)) (made_in (after_wait o.from (job.acts n o.task))) (known.told.makes n (comes_to o known.here.0 n known.here.1 e)) (subst (Each (λ d. In d S)) (sym s) all));
       }
 
-  tells_to : (S : List D) (o : Order D) (j : ℕ) (refs spawned : List D) → OrderKnown S o → NextWait job o j refs → SpawnedTo job o j spawned → Each (λ d. In d S) spawned → TellsTo job inner S o.task j
+  tells_to : (S : List D) (o : OpenStart D) (j : ℕ) (refs spawned : List D) → OrderKnown S o → NextWait job o j refs → SpawnedTo job o j spawned → Each (λ d. In d S) spawned → TellsTo job inner S o.task j
   tells_to S o j refs spawned known next spawns all =
       record {
         begins = known.told.begins;
@@ -205,7 +205,7 @@ module _ {D : Type 0} (job : Job D) (laws : IsJob job) (inner : Inner D) (knows 
             here = (needs job v t, subst (λ j. WaitOf job t j (needs job v t)) (sym step.allowed.from_last) (last_ok job laws t v.saves inf.saves_ok));
           }
 
-      pick : (o : Order D) → (In o v.orders ⊎ (o ≡ order_of job v k w t from)) → OrderKnown v.book o
+      pick : (o : OpenStart D) → (In o v.orders ⊎ (o ≡ order_of job v k w t from)) → OrderKnown v.book o
       pick o (inl i) = inf.orders o i
       pick o (inr s) = subst (OrderKnown v.book) (sym s) new
   informed_step p v (done k made copied spawned) inf step =
@@ -218,7 +218,7 @@ module _ {D : Type 0} (job : Job D) (laws : IsJob job) (inner : Inner D) (knows 
         whole = whole;
         carried = carried;
         saves = λ s i. save_more v.book (learned job v.book spawned) grow s (inf.saves s i);
-        orders = λ o i. order_more v.book (learned job v.book spawned) grow o (inf.orders o (in_filter (λ (x : Order D). not (nat_eq k x.number)) o v.orders i));
+        orders = λ o i. order_more v.book (learned job v.book spawned) grow o (inf.orders o (in_filter (λ (x : OpenStart D). not (nat_eq k x.number)) o v.orders i));
       })
     where
       grow : Grows v.book (learned job v.book spawned)
@@ -272,7 +272,7 @@ module _ {D : Type 0} (job : Job D) (laws : IsJob job) (inner : Inner D) (knows 
         whole = whole;
         carried = λ d w h n e c. grow e (inf.carried d w h n e c);
         saves = λ s i. turn s (in_last s v.saves (record { task = a.0.task; j = j; worker = a.0.worker; refs = refs; holds = holds }) i);
-        orders = λ o i. order_more v.book (learned job v.book spawned) grow o (inf.orders o (in_filter (λ (x : Order D). not (nat_eq k x.number)) o v.orders i));
+        orders = λ o i. order_more v.book (learned job v.book spawned) grow o (inf.orders o (in_filter (λ (x : OpenStart D). not (nat_eq k x.number)) o v.orders i));
       })
     where
       grow : Grows v.book (learned job v.book spawned)
@@ -320,7 +320,7 @@ module _ {D : Type 0} (job : Job D) (laws : IsJob job) (inner : Inner D) (knows 
         whole = inf.whole;
         carried = inf.carried;
         saves = inf.saves;
-        orders = λ o i. inf.orders o (in_filter (λ (x : Order D). not (nat_eq k x.number)) o v.orders i);
+        orders = λ o i. inf.orders o (in_filter (λ (x : OpenStart D). not (nat_eq k x.number)) o v.orders i);
       })
   informed_step p v (lost w closes) inf step =
       record {
@@ -329,7 +329,7 @@ module _ {D : Type 0} (job : Job D) (laws : IsJob job) (inner : Inner D) (knows 
         whole = inf.whole;
         carried = λ d u h n e c. inf.carried d u (filter_has job laws w u (v.places d) h).0 n e c;
         saves = λ s i. inf.saves s (in_filter (λ (x : Save D). not (nat_eq w x.worker)) s v.saves i);
-        orders = λ o i. inf.orders o (in_filter (λ (x : Order D). not (nat_eq w x.worker)) o v.orders i);
+        orders = λ o i. inf.orders o (in_filter (λ (x : OpenStart D). not (nat_eq w x.worker)) o v.orders i);
       }
 
   pub informed_all : (p : Plan) (v : Standing D) (h : List (Event D)) → Informed v → LawfulFrom job p v h → Informed (after_all job v h)

@@ -1,7 +1,7 @@
 -- What holds of what stands after a lawful history.
 use Rattle.std.proofs.Common.{◌≡◌, ℕ, List, [], ◌∷◌, ◌++◌, Bool, true, false, cond, Option, Some, None, refl, ap, sym, subst, nat_lt, filter}
 use Rattle.ciel_journal.specs.Job.{Digest, Each, IsJob, Job, Needed, Never, Task, WaitOf, of, show}
-use Rattle.ciel_journal.specs.History.{Event, Order, Plan, Save, Standing, after, after_all, before_all, better, close_with, closed, done, done_with, find_order, last_save, lost, missed, missed_with, needs_of, same_task, saved, saved_with, start, wait_number}
+use Rattle.ciel_journal.specs.History.{Event, OpenStart, Plan, Save, Standing, after, after_all, before_all, better, close_with, closed, done, done_with, find_open, last_save, lost, missed, missed_with, needs_of, same_task, saved, saved_with, start, wait_number}
 use Rattle.ciel_journal.specs.Lawful.{Lawful, LawfulFrom, Step}
 use Rattle.ciel_journal.specs.Graph.{root, through}
 use Rattle.ciel_journal.specs.Turns.{CircleAtRest, Reached}
@@ -21,13 +21,13 @@ module _ {A : Type 0} (P : A → Type 0) where
       pick false r = r
 
 module _ {D : Type 0} (job : Job D) (laws : IsJob job) where
-  pub after_done : (v : Standing D) (k : ℕ) (made : List (D × Digest)) (copied spawned : List D) (o : Order D) → find_order job k v.orders ≡ Some o → after job v (done k made copied spawned) ≡ done_with job made copied spawned o (closed job v k)
+  pub after_done : (v : Standing D) (k : ℕ) (made : List (D × Digest)) (copied spawned : List D) (o : OpenStart D) → find_open job k v.orders ≡ Some o → after job v (done k made copied spawned) ≡ done_with job made copied spawned o (closed job v k)
   after_done v k made copied spawned o e = ap (close_with job (done_with job made copied spawned) v k) e
 
-  pub after_saved : (v : Standing D) (k j : ℕ) (mark : Digest) (refs holds spawned : List D) (o : Order D) → find_order job k v.orders ≡ Some o → after job v (saved k j mark refs holds spawned) ≡ saved_with job j refs holds spawned o (closed job v k)
+  pub after_saved : (v : Standing D) (k j : ℕ) (mark : Digest) (refs holds spawned : List D) (o : OpenStart D) → find_open job k v.orders ≡ Some o → after job v (saved k j mark refs holds spawned) ≡ saved_with job j refs holds spawned o (closed job v k)
   after_saved v k j mark refs holds spawned o e = ap (close_with job (saved_with job j refs holds spawned) v k) e
 
-  pub after_missed : (v : Standing D) (k : ℕ) (d : D) (loss : ℕ) (o : Order D) → find_order job k v.orders ≡ Some o → after job v (missed k d loss) ≡ closed job v k
+  pub after_missed : (v : Standing D) (k : ℕ) (d : D) (loss : ℕ) (o : OpenStart D) → find_open job k v.orders ≡ Some o → after job v (missed k d loss) ≡ closed job v k
   after_missed v k d loss o e = ap (close_with job (missed_with job) v k) e
 
   abbrev pub SaveOk : Save D → Type 0

@@ -30,6 +30,7 @@ pub mod ThreeLaw
 pub mod Splits
 pub mod BookKnown
 pub mod Traced
+pub mod ByName
 pub mod Startable
 pub mod SmallKnown
 pub mod Picked

@@ -2,7 +2,7 @@
 use Rattle.std.proofs.Common.{◌≡◌, ℕ, zero, suc, ◌+◌, ◌≤◌, ◌<◌, List, [], ◌∷◌, ◌++◌, length, Bool, true, false, not, cond, ◌&&◌, ◌||◌, Some, None, ◌⊎◌, inl, inr, refl, ap, sym, ◌∙◌, subst, arith, nat_eq, eq-eqb}
 use Rattle.std.specs.List.{list_any}
 use Rattle.ciel_journal.specs.Job.{Task, show, of, Job, In, Each, IsJob}
-use Rattle.ciel_journal.specs.History.{Event, start, Order, Plan, Save, Standing, after, after_all, before_all, last, live, needs, needs_of, standing, last_save}
+use Rattle.ciel_journal.specs.History.{Event, start, OpenStart, Plan, Save, Standing, after, after_all, before_all, last, live, needs, needs_of, standing, last_save}
 use Rattle.ciel_journal.specs.Lawful.{HeldAt, Lawful, LawfulFrom, NoClash, Step, own_name}
 use Rattle.ciel_journal.specs.Known.{Begins, Inner, Knows, TellsTo}
 use Rattle.ciel_journal.specs.Graph.{root, through}
@@ -116,7 +116,7 @@ module _ {D : Type 0} (job : Job D) (laws : IsJob job) (inner : Inner D) (knows 
         pick true e (inr j) r = later r j
         pick false e j r = later r j
 
-    busy_test : (os : List (Order D)) (w : ℕ) → list_any (nat_eq w) (busy job os) ≡ list_any (λ (o : Order D). nat_eq w o.worker) os
+    busy_test : (os : List (OpenStart D)) (w : ℕ) → list_any (nat_eq w) (busy job os) ≡ list_any (λ (o : OpenStart D). nat_eq w o.worker) os
     busy_test [] w = refl
     busy_test (o ∷ os) w = ap (λ b. nat_eq w o.worker || b) (busy_test os w)
 
@@ -165,7 +165,7 @@ module _ {D : Type 0} (job : Job D) (laws : IsJob job) (inner : Inner D) (knows 
       (k.refs, knows.holds_told (standing job h).book s.task s.j (record { names = s.holds; mark = t.2 }) k.told t.3)
 
   -- and what the task of an open Start held
-  pub open_booked : (p : Plan) (h : List (Event D)) → Lawful job p h → (o : Order D) → In o (standing job h).orders → (d : D) → HeldAt job o.task o.from d → In d (standing job h).book
+  pub open_booked : (p : Plan) (h : List (Event D)) → Lawful job p h → (o : OpenStart D) → In o (standing job h).orders → (d : D) → HeldAt job o.task o.from d → In d (standing job h).book
   open_booked p h l o i d k =
       each_of (λ e. In e (standing job h).book) d k.1.names k.3 (knows.holds_told (standing job h).book o.task o.from k.1 ((informed p h l).orders o i).told (k.0, k.2))
 

@@ -1,7 +1,7 @@
 -- What is open and saved is of needed tasks that go by a name of the book, and each description of the book was made by one.
 use Rattle.std.proofs.Common.{◌≡◌, ℕ, ◌-◌, List, [], ◌∷◌, ◌++◌, not, ◌⊎◌, inl, inr, refl, sym, subst, arith, nat_eq}
 use Rattle.ciel_journal.specs.Job.{Digest, Task, Job, In, IsJob, Needed, StateOf, made_in, made_before, after_wait}
-use Rattle.ciel_journal.specs.History.{Event, start, done, saved, missed, lost, Order, Plan, Save, Standing, after, after_all, before_all, learned, order_of}
+use Rattle.ciel_journal.specs.History.{Event, start, done, saved, missed, lost, OpenStart, Plan, Save, Standing, after, after_all, before_all, learned, order_of}
 use Rattle.ciel_journal.specs.Lawful.{LawfulFrom, Step, own_name}
 use Rattle.ciel_journal.proofs.BookKnown.{learned_from}
 use Rattle.ciel_journal.proofs.Good.{after_done, after_saved, after_missed}
@@ -13,7 +13,7 @@ module _ {D : Type 0} (job : Job D) (laws : IsJob job) where
   abbrev pub Made : D → Type 0
   Made d = (d ≡ job.main) ⊎ ((t : Task D) × Needed job t × (n : ℕ) × In d (made_in (job.acts n t)))
 
-  abbrev pub OrderTraced : List D → Order D → Type 0
+  abbrev pub OrderTraced : List D → OpenStart D → Type 0
   OrderTraced S o = Needed job o.task × In (own_name job o.task) S
 
   abbrev pub SaveTraced : List D → Save D → Type 0
@@ -23,10 +23,10 @@ module _ {D : Type 0} (job : Job D) (laws : IsJob job) where
   pub record Traced (v : Standing D) : Type 0 where
     pub shelved : Shelved job laws v
     pub book : (d : D) → In d v.book → Made d
-    pub orders : (o : Order D) → In o v.orders → OrderTraced v.book o
+    pub orders : (o : OpenStart D) → In o v.orders → OrderTraced v.book o
     pub saves : (s : Save D) → In s v.saves → SaveTraced v.book s
 
-  order_later : (book ds : List D) (o : Order D) → OrderTraced book o → OrderTraced (learned job book ds) o
+  order_later : (book ds : List D) (o : OpenStart D) → OrderTraced book o → OrderTraced (learned job book ds) o
   order_later book ds o k = (k.0, learned_in job laws book ds (own_name job o.task) k.1)
 
   save_later : (book ds : List D) (s : Save D) → SaveTraced book s → SaveTraced (learned job book ds) s
@@ -57,7 +57,7 @@ module _ {D : Type 0} (job : Job D) (laws : IsJob job) where
         saves = kept.saves;
       }
     where
-      pick : (o : Order D) → (In o v.orders ⊎ (o ≡ order_of job v k w t from)) → OrderTraced v.book o
+      pick : (o : OpenStart D) → (In o v.orders ⊎ (o ≡ order_of job v k w t from)) → OrderTraced v.book o
       pick o (inl i) = kept.orders o i
       pick o (inr s) =
           subst (OrderTraced v.book) (sym s) (step.allowed.needed, started_own job laws p v kept.shelved k w t from step.allowed)
@@ -68,7 +68,7 @@ module _ {D : Type 0} (job : Job D) (laws : IsJob job) where
       (record {
         shelved = subst (Shelved job laws) (after_done job laws v k made copied spawned a.0 a.1) sh;
         book = book_later v.book spawned kept.book new;
-        orders = λ o i. order_later v.book spawned o (kept.orders o (in_filter (λ (x : Order D). not (nat_eq k x.number)) o v.orders i));
+        orders = λ o i. order_later v.book spawned o (kept.orders o (in_filter (λ (x : OpenStart D). not (nat_eq k x.number)) o v.orders i));
         saves = λ s i. save_later v.book spawned s (kept.saves s i);
       })
     where
@@ -84,7 +84,7 @@ module _ {D : Type 0} (job : Job D) (laws : IsJob job) where
       (record {
         shelved = subst (Shelved job laws) (after_saved job laws v k j mark refs holds spawned a.0 a.1) sh;
         book = book_later v.book spawned kept.book new;
-        orders = λ o i. order_later v.book spawned o (kept.orders o (in_filter (λ (x : Order D). not (nat_eq k x.number)) o v.orders i));
+        orders = λ o i. order_later v.book spawned o (kept.orders o (in_filter (λ (x : OpenStart D). not (nat_eq k x.number)) o v.orders i));
         saves = λ s i. pick s (in_last s v.saves (record { task = a.0.task; j = j; worker = a.0.worker; refs = refs; holds = holds }) i);
       })
     where
@@ -109,14 +109,14 @@ module _ {D : Type 0} (job : Job D) (laws : IsJob job) where
       (record {
         shelved = subst (Shelved job laws) (after_missed job laws v k d loss a.0 a.1) sh;
         book = kept.book;
-        orders = λ o i. kept.orders o (in_filter (λ (x : Order D). not (nat_eq k x.number)) o v.orders i);
+        orders = λ o i. kept.orders o (in_filter (λ (x : OpenStart D). not (nat_eq k x.number)) o v.orders i);
         saves = kept.saves;
       })
   traced_step p v (lost w closes) kept step =
       record {
         shelved = shelved_step job laws p v (lost w closes) kept.shelved step;
         book = kept.book;
-        orders = λ o i. kept.orders o (in_filter (λ (x : Order D). not (nat_eq w x.worker)) o v.orders i);
+        orders = λ o i. kept.orders o (in_filter (λ (x : OpenStart D). not (nat_eq w x.worker)) o v.orders i);
         saves = λ s i. kept.saves s (in_filter (λ (x : Save D). not (nat_eq w x.worker)) s v.saves i);
       }
 

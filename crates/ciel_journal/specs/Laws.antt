@@ -1,7 +1,7 @@
 -- The laws of a run's journal, each said of every job.
-use Rattle.std.specs.Prelude.{◌≡◌, ℕ, ◌+◌, ◌*◌, ◌≤◌, List, [], ◌∷◌, ◌++◌, length, true, false, ◌⊎◌, ◌↔◌, Option, Bool}
+use Rattle.std.specs.Prelude.{◌≡◌, ℕ, ◌+◌, ◌*◌, ◌≤◌, List, [], ◌∷◌, ◌++◌, length, true, false, ◌⊎◌, ◌↔◌, map, Option, Bool}
 use Rattle.ciel_journal.specs.Job.{Digest, Task, show, Job, In, Each, IsJob, IsPrefix, Needed, Never, ObjectOf, StateOf, made_in}
-use Rattle.ciel_journal.specs.History.{Event, Order, Plan, Save, done, last, learned, live, saved, standing, start, Standing}
+use Rattle.ciel_journal.specs.History.{Event, OpenStart, Plan, Save, done, entered, last, learned, live, saved, standing, start, Standing}
 use Rattle.ciel_journal.specs.Known.{Inner, Knows, Whole}
 use Rattle.ciel_journal.specs.Lawful.{HeldAt, Lawful, own_name}
 use Rattle.ciel_journal.specs.Live.{Live, OpenIn, SavedIn, closes_of, spawned_of}
@@ -9,7 +9,8 @@ use Rattle.ciel_journal.specs.Turns.{Ready, IsReadyList, CircleAtRest, Driven, i
 use Rattle.ciel_journal.specs.Search.{LedTo}
 use Rattle.ciel_journal.specs.Wanted.{IsGraph, Wanted}
 use Rattle.ciel_journal.specs.Work.{Work, losses_of, starts_of}
-use Rattle.ciel_journal.specs.Names.{Entry, journal_of}
+use Rattle.ciel_journal.specs.Entries.{Entry, journal_of, low_task}
+use Rattle.ciel_journal.specs.Journals.{BookOf, CircleOf, DrivenJournal, LawfulJournal, NameAt, entered_in}
 
 -- d stands in the book, no other description there has its name, and its object has this mark and no other
 pub record Publishes {D : Type 0} (job : Job D) (h : List (Event D)) (d : D) (mark : Digest) : Type 0 where
@@ -45,7 +46,7 @@ module _ (D : Type 0) where
 
   abbrev IsOrder : Standing D → (k w : ℕ) → Task D → ℕ → Type 0
   IsOrder v k w t from =
-      (o : Order D) × In o v.orders × (o.number ≡ k) × (o.worker ≡ w) × (o.task ≡ t) × (o.from ≡ from)
+      (o : OpenStart D) × In o v.orders × (o.number ≡ k) × (o.worker ≡ w) × (o.task ≡ t) × (o.from ≡ from)
 
   -- the open Starts are those that no entry has closed and whose worker has no Lost
   abbrev pub OpenIsTold : Type 0
@@ -71,7 +72,7 @@ module _ (D : Type 0) where
   -- what is open is of a needed task, which goes by a name of the book
   abbrev pub OpenIsNeeded : Type 0
   OpenIsNeeded =
-      OfLawful (λ job p h v. (o : Order D) → In o v.orders → Needed job o.task × In (own_name job o.task) v.book)
+      OfLawful (λ job p h v. (o : OpenStart D) → In o v.orders → Needed job o.task × In (own_name job o.task) v.book)
 
   -- a saved wait is of a needed task, which goes by a name of the book, and has what its state holds there
   abbrev pub SavedIsState : Type 0
@@ -95,7 +96,7 @@ module _ (D : Type 0) where
   -- what the task of an open Start held when it was made
   abbrev pub OpenIsBooked : Type 0
   OpenIsBooked =
-      OfKnown (λ job inner p h v. (o : Order D) → In o v.orders → (d : D) → HeldAt job o.task o.from d → In d v.book)
+      OfKnown (λ job inner p h v. (o : OpenStart D) → In o v.orders → (d : D) → HeldAt job o.task o.from d → In d v.book)
 
   -- ---- what is started
 
@@ -161,6 +162,30 @@ module _ (D : Type 0) where
   abbrev pub NamesDetermine : Type 0
   NamesDetermine =
       OfJob (λ job. (p q : Plan) (g h : List (Event D)) → Lawful job p g → Lawful job q h → journal_of job g ≡ journal_of job h → g ≡ h)
+
+  -- ---- journals by themselves
+
+  -- the journal of a driven history is that of a lawful one
+  abbrev pub DrivenIsLawful : Type 0
+  DrivenIsLawful = OfJob (λ job. (p : Plan) (J : List Entry) → DrivenJournal job p J → LawfulJournal job p J)
+
+  -- one book stands behind a journal
+  abbrev pub OneBook : Type 0
+  OneBook = OfJob (λ job. (p : Plan) (J : List Entry) (a b : List D) → BookOf job p J a → BookOf job p J b → a ≡ b)
+
+  -- a circle of names means that the job has no answer
+  abbrev pub NamedCircleIsEndless : Type 0
+  NamedCircleIsEndless = OfJob (λ job. (p : Plan) (J : List Entry) (names : List Digest) → CircleOf job p J names → Never job)
+
+  -- the tasks that a worker was given are those that its entries say, by name
+  abbrev pub EnteredAlike : Type 0
+  EnteredAlike =
+      (job : Job D) (w : ℕ) (h : List (Event D)) → entered_in w (journal_of job h) ≡ map (low_task job) (entered job w h)
+
+  -- a worker has what is in the book where the entries say that it has the object of this name
+  abbrev pub PlacedAlike : Type 0
+  PlacedAlike =
+      OfLawful (λ job p h v. (d : D) → In d v.book → (w : ℕ) → In w (v.places d) ↔ NameAt (journal_of job h) w (job.name d))
 
   -- ---- one worker
 

@@ -8,7 +8,7 @@ ghost use Rattle.ciel_journal.specs.SmallFacts.{BreaksLaw, BreaksTurns};
 ghost use Rattle.ciel_journal.specs.SmallHistories as h;
 ghost use Rattle.ciel_journal.specs.Turns.{Driven};
 ghost use Rattle.ciel_journal.specs.Known.{Knows};
-ghost use Rattle.ciel_journal.specs.Laws.{BookIsMade, BookIsTold, BookIsWhole, CircleIsEndless, CountsAreTold, FewStarts, ListedOrCircle, LiveIsTold, MadeIsSeen, NamesDetermine, OneMark, OneState, OneWhole, OneWorker, OpenIsBooked, OpenIsNeeded, OpenIsTold, PlacedIsBooked, ReadyOrCircle, ReadyStarts, SavedIsBooked, SavedIsState, SavedIsTold, SearchFinds, StartedIsMissing, StartedIsNeeded};
+ghost use Rattle.ciel_journal.specs.Laws.{BookIsMade, BookIsTold, BookIsWhole, CircleIsEndless, CountsAreTold, DrivenIsLawful, EnteredAlike, FewStarts, ListedOrCircle, LiveIsTold, MadeIsSeen, NamedCircleIsEndless, NamesDetermine, OneBook, OneMark, OneState, OneWhole, OneWorker, OpenIsBooked, OpenIsNeeded, OpenIsTold, PlacedAlike, PlacedIsBooked, ReadyOrCircle, ReadyStarts, SavedIsBooked, SavedIsState, SavedIsTold, SearchFinds, StartedIsMissing, StartedIsNeeded};
 
 /// The two small jobs have the laws that are asked of a job.
 pub fn small_jobs_are_jobs()
@@ -116,6 +116,17 @@ pub fn names_have_one_mark<D>()
 /// The journal of names determines the history.
 pub fn names_determine<D>()
     ensures history { NamesDetermine D }
+{}
+
+/// A journal by itself, over names: that of a driven history is that of a lawful one, one book stands behind it, a
+/// circle of names means that the job has no answer, its entries say which tasks a worker was given, and
+/// which workers have an object.
+pub fn journals_alone<D>()
+    ensures lawful { DrivenIsLawful D }
+    ensures book { OneBook D }
+    ensures endless { NamedCircleIsEndless D }
+    ensures entered { EnteredAlike D }
+    ensures placed { PlacedAlike D }
 {}
 
 /// With one worker a driven history is a function of the job, the seed and the losses: of two, the
