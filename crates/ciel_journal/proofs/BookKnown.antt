@@ -3,7 +3,7 @@ use Rattle.std.proofs.Common.{◌≡◌, ℕ, zero, suc, ◌-◌, ◌≤◌, ◌
 use Rattle.std.specs.List.{list_any}
 use Rattle.ciel_journal.specs.Job.{Task, show, of, Job, In, Each, IsJob, WaitOf, after_wait, made_before, made_in, waits_in}
 use Rattle.ciel_journal.specs.History.{Event, start, done, saved, missed, lost, OpenStart, Plan, Save, Standing, after, after_all, before_all, better, last, last_save, learned, live_if, live_in, names_of, needs, order_of, placed, same_task, wait_number}
-use Rattle.ciel_journal.specs.Lawful.{Copied, Given, LawfulFrom, NextEnd, NextWait, SpawnedTo, SpawnedToEnd, Step, own_name}
+use Rattle.ciel_journal.specs.Lawful.{Copied, Given, LawfulFrom, NextEnd, NextWait, SpawnedTo, SpawnedToEnd, Allowed, own_name}
 use Rattle.ciel_journal.specs.Known.{Begins, Inner, Knows, TellsTo, TellsToEnd, Whole}
 use Rattle.ciel_journal.proofs.Members.{any_in, in_any, each_of, bool_cases}
 use Rattle.ciel_journal.proofs.Booked.{each_more, learned_cases, one_has}
@@ -185,7 +185,7 @@ module _ {D : Type 0} (job : Job D) (laws : IsJob job) (inner : Inner D) (knows 
       pick (inr x) =
           subst (λ u. TellsTo job inner v.book u (last job v t)) x.2 (subst (TellsTo job inner v.book x.0.task) (sym (ap (wait_number job) x.3)) (inf.saves x.0 x.1).told)
 
-  pub informed_step : (p : Plan) (v : Standing D) (e : Event D) → Informed v → Step job p v e → Informed (after job v e)
+  pub informed_step : (p : Plan) (v : Standing D) (e : Event D) → Informed v → Allowed job p v e → Informed (after job v e)
   informed_step p v (start k w t from) inf step =
       record {
         shelved = shelved_step job laws p v (start k w t from) inf.shelved step;
@@ -199,17 +199,17 @@ module _ {D : Type 0} (job : Job D) (laws : IsJob job) (inner : Inner D) (knows 
       new : OrderKnown v.book (order_of job v k w t from)
       new =
           record {
-            told = subst (TellsTo job inner v.book t) (sym step.allowed.from_last) (start_known v inf t (started_own job laws p v inf.shelved k w t from step.allowed));
+            told = subst (TellsTo job inner v.book t) (sym step.from_last) (start_known v inf t (started_own job laws p v inf.shelved k w t from step));
             had = inf.carried;
-            met = step.allowed.met;
-            here = (needs job v t, subst (λ j. WaitOf job t j (needs job v t)) (sym step.allowed.from_last) (last_ok job laws t v.saves inf.saves_ok));
+            met = step.met;
+            here = (needs job v t, subst (λ j. WaitOf job t j (needs job v t)) (sym step.from_last) (last_ok job laws t v.saves inf.saves_ok));
           }
 
       pick : (o : OpenStart D) → (In o v.orders ⊎ (o ≡ order_of job v k w t from)) → OrderKnown v.book o
       pick o (inl i) = inf.orders o i
       pick o (inr s) = subst (OrderKnown v.book) (sym s) new
   informed_step p v (done k made copied spawned) inf step =
-      let a = step.allowed in
+      let a = step in
       let sh = shelved_step job laws p v (done k made copied spawned) inf.shelved step in
       subst Informed (sym (after_done job laws v k made copied spawned a.0 a.1))
       (record {
@@ -224,21 +224,21 @@ module _ {D : Type 0} (job : Job D) (laws : IsJob job) (inner : Inner D) (knows 
       grow : Grows v.book (learned job v.book spawned)
       grow = learned_in job laws v.book spawned
 
-      order : In step.allowed.0 v.orders
-      order = (found_in job laws k v.orders step.allowed.0 step.allowed.1).0
+      order : In step.0 v.orders
+      order = (found_in job laws k v.orders step.0 step.1).0
 
-      known : OrderKnown (learned job v.book spawned) step.allowed.0
-      known = order_more v.book (learned job v.book spawned) grow step.allowed.0 (inf.orders step.allowed.0 order)
+      known : OrderKnown (learned job v.book spawned) step.0
+      known = order_more v.book (learned job v.book spawned) grow step.0 (inf.orders step.0 order)
 
-      tells : TellsToEnd job inner (learned job v.book spawned) step.allowed.0.task
+      tells : TellsToEnd job inner (learned job v.book spawned) step.0.task
       tells =
-          tells_end (learned job v.book spawned) step.allowed.0 spawned known step.allowed.2.next step.allowed.2.spawns (each_all (λ d. In d (learned job v.book spawned)) spawned (learned_has job laws v.book spawned))
+          tells_end (learned job v.book spawned) step.0 spawned known step.2.next step.2.spawns (each_all (λ d. In d (learned job v.book spawned)) spawned (learned_has job laws v.book spawned))
 
       new : Each (Whole job inner (learned job v.book spawned)) spawned
       new =
-          let s = step.allowed.2.spawns in
-          later_part (Whole job inner (learned job v.book spawned)) (job.acts s.0 step.allowed.0.task) step.allowed.0.from spawned s.2
-          (knows.end_told (learned job v.book spawned) step.allowed.0.task s.0 tells s.1)
+          let s = step.2.spawns in
+          later_part (Whole job inner (learned job v.book spawned)) (job.acts s.0 step.0.task) step.0.from spawned s.2
+          (knows.end_told (learned job v.book spawned) step.0.task s.0 tells s.1)
 
       whole : (d : D) → In d (learned job v.book spawned) → Whole job inner (learned job v.book spawned) d
       whole d i = pick (learned_from job laws v.book spawned d i)
@@ -247,23 +247,23 @@ module _ {D : Type 0} (job : Job D) (laws : IsJob job) (inner : Inner D) (knows 
           pick (inl j) = whole_more v.book (learned job v.book spawned) grow d (inf.whole d j)
           pick (inr j) = each_of (Whole job inner (learned job v.book spawned)) d spawned j new
 
-      carried : (d : D) (w : ℕ) → Has (placed job copied step.allowed.0.worker (placed job (names_of made) step.allowed.0.worker v.places)) w d → (n : ℕ) (e : D) → In e (inner.carries n d) → In e (learned job v.book spawned)
+      carried : (d : D) (w : ℕ) → Has (placed job copied step.0.worker (placed job (names_of made) step.0.worker v.places)) w d → (n : ℕ) (e : D) → In e (inner.carries n d) → In e (learned job v.book spawned)
       carried d w h n e c =
-          pick (placed_cases job laws copied step.allowed.0.worker (placed job (names_of made) step.allowed.0.worker v.places) w d h)
+          pick (placed_cases job laws copied step.0.worker (placed job (names_of made) step.0.worker v.places) w d h)
         where
-          turn : (Has v.places w d ⊎ ((w ≡ step.allowed.0.worker) × In d (names_of made))) → In e (learned job v.book spawned)
+          turn : (Has v.places w d ⊎ ((w ≡ step.0.worker) × In d (names_of made))) → In e (learned job v.book spawned)
           turn (inl b) = grow e (inf.carried d w b n e c)
           turn (inr b) =
               each_of (λ x. In x (learned job v.book spawned)) e (inner.carries n d) c
-              (knows.object_told (learned job v.book spawned) step.allowed.0.task n d tells (made_output job laws (job.outputs step.allowed.0.task) made step.allowed.2.marked d b.1))
+              (knows.object_told (learned job v.book spawned) step.0.task n d tells (made_output job laws (job.outputs step.0.task) made step.2.marked d b.1))
 
-          pick : (Has (placed job (names_of made) step.allowed.0.worker v.places) w d ⊎ ((w ≡ step.allowed.0.worker) × In d copied)) → In e (learned job v.book spawned)
-          pick (inl b) = turn (placed_cases job laws (names_of made) step.allowed.0.worker v.places w d b)
+          pick : (Has (placed job (names_of made) step.0.worker v.places) w d ⊎ ((w ≡ step.0.worker) × In d copied)) → In e (learned job v.book spawned)
+          pick (inl b) = turn (placed_cases job laws (names_of made) step.0.worker v.places w d b)
           pick (inr b) =
-              let f = each_of (Copied job step.allowed.0) d copied b.1 step.allowed.2.fetched in
-              known.had d f.1.0 (least_has job laws (step.allowed.0.had d) f.1.0 f.1.1.0) n e c
+              let f = each_of (Copied job step.0) d copied b.1 step.2.fetched in
+              known.had d f.1.0 (least_has job laws (step.0.had d) f.1.0 f.1.1.0) n e c
   informed_step p v (saved k j mark refs holds spawned) inf step =
-      let a = step.allowed in
+      let a = step in
       let sh = shelved_step job laws p v (saved k j mark refs holds spawned) inf.shelved step in
       subst Informed (sym (after_saved job laws v k j mark refs holds spawned a.0 a.1))
       (record {
@@ -278,22 +278,22 @@ module _ {D : Type 0} (job : Job D) (laws : IsJob job) (inner : Inner D) (knows 
       grow : Grows v.book (learned job v.book spawned)
       grow = learned_in job laws v.book spawned
 
-      order : In step.allowed.0 v.orders
-      order = (found_in job laws k v.orders step.allowed.0 step.allowed.1).0
+      order : In step.0 v.orders
+      order = (found_in job laws k v.orders step.0 step.1).0
 
-      known : OrderKnown (learned job v.book spawned) step.allowed.0
-      known = order_more v.book (learned job v.book spawned) grow step.allowed.0 (inf.orders step.allowed.0 order)
+      known : OrderKnown (learned job v.book spawned) step.0
+      known = order_more v.book (learned job v.book spawned) grow step.0 (inf.orders step.0 order)
 
-      tells : TellsTo job inner (learned job v.book spawned) step.allowed.0.task j
+      tells : TellsTo job inner (learned job v.book spawned) step.0.task j
       tells =
-          tells_to (learned job v.book spawned) step.allowed.0 j refs spawned known step.allowed.2.next step.allowed.2.spawns (each_all (λ d. In d (learned job v.book spawned)) spawned (learned_has job laws v.book spawned))
+          tells_to (learned job v.book spawned) step.0 j refs spawned known step.2.next step.2.spawns (each_all (λ d. In d (learned job v.book spawned)) spawned (learned_has job laws v.book spawned))
 
       new : Each (Whole job inner (learned job v.book spawned)) spawned
       new =
-          let s = step.allowed.2.spawns in
-          let l = step.allowed.2.next.later in
-          part_before (Whole job inner (learned job v.book spawned)) (job.acts s.0 step.allowed.0.task) step.allowed.0.from j spawned (omega (arith, l)) s.2
-          (knows.made_told (learned job v.book spawned) step.allowed.0.task j s.0 tells s.1)
+          let s = step.2.spawns in
+          let l = step.2.next.later in
+          part_before (Whole job inner (learned job v.book spawned)) (job.acts s.0 step.0.task) step.0.from j spawned (omega (arith, l)) s.2
+          (knows.made_told (learned job v.book spawned) step.0.task j s.0 tells s.1)
 
       whole : (d : D) → In d (learned job v.book spawned) → Whole job inner (learned job v.book spawned) d
       whole d i = pick (learned_from job laws v.book spawned d i)
@@ -302,16 +302,16 @@ module _ {D : Type 0} (job : Job D) (laws : IsJob job) (inner : Inner D) (knows 
           pick (inl q) = whole_more v.book (learned job v.book spawned) grow d (inf.whole d q)
           pick (inr q) = each_of (Whole job inner (learned job v.book spawned)) d spawned q new
 
-      turn : (s : Save D) → (In s v.saves ⊎ (s ≡ record { task = step.allowed.0.task; j = j; worker = step.allowed.0.worker; refs = refs; holds = holds })) → SaveKnown (learned job v.book spawned) s
+      turn : (s : Save D) → (In s v.saves ⊎ (s ≡ record { task = step.0.task; j = j; worker = step.0.worker; refs = refs; holds = holds })) → SaveKnown (learned job v.book spawned) s
       turn s (inl i) = save_more v.book (learned job v.book spawned) grow s (inf.saves s i)
       turn s (inr e) =
           subst (SaveKnown (learned job v.book spawned)) (sym e)
           (record {
-            refs = knows.waits_told (learned job v.book spawned) step.allowed.0.task j refs tells step.allowed.2.next.waits;
+            refs = knows.waits_told (learned job v.book spawned) step.0.task j refs tells step.2.next.waits;
             told = tells;
           })
   informed_step p v (missed k d loss) inf step =
-      let a = step.allowed in
+      let a = step in
       let sh = shelved_step job laws p v (missed k d loss) inf.shelved step in
       subst Informed (sym (after_missed job laws v k d loss a.0 a.1))
       (record {
@@ -334,4 +334,4 @@ module _ {D : Type 0} (job : Job D) (laws : IsJob job) (inner : Inner D) (knows 
 
   pub informed_all : (p : Plan) (v : Standing D) (h : List (Event D)) → Informed v → LawfulFrom job p v h → Informed (after_all job v h)
   informed_all p v [] s l = s
-  informed_all p v (e ∷ es) s l = informed_all p (after job v e) es (informed_step p v e s l.0) l.1
+  informed_all p v (e ∷ es) s l = informed_all p (after job v e) es (informed_step p v e s l.0.allowed) l.1

@@ -259,7 +259,7 @@ module _ {D : Type 0} (job : Job D) (laws : IsJob job) where
         paced_all p u es (s ∷ used) c
         (record {
           numbered = numbered_step job laws p v (start k w t from) q.numbered l.0;
-          saves = saves_step job laws p v (start k w t from) q.saves l.0;
+          saves = saves_step job laws p v (start k w t from) q.saves l.0.allowed;
           spent = (me, each_more (Spent v) (Spent u) (λ x y. spent_start v x k w t from y) used q.spent);
           distinct = distinct_more (same_slot job) s used (unused p v k w t from used l.0 q.spent s refl refl) q.distinct;
           inside = (covers t from (needs job v t) a.needed (subst (λ n. WaitOf job t n (needs job v t)) (sym a.from_last) (last_ok job laws t v.saves q.saves)) s refl refl, q.inside);
@@ -269,7 +269,7 @@ module _ {D : Type 0} (job : Job D) (laws : IsJob job) where
         paced_all p (after job v (done k made copied spawned)) es used c
         (record {
           numbered = numbered_step job laws p v (done k made copied spawned) q.numbered l.0;
-          saves = saves_step job laws p v (done k made copied spawned) q.saves l.0;
+          saves = saves_step job laws p v (done k made copied spawned) q.saves l.0.allowed;
           spent = each_more (Spent v) (Spent (after job v (done k made copied spawned))) (λ x y. spent_done p v x k made copied spawned q.numbered l.0 y) used q.spent;
           distinct = q.distinct;
           inside = q.inside;
@@ -279,7 +279,7 @@ module _ {D : Type 0} (job : Job D) (laws : IsJob job) where
         paced_all p (after job v (saved k j mark refs holds spawned)) es used c
         (record {
           numbered = numbered_step job laws p v (saved k j mark refs holds spawned) q.numbered l.0;
-          saves = saves_step job laws p v (saved k j mark refs holds spawned) q.saves l.0;
+          saves = saves_step job laws p v (saved k j mark refs holds spawned) q.saves l.0.allowed;
           spent = each_more (Spent v) (Spent (after job v (saved k j mark refs holds spawned))) (λ x y. spent_saved p v x k j mark refs holds spawned q.numbered l.0 y) used q.spent;
           distinct = q.distinct;
           inside = q.inside;
@@ -289,7 +289,7 @@ module _ {D : Type 0} (job : Job D) (laws : IsJob job) where
         paced_all p (after job v (missed k d loss)) es used c
         (record {
           numbered = numbered_step job laws p v (missed k d loss) q.numbered l.0;
-          saves = saves_step job laws p v (missed k d loss) q.saves l.0;
+          saves = saves_step job laws p v (missed k d loss) q.saves l.0.allowed;
           spent = each_more (Spent v) (Spent (after job v (missed k d loss))) (λ x y. spent_missed p v x k d loss q.numbered l.0 y) used q.spent;
           distinct = q.distinct;
           inside = q.inside;
@@ -300,7 +300,7 @@ module _ {D : Type 0} (job : Job D) (laws : IsJob job) where
         (paced_all p (after job v (lost w closes)) es [] (suc c)
         (record {
           numbered = numbered_step job laws p v (lost w closes) q.numbered l.0;
-          saves = saves_step job laws p v (lost w closes) q.saves l.0;
+          saves = saves_step job laws p v (lost w closes) q.saves l.0.allowed;
           spent = tt;
           distinct = distinct_none (same_slot job);
           inside = tt;

@@ -164,6 +164,12 @@ module _ {D : Type 0} (job : Job D) (laws : IsJob job) (p : Plan) (h : List (Eve
           let m = names_low job (job.name d) ended.1 (subst (In (job.name d)) ended.5 j) in
           whole (inr (subst (λ z. In z ended.1) (same m.0 (copied_booked q.number ended.0 ended.1 ended.2 ended.3 m.0 m.1) m.2) m.1))
 
+  -- who has what by what stands is who has it by the text
+  pub placed_text : (d : D) (w : ℕ) → In w ((standing job h).places d) ↔ LiveAt h w d
+  placed_text d w =
+      let q = places_text job laws p h l w d in
+      (λ j. q.0 (in_any nat_eq (λ a. eq-eqb a a refl) w ((standing job h).places d) j), λ x. any_in nat_eq (λ a b e. eqb-true a b e) w ((standing job h).places d) (q.1 x))
+
   -- where a description of the book is, its name is
   pub placed_alike : (d : D) → In d (standing job h).book → (w : ℕ) → In w ((standing job h).places d) ↔ NameAt (journal_of job h) w (job.name d)
   placed_alike d i w = (there, back)

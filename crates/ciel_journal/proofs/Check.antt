@@ -467,4 +467,4 @@ module _ {D : Type 0} (job : Job D) (laws : IsJob job) (fuel : ℕ) (needed : Li
   lawful_true v [] s h = tt
   lawful_true v (e ∷ es) s h =
       let q = parts (step_test v e ∷ lawful_test (after job v e) es ∷ []) h in
-      let x = step_true v e s q.0 in (x, lawful_true (after job v e) es (saves_step job laws p v e s x) q.1.0)
+      let x = step_true v e s q.0 in (x, lawful_true (after job v e) es (saves_step job laws p v e s x.allowed) q.1.0)

@@ -31,6 +31,8 @@ pub mod Splits
 pub mod BookKnown
 pub mod Traced
 pub mod ByName
+pub mod Begins
+pub mod Ends
 pub mod Startable
 pub mod SmallKnown
 pub mod Picked

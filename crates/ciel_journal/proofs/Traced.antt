@@ -2,7 +2,7 @@
 use Rattle.std.proofs.Common.{◌≡◌, ℕ, ◌-◌, List, [], ◌∷◌, ◌++◌, not, ◌⊎◌, inl, inr, refl, sym, subst, arith, nat_eq}
 use Rattle.ciel_journal.specs.Job.{Digest, Task, Job, In, IsJob, Needed, StateOf, made_in, made_before, after_wait}
 use Rattle.ciel_journal.specs.History.{Event, start, done, saved, missed, lost, OpenStart, Plan, Save, Standing, after, after_all, before_all, learned, order_of}
-use Rattle.ciel_journal.specs.Lawful.{LawfulFrom, Step, own_name}
+use Rattle.ciel_journal.specs.Lawful.{Allowed, LawfulFrom, own_name}
 use Rattle.ciel_journal.proofs.BookKnown.{learned_from}
 use Rattle.ciel_journal.proofs.Good.{after_done, after_saved, after_missed}
 use Rattle.ciel_journal.proofs.Numbers.{found_in, in_filter, in_last}
@@ -48,7 +48,7 @@ module _ {D : Type 0} (job : Job D) (laws : IsJob job) where
       first d (inl e) = inl e
       first d (inr i) = absurd i
 
-  traced_step : (p : Plan) (v : Standing D) (e : Event D) → Traced v → Step job p v e → Traced (after job v e)
+  traced_step : (p : Plan) (v : Standing D) (e : Event D) → Traced v → Allowed job p v e → Traced (after job v e)
   traced_step p v (start k w t from) kept step =
       record {
         shelved = shelved_step job laws p v (start k w t from) kept.shelved step;
@@ -60,9 +60,9 @@ module _ {D : Type 0} (job : Job D) (laws : IsJob job) where
       pick : (o : OpenStart D) → (In o v.orders ⊎ (o ≡ order_of job v k w t from)) → OrderTraced v.book o
       pick o (inl i) = kept.orders o i
       pick o (inr s) =
-          subst (OrderTraced v.book) (sym s) (step.allowed.needed, started_own job laws p v kept.shelved k w t from step.allowed)
+          subst (OrderTraced v.book) (sym s) (step.needed, started_own job laws p v kept.shelved k w t from step)
   traced_step p v (done k made copied spawned) kept step =
-      let a = step.allowed in
+      let a = step in
       let sh = shelved_step job laws p v (done k made copied spawned) kept.shelved step in
       subst Traced (sym (after_done job laws v k made copied spawned a.0 a.1))
       (record {
@@ -74,11 +74,11 @@ module _ {D : Type 0} (job : Job D) (laws : IsJob job) where
     where
       new : (d : D) → In d spawned → Made d
       new d i =
-          let a = step.allowed in
+          let a = step in
           let s = a.2.spawns in
           inr (a.0.task, (kept.orders a.0 (found_in job laws k v.orders a.0 a.1).0).0, s.0, made_after_in a.0.from (job.acts s.0 a.0.task) d (subst (In d) s.2 i))
   traced_step p v (saved k j mark refs holds spawned) kept step =
-      let a = step.allowed in
+      let a = step in
       let sh = shelved_step job laws p v (saved k j mark refs holds spawned) kept.shelved step in
       subst Traced (sym (after_saved job laws v k j mark refs holds spawned a.0 a.1))
       (record {
@@ -88,22 +88,22 @@ module _ {D : Type 0} (job : Job D) (laws : IsJob job) where
         saves = λ s i. pick s (in_last s v.saves (record { task = a.0.task; j = j; worker = a.0.worker; refs = refs; holds = holds }) i);
       })
     where
-      order : In step.allowed.0 v.orders
-      order = (found_in job laws k v.orders step.allowed.0 step.allowed.1).0
+      order : In step.0 v.orders
+      order = (found_in job laws k v.orders step.0 step.1).0
 
       new : (d : D) → In d spawned → Made d
       new d i =
-          let a = step.allowed in
+          let a = step in
           let s = a.2.spawns in
           inr (a.0.task, (kept.orders a.0 order).0, s.0, made_between_in a.0.from (j - a.0.from) (job.acts s.0 a.0.task) d (subst (In d) s.2 i))
 
-      pick : (s : Save D) → (In s v.saves ⊎ (s ≡ record { task = step.allowed.0.task; j = j; worker = step.allowed.0.worker; refs = refs; holds = holds })) → SaveTraced (learned job v.book spawned) s
+      pick : (s : Save D) → (In s v.saves ⊎ (s ≡ record { task = step.0.task; j = j; worker = step.0.worker; refs = refs; holds = holds })) → SaveTraced (learned job v.book spawned) s
       pick s (inl i) = save_later v.book spawned s (kept.saves s i)
       pick s (inr e) =
-          let k = kept.orders step.allowed.0 order in
-          subst (SaveTraced (learned job v.book spawned)) (sym e) (k.0, learned_in job laws v.book spawned (own_name job step.allowed.0.task) k.1, mark, step.allowed.2.frozen)
+          let k = kept.orders step.0 order in
+          subst (SaveTraced (learned job v.book spawned)) (sym e) (k.0, learned_in job laws v.book spawned (own_name job step.0.task) k.1, mark, step.2.frozen)
   traced_step p v (missed k d loss) kept step =
-      let a = step.allowed in
+      let a = step in
       let sh = shelved_step job laws p v (missed k d loss) kept.shelved step in
       subst Traced (sym (after_missed job laws v k d loss a.0 a.1))
       (record {
@@ -122,7 +122,7 @@ module _ {D : Type 0} (job : Job D) (laws : IsJob job) where
 
   traced_all : (p : Plan) (v : Standing D) (h : List (Event D)) → Traced v → LawfulFrom job p v h → Traced (after_all job v h)
   traced_all p v [] s l = s
-  traced_all p v (e ∷ es) s l = traced_all p (after job v e) es (traced_step p v e s l.0) l.1
+  traced_all p v (e ∷ es) s l = traced_all p (after job v e) es (traced_step p v e s l.0.allowed) l.1
 
   pub traced : (p : Plan) (h : List (Event D)) → LawfulFrom job p (before_all job) h → Traced (after_all job (before_all job) h)
   traced p h l = traced_all p (before_all job) h traced_start l

@@ -187,7 +187,7 @@ module _ {D : Type 0} (job : Job D) (laws : IsJob job) where
       let m : journal_of job g ≡ journal_of job h = cc in
       let s : a ≡ b = same_event p q v c sh a b x.0 y.0 l in
       let y' : LawfulFrom job q (after job v a) h = subst (λ z. LawfulFrom job q (after job v z) h) (sym s) y.1 in
-      let r : g ≡ h = same_from p q (after job v a) x.0.apart (shelved_step job laws p v a sh x.0) g h x.1 y' m in
+      let r : g ≡ h = same_from p q (after job v a) x.0.apart (shelved_step job laws p v a sh x.0.allowed) g h x.1 y' m in
       ap (λ z. z ∷ g) s ∙ ap (λ z. b ∷ z) r
 
   -- the journal of names determines the history

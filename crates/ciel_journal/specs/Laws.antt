@@ -1,15 +1,15 @@
 -- The laws of a run's journal, each said of every job.
-use Rattle.std.specs.Prelude.{◌≡◌, ℕ, ◌+◌, ◌*◌, ◌≤◌, List, [], ◌∷◌, ◌++◌, length, true, false, ◌⊎◌, ◌↔◌, map, Option, Bool}
+use Rattle.std.specs.Prelude.{◌≡◌, ℕ, ◌+◌, ◌*◌, ◌≤◌, List, [], ◌∷◌, ◌++◌, length, true, false, Some, ◌⊎◌, ◌↔◌, map, Option, Bool}
 use Rattle.ciel_journal.specs.Job.{Digest, Task, show, Job, In, Each, IsJob, IsPrefix, Needed, Never, ObjectOf, StateOf, made_in}
-use Rattle.ciel_journal.specs.History.{Event, OpenStart, Plan, Save, done, entered, last, learned, live, saved, standing, start, Standing}
+use Rattle.ciel_journal.specs.History.{Event, OpenStart, Plan, Save, after, done, entered, find_open, order_of, last, learned, live, saved, standing, start, Standing}
 use Rattle.ciel_journal.specs.Known.{Inner, Knows, Whole}
-use Rattle.ciel_journal.specs.Lawful.{HeldAt, Lawful, own_name}
-use Rattle.ciel_journal.specs.Live.{Live, OpenIn, SavedIn, closes_of, spawned_of}
-use Rattle.ciel_journal.specs.Turns.{Ready, IsReadyList, CircleAtRest, Driven, idle}
+use Rattle.ciel_journal.specs.Lawful.{Allowed, HeldAt, Lawful, Step, own_name}
+use Rattle.ciel_journal.specs.Live.{Live, LiveAt, LostIn, OpenIn, SavedIn, closes_of, spawned_of}
+use Rattle.ciel_journal.specs.Turns.{Ready, IsReadyList, CircleAtRest, Driven, DrivenFrom, Turn, idle}
 use Rattle.ciel_journal.specs.Search.{LedTo}
 use Rattle.ciel_journal.specs.Wanted.{IsGraph, Wanted}
 use Rattle.ciel_journal.specs.Work.{Work, losses_of, starts_of}
-use Rattle.ciel_journal.specs.Entries.{Entry, journal_of, low_task}
+use Rattle.ciel_journal.specs.Entries.{Entry, journal_of, low, low_task}
 use Rattle.ciel_journal.specs.Journals.{BookOf, CircleOf, DrivenJournal, LawfulJournal, NameAt, entered_in}
 
 -- d stands in the book, no other description there has its name, and its object has this mark and no other
@@ -18,6 +18,25 @@ pub record Publishes {D : Type 0} (job : Job D) (h : List (Event D)) (d : D) (ma
   pub single : (e : D) → In e (standing job h).book → job.name e ≡ job.name d → e ≡ d
   pub seen : ObjectOf job d mark
   pub only : (other : Digest) → ObjectOf job d other → other ≡ mark
+
+-- the last event is the Done of the root task
+pub record ShowDone {D : Type 0} (job : Job D) (h : List (Event D)) : Type 0 where
+  pub before : List (Event D)
+  pub number : ℕ
+  pub made : List (D × Digest)
+  pub copied : List D
+  pub spawned : List D
+  pub last : h ≡ before ++ done number made copied spawned ∷ []
+  pub order : OpenStart D
+  pub is_open : find_open job number (standing job before).orders ≡ Some order
+  pub root : order.task ≡ show
+
+-- an event made this open Start, and it says what stood before that
+pub record Began {D : Type 0} (job : Job D) (h : List (Event D)) (o : OpenStart D) : Type 0 where
+  pub before : List (Event D)
+  pub rest : List (Event D)
+  pub whole : h ≡ before ++ start o.number o.worker o.task o.from ∷ rest
+  pub stood : o ≡ order_of job (standing job before) o.number o.worker o.task o.from
 
 module _ (D : Type 0) where
   -- said of every job with the laws of one
@@ -62,6 +81,43 @@ module _ (D : Type 0) where
   abbrev pub BookIsTold : Type 0
   BookIsTold = OfLawful (λ job p h v. v.book ≡ learned job (job.main ∷ []) (spawned_of h))
 
+  -- what a worker has, by what stands, is what it has by the text
+  abbrev pub PlacesAreTold : Type 0
+  PlacesAreTold = OfLawful (λ job p h v. (d : D) (w : ℕ) → In w (v.places d) ↔ LiveAt h w d)
+
+  -- the lost workers are those with a Lost
+  abbrev pub GoneIsTold : Type 0
+  GoneIsTold = (job : Job D) (h : List (Event D)) (w : ℕ) → In w (standing job h).gone ↔ LostIn h w
+
+  -- the root task is done where the history ends with its Done
+  abbrev pub OverIsTold : Type 0
+  OverIsTold = OfLawful (λ job p h v. (v.over ≡ true) ↔ ShowDone job h)
+
+  -- an open Start says who had what, who was lost, and where its stack was, when it was made
+  abbrev pub OpenStood : Type 0
+  OpenStood = (job : Job D) (h : List (Event D)) (o : OpenStart D) → In o (standing job h).orders → Began job h o
+
+  -- ---- going on
+
+  -- a lawful history goes on by a lawful event, and a driven one by one whose turn it is
+  abbrev pub LawfulGoesOn : Type 0
+  LawfulGoesOn =
+      OfLawful (λ job p h v. (e : Event D) → Step job p v e → Lawful job p (h ++ e ∷ []))
+
+  abbrev pub DrivenGoesOn : Type 0
+  DrivenGoesOn =
+      (job : Job D) (p : Plan) (h : List (Event D)) (e : Event D) → Driven job p h → Step job p (standing job h) e → Turn job p (standing job h) e → Driven job p (h ++ e ∷ [])
+
+  -- what stands then, and its journal
+  abbrev pub StandsOn : Type 0
+  StandsOn =
+      (job : Job D) (h : List (Event D)) (e : Event D) → (standing job (h ++ e ∷ []) ≡ after job (standing job h) e) × (journal_of job (h ++ e ∷ []) ≡ journal_of job h ++ low job e ∷ [])
+
+  -- each part of a driven history is driven from what stands before it
+  abbrev pub DrivenInParts : Type 0
+  DrivenInParts =
+      (job : Job D) (p : Plan) (g h : List (Event D)) → Driven job p (g ++ h) → Driven job p g × DrivenFrom job p (standing job g) h
+
   -- ---- what is in the book
 
   -- each description of the book is the main call, or made by a needed task
@@ -82,6 +138,11 @@ module _ (D : Type 0) where
   -- all that stands inside what is in the book is there, and all outputs of its task
   abbrev pub BookIsWhole : Type 0
   BookIsWhole = OfKnown (λ job inner p h v. (d : D) → In d v.book → Whole job inner v.book d)
+
+  -- and what an event adds is so too, where the job and what stands allow it: it needs neither room nor names that differ
+  abbrev pub NewIsWhole : Type 0
+  NewIsWhole =
+      OfKnown (λ job inner p h v. (e : Event D) → Allowed job p v e → (d : D) → In d (after job v e).book → Whole job inner (after job v e).book d)
 
   -- what some worker has is in the book, and so is all that its object holds
   abbrev pub PlacedIsBooked : Type 0

@@ -11,6 +11,7 @@ pub mod Wanted
 pub mod Work
 pub mod Entries
 pub mod Journals
+pub mod Segment
 pub mod Fixed
 pub mod SmallHistories
 pub mod SmallFacts

@@ -8,7 +8,7 @@ ghost use Rattle.ciel_journal.specs.SmallFacts.{BreaksLaw, BreaksTurns};
 ghost use Rattle.ciel_journal.specs.SmallHistories as h;
 ghost use Rattle.ciel_journal.specs.Turns.{Driven};
 ghost use Rattle.ciel_journal.specs.Known.{Knows};
-ghost use Rattle.ciel_journal.specs.Laws.{BookIsMade, BookIsTold, BookIsWhole, CircleIsEndless, CountsAreTold, DrivenIsLawful, EnteredAlike, FewStarts, ListedOrCircle, LiveIsTold, MadeIsSeen, NamedCircleIsEndless, NamesDetermine, OneBook, OneMark, OneState, OneWhole, OneWorker, OpenIsBooked, OpenIsNeeded, OpenIsTold, PlacedAlike, PlacedIsBooked, ReadyOrCircle, ReadyStarts, SavedIsBooked, SavedIsState, SavedIsTold, SearchFinds, StartedIsMissing, StartedIsNeeded};
+ghost use Rattle.ciel_journal.specs.Laws.{BookIsMade, BookIsTold, BookIsWhole, CircleIsEndless, CountsAreTold, DrivenGoesOn, DrivenInParts, DrivenIsLawful, EnteredAlike, FewStarts, GoneIsTold, LawfulGoesOn, ListedOrCircle, LiveIsTold, MadeIsSeen, NamedCircleIsEndless, NamesDetermine, NewIsWhole, OneBook, OneMark, OneState, OneWhole, OneWorker, OpenIsBooked, OpenIsNeeded, OpenIsTold, OpenStood, OverIsTold, PlacedAlike, PlacedIsBooked, PlacesAreTold, ReadyOrCircle, ReadyStarts, SavedIsBooked, SavedIsState, SavedIsTold, SearchFinds, StandsOn, StartedIsMissing, StartedIsNeeded};
 
 /// The two small jobs have the laws that are asked of a job.
 pub fn small_jobs_are_jobs()
@@ -46,14 +46,28 @@ pub fn small_histories_break_laws()
 /// What stands after a history, said of the whole of it. What is live after a lawful one is an input,
 /// or a description with a Done that made or copied it and no Lost of that worker. The open Starts
 /// are those that no entry has closed and whose worker has no Lost, the saved waits those of the
-/// Saved whose worker has no Lost. Starts and closes are counted. The book is the main call and then all that was spawned, each at its first
-/// place only.
+/// Saved whose worker has no Lost. Starts and closes are counted. The book is the main call and then all
+/// that was spawned, each at its first place only. The places are those of the text, the lost workers those with a Lost,
+/// the root task is done where the history ends with its Done, and an open Start says what stood when it was made.
 pub fn live_is_told<D>()
     ensures live { LiveIsTold D }
     ensures open { OpenIsTold D }
     ensures saved { SavedIsTold D }
     ensures counts { CountsAreTold D }
     ensures book { BookIsTold D }
+    ensures places { PlacesAreTold D }
+    ensures gone { GoneIsTold D }
+    ensures over { OverIsTold D }
+    ensures stood { OpenStood D }
+{}
+
+/// A history goes on: a lawful one by a lawful event, a driven one by one whose turn it is. What stands then
+/// and its journal follow from the event, and each part of a driven history is driven.
+pub fn histories_go_on<D>()
+    ensures lawful { LawfulGoesOn D }
+    ensures driven { DrivenGoesOn D }
+    ensures stands { StandsOn D }
+    ensures parts { DrivenInParts D }
 {}
 
 /// Each description of the book is the main call or made by a needed task. What is open or saved is of a
@@ -65,10 +79,11 @@ pub fn book_is_made<D>()
 {}
 
 /// Where a job tells where all comes from that its tasks wait for and hold, all of it is in the book: what
-/// stands inside its descriptions, and all outputs of their tasks; what the objects hold that some worker
+/// stands inside its descriptions, and all outputs of their tasks, also as an event adds to it; what the objects hold that some worker
 /// has; what is waited for and held at a saved wait; and what the task of an open Start held.
 pub fn all_is_booked<D>()
     ensures whole { BookIsWhole D }
+    ensures new { NewIsWhole D }
     ensures placed { PlacedIsBooked D }
     ensures saved { SavedIsBooked D }
     ensures open { OpenIsBooked D }
