@@ -113,7 +113,7 @@ module _ {D : Type 0} (job : Job D) (laws : IsJob job) (inner : Inner D) (knows 
           live_carried S o known d (each_of (λ x. live_in job o.had x ≡ true) d ds i (known.met ds (subst (λ j. WaitOf job o.task j ds) (sym s) w))) n e c
       pick (inr (inr l)) = live_carried S o known d (each_of (Given job o) d ds i (given l)).1 n e c
 
-  tells_end : (S : List D) (o : OpenStart D) (spawned : List D) → OrderKnown S o → NextEnd job o → SpawnedToEnd job o spawned → Each (λ d. In d S) spawned → TellsToEnd job inner S o.task
+  tells_end : (S : List D) (o : OpenStart D) (spawned : List D) → OrderKnown S o → NextEnd job (Given job o) o.task o.from → SpawnedToEnd job o spawned → Each (λ d. In d S) spawned → TellsToEnd job inner S o.task
   tells_end S o spawned known next spawns all =
       record {
         begins = known.told.begins;
@@ -123,7 +123,7 @@ module _ {D : Type 0} (job : Job D) (laws : IsJob job) (inner : Inner D) (knows 
             (each_join (λ d. In d S) (made_before o.from (job.acts n o.task)) (made_in (after_wait o.from (job.acts n o.task))) (known.told.makes n (comes_to o known.here.0 n known.here.1 e)) (subst (Each (λ d. In d S)) (sym s) all));
       }
 
-  tells_to : (S : List D) (o : OpenStart D) (j : ℕ) (refs spawned : List D) → OrderKnown S o → NextWait job o j refs → SpawnedTo job o j spawned → Each (λ d. In d S) spawned → TellsTo job inner S o.task j
+  tells_to : (S : List D) (o : OpenStart D) (j : ℕ) (refs spawned : List D) → OrderKnown S o → NextWait job (Given job o) o.task o.from j refs → SpawnedTo job o j spawned → Each (λ d. In d S) spawned → TellsTo job inner S o.task j
   tells_to S o j refs spawned known next spawns all =
       record {
         begins = known.told.begins;

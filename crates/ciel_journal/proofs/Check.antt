@@ -159,14 +159,14 @@ module _ {D : Type 0} (job : Job D) (laws : IsJob job) (fuel : ℕ) (needed : Li
       let e : x.0 ≡ ds = wait_unique job laws t (suc j) x.0 ds (fuel, x.1) w in
       subst (λ z. slice_get (waits t) j ≡ Some z) e x.1
 
-  end_next : (o : OpenStart D) → job.ended fuel o.task ≡ true → after_given o o.from (waits o.task) ≡ true → NextEnd job o
+  end_next : (o : OpenStart D) → job.ended fuel o.task ≡ true → after_given o o.from (waits o.task) ≡ true → NextEnd job (Given job o) o.task o.from
   end_next o e h = record { ends = (fuel, e); met = met }
     where
       met : (k : ℕ) (es : List D) → o.from < k → WaitOf job o.task k es → Each (Given job o) es
       met zero es l w = absurd (omega (arith, l))
       met (suc k) es l w = after_at o o.from (waits o.task) k es h (omega (arith, l)) (wait_at_end job laws fuel o.task k es e w)
 
-  wait_next : (o : OpenStart D) (j : ℕ) (refs : List D) → o.from < suc j → slice_get (waits o.task) j ≡ Some refs → list_any (λ d. not (live_in job o.had d)) refs ≡ true → after_given o o.from (first_few j (waits o.task)) ≡ true → NextWait job o (suc j) refs
+  wait_next : (o : OpenStart D) (j : ℕ) (refs : List D) → o.from < suc j → slice_get (waits o.task) j ≡ Some refs → list_any (λ d. not (live_in job o.had d)) refs ≡ true → after_given o o.from (first_few j (waits o.task)) ≡ true → NextWait job (Given job o) o.task o.from (suc j) refs
   wait_next o j refs l g u h =
       let x = any_find (λ d. not (live_in job o.had d)) refs u in
       record {

@@ -17,6 +17,7 @@ pub mod WantedLaw
 pub mod Shelved
 pub mod Unique
 pub mod Published
+pub mod Next
 pub mod OneWorker
 pub mod Check
 pub mod CheckTurns

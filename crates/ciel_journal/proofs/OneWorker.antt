@@ -8,6 +8,7 @@ use Rattle.ciel_journal.specs.Turns.{Chosen, Driven, DrivenFrom, FirstDue, Ready
 use Rattle.ciel_journal.proofs.Picked.{picks_unique}
 use Rattle.ciel_journal.proofs.Members.{each_of, bool_cases}
 use Rattle.ciel_journal.proofs.Good.{after_done, after_saved, after_missed}
+use Rattle.ciel_journal.proofs.Next.{one_wait, not_end}
 use Rattle.ciel_journal.proofs.Numbers.{found_in, in_filter, in_last}
 use Rattle.ciel_journal.proofs.Shelved.{least_has}
 use Rattle.ciel_journal.proofs.Text.{Has, placed_cases, filter_has}
@@ -234,20 +235,6 @@ module _ {D : Type 0} (job : Job D) (laws : IsJob job) where
           let a : slice_get y.tasks (draw p.seed (2 * v.starts) % length y.tasks) ≡ Some t = subst (λ ts. slice_get ts (draw p.seed (2 * v.starts) % length ts) ≡ Some t) e x.task in
           let b : Some t ≡ Some s = sym a ∙ y.task in cc
 
-  same_wait : (o : OpenStart D) (j i : ℕ) (r q : List D) → NextWait job o j r → NextWait job o i q → j ≡ i
-  same_wait o j i r q a b = pick (cases j i)
-    where
-      cases : (m n : ℕ) → (m < n) ⊎ ((n < m) ⊎ (m ≡ n))
-      cases m n = grind arith
-
-      pick : ((j < i) ⊎ ((i < j) ⊎ (j ≡ i))) → j ≡ i
-      pick (inl h) = absurd (a.unmet.2 (each_of (Given job o) a.unmet.0 r a.unmet.1 (b.met j r a.later h a.waits)))
-      pick (inr (inl h)) = absurd (b.unmet.2 (each_of (Given job o) b.unmet.0 q b.unmet.1 (a.met i q b.later h b.waits)))
-      pick (inr (inr e)) = e
-
-  not_end : (o : OpenStart D) (j : ℕ) (r : List D) → NextEnd job o → NextWait job o j r → ⊥
-  not_end o j r a b = b.unmet.2 (each_of (Given job o) b.unmet.0 r b.unmet.1 (a.met j r b.later b.waits))
-
   -- the open order is the only one
   same_order : (v : Standing D) → Lone v → (k l : ℕ) (a b : OpenStart D) → find_open job k v.orders ≡ Some a → find_open job l v.orders ≡ Some b → (a ≡ b) × (k ≡ l)
   same_order v o k l a b x y =
@@ -270,14 +257,14 @@ module _ {D : Type 0} (job : Job D) (laws : IsJob job) where
   same_save v lone k l j i mark note r q h g s t o x a u y b =
       let e = same_order v lone k l o u x y in
       let b' : SavedAllowed job o i note q g t = subst (λ z. SavedAllowed job z i note q g t) (sym e.0) b in
-      let f : j ≡ i = same_wait o j i r q a.next b'.next in
+      let f : j ≡ i = one_wait job laws (Given job o) o.task o.from j i r q a.next b'.next in
       let b'' : SavedAllowed job o j note q g t = subst (λ z. SavedAllowed job o z note q g t) (sym f) b' in
       same_saved job laws k o j mark note r q h g s t a b'' ∙ (ap (λ z. saved z j note q g t) e.1 ∙ ap (λ z. saved l z note q g t) f)
 
   not_both : (v : Standing D) → Lone v → (k l j : ℕ) (mark : Digest) (m : List (D × Digest)) (c s r h t : List D) → (o : OpenStart D) → find_open job k v.orders ≡ Some o → DoneAllowed job o m c s → (q : OpenStart D) → find_open job l v.orders ≡ Some q → SavedAllowed job q j mark r h t → ⊥
   not_both v lone k l j mark m c s r h t o x a q y b =
       let e = same_order v lone k l o q x y in
-      not_end o j r a.next (subst (λ z. NextWait job z j r) (sym e.0) b.next)
+      not_end job laws (Given job o) o.task o.from j r a.next (subst (λ z. NextWait job (Given job z) z.task z.from j r) (sym e.0) b.next)
 
   same_event : (p : Plan) (v : Standing D) → Lone v → (a b : Event D) → Step job p v a → Turn job p v a → Step job p v b → Turn job p v b → a ≡ b
   same_event p v l (lost w c) (lost u e) x s y t =

@@ -14,17 +14,18 @@ module _ {D : Type 0} (job : Job D) where
   abbrev pub Given : OpenStart D → D → Type 0
   Given o d = HeldAt o.task o.from d × (live_in job o.had d ≡ true)
 
-  -- the least wait after the order's for something that it doesn't bring along
-  pub record NextWait (o : OpenStart D) (i : ℕ) (ds : List D) : Type 0 where
-    pub later : o.from < i
-    pub waits : WaitOf job o.task i ds
-    pub unmet : (d : D) × In d ds × (Given o d → ⊥)
-    pub met : (k : ℕ) (es : List D) → o.from < k → k < i → WaitOf job o.task k es → Each (Given o) es
+  module _ (S : D → Type 0) (t : Task D) (from : ℕ) where
+    -- the least wait of a task after this one for something outside S
+    pub record NextWait (i : ℕ) (ds : List D) : Type 0 where
+      pub later : from < i
+      pub waits : WaitOf job t i ds
+      pub unmet : (d : D) × In d ds × (S d → ⊥)
+      pub met : (k : ℕ) (es : List D) → from < k → k < i → WaitOf job t k es → Each S es
 
-  -- there is no such wait, and the task comes to its end
-  pub record NextEnd (o : OpenStart D) : Type 0 where
-    pub ends : Ends job o.task
-    pub met : (k : ℕ) (es : List D) → o.from < k → WaitOf job o.task k es → Each (Given o) es
+    -- there is no such wait, and the task comes to its end
+    pub record NextEnd : Type 0 where
+      pub ends : Ends job t
+      pub met : (k : ℕ) (es : List D) → from < k → WaitOf job t k es → Each S es
 
   -- what the task makes after the order's wait and before its wait i
   abbrev pub SpawnedTo : OpenStart D → ℕ → List D → Type 0
@@ -84,14 +85,14 @@ module _ {D : Type 0} (job : Job D) where
       ((j : ℕ) × (ds : List D) × (o.from ≤ j) × WaitOf job o.task j ds × In d ds) × ((w : ℕ) × FetchedFrom o d w)
 
   pub record DoneAllowed (o : OpenStart D) (made : List (D × Digest)) (copied spawned : List D) : Type 0 where
-    pub next : NextEnd o
+    pub next : NextEnd (Given o) o.task o.from
     pub marked : Marked (job.outputs o.task) made
     pub distinct : IsDistinct job.same copied
     pub fetched : Each (Copied o) copied
     pub spawns : SpawnedToEnd o spawned
 
   pub record SavedAllowed (o : OpenStart D) (j : ℕ) (mark : Digest) (refs holds spawned : List D) : Type 0 where
-    pub next : NextWait o j refs
+    pub next : NextWait (Given o) o.task o.from j refs
     pub frozen : StateOf job o.task j (record { names = holds; mark = mark })
     pub spawns : SpawnedTo o j spawned
 

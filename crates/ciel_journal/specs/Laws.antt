@@ -3,7 +3,7 @@ use Rattle.std.specs.Prelude.{◌≡◌, ℕ, ◌+◌, ◌*◌, ◌≤◌, List,
 use Rattle.ciel_journal.specs.Job.{Digest, Task, show, Job, In, Each, IsJob, IsPrefix, Needed, Never, ObjectOf, StateOf, made_in}
 use Rattle.ciel_journal.specs.History.{Event, OpenStart, Plan, Save, after, done, entered, find_open, order_of, last, learned, live, saved, standing, start, Standing}
 use Rattle.ciel_journal.specs.Known.{Inner, Knows, Whole}
-use Rattle.ciel_journal.specs.Lawful.{Allowed, HeldAt, Lawful, Step, own_name}
+use Rattle.ciel_journal.specs.Lawful.{Allowed, HeldAt, Lawful, NextEnd, NextWait, Step, own_name}
 use Rattle.ciel_journal.specs.Live.{Live, LiveAt, LostIn, OpenIn, SavedIn, closes_of, spawned_of}
 use Rattle.ciel_journal.specs.Turns.{Ready, IsReadyList, CircleAtRest, Driven, DrivenFrom, Turn, idle}
 use Rattle.ciel_journal.specs.Search.{LedTo}
@@ -201,6 +201,14 @@ module _ (D : Type 0) where
   abbrev pub ReadyStarts : Type 0
   ReadyStarts =
       OfKnown (λ job inner p h v. 1 ≤ p.limit → v.over ≡ false → (t : Task D) → Ready job v t → (w : ℕ) → In w (idle job p v) → Lawful job p (h ++ start v.starts w t (last job v t) ∷ []))
+
+  -- a task has one next wait for something outside a list, and none where it comes to its end
+  pub record OneNext (job : Job D) : Type 0 where
+    pub wait : (S : List D) (t : Task D) (from j i : ℕ) (r q : List D) → NextWait job (λ d. In d S) t from j r → NextWait job (λ d. In d S) t from i q → (j ≡ i) × (r ≡ q)
+    pub end : (S : List D) (t : Task D) (from j : ℕ) (r : List D) → NextEnd job (λ d. In d S) t from → NextWait job (λ d. In d S) t from j r → ⊥
+
+  abbrev pub NextIsOne : Type 0
+  NextIsOne = OfJob (λ job. OneNext job)
 
   -- ---- names and marks
 

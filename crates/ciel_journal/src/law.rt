@@ -8,7 +8,7 @@ ghost use Rattle.ciel_journal.specs.SmallFacts.{BreaksLaw, BreaksTurns};
 ghost use Rattle.ciel_journal.specs.SmallHistories as h;
 ghost use Rattle.ciel_journal.specs.Turns.{Driven};
 ghost use Rattle.ciel_journal.specs.Known.{Knows};
-ghost use Rattle.ciel_journal.specs.Laws.{BookIsMade, BookIsTold, BookIsWhole, CircleIsEndless, CountsAreTold, DrivenGoesOn, DrivenInParts, DrivenIsLawful, EnteredAlike, FewStarts, GoneIsTold, LawfulGoesOn, ListedOrCircle, LiveIsTold, MadeIsSeen, NamedCircleIsEndless, NamesDetermine, NewIsWhole, OneBook, OneMark, OneState, OneWhole, OneWorker, OpenIsBooked, OpenIsNeeded, OpenIsTold, OpenStood, OverIsTold, PlacedAlike, PlacedIsBooked, PlacesAreTold, ReadyOrCircle, ReadyStarts, SavedIsBooked, SavedIsState, SavedIsTold, SearchFinds, StandsOn, StartedIsMissing, StartedIsNeeded};
+ghost use Rattle.ciel_journal.specs.Laws.{BookIsMade, BookIsTold, BookIsWhole, CircleIsEndless, CountsAreTold, DrivenGoesOn, DrivenInParts, DrivenIsLawful, EnteredAlike, FewStarts, GoneIsTold, LawfulGoesOn, ListedOrCircle, LiveIsTold, MadeIsSeen, NamedCircleIsEndless, NamesDetermine, NextIsOne, NewIsWhole, OneBook, OneMark, OneState, OneWhole, OneWorker, OpenIsBooked, OpenIsNeeded, OpenIsTold, OpenStood, OverIsTold, PlacedAlike, PlacedIsBooked, PlacesAreTold, ReadyOrCircle, ReadyStarts, SavedIsBooked, SavedIsState, SavedIsTold, SearchFinds, StandsOn, StartedIsMissing, StartedIsNeeded};
 
 /// The two small jobs have the laws that are asked of a job.
 pub fn small_jobs_are_jobs()
@@ -117,6 +117,11 @@ pub fn ready_is_listed<D>()
 /// A lawful history has no more Starts than there is work, once for each loss and once more.
 pub fn few_starts<D>()
     ensures starts { FewStarts D }
+{}
+
+/// From a wait on, a task has one next wait for something outside a list, and none where it comes to its end.
+pub fn next_is_one<D>()
+    ensures one { NextIsOne D }
 {}
 
 /// Each name made is that of one description of the book, beside the mark of the one object that
