@@ -12,6 +12,7 @@ pub mod Jobs
 pub mod OpenLaw
 pub mod NodesLaw
 pub mod CountLaw
+pub mod BatchLaw
 pub mod TaskOutputs
 pub mod TaskFuel
 pub mod FineLaw
