@@ -4,8 +4,9 @@ use Rattle.std.specs.List.{list_any}
 use Rattle.ciel_journal.specs.Job.{Task, show, of, Job, In, Each, IsJob, WaitOf, after_wait, made_before, made_in, waits_in}
 use Rattle.ciel_journal.specs.History.{Event, start, done, saved, missed, lost, OpenStart, Plan, Save, Standing, after, after_all, before_all, better, last, last_save, learned, live_if, live_in, names_of, needs, order_of, placed, same_task, wait_number}
 use Rattle.ciel_journal.specs.Lawful.{Copied, Given, LawfulFrom, NextEnd, NextWait, SpawnedTo, SpawnedToEnd, Allowed, own_name}
-use Rattle.ciel_journal.specs.Known.{Begins, Inner, Knows, TellsTo, TellsToEnd, Whole}
+use Rattle.ciel_journal.specs.Known.{Around, Begins, HeadsFirst, Inner, Knows, TellsTo, TellsToEnd, Whole}
 use Rattle.ciel_journal.proofs.Members.{any_in, in_any, each_of, bool_cases}
+use Rattle.ciel_journal.proofs.Batches.{WithOutputs, book_heads, end_whole, segment_whole}
 use Rattle.ciel_journal.proofs.Booked.{each_more, learned_cases, one_has}
 use Rattle.ciel_journal.proofs.Bound.{task_exact}
 use Rattle.ciel_journal.proofs.Circle.{wait_at_end}
@@ -46,6 +47,7 @@ module _ {D : Type 0} (job : Job D) (laws : IsJob job) (inner : Inner D) (knows 
     pub shelved : Shelved job laws v
     pub saves_ok : SavesOk job laws v
     pub whole : (d : D) → In d v.book → Whole job inner v.book d
+    pub heads : HeadsFirst job [] v.book
     pub carried : (d : D) (w : ℕ) → Has v.places w d → (n : ℕ) (e : D) → In e (inner.carries n d) → In e v.book
     pub saves : (s : Save D) → In s v.saves → SaveKnown v.book s
     pub orders : (o : OpenStart D) → In o v.orders → OrderKnown v.book o
@@ -78,6 +80,11 @@ module _ {D : Type 0} (job : Job D) (laws : IsJob job) (inner : Inner D) (knows 
   save_more : (S T : List D) → Grows S T → (s : Save D) → SaveKnown S s → SaveKnown T s
   save_more S T g s k =
       record { refs = each_more (λ d. In d S) (λ d. In d T) g s.refs k.refs; told = tells_more S T g s.task s.j k.told }
+
+  -- what was spawned is whole, where what stands inside is in the book and the outputs of its tasks were spawned too
+  new_whole : (book ds : List D) → Each (Around job inner (learned job book ds)) ds → ((x : D) → In x ds → WithOutputs job laws ds x) → Each (Whole job inner (learned job book ds)) ds
+  new_whole book ds a w =
+      each_all (Whole job inner (learned job book ds)) ds (λ x i. (each_of (Around job inner (learned job book ds)) x ds i a, λ t e. each_more (λ o. In o ds) (λ o. In o (learned job book ds)) (λ o k. learned_has job laws book ds o k) (job.outputs t) (w x i t e)))
 
   -- ---- what an order brings along
 
@@ -138,7 +145,7 @@ module _ {D : Type 0} (job : Job D) (laws : IsJob job) (inner : Inner D) (knows 
 
   pub informed_start : Informed (before_all job)
   informed_start =
-      record { shelved = shelved_start job laws; saves_ok = tt; whole = whole; carried = λ d w h. cc; saves = λ s i. absurd i; orders = λ o i. absurd i }
+      record { shelved = shelved_start job laws; saves_ok = tt; whole = whole; heads = (λ e k. inl (knows.main_own e k), tt); carried = λ d w h. cc; saves = λ s i. absurd i; orders = λ o i. absurd i }
     where
       whole : (d : D) → In d (job.main ∷ []) → Whole job inner (job.main ∷ []) d
       whole d (inr i) = absurd i
@@ -191,6 +198,7 @@ module _ {D : Type 0} (job : Job D) (laws : IsJob job) (inner : Inner D) (knows 
         shelved = shelved_step job laws p v (start k w t from) inf.shelved step;
         saves_ok = inf.saves_ok;
         whole = inf.whole;
+        heads = inf.heads;
         carried = inf.carried;
         saves = inf.saves;
         orders = λ o i. pick o (in_last o v.orders (order_of job v k w t from) i);
@@ -216,6 +224,7 @@ module _ {D : Type 0} (job : Job D) (laws : IsJob job) (inner : Inner D) (knows 
         shelved = subst (Shelved job laws) (after_done job laws v k made copied spawned a.0 a.1) sh;
         saves_ok = subst (SavesOk job laws) (after_done job laws v k made copied spawned a.0 a.1) (saves_step job laws p v (done k made copied spawned) inf.saves_ok step);
         whole = whole;
+        heads = book_heads job laws v.book spawned inf.heads ends.1;
         carried = carried;
         saves = λ s i. save_more v.book (learned job v.book spawned) grow s (inf.saves s i);
         orders = λ o i. order_more v.book (learned job v.book spawned) grow o (inf.orders o (in_filter (λ (x : OpenStart D). not (nat_eq k x.number)) o v.orders i));
@@ -234,11 +243,16 @@ module _ {D : Type 0} (job : Job D) (laws : IsJob job) (inner : Inner D) (knows 
       tells =
           tells_end (learned job v.book spawned) step.0 spawned known step.2.next step.2.spawns (each_all (λ d. In d (learned job v.book spawned)) spawned (learned_has job laws v.book spawned))
 
+      ends : ((x : D) → In x spawned → WithOutputs job laws spawned x) × HeadsFirst job [] spawned
+      ends =
+          let s = step.2.spawns in
+          end_whole job laws step.0.from (job.acts s.0 step.0.task) spawned (knows.batches s.0 step.0.task) s.2
+
       new : Each (Whole job inner (learned job v.book spawned)) spawned
       new =
           let s = step.2.spawns in
-          later_part (Whole job inner (learned job v.book spawned)) (job.acts s.0 step.0.task) step.0.from spawned s.2
-          (knows.end_told (learned job v.book spawned) step.0.task s.0 tells s.1)
+          new_whole v.book spawned (later_part (Around job inner (learned job v.book spawned)) (job.acts s.0 step.0.task) step.0.from spawned s.2 (knows.end_told (learned job v.book spawned) step.0.task s.0 tells s.1))
+          ends.0
 
       whole : (d : D) → In d (learned job v.book spawned) → Whole job inner (learned job v.book spawned) d
       whole d i = pick (learned_from job laws v.book spawned d i)
@@ -270,6 +284,7 @@ module _ {D : Type 0} (job : Job D) (laws : IsJob job) (inner : Inner D) (knows 
         shelved = subst (Shelved job laws) (after_saved job laws v k j mark refs holds spawned a.0 a.1) sh;
         saves_ok = subst (SavesOk job laws) (after_saved job laws v k j mark refs holds spawned a.0 a.1) (saves_step job laws p v (saved k j mark refs holds spawned) inf.saves_ok step);
         whole = whole;
+        heads = book_heads job laws v.book spawned inf.heads part.1;
         carried = λ d w h n e c. grow e (inf.carried d w h n e c);
         saves = λ s i. turn s (in_last s v.saves (record { task = a.0.task; j = j; worker = a.0.worker; refs = refs; holds = holds }) i);
         orders = λ o i. order_more v.book (learned job v.book spawned) grow o (inf.orders o (in_filter (λ (x : OpenStart D). not (nat_eq k x.number)) o v.orders i));
@@ -288,12 +303,17 @@ module _ {D : Type 0} (job : Job D) (laws : IsJob job) (inner : Inner D) (knows 
       tells =
           tells_to (learned job v.book spawned) step.0 j refs spawned known step.2.next step.2.spawns (each_all (λ d. In d (learned job v.book spawned)) spawned (learned_has job laws v.book spawned))
 
+      part : ((x : D) → In x spawned → WithOutputs job laws spawned x) × HeadsFirst job [] spawned
+      part =
+          let s = step.2.spawns in
+          segment_whole job laws step.0.from (j - step.0.from) (job.acts s.0 step.0.task) spawned (knows.batches s.0 step.0.task) s.2
+
       new : Each (Whole job inner (learned job v.book spawned)) spawned
       new =
           let s = step.2.spawns in
           let l = step.2.next.later in
-          part_before (Whole job inner (learned job v.book spawned)) (job.acts s.0 step.0.task) step.0.from j spawned (omega (arith, l)) s.2
-          (knows.made_told (learned job v.book spawned) step.0.task j s.0 tells s.1)
+          new_whole v.book spawned (part_before (Around job inner (learned job v.book spawned)) (job.acts s.0 step.0.task) step.0.from j spawned (omega (arith, l)) s.2 (knows.made_told (learned job v.book spawned) step.0.task j s.0 tells s.1))
+          part.0
 
       whole : (d : D) → In d (learned job v.book spawned) → Whole job inner (learned job v.book spawned) d
       whole d i = pick (learned_from job laws v.book spawned d i)
@@ -318,6 +338,7 @@ module _ {D : Type 0} (job : Job D) (laws : IsJob job) (inner : Inner D) (knows 
         shelved = subst (Shelved job laws) (after_missed job laws v k d loss a.0 a.1) sh;
         saves_ok = subst (SavesOk job laws) (after_missed job laws v k d loss a.0 a.1) (saves_step job laws p v (missed k d loss) inf.saves_ok step);
         whole = inf.whole;
+        heads = inf.heads;
         carried = inf.carried;
         saves = inf.saves;
         orders = λ o i. inf.orders o (in_filter (λ (x : OpenStart D). not (nat_eq k x.number)) o v.orders i);
@@ -327,6 +348,7 @@ module _ {D : Type 0} (job : Job D) (laws : IsJob job) (inner : Inner D) (knows 
         shelved = shelved_step job laws p v (lost w closes) inf.shelved step;
         saves_ok = saves_step job laws p v (lost w closes) inf.saves_ok step;
         whole = inf.whole;
+        heads = inf.heads;
         carried = λ d u h n e c. inf.carried d u (filter_has job laws w u (v.places d) h).0 n e c;
         saves = λ s i. inf.saves s (in_filter (λ (x : Save D). not (nat_eq w x.worker)) s v.saves i);
         orders = λ o i. inf.orders o (in_filter (λ (x : OpenStart D). not (nat_eq w x.worker)) o v.orders i);

@@ -29,6 +29,7 @@ pub mod IdleLaw
 pub mod DueLaw
 pub mod ThreeLaw
 pub mod Splits
+pub mod Batches
 pub mod BookKnown
 pub mod Traced
 pub mod ByName

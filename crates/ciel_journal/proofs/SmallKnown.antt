@@ -2,8 +2,8 @@
 use Rattle.std.proofs.Common.{◌≡◌, ℕ, zero, suc, ◌≤◌, ◌<◌, List, [], ◌∷◌, ◌++◌, length, length-append, Bool, true, false, cond, Some, None, slice_get, inl, inr, refl, ap, sym, ◌∙◌, subst, arith, nat_le, leb-true}
 use Rattle.ciel_journal.specs.Job.{Task, show, of, Act, made, wait, Held, Job, In, Each, WaitOf, StateOf, waits_in, made_before, made_in}
 use Rattle.ciel_journal.specs.Lawful.{HeldAt}
-use Rattle.ciel_journal.specs.Known.{Inner, Knows, TellsTo, TellsToEnd, Whole}
-use Rattle.ciel_journal.specs.Fixed.{Fixed, Piece, acts_by, seen_with, fixed_job, small_lists, small_inner, piece_task, piece_outputs, piece_first, piece_script, piece_holds, piece_inside, piece_carries}
+use Rattle.ciel_journal.specs.Known.{Around, Batched, Inner, Knows, TellsTo, TellsToEnd}
+use Rattle.ciel_journal.specs.Fixed.{Fixed, Piece, acts_by, all_seen, until, seen_with, fixed_job, small_lists, small_inner, piece_task, piece_outputs, piece_first, piece_script, piece_holds, piece_inside, piece_carries}
 use Rattle.ciel_journal.specs.Fixed as f
 use Rattle.ciel_journal.proofs.Circle.{waits_join}
 use Rattle.ciel_journal.proofs.Members.{each_of}
@@ -74,27 +74,48 @@ module _ (reads : Bool) where
       let e = t.makes n l in
       record { one = e.0; two = e.1.0; text = e.1.1.0; left = e.1.1.1.0; right = e.1.1.1.1.0 }
 
-  abbrev whole_of : List Piece → Piece → Type 0
-  whole_of S d = Whole job inner S d
+  five_around : (S : List Piece) → Five S → (d : Piece) → In d all_five → Around job inner S d
+  five_around S v d (inl s) = subst (Around job inner S) (sym s) tt
+  five_around S v d (inr (inl s)) = subst (Around job inner S) (sym s) tt
+  five_around S v d (inr (inr (inl s))) = subst (Around job inner S) (sym s) tt
+  five_around S v d (inr (inr (inr (inl s)))) = subst (Around job inner S) (sym s) (v.text, tt)
+  five_around S v d (inr (inr (inr (inr (inl s))))) = subst (Around job inner S) (sym s) (v.text, tt)
+  five_around S v d (inr (inr (inr (inr (inr i))))) = absurd i
 
-  same_outputs : (S : List Piece) (d : Piece) (u : Task Piece) → piece_task d ≡ Some u → Each (λ e. In e S) (piece_outputs u) → (t : Task Piece) → piece_task d ≡ Some t → Each (λ e. In e S) (piece_outputs t)
-  same_outputs S d u e h t g =
-      let k : Some u ≡ Some t = sym e ∙ g in let s : u ≡ t = cc in subst (λ x. Each (λ y. In y S) (piece_outputs x)) s h
+  -- ---- batches
 
-  five_whole : (S : List Piece) → Five S → (d : Piece) → In d all_five → whole_of S d
-  five_whole S v d (inl s) =
-      subst (whole_of S) (sym s) (tt, same_outputs S f.one (of f.one) refl (v.one, tt))
-  five_whole S v d (inr (inl s)) =
-      subst (whole_of S) (sym s) (tt, same_outputs S f.two (of f.two) refl (v.two, tt))
-  five_whole S v d (inr (inr (inl s))) = subst (whole_of S) (sym s) (tt, none)
+  until_batched : (seen : Piece → Bool) (xs : List Piece) (acts : List (Act Piece)) → Batched job xs acts → Batched job xs (until seen acts)
+  until_batched seen [] [] b = tt
+  until_batched seen (x ∷ xs) [] b = absurd b
+  until_batched seen [] (made d ∷ acts) b = (b.0, b.1, until_batched seen b.0 acts b.2)
+  until_batched seen (x ∷ xs) (made d ∷ acts) b = (b.0, until_batched seen xs acts b.1)
+  until_batched seen [] (wait ds ∷ acts) b = pick (all_seen seen ds) (until_batched seen [] acts b)
     where
-      none : (t : Task Piece) → piece_task f.text ≡ Some t → Each (λ e. In e S) (piece_outputs t)
-      none t h = cc
-  five_whole S v d (inr (inr (inr (inl s)))) =
-      subst (whole_of S) (sym s) ((v.text, tt), same_outputs S f.left (of f.left) refl (v.left, (v.right, tt)))
-  five_whole S v d (inr (inr (inr (inr (inl s))))) =
-      subst (whole_of S) (sym s) ((v.text, tt), same_outputs S f.right (of f.left) refl (v.left, (v.right, tt)))
-  five_whole S v d (inr (inr (inr (inr (inr i))))) = absurd i
+      pick : (c : Bool) → Batched job [] (until seen acts) → Batched job [] (cond c (until seen acts) [])
+      pick true h = h
+      pick false h = tt
+  until_batched seen (x ∷ xs) (wait ds ∷ acts) b = absurd b
+
+  show_batched : (b : Bool) → Batched job [] (piece_script b show)
+  show_batched true = tt
+  show_batched false = tt
+
+  script_batched : (t : Task Piece) → Batched job [] (piece_script reads t)
+  script_batched show = show_batched reads
+  script_batched (of f.main) =
+      ([], inr (refl, refl), ([], inr (refl, refl), ([], inl (refl, refl), (f.right ∷ [], inr (refl, refl), (refl, tt)))))
+  script_batched (of f.one) = tt
+  script_batched (of f.two) = tt
+  script_batched (of f.left) = tt
+  script_batched (of f.right) = tt
+  script_batched (of f.text) = tt
+
+  pub batches : (n : ℕ) (t : Task Piece) → Batched job [] (job.acts n t)
+  batches n t = pick (all_seen (seen_with (small_lists reads) n) (piece_first t)) (until_batched (seen_with (small_lists reads) n) [] (piece_script reads t) (script_batched t))
+    where
+      pick : (c : Bool) → Batched job [] (until (seen_with (small_lists reads) n) (piece_script reads t)) → Batched job [] (cond c (until (seen_with (small_lists reads) n) (piece_script reads t)) [])
+      pick true h = h
+      pick false h = tt
 
   -- only the main call makes anything
   made_main : (t : Task Piece) (d : Piece) → In d (made_in (piece_script reads t)) → (t ≡ of f.main) × In d all_five
@@ -208,22 +229,22 @@ module _ (reads : Bool) (S : List Piece) where
       go (of f.right) (suc m) x y k = absurd (omega (arith, k))
       go (of f.text) (suc m) x y k = absurd (omega (arith, k))
 
-  made_told : (t : Task Piece) (i n : ℕ) → Told t i → i ≤ length (waits_in (theJob.acts n t)) → Each (Whole theJob (small_inner reads) S) (made_before i (theJob.acts n t))
+  made_told : (t : Task Piece) (i n : ℕ) → Told t i → i ≤ length (waits_in (theJob.acts n t)) → Each (Around theJob (small_inner reads) S) (made_before i (theJob.acts n t))
   made_told t zero n s k = tt
   made_told t (suc m) n s k =
-      each_all (Whole theJob (small_inner reads) S) (made_before (suc m) (theJob.acts n t)) (λ d x. go d (made_main reads t d (later_made reads n t d (before_in (suc m) (theJob.acts n t) d x))))
+      each_all (Around theJob (small_inner reads) S) (made_before (suc m) (theJob.acts n t)) (λ d x. go d (made_main reads t d (later_made reads n t d (before_in (suc m) (theJob.acts n t) d x))))
     where
-      go : (d : Piece) → (t ≡ of f.main) × In d (f.one ∷ f.two ∷ f.text ∷ f.left ∷ f.right ∷ []) → Whole theJob (small_inner reads) S d
+      go : (d : Piece) → (t ≡ of f.main) × In d (f.one ∷ f.two ∷ f.text ∷ f.left ∷ f.right ∷ []) → Around theJob (small_inner reads) S d
       go d x =
-          five_whole reads S (five_to reads S m n (subst (λ u. Told u (suc m)) x.0 s) (subst (λ u. suc m ≤ length (waits_in (theJob.acts n u))) x.0 k)) d x.1
+          five_around reads S (five_to reads S m n (subst (λ u. Told u (suc m)) x.0 s) (subst (λ u. suc m ≤ length (waits_in (theJob.acts n u))) x.0 k)) d x.1
 
-  end_told : (t : Task Piece) (n : ℕ) → TellsToEnd theJob (small_inner reads) S t → theJob.ended n t ≡ true → Each (Whole theJob (small_inner reads) S) (made_in (theJob.acts n t))
+  end_told : (t : Task Piece) (n : ℕ) → TellsToEnd theJob (small_inner reads) S t → theJob.ended n t ≡ true → Each (Around theJob (small_inner reads) S) (made_in (theJob.acts n t))
   end_told t n s k =
-      each_all (Whole theJob (small_inner reads) S) (made_in (theJob.acts n t)) (λ d x. go d (made_main reads t d (later_made reads n t d x)))
+      each_all (Around theJob (small_inner reads) S) (made_in (theJob.acts n t)) (λ d x. go d (made_main reads t d (later_made reads n t d x)))
     where
-      go : (d : Piece) → (t ≡ of f.main) × In d (f.one ∷ f.two ∷ f.text ∷ f.left ∷ f.right ∷ []) → Whole theJob (small_inner reads) S d
+      go : (d : Piece) → (t ≡ of f.main) × In d (f.one ∷ f.two ∷ f.text ∷ f.left ∷ f.right ∷ []) → Around theJob (small_inner reads) S d
       go d x =
-          five_whole reads S (five_end reads S (subst (λ u. TellsToEnd theJob (small_inner reads) S u) x.0 s)) d x.1
+          five_around reads S (five_end reads S (subst (λ u. TellsToEnd theJob (small_inner reads) S u) x.0 s)) d x.1
 
   carries_main : (b : Bool) → In f.left S → Each (λ e. In e S) (piece_carries b f.main)
   carries_main true i = (i, tt)
@@ -243,6 +264,9 @@ module _ (reads : Bool) (S : List Piece) where
 main_outputs : (t : Task Piece) → piece_task f.main ≡ Some t → piece_outputs t ≡ f.main ∷ []
 main_outputs t h = let e : of f.main ≡ t = cc in ap piece_outputs (sym e)
 
+main_own : (e : Piece) → piece_task f.main ≡ Some (of e) → e ≡ f.main
+main_own e h = cc
+
 carries_none : (reads : Bool) (d : Piece) → piece_task d ≡ None → piece_carries reads d ≡ []
 carries_none reads f.main h = cc
 carries_none reads f.one h = refl
@@ -256,6 +280,8 @@ small_knows reads =
     record {
       main_inside = refl;
       main_outputs = main_outputs;
+      main_own = main_own;
+      batches = λ n t. batches reads n t;
       input_carries = λ d n h. carries_none reads d h;
       waits_told = λ S t i ds s w. waits_told reads S t i ds s w;
       holds_told = λ S t i a s w. holds_told reads S t i a s w;

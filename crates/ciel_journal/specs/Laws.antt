@@ -2,7 +2,7 @@
 use Rattle.std.specs.Prelude.{◌≡◌, ℕ, ◌+◌, ◌*◌, ◌≤◌, List, [], ◌∷◌, ◌++◌, length, true, false, Some, ◌⊎◌, ◌↔◌, map, Option, Bool}
 use Rattle.ciel_journal.specs.Job.{Digest, Task, show, Job, In, Each, IsJob, IsPrefix, Needed, Never, ObjectOf, StateOf, made_in}
 use Rattle.ciel_journal.specs.History.{Event, OpenStart, Plan, Save, after, done, entered, find_open, order_of, last, learned, live, saved, standing, start, Standing}
-use Rattle.ciel_journal.specs.Known.{Inner, Knows, Whole}
+use Rattle.ciel_journal.specs.Known.{HeadsFirst, Inner, Knows, Whole}
 use Rattle.ciel_journal.specs.Lawful.{Allowed, HeldAt, Lawful, NextEnd, NextWait, Step, own_name}
 use Rattle.ciel_journal.specs.Live.{Live, LiveAt, LostIn, OpenIn, SavedIn, closes_of, spawned_of}
 use Rattle.ciel_journal.specs.Turns.{Ready, IsReadyList, CircleAtRest, Driven, DrivenFrom, Turn, idle}
@@ -134,6 +134,10 @@ module _ (D : Type 0) where
   abbrev pub SavedIsState : Type 0
   SavedIsState =
       OfLawful (λ job p h v. (s : Save D) → In s v.saves → Needed job s.task × In (own_name job s.task) v.book × (mark : Digest) × StateOf job s.task s.j (record { names = s.holds; mark = mark }))
+
+  -- each description of the book stands behind the one that its task goes by, or is that one: an executor's first output
+  abbrev pub FirstsComeFirst : Type 0
+  FirstsComeFirst = OfKnown (λ job inner p h v. HeadsFirst job [] v.book)
 
   -- all that stands inside what is in the book is there, and all outputs of its task
   abbrev pub BookIsWhole : Type 0

@@ -8,7 +8,7 @@ ghost use Rattle.ciel_journal.specs.SmallFacts.{BreaksLaw, BreaksTurns};
 ghost use Rattle.ciel_journal.specs.SmallHistories as h;
 ghost use Rattle.ciel_journal.specs.Turns.{Driven};
 ghost use Rattle.ciel_journal.specs.Known.{Knows};
-ghost use Rattle.ciel_journal.specs.Laws.{BookIsMade, BookIsTold, BookIsWhole, CircleIsEndless, CountsAreTold, DrivenGoesOn, DrivenInParts, DrivenIsLawful, EnteredAlike, FewStarts, GoneIsTold, LawfulGoesOn, ListedOrCircle, LiveIsTold, MadeIsSeen, NamedCircleIsEndless, NamesDetermine, NextIsOne, NewIsWhole, OneBook, OneMark, OneState, OneWhole, OneWorker, OpenIsBooked, OpenIsNeeded, OpenIsTold, OpenStood, OverIsTold, PlacedAlike, PlacedIsBooked, PlacesAreTold, ReadyOrCircle, ReadyStarts, SavedIsBooked, SavedIsState, SavedIsTold, SearchFinds, StandsOn, StartedIsMissing, StartedIsNeeded};
+ghost use Rattle.ciel_journal.specs.Laws.{BookIsMade, BookIsTold, BookIsWhole, CircleIsEndless, CountsAreTold, DrivenGoesOn, DrivenInParts, DrivenIsLawful, EnteredAlike, FewStarts, FirstsComeFirst, GoneIsTold, LawfulGoesOn, ListedOrCircle, LiveIsTold, MadeIsSeen, NamedCircleIsEndless, NamesDetermine, NextIsOne, NewIsWhole, OneBook, OneMark, OneState, OneWhole, OneWorker, OpenIsBooked, OpenIsNeeded, OpenIsTold, OpenStood, OverIsTold, PlacedAlike, PlacedIsBooked, PlacesAreTold, ReadyOrCircle, ReadyStarts, SavedIsBooked, SavedIsState, SavedIsTold, SearchFinds, StandsOn, StartedIsMissing, StartedIsNeeded};
 
 /// The two small jobs have the laws that are asked of a job.
 pub fn small_jobs_are_jobs()
@@ -80,10 +80,11 @@ pub fn book_is_made<D>()
 
 /// Where a job tells where all comes from that its tasks wait for and hold, all of it is in the book: what
 /// stands inside its descriptions, and all outputs of their tasks, also as an event adds to it; what the objects hold that some worker
-/// has; what is waited for and held at a saved wait; and what the task of an open Start held.
+/// has; what is waited for and held at a saved wait; and what the task of an open Start held. An executor's first output stands before the others.
 pub fn all_is_booked<D>()
     ensures whole { BookIsWhole D }
     ensures new { NewIsWhole D }
+    ensures heads { FirstsComeFirst D }
     ensures placed { PlacedIsBooked D }
     ensures saved { SavedIsBooked D }
     ensures open { OpenIsBooked D }
