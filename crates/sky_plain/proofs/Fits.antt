@@ -44,7 +44,7 @@ module _ {N : Type 0} (sc : Script) (K L : N → Type 0) (more : (b : N) → K b
 
 -- ---- what a run comes to
 
-module _ (w : World (List ℕ)) (P : Val (List ℕ) → Type 0) (Q : Row → Type 0) (knows : Row → Option (Object (List ℕ))) (known_ok : (d : Row) (o : Object (List ℕ)) → Q d → knows d ≡ Some o → ObjectOk w P Q o) where
+module _ (w : World (List ℕ)) (P : Val (List ℕ) → Type 0) (Q : Row → Type 0) (V : Pairs (List ℕ) → Type 0) (knows : Row → Option (Object (List ℕ))) (known_ok : (d : Row) (o : Object (List ℕ)) → Q d → knows d ≡ Some o → ObjectOk w P Q o) where
   abbrev pub StopOk : Stop → Type 0
   StopOk (Stop.ended e st) = EndOk w P Q e
   StopOk (Stop.waits e) = Q e
@@ -84,7 +84,7 @@ module _ (w : World (List ℕ)) (P : Val (List ℕ) → Type 0) (Q : Row → Typ
   asked_ok rows k (Seen.all os) next h = next os h
   asked_ok rows k (Seen.lacks e) next h = record { rows_ok = λ c i. inl i; stop_ok = h }
 
-  pub walk_ok : (q : Res (List ℕ)) (d : ℕ) (rows : List Row) → Fine w P Q d q → WalkOk rows (walk knows rows q)
+  pub walk_ok : (q : Res (List ℕ)) (d : ℕ) (rows : List Row) → Fine w P Q V d q → WalkOk rows (walk knows rows q)
   walk_ok (Fin e st) d rows h = record { rows_ok = λ c i. inl i; stop_ok = h.0 }
   walk_ok (Tell o r) d rows h =
       told_ok rows o r (learn_to rows o) h.0 (λ more. walk_ok r d more h.1) (learned_new (is_held o rows) rows o)
