@@ -8,6 +8,7 @@ use Rattle.sky_law.specs.Tasks.{Each}
 use Rattle.sky_law.specs.Sound.{IsFun}
 use Rattle.sky_law.proofs.FormsLaw.{inner}
 use Rattle.sky_law.proofs.FineLaw.{ObjectOk, EndOk, OpenOk, FormsOk, Waits, Fine}
+use Rattle.sky_law.proofs.WrittenLaw.{any_made}
 
 module _ {N : Type 0} (w : World N) (P : v.Val N → Type 0) (Q : v.Desc N → Type 0) where
   abbrev pub SeenOk : Option (Object N) → Type 0
@@ -45,9 +46,9 @@ module _ {N : Type 0} (w : World N) (P : v.Val N → Type 0) (Q : v.Desc N → T
       outcome_on None k h g = tt
       outcome_on (Some os) k h g = g os h
 
-      pub outcome_fine : (r : Res N) (d : ℕ) → Fine w P Q V d r → OutcomeOk (outcome look r)
+      pub outcome_fine : (r : Res N) (d : ℕ) → Fine w P Q V any_made d r → OutcomeOk (outcome look r)
       outcome_fine (Fin e st) d g = g
-      outcome_fine (Tell o r) d g = outcome_fine r d g.1
+      outcome_fine (Tell o r) d g = outcome_fine r d (g.1 tt)
       outcome_fine (Ask q fr st k) d g =
           outcome_on (see_all look (refs_of q)) k (all_ok (refs_of q) g.0.0) (λ os h. outcome_fine (k os) d (g.1 os h))
 
@@ -55,9 +56,9 @@ module _ {N : Type 0} (w : World N) (P : v.Val N → Type 0) (Q : v.Desc N → T
       halt_on None k j d h g = tt
       halt_on (Some os) k j d h g = g os h
 
-      pub halt_fine : (j : ℕ) (r : Res N) (d : ℕ) → Fine w P Q V d r → HaltOk d (halt look j r)
+      pub halt_fine : (j : ℕ) (r : Res N) (d : ℕ) → Fine w P Q V any_made d r → HaltOk d (halt look j r)
       halt_fine j (Fin e st) d g = tt
-      halt_fine j (Tell o r) d g = halt_fine j r d g.1
+      halt_fine j (Tell o r) d g = halt_fine j r d (g.1 tt)
       halt_fine zero (Ask q fr st k) d g = g.0
       halt_fine (suc j) (Ask q fr st k) d g =
           halt_on (see_all look (refs_of q)) k j d (all_ok (refs_of q) g.0.0) (λ os h. halt_fine j (k os) d (g.1 os h))
@@ -66,9 +67,9 @@ module _ {N : Type 0} (w : World N) (P : v.Val N → Type 0) (Q : v.Desc N → T
       acts_on None k h g = tt
       acts_on (Some os) k h g = g os h
 
-      pub acts_fine : (r : Res N) (d : ℕ) → Fine w P Q V d r → Each ActOk (acts look r)
+      pub acts_fine : (r : Res N) (d : ℕ) → Fine w P Q V any_made d r → Each ActOk (acts look r)
       acts_fine (Fin e st) d g = tt
-      acts_fine (Tell o r) d g = (g.0, acts_fine r d g.1)
+      acts_fine (Tell o r) d g = (g.0, acts_fine r d (g.1 tt))
       acts_fine (Ask q fr st k) d g =
           (g.0.0, acts_on (see_all look (refs_of q)) k (all_ok (refs_of q) g.0.0) (λ os h. acts_fine (k os) d (g.1 os h)))
 

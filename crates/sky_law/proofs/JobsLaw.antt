@@ -18,7 +18,7 @@ use Rattle.sky_law.specs.Written.{Written}
 use Rattle.sky_law.proofs.FineLaw.{Closed, AnswerOk, ValsOk, ObjectOk, Fine, bind_ok, fine_call}
 use Rattle.sky_law.proofs.FineReads.{SeenOk, ActOk, OutcomeOk, HaltOk, FrameOk, outcome_fine, halt_fine, acts_fine, frames_ok}
 use Rattle.sky_law.proofs.TaskOutputs.{in_contains, each_in, in_each, distinct_refs_in}
-use Rattle.sky_law.proofs.WrittenLaw.{BodyWritten, body_written}
+use Rattle.sky_law.proofs.WrittenLaw.{BodyWritten, any_made, body_written}
 
 pub some_is : {A : Type 0} (a b : A) → Some a ≡ Some b → a ≡ b
 some_is a b e = cc
@@ -32,7 +32,7 @@ module _ (job : Job) (around : Around) (P U : Val → Type 0) (Q : Desc → Type
   w = world_of job.script around
 
   pub record JobClosed : Type 0 where
-    pub closed : Closed w P Q V L K
+    pub closed : Closed w P Q V any_made L K
     pub written : Written L K job.script
     pub start_ok : V no_pairs
     pub main_ok : P (ref main_call)
@@ -52,9 +52,9 @@ module _ (job : Job) (around : Around) (P U : Val → Type 0) (Q : Desc → Type
 
     -- ---- what is seen
 
-    run_fine : (f : List ℕ) (ca : Pairs) (vs : Vals) → Q (call f ca vs) → Fine w P Q V others (run_of job around f ca vs)
+    run_fine : (f : List ℕ) (ca : Pairs) (vs : Vals) → Q (call f ca vs) → Fine w P Q V any_made others (run_of job around f ca vs)
     run_fine f ca vs h =
-        fine_call w P Q V L K c.closed c.written others f ca vs nowhere start_st c.start_ok (c.call_ok f ca vs h).0 (c.call_ok f ca vs h).1
+        fine_call w P Q V any_made L K c.closed c.written others f ca vs nowhere start_st c.start_ok (c.call_ok f ca vs h).0 (c.call_ok f ca vs h).1
 
     object_ok : (o : Outcome ⊥) → OutcomeOk w P Q V o → Good (object_of o)
     object_ok (Outcome.ended End.goes st) h = c.closed.null_ok
@@ -301,7 +301,7 @@ module _ (job : Job) (around : Around) (P U : Val → Type 0) (Q : Desc → Type
     start_frame_ok : (f : List ℕ) (ca : Pairs) (vs : Vals) (o : Option Body) → BodyWritten L K o → Q (call f ca vs) → StandsOk (start_frame f ca vs o)
     start_frame_ok f ca vs None b h = tt
     start_frame_ok f ca vs (Some x) b h =
-        ((bind_ok w P Q V L K c.closed x.params vs ca b.0 (c.call_ok f ca vs h).1 (c.call_ok f ca vs h).0, tt, c.named_ok f ca vs h), tt)
+        ((bind_ok w P Q V any_made L K c.closed x.params vs ca b.0 (c.call_ok f ca vs h).1 (c.call_ok f ca vs h).0, tt, c.named_ok f ca vs h), tt)
 
     halt_state_ok : (f : List ℕ) (j : ℕ) (o : Option (Halt ⊥)) → (f ≡ []) ⊎ IsFun job.script f → HaltOk w P Q V others o → StandsOk (halt_state f j o)
     halt_state_ok f j None z h = tt
