@@ -25,6 +25,7 @@ pub mod SoundOps
 pub mod SoundJobs
 pub mod RisingLaw
 pub mod TypedOps
+pub mod RefersOps
 pub mod TypedJobs
 pub mod BoundLaw
 pub mod TaskMade
