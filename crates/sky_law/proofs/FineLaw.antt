@@ -101,7 +101,7 @@ module _ {N : Type 0} (w : World N) (P : Val N → Type 0) (Q : Desc N → Type 
       Fine d (Fin e st) = EndOk e × V st.vars
       Fine d (Tell o r) = Q o × (R o → Fine d r)
       Fine d (Ask q fr st k) =
-          (Each Q (refs_of q) × FormsOk d fr × V st.vars × Waits q fr) × ((os : List (Object N)) → Each ObjectOk os → Fine d (k os))
+          (Each (λ x. P (ref x)) (refs_of q) × FormsOk d fr × V st.vars × Waits q fr) × ((os : List (Object N)) → Each ObjectOk os → Fine d (k os))
 
       -- ---- the forms
 
@@ -124,7 +124,7 @@ module _ {N : Type 0} (w : World N) (P : Val N → Type 0) (Q : Desc N → Type 
           pass (End.returned v) st o l = (o, l)
           pass (End.failed f) st o l = (tt, l)
 
-      fine_wait : (q : Wait N) (d : ℕ) (en : Entry N) (st : St N) (go : Val N → St N → Res N) → EntryOk d en → kept_of en ≡ waiting q ∷ [] → Each Q (refs_of q) → V st.vars → ((os : List (Object N)) → Each ObjectOk os → EndOk (wait_end w q os)) → ((v : Val N) (t : St N) → P v → V t.vars → Fine d (go v t)) → Fine d (then_do (ask w q st) en (on_got go))
+      fine_wait : (q : Wait N) (d : ℕ) (en : Entry N) (st : St N) (go : Val N → St N → Res N) → EntryOk d en → kept_of en ≡ waiting q ∷ [] → Each (λ x. P (ref x)) (refs_of q) → V st.vars → ((os : List (Object N)) → Each ObjectOk os → EndOk (wait_end w q os)) → ((v : Val N) (t : St N) → P v → V t.vars → Fine d (go v t)) → Fine d (then_do (ask w q st) en (on_got go))
       fine_wait q d en st go i e qs l ends h = ((qs, (i, tt), l, e), λ os o. pass (wait_end w q os) (ends os o))
         where
           pass : (x : End N) → EndOk x → Fine d (on_got go x st)
@@ -249,7 +249,6 @@ module _ {N : Type 0} (w : World N) (P : Val N → Type 0) (Q : Desc N → Type 
           pub inside_ok : (vs : Vals N) → P (list vs) → ValsOk vs
           pub reads_ok : (b : List ℕ) → AnswerOk (w.reads b)
           pub ref_ok : (d : Desc N) → Q d → R d → P (ref (w.make d))
-          pub to_ok : (d : Desc N) → P (ref d) → Q d
           pub refs_ok : (ds : List (Desc N)) → length ds ≤ 64 → Each (λ d. P (ref d)) ds → P (list (refs_to ds))
           pub call_ok : (f : List ℕ) (ca : Pairs N) (vs : Vals N) (x : FunDef) → find_fun f w.script.funs ≡ Some x → length x.params ≡ count vs → P (fun f ca) → P (list vs) → Q (call f ca vs)
           pub out_ok : (x : List ℕ) (a : Val N) (n i : ℕ) → P (text x) → P a → i < n → n ≤ 64 → Q (out x a n i)
@@ -336,10 +335,6 @@ module _ {N : Type 0} (w : World N) (P : Val N → Type 0) (Q : Desc N → Type 
           made_ok [] h m = tt
           made_ok (x ∷ ds) h m = (c.ref_ok x h.0 m.0, made_ok ds h.1 m.1)
 
-          asked_ok : (ds : List (Desc N)) → Each (λ d. P (ref d)) ds → Each Q ds
-          asked_ok [] h = tt
-          asked_ok (x ∷ ds) h = (c.to_ok x h.0, asked_ok ds h.1)
-
           module _ (d : ℕ) (st : St N) (l : V st.vars) (k : List (Desc N) → St N → Res N) (g : (es : List (Desc N)) → length es ≤ 64 → Each (λ x. P (ref x)) es → Fine d (k es st)) where
             fine_outputs_if : (b : Bool) (x : List ℕ) (a : Val N) (n : ℕ) (p : Place) → (b ≡ true → n ≤ 64) → P (text x) → P a → Fine d (outputs_if w b (outputs x a n 0 n) p st k)
             fine_outputs_if false x a n p le hx ha = (tt, l)
@@ -379,7 +374,7 @@ module _ {N : Type 0} (w : World N) (P : Val N → Type 0) (Q : Desc N → Type 
 
           fine_exec_ask : (n : ℕ) (ds : List (Desc N)) (d : ℕ) (st : St N) → V st.vars → length ds ≤ 64 → Each (λ x. P (ref x)) ds → Fine d (exec_ask w n ds st)
           fine_exec_ask n ds d st l le h =
-              fine_wait (all_of ds) d (exec_wait n ds) st gives ((c.refs_ok ds le h, tt), tt) refl (asked_ok ds h) l (λ os o. end_exec ds os (c.refs_ok ds le h)) (λ v s i m. (i, m))
+              fine_wait (all_of ds) d (exec_wait n ds) st gives ((c.refs_ok ds le h, tt), tt) refl h l (λ os o. end_exec ds os (c.refs_ok ds le h)) (λ v s i m. (i, m))
 
           fine_input_if : (b : Bool) (k : List ℕ) (p : Place) (d : ℕ) (st : St N) → V st.vars → (b ≡ true → Q (input k)) → Fine d (input_if w b k p st)
           fine_input_if false k p d st l q = (tt, l)
@@ -414,7 +409,7 @@ module _ {N : Type 0} (w : World N) (P : Val N → Type 0) (Q : Desc N → Type 
 
           fine_deref : (v : Val N) (n k : ℕ) (ss : List SignAt) (p : Place) (d : ℕ) (st : St N) (go : Val N → St N → Res N) → V st.vars → P v → ((u : Val N) (t : St N) → P u → V t.vars → Fine d (go u t)) → Fine d (deref w v n k ss p st go)
           fine_deref (ref x) n k ss p d st go l h g =
-              fine_wait (one_of p x) d (star_wait n k x ss) st go ((h, tt), tt) refl (c.to_ok x h, tt) l (λ os o. end_one p x os o) g
+              fine_wait (one_of p x) d (star_wait n k x ss) st go ((h, tt), tt) refl (h, tt) l (λ os o. end_one p x os o) g
           fine_deref null n k ss p d st go l h g = (tt, l)
           fine_deref (truth b) n k ss p d st go l h g = (tt, l)
           fine_deref (num z) n k ss p d st go l h g = (tt, l)

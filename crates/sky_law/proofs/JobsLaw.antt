@@ -36,6 +36,7 @@ module _ (job : Job) (around : Around) (P U : Val → Type 0) (Q : Desc → Type
     pub written : Written L K job.script
     pub start_ok : V no_pairs
     pub main_ok : P (ref main_call)
+    pub to_ok : (d : Desc) → P (ref d) → Q d
     pub weaker : (a : Val) → P a → U a
     pub stronger : (a : Val) → U a → Kept a → P a
     pub utf8_ok : (b : List ℕ) → is_utf8 b ≡ true → U (text b)
@@ -82,7 +83,7 @@ module _ (job : Job) (around : Around) (P U : Val → Type 0) (Q : Desc → Type
     unfolding see
     see_ok zero d h = tt
     see_ok (suc n) (call f ca vs) h =
-        object_ok (outcome (λ d. see job around n d) (run_of job around f ca vs)) (outcome_fine w P Q V (λ d. see job around n d) (λ d i. see_ok n d i) (run_of job around f ca vs) others (run_fine f ca vs h))
+        object_ok (outcome (λ d. see job around n d) (run_of job around f ca vs)) (outcome_fine w P Q V c.to_ok (λ d. see job around n d) (λ d i. see_ok n d i) (run_of job around f ca vs) others (run_fine f ca vs h))
     see_ok (suc n) (out x a m i) h = executed_ok x a m i _
     see_ok (suc n) (input k) h = tt
     see_ok (suc n) (known b) h = absurd b
@@ -90,11 +91,11 @@ module _ (job : Job) (around : Around) (P U : Val → Type 0) (Q : Desc → Type
     -- each description that a call makes or waits for
     acts_ok : (n : ℕ) (f : List ℕ) (ca : Pairs) (vs : Vals) → Q (call f ca vs) → Each (ActOk w P Q) (acts (see job around n) (run_of job around f ca vs))
     acts_ok n f ca vs h =
-        acts_fine w P Q V (see job around n) (see_ok n) (run_of job around f ca vs) others (run_fine f ca vs h)
+        acts_fine w P Q V c.to_ok (see job around n) (see_ok n) (run_of job around f ca vs) others (run_fine f ca vs h)
 
     halt_ok : (n j : ℕ) (f : List ℕ) (ca : Pairs) (vs : Vals) → Q (call f ca vs) → HaltOk w P Q V others (halt (see job around n) j (run_of job around f ca vs))
     halt_ok n j f ca vs h =
-        halt_fine w P Q V (see job around n) (see_ok n) j (run_of job around f ca vs) others (run_fine f ca vs h)
+        halt_fine w P Q V c.to_ok (see job around n) (see_ok n) j (run_of job around f ca vs) others (run_fine f ca vs h)
 
     -- ---- the result
 
@@ -233,7 +234,7 @@ module _ (job : Job) (around : Around) (P U : Val → Type 0) (Q : Desc → Type
     halt_refs_ok (Some x) h = h.0
 
     main_made : Q main_call
-    main_made = c.closed.to_ok main_call c.main_ok
+    main_made = c.to_ok main_call c.main_ok
 
     waits_for : (n : ℕ) (t : Task) (j : ℕ) → TaskOk t → RefsList (wait_at job around n t j)
     waits_for n Task.show zero h = (main_made, tt)

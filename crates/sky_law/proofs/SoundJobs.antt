@@ -116,6 +116,7 @@ module _ (job : Job) (around : Around) (reads : SoundReads job.script around) wh
         written = written_any job.script;
         start_ok = tt;
         main_ok = main_sound job.script;
+        to_ok = λ d h. h.1;
         weaker = λ a h. h.1;
         stronger = λ a r k. (k, r);
         utf8_ok = λ b e. tt;

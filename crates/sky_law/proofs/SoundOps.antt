@@ -473,7 +473,6 @@ module _ (N : Type 0) (K : N → Type 0) (sc : Script) where
         inside_ok = list_inside;
         reads_ok = reads;
         ref_ok = λ d h m. ref_sound (w.make d) (make d h);
-        to_ok = λ d h. h.1;
         refs_ok = refs_sound;
         call_ok = λ f ps vs x e n z h. (h.0, caught_kept f ps z.0, h.1, z.1.1, inr (calls_if (find_fun f sc.funs) x ps vs (sym (same f) ∙ e) n z.1.0));
         out_ok = λ x a n i t h lt le. (t.0, h.0, h.1, lt, le);

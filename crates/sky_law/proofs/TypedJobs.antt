@@ -165,7 +165,6 @@ module _ (job : Job) (around : Around) (start : TypedJob job around) where
         inside_ok = λ vs h. both_vals vs (s.inside_ok vs h.0) h.1;
         reads_ok = λ b. both (around.reads b) (s.reads_ok b) (read_typed (around.reads b) (start.reads b));
         ref_ok = λ d h m. (s.ref_ok d h.0 m, h.1);
-        to_ok = λ d h. (s.to_ok d h.0, h.1);
         refs_ok = λ ds le h. (s.refs_ok ds le (firsts (λ d. Sound job.script (ref d)) (λ d. Typed (ref d)) ds h), refs_typed ⊥ K ds (seconds (λ d. Sound job.script (ref d)) (λ d. Typed (ref d)) ds h));
         call_ok = λ f ca vs x e n z h. (s.call_ok f ca vs x e n z.0 h.0, (z.1.0, z.1.1, z.1.2, h.1));
         out_ok = λ x a n i t h lt le. (s.out_ok x a n i t.0 h.0 lt le, (t.1, h.1));
@@ -179,6 +178,7 @@ module _ (job : Job) (around : Around) (start : TypedJob job around) where
         written = start.script;
         start_ok = (sound.start_ok, (tt, tt));
         main_ok = (sound.main_ok, (IsUtf8-nil, tt, tt, tt));
+        to_ok = λ d h. (sound.to_ok d h.0, h.1);
         weaker = λ a h. (sound.weaker a h.0, h.1);
         stronger = λ a r k. (sound.stronger a r.0 k, r.1);
         utf8_ok = λ b e. (sound.utf8_ok b e, IsUtf8-from_is_utf8 b e);

@@ -131,7 +131,7 @@ module _ (sc : Script) (reads : List ℕ → Answer (List ℕ)) (read_fits : (b 
           where
             ok : WalkOk safe_world P Q V (known_of objects) known_ok rows (stops after s)
             ok =
-                subst (WalkOk safe_world P Q V (known_of objects) known_ok rows) e (walk_ok safe_world P Q V (known_of objects) known_ok (body_at safe_world bodies f ca us nowhere start_st) others rows (fine_call safe_world P Q V any_made any_lit any_name closed (written_any sc) others f ca us nowhere start_st tt (dict_inside (List ℕ) K sc ca (args.1, args.3)) (closed.inside_ok us (args.0, args.2))))
+                subst (WalkOk safe_world P Q V (known_of objects) known_ok rows) e (walk_ok safe_world P Q V (known_of objects) known_ok (λ d h. h.1) (body_at safe_world bodies f ca us nowhere start_st) others rows (fine_call safe_world P Q V any_made any_lit any_name closed (written_any sc) others f ca us nowhere start_st tt (dict_inside (List ℕ) K sc ca (args.1, args.3)) (closed.inside_ok us (args.0, args.2))))
 
             fit : Fit s
             fit = (λ d j. either d (ok.rows_ok d j), stop_fits s ok.stop_ok)
