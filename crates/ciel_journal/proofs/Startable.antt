@@ -10,7 +10,7 @@ use Rattle.ciel_journal.specs.Turns.{CircleAtRest, IsReadyList, Reached, Ready, 
 use Rattle.ciel_journal.proofs.Picked.{picks_in}
 use Rattle.ciel_journal.proofs.Append.{lawful_append}
 use Rattle.ciel_journal.proofs.BookKnown.{Informed, informed_all, informed_start, last_cases}
-use Rattle.ciel_journal.proofs.Good.{last_ok, reached_needed}
+use Rattle.ciel_journal.proofs.Good.{SaveOk, last_ok, reached_needed}
 use Rattle.ciel_journal.proofs.Members.{each_of, in_any}
 use Rattle.ciel_journal.proofs.Near.{each_all, ready_or_round}
 use Rattle.ciel_journal.proofs.Published.{book_apart}
@@ -162,12 +162,14 @@ module _ {D : Type 0} (job : Job D) (laws : IsJob job) (inner : Inner D) (knows 
   saved_booked p h l s i =
       let k = (informed p h l).saves s i in
       let t = (traced job laws p h l).saves s i in
-      (k.refs, knows.holds_told (standing job h).book s.task s.j (record { names = s.holds; mark = t.2 }) k.told t.3)
+      let w = each_of (SaveOk job laws) s (standing job h).saves i (informed p h l).saves_ok in
+      (k.refs, knows.holds_told (standing job h).book s.task s.j s.refs (record { names = s.holds; mark = t.2 }) k.told w t.3)
 
   -- and what the task of an open Start held
   pub open_booked : (p : Plan) (h : List (Event D)) → Lawful job p h → (o : OpenStart D) → In o (standing job h).orders → (d : D) → HeldAt job o.task o.from d → In d (standing job h).book
   open_booked p h l o i d k =
-      each_of (λ e. In e (standing job h).book) d k.1.names k.3 (knows.holds_told (standing job h).book o.task o.from k.1 ((informed p h l).orders o i).told (k.0, k.2))
+      let n = (informed p h l).orders o i in
+      each_of (λ e. In e (standing job h).book) d k.1.names k.3 (knows.holds_told (standing job h).book o.task o.from n.here.0 k.1 n.told n.here.1 (k.0, k.2))
 
   room_all : (p : Plan) (v : Standing D) (h : List (Event D)) → length v.book ≤ p.limit → LawfulFrom job p v h → length (after_all job v h).book ≤ p.limit
   room_all p v [] r l = r
