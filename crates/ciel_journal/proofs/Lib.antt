@@ -17,6 +17,7 @@ pub mod WantedLaw
 pub mod Shelved
 pub mod Unique
 pub mod Published
+pub mod Next
 pub mod OneWorker
 pub mod Check
 pub mod CheckTurns
@@ -27,7 +28,13 @@ pub mod Walking
 pub mod IdleLaw
 pub mod DueLaw
 pub mod ThreeLaw
+pub mod Splits
+pub mod Batches
 pub mod BookKnown
+pub mod Traced
+pub mod ByName
+pub mod Begins
+pub mod Ends
 pub mod Startable
 pub mod SmallKnown
 pub mod Picked

@@ -9,7 +9,9 @@ pub mod Search
 pub mod Three
 pub mod Wanted
 pub mod Work
-pub mod Names
+pub mod Entries
+pub mod Journals
+pub mod Segment
 pub mod Fixed
 pub mod SmallHistories
 pub mod SmallFacts

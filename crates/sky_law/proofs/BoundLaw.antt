@@ -12,7 +12,7 @@ use Rattle.sky_law.specs.Bounds.{turns_or, repeats_or}
 use Rattle.sky_law.proofs.FormsLaw.{alike, got_alike, goes_alike, decide_alike, good_eval, good_call, good_block, inner}
 use Rattle.sky_law.proofs.FineLaw.{Closed, AnswerOk, OptionOk, ValsOk, fine_call}
 use Rattle.sky_law.proofs.FineReads.{SeenOk, HaltOk, halt_fine, frames_left}
-use Rattle.sky_law.proofs.WrittenLaw.{any_lit, any_name, written_any}
+use Rattle.sky_law.proofs.WrittenLaw.{any_lit, any_made, any_name, written_any}
 
 module _ {N : Type 0} (w : World N) (d : ℕ) (n m : ℕ) (p : Place) (e : Exp) (blk : Stms) (met : St N → Res N) where
   turns_met : (f : ℕ) (st : St N) → st.count ≤ visits → visits < f + st.count → turns_or met f n m p e blk (eval w (body_at w d) e (n + 1)) (eval_block w (body_at w d) blk m) st ≡ turns f n m p e blk (eval w (body_at w d) e (n + 1)) (eval_block w (body_at w d) blk m) st
@@ -57,7 +57,7 @@ module _ {N : Type 0} (w : World N) where
   abbrev pub Vars : Pairs N → Type 0
   Vars ps = Unit {0}
 
-  any_closed : Closed w Any Made Vars any_lit any_name
+  any_closed : Closed w Any Made Vars any_made any_lit any_name
   any_closed =
       record {
         null_ok = tt;
@@ -83,8 +83,7 @@ module _ {N : Type 0} (w : World N) where
         range_ok = λ a b h i. any_answer (range a b);
         inside_ok = λ vs h. any_vals vs;
         reads_ok = λ b. any_answer (w.reads b);
-        ref_ok = λ d h. tt;
-        to_ok = λ d h. tt;
+        ref_ok = λ d h m. tt;
         refs_ok = λ ds le h. tt;
         call_ok = λ f c vs x e n z h. tt;
         out_ok = λ x a n i h j lt le. tt;
@@ -100,7 +99,7 @@ module _ {N : Type 0} (w : World N) where
   -- what holds of every run at its waits
   pub any_halt : (see : Desc N → Option (Object N)) (d j : ℕ) (f : List ℕ) (c : Pairs N) (vs : Vals N) (p : Place) (st : St N) (h : Halt N) → halt see j (body_at w (suc d) f c vs p st) ≡ Some h → HaltOk w Any Made Vars d (Some h)
   any_halt see d j f c vs p st h e =
-      subst (HaltOk w Any Made Vars d) e (halt_fine w Any Made Vars see (λ x i. any_seen (see x)) j (body_at w (suc d) f c vs p st) d (fine_call w Any Made Vars any_lit any_name any_closed (written_any w.script) d f c vs p st tt tt (any_vals vs)))
+      subst (HaltOk w Any Made Vars d) e (halt_fine w Any Made Vars (λ d h. tt) see (λ x i. any_seen (see x)) j (body_at w (suc d) f c vs p st) d (fine_call w Any Made Vars any_made any_lit any_name any_closed (written_any w.script) d f c vs p st tt tt (any_vals vs)))
 
   -- at each wait the bodies that are open and those that may still be opened are as many as may be open: where none may
   -- be opened any more, and a call is TooDeep, all of them are open

@@ -8,6 +8,7 @@ use Rattle.sky_law.specs.Tasks.{Each}
 use Rattle.sky_law.specs.Sound.{IsFun}
 use Rattle.sky_law.proofs.FormsLaw.{inner}
 use Rattle.sky_law.proofs.FineLaw.{ObjectOk, EndOk, OpenOk, FormsOk, Waits, Fine}
+use Rattle.sky_law.proofs.WrittenLaw.{any_made}
 
 module _ {N : Type 0} (w : World N) (P : v.Val N → Type 0) (Q : v.Desc N → Type 0) where
   abbrev pub SeenOk : Option (Object N) → Type 0
@@ -31,7 +32,11 @@ module _ {N : Type 0} (w : World N) (P : v.Val N → Type 0) (Q : v.Desc N → T
     HaltOk d None = Unit {0}
     HaltOk d (Some h) = Each Q (refs_of h.wait) × FormsOk w P Q V d h.forms × V h.st.vars × Waits w P Q h.wait h.forms
 
-    module _ (look : v.Desc N → Option (Object N)) (looks : (d : v.Desc N) → Q d → SeenOk (look d)) where
+    module _ (to : (d : v.Desc N) → P (v.ref d) → Q d) (look : v.Desc N → Option (Object N)) (looks : (d : v.Desc N) → Q d → SeenOk (look d)) where
+      asked : (ds : List (v.Desc N)) → Each (λ d. P (v.ref d)) ds → Each Q ds
+      asked [] h = tt
+      asked (d ∷ ds) h = (to d h.0, asked ds h.1)
+
       join_ok : (x : Option (Object N)) (y : Option (List (Object N))) → SeenOk x → AllOk y → AllOk (joined x y)
       join_ok None y h i = tt
       join_ok (Some o) None h i = tt
@@ -45,32 +50,32 @@ module _ {N : Type 0} (w : World N) (P : v.Val N → Type 0) (Q : v.Desc N → T
       outcome_on None k h g = tt
       outcome_on (Some os) k h g = g os h
 
-      pub outcome_fine : (r : Res N) (d : ℕ) → Fine w P Q V d r → OutcomeOk (outcome look r)
+      pub outcome_fine : (r : Res N) (d : ℕ) → Fine w P Q V any_made d r → OutcomeOk (outcome look r)
       outcome_fine (Fin e st) d g = g
-      outcome_fine (Tell o r) d g = outcome_fine r d g.1
+      outcome_fine (Tell o r) d g = outcome_fine r d (g.1 tt)
       outcome_fine (Ask q fr st k) d g =
-          outcome_on (see_all look (refs_of q)) k (all_ok (refs_of q) g.0.0) (λ os h. outcome_fine (k os) d (g.1 os h))
+          outcome_on (see_all look (refs_of q)) k (all_ok (refs_of q) (asked (refs_of q) g.0.0)) (λ os h. outcome_fine (k os) d (g.1 os h))
 
       halt_on : (x : Option (List (Object N))) (k : List (Object N) → Res N) (j d : ℕ) → AllOk x → ((os : List (Object N)) → Each (ObjectOk w P Q) os → HaltOk d (halt look j (k os))) → HaltOk d (halts_seen x (λ os. halt look j (k os)))
       halt_on None k j d h g = tt
       halt_on (Some os) k j d h g = g os h
 
-      pub halt_fine : (j : ℕ) (r : Res N) (d : ℕ) → Fine w P Q V d r → HaltOk d (halt look j r)
+      pub halt_fine : (j : ℕ) (r : Res N) (d : ℕ) → Fine w P Q V any_made d r → HaltOk d (halt look j r)
       halt_fine j (Fin e st) d g = tt
-      halt_fine j (Tell o r) d g = halt_fine j r d g.1
-      halt_fine zero (Ask q fr st k) d g = g.0
+      halt_fine j (Tell o r) d g = halt_fine j r d (g.1 tt)
+      halt_fine zero (Ask q fr st k) d g = (asked (refs_of q) g.0.0, g.0.1, g.0.2, g.0.3)
       halt_fine (suc j) (Ask q fr st k) d g =
-          halt_on (see_all look (refs_of q)) k j d (all_ok (refs_of q) g.0.0) (λ os h. halt_fine j (k os) d (g.1 os h))
+          halt_on (see_all look (refs_of q)) k j d (all_ok (refs_of q) (asked (refs_of q) g.0.0)) (λ os h. halt_fine j (k os) d (g.1 os h))
 
       acts_on : (x : Option (List (Object N))) (k : List (Object N) → Res N) → AllOk x → ((os : List (Object N)) → Each (ObjectOk w P Q) os → Each ActOk (acts look (k os))) → Each ActOk (acts_seen x (λ os. acts look (k os)))
       acts_on None k h g = tt
       acts_on (Some os) k h g = g os h
 
-      pub acts_fine : (r : Res N) (d : ℕ) → Fine w P Q V d r → Each ActOk (acts look r)
+      pub acts_fine : (r : Res N) (d : ℕ) → Fine w P Q V any_made d r → Each ActOk (acts look r)
       acts_fine (Fin e st) d g = tt
-      acts_fine (Tell o r) d g = (g.0, acts_fine r d g.1)
+      acts_fine (Tell o r) d g = (g.0, acts_fine r d (g.1 tt))
       acts_fine (Ask q fr st k) d g =
-          (g.0.0, acts_on (see_all look (refs_of q)) k (all_ok (refs_of q) g.0.0) (λ os h. acts_fine (k os) d (g.1 os h)))
+          (asked (refs_of q) g.0.0, acts_on (see_all look (refs_of q)) k (all_ok (refs_of q) (asked (refs_of q) g.0.0)) (λ os h. acts_fine (k os) d (g.1 os h)))
 
     -- ---- frames
 

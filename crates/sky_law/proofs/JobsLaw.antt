@@ -18,7 +18,7 @@ use Rattle.sky_law.specs.Written.{Written}
 use Rattle.sky_law.proofs.FineLaw.{Closed, AnswerOk, ValsOk, ObjectOk, Fine, bind_ok, fine_call}
 use Rattle.sky_law.proofs.FineReads.{SeenOk, ActOk, OutcomeOk, HaltOk, FrameOk, outcome_fine, halt_fine, acts_fine, frames_ok}
 use Rattle.sky_law.proofs.TaskOutputs.{in_contains, each_in, in_each, distinct_refs_in}
-use Rattle.sky_law.proofs.WrittenLaw.{BodyWritten, body_written}
+use Rattle.sky_law.proofs.WrittenLaw.{BodyWritten, any_made, body_written}
 
 pub some_is : {A : Type 0} (a b : A) → Some a ≡ Some b → a ≡ b
 some_is a b e = cc
@@ -32,10 +32,11 @@ module _ (job : Job) (around : Around) (P U : Val → Type 0) (Q : Desc → Type
   w = world_of job.script around
 
   pub record JobClosed : Type 0 where
-    pub closed : Closed w P Q V L K
+    pub closed : Closed w P Q V any_made L K
     pub written : Written L K job.script
     pub start_ok : V no_pairs
     pub main_ok : P (ref main_call)
+    pub to_ok : (d : Desc) → P (ref d) → Q d
     pub weaker : (a : Val) → P a → U a
     pub stronger : (a : Val) → U a → Kept a → P a
     pub utf8_ok : (b : List ℕ) → is_utf8 b ≡ true → U (text b)
@@ -52,9 +53,9 @@ module _ (job : Job) (around : Around) (P U : Val → Type 0) (Q : Desc → Type
 
     -- ---- what is seen
 
-    run_fine : (f : List ℕ) (ca : Pairs) (vs : Vals) → Q (call f ca vs) → Fine w P Q V others (run_of job around f ca vs)
+    run_fine : (f : List ℕ) (ca : Pairs) (vs : Vals) → Q (call f ca vs) → Fine w P Q V any_made others (run_of job around f ca vs)
     run_fine f ca vs h =
-        fine_call w P Q V L K c.closed c.written others f ca vs nowhere start_st c.start_ok (c.call_ok f ca vs h).0 (c.call_ok f ca vs h).1
+        fine_call w P Q V any_made L K c.closed c.written others f ca vs nowhere start_st c.start_ok (c.call_ok f ca vs h).0 (c.call_ok f ca vs h).1
 
     object_ok : (o : Outcome ⊥) → OutcomeOk w P Q V o → Good (object_of o)
     object_ok (Outcome.ended End.goes st) h = c.closed.null_ok
@@ -82,7 +83,7 @@ module _ (job : Job) (around : Around) (P U : Val → Type 0) (Q : Desc → Type
     unfolding see
     see_ok zero d h = tt
     see_ok (suc n) (call f ca vs) h =
-        object_ok (outcome (λ d. see job around n d) (run_of job around f ca vs)) (outcome_fine w P Q V (λ d. see job around n d) (λ d i. see_ok n d i) (run_of job around f ca vs) others (run_fine f ca vs h))
+        object_ok (outcome (λ d. see job around n d) (run_of job around f ca vs)) (outcome_fine w P Q V c.to_ok (λ d. see job around n d) (λ d i. see_ok n d i) (run_of job around f ca vs) others (run_fine f ca vs h))
     see_ok (suc n) (out x a m i) h = executed_ok x a m i _
     see_ok (suc n) (input k) h = tt
     see_ok (suc n) (known b) h = absurd b
@@ -90,11 +91,11 @@ module _ (job : Job) (around : Around) (P U : Val → Type 0) (Q : Desc → Type
     -- each description that a call makes or waits for
     acts_ok : (n : ℕ) (f : List ℕ) (ca : Pairs) (vs : Vals) → Q (call f ca vs) → Each (ActOk w P Q) (acts (see job around n) (run_of job around f ca vs))
     acts_ok n f ca vs h =
-        acts_fine w P Q V (see job around n) (see_ok n) (run_of job around f ca vs) others (run_fine f ca vs h)
+        acts_fine w P Q V c.to_ok (see job around n) (see_ok n) (run_of job around f ca vs) others (run_fine f ca vs h)
 
     halt_ok : (n j : ℕ) (f : List ℕ) (ca : Pairs) (vs : Vals) → Q (call f ca vs) → HaltOk w P Q V others (halt (see job around n) j (run_of job around f ca vs))
     halt_ok n j f ca vs h =
-        halt_fine w P Q V (see job around n) (see_ok n) j (run_of job around f ca vs) others (run_fine f ca vs h)
+        halt_fine w P Q V c.to_ok (see job around n) (see_ok n) j (run_of job around f ca vs) others (run_fine f ca vs h)
 
     -- ---- the result
 
@@ -233,7 +234,7 @@ module _ (job : Job) (around : Around) (P U : Val → Type 0) (Q : Desc → Type
     halt_refs_ok (Some x) h = h.0
 
     main_made : Q main_call
-    main_made = c.closed.to_ok main_call c.main_ok
+    main_made = c.to_ok main_call c.main_ok
 
     waits_for : (n : ℕ) (t : Task) (j : ℕ) → TaskOk t → RefsList (wait_at job around n t j)
     waits_for n Task.show zero h = (main_made, tt)
@@ -301,7 +302,7 @@ module _ (job : Job) (around : Around) (P U : Val → Type 0) (Q : Desc → Type
     start_frame_ok : (f : List ℕ) (ca : Pairs) (vs : Vals) (o : Option Body) → BodyWritten L K o → Q (call f ca vs) → StandsOk (start_frame f ca vs o)
     start_frame_ok f ca vs None b h = tt
     start_frame_ok f ca vs (Some x) b h =
-        ((bind_ok w P Q V L K c.closed x.params vs ca b.0 (c.call_ok f ca vs h).1 (c.call_ok f ca vs h).0, tt, c.named_ok f ca vs h), tt)
+        ((bind_ok w P Q V any_made L K c.closed x.params vs ca b.0 (c.call_ok f ca vs h).1 (c.call_ok f ca vs h).0, tt, c.named_ok f ca vs h), tt)
 
     halt_state_ok : (f : List ℕ) (j : ℕ) (o : Option (Halt ⊥)) → (f ≡ []) ⊎ IsFun job.script f → HaltOk w P Q V others o → StandsOk (halt_state f j o)
     halt_state_ok f j None z h = tt

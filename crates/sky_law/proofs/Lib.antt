@@ -13,6 +13,7 @@ pub mod NodesLaw
 pub mod BodiesLaw
 pub mod OpenLaw
 pub mod CountLaw
+pub mod BatchLaw
 pub mod TaskOutputs
 pub mod TaskFuel
 pub mod WrittenLaw
@@ -25,6 +26,7 @@ pub mod SoundJobs
 pub mod SoundLow
 pub mod RisingLaw
 pub mod TypedOps
+pub mod RefersOps
 pub mod TypedJobs
 pub mod BoundLaw
 pub mod TaskMade

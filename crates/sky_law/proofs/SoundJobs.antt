@@ -15,7 +15,7 @@ use Rattle.sky_law.proofs.FineLaw.{Closed, PairsOk, ObjectOk}
 use Rattle.sky_law.proofs.FineReads.{SeenOk, FrameOk}
 use Rattle.sky_law.proofs.JobsLaw.{JobClosed, TaskOk, StateOk, see_ok, wave_ok, wait_ok, needed_ok, made_ok, stands_ok}
 use Rattle.sky_law.proofs.SoundOps.{caught_kept, dict_inside, SoundAnswer, Vars, sound_closed}
-use Rattle.sky_law.proofs.WrittenLaw.{any_lit, any_name, written_any}
+use Rattle.sky_law.proofs.WrittenLaw.{any_lit, any_made, any_name, written_any}
 
 module _ (sc : Script) where
   sound_vars : (around : Around) (ps : v.Pairs ⊥) → PairsOk (world_of sc around) (Sound sc) (SoundDesc sc) ps → SoundVars sc ps
@@ -102,7 +102,7 @@ module _ (job : Job) (around : Around) (reads : SoundReads job.script around) wh
   read_ok (Ok u) h = h
   read_ok (Err k) h = tt
 
-  closed : Closed (world_of job.script around) P Q V any_lit any_name
+  closed : Closed (world_of job.script around) P Q V any_made any_lit any_name
   closed = sound_closed ⊥ (λ b. Unit {0}) job.script (world_of job.script around) (λ f. refl) (λ k. refl) (λ b. read_ok (around.reads b) (reads b)) (λ d h. h)
 
   named_or_main : (f : List ℕ) (c : Pairs) (vs : Vals) → IsMain f c vs ⊎ CallsIf (find_fun f job.script.funs) c vs → (f ≡ []) ⊎ IsFun job.script f
@@ -116,6 +116,7 @@ module _ (job : Job) (around : Around) (reads : SoundReads job.script around) wh
         written = written_any job.script;
         start_ok = tt;
         main_ok = main_sound job.script;
+        to_ok = λ d h. h.1;
         weaker = λ a h. h.1;
         stronger = λ a r k. (k, r);
         utf8_ok = λ b e. tt;

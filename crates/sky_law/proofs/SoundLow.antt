@@ -1,5 +1,5 @@
 -- A value that is sound is so with names in place of descriptions too.
-use Rattle.std.proofs.Common.{◌≡◌, ℕ, ◌≤◌, List, [], ◌∷◌, map, Option, Some, None, sym, ap, ◌∙◌, subst, ◌⊎◌, inl, inr}
+use Rattle.std.proofs.Common.{ℕ, ◌≤◌, List, [], ◌∷◌, map, Option, Some, None, sym, ap, ◌∙◌, subst, ◌⊎◌, inl, inr}
 use Rattle.sky_base.specs.Val.{Val, Vals, Pairs, Desc, null, truth, num, text, list, dict, fun, ref, no_vals, val, no_pairs, pair, call, out, input, known}
 use Rattle.sky_base.specs.Name.{low, low_vals, low_pairs, low_desc}
 use Rattle.sky_base.specs.Kept.{Kept}

@@ -13,7 +13,7 @@ use Rattle.sky_law.specs.Tasks.{Each}
 use Rattle.sky_base.specs.Kept.{Kept}
 use Rattle.sky_law.proofs.FineLaw.{Closed, PairsOk, put_each, find_each}
 use Rattle.sky_law.proofs.SimpleOps.{Atom, Simple, checked_simple, minus_simple, times_simple, over_simple, compare_simple, negated_simple, opposite_simple, has_simple}
-use Rattle.sky_law.proofs.WrittenLaw.{any_lit, any_name}
+use Rattle.sky_law.proofs.WrittenLaw.{any_lit, any_made, any_name}
 
 -- what a function captured keeps the limits as a dictionary does
 pub caught_kept : {N : Type 0} (f : List ℕ) (ps : Pairs N) → Kept (fun f ps) → Kept (dict ps)
@@ -446,7 +446,7 @@ module _ (N : Type 0) (K : N → Type 0) (sc : Script) where
   Vars w ps = PairsOk w (SoundOver K sc) (DescOver K sc) ps
 
   -- what the operators give is sound, where what is read and what a reference holds is
-  pub sound_closed : (w : World N) → ((f : List ℕ) → find_fun f w.script.funs ≡ find_fun f sc.funs) → ((k : List ℕ) → is_one_of k w.script.keys ≡ is_one_of k sc.keys) → ((b : List ℕ) → SoundAnswer (w.reads b)) → ((d : Desc N) → DescOver K sc d → DescOver K sc (w.make d)) → Closed w (SoundOver K sc) (DescOver K sc) (Vars w) any_lit any_name
+  pub sound_closed : (w : World N) → ((f : List ℕ) → find_fun f w.script.funs ≡ find_fun f sc.funs) → ((k : List ℕ) → is_one_of k w.script.keys ≡ is_one_of k sc.keys) → ((b : List ℕ) → SoundAnswer (w.reads b)) → ((d : Desc N) → DescOver K sc d → DescOver K sc (w.make d)) → Closed w (SoundOver K sc) (DescOver K sc) (Vars w) any_made any_lit any_name
   sound_closed w same keys reads make =
       record {
         null_ok = sound_null;
@@ -472,8 +472,7 @@ module _ (N : Type 0) (K : N → Type 0) (sc : Script) where
         range_ok = λ a b h i. range_sound a b;
         inside_ok = list_inside;
         reads_ok = reads;
-        ref_ok = λ d h. ref_sound (w.make d) (make d h);
-        to_ok = λ d h. h.1;
+        ref_ok = λ d h m. ref_sound (w.make d) (make d h);
         refs_ok = refs_sound;
         call_ok = λ f ps vs x e n z h. (h.0, z.0, h.1, z.1.1, inr (calls_if (find_fun f sc.funs) x ps vs (sym (same f) ∙ e) n z.1.0));
         out_ok = λ x a n i t h lt le. (t.0, h.0, h.1, lt, le);

@@ -18,7 +18,7 @@ use Rattle.sky_law.proofs.SimpleOps.{negated_simple, opposite_simple, has_simple
 use Rattle.sky_law.proofs.SoundJobs.{sound_job}
 use Rattle.sky_law.proofs.SoundOps.{Vars}
 use Rattle.sky_law.proofs.TypedOps.{TypedAnswer, TypedOption, simple_typed, limited_typed, put_typed, find_typed, caught_typed, oper_typed, index_typed, set_at_typed, grown_typed, taken_typed, len_typed, keys_typed, range_typed, list_typed, dict_typed, lit_typed, refs_typed}
-use Rattle.sky_law.proofs.WrittenLaw.{any_lit, any_name, fun_name}
+use Rattle.sky_law.proofs.WrittenLaw.{any_lit, any_made, any_name, fun_name}
 
 -- no name stands inside
 abbrev K : ⊥ → Type 0
@@ -111,7 +111,7 @@ module _ (job : Job) (around : Around) (start : TypedJob job around) where
   abbrev sound : JobClosed job around (Sound job.script) (RefsSound job.script) (SoundDesc job.script) S any_lit any_name
   sound = sound_job job around start.sound
 
-  abbrev s : Closed (world_of job.script around) (Sound job.script) (SoundDesc job.script) S any_lit any_name
+  abbrev s : Closed (world_of job.script around) (Sound job.script) (SoundDesc job.script) S any_made any_lit any_name
   s = sound.closed
 
   abbrev BothAnswer : Answer ⊥ → Type 0
@@ -138,7 +138,7 @@ module _ (job : Job) (around : Around) (start : TypedJob job around) where
       let c : EachTyped K (caught_by us ps) × Rising (caught_by us ps) = caught_typed ⊥ K us ps h in
       limited_typed ⊥ K (fun x (caught_by us ps)) (u, c.0, c.1)
 
-  closed : Closed (world_of job.script around) P Q V TypedLit IsUtf8
+  closed : Closed (world_of job.script around) P Q V any_made TypedLit IsUtf8
   closed =
       record {
         null_ok = (s.null_ok, tt);
@@ -164,8 +164,7 @@ module _ (job : Job) (around : Around) (start : TypedJob job around) where
         range_ok = λ a b h i. both (range a b) (s.range_ok a b h.0 i.0) (range_typed ⊥ K a b h.1 i.1);
         inside_ok = λ vs h. both_vals vs (s.inside_ok vs h.0) h.1;
         reads_ok = λ b. both (around.reads b) (s.reads_ok b) (read_typed (around.reads b) (start.reads b));
-        ref_ok = λ d h. (s.ref_ok d h.0, h.1);
-        to_ok = λ d h. (s.to_ok d h.0, h.1);
+        ref_ok = λ d h m. (s.ref_ok d h.0 m, h.1);
         refs_ok = λ ds le h. (s.refs_ok ds le (firsts (λ d. Sound job.script (ref d)) (λ d. Typed (ref d)) ds h), refs_typed ⊥ K ds (seconds (λ d. Sound job.script (ref d)) (λ d. Typed (ref d)) ds h));
         call_ok = λ f ca vs x e n z h. (s.call_ok f ca vs x e n z.0 h.0, (z.1.0, z.1.1, z.1.2, h.1));
         out_ok = λ x a n i t h lt le. (s.out_ok x a n i t.0 h.0 lt le, (t.1, h.1));
@@ -179,6 +178,7 @@ module _ (job : Job) (around : Around) (start : TypedJob job around) where
         written = start.script;
         start_ok = (sound.start_ok, (tt, tt));
         main_ok = (sound.main_ok, (IsUtf8-nil, tt, tt, tt));
+        to_ok = λ d h. (sound.to_ok d h.0, h.1);
         weaker = λ a h. (sound.weaker a h.0, h.1);
         stronger = λ a r k. (sound.stronger a r.0 k, r.1);
         utf8_ok = λ b e. (sound.utf8_ok b e, IsUtf8-from_is_utf8 b e);

@@ -1,6 +1,6 @@
 -- The parts of a script are written as the script is.
 use Rattle.std.proofs.Common.{◌≡◌, ℕ, ◌+◌, Bool, true, false, List, [], ◌∷◌, Option, Some, None, IsSome, refl, sym, subst}
-use Rattle.sky_base.specs.Val.{same_text}
+use Rattle.sky_base.specs.Val.{Desc, same_text}
 use Rattle.sky_base.specs.Tree.{Lit, Exp, Exps, Links, Ands, Steps, Stm, Stms, Arms, Else, FunDef, Script, block_nodes}
 use Rattle.sky_base.specs.Eval.{Body, find_fun, find_fun_if, find_body, find_body_if, body_of}
 use Rattle.sky_base.proofs.Exact.{exact_text}
@@ -41,6 +41,9 @@ module _ (L : Lit → Type 0) (K : List ℕ → Type 0) where
 
 abbrev pub any_lit : Lit → Type 0
 any_lit l = Unit {0}
+
+abbrev pub any_made : {N : Type 0} → Desc N → Type 0
+any_made d = Unit {0}
 
 abbrev pub any_name : List ℕ → Type 0
 any_name x = Unit {0}

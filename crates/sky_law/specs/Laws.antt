@@ -1,10 +1,10 @@
 -- The laws of what jobs mean, each said of every job.
-use Rattle.std.specs.Prelude.{◌≡◌, ◌≢◌, ℕ, suc, ◌≤◌, List, ◌++◌, true, Option, Some, None}
+use Rattle.std.specs.Prelude.{◌≡◌, ◌≢◌, ℕ, suc, ◌≤◌, List, [], ◌++◌, true, Option, Some, None}
 use Rattle.sky_base.specs.Res.{Object, Res, others}
 use Rattle.sky_base.specs.Read.{Act, Halt, refs_of, see_all, outcome, halt, segment, segment_from, first_halt, rest_of}
 use Rattle.sky_base.specs.See.{Val, Vals, Pairs, Desc, Obj, Job, Around, Answered, Means, Never, see, wave, job_answer, run_of, world_of}
 use Rattle.sky_base.specs.Needed.{Task, State, WaitOf, StandsAt, Needed, Work}
-use Rattle.sky_law.specs.Tasks.{In, Each, Chain, HeldAt, acts_of, ended, made_in}
+use Rattle.sky_law.specs.Tasks.{Batched, In, Each, Chain, HeldAt, acts_of, ended, made_in}
 use Rattle.sky_law.specs.Sound.{Sound, SoundDesc, SoundObject, SoundReads, SoundState, SoundTask}
 use Rattle.sky_law.specs.Typed.{Typed, TypedDesc, TypedJob, TypedObject, TypedState, TypedTask}
 
@@ -50,6 +50,12 @@ ActsGrow =
 abbrev pub EndedStays : Type 0
 EndedStays =
     (job : Job) (around : Around) (n m : ℕ) (t : Task) → n ≤ m → ended job around n t ≡ true → (ended job around m t ≡ true) × (acts_of job around m t ≡ acts_of job around n t)
+
+-- ---- what is made
+
+-- the outputs of an executor's task are made one after another, all of them, with no wait between
+abbrev pub MadeTogether : Type 0
+MadeTogether = (job : Job) (around : Around) (n : ℕ) (t : Task) → Batched [] (acts_of job around n t)
 
 -- ---- waits
 

@@ -5,6 +5,7 @@ pub mod Tasks
 pub mod Sound
 pub mod Written
 pub mod Typed
+pub mod Refers
 pub mod Bounds
 pub mod Laws
 pub mod NamesLaws

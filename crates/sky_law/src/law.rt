@@ -1,6 +1,6 @@
 //! Laws of what a job means. Each is the contract of a function that does nothing.
 
-ghost use Rattle.sky_law.specs.Laws.{ActsGrow, AnswerStays, CircleNever, EndedStays, MadeIsSound, MadeIsTyped, NeededIsSound, NeededIsTyped, OneAnswer, OneHeld, OneState, OneWait, RunsOn, SeenIsSound, SeenIsTyped, SeenStays, StateIsSound, StateIsTyped, WaitedIsSeen, WaitedIsSound, WaitedIsTyped, WaveIsSound, WaveIsTyped, WorkIsFinite};
+ghost use Rattle.sky_law.specs.Laws.{ActsGrow, AnswerStays, CircleNever, EndedStays, MadeIsSound, MadeIsTyped, MadeTogether, NeededIsSound, NeededIsTyped, OneAnswer, OneHeld, OneState, OneWait, RunsOn, SeenIsSound, SeenIsTyped, SeenStays, StateIsSound, StateIsTyped, WaitedIsSeen, WaitedIsSound, WaitedIsTyped, WaveIsSound, WaveIsTyped, WorkIsFinite};
 ghost use Rattle.sky_law.specs.NamesLaws.{CallsAlike, DistinctAlike, OperatorsAlike, RefsAlike, RestsAlike, StacksAlike, Tag};
 
 /// A job means at most one answer.
@@ -23,6 +23,11 @@ pub fn more_fuel_adds()
     ensures answer { AnswerStays }
     ensures acts { ActsGrow }
     ensures ended { EndedStays }
+{}
+
+/// The outputs of an executor's task are made one after another, all of them, with no wait between.
+pub fn outputs_are_made_together()
+    ensures batches { MadeTogether }
 {}
 
 /// A task that has ended has seen all that it waited for.

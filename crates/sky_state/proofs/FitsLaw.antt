@@ -112,7 +112,7 @@ module _ (tag : Tag) (job : Job) (around : Around) where
         let w = world_of job.script around in
         let chain : Chained job.script (λ k. node_at job.script k) (body_places (body_of f job.script)) h.forms = subst (ChainedHalt w (λ k. node_at job.script k) (see job around n) (body_places (body_of f job.script))) e (chained_halt w (λ k. node_at job.script k) (see job around n) (body_places (body_of f job.script)) (run_of job around f c vs) i (linked_call w (λ k. node_at job.script k) bodies f c vs nowhere start_st (has_script job.script))) in
         let frames_left : length (frames_of h.forms f h.st.vars) + inner w h.forms others ≡ bodies = task_open job around (see job around n) i f c vs h e in
-        let visits_at : (0 + i < h.st.count) × (h.st.count ≤ visits) = subst (Enough w (see job around n) 0 i) e (enough w (see job around n) (run_of job around f c vs) 0 i (climbs_call w bodies f c vs nowhere 0 start_st within)) in
+        let visits_at : (0 + i < h.st.count) × (h.st.count ≤ visits) = subst (Enough w (see job around n) 0 i) e (enough w (see job around n) (run_of job around f c vs) 0 i [] (climbs_call w bodies f c vs nowhere 0 start_st within)) in
         fits_low no_name tag job.script (run_of_halt f (suc i) h) (saved_fits job.script f (suc i) h chain s (omega (arith, frames_left)) visits_at.1 (omega arith) (omega (arith, visits_at.0))) (omega arith)
 
     call_fits : (n i : ℕ) (f : List ℕ) (c : Pairs) (vs : Vals) (x : Option (Halt ⊥)) (a : State) → halt (see job around n) i (run_of job around f c vs) ≡ x → halt_state f (suc i) x ≡ Some a → SoundState job.script a → Fits job.script (low_state tag a)
