@@ -1,8 +1,8 @@
 -- What a task makes is made in batches.
-use Rattle.std.proofs.Common.{ℕ, zero, suc, List, [], ◌∷◌, Option, Some, None, ◌≤◌, arith}
+use Rattle.std.proofs.Common.{ℕ, zero, suc, List, [], Option, Some, None, arith}
 use Rattle.sky_base.specs.Val.{call, out, input, known}
 use Rattle.sky_base.specs.Tree.{nowhere}
-use Rattle.sky_base.specs.Res.{bodies, visits}
+use Rattle.sky_base.specs.Res.{bodies}
 use Rattle.sky_base.specs.See.{Desc, Job, Around, run_of, world_of, start_st, see, wave, most_waves}
 use Rattle.sky_base.specs.Needed.{Task, wave_refs}
 use Rattle.sky_law.specs.Tasks.{Batched, acts_of, wait_then, waves_from}

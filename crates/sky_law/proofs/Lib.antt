@@ -23,6 +23,7 @@ pub mod JobsLaw
 pub mod SimpleOps
 pub mod SoundOps
 pub mod SoundJobs
+pub mod SoundLow
 pub mod RisingLaw
 pub mod TypedOps
 pub mod RefersOps

@@ -1,5 +1,5 @@
 -- What an operator gives refers to what it was given refers to.
-use Rattle.std.proofs.Common.{◌≡◌, ℕ, ℤ, zero, suc, ◌+◌, Bool, true, false, List, [], ◌∷◌, ◌++◌, length, Option, Some, None, Ok, Err, nat_lt, pos, negsuc, ◌+ℤ◌, ◌-ℤ◌, refl}
+use Rattle.std.proofs.Common.{ℕ, ℤ, zero, suc, Bool, true, false, List, [], ◌∷◌, ◌++◌, Option, Some, None, Ok, Err, nat_lt, pos, negsuc, ◌+ℤ◌, ◌-ℤ◌}
 use Rattle.std.specs.Option.{option_map}
 use Rattle.std.specs.Ordering.{nat_cmp, match_ordering}
 use Rattle.std.specs.Cmp.Lexicographic.{slice_cmp}
@@ -118,14 +118,14 @@ module _ (N : Type 0) (D : Desc N → Type 0) where
   num_plus a (ref d) = tt
 
   text_plus : (s : List ℕ) (v : Val N) → AnswerRefers (plus (text s) v)
-  text_plus s (text t)  = limited_refers (text (s ++ t)) tt
-  text_plus s null  = tt
-  text_plus s (truth b)  = tt
-  text_plus s (num z)  = tt
-  text_plus s (list vs)  = tt
-  text_plus s (dict ps)  = tt
-  text_plus s (fun f c)  = tt
-  text_plus s (ref d)  = tt
+  text_plus s (text t) = limited_refers (text (s ++ t)) tt
+  text_plus s null = tt
+  text_plus s (truth b) = tt
+  text_plus s (num z) = tt
+  text_plus s (list vs) = tt
+  text_plus s (dict ps) = tt
+  text_plus s (fun f c) = tt
+  text_plus s (ref d) = tt
 
   list_plus : (vs : Vals N) (v : Val N) → ValsRefer D vs → Refers D v → AnswerRefers (plus (list vs) v)
   list_plus vs (list ws) h i = limited_refers (list (join vs ws)) (join_refers vs ws h i)

@@ -14,7 +14,7 @@ use Rattle.sky_law.specs.Sound.{AllUsed, TakesIf, CallsIf, IsMain, IsFun, RefsSo
 use Rattle.sky_law.proofs.FineLaw.{Closed, PairsOk, ObjectOk}
 use Rattle.sky_law.proofs.FineReads.{SeenOk, FrameOk}
 use Rattle.sky_law.proofs.JobsLaw.{JobClosed, TaskOk, StateOk, see_ok, wave_ok, wait_ok, needed_ok, made_ok, stands_ok}
-use Rattle.sky_law.proofs.SoundOps.{dict_inside, SoundAnswer, Vars, sound_closed}
+use Rattle.sky_law.proofs.SoundOps.{caught_kept, dict_inside, SoundAnswer, Vars, sound_closed}
 use Rattle.sky_law.proofs.WrittenLaw.{any_lit, any_made, any_name, written_any}
 
 module _ (sc : Script) where
@@ -122,7 +122,7 @@ module _ (job : Job) (around : Around) (reads : SoundReads job.script around) wh
         utf8_ok = λ b e. tt;
         replaced_ok = λ f h i a r. replaced_refs job.script f h i a r;
         refs_ok = λ a h. sound_refs job.script a h;
-        call_ok = λ f c vs h. (dict_inside ⊥ (λ b. Unit {0}) job.script c (h.1, h.3), closed.inside_ok vs (h.0, h.2));
+        call_ok = λ f c vs h. (dict_inside ⊥ (λ b. Unit {0}) job.script c (caught_kept f c h.1, h.3), closed.inside_ok vs (h.0, h.2));
         named_ok = λ f c vs h. named_or_main f c vs h.4;
         arguments_ok = λ x a m i h. h.2;
         first_ok = λ x a m i h. (h.0, h.1, h.2, omega (arith, h.3), h.4);

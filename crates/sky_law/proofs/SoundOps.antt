@@ -15,6 +15,13 @@ use Rattle.sky_law.proofs.FineLaw.{Closed, PairsOk, put_each, find_each}
 use Rattle.sky_law.proofs.SimpleOps.{Atom, Simple, checked_simple, minus_simple, times_simple, over_simple, compare_simple, negated_simple, opposite_simple, has_simple}
 use Rattle.sky_law.proofs.WrittenLaw.{any_lit, any_made, any_name}
 
+-- what a function captured keeps the limits as a dictionary does
+pub caught_kept : {N : Type 0} (f : List ℕ) (ps : Pairs N) → Kept (fun f ps) → Kept (dict ps)
+caught_kept f ps h =
+    let d : 1 + pair_depths ps ≤ 100 = h.deep in
+    let s : 1 + (length f + pair_sizes ps) ≤ 262144 = h.large in
+    record { deep = omega arith; large = omega arith }
+
 module _ (N : Type 0) (K : N → Type 0) (sc : Script) where
   -- what an operator gives is sound
   abbrev pub SoundAnswer : Answer N → Type 0
@@ -96,13 +103,6 @@ module _ (N : Type 0) (K : N → Type 0) (sc : Script) where
       let d : 1 + pair_depths ps ≤ 100 = h.0.deep in
       let s : 1 + pair_sizes ps ≤ 262144 = h.0.large in
       pairs_inside ps (omega arith) (omega arith) h.1
-
-  -- what a function captured keeps the limits as a dictionary does
-  caught_kept : (f : List ℕ) (ps : Pairs N) → Kept (fun f ps) → Kept (dict ps)
-  caught_kept f ps h =
-      let d : 1 + pair_depths ps ≤ 100 = h.deep in
-      let s : 1 + (length f + pair_sizes ps) ≤ 262144 = h.large in
-      record { deep = omega arith; large = omega arith }
 
   takes_none : (o : Option FunDef) → IsSome o → TakesIf {N = N} o no_pairs
   takes_none (Some f) i = tt
@@ -474,7 +474,7 @@ module _ (N : Type 0) (K : N → Type 0) (sc : Script) where
         reads_ok = reads;
         ref_ok = λ d h m. ref_sound (w.make d) (make d h);
         refs_ok = refs_sound;
-        call_ok = λ f ps vs x e n z h. (h.0, caught_kept f ps z.0, h.1, z.1.1, inr (calls_if (find_fun f sc.funs) x ps vs (sym (same f) ∙ e) n z.1.0));
+        call_ok = λ f ps vs x e n z h. (h.0, z.0, h.1, z.1.1, inr (calls_if (find_fun f sc.funs) x ps vs (sym (same f) ∙ e) n z.1.0));
         out_ok = λ x a n i t h lt le. (t.0, h.0, h.1, lt, le);
         input_ok = λ k t e. (t.0, sym (keys k) ∙ e);
       }

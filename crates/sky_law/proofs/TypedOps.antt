@@ -32,6 +32,25 @@ next_fits (negsuc (suc n)) b f g le =
     let fits : FitsSigned w64 (negsuc n) = record { sfits = omega (arith, f.sfits) } in
     subst (FitsSigned w64) is fits
 
+module _ {N : Type 0} where
+  size_some : (v : Val N) → 1 ≤ size v
+  size_some null = omega arith
+  size_some (truth b) = omega arith
+  size_some (num z) = omega arith
+  size_some (text t) = omega arith
+  size_some (list vs) = omega arith
+  size_some (dict ps) = omega arith
+  size_some (fun f c) = omega arith
+  size_some (ref d) = omega arith
+
+  pub count_small : (vs : Vals N) → count vs ≤ sizes vs
+  count_small no_vals = omega arith
+  count_small (val v vs) = omega (arith, size_some v, count_small vs)
+
+  pub pairs_small : (ps : Pairs N) → pair_count ps ≤ pair_sizes ps
+  pairs_small no_pairs = omega arith
+  pairs_small (pair k v ps) = omega (arith, size_some v, pairs_small ps)
+
 module _ (N : Type 0) (K : N → Type 0) where
   abbrev pub TypedAnswer : Answer N → Type 0
   TypedAnswer (Ok v) = TypedOver K v
@@ -287,24 +306,6 @@ module _ (N : Type 0) (K : N → Type 0) where
   grown_typed (ref d) e h r = tt
 
   -- ---- how many there are
-
-  size_some : (v : Val N) → 1 ≤ size v
-  size_some null = omega arith
-  size_some (truth b) = omega arith
-  size_some (num z) = omega arith
-  size_some (text t) = omega arith
-  size_some (list vs) = omega arith
-  size_some (dict ps) = omega arith
-  size_some (fun f c) = omega arith
-  size_some (ref d) = omega arith
-
-  count_small : (vs : Vals N) → count vs ≤ sizes vs
-  count_small no_vals = omega arith
-  count_small (val v vs) = omega (arith, size_some v, count_small vs)
-
-  pairs_small : (ps : Pairs N) → pair_count ps ≤ pair_sizes ps
-  pairs_small no_pairs = omega arith
-  pairs_small (pair k v ps) = omega (arith, size_some v, pairs_small ps)
 
   -- a list that keeps the limits has few members
   pub taken_typed : (t : ℕ) (vs : Vals N) → Kept (list vs) → t ≤ count vs → FitsSigned w64 (pos t)

@@ -10,7 +10,7 @@ use Rattle.sky_base.specs.See.{slot, start_st}
 use Rattle.sky_law.specs.Tasks.{In, Apart}
 use Rattle.sky_law.specs.Sound.{DescOver, SoundOver}
 use Rattle.sky_law.proofs.FineLaw.{Closed, ObjectOk, fine_call}
-use Rattle.sky_law.proofs.SoundOps.{SoundAnswer, Vars, sound_closed, dict_inside}
+use Rattle.sky_law.proofs.SoundOps.{SoundAnswer, Vars, sound_closed, caught_kept, dict_inside}
 use Rattle.sky_law.proofs.WrittenLaw.{any_lit, any_made, any_name, written_any}
 use Rattle.sky_rows.specs.Walk.{Row, Stop, stops, walk, known_of, object_at, number_of, Numbers, most_rows}
 use Rattle.sky_rows.specs.Number.{index_of}
@@ -131,7 +131,7 @@ module _ (sc : Script) (reads : List ℕ → Answer (List ℕ)) (read_fits : (b 
           where
             ok : WalkOk safe_world P Q V (known_of objects) known_ok rows (stops after s)
             ok =
-                subst (WalkOk safe_world P Q V (known_of objects) known_ok rows) e (walk_ok safe_world P Q V (known_of objects) known_ok (λ d h. h.1) (body_at safe_world bodies f ca us nowhere start_st) others rows (fine_call safe_world P Q V any_made any_lit any_name closed (written_any sc) others f ca us nowhere start_st tt (dict_inside (List ℕ) K sc ca (args.1, args.3)) (closed.inside_ok us (args.0, args.2))))
+                subst (WalkOk safe_world P Q V (known_of objects) known_ok rows) e (walk_ok safe_world P Q V (known_of objects) known_ok (λ d h. h.1) (body_at safe_world bodies f ca us nowhere start_st) others rows (fine_call safe_world P Q V any_made any_lit any_name closed (written_any sc) others f ca us nowhere start_st tt (dict_inside (List ℕ) K sc ca (caught_kept f ca args.1, args.3)) (closed.inside_ok us (args.0, args.2))))
 
             fit : Fit s
             fit = (λ d j. either d (ok.rows_ok d j), stop_fits s ok.stop_ok)

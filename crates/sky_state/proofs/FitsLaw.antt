@@ -30,7 +30,8 @@ use Rattle.sky_state.specs.Start.{StartsIn, StartsCall, SoundVals, CanStart}
 use Rattle.sky_state.specs.Stands.{Stands, StandsForCall, StandsForShow}
 use Rattle.sky_state.specs.Chained.{body_places, Chained}
 use Rattle.sky_state.proofs.LinkLaw.{Linked, linked_call}
-use Rattle.sky_state.proofs.LowFits.{used_low, sound_low, vars_low}
+use Rattle.sky_law.proofs.SoundLow.{sound_low, vars_low, call_low}
+use Rattle.sky_law.proofs.SoundOps.{caught_kept}
 use Rattle.sky_state.proofs.Starts.{starts_fit}
 use Rattle.sky_state.proofs.SavedLaw.{saved_fits, fits_low}
 
@@ -75,18 +76,10 @@ module _ (tag : Tag) (sc : Script) where
   vals_low no_vals h = tt
   vals_low (val u vs) h = (sound_low no_name tag sc u h.0, vals_low vs h.1)
 
-  calls_low : (o : Option FunDef) (c : Pairs) (vs : Vals) → CallsIf o c vs → CallsIf o (low_pairs no_name tag c) (low_vals no_name tag vs)
-  calls_low None c vs h = h
-  calls_low (Some d) c vs h = (used_low no_name tag d.uses c h.0, h.1 ∙ sym (count_low no_name tag vs))
-
-  call_low : (f : List ℕ) (c : Pairs) (vs : Vals) → IsMain f c vs ⊎ CallsIf (find_fun f sc.funs) c vs → IsMain f (low_pairs no_name tag c) (low_vals no_name tag vs) ⊎ CallsIf (find_fun f sc.funs) (low_pairs no_name tag c) (low_vals no_name tag vs)
-  call_low f c vs (inl m) = inl (m.0, ap (low_pairs no_name tag) m.1, ap (low_vals no_name tag) m.2)
-  call_low f c vs (inr h) = inr (calls_low (find_fun f sc.funs) c vs h)
-
   -- a sound call may be started over names
   pub can_start : (f : List ℕ) (c : Pairs) (vs : Vals) → SoundDesc sc (call f c vs) → CanStart sc f (low_pairs no_name tag c) (low_vals no_name tag vs)
   can_start f c vs h =
-      record { call = call_low f c vs h.4; caught = vars_low no_name tag sc c (pairs_vars sc c h.1 h.3); args = vals_low vs (vals_each sc vs h.0 h.2) }
+      record { call = call_low no_name tag sc f c vs h.4; caught = vars_low no_name tag sc c (pairs_vars sc c (caught_kept f c h.1) h.3); args = vals_low vs (vals_each sc vs h.0 h.2) }
 
 -- ---- states at waits
 
