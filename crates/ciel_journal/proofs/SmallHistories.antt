@@ -4,7 +4,7 @@ use Rattle.ciel_journal.specs.Job.{Task, show, of, Each, IsJob, Needed, root, wa
 use Rattle.ciel_journal.specs.History.{before_all}
 use Rattle.ciel_journal.specs.Lawful.{Lawful}
 use Rattle.ciel_journal.specs.Turns.{Driven}
-use Rattle.ciel_journal.specs.Fixed.{Fixed, Piece, all_seen, until, acts_by, seen_with, fixed_job, small_lists, squares, lines}
+use Rattle.ciel_journal.specs.Fixed.{Piece, fixed_job, small_lists, squares, lines}
 use Rattle.ciel_journal.specs.Fixed as f
 use Rattle.ciel_journal.specs.SmallHistories.{one_worker, squares_alone, loss_after_two, squares_recovered, loss_at_once, lost_at_once, two_workers, lines_copied, loss_of_the_first, missed_and_made_again}
 use Rattle.ciel_journal.proofs.FixedLaw.{fixed_laws, small_fixed}

@@ -7,11 +7,11 @@ use Rattle.sky_law.proofs.MoreFuel.{seen_stays}
 use Rattle.sky_law.proofs.WorkLaw.{means_work}
 use Rattle.sky_law.specs.Refers.{PlainReads}
 use Rattle.sky_law.specs.Sound.{SoundReads}
-use Rattle.std.proofs.Common.{◌≡◌, ℕ, zero, suc, ◌+◌, ◌*◌, ◌<◌, ◌≤◌, ◌⊎◌, List, [], ◌∷◌, ◌++◌, true, Some, None, inl, inr, refl, ap, sym, ◌∙◌, subst, arith}
-use Rattle.ciel_journal.specs.Job.{Digest, Ends, Needed, Task, show, of, Held, Job, In, IsJob, ObjectOf, StateOf, made_in}
-use Rattle.ciel_journal.specs.History.{Event, OpenStart, Plan, done, find_open, saved, standing, start}
+use Rattle.std.proofs.Common.{◌≡◌, ℕ, zero, suc, ◌+◌, ◌*◌, ◌<◌, ◌≤◌, ◌⊎◌, List, [], true, Some, inl, inr, ap, sym, ◌∙◌, subst, arith}
+use Rattle.ciel_journal.specs.Job.{Digest, Ends, Needed, Task, show, of, Held, Job, In, IsJob, StateOf, made_in}
+use Rattle.ciel_journal.specs.History.{Event, OpenStart, Plan, done, saved, standing, start}
 use Rattle.ciel_journal.specs.Known.{Knows}
-use Rattle.ciel_journal.specs.Lawful.{Lawful, Step}
+use Rattle.ciel_journal.specs.Lawful.{Lawful}
 use Rattle.ciel_journal.specs.Turns.{CircleAtRest}
 use Rattle.ciel_journal.specs.Work.{losses_of, starts_of}
 use Rattle.ciel_journal.proofs.Ends.{over_told}
@@ -21,7 +21,7 @@ use Rattle.ciel_journal.proofs.Started.{few_starts, started}
 use Rattle.ciel_journal.proofs.Traced.{traced}
 use Rattle.ciel_meant.specs.Histories.{SavedAs, SeenAs}
 use Rattle.ciel_meant.specs.Inner.{real_inner}
-use Rattle.ciel_meant.specs.Real.{back, forth, real_job}
+use Rattle.ciel_meant.specs.Real.{back, real_job}
 use Rattle.ciel_meant.proofs.AlikeLaw.{answer_alike, finite, made_is, needed_to, never_alike, objects_alike, some_is, states_alike, wait_to, is_one}
 use Rattle.ciel_meant.proofs.KnownLaw.{real_knows}
 use Rattle.ciel_meant.proofs.RealLaw.{in_from, real_laws}

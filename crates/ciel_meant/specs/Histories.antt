@@ -5,7 +5,7 @@ use Rattle.sky_base.specs.See as s
 use Rattle.sky_law.specs.Tasks as t
 use Rattle.sky_law.specs.Refers.{PlainReads}
 use Rattle.sky_law.specs.Sound.{SoundReads}
-use Rattle.ciel_journal.specs.Job.{Digest, Task, show, In, Each, made_in}
+use Rattle.ciel_journal.specs.Job.{Digest, Task, In, made_in}
 use Rattle.ciel_journal.specs.History.{Event, Plan, Standing, done, last, saved, standing, start}
 use Rattle.ciel_journal.specs.Lawful.{Lawful}
 use Rattle.ciel_journal.specs.Turns.{CircleAtRest, IsReadyList, Ready, idle}
