@@ -8,6 +8,8 @@ pub mod Ringing
 pub mod Listed
 pub mod Outing
 pub mod Running
+pub mod Readying
+pub mod ReadyRows
 pub mod Wanting
 pub mod Naming
 pub mod Testing
