@@ -21,6 +21,8 @@ pub mod OneWorker
 pub mod Check
 pub mod CheckTurns
 pub mod SmallHistories
+pub mod OtherJobs
+pub mod SmallWork
 pub mod SmallBroken
 pub mod IdleLaw
 pub mod DueLaw
