@@ -1,3 +1,5 @@
+mod Searching
+mod Walking
 pub mod Marking
 pub mod Rows
 pub mod Picking

@@ -4,7 +4,7 @@ use Rattle.std.specs.Option.{option_map_or}
 use Rattle.sky_base.specs.declared.object.TaskId.{TaskId}
 use Rattle.ciel_journal.specs.Graph.{Led, root, through}
 use Rattle.ciel_journal.specs.Job.{In}
-use Rattle.ciel_journal.specs.Search.{Among, IsWithin, LedTo, first, further, unmet}
+use Rattle.ciel_want.specs.Search.{Among, IsWithin, LedTo, first, further, unmet}
 use Rattle.ciel_table.specs.Seen.{TableSeen, Known, find, row_name}
 use Rattle.ciel_table.specs.declared.row.Row.{Row}
 use Rattle.ciel_want.specs.Board.{IsFlagged, blockers_of, is_set, leads, never, task_at, task_row}

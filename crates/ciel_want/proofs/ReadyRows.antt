@@ -3,7 +3,7 @@ use Rattle.std.proofs.Common.{◌≡◌, ℕ, List, [], Bool, true, false, ◌&&
 use Rattle.std.specs.Option.{option_map_or}
 use Rattle.sky_base.specs.declared.object.TaskId.{TaskId}
 use Rattle.ciel_journal.specs.Graph.{Led, Runnable, root}
-use Rattle.ciel_journal.specs.Search.{LedTo}
+use Rattle.ciel_want.specs.Search.{LedTo}
 use Rattle.ciel_table.specs.Seen.{TableSeen, find}
 use Rattle.ciel_want.specs.Board.{IsFlagged, blockers_of, can_run_test, is_none, is_set, leads, never, task_at, task_row}
 use Rattle.ciel_want.specs.Marked.{Flagged}

@@ -1,10 +1,10 @@
 -- Flags of those that were worked off and pass a test, beside the lists of a search.
 use Rattle.std.proofs.Common.{◌≡◌, ℕ, zero, suc, ◌<◌, List, [], ◌∷◌, ◌++◌, length, set, Bool, true, false, ◌||◌, Some, ◌⊎◌, inl, inr, refl, ap, sym, ◌∙◌, subst, nat_eq, eqb-true, slice_get, replicate}
 use Rattle.std.specs.List.{list_any}
-use Rattle.ciel_journal.specs.Search.{Among}
+use Rattle.ciel_want.specs.Search.{Among}
 use Rattle.ciel_journal.proofs.Booked.{any_join_cases, any_join_left}
 use Rattle.ciel_journal.proofs.Members.{bool_cases}
-use Rattle.ciel_journal.proofs.Searching.{nothing}
+use Rattle.ciel_want.proofs.Searching.{nothing}
 use Rattle.ciel_want.specs.Marked.{Flagged}
 use Rattle.ciel_want.proofs.Marking.{set_here, set_other}
 

@@ -4,7 +4,7 @@ use Rattle.std.specs.List.{IsDistinct}
 use Rattle.sky_base.specs.Val.{same_text}
 use Rattle.sky_base.specs.declared.object.TaskId.{TaskId}
 use Rattle.ciel_journal.specs.Graph.{Circle, Led, Picks, Runnable}
-use Rattle.ciel_journal.specs.Search.{IsCircle, LedTo, SomeMet}
+use Rattle.ciel_want.specs.Search.{IsCircle, LedTo, SomeMet}
 use Rattle.ciel_table.specs.Seen.{TableSeen}
 use Rattle.ciel_want.specs.Board.{IsFlagged, can_run_test, leads, live_at, names_at, never, row_leads, task_at}
 use Rattle.ciel_want.specs.Marked.{Flagged}

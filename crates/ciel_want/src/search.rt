@@ -2,7 +2,7 @@
 
 ghost use Rattle.std.specs.Prelude.{◌≡◌, ◌<◌, ◌++◌, ◌∷◌, ◌&&◌, [], ℕ, IfOk, IfSome, OnOk, Some, length, not, slice_get};
 ghost use Rattle.sky_base.specs.declared.object.TaskId.{TaskId};
-ghost use Rattle.ciel_journal.specs.Search.{LedTo, news};
+ghost use Rattle.ciel_want.specs.Search.{LedTo, news};
 ghost use Rattle.ciel_want.specs.Board.{Outs, can_run_test, is_none, leads, never, task_at};
 ghost use Rattle.ciel_want.specs.Marked.{AllBelow, Flagged, Marked};
 ghost use Rattle.ciel_want.specs.Waited.{is_in};

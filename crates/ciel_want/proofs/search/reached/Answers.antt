@@ -1,7 +1,7 @@
 use Rattle.std.proofs.Common.{◌≡◌, Bool, ◌&&◌, not, set, length-set, ◌<◌, ◌++◌, ◌∷◌, [], ◌+◌, ◌∙◌, ap, sym, subst, arith, length, length-append, ℕ, List, false, Some, None, replicate}
 use Rattle.std.proofs.lemmas.List.{length-replicate}
-use Rattle.ciel_journal.specs.Search.{Among, first, further, news, unmet}
-use Rattle.ciel_journal.proofs.Searching.{Searching, search_start, search_step, search_end, nothing}
+use Rattle.ciel_want.specs.Search.{Among, first, further, news, unmet}
+use Rattle.ciel_want.proofs.Searching.{Searching, search_start, search_step, search_end, nothing}
 use Rattle.ciel_want.specs.Board.{can_run_test, is_none, leads, never, task_at}
 use Rattle.ciel_want.specs.Marked.{AllBelow, Marked}
 use Rattle.ciel_want.specs.Waited.{is_in}

@@ -1,5 +1,5 @@
 use Rattle.std.proofs.Common.{◌≡◌, ◌+◌, ◌-◌, ◌*◌, length, Some}
-use Rattle.ciel_journal.proofs.Searching.{Searching}
+use Rattle.ciel_want.proofs.Searching.{Searching}
 use Rattle.ciel_want.specs.Board.{can_run_test, leads, never, task_at}
 use Rattle.ciel_want.specs.Marked.{Marked}
 use Rattle.ciel_want.proofs.Readying.{Readied}
