@@ -12,6 +12,7 @@ pub mod FixedLaw
 pub mod Near
 pub mod Started
 pub mod Told
+pub mod OnceLaw
 pub mod OpenTold
 pub mod Shelved
 pub mod Unique

@@ -11,7 +11,7 @@ ghost use Rattle.ciel_journal.specs.SmallHistories as h;
 ghost use Rattle.ciel_journal.specs.Turns.{CircleAtRest, Driven};
 ghost use Rattle.ciel_journal.specs.Work.{Work};
 ghost use Rattle.ciel_journal.specs.Known.{Knows};
-ghost use Rattle.ciel_journal.specs.Laws.{BookIsMade, BookIsTold, BookIsWhole, CircleIsEndless, CountsAreTold, DrivenGoesOn, DrivenInParts, DrivenIsLawful, EnteredAlike, FewStarts, FirstsComeFirst, GoneIsTold, LawfulGoesOn, ListedOrCircle, LiveIsTold, MadeIsSeen, NamedCircleIsEndless, NamesDetermine, NextIsOne, NewIsWhole, OneBook, OneMark, OneState, OneWhole, OneWorker, OpenIsBooked, OpenIsNeeded, OpenIsTold, OpenStood, OverIsTold, PlacedAlike, PlacedIsBooked, PlacesAreTold, ReadyOrCircle, ReadyStarts, SavedIsBooked, SavedIsState, SavedIsTold, StandsOn, StartedIsMissing, StartedIsNeeded};
+ghost use Rattle.ciel_journal.specs.Laws.{BookIsMade, BookIsOnce, BookIsTold, BookIsWhole, CircleIsEndless, CountsAreTold, DrivenGoesOn, DrivenInParts, DrivenIsLawful, EnteredAlike, FewStarts, FirstsComeFirst, GoneIsTold, LawfulGoesOn, ListedOrCircle, LiveIsTold, MadeIsSeen, NamedCircleIsEndless, NamesDetermine, NextIsOne, NewIsWhole, OneBook, OneMark, OneState, OneWhole, OneWorker, OpenIsBooked, OpenIsNeeded, OpenIsTold, OpenStood, OverIsTold, PlacedAlike, PlacedIsBooked, PlacesAreTold, ReachedIsBooked, ReadyOrCircle, ReadyStarts, SavedIsBooked, SavedIsState, SavedIsTold, StandsOn, StartedIsMissing, StartedIsNeeded};
 
 /// The small jobs have the laws that are asked of a job, and that of the squares is six Starts of work: the root task, the main
 /// call with its two waits, and the squares.
@@ -74,6 +74,7 @@ pub fn live_is_told<D>()
     ensures saved { SavedIsTold D }
     ensures counts { CountsAreTold D }
     ensures book { BookIsTold D }
+    ensures once { BookIsOnce D }
     ensures places { PlacesAreTold D }
     ensures gone { GoneIsTold D }
     ensures over { OverIsTold D }
@@ -104,6 +105,7 @@ pub fn all_is_booked<D>()
     ensures whole { BookIsWhole D }
     ensures new { NewIsWhole D }
     ensures heads { FirstsComeFirst D }
+    ensures reached { ReachedIsBooked D }
     ensures placed { PlacedIsBooked D }
     ensures saved { SavedIsBooked D }
     ensures open { OpenIsBooked D }
