@@ -16,3 +16,4 @@ pub mod Wanting
 pub mod Naming
 pub mod Testing
 pub mod Agreeing
+pub mod Holding
