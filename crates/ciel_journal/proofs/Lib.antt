@@ -13,7 +13,6 @@ pub mod Near
 pub mod Started
 pub mod Told
 pub mod OpenTold
-pub mod WantedLaw
 pub mod Shelved
 pub mod Unique
 pub mod Published
@@ -23,11 +22,8 @@ pub mod Check
 pub mod CheckTurns
 pub mod SmallHistories
 pub mod SmallBroken
-pub mod Searching
-pub mod Walking
 pub mod IdleLaw
 pub mod DueLaw
-pub mod ThreeLaw
 pub mod Splits
 pub mod Batches
 pub mod BookKnown

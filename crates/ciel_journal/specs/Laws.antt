@@ -6,8 +6,6 @@ use Rattle.ciel_journal.specs.Known.{HeadsFirst, Inner, Knows, Whole}
 use Rattle.ciel_journal.specs.Lawful.{Allowed, HeldAt, Lawful, NextEnd, NextWait, Step, own_name}
 use Rattle.ciel_journal.specs.Live.{Live, LiveAt, LostIn, OpenIn, SavedIn, closes_of, spawned_of}
 use Rattle.ciel_journal.specs.Turns.{Ready, IsReadyList, CircleAtRest, Driven, DrivenFrom, Turn, idle}
-use Rattle.ciel_journal.specs.Search.{LedTo}
-use Rattle.ciel_journal.specs.Wanted.{IsGraph, Wanted}
 use Rattle.ciel_journal.specs.Work.{Work, losses_of, starts_of}
 use Rattle.ciel_journal.specs.Entries.{Entry, journal_of, low, low_task}
 use Rattle.ciel_journal.specs.Journals.{BookOf, CircleOf, DrivenJournal, LawfulJournal, NameAt, entered_in}
@@ -273,10 +271,3 @@ module _ (D : Type 0) where
   -- and two whole runs are one
   abbrev pub OneWhole : Type 0
   OneWhole = OfAlone (λ job g h. (standing job g).over ≡ true → (standing job h).over ≡ true → g ≡ h)
-
-  -- ---- searching
-
-  -- a search of the graph of what is waited for finds the numbers of what is wanted
-  abbrev pub SearchFinds : Type 0
-  SearchFinds =
-      (job : Job D) (v : Standing D) (row : D → ℕ) (graph : Option ℕ → List ℕ) (live_row : ℕ → Bool) → IsGraph job v row graph live_row → (e : ℕ) → LedTo graph live_row e ↔ ((d : D) × Wanted job v d × (row d ≡ e))

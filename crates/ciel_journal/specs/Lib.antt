@@ -5,9 +5,6 @@ pub mod Known
 pub mod Live
 pub mod Graph
 pub mod Turns
-pub mod Search
-pub mod Three
-pub mod Wanted
 pub mod Work
 pub mod Entries
 pub mod Journals

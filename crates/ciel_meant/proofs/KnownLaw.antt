@@ -14,7 +14,7 @@ use Rattle.sky_base.specs.Op.{Answer}
 use Rattle.sky_base.specs.Res.{End, Object, others, Res}
 use Rattle.sky_base.specs.Eval.{Body, bind, body_of, outputs}
 use Rattle.sky_base.specs.declared.fault.Fault.{Fault}
-use Rattle.sky_law.specs.Refers.{Refers, PairsRefer, ValsRefer}
+use Rattle.sky_law.specs.Refers.{PlainReads, Refers, PairsRefer, ValsRefer}
 use Rattle.sky_law.proofs.BatchLaw.{acts_batched}
 use Rattle.sky_law.proofs.FineLaw.{ObjectOk, EndOk, Fine, bind_ok, fine_call}
 use Rattle.sky_law.proofs.FineReads.{SeenOk}
@@ -22,7 +22,7 @@ use Rattle.sky_law.proofs.WrittenLaw.{BodyWritten, any_lit, any_name, body_writt
 use Rattle.ciel_journal.specs.Job.{Digest, Task, show, of, Act, made, wait, Held, Job, In, Each, WaitOf, StateOf, waits_in, made_before, made_in}
 use Rattle.ciel_journal.specs.Known.{Around, Batched, Begins, IsBatch, Knows, TellsTo, TellsToEnd}
 use Rattle.ciel_journal.proofs.Splits.{get_short}
-use Rattle.ciel_meant.specs.Inner.{PlainReads, inside, object_refs, real_inner}
+use Rattle.ciel_meant.specs.Inner.{inside, object_refs, real_inner}
 use Rattle.ciel_meant.specs.Real.{back, forth, forth_if, acts_of, held_if, at_of, real_job}
 use Rattle.ciel_meant.proofs.AlikeLaw.{before_is, made_is, some_is, wait_is}
 use Rattle.ciel_meant.proofs.RealLaw.{in_to, in_from, waits_are}

@@ -7,13 +7,12 @@ use Rattle.sky_base.specs.Res.{Object, End, Entry, Res, Fin, Tell, Ask, kept_of,
 use Rattle.sky_base.specs.Read.{Act, made, waited, Outcome, no_fuel, Halt, Todo, Frame, refs_of, joined, see_all, on_seen, acts_seen, halts_seen, outcome, acts, halt, todo_of, in_front, frame_of, frames_of}
 use Rattle.sky_base.specs.See.{Val, Vals, Pairs, Desc, Obj, Job, Around, world_of}
 use Rattle.sky_law.specs.Tasks.{Each, made_before, made_in, waits_in}
-use Rattle.sky_law.specs.Refers.{Refers, ValsRefer, PairsRefer}
+use Rattle.sky_law.specs.Refers.{PlainReads, Refers, ValsRefer, PairsRefer}
 use Rattle.sky_law.proofs.FineLaw.{Closed, AnswerOk, OptionOk, ValsOk, ObjectOk, EndOk, OpenOk, FormsOk, Fine}
 use Rattle.sky_law.proofs.FineReads.{SeenOk}
 use Rattle.sky_law.proofs.RefersOps.{AnswerRefers, OptionRefers, simple_refers, limited_refers, put_refers, find_refers, caught_refers, oper_refers, index_refers, set_at_refers, grown_refers, len_refers, keys_refers, range_refers, list_refers, dict_refers, lit_refers, refs_refers}
 use Rattle.sky_law.proofs.SimpleOps.{negated_simple, opposite_simple, has_simple}
 use Rattle.sky_law.proofs.WrittenLaw.{any_lit, any_name}
-use Rattle.ciel_meant.specs.Inner.{PlainReads}
 
 -- ---- references in lists and one by one
 

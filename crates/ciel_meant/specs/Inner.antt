@@ -1,8 +1,8 @@
 -- What stands inside the real job's descriptions, and what its objects hold.
-use Rattle.std.specs.Prelude.{◌≡◌, ℕ, List, [], ◌++◌, Option, Some, None, Ok}
+use Rattle.std.specs.Prelude.{ℕ, List, [], ◌++◌, Option, Some, None}
 use Rattle.sky_base.specs.Res.{Object}
 use Rattle.sky_base.specs.Val.{call, out, input, known, refs, vals_refs, pairs_refs}
-use Rattle.sky_base.specs.See.{Around, Desc, Job, Obj, Val, see}
+use Rattle.sky_base.specs.See.{Around, Desc, Job, Obj, see}
 use Rattle.ciel_journal.specs.Known.{Inner}
 
 -- what a description refers to: by its arguments, and by what its function captured
@@ -21,7 +21,3 @@ object_refs (Some (Object.fault f)) = []
 
 abbrev pub real_inner : Job → Around → Inner Desc
 real_inner job around = record { inside = inside; carries = λ n d. object_refs (see job around n d) }
-
--- what is read as data refers to nothing
-abbrev pub PlainReads : Around → Type 0
-PlainReads around = (b : List ℕ) (a : Val) → around.reads b ≡ Ok a → refs a ≡ []

@@ -8,7 +8,8 @@ use Rattle.sky_law.specs.Sound.{SoundReads}
 use Rattle.ciel_journal.specs.Job.{Digest, Held, Job, IsJob, WaitOf, Ends, Never, Needed, ObjectOf, StateOf, made_before, made_in, after_wait}
 use Rattle.ciel_journal.specs.Work.{Work}
 use Rattle.ciel_journal.specs.Known.{Knows}
-use Rattle.ciel_meant.specs.Inner.{PlainReads, real_inner}
+use Rattle.ciel_meant.specs.Inner.{real_inner}
+use Rattle.sky_law.specs.Refers.{PlainReads}
 use Rattle.ciel_meant.specs.Real.{forth, real_job}
 
 module _ (job : s.Job) (around : s.Around) (name : s.Desc → Digest) (mark : s.Obj → Digest) (frozen : n.State → Digest) where
