@@ -1,6 +1,6 @@
 -- The literals and names of a script that trees make are those of the tokens that the trees spell.
-use Rattle.std.proofs.Common.{◌≡◌, ℕ, zero, suc, ◌+◌, ◌<◌, ◌≤◌, ◌/◌, ◌%◌, ◌^◌, Bool, true, false, List, [], ◌∷◌, ◌++◌, FitsSigned, IsUtf8, nat_lt, pos, negsuc, refl, sym, subst, arith}
-use Rattle.std.specs.Prelude.{◌==◌, if◌then◌else◌}
+use Rattle.std.proofs.Common.{ℕ, zero, suc, ◌+◌, ◌<◌, ◌/◌, ◌%◌, false, List, [], ◌∷◌, ◌++◌, FitsSigned, IsUtf8, nat_lt, pos, negsuc, sym, subst, arith}
+use Rattle.std.specs.Prelude.{◌==◌}
 use Rattle.std.specs.Fmt.{decimal, digits, digits_onto, digit_glyph}
 use Rattle.std.specs.Int.{w64}
 use Rattle.std.proofs.lemmas.Bool.{cond_both}
@@ -15,10 +15,10 @@ use Rattle.sky_text.specs.declared.token.TokenKind.{TokenKind}
 use Rattle.sky_text.specs.declared.token.Token.{Token}
 use Rattle.sky_text.proofs.SpellingUtf8.{spelled_utf8}
 use Rattle.sky_text.proofs.TextUtf8.{ascii_utf8}
-use Rattle.sky_grammar.specs.Grammar.{Mark, lit_kind, Fits, Follows, Fun, spell, spell_signs, spell_exps, spell_others, spell_pairs, spell_value, spell_other_pairs, spell_links, spell_ands, spell_steps, spell_stm, spell_stms, spell_arms, spell_other_arms, spell_else, spell_params, spell_other_params, started}
+use Rattle.sky_grammar.specs.Grammar.{Mark, lit_kind, Fits, Follows, spell, spell_signs, spell_exps, spell_others, spell_pairs, spell_value, spell_other_pairs, spell_links, spell_ands, spell_steps, spell_stm, spell_stms, spell_arms, spell_other_arms, spell_else, spell_params, spell_other_params, started}
 use Rattle.sky_grammar.specs.Lifted.{number_name, param_names, count, exps_count, stm_count, stms_count, arms_count, tree, exps_tree, links_tree, ands_tree, steps_tree, stm_tree, stms_tree, arms_tree, else_tree, made, exps_made, links_made, ands_made, steps_made, stm_made, stms_made, arms_made, else_made}
 use Rattle.sky_grammar.specs.Source.{Param, Exp, Exps, Links, Ands, Steps, Stm, Stms, Arms, Else}
-use Rattle.sky_grammar.specs.Tops.{Top, Spells, defs_of, main_of, made_of, script_of, spell_tops, top_count, top_made}
+use Rattle.sky_grammar.specs.Tops.{Top, defs_of, main_of, made_of, spell_tops, top_count}
 use Rattle.sky_parse.specs.Source.{IsScript}
 use Rattle.ciel_spelled.proofs.TokenKinds.{AreTokens, token_kinds}
 

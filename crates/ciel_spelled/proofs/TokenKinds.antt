@@ -1,6 +1,6 @@
 -- The names and texts of a script's tokens are UTF-8, and its numbers have 64 bits.
-use Rattle.std.proofs.Common.{◌≡◌, ℕ, zero, suc, ◌+◌, ◌<◌, ◌≤◌, Bool, true, false, cond, List, [], ◌∷◌, ◌++◌, length, take, pos, negsuc, Option, Ok, Err, IsUtf8, refl, sym, ap, ◌∙◌, subst, arith, append_assoc, ◌⊎◌, inl, inr}
-use Rattle.std.specs.Prelude.{◌==◌, if◌then◌else◌}
+use Rattle.std.proofs.Common.{◌≡◌, ℕ, zero, suc, ◌+◌, ◌<◌, ◌≤◌, true, List, [], ◌∷◌, ◌++◌, length, take, pos, negsuc, Ok, Err, IsUtf8, sym, subst, arith, append_assoc, inl, inr}
+use Rattle.std.specs.Prelude.{◌==◌}
 use Rattle.std.specs.Char.{is_ascii_digit}
 use Rattle.std.specs.List.{list_all}
 use Rattle.std.specs.Str.{is_utf8}
@@ -12,8 +12,8 @@ use Rattle.std.proofs.lemmas.Str.{IsUtf8-append, IsUtf8-nil, IsUtf8-from_is_utf8
 use lib.Utf8.{encode, encodes}
 use Rattle.sky_law.specs.Tasks.{Each}
 use Rattle.sky_text.specs.Place.{is_line_feed}
-use Rattle.sky_text.specs.Lexing.{is_blank, is_escape, unescaped, token_of, tokens_from, tokens_of}
-use Rattle.sky_text.specs.Parts.{AreParts, IsGap, LineEnds, NoFeed, Part, Quotes, Spells, escape, gap, joined, none, plain, token, tokens_in}
+use Rattle.sky_text.specs.Lexing.{is_blank, is_escape, unescaped, tokens_from, tokens_of}
+use Rattle.sky_text.specs.Parts.{AreParts, IsGap, LineEnds, Part, Quotes, Spells, escape, gap, joined, none, plain, token, tokens_in}
 use Rattle.sky_text.specs.Spelling.{IsKind, spell}
 use Rattle.sky_text.specs.declared.lex.LexRefusal.{LexRefusal}
 use Rattle.sky_text.specs.declared.token.TokenKind.{TokenKind}

@@ -1,5 +1,5 @@
 -- The laws, each said of every script.
-use Rattle.std.specs.Prelude.{◌≡◌, ℕ, List}
+use Rattle.std.specs.Prelude.{ℕ, List}
 use Rattle.sky_base.specs.Name.{low_desc}
 use Rattle.sky_base.specs.Needed.{Task, WaitOf, Needed}
 use Rattle.sky_base.specs.See as see
