@@ -1,16 +1,29 @@
 //! Laws of the values of a run. Each is the contract of a function that does nothing.
 
-ghost use Rattle.ciel_spelled.specs.Laws.{ScriptsUseSo, SoundIsData, SoundIsSpelled};
+ghost use Rattle.ciel_spelled.specs.Laws.{MadeIsSpelled, NeededIsSpelled, ScriptsAreTyped, ScriptsUseSo, SoundIsData, SoundIsSpelled, WaitedIsSpelled};
 
 /// In a script that functions and statements make, a named function uses nothing of what stands around it.
 pub fn named_functions_use_nothing()
     ensures scripts { ScriptsUseSo }
 {}
 
-/// A sound value of such a script whose numbers, texts, keys, counts and names are as types keep them is data: it can be
-/// spelled, and keeps the limits. So it is decoded from its bytes, and no other value has them. A sound description can be
-/// spelled likewise.
+/// In a script that bytes are, each literal is a number of 64 bits or UTF-8, and each name is UTF-8.
+pub fn scripts_are_typed()
+    ensures scripts { ScriptsAreTyped }
+{}
+
+/// A sound and typed value of such a script that refers to names of 20 or 32 bytes alone is data: it can be spelled, and
+/// keeps the limits. So it is decoded from its bytes, and no other value has them. Such a description can be spelled likewise.
 pub fn sound_values_are_data()
     ensures values { SoundIsData }
     ensures descriptions { SoundIsSpelled }
+{}
+
+/// Where a job's script is that of some bytes, and what is read as data is sound and typed, every description that a needed
+/// task makes or waits for, and the one that it is of, can be spelled, with any names of 20 or 32 bytes in place of the
+/// descriptions that it refers to. So no two of them that differ over names have the same canonical bytes.
+pub fn runs_are_spelled()
+    ensures made { MadeIsSpelled }
+    ensures waited { WaitedIsSpelled }
+    ensures needed { NeededIsSpelled }
 {}

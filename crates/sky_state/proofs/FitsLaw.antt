@@ -1,13 +1,13 @@
 -- A state that stands for a task at a wait fits the script.
-use Rattle.std.proofs.Common.{◌≡◌, ℕ, zero, suc, ◌+◌, ◌≤◌, ◌<◌, ◌⊎◌, inl, inr, Bool, true, false, List, [], ◌∷◌, length, Option, Some, None, nat_le, leb-true, refl, sym, ap, ◌∙◌, subst, arith}
+use Rattle.std.proofs.Common.{◌≡◌, ℕ, zero, suc, ◌+◌, ◌≤◌, ◌<◌, Bool, true, false, List, [], ◌∷◌, length, Option, Some, None, nat_le, leb-true, refl, sym, ap, ◌∙◌, subst, arith}
 use Rattle.std.proofs.lemmas.List.{length-map}
 use Rattle.sky_base.specs.Val as v
 use Rattle.sky_base.specs.Val.{call, out, input, known, refs, distinct, no_vals, val, no_pairs, pair}
 use Rattle.sky_base.specs.Name.{low, low_vals, low_pairs, name}
 use Rattle.sky_base.specs.Kept.{Kept}
-use Rattle.sky_base.specs.Tree.{FunDef, Script, nowhere}
+use Rattle.sky_base.specs.Tree.{Script, nowhere}
 use Rattle.sky_base.specs.Res.{bodies, others, visits, Object, Res, Fin, Tell, Ask}
-use Rattle.sky_base.specs.Eval.{World, Body, bind, body_of, find_fun}
+use Rattle.sky_base.specs.Eval.{World, Body, bind, body_of}
 use Rattle.sky_base.specs.Read.{Halt, see_all, refs_of, halts_seen, halt, frames_of, run_of_halt}
 use Rattle.sky_base.specs.See.{Val, Vals, Pairs, Desc, Job, Around, see, run_of, world_of, start_st, wave, main_call}
 use Rattle.sky_base.specs.Needed.{Task, State, StandsAt, WaitOf, halt_state, start_frame, wave_state, distinct_refs, wave_refs, unless_none, only_if}
@@ -15,12 +15,12 @@ use Rattle.sky_law.specs.Lower.{low_ref, low_run}
 use Rattle.sky_law.specs.NamesLaws.{Tag, no_name}
 use Rattle.sky_law.specs.Opened.{Node}
 use Rattle.sky_law.specs.Nodes.{node_at}
-use Rattle.sky_law.specs.Sound.{IsMain, CallsIf, ValsSound, PairsSound, SoundDesc, Sound, SoundVars, SoundState, SoundReads, SoundTask}
+use Rattle.sky_law.specs.Sound.{ValsSound, PairsSound, SoundDesc, Sound, SoundVars, SoundState, SoundReads, SoundTask}
 use Rattle.sky_law.proofs.BoundLaw.{task_open}
 use Rattle.sky_law.proofs.CountLaw.{climbs_call, Enough, enough}
 use Rattle.sky_law.proofs.NodesLaw.{has_script}
 use Rattle.sky_law.proofs.FormsLaw.{Within, inner}
-use Rattle.sky_law.proofs.Low.{bind_low, count_low}
+use Rattle.sky_law.proofs.Low.{bind_low}
 use Rattle.sky_law.proofs.RefsLow.{refs_low}
 use Rattle.sky_law.proofs.SeenLaw.{stands_one}
 use Rattle.sky_law.proofs.SoundJobs.{stands_sound, wave_sound}

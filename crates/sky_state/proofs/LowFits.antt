@@ -1,14 +1,10 @@
 -- A frame that fits a script fits it over names too.
-use Rattle.std.proofs.Common.{ℕ, ◌≤◌, List, [], ◌∷◌, map, take, drop, Option, Some, None, sym, subst, pos, negsuc}
+use Rattle.std.proofs.Common.{ℕ, List, [], ◌∷◌, map, take, drop, sym, subst, pos, negsuc}
 use Rattle.std.proofs.lemmas.List.{take-map, drop-map}
-use Rattle.sky_base.specs.Val.{Val, Vals, Pairs, Desc, null, truth, num, text, list, dict, fun, ref, no_vals, val, no_pairs, pair, count}
-use Rattle.sky_base.specs.Name.{low, low_vals, low_pairs}
-use Rattle.sky_base.specs.Kept.{Kept}
-use Rattle.sky_base.specs.Tree.{FunDef, Script}
-use Rattle.sky_base.specs.Eval.{find_fun}
+use Rattle.sky_base.specs.Val.{Val, Vals, Desc, null, truth, num, text, list, dict, fun, ref, no_vals, val, count}
+use Rattle.sky_base.specs.Name.{low, low_vals}
 use Rattle.sky_law.specs.Tasks.{Each}
-use Rattle.sky_law.specs.Sound.{AllUsed, TakesIf, RefsSound, ValsSound, PairsSound, Sound, SoundVars}
-use Rattle.sky_law.proofs.Low.{size_low, depth_low, count_low}
+use Rattle.sky_law.proofs.Low.{count_low}
 use Rattle.sky_state.specs.Table.{Row, part, turn, star, outputs, open_call, no_step, keeps}
 use Rattle.sky_state.specs.Fits.{IsList, IsNumber, IsReference, AllReferences, IsListOfReferences, One, Two, OfKinds, UpTo, UpToLength, TakenFrom, shares}
 
