@@ -180,7 +180,8 @@ module _ (D : Type 0) where
   -- none was started whose outputs were all live; the root task has none
   abbrev pub StartedIsMissing : Type 0
   StartedIsMissing =
-      OfJob (λ job. (p : Plan) (before rest : List (Event D)) (k w : ℕ) (t : Task D) (from : ℕ) → Lawful job p (before ++ start k w t from ∷ rest) → (t ≡ show) ⊎ ((d : D) × In d (job.outputs t) × (Live job before d → ⊥)))
+      OfJob (λ job. (p : Plan) (before rest : List (Event D)) (k w : ℕ) (t : Task D) (from : ℕ) → Lawful job p (before ++ start k w t from ∷ rest)
+      → (t ≡ show) ⊎ ((d : D) × In d (job.outputs t) × (Live job before d → ⊥)))
 
   -- a lawful history has no more Starts than there is work, once for each loss and once more
   abbrev pub FewStarts : Type 0
@@ -231,12 +232,14 @@ module _ (D : Type 0) where
   -- no name stands with two marks
   abbrev pub OneMark : Type 0
   OneMark =
-      OfLawful (λ job p h v. (k l : ℕ) (made more : List (Digest × Digest)) (c e : List Digest) (name a b : Digest) → In (Entry.Done k made c) (journal_of job h) → In (Entry.Done l more e) (journal_of job h) → In (name, a) made → In (name, b) more → a ≡ b)
+      OfLawful (λ job p h v. (k l : ℕ) (made more : List (Digest × Digest)) (c e : List Digest) (name a b : Digest)
+      → In (Entry.Done k made c) (journal_of job h) → In (Entry.Done l more e) (journal_of job h) → In (name, a) made → In (name, b) more → a ≡ b)
 
   -- two saved entries of one task and one wait have one mark
   abbrev pub OneState : Type 0
   OneState =
-      OfLawful (λ job p h v. (k l w u : ℕ) (t : Task D) (from i : ℕ) → In (start k w t from) h → In (start l u t i) h → (j : ℕ) (a b : Digest) (r x s q y z : List D) → In (saved k j a r x s) h → In (saved l j b q y z) h → a ≡ b)
+      OfLawful (λ job p h v. (k l w u : ℕ) (t : Task D) (from i : ℕ) → In (start k w t from) h → In (start l u t i) h
+      → (j : ℕ) (a b : Digest) (r x s q y z : List D) → In (saved k j a r x s) h → In (saved l j b q y z) h → a ≡ b)
 
   -- the journal of names determines the history
   abbrev pub NamesDetermine : Type 0

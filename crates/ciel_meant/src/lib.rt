@@ -1,7 +1,7 @@
 //! The job that a script means, as a job of journals.
 #![tactic(auto)]
 
-ghost use Rattle.ciel_meant.specs.Histories.{BookIsMade, CirclesNever, EndsInAnswer, ListedOrCircle, MadeIsSeen, ReadyStarts, SavedStands, StartsAreFew, StartsAreNeeded};
+ghost use Rattle.ciel_meant.specs.Histories.{BookIsMade, CirclesNever, EndsInAnswer, ListedOrCircle, MadeIsSeen, OfHistories, ReadyStarts, SavedStands, StartsAreFew, StartsAreNeeded};
 ghost use Rattle.ciel_meant.specs.RealLaws.{OfReal, RealIsJob, WaitsAlike, OutputsAlike, EndsAlike, NeverAlike, AnswerAlike, ObjectsAlike, StatesAlike, MadeAlike, NeededAlike, AllIsTold, WorkIsFinite};
 
 /// The job that a script means has the laws that the journal asks of a job, whatever its names and
@@ -42,13 +42,13 @@ pub fn real_job_tells_where_all_comes_from()
 /// be started; what is made has the mark of the one object as which it is seen, what is saved is how its task stands, and
 /// each description of the book is the main call or made by a needed task.
 pub fn real_histories()
-    ensures needed { StartsAreNeeded }
-    ensures few { StartsAreFew }
-    ensures answer { EndsInAnswer }
-    ensures endless { CirclesNever }
-    ensures listed { ListedOrCircle }
-    ensures starts { ReadyStarts }
-    ensures made { MadeIsSeen }
-    ensures saved { SavedStands }
-    ensures book { BookIsMade }
+    ensures needed { OfHistories StartsAreNeeded }
+    ensures few { OfHistories StartsAreFew }
+    ensures answer { OfHistories EndsInAnswer }
+    ensures endless { OfHistories CirclesNever }
+    ensures listed { OfHistories ListedOrCircle }
+    ensures starts { OfHistories ReadyStarts }
+    ensures made { OfHistories MadeIsSeen }
+    ensures saved { OfHistories SavedStands }
+    ensures book { OfHistories BookIsMade }
 {}
