@@ -2,12 +2,13 @@
 use Rattle.std.proofs.Common.{◌≡◌, ℕ, List, [], ◌∷◌, map, length, sym, subst, ◌⊎◌}
 use Rattle.sky_base.specs.Name.{low, low_vals, low_pairs, low_desc, name}
 use Rattle.sky_base.specs.Needed.{Task, WaitOf, Needed}
+use Rattle.sky_base.specs.KitView.{Gives}
 use Rattle.sky_base.specs.See as see
 use Rattle.sky_base.specs.Tree.{Script}
 use Rattle.sky_base.specs.Val.{Val, Vals, Pairs, Desc, null, truth, num, text, list, dict, fun, ref, no_vals, val, no_pairs, pair, call, out, input, known, refs, vals_refs, pairs_refs, Rising, RisingFrom}
 use Rattle.sky_law.specs.Lower.{low_ref}
 use Rattle.sky_law.specs.NamesLaws.{Tag, no_name}
-use Rattle.sky_law.specs.Sound.{SoundDesc}
+use Rattle.sky_law.specs.Sound.{SoundDesc, SoundReads}
 use Rattle.sky_law.specs.Tasks.{In, Each, acts_of, made_in}
 use Rattle.sky_law.specs.Typed.{EachTyped, Typed, TypedDesc, TypedJob, ValsTyped}
 use Rattle.sky_law.proofs.RefsLow.{refs_low, vals_refs_low, pairs_refs_low}
@@ -15,11 +16,14 @@ use Rattle.sky_law.proofs.SoundJobs.{made_sound, needed_sound, wait_sound}
 use Rattle.sky_law.proofs.SoundLow.{sound_desc_low}
 use Rattle.sky_law.proofs.TypedJobs.{made_typed, needed_typed, waits_typed}
 use Rattle.sky_parse.specs.Source.{IsScript}
+use Rattle.ciel_json.specs.Around.{json_around}
+use Rattle.ciel_json.proofs.ReadLaw.{json_reads_sound}
 use Rattle.ciel_name.specs.Laws.{SpelledDesc}
 use Rattle.ciel_name.specs.Spelled.{IsName}
-use Rattle.ciel_spelled.specs.Laws.{IsRead, named}
+use Rattle.ciel_spelled.specs.Laws.{OfBytes, named}
 use Rattle.ciel_spelled.specs.Typed.{DescOverNames, GivesNames, NamedUseNothing}
 use Rattle.ciel_spelled.proofs.Bare.{sound_spelled}
+use Rattle.ciel_spelled.proofs.JsonTyped.{json_reads_typed}
 use Rattle.ciel_spelled.proofs.Made.{script_uses}
 use Rattle.ciel_spelled.proofs.Scripts.{script_typed}
 
@@ -91,20 +95,26 @@ module _ (tag : Tag) where
 
     -- ---- the descriptions of a run
 
-    module _ (job : see.Job) (around : see.Around) (read : IsRead job around) where
+    module _ (job : see.Job) (gives_of : Gives) (of_bytes : OfBytes job) where
+      abbrev around : see.Around
+      around = json_around gives_of
+
+      sound : SoundReads job.script around
+      sound = json_reads_sound job.script gives_of
+
       start : TypedJob job around
       start =
-          record { script = script_typed read.source read.keys job.script read.is_script; reads = read.typed; sound = read.sound }
+          record { script = script_typed of_bytes.0 of_bytes.1 job.script of_bytes.2; reads = json_reads_typed gives_of; sound = sound }
 
       bare : NamedUseNothing job.script.funs
-      bare = go read.is_script
+      bare = go of_bytes.2
         where
-          go : IsScript read.source read.keys job.script → NamedUseNothing job.script.funs
-          go (ts, tops, found, valid, is) = subst (λ (sc : Script). NamedUseNothing sc.funs) (sym is) (script_uses read.keys tops)
+          go : IsScript of_bytes.0 of_bytes.1 job.script → NamedUseNothing job.script.funs
+          go (ts, tops, found, valid, is) = subst (λ (sc : Script). NamedUseNothing sc.funs) (sym is) (script_uses of_bytes.1 tops)
 
       pub made_spelled : (n : ℕ) (t : Task) (d : see.Desc) → Needed job around t → In d (made_in (acts_of job around n t)) → SpelledDesc (named tag d)
       made_spelled n t d need i =
-          spelled_low job.script bare d (made_sound job around read.sound n t d (needed_sound job around read.sound t need) i) (made_typed job around start n t d need i)
+          spelled_low job.script bare d (made_sound job around sound n t d (needed_sound job around sound t need) i) (made_typed job around start n t d need i)
 
       each_spelled : (ds : List see.Desc) → Each (SoundDesc job.script) ds → Each TypedDesc ds → Each (λ d. SpelledDesc (named tag d)) ds
       each_spelled [] s t = tt
@@ -112,8 +122,8 @@ module _ (tag : Tag) where
 
       pub waited_spelled : (t : Task) (j : ℕ) (ds : List see.Desc) → Needed job around t → WaitOf job around t j ds → Each (λ d. SpelledDesc (named tag d)) ds
       waited_spelled t j ds need wait =
-          each_spelled ds (wait_sound job around read.sound t j ds (needed_sound job around read.sound t need) wait) (waits_typed job around start t j ds need wait)
+          each_spelled ds (wait_sound job around sound t j ds (needed_sound job around sound t need) wait) (waits_typed job around start t j ds need wait)
 
       pub needed_spelled : (d : see.Desc) → Needed job around (Task.of d) → SpelledDesc (named tag d)
       needed_spelled d need =
-          spelled_low job.script bare d (needed_sound job around read.sound (Task.of d) need) (needed_typed job around start (Task.of d) need)
+          spelled_low job.script bare d (needed_sound job around sound (Task.of d) need) (needed_typed job around start (Task.of d) need)

@@ -5,7 +5,6 @@ use Rattle.std.specs.Fmt.{decimal, digits, digits_onto, digit_glyph}
 use Rattle.std.specs.Int.{w64}
 use Rattle.std.proofs.lemmas.Bool.{cond_both}
 use Rattle.std.proofs.lemmas.Str.{IsUtf8-append, IsUtf8-nil}
-use Rattle.sky_base.specs.Tree as run
 use Rattle.sky_base.specs.Tree.{Place, Lit, SignAt, Form, FunDef, Junction, Script}
 use Rattle.sky_law.specs.Tasks.{Each}
 use Rattle.sky_law.specs.Typed.{TypedLit, TypedScript}

@@ -1,6 +1,6 @@
 //! Laws of the values of a run. Each is the contract of a function that does nothing.
 
-ghost use Rattle.ciel_spelled.specs.Laws.{MadeIsSpelled, NeededIsSpelled, ScriptsAreTyped, ScriptsUseSo, SoundIsData, SoundIsSpelled, WaitedIsSpelled};
+ghost use Rattle.ciel_spelled.specs.Laws.{MadeIsSpelled, NeededIsSpelled, ReadsAreTyped, ScriptsAreTyped, ScriptsUseSo, SoundIsData, SoundIsSpelled, WaitedIsSpelled};
 
 /// In a script that functions and statements make, a named function uses nothing of what stands around it.
 pub fn named_functions_use_nothing()
@@ -19,9 +19,14 @@ pub fn sound_values_are_data()
     ensures descriptions { SoundIsSpelled }
 {}
 
-/// Where a job's script is that of some bytes, and what is read as data is sound and typed, every description that a needed
-/// task makes or waits for, and the one that it is of, can be spelled, with any names of 20 or 32 bytes in place of the
-/// descriptions that it refers to. So no two of them that differ over names have the same canonical bytes.
+/// What is read as data has whole numbers of 64 bits, texts and keys that are UTF-8, and keys that rise.
+pub fn data_is_typed()
+    ensures reads { ReadsAreTyped }
+{}
+
+/// Where a job's script is that of some bytes, every description that a needed task makes or waits for, and the one that it
+/// is of, can be spelled, with any names of 20 or 32 bytes in place of the descriptions that it refers to. So no two of them
+/// that differ over names have the same canonical bytes.
 pub fn runs_are_spelled()
     ensures made { MadeIsSpelled }
     ensures waited { WaitedIsSpelled }
