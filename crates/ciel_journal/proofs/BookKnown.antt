@@ -1,5 +1,5 @@
 -- All that tasks wait for and hold is in the book, where the job tells where it comes from.
-use Rattle.std.proofs.Common.{◌≡◌, ℕ, zero, suc, ◌-◌, ◌≤◌, ◌<◌, List, [], ◌∷◌, ◌++◌, length, Bool, true, false, not, cond, ◌||◌, Option, Some, None, ◌⊎◌, inl, inr, refl, ap, sym, ◌∙◌, subst, arith, nat_eq, nat_lt, eq-eqb}
+use Rattle.std.proofs.Common.{◌≡◌, ℕ, zero, suc, ◌-◌, ◌≤◌, ◌<◌, List, [], ◌∷◌, ◌++◌, append_assoc, length, Bool, true, false, not, cond, ◌||◌, Option, Some, None, ◌⊎◌, inl, inr, refl, ap, sym, ◌∙◌, subst, arith, nat_eq, nat_lt, eq-eqb}
 use Rattle.std.specs.List.{list_any}
 use Rattle.ciel_journal.specs.Job.{Task, show, of, Job, In, Each, IsJob, WaitOf, after_wait, made_before, made_in, waits_in}
 use Rattle.ciel_journal.specs.History.{Event, start, done, saved, missed, lost, OpenStart, Plan, Save, Standing, after, after_all, before_all, better, last, last_save, learned, live_if, live_in, names_of, needs, order_of, placed, same_task, wait_number}
@@ -68,8 +68,7 @@ module _ {D : Type 0} (job : Job D) (laws : IsJob job) (inner : Inner D) (knows 
   tells_more : (S T : List D) → Grows S T → (t : Task D) (i : ℕ) → TellsTo job inner S t i → TellsTo job inner T t i
   tells_more S T g t i k =
       record {
-        begins = begins_more S T g t k.begins;
-        reads = λ j ds d e n l w x c. g e (k.reads j ds d e n l w x c);
+        handed = record { begins = begins_more S T g t k.handed.begins; reads = λ j ds d e n l w x c. g e (k.handed.reads j ds d e n l w x c) };
         makes = λ n l. each_more (λ d. In d S) (λ d. In d T) g (made_before i (job.acts n t)) (k.makes n l);
       }
 
@@ -80,6 +79,15 @@ module _ {D : Type 0} (job : Job D) (laws : IsJob job) (inner : Inner D) (knows 
   save_more : (S T : List D) → Grows S T → (s : Save D) → SaveKnown S s → SaveKnown T s
   save_more S T g s k =
       record { refs = each_more (λ d. In d S) (λ d. In d T) g s.refs k.refs; told = tells_more S T g s.task s.j k.told }
+
+  -- where each of these has around it what stands there before it, and all stand in S, each has what is in S
+  made_around : (S ds : List D) → Each (λ e. In e S) ds → ((before after : List D) (d : D) → ds ≡ before ++ d ∷ after → Each (λ e. In e S) before → Around job inner S d) → Each (Around job inner S) ds
+  made_around S ds all f = go [] ds tt all (λ before after d e k. f before after d e k)
+    where
+      go : (front rest : List D) → Each (λ e. In e S) front → Each (λ e. In e S) rest → ((before after : List D) (d : D) → front ++ rest ≡ before ++ d ∷ after → Each (λ e. In e S) before → Around job inner S d) → Each (Around job inner S) rest
+      go front [] a b h = tt
+      go front (x ∷ xs) a b h =
+          (h front xs x refl a, go (front ++ x ∷ []) xs (each_join (λ e. In e S) front (x ∷ []) a (b.0, tt)) b.1 (λ before after d e k. h before after d (sym (append_assoc front (x ∷ []) xs) ∙ e) k))
 
   -- what was spawned is whole, where what stands inside is in the book and the outputs of its tasks were spawned too
   new_whole : (book ds : List D) → Each (Around job inner (learned job book ds)) ds → ((x : D) → In x ds → WithOutputs job laws ds x) → Each (Whole job inner (learned job book ds)) ds
@@ -115,7 +123,7 @@ module _ {D : Type 0} (job : Job D) (laws : IsJob job) (inner : Inner D) (knows 
   later_read S o known k ds d e n given w i c = pick (cases o.from k)
     where
       pick : ((k < o.from) ⊎ (o.from ≡ k) ⊎ (o.from < k)) → In e S
-      pick (inl l) = known.told.reads k ds d e n l w i c
+      pick (inl l) = known.told.handed.reads k ds d e n l w i c
       pick (inr (inl s)) =
           live_carried S o known d (each_of (λ x. live_in job o.had x ≡ true) d ds i (known.met ds (subst (λ j. WaitOf job o.task j ds) (sym s) w))) n e c
       pick (inr (inr l)) = live_carried S o known d (each_of (Given job o) d ds i (given l)).1 n e c
@@ -123,8 +131,7 @@ module _ {D : Type 0} (job : Job D) (laws : IsJob job) (inner : Inner D) (knows 
   tells_end : (S : List D) (o : OpenStart D) (spawned : List D) → OrderKnown S o → NextEnd job (Given job o) o.task o.from → SpawnedToEnd job o spawned → Each (λ d. In d S) spawned → TellsToEnd job inner S o.task
   tells_end S o spawned known next spawns all =
       record {
-        begins = known.told.begins;
-        reads = λ k ds d e n w i c. later_read S o known k ds d e n (λ l. next.met k ds l w) w i c;
+        handed = record { begins = known.told.handed.begins; reads = λ k ds d e n w i c. later_read S o known k ds d e n (λ l. next.met k ds l w) w i c };
         makes = λ n e. let s = spawned_end_unique job laws o (made_in (after_wait o.from (job.acts n o.task))) spawned (n, e, refl) spawns in
             subst (Each (λ d. In d S)) (sym (made_split o.from (job.acts n o.task)))
             (each_join (λ d. In d S) (made_before o.from (job.acts n o.task)) (made_in (after_wait o.from (job.acts n o.task))) (known.told.makes n (comes_to o known.here.0 n known.here.1 e)) (subst (Each (λ d. In d S)) (sym s) all));
@@ -133,8 +140,7 @@ module _ {D : Type 0} (job : Job D) (laws : IsJob job) (inner : Inner D) (knows 
   tells_to : (S : List D) (o : OpenStart D) (j : ℕ) (refs spawned : List D) → OrderKnown S o → NextWait job (Given job o) o.task o.from j refs → SpawnedTo job o j spawned → Each (λ d. In d S) spawned → TellsTo job inner S o.task j
   tells_to S o j refs spawned known next spawns all =
       record {
-        begins = known.told.begins;
-        reads = λ k ds d e n u w i c. later_read S o known k ds d e n (λ l. next.met k ds l u w) w i c;
+        handed = record { begins = known.told.handed.begins; reads = λ k ds d e n u w i c. later_read S o known k ds d e n (λ l. next.met k ds l u w) w i c };
         makes = λ n e. let s = spawned_to_unique job laws o j (made_before (j - o.from) (after_wait o.from (job.acts n o.task))) spawned next.later (n, e, refl) spawns in
             let l = next.later in
             subst (Each (λ d. In d S)) (sym (before_split o.from j (job.acts n o.task) (omega (arith, l))))
@@ -188,7 +194,7 @@ module _ {D : Type 0} (job : Job D) (laws : IsJob job) (inner : Inner D) (knows 
 
       pick : ((last_save job t v.saves ≡ None) ⊎ ((s : Save D) × In s v.saves × (s.task ≡ t) × (last_save job t v.saves ≡ Some s))) → TellsTo job inner v.book t (last job v t)
       pick (inl n) =
-          subst (TellsTo job inner v.book t) (sym (ap (wait_number job) n)) (record { begins = begun t own; reads = λ k ds d e m l w i c. absurd (omega (arith, l)); makes = λ m l. tt })
+          subst (TellsTo job inner v.book t) (sym (ap (wait_number job) n)) (record { handed = record { begins = begun t own; reads = λ k ds d e m l w i c. absurd (omega (arith, l)) }; makes = λ m l. tt })
       pick (inr x) =
           subst (λ u. TellsTo job inner v.book u (last job v t)) x.2 (subst (TellsTo job inner v.book x.0.task) (sym (ap (wait_number job) x.3)) (inf.saves x.0 x.1).told)
 
@@ -251,7 +257,7 @@ module _ {D : Type 0} (job : Job D) (laws : IsJob job) (inner : Inner D) (knows 
       new : Each (Whole job inner (learned job v.book spawned)) spawned
       new =
           let s = step.2.spawns in
-          new_whole v.book spawned (later_part (Around job inner (learned job v.book spawned)) (job.acts s.0 step.0.task) step.0.from spawned s.2 (knows.end_told (learned job v.book spawned) step.0.task s.0 tells s.1))
+          new_whole v.book spawned (later_part (Around job inner (learned job v.book spawned)) (job.acts s.0 step.0.task) step.0.from spawned s.2 (made_around (learned job v.book spawned) (made_in (job.acts s.0 step.0.task)) (tells.makes s.0 s.1) (λ before after d e k. knows.end_told (learned job v.book spawned) step.0.task s.0 before after d tells.handed e k)))
           ends.0
 
       whole : (d : D) → In d (learned job v.book spawned) → Whole job inner (learned job v.book spawned) d
@@ -312,7 +318,7 @@ module _ {D : Type 0} (job : Job D) (laws : IsJob job) (inner : Inner D) (knows 
       new =
           let s = step.2.spawns in
           let l = step.2.next.later in
-          new_whole v.book spawned (part_before (Around job inner (learned job v.book spawned)) (job.acts s.0 step.0.task) step.0.from j spawned (omega (arith, l)) s.2 (knows.made_told (learned job v.book spawned) step.0.task j s.0 tells s.1))
+          new_whole v.book spawned (part_before (Around job inner (learned job v.book spawned)) (job.acts s.0 step.0.task) step.0.from j spawned (omega (arith, l)) s.2 (made_around (learned job v.book spawned) (made_before j (job.acts s.0 step.0.task)) (tells.makes s.0 s.1) (λ before after d e k. knows.made_told (learned job v.book spawned) step.0.task j s.0 before after d tells.handed e k)))
           part.0
 
       whole : (d : D) → In d (learned job v.book spawned) → Whole job inner (learned job v.book spawned) d

@@ -1,5 +1,5 @@
 -- Each description stands in the book once.
-use Rattle.std.proofs.Common.{◌≡◌, List, [], ◌∷◌, ◌++◌, Bool, true, false, cond, inl, inr, refl, ap, sym, ◌∙◌, subst}
+use Rattle.std.proofs.Common.{◌≡◌, List, [], ◌∷◌, ◌++◌, Bool, true, false, cond, inl, inr, refl, sym, ◌∙◌}
 use Rattle.std.specs.List.{list_any}
 use Rattle.ciel_journal.specs.Job.{Job, In, IsJob, Once}
 use Rattle.ciel_journal.specs.History.{learned}

@@ -1,6 +1,6 @@
 -- The small jobs tell where all comes from that their tasks wait for and hold.
-use Rattle.std.proofs.Common.{◌≡◌, ℕ, zero, suc, ◌≤◌, ◌<◌, List, [], ◌∷◌, ◌++◌, length, length-append, Bool, true, false, cond, Some, None, slice_get, inl, inr, refl, ap, sym, subst, arith, nat_le, leb-true}
-use Rattle.ciel_journal.specs.Job.{Task, show, of, Act, made, wait, Held, Job, In, Each, WaitOf, StateOf, waits_in, made_before, made_in}
+use Rattle.std.proofs.Common.{◌≡◌, ℕ, zero, suc, ◌≤◌, ◌<◌, List, [], ◌∷◌, ◌++◌, length, length-append, append_assoc, Bool, true, false, cond, Some, None, slice_get, ◌⊎◌, inl, inr, refl, ap, sym, ◌∙◌, subst, arith, nat_le, leb-true}
+use Rattle.ciel_journal.specs.Job.{Task, show, of, Act, made, wait, Held, Job, In, Each, WaitOf, StateOf, waits_in, after_wait, made_before, made_in}
 use Rattle.ciel_journal.specs.Lawful.{HeldAt}
 use Rattle.ciel_journal.specs.Known.{Around, Batched, Inner, Knows, TellsTo, TellsToEnd}
 use Rattle.ciel_journal.specs.Fixed.{Piece, acts_by, all_seen, until, seen_with, fixed_job, small_lists, small_inner, piece_task, piece_outputs, piece_first, piece_script, piece_holds, piece_inside, piece_carries}
@@ -8,7 +8,7 @@ use Rattle.ciel_journal.specs.Fixed as f
 use Rattle.ciel_journal.proofs.Circle.{waits_join}
 use Rattle.ciel_journal.proofs.Members.{each_of}
 use Rattle.ciel_journal.proofs.Near.{each_all}
-use Rattle.ciel_journal.proofs.Splits.{before_in, get_short}
+use Rattle.ciel_journal.proofs.Splits.{get_short, made_split}
 use Rattle.ciel_journal.proofs.SmallBroken.{acts_prefix, script_wait, one_of}
 
 module _ {D : Type 0} where
@@ -74,14 +74,6 @@ module _ (reads : Bool) where
       let e = t.makes n l in
       record { one = e.0; two = e.1.0; text = e.1.1.0; left = e.1.1.1.0; right = e.1.1.1.1.0 }
 
-  five_around : (S : List Piece) → Five S → (d : Piece) → In d all_five → Around job inner S d
-  five_around S v d (inl s) = subst (Around job inner S) (sym s) tt
-  five_around S v d (inr (inl s)) = subst (Around job inner S) (sym s) tt
-  five_around S v d (inr (inr (inl s))) = subst (Around job inner S) (sym s) tt
-  five_around S v d (inr (inr (inr (inl s)))) = subst (Around job inner S) (sym s) (v.text, tt)
-  five_around S v d (inr (inr (inr (inr (inl s))))) = subst (Around job inner S) (sym s) (v.text, tt)
-  five_around S v d (inr (inr (inr (inr (inr i))))) = absurd i
-
   -- ---- batches
 
   until_batched : (seen : Piece → Bool) (xs : List Piece) (acts : List (Act Piece)) → Batched job xs acts → Batched job xs (until seen acts)
@@ -116,20 +108,6 @@ module _ (reads : Bool) where
       pick : (c : Bool) → Batched job [] (until (seen_with (small_lists reads) n) (piece_script reads t)) → Batched job [] (cond c (until (seen_with (small_lists reads) n) (piece_script reads t)) [])
       pick true h = h
       pick false h = tt
-
-  -- only the main call makes anything
-  made_main : (t : Task Piece) (d : Piece) → In d (made_in (piece_script reads t)) → (t ≡ of f.main) × In d all_five
-  made_main show d i = pick reads i
-    where
-      pick : (b : Bool) → In d (made_in (piece_script b show)) → (show ≡ of f.main) × In d all_five
-      pick true k = absurd k
-      pick false k = absurd k
-  made_main (of f.main) d i = (refl, i)
-  made_main (of f.one) d i = absurd i
-  made_main (of f.two) d i = absurd i
-  made_main (of f.left) d i = absurd i
-  made_main (of f.right) d i = absurd i
-  made_main (of f.text) d i = absurd i
 
 main_ends : (reads : Bool) → (fixed_job (small_lists reads)).ended 4 (of f.main) ≡ true
 main_ends false = refl
@@ -167,7 +145,7 @@ module _ (reads : Bool) (S : List Piece) where
   -- the root task waits for the lines alone, which the main call's object holds
   show_left : (i : ℕ) → 0 < i → Told show i → true ≡ reads → In f.left S
   show_left i l t e =
-      t.reads 0 (f.main ∷ []) f.main f.left 0 l refl (inl refl) (subst (λ c. In f.left (piece_carries c f.main)) e (inl refl))
+      t.handed.reads 0 (f.main ∷ []) f.main f.left 0 l refl (inl refl) (subst (λ c. In f.left (piece_carries c f.main)) e (inl refl))
 
   main_waits : (m : ℕ) (ds : List Piece) → Told (of f.main) (suc m) → WaitOf theJob (of f.main) (suc m) ds → slice_get (waits_in (piece_script reads (of f.main))) m ≡ Some ds → Each (λ d. In d S) ds
   main_waits zero ds t w g =
@@ -183,9 +161,9 @@ module _ (reads : Bool) (S : List Piece) where
   show_waits false e m ds t g = cc
 
   waits_told : (t : Task Piece) (i : ℕ) (ds : List Piece) → Told t i → WaitOf theJob t i ds → Each (λ d. In d S) ds
-  waits_told show zero ds s w = subst (Each (λ d. In d S)) (sym w) (s.begins, tt)
+  waits_told show zero ds s w = subst (Each (λ d. In d S)) (sym w) (s.handed.begins, tt)
   waits_told (of e) zero ds s w =
-      subst (Each (λ d. In d S)) (sym w) (each_all (λ d. In d S) (piece_first (of e)) (λ d i. each_of (λ x. In x S) d (piece_inside e) (first_inside e d i) s.begins))
+      subst (Each (λ d. In d S)) (sym w) (each_all (λ d. In d S) (piece_first (of e)) (λ d i. each_of (λ x. In x S) d (piece_inside e) (first_inside e d i) s.handed.begins))
   waits_told show (suc m) ds s w = show_waits reads refl m ds s (script_wait (small_lists reads) show m ds w)
   waits_told (of f.main) (suc m) ds s w =
       main_waits m ds s w (script_wait (small_lists reads) (of f.main) m ds w)
@@ -218,9 +196,9 @@ module _ (reads : Bool) (S : List Piece) where
   holds_told t i a s w = let q = state_is reads w.0 t i a w.1 in subst (Each (λ d. In d S)) (sym q.1) (go t i s w.1 q.0)
     where
       go : (t : Task Piece) (i : ℕ) → Told t i → theJob.at w.0 t i ≡ Some a → i ≤ length (waits_in (piece_script reads t)) → Each (λ d. In d S) (piece_holds t i)
-      go show zero x y k = (x.begins, tt)
+      go show zero x y k = (x.handed.begins, tt)
       go (of e) zero x y k =
-          each_all (λ d. In d S) (piece_holds (of e) 0) (λ d i. each_of (λ z. In z S) d (piece_inside e) (held_inside e d i) x.begins)
+          each_all (λ d. In d S) (piece_holds (of e) 0) (λ d i. each_of (λ z. In z S) d (piece_inside e) (held_inside e d i) x.handed.begins)
       go show (suc m) x y k = show_holds reads refl m x k
       go (of f.main) (suc m) x y k = main_holds m w.0 a x y k
       go (of f.one) (suc m) x y k = absurd (omega (arith, k))
@@ -229,22 +207,73 @@ module _ (reads : Bool) (S : List Piece) where
       go (of f.right) (suc m) x y k = absurd (omega (arith, k))
       go (of f.text) (suc m) x y k = absurd (omega (arith, k))
 
-  made_told : (t : Task Piece) (i n : ℕ) → Told t i → i ≤ length (waits_in (theJob.acts n t)) → Each (Around theJob (small_inner reads) S) (made_before i (theJob.acts n t))
-  made_told t zero n s k = tt
-  made_told t (suc m) n s k =
-      each_all (Around theJob (small_inner reads) S) (made_before (suc m) (theJob.acts n t)) (λ d x. go d (made_main reads t d (later_made reads n t d (before_in (suc m) (theJob.acts n t) d x))))
-    where
-      go : (d : Piece) → (t ≡ of f.main) × In d (f.one ∷ f.two ∷ f.text ∷ f.left ∷ f.right ∷ []) → Around theJob (small_inner reads) S d
-      go d x =
-          five_around reads S (five_to reads S m n (subst (λ u. Told u (suc m)) x.0 s) (subst (λ u. suc m ≤ length (waits_in (theJob.acts n u))) x.0 k)) d x.1
+  -- where these begin the pieces that the main call makes
+  around_five : (before after rest : List Piece) (d : Piece) → (before ++ d ∷ after) ++ rest ≡ all_five reads → Each (λ e. In e S) before → Around theJob (small_inner reads) S d
+  around_five [] after rest d e k = let q : d ≡ f.one = cc in subst (Around theJob (small_inner reads) S) (sym q) tt
+  around_five (a ∷ []) after rest d e k = let q : d ≡ f.two = cc in subst (Around theJob (small_inner reads) S) (sym q) tt
+  around_five (a ∷ b ∷ []) after rest d e k =
+      let q : d ≡ f.text = cc in subst (Around theJob (small_inner reads) S) (sym q) tt
+  around_five (a ∷ b ∷ c ∷ []) after rest d e k =
+      let q : d ≡ f.left = cc in
+      let x : c ≡ f.text = cc in
+      subst (Around theJob (small_inner reads) S) (sym q) (subst (λ z. In z S) x k.1.1.0, tt)
+  around_five (a ∷ b ∷ c ∷ l ∷ []) after rest d e k =
+      let q : d ≡ f.right = cc in
+      let x : c ≡ f.text = cc in
+      subst (Around theJob (small_inner reads) S) (sym q) (subst (λ z. In z S) x k.1.1.0, tt)
+  around_five (a ∷ b ∷ c ∷ l ∷ r ∷ []) after rest d e k = cc
+  around_five (a ∷ b ∷ c ∷ l ∷ r ∷ x ∷ xs) after rest d e k = cc
 
-  end_told : (t : Task Piece) (n : ℕ) → TellsToEnd theJob (small_inner reads) S t → theJob.ended n t ≡ true → Each (Around theJob (small_inner reads) S) (made_in (theJob.acts n t))
-  end_told t n s k =
-      each_all (Around theJob (small_inner reads) S) (made_in (theJob.acts n t)) (λ d x. go d (made_main reads t d (later_made reads n t d x)))
+  made_prefix : (xs ys : List (Act Piece)) → made_in (xs ++ ys) ≡ made_in xs ++ made_in ys
+  made_prefix [] ys = refl
+  made_prefix (made x ∷ xs) ys = ap (λ ds. x ∷ ds) (made_prefix xs ys)
+  made_prefix (wait ds ∷ xs) ys = made_prefix xs ys
+
+  nothing_made : (t : Task Piece) → (t ≡ of f.main → ⊥) → made_in (piece_script reads t) ≡ []
+  nothing_made show n = pick reads
     where
-      go : (d : Piece) → (t ≡ of f.main) × In d (f.one ∷ f.two ∷ f.text ∷ f.left ∷ f.right ∷ []) → Around theJob (small_inner reads) S d
-      go d x =
-          five_around reads S (five_end reads S (subst (λ u. TellsToEnd theJob (small_inner reads) S u) x.0 s)) d x.1
+      pick : (b : Bool) → made_in (piece_script b show) ≡ []
+      pick true = refl
+      pick false = refl
+  nothing_made (of f.main) n = absurd (n refl)
+  nothing_made (of f.one) n = refl
+  nothing_made (of f.two) n = refl
+  nothing_made (of f.left) n = refl
+  nothing_made (of f.right) n = refl
+  nothing_made (of f.text) n = refl
+
+  script_made : (t : Task Piece) → (made_in (piece_script reads t) ≡ all_five reads) ⊎ (made_in (piece_script reads t) ≡ [])
+  script_made show = inr (nothing_made show (λ e. cc))
+  script_made (of f.main) = inl refl
+  script_made (of f.one) = inr refl
+  script_made (of f.two) = inr refl
+  script_made (of f.left) = inr refl
+  script_made (of f.right) = inr refl
+  script_made (of f.text) = inr refl
+
+  no_front : (before after rest : List Piece) (d : Piece) → (before ++ d ∷ after) ++ rest ≡ [] → ⊥
+  no_front [] after rest d e = cc
+  no_front (x ∷ xs) after rest d e = cc
+
+  -- what is made begins what the list of the task makes
+  around_script : (t : Task Piece) (before after rest : List Piece) (d : Piece) → (before ++ d ∷ after) ++ rest ≡ made_in (piece_script reads t) → Each (λ e. In e S) before → Around theJob (small_inner reads) S d
+  around_script t before after rest d e k = pick (script_made t)
+    where
+      pick : ((made_in (piece_script reads t) ≡ all_five reads) ⊎ (made_in (piece_script reads t) ≡ [])) → Around theJob (small_inner reads) S d
+      pick (inl q) = around_five before after rest d (e ∙ q) k
+      pick (inr q) = absurd (no_front before after rest d (e ∙ q))
+
+  end_told : (t : Task Piece) (n : ℕ) (before after : List Piece) (d : Piece) → made_in (theJob.acts n t) ≡ before ++ d ∷ after → Each (λ e. In e S) before → Around theJob (small_inner reads) S d
+  end_told t n before after d e k =
+      let p = acts_prefix (small_lists reads) (seen_with (small_lists reads) n) t in
+      around_script t before after (made_in p.0) d (ap (λ ds. ds ++ made_in p.0) (sym e) ∙ (sym (made_prefix (theJob.acts n t) p.0) ∙ ap made_in p.1)) k
+
+  made_told : (t : Task Piece) (i n : ℕ) (before after : List Piece) (d : Piece) → made_before i (theJob.acts n t) ≡ before ++ d ∷ after → Each (λ e. In e S) before → Around theJob (small_inner reads) S d
+  made_told t i n before after d e k =
+      let p = acts_prefix (small_lists reads) (seen_with (small_lists reads) n) t in
+      let whole : made_in (theJob.acts n t) ≡ (before ++ d ∷ after) ++ made_in (after_wait i (theJob.acts n t)) = made_split i (theJob.acts n t) ∙ ap (λ ds. ds ++ made_in (after_wait i (theJob.acts n t))) e in
+      let more : (before ++ d ∷ after) ++ (made_in (after_wait i (theJob.acts n t)) ++ made_in p.0) ≡ made_in (piece_script reads t) = sym (append_assoc (before ++ d ∷ after) (made_in (after_wait i (theJob.acts n t))) (made_in p.0)) ∙ (ap (λ ds. ds ++ made_in p.0) (sym whole) ∙ (sym (made_prefix (theJob.acts n t) p.0) ∙ ap made_in p.1)) in
+      around_script t before after (made_in (after_wait i (theJob.acts n t)) ++ made_in p.0) d more k
 
   carries_main : (b : Bool) → In f.left S → Each (λ e. In e S) (piece_carries b f.main)
   carries_main true i = (i, tt)
@@ -285,7 +314,7 @@ small_knows reads =
       input_carries = λ d n h. carries_none reads d h;
       waits_told = λ S t i ds s w. waits_told reads S t i ds s w;
       holds_told = λ S t i ds a s w at. holds_told reads S t i a s at;
-      made_told = λ S t i n s k. made_told reads S t i n s k;
-      end_told = λ S t n s k. end_told reads S t n s k;
+      made_told = λ S t i n before after d s e k. made_told reads S t i n before after d e k;
+      end_told = λ S t n before after d s e k. end_told reads S t n before after d e k;
       object_told = λ S t n d s i. object_told reads S t n d s i;
     }

@@ -40,7 +40,8 @@ module _ {D : Type 0} (job : Job D) (laws : IsJob job) (inner : Inner D) (knows 
 
     -- before its wait 0 a task saw nothing and made nothing
     nothing_yet : (t : Task D) → Begins job inner v.book t → TellsTo job inner v.book t 0
-    nothing_yet t b = record { begins = b; reads = λ k ds d e m l w i c. absurd (omega (arith, l)); makes = λ m l. tt }
+    nothing_yet t b =
+        record { handed = record { begins = b; reads = λ k ds d e m l w i c. absurd (omega (arith, l)) }; makes = λ m l. tt }
 
     needs_booked : (t : Task D) → In (own_name job t) v.book → (d : D) → In d (needs job v t) → In d v.book
     needs_booked t own d i = pick (last_cases job laws inner knows t v.saves)

@@ -1,6 +1,6 @@
 -- What a task waits for and holds comes from somewhere: from what it began with, from the objects that it saw, or from what
 -- it made. A job that tells this has all of it in the book.
-use Rattle.std.specs.Prelude.{◌≡◌, ℕ, ◌≤◌, ◌<◌, List, [], ◌∷◌, length, true, Some, None, ◌⊎◌}
+use Rattle.std.specs.Prelude.{◌≡◌, ℕ, ◌≤◌, ◌<◌, List, [], ◌∷◌, ◌++◌, length, true, Some, None, ◌⊎◌}
 use Rattle.ciel_journal.specs.Job.{Task, show, of, Act, made, wait, Held, Job, In, Each, WaitOf, StateOf, waits_in, made_before, made_in}
 
 -- the descriptions that stand inside a description, and those that its object holds
@@ -35,17 +35,23 @@ module _ {D : Type 0} (job : Job D) (inner : Inner D) where
   Begins S show = In job.main S
   Begins S (of d) = Each (λ e. In e S) (inner.inside d)
 
-  -- S has all that a task was told before its wait i: what it begins with, what the objects hold that it waited for, and
-  -- what it made
-  pub record TellsTo (S : List D) (t : Task D) (i : ℕ) : Type 0 where
+  -- S has what a task was handed before its wait i: what it begins with, and what the objects hold that it waited for
+  pub record HandedTo (S : List D) (t : Task D) (i : ℕ) : Type 0 where
     pub begins : Begins S t
     pub reads : (k : ℕ) (ds : List D) (d e : D) (n : ℕ) → k < i → WaitOf job t k ds → In d ds → In e (inner.carries n d) → In e S
-    pub makes : (n : ℕ) → i ≤ length (waits_in (job.acts n t)) → Each (λ d. In d S) (made_before i (job.acts n t))
 
   -- and before its end
-  pub record TellsToEnd (S : List D) (t : Task D) : Type 0 where
+  pub record HandedToEnd (S : List D) (t : Task D) : Type 0 where
     pub begins : Begins S t
     pub reads : (k : ℕ) (ds : List D) (d e : D) (n : ℕ) → WaitOf job t k ds → In d ds → In e (inner.carries n d) → In e S
+
+  -- besides, what it made
+  pub record TellsTo (S : List D) (t : Task D) (i : ℕ) : Type 0 where
+    pub handed : HandedTo S t i
+    pub makes : (n : ℕ) → i ≤ length (waits_in (job.acts n t)) → Each (λ d. In d S) (made_before i (job.acts n t))
+
+  pub record TellsToEnd (S : List D) (t : Task D) : Type 0 where
+    pub handed : HandedToEnd S t
     pub makes : (n : ℕ) → job.ended n t ≡ true → Each (λ d. In d S) (made_in (job.acts n t))
 
   -- S has what stands inside d
@@ -65,9 +71,9 @@ module _ {D : Type 0} (job : Job D) (inner : Inner D) where
     pub input_carries : (d : D) (n : ℕ) → job.task_of d ≡ None → inner.carries n d ≡ []
     -- what is made is made in batches
     pub batches : (n : ℕ) (t : Task D) → Batched job [] (job.acts n t)
-    -- what a task waits for and holds at a wait, what it made before, and what its outputs' objects hold
+    -- what a task waits for and holds at a wait, what it makes by what it made before, and what its outputs' objects hold
     pub waits_told : (S : List D) (t : Task D) (i : ℕ) (ds : List D) → TellsTo S t i → WaitOf job t i ds → Each (λ d. In d S) ds
     pub holds_told : (S : List D) (t : Task D) (i : ℕ) (ds : List D) (a : Held D) → TellsTo S t i → WaitOf job t i ds → StateOf job t i a → Each (λ d. In d S) a.names
-    pub made_told : (S : List D) (t : Task D) (i n : ℕ) → TellsTo S t i → i ≤ length (waits_in (job.acts n t)) → Each (Around S) (made_before i (job.acts n t))
-    pub end_told : (S : List D) (t : Task D) (n : ℕ) → TellsToEnd S t → job.ended n t ≡ true → Each (Around S) (made_in (job.acts n t))
+    pub made_told : (S : List D) (t : Task D) (i n : ℕ) (before after : List D) (d : D) → HandedTo S t i → made_before i (job.acts n t) ≡ before ++ d ∷ after → Each (λ e. In e S) before → Around S d
+    pub end_told : (S : List D) (t : Task D) (n : ℕ) (before after : List D) (d : D) → HandedToEnd S t → made_in (job.acts n t) ≡ before ++ d ∷ after → Each (λ e. In e S) before → Around S d
     pub object_told : (S : List D) (t : Task D) (n : ℕ) (d : D) → TellsToEnd S t → In d (job.outputs t) → Each (λ e. In e S) (inner.carries n d)

@@ -20,13 +20,13 @@ use Rattle.sky_law.proofs.FineLaw.{Fine, bind_ok, fine_call}
 use Rattle.sky_law.proofs.FineReads.{SeenOk}
 use Rattle.sky_law.proofs.WrittenLaw.{BodyWritten, any_lit, any_name, body_written, written_any}
 use Rattle.ciel_journal.specs.Job.{Digest, Task, show, of, Act, made, wait, Held, Job, In, Each, WaitOf, StateOf, waits_in, made_before, made_in}
-use Rattle.ciel_journal.specs.Known.{Around, Batched, Begins, IsBatch, Knows, TellsTo, TellsToEnd}
+use Rattle.ciel_journal.specs.Known.{Around, Batched, Begins, HandedTo, HandedToEnd, IsBatch, Knows, TellsTo, TellsToEnd}
 use Rattle.ciel_journal.proofs.Splits.{get_short}
 use Rattle.ciel_meant.specs.Inner.{inside, object_refs, real_inner}
 use Rattle.ciel_meant.specs.Real.{back, forth_if, acts_of, held_if, real_job}
 use Rattle.ciel_meant.proofs.AlikeLaw.{before_is, made_is, some_is, wait_is}
 use Rattle.ciel_meant.proofs.RealLaw.{in_to, in_from, waits_are}
-use Rattle.ciel_meant.proofs.ToldRun.{FrameTold, HaltTold, InsideRefers, OutcomeTold, P, Q, SeenAll, SeenTo, Told, V, w, closed, each_pairs, each_refs, each_vals, end_told, frames_told, halt_told, left, made_told, pairs_each, refs_each, right, both, vals_each, vals_so}
+use Rattle.ciel_meant.proofs.ToldRun.{FrameTold, HaltTold, InsideRefers, OutcomeTold, P, Q, SeenAll, SeenTo, V, w, closed, each_pairs, each_refs, each_vals, ends_told, frames_told, halt_told, left, made_told, makes_told, pairs_each, refs_each, right, both, vals_each, vals_so}
 
 module _ {A : Type 0} where
   each_to : (P : A → Type 0) (xs : List A) → t.Each P xs → Each P xs
@@ -128,6 +128,15 @@ module _ (job : s.Job) (around : s.Around) (name : s.Desc → Digest) (mark : s.
     abbrev TellsAll : Task s.Desc → Type 0
     TellsAll u = TellsToEnd the (real_inner job around) S u
 
+    abbrev HandedTo' : Task s.Desc → ℕ → Type 0
+    HandedTo' u i = HandedTo the (real_inner job around) S u i
+
+    abbrev HandedAll : Task s.Desc → Type 0
+    HandedAll u = HandedToEnd the (real_inner job around) S u
+
+    abbrev Around' : s.Desc → Type 0
+    Around' d = Around the (real_inner job around) S d
+
     abbrev Seen : Option s.Obj → Type 0
     Seen o = SeenOk (w job around plain D) (P job around plain D) (Q job around plain D) o
 
@@ -147,6 +156,11 @@ module _ (job : s.Job) (around : s.Around) (name : s.Desc → Digest) (mark : s.
     distinct_each : (a : s.Val) → t.Each D (v.refs a) → Each D (n.distinct_refs a)
     distinct_each a h =
         each_to D (n.distinct_refs a) (each_sub D (v.refs a) (n.distinct_refs a) (λ d i. outs.distinct_refs_in a d i) h)
+
+    -- nothing is made where nothing is
+    none : (before after : List s.Desc) (x : s.Desc) → [] ≡ before ++ x ∷ after → Around' x
+    none [] after x e = cc
+    none (b ∷ bs) after x e = cc
 
     -- ---- calls
 
@@ -180,9 +194,9 @@ module _ (job : s.Job) (around : s.Around) (name : s.Desc → Digest) (mark : s.
       seen_at k ds h =
           outs.each_in (λ d. Seen (s.see job around k d)) ds (λ d i. seen_refers (s.see job around k d) (each_to D (object_refs (s.see job around k d)) (outs.each_in D (object_refs (s.see job around k d)) (λ e j. h d e (in_to d ds i) (in_to e (object_refs (s.see job around k d)) j)))))
 
-      seen_to : (k i : ℕ) → TellsTo' u (suc i) → SeenTo job around plain D (s.see job around k) i (t.waits_in (r.acts (s.see job around k) run))
-      seen_to k i tells j ds l e =
-          seen_at k ds (λ d x a b. tells.reads (suc j) ds d x k (omega (arith, l)) (at_wait k j ds e) a b)
+      seen_to : (k i : ℕ) → HandedTo' u (suc i) → SeenTo job around plain D (s.see job around k) i (t.waits_in (r.acts (s.see job around k) run))
+      seen_to k i handed j ds l e =
+          seen_at k ds (λ d x a b. handed.reads (suc j) ds d x k (omega (arith, l)) (at_wait k j ds e) a b)
 
       made_to : (k i : ℕ) → TellsTo' u (suc i) → suc i ≤ length (waits_in (the.acts k u)) → t.Each D (t.made_before (suc i) (r.acts (s.see job around k) run))
       made_to k i tells l =
@@ -190,7 +204,7 @@ module _ (job : s.Job) (around : s.Around) (name : s.Desc → Digest) (mark : s.
 
       halt_at : (k i : ℕ) → TellsTo' u (suc i) → suc i ≤ length (waits_in (the.acts k u)) → HaltTold job around plain D (s.see job around k) others (r.halt (s.see job around k) i run)
       halt_at k i tells l =
-          halt_told job around plain D (s.see job around k) i run others (fine tells.begins) (made_to k i tells l) (seen_to k i tells)
+          halt_told job around plain D (s.see job around k) i run others (fine tells.handed.begins) (made_to k i tells l) (seen_to k i tells.handed)
 
       call_waits : (k i : ℕ) (ds : List s.Desc) → TellsTo' u (suc i) → slice_get (waits_in (the.acts k u)) i ≡ Some ds → Each D ds
       call_waits k i ds tells e =
@@ -234,24 +248,24 @@ module _ (job : s.Job) (around : s.Around) (name : s.Desc → Digest) (mark : s.
 
       call_holds : (i k : ℕ) (a : Held s.Desc) → TellsTo' u i → the.at k u i ≡ Some a → Each D a.names
       call_holds zero k a tells e =
-          start_holds (body_of f job.script) (body_written any_lit any_name job.script (written_any job.script) f) tells.begins a e
+          start_holds (body_of f job.script) (body_written any_lit any_name job.script (written_any job.script) f) tells.handed.begins a e
       call_holds (suc i) k a tells e = halt_holds k i tells (r.halt (s.see job around k) i run) refl a e
 
-      call_made : (i k : ℕ) → TellsTo' u i → i ≤ length (waits_in (the.acts k u)) → Each (Around the (real_inner job around) S) (made_before i (the.acts k u))
-      call_made zero k tells l = tt
-      call_made (suc i) k tells l =
-          subst (Each (Around the (real_inner job around) S)) (sym (before_is (suc i) (r.acts (s.see job around k) run))) (each_to (Around the (real_inner job around) S) (t.made_before (suc i) (r.acts (s.see job around k) run)) (each_map (Q job around plain D) (Around the (real_inner job around) S) (t.made_before (suc i) (r.acts (s.see job around k) run)) inside_each (made_told job around plain D (s.see job around k) i run others (fine tells.begins) (made_to k i tells l) (seen_to k i tells))))
+      call_made : (i k : ℕ) (before after : List s.Desc) (x : s.Desc) → HandedTo' u i → made_before i (the.acts k u) ≡ before ++ x ∷ after → Each D before → Around' x
+      call_made zero k before after x handed e m = none before after x e
+      call_made (suc i) k before after x handed e m =
+          inside_each x (made_told job around plain D (s.see job around k) i run others before after x (fine handed.begins) (sym (before_is (suc i) (r.acts (s.see job around k) run)) ∙ e) (each_from D before m) (seen_to k i handed))
 
-      seen_all : (k : ℕ) → TellsAll u → SeenAll job around plain D (s.see job around k) (t.waits_in (r.acts (s.see job around k) run))
-      seen_all k tells j ds e = seen_at k ds (λ d x a b. tells.reads (suc j) ds d x k (at_wait k j ds e) a b)
+      seen_all : (k : ℕ) → HandedAll u → SeenAll job around plain D (s.see job around k) (t.waits_in (r.acts (s.see job around k) run))
+      seen_all k handed j ds e = seen_at k ds (λ d x a b. handed.reads (suc j) ds d x k (at_wait k j ds e) a b)
 
-      told_all : (k : ℕ) → TellsAll u → the.ended k u ≡ true → Told job around plain D (s.see job around k) (r.outcome (s.see job around k) run) (t.made_in (r.acts (s.see job around k) run))
-      told_all k tells e =
-          end_told job around plain D (s.see job around k) run others (fine tells.begins) (each_from D (t.made_in (r.acts (s.see job around k) run)) (subst (Each D) (made_is (r.acts (s.see job around k) run)) (tells.makes k e))) (seen_all k tells)
+      outcome_told : (k : ℕ) → TellsAll u → the.ended k u ≡ true → OutcomeTold job around plain D (s.see job around k) (r.outcome (s.see job around k) run)
+      outcome_told k tells e =
+          ends_told job around plain D (s.see job around k) run others (fine tells.handed.begins) (each_from D (t.made_in (r.acts (s.see job around k) run)) (subst (Each D) (made_is (r.acts (s.see job around k) run)) (tells.makes k e))) (seen_all k tells.handed)
 
-      call_end : (k : ℕ) → TellsAll u → the.ended k u ≡ true → Each (Around the (real_inner job around) S) (made_in (the.acts k u))
-      call_end k tells e =
-          subst (Each (Around the (real_inner job around) S)) (sym (made_is (r.acts (s.see job around k) run))) (each_to (Around the (real_inner job around) S) (t.made_in (r.acts (s.see job around k) run)) (each_map (Q job around plain D) (Around the (real_inner job around) S) (t.made_in (r.acts (s.see job around k) run)) inside_each (told_all k tells e).makes))
+      call_end : (k : ℕ) (before after : List s.Desc) (x : s.Desc) → HandedAll u → made_in (the.acts k u) ≡ before ++ x ∷ after → Each D before → Around' x
+      call_end k before after x handed e m =
+          inside_each x (makes_told job around plain D (s.see job around k) run others before after x (fine handed.begins) (sym (made_is (r.acts (s.see job around k) run)) ∙ e) (each_from D before m) (seen_all k handed))
 
       outcome_refs : (k : ℕ) (o : r.Outcome ⊥) → OutcomeTold job around plain D (s.see job around k) o → Each D (object_refs (s.object_of o))
       outcome_refs k (r.Outcome.ended End.goes st) h = tt
@@ -267,7 +281,7 @@ module _ (job : s.Job) (around : s.Around) (name : s.Desc → Digest) (mark : s.
         where
           go : (o : Option s.Obj) → s.object_of (r.outcome (s.see job around k) run) ≡ o → Each D (object_refs (s.object_of (r.outcome (s.see job around k) run)))
           go None q = subst (λ z. Each D (object_refs z)) (sym q) tt
-          go (Some x) q = outcome_refs k (r.outcome (s.see job around k) run) (told_all k tells (ap is_some q)).ends
+          go (Some x) q = outcome_refs k (r.outcome (s.see job around k) run) (outcome_told k tells (ap is_some q))
 
     -- ---- executors
 
@@ -420,7 +434,7 @@ module _ (job : s.Job) (around : s.Around) (name : s.Desc → Digest) (mark : s.
 
     at_wave : (k j : ℕ) (a : s.Val) → j ≤ 100 → TellsTo' show j → s.wave job around k j ≡ Some a → Refers D a
     at_wave k j a le tells e =
-        subst WaveTold e (wave_told k j le tells.begins (λ i ds d x l wt m c. tells.reads i ds d x k l wt m c))
+        subst WaveTold e (wave_told k j le tells.handed.begins (λ i ds d x l wt m c. tells.handed.reads i ds d x k l wt m c))
 
     few_waits : (k j : ℕ) (ds : List s.Desc) → slice_get (waits_in (the.acts k show)) j ≡ Some ds → (suc j ≤ 100) × ((a : s.Val) × (s.wave job around k (suc j) ≡ Some a) × (ds ≡ n.distinct_refs a))
     few_waits k j ds e = go (nat_le (suc j) 100) refl (s.wave job around k (suc j)) refl (sym (wait_is job around name mark frozen k show j) ∙ e)
@@ -438,7 +452,7 @@ module _ (job : s.Job) (around : s.Around) (name : s.Desc → Digest) (mark : s.
         go true q (Some a) z h = (leb-true (suc j) 100 q, (a, z, listed a (ap n.wave_refs (sym z) ∙ h)))
 
     show_waits : (i : ℕ) (ds : List s.Desc) → TellsTo' show i → WaitOf the show i ds → Each D ds
-    show_waits zero ds tells e = subst (Each D) (sym e) (tells.begins, tt)
+    show_waits zero ds tells e = subst (Each D) (sym e) (tells.handed.begins, tt)
     show_waits (suc j) ds tells (k, e) =
         let f = few_waits k j ds e in
         subst (Each D) (sym f.1.2) (distinct_each f.1.0 (refs_each D f.1.0 (at_wave k (suc j) f.1.0 f.0 tells f.1.1)))
@@ -479,7 +493,7 @@ module _ (job : s.Job) (around : s.Around) (name : s.Desc → Digest) (mark : s.
     waits_told show i ds tells e = show_waits i ds tells e
     waits_told (of (v.call f c vs)) zero ds tells e = subst (Each D) (sym e) tt
     waits_told (of (v.call f c vs)) (suc i) ds tells (k, e) = call_waits f c vs k i ds tells e
-    waits_told (of (v.out x a m i)) zero ds tells e = subst (Each D) (sym e) (out_first x a m i tells.begins)
+    waits_told (of (v.out x a m i)) zero ds tells e = subst (Each D) (sym e) (out_first x a m i tells.handed.begins)
     waits_told (of (v.out x a m i)) (suc j) ds tells (k, e) = cc
     waits_told (of (v.input y)) zero ds tells e = subst (Each D) (sym e) tt
     waits_told (of (v.input y)) (suc j) ds tells (k, e) = cc
@@ -489,27 +503,27 @@ module _ (job : s.Job) (around : s.Around) (name : s.Desc → Digest) (mark : s.
     holds_told show i ds a tells wt (k, e) = show_holds i k a (few i ds wt) tells e
     holds_told (of (v.call f c vs)) i ds a tells wt (k, e) = call_holds f c vs i k a tells e
     holds_told (of (v.out x b m i)) zero ds a tells wt (k, e) =
-        subst (λ (z : Held s.Desc). Each D z.names) (some_is _ a e) (out_first x b m i tells.begins)
+        subst (λ (z : Held s.Desc). Each D z.names) (some_is _ a e) (out_first x b m i tells.handed.begins)
     holds_told (of (v.out x b m i)) (suc j) ds a tells wt (k, e) = cc
     holds_told (of (v.input y)) i ds a tells wt (k, e) = cc
     holds_told (of (v.known b)) i ds a tells wt e = absurd b
 
-    made_before_told : (u : Task s.Desc) (i k : ℕ) → TellsTo' u i → i ≤ length (waits_in (the.acts k u)) → Each (Around the (real_inner job around) S) (made_before i (the.acts k u))
-    made_before_told show i k tells l =
-        subst (Each (Around the (real_inner job around) S)) (sym (none_before (the.acts k show) i (show_makes k))) tt
-    made_before_told (of (v.call f c vs)) i k tells l = call_made f c vs i k tells l
-    made_before_told (of (v.out x a m j)) i k tells l =
-        subst (Each (Around the (real_inner job around) S)) (sym (none_before [] i refl)) tt
-    made_before_told (of (v.input y)) i k tells l =
-        subst (Each (Around the (real_inner job around) S)) (sym (none_before [] i refl)) tt
-    made_before_told (of (v.known b)) i k tells l = absurd b
+    made_before_told : (u : Task s.Desc) (i k : ℕ) (before after : List s.Desc) (x : s.Desc) → HandedTo' u i → made_before i (the.acts k u) ≡ before ++ x ∷ after → Each D before → Around' x
+    made_before_told show i k before after x handed e m =
+        none before after x (sym (none_before (the.acts k show) i (show_makes k)) ∙ e)
+    made_before_told (of (v.call f c vs)) i k before after x handed e m = call_made f c vs i k before after x handed e m
+    made_before_told (of (v.out y a m j)) i k before after x handed e h =
+        none before after x (sym (none_before [] i refl) ∙ e)
+    made_before_told (of (v.input y)) i k before after x handed e h =
+        none before after x (sym (none_before [] i refl) ∙ e)
+    made_before_told (of (v.known b)) i k before after x handed e h = absurd b
 
-    made_end_told : (u : Task s.Desc) (k : ℕ) → TellsAll u → the.ended k u ≡ true → Each (Around the (real_inner job around) S) (made_in (the.acts k u))
-    made_end_told show k tells e = subst (Each (Around the (real_inner job around) S)) (sym (show_makes k)) tt
-    made_end_told (of (v.call f c vs)) k tells e = call_end f c vs k tells e
-    made_end_told (of (v.out x a m j)) k tells e = tt
-    made_end_told (of (v.input y)) k tells e = tt
-    made_end_told (of (v.known b)) k tells e = absurd b
+    made_end_told : (u : Task s.Desc) (k : ℕ) (before after : List s.Desc) (x : s.Desc) → HandedAll u → made_in (the.acts k u) ≡ before ++ x ∷ after → Each D before → Around' x
+    made_end_told show k before after x handed e m = none before after x (sym (show_makes k) ∙ e)
+    made_end_told (of (v.call f c vs)) k before after x handed e m = call_end f c vs k before after x handed e m
+    made_end_told (of (v.out y a m j)) k before after x handed e h = none before after x e
+    made_end_told (of (v.input y)) k before after x handed e h = none before after x e
+    made_end_told (of (v.known b)) k before after x handed e h = absurd b
 
     out_object : (k : ℕ) (x : List ℕ) (a : s.Val) (m i : ℕ) → Each D (object_refs (s.see job around k (v.out x a m i)))
     out_object k x a m i = subst (Each D) (sym (out_none k x a m i)) tt
@@ -539,7 +553,7 @@ module _ (job : s.Job) (around : s.Around) (name : s.Desc → Digest) (mark : s.
         batches = batches;
         waits_told = λ S u i ds tells wt. waits_told plain S u i ds tells wt;
         holds_told = λ S u i ds a tells wt e. holds_told plain S u i ds a tells wt e;
-        made_told = λ S u i k tells l. made_before_told plain S u i k tells l;
-        end_told = λ S u k tells e. made_end_told plain S u k tells e;
+        made_told = λ S u i k before after d handed e m. made_before_told plain S u i k before after d handed e m;
+        end_told = λ S u k before after d handed e m. made_end_told plain S u k before after d handed e m;
         object_told = λ S u k d tells i. object_of_told plain S u k d tells i;
       }

@@ -180,17 +180,27 @@ module _ (job : Job) (around : Around) (plain : PlainReads around) (D : Desc →
     halt_told (suc i) (Ask q fr st k) d g m s =
         on_halt (see_all look (refs_of q)) k i d (all_seen (refs_of q) (s 0 (refs_of q) (omega arith) refl)) m (later i (waits_in (acts_seen (see_all look (refs_of q)) (λ os. acts look (k os)))) (refs_of q) s) (λ os h n t. halt_told i (k os) d (g.1 os h) n t)
 
-    on_made : (x : Option (List Obj)) (k : List Obj → Res ⊥) (i : ℕ) → AllSeen x → Each D (made_before (suc i) (acts_seen x (λ os. acts look (k os)))) → SeenTo i (waits_in (acts_seen x (λ os. acts look (k os)))) → ((os : List Obj) → Each (ObjectOk w P Q) os → Each D (made_before (suc i) (acts look (k os))) → SeenTo i (waits_in (acts look (k os))) → Each Q (made_before (suc i) (acts look (k os)))) → Each Q (made_before (suc i) (acts_seen x (λ os. acts look (k os))))
-    on_made None k i h m s g = tt
-    on_made (Some os) k i h m s g = g os h m s
+    none_made : (before after : List Desc) (x : Desc) → [] ≡ before ++ x ∷ after → Q x
+    none_made [] after x e = cc
+    none_made (b ∷ bs) after x e = cc
 
-    -- what is made before the wait i, counted from 0
-    pub made_told : (i : ℕ) (r : Res ⊥) (d : ℕ) → Fine w P Q V D d r → Each D (made_before (suc i) (acts look r)) → SeenTo i (waits_in (acts look r)) → Each Q (made_before (suc i) (acts look r))
-    made_told i (Fin e st) d g m s = tt
-    made_told i (Tell o r) d g m s = (g.0, made_told i r d (g.1 m.0) m.1 s)
-    made_told zero (Ask q fr st k) d g m s = tt
-    made_told (suc i) (Ask q fr st k) d g m s =
-        on_made (see_all look (refs_of q)) k i (all_seen (refs_of q) (s 0 (refs_of q) (omega arith) refl)) m (later i (waits_in (acts_seen (see_all look (refs_of q)) (λ os. acts look (k os)))) (refs_of q) s) (λ os h n t. made_told i (k os) d (g.1 os h) n t)
+    on_made : (o : Option (List Obj)) (k : List Obj → Res ⊥) (i : ℕ) (before after : List Desc) (x : Desc) → AllSeen o → made_before (suc i) (acts_seen o (λ os. acts look (k os))) ≡ before ++ x ∷ after → SeenTo i (waits_in (acts_seen o (λ os. acts look (k os)))) → ((os : List Obj) → Each (ObjectOk w P Q) os → made_before (suc i) (acts look (k os)) ≡ before ++ x ∷ after → SeenTo i (waits_in (acts look (k os))) → Q x) → Q x
+    on_made None k i before after x h e n g = none_made before after x e
+    on_made (Some os) k i before after x h e n g = g os h e n
+
+    -- what stands inside a description that is made before the wait i, counted from 0, where what was made before it is told
+    pub made_told : (i : ℕ) (r : Res ⊥) (d : ℕ) (before after : List Desc) (x : Desc) → Fine w P Q V D d r → made_before (suc i) (acts look r) ≡ before ++ x ∷ after → Each D before → SeenTo i (waits_in (acts look r)) → Q x
+    made_told i (Fin e st) d [] after x g q m s = cc
+    made_told i (Fin e st) d (b ∷ bs) after x g q m s = cc
+    made_told i (Tell o r) d [] after x g q m s = let is : o ≡ x = cc in subst Q is g.0
+    made_told i (Tell o r) d (b ∷ bs) after x g q m s =
+        let is : b ≡ o = cc in
+        let rest : made_before (suc i) (acts look r) ≡ bs ++ x ∷ after = cc in
+        made_told i r d bs after x (g.1 (subst D is m.0)) rest m.1 s
+    made_told zero (Ask y fr st k) d [] after x g q m s = cc
+    made_told zero (Ask y fr st k) d (b ∷ bs) after x g q m s = cc
+    made_told (suc i) (Ask y fr st k) d before after x g q m s =
+        on_made (see_all look (refs_of y)) k i before after x (all_seen (refs_of y) (s 0 (refs_of y) (omega arith) refl)) q (later i (waits_in (acts_seen (see_all look (refs_of y)) (λ os. acts look (k os)))) (refs_of y) s) (λ os h e n. made_told i (k os) d before after x (g.1 os h) e m n)
 
     -- to the end
     abbrev pub SeenAll : List (List Desc) → Type 0
@@ -200,20 +210,31 @@ module _ (job : Job) (around : Around) (plain : PlainReads around) (D : Desc →
     OutcomeTold (Outcome.ended e st) = EndOk w P Q e × V st.vars
     OutcomeTold no_fuel = Unit {0}
 
-    pub record Told (o : Outcome ⊥) (ds : List Desc) : Type 0 where
-      pub ends : OutcomeTold o
-      pub makes : Each Q ds
-
-    on_end : (x : Option (List Obj)) (k : List Obj → Res ⊥) → AllSeen x → Each D (made_in (acts_seen x (λ os. acts look (k os)))) → SeenAll (waits_in (acts_seen x (λ os. acts look (k os)))) → ((os : List Obj) → Each (ObjectOk w P Q) os → Each D (made_in (acts look (k os))) → SeenAll (waits_in (acts look (k os))) → Told (outcome look (k os)) (made_in (acts look (k os)))) → Told (on_seen x (λ os. outcome look (k os))) (made_in (acts_seen x (λ os. acts look (k os))))
-    on_end None k h m s g = record { ends = tt; makes = tt }
+    on_end : (x : Option (List Obj)) (k : List Obj → Res ⊥) → AllSeen x → Each D (made_in (acts_seen x (λ os. acts look (k os)))) → SeenAll (waits_in (acts_seen x (λ os. acts look (k os)))) → ((os : List Obj) → Each (ObjectOk w P Q) os → Each D (made_in (acts look (k os))) → SeenAll (waits_in (acts look (k os))) → OutcomeTold (outcome look (k os))) → OutcomeTold (on_seen x (λ os. outcome look (k os)))
+    on_end None k h m s g = tt
     on_end (Some os) k h m s g = g os h m s
 
-    pub end_told : (r : Res ⊥) (d : ℕ) → Fine w P Q V D d r → Each D (made_in (acts look r)) → SeenAll (waits_in (acts look r)) → Told (outcome look r) (made_in (acts look r))
-    end_told (Fin e st) d g m s = record { ends = g; makes = tt }
-    end_told (Tell o r) d g m s =
-        let t = end_told r d (g.1 m.0) m.1 s in record { ends = t.ends; makes = (g.0, t.makes) }
-    end_told (Ask q fr st k) d g m s =
-        on_end (see_all look (refs_of q)) k (all_seen (refs_of q) (s 0 (refs_of q) refl)) m (λ i ds e. s (suc i) ds e) (λ os h n t. end_told (k os) d (g.1 os h) n t)
+    pub ends_told : (r : Res ⊥) (d : ℕ) → Fine w P Q V D d r → Each D (made_in (acts look r)) → SeenAll (waits_in (acts look r)) → OutcomeTold (outcome look r)
+    ends_told (Fin e st) d g m s = g
+    ends_told (Tell o r) d g m s = ends_told r d (g.1 m.0) m.1 s
+    ends_told (Ask q fr st k) d g m s =
+        on_end (see_all look (refs_of q)) k (all_seen (refs_of q) (s 0 (refs_of q) refl)) m (λ i ds e. s (suc i) ds e) (λ os h n t. ends_told (k os) d (g.1 os h) n t)
+
+    on_makes : (o : Option (List Obj)) (k : List Obj → Res ⊥) (before after : List Desc) (x : Desc) → AllSeen o → made_in (acts_seen o (λ os. acts look (k os))) ≡ before ++ x ∷ after → SeenAll (waits_in (acts_seen o (λ os. acts look (k os)))) → ((os : List Obj) → Each (ObjectOk w P Q) os → made_in (acts look (k os)) ≡ before ++ x ∷ after → SeenAll (waits_in (acts look (k os))) → Q x) → Q x
+    on_makes None k before after x h e n g = none_made before after x e
+    on_makes (Some os) k before after x h e n g = g os h e n
+
+    -- what stands inside a description that is made, where what was made before it is told
+    pub makes_told : (r : Res ⊥) (d : ℕ) (before after : List Desc) (x : Desc) → Fine w P Q V D d r → made_in (acts look r) ≡ before ++ x ∷ after → Each D before → SeenAll (waits_in (acts look r)) → Q x
+    makes_told (Fin e st) d [] after x g q m s = cc
+    makes_told (Fin e st) d (b ∷ bs) after x g q m s = cc
+    makes_told (Tell o r) d [] after x g q m s = let is : o ≡ x = cc in subst Q is g.0
+    makes_told (Tell o r) d (b ∷ bs) after x g q m s =
+        let is : b ≡ o = cc in
+        let rest : made_in (acts look r) ≡ bs ++ x ∷ after = cc in
+        makes_told r d bs after x (g.1 (subst D is m.0)) rest m.1 s
+    makes_told (Ask y fr st k) d before after x g q m s =
+        on_makes (see_all look (refs_of y)) k before after x (all_seen (refs_of y) (s 0 (refs_of y) refl)) q (λ i ds e. s (suc i) ds e) (λ os h e n. makes_told (k os) d before after x (g.1 os h) e m n)
 
   -- ---- frames
 
