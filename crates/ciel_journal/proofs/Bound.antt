@@ -2,7 +2,7 @@
 use Rattle.std.proofs.Common.{◌≡◌, ℕ, zero, suc, ◌+◌, ◌*◌, ◌≤◌, ◌<◌, List, [], ◌∷◌, ◌++◌, length, Bool, true, false, cond, ◌&&◌, ◌||◌, zero-add, nat_eq, nat_lt, Option, Some, None, ◌⊎◌, inl, inr, refl, ap, sym, ◌∙◌, subst, arith, eqb-true, eq-eqb, suc-mul, zero-mul, ltb-true, ltb-false}
 use Rattle.std.specs.List.{list_any, IsDistinct}
 use Rattle.ciel_journal.specs.Job.{Digest, Each, In, IsJob, Job, Task, WaitOf, of, show}
-use Rattle.ciel_journal.specs.History.{Event, Order, Plan, Save, Standing, after, after_all, before_all, better, closed, done, done_with, ends_show, last, last_save, live, live_if, lost, missed, names_of, needs, order_of, placed, same_task, saved, saved_with, start, wait_number}
+use Rattle.ciel_journal.specs.History.{Event, OpenStart, Plan, Save, Standing, after, after_all, before_all, better, closed, done, done_with, ends_show, last, last_save, live, live_if, lost, missed, names_of, needs, order_of, placed, same_task, saved, saved_with, start, wait_number}
 use Rattle.ciel_journal.specs.Lawful.{Lawful, LawfulFrom, Marked, Step}
 use Rattle.ciel_journal.specs.Work.{Covers, Slot, losses_of, same_slot}
 use Rattle.ciel_journal.proofs.Members.{bool_cases, or_true, any_in, distinct_more, distinct_none, fewer}
@@ -37,7 +37,7 @@ module _ {D : Type 0} (job : Job D) (laws : IsJob job) where
 
   -- why a slot can't be started again before the next loss
   pub data Spent (v : Standing D) (s : Slot D) : Type 0 where
-    is_open : (o : Order D) → In o v.orders → o.task ≡ s.task → o.from ≡ s.from → o.gone ≡ v.gone → Spent v s
+    is_open : (o : OpenStart D) → In o v.orders → o.task ≡ s.task → o.from ≡ s.from → o.gone ≡ v.gone → Spent v s
     is_over : v.over ≡ true → Spent v s
     is_live : (s.task ≡ show → ⊥) → Each (λ d. live job v d ≡ true) (job.outputs s.task) → Spent v s
     is_past : s.from < last job v s.task → Spent v s
@@ -118,13 +118,13 @@ module _ {D : Type 0} (job : Job D) (laws : IsJob job) where
       u : Standing D
       u = done_with job made copied spawned step.allowed.0 (closed job v k)
 
-      ended : (q : Order D) → q.task ≡ s.task → q ≡ step.allowed.0 → Spent (done_with job made copied spawned step.allowed.0 (closed job v k)) s
+      ended : (q : OpenStart D) → q.task ≡ s.task → q ≡ step.allowed.0 → Spent (done_with job made copied spawned step.allowed.0 (closed job v k)) s
       ended q e r = turn step.allowed.0.task refl
         where
           turn : (t : Task D) → step.allowed.0.task ≡ t → Spent (done_with job made copied spawned step.allowed.0 (closed job v k)) s
           turn show h = is_over (ap (ends_show job) h)
           turn (of d) h =
-              let same : step.allowed.0.task ≡ s.task = ap (λ (x : Order D). x.task) (sym r) ∙ e in
+              let same : step.allowed.0.task ≡ s.task = ap (λ (x : OpenStart D). x.task) (sym r) ∙ e in
               is_live (λ z. let bad : of d ≡ show = sym h ∙ (same ∙ z) in cc)
               (subst (λ t. Each (λ x. live_if job (job.task_of x) (placed job copied step.allowed.0.worker (placed job (names_of made) step.allowed.0.worker v.places) x) ≡ true) (job.outputs t)) same
               (all_in (λ x. live_if job (job.task_of x) (placed job copied step.allowed.0.worker (placed job (names_of made) step.allowed.0.worker v.places) x) ≡ true) (job.outputs step.allowed.0.task)
@@ -158,11 +158,11 @@ module _ {D : Type 0} (job : Job D) (laws : IsJob job) where
           turn (inl i) = is_open q i e f g
           turn (inr r) =
               let one : Save D = record { task = step.allowed.0.task; j = j; worker = step.allowed.0.worker; refs = refs; holds = holds } in
-              let same : s.task ≡ step.allowed.0.task = sym e ∙ ap (λ (x : Order D). x.task) r in
+              let same : s.task ≡ step.allowed.0.task = sym e ∙ ap (λ (x : OpenStart D). x.task) r in
               let test : same_task job s.task step.allowed.0.task ≡ true = subst (λ t. same_task job s.task t ≡ true) same (task_refl s.task) in
               let up : j ≤ wait_number job (last_save job s.task (v.saves ++ one ∷ [])) = last_has s.task v.saves one test in
               let l = step.allowed.2.next.later in
-              let from : step.allowed.0.from ≡ s.from = ap (λ (x : Order D). x.from) (sym r) ∙ f in
+              let from : step.allowed.0.from ≡ s.from = ap (λ (x : OpenStart D). x.from) (sym r) ∙ f in
               is_past (omega (arith, up, l, from))
       pick (is_over h) = is_over h
       pick (is_live h l) = is_live h l
@@ -183,7 +183,7 @@ module _ {D : Type 0} (job : Job D) (laws : IsJob job) where
           turn (inl j) = is_open q j e f g
           turn (inr r) =
               let m = step.allowed.2 in
-              let same : step.allowed.0.gone ≡ v.gone = ap (λ (x : Order D). x.gone) (sym r) ∙ g in
+              let same : step.allowed.0.gone ≡ v.gone = ap (λ (x : OpenStart D). x.gone) (sym r) ∙ g in
               let bad : true ≡ false = sym m.since ∙ (ap (λ ws. list_any (nat_eq m.worker) ws) (sym same) ∙ m.not_before) in
               cc
       pick (is_over h) = is_over h
@@ -196,10 +196,10 @@ module _ {D : Type 0} (job : Job D) (laws : IsJob job) where
   spent_start v s k w t from (is_live h l) = is_live h l
   spent_start v s k w t from (is_past l) = is_past l
 
-  pub out_test : (t : Task D) (os : List (Order D)) (o : Order D) → In o os → o.task ≡ t → list_any (λ (q : Order D). same_task job t q.task) os ≡ true
+  pub out_test : (t : Task D) (os : List (OpenStart D)) (o : OpenStart D) → In o os → o.task ≡ t → list_any (λ (q : OpenStart D). same_task job t q.task) os ≡ true
   out_test t [] o i e = absurd i
   out_test t (q ∷ qs) o (inl s) e =
-      ap (λ b. b || list_any (λ (q : Order D). same_task job t q.task) qs) (subst (λ u. same_task job t u ≡ true) (sym e ∙ ap (λ (x : Order D). x.task) s) (task_refl t))
+      ap (λ b. b || list_any (λ (q : OpenStart D). same_task job t q.task) qs) (subst (λ u. same_task job t u ≡ true) (sym e ∙ ap (λ (x : OpenStart D). x.task) s) (task_refl t))
   out_test t (q ∷ qs) o (inr i) e = or_true (same_task job t q.task) _ (out_test t qs o i e)
 
   -- a Start is not of a slot that is spent
@@ -259,7 +259,7 @@ module _ {D : Type 0} (job : Job D) (laws : IsJob job) where
         paced_all p u es (s ∷ used) c
         (record {
           numbered = numbered_step job laws p v (start k w t from) q.numbered l.0;
-          saves = saves_step job laws p v (start k w t from) q.saves l.0;
+          saves = saves_step job laws p v (start k w t from) q.saves l.0.allowed;
           spent = (me, each_more (Spent v) (Spent u) (λ x y. spent_start v x k w t from y) used q.spent);
           distinct = distinct_more (same_slot job) s used (unused p v k w t from used l.0 q.spent s refl refl) q.distinct;
           inside = (covers t from (needs job v t) a.needed (subst (λ n. WaitOf job t n (needs job v t)) (sym a.from_last) (last_ok job laws t v.saves q.saves)) s refl refl, q.inside);
@@ -269,7 +269,7 @@ module _ {D : Type 0} (job : Job D) (laws : IsJob job) where
         paced_all p (after job v (done k made copied spawned)) es used c
         (record {
           numbered = numbered_step job laws p v (done k made copied spawned) q.numbered l.0;
-          saves = saves_step job laws p v (done k made copied spawned) q.saves l.0;
+          saves = saves_step job laws p v (done k made copied spawned) q.saves l.0.allowed;
           spent = each_more (Spent v) (Spent (after job v (done k made copied spawned))) (λ x y. spent_done p v x k made copied spawned q.numbered l.0 y) used q.spent;
           distinct = q.distinct;
           inside = q.inside;
@@ -279,7 +279,7 @@ module _ {D : Type 0} (job : Job D) (laws : IsJob job) where
         paced_all p (after job v (saved k j mark refs holds spawned)) es used c
         (record {
           numbered = numbered_step job laws p v (saved k j mark refs holds spawned) q.numbered l.0;
-          saves = saves_step job laws p v (saved k j mark refs holds spawned) q.saves l.0;
+          saves = saves_step job laws p v (saved k j mark refs holds spawned) q.saves l.0.allowed;
           spent = each_more (Spent v) (Spent (after job v (saved k j mark refs holds spawned))) (λ x y. spent_saved p v x k j mark refs holds spawned q.numbered l.0 y) used q.spent;
           distinct = q.distinct;
           inside = q.inside;
@@ -289,7 +289,7 @@ module _ {D : Type 0} (job : Job D) (laws : IsJob job) where
         paced_all p (after job v (missed k d loss)) es used c
         (record {
           numbered = numbered_step job laws p v (missed k d loss) q.numbered l.0;
-          saves = saves_step job laws p v (missed k d loss) q.saves l.0;
+          saves = saves_step job laws p v (missed k d loss) q.saves l.0.allowed;
           spent = each_more (Spent v) (Spent (after job v (missed k d loss))) (λ x y. spent_missed p v x k d loss q.numbered l.0 y) used q.spent;
           distinct = q.distinct;
           inside = q.inside;
@@ -300,7 +300,7 @@ module _ {D : Type 0} (job : Job D) (laws : IsJob job) where
         (paced_all p (after job v (lost w closes)) es [] (suc c)
         (record {
           numbered = numbered_step job laws p v (lost w closes) q.numbered l.0;
-          saves = saves_step job laws p v (lost w closes) q.saves l.0;
+          saves = saves_step job laws p v (lost w closes) q.saves l.0.allowed;
           spent = tt;
           distinct = distinct_none (same_slot job);
           inside = tt;

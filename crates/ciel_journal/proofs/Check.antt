@@ -2,7 +2,7 @@
 use Rattle.std.proofs.Common.{◌≡◌, ℕ, zero, suc, ◌-◌, ◌≤◌, ◌<◌, List, [], ◌∷◌, length, Bool, true, false, not, ◌&&◌, ◌||◌, Option, Some, None, is_some, slice_get, ◌⊎◌, inl, inr, refl, ap, sym, ◌∙◌, subst, arith, nat_eq, nat_lt, nat_le, eqb-true, ltb-true, leb-true}
 use Rattle.std.specs.List.{list_any, IsDistinct}
 use Rattle.ciel_journal.specs.Job.{Digest, Task, show, of, Held, Job, In, Each, IsJob, WaitOf, Needed, waits_in, after_wait, made_before, made_in}
-use Rattle.ciel_journal.specs.History.{Event, start, done, saved, missed, lost, Order, Plan, Standing, after, find_order, is_out, last, live, live_in, needs, same_task}
+use Rattle.ciel_journal.specs.History.{Event, start, done, saved, missed, lost, OpenStart, Plan, Standing, after, find_open, is_out, last, live, live_in, needs, same_task}
 use Rattle.ciel_journal.specs.Lawful.{Copied, DoneAllowed, FetchedFrom, Given, HeldAt, LawfulFrom, LostAllowed, Marked, MissedAllowed, NextEnd, NextWait, NoClash, SavedAllowed, StartAllowed, Step, Allowed, least, own_name}
 use Rattle.ciel_journal.proofs.Members.{any_in, bool_cases, distinct_more, distinct_none}
 use Rattle.ciel_journal.proofs.Bound.{task_exact}
@@ -130,18 +130,18 @@ module _ {D : Type 0} (job : Job D) (laws : IsJob job) (fuel : ℕ) (needed : Li
       pick None e k = cc
       pick (Some a) e k = (fuel, a, e, any_in job.same laws.same_exact d a.names k)
 
-  abbrev given_test : Order D → D → Bool
+  abbrev given_test : OpenStart D → D → Bool
   given_test o d = all_true (held_test o.task o.from d ∷ live_in job o.had d ∷ [])
 
-  given_true : (o : Order D) (d : D) → given_test o d ≡ true → Given job o d
+  given_true : (o : OpenStart D) (d : D) → given_test o d ≡ true → Given job o d
   given_true o d h = let q = parts (held_test o.task o.from d ∷ live_in job o.had d ∷ []) h in (held_true o.task o.from d q.0, q.1.0)
 
-  abbrev after_given : Order D → ℕ → List (List D) → Bool
+  abbrev after_given : OpenStart D → ℕ → List (List D) → Bool
   after_given o j [] = true
   after_given o zero (ds ∷ ws) = all_true (each_passes (given_test o) ds ∷ after_given o zero ws ∷ [])
   after_given o (suc j) (ds ∷ ws) = after_given o j ws
 
-  after_at : (o : Order D) (j : ℕ) (ws : List (List D)) (i : ℕ) (es : List D) → after_given o j ws ≡ true → j ≤ i → slice_get ws i ≡ Some es → Each (Given job o) es
+  after_at : (o : OpenStart D) (j : ℕ) (ws : List (List D)) (i : ℕ) (es : List D) → after_given o j ws ≡ true → j ≤ i → slice_get ws i ≡ Some es → Each (Given job o) es
   after_at o j [] i es h l g = cc
   after_at o zero (ds ∷ ws) zero es h l g =
       let q = parts (each_passes (given_test o) ds ∷ after_given o zero ws ∷ []) h in
@@ -159,14 +159,14 @@ module _ {D : Type 0} (job : Job D) (laws : IsJob job) (fuel : ℕ) (needed : Li
       let e : x.0 ≡ ds = wait_unique job laws t (suc j) x.0 ds (fuel, x.1) w in
       subst (λ z. slice_get (waits t) j ≡ Some z) e x.1
 
-  end_next : (o : Order D) → job.ended fuel o.task ≡ true → after_given o o.from (waits o.task) ≡ true → NextEnd job o
+  end_next : (o : OpenStart D) → job.ended fuel o.task ≡ true → after_given o o.from (waits o.task) ≡ true → NextEnd job (Given job o) o.task o.from
   end_next o e h = record { ends = (fuel, e); met = met }
     where
       met : (k : ℕ) (es : List D) → o.from < k → WaitOf job o.task k es → Each (Given job o) es
       met zero es l w = absurd (omega (arith, l))
       met (suc k) es l w = after_at o o.from (waits o.task) k es h (omega (arith, l)) (wait_at_end job laws fuel o.task k es e w)
 
-  wait_next : (o : Order D) (j : ℕ) (refs : List D) → o.from < suc j → slice_get (waits o.task) j ≡ Some refs → list_any (λ d. not (live_in job o.had d)) refs ≡ true → after_given o o.from (first_few j (waits o.task)) ≡ true → NextWait job o (suc j) refs
+  wait_next : (o : OpenStart D) (j : ℕ) (refs : List D) → o.from < suc j → slice_get (waits o.task) j ≡ Some refs → list_any (λ d. not (live_in job o.had d)) refs ≡ true → after_given o o.from (first_few j (waits o.task)) ≡ true → NextWait job (Given job o) o.task o.from (suc j) refs
   wait_next o j refs l g u h =
       let x = any_find (λ d. not (live_in job o.had d)) refs u in
       record {
@@ -198,7 +198,7 @@ module _ {D : Type 0} (job : Job D) (laws : IsJob job) (fuel : ℕ) (needed : Li
 
   abbrev start_tests : Standing D → ℕ → ℕ → Task D → ℕ → List Bool
   start_tests v k w t from =
-      nat_eq k v.starts ∷ nat_lt w p.workers ∷ not (list_any (nat_eq w) v.gone) ∷ not (list_any (λ (o : Order D). nat_eq w o.worker) v.orders) ∷ list_any (same_task job t) needed ∷ not (is_out job v t) ∷ each_passes (λ d. list_any (job.same d) v.book) (job.outputs t) ∷ (is_show t || list_any (λ d. not (live job v d)) (job.outputs t)) ∷ nat_eq from (last job v t) ∷ each_passes (live job v) (needs job v t) ∷ []
+      nat_eq k v.starts ∷ nat_lt w p.workers ∷ not (list_any (nat_eq w) v.gone) ∷ not (list_any (λ (o : OpenStart D). nat_eq w o.worker) v.orders) ∷ list_any (same_task job t) needed ∷ not (is_out job v t) ∷ each_passes (λ d. list_any (job.same d) v.book) (job.outputs t) ∷ (is_show t || list_any (λ d. not (live job v d)) (job.outputs t)) ∷ nat_eq from (last job v t) ∷ each_passes (live job v) (needs job v t) ∷ []
 
   start_true : (v : Standing D) (k w : ℕ) (t : Task D) (from : ℕ) → SavesOk job laws v → all_true (start_tests v k w t from) ≡ true → StartAllowed job p v k w t from
   start_true v k w t from saves h =
@@ -241,10 +241,10 @@ module _ {D : Type 0} (job : Job D) (laws : IsJob job) (fuel : ℕ) (needed : Li
       let q = parts (job.same m.0 d ∷ is_that digest_same (job.object fuel d) m.1 ∷ marked_test ds ms ∷ []) h in
       (laws.same_exact m.0 d q.0, (fuel, that_exact digest_same digest_exact (job.object fuel d) m.1 q.1.0), marked_true ds ms q.1.1.0)
 
-  abbrev fetch_test : Order D → D → Bool
+  abbrev fetch_test : OpenStart D → D → Bool
   fetch_test o d = all_true (is_some (least job (o.had d)) ∷ not (list_any (nat_eq o.worker) (o.had d)) ∷ [])
 
-  fetch_true : (o : Order D) (d : D) → fetch_test o d ≡ true → (w : ℕ) × FetchedFrom job o d w
+  fetch_true : (o : OpenStart D) (d : D) → fetch_test o d ≡ true → (w : ℕ) × FetchedFrom job o d w
   fetch_true o d h =
       let q = parts (is_some (least job (o.had d)) ∷ not (list_any (nat_eq o.worker) (o.had d)) ∷ []) h in
       let s = some (least job (o.had d)) q.0 in (s.0, (s.1, not_true _ q.1.0))
@@ -269,10 +269,10 @@ module _ {D : Type 0} (job : Job D) (laws : IsJob job) (fuel : ℕ) (needed : Li
   waited_true (suc j) (ds ∷ ws) d h =
       let a = waited_true j ws d h in let l = a.2 in (suc a.0, a.1, omega (arith, l), a.3, a.4)
 
-  abbrev copied_test : Order D → D → Bool
+  abbrev copied_test : OpenStart D → D → Bool
   copied_test o d = all_true (waited_after o.from (job.first o.task ∷ waits o.task) d ∷ fetch_test o d ∷ [])
 
-  copied_true : (o : Order D) (d : D) → copied_test o d ≡ true → Copied job o d
+  copied_true : (o : OpenStart D) (d : D) → copied_test o d ≡ true → Copied job o d
   copied_true o d h =
       let q = parts (waited_after o.from (job.first o.task ∷ waits o.task) d ∷ fetch_test o d ∷ []) h in
       let a = waited_true o.from (job.first o.task ∷ waits o.task) d q.0 in
@@ -291,11 +291,11 @@ module _ {D : Type 0} (job : Job D) (laws : IsJob job) (fuel : ℕ) (needed : Li
   distinct_true (d ∷ ds) h =
       let q = parts (not (list_any (job.same d) ds) ∷ distinct_test ds ∷ []) h in distinct_more job.same d ds (not_true _ q.0) (distinct_true ds q.1.0)
 
-  abbrev done_tests : Order D → List (D × Digest) → List D → List D → List Bool
+  abbrev done_tests : OpenStart D → List (D × Digest) → List D → List D → List Bool
   done_tests o ms copied spawned =
       job.ended fuel o.task ∷ after_given o o.from (waits o.task) ∷ marked_test (job.outputs o.task) ms ∷ distinct_test copied ∷ each_passes (copied_test o) copied ∷ names_same spawned (made_in (after_wait o.from (job.acts fuel o.task))) ∷ []
 
-  done_true : (o : Order D) (ms : List (D × Digest)) (copied spawned : List D) → all_true (done_tests o ms copied spawned) ≡ true → DoneAllowed job o ms copied spawned
+  done_true : (o : OpenStart D) (ms : List (D × Digest)) (copied spawned : List D) → all_true (done_tests o ms copied spawned) ≡ true → DoneAllowed job o ms copied spawned
   done_true o ms copied spawned h =
       let q = parts (done_tests o ms copied spawned) h in
       record {
@@ -314,11 +314,11 @@ module _ {D : Type 0} (job : Job D) (laws : IsJob job) (fuel : ℕ) (needed : Li
       let q = parts (names_same a.names b.names ∷ digest_same a.mark b.mark ∷ []) h in
       ap (λ (x : List D). record { names = x; mark = a.mark }) (names_exact a.names b.names q.0) ∙ ap (λ (x : Digest). record { names = b.names; mark = x }) (digest_exact a.mark b.mark q.1.0)
 
-  abbrev saved_tests : Order D → ℕ → Digest → List D → List D → List D → List Bool
+  abbrev saved_tests : OpenStart D → ℕ → Digest → List D → List D → List D → List Bool
   saved_tests o j mark refs holds spawned =
       nat_lt o.from (suc j) ∷ is_that names_same (slice_get (waits o.task) j) refs ∷ list_any (λ d. not (live_in job o.had d)) refs ∷ after_given o o.from (first_few j (waits o.task)) ∷ is_that held_same (job.at fuel o.task (suc j)) (record { names = holds; mark = mark }) ∷ nat_le (suc j) (length (waits o.task)) ∷ names_same spawned (made_before (suc j - o.from) (after_wait o.from (job.acts fuel o.task))) ∷ []
 
-  saved_true : (o : Order D) (j : ℕ) (mark : Digest) (refs holds spawned : List D) → all_true (saved_tests o j mark refs holds spawned) ≡ true → SavedAllowed job o (suc j) mark refs holds spawned
+  saved_true : (o : OpenStart D) (j : ℕ) (mark : Digest) (refs holds spawned : List D) → all_true (saved_tests o j mark refs holds spawned) ≡ true → SavedAllowed job o (suc j) mark refs holds spawned
   saved_true o j mark refs holds spawned h =
       let q = parts (saved_tests o j mark refs holds spawned) h in
       record {
@@ -327,11 +327,11 @@ module _ {D : Type 0} (job : Job D) (laws : IsJob job) (fuel : ℕ) (needed : Li
         spawns = (fuel, leb-true (suc j) (length (waits o.task)) q.1.1.1.1.1.0, names_exact spawned (made_before (suc j - o.from) (after_wait o.from (job.acts fuel o.task))) q.1.1.1.1.1.1.0);
       }
 
-  abbrev reason_test : Order D → D → ℕ → Bool
+  abbrev reason_test : OpenStart D → D → ℕ → Bool
   reason_test o d w =
       all_true (held_test o.task o.from d ∷ is_that nat_eq (least job (o.had d)) w ∷ not (list_any (nat_eq o.worker) (o.had d)) ∷ []) || all_true (job.same d (own_name job o.task) ∷ is_that nat_eq o.stack w ∷ [])
 
-  reason_true : (o : Order D) (d : D) (w : ℕ) → reason_test o d w ≡ true → (HeldAt job o.task o.from d × FetchedFrom job o d w) ⊎ ((d ≡ own_name job o.task) × (o.stack ≡ Some w))
+  reason_true : (o : OpenStart D) (d : D) (w : ℕ) → reason_test o d w ≡ true → (HeldAt job o.task o.from d × FetchedFrom job o d w) ⊎ ((d ≡ own_name job o.task) × (o.stack ≡ Some w))
   reason_true o d w h = pick (or_cases (all_true (held_test o.task o.from d ∷ is_that nat_eq (least job (o.had d)) w ∷ not (list_any (nat_eq o.worker) (o.had d)) ∷ [])) _ h)
     where
       pick : ((all_true (held_test o.task o.from d ∷ is_that nat_eq (least job (o.had d)) w ∷ not (list_any (nat_eq o.worker) (o.had d)) ∷ []) ≡ true) ⊎ (all_true (job.same d (own_name job o.task) ∷ is_that nat_eq o.stack w ∷ []) ≡ true)) → (HeldAt job o.task o.from d × FetchedFrom job o d w) ⊎ ((d ≡ own_name job o.task) × (o.stack ≡ Some w))
@@ -342,12 +342,12 @@ module _ {D : Type 0} (job : Job D) (laws : IsJob job) (fuel : ℕ) (needed : Li
           let q = parts (job.same d (own_name job o.task) ∷ is_that nat_eq o.stack w ∷ []) e in
           inr (laws.same_exact d (own_name job o.task) q.0, that_exact nat_eq (λ x y z. eqb-true x y z) o.stack w q.1.0)
 
-  abbrev missed_tests : Standing D → Order D → D → Option (ℕ × ℕ) → List Bool
+  abbrev missed_tests : Standing D → OpenStart D → D → Option (ℕ × ℕ) → List Bool
   missed_tests v o d None = false ∷ []
   missed_tests v o d (Some x) =
       list_any (nat_eq x.1) v.gone ∷ not (list_any (nat_eq x.1) o.gone) ∷ reason_test o d x.1 ∷ []
 
-  missed_true : (v : Standing D) (o : Order D) (d : D) (loss : ℕ) → all_true (missed_tests v o d (slice_get p.losses loss)) ≡ true → MissedAllowed job p v o d loss
+  missed_true : (v : Standing D) (o : OpenStart D) (d : D) (loss : ℕ) → all_true (missed_tests v o d (slice_get p.losses loss)) ≡ true → MissedAllowed job p v o d loss
   missed_true v o d loss h = pick (slice_get p.losses loss) refl h
     where
       pick : (x : Option (ℕ × ℕ)) → slice_get p.losses loss ≡ x → all_true (missed_tests v o d x) ≡ true → MissedAllowed job p v o d loss
@@ -380,23 +380,23 @@ module _ {D : Type 0} (job : Job D) (laws : IsJob job) (fuel : ℕ) (needed : Li
       in_get (y ∷ ys) x (inl s) = (0, ap (λ (z : ℕ × ℕ). Some z) (sym s))
       in_get (y ∷ ys) x (inr i) = let a = in_get ys x i in (suc a.0, a.1)
 
-  abbrev order_tests : Option (Order D) → (Order D → List Bool) → List Bool
+  abbrev order_tests : Option (OpenStart D) → (OpenStart D → List Bool) → List Bool
   order_tests None f = false ∷ []
   order_tests (Some o) f = f o
 
-  order_true : (P : Order D → Type 0) (f : Order D → List Bool) → ((o : Order D) → all_true (f o) ≡ true → P o) → (x : Option (Order D)) → all_true (order_tests x f) ≡ true → (o : Order D) × (x ≡ Some o) × P o
+  order_true : (P : OpenStart D → Type 0) (f : OpenStart D → List Bool) → ((o : OpenStart D) → all_true (f o) ≡ true → P o) → (x : Option (OpenStart D)) → all_true (order_tests x f) ≡ true → (o : OpenStart D) × (x ≡ Some o) × P o
   order_true P f g None h = cc
   order_true P f g (Some o) h = (o, refl, g o h)
 
   abbrev tests : Standing D → Event D → List Bool
   tests v (start k w t from) = start_tests v k w t from
   tests v (done k ms copied spawned) =
-      order_tests (find_order job k v.orders) (λ o. done_tests o ms copied spawned)
+      order_tests (find_open job k v.orders) (λ o. done_tests o ms copied spawned)
   tests v (saved k zero mark refs holds spawned) = false ∷ []
   tests v (saved k (suc j) mark refs holds spawned) =
-      order_tests (find_order job k v.orders) (λ o. saved_tests o j mark refs holds spawned)
+      order_tests (find_open job k v.orders) (λ o. saved_tests o j mark refs holds spawned)
   tests v (missed k d loss) =
-      order_tests (find_order job k v.orders) (λ o. missed_tests v o d (slice_get p.losses loss))
+      order_tests (find_open job k v.orders) (λ o. missed_tests v o d (slice_get p.losses loss))
   tests v (lost w closes) = lost_tests v w closes
 
   -- names that are all different
@@ -451,12 +451,12 @@ module _ {D : Type 0} (job : Job D) (laws : IsJob job) (fuel : ℕ) (needed : Li
       allowed : (e : Event D) → all_true (tests v e) ≡ true → Allowed job p v e
       allowed (start k w t from) t' = start_true v k w t from saves t'
       allowed (done k ms copied spawned) t' =
-          order_true (λ o. DoneAllowed job o ms copied spawned) (λ o. done_tests o ms copied spawned) (λ o z. done_true o ms copied spawned z) (find_order job k v.orders) t'
+          order_true (λ o. DoneAllowed job o ms copied spawned) (λ o. done_tests o ms copied spawned) (λ o z. done_true o ms copied spawned z) (find_open job k v.orders) t'
       allowed (saved k zero mark refs holds spawned) t' = cc
       allowed (saved k (suc j) mark refs holds spawned) t' =
-          order_true (λ o. SavedAllowed job o (suc j) mark refs holds spawned) (λ o. saved_tests o j mark refs holds spawned) (λ o z. saved_true o j mark refs holds spawned z) (find_order job k v.orders) t'
+          order_true (λ o. SavedAllowed job o (suc j) mark refs holds spawned) (λ o. saved_tests o j mark refs holds spawned) (λ o z. saved_true o j mark refs holds spawned z) (find_open job k v.orders) t'
       allowed (missed k d loss) t' =
-          order_true (λ o. MissedAllowed job p v o d loss) (λ o. missed_tests v o d (slice_get p.losses loss)) (λ o z. missed_true v o d loss z) (find_order job k v.orders) t'
+          order_true (λ o. MissedAllowed job p v o d loss) (λ o. missed_tests v o d (slice_get p.losses loss)) (λ o z. missed_true v o d loss z) (find_open job k v.orders) t'
       allowed (lost w closes) t' = lost_true v w closes t'
 
   abbrev pub lawful_test : Standing D → List (Event D) → Bool
@@ -467,4 +467,4 @@ module _ {D : Type 0} (job : Job D) (laws : IsJob job) (fuel : ℕ) (needed : Li
   lawful_true v [] s h = tt
   lawful_true v (e ∷ es) s h =
       let q = parts (step_test v e ∷ lawful_test (after job v e) es ∷ []) h in
-      let x = step_true v e s q.0 in (x, lawful_true (after job v e) es (saves_step job laws p v e s x) q.1.0)
+      let x = step_true v e s q.0 in (x, lawful_true (after job v e) es (saves_step job laws p v e s x.allowed) q.1.0)

@@ -381,4 +381,4 @@ module _ {D : Type 0} (job : Job D) (laws : IsJob job) where
       driven_true v (e ∷ es) s h =
           let q = parts (step_test job laws fuel needed are p v e ∷ turn_test v e ∷ driven_test (after job v e) es ∷ []) h in
           let x = step_true job laws fuel needed are p v e s q.0 in
-          (x, turn_true v e q.1.0, driven_true (after job v e) es (saves_step job laws p v e s x) q.1.1.0)
+          (x, turn_true v e q.1.0, driven_true (after job v e) es (saves_step job laws p v e s x.allowed) q.1.1.0)

@@ -1,8 +1,8 @@
 -- What holds of what stands after a lawful history.
 use Rattle.std.proofs.Common.{◌≡◌, ℕ, List, [], ◌∷◌, ◌++◌, Bool, true, false, cond, Option, Some, None, refl, ap, sym, subst, nat_lt, filter}
 use Rattle.ciel_journal.specs.Job.{Digest, Each, IsJob, Job, Needed, Never, Task, WaitOf, of, show}
-use Rattle.ciel_journal.specs.History.{Event, Order, Plan, Save, Standing, after, after_all, before_all, better, close_with, closed, done, done_with, find_order, last_save, lost, missed, missed_with, needs_of, same_task, saved, saved_with, start, wait_number}
-use Rattle.ciel_journal.specs.Lawful.{Lawful, LawfulFrom, Step}
+use Rattle.ciel_journal.specs.History.{Event, OpenStart, Plan, Save, Standing, after, after_all, before_all, better, close_with, closed, done, done_with, find_open, last_save, lost, missed, missed_with, needs_of, same_task, saved, saved_with, start, wait_number}
+use Rattle.ciel_journal.specs.Lawful.{Allowed, Lawful, LawfulFrom}
 use Rattle.ciel_journal.specs.Graph.{root, through}
 use Rattle.ciel_journal.specs.Turns.{CircleAtRest, Reached}
 use Rattle.ciel_journal.proofs.Circle.{Waiting, circle_never}
@@ -21,13 +21,13 @@ module _ {A : Type 0} (P : A → Type 0) where
       pick false r = r
 
 module _ {D : Type 0} (job : Job D) (laws : IsJob job) where
-  pub after_done : (v : Standing D) (k : ℕ) (made : List (D × Digest)) (copied spawned : List D) (o : Order D) → find_order job k v.orders ≡ Some o → after job v (done k made copied spawned) ≡ done_with job made copied spawned o (closed job v k)
+  pub after_done : (v : Standing D) (k : ℕ) (made : List (D × Digest)) (copied spawned : List D) (o : OpenStart D) → find_open job k v.orders ≡ Some o → after job v (done k made copied spawned) ≡ done_with job made copied spawned o (closed job v k)
   after_done v k made copied spawned o e = ap (close_with job (done_with job made copied spawned) v k) e
 
-  pub after_saved : (v : Standing D) (k j : ℕ) (mark : Digest) (refs holds spawned : List D) (o : Order D) → find_order job k v.orders ≡ Some o → after job v (saved k j mark refs holds spawned) ≡ saved_with job j refs holds spawned o (closed job v k)
+  pub after_saved : (v : Standing D) (k j : ℕ) (mark : Digest) (refs holds spawned : List D) (o : OpenStart D) → find_open job k v.orders ≡ Some o → after job v (saved k j mark refs holds spawned) ≡ saved_with job j refs holds spawned o (closed job v k)
   after_saved v k j mark refs holds spawned o e = ap (close_with job (saved_with job j refs holds spawned) v k) e
 
-  pub after_missed : (v : Standing D) (k : ℕ) (d : D) (loss : ℕ) (o : Order D) → find_order job k v.orders ≡ Some o → after job v (missed k d loss) ≡ closed job v k
+  pub after_missed : (v : Standing D) (k : ℕ) (d : D) (loss : ℕ) (o : OpenStart D) → find_open job k v.orders ≡ Some o → after job v (missed k d loss) ≡ closed job v k
   after_missed v k d loss o e = ap (close_with job (missed_with job) v k) e
 
   abbrev pub SaveOk : Save D → Type 0
@@ -39,22 +39,22 @@ module _ {D : Type 0} (job : Job D) (laws : IsJob job) where
   pub saves_start : SavesOk (before_all job)
   saves_start = tt
 
-  pub saves_step : (p : Plan) (v : Standing D) (e : Event D) → SavesOk v → Step job p v e → SavesOk (after job v e)
+  pub saves_step : (p : Plan) (v : Standing D) (e : Event D) → SavesOk v → Allowed job p v e → SavesOk (after job v e)
   saves_step p v (start k w t from) h s = h
   saves_step p v (done k made copied spawned) h s =
-      let a = s.allowed in subst SavesOk (sym (after_done v k made copied spawned a.0 a.1)) h
+      let a = s in subst SavesOk (sym (after_done v k made copied spawned a.0 a.1)) h
   saves_step p v (saved k j mark refs holds spawned) h s =
-      let a = s.allowed in
+      let a = s in
       let one : Save D = record { task = a.0.task; j = j; worker = a.0.worker; refs = refs; holds = holds } in
       let w : Each SaveOk (one ∷ []) = (a.2.next.waits, tt) in
       subst SavesOk (sym (after_saved v k j mark refs holds spawned a.0 a.1)) (each_join SaveOk v.saves (one ∷ []) h w)
   saves_step p v (missed k d loss) h s =
-      let a = s.allowed in subst SavesOk (sym (after_missed v k d loss a.0 a.1)) h
+      let a = s in subst SavesOk (sym (after_missed v k d loss a.0 a.1)) h
   saves_step p v (lost w closes) h s = each_filter SaveOk _ v.saves h
 
   pub saves_all : (p : Plan) (v : Standing D) (h : List (Event D)) → SavesOk v → LawfulFrom job p v h → SavesOk (after_all job v h)
   saves_all p v [] k l = k
-  saves_all p v (e ∷ es) k l = saves_all p (after job v e) es (saves_step p v e k l.0) l.1
+  saves_all p v (e ∷ es) k l = saves_all p (after job v e) es (saves_step p v e k l.0.allowed) l.1
 
   same_task_exact : (t u : Task D) → same_task job t u ≡ true → t ≡ u
   same_task_exact show show h = refl

@@ -2,12 +2,13 @@
 use Rattle.std.proofs.Common.{◌≡◌, ℕ, ◌+◌, ◌*◌, ◌%◌, ◌≤◌, ◌<◌, List, [], ◌∷◌, ◌++◌, length, Bool, true, false, not, cond, ◌||◌, Option, Some, None, slice_get, ◌⊎◌, inl, inr, refl, ap, sym, ◌∙◌, subst, arith, nat_eq, nat_lt, filter, eqb-true, eq-eqb, append-nil}
 use Rattle.std.specs.List.{list_any}
 use Rattle.ciel_journal.specs.Job.{Digest, Task, Job, In, Each, IsPrefix, IsJob}
-use Rattle.ciel_journal.specs.History.{Event, start, done, saved, missed, lost, Order, Plan, Save, Standing, after, before_all, better, closed, done_with, saved_with, find_order, last, last_save, names_of, order_of, placed, same_task, stack_of, after_all}
+use Rattle.ciel_journal.specs.History.{Event, start, done, saved, missed, lost, OpenStart, Plan, Save, Standing, after, before_all, better, closed, done_with, saved_with, find_open, last, last_save, names_of, order_of, placed, same_task, stack_of, after_all}
 use Rattle.ciel_journal.specs.Lawful.{Copied, DoneAllowed, FetchedFrom, Given, HeldAt, NextEnd, NextWait, SavedAllowed, Step, own_name}
 use Rattle.ciel_journal.specs.Turns.{Chosen, Driven, DrivenFrom, FirstDue, Ready, Rests, Turn, draw, idle, tasks_of}
 use Rattle.ciel_journal.proofs.Picked.{picks_unique}
 use Rattle.ciel_journal.proofs.Members.{each_of, bool_cases}
 use Rattle.ciel_journal.proofs.Good.{after_done, after_saved, after_missed}
+use Rattle.ciel_journal.proofs.Next.{one_wait, not_end}
 use Rattle.ciel_journal.proofs.Numbers.{found_in, in_filter, in_last}
 use Rattle.ciel_journal.proofs.Shelved.{least_has}
 use Rattle.ciel_journal.proofs.Text.{Has, placed_cases, filter_has}
@@ -15,13 +16,13 @@ use Rattle.ciel_journal.proofs.Unique.{same_marked, same_saved, spawned_end_uniq
 
 module _ {D : Type 0} (job : Job D) (laws : IsJob job) where
   pub record Lone (v : Standing D) : Type 0 where
-    pub workers : (o : Order D) → In o v.orders → o.worker ≡ 0
-    pub one : (a b : Order D) → In a v.orders → In b v.orders → a ≡ b
-    pub here : (o : Order D) → In o v.orders → list_any (nat_eq o.worker) v.gone ≡ false
+    pub workers : (o : OpenStart D) → In o v.orders → o.worker ≡ 0
+    pub one : (a b : OpenStart D) → In a v.orders → In b v.orders → a ≡ b
+    pub here : (o : OpenStart D) → In o v.orders → list_any (nat_eq o.worker) v.gone ≡ false
     pub places : (d : D) (w : ℕ) → Has v.places w d → w ≡ 0
-    pub had : (o : Order D) → In o v.orders → (d : D) (w : ℕ) → Has o.had w d → w ≡ 0
+    pub had : (o : OpenStart D) → In o v.orders → (d : D) (w : ℕ) → Has o.had w d → w ≡ 0
     pub saves : (s : Save D) → In s v.saves → s.worker ≡ 0
-    pub stacks : (o : Order D) → In o v.orders → (w : ℕ) → o.stack ≡ Some w → w ≡ 0
+    pub stacks : (o : OpenStart D) → In o v.orders → (w : ℕ) → o.stack ≡ Some w → w ≡ 0
 
   lone_start : Lone (before_all job)
   lone_start =
@@ -29,13 +30,13 @@ module _ {D : Type 0} (job : Job D) (laws : IsJob job) where
 
   -- ---- what stays
 
-  nobody : (os : List (Order D)) → ((o : Order D) → In o os → o.worker ≡ 0) → list_any (λ (o : Order D). nat_eq 0 o.worker) os ≡ false → os ≡ []
+  nobody : (os : List (OpenStart D)) → ((o : OpenStart D) → In o os → o.worker ≡ 0) → list_any (λ (o : OpenStart D). nat_eq 0 o.worker) os ≡ false → os ≡ []
   nobody [] h f = refl
   nobody (o ∷ os) h f =
       let a : nat_eq 0 o.worker ≡ true = eq-eqb 0 o.worker (sym (h o (inl refl))) in
-      let b : true ≡ false = sym (ap (λ c. c || list_any (λ (q : Order D). nat_eq 0 q.worker) os) a) ∙ f in cc
+      let b : true ≡ false = sym (ap (λ c. c || list_any (λ (q : OpenStart D). nat_eq 0 q.worker) os) a) ∙ f in cc
 
-  only_here : (o q : Order D) → In o (q ∷ []) → o ≡ q
+  only_here : (o q : OpenStart D) → In o (q ∷ []) → o ≡ q
   only_here o q (inl s) = s
   only_here o q (inr i) = absurd i
 
@@ -56,7 +57,7 @@ module _ {D : Type 0} (job : Job D) (laws : IsJob job) where
       pick false o r k = r k
 
   -- what stays where orders go
-  lone_less : (v u : Standing D) (p : Order D → Bool) → Lone v → u.orders ≡ filter p v.orders → u.gone ≡ v.gone → ((d : D) (w : ℕ) → Has u.places w d → w ≡ 0) → ((s : Save D) → In s u.saves → s.worker ≡ 0) → Lone u
+  lone_less : (v u : Standing D) (p : OpenStart D → Bool) → Lone v → u.orders ≡ filter p v.orders → u.gone ≡ v.gone → ((d : D) (w : ℕ) → Has u.places w d → w ≡ 0) → ((s : Save D) → In s u.saves → s.worker ≡ 0) → Lone u
   lone_less v u p l e g places saves =
       record {
         workers = λ o i. l.workers o (back o i);
@@ -68,7 +69,7 @@ module _ {D : Type 0} (job : Job D) (laws : IsJob job) where
         stacks = λ o i. l.stacks o (back o i);
       }
     where
-      back : (o : Order D) → In o u.orders → In o v.orders
+      back : (o : OpenStart D) → In o u.orders → In o v.orders
       back o i = in_filter p o v.orders (subst (In o) e i)
 
   none_join : (p : ℕ → Bool) (xs : List ℕ) (y : ℕ) → list_any p xs ≡ false → p y ≡ false → list_any p (xs ++ y ∷ []) ≡ false
@@ -82,13 +83,13 @@ module _ {D : Type 0} (job : Job D) (laws : IsJob job) where
   lone_step : (p : Plan) → p.workers ≡ 1 → (v : Standing D) (e : Event D) → Lone v → Step job p v e → Lone (after job v e)
   lone_step p n v (start k w t from) l step =
       record {
-        workers = λ o i. subst (λ (q : Order D). q.worker ≡ 0) (sym (new o i)) zero_worker;
+        workers = λ o i. subst (λ (q : OpenStart D). q.worker ≡ 0) (sym (new o i)) zero_worker;
         one = λ a b i j. new a i ∙ sym (new b j);
-        here = λ o i. subst (λ (q : Order D). list_any (nat_eq q.worker) v.gone ≡ false) (sym (new o i)) step.allowed.here;
+        here = λ o i. subst (λ (q : OpenStart D). list_any (nat_eq q.worker) v.gone ≡ false) (sym (new o i)) step.allowed.here;
         places = l.places;
-        had = λ o i. subst (λ (q : Order D). (d : D) (w : ℕ) → Has q.had w d → w ≡ 0) (sym (new o i)) l.places;
+        had = λ o i. subst (λ (q : OpenStart D). (d : D) (w : ℕ) → Has q.had w d → w ≡ 0) (sym (new o i)) l.places;
         saves = l.saves;
-        stacks = λ o i. subst (λ (q : Order D). (w : ℕ) → q.stack ≡ Some w → w ≡ 0) (sym (new o i)) (stack_zero t v.saves l.saves);
+        stacks = λ o i. subst (λ (q : OpenStart D). (w : ℕ) → q.stack ≡ Some w → w ≡ 0) (sym (new o i)) (stack_zero t v.saves l.saves);
       }
     where
       zero_worker : w ≡ 0
@@ -96,14 +97,14 @@ module _ {D : Type 0} (job : Job D) (laws : IsJob job) where
 
       none : v.orders ≡ []
       none =
-          nobody v.orders l.workers (subst (λ x. list_any (λ (o : Order D). nat_eq x o.worker) v.orders ≡ false) zero_worker step.allowed.idle)
+          nobody v.orders l.workers (subst (λ x. list_any (λ (o : OpenStart D). nat_eq x o.worker) v.orders ≡ false) zero_worker step.allowed.idle)
 
-      new : (o : Order D) → In o (v.orders ++ order_of job v k w t from ∷ []) → o ≡ order_of job v k w t from
+      new : (o : OpenStart D) → In o (v.orders ++ order_of job v k w t from ∷ []) → o ≡ order_of job v k w t from
       new o i = only_here o (order_of job v k w t from) (subst (λ os. In o (os ++ order_of job v k w t from ∷ [])) none i)
   lone_step p n v (done k made copied spawned) l step =
       let a = step.allowed in
       subst Lone (sym (after_done job laws v k made copied spawned a.0 a.1))
-      (lone_less v (done_with job made copied spawned a.0 (closed job v k)) (λ (o : Order D). not (nat_eq k o.number)) l refl refl here l.saves)
+      (lone_less v (done_with job made copied spawned a.0 (closed job v k)) (λ (o : OpenStart D). not (nat_eq k o.number)) l refl refl here l.saves)
     where
       mine : step.allowed.0.worker ≡ 0
       mine = l.workers step.allowed.0 (found_in job laws k v.orders step.allowed.0 step.allowed.1).0
@@ -122,7 +123,7 @@ module _ {D : Type 0} (job : Job D) (laws : IsJob job) where
   lone_step p n v (saved k j mark refs holds spawned) l step =
       let a = step.allowed in
       subst Lone (sym (after_saved job laws v k j mark refs holds spawned a.0 a.1))
-      (lone_less v (saved_with job j refs holds spawned a.0 (closed job v k)) (λ (o : Order D). not (nat_eq k o.number)) l refl refl l.places (λ s i. turn s (in_last s v.saves (record { task = a.0.task; j = j; worker = a.0.worker; refs = refs; holds = holds }) i)))
+      (lone_less v (saved_with job j refs holds spawned a.0 (closed job v k)) (λ (o : OpenStart D). not (nat_eq k o.number)) l refl refl l.places (λ s i. turn s (in_last s v.saves (record { task = a.0.task; j = j; worker = a.0.worker; refs = refs; holds = holds }) i)))
     where
       turn : (s : Save D) → (In s v.saves ⊎ (s ≡ record { task = step.allowed.0.task; j = j; worker = step.allowed.0.worker; refs = refs; holds = holds })) → s.worker ≡ 0
       turn s (inl i) = l.saves s i
@@ -130,7 +131,7 @@ module _ {D : Type 0} (job : Job D) (laws : IsJob job) where
           ap (λ (x : Save D). x.worker) e ∙ l.workers step.allowed.0 (found_in job laws k v.orders step.allowed.0 step.allowed.1).0
   lone_step p n v (missed k d loss) l step =
       let a = step.allowed in
-      subst Lone (sym (after_missed job laws v k d loss a.0 a.1)) (lone_less v (closed job v k) (λ (o : Order D). not (nat_eq k o.number)) l refl refl l.places l.saves)
+      subst Lone (sym (after_missed job laws v k d loss a.0 a.1)) (lone_less v (closed job v k) (λ (o : OpenStart D). not (nat_eq k o.number)) l refl refl l.places l.saves)
   lone_step p n v (lost w closes) l step =
       record {
         workers = λ o i. l.workers o (back o i);
@@ -142,19 +143,19 @@ module _ {D : Type 0} (job : Job D) (laws : IsJob job) where
         stacks = λ o i. l.stacks o (back o i);
       }
     where
-      back : (o : Order D) → In o (filter (λ (x : Order D). not (nat_eq w x.worker)) v.orders) → In o v.orders
-      back o i = in_filter (λ (x : Order D). not (nat_eq w x.worker)) o v.orders i
+      back : (o : OpenStart D) → In o (filter (λ (x : OpenStart D). not (nat_eq w x.worker)) v.orders) → In o v.orders
+      back o i = in_filter (λ (x : OpenStart D). not (nat_eq w x.worker)) o v.orders i
 
-      kept_by : (os : List (Order D)) (o : Order D) → In o (filter (λ (x : Order D). not (nat_eq w x.worker)) os) → not (nat_eq w o.worker) ≡ true
+      kept_by : (os : List (OpenStart D)) (o : OpenStart D) → In o (filter (λ (x : OpenStart D). not (nat_eq w x.worker)) os) → not (nat_eq w o.worker) ≡ true
       kept_by [] o i = absurd i
       kept_by (x ∷ xs) o i = pick (not (nat_eq w x.worker)) refl i (kept_by xs o)
         where
-          pick : (b : Bool) → not (nat_eq w x.worker) ≡ b → In o (cond b (x ∷ filter (λ (y : Order D). not (nat_eq w y.worker)) xs) (filter (λ (y : Order D). not (nat_eq w y.worker)) xs)) → (In o (filter (λ (y : Order D). not (nat_eq w y.worker)) xs) → not (nat_eq w o.worker) ≡ true) → not (nat_eq w o.worker) ≡ true
-          pick true e (inl s) r = subst (λ (y : Order D). not (nat_eq w y.worker) ≡ true) (sym s) e
+          pick : (b : Bool) → not (nat_eq w x.worker) ≡ b → In o (cond b (x ∷ filter (λ (y : OpenStart D). not (nat_eq w y.worker)) xs) (filter (λ (y : OpenStart D). not (nat_eq w y.worker)) xs)) → (In o (filter (λ (y : OpenStart D). not (nat_eq w y.worker)) xs) → not (nat_eq w o.worker) ≡ true) → not (nat_eq w o.worker) ≡ true
+          pick true e (inl s) r = subst (λ (y : OpenStart D). not (nat_eq w y.worker) ≡ true) (sym s) e
           pick true e (inr j) r = r j
           pick false e j r = r j
 
-      apart : (o : Order D) → In o (filter (λ (x : Order D). not (nat_eq w x.worker)) v.orders) → nat_eq o.worker w ≡ false
+      apart : (o : OpenStart D) → In o (filter (λ (x : OpenStart D). not (nat_eq w x.worker)) v.orders) → nat_eq o.worker w ≡ false
       apart o i = pick (bool_cases (nat_eq o.worker w))
         where
           pick : ((nat_eq o.worker w ≡ true) ⊎ (nat_eq o.worker w ≡ false)) → nat_eq o.worker w ≡ false
@@ -166,7 +167,7 @@ module _ {D : Type 0} (job : Job D) (laws : IsJob job) where
 
   -- ---- what can't come
 
-  no_fetch : (v : Standing D) → Lone v → (o : Order D) → In o v.orders → (d : D) (w : ℕ) → FetchedFrom job o d w → ⊥
+  no_fetch : (v : Standing D) → Lone v → (o : OpenStart D) → In o v.orders → (d : D) (w : ℕ) → FetchedFrom job o d w → ⊥
   no_fetch v l o i d w f =
       let h = least_has job laws (o.had d) w f.0 in
       let z = l.had o i d w h in
@@ -174,7 +175,7 @@ module _ {D : Type 0} (job : Job D) (laws : IsJob job) where
       let a : list_any (nat_eq o.worker) (o.had d) ≡ true = subst (λ x. list_any (nat_eq x) (o.had d) ≡ true) (z ∙ sym m) h in
       let b : true ≡ false = sym a ∙ f.1 in cc
 
-  no_copies : (v : Standing D) → Lone v → (o : Order D) → In o v.orders → (copied : List D) → Each (Copied job o) copied → copied ≡ []
+  no_copies : (v : Standing D) → Lone v → (o : OpenStart D) → In o v.orders → (copied : List D) → Each (Copied job o) copied → copied ≡ []
   no_copies v l o i [] h = refl
   no_copies v l o i (d ∷ ds) h = absurd (no_fetch v l o i d h.0.1.0 h.0.1.1)
 
@@ -234,29 +235,15 @@ module _ {D : Type 0} (job : Job D) (laws : IsJob job) where
           let a : slice_get y.tasks (draw p.seed (2 * v.starts) % length y.tasks) ≡ Some t = subst (λ ts. slice_get ts (draw p.seed (2 * v.starts) % length ts) ≡ Some t) e x.task in
           let b : Some t ≡ Some s = sym a ∙ y.task in cc
 
-  same_wait : (o : Order D) (j i : ℕ) (r q : List D) → NextWait job o j r → NextWait job o i q → j ≡ i
-  same_wait o j i r q a b = pick (cases j i)
-    where
-      cases : (m n : ℕ) → (m < n) ⊎ ((n < m) ⊎ (m ≡ n))
-      cases m n = grind arith
-
-      pick : ((j < i) ⊎ ((i < j) ⊎ (j ≡ i))) → j ≡ i
-      pick (inl h) = absurd (a.unmet.2 (each_of (Given job o) a.unmet.0 r a.unmet.1 (b.met j r a.later h a.waits)))
-      pick (inr (inl h)) = absurd (b.unmet.2 (each_of (Given job o) b.unmet.0 q b.unmet.1 (a.met i q b.later h b.waits)))
-      pick (inr (inr e)) = e
-
-  not_end : (o : Order D) (j : ℕ) (r : List D) → NextEnd job o → NextWait job o j r → ⊥
-  not_end o j r a b = b.unmet.2 (each_of (Given job o) b.unmet.0 r b.unmet.1 (a.met j r b.later b.waits))
-
   -- the open order is the only one
-  same_order : (v : Standing D) → Lone v → (k l : ℕ) (a b : Order D) → find_order job k v.orders ≡ Some a → find_order job l v.orders ≡ Some b → (a ≡ b) × (k ≡ l)
+  same_order : (v : Standing D) → Lone v → (k l : ℕ) (a b : OpenStart D) → find_open job k v.orders ≡ Some a → find_open job l v.orders ≡ Some b → (a ≡ b) × (k ≡ l)
   same_order v o k l a b x y =
       let i = found_in job laws k v.orders a x in
       let j = found_in job laws l v.orders b y in
       let e = o.one a b i.0 j.0 in
-      (e, i.1 ∙ (ap (λ (q : Order D). q.number) e ∙ sym j.1))
+      (e, i.1 ∙ (ap (λ (q : OpenStart D). q.number) e ∙ sym j.1))
 
-  same_done : (v : Standing D) → Lone v → (k l : ℕ) (m n : List (D × Digest)) (c d s t : List D) → (o : Order D) → find_order job k v.orders ≡ Some o → DoneAllowed job o m c s → (q : Order D) → find_order job l v.orders ≡ Some q → DoneAllowed job q n d t → done k m c s ≡ done l n d t
+  same_done : (v : Standing D) → Lone v → (k l : ℕ) (m n : List (D × Digest)) (c d s t : List D) → (o : OpenStart D) → find_open job k v.orders ≡ Some o → DoneAllowed job o m c s → (q : OpenStart D) → find_open job l v.orders ≡ Some q → DoneAllowed job q n d t → done k m c s ≡ done l n d t
   same_done v lone k l m n c d s t o x a q y b =
       let e = same_order v lone k l o q x y in
       let i = found_in job laws k v.orders o x in
@@ -266,18 +253,18 @@ module _ {D : Type 0} (job : Job D) (laws : IsJob job) where
       ∙ (ap (λ z. done k n z s) f
       ∙ (ap (λ z. done k n d z) (spawned_end_unique job laws o s t a.spawns b'.spawns) ∙ ap (λ z. done z n d t) e.1))
 
-  same_save : (v : Standing D) → Lone v → (k l j i : ℕ) (mark note : Digest) (r q h g s t : List D) → (o : Order D) → find_order job k v.orders ≡ Some o → SavedAllowed job o j mark r h s → (u : Order D) → find_order job l v.orders ≡ Some u → SavedAllowed job u i note q g t → saved k j mark r h s ≡ saved l i note q g t
+  same_save : (v : Standing D) → Lone v → (k l j i : ℕ) (mark note : Digest) (r q h g s t : List D) → (o : OpenStart D) → find_open job k v.orders ≡ Some o → SavedAllowed job o j mark r h s → (u : OpenStart D) → find_open job l v.orders ≡ Some u → SavedAllowed job u i note q g t → saved k j mark r h s ≡ saved l i note q g t
   same_save v lone k l j i mark note r q h g s t o x a u y b =
       let e = same_order v lone k l o u x y in
       let b' : SavedAllowed job o i note q g t = subst (λ z. SavedAllowed job z i note q g t) (sym e.0) b in
-      let f : j ≡ i = same_wait o j i r q a.next b'.next in
+      let f : j ≡ i = one_wait job laws (Given job o) o.task o.from j i r q a.next b'.next in
       let b'' : SavedAllowed job o j note q g t = subst (λ z. SavedAllowed job o z note q g t) (sym f) b' in
       same_saved job laws k o j mark note r q h g s t a b'' ∙ (ap (λ z. saved z j note q g t) e.1 ∙ ap (λ z. saved l z note q g t) f)
 
-  not_both : (v : Standing D) → Lone v → (k l j : ℕ) (mark : Digest) (m : List (D × Digest)) (c s r h t : List D) → (o : Order D) → find_order job k v.orders ≡ Some o → DoneAllowed job o m c s → (q : Order D) → find_order job l v.orders ≡ Some q → SavedAllowed job q j mark r h t → ⊥
+  not_both : (v : Standing D) → Lone v → (k l j : ℕ) (mark : Digest) (m : List (D × Digest)) (c s r h t : List D) → (o : OpenStart D) → find_open job k v.orders ≡ Some o → DoneAllowed job o m c s → (q : OpenStart D) → find_open job l v.orders ≡ Some q → SavedAllowed job q j mark r h t → ⊥
   not_both v lone k l j mark m c s r h t o x a q y b =
       let e = same_order v lone k l o q x y in
-      not_end o j r a.next (subst (λ z. NextWait job z j r) (sym e.0) b.next)
+      not_end job laws (Given job o) o.task o.from j r a.next (subst (λ z. NextWait job (Given job z) z.task z.from j r) (sym e.0) b.next)
 
   same_event : (p : Plan) (v : Standing D) → Lone v → (a b : Event D) → Step job p v a → Turn job p v a → Step job p v b → Turn job p v b → a ≡ b
   same_event p v l (lost w c) (lost u e) x s y t =

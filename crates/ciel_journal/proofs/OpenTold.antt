@@ -1,7 +1,7 @@
 -- Which Starts are open and which waits are saved, said of the whole history.
 use Rattle.std.proofs.Common.{◌≡◌, ℕ, ◌<◌, List, [], ◌∷◌, ◌++◌, Bool, true, false, not, cond, nat_eq, Some, ◌⊎◌, inl, inr, refl, ap, sym, ◌∙◌, subst, arith, filter, eqb-true, eq-eqb, append-nil, append_assoc, ◌↔◌}
 use Rattle.ciel_journal.specs.Job.{Digest, Task, Job, In, IsJob}
-use Rattle.ciel_journal.specs.History.{Event, Order, Plan, Save, Standing, after, after_all, before_all, closed, done, done_with, find_order, lost, missed, order_of, saved, saved_with, standing, start}
+use Rattle.ciel_journal.specs.History.{Event, OpenStart, Plan, Save, Standing, after, after_all, before_all, closed, done, done_with, find_open, lost, missed, order_of, saved, saved_with, standing, start}
 use Rattle.ciel_journal.specs.Lawful.{Lawful, LawfulFrom, Step}
 use Rattle.ciel_journal.specs.Live.{ClosedIn, LostIn, OpenIn, SavedIn, closer}
 use Rattle.ciel_journal.proofs.Members.{bool_cases, each_of}
@@ -23,7 +23,7 @@ module _ {D : Type 0} where
       pick (inl i) = inl (c.0, i, c.2)
       pick (inr s) = inr (sym (ap closer s) ∙ c.2)
 
-  kept_by : (q : Order D → Bool) (os : List (Order D)) (o : Order D) → In o (filter q os) → q o ≡ true
+  kept_by : (q : OpenStart D → Bool) (os : List (OpenStart D)) (o : OpenStart D) → In o (filter q os) → q o ≡ true
   kept_by q [] o i = absurd i
   kept_by q (x ∷ xs) o i = pick (q x) refl i (kept_by q xs o)
     where
@@ -49,7 +49,7 @@ module _ {D : Type 0} where
 
   abbrev OrderOf : Standing D → ℕ → ℕ → Task D → ℕ → Type 0
   OrderOf v k w t f =
-      (o : Order D) × In o v.orders × (o.number ≡ k) × (o.worker ≡ w) × (o.task ≡ t) × (o.from ≡ f)
+      (o : OpenStart D) × In o v.orders × (o.number ≡ k) × (o.worker ≡ w) × (o.task ≡ t) × (o.from ≡ f)
 
 not_not : (b : Bool) → not b ≡ true → b ≡ false
 not_not true h = cc
@@ -68,7 +68,7 @@ differ k n h e = let a : nat_eq k n ≡ true = eq-eqb k n e in let b : false ≡
 module _ {D : Type 0} (job : Job D) (laws : IsJob job) where
   pub record Tells (g : List (Event D)) (v : Standing D) : Type 0 where
     pub says : Says job laws g v
-    pub unclosed : (o : Order D) → In o v.orders → ClosedIn g o.number → ⊥
+    pub unclosed : (o : OpenStart D) → In o v.orders → ClosedIn g o.number → ⊥
     pub opened : (k w : ℕ) (t : Task D) (f : ℕ) → OpenIn g k w t f → OrderOf v k w t f
     pub below : (k : ℕ) → ClosedIn g k → k < v.starts
     pub told : (s : Save D) → In s v.saves → SavedIn g s.worker s.task s.j s.refs s.holds
@@ -86,35 +86,35 @@ module _ {D : Type 0} (job : Job D) (laws : IsJob job) where
           pick (inr q) = absurd (n w l.0 q)
 
   -- the order that an entry closes has the number that it names
-  closing : (g : List (Event D)) (v : Standing D) (k : ℕ) (o : Order D) → Tells g v → find_order job k v.orders ≡ Some o → k < v.starts
+  closing : (g : List (Event D)) (v : Standing D) (k : ℕ) (o : OpenStart D) → Tells g v → find_open job k v.orders ≡ Some o → k < v.starts
   closing g v k o s f =
       let q = found_in job laws k v.orders o f in
-      let b = each_of (λ (x : Order D). x.number < v.starts) o v.orders q.0 s.says.numbered.below in
+      let b = each_of (λ (x : OpenStart D). x.number < v.starts) o v.orders q.0 s.says.numbered.below in
       subst (λ n. n < v.starts) (sym q.1) b
 
   -- an entry that closes a Start
-  tells_close : (g : List (Event D)) (e : Event D) (v u : Standing D) (k : ℕ) (o : Order D) → Tells g v → Says job laws (g ++ e ∷ []) u → closer e ≡ Some k → find_order job k v.orders ≡ Some o → u.orders ≡ filter (λ (x : Order D). not (nat_eq k x.number)) v.orders → u.starts ≡ v.starts → ((n w : ℕ) (t : Task D) (f : ℕ) → start n w t f ≡ e → ⊥) → ((w c : ℕ) → lost w c ≡ e → ⊥) → ((x : Save D) → In x u.saves → SavedIn (g ++ e ∷ []) x.worker x.task x.j x.refs x.holds) → ((w : ℕ) (t : Task D) (j : ℕ) (r h : List D) → SavedIn (g ++ e ∷ []) w t j r h → In (record { task = t; j = j; worker = w; refs = r; holds = h }) u.saves) → Tells (g ++ e ∷ []) u
+  tells_close : (g : List (Event D)) (e : Event D) (v u : Standing D) (k : ℕ) (o : OpenStart D) → Tells g v → Says job laws (g ++ e ∷ []) u → closer e ≡ Some k → find_open job k v.orders ≡ Some o → u.orders ≡ filter (λ (x : OpenStart D). not (nat_eq k x.number)) v.orders → u.starts ≡ v.starts → ((n w : ℕ) (t : Task D) (f : ℕ) → start n w t f ≡ e → ⊥) → ((w c : ℕ) → lost w c ≡ e → ⊥) → ((x : Save D) → In x u.saves → SavedIn (g ++ e ∷ []) x.worker x.task x.j x.refs x.holds) → ((w : ℕ) (t : Task D) (j : ℕ) (r h : List D) → SavedIn (g ++ e ∷ []) w t j r h → In (record { task = t; j = j; worker = w; refs = r; holds = h }) u.saves) → Tells (g ++ e ∷ []) u
   tells_close g e v u k o s says c f os st ns nl told stands =
       record { says = says; unclosed = unclosed; opened = opened; below = below; told = told; stands = stands }
     where
-      unclosed : (x : Order D) → In x u.orders → ClosedIn (g ++ e ∷ []) x.number → ⊥
+      unclosed : (x : OpenStart D) → In x u.orders → ClosedIn (g ++ e ∷ []) x.number → ⊥
       unclosed x i z = pick (closed_back g e x.number z)
         where
-          i' : In x (filter (λ (y : Order D). not (nat_eq k y.number)) v.orders)
+          i' : In x (filter (λ (y : OpenStart D). not (nat_eq k y.number)) v.orders)
           i' = subst (In x) os i
 
           pick : (ClosedIn g x.number ⊎ (closer e ≡ Some x.number)) → ⊥
-          pick (inl y) = s.unclosed x (in_filter (λ (y : Order D). not (nat_eq k y.number)) x v.orders i') y
+          pick (inl y) = s.unclosed x (in_filter (λ (y : OpenStart D). not (nat_eq k y.number)) x v.orders i') y
           pick (inr y) =
               let a : Some k ≡ Some x.number = sym c ∙ y in
               let b : k ≡ x.number = cc in
-              differ k x.number (kept_by (λ (y : Order D). not (nat_eq k y.number)) v.orders x i') b
+              differ k x.number (kept_by (λ (y : OpenStart D). not (nat_eq k y.number)) v.orders x i') b
 
       opened : (n w : ℕ) (t : Task D) (f' : ℕ) → OpenIn (g ++ e ∷ []) n w t f' → OrderOf u n w t f'
       opened n w t f' y =
           let i = begun (in_last (start n w t f') g e y.begun) in
           let q = s.opened n w t f' (record { begun = i; unclosed = λ z. y.unclosed (closed_on g e n z); here = λ z. y.here (z.0, in_left (lost w z.0) g (e ∷ []) z.1) }) in
-          (q.0, subst (In q.0) (sym os) (filter_in (λ (x : Order D). not (nat_eq k x.number)) q.0 v.orders q.1 (other k q.0.number (λ z. y.unclosed (closed_now g e n (c ∙ ap Some (z ∙ q.2)))))), q.2, q.3, q.4, q.5)
+          (q.0, subst (In q.0) (sym os) (filter_in (λ (x : OpenStart D). not (nat_eq k x.number)) q.0 v.orders q.1 (other k q.0.number (λ z. y.unclosed (closed_now g e n (c ∙ ap Some (z ∙ q.2)))))), q.2, q.3, q.4, q.5)
         where
           begun : (In (start n w t f') g ⊎ (start n w t f' ≡ e)) → In (start n w t f') g
           begun (inl i) = i
@@ -167,9 +167,9 @@ module _ {D : Type 0} (job : Job D) (laws : IsJob job) where
       fresh : ClosedIn g k → ⊥
       fresh z = let a = s.below k z in let b = step.allowed.number in omega (arith, a, b)
 
-      unclosed : (o : Order D) → (In o v.orders ⊎ (o ≡ order_of job v k w t f)) → ClosedIn (g ++ start k w t f ∷ []) o.number → ⊥
+      unclosed : (o : OpenStart D) → (In o v.orders ⊎ (o ≡ order_of job v k w t f)) → ClosedIn (g ++ start k w t f ∷ []) o.number → ⊥
       unclosed o (inl i) z = s.unclosed o i (back o.number z)
-      unclosed o (inr q) z = fresh (subst (ClosedIn g) (ap (λ (x : Order D). x.number) q) (back o.number z))
+      unclosed o (inr q) z = fresh (subst (ClosedIn g) (ap (λ (x : OpenStart D). x.number) q) (back o.number z))
 
       opened : (n x : ℕ) (u : Task D) (f' : ℕ) → OpenIn (g ++ start k w t f ∷ []) n x u f' → OrderOf (after job v (start k w t f)) n x u f'
       opened n x u f' y = pick (in_last (start n x u f') g (start k w t f) y.begun)
@@ -272,7 +272,7 @@ module _ {D : Type 0} (job : Job D) (laws : IsJob job) where
   tells_step p g v (lost w c) s step =
       record {
         says = says_step job laws p g v (lost w c) s.says step;
-        unclosed = λ o i z. s.unclosed o (in_filter (λ (x : Order D). not (nat_eq w x.worker)) o v.orders i) (back o.number z);
+        unclosed = λ o i z. s.unclosed o (in_filter (λ (x : OpenStart D). not (nat_eq w x.worker)) o v.orders i) (back o.number z);
         opened = opened;
         below = λ n z. s.below n (back n z);
         told = told;
@@ -292,7 +292,7 @@ module _ {D : Type 0} (job : Job D) (laws : IsJob job) where
       opened : (n x : ℕ) (u : Task D) (f : ℕ) → OpenIn (g ++ lost w c ∷ []) n x u f → OrderOf (after job v (lost w c)) n x u f
       opened n x u f y =
           let q = s.opened n x u f (record { begun = old (in_last (start n x u f) g (lost w c) y.begun); unclosed = λ z. y.unclosed (closed_on g (lost w c) n z); here = λ z. y.here (z.0, in_left (lost x z.0) g (lost w c ∷ []) z.1) }) in
-          (q.0, filter_in (λ (o : Order D). not (nat_eq w o.worker)) q.0 v.orders q.1 (other w q.0.worker (λ z. apart x y.here (z ∙ q.3))), q.2, q.3, q.4, q.5)
+          (q.0, filter_in (λ (o : OpenStart D). not (nat_eq w o.worker)) q.0 v.orders q.1 (other w q.0.worker (λ z. apart x y.here (z ∙ q.3))), q.2, q.3, q.4, q.5)
         where
           old : (In (start n x u f) g ⊎ (start n x u f ≡ lost w c)) → In (start n x u f) g
           old (inl i) = i

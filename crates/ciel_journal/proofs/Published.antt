@@ -1,9 +1,9 @@
 -- What a Done or a Saved of a lawful history publishes: names of single descriptions, and marks that the job alone decides.
 use Rattle.std.proofs.Common.{◌≡◌, ℕ, List, [], ◌∷◌, ◌++◌, inl, inr, ap, sym, ◌∙◌, subst}
 use Rattle.ciel_journal.specs.Job.{Digest, Task, Held, Job, In, Each, IsJob, ObjectOf, StateOf}
-use Rattle.ciel_journal.specs.History.{Event, start, done, saved, missed, lost, Order, Plan, Standing, before_all, standing}
+use Rattle.ciel_journal.specs.History.{Event, start, done, saved, missed, lost, OpenStart, Plan, Standing, before_all, standing}
 use Rattle.ciel_journal.specs.Lawful.{Lawful, Step, Marked, NoClash}
-use Rattle.ciel_journal.specs.Names.{Entry, low_made, journal_of}
+use Rattle.ciel_journal.specs.Entries.{Entry, low_made, journal_of}
 use Rattle.ciel_journal.specs.Laws.{Publishes}
 use Rattle.ciel_journal.proofs.Members.{each_of}
 use Rattle.ciel_journal.proofs.Append.{lawful_split, after_join}
@@ -49,7 +49,7 @@ module _ {D : Type 0} (job : Job D) (laws : IsJob job) where
       let m = marked_at (job.outputs a.0.task) made a.2.marked (d, mark) j in
       let sh = shelved_all job laws p (before_all job) s.0 (shelved_start job laws) q.0 in
       let f = found_in job laws k (standing job s.0).orders a.0 a.1 in
-      let outs = each_of (λ (o : Order D). Each (λ x. In x (standing job s.0).book) (job.outputs o.task)) a.0 (standing job s.0).orders f.0 sh.outputs in
+      let outs = each_of (λ (o : OpenStart D). Each (λ x. In x (standing job s.0).book) (job.outputs o.task)) a.0 (standing job s.0).orders f.0 sh.outputs in
       let here : In d (standing job h).book =
       book_later p h s.0 (done k made copied spawned ∷ s.1) s.2 l d (each_of (λ x. In x (standing job s.0).book) d (job.outputs a.0.task) m.0 outs) in
       record {

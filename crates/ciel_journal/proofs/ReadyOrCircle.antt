@@ -2,7 +2,7 @@
 use Rattle.std.proofs.Common.{◌≡◌, ℕ, zero, suc, ◌+◌, ◌<◌, List, [], ◌∷◌, length, true, false, Option, Some, None, ◌⊎◌, inl, inr, refl, ap, subst, arith}
 use Rattle.std.specs.List.{list_any, IsDistinct}
 use Rattle.ciel_journal.specs.Job.{Each, In, IsJob, Job, Task, show}
-use Rattle.ciel_journal.specs.History.{Order, Standing, is_out, live, live_if, needs, same_task}
+use Rattle.ciel_journal.specs.History.{OpenStart, Standing, is_out, live, live_if, needs, same_task}
 use Rattle.ciel_journal.specs.Graph.{Chain, WaitsOn, root, standing_graph, through}
 use Rattle.ciel_journal.specs.Turns.{CircleAtRest, Reached, Ready}
 use Rattle.ciel_journal.proofs.Members.{bool_cases, any_in, distinct_more, distinct_none, fewer, each_of}
@@ -44,7 +44,7 @@ module _ {D : Type 0} (job : Job D) (laws : IsJob job) (v : Standing D) where
     Answer = ((t : Task D) × Ready job v t) ⊎ ((ds : List D) × CircleAtRest job v ds)
 
     none_is_out : (t : Task D) → is_out job v t ≡ false
-    none_is_out t = ap (λ os. list_any (λ (o : Order D). same_task job t o.task) os) none_out
+    none_is_out t = ap (λ os. list_any (λ (o : OpenStart D). same_task job t o.task) os) none_out
 
     link : (t : Task D) (r : Reached job v t) (d : D) → In d (needs job v t) → (trail : List D) → Head t trail → Linked trail → Linked (d ∷ trail)
     link t r d i [] h l = tt

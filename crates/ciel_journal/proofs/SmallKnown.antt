@@ -1,33 +1,22 @@
 -- The small jobs tell where all comes from that their tasks wait for and hold.
-use Rattle.std.proofs.Common.{◌≡◌, ℕ, zero, suc, ◌-◌, ◌≤◌, ◌<◌, List, [], ◌∷◌, ◌++◌, length, length-append, Bool, true, false, cond, Some, None, slice_get, inl, inr, refl, ap, sym, ◌∙◌, subst, arith, nat_le, leb-true}
-use Rattle.ciel_journal.specs.Job.{Task, show, of, Act, made, wait, Held, Job, In, Each, WaitOf, StateOf, waits_in, after_wait, made_before, made_in}
+use Rattle.std.proofs.Common.{◌≡◌, ℕ, zero, suc, ◌≤◌, ◌<◌, List, [], ◌∷◌, ◌++◌, length, length-append, Bool, true, false, cond, Some, None, slice_get, inl, inr, refl, ap, sym, ◌∙◌, subst, arith, nat_le, leb-true}
+use Rattle.ciel_journal.specs.Job.{Task, show, of, Act, made, wait, Held, Job, In, Each, WaitOf, StateOf, waits_in, made_before, made_in}
 use Rattle.ciel_journal.specs.Lawful.{HeldAt}
-use Rattle.ciel_journal.specs.Known.{Inner, Knows, Sees, TellsTo, TellsToEnd, Whole}
-use Rattle.ciel_journal.specs.Fixed.{Fixed, Piece, acts_by, seen_with, fixed_job, small_lists, small_inner, piece_task, piece_outputs, piece_first, piece_script, piece_holds, piece_inside, piece_carries}
+use Rattle.ciel_journal.specs.Known.{Around, Batched, Inner, Knows, TellsTo, TellsToEnd}
+use Rattle.ciel_journal.specs.Fixed.{Fixed, Piece, acts_by, all_seen, until, seen_with, fixed_job, small_lists, small_inner, piece_task, piece_outputs, piece_first, piece_script, piece_holds, piece_inside, piece_carries}
 use Rattle.ciel_journal.specs.Fixed as f
 use Rattle.ciel_journal.proofs.Circle.{waits_join}
+use Rattle.ciel_journal.proofs.Members.{each_of}
 use Rattle.ciel_journal.proofs.Near.{each_all}
+use Rattle.ciel_journal.proofs.Splits.{before_in, get_short}
 use Rattle.ciel_journal.proofs.SmallBroken.{acts_prefix, script_wait, one_of}
 
 module _ {D : Type 0} where
-  before_in : (a : ℕ) (es : List (Act D)) (d : D) → In d (made_before a es) → In d (made_in es)
-  before_in zero es d i = absurd i
-  before_in (suc a) [] d i = absurd i
-  before_in (suc a) (made x ∷ es) d (inl s) = inl s
-  before_in (suc a) (made x ∷ es) d (inr i) = inr (before_in (suc a) es d i)
-  before_in (suc a) (wait ds ∷ es) d i = before_in a es d i
-
   made_join : (xs ys : List (Act D)) (d : D) → In d (made_in xs) → In d (made_in (xs ++ ys))
   made_join [] ys d i = absurd i
   made_join (made x ∷ xs) ys d (inl s) = inl s
   made_join (made x ∷ xs) ys d (inr i) = inr (made_join xs ys d i)
   made_join (wait ds ∷ xs) ys d i = made_join xs ys d i
-
-  after_made : (j : ℕ) (xs ys : List (Act D)) (d : D) → In d (made_in (after_wait j xs)) → In d (made_in (after_wait j (xs ++ ys)))
-  after_made zero xs ys d i = made_join xs ys d i
-  after_made (suc j) [] ys d i = absurd i
-  after_made (suc j) (made x ∷ xs) ys d i = after_made (suc j) xs ys d i
-  after_made (suc j) (wait ds ∷ xs) ys d i = after_made j xs ys d i
 
 module _ (reads : Bool) where
   abbrev job : Job Piece
@@ -39,11 +28,11 @@ module _ (reads : Bool) where
   abbrev acts_at : ℕ → Task Piece → List (Act Piece)
   acts_at n t = acts_by (small_lists reads) (seen_with (small_lists reads) n) t
 
-  -- what is made after a wait stands in the list of the task
-  later_made : (n : ℕ) (t : Task Piece) (j : ℕ) (d : Piece) → In d (made_in (after_wait j (acts_at n t))) → In d (made_in (after_wait j (piece_script reads t)))
-  later_made n t j d i =
+  -- what is made stands in the list of the task
+  later_made : (n : ℕ) (t : Task Piece) (d : Piece) → In d (made_in (acts_at n t)) → In d (made_in (piece_script reads t))
+  later_made n t d i =
       let p = acts_prefix (small_lists reads) (seen_with (small_lists reads) n) t in
-      subst (λ xs. In d (made_in (after_wait j xs))) p.1 (after_made j (acts_at n t) p.0 d i)
+      subst (λ xs. In d (made_in xs)) p.1 (made_join (acts_at n t) p.0 d i)
 
   few_waits : (n : ℕ) (t : Task Piece) → length (waits_in (acts_at n t)) ≤ length (waits_in (piece_script reads t))
   few_waits n t =
@@ -80,213 +69,77 @@ module _ (reads : Bool) where
   abbrev all_five : List Piece
   all_five = f.one ∷ f.two ∷ f.text ∷ f.left ∷ f.right ∷ []
 
-  five_to : (S : List Piece) (i n : ℕ) → TellsTo job inner S (of f.main) 0 (suc i) → suc i ≤ length (waits_in (job.acts n (of f.main))) → Five S
+  five_to : (S : List Piece) (i n : ℕ) → TellsTo job inner S (of f.main) (suc i) → suc i ≤ length (waits_in (job.acts n (of f.main))) → Five S
   five_to S i n t l =
-      let z : suc i - 0 ≡ suc i = omega arith in
-      let e : Each (λ d. In d S) (made_before (suc i) (after_wait 0 (job.acts n (of f.main)))) = subst (λ k. Each (λ d. In d S) (made_before k (after_wait 0 (job.acts n (of f.main))))) z (t.makes n l) in
+      let e = t.makes n l in
       record { one = e.0; two = e.1.0; text = e.1.1.0; left = e.1.1.1.0; right = e.1.1.1.1.0 }
 
-  abbrev whole_of : List Piece → Piece → Type 0
-  whole_of S d = Whole job inner S d
+  five_around : (S : List Piece) → Five S → (d : Piece) → In d all_five → Around job inner S d
+  five_around S v d (inl s) = subst (Around job inner S) (sym s) tt
+  five_around S v d (inr (inl s)) = subst (Around job inner S) (sym s) tt
+  five_around S v d (inr (inr (inl s))) = subst (Around job inner S) (sym s) tt
+  five_around S v d (inr (inr (inr (inl s)))) = subst (Around job inner S) (sym s) (v.text, tt)
+  five_around S v d (inr (inr (inr (inr (inl s))))) = subst (Around job inner S) (sym s) (v.text, tt)
+  five_around S v d (inr (inr (inr (inr (inr i))))) = absurd i
 
-  same_outputs : (S : List Piece) (d : Piece) (u : Task Piece) → piece_task d ≡ Some u → Each (λ e. In e S) (piece_outputs u) → (t : Task Piece) → piece_task d ≡ Some t → Each (λ e. In e S) (piece_outputs t)
-  same_outputs S d u e h t g =
-      let k : Some u ≡ Some t = sym e ∙ g in let s : u ≡ t = cc in subst (λ x. Each (λ y. In y S) (piece_outputs x)) s h
+  -- ---- batches
 
-  five_whole : (S : List Piece) → Five S → (d : Piece) → In d all_five → whole_of S d
-  five_whole S v d (inl s) =
-      subst (whole_of S) (sym s) (tt, same_outputs S f.one (of f.one) refl (v.one, tt))
-  five_whole S v d (inr (inl s)) =
-      subst (whole_of S) (sym s) (tt, same_outputs S f.two (of f.two) refl (v.two, tt))
-  five_whole S v d (inr (inr (inl s))) = subst (whole_of S) (sym s) (tt, none)
+  until_batched : (seen : Piece → Bool) (xs : List Piece) (acts : List (Act Piece)) → Batched job xs acts → Batched job xs (until seen acts)
+  until_batched seen [] [] b = tt
+  until_batched seen (x ∷ xs) [] b = absurd b
+  until_batched seen [] (made d ∷ acts) b = (b.0, b.1, until_batched seen b.0 acts b.2)
+  until_batched seen (x ∷ xs) (made d ∷ acts) b = (b.0, until_batched seen xs acts b.1)
+  until_batched seen [] (wait ds ∷ acts) b = pick (all_seen seen ds) (until_batched seen [] acts b)
     where
-      none : (t : Task Piece) → piece_task f.text ≡ Some t → Each (λ e. In e S) (piece_outputs t)
-      none t h = cc
-  five_whole S v d (inr (inr (inr (inl s)))) =
-      subst (whole_of S) (sym s) ((v.text, tt), same_outputs S f.left (of f.left) refl (v.left, (v.right, tt)))
-  five_whole S v d (inr (inr (inr (inr (inl s))))) =
-      subst (whole_of S) (sym s) ((v.text, tt), same_outputs S f.right (of f.left) refl (v.left, (v.right, tt)))
-  five_whole S v d (inr (inr (inr (inr (inr i))))) = absurd i
+      pick : (c : Bool) → Batched job [] (until seen acts) → Batched job [] (cond c (until seen acts) [])
+      pick true h = h
+      pick false h = tt
+  until_batched seen (x ∷ xs) (wait ds ∷ acts) b = absurd b
 
-  -- only the main call makes anything, and all of it before its first wait
-  made_main : (t : Task Piece) (j : ℕ) (d : Piece) → In d (made_in (after_wait j (piece_script reads t))) → (t ≡ of f.main) × (j ≡ 0) × In d all_five
-  made_main show j d i = pick reads j i
+  show_batched : (b : Bool) → Batched job [] (piece_script b show)
+  show_batched true = tt
+  show_batched false = tt
+
+  script_batched : (t : Task Piece) → Batched job [] (piece_script reads t)
+  script_batched show = show_batched reads
+  script_batched (of f.main) =
+      ([], inr (refl, refl), ([], inr (refl, refl), ([], inl (refl, refl), (f.right ∷ [], inr (refl, refl), (refl, tt)))))
+  script_batched (of f.one) = tt
+  script_batched (of f.two) = tt
+  script_batched (of f.left) = tt
+  script_batched (of f.right) = tt
+  script_batched (of f.text) = tt
+
+  pub batches : (n : ℕ) (t : Task Piece) → Batched job [] (job.acts n t)
+  batches n t = pick (all_seen (seen_with (small_lists reads) n) (piece_first t)) (until_batched (seen_with (small_lists reads) n) [] (piece_script reads t) (script_batched t))
     where
-      pick : (b : Bool) (j : ℕ) → In d (made_in (after_wait j (piece_script b show))) → (show ≡ of f.main) × (j ≡ 0) × In d all_five
-      pick true zero k = absurd k
-      pick true (suc zero) k = absurd k
-      pick true (suc (suc m)) k = absurd k
-      pick false zero k = absurd k
-      pick false (suc m) k = absurd k
-  made_main (of f.main) zero d i = (refl, refl, i)
-  made_main (of f.main) (suc zero) d i = absurd i
-  made_main (of f.main) (suc (suc zero)) d i = absurd i
-  made_main (of f.main) (suc (suc (suc m))) d i = absurd i
-  made_main (of f.one) zero d i = absurd i
-  made_main (of f.one) (suc j) d i = absurd i
-  made_main (of f.two) zero d i = absurd i
-  made_main (of f.two) (suc j) d i = absurd i
-  made_main (of f.left) zero d i = absurd i
-  made_main (of f.left) (suc j) d i = absurd i
-  made_main (of f.right) zero d i = absurd i
-  made_main (of f.right) (suc j) d i = absurd i
-  made_main (of f.text) zero d i = absurd i
-  made_main (of f.text) (suc j) d i = absurd i
+      pick : (c : Bool) → Batched job [] (until (seen_with (small_lists reads) n) (piece_script reads t)) → Batched job [] (cond c (until (seen_with (small_lists reads) n) (piece_script reads t)) [])
+      pick true h = h
+      pick false h = tt
 
--- what the main call holds at its waits
-main_one : (reads : Bool) (d : Piece) → In d (f.one ∷ f.two ∷ f.left ∷ f.right ∷ []) → HeldAt (fixed_job (small_lists reads)) (of f.main) 1 d
-main_one false d i = (4, record { names = f.one ∷ f.two ∷ f.left ∷ f.right ∷ []; mark = f.state_mark 1 }, refl, i)
-main_one true d i = (4, record { names = f.one ∷ f.two ∷ f.left ∷ f.right ∷ []; mark = f.state_mark 1 }, refl, i)
-
-main_two : (reads : Bool) (d : Piece) → In d (f.one ∷ f.two ∷ f.left ∷ f.right ∷ []) → HeldAt (fixed_job (small_lists reads)) (of f.main) 2 d
-main_two false d i = (4, record { names = f.one ∷ f.two ∷ f.left ∷ f.right ∷ []; mark = f.state_mark 2 }, refl, i)
-main_two true d i = (4, record { names = f.one ∷ f.two ∷ f.left ∷ f.right ∷ []; mark = f.state_mark 2 }, refl, i)
+  -- only the main call makes anything
+  made_main : (t : Task Piece) (d : Piece) → In d (made_in (piece_script reads t)) → (t ≡ of f.main) × In d all_five
+  made_main show d i = pick reads i
+    where
+      pick : (b : Bool) → In d (made_in (piece_script b show)) → (show ≡ of f.main) × In d all_five
+      pick true k = absurd k
+      pick false k = absurd k
+  made_main (of f.main) d i = (refl, i)
+  made_main (of f.one) d i = absurd i
+  made_main (of f.two) d i = absurd i
+  made_main (of f.left) d i = absurd i
+  made_main (of f.right) d i = absurd i
+  made_main (of f.text) d i = absurd i
 
 main_ends : (reads : Bool) → (fixed_job (small_lists reads)).ended 4 (of f.main) ≡ true
 main_ends false = refl
 main_ends true = refl
 
-five_end : (reads : Bool) (S : List Piece) → TellsToEnd (fixed_job (small_lists reads)) (small_inner reads) S (of f.main) 0 → Five reads S
+five_end : (reads : Bool) (S : List Piece) → TellsToEnd (fixed_job (small_lists reads)) (small_inner reads) S (of f.main) → Five reads S
 five_end false S t =
     let e = t.makes 4 (main_ends false) in record { one = e.0; two = e.1.0; text = e.1.1.0; left = e.1.1.1.0; right = e.1.1.1.1.0 }
 five_end true S t =
     let e = t.makes 4 (main_ends true) in record { one = e.0; two = e.1.0; text = e.1.1.0; left = e.1.1.1.0; right = e.1.1.1.1.0 }
-
-module _ (reads : Bool) (S : List Piece) where
-  abbrev theJob : Job Piece
-  theJob = fixed_job (small_lists reads)
-
-  get_short : {A : Type 0} (xs : List A) (i : ℕ) (x : A) → slice_get xs i ≡ Some x → suc i ≤ length xs
-  get_short [] i x h = cc
-  get_short (y ∷ ys) zero x h = omega arith
-  get_short (y ∷ ys) (suc i) x h = let a = get_short ys i x h in omega (arith, a)
-
-  -- the root task waits for the lines alone, which the main call's object holds
-  show_left : (b : Bool) → b ≡ reads → (j : ℕ) → j < 1 → Sees theJob (small_inner reads) S show j (λ k. k < 1) → b ≡ true → In f.left S
-  show_left b e zero l t h =
-      t.reads 0 (f.main ∷ []) f.main f.left 0 (omega arith) (omega arith) refl (inl refl) (subst (λ c. In f.left (piece_carries c f.main)) (sym h ∙ e) (inl refl))
-  show_left b e (suc j) l t h = absurd (omega (arith, l))
-
-  main_waits : (j m : ℕ) (ds : List Piece) → j < suc m → TellsTo theJob (small_inner reads) S (of f.main) j (suc m) → WaitOf theJob (of f.main) (suc m) ds → slice_get (waits_in (piece_script reads (of f.main))) m ≡ Some ds → Each (λ d. In d S) ds
-  main_waits zero zero ds l t w g =
-      let v = five_to reads S 0 w.0 t (get_short (waits_in (theJob.acts w.0 (of f.main))) 0 ds w.1) in let e : f.one ∷ [] ≡ ds = cc in subst (Each (λ d. In d S)) e (v.one, tt)
-  main_waits zero (suc zero) ds l t w g =
-      let v = five_to reads S 1 w.0 t (get_short (waits_in (theJob.acts w.0 (of f.main))) 1 ds w.1) in let e : f.two ∷ [] ≡ ds = cc in subst (Each (λ d. In d S)) e (v.two, tt)
-  main_waits (suc zero) (suc zero) ds l t w g =
-      let e : f.two ∷ [] ≡ ds = cc in subst (Each (λ d. In d S)) e (t.sees.holds f.two (main_one reads f.two (inr (inl refl))), tt)
-  main_waits (suc j) zero ds l t w g = absurd (omega (arith, l))
-  main_waits (suc (suc j)) (suc zero) ds l t w g = absurd (omega (arith, l))
-  main_waits j (suc (suc m)) ds l t w g = cc
-
-  show_waits : (b : Bool) → b ≡ reads → (j m : ℕ) (ds : List Piece) → j < suc m → TellsTo theJob (small_inner reads) S show j (suc m) → slice_get (waits_in (piece_script b show)) m ≡ Some ds → Each (λ d. In d S) ds
-  show_waits true e j zero ds l t g =
-      let s : f.left ∷ [] ≡ ds = cc in subst (Each (λ d. In d S)) s (show_left true e j l t.sees refl, tt)
-  show_waits true e j (suc m) ds l t g = cc
-  show_waits false e j m ds l t g = cc
-
-  waits_told : (t : Task Piece) (j i : ℕ) (ds : List Piece) → j < i → TellsTo theJob (small_inner reads) S t j i → WaitOf theJob t i ds → Each (λ d. In d S) ds
-  waits_told t j zero ds l s w = absurd (omega (arith, l))
-  waits_told show j (suc m) ds l s w = show_waits reads refl j m ds l s (script_wait (small_lists reads) show m ds w)
-  waits_told (of f.main) j (suc m) ds l s w =
-      main_waits j m ds l s w (script_wait (small_lists reads) (of f.main) m ds w)
-  waits_told (of f.one) j (suc m) ds l s w =
-      let g : slice_get (waits_in (piece_script reads (of f.one))) m ≡ Some ds = script_wait (small_lists reads) (of f.one) m ds w in cc
-  waits_told (of f.two) j (suc m) ds l s w =
-      let g : slice_get (waits_in (piece_script reads (of f.two))) m ≡ Some ds = script_wait (small_lists reads) (of f.two) m ds w in cc
-  waits_told (of f.left) j (suc m) ds l s w =
-      let g : slice_get (waits_in (piece_script reads (of f.left))) m ≡ Some ds = script_wait (small_lists reads) (of f.left) m ds w in cc
-  waits_told (of f.right) j (suc m) ds l s w =
-      let g : slice_get (waits_in (piece_script reads (of f.right))) m ≡ Some ds = script_wait (small_lists reads) (of f.right) m ds w in cc
-  waits_told (of f.text) j (suc m) ds l s w =
-      let g : slice_get (waits_in (piece_script reads (of f.text))) m ≡ Some ds = script_wait (small_lists reads) (of f.text) m ds w in cc
-
-  four : Five reads S → Each (λ d. In d S) (f.one ∷ f.two ∷ f.left ∷ f.right ∷ [])
-  four v = (v.one, (v.two, (v.left, (v.right, tt))))
-
-  main_four : (j : ℕ) → j ≡ 1 → ((d : Piece) → HeldAt theJob (of f.main) j d → In d S) → Each (λ d. In d S) (f.one ∷ f.two ∷ f.left ∷ f.right ∷ [])
-  main_four j e h =
-      each_all (λ d. In d S) (f.one ∷ f.two ∷ f.left ∷ f.right ∷ []) (λ d i. h d (subst (λ k. HeldAt theJob (of f.main) k d) (sym e) (main_one reads d i)))
-
-  main_holds : (j m n : ℕ) (a : Held Piece) → j < suc m → TellsTo theJob (small_inner reads) S (of f.main) j (suc m) → theJob.at n (of f.main) (suc m) ≡ Some a → suc m ≤ 2 → Each (λ d. In d S) (piece_holds (of f.main) (suc m))
-  main_holds zero m n a l t g k = four (five_to reads S m n t (at_waits (nat_le (suc m) (length (waits_in (theJob.acts n (of f.main))))) refl g))
-    where
-      at_waits : (b : Bool) → nat_le (suc m) (length (waits_in (theJob.acts n (of f.main)))) ≡ b → cond b (Some (record { names = piece_holds (of f.main) (suc m); mark = f.state_mark (suc m) })) None ≡ Some a → suc m ≤ length (waits_in (theJob.acts n (of f.main)))
-      at_waits true e h = leb-true (suc m) (length (waits_in (theJob.acts n (of f.main)))) e
-      at_waits false e h = cc
-  main_holds (suc j) m n a l t g k = main_four (suc j) (omega (arith, l, k)) t.sees.holds
-
-  show_holds : (b : Bool) → b ≡ reads → (j m : ℕ) → j < suc m → TellsTo theJob (small_inner reads) S show j (suc m) → suc m ≤ length (waits_in (piece_script b show)) → Each (λ d. In d S) (f.left ∷ [])
-  show_holds false e j m l t k = absurd (omega (arith, k))
-  show_holds true e j zero l t k = (show_left true e j l t.sees refl, tt)
-  show_holds true e j (suc m) l t k = absurd (omega (arith, k))
-
-  holds_told : (t : Task Piece) (j i : ℕ) (a : Held Piece) → j < i → TellsTo theJob (small_inner reads) S t j i → StateOf theJob t i a → Each (λ d. In d S) a.names
-  holds_told t j i a l s w = let q = state_is reads w.0 t i a w.1 in subst (Each (λ d. In d S)) (sym q.1) (go t i s w.1 q.0 l)
-    where
-      go : (t : Task Piece) (i : ℕ) → TellsTo theJob (small_inner reads) S t j i → theJob.at w.0 t i ≡ Some a → i ≤ length (waits_in (piece_script reads t)) → j < i → Each (λ d. In d S) (piece_holds t i)
-      go t zero x y k m = absurd (omega (arith, m))
-      go show (suc m) x y k u = show_holds reads refl j m u x k
-      go (of f.main) (suc m) x y k u = main_holds j m w.0 a u x y k
-      go (of f.one) (suc m) x y k u = absurd (omega (arith, k))
-      go (of f.two) (suc m) x y k u = absurd (omega (arith, k))
-      go (of f.left) (suc m) x y k u = absurd (omega (arith, k))
-      go (of f.right) (suc m) x y k u = absurd (omega (arith, k))
-      go (of f.text) (suc m) x y k u = absurd (omega (arith, k))
-
-  made_told : (t : Task Piece) (j i n : ℕ) → j < i → TellsTo theJob (small_inner reads) S t j i → i ≤ length (waits_in (theJob.acts n t)) → Each (Whole theJob (small_inner reads) S) (made_before (i - j) (after_wait j (theJob.acts n t)))
-  made_told t j i n l s k =
-      each_all (Whole theJob (small_inner reads) S) (made_before (i - j) (after_wait j (theJob.acts n t))) (λ d x. go d (made_main reads t j d (later_made reads n t j d (before_in (i - j) (after_wait j (theJob.acts n t)) d x))))
-    where
-      five : (i : ℕ) → 0 < i → TellsTo theJob (small_inner reads) S (of f.main) 0 i → i ≤ length (waits_in (theJob.acts n (of f.main))) → Five reads S
-      five zero a b c = absurd (omega (arith, a))
-      five (suc m) a b c = five_to reads S m n b c
-
-      go : (d : Piece) → (t ≡ of f.main) × (j ≡ 0) × In d (f.one ∷ f.two ∷ f.text ∷ f.left ∷ f.right ∷ []) → Whole theJob (small_inner reads) S d
-      go d x =
-          let e = x.1 in
-          five_whole reads S (five i (omega (arith, l, e)) (subst (λ u. TellsTo theJob (small_inner reads) S u 0 i) x.0 (subst (λ z. TellsTo theJob (small_inner reads) S t z i) x.1 s)) (subst (λ u. i ≤ length (waits_in (theJob.acts n u))) x.0 k)) d x.2
-
-  end_told : (t : Task Piece) (j n : ℕ) → TellsToEnd theJob (small_inner reads) S t j → theJob.ended n t ≡ true → Each (Whole theJob (small_inner reads) S) (made_in (after_wait j (theJob.acts n t)))
-  end_told t j n s k =
-      each_all (Whole theJob (small_inner reads) S) (made_in (after_wait j (theJob.acts n t))) (λ d x. go d (made_main reads t j d (later_made reads n t j d x)))
-    where
-      go : (d : Piece) → (t ≡ of f.main) × (j ≡ 0) × In d (f.one ∷ f.two ∷ f.text ∷ f.left ∷ f.right ∷ []) → Whole theJob (small_inner reads) S d
-      go d x =
-          five_whole reads S (five_end reads S (subst (λ u. TellsToEnd theJob (small_inner reads) S u 0) x.0 (subst (λ z. TellsToEnd theJob (small_inner reads) S t z) x.1 s))) d x.2
-
-  main_carries : (j : ℕ) → TellsToEnd theJob (small_inner reads) S (of f.main) j → In f.left S
-  main_carries zero t = (five_end reads S t).left
-  main_carries (suc zero) t = t.sees.holds f.left (main_one reads f.left (inr (inr (inl refl))))
-  main_carries (suc (suc zero)) t = t.sees.holds f.left (main_two reads f.left (inr (inr (inl refl))))
-  main_carries (suc (suc (suc m))) t =
-      let w = t.sees.here in
-      let g : slice_get (waits_in (piece_script reads (of f.main))) (suc (suc m)) ≡ Some w.0 = script_wait (small_lists reads) (of f.main) (suc (suc m)) w.0 w.1 in cc
-
-  carries_main : (b : Bool) → In f.left S → Each (λ e. In e S) (piece_carries b f.main)
-  carries_main true i = (i, tt)
-  carries_main false i = tt
-
-  object_told : (t : Task Piece) (j n : ℕ) (d : Piece) → TellsToEnd theJob (small_inner reads) S t j → In d (piece_outputs t) → Each (λ e. In e S) (piece_carries reads d)
-  object_told show j n d s i = absurd i
-  object_told (of f.main) j n d s i =
-      subst (λ x. Each (λ e. In e S) (piece_carries reads x)) (sym (one_of d f.main i)) (carries_main reads (main_carries j s))
-  object_told (of f.one) j n d s i = subst (λ x. Each (λ e. In e S) (piece_carries reads x)) (sym (one_of d f.one i)) tt
-  object_told (of f.two) j n d s i = subst (λ x. Each (λ e. In e S) (piece_carries reads x)) (sym (one_of d f.two i)) tt
-  object_told (of f.left) j n d s (inl e) = subst (λ x. Each (λ e. In e S) (piece_carries reads x)) (sym e) tt
-  object_told (of f.left) j n d s (inr i) = subst (λ x. Each (λ e. In e S) (piece_carries reads x)) (sym (one_of d f.right i)) tt
-  object_told (of f.right) j n d s i = absurd i
-  object_told (of f.text) j n d s i = absurd i
-
-main_outputs : (t : Task Piece) → piece_task f.main ≡ Some t → piece_outputs t ≡ f.main ∷ []
-main_outputs t h = let e : of f.main ≡ t = cc in ap piece_outputs (sym e)
-
-carries_none : (reads : Bool) (d : Piece) → piece_task d ≡ None → piece_carries reads d ≡ []
-carries_none reads f.main h = cc
-carries_none reads f.one h = refl
-carries_none reads f.two h = refl
-carries_none reads f.left h = refl
-carries_none reads f.right h = refl
-carries_none reads f.text h = refl
 
 held_inside : (e d : Piece) → In d (piece_holds (of e) 0) → In d (piece_inside e)
 held_inside f.main d i = absurd i
@@ -304,18 +157,135 @@ first_inside f.left d i = i
 first_inside f.right d i = absurd i
 first_inside f.text d i = absurd i
 
+module _ (reads : Bool) (S : List Piece) where
+  abbrev theJob : Job Piece
+  theJob = fixed_job (small_lists reads)
+
+  abbrev Told : Task Piece → ℕ → Type 0
+  Told t i = TellsTo theJob (small_inner reads) S t i
+
+  -- the root task waits for the lines alone, which the main call's object holds
+  show_left : (i : ℕ) → 0 < i → Told show i → true ≡ reads → In f.left S
+  show_left i l t e =
+      t.reads 0 (f.main ∷ []) f.main f.left 0 l refl (inl refl) (subst (λ c. In f.left (piece_carries c f.main)) e (inl refl))
+
+  main_waits : (m : ℕ) (ds : List Piece) → Told (of f.main) (suc m) → WaitOf theJob (of f.main) (suc m) ds → slice_get (waits_in (piece_script reads (of f.main))) m ≡ Some ds → Each (λ d. In d S) ds
+  main_waits zero ds t w g =
+      let v = five_to reads S 0 w.0 t (get_short (waits_in (theJob.acts w.0 (of f.main))) 0 ds w.1) in let e : f.one ∷ [] ≡ ds = cc in subst (Each (λ d. In d S)) e (v.one, tt)
+  main_waits (suc zero) ds t w g =
+      let v = five_to reads S 1 w.0 t (get_short (waits_in (theJob.acts w.0 (of f.main))) 1 ds w.1) in let e : f.two ∷ [] ≡ ds = cc in subst (Each (λ d. In d S)) e (v.two, tt)
+  main_waits (suc (suc m)) ds t w g = cc
+
+  show_waits : (b : Bool) → b ≡ reads → (m : ℕ) (ds : List Piece) → Told show (suc m) → slice_get (waits_in (piece_script b show)) m ≡ Some ds → Each (λ d. In d S) ds
+  show_waits true e zero ds t g =
+      let s : f.left ∷ [] ≡ ds = cc in subst (Each (λ d. In d S)) s (show_left 1 (omega arith) t e, tt)
+  show_waits true e (suc m) ds t g = cc
+  show_waits false e m ds t g = cc
+
+  waits_told : (t : Task Piece) (i : ℕ) (ds : List Piece) → Told t i → WaitOf theJob t i ds → Each (λ d. In d S) ds
+  waits_told show zero ds s w = subst (Each (λ d. In d S)) (sym w) (s.begins, tt)
+  waits_told (of e) zero ds s w =
+      subst (Each (λ d. In d S)) (sym w) (each_all (λ d. In d S) (piece_first (of e)) (λ d i. each_of (λ x. In x S) d (piece_inside e) (first_inside e d i) s.begins))
+  waits_told show (suc m) ds s w = show_waits reads refl m ds s (script_wait (small_lists reads) show m ds w)
+  waits_told (of f.main) (suc m) ds s w =
+      main_waits m ds s w (script_wait (small_lists reads) (of f.main) m ds w)
+  waits_told (of f.one) (suc m) ds s w =
+      let g : slice_get (waits_in (piece_script reads (of f.one))) m ≡ Some ds = script_wait (small_lists reads) (of f.one) m ds w in cc
+  waits_told (of f.two) (suc m) ds s w =
+      let g : slice_get (waits_in (piece_script reads (of f.two))) m ≡ Some ds = script_wait (small_lists reads) (of f.two) m ds w in cc
+  waits_told (of f.left) (suc m) ds s w =
+      let g : slice_get (waits_in (piece_script reads (of f.left))) m ≡ Some ds = script_wait (small_lists reads) (of f.left) m ds w in cc
+  waits_told (of f.right) (suc m) ds s w =
+      let g : slice_get (waits_in (piece_script reads (of f.right))) m ≡ Some ds = script_wait (small_lists reads) (of f.right) m ds w in cc
+  waits_told (of f.text) (suc m) ds s w =
+      let g : slice_get (waits_in (piece_script reads (of f.text))) m ≡ Some ds = script_wait (small_lists reads) (of f.text) m ds w in cc
+
+  main_holds : (m n : ℕ) (a : Held Piece) → Told (of f.main) (suc m) → theJob.at n (of f.main) (suc m) ≡ Some a → suc m ≤ 2 → Each (λ d. In d S) (piece_holds (of f.main) (suc m))
+  main_holds m n a t g k = four (five_to reads S m n t (at_waits (nat_le (suc m) (length (waits_in (theJob.acts n (of f.main))))) refl g))
+    where
+      four : Five reads S → Each (λ d. In d S) (f.one ∷ f.two ∷ f.left ∷ f.right ∷ [])
+      four v = (v.one, (v.two, (v.left, (v.right, tt))))
+
+      at_waits : (b : Bool) → nat_le (suc m) (length (waits_in (theJob.acts n (of f.main)))) ≡ b → cond b (Some (record { names = piece_holds (of f.main) (suc m); mark = f.state_mark (suc m) })) None ≡ Some a → suc m ≤ length (waits_in (theJob.acts n (of f.main)))
+      at_waits true e h = leb-true (suc m) (length (waits_in (theJob.acts n (of f.main)))) e
+      at_waits false e h = cc
+
+  show_holds : (b : Bool) → b ≡ reads → (m : ℕ) → Told show (suc m) → suc m ≤ length (waits_in (piece_script b show)) → Each (λ d. In d S) (f.left ∷ [])
+  show_holds false e m t k = absurd (omega (arith, k))
+  show_holds true e m t k = (show_left (suc m) (omega arith) t e, tt)
+
+  holds_told : (t : Task Piece) (i : ℕ) (a : Held Piece) → Told t i → StateOf theJob t i a → Each (λ d. In d S) a.names
+  holds_told t i a s w = let q = state_is reads w.0 t i a w.1 in subst (Each (λ d. In d S)) (sym q.1) (go t i s w.1 q.0)
+    where
+      go : (t : Task Piece) (i : ℕ) → Told t i → theJob.at w.0 t i ≡ Some a → i ≤ length (waits_in (piece_script reads t)) → Each (λ d. In d S) (piece_holds t i)
+      go show zero x y k = (x.begins, tt)
+      go (of e) zero x y k =
+          each_all (λ d. In d S) (piece_holds (of e) 0) (λ d i. each_of (λ z. In z S) d (piece_inside e) (held_inside e d i) x.begins)
+      go show (suc m) x y k = show_holds reads refl m x k
+      go (of f.main) (suc m) x y k = main_holds m w.0 a x y k
+      go (of f.one) (suc m) x y k = absurd (omega (arith, k))
+      go (of f.two) (suc m) x y k = absurd (omega (arith, k))
+      go (of f.left) (suc m) x y k = absurd (omega (arith, k))
+      go (of f.right) (suc m) x y k = absurd (omega (arith, k))
+      go (of f.text) (suc m) x y k = absurd (omega (arith, k))
+
+  made_told : (t : Task Piece) (i n : ℕ) → Told t i → i ≤ length (waits_in (theJob.acts n t)) → Each (Around theJob (small_inner reads) S) (made_before i (theJob.acts n t))
+  made_told t zero n s k = tt
+  made_told t (suc m) n s k =
+      each_all (Around theJob (small_inner reads) S) (made_before (suc m) (theJob.acts n t)) (λ d x. go d (made_main reads t d (later_made reads n t d (before_in (suc m) (theJob.acts n t) d x))))
+    where
+      go : (d : Piece) → (t ≡ of f.main) × In d (f.one ∷ f.two ∷ f.text ∷ f.left ∷ f.right ∷ []) → Around theJob (small_inner reads) S d
+      go d x =
+          five_around reads S (five_to reads S m n (subst (λ u. Told u (suc m)) x.0 s) (subst (λ u. suc m ≤ length (waits_in (theJob.acts n u))) x.0 k)) d x.1
+
+  end_told : (t : Task Piece) (n : ℕ) → TellsToEnd theJob (small_inner reads) S t → theJob.ended n t ≡ true → Each (Around theJob (small_inner reads) S) (made_in (theJob.acts n t))
+  end_told t n s k =
+      each_all (Around theJob (small_inner reads) S) (made_in (theJob.acts n t)) (λ d x. go d (made_main reads t d (later_made reads n t d x)))
+    where
+      go : (d : Piece) → (t ≡ of f.main) × In d (f.one ∷ f.two ∷ f.text ∷ f.left ∷ f.right ∷ []) → Around theJob (small_inner reads) S d
+      go d x =
+          five_around reads S (five_end reads S (subst (λ u. TellsToEnd theJob (small_inner reads) S u) x.0 s)) d x.1
+
+  carries_main : (b : Bool) → In f.left S → Each (λ e. In e S) (piece_carries b f.main)
+  carries_main true i = (i, tt)
+  carries_main false i = tt
+
+  object_told : (t : Task Piece) (n : ℕ) (d : Piece) → TellsToEnd theJob (small_inner reads) S t → In d (piece_outputs t) → Each (λ e. In e S) (piece_carries reads d)
+  object_told show n d s i = absurd i
+  object_told (of f.main) n d s i =
+      subst (λ x. Each (λ e. In e S) (piece_carries reads x)) (sym (one_of d f.main i)) (carries_main reads (five_end reads S s).left)
+  object_told (of f.one) n d s i = subst (λ x. Each (λ e. In e S) (piece_carries reads x)) (sym (one_of d f.one i)) tt
+  object_told (of f.two) n d s i = subst (λ x. Each (λ e. In e S) (piece_carries reads x)) (sym (one_of d f.two i)) tt
+  object_told (of f.left) n d s (inl e) = subst (λ x. Each (λ e. In e S) (piece_carries reads x)) (sym e) tt
+  object_told (of f.left) n d s (inr i) = subst (λ x. Each (λ e. In e S) (piece_carries reads x)) (sym (one_of d f.right i)) tt
+  object_told (of f.right) n d s i = absurd i
+  object_told (of f.text) n d s i = absurd i
+
+main_outputs : (t : Task Piece) → piece_task f.main ≡ Some t → piece_outputs t ≡ f.main ∷ []
+main_outputs t h = let e : of f.main ≡ t = cc in ap piece_outputs (sym e)
+
+main_own : (e : Piece) → piece_task f.main ≡ Some (of e) → e ≡ f.main
+main_own e h = cc
+
+carries_none : (reads : Bool) (d : Piece) → piece_task d ≡ None → piece_carries reads d ≡ []
+carries_none reads f.main h = cc
+carries_none reads f.one h = refl
+carries_none reads f.two h = refl
+carries_none reads f.left h = refl
+carries_none reads f.right h = refl
+carries_none reads f.text h = refl
+
 pub small_knows : (reads : Bool) → Knows (fixed_job (small_lists reads)) (small_inner reads)
 small_knows reads =
     record {
       main_inside = refl;
       main_outputs = main_outputs;
+      main_own = main_own;
+      batches = λ n t. batches reads n t;
       input_carries = λ d n h. carries_none reads d h;
-      start_show = λ d h. one_of d f.main (held_is reads show 0 d h);
-      start_holds = λ d e h. held_inside e d (held_is reads (of e) 0 d h);
-      start_waits = λ d e i. first_inside e d i;
-      waits_told = λ S t j i ds l s w. waits_told reads S t j i ds l s w;
-      holds_told = λ S t j i a l s w. holds_told reads S t j i a l s w;
-      made_told = λ S t j i n l s k. made_told reads S t j i n l s k;
-      end_told = λ S t j n s k. end_told reads S t j n s k;
-      object_told = λ S t j n d s i. object_told reads S t j n d s i;
+      waits_told = λ S t i ds s w. waits_told reads S t i ds s w;
+      holds_told = λ S t i ds a s w at. holds_told reads S t i a s at;
+      made_told = λ S t i n s k. made_told reads S t i n s k;
+      end_told = λ S t n s k. end_told reads S t n s k;
+      object_told = λ S t n d s i. object_told reads S t n d s i;
     }

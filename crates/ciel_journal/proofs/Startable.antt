@@ -1,20 +1,21 @@
 -- What is reached is in the book, so each ready task stands in the list of ready tasks and may be started.
-use Rattle.std.proofs.Common.{◌≡◌, ℕ, zero, suc, ◌+◌, ◌≤◌, ◌<◌, List, [], ◌∷◌, ◌++◌, length, Bool, true, false, not, cond, ◌&&◌, ◌||◌, Some, None, ◌⊎◌, inl, inr, refl, ap, sym, ◌∙◌, subst, arith, nat_eq}
+use Rattle.std.proofs.Common.{◌≡◌, ℕ, zero, suc, ◌+◌, ◌≤◌, ◌<◌, List, [], ◌∷◌, ◌++◌, length, Bool, true, false, not, cond, ◌&&◌, ◌||◌, Some, None, ◌⊎◌, inl, inr, refl, ap, sym, ◌∙◌, subst, arith, nat_eq, eq-eqb}
 use Rattle.std.specs.List.{list_any}
 use Rattle.ciel_journal.specs.Job.{Task, show, of, Job, In, Each, IsJob}
-use Rattle.ciel_journal.specs.History.{Event, start, Order, Plan, Save, Standing, after, after_all, before_all, last, live, needs, needs_of, standing, last_save}
-use Rattle.ciel_journal.specs.Lawful.{Lawful, LawfulFrom, NoClash, Step, own_name}
-use Rattle.ciel_journal.specs.Known.{Inner, Knows}
+use Rattle.ciel_journal.specs.History.{Event, start, OpenStart, Plan, Save, Standing, after, after_all, before_all, last, live, needs, needs_of, standing, last_save}
+use Rattle.ciel_journal.specs.Lawful.{HeldAt, Lawful, LawfulFrom, NoClash, Step, own_name}
+use Rattle.ciel_journal.specs.Known.{Begins, Inner, Knows, TellsTo}
 use Rattle.ciel_journal.specs.Graph.{root, through}
 use Rattle.ciel_journal.specs.Turns.{CircleAtRest, IsReadyList, Reached, Ready, busy, idle, idle_from, is_first, is_idle, tasks_of}
 use Rattle.ciel_journal.proofs.Picked.{picks_in}
 use Rattle.ciel_journal.proofs.Append.{lawful_append}
 use Rattle.ciel_journal.proofs.BookKnown.{Informed, informed_all, informed_start, last_cases}
-use Rattle.ciel_journal.proofs.Good.{last_ok, reached_needed}
+use Rattle.ciel_journal.proofs.Good.{SaveOk, last_ok, reached_needed}
 use Rattle.ciel_journal.proofs.Members.{each_of, in_any}
 use Rattle.ciel_journal.proofs.Near.{each_all, ready_or_round}
 use Rattle.ciel_journal.proofs.Published.{book_apart}
 use Rattle.ciel_journal.proofs.Starts.{wait_unique}
+use Rattle.ciel_journal.proofs.Traced.{traced}
 
 and_parts : (b c : Bool) → b && c ≡ true → (b ≡ true) × (c ≡ true)
 and_parts true c h = (refl, h)
@@ -37,6 +38,10 @@ module _ {D : Type 0} (job : Job D) (laws : IsJob job) (inner : Inner D) (knows 
     own_booked d (of x) i e =
         each_of (λ y. In y v.book) x (job.outputs (of x)) (laws.made_by x (of x) (laws.own x d e)) (outputs_booked d (of x) i e)
 
+    -- before its wait 0 a task saw nothing and made nothing
+    nothing_yet : (t : Task D) → Begins job inner v.book t → TellsTo job inner v.book t 0
+    nothing_yet t b = record { begins = b; reads = λ k ds d e m l w i c. absurd (omega (arith, l)); makes = λ m l. tt }
+
     needs_booked : (t : Task D) → In (own_name job t) v.book → (d : D) → In d (needs job v t) → In d v.book
     needs_booked t own d i = pick (last_cases job laws inner knows t v.saves)
       where
@@ -44,7 +49,7 @@ module _ {D : Type 0} (job : Job D) (laws : IsJob job) (inner : Inner D) (knows 
         at_first show o j =
             each_of (λ y. In y v.book) d (job.main ∷ []) (subst (In d) laws.first_show j) (inf.shelved.main, tt)
         at_first (of x) o j =
-            each_of (λ y. In y v.book) d (inner.inside x) (knows.start_waits d x j) (inf.whole x o).0
+            each_of (λ y. In y v.book) d (job.first (of x)) j (knows.waits_told v.book (of x) 0 (job.first (of x)) (nothing_yet (of x) (inf.whole x o).0) refl)
 
         pick : ((last_save job t v.saves ≡ None) ⊎ ((s : Save D) × In s v.saves × (s.task ≡ t) × (last_save job t v.saves ≡ Some s))) → In d v.book
         pick (inl n) = at_first t own (subst (λ o. In d (needs_of job t o)) n i)
@@ -111,7 +116,7 @@ module _ {D : Type 0} (job : Job D) (laws : IsJob job) (inner : Inner D) (knows 
         pick true e (inr j) r = later r j
         pick false e j r = later r j
 
-    busy_test : (os : List (Order D)) (w : ℕ) → list_any (nat_eq w) (busy job os) ≡ list_any (λ (o : Order D). nat_eq w o.worker) os
+    busy_test : (os : List (OpenStart D)) (w : ℕ) → list_any (nat_eq w) (busy job os) ≡ list_any (λ (o : OpenStart D). nat_eq w o.worker) os
     busy_test [] w = refl
     busy_test (o ∷ os) w = ap (λ b. nat_eq w o.worker || b) (busy_test os w)
 
@@ -138,9 +143,33 @@ module _ {D : Type 0} (job : Job D) (laws : IsJob job) (inner : Inner D) (knows 
           apart = apart;
         }
 
-  informed : (p : Plan) (h : List (Event D)) → Lawful job p h → Informed job laws inner knows (standing job h)
+  pub informed : (p : Plan) (h : List (Event D)) → Lawful job p h → Informed job laws inner knows (standing job h)
   informed p h l =
       informed_all job laws inner knows p (before_all job) h (informed_start job laws inner knows) l
+
+  -- what some worker has is in the book, with all that its object holds
+  pub placed_booked : (p : Plan) (h : List (Event D)) → Lawful job p h → (d : D) (w : ℕ) → In w ((standing job h).places d) → In d (standing job h).book × ((n : ℕ) → Each (λ e. In e (standing job h).book) (inner.carries n d))
+  placed_booked p h l d w i = (inf.shelved.places d w has, λ n. each_all (λ e. In e (standing job h).book) (inner.carries n d) (λ e c. inf.carried d w has n e c))
+    where
+      inf : Informed job laws inner knows (standing job h)
+      inf = informed p h l
+
+      has : list_any (nat_eq w) ((standing job h).places d) ≡ true
+      has = in_any nat_eq (λ a. eq-eqb a a refl) w ((standing job h).places d) i
+
+  -- so is what is waited for at a saved wait, and held there
+  pub saved_booked : (p : Plan) (h : List (Event D)) → Lawful job p h → (s : Save D) → In s (standing job h).saves → Each (λ d. In d (standing job h).book) s.refs × Each (λ d. In d (standing job h).book) s.holds
+  saved_booked p h l s i =
+      let k = (informed p h l).saves s i in
+      let t = (traced job laws p h l).saves s i in
+      let w = each_of (SaveOk job laws) s (standing job h).saves i (informed p h l).saves_ok in
+      (k.refs, knows.holds_told (standing job h).book s.task s.j s.refs (record { names = s.holds; mark = t.2 }) k.told w t.3)
+
+  -- and what the task of an open Start held
+  pub open_booked : (p : Plan) (h : List (Event D)) → Lawful job p h → (o : OpenStart D) → In o (standing job h).orders → (d : D) → HeldAt job o.task o.from d → In d (standing job h).book
+  open_booked p h l o i d k =
+      let n = (informed p h l).orders o i in
+      each_of (λ e. In e (standing job h).book) d k.1.names k.3 (knows.holds_told (standing job h).book o.task o.from n.here.0 k.1 n.told n.here.1 (k.0, k.2))
 
   room_all : (p : Plan) (v : Standing D) (h : List (Event D)) → length v.book ≤ p.limit → LawfulFrom job p v h → length (after_all job v h).book ≤ p.limit
   room_all p v [] r l = r

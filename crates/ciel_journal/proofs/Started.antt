@@ -2,7 +2,7 @@
 use Rattle.std.proofs.Common.{◌≡◌, ℕ, zero, suc, ◌+◌, ◌*◌, ◌≤◌, List, [], ◌∷◌, ◌++◌, length, length-append, true, false, ◌||◌, nat_eq, Option, Some, None, ◌⊎◌, inl, inr, refl, ap, sym, ◌∙◌, subst, arith, ◌↔◌, eq-eqb}
 use Rattle.std.specs.List.{list_any}
 use Rattle.ciel_journal.specs.Job.{Task, show, Job, In, IsJob, WaitOf, Needed}
-use Rattle.ciel_journal.specs.History.{Event, start, done, saved, missed, lost, Order, Plan, Standing, live, live_if, after, after_all, before_all, standing, find_order, close_with, done_with, saved_with, missed_with}
+use Rattle.ciel_journal.specs.History.{Event, start, done, saved, missed, lost, OpenStart, Plan, Standing, live, live_if, after, after_all, before_all, standing, find_open, close_with, done_with, saved_with, missed_with}
 use Rattle.ciel_journal.specs.Lawful.{Lawful}
 use Rattle.ciel_journal.specs.Live.{Live}
 use Rattle.ciel_journal.specs.Work.{Slot, same_slot, Covers, Work, total, starts_of, losses_of}
@@ -58,21 +58,21 @@ module _ {D : Type 0} (job : Job D) (laws : IsJob job) where
   starts_after v (start k w t from ∷ es) =
       let a = starts_after (after job v (start k w t from)) es in omega (arith, a)
   starts_after v (done k made copied spawned ∷ es) =
-      starts_after (after job v (done k made copied spawned)) es ∙ ap (λ n. n + starts_of job es) (same (find_order job k v.orders))
+      starts_after (after job v (done k made copied spawned)) es ∙ ap (λ n. n + starts_of job es) (same (find_open job k v.orders))
     where
-      same : (o : Option (Order D)) → (close_with job (done_with job made copied spawned) v k o).starts ≡ v.starts
+      same : (o : Option (OpenStart D)) → (close_with job (done_with job made copied spawned) v k o).starts ≡ v.starts
       same None = refl
       same (Some o) = refl
   starts_after v (saved k j mark refs holds spawned ∷ es) =
-      starts_after (after job v (saved k j mark refs holds spawned)) es ∙ ap (λ n. n + starts_of job es) (same (find_order job k v.orders))
+      starts_after (after job v (saved k j mark refs holds spawned)) es ∙ ap (λ n. n + starts_of job es) (same (find_open job k v.orders))
     where
-      same : (o : Option (Order D)) → (close_with job (saved_with job j refs holds spawned) v k o).starts ≡ v.starts
+      same : (o : Option (OpenStart D)) → (close_with job (saved_with job j refs holds spawned) v k o).starts ≡ v.starts
       same None = refl
       same (Some o) = refl
   starts_after v (missed k d loss ∷ es) =
-      starts_after (after job v (missed k d loss)) es ∙ ap (λ n. n + starts_of job es) (same (find_order job k v.orders))
+      starts_after (after job v (missed k d loss)) es ∙ ap (λ n. n + starts_of job es) (same (find_open job k v.orders))
     where
-      same : (o : Option (Order D)) → (close_with job (missed_with job) v k o).starts ≡ v.starts
+      same : (o : Option (OpenStart D)) → (close_with job (missed_with job) v k o).starts ≡ v.starts
       same None = refl
       same (Some o) = refl
   starts_after v (lost w closes ∷ es) = starts_after (after job v (lost w closes)) es

@@ -2,7 +2,7 @@
 use Rattle.std.proofs.Common.{◌≡◌, ℕ, ◌+◌, ◌<◌, List, [], ◌∷◌, ◌++◌, append_assoc, append-nil, Bool, true, false, not, cond, ◌||◌, nat_eq, ◌⊎◌, inl, inr, refl, ap, sym, ◌∙◌, subst, arith, filter, eqb-true, eq-eqb, ◌↔◌}
 use Rattle.std.specs.List.{list_any}
 use Rattle.ciel_journal.specs.Job.{Digest, In, IsJob, Job, Task}
-use Rattle.ciel_journal.specs.History.{Event, Order, Plan, Standing, after, after_all, before_all, done, lost, missed, names_of, order_of, placed, saved, start}
+use Rattle.ciel_journal.specs.History.{Event, OpenStart, Plan, Standing, after, after_all, before_all, done, lost, missed, names_of, order_of, placed, saved, start}
 use Rattle.ciel_journal.specs.Live.{Published, LostIn}
 use Rattle.ciel_journal.specs.Lawful.{Lawful, LawfulFrom, Step}
 use Rattle.ciel_journal.proofs.Members.{bool_cases, or_true}
@@ -79,7 +79,7 @@ module _ {D : Type 0} (job : Job D) (laws : IsJob job) where
     pub numbered : Numbered job laws v
     pub told : (w : ℕ) (d : D) → Has v.places w d → Published g w d × (LostIn g w → ⊥)
     pub stands : (w : ℕ) (d : D) → Published g w d → (LostIn g w → ⊥) → Has v.places w d
-    pub orders : (o : Order D) → In o v.orders → In (start o.number o.worker o.task o.from) g × (LostIn g o.worker → ⊥)
+    pub orders : (o : OpenStart D) → In o v.orders → In (start o.number o.worker o.task o.from) g × (LostIn g o.worker → ⊥)
     pub below : (k w : ℕ) (t : Task D) (f : ℕ) → In (start k w t f) g → k < v.starts
     pub closes : (k : ℕ) (made : List (D × Digest)) (copied spawned : List D) → In (done k made copied spawned) g → k < v.starts
     pub one : (k w : ℕ) (t : Task D) (f u : ℕ) (s : Task D) (i : ℕ) → In (start k w t f) g → In (start k u s i) g → w ≡ u
@@ -130,7 +130,7 @@ module _ {D : Type 0} (job : Job D) (laws : IsJob job) where
       record { number = p.number; task = p.task; from = p.from; begun = quiet_start g e q p.number w p.task p.from p.begun; made = p.made; copied = p.copied; spawned = p.spawned; ended = quiet_done g e q p.number p.made p.copied p.spawned p.ended; has = p.has }
 
   -- a step that only takes open Starts away
-  says_less : (g : List (Event D)) (e : Event D) (v u : Standing D) → Says g v → NotLost e → Quiet e → Numbered job laws u → u.places ≡ v.places → u.starts ≡ v.starts → u.gone ≡ v.gone → ((o : Order D) → In o u.orders → In o v.orders) → Says (g ++ e ∷ []) u
+  says_less : (g : List (Event D)) (e : Event D) (v u : Standing D) → Says g v → NotLost e → Quiet e → Numbered job laws u → u.places ≡ v.places → u.starts ≡ v.starts → u.gone ≡ v.gone → ((o : OpenStart D) → In o u.orders → In o v.orders) → Says (g ++ e ∷ []) u
   says_less g e v u s n q num pl st go ou =
       record {
         numbered = num;
@@ -151,7 +151,7 @@ module _ {D : Type 0} (job : Job D) (laws : IsJob job) where
         numbered = subst (Numbered job laws) (after_done job laws v k made copied spawned step.allowed.0 step.allowed.1) (numbered_step job laws p v (done k made copied spawned) s.numbered step);
         told = told;
         stands = stands;
-        orders = λ o i. let a = s.orders o (in_filter (λ (q : Order D). not (nat_eq k q.number)) o v.orders i) in (more g e _ a.0, λ l. a.1 (lost_back g e no o.worker l));
+        orders = λ o i. let a = s.orders o (in_filter (λ (q : OpenStart D). not (nat_eq k q.number)) o v.orders i) in (more g e _ a.0, λ l. a.1 (lost_back g e no o.worker l));
         below = λ j w t f i. s.below j w t f (starts j w t f i);
         closes = λ j m c x i. closes j m c x (in_last (done j m c x) g e i);
         one = λ j w t f y z i a b. s.one j w t f y z i (starts j w t f a) (starts j y z i b);
@@ -258,10 +258,10 @@ module _ {D : Type 0} (job : Job D) (laws : IsJob job) where
               let a = s.closes q.number q.made q.copied q.spawned ended in
               let b = step.allowed.number in absurd (omega (arith, n, a, b))
 
-      orders : (o : Order D) → (In o v.orders ⊎ (o ≡ order_of job v k w t from)) → In (start o.number o.worker o.task o.from) (g ++ start k w t from ∷ []) × (LostIn (g ++ start k w t from ∷ []) o.worker → ⊥)
+      orders : (o : OpenStart D) → (In o v.orders ⊎ (o ≡ order_of job v k w t from)) → In (start o.number o.worker o.task o.from) (g ++ start k w t from ∷ []) × (LostIn (g ++ start k w t from ∷ []) o.worker → ⊥)
       orders o (inl i) = let a = s.orders o i in (more g (start k w t from) _ a.0, λ l. a.1 (lost_back g (start k w t from) no o.worker l))
       orders o (inr h) =
-          subst (λ (q : Order D). In (start q.number q.worker q.task q.from) (g ++ start k w t from ∷ []) × (LostIn (g ++ start k w t from ∷ []) q.worker → ⊥)) (sym h)
+          subst (λ (q : OpenStart D). In (start q.number q.worker q.task q.from) (g ++ start k w t from ∷ []) × (LostIn (g ++ start k w t from ∷ []) q.worker → ⊥)) (sym h)
           (last_in g (start k w t from), λ l. let a = s.gone w (lost_back g (start k w t from) no w l) in let b = step.allowed.here in let bad : true ≡ false = sym a ∙ b in cc)
 
       below : (j x : ℕ) (u : Task D) (f : ℕ) → (In (start j x u f) g ⊎ (start j x u f ≡ start k w t from)) → j < v.starts + 1
@@ -286,7 +286,7 @@ module _ {D : Type 0} (job : Job D) (laws : IsJob job) where
         numbered = numbered_step job laws p v (lost w c) s.numbered step;
         told = λ x d h. let a = filter_has w x (v.places d) h in let b = s.told x d a.0 in (pub_more g (lost w c) x d b.0, λ l. cases x a.1 b.1 (in_last (lost x l.0) g (lost w c) l.1));
         stands = λ x d q l. has_filter w x (v.places d) (s.stands x d (quiet_back g (lost w c) quiet x d q) (λ y. l (lost_on g (lost w c) x y))) (λ e. l (c, subst (λ y. In (lost y c) (g ++ lost w c ∷ [])) e (last_in g (lost w c))));
-        orders = λ o i. let a = s.orders o (in_filter (λ (q : Order D). not (nat_eq w q.worker)) o v.orders i) in (more g (lost w c) _ a.0, λ l. cases o.worker (apart o v.orders i) a.1 (in_last (lost o.worker l.0) g (lost w c) l.1));
+        orders = λ o i. let a = s.orders o (in_filter (λ (q : OpenStart D). not (nat_eq w q.worker)) o v.orders i) in (more g (lost w c) _ a.0, λ l. cases o.worker (apart o v.orders i) a.1 (in_last (lost o.worker l.0) g (lost w c) l.1));
         below = λ k x t f i. s.below k x t f (quiet_start g (lost w c) quiet k x t f i);
         closes = λ k m y x i. s.closes k m y x (quiet_done g (lost w c) quiet k m y x i);
         one = λ k x t f y z i a b. s.one k x t f y z i (quiet_start g (lost w c) quiet k x t f a) (quiet_start g (lost w c) quiet k y z i b);
@@ -305,19 +305,19 @@ module _ {D : Type 0} (job : Job D) (laws : IsJob job) where
       gone x {n} (inl i) = any_join_left (nat_eq x) v.gone (w ∷ []) (s.gone x (n, i))
       gone x {n} (inr h) = let q : x ≡ w = cc in any_join_last (nat_eq x) v.gone w (eq-eqb x w q)
 
-      apart : (o : Order D) (os : List (Order D)) → In o (filter (λ (q : Order D). not (nat_eq w q.worker)) os) → w ≡ o.worker → ⊥
+      apart : (o : OpenStart D) (os : List (OpenStart D)) → In o (filter (λ (q : OpenStart D). not (nat_eq w q.worker)) os) → w ≡ o.worker → ⊥
       apart o [] i e = absurd i
       apart o (y ∷ ys) i e = pick (bool_cases (nat_eq w y.worker)) (apart o ys)
         where
-          F : Bool → List (Order D)
-          F b = cond (not b) (y ∷ filter (λ (q : Order D). not (nat_eq w q.worker)) ys) (filter (λ (q : Order D). not (nat_eq w q.worker)) ys)
+          F : Bool → List (OpenStart D)
+          F b = cond (not b) (y ∷ filter (λ (q : OpenStart D). not (nat_eq w q.worker)) ys) (filter (λ (q : OpenStart D). not (nat_eq w q.worker)) ys)
 
-          pick : ((nat_eq w y.worker ≡ true) ⊎ (nat_eq w y.worker ≡ false)) → (In o (filter (λ (q : Order D). not (nat_eq w q.worker)) ys) → w ≡ o.worker → ⊥) → ⊥
-          pick (inl t) r = r (subst (λ b. In o (cond (not b) (y ∷ filter (λ (q : Order D). not (nat_eq w q.worker)) ys) (filter (λ (q : Order D). not (nat_eq w q.worker)) ys))) t i) e
-          pick (inr f) r = turn (subst (λ b. In o (cond (not b) (y ∷ filter (λ (q : Order D). not (nat_eq w q.worker)) ys) (filter (λ (q : Order D). not (nat_eq w q.worker)) ys))) f i)
+          pick : ((nat_eq w y.worker ≡ true) ⊎ (nat_eq w y.worker ≡ false)) → (In o (filter (λ (q : OpenStart D). not (nat_eq w q.worker)) ys) → w ≡ o.worker → ⊥) → ⊥
+          pick (inl t) r = r (subst (λ b. In o (cond (not b) (y ∷ filter (λ (q : OpenStart D). not (nat_eq w q.worker)) ys) (filter (λ (q : OpenStart D). not (nat_eq w q.worker)) ys))) t i) e
+          pick (inr f) r = turn (subst (λ b. In o (cond (not b) (y ∷ filter (λ (q : OpenStart D). not (nat_eq w q.worker)) ys) (filter (λ (q : OpenStart D). not (nat_eq w q.worker)) ys))) f i)
             where
-              turn : ((o ≡ y) ⊎ In o (filter (λ (q : Order D). not (nat_eq w q.worker)) ys)) → ⊥
-              turn (inl h) = let q : nat_eq w y.worker ≡ true = eq-eqb w y.worker (e ∙ ap (λ (z : Order D). z.worker) h) in cc
+              turn : ((o ≡ y) ⊎ In o (filter (λ (q : OpenStart D). not (nat_eq w q.worker)) ys)) → ⊥
+              turn (inl h) = let q : nat_eq w y.worker ≡ true = eq-eqb w y.worker (e ∙ ap (λ (z : OpenStart D). z.worker) h) in cc
               turn (inr j) = r j e
 
   pub says_step : (p : Plan) (g : List (Event D)) (v : Standing D) (e : Event D) → Says g v → Step job p v e → Says (g ++ e ∷ []) (after job v e)
@@ -326,11 +326,11 @@ module _ {D : Type 0} (job : Job D) (laws : IsJob job) where
   says_step p g v (saved k j mark refs holds spawned) s step =
       let a = after_saved job laws v k j mark refs holds spawned step.allowed.0 step.allowed.1 in
       subst (Says (g ++ saved k j mark refs holds spawned ∷ [])) (sym a)
-      (says_less g (saved k j mark refs holds spawned) v _ s (λ w c h. cc) ((λ x w t f h. cc), (λ x m c z h. cc)) (subst (Numbered job laws) a (numbered_step job laws p v (saved k j mark refs holds spawned) s.numbered step)) refl refl refl (λ o i. in_filter (λ (q : Order D). not (nat_eq k q.number)) o v.orders i))
+      (says_less g (saved k j mark refs holds spawned) v _ s (λ w c h. cc) ((λ x w t f h. cc), (λ x m c z h. cc)) (subst (Numbered job laws) a (numbered_step job laws p v (saved k j mark refs holds spawned) s.numbered step)) refl refl refl (λ o i. in_filter (λ (q : OpenStart D). not (nat_eq k q.number)) o v.orders i))
   says_step p g v (missed k d loss) s step =
       let a = after_missed job laws v k d loss step.allowed.0 step.allowed.1 in
       subst (Says (g ++ missed k d loss ∷ [])) (sym a)
-      (says_less g (missed k d loss) v _ s (λ w c h. cc) ((λ x w t f h. cc), (λ x m c z h. cc)) (subst (Numbered job laws) a (numbered_step job laws p v (missed k d loss) s.numbered step)) refl refl refl (λ o i. in_filter (λ (q : Order D). not (nat_eq k q.number)) o v.orders i))
+      (says_less g (missed k d loss) v _ s (λ w c h. cc) ((λ x w t f h. cc), (λ x m c z h. cc)) (subst (Numbered job laws) a (numbered_step job laws p v (missed k d loss) s.numbered step)) refl refl refl (λ o i. in_filter (λ (q : OpenStart D). not (nat_eq k q.number)) o v.orders i))
   says_step p g v (lost w c) s step = says_lost p g v w c s step
 
   says_all : (p : Plan) (g : List (Event D)) (v : Standing D) (h : List (Event D)) → Says g v → LawfulFrom job p v h → Says (g ++ h) (after_all job v h)

@@ -2,7 +2,7 @@
 use Rattle.std.proofs.Common.{◌≡◌, ℕ, suc, ◌+◌, List, [], ◌∷◌, ◌++◌, cond, Option, Some, None, refl, ap, sym, ◌∙◌, arith}
 use Rattle.std.specs.List.{list_any}
 use Rattle.ciel_journal.specs.Job.{Job, IsJob}
-use Rattle.ciel_journal.specs.History.{Event, Order, Plan, Standing, after, after_all, before_all, close_with, done, done_with, find_order, learned, lost, missed, missed_with, saved, saved_with, standing, start}
+use Rattle.ciel_journal.specs.History.{Event, OpenStart, Plan, Standing, after, after_all, before_all, close_with, done, done_with, find_open, learned, lost, missed, missed_with, saved, saved_with, standing, start}
 use Rattle.ciel_journal.specs.Lawful.{Lawful, LawfulFrom}
 use Rattle.ciel_journal.specs.Live.{closes_of, spawned_of}
 use Rattle.ciel_journal.specs.Work.{starts_of}
@@ -17,21 +17,21 @@ module _ {D : Type 0} (job : Job D) where
   closes_after v [] = omega arith
   closes_after v (start k w t from ∷ es) = closes_after (after job v (start k w t from)) es
   closes_after v (done k made copied spawned ∷ es) =
-      closes_after (after job v (done k made copied spawned)) es ∙ swap (after job v (done k made copied spawned)).closes v.closes (closes_of es) (same (find_order job k v.orders))
+      closes_after (after job v (done k made copied spawned)) es ∙ swap (after job v (done k made copied spawned)).closes v.closes (closes_of es) (same (find_open job k v.orders))
     where
-      same : (o : Option (Order D)) → (close_with job (done_with job made copied spawned) v k o).closes ≡ v.closes + 1
+      same : (o : Option (OpenStart D)) → (close_with job (done_with job made copied spawned) v k o).closes ≡ v.closes + 1
       same None = refl
       same (Some o) = refl
   closes_after v (saved k j mark refs holds spawned ∷ es) =
-      closes_after (after job v (saved k j mark refs holds spawned)) es ∙ swap (after job v (saved k j mark refs holds spawned)).closes v.closes (closes_of es) (same (find_order job k v.orders))
+      closes_after (after job v (saved k j mark refs holds spawned)) es ∙ swap (after job v (saved k j mark refs holds spawned)).closes v.closes (closes_of es) (same (find_open job k v.orders))
     where
-      same : (o : Option (Order D)) → (close_with job (saved_with job j refs holds spawned) v k o).closes ≡ v.closes + 1
+      same : (o : Option (OpenStart D)) → (close_with job (saved_with job j refs holds spawned) v k o).closes ≡ v.closes + 1
       same None = refl
       same (Some o) = refl
   closes_after v (missed k d loss ∷ es) =
-      closes_after (after job v (missed k d loss)) es ∙ swap (after job v (missed k d loss)).closes v.closes (closes_of es) (same (find_order job k v.orders))
+      closes_after (after job v (missed k d loss)) es ∙ swap (after job v (missed k d loss)).closes v.closes (closes_of es) (same (find_open job k v.orders))
     where
-      same : (o : Option (Order D)) → (close_with job (missed_with job) v k o).closes ≡ v.closes + 1
+      same : (o : Option (OpenStart D)) → (close_with job (missed_with job) v k o).closes ≡ v.closes + 1
       same None = refl
       same (Some o) = refl
   closes_after v (lost w closes ∷ es) = closes_after (after job v (lost w closes)) es

@@ -1,9 +1,9 @@
 -- A line of the journal and what stands before it tell the whole event.
 use Rattle.std.proofs.Common.{◌≡◌, ℕ, zero, suc, ◌+◌, ◌-◌, ◌≤◌, ◌<◌, List, [], ◌∷◌, ◌++◌, length, Some, ◌⊎◌, inl, inr, refl, ap, sym, ◌∙◌, subst, arith, add_comm}
 use Rattle.ciel_journal.specs.Job.{Act, Digest, Each, Held, In, IsJob, Job, Task, ObjectOf, StateOf, after_wait, made, made_before, made_in, of, show, wait, waits_in}
-use Rattle.ciel_journal.specs.History.{Event, Order, Plan, Standing, after, before_all, done, find_order, lost, missed, saved, start}
+use Rattle.ciel_journal.specs.History.{Event, OpenStart, Plan, Standing, after, before_all, done, find_open, lost, missed, saved, start}
 use Rattle.ciel_journal.specs.Lawful.{Copied, DoneAllowed, FetchedFrom, HeldAt, Lawful, LawfulFrom, Marked, MissedAllowed, NoClash, SavedAllowed, SpawnedTo, SpawnedToEnd, Step, own_name}
-use Rattle.ciel_journal.specs.Names.{journal_of, low, low_names, low_task}
+use Rattle.ciel_journal.specs.Entries.{journal_of, low, low_names, low_task}
 use Rattle.ciel_journal.proofs.Members.{each_of}
 use Rattle.ciel_journal.proofs.Circle.{acts_grow, ended_stays}
 use Rattle.ciel_journal.proofs.Numbers.{found_in}
@@ -31,7 +31,7 @@ module _ {D : Type 0} where
 
 module _ {D : Type 0} (job : Job D) (laws : IsJob job) where
   -- what was spawned up to a wait
-  spawned_more : (o : Order D) (i : ℕ) (n m : ℕ) → o.from ≤ i → i ≤ length (waits_in (job.acts n o.task)) → made_before (i - o.from) (after_wait o.from (job.acts (m + n) o.task)) ≡ made_before (i - o.from) (after_wait o.from (job.acts n o.task))
+  spawned_more : (o : OpenStart D) (i : ℕ) (n m : ℕ) → o.from ≤ i → i ≤ length (waits_in (job.acts n o.task)) → made_before (i - o.from) (after_wait o.from (job.acts (m + n) o.task)) ≡ made_before (i - o.from) (after_wait o.from (job.acts n o.task))
   spawned_more o i n m f l =
       let p = acts_grow job laws m n o.task in
       let w = after_waits o.from (job.acts n o.task) in
@@ -39,13 +39,13 @@ module _ {D : Type 0} (job : Job D) (laws : IsJob job) where
       ∙ (ap (made_before (i - o.from)) (after_join o.from (job.acts n o.task) p.0 (omega (arith, f, l)))
       ∙ before_join (i - o.from) (after_wait o.from (job.acts n o.task)) p.0 (omega (arith, w, l)))
 
-  pub spawned_to_unique : (o : Order D) (i : ℕ) (a b : List D) → o.from < i → SpawnedTo job o i a → SpawnedTo job o i b → a ≡ b
+  pub spawned_to_unique : (o : OpenStart D) (i : ℕ) (a b : List D) → o.from < i → SpawnedTo job o i a → SpawnedTo job o i b → a ≡ b
   spawned_to_unique o i a b f x y =
       let p = spawned_more o i x.0 y.0 (omega (arith, f)) x.1 in
       let q = spawned_more o i y.0 x.0 (omega (arith, f)) y.1 in
       x.2 ∙ (sym p ∙ (ap (λ n. made_before (i - o.from) (after_wait o.from (job.acts n o.task))) (add_comm y.0 x.0) ∙ (q ∙ sym y.2)))
 
-  pub spawned_end_unique : (o : Order D) (a b : List D) → SpawnedToEnd job o a → SpawnedToEnd job o b → a ≡ b
+  pub spawned_end_unique : (o : OpenStart D) (a b : List D) → SpawnedToEnd job o a → SpawnedToEnd job o b → a ≡ b
   spawned_end_unique o a b x y =
       let p = (ended_stays job laws y.0 x.0 o.task x.1).0 in
       let q = (ended_stays job laws x.0 y.0 o.task y.1).0 in
@@ -86,7 +86,7 @@ module _ {D : Type 0} (job : Job D) (laws : IsJob job) where
       let h : x ≡ y = ap (λ (z : D). (z, x.1)) m ∙ ap (λ (i : Digest). (y.0, i)) n in
       ap (λ z. z ∷ xs) h ∙ ap (λ zs. y ∷ zs) (same_marked ds xs ys a.2 b.2)
 
-  pub same_found : (v : Standing D) (k : ℕ) (o q : Order D) → find_order job k v.orders ≡ Some o → find_order job k v.orders ≡ Some q → o ≡ q
+  pub same_found : (v : Standing D) (k : ℕ) (o q : OpenStart D) → find_open job k v.orders ≡ Some o → find_open job k v.orders ≡ Some q → o ≡ q
   same_found v k o q a b = let e : Some o ≡ Some q = sym a ∙ b in cc
 
   -- ---- events with one entry
@@ -100,16 +100,16 @@ module _ {D : Type 0} (job : Job D) (laws : IsJob job) where
       let t : low_names job xs ≡ low_names job ys = cc in
       ap (λ z. z ∷ xs) (c x y a.0 b.0 n) ∙ ap (λ zs. y ∷ zs) (same_names book c xs ys a.1 b.1 t)
 
-  copied_in : (v : Standing D) → Shelved job laws v → (o : Order D) → In o v.orders → (copied : List D) → Each (Copied job o) copied → Each (λ d. In d v.book) copied
+  copied_in : (v : Standing D) → Shelved job laws v → (o : OpenStart D) → In o v.orders → (copied : List D) → Each (Copied job o) copied → Each (λ d. In d v.book) copied
   copied_in v s o f [] h = tt
   copied_in v s o f (d ∷ ds) h = (fetched_in job laws v s o f d h.0.1.0 h.0.1.1, copied_in v s o f ds h.1)
 
-  missed_in : (p : Plan) (v : Standing D) → Shelved job laws v → (o : Order D) → In o v.orders → (d : D) (loss : ℕ) → MissedAllowed job p v o d loss → In d v.book
+  missed_in : (p : Plan) (v : Standing D) → Shelved job laws v → (o : OpenStart D) → In o v.orders → (d : D) (loss : ℕ) → MissedAllowed job p v o d loss → In d v.book
   missed_in p v s o f d loss a = pick a.reason
     where
       pick : ((HeldAt job o.task o.from d × FetchedFrom job o d a.worker) ⊎ ((d ≡ own_name job o.task) × (o.stack ≡ Some a.worker))) → In d v.book
       pick (inl x) = fetched_in job laws v s o f d a.worker x.1
-      pick (inr x) = subst (λ z. In z v.book) (sym x.0) (each_of (λ (q : Order D). In (own_name job q.task) v.book) o v.orders f s.own)
+      pick (inr x) = subst (λ z. In z v.book) (sym x.0) (each_of (λ (q : OpenStart D). In (own_name job q.task) v.book) o v.orders f s.own)
 
   low_same : (v : Standing D) → NoClash job v.book → (t u : Task D) → In (own_name job t) v.book → In (own_name job u) v.book → low_task job t ≡ low_task job u → t ≡ u
   low_same v c show show a b e = refl
@@ -117,13 +117,13 @@ module _ {D : Type 0} (job : Job D) (laws : IsJob job) where
   low_same v c (of d) show a b e = cc
   low_same v c (of d) (of x) a b e = let n : job.name d ≡ job.name x = cc in ap of (c d x a b n)
 
-  same_done : (v : Standing D) → NoClash job v.book → Shelved job laws v → (k : ℕ) (o : Order D) → In o v.orders → (m n : List (D × Digest)) (c d s t : List D) → DoneAllowed job o m c s → DoneAllowed job o n d t → low_names job c ≡ low_names job d → done k m c s ≡ done k n d t
+  same_done : (v : Standing D) → NoClash job v.book → Shelved job laws v → (k : ℕ) (o : OpenStart D) → In o v.orders → (m n : List (D × Digest)) (c d s t : List D) → DoneAllowed job o m c s → DoneAllowed job o n d t → low_names job c ≡ low_names job d → done k m c s ≡ done k n d t
   same_done v clash sh k o f m n c d s t a b y =
       ap (λ z. done k z c s) (same_marked (job.outputs o.task) m n a.marked b.marked)
       ∙ (ap (λ z. done k n z s) (same_names v.book clash c d (copied_in v sh o f c a.fetched) (copied_in v sh o f d b.fetched) y)
       ∙ ap (λ z. done k n d z) (spawned_end_unique o s t a.spawns b.spawns))
 
-  pub same_saved : (k : ℕ) (o : Order D) (j : ℕ) (mark note : Digest) (r q h g s t : List D) → SavedAllowed job o j mark r h s → SavedAllowed job o j note q g t → saved k j mark r h s ≡ saved k j note q g t
+  pub same_saved : (k : ℕ) (o : OpenStart D) (j : ℕ) (mark note : Digest) (r q h g s t : List D) → SavedAllowed job o j mark r h s → SavedAllowed job o j note q g t → saved k j mark r h s ≡ saved k j note q g t
   same_saved k o j mark note r q h g s t a b =
       let w = wait_unique job laws o.task j r q a.next.waits b.next.waits in
       let x = state_unique o.task j (record { names = h; mark = mark }) (record { names = g; mark = note }) a.frozen b.frozen in
@@ -139,7 +139,7 @@ module _ {D : Type 0} (job : Job D) (laws : IsJob job) where
       let names : low_names job d ≡ low_names job f = cc in
       let a = x.allowed in
       let b = y.allowed in
-      let o : a.0 ≡ b.0 = same_found v k a.0 b.0 a.1 (subst (λ i. find_order job i v.orders ≡ Some b.0) (sym z) b.1) in
+      let o : a.0 ≡ b.0 = same_found v k a.0 b.0 a.1 (subst (λ i. find_open job i v.orders ≡ Some b.0) (sym z) b.1) in
       let b' : DoneAllowed job a.0 n f t = subst (λ i. DoneAllowed job i n f t) (sym o) b.2 in
       same_done v c sh k a.0 (found_in job laws k v.orders a.0 a.1).0 m n d f s t a.2 b' names ∙ ap (λ i. done i n f t) z
   same_event p q v c sh (saved k j mark r h s) (saved l i note g f t) x y e =
@@ -147,7 +147,7 @@ module _ {D : Type 0} (job : Job D) (laws : IsJob job) where
       let w : j ≡ i = cc in
       let a = x.allowed in
       let b = y.allowed in
-      let o : a.0 ≡ b.0 = same_found v k a.0 b.0 a.1 (subst (λ i. find_order job i v.orders ≡ Some b.0) (sym z) b.1) in
+      let o : a.0 ≡ b.0 = same_found v k a.0 b.0 a.1 (subst (λ i. find_open job i v.orders ≡ Some b.0) (sym z) b.1) in
       let b' : SavedAllowed job a.0 i note g f t = subst (λ u. SavedAllowed job u i note g f t) (sym o) b.2 in
       let b'' : SavedAllowed job a.0 j note g f t = subst (λ u. SavedAllowed job a.0 u note g f t) (sym w) b' in
       same_saved k a.0 j mark note r g h f s t a.2 b'' ∙ (ap (λ u. saved u j note g f t) z ∙ ap (λ u. saved l u note g f t) w)
@@ -187,7 +187,7 @@ module _ {D : Type 0} (job : Job D) (laws : IsJob job) where
       let m : journal_of job g ≡ journal_of job h = cc in
       let s : a ≡ b = same_event p q v c sh a b x.0 y.0 l in
       let y' : LawfulFrom job q (after job v a) h = subst (λ z. LawfulFrom job q (after job v z) h) (sym s) y.1 in
-      let r : g ≡ h = same_from p q (after job v a) x.0.apart (shelved_step job laws p v a sh x.0) g h x.1 y' m in
+      let r : g ≡ h = same_from p q (after job v a) x.0.apart (shelved_step job laws p v a sh x.0.allowed) g h x.1 y' m in
       ap (λ z. z ∷ g) s ∙ ap (λ z. b ∷ z) r
 
   -- the journal of names determines the history

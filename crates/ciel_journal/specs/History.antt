@@ -13,7 +13,7 @@ pub data Event (D : Type 0) : Type 0 where
 
 -- A Start that is open, with what stood when it was made: the workers that had each description, the workers that were
 -- lost, and the worker that had the saved stack
-pub record Order (D : Type 0) : Type 0 where
+pub record OpenStart (D : Type 0) : Type 0 where
   pub number : ℕ
   pub worker : ℕ
   pub task : Task D
@@ -35,7 +35,7 @@ pub record Save (D : Type 0) : Type 0 where
 -- the order of learning, and whether the root task is done
 pub record Standing (D : Type 0) : Type 0 where
   pub starts : ℕ
-  pub orders : List (Order D)
+  pub orders : List (OpenStart D)
   pub gone : List ℕ
   pub places : D → List ℕ
   pub saves : List (Save D)
@@ -107,11 +107,11 @@ module _ {D : Type 0} (job : Job D) where
   needs v t = needs_of t (last_save t v.saves)
 
   abbrev pub is_out : Standing D → Task D → Bool
-  is_out v t = list_any (λ (o : Order D). same_task t o.task) v.orders
+  is_out v t = list_any (λ (o : OpenStart D). same_task t o.task) v.orders
 
-  abbrev pub find_order : ℕ → List (Order D) → Option (Order D)
-  find_order k [] = None
-  find_order k (o ∷ os) = cond (nat_eq k o.number) (Some o) (find_order k os)
+  abbrev pub find_open : ℕ → List (OpenStart D) → Option (OpenStart D)
+  find_open k [] = None
+  find_open k (o ∷ os) = cond (nat_eq k o.number) (Some o) (find_open k os)
 
   -- ---- what an event changes
 
@@ -131,13 +131,13 @@ module _ {D : Type 0} (job : Job D) where
 
   abbrev pub closed : Standing D → ℕ → Standing D
   closed v k =
-      record v { orders = filter (λ (o : Order D). not (nat_eq k o.number)) v.orders; closes = v.closes + 1 }
+      record v { orders = filter (λ (o : OpenStart D). not (nat_eq k o.number)) v.orders; closes = v.closes + 1 }
 
-  abbrev pub close_with : (Order D → Standing D → Standing D) → Standing D → ℕ → Option (Order D) → Standing D
+  abbrev pub close_with : (OpenStart D → Standing D → Standing D) → Standing D → ℕ → Option (OpenStart D) → Standing D
   close_with f v k None = closed v k
   close_with f v k (Some o) = f o (closed v k)
 
-  abbrev pub done_with : List (D × Digest) → List D → List D → Order D → Standing D → Standing D
+  abbrev pub done_with : List (D × Digest) → List D → List D → OpenStart D → Standing D → Standing D
   done_with made copied spawned o u =
       record u {
         book = learned u.book spawned;
@@ -145,30 +145,30 @@ module _ {D : Type 0} (job : Job D) where
         over = ends_show o.task;
       }
 
-  abbrev pub saved_with : ℕ → List D → List D → List D → Order D → Standing D → Standing D
+  abbrev pub saved_with : ℕ → List D → List D → List D → OpenStart D → Standing D → Standing D
   saved_with j refs holds spawned o u =
       record u {
         book = learned u.book spawned;
         saves = u.saves ++ record { task = o.task; j = j; worker = o.worker; refs = refs; holds = holds } ∷ [];
       }
 
-  abbrev pub missed_with : Order D → Standing D → Standing D
+  abbrev pub missed_with : OpenStart D → Standing D → Standing D
   missed_with o u = u
 
-  abbrev pub order_of : Standing D → ℕ → ℕ → Task D → ℕ → Order D
+  abbrev pub order_of : Standing D → ℕ → ℕ → Task D → ℕ → OpenStart D
   order_of v k w t from =
       record { number = k; worker = w; task = t; from = from; had = v.places; gone = v.gone; stack = stack_of (last_save t v.saves) }
 
   abbrev pub after : Standing D → Event D → Standing D
   after v (start k w t from) =
       record v { starts = v.starts + 1; orders = v.orders ++ order_of v k w t from ∷ [] }
-  after v (done k made copied spawned) = close_with (done_with made copied spawned) v k (find_order k v.orders)
+  after v (done k made copied spawned) = close_with (done_with made copied spawned) v k (find_open k v.orders)
   after v (saved k j mark refs holds spawned) =
-      close_with (saved_with j refs holds spawned) v k (find_order k v.orders)
-  after v (missed k d loss) = close_with missed_with v k (find_order k v.orders)
+      close_with (saved_with j refs holds spawned) v k (find_open k v.orders)
+  after v (missed k d loss) = close_with missed_with v k (find_open k v.orders)
   after v (lost w closes) =
       record v {
-        orders = filter (λ (o : Order D). not (nat_eq w o.worker)) v.orders;
+        orders = filter (λ (o : OpenStart D). not (nat_eq w o.worker)) v.orders;
         gone = v.gone ++ w ∷ [];
         places = λ d. filter (λ u. not (nat_eq w u)) (v.places d);
         saves = filter (λ (s : Save D). not (nat_eq w s.worker)) v.saves;

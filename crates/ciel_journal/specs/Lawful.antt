@@ -2,7 +2,7 @@
 use Rattle.std.specs.Prelude.{◌≡◌, ℕ, ◌-◌, ◌≤◌, ◌<◌, List, [], ◌∷◌, length, true, false, cond, Option, Some, None, nat_eq, nat_lt, slice_get, ◌⊎◌}
 use Rattle.std.specs.List.{list_any, IsDistinct}
 use Rattle.ciel_journal.specs.Job.{Digest, Task, show, of, Held, Job, In, Each, WaitOf, Ends, Needed, ObjectOf, StateOf, waits_in, after_wait, made_before, made_in}
-use Rattle.ciel_journal.specs.History.{Event, start, done, saved, missed, lost, Order, Standing, Plan, live_in, live, last, is_out, find_order, after, before_all}
+use Rattle.ciel_journal.specs.History.{Event, start, done, saved, missed, lost, OpenStart, Standing, Plan, live_in, live, last, is_out, find_open, after, before_all}
 
 module _ {D : Type 0} (job : Job D) where
   -- ---- what the job says of what is done from a Start on
@@ -11,28 +11,29 @@ module _ {D : Type 0} (job : Job D) where
   HeldAt t j d = (n : ℕ) × (a : Held D) × (job.at n t j ≡ Some a) × In d a.names
 
   -- what the order brings along: what the state holds and was live at the Start
-  abbrev pub Given : Order D → D → Type 0
+  abbrev pub Given : OpenStart D → D → Type 0
   Given o d = HeldAt o.task o.from d × (live_in job o.had d ≡ true)
 
-  -- the least wait after the order's for something that it doesn't bring along
-  pub record NextWait (o : Order D) (i : ℕ) (ds : List D) : Type 0 where
-    pub later : o.from < i
-    pub waits : WaitOf job o.task i ds
-    pub unmet : (d : D) × In d ds × (Given o d → ⊥)
-    pub met : (k : ℕ) (es : List D) → o.from < k → k < i → WaitOf job o.task k es → Each (Given o) es
+  module _ (S : D → Type 0) (t : Task D) (from : ℕ) where
+    -- the least wait of a task after this one for something outside S
+    pub record NextWait (i : ℕ) (ds : List D) : Type 0 where
+      pub later : from < i
+      pub waits : WaitOf job t i ds
+      pub unmet : (d : D) × In d ds × (S d → ⊥)
+      pub met : (k : ℕ) (es : List D) → from < k → k < i → WaitOf job t k es → Each S es
 
-  -- there is no such wait, and the task comes to its end
-  pub record NextEnd (o : Order D) : Type 0 where
-    pub ends : Ends job o.task
-    pub met : (k : ℕ) (es : List D) → o.from < k → WaitOf job o.task k es → Each (Given o) es
+    -- there is no such wait, and the task comes to its end
+    pub record NextEnd : Type 0 where
+      pub ends : Ends job t
+      pub met : (k : ℕ) (es : List D) → from < k → WaitOf job t k es → Each S es
 
   -- what the task makes after the order's wait and before its wait i
-  abbrev pub SpawnedTo : Order D → ℕ → List D → Type 0
+  abbrev pub SpawnedTo : OpenStart D → ℕ → List D → Type 0
   SpawnedTo o i ds =
       (n : ℕ) × (i ≤ length (waits_in (job.acts n o.task))) × (ds ≡ made_before (i - o.from) (after_wait o.from (job.acts n o.task)))
 
   -- what the task makes after the order's wait and before its end
-  abbrev pub SpawnedToEnd : Order D → List D → Type 0
+  abbrev pub SpawnedToEnd : OpenStart D → List D → Type 0
   SpawnedToEnd o ds =
       (n : ℕ) × (job.ended n o.task ≡ true) × (ds ≡ made_in (after_wait o.from (job.acts n o.task)))
 
@@ -52,7 +53,7 @@ module _ {D : Type 0} (job : Job D) where
   least (w ∷ ws) = least_with w (least ws)
 
   -- at the Start that worker had it, no lesser one had it, and the order's own didn't
-  abbrev pub FetchedFrom : Order D → D → ℕ → Type 0
+  abbrev pub FetchedFrom : OpenStart D → D → ℕ → Type 0
   FetchedFrom o d w = (least (o.had d) ≡ Some w) × (list_any (nat_eq o.worker) (o.had d) ≡ false)
 
   -- the description that stands for a task in the journal where its saved stack is missed
@@ -70,7 +71,7 @@ module _ {D : Type 0} (job : Job D) where
     pub number : k ≡ v.starts
     pub worker : w < p.workers
     pub here : list_any (nat_eq w) v.gone ≡ false
-    pub idle : list_any (λ (o : Order D). nat_eq w o.worker) v.orders ≡ false
+    pub idle : list_any (λ (o : OpenStart D). nat_eq w o.worker) v.orders ≡ false
     pub needed : Needed job t
     pub not_out : is_out job v t ≡ false
     pub known : Each (λ d. list_any (job.same d) v.book ≡ true) (job.outputs t)
@@ -79,23 +80,23 @@ module _ {D : Type 0} (job : Job D) where
     pub met : (ds : List D) → WaitOf job t from ds → Each (λ d. live job v d ≡ true) ds
 
   -- a copy: what the task waits for at its `from` or later, and what was live at another worker alone at the Start
-  abbrev pub Copied : Order D → D → Type 0
+  abbrev pub Copied : OpenStart D → D → Type 0
   Copied o d =
       ((j : ℕ) × (ds : List D) × (o.from ≤ j) × WaitOf job o.task j ds × In d ds) × ((w : ℕ) × FetchedFrom o d w)
 
-  pub record DoneAllowed (o : Order D) (made : List (D × Digest)) (copied spawned : List D) : Type 0 where
-    pub next : NextEnd o
+  pub record DoneAllowed (o : OpenStart D) (made : List (D × Digest)) (copied spawned : List D) : Type 0 where
+    pub next : NextEnd (Given o) o.task o.from
     pub marked : Marked (job.outputs o.task) made
     pub distinct : IsDistinct job.same copied
     pub fetched : Each (Copied o) copied
     pub spawns : SpawnedToEnd o spawned
 
-  pub record SavedAllowed (o : Order D) (j : ℕ) (mark : Digest) (refs holds spawned : List D) : Type 0 where
-    pub next : NextWait o j refs
+  pub record SavedAllowed (o : OpenStart D) (j : ℕ) (mark : Digest) (refs holds spawned : List D) : Type 0 where
+    pub next : NextWait (Given o) o.task o.from j refs
     pub frozen : StateOf job o.task j (record { names = holds; mark = mark })
     pub spawns : SpawnedTo o j spawned
 
-  pub record MissedAllowed (p : Plan) (v : Standing D) (o : Order D) (d : D) (loss : ℕ) : Type 0 where
+  pub record MissedAllowed (p : Plan) (v : Standing D) (o : OpenStart D) (d : D) (loss : ℕ) : Type 0 where
     pub worker : ℕ
     pub planned : (count : ℕ) × (slice_get p.losses loss ≡ Some (count, worker))
     -- lost after the Start
@@ -112,10 +113,10 @@ module _ {D : Type 0} (job : Job D) where
   abbrev pub Allowed : Plan → Standing D → Event D → Type 0
   Allowed p v (start k w t from) = StartAllowed p v k w t from
   Allowed p v (done k made copied spawned) =
-      (o : Order D) × (find_order job k v.orders ≡ Some o) × DoneAllowed o made copied spawned
+      (o : OpenStart D) × (find_open job k v.orders ≡ Some o) × DoneAllowed o made copied spawned
   Allowed p v (saved k j mark refs holds spawned) =
-      (o : Order D) × (find_order job k v.orders ≡ Some o) × SavedAllowed o j mark refs holds spawned
-  Allowed p v (missed k d loss) = (o : Order D) × (find_order job k v.orders ≡ Some o) × MissedAllowed p v o d loss
+      (o : OpenStart D) × (find_open job k v.orders ≡ Some o) × SavedAllowed o j mark refs holds spawned
+  Allowed p v (missed k d loss) = (o : OpenStart D) × (find_open job k v.orders ≡ Some o) × MissedAllowed p v o d loss
   Allowed p v (lost w closes) = LostAllowed p v w closes
 
   pub record Step (p : Plan) (v : Standing D) (e : Event D) : Type 0 where

@@ -5,11 +5,10 @@ pub mod Known
 pub mod Live
 pub mod Graph
 pub mod Turns
-pub mod Search
-pub mod Three
-pub mod Wanted
 pub mod Work
-pub mod Names
+pub mod Entries
+pub mod Journals
+pub mod Segment
 pub mod Fixed
 pub mod SmallHistories
 pub mod SmallFacts

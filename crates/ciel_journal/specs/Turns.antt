@@ -3,7 +3,7 @@ use Rattle.std.specs.Prelude.{◌≡◌, ℕ, zero, suc, ◌+◌, ◌*◌, ◌/�
 use Rattle.std.specs.List.{list_any}
 use Rattle.ciel_journal.specs.Graph.{Circle, Led, Picks, Runnable, standing_graph}
 use Rattle.ciel_journal.specs.Job.{Task, show, of, Job}
-use Rattle.ciel_journal.specs.History.{Event, start, done, saved, missed, lost, Order, Standing, Plan, after, before_all}
+use Rattle.ciel_journal.specs.History.{Event, start, done, saved, missed, lost, OpenStart, Standing, Plan, after, before_all}
 use Rattle.ciel_journal.specs.Lawful.{Step}
 
 -- ---- the generator
@@ -79,7 +79,7 @@ module _ {D : Type 0} (job : Job D) where
 
   -- ---- workers and losses
 
-  abbrev pub busy : List (Order D) → List ℕ
+  abbrev pub busy : List (OpenStart D) → List ℕ
   busy [] = []
   busy (o ∷ os) = o.worker ∷ busy os
 

@@ -8,7 +8,7 @@ ghost use Rattle.ciel_journal.specs.SmallFacts.{BreaksLaw, BreaksTurns};
 ghost use Rattle.ciel_journal.specs.SmallHistories as h;
 ghost use Rattle.ciel_journal.specs.Turns.{Driven};
 ghost use Rattle.ciel_journal.specs.Known.{Knows};
-ghost use Rattle.ciel_journal.specs.Laws.{BookIsTold, CircleIsEndless, CountsAreTold, FewStarts, ListedOrCircle, LiveIsTold, MadeIsSeen, NamesDetermine, OneMark, OneState, OneWhole, OneWorker, OpenIsTold, ReadyOrCircle, ReadyStarts, SavedIsTold, SearchFinds, StartedIsMissing, StartedIsNeeded};
+ghost use Rattle.ciel_journal.specs.Laws.{BookIsMade, BookIsTold, BookIsWhole, CircleIsEndless, CountsAreTold, DrivenGoesOn, DrivenInParts, DrivenIsLawful, EnteredAlike, FewStarts, FirstsComeFirst, GoneIsTold, LawfulGoesOn, ListedOrCircle, LiveIsTold, MadeIsSeen, NamedCircleIsEndless, NamesDetermine, NextIsOne, NewIsWhole, OneBook, OneMark, OneState, OneWhole, OneWorker, OpenIsBooked, OpenIsNeeded, OpenIsTold, OpenStood, OverIsTold, PlacedAlike, PlacedIsBooked, PlacesAreTold, ReadyOrCircle, ReadyStarts, SavedIsBooked, SavedIsState, SavedIsTold, StandsOn, StartedIsMissing, StartedIsNeeded};
 
 /// The two small jobs have the laws that are asked of a job.
 pub fn small_jobs_are_jobs()
@@ -46,14 +46,48 @@ pub fn small_histories_break_laws()
 /// What stands after a history, said of the whole of it. What is live after a lawful one is an input,
 /// or a description with a Done that made or copied it and no Lost of that worker. The open Starts
 /// are those that no entry has closed and whose worker has no Lost, the saved waits those of the
-/// Saved whose worker has no Lost. Starts and closes are counted. The book is the main call and then all that was spawned, each at its first
-/// place only.
+/// Saved whose worker has no Lost. Starts and closes are counted. The book is the main call and then all
+/// that was spawned, each at its first place only. The places are those of the text, the lost workers those with a Lost,
+/// the root task is done where the history ends with its Done, and an open Start says what stood when it was made.
 pub fn live_is_told<D>()
     ensures live { LiveIsTold D }
     ensures open { OpenIsTold D }
     ensures saved { SavedIsTold D }
     ensures counts { CountsAreTold D }
     ensures book { BookIsTold D }
+    ensures places { PlacesAreTold D }
+    ensures gone { GoneIsTold D }
+    ensures over { OverIsTold D }
+    ensures stood { OpenStood D }
+{}
+
+/// A history goes on: a lawful one by a lawful event, a driven one by one whose turn it is. What stands then
+/// and its journal follow from the event, and each part of a driven history is driven.
+pub fn histories_go_on<D>()
+    ensures lawful { LawfulGoesOn D }
+    ensures driven { DrivenGoesOn D }
+    ensures stands { StandsOn D }
+    ensures parts { DrivenInParts D }
+{}
+
+/// Each description of the book is the main call or made by a needed task. What is open or saved is of a
+/// needed task that goes by a name of the book, and a saved wait has what its state holds.
+pub fn book_is_made<D>()
+    ensures book { BookIsMade D }
+    ensures open { OpenIsNeeded D }
+    ensures saved { SavedIsState D }
+{}
+
+/// Where a job tells where all comes from that its tasks wait for and hold, all of it is in the book: what
+/// stands inside its descriptions, and all outputs of their tasks, also as an event adds to it; what the objects hold that some worker
+/// has; what is waited for and held at a saved wait; and what the task of an open Start held. An executor's first output stands before the others.
+pub fn all_is_booked<D>()
+    ensures whole { BookIsWhole D }
+    ensures new { NewIsWhole D }
+    ensures heads { FirstsComeFirst D }
+    ensures placed { PlacedIsBooked D }
+    ensures saved { SavedIsBooked D }
+    ensures open { OpenIsBooked D }
 {}
 
 /// Each task started was needed, and none was started whose outputs were all live. The root task
@@ -86,6 +120,11 @@ pub fn few_starts<D>()
     ensures starts { FewStarts D }
 {}
 
+/// From a wait on, a task has one next wait for something outside a list, and none where it comes to its end.
+pub fn next_is_one<D>()
+    ensures one { NextIsOne D }
+{}
+
 /// Each name made is that of one description of the book, beside the mark of the one object that
 /// the job sees for it. No name stands with two marks, and two saved entries of one task and one
 /// wait have one mark.
@@ -100,15 +139,20 @@ pub fn names_determine<D>()
     ensures history { NamesDetermine D }
 {}
 
+/// A journal by itself, over names: that of a driven history is that of a lawful one, one book stands behind it, a
+/// circle of names means that the job has no answer, its entries say which tasks a worker was given, and
+/// which workers have an object.
+pub fn journals_alone<D>()
+    ensures lawful { DrivenIsLawful D }
+    ensures book { OneBook D }
+    ensures endless { NamedCircleIsEndless D }
+    ensures entered { EnteredAlike D }
+    ensures placed { PlacedAlike D }
+{}
+
 /// With one worker a driven history is a function of the job, the seed and the losses: of two, the
 /// shorter begins the longer, and two in which the root task is done are equal.
 pub fn one_worker_is_determined<D>()
     ensures prefix { OneWorker D }
     ensures whole { OneWhole D }
-{}
-
-/// A search (`search::reached`) of the graph of what is waited for after a history finds the
-/// numbers of what is wanted: what a reached task without an open Start waits for and isn't live.
-pub fn search_finds_what_is_wanted<D>()
-    ensures wanted { SearchFinds D }
 {}

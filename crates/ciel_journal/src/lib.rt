@@ -3,7 +3,6 @@
 #![tactic(auto)]
 
 pub mod law;
-pub mod search;
 #[cfg(test)]
 mod tests;
 pub mod turn;

@@ -1,11 +1,18 @@
 //! Which workers may be given a task, and which loss comes first.
 
-ghost use Rattle.std.specs.Prelude.{◌≡◌, ℕ, List, Option, None, IfNone, IfOk, IfSome};
+ghost use Rattle.std.specs.Prelude.{◌≡◌, ℕ, List, Option, None, IfNone, IfOk, IfSome, nat_eq};
+ghost use Rattle.std.specs.List.{list_any};
 ghost use Rattle.ciel_journal.specs.Turns.{FirstDue, NothingDue, due_test, idle_workers};
 ghost use Rattle.ciel_journal.specs.Turns as turns;
 
-use crate::search::has;
 use std::alloc::{AllocError, Global};
+
+/// Whether a worker is in the list. Lists of workers have at most 64 of them.
+pub fn has(workers: &[u32], worker: u32) -> bool
+    ensures among { result ≡ list_any (nat_eq worker) workers.now }
+{
+    workers.iter().any(|x| worker == *x)
+}
 
 /// Whether a worker is neither lost nor busy.
 pub fn is_idle(gone: &[u32], busy: &[u32], worker: u32) -> bool

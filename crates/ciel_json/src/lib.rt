@@ -3,5 +3,6 @@
 // anew here.
 #![tactic(auto)]
 
+pub mod law;
 pub mod read;
 pub mod write;

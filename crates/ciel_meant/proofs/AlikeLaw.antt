@@ -19,7 +19,7 @@ use Rattle.ciel_meant.specs.Real.{back, forth, forth_if, acts_of, held_if, mark_
 use Rattle.ciel_meant.specs.RealLaws.{IsTask, WaitsAlike, OutputsAlike, EndsAlike, NeverAlike, AnswerAlike, ObjectsAlike, StatesAlike, MadeAlike, NeededAlike, WorkIsFinite}
 use Rattle.ciel_meant.proofs.RealLaw.{in_to, in_from, back_forth, made_of, waits_are}
 
-some_is : {A : Type 0} (a b : A) → Some a ≡ Some b → a ≡ b
+pub some_is : {A : Type 0} (a b : A) → Some a ≡ Some b → a ≡ b
 some_is a b e = cc
 
 forth_back : (w : Task s.Desc) → forth (back w) ≡ w
@@ -32,13 +32,13 @@ after_is (suc j) [] = refl
 after_is (suc j) (r.made d ∷ es) = after_is (suc j) es
 after_is (suc j) (r.waited ds ∷ es) = after_is j es
 
-before_is : (j : ℕ) (es : List (r.Act ⊥)) → made_before j (acts_of es) ≡ t.made_before j es
+pub before_is : (j : ℕ) (es : List (r.Act ⊥)) → made_before j (acts_of es) ≡ t.made_before j es
 before_is zero es = refl
 before_is (suc j) [] = refl
 before_is (suc j) (r.made d ∷ es) = ap (λ ds. d ∷ ds) (before_is (suc j) es)
 before_is (suc j) (r.waited ds ∷ es) = before_is j es
 
-made_is : (es : List (r.Act ⊥)) → made_in (acts_of es) ≡ t.made_in es
+pub made_is : (es : List (r.Act ⊥)) → made_in (acts_of es) ≡ t.made_in es
 made_is [] = refl
 made_is (r.made d ∷ es) = ap (λ ds. d ∷ ds) (made_is es)
 made_is (r.waited ds ∷ es) = made_is es
@@ -94,7 +94,7 @@ module _ (job : s.Job) (around : s.Around) (name : s.Desc → Digest) (mark : s.
 
   -- ---- waits
 
-  wait_is : (k : ℕ) (w : Task s.Desc) (j : ℕ) → slice_get (waits_in (the.acts k w)) j ≡ n.wait_at job around k (back w) (suc j)
+  pub wait_is : (k : ℕ) (w : Task s.Desc) (j : ℕ) → slice_get (waits_in (the.acts k w)) j ≡ n.wait_at job around k (back w) (suc j)
   wait_is k w j =
       ap (λ xs. slice_get xs j) (waits_are (t.acts_of job around k (back w))) ∙ fuel.waits_at job around k (back w) j
 

@@ -1,2 +1,4 @@
 pub mod RealLaw
+pub mod ToldRun
 pub mod AlikeLaw
+pub mod KnownLaw

@@ -1,2 +1,3 @@
 pub mod Real
+pub mod Inner
 pub mod RealLaws

@@ -7,6 +7,9 @@ use Rattle.sky_law.specs.Tasks as t
 use Rattle.sky_law.specs.Sound.{SoundReads}
 use Rattle.ciel_journal.specs.Job.{Digest, Held, Job, IsJob, WaitOf, Ends, Never, Needed, ObjectOf, StateOf, made_before, made_in, after_wait}
 use Rattle.ciel_journal.specs.Work.{Work}
+use Rattle.ciel_journal.specs.Known.{Knows}
+use Rattle.ciel_meant.specs.Inner.{real_inner}
+use Rattle.sky_law.specs.Refers.{PlainReads}
 use Rattle.ciel_meant.specs.Real.{forth, real_job}
 
 module _ (job : s.Job) (around : s.Around) (name : s.Desc → Digest) (mark : s.Obj → Digest) (frozen : n.State → Digest) where
@@ -62,6 +65,10 @@ module _ (job : s.Job) (around : s.Around) (name : s.Desc → Digest) (mark : s.
   -- a task is needed where it is in the meaning
   abbrev pub NeededAlike : Type 0
   NeededAlike = SoundReads job.script around → (u : n.Task) → Needed the (forth u) ↔ n.Needed job around u
+
+  -- where what is read refers to nothing, the job tells where all comes from that its tasks wait for and hold
+  abbrev pub AllIsTold : Type 0
+  AllIsTold = PlainReads around → Knows the (real_inner job around)
 
   -- a job that means an answer has a finite amount of work
   abbrev pub WorkIsFinite : Type 0

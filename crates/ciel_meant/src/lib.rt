@@ -1,7 +1,7 @@
 //! The job that a script means, as a job of journals.
 #![tactic(auto)]
 
-ghost use Rattle.ciel_meant.specs.RealLaws.{OfReal, RealIsJob, WaitsAlike, OutputsAlike, EndsAlike, NeverAlike, AnswerAlike, ObjectsAlike, StatesAlike, MadeAlike, NeededAlike, WorkIsFinite};
+ghost use Rattle.ciel_meant.specs.RealLaws.{OfReal, RealIsJob, WaitsAlike, OutputsAlike, EndsAlike, NeverAlike, AnswerAlike, ObjectsAlike, StatesAlike, MadeAlike, NeededAlike, AllIsTold, WorkIsFinite};
 
 /// The job that a script means has the laws that the journal asks of a job, whatever its names and
 /// marks are.
@@ -27,4 +27,10 @@ pub fn real_job_is_the_meaning()
 pub fn real_job_needs_what_the_meaning_does()
     ensures needed { OfReal NeededAlike }
     ensures work { OfReal WorkIsFinite }
+{}
+
+/// Where what is read as data refers to nothing, as JSON does, the job tells where all comes from that its tasks wait for and
+/// hold: so all of it is in the book of a lawful history.
+pub fn real_job_tells_where_all_comes_from()
+    ensures told { OfReal AllIsTold }
 {}

@@ -6,7 +6,7 @@ use Rattle.sky_base.specs.Val.{same_text}
 use Rattle.sky_base.specs.declared.object.TaskId.{TaskId}
 use Rattle.sky_base.proofs.Exact.{exact_text, self_text}
 use Rattle.ciel_journal.specs.Graph.{Picks, Runnable, SeenAs, root, standing_graph, through}
-use Rattle.ciel_journal.specs.History.{Order, Standing, is_out, needs as needs_after, same_task}
+use Rattle.ciel_journal.specs.History.{OpenStart, Standing, is_out, needs as needs_after, same_task}
 use Rattle.ciel_journal.specs.Job.{In, IsJob, Job, Task, of, show}
 use Rattle.ciel_journal.specs.Turns.{Reached, Ready, is_first, tasks_of}
 use Rattle.ciel_journal.proofs.Members.{each_of}
@@ -312,7 +312,7 @@ module _ {D P : Type 0} (job : Job D) (laws : IsJob job) (v : Standing D) (main 
       step past before d ds r rs b (w d (inl refl)) a.0 l.0 l.1 (lists (d ∷ past) (r.task ∷ before) ds rs (more past before d r.task b (w d (inl refl)) l.1 (row_task d r a.0)) (λ x i. w x (inr i)) a.1 l.2)
 
   none_is_out : v.orders ≡ [] → (u : Task D) → is_out job v u ≡ false
-  none_is_out e u = ap (λ os. list_any (λ (o : Order D). same_task job u o.task) os) e
+  none_is_out e u = ap (λ os. list_any (λ (o : OpenStart D). same_task job u o.task) os) e
 
   pub history_agrees : Agree job v main t out
   history_agrees =

@@ -1,17 +1,26 @@
 -- Each operator gives values within the limits from values within the limits, and refers to nothing else than these do.
-use Rattle.std.proofs.Common.{◌≡◌, ℕ, ℤ, zero, suc, ◌+◌, ◌*◌, ◌≤◌, Bool, true, false, not, ◌&&◌, List, [], ◌∷◌, ◌++◌, length, Option, Some, None, Ok, Err, nat_lt, pos, negsuc, ◌+ℤ◌, ◌-ℤ◌, ◌*ℤ◌, int_div, int_rem, refl, ap, arith, ltb-false, inr, subst, sym, ◌∙◌, IsSome}
+use Rattle.std.proofs.Common.{◌≡◌, ℕ, ℤ, zero, suc, ◌+◌, ◌*◌, ◌≤◌, Bool, true, false, List, [], ◌∷◌, ◌++◌, length, Option, Some, None, Ok, Err, nat_lt, pos, negsuc, ◌+ℤ◌, ◌-ℤ◌, int_rem, refl, ap, arith, ltb-false, inr, subst, sym, ◌∙◌, IsSome}
 use Rattle.std.specs.Option.{option_map}
-use Rattle.std.specs.Ordering.{nat_cmp, int_cmp, match_ordering, is_lt, is_le, is_gt, is_ge}
+use Rattle.std.specs.Ordering.{nat_cmp, match_ordering}
 use Rattle.std.specs.Cmp.Lexicographic.{slice_cmp}
 use Rattle.std.specs.declared.cmp.Ordering.{Ordering}
-use Rattle.sky_base.specs.Val.{Val, Vals, Pairs, Desc, null, truth, num, text, list, dict, fun, ref, no_vals, val, no_pairs, pair, add_val, vals_of, refs_to, size, sizes, depth, depths, pair_sizes, pair_depths, is_plain, same_val, count}
-use Rattle.sky_base.specs.Op.{Answer, if_fits, fits, checked, unless, limited, join, plus, minus, times, over, over_num, rest, rest_num, val_at, find, put, or_else, index, put_val, limited_list, set_at, equal_if, ordered, compare, Order, negated, opposite, len, all_keys, keys, has, numbers, range_if, range, span, grown, with_key, dict_from}
+use Rattle.sky_base.specs.Val.{Val, Vals, Pairs, Desc, null, truth, num, text, list, dict, fun, ref, no_vals, val, no_pairs, pair, add_val, vals_of, refs_to, size, sizes, depth, depths, pair_sizes, pair_depths, count}
+use Rattle.sky_base.specs.Op.{Answer, checked, unless, limited, join, plus, minus, times, over, rest, rest_num, val_at, find, put, or_else, index, put_val, limited_list, set_at, compare, negated, opposite, len, all_keys, keys, has, numbers, range_if, range, span, grown, with_key, dict_from}
 use Rattle.sky_base.specs.Tree.{Lit, Oper, FunDef, Script}
 use Rattle.sky_base.specs.Eval.{World, find_fun, is_one_of, caught_if, caught_by, lit_val, oper}
 use Rattle.sky_law.specs.Sound.{AllUsed, TakesIf, CallsIf, RefsOver, ValsOver, PairsOver, DescOver, SoundOver}
 use Rattle.sky_law.specs.Tasks.{Each}
 use Rattle.sky_base.specs.Kept.{Kept}
-use Rattle.sky_law.proofs.FineLaw.{Closed}
+use Rattle.sky_law.proofs.FineLaw.{Closed, PairsOk, put_each, find_each}
+use Rattle.sky_law.proofs.SimpleOps.{Atom, Simple, checked_simple, minus_simple, times_simple, over_simple, compare_simple, negated_simple, opposite_simple, has_simple}
+use Rattle.sky_law.proofs.WrittenLaw.{any_lit, any_made, any_name}
+
+-- what a function captured keeps the limits as a dictionary does
+pub caught_kept : {N : Type 0} (f : List ℕ) (ps : Pairs N) → Kept (fun f ps) → Kept (dict ps)
+caught_kept f ps h =
+    let d : 1 + pair_depths ps ≤ 100 = h.deep in
+    let s : 1 + (length f + pair_sizes ps) ≤ 262144 = h.large in
+    record { deep = omega arith; large = omega arith }
 
 module _ (N : Type 0) (K : N → Type 0) (sc : Script) where
   -- what an operator gives is sound
@@ -57,12 +66,19 @@ module _ (N : Type 0) (K : N → Type 0) (sc : Script) where
           let s : size v ≤ 262144 = ltb-false 262144 (size v) f in
           (record { deep = d; large = s }, r)
 
-  checked_ok : (z : ℤ) → SoundAnswer (checked z)
-  checked_ok z = go (fits z)
-    where
-      go : (b : Bool) → SoundAnswer (if_fits b z)
-      go true = sound_num z
-      go false = tt
+  atom_sound : (v : Val N) → Atom N v → SoundOver K sc v
+  atom_sound null h = sound_null
+  atom_sound (truth b) h = sound_truth b
+  atom_sound (num z) h = sound_num z
+  atom_sound (text t) h = absurd h
+  atom_sound (list vs) h = absurd h
+  atom_sound (dict ps) h = absurd h
+  atom_sound (fun f c) h = absurd h
+  atom_sound (ref d) h = absurd h
+
+  simple_sound : (o : Answer N) → Simple N o → SoundAnswer o
+  simple_sound (Ok v) h = atom_sound v h
+  simple_sound (Err k) h = tt
 
   -- ---- parts of values
 
@@ -87,13 +103,6 @@ module _ (N : Type 0) (K : N → Type 0) (sc : Script) where
       let d : 1 + pair_depths ps ≤ 100 = h.0.deep in
       let s : 1 + pair_sizes ps ≤ 262144 = h.0.large in
       pairs_inside ps (omega arith) (omega arith) h.1
-
-  -- what a function captured keeps the limits as a dictionary does
-  caught_kept : (f : List ℕ) (ps : Pairs N) → Kept (fun f ps) → Kept (dict ps)
-  caught_kept f ps h =
-      let d : 1 + pair_depths ps ≤ 100 = h.deep in
-      let s : 1 + (length f + pair_sizes ps) ≤ 262144 = h.large in
-      record { deep = omega arith; large = omega arith }
 
   takes_none : (o : Option FunDef) → IsSome o → TakesIf {N = N} o no_pairs
   takes_none (Some f) i = tt
@@ -178,7 +187,7 @@ module _ (N : Type 0) (K : N → Type 0) (sc : Script) where
   -- ---- operators
 
   plus_ok : (a b : Val N) → RefsOver K sc a → RefsOver K sc b → SoundAnswer (plus a b)
-  plus_ok (num a) (num b) h i = checked_ok (a +ℤ b)
+  plus_ok (num a) (num b) h i = simple_sound (checked (a +ℤ b)) (checked_simple N (a +ℤ b))
   plus_ok (num a) null h i = tt
   plus_ok (num a) (truth b) h i = tt
   plus_ok (num a) (text t) h i = tt
@@ -208,71 +217,6 @@ module _ (N : Type 0) (K : N → Type 0) (sc : Script) where
   plus_ok (fun f c) b h i = tt
   plus_ok (ref d) b h i = tt
 
-  num_minus : (a : ℤ) (v : Val N) → SoundAnswer (minus (num a) v)
-  num_minus a (num b) = checked_ok (a -ℤ b)
-  num_minus a null = tt
-  num_minus a (truth b) = tt
-  num_minus a (text t) = tt
-  num_minus a (list vs) = tt
-  num_minus a (dict ps) = tt
-  num_minus a (fun f c) = tt
-  num_minus a (ref d) = tt
-
-  minus_ok : (v w : Val N) → SoundAnswer (minus v w)
-  minus_ok (num a) w = num_minus a w
-  minus_ok null w = tt
-  minus_ok (truth b) w = tt
-  minus_ok (text t) w = tt
-  minus_ok (list vs) w = tt
-  minus_ok (dict ps) w = tt
-  minus_ok (fun f c) w = tt
-  minus_ok (ref d) w = tt
-
-  num_times : (a : ℤ) (v : Val N) → SoundAnswer (times (num a) v)
-  num_times a (num b) = checked_ok (a *ℤ b)
-  num_times a null = tt
-  num_times a (truth b) = tt
-  num_times a (text t) = tt
-  num_times a (list vs) = tt
-  num_times a (dict ps) = tt
-  num_times a (fun f c) = tt
-  num_times a (ref d) = tt
-
-  times_ok : (v w : Val N) → SoundAnswer (times v w)
-  times_ok (num a) w = num_times a w
-  times_ok null w = tt
-  times_ok (truth b) w = tt
-  times_ok (text t) w = tt
-  times_ok (list vs) w = tt
-  times_ok (dict ps) w = tt
-  times_ok (fun f c) w = tt
-  times_ok (ref d) w = tt
-
-  quotient_ok : (a b : ℤ) → SoundAnswer (over_num a b)
-  quotient_ok a (pos zero) = tt
-  quotient_ok a (pos (suc b)) = checked_ok (int_div a (pos (suc b)))
-  quotient_ok a (negsuc b) = checked_ok (int_div a (negsuc b))
-
-  num_over : (a : ℤ) (v : Val N) → SoundAnswer (over (num a) v)
-  num_over a (num b) = quotient_ok a b
-  num_over a null = tt
-  num_over a (truth b) = tt
-  num_over a (text t) = tt
-  num_over a (list vs) = tt
-  num_over a (dict ps) = tt
-  num_over a (fun f c) = tt
-  num_over a (ref d) = tt
-
-  over_ok : (v w : Val N) → SoundAnswer (over v w)
-  over_ok (num a) w = num_over a w
-  over_ok null w = tt
-  over_ok (truth b) w = tt
-  over_ok (text t) w = tt
-  over_ok (list vs) w = tt
-  over_ok (dict ps) w = tt
-  over_ok (fun f c) w = tt
-  over_ok (ref d) w = tt
-
   remainder_ok : (a b : ℤ) → SoundAnswer (rest_num a b)
   remainder_ok a (pos zero) = tt
   remainder_ok a (pos (suc b)) = sound_num (int_rem a (pos (suc b)))
@@ -298,55 +242,13 @@ module _ (N : Type 0) (K : N → Type 0) (sc : Script) where
   rest_ok (fun f c) w = tt
   rest_ok (ref d) w = tt
 
-  equal_if_ok : (b c : Bool) → SoundAnswer (equal_if b c)
-  equal_if_ok true c = sound_truth c
-  equal_if_ok false c = tt
-
-  num_ordered : (t : Ordering → Bool) (a : ℤ) (v : Val N) → SoundAnswer (ordered t (num a) v)
-  num_ordered t a (num b) = sound_truth (t (int_cmp a b))
-  num_ordered t a null = tt
-  num_ordered t a (truth b) = tt
-  num_ordered t a (text s) = tt
-  num_ordered t a (list vs) = tt
-  num_ordered t a (dict ps) = tt
-  num_ordered t a (fun f c) = tt
-  num_ordered t a (ref d) = tt
-
-  text_ordered : (t : Ordering → Bool) (a : List ℕ) (v : Val N) → SoundAnswer (ordered t (text a) v)
-  text_ordered t a (text b) = sound_truth (t (slice_cmp nat_cmp a b))
-  text_ordered t a null = tt
-  text_ordered t a (truth b) = tt
-  text_ordered t a (num z) = tt
-  text_ordered t a (list vs) = tt
-  text_ordered t a (dict ps) = tt
-  text_ordered t a (fun f c) = tt
-  text_ordered t a (ref d) = tt
-
-  ordered_ok : (t : Ordering → Bool) (v w : Val N) → SoundAnswer (ordered t v w)
-  ordered_ok t (num a) w = num_ordered t a w
-  ordered_ok t (text a) w = text_ordered t a w
-  ordered_ok t null w = tt
-  ordered_ok t (truth b) w = tt
-  ordered_ok t (list vs) w = tt
-  ordered_ok t (dict ps) w = tt
-  ordered_ok t (fun f c) w = tt
-  ordered_ok t (ref d) w = tt
-
-  compare_ok : (o : Order) (v w : Val N) → SoundAnswer (compare o v w)
-  compare_ok Order.eq v w = equal_if_ok (is_plain v && is_plain w) (same_val (λ x y. false) v w)
-  compare_ok Order.ne v w = equal_if_ok (is_plain v && is_plain w) (not (same_val (λ x y. false) v w))
-  compare_ok Order.lt v w = ordered_ok is_lt v w
-  compare_ok Order.le v w = ordered_ok is_le v w
-  compare_ok Order.gt v w = ordered_ok is_gt v w
-  compare_ok Order.ge v w = ordered_ok is_ge v w
-
   pub oper_sound : (o : Oper) (a b : Val N) → SoundOver K sc a → SoundOver K sc b → SoundAnswer (oper o a b)
   oper_sound Oper.plus a b h i = plus_ok a b h.1 i.1
-  oper_sound Oper.minus a b h i = minus_ok a b
-  oper_sound Oper.times a b h i = times_ok a b
-  oper_sound Oper.over a b h i = over_ok a b
+  oper_sound Oper.minus a b h i = simple_sound (minus a b) (minus_simple N a b)
+  oper_sound Oper.times a b h i = simple_sound (times a b) (times_simple N a b)
+  oper_sound Oper.over a b h i = simple_sound (over a b) (over_simple N a b)
   oper_sound Oper.rest a b h i = rest_ok a b
-  oper_sound (Oper.compare o) a b h i = compare_ok o a b
+  oper_sound (Oper.compare o) a b h i = simple_sound (compare o a b) (compare_simple N o a b)
 
   list_index : (vs : Vals N) (i : Val N) → SoundVals vs → SoundAnswer (index (list vs) i)
   list_index vs (num (pos i)) h = or_else_ok (val_at vs i) _ (val_at_ok vs i h)
@@ -423,26 +325,6 @@ module _ (N : Type 0) (K : N → Type 0) (sc : Script) where
   grown_sound (fun f c) e h r = tt
   grown_sound (ref d) e h r = tt
 
-  negated_sound : (v : Val N) → SoundAnswer (negated v)
-  negated_sound (num z) = checked_ok (pos 0 -ℤ z)
-  negated_sound null = tt
-  negated_sound (truth b) = tt
-  negated_sound (text t) = tt
-  negated_sound (list vs) = tt
-  negated_sound (dict ps) = tt
-  negated_sound (fun f c) = tt
-  negated_sound (ref d) = tt
-
-  opposite_sound : (v : Val N) → SoundAnswer (opposite v)
-  opposite_sound (truth b) = sound_truth (not b)
-  opposite_sound null = tt
-  opposite_sound (num z) = tt
-  opposite_sound (text t) = tt
-  opposite_sound (list vs) = tt
-  opposite_sound (dict ps) = tt
-  opposite_sound (fun f c) = tt
-  opposite_sound (ref d) = tt
-
   len_sound : (v : Val N) → SoundAnswer (len v)
   len_sound (text t) = sound_num _
   len_sound (list vs) = sound_num _
@@ -466,26 +348,6 @@ module _ (N : Type 0) (K : N → Type 0) (sc : Script) where
   keys_sound (list vs) = tt
   keys_sound (fun f c) = tt
   keys_sound (ref d) = tt
-
-  dict_has : (ps : Pairs N) (k : Val N) → SoundAnswer (has (dict ps) k)
-  dict_has ps (text k) = sound_truth _
-  dict_has ps null = tt
-  dict_has ps (truth b) = tt
-  dict_has ps (num z) = tt
-  dict_has ps (list vs) = tt
-  dict_has ps (dict qs) = tt
-  dict_has ps (fun f c) = tt
-  dict_has ps (ref d) = tt
-
-  has_sound : (v k : Val N) → SoundAnswer (has v k)
-  has_sound (dict ps) k = dict_has ps k
-  has_sound null k = tt
-  has_sound (truth b) k = tt
-  has_sound (num z) k = tt
-  has_sound (text t) k = tt
-  has_sound (list vs) k = tt
-  has_sound (fun f c) k = tt
-  has_sound (ref d) k = tt
 
   sizes_numbers : (n : ℕ) (a : ℤ) → sizes (numbers {N = N} n a) ≡ n
   sizes_numbers zero a = refl
@@ -579,35 +441,40 @@ module _ (N : Type 0) (K : N → Type 0) (sc : Script) where
   ref_sound : (d : Desc N) → DescOver K sc d → SoundOver K sc (ref d)
   ref_sound d h = (record { deep = omega arith; large = omega arith }, h)
 
+  -- the variables are sound
+  abbrev pub Vars : World N → Pairs N → Type 0
+  Vars w ps = PairsOk w (SoundOver K sc) (DescOver K sc) ps
+
   -- what the operators give is sound, where what is read and what a reference holds is
-  pub sound_closed : (w : World N) → ((f : List ℕ) → find_fun f w.script.funs ≡ find_fun f sc.funs) → ((k : List ℕ) → is_one_of k w.script.keys ≡ is_one_of k sc.keys) → ((b : List ℕ) → SoundAnswer (w.reads b)) → ((d : Desc N) → DescOver K sc d → DescOver K sc (w.make d)) → Closed w (SoundOver K sc) (DescOver K sc)
+  pub sound_closed : (w : World N) → ((f : List ℕ) → find_fun f w.script.funs ≡ find_fun f sc.funs) → ((k : List ℕ) → is_one_of k w.script.keys ≡ is_one_of k sc.keys) → ((b : List ℕ) → SoundAnswer (w.reads b)) → ((d : Desc N) → DescOver K sc d → DescOver K sc (w.make d)) → Closed w (SoundOver K sc) (DescOver K sc) (Vars w) any_made any_lit any_name
   sound_closed w same keys reads make =
       record {
         null_ok = sound_null;
         truth_ok = sound_truth;
-        taken_ok = λ t. sound_num (pos t);
-        lit_ok = lit_sound;
-        fun_ok = λ x i. limited_ok (fun x no_pairs) (takes_none (find_fun x sc.funs) (subst IsSome (same x) i), tt);
-        closed_ok = λ f x ps e l. limited_ok (fun x (caught_by f.uses ps)) (takes_caught (find_fun x sc.funs) f ps (sym (same x) ∙ e), caught_refs f.uses ps l);
+        taken_ok = λ t vs h le. sound_num (pos t);
+        lit_ok = λ l i. lit_sound l;
+        put_ok = λ x v ps n h l. put_each w (SoundOver K sc) (DescOver K sc) x v ps h l;
+        find_ok = λ x ps l. find_each w (SoundOver K sc) (DescOver K sc) x ps l;
+        fun_ok = λ x n i. limited_ok (fun x no_pairs) (takes_none (find_fun x sc.funs) (subst IsSome (same x) i), tt);
+        closed_ok = λ f x ps n e l. limited_ok (fun x (caught_by f.uses ps)) (takes_caught (find_fun x sc.funs) f ps (sym (same x) ∙ e), caught_refs f.uses ps l);
         caught_ok = λ f ps h. dict_inside ps (caught_kept f ps h.0, h.1.1);
         list_ok = list_sound;
         dict_ok = λ vs h. dict_sound vs no_pairs h tt;
         oper_ok = oper_sound;
         index_ok = index_sound;
-        set_ok = set_at_sound;
+        set_ok = λ v i e h g r. set_at_sound v i e h r;
         grown_ok = grown_sound;
-        negated_ok = negated_sound;
-        opposite_ok = opposite_sound;
-        len_ok = len_sound;
-        keys_ok = keys_sound;
-        has_ok = has_sound;
-        range_ok = range_sound;
+        negated_ok = λ v. simple_sound (negated v) (negated_simple N v);
+        opposite_ok = λ v. simple_sound (opposite v) (opposite_simple N v);
+        len_ok = λ v h. len_sound v;
+        keys_ok = λ v h. keys_sound v;
+        has_ok = λ v k. simple_sound (has v k) (has_simple N v k);
+        range_ok = λ a b h i. range_sound a b;
         inside_ok = list_inside;
         reads_ok = reads;
-        ref_ok = λ d h. ref_sound (w.make d) (make d h);
-        to_ok = λ d h. h.1;
+        ref_ok = λ d h m. ref_sound (w.make d) (make d h);
         refs_ok = refs_sound;
-        call_ok = λ f ps vs x e n z h. (h.0, caught_kept f ps z.0, h.1, z.1.1, inr (calls_if (find_fun f sc.funs) x ps vs (sym (same f) ∙ e) n z.1.0));
+        call_ok = λ f ps vs x e n z h. (h.0, z.0, h.1, z.1.1, inr (calls_if (find_fun f sc.funs) x ps vs (sym (same f) ∙ e) n z.1.0));
         out_ok = λ x a n i t h lt le. (t.0, h.0, h.1, lt, le);
-        input_ok = λ k e. sym (keys k) ∙ e;
+        input_ok = λ k t e. (t.0, sym (keys k) ∙ e);
       }

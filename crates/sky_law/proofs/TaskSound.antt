@@ -1,17 +1,17 @@
 -- All that a needed task makes or waits for has its task; data without functions and references is sound.
-use Rattle.std.proofs.Common.{◌≡◌, ℕ, zero, suc, ◌-◌, List, [], ◌∷◌, Option, Some, None, Ok, Err, true, inl, inr, refl}
-use Rattle.sky_base.specs.Val.{null, truth, num, text, list, dict, fun, ref, no_vals, val, no_pairs, pair, call, out, input, known, is_plain, vals_plain, pairs_plain, Pairs}
+use Rattle.std.proofs.Common.{◌≡◌, ℕ, zero, suc, ◌-◌, List, [], ◌∷◌, Ok, Err, true, inl, inr, refl}
+use Rattle.sky_base.specs.Val.{null, truth, num, text, list, dict, fun, ref, no_vals, val, no_pairs, pair, is_plain, vals_plain, pairs_plain, Pairs}
 use Rattle.sky_base.specs.Op.{Answer}
 use Rattle.sky_base.specs.Tree.{Script}
-use Rattle.sky_base.specs.Read.{Act, made, waited, acts}
-use Rattle.sky_base.specs.See.{Val, Vals, Desc, Job, Around, world_of, run_of, see, wave}
-use Rattle.sky_base.specs.Needed.{Task, task_of, wave_refs, WaitOf, Needed}
-use Rattle.sky_law.specs.Tasks.{In, Each, maker, after_wait, made_before, made_in, wait_then, waves_from, acts_of, made_between, made_after}
+use Rattle.sky_base.specs.Read.{Act, made, waited}
+use Rattle.sky_base.specs.See.{Val, Vals, Desc, Job, Around}
+use Rattle.sky_base.specs.Needed.{Task, task_of, WaitOf, Needed}
+use Rattle.sky_law.specs.Tasks.{In, maker, after_wait, made_before, made_in, acts_of, made_between, made_after}
 use Rattle.sky_base.specs.Kept.{Kept}
-use Rattle.sky_law.specs.Sound.{RefsSound, ValsSound, PairsSound, SoundDesc, Sound, SoundTask, SoundRead, SoundReads}
+use Rattle.sky_law.specs.Sound.{RefsSound, ValsSound, PairsSound, SoundDesc, SoundRead, SoundReads}
 use Rattle.sky_base.proofs.Exact.{both_first, both_second}
 use Rattle.sky_law.proofs.TaskOutputs.{in_each}
-use Rattle.sky_law.proofs.SoundJobs.{ActOk, acts_sound, wait_sound, needed_sound, sound_maker}
+use Rattle.sky_law.proofs.SoundJobs.{made_sound, wait_sound, needed_sound, sound_maker}
 
 module _ (sc : Script) where
   mutual
@@ -67,35 +67,10 @@ module _ (job : Job) (around : Around) where
   pub later_in : (n : ℕ) (t : Task) (j : ℕ) (d : Desc) → In d (made_after job around n t j) → In d (made_in (acts_of job around n t))
   later_in n t j d h = after_in d j (acts_of job around n t) h
 
-  then_none : (d : Desc) (o : Option (List Desc)) (rest : List (Act ⊥)) → (In d (made_in rest) → ⊥) → In d (made_in (wait_then o rest)) → ⊥
-  then_none d None rest h i = i
-  then_none d (Some ds) rest h i = h i
-
-  -- the root task makes nothing
-  waves_none : (d : Desc) (n k j : ℕ) → In d (made_in (waves_from job around n k j)) → ⊥
-  unfolding waves_from
-  waves_none d n zero j h = h
-  waves_none d n (suc k) j h =
-      then_none d (wave_refs (wave job around n j)) (waves_from job around n k (suc j)) (waves_none d n k (suc j)) h
-
   module _ (reads : SoundReads job.script around) where
-    made_each : (done : List (Act ⊥)) → Each (ActOk (world_of job.script around) (Sound job.script) (SoundDesc job.script)) done → Each (SoundDesc job.script) (made_in done)
-    made_each [] h = tt
-    made_each (made x ∷ done) h = (h.0, made_each done h.1)
-    made_each (waited ds ∷ done) h = made_each done h.1
-
-    -- each description that a sound task makes is sound
-    pub made_sound : (n : ℕ) (t : Task) (d : Desc) → SoundTask job.script t → In d (made_in (acts_of job around n t)) → SoundDesc job.script d
-    made_sound n Task.show d h i = absurd (waves_none d n 100 1 i)
-    made_sound n (Task.of (call f c vs)) d h i =
-        in_each (SoundDesc job.script) (made_in (acts (see job around n) (run_of job around f c vs))) d (made_each (acts (see job around n) (run_of job around f c vs)) (acts_sound job around reads n f c vs h)) i
-    made_sound n (Task.of (out x a m k)) d h i = absurd i
-    made_sound n (Task.of (input k)) d h i = absurd i
-    made_sound n (Task.of (known b)) d h i = absurd b
-
     -- each description that a needed task makes is of the task that it names: its index is below the number of outputs
     pub made_maker : (n : ℕ) (t : Task) (d : Desc) → Needed job around t → In d (made_in (acts_of job around n t)) → maker d ≡ task_of d
-    made_maker n t d need i = sound_maker job.script d (made_sound n t d (needed_sound job around reads t need) i)
+    made_maker n t d need i = sound_maker job.script d (made_sound job around reads n t d (needed_sound job around reads t need) i)
 
     -- and so is each that it waits for
     pub waited_maker : (t : Task) (j : ℕ) (ds : List Desc) (d : Desc) → Needed job around t → WaitOf job around t j ds → In d ds → maker d ≡ task_of d

@@ -1,11 +1,12 @@
 -- The laws of what jobs mean, each said of every job.
-use Rattle.std.specs.Prelude.{◌≡◌, ◌≢◌, ℕ, suc, ◌≤◌, List, ◌++◌, true, Option, Some, None}
+use Rattle.std.specs.Prelude.{◌≡◌, ◌≢◌, ℕ, suc, ◌≤◌, List, [], ◌++◌, true, Option, Some, None}
 use Rattle.sky_base.specs.Res.{Object, Res, others}
 use Rattle.sky_base.specs.Read.{Act, Halt, refs_of, see_all, outcome, halt, segment, segment_from, first_halt, rest_of}
 use Rattle.sky_base.specs.See.{Val, Vals, Pairs, Desc, Obj, Job, Around, Answered, Means, Never, see, wave, job_answer, run_of, world_of}
 use Rattle.sky_base.specs.Needed.{Task, State, WaitOf, StandsAt, Needed, Work}
-use Rattle.sky_law.specs.Tasks.{In, Each, Chain, HeldAt, acts_of, ended, made_in}
+use Rattle.sky_law.specs.Tasks.{Batched, In, Each, Chain, HeldAt, acts_of, ended, made_in}
 use Rattle.sky_law.specs.Sound.{Sound, SoundDesc, SoundObject, SoundReads, SoundState, SoundTask}
+use Rattle.sky_law.specs.Typed.{Typed, TypedDesc, TypedJob, TypedObject, TypedState, TypedTask}
 
 -- ---- one answer
 
@@ -49,6 +50,12 @@ ActsGrow =
 abbrev pub EndedStays : Type 0
 EndedStays =
     (job : Job) (around : Around) (n m : ℕ) (t : Task) → n ≤ m → ended job around n t ≡ true → (ended job around m t ≡ true) × (acts_of job around m t ≡ acts_of job around n t)
+
+-- ---- what is made
+
+-- the outputs of an executor's task are made one after another, all of them, with no wait between
+abbrev pub MadeTogether : Type 0
+MadeTogether = (job : Job) (around : Around) (n : ℕ) (t : Task) → Batched [] (acts_of job around n t)
 
 -- ---- waits
 
@@ -97,6 +104,11 @@ abbrev pub MadeIsSound : Type 0
 MadeIsSound =
     (job : Job) (around : Around) → SoundReads job.script around → (n : ℕ) (t : Task) (d : Desc) → Needed job around t → In d (made_in (acts_of job around n t)) → SoundDesc job.script d
 
+-- what a needed task waits for is sound
+abbrev pub WaitedIsSound : Type 0
+WaitedIsSound =
+    (job : Job) (around : Around) → SoundReads job.script around → (t : Task) (j : ℕ) (ds : List Desc) → Needed job around t → WaitOf job around t j ds → Each (SoundDesc job.script) ds
+
 -- the values of a needed task at its waits are sound
 abbrev pub StateIsSound : Type 0
 StateIsSound =
@@ -106,3 +118,33 @@ StateIsSound =
 abbrev pub WaveIsSound : Type 0
 WaveIsSound =
     (job : Job) (around : Around) → SoundReads job.script around → (n j : ℕ) (v : Val) → wave job around n j ≡ Some v → Sound job.script v
+
+-- ---- types, where the script and what is read as data have them
+
+-- what is seen of a sound and typed description is typed
+abbrev pub SeenIsTyped : Type 0
+SeenIsTyped =
+    (job : Job) (around : Around) → TypedJob job around → (n : ℕ) (d : Desc) (o : Obj) → SoundDesc job.script d → TypedDesc d → see job around n d ≡ Some o → TypedObject o
+
+-- every task that is needed is typed
+abbrev pub NeededIsTyped : Type 0
+NeededIsTyped = (job : Job) (around : Around) → TypedJob job around → (t : Task) → Needed job around t → TypedTask t
+
+-- what a needed task makes is typed
+abbrev pub MadeIsTyped : Type 0
+MadeIsTyped =
+    (job : Job) (around : Around) → TypedJob job around → (n : ℕ) (t : Task) (d : Desc) → Needed job around t → In d (made_in (acts_of job around n t)) → TypedDesc d
+
+-- what a needed task waits for is typed
+abbrev pub WaitedIsTyped : Type 0
+WaitedIsTyped =
+    (job : Job) (around : Around) → TypedJob job around → (t : Task) (j : ℕ) (ds : List Desc) → Needed job around t → WaitOf job around t j ds → Each TypedDesc ds
+
+-- the values of a needed task at its waits are typed
+abbrev pub StateIsTyped : Type 0
+StateIsTyped =
+    (job : Job) (around : Around) → TypedJob job around → (t : Task) (j : ℕ) (s : State) → Needed job around t → StandsAt job around t j s → TypedState s
+
+-- the value of the result at each wave is typed
+abbrev pub WaveIsTyped : Type 0
+WaveIsTyped = (job : Job) (around : Around) → TypedJob job around → (n j : ℕ) (v : Val) → wave job around n j ≡ Some v → Typed v

@@ -3,6 +3,9 @@ pub mod Opened
 pub mod Nodes
 pub mod Tasks
 pub mod Sound
+pub mod Written
+pub mod Typed
+pub mod Refers
 pub mod Bounds
 pub mod Laws
 pub mod NamesLaws

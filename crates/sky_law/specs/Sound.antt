@@ -37,9 +37,9 @@ IsMain f c vs = (f ≡ []) × (c ≡ no_pairs) × (vs ≡ no_vals)
 -- K says which names may stand inside
 module _ {N : Type 0} (K : N → Type 0) (sc : Script) where
   -- each function in a value is of the script and captured only what it uses, and each description that it refers to is
-  -- sound; one is sound where its arguments and captured pairs keep the limits and are so too, a call is that of `main` or
-  -- one of such a function with as many arguments as it has parameters, the index of an output is below the number of
-  -- outputs, of which there are not too many, and an input is one of the script's
+  -- sound; one is sound where its arguments, and its function with what it captured, keep the limits and are so too, a call is
+  -- that of `main` or one of such a function with as many arguments as it has parameters, the index of an output is below the
+  -- number of outputs, of which there are not too many, and an input is one of the script's, by a name that keeps the limits
   abbrev mutual
     pub RefsOver : Val N → Type 0
     RefsOver null = Unit {0}
@@ -60,9 +60,9 @@ module _ {N : Type 0} (K : N → Type 0) (sc : Script) where
     PairsOver (pair k v ps) = RefsOver v × PairsOver ps
 
     pub DescOver : Desc N → Type 0
-    DescOver (call f c vs) = Kept (list vs) × Kept (dict c) × ValsOver vs × PairsOver c × (IsMain f c vs ⊎ CallsIf (find_fun f sc.funs) c vs)
+    DescOver (call f c vs) = Kept (list vs) × Kept (fun f c) × ValsOver vs × PairsOver c × (IsMain f c vs ⊎ CallsIf (find_fun f sc.funs) c vs)
     DescOver (out x v n i) = Kept {N = N} (text x) × Kept v × RefsOver v × (i < n) × (n ≤ most_outputs)
-    DescOver (input k) = is_one_of k sc.keys ≡ true
+    DescOver (input k) = Kept {N = N} (text k) × (is_one_of k sc.keys ≡ true)
     DescOver (known b) = K b
 
   -- a value that keeps the limits, and whose descriptions are sound

@@ -82,6 +82,30 @@ module _ {N : Type 0} where
   made_in (made d ∷ rest) = d ∷ made_in rest
   made_in (waited ds ∷ rest) = made_in rest
 
+-- ---- in which order it is made
+
+module _ {N : Type 0} where
+  -- what is made by itself: a call, an input
+  abbrev pub Lone : v.Desc N → Type 0
+  Lone (call f c vs) = Unit {0}
+  Lone (out x a n i) = ⊥
+  Lone (input k) = Unit {0}
+  Lone (known b) = ⊥
+
+  -- what is made at once: one such description, or all outputs of an executor's task in order
+  abbrev pub IsBatch : List (v.Desc N) → Type 0
+  IsBatch ds =
+      ((d : v.Desc N) × Lone d × (ds ≡ d ∷ [])) ⊎ ((x : List ℕ) × (a : v.Val N) × (n : ℕ) × (ds ≡ outputs x a n 0 n))
+
+  -- first the rest of a batch, then what is made in batches, with no wait inside one
+  abbrev pub Batched : List (v.Desc N) → List (Act N) → Type 0
+  Batched [] [] = Unit {0}
+  Batched (x ∷ xs) [] = ⊥
+  Batched [] (made d ∷ rest) = (xs : List (v.Desc N)) × IsBatch (d ∷ xs) × Batched xs rest
+  Batched (x ∷ xs) (made d ∷ rest) = (d ≡ x) × Batched xs rest
+  Batched [] (waited ds ∷ rest) = Batched [] rest
+  Batched (x ∷ xs) (waited ds ∷ rest) = ⊥
+
 -- ---- what a state holds
 
 abbrev pub vals_held : List Val → List Desc

@@ -1,6 +1,6 @@
 //! Laws of what a job means. Each is the contract of a function that does nothing.
 
-ghost use Rattle.sky_law.specs.Laws.{ActsGrow, AnswerStays, CircleNever, EndedStays, MadeIsSound, NeededIsSound, OneAnswer, OneHeld, OneState, OneWait, RunsOn, SeenIsSound, SeenStays, StateIsSound, WaitedIsSeen, WaveIsSound, WorkIsFinite};
+ghost use Rattle.sky_law.specs.Laws.{ActsGrow, AnswerStays, CircleNever, EndedStays, MadeIsSound, MadeIsTyped, MadeTogether, NeededIsSound, NeededIsTyped, OneAnswer, OneHeld, OneState, OneWait, RunsOn, SeenIsSound, SeenIsTyped, SeenStays, StateIsSound, StateIsTyped, WaitedIsSeen, WaitedIsSound, WaitedIsTyped, WaveIsSound, WaveIsTyped, WorkIsFinite};
 ghost use Rattle.sky_law.specs.NamesLaws.{CallsAlike, DistinctAlike, OperatorsAlike, RefsAlike, RestsAlike, StacksAlike, Tag};
 
 /// A job means at most one answer.
@@ -25,6 +25,11 @@ pub fn more_fuel_adds()
     ensures ended { EndedStays }
 {}
 
+/// The outputs of an executor's task are made one after another, all of them, with no wait between.
+pub fn outputs_are_made_together()
+    ensures batches { MadeTogether }
+{}
+
 /// A task that has ended has seen all that it waited for.
 pub fn waited_is_seen()
     ensures seen { WaitedIsSeen }
@@ -46,13 +51,26 @@ pub fn runs_go_on()
 {}
 
 /// Where what is read as data keeps the limits and names functions of the script alone, so does each
-/// value of a run: what is seen, what needed tasks hold and make, and the result at each wave.
+/// value of a run: what is seen, what needed tasks make, wait for and hold, and the result at each wave.
 pub fn values_keep_the_limits()
     ensures seen { SeenIsSound }
     ensures needed { NeededIsSound }
     ensures made { MadeIsSound }
+    ensures waited { WaitedIsSound }
     ensures state { StateIsSound }
     ensures wave { WaveIsSound }
+{}
+
+/// Where each literal of the script is a number of 64 bits or UTF-8, its names are UTF-8, and what is read as data is so
+/// too, each value of a run is: its numbers have 64 bits, its texts, keys and names are UTF-8, and its keys rise. This holds of
+/// what is seen, of what needed tasks make, wait for and hold, and of the result at each wave.
+pub fn values_keep_their_types()
+    ensures seen { SeenIsTyped }
+    ensures needed { NeededIsTyped }
+    ensures made { MadeIsTyped }
+    ensures waited { WaitedIsTyped }
+    ensures state { StateIsTyped }
+    ensures wave { WaveIsTyped }
 {}
 
 /// Names in place of descriptions change nothing that an operator answers, and nothing of which

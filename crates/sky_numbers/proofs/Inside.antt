@@ -5,7 +5,7 @@ use Rattle.sky_law.specs.Opened.{Node, exp_node, stm_node, block_node, HasExp, H
 use Rattle.sky_law.specs.Nodes.{pre_script, node_at}
 use Rattle.sky_law.proofs.NodesLaw.{has_script}
 use Rattle.sky_numbers.specs.Standing.{HasNode}
-use Rattle.sky_numbers.proofs.Counts.{script_count}
+use Rattle.sky_law.proofs.NodesLaw.{script_count}
 
 -- ---- numbers, one part after the other
 

@@ -1,4 +1,3 @@
-pub mod Counts
 pub mod Tables
 pub mod Places
 pub mod Inside

@@ -9,7 +9,7 @@ use Rattle.sky_law.specs.Opened.{Node, exp_node, stm_node}
 use Rattle.sky_law.specs.Nodes.{pre_exp, pre_steps, pre_stm, pre_stms, pre_arms, pre_block, pre_funs, pre_script}
 use Rattle.sky_code.specs.Numbers.{node_size, ends_from, ends_of, starts_from, starts_of}
 use Rattle.sky_numbers.specs.Filled.{Rows, begun, ended, Filled, Fits, in_exp, in_stm, in_step}
-use Rattle.sky_numbers.proofs.Counts.{exp_count, stm_count, block_count, script_count}
+use Rattle.sky_law.proofs.NodesLaw.{exp_count, stm_count, block_count, script_count}
 
 ends_append : (xs ys : List Node) (n : ℕ) → ends_from (xs ++ ys) n ≡ ends_from xs n ++ ends_from ys (n + length xs)
 ends_append [] ys n = let e : n ≡ n + 0 = omega arith in ap (ends_from ys) e

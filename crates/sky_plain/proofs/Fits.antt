@@ -8,6 +8,7 @@ use Rattle.sky_base.specs.Read.{refs_of}
 use Rattle.sky_law.specs.Tasks.{In, Each}
 use Rattle.sky_law.specs.Sound.{RefsOver, ValsOver, PairsOver, DescOver, SoundOver}
 use Rattle.sky_law.proofs.FineLaw.{Fine, ObjectOk, EndOk}
+use Rattle.sky_law.proofs.WrittenLaw.{any_made}
 use Rattle.sky_rows.proofs.Learn.{Learned, learned_new}
 use Rattle.sky_rows.specs.Walk.{Row, is_held, Seen, seen_one, Stop, Walked, learn_to, on_learned, on_seen, look, walk}
 
@@ -44,7 +45,7 @@ module _ {N : Type 0} (sc : Script) (K L : N → Type 0) (more : (b : N) → K b
 
 -- ---- what a run comes to
 
-module _ (w : World (List ℕ)) (P : Val (List ℕ) → Type 0) (Q : Row → Type 0) (knows : Row → Option (Object (List ℕ))) (known_ok : (d : Row) (o : Object (List ℕ)) → Q d → knows d ≡ Some o → ObjectOk w P Q o) where
+module _ (w : World (List ℕ)) (P : Val (List ℕ) → Type 0) (Q : Row → Type 0) (V : Pairs (List ℕ) → Type 0) (knows : Row → Option (Object (List ℕ))) (known_ok : (d : Row) (o : Object (List ℕ)) → Q d → knows d ≡ Some o → ObjectOk w P Q o) where
   abbrev pub StopOk : Stop → Type 0
   StopOk (Stop.ended e st) = EndOk w P Q e
   StopOk (Stop.waits e) = Q e
@@ -84,9 +85,13 @@ module _ (w : World (List ℕ)) (P : Val (List ℕ) → Type 0) (Q : Row → Typ
   asked_ok rows k (Seen.all os) next h = next os h
   asked_ok rows k (Seen.lacks e) next h = record { rows_ok = λ c i. inl i; stop_ok = h }
 
-  pub walk_ok : (q : Res (List ℕ)) (d : ℕ) (rows : List Row) → Fine w P Q d q → WalkOk rows (walk knows rows q)
-  walk_ok (Fin e st) d rows h = record { rows_ok = λ c i. inl i; stop_ok = h.0 }
-  walk_ok (Tell o r) d rows h =
-      told_ok rows o r (learn_to rows o) h.0 (λ more. walk_ok r d more h.1) (learned_new (is_held o rows) rows o)
-  walk_ok (Ask q fr st k) d rows h =
-      asked_ok rows k (look knows (refs_of q)) (λ os each. walk_ok (k os) d rows (h.1 os each)) (look_ok (refs_of q) h.0.0)
+  asked : ((d : Row) → P (ref d) → Q d) → (ds : List Row) → Each (λ d. P (ref d)) ds → Each Q ds
+  asked to [] h = tt
+  asked to (d ∷ ds) h = (to d h.0, asked to ds h.1)
+
+  pub walk_ok : ((d : Row) → P (ref d) → Q d) → (q : Res (List ℕ)) (d : ℕ) (rows : List Row) → Fine w P Q V any_made d q → WalkOk rows (walk knows rows q)
+  walk_ok to (Fin e st) d rows h = record { rows_ok = λ c i. inl i; stop_ok = h.0 }
+  walk_ok to (Tell o r) d rows h =
+      told_ok rows o r (learn_to rows o) h.0 (λ more. walk_ok to r d more (h.1 tt)) (learned_new (is_held o rows) rows o)
+  walk_ok to (Ask q fr st k) d rows h =
+      asked_ok rows k (look knows (refs_of q)) (λ os each. walk_ok to (k os) d rows (h.1 os each)) (look_ok (refs_of q) (asked to (refs_of q) h.0.0))

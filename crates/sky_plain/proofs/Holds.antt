@@ -10,7 +10,8 @@ use Rattle.sky_base.specs.See.{slot, start_st}
 use Rattle.sky_law.specs.Tasks.{In, Apart}
 use Rattle.sky_law.specs.Sound.{DescOver, SoundOver}
 use Rattle.sky_law.proofs.FineLaw.{Closed, ObjectOk, fine_call}
-use Rattle.sky_law.proofs.SoundOps.{SoundAnswer, sound_closed, dict_inside}
+use Rattle.sky_law.proofs.SoundOps.{SoundAnswer, Vars, sound_closed, caught_kept, dict_inside}
+use Rattle.sky_law.proofs.WrittenLaw.{any_lit, any_made, any_name, written_any}
 use Rattle.sky_rows.specs.Walk.{Row, Stop, stops, walk, known_of, object_at, number_of, Numbers, most_rows}
 use Rattle.sky_rows.specs.Number.{index_of}
 use Rattle.sky_plain.specs.Stand.{Puts, Below, RowFits, ObjectFits, Fits, StopFits, ReadFits}
@@ -75,6 +76,9 @@ module _ (sc : Script) (reads : List ℕ → Answer (List ℕ)) (read_fits : (b 
         let h : length after ≡ length rows + length more = ap length begins ∙ length-append rows more in
         omega (arith, h)
 
+    abbrev V : Pairs (List ℕ) → Type 0
+    V ps = Vars (List ℕ) K sc safe_world ps
+
     slot_below : (d : Row) → K (slot (safe d after))
     slot_below d =
         let l : safe d after < length after = safe_below d after some in
@@ -82,7 +86,7 @@ module _ (sc : Script) (reads : List ℕ → Answer (List ℕ)) (read_fits : (b 
         let e : number_of (slot (safe d after)) ≡ safe d after = number_slot (safe d after) (omega (arith, l, s)) in
         subst (λ i. i < length after) (sym e) l
 
-    closed : Closed safe_world P Q
+    closed : Closed safe_world P Q V any_made any_lit any_name
     closed =
         sound_closed (List ℕ) K sc safe_world (λ f. refl) (λ k. refl) (λ b. read_answer (length after) (reads b) (read_fits b)) (λ d h. slot_below d)
 
@@ -97,7 +101,7 @@ module _ (sc : Script) (reads : List ℕ → Answer (List ℕ)) (read_fits : (b 
     known_ok (call f c vs) o q e = absurd cc
     known_ok _ o q e = absurd cc
 
-    stop_fits : (s : Stop) → StopOk safe_world P Q (known_of objects) known_ok s → StopFits sc (length after) s
+    stop_fits : (s : Stop) → StopOk safe_world P Q V (known_of objects) known_ok s → StopFits sc (length after) s
     stop_fits (Stop.ended End.goes st) h = closed.null_ok
     stop_fits (Stop.ended (End.got v) st) h = h
     stop_fits (Stop.ended (End.returned v) st) h = h
@@ -125,9 +129,9 @@ module _ (sc : Script) (reads : List ℕ → Answer (List ℕ)) (read_fits : (b 
         go : (s : Stop) × (walk (known_of objects) rows (body_at safe_world bodies f ca us nowhere start_st) ≡ stops after s) × S s → (s : Stop) × Fit s × S s
         go (s, e, is) = (s, fit, is)
           where
-            ok : WalkOk safe_world P Q (known_of objects) known_ok rows (stops after s)
+            ok : WalkOk safe_world P Q V (known_of objects) known_ok rows (stops after s)
             ok =
-                subst (WalkOk safe_world P Q (known_of objects) known_ok rows) e (walk_ok safe_world P Q (known_of objects) known_ok (body_at safe_world bodies f ca us nowhere start_st) others rows (fine_call safe_world P Q closed others f ca us nowhere start_st tt (dict_inside (List ℕ) K sc ca (args.1, args.3)) (closed.inside_ok us (args.0, args.2))))
+                subst (WalkOk safe_world P Q V (known_of objects) known_ok rows) e (walk_ok safe_world P Q V (known_of objects) known_ok (λ d h. h.1) (body_at safe_world bodies f ca us nowhere start_st) others rows (fine_call safe_world P Q V any_made any_lit any_name closed (written_any sc) others f ca us nowhere start_st tt (dict_inside (List ℕ) K sc ca (caught_kept f ca args.1, args.3)) (closed.inside_ok us (args.0, args.2))))
 
             fit : Fit s
             fit = (λ d j. either d (ok.rows_ok d j), stop_fits s ok.stop_ok)

@@ -3,6 +3,7 @@ use Rattle.std.proofs.Common.{◌≡◌, ◌≤◌, ◌<◌, ℕ, suc, ◌+◌, 
 use Rattle.std.proofs.lemmas.List.{append_assoc, append-nil}
 use Rattle.sky_base.specs.See.{Desc, Job, Around}
 use Rattle.sky_law.specs.Tasks.{Apart}
+use Rattle.sky_law.proofs.SoundOps.{caught_kept}
 use Rattle.sky_base.specs.Val.{call, out}
 use Rattle.sky_rows.specs.Walk.{Obj}
 use Rattle.sky_rows.specs.Walk.{Row, object_at, is_known, most_rows}
@@ -131,7 +132,7 @@ module _ (job : Job) (around : Around) where
   pub calls_kept : (rows : List Row) (objects : List (Option Obj)) → Standing job around rows objects → CallsKept rows
   calls_kept rows objects standing k f c vs e =
       let fit = standing.fits.rows_fit (call f c vs) (got_in rows k (call f c vs) e) in
-      (fit.0, fit.1)
+      (fit.0, caught_kept f c fit.1)
 
   -- 4,096 descriptions are open
   pub open_deep : (rows : List Row) (objects : List (Option Obj)) (first k : ℕ) (ks : List ℕ) → Apart rows → length rows ≤ most_rows → length (k ∷ ks) ≡ most_open → Open job around rows objects first (k ∷ ks) → (d : Desc) × Chain job around most_open d

@@ -30,7 +30,8 @@ use Rattle.sky_state.specs.Start.{StartsIn, StartsCall, SoundVals, CanStart}
 use Rattle.sky_state.specs.Stands.{Stands, StandsForCall, StandsForShow}
 use Rattle.sky_state.specs.Chained.{body_places, Chained}
 use Rattle.sky_state.proofs.LinkLaw.{Linked, linked_call}
-use Rattle.sky_state.proofs.LowFits.{used_low, sound_low, vars_low}
+use Rattle.sky_law.proofs.SoundLow.{sound_low, vars_low, call_low}
+use Rattle.sky_law.proofs.SoundOps.{caught_kept}
 use Rattle.sky_state.proofs.Starts.{starts_fit}
 use Rattle.sky_state.proofs.SavedLaw.{saved_fits, fits_low}
 
@@ -75,18 +76,10 @@ module _ (tag : Tag) (sc : Script) where
   vals_low no_vals h = tt
   vals_low (val u vs) h = (sound_low no_name tag sc u h.0, vals_low vs h.1)
 
-  calls_low : (o : Option FunDef) (c : Pairs) (vs : Vals) → CallsIf o c vs → CallsIf o (low_pairs no_name tag c) (low_vals no_name tag vs)
-  calls_low None c vs h = h
-  calls_low (Some d) c vs h = (used_low no_name tag d.uses c h.0, h.1 ∙ sym (count_low no_name tag vs))
-
-  call_low : (f : List ℕ) (c : Pairs) (vs : Vals) → IsMain f c vs ⊎ CallsIf (find_fun f sc.funs) c vs → IsMain f (low_pairs no_name tag c) (low_vals no_name tag vs) ⊎ CallsIf (find_fun f sc.funs) (low_pairs no_name tag c) (low_vals no_name tag vs)
-  call_low f c vs (inl m) = inl (m.0, ap (low_pairs no_name tag) m.1, ap (low_vals no_name tag) m.2)
-  call_low f c vs (inr h) = inr (calls_low (find_fun f sc.funs) c vs h)
-
   -- a sound call may be started over names
   pub can_start : (f : List ℕ) (c : Pairs) (vs : Vals) → SoundDesc sc (call f c vs) → CanStart sc f (low_pairs no_name tag c) (low_vals no_name tag vs)
   can_start f c vs h =
-      record { call = call_low f c vs h.4; caught = vars_low no_name tag sc c (pairs_vars sc c h.1 h.3); args = vals_low vs (vals_each sc vs h.0 h.2) }
+      record { call = call_low no_name tag sc f c vs h.4; caught = vars_low no_name tag sc c (pairs_vars sc c (caught_kept f c h.1) h.3); args = vals_low vs (vals_each sc vs h.0 h.2) }
 
 -- ---- states at waits
 
@@ -119,7 +112,7 @@ module _ (tag : Tag) (job : Job) (around : Around) where
         let w = world_of job.script around in
         let chain : Chained job.script (λ k. node_at job.script k) (body_places (body_of f job.script)) h.forms = subst (ChainedHalt w (λ k. node_at job.script k) (see job around n) (body_places (body_of f job.script))) e (chained_halt w (λ k. node_at job.script k) (see job around n) (body_places (body_of f job.script)) (run_of job around f c vs) i (linked_call w (λ k. node_at job.script k) bodies f c vs nowhere start_st (has_script job.script))) in
         let frames_left : length (frames_of h.forms f h.st.vars) + inner w h.forms others ≡ bodies = task_open job around (see job around n) i f c vs h e in
-        let visits_at : (0 + i < h.st.count) × (h.st.count ≤ visits) = subst (Enough w (see job around n) 0 i) e (enough w (see job around n) (run_of job around f c vs) 0 i (climbs_call w bodies f c vs nowhere 0 start_st within)) in
+        let visits_at : (0 + i < h.st.count) × (h.st.count ≤ visits) = subst (Enough w (see job around n) 0 i) e (enough w (see job around n) (run_of job around f c vs) 0 i [] (climbs_call w bodies f c vs nowhere 0 start_st within)) in
         fits_low no_name tag job.script (run_of_halt f (suc i) h) (saved_fits job.script f (suc i) h chain s (omega (arith, frames_left)) visits_at.1 (omega arith) (omega (arith, visits_at.0))) (omega arith)
 
     call_fits : (n i : ℕ) (f : List ℕ) (c : Pairs) (vs : Vals) (x : Option (Halt ⊥)) (a : State) → halt (see job around n) i (run_of job around f c vs) ≡ x → halt_state f (suc i) x ≡ Some a → SoundState job.script a → Fits job.script (low_state tag a)

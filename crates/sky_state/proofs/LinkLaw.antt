@@ -9,6 +9,7 @@ use Rattle.sky_base.specs.Eval.{World, find_fun, is_one_of, Body, find_body, fin
 use Rattle.sky_law.specs.Opened.{Node, exp_node, stm_node, block_node, HasExp, HasExps, HasLinks, HasAnds, HasSteps, HasStm, HasStms, HasArms, HasElse, HasFuns, HasScript}
 use Rattle.sky_law.specs.Nodes.{node_at}
 use Rattle.sky_law.specs.Tasks.{In}
+use Rattle.sky_law.proofs.BodiesLaw.{HasBody, has_body, body_stands}
 use Rattle.sky_law.proofs.NodesLaw.{has_script}
 use Rattle.sky_law.specs.Sound.{IsFun}
 use Rattle.sky_state.specs.Table.{Row, part, pending, turn, open_call, on_by, past_part, past_link, past_and, past_arm, past_stm, past_sign, Spot, in_index, in_call, spot_of, past_spot, part_row, link_row, and_row, sign_row, spot_row, exp_row, arm_row, arm_blocks, else_block, stm_row, stm_places, ran_row, block_row, row}
@@ -37,28 +38,9 @@ up_one k i e = omega (arith, e)
 up_two : (k i : ℕ) → k ≡ suc (suc i) → k + 1 ≡ suc (suc (suc i))
 up_two k i e = omega (arith, e)
 
--- ---- bodies
-
-module _ (at : ℕ → Option Node) where
-  abbrev pub HasBody : Option Body → Type 0
-  HasBody None = Unit {0}
-  HasBody (Some b) = (at b.node ≡ Some (block_node b.block)) × HasStms at b.block (b.node + 1)
-
-  has_found : (b : Bool) (f : FunDef) (i : ℕ) (o : Option Body) → (at i ≡ Some (block_node f.body)) × HasStms at f.body (i + 1) → HasBody o → HasBody (find_body_if b f i o)
-  has_found true f i o h g = h
-  has_found false f i o h g = g
-
-  has_find : (x : List ℕ) (fs : List FunDef) (i : ℕ) → HasFuns at fs i → HasBody (find_body x fs i)
-  has_find x [] i h = tt
-  has_find x (f ∷ fs) i h = has_found (same_text x f.name) f i (find_body x fs (i + block_nodes f.body)) h.0 (has_find x fs (i + block_nodes f.body) h.1)
-
-  pub has_body : (f : List ℕ) (sc : Script) → HasScript at sc → HasBody (body_of f sc)
-  has_body [] sc h = h.0
-  has_body (x ∷ xs) sc h = has_find (x ∷ xs) sc.funs (block_nodes sc.main) h.1
-
 -- the node of a body is that of its block
 pub block_of_body : (sc : Script) (f : List ℕ) (b : Body) → body_of f sc ≡ Some b → node_at sc b.node ≡ Some (block_node b.block)
-block_of_body sc f b e = (subst (HasBody (λ i. node_at sc i)) e (has_body (λ i. node_at sc i) f sc (has_script sc))).0
+block_of_body sc f b e = (body_stands sc f b e).0
 
 one_more : (k : ℕ) → k + 1 ≡ suc k
 one_more k = omega arith

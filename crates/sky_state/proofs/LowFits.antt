@@ -13,49 +13,6 @@ use Rattle.sky_state.specs.Table.{Row, part, turn, star, outputs, open_call, no_
 use Rattle.sky_state.specs.Fits.{IsList, IsNumber, IsReference, AllReferences, IsListOfReferences, One, Two, OfKinds, UpTo, UpToLength, TakenFrom, shares}
 
 module _ {N : Type 0} (spell : N → List ℕ) (tag : Desc (List ℕ) → List ℕ) where
-  pub used_low : (us : List (List ℕ)) (ps : Pairs N) → AllUsed us ps → AllUsed us (low_pairs spell tag ps)
-  used_low us no_pairs h = tt
-  used_low us (pair k v ps) h = (h.0, used_low us ps h.1)
-
-  pub takes_low : (o : Option FunDef) (c : Pairs N) → TakesIf o c → TakesIf o (low_pairs spell tag c)
-  takes_low None c h = h
-  takes_low (Some d) c h = used_low d.uses c h
-
-  module _ (sc : Script) where
-    mutual
-      refs_sound_low : (v : Val N) → RefsSound sc v → RefsSound sc (low spell tag v)
-      refs_sound_low null h = tt
-      refs_sound_low (truth b) h = tt
-      refs_sound_low (num z) h = tt
-      refs_sound_low (text t) h = tt
-      refs_sound_low (list vs) h = vals_sound_low vs h
-      refs_sound_low (dict ps) h = pairs_sound_low ps h
-      refs_sound_low (fun f c) h = (takes_low (find_fun f sc.funs) c h.0, pairs_sound_low c h.1)
-      refs_sound_low (ref d) h = tt
-
-      vals_sound_low : (vs : Vals N) → ValsSound sc vs → ValsSound sc (low_vals spell tag vs)
-      vals_sound_low no_vals h = tt
-      vals_sound_low (val v vs) h = (refs_sound_low v h.0, vals_sound_low vs h.1)
-
-      pairs_sound_low : (ps : Pairs N) → PairsSound sc ps → PairsSound sc (low_pairs spell tag ps)
-      pairs_sound_low no_pairs h = tt
-      pairs_sound_low (pair k v ps) h = (refs_sound_low v h.0, pairs_sound_low ps h.1)
-
-    kept_low : (v : Val N) → Kept v → Kept (low spell tag v)
-    kept_low v h =
-        record { deep = subst (λ n. n ≤ 100) (sym (depth_low spell tag v)) h.deep; large = subst (λ n. n ≤ 262144) (sym (size_low spell tag v)) h.large }
-
-    pub sound_low : (v : Val N) → Sound sc v → Sound sc (low spell tag v)
-    sound_low v h = (kept_low v h.0, refs_sound_low v h.1)
-
-    pub vars_low : (ps : Pairs N) → SoundVars sc ps → SoundVars sc (low_pairs spell tag ps)
-    vars_low no_pairs h = tt
-    vars_low (pair k v ps) h = (sound_low v h.0, vars_low ps h.1)
-
-    pub stack_low : (vs : List (Val N)) → Each (Sound sc) vs → Each (Sound sc) (map (low spell tag) vs)
-    stack_low [] h = tt
-    stack_low (v ∷ vs) h = (sound_low v h.0, stack_low vs h.1)
-
   -- ---- kinds
 
   is_list_low : (v : Val N) → IsList v → IsList (low spell tag v)

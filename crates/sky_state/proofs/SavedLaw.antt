@@ -14,7 +14,8 @@ use Rattle.sky_law.specs.Tasks.{Each}
 use Rattle.sky_state.specs.Fits.{Last, Before, row_of, FitsFrame, FunsOf, IsStart, FitsRun}
 use Rattle.sky_state.specs.Table.{IsOpenCall, IsWaiting}
 use Rattle.sky_state.specs.Chained.{body_places, Chained}
-use Rattle.sky_state.proofs.LowFits.{vars_low, stack_low, shares_kinds_low, shares_taken_low}
+use Rattle.sky_law.proofs.SoundLow.{vars_low, stack_low}
+use Rattle.sky_state.proofs.LowFits.{shares_kinds_low, shares_taken_low}
 use Rattle.sky_state.proofs.StackLaw.{FirstIn, Laid, Called, LaidAll, Stacked, stacked, on_body}
 
 module _ {N : Type 0} (sc : Script) where

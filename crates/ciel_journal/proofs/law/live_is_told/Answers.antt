@@ -1,6 +1,9 @@
 use Rattle.ciel_journal.proofs.OpenTold.{open_told, saved_told}
 use Rattle.ciel_journal.proofs.Started.{live_text}
 use Rattle.ciel_journal.proofs.Told.{book_told, closes_told, starts_told}
+use Rattle.ciel_journal.proofs.Begins.{began}
+use Rattle.ciel_journal.proofs.ByName.{placed_text}
+use Rattle.ciel_journal.proofs.Ends.{gone_told, over_told}
 use Rattle.ciel_journal.proofs.law.live_is_told.Goals as goal
 
 pub returns-clause-live : goal.returns-clause-live
@@ -17,3 +20,15 @@ returns-clause-open g c job laws p h l k w t from = open_told job laws p h l k w
 
 pub returns-clause-saved : goal.returns-clause-saved
 returns-clause-saved g c job laws p h l s = saved_told job laws p h l s
+
+pub returns-clause-places : goal.returns-clause-places
+returns-clause-places g c job laws p h l d w = placed_text job laws p h l d w
+
+pub returns-clause-gone : goal.returns-clause-gone
+returns-clause-gone g c job h w = gone_told job h w
+
+pub returns-clause-over : goal.returns-clause-over
+returns-clause-over g c job laws p h l = over_told job laws p h l
+
+pub returns-clause-stood : goal.returns-clause-stood
+returns-clause-stood g c job h o i = let m = began job h o i in record { before = m.before; rest = m.rest; whole = m.whole; stood = m.stood }

@@ -10,7 +10,7 @@ use Rattle.sky_entries.specs.Config.{room, rest_in, config}
 use Rattle.sky_entries.specs.Entries.{forms}
 use Rattle.sky_calls.proofs.Begun.{entering, opens, call_is, too_deep, no_body, enters, starts_so, open_ready}
 use Rattle.sky_calls.proofs.Rooms.{room_is}
-use Rattle.sky_calls.proofs.Found.{body_found}
+use Rattle.sky_law.proofs.BodiesLaw.{body_stands}
 use Rattle.sky_calls.proofs.call.call.Goals as goal
 
 pub returns-then-not-visit-clause-same : goal.returns-then-not-visit-clause-same
@@ -63,7 +63,7 @@ open_block-requires-clause-ready c =
 
 pub open_block-requires-clause-has : goal.open_block-requires-clause-has
 open_block-requires-clause-has c =
-    body_found c.args.code.now c.in-Ok.callee.name.now _ c.in-Some.ensures
+    body_stands c.args.code.now c.in-Ok.callee.name.now _ c.in-Some.ensures
 
 pub returns-clause-same : goal.returns-clause-same
 returns-clause-same c = λ w h.

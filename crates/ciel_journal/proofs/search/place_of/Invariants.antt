@@ -1,6 +1,0 @@
-use Rattle.std.proofs.Common.{◌≡◌, drop, nat_eq}
-use Rattle.std.specs.List.{list_any}
-use Rattle.ciel_journal.proofs.search.place_of.Given as goal
-
-abbrev pub invariant-loop-i : goal.invariant-loop-i
-invariant-loop-i l = list_any (nat_eq l.fn.name) (drop l.i l.fn.names) ≡ list_any (nat_eq l.fn.name) l.fn.names

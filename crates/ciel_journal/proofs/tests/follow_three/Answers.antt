@@ -1,6 +1,0 @@
-use Rattle.std.proofs.Common.{nat_eq}
-use Rattle.ciel_journal.proofs.ThreeLaw.{three_within}
-use Rattle.ciel_journal.proofs.tests.follow_three.Goals as goal
-
-pub follow-requires : goal.follow-requires
-follow-requires c = record { within = three_within (λ name. nat_eq name c.args.live) }
