@@ -5,6 +5,9 @@ ghost use Rattle.std.specs.Option.{option_map};
 ghost use Rattle.sky_base.specs.Kept.{Kept};
 ghost use Rattle.sky_base.specs.View.{view};
 ghost use Rattle.sky_law.specs.Nodes.{node_at};
+ghost use Rattle.sky_law.specs.Opened as saved;
+ghost use Rattle.sky_numbers.specs.Filled.{node_view};
+ghost use Rattle.sky_numbers.specs.Standing.{HasNode};
 ghost use Rattle.sky_law.specs.Tasks.{Each};
 ghost use Rattle.sky_scope.specs.Plain.{Pairs};
 ghost use Rattle.sky_scope.specs.RunView.{KeptPairs};
@@ -25,6 +28,7 @@ use sky_base::text::Memory;
 use sky_base::value::{Pairs, Value};
 use sky_code::code::Code;
 use sky_entries::entry::Entry;
+use sky_numbers::node::NodeRef;
 use sky_numbers::nodes::Nodes;
 use sky_opened::node::open_node;
 use sky_opened::postfix::Caller;
@@ -111,7 +115,8 @@ fn open_frame<'a>(
     let mut rest = frame.todo.as_slice();
     while let Some((todo, further)) = rest.split_first() {
         let call = caller(frame, above, further);
-        values = open_todo(alloc, code, nodes, entries, todo, values, call)?;
+        let others = open_todo(alloc, code, nodes, entries, todo, values, call)?;
+        values = others;
         rest = further;
     }
     Ok(())
@@ -161,13 +166,32 @@ fn open_todo<'a, 'b>(
     let own = keeps(code, todo.node, &node, todo.step);
     few(code, todo.node, &node);
     let (kept, rest) = values.split_at(own);
-    let Some(entry) = open_node(alloc, code, todo.node, node, todo.step, kept, call)? else {
-        unreachable!()
-    };
+    let entry = open_entry(alloc, code, todo.node, node, todo.step, kept, call)?;
     let Ok(()) = entries.push(entry) else {
         return Err(Memory);
     };
     Ok(rest)
+}
+
+// The form of a node at a step where there is one.
+fn open_entry<'a>(
+    alloc: Global,
+    code: &Code,
+    number: u32,
+    node: NodeRef<'a>,
+    step: u32,
+    kept: &[Value],
+    call: Option<Caller>,
+) -> Result<Entry<'a>, Memory>
+    requires has { HasNode (λ i. node_at code.now i) (node_view node) number }
+    requires caller { IfSome call (λ c. KeptPairs c.vars.now) }
+    requires opens { IsSome (saved.opened (node_view node) number step (stack_view kept.now) (call_of call)) }
+    ensures { IfOk result (λ en. saved.opened (node_view node.entry) number step (stack_view kept.now) (call_of call.entry) ≡ Some (entry_of en)) }
+{
+    match open_node(alloc, code, number, node, step, kept, call)? {
+        Some(entry) => Ok(entry),
+        None => unreachable!(),
+    }
 }
 
 // The variables of the innermost body.
