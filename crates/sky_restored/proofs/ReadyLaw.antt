@@ -2,17 +2,17 @@
 use Rattle.std.proofs.Common.{◌≡◌, ◌<◌, ◌≤◌, ◌+◌, ◌^◌, ℕ, zero, suc, List, [], ◌∷◌, length, reverse, Option, Some, None, pos, negsuc, refl, sym, ap, ◌∙◌, subst, arith}
 use Rattle.std.proofs.lemmas.List.{length-reverse}
 use Rattle.std.specs.Option.{option_map, option_and_then}
-use Rattle.sky_base.specs.Val.{Val, Vals, Pairs, Desc, null, truth, num, text, list, dict, fun, ref, no_vals, val, vals_of}
-use Rattle.sky_base.specs.Tree.{Place, nowhere, Junction, SignAt, Form, Exp, Exps, Links, Ands, Steps, Stm, Stms, Arms, Else, nodes, exps_nodes, stm_nodes, block_nodes, arms_nodes}
+use Rattle.sky_base.specs.Val.{Val, Desc, null, truth, num, text, list, dict, fun, ref, vals_of}
+use Rattle.sky_base.specs.Tree.{Place, Junction, SignAt, Form, Exp, Exps, Links, Ands, Steps, Stm, Stms, Arms, Else, nodes, exps_nodes, stm_nodes, arms_nodes}
 use Rattle.sky_base.specs.Kept.{Kept}
 use Rattle.sky_base.specs.Res.{Entry, exec_wait, part_at, chain_more, logic_at, star_wait, index_at, arg_at, call_open, put_index, put_value, arm_test, for_list, for_body, block_at}
-use Rattle.sky_law.specs.Opened.{Node, exp_node, stm_node, block_node, Pos, finished, in_index, in_args, HasExp, HasExps, HasLinks, HasAnds, HasSteps, HasStm, HasStms, HasArms, HasElse, next_part, next_link, next_and, next_arm, next_stm, next_sign, enter_pos, next_pos, times, at_first, at_two, ref_on, descs_of, exec_list, exec_open, part_open, link_open, and_open, sign_open, pos_open, put_open, arm_open, each_open, for_open, opened_exp, opened_stm, opened}
+use Rattle.sky_law.specs.Opened.{Node, exp_node, stm_node, block_node, Pos, finished, in_index, in_args, HasExp, HasExps, HasLinks, HasAnds, HasSteps, HasStm, HasStms, HasArms, HasElse, next_part, next_link, next_and, next_arm, next_stm, next_sign, enter_pos, next_pos, times, at_first, at_two, descs_of, exec_open, part_open, link_open, and_open, sign_open, pos_open, put_open, arm_open, each_open, for_open, opened_exp, opened_stm, opened}
 use Rattle.sky_law.specs.Tasks.{Each}
 use Rattle.sky_numbers.specs.Standing.{HasNode}
 use Rattle.sky_code.proofs.Bodies.{nodes_pos, stm_nodes_pos}
 use Rattle.sky_scope.specs.RunView.{KeptVals, KeptPairs}
 use Rattle.sky_entries.specs.Ready.{steps_left, IsReady, HasBlock}
-use Rattle.sky_state.specs.Table.{Row, on_by, past_stm, ran_row, row, IsStep}
+use Rattle.sky_state.specs.Table.{on_by, past_stm, ran_row, row, IsStep}
 use Rattle.sky_opened.specs.Spots.{HasPos}
 use Rattle.sky_opened.proofs.Places.{enter_has, next_has}
 use Rattle.sky_restored.specs.Few.{FewSteps, Few}
@@ -134,7 +134,7 @@ module _ (at : ℕ → Option Node) where
   stms_ok : (i m r : ℕ) (b : Stms) (s : Stm) (more : Stms) → HasStms at b m → on_by past_stm i (m, b) ≡ Some (r, Stms.stm s more) → (m + i ≤ r) × HasStms at (Stms.stm s more) r × (times next_stm i (m, b) ≡ (r, Stms.stm s more))
   stms_ok zero m r b s more h e =
       let f : (m, b) ≡ (r, Stms.stm s more) = some_is (m, b) (r, Stms.stm s more) e in
-      let g : m ≡ r = ap (λ x. x.0) f in
+      let g : m ≡ r = ap (λ (x : ℕ × Stms). x.0) f in
       (omega (arith, g), subst (λ (x : ℕ × Stms). HasStms at x.1 x.0) f h, f)
   stms_ok (suc i) m r b s more h e = go (on_by past_stm i (m, b)) refl e (λ n x xs d. stms_ok i m n b x xs h d)
     where
@@ -144,7 +144,7 @@ module _ (at : ℕ → Option Node) where
       go (Some (n, Stms.stm x xs)) d q again =
           let up = again n x xs d in
           let f : (n + stm_nodes x, xs) ≡ (r, Stms.stm s more) = some_is (n + stm_nodes x, xs) (r, Stms.stm s more) q in
-          let g : n + stm_nodes x ≡ r = ap (λ z. z.0) f in
+          let g : n + stm_nodes x ≡ r = ap (λ (z : ℕ × Stms). z.0) f in
           (omega (arith, up.0, g, stm_nodes_pos x), subst (λ (z : ℕ × Stms). HasStms at z.1 z.0) f up.1.1, ap next_stm up.2 ∙ f)
 
   -- ---- expressions

@@ -1,18 +1,18 @@
 -- The forms of the frames of forms under way are these forms again.
-use Rattle.std.proofs.Common.{append-nil, ◌≡◌, ℕ, suc, ◌+◌, List, [], ◌∷◌, ◌++◌, length, take, drop, Option, Some, None, refl, sym, ap, ap₂, ◌∙◌, subst, arith}
+use Rattle.std.proofs.Common.{append-nil, ◌≡◌, ℕ, suc, List, [], ◌∷◌, ◌++◌, length, take, drop, Option, Some, None, refl, sym, ap, ◌∙◌, subst}
 use Rattle.std.proofs.Math.Seq.{drop-append_seam}
 use Rattle.std.specs.Option.{option_and_then}
 use Rattle.sky_base.specs.Val.{Val, Pairs}
 use Rattle.sky_base.specs.Tree.{Script}
 use Rattle.sky_base.specs.Res.{Entry, parens_in, part_at, chain_first, chain_more, logic_at, prefix_part, star_wait, postfix_first, index_at, arg_at, call_open, exec_wait, set_part, add_part, put_index, put_value, return_part, just_part, arm_test, while_test, while_body, repeat_body, repeat_test, for_list, for_body, block_at, node_of, step_of, kept_of, opens}
-use Rattle.sky_base.specs.Eval.{Body, body_of}
+use Rattle.sky_base.specs.Eval.{body_of}
 use Rattle.sky_base.specs.Read.{Todo, Frame, joined, todo_of, in_front, frame_of, frames_of}
 use Rattle.sky_law.specs.Opened.{Node, opened, Opened}
 use Rattle.sky_law.specs.Nodes.{node_at}
-use Rattle.sky_law.specs.Tasks.{In, Each}
+use Rattle.sky_law.specs.Tasks.{Each}
 use Rattle.sky_state.specs.Table.{Row, part, turn, star, outputs, open_call, no_step, keeps}
 use Rattle.sky_state.specs.Fits.{row_of}
-use Rattle.sky_state.specs.Chained.{body_places, row_at, KeptBy, Above, Chained, AllOpened, Formed}
+use Rattle.sky_state.specs.Chained.{body_places, row_at, Above, Chained, AllOpened, Formed}
 use Rattle.sky_entries.specs.Config as config
 use Rattle.sky_restored.specs.Restoring.{Call, call_above, call_last, form_at, own, others, todo_forms, frames_forms, top_vars}
 

@@ -1,12 +1,12 @@
 -- One entry more, and one frame more.
-use Rattle.std.proofs.Common.{◌≡◌, ◌≤◌, ◌-◌, ℕ, zero, suc, ◌+◌, List, [], ◌∷◌, ◌++◌, length, take, drop, map, Option, Some, None, IsSome, IfSome, slice_get, refl, sym, ap, ◌∙◌, subst, arith, append-nil, append_assoc}
+use Rattle.std.proofs.Common.{◌≡◌, ◌≤◌, ◌-◌, ℕ, zero, suc, ◌+◌, List, [], ◌∷◌, ◌++◌, length, take, drop, Option, Some, None, IsSome, IfSome, slice_get, refl, sym, ap, ◌∙◌, subst, arith, append-nil, append_assoc}
 use Rattle.std.proofs.lemmas.List.{length-drop}
 use Rattle.std.specs.Option.{option_map, option_and_then}
 use Rattle.sky_base.specs.Val.{Val, Pairs, no_pairs, pair}
 use Rattle.sky_base.specs.View.{view}
 use Rattle.sky_base.specs.Kept.{Kept}
 use Rattle.sky_base.specs.Tree.{Script}
-use Rattle.sky_base.specs.Read.{Todo, Frame, joined}
+use Rattle.sky_base.specs.Read.{Todo, joined}
 use Rattle.sky_base.specs.declared.value.Value.{Value}
 use Rattle.sky_law.specs.Tasks.{Each}
 use Rattle.sky_law.specs.Sound.{Sound, SoundVars}

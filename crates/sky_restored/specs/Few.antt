@@ -1,5 +1,5 @@
 -- Signs, indices and calls are few enough for their steps to be numbered.
-use Rattle.std.specs.Prelude.{ℕ, ◌<◌, ◌^◌, length}
+use Rattle.std.specs.Prelude.{◌<◌, ◌^◌, length}
 use Rattle.sky_base.specs.Tree.{Exp}
 use Rattle.sky_law.specs.Opened.{Node, exp_node, stm_node, block_node}
 use Rattle.sky_entries.specs.Ready.{steps_left}

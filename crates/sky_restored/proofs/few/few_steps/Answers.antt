@@ -1,6 +1,6 @@
-use Rattle.std.proofs.Common.{◌<◌, ◌+◌, ◌^◌, length, sym, ap, ◌∙◌, subst, arith}
-use Rattle.sky_base.specs.Tree.{Exp, nodes, steps_nodes}
-use Rattle.sky_base.specs.TreeView.{exp_view, steps_view}
+use Rattle.std.proofs.Common.{◌<◌, ◌^◌, length, ap, subst, arith}
+use Rattle.sky_base.specs.Tree.{Exp, steps_nodes}
+use Rattle.sky_base.specs.TreeView.{steps_view}
 use Rattle.sky_law.specs.Opened.{exp_node}
 use Rattle.sky_entries.specs.Ready.{steps_left}
 use Rattle.sky_opened.proofs.LastSigns.{view_length}

@@ -1,4 +1,4 @@
-use Rattle.std.proofs.Common.{◌+◌, ◌≤◌, sym, subst, arith}
+use Rattle.std.proofs.Common.{◌≤◌, sym, subst, arith}
 use Rattle.sky_base.specs.Tree.{Exp}
 use Rattle.sky_base.specs.TreeView.{at, exp_view}
 use Rattle.sky_law.specs.Nodes.{node_at}

@@ -1,7 +1,5 @@
-use Rattle.std.proofs.Common.{◌≡◌, ◌<◌, ◌+◌, ◌-◌, suc, [], ◌∷◌, drop, length, sym, ap, ◌∙◌, subst, arith, add-one, drop-cons}
-use Rattle.sky_base.specs.Tree.{Steps}
-use Rattle.sky_base.specs.TreeView.{at, exp_view, exps_view, steps_view}
-use Rattle.sky_base.specs.declared.tree.Step.{Step}
+use Rattle.std.proofs.Common.{◌≡◌, ◌+◌, suc, ◌∷◌, drop, sym, ap, ◌∙◌, arith, add-one, drop-cons}
+use Rattle.sky_base.specs.TreeView.{at, exp_view, steps_view}
 use Rattle.sky_restored.specs.Kept.{kept_after}
 use Rattle.sky_restored.proofs.Keeping.{at_index, at_call, arg_keeps, body_keeps, after_keeps, index_keeps}
 use Rattle.sky_restored.proofs.keeps.spot_keeps.Goals as goal

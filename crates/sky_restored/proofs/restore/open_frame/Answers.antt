@@ -1,8 +1,7 @@
-use Rattle.std.proofs.Common.{◌≡◌, ◌++◌, [], ◌∷◌, List, Option, Some, IsSome, sym, ap, ◌∙◌, subst}
+use Rattle.std.proofs.Common.{◌≡◌, ◌++◌, [], ◌∷◌, Some, IsSome, sym, ap, ◌∙◌, subst}
 use Rattle.std.specs.Option.{option_map}
-use Rattle.sky_base.specs.Kept.{Kept}
 use Rattle.sky_law.specs.Tasks.{Each}
-use Rattle.sky_entries.specs.Entries.{Form, forms}
+use Rattle.sky_entries.specs.Entries.{forms}
 use Rattle.sky_state.specs.Table.{IsStep}
 use Rattle.sky_state.specs.Fits.{row_of, kept_in_all}
 use Rattle.sky_state.specs.StandView.{todo_view, todos_view, stack_view, frames_view}

@@ -1,7 +1,7 @@
-use Rattle.std.proofs.Common.{◌≡◌, ◌∷◌, IsSome, ap, ◌∙◌, sym, subst}
+use Rattle.std.proofs.Common.{◌≡◌, ◌∷◌, IsSome, ap, subst}
 use Rattle.sky_entries.specs.Entries.{forms}
 use Rattle.sky_state.specs.StandView.{frame_view, frames_view}
-use Rattle.sky_restored.specs.Restoring.{call_above, frames_forms, after_these}
+use Rattle.sky_restored.specs.Restoring.{call_above, frames_forms}
 use Rattle.sky_restored.proofs.Walk.{frame_some, some_behind}
 use Rattle.sky_restored.proofs.restore.open_frames.Goals as goal
 

@@ -1,8 +1,8 @@
-use Rattle.std.proofs.Common.{◌≡◌, ◌<◌, IsSome, Some, refl, sym, ap, ◌∙◌, subst, arith}
+use Rattle.std.proofs.Common.{IsSome, refl, sym, ap, ◌∙◌, subst, arith}
 use Rattle.sky_base.specs.Eval.{body_of}
-use Rattle.sky_state.specs.StandView.{frames_view}
 use Rattle.sky_state.specs.Chained.{body_places}
 use Rattle.sky_state.proofs.OpenFrames.{run_formed}
+use Rattle.sky_scope.specs.Plain.{Vars}
 use Rattle.sky_entries.specs.Config.{opened}
 use Rattle.sky_entries.specs.Entries.{forms}
 use Rattle.sky_restored.specs.Restoring.{frames_forms, top_vars}
@@ -25,7 +25,7 @@ returns-clause-forms c = λ ps f xs g.
 pub returns-clause-vars : goal.returns-clause-vars
 returns-clause-vars c = λ ps f xs g.
     let sc = c.args.code.now in
-    same_vars (top_vars c.args.run.now.frames) c.in_ok-vars.vars xs (ap top_vars (sym c.as_slice-frames.ensures) ∙ c.in_ok-vars.ensures.vars) (formed_vars sc ps f xs c.args.run.now.frames g)
+    ap (λ (s : Vars). s.vars) c.of.ensures ∙ same_vars (top_vars c.args.run.now.frames) c.in_ok-vars.vars xs (ap top_vars (sym c.as_slice-frames.ensures) ∙ c.in_ok-vars.ensures.vars) (formed_vars sc ps f xs c.args.run.now.frames g)
 
 pub returns-clause-opened : goal.returns-clause-opened
 returns-clause-opened c =
