@@ -23,7 +23,7 @@ view_take zero ss = refl
 view_take (suc n) [] = refl
 view_take (suc n) (s ∷ ss) = ap (λ r. record { sign = sign_view s.sign; place = at s.line s.col } ∷ r) (view_take n ss)
 
-view_length : (ss : List SignAt) → length (signs_view ss) ≡ length ss
+pub view_length : (ss : List SignAt) → length (signs_view ss) ≡ length ss
 view_length [] = refl
 view_length (s ∷ ss) = ap suc (view_length ss)
 
