@@ -1,2 +1,4 @@
 pub mod AfterLaw
 pub mod RestLaw
+pub mod TakeLaw
+pub mod FitTaken

@@ -5,6 +5,7 @@ use Rattle.sky_base.specs.Eval.{World, body_of, plug}
 use Rattle.sky_base.specs.Read.{Halt, first_halt}
 use Rattle.sky_law.specs.Nodes.{node_at}
 use Rattle.sky_state.specs.Chained.{body_places, Chained, AllOpened}
+use Rattle.sky_rests.specs.Taken.{AllTaken}
 
 module _ (w : World (List ℕ)) where
   -- forms under way that follow each other as a saved stack does, from the block of a function's body on
@@ -16,3 +17,8 @@ module _ (w : World (List ℕ)) where
 abbrev pub RestFollows : Type 0
 RestFollows =
     (w : World (List ℕ)) (d : ℕ) (f : List ℕ) (fr : List (Entry (List ℕ))) (e : End (List ℕ)) (st : St (List ℕ)) (h : Halt (List ℕ)) → Follow w f fr → AllOpened (λ i. node_at w.script i) fr → first_halt (plug w d fr (Fin e st)) ≡ Some h → Follow w f h.forms
+
+-- where such forms go on, no `for` of theirs and none at the next wait has taken more elements than its list has
+abbrev pub RestTakes : Type 0
+RestTakes =
+    (w : World (List ℕ)) (d : ℕ) (f : List ℕ) (fr : List (Entry (List ℕ))) (e : End (List ℕ)) (st : St (List ℕ)) (h : Halt (List ℕ)) → Follow w f fr → AllOpened (λ i. node_at w.script i) fr → first_halt (plug w d fr (Fin e st)) ≡ Some h → AllTaken fr × AllTaken h.forms
