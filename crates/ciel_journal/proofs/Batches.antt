@@ -1,10 +1,10 @@
 -- What is made in batches between two waits holds all outputs of each task, the first one first.
 use Rattle.std.proofs.Common.{◌≡◌, ℕ, zero, suc, List, [], ◌∷◌, ◌++◌, length, Bool, true, false, cond, Some, None, ◌⊎◌, inl, inr, refl, ap, sym, ◌∙◌, subst}
 use Rattle.std.specs.List.{list_any}
-use Rattle.ciel_journal.specs.Job.{Act, Task, show, of, made, wait, Job, In, Each, IsJob, after_wait, made_before, made_in, waits_in}
+use Rattle.ciel_journal.specs.Job.{Act, Task, of, made, wait, Job, In, Each, IsJob, after_wait, made_before, made_in, waits_in}
 use Rattle.ciel_journal.specs.History.{learned}
 use Rattle.ciel_journal.specs.Known.{Batched, HeadsFirst, IsBatch}
-use Rattle.ciel_journal.proofs.Members.{any_in, bool_cases}
+use Rattle.ciel_journal.proofs.Members.{any_in}
 use Rattle.ciel_journal.proofs.Near.{each_all}
 
 module _ {D : Type 0} (job : Job D) (laws : IsJob job) where

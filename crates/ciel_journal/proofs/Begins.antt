@@ -1,7 +1,7 @@
 -- Each open Start says what stood when it was made.
-use Rattle.std.proofs.Common.{◌≡◌, ℕ, List, [], ◌∷◌, ◌++◌, Option, Some, None, ◌⊎◌, ◌↔◌, inl, inr, refl, ap, sym, ◌∙◌, subst, not, nat_eq, Bool, true, false}
-use Rattle.ciel_journal.specs.Job.{Digest, Task, Job, In, show}
-use Rattle.ciel_journal.specs.History.{Event, start, done, saved, missed, lost, OpenStart, Standing, after, after_all, before_all, close_with, closed, done_with, saved_with, missed_with, find_open, order_of, standing}
+use Rattle.std.proofs.Common.{◌≡◌, List, [], ◌∷◌, ◌++◌, Option, Some, None, ◌⊎◌, inl, inr, refl, ap, sym, subst, not, nat_eq}
+use Rattle.ciel_journal.specs.Job.{Job, In}
+use Rattle.ciel_journal.specs.History.{Event, start, done, saved, missed, lost, OpenStart, Standing, after, after_all, before_all, close_with, done_with, saved_with, missed_with, find_open, order_of, standing}
 use Rattle.ciel_journal.proofs.Numbers.{in_filter, in_last}
 
 module _ {D : Type 0} (job : Job D) where

@@ -1,9 +1,9 @@
 -- What a journal says by its entries alone, and what the history behind it says, are one.
 use Rattle.std.proofs.Common.{◌≡◌, ℕ, List, [], ◌∷◌, cond, map, ◌⊎◌, ◌↔◌, inl, inr, refl, ap, sym, ◌∙◌, subst, nat_eq, eq-eqb, eqb-true, Bool, true, false}
 use Rattle.ciel_journal.specs.Job.{Digest, Task, Job, In, IsJob, Never}
-use Rattle.ciel_journal.specs.History.{Event, start, done, saved, missed, lost, Plan, Standing, after, after_all, before_all, entered, names_of, standing}
+use Rattle.ciel_journal.specs.History.{Event, start, done, saved, missed, lost, Plan, Standing, after, before_all, entered, names_of, standing}
 use Rattle.ciel_journal.specs.Lawful.{Copied, Lawful, LawfulFrom}
-use Rattle.ciel_journal.specs.Live.{LiveAt, LostIn, Published}
+use Rattle.ciel_journal.specs.Live.{LiveAt, Published}
 use Rattle.ciel_journal.specs.Entries.{Entry, journal_of, low, low_made, low_names, low_task}
 use Rattle.ciel_journal.specs.Journals.{BookOf, CircleOf, DrivenJournal, LawfulJournal, NameAt, NamePublished, entered_in}
 use Rattle.ciel_journal.specs.Turns.{DrivenFrom}

@@ -5,9 +5,8 @@ use Rattle.ciel_journal.specs.History.{Event, start, done, saved, missed, lost, 
 use Rattle.ciel_journal.specs.Lawful.{Lawful, LawfulFrom}
 use Rattle.ciel_journal.specs.Live.{LostIn}
 use Rattle.ciel_journal.specs.Laws.{ShowDone}
-use Rattle.ciel_journal.proofs.Append.{lawful_split}
 use Rattle.ciel_journal.proofs.Good.{after_done}
-use Rattle.ciel_journal.proofs.Numbers.{found_in, in_left, in_last, last_in}
+use Rattle.ciel_journal.proofs.Numbers.{in_left, in_last, last_in}
 
 module _ {D : Type 0} (job : Job D) where
   abbrev Lost : Standing D → List (Event D) → ℕ → Type 0

@@ -153,7 +153,7 @@ pub piece_exact : (d e : Piece) → nat_eq (number d) (number e) ≡ true → d 
 piece_exact d e h =
     let k : Some d ≡ Some e = sym (piece_back d) ∙ (ap piece_of (eqb-true (number d) (number e) h) ∙ piece_back e) in cc
 
-piece_made : (d : Piece) (t : Task Piece) → piece_task d ≡ Some t → In d (piece_outputs t)
+pub piece_made : (d : Piece) (t : Task Piece) → piece_task d ≡ Some t → In d (piece_outputs t)
 piece_made f.main t h = let e : of f.main ≡ t = cc in subst (λ u. In f.main (piece_outputs u)) e (inl refl)
 piece_made f.one t h = let e : of f.one ≡ t = cc in subst (λ u. In f.one (piece_outputs u)) e (inl refl)
 piece_made f.two t h = let e : of f.two ≡ t = cc in subst (λ u. In f.two (piece_outputs u)) e (inl refl)
@@ -161,11 +161,11 @@ piece_made f.left t h = let e : of f.left ≡ t = cc in subst (λ u. In f.left (
 piece_made f.right t h = let e : of f.left ≡ t = cc in subst (λ u. In f.right (piece_outputs u)) e (inr (inl refl))
 piece_made f.text t h = cc
 
-only : {A : Type 0} (P : A → Type 0) (d x : A) → In d (x ∷ []) → P x → P d
+pub only : {A : Type 0} (P : A → Type 0) (d x : A) → In d (x ∷ []) → P x → P d
 only P d x (inl s) h = subst P (sym s) h
 only P d x (inr i) h = absurd i
 
-piece_makes : (d : Piece) (t : Task Piece) → In d (piece_outputs t) → piece_task d ≡ Some t
+pub piece_makes : (d : Piece) (t : Task Piece) → In d (piece_outputs t) → piece_task d ≡ Some t
 piece_makes d show i = absurd i
 piece_makes d (of f.main) i = only (λ x. piece_task x ≡ Some (of f.main)) d f.main i refl
 piece_makes d (of f.one) i = only (λ x. piece_task x ≡ Some (of f.one)) d f.one i refl
@@ -175,7 +175,7 @@ piece_makes d (of f.left) (inr i) = only (λ x. piece_task x ≡ Some (of f.left
 piece_makes d (of f.right) i = absurd i
 piece_makes d (of f.text) i = absurd i
 
-piece_own : (d e : Piece) → piece_task e ≡ Some (of d) → piece_task d ≡ Some (of d)
+pub piece_own : (d e : Piece) → piece_task e ≡ Some (of d) → piece_task d ≡ Some (of d)
 piece_own d f.main h = let s : f.main ≡ d = cc in subst (λ x. piece_task x ≡ Some (of x)) s refl
 piece_own d f.one h = let s : f.one ≡ d = cc in subst (λ x. piece_task x ≡ Some (of x)) s refl
 piece_own d f.two h = let s : f.two ≡ d = cc in subst (λ x. piece_task x ≡ Some (of x)) s refl
@@ -183,7 +183,7 @@ piece_own d f.left h = let s : f.left ≡ d = cc in subst (λ x. piece_task x �
 piece_own d f.right h = let s : f.left ≡ d = cc in subst (λ x. piece_task x ≡ Some (of x)) s refl
 piece_own d f.text h = cc
 
-abbrev piece_size : Piece → ℕ
+abbrev pub piece_size : Piece → ℕ
 piece_size f.main = 1
 piece_size f.one = 1
 piece_size f.two = 1
@@ -191,7 +191,7 @@ piece_size f.left = 1
 piece_size f.right = 1
 piece_size f.text = 0
 
-piece_small : (d e : Piece) (t : Task Piece) → piece_task d ≡ Some t → In e (piece_first t) → (t ≡ show → ⊥) → piece_size e < piece_size d
+pub piece_small : (d e : Piece) (t : Task Piece) → piece_task d ≡ Some t → In e (piece_first t) → (t ≡ show → ⊥) → piece_size e < piece_size d
 piece_small d e show h i n = absurd (n refl)
 piece_small d e (of f.main) h i n = absurd i
 piece_small d e (of f.one) h i n = absurd i

@@ -12,6 +12,7 @@ pub mod FixedLaw
 pub mod Near
 pub mod Started
 pub mod Told
+pub mod OnceLaw
 pub mod OpenTold
 pub mod Shelved
 pub mod Unique
@@ -21,6 +22,8 @@ pub mod OneWorker
 pub mod Check
 pub mod CheckTurns
 pub mod SmallHistories
+pub mod OtherJobs
+pub mod SmallWork
 pub mod SmallBroken
 pub mod IdleLaw
 pub mod DueLaw

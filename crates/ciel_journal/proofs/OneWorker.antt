@@ -3,10 +3,10 @@ use Rattle.std.proofs.Common.{◌≡◌, ℕ, ◌+◌, ◌*◌, ◌%◌, ◌≤�
 use Rattle.std.specs.List.{list_any}
 use Rattle.ciel_journal.specs.Job.{Digest, Task, Job, In, Each, IsPrefix, IsJob}
 use Rattle.ciel_journal.specs.History.{Event, start, done, saved, missed, lost, OpenStart, Plan, Save, Standing, after, before_all, better, closed, done_with, saved_with, find_open, last, last_save, names_of, order_of, placed, same_task, stack_of, after_all}
-use Rattle.ciel_journal.specs.Lawful.{Copied, DoneAllowed, FetchedFrom, Given, HeldAt, NextEnd, NextWait, SavedAllowed, Step, own_name}
+use Rattle.ciel_journal.specs.Lawful.{Copied, DoneAllowed, FetchedFrom, Given, HeldAt, NextWait, SavedAllowed, Step, own_name}
 use Rattle.ciel_journal.specs.Turns.{Chosen, Driven, DrivenFrom, FirstDue, Ready, Rests, Turn, draw, idle, tasks_of}
 use Rattle.ciel_journal.proofs.Picked.{picks_unique}
-use Rattle.ciel_journal.proofs.Members.{each_of, bool_cases}
+use Rattle.ciel_journal.proofs.Members.{bool_cases}
 use Rattle.ciel_journal.proofs.Good.{after_done, after_saved, after_missed}
 use Rattle.ciel_journal.proofs.Next.{one_wait, not_end}
 use Rattle.ciel_journal.proofs.Numbers.{found_in, in_filter, in_last}

@@ -1,6 +1,6 @@
 -- What a Done or a Saved of a lawful history publishes: names of single descriptions, and marks that the job alone decides.
-use Rattle.std.proofs.Common.{◌≡◌, ℕ, List, [], ◌∷◌, ◌++◌, inl, inr, ap, sym, ◌∙◌, subst}
-use Rattle.ciel_journal.specs.Job.{Digest, Task, Held, Job, In, Each, IsJob, ObjectOf, StateOf}
+use Rattle.std.proofs.Common.{◌≡◌, ℕ, ◌<◌, List, [], ◌∷◌, ◌++◌, inl, inr, ap, sym, ◌∙◌, subst, arith}
+use Rattle.ciel_journal.specs.Job.{Digest, Task, Held, Job, In, Each, IsJob, ObjectOf, StateOf, WaitOf}
 use Rattle.ciel_journal.specs.History.{Event, start, done, saved, missed, lost, OpenStart, Plan, Standing, before_all, standing}
 use Rattle.ciel_journal.specs.Lawful.{Lawful, Step, Marked, NoClash}
 use Rattle.ciel_journal.specs.Entries.{Entry, low_made, journal_of}
@@ -95,7 +95,8 @@ module _ {D : Type 0} (job : Job D) (laws : IsJob job) where
       let s : f.0 ≡ d.0 = g.single f.0 o.known (f.2 ∙ sym d.2) in
       sym (g.only b (subst (λ z. ObjectOf job z b) s o.seen))
 
-  saved_task : (p : Plan) (h : List (Event D)) → Lawful job p h → (k j : ℕ) (mark : Digest) (refs holds spawned : List D) → In (saved k j mark refs holds spawned) h → (w : ℕ) (t : Task D) (from : ℕ) → In (start k w t from) h → StateOf job t j (record { names = holds; mark = mark })
+  -- what the task of a Saved waits for there, and its state
+  pub saved_task : (p : Plan) (h : List (Event D)) → Lawful job p h → (k j : ℕ) (mark : Digest) (refs holds spawned : List D) → In (saved k j mark refs holds spawned) h → (w : ℕ) (t : Task D) (from : ℕ) → In (start k w t from) h → StateOf job t j (record { names = holds; mark = mark }) × WaitOf job t j refs × (0 < j)
   saved_task p h l k j mark refs holds spawned i w t from st =
       let s = in_split (saved k j mark refs holds spawned) h i in
       let q = lawful_step p h s.0 s.1 (saved k j mark refs holds spawned) s.2 l in
@@ -106,13 +107,15 @@ module _ {D : Type 0} (job : Job D) (laws : IsJob job) where
       let begun : In (start k a.0.worker a.0.task a.0.from) s.0 = subst (λ n. In (start n a.0.worker a.0.task a.0.from) s.0) (sym f.1) old.0 in
       let here : In (start k a.0.worker a.0.task a.0.from) h =
       subst (In (start k a.0.worker a.0.task a.0.from)) (sym s.2) (in_left (start k a.0.worker a.0.task a.0.from) s.0 (saved k j mark refs holds spawned ∷ s.1) begun) in
-      let same : a.0.task ≡ t = (says_lawful job laws p h l).one_task k a.0.worker a.0.task a.0.from w t from here st in
-      subst (λ u. StateOf job u j (record { names = holds; mark = mark })) same a.2.frozen
+      let one = says_lawful job laws p h l in
+      let same : a.0.task ≡ t = one.one_task k a.0.worker a.0.task a.0.from w t from here st in
+      let late = a.2.next.later in
+      (subst (λ u. StateOf job u j (record { names = holds; mark = mark })) same a.2.frozen, subst (λ u. WaitOf job u j refs) same a.2.next.waits, omega (arith, late))
 
   -- two saved entries of one task and one wait have one mark
   pub one_state : (p : Plan) (h : List (Event D)) → Lawful job p h → (k l w u : ℕ) (t : Task D) (from i : ℕ) → In (start k w t from) h → In (start l u t i) h → (j : ℕ) (a b : Digest) (r x s q y z : List D) → In (saved k j a r x s) h → In (saved l j b q y z) h → a ≡ b
   one_state p h l k m w u t from i st tt' j a b r x s q y z c d =
-      let e = saved_task p h l k j a r x s c w t from st in
-      let f = saved_task p h l m j b q y z d u t i tt' in
+      let e = (saved_task p h l k j a r x s c w t from st).0 in
+      let f = (saved_task p h l m j b q y z d u t i tt').0 in
       let g = state_unique job laws t j (record { names = x; mark = a }) (record { names = y; mark = b }) e f in
       ap (λ (v : Held D). v.mark) g

@@ -1,7 +1,9 @@
 -- Why the small histories that break a law do.
-use Rattle.std.proofs.Common.{◌≡◌, ℕ, zero, suc, List, [], ◌∷◌, ◌++◌, Bool, true, false, cond, Some, slice_get, ◌⊎◌, inl, inr, refl, ap, sym, ◌∙◌, subst, arith}
-use Rattle.ciel_journal.specs.Job.{Task, show, of, Act, made, wait, In, IsPrefix, WaitOf, Needed, root, waited, waits_in}
-use Rattle.ciel_journal.specs.History.{before_all, standing, live}
+use Rattle.std.proofs.Common.{◌≡◌, ℕ, zero, suc, ◌≤◌, List, [], ◌∷◌, ◌++◌, Bool, true, false, cond, Some, None, nat_eq, slice_get, ◌⊎◌, inl, inr, refl, ap, sym, ◌∙◌, subst, arith}
+use Rattle.ciel_journal.specs.Job.{Task, show, of, Act, made, wait, Each, In, IsPrefix, WaitOf, Needed, root, waited, waits_in}
+use Rattle.ciel_journal.specs.History.{OpenStart, before_all, find_open, order_of, standing, live}
+use Rattle.ciel_journal.specs.Lawful.{Copied, Marked}
+use Rattle.std.specs.List.{list_any}
 use Rattle.ciel_journal.specs.Fixed.{Fixed, Piece, all_seen, until, acts_by, seen_with, fixed_job, small_lists, squares, piece_task}
 use Rattle.ciel_journal.specs.Fixed as f
 use Rattle.ciel_journal.specs.SmallHistories as h
@@ -35,10 +37,10 @@ script_wait x t j ds w =
     let a = get_front (waits_in (acts_by x (seen_with x w.0) t)) (waits_in p.0) j ds w.1 in
     ap (λ xs. slice_get xs j) (sym (ap waits_in p.1) ∙ waits_join (acts_by x (seen_with x w.0) t) p.0) ∙ a
 
-abbrev Wanted : Piece → Type 0
+abbrev pub Wanted : Piece → Type 0
 Wanted d = (d ≡ f.main) ⊎ ((d ≡ f.one) ⊎ (d ≡ f.two))
 
-abbrev Among : Task Piece → Type 0
+abbrev pub Among : Task Piece → Type 0
 Among t = (t ≡ show) ⊎ ((d : Piece) × Wanted d × (t ≡ of d))
 
 pub one_of : (d x : Piece) → In d (x ∷ []) → d ≡ x
@@ -75,7 +77,7 @@ task_among d u (inr (inl s)) e =
 task_among d u (inr (inr s)) e =
     let a : Some (of f.two) ≡ Some u = ap piece_task (sym s) ∙ e in let b : u ≡ of f.two = cc in inr (f.two, inr (inr refl), b)
 
-needed_among : (t : Task Piece) → Needed squares t → Among t
+pub needed_among : (t : Task Piece) → Needed squares t → Among t
 needed_among t root = inl refl
 needed_among t (waited {t = s} n zero ds d w i e) =
     task_among d t (first_wanted s (needed_among s n) d (subst (In d) w i)) e
@@ -142,4 +144,68 @@ undone =
     record {
       lawful = lawful_true squares (laws_of false) 8 squares_needed squares_are h.loss_of_the_only (before_all squares) h.leaves_losses_undone tt refl;
       broken = λ d. d.2.2.2.2.1.nothing_due 0 2 0 (record { planned = refl; reached = omega arith; here = refl });
+    }
+
+-- ---- more
+
+pub no_room : BreaksLaw h.little_room h.begun h.saved_once
+no_room =
+    record {
+      lawful = lawful_true squares (laws_of false) 8 squares_needed squares_are h.little_room (before_all squares) h.begun tt refl;
+      broken = λ l. let r : 6 ≤ 3 = l.1.0.room in absurd (omega (arith, r));
+    }
+
+other : f.object_mark f.one ≡ f.object_mark f.two → ⊥
+other e = cc
+
+one_mark : (n : ℕ) → squares.object n f.one ≡ Some (f.object_mark f.two) → ⊥
+one_mark n e = pick (seen_with (small_lists false) n f.one) e
+  where
+    pick : (b : Bool) → cond b (Some (f.object_mark f.one)) None ≡ Some (f.object_mark f.two) → ⊥
+    pick true e =
+        let a : f.object_mark f.one ≡ f.object_mark f.two = cc in
+        other a
+    pick false e = cc
+
+pub wrong_mark : BreaksLaw h.one_worker h.one_running h.another_mark
+wrong_mark =
+    record {
+      lawful = lawful_true squares (laws_of false) 8 squares_needed squares_are h.one_worker (before_all squares) h.one_running tt refl;
+      broken = λ l. let a = l.1.1.1.0.allowed in mine a.0 a.1 a.2.marked;
+    }
+  where
+    mine : (o : OpenStart Piece) → find_open squares 1 (standing squares h.one_running).orders ≡ Some o → Marked squares (squares.outputs o.task) ((f.one, f.object_mark f.two) ∷ []) → ⊥
+    mine o e m =
+        let t : of f.one ≡ o.task = cc in
+        let k : Marked squares (f.one ∷ []) ((f.one, f.object_mark f.two) ∷ []) = subst (λ u. Marked squares (squares.outputs u) ((f.one, f.object_mark f.two) ∷ [])) (sym t) m in
+        one_mark k.1.0 k.1.1
+
+some_open : (a b : OpenStart Piece) → Some a ≡ Some b → a ≡ b
+some_open a b z = cc
+
+pub own_copy : BreaksLaw h.one_worker h.main_last h.copies_its_own
+own_copy =
+    record {
+      lawful = lawful_true squares (laws_of false) 8 squares_needed squares_are h.one_worker (before_all squares) h.main_last tt refl;
+      broken = λ l. let a = l.1.1.1.1.1.1.1.1.1.0.allowed in mine a.0 a.1 a.2.fetched;
+    }
+  where
+    mine : (o : OpenStart Piece) → find_open squares 4 (standing squares h.main_last).orders ≡ Some o → Each (Copied squares o) (f.two ∷ []) → ⊥
+    mine o e c =
+        let s = some_open (order_of squares (standing squares h.two_done) 4 0 (of f.main) 2) o e in
+        let w : true ≡ false = subst (λ (z : OpenStart Piece). list_any (nat_eq z.worker) (z.had f.two) ≡ false) (sym s) c.0.1.1.1 in
+        cc
+
+pub none_lost : BreaksLaw h.loss_of_the_only h.main_again h.misses_what_is_there
+none_lost =
+    record {
+      lawful = lawful_true squares (laws_of false) 8 squares_needed squares_are h.loss_of_the_only (before_all squares) h.main_again tt refl;
+      broken = λ l. let a : false ≡ true = l.1.1.1.1.1.0.allowed.2.since in cc;
+    }
+
+pub unplanned : BreaksLaw h.one_worker h.saved_once h.loses_unplanned
+unplanned =
+    record {
+      lawful = lawful_true squares (laws_of false) 8 squares_needed squares_are h.one_worker (before_all squares) h.saved_once tt refl;
+      broken = λ l. let a = l.1.1.0.allowed.planned.2 in cc;
     }

@@ -4,9 +4,9 @@ use Rattle.ciel_journal.specs.Job.{Task, show, of, Each, IsJob, Needed, root, wa
 use Rattle.ciel_journal.specs.History.{before_all}
 use Rattle.ciel_journal.specs.Lawful.{Lawful}
 use Rattle.ciel_journal.specs.Turns.{Driven}
-use Rattle.ciel_journal.specs.Fixed.{Fixed, Piece, all_seen, until, acts_by, seen_with, fixed_job, small_lists, squares, lines}
+use Rattle.ciel_journal.specs.Fixed.{Piece, fixed_job, small_lists, squares, lines}
 use Rattle.ciel_journal.specs.Fixed as f
-use Rattle.ciel_journal.specs.SmallHistories.{one_worker, squares_alone, loss_after_two, squares_recovered, loss_at_once, lost_at_once, two_workers, lines_copied, loss_of_the_first, missed_and_made_again}
+use Rattle.ciel_journal.specs.SmallHistories.{one_worker, squares_alone, loss_after_two, squares_recovered, loss_at_once, lost_at_once, two_workers, lines_copied, loss_of_the_first, missed_and_made_again, stack_missed}
 use Rattle.ciel_journal.proofs.FixedLaw.{fixed_laws, small_fixed}
 use Rattle.ciel_journal.proofs.Check.{lawful_true}
 use Rattle.ciel_journal.proofs.CheckTurns.{driven_true}
@@ -14,14 +14,14 @@ use Rattle.ciel_journal.proofs.CheckTurns.{driven_true}
 abbrev pub laws_of : (reads : Bool) → IsJob (fixed_job (small_lists reads))
 laws_of reads = fixed_laws (small_lists reads) (small_fixed reads)
 
-need_main : (reads : Bool) → Needed (fixed_job (small_lists reads)) (of f.main)
+pub need_main : (reads : Bool) → Needed (fixed_job (small_lists reads)) (of f.main)
 need_main reads = waited root 0 (f.main ∷ []) f.main refl (inl refl) refl
 
-need_one : (reads : Bool) → Needed (fixed_job (small_lists reads)) (of f.one)
+pub need_one : (reads : Bool) → Needed (fixed_job (small_lists reads)) (of f.one)
 need_one false = waited (need_main false) 1 (f.one ∷ []) f.one (1, refl) (inl refl) refl
 need_one true = waited (need_main true) 1 (f.one ∷ []) f.one (1, refl) (inl refl) refl
 
-need_two : (reads : Bool) → Needed (fixed_job (small_lists reads)) (of f.two)
+pub need_two : (reads : Bool) → Needed (fixed_job (small_lists reads)) (of f.two)
 need_two false = waited (need_main false) 2 (f.two ∷ []) f.two (3, refl) (inl refl) refl
 need_two true = waited (need_main true) 2 (f.two ∷ []) f.two (3, refl) (inl refl) refl
 
@@ -57,3 +57,7 @@ copied = driven_true lines (laws_of true) two_workers 4 8 lines_needed lines_are
 pub made_again : Lawful squares loss_of_the_first missed_and_made_again
 made_again =
     lawful_true squares (laws_of false) 8 squares_needed squares_are loss_of_the_first (before_all squares) missed_and_made_again tt refl
+
+pub stack_lost : Lawful squares loss_of_the_first stack_missed
+stack_lost =
+    lawful_true squares (laws_of false) 8 squares_needed squares_are loss_of_the_first (before_all squares) stack_missed tt refl

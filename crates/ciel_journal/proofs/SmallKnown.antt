@@ -1,9 +1,9 @@
 -- The small jobs tell where all comes from that their tasks wait for and hold.
-use Rattle.std.proofs.Common.{◌≡◌, ℕ, zero, suc, ◌≤◌, ◌<◌, List, [], ◌∷◌, ◌++◌, length, length-append, Bool, true, false, cond, Some, None, slice_get, inl, inr, refl, ap, sym, ◌∙◌, subst, arith, nat_le, leb-true}
+use Rattle.std.proofs.Common.{◌≡◌, ℕ, zero, suc, ◌≤◌, ◌<◌, List, [], ◌∷◌, ◌++◌, length, length-append, Bool, true, false, cond, Some, None, slice_get, inl, inr, refl, ap, sym, subst, arith, nat_le, leb-true}
 use Rattle.ciel_journal.specs.Job.{Task, show, of, Act, made, wait, Held, Job, In, Each, WaitOf, StateOf, waits_in, made_before, made_in}
 use Rattle.ciel_journal.specs.Lawful.{HeldAt}
 use Rattle.ciel_journal.specs.Known.{Around, Batched, Inner, Knows, TellsTo, TellsToEnd}
-use Rattle.ciel_journal.specs.Fixed.{Fixed, Piece, acts_by, all_seen, until, seen_with, fixed_job, small_lists, small_inner, piece_task, piece_outputs, piece_first, piece_script, piece_holds, piece_inside, piece_carries}
+use Rattle.ciel_journal.specs.Fixed.{Piece, acts_by, all_seen, until, seen_with, fixed_job, small_lists, small_inner, piece_task, piece_outputs, piece_first, piece_script, piece_holds, piece_inside, piece_carries}
 use Rattle.ciel_journal.specs.Fixed as f
 use Rattle.ciel_journal.proofs.Circle.{waits_join}
 use Rattle.ciel_journal.proofs.Members.{each_of}

@@ -147,6 +147,11 @@ module _ {D : Type 0} (job : Job D) (laws : IsJob job) (inner : Inner D) (knows 
   informed p h l =
       informed_all job laws inner knows p (before_all job) h (informed_start job laws inner knows) l
 
+  -- what a reached task waits for is in the book
+  pub reached_needs : (p : Plan) (h : List (Event D)) → Lawful job p h → (t : Task D) → Reached job (standing job h) t → Each (λ d. In d (standing job h).book) (needs job (standing job h) t)
+  reached_needs p h l t r =
+      each_all (λ d. In d (standing job h).book) (needs job (standing job h) t) (λ d i. needs_booked (standing job h) (informed p h l) t (reached_booked (standing job h) (informed p h l) t r) d i)
+
   -- what some worker has is in the book, with all that its object holds
   pub placed_booked : (p : Plan) (h : List (Event D)) → Lawful job p h → (d : D) (w : ℕ) → In w ((standing job h).places d) → In d (standing job h).book × ((n : ℕ) → Each (λ e. In e (standing job h).book) (inner.carries n d))
   placed_booked p h l d w i = (inf.shelved.places d w has, λ n. each_all (λ e. In e (standing job h).book) (inner.carries n d) (λ e c. inf.carried d w has n e c))

@@ -1,6 +1,6 @@
 -- What is open and saved is of needed tasks that go by a name of the book, and each description of the book was made by one.
-use Rattle.std.proofs.Common.{◌≡◌, ℕ, ◌-◌, List, [], ◌∷◌, ◌++◌, not, ◌⊎◌, inl, inr, refl, sym, subst, arith, nat_eq}
-use Rattle.ciel_journal.specs.Job.{Digest, Task, Job, In, IsJob, Needed, StateOf, made_in, made_before, after_wait}
+use Rattle.std.proofs.Common.{◌≡◌, ℕ, ◌-◌, List, [], ◌∷◌, not, ◌⊎◌, inl, inr, sym, subst, nat_eq}
+use Rattle.ciel_journal.specs.Job.{Digest, Task, Job, In, IsJob, Needed, StateOf, made_in}
 use Rattle.ciel_journal.specs.History.{Event, start, done, saved, missed, lost, OpenStart, Plan, Save, Standing, after, after_all, before_all, learned, order_of}
 use Rattle.ciel_journal.specs.Lawful.{Allowed, LawfulFrom, own_name}
 use Rattle.ciel_journal.proofs.BookKnown.{learned_from}

@@ -52,6 +52,11 @@ module _ {D : Type 0} where
   Each P [] = Unit {0}
   Each P (d ∷ ds) = P d × Each P ds
 
+  -- each stands once, and none of those before
+  abbrev pub Once : List D → List D → Type 0
+  Once past [] = Unit {0}
+  Once past (d ∷ ds) = (In d past → ⊥) × Once (d ∷ past) ds
+
   -- the waits, in order
   abbrev pub waits_in : List (Act D) → List (List D)
   waits_in [] = []

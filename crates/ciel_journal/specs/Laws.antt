@@ -1,11 +1,11 @@
 -- The laws of a run's journal, each said of every job.
-use Rattle.std.specs.Prelude.{◌≡◌, ℕ, ◌+◌, ◌*◌, ◌≤◌, List, [], ◌∷◌, ◌++◌, length, true, false, Some, ◌⊎◌, ◌↔◌, map, Option, Bool}
-use Rattle.ciel_journal.specs.Job.{Digest, Task, show, Job, In, Each, IsJob, IsPrefix, Needed, Never, ObjectOf, StateOf, made_in}
-use Rattle.ciel_journal.specs.History.{Event, OpenStart, Plan, Save, after, done, entered, find_open, order_of, last, learned, live, saved, standing, start, Standing}
+use Rattle.std.specs.Prelude.{◌≡◌, ℕ, ◌+◌, ◌*◌, ◌≤◌, List, [], ◌∷◌, ◌++◌, length, true, false, Some, ◌⊎◌, ◌↔◌, map}
+use Rattle.ciel_journal.specs.Job.{Digest, Once, Task, show, Job, In, Each, IsJob, IsPrefix, Needed, Never, ObjectOf, StateOf, made_in}
+use Rattle.ciel_journal.specs.History.{Event, OpenStart, Plan, Save, after, done, entered, find_open, order_of, last, needs, learned, live, saved, standing, start, Standing}
 use Rattle.ciel_journal.specs.Known.{HeadsFirst, Inner, Knows, Whole}
 use Rattle.ciel_journal.specs.Lawful.{Allowed, HeldAt, Lawful, NextEnd, NextWait, Step, own_name}
 use Rattle.ciel_journal.specs.Live.{Live, LiveAt, LostIn, OpenIn, SavedIn, closes_of, spawned_of}
-use Rattle.ciel_journal.specs.Turns.{Ready, IsReadyList, CircleAtRest, Driven, DrivenFrom, Turn, idle}
+use Rattle.ciel_journal.specs.Turns.{Reached, Ready, IsReadyList, CircleAtRest, Driven, DrivenFrom, Turn, idle}
 use Rattle.ciel_journal.specs.Work.{Work, losses_of, starts_of}
 use Rattle.ciel_journal.specs.Entries.{Entry, journal_of, low, low_task}
 use Rattle.ciel_journal.specs.Journals.{BookOf, CircleOf, DrivenJournal, LawfulJournal, NameAt, entered_in}
@@ -74,6 +74,10 @@ module _ (D : Type 0) where
   abbrev pub SavedIsTold : Type 0
   SavedIsTold =
       OfLawful (λ job p h v. (s : Save D) → In s v.saves ↔ SavedIn h s.worker s.task s.j s.refs s.holds)
+
+  -- each description stands in the book once
+  abbrev pub BookIsOnce : Type 0
+  BookIsOnce = OfLawful (λ job p h v. Once [] v.book)
 
   -- the book is the main call, and then all that was spawned, each description at its first place only
   abbrev pub BookIsTold : Type 0
@@ -145,6 +149,11 @@ module _ (D : Type 0) where
   abbrev pub NewIsWhole : Type 0
   NewIsWhole =
       OfKnown (λ job inner p h v. (e : Event D) → Allowed job p v e → (d : D) → In d (after job v e).book → Whole job inner (after job v e).book d)
+
+  -- what a reached task waits for is in the book
+  abbrev pub ReachedIsBooked : Type 0
+  ReachedIsBooked =
+      OfKnown (λ job inner p h v. (t : Task D) → Reached job v t → Each (λ d. In d v.book) (needs job v t))
 
   -- what some worker has is in the book, and so is all that its object holds
   abbrev pub PlacedIsBooked : Type 0

@@ -10,6 +10,7 @@ pub mod Entries
 pub mod Journals
 pub mod Segment
 pub mod Fixed
+pub mod OtherJobs
 pub mod SmallHistories
 pub mod SmallFacts
 pub mod Laws

@@ -155,3 +155,50 @@ leaves_losses_undone = saved_once ++ (first_square ++ start 2 0 (of main) 1 ∷ 
 
 abbrev pub loss_of_the_only : Plan
 loss_of_the_only = record { workers = 1; seed = 0; losses = (2, 0) ∷ []; limit = 65536 }
+
+-- the main call goes on at the second worker, and its stack is lost with the first
+abbrev pub stack_missed : List (Event Piece)
+stack_missed =
+    start 0 0 (of main) 0
+    ∷ saved 0 1 (state_mark 1) (one ∷ []) (one ∷ two ∷ left ∷ right ∷ []) (one ∷ two ∷ text ∷ left ∷ right ∷ [])
+    ∷ start 1 1 (of one) 0
+    ∷ done 1 ((one, object_mark one) ∷ []) ([]) ([])
+    ∷ start 2 1 (of main) 1
+    ∷ lost 0 2
+    ∷ missed 2 main 0
+    ∷ []
+
+-- ---- more that is not lawful
+
+abbrev pub little_room : Plan
+little_room = record { workers = 1; seed = 0; losses = []; limit = 3 }
+
+-- the mark of another object
+abbrev pub another_mark : List (Event Piece)
+another_mark = saved_once ++ (start 1 0 (of one) 0 ∷ done 1 ((one, object_mark two) ∷ []) ([]) ([]) ∷ [])
+
+abbrev pub one_running : List (Event Piece)
+one_running = saved_once ++ start 1 0 (of one) 0 ∷ []
+
+abbrev pub main_again : List (Event Piece)
+main_again = saved_once ++ (first_square ++ start 2 0 (of main) 1 ∷ [])
+
+-- both squares are made, and the main call goes on
+abbrev pub two_done : List (Event Piece)
+two_done =
+    main_again ++ (saved 2 2 (state_mark 2) (two ∷ []) (one ∷ two ∷ left ∷ right ∷ []) ([]) ∷ (start 3 0 (of two) 0 ∷ (done 3 ((two, object_mark two) ∷ []) ([]) ([]) ∷ [])))
+
+abbrev pub main_last : List (Event Piece)
+main_last = two_done ++ start 4 0 (of main) 2 ∷ []
+
+-- a copy of what stood at the order's own worker
+abbrev pub copies_its_own : List (Event Piece)
+copies_its_own = main_last ++ done 4 ((main, object_mark main) ∷ []) (two ∷ []) ([]) ∷ []
+
+-- an object is missed, and nobody was lost
+abbrev pub misses_what_is_there : List (Event Piece)
+misses_what_is_there = saved_once ++ (first_square ++ start 2 0 (of main) 1 ∷ (missed 2 one 0 ∷ []))
+
+-- a loss that the plan doesn't have
+abbrev pub loses_unplanned : List (Event Piece)
+loses_unplanned = saved_once ++ lost 0 1 ∷ []

@@ -1,39 +1,52 @@
 //! Laws of histories, over every job. Each is the contract of a function that does nothing.
 
-ghost use Rattle.std.specs.Prelude.{◌++◌, false, true};
-ghost use Rattle.ciel_journal.specs.Fixed.{squares, lines, small_inner};
+ghost use Rattle.std.specs.Prelude.{[], ◌∷◌, ◌++◌, false, true};
+ghost use Rattle.ciel_journal.specs.Fixed.{one, squares, lines, small_inner};
 ghost use Rattle.ciel_journal.specs.Job.{IsJob};
 ghost use Rattle.ciel_journal.specs.Lawful.{Lawful};
-ghost use Rattle.ciel_journal.specs.SmallFacts.{BreaksLaw, BreaksTurns};
+ghost use Rattle.ciel_journal.specs.History.{standing};
+ghost use Rattle.ciel_journal.specs.OtherJobs as o;
+ghost use Rattle.ciel_journal.specs.SmallFacts.{BreaksLaw, BreaksLawOf, BreaksTurns};
 ghost use Rattle.ciel_journal.specs.SmallHistories as h;
-ghost use Rattle.ciel_journal.specs.Turns.{Driven};
+ghost use Rattle.ciel_journal.specs.Turns.{CircleAtRest, Driven};
+ghost use Rattle.ciel_journal.specs.Work.{Work};
 ghost use Rattle.ciel_journal.specs.Known.{Knows};
-ghost use Rattle.ciel_journal.specs.Laws.{BookIsMade, BookIsTold, BookIsWhole, CircleIsEndless, CountsAreTold, DrivenGoesOn, DrivenInParts, DrivenIsLawful, EnteredAlike, FewStarts, FirstsComeFirst, GoneIsTold, LawfulGoesOn, ListedOrCircle, LiveIsTold, MadeIsSeen, NamedCircleIsEndless, NamesDetermine, NextIsOne, NewIsWhole, OneBook, OneMark, OneState, OneWhole, OneWorker, OpenIsBooked, OpenIsNeeded, OpenIsTold, OpenStood, OverIsTold, PlacedAlike, PlacedIsBooked, PlacesAreTold, ReadyOrCircle, ReadyStarts, SavedIsBooked, SavedIsState, SavedIsTold, StandsOn, StartedIsMissing, StartedIsNeeded};
+ghost use Rattle.ciel_journal.specs.Laws.{BookIsMade, BookIsOnce, BookIsTold, BookIsWhole, CircleIsEndless, CountsAreTold, DrivenGoesOn, DrivenInParts, DrivenIsLawful, EnteredAlike, FewStarts, FirstsComeFirst, GoneIsTold, LawfulGoesOn, ListedOrCircle, LiveIsTold, MadeIsSeen, NamedCircleIsEndless, NamesDetermine, NextIsOne, NewIsWhole, OneBook, OneMark, OneState, OneWhole, OneWorker, OpenIsBooked, OpenIsNeeded, OpenIsTold, OpenStood, OverIsTold, PlacedAlike, PlacedIsBooked, PlacesAreTold, ReachedIsBooked, ReadyOrCircle, ReadyStarts, SavedIsBooked, SavedIsState, SavedIsTold, StandsOn, StartedIsMissing, StartedIsNeeded};
 
-/// The two small jobs have the laws that are asked of a job.
+/// The small jobs have the laws that are asked of a job, and that of the squares is six Starts of work: the root task, the main
+/// call with its two waits, and the squares.
 pub fn small_jobs_are_jobs()
     ensures squares { IsJob squares }
     ensures squares_known { Knows squares (small_inner false) }
     ensures lines { IsJob lines }
     ensures lines_known { Knows lines (small_inner true) }
+    ensures fetching { IsJob o.fetching }
+    ensures circling { IsJob o.circling }
+    ensures work { Work squares 6 }
 {}
 
 /// Histories of the small jobs that are driven: the squares with one worker; with two, of which the
 /// first is lost after two closes; with one that is lost before all else; and the lines with two
-/// workers, where what is read from another worker is copied. One more is lawful: a square that is
-/// missed and made again.
+/// workers, where what is read from another worker is copied. So are one of a job that waits for two objects at once, where a
+/// task over a square misses it with a lost worker, and one of a job whose square waits for itself: there is a circle.
+/// Two more are lawful: a square, and a stack, that are missed.
 pub fn small_histories_are_driven()
     ensures alone { Driven squares h.one_worker h.squares_alone }
     ensures recovered { Driven squares h.loss_after_two h.squares_recovered }
     ensures lost { Driven squares h.loss_at_once h.lost_at_once }
     ensures copied { Driven lines h.two_workers h.lines_copied }
     ensures missed { Lawful squares h.loss_of_the_first h.missed_and_made_again }
+    ensures stack { Lawful squares h.loss_of_the_first h.stack_missed }
+    ensures fetched { Driven o.fetching o.third_lost o.fetch_missed }
+    ensures round { Driven o.circling h.one_worker o.comes_round }
+    ensures circle { CircleAtRest o.circling (standing o.circling o.comes_round) (one ∷ []) }
 {}
 
 /// Histories of the small job that are lawful up to their last event and not with it: one starts what
 /// nobody needs, one runs a live task again, one keeps places of a lost worker, one resumes another
-/// wait, one drops what was spawned at a save. One more is lawful and not driven: it leaves a loss
-/// undone.
+/// wait, one drops what was spawned at a save, one has more descriptions than there is room for, one
+/// a mark of another object, one copies what its own worker has, one misses what is there, one loses a worker that the
+/// plan doesn't, and one has two descriptions of one name. One more is lawful and not driven: it leaves a loss undone.
 pub fn small_histories_break_laws()
     ensures needless { BreaksLaw h.one_worker h.saved_once h.starts_what_nobody_needs }
     ensures again { BreaksLaw h.one_worker (h.saved_once ++ h.first_square) h.runs_a_live_task_again }
@@ -41,6 +54,12 @@ pub fn small_histories_break_laws()
     ensures other_wait { BreaksLaw h.one_worker (h.saved_once ++ h.first_square) h.resumes_another_wait }
     ensures dropped { BreaksLaw h.one_worker h.begun h.drops_spawned_at_a_save }
     ensures undone { BreaksTurns h.loss_of_the_only h.leaves_losses_undone }
+    ensures room { BreaksLaw h.little_room h.begun h.saved_once }
+    ensures mark { BreaksLaw h.one_worker h.one_running h.another_mark }
+    ensures copy { BreaksLaw h.one_worker h.main_last h.copies_its_own }
+    ensures missed { BreaksLaw h.loss_of_the_only h.main_again h.misses_what_is_there }
+    ensures lost { BreaksLaw h.one_worker h.saved_once h.loses_unplanned }
+    ensures clash { BreaksLawOf o.namesakes h.one_worker h.begun h.saved_once }
 {}
 
 /// What stands after a history, said of the whole of it. What is live after a lawful one is an input,
@@ -55,6 +74,7 @@ pub fn live_is_told<D>()
     ensures saved { SavedIsTold D }
     ensures counts { CountsAreTold D }
     ensures book { BookIsTold D }
+    ensures once { BookIsOnce D }
     ensures places { PlacesAreTold D }
     ensures gone { GoneIsTold D }
     ensures over { OverIsTold D }
@@ -85,6 +105,7 @@ pub fn all_is_booked<D>()
     ensures whole { BookIsWhole D }
     ensures new { NewIsWhole D }
     ensures heads { FirstsComeFirst D }
+    ensures reached { ReachedIsBooked D }
     ensures placed { PlacedIsBooked D }
     ensures saved { SavedIsBooked D }
     ensures open { OpenIsBooked D }

@@ -102,7 +102,7 @@ module _ (job : s.Job) (around : s.Around) (name : s.Desc → Digest) (mark : s.
   first_is k u (inl e) = subst (λ x. n.wait_at job around k x 0 ≡ Some (t.first_of x)) (sym e) refl
   first_is k u (inr (d, e)) = fuel.first_waits job around k d u e
 
-  wait_to : (w : Task s.Desc) → IsOne (back w) → (j : ℕ) (ds : List s.Desc) → WaitOf the w j ds → n.WaitOf job around (back w) j ds
+  pub wait_to : (w : Task s.Desc) → IsOne (back w) → (j : ℕ) (ds : List s.Desc) → WaitOf the w j ds → n.WaitOf job around (back w) j ds
   wait_to w one zero ds e = (0, first_is 0 (back w) one ∙ ap Some (sym e))
   wait_to w one (suc j) ds (k, e) = (k, sym (wait_is k w j) ∙ e)
 
@@ -183,11 +183,11 @@ module _ (job : s.Job) (around : s.Around) (name : s.Desc → Digest) (mark : s.
 
   -- ---- which tasks are needed
 
-  is_one : (w : Task s.Desc) → Needed the w → IsOne (back w)
+  pub is_one : (w : Task s.Desc) → Needed the w → IsOne (back w)
   is_one show Needed.root = inl refl
   is_one u (Needed.waited need j ds d wait i e) = inr (d, made_of d u e)
 
-  needed_to : (w : Task s.Desc) → Needed the w → n.Needed job around (back w)
+  pub needed_to : (w : Task s.Desc) → Needed the w → n.Needed job around (back w)
   needed_to show Needed.root = n.root
   needed_to u (Needed.waited {t = w} need j ds d wait i e) =
       n.Needed.waited (needed_to w need) j ds d (wait_to w (is_one w need) j ds wait) (outs.contains_in d ds (in_from d ds i)) (maker_task d (back u) (made_of d u e))
@@ -213,7 +213,7 @@ module _ (job : s.Job) (around : s.Around) (name : s.Desc → Digest) (mark : s.
         let one = one_of_needed (back w) need in
         (λ le. let p = (waits.each j pos).0 le in (p.0, wait_from w one j p.0 p.1), λ (ds, h). (waits.each j pos).1 (ds, wait_to w one j ds h))
 
-    finite : (m : ℕ) → n.Work job around m → Work the m
+    pub finite : (m : ℕ) → n.Work job around m → Work the m
     finite m w =
         record {
           tasks = map forth_with w.tasks;

@@ -6,7 +6,7 @@ use Rattle.sky_base.specs.Read as r
 use Rattle.sky_base.specs.Needed as n
 use Rattle.sky_law.proofs.TaskFuel as fuel
 use Rattle.sky_law.proofs.TaskOutputs as outs
-use Rattle.std.proofs.Common.{◌≡◌, ℕ, zero, suc, ◌+◌, ◌<◌, ◌≤◌, List, [], ◌∷◌, ◌++◌, length, Bool, true, false, Option, Some, None, Ok, Err, Result, slice_get, inl, inr, refl, ap, sym, ◌∙◌, subst, arith, nat_le, nat_lt, leb-true, le-leb, is_some}
+use Rattle.std.proofs.Common.{◌≡◌, ℕ, zero, suc, ◌+◌, ◌<◌, ◌≤◌, List, [], ◌∷◌, ◌++◌, length, Bool, true, false, Option, Some, None, Ok, Err, Result, slice_get, inl, inr, refl, ap, sym, ◌∙◌, subst, arith, nat_le, leb-true, le-leb, is_some}
 use Rattle.std.specs.Option.{option_map}
 use Rattle.std.specs.Str.{is_utf8}
 use Rattle.sky_base.specs.Tree.{nowhere}
@@ -16,14 +16,14 @@ use Rattle.sky_base.specs.Eval.{Body, bind, body_of, outputs}
 use Rattle.sky_base.specs.declared.fault.Fault.{Fault}
 use Rattle.sky_law.specs.Refers.{PlainReads, Refers, PairsRefer, ValsRefer}
 use Rattle.sky_law.proofs.BatchLaw.{acts_batched}
-use Rattle.sky_law.proofs.FineLaw.{ObjectOk, EndOk, Fine, bind_ok, fine_call}
+use Rattle.sky_law.proofs.FineLaw.{Fine, bind_ok, fine_call}
 use Rattle.sky_law.proofs.FineReads.{SeenOk}
 use Rattle.sky_law.proofs.WrittenLaw.{BodyWritten, any_lit, any_name, body_written, written_any}
 use Rattle.ciel_journal.specs.Job.{Digest, Task, show, of, Act, made, wait, Held, Job, In, Each, WaitOf, StateOf, waits_in, made_before, made_in}
 use Rattle.ciel_journal.specs.Known.{Around, Batched, Begins, IsBatch, Knows, TellsTo, TellsToEnd}
 use Rattle.ciel_journal.proofs.Splits.{get_short}
 use Rattle.ciel_meant.specs.Inner.{inside, object_refs, real_inner}
-use Rattle.ciel_meant.specs.Real.{back, forth, forth_if, acts_of, held_if, at_of, real_job}
+use Rattle.ciel_meant.specs.Real.{back, forth_if, acts_of, held_if, real_job}
 use Rattle.ciel_meant.proofs.AlikeLaw.{before_is, made_is, some_is, wait_is}
 use Rattle.ciel_meant.proofs.RealLaw.{in_to, in_from, waits_are}
 use Rattle.ciel_meant.proofs.ToldRun.{FrameTold, HaltTold, InsideRefers, OutcomeTold, P, Q, SeenAll, SeenTo, Told, V, w, closed, each_pairs, each_refs, each_vals, end_told, frames_told, halt_told, left, made_told, pairs_each, refs_each, right, both, vals_each, vals_so}

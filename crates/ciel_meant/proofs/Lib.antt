@@ -2,3 +2,4 @@ pub mod RealLaw
 pub mod ToldRun
 pub mod AlikeLaw
 pub mod KnownLaw
+pub mod HistoriesLaw

@@ -1,10 +1,10 @@
 -- What a call waits for, holds and makes refers to what it began with, to what it saw, and to what it made before.
-use Rattle.std.proofs.Common.{◌≡◌, ℕ, zero, suc, ◌<◌, ◌≤◌, List, [], ◌∷◌, ◌++◌, Option, Some, None, Ok, Err, refl, ap, sym, subst, arith, slice_get}
-use Rattle.sky_base.specs.Val.{null, truth, num, text, list, dict, fun, ref, no_vals, val, no_pairs, pair, call, out, input, known, refs, vals_refs, pairs_refs, vals_of, refs_to}
+use Rattle.std.proofs.Common.{◌≡◌, ℕ, zero, suc, ◌<◌, List, [], ◌∷◌, ◌++◌, Option, Some, None, Ok, Err, refl, sym, subst, arith, slice_get}
+use Rattle.sky_base.specs.Val.{null, truth, num, text, list, dict, fun, ref, no_vals, val, no_pairs, pair, call, out, input, known, refs, vals_refs, pairs_refs, vals_of}
 use Rattle.sky_base.specs.Op.{Answer, limited, dict_from, index, keys, has, len, negated, opposite}
-use Rattle.sky_base.specs.Eval.{World, body_of, Body, caught_by, oper, lit_val, inside}
-use Rattle.sky_base.specs.Res.{Object, End, Entry, Res, Fin, Tell, Ask, kept_of, opens}
-use Rattle.sky_base.specs.Read.{Act, made, waited, Outcome, no_fuel, Halt, Todo, Frame, refs_of, joined, see_all, on_seen, acts_seen, halts_seen, outcome, acts, halt, todo_of, in_front, frame_of, frames_of}
+use Rattle.sky_base.specs.Eval.{World, caught_by, oper, lit_val, inside}
+use Rattle.sky_base.specs.Res.{Entry, Res, Fin, Tell, Ask, kept_of, opens}
+use Rattle.sky_base.specs.Read.{Outcome, no_fuel, Halt, Todo, Frame, refs_of, joined, see_all, on_seen, acts_seen, halts_seen, outcome, acts, halt, todo_of, in_front, frame_of, frames_of}
 use Rattle.sky_base.specs.See.{Val, Vals, Pairs, Desc, Obj, Job, Around, world_of}
 use Rattle.sky_law.specs.Tasks.{Each, made_before, made_in, waits_in}
 use Rattle.sky_law.specs.Refers.{PlainReads, Refers, ValsRefer, PairsRefer}

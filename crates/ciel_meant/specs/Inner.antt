@@ -1,5 +1,5 @@
 -- What stands inside the real job's descriptions, and what its objects hold.
-use Rattle.std.specs.Prelude.{ℕ, List, [], ◌++◌, Option, Some, None}
+use Rattle.std.specs.Prelude.{List, [], ◌++◌, Option, Some, None}
 use Rattle.sky_base.specs.Res.{Object}
 use Rattle.sky_base.specs.Val.{call, out, input, known, refs, vals_refs, pairs_refs}
 use Rattle.sky_base.specs.See.{Around, Desc, Job, Obj, see}

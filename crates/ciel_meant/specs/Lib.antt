@@ -1,3 +1,4 @@
 pub mod Real
 pub mod Inner
 pub mod RealLaws
+pub mod Histories

@@ -1,6 +1,7 @@
 //! The job that a script means, as a job of journals.
 #![tactic(auto)]
 
+ghost use Rattle.ciel_meant.specs.Histories.{BookIsMade, CirclesNever, EndsInAnswer, ListedOrCircle, MadeIsSeen, ReadyStarts, SavedStands, StartsAreFew, StartsAreNeeded};
 ghost use Rattle.ciel_meant.specs.RealLaws.{OfReal, RealIsJob, WaitsAlike, OutputsAlike, EndsAlike, NeverAlike, AnswerAlike, ObjectsAlike, StatesAlike, MadeAlike, NeededAlike, AllIsTold, WorkIsFinite};
 
 /// The job that a script means has the laws that the journal asks of a job, whatever its names and
@@ -33,4 +34,21 @@ pub fn real_job_needs_what_the_meaning_does()
 /// hold: so all of it is in the book of a lawful history.
 pub fn real_job_tells_where_all_comes_from()
     ensures told { OfReal AllIsTold }
+{}
+
+/// Of every lawful history of that job, where what is read as data is plain: each task started is needed, and there are no
+/// more Starts than its work, once for each loss and once more; where the root task is done the job means an answer, and a
+/// circle of waits means that it has none; where nothing is open a task is ready or there is a circle, and a ready task may
+/// be started; what is made has the mark of the one object as which it is seen, what is saved is how its task stands, and
+/// each description of the book is the main call or made by a needed task.
+pub fn real_histories()
+    ensures needed { StartsAreNeeded }
+    ensures few { StartsAreFew }
+    ensures answer { EndsInAnswer }
+    ensures endless { CirclesNever }
+    ensures listed { ListedOrCircle }
+    ensures starts { ReadyStarts }
+    ensures made { MadeIsSeen }
+    ensures saved { SavedStands }
+    ensures book { BookIsMade }
 {}

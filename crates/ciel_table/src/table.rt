@@ -83,10 +83,11 @@ impl<P: At + Drop> Table<P> {
         self.row_of.get(name).copied()
     }
 
-    /// The row of this number. It takes no memory.
+    /// The row of this number, and what holds of every table. It takes no memory.
     pub fn row(&self, id: RowId) -> &Row<P>
         requires held { id < length self.now.rows }
         ensures row { slice_get self.now.rows id ≡ Some result.now }
+        ensures sound { TableSound P.at self.now }
     {
         &self.rows[id as usize]
     }

@@ -1,5 +1,5 @@
 -- Listing the flagged tasks, each at its first row.
-use Rattle.std.proofs.Common.{◌≡◌, ℕ, zero, suc, ◌<◌, ◌≤◌, List, [], ◌∷◌, ◌++◌, Bool, true, false, cond, ◌||◌, drop, get_or, length, length-set, set, slice_get, append_assoc, refl, ap, sym, ◌∙◌, subst, ◌⊎◌, inl, inr, arith, Option, Some, None, nat_eq, eqb-true}
+use Rattle.std.proofs.Common.{◌≡◌, ℕ, zero, suc, ◌<◌, ◌≤◌, List, [], ◌∷◌, ◌++◌, Bool, true, false, cond, ◌||◌, drop, get_or, length, length-set, set, slice_get, append_assoc, append-nil, refl, ap, sym, ◌∙◌, subst, ◌⊎◌, inl, inr, arith, Option, Some, None, nat_eq, eqb-true}
 use Rattle.std.specs.Option.{option_map_or}
 use Rattle.sky_base.specs.Val.{same_text}
 use Rattle.sky_base.specs.declared.object.TaskId.{TaskId}
@@ -8,7 +8,7 @@ use Rattle.ciel_journal.specs.Graph.{Picks}
 use Rattle.ciel_table.specs.Seen.{TableSeen, find, row_name}
 use Rattle.ciel_table.specs.declared.row.Row.{Row}
 use Rattle.ciel_table.proofs.Lists.{bool_cases}
-use Rattle.ciel_want.specs.Board.{IsFlagged, cleared, is_set, task_row}
+use Rattle.ciel_want.specs.Board.{IsFlagged, cleared, is_set, maker_at, task_row}
 use Rattle.ciel_want.specs.Waited.{is_in, tasks_after, tasks_in_order, unless}
 use Rattle.ciel_want.proofs.Marking.{set_other}
 use Rattle.ciel_want.proofs.Rows.{item_at}
@@ -32,17 +32,22 @@ drop_end [] (suc i) l = refl
 drop_end (x ∷ xs) zero l = absurd (omega (arith, l))
 drop_end (x ∷ xs) (suc i) l = drop_end xs i (omega (arith, l))
 
+pub held_at : {A : Type 0} (xs : List A) (i : ℕ) → i < length xs → (x : A) × (slice_get xs i ≡ Some x)
+held_at [] i l = absurd (omega (arith, l))
+held_at (x ∷ xs) zero l = (x, refl)
+held_at (x ∷ xs) (suc i) l = held_at xs i (omega (arith, l))
+
 -- a flag that was read
 pub flag_is : (flags : List Bool) (i : ℕ) (x : Bool) → i < length flags → x ≡ get_or flags i x → is_set flags (Some i) ≡ x
 flag_is [] i x l e = absurd (omega (arith, l))
 flag_is (f ∷ fs) zero x l e = sym e
 flag_is (f ∷ fs) (suc i) x l e = flag_is fs i x (omega (arith, l)) e
 
-module _ {P : Type 0} (t : TableSeen P) (first : List Bool) where
+module _ {P : Type 0} (t : TableSeen P) (first : List Bool) (root : Bool) where
   -- after so many rows: those listed, and the flags that are left
   pub record Listing (flags : List Bool) (tasks : List TaskId) (i : ℕ) : Type 0 where
     pub before : List TaskId
-    pub picks : (rest : List TaskId) → Picks (IsFlagged t first) (tasks_after before (drop i t.rows)) rest → Picks (IsFlagged t first) (tasks_in_order t) (tasks ++ rest)
+    pub picks : (rest : List TaskId) → Picks (IsFlagged t first root) (tasks_after before (drop i t.rows)) rest → Picks (IsFlagged t first root) (tasks_in_order t) (tasks ++ rest)
     pub long : length flags ≡ length t.rows
     pub root_in : is_in before TaskId.Show ≡ true
     pub left : (m : List ℕ) (e : ℕ) → find m t ≡ Some e → is_set flags (Some e) ≡ cond (is_in before (TaskId.Of m)) false (is_set first (Some e))
@@ -60,28 +65,28 @@ module _ {P : Type 0} (t : TableSeen P) (first : List Bool) where
   -- the next task is none of those flagged, or comes now
   abbrev Next : List TaskId → List (Row P) → TaskId → List TaskId → List TaskId → Type 0
   Next before rs task tasks after =
-      (rest : List TaskId) → Picks (IsFlagged t first) (tasks_after (task ∷ before) rs) rest → (more : List TaskId) × (after ++ rest ≡ tasks ++ more) × Picks (IsFlagged t first) (unless (is_in before task) task (tasks_after (task ∷ before) rs)) more
+      (rest : List TaskId) → Picks (IsFlagged t first root) (tasks_after (task ∷ before) rs) rest → (more : List TaskId) × (after ++ rest ≡ tasks ++ more) × Picks (IsFlagged t first root) (unless (is_in before task) task (tasks_after (task ∷ before) rs)) more
 
-  skip : (before : List TaskId) (rs : List (Row P)) (task : TaskId) (tasks after : List TaskId) → after ≡ tasks → ((is_in before task ≡ true) ⊎ (IsFlagged t first task → ⊥)) → Next before rs task tasks after
+  skip : (before : List TaskId) (rs : List (Row P)) (task : TaskId) (tasks after : List TaskId) → after ≡ tasks → ((is_in before task ≡ true) ⊎ (IsFlagged t first root task → ⊥)) → Next before rs task tasks after
   skip before rs task tasks after s h rest p =
       (rest, ap (λ ts. ts ++ rest) s, turn (bool_cases (is_in before task)) h)
     where
-      turn : ((is_in before task ≡ true) ⊎ (is_in before task ≡ false)) → ((is_in before task ≡ true) ⊎ (IsFlagged t first task → ⊥)) → Picks (IsFlagged t first) (unless (is_in before task) task (tasks_after (task ∷ before) rs)) rest
+      turn : ((is_in before task ≡ true) ⊎ (is_in before task ≡ false)) → ((is_in before task ≡ true) ⊎ (IsFlagged t first root task → ⊥)) → Picks (IsFlagged t first root) (unless (is_in before task) task (tasks_after (task ∷ before) rs)) rest
       turn (inl y) h =
-          subst (λ b. Picks (IsFlagged t first) (unless b task (tasks_after (task ∷ before) rs)) rest) (sym y) p
+          subst (λ b. Picks (IsFlagged t first root) (unless b task (tasks_after (task ∷ before) rs)) rest) (sym y) p
       turn (inr n) (inl y) = let e : true ≡ false = sym y ∙ n in cc
       turn (inr n) (inr f) =
-          subst (λ b. Picks (IsFlagged t first) (unless b task (tasks_after (task ∷ before) rs)) rest) (sym n) (inr (f, p))
+          subst (λ b. Picks (IsFlagged t first root) (unless b task (tasks_after (task ∷ before) rs)) rest) (sym n) (inr (f, p))
 
-  take_it : (before : List TaskId) (rs : List (Row P)) (task : TaskId) (tasks after : List TaskId) → after ≡ tasks ++ task ∷ [] → is_in before task ≡ false → IsFlagged t first task → Next before rs task tasks after
+  take_it : (before : List TaskId) (rs : List (Row P)) (task : TaskId) (tasks after : List TaskId) → after ≡ tasks ++ task ∷ [] → is_in before task ≡ false → IsFlagged t first root task → Next before rs task tasks after
   take_it before rs task tasks after s n f rest p =
-      (task ∷ rest, ap (λ ts. ts ++ rest) s ∙ append_assoc tasks (task ∷ []) rest, subst (λ b. Picks (IsFlagged t first) (unless b task (tasks_after (task ∷ before) rs)) (task ∷ rest)) (sym n) (inl (f, (rest, refl, p))))
+      (task ∷ rest, ap (λ ts. ts ++ rest) s ∙ append_assoc tasks (task ∷ []) rest, subst (λ b. Picks (IsFlagged t first root) (unless b task (tasks_after (task ∷ before) rs)) (task ∷ rest)) (sym n) (inl (f, (rest, refl, p))))
 
   not_root : (m : List ℕ) → TaskId.Of m ≡ TaskId.Show → ⊥
   not_root m e = cc
 
-  unflagged : (m : List ℕ) → is_set first (find m t) ≡ false → IsFlagged t first (TaskId.Of m) → ⊥
-  unflagged m h (inl s) = not_root m s
+  unflagged : (m : List ℕ) → is_set first (find m t) ≡ false → IsFlagged t first root (TaskId.Of m) → ⊥
+  unflagged m h (inl s) = not_root m s.0
   unflagged m h (inr s) = let e : true ≡ false = sym s ∙ h in cc
 
   next_of : (flags : List Bool) (tasks after : List TaskId) (i : ℕ) (task : TaskId) (rs : List (Row P)) → (s : Listing flags tasks i) → after ≡ cond (is_set flags (task_row t task)) (tasks ++ task ∷ []) tasks → Next s.before rs task tasks after
@@ -158,10 +163,25 @@ module _ {P : Type 0} (t : TableSeen P) (first : List Bool) where
       root_more TaskId.Show = refl
       root_more (TaskId.Of m) = s.root_in
 
-      picked : (rest : List TaskId) → ((ts : List TaskId) × (more ++ rest ≡ tasks ++ ts) × Picks (IsFlagged t first) (unless (is_in s.before r.task) r.task (tasks_after (r.task ∷ s.before) (drop (suc i) t.rows))) ts) → Picks (IsFlagged t first) (tasks_in_order t) (more ++ rest)
+      picked : (rest : List TaskId) → ((ts : List TaskId) × (more ++ rest ≡ tasks ++ ts) × Picks (IsFlagged t first root) (unless (is_in s.before r.task) r.task (tasks_after (r.task ∷ s.before) (drop (suc i) t.rows))) ts) → Picks (IsFlagged t first root) (tasks_in_order t) (more ++ rest)
       picked rest q =
-          subst (Picks (IsFlagged t first) (tasks_in_order t)) (sym q.1) (s.picks q.0 (subst (λ rs. Picks (IsFlagged t first) (tasks_after s.before rs) q.0) (sym (drop_at t.rows i r g)) q.2))
+          subst (Picks (IsFlagged t first root) (tasks_in_order t)) (sym q.1) (s.picks q.0 (subst (λ rs. Picks (IsFlagged t first root) (tasks_after s.before rs) q.0) (sym (drop_at t.rows i r g)) q.2))
 
-  pub list_end : (flags : List Bool) (tasks : List TaskId) (i : ℕ) → Listing flags tasks i → length t.rows ≤ i → Picks (IsFlagged t first) (tasks_in_order t) (tasks ++ TaskId.Show ∷ [])
-  list_end flags tasks i s l =
-      s.picks (TaskId.Show ∷ []) (subst (λ rs. Picks (IsFlagged t first) (tasks_after s.before rs) (TaskId.Show ∷ [])) (sym (drop_end t.rows i l)) (inl (inl refl, ([], refl, refl))))
+  -- the same for the row of this number
+  pub list_at : (flags after : List Bool) (tasks more : List TaskId) (i : ℕ) → Listing flags tasks i → i < length t.rows → more ≡ cond (is_set flags (task_row t (maker_at t (Some i)))) (tasks ++ maker_at t (Some i) ∷ []) tasks → after ≡ cleared (task_row t (maker_at t (Some i))) flags → Listing after more (suc i)
+  list_at flags after tasks more i s l a f =
+      let r = held_at t.rows i l in
+      let m : maker_at t (Some i) ≡ r.0.task = ap (λ (o : Option (Row P)). option_map_or (λ (r : Row P). r.task) o TaskId.Show) r.1 in
+      list_step flags after tasks more i r.0 s r.1 (subst (λ k. more ≡ cond (is_set flags (task_row t k)) (tasks ++ k ∷ []) tasks) m a) (subst (λ k. after ≡ cleared (task_row t k) flags) m f)
+
+  pub list_end : (flags : List Bool) (tasks : List TaskId) (i : ℕ) → Listing flags tasks i → length t.rows ≤ i → root ≡ true → Picks (IsFlagged t first root) (tasks_in_order t) (tasks ++ TaskId.Show ∷ [])
+  list_end flags tasks i s l y =
+      s.picks (TaskId.Show ∷ []) (subst (λ rs. Picks (IsFlagged t first root) (tasks_after s.before rs) (TaskId.Show ∷ [])) (sym (drop_end t.rows i l)) (inl (inl (refl, y), ([], refl, refl))))
+
+  pub list_end_without : (flags : List Bool) (tasks : List TaskId) (i : ℕ) → Listing flags tasks i → length t.rows ≤ i → root ≡ false → Picks (IsFlagged t first root) (tasks_in_order t) tasks
+  list_end_without flags tasks i s l n =
+      subst (Picks (IsFlagged t first root) (tasks_in_order t)) (append-nil tasks) (s.picks [] (subst (λ rs. Picks (IsFlagged t first root) (tasks_after s.before rs) []) (sym (drop_end t.rows i l)) (inr (unasked, refl))))
+    where
+      unasked : IsFlagged t first root TaskId.Show → ⊥
+      unasked (inl s) = let e : true ≡ false = sym s.1 ∙ n in cc
+      unasked (inr s) = cc

@@ -1,7 +1,7 @@
 -- Flags beside the list of what was seen.
 use Rattle.std.proofs.Common.{◌≡◌, ℕ, zero, suc, ◌<◌, List, [], ◌∷◌, ◌++◌, length, get_or, set, append_assoc, append-nil, Bool, true, false, cond, ◌||◌, Some, ◌⊎◌, inl, inr, refl, ap, sym, ◌∙◌, arith, nat_eq, eqb-true, eq-eqb, slice_get, replicate}
 use Rattle.std.specs.List.{list_any}
-use Rattle.ciel_journal.specs.Search.{Among, news}
+use Rattle.ciel_want.specs.Search.{Among, news}
 use Rattle.ciel_journal.proofs.Members.{bool_cases}
 use Rattle.ciel_want.specs.Marked.{AllBelow, Marked}
 

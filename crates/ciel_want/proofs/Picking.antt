@@ -1,9 +1,8 @@
 -- Lists that were picked from a list, in order.
-use Rattle.std.proofs.Common.{◌≡◌, List, [], ◌∷◌, Bool, true, false, cond, filter, ap, sym, ◌∙◌, subst, ◌⊎◌, inl, inr}
+use Rattle.std.proofs.Common.{List, [], ◌∷◌, sym, subst, inl, inr}
 use Rattle.std.specs.List.{AllByRecursion}
 use Rattle.ciel_journal.specs.Graph.{Picks}
 use Rattle.ciel_journal.specs.Job.{In}
-use Rattle.ciel_table.proofs.Lists.{bool_cases}
 
 module _ {A : Type 0} where
   -- what means the same picks the same
@@ -25,20 +24,3 @@ module _ {A : Type 0} where
   picks_none P (y ∷ ys) (inl k) x i p = let e = k.1.1 in cc
   picks_none P (y ∷ ys) (inr k) x (inl s) p = k.0 (subst P s p)
   picks_none P (y ∷ ys) (inr k) x (inr i) p = picks_none P ys k.1 x i p
-
-  -- of those that were picked, those that pass a test
-  pub picks_filter : (P Q : A → Type 0) (test : A → Bool) → ((x : A) → P x → test x ≡ true → Q x) → ((x : A) → Q x → P x × (test x ≡ true)) → (xs ts : List A) → Picks P xs ts → Picks Q xs (filter test ts)
-  picks_filter P Q test f g [] ts k = ap (filter test) k
-  picks_filter P Q test f g (x ∷ xs) ts (inl k) =
-      subst (λ us. Picks Q (x ∷ xs) (filter test us)) (sym k.1.1) (turn (bool_cases (test x)) (picks_filter P Q test f g xs k.1.0 k.1.2))
-    where
-      turn : ((test x ≡ true) ⊎ (test x ≡ false)) → Picks Q xs (filter test k.1.0) → Picks Q (x ∷ xs) (cond (test x) (x ∷ filter test k.1.0) (filter test k.1.0))
-      turn (inl t) r =
-          inl (f x k.0 t, (filter test k.1.0, ap (λ b. cond b (x ∷ filter test k.1.0) (filter test k.1.0)) t, r))
-      turn (inr n) r =
-          subst (λ b. Picks Q (x ∷ xs) (cond b (x ∷ filter test k.1.0) (filter test k.1.0))) (sym n) (inr (λ q. differ (g x q).1, r))
-        where
-          differ : test x ≡ true → ⊥
-          differ t = let e : true ≡ false = sym t ∙ n in cc
-  picks_filter P Q test f g (x ∷ xs) ts (inr k) =
-      inr (λ q. k.0 (g x q).0, picks_filter P Q test f g xs ts k.1)

@@ -1,17 +1,17 @@
 -- The rows to which the root task leads are those of the reached tasks.
-use Rattle.std.proofs.Common.{◌≡◌, ℕ, zero, suc, ◌<◌, List, [], ◌∷◌, Bool, true, false, cond, not, filter, length, slice_get, refl, ap, sym, ◌∙◌, subst, ◌⊎◌, inl, inr, arith, Option, Some, None, IfSome, IsSome}
+use Rattle.std.proofs.Common.{◌≡◌, ℕ, zero, suc, ◌<◌, List, [], ◌∷◌, Bool, true, false, cond, not, filter, length, slice_get, refl, ap, sym, ◌∙◌, subst, ◌⊎◌, inl, inr, arith, Option, Some, None, IfSome}
 use Rattle.std.specs.Option.{option_map_or}
 use Rattle.sky_base.specs.declared.object.TaskId.{TaskId}
 use Rattle.ciel_journal.specs.Graph.{Led, root, through}
 use Rattle.ciel_journal.specs.Job.{In}
-use Rattle.ciel_journal.specs.Search.{Among, IsWithin, LedTo, first, further, unmet}
+use Rattle.ciel_want.specs.Search.{Among, IsWithin, LedTo, first, further, unmet}
 use Rattle.ciel_table.specs.Seen.{TableSeen, Known, find, row_name}
 use Rattle.ciel_table.specs.declared.row.Row.{Row}
-use Rattle.ciel_want.specs.Board.{HasRow, IsFlagged, blockers_of, is_set, leads, never, task_at, task_row}
+use Rattle.ciel_want.specs.Board.{IsFlagged, blockers_of, is_set, leads, never, task_at, task_row}
 use Rattle.ciel_want.specs.Marked.{Flagged}
 use Rattle.ciel_want.specs.Waited.{Whole, graph, is_in, needs}
 use Rattle.ciel_want.proofs.Waiting.{Blocks, all_in, among_here, among_more, blocker_of, blockers_from, blockers_has, blocks_known, blocks_of, dead_of, maker_of, needs_known}
-use Rattle.ciel_want.proofs.Rows.{item_at, some_place}
+use Rattle.ciel_want.proofs.Rows.{item_at}
 
 pub keep_all : (es : List ℕ) → filter (λ e. not (never e)) es ≡ es
 keep_all [] = refl
@@ -71,7 +71,7 @@ module _ {P : Type 0} (main : List ℕ) (t : TableSeen P) (out : List TaskId) wh
   led_within =
       (upto (length t.rows), upto_long (length t.rows), λ e l. upto_has (length t.rows) e (led_below e l))
 
-  at_own : (m : List ℕ) (e : ℕ) → find m t ≡ Some e → task_at t (Some e) ≡ TaskId.Of m
+  pub at_own : (m : List ℕ) (e : ℕ) → find m t ≡ Some e → task_at t (Some e) ≡ TaskId.Of m
   at_own m e h =
       let q = item_at row_name m t.rows e h in
       ap (λ (o : Option (Row P)). TaskId.Of (option_map_or row_name o [])) q.there ∙ ap (λ k. TaskId.Of k) q.named
@@ -138,18 +138,18 @@ module _ {P : Type 0} (main : List ℕ) (t : TableSeen P) (out : List TaskId) wh
 
     -- flags of the rows to which one leads are those of the reached tasks
     module _ (flags : List Bool) (all : (e : ℕ) → LedTo (leads t main out) never e → Flagged flags e) (only : (e : ℕ) → Flagged flags e → LedTo (leads t main out) never e) where
-      pub led_flagged : (task : TaskId) → Led (graph main t out) task → IsFlagged t flags task
+      pub led_flagged : (task : TaskId) → Led (graph main t out) task → IsFlagged t flags true task
       led_flagged task l = turn (led_row task l).own
         where
-          turn : ((task ≡ TaskId.Show) ⊎ ((e : ℕ) × (m : List ℕ) × ((led_row task l).from ≡ Some e) × (task ≡ TaskId.Of m) × (find m t ≡ Some e) × LedTo (leads t main out) never e)) → IsFlagged t flags task
-          turn (inl s) = inl s
+          turn : ((task ≡ TaskId.Show) ⊎ ((e : ℕ) × (m : List ℕ) × ((led_row task l).from ≡ Some e) × (task ≡ TaskId.Of m) × (find m t ≡ Some e) × LedTo (leads t main out) never e)) → IsFlagged t flags true task
+          turn (inl s) = inl (s, refl)
           turn (inr r) =
               inr (ap (λ k. is_set flags (task_row t k)) r.3
               ∙ (ap (is_set flags) r.4
               ∙ ap (λ o. option_map_or (λ b. b) o false) (all r.0 r.5)))
 
-      pub flagged_led : (task : TaskId) → IsFlagged t flags task → Led (graph main t out) task
-      flagged_led task (inl s) = subst (Led (graph main t out)) (sym s) root
+      pub flagged_led : (task : TaskId) → IsFlagged t flags true task → Led (graph main t out) task
+      flagged_led task (inl s) = subst (Led (graph main t out)) (sym s.0) root
       flagged_led TaskId.Show (inr h) = cc
       flagged_led (TaskId.Of m) (inr h) = turn (find m t) refl h
         where
@@ -174,18 +174,3 @@ module _ {P : Type 0} (t : TableSeen P) where
       turn : (o : Option ℕ) → find n t ≡ o → IfSome o (λ e. e < length t.rows)
       turn None h = tt
       turn (Some e) h = (item_at row_name n t.rows e h).within
-
-  pub task_at_row : (task : TaskId) → HasRow t task → task_at t (task_row t task) ≡ task
-  task_at_row TaskId.Show h = refl
-  task_at_row (TaskId.Of n) h =
-      let p = some_place row_name n t.rows h in
-      ap (task_at t) p.1 ∙ at_own [] t [] n p.0 p.1
-
-  pub flagged_row : (flags : List Bool) (task : TaskId) → IsFlagged t flags task → HasRow t task
-  flagged_row flags TaskId.Show h = tt
-  flagged_row flags (TaskId.Of n) h = turn (find n t) refl h
-    where
-      turn : (o : Option ℕ) → find n t ≡ o → (TaskId.Of n ≡ TaskId.Show) ⊎ (is_set flags o ≡ true) → IsSome o
-      turn None q (inl s) = cc
-      turn None q (inr s) = cc
-      turn (Some e) q k = refl

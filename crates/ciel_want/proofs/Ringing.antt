@@ -7,8 +7,8 @@ use Rattle.sky_base.specs.declared.object.TaskId.{TaskId}
 use Rattle.sky_base.proofs.Exact.{exact_text}
 use Rattle.ciel_journal.specs.Graph.{Chain, Circle, Led, Runnable, WaitsOn, root, through}
 use Rattle.ciel_journal.specs.Job.{Each, In}
-use Rattle.ciel_journal.specs.Search.{Among, IsCircle, IsWithin, LedTo, Links, SomeMet, first, further, unmet}
-use Rattle.ciel_journal.proofs.Searching.{among_head}
+use Rattle.ciel_want.specs.Search.{Among, IsCircle, IsWithin, LedTo, Links, SomeMet, first, further, unmet}
+use Rattle.ciel_want.proofs.Searching.{among_head}
 use Rattle.ciel_table.specs.Seen.{TableSeen, Known, find, has_place, is_input, is_live, is_live_row, row_name, row_named}
 use Rattle.ciel_table.specs.declared.row.Row.{Row}
 use Rattle.ciel_table.proofs.Lists.{bool_cases}

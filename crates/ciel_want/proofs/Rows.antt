@@ -68,6 +68,11 @@ module _ {X : Type 0} (name : X → List ℕ) where
       ap (λ b. cond b (Some 0) (option_map suc (place_of name (name x) ys))) f
       ∙ ap (λ q. option_map suc q) (own_place ys i x o.1 e)
 
+  -- and is found by it
+  pub own_found : (xs : List X) (i : ℕ) (x : X) → IsOnce name xs → slice_get xs i ≡ Some x → found name (name x) xs ≡ Some x
+  own_found xs i x o e =
+      let q = item_at (name x) xs i (own_place xs i x o e) in q.is_found ∙ (sym q.there ∙ e)
+
   -- what has a place has one
   pub some_place : (n : List ℕ) (xs : List X) → IsSome (place_of name n xs) → (i : ℕ) × (place_of name n xs ≡ Some i)
   some_place n xs h = turn (place_of name n xs) refl h

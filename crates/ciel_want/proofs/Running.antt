@@ -4,7 +4,7 @@ use Rattle.std.specs.List.{AllByRecursion}
 use Rattle.sky_base.specs.declared.object.TaskId.{TaskId}
 use Rattle.ciel_journal.specs.Graph.{Led, Runnable}
 use Rattle.ciel_journal.specs.Job.{Each, In}
-use Rattle.ciel_journal.specs.Search.{Among}
+use Rattle.ciel_want.specs.Search.{Among}
 use Rattle.ciel_journal.proofs.Members.{each_of}
 use Rattle.ciel_table.specs.Seen.{TableSeen, Known, is_live}
 use Rattle.ciel_table.proofs.Lists.{bool_cases}

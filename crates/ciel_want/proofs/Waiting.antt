@@ -6,8 +6,8 @@ use Rattle.sky_base.specs.Names.{known_of}
 use Rattle.sky_base.specs.declared.object.TaskId.{TaskId}
 use Rattle.ciel_journal.specs.Graph.{Led, root, through}
 use Rattle.ciel_journal.specs.Job.{In}
-use Rattle.ciel_journal.specs.Search.{Among}
-use Rattle.ciel_journal.proofs.Searching.{among_head}
+use Rattle.ciel_want.specs.Search.{Among}
+use Rattle.ciel_want.proofs.Searching.{among_head}
 use Rattle.ciel_table.specs.Seen.{TableSeen, Known, find, has_place, is_input, is_live, is_live_row, later, latest, row_name, row_named}
 use Rattle.ciel_table.specs.declared.row.Row.{Row}
 use Rattle.ciel_table.specs.declared.wait.Wait.{Wait}

@@ -1,43 +1,32 @@
 -- What the answers of the three calls come to.
-use Rattle.std.proofs.Common.{◌≡◌, ◌≤◌, ◌++◌, ℕ, List, [], Bool, ◌∙◌, ap, sym, subst, append-nil, drop, filter, length, Option, IfSome, IfNone}
+use Rattle.std.proofs.Common.{◌≡◌, ℕ, List, [], Bool, true, sym, subst, length, slice_get, Option, Some, IfSome, IfNone}
 use Rattle.std.specs.List.{IsDistinct}
 use Rattle.sky_base.specs.Val.{same_text}
 use Rattle.sky_base.specs.declared.object.TaskId.{TaskId}
 use Rattle.ciel_journal.specs.Graph.{Circle, Led, Picks, Runnable}
-use Rattle.ciel_journal.specs.Search.{IsCircle, LedTo, SomeMet}
+use Rattle.ciel_want.specs.Search.{IsCircle, LedTo, SomeMet}
 use Rattle.ciel_table.specs.Seen.{TableSeen}
-use Rattle.ciel_want.specs.Board.{IsFlagged, can_run_test, leads, live_at, names_at, never, row_leads}
+use Rattle.ciel_want.specs.Board.{IsFlagged, can_run_test, leads, live_at, names_at, never, row_leads, task_at}
 use Rattle.ciel_want.specs.Marked.{Flagged}
 use Rattle.ciel_want.specs.Waited.{Whole, graph, tasks_in_order}
 use Rattle.ciel_want.proofs.Listed.{led_listed}
-use Rattle.ciel_want.proofs.Listing.{drop_end}
-use Rattle.ciel_want.proofs.Picking.{picks_all, picks_filter, picks_none, picks_same}
+use Rattle.ciel_want.proofs.Picking.{picks_all, picks_none, picks_same}
 use Rattle.ciel_want.proofs.Reaching.{flagged_led, led_flagged}
+use Rattle.ciel_want.proofs.ReadyRows.{flagged_runs, runs_flagged}
 use Rattle.ciel_want.proofs.Ringing.{met_runs, ring_circle, ring_distinct}
-use Rattle.ciel_want.proofs.Running.{if_none_more, if_some_all, if_some_more, none_of, runs_test, some_of, test_runs}
+use Rattle.ciel_want.proofs.Running.{if_none_more, if_some_all, if_some_more, none_of, some_of}
 
 module _ {P : Type 0} (main : List ℕ) (t : TableSeen P) (whole : Whole main t) where
   module _ (out : List TaskId) (flags : List Bool) (all : (e : ℕ) → LedTo (leads t main out) never e → Flagged flags e) (only : (e : ℕ) → Flagged flags e → LedTo (leads t main out) never e) (o : List TaskId) (same : out ≡ o) where
     -- the tasks whose flags are set are those that are reached
-    pub wanted_picks : (tasks : List TaskId) → Picks (IsFlagged t flags) (tasks_in_order t) tasks → Picks (Led (graph main t o)) (tasks_in_order t) tasks
+    pub wanted_picks : (tasks : List TaskId) → Picks (IsFlagged t flags true) (tasks_in_order t) tasks → Picks (Led (graph main t o)) (tasks_in_order t) tasks
     wanted_picks tasks p =
-        subst (λ x. Picks (Led (graph main t x)) (tasks_in_order t) tasks) same (picks_same (IsFlagged t flags) (Led (graph main t out)) (flagged_led main t out whole flags all only) (led_flagged main t out whole flags all only) (tasks_in_order t) tasks p)
+        subst (λ x. Picks (Led (graph main t x)) (tasks_in_order t) tasks) same (picks_same (IsFlagged t flags true) (Led (graph main t out)) (flagged_led main t out whole flags all only) (led_flagged main t out whole flags all only) (tasks_in_order t) tasks p)
 
-    -- and those of them that pass the test can run
-    pub ready_picks : (tasks ready : List TaskId) (i : ℕ) → length tasks ≤ i → ready ++ filter (can_run_test main t out) (drop i tasks) ≡ filter (can_run_test main t out) tasks → Picks (IsFlagged t flags) (tasks_in_order t) tasks → Picks (Runnable (graph main t o)) (tasks_in_order t) ready
-    ready_picks tasks ready i l kept p =
-        subst (λ x. Picks (Runnable (graph main t x)) (tasks_in_order t) ready) same (subst (Picks (Runnable (graph main t out)) (tasks_in_order t)) (sym is) picked)
-      where
-        test : TaskId → Bool
-        test = can_run_test main t out
-
-        is : ready ≡ filter test tasks
-        is =
-            sym (append-nil ready) ∙ (ap (λ ts. ready ++ filter test ts) (sym (drop_end tasks i l)) ∙ kept)
-
-        picked : Picks (Runnable (graph main t out)) (tasks_in_order t) (filter test tasks)
-        picked =
-            picks_filter (IsFlagged t flags) (Runnable (graph main t out)) test (λ x f h. test_runs main t whole out x (flagged_led main t out whole flags all only x f) h) (λ x r. (led_flagged main t out whole flags all only x r.reached, runs_test main t whole out x r)) (tasks_in_order t) tasks p
+  -- and those of whose rows the flags say that they can run are those that can
+  pub ready_picks : (out : List TaskId) (ready : List Bool) (root : Bool) → ((e : ℕ) → LedTo (leads t main out) never e → slice_get ready e ≡ Some (can_run_test main t out (task_at t (Some e)))) → ((e : ℕ) → Flagged ready e → LedTo (leads t main out) never e) → root ≡ can_run_test main t out TaskId.Show → (o : List TaskId) → out ≡ o → (tasks : List TaskId) → Picks (IsFlagged t ready root) (tasks_in_order t) tasks → Picks (Runnable (graph main t o)) (tasks_in_order t) tasks
+  ready_picks out ready root is only at_root o same tasks p =
+      subst (λ x. Picks (Runnable (graph main t x)) (tasks_in_order t) tasks) same (picks_same (IsFlagged t ready root) (Runnable (graph main t out)) (flagged_runs main t out whole ready root is only at_root) (runs_flagged main t out whole ready root is only at_root) (tasks_in_order t) tasks p)
 
   -- ---- circles
 

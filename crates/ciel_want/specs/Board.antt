@@ -1,5 +1,5 @@
 -- The graph of a table by numbers of rows: each stands for the task of its name.
-use Rattle.std.specs.Prelude.{◌≡◌, ℕ, List, [], ◌∷◌, Bool, true, false, cond, not, filter, Option, Some, None, IsSome, ◌&&◌, ◌||◌, slice_get, slice_set, length, ◌<◌, ◌⊎◌}
+use Rattle.std.specs.Prelude.{◌≡◌, ℕ, List, [], ◌∷◌, Bool, true, false, cond, not, filter, Option, Some, None, ◌&&◌, ◌||◌, slice_get, slice_set, length, ◌<◌, ◌⊎◌}
 use Rattle.std.specs.Option.{option_map_or, option_and_then}
 use Rattle.sky_base.specs.declared.object.TaskId.{TaskId}
 use Rattle.ciel_table.specs.Seen.{TableSeen, find, is_input, is_live_row, row_name, row_named}
@@ -74,9 +74,9 @@ abbrev pub cleared : Option ℕ → List Bool → List Bool
 cleared None flags = flags
 cleared (Some e) flags = slice_set flags e false
 
--- the root task, or one of whose row the flag is set
-abbrev pub IsFlagged : {P : Type 0} → TableSeen P → List Bool → TaskId → Type 0
-IsFlagged t flags task = (task ≡ TaskId.Show) ⊎ (is_set flags (task_row t task) ≡ true)
+-- the root task, if it is asked for, or one of whose row the flag is set
+abbrev pub IsFlagged : {P : Type 0} → TableSeen P → List Bool → Bool → TaskId → Type 0
+IsFlagged t flags root task = ((task ≡ TaskId.Show) × (root ≡ true)) ⊎ (is_set flags (task_row t task) ≡ true)
 
 abbrev pub never : ℕ → Bool
 never e = false
@@ -84,11 +84,6 @@ never e = false
 -- the rows of the names that the task of a row's name waits for
 abbrev pub row_leads : {P : Type 0} → List ℕ → TableSeen P → Option ℕ → List ℕ
 row_leads main t from = rows_of t (needs main t (maker_at t from))
-
--- the root task, or one that has a row
-abbrev pub HasRow : {P : Type 0} → TableSeen P → TaskId → Type 0
-HasRow t TaskId.Show = Unit {0}
-HasRow t (TaskId.Of n) = IsSome (find n t)
 
 abbrev pub is_none : List ℕ → Bool
 is_none [] = true

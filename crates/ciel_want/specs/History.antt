@@ -2,9 +2,10 @@
 use Rattle.std.specs.Prelude.{◌≡◌, ℕ, List, [], ◌∷◌, true, false, map, Option, Some, None, ◌⊎◌}
 use Rattle.sky_base.specs.declared.object.TaskId.{TaskId}
 use Rattle.ciel_journal.specs.Graph.{Circle, Led, Picks, Runnable}
-use Rattle.ciel_journal.specs.History.{Standing, is_out, live, needs as needs_after}
+use Rattle.ciel_journal.specs.History.{Event, Plan, Standing, standing, is_out, live, needs as needs_after}
 use Rattle.ciel_journal.specs.Job.{Each, In, IsJob, Job, Task, of, show}
-use Rattle.ciel_journal.specs.Lawful.{NoClash}
+use Rattle.ciel_journal.specs.Known.{Inner, Knows}
+use Rattle.ciel_journal.specs.Lawful.{Lawful, NoClash}
 use Rattle.ciel_journal.specs.Turns.{CircleAtRest, IsReadyList, Reached}
 use Rattle.ciel_table.specs.Seen.{TableSeen, is_input, is_live}
 use Rattle.ciel_table.specs.declared.row.Row.{Row}
@@ -62,7 +63,21 @@ module _ {D P : Type 0} (job : Job D) (v : Standing D) (main : List ℕ) (t : Ta
     pub ready : (us : List (Task D)) (ts : List TaskId) → IsReadyList job v us → Picks (Runnable (graph main t out)) (tasks_in_order t) ts → ts ≡ map (task_id job) us
     pub circle : v.orders ≡ [] → (ns : List (List ℕ)) → Circle (graph main t out) ns → (ds : List D) × (ns ≡ map job.name ds) × CircleAtRest job v ds
 
+module _ {D P : Type 0} (job : Job D) (v : Standing D) (main : List ℕ) (t : TableSeen P) (out : List TaskId) where
+  -- the table holds what stands: its rows are the book, live is what is live, each reached task waits for what it waits for,
+  -- by names, and the tasks that are out have open Starts
+  pub record Holds : Type 0 where
+    pub rows : AreRowsOf job v.book t.rows
+    pub lives : (d : D) → In d v.book → is_live (job.name d) t ≡ live job v d
+    pub waits : (u : Task D) → Reached job v u → needs main t (task_id job u) ≡ map job.name (needs_after job v u)
+    pub outs : (u : Task D) → Reached job v u → is_in out (task_id job u) ≡ is_out job v u
+
 module _ (D P : Type 0) where
+  -- a table that holds what stands after a lawful history agrees with it, where the job tells where all comes from
+  abbrev pub LawfulAgrees : Type 0
+  LawfulAgrees =
+      (job : Job D) → IsJob job → (inner : Inner D) → Knows job inner → (p : Plan) (h : List (Event D)) → Lawful job p h → (main : List ℕ) (t : TableSeen P) (out : List TaskId) → Holds job (standing job h) main t out → Agree job (standing job h) main t out
+
   -- a table that is a history's agrees with it
   abbrev pub HistoryAgrees : Type 0
   HistoryAgrees =

@@ -1,3 +1,4 @@
+pub mod Search
 pub mod Waited
 pub mod Marked
 pub mod Board

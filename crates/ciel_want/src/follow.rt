@@ -2,7 +2,7 @@
 
 ghost use Rattle.std.specs.Prelude.{◌≡◌, ◌<◌, [], ◌∷◌, ℕ, List, Some, IfNone, IfOk, IfSome, drop, false, length, nat_eq, slice_get};
 ghost use Rattle.std.specs.List.{list_any};
-ghost use Rattle.ciel_journal.specs.Search.{Among, IsCircle, SomeMet};
+ghost use Rattle.ciel_want.specs.Search.{Among, IsCircle, SomeMet};
 ghost use Rattle.ciel_want.specs.Board.{first_unmet, live_at, maker_at, names_at, rows_of, row_leads};
 ghost use Rattle.ciel_want.specs.Marked.{AllBelow};
 ghost use Rattle.ciel_want.specs.Waited.{first_refs, needs};

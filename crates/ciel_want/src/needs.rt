@@ -1,9 +1,10 @@
 //! What a task waits for and isn't live, by numbers of rows.
 
-ghost use Rattle.std.specs.Prelude.{◌≡◌, ◌++◌, ◌∷◌, [], IfOk, MatchOption, None, OnOk, Some};
+ghost use Rattle.std.specs.Prelude.{◌≡◌, ◌<◌, ◌++◌, ◌∷◌, [], IfOk, IfSome, MatchOption, None, OnOk, Some, length, slice_get};
+ghost use Rattle.std.specs.Option.{option_and_then};
 ghost use Rattle.ciel_table.specs.Seen.{row_named};
-ghost use Rattle.ciel_want.specs.Board.{blocker, blockers_of, blocking, task_row, with_some};
-ghost use Rattle.ciel_want.specs.Waited.{first_refs, needs};
+ghost use Rattle.ciel_want.specs.Board.{blocker, blockers_of, blocking, maker_at, task_at, task_row, with_some};
+ghost use Rattle.ciel_want.specs.Waited.{first_needs, first_refs, needs};
 
 use ciel_table::row::Row;
 use ciel_table::table::Table;
@@ -33,14 +34,27 @@ pub(crate) fn task_row<P: At + Drop>(table: &Table<P>, task: &TaskId) -> Option<
     }
 }
 
-/// The row of the task that makes what a row names, unless that is live.
-fn blocking<P: At + Drop>(table: &Table<P>, row: &Row<P>) -> Option<u32>
-    ensures { result ≡ blocking table.now row.now }
+/// The row of the task of a row. That is mostly the row itself, which isn't looked up then.
+pub(crate) fn own_row<P: At + Drop>(table: &Table<P>, row: u32) -> Option<u32>
+    requires held { row < length table.now.rows }
+    ensures { result ≡ task_row table.now (maker_at table.now (Some row)) }
 {
-    if row.is_live() {
+    let held = table.row(row);
+    match &held.task {
+        TaskId::Of(name) if *name == held.name => Some(row),
+        task => task_row(table, task),
+    }
+}
+
+/// The row of the task that makes what a row names, unless that is live.
+fn blocking<P: At + Drop>(table: &Table<P>, row: u32) -> Option<u32>
+    requires held { row < length table.now.rows }
+    ensures { result ≡ option_and_then (blocking table.now) (slice_get table.now.rows row) }
+{
+    if table.row(row).is_live() {
         None
     } else {
-        task_row(table, &row.task)
+        own_row(table, row)
     }
 }
 
@@ -48,7 +62,7 @@ fn blocking<P: At + Drop>(table: &Table<P>, row: &Row<P>) -> Option<u32>
 fn blocker<P: At + Drop>(table: &Table<P>, name: &Name) -> Option<u32>
     ensures { result ≡ blocker table.now name.now }
 {
-    match row_named(table, name) {
+    match table.find(name) {
         Some(row) => blocking(table, row),
         None => None,
     }
@@ -109,30 +123,57 @@ fn first_blockers<P: At + Drop>(
     }
 }
 
-/// The rows of the tasks that make what a task waits for and isn't live.
+/// The task of a row's name; of none the root task.
+fn task_at<P: At + Drop>(table: &Table<P>, row: Option<u32>) -> TaskId
+    requires row { IfSome row (λ e. e < length table.now.rows) }
+    ensures { result ≡ task_at table.now row }
+{
+    match row {
+        None => TaskId::Show,
+        Some(row) => TaskId::Of(table.row(row).name),
+    }
+}
+
+/// The same before a task's first saved wait.
+fn blockers_at_start<P: At + Drop>(
+    alloc: Global,
+    table: &Table<P>,
+    main: &Name,
+    row: Option<u32>,
+) -> Result<Vec<u32>, Memory>
+    requires row { IfSome row (λ e. e < length table.now.rows) }
+    ensures { IfOk result (λ es. es.items ≡ blockers_of table.now (first_needs main.now table.now (task_at table.now row))) }
+{
+    match row {
+        None => {
+            let rows = blockers_of(alloc, table, &[*main])?;
+            Ok(rows)
+        }
+        Some(row) => {
+            let rows = first_blockers(alloc, table, &table.row(row).desc)?;
+            Ok(rows)
+        }
+    }
+}
+
+/// The rows of the tasks that make what the task of a row's name waits for and isn't live; of none, what the root task waits for.
 pub(crate) fn blockers<P: At + Drop>(
     alloc: Global,
     table: &Table<P>,
     main: &Name,
-    task: &TaskId,
+    row: Option<u32>,
 ) -> Result<Vec<u32>, Memory>
-    ensures { IfOk result (λ es. es.items ≡ blockers_of table.now (needs main.now table.now task.now)) }
+    requires row { IfSome row (λ e. e < length table.now.rows) }
+    ensures { IfOk result (λ es. es.items ≡ blockers_of table.now (needs main.now table.now (task_at table.now row))) }
 {
-    if let Some(wait) = table.last_wait(task) {
-        let rows = blockers_of(alloc, table, wait.refs.as_slice())?;
-        return Ok(rows);
-    }
-    match task {
-        TaskId::Show => {
-            let rows = blockers_of(alloc, table, &[*main])?;
+    match table.last_wait(&task_at(table, row)) {
+        Some(wait) => {
+            let rows = blockers_of(alloc, table, wait.refs.as_slice())?;
             Ok(rows)
         }
-        TaskId::Of(name) => match row_named(table, name) {
-            Some(row) => {
-                let rows = first_blockers(alloc, table, &row.desc)?;
-                Ok(rows)
-            }
-            None => Ok(Vec::new(alloc)),
-        },
+        None => {
+            let rows = blockers_at_start(alloc, table, main, row)?;
+            Ok(rows)
+        }
     }
 }

@@ -5,13 +5,11 @@ ghost use Rattle.std.specs.List.{IsDistinct};
 ghost use Rattle.sky_base.specs.Val.{same_text};
 ghost use Rattle.sky_base.specs.declared.object.TaskId.{TaskId};
 ghost use Rattle.ciel_journal.specs.Graph.{Circle, Led, Picks, Runnable};
-ghost use Rattle.ciel_want.specs.Board.{HasRow, Outs, can_run_test};
 ghost use Rattle.ciel_want.specs.Waited.{Whole, graph, tasks_in_order};
 
 use crate::flags::Out;
 use crate::follow::follow;
-use crate::needs::{blockers, task_row};
-use crate::order::{add, in_order};
+use crate::order::in_order;
 use crate::search::reached;
 use ciel_table::table::Table;
 use sky_base::at::At;
@@ -34,8 +32,8 @@ pub fn wanted<P: At + Drop>(
     ensures wanted { IfOk result (λ ts. Picks (Led (graph main.now table.now [])) (tasks_in_order table.now) ts.items) }
 {
     let out = Out::of(alloc, table, &[])?;
-    let flags = reached(alloc, table, main, &out)?;
-    let tasks = in_order(alloc, table, flags)?;
+    let found = reached(alloc, table, main, &out)?;
+    let tasks = in_order(alloc, table, found.reached, true)?;
     Ok(tasks)
 }
 
@@ -53,35 +51,9 @@ pub fn runnable<P: At + Drop>(
     ensures runnable { IfOk result (λ ts. Picks (Runnable (graph main.now table.now out.now)) (tasks_in_order table.now) ts.items) }
 {
     let out = Out::of(alloc, table, out)?;
-    let flags = reached(alloc, table, main, &out)?;
-    let tasks = in_order(alloc, table, flags)?;
-    let mut ready = Vec::new(alloc);
-    for i in 0..tasks.len() {
-        if can_run(alloc, table, main, &out, &tasks[i])? {
-            add(&mut ready, tasks[i])?;
-        }
-    }
-    Ok(ready)
-}
-
-/// Whether a task isn't out and all that it waits for is live.
-fn can_run<P: At + Drop>(
-    alloc: Global,
-    table: &Table<P>,
-    main: &Name,
-    out: &Out<'_>,
-    task: &TaskId,
-) -> Result<bool, Memory>
-    requires out { Outs table.now out.now.tasks.now out.now.rows.items out.now.show }
-    requires row { HasRow table.now task.now }
-    ensures { IfOk result (λ b. b ≡ can_run_test main.now table.now out.now.tasks.now task.now) }
-{
-    let row = task_row(table, task);
-    if out.has(table, row) {
-        return Ok(false);
-    }
-    let rows = blockers(alloc, table, main, task)?;
-    Ok(rows.is_empty())
+    let found = reached(alloc, table, main, &out)?;
+    let tasks = in_order(alloc, table, found.ready, found.root)?;
+    Ok(tasks)
 }
 
 /// A circle of waits, where nothing is out: distinct names that aren't live, the task of each of which is wanted and waits

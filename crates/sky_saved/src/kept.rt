@@ -108,7 +108,9 @@ fn put_all(stack: &mut Vec<Value>, values: &Vals) -> Result<(), Memory>
 }
 
 /// The list of the references to these names.
-fn references(alloc: Global, names: &Names) -> Result<Value, Memory>
+///
+/// Answers `Memory` for want of memory.
+pub fn references(alloc: Global, names: &Names) -> Result<Value, Memory>
     ensures { IfOk result (λ v. view v ≡ list (refs_to (known_of names.now))) }
 {
     let mut values = Vals::new(alloc);

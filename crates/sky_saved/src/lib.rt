@@ -2,6 +2,6 @@
 //! keeps; the trees that the machine's form borrows are found again by these.
 #![tactic(auto)]
 
-mod kept;
+pub mod kept;
 mod place;
 pub mod save;

@@ -18,23 +18,23 @@ use Rattle.sky_state.specs.Chained.{body_places, row_at, KeptBy, Above, Chained}
 
 -- ---- places in lists
 
-in_left : (x : ℕ) (xs ys : List ℕ) → In x xs → In x (xs ++ ys)
+pub in_left : (x : ℕ) (xs ys : List ℕ) → In x xs → In x (xs ++ ys)
 in_left x [] ys h = absurd h
 in_left x (z ∷ xs) ys (inl e) = inl e
 in_left x (z ∷ xs) ys (inr h) = inr (in_left x xs ys h)
 
-in_right : (x : ℕ) (xs ys : List ℕ) → In x ys → In x (xs ++ ys)
+pub in_right : (x : ℕ) (xs ys : List ℕ) → In x ys → In x (xs ++ ys)
 in_right x [] ys h = h
 in_right x (z ∷ xs) ys h = inr (in_right x xs ys h)
 
 -- one step on from a place
-next_place : {A : Type 0} (f : A → Option A) (i : ℕ) (x y z : A) → on_by f i x ≡ Some y → f y ≡ Some z → on_by f (suc i) x ≡ Some z
+pub next_place : {A : Type 0} (f : A → Option A) (i : ℕ) (x y z : A) → on_by f i x ≡ Some y → f y ≡ Some z → on_by f (suc i) x ≡ Some z
 next_place f i x y z e g = ap (option_and_then f) e ∙ g
 
-up_one : (k i : ℕ) → k ≡ suc i → k + 1 ≡ suc (suc i)
+pub up_one : (k i : ℕ) → k ≡ suc i → k + 1 ≡ suc (suc i)
 up_one k i e = omega (arith, e)
 
-up_two : (k i : ℕ) → k ≡ suc (suc i) → k + 1 ≡ suc (suc (suc i))
+pub up_two : (k i : ℕ) → k ≡ suc (suc i) → k + 1 ≡ suc (suc (suc i))
 up_two k i e = omega (arith, e)
 
 -- the node of a body is that of its block
@@ -65,15 +65,15 @@ module _ {N : Type 0} (w : World N) (at : ℕ → Option Node) where
   -- ---- one entry more
 
   -- a part of the entry is pending or runs
-  over_part : (ps ms : List ℕ) (k : ℕ) (en : Entry N) (fr : List (Entry N)) → In (node_of en) ps → Row_of en ≡ part k ms → length (kept_of en) ≡ k → opens en ≡ None → Chain ms fr → Chain ps (en ∷ fr)
+  pub over_part : (ps ms : List ℕ) (k : ℕ) (en : Entry N) (fr : List (Entry N)) → In (node_of en) ps → Row_of en ≡ part k ms → length (kept_of en) ≡ k → opens en ≡ None → Chain ms fr → Chain ps (en ∷ fr)
   over_part ps ms k en fr i e n o c =
       (i, subst (λ r. Keeps r (kept_of en)) (sym e) (record { as_many = n; kinds = tt; taken = tt }), subst (λ r. Above w.script at r (opens en) (fr ≡ []) (λ qs. Chain qs fr)) (sym e) (subst (λ x. Above w.script at (part k ms) x (fr ≡ []) (λ qs. Chain qs fr)) (sym o) c))
 
-  over_turn : (ps : List ℕ) (n m t : ℕ) (p : Place) (x : List ℕ) (us : Vals N) (b : Stms) (fr : List (Entry N)) → In n ps → row (at n) n 2 ≡ turn m → t ≤ count us → Chain (m ∷ []) fr → Chain ps (for_body n m t p x us b ∷ fr)
+  pub over_turn : (ps : List ℕ) (n m t : ℕ) (p : Place) (x : List ℕ) (us : Vals N) (b : Stms) (fr : List (Entry N)) → In n ps → row (at n) n 2 ≡ turn m → t ≤ count us → Chain (m ∷ []) fr → Chain ps (for_body n m t p x us b ∷ fr)
   over_turn ps n m t p x us b fr i e l c =
       (i, subst (λ r. Keeps r (list us ∷ num (pos t) ∷ [])) (sym e) (record { as_many = refl; kinds = (tt, tt); taken = l }), subst (λ r. Above {N = N} w.script at r None (fr ≡ []) (λ qs. Chain qs fr)) (sym e) c)
 
-  over_call : (ps : List ℕ) (n k m : ℕ) (f : List ℕ) (xs : Pairs N) (ss : Steps) (fr : List (Entry N)) → In n ps → row (at n) n k ≡ open_call → IsFun w.script f → Chain (body_places (body_of f w.script)) fr → Chain ps (call_open n k m f xs ss ∷ fr)
+  pub over_call : (ps : List ℕ) (n k m : ℕ) (f : List ℕ) (xs : Pairs N) (ss : Steps) (fr : List (Entry N)) → In n ps → row (at n) n k ≡ open_call → IsFun w.script f → Chain (body_places (body_of f w.script)) fr → Chain ps (call_open n k m f xs ss ∷ fr)
   over_call ps n k m f xs ss fr i e g c =
       (i, subst (λ r. Keeps r []) (sym e) (record { as_many = refl; kinds = tt; taken = tt }), subst (λ r. Above w.script at r (Some (f, xs)) (fr ≡ []) (λ qs. Chain qs fr)) (sym e) (g, c))
 
@@ -91,51 +91,51 @@ module _ {N : Type 0} (w : World N) (at : ℕ → Option Node) where
 
   -- ---- runs
 
-  linked_then : (ps ms : List ℕ) (r : Res N) (en : Entry N) (k : End N → St N → Res N) → ((fr : List (Entry N)) → Chain ms fr → Chain ps (en ∷ fr)) → Linked ms r → ((e : End N) (st : St N) → Linked ps (k e st)) → Linked ps (then_do r en k)
+  pub linked_then : (ps ms : List ℕ) (r : Res N) (en : Entry N) (k : End N → St N → Res N) → ((fr : List (Entry N)) → Chain ms fr → Chain ps (en ∷ fr)) → Linked ms r → ((e : End N) (st : St N) → Linked ps (k e st)) → Linked ps (then_do r en k)
   linked_then ps ms (Fin e st) en k up g h = h e st
   linked_then ps ms (Tell d r) en k up g h = (tt, linked_then ps ms r en k up g.1 h)
   linked_then ps ms (Ask q fr st p) en k up g h = (up fr g.0, λ os. linked_then ps ms (p os) en k up (g.1 os) h)
 
-  got_each : (ps : List ℕ) (k : Val N → St N → Res N) → ((v : Val N) (st : St N) → Linked ps (k v st)) → (e : End N) (st : St N) → Linked ps (on_got k e st)
+  pub got_each : (ps : List ℕ) (k : Val N → St N → Res N) → ((v : Val N) (st : St N) → Linked ps (k v st)) → (e : End N) (st : St N) → Linked ps (on_got k e st)
   got_each ps k h End.goes st = tt
   got_each ps k h (End.got v) st = h v st
   got_each ps k h (End.returned v) st = tt
   got_each ps k h (End.failed f) st = tt
 
-  goes_each : (ps : List ℕ) (k : St N → Res N) → ((st : St N) → Linked ps (k st)) → (e : End N) (st : St N) → Linked ps (on_goes k e st)
+  pub goes_each : (ps : List ℕ) (k : St N → Res N) → ((st : St N) → Linked ps (k st)) → (e : End N) (st : St N) → Linked ps (on_goes k e st)
   goes_each ps k h End.goes st = h st
   goes_each ps k h (End.got v) st = tt
   goes_each ps k h (End.returned v) st = tt
   goes_each ps k h (End.failed f) st = tt
 
   -- a form that keeps so many values, and of which one part is pending
-  linked_got : (ps : List ℕ) (i m : ℕ) (r : Res N) (en : Entry N) (k : Val N → St N → Res N) → In (node_of en) ps → Row_of en ≡ pending i m → length (kept_of en) ≡ i → opens en ≡ None → Linked (m ∷ []) r → ((v : Val N) (st : St N) → Linked ps (k v st)) → Linked ps (then_do r en (on_got k))
+  pub linked_got : (ps : List ℕ) (i m : ℕ) (r : Res N) (en : Entry N) (k : Val N → St N → Res N) → In (node_of en) ps → Row_of en ≡ pending i m → length (kept_of en) ≡ i → opens en ≡ None → Linked (m ∷ []) r → ((v : Val N) (st : St N) → Linked ps (k v st)) → Linked ps (then_do r en (on_got k))
   linked_got ps i m r en k a e n o g h = linked_then ps (m ∷ []) r en (on_got k) (λ fr c. over_part ps (m ∷ []) i en fr a e n o c) g (got_each ps k h)
 
-  linked_goes : (ps ms : List ℕ) (r : Res N) (en : Entry N) (k : St N → Res N) → In (node_of en) ps → Row_of en ≡ part 0 ms → length (kept_of en) ≡ 0 → opens en ≡ None → Linked ms r → ((st : St N) → Linked ps (k st)) → Linked ps (then_do r en (on_goes k))
+  pub linked_goes : (ps ms : List ℕ) (r : Res N) (en : Entry N) (k : St N → Res N) → In (node_of en) ps → Row_of en ≡ part 0 ms → length (kept_of en) ≡ 0 → opens en ≡ None → Linked ms r → ((st : St N) → Linked ps (k st)) → Linked ps (then_do r en (on_goes k))
   linked_goes ps ms r en k a e n o g h = linked_then ps ms r en (on_goes k) (λ fr c. over_part ps ms 0 en fr a e n o c) g (goes_each ps k h)
 
   linked_wait : (ps : List ℕ) (q : Wait N) (en : Entry N) (st : St N) (k : Val N → St N → Res N) → Chain ps (en ∷ []) → ((v : Val N) (s : St N) → Linked ps (k v s)) → Linked ps (then_do (ask w q st) en (on_got k))
   linked_wait ps q en st k c h = (c, λ os. got_each ps k h (wait_end w q os) st)
 
-  linked_body : (ps : List ℕ) (xs : Pairs N) (k : Val N → St N → Res N) → ((v : Val N) (st : St N) → Linked ps (k v st)) → (e : End N) (st : St N) → Linked ps (on_body xs k e st)
+  pub linked_body : (ps : List ℕ) (xs : Pairs N) (k : Val N → St N → Res N) → ((v : Val N) (st : St N) → Linked ps (k v st)) → (e : End N) (st : St N) → Linked ps (on_body xs k e st)
   linked_body ps xs k h End.goes st = h null (with_vars xs st)
   linked_body ps xs k h (End.got v) st = h v (with_vars xs st)
   linked_body ps xs k h (End.returned v) st = h v (with_vars xs st)
   linked_body ps xs k h (End.failed f) st = tt
 
-  linked_visit : (ps : List ℕ) (p : Place) (st : St N) (k : St N → Res N) → ((s : St N) → Linked ps (k s)) → Linked ps (visit p st k)
+  pub linked_visit : (ps : List ℕ) (p : Place) (st : St N) (k : St N → Res N) → ((s : St N) → Linked ps (k s)) → Linked ps (visit p st k)
   linked_visit ps p st k h = go (nat_lt st.count visits)
     where
       go : (b : Bool) → Linked ps (visited b p st k)
       go true = h (counted st)
       go false = tt
 
-  linked_answer : (ps : List ℕ) (o : Answer N) (p : Place) (st : St N) (k : Val N → St N → Res N) → ((v : Val N) → Linked ps (k v st)) → Linked ps (answer o p st k)
+  pub linked_answer : (ps : List ℕ) (o : Answer N) (p : Place) (st : St N) (k : Val N → St N → Res N) → ((v : Val N) → Linked ps (k v st)) → Linked ps (answer o p st k)
   linked_answer ps (Ok v) p st k h = h v
   linked_answer ps (Err e) p st k h = tt
 
-  linked_decide : (ps : List ℕ) (v : Val N) (p : Place) (st : St N) (on off : St N → Res N) → Linked ps (on st) → Linked ps (off st) → Linked ps (decide v p st on off)
+  pub linked_decide : (ps : List ℕ) (v : Val N) (p : Place) (st : St N) (on off : St N → Res N) → Linked ps (on st) → Linked ps (off st) → Linked ps (decide v p st on off)
   linked_decide ps (truth true) p st on off g h = g
   linked_decide ps (truth false) p st on off g h = h
   linked_decide ps null p st on off g h = tt
@@ -150,11 +150,11 @@ module _ {N : Type 0} (w : World N) (at : ℕ → Option Node) where
   linked_joins ps Junction.both v p st k g = linked_decide ps v p st k _ g tt
   linked_joins ps Junction.either v p st k g = linked_decide ps v p st _ k tt g
 
-  linked_add : (ps : List ℕ) (o : Option (Val N)) (x : List ℕ) (q p : Place) (e : Val N) (st : St N) → Linked ps (add_to o x q p e st)
+  pub linked_add : (ps : List ℕ) (o : Option (Val N)) (x : List ℕ) (q p : Place) (e : Val N) (st : St N) → Linked ps (add_to o x q p e st)
   linked_add ps None x q p e st = tt
   linked_add ps (Some v) x q p e st = linked_answer ps (grown v e) p st _ (λ u. tt)
 
-  linked_put : (ps : List ℕ) (o : Option (Val N)) (x : List ℕ) (q p : Place) (i e : Val N) (st : St N) → Linked ps (put_in o x q p i e st)
+  pub linked_put : (ps : List ℕ) (o : Option (Val N)) (x : List ℕ) (q p : Place) (i e : Val N) (st : St N) → Linked ps (put_in o x q p i e st)
   linked_put ps None x q p i e st = tt
   linked_put ps (Some v) x q p i e st = linked_answer ps (set_at v i e) p st _ (λ u. tt)
 
@@ -269,7 +269,7 @@ module _ {N : Type 0} (w : World N) (at : ℕ → Option Node) where
   linked_formed ps Form.has vs n p es m i st a here done is = linked_two ps vs p st _ (λ x y. linked_answer ps (has x y) p st gives (λ v. tt))
   linked_formed ps Form.range vs n p es m i st a here done is = linked_two ps vs p st _ (λ x y. linked_answer ps (range x y) p st gives (λ v. tt))
 
-  length_push : (vs : List (Val N)) (v : Val N) (i : ℕ) → length vs ≡ i → length (vs ++ v ∷ []) ≡ suc i
+  pub length_push : (vs : List (Val N)) (v : Val N) (i : ℕ) → length vs ≡ i → length (vs ++ v ∷ []) ≡ suc i
   length_push [] v i e = ap suc e
   length_push (x ∷ vs) v zero e = absurd (omega (arith, e))
   length_push (x ∷ vs) v (suc i) e = ap suc (length_push vs v i (omega (arith, e)))
@@ -322,7 +322,7 @@ module _ {N : Type 0} (w : World N) (at : ℕ → Option Node) where
   linked_signed ps Sign.star v n k i q ss all f p st go a here rest is g =
       linked_star ps v n k i (record { sign = Sign.star; place = q }) ss all f p st go a (sign_at_row n k i (record { sign = Sign.star; place = q }) ss all f here rest is) g
 
-  linked_signs : (ps : List ℕ) (ss : List SignAt) (n k i : ℕ) (v : Val N) (all : List SignAt) (f : Exp) (st : St N) → In n ps → at n ≡ Some (exp_node (Exp.prefix all f)) → on_by past_sign i (reverse all) ≡ Some ss → k ≡ suc (suc i) → Linked ps (signs w ss n k v st)
+  pub linked_signs : (ps : List ℕ) (ss : List SignAt) (n k i : ℕ) (v : Val N) (all : List SignAt) (f : Exp) (st : St N) → In n ps → at n ≡ Some (exp_node (Exp.prefix all f)) → on_by past_sign i (reverse all) ≡ Some ss → k ≡ suc (suc i) → Linked ps (signs w ss n k v st)
   linked_signs ps [] n k i v all f st a here rest is = tt
   linked_signs ps (o ∷ ss) n k i v all f st a here rest is =
       linked_visit ps o.place st (λ s. signed w o.sign v n k ss o.place s (λ u t. signs w ss n (k + 1) u t)) (λ s. linked_signed ps o.sign v n k i o.place ss all f o.place s _ a here rest is (λ u t. linked_signs ps ss n (k + 1) (suc i) u all f t a here (next_place past_sign i (reverse all) (o ∷ ss) ss rest refl) (up_two k i is)))
@@ -353,7 +353,7 @@ module _ {N : Type 0} (w : World N) (at : ℕ → Option Node) where
         linked_then ps (body_places (body_of f w.script)) (body f c vs p st) (call_open n k m f st.vars ss) (on_body st.vars go) (λ fr h. over_call ps n k m f st.vars ss fr a e is h) (bodies_link f c vs p st) (linked_body ps st.vars go g)
 
     mutual
-      linked_eval : (e : Exp) (ps : List ℕ) (n : ℕ) (st : St N) → In n ps → HasExp at e n → Linked ps (eval w body e n st)
+      pub linked_eval : (e : Exp) (ps : List ℕ) (n : ℕ) (st : St N) → In n ps → HasExp at e n → Linked ps (eval w body e n st)
       linked_eval (Exp.literal v p) ps n st a h = linked_visit ps p st _ (λ s. linked_answer ps (limited (lit_val v)) p s gives (λ x. tt))
       linked_eval (Exp.name x p) ps n st a h = linked_visit ps p st (λ s. answer (named (find x s.vars) x w.script.funs) p s gives) (λ s. linked_answer ps (named (find x s.vars) x w.script.funs) p s gives (λ y. tt))
       linked_eval (Exp.func x p) ps n st a h = linked_visit ps p st (λ s. answer (closed (find_fun x w.script.funs) x s.vars) p s gives) (λ s. linked_answer ps (closed (find_fun x w.script.funs) x s.vars) p s gives (λ y. tt))
@@ -369,29 +369,29 @@ module _ {N : Type 0} (w : World N) (at : ℕ → Option Node) where
       linked_eval (Exp.postfix e ss) ps n st a h =
           linked_got ps 0 (n + 1) _ (postfix_first n (n + 1 + nodes e) ss) _ a (ap (λ x. row x n 1) h.0) refl refl (linked_eval e ((n + 1) ∷ []) (n + 1) st (inl refl) h.1) (λ v s. linked_steps ss ps n 2 (n + 1 + nodes e) 0 v e ss s a h.0 refl refl h.2)
 
-      linked_parts : (es : Exps) (ps : List ℕ) (n k m i : ℕ) (o : Form) (p : Place) (vs : List (Val N)) (all : Exps) (st : St N) → In n ps → at n ≡ Some (exp_node (Exp.parts o p all)) → on_by past_part i (n + 1, all) ≡ Some (m, es) → k ≡ suc i → length vs ≡ i → HasExps at es m → Linked ps (eval_parts w body es n k m o p vs st)
+      pub linked_parts : (es : Exps) (ps : List ℕ) (n k m i : ℕ) (o : Form) (p : Place) (vs : List (Val N)) (all : Exps) (st : St N) → In n ps → at n ≡ Some (exp_node (Exp.parts o p all)) → on_by past_part i (n + 1, all) ≡ Some (m, es) → k ≡ suc i → length vs ≡ i → HasExps at es m → Linked ps (eval_parts w body es n k m o p vs st)
       linked_parts Exps.no_exps ps n k m i o p vs all st a here rest is long h = linked_visit ps p st (λ s. formed w o vs n p s) (λ s. linked_formed ps o vs n p all m i s a here rest long)
       linked_parts (Exps.exp e es) ps n k m i o p vs all st a here rest is long h =
           linked_got ps i m _ (part_at n k (m + nodes e) o p vs es) _ a (part_at_row n k m i o p e es all here rest is) long refl (linked_eval e (m ∷ []) m st (inl refl) h.0) (λ v s. linked_parts es ps n (k + 1) (m + nodes e) (suc i) o p (vs ++ v ∷ []) all s a here (next_place past_part i (n + 1, all) (m, Exps.exp e es) (m + nodes e, es) rest refl) (up_one k i is) (length_push vs v i long) h.1)
 
-      linked_links : (ls : Links) (ps : List ℕ) (n k m i : ℕ) (v : Val N) (f : Exp) (all : Links) (st : St N) → In n ps → at n ≡ Some (exp_node (Exp.chain f all)) → on_by past_link i (n + 1 + nodes f, all) ≡ Some (m, ls) → k ≡ suc (suc i) → HasLinks at ls m → Linked ps (eval_links w body ls n k m v st)
+      pub linked_links : (ls : Links) (ps : List ℕ) (n k m i : ℕ) (v : Val N) (f : Exp) (all : Links) (st : St N) → In n ps → at n ≡ Some (exp_node (Exp.chain f all)) → on_by past_link i (n + 1 + nodes f, all) ≡ Some (m, ls) → k ≡ suc (suc i) → HasLinks at ls m → Linked ps (eval_links w body ls n k m v st)
       linked_links Links.no_links ps n k m i v f all st a here rest is h = tt
       linked_links (Links.link o p e ls) ps n k m i v f all st a here rest is h =
           linked_got ps 1 m _ (chain_more n k (m + nodes e) o p v ls) _ a (link_at_row n k m i o p e ls f all here rest is) refl refl (linked_eval e (m ∷ []) m st (inl refl) h.0) (λ x s. linked_visit ps p s _ (λ t. linked_answer ps (oper o v x) p t _ (λ y. linked_links ls ps n (k + 1) (m + nodes e) (suc i) y f all t a here (next_place past_link i (n + 1 + nodes f, all) (m, Links.link o p e ls) (m + nodes e, ls) rest refl) (up_two k i is) h.1)))
 
-      linked_ands : (ls : Ands) (ps : List ℕ) (n k m i : ℕ) (j : Junction) (q : Place) (v : Val N) (f : Exp) (all : Ands) (st : St N) → In n ps → at n ≡ Some (exp_node (Exp.logic j f all)) → on_by past_and i (n + 1 + nodes f, all) ≡ Some (m, ls) → k ≡ suc (suc i) → HasAnds at ls m → Linked ps (eval_ands w body ls n k m j q v st)
+      pub linked_ands : (ls : Ands) (ps : List ℕ) (n k m i : ℕ) (j : Junction) (q : Place) (v : Val N) (f : Exp) (all : Ands) (st : St N) → In n ps → at n ≡ Some (exp_node (Exp.logic j f all)) → on_by past_and i (n + 1 + nodes f, all) ≡ Some (m, ls) → k ≡ suc (suc i) → HasAnds at ls m → Linked ps (eval_ands w body ls n k m j q v st)
       linked_ands Ands.no_ands ps n k m i j q v f all st a here rest is h = linked_answer ps (truth_of v) q st gives (λ x. tt)
       linked_ands (Ands.and p e ls) ps n k m i j q v f all st a here rest is h =
           linked_visit ps p st _ (λ s. linked_joins ps j v p s _ (linked_got ps 0 m _ (logic_at n k (m + nodes e) j p ls) _ a (and_at_row n k m i j p e ls f all here rest is) refl refl (linked_eval e (m ∷ []) m s (inl refl) h.0) (λ x u. linked_ands ls ps n (k + 1) (m + nodes e) (suc i) j p x f all u a here (next_place past_and i (n + 1 + nodes f, all) (m, Ands.and p e ls) (m + nodes e, ls) rest refl) (up_two k i is) h.1)))
 
-      linked_steps : (ss : Steps) (ps : List ℕ) (n k m i : ℕ) (v : Val N) (f : Exp) (all : Steps) (st : St N) → In n ps → at n ≡ Some (exp_node (Exp.postfix f all)) → on_by past_spot i (spot_of (n + 1 + nodes f) all) ≡ Some (spot_of m ss) → k ≡ suc (suc i) → HasSteps at ss m → Linked ps (eval_steps w body ss n k m v st)
+      pub linked_steps : (ss : Steps) (ps : List ℕ) (n k m i : ℕ) (v : Val N) (f : Exp) (all : Steps) (st : St N) → In n ps → at n ≡ Some (exp_node (Exp.postfix f all)) → on_by past_spot i (spot_of (n + 1 + nodes f) all) ≡ Some (spot_of m ss) → k ≡ suc (suc i) → HasSteps at ss m → Linked ps (eval_steps w body ss n k m v st)
       linked_steps Steps.no_steps ps n k m i v f all st a here rest is h = tt
       linked_steps (Steps.index e p ss) ps n k m i v f all st a here rest is h =
           linked_got ps 1 m _ (index_at n k (m + nodes e) p v ss) _ a (spot_at_row n k i (in_index m e p ss) f all here rest is) refl refl (linked_eval e (m ∷ []) m st (inl refl) h.0) (λ x s. linked_visit ps p s _ (λ t. linked_answer ps (index v x) p t _ (λ y. linked_steps ss ps n (k + 1) (m + nodes e) (suc i) y f all t a here (next_place past_spot i (spot_of (n + 1 + nodes f) all) (in_index m e p ss) (spot_of (m + nodes e) ss) rest refl) (up_two k i is) h.1)))
       linked_steps (Steps.call es p ss) ps n k m i v f all st a here rest is h =
           linked_args es ps n k m i 0 p v [] ss f all st a here rest is refl h.0 (m + exps_nodes es) refl (λ l m' i' y u walk count is_next. linked_steps ss ps n l m' i' y f all u a here walk count (subst (HasSteps at ss) (sym is_next) h.1))
 
-      linked_args : (es : Exps) (ps : List ℕ) (n k m i j : ℕ) (p : Place) (g : Val N) (vs : List (Val N)) (ss : Steps) (f : Exp) (all : Steps) (st : St N) → In n ps → at n ≡ Some (exp_node (Exp.postfix f all)) → on_by past_spot i (spot_of (n + 1 + nodes f) all) ≡ Some (in_call m j es p ss) → k ≡ suc (suc i) → length vs ≡ j → HasExps at es m → (end : ℕ) → m + exps_nodes es ≡ end → ((l m' i' : ℕ) (y : Val N) (u : St N) → on_by past_spot i' (spot_of (n + 1 + nodes f) all) ≡ Some (spot_of m' ss) → l ≡ suc (suc i') → m' ≡ end → Linked ps (eval_steps w body ss n l m' y u)) → Linked ps (eval_args w body es n k m p g vs ss (λ l i f c us s. enter w body f c us p n l i ss s (λ y u. eval_steps w body ss n (l + 1) i y u)) st)
+      pub linked_args : (es : Exps) (ps : List ℕ) (n k m i j : ℕ) (p : Place) (g : Val N) (vs : List (Val N)) (ss : Steps) (f : Exp) (all : Steps) (st : St N) → In n ps → at n ≡ Some (exp_node (Exp.postfix f all)) → on_by past_spot i (spot_of (n + 1 + nodes f) all) ≡ Some (in_call m j es p ss) → k ≡ suc (suc i) → length vs ≡ j → HasExps at es m → (end : ℕ) → m + exps_nodes es ≡ end → ((l m' i' : ℕ) (y : Val N) (u : St N) → on_by past_spot i' (spot_of (n + 1 + nodes f) all) ≡ Some (spot_of m' ss) → l ≡ suc (suc i') → m' ≡ end → Linked ps (eval_steps w body ss n l m' y u)) → Linked ps (eval_args w body es n k m p g vs ss (λ l i f c us s. enter w body f c us p n l i ss s (λ y u. eval_steps w body ss n (l + 1) i y u)) st)
       linked_args Exps.no_exps ps n k m i j p g vs ss f all st a here rest is long h end reach steps =
           linked_visit ps p st _ (λ s. linked_called ps g (vals_of vs) p s _ (λ x c is_fun. linked_enter ps x c (vals_of vs) p n k m ss s (λ y u. eval_steps w body ss n (k + 1) m y u) a (spot_at_row n k i (in_call m j Exps.no_exps p ss) f all here rest is) is_fun (λ y u. steps (k + 1) m (suc i) y u (next_place past_spot i (spot_of (n + 1 + nodes f) all) (in_call m j Exps.no_exps p ss) (spot_of m ss) rest refl) (up_two k i is) (omega (arith, reach)))))
       linked_args (Exps.exp e es) ps n k m i j p g vs ss f all st a here rest is long h end reach steps =
@@ -400,22 +400,22 @@ module _ {N : Type 0} (w : World N) (at : ℕ → Option Node) where
     -- ---- loops
 
     module _ (ps : List ℕ) (n m : ℕ) (p : Place) (blk : Stms) (run : St N → Res N) (a : In n ps) where
-      linked_turns : (f : ℕ) (e : Exp) (st : St N) → ((s : St N) → Linked (m ∷ []) (run s)) → at n ≡ Some (stm_node (Stm.while p e blk)) → m ≡ n + 1 + nodes e → HasExp at e (n + 1) → Linked ps (turns f n m p e blk (eval w body e (n + 1)) run st)
+      pub linked_turns : (f : ℕ) (e : Exp) (st : St N) → ((s : St N) → Linked (m ∷ []) (run s)) → at n ≡ Some (stm_node (Stm.while p e blk)) → m ≡ n + 1 + nodes e → HasExp at e (n + 1) → Linked ps (turns f n m p e blk (eval w body e (n + 1)) run st)
       linked_turns zero e st r here is h = tt
       linked_turns (suc f) e st r here is h =
           linked_got ps 0 (n + 1) _ (while_test n m p e blk) _ a (ap (λ x. row x n 1) here) refl refl (linked_eval e ((n + 1) ∷ []) (n + 1) st (inl refl) h) (λ v s. linked_decide ps v p s _ _ (linked_goes ps (m ∷ []) (run s) (while_body n m p e blk) _ a (ap (λ x. row x n 2) here ∙ ap (pending 0) (sym is)) refl refl (r s) (λ z. linked_turns f e z r here is h)) tt)
 
-      linked_repeats : (f : ℕ) (e : Exp) (st : St N) → ((s : St N) → Linked ((n + 1) ∷ []) (run s)) → at n ≡ Some (stm_node (Stm.repeat p blk e)) → m ≡ n + 1 + block_nodes blk → HasExp at e m → Linked ps (repeats f n m p blk e run (eval w body e m) st)
+      pub linked_repeats : (f : ℕ) (e : Exp) (st : St N) → ((s : St N) → Linked ((n + 1) ∷ []) (run s)) → at n ≡ Some (stm_node (Stm.repeat p blk e)) → m ≡ n + 1 + block_nodes blk → HasExp at e m → Linked ps (repeats f n m p blk e run (eval w body e m) st)
       linked_repeats zero e st r here is h = tt
       linked_repeats (suc f) e st r here is h =
           linked_goes ps ((n + 1) ∷ []) (run st) (repeat_body n m p blk e) _ a (ap (λ x. row x n 1) here) refl refl (r st) (λ s. linked_got ps 0 m _ (repeat_test n m p blk e) _ a (ap (λ x. row x n 2) here ∙ ap (pending 0) (sym is)) refl refl (linked_eval e (m ∷ []) m s (inl refl) h) (λ v t. linked_decide ps v p t _ _ (linked_repeats f e t r here is h) tt))
 
-      linked_each : (vs : Vals N) (t : ℕ) (x : List ℕ) (e : Exp) (whole : Vals N) (st : St N) → ((s : St N) → Linked (m ∷ []) (run s)) → at n ≡ Some (stm_node (Stm.for p x e blk)) → m ≡ n + 1 + nodes e → count vs + t ≡ count whole → Linked ps (each vs n m t p x whole blk run st)
+      pub linked_each : (vs : Vals N) (t : ℕ) (x : List ℕ) (e : Exp) (whole : Vals N) (st : St N) → ((s : St N) → Linked (m ∷ []) (run s)) → at n ≡ Some (stm_node (Stm.for p x e blk)) → m ≡ n + 1 + nodes e → count vs + t ≡ count whole → Linked ps (each vs n m t p x whole blk run st)
       linked_each no_vals t x e whole st r here is sum = tt
       linked_each (val v vs) t x e whole st r here is sum =
           linked_visit ps p st _ (λ s. linked_then ps (m ∷ []) (run (set_var x v s)) (for_body n m (suc t) p x whole blk) _ (λ fr c. over_turn ps n m (suc t) p x whole blk fr a (ap (λ y. row y n 2) here ∙ ap turn (sym is)) (omega (arith, sum)) c) (r (set_var x v s)) (goes_each ps _ (λ z. linked_each vs (suc t) x e whole z r here is (omega (arith, sum)))))
 
-      linked_each_of : (v : Val N) (x : List ℕ) (e : Exp) (st : St N) → ((s : St N) → Linked (m ∷ []) (run s)) → at n ≡ Some (stm_node (Stm.for p x e blk)) → m ≡ n + 1 + nodes e → Linked ps (each_of v n m p x blk run st)
+      pub linked_each_of : (v : Val N) (x : List ℕ) (e : Exp) (st : St N) → ((s : St N) → Linked (m ∷ []) (run s)) → at n ≡ Some (stm_node (Stm.for p x e blk)) → m ≡ n + 1 + nodes e → Linked ps (each_of v n m p x blk run st)
       linked_each_of (list vs) x e st r here is = linked_each vs 0 x e vs st r here is (omega arith)
       linked_each_of null x e st r here is = tt
       linked_each_of (truth b) x e st r here is = tt
@@ -449,17 +449,17 @@ module _ {N : Type 0} (w : World N) (at : ℕ → Option Node) where
       linked_stm (Stm.just p e) ps n st a h =
           linked_visit ps p st _ (λ s. linked_got ps 0 (n + 1) _ (just_part n) _ (a n (inl refl)) (ap (λ y. row y n 1) h.0) refl refl (linked_eval e ((n + 1) ∷ []) (n + 1) s (inl refl) h.1) (λ v t. tt))
 
-      linked_stms : (b : Stms) (ps : List ℕ) (n k m : ℕ) (all : Stms) (st : St N) → In n ps → at n ≡ Some (block_node all) → on_by past_stm k (n + 1, all) ≡ Some (m, b) → HasStms at b m → Linked ps (eval_stms w body b n k m st)
+      pub linked_stms : (b : Stms) (ps : List ℕ) (n k m : ℕ) (all : Stms) (st : St N) → In n ps → at n ≡ Some (block_node all) → on_by past_stm k (n + 1, all) ≡ Some (m, b) → HasStms at b m → Linked ps (eval_stms w body b n k m st)
       linked_stms Stms.no_stms ps n k m all st a here rest h = tt
       linked_stms (Stms.stm s more) ps n k m all st a here rest h =
           linked_goes ps (stm_places m s) _ (block_at n (k + 1) (m + stm_nodes s) more) _ a (block_at_row n k m s more all here rest) refl refl (linked_stm s (stm_places m s) m st (λ x i. i) h.0) (λ t. linked_stms more ps n (k + 1) (m + stm_nodes s) all t a here (ap (λ j. on_by past_stm j (n + 1, all)) (one_more k) ∙ next_place past_stm k (n + 1, all) (m, Stms.stm s more) (m + stm_nodes s, more) rest refl) h.1)
 
-      linked_arms : (arms : Arms) (ps : List ℕ) (n k m i : ℕ) (all : Arms) (els : Else) (q : Place) (go : St N → Res N) (st : St N) → In n ps → ((x : ℕ) → In x (arm_blocks m arms) → In x ps) → at n ≡ Some (stm_node (Stm.cases q all els)) → on_by past_arm i (n + 1, all) ≡ Some (m, arms) → k ≡ suc i → HasArms at arms m → ((s : St N) → Linked ps (go s)) → Linked ps (eval_arms w body arms n k m (n + 1 + arms_nodes all) els go st)
+      pub linked_arms : (arms : Arms) (ps : List ℕ) (n k m i : ℕ) (all : Arms) (els : Else) (q : Place) (go : St N → Res N) (st : St N) → In n ps → ((x : ℕ) → In x (arm_blocks m arms) → In x ps) → at n ≡ Some (stm_node (Stm.cases q all els)) → on_by past_arm i (n + 1, all) ≡ Some (m, arms) → k ≡ suc i → HasArms at arms m → ((s : St N) → Linked ps (go s)) → Linked ps (eval_arms w body arms n k m (n + 1 + arms_nodes all) els go st)
       linked_arms Arms.no_arms ps n k m i all els q go st a blocks here rest is h last = last st
       linked_arms (Arms.arm p e b arms) ps n k m i all els q go st a blocks here rest is h last =
           linked_got ps 0 m _ (arm_test n k (m + nodes e) (n + 1 + arms_nodes all) p b arms els) _ a (arm_at_row n k m i p e b arms all els q here rest is) refl refl (linked_eval e (m ∷ []) m st (inl refl) h.0) (λ v s. linked_decide ps v p s _ _ (linked_stms b ps (m + nodes e) 0 (m + nodes e + 1) b s (blocks (m + nodes e) (inl refl)) h.1 refl h.2) (linked_arms arms ps n (k + 1) (m + nodes e + block_nodes b) (suc i) all els q go s a (λ x j. blocks x (inr j)) here (next_place past_arm i (n + 1, all) (m, Arms.arm p e b arms) (m + nodes e + block_nodes b, arms) rest refl) (up_one k i is) h.3 last))
 
-      linked_else : (els : Else) (ps : List ℕ) (n : ℕ) (st : St N) → ((x : ℕ) → In x (else_block n els) → In x ps) → HasElse at els n → Linked ps (eval_else w body els n st)
+      pub linked_else : (els : Else) (ps : List ℕ) (n : ℕ) (st : St N) → ((x : ℕ) → In x (else_block n els) → In x ps) → HasElse at els n → Linked ps (eval_else w body els n st)
       linked_else Else.no_else ps n st a h = tt
       linked_else (Else.otherwise b) ps n st a h = linked_stms b ps n 0 (n + 1) b st (a n (inl refl)) h.0 refl h.1
 

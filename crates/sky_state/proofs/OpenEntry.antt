@@ -12,7 +12,7 @@ use Rattle.sky_state.specs.Chained.{KeptBy}
 
 -- ---- places
 
-some_is : {A : Type 0} (a b : A) → Some a ≡ Some b → a ≡ b
+pub some_is : {A : Type 0} (a b : A) → Some a ≡ Some b → a ≡ b
 some_is a b e = cc
 
 none_some : {A : Type 0} (a : A) → None ≡ Some a → ⊥
@@ -22,7 +22,7 @@ none_some a e = cc
 times_if : {A B : Type 0} (f : A → Option A) (g : B → B) (h : A → B) (u : (x y : A) → f x ≡ Some y → g (h x) ≡ h y) (o : Option A) (x y : A) (b : B) → o ≡ Some x → option_and_then f o ≡ Some y → b ≡ h x → g b ≡ h y
 times_if f g h u o x y b e i j = ap g j ∙ u x y (sym (ap (option_and_then f) e) ∙ i)
 
-times_are : {A B : Type 0} (f : A → Option A) (g : B → B) (h : A → B) (u : (x y : A) → f x ≡ Some y → g (h x) ≡ h y) (i : ℕ) (x y : A) → on_by f i x ≡ Some y → times g i (h x) ≡ h y
+pub times_are : {A B : Type 0} (f : A → Option A) (g : B → B) (h : A → B) (u : (x y : A) → f x ≡ Some y → g (h x) ≡ h y) (i : ℕ) (x y : A) → on_by f i x ≡ Some y → times g i (h x) ≡ h y
 times_are f g h u zero x y e = ap h (some_is x y e)
 times_are {A = A} f g h u (suc i) x y e = go (on_by f i x) refl (λ z d. times_are f g h u i x z d)
   where
@@ -30,41 +30,41 @@ times_are {A = A} f g h u (suc i) x y e = go (on_by f i x) refl (λ z d. times_a
     go None d k = absurd (none_some y (sym (ap (option_and_then f) d) ∙ e))
     go (Some z) d k = times_if f g h u (on_by f i x) z y (times g i (h x)) d e (k z d)
 
-part_past : (x y : ℕ × Exps) → past_part x ≡ Some y → next_part x ≡ y
+pub part_past : (x y : ℕ × Exps) → past_part x ≡ Some y → next_part x ≡ y
 part_past (m, Exps.no_exps) y e = absurd (none_some y e)
 part_past (m, Exps.exp x es) y e = some_is (m + nodes x, es) y e
 
-link_past : (x y : ℕ × Links) → past_link x ≡ Some y → next_link x ≡ y
+pub link_past : (x y : ℕ × Links) → past_link x ≡ Some y → next_link x ≡ y
 link_past (m, Links.no_links) y e = absurd (none_some y e)
 link_past (m, Links.link o p x ls) y e = some_is (m + nodes x, ls) y e
 
-and_past : (x y : ℕ × Ands) → past_and x ≡ Some y → next_and x ≡ y
+pub and_past : (x y : ℕ × Ands) → past_and x ≡ Some y → next_and x ≡ y
 and_past (m, Ands.no_ands) y e = absurd (none_some y e)
 and_past (m, Ands.and p x ls) y e = some_is (m + nodes x, ls) y e
 
-arm_past : (x y : ℕ × Arms) → past_arm x ≡ Some y → next_arm x ≡ y
+pub arm_past : (x y : ℕ × Arms) → past_arm x ≡ Some y → next_arm x ≡ y
 arm_past (m, Arms.no_arms) y e = absurd (none_some y e)
 arm_past (m, Arms.arm p x b arms) y e = some_is (m + nodes x + block_nodes b, arms) y e
 
-stm_past : (x y : ℕ × Stms) → past_stm x ≡ Some y → next_stm x ≡ y
+pub stm_past : (x y : ℕ × Stms) → past_stm x ≡ Some y → next_stm x ≡ y
 stm_past (m, Stms.no_stms) y e = absurd (none_some y e)
 stm_past (m, Stms.stm a more) y e = some_is (m + stm_nodes a, more) y e
 
-sign_past : (x y : List SignAt) → past_sign x ≡ Some y → next_sign x ≡ y
+pub sign_past : (x y : List SignAt) → past_sign x ≡ Some y → next_sign x ≡ y
 sign_past [] y e = absurd (none_some y e)
 sign_past (s ∷ ss) y e = some_is ss y e
 
-abbrev pos_of : Spot → Pos
+abbrev pub pos_of : Spot → Pos
 pos_of finished = place.finished
 pos_of (in_index m e p ss) = place.in_index m e p ss
 pos_of (in_call m i es p ss) = place.in_args m es p ss
 
-pos_start : (m : ℕ) (ss : Steps) → enter_pos m ss ≡ pos_of (spot_of m ss)
+pub pos_start : (m : ℕ) (ss : Steps) → enter_pos m ss ≡ pos_of (spot_of m ss)
 pos_start m Steps.no_steps = refl
 pos_start m (Steps.index e p ss) = refl
 pos_start m (Steps.call es p ss) = refl
 
-spot_past : (x y : Spot) → past_spot x ≡ Some y → next_pos (pos_of x) ≡ pos_of y
+pub spot_past : (x y : Spot) → past_spot x ≡ Some y → next_pos (pos_of x) ≡ pos_of y
 spot_past finished y e = absurd (none_some y e)
 spot_past (in_index m x p ss) y e = pos_start (m + nodes x) ss ∙ ap pos_of (some_is (spot_of (m + nodes x) ss) y e)
 spot_past (in_call m i Exps.no_exps p ss) y e = pos_start m ss ∙ ap pos_of (some_is (spot_of m ss) y e)
@@ -73,20 +73,20 @@ spot_past (in_call m i (Exps.exp x es) p ss) y e = ap pos_of (some_is (in_call (
 -- ---- what is kept
 
 module _ {N : Type 0} where
-  no_values : (vs : List (Val N)) → length vs ≡ 0 → vs ≡ []
+  pub no_values : (vs : List (Val N)) → length vs ≡ 0 → vs ≡ []
   no_values [] e = refl
   no_values (v ∷ vs) e = absurd (omega (arith, e))
 
-  one_value : (vs : List (Val N)) → length vs ≡ 1 → (v : Val N) × (vs ≡ v ∷ [])
+  pub one_value : (vs : List (Val N)) → length vs ≡ 1 → (v : Val N) × (vs ≡ v ∷ [])
   one_value [] e = absurd (omega (arith, e))
   one_value (v ∷ []) e = (v, refl)
   one_value (v ∷ u ∷ vs) e = absurd (omega (arith, e))
 
-  some_value : (i : ℕ) (vs : List (Val N)) → length vs ≡ 1 + i → (v : Val N) × (us : List (Val N)) × (vs ≡ v ∷ us)
+  pub some_value : (i : ℕ) (vs : List (Val N)) → length vs ≡ 1 + i → (v : Val N) × (us : List (Val N)) × (vs ≡ v ∷ us)
   some_value i [] e = absurd (omega (arith, e))
   some_value i (v ∷ vs) e = (v, vs, refl)
 
-  reference : (v : Val N) → IsReference v → (d : Desc N) × (v ≡ ref d)
+  pub reference : (v : Val N) → IsReference v → (d : Desc N) × (v ≡ ref d)
   reference null h = absurd h
   reference (truth b) h = absurd h
   reference (num z) h = absurd h
@@ -96,14 +96,14 @@ module _ {N : Type 0} where
   reference (fun f c) h = absurd h
   reference (ref d) h = (d, refl)
 
-  references : (us : Vals N) → AllReferences us → (ds : List (Desc N)) × (descs_of us ≡ Some ds) × (refs_to ds ≡ us)
+  pub references : (us : Vals N) → AllReferences us → (ds : List (Desc N)) × (descs_of us ≡ Some ds) × (refs_to ds ≡ us)
   references no_vals h = ([], refl, refl)
   references (val v us) h =
       let r = reference v h.0 in
       let rs = references us h.1 in
       (r.0 ∷ rs.0, ap (λ x. descs_of (val x us)) r.1 ∙ ap (option_map (λ ds. r.0 ∷ ds)) rs.1, λ i. val (sym r.1 i) (rs.2 i))
 
-  list_of : (v : Val N) → IsListOfReferences v → (us : Vals N) × (v ≡ list us) × AllReferences us
+  pub list_of : (v : Val N) → IsListOfReferences v → (us : Vals N) × (v ≡ list us) × AllReferences us
   list_of null h = absurd h
   list_of (truth b) h = absurd h
   list_of (num z) h = absurd h
@@ -124,7 +124,7 @@ module _ {N : Type 0} where
   taken n (fun f c) h = absurd h
   taken n (ref d) h = absurd h
 
-  taken_list : (v u : Val N) → UpToLength v u → (us : Vals N) × (t : ℕ) × (v ≡ list us) × (u ≡ num (pos t))
+  pub taken_list : (v u : Val N) → UpToLength v u → (us : Vals N) × (t : ℕ) × (v ≡ list us) × (u ≡ num (pos t))
   taken_list null u h = absurd h
   taken_list (truth b) u h = absurd h
   taken_list (num z) u h = absurd h
@@ -134,12 +134,12 @@ module _ {N : Type 0} where
   taken_list (fun f c) u h = absurd h
   taken_list (ref d) u h = absurd h
 
-  one_of : (P : Val N → Type 0) (vs : List (Val N)) → One P vs → (v : Val N) × (vs ≡ v ∷ []) × P v
+  pub one_of : (P : Val N → Type 0) (vs : List (Val N)) → One P vs → (v : Val N) × (vs ≡ v ∷ []) × P v
   one_of P [] h = absurd h
   one_of P (v ∷ []) h = (v, refl, h)
   one_of P (v ∷ u ∷ vs) h = absurd h
 
-  two_of : (P : Val N → Val N → Type 0) (vs : List (Val N)) → Two P vs → (v u : Val N) × (vs ≡ v ∷ u ∷ []) × P v u
+  pub two_of : (P : Val N → Val N → Type 0) (vs : List (Val N)) → Two P vs → (v u : Val N) × (vs ≡ v ∷ u ∷ []) × P v u
   two_of P [] h = absurd h
   two_of P (v ∷ []) h = absurd h
   two_of P (v ∷ u ∷ []) h = (v, u, refl, h)

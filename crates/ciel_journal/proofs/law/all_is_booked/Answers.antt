@@ -1,4 +1,4 @@
-use Rattle.ciel_journal.proofs.Startable.{open_booked, placed_booked, saved_booked, informed}
+use Rattle.ciel_journal.proofs.Startable.{open_booked, placed_booked, reached_needs, saved_booked, informed}
 use Rattle.ciel_journal.specs.History.{standing}
 use Rattle.ciel_journal.proofs.BookKnown.{informed_step}
 use Rattle.ciel_journal.proofs.law.all_is_booked.Goals as goal
@@ -20,3 +20,6 @@ returns-clause-new g c job laws inner knows p h l e a d i = (informed_step job l
 
 pub returns-clause-heads : goal.returns-clause-heads
 returns-clause-heads g c job laws inner knows p h l = (informed job laws inner knows p h l).heads
+
+pub returns-clause-reached : goal.returns-clause-reached
+returns-clause-reached g c job laws inner knows p h l t r = reached_needs job laws inner knows p h l t r

@@ -4,6 +4,10 @@ use Rattle.ciel_journal.proofs.Told.{book_told, closes_told, starts_told}
 use Rattle.ciel_journal.proofs.Begins.{began}
 use Rattle.ciel_journal.proofs.ByName.{placed_text}
 use Rattle.ciel_journal.proofs.Ends.{gone_told, over_told}
+use Rattle.std.proofs.Common.{[], ◌∷◌, subst, sym}
+use Rattle.ciel_journal.specs.Job.{Once}
+use Rattle.ciel_journal.specs.Live.{spawned_of}
+use Rattle.ciel_journal.proofs.OnceLaw.{once_learned}
 use Rattle.ciel_journal.proofs.law.live_is_told.Goals as goal
 
 pub returns-clause-live : goal.returns-clause-live
@@ -32,3 +36,6 @@ returns-clause-over g c job laws p h l = over_told job laws p h l
 
 pub returns-clause-stood : goal.returns-clause-stood
 returns-clause-stood g c job h o i = let m = began job h o i in record { before = m.before; rest = m.rest; whole = m.whole; stood = m.stood }
+
+pub returns-clause-once : goal.returns-clause-once
+returns-clause-once g c job laws p h l = subst (Once []) (sym (book_told job laws p h l)) (once_learned job laws (job.main ∷ []) (spawned_of h) (λ i. i, tt))

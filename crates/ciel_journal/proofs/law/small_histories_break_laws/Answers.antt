@@ -1,3 +1,4 @@
+use Rattle.ciel_journal.proofs.OtherJobs.{clash}
 use Rattle.ciel_journal.proofs.SmallBroken as h
 use Rattle.ciel_journal.proofs.law.small_histories_break_laws.Goals as goal
 
@@ -18,3 +19,21 @@ returns-clause-dropped c = h.dropped
 
 pub returns-clause-undone : goal.returns-clause-undone
 returns-clause-undone c = h.undone
+
+pub returns-clause-room : goal.returns-clause-room
+returns-clause-room c = h.no_room
+
+pub returns-clause-mark : goal.returns-clause-mark
+returns-clause-mark c = h.wrong_mark
+
+pub returns-clause-copy : goal.returns-clause-copy
+returns-clause-copy c = h.own_copy
+
+pub returns-clause-missed : goal.returns-clause-missed
+returns-clause-missed c = h.none_lost
+
+pub returns-clause-lost : goal.returns-clause-lost
+returns-clause-lost c = h.unplanned
+
+pub returns-clause-clash : goal.returns-clause-clash
+returns-clause-clash c = clash

@@ -1,7 +1,9 @@
 use Rattle.std.proofs.Common.{true, false}
 use Rattle.ciel_journal.specs.Fixed.{small_lists}
 use Rattle.ciel_journal.proofs.FixedLaw.{fixed_laws, small_fixed}
+use Rattle.ciel_journal.proofs.OtherJobs.{circle_laws, fetch_laws}
 use Rattle.ciel_journal.proofs.SmallKnown.{small_knows}
+use Rattle.ciel_journal.proofs.SmallWork.{squares_work}
 use Rattle.ciel_journal.proofs.law.small_jobs_are_jobs.Goals as goal
 
 pub returns-clause-squares : goal.returns-clause-squares
@@ -15,3 +17,12 @@ returns-clause-squares_known c = small_knows false
 
 pub returns-clause-lines_known : goal.returns-clause-lines_known
 returns-clause-lines_known c = small_knows true
+
+pub returns-clause-fetching : goal.returns-clause-fetching
+returns-clause-fetching c = fetch_laws
+
+pub returns-clause-circling : goal.returns-clause-circling
+returns-clause-circling c = circle_laws
+
+pub returns-clause-work : goal.returns-clause-work
+returns-clause-work c = squares_work

@@ -1,4 +1,4 @@
-use Rattle.std.proofs.Common.{◌≡◌, ◌∙◌, ap, sym, subst, arith, ℕ, suc, length, List, Option, Some, None}
+use Rattle.std.proofs.Common.{◌∙◌, sym, subst, arith, ℕ, suc, List, Some}
 use Rattle.std.proofs.lemmas.Option.{slice_get-get_or}
 use Rattle.ciel_journal.proofs.DueLaw.{Below, below_better, below_first, below_keep, below_next, below_skip, first_none, first_some}
 use Rattle.ciel_journal.proofs.turn.first_due.Goals as goal

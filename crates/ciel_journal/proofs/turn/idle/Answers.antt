@@ -1,4 +1,4 @@
-use Rattle.std.proofs.Common.{◌≡◌, ◌++◌, ◌∷◌, [], ◌∙◌, ap, sym, ℕ, List, ◌+◌, ◌-◌, not}
+use Rattle.std.proofs.Common.{◌++◌, ◌∙◌, ap, sym, ℕ, List, ◌+◌, ◌-◌}
 use Rattle.std.proofs.Common as common
 use Rattle.ciel_journal.specs.Turns.{idle_from}
 use Rattle.ciel_journal.proofs.IdleLaw.{idle_taken, idle_passed}

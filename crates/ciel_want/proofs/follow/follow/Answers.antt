@@ -3,8 +3,8 @@ use Rattle.std.specs.List.{list_any}
 use Rattle.std.specs.Option.{option_map_or}
 use Rattle.std.proofs.lemmas.List.{length-replicate}
 use Rattle.sky_base.specs.declared.object.TaskId.{TaskId}
-use Rattle.ciel_journal.specs.Search.{Among, unmet}
-use Rattle.ciel_journal.proofs.Walking.{Walking, walk_circle, walk_met, walk_start, walk_step}
+use Rattle.ciel_want.specs.Search.{Among, unmet}
+use Rattle.ciel_want.proofs.Walking.{Walking, walk_circle, walk_met, walk_start, walk_step}
 use Rattle.ciel_table.specs.declared.row.Row.{Row}
 use Rattle.ciel_want.specs.Board.{first_unmet, live_at, row_leads}
 use Rattle.ciel_want.specs.Marked.{AllBelow, Marked}

@@ -1,5 +1,5 @@
 use Rattle.std.proofs.Common.{sym, subst, length, refl}
-use Rattle.ciel_journal.proofs.Walking.{take_rest}
+use Rattle.ciel_want.proofs.Walking.{take_rest}
 use Rattle.ciel_want.specs.Marked.{AllBelow}
 use Rattle.ciel_want.proofs.Ringing.{below_drop}
 use Rattle.ciel_want.proofs.follow.names_from.Goals as goal

@@ -2,4 +2,4 @@ use Rattle.ciel_want.proofs.Listing.{Listing}
 use Rattle.ciel_want.proofs.order.in_order.Given as goal
 
 abbrev pub invariant-loop-row : goal.invariant-loop-row
-invariant-loop-row g l = Listing l.table l.fn.flags.items l.flags.items l.tasks.items l.row
+invariant-loop-row g l = Listing l.table l.fn.flags.items l.root l.flags.items l.tasks.items l.row

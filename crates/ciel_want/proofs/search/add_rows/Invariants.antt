@@ -1,5 +1,5 @@
 use Rattle.std.proofs.Common.{◌≡◌, ◌++◌, drop, length}
-use Rattle.ciel_journal.specs.Search.{news}
+use Rattle.ciel_want.specs.Search.{news}
 use Rattle.ciel_want.specs.Marked.{AllBelow, Marked}
 use Rattle.ciel_want.proofs.search.add_rows.Given as goal
 

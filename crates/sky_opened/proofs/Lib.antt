@@ -1,0 +1,4 @@
+pub mod Walks
+pub mod Places
+pub mod LastSigns
+pub mod Lists

@@ -1,0 +1,2 @@
+pub mod AfterLaw
+pub mod RestLaw

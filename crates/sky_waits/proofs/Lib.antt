@@ -1,0 +1,4 @@
+pub mod AskLaw
+pub mod Found
+pub mod Signs
+pub mod Innermost

@@ -1,0 +1,13 @@
+// Worked rows of the table of descriptions and of what is searched in it. They stand in a crate of their own, since
+// a crate with tests is proved twice. A row is steps and what is found after them, so that each call of the table is made
+// in one place: what a function owes at a call, and lets go at every `?`, is proved once.
+#![tactic(auto)]
+
+#[cfg(test)]
+mod found;
+#[cfg(test)]
+mod rows;
+#[cfg(test)]
+mod steps;
+#[cfg(test)]
+mod tasks;
