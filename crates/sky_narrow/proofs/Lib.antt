@@ -1,0 +1,5 @@
+pub mod Steps
+pub mod Saved
+pub mod Lengths
+pub mod Widths
+pub mod Narrows
