@@ -1,0 +1,4 @@
+pub mod Limits
+pub mod Saves
+pub mod Stacks
+pub mod Goes

@@ -1,0 +1,5 @@
+// A call goes on from a saved stack: the stack is opened, its wait is answered, the machine runs, and the stack of the next wait is
+// saved.
+#![tactic(auto)]
+
+pub mod on;
