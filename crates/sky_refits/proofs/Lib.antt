@@ -1,0 +1,4 @@
+pub mod Climb
+pub mod Fines
+pub mod Back
+pub mod Again
