@@ -7,7 +7,7 @@ use Rattle.ciel_journal.specs.Lawful.{NoClash}
 use Rattle.ciel_journal.proofs.Booked.{each_more}
 use Rattle.ciel_journal.proofs.Numbers.{in_last, in_left}
 use Rattle.ciel_journal.proofs.Unique.{same_names}
-use Rattle.ciel_reports.specs.Report.{Apart, Exact}
+use Rattle.ciel_reports.specs.Report.{Exact}
 
 module _ {D B : Type 0} where
   pub in_map : (f : D → B) (x : D) (xs : List D) → In x xs → In (f x) (map f xs)
@@ -28,7 +28,7 @@ module _ {D B : Type 0} (job : Job D) (laws : IsJob job) (inner : Inner D) (lowe
 
   -- what is known by names: nothing there has two names, and these stand there
   pub record Tabled (T : List B) (L : List D) : Type 0 where
-    pub apart : Apart named T
+    pub apart : (a b : B) → In a T → In b T → named a ≡ named b → a ≡ b
     pub there : (d : D) → In d L → In (lower d) T
 
   -- one more with what stands inside

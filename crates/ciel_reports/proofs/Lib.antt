@@ -1,3 +1,4 @@
 pub mod Growing
+pub mod Learning
 pub mod Walking
 pub mod Reporting

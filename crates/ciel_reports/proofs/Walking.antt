@@ -59,9 +59,6 @@ module _ {D B : Type 0} (job : Job D) (laws : IsJob job) (inner : Inner D) (lowe
         clean = subst Clean' (append_assoc L (d ∷ []) ds) w.clean;
       }
 
-  same_cons : (b c : B) (xs ys : List B) → b ≡ c → xs ≡ ys → b ∷ xs ≡ c ∷ ys
-  same_cons b c xs ys e f = cc
-
   -- the first that isn't known by names is the next that is made
   pub record Stopped (L ds : List D) (before : List B) (given : B) : Type 0 where
     pub front : List D
@@ -70,6 +67,19 @@ module _ {D B : Type 0} (job : Job D) (laws : IsJob job) (inner : Inner D) (lowe
     pub split : ds ≡ front ++ next ∷ back
     pub told : before ≡ map lower front
     pub is : lower next ≡ given
+    pub clean : Clean' (L ++ front)
+
+  one_more : (L ds : List D) (d : D) (before : List B) (b given : B) → b ≡ lower d → Stopped (L ++ d ∷ []) ds before given → Stopped L (d ∷ ds) (b ∷ before) given
+  one_more L ds d before b given f w =
+      record {
+        front = d ∷ w.front;
+        next = w.next;
+        back = w.back;
+        split = ap (λ z. d ∷ z) w.split;
+        told = ap (λ z. z ∷ before) f ∙ ap (λ z. lower d ∷ z) w.told;
+        is = w.is;
+        clean = subst Clean' (append_assoc L (d ∷ []) w.front) w.clean;
+      }
 
   pub stops : (T : List B) (met : D → Type 0) (L ds : List D) (bs before after : List B) (given : B) → Clean' L → Tabled' T L → Inward L ds → MetIn met L → ((b : B) → In b before → In b T) → bs ≡ before ++ given ∷ after → Tells job inner lower met ds bs → Stopped L ds before given
   stops T met L [] bs [] after given clean tabled inward m there s t = let bad : [] ≡ given ∷ after = sym t ∙ s in cc
@@ -77,7 +87,7 @@ module _ {D B : Type 0} (job : Job D) (laws : IsJob job) (inner : Inner D) (lowe
       let bad : [] ≡ b ∷ (before ++ given ∷ after) = sym t ∙ s in cc
   stops T met L (d ∷ ds) bs [] after given clean tabled inward m there s t =
       let e : lower d ∷ t.0 ≡ given ∷ after = sym t.1 ∙ s in
-      record { front = []; next = d; back = ds; split = refl; told = refl; is = cc }
+      record { front = []; next = d; back = ds; split = refl; told = refl; is = cc; clean = subst Clean' (sym (append-nil L)) clean }
   stops T met L (d ∷ ds) bs (b ∷ before) after given clean tabled inward m there s t =
       let e : lower d ∷ t.0 ≡ b ∷ (before ++ given ∷ after) = sym t.1 ∙ s in
       let f : b ≡ lower d = cc in
@@ -85,12 +95,4 @@ module _ {D B : Type 0} (job : Job D) (laws : IsJob job) (inner : Inner D) (lowe
       let here : In (lower d) T = there (lower d) (inl (sym f)) in
       let whole = inward_first L ds d inward in
       let none = no_clash T met L d clean tabled m whole here in
-      let w = stops T (Or job inner lower met d) (L ++ d ∷ []) ds t.0 before after given (clean_more job laws inner lower named exact T L d clean tabled whole here) (tabled_more job laws inner lower named exact T L d tabled here) (inward_rest L ds d inward) (met_more met L d m) (λ x i. there x (inr i)) g (t.2 none) in
-      record {
-        front = d ∷ w.front;
-        next = w.next;
-        back = w.back;
-        split = ap (λ z. d ∷ z) w.split;
-        told = same_cons b (lower d) before (map lower w.front) f w.told;
-        is = w.is;
-      }
+      one_more L ds d before b given f (stops T (Or job inner lower met d) (L ++ d ∷ []) ds t.0 before after given (clean_more job laws inner lower named exact T L d clean tabled whole here) (tabled_more job laws inner lower named exact T L d tabled here) (inward_rest L ds d inward) (met_more met L d m) (λ x i. there x (inr i)) g (t.2 none))

@@ -1,6 +1,6 @@
 -- What a report of a task's run says of the job. A report speaks of names and of descriptions by names; the job of
 -- descriptions.
-use Rattle.std.specs.Prelude.{◌≡◌, ◌≢◌, ℕ, ◌≤◌, List, [], ◌∷◌, Option, Some, None, ◌⊎◌, length, map}
+use Rattle.std.specs.Prelude.{◌≡◌, ◌≢◌, ℕ, ◌≤◌, List, [], ◌∷◌, ◌++◌, Option, Some, None, ◌⊎◌, length, map}
 use Rattle.std.specs.List.{IsDistinct}
 use Rattle.ciel_journal.specs.Job.{Digest, Held, Job, In, Each, StateOf, waits_in, made_before}
 use Rattle.ciel_journal.specs.History.{Event, start, done, saved, missed, lost, OpenStart}
@@ -25,6 +25,10 @@ pub record Report (B : Type 0) : Type 0 where
   pub number : ℕ
   pub spawned : List B
   pub end : End
+
+-- none of these has its name
+abbrev pub IsNew : {B : Type 0} → (B → Digest) → List B → B → Type 0
+IsNew named rows b = (c : _) → In c rows → named c ≢ named b
 
 module _ {D B : Type 0} (job : Job D) (inner : Inner D) (lower : D → B) where
   -- what the task of an order met before it went on: what it had made, what it holds there, and what the objects hold that
@@ -94,6 +98,9 @@ pub record Exact {D B : Type 0} (job : Job D) (inner : Inner D) (lower : D → B
   pub within : (d e : D) → lower d ≡ lower e → low_names job (inner.inside d) ≡ low_names job (inner.inside e)
   pub only : (d e : D) → lower d ≡ lower e → inner.inside d ≡ inner.inside e → d ≡ e
 
--- no two of these have one name
-abbrev pub Apart : {B : Type 0} → (B → Digest) → List B → Type 0
-Apart named bs = (a b : _) → In a bs → In b bs → named a ≡ named b → a ≡ b
+-- what a table by names learns of these, in order: one that stands there already stays where it is, one of a new name is
+-- put at the end, and none has the name of another one
+abbrev pub Learns : {B : Type 0} → (B → Digest) → List B → List B → List B → Type 0
+Learns named rows [] new = new ≡ rows
+Learns named rows (b ∷ bs) new =
+    (In b rows × Learns named rows bs new) ⊎ (IsNew named rows b × Learns named (rows ++ b ∷ []) bs new)

@@ -5,16 +5,19 @@
 //! that the journal allows.
 #![tactic(auto)]
 
-ghost use Rattle.ciel_reports.specs.Laws.{ClashesAreTold, ReportsAreAllowed};
+ghost use Rattle.ciel_reports.specs.Laws.{AllowedIsSaid, ClashesAreTold, OverflowsAreTold, ReportsAreAllowed};
 
-/// Where what a report spawned is learned without a clash, it tells an event that is allowed, and no name stands for two
-/// descriptions after it. A report of something missing tells its event by itself.
+/// Where what a report spawned is learned, with no name for two descriptions, it tells an event that is allowed, no name stands
+/// for two descriptions after it, and what was learned is the book. Each allowed event that closes a Start is said by the
+/// report that tells it. A report of something missing is left out: it tells its event by itself.
 pub fn reports_are_allowed<D, B>()
     ensures allowed { ReportsAreAllowed D B }
+    ensures said { AllowedIsSaid D B }
 {}
 
-/// Where a spawned description is refused for its name, an open Start makes it next, and the one that has the name already
-/// stands in the book with what that Start made before.
-pub fn clashes_are_told<D, B>()
+/// Where a spawned description is refused, an open Start makes it next, and what was learned is the book with what that Start
+/// made before: it has the name of another one there, or it is new there, where there is no room.
+pub fn refusals_are_told<D, B>()
     ensures clash { ClashesAreTold D B }
+    ensures overflow { OverflowsAreTold D B }
 {}
