@@ -5,6 +5,7 @@
 //! that the journal allows.
 #![tactic(auto)]
 
+ghost use Rattle.ciel_reports.specs.Names.{RealNamesAreExact};
 ghost use Rattle.ciel_reports.specs.Laws.{AllowedIsSaid, ClashesAreTold, OverflowsAreTold, ReportsAreAllowed};
 
 /// Where what a report spawned is learned, with no name for two descriptions, it tells an event that is allowed, no name stands
@@ -20,4 +21,10 @@ pub fn reports_are_allowed<D, B>()
 pub fn refusals_are_told<D, B>()
     ensures clash { ClashesAreTold D B }
     ensures overflow { OverflowsAreTold D B }
+{}
+
+/// Of the job that a script means a description over names tells its name and the names of what stands inside, and with what
+/// stands inside it tells the description, whatever gives the names.
+pub fn real_names_are_exact()
+    ensures exact { RealNamesAreExact }
 {}
