@@ -4,7 +4,7 @@ use Rattle.std.specs.List.{list_any}
 use Rattle.ciel_journal.specs.Job.{Task, show, of, Job, In, Each, IsJob, WaitOf, after_wait, made_before, made_in, waits_in}
 use Rattle.ciel_journal.specs.History.{Event, start, done, saved, missed, lost, OpenStart, Plan, Save, Standing, after, after_all, before_all, better, last, last_save, learned, live_if, live_in, names_of, needs, order_of, placed, same_task, wait_number}
 use Rattle.ciel_journal.specs.Lawful.{Copied, Given, LawfulFrom, NextEnd, NextWait, SpawnedTo, SpawnedToEnd, Allowed, own_name}
-use Rattle.ciel_journal.specs.Known.{Around, Begins, HeadsFirst, Inner, Knows, TellsTo, TellsToEnd, Whole}
+use Rattle.ciel_journal.specs.Known.{Around, Begins, HandedTo, HandedToEnd, HeadsFirst, Inner, Knows, TellsTo, TellsToEnd, Whole}
 use Rattle.ciel_journal.proofs.Members.{any_in, in_any, each_of, bool_cases}
 use Rattle.ciel_journal.proofs.Batches.{WithOutputs, book_heads, end_whole, segment_whole}
 use Rattle.ciel_journal.proofs.Booked.{each_more, learned_cases, one_has}
@@ -72,7 +72,7 @@ module _ {D : Type 0} (job : Job D) (laws : IsJob job) (inner : Inner D) (knows 
         makes = λ n l. each_more (λ d. In d S) (λ d. In d T) g (made_before i (job.acts n t)) (k.makes n l);
       }
 
-  order_more : (S T : List D) → Grows S T → (o : OpenStart D) → OrderKnown S o → OrderKnown T o
+  pub order_more : (S T : List D) → Grows S T → (o : OpenStart D) → OrderKnown S o → OrderKnown T o
   order_more S T g o k =
       record { told = tells_more S T g o.task o.from k.told; had = λ d w h n e i. g e (k.had d w h n e i); met = k.met; here = k.here }
 
@@ -96,7 +96,7 @@ module _ {D : Type 0} (job : Job D) (laws : IsJob job) (inner : Inner D) (knows 
 
   -- ---- what an order brings along
 
-  live_carried : (S : List D) (o : OpenStart D) → OrderKnown S o → (d : D) → live_in job o.had d ≡ true → (n : ℕ) (e : D) → In e (inner.carries n d) → In e S
+  pub live_carried : (S : List D) (o : OpenStart D) → OrderKnown S o → (d : D) → live_in job o.had d ≡ true → (n : ℕ) (e : D) → In e (inner.carries n d) → In e S
   live_carried S o k d l n e i = pick (job.task_of d) refl l
     where
       some_has : (ws : List ℕ) (t : Task D) → live_if job (Some t) ws ≡ true → (w : ℕ) × (list_any (nat_eq w) ws ≡ true)
@@ -111,7 +111,7 @@ module _ {D : Type 0} (job : Job D) (laws : IsJob job) (inner : Inner D) (knows 
   cases a b = grind arith
 
   -- the task comes to the wait from which the order goes on
-  comes_to : (o : OpenStart D) (ds : List D) (n : ℕ) → WaitOf job o.task o.from ds → job.ended n o.task ≡ true → o.from ≤ length (waits_in (job.acts n o.task))
+  pub comes_to : (o : OpenStart D) (ds : List D) (n : ℕ) → WaitOf job o.task o.from ds → job.ended n o.task ≡ true → o.from ≤ length (waits_in (job.acts n o.task))
   comes_to o ds n w e = go o.from w
     where
       go : (j : ℕ) → WaitOf job o.task j ds → j ≤ length (waits_in (job.acts n o.task))
@@ -128,10 +128,19 @@ module _ {D : Type 0} (job : Job D) (laws : IsJob job) (inner : Inner D) (knows 
           live_carried S o known d (each_of (λ x. live_in job o.had x ≡ true) d ds i (known.met ds (subst (λ j. WaitOf job o.task j ds) (sym s) w))) n e c
       pick (inr (inr l)) = live_carried S o known d (each_of (Given job o) d ds i (given l)).1 n e c
 
+  -- what the task of an order was handed before its end, or before its next wait
+  pub handed_end : (S : List D) (o : OpenStart D) → OrderKnown S o → NextEnd job (Given job o) o.task o.from → HandedToEnd job inner S o.task
+  handed_end S o known next =
+      record { begins = known.told.handed.begins; reads = λ k ds d e n w i c. later_read S o known k ds d e n (λ l. next.met k ds l w) w i c }
+
+  pub handed_to : (S : List D) (o : OpenStart D) (j : ℕ) (refs : List D) → OrderKnown S o → NextWait job (Given job o) o.task o.from j refs → HandedTo job inner S o.task j
+  handed_to S o j refs known next =
+      record { begins = known.told.handed.begins; reads = λ k ds d e n u w i c. later_read S o known k ds d e n (λ l. next.met k ds l u w) w i c }
+
   tells_end : (S : List D) (o : OpenStart D) (spawned : List D) → OrderKnown S o → NextEnd job (Given job o) o.task o.from → SpawnedToEnd job o spawned → Each (λ d. In d S) spawned → TellsToEnd job inner S o.task
   tells_end S o spawned known next spawns all =
       record {
-        handed = record { begins = known.told.handed.begins; reads = λ k ds d e n w i c. later_read S o known k ds d e n (λ l. next.met k ds l w) w i c };
+        handed = handed_end S o known next;
         makes = λ n e. let s = spawned_end_unique job laws o (made_in (after_wait o.from (job.acts n o.task))) spawned (n, e, refl) spawns in
             subst (Each (λ d. In d S)) (sym (made_split o.from (job.acts n o.task)))
             (each_join (λ d. In d S) (made_before o.from (job.acts n o.task)) (made_in (after_wait o.from (job.acts n o.task))) (known.told.makes n (comes_to o known.here.0 n known.here.1 e)) (subst (Each (λ d. In d S)) (sym s) all));
@@ -140,7 +149,7 @@ module _ {D : Type 0} (job : Job D) (laws : IsJob job) (inner : Inner D) (knows 
   tells_to : (S : List D) (o : OpenStart D) (j : ℕ) (refs spawned : List D) → OrderKnown S o → NextWait job (Given job o) o.task o.from j refs → SpawnedTo job o j spawned → Each (λ d. In d S) spawned → TellsTo job inner S o.task j
   tells_to S o j refs spawned known next spawns all =
       record {
-        handed = record { begins = known.told.handed.begins; reads = λ k ds d e n u w i c. later_read S o known k ds d e n (λ l. next.met k ds l u w) w i c };
+        handed = handed_to S o j refs known next;
         makes = λ n e. let s = spawned_to_unique job laws o j (made_before (j - o.from) (after_wait o.from (job.acts n o.task))) spawned next.later (n, e, refl) spawns in
             let l = next.later in
             subst (Each (λ d. In d S)) (sym (before_split o.from j (job.acts n o.task) (omega (arith, l))))

@@ -2,125 +2,158 @@
 
 use crate::memory::{tells, writes};
 use std::alloc::Global;
+use std::process::Abort;
 use std::test::Fail;
 
-/// A piece between a front and an end, so many times.
-fn repeated(
-    alloc: Global,
-    front: &[u8],
-    piece: &[u8],
-    count: u32,
-    end: &[u8],
-) -> Result<Vec<u8>, Fail> {
-    let mut source = Vec::from_slice(alloc, front)?;
+/// Pieces of a script, each so many times; the status, and what is written or told.
+type Row = (&'static [(&'static str, u32)], u8, &'static str);
+
+fn repeat(source: &mut Vec<u8>, piece: &str, count: u32) -> Result<(), Fail> {
     for _ in 0..count {
-        source.extend_from_slice(piece)?;
+        source.extend_from_slice(piece.as_bytes())?;
     }
-    source.extend_from_slice(end)?;
+    Ok(())
+}
+
+fn source(alloc: Global, pieces: &[(&'static str, u32)]) -> Result<Vec<u8>, Fail> {
+    let mut source = Vec::new(alloc);
+    for (piece, count) in pieces {
+        repeat(&mut source, piece, *count)?;
+    }
     Ok(source)
 }
 
-/// A number in so many brackets.
-fn nested(alloc: Global, count: u32) -> Result<Vec<u8>, Fail> {
-    let front = repeated(alloc, b"return ", b"(", count, b"1")?;
-    repeated(alloc, &front, b")", count, b";")
+fn ends(rt: &impl Abort, alloc: Global, source: &[u8], status: u8, want: &str) -> Result<(), Fail> {
+    if status == 0 {
+        writes(rt, alloc, source, want)
+    } else {
+        tells(rt, alloc, source, status, want)
+    }
+}
+
+fn row_ends(rt: &impl Abort, alloc: Global, row: &Row) -> Result<(), Fail> {
+    let source = source(alloc, row.0)?;
+    ends(rt, alloc, &source, row.1, row.2)
+}
+
+static LARGE: [Row; 6] = [
+    (
+        &[("return ", 1), ("(", 64), ("1", 1), (")", 64), (";", 1)],
+        0,
+        "1\n",
+    ),
+    (
+        &[("return ", 1), ("(", 65), ("1", 1), (")", 65), (";", 1)],
+        2,
+        "ciel: syntax TooNested 1:72\n",
+    ),
+    (&[("return ", 1), ("-", 999_998), ("1;", 1)], 0, "1\n"),
+    (
+        &[("return ", 1), ("-", 1_000_000), ("1;", 1)],
+        3,
+        "ciel: fault TooLong 1:9\n",
+    ),
+    (&[("return 1", 1), ("+1", 499_999), (";", 1)], 0, "500000\n"),
+    (
+        &[("return 1", 1), ("+1", 500_000), (";", 1)],
+        3,
+        "ciel: fault TooLong 1:1000008\n",
+    ),
+];
+
+fn rows_end(rt: &impl Abort, alloc: Global, rows: &[Row]) -> Result<(), Fail> {
+    for row in rows {
+        row_ends(rt, alloc, row)?;
+    }
+    Ok(())
 }
 
 #[test]
 fn brackets(rt: HostRuntime) -> Result<(), Fail> {
-    let alloc = rt.alloc();
-    writes(&rt, alloc, &nested(alloc, 64)?, "1\n")?;
-    tells(
-        &rt,
-        alloc,
-        &nested(alloc, 65)?,
-        2,
-        "ciel: syntax TooNested 1:72\n",
-    )
+    rows_end(&rt, rt.alloc(), &LARGE[..2])
 }
 
 #[test]
 fn a_million_signs(rt: HostRuntime) -> Result<(), Fail> {
-    let alloc = rt.alloc();
-    let source = repeated(alloc, b"return ", b"-", 999_998, b"1;")?;
-    writes(&rt, alloc, &source, "1\n")?;
-    let source = repeated(alloc, b"return ", b"-", 1_000_000, b"1;")?;
-    tells(&rt, alloc, &source, 3, "ciel: fault TooLong 1:9\n")
+    rows_end(&rt, rt.alloc(), &LARGE[2..4])
 }
 
 #[test]
 fn as_many_visits_as_may_be(rt: HostRuntime) -> Result<(), Fail> {
-    let alloc = rt.alloc();
-    let source = repeated(alloc, b"return 1", b"+1", 499_999, b";")?;
-    writes(&rt, alloc, &source, "500000\n")?;
-    let source = repeated(alloc, b"return 1", b"+1", 500_000, b";")?;
-    tells(&rt, alloc, &source, 3, "ciel: fault TooLong 1:1000008\n")
+    rows_end(&rt, rt.alloc(), &LARGE[4..])
+}
+
+/// A script, the status, and what is written or told.
+type Run = (&'static str, u8, &'static str);
+
+/// As many descriptions as may be, and one too many; a chain without end. The main call and one for each number from the given
+/// one down to 0 wait for each other. The result is a reference to a reference, and so on.
+static LONG: [Run; 7] = [
+    (
+        "function f(x) { return x; } i = 0; while (i < 65535) { r = spawn(f, [i]); i += 1; } return *r;",
+        0,
+        "65534\n",
+    ),
+    (
+        "function f(x) { return x; } i = 0; while (i < 65536) { r = spawn(f, [i]); i += 1; } return *r;",
+        5,
+        "ciel: too many descriptions: 65536\n",
+    ),
+    (
+        "function f() { return *spawn(f, []); } return *spawn(f, []);",
+        13,
+        "ciel: plain run too deep 4096\n",
+    ),
+    (
+        "function f(n) { if (n == 0) { return 0; } return *spawn(f, [n - 1]); } return *spawn(f, [4094]);",
+        0,
+        "0\n",
+    ),
+    (
+        "function f(n) { if (n == 0) { return 0; } return *spawn(f, [n - 1]); } return *spawn(f, [4095]);",
+        13,
+        "ciel: plain run too deep 4096\n",
+    ),
+    (
+        "function f(n) { if (n == 0) { return 0; } return spawn(f, [n - 1]); } return spawn(f, [99]);",
+        0,
+        "0\n",
+    ),
+    (
+        "function f(n) { if (n == 0) { return 0; } return spawn(f, [n - 1]); } return spawn(f, [100]);",
+        3,
+        "ciel: fault TooDeep 0:0\n",
+    ),
+];
+
+fn runs_end(rt: &impl Abort, alloc: Global, runs: &[Run]) -> Result<(), Fail> {
+    for run in runs {
+        ends(rt, alloc, run.0.as_bytes(), run.1, run.2)?;
+    }
+    Ok(())
 }
 
 #[test]
 fn as_many_descriptions_as_may_be(rt: HostRuntime) -> Result<(), Fail> {
-    writes(
-        &rt,
-        rt.alloc(),
-        b"function f(x) { return x; } i = 0; while (i < 65535) { r = spawn(f, [i]); i += 1; } return *r;",
-        "65534\n",
-    )
+    runs_end(&rt, rt.alloc(), &LONG[..1])
 }
 
 #[test]
 fn one_description_too_many(rt: HostRuntime) -> Result<(), Fail> {
-    tells(
-        &rt,
-        rt.alloc(),
-        b"function f(x) { return x; } i = 0; while (i < 65536) { r = spawn(f, [i]); i += 1; } return *r;",
-        5,
-        "ciel: too many descriptions: 65536\n",
-    )
+    runs_end(&rt, rt.alloc(), &LONG[1..2])
 }
 
 #[test]
 fn a_chain_without_end(rt: HostRuntime) -> Result<(), Fail> {
-    tells(
-        &rt,
-        rt.alloc(),
-        b"function f() { return *spawn(f, []); } return *spawn(f, []);",
-        13,
-        "ciel: plain run too deep 4096\n",
-    )
+    runs_end(&rt, rt.alloc(), &LONG[2..3])
 }
 
-/// The main call and one for each number from the given one down to 0 wait for each other.
 #[test]
 fn a_chain_as_long_as_may_be(rt: HostRuntime) -> Result<(), Fail> {
-    writes(
-        &rt,
-        rt.alloc(),
-        b"function f(n) { if (n == 0) { return 0; } return *spawn(f, [n - 1]); } return *spawn(f, [4094]);",
-        "0\n",
-    )?;
-    tells(
-        &rt,
-        rt.alloc(),
-        b"function f(n) { if (n == 0) { return 0; } return *spawn(f, [n - 1]); } return *spawn(f, [4095]);",
-        13,
-        "ciel: plain run too deep 4096\n",
-    )
+    runs_end(&rt, rt.alloc(), &LONG[3..5])
 }
 
-/// The result is a reference to a reference, and so on.
 #[test]
 fn as_many_waves_as_may_be(rt: HostRuntime) -> Result<(), Fail> {
-    writes(
-        &rt,
-        rt.alloc(),
-        b"function f(n) { if (n == 0) { return 0; } return spawn(f, [n - 1]); } return spawn(f, [99]);",
-        "0\n",
-    )?;
-    tells(
-        &rt,
-        rt.alloc(),
-        b"function f(n) { if (n == 0) { return 0; } return spawn(f, [n - 1]); } return spawn(f, [100]);",
-        3,
-        "ciel: fault TooDeep 0:0\n",
-    )
+    runs_end(&rt, rt.alloc(), &LONG[5..])
 }

@@ -1,10 +1,10 @@
 // What the program answers to bad words, to files, outputs and logs that fail, and to a script that is
 // too long.
 
-use crate::memory::{at_s, only, outcome};
+use crate::memory::{at_s, only, outcome, over, over_files, run, writes};
 use ciel_io::mem_files::{MemFiles, SureFiles};
 use ciel_io::mem_sink::{MemSink, SureSink};
-use ciel_run::top::{Why, ciel_main};
+use ciel_run::top::Why;
 use sky_base::text::Txt;
 use std::alloc::Global;
 use std::process::Abort;
@@ -24,44 +24,58 @@ fn names_s(path: &Txt) -> bool {
 }
 
 #[test]
-fn the_limit_of_a_script(rt: HostRuntime) -> Result<(), Fail> {
-    let alloc = rt.alloc();
-    let (ended, out, _) = outcome(alloc, &filled(alloc, 1_048_576)?)?;
-    assert_eq!(rt; ended.status, 0);
-    assert!(rt; out.bytes() == "3\n".as_bytes());
-    let (ended, _, log) = outcome(alloc, &filled(alloc, 1_048_577)?)?;
-    assert_eq!(rt; ended.status, 11);
-    assert!(rt;
-        matches!(&ended.why, Why::TooLongInput { path, limit: 1_048_576 } if names_s(path))
-    );
-    assert!(rt; log.bytes() == b"ciel: too long s 1048576\n".as_slice());
+fn a_script_as_long_as_may_be(rt: HostRuntime) -> Result<(), Fail> {
+    let source = filled(rt.alloc(), 1_048_576)?;
+    writes(&rt, rt.alloc(), &source, "3\n")
+}
+
+fn is_too_long(why: &Why) -> bool {
+    matches!(why, Why::TooLongInput { path, limit: 1_048_576 } if names_s(path))
+}
+
+#[test]
+fn a_script_that_is_too_long(rt: HostRuntime) -> Result<(), Fail> {
+    let source = filled(rt.alloc(), 1_048_577)?;
+    let got = outcome(rt.alloc(), &source)?;
+    assert!(rt; got.ended.status == 11);
+    assert!(rt; is_too_long(&got.ended.why));
+    assert!(rt; got.log.bytes() == b"ciel: too long s 1048576\n".as_slice());
     Ok(())
+}
+
+fn is_read_fault(why: &Why) -> bool {
+    matches!(why, Why::ReadFault { path } if names_s(path))
+}
+
+/// The script at `s`, which can't be read.
+fn failing(alloc: Global, source: &[u8]) -> Result<MemFiles, Fail> {
+    Ok(MemFiles::new(alloc, at_s(alloc, source)?, only(alloc, 1u32)?)?)
 }
 
 #[test]
 fn a_failing_file(rt: HostRuntime) -> Result<(), Fail> {
-    let alloc = rt.alloc();
-    let mut files = MemFiles::new(alloc, at_s(alloc, b"return 1 + 2;")?, only(alloc, 1u32)?)?;
-    let mut out = SureSink::new(alloc, 100)?;
-    let mut log = SureSink::new(alloc, 200)?;
-    let words = only(alloc, Txt::new(alloc, "s")?)?;
-    let ended = ciel_main(alloc, &words, &mut files, &mut out, &mut log);
-    assert_eq!(rt; ended.status, 8);
-    assert!(rt; matches!(&ended.why, Why::ReadFault { path } if names_s(path)));
+    let mut files = failing(rt.alloc(), b"return 1 + 2;")?;
+    let mut out = SureSink::new(rt.alloc(), 100)?;
+    let mut log = SureSink::new(rt.alloc(), 200)?;
+    let ended = over_files(rt.alloc(), &mut files, &mut out, &mut log)?;
+    assert!(rt; ended.status == 8);
+    assert!(rt; is_read_fault(&ended.why));
     assert!(rt; out.bytes().is_empty());
     assert!(rt; log.bytes() == b"ciel: read fault s\n".as_slice());
     Ok(())
 }
 
+/// A sink whose first write fails.
+fn breaking(alloc: Global, room: u64) -> Result<MemSink, Fail> {
+    Ok(MemSink::new(alloc, room, only(alloc, 1u32)?)?)
+}
+
 #[test]
 fn a_failing_output(rt: HostRuntime) -> Result<(), Fail> {
-    let alloc = rt.alloc();
-    let mut files = SureFiles::new(alloc, at_s(alloc, b"return 1 + 2;")?)?;
-    let mut out = MemSink::new(alloc, 100, only(alloc, 1u32)?)?;
-    let mut log = SureSink::new(alloc, 200)?;
-    let words = only(alloc, Txt::new(alloc, "s")?)?;
-    let ended = ciel_main(alloc, &words, &mut files, &mut out, &mut log);
-    assert_eq!(rt; ended.status, 9);
+    let mut out = breaking(rt.alloc(), 100)?;
+    let mut log = SureSink::new(rt.alloc(), 200)?;
+    let ended = over(rt.alloc(), b"return 1 + 2;", &mut out, &mut log)?;
+    assert!(rt; ended.status == 9);
     assert!(rt; matches!(ended.why, Why::WriteFault));
     assert!(rt; b"3\n".starts_with(out.bytes()));
     assert!(rt; log.bytes() == b"ciel: write fault\n".as_slice());
@@ -70,13 +84,11 @@ fn a_failing_output(rt: HostRuntime) -> Result<(), Fail> {
 
 #[test]
 fn a_failing_log_changes_no_status(rt: HostRuntime) -> Result<(), Fail> {
-    let alloc = rt.alloc();
-    let mut files = SureFiles::new(alloc, at_s(alloc, b"return 9223372036854775807 + 1;")?)?;
-    let mut out = SureSink::new(alloc, 100)?;
-    let mut log = MemSink::new(alloc, 200, only(alloc, 1u32)?)?;
-    let words = only(alloc, Txt::new(alloc, "s")?)?;
-    let ended = ciel_main(alloc, &words, &mut files, &mut out, &mut log);
-    assert_eq!(rt; ended.status, 3);
+    let mut out = SureSink::new(rt.alloc(), 100)?;
+    let mut log = breaking(rt.alloc(), 200)?;
+    let source = b"return 9223372036854775807 + 1;";
+    let ended = over(rt.alloc(), source, &mut out, &mut log)?;
+    assert!(rt; ended.status == 3);
     assert!(rt; out.bytes().is_empty());
     assert!(rt; b"ciel: fault Overflow 1:28\n".starts_with(log.bytes()));
     assert!(rt; log.bytes().len() < 26);
@@ -91,28 +103,37 @@ fn ends_with(rt: &impl Abort, alloc: Global, words: &[Txt], want: u8) -> Result<
     let mut files = SureFiles::new(alloc, at_s(alloc, b"return 1;")?)?;
     let mut out = SureSink::new(alloc, 100)?;
     let mut log = SureSink::new(alloc, 200)?;
-    let ended = ciel_main(alloc, words, &mut files, &mut out, &mut log);
-    assert_eq!(rt; ended.status, want);
-    assert_eq!(rt; log.bytes() == USAGE.as_bytes(), want == 1);
+    let ended = run(alloc, words, &mut files, &mut out, &mut log);
+    assert!(rt; ended.status == want);
+    assert!(rt; (log.bytes() == USAGE.as_bytes()) == (want == 1));
     Ok(())
 }
 
-fn word_ends_with(rt: &impl Abort, alloc: Global, word: &str, want: u8) -> Result<(), Fail> {
-    let words = only(alloc, Txt::new(alloc, word)?)?;
-    ends_with(rt, alloc, &words, want)
+fn words_of(alloc: Global, texts: &[&str]) -> Result<Vec<Txt>, Fail> {
+    let mut words = Vec::new(alloc);
+    for text in texts {
+        words.push(Txt::new(alloc, text)?)?;
+    }
+    Ok(words)
 }
+
+/// Words, and the status with which the program ends: 1 where they are no line.
+static WORDS: [(&[&str], u8); 8] = [
+    (&[], 1),
+    (&["s", "t"], 1),
+    (&["s", "t=u"], 0),
+    (&[""], 1),
+    (&["--help"], 1),
+    (&["-s"], 1),
+    (&["-"], 0),
+    (&["s"], 0),
+];
 
 #[test]
 fn words_that_are_no_line(rt: HostRuntime) -> Result<(), Fail> {
-    let alloc = rt.alloc();
-    ends_with(&rt, alloc, &[], 1)?;
-    let two = [Txt::new(alloc, "s")?, Txt::new(alloc, "t")?];
-    ends_with(&rt, alloc, &two, 1)?;
-    let two = [Txt::new(alloc, "s")?, Txt::new(alloc, "t=u")?];
-    ends_with(&rt, alloc, &two, 0)?;
-    word_ends_with(&rt, alloc, "", 1)?;
-    word_ends_with(&rt, alloc, "--help", 1)?;
-    word_ends_with(&rt, alloc, "-s", 1)?;
-    word_ends_with(&rt, alloc, "-", 0)?;
-    word_ends_with(&rt, alloc, "s", 0)
+    for row in &WORDS {
+        let words = words_of(rt.alloc(), row.0)?;
+        ends_with(&rt, rt.alloc(), &words, row.1)?;
+    }
+    Ok(())
 }

@@ -7,3 +7,5 @@ mod frozen;
 mod read;
 #[cfg(test)]
 mod saved;
+#[cfg(test)]
+mod states;

@@ -12,8 +12,4 @@ mod line_faults;
 #[cfg(test)]
 mod line_rows;
 #[cfg(test)]
-mod names;
-#[cfg(test)]
-mod states;
-#[cfg(test)]
 mod store;

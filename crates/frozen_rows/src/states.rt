@@ -154,38 +154,68 @@ fn set(alloc: Global, vars: &mut Pairs, key: &str, value: Value) -> Result<(), F
 
 /// `a = spawn(f, [3]); b = spawn(f, [4]); return *a + *b;` at `*b`.
 fn squares(alloc: Global) -> Result<State, Fail> {
-    let mut vars = Pairs::new(alloc);
-    set(alloc, &mut vars, "a", reference(65))?;
-    set(alloc, &mut vars, "b", reference(66))?;
-    let mut stack = Vec::new(alloc);
-    stack.push(Value::Int(9))?;
-    stack.push(reference(66))?;
-    let mut frames = Vec::new(alloc);
-    frames.push(frame(alloc, "", vars, stack)?)?;
+    let vars = pairs(alloc, &[("a", 65), ("b", 66)])?;
+    let stack = stack(alloc, Value::Int(9), reference(66))?;
+    let frames = one(alloc, frame(alloc, "", vars, stack)?)?;
     Ok(waiting(alloc, frames))
 }
 
-/// An `exec` inside a call: the caller has a function that captured a reference.
-fn executing(alloc: Global) -> Result<State, Fail> {
-    let mut caught = Pairs::new(alloc);
-    set(alloc, &mut caught, "k", reference(3))?;
-    let mut vars = Pairs::new(alloc);
+/// References at these keys.
+fn pairs(alloc: Global, references: &[(&'static str, u8)]) -> Result<Pairs, Fail> {
+    let mut pairs = Pairs::new(alloc);
+    for (key, byte) in references {
+        set(alloc, &mut pairs, key, reference(*byte))?;
+    }
+    Ok(pairs)
+}
+
+fn stack(alloc: Global, first: Value, second: Value) -> Result<Vec<Value>, Fail> {
+    let mut stack = Vec::new(alloc);
+    stack.push(first)?;
+    stack.push(second)?;
+    Ok(stack)
+}
+
+fn one(alloc: Global, frame: Frame) -> Result<Vec<Frame>, Fail> {
+    let mut frames = Vec::new(alloc);
+    frames.push(frame)?;
+    Ok(frames)
+}
+
+/// The variable `f`, a function that captured a reference.
+fn calling(alloc: Global) -> Result<Pairs, Fail> {
+    let caught = pairs(alloc, &[("k", 3)])?;
     let fun = Value::Fun {
         name: Txt::new(alloc, "#0")?,
         caught,
     };
+    let mut vars = Pairs::new(alloc);
     set(alloc, &mut vars, "f", fun)?;
+    Ok(vars)
+}
+
+/// References to outputs, two of them the same.
+fn outputs(alloc: Global) -> Result<Vals, Fail> {
     let mut outputs = Vals::new(alloc);
     for byte in [5, 4, 5] {
         outputs.push(reference(byte))?;
     }
+    Ok(outputs)
+}
+
+/// The frame of an `exec` that waits.
+fn executor(alloc: Global) -> Result<Frame, Fail> {
     let mut stack = Vec::new(alloc);
-    stack.push(Value::List(outputs))?;
-    let mut own = Pairs::new(alloc);
-    set(alloc, &mut own, "x", reference(2))?;
-    let mut frames = Vec::new(alloc);
-    frames.push(frame(alloc, "", vars, Vec::new(alloc))?)?;
-    frames.push(frame(alloc, "#0", own, stack)?)?;
+    stack.push(Value::List(outputs(alloc)?))?;
+    let own = pairs(alloc, &[("x", 2)])?;
+    frame(alloc, "#0", own, stack)
+}
+
+/// An `exec` inside a call: the caller has a function that captured a reference.
+fn executing(alloc: Global) -> Result<State, Fail> {
+    let bottom = frame(alloc, "", calling(alloc)?, Vec::new(alloc))?;
+    let mut frames = one(alloc, bottom)?;
+    frames.push(executor(alloc)?)?;
     Ok(waiting(alloc, frames))
 }
 
