@@ -5,7 +5,7 @@ use Rattle.sky_base.specs.Op.{Answer}
 use Rattle.sky_base.specs.Tree.{Place}
 use Rattle.sky_base.specs.Res.{others, visits, Object, End, St, Fin, Wait, one_of, all_of}
 use Rattle.sky_base.specs.Eval.{World, body_of, exec_end, read_end, plug, wait_end}
-use Rattle.sky_base.specs.Read.{Halt, Frame, frames_of, run_of_halt, segment, first_end, first_halt}
+use Rattle.sky_base.specs.Read.{Halt, Frame, frames_of, run_of_halt, segment, first_end, first_halt, rest_of}
 use Rattle.sky_law.specs.Sound.{IsFun, Sound, SoundDesc, SoundFrame, SoundObject}
 use Rattle.sky_law.specs.Tasks.{Each}
 use Rattle.sky_law.proofs.CountLaw.{Climbs}
@@ -20,8 +20,10 @@ use Rattle.sky_state.proofs.SavedLaw.{saved_fits}
 use Rattle.sky_rests.specs.Taken.{AllTaken}
 use Rattle.sky_rests.proofs.FitTaken.{fit_taken}
 use Rattle.sky_rests.proofs.RestLaw.{rest_chained}
+use Rattle.sky_waits.specs.Waits.{wait_in}
 use Rattle.sky_refits.specs.Laws.{Saved}
 use Rattle.sky_refits.specs.Sounds.{SoundWorld, SoundEnd, EndsSound, asked}
+use Rattle.sky_refits.proofs.Asked.{forms_asked}
 use Rattle.sky_refits.proofs.Back.{P, Q, V, Keeps, vars_out, bottom_fun, forms_back}
 use Rattle.sky_refits.proofs.Climb.{Higher, plug_climbs, first_higher}
 use Rattle.sky_refits.proofs.Fines.{FirstEndOk, FirstHaltOk, plug_fine, made_fine, end_fine, halt_fine}
@@ -88,7 +90,7 @@ module _ (w : World (List ℕ)) (sound : SoundWorld w) where
   frames_sound [] h = tt
   frames_sound (f ∷ fs) h = ((vars_out w f.vars h.0.0, h.0.1, h.0.2), frames_sound fs h.1)
 
-  module _ (f : List ℕ) (j : ℕ) (h : Halt (List ℕ)) (e : End (List ℕ)) (saved : Saved w f j h) (ends : SoundEnd w.script e) where
+  module _ (f : List ℕ) (j : ℕ) (h : Halt (List ℕ)) (saved : Saved w f j h) where
     few : length (frames_of h.forms f h.st.vars) ≤ suc others
     few = saved.fits.few_frames
 
@@ -99,28 +101,41 @@ module _ (w : World (List ℕ)) (sound : SoundWorld w) where
     taken : AllTaken h.forms
     taken = fit_taken w.script h.forms (body_places (body_of f w.script)) saved.follow saved.all_opened
 
-    fine : Fine w (P w) (Q w) (V w) any_made others (plug w others h.forms (Fin e h.st))
-    fine = plug_fine w (P w) (Q w) (V w) closed h.forms others e h.st back.0 taken (end_ok e ends) back.1
-
-    climbs : Climbs w h.st.count [] (plug w others h.forms (Fin e h.st))
-    climbs = plug_climbs w h.forms others h.st.count e h.st (late e h.st saved.fits.count)
-
-    pub makes_sound : Each (SoundDesc w.script) (segment (plug w others h.forms (Fin e h.st)))
-    makes_sound = made_fine w (P w) (Q w) (V w) closed (plug w others h.forms (Fin e h.st)) others fine
-
-    pub ends_sound : EndsSound w.script (first_end (plug w others h.forms (Fin e h.st)))
-    ends_sound =
-        ok_end (first_end (plug w others h.forms (Fin e h.st))) (end_fine w (P w) (Q w) (V w) closed (plug w others h.forms (Fin e h.st)) others fine)
-
     is_fun : (f ≡ []) ⊎ IsFun w.script f
     is_fun =
         bottom_fun w (λ x. (x ≡ []) ⊎ IsFun w.script x) h.forms f h.st.vars (λ g gs is. (subst (FunsOf w.script) is saved.fits.functions).0)
 
-    pub fits_again : (g : Halt (List ℕ)) → first_halt (plug w others h.forms (Fin e h.st)) ≡ Some g → FitsRun w.script (run_of_halt f (suc j) g)
-    fits_again g is =
-        let ok : FirstHaltOk w (P w) (Q w) (V w) closed others (Some g) = subst (FirstHaltOk w (P w) (Q w) (V w) closed others) is (halt_fine w (P w) (Q w) (V w) closed (plug w others h.forms (Fin e h.st)) others fine) in
-        let higher : Higher w h.st.count (Some g) = subst (Higher w h.st.count) is (first_higher w (plug w others h.forms (Fin e h.st)) h.st.count [] climbs) in
-        let left : length (frames_of g.forms f g.st.vars) + inner w g.forms others ≡ suc others = frames_left w (P w) (Q w) (V w) g.forms others f g.st.vars ok.0 in
-        let before : j ≤ h.st.count = saved.fits.waits in
-        let sounds : Each (SoundFrame w.script) (frames_of g.forms f g.st.vars) = frames_sound (frames_of g.forms f g.st.vars) (frames_ok w (P w) (Q w) (V w) g.forms others f g.st.vars ok.0 is_fun ok.1) in
-        saved_fits w.script f (suc j) g (rest_chained w others f h.forms e h.st g saved.follow saved.all_opened is) sounds (omega (arith, left)) higher.1 (omega arith) (omega (arith, before, higher.0))
+    module _ (e : End (List ℕ)) (ends : SoundEnd w.script e) where
+      fine : Fine w (P w) (Q w) (V w) any_made others (plug w others h.forms (Fin e h.st))
+      fine = plug_fine w (P w) (Q w) (V w) closed h.forms others e h.st back.0 taken (end_ok e ends) back.1
+
+      climbs : Climbs w h.st.count [] (plug w others h.forms (Fin e h.st))
+      climbs = plug_climbs w h.forms others h.st.count e h.st (late e h.st saved.fits.count)
+
+      pub makes_sound : Each (SoundDesc w.script) (segment (plug w others h.forms (Fin e h.st)))
+      makes_sound = made_fine w (P w) (Q w) (V w) closed (plug w others h.forms (Fin e h.st)) others fine
+
+      pub ends_sound : EndsSound w.script (first_end (plug w others h.forms (Fin e h.st)))
+      ends_sound =
+          ok_end (first_end (plug w others h.forms (Fin e h.st))) (end_fine w (P w) (Q w) (V w) closed (plug w others h.forms (Fin e h.st)) others fine)
+
+      pub fits_again : (g : Halt (List ℕ)) → first_halt (plug w others h.forms (Fin e h.st)) ≡ Some g → FitsRun w.script (run_of_halt f (suc j) g)
+      fits_again g is =
+          let ok : FirstHaltOk w (P w) (Q w) (V w) closed others (Some g) = subst (FirstHaltOk w (P w) (Q w) (V w) closed others) is (halt_fine w (P w) (Q w) (V w) closed (plug w others h.forms (Fin e h.st)) others fine) in
+          let higher : Higher w h.st.count (Some g) = subst (Higher w h.st.count) is (first_higher w (plug w others h.forms (Fin e h.st)) h.st.count [] climbs) in
+          let left : length (frames_of g.forms f g.st.vars) + inner w g.forms others ≡ suc others = frames_left w (P w) (Q w) (V w) g.forms others f g.st.vars ok.0 in
+          let before : j ≤ h.st.count = saved.fits.waits in
+          let sounds : Each (SoundFrame w.script) (frames_of g.forms f g.st.vars) = frames_sound (frames_of g.forms f g.st.vars) (frames_ok w (P w) (Q w) (V w) g.forms others f g.st.vars ok.0 is_fun ok.1) in
+          saved_fits w.script f (suc j) g (rest_chained w others f h.forms e h.st g saved.follow saved.all_opened is) sounds (omega (arith, left)) higher.1 (omega arith) (omega (arith, before, higher.0))
+
+    -- ---- where objects answer
+
+    module _ (os : List (Object (List ℕ))) (waits : wait_in w.script h.forms ≡ Some h.wait) (objects : Each (SoundObject w.script) os) where
+      answered : SoundEnd w.script (wait_end w h.wait os)
+      answered = wait_ends h.wait os (forms_asked w h.forms others h.wait back.0 waits) objects
+
+      pub fits_answered : (g : Halt (List ℕ)) → first_halt (rest_of w others h os) ≡ Some g → FitsRun w.script (run_of_halt f (suc j) g)
+      fits_answered g is = fits_again (wait_end w h.wait os) answered g is
+
+      pub makes_answered : Each (SoundDesc w.script) (segment (rest_of w others h os)) × EndsSound w.script (first_end (rest_of w others h os))
+      makes_answered = (makes_sound (wait_end w h.wait os) answered, ends_sound (wait_end w h.wait os) answered)

@@ -1,6 +1,6 @@
 //! Laws of stacks that go on. Each is the contract of a function that does nothing.
 
-ghost use Rattle.sky_refits.specs.Laws.{AnswersAreSound, StackFitsAgain, StackMakesSound};
+ghost use Rattle.sky_refits.specs.Laws.{AnsweredFitsAgain, AnsweredMakesSound, AnswersAreSound, StackFitsAgain, StackMakesSound};
 
 /// Where what is read as data is sound, sound objects in answer to a wait give it a sound end.
 pub fn answers_are_sound()
@@ -13,4 +13,10 @@ pub fn answers_are_sound()
 pub fn stacks_fit_again()
     ensures fits { StackFitsAgain }
     ensures makes { StackMakesSound }
+{}
+
+/// The same where the stack waits for what its forms wait for, and sound objects answer it.
+pub fn answered_stacks_fit_again()
+    ensures fits { AnsweredFitsAgain }
+    ensures makes { AnsweredMakesSound }
 {}
