@@ -4,11 +4,11 @@ use Rattle.sky_base.specs.Res.{others, bodies, with_vars, fails}
 use Rattle.sky_base.specs.Eval.{Body, bind, body_of, eval_block}
 use Rattle.sky_base.specs.See.{start_st}
 use Rattle.sky_base.specs.declared.fault.FaultKind.{FaultKind}
+use Rattle.sky_law.proofs.BodiesLaw.{body_stands}
 use Rattle.sky_scope.specs.Plain.{Vars}
 use Rattle.sky_entries.specs.Config.{body_in, rest_in, config}
 use Rattle.sky_entries.specs.Entries.{forms}
 use Rattle.sky_calls.proofs.Begun.{body_opened}
-use Rattle.sky_calls.proofs.Found.{body_found}
 use Rattle.sky_machine.proofs.Starts.{no_start}
 use Rattle.sky_machine.proofs.start.start.Goals as goal
 
@@ -17,7 +17,7 @@ returns-in_default-clause-same c = λ w h.
     ap (λ x. config w c.args.entries.now.items x c.args.state.now) c.fail.ensures ∙ ap (λ es. rest_in w es (fails FaultKind.BadKind nowhere c.args.state.now)) c.requires.none ∙ ap (fails FaultKind.BadKind nowhere) c.requires.state ∙ no_start w c.args.code.now others c.args.fun.now c.args.caught.now c.args.args.now nowhere start_st h c.in_default.ensures
 
 pub open_block-requires-clause-has : goal.open_block-requires-clause-has
-open_block-requires-clause-has c = body_found c.args.code.now c.args.fun.now _ c.in-Some.ensures
+open_block-requires-clause-has c = body_stands c.args.code.now c.args.fun.now _ c.in-Some.ensures
 
 pub returns-clause-same : goal.returns-clause-same
 returns-clause-same c = λ w h.
