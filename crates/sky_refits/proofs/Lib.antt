@@ -1,0 +1,5 @@
+pub mod Climb
+pub mod Fines
+pub mod Back
+pub mod Asked
+pub mod Again
