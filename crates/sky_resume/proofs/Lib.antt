@@ -2,3 +2,4 @@ pub mod Limits
 pub mod Saves
 pub mod Stacks
 pub mod Goes
+pub mod StandLaw

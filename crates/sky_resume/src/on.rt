@@ -16,6 +16,7 @@ ghost use Rattle.sky_saved.specs.Saving.{AllCanSave};
 ghost use Rattle.sky_state.specs.Fits.{FitsRun};
 ghost use Rattle.sky_waits.specs.Waits.{wait_in};
 ghost use Rattle.sky_waits.specs.Answers.{ReadsData, AnswersKept};
+ghost use Rattle.sky_resume.specs.Standing.{GoesOnAs, MakesAs};
 ghost use Rattle.sky_resume.specs.Comes.{StepsFit, over_names, with_name, run_of, LeftAt, object_at, Comes, bottom_fun};
 
 use ciel_name::name::Namer;
@@ -117,6 +118,28 @@ fn run_from<'a, N: Namer>(
 ///
 /// Answers `Memory` for want of memory.
 pub fn go_on<'a, N: Namer>(
+    alloc: Global,
+    script: &'a Numbered<'a>,
+    run: &mut RunState,
+    answers: &[Object],
+    namer: &'a N,
+) -> Result<Came, Memory>
+    requires same { script.now.nodes ≡ script.now.code }
+    requires steps { StepsFit script.now.code }
+    requires fits { FitsRun script.now.code (run_of run.old) }
+    requires waits { 0 < run.old.waits }
+    requires answers { AnswersKept answers.now }
+    ensures comes { IfOk result (λ c. (f : List ℕ) (h : Halt (List ℕ)) → LeftAt script.now.code f h (run_of run.old) → Comes f run.old.waits (rest_of (over_names (N.digest namer.now) script.now.code) others h (map object_view answers.now)) c (run_of run.new)) }
+    ensures made { IfOk result (λ c. (f : List ℕ) (h : Halt (List ℕ)) → LeftAt script.now.code f h (run_of run.old) → run.new.spawned ≡ run.old.spawned ++ map (with_name (N.digest namer.now)) (segment (rest_of (over_names (N.digest namer.now) script.now.code) others h (map object_view answers.now)))) }
+    ensures stands { IfOk result (λ c. GoesOnAs (N.digest namer.now) script.now.code (run_of run.old) answers.now c (run_of run.new)) }
+    ensures makes { IfOk result (λ c. MakesAs (N.digest namer.now) script.now.code (run_of run.old) answers.now run.old.spawned run.new.spawned) }
+{
+    let came = from_wait(alloc, script, run, answers, namer)?;
+    Ok(came)
+}
+
+/// The stack is opened, its wait is ended, and the run goes on from there.
+fn from_wait<'a, N: Namer>(
     alloc: Global,
     script: &'a Numbered<'a>,
     run: &mut RunState,
