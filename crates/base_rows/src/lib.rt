@@ -1,4 +1,4 @@
-// Worked rows of values, names and data, called one by one. They stand in a crate of their own, since
+// Worked rows of values, names, data, files and the journal, called one by one. They stand in a crate of their own, since
 // a crate with tests is proved twice.
 #![tactic(auto)]
 
@@ -7,6 +7,10 @@ mod data;
 #[cfg(test)]
 mod functions;
 #[cfg(test)]
+mod journal;
+#[cfg(test)]
 mod names;
+#[cfg(test)]
+mod outside;
 #[cfg(test)]
 mod values;

@@ -11,5 +11,3 @@ pub mod mem_sink;
 mod room;
 mod shelf;
 pub mod sink;
-#[cfg(test)]
-mod tests;

@@ -3,6 +3,4 @@
 #![tactic(auto)]
 
 pub mod law;
-#[cfg(test)]
-mod tests;
 pub mod turn;

@@ -4,6 +4,4 @@
 pub mod law;
 pub mod lex;
 mod scan;
-#[cfg(test)]
-mod tests;
 pub mod token;

@@ -1,7 +1,7 @@
-//! Each call once with ample memory, and the laws at a type of names.
+// The journal: each call once with ample memory, and the laws at a type of names.
 
-use crate::law;
-use crate::turn::{first_due, has, idle, is_idle};
+use ciel_journal::law;
+use ciel_journal::turn::{first_due, has, idle, is_idle};
 use std::test::Fail;
 
 #[test]

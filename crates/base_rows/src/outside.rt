@@ -1,10 +1,10 @@
-// What no clause says: that the calls succeed with ample memory, and what the host does.
+// Files and sinks: what no clause says, that the calls succeed with ample memory, and what the host does.
 
-use crate::files::{FileRefusal, Files};
-use crate::host::{HostErr, HostFiles, HostOut, HostStream};
-use crate::mem_files::{MemFiles, SureFiles};
-use crate::mem_sink::{MemSink, SureSink};
-use crate::sink::{Failed, Sink};
+use ciel_io::files::{FileRefusal, Files};
+use ciel_io::host::{HostErr, HostFiles, HostOut, HostStream};
+use ciel_io::mem_files::{MemFiles, SureFiles};
+use ciel_io::mem_sink::{MemSink, SureSink};
+use ciel_io::sink::{Failed, Sink};
 use sky_base::text::{Bytes, Txt};
 use std::alloc::Global;
 use std::fmt::Display;

@@ -1,0 +1,4 @@
+pub mod Walks
+pub mod Signs
+pub mod Blocks
+pub mod Together
