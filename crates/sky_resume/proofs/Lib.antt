@@ -3,3 +3,4 @@ pub mod Saves
 pub mod Stacks
 pub mod Goes
 pub mod StandLaw
+pub mod Begins

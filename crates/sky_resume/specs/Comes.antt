@@ -1,6 +1,6 @@
 -- What the stack of a run at a wait is, and what it comes to when the wait is answered.
 use Rattle.std.specs.Prelude.{◌≡◌, ℕ, suc, ◌<◌, ◌^◌, List, [], ◌∷◌, Some}
-use Rattle.sky_base.specs.Val.{Desc, null}
+use Rattle.sky_base.specs.Val.{Pairs, Desc, no_pairs, null}
 use Rattle.sky_base.specs.Name.{digested}
 use Rattle.sky_base.specs.Tree.{Script}
 use Rattle.sky_base.specs.Res.{Object, End, St}
@@ -38,6 +38,11 @@ run_of r = record { frames = r.frames; count = r.count; waits = r.waits }
 abbrev pub bottom_fun : List (Frame (List ℕ)) → List ℕ
 bottom_fun [] = []
 bottom_fun (f ∷ fs) = f.fun
+
+-- the variables of the bottom frame
+abbrev pub bottom_vars : List (Frame (List ℕ)) → Pairs (List ℕ)
+bottom_vars [] = no_pairs
+bottom_vars (f ∷ fs) = f.vars
 
 -- the stack is that of a call of the function f at this wait: of its forms under way, which follow each other, are each opened by what
 -- is saved of them, and wait for what the call waits for

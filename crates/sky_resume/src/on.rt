@@ -11,7 +11,7 @@ ghost use Rattle.sky_base.specs.ObjectView.{object_view};
 ghost use Rattle.sky_law.specs.Nodes.{node_at};
 ghost use Rattle.sky_entries.specs.Config.{config, opened};
 ghost use Rattle.sky_entries.specs.Entries.{forms, end_of};
-ghost use Rattle.sky_entries.specs.Ready.{AllReady, AreReady, EndReady};
+ghost use Rattle.sky_entries.specs.Ready.{AllReady, AreReady, EndReady, Goes};
 ghost use Rattle.sky_saved.specs.Saving.{AllCanSave};
 ghost use Rattle.sky_state.specs.Fits.{FitsRun};
 ghost use Rattle.sky_waits.specs.Waits.{wait_in};
@@ -79,28 +79,28 @@ fn end_of_wait(
     }
 }
 
-/// Runs on from the end of the innermost form's part, and leaves the stack of the next wait, where there is one.
-fn run_from<'a, N: Namer>(
+/// Runs on from what is to be done next, and leaves the stack of the next wait, where there is one.
+pub(crate) fn run_from<'a, N: Namer>(
     ground: &Ground<'a, N>,
     run: &mut RunState,
     fun: &Txt,
     state: &mut State,
     left: &mut u32,
     entries: &mut Vec<Entry<'a>>,
-    end: End,
+    control: Control<'a>,
 ) -> Result<Came, Memory>
     requires ready { AllReady ground.now.code.now entries.old.items }
-    requires end { EndReady end }
+    requires goes { Goes ground.now.code.now control }
     requires room { opened (forms entries.old.items) + left.old ≡ others }
     requires within { state.old.count ≤ visits }
     requires waits { run.old.waits < 2 ^ 32 - 1 }
-    requires saves { (h : Halt (List ℕ)) → first_halt (config (over_names (N.digest ground.now.namer.now) ground.now.code.now) entries.old.items (Control.End end) state.old) ≡ Some h → AreReady (λ i. node_at ground.now.code.now i) h.forms → AllCanSave h.forms }
-    ensures comes { IfOk result (λ c. Comes fun.now run.old.waits (config (over_names (N.digest ground.now.namer.now) ground.now.code.now) entries.old.items (Control.End end) state.old) c (run_of run.new)) }
-    ensures made { IfOk result (λ c. run.new.spawned ≡ run.old.spawned ++ map (with_name (N.digest ground.now.namer.now)) (segment (config (over_names (N.digest ground.now.namer.now) ground.now.code.now) entries.old.items (Control.End end) state.old))) }
+    requires saves { (h : Halt (List ℕ)) → first_halt (config (over_names (N.digest ground.now.namer.now) ground.now.code.now) entries.old.items control state.old) ≡ Some h → AreReady (λ i. node_at ground.now.code.now i) h.forms → AllCanSave h.forms }
+    ensures comes { IfOk result (λ c. Comes fun.now run.old.waits (config (over_names (N.digest ground.now.namer.now) ground.now.code.now) entries.old.items control.entry state.old) c (run_of run.new)) }
+    ensures made { IfOk result (λ c. run.new.spawned ≡ run.old.spawned ++ map (with_name (N.digest ground.now.namer.now)) (segment (config (over_names (N.digest ground.now.namer.now) ground.now.code.now) entries.old.items control.entry state.old))) }
 {
     let alloc = ground.alloc;
     let mut made = mem::replace(&mut run.spawned, Spawned::new(alloc)).into_vec();
-    let stop = run_on(ground, state, left, &mut made, entries, Control::End(end))?;
+    let stop = run_on(ground, state, left, &mut made, entries, control)?;
     run.spawned = Spawned::of(made);
     match stop {
         Stop::Ended(end) => Ok(Came::Ended(object_of(end))),
@@ -166,12 +166,20 @@ fn from_wait<'a, N: Namer>(
         code: &script.code,
         namer,
     };
-    let came = run_from(&ground, run, &fun, &mut state, &mut left, &mut entries, end)?;
+    let came = run_from(
+        &ground,
+        run,
+        &fun,
+        &mut state,
+        &mut left,
+        &mut entries,
+        Control::End(end),
+    )?;
     Ok(came)
 }
 
 /// The name of the function of the bottom frame.
-fn bottom(alloc: Global, run: &RunState) -> Result<Txt, Memory>
+pub(crate) fn bottom(alloc: Global, run: &RunState) -> Result<Txt, Memory>
     ensures { IfOk result (λ f. f ≡ bottom_fun run.now.frames) }
 {
     match run.frames.as_slice().first() {

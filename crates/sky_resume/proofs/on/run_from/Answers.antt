@@ -2,7 +2,6 @@ use Rattle.std.proofs.Common.{◌++◌, map, sym, ap, ◌∙◌, subst, add-one}
 use Rattle.sky_base.specs.Read.{frames_of, segment}
 use Rattle.sky_entries.specs.Config.{config}
 use Rattle.sky_entries.specs.Entries.{forms, end_of, wait_of}
-use Rattle.sky_entries.specs.declared.control.Control.{Control}
 use Rattle.sky_saved.specs.Saving.{AllCanSave}
 use Rattle.sky_resume.specs.Comes.{over_names, with_name}
 use Rattle.sky_resume.proofs.Goes.{runs_on, grew_named}
@@ -20,7 +19,7 @@ returns-in-Ended-clause-made g c =
     let sc = c.args.ground.now.code.now in
     let w = over_names digest sc in
     let grew = c.in_ok-stop.ensures.made w (runs_on digest sc) in
-    let ds = segment (config w c.args.entries.now.items (Control.End c.args.end) c.args.state.now) in
+    let ds = segment (config w c.args.entries.now.items c.args.control c.args.state.now) in
     c.of.ensures
     ∙ grew_named digest c.into_vec-made.result.items c.run_on.new.made.items ds grew.descs grew.names
     ∙ ap (λ xs. xs ++ map (with_name digest) ds) (c.into_vec-made.ensures ∙ c.replace.ensures.value)
@@ -46,7 +45,7 @@ returns-clause-made g c =
     let sc = c.args.ground.now.code.now in
     let w = over_names digest sc in
     let grew = c.in_ok-stop.ensures.made w (runs_on digest sc) in
-    let ds = segment (config w c.args.entries.now.items (Control.End c.args.end) c.args.state.now) in
+    let ds = segment (config w c.args.entries.now.items c.args.control c.args.state.now) in
     c.of.ensures
     ∙ grew_named digest c.into_vec-made.result.items c.run_on.new.made.items ds grew.descs grew.names
     ∙ ap (λ xs. xs ++ map (with_name digest) ds) (c.into_vec-made.ensures ∙ c.replace.ensures.value)
