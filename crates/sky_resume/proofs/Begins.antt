@@ -1,8 +1,8 @@
 -- A call at its start.
 use Rattle.std.proofs.Common.{◌≡◌, ◌+◌, ℕ, List, [], ◌∷◌, Option, Some, None, refl, sym, ap, ◌∙◌, subst}
-use Rattle.sky_base.specs.Val.{Val, Vals, Pairs, Desc, no_vals, val}
-use Rattle.sky_base.specs.Tree.{Script, Stms, nowhere}
-use Rattle.sky_base.specs.Res.{others, bodies, Object, End, St, Res, with_vars, block_at}
+use Rattle.sky_base.specs.Val.{Vals, Pairs, no_vals}
+use Rattle.sky_base.specs.Tree.{Script, nowhere}
+use Rattle.sky_base.specs.Res.{others, bodies, End, block_at}
 use Rattle.sky_base.specs.Eval.{World, Body, bind, body_of, body_at, eval_block}
 use Rattle.sky_base.specs.Read.{Frame, Run, Halt, halt, first_halt}
 use Rattle.sky_base.specs.See.{start_st}
@@ -20,7 +20,7 @@ use Rattle.sky_entries.specs.declared.entry.Entry.{Entry}
 use Rattle.sky_calls.proofs.Begun.{body_opened}
 use Rattle.sky_saved.specs.Saving.{AllCanSave}
 use Rattle.sky_state.specs.Stand.{Stand}
-use Rattle.sky_state.specs.Start.{StartsIn, StartsCall, start_in}
+use Rattle.sky_state.specs.Start.{StartsIn, StartsCall}
 use Rattle.sky_state.specs.Fits.{FitsFrame}
 use Rattle.sky_state.specs.Chained.{body_places, Chained}
 use Rattle.sky_state.proofs.LinkLaw.{linked_call}

@@ -1,4 +1,4 @@
-use Rattle.std.proofs.Common.{◌≡◌, ◌++◌, List, ℕ, map, sym, ap, ◌∙◌, subst}
+use Rattle.std.proofs.Common.{◌≡◌, ◌++◌, map, sym, ap, ◌∙◌, subst}
 use Rattle.sky_base.specs.Tree.{nowhere}
 use Rattle.sky_base.specs.Res.{bodies}
 use Rattle.sky_base.specs.Eval.{Body, body_of, body_at}
@@ -6,7 +6,7 @@ use Rattle.sky_base.specs.Read.{first_halt, segment}
 use Rattle.sky_base.specs.See.{start_st}
 use Rattle.sky_scope.specs.RunView.{KeptPairs}
 use Rattle.sky_entries.specs.Config.{config}
-use Rattle.sky_calls.proofs.Found.{body_found}
+use Rattle.sky_law.proofs.BodiesLaw.{body_stands}
 use Rattle.sky_resume.specs.Comes.{over_names, with_name, run_of, bottom_vars, Comes}
 use Rattle.sky_resume.proofs.Begins.{start_kept, start_fun, starts_so, begun, start_saves}
 use Rattle.sky_resume.proofs.start.begin.Goals as goal
@@ -16,7 +16,7 @@ of-state-requires g c =
     subst (λ vs. KeptPairs vs) (sym c.in_ok-variables.ensures) (start_kept c.args.script.now.code c.args.run.now.frames c.requires.fits.frames)
 
 pub open_block-requires-clause-has : goal.open_block-requires-clause-has
-open_block-requires-clause-has g c = body_found c.args.script.now.code c.in_ok-fun.fun _ c.in-Some.ensures
+open_block-requires-clause-has g c = body_stands c.args.script.now.code c.in_ok-fun.fun _ c.in-Some.ensures
 
 pub run_from-requires-clause-saves : goal.run_from-requires-clause-saves
 run_from-requires-clause-saves g c = λ h is ready.
