@@ -4,7 +4,7 @@ use Rattle.std.proofs.lemmas.List.{append-nil}
 use Rattle.ciel_journal.specs.Job.{Digest, Job, In, Each, IsJob}
 use Rattle.ciel_journal.specs.Known.{Inner}
 use Rattle.ciel_journal.proofs.Numbers.{in_left, last_in}
-use Rattle.ciel_reports.specs.Report.{Clashes, Clear, Exact, Or, Tells}
+use Rattle.ciel_reports.specs.Report.{ClashAmong, Clear, Exact, Or, Tells}
 use Rattle.ciel_reports.proofs.Growing.{Clean, Tabled, clean_more, tabled_more}
 
 module _ {D B : Type 0} (job : Job D) (laws : IsJob job) (inner : Inner D) (lower : D → B) (named : B → Digest) (exact : Exact job inner lower named) where
@@ -35,7 +35,7 @@ module _ {D B : Type 0} (job : Job D) (laws : IsJob job) (inner : Inner D) (lowe
   met_more met L d m e (inr k) = in_left e L (d ∷ []) (m e k)
 
   -- one that is known by names clashes with nothing
-  no_clash : (T : List B) (met : D → Type 0) (L : List D) (d : D) → Clean' L → Tabled' T L → MetIn met L → Each (λ e. In e L) (inner.inside d) → In (lower d) T → Clashes job inner lower met d → ⊥
+  no_clash : (T : List B) (met : D → Type 0) (L : List D) (d : D) → Clean' L → Tabled' T L → MetIn met L → Each (λ e. In e L) (inner.inside d) → In (lower d) T → ClashAmong job inner lower met d → ⊥
   no_clash T met L d clean tabled m whole there c =
       let next = clean_more job laws inner lower named exact T L d clean tabled whole there in
       c.3 (next.apart c.0 d (in_left c.0 L (d ∷ []) (m c.0 c.1)) (last_in L d) c.2)

@@ -33,28 +33,55 @@ abbrev pub SaidOf : {D B : Type 0} → (job : Job D) → Inner D → (D → B) �
 SaidOf job inner lower v r =
     (o : OpenStart _) × (find_open job r.number v.orders ≡ Some o) × Says job inner lower o r
 
+-- its name stands for another one of these rows
+pub record IsTaken {B : Type 0} (named : B → Digest) (rows : List B) (kept given : B) : Type 0 where
+  pub there : In kept rows
+  pub same : named kept ≡ named given
+  pub other : kept ≢ given
+
+-- two descriptions with these forms by names, of which an open Start makes the second next, where the first is known
+pub record ClashTold {D B : Type 0} (job : Job D) (lower : D → B) (v : Standing D) (kept given : B) : Type 0 where
+  pub first : D
+  pub second : D
+  pub is_kept : lower first ≡ kept
+  pub is_given : lower second ≡ given
+  pub clashes : segment.Clashes job v first second
+
+-- a description with this form by names, which an open Start makes next, where so many are known
+pub record OverflowTold {D B : Type 0} (job : Job D) (lower : D → B) (v : Standing D) (rows : List B) (given : B) : Type 0 where
+  pub next : D
+  pub is_given : lower next ≡ given
+  pub overflows : segment.Overflows job v (length rows) next
+
 module _ (D B : Type 0) where
   -- said of each job that tells where all comes from, with exact names, and of each such report
   abbrev OfReports : ((job : Job D) → Inner D → (D → B) → (B → Digest) → Plan → Standing D → Report B → Type 0) → Type 0
   OfReports P =
-      (job : Job D) (inner : Inner D) (lower : D → B) (named : B → Digest) → IsJob job → Knows job inner → Exact job inner lower named → (p : Plan) (h : List (Event D)) (o : OpenStart D) (r : Report B) → Reported job inner lower p h o r → P job inner lower named p (standing job h) r
+      (job : Job D) (inner : Inner D) (lower : D → B) (named : B → Digest)
+      → IsJob job → Knows job inner → Exact job inner lower named
+      → (p : Plan) (h : List (Event D)) (o : OpenStart D) (r : Report B) → Reported job inner lower p h o r
+      → P job inner lower named p (standing job h) r
 
   -- where its spawned list is learned, it tells an event
   abbrev pub ReportsAreAllowed : Type 0
   ReportsAreAllowed =
-      OfReports (λ job inner lower named p v r. (IsMissing r.end → ⊥) → (rows : List B) → Learns named (map lower v.book) r.spawned rows → TellsEvent job inner lower p v r rows)
+      OfReports (λ job inner lower named p v r. (IsMissing r.end → ⊥)
+      → (rows : List B) → Learns named (map lower v.book) r.spawned rows → TellsEvent job inner lower p v r rows)
 
-  -- one that comes next and has the name of another one clashes with it
+  -- one that comes next and whose name is taken clashes with what has it
   abbrev pub ClashesAreTold : Type 0
   ClashesAreTold =
-      OfReports (λ job inner lower named p v r. (rows : List B) (kept given : B) → Comes lower named v r rows given → In kept rows → named kept ≡ named given → kept ≢ given → (x d : D) × (lower x ≡ kept) × (lower d ≡ given) × segment.Clashes job v x d)
+      OfReports (λ job inner lower named p v r. (rows : List B) (kept given : B)
+      → Comes lower named v r rows given → IsTaken named rows kept given → ClashTold job lower v kept given)
 
   -- one that comes next and is new overflows where so many are known
   abbrev pub OverflowsAreTold : Type 0
   OverflowsAreTold =
-      OfReports (λ job inner lower named p v r. (rows : List B) (given : B) → Comes lower named v r rows given → IsNew named rows given → (d : D) × (lower d ≡ given) × segment.Overflows job v (length rows) d)
+      OfReports (λ job inner lower named p v r. (rows : List B) (given : B)
+      → Comes lower named v r rows given → IsNew named rows given → OverflowTold job lower v rows given)
 
   -- each allowed event that closes a Start, but for a Missed, is said by the report that tells it
   abbrev pub AllowedIsSaid : Type 0
   AllowedIsSaid =
-      (job : Job D) (inner : Inner D) (lower : D → B) (p : Plan) (v : Standing D) (e : Event D) (r : Report B) → Allowed job p v e → report_of job inner lower e ≡ Some r → (IsMissing r.end → ⊥) → SaidOf job inner lower v r
+      (job : Job D) (inner : Inner D) (lower : D → B) (p : Plan) (v : Standing D) (e : Event D) (r : Report B)
+      → Allowed job p v e → report_of job inner lower e ≡ Some r → (IsMissing r.end → ⊥) → SaidOf job inner lower v r

@@ -13,4 +13,5 @@ use Rattle.ciel_reports.specs.Report.{Exact}
 -- each tag of a description over names names the descriptions exactly
 abbrev pub RealNamesAreExact : Type 0
 RealNamesAreExact =
-    (job : s.Job) (around : s.Around) (mark : s.Obj → Digest) (frozen : n.State → Digest) (tag : v.Desc (List ℕ) → Digest) → Exact (real_job job around (name no_name tag) mark frozen) (real_inner job around) (low_desc no_name tag) tag
+    (job : s.Job) (around : s.Around) (mark : s.Obj → Digest) (frozen : n.State → Digest) (tag : v.Desc (List ℕ) → Digest)
+    → Exact (real_job job around (name no_name tag) mark frozen) (real_inner job around) (low_desc no_name tag) tag

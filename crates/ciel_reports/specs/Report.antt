@@ -39,8 +39,8 @@ module _ {D B : Type 0} (job : Job D) (inner : Inner D) (lower : D → B) where
     brought : (e : D) (n : ℕ) → Given job o e → In d (inner.carries n e) → Met o d
 
   -- one of those that were met is another one of the same name
-  abbrev pub Clashes : (D → Type 0) → D → Type 0
-  Clashes met d = (e : D) × met e × (job.name e ≡ job.name d) × (e ≢ d)
+  abbrev pub ClashAmong : (D → Type 0) → D → Type 0
+  ClashAmong met d = (e : D) × met e × (job.name e ≡ job.name d) × (e ≢ d)
 
   abbrev pub Or : (D → Type 0) → D → D → Type 0
   Or met d e = (e ≡ d) ⊎ met e
@@ -49,17 +49,19 @@ module _ {D B : Type 0} (job : Job D) (inner : Inner D) (lower : D → B) where
   abbrev pub Tells : (D → Type 0) → List D → List B → Type 0
   Tells met [] bs = bs ≡ []
   Tells met (d ∷ ds) bs =
-      (rest : List B) × (bs ≡ lower d ∷ rest) × ((Clashes met d → ⊥) → Tells (Or met d) ds rest)
+      (rest : List B) × (bs ≡ lower d ∷ rest) × ((ClashAmong met d → ⊥) → Tells (Or met d) ds rest)
 
   -- nothing that is made clashes with what was met or made before
   abbrev pub Clear : (D → Type 0) → List D → Type 0
   Clear met [] = Unit {0}
-  Clear met (d ∷ ds) = (Clashes met d → ⊥) × Clear (Or met d) ds
+  Clear met (d ∷ ds) = (ClashAmong met d → ⊥) × Clear (Or met d) ds
 
   -- at the end of the task: its outputs in order with the marks of their objects, and copies of what was waited for
   abbrev pub MadeIs : OpenStart D → End → Type 0
   MadeIs o (made objects names) =
-      (outputs : List (D × Digest)) × (copied : List D) × Marked job (job.outputs o.task) outputs × Each (Copied job o) copied × IsDistinct job.same copied × (objects ≡ low_made job outputs) × (names ≡ low_names job copied)
+      (outputs : List (D × Digest)) × (copied : List D)
+      × Marked job (job.outputs o.task) outputs × Each (Copied job o) copied × IsDistinct job.same copied
+      × (objects ≡ low_made job outputs) × (names ≡ low_names job copied)
   MadeIs o (stopped j mark refs holds) = ⊥
   MadeIs o (missing name loss) = Unit {0}
 
