@@ -1,7 +1,7 @@
 -- A table that holds what stands after a lawful history is that of the history.
-use Rattle.std.proofs.Common.{◌≡◌, ℕ, List, [], ◌∷◌, Option, Some, None, ◌⊎◌, inl, inr, refl, ap, sym, ◌∙◌, subst}
+use Rattle.std.proofs.Common.{◌≡◌, ℕ, List, [], ◌∷◌, Option, Some, None, ◌⊎◌, inl, inr, refl, sym, subst}
 use Rattle.sky_base.specs.declared.object.TaskId.{TaskId}
-use Rattle.ciel_journal.specs.History.{Event, Plan, Standing, learned, standing}
+use Rattle.ciel_journal.specs.History.{Event, Plan, standing}
 use Rattle.ciel_journal.specs.Job.{In, IsJob, Job, Once, Task, of, show}
 use Rattle.ciel_journal.specs.Known.{HeadsFirst, Inner, Knows}
 use Rattle.ciel_journal.specs.Lawful.{Lawful}

@@ -1,28 +1,11 @@
 -- Flags of those that were worked off and pass a test, beside the lists of a search.
-use Rattle.std.proofs.Common.{◌≡◌, ℕ, zero, suc, ◌<◌, List, [], ◌∷◌, ◌++◌, length, set, Bool, true, false, ◌||◌, Some, ◌⊎◌, inl, inr, refl, ap, sym, ◌∙◌, subst, nat_eq, eqb-true, slice_get, replicate}
-use Rattle.std.specs.List.{list_any}
+use Rattle.std.proofs.Common.{◌≡◌, ℕ, zero, suc, ◌<◌, List, [], ◌∷◌, ◌++◌, length, set, Bool, true, false, Some, ◌⊎◌, inl, inr, ap, sym, ◌∙◌, subst, nat_eq, eqb-true, slice_get, replicate}
 use Rattle.ciel_want.specs.Search.{Among}
 use Rattle.ciel_journal.proofs.Booked.{any_join_cases, any_join_left}
 use Rattle.ciel_journal.proofs.Members.{bool_cases}
-use Rattle.ciel_want.proofs.Searching.{nothing}
+use Rattle.ciel_want.proofs.Searching.{among_cases, among_right, nothing}
 use Rattle.ciel_want.specs.Marked.{Flagged}
 use Rattle.ciel_want.proofs.Marking.{set_here, set_other}
-
-join_right : (e : ℕ) (xs ys : List ℕ) → Among e ys → Among e (xs ++ ys)
-join_right e [] ys a = a
-join_right e (x ∷ xs) ys a = pick (nat_eq e x) (join_right e xs ys a)
-  where
-    pick : (b : Bool) → Among e (xs ++ ys) → b || list_any (nat_eq e) (xs ++ ys) ≡ true
-    pick true h = refl
-    pick false h = h
-
-join_cases : (e : ℕ) (xs ys : List ℕ) → Among e (xs ++ ys) → Among e xs ⊎ Among e ys
-join_cases e [] ys a = inr a
-join_cases e (x ∷ xs) ys a = pick (nat_eq e x) (join_cases e xs ys) a
-  where
-    pick : (b : Bool) → (Among e (xs ++ ys) → Among e xs ⊎ Among e ys) → b || list_any (nat_eq e) (xs ++ ys) ≡ true → (b || list_any (nat_eq e) xs ≡ true) ⊎ Among e ys
-    pick true r h = inl refl
-    pick false r h = r h
 
 none_flagged : (n e : ℕ) → slice_get (replicate n false) e ≡ Some true → ⊥
 none_flagged zero e h = cc
@@ -60,11 +43,11 @@ module _ (test : ℕ → Bool) where
       worked e (inr k) = inr (kept e (bool_cases (nat_eq e d)) k)
 
       done : (e : ℕ) → Among e (seen ++ new) → Among e (rest ++ new) ⊎ (slice_get (set ready d (test d)) e ≡ Some (test e))
-      done e a = turn (join_cases e seen new a)
+      done e a = turn (among_cases e seen new a)
         where
           turn : Among e seen ⊎ Among e new → Among e (rest ++ new) ⊎ (slice_get (set ready d (test d)) e ≡ Some (test e))
           turn (inl o) = worked e (s.done e o)
-          turn (inr n) = inl (join_right e rest new n)
+          turn (inr n) = inl (among_right e rest new n)
 
       only : (e : ℕ) → Flagged (set ready d (test d)) e → Among e (seen ++ new)
       only e f = any_join_left (nat_eq e) seen new (turn (bool_cases (nat_eq e d)))

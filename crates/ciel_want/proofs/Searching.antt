@@ -17,7 +17,7 @@ among_left e (x ∷ xs) ys h = pick (nat_eq e x) (among_left e xs ys) h
     pick true r h = refl
     pick false r h = r h
 
-among_right : (e : ℕ) (xs ys : List ℕ) → Among e ys → Among e (xs ++ ys)
+pub among_right : (e : ℕ) (xs ys : List ℕ) → Among e ys → Among e (xs ++ ys)
 among_right e [] ys h = h
 among_right e (x ∷ xs) ys h = pick (nat_eq e x) (among_right e xs ys h)
   where
@@ -25,7 +25,7 @@ among_right e (x ∷ xs) ys h = pick (nat_eq e x) (among_right e xs ys h)
     pick true r = refl
     pick false r = r
 
-among_cases : (e : ℕ) (xs ys : List ℕ) → Among e (xs ++ ys) → Among e xs ⊎ Among e ys
+pub among_cases : (e : ℕ) (xs ys : List ℕ) → Among e (xs ++ ys) → Among e xs ⊎ Among e ys
 among_cases e [] ys h = inr h
 among_cases e (x ∷ xs) ys h = pick (nat_eq e x) (among_cases e xs ys) h
   where

@@ -1,11 +1,12 @@
 -- At each wait of a run its innermost form waits for what the run waits for.
 use Rattle.std.proofs.Common.{◌≡◌, ℕ, zero, suc, ◌+◌, Bool, true, false, List, [], ◌∷◌, ◌++◌, map, length, reverse, Option, Some, None, Ok, Err, nat_lt, nat_eq, ◌&&◌, pos, negsuc, slice_get, refl, sym, ap, ◌∙◌, subst, arith}
-use Rattle.sky_base.specs.Val.{Val, Vals, Pairs, Desc, null, truth, num, text, list, dict, fun, ref, no_vals, val, no_pairs, count, vals_of, refs_to, same_text}
+use Rattle.sky_base.specs.Val.{Val, Vals, Pairs, Desc, null, truth, num, text, list, dict, fun, ref, no_vals, val, no_pairs, count, vals_of, refs_to}
 use Rattle.sky_base.specs.Op.{Answer, index, find, negated, opposite, len, keys, has, range, limited, set_at, grown, dict_from}
-use Rattle.sky_base.specs.Tree.{Place, nowhere, Junction, Sign, SignAt, Form, Exp, Exps, Links, Ands, Steps, Stm, Stms, Arms, Else, FunDef, Script, nodes, exps_nodes, stm_nodes, block_nodes, arms_nodes}
+use Rattle.sky_base.specs.Tree.{Place, nowhere, Junction, Sign, SignAt, Form, Exp, Exps, Links, Ands, Steps, Stm, Stms, Arms, Else, FunDef, nodes, exps_nodes, stm_nodes, block_nodes, arms_nodes}
 use Rattle.sky_base.specs.Res.{visits, Object, End, St, Entry, parens_in, part_at, chain_first, chain_more, logic_at, prefix_part, star_wait, postfix_first, index_at, arg_at, call_open, exec_wait, set_part, add_part, put_index, put_value, return_part, just_part, arm_test, while_test, while_body, repeat_body, repeat_test, for_list, for_body, block_at, node_of, Wait, one_of, all_of, Res, Fin, Tell, Ask, then_do, on_got, on_goes, with_vars, on_body, gives, counted, visited, visit, answer, tell_all}
-use Rattle.sky_base.specs.Eval.{World, find_fun, is_one_of, Body, find_body, find_body_if, body_of, bind, set_var, lit_val, named, closed, oper, outputs, truth_of, decide, joins, add_to, put_in, turns, repeats, each, each_of, with_one, with_two, with_three, ask, wait_end, spawn_if, spawn_fun, spawn_list, spawned, outputs_if, outputs_count, outputs_of, exec_ask, input_if, input_of, formed, deref, signed, signs, call_if, call_fun, called, enter, eval, eval_parts, eval_links, eval_ands, eval_steps, eval_args, eval_stm, eval_stms, eval_arms, eval_else, in_body, body_at}
-use Rattle.sky_law.specs.Opened.{Node, exp_node, block_node, times, next_sign, HasExp, HasExps, HasLinks, HasAnds, HasSteps, HasStm, HasStms, HasArms, HasElse, HasFuns, HasScript}
+use Rattle.sky_base.specs.Eval.{World, find_fun, is_one_of, Body, body_of, bind, set_var, lit_val, named, closed, oper, outputs, truth_of, decide, joins, add_to, put_in, turns, repeats, each, each_of, with_one, with_two, with_three, ask, wait_end, spawn_if, spawn_fun, spawn_list, spawned, outputs_if, outputs_count, outputs_of, exec_ask, input_if, input_of, formed, deref, signed, signs, call_if, call_fun, called, enter, eval, eval_parts, eval_links, eval_ands, eval_steps, eval_args, eval_stm, eval_stms, eval_arms, eval_else, in_body, body_at}
+use Rattle.sky_law.specs.Opened.{Node, exp_node, times, next_sign, HasExp, HasExps, HasLinks, HasAnds, HasSteps, HasStm, HasStms, HasArms, HasElse, HasScript}
+use Rattle.sky_law.proofs.BodiesLaw.{HasBody, has_body}
 use Rattle.sky_waits.specs.Waits.{signs_of, sign_at, star_at, waits_for, wait_at}
 
 -- ---- signs by their numbers
@@ -381,32 +382,12 @@ module _ {N : Type 0} (w : World N) (at : ℕ → Option Node) where
 
   -- ---- bodies
 
-  HasBody : Option Body → Type 0
-  HasBody None = Unit {0}
-  HasBody (Some b) = (at b.node ≡ Some (block_node b.block)) × HasStms at b.block (b.node + 1)
-
-  asks_in_body : (o : Option Body) (c : Pairs N) (vs : Vals N) (p : Place) (st : St N) (run : Stms → ℕ → St N → Res N) → HasBody o → ((b : Stms) (n : ℕ) (s : St N) → HasStms at b (n + 1) → Asks (run b n s)) → Asks (in_body w o c vs p st run)
-  unfolding HasBody
+  asks_in_body : (o : Option Body) (c : Pairs N) (vs : Vals N) (p : Place) (st : St N) (run : Stms → ℕ → St N → Res N) → HasBody at o → ((b : Stms) (n : ℕ) (s : St N) → HasStms at b (n + 1) → Asks (run b n s)) → Asks (in_body w o c vs p st run)
   asks_in_body None c vs p st run h g = tt
   asks_in_body (Some x) c vs p st run h g = g x.block x.node (with_vars (bind x.params vs c) st) h.1
-
-  has_found : (b : Bool) (f : FunDef) (i : ℕ) (o : Option Body) → (at i ≡ Some (block_node f.body)) × HasStms at f.body (i + 1) → HasBody o → HasBody (find_body_if b f i o)
-  unfolding HasBody
-  has_found true f i o h g = h
-  has_found false f i o h g = g
-
-  has_find : (x : List ℕ) (fs : List FunDef) (i : ℕ) → HasFuns at fs i → HasBody (find_body x fs i)
-  unfolding HasBody
-  has_find x [] i h = tt
-  has_find x (f ∷ fs) i h = has_found (same_text x f.name) f i (find_body x fs (i + block_nodes f.body)) h.0 (has_find x fs (i + block_nodes f.body) h.1)
-
-  has_body : (f : List ℕ) (sc : Script) → HasScript at sc → HasBody (body_of f sc)
-  unfolding HasBody
-  has_body [] sc h = h.0
-  has_body (x ∷ xs) sc h = has_find (x ∷ xs) sc.funs (block_nodes sc.main) h.1
 
   -- at every wait of a body
   pub asks_call : (d : ℕ) (f : List ℕ) (c : Pairs N) (vs : Vals N) (p : Place) (st : St N) → HasScript at w.script → Asks (body_at w d f c vs p st)
   asks_call zero f c vs p st h = tt
   asks_call (suc d) f c vs p st h =
-      asks_in_body (body_of f w.script) c vs p st _ (has_body f w.script h) (λ b n s g. asks_stms (body_at w d) (λ f' c' vs' p' st'. asks_call d f' c' vs' p' st' h) b n 0 (n + 1) s g)
+      asks_in_body (body_of f w.script) c vs p st _ (has_body at f w.script h) (λ b n s g. asks_stms (body_at w d) (λ f' c' vs' p' st'. asks_call d f' c' vs' p' st' h) b n 0 (n + 1) s g)
