@@ -51,12 +51,16 @@ named tag d = low_desc no_name tag d
 -- what a needed task makes can be spelled, by names of 20 or 32 bytes
 abbrev pub MadeIsSpelled : Type 0
 MadeIsSpelled =
-    (job : see.Job) (gives : Gives) → OfBytes job → (tag : Tag) → GivesNames tag → (n : ℕ) (t : Task) (d : see.Desc) → Needed job (json_around gives) t → In d (made_in (acts_of job (json_around gives) n t)) → SpelledDesc (named tag d)
+    (job : see.Job) (gives : Gives) → OfBytes job → (tag : Tag) → GivesNames tag
+    → (n : ℕ) (t : Task) (d : see.Desc) → Needed job (json_around gives) t
+    → In d (made_in (acts_of job (json_around gives) n t)) → SpelledDesc (named tag d)
 
 -- so can what it waits for
 abbrev pub WaitedIsSpelled : Type 0
 WaitedIsSpelled =
-    (job : see.Job) (gives : Gives) → OfBytes job → (tag : Tag) → GivesNames tag → (t : Task) (j : ℕ) (ds : List see.Desc) → Needed job (json_around gives) t → WaitOf job (json_around gives) t j ds → Each (λ d. SpelledDesc (named tag d)) ds
+    (job : see.Job) (gives : Gives) → OfBytes job → (tag : Tag) → GivesNames tag
+    → (t : Task) (j : ℕ) (ds : List see.Desc) → Needed job (json_around gives) t
+    → WaitOf job (json_around gives) t j ds → Each (λ d. SpelledDesc (named tag d)) ds
 
 -- and every needed task itself
 abbrev pub NeededIsSpelled : Type 0

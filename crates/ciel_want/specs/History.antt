@@ -76,7 +76,9 @@ module _ (D P : Type 0) where
   -- a table that holds what stands after a lawful history agrees with it, where the job tells where all comes from
   abbrev pub LawfulAgrees : Type 0
   LawfulAgrees =
-      (job : Job D) → IsJob job → (inner : Inner D) → Knows job inner → (p : Plan) (h : List (Event D)) → Lawful job p h → (main : List ℕ) (t : TableSeen P) (out : List TaskId) → Holds job (standing job h) main t out → Agree job (standing job h) main t out
+      (job : Job D) → IsJob job → (inner : Inner D) → Knows job inner → (p : Plan) (h : List (Event D)) → Lawful job p h
+      → (main : List ℕ) (t : TableSeen P) (out : List TaskId)
+      → Holds job (standing job h) main t out → Agree job (standing job h) main t out
 
   -- a table that is a history's agrees with it
   abbrev pub HistoryAgrees : Type 0
