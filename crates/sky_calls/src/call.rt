@@ -62,7 +62,7 @@ fn callee<'a>(code: &Code, fun: &'a Value, args: &Vals) -> Result<Callable<'a>, 
 /// A call, whose arguments are all done: it is visited, and opens its body.
 pub fn call<'a>(
     alloc: Global,
-    code: &'a Code<'a>,
+    code: &Code<'a>,
     state: &mut State,
     left: &mut u32,
     entries: &mut Vec<Entry<'a>>,

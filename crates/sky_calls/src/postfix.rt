@@ -79,7 +79,7 @@ pub fn begin_postfix<'a>(
 /// The arguments that are left; then the call.
 pub fn next_arg<'a>(
     alloc: Global,
-    code: &'a Code<'a>,
+    code: &Code<'a>,
     state: &mut State,
     left: &mut u32,
     entries: &mut Vec<Entry<'a>>,
@@ -119,7 +119,7 @@ pub fn next_arg<'a>(
 /// The indices and calls that are left, with the value so far.
 pub fn next_step<'a>(
     alloc: Global,
-    code: &'a Code<'a>,
+    code: &Code<'a>,
     state: &mut State,
     left: &mut u32,
     entries: &mut Vec<Entry<'a>>,
@@ -191,7 +191,7 @@ pub fn next_step<'a>(
 /// Indices and calls go on with the value of an index.
 pub fn got_index<'a>(
     alloc: Global,
-    code: &'a Code<'a>,
+    code: &Code<'a>,
     state: &mut State,
     left: &mut u32,
     entries: &mut Vec<Entry<'a>>,
@@ -247,7 +247,7 @@ pub fn got_index<'a>(
 /// Indices and calls go on with the value of an argument.
 pub fn got_arg<'a>(
     alloc: Global,
-    code: &'a Code<'a>,
+    code: &Code<'a>,
     state: &mut State,
     left: &mut u32,
     entries: &mut Vec<Entry<'a>>,
@@ -276,7 +276,7 @@ pub fn got_arg<'a>(
 #[tactic(auto, unfolding(sky_base::specs::Res::others))]
 pub fn close<'a>(
     alloc: Global,
-    code: &'a Code<'a>,
+    code: &Code<'a>,
     state: &mut State,
     left: &mut u32,
     entries: &mut Vec<Entry<'a>>,

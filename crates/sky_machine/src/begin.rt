@@ -31,8 +31,8 @@ use sky_steps::first::{begin_chain, begin_logic, begin_parens, begin_prefix};
 use sky_steps::leaf::{function, literal, name};
 
 /// Begins an expression: a leaf is visited, and of any other form its first part is begun.
-pub fn begin<'a, N: Namer>(
-    ground: &Ground<'a, N>,
+pub fn begin<'a, 'b, N: Namer>(
+    ground: &Ground<'b, 'a, N>,
     state: &mut State,
     made: &mut Vec<Named>,
     entries: &mut Vec<Entry<'a>>,

@@ -44,8 +44,8 @@ fn how_many(signs: &[SignAt]) -> usize
 }
 
 /// A form of an expression goes on with the value of its part.
-fn got_form<'a, N: Namer>(
-    ground: &Ground<'a, N>,
+fn got_form<'a, 'b, N: Namer>(
+    ground: &Ground<'b, 'a, N>,
     state: &mut State,
     made: &mut Vec<Named>,
     entries: &mut Vec<Entry<'a>>,
@@ -113,8 +113,8 @@ fn got_form<'a, N: Namer>(
 }
 
 /// Indices and calls go on with the value of a part.
-fn got_postfix<'a, N: Namer>(
-    ground: &Ground<'a, N>,
+fn got_postfix<'a, 'b, N: Namer>(
+    ground: &Ground<'b, 'a, N>,
     state: &mut State,
     left: &mut u32,
     entries: &mut Vec<Entry<'a>>,
@@ -167,8 +167,8 @@ fn got_postfix<'a, N: Namer>(
 }
 
 /// A statement without a block goes on with the value of its part.
-fn got_stmt<'a, N: Namer>(
-    ground: &Ground<'a, N>,
+fn got_stmt<'a, 'b, N: Namer>(
+    ground: &Ground<'b, 'a, N>,
     state: &mut State,
     entries: &mut Vec<Entry<'a>>,
     stmt: InStmt<'a>,
@@ -198,8 +198,8 @@ fn got_stmt<'a, N: Namer>(
 }
 
 /// A statement with a block goes on with the value of its part.
-fn got_block<'a, N: Namer>(
-    ground: &Ground<'a, N>,
+fn got_block<'a, 'b, N: Namer>(
+    ground: &Ground<'b, 'a, N>,
     state: &mut State,
     entries: &mut Vec<Entry<'a>>,
     block: InBlock<'a>,
@@ -238,8 +238,8 @@ fn got_block<'a, N: Namer>(
 }
 
 /// Indices and calls go on after a statement or a block: that of a call's body, whose value is null.
-fn goes_postfix<'a, N: Namer>(
-    ground: &Ground<'a, N>,
+fn goes_postfix<'a, 'b, N: Namer>(
+    ground: &Ground<'b, 'a, N>,
     state: &mut State,
     left: &mut u32,
     entries: &mut Vec<Entry<'a>>,
@@ -266,8 +266,8 @@ fn goes_postfix<'a, N: Namer>(
 }
 
 /// Indices and calls where a part returned: a call's body, whose value this is.
-fn returned_postfix<'a, N: Namer>(
-    ground: &Ground<'a, N>,
+fn returned_postfix<'a, 'b, N: Namer>(
+    ground: &Ground<'b, 'a, N>,
     state: &mut State,
     left: &mut u32,
     entries: &mut Vec<Entry<'a>>,
@@ -313,8 +313,8 @@ fn leave<'a>(state: &mut State, left: &mut u32, postfix: InPostfix<'a>)
 }
 
 /// Indices and calls go on where a part, or a call's body, has ended.
-fn finish_postfix<'a, N: Namer>(
-    ground: &Ground<'a, N>,
+fn finish_postfix<'a, 'b, N: Namer>(
+    ground: &Ground<'b, 'a, N>,
     state: &mut State,
     left: &mut u32,
     entries: &mut Vec<Entry<'a>>,
@@ -353,8 +353,8 @@ fn finish_postfix<'a, N: Namer>(
 }
 
 /// A form of an expression goes on where its part has ended; without a value it ends as the part did.
-fn finish_form<'a, N: Namer>(
-    ground: &Ground<'a, N>,
+fn finish_form<'a, 'b, N: Namer>(
+    ground: &Ground<'b, 'a, N>,
     state: &mut State,
     made: &mut Vec<Named>,
     entries: &mut Vec<Entry<'a>>,
@@ -381,8 +381,8 @@ fn finish_form<'a, N: Namer>(
 }
 
 /// A statement without a block goes on where its part has ended; without a value it ends as the part did.
-fn finish_stmt<'a, N: Namer>(
-    ground: &Ground<'a, N>,
+fn finish_stmt<'a, 'b, N: Namer>(
+    ground: &Ground<'b, 'a, N>,
     state: &mut State,
     entries: &mut Vec<Entry<'a>>,
     stmt: InStmt<'a>,
@@ -408,8 +408,8 @@ fn finish_stmt<'a, N: Namer>(
 }
 
 /// A block, or a statement that has one, goes on after a statement or a block.
-fn goes_block<'a, N: Namer>(
-    ground: &Ground<'a, N>,
+fn goes_block<'a, 'b, N: Namer>(
+    ground: &Ground<'b, 'a, N>,
     state: &mut State,
     entries: &mut Vec<Entry<'a>>,
     block: InBlock<'a>,
@@ -446,8 +446,8 @@ fn goes_block<'a, N: Namer>(
 }
 
 /// A block, or a statement that has one, goes on where its part has ended; after a return or a fault it ends so too.
-fn finish_block<'a, N: Namer>(
-    ground: &Ground<'a, N>,
+fn finish_block<'a, 'b, N: Namer>(
+    ground: &Ground<'b, 'a, N>,
     state: &mut State,
     entries: &mut Vec<Entry<'a>>,
     block: InBlock<'a>,
@@ -477,8 +477,8 @@ fn finish_block<'a, N: Namer>(
 }
 
 /// A form under way goes on where its part has ended.
-pub fn finish<'a, N: Namer>(
-    ground: &Ground<'a, N>,
+pub fn finish<'a, 'b, N: Namer>(
+    ground: &Ground<'b, 'a, N>,
     state: &mut State,
     left: &mut u32,
     made: &mut Vec<Named>,

@@ -37,8 +37,8 @@ pub enum Stop {
 }
 
 /// One step of a run that neither waits nor has ended.
-fn step<'a, N: Namer>(
-    ground: &Ground<'a, N>,
+fn step<'a, 'b, N: Namer>(
+    ground: &Ground<'b, 'a, N>,
     state: &mut State,
     left: &mut u32,
     made: &mut Vec<Named>,
@@ -78,8 +78,8 @@ fn step<'a, N: Namer>(
 }
 
 /// Runs until the next wait or the end.
-pub fn run_on<'a, N: Namer>(
-    ground: &Ground<'a, N>,
+pub fn run_on<'a, 'b, N: Namer>(
+    ground: &Ground<'b, 'a, N>,
     state: &mut State,
     left: &mut u32,
     made: &mut Vec<Named>,

@@ -33,7 +33,7 @@ pub const MOST_OPEN: u32 = 63;
 /// new one, and what is to be done next is given. Where there is no such function that is the end with the fault
 /// BadKind.
 pub fn start<'a>(
-    code: &'a Code<'a>,
+    code: &Code<'a>,
     state: &mut State,
     entries: &mut Vec<Entry<'a>>,
     fun: &Txt,
@@ -60,8 +60,8 @@ pub fn start<'a>(
 
 /// Runs a call of a function on arguments from its start until its first wait or its end.
 #[tactic(auto, unfolding(sky_base::specs::Res::others))]
-pub fn run_call<'a, N: Namer>(
-    ground: &Ground<'a, N>,
+pub fn run_call<'a, 'b, N: Namer>(
+    ground: &Ground<'b, 'a, N>,
     state: &mut State,
     made: &mut Vec<Named>,
     entries: &mut Vec<Entry<'a>>,

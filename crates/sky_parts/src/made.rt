@@ -37,10 +37,10 @@ use std::alloc::Global;
 
 /// What a run stands on: its script, and what names descriptions.
 #[derive(Drop)]
-pub struct Ground<'a, N> {
+pub struct Ground<'b, 'a, N> {
     pub alloc: Global,
-    pub code: &'a Code<'a>,
-    pub namer: &'a N,
+    pub code: &'b Code<'a>,
+    pub namer: &'b N,
 }
 
 /// The name of a description.

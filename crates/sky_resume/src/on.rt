@@ -80,8 +80,8 @@ fn end_of_wait(
 }
 
 /// Runs on from what is to be done next, and leaves the stack of the next wait, where there is one.
-pub(crate) fn run_from<'a, N: Namer>(
-    ground: &Ground<'a, N>,
+pub(crate) fn run_from<'a, 'b, N: Namer>(
+    ground: &Ground<'b, 'a, N>,
     run: &mut RunState,
     fun: &Txt,
     state: &mut State,
@@ -117,12 +117,12 @@ pub(crate) fn run_from<'a, N: Namer>(
 /// next wait. What it makes is put at the end of what was spawned, each with its name. After `Memory` the state may only be dropped.
 ///
 /// Answers `Memory` for want of memory.
-pub fn go_on<'a, N: Namer>(
+pub fn go_on<'a, 'b, N: Namer>(
     alloc: Global,
-    script: &'a Numbered<'a>,
+    script: &'b Numbered<'a>,
     run: &mut RunState,
     answers: &[Object],
-    namer: &'a N,
+    namer: &'b N,
 ) -> Result<Came, Memory>
     requires same { script.now.nodes ≡ script.now.code }
     requires steps { StepsFit script.now.code }
@@ -139,12 +139,12 @@ pub fn go_on<'a, N: Namer>(
 }
 
 /// The stack is opened, its wait is ended, and the run goes on from there.
-fn from_wait<'a, N: Namer>(
+fn from_wait<'a, 'b, N: Namer>(
     alloc: Global,
-    script: &'a Numbered<'a>,
+    script: &'b Numbered<'a>,
     run: &mut RunState,
     answers: &[Object],
-    namer: &'a N,
+    namer: &'b N,
 ) -> Result<Came, Memory>
     requires same { script.now.nodes ≡ script.now.code }
     requires steps { StepsFit script.now.code }

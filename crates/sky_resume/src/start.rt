@@ -30,11 +30,11 @@ use std::alloc::Global;
 ///
 /// Answers `Memory` for want of memory.
 #[tactic(auto, unfolding(sky_base::specs::Res::others))]
-pub fn begin<'a, N: Namer>(
+pub fn begin<'a, 'b, N: Namer>(
     alloc: Global,
-    script: &'a Numbered<'a>,
+    script: &'b Numbered<'a>,
     run: &mut RunState,
-    namer: &'a N,
+    namer: &'b N,
 ) -> Result<Came, Memory>
     requires steps { StepsFit script.now.code }
     requires fits { FitsRun script.now.code (run_of run.old) }

@@ -75,14 +75,14 @@ impl<'a> Program<'a> {
     }
 
     /// The functions, in the order of the text.
-    pub fn funs(&self) -> &[FunDef]
+    pub fn funs(&self) -> &'a [FunDef]
         ensures { funs_view result.now ≡ self.now.funs }
     {
         self.script.funs().as_slice()
     }
 
     /// The statements outside of functions.
-    pub fn main(&self) -> &Block
+    pub fn main(&self) -> &'a Block
         ensures { result.now ≡ self.now.main }
     {
         self.script.main()
