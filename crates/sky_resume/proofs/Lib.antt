@@ -4,3 +4,4 @@ pub mod Stacks
 pub mod Goes
 pub mod StandLaw
 pub mod Begins
+pub mod BeginLaw

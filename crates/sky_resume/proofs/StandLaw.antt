@@ -34,7 +34,7 @@ use Rattle.sky_resume.specs.Comes.{over_names, with_name, LeftAt, object_at, Com
 use Rattle.sky_resume.specs.Standing.{StandsOn, GoesOnAs, MakesAs}
 use Rattle.sky_resume.specs.declared.on.Came.{Came}
 
-none_some : {A : Type 0} (a : A) → None ≡ Some a → ⊥
+pub none_some : {A : Type 0} (a : A) → None ≡ Some a → ⊥
 none_some a e = cc
 
 some_is : {A : Type 0} (a b : A) → Some a ≡ Some b → a ≡ b
@@ -43,6 +43,29 @@ some_is a b e = cc
 all_opened : {N : Type 0} (w : World N) (at : ℕ → Option Node) (fr : List (Entry N)) → law.AllOpened w at fr → AllOpened at fr
 all_opened w at [] h = tt
 all_opened w at (en ∷ fr) h = (h.0, all_opened w at fr h.1)
+
+pub mapped : {A B : Type 0} (g : A → B) (o : Option A) (y : B) → Some y ≡ option_map g o → (x : A) × (o ≡ Some x) × (y ≡ g x)
+mapped g None y e = absurd (none_some y (sym e))
+mapped g (Some x) y e = (x, refl, some_is y (g x) e)
+
+pub end_outcome : (look : Desc → Option Obj) (r : Res ⊥) (s : End ⊥ × St ⊥) → first_end r ≡ Some s → outcome look r ≡ ended s.0 s.1
+end_outcome look (Fin e st) s is = ap (λ x. ended x.0 x.1) (some_is (e, st) s is)
+end_outcome look (Tell d r) s is = end_outcome look r s is
+end_outcome look (Ask q fr st k) s is = absurd (none_some s is)
+
+module _ (digest : List ℕ → List ℕ) where
+  pub same_run : (r : Run (List ℕ)) (s : Run ⊥) (a : State) → Stand.run r ≡ low_state (digested digest) a → State.run s ≡ a → r ≡ low_run no_name (digested digest) s
+  same_run r s a e g = inner (e ∙ ap (low_state (digested digest)) (sym g))
+    where
+      inner : Stand.run r ≡ Stand.run (low_run no_name (digested digest) s) → r ≡ low_run no_name (digested digest) s
+      inner i = cc
+
+  -- the object of an end, over descriptions and over names
+  pub end_object : (e : End ⊥) (st : St ⊥) → (x : Obj) × (object_of (ended e st) ≡ Some x) × (object_at (low_end no_name (digested digest) e) ≡ low_obj no_name (digested digest) x)
+  end_object End.goes st = (Object.data_of null, refl, refl)
+  end_object (End.got u) st = (Object.data_of u, refl, refl)
+  end_object (End.returned u) st = (Object.data_of u, refl, refl)
+  end_object (End.failed g) st = (Object.fault g, refl, refl)
 
 module _ (digest : List ℕ → List ℕ) (job : Job) (around : Around) (alike : ReadsAlike (digested digest) around data_of) where
   abbrev W : World (List ℕ)
@@ -109,12 +132,6 @@ module _ (digest : List ℕ → List ℕ) (job : Job) (around : Around) (alike :
       pub left : LeftAt job.script f (low_halt no_name (digested digest) at) r
       pub waits : r.waits ≡ suc j
 
-    same_run : (r : Run (List ℕ)) (s : Run ⊥) (a : State) → Stand.run r ≡ low_state (digested digest) a → State.run s ≡ a → r ≡ low_run no_name (digested digest) s
-    same_run r s a e g = inner (e ∙ ap (low_state (digested digest)) (sym g))
-      where
-        inner : Stand.run r ≡ Stand.run (low_run no_name (digested digest) s) → r ≡ low_run no_name (digested digest) s
-        inner i = cc
-
     standing : (n j : ℕ) (ds : List Desc) (r : Run (List ℕ)) → wait_at job around n (Task.of (call f c vs)) (suc j) ≡ Some ds → Stands job around (digested digest) (Stand.run r) (Task.of (call f c vs)) (suc j) → Standing n j ds r
     standing n j ds r w s = go (halt (see job around n) j (run_of job around f c vs)) refl w
       where
@@ -122,7 +139,7 @@ module _ (digest : List ℕ → List ℕ) (job : Job) (around : Around) (alike :
         go None e g = absurd (none_some ds g)
         go (Some h) e g =
             let same : State.run (run_of_halt f (suc j) h) ≡ s.0 = stands_one job around (Task.of (call f c vs)) (suc j) (State.run (run_of_halt f (suc j) h)) s.0 (n, ap (halt_state f (suc j)) e) s.1 in
-            let stack : r ≡ run_of_halt f (suc j) (low_halt no_name (digested digest) h) = same_run r (run_of_halt f (suc j) h) s.0 s.2 same ∙ sym (stack_low no_name (digested digest) f (suc j) h) in
+            let stack : r ≡ run_of_halt f (suc j) (low_halt no_name (digested digest) h) = same_run digest r (run_of_halt f (suc j) h) s.0 s.2 same ∙ sym (stack_low no_name (digested digest) f (suc j) h) in
             let there = found n j h e in
             record {
               at = h;
@@ -137,22 +154,6 @@ module _ (digest : List ℕ → List ℕ) (job : Job) (around : Around) (alike :
     abbrev pub Onward : Halt ⊥ → List Obj → Res (List ℕ)
     Onward h os = rest_of W others (low_halt no_name (digested digest) h) (map (low_obj no_name (digested digest)) os)
 
-    mapped : {A B : Type 0} (g : A → B) (o : Option A) (y : B) → Some y ≡ option_map g o → (x : A) × (o ≡ Some x) × (y ≡ g x)
-    mapped g None y e = absurd (none_some y (sym e))
-    mapped g (Some x) y e = (x, refl, some_is y (g x) e)
-
-    end_outcome : (look : Desc → Option Obj) (r : Res ⊥) (s : End ⊥ × St ⊥) → first_end r ≡ Some s → outcome look r ≡ ended s.0 s.1
-    end_outcome look (Fin e st) s is = ap (λ x. ended x.0 x.1) (some_is (e, st) s is)
-    end_outcome look (Tell d r) s is = end_outcome look r s is
-    end_outcome look (Ask q fr st k) s is = absurd (none_some s is)
-
-    -- the object of an end, over descriptions and over names
-    end_object : (e : End ⊥) (st : St ⊥) → (x : Obj) × (object_of (ended e st) ≡ Some x) × (object_at (low_end no_name (digested digest) e) ≡ low_obj no_name (digested digest) x)
-    end_object End.goes st = (Object.data_of null, refl, refl)
-    end_object (End.got u) st = (Object.data_of u, refl, refl)
-    end_object (End.returned u) st = (Object.data_of u, refl, refl)
-    end_object (End.failed g) st = (Object.fault g, refl, refl)
-
     module _ (n j : ℕ) (ds : List Desc) (os : List Obj) (r : Run (List ℕ)) (s : Standing n j ds r) (seen : see_all (see job around n) ds ≡ Some os) where
       at_seen : see_all (see job around n) (refs_of s.at.wait) ≡ Some os
       at_seen = ap (see_all (see job around n)) s.refs ∙ seen
@@ -164,7 +165,7 @@ module _ (digest : List ℕ → List ℕ) (job : Job) (around : Around) (alike :
       unfolding see
       goes_on (Came.Ended o) new (e, is, object) =
           let over = mapped (low_stop no_name (digested digest)) (first_end (rest_of (world_of job.script around) others s.at os)) e (sym is ∙ resume_ends job around (see job around n) f c vs j s.at os s.is at_seen (digested digest) data_of alike) in
-          let x = end_object over.0.0 over.0.1 in
+          let x = end_object digest over.0.0 over.0.1 in
           let out = task_ends job around (see job around n) f c vs j s.at os s.is at_seen ∙ end_outcome (see job around n) (rest_of (world_of job.script around) others s.at os) over.0 over.1 in
           (suc n, x.0, ap object_of out ∙ x.1, object ∙ ap (λ (y : End (List ℕ) × St (List ℕ)). object_at y.0) over.2 ∙ x.2)
       goes_on Came.Waits new (h, is, stack) =
@@ -184,14 +185,14 @@ module _ (digest : List ℕ → List ℕ) (job : Job) (around : Around) (alike :
 abbrev Named : (List ℕ → List ℕ) → Halt ⊥ → Halt (List ℕ)
 Named digest h = low_halt no_name (digested digest) h
 
-pub goes_as : (digest : List ℕ → List ℕ) (sc : Script) (old new : Run (List ℕ)) (answers : List rust.Object) (came : Came) → ((f : List ℕ) (h : Halt (List ℕ)) → LeftAt sc f h old → Comes f old.waits (rest_of (over_names digest sc) others h (map object_view answers)) came new) → GoesOnAs digest sc old answers came new
-goes_as digest sc old new answers came comes = λ job around f c vs j n is alike s a.
+pub goes_as : (digest : List ℕ → List ℕ) (sc : Script) (old new : Run (List ℕ)) (answers : List rust.Object) (came : Came) → ((f : List ℕ) (h : Halt (List ℕ)) → LeftAt sc f h old → Comes f old.waits (rest_of (over_names digest sc) others h (map object_view answers)) came new) → (j : ℕ) → GoesOnAs digest (suc j) sc old answers came new
+goes_as digest sc old new answers came comes j = λ job around f c vs n is alike s a.
     let st = stand_of digest job around alike f c vs n j a.0 old a.2 s in
     let here = subst (λ x. LeftAt x f (Named digest st.at) old → Comes f old.waits (rest_of (over_names digest x) others (Named digest st.at) (map object_view answers)) came new) (sym is) (comes f (Named digest st.at)) st.left in
     goes_on digest job around alike f c vs n j a.0 a.1 old st a.3 came new (subst (λ xs. Comes f old.waits (rest_of (over_names digest job.script) others (Named digest st.at) xs) came new) a.4 here)
 
-pub makes_as : (digest : List ℕ → List ℕ) (sc : Script) (stack : Run (List ℕ)) (answers : List rust.Object) (old new : List (List ℕ × v.Desc (List ℕ))) → ((f : List ℕ) (h : Halt (List ℕ)) → LeftAt sc f h stack → new ≡ old ++ map (with_name digest) (segment (rest_of (over_names digest sc) others h (map object_view answers)))) → MakesAs digest sc stack answers old new
-makes_as digest sc stack answers old new made = λ job around f c vs j n is alike s a.
+pub makes_as : (digest : List ℕ → List ℕ) (sc : Script) (stack : Run (List ℕ)) (answers : List rust.Object) (old new : List (List ℕ × v.Desc (List ℕ))) → ((f : List ℕ) (h : Halt (List ℕ)) → LeftAt sc f h stack → new ≡ old ++ map (with_name digest) (segment (rest_of (over_names digest sc) others h (map object_view answers)))) → (j : ℕ) → MakesAs digest (suc j) sc stack answers old new
+makes_as digest sc stack answers old new made j = λ job around f c vs n is alike s a.
     let st = stand_of digest job around alike f c vs n j a.0 stack a.2 s in
     let here = subst (λ x. LeftAt x f (Named digest st.at) stack → new ≡ old ++ map (with_name digest) (segment (rest_of (over_names digest x) others (Named digest st.at) (map object_view answers)))) (sym is) (made f (Named digest st.at)) st.left in
     here

@@ -34,12 +34,21 @@ module _ (digest : List ℕ → List ℕ) where
   StandsOn job around d j (Came.Ended o) new = SeenAs job around d (object_view o)
   StandsOn job around d j Came.Waits new = Stands job around (digested digest) (Stand.run new) (Task.of d) (suc j)
 
-  -- whatever call of whatever job the stack stood for at a wait, where the objects are those of what the call waits for there
-  abbrev pub GoesOnAs : Script → Run (List ℕ) → List rust.Object → Came → Run (List ℕ) → Type 0
-  GoesOnAs sc old answers came new =
-      (job : Job) (around : Around) (f : List ℕ) (c : Pairs) (vs : Vals) (j n : ℕ) → job.script ≡ sc → ReadsAlike (digested digest) around data_of → Stands job around (digested digest) (Stand.run old) (Task.of (call f c vs)) (suc j) → AnsweredBy job around n (Task.of (call f c vs)) (suc j) (map object_view answers) → StandsOn job around (call f c vs) (suc j) came new
+  -- whatever call of whatever job the stack stood for at this wait, 0 being its start, where the objects are those of what the call
+  -- waits for there
+  abbrev pub GoesOnAs : (j : ℕ) → Script → Run (List ℕ) → List rust.Object → Came → Run (List ℕ) → Type 0
+  GoesOnAs j sc old answers came new =
+      (job : Job) (around : Around) (f : List ℕ) (c : Pairs) (vs : Vals) (n : ℕ)
+      → job.script ≡ sc → ReadsAlike (digested digest) around data_of
+      → Stands job around (digested digest) (Stand.run old) (Task.of (call f c vs)) j
+      → AnsweredBy job around n (Task.of (call f c vs)) j (map object_view answers)
+      → StandsOn job around (call f c vs) j came new
 
   -- and then what was spawned grew by what the call makes from that wait up to the next one, each with its name
-  abbrev pub MakesAs : Script → Run (List ℕ) → List rust.Object → (old new : List (List ℕ × v.Desc (List ℕ))) → Type 0
-  MakesAs sc stack answers old new =
-      (job : Job) (around : Around) (f : List ℕ) (c : Pairs) (vs : Vals) (j n : ℕ) → job.script ≡ sc → ReadsAlike (digested digest) around data_of → Stands job around (digested digest) (Stand.run stack) (Task.of (call f c vs)) (suc j) → AnsweredBy job around n (Task.of (call f c vs)) (suc j) (map object_view answers) → new ≡ old ++ map (with_name digest) (map (low_desc no_name (digested digest)) (made_from job around n f c vs (suc j)))
+  abbrev pub MakesAs : (j : ℕ) → Script → Run (List ℕ) → List rust.Object → (old new : List (List ℕ × v.Desc (List ℕ))) → Type 0
+  MakesAs j sc stack answers old new =
+      (job : Job) (around : Around) (f : List ℕ) (c : Pairs) (vs : Vals) (n : ℕ)
+      → job.script ≡ sc → ReadsAlike (digested digest) around data_of
+      → Stands job around (digested digest) (Stand.run stack) (Task.of (call f c vs)) j
+      → AnsweredBy job around n (Task.of (call f c vs)) j (map object_view answers)
+      → new ≡ old ++ map (with_name digest) (map (low_desc no_name (digested digest)) (made_from job around n f c vs j))
