@@ -4,3 +4,4 @@
 
 pub mod call;
 pub mod law;
+pub mod step;

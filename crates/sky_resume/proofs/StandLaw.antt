@@ -1,12 +1,12 @@
 -- The stack of a state that stands for a call is that of the call's run over names at its wait, and it goes on as the call does.
-use Rattle.std.proofs.Common.{◌≡◌, ◌≢◌, ◌<◌, ◌+◌, ◌-◌, ◌++◌, ℕ, zero, suc, List, [], ◌∷◌, map, Option, Some, None, refl, sym, ap, ◌∙◌, subst, arith}
+use Rattle.std.proofs.Common.{◌≡◌, ◌≢◌, ◌<◌, ◌+◌, ◌-◌, ◌++◌, ℕ, zero, suc, List, [], ◌∷◌, map, true, Option, Some, None, refl, sym, ap, ◌∙◌, subst, arith}
 use Rattle.std.specs.Option.{option_map}
 use Rattle.sky_base.specs.Val as v
-use Rattle.sky_base.specs.Val.{call, known, null}
+use Rattle.sky_base.specs.Val.{call, known, null, distinct}
 use Rattle.sky_base.specs.Name.{digested, low_desc, low_pairs, low_vals}
 use Rattle.sky_base.specs.Tree.{Script, nowhere}
 use Rattle.sky_base.specs.Res.{bodies, others, Object, End, St, Entry, Res, Fin, Tell, Ask, Wait}
-use Rattle.sky_base.specs.Eval.{World, body_of, body_at}
+use Rattle.sky_base.specs.Eval.{World, body_of, body_at, plug}
 use Rattle.sky_base.specs.Read.{ended, Run, Halt, refs_of, see_all, halts_seen, outcome, halt, segment, segment_from, first_end, first_halt, rest_of, run_of_halt}
 use Rattle.sky_base.specs.See.{Vals, Pairs, Desc, Obj, Job, Around, see, run_of, world_of, start_st, object_of}
 use Rattle.sky_base.specs.Needed.{Task, State, halt_state, halt_refs, wait_at}
@@ -34,6 +34,7 @@ use Rattle.sky_waits.proofs.AskLaw.{Asks, asks_call}
 use Rattle.sky_resume.specs.Comes.{over_names, with_name, LeftAt, object_at, Comes}
 use Rattle.sky_resume.specs.Standing.{WaitsNoMore, StandsOn, GoesOnAs, MakesAs}
 use Rattle.sky_resume.specs.declared.on.Came.{Came}
+use Rattle.sky_resume.proofs.OnceLaw.{see_whole, ends_once}
 
 pub none_some : {A : Type 0} (a : A) → None ≡ Some a → ⊥
 none_some a e = cc
@@ -229,16 +230,35 @@ module _ (digest : List ℕ → List ℕ) (job : Job) (around : Around) (alike :
 abbrev Named : (List ℕ → List ℕ) → Halt ⊥ → Halt (List ℕ)
 Named digest h = low_halt no_name (digested digest) h
 
+abbrev Low : (List ℕ → List ℕ) → List Obj → List (Object (List ℕ))
+Low digest os = map (low_obj no_name (digested digest)) os
+
+-- the rest from a wait is the same where each description is answered once
+rest_once : (digest : List ℕ → List ℕ) (sc : Script) (look : Desc → Option Obj) (h : Halt ⊥) (os xs : List Obj) → see_all look (distinct (λ a b. true) (refs_of h.wait)) ≡ Some os → see_all look (refs_of h.wait) ≡ Some xs → rest_of (over_names digest sc) others (Named digest h) (Low digest os) ≡ rest_of (over_names digest sc) others (Named digest h) (Low digest xs)
+rest_once digest sc look h os xs e g =
+    let w = over_names digest sc in
+    ap (λ x. plug w others (Named digest h).forms (Fin x (Named digest h).st)) (ends_once look w (digested digest) h.wait os xs e g)
+
 pub goes_as : (digest : List ℕ → List ℕ) (sc : Script) (old new : Run (List ℕ)) (answers : List rust.Object) (came : Came) → ((f : List ℕ) (h : Halt (List ℕ)) → LeftAt sc f h old → Comes f old.waits (rest_of (over_names digest sc) others h (map object_view answers)) came new) → (j : ℕ) → GoesOnAs digest (suc j) sc old answers came new
 goes_as digest sc old new answers came comes j = λ job around f c vs n is alike s a.
     let st = stand_of digest job around alike f c vs n j a.0 old a.2 s in
+    let look = see job around n in
+    let all = see_whole look a.0 a.1 a.3 in
+    let once : see_all look (distinct (λ a b. true) (refs_of st.at.wait)) ≡ Some a.1 = ap (λ ds. see_all look (distinct (λ a b. true) ds)) st.refs ∙ a.3 in
+    let whole : see_all look (refs_of st.at.wait) ≡ Some all.0 = ap (see_all look) st.refs ∙ all.1 in
     let here = subst (λ x. LeftAt x f (Named digest st.at) old → Comes f old.waits (rest_of (over_names digest x) others (Named digest st.at) (map object_view answers)) came new) (sym is) (comes f (Named digest st.at)) st.left in
-    goes_on digest job around alike f c vs n j a.0 a.1 old st a.3 came new (subst (λ xs. Comes f old.waits (rest_of (over_names digest job.script) others (Named digest st.at) xs) came new) a.4 here)
+    let rest = ap (rest_of (over_names digest job.script) others (Named digest st.at)) a.4 ∙ rest_once digest job.script look st.at a.1 all.0 once whole in
+    goes_on digest job around alike f c vs n j a.0 all.0 old st all.1 came new (subst (λ q. Comes f old.waits q came new) rest here)
 
 pub makes_as : (digest : List ℕ → List ℕ) (sc : Script) (stack : Run (List ℕ)) (answers : List rust.Object) (old new : List (List ℕ × v.Desc (List ℕ))) → ((f : List ℕ) (h : Halt (List ℕ)) → LeftAt sc f h stack → new ≡ old ++ map (with_name digest) (segment (rest_of (over_names digest sc) others h (map object_view answers)))) → (j : ℕ) → MakesAs digest (suc j) sc stack answers old new
 makes_as digest sc stack answers old new made j = λ job around f c vs n is alike s a.
     let st = stand_of digest job around alike f c vs n j a.0 stack a.2 s in
+    let look = see job around n in
+    let all = see_whole look a.0 a.1 a.3 in
+    let once : see_all look (distinct (λ a b. true) (refs_of st.at.wait)) ≡ Some a.1 = ap (λ ds. see_all look (distinct (λ a b. true) ds)) st.refs ∙ a.3 in
+    let whole : see_all look (refs_of st.at.wait) ≡ Some all.0 = ap (see_all look) st.refs ∙ all.1 in
+    let rest = ap (rest_of (over_names digest job.script) others (Named digest st.at)) a.4 ∙ rest_once digest job.script look st.at a.1 all.0 once whole in
     let here = subst (λ x. LeftAt x f (Named digest st.at) stack → new ≡ old ++ map (with_name digest) (segment (rest_of (over_names digest x) others (Named digest st.at) (map object_view answers)))) (sym is) (made f (Named digest st.at)) st.left in
     here
-    ∙ ap (λ xs. old ++ map (with_name digest) (segment (rest_of (over_names digest job.script) others (Named digest st.at) xs))) a.4
-    ∙ ap (λ ds. old ++ map (with_name digest) ds) (makes_on digest job around alike f c vs n j a.0 a.1 stack st a.3)
+    ∙ ap (λ q. old ++ map (with_name digest) (segment q)) rest
+    ∙ ap (λ ds. old ++ map (with_name digest) ds) (makes_on digest job around alike f c vs n j a.0 all.0 stack st all.1)

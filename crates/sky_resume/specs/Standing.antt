@@ -1,7 +1,7 @@
 -- What going on means for the call whose stack it was.
-use Rattle.std.specs.Prelude.{◌≡◌, ◌<◌, ℕ, suc, List, ◌++◌, map, Some}
+use Rattle.std.specs.Prelude.{◌≡◌, ◌<◌, ℕ, suc, List, ◌++◌, map, Some, true}
 use Rattle.sky_base.specs.Val as v
-use Rattle.sky_base.specs.Val.{call}
+use Rattle.sky_base.specs.Val.{call, distinct}
 use Rattle.sky_base.specs.Name.{digested, low_desc}
 use Rattle.sky_base.specs.Tree.{Script}
 use Rattle.sky_base.specs.Res.{Object}
@@ -23,10 +23,11 @@ abbrev pub WaitsNoMore : Job → Around → Task → (j : ℕ) → Type 0
 WaitsNoMore job around t j = (k : ℕ) (ds : List Desc) → j < k → WaitOf job around t k ds → ⊥
 
 module _ (digest : List ℕ → List ℕ) where
-  -- these are the objects of what the task waits for at its wait j, as far as n tells, with each description replaced by its name
+  -- these are the objects of what the task waits for at its wait j, of each description once, as far as n tells, with each description
+  -- replaced by its name
   abbrev pub AnsweredBy : Job → Around → (n : ℕ) → Task → (j : ℕ) → List (Object (List ℕ)) → Type 0
   AnsweredBy job around n t j given =
-      (ds : List Desc) × (os : List Obj) × (wait_at job around n t j ≡ Some ds) × (see_all (see job around n) ds ≡ Some os) × (given ≡ map (low_obj no_name (digested digest)) os)
+      (ds : List Desc) × (os : List Obj) × (wait_at job around n t j ≡ Some ds) × (see_all (see job around n) (distinct (λ a b. true) ds) ≡ Some os) × (given ≡ map (low_obj no_name (digested digest)) os)
 
   -- the object is what this description is seen as, with each description replaced by its name
   abbrev pub SeenAs : Job → Around → Desc → Object (List ℕ) → Type 0
