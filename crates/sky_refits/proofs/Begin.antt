@@ -25,8 +25,8 @@ use Rattle.sky_state.proofs.FitsLaw.{ChainedHalt, chained_halt}
 use Rattle.sky_state.proofs.LinkLaw.{linked_call}
 use Rattle.sky_state.proofs.SavedLaw.{saved_fits}
 use Rattle.sky_refits.specs.Sounds.{SoundWorld, EndsSound}
-use Rattle.sky_refits.proofs.Again.{closed, ok_end, frames_sound}
-use Rattle.sky_refits.proofs.Back.{P, Q, V, vars_in}
+use Rattle.sky_refits.proofs.Again.{any_all, closed, ok_end, frames_sound}
+use Rattle.sky_refits.proofs.Soundly.{P, Q, V, vars_in}
 use Rattle.sky_refits.proofs.Climb.{Higher, first_higher}
 use Rattle.sky_refits.proofs.Fines.{FirstEndOk, FirstHaltOk, made_fine, end_fine, halt_fine}
 
@@ -72,7 +72,7 @@ module _ (w : World (List ℕ)) (sound : SoundWorld w) (f : List ℕ) (xs : Pair
 
   makes : Each (SoundDesc w.script) (segment whole) × EndsSound w.script (first_end whole)
   makes =
-      (made_fine w (P w) (Q w) (V w) (closed w sound) whole others fine, ok_end w sound (first_end whole) (end_fine w (P w) (Q w) (V w) (closed w sound) whole others fine))
+      (made_fine w (P w) (Q w) (V w) any_made (closed w sound) whole others fine (any_all (segment whole)), ok_end w sound (first_end whole) (end_fine w (P w) (Q w) (V w) any_made (closed w sound) whole others fine (any_all (segment whole))))
 
   chained : (g : Halt (List ℕ)) → first_halt whole ≡ Some g → Chained w.script At (body_places (body_of f w.script)) g.forms
   chained g is =
@@ -80,7 +80,7 @@ module _ (w : World (List ℕ)) (sound : SoundWorld w) (f : List ℕ) (xs : Pair
 
   fits : (g : Halt (List ℕ)) → first_halt whole ≡ Some g → FitsRun w.script (run_of_halt f 1 g)
   fits g is =
-      let ok : FirstHaltOk w (P w) (Q w) (V w) (closed w sound) others (Some g) = subst (FirstHaltOk w (P w) (Q w) (V w) (closed w sound) others) is (halt_fine w (P w) (Q w) (V w) (closed w sound) whole others fine) in
+      let ok : FirstHaltOk w (P w) (Q w) (V w) any_made (closed w sound) others (Some g) = subst (FirstHaltOk w (P w) (Q w) (V w) any_made (closed w sound) others) is (halt_fine w (P w) (Q w) (V w) any_made (closed w sound) whole others fine (any_all (segment whole))) in
       let higher : Higher w 0 (Some g) = subst (Higher w 0) is (first_higher w whole 0 [] climbs) in
       let left : length (frames_of g.forms f g.st.vars) + inner w g.forms others ≡ bodies = frames_left w (P w) (Q w) (V w) g.forms others f g.st.vars ok.0 in
       let sounds : Each (SoundFrame w.script) (frames_of g.forms f g.st.vars) = frames_sound w sound (frames_of g.forms f g.st.vars) (frames_ok w (P w) (Q w) (V w) g.forms others f g.st.vars ok.0 is_fun ok.1) in
