@@ -12,6 +12,7 @@ use Rattle.sky_base.specs.See.{Vals, Pairs, Desc, Job, Around, see, run_of, star
 use Rattle.sky_base.specs.Needed.{Task, State, start_frame, halt_state, halt_refs}
 use Rattle.sky_law.specs.Lower.{low_halt, low_run, low_stop}
 use Rattle.sky_law.specs.NamesLaws.{no_name, ReadsAlike}
+use Rattle.sky_law.specs.Tasks.{made_between}
 use Rattle.sky_law.proofs.LowLaw.{Rel}
 use Rattle.sky_law.proofs.LowStack.{job_low, stack_low, segment_low, first_end_low, first_halt_low}
 use Rattle.sky_law.proofs.SeenLaw.{stands_one}
@@ -24,7 +25,7 @@ use Rattle.sky_state.proofs.FitsLaw.{start_of_call}
 use Rattle.sky_resume.specs.Comes.{over_names, with_name, object_at, Comes}
 use Rattle.sky_resume.specs.Standing.{WaitsNoMore, StandsOn, GoesOnAs, MakesAs}
 use Rattle.sky_resume.specs.declared.on.Came.{Came}
-use Rattle.sky_resume.proofs.StandLaw.{none_some, mapped, end_outcome, end_object, end_no_halt}
+use Rattle.sky_resume.proofs.StandLaw.{none_some, mapped, made_one, end_outcome, end_object, end_no_halt}
 
 module _ (digest : List ℕ → List ℕ) (job : Job) (around : Around) (f : List ℕ) (c : Pairs) (vs : Vals) where
   abbrev caught : v.Pairs (List ℕ)
@@ -68,8 +69,9 @@ module _ (digest : List ℕ → List ℕ) (job : Job) (around : Around) (f : Lis
         let run : new ≡ low_run no_name (digested digest) (run_of_halt f 1 next.0) = stack ∙ ap (λ x. run_of_halt f 1 x) next.2 ∙ stack_low no_name (digested digest) f 1 next.0 in
         (State.run (run_of_halt f 1 next.0), (0, ap (halt_state f 1) (halt_is (see job around 0) (run_of job around f c vs) ∙ next.1)), ap Stand.run run)
 
-    pub begin_makes : segment whole ≡ map (low_desc no_name (digested digest)) (segment (run_of job around f c vs))
-    begin_makes = segment_low no_name (digested digest) (run_of job around f c vs) whole low
+    pub begin_makes : (n : ℕ) → segment whole ≡ map (low_desc no_name (digested digest)) (made_between job around n (Task.of (call f c vs)) 0 1)
+    begin_makes n =
+        segment_low no_name (digested digest) (run_of job around f c vs) whole low ∙ ap (map (low_desc no_name (digested digest))) (sym (made_one job around n f c vs 0))
 
 -- ---- what is said of all jobs
 
@@ -84,4 +86,4 @@ begin_makes_as digest sc stack old new made = λ job around f c vs n is alike s 
     let tag = digested digest in
     let start = starts digest job around f c vs (Stand.run stack) s in
     subst (λ x. StartsCall x f (low_pairs no_name tag c) (low_vals no_name tag vs) (Stand.run stack) → new ≡ old ++ map (with_name digest) (segment (body_at (over_names digest x) bodies f (low_pairs no_name tag c) (low_vals no_name tag vs) nowhere start_st))) (sym is) (made f (low_pairs no_name tag c) (low_vals no_name tag vs)) start
-    ∙ ap (λ ds. old ++ map (with_name digest) ds) (begin_makes digest job around f c vs alike)
+    ∙ ap (λ ds. old ++ map (with_name digest) ds) (begin_makes digest job around f c vs alike n)

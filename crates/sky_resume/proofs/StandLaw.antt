@@ -7,7 +7,7 @@ use Rattle.sky_base.specs.Name.{digested, low_desc, low_pairs, low_vals}
 use Rattle.sky_base.specs.Tree.{Script, nowhere}
 use Rattle.sky_base.specs.Res.{bodies, others, Object, End, St, Entry, Res, Fin, Tell, Ask, Wait}
 use Rattle.sky_base.specs.Eval.{World, body_of, body_at, plug}
-use Rattle.sky_base.specs.Read.{ended, Run, Halt, refs_of, see_all, halts_seen, outcome, halt, segment, segment_from, first_end, first_halt, rest_of, run_of_halt}
+use Rattle.sky_base.specs.Read.{ended, Run, Halt, refs_of, see_all, halts_seen, outcome, acts, halt, segment, segment_from, first_end, first_halt, rest_of, run_of_halt}
 use Rattle.sky_base.specs.See.{Vals, Pairs, Desc, Obj, Job, Around, see, run_of, world_of, start_st, object_of}
 use Rattle.sky_base.specs.Needed.{Task, State, halt_state, halt_refs, wait_at}
 use Rattle.sky_base.specs.ObjectView.{object_view}
@@ -16,12 +16,14 @@ use Rattle.sky_law.specs.Lower.{low_entry, low_wait, low_obj, low_end, low_st, l
 use Rattle.sky_law.specs.NamesLaws.{no_name, ReadsAlike}
 use Rattle.sky_law.specs.Nodes.{node_at}
 use Rattle.sky_law.specs.Opened.{Node}
+use Rattle.sky_law.specs.Tasks.{after_wait, made_before, made_between}
 use Rattle.sky_law.proofs.LowLaw.{Rel}
 use Rattle.sky_law.proofs.LowStack.{job_low, stack_low}
 use Rattle.sky_law.proofs.NodesLaw.{has_script}
 use Rattle.sky_law.proofs.OpenLaw as law
 use Rattle.sky_law.proofs.OpenLaw.{Opens, opens_call}
 use Rattle.sky_law.proofs.SeenLaw.{on, on_is, on_either, kept_is, kept_on, all_kept, halt_kept, see_kept, wait_kept, stands_one}
+use Rattle.sky_law.proofs.TaskFuel.{made_next}
 use Rattle.sky_law.proofs.TaskLaw.{halt_is, task_ends, task_halts, resume_halts, resume_makes, resume_ends}
 use Rattle.sky_law.proofs.Lists.{some_is}
 use Rattle.sky_rows.specs.Data.{data_of}
@@ -54,6 +56,12 @@ pub end_outcome : (look : Desc → Option Obj) (r : Res ⊥) (s : End ⊥ × St 
 end_outcome look (Fin e st) s is = ap (λ x. ended x.0 x.1) (some_is (e, st) s is)
 end_outcome look (Tell d r) s is = end_outcome look r s is
 end_outcome look (Ask q fr st k) s is = absurd (none_some s is)
+
+-- what a call makes from one wait up to the next
+pub made_one : (job : Job) (around : Around) (n : ℕ) (f : List ℕ) (c : Pairs) (vs : Vals) (j : ℕ) → made_between job around n (Task.of (call f c vs)) j (suc j) ≡ segment_from (see job around n) j (run_of job around f c vs)
+made_one job around n f c vs j =
+    let one : suc j - j ≡ 1 = omega arith in
+    ap (λ k. made_before k (after_wait j (acts (see job around n) (run_of job around f c vs)))) one ∙ made_next (see job around n) j (run_of job around f c vs)
 
 -- a run that comes to its end before any wait stands at none
 pub end_no_halt : (r : Res ⊥) (s : End ⊥ × St ⊥) → first_end r ≡ Some s → (look : Desc → Option Obj) (k : ℕ) → halt look k r ≡ None
@@ -218,8 +226,9 @@ module _ (digest : List ℕ → List ℕ) (job : Job) (around : Around) (alike :
           let low : new ≡ low_run no_name (digested digest) (run_of_halt f (suc (suc j)) next.0) = stack ∙ ap (λ x. run_of_halt f (suc r.waits) x) next.2 ∙ ap (λ k. run_of_halt f (suc k) (low_halt no_name (digested digest) next.0)) s.waits ∙ stack_low no_name (digested digest) f (suc (suc j)) next.0 in
           (State.run (run_of_halt f (suc (suc j)) next.0), (n, ap (halt_state f (suc (suc j))) next.1), ap Stand.run low)
 
-      pub makes_on : segment (Onward s.at os) ≡ map (low_desc no_name (digested digest)) (segment_from (see job around n) (suc j) (run_of job around f c vs))
-      makes_on = resume_makes job around (see job around n) f c vs j s.at os s.is at_seen (digested digest) data_of alike
+      pub makes_on : segment (Onward s.at os) ≡ map (low_desc no_name (digested digest)) (made_between job around n (Task.of (call f c vs)) (suc j) (suc (suc j)))
+      makes_on =
+          resume_makes job around (see job around n) f c vs j s.at os s.is at_seen (digested digest) data_of alike ∙ ap (map (low_desc no_name (digested digest))) (sym (made_one job around n f c vs (suc j)))
 
   -- a stack that stands for a call
   pub stand_of : (f : List ℕ) (c : Pairs) (vs : Vals) (n j : ℕ) (ds : List Desc) (r : Run (List ℕ)) → wait_at job around n (Task.of (call f c vs)) (suc j) ≡ Some ds → Stands job around (digested digest) (Stand.run r) (Task.of (call f c vs)) (suc j) → Standing f c vs n j ds r

@@ -7,11 +7,12 @@ use Rattle.sky_base.specs.Tree.{Script}
 use Rattle.sky_base.specs.Res.{Object}
 use Rattle.sky_base.specs.Read.{Run, see_all}
 use Rattle.sky_base.specs.See.{Vals, Pairs, Desc, Obj, Job, Around, see}
-use Rattle.sky_base.specs.Needed.{Task, WaitOf, wait_at, made_from}
+use Rattle.sky_base.specs.Needed.{Task, WaitOf, wait_at}
 use Rattle.sky_base.specs.ObjectView.{object_view}
 use Rattle.sky_base.specs.declared.object.Object as rust
 use Rattle.sky_law.specs.Lower.{low_obj}
 use Rattle.sky_law.specs.NamesLaws.{no_name, ReadsAlike}
+use Rattle.sky_law.specs.Tasks.{made_between}
 use Rattle.sky_rows.specs.Data.{data_of}
 use Rattle.sky_state.specs.Stand.{Stand}
 use Rattle.sky_state.specs.Stands.{Stands}
@@ -56,4 +57,4 @@ module _ (digest : List ℕ → List ℕ) where
       → job.script ≡ sc → ReadsAlike (digested digest) around data_of
       → Stands job around (digested digest) (Stand.run stack) (Task.of (call f c vs)) j
       → AnsweredBy job around n (Task.of (call f c vs)) j (map object_view answers)
-      → new ≡ old ++ map (with_name digest) (map (low_desc no_name (digested digest)) (made_from job around n f c vs j))
+      → new ≡ old ++ map (with_name digest) (map (low_desc no_name (digested digest)) (made_between job around n (Task.of (call f c vs)) j (suc j)))

@@ -179,14 +179,14 @@ module _ (digest : List ℕ → List ℕ) where
             let m = n + k in
             let over : ended job around m t ≡ true = (ended_stays_to job around k m t (omega arith) e).0 in
             let same : made_after job around m t (suc j) ≡ es = after_one job around t (suc j) (made_after job around m t (suc j)) es (m, over, refl) (k, e, is) in
-            (made_between job around m t j (suc j) ++ es, (m, over, after_front job around m t j ∙ ap (λ ds. made_between job around m t j (suc j) ++ ds) same), both_named digest (made_between job around m t j (suc j)) es before after later (makes m (omega arith)) grew)
+            (made_between job around m t j (suc j) ++ es, (m, over, after_front job around m t j ∙ ap (λ ds. made_between job around m t j (suc j) ++ ds) same), both_named (made_between job around m t j (suc j)) es before after later (makes m (omega arith)) grew)
 
         made_to_wait : (later : Spawned) (i : ℕ) (es : List Desc) → suc j < i → MadeBetween job around t (suc j) i es → GrewBy digest finds job around es after later → (ds : List Desc) × MadeBetween job around t j i ds × GrewBy digest finds job around ds before later
         made_to_wait later i es lt (k, (ws, e), is) grew =
             let m = n + k in
             let wait : wait_at job around m t i ≡ Some ws = wait_to job around k m t i ws (omega arith) e in
             let same : made_between job around m t (suc j) i ≡ es = between_one job around t (suc j) i (made_between job around m t (suc j) i) es lt (m, (ws, wait), refl) (k, (ws, e), is) in
-            (made_between job around m t j (suc j) ++ es, (m, (ws, wait), between_front job around m t j i (omega (arith, lt)) ∙ ap (λ ds. made_between job around m t j (suc j) ++ ds) same), both_named digest (made_between job around m t j (suc j)) es before after later (makes m (omega arith)) grew)
+            (made_between job around m t j (suc j) ++ es, (m, (ws, wait), between_front job around m t j i (omega (arith, lt)) ∙ ap (λ ds. made_between job around m t j (suc j) ++ ds) same), both_named (made_between job around m t j (suc j)) es before after later (makes m (omega arith)) grew)
 
       -- ---- the steps together
 
