@@ -68,8 +68,8 @@ module _ (digest : List ℕ → List ℕ) where
   -- of what it waits for there: it came to its next wait or its end, and what was spawned grew by what it makes up to there
   pub record Resumed (sc : Script) (old new : Stand (List ℕ)) (os : List (Object (List ℕ))) (s : Step) (before after : Spawned) : Type 0 where
     pub steps : (job : Job) (around : Around) (t : Task) (j n : ℕ)
-      → job.script ≡ sc → ReadsAlike (digested digest) around data_of → Stands job around (digested digest) old t j
-      → Answers job around n t j os → StepsTo job around t j s new
+        → job.script ≡ sc → ReadsAlike (digested digest) around data_of → Stands job around (digested digest) old t j
+        → Answers job around n t j os → StepsTo job around t j s new
     pub makes : (job : Job) (around : Around) (t : Task) (j n : ℕ)
-      → job.script ≡ sc → ReadsAlike (digested digest) around data_of → Stands job around (digested digest) old t j
-      → Answers job around n t j os → after ≡ before ++ named_all (made_between job around n t j (suc j))
+        → job.script ≡ sc → ReadsAlike (digested digest) around data_of → Stands job around (digested digest) old t j
+        → Answers job around n t j os → after ≡ before ++ named_all (made_between job around n t j (suc j))
