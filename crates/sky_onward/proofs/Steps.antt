@@ -12,12 +12,15 @@ use Rattle.sky_base.specs.Needed.{Task, State, WaitOf, halt_state, halt_refs, st
 use Rattle.sky_base.specs.ObjectView.{object_view}
 use Rattle.sky_base.specs.declared.object.Object as rust
 use Rattle.sky_law.specs.Lower.{low_run}
-use Rattle.sky_law.specs.NamesLaws.{Tag, no_name}
+use Rattle.sky_law.specs.NamesLaws.{Tag, no_name, ReadsAlike}
+use Rattle.sky_law.specs.Tasks.{made_between}
+use Rattle.sky_rows.specs.Data.{data_of}
 use Rattle.sky_state.specs.Stand.{Stand, low_state}
 use Rattle.sky_state.specs.Stands.{Stands}
+use Rattle.sky_waves.specs.Seen.{WritesAlike}
 use Rattle.sky_resume.specs.Standing.{AnsweredBy, StandsOn, GoesOnAs, MakesAs}
 use Rattle.sky_resume.specs.declared.on.Came.{Came}
-use Rattle.sky_onward.specs.Steps.{Spawned, HasWait, Answers, StepsTo, Resumed}
+use Rattle.sky_onward.specs.Steps.{Spawned, HasWait, Answers, StepsTo, Resumed, named_all}
 use Rattle.sky_onward.specs.declared.step.Step.{Step}
 
 none_some : {A : Type 0} (a : A) → None ≡ Some a → ⊥

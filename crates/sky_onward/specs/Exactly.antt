@@ -37,8 +37,14 @@ module _ (digest : List ℕ → List ℕ) (sc : Script) (os : List (Object (List
       (f : List ℕ) (r : Res (List ℕ)) → IsRest digest sc old os f r → after ≡ before ++ map (with_name digest) (segment r)
   MakesExactly (Stand.show_at v w) before after = after ≡ before
 
--- where the task ended with an object it is sound, and where it waits its state fits the script, and it has come one wait further
-abbrev pub FitsAgain : Script → (old new : Stand (List ℕ)) → Step → Type 0
-FitsAgain sc old new (Step.Ended o) = SoundObject sc (object_view o)
-FitsAgain sc old new Step.Waits = Fits sc new × (gone_of new ≡ suc (gone_of old))
-FitsAgain sc old new (Step.Shown s) = Unit {0}
+-- where the task ended with an object it is sound, and where it waits its state fits the script
+abbrev pub FitsAfter : Script → (new : Stand (List ℕ)) → Step → Type 0
+FitsAfter sc new (Step.Ended o) = SoundObject sc (object_view o)
+FitsAfter sc new Step.Waits = Fits sc new
+FitsAfter sc new (Step.Shown s) = Unit {0}
+
+-- where it waits it has come one wait further
+abbrev pub OneFurther : (old new : Stand (List ℕ)) → Step → Type 0
+OneFurther old new (Step.Ended o) = Unit {0}
+OneFurther old new Step.Waits = gone_of new ≡ suc (gone_of old)
+OneFurther old new (Step.Shown s) = Unit {0}

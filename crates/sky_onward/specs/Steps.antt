@@ -15,15 +15,11 @@ use Rattle.sky_law.specs.Tasks.{made_between}
 use Rattle.sky_rows.specs.Data.{data_of}
 use Rattle.sky_state.specs.Stand.{Stand}
 use Rattle.sky_state.specs.Stands.{Stands}
-use Rattle.sky_state.specs.declared.shown.Shown.{Shown}
+use Rattle.sky_waves.specs.Seen.{WritesAlike}
+use Rattle.sky_shown.specs.Shows.{shown_view}
 use Rattle.sky_resume.specs.Comes.{with_name}
 use Rattle.sky_resume.specs.Standing.{WaitsNoMore, SeenAs}
 use Rattle.sky_onward.specs.declared.step.Step.{Step}
-
--- the answer that is shown
-abbrev pub shown_view : Shown → Answered
-shown_view (Shown.Text b) = Answered.bytes b
-shown_view (Shown.Fault f) = Answered.fault f
 
 -- there is such a wait
 abbrev pub HasWait : Job → Around → Task → ℕ → Type 0
@@ -50,15 +46,15 @@ module _ (digest : List ℕ → List ℕ) where
   EndsAs job around (Task.of d) o = SeenAs digest job around d o
 
   -- the root task ends with the job's answer
-  abbrev pub ShowsAs : Job → Around → Task → Answered → Type 0
-  ShowsAs job around Task.show a = Means job around a
-  ShowsAs job around (Task.of d) a = ⊥
+  abbrev pub MeansAs : Job → Around → Task → Answered → Type 0
+  MeansAs job around Task.show a = Means job around a
+  MeansAs job around (Task.of d) a = ⊥
 
   -- the task came from its wait j to its end, with no wait between, or it has a next wait and the state stands for it there
   abbrev pub StepsTo : Job → Around → Task → (j : ℕ) → Step → Stand (List ℕ) → Type 0
   StepsTo job around t j (Step.Ended o) new = EndsAs job around t (object_view o) × WaitsNoMore job around t j
   StepsTo job around t j Step.Waits new = Stands job around (digested digest) new t (suc j) × HasWait job around t (suc j)
-  StepsTo job around t j (Step.Shown s) new = ShowsAs job around t (shown_view s) × WaitsNoMore job around t j
+  StepsTo job around t j (Step.Shown s) new = MeansAs job around t (shown_view s) × WaitsNoMore job around t j
 
   -- what a task makes, each with its name
   abbrev pub named_all : List Desc → Spawned
@@ -68,8 +64,10 @@ module _ (digest : List ℕ → List ℕ) where
   -- of what it waits for there: it came to its next wait or its end, and what was spawned grew by what it makes up to there
   pub record Resumed (sc : Script) (old new : Stand (List ℕ)) (os : List (Object (List ℕ))) (s : Step) (before after : Spawned) : Type 0 where
     pub steps : (job : Job) (around : Around) (t : Task) (j n : ℕ)
-      → job.script ≡ sc → ReadsAlike (digested digest) around data_of → Stands job around (digested digest) old t j
+      → job.script ≡ sc → ReadsAlike (digested digest) around data_of → WritesAlike (digested digest) around
+      → Stands job around (digested digest) old t j
       → Answers job around n t j os → StepsTo job around t j s new
     pub makes : (job : Job) (around : Around) (t : Task) (j n : ℕ)
-      → job.script ≡ sc → ReadsAlike (digested digest) around data_of → Stands job around (digested digest) old t j
+      → job.script ≡ sc → ReadsAlike (digested digest) around data_of → WritesAlike (digested digest) around
+      → Stands job around (digested digest) old t j
       → Answers job around n t j os → after ≡ before ++ named_all (made_between job around n t j (suc j))

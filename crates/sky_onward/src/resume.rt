@@ -4,7 +4,7 @@ ghost use Rattle.std.specs.Prelude.{◌≡◌, IfOk, map};
 ghost use Rattle.sky_base.specs.ObjectView.{object_view};
 ghost use Rattle.sky_state.specs.Fits.{Fits};
 ghost use Rattle.sky_state.specs.StateView.{stand_of, spawned_of};
-ghost use Rattle.sky_onward.specs.Exactly.{Exactly, MakesExactly, FitsAgain};
+ghost use Rattle.sky_onward.specs.Exactly.{Exactly, MakesExactly, FitsAfter, OneFurther};
 ghost use Rattle.sky_onward.specs.Onward.{IsRead, AnswersSound, GrewSoundly};
 ghost use Rattle.sky_onward.specs.Steps.{Resumed};
 
@@ -38,7 +38,8 @@ pub fn resume<'a, 'b, N: Namer>(
     ensures comes { IfOk result (λ s. Exactly (N.digest namer.now) script.now.code (map object_view answers.now) (stand_of state.old) (stand_of state.new) s) }
     ensures made { IfOk result (λ s. MakesExactly (N.digest namer.now) script.now.code (map object_view answers.now) (stand_of state.old) (spawned_of state.old) (spawned_of state.new)) }
     ensures resumed { IfOk result (λ s. Resumed (N.digest namer.now) script.now.code (stand_of state.old) (stand_of state.new) (map object_view answers.now) s (spawned_of state.old) (spawned_of state.new)) }
-    ensures fits { IfOk result (λ s. FitsAgain script.now.code (stand_of state.old) (stand_of state.new) s) }
+    ensures fits { IfOk result (λ s. FitsAfter script.now.code (stand_of state.new) s) }
+    ensures further { IfOk result (λ s. OneFurther (stand_of state.old) (stand_of state.new) s) }
     ensures sound { IfOk result (λ s. GrewSoundly (N.digest namer.now) script.now.code (spawned_of state.old) (spawned_of state.new)) }
 {
     match state {

@@ -1,12 +1,12 @@
 -- What a task makes from one wait to a later one is what it makes up to the next wait, and then from there on.
 use Rattle.std.proofs.Common.{◌≡◌, ◌≢◌, ℕ, zero, suc, ◌+◌, ◌-◌, ◌<◌, ◌≤◌, List, [], ◌∷◌, ◌++◌, Option, Some, None, slice_get, refl, sym, ap, ◌∙◌, subst, arith}
 use Rattle.sky_base.specs.Val as v
-use Rattle.sky_base.specs.Read.{Act, made, waited, see_all}
-use Rattle.sky_base.specs.See.{Desc, Obj, Job, Around, see}
+use Rattle.sky_base.specs.Read.{Act, made, waited}
+use Rattle.sky_base.specs.See.{Job, Around}
 use Rattle.sky_base.specs.Needed.{Task, wait_at}
 use Rattle.sky_law.specs.Tasks.{waits_in, after_wait, made_before, made_in, acts_of, made_between, made_after}
-use Rattle.sky_law.proofs.SeenLaw.{on, on_is, kept_is, kept_on, all_kept, see_kept, wait_kept}
 use Rattle.sky_law.proofs.TaskFuel.{waits_at}
+pub use Rattle.sky_resume.proofs.Later.{wait_to, all_to}
 
 some_not : {A : Type 0} (a : A) → Some a ≢ None
 some_not a e = cc
@@ -61,18 +61,3 @@ module _ (job : Job) (around : Around) where
   -- where there is no further wait it makes no more
   pub after_last : (n : ℕ) (t : Task) (j : ℕ) → wait_at job around n t (suc j) ≡ None → made_after job around n t (suc j) ≡ []
   after_last n t j none = ap made_in (none_behind j (acts_of job around n t) (waits_at job around n t j ∙ none))
-
-  -- ---- as far as more tells
-
-  on_to : (n m : ℕ) → n ≤ m → on (m - n) n ≡ m
-  on_to n m l = on_is (m - n) n ∙ omega (arith, l)
-
-  pub wait_to : (n m : ℕ) (t : Task) (j : ℕ) (ds : List Desc) → n ≤ m → wait_at job around n t j ≡ Some ds → wait_at job around m t j ≡ Some ds
-  wait_to n m t j ds l e =
-      ap (λ k. wait_at job around k t j) (sym (on_to n m l))
-      ∙ kept_is None (wait_at job around n t j) (wait_at job around (on (m - n) n) t j) (Some ds) (kept_on None (λ k. wait_at job around k t j) (λ k. wait_kept job around t j k) (m - n) n) e (some_not ds)
-
-  pub all_to : (n m : ℕ) (ds : List Desc) (os : List Obj) → n ≤ m → see_all (see job around n) ds ≡ Some os → see_all (see job around m) ds ≡ Some os
-  all_to n m ds os l e =
-      ap (λ k. see_all (see job around k) ds) (sym (on_to n m l))
-      ∙ kept_is None (see_all (see job around n) ds) (see_all (see job around (on (m - n) n)) ds) (Some os) (kept_on None (λ k. see_all (see job around k) ds) (λ k. all_kept (see job around k) (see job around (suc k)) (λ d. see_kept job around k d) ds) (m - n) n) e (some_not os)

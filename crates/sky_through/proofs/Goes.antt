@@ -25,7 +25,9 @@ use Rattle.sky_state.specs.Stands.{Stands}
 use Rattle.sky_state.proofs.HeldLaw.{stands_pending}
 use Rattle.sky_resume.specs.Comes.{with_name}
 use Rattle.sky_resume.specs.Standing.{WaitsNoMore, SeenAs}
-use Rattle.sky_onward.specs.Steps.{Spawned, HasWait, Answers, EndsAs, ShowsAs, StepsTo, Resumed, shown_view, named_all}
+use Rattle.sky_waves.specs.Seen.{WritesAlike}
+use Rattle.sky_shown.specs.Shows.{shown_view}
+use Rattle.sky_onward.specs.Steps.{Spawned, HasWait, Answers, EndsAs, MeansAs, StepsTo, Resumed, named_all}
 use Rattle.sky_onward.specs.declared.step.Step.{Step}
 use Rattle.sky_through.specs.Through.{AreFound, Lacks, StopsAt, Through, last, more}
 use Rattle.sky_through.specs.Went.{IsFound, Truly, TrulyFrom, GrewBy, WentOn, GoesThrough}
@@ -108,7 +110,7 @@ module _ (digest : List ℕ → List ℕ) where
     is_told (Answered.bytes b) ne = refl
     is_told (Answered.fault f) ne = refl
 
-    pub shows_of : (t : Task) (a : Answered) → ShowsAs digest job around t a → Ends job around t
+    pub shows_of : (t : Task) (a : Answered) → MeansAs digest job around t a → Ends job around t
     shows_of Task.show a (n, e, ne) = (n, ap is_answer e ∙ is_told a ne)
     shows_of (Task.of d) a h = absurd h
 
@@ -224,19 +226,19 @@ module _ (digest : List ℕ → List ℕ) where
       with_rest j n Step.Waits new before between after first makes (i, next, stands, (es, made, grew)) =
           (i, record { above = omega (arith, next.above); passes = past_one j i first next.passes; waits = next.waits; waited = next.waited; missing = next.missing; is_waited = next.is_waited; is_missing = next.is_missing }, stands, made_to_wait j n before between makes after i es next.above made grew)
 
-      module _ (sc : Script) (is : job.script ≡ sc) (alike : ReadsAlike (digested digest) around data_of) where
+      module _ (sc : Script) (is : job.script ≡ sc) (alike : ReadsAlike (digested digest) around data_of) (writes : WritesAlike (digested digest) around) where
         pub went : (j : ℕ) (old new : Stand (List ℕ)) (s : Step) (before after : Spawned) (ds : List Desc) → Stands job around (digested digest) old t j → WaitOf job around t j ds → TrulyFrom digest finds job around t j → Through finds digest sc old new s before after → WentOn digest finds job around t j s new before after
         went j old new s before after ds stands w truly (last os found r stop) =
             let ans = answers old j ds stands w (truly j ds (omega arith) w) os found in
-            at_last j ans.0 s new before after truly (r.steps job around t j ans.0 is alike stands (ans.1 ans.0 (omega arith))) stop (λ m l. r.makes job around t j m is alike stands (ans.1 m l))
+            at_last j ans.0 s new before after truly (r.steps job around t j ans.0 is alike writes stands (ans.1 ans.0 (omega arith))) stop (λ m l. r.makes job around t j m is alike writes stands (ans.1 m l))
         went j old new s before after ds stands w truly (more os found r rest) =
             let ans = answers old j ds stands w (truly j ds (omega arith) w) os found in
-            let step = r.steps job around t j ans.0 is alike stands (ans.1 ans.0 (omega arith)) in
+            let step = r.steps job around t j ans.0 is alike writes stands (ans.1 ans.0 (omega arith)) in
             let next = first_found sc _ new s _ after rest in
             let first = λ (es : List Desc) (v : WaitOf job around t (suc j) es). each_found _ (suc j) es step.0 v (truly (suc j) es (omega arith) v) next.0 next.1 in
             let later = went (suc j) _ new s _ after step.1.0 step.0 step.1.1 (λ k es l v. truly k es (omega (arith, l)) v) rest in
-            with_rest j ans.0 s new before _ after first (λ m l. r.makes job around t j m is alike stands (ans.1 m l)) later
+            with_rest j ans.0 s new before _ after first (λ m l. r.makes job around t j m is alike writes stands (ans.1 m l)) later
 
 pub goes_through : (digest : List ℕ → List ℕ) (sc : Script) (finds : v.Desc (List ℕ) → Option (Object (List ℕ))) (old new : Stand (List ℕ)) (s : Step) (before after : Spawned) → Through finds digest sc old new s before after → GoesThrough digest sc finds old new s before after
-goes_through digest sc finds old new s before after th = λ job around t j is alike stands waits truly.
-    went digest finds job around t sc is alike j old new s before after waits.0 stands waits.1 truly th
+goes_through digest sc finds old new s before after th = λ job around t j is alike writes stands waits truly.
+    went digest finds job around t sc is alike writes j old new s before after waits.0 stands waits.1 truly th

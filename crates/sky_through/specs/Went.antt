@@ -14,7 +14,9 @@ use Rattle.sky_rows.specs.Data.{data_of}
 use Rattle.sky_state.specs.Stand.{Stand}
 use Rattle.sky_state.specs.Stands.{Stands}
 use Rattle.sky_resume.specs.Standing.{SeenAs}
-use Rattle.sky_onward.specs.Steps.{Spawned, HasWait, EndsAs, ShowsAs, shown_view, named_all}
+use Rattle.sky_waves.specs.Seen.{WritesAlike}
+use Rattle.sky_shown.specs.Shows.{shown_view}
+use Rattle.sky_onward.specs.Steps.{Spawned, HasWait, EndsAs, MeansAs, named_all}
 use Rattle.sky_onward.specs.declared.step.Step.{Step}
 use Rattle.sky_through.specs.Through.{Through}
 
@@ -46,14 +48,14 @@ module _ (digest : List ℕ → List ℕ) (finds : v.Desc (List ℕ) → Option 
       (i : ℕ) × NextWait job around IsFound t j i × Stands job around (digested digest) new t i
       × ((ds : List Desc) × MadeBetween job around t j i ds × GrewBy ds before after)
   WentOn t j (Step.Shown s) new before after =
-      NextEnd job around IsFound t j × ShowsAs digest job around t (shown_view s)
+      NextEnd job around IsFound t j × MeansAs digest job around t (shown_view s)
       × ((ds : List Desc) × MadeAfter job around t j ds × GrewBy ds before after)
 
 -- whatever task of whatever job with this script the old state stands for at a wait, where from that wait on what is found is true
 abbrev pub GoesThrough : (digest : List ℕ → List ℕ) (sc : Script) (finds : v.Desc (List ℕ) → Option (Object (List ℕ))) (old new : Stand (List ℕ)) (s : Step) (before after : Spawned) → Type 0
 GoesThrough digest sc finds old new s before after =
     (job : Job) (around : Around) (t : Task) (j : ℕ)
-    → job.script ≡ sc → ReadsAlike (digested digest) around data_of
+    → job.script ≡ sc → ReadsAlike (digested digest) around data_of → WritesAlike (digested digest) around
     → Stands job around (digested digest) old t j → HasWait job around t j → TrulyFrom digest finds job around t j
     → WentOn digest finds job around t j s new before after
 
