@@ -2,7 +2,7 @@
 use Rattle.std.proofs.Common.{◌≡◌, ◌≢◌, ◌++◌, ℕ, zero, suc, List, [], ◌∷◌, map, Bool, true, false, Option, Some, None, nat_le, refl, sym, ap, ◌∙◌, subst, append-nil, inl, inr}
 use Rattle.sky_base.specs.Val as v
 use Rattle.sky_base.specs.Val.{call, out, input, known, refs, stands_in, unless_in, distinct_from, distinct}
-use Rattle.sky_base.specs.Name.{digested}
+use Rattle.sky_base.specs.Name.{digested, low_desc}
 use Rattle.sky_base.specs.Tree.{Script}
 use Rattle.sky_base.specs.Res.{Object}
 use Rattle.sky_base.specs.Eval.{Body, body_of}
@@ -11,7 +11,7 @@ use Rattle.sky_base.specs.See.{Val, Vals, Pairs, Desc, Obj, Job, Around, Answere
 use Rattle.sky_base.specs.Needed.{Task, State, WaitOf, wait_at, halt_state, start_frame, wave_state, distinct_refs, wave_refs, unless_none, only_if}
 use Rattle.sky_base.specs.View.{view}
 use Rattle.sky_law.specs.Tasks.{In, Apart, after_wait, made_before, made_between, is_answer, wait_then, waves_from, acts_of, ended}
-use Rattle.sky_law.specs.NamesLaws.{Tag, ReadsAlike}
+use Rattle.sky_law.specs.NamesLaws.{Tag, no_name, ReadsAlike}
 use Rattle.sky_law.proofs.Lists.{some_is}
 use Rattle.sky_law.proofs.TaskOutputs.{stands_exact, distinct_apart}
 use Rattle.sky_rows.specs.Data.{data_of}
@@ -21,9 +21,10 @@ use Rattle.sky_waves.specs.Seen.{WritesAlike}
 use Rattle.sky_shown.specs.Shows.{shown_view}
 use Rattle.sky_shown.specs.Standing as shown
 use Rattle.sky_shown.specs.declared.show.Came as shows
+use Rattle.sky_moves.specs.Moves as moves
 use Rattle.sky_resume.proofs.Later.{no_later}
 use Rattle.sky_onward.specs.Exactly.{gone_of}
-use Rattle.sky_onward.specs.Steps.{Spawned, HasWait, Answers, StepsTo, Resumed, named_all}
+use Rattle.sky_onward.specs.Steps.{stop_of, Resumed}
 use Rattle.sky_onward.specs.declared.step.Step.{Step}
 
 none_some : {A : Type 0} (a : A) → None ≡ Some a → ⊥
@@ -141,34 +142,40 @@ shows_next u w (shows.Came.Shown s) = Stand.show_at u w
 shows_next u w (shows.Came.Next x) = Stand.show_at (view x) (suc w)
 
 module _ (digest : List ℕ → List ℕ) (sc : Script) (u : v.Val (List ℕ)) (w : ℕ) (os : List (Object (List ℕ))) (came : shows.Came) (goes : shown.ShowsAs u w os came) where
-  at_wave : (job : Job) (around : Around) (n j : ℕ) → w ≡ j → (o : shows.Came) → shown.ShownOrStands (digested digest) job around n j o → StepsTo digest job around Task.show j (shows_step o) (shows_next u w o)
-  at_wave job around n j e (shows.Came.Shown s) (is, ne, none) =
-      ((n, is, ne), no_later job around n Task.show j (ap is_answer is ∙ is_told (shown_view s) ne) none)
-  at_wave job around n j e (shows.Came.Next x) (stands, ds, wait) =
-      (subst (λ k. Stands job around (digested digest) (Stand.show_at (view x) (suc k)) Task.show (suc j)) (sym e) stands, (ds, wait))
+  abbrev tag : Tag
+  tag = digested digest
+
+  module _ (job : Job) (around : Around) (alike : ReadsAlike (digested digest) around data_of) (writes : WritesAlike (digested digest) around) where
+    at_wave : (n j : ℕ) → w ≡ j → (o : shows.Came) → shown.ShownOrStands tag job around n j o → moves.StepsTo tag job around Task.show j (stop_of (shows_step o) (shows_next u w o))
+    at_wave n j e (shows.Came.Shown s) (is, ne, none) =
+        ((n, is, ne), no_later tag job around n Task.show j (ap is_answer is ∙ is_told (shown_view s) ne) none)
+    at_wave n j e (shows.Came.Next x) (stands, ds, wait) =
+        (subst (λ k. Stands job around tag (Stand.show_at (view x) (suc k)) Task.show (suc j)) (sym e) stands, (ds, wait))
+
+    at_show : (j n : ℕ) → Stands job around tag (Stand.show_at u w) Task.show j → moves.Answers tag job around Task.show n j os → moves.StepsTo tag job around Task.show j (stop_of (shows_step came) (shows_next u w came))
+    at_show j n s a =
+        let once = show_once job around n j a.waited a.is_wait in
+        let all : see_all (see job around n) a.waited ≡ Some a.objects = ap (see_all (see job around n)) (sym once) ∙ a.seen in
+        at_wave n j (wave_is tag j (wave job around s.1.0 j) s.0 (Stand.show_at u w) s.1.1 s.2) came (goes tag job around n j a.waited a.objects alike writes s a.is_wait all a.are a.apart)
+
+    steps : (t : Task) (j n : ℕ) → Stands job around tag (Stand.show_at u w) t j → moves.Answers tag job around t n j os → moves.StepsTo tag job around t j (stop_of (shows_step came) (shows_next u w came))
+    unfolding IsShow
+    steps Task.show j n s a = at_show j n s a
+    steps (Task.of (call f c vs)) zero n (x, (m, at), low) a = absurd (not_started tag f c vs (body_of f job.script) x (Stand.show_at u w) at low tt)
+    steps (Task.of (call f c vs)) (suc j) n (x, (m, at), low) a = absurd (not_halted tag f (suc j) (halt (see job around m) j (run_of job around f c vs)) x (Stand.show_at u w) at low tt)
+    steps (Task.of (out x y m i)) j n (b, (k, at), low) a = absurd (none_some b at)
+    steps (Task.of (input k)) j n (b, (m, at), low) a = absurd (none_some b at)
+    steps (Task.of (known b)) j n s a = absurd b
+
+    makes : (t : Task) (j n : ℕ) → Stands job around tag (Stand.show_at u w) t j → moves.Answers tag job around t n j os → [] ≡ map (low_desc no_name tag) (made_between job around n t j (suc j))
+    unfolding IsShow
+    makes Task.show j n s a = sym (ap (map (low_desc no_name tag)) (show_makes job around n j))
+    makes (Task.of (call f c vs)) zero n (x, (m, at), low) a = absurd (not_started tag f c vs (body_of f job.script) x (Stand.show_at u w) at low tt)
+    makes (Task.of (call f c vs)) (suc j) n (x, (m, at), low) a = absurd (not_halted tag f (suc j) (halt (see job around m) j (run_of job around f c vs)) x (Stand.show_at u w) at low tt)
+    makes (Task.of (out x y m i)) j n (b, (k, at), low) a = absurd (none_some b at)
+    makes (Task.of (input k)) j n (b, (m, at), low) a = absurd (none_some b at)
+    makes (Task.of (known b)) j n s a = absurd b
 
   pub show_resumed : Resumed digest sc (Stand.show_at u w) (shows_next u w came) os (shows_step came) [] []
-  unfolding IsShow
-  show_resumed = record { steps = steps; makes = makes }
-    where
-      at_show : (job : Job) (around : Around) (j n : ℕ) → ReadsAlike (digested digest) around data_of → WritesAlike (digested digest) around → Stands job around (digested digest) (Stand.show_at u w) Task.show j → Answers digest job around n Task.show j os → StepsTo digest job around Task.show j (shows_step came) (shows_next u w came)
-      at_show job around j n alike writes s a =
-          let once = show_once job around n j a.waited a.is_wait in
-          let all : see_all (see job around n) a.waited ≡ Some a.objects = ap (see_all (see job around n)) (sym once) ∙ a.seen in
-          at_wave job around n j (wave_is (digested digest) j (wave job around s.1.0 j) s.0 (Stand.show_at u w) s.1.1 s.2) came (goes (digested digest) job around n j a.waited a.objects alike writes s a.is_wait all a.are a.apart)
-
-      steps : (job : Job) (around : Around) (t : Task) (j n : ℕ) → job.script ≡ sc → ReadsAlike (digested digest) around data_of → WritesAlike (digested digest) around → Stands job around (digested digest) (Stand.show_at u w) t j → Answers digest job around n t j os → StepsTo digest job around t j (shows_step came) (shows_next u w came)
-      steps job around Task.show j n is alike writes s a = at_show job around j n alike writes s a
-      steps job around (Task.of (call f c vs)) zero n is alike writes (x, (m, at), low) a = absurd (not_started (digested digest) f c vs (body_of f job.script) x (Stand.show_at u w) at low tt)
-      steps job around (Task.of (call f c vs)) (suc j) n is alike writes (x, (m, at), low) a = absurd (not_halted (digested digest) f (suc j) (halt (see job around m) j (run_of job around f c vs)) x (Stand.show_at u w) at low tt)
-      steps job around (Task.of (out x y m i)) j n is alike writes (b, (k, at), low) a = absurd (none_some b at)
-      steps job around (Task.of (input k)) j n is alike writes (b, (m, at), low) a = absurd (none_some b at)
-      steps job around (Task.of (known b)) j n is alike writes s a = absurd b
-
-      makes : (job : Job) (around : Around) (t : Task) (j n : ℕ) → job.script ≡ sc → ReadsAlike (digested digest) around data_of → WritesAlike (digested digest) around → Stands job around (digested digest) (Stand.show_at u w) t j → Answers digest job around n t j os → [] ≡ [] ++ named_all digest (made_between job around n t j (suc j))
-      makes job around Task.show j n is alike writes s a = sym (ap (named_all digest) (show_makes job around n j))
-      makes job around (Task.of (call f c vs)) zero n is alike writes (x, (m, at), low) a = absurd (not_started (digested digest) f c vs (body_of f job.script) x (Stand.show_at u w) at low tt)
-      makes job around (Task.of (call f c vs)) (suc j) n is alike writes (x, (m, at), low) a = absurd (not_halted (digested digest) f (suc j) (halt (see job around m) j (run_of job around f c vs)) x (Stand.show_at u w) at low tt)
-      makes job around (Task.of (out x y m i)) j n is alike writes (b, (k, at), low) a = absurd (none_some b at)
-      makes job around (Task.of (input k)) j n is alike writes (b, (m, at), low) a = absurd (none_some b at)
-      makes job around (Task.of (known b)) j n is alike writes s a = absurd b
+  show_resumed =
+      record { made = []; grew = refl; moves = λ job around t is alike writes. record { steps = λ j n s a. steps job around alike writes t j n s a; makes = λ j n s a. makes job around alike writes t j n s a } }

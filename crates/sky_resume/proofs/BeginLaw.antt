@@ -60,7 +60,7 @@ module _ (digest : List ℕ → List ℕ) (job : Job) (around : Around) (f : Lis
         let over = mapped (low_stop no_name (digested digest)) (first_end run) e (sym is ∙ first_end_low no_name (digested digest) run whole low) in
         let x = end_object digest over.0.0 over.0.1 in
         let out : see job around 1 (call f c vs) ≡ Some x.0 = ap object_of (end_outcome (see job around 0) run over.0 over.1) ∙ x.1 in
-        ((1, x.0, out, object ∙ ap (λ (y : End (List ℕ) × St (List ℕ)). object_at y.0) over.2 ∙ x.2), no_later job around 0 (Task.of (call f c vs)) 0 (ap is_some out) (ap halt_refs (end_no_halt run over.0 over.1 (see job around 0) 0)))
+        ((1, x.0, out, object ∙ ap (λ (y : End (List ℕ) × St (List ℕ)). object_at y.0) over.2 ∙ x.2), no_later (digested digest) job around 0 (Task.of (call f c vs)) 0 (ap is_some out) (ap halt_refs (end_no_halt run over.0 over.1 (see job around 0) 0)))
     begins_on Came.Waits new (h, is, stack) =
         let next = mapped (low_halt no_name (digested digest)) (first_halt (run_of job around f c vs)) h (sym is ∙ first_halt_low no_name (digested digest) (run_of job around f c vs) whole low) in
         let run : new ≡ low_run no_name (digested digest) (run_of_halt f 1 next.0) = stack ∙ ap (λ x. run_of_halt f 1 x) next.2 ∙ stack_low no_name (digested digest) f 1 next.0 in

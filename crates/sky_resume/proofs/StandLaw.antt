@@ -184,7 +184,7 @@ module _ (digest : List ℕ → List ℕ) (job : Job) (around : Around) (alike :
           let x = end_object digest over.0.0 over.0.1 in
           let out : see job around (suc n) (call f c vs) ≡ Some x.0 = ap object_of (task_ends job around look f c vs j s.at os s.is at_seen ∙ end_outcome look rest over.0 over.1) ∙ x.1 in
           let gone : halt look (suc j) (run_of job around f c vs) ≡ None = task_halts job around look f c vs j s.at os s.is at_seen ∙ sym (halt_is look rest) ∙ end_no_halt rest over.0 over.1 look 0 in
-          ((suc n, x.0, out, object ∙ ap (λ (y : End (List ℕ) × St (List ℕ)). object_at y.0) over.2 ∙ x.2), no_later job around n (Task.of (call f c vs)) (suc j) (ap is_some out) (ap halt_refs gone))
+          ((suc n, x.0, out, object ∙ ap (λ (y : End (List ℕ) × St (List ℕ)). object_at y.0) over.2 ∙ x.2), no_later (digested digest) job around n (Task.of (call f c vs)) (suc j) (ap is_some out) (ap halt_refs gone))
       goes_on Came.Waits new (h, is, stack) =
           let next = mapped (low_halt no_name (digested digest)) (halt (see job around n) (suc j) (run_of job around f c vs)) h (sym is ∙ halts) in
           let run : new ≡ low_run no_name (digested digest) (run_of_halt f (suc (suc j)) next.0) = stack ∙ ap (λ x. run_of_halt f (suc r.waits) x) next.2 ∙ ap (λ k. run_of_halt f (suc k) (low_halt no_name (digested digest) next.0)) s.waits ∙ stack_low no_name (digested digest) f (suc (suc j)) next.0 in
