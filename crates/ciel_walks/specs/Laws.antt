@@ -19,7 +19,8 @@ use Rattle.ciel_journal.specs.Lawful.{Given, HeldAt}
 use Rattle.ciel_meant.specs.Inner.{object_refs, real_inner}
 use Rattle.ciel_meant.specs.Real.{back, real_job}
 use Rattle.ciel_reports.specs.Report.{End, Report, Says, made, missing, stopped}
-use Rattle.ciel_walks.specs.Walk.{SeenAs, Stop, Walk, ended, shown, waits}
+use Rattle.sky_moves.specs.Moves.{SeenAs, Stop, ended, shown, waits}
+use Rattle.ciel_walks.specs.Walk.{Walk}
 
 abbrev pub names_of : List (v.Desc (List ℕ)) → List Digest
 names_of ds = map held_name ds
@@ -59,7 +60,7 @@ module _ (tag : Tag) (mark : Object (List ℕ) → Digest) (frozen : Stand (List
       -- this is what the order brings along: by its name the object of each description that the state there holds and that was live,
       -- and nothing else
       pub record Brings : Type 0 where
-        pub given : (d : s.Desc) → Given the o d → (x : Object (List ℕ)) × SeenAs tag job around (back o.task) d x × (finds (low_ref no_name tag d) ≡ Some x)
+        pub given : (d : s.Desc) → Given the o d → (x : Object (List ℕ)) × SeenAs tag job around d x × (finds (low_ref no_name tag d) ≡ Some x)
         pub only : (d : s.Desc) (x : Object (List ℕ)) → finds (low_ref no_name tag d) ≡ Some x → (e : s.Desc) × Given the o e × (name no_name tag e ≡ name no_name tag d)
 
       -- a run of the order may begin from this state: it is the task's at the order's wait, and no two descriptions that are held or
