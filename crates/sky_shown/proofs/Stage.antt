@@ -293,16 +293,9 @@ module _ (tag : Tag) (job : Job) (around : Around) (n : ℕ) where
         of_next : (q : Val) → turn job around n h.p ≡ Turn.next q → IsNext (Turned.next (low no_name tag q)) (suc j) u → Goes u
         of_next q t (is, le, more) =
             let same : low no_name tag q ≡ u = next_is (low no_name tag q) u is in
-<<<<<<< HEAD
-            let refers : 0 < length (refs q) = subst (λ k. 0 < k) (length-map (refs q) (low_ref no_name tag)) (subst (λ xs. 0 < length xs) (refs_next q) (subst (λ x. 0 < length (refs x)) (sym same) more)) in (
-              (State.show_at q (suc j), (h.n, ap (wave_state (suc j)) (next_wave q t)), ap (λ x. Stand.show_at x (suc j)) (sym same)),
-              (distinct_refs q, (h.n, ap₂ only_if (le-leb (suc j) 100 le) (ap wave_refs (next_wave q t) ∙ wait q (distinct_refs q) refl (some q refers)))),
-            )
-=======
             let refers : 0 < length (refs q) = subst (λ k. 0 < k) (length-map (refs q) (low_ref no_name tag)) (subst (λ xs. 0 < length xs) (refs_next q) (subst (λ x. 0 < length (refs x)) (sym same) more)) in
             ((State.show_at q (suc j), (n, ap (wave_state (suc j)) (next_wave q t)), (λ i. Stand.show_at (sym same i) (suc (h.at i)))),
             (distinct_refs q, ap₂ only_if (le-leb (suc j) 100 le) (ap wave_refs (next_wave q t) ∙ wait q (distinct_refs q) refl (some q refers))))
->>>>>>> 85981ea (WIP: the root task goes on over names; rows of calls that go on)
 
         go : (t : Turn) → turn job around n h.p ≡ t → Goes u
         go (Turn.ends y) t = absurd (ends_not y (sym (comes (Turn.ends y) t) ∙ e))
