@@ -1,7 +1,6 @@
 -- What a report has of what is made: all of it, or all up to a clash and anything behind it.
-use Rattle.std.proofs.Common.{◌≡◌, ◌≢◌, List, [], ◌∷◌, ◌++◌, map, ◌⊎◌, inl, inr, refl, sym, ap, ◌∙◌, subst}
-use Rattle.std.proofs.lemmas.List.{append-nil}
-use Rattle.ciel_journal.specs.Job.{Digest, Job, In, IsJob}
+use Rattle.std.proofs.Common.{◌≡◌, ◌≢◌, List, [], ◌∷◌, ◌++◌, map, ◌⊎◌, inl, inr, refl, sym, ap, ◌∙◌}
+use Rattle.ciel_journal.specs.Job.{Job, In}
 use Rattle.ciel_journal.specs.Known.{Inner}
 use Rattle.ciel_reports.specs.Report.{ClashAmong, Clear, Or, Tells}
 
@@ -29,25 +28,23 @@ module _ {D B : Type 0} (job : Job D) (inner : Inner D) (lower : D → B) where
   further met d ds c i =
       record { which = c.which; there = i; other = c.other; is_met = inr c.is_met; same = c.same; apart = c.apart }
 
+  -- where nothing clashes at the first, it is behind it
+  at_or_behind : {P : Type 0} (met : D → Type 0) (d : D) (ds : List D) → (Clashing (Or job inner lower met d) ds → P) → (Clash met d → ⊥) → (c : Clashing met (d ∷ ds)) → In c.which (d ∷ ds) → P
+  at_or_behind met d ds f none c (inl e) =
+      absurd (none (clash_here met d c.other c.is_met (c.same ∙ ap job.name e) (λ q. c.apart (q ∙ sym e))))
+  at_or_behind met d ds f none c (inr i) = f (further met d ds c i)
+
   -- then it has them up to the clash, whatever comes behind them
   pub tells_astray : (met : D → Type 0) (front tail : List D) (rest : List B) → Clashing met front → Tells job inner lower met (front ++ tail) (map lower front ++ rest)
   tells_astray met [] tail rest c = absurd c.there
   tells_astray met (d ∷ front) tail rest c =
-      (map lower front ++ rest, refl, λ no. go c.there no)
-    where
-      go : In c.which (d ∷ front) → (Clash met d → ⊥) → Tells job inner lower (Or job inner lower met d) (front ++ tail) (map lower front ++ rest)
-      go (inl e) no =
-          absurd (no (clash_here met d c.other c.is_met (c.same ∙ ap job.name e) (λ q. c.apart (q ∙ sym e))))
-      go (inr i) no = tells_astray (Or job inner lower met d) front tail rest (further met d front c i)
+      (map lower front ++ rest, refl, λ none. at_or_behind met d front (λ f. tells_astray (Or job inner lower met d) front tail rest f) none c c.there)
 
   -- and it isn't clear
   pub not_clear : (met : D → Type 0) (front tail : List D) → Clashing met front → Clear job inner lower met (front ++ tail) → ⊥
   not_clear met [] tail c k = c.there
-  not_clear met (d ∷ front) tail c k = go c.there
-    where
-      go : In c.which (d ∷ front) → ⊥
-      go (inl e) = k.0 (clash_here met d c.other c.is_met (c.same ∙ ap job.name e) (λ q. c.apart (q ∙ sym e)))
-      go (inr i) = not_clear (Or job inner lower met d) front tail (further met d front c i) k.1
+  not_clear met (d ∷ front) tail c k =
+      at_or_behind met d front (λ f. not_clear (Or job inner lower met d) front tail f k.1) k.0 c c.there
 
   -- where it is clear, one that is made has the name of none other that was met or made
   module _ (decide : (d e : D) → (d ≡ e) ⊎ (d ≡ e → ⊥)) where
@@ -57,7 +54,7 @@ module _ {D B : Type 0} (job : Job D) (inner : Inner D) (lower : D → B) where
       where
         go : (e ≡ d) ⊎ (e ≡ d → ⊥) → e ≡ d
         go (inl y) = y
-        go (inr no) = absurd (k.0 (clash_here met x e m (n ∙ ap job.name q) (λ z. no (z ∙ sym q))))
+        go (inr other) = absurd (k.0 (clash_here met x e m (n ∙ ap job.name q) (λ z. other (z ∙ sym q))))
     clear_met met (x ∷ ds) k d e (inr i) m n = clear_met (Or job inner lower met x) ds k.1 d e i (inr m) n
 
     pub clear_both : (met : D → Type 0) (ds : List D) → Clear job inner lower met ds → (d e : D) → In d ds → In e ds → job.name d ≡ job.name e → d ≡ e

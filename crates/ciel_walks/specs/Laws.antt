@@ -16,9 +16,9 @@ use Rattle.sky_state.specs.Stands.{Stands}
 use Rattle.ciel_journal.specs.History.{OpenStart}
 use Rattle.ciel_journal.specs.Job.{Digest, Job, Task, show, of, In}
 use Rattle.ciel_journal.specs.Lawful.{Given, HeldAt}
-use Rattle.ciel_meant.specs.Inner.{object_refs, real_inner}
+use Rattle.ciel_meant.specs.Inner.{real_inner}
 use Rattle.ciel_meant.specs.Real.{back, real_job}
-use Rattle.ciel_reports.specs.Report.{End, Report, Says, made, missing, stopped}
+use Rattle.ciel_reports.specs.Report.{End, Says, made, missing, stopped}
 use Rattle.sky_moves.specs.Moves.{SeenAs, Stop, ended, shown, waits}
 use Rattle.ciel_walks.specs.Walk.{Walk}
 
