@@ -13,14 +13,12 @@ use Rattle.sky_law.specs.Sound.{SoundReads}
 use Rattle.std.proofs.Common.{◌≡◌, ◌≢◌, ℕ, zero, suc, ◌+◌, ◌-◌, ◌≤◌, ◌<◌, ◌↔◌, List, [], ◌∷◌, map, Bool, true, false, Option, Some, None, slice_get, sum_by, Contains, inl, inr, refl, ap, ap₂, sym, ◌∙◌, subst, arith, nat_lt}
 use Rattle.std.proofs.lemmas.List.Sums.{sum_by-cons}
 use Rattle.std.specs.Option.{option_map}
+use Rattle.sky_law.proofs.Lists.{some_is}
 use Rattle.ciel_journal.specs.Job.{Digest, Task, show, of, Held, Job, In, WaitOf, Needed, waits_in, after_wait, made_before, made_in}
 use Rattle.ciel_journal.specs.Work.{Work, total}
 use Rattle.ciel_meant.specs.Real.{back, forth, forth_if, acts_of, held_if, mark_if, real_job}
 use Rattle.ciel_meant.specs.RealLaws.{IsTask, WaitsAlike, OutputsAlike, EndsAlike, NeverAlike, AnswerAlike, ObjectsAlike, StatesAlike, MadeAlike, NeededAlike, WorkIsFinite}
 use Rattle.ciel_meant.proofs.RealLaw.{in_to, in_from, back_forth, made_of, waits_are}
-
-pub some_is : {A : Type 0} (a b : A) → Some a ≡ Some b → a ≡ b
-some_is a b e = cc
 
 forth_back : (w : Task s.Desc) → forth (back w) ≡ w
 forth_back show = refl

@@ -8,6 +8,7 @@ use Rattle.sky_law.proofs.WorkLaw.{means_work}
 use Rattle.sky_law.specs.Refers.{PlainReads}
 use Rattle.sky_law.specs.Sound.{SoundReads}
 use Rattle.std.proofs.Common.{◌≡◌, ℕ, zero, suc, ◌+◌, ◌*◌, ◌<◌, ◌≤◌, ◌⊎◌, List, [], true, Some, inl, inr, ap, sym, ◌∙◌, subst, arith}
+use Rattle.sky_law.proofs.Lists.{some_is}
 use Rattle.ciel_journal.specs.Job.{Digest, Ends, Needed, Task, show, of, Held, Job, In, IsJob, StateOf, made_in}
 use Rattle.ciel_journal.specs.History.{Event, OpenStart, Plan, done, saved, standing, start}
 use Rattle.ciel_journal.specs.Known.{Knows}
@@ -22,7 +23,7 @@ use Rattle.ciel_journal.proofs.Traced.{traced}
 use Rattle.ciel_meant.specs.Histories.{SavedAs, SeenAs}
 use Rattle.ciel_meant.specs.Inner.{real_inner}
 use Rattle.ciel_meant.specs.Real.{back, real_job}
-use Rattle.ciel_meant.proofs.AlikeLaw.{answer_alike, finite, made_is, needed_to, never_alike, objects_alike, some_is, states_alike, wait_to, is_one}
+use Rattle.ciel_meant.proofs.AlikeLaw.{answer_alike, finite, made_is, needed_to, never_alike, objects_alike, states_alike, wait_to, is_one}
 use Rattle.ciel_meant.proofs.KnownLaw.{real_knows}
 use Rattle.ciel_meant.proofs.RealLaw.{in_from, real_laws}
 

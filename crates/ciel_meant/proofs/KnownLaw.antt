@@ -19,12 +19,13 @@ use Rattle.sky_law.proofs.BatchLaw.{acts_batched}
 use Rattle.sky_law.proofs.FineLaw.{Fine, bind_ok, fine_call}
 use Rattle.sky_law.proofs.FineReads.{SeenOk}
 use Rattle.sky_law.proofs.WrittenLaw.{BodyWritten, any_lit, any_name, body_written, written_any}
+use Rattle.sky_law.proofs.Lists.{some_is}
 use Rattle.ciel_journal.specs.Job.{Digest, Task, show, of, Act, made, wait, Held, Job, In, Each, WaitOf, StateOf, waits_in, made_before, made_in}
 use Rattle.ciel_journal.specs.Known.{Around, Batched, Begins, HandedTo, HandedToEnd, IsBatch, Knows, TellsTo, TellsToEnd}
 use Rattle.ciel_journal.proofs.Splits.{get_short}
 use Rattle.ciel_meant.specs.Inner.{inside, object_refs, real_inner}
 use Rattle.ciel_meant.specs.Real.{back, forth_if, acts_of, held_if, real_job}
-use Rattle.ciel_meant.proofs.AlikeLaw.{before_is, made_is, some_is, wait_is}
+use Rattle.ciel_meant.proofs.AlikeLaw.{before_is, made_is, wait_is}
 use Rattle.ciel_meant.proofs.RealLaw.{in_to, in_from, waits_are}
 use Rattle.ciel_meant.proofs.ToldRun.{FrameTold, HaltTold, InsideRefers, OutcomeTold, P, Q, SeenAll, SeenTo, V, w, closed, each_pairs, each_refs, each_vals, ends_told, frames_told, halt_told, left, made_told, makes_told, pairs_each, refs_each, right, both, vals_each, vals_so}
 

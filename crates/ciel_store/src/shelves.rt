@@ -9,6 +9,7 @@ use crate::loss::Loss;
 use crate::rule::{Confirms, Looks, Marks, NewEye, Shows, Takes, Words};
 use crate::seats::{Eye, Marker, Seen};
 use boxcar::{Pushed, Vec as Row};
+use sky_base::at::At;
 use std::alloc::{AllocError, Global};
 use std::marker::Model;
 use std::sync::Wait;
@@ -65,6 +66,14 @@ impl<B> Place<B> {
             worker: self.worker,
             pushed: self.pushed.again(),
         }
+    }
+}
+
+impl<B> At for Place<B> {
+    ghost at = { λ p. p.worker };
+
+    fn worker(&self) -> u32 {
+        self.worker
     }
 }
 

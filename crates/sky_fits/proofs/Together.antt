@@ -4,6 +4,7 @@ use Rattle.std.proofs.lemmas.List.{length-drop}
 use Rattle.sky_base.specs.Val.{Val}
 use Rattle.sky_base.specs.Tree.{Script}
 use Rattle.sky_base.specs.Read.{Todo}
+use Rattle.sky_law.proofs.Lists.{some_is}
 use Rattle.sky_state.specs.Table.{Row, keeps}
 use Rattle.sky_state.specs.Fits.{row_of, Parts, kept_in_all, Last}
 use Rattle.sky_state.specs.StandView.{todo_view, todos_view}
@@ -16,9 +17,6 @@ Values = List (Val (List ℕ))
 
 none_is : {A : Type 0} (a : A) → None ≡ Some a → ⊥
 none_is a e = cc
-
-some_is : {A : Type 0} (a b : A) → Some a ≡ Some b → a ≡ b
-some_is a b e = cc
 
 no_values : (vs : Values) → length vs ≡ 0 → vs ≡ []
 no_values [] e = refl

@@ -8,6 +8,7 @@ use Rattle.sky_base.specs.declared.tree.Join.{Join}
 use Rattle.sky_base.specs.declared.stmt.Arm.{Arm}
 use Rattle.sky_base.specs.declared.stmt.Stmt.{Stmt}
 use Rattle.sky_law.specs.Opened.{Node, HasSteps}
+use Rattle.sky_law.proofs.Lists.{some_is}
 use Rattle.sky_state.specs.Table.{on_by, past_part, past_link, past_and, past_arm, past_stm, Spot, finished, in_index, in_call, spot_of, past_spot}
 use Rattle.sky_fits.specs.Rows.{HasSpot}
 
@@ -80,9 +81,6 @@ module _ (at : ℕ → Option Node) where
 
   pub first_has : (m : ℕ) (ss : Steps) (x : Spot) → x ≡ spot_of m ss → HasSteps at ss m → HasSpot at x
   first_has m ss x e h = subst (HasSpot at) (sym e) (spot_has m ss h)
-
-  some_is : (x y : Spot) → Some x ≡ Some y → x ≡ y
-  some_is x y e = cc
 
   past_has : (x y : Spot) → past_spot x ≡ Some y → HasSpot at x → HasSpot at y
   past_has finished y e h = absurd cc

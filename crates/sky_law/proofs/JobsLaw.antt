@@ -19,9 +19,7 @@ use Rattle.sky_law.proofs.FineLaw.{Closed, AnswerOk, ValsOk, ObjectOk, Fine, bin
 use Rattle.sky_law.proofs.FineReads.{SeenOk, ActOk, OutcomeOk, HaltOk, FrameOk, outcome_fine, halt_fine, acts_fine, frames_ok}
 use Rattle.sky_law.proofs.TaskOutputs.{in_contains, each_in, in_each, distinct_refs_in}
 use Rattle.sky_law.proofs.WrittenLaw.{BodyWritten, any_made, body_written}
-
-pub some_is : {A : Type 0} (a b : A) → Some a ≡ Some b → a ≡ b
-some_is a b e = cc
+use Rattle.sky_law.proofs.Lists.{some_is}
 
 none_some : {A : Type 0} (a : A) → None ≡ Some a → ⊥
 none_some a e = cc

@@ -1,3 +1,4 @@
+pub mod Lists
 pub mod Rows
 pub mod CapturedRows
 pub mod FormsLaw

@@ -8,6 +8,7 @@ use Rattle.sky_base.specs.Res.{visits, Object, End, St, Entry, parens_in, part_a
 use Rattle.sky_base.specs.Eval.{World, find_fun, is_one_of, Body, body_of, bind, set_var, lit_val, named, closed, oper, outputs, truth_of, decide, joins, add_to, put_in, turns, repeats, each, each_of, with_one, with_two, with_three, ask, spawn_if, spawn_fun, spawn_list, spawned, outputs_if, outputs_count, outputs_of, exec_ask, input_if, input_of, formed, deref, signed, signs, call_if, call_fun, called, enter, eval, eval_parts, eval_links, eval_ands, eval_steps, eval_args, eval_stm, eval_stms, eval_arms, eval_else, in_body, body_at}
 use Rattle.sky_law.specs.Opened.{Node, exp_node, stm_node, block_node, next_part, next_link, next_and, next_arm, next_stm, Pos, in_index, in_args, enter_pos, next_pos, times, next_sign, descs_of, part_open, link_open, and_open, sign_open, pos_open, chain_open, logic_open, prefix_open, postfix_open, form_open, arm_open, cases_open, stms_open, opened, HasExp, HasExps, HasLinks, HasAnds, HasSteps, HasStm, HasStms, HasArms, HasElse, HasScript, Opened}
 use Rattle.sky_law.proofs.BodiesLaw.{HasBody, has_body}
+use Rattle.sky_law.proofs.Lists.{length_push, up_two}
 
 module _ {N : Type 0} (w : World N) (at : ℕ → Option Node) where
   abbrev pub AllOpened : List (Entry N) → Type 0
@@ -201,19 +202,11 @@ module _ {N : Type 0} (w : World N) (at : ℕ → Option Node) where
   opens_formed Form.has vs n p es m i st here done is = opens_two vs p st _ (λ x y. opens_answer (has x y) p st gives (λ v. tt))
   opens_formed Form.range vs n p es m i st here done is = opens_two vs p st _ (λ x y. opens_answer (range x y) p st gives (λ v. tt))
 
-  length_push : (vs : List (Val N)) (v : Val N) (i : ℕ) → length vs ≡ i → length (vs ++ v ∷ []) ≡ suc i
-  length_push [] v i e = ap suc e
-  length_push (x ∷ vs) v zero e = absurd (omega (arith, e))
-  length_push (x ∷ vs) v (suc i) e = ap suc (length_push vs v i (omega (arith, e)))
-
   up_one : (k i : ℕ) → k ≡ suc i → k + 1 ≡ suc (suc i)
   up_one k i e = omega (arith, e)
 
   after_one : (k : ℕ) → k + 1 ≡ suc k
   after_one k = omega arith
-
-  up_two : (k i : ℕ) → k ≡ suc (suc i) → k + 1 ≡ suc (suc (suc i))
-  up_two k i e = omega (arith, e)
 
   part_opened : (n k m i : ℕ) (o : Form) (p : Place) (vs : List (Val N)) (e : Exp) (es all : Exps) → at n ≡ Some (exp_node (Exp.parts o p all)) → times next_part i (n + 1, all) ≡ (m, Exps.exp e es) → k ≡ suc i → Opened at (part_at n k (m + nodes e) o p vs es)
   part_opened n k m i o p vs e es all here rest is =

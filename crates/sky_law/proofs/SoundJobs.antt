@@ -16,6 +16,7 @@ use Rattle.sky_law.proofs.FineReads.{SeenOk, FrameOk}
 use Rattle.sky_law.proofs.JobsLaw.{JobClosed, TaskOk, StateOk, see_ok, wave_ok, wait_ok, needed_ok, made_ok, stands_ok}
 use Rattle.sky_law.proofs.SoundOps.{caught_kept, dict_inside, SoundAnswer, Vars, sound_closed}
 use Rattle.sky_law.proofs.WrittenLaw.{any_lit, any_made, any_name, written_any}
+use Rattle.sky_law.proofs.Lists.{each_both}
 
 module _ (sc : Script) where
   sound_vars : (around : Around) (ps : v.Pairs ⊥) → PairsOk (world_of sc around) (Sound sc) (SoundDesc sc) ps → SoundVars sc ps
@@ -25,10 +26,6 @@ module _ (sc : Script) where
   sound_frames : (around : Around) (fs : List (Frame ⊥)) → Each (FrameOk (world_of sc around) (Sound sc) (SoundDesc sc) (Vars ⊥ (λ b. Unit {0}) sc (world_of sc around))) fs → Each (SoundFrame sc) fs
   sound_frames around [] h = tt
   sound_frames around (f ∷ fs) h = ((sound_vars around f.vars h.0.0, h.0.1, h.0.2), sound_frames around fs h.1)
-
-  each_both : (xs ys : List Desc) → Each (SoundDesc sc) xs → Each (SoundDesc sc) ys → Each (SoundDesc sc) (xs ++ ys)
-  each_both [] ys h i = i
-  each_both (x ∷ xs) ys h i = (h.0, each_both xs ys h.1 i)
 
   mutual
     sound_refs : (a : Val) → RefsSound sc a → Each (SoundDesc sc) (refs a)
@@ -43,11 +40,11 @@ module _ (sc : Script) where
 
     sound_vals_refs : (vs : Vals) → ValsSound sc vs → Each (SoundDesc sc) (vals_refs vs)
     sound_vals_refs no_vals h = tt
-    sound_vals_refs (val a vs) h = each_both (refs a) (vals_refs vs) (sound_refs a h.0) (sound_vals_refs vs h.1)
+    sound_vals_refs (val a vs) h = each_both (SoundDesc sc) (refs a) (vals_refs vs) (sound_refs a h.0) (sound_vals_refs vs h.1)
 
     sound_pairs_refs : (ps : v.Pairs ⊥) → PairsSound sc ps → Each (SoundDesc sc) (pairs_refs ps)
     sound_pairs_refs no_pairs h = tt
-    sound_pairs_refs (pair k a ps) h = each_both (refs a) (pairs_refs ps) (sound_refs a h.0) (sound_pairs_refs ps h.1)
+    sound_pairs_refs (pair k a ps) h = each_both (SoundDesc sc) (refs a) (pairs_refs ps) (sound_refs a h.0) (sound_pairs_refs ps h.1)
 
   module _ (f : ℕ → Desc → Val) (h : (k : ℕ) (d : Desc) → RefsSound sc (f k d)) where
     replaced_used : (us : List (List ℕ)) (i : ℕ) (ps : v.Pairs ⊥) → AllUsed us ps → AllUsed us (pairs_replaced f i ps)

@@ -12,12 +12,10 @@ use Rattle.sky_law.specs.Tasks.{In, vals_held, frames_held, held, held_at}
 use Rattle.sky_law.proofs.FineLaw.{waiting, Waits}
 use Rattle.sky_law.proofs.BoundLaw.{Any, Made, any_halt}
 use Rattle.sky_law.proofs.TaskOutputs.{in_distinct}
+use Rattle.sky_law.proofs.Lists.{some_is}
 
 none_some : {A : Type 0} (a : A) → None ≡ Some a → ⊥
 none_some a e = cc
-
-some_is : {A : Type 0} (a b : A) → Some a ≡ Some b → a ≡ b
-some_is a b e = cc
 
 module _ (d : Desc) where
   in_left : (xs ys : List Desc) → In d xs → In d (xs ++ ys)

@@ -7,9 +7,7 @@ use Rattle.sky_base.specs.See.{Val, Desc}
 use Rattle.sky_base.specs.Needed.{Task, task_of, distinct_refs, only_if}
 use Rattle.sky_law.specs.Tasks.{In, Each, Apart, same, maker, outputs_of}
 use Rattle.sky_base.proofs.Exact.{exact_desc, self_desc}
-
-some_is : {A : Type 0} (a b : A) → Some a ≡ Some b → a ≡ b
-some_is a b e = cc
+use Rattle.sky_law.proofs.Lists.{some_is}
 
 none_is : {A : Type 0} (b : A) → None ≡ Some b → ⊥
 none_is b e = cc

@@ -13,12 +13,13 @@ use Rattle.sky_law.specs.Sound.{IsFun, RefsSound, SoundDesc, Sound}
 use Rattle.sky_law.specs.Typed.{ValsTyped, EachTyped, Typed, TypedDesc, TypedObject, TypedVars, TypedFrame, TypedState, TypedTask, TypedRead, TypedLit, TypedJob}
 use Rattle.sky_law.proofs.FineLaw.{Closed, AnswerOk, OptionOk, ValsOk, ObjectOk}
 use Rattle.sky_law.proofs.FineReads.{SeenOk, FrameOk}
-use Rattle.sky_law.proofs.JobsLaw.{JobClosed, TaskOk, StateOk, some_is, see_ok, wave_ok, wait_ok, needed_ok, made_ok, stands_ok}
+use Rattle.sky_law.proofs.JobsLaw.{JobClosed, TaskOk, StateOk, see_ok, wave_ok, wait_ok, needed_ok, made_ok, stands_ok}
 use Rattle.sky_law.proofs.SimpleOps.{negated_simple, opposite_simple, has_simple}
 use Rattle.sky_law.proofs.SoundJobs.{sound_job}
 use Rattle.sky_law.proofs.SoundOps.{Vars}
 use Rattle.sky_law.proofs.TypedOps.{TypedAnswer, TypedOption, simple_typed, limited_typed, put_typed, find_typed, caught_typed, oper_typed, index_typed, set_at_typed, grown_typed, taken_typed, len_typed, keys_typed, range_typed, list_typed, dict_typed, lit_typed, refs_typed}
 use Rattle.sky_law.proofs.WrittenLaw.{any_lit, any_made, any_name, fun_name}
+use Rattle.sky_law.proofs.Lists.{some_is, each_both}
 
 -- no name stands inside
 abbrev K : ⊥ → Type 0
@@ -41,10 +42,6 @@ module _ {A : Type 0} (F G : A → Type 0) where
 
 -- ---- what a value refers to
 
-both_refs : (xs ys : List Desc) → Each TypedDesc xs → Each TypedDesc ys → Each TypedDesc (xs ++ ys)
-both_refs [] ys h i = i
-both_refs (x ∷ xs) ys h i = (h.0, both_refs xs ys h.1 i)
-
 mutual
   typed_refs : (a : Val) → Typed a → Each TypedDesc (refs a)
   typed_refs null h = tt
@@ -58,11 +55,11 @@ mutual
 
   typed_vals_refs : (vs : Vals) → ValsTyped K vs → Each TypedDesc (vals_refs vs)
   typed_vals_refs no_vals h = tt
-  typed_vals_refs (val a vs) h = both_refs (refs a) (vals_refs vs) (typed_refs a h.0) (typed_vals_refs vs h.1)
+  typed_vals_refs (val a vs) h = each_both TypedDesc (refs a) (vals_refs vs) (typed_refs a h.0) (typed_vals_refs vs h.1)
 
   typed_pairs_refs : (ps : Pairs) → EachTyped K ps → Each TypedDesc (pairs_refs ps)
   typed_pairs_refs no_pairs h = tt
-  typed_pairs_refs (pair k a ps) h = both_refs (refs a) (pairs_refs ps) (typed_refs a h.1) (typed_pairs_refs ps h.2)
+  typed_pairs_refs (pair k a ps) h = each_both TypedDesc (refs a) (pairs_refs ps) (typed_refs a h.1) (typed_pairs_refs ps h.2)
 
 module _ (f : ℕ → Desc → Val) (h : (k : ℕ) (d : Desc) → Typed (f k d)) where
   rising_from : (i : ℕ) (k : List ℕ) (ps : Pairs) → RisingFrom k ps → RisingFrom k (pairs_replaced f i ps)

@@ -5,9 +5,7 @@ use Rattle.sky_base.specs.Res.{Object, St, Entry, Wait, Res, Fin, Tell, Ask}
 use Rattle.sky_base.specs.Eval.{World, wait_end, plug}
 use Rattle.sky_base.specs.Read.{Act, made, waited, Halt, refs_of, see_all, on_seen, acts_seen, halts_seen, seen_list, segment, outcome, acts, halt, segment_from, rest_of}
 use Rattle.sky_law.proofs.FormsLaw.{Good}
-
-some_is : {A : Type 0} (a b : A) → Some a ≡ Some b → a ≡ b
-some_is a b e = cc
+use Rattle.sky_law.proofs.Lists.{some_is}
 
 none_is : {A : Type 0} (b : A) → None ≡ Some b → ⊥
 none_is b e = cc

@@ -49,7 +49,7 @@ abbrev pub any_name : List ℕ → Type 0
 any_name x = Unit {0}
 
 mutual
-  exp_any : (e : Exp) → ExpWritten any_lit any_name e
+  pub exp_any : (e : Exp) → ExpWritten any_lit any_name e
   exp_any (Exp.literal v p) = tt
   exp_any (Exp.name x p) = tt
   exp_any (Exp.func x p) = tt
@@ -60,25 +60,25 @@ mutual
   exp_any (Exp.prefix ss e) = exp_any e
   exp_any (Exp.postfix e ss) = (exp_any e, steps_any ss)
 
-  exps_any : (es : Exps) → ExpsWritten any_lit any_name es
+  pub exps_any : (es : Exps) → ExpsWritten any_lit any_name es
   exps_any Exps.no_exps = tt
   exps_any (Exps.exp e es) = (exp_any e, exps_any es)
 
-  links_any : (ls : Links) → LinksWritten any_lit any_name ls
+  pub links_any : (ls : Links) → LinksWritten any_lit any_name ls
   links_any Links.no_links = tt
   links_any (Links.link o p e ls) = (exp_any e, links_any ls)
 
-  ands_any : (ls : Ands) → AndsWritten any_lit any_name ls
+  pub ands_any : (ls : Ands) → AndsWritten any_lit any_name ls
   ands_any Ands.no_ands = tt
   ands_any (Ands.and p e ls) = (exp_any e, ands_any ls)
 
-  steps_any : (ss : Steps) → StepsWritten any_lit any_name ss
+  pub steps_any : (ss : Steps) → StepsWritten any_lit any_name ss
   steps_any Steps.no_steps = tt
   steps_any (Steps.index e p ss) = (exp_any e, steps_any ss)
   steps_any (Steps.call es p ss) = (exps_any es, steps_any ss)
 
 mutual
-  stm_any : (s : Stm) → StmWritten any_lit any_name s
+  pub stm_any : (s : Stm) → StmWritten any_lit any_name s
   stm_any (Stm.set x p e) = (tt, exp_any e)
   stm_any (Stm.add x q p e) = (tt, exp_any e)
   stm_any (Stm.put x q p i e) = (tt, exp_any i, exp_any e)
@@ -90,15 +90,15 @@ mutual
   stm_any (Stm.for p x e b) = (tt, exp_any e, stms_any b)
   stm_any (Stm.just p e) = exp_any e
 
-  stms_any : (ss : Stms) → StmsWritten any_lit any_name ss
+  pub stms_any : (ss : Stms) → StmsWritten any_lit any_name ss
   stms_any Stms.no_stms = tt
   stms_any (Stms.stm s ss) = (stm_any s, stms_any ss)
 
-  arms_any : (arms : Arms) → ArmsWritten any_lit any_name arms
+  pub arms_any : (arms : Arms) → ArmsWritten any_lit any_name arms
   arms_any Arms.no_arms = tt
   arms_any (Arms.arm p e b arms) = (exp_any e, stms_any b, arms_any arms)
 
-  else_any : (els : Else) → ElseWritten any_lit any_name els
+  pub else_any : (els : Else) → ElseWritten any_lit any_name els
   else_any Else.no_else = tt
   else_any (Else.otherwise b) = stms_any b
 

@@ -85,7 +85,9 @@ pub record GoesOn (seen : Desc → Option (Object ⊥)) (run : Res ⊥) (j : ℕ
 -- the forms under way at a wait of a call, run on with the objects waited for, are what comes after it
 abbrev pub RunsOn : Type 0
 RunsOn =
-    (job : Job) (around : Around) (seen : Desc → Option (Object ⊥)) (f : List ℕ) (c : Pairs) (vs : Vals) (j : ℕ) (h : Halt ⊥) (os : List (Object ⊥)) → halt seen j (run_of job around f c vs) ≡ Some h → see_all seen (refs_of h.wait) ≡ Some os → GoesOn seen (run_of job around f c vs) j (rest_of (world_of job.script around) others h os)
+    (job : Job) (around : Around) (seen : Desc → Option (Object ⊥)) (f : List ℕ) (c : Pairs) (vs : Vals) (j : ℕ) (h : Halt ⊥) (os : List (Object ⊥))
+    → halt seen j (run_of job around f c vs) ≡ Some h → see_all seen (refs_of h.wait) ≡ Some os
+    → GoesOn seen (run_of job around f c vs) j (rest_of (world_of job.script around) others h os)
 
 -- ---- limits, where what is read as data keeps them
 

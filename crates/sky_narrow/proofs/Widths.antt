@@ -4,6 +4,7 @@ use Rattle.sky_base.specs.Tree.{Form, FunDef, Junction}
 use Rattle.sky_law.specs.Opened.{Node}
 use Rattle.sky_law.specs.Nodes.{pre_exp, pre_exps, pre_links, pre_ands, pre_steps, pre_stm, pre_stms, pre_arms, pre_else, pre_block, pre_funs, pre_script}
 use Rattle.sky_law.specs.Tasks.{Each}
+use Rattle.sky_law.proofs.Lists.{each_both}
 use Rattle.sky_text.specs.declared.token.Sign.{Sign}
 use Rattle.sky_text.specs.declared.token.Word.{Word}
 use Rattle.sky_grammar.specs.Levels.{junction_level}
@@ -53,10 +54,6 @@ module _ (most : ℕ) where
     nodes : Each Within ns
     funs : Each FunWithin fs
 
-  join : {A : Type 0} (F : A → Type 0) (xs ys : List A) → Each F xs → Each F ys → Each F (xs ++ ys)
-  join F [] ys h i = i
-  join F (x ∷ xs) ys h i = (h.0, join F xs ys h.1 i)
-
   none : Bounded [] []
   none = record { nodes = tt; funs = tt }
 
@@ -65,7 +62,7 @@ module _ (most : ℕ) where
 
   two : {ns ms : List Node} {fs gs : List FunDef} → Bounded ns fs → Bounded ms gs → Bounded (ns ++ ms) (fs ++ gs)
   two {ns = ns} {ms = ms} {fs = fs} {gs = gs} a b =
-      record { nodes = join Within ns ms a.nodes b.nodes; funs = join FunWithin fs gs a.funs b.funs }
+      record { nodes = each_both Within ns ms a.nodes b.nodes; funs = each_both FunWithin fs gs a.funs b.funs }
 
   -- a block with its statements
   blocked : (ss : Stms) (n : ℕ) (more : List Mark) → AreStms ss → Few (spell_stms ss more) → Bounded (pre_stms (stms_tree n ss)) (stms_made n ss)
@@ -250,22 +247,22 @@ module _ (most : ℕ) where
         main = more.main;
         few = omega (arith, more.few, less);
         defs = (block.nodes, more.defs);
-        closures = join FunWithin (stms_made n f.body) (made_of (n + top_count (Top.fun f)) ts) block.funs more.closures;
+        closures = each_both FunWithin (stms_made n f.body) (made_of (n + top_count (Top.fun f)) ts) block.funs more.closures;
       }
   wide_tops (Top.stmt s ∷ ts) n h le =
       let less : 1 + length (spell_tops ts []) ≤ length (spell_tops (Top.stmt s ∷ ts) []) = stm_long s (spell_tops ts []) h.0 in
       let more = wide_tops ts (n + top_count (Top.stmt s)) h.1 (omega (arith, less, le)) in
       let one = wide_stm s n (spell_tops ts []) h.0 le in
       record {
-        main = join Within (pre_stm (stm_tree n s)) (pre_stms (main_of (n + top_count (Top.stmt s)) ts)) one.nodes more.main;
+        main = each_both Within (pre_stm (stm_tree n s)) (pre_stms (main_of (n + top_count (Top.stmt s)) ts)) one.nodes more.main;
         few = omega (arith, more.few, less);
         defs = more.defs;
-        closures = join FunWithin (stm_made n s) (made_of (n + top_count (Top.stmt s)) ts) one.funs more.closures;
+        closures = each_both FunWithin (stm_made n s) (made_of (n + top_count (Top.stmt s)) ts) one.funs more.closures;
       }
 
   in_funs : (fs : List FunDef) → Each FunWithin fs → Each Within (pre_funs fs)
   in_funs [] h = tt
-  in_funs (f ∷ fs) h = join Within (pre_block f.body) (pre_funs fs) h.0 (in_funs fs h.1)
+  in_funs (f ∷ fs) h = each_both Within (pre_block f.body) (pre_funs fs) h.0 (in_funs fs h.1)
 
   at_each : (ns : List Node) (i : ℕ) (t : Node) → Each Within ns → slice_get ns i ≡ Some t → Within t
   at_each [] i t h e = cc
@@ -279,5 +276,5 @@ module _ (most : ℕ) where
       let all = wide_tops tops 0 h le in
       let funs : List FunDef = defs_of 0 tops ++ made_of 0 tops in
       let block : Each Within (pre_block (main_of 0 tops)) = (omega (arith, all.few, le), all.main) in
-      let functions : Each Within (pre_funs funs) = in_funs funs (join FunWithin (defs_of 0 tops) (made_of 0 tops) all.defs all.closures) in
-      at_each (pre_script (script_of keys tops)) i t (join Within (pre_block (main_of 0 tops)) (pre_funs funs) block functions) e
+      let functions : Each Within (pre_funs funs) = in_funs funs (each_both FunWithin (defs_of 0 tops) (made_of 0 tops) all.defs all.closures) in
+      at_each (pre_script (script_of keys tops)) i t (each_both Within (pre_block (main_of 0 tops)) (pre_funs funs) block functions) e

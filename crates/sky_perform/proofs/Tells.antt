@@ -4,6 +4,7 @@ use Rattle.sky_base.specs.Res.{Object}
 use Rattle.sky_base.specs.Val.{Val, out}
 use Rattle.sky_base.specs.declared.fault.Fault.{Fault}
 use Rattle.sky_law.specs.Tasks.{Apart}
+use Rattle.sky_law.proofs.Lists.{some_is}
 use Rattle.sky_rows.specs.Known.{with_object}
 use Rattle.sky_rows.specs.Walk.{Row, Obj, object_at, is_known, is_held}
 use Rattle.sky_rows.proofs.Learn.{in_held}
@@ -59,9 +60,6 @@ keeps-with k u os isnt j o e = go (nat_same j k)
 pub only-with : (rows : List Row) (d : Row) (k : ℕ) (u : Obj) (os : List (Option Obj)) → slice_get rows k ≡ Some d → OnlyOf rows d u os (with_object k u os)
 only-with rows d k u os at j o e = go (nat_same j k)
   where
-    some_is : (a b : Obj) → Some a ≡ Some b → a ≡ b
-    some_is a b q = cc
-
     go : (j ≡ k) ⊎ (j ≡ k → ⊥) → (object_at os j ≡ Some o) ⊎ ((slice_get rows j ≡ Some d) × (o ≡ u))
     go (inl q) =
         inr (ap (slice_get rows) q ∙ at, some_is o u (sym e ∙ ap (object_at (with_object k u os)) q ∙ with_here k u os))

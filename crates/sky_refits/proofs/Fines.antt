@@ -10,37 +10,8 @@ use Rattle.sky_law.specs.Sound.{IsFun}
 use Rattle.sky_law.specs.Tasks.{Each}
 use Rattle.sky_law.specs.Written.{ExpWritten, ExpsWritten, LinksWritten, AndsWritten, StepsWritten, StmsWritten, ArmsWritten, ElseWritten}
 use Rattle.sky_law.proofs.FineLaw.{ValsOk, EndOk, EntryOk, FormsOk, Fine, Closed, more_ok, fine_then, fine_got, fine_goes, fine_visit, fine_answer, fine_decide, fine_signs, fine_add, fine_put, fine_eval, fine_parts, fine_links, fine_ands, fine_steps, fine_args, fine_turns, fine_repeats, fine_each, fine_each_of, fine_stms, fine_arms, fine_else, fine_body, fine_call}
-use Rattle.sky_law.proofs.WrittenLaw.{any_lit, any_made, any_name, written_any}
+use Rattle.sky_law.proofs.WrittenLaw.{any_lit, any_made, any_name, exp_any, exps_any, links_any, ands_any, steps_any, stms_any, arms_any, else_any, written_any}
 use Rattle.sky_rests.specs.Taken.{AllTaken, TakenIn}
-
--- ---- any part of a script has literals and names
-
-stms_any : (b : Stms) → StmsWritten any_lit any_name b
-stms_any b = (written_any (record { funs = []; main = b; keys = [] })).main
-
-exp_any : (e : Exp) → ExpWritten any_lit any_name e
-exp_any e = (stms_any (Stms.stm (Stm.just nowhere e) Stms.no_stms)).0
-
-exps_any : (es : Exps) → ExpsWritten any_lit any_name es
-exps_any es = exp_any (Exp.parts Form.list nowhere es)
-
-abbrev leaf : Exp
-leaf = Exp.literal Lit.null nowhere
-
-links_any : (ls : Links) → LinksWritten any_lit any_name ls
-links_any ls = (exp_any (Exp.chain leaf ls)).1
-
-ands_any : (ls : Ands) → AndsWritten any_lit any_name ls
-ands_any ls = (exp_any (Exp.logic Junction.both leaf ls)).1
-
-steps_any : (ss : Steps) → StepsWritten any_lit any_name ss
-steps_any ss = (exp_any (Exp.postfix leaf ss)).1
-
-arms_any : (arms : Arms) → ArmsWritten any_lit any_name arms
-arms_any arms = (stms_any (Stms.stm (Stm.cases nowhere arms Else.no_else) Stms.no_stms)).0.0
-
-else_any : (els : Else) → ElseWritten any_lit any_name els
-else_any els = (stms_any (Stms.stm (Stm.cases nowhere Arms.no_arms els) Stms.no_stms)).0.1
 
 -- ---- what is left of a list
 

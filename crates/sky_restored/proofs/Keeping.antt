@@ -6,14 +6,12 @@ use Rattle.sky_base.specs.TreeView.{at, exp_view, exps_view, steps_view}
 use Rattle.sky_base.specs.declared.tree.Expr.{Expr}
 use Rattle.sky_base.specs.declared.tree.Step.{Step}
 use Rattle.sky_law.specs.Opened.{next_part, times}
+use Rattle.sky_law.proofs.Lists.{some_is}
 use Rattle.sky_state.specs.Table.{keeps, on_by, past_part, past_link, past_and, past_arm, past_stm, past_sign, finished, in_index, in_call, spot_of, past_spot, part_row, link_row, and_row, sign_is, sign_row, spot_row, arm_row, ran_row, block_row, stm_row, exp_row, IsStep}
 use Rattle.sky_restored.specs.Kept.{kept_in_call, kept_after}
 
 none_is : {A : Type 0} (a : A) → None ≡ Some a → ⊥
 none_is a e = cc
-
-some_is : {A : Type 0} (a b : A) → Some a ≡ Some b → a ≡ b
-some_is a b e = cc
 
 -- ---- parts
 

@@ -8,6 +8,7 @@ use Rattle.sky_base.specs.Kept.{Kept}
 use Rattle.sky_base.specs.Res.{Entry, exec_wait, part_at, chain_more, logic_at, star_wait, index_at, arg_at, call_open, put_index, put_value, arm_test, for_list, for_body, block_at}
 use Rattle.sky_law.specs.Opened.{Node, exp_node, stm_node, block_node, Pos, finished, in_index, in_args, HasExp, HasExps, HasLinks, HasAnds, HasSteps, HasStm, HasStms, HasArms, HasElse, next_part, next_link, next_and, next_arm, next_stm, next_sign, enter_pos, next_pos, times, at_first, at_two, descs_of, exec_open, part_open, link_open, and_open, sign_open, pos_open, put_open, arm_open, each_open, for_open, opened_exp, opened_stm, opened}
 use Rattle.sky_law.specs.Tasks.{Each}
+use Rattle.sky_law.proofs.Lists.{some_is}
 use Rattle.sky_numbers.specs.Standing.{HasNode}
 use Rattle.sky_code.proofs.Bodies.{nodes_pos, stm_nodes_pos}
 use Rattle.sky_scope.specs.RunView.{KeptVals, KeptPairs}
@@ -26,9 +27,6 @@ En = Entry (List ℕ)
 
 none_is : {A : Type 0} (a : A) → None ≡ Some a → ⊥
 none_is a e = cc
-
-some_is : {A : Type 0} (a b : A) → Some a ≡ Some b → a ≡ b
-some_is a b e = cc
 
 abbrev pub KeptCall : Call (List ℕ) → Type 0
 KeptCall None = Unit {0}

@@ -10,13 +10,14 @@ use Rattle.sky_law.specs.Opened.{Node, exp_node, stm_node, block_node, next_part
 use Rattle.sky_law.specs.Nodes.{node_at}
 use Rattle.sky_law.specs.Tasks.{In}
 use Rattle.sky_law.proofs.NodesLaw.{has_script}
+use Rattle.sky_law.proofs.Lists.{some_is, length_push, up_two}
 use Rattle.sky_numbers.specs.Standing.{HasNode}
 use Rattle.sky_numbers.proofs.Inside.{stands}
 use Rattle.sky_state.specs.Table.{Row, pending, on_by, past_part, past_link, past_and, past_arm, past_stm, past_sign, Spot, finished, in_index, in_call, spot_of, past_spot, part_row, link_row, and_row, sign_is, sign_row, spot_row, exp_row, arm_row, arm_blocks, else_block, stm_row, ran_row, block_row, row, IsStep}
 use Rattle.sky_state.specs.Fits.{IsReference, IsListOfReferences, UpToLength}
 use Rattle.sky_state.specs.Chained.{body_places, KeptBy}
-use Rattle.sky_state.proofs.OpenEntry.{some_is, times_are, part_past, link_past, and_past, arm_past, stm_past, sign_past, pos_of, pos_start, spot_past, no_values, one_value, some_value, reference, references, list_of, one_of, two_of, taken_list}
-use Rattle.sky_state.proofs.LinkLaw.{in_left, in_right, next_place, up_one, up_two, Linked, got_each, goes_each, linked_got, linked_goes, linked_body, linked_visit, linked_answer, linked_decide, linked_add, linked_put, linked_signs, linked_eval, linked_parts, linked_links, linked_ands, linked_steps, linked_args, linked_turns, linked_repeats, linked_each, linked_each_of, linked_stms, linked_arms, linked_else, length_push, linked_call}
+use Rattle.sky_state.proofs.OpenEntry.{times_are, part_past, link_past, and_past, arm_past, stm_past, sign_past, pos_of, pos_start, spot_past, no_values, one_value, some_value, reference, references, list_of, one_of, two_of, taken_list}
+use Rattle.sky_state.proofs.LinkLaw.{in_left, in_right, next_place, up_one, Linked, got_each, goes_each, linked_got, linked_goes, linked_body, linked_visit, linked_answer, linked_decide, linked_add, linked_put, linked_signs, linked_eval, linked_parts, linked_links, linked_ands, linked_steps, linked_args, linked_turns, linked_repeats, linked_each, linked_each_of, linked_stms, linked_arms, linked_else, linked_call}
 
 -- ---- what stands behind the parts that are past
 
@@ -132,7 +133,7 @@ module _ {N : Type 0} (w : World N) (d : ℕ) where
     parts_go : (o : Form) (p : Place) (es : Exps) (n i : ℕ) (x : Option (ℕ × Exps)) → on_by past_part i (n + 1, es) ≡ x → At n ≡ Some (exp_node (Exp.parts o p es)) → HasExps At es (n + 1) → (vs : List (Val N)) → IsStep (part_row o i x) → Keeps (part_row o i x) vs → Goes (exp_node (Exp.parts o p es)) n (suc i) vs c
     parts_go o p es n i None e here h vs s k = absurd s
     parts_go o p es n i (Some (m, Exps.exp y ys)) e here h vs s k =
-        by_form (exp_node (Exp.parts o p es)) n (suc i) vs c (part_at n (suc i) (m + nodes y) o p vs ys) (ap (λ z. part_open z n (suc i) o p vs) (times_are past_part next_part (λ z. z) part_past i (n + 1, es) (m, Exps.exp y ys) e)) (λ ps a b. got_each w At ps _ (λ v st. linked_parts w At (body_at w d) bodies_link ys ps n (suc i + 1) (m + nodes y) (suc i) o p (vs ++ v ∷ []) es st a here (next_place past_part i (n + 1, es) (m, Exps.exp y ys) (m + nodes y, ys) e refl) (up_one (suc i) i refl) (length_push w At vs v i k.as_many) (past_has (PartsAt At) past_part (part_has At) i (n + 1, es) (m, Exps.exp y ys) e h).1))
+        by_form (exp_node (Exp.parts o p es)) n (suc i) vs c (part_at n (suc i) (m + nodes y) o p vs ys) (ap (λ z. part_open z n (suc i) o p vs) (times_are past_part next_part (λ z. z) part_past i (n + 1, es) (m, Exps.exp y ys) e)) (λ ps a b. got_each w At ps _ (λ v st. linked_parts w At (body_at w d) bodies_link ys ps n (suc i + 1) (m + nodes y) (suc i) o p (vs ++ v ∷ []) es st a here (next_place past_part i (n + 1, es) (m, Exps.exp y ys) (m + nodes y, ys) e refl) (up_one (suc i) i refl) (length_push vs v i k.as_many) (past_has (PartsAt At) past_part (part_has At) i (n + 1, es) (m, Exps.exp y ys) e h).1))
     parts_go Form.exec p es n (suc (suc (suc zero))) (Some (m, Exps.no_exps)) e here h vs s k =
         let v = one_of IsListOfReferences vs k.kinds in
         let us = list_of v.0 v.2 in
@@ -193,7 +194,7 @@ module _ {N : Type 0} (w : World N) (d : ℕ) where
         let v = some_value j vs k.as_many in
         let there = past_has (SpotAt At) past_spot (spot_has At) i (spot_of (n + 1 + nodes f) ss) (in_call m j (Exps.exp y ys) p zs) e (spot_at At (n + 1 + nodes f) ss h) in
         let many : suc (length v.1) ≡ 1 + j = sym (ap length v.2) ∙ k.as_many in
-        by_form (exp_node (Exp.postfix f ss)) n (suc (suc i)) vs c (arg_at n (suc (suc i)) (m + nodes y) p v.0 v.1 ys zs) (ap (λ ws. opened (exp_node (Exp.postfix f ss)) n (suc (suc i)) ws c) v.2 ∙ ap (λ z. pos_open z n (suc (suc i)) (v.0 ∷ v.1) c) (at_spot f ss n i (in_call m j (Exps.exp y ys) p zs) e)) (λ ps a b. got_each w At ps _ (λ u st. linked_args w At (body_at w d) bodies_link ys ps n (suc (suc i) + 1) (m + nodes y) (suc i) (j + 1) p v.0 (v.1 ++ u ∷ []) zs f ss st a here (next_place past_spot i (spot_of (n + 1 + nodes f) ss) (in_call m j (Exps.exp y ys) p zs) (in_call (m + nodes y) (j + 1) ys p zs) e refl) (up_two (suc (suc i)) i refl) (length_push w At v.1 u j (omega (arith, many)) ∙ one_up j) there.0.1 (m + (nodes y + exps_nodes ys)) (omega arith) (λ l m' i' r t walk fits is_next. linked_steps w At (body_at w d) bodies_link zs ps n l m' i' r f ss t a here walk fits (subst (HasSteps At zs) (sym is_next) there.1))))
+        by_form (exp_node (Exp.postfix f ss)) n (suc (suc i)) vs c (arg_at n (suc (suc i)) (m + nodes y) p v.0 v.1 ys zs) (ap (λ ws. opened (exp_node (Exp.postfix f ss)) n (suc (suc i)) ws c) v.2 ∙ ap (λ z. pos_open z n (suc (suc i)) (v.0 ∷ v.1) c) (at_spot f ss n i (in_call m j (Exps.exp y ys) p zs) e)) (λ ps a b. got_each w At ps _ (λ u st. linked_args w At (body_at w d) bodies_link ys ps n (suc (suc i) + 1) (m + nodes y) (suc i) (j + 1) p v.0 (v.1 ++ u ∷ []) zs f ss st a here (next_place past_spot i (spot_of (n + 1 + nodes f) ss) (in_call m j (Exps.exp y ys) p zs) (in_call (m + nodes y) (j + 1) ys p zs) e refl) (up_two (suc (suc i)) i refl) (length_push v.1 u j (omega (arith, many)) ∙ one_up j) there.0.1 (m + (nodes y + exps_nodes ys)) (omega arith) (λ l m' i' r t walk fits is_next. linked_steps w At (body_at w d) bodies_link zs ps n l m' i' r f ss t a here walk fits (subst (HasSteps At zs) (sym is_next) there.1))))
       where
         one_up : (x : ℕ) → suc x ≡ x + 1
         one_up x = omega arith

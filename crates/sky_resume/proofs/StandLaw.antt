@@ -23,6 +23,7 @@ use Rattle.sky_law.proofs.OpenLaw as law
 use Rattle.sky_law.proofs.OpenLaw.{Opens, opens_call}
 use Rattle.sky_law.proofs.SeenLaw.{stands_one}
 use Rattle.sky_law.proofs.TaskLaw.{task_ends, resume_halts, resume_makes, resume_ends}
+use Rattle.sky_law.proofs.Lists.{some_is}
 use Rattle.sky_rows.specs.Data.{data_of}
 use Rattle.sky_state.specs.Stand.{Stand, low_state}
 use Rattle.sky_state.specs.Stands.{Stands}
@@ -36,9 +37,6 @@ use Rattle.sky_resume.specs.declared.on.Came.{Came}
 
 none_some : {A : Type 0} (a : A) → None ≡ Some a → ⊥
 none_some a e = cc
-
-some_is : {A : Type 0} (a b : A) → Some a ≡ Some b → a ≡ b
-some_is a b e = cc
 
 all_opened : {N : Type 0} (w : World N) (at : ℕ → Option Node) (fr : List (Entry N)) → law.AllOpened w at fr → AllOpened at fr
 all_opened w at [] h = tt

@@ -4,6 +4,7 @@ use Rattle.sky_base.specs.Val.{known, same_text, same_desc}
 use Rattle.sky_base.specs.See.{slot}
 use Rattle.sky_law.specs.Tasks.{In, Apart}
 use Rattle.sky_base.proofs.Exact.{exact_text, self_text, exact_desc, self_desc}
+use Rattle.sky_law.proofs.Lists.{some_is}
 use Rattle.sky_rows.specs.Walk.{Row, number_of, Numbers}
 use Rattle.sky_rows.specs.Number.{index_if, index_of, tag_of}
 
@@ -26,9 +27,6 @@ index_found d (r ∷ rs) = go (same_desc same_text d r) refl (index_found d rs)
 pub got_in : {A : Type 0} (xs : List A) (k : ℕ) (x : A) → slice_get xs k ≡ Some x → In x xs
 got_in [] k x e = absurd cc
 got_in (y ∷ ys) zero x e = inl (some_is x y (sym e))
-  where
-    some_is : {A : Type 0} (a b : A) → Some a ≡ Some b → a ≡ b
-    some_is a b e = cc
 got_in (y ∷ ys) (suc k) x e = inr (got_in ys k x e)
 
 pub got_below : {A : Type 0} (xs : List A) (k : ℕ) (x : A) → slice_get xs k ≡ Some x → k < length xs

@@ -23,6 +23,7 @@ use Rattle.sky_law.proofs.RefsLow.{refs_low, pairs_refs_low, distinct_low}
 use Rattle.sky_law.proofs.SeenLaw.{stands_one, wait_one}
 use Rattle.sky_law.proofs.TaskFuel.{held_one}
 use Rattle.sky_law.proofs.TaskOutputs.{stands_exact, distinct_apart, in_distinct}
+use Rattle.sky_law.proofs.Lists.{some_is}
 use Rattle.sky_state.specs.Stand.{Stand, low_state}
 use Rattle.sky_state.specs.Stands.{Stands}
 use Rattle.sky_state.specs.Table.{Row, part, turn, star, outputs, open_call, no_step}
@@ -34,9 +35,6 @@ use Rattle.sky_state.proofs.FitsLaw.{ChainedHalt, chained_halt}
 
 none_some : {A : Type 0} (a : A) → None ≡ Some a → ⊥
 none_some a e = cc
-
-some_is : {A : Type 0} (a b : A) → Some a ≡ Some b → a ≡ b
-some_is a b e = cc
 
 -- ---- references over names
 

@@ -11,6 +11,7 @@ use Rattle.sky_law.specs.Nodes.{node_at}
 use Rattle.sky_law.specs.Tasks.{In}
 use Rattle.sky_law.proofs.BodiesLaw.{HasBody, has_body, body_stands}
 use Rattle.sky_law.specs.Sound.{IsFun}
+use Rattle.sky_law.proofs.Lists.{length_push, up_two}
 use Rattle.sky_state.specs.Table.{Row, part, pending, turn, open_call, on_by, past_part, past_link, past_and, past_arm, past_stm, past_sign, Spot, in_index, in_call, spot_of, past_spot, part_row, link_row, and_row, sign_row, spot_row, exp_row, arm_row, arm_blocks, else_block, stm_row, stm_places, ran_row, block_row, row}
 use Rattle.sky_state.specs.Table as table
 use Rattle.sky_state.specs.Fits.{AllReferences}
@@ -33,9 +34,6 @@ next_place f i x y z e g = ap (option_and_then f) e ∙ g
 
 pub up_one : (k i : ℕ) → k ≡ suc i → k + 1 ≡ suc (suc i)
 up_one k i e = omega (arith, e)
-
-pub up_two : (k i : ℕ) → k ≡ suc (suc i) → k + 1 ≡ suc (suc (suc i))
-up_two k i e = omega (arith, e)
 
 -- the node of a body is that of its block
 pub block_of_body : (sc : Script) (f : List ℕ) (b : Body) → body_of f sc ≡ Some b → node_at sc b.node ≡ Some (block_node b.block)
@@ -268,11 +266,6 @@ module _ {N : Type 0} (w : World N) (at : ℕ → Option Node) where
   linked_formed ps Form.keys vs n p es m i st a here done is = linked_one ps vs p st _ (λ x. linked_answer ps (keys x) p st gives (λ v. tt))
   linked_formed ps Form.has vs n p es m i st a here done is = linked_two ps vs p st _ (λ x y. linked_answer ps (has x y) p st gives (λ v. tt))
   linked_formed ps Form.range vs n p es m i st a here done is = linked_two ps vs p st _ (λ x y. linked_answer ps (range x y) p st gives (λ v. tt))
-
-  pub length_push : (vs : List (Val N)) (v : Val N) (i : ℕ) → length vs ≡ i → length (vs ++ v ∷ []) ≡ suc i
-  length_push [] v i e = ap suc e
-  length_push (x ∷ vs) v zero e = absurd (omega (arith, e))
-  length_push (x ∷ vs) v (suc i) e = ap suc (length_push vs v i (omega (arith, e)))
 
   -- ---- the rows of forms with several steps
 

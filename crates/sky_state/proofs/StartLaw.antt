@@ -11,14 +11,12 @@ use Rattle.sky_base.specs.Read.{Frame, Run}
 use Rattle.sky_base.proofs.Keys.{same_key}
 use Rattle.sky_law.specs.Tasks.{In, Each}
 use Rattle.sky_law.specs.Sound.{IsFun, AllUsed, IsMain, CallsIf, Sound, SoundVars}
+use Rattle.sky_law.proofs.Lists.{some_is}
 use Rattle.sky_state.specs.Table.{part, row, keeps, IsStep}
 use Rattle.sky_state.specs.Fits.{row_of, OnBody, OfKinds, TakenFrom, kept_in_all, uses_of, KeysFrom, HasKey, StartVars, IsStart, FitsFrame, FitsRun}
 use Rattle.sky_state.specs.Start.{SoundVals, CanStart}
 use Rattle.sky_state.proofs.LinkLaw.{block_of_body}
 use Rattle.sky_state.proofs.StackLaw.{kept_more}
-
-some_is : {A : Type 0} (a b : A) → Some a ≡ Some b → a ≡ b
-some_is a b e = cc
 
 module _ {N : Type 0} where
   -- ---- what is put at a key

@@ -5,6 +5,7 @@
 
 pub mod frame;
 pub mod law;
+pub mod shown;
 pub mod spawned;
 mod start;
 pub mod state;

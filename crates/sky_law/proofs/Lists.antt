@@ -1,0 +1,18 @@
+-- Lemmas on lists, options and numbers that many proofs cite.
+use Rattle.std.proofs.Common.{◌≡◌, ℕ, zero, suc, List, [], ◌∷◌, ◌++◌, Some, length, ap, ◌+◌, arith}
+use Rattle.sky_law.specs.Tasks.{Each}
+
+pub some_is : {A : Type 0} (a b : A) → Some a ≡ Some b → a ≡ b
+some_is a b e = cc
+
+pub each_both : {A : Type 0} (P : A → Type 0) (xs ys : List A) → Each P xs → Each P ys → Each P (xs ++ ys)
+each_both P [] ys h i = i
+each_both P (x ∷ xs) ys h i = (h.0, each_both P xs ys h.1 i)
+
+pub length_push : {A : Type 0} (xs : List A) (x : A) (i : ℕ) → length xs ≡ i → length (xs ++ x ∷ []) ≡ suc i
+length_push [] x i e = ap suc e
+length_push (y ∷ xs) x zero e = absurd (omega (arith, e))
+length_push (y ∷ xs) x (suc i) e = ap suc (length_push xs x i (omega (arith, e)))
+
+pub up_two : (k i : ℕ) → k ≡ suc (suc i) → k + 1 ≡ suc (suc (suc i))
+up_two k i e = omega (arith, e)
