@@ -43,7 +43,7 @@ fn fits(alloc: Global, fitting: &Fitting, bytes: &[u8]) -> Result<bool, Fail> {
 pub fn is_read(rt: &impl Abort, alloc: Global, text: &str, bytes: &[u8]) -> Result<(), Fail> {
     let script = script(alloc, text)?;
     let numbered = number_script(alloc, &script)?;
-    let fitting = Fitting::new(alloc, &numbered.code, &numbered.nodes)?;
+    let fitting = Fitting::new(alloc, &numbered)?;
     assert!(rt; fits(alloc, &fitting, bytes)?);
     for count in 0..bytes.len() {
         assert!(rt; !fits(alloc, &fitting, &bytes[..count])?);
@@ -64,7 +64,7 @@ pub fn with_byte(
 ) -> Result<bool, Fail> {
     let script = script(alloc, text)?;
     let numbered = number_script(alloc, &script)?;
-    let fitting = Fitting::new(alloc, &numbered.code, &numbered.nodes)?;
+    let fitting = Fitting::new(alloc, &numbered)?;
     let mut other = Vec::from_slice(alloc, bytes)?;
     if at < other.len() {
         other[at] = byte;

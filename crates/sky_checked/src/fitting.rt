@@ -4,6 +4,7 @@ ghost use Rattle.std.specs.Prelude.{◌≡◌, IfOk};
 
 use sky_base::text::Memory;
 use sky_code::code::Code;
+use sky_numbers::code::Numbered;
 use sky_numbers::nodes::Nodes;
 use sky_sound::captures::Captures;
 use std::alloc::Global;
@@ -13,8 +14,7 @@ use std::marker::Model;
 /// all states that are tested. Contracts see it as the script.
 #[derive(Drop)]
 pub struct Fitting<'b, 'a> {
-    code: &'b Code<'a>,
-    nodes: &'b Nodes<'a>,
+    script: &'b Numbered<'a>,
     captures: Captures<'b, 'a>,
 }
 
@@ -27,43 +27,35 @@ impl<'b, 'a> Model for Fitting<'b, 'a> {
 
     ghost coded = { script_code };
 
-    ghost view = { λ f. f.code.now };
+    ghost view = { λ f. f.script.now.code };
 
-    ghost invariant = { λ f. (f.nodes.now ≡ f.code.now) × (f.captures ≡ f.code.now) };
+    ghost invariant = { λ f. (f.script.now.nodes ≡ f.script.now.code) × (f.captures ≡ f.script.now.code) };
 }
 
 impl<'b, 'a> Fitting<'b, 'a> {
-    /// The script with what is looked up; the nodes are those of the script.
+    /// The script with what is looked up.
     ///
     /// Answers `Memory` for want of memory.
-    pub fn new(
-        alloc: Global,
-        code: &'b Code<'a>,
-        nodes: &'b Nodes<'a>,
-    ) -> Result<Fitting<'b, 'a>, Memory>
-        requires { nodes.now ≡ code.now }
-        ensures { IfOk result (λ f. f ≡ code.now) }
+    pub fn new(alloc: Global, script: &'b Numbered<'a>) -> Result<Fitting<'b, 'a>, Memory>
+        requires { script.now.nodes ≡ script.now.code }
+        ensures { IfOk result (λ f. f ≡ script.now.code) }
     {
-        let captures = Captures::new(alloc, code.program())?;
-        Ok(Fitting {
-            code,
-            nodes,
-            captures,
-        })
+        let captures = Captures::new(alloc, script.code.program())?;
+        Ok(Fitting { script, captures })
     }
 
     /// The script, with the numbers of its nodes.
     pub(crate) fn code(&self) -> &'b Code<'a>
         ensures { result.now ≡ self.now }
     {
-        self.code
+        &self.script.code
     }
 
     /// Its nodes, by their numbers.
     pub(crate) fn nodes(&self) -> &'b Nodes<'a>
         ensures { result.now ≡ self.now }
     {
-        self.nodes
+        &self.script.nodes
     }
 
     /// The names that its functions use.

@@ -8,7 +8,8 @@ ghost use Rattle.sky_checked.specs.Checked.{NoneFits};
 
 use crate::fitting::Fitting;
 use crate::state::state_fits;
-use sky_frozen::frozen::{Frozen, freeze};
+use sky_base::text::{Bytes, Memory};
+use sky_frozen::frozen::Frozen;
 use sky_frozen::read::read_state;
 use sky_frozen::refusal::ReadFrozen;
 use std::alloc::Global;
@@ -27,12 +28,25 @@ pub fn read_frozen(
     ensures refused { IfErr result (λ e. IfBad e (NoneFits fitting.now bytes.now)) }
 {
     let state = read_state(alloc, bytes)?;
-    match state_fits(alloc, fitting, &state) {
-        Err(_) => Err(ReadFrozen::Memory),
-        Ok(false) => Err(ReadFrozen::BadFrozen),
-        Ok(true) => match freeze(alloc, &state) {
-            Ok(frozen) => Ok(frozen),
-            Err(_) => Err(ReadFrozen::Memory),
-        },
+    let Ok(fits) = state_fits(alloc, fitting, &state) else {
+        return Err(ReadFrozen::Memory);
+    };
+    if !fits {
+        return Err(ReadFrozen::BadFrozen);
     }
+    let Ok(copy) = copied(alloc, bytes) else {
+        return Err(ReadFrozen::Memory);
+    };
+    Ok(Frozen::of(state, copy))
+}
+
+// A copy of the bytes, which the frozen state keeps.
+fn copied(alloc: Global, bytes: &[u8]) -> Result<Bytes, Memory>
+    ensures { IfOk result (λ b. b ≡ bytes.now) }
+{
+    let Ok(copy) = Vec::from_slice(alloc, bytes) else {
+        return Err(Memory);
+    };
+    let bytes = Bytes::new(alloc, copy)?;
+    Ok(bytes)
 }
