@@ -8,13 +8,13 @@ use Rattle.sky_base.specs.Val.{Val, Pairs, no_pairs, pair, Rising, RisingFrom}
 use Rattle.sky_base.specs.Op.{find}
 use Rattle.sky_base.specs.Eval.{is_one_of}
 use Rattle.sky_base.specs.Tree as logic
-use Rattle.sky_base.specs.ScriptView.{fun_view, funs_view}
+use Rattle.sky_base.specs.ScriptView.{funs_view}
 use Rattle.sky_base.specs.declared.script.FunDef.{FunDef}
 use Rattle.sky_base.proofs.Keys.{same_key}
 use Rattle.sky_base.proofs.Exact.{self_text}
-use Rattle.sky_law.specs.Sound.{AllUsed}
+use Rattle.sky_law.specs.Sound.{AllUsed, TakesIf}
 use Rattle.sky_law.specs.Tasks.{In, Each}
-use Rattle.sky_state.specs.Fits.{KeysFrom, HasKey}
+use Rattle.sky_state.specs.Fits.{uses_of, KeysFrom, HasKey}
 use Rattle.sky_sound.specs.Keys.{KeysAre, UsesAre, AreUses, HasValue, AllIn, AllInEither, AllFound}
 use Rattle.sky_sound.proofs.UsesLaw.{one_of_more}
 
@@ -26,13 +26,26 @@ cmp a b = slice_cmp nat_cmp a b
 
 -- ---- what a function captured
 
-pub all_used : (us : List (List ℕ)) (keys : P) → KeysAre keys us → (ps : P) → AllIn keys ps → AllUsed us ps
+all_used : (us : List (List ℕ)) (keys : P) → KeysAre keys us → (ps : P) → AllIn keys ps → AllUsed us ps
 all_used us keys e no_pairs h = tt
 all_used us keys e (pair k v ps) h = (sym (e k) ∙ h.0, all_used us keys e ps h.1)
 
-pub used_all : (us : List (List ℕ)) (keys : P) → KeysAre keys us → (ps : P) → AllUsed us ps → AllIn keys ps
+used_all : (us : List (List ℕ)) (keys : P) → KeysAre keys us → (ps : P) → AllUsed us ps → AllIn keys ps
 used_all us keys e no_pairs h = tt
 used_all us keys e (pair k v ps) h = (e k ∙ h.0, used_all us keys e ps h.1)
+
+pub all_taken : (o : Option logic.FunDef) (keys ps : P) → UsesAre keys o → AllIn keys ps → TakesIf o ps
+all_taken None keys ps e h = absurd e
+all_taken (Some f) keys ps e h = all_used f.uses keys e ps h
+
+pub taken_all : (o : Option logic.FunDef) (keys ps : P) → UsesAre keys o → TakesIf o ps → AllIn keys ps
+taken_all None keys ps e h = absurd e
+taken_all (Some f) keys ps e h = used_all f.uses keys e ps h
+
+-- the names that a function uses, where there is one
+pub used_names : (o : Option logic.FunDef) (keys : P) → UsesAre keys o → KeysAre keys (uses_of o)
+used_names None keys e = absurd e
+used_names (Some f) keys e = e
 
 -- ---- a name of a list
 
@@ -115,9 +128,9 @@ pub keys_all : (ps : P) → Rising ps → (xs : List (List ℕ)) → Each (HasKe
 keys_all ps r [] h = tt
 keys_all ps r (x ∷ xs) h = (key_found ps r x h.0, keys_all ps r xs h.1)
 
--- a dictionary without keys has no names
-pub no_keys : KeysAre no_pairs []
-no_keys k = refl
+-- where there is no function, a dictionary without keys has the names that it uses
+pub no_names : (o : Option logic.FunDef) (keys : P) → o ≡ None → keys ≡ no_pairs → KeysAre keys (uses_of o)
+no_names o keys e g k = ap (λ ps. is_some (find k ps)) g ∙ ap (λ p. is_one_of k (uses_of p)) (sym e)
 
 -- ---- the names that functions use
 

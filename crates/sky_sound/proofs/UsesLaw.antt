@@ -1,5 +1,5 @@
 -- Names as the keys of a dictionary: a name has a value exactly where it was put.
-use Rattle.std.proofs.Common.{◌≡◌, ℕ, List, [], ◌∷◌, Bool, true, false, ◌||◌, Option, Some, None, is_some, refl, sym, ap, ◌∙◌}
+use Rattle.std.proofs.Common.{◌≡◌, ℕ, List, ◌∷◌, Bool, true, false, ◌||◌, Option, Some, None, is_some, refl, sym, ap, ◌∙◌}
 use Rattle.std.specs.Ordering.{nat_cmp, match_ordering, ordering_reverse, is_eq}
 use Rattle.std.specs.Cmp.Lexicographic.{slice_cmp}
 use Rattle.std.proofs.lemmas.Cmp.{nat_list_cmp_total}
@@ -62,3 +62,9 @@ one_of_more k x xs = go (cmp k x) refl
     go Ordering.Less e = rw e refl
     go Ordering.Equal e = rw e refl
     go Ordering.Greater e = rw e refl
+
+pub turned : (a b c : Bool) → (a || b) || c ≡ b || (a || c)
+turned true true c = refl
+turned true false c = refl
+turned false true c = refl
+turned false false c = refl

@@ -4,7 +4,7 @@ ghost use Rattle.std.specs.Prelude.{◌≡◌, IfOk, IsTrue, IsFalse};
 ghost use Rattle.sky_base.specs.Eval.{find_fun};
 ghost use Rattle.sky_law.specs.Tasks.{Each};
 ghost use Rattle.sky_state.specs.Fits.{uses_of, KeysFrom, HasKey};
-ghost use Rattle.sky_sound.specs.Keys.{AllInEither, AllFound, KeysAre};
+ghost use Rattle.sky_sound.specs.Keys.{AllInEither};
 
 use crate::captures::Captures;
 use crate::keys::{all_found, all_in_either, keys_of};
@@ -28,18 +28,23 @@ pub fn are_bound(
     ensures no { IfOk result (λ b. IsFalse b → KeysFrom params.now (uses_of (find_fun fun.now captures.now.funs)) vars.now → Each (HasKey vars.now) params.now → ⊥) }
 {
     let own = keys_of(alloc, params)?;
-    let names = match captures.uses(fun) {
-        Some(names) => are_set(&own, names, params, vars),
-        None => are_set(&own, &Pairs::new(alloc), params, vars),
-    };
-    Ok(names)
+    match captures.uses(fun) {
+        Some(uses) => Ok(are_set(&own, uses, params, vars)),
+        None => {
+            let none = Pairs::new(alloc);
+            Ok(are_set(&own, &none, params, vars))
+        }
+    }
 }
 
 // Whether each variable is one of these names or of those, and each parameter is set.
 fn are_set(own: &Pairs, uses: &Pairs, params: &[Txt], vars: &Pairs) -> bool
     ensures keys { IsTrue result → AllInEither own.now uses.now vars.now }
-    ensures params { IsTrue result → AllFound vars.now params.now }
-    ensures no { IsFalse result → AllInEither own.now uses.now vars.now → AllFound vars.now params.now → ⊥ }
+    ensures params { IsTrue result → Each (HasKey vars.now) params.now }
+    ensures no { IsFalse result → AllInEither own.now uses.now vars.now → Each (HasKey vars.now) params.now → ⊥ }
 {
-    all_in_either(own, uses, vars.as_slice()) && all_found(vars, params)
+    if !all_in_either(own, uses, vars.as_slice()) {
+        return false;
+    }
+    all_found(vars, params)
 }
