@@ -42,7 +42,12 @@ fn forms_fit(fitting: &Fitting, frame: &Frame) -> bool
 {
     let todo = frame.todo.as_slice();
     on_body(fitting.code(), &frame.fun, todo)
-        && entries_fit(fitting.code(), fitting.nodes(), todo, frame.stack.as_slice())
+        && entries_fit(
+            fitting.code(),
+            fitting.nodes(),
+            todo,
+            frame.stack.as_slice(),
+        )
 }
 
 // The variables and the values on the stack are sound.

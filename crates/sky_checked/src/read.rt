@@ -17,11 +17,7 @@ use std::alloc::Global;
 /// The frozen state that has these bytes and fits the script.
 ///
 /// Answers `BadFrozen` exactly where no state that fits the script has them. Answers `Memory` for want of memory.
-pub fn read_frozen(
-    alloc: Global,
-    bytes: &[u8],
-    fitting: &Fitting,
-) -> Result<Frozen, ReadFrozen>
+pub fn read_frozen(alloc: Global, bytes: &[u8], fitting: &Fitting) -> Result<Frozen, ReadFrozen>
     ensures bytes { IfOk result (λ f. frozen_bytes f ≡ bytes.now) }
     ensures spelled { IfOk result (λ f. StandSpelled f) }
     ensures fits { IfOk result (λ f. Fits fitting.now f) }

@@ -41,7 +41,13 @@ fn begins(alloc: Global, fitting: &Fitting, frame: &Frame) -> Result<bool, Memor
     if !at_start(&body, frame) {
         return Ok(false);
     }
-    let bound = are_bound(alloc, fitting.captures(), &frame.fun, body.params, &frame.vars)?;
+    let bound = are_bound(
+        alloc,
+        fitting.captures(),
+        &frame.fun,
+        body.params,
+        &frame.vars,
+    )?;
     Ok(bound)
 }
 

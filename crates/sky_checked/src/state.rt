@@ -80,7 +80,9 @@ fn stack_fits(fitting: &Fitting, frames: &[Frame]) -> bool
         None => frames,
         Some((_, below)) => below,
     };
-    functions_fit(fitting, frames) && frames_fit(fitting, frames) && all_end_in_calls(fitting, below)
+    functions_fit(fitting, frames)
+        && frames_fit(fitting, frames)
+        && all_end_in_calls(fitting, below)
 }
 
 // Whether the last form of the top frame waits.
@@ -95,12 +97,7 @@ fn top_waits(fitting: &Fitting, frames: &[Frame]) -> bool
 }
 
 // Whether the result at a wave fits: the wave is at most 100, and the value is sound and refers to something.
-fn show_fits(
-    alloc: Global,
-    fitting: &Fitting,
-    value: &Value,
-    wave: u32,
-) -> Result<bool, Memory>
+fn show_fits(alloc: Global, fitting: &Fitting, value: &Value, wave: u32) -> Result<bool, Memory>
     ensures yes { IfOk result (λ b. IsTrue b → FitsShow fitting.now (view value.now) wave) }
     ensures no { IfOk result (λ b. IsFalse b → FitsShow fitting.now (view value.now) wave → ⊥) }
 {
