@@ -1,21 +1,20 @@
 -- What a task waits for and holds at its next wait, where all that it holds at a wait, what the objects hold that answer it
 -- there, and what it makes up to the next one, has a property.
-use Rattle.std.proofs.Common.{◌≡◌, ℕ, zero, suc, ◌+◌, ◌-◌, ◌≤◌, Bool, true, false, map, nat_le, List, [], ◌∷◌, ◌++◌, length, Option, Some, None, Ok, Err, ◌⊎◌, inl, inr, refl, sym, ap, ◌∙◌, subst, arith}
-use Rattle.std.specs.Option.{option_map}
-use Rattle.sky_base.specs.Val.{call, out, input, known, ref, refs, pairs_refs, list, refs_to}
+use Rattle.std.proofs.Common.{◌≡◌, ℕ, zero, suc, ◌+◌, ◌-◌, ◌≤◌, Bool, true, false, map, nat_le, List, [], ◌∷◌, ◌++◌, length, Option, Some, None, Ok, Err, inl, inr, refl, sym, ap, ◌∙◌, subst, arith}
+use Rattle.sky_base.specs.Val.{call, out, input, known, ref, refs, pairs_refs}
 use Rattle.sky_base.specs.Op.{Answer}
 use Rattle.sky_base.specs.Tree.{Place, nowhere}
-use Rattle.sky_base.specs.Res.{bodies, others, Object, End, St, Entry, Wait, one_of, all_of, Res, Fin, Tell, Ask}
-use Rattle.sky_base.specs.Eval.{World, Body, bind, body_of, exec_end, read_end, wait_end, in_body, eval_block, body_at, plug, with_vars}
+use Rattle.sky_base.specs.Res.{with_vars, bodies, others, Object, Entry, Wait, one_of, all_of, Res, Fin, Tell, Ask}
+use Rattle.sky_base.specs.Eval.{World, Body, bind, body_of, exec_end, read_end, wait_end, in_body, eval_block, body_at}
 use Rattle.sky_base.specs.Read.{Halt, Frame, Run, refs_of, joined, see_all, halts_seen, halt, segment, segment_from, first_halt, frames_of, run_of_halt, rest_of}
 use Rattle.sky_base.specs.See.{Val, Vals, Pairs, Desc, Obj, Job, Around, run_of, world_of, start_st, see, wave, wave_on, turn_of, main_call}
 use Rattle.sky_base.specs.Needed.{Task, State, start_frame, halt_state, halt_refs, wave_state, wave_refs, only_if, unless_none, distinct_refs, stands_at, wait_at}
 use Rattle.sky_law.specs.Nodes.{node_at}
-use Rattle.sky_law.specs.Opened.{Node, Opened}
-use Rattle.sky_law.specs.Refers.{PlainReads, Refers, PairsRefer}
+use Rattle.sky_law.specs.Opened.{Node}
+use Rattle.sky_law.specs.Refers.{PlainReads}
 use Rattle.sky_law.specs.Tasks.{In, Each, held, frames_held, vals_held, acts_of, after_wait, made_before, made_between}
 use Rattle.sky_law.proofs.BoundLaw.{task_open}
-use Rattle.sky_law.proofs.FineLaw.{Closed, EndOk, FormsOk, Fine, ObjectOk}
+use Rattle.sky_law.proofs.FineLaw.{EndOk, FormsOk, Fine, ObjectOk}
 use Rattle.sky_law.proofs.FineReads.{SeenOk}
 use Rattle.sky_law.proofs.FormsLaw.{inner}
 use Rattle.sky_law.proofs.Lists.{some_is}
@@ -30,7 +29,6 @@ use Rattle.sky_law.proofs.WrittenLaw.{BodyWritten, any_lit, any_name, body_writt
 use Rattle.sky_state.specs.Chained.{body_places, Chained, AllOpened}
 use Rattle.sky_state.proofs.FitsLaw.{ChainedHalt, chained_halt}
 use Rattle.sky_state.proofs.LinkLaw.{linked_call}
-use Rattle.sky_rests.specs.Taken.{AllTaken}
 use Rattle.sky_rests.proofs.FitTaken.{fit_taken}
 use Rattle.sky_refits.proofs.Back.{Keeps, forms_back}
 use Rattle.sky_refits.proofs.Fines.{plug_fine, block_fine}
@@ -328,6 +326,10 @@ module _ (job : Job) (around : Around) (plain : PlainReads around) (D : Desc →
   map_seen n [] h = tt
   map_seen n (d ∷ ds) h = (seen_ok (see job around n d) (h d (inl refl)), map_seen n ds (λ e i. h e (inr i)))
 
+  no_first : (n : ℕ) → wave job around n 0 ≡ None → ⊥
+  unfolding wave
+  no_first n z = none_some (ref main_call) (sym z)
+
   show_next : (n j : ℕ) → waves.WaveTold job around plain D (wave job around n j) → Next n Task.show j
   show_next n j told =
       record {
@@ -341,11 +343,7 @@ module _ (job : Job) (around : Around) (plain : PlainReads around) (D : Desc →
           subst (λ x. Each D (held x)) (some_is (State.show_at u j) a e) (each_in D (distinct_refs u) (λ d i. in_each D (refs u) d (refs_each D u t) (distinct_refs_in u d i)))
 
       at_zero : (o : Option Val) → wave job around n 0 ≡ o → waves.WaveTold job around plain D o → Each D (main_call ∷ [])
-      at_zero None q t = absurd (no_first q)
-        where
-          no_first : wave job around n 0 ≡ None → ⊥
-          unfolding wave
-          no_first z = cc
+      at_zero None q t = absurd (no_first n q)
       at_zero (Some u) q t = subst (λ x. Each D (refs x)) (sym (first_value n u q)) (refs_each D u t)
 
       refs_at : (j : ℕ) (o : Option Val) → wave job around n j ≡ o → waves.WaveTold job around plain D o → (ds : List Desc) → wait_at job around n Task.show j ≡ Some ds → Each D ds

@@ -88,7 +88,7 @@ static ROWS: [Row; 4] = [
             Stop {
                 at: At {
                     waits: 2,
-                    count: 12,
+                    count: 10,
                     made: 3,
                     first: 1,
                     pending: 1,
@@ -104,7 +104,7 @@ static ROWS: [Row; 4] = [
         stops: &[Stop {
             at: At {
                 waits: 1,
-                count: 24,
+                count: 17,
                 made: 1,
                 first: 0,
                 pending: 1,

@@ -1,5 +1,5 @@
 -- The state that stands for a call at its start is the start of the call over names, and it goes on as the call does.
-use Rattle.std.proofs.Common.{◌≡◌, ◌<◌, ◌++◌, ℕ, zero, suc, List, [], ◌∷◌, map, Option, Some, None, refl, sym, ap, ◌∙◌, subst, arith}
+use Rattle.std.proofs.Common.{◌≡◌, ◌++◌, ℕ, List, [], ◌∷◌, map, is_some, Option, Some, None, refl, sym, ap, ◌∙◌, subst}
 use Rattle.std.specs.Option.{option_map}
 use Rattle.sky_base.specs.Val as v
 use Rattle.sky_base.specs.Val.{call}
@@ -23,8 +23,9 @@ use Rattle.sky_state.specs.Start.{StartsIn, StartsCall, start_in}
 use Rattle.sky_state.specs.Stands.{Stands}
 use Rattle.sky_state.proofs.FitsLaw.{start_of_call}
 use Rattle.sky_resume.specs.Comes.{over_names, with_name, object_at, Comes}
-use Rattle.sky_resume.specs.Standing.{WaitsNoMore, StandsOn, GoesOnAs, MakesAs}
+use Rattle.sky_resume.specs.Standing.{StandsOn, GoesOnAs, MakesAs}
 use Rattle.sky_resume.specs.declared.on.Came.{Came}
+use Rattle.sky_resume.proofs.Later.{no_later}
 use Rattle.sky_resume.proofs.StandLaw.{none_some, mapped, made_one, end_outcome, end_object, end_no_halt}
 
 module _ (digest : List ℕ → List ℕ) (job : Job) (around : Around) (f : List ℕ) (c : Pairs) (vs : Vals) where
@@ -52,18 +53,14 @@ module _ (digest : List ℕ → List ℕ) (job : Job) (around : Around) (f : Lis
     low : Rel no_name (digested digest) (run_of job around f c vs) whole
     low = job_low job around (digested digest) data_of alike f c vs
 
-    no_more : (e : End ⊥ × St ⊥) → first_end (run_of job around f c vs) ≡ Some e → WaitsNoMore job around (Task.of (call f c vs)) 0
-    no_more e is zero es lt w = absurd (omega (arith, lt))
-    no_more e is (suc i) es lt (m, at) =
-        none_some es (ap halt_refs (sym (end_no_halt (run_of job around f c vs) e is (see job around m) i)) ∙ at)
-
     pub begins_on : (came : Came) (new : Run (List ℕ)) → Comes f 0 whole came new → StandsOn digest job around (call f c vs) 0 came new
     unfolding see
     begins_on (Came.Ended o) new (e, is, object) =
-        let over = mapped (low_stop no_name (digested digest)) (first_end (run_of job around f c vs)) e (sym is ∙ first_end_low no_name (digested digest) (run_of job around f c vs) whole low) in
+        let run = run_of job around f c vs in
+        let over = mapped (low_stop no_name (digested digest)) (first_end run) e (sym is ∙ first_end_low no_name (digested digest) run whole low) in
         let x = end_object digest over.0.0 over.0.1 in
-        let out = end_outcome (see job around 0) (run_of job around f c vs) over.0 over.1 in
-        ((1, x.0, ap object_of out ∙ x.1, object ∙ ap (λ (y : End (List ℕ) × St (List ℕ)). object_at y.0) over.2 ∙ x.2), no_more over.0 over.1)
+        let out : see job around 1 (call f c vs) ≡ Some x.0 = ap object_of (end_outcome (see job around 0) run over.0 over.1) ∙ x.1 in
+        ((1, x.0, out, object ∙ ap (λ (y : End (List ℕ) × St (List ℕ)). object_at y.0) over.2 ∙ x.2), no_later (digested digest) job around 0 (Task.of (call f c vs)) 0 (ap is_some out) (ap halt_refs (end_no_halt run over.0 over.1 (see job around 0) 0)))
     begins_on Came.Waits new (h, is, stack) =
         let next = mapped (low_halt no_name (digested digest)) (first_halt (run_of job around f c vs)) h (sym is ∙ first_halt_low no_name (digested digest) (run_of job around f c vs) whole low) in
         let run : new ≡ low_run no_name (digested digest) (run_of_halt f 1 next.0) = stack ∙ ap (λ x. run_of_halt f 1 x) next.2 ∙ stack_low no_name (digested digest) f 1 next.0 in

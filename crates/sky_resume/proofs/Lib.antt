@@ -3,6 +3,7 @@ pub mod Saves
 pub mod Stacks
 pub mod Goes
 pub mod OnceLaw
+pub mod Later
 pub mod StandLaw
 pub mod Begins
 pub mod BeginLaw

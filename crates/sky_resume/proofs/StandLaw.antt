@@ -1,5 +1,5 @@
 -- The stack of a state that stands for a call is that of the call's run over names at its wait, and it goes on as the call does.
-use Rattle.std.proofs.Common.{◌≡◌, ◌≢◌, ◌<◌, ◌+◌, ◌-◌, ◌++◌, ℕ, zero, suc, List, [], ◌∷◌, map, true, Option, Some, None, refl, sym, ap, ◌∙◌, subst, arith}
+use Rattle.std.proofs.Common.{◌≡◌, ◌-◌, ◌++◌, ℕ, zero, suc, List, [], ◌∷◌, map, true, is_some, Option, Some, None, refl, sym, ap, ◌∙◌, subst, arith}
 use Rattle.std.specs.Option.{option_map}
 use Rattle.sky_base.specs.Val as v
 use Rattle.sky_base.specs.Val.{call, known, null, distinct}
@@ -22,7 +22,7 @@ use Rattle.sky_law.proofs.LowStack.{job_low, stack_low}
 use Rattle.sky_law.proofs.NodesLaw.{has_script}
 use Rattle.sky_law.proofs.OpenLaw as law
 use Rattle.sky_law.proofs.OpenLaw.{Opens, opens_call}
-use Rattle.sky_law.proofs.SeenLaw.{on, on_is, on_either, kept_is, kept_on, all_kept, halt_kept, see_kept, wait_kept, stands_one}
+use Rattle.sky_law.proofs.SeenLaw.{stands_one}
 use Rattle.sky_law.proofs.TaskFuel.{made_next}
 use Rattle.sky_law.proofs.TaskLaw.{halt_is, task_ends, task_halts, resume_halts, resume_makes, resume_ends}
 use Rattle.sky_law.proofs.Lists.{some_is}
@@ -34,15 +34,13 @@ use Rattle.sky_state.proofs.LinkLaw.{Linked, linked_call}
 use Rattle.sky_waits.specs.Waits.{wait_at as waits_at}
 use Rattle.sky_waits.proofs.AskLaw.{Asks, asks_call}
 use Rattle.sky_resume.specs.Comes.{over_names, with_name, LeftAt, object_at, Comes}
-use Rattle.sky_resume.specs.Standing.{WaitsNoMore, StandsOn, GoesOnAs, MakesAs}
+use Rattle.sky_resume.specs.Standing.{StandsOn, GoesOnAs, MakesAs}
 use Rattle.sky_resume.specs.declared.on.Came.{Came}
+use Rattle.sky_resume.proofs.Later.{no_later}
 use Rattle.sky_resume.proofs.OnceLaw.{see_whole, ends_once}
 
 pub none_some : {A : Type 0} (a : A) → None ≡ Some a → ⊥
 none_some a e = cc
-
-some_not : {A : Type 0} (a : A) → Some a ≢ None
-some_not a e = none_some a (sym e)
 
 all_opened : {N : Type 0} (w : World N) (at : ℕ → Option Node) (fr : List (Entry N)) → law.AllOpened w at fr → AllOpened at fr
 all_opened w at [] h = tt
@@ -68,21 +66,6 @@ pub end_no_halt : (r : Res ⊥) (s : End ⊥ × St ⊥) → first_end r ≡ Some
 end_no_halt (Fin e st) s is look k = refl
 end_no_halt (Tell d r) s is look k = end_no_halt r s is look k
 end_no_halt (Ask q fr st g) s is look k = absurd (none_some s is)
-
--- behind a wait that there isn't there is none
-halt_behind : (look : Desc → Option Obj) (k : ℕ) (r : Res ⊥) → halt look k r ≡ None → halt look (suc k) r ≡ None
-halt_behind look k (Fin e st) is = refl
-halt_behind look k (Tell d r) is = halt_behind look k r is
-halt_behind look zero (Ask q fr st g) is = absurd (none_some (record { wait = q; forms = fr; st = st }) (sym is))
-halt_behind look (suc k) (Ask q fr st g) is = go (see_all look (refs_of q)) is
-  where
-    go : (x : Option (List Obj)) → halts_seen x (λ os. halt look k (g os)) ≡ None → halts_seen x (λ os. halt look (suc k) (g os)) ≡ None
-    go None e = refl
-    go (Some os) e = halt_behind look k (g os) e
-
-halt_later : (look : Desc → Option Obj) (i k : ℕ) (r : Res ⊥) → halt look k r ≡ None → halt look (on i k) r ≡ None
-halt_later look zero k r is = is
-halt_later look (suc i) k r is = halt_behind look (on i k) r (halt_later look i k r is)
 
 module _ (digest : List ℕ → List ℕ) where
   pub same_run : (r : Run (List ℕ)) (s : Run ⊥) (a : State) → Stand.run r ≡ low_state (digested digest) a → State.run s ≡ a → r ≡ low_run no_name (digested digest) s
@@ -192,39 +175,20 @@ module _ (digest : List ℕ → List ℕ) (job : Job) (around : Around) (alike :
       halts : first_halt (Onward s.at os) ≡ option_map (low_halt no_name (digested digest)) (halt (see job around n) (suc j) (run_of job around f c vs))
       halts = resume_halts job around (see job around n) f c vs j s.at os s.is at_seen (digested digest) data_of alike
 
-      abbrev run : Res ⊥
-      run = run_of job around f c vs
-
-      -- where the rest comes to its end the call has no further wait, as far as any number tells
-      none_at : (m i : ℕ) (e : End ⊥ × St ⊥) → first_end (rest_of (world_of job.script around) others s.at os) ≡ Some e → j < i → halt (see job around (on m n)) i run ≡ None
-      none_at m i e is lt =
-          let look = see job around (on m n) in
-          let rest = rest_of (world_of job.script around) others s.at os in
-          let grows = λ (k : ℕ) (d : Desc). see_kept job around k d in
-          let at : halt look j run ≡ Some s.at = kept_is None (halt (see job around n) j run) (halt look j run) (Some s.at) (kept_on None (λ k. halt (see job around k) j run) (λ k. halt_kept (see job around k) (see job around (suc k)) (grows k) j run) m n) s.is (some_not s.at) in
-          let all : see_all look (refs_of s.at.wait) ≡ Some os = kept_is None (see_all (see job around n) (refs_of s.at.wait)) (see_all look (refs_of s.at.wait)) (Some os) (kept_on None (λ k. see_all (see job around k) (refs_of s.at.wait)) (λ k. all_kept (see job around k) (see job around (suc k)) (grows k) (refs_of s.at.wait)) m n) at_seen (some_not os) in
-          let gone : halt look (suc j) run ≡ None = task_halts job around look f c vs j s.at os at all ∙ sym (halt_is look rest) ∙ end_no_halt rest e is look 0 in
-          let far : on (i - suc j) (suc j) ≡ i = on_is (i - suc j) (suc j) ∙ omega (arith, lt) in
-          ap (λ k. halt look k run) (sym far) ∙ halt_later look (i - suc j) (suc j) run gone
-
-      no_more : (e : End ⊥ × St ⊥) → first_end (rest_of (world_of job.script around) others s.at os) ≡ Some e → WaitsNoMore job around (Task.of (call f c vs)) (suc j)
-      no_more e is zero es lt w = absurd (omega (arith, lt))
-      no_more e is (suc i) es lt (m, at) =
-          let later : wait_at job around (on n m) (Task.of (call f c vs)) (suc i) ≡ Some es = kept_is None (wait_at job around m (Task.of (call f c vs)) (suc i)) (wait_at job around (on n m) (Task.of (call f c vs)) (suc i)) (Some es) (kept_on None (λ k. wait_at job around k (Task.of (call f c vs)) (suc i)) (λ k. wait_kept job around (Task.of (call f c vs)) (suc i) k) n m) at (some_not es) in
-          let none = none_at m i e is (omega (arith, lt)) in
-          none_some es (ap halt_refs (sym none) ∙ ap (λ k. halt_refs (halt (see job around k) i run)) (on_either m n) ∙ later)
-
       pub goes_on : (o : Came) (new : Run (List ℕ)) → Comes f r.waits (Onward s.at os) o new → StandsOn digest job around (call f c vs) (suc j) o new
       unfolding see
       goes_on (Came.Ended o) new (e, is, object) =
-          let over = mapped (low_stop no_name (digested digest)) (first_end (rest_of (world_of job.script around) others s.at os)) e (sym is ∙ resume_ends job around (see job around n) f c vs j s.at os s.is at_seen (digested digest) data_of alike) in
+          let look = see job around n in
+          let rest = rest_of (world_of job.script around) others s.at os in
+          let over = mapped (low_stop no_name (digested digest)) (first_end rest) e (sym is ∙ resume_ends job around look f c vs j s.at os s.is at_seen (digested digest) data_of alike) in
           let x = end_object digest over.0.0 over.0.1 in
-          let out = task_ends job around (see job around n) f c vs j s.at os s.is at_seen ∙ end_outcome (see job around n) (rest_of (world_of job.script around) others s.at os) over.0 over.1 in
-          ((suc n, x.0, ap object_of out ∙ x.1, object ∙ ap (λ (y : End (List ℕ) × St (List ℕ)). object_at y.0) over.2 ∙ x.2), no_more over.0 over.1)
+          let out : see job around (suc n) (call f c vs) ≡ Some x.0 = ap object_of (task_ends job around look f c vs j s.at os s.is at_seen ∙ end_outcome look rest over.0 over.1) ∙ x.1 in
+          let gone : halt look (suc j) (run_of job around f c vs) ≡ None = task_halts job around look f c vs j s.at os s.is at_seen ∙ sym (halt_is look rest) ∙ end_no_halt rest over.0 over.1 look 0 in
+          ((suc n, x.0, out, object ∙ ap (λ (y : End (List ℕ) × St (List ℕ)). object_at y.0) over.2 ∙ x.2), no_later (digested digest) job around n (Task.of (call f c vs)) (suc j) (ap is_some out) (ap halt_refs gone))
       goes_on Came.Waits new (h, is, stack) =
           let next = mapped (low_halt no_name (digested digest)) (halt (see job around n) (suc j) (run_of job around f c vs)) h (sym is ∙ halts) in
-          let low : new ≡ low_run no_name (digested digest) (run_of_halt f (suc (suc j)) next.0) = stack ∙ ap (λ x. run_of_halt f (suc r.waits) x) next.2 ∙ ap (λ k. run_of_halt f (suc k) (low_halt no_name (digested digest) next.0)) s.waits ∙ stack_low no_name (digested digest) f (suc (suc j)) next.0 in
-          (State.run (run_of_halt f (suc (suc j)) next.0), (n, ap (halt_state f (suc (suc j))) next.1), ap Stand.run low)
+          let run : new ≡ low_run no_name (digested digest) (run_of_halt f (suc (suc j)) next.0) = stack ∙ ap (λ x. run_of_halt f (suc r.waits) x) next.2 ∙ ap (λ k. run_of_halt f (suc k) (low_halt no_name (digested digest) next.0)) s.waits ∙ stack_low no_name (digested digest) f (suc (suc j)) next.0 in
+          (State.run (run_of_halt f (suc (suc j)) next.0), (n, ap (halt_state f (suc (suc j))) next.1), ap Stand.run run)
 
       pub makes_on : segment (Onward s.at os) ≡ map (low_desc no_name (digested digest)) (made_between job around n (Task.of (call f c vs)) (suc j) (suc (suc j)))
       makes_on =

@@ -1,12 +1,12 @@
 -- From a wave of a job's result on: the answer of the job, or its next wave.
-use Rattle.std.proofs.Common.{◌≡◌, ◌≢◌, ◌≤◌, ◌<◌, ℕ, zero, suc, ◌+◌, ◌-◌, List, [], ◌∷◌, length, map, Bool, true, false, cond, nat_le, nat_lt, Option, Some, None, inl, inr, ltb-true, leb-true, le-leb, refl, sym, ap, ap₂, subst, ◌∙◌, arith}
+use Rattle.std.proofs.Common.{◌≡◌, ◌≢◌, ◌≤◌, ◌<◌, ℕ, zero, suc, ◌+◌, ◌-◌, List, [], ◌∷◌, length, map, Bool, true, false, cond, nat_le, nat_lt, Option, Some, None, inl, inr, ltb-true, leb-true, le-leb, lt-leb, refl, sym, ap, ap₂, subst, ◌∙◌, arith}
 use Rattle.std.proofs.lemmas.List.{length-map}
 use Rattle.sky_base.specs.Val as v
 use Rattle.sky_base.specs.Val.{distinct, ref, refs, same_text}
 use Rattle.sky_base.specs.Name.{low, name}
 use Rattle.sky_base.specs.Read.{joined, see_all}
-use Rattle.sky_base.specs.See.{Val, Desc, Obj, Job, Around, Answered, Means, Turn, turn, turn_refs, turn_of, wave_on, on_turn, last_turn, round, wave, job_answer, main_call, most_waves, see, text_of}
-use Rattle.sky_base.specs.Needed.{Task, State, WaitOf, wait_at, wave_state, wave_refs, unless_none, only_if, distinct_refs}
+use Rattle.sky_base.specs.See.{Val, Desc, Obj, Job, Around, Answered, Turn, turn, turn_refs, turn_of, wave_on, on_turn, last_turn, round, wave, job_answer, main_call, most_waves, see, text_of}
+use Rattle.sky_base.specs.Needed.{Task, State, wait_at, wave_state, wave_refs, unless_none, only_if, distinct_refs}
 use Rattle.sky_base.specs.Res.{Object}
 use Rattle.sky_base.specs.View.{view}
 use Rattle.sky_base.proofs.Exact.{exact_text, self_text}
@@ -16,11 +16,12 @@ use Rattle.sky_law.specs.NamesLaws.{Tag, no_name, NoClash, ReadsAlike}
 use Rattle.sky_law.specs.Tasks.{In}
 use Rattle.sky_law.proofs.Lists.{some_is}
 use Rattle.sky_law.proofs.RefsLow.{refs_low}
-use Rattle.sky_law.proofs.SeenLaw.{all_kept, kept_is, kept_on, on, on_either, see_kept, stands_one, wave_kept}
-use Rattle.sky_law.proofs.TaskFuel.{wave_next}
+use Rattle.sky_law.proofs.SeenLaw.{stands_one}
+use Rattle.sky_law.proofs.TaskFuel.{wave_next, wave_zero}
 use Rattle.sky_law.proofs.TaskOutputs.{in_distinct_refs}
 use Rattle.sky_rows.specs.Data.{data_of}
 use Rattle.sky_rows.specs.Walk.{Row}
+use Rattle.sky_state.specs.Moves.{GoesTo, WaitsNoMore}
 use Rattle.sky_state.specs.Stand.{Stand, low_state}
 use Rattle.sky_state.specs.Stands.{Stands}
 use Rattle.sky_state.specs.declared.shown.Shown.{Shown}
@@ -31,9 +32,13 @@ use Rattle.sky_waves.specs.Wave.{Turned, last_at}
 use Rattle.sky_waves.proofs.Lowered.{low_turn, turn_low}
 use Rattle.sky_shown.specs.Given.{given_for}
 use Rattle.sky_shown.specs.Shows.{Next, after_turn, came_view, next_of, shown_view, wave_if, waits_if}
-use Rattle.sky_shown.specs.Standing.{ShownOrStands, ShowsAs}
+use Rattle.sky_shown.specs.Standing.{IsWait, ShowsAs, stop_of}
 use Rattle.sky_shown.specs.declared.show.Came.{Came}
 use Rattle.sky_shown.proofs.Nexts.{IsNext, next_waits, turn_over}
+
+nothing : (b : Bool) → only_if {A = List Desc} b None ≡ None
+nothing true = refl
+nothing false = refl
 
 none_some : {A : Type 0} (a : A) → None ≡ Some a → ⊥
 none_some a e = cc
@@ -131,37 +136,41 @@ module _ (job : Job) (around : Around) where
 
   -- ---- what it waits for
 
-  abbrev IsWait : List Desc → ℕ → Val → Type 0
-  IsWait ds j p = (ds ≡ distinct_refs p) × (j ≤ 100)
+  abbrev AtWait : ℕ → ℕ → List Desc → Type 0
+  AtWait n j ds = (p : Val) × (wave job around n j ≡ Some p) × (ds ≡ distinct_refs p) × (j ≤ 100)
 
   unless_is : (ds es : List Desc) → unless_none ds ≡ Some es → es ≡ ds
   unless_is [] es e = absurd (none_some es e)
   unless_is (d ∷ ds) es e = sym (some_is (d ∷ ds) es e)
 
-  waits_is : (n m j : ℕ) (ds : List Desc) (p : Val) → wait_at job around n Task.show j ≡ Some ds → wave job around m j ≡ Some p → IsWait ds j p
-  unfolding wave
-  waits_is n m zero ds p e w = (sym (some_is (main_call ∷ []) ds e) ∙ ap distinct_refs (some_is (ref main_call) p w), omega arith)
-  waits_is n m (suc j) ds p e w = within (nat_le (suc j) 100) refl e
+  at_wait : (n j : ℕ) (ds : List Desc) → wait_at job around n Task.show j ≡ Some ds → AtWait n j ds
+  at_wait n zero ds e = (ref main_call, wave_zero job around n, sym (some_is (main_call ∷ []) ds e), omega arith)
+  at_wait n (suc j) ds e = within (nat_le (suc j) 100) refl e
     where
-      of_wave : (o : Option Val) → wave job around n (suc j) ≡ o → wave_refs o ≡ Some ds → suc j ≤ 100 → IsWait ds (suc j) p
+      of_wave : (o : Option Val) → wave job around n (suc j) ≡ o → wave_refs o ≡ Some ds → suc j ≤ 100 → AtWait n (suc j) ds
       of_wave None h e le = absurd (none_some ds e)
-      of_wave (Some q) h e le =
-          let same : q ≡ p = show_is q p (stands_one job around Task.show (suc j) (State.show_at q (suc j)) (State.show_at p (suc j)) (n, ap (wave_state (suc j)) h) (m, ap (wave_state (suc j)) w)) in
-          (unless_is (distinct_refs q) ds e ∙ ap distinct_refs same, le)
-        where
-          show_is : (a b : Val) → State.show_at a (suc j) ≡ State.show_at b (suc j) → a ≡ b
-          show_is a b z = cc
+      of_wave (Some q) h e le = (q, h, unless_is (distinct_refs q) ds e, le)
 
-      within : (b : Bool) → nat_le (suc j) 100 ≡ b → only_if b (wave_refs (wave job around n (suc j))) ≡ Some ds → IsWait ds (suc j) p
+      within : (b : Bool) → nat_le (suc j) 100 ≡ b → only_if b (wave_refs (wave job around n (suc j))) ≡ Some ds → AtWait n (suc j) ds
       within true t e = of_wave (wave job around n (suc j)) refl e (leb-true (suc j) 100 t)
       within false t e = absurd (none_some ds e)
 
+  -- it waits no more where the next wave has no value, refers to nothing, or is above the last one
+  no_wave : (n j : ℕ) → wave job around n (suc j) ≡ None → wait_at job around n Task.show (suc j) ≡ None
+  no_wave n j e = ap (λ o. only_if (nat_le (suc j) 100) (wave_refs o)) e ∙ nothing (nat_le (suc j) 100)
+
+  no_refs : (n j : ℕ) (q : Val) → wave job around n (suc j) ≡ Some q → refs q ≡ [] → wait_at job around n Task.show (suc j) ≡ None
+  no_refs n j q e r =
+      ap (λ o. only_if (nat_le (suc j) 100) (wave_refs o)) e ∙ ap (λ ds. only_if (nat_le (suc j) 100) (unless_none (distinct (λ a b. true) ds))) r ∙ nothing (nat_le (suc j) 100)
+
+  no_more : (n j : ℕ) → 100 < suc j → wait_at job around n Task.show (suc j) ≡ None
+  no_more n j l = ap (λ b. only_if b (wave_refs (wave job around n (suc j)))) (lt-leb (suc j) 100 l)
+
 -- ---- where the value stands for the root task at a wave, and these are the objects of what it waits for there
 
-module _ (tag : Tag) (job : Job) (around : Around) where
+module _ (tag : Tag) (job : Job) (around : Around) (n : ℕ) where
   -- at n the value of wave j is p, and each of its references is seen as the object that is given for its name
   record Here (a : v.Val (List ℕ)) (w j : ℕ) (given : List (Object (List ℕ))) : Type 0 where
-    n : ℕ
     p : Val
     is : a ≡ low no_name tag p
     at : w ≡ j
@@ -172,45 +181,28 @@ module _ (tag : Tag) (job : Job) (around : Around) where
   show_is : (a b : v.Val (List ℕ)) (w j : ℕ) → Stand.show_at a w ≡ Stand.show_at b j → (a ≡ b) × (w ≡ j)
   show_is a b w j e = (cc, cc)
 
-  abbrev AtWave : v.Val (List ℕ) → ℕ → ℕ → Type 0
-  AtWave a w j = (m : ℕ) × (p : Val) × (wave job around m j ≡ Some p) × (a ≡ low no_name tag p) × (w ≡ j)
+  -- a state that stands for the root task is that of its wave
+  stood : (a : v.Val (List ℕ)) (w j : ℕ) (p : Val) → Stands job around tag (Stand.show_at a w) Task.show j → wave job around n j ≡ Some p → (a ≡ low no_name tag p) × (w ≡ j)
+  stood a w j p (st, at, is) h =
+      show_is a (low no_name tag p) w j (is ∙ ap (low_state tag) (stands_one job around Task.show j st (State.show_at p j) at (n, ap (wave_state j) h)))
 
-  at_wave : (a : v.Val (List ℕ)) (w j : ℕ) → Stands job around tag (Stand.show_at a w) Task.show j → AtWave a w j
-  at_wave a w j (st, (m, e), is) = go (wave job around m j) refl e
-    where
-      of_state : (p : Val) → wave job around m j ≡ Some p → State.show_at p j ≡ st → AtWave a w j
-      of_state p h q =
-          let both = show_is a (low no_name tag p) w j (is ∙ ap (low_state tag) (sym q)) in (m, p, h, both.0, both.1)
-
-      go : (o : Option Val) → wave job around m j ≡ o → wave_state j o ≡ Some st → AtWave a w j
-      go None h q = absurd (none_some st q)
-      go (Some p) h q = of_state p h (some_is (State.show_at p j) st q)
-
-  module _ (a : v.Val (List ℕ)) (w n j : ℕ) (ds : List Desc) (os : List Obj) (given : List (Object (List ℕ))) (waits : wait_at job around n Task.show j ≡ Some ds) (seen : see_all (see job around n) ds ≡ Some os) (are : given ≡ map (low_obj no_name tag) os) (apart : NoClash tag ds) where
-    here : AtWave a w j → Here a w j given
-    here (m, p, h, is, at) =
+  module _ (a : v.Val (List ℕ)) (w j : ℕ) (ds : List Desc) (os : List Obj) (given : List (Object (List ℕ))) (seen : see_all (see job around n) ds ≡ Some os) (are : given ≡ map (low_obj no_name tag) os) (apart : NoClash tag ds) where
+    here : Stands job around tag (Stand.show_at a w) Task.show j → AtWait job around n j ds → Here a w j given
+    here st (p, h, waits, le) =
         record {
-          n = on m n;
           p = p;
-          is = is;
-          at = at;
-          wave_is = subst (λ i. wave job around i j ≡ Some p) (on_either n m) (kept_is None (wave job around m j) (wave job around (on n m) j) (Some p) (kept_on None (λ i. wave job around i j) (λ i. wave_kept job around i j) n m) h (some_not p));
-          most = wait.1;
-          sees = λ d i. of_found d (given_at tag (see job around (on m n)) ds os apart later d (subst (In d) (sym wait.0) (in_distinct_refs p d i)));
+          is = (stood a w j p st h).0;
+          at = (stood a w j p st h).1;
+          wave_is = h;
+          most = le;
+          sees = λ d i. of_found d (given_at tag (see job around n) ds os apart seen d (subst (In d) (sym waits) (in_distinct_refs p d i)));
         }
       where
-        wait : IsWait job around ds j p
-        wait = waits_is job around n m j ds p waits h
-
-        later : see_all (see job around (on m n)) ds ≡ Some os
-        later =
-            kept_is None (see_all (see job around n) ds) (see_all (see job around (on m n)) ds) (Some os) (kept_on None (λ i. see_all (see job around i) ds) (λ i. all_kept (see job around i) (see job around (suc i)) (λ d. see_kept job around i d) ds) m n) seen (some_not os)
-
         names : distinct same_text (refs a) ≡ map (low_ref no_name tag) ds
         names =
-            ap (λ x. distinct same_text (refs x)) is ∙ ap (distinct same_text) (refs_low no_name tag p) ∙ once_low tag (refs p) (apart_names tag (refs p) ds (sym wait.0) apart) ∙ ap (map (low_ref no_name tag)) (sym wait.0)
+            ap (λ x. distinct same_text (refs x)) (stood a w j p st h).0 ∙ ap (distinct same_text) (refs_low no_name tag p) ∙ once_low tag (refs p) (apart_names tag (refs p) ds (sym waits) apart) ∙ ap (map (low_ref no_name tag)) (sym waits)
 
-        of_found : (d : Desc) → Found tag (see job around (on m n)) ds os d → (o : Object (List ℕ)) × (given_for (distinct same_text (refs a)) given (low_ref no_name tag d) ≡ Some o) × Sees job around tag (on m n) d o
+        of_found : (d : Desc) → Found tag (see job around n) ds os d → (o : Object (List ℕ)) × (given_for (distinct same_text (refs a)) given (low_ref no_name tag d) ≡ Some o) × Sees job around tag n d o
         of_found d (x, s, g) =
             (low_obj no_name tag x, (λ i. given_for (names i) (are i) (low_ref no_name tag d)) ∙ g, (x, s, refl))
 
@@ -222,28 +214,32 @@ module _ (tag : Tag) (job : Job) (around : Around) where
   answer_is : (a b : Answered) → Next.answers a ≡ Next.answers b → a ≡ b
   answer_is a b e = cc
 
-  module _ (reads_alike : ReadsAlike tag around data_of) (writes_alike : WritesAlike tag around) (a : v.Val (List ℕ)) (w j : ℕ) (given : List (Object (List ℕ))) (h : Here a w j given) where
-    abbrev knows : Row → Option (Object (List ℕ))
-    knows d = given_for (distinct same_text (refs a)) given d
+  no_refs_low : (ds : List Desc) → map (low_ref no_name tag) ds ≡ [] → ds ≡ []
+  no_refs_low [] e = refl
+  no_refs_low (d ∷ ds) e = absurd cc
 
-    turned : low_turn tag (turn job around h.n h.p) ≡ turn_over (distinct same_text (refs a)) given a
+  module _ (reads_alike : ReadsAlike tag around data_of) (writes_alike : WritesAlike tag around) (a : v.Val (List ℕ)) (w j : ℕ) (given : List (Object (List ℕ))) (h : Here a w j given) where
+    turned : low_turn tag (turn job around n h.p) ≡ turn_over (distinct same_text (refs a)) given a
     turned =
-        turn_low job around data_of (λ u. writes u) tag reads_alike writes_alike h.n knows h.p h.sees ∙ ap (λ x. over.turn_at data_of (λ u. writes u) knows x) (sym h.is)
+        turn_low job around data_of (λ u. writes u) tag reads_alike writes_alike n (λ d. given_for (distinct same_text (refs a)) given d) h.p h.sees ∙ ap (λ x. turn_over (distinct same_text (refs a)) given x) (sym h.is)
 
     -- what follows a turn of the job
-    comes : (t : Turn) → turn job around h.n h.p ≡ t → next_of given a w ≡ after_turn (low_turn tag t) (suc j)
+    comes : (t : Turn) → turn job around n h.p ≡ t → next_of given a w ≡ after_turn (low_turn tag t) (suc j)
     comes t e =
         ap (λ x. after_turn x (suc w)) (sym turned ∙ ap (low_turn tag) e) ∙ ap (λ i. after_turn (low_turn tag t) (suc i)) h.at
 
-    next_wave : (q : Val) → turn job around h.n h.p ≡ Turn.next q → wave job around h.n (suc j) ≡ Some q
-    next_wave q e = wave_next job around h.n j h.p (Turn.next q) h.wave_is e
+    next_wave : (q : Val) → turn job around n h.p ≡ Turn.next q → wave job around n (suc j) ≡ Some q
+    next_wave q e = wave_next job around n j h.p (Turn.next q) h.wave_is e
 
     refs_next : (q : Val) → refs (low no_name tag q) ≡ map (low_ref no_name tag) (refs q)
     refs_next q = refs_low no_name tag q
 
+    abbrev Ends : Answered → Type 0
+    Ends x = (job_answer job around n ≡ x) × WaitsNoMore tag job around n Task.show j
+
     -- the answer
-    pub means : (x : Answered) → x ≢ Answered.not_yet → next_of given a w ≡ Next.answers x → Means job around x
-    means x ne e = (h.n, go (turn job around h.n h.p) refl, ne)
+    pub means : (x : Answered) → next_of given a w ≡ Next.answers x → Ends x
+    means x e = go (turn job around n h.p) refl
       where
         left : suc (100 - j) + j ≡ 101
         left = let m = h.most in omega (arith, m)
@@ -255,36 +251,33 @@ module _ (tag : Tag) (job : Job) (around : Around) where
         last_low q [] = refl
         last_low q (d ∷ ds) = refl
 
-        past : (q : Val) → turn job around h.n h.p ≡ Turn.next q → 100 < suc j → last_at (refs (low no_name tag q)) (writes (low no_name tag q)) ≡ x → job_answer job around h.n ≡ x
+        past : (q : Val) → turn job around n h.p ≡ Turn.next q → 100 < suc j → last_at (refs (low no_name tag q)) (writes (low no_name tag q)) ≡ x → Ends x
         past q t l r =
             let none : 100 - j ≡ 0 = omega (arith, l) in
-            answer_from job around h.n (suc j) (100 - j) q after (next_wave q t) ∙ ap (λ k. round job around h.n k q) none ∙ round_last job around h.n q ∙ last_low q (refs q) ∙ ap₂ last_at (sym (refs_next q)) (sym (writes_alike q)) ∙ r
+            (answer_from job around n (suc j) (100 - j) q after (next_wave q t) ∙ ap (λ k. round job around n k q) none ∙ round_last job around n q ∙ last_low q (refs q) ∙ ap₂ last_at (sym (refs_next q)) (sym (writes_alike q)) ∙ r, no_more job around n j l)
 
-        plain : (q : Val) → turn job around h.n h.p ≡ Turn.next q → (ds : List Row) → refs (low no_name tag q) ≡ ds → waits_if ds (low no_name tag q) ≡ Next.answers x → job_answer job around h.n ≡ x
+        plain : (q : Val) → turn job around n h.p ≡ Turn.next q → (ds : List Row) → refs (low no_name tag q) ≡ ds → waits_if ds (low no_name tag q) ≡ Next.answers x → Ends x
         plain q t [] r z =
-            answer_from job around h.n (suc j) (100 - j) q after (next_wave q t) ∙ round_plain job around h.n (100 - j) q (nothing (refs q) (sym (refs_next q) ∙ r)) ∙ ap text_of (sym (writes_alike q)) ∙ answer_is (text_of (writes (low no_name tag q))) x z
-          where
-            nothing : (ds : List Desc) → map (low_ref no_name tag) ds ≡ [] → ds ≡ []
-            nothing [] y = refl
-            nothing (d ∷ ds) y = absurd cc
+            let none : refs q ≡ [] = no_refs_low (refs q) (sym (refs_next q) ∙ r) in
+            (answer_from job around n (suc j) (100 - j) q after (next_wave q t) ∙ round_plain job around n (100 - j) q none ∙ ap text_of (sym (writes_alike q)) ∙ answer_is (text_of (writes (low no_name tag q))) x z, no_refs job around n j q (next_wave q t) none)
         plain q t (d ∷ ds) r z = absurd cc
 
-        on_next : (q : Val) → turn job around h.n h.p ≡ Turn.next q → (b : Bool) → nat_lt most_waves (suc j) ≡ b → wave_if b (low no_name tag q) ≡ Next.answers x → job_answer job around h.n ≡ x
+        on_next : (q : Val) → turn job around n h.p ≡ Turn.next q → (b : Bool) → nat_lt most_waves (suc j) ≡ b → wave_if b (low no_name tag q) ≡ Next.answers x → Ends x
         on_next q t true l z = past q t (ltb-true 100 (suc j) l) (answer_is (last_at (refs (low no_name tag q)) (writes (low no_name tag q))) x z)
         on_next q t false l z = plain q t (refs (low no_name tag q)) refl z
 
-        go : (t : Turn) → turn job around h.n h.p ≡ t → job_answer job around h.n ≡ x
+        go : (t : Turn) → turn job around n h.p ≡ t → Ends x
         go (Turn.ends y) t =
-            answer_ends job around h.n j (100 - j) h.p y left h.wave_is t ∙ answer_is y x (sym (comes (Turn.ends y) t) ∙ e)
+            (answer_ends job around n j (100 - j) h.p y left h.wave_is t ∙ answer_is y x (sym (comes (Turn.ends y) t) ∙ e), no_wave job around n j (wave_next job around n j h.p (Turn.ends y) h.wave_is t))
         go (Turn.next q) t = on_next q t (nat_lt most_waves (suc j)) refl (sym (comes (Turn.next q) t) ∙ e)
 
     abbrev Goes : v.Val (List ℕ) → Type 0
     Goes u =
-        Stands job around tag (Stand.show_at u (suc j)) Task.show (suc j) × (ds : List Desc) × WaitOf job around Task.show (suc j) ds
+        Stands job around tag (Stand.show_at u (suc w)) Task.show (suc j) × (ds : List Desc) × (wait_at job around n Task.show (suc j) ≡ Some ds)
 
     -- the next wave
     pub stands : (u : v.Val (List ℕ)) → next_of given a w ≡ Next.waits u → Goes u
-    stands u e = go (turn job around h.n h.p) refl
+    stands u e = go (turn job around n h.p) refl
       where
         wait : (q : Val) (ds : List Desc) → distinct_refs q ≡ ds → (ds ≡ [] → ⊥) → wave_refs (Some q) ≡ Some ds
         wait q [] r ne = absurd (ne refl)
@@ -297,14 +290,14 @@ module _ (tag : Tag) (job : Job) (around : Around) where
             each [] y l = absurd (omega (arith, l))
             each (d ∷ ds) y l = subst (In d) r (in_distinct_refs q d (subst (In d) (sym y) (inl refl)))
 
-        of_next : (q : Val) → turn job around h.n h.p ≡ Turn.next q → IsNext (Turned.next (low no_name tag q)) (suc j) u → Goes u
+        of_next : (q : Val) → turn job around n h.p ≡ Turn.next q → IsNext (Turned.next (low no_name tag q)) (suc j) u → Goes u
         of_next q t (is, le, more) =
             let same : low no_name tag q ≡ u = next_is (low no_name tag q) u is in
             let refers : 0 < length (refs q) = subst (λ k. 0 < k) (length-map (refs q) (low_ref no_name tag)) (subst (λ xs. 0 < length xs) (refs_next q) (subst (λ x. 0 < length (refs x)) (sym same) more)) in
-            ((State.show_at q (suc j), (h.n, ap (wave_state (suc j)) (next_wave q t)), ap (λ x. Stand.show_at x (suc j)) (sym same)),
-            (distinct_refs q, (h.n, ap₂ only_if (le-leb (suc j) 100 le) (ap wave_refs (next_wave q t) ∙ wait q (distinct_refs q) refl (some q refers)))))
+            ((State.show_at q (suc j), (n, ap (wave_state (suc j)) (next_wave q t)), (λ i. Stand.show_at (sym same i) (suc (h.at i)))),
+            (distinct_refs q, ap₂ only_if (le-leb (suc j) 100 le) (ap wave_refs (next_wave q t) ∙ wait q (distinct_refs q) refl (some q refers))))
 
-        go : (t : Turn) → turn job around h.n h.p ≡ t → Goes u
+        go : (t : Turn) → turn job around n h.p ≡ t → Goes u
         go (Turn.ends y) t = absurd (ends_not y (sym (comes (Turn.ends y) t) ∙ e))
           where
             ends_not : (y : Answered) → Next.answers y ≡ Next.waits u → ⊥
@@ -319,12 +312,13 @@ shown_some (Shown.Text b) e = absurd cc
 shown_some (Shown.Fault f) e = absurd cc
 
 pub shows_came : (a : v.Val (List ℕ)) (w : ℕ) (given : List (Object (List ℕ))) (c : Came) → next_of given a w ≡ came_view c → ShowsAs a w given c
-shows_came a w given c e tag job around n j ds os reads_alike writes_alike stood waits seen are apart =
-    go c e
+shows_came a w given c e tag job around n j reads_alike writes_alike st (ds, os, waits, seen, are) apart = go c e
   where
-    h : Here tag job around a w j given
-    h = here tag job around a w n j ds os given waits seen are apart (at_wave tag job around a w j stood)
+    h : Here tag job around n a w j given
+    h = here tag job around n a w j ds os given seen are (apart ds waits) st (at_wait job around n j ds waits)
 
-    go : (c : Came) → next_of given a w ≡ came_view c → ShownOrStands tag job around j c
-    go (Came.Shown s) e = means tag job around reads_alike writes_alike a w j given h (shown_view s) (shown_some s) e
-    go (Came.Next u) e = stands tag job around reads_alike writes_alike a w j given h (view u) e
+    go : (c : Came) → next_of given a w ≡ came_view c → GoesTo tag job around n Task.show j (stop_of c w) × IsWait tag job around n j c
+    go (Came.Shown s) e =
+        let m = means tag job around n reads_alike writes_alike a w j given h (shown_view s) e in
+        ((m.0, shown_some s, m.1), tt)
+    go (Came.Next u) e = stands tag job around n reads_alike writes_alike a w j given h (view u) e

@@ -10,3 +10,4 @@ pub mod BodyView
 pub mod StateView
 pub mod Stands
 pub mod Laws
+pub mod Moves

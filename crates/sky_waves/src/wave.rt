@@ -183,7 +183,12 @@ pub fn turn<K: Known>(alloc: Global, value: &Value, objects: &K) -> Result<Turne
 }
 
 // What a wave comes to whose value is one reference, to this object: bytes are the answer.
-fn lone<K: Known>(alloc: Global, value: &Value, object: &Object, objects: &K) -> Result<Turned, Memory>
+fn lone<K: Known>(
+    alloc: Global,
+    value: &Value,
+    object: &Object,
+    objects: &K,
+) -> Result<Turned, Memory>
     ensures { IfOk result (λ t. TurnsSo t (lone (Some (object_view object.now)) (turn_all data_of writes (K.knows objects.now) (view value.now)))) }
 {
     match object {

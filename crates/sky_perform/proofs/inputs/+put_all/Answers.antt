@@ -11,7 +11,7 @@ use Rattle.sky_perform.proofs.inputs.+put_all.Goals as goal
 pub put_values-put_all-requires : goal.put_values-put_all-requires
 put_values-put_all-requires g t c =
     let inside = value_inside c.args.values.now c.loop-value.value-index c.value-item.result c.loop-value-test.true c.value-item.is in
-    (omega (arith, c.decreases, inside), tt)
+    λ κs lives. (omega (arith, c.decreases, inside), lives)
 
 pub put_values-returns-in-Some : goal.put_values-returns-in-Some
 put_values-returns-in-Some g t c =
@@ -33,7 +33,7 @@ put_values-returns g t c =
 pub put_pairs-put_all-requires : goal.put_pairs-put_all-requires
 put_pairs-put_all-requires g t c =
     let inside = pair_inside c.args.pairs.now c.loop-pair.pair-index c.pair-item.result c.loop-pair-test.true c.pair-item.is in
-    (omega (arith, c.decreases, inside), tt)
+    λ κs lives. (omega (arith, c.decreases, inside), lives)
 
 pub put_pairs-returns-in-Some : goal.put_pairs-returns-in-Some
 put_pairs-returns-in-Some g t c =
