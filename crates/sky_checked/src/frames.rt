@@ -1,11 +1,11 @@
 // Whether the frames of a stack fit, each by itself and each with the one above it.
 
-ghost use Rattle.std.specs.Prelude.{◌≡◌, IsTrue, IsFalse, [], ◌⊎◌};
+ghost use Rattle.std.specs.Prelude.{IsTrue, IsFalse};
 ghost use Rattle.sky_law.specs.Sound.{IsFun};
 ghost use Rattle.sky_law.specs.Tasks.{Each};
 ghost use Rattle.sky_state.specs.Fits.{FitsFrame, FunsOf};
 ghost use Rattle.sky_state.specs.StandView.{frame_view, frames_view};
-ghost use Rattle.sky_checked.specs.Ends.{EndsInCall};
+ghost use Rattle.sky_checked.specs.Ends.{EndsInCall, FormsFit, ValuesFit};
 
 use crate::fitting::Fitting;
 use sky_base::text::Txt;

@@ -1,6 +1,6 @@
 // Whether a stack is that of a call at its start.
 
-ghost use Rattle.std.specs.Prelude.{◌≡◌, IfOk, IsTrue, IsFalse};
+ghost use Rattle.std.specs.Prelude.{IfOk, IsTrue, IsFalse};
 ghost use Rattle.sky_state.specs.Fits.{StartFrame, IsStart};
 ghost use Rattle.sky_state.specs.StandView.{frame_view};
 ghost use Rattle.sky_checked.specs.Ends.{BodyBegins};

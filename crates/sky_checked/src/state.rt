@@ -1,10 +1,11 @@
 // Whether a state fits a script.
 
-ghost use Rattle.std.specs.Prelude.{◌≡◌, IfOk, IsTrue, IsFalse};
+ghost use Rattle.std.specs.Prelude.{IfOk, IsTrue, IsFalse};
 ghost use Rattle.sky_base.specs.View.{view};
-ghost use Rattle.sky_state.specs.Fits.{Fits, FitsRun, FitsShow};
+ghost use Rattle.sky_state.specs.Fits.{Before, Fits, FitsRun, FitsShow, Last};
+ghost use Rattle.sky_state.specs.StandView.{frames_view};
 ghost use Rattle.sky_state.specs.StateView.{stand_of};
-ghost use Rattle.sky_checked.specs.Ends.{Few, Stacked};
+ghost use Rattle.sky_checked.specs.Ends.{EndsInCall, EndsInWait, Few, Stacked};
 
 use crate::fitting::Fitting;
 use crate::frames::{all_end_in_calls, frames_fit, functions_fit};
@@ -49,7 +50,10 @@ fn run_fits(alloc: Global, fitting: &Fitting, run: &RunState) -> Result<bool, Me
     ensures yes { IfOk result (λ b. IsTrue b → FitsRun fitting.now (record { frames = run.now.frames; count = run.now.count; waits = run.now.waits })) }
     ensures no { IfOk result (λ b. IsFalse b → FitsRun fitting.now (record { frames = run.now.frames; count = run.now.count; waits = run.now.waits }) → ⊥) }
 {
-    if !are_few(run) || !stack_fits(fitting, run.frames.as_slice()) {
+    if !are_few(run) {
+        return Ok(false);
+    }
+    if !stack_fits(fitting, run.frames.as_slice()) {
         return Ok(false);
     }
     if run.waits > 0 {
@@ -76,13 +80,18 @@ fn stack_fits(fitting: &Fitting, frames: &[Frame]) -> bool
     ensures yes { IsTrue result → Stacked fitting.now (frames_view frames.now) }
     ensures no { IsFalse result → Stacked fitting.now (frames_view frames.now) → ⊥ }
 {
-    let below = match frames.split_last() {
-        None => frames,
-        Some((_, below)) => below,
-    };
-    functions_fit(fitting, frames)
-        && frames_fit(fitting, frames)
-        && all_end_in_calls(fitting, below)
+    functions_fit(fitting, frames) && frames_fit(fitting, frames) && calls_fit(fitting, frames)
+}
+
+// Whether the last form of each frame but the top one is an open call.
+fn calls_fit(fitting: &Fitting, frames: &[Frame]) -> bool
+    ensures yes { IsTrue result → Before (EndsInCall fitting.now) (frames_view frames.now) }
+    ensures no { IsFalse result → Before (EndsInCall fitting.now) (frames_view frames.now) → ⊥ }
+{
+    match frames.split_last() {
+        None => true,
+        Some((_, below)) => all_end_in_calls(fitting, below),
+    }
 }
 
 // Whether the last form of the top frame waits.
@@ -101,7 +110,10 @@ fn show_fits(alloc: Global, fitting: &Fitting, value: &Value, wave: u32) -> Resu
     ensures yes { IfOk result (λ b. IsTrue b → FitsShow fitting.now (view value.now) wave) }
     ensures no { IfOk result (λ b. IsFalse b → FitsShow fitting.now (view value.now) wave → ⊥) }
 {
-    if wave > MOST_WAVES || !is_sound(fitting.captures(), value) {
+    if wave > MOST_WAVES {
+        return Ok(false);
+    }
+    if !is_sound(fitting.captures(), value) {
         return Ok(false);
     }
     let names = value.refs(alloc)?;
