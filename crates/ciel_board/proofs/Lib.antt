@@ -1,0 +1,12 @@
+mod Pairs
+mod Looking
+mod Holding
+mod Bringing
+mod Starting
+mod Following
+mod Learning
+mod Placing
+mod Saving
+mod Accepting
+mod Telling
+mod Opening
