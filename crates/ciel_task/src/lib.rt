@@ -5,3 +5,4 @@
 pub mod block;
 pub mod order;
 pub mod report;
+pub mod shop;

@@ -105,11 +105,11 @@ module _ {N : Type 0} (see : v.Desc N → Option (Object N)) where
 -- ---- all that is gathered
 
 module _ {A : Type 0} (turn_to : Obj → Result A Fault) (look : Desc → Option Obj) where
-  on_none : (r : Result A Fault) → gather_on r not_yet ≡ not_yet
+  pub on_none : (r : Result A Fault) → gather_on r not_yet ≡ not_yet
   on_none (Ok a) = refl
   on_none (Err f) = refl
 
-  one_none : (x : Option Obj) → gather_one x turn_to not_yet ≡ not_yet
+  pub one_none : (x : Option Obj) → gather_one x turn_to not_yet ≡ not_yet
   one_none None = refl
   one_none (Some o) = on_none (turn_to o)
 
@@ -119,10 +119,10 @@ module _ {A : Type 0} (turn_to : Obj → Result A Fault) (look : Desc → Option
       (λ e. ne (ap (λ x. gather_one x turn_to (gather look turn_to ds)) e), gather_seen ds (λ e. ne (ap (gather_one (look d) turn_to) e ∙ one_none (look d))))
 
 module _ (job : Job) (around : Around) where
-  abbrev Seen : ℕ → Desc → Type 0
+  abbrev pub Seen : ℕ → Desc → Type 0
   Seen n d = see job around n d ≢ None
 
-  abbrev blind : Turn
+  abbrev pub blind : Turn
   blind = Turn.ends Answered.not_yet
 
   -- ---- the waves of the result
@@ -146,32 +146,32 @@ module _ (job : Job) (around : Around) where
   turn_seen n (ref d) ne =
       (λ e. ne (ap (λ x. lone x (turn_all job around n (ref d))) e ∙ ap (λ x. next_value (gather_one x (as_value around) (Gathered.all [])) (ref d)) e), tt)
 
-  round_turn : (n k : ℕ) (a : Val) → round job around n (suc k) a ≢ Answered.not_yet → turn job around n a ≢ blind
+  pub round_turn : (n k : ℕ) (a : Val) → round job around n (suc k) a ≢ Answered.not_yet → turn job around n a ≢ blind
   unfolding round
   round_turn n k a ne e = ne (ap (λ t. on_turn job around n t (λ u. round job around n k u)) e)
 
-  round_next : (n k : ℕ) (a u : Val) → turn job around n a ≡ Turn.next u → round job around n (suc k) a ≢ Answered.not_yet → round job around n k u ≢ Answered.not_yet
+  pub round_next : (n k : ℕ) (a u : Val) → turn job around n a ≡ Turn.next u → round job around n (suc k) a ≢ Answered.not_yet → round job around n k u ≢ Answered.not_yet
   unfolding round
   round_next n k a u e ne q = ne (ap (λ t. on_turn job around n t (λ x. round job around n k x)) e ∙ q)
 
-  wave_next : (n j : ℕ) (a : Val) (t : Turn) → wave job around n j ≡ Some a → turn job around n a ≡ t → wave job around n (suc j) ≡ wave_on job around n (Some t)
+  pub wave_next : (n j : ℕ) (a : Val) (t : Turn) → wave job around n j ≡ Some a → turn job around n a ≡ t → wave job around n (suc j) ≡ wave_on job around n (Some t)
   unfolding wave
   wave_next n j a t e q =
       ap (λ x. wave_on job around n (turn_of job around n x)) e ∙ ap (λ x. wave_on job around n (Some x)) q
 
-  wave_none : (n j : ℕ) → wave job around n j ≡ None → wave job around n (suc j) ≡ None
+  pub wave_none : (n j : ℕ) → wave job around n j ≡ None → wave job around n (suc j) ≡ None
   unfolding wave
   wave_none n j e = ap (λ x. wave_on job around n (turn_of job around n x)) e
 
-  wave_zero : (n : ℕ) → wave job around n 0 ≡ Some (ref main_call)
+  pub wave_zero : (n : ℕ) → wave job around n 0 ≡ Some (ref main_call)
   unfolding wave
   wave_zero n = refl
 
-  waves_step : (n k j : ℕ) (o : Option Val) → wave job around n j ≡ o → waves_from job around n (suc k) j ≡ wait_then (wave_refs o) (waves_from job around n k (suc j))
+  pub waves_step : (n k j : ℕ) (o : Option Val) → wave job around n j ≡ o → waves_from job around n (suc k) j ≡ wait_then (wave_refs o) (waves_from job around n k (suc j))
   unfolding waves_from
   waves_step n k j o e = ap (λ x. wait_then (wave_refs x) (waves_from job around n k (suc j))) e
 
-  waves_stop : (n j : ℕ) → waves_from job around n 0 j ≡ []
+  pub waves_stop : (n j : ℕ) → waves_from job around n 0 j ≡ []
   unfolding waves_from
   waves_stop n j = refl
 
@@ -210,12 +210,12 @@ module _ (job : Job) (around : Around) where
       go (Turn.next u) q rest =
           waves_step (suc n) k (suc j) (Some u) (wave_next (suc n) j a (Turn.next u) g (same_turn n (suc k) a ne ∙ q)) ∙ ap (wait_then (wave_refs (Some u))) (rest u (wave_next n j a (Turn.next u) e q) (wave_next (suc n) j a (Turn.next u) g (same_turn n (suc k) a ne ∙ q)) (round_next n (suc k) a u q ne)) ∙ sym (waves_step n k (suc j) (Some u) (wave_next n j a (Turn.next u) e q))
 
-  wait_cases : {P : Type 0} (ds : List Desc) (rest : List (Act ⊥)) (i : ℕ) (es : List Desc) → slice_get (waits_in (wait_then (unless_none ds) rest)) i ≡ Some es → (i ≡ 0 → ds ≡ es → P) → ((k : ℕ) → i ≡ suc k → slice_get (waits_in rest) k ≡ Some es → P) → P
+  pub wait_cases : {P : Type 0} (ds : List Desc) (rest : List (Act ⊥)) (i : ℕ) (es : List Desc) → slice_get (waits_in (wait_then (unless_none ds) rest)) i ≡ Some es → (i ≡ 0 → ds ≡ es → P) → ((k : ℕ) → i ≡ suc k → slice_get (waits_in rest) k ≡ Some es → P) → P
   wait_cases [] rest i es e f g = absurd (none_some es e)
   wait_cases (d ∷ ds) rest zero es e f g = f refl (some_is _ es e)
   wait_cases (d ∷ ds) rest (suc k) es e f g = g k refl e
 
-  each_distinct : (n : ℕ) (a : Val) → Each (Seen n) (refs a) → Each (Seen n) (distinct_refs a)
+  pub each_distinct : (n : ℕ) (a : Val) → Each (Seen n) (refs a) → Each (Seen n) (distinct_refs a)
   each_distinct n a h = each_in (Seen n) (distinct_refs a) (λ d i. in_each (Seen n) (refs a) d h (distinct_refs_in a d i))
 
   waves_seen : (n k j : ℕ) (a : Val) (i : ℕ) (ds : List Desc) → wave job around n j ≡ Some a → round job around n (suc k) a ≢ Answered.not_yet → slice_get (waits_in (waves_from job around n k (suc j))) i ≡ Some ds → Each (Seen n) ds

@@ -24,9 +24,14 @@ use Rattle.sky_waits.specs.Waits.{wait_in}
 use Rattle.sky_refits.specs.Laws.{Saved}
 use Rattle.sky_refits.specs.Sounds.{SoundWorld, SoundEnd, EndsSound, asked}
 use Rattle.sky_refits.proofs.Asked.{forms_asked}
-use Rattle.sky_refits.proofs.Back.{P, Q, V, Keeps, vars_out, bottom_fun, forms_back}
+use Rattle.sky_refits.proofs.Soundly.{P, Q, V, vars_in, vars_out}
+use Rattle.sky_refits.proofs.Back.{Keeps, bottom_fun, forms_back}
 use Rattle.sky_refits.proofs.Climb.{Higher, plug_climbs, first_higher}
 use Rattle.sky_refits.proofs.Fines.{FirstEndOk, FirstHaltOk, plug_fine, made_fine, end_fine, halt_fine}
+
+any_all : (ds : List (Desc (List ℕ))) → Each any_made ds
+any_all [] = tt
+any_all (d ∷ ds) = (tt, any_all ds)
 
 module _ (w : World (List ℕ)) (sound : SoundWorld w) where
   read_sound : (b : List ℕ) → SoundAnswer (List ℕ) (λ n. Unit {0}) w.script (w.reads b)
@@ -67,7 +72,7 @@ module _ (w : World (List ℕ)) (sound : SoundWorld w) where
   end_ok (End.returned v) h = h
   end_ok (End.failed f) h = tt
 
-  ok_end : (o : Option (End (List ℕ) × St (List ℕ))) → FirstEndOk w (P w) (Q w) (V w) closed o → EndsSound w.script o
+  ok_end : (o : Option (End (List ℕ) × St (List ℕ))) → FirstEndOk w (P w) (Q w) (V w) any_made closed o → EndsSound w.script o
   ok_end None h = tt
   ok_end (Some (End.goes, st)) h = tt
   ok_end (Some (End.got v, st)) h = h
@@ -82,9 +87,9 @@ module _ (w : World (List ℕ)) (sound : SoundWorld w) where
 
   -- ---- the stack that goes on
 
-  keeps : (fs : List (Frame (List ℕ))) → Each (FitsFrame w.script) fs → Each (Keeps w) fs
+  keeps : (fs : List (Frame (List ℕ))) → Each (FitsFrame w.script) fs → Each (Keeps w (P w) (Q w) (V w)) fs
   keeps [] h = tt
-  keeps (f ∷ fs) h = ((h.0.vars, h.0.values), keeps fs h.1)
+  keeps (f ∷ fs) h = ((vars_in w f.vars h.0.vars, h.0.values), keeps fs h.1)
 
   frames_sound : (fs : List (Frame (List ℕ))) → Each (FrameOk w (P w) (Q w) (V w)) fs → Each (SoundFrame w.script) fs
   frames_sound [] h = tt
@@ -96,32 +101,32 @@ module _ (w : World (List ℕ)) (sound : SoundWorld w) where
 
     back : FormsOk w (P w) (Q w) (V w) others h.forms × V w h.st.vars
     back =
-        forms_back w h.forms others f h.st.vars (inr (body_places (body_of f w.script), saved.follow)) (keeps (frames_of h.forms f h.st.vars) saved.fits.frames) few
+        forms_back w (P w) (Q w) (V w) h.forms others f h.st.vars (inr (body_places (body_of f w.script), saved.follow)) (keeps (frames_of h.forms f h.st.vars) saved.fits.frames) few
 
     taken : AllTaken h.forms
     taken = fit_taken w.script h.forms (body_places (body_of f w.script)) saved.follow saved.all_opened
 
     is_fun : (f ≡ []) ⊎ IsFun w.script f
     is_fun =
-        bottom_fun w (λ x. (x ≡ []) ⊎ IsFun w.script x) h.forms f h.st.vars (λ g gs is. (subst (FunsOf w.script) is saved.fits.functions).0)
+        bottom_fun w (P w) (Q w) (V w) (λ x. (x ≡ []) ⊎ IsFun w.script x) h.forms f h.st.vars (λ g gs is. (subst (FunsOf w.script) is saved.fits.functions).0)
 
     module _ (e : End (List ℕ)) (ends : SoundEnd w.script e) where
       fine : Fine w (P w) (Q w) (V w) any_made others (plug w others h.forms (Fin e h.st))
-      fine = plug_fine w (P w) (Q w) (V w) closed h.forms others e h.st back.0 taken (end_ok e ends) back.1
+      fine = plug_fine w (P w) (Q w) (V w) any_made closed h.forms others e h.st back.0 taken (end_ok e ends) back.1
 
       climbs : Climbs w h.st.count [] (plug w others h.forms (Fin e h.st))
       climbs = plug_climbs w h.forms others h.st.count e h.st (late e h.st saved.fits.count)
 
       pub makes_sound : Each (SoundDesc w.script) (segment (plug w others h.forms (Fin e h.st)))
-      makes_sound = made_fine w (P w) (Q w) (V w) closed (plug w others h.forms (Fin e h.st)) others fine
+      makes_sound = made_fine w (P w) (Q w) (V w) any_made closed (plug w others h.forms (Fin e h.st)) others fine (any_all _)
 
       pub ends_sound : EndsSound w.script (first_end (plug w others h.forms (Fin e h.st)))
       ends_sound =
-          ok_end (first_end (plug w others h.forms (Fin e h.st))) (end_fine w (P w) (Q w) (V w) closed (plug w others h.forms (Fin e h.st)) others fine)
+          ok_end (first_end (plug w others h.forms (Fin e h.st))) (end_fine w (P w) (Q w) (V w) any_made closed (plug w others h.forms (Fin e h.st)) others fine (any_all _))
 
       pub fits_again : (g : Halt (List ℕ)) → first_halt (plug w others h.forms (Fin e h.st)) ≡ Some g → FitsRun w.script (run_of_halt f (suc j) g)
       fits_again g is =
-          let ok : FirstHaltOk w (P w) (Q w) (V w) closed others (Some g) = subst (FirstHaltOk w (P w) (Q w) (V w) closed others) is (halt_fine w (P w) (Q w) (V w) closed (plug w others h.forms (Fin e h.st)) others fine) in
+          let ok : FirstHaltOk w (P w) (Q w) (V w) any_made closed others (Some g) = subst (FirstHaltOk w (P w) (Q w) (V w) any_made closed others) is (halt_fine w (P w) (Q w) (V w) any_made closed (plug w others h.forms (Fin e h.st)) others fine (any_all _)) in
           let higher : Higher w h.st.count (Some g) = subst (Higher w h.st.count) is (first_higher w (plug w others h.forms (Fin e h.st)) h.st.count [] climbs) in
           let left : length (frames_of g.forms f g.st.vars) + inner w g.forms others ≡ suc others = frames_left w (P w) (Q w) (V w) g.forms others f g.st.vars ok.0 in
           let before : j ≤ h.st.count = saved.fits.waits in

@@ -10,7 +10,7 @@ use Rattle.sky_law.specs.Tasks.{Each}
 use Rattle.sky_law.proofs.FineLaw.{FormsOk}
 use Rattle.sky_waits.specs.Waits.{star_at, waits_for, wait_in}
 use Rattle.sky_refits.specs.Sounds.{asked}
-use Rattle.sky_refits.proofs.Back.{P, Q, V}
+use Rattle.sky_refits.proofs.Soundly.{P, Q, V}
 
 module _ (w : World (List ℕ)) where
   star_asked : (o : Option SignAt) (d : Desc (List ℕ)) (q : Wait (List ℕ)) → star_at o d ≡ Some q → P w (ref d) → P w (asked q)

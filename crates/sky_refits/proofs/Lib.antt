@@ -1,3 +1,4 @@
+pub mod Soundly
 pub mod Climb
 pub mod Fines
 pub mod Back

@@ -1,0 +1,4 @@
+pub mod Gathering
+pub mod Running
+pub mod Showing
+pub mod Nexts
