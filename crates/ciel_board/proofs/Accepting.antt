@@ -17,7 +17,7 @@ use Rattle.ciel_journal.specs.Lawful.{Allowed, Copied, DoneAllowed, Marked, NoCl
 use Rattle.ciel_journal.proofs.BookKnown.{Informed}
 use Rattle.ciel_journal.proofs.Good.{after_done, after_saved}
 use Rattle.ciel_journal.proofs.Members.{any_in, bool_cases, each_of, in_any}
-use Rattle.ciel_journal.proofs.Numbers.{found_in}
+use Rattle.ciel_journal.proofs.Numbers.{found_in as open_found}
 use Rattle.ciel_journal.proofs.OnceLaw.{once_learned}
 use Rattle.ciel_journal.proofs.Shelved.{fetched_in, learned_in}
 use Rattle.ciel_journal.proofs.Told.{book_told}
@@ -36,8 +36,8 @@ use Rattle.ciel_table.specs.declared.wait.Wait.{Wait}
 use Rattle.ciel_table.proofs.Lists.{all_filter, all_more}
 use Rattle.ciel_want.specs.History.{task_id}
 use Rattle.ciel_want.proofs.Rows.{all_found, item_at, some_place}
-use Rattle.ciel_board.specs.Board.{Board, Order, find_order}
-use Rattle.ciel_board.specs.Follows.{Follows, OneByOne, OrderIs, RowIs, StandsFor, WaitIs, saves_of}
+use Rattle.ciel_board.specs.Board.{Board, Order, OrderOut, find_order}
+use Rattle.ciel_board.specs.Follows.{Follows, OneByOne, OutIs, RowIs, StandsFor, WaitIs, saves_of}
 use Rattle.ciel_board.specs.Laws.{AcceptedAs, CopyLies, Lies, LiesUnlessClash, OutputLies, Taken}
 use Rattle.ciel_board.specs.Moves.{accepted, is_root, lost_at, wait_of, with_copies, with_outputs, without}
 use Rattle.ciel_board.specs.Reports as rep
@@ -53,7 +53,7 @@ use Rattle.ciel_board.proofs.Saving.{none_saved, same_waits, waits_dropped, wait
 
 -- ---- small things
 
-low_is : {D : Type 0} (job : Job D) (ds : List D) → low_names job ds ≡ map job.name ds
+pub low_is : {D : Type 0} (job : Job D) (ds : List D) → low_names job ds ≡ map job.name ds
 low_is job [] = refl
 low_is job (d ∷ ds) = ap (λ ns. job.name d ∷ ns) (low_is job ds)
 
@@ -65,14 +65,14 @@ map_filter at w (p ∷ ps) = pick (not (nat_eq w (at p))) (map_filter at w ps)
     pick true e = ap (λ us. at p ∷ us) e
     pick false e = e
 
-found_number : {P : Type 0} (k : ℕ) (xs : List (Order P)) (x : Order P) → find_order k xs ≡ Some x → k ≡ x.number
+pub found_number : (k : ℕ) (xs : List OrderOut) (x : OrderOut) → find_order k xs ≡ Some x → k ≡ x.number
 found_number k [] x e = cc
 found_number k (y ∷ ys) x e = pick (bool_cases (nat_eq k y.number)) (found_number k ys x)
   where
     pick : ((nat_eq k y.number ≡ true) ⊎ (nat_eq k y.number ≡ false)) → (find_order k ys ≡ Some x → k ≡ x.number) → k ≡ x.number
     pick (inl t) r =
         let q : Some y ≡ Some x = sym (ap (λ b. cond b (Some y) (find_order k ys)) t) ∙ e in
-        let w : y ≡ x = cc in eqb-true k y.number t ∙ ap (λ (z : Order _). z.number) w
+        let w : y ≡ x = cc in eqb-true k y.number t ∙ ap (λ (z : OrderOut). z.number) w
     pick (inr f) r = r (sym (ap (λ b. cond b (Some y) (find_order k ys)) f) ∙ e)
 
 root_is : {D : Type 0} (job : Job D) (u : Task D) → is_root (task_id job u) ≡ ends_show job u
@@ -100,20 +100,20 @@ room_all digest (n ∷ ns) t a l = room_all digest ns (learned digest n t) a.1 (
 
 module _ {D P B : Type 0} (s : Setting D P B) where
   -- the order of an open Start
-  open_pair : (k : ℕ) (os : List (OpenStart D)) (xs : List (Order P)) → OneByOne (OrderIs s) os xs → (o : OpenStart D) (x : Order P) → find_open s.job k os ≡ Some o → find_order k xs ≡ Some x → OrderIs s o x
+  pub open_pair : (k : ℕ) (os : List (OpenStart D)) (xs : List OrderOut) → OneByOne (OutIs s) os xs → (o : OpenStart D) (x : OrderOut) → find_open s.job k os ≡ Some o → find_order k xs ≡ Some x → OutIs s o x
   open_pair k [] [] h o x e f = cc
   open_pair k [] (y ∷ ys) h o x e f = absurd h
   open_pair k (q ∷ qs) [] h o x e f = absurd h
   open_pair k (q ∷ qs) (y ∷ ys) h o x e f = pick (bool_cases (nat_eq k q.number)) (open_pair k qs ys h.1 o x)
     where
-      pick : ((nat_eq k q.number ≡ true) ⊎ (nat_eq k q.number ≡ false)) → (find_open s.job k qs ≡ Some o → find_order k ys ≡ Some x → OrderIs s o x) → OrderIs s o x
+      pick : ((nat_eq k q.number ≡ true) ⊎ (nat_eq k q.number ≡ false)) → (find_open s.job k qs ≡ Some o → find_order k ys ≡ Some x → OutIs s o x) → OutIs s o x
       pick (inl t) r =
           let u : nat_eq k y.number ≡ true = ap (nat_eq k) h.0.number ∙ t in
           let a : Some q ≡ Some o = sym (ap (λ b. cond b (Some q) (find_open s.job k qs)) t) ∙ e in
           let c : Some y ≡ Some x = sym (ap (λ b. cond b (Some y) (find_order k ys)) u) ∙ f in
           let a2 : q ≡ o = cc in
           let c2 : y ≡ x = cc in
-          subst (λ z. OrderIs s o z) c2 (subst (λ z. OrderIs s z y) a2 h.0)
+          subst (λ z. OutIs s o z) c2 (subst (λ z. OutIs s z y) a2 h.0)
       pick (inr t) r =
           let u : nat_eq k y.number ≡ false = ap (nat_eq k) h.0.number ∙ t in
           r (sym (ap (λ b. cond b (Some q) (find_open s.job k qs)) t) ∙ e) (sym (ap (λ b. cond b (Some y) (find_order k ys)) u) ∙ f)
@@ -181,7 +181,7 @@ module _ {D P B : Type 0} (s : Setting D P B) (is : IsSetting s) (h : List (Even
   inf : Informed s.job is.laws s.inner is.knows v
   inf = informed s is h b sound f
 
-  book_room : length v.book ≤ b.plan.limit
+  pub book_room : length v.book ≤ b.plan.limit
   book_room =
       subst (λ n. length v.book ≤ n) sound.limit (subst (λ n. n ≤ b.table.limit) (sym (long (RowIs s v.places) v.book b.table.rows f.stands.rows)) sound.room)
 
@@ -208,7 +208,7 @@ module _ {D P B : Type 0} (s : Setting D P B) (is : IsSetting s) (h : List (Even
         main = f.stands.main;
         rows = mapped (RowIs s v.places) (RowIs s (λ d. filter (λ u. not (nat_eq w u)) (v.places d))) (c.row_without s.at w) v.book b.table.rows (λ d row i q. lost_row w d row q) f.stands.rows;
         waits = λ u i. waits_dropped s is w u v.saves b.table (f.stands.waits u i);
-        orders = filtered (OrderIs s) (λ (o : OpenStart D). not (nat_eq w o.worker)) (λ (x : Order P). not (nat_eq w x.worker)) (λ o x k. ap (λ n. not (nat_eq w n)) (sym k.worker)) v.orders b.orders f.stands.orders;
+        orders = filtered (OutIs s) (λ (o : OpenStart D). not (nat_eq w o.worker)) (λ (x : OrderOut). not (nat_eq w x.worker)) (λ o x k. ap (λ n. not (nat_eq w n)) (sym k.worker)) v.orders b.orders f.stands.orders;
         gone = ap (λ gs. gs ++ w ∷ []) f.stands.gone;
         starts = f.stands.starts;
         closes = f.stands.closes;
@@ -237,14 +237,11 @@ module _ {D P B : Type 0} (s : Setting D P B) (is : IsSetting s) (h : List (Even
   new_waits : (book : List D) → NoClash s.job book → ((d : D) → In d v.book → In d book) → (d : D) → In d book → (In d v.book → ⊥) → waits_in (s.job.name d) b.table.saved ≡ []
   new_waits book clear all d i n = pick (found saves_name (s.job.name d) b.table.saved) refl
     where
-      abbrev waits_or : Option (Saves P) → List (Wait P)
-      waits_or o = option_map_or (λ (q : Saves P). q.waits) o []
-
       pick : (o : Option (Saves P)) → found saves_name (s.job.name d) b.table.saved ≡ o → waits_in (s.job.name d) b.table.saved ≡ []
-      pick None e = ap waits_or e
+      pick None e = ap (λ o. option_map_or (λ (q : Saves P). q.waits) o []) e
       pick (Some q) e =
-          let k : SavesSound b.table q = all_found saves_name (SavesSound b.table) (s.job.name d) b.tablrep.saved q sound.saved e in
-          let named : q.name ≡ s.job.name d = found_named saves_name (s.job.name d) b.tablrep.saved q e in
+          let k : SavesSound b.table q = all_found saves_name (SavesSound b.table) (s.job.name d) b.table.saved q sound.saved e in
+          let named : q.name ≡ s.job.name d = found_named saves_name (s.job.name d) b.table.saved q e in
           let place = some_place row_name q.name b.table.rows k.task in
           let row = item_at row_name q.name b.table.rows place.0 place.1 in
           let of_row = back (RowIs s v.places) v.book b.table.rows f.stands.rows row.item (found_in row_name q.name b.table.rows row.item row.is_found) in
@@ -268,14 +265,14 @@ module _ {D P B : Type 0} (s : Setting D P B) (is : IsSetting s) (h : List (Even
                 let z = in_any s.job.same is.laws.same_refl d v.book j in let bad : true ≡ false = sym z ∙ n in cc
 
   module _ (x : Order P) (o : OpenStart D) (k : ℕ) (spawned : List Named) (end : End P) (taken : Taken s h b x o k spawned end) (all : AllLearned s.digest spawned b.table) where
-    order : OrderIs s o x
-    order = open_pair s k v.orders b.orders f.stands.orders o x taken.is_open taken.is_out
+    order : OutIs s o x.out
+    order = open_pair s k v.orders b.orders f.stands.orders o x.out taken.is_open taken.is_out
 
     open_in : In o v.orders
-    open_in = (found_in s.job is.laws k v.orders o taken.is_open).0
+    open_in = (open_found s.job is.laws k v.orders o taken.is_open).0
 
-    number : k ≡ x.number
-    number = found_number k b.orders x taken.is_out
+    number : k ≡ x.out.number
+    number = found_number k b.orders x.out taken.is_out
 
     abbrev after_table : TableSeen P
     after_table = learned_all s.digest spawned b.table
@@ -290,9 +287,9 @@ module _ {D P B : Type 0} (s : Setting D P B) (is : IsSetting s) (h : List (Even
     room_after : length after_table.rows ≤ b.plan.limit
     room_after = subst (λ n. length after_table.rows ≤ n) sound.limit (room_all s.digest spawned b.table all sound.room)
 
-    orders_after : OneByOne (OrderIs s) (filter (λ (q : OpenStart D). not (nat_eq k q.number)) v.orders) (without x.number b.orders)
+    orders_after : OneByOne (OutIs s) (filter (λ (q : OpenStart D). not (nat_eq k q.number)) v.orders) (without x.out.number b.orders)
     orders_after =
-        subst (λ n. OneByOne (OrderIs s) (filter (λ (q : OpenStart D). not (nat_eq k q.number)) v.orders) (without n b.orders)) number (filtered (OrderIs s) (λ (q : OpenStart D). not (nat_eq k q.number)) (λ (y : Order P). not (nat_eq k y.number)) (λ q y e. ap (λ n. not (nat_eq k n)) (sym e.number)) v.orders b.orders f.stands.orders)
+        subst (λ n. OneByOne (OutIs s) (filter (λ (q : OpenStart D). not (nat_eq k q.number)) v.orders) (without n b.orders)) number (filtered (OutIs s) (λ (q : OpenStart D). not (nat_eq k q.number)) (λ (y : OrderOut). not (nat_eq k y.number)) (λ q y e. ap (λ n. not (nat_eq k n)) (sym e.number)) v.orders b.orders f.stands.orders)
 
     module _ (sp : List D) (clear : NoClash s.job (known_after s.job v.book sp)) (told : views after_table.rows ≡ map s.lower (known_after s.job v.book sp)) where
       abbrev book : List D
@@ -324,7 +321,7 @@ module _ {D P B : Type 0} (s : Setting D P B) (is : IsSetting s) (h : List (Even
 
     -- ---- a saved wait
 
-    module _ (q : Stack P) (is_end : end ≡ rep.saved q) (refs holds sp : List D) (refs_are : low_names s.job refs ≡ q.refs) (holds_are : low_names s.job holds ≡ q.holds) (a : SavedAllowed s.job o q.j q.mark refs holds sp) (clear : NoClash s.job (known_after s.job v.book sp)) (told : views after_table.rows ≡ map s.lower (known_after s.job v.book sp)) (lies : HasState s q.place o.task q.j) (here : s.at q.place ≡ x.worker) where
+    module _ (q : Stack P) (is_end : end ≡ rep.saved q) (refs holds sp : List D) (refs_are : low_names s.job refs ≡ q.refs) (holds_are : low_names s.job holds ≡ q.holds) (a : SavedAllowed s.job o q.j q.mark refs holds sp) (clear : NoClash s.job (known_after s.job v.book sp)) (told : views after_table.rows ≡ map s.lower (known_after s.job v.book sp)) (lies : HasState s q.place o.task q.j) (here : s.at q.place ≡ x.out.worker) where
       abbrev save : Save D
       save = record { task = o.task; j = q.j; worker = o.worker; refs = refs; holds = holds }
 
@@ -338,20 +335,20 @@ module _ {D P B : Type 0} (s : Setting D P B) (is : IsSetting s) (h : List (Even
             state = lies;
           }
 
-      pub saved_follows : b.stopped ≡ false → Follows s (h ++ saved k q.j q.mark refs holds sp ∷ []) (accepted s.digest b x spawned (rep.saved q))
+      pub saved_follows : b.stopped ≡ false → Follows s (h ++ saved k q.j q.mark refs holds sp ∷ []) (accepted s.digest b x.out spawned (rep.saved q))
       saved_follows going =
           let now = after_saved s.job is.laws v k q.j q.mark refs holds sp o taken.is_open in
-          goes_on s is h b sound f (saved k q.j q.mark refs holds sp) (accepted s.digest b x spawned (rep.saved q)) refl (ap (λ n. b.journal ++ Entry.Saved n q.j q.mark ∷ []) (sym number))
+          goes_on s is h b sound f (saved k q.j q.mark refs holds sp) (accepted s.digest b x.out spawned (rep.saved q)) refl (ap (λ n. b.journal ++ Entry.Saved n q.j q.mark ∷ []) (sym number))
           (record {
             going = f.stands.going going;
             allowed = (o, taken.is_open, a);
             room = subst (λ (u : Standing D). length u.book ≤ b.plan.limit) (sym now) (size sp clear told);
             apart = subst (λ (u : Standing D). NoClash s.job u.book) (sym now) clear;
           })
-          (subst (λ u. StandsFor s u (accepted s.digest b x spawned (rep.saved q))) (sym now) (record {
+          (subst (λ u. StandsFor s u (accepted s.digest b x.out spawned (rep.saved q))) (sym now) (record {
             main = f.stands.main;
             rows = rows_after sp clear told;
-            waits = λ u i. waits_pushed s is (known_after s.job v.book sp) clear u o.task i (own_in sp clear told) v.saves save after_table x.task (wait_of q) refl order.task wait_is (waits_after sp clear told after_table refl refl u i);
+            waits = λ u i. waits_pushed s is (known_after s.job v.book sp) clear u o.task i (own_in sp clear told) v.saves save after_table x.out.task (wait_of q) refl order.task wait_is (waits_after sp clear told after_table refl refl u i);
             orders = orders_after;
             gone = growth.gone ∙ f.stands.gone;
             starts = f.stands.starts;
@@ -412,19 +409,19 @@ module _ {D P B : Type 0} (s : Setting D P B) (is : IsSetting s) (h : List (Even
       copied_rows =
           copies_placed s is book' (once sp clear told) clear o.worker (placed s.job (names_of made) o.worker v.places) made_table copied cs copied_are (copies_are copied cs copied_are a.fetched copy_lies copies_fit) made_rows.1 made_rows.0
 
-      pub done_follows : b.stopped ≡ false → Follows s (h ++ done k made copied sp ∷ []) (accepted s.digest b x spawned (rep.made ms cs))
+      pub done_follows : b.stopped ≡ false → Follows s (h ++ done k made copied sp ∷ []) (accepted s.digest b x.out spawned (rep.made ms cs))
       done_follows going =
           let now = after_done s.job is.laws v k made copied sp o taken.is_open in
           let outs = outputs_same ms after_table in
           let copies = copies_same cs made_table in
-          goes_on s is h b sound f (done k made copied sp) (accepted s.digest b x spawned (rep.made ms cs)) refl (ap (λ n. b.journal ++ Entry.Done n (made_keys ms) (copy_names cs) ∷ []) (sym number) ∙ (ap (λ ks. b.journal ++ Entry.Done k ks (copy_names cs) ∷ []) made_are ∙ ap (λ ks. b.journal ++ Entry.Done k (low_made s.job made) ks ∷ []) copied_are))
+          goes_on s is h b sound f (done k made copied sp) (accepted s.digest b x.out spawned (rep.made ms cs)) refl (ap (λ n. b.journal ++ Entry.Done n (made_keys ms) (copy_names cs) ∷ []) (sym number) ∙ (ap (λ ks. b.journal ++ Entry.Done k ks (copy_names cs) ∷ []) made_are ∙ ap (λ ks. b.journal ++ Entry.Done k (low_made s.job made) ks ∷ []) copied_are))
           (record {
             going = f.stands.going going;
             allowed = (o, taken.is_open, a);
             room = subst (λ (u : Standing D). length u.book ≤ b.plan.limit) (sym now) (size sp clear told);
             apart = subst (λ (u : Standing D). NoClash s.job u.book) (sym now) clear;
           })
-          (subst (λ u. StandsFor s u (accepted s.digest b x spawned (rep.made ms cs))) (sym now) (record {
+          (subst (λ u. StandsFor s u (accepted s.digest b x.out spawned (rep.made ms cs))) (sym now) (record {
             main = f.stands.main;
             rows = copied_rows;
             waits = waits_after sp clear told (with_copies cs made_table) (copies.shown ∙ outs.shown) (copies.saved ∙ outs.saved);

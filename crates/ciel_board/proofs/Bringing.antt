@@ -96,13 +96,13 @@ module _ {D P B : Type 0} (s : Setting D P B) (d : D) where
       pick (inl q) = inr (p, ap (lesser s.at p) q.0, ap (least_with s.job (s.at p)) q.1, a.0)
       pick (inr q) = turn (nat_lt (s.at q.0) (s.at p)) q.0 refl q.1 q.2 q.3
 
+  abbrev Goal : Option ℕ → Option P → Type 0
+  Goal u o = FetchedAt s d u (option_map Spot.shelf o)
+
   -- the object lies at the place that an order takes, which is at the worker that the journal says
   pub fetched : (w : ℕ) (ps : List P) → AllByRecursion Has ps → FetchedAt s d (worker_for s.job w (map s.at ps)) (option_map Spot.shelf (place_for s.at w ps))
   fetched w ps a = pick (at_is w ps a) (least_is ps a)
     where
-      abbrev Goal : Option ℕ → Option P → Type 0
-      Goal u o = FetchedAt s d u (option_map Spot.shelf o)
-
       answer : (u : Option ℕ) (o : Option P) → worker_for s.job w (map s.at ps) ≡ u → place_for s.at w ps ≡ o → Goal u o → Goal (worker_for s.job w (map s.at ps)) (place_for s.at w ps)
       answer u o e f g = subst (λ z. Goal z (place_for s.at w ps)) (sym e) (subst (Goal u) (sym f) g)
 

@@ -22,7 +22,7 @@ use Rattle.ciel_board.specs.Moves.{started}
 use Rattle.ciel_board.specs.Setting.{IsMade, IsSetting, Setting}
 use Rattle.ciel_board.specs.Sound.{Sound}
 use Rattle.ciel_board.proofs.Holding as holding
-use Rattle.ciel_board.proofs.Starting.{key_is, start_stands, start_step}
+use Rattle.ciel_board.proofs.Starting.{key_is, start_order, start_stands, start_step}
 
 module _ {D P B : Type 0} (s : Setting D P B) (is : IsSetting s) (h : List (Event D)) (b : Board P) (sound : Sound s.digest s.at b) (f : Follows s h b) where
   pub informed : Informed s.job is.laws s.inner is.knows (standing s.job h)
@@ -68,5 +68,7 @@ module _ {D P B : Type 0} (s : Setting D P B) (is : IsSetting s) (h : List (Even
           subst (λ y. StartedAs s h b y w) q.1 (record {
             task = q.0;
             is = refl;
+            reached = q.2;
+            order = start_order s is (standing s.job h) informed apart made traced b sound f.stands known q.0 q.2 w;
             follows = goes_on (start b.starts w q.0 (wait_number (last_wait (task_id s.job q.0) b.table))) (started s.at b (task_id s.job q.0) w) refl (ap (λ k. b.journal ++ Entry.Start b.starts w k (wait_number (last_wait (task_id s.job q.0) b.table)) ∷ []) (key_is s.job q.0)) (start_step s is (standing s.job h) informed apart made traced b sound f.stands known q.0 q.2 (subst (Runnable (board_graph b)) (sym q.1) r) w i going) (start_stands s is (standing s.job h) informed apart made traced b sound f.stands known q.0 q.2 w);
           })

@@ -109,7 +109,7 @@ module _ {D P B : Type 0} (s : Setting D P B) (is : IsSetting s) where
 
       pub reached_own : (u : Task D) → Reached s.job v u → Own u
       reached_own u root d q = cc
-      reached_own u (through r o d i n e) = task_own d u e
+      reached_own u (through r o d i n e) x q = task_own d u e x q
 
     pub last_is : (u : Task D) → In (own_name s.job u) v.book → BothWaits s is (last_save s.job u v.saves) (last_wait (task_id s.job u) b.table)
     last_is u i = last_both s is u v.saves (waits_of (task_id s.job u) b.table) (st.waits u i)

@@ -65,17 +65,18 @@ module _ {P : Type 0} where
   -- what has no row stands in none
   unfound : (n : Digest) (rs : List (Row P)) → place_of row_name n rs ≡ None → (r : Row P) → In r rs → r.name ≡ n → ⊥
   unfound n [] e r i k = absurd i
-  unfound n (x ∷ xs) e r i k = pick (bool_cases (same_text n x.name)) (place_of row_name n xs) refl i
+  unfound n (x ∷ xs) e r i k =
+      pick (bool_cases (same_text n x.name)) (place_of row_name n xs) refl i (λ h j. unfound n xs h r j k)
     where
-      pick : ((same_text n x.name ≡ true) ⊎ (same_text n x.name ≡ false)) → (o : Option ℕ) → place_of row_name n xs ≡ o → In r (x ∷ xs) → ⊥
-      pick (inl y) o h j =
+      pick : ((same_text n x.name ≡ true) ⊎ (same_text n x.name ≡ false)) → (o : Option ℕ) → place_of row_name n xs ≡ o → In r (x ∷ xs) → (place_of row_name n xs ≡ None → In r xs → ⊥) → ⊥
+      pick (inl y) o h j go =
           let bad : Some 0 ≡ None = sym (ap (λ b. cond b (Some 0) (option_map suc (place_of row_name n xs))) y) ∙ e in cc
-      pick (inr f) o h (inl s) =
+      pick (inr f) o h (inl s) go =
           let y : same_text n x.name ≡ true = subst (λ m. same_text n m ≡ true) (sym k ∙ ap (λ (z : Row P). z.name) s) (self_text n) in
           let bad : true ≡ false = sym y ∙ f in
           cc
-      pick (inr f) None h (inr j) = unfound n xs h r j k
-      pick (inr f) (Some i) h (inr j) =
+      pick (inr f) None h (inr j) go = go h j
+      pick (inr f) (Some i) h (inr j) go =
           let bad : Some (suc i) ≡ None = sym (ap (option_map suc) h) ∙ (sym (ap (λ b. cond b (Some 0) (option_map suc (place_of row_name n xs))) f) ∙ e) in cc
 
 module _ {P : Type 0} (digest : List ℕ → List ℕ) where
@@ -86,9 +87,6 @@ module _ {P : Type 0} (digest : List ℕ → List ℕ) where
 
   new_named : (n : Named) → IsNamed digest n → RowNamed (new_row digest n)
   new_named n k = record { name = k.name; spelled = k.spelled }
-
-  abbrev tag : Desc (List ℕ) → Digest
-  tag = digested digest
 
   -- ---- one that is learned
 
@@ -120,17 +118,17 @@ module _ {P : Type 0} (digest : List ℕ → List ℕ) where
       pick None g h = absurd (some g)
       pick (Some i) g h = turn i (bool_cases (same_text (kept_bytes n.name t) (canon (named_view n)))) h
 
-  new_by_name : (n : Named) (t : TableSeen P) → AllByRecursion RowNamed t.rows → IsNamed digest n → find n.name t ≡ None → IsNew tag (views t.rows) (named_view n)
+  new_by_name : (n : Named) (t : TableSeen P) → AllByRecursion RowNamed t.rows → IsNamed digest n → find n.name t ≡ None → IsNew (digested digest) (views t.rows) (named_view n)
   new_by_name n t all m e d i k =
       let q = in_views d t.rows i in
-      unfound n.name t.rows e q.0 q.1 (named_row q.0 q.1 ∙ (sym (ap tag q.2) ∙ (k ∙ sym m.name)))
+      unfound n.name t.rows e q.0 q.1 (named_row q.0 q.1 ∙ (sym (ap (digested digest) q.2) ∙ (k ∙ sym m.name)))
     where
-      named_row : (r : Row P) → In r t.rows → r.name ≡ tag (desc_view r.desc)
+      named_row : (r : Row P) → In r t.rows → r.name ≡ (digested digest) (desc_view r.desc)
       named_row r j = go t.rows all j
         where
-          go : (rs : List (Row P)) → AllByRecursion RowNamed rs → In r rs → r.name ≡ tag (desc_view r.desc)
+          go : (rs : List (Row P)) → AllByRecursion RowNamed rs → In r rs → r.name ≡ (digested digest) (desc_view r.desc)
           go [] a j = absurd j
-          go (x ∷ xs) a (inl s) = subst (λ (z : Row P). z.name ≡ tag (desc_view z.desc)) (sym s) a.0.name
+          go (x ∷ xs) a (inl s) = subst (λ (z : Row P). z.name ≡ (digested digest) (desc_view z.desc)) (sym s) a.0.name
           go (x ∷ xs) a (inr j) = go xs a.1 j
 
   pub in_rows : (rs : List (Row P)) → AllByRecursion RowNamed rs → (r : Row P) → In r rs → RowNamed r
@@ -153,19 +151,19 @@ module _ {P : Type 0} (digest : List ℕ → List ℕ) where
   -- ---- all of them
 
   -- the descriptions are learned as the names are
-  pub learns : (ns : List Named) (t : TableSeen P) → AllByRecursion RowNamed t.rows → Each (IsNamed digest) ns → AllLearned digest ns t → Learns tag (views t.rows) (map named_view ns) (views (learned_all digest ns t).rows)
+  pub learns : (ns : List Named) (t : TableSeen P) → AllByRecursion RowNamed t.rows → Each (IsNamed digest) ns → AllLearned digest ns t → Learns (digested digest) (views t.rows) (map named_view ns) (views (learned_all digest ns t).rows)
   learns [] t all ms l = refl
   learns (n ∷ ns) t all ms l = pick (comes n t) (learns ns (learned digest n t) (named_after n t all ms.0) ms.1 l.1)
     where
       end : List (Desc (List ℕ))
       end = views (learned_all digest ns (learned digest n t)).rows
 
-      pick : Comes n t → Learns tag (views (learned digest n t).rows) (map named_view ns) end → Learns tag (views t.rows) (map named_view (n ∷ ns)) end
+      pick : Comes n t → Learns (digested digest) (views (learned digest n t).rows) (map named_view ns) end → Learns (digested digest) (views t.rows) (map named_view (n ∷ ns)) end
       pick (there e r i k some f) rest =
           let same : desc_view r.desc ≡ named_view n = held_same n t r f some (in_rows t.rows all r i) ms.0 l.0.0 l.0.1 in
-          inl (subst (λ z. In z (views t.rows)) same (view_in r t.rows i), subst (λ rs. Learns tag (views rs) (map named_view ns) end) e rest)
+          inl (subst (λ z. In z (views t.rows)) same (view_in r t.rows i), subst (λ rs. Learns (digested digest) (views rs) (map named_view ns) end) e rest)
       pick (new e none) rest =
-          inr (new_by_name n t all ms.0 none, subst (λ zs. Learns tag zs (map named_view ns) end) (ap views e ∙ map-append (λ (r : Row P). desc_view r.desc) t.rows (new_row digest n ∷ [])) rest)
+          inr (new_by_name n t all ms.0 none, subst (λ zs. Learns (digested digest) zs (map named_view ns) end) (ap views e ∙ map-append (λ (r : Row P). desc_view r.desc) t.rows (new_row digest n ∷ [])) rest)
 
   -- rows are added at the end, with no place; nothing else changes
   pub record Grown (t u : TableSeen P) : Type 0 where
@@ -271,7 +269,7 @@ module _ {P : Type 0} (digest : List ℕ → List ℕ) where
       pick None g h = turn (nat_lt (length t.rows) t.limit) refl g h
       pick (Some i) g h = absurd (known (same_text (kept_bytes n.name t) (canon (named_view n))) i (kept_bytes n.name t) (canon (named_view n)) h)
 
-  pub new_name : (n : Named) (t : TableSeen P) → AllByRecursion RowNamed t.rows → IsNamed digest n → find n.name t ≡ None → IsNew tag (views t.rows) (named_view n)
+  pub new_name : (n : Named) (t : TableSeen P) → AllByRecursion RowNamed t.rows → IsNamed digest n → find n.name t ≡ None → IsNew (digested digest) (views t.rows) (named_view n)
   new_name n t all m e = new_by_name n t all m e
 
 -- ---- the book and the rows
@@ -286,24 +284,24 @@ module _ {D : Type 0} (job : Job D) where
 module _ {D : Type 0} (job : Job D) (refl_ : (d : D) → job.same d d ≡ true) where
   pub book_more : (ds book : List D) → More job book (known_after job book ds)
   book_more [] book = record { news = []; is = sym (append-nil book); new = λ d i. absurd i }
-  book_more (d ∷ ds) book = pick (bool_cases (list_any (job.same d) book))
+  book_more (d ∷ ds) book =
+      pick (bool_cases (list_any (job.same d) book)) (book_more ds book) (book_more ds (book ++ d ∷ []))
     where
-      pick : ((list_any (job.same d) book ≡ true) ⊎ (list_any (job.same d) book ≡ false)) → More job book (known_after job (cond (list_any (job.same d) book) book (book ++ d ∷ [])) ds)
-      pick (inl y) = subst (λ b. More job book (known_after job (cond b book (book ++ d ∷ [])) ds)) (sym y) (book_more ds book)
-      pick (inr y) =
-          let q = book_more ds (book ++ d ∷ []) in
+      new : list_any (job.same d) book ≡ false → (q : More job (book ++ d ∷ []) (known_after job (book ++ d ∷ []) ds)) → (x : D) → In x (d ∷ q.news) → In x book → ⊥
+      new y q x (inl s) j =
+          let z : list_any (job.same d) book ≡ true = in_any job.same refl_ d book (subst (λ u. In u book) s j) in
+          let bad : true ≡ false = sym z ∙ y in
+          cc
+      new y q x (inr i) j = q.new x i (in_left x book (d ∷ []) j)
+
+      pick : ((list_any (job.same d) book ≡ true) ⊎ (list_any (job.same d) book ≡ false)) → More job book (known_after job book ds) → More job (book ++ d ∷ []) (known_after job (book ++ d ∷ []) ds) → More job book (known_after job (cond (list_any (job.same d) book) book (book ++ d ∷ [])) ds)
+      pick (inl y) p q = subst (λ b. More job book (known_after job (cond b book (book ++ d ∷ [])) ds)) (sym y) p
+      pick (inr y) p q =
           subst (λ b. More job book (known_after job (cond b book (book ++ d ∷ [])) ds)) (sym y) (record {
             news = d ∷ q.news;
             is = q.is ∙ append_assoc book (d ∷ []) q.news;
-            new = new q;
+            new = new y q;
           })
-        where
-          new : (q : More job (book ++ d ∷ []) (known_after job (book ++ d ∷ []) ds)) (x : D) → In x (d ∷ q.news) → In x book → ⊥
-          new q x (inl s) j =
-              let z : list_any (job.same d) book ≡ true = in_any job.same refl_ d book (subst (λ u. In u book) s j) in
-              let bad : true ≡ false = sym z ∙ y in
-              cc
-          new q x (inr i) j = q.new x i (in_left x book (d ∷ []) j)
 
 module _ {D P B : Type 0} (s : Setting D P B) (had : D → List ℕ) where
   pub views_are : (ds : List D) (rs : List (Row P)) → OneByOne (RowIs s had) ds rs → views rs ≡ map s.lower ds

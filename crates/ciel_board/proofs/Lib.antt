@@ -10,3 +10,7 @@ mod Saving
 mod Accepting
 mod Telling
 mod Opening
+mod Sounding
+mod Missing
+mod Searching
+mod Driving

@@ -16,8 +16,8 @@ use Rattle.ciel_table.specs.declared.row.Row.{Row}
 use Rattle.ciel_table.specs.declared.wait.Wait.{Wait}
 use Rattle.ciel_want.specs.History.{task_id}
 use Rattle.ciel_want.specs.Waited.{is_in, same_id}
-use Rattle.ciel_board.specs.Board.{Order, tasks_out}
-use Rattle.ciel_board.specs.Follows.{OneByOne, OrderIs, RowIs, WaitIs, saves_of}
+use Rattle.ciel_board.specs.Board.{OrderOut, tasks_out}
+use Rattle.ciel_board.specs.Follows.{OneByOne, OutIs, RowIs, WaitIs, saves_of}
 use Rattle.ciel_board.specs.Setting.{IsSetting, Setting}
 
 module _ {D P B : Type 0} (s : Setting D P B) (is : IsSetting s) where
@@ -109,7 +109,7 @@ module _ {D P B : Type 0} (s : Setting D P B) (is : IsSetting s) where
       agree (same_text (s.job.name d) (s.job.name e)) (s.job.same d e) (λ h. subst (λ x. s.job.same d x ≡ true) (apart d e i j (exact_text (s.job.name d) (s.job.name e) h)) (is.laws.same_refl d)) (λ h. subst (λ x. same_text (s.job.name d) (s.job.name x) ≡ true) (is.laws.same_exact d e h) (self_text (s.job.name d)))
 
   -- the tasks that are out have open Starts
-  pub outs : (book : List D) → NoClash s.job book → (u : Task D) → In (own_name s.job u) book → (os : List (OpenStart D)) (xs : List (Order P)) → OneByOne (OrderIs s) os xs → Each (λ (o : OpenStart D). In (own_name s.job o.task) book) os → is_in (tasks_out xs) (task_id s.job u) ≡ list_any (λ (o : OpenStart D). same_task s.job u o.task) os
+  pub outs : (book : List D) → NoClash s.job book → (u : Task D) → In (own_name s.job u) book → (os : List (OpenStart D)) (xs : List OrderOut) → OneByOne (OutIs s) os xs → Each (λ (o : OpenStart D). In (own_name s.job o.task) book) os → is_in (tasks_out xs) (task_id s.job u) ≡ list_any (λ (o : OpenStart D). same_task s.job u o.task) os
   outs book apart u i [] [] h k = refl
   outs book apart u i [] (x ∷ xs) h k = absurd h
   outs book apart u i (o ∷ os) [] h k = absurd h

@@ -41,69 +41,70 @@ module _ {X : Type 0} (name : X → List ℕ) where
       pick false h r = r h
 
   module _ (f : X → X) (keeps : (x : X) → name (f x) ≡ name x) where
+    abbrev Changed : Digest → X → List X → Bool → Type 0
+    Changed n y ys b = found name n (cond b (f y ∷ ys) (y ∷ changed name f n ys)) ≡ option_map f (cond b (Some y) (found name n ys))
+
+    abbrev Other : Digest → Digest → X → List X → Bool → Type 0
+    Other n m y ys b = found name n (cond b (f y ∷ ys) (y ∷ changed name f m ys)) ≡ cond (same_text n (name y)) (Some y) (found name n ys)
+
     found_changed : (n : Digest) (xs : List X) → found name n (changed name f n xs) ≡ option_map f (found name n xs)
     found_changed n [] = refl
     found_changed n (y ∷ ys) = pick (bool_cases (same_text n (name y))) (found_changed n ys)
       where
-        abbrev Goal : Bool → Type 0
-        Goal b = found name n (cond b (f y ∷ ys) (y ∷ changed name f n ys)) ≡ option_map f (cond b (Some y) (found name n ys))
-
-        pick : ((same_text n (name y) ≡ true) ⊎ (same_text n (name y) ≡ false)) → found name n (changed name f n ys) ≡ option_map f (found name n ys) → Goal (same_text n (name y))
+        pick : ((same_text n (name y) ≡ true) ⊎ (same_text n (name y) ≡ false)) → found name n (changed name f n ys) ≡ option_map f (found name n ys) → Changed n y ys (same_text n (name y))
         pick (inl t) r =
             let k : same_text n (name (f y)) ≡ true = ap (same_text n) (keeps y) ∙ t in
-            subst Goal (sym t) (ap (λ b. cond b (Some (f y)) (found name n ys)) k)
+            subst (Changed n y ys) (sym t) (ap (λ b. cond b (Some (f y)) (found name n ys)) k)
         pick (inr u) r =
-            subst Goal (sym u) (ap (λ b. cond b (Some y) (found name n (changed name f n ys))) u ∙ r)
+            subst (Changed n y ys) (sym u) (ap (λ b. cond b (Some y) (found name n (changed name f n ys))) u ∙ r)
 
     found_other : (n m : Digest) → same_text n m ≡ false → (xs : List X) → found name n (changed name f m xs) ≡ found name n xs
     found_other n m d [] = refl
     found_other n m d (y ∷ ys) = pick (bool_cases (same_text m (name y))) (found_other n m d ys)
       where
-        abbrev Goal : Bool → Type 0
-        Goal b = found name n (cond b (f y ∷ ys) (y ∷ changed name f m ys)) ≡ cond (same_text n (name y)) (Some y) (found name n ys)
-
-        pick : ((same_text m (name y) ≡ true) ⊎ (same_text m (name y) ≡ false)) → found name n (changed name f m ys) ≡ found name n ys → Goal (same_text m (name y))
+        pick : ((same_text m (name y) ≡ true) ⊎ (same_text m (name y) ≡ false)) → found name n (changed name f m ys) ≡ found name n ys → Other n m y ys (same_text m (name y))
         pick (inl t) r =
             let is : m ≡ name y = exact_text m (name y) t in
             let k : same_text n (name y) ≡ false = subst (λ z. same_text n z ≡ false) is d in
             let j : same_text n (name (f y)) ≡ false = ap (same_text n) (keeps y) ∙ k in
-            subst Goal (sym t) (ap (λ b. cond b (Some (f y)) (found name n ys)) j ∙ sym (ap (λ b. cond b (Some y) (found name n ys)) k))
-        pick (inr u) r = subst Goal (sym u) (ap (λ o. cond (same_text n (name y)) (Some y) o) r)
+            subst (Other n m y ys) (sym t) (ap (λ b. cond b (Some (f y)) (found name n ys)) j ∙ sym (ap (λ b. cond b (Some y) (found name n ys)) k))
+        pick (inr u) r = subst (Other n m y ys) (sym u) (ap (λ o. cond (same_text n (name y)) (Some y) o) r)
 
 module _ {P : Type 0} where
   abbrev waits_or : Option (Saves P) → List (Wait P)
   waits_or o = option_map_or (λ (q : Saves P). q.waits) o []
 
+  abbrev first_of : Digest → Wait P → Saves P
+  first_of m w = record { name = m; waits = w ∷ [] }
+
+  abbrev HeldStill : Digest → Digest → Wait P → List (Saves P) → Bool → Type 0
+  HeldStill n m w ss b =
+      waits_in n (changed saves_name (c.saves_with w) m ss) ≡ cond b (waits_in n ss ++ w ∷ []) (waits_in n ss)
+
+  abbrev HeldFirst : Digest → Digest → Wait P → List (Saves P) → Bool → Type 0
+  HeldFirst n m w ss b = waits_in n (ss ++ first_of m w ∷ []) ≡ cond b (waits_in n ss ++ w ∷ []) (waits_in n ss)
+
   -- the waits of one name after one more of another
   named_waits : (n m : Digest) (w : Wait P) (ss : List (Saves P)) (o : Option (Saves P)) → found saves_name m ss ≡ o → waits_in n (c.save_at o m w ss) ≡ cond (same_text n m) (waits_in n ss ++ w ∷ []) (waits_in n ss)
   named_waits n m w ss (Some q) e = pick (bool_cases (same_text n m))
     where
-      abbrev Goal : Bool → Type 0
-      Goal b = waits_in n (changed saves_name (c.saves_with w) m ss) ≡ cond b (waits_in n ss ++ w ∷ []) (waits_in n ss)
-
-      pick : ((same_text n m ≡ true) ⊎ (same_text n m ≡ false)) → Goal (same_text n m)
+      pick : ((same_text n m ≡ true) ⊎ (same_text n m ≡ false)) → HeldStill n m w ss (same_text n m)
       pick (inl t) =
           let is : n ≡ m = exact_text n m t in
-          subst Goal (sym t) (subst (λ z. waits_in z (changed saves_name (c.saves_with w) m ss) ≡ waits_in z ss ++ w ∷ []) (sym is) (ap waits_or (found_changed saves_name (c.saves_with w) (λ x. refl) m ss) ∙ (ap (λ o. waits_or (option_map (c.saves_with w) o)) e ∙ sym (ap (λ o. waits_or o ++ w ∷ []) e))))
+          subst (HeldStill n m w ss) (sym t) (subst (λ z. waits_in z (changed saves_name (c.saves_with w) m ss) ≡ waits_in z ss ++ w ∷ []) (sym is) (ap waits_or (found_changed saves_name (c.saves_with w) (λ x. refl) m ss) ∙ (ap (λ o. waits_or (option_map (c.saves_with w) o)) e ∙ sym (ap (λ o. waits_or o ++ w ∷ []) e))))
       pick (inr f) =
-          subst Goal (sym f) (ap waits_or (found_other saves_name (c.saves_with w) (λ x. refl) n m f ss))
+          subst (HeldStill n m w ss) (sym f) (ap waits_or (found_other saves_name (c.saves_with w) (λ x. refl) n m f ss))
   named_waits n m w ss None e = pick (bool_cases (same_text n m)) (found saves_name n ss) refl
     where
-      abbrev new : Saves P
-      new = record { name = m; waits = w ∷ [] }
-
-      abbrev Goal : Bool → Type 0
-      Goal b = waits_in n (ss ++ new ∷ []) ≡ cond b (waits_in n ss ++ w ∷ []) (waits_in n ss)
-
-      pick : ((same_text n m ≡ true) ⊎ (same_text n m ≡ false)) → (o : Option (Saves P)) → found saves_name n ss ≡ o → Goal (same_text n m)
+      pick : ((same_text n m ≡ true) ⊎ (same_text n m ≡ false)) → (o : Option (Saves P)) → found saves_name n ss ≡ o → HeldFirst n m w ss (same_text n m)
       pick (inl t) o g =
           let is : n ≡ m = exact_text n m t in
           let none : found saves_name n ss ≡ None = subst (λ z. found saves_name z ss ≡ None) (sym is) e in
-          subst Goal (sym t) (ap waits_or (found_push saves_name n ss new none ∙ ap (λ b. cond b (Some new) None) t) ∙ sym (ap (λ o. waits_or o ++ w ∷ []) none))
+          subst (HeldFirst n m w ss) (sym t) (ap waits_or (found_push saves_name n ss (first_of m w) none ∙ ap (λ b. cond b (Some (first_of m w)) None) t) ∙ sym (ap (λ o. waits_or o ++ w ∷ []) none))
       pick (inr f) None g =
-          subst Goal (sym f) (ap waits_or (found_push saves_name n ss new g ∙ ap (λ b. cond b (Some new) None) f) ∙ sym (ap waits_or g))
+          subst (HeldFirst n m w ss) (sym f) (ap waits_or (found_push saves_name n ss (first_of m w) g ∙ ap (λ b. cond b (Some (first_of m w)) None) f) ∙ sym (ap waits_or g))
       pick (inr f) (Some q) g =
-          subst Goal (sym f) (ap waits_or (found_still saves_name n ss new q g) ∙ sym (ap waits_or g))
+          subst (HeldFirst n m w ss) (sym f) (ap waits_or (found_still saves_name n ss (first_of m w) q g) ∙ sym (ap waits_or g))
 
   -- the waits of one task after one more of another
   pub more_waits : (y z : TaskId) (w : Wait P) (t : TableSeen P) → waits_of y (c.saved z w t) ≡ cond (same_id y z) (waits_of y t ++ w ∷ []) (waits_of y t)

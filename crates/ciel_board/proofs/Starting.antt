@@ -27,8 +27,8 @@ use Rattle.ciel_table.specs.declared.row.Row.{Row}
 use Rattle.ciel_table.specs.declared.wait.Wait.{Wait}
 use Rattle.ciel_want.specs.History.{Agree, task_id}
 use Rattle.ciel_want.specs.Waited.{is_in, needs}
-use Rattle.ciel_board.specs.Board.{Board, Order, Spot, board_graph, brought, first_held, held, held_at, idle_of, place_for, spot_for, spot_in, spot_of, stack_at, start_refs, task_key, tasks_out, wait_number, workers_out}
-use Rattle.ciel_board.specs.Follows.{BroughtFor, FetchedAt, Follows, OneByOne, OrderIs, RowIs, StandsFor, WaitIs, worker_for}
+use Rattle.ciel_board.specs.Board.{Board, OrderOut, Spot, board_graph, brought, first_held, held, held_at, idle_of, place_for, spot_for, spot_in, spot_of, stack_at, start_refs, task_key, tasks_out, wait_number, workers_out}
+use Rattle.ciel_board.specs.Follows.{BroughtFor, FetchedAt, Follows, OneByOne, OrderIs, OutIs, RowIs, StandsFor, WaitIs, worker_for}
 use Rattle.ciel_board.specs.Laws.{StartedAs}
 use Rattle.ciel_board.specs.Moves.{order_for, started}
 use Rattle.ciel_board.specs.Setting.{HasState, IsMade, IsSetting, Setting}
@@ -53,7 +53,7 @@ key_is job show = refl
 key_is job (of d) = refl
 
 module _ {D P B : Type 0} (s : Setting D P B) (is : IsSetting s) where
-  same_workers : (os : List (OpenStart D)) (xs : List (Order P)) → OneByOne (OrderIs s) os xs → workers_out xs ≡ busy s.job os
+  same_workers : (os : List (OpenStart D)) (xs : List OrderOut) → OneByOne (OutIs s) os xs → workers_out xs ≡ busy s.job os
   same_workers [] [] h = refl
   same_workers [] (x ∷ xs) h = absurd h
   same_workers (o ∷ os) [] h = absurd h
@@ -192,10 +192,7 @@ module _ {D P B : Type 0} (s : Setting D P B) (is : IsSetting s) where
       pub order_is : (w : ℕ) → OrderIs s (order_of s.job v b.starts w u (last s.job v u)) (order_for s.at b (task_id s.job u) w)
       order_is w =
           record {
-            number = refl;
-            worker = refl;
-            task = refl;
-            from = from_is;
+            out = record { number = refl; worker = refl; task = refl; from = from_is };
             stack = stack_is (last_save s.job u v.saves) (last_wait (task_id s.job u) b.table) both;
             state = state_there;
             inputs = λ d k. subst (BroughtFor s (order_of s.job v b.starts w u (last s.job v u)) d (s.job.task_of d)) (sym (spot_brought s.at w b.table (s.job.name d) (held b.main b.table (task_id s.job u)) (held_in d k))) (spot_is w d (held_booked u i d k) (s.job.task_of d) refl);
@@ -230,18 +227,23 @@ module _ {D P B : Type 0} (s : Setting D P B) (is : IsSetting s) where
           let step = ready_step s.job is.laws s.inner is.knows v inf b.plan u w (st.going going) room apart (ready u r k) (subst (In w) idle_same j) in
           subst (λ n. Step s.job b.plan v (start n w u (wait_number (last_wait (task_id s.job u) b.table)))) (sym st.starts) (subst (λ n. Step s.job b.plan v (start v.starts w u n)) (sym (number_is (last_save s.job u v.saves) (last_wait (task_id s.job u) b.table) (last_is s is v inf apart made b sound st u i))) step)
 
-      pub start_stands : (u : Task D) → Reached s.job v u → (w : ℕ) → StandsFor s (after s.job v (start b.starts w u (wait_number (last_wait (task_id s.job u) b.table)))) (started s.at b (task_id s.job u) w)
-      start_stands u r w =
+      -- the order that is handed out is that of the new open Start
+      pub start_order : (u : Task D) → Reached s.job v u → (w : ℕ) → OrderIs s (order_of s.job v b.starts w u (wait_number (last_wait (task_id s.job u) b.table))) (order_for s.at b (task_id s.job u) w)
+      start_order u r w =
           let i = reached_booked s is v inf apart made b sound st known u r in
           let own = reached_own s is v inf apart made b sound st known u r in
           let needed = reached_needed s.job is.laws v inf.saves_ok u r in
           let from = number_is (last_save s.job u v.saves) (last_wait (task_id s.job u) b.table) (last_is s is v inf apart made b sound st u i) in
-          let order = subst (λ n. OrderIs s (order_of s.job v b.starts w u n) (order_for s.at b (task_id s.job u) w)) (sym from) (order_is u i own needed w) in
+          subst (λ n. OrderIs s (order_of s.job v b.starts w u n) (order_for s.at b (task_id s.job u) w)) (sym from) (order_is u i own needed w)
+
+      pub start_stands : (u : Task D) → Reached s.job v u → (w : ℕ) → StandsFor s (after s.job v (start b.starts w u (wait_number (last_wait (task_id s.job u) b.table)))) (started s.at b (task_id s.job u) w)
+      start_stands u r w =
+          let order = start_order u r w in
           record {
             main = st.main;
             rows = st.rows;
             waits = st.waits;
-            orders = join (OrderIs s) v.orders b.orders (order_of s.job v b.starts w u (wait_number (last_wait (task_id s.job u) b.table)) ∷ []) (order_for s.at b (task_id s.job u) w ∷ []) st.orders (order, tt);
+            orders = join (OutIs s) v.orders b.orders (order_of s.job v b.starts w u (wait_number (last_wait (task_id s.job u) b.table)) ∷ []) ((order_for s.at b (task_id s.job u) w).out ∷ []) st.orders (order.out, tt);
             gone = st.gone;
             starts = ap (λ n. n + 1) st.starts;
             closes = st.closes;

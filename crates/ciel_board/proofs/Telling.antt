@@ -64,10 +64,10 @@ module _ {D P B : Type 0} (s : Setting D P B) (is : IsSetting s) (h : List (Even
         (t.0, record { report = t.1; allowed = t.2; apart = t.3; book = t.4; lies = lies t.0 t.1 t.2 t.3 })
 
     module _ (going : b.stopped ≡ false) (all : AllLearned s.digest spawned b.table) where
-      saved_event : (q : Stack P) → end ≡ rep.saved q → (ev : Event D) → Told ev (rep.saved q) → AcceptedAs s h b x k spawned (rep.saved q)
+      saved_event : (q : Stack P) → end ≡ rep.saved q → (ev : Event D) → Told ev (rep.saved q) → AcceptedAs s h b x.out k spawned (rep.saved q)
       saved_event q is_end ev t = turn (read_saved s k spawned q ev t.report)
         where
-          turn : IsSaved s k q ev → AcceptedAs s h b x k spawned (rep.saved q)
+          turn : IsSaved s k q ev → AcceptedAs s h b x.out k spawned (rep.saved q)
           turn w =
               let t2 : Told (saved k q.j q.mark w.refs w.holds w.spawned) (rep.saved q) = subst (λ z. Told z (rep.saved q)) w.is t in
               let a = t2.allowed in
@@ -80,10 +80,10 @@ module _ {D P B : Type 0} (s : Setting D P B) (is : IsSetting s) (h : List (Even
                 follows = saved_follows s is h b sound f x o k spawned end taken all q is_end w.refs w.holds w.spawned w.refs_are w.holds_are (subst (λ z. SavedAllowed s.job z q.j q.mark w.refs w.holds w.spawned) same a.2) (subst (λ (u : Standing D). NoClash s.job u.book) now t2.apart) (t2.book ∙ ap (λ (u : Standing D). map s.lower u.book) now) t2.lies fits.here going;
               }
 
-      done_event : (ms : List (Output P)) (cs : List (Copy P)) → end ≡ rep.made ms cs → (ev : Event D) → Told ev (rep.made ms cs) → AcceptedAs s h b x k spawned (rep.made ms cs)
+      done_event : (ms : List (Output P)) (cs : List (Copy P)) → end ≡ rep.made ms cs → (ev : Event D) → Told ev (rep.made ms cs) → AcceptedAs s h b x.out k spawned (rep.made ms cs)
       done_event ms cs is_end ev t = turn (read_done s k spawned ms cs ev t.report)
         where
-          turn : IsDone s k ms cs ev → AcceptedAs s h b x k spawned (rep.made ms cs)
+          turn : IsDone s k ms cs ev → AcceptedAs s h b x.out k spawned (rep.made ms cs)
           turn w =
               let t2 : Told (done k w.made w.copied w.spawned) (rep.made ms cs) = subst (λ z. Told z (rep.made ms cs)) w.is t in
               let a = t2.allowed in
@@ -96,15 +96,15 @@ module _ {D P B : Type 0} (s : Setting D P B) (is : IsSetting s) (h : List (Even
                 follows = done_follows s is h b sound f x o k spawned end taken all ms cs w.made w.copied w.spawned w.made_are w.copied_are (subst (λ z. DoneAllowed s.job z w.made w.copied w.spawned) same a.2) (subst (λ (u : Standing D). NoClash s.job u.book) now t2.apart) (t2.book ∙ ap (λ (u : Standing D). map s.lower u.book) now) t2.lies.0 t2.lies.1 fits.0 fits.1 going;
               }
 
-      pub report_follows : (r.IsMissing (report_view k spawned end).end → ⊥) → LiesUnlessClash s h b.plan o k spawned end → AcceptedAs s h b x k spawned end
+      pub report_follows : (r.IsMissing (report_view k spawned end).end → ⊥) → LiesUnlessClash s h b.plan o k spawned end → AcceptedAs s h b x.out k spawned end
       report_follows none lies = pick end refl none (told none all lies)
         where
-          pick : (e : End P) → end ≡ e → (r.IsMissing (report_view k spawned e).end → ⊥) → ((ev : Event D) × Told ev end) → AcceptedAs s h b x k spawned end
+          pick : (e : End P) → end ≡ e → (r.IsMissing (report_view k spawned e).end → ⊥) → ((ev : Event D) × Told ev end) → AcceptedAs s h b x.out k spawned end
           pick (rep.missing name loss) g n t = absurd (n tt)
           pick (rep.saved q) g n t =
-              subst (λ z. AcceptedAs s h b x k spawned z) (sym g) (saved_event q g t.0 (subst (Told t.0) g t.1))
+              subst (λ z. AcceptedAs s h b x.out k spawned z) (sym g) (saved_event q g t.0 (subst (Told t.0) g t.1))
           pick (rep.made ms cs) g n t =
-              subst (λ z. AcceptedAs s h b x k spawned z) (sym g) (done_event ms cs g t.0 (subst (Told t.0) g t.1))
+              subst (λ z. AcceptedAs s h b x.out k spawned z) (sym g) (done_event ms cs g t.0 (subst (Told t.0) g t.1))
 
     -- ---- what is refused
 

@@ -24,13 +24,16 @@ pub record Brought (P : Type 0) : Type 0 where
   pub name : Digest
   pub spot : Spot P
 
--- An order that is out: its number, the worker and the task, the wait from which the task goes on, the place of the stack of
--- that wait, and what the order brings along
-pub record Order (P : Type 0) : Type 0 where
+-- An order that is out: its number, the worker and the task, and the wait from which the task goes on
+pub record OrderOut : Type 0 where
   pub number : ℕ
   pub worker : ℕ
   pub task : TaskId
   pub from : ℕ
+
+-- what a worker is given of it: besides, the place of the stack of that wait, and what the order brings along
+pub record Order (P : Type 0) : Type 0 where
+  pub out : OrderOut
   pub stack : Option P
   pub inputs : List (Brought P)
 
@@ -40,7 +43,7 @@ pub record Board (P : Type 0) : Type 0 where
   pub plan : Plan
   pub main : Digest
   pub table : TableSeen P
-  pub orders : List (Order P)
+  pub orders : List OrderOut
   pub starts : ℕ
   pub closes : ℕ
   pub journal : List Entry
@@ -57,22 +60,22 @@ start_refs (Desc1.Call f c vs) = names_of (distinct same_text (pairs_refs c ++ v
 start_refs (Desc1.Exec x v n i) = first_refs (Desc1.Exec x v n i)
 start_refs (Desc1.Input k) = []
 
+-- ---- orders that are out
+
+-- the one of this number
+abbrev pub find_order : ℕ → List OrderOut → Option OrderOut
+find_order k [] = None
+find_order k (x ∷ xs) = cond (nat_eq k x.number) (Some x) (find_order k xs)
+
+abbrev pub tasks_out : List OrderOut → List TaskId
+tasks_out [] = []
+tasks_out (x ∷ xs) = x.task ∷ tasks_out xs
+
+abbrev pub workers_out : List OrderOut → List ℕ
+workers_out [] = []
+workers_out (x ∷ xs) = x.worker ∷ workers_out xs
+
 module _ {P : Type 0} where
-  -- ---- orders
-
-  -- the order of this number
-  abbrev pub find_order : ℕ → List (Order P) → Option (Order P)
-  find_order k [] = None
-  find_order k (x ∷ xs) = cond (nat_eq k x.number) (Some x) (find_order k xs)
-
-  abbrev pub tasks_out : List (Order P) → List TaskId
-  tasks_out [] = []
-  tasks_out (x ∷ xs) = x.task ∷ tasks_out xs
-
-  abbrev pub workers_out : List (Order P) → List ℕ
-  workers_out [] = []
-  workers_out (x ∷ xs) = x.worker ∷ workers_out xs
-
   -- of the plan's workers those that are neither lost nor have an order, rising
   abbrev pub idle_of : Board P → List ℕ
   idle_of b = idle_workers b.plan.workers b.table.gone (workers_out b.orders)

@@ -12,7 +12,7 @@ use Rattle.ciel_table.specs.Seen.{waits_of}
 use Rattle.ciel_table.specs.declared.row.Row.{Row}
 use Rattle.ciel_table.specs.declared.wait.Wait.{Wait}
 use Rattle.ciel_want.specs.History.{task_id}
-use Rattle.ciel_board.specs.Board.{Board, Order, Spot, brought_names, shelf, spot_of}
+use Rattle.ciel_board.specs.Board.{Board, Order, OrderOut, Spot, brought_names, shelf, spot_of}
 use Rattle.ciel_board.specs.Setting.{HasObject, HasState, Setting, Spells}
 
 -- the lists go together, one by one
@@ -56,12 +56,16 @@ module _ {D P B : Type 0} (s : Setting D P B) where
   BroughtFor o d None found = (k : List ℕ) × (s.lower d ≡ input k) × (found ≡ Some (Spot.input k))
   BroughtFor o d (Some u) found = FetchedAt d (worker_for s.job o.worker (o.had d)) found
 
-  -- an order of an open Start
-  pub record OrderIs (o : OpenStart D) (x : Order P) : Type 0 where
+  -- an order that is out, of an open Start
+  pub record OutIs (o : OpenStart D) (x : OrderOut) : Type 0 where
     pub number : x.number ≡ o.number
     pub worker : x.worker ≡ o.worker
     pub task : x.task ≡ task_id s.job o.task
     pub from : x.from ≡ o.from
+
+  -- what a worker is given of it: the stack of its wait, and what its task holds there and was live
+  pub record OrderIs (o : OpenStart D) (x : Order P) : Type 0 where
+    pub out : OutIs o x.out
     pub stack : option_map s.at x.stack ≡ o.stack
     pub state : (p : P) → x.stack ≡ Some p → HasState s p o.task o.from
     pub inputs : (d : D) → HeldAt s.job o.task o.from d → BroughtFor o d (s.job.task_of d) (spot_of (s.job.name d) x.inputs)
@@ -73,7 +77,7 @@ module _ {D P B : Type 0} (s : Setting D P B) where
     pub main : b.main ≡ s.job.name s.job.main
     pub rows : OneByOne (RowIs v.places) v.book b.table.rows
     pub waits : (u : Task D) → In (own_name s.job u) v.book → OneByOne WaitIs (saves_of s.job u v.saves) (waits_of (task_id s.job u) b.table)
-    pub orders : OneByOne OrderIs v.orders b.orders
+    pub orders : OneByOne OutIs v.orders b.orders
     pub gone : b.table.gone ≡ v.gone
     pub starts : b.starts ≡ v.starts
     pub closes : b.closes ≡ v.closes

@@ -5,3 +5,4 @@ pub mod Sound
 pub mod Setting
 pub mod Follows
 pub mod Laws
+pub mod Driving

@@ -15,7 +15,7 @@ use Rattle.ciel_table.specs.declared.row.Row.{Row}
 use Rattle.ciel_table.specs.declared.wait.Wait.{Wait}
 use Rattle.ciel_table.specs.declared.wait.Saves.{Saves}
 use Rattle.ciel_want.specs.Waited.{AllKnown}
-use Rattle.ciel_board.specs.Board.{Board, Order, Spot, shelf, spot_of, start_refs}
+use Rattle.ciel_board.specs.Board.{Board, Order, OrderOut, Spot, shelf, spot_of, start_refs}
 use Rattle.ciel_board.specs.Reports.{Copy, End, IsNamed, Output, Stack, copy_names, learned_all, made, missing, saved}
 
 module _ {P : Type 0} (digest : List ℕ → List ℕ) where
@@ -39,11 +39,17 @@ module _ {P : Type 0} where
     pub task : Known t s.name
     pub waits : AllByRecursion (WaitSound t) s.waits
 
+  -- the root task, or one whose name has a row
+  abbrev pub IsTask : TableSeen P → TaskId → Type 0
+  IsTask t TaskId.Show = Unit {0}
+  IsTask t (TaskId.Of n) = Known t n
+
   -- its number was given, its worker is one of the plan's and isn't lost, and its task has no later saved wait
-  pub record OrderSound (b : Board P) (x : Order P) : Type 0 where
+  pub record OrderSound (b : Board P) (x : OrderOut) : Type 0 where
     pub number : x.number < b.starts
     pub worker : x.worker < b.plan.workers
     pub here : Here b.table.gone x.worker
+    pub task : IsTask b.table x.task
     pub last : AllByRecursion (λ (w : Wait P). w.j ≤ x.from) (waits_of x.task b.table)
 
 module _ {P : Type 0} (digest : List ℕ → List ℕ) (at : P → ℕ) where
@@ -56,29 +62,29 @@ module _ {P : Type 0} (digest : List ℕ → List ℕ) (at : P → ℕ) where
     pub saved : AllByRecursion (SavesSound b.table) b.table.saved
     pub orders : Each (OrderSound b) b.orders
     -- a number, a task and a worker have one order
-    pub numbers : (x y : Order P) → In x b.orders → In y b.orders → x.number ≡ y.number → x ≡ y
-    pub tasks : (x y : Order P) → In x b.orders → In y b.orders → x.task ≡ y.task → x ≡ y
-    pub workers : (x y : Order P) → In x b.orders → In y b.orders → x.worker ≡ y.worker → x ≡ y
+    pub numbers : (x y : OrderOut) → In x b.orders → In y b.orders → x.number ≡ y.number → x ≡ y
+    pub tasks : (x y : OrderOut) → In x b.orders → In y b.orders → x.task ≡ y.task → x ≡ y
+    pub workers : (x y : OrderOut) → In x b.orders → In y b.orders → x.worker ≡ y.worker → x ≡ y
 
   -- ---- when a report fits
 
   -- its name has a row, and its place is at the order's worker
   pub record OutputFits (t : TableSeen P) (x : Order P) (m : Output P) : Type 0 where
     pub known : Known t m.name
-    pub here : at m.place ≡ x.worker
+    pub here : at m.place ≡ x.out.worker
 
   -- besides, the order gives it a place at another worker
   pub record CopyFits (t : TableSeen P) (x : Order P) (c : Copy P) : Type 0 where
     pub known : Known t c.name
-    pub here : at c.place ≡ x.worker
+    pub here : at c.place ≡ x.out.worker
     pub from : P
     pub given : spot_of c.name x.inputs ≡ Some (shelf from)
-    pub other : at from ≡ x.worker → ⊥
+    pub other : at from ≡ x.out.worker → ⊥
 
   -- the stack is at the order's worker, at a later wait, and its names have rows
   pub record StackFits (t : TableSeen P) (x : Order P) (s : Stack P) : Type 0 where
-    pub later : x.from < s.j
-    pub here : at s.place ≡ x.worker
+    pub later : x.out.from < s.j
+    pub here : at s.place ≡ x.out.worker
     pub refs : AllKnown t s.refs
     pub holds : AllKnown t s.holds
 
@@ -91,7 +97,7 @@ module _ {P : Type 0} (digest : List ℕ → List ℕ) (at : P → ℕ) where
   -- and that is lost
   pub record MissingFits (b : Board P) (x : Order P) (name : Digest) (loss : ℕ) : Type 0 where
     pub place : P
-    pub given : (spot_of name x.inputs ≡ Some (shelf place)) ⊎ ((x.stack ≡ Some place) × (name ≡ own_name b.main x.task))
+    pub given : (spot_of name x.inputs ≡ Some (shelf place)) ⊎ ((x.stack ≡ Some place) × (name ≡ own_name b.main x.out.task))
     pub planned : (count : ℕ) × (slice_get b.plan.losses loss ≡ Some (count, at place))
     pub lost : list_any (nat_eq (at place)) b.table.gone ≡ true
 
@@ -103,8 +109,8 @@ module _ {P : Type 0} (digest : List ℕ → List ℕ) (at : P → ℕ) where
 
   -- it is learned whole, each that is spawned has its name, all that stands inside it has a row then, and so has its task; and
   -- the end fits
-  pub record Fits (b : Board P) (x : Order P) (spawned : List Named) (end : End P) : Type 0 where
+  pub record Fits (b : Board P) (x : Order P) (spawned : List Named) (how : End P) : Type 0 where
     pub named : Each (IsNamed digest) spawned
     pub inside : Each (λ (n : Named). AllKnown (learned_all digest spawned b.table) (start_refs n.desc)) spawned
     pub tasks : Each (λ (n : Named). Known (learned_all digest spawned b.table) (digested digest (first_output (desc_view n.desc)))) spawned
-    pub end : EndFits b x (learned_all digest spawned b.table) end
+    pub end : EndFits b x (learned_all digest spawned b.table) how

@@ -6,7 +6,18 @@
 //! histories are the laws here. They are contracts of functions that do nothing.
 #![tactic(auto)]
 
-ghost use Rattle.ciel_board.specs.Laws.{ClashFollows, LostFollows, OpenedFollows, OverflowFollows, ReportFollows, StartFollows, TableHolds};
+ghost use Rattle.ciel_board.specs.Laws.{CircleFollows, ClashFollows, LossIsSound, LostFollows, MissedFollows, OpenedFollows, OpenedIsSound, OverflowFollows, ReportFollows, ReportIsSound, RunnableIsReady, SoundIsWhole, StartFollows, StartIsSound, TableHolds};
+ghost use Rattle.ciel_board.specs.Driving.{LossRuns, MissedRuns, ReportRuns, StartRuns};
+
+/// What holds of the master's state by names holds at the beginning, and stays after a start, after a report that fits its order
+/// and is learned whole, whatever it says, and after a loss. So its table may always be searched.
+pub fn soundness_stays<P>()
+    ensures opened { OpenedIsSound P }
+    ensures whole { SoundIsWhole P }
+    ensures started { StartIsSound P }
+    ensures accepted { ReportIsSound P }
+    ensures lost { LossIsSound P }
+{}
 
 /// The state at the beginning follows the empty history. A task that can run, started at an idle worker, is one that the history
 /// may start, and the state follows it.
@@ -24,4 +35,25 @@ pub fn reports_follow<D, P, B>()
     ensures clash { ClashFollows D P B }
     ensures overflow { OverflowFollows D P B }
     ensures lost { LostFollows D P B }
+{}
+
+/// A report that something is missing, which fits its order, is that of an event, and the state follows it.
+pub fn missing_follows<D, P, B>()
+    ensures missed { MissedFollows D P B }
+{}
+
+/// The tasks that can run are the ready ones of the history, in their order. Where nothing is out, a circle of the table is one
+/// of the journal, and means that the job has no answer.
+pub fn searches_follow<D, P, B>()
+    ensures runnable { RunnableIsReady D P B }
+    ensures circle { CircleFollows D P B }
+{}
+
+/// Where the events of the history came in their turns, the next one does too: the start that two draws choose where no loss is
+/// due, a report where nothing can be started, and the first loss that is due.
+pub fn turns_are_kept<D, P, B>()
+    ensures start { StartRuns D P B }
+    ensures report { ReportRuns D P B }
+    ensures missed { MissedRuns D P B }
+    ensures loss { LossRuns D P B }
 {}
