@@ -27,7 +27,16 @@ module _ {P : Type 0} where
   -- the beginning: the main call is known
   abbrev pub opened : (List ℕ → List ℕ) → Plan → Named → Board P
   opened digest plan main =
-      record { plan = plan; main = main.name; table = l.learned digest main (empty plan.limit); orders = []; starts = 0; closes = 0; journal = []; stopped = false }
+      record {
+        plan = plan;
+        main = main.name;
+        table = l.learned digest main (empty plan.limit);
+        orders = [];
+        starts = 0;
+        closes = 0;
+        journal = [];
+        stopped = false;
+      }
 
   -- ---- a start
 
@@ -71,9 +80,8 @@ module _ {P : Type 0} where
     -- ends the run
     abbrev pub done_at : Board P → OrderOut → List Named → List (Output P) → List (Copy P) → Board P
     done_at b x spawned ms cs =
-        record (closed b x (with_copies cs (with_outputs ms (learned_all digest spawned b.table))) (Entry.Done x.number (made_keys ms) (copy_names cs))) {
-          stopped = is_root x.task;
-        }
+        let t = with_copies cs (with_outputs ms (learned_all digest spawned b.table)) in
+        record (closed b x t (Entry.Done x.number (made_keys ms) (copy_names cs))) { stopped = is_root x.task }
 
     -- it waits, and its stack is saved
     abbrev pub saved_at : Board P → OrderOut → List Named → Stack P → Board P

@@ -40,16 +40,45 @@ module _ {D P B : Type 0} (s : Setting D P B) where
     pub there : (d : D) → In d ds → In (s.job.name d) ns
     pub only : (n : Digest) → In n ns → (d : D) × In d ds × (n ≡ s.job.name d)
 
-  -- What a description by names tells: whether it is an input's and by which key, the name of its task, and, where no two names
-  -- inside clash, what its task waits for and holds at first. Each needed task stands somehow at its start, the root task with
-  -- the main call
+  -- ---- what a description by names tells
+
+  -- an input's says that it is one
+  abbrev pub TellsInput : Type 0
+  TellsInput = (x : Desc1) (d : D) → Spells x d → IsMade d → s.job.task_of d ≡ None → is_input x ≡ true
+
+  -- what a task makes says that it is none, and by which description its task goes
+  abbrev pub TellsTask : Type 0
+  TellsTask =
+      (x : Desc1) (d e : D) → Spells x d → s.job.task_of d ≡ Some (of e)
+      → (is_input x ≡ false) × (first_output (s.lower d) ≡ s.lower e)
+
+  -- where no two names inside clash, what its task waits for at first
+  abbrev pub TellsFirst : Type 0
+  TellsFirst =
+      (x : Desc1) (d : D) → Spells x d → s.job.task_of d ≡ Some (of d) → NoClash s.job (s.inner.inside d)
+      → first_refs x ≡ map s.job.name (s.job.first (of d))
+
+  -- and what a needed task holds at its start
+  abbrev pub TellsHeld : Type 0
+  TellsHeld =
+      (x : Desc1) (d : D) (n : ℕ) (a : Held D) → Spells x d → Needed s.job (of d) → s.job.at n (of d) 0 ≡ Some a
+      → NoClash s.job (s.inner.inside d) → AreNames (start_refs x) a.names
+
+  -- the root task holds the main call at its start
+  abbrev pub RootHoldsMain : Type 0
+  RootHoldsMain = (n : ℕ) (a : Held D) → s.job.at n show 0 ≡ Some a → AreNames (s.job.name s.job.main ∷ []) a.names
+
+  -- each needed task stands somehow at its start
+  abbrev pub AllStart : Type 0
+  AllStart = (t : Task D) → Needed s.job t → (n : ℕ) × (a : Held D) × (s.job.at n t 0 ≡ Some a)
+
   pub record TellsByNames : Type 0 where
-    pub input : (x : Desc1) (d : D) → Spells x d → IsMade d → s.job.task_of d ≡ None → is_input x ≡ true
-    pub made : (x : Desc1) (d e : D) → Spells x d → s.job.task_of d ≡ Some (of e) → (is_input x ≡ false) × (first_output (s.lower d) ≡ s.lower e)
-    pub first : (x : Desc1) (d : D) → Spells x d → s.job.task_of d ≡ Some (of d) → NoClash s.job (s.inner.inside d) → first_refs x ≡ map s.job.name (s.job.first (of d))
-    pub held : (x : Desc1) (d : D) (n : ℕ) (a : Held D) → Spells x d → Needed s.job (of d) → s.job.at n (of d) 0 ≡ Some a → NoClash s.job (s.inner.inside d) → AreNames (start_refs x) a.names
-    pub root : (n : ℕ) (a : Held D) → s.job.at n show 0 ≡ Some a → AreNames (s.job.name s.job.main ∷ []) a.names
-    pub starts : (t : Task D) → Needed s.job t → (n : ℕ) × (a : Held D) × (s.job.at n t 0 ≡ Some a)
+    pub input : TellsInput
+    pub made : TellsTask
+    pub first : TellsFirst
+    pub held : TellsHeld
+    pub root : RootHoldsMain
+    pub starts : AllStart
 
   -- what is asked of a setting: it has the laws of a job, all comes from somewhere, and names tell
   pub record IsSetting : Type 0 where

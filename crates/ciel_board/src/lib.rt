@@ -6,7 +6,10 @@
 //! histories are the laws here. They are contracts of functions that do nothing.
 #![tactic(auto)]
 
-ghost use Rattle.ciel_board.specs.Laws.{CircleFollows, ClashFollows, LossIsSound, LostFollows, MissedFollows, OpenedFollows, OpenedIsSound, OverflowFollows, ReportFollows, ReportIsSound, RunnableIsReady, SoundIsWhole, StartFollows, StartIsSound, TableHolds};
+ghost use Rattle.ciel_board.specs.Laws.{LossIsSound, OpenedIsSound, ReportIsSound, SoundIsWhole, StartIsSound};
+ghost use Rattle.ciel_board.specs.Laws.{OpenedFollows, StartFollows, TableHolds};
+ghost use Rattle.ciel_board.specs.Laws.{ClashFollows, LostFollows, OverflowFollows, ReportFollows};
+ghost use Rattle.ciel_board.specs.Laws.{CircleFollows, MissedFollows, RunnableIsReady};
 ghost use Rattle.ciel_board.specs.Driving.{LossRuns, MissedRuns, ReportRuns, StartRuns};
 
 /// What holds of the master's state by names holds at the beginning, and stays after a start, after a report that fits its order
