@@ -1,2 +1,4 @@
 pub mod Waiting
 pub mod Onward
+pub mod Starts
+pub mod Rests

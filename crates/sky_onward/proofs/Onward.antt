@@ -28,13 +28,13 @@ steps_fit source keys script is few t n k step at =
     lt
 
 module _ (digest : List ℕ → List ℕ) (sc : Script) where
-  sound_world : SoundWorld (over_names digest sc)
+  pub sound_world : SoundWorld (over_names digest sc)
   sound_world = record { reads = λ b v e. reads_sound (λ n. Unit {0}) sc b v e; make = λ d h. tt }
 
   null_sound : Sound {N = List ℕ} sc null
   null_sound = (record { deep = omega arith; large = omega arith }, tt)
 
-  sound_at : (e : End (List ℕ)) → SoundEnd sc e → SoundObject sc (object_at e)
+  pub sound_at : (e : End (List ℕ)) → SoundEnd sc e → SoundObject sc (object_at e)
   sound_at End.goes h = null_sound
   sound_at (End.got v) h = h
   sound_at (End.returned v) h = h

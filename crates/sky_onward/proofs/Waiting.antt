@@ -116,7 +116,7 @@ ran_not None h = h
 ran_not (Some (m, Stms.no_stms)) h = h
 ran_not (Some (m, Stms.stm a more)) h = h
 
-stm_not : (a : Stm) (n k : ℕ) → IsWaiting (stm_row a n k) → ⊥
+pub stm_not : (a : Stm) (n k : ℕ) → IsWaiting (stm_row a n k) → ⊥
 stm_not (Stm.set x p e) n zero h = h
 stm_not (Stm.set x p e) n (suc zero) h = h
 stm_not (Stm.set x p e) n (suc (suc i)) h = h
@@ -149,7 +149,7 @@ stm_not (Stm.just p e) n zero h = h
 stm_not (Stm.just p e) n (suc zero) h = h
 stm_not (Stm.just p e) n (suc (suc i)) h = h
 
-block_not : (b : Stms) (n k : ℕ) → IsWaiting (block_row b n k) → ⊥
+pub block_not : (b : Stms) (n k : ℕ) → IsWaiting (block_row b n k) → ⊥
 block_not b n zero h = h
 block_not b n (suc i) h = ran_not (on_by past_stm i (n + 1, b)) h
 

@@ -1,1 +1,4 @@
 pub mod Laws
+pub mod Rest
+pub mod Onward
+pub mod Steps

@@ -1,6 +1,7 @@
 //! Laws of calls that go on. Each is the contract of a function that does nothing.
 
 ghost use Rattle.sky_onward.specs.Laws.{CallsMakeSound, CallsStaySound, StacksAreLeft, StepsOfScriptsFit};
+ghost use Rattle.sky_onward.specs.Rest.{StacksHaveARest};
 
 /// The steps of a script that bytes are, fewer than 2,147,483,648 of them, fit 32 bits.
 pub fn steps_of_scripts_fit()
@@ -18,4 +19,9 @@ pub fn stacks_are_left_at_waits()
 pub fn calls_stay_sound()
     ensures stays { CallsStaySound }
     ensures makes { CallsMakeSound }
+{}
+
+/// Each stack that fits a script has a rest: it is the start of a call, whose whole run comes, or that of a call at a wait.
+pub fn stacks_have_a_rest()
+    ensures rest { StacksHaveARest }
 {}

@@ -1,5 +1,7 @@
-//! What a call that goes on asks for, and what it leaves: the steps of a script fit, and the next state fits the script. The laws are
-//! contracts of `law`.
+//! A task goes on from its state, and what that asks for and leaves: the steps of a script fit, and the next state fits the script. The
+//! laws are contracts of `law`.
 #![tactic(auto)]
 
+pub mod call;
 pub mod law;
+pub mod step;

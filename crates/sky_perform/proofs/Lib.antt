@@ -2,3 +2,4 @@ pub mod Slotting
 pub mod Takes
 pub mod Tells
 pub mod Withs
+pub mod Lowered

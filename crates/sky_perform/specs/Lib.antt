@@ -1,3 +1,4 @@
 pub mod Outputs
 pub mod Perform
 pub mod Puts
+pub mod Laws

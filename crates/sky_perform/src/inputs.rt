@@ -7,7 +7,6 @@ ghost use Rattle.sky_base.specs.View.{view, vals_of, pairs_of};
 ghost use Rattle.sky_base.specs.ObjectView.{object_view};
 ghost use Rattle.ciel_json.specs.Text.{text_of as writes};
 ghost use Rattle.sky_rows.specs.Known.{KeptObject};
-ghost use Rattle.sky_rows.specs.Walk.{known_of};
 ghost use Rattle.sky_perform.specs.Perform.{all_bytes, bytes_of, listed, one_more};
 ghost use Rattle.sky_perform.specs.Puts.{PutsSo, behind};
 
@@ -15,7 +14,7 @@ use sky_base::fault::{Fault, FaultKind};
 use sky_base::object::Object;
 use sky_base::text::{Bytes, Memory};
 use sky_base::value::{Pair, Value};
-use sky_rows::objects::Objects;
+use sky_waves::known::Known;
 use sky_waves::wave::{json_line, no_place};
 use std::alloc::Global;
 
@@ -33,12 +32,12 @@ fn as_bytes(alloc: Global, object: &Object) -> Result<Result<Bytes, Fault>, Memo
 
 /// The inputs of a task with these arguments, or the first fault among them, in order. An object that isn't
 /// known is NotText.
-pub fn inputs(
+pub fn inputs<K: Known>(
     alloc: Global,
     args: &Value,
-    objects: &Objects,
+    objects: &K,
 ) -> Result<Result<Vec<Bytes>, Fault>, Memory>
-    ensures { IfOk result (λ r. listed r ≡ all_bytes writes (known_of objects.now) (refs (view args.now))) }
+    ensures { IfOk result (λ r. listed r ≡ all_bytes writes (K.knows objects.now) (refs (view args.now))) }
 {
     let mut inputs = Vec::new(alloc);
     match put_all(alloc, args, objects, &mut inputs)? {
@@ -49,20 +48,20 @@ pub fn inputs(
 
 // Puts the inputs that a value refers to at the end, up to the first fault.
 #[cycle(put_all)]
-fn put_all(
+fn put_all<K: Known>(
     alloc: Global,
     value: &Value,
-    objects: &Objects,
+    objects: &K,
     inputs: &mut Vec<Bytes>,
 ) -> Result<Option<Fault>, Memory>
-    ensures { IfOk result (λ o. PutsSo o inputs.new.items (behind inputs.old.items (all_bytes writes (known_of objects.now) (refs (view value.now))))) }
+    ensures { IfOk result (λ o. PutsSo o inputs.new.items (behind inputs.old.items (all_bytes writes (K.knows objects.now) (refs (view value.now))))) }
 {
     match value {
         Value::List(values) => put_values(alloc, values.as_slice(), objects, inputs),
         Value::Dict(pairs) => put_pairs(alloc, pairs.as_slice(), objects, inputs),
         Value::Fun { caught, .. } => put_pairs(alloc, caught.as_slice(), objects, inputs),
         Value::Ref(name) => {
-            let Some(object) = objects.known(name) else {
+            let Some(object) = objects.object(name) else {
                 return Ok(Some(no_place(FaultKind::NotText)))
             };
             put_one(alloc, object, inputs)
@@ -89,13 +88,13 @@ fn put_one(alloc: Global, object: &Object, inputs: &mut Vec<Bytes>) -> Result<Op
 
 #[cycle(put_all)]
 #[tactic(auto, using(sky_base::proofs::Values::inside, crate::proofs::Takes::inputs))]
-fn put_values(
+fn put_values<K: Known>(
     alloc: Global,
     values: &[Value],
-    objects: &Objects,
+    objects: &K,
     inputs: &mut Vec<Bytes>,
 ) -> Result<Option<Fault>, Memory>
-    ensures { IfOk result (λ o. PutsSo o inputs.new.items (behind inputs.old.items (all_bytes writes (known_of objects.now) (vals_refs (vals_of values.now))))) }
+    ensures { IfOk result (λ o. PutsSo o inputs.new.items (behind inputs.old.items (all_bytes writes (K.knows objects.now) (vals_refs (vals_of values.now))))) }
 {
     for value in values {
         if let Some(fault) = put_all(alloc, value, objects, inputs)? {
@@ -107,13 +106,13 @@ fn put_values(
 
 #[cycle(put_all)]
 #[tactic(auto, using(sky_base::proofs::Values::inside, crate::proofs::Takes::inputs))]
-fn put_pairs(
+fn put_pairs<K: Known>(
     alloc: Global,
     pairs: &[Pair],
-    objects: &Objects,
+    objects: &K,
     inputs: &mut Vec<Bytes>,
 ) -> Result<Option<Fault>, Memory>
-    ensures { IfOk result (λ o. PutsSo o inputs.new.items (behind inputs.old.items (all_bytes writes (known_of objects.now) (pairs_refs (pairs_of pairs.now))))) }
+    ensures { IfOk result (λ o. PutsSo o inputs.new.items (behind inputs.old.items (all_bytes writes (K.knows objects.now) (pairs_refs (pairs_of pairs.now))))) }
 {
     for pair in pairs {
         if let Some(fault) = put_all(alloc, &pair.value, objects, inputs)? {

@@ -3,6 +3,7 @@
 #![tactic(auto)]
 
 pub mod inputs;
+pub mod law;
 pub mod outputs;
 pub mod slots;
 pub mod task;

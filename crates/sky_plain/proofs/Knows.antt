@@ -15,7 +15,8 @@ use Rattle.sky_law.proofs.SeenLaw.{see_kept}
 use Rattle.sky_rows.specs.Walk.{Row, Stop, stops, walk, known_of, object_at, Numbers, most_rows}
 use Rattle.sky_rows.specs.Number.{index_of, tag_of, numbered, Grown}
 use Rattle.sky_rows.proofs.Learn.{most_is}
-use Rattle.sky_plain.specs.Stand.{spell, Puts, Sees, KnownAt, Knows}
+use Rattle.sky_plain.specs.Stand.{spell, Puts, KnownAt, Knows}
+use Rattle.sky_waves.specs.Seen.{Sees}
 use Rattle.sky_body.specs.Stops.{end_object, Runs, EndsAs}
 use Rattle.sky_perform.proofs.Withs.{nat_same}
 use Rattle.sky_plain.proofs.Full.{FullAt, walk_full}

@@ -5,7 +5,6 @@ pub mod Fits
 pub mod Holds
 pub mod Chains
 pub mod Many
-pub mod Waves
 pub mod Stages
 pub mod Performs
 pub mod Steps

@@ -1,117 +1,30 @@
 -- What an executor task comes to over numbers is what is seen of its outputs.
-use Rattle.std.proofs.Common.{◌≡◌, ◌<◌, ℕ, zero, suc, ◌+◌, List, [], ◌∷◌, length, map, Option, Some, Result, Ok, Err, slice_get, ◌⊎◌, inl, inr, refl, sym, ap, ap₂, subst, ◌∙◌}
+use Rattle.std.proofs.Common.{◌≡◌, ◌<◌, ℕ, suc, List, [], ◌∷◌, length, Option, Some, slice_get, ◌⊎◌, inl, inr, refl, sym, ap, subst, ◌∙◌}
 use Rattle.std.proofs.lemmas.List.{append-nil}
 use Rattle.sky_base.specs.Val as v
-use Rattle.sky_base.specs.Val.{null, truth, num, text, list, dict, fun, ref, no_vals, val, no_pairs, pair, call, out, input, known, refs}
-use Rattle.sky_base.specs.Name.{low, low_vals, low_pairs, low_desc}
+use Rattle.sky_base.specs.Val.{call, out, input, known, refs}
+use Rattle.sky_base.specs.Name.{low, low_desc}
 use Rattle.sky_base.specs.Res.{Object}
 use Rattle.sky_base.specs.Op.{Answer}
-use Rattle.sky_law.specs.Lower.{lower, low_ref, low_obj}
+use Rattle.sky_law.specs.Lower.{lower, low_ref}
 use Rattle.sky_base.specs.See as m
-use Rattle.sky_base.specs.See.{Val, Vals, Desc, Obj, Job, Around, Gathered, gather, gather_on, gather_one, as_bytes, written, executed_on, replaced, vals_replaced, pairs_replaced, input_bytes, see}
+use Rattle.sky_base.specs.See.{Val, Desc, Job, Around, input_bytes, see}
 use Rattle.sky_base.specs.Needed.{Task, task_of, distinct_refs}
 use Rattle.sky_law.specs.Tasks.{In}
 use Rattle.sky_law.proofs.RefsLow.{refs_low}
 use Rattle.sky_law.proofs.TaskOutputs.{in_distinct_refs}
-use Rattle.sky_base.specs.declared.fault.FaultKind.{FaultKind}
-use Rattle.sky_base.specs.declared.fault.Fault.{Fault}
 use Rattle.sky_rows.specs.Walk.{Row, known_of, number_of, object_at}
 use Rattle.sky_rows.specs.Number.{tag_of, Grown}
-use Rattle.sky_plain.specs.Stand.{spell, Sees, Knows, Puts, Opened, Opens}
+use Rattle.sky_plain.specs.Stand.{spell, Knows, Puts, Opened, Opens}
+use Rattle.sky_waves.specs.Seen.{Sees, SeenAsKnown}
+use Rattle.sky_perform.proofs.Lowered.{sees_out}
 use Rattle.sky_plain.specs.Stage.{AllKnown}
-use Rattle.sky_perform.specs.Perform.{bytes_of, bytes_seen, one_more, all_bytes, in_slot, output_at, output_of, without_place, made_of, made}
+use Rattle.sky_perform.specs.Perform.{output_of, made}
 use Rattle.sky_perform.specs.Outputs.{OnlyOutputs}
 use Rattle.sky_plain.proofs.Knows.{SeenNext, SeenAt, learns, learns_one}
 use Rattle.sky_plain.proofs.Chains.{held_ref, opened_at}
 use Rattle.sky_rows.proofs.Numbers.{got_more}
 use Rattle.sky_plain.proofs.Stages.{in_map, map_in}
-
-length-map : {A B : Type 0} (f : A → B) (xs : List A) → length (map f xs) ≡ length xs
-length-map f [] = refl
-length-map f (x ∷ xs) = ap suc (length-map f xs)
-
--- ---- slots take no notice of what they replace
-
-module _ (tag : Row → List ℕ) where
-  same_refs : (a : Val) → length (refs (low spell tag a)) ≡ length (refs a)
-  same_refs a = ap length (refs_low spell tag a) ∙ length-map (low_ref spell tag) (refs a)
-
-  mutual
-    slots_low : (i : ℕ) (a : Val) → replaced in_slot i (low spell tag a) ≡ replaced in_slot i a
-    slots_low i null = refl
-    slots_low i (truth b) = refl
-    slots_low i (num z) = refl
-    slots_low i (text t) = refl
-    slots_low i (list vs) = ap list (vals_slots_low i vs)
-    slots_low i (dict ps) = ap dict (pairs_slots_low i ps)
-    slots_low i (fun f c) = ap (fun f) (pairs_slots_low i c)
-    slots_low i (ref d) = refl
-
-    vals_slots_low : (i : ℕ) (vs : Vals) → vals_replaced in_slot i (low_vals spell tag vs) ≡ vals_replaced in_slot i vs
-    vals_slots_low i no_vals = refl
-    vals_slots_low i (val a vs) =
-        ap₂ val (slots_low i a) (ap (λ n. vals_replaced in_slot (i + n) (low_vals spell tag vs)) (same_refs a) ∙ vals_slots_low (i + length (refs a)) vs)
-
-    pairs_slots_low : (i : ℕ) (ps : v.Pairs ⊥) → pairs_replaced in_slot i (low_pairs spell tag ps) ≡ pairs_replaced in_slot i ps
-    pairs_slots_low i no_pairs = refl
-    pairs_slots_low i (pair k a ps) =
-        ap₂ (pair k) (slots_low i a) (ap (λ n. pairs_replaced in_slot (i + n) (low_pairs spell tag ps)) (same_refs a) ∙ pairs_slots_low (i + length (refs a)) ps)
-
-  output_low : (bs : List (List ℕ)) (i : ℕ) → low_obj spell tag (m.output_at bs i) ≡ output_at bs i
-  output_low [] i = refl
-  output_low (b ∷ bs) zero = refl
-  output_low (b ∷ bs) (suc i) = output_low bs i
-
-  run_output_low : (r : Result (List (List ℕ)) FaultKind) (i : ℕ) → low_obj spell tag (m.run_output r i) ≡ output_of (without_place r) i
-  run_output_low (Ok bs) i = output_low bs i
-  run_output_low (Err k) i = refl
-
-abbrev gathered : Result (List (List ℕ)) Fault → Gathered (List ℕ)
-gathered (Ok bs) = Gathered.all bs
-gathered (Err f) = Gathered.faulty f
-
-gathered_more : (r : Result (List ℕ) Fault) (rest : Result (List (List ℕ)) Fault) → gather_on r (gathered rest) ≡ gathered (one_more r rest)
-gathered_more (Err f) (Err e) = refl
-gathered_more (Err f) (Ok bs) = refl
-gathered_more (Ok b) (Err e) = refl
-gathered_more (Ok b) (Ok bs) = refl
-
-module _ (job : Job) (around : Around) (writes : v.Val (List ℕ) → Option (List ℕ)) (writes_alike : (tag : Row → List ℕ) (a : Val) → writes (low spell tag a) ≡ around.writes a) where
-  bytes_low : (tag : Row → List ℕ) (o : Obj) → bytes_of writes (low_obj spell tag o) ≡ as_bytes around o
-  bytes_low tag (Object.bytes b) = refl
-  bytes_low tag (Object.data_of a) = ap written (writes_alike tag a)
-  bytes_low tag (Object.fault f) = refl
-
-  module _ (tag : Row → List ℕ) (n : ℕ) (knows : Row → Option (Object (List ℕ))) where
-    abbrev Settled : List Desc → Type 0
-    Settled ds = (d : Desc) → In d ds → (o : Object (List ℕ)) × (knows (low_ref spell tag d) ≡ Some o) × Sees job around tag n d o
-
-    gather_is : (ds : List Desc) → Settled ds → gather (see job around n) (as_bytes around) ds ≡ gathered (all_bytes writes knows (map (low_ref spell tag) ds))
-    gather_is [] s = refl
-    gather_is (d ∷ ds) s = go (s d (inl refl)) (gather_is ds (λ c i. s c (inr i)))
-      where
-        rest : Result (List (List ℕ)) Fault
-        rest = all_bytes writes knows (map (low_ref spell tag) ds)
-
-        go : (o : Object (List ℕ)) × (knows (low_ref spell tag d) ≡ Some o) × Sees job around tag n d o → gather (see job around n) (as_bytes around) ds ≡ gathered rest → gather (see job around n) (as_bytes around) (d ∷ ds) ≡ gathered (one_more (bytes_seen writes (knows (low_ref spell tag d))) rest)
-        go (o, k, (p, e, l)) h =
-            ap₂ (λ x r. gather_one x (as_bytes around) r) e h ∙ ap (λ x. gather_on x (gathered rest)) (sym (bytes_low tag p)) ∙ gathered_more (bytes_of writes (low_obj spell tag p)) rest ∙ ap (λ x. gathered (one_more x rest)) (ap (bytes_of writes) l ∙ ap (bytes_seen writes) (sym k))
-
-    executed_is : (x : List ℕ) (a : Val) (c i : ℕ) (r : Result (List (List ℕ)) Fault) → (p : Obj) × (executed_on around x a c i (gathered r) ≡ Some p) × (low_obj spell tag p ≡ output_of (made_of around.runs x (low spell tag a) c r) i)
-    executed_is x a c i (Err f) = (Object.fault f, refl, refl)
-    executed_is x a c i (Ok bs) =
-        (m.run_output (around.runs x (replaced in_slot 0 a) bs c) i, refl, run_output_low tag (around.runs x (replaced in_slot 0 a) bs c) i ∙ ap (λ s. output_of (without_place (around.runs x s bs c)) i) (sym (slots_low tag 0 a)))
-
-    sees_out : (x : List ℕ) (a : Val) (c i : ℕ) → Settled (refs a) → Sees job around tag (suc n) (out x a c i) (output_of (made around.runs writes knows x (low spell tag a) c) i)
-    unfolding see
-    sees_out x a c i s = go (executed_is x a c i collected)
-      where
-        collected : Result (List (List ℕ)) Fault
-        collected = all_bytes writes knows (map (low_ref spell tag) (refs a))
-
-        go : (p : Obj) × (executed_on around x a c i (gathered collected) ≡ Some p) × (low_obj spell tag p ≡ output_of (made_of around.runs x (low spell tag a) c collected) i) → Sees job around tag (suc n) (out x a c i) (output_of (made around.runs writes knows x (low spell tag a) c) i)
-        go (p, e, l) =
-            (p, ap (executed_on around x a c i) (gather_is (refs a) s) ∙ e, l ∙ ap (λ ds. output_of (made_of around.runs x (low spell tag a) c (all_bytes writes knows ds)) i) (sym (refs_low spell tag a)))
 
 -- ---- rows of executor tasks and of inputs
 
@@ -159,9 +72,9 @@ module _ (job : Job) (around : Around) (reads : List ℕ → Answer (List ℕ)) 
 
           of_out : (a : Val) × (d ≡ out x a c i) × (low spell tag a ≡ us) → Sees job around tag (suc n) d (output i)
           of_out (a, is, l) =
-              subst (λ z. Sees job around tag (suc n) z (output i)) (sym is) (subst (λ z. Sees job around tag (suc n) (out x a c i) (output_of (made around.runs writes (known_of objects) x z c) i)) l (sees_out job around writes writes_alike tag n (known_of objects) x a c i settled))
+              subst (λ z. Sees job around tag (suc n) z (output i)) (sym is) (subst (λ z. Sees job around tag (suc n) (out x a c i) (output_of (made around.runs writes (known_of objects) x z c) i)) l (sees_out job around writes tag (writes_alike tag) n (known_of objects) x a c i settled))
             where
-              settled : Settled job around writes writes_alike tag n (known_of objects) (refs a)
+              settled : SeenAsKnown job around tag n (known_of objects) (refs a)
               settled e h = of_known (all (low_ref spell tag e) (subst (In (low_ref spell tag e)) (sym (refs_low spell tag a) ∙ ap refs l) (map_in (low_ref spell tag) e (refs a) h)))
                 where
                   of_known : (o : Object (List ℕ)) × (known_of objects (low_ref spell tag e) ≡ Some o) → (o : Object (List ℕ)) × (known_of objects (low_ref spell tag e) ≡ Some o) × Sees job around tag n e o

@@ -7,7 +7,8 @@ use Rattle.sky_law.specs.Lower.{low_ref, low_obj, low_end, low_st, low_wait}
 use Rattle.sky_base.specs.See.{Desc, Obj, Job, Around, see}
 use Rattle.sky_law.specs.Tasks.{In, made_in}
 use Rattle.sky_law.proofs.LowLaw.{Rel}
-use Rattle.sky_plain.specs.Stand.{spell, Sees}
+use Rattle.sky_plain.specs.Stand.{spell}
+use Rattle.sky_waves.specs.Seen.{Sees}
 use Rattle.sky_rows.proofs.Learn.{Learned, learned_new}
 use Rattle.sky_rows.specs.Walk as w
 use Rattle.sky_rows.specs.Walk.{Row, is_held, Seen, seen_one, Stop, Walked, learn_to, on_learned, look, walk}

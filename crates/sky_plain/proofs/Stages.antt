@@ -16,14 +16,15 @@ use Rattle.sky_law.proofs.TaskOutputs.{in_distinct_refs}
 use Rattle.sky_rows.specs.Walk.{Row, known_of, number_of}
 use Rattle.sky_rows.specs.Number.{tag_of, Grown}
 use Rattle.sky_plain.specs.Needs.{Waits}
-use Rattle.sky_plain.specs.Stand.{spell, Sees, KnownAt, Knows, Opened, Opens}
+use Rattle.sky_plain.specs.Stand.{spell, KnownAt, Knows, Opened, Opens}
+use Rattle.sky_waves.specs.Seen.{Sees, SeenAsKnown}
 use Rattle.sky_waves.specs.Wave as wave
 use Rattle.sky_waves.specs.Wave.{Turned, turn_at}
 use Rattle.sky_plain.specs.Stage.{Reached, Stage, AllKnown}
 use Rattle.sky_rows.proofs.Numbers.{index_at, got_more}
 use Rattle.sky_plain.proofs.Knows.{grown_back}
 use Rattle.sky_plain.proofs.Chains.{held_ref}
-use Rattle.sky_plain.proofs.Waves.{Settled, low_turn, turn_low}
+use Rattle.sky_waves.proofs.Lowered.{low_turn, turn_low}
 
 abbrev blind : Turn
 blind = Turn.ends Answered.not_yet
@@ -107,7 +108,7 @@ module _ (job : Job) (around : Around) where
               turned = turn_low job around reads writes tag (reads_alike tag) (writes_alike tag) (on i n) (known_of objects) u settled ∙ ap (turn_at reads writes (known_of objects)) low_is;
             }
           where
-            settled : Settled job around reads writes tag (reads_alike tag) (writes_alike tag) (on i n) (known_of objects) (refs u)
+            settled : SeenAsKnown job around tag (on i n) (known_of objects) (refs u)
             settled d is = of_known (all (low_ref spell tag d) (subst (In (low_ref spell tag d)) (sym (refs_low spell tag u) ∙ ap refs low_is) (map_in (low_ref spell tag) d (refs u) is)))
               where
                 of_known : (o : Object (List ℕ)) × (known_of objects (low_ref spell tag d) ≡ Some o) → (o : Object (List ℕ)) × (known_of objects (low_ref spell tag d) ≡ Some o) × Sees job around tag (on i n) d o

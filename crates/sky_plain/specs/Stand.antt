@@ -4,8 +4,8 @@ use Rattle.sky_base.specs.Val.{no_vals, no_pairs, call}
 use Rattle.sky_base.specs.Tree.{Script}
 use Rattle.sky_base.specs.Op.{Answer}
 use Rattle.sky_base.specs.Res.{Object}
-use Rattle.sky_law.specs.Lower.{low_ref, low_obj}
-use Rattle.sky_base.specs.See.{Desc, Obj, Job, Around, see}
+use Rattle.sky_law.specs.Lower.{low_ref}
+use Rattle.sky_base.specs.See.{Desc, Job, Around}
 use Rattle.sky_law.specs.Sound.{DescOver, SoundOver}
 use Rattle.sky_law.specs.Tasks.{In}
 use Rattle.sky_base.specs.Name.{low_desc}
@@ -14,6 +14,7 @@ use Rattle.sky_body.specs.Stops.{end_object}
 use Rattle.sky_plain.specs.Needs.{Waits, Makes}
 use Rattle.sky_rows.specs.Walk.{Row, Stop, known_of, object_at, number_of}
 use Rattle.sky_rows.specs.Number.{tag_of, Grown}
+use Rattle.sky_waves.specs.Seen.{Sees}
 
 -- no name stands inside a described value, so nothing needs spelling
 abbrev pub spell : ⊥ → List ℕ
@@ -54,12 +55,8 @@ ReadFits sc (Ok v) = SoundOver (λ b. ⊥) sc v
 ReadFits sc (Err k) = Unit {0}
 
 module _ (job : Job) (around : Around) where
-  -- d is seen, and this is what is seen, over names
-  abbrev pub Sees : (Row → List ℕ) → ℕ → Desc → Object (List ℕ) → Type 0
-  Sees tag n d o = (p : Obj) × (see job around n d ≡ Some p) × (low_obj spell tag p ≡ o)
-
   abbrev pub KnownAt : List Row → List (Option (Object (List ℕ))) → ℕ → Type 0
-  KnownAt rows objects n = (d : Desc) (o : Object (List ℕ)) → known_of objects (low_ref spell (tag_of rows) d) ≡ Some o → Sees (tag_of rows) n d o
+  KnownAt rows objects n = (d : Desc) (o : Object (List ℕ)) → known_of objects (low_ref spell (tag_of rows) d) ≡ Some o → Sees job around (tag_of rows) n d o
 
   -- however many descriptions are held later, what is known of one is what is seen of it
   abbrev pub Knows : List Row → List (Option (Object (List ℕ))) → Type 0

@@ -29,7 +29,7 @@ use Rattle.sky_refits.proofs.Back.{Keeps, bottom_fun, forms_back}
 use Rattle.sky_refits.proofs.Climb.{Higher, plug_climbs, first_higher}
 use Rattle.sky_refits.proofs.Fines.{FirstEndOk, FirstHaltOk, plug_fine, made_fine, end_fine, halt_fine}
 
-any_all : (ds : List (Desc (List ℕ))) → Each any_made ds
+pub any_all : (ds : List (Desc (List ℕ))) → Each any_made ds
 any_all [] = tt
 any_all (d ∷ ds) = (tt, any_all ds)
 
@@ -41,7 +41,7 @@ module _ (w : World (List ℕ)) (sound : SoundWorld w) where
       go (Ok v) e = sound.reads b v e
       go (Err k) e = tt
 
-  closed : Closed w (P w) (Q w) (V w) any_made any_lit any_name
+  pub closed : Closed w (P w) (Q w) (V w) any_made any_lit any_name
   closed = sound_closed (List ℕ) (λ n. Unit {0}) w.script w (λ f. refl) (λ k. refl) read_sound sound.make
 
   -- ---- ends
@@ -72,7 +72,7 @@ module _ (w : World (List ℕ)) (sound : SoundWorld w) where
   end_ok (End.returned v) h = h
   end_ok (End.failed f) h = tt
 
-  ok_end : (o : Option (End (List ℕ) × St (List ℕ))) → FirstEndOk w (P w) (Q w) (V w) any_made closed o → EndsSound w.script o
+  pub ok_end : (o : Option (End (List ℕ) × St (List ℕ))) → FirstEndOk w (P w) (Q w) (V w) any_made closed o → EndsSound w.script o
   ok_end None h = tt
   ok_end (Some (End.goes, st)) h = tt
   ok_end (Some (End.got v, st)) h = h
@@ -91,7 +91,7 @@ module _ (w : World (List ℕ)) (sound : SoundWorld w) where
   keeps [] h = tt
   keeps (f ∷ fs) h = ((vars_in w f.vars h.0.vars, h.0.values), keeps fs h.1)
 
-  frames_sound : (fs : List (Frame (List ℕ))) → Each (FrameOk w (P w) (Q w) (V w)) fs → Each (SoundFrame w.script) fs
+  pub frames_sound : (fs : List (Frame (List ℕ))) → Each (FrameOk w (P w) (Q w) (V w)) fs → Each (SoundFrame w.script) fs
   frames_sound [] h = tt
   frames_sound (f ∷ fs) h = ((vars_out w f.vars h.0.0, h.0.1, h.0.2), frames_sound fs h.1)
 

@@ -51,7 +51,7 @@ module _ {N : Type 0} (w : World N) (P : Val N → Type 0) (Q : Desc N → Type 
     abbrev body : List ℕ → Pairs N → Vals N → Place → St N → Res N
     body = body_at w d
 
-    block_fine : (b : Stms) (n : ℕ) (st : St N) → V st.vars → Good d (eval_block w body b n st)
+    pub block_fine : (b : Stms) (n : ℕ) (st : St N) → V st.vars → Good d (eval_block w body b n st)
     block_fine b n st l = fine_stms w P Q V M any_lit any_name c d body (enters d) b n 0 (n + 1) st (stms_any b) l
 
     while_fine : (n m : ℕ) (p : Place) (e : Exp) (b : Stms) (st : St N) → V st.vars → Good d (go_while w body n m p e b st)

@@ -4,3 +4,4 @@ pub mod Fines
 pub mod Back
 pub mod Asked
 pub mod Again
+pub mod Begin

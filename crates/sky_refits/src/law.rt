@@ -1,6 +1,6 @@
 //! Laws of stacks that go on. Each is the contract of a function that does nothing.
 
-ghost use Rattle.sky_refits.specs.Laws.{AnsweredFitsAgain, AnsweredMakesSound, AnswersAreSound, StackFitsAgain, StackMakesSound};
+ghost use Rattle.sky_refits.specs.Laws.{AnsweredFitsAgain, AnsweredMakesSound, AnswersAreSound, StackFitsAgain, StackMakesSound, StartFitsAgain, StartMakesSound};
 
 /// Where what is read as data is sound, sound objects in answer to a wait give it a sound end.
 pub fn answers_are_sound()
@@ -19,4 +19,11 @@ pub fn stacks_fit_again()
 pub fn answered_stacks_fit_again()
     ensures fits { AnsweredFitsAgain }
     ensures makes { AnsweredMakesSound }
+{}
+
+/// Where a state fits a script and is the start of a call, the stack at the call's first wait fits the script; what it makes up to
+/// there is sound, and so is its end, where it doesn't wait.
+pub fn starts_fit_again()
+    ensures fits { StartFitsAgain }
+    ensures makes { StartMakesSound }
 {}

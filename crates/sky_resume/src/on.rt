@@ -1,6 +1,6 @@
 // A call goes on from its wait, up to the next one or to its end.
 
-ghost use Rattle.std.specs.Prelude.{◌≡◌, ◌≤◌, ◌<◌, ◌+◌, ◌-◌, ◌^◌, ◌++◌, ℕ, List, map, IfOk, Some};
+ghost use Rattle.std.specs.Prelude.{◌≡◌, ◌≤◌, ◌<◌, ◌+◌, ◌-◌, ◌^◌, ◌++◌, ℕ, suc, List, map, IfOk, Some};
 ghost use Rattle.sky_base.specs.Val.{list, refs_to, Desc};
 ghost use Rattle.sky_base.specs.Kept.{Kept};
 ghost use Rattle.sky_base.specs.Res as logic;
@@ -131,8 +131,8 @@ pub fn go_on<'a, 'b, N: Namer>(
     requires answers { AnswersKept answers.now }
     ensures comes { IfOk result (λ c. (f : List ℕ) (h : Halt (List ℕ)) → LeftAt script.now.code f h (run_of run.old) → Comes f run.old.waits (rest_of (over_names (N.digest namer.now) script.now.code) others h (map object_view answers.now)) c (run_of run.new)) }
     ensures made { IfOk result (λ c. (f : List ℕ) (h : Halt (List ℕ)) → LeftAt script.now.code f h (run_of run.old) → run.new.spawned ≡ run.old.spawned ++ map (with_name (N.digest namer.now)) (segment (rest_of (over_names (N.digest namer.now) script.now.code) others h (map object_view answers.now)))) }
-    ensures stands { IfOk result (λ c. GoesOnAs (N.digest namer.now) script.now.code (run_of run.old) answers.now c (run_of run.new)) }
-    ensures makes { IfOk result (λ c. MakesAs (N.digest namer.now) script.now.code (run_of run.old) answers.now run.old.spawned run.new.spawned) }
+    ensures stands { IfOk result (λ c. (j : ℕ) → GoesOnAs (N.digest namer.now) (suc j) script.now.code (run_of run.old) answers.now c (run_of run.new)) }
+    ensures makes { IfOk result (λ c. (j : ℕ) → MakesAs (N.digest namer.now) (suc j) script.now.code (run_of run.old) answers.now run.old.spawned run.new.spawned) }
 {
     let came = from_wait(alloc, script, run, answers, namer)?;
     Ok(came)

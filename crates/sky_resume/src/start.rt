@@ -1,6 +1,6 @@
 // A call begins, and comes to its first wait or to its end.
 
-ghost use Rattle.std.specs.Prelude.{◌≡◌, ◌++◌, ℕ, List, map, IfOk};
+ghost use Rattle.std.specs.Prelude.{◌≡◌, ◌++◌, ℕ, List, [], map, IfOk};
 ghost use Rattle.sky_base.specs.Val as logic;
 ghost use Rattle.sky_base.specs.Tree.{nowhere};
 ghost use Rattle.sky_base.specs.Res.{others, bodies};
@@ -11,6 +11,7 @@ ghost use Rattle.sky_state.specs.Fits.{FitsRun};
 ghost use Rattle.sky_state.specs.Stand.{Stand};
 ghost use Rattle.sky_state.specs.Start.{StartsCall};
 ghost use Rattle.sky_resume.specs.Comes.{StepsFit, over_names, with_name, run_of, bottom_vars, Comes};
+ghost use Rattle.sky_resume.specs.Standing.{GoesOnAs, MakesAs};
 
 use crate::on::{Came, bottom, run_from};
 use ciel_name::name::Namer;
@@ -29,8 +30,27 @@ use std::alloc::Global;
 /// its name. After `Memory` the state may only be dropped.
 ///
 /// Answers `Memory` for want of memory.
-#[tactic(auto, unfolding(sky_base::specs::Res::others))]
 pub fn begin<'a, 'b, N: Namer>(
+    alloc: Global,
+    script: &'b Numbered<'a>,
+    run: &mut RunState,
+    namer: &'b N,
+) -> Result<Came, Memory>
+    requires steps { StepsFit script.now.code }
+    requires fits { FitsRun script.now.code (run_of run.old) }
+    requires start { run.old.waits ≡ 0 }
+    ensures comes { IfOk result (λ came. (f : List ℕ) (c : logic.Pairs (List ℕ)) (vs : logic.Vals (List ℕ)) → StartsCall script.now.code f c vs (Stand.run (run_of run.old)) → Comes f 0 (body_at (over_names (N.digest namer.now) script.now.code) bodies f c vs nowhere start_st) came (run_of run.new)) }
+    ensures made { IfOk result (λ came. (f : List ℕ) (c : logic.Pairs (List ℕ)) (vs : logic.Vals (List ℕ)) → StartsCall script.now.code f c vs (Stand.run (run_of run.old)) → run.new.spawned ≡ run.old.spawned ++ map (with_name (N.digest namer.now)) (segment (body_at (over_names (N.digest namer.now) script.now.code) bodies f c vs nowhere start_st))) }
+    ensures stands { IfOk result (λ came. GoesOnAs (N.digest namer.now) 0 script.now.code (run_of run.old) [] came (run_of run.new)) }
+    ensures makes { IfOk result (λ came. MakesAs (N.digest namer.now) 0 script.now.code (run_of run.old) [] run.old.spawned run.new.spawned) }
+{
+    let came = from_start(alloc, script, run, namer)?;
+    Ok(came)
+}
+
+/// The body of the bottom frame's function is opened, and the run goes on from there.
+#[tactic(auto, unfolding(sky_base::specs::Res::others))]
+fn from_start<'a, 'b, N: Namer>(
     alloc: Global,
     script: &'b Numbered<'a>,
     run: &mut RunState,

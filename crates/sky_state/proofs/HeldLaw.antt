@@ -22,7 +22,8 @@ use Rattle.sky_law.proofs.NodesLaw.{has_script}
 use Rattle.sky_law.proofs.RefsLow.{refs_low, pairs_refs_low, distinct_low}
 use Rattle.sky_law.proofs.SeenLaw.{stands_one, wait_one}
 use Rattle.sky_law.proofs.TaskFuel.{held_one}
-use Rattle.sky_law.proofs.TaskOutputs.{stands_exact, distinct_apart, in_distinct}
+use Rattle.sky_law.proofs.TaskOutputs.{stands_exact, distinct_apart, distinct_refs_in, in_distinct}
+use Rattle.sky_base.proofs.Exact.{exact_text, self_text}
 use Rattle.sky_law.proofs.Lists.{some_is}
 use Rattle.sky_state.specs.Stand.{Stand, low_state}
 use Rattle.sky_state.specs.Stands.{Stands}
@@ -234,6 +235,57 @@ module _ (tag : Tag) (job : Job) (around : Around) where
 
   pub stands_pending : (s : Stand (List ℕ)) (t : Task) (j : ℕ) (ds : List Desc) → Stands job around tag s t j → WaitOf job around t j ds → NoClash tag ds → pending_in same_text s ≡ Named ds
   stands_pending s t j ds h w n = ap (pending_in same_text) h.2 ∙ pending_is t j h.0 ds h.1 w n
+
+  -- each description that is waited for stands there by its name
+
+  mapped_in : (d : Desc) (ds : List Desc) → In d ds → In (R tag d) (map (R tag) ds)
+  mapped_in d (x ∷ xs) (inl e) = inl (ap (R tag) e)
+  mapped_in d (x ∷ xs) (inr i) = inr (mapped_in d xs i)
+  mapped_in d [] i = absurd i
+
+  named_in : (xs : List (v.Desc (List ℕ))) (ds : List Desc) (d : Desc) → xs ≡ map (R tag) ds → In d ds → In (R tag d) (distinct same_text xs)
+  named_in xs ds d e i =
+      in_distinct same_text exact_text self_text xs (R tag d) (subst (In (R tag d)) (sym e) (mapped_in d ds i))
+
+  call_waits : (n i : ℕ) (f : List ℕ) (c : Pairs) (vs : Vals) (x : Option (Halt ⊥)) (a : State) (ds : List Desc) (d : Desc) → halt (see job around n) i (run_of job around f c vs) ≡ x → halt_state f (suc i) x ≡ Some a → WaitOf job around (Task.of (call f c vs)) (suc i) ds → In d ds → In (R tag d) (pending_in same_text (low_state tag a))
+  call_waits n i f c vs None a ds d e g w k = absurd (none_some a g)
+  call_waits n i f c vs (Some x) a ds d e g w k =
+      let waits : refs_of x.wait ≡ ds = wait_one job around (Task.of (call f c vs)) (suc i) (refs_of x.wait) ds (n, ap halt_refs e) w in
+      let top : top_refs (frames_of x.forms f x.st.vars) ≡ ds = top_waits n i f c vs x e ∙ waits in
+      subst (λ b. In (R tag d) (pending_in same_text (low_state tag b))) (some_is _ a g) (named_in (top_refs (map (low_frame no_name tag) (frames_of x.forms f x.st.vars))) ds d (top_low tag (frames_of x.forms f x.st.vars) ∙ ap (map (R tag)) top) k)
+
+  value_waits : (u : Val) (ds : List Desc) (d : Desc) → unless_none (distinct_refs u) ≡ Some ds → In d ds → In (R tag d) (distinct same_text (refs (low no_name tag u)))
+  value_waits u ds d e i = go (distinct_refs u) refl e
+    where
+      go : (xs : List Desc) → distinct_refs u ≡ xs → unless_none xs ≡ Some ds → In (R tag d) (distinct same_text (refs (low no_name tag u)))
+      go [] q g = absurd (none_some ds g)
+      go (y ∷ ys) q g =
+          named_in (refs (low no_name tag u)) (refs u) d (refs_low no_name tag u) (distinct_refs_in u d (subst (In d) (sym (q ∙ some_is _ ds g)) i))
+
+  show_waits : (m j : ℕ) (b : Bool) (x : Option Val) (a : State) (ds : List Desc) (d : Desc) → wave job around m (suc j) ≡ x → only_if b (wave_refs x) ≡ Some ds → StandsAt job around Task.show (suc j) a → In d ds → In (R tag d) (pending_in same_text (low_state tag a))
+  show_waits m j false x a ds d e g s i = absurd (none_some ds g)
+  show_waits m j true None a ds d e g s i = absurd (none_some ds g)
+  show_waits m j true (Some u) a ds d e g s i =
+      let is : State.show_at u (suc j) ≡ a = stands_one job around Task.show (suc j) (State.show_at u (suc j)) a (m, ap (wave_state (suc j)) e) s in
+      subst (λ b. In (R tag d) (pending_in same_text (low_state tag b))) is (value_waits u ds d g i)
+
+  first_one : (n : ℕ) (a : State) (ds : List Desc) (d : Desc) → wave_state 0 (wave job around n 0) ≡ Some a → Some (main_call ∷ []) ≡ Some ds → In d ds → In (R tag d) (pending_in same_text (low_state tag a))
+  unfolding wave
+  first_one n a ds d e g i =
+      subst (λ b. In (R tag d) (pending_in same_text (low_state tag b))) (some_is _ a e) (named_in (R tag main_call ∷ []) (main_call ∷ []) d refl (subst (In d) (sym (some_is _ ds g)) i))
+
+  waits_in : (t : Task) (j : ℕ) (a : State) (ds : List Desc) (d : Desc) → StandsAt job around t j a → WaitOf job around t j ds → In d ds → In (R tag d) (pending_in same_text (low_state tag a))
+  waits_in Task.show zero a ds d s g i = first_one s.0 a ds d s.1 g.1 i
+  waits_in Task.show (suc j) a ds d s g i = show_waits g.0 j (nat_le (suc j) 100) (wave job around g.0 (suc j)) a ds d refl g.1 s i
+  waits_in (Task.of (call f c vs)) zero a ds d s g i = absurd (subst (In d) (sym (some_is [] ds g.1)) i)
+  waits_in (Task.of (call f c vs)) (suc k) a ds d s g i = call_waits s.0 k f c vs (halt (see job around s.0) k (run_of job around f c vs)) a ds d refl s.1 g i
+  waits_in (Task.of (out x u m k)) j a ds d s g i = absurd (none_some a s.1)
+  waits_in (Task.of (input k)) j a ds d s g i = absurd (none_some a s.1)
+  waits_in (Task.of (known b)) j a ds d s g i = absurd b
+
+  pub stands_waits : (s : Stand (List ℕ)) (t : Task) (j : ℕ) (ds : List Desc) (d : Desc) → Stands job around tag s t j → WaitOf job around t j ds → In d ds → In (R tag d) (pending_in same_text s)
+  stands_waits s t j ds d h w i =
+      subst (λ x. In (R tag d) (pending_in same_text x)) (sym h.2) (waits_in t j h.0 ds d h.1 w i)
 
   -- ---- what is held
 

@@ -9,5 +9,5 @@ pub mod Start
 pub mod BodyView
 pub mod StateView
 pub mod Stands
-pub mod Moves
 pub mod Laws
+pub mod Moves

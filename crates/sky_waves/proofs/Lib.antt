@@ -1,2 +1,4 @@
 pub mod Fills
 pub mod Turns
+pub mod Lowered
+pub mod Sounds

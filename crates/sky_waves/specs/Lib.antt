@@ -1,2 +1,3 @@
 pub mod Wave
 pub mod WaveView
+pub mod Seen

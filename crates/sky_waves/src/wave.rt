@@ -4,7 +4,6 @@ ghost use Rattle.std.specs.Prelude.{◌≡◌, Ok, Err, Some, IfOk};
 ghost use Rattle.sky_base.specs.Val.{known, refs, Rising};
 ghost use Rattle.sky_base.specs.View.{view, vals_of, pairs_of};
 ghost use Rattle.sky_base.specs.ObjectView.{object_view};
-ghost use Rattle.sky_rows.specs.Walk.{known_of};
 ghost use Rattle.sky_waves.specs.Wave.{value_of, value_seen, fill, fill_vals, fill_pairs, next_of, lone, turn_all, turn_at, last_at};
 ghost use Rattle.sky_base.specs.See.{no_place, written};
 ghost use Rattle.sky_waves.specs.WaveView.{FilledBy, ValsFilledBy, PairsFilledBy, EndsSo, TurnsSo};
@@ -13,13 +12,13 @@ ghost use Rattle.sky_base.specs.See.{text_of};
 ghost use Rattle.sky_rows.specs.Data.{data_of};
 ghost use Rattle.ciel_json.specs.Text.{text_of as writes};
 
+use crate::known::Known;
 use ciel_json::write::{ToText, to_text};
 use sky_base::fault::{Fault, FaultKind};
 use sky_base::object::Object;
 use sky_base::text::{Bytes, Memory, Txt};
 use sky_base::value::{Pair, Pairs, Vals, Value};
 use sky_rows::data::read;
-use sky_rows::objects::Objects;
 use std::alloc::Global;
 
 /// A fault that has no place in the script.
@@ -52,8 +51,8 @@ fn as_value(alloc: Global, object: &Object) -> Result<Result<Value, Fault>, Memo
 
 // The value with each reference replaced by what it refers to, or the first fault in order.
 #[cycle(fill)]
-fn fill(alloc: Global, value: &Value, objects: &Objects) -> Result<Result<Value, Fault>, Memory>
-    ensures { IfOk result (λ r. FilledBy r (fill (λ d. value_seen (data_of) (known_of objects.now d)) (view value.now))) }
+fn fill<K: Known>(alloc: Global, value: &Value, objects: &K) -> Result<Result<Value, Fault>, Memory>
+    ensures { IfOk result (λ r. FilledBy r (fill (λ d. value_seen (data_of) (K.knows objects.now d)) (view value.now))) }
 {
     match value {
         Value::List(values) => {
@@ -77,7 +76,7 @@ fn fill(alloc: Global, value: &Value, objects: &Objects) -> Result<Result<Value,
                 Err(fault) => Ok(Err(fault)),
             }
         }
-        Value::Ref(name) => match objects.known(name) {
+        Value::Ref(name) => match objects.object(name) {
             Some(object) => as_value(alloc, object),
             None => Ok(Err(no_place(FaultKind::NotText))),
         },
@@ -87,12 +86,12 @@ fn fill(alloc: Global, value: &Value, objects: &Objects) -> Result<Result<Value,
 
 #[cycle(fill)]
 #[tactic(auto, using(sky_base::proofs::Values::inside, crate::proofs::Fills::fills))]
-fn fill_vals(
+fn fill_vals<K: Known>(
     alloc: Global,
     values: &[Value],
-    objects: &Objects,
+    objects: &K,
 ) -> Result<Result<Vals, Fault>, Memory>
-    ensures { IfOk result (λ r. ValsFilledBy r (fill_vals (λ d. value_seen (data_of) (known_of objects.now d)) (vals_of values.now))) }
+    ensures { IfOk result (λ r. ValsFilledBy r (fill_vals (λ d. value_seen (data_of) (K.knows objects.now d)) (vals_of values.now))) }
 {
     let mut filled = Vals::new(alloc);
     for value in values {
@@ -106,13 +105,13 @@ fn fill_vals(
 
 #[cycle(fill)]
 #[tactic(auto, using(sky_base::proofs::Values::inside, crate::proofs::Fills::fills))]
-fn fill_pairs(
+fn fill_pairs<K: Known>(
     alloc: Global,
     pairs: &[Pair],
-    objects: &Objects,
+    objects: &K,
 ) -> Result<Result<Pairs, Fault>, Memory>
     requires { Rising (pairs_of pairs.now) }
-    ensures { IfOk result (λ r. PairsFilledBy r (fill_pairs (λ d. value_seen (data_of) (known_of objects.now d)) (pairs_of pairs.now))) }
+    ensures { IfOk result (λ r. PairsFilledBy r (fill_pairs (λ d. value_seen (data_of) (K.knows objects.now d)) (pairs_of pairs.now))) }
 {
     let mut filled = Pairs::new(alloc);
     for pair in pairs {
@@ -167,15 +166,15 @@ fn text(alloc: Global, value: &Value) -> Result<Turned, Memory>
 }
 
 /// What a wave up to 100 comes to, where each reference of the value is known.
-pub fn turn(alloc: Global, value: &Value, objects: &Objects) -> Result<Turned, Memory>
+pub fn turn<K: Known>(alloc: Global, value: &Value, objects: &K) -> Result<Turned, Memory>
     requires { Kept (view value.now) }
-    ensures { IfOk result (λ t. TurnsSo t (turn_at data_of writes (known_of objects.now) (view value.now))) }
+    ensures { IfOk result (λ t. TurnsSo t (turn_at data_of writes (K.knows objects.now) (view value.now))) }
 {
     if value.refs(alloc)?.len() == 0 {
         return text(alloc, value);
     }
     match value {
-        Value::Ref(name) => match objects.known(name) {
+        Value::Ref(name) => match objects.object(name) {
             Some(object) => lone(alloc, value, object, objects),
             None => turn_all(alloc, value, objects),
         },
@@ -184,8 +183,13 @@ pub fn turn(alloc: Global, value: &Value, objects: &Objects) -> Result<Turned, M
 }
 
 // What a wave comes to whose value is one reference, to this object: bytes are the answer.
-fn lone(alloc: Global, value: &Value, object: &Object, objects: &Objects) -> Result<Turned, Memory>
-    ensures { IfOk result (λ t. TurnsSo t (lone (Some (object_view object.now)) (turn_all data_of writes (known_of objects.now) (view value.now)))) }
+fn lone<K: Known>(
+    alloc: Global,
+    value: &Value,
+    object: &Object,
+    objects: &K,
+) -> Result<Turned, Memory>
+    ensures { IfOk result (λ t. TurnsSo t (lone (Some (object_view object.now)) (turn_all data_of writes (K.knows objects.now) (view value.now)))) }
 {
     match object {
         Object::Bytes(bytes) => Ok(Turned::Text(bytes.share()?)),
@@ -195,8 +199,8 @@ fn lone(alloc: Global, value: &Value, object: &Object, objects: &Objects) -> Res
 }
 
 // The value with each reference replaced, within the limits, or the first fault.
-fn turn_all(alloc: Global, value: &Value, objects: &Objects) -> Result<Turned, Memory>
-    ensures { IfOk result (λ t. TurnsSo t (turn_all data_of writes (known_of objects.now) (view value.now))) }
+fn turn_all<K: Known>(alloc: Global, value: &Value, objects: &K) -> Result<Turned, Memory>
+    ensures { IfOk result (λ t. TurnsSo t (turn_all data_of writes (K.knows objects.now) (view value.now))) }
 {
     match fill(alloc, value, objects)? {
         Err(fault) => Ok(Turned::Fault(fault)),

@@ -2,20 +2,19 @@ use Rattle.std.proofs.Common.{◌≡◌, Ok, ◌+◌, drop, sym, ap, subst, ◌�
 use Rattle.sky_base.specs.View.{view, vals_of, pairs_of}
 use Rattle.sky_base.specs.Op.{put}
 use Rattle.sky_rows.specs.Data.{data_of}
-use Rattle.sky_rows.specs.Walk.{known_of}
 use Rattle.sky_waves.specs.Wave.{value_seen, fill, fill_vals, fill_pairs, on_list}
 use Rattle.sky_waves.specs.WaveView.{FilledBy}
 use Rattle.sky_waves.proofs.Fills.{Filling, behind, behind_pairs, Meets, fill-step, pair-step, meets-step}
 use Rattle.sky_waves.proofs.wave.+fill.Goals as goal
 
 pub fill-returns-in-Ok : goal.fill-returns-in-Ok
-fill-returns-in-Ok t c =
-    let G : Filling = λ d. value_seen data_of (known_of c.args.objects.now d) in
+fill-returns-in-Ok g t c =
+    let G : Filling = λ d. value_seen data_of (g.K.Known.knows c.args.objects.now d) in
     ap (λ v. fill G (view v)) c.in-List.is ∙ ap on_list (ap (fill_vals G) (sym c.as_slice.ensures) ∙ c.in_ok-values-in-List.ensures ∙ c.in-Ok.is)
 
 pub fill_pairs-loop-pair-preserved : goal.fill_pairs-loop-pair-preserved
-fill_pairs-loop-pair-preserved t c =
-    let G : Filling = λ d. value_seen data_of (known_of c.args.objects.now d) in
+fill_pairs-loop-pair-preserved g t c =
+    let G : Filling = λ d. value_seen data_of (g.K.Known.knows c.args.objects.now d) in
     let filled : fill G (view c.pair-item.result.value) ≡ Ok (view c.in-Ok.value) = subst (λ r. FilledBy r (fill G (view c.pair-item.result.value))) c.in-Ok.is (c.in_ok-value.ensures) in
     let is_put : c.insert.new.self ≡ put c.pair-item.result.key (view c.in-Ok.value) c.loop-pair.filled = (c.in_ok-insert-in-Ok.ensures).ok ∙ ap (λ k. put k (view c.in-Ok.value) c.loop-pair.filled) (c.in_ok-share-in-Ok.ensures) in
     record {
@@ -24,8 +23,8 @@ fill_pairs-loop-pair-preserved t c =
     }
 
 pub fill_vals-loop-value-preserved : goal.fill_vals-loop-value-preserved
-fill_vals-loop-value-preserved t c =
-    let G : Filling = λ d. value_seen data_of (known_of c.args.objects.now d) in
+fill_vals-loop-value-preserved g t c =
+    let G : Filling = λ d. value_seen data_of (g.K.Known.knows c.args.objects.now d) in
     let filled : fill G (view c.value-item.result) ≡ Ok (view c.in-Ok.value) = subst (λ r. FilledBy r (fill G (view c.value-item.result))) c.in-Ok.is (c.in_ok-value.ensures) in
     record {
       rest = c.loop-value.invariant.rest ∙ fill-step G c.loop-value.filled c.args.values.now c.loop-value.value-index c.value-item.result (view c.in-Ok.value) c.loop-value-test.true c.value-item.is filled ∙ ap (λ q. behind q (fill_vals G (vals_of (drop (c.loop-value.value-index + 1) c.args.values.now)))) (sym (c.in_ok-push-in-Ok.ensures).ok);

@@ -1,4 +1,4 @@
--- A wave over numbers is the wave over whole descriptions, lowered.
+-- A wave over names is the wave over whole descriptions, lowered.
 use Rattle.std.proofs.Common.{◌≡◌, ℕ, ◌+◌, List, [], ◌∷◌, ◌++◌, length, map, Bool, true, false, Option, Some, Result, Ok, Err, inl, inr, nat_lt, refl, sym, ap, ap₂, subst, ◌∙◌}
 use Rattle.std.proofs.lemmas.List.{append_assoc, append-nil, length-append}
 use Rattle.std.specs.Str.{is_utf8}
@@ -15,7 +15,8 @@ use Rattle.sky_law.proofs.Low.{size_low, depth_low}
 use Rattle.sky_law.proofs.RefsLow.{refs_low}
 use Rattle.sky_base.specs.declared.fault.Fault.{Fault}
 use Rattle.sky_rows.specs.Walk.{Row}
-use Rattle.sky_plain.specs.Stand.{spell, Sees}
+use Rattle.sky_law.specs.NamesLaws.{no_name}
+use Rattle.sky_waves.specs.Seen.{Sees, SeenAsKnown}
 use Rattle.sky_waves.specs.Wave as wave
 use Rattle.sky_waves.specs.Wave.{value_of, value_seen, data_or_text, on_list, on_dict, on_fun, on_val, on_pair, fill, fill_vals, fill_pairs, Turned, next_of, turn_all, turn_refs, turn_at}
 
@@ -136,20 +137,20 @@ in_right x (y ∷ xs) ys i = inr (in_right x xs ys i)
 
 module _ (tag : Row → List ℕ) where
   abbrev low_result : Result Val Fault → Result (v.Val (List ℕ)) Fault
-  low_result (Ok a) = Ok (low spell tag a)
+  low_result (Ok a) = Ok (low no_name tag a)
   low_result (Err f) = Err f
 
   abbrev low_results : Result Vals Fault → Result (v.Vals (List ℕ)) Fault
-  low_results (Ok vs) = Ok (low_vals spell tag vs)
+  low_results (Ok vs) = Ok (low_vals no_name tag vs)
   low_results (Err f) = Err f
 
   abbrev low_entries : Result (v.Pairs ⊥) Fault → Result (v.Pairs (List ℕ)) Fault
-  low_entries (Ok ps) = Ok (low_pairs spell tag ps)
+  low_entries (Ok ps) = Ok (low_pairs no_name tag ps)
   low_entries (Err f) = Err f
 
   abbrev pub low_turn : Turn → Turned
   low_turn (Turn.ends a) = Turned.ends a
-  low_turn (Turn.next a) = Turned.next (low spell tag a)
+  low_turn (Turn.next a) = Turned.next (low no_name tag a)
 
   list_low : (r : Result Vals Fault) → on_list (low_results r) ≡ low_result (on_list r)
   list_low (Ok vs) = refl
@@ -175,10 +176,10 @@ module _ (tag : Row → List ℕ) where
 
   module _ (g : Desc → Result Val Fault) (h : Row → Result (v.Val (List ℕ)) Fault) where
     abbrev Alike : List Desc → Type 0
-    Alike ds = (d : Desc) → In d ds → h (low_ref spell tag d) ≡ low_result (g d)
+    Alike ds = (d : Desc) → In d ds → h (low_ref no_name tag d) ≡ low_result (g d)
 
     mutual
-      fill_low : (a : Val) → Alike (refs a) → fill h (low spell tag a) ≡ low_result (fill g a)
+      fill_low : (a : Val) → Alike (refs a) → fill h (low no_name tag a) ≡ low_result (fill g a)
       fill_low null e = refl
       fill_low (truth b) e = refl
       fill_low (num z) e = refl
@@ -188,12 +189,12 @@ module _ (tag : Row → List ℕ) where
       fill_low (fun f c) e = ap (on_fun f) (fill_pairs_low c e) ∙ fun_low f (fill_pairs g c)
       fill_low (ref d) e = e d (inl refl)
 
-      fill_vals_low : (vs : Vals) → Alike (vals_refs vs) → fill_vals h (low_vals spell tag vs) ≡ low_results (fill_vals g vs)
+      fill_vals_low : (vs : Vals) → Alike (vals_refs vs) → fill_vals h (low_vals no_name tag vs) ≡ low_results (fill_vals g vs)
       fill_vals_low no_vals e = refl
       fill_vals_low (val a vs) e =
           ap₂ on_val (fill_low a (λ d i. e d (in_left d (refs a) (vals_refs vs) i))) (fill_vals_low vs (λ d i. e d (in_right d (refs a) (vals_refs vs) i))) ∙ val_low (fill g a) (fill_vals g vs)
 
-      fill_pairs_low : (ps : v.Pairs ⊥) → Alike (pairs_refs ps) → fill_pairs h (low_pairs spell tag ps) ≡ low_entries (fill_pairs g ps)
+      fill_pairs_low : (ps : v.Pairs ⊥) → Alike (pairs_refs ps) → fill_pairs h (low_pairs no_name tag ps) ≡ low_entries (fill_pairs g ps)
       fill_pairs_low no_pairs e = refl
       fill_pairs_low (pair k a ps) e =
           ap₂ (on_pair k) (fill_low a (λ d i. e d (in_left d (refs a) (pairs_refs ps) i))) (fill_pairs_low ps (λ d i. e d (in_right d (refs a) (pairs_refs ps) i))) ∙ pair_low k (fill g a) (fill_pairs g ps)
@@ -202,7 +203,7 @@ module _ (tag : Row → List ℕ) where
   turn_of (Err f) = Turn.ends (Answered.fault f)
   turn_of (Ok u) = next_within u
 
-  next_low : (a b : Bool) (u : Val) → low_turn (m.next_if a b u) ≡ wave.next_if a b (low spell tag u)
+  next_low : (a b : Bool) (u : Val) → low_turn (m.next_if a b u) ≡ wave.next_if a b (low no_name tag u)
   next_low true b u = refl
   next_low false true u = refl
   next_low false false u = refl
@@ -210,7 +211,7 @@ module _ (tag : Row → List ℕ) where
   turn_of_low : (r : Result Val Fault) → low_turn (turn_of r) ≡ next_of (low_result r)
   turn_of_low (Err f) = refl
   turn_of_low (Ok u) =
-      next_low (nat_lt 100 (depth u)) (nat_lt 262144 (size u)) u ∙ (λ i. wave.next_if (nat_lt 100 (sym (depth_low spell tag u) i)) (nat_lt 262144 (sym (size_low spell tag u) i)) (low spell tag u))
+      next_low (nat_lt 100 (depth u)) (nat_lt 262144 (size u)) u ∙ (λ i. wave.next_if (nat_lt 100 (sym (depth_low no_name tag u) i)) (nat_lt 262144 (sym (size_low no_name tag u) i)) (low no_name tag u))
 
 abbrev gathered : Result (List Val) Fault → Gathered Val
 gathered (Ok us) = Gathered.all us
@@ -230,7 +231,7 @@ turn_filled : (tag : Row → List ℕ) (g : Desc → Result Val Fault) (a : Val)
 turn_filled tag g a (Err f) e = ap (turn_of tag) (sym e)
 turn_filled tag g a (Ok us) (l, e) = sym (all_in us a) ∙ ap (turn_of tag) (sym (e [] []))
 
-module _ (job : Job) (around : Around) (reads : List ℕ → Answer (List ℕ)) (writes : v.Val (List ℕ) → Option (List ℕ)) (tag : Row → List ℕ) (reads_alike : (b : List ℕ) → reads b ≡ lower {N = ⊥} spell tag (around.reads b)) (writes_alike : (a : Val) → writes (low spell tag a) ≡ around.writes a) (n : ℕ) (knows : Row → Option (Object (List ℕ))) where
+module _ (job : Job) (around : Around) (reads : List ℕ → Answer (List ℕ)) (writes : v.Val (List ℕ) → Option (List ℕ)) (tag : Row → List ℕ) (reads_alike : (b : List ℕ) → reads b ≡ lower {N = ⊥} no_name tag (around.reads b)) (writes_alike : (a : Val) → writes (low no_name tag a) ≡ around.writes a) (n : ℕ) (knows : Row → Option (Object (List ℕ))) where
   as_value_is : (o : Obj) → as_value around o ≡ value_of around.reads o
   as_value_is (Object.bytes b) = read_is (around.reads b) b
     where
@@ -244,22 +245,18 @@ module _ (job : Job) (around : Around) (reads : List ℕ → Answer (List ℕ)) 
   as_value_is (Object.data_of a) = refl
   as_value_is (Object.fault f) = refl
 
-  value_low : (o : Obj) → value_of reads (low_obj spell tag o) ≡ low_result tag (value_of around.reads o)
+  value_low : (o : Obj) → value_of reads (low_obj no_name tag o) ≡ low_result tag (value_of around.reads o)
   value_low (Object.bytes b) = ap (λ r. data_or_text r b) (reads_alike b) ∙ read_low (around.reads b)
     where
       text_low : (t : Bool) → wave.text_if t b ≡ low_result tag (wave.text_if t b)
       text_low true = refl
       text_low false = refl
 
-      read_low : (r : Answer ⊥) → data_or_text (lower {N = ⊥} spell tag r) b ≡ low_result tag (data_or_text r b)
+      read_low : (r : Answer ⊥) → data_or_text (lower {N = ⊥} no_name tag r) b ≡ low_result tag (data_or_text r b)
       read_low (Ok a) = refl
       read_low (Err k) = text_low (is_utf8 b)
   value_low (Object.data_of a) = refl
   value_low (Object.fault f) = refl
-
-  -- all these are known, and seen
-  abbrev pub Settled : List Desc → Type 0
-  Settled ds = (d : Desc) → In d ds → (o : Object (List ℕ)) × (knows (low_ref spell tag d) ≡ Some o) × Sees job around tag n d o
 
   abbrev up : Desc → Result Val Fault
   up d = value_seen around.reads (see job around n d)
@@ -267,37 +264,37 @@ module _ (job : Job) (around : Around) (reads : List ℕ → Answer (List ℕ)) 
   abbrev down : Row → Result (v.Val (List ℕ)) Fault
   down d = value_seen reads (knows d)
 
-  down_up : (ds : List Desc) → Settled ds → Alike tag up down ds
+  down_up : (ds : List Desc) → SeenAsKnown job around tag n knows ds → Alike tag up down ds
   down_up ds s d i = go (s d i)
     where
-      go : (o : Object (List ℕ)) × (knows (low_ref spell tag d) ≡ Some o) × Sees job around tag n d o → down (low_ref spell tag d) ≡ low_result tag (up d)
+      go : (o : Object (List ℕ)) × (knows (low_ref no_name tag d) ≡ Some o) × Sees job around tag n d o → down (low_ref no_name tag d) ≡ low_result tag (up d)
       go (o, k, (p, e, l)) =
           ap (value_seen reads) k ∙ ap (value_of reads) (sym l) ∙ value_low p ∙ ap (λ x. low_result tag (value_seen around.reads x)) (sym e)
 
-  gather_is : (ds : List Desc) → Settled ds → gather (see job around n) (as_value around) ds ≡ gathered (results up ds)
+  gather_is : (ds : List Desc) → SeenAsKnown job around tag n knows ds → gather (see job around n) (as_value around) ds ≡ gathered (results up ds)
   gather_is [] s = refl
   gather_is (d ∷ ds) s = go (s d (inl refl)) (gather_is ds (λ c i. s c (inr i)))
     where
-      go : (o : Object (List ℕ)) × (knows (low_ref spell tag d) ≡ Some o) × Sees job around tag n d o → gather (see job around n) (as_value around) ds ≡ gathered (results up ds) → gather (see job around n) (as_value around) (d ∷ ds) ≡ gathered (results up (d ∷ ds))
+      go : (o : Object (List ℕ)) × (knows (low_ref no_name tag d) ≡ Some o) × Sees job around tag n d o → gather (see job around n) (as_value around) ds ≡ gathered (results up ds) → gather (see job around n) (as_value around) (d ∷ ds) ≡ gathered (results up (d ∷ ds))
       go (o, k, (p, e, l)) rest =
           ap₂ (λ x r. gather_one x (as_value around) r) e rest ∙ ap (λ x. gather_on x (gathered (results up ds))) (as_value_is p) ∙ gathered_more (value_of around.reads p) (results up ds) up ∙ ap (λ x. gathered (more_of up (value_seen around.reads x) (results up ds))) (sym e)
 
-  all_low : (a : Val) → Settled (refs a) → low_turn tag (m.turn_all job around n a) ≡ turn_all reads writes knows (low spell tag a)
+  all_low : (a : Val) → SeenAsKnown job around tag n knows (refs a) → low_turn tag (m.turn_all job around n a) ≡ turn_all reads writes knows (low no_name tag a)
   all_low a s =
       ap (λ x. low_turn tag (next_value x a)) (gather_is (refs a) s) ∙ ap (low_turn tag) (turn_filled tag up a (results up (refs a)) (filled up a)) ∙ turn_of_low tag (fill up a) ∙ ap next_of (sym (fill_low tag up down a (down_up (refs a) s)))
 
-  lone_low : (p : Obj) (t : Turn) (u : Turned) → low_turn tag t ≡ u → low_turn tag (m.lone (Some p) t) ≡ wave.lone (Some (low_obj spell tag p)) u
+  lone_low : (p : Obj) (t : Turn) (u : Turned) → low_turn tag t ≡ u → low_turn tag (m.lone (Some p) t) ≡ wave.lone (Some (low_obj no_name tag p)) u
   lone_low (Object.bytes b) t u e = refl
   lone_low (Object.data_of a) t u e = e
   lone_low (Object.fault f) t u e = e
 
-  turn_refs_low : (ds : List Desc) (a : Val) → Settled (refs a) → low_turn tag (m.turn_refs job around n ds a) ≡ turn_refs reads writes knows (map (low_ref spell tag) ds) (low spell tag a)
+  turn_refs_low : (ds : List Desc) (a : Val) → SeenAsKnown job around tag n knows (refs a) → low_turn tag (m.turn_refs job around n ds a) ≡ turn_refs reads writes knows (map (low_ref no_name tag) ds) (low no_name tag a)
   turn_refs_low [] a s = ap (λ x. Turned.ends (m.text_of x)) (sym (writes_alike a))
   turn_refs_low (d ∷ ds) (ref e) s = go (s e (inl refl))
     where
-      go : (o : Object (List ℕ)) × (knows (low_ref spell tag e) ≡ Some o) × Sees job around tag n e o → low_turn tag (m.lone (see job around n e) (m.turn_all job around n (ref e))) ≡ wave.lone (knows (low_ref spell tag e)) (turn_all reads writes knows (low spell tag (ref e)))
+      go : (o : Object (List ℕ)) × (knows (low_ref no_name tag e) ≡ Some o) × Sees job around tag n e o → low_turn tag (m.lone (see job around n e) (m.turn_all job around n (ref e))) ≡ wave.lone (knows (low_ref no_name tag e)) (turn_all reads writes knows (low no_name tag (ref e)))
       go (o, k, (p, f, l)) =
-          ap (λ x. low_turn tag (m.lone x (m.turn_all job around n (ref e)))) f ∙ lone_low p (m.turn_all job around n (ref e)) (turn_all reads writes knows (low spell tag (ref e))) (all_low (ref e) s) ∙ ap (λ x. wave.lone x (turn_all reads writes knows (low spell tag (ref e)))) (ap Some l ∙ sym k)
+          ap (λ x. low_turn tag (m.lone x (m.turn_all job around n (ref e)))) f ∙ lone_low p (m.turn_all job around n (ref e)) (turn_all reads writes knows (low no_name tag (ref e))) (all_low (ref e) s) ∙ ap (λ x. wave.lone x (turn_all reads writes knows (low no_name tag (ref e)))) (ap Some l ∙ sym k)
   turn_refs_low (d ∷ ds) null s = all_low null s
   turn_refs_low (d ∷ ds) (truth b) s = all_low (truth b) s
   turn_refs_low (d ∷ ds) (num z) s = all_low (num z) s
@@ -306,6 +303,6 @@ module _ (job : Job) (around : Around) (reads : List ℕ → Answer (List ℕ)) 
   turn_refs_low (d ∷ ds) (dict ps) s = all_low (dict ps) s
   turn_refs_low (d ∷ ds) (fun f c) s = all_low (fun f c) s
 
-  pub turn_low : (a : Val) → Settled (refs a) → low_turn tag (turn job around n a) ≡ turn_at reads writes knows (low spell tag a)
+  pub turn_low : (a : Val) → SeenAsKnown job around tag n knows (refs a) → low_turn tag (turn job around n a) ≡ turn_at reads writes knows (low no_name tag a)
   turn_low a s =
-      turn_refs_low (refs a) a s ∙ ap (λ ds. turn_refs reads writes knows ds (low spell tag a)) (sym (refs_low spell tag a))
+      turn_refs_low (refs a) a s ∙ ap (λ ds. turn_refs reads writes knows ds (low no_name tag a)) (sym (refs_low no_name tag a))

@@ -1,0 +1,90 @@
+-- The walk of an order says what the job does.
+use Rattle.std.specs.Prelude.{◌≡◌, ℕ, List, [], ◌∷◌, map, Option, Some}
+use Rattle.sky_base.specs.Val as v
+use Rattle.sky_base.specs.Val.{same_text}
+use Rattle.sky_base.specs.Name.{held_name, low_desc, name}
+use Rattle.sky_base.specs.Needed as n
+use Rattle.sky_base.specs.Res.{Object}
+use Rattle.sky_base.specs.See as s
+use Rattle.sky_law.specs.Lower.{low_obj, low_ref}
+use Rattle.sky_law.specs.NamesLaws.{Tag, no_name}
+use Rattle.sky_law.specs.Refers.{PlainReads}
+use Rattle.sky_law.specs.Tasks.{Apart}
+use Rattle.sky_state.specs.Pending.{held_in, pending_in}
+use Rattle.sky_state.specs.Stand.{Stand, low_state}
+use Rattle.sky_state.specs.Stands.{Stands}
+use Rattle.ciel_journal.specs.History.{OpenStart}
+use Rattle.ciel_journal.specs.Job.{Digest, Job, Task, show, of, In}
+use Rattle.ciel_journal.specs.Lawful.{Given, HeldAt}
+use Rattle.ciel_meant.specs.Inner.{real_inner}
+use Rattle.ciel_meant.specs.Real.{back, real_job}
+use Rattle.ciel_reports.specs.Report.{End, Says, made, missing, stopped}
+use Rattle.sky_moves.specs.Moves.{SeenAs, Stop, ended, shown, waits}
+use Rattle.ciel_walks.specs.Walk.{Walk}
+
+abbrev pub names_of : List (v.Desc (List ℕ)) → List Digest
+names_of ds = map held_name ds
+
+abbrev pub waits_of : Stand (List ℕ) → ℕ
+waits_of (Stand.run r) = r.waits
+waits_of (Stand.show_at u w) = w
+
+-- marks are of objects and states by names
+module _ (tag : Tag) (mark : Object (List ℕ) → Digest) (frozen : Stand (List ℕ) → Digest) (job : s.Job) (around : s.Around) where
+  abbrev pub the : Job s.Desc
+  the =
+      real_job job around (name no_name tag) (λ x. mark (low_obj no_name tag x)) (λ a. frozen (low_state tag a))
+
+  abbrev pub lower : s.Desc → v.Desc (List ℕ)
+  lower d = low_desc no_name tag d
+
+  -- what is made at the end: of a call its object, of the root task nothing
+  abbrev pub object_made : Task s.Desc → Object (List ℕ) → List (Digest × Digest)
+  object_made show o = []
+  object_made (of d) o = (name no_name tag d, mark o) ∷ []
+
+  -- what a report says of where a walk stopped, with nothing copied
+  abbrev pub end_of : Task s.Desc → Stop → End
+  end_of t (ended o) = made (object_made t o) []
+  end_of t (shown a) = made [] []
+  end_of t (waits r) =
+      stopped (waits_of r) (frozen r) (names_of (pending_in same_text r)) (names_of (held_in same_text r))
+
+  module _ (o : OpenStart s.Desc) where
+    -- what the task holds at the order's wait, or the objects hold that the order brings along
+    pub data First (d : s.Desc) : Type 0 where
+      held : HeldAt the o.task o.from d → First d
+      carried : (e : s.Desc) (k : ℕ) → Given the o e → In d ((real_inner job around).carries k e) → First d
+
+    module _ (finds : v.Desc (List ℕ) → Option (Object (List ℕ))) where
+      -- this is what the order brings along: by its name the object of each description that the state there holds and that was live,
+      -- and nothing else
+      pub record Brings : Type 0 where
+        pub given : (d : s.Desc) → Given the o d → (x : Object (List ℕ)) × SeenAs tag job around d x × (finds (low_ref no_name tag d) ≡ Some x)
+        pub only : (d : s.Desc) (x : Object (List ℕ)) → finds (low_ref no_name tag d) ≡ Some x → (e : s.Desc) × Given the o e × (name no_name tag e ≡ name no_name tag d)
+
+      -- a run of the order may begin from this state: it is the task's at the order's wait, and no two descriptions that are held or
+      -- brought along there share a name
+      pub record Begins (r : Stand (List ℕ)) : Type 0 where
+        pub brings : Brings
+        pub stands : Stands job around tag r (back o.task) o.from
+        pub waits : (ds : List s.Desc) × n.WaitOf job around (back o.task) o.from ds
+        pub apart : (d e : s.Desc) → First d → First e → name no_name tag d ≡ name no_name tag e → d ≡ e
+        -- no wait is twice for one description
+        pub once : (j : ℕ) (ds : List s.Desc) → n.WaitOf job around (back o.task) j ds → Apart ds
+
+-- what a walk from there says of the job: the six cases
+abbrev pub WalksSay : Type 0
+WalksSay =
+    (tag : Tag) (mark : Object (List ℕ) → Digest) (frozen : Stand (List ℕ) → Digest) (job : s.Job) (around : s.Around) → PlainReads around
+    → (o : OpenStart s.Desc) (finds : v.Desc (List ℕ) → Option (Object (List ℕ))) (r : Stand (List ℕ)) (ms : List (v.Desc (List ℕ))) (e : Stop)
+    → Begins tag mark frozen job around o finds r → Walk tag job around (back o.task) finds r ms e
+    → Says (the tag mark frozen job around) (real_inner job around) (lower tag mark frozen job around) o (record { number = o.number; spawned = ms; end = end_of tag mark frozen job around o.task e })
+
+-- and where something is missing nothing is told of what was made
+abbrev pub MissingSays : Type 0
+MissingSays =
+    (tag : Tag) (mark : Object (List ℕ) → Digest) (frozen : Stand (List ℕ) → Digest) (job : s.Job) (around : s.Around) → PlainReads around
+    → (o : OpenStart s.Desc) (finds : v.Desc (List ℕ) → Option (Object (List ℕ))) (r : Stand (List ℕ)) (name : Digest) (loss : ℕ)
+    → Begins tag mark frozen job around o finds r
+    → Says (the tag mark frozen job around) (real_inner job around) (lower tag mark frozen job around) o (record { number = o.number; spawned = []; end = missing name loss })

@@ -1,0 +1,1 @@
+// The laws, as contracts of functions that do nothing.

@@ -1,0 +1,59 @@
+//! A task goes on from its state.
+
+ghost use Rattle.std.specs.Prelude.{◌≡◌, IfOk, map};
+ghost use Rattle.sky_base.specs.ObjectView.{object_view};
+ghost use Rattle.sky_state.specs.Fits.{Fits};
+ghost use Rattle.sky_state.specs.StateView.{stand_of, spawned_of};
+ghost use Rattle.sky_onward.specs.Exactly.{Exactly, MakesExactly, FitsAfter, OneFurther};
+ghost use Rattle.sky_onward.specs.Onward.{IsRead, AnswersSound, GrewSoundly};
+ghost use Rattle.sky_onward.specs.Steps.{Resumed};
+
+use crate::call::advance;
+use crate::step::Step;
+use ciel_name::name::Namer;
+use sky_base::object::Object;
+use sky_base::text::Memory;
+use sky_numbers::code::Numbered;
+use sky_resume::on as call;
+use sky_shown::show;
+use sky_state::state::State;
+use std::alloc::Global;
+
+/// A task goes on from its state to its next wait or its end, with one object for each name that is pending, in order. A call ends
+/// with an object, the root task with the job's answer. What a call makes is put at the end of what was spawned, each with its name.
+/// After `Memory` the state may only be dropped.
+///
+/// Answers `Memory` for want of memory.
+pub fn resume<'a, 'b, N: Namer>(
+    alloc: Global,
+    script: &'b Numbered<'a>,
+    state: &mut State,
+    answers: &[Object],
+    namer: &'b N,
+) -> Result<Step, Memory>
+    requires same { script.now.nodes ≡ script.now.code }
+    requires read { IsRead script.now.code }
+    requires fits { Fits script.now.code (stand_of state.old) }
+    requires answers { AnswersSound script.now.code answers.now }
+    ensures comes { IfOk result (λ s. Exactly (N.digest namer.now) script.now.code (map object_view answers.now) (stand_of state.old) (stand_of state.new) s) }
+    ensures made { IfOk result (λ s. MakesExactly (N.digest namer.now) script.now.code (map object_view answers.now) (stand_of state.old) (spawned_of state.old) (spawned_of state.new)) }
+    ensures resumed { IfOk result (λ s. Resumed (N.digest namer.now) script.now.code (stand_of state.old) (stand_of state.new) (map object_view answers.now) s (spawned_of state.old) (spawned_of state.new)) }
+    ensures fits { IfOk result (λ s. FitsAfter script.now.code (stand_of state.new) s) }
+    ensures further { IfOk result (λ s. OneFurther (stand_of state.old) (stand_of state.new) s) }
+    ensures sound { IfOk result (λ s. GrewSoundly (N.digest namer.now) script.now.code (spawned_of state.old) (spawned_of state.new)) }
+{
+    match state {
+        State::Run(run) => match advance(alloc, script, run, answers, namer)? {
+            call::Came::Ended(object) => Ok(Step::Ended(object)),
+            call::Came::Waits => Ok(Step::Waits),
+        },
+        State::Show { value, wave } => match show::go_on(alloc, value, *wave, answers)? {
+            show::Came::Shown(shown) => Ok(Step::Shown(shown)),
+            show::Came::Next(next) => {
+                *value = next;
+                *wave += 1;
+                Ok(Step::Waits)
+            }
+        },
+    }
+}

@@ -1,0 +1,46 @@
+-- What is found of what a state waits for, and one turn of going on.
+use Rattle.std.specs.Prelude.{◌≡◌, ◌-◌, ◌+◌, ℕ, List, Bool, true, false, Option, Some, None, IsSome}
+use Rattle.sky_base.specs.Val.{Desc, same_text}
+use Rattle.sky_base.specs.Tree.{Script}
+use Rattle.sky_base.specs.Res.{Object, visits}
+use Rattle.sky_law.specs.Sound.{SoundObject}
+use Rattle.sky_law.specs.Tasks.{In, Each}
+use Rattle.sky_state.specs.Pending.{pending_in}
+use Rattle.sky_state.specs.Stand.{Stand}
+use Rattle.sky_onward.specs.Exactly.{gone_of}
+use Rattle.sky_onward.specs.Steps.{Spawned, Resumed}
+use Rattle.sky_onward.specs.declared.step.Step.{Step}
+use Rattle.sky_through.specs.Through.{AreFound, StopsAt}
+
+module _ (finds : Desc (List ℕ) → Option (Object (List ℕ))) where
+  -- all of these are found
+  abbrev pub AllFound : List (Desc (List ℕ)) → Type 0
+  AllFound ds = Each (λ d. IsSome (finds d)) ds
+
+  -- one of them isn't
+  abbrev pub OneLacks : List (Desc (List ℕ)) → Type 0
+  OneLacks ds = (d : Desc (List ℕ)) × In d ds × (finds d ≡ None)
+
+  -- what a test whether all are found says
+  abbrev pub FoundIf : Bool → List (Desc (List ℕ)) → Type 0
+  FoundIf true ds = AllFound ds
+  FoundIf false ds = OneLacks ds
+
+  -- all that the state waits for is found
+  abbrev pub HasAll : Stand (List ℕ) → Type 0
+  HasAll s = AllFound (pending_in same_text s)
+
+  -- what is found is sound for the script
+  abbrev pub FindsSound : Script → Type 0
+  FindsSound sc = (d : Desc (List ℕ)) (o : Object (List ℕ)) → finds d ≡ Some o → SoundObject sc o
+
+  -- a turn stops with this step; where there is none it went on to a next wait at which all is found
+  abbrev pub Turns : (digest : List ℕ → List ℕ) → Script → Option Step → (old new : Stand (List ℕ)) → (before after : Spawned) → Type 0
+  Turns digest sc (Some s) old new before after =
+      (os : List (Object (List ℕ))) × AreFound finds old os × Resumed digest sc old new os s before after × StopsAt finds s new
+  Turns digest sc None old new before after =
+      (os : List (Object (List ℕ))) × AreFound finds old os × Resumed digest sc old new os Step.Waits before after × HasAll new
+
+-- as many waits or waves may still come
+abbrev pub still_to_come : Stand (List ℕ) → ℕ
+still_to_come s = visits + 101 - gone_of s

@@ -1,0 +1,32 @@
+//! Where objects are found by the names of their descriptions.
+
+ghost use Rattle.std.specs.Prelude.{◌≡◌, ℕ, List, Option, Some, IfOk, IsSome, is_some};
+ghost use Rattle.sky_base.specs.ObjectView.{object_view};
+ghost use Rattle.sky_base.specs.Res as logic;
+ghost use Rattle.sky_base.specs.Val.{Desc, known};
+
+use sky_base::name::Name;
+use sky_base::object::Object;
+use sky_base::text::Memory;
+use std::alloc::Global;
+
+/// Objects by the names of their descriptions. What is found stays as it is while it is looked up.
+pub trait Finds {
+    /// Why an object that there is can't be handed out.
+    type Refusal;
+
+    /// The object of each description that there is.
+    ghost finds: { Self → Desc (List ℕ) → Option (logic.Object (List ℕ)) };
+
+    /// Whether there is an object of the description of this name.
+    fn has(&self, name: &Name) -> bool
+        ensures { result ≡ is_some (finds self.now (known name.now)) };
+
+    /// The object of the description of this name, which there is.
+    ///
+    /// Answers `Memory` for want of memory.
+    fn find(&mut self, alloc: Global, name: &Name) -> Result<Result<Object, Self::Refusal>, Memory>
+        requires { IsSome (finds self.old (known name.now)) }
+        ensures object { IfOk result (λ r. IfOk r (λ o. finds self.old (known name.now) ≡ Some (object_view o))) }
+        ensures same { finds self.new ≡ finds self.old };
+}
