@@ -8,7 +8,6 @@ use Rattle.sky_base.specs.Val.{Desc}
 use Rattle.sky_base.specs.declared.object.Named.{Named}
 use Rattle.sky_law.proofs.Lists.{length_push}
 use Rattle.ciel_journal.specs.Entries.{Entry, low_made, low_names}
-use Rattle.ciel_journal.specs.History as hist
 use Rattle.ciel_journal.specs.History.{Event, OpenStart, Save, Standing, done, ends_show, find_open, learned as known_after, lost, missed, names_of, placed, saved, standing, start}
 use Rattle.ciel_journal.specs.Job.{Digest, Each, In, Job, Once, Task, of, show}
 use Rattle.ciel_journal.specs.Lawful.{Copied, DoneAllowed, Marked, NoClash, SavedAllowed, own_name}
