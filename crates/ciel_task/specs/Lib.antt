@@ -1,3 +1,3 @@
 pub mod Named
 pub mod Orders
-pub mod Stood
+pub mod Shop
