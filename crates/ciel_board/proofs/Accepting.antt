@@ -1,19 +1,16 @@
 -- A loss, and a report that is learned whole, are events that the state follows.
-use Rattle.std.proofs.Common.{◌≡◌, ℕ, suc, ◌+◌, ◌≤◌, ◌<◌, List, [], ◌∷◌, ◌++◌, length, Bool, true, false, not, cond, map, filter, nat_eq, nat_lt, eqb-true, eq-eqb, Option, Some, None, Result, Ok, Err, ◌⊎◌, inl, inr, refl, ap, sym, ◌∙◌, subst, arith}
+use Rattle.std.proofs.Common.{◌≡◌, ℕ, ◌+◌, ◌≤◌, ◌<◌, List, [], ◌∷◌, ◌++◌, length, Bool, true, false, not, cond, map, filter, nat_eq, nat_lt, eqb-true, eq-eqb, Option, Some, None, Ok, Err, ◌⊎◌, inl, inr, refl, ap, sym, ◌∙◌, subst, arith}
 use Rattle.std.specs.List.{AllByRecursion, list_any}
 use Rattle.std.specs.Option.{option_map_or}
 use Rattle.std.proofs.lemmas.Bool.{ltb-true}
 use Rattle.std.specs.Prelude.{slice_get}
-use Rattle.sky_base.specs.Name.{digested}
 use Rattle.sky_base.specs.Val.{Desc}
 use Rattle.sky_base.specs.declared.object.Named.{Named}
-use Rattle.sky_base.specs.declared.object.TaskId.{TaskId}
 use Rattle.sky_law.proofs.Lists.{length_push}
-use Rattle.ciel_journal.specs.Entries.{Entry, journal_of, low, low_made, low_names}
-use Rattle.ciel_journal.specs.History as hist
-use Rattle.ciel_journal.specs.History.{Event, OpenStart, Save, Standing, after, done, ends_show, find_open, learned as known_after, lost, missed, names_of, placed, saved, standing, start}
+use Rattle.ciel_journal.specs.Entries.{Entry, low_made, low_names}
+use Rattle.ciel_journal.specs.History.{Event, OpenStart, Save, Standing, done, ends_show, find_open, learned as known_after, lost, missed, names_of, placed, saved, standing, start}
 use Rattle.ciel_journal.specs.Job.{Digest, Each, In, Job, Once, Task, of, show}
-use Rattle.ciel_journal.specs.Lawful.{Allowed, Copied, DoneAllowed, Marked, NoClash, SavedAllowed, Step, own_name}
+use Rattle.ciel_journal.specs.Lawful.{Copied, DoneAllowed, Marked, NoClash, SavedAllowed, own_name}
 use Rattle.ciel_journal.proofs.BookKnown.{Informed}
 use Rattle.ciel_journal.proofs.Good.{after_done, after_saved}
 use Rattle.ciel_journal.proofs.Members.{any_in, bool_cases, each_of, in_any}
@@ -21,31 +18,29 @@ use Rattle.ciel_journal.proofs.Numbers.{found_in as open_found}
 use Rattle.ciel_journal.proofs.OnceLaw.{once_learned}
 use Rattle.ciel_journal.proofs.Shelved.{fetched_in, learned_in}
 use Rattle.ciel_journal.proofs.Told.{book_told}
-use Rattle.ciel_journal.proofs.Unique.{same_found}
 use Rattle.ciel_journal.specs.Live.{spawned_of}
 use Rattle.ciel_reports.specs.Report as r
 use Rattle.ciel_reports.proofs.Reporting.{allowed}
 use Rattle.ciel_table.specs.Changes as c
-use Rattle.ciel_table.specs.Learning.{if_new, learn_answer, learn_at, learned}
+use Rattle.ciel_table.specs.Learning.{learn_answer, learn_at, learned}
 use Rattle.ciel_table.specs.Named.{found}
-use Rattle.ciel_table.specs.Seen.{TableSeen, find, row_name, saves_name, waits_in, waits_of}
+use Rattle.ciel_table.specs.Seen.{TableSeen, row_name, saves_name, waits_in, waits_of}
 use Rattle.ciel_table.specs.declared.refusal.Learn.{Learn}
 use Rattle.ciel_table.specs.declared.row.Row.{Row}
 use Rattle.ciel_table.specs.declared.wait.Saves.{Saves}
-use Rattle.ciel_table.specs.declared.wait.Wait.{Wait}
 use Rattle.ciel_table.proofs.Lists.{all_filter, all_more}
 use Rattle.ciel_want.specs.History.{task_id}
 use Rattle.ciel_want.proofs.Rows.{all_found, item_at, some_place}
 use Rattle.ciel_board.specs.Board.{Board, Order, OrderOut, find_order}
 use Rattle.ciel_board.specs.Follows.{Follows, OneByOne, OutIs, RowIs, StandsFor, WaitIs, saves_of}
-use Rattle.ciel_board.specs.Laws.{AcceptedAs, CopyLies, Lies, LiesUnlessClash, OutputLies, Taken}
+use Rattle.ciel_board.specs.Laws.{CopyLies, OutputLies, Taken}
 use Rattle.ciel_board.specs.Moves.{accepted, is_root, lost_at, wait_of, with_copies, with_outputs, without}
 use Rattle.ciel_board.specs.Reports as rep
-use Rattle.ciel_board.specs.Reports.{AllLearned, Copy, End, Output, Stack, copy_names, learned_all, made_keys, named_view, report_view}
+use Rattle.ciel_board.specs.Reports.{AllLearned, Copy, End, Output, Stack, copy_names, learned_all, made_keys, report_view}
 use Rattle.ciel_board.specs.Setting.{HasObject, HasState, IsSetting, Setting}
 use Rattle.ciel_board.specs.Sound.{CopyFits, OutputFits, RowSound, SavesSound, Sound}
 use Rattle.ciel_board.proofs.Following.{apart, goes_on, informed, traced}
-use Rattle.ciel_board.proofs.Learning.{Comes, Grown, More, RowNamed, book_more, comes, found_in, found_named, grown, learns, named_all, new, rows_more, there, views, views_are}
+use Rattle.ciel_board.proofs.Learning.{Comes, Grown, More, RowNamed, book_more, comes, found_in, found_named, grown, named_all, new, rows_more, there, views}
 use Rattle.ciel_board.proofs.Looking.{Titled, row_title}
 use Rattle.ciel_board.proofs.Pairs.{back, filtered, long, mapped}
 use Rattle.ciel_board.proofs.Placing.{IsCopy, IsOutput, copies_placed, copies_same, outputs_placed, outputs_same}

@@ -1,12 +1,12 @@
 -- Events that the state follows come in their turns.
-use Rattle.std.proofs.Common.{◌≡◌, ℕ, zero, suc, ◌+◌, ◌*◌, ◌%◌, List, [], ◌∷◌, ◌++◌, length, false, map, slice_get, Option, Some, None, ◌⊎◌, inl, inr, refl, ap, sym, ◌∙◌, subst}
+use Rattle.std.proofs.Common.{◌≡◌, ℕ, zero, suc, ◌+◌, ◌*◌, ◌%◌, List, [], ◌∷◌, ◌++◌, length, false, map, slice_get, Some, ◌⊎◌, inl, inr, refl, ap, sym, ◌∙◌, subst}
 use Rattle.std.proofs.lemmas.List.{length-map}
 use Rattle.sky_base.specs.declared.object.Named.{Named}
 use Rattle.sky_base.specs.declared.object.TaskId.{TaskId}
 use Rattle.ciel_journal.specs.Graph.{Runnable}
 use Rattle.ciel_journal.specs.History.{Event, OpenStart, Standing, before_all, done, find_open, lost, missed, saved, standing, start}
 use Rattle.ciel_journal.specs.Job.{Digest, In, Task}
-use Rattle.ciel_journal.specs.Lawful.{Allowed, Lawful, Step}
+use Rattle.ciel_journal.specs.Lawful.{Lawful, Step}
 use Rattle.ciel_journal.specs.Turns.{Chosen, Driven, FirstDue, IsReadyList, NothingDue, Ready, Rests, Turn, draw, idle, tasks_of}
 use Rattle.ciel_journal.proofs.Append.{driven_append, lawful_split}
 use Rattle.ciel_reports.specs.Report as r
@@ -16,7 +16,7 @@ use Rattle.ciel_want.specs.Waited.{tasks_in_order}
 use Rattle.ciel_board.specs.Board.{Board, Order, board_graph, find_order, idle_of, wait_number}
 use Rattle.ciel_board.specs.Driving.{CanRun, Picked, Quiet, RestsNow, Runs, RunsOn}
 use Rattle.ciel_board.specs.Follows.{Follows, OrderIs}
-use Rattle.ciel_board.specs.Laws.{AcceptedAs, LiesUnlessClash, MissedAs, StartedAs, Taken}
+use Rattle.ciel_board.specs.Laws.{LiesUnlessClash, StartedAs, Taken}
 use Rattle.ciel_board.specs.Moves.{accepted, lost_at, missed_at, started}
 use Rattle.ciel_board.specs.Reports.{AllLearned, End, report_view}
 use Rattle.ciel_board.specs.Setting.{IsSetting, Setting}

@@ -1,7 +1,7 @@
 -- A state that follows a history, and a start.
-use Rattle.std.proofs.Common.{◌≡◌, ℕ, List, [], ◌∷◌, ◌++◌, false, inl, inr, ◌⊎◌, refl, ap, sym, ◌∙◌, subst}
+use Rattle.std.proofs.Common.{◌≡◌, ℕ, List, [], ◌∷◌, ◌++◌, false, inl, inr, refl, ap, sym, ◌∙◌, subst}
 use Rattle.sky_base.specs.declared.object.TaskId.{TaskId}
-use Rattle.ciel_journal.specs.Entries.{Entry, journal_of, low}
+use Rattle.ciel_journal.specs.Entries.{Entry, low}
 use Rattle.ciel_journal.specs.Graph.{Runnable}
 use Rattle.ciel_journal.specs.History.{Event, Save, after, before_all, needs as needs_after, standing, start}
 use Rattle.ciel_journal.specs.Job.{Each, In, Task}
@@ -15,7 +15,7 @@ use Rattle.ciel_journal.proofs.Traced as t
 use Rattle.ciel_table.specs.Seen.{last_wait}
 use Rattle.ciel_want.specs.History.{Agree, Holds, task_id}
 use Rattle.ciel_want.proofs.Holding.{lawful_agrees}
-use Rattle.ciel_board.specs.Board.{Board, board_graph, idle_of, task_key, tasks_out, wait_number}
+use Rattle.ciel_board.specs.Board.{Board, board_graph, idle_of, tasks_out, wait_number}
 use Rattle.ciel_board.specs.Follows.{Follows, StandsFor}
 use Rattle.ciel_board.specs.Laws.{StartedAs}
 use Rattle.ciel_board.specs.Moves.{started}

@@ -1,5 +1,5 @@
 -- The table of a state that follows a history holds what stands after it.
-use Rattle.std.proofs.Common.{◌≡◌, ℕ, List, [], ◌∷◌, Bool, true, false, ◌||◌, map, Option, Some, None, ◌⊎◌, inl, inr, refl, ap, sym, ◌∙◌, subst}
+use Rattle.std.proofs.Common.{◌≡◌, ℕ, List, [], ◌∷◌, true, false, ◌||◌, map, Option, Some, None, inl, inr, refl, ap, sym, ◌∙◌, subst}
 use Rattle.std.specs.List.{AllByRecursion}
 use Rattle.std.specs.Option.{option_map_or}
 use Rattle.sky_base.specs.Name.{digested}
@@ -7,15 +7,14 @@ use Rattle.sky_base.specs.ObjectView.{desc_view}
 use Rattle.sky_base.specs.declared.object.Desc1.{Desc1}
 use Rattle.sky_base.specs.declared.object.TaskId.{TaskId}
 use Rattle.ciel_journal.specs.Graph.{root, through}
-use Rattle.ciel_journal.specs.History.{OpenStart, Save, Standing, is_out, last_save, live, live_if, needs as needs_after, needs_of}
-use Rattle.ciel_journal.specs.Job.{Digest, Each, In, Job, Task, of, show}
-use Rattle.ciel_journal.specs.Known.{Inner}
+use Rattle.ciel_journal.specs.History.{Save, Standing, is_out, last_save, live, live_if, needs as needs_after, needs_of}
+use Rattle.ciel_journal.specs.Job.{Each, In, Job, Task, of, show}
 use Rattle.ciel_journal.specs.Lawful.{NoClash, own_name}
 use Rattle.ciel_journal.specs.Turns.{Reached}
 use Rattle.ciel_journal.proofs.BookKnown.{Informed}
 use Rattle.ciel_journal.proofs.Members.{each_of}
 use Rattle.ciel_name.specs.Names.{first_output}
-use Rattle.ciel_table.specs.Seen.{has_place, is_input, is_live, is_live_row, last_wait, latest, row_named, waits_of}
+use Rattle.ciel_table.specs.Seen.{has_place, is_input, is_live, is_live_row, last_wait, row_named, waits_of}
 use Rattle.ciel_table.specs.declared.row.Row.{Row}
 use Rattle.ciel_table.specs.declared.wait.Wait.{Wait}
 use Rattle.ciel_table.proofs.Lists.{all_more}

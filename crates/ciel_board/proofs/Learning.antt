@@ -1,8 +1,8 @@
 -- What learning comes to, by names and by descriptions.
-use Rattle.std.proofs.Common.{◌≡◌, ◌≢◌, ℕ, suc, ◌≤◌, List, [], ◌∷◌, ◌++◌, append_assoc, length, Bool, true, false, cond, map, nat_lt, Option, Some, None, Result, Ok, Err, ◌⊎◌, inl, inr, refl, ap, sym, ◌∙◌, subst}
+use Rattle.std.proofs.Common.{◌≡◌, ◌≢◌, ℕ, suc, ◌≤◌, List, [], ◌∷◌, ◌++◌, append_assoc, length, Bool, true, false, cond, map, nat_lt, Option, Some, None, Ok, Err, ◌⊎◌, inl, inr, refl, ap, sym, ◌∙◌, subst}
 use Rattle.std.specs.List.{AllByRecursion, list_any}
 use Rattle.std.specs.Option.{option_map, option_map_or}
-use Rattle.std.proofs.lemmas.List.{append-nil, length-map, map-append}
+use Rattle.std.proofs.lemmas.List.{append-nil, map-append}
 use Rattle.std.proofs.lemmas.Bool.{ltb-false}
 use Rattle.sky_base.specs.Name.{canon, digested}
 use Rattle.sky_base.specs.ObjectView.{desc_view}
@@ -16,15 +16,15 @@ use Rattle.ciel_journal.proofs.Numbers.{in_left}
 use Rattle.ciel_name.specs.Laws.{SpelledDesc}
 use Rattle.ciel_name.proofs.Canon.{one_canon}
 use Rattle.ciel_reports.specs.Report.{IsNew, Learns}
-use Rattle.ciel_table.specs.Learning.{if_held, if_new, kept_bytes, learn_answer, learn_at, learned, new_row, rows_after}
+use Rattle.ciel_table.specs.Learning.{if_held, kept_bytes, learn_answer, learn_at, learned, new_row, rows_after}
 use Rattle.ciel_table.specs.Named.{found, place_of}
 use Rattle.ciel_table.specs.Seen.{TableSeen, find, row_name, row_named}
 use Rattle.ciel_table.specs.declared.refusal.Learn.{Learn}
 use Rattle.ciel_table.specs.declared.row.Row.{Row}
 use Rattle.ciel_table.proofs.Lists.{all_push}
-use Rattle.ciel_want.proofs.Rows.{all_found, item_at}
+use Rattle.ciel_want.proofs.Rows.{item_at}
 use Rattle.ciel_board.specs.Follows.{OneByOne, RowIs}
-use Rattle.ciel_board.specs.Reports.{AllLearned, FirstRefused, IsNamed, learned_all, named_view}
+use Rattle.ciel_board.specs.Reports.{AllLearned, IsNamed, learned_all, named_view}
 use Rattle.ciel_board.specs.Setting.{HasObject, Setting}
 use Rattle.ciel_board.proofs.Pairs.{join}
 

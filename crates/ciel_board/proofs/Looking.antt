@@ -1,13 +1,12 @@
 -- What is looked up in the table of a state that stands for a history: rows, saved waits, orders.
-use Rattle.std.proofs.Common.{◌≡◌, ℕ, List, [], ◌∷◌, ◌++◌, Bool, true, false, cond, ◌||◌, map, nat_lt, Option, Some, None, ◌⊎◌, inl, inr, refl, ap, sym, ◌∙◌, subst, filter}
+use Rattle.std.proofs.Common.{◌≡◌, ℕ, List, [], ◌∷◌, Bool, true, false, cond, ◌||◌, nat_lt, Option, Some, None, ◌⊎◌, inl, inr, refl, ap, sym, ◌∙◌, subst}
 use Rattle.std.specs.List.{AllByRecursion, list_any}
 use Rattle.sky_base.specs.Name.{digested}
 use Rattle.sky_base.specs.ObjectView.{desc_view}
 use Rattle.sky_base.specs.Val.{same_text}
-use Rattle.sky_base.specs.declared.object.TaskId.{TaskId}
 use Rattle.sky_base.proofs.Exact.{exact_text, self_text}
 use Rattle.ciel_journal.specs.History.{OpenStart, Save, better, last_save, same_task}
-use Rattle.ciel_journal.specs.Job.{Digest, Each, In, Job, Task, of, show}
+use Rattle.ciel_journal.specs.Job.{Each, In, Task, of, show}
 use Rattle.ciel_journal.specs.Lawful.{NoClash, own_name}
 use Rattle.ciel_journal.proofs.Members.{agree, bool_cases}
 use Rattle.ciel_table.specs.Named.{found}

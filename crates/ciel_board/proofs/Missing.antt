@@ -1,13 +1,12 @@
 -- A report that something is missing is an event that the state follows.
-use Rattle.std.proofs.Common.{◌≡◌, ℕ, ◌+◌, ◌≤◌, List, [], ◌∷◌, ◌++◌, length, Bool, true, false, not, cond, filter, map, nat_eq, eqb-true, Option, Some, None, ◌⊎◌, inl, inr, refl, ap, sym, ◌∙◌, subst}
+use Rattle.std.proofs.Common.{◌≡◌, ℕ, ◌+◌, ◌≤◌, List, [], ◌∷◌, ◌++◌, length, true, false, not, cond, filter, nat_eq, eqb-true, Option, Some, None, ◌⊎◌, inl, inr, refl, ap, sym, ◌∙◌, subst}
 use Rattle.std.specs.List.{list_any}
 use Rattle.std.specs.Option.{option_map}
 use Rattle.sky_base.specs.Val.{same_text}
-use Rattle.sky_base.specs.declared.object.TaskId.{TaskId}
 use Rattle.sky_base.proofs.Exact.{exact_text}
 use Rattle.ciel_journal.specs.Entries.{Entry}
-use Rattle.ciel_journal.specs.History.{Event, OpenStart, Save, Standing, after, before_all, find_open, last_save, lost, missed, order_of, stack_of, standing, start}
-use Rattle.ciel_journal.specs.Job.{Digest, Each, In, Job, Task, of, show}
+use Rattle.ciel_journal.specs.History.{Event, OpenStart, Save, Standing, before_all, find_open, last_save, lost, missed, order_of, stack_of, standing, start}
+use Rattle.ciel_journal.specs.Job.{Digest, In, Task, of, show}
 use Rattle.ciel_journal.specs.Lawful as lawful
 use Rattle.ciel_journal.specs.Lawful.{FetchedFrom, HeldAt, Lawful, NoClash, least}
 use Rattle.ciel_journal.proofs.Append.{lawful_split}

@@ -1,10 +1,9 @@
 -- The state at the beginning follows the empty history.
-use Rattle.std.proofs.Common.{◌≡◌, List, [], ◌∷◌, refl, ap, sym, ◌∙◌}
+use Rattle.std.proofs.Common.{◌≡◌, [], refl, ap, sym, ◌∙◌}
 use Rattle.sky_base.specs.Name.{digested}
 use Rattle.sky_base.specs.declared.object.Named.{Named}
-use Rattle.ciel_journal.specs.History.{Plan, before_all}
-use Rattle.ciel_journal.specs.Job.{In, Task, of, show}
-use Rattle.ciel_journal.specs.Lawful.{own_name}
+use Rattle.ciel_journal.specs.History.{Plan}
+use Rattle.ciel_journal.specs.Job.{Task, of, show}
 use Rattle.ciel_table.specs.Seen.{waits_of}
 use Rattle.ciel_want.specs.History.{task_id}
 use Rattle.ciel_board.specs.Follows.{Follows, OneByOne, WaitIs, saves_of}

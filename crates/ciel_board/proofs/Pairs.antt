@@ -1,5 +1,5 @@
 -- Lists that go together one by one.
-use Rattle.std.proofs.Common.{◌≡◌, suc, List, [], ◌∷◌, ◌++◌, Bool, true, false, cond, ◌⊎◌, inl, inr, refl, ap, sym, ◌∙◌, subst, filter, length, map}
+use Rattle.std.proofs.Common.{◌≡◌, suc, List, [], ◌∷◌, ◌++◌, Bool, true, false, cond, inl, inr, refl, ap, sym, ◌∙◌, subst, filter, length, map}
 use Rattle.std.specs.List.{AllByRecursion}
 use Rattle.ciel_journal.specs.Job.{Each, In}
 use Rattle.ciel_board.specs.Follows.{OneByOne}

@@ -1,14 +1,14 @@
 -- Places of what was made and copied: the rows are the book with them.
-use Rattle.std.proofs.Common.{◌≡◌, ℕ, List, [], ◌∷◌, ◌++◌, Bool, true, false, cond, map, ◌⊎◌, inl, inr, refl, ap, sym, ◌∙◌, subst}
+use Rattle.std.proofs.Common.{◌≡◌, ℕ, List, [], ◌∷◌, ◌++◌, true, false, cond, ◌⊎◌, inl, inr, refl, ap, sym, ◌∙◌, subst}
 use Rattle.std.specs.List.{AllByRecursion}
 use Rattle.std.proofs.lemmas.List.{map-append}
 use Rattle.sky_base.specs.Val.{same_text}
 use Rattle.sky_base.proofs.Exact.{exact_text, self_text}
 use Rattle.ciel_journal.specs.Entries.{low_made, low_names}
 use Rattle.ciel_journal.specs.History.{names_of, placed}
-use Rattle.ciel_journal.specs.Job.{Digest, Each, In, Once}
+use Rattle.ciel_journal.specs.Job.{Digest, In, Once}
 use Rattle.ciel_journal.specs.Lawful.{NoClash}
-use Rattle.ciel_journal.proofs.Members.{agree, bool_cases}
+use Rattle.ciel_journal.proofs.Members.{bool_cases}
 use Rattle.ciel_table.specs.Changes as c
 use Rattle.ciel_table.specs.Changes.{row_with}
 use Rattle.ciel_table.specs.Named.{changed}

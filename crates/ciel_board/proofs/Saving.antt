@@ -2,12 +2,11 @@
 use Rattle.std.proofs.Common.{◌≡◌, ℕ, List, [], ◌∷◌, ◌++◌, Bool, true, false, not, cond, map, nat_eq, filter, Option, Some, None, ◌⊎◌, inl, inr, refl, ap, sym, ◌∙◌, subst}
 use Rattle.std.specs.Option.{option_map, option_map_or}
 use Rattle.std.proofs.lemmas.List.{append-nil}
-use Rattle.std.specs.List.{AllByRecursion, list_any}
 use Rattle.sky_base.specs.Val.{same_text}
 use Rattle.sky_base.specs.declared.object.TaskId.{TaskId}
-use Rattle.sky_base.proofs.Exact.{exact_text, self_text}
+use Rattle.sky_base.proofs.Exact.{exact_text}
 use Rattle.ciel_journal.specs.History.{Save, same_task}
-use Rattle.ciel_journal.specs.Job.{Digest, In, Job, Task, of, show}
+use Rattle.ciel_journal.specs.Job.{Digest, In, Task}
 use Rattle.ciel_journal.specs.Lawful.{NoClash, own_name}
 use Rattle.ciel_journal.proofs.Bound.{task_exact}
 use Rattle.ciel_journal.proofs.Members.{bool_cases}

@@ -1,11 +1,9 @@
 -- What is found in the table is found after the history.
-use Rattle.std.proofs.Common.{◌≡◌, ℕ, List, [], ◌∷◌, Bool, true, false, cond, map, ◌⊎◌, inl, inr, refl, ap, sym, ◌∙◌, subst}
-use Rattle.std.specs.List.{list_any}
+use Rattle.std.proofs.Common.{◌≡◌, List, [], ◌∷◌, Bool, true, false, cond, map, ◌⊎◌, inl, inr, refl, sym, ◌∙◌, subst}
 use Rattle.sky_base.specs.declared.object.TaskId.{TaskId}
-use Rattle.ciel_journal.specs.Entries.{low_names}
 use Rattle.ciel_journal.specs.Graph.{Circle, Picks, Runnable}
 use Rattle.ciel_journal.specs.History.{Event, OpenStart, Standing, live, needs as needs_after, standing}
-use Rattle.ciel_journal.specs.Job.{Digest, Each, In, Job, Never, Task, of, show}
+use Rattle.ciel_journal.specs.Job.{Digest, Each, In, Never, Task, of}
 use Rattle.ciel_journal.specs.Journals.{CircleOf}
 use Rattle.ciel_journal.specs.Lawful.{own_name}
 use Rattle.ciel_journal.specs.Turns.{IsReadyList, Reached, Ready, is_first, tasks_of}
@@ -14,7 +12,7 @@ use Rattle.ciel_journal.proofs.Good.{lawful_circle}
 use Rattle.ciel_journal.proofs.Members.{any_in, bool_cases, each_of, in_any}
 use Rattle.ciel_journal.proofs.Picked.{picks_in}
 use Rattle.ciel_table.specs.Seen.{is_live}
-use Rattle.ciel_want.specs.History.{Agree, task_id}
+use Rattle.ciel_want.specs.History.{task_id}
 use Rattle.ciel_want.specs.Waited.{is_in, same_id, tasks_in_order}
 use Rattle.ciel_want.proofs.Listed.{led_listed, same_exact}
 use Rattle.ciel_board.specs.Board.{Board, board_graph, tasks_out}

@@ -1,5 +1,5 @@
 -- Each call keeps what holds of the master's state by names.
-use Rattle.std.proofs.Common.{◌≡◌, ℕ, zero, suc, ◌+◌, ◌≤◌, ◌<◌, List, [], ◌∷◌, ◌++◌, length, Bool, true, false, not, cond, ◌&&◌, ◌||◌, map, filter, nat_eq, nat_lt, eqb-true, eq-eqb, Option, Some, None, IsSome, ◌⊎◌, inl, inr, refl, ap, sym, ◌∙◌, subst, arith}
+use Rattle.std.proofs.Common.{◌≡◌, ℕ, zero, suc, ◌+◌, ◌≤◌, ◌<◌, List, [], ◌∷◌, ◌++◌, length, Bool, true, false, not, cond, ◌&&◌, map, filter, nat_eq, nat_lt, eq-eqb, Option, Some, None, IsSome, ◌⊎◌, inl, inr, refl, ap, sym, ◌∙◌, subst, arith}
 use Rattle.std.specs.List.{AllByRecursion, list_any}
 use Rattle.std.specs.Option.{option_and_then, option_map}
 use Rattle.std.proofs.lemmas.Bool.{ltb-true, ltb-false}
@@ -24,13 +24,13 @@ use Rattle.ciel_name.specs.Names.{first_output}
 use Rattle.ciel_table.specs.Changes as c
 use Rattle.ciel_table.specs.Changes.{row_with}
 use Rattle.ciel_table.specs.Learning.{learned, new_row}
-use Rattle.ciel_table.specs.Named.{changed, found, place_of}
+use Rattle.ciel_table.specs.Named.{found, place_of}
 use Rattle.ciel_table.specs.Seen.{Known, TableSeen, is_input, later, latest, row_name, row_named, saves_name, waits_of}
 use Rattle.ciel_table.specs.Sound.{Here}
 use Rattle.ciel_table.specs.declared.row.Row.{Row}
 use Rattle.ciel_table.specs.declared.wait.Saves.{Saves}
 use Rattle.ciel_table.specs.declared.wait.Wait.{Wait}
-use Rattle.ciel_table.proofs.ByName.{all_changed, length_changed, names_changed, names_mapped, place_new, place_same, place_still}
+use Rattle.ciel_table.proofs.ByName.{all_changed, length_changed, names_changed, names_mapped, place_same}
 use Rattle.ciel_table.proofs.Lists.{all_filter, all_map, all_more, all_push, any_last, flip_nat}
 use Rattle.ciel_want.specs.Waited.{AllKnown, RowNamed, TaskKnown, Whole, first_refs, is_in, made_by, same_id}
 use Rattle.ciel_want.proofs.Naming.{named_whole}
@@ -39,11 +39,11 @@ use Rattle.ciel_want.proofs.Listed.{same_exact}
 use Rattle.ciel_board.specs.Board.{Board, Order, OrderOut, board_graph, find_order, idle_of, start_refs, tasks_out, wait_number, workers_out}
 use Rattle.ciel_board.specs.Moves.{accepted, is_root, lost_at, opened, order_for, started, wait_of, with_copies, with_outputs, without}
 use Rattle.ciel_board.specs.Reports as rep
-use Rattle.ciel_board.specs.Reports.{AllLearned, Copy, End, IsNamed, Output, Stack, learned_all, named_view}
-use Rattle.ciel_board.specs.Sound.{CopyFits, EndFits, Fits, IsTask, OrderSound, OutputFits, RowSound, SavesSound, Sound, StackFits, WaitSound}
+use Rattle.ciel_board.specs.Reports.{AllLearned, Copy, End, IsNamed, Output, Stack, learned_all}
+use Rattle.ciel_board.specs.Sound.{EndFits, Fits, IsTask, OrderSound, RowSound, SavesSound, Sound, StackFits, WaitSound}
 use Rattle.ciel_board.proofs.Accepting.{room_all}
-use Rattle.ciel_board.proofs.Learning.{Comes, Grown, comes, grown, new, there}
-use Rattle.ciel_board.proofs.Placing.{SameBut, copies_same, outputs_same}
+use Rattle.ciel_board.proofs.Learning.{Comes, comes, grown, new, there}
+use Rattle.ciel_board.proofs.Placing.{copies_same, outputs_same}
 use Rattle.ciel_board.proofs.Saving.{fewer_waits, more_waits, same_waits}
 
 each_three : {A : Type 0} (F G H K : A → Type 0) → ((x : A) → F x → G x → H x → K x) → (xs : List A) → Each F xs → Each G xs → Each H xs → Each K xs

@@ -1,35 +1,29 @@
 -- A start by names is one of the history.
-use Rattle.std.proofs.Common.{◌≡◌, ℕ, ◌+◌, ◌≤◌, List, [], ◌∷◌, ◌++◌, length, Bool, true, false, map, Option, Some, None, ◌⊎◌, inl, inr, refl, ap, sym, ◌∙◌, subst}
+use Rattle.std.proofs.Common.{◌≡◌, ℕ, ◌+◌, ◌≤◌, List, [], ◌∷◌, length, true, false, map, Option, Some, None, ◌⊎◌, inl, inr, refl, ap, sym, ◌∙◌, subst}
 use Rattle.std.specs.Option.{option_and_then, option_map, option_map_or}
 use Rattle.sky_base.specs.ObjectView.{desc_view}
 use Rattle.sky_base.specs.Val.{input}
 use Rattle.sky_base.specs.declared.object.Desc1.{Desc1}
-use Rattle.sky_base.specs.declared.object.TaskId.{TaskId}
-use Rattle.ciel_journal.specs.Entries.{Entry, journal_of, low, low_task}
+use Rattle.ciel_journal.specs.Entries.{low_task}
 use Rattle.ciel_journal.specs.Graph.{Runnable}
 use Rattle.ciel_journal.specs.History as h
-use Rattle.ciel_journal.specs.History.{Event, OpenStart, Plan, Save, Standing, after, before_all, last, last_save, needs as needs_after, needs_of, order_of, standing, start}
+use Rattle.ciel_journal.specs.History.{OpenStart, Save, Standing, after, last, last_save, needs as needs_after, order_of, start}
 use Rattle.ciel_journal.specs.Job.{Digest, Each, Held, In, Job, Needed, StateOf, Task, of, show}
-use Rattle.ciel_journal.specs.Known.{TellsTo}
-use Rattle.ciel_journal.specs.Lawful.{HeldAt, Lawful, NoClash, Step, own_name}
+use Rattle.ciel_journal.specs.Lawful.{HeldAt, NoClash, Step, own_name}
 use Rattle.ciel_journal.specs.Turns.{Reached, Ready, busy, idle, idle_workers}
-use Rattle.ciel_journal.proofs.Append.{after_append, journal_last, lawful_append}
 use Rattle.ciel_journal.proofs.BookKnown.{Informed, last_cases, start_known}
 use Rattle.ciel_journal.proofs.Good.{last_ok, reached_needed}
 use Rattle.ciel_journal.proofs.Members.{each_of}
-use Rattle.ciel_journal.proofs.Near.{each_all}
 use Rattle.ciel_journal.proofs.SeenAs.{in_names}
 use Rattle.ciel_journal.proofs.Startable.{ready_step}
 use Rattle.ciel_journal.proofs.Traced.{SaveTraced}
 use Rattle.ciel_journal.proofs.Unique.{state_unique}
-use Rattle.ciel_table.specs.Seen.{is_input, is_live, last_wait, row_named}
+use Rattle.ciel_table.specs.Seen.{is_input, is_live, last_wait}
 use Rattle.ciel_table.specs.declared.row.Row.{Row}
 use Rattle.ciel_table.specs.declared.wait.Wait.{Wait}
-use Rattle.ciel_want.specs.History.{Agree, task_id}
-use Rattle.ciel_want.specs.Waited.{is_in, needs}
-use Rattle.ciel_board.specs.Board.{Board, OrderOut, Spot, board_graph, brought, first_held, held, held_at, idle_of, place_for, spot_for, spot_in, spot_of, stack_at, start_refs, task_key, tasks_out, wait_number, workers_out}
-use Rattle.ciel_board.specs.Follows.{BroughtFor, FetchedAt, Follows, OneByOne, OrderIs, OutIs, RowIs, StandsFor, WaitIs, worker_for}
-use Rattle.ciel_board.specs.Laws.{StartedAs}
+use Rattle.ciel_want.specs.History.{task_id}
+use Rattle.ciel_board.specs.Board.{Board, OrderOut, Spot, board_graph, first_held, held, held_at, idle_of, place_for, spot_for, spot_in, stack_at, start_refs, task_key, wait_number, workers_out}
+use Rattle.ciel_board.specs.Follows.{BroughtFor, FetchedAt, OneByOne, OrderIs, OutIs, RowIs, StandsFor, worker_for}
 use Rattle.ciel_board.specs.Moves.{order_for, started}
 use Rattle.ciel_board.specs.Setting.{HasState, IsMade, IsSetting, Setting}
 use Rattle.ciel_board.specs.Sound.{Sound}

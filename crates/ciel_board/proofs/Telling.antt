@@ -1,13 +1,13 @@
 -- A report that says what the job does is an event that the state follows, or it is refused as the job is.
-use Rattle.std.proofs.Common.{◌≡◌, ℕ, ◌≤◌, List, [], ◌∷◌, ◌++◌, length, map, false, Option, Some, None, inl, inr, refl, ap, sym, ◌∙◌, subst, arith}
+use Rattle.std.proofs.Common.{◌≡◌, ℕ, List, [], ◌∷◌, ◌++◌, map, false, Some, refl, ap, sym, ◌∙◌, subst, arith}
 use Rattle.std.specs.List.{AllByRecursion}
 use Rattle.std.proofs.lemmas.List.{length-map, map-append}
 use Rattle.sky_base.specs.Name.{canon, digested}
 use Rattle.sky_base.specs.ObjectView.{desc_view}
 use Rattle.sky_base.specs.Val.{Desc}
 use Rattle.sky_base.specs.declared.object.Named.{Named}
-use Rattle.ciel_journal.specs.History.{Event, OpenStart, Standing, after, done, find_open, learned as known_after, saved, standing}
-use Rattle.ciel_journal.specs.Job.{Digest, Each, In}
+use Rattle.ciel_journal.specs.History.{Event, OpenStart, Standing, after, done, saved, standing}
+use Rattle.ciel_journal.specs.Job.{Digest, Each}
 use Rattle.ciel_journal.specs.Lawful.{Allowed, DoneAllowed, NoClash, SavedAllowed}
 use Rattle.ciel_journal.specs.Segment as segment
 use Rattle.ciel_journal.proofs.Good.{after_done, after_saved}
@@ -18,9 +18,8 @@ use Rattle.ciel_table.specs.Seen.{TableSeen}
 use Rattle.ciel_table.specs.declared.refusal.Learn.{Learn}
 use Rattle.ciel_table.specs.declared.row.Row.{Row}
 use Rattle.ciel_board.specs.Board.{Board, Order}
-use Rattle.ciel_board.specs.Follows.{Follows, RowIs}
+use Rattle.ciel_board.specs.Follows.{Follows}
 use Rattle.ciel_board.specs.Laws.{AcceptedAs, ClashIs, Lies, LiesUnlessClash, OverflowIs, Taken}
-use Rattle.ciel_board.specs.Moves.{accepted}
 use Rattle.ciel_board.specs.Reports as rep
 use Rattle.ciel_board.specs.Reports.{AllLearned, Copy, End, FirstRefused, IsNamed, Output, Stack, learned_all, named_view, report_view}
 use Rattle.ciel_board.specs.Setting.{IsSetting, Setting}

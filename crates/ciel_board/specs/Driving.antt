@@ -3,7 +3,7 @@ use Rattle.std.specs.Prelude.{◌≡◌, ℕ, ◌+◌, ◌*◌, ◌%◌, List, [
 use Rattle.sky_base.specs.declared.object.Named.{Named}
 use Rattle.sky_base.specs.declared.object.TaskId.{TaskId}
 use Rattle.ciel_journal.specs.Graph.{Picks, Runnable}
-use Rattle.ciel_journal.specs.History.{Event, OpenStart, find_open, lost, standing}
+use Rattle.ciel_journal.specs.History.{Event, OpenStart, find_open, standing}
 use Rattle.ciel_journal.specs.Job.{Digest}
 use Rattle.ciel_journal.specs.Turns.{Driven, FirstDue, NothingDue, draw}
 use Rattle.ciel_reports.specs.Report as r

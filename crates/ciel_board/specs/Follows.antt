@@ -1,8 +1,7 @@
 -- How the master's state stands to a history.
-use Rattle.std.specs.Prelude.{◌≡◌, ℕ, List, [], ◌∷◌, Bool, false, cond, filter, map, Option, Some, None, nat_eq}
+use Rattle.std.specs.Prelude.{◌≡◌, ℕ, List, [], ◌∷◌, false, cond, filter, map, Option, Some, None, nat_eq}
 use Rattle.std.specs.List.{AllByRecursion, list_any}
 use Rattle.std.specs.Option.{option_map}
-use Rattle.sky_base.specs.ObjectView.{desc_view}
 use Rattle.sky_base.specs.Val.{input}
 use Rattle.ciel_journal.specs.Entries.{journal_of}
 use Rattle.ciel_journal.specs.History.{Event, OpenStart, Save, Standing, same_task, standing}

@@ -1,5 +1,5 @@
 -- The laws of the master's state beside a history.
-use Rattle.std.specs.Prelude.{◌≡◌, ℕ, ◌≤◌, List, [], ◌∷◌, ◌++◌, Bool, false, Some, nat_eq, map, slice_get}
+use Rattle.std.specs.Prelude.{◌≡◌, ℕ, ◌≤◌, List, [], ◌∷◌, ◌++◌, false, Some, nat_eq, map, slice_get}
 use Rattle.std.specs.List.{list_any}
 use Rattle.sky_base.specs.Name.{canon}
 use Rattle.sky_base.specs.Val.{no_pairs, no_vals}
@@ -20,7 +20,7 @@ use Rattle.ciel_want.specs.History.{Holds, task_id}
 use Rattle.ciel_want.specs.Waited.{Whole, tasks_in_order}
 use Rattle.ciel_board.specs.Board.{Board, Order, OrderOut, board_graph, find_order, idle_of, tasks_out, wait_number}
 use Rattle.ciel_board.specs.Moves.{accepted, lost_at, missed_at, opened, order_for, started}
-use Rattle.ciel_board.specs.Reports.{AllLearned, Copy, End, FirstRefused, IsNamed, Output, Stack, made, missing, named_view, report_view, saved}
+use Rattle.ciel_board.specs.Reports.{AllLearned, Copy, End, FirstRefused, IsNamed, Output, made, missing, named_view, report_view, saved}
 use Rattle.ciel_board.specs.Sound.{Fits, MissingFits, Sound}
 use Rattle.ciel_board.specs.Setting.{HasObject, HasState, IsSetting, Setting}
 use Rattle.ciel_board.specs.Follows.{Follows, OrderIs}

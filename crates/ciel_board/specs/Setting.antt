@@ -1,10 +1,10 @@
 -- A job with what the master knows of it: descriptions by names, and what lies at places.
-use Rattle.std.specs.Prelude.{◌≡◌, ℕ, List, [], ◌∷◌, map, Bool, true, false, Option, Some, None, ◌⊎◌}
+use Rattle.std.specs.Prelude.{◌≡◌, ℕ, List, [], ◌∷◌, map, true, false, Option, Some, None, ◌⊎◌}
 use Rattle.sky_base.specs.Name.{digested}
 use Rattle.sky_base.specs.ObjectView.{desc_view}
 use Rattle.sky_base.specs.Val.{Desc}
 use Rattle.sky_base.specs.declared.object.Desc1.{Desc1}
-use Rattle.ciel_journal.specs.Job.{Digest, Each, Held, In, IsJob, Job, Needed, Task, made_in, of, show}
+use Rattle.ciel_journal.specs.Job.{Digest, Held, In, IsJob, Job, Needed, Task, made_in, of, show}
 use Rattle.ciel_journal.specs.Known.{Inner, Knows}
 use Rattle.ciel_journal.specs.Lawful.{NoClash}
 use Rattle.ciel_name.specs.Names.{first_output}

@@ -1,5 +1,5 @@
 -- What holds of the master's state until the run stops, by names alone, and when a report fits its order.
-use Rattle.std.specs.Prelude.{◌≡◌, ℕ, ◌≤◌, ◌<◌, List, [], ◌∷◌, length, true, Option, Some, None, nat_eq, slice_get, ◌⊎◌}
+use Rattle.std.specs.Prelude.{◌≡◌, ℕ, ◌≤◌, ◌<◌, List, length, true, Some, nat_eq, slice_get, ◌⊎◌}
 use Rattle.std.specs.List.{AllByRecursion, IsDistinct, list_any}
 use Rattle.sky_base.specs.Name.{digested}
 use Rattle.sky_base.specs.ObjectView.{desc_view}
@@ -15,7 +15,7 @@ use Rattle.ciel_table.specs.declared.row.Row.{Row}
 use Rattle.ciel_table.specs.declared.wait.Wait.{Wait}
 use Rattle.ciel_table.specs.declared.wait.Saves.{Saves}
 use Rattle.ciel_want.specs.Waited.{AllKnown}
-use Rattle.ciel_board.specs.Board.{Board, Order, OrderOut, Spot, shelf, spot_of, start_refs}
+use Rattle.ciel_board.specs.Board.{Board, Order, OrderOut, shelf, spot_of, start_refs}
 use Rattle.ciel_board.specs.Reports.{Copy, End, IsNamed, Output, Stack, copy_names, learned_all, made, missing, saved}
 
 module _ {P : Type 0} (digest : List ℕ → List ℕ) where
