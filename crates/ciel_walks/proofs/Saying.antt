@@ -16,9 +16,10 @@ use Rattle.sky_law.specs.Lower.{low_obj, low_ref}
 use Rattle.sky_law.specs.NamesLaws.{NoClash, Tag, no_name}
 use Rattle.sky_law.specs.Refers.{PlainReads}
 use Rattle.sky_law.specs.Tasks.{Each, MadeBetween, ended, held, is_answer, made_after, made_between}
+use Rattle.sky_law.proofs.ApartLaw.{waits_apart}
 use Rattle.sky_law.proofs.Lists.{some_is}
 use Rattle.sky_law.proofs.MoreFuel.{ended_stays_to}
-use Rattle.sky_law.proofs.TaskOutputs.{distinct_in, each_in, in_each}
+use Rattle.sky_law.proofs.TaskOutputs.{apart_refs, distinct_in, each_in, in_each}
 use Rattle.sky_state.specs.Pending.{pending_in}
 use Rattle.sky_state.specs.Stand.{Stand, low_state}
 use Rattle.sky_state.specs.Stands.{Stands}
@@ -447,7 +448,7 @@ module _ (tag : Tag) (mark : Object (List ℕ) → Digest) (frozen : Stand (List
         ap frozen st.2,
         ap names_of (stands_holds tag job around q w j (held st.0) st (right.held_at_is job around w j st.0 st.1) (all_apart (held st.0) kept)) ∙ names_held tag (held st.0) ∙ sym (names_low J (held st.0)),
       ),
-      ap names_of (stands_pending tag job around q w j ds st wt (all_apart ds waited) ∙ ap (map (λ d. low_ref no_name tag d)) (b.once j ds wt)) ∙ names_held tag ds ∙ sym (names_low J ds),
+      ap names_of (stands_pending tag job around q w j ds st wt (all_apart ds waited) ∙ ap (map (λ d. low_ref no_name tag d)) (apart_refs ds (waits_apart job around wt.0 w j ds wt.1))) ∙ names_held tag ds ∙ sym (names_low J ds),
     )
 
   all_told : (xs seg : List s.Desc) (ms : List (v.Desc (List ℕ))) → ms ≡ map L seg → Tells J inner L Met' (xs ++ seg) (map L xs ++ ms)

@@ -1,7 +1,7 @@
 -- The walk of an order says what the job does.
-use Rattle.std.specs.Prelude.{◌≡◌, ℕ, List, [], ◌∷◌, map, true, Option, Some}
+use Rattle.std.specs.Prelude.{◌≡◌, ℕ, List, [], ◌∷◌, map, Option, Some}
 use Rattle.sky_base.specs.Val as v
-use Rattle.sky_base.specs.Val.{distinct, same_text}
+use Rattle.sky_base.specs.Val.{same_text}
 use Rattle.sky_base.specs.Name.{held_name, low_desc, name}
 use Rattle.sky_base.specs.Needed as n
 use Rattle.sky_base.specs.Res.{Object}
@@ -70,8 +70,6 @@ module _ (tag : Tag) (mark : Object (List ℕ) → Digest) (frozen : Stand (List
         pub stands : Stands job around tag r (back o.task) o.from
         pub waits : (ds : List s.Desc) × n.WaitOf job around (back o.task) o.from ds
         pub apart : (d e : s.Desc) → First d → First e → name no_name tag d ≡ name no_name tag e → d ≡ e
-        -- no wait is twice for one description
-        pub once : (j : ℕ) (ds : List s.Desc) → n.WaitOf job around (back o.task) j ds → distinct (λ a b. true) ds ≡ ds
 
 -- what a walk from there says of the job: the six cases
 abbrev pub WalksSay : Type 0

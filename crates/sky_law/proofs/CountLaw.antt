@@ -1,5 +1,5 @@
 -- What holds of each run from wait to wait: more nodes are visited, no more than are allowed, and the outputs of an
--- executor's task are made one after another, all of them.
+-- executor's task are made one after another, all of them; and no wait is for a description twice.
 use Rattle.std.proofs.Common.{◌≡◌, ℕ, zero, suc, ◌+◌, Bool, true, false, List, [], ◌∷◌, ◌++◌, map, length, reverse, Option, Some, None, Ok, Err, nat_lt, nat_eq, ◌&&◌, pos, negsuc, inl, inr, refl, arith, ◌<◌, ◌≤◌, ltb-true}
 use Rattle.sky_base.specs.Val.{Val, Vals, Pairs, Desc, null, truth, num, text, list, dict, fun, ref, no_vals, val, no_pairs, count, vals_of, refs_to, call, input}
 use Rattle.sky_base.specs.Op.{Answer, index, find, negated, opposite, len, keys, has, range, limited, set_at, grown, dict_from}
@@ -8,8 +8,12 @@ use Rattle.sky_base.specs.Res.{visits, Object, End, St, Entry, parens_in, part_a
 use Rattle.sky_base.specs.Eval.{World, find_fun, is_one_of, Body, body_of, bind, set_var, lit_val, named, closed, oper, outputs, truth_of, decide, joins, add_to, put_in, turns, repeats, each, each_of, with_one, with_two, with_three, ask, spawn_if, spawn_fun, spawn_list, spawned, outputs_if, outputs_count, outputs_of, exec_ask, input_if, input_of, formed, deref, signed, signs, call_if, call_fun, called, enter, eval, eval_parts, eval_links, eval_ands, eval_steps, eval_args, eval_stm, eval_stms, eval_arms, eval_else, in_body, body_at}
 use Rattle.sky_base.specs.Res.{Wait}
 use Rattle.sky_base.specs.Read.{Halt, acts, acts_seen, see_all, refs_of, halts_seen, halt}
-use Rattle.sky_law.specs.Tasks.{Batched, IsBatch, Lone}
+use Rattle.sky_law.specs.Tasks.{Apart, Batched, IsBatch, Lone}
 use Rattle.sky_law.proofs.FormsLaw.{Within, Late, late_wait}
+
+-- no two outputs of an executor's task become one as they are made
+abbrev pub MakesApart : {N : Type 0} → World N → Type 0
+MakesApart {N} w = (x : List ℕ) (a : Val N) (n : ℕ) → Apart (map w.make (outputs x a n 0 n))
 
 module _ {N : Type 0} (w : World N) where
   -- from a state with b visits on, where these are to be made next
@@ -19,7 +23,7 @@ module _ {N : Type 0} (w : World N) where
   Climbs b [] (Tell d r) = (xs : List (Desc N)) × IsBatch (d ∷ xs) × Climbs b xs r
   Climbs b (x ∷ xs) (Tell d r) = (d ≡ x) × Climbs b xs r
   Climbs b [] (Ask q fr st k) =
-      ((b < st.count) × (st.count ≤ visits)) × ((os : List (Object N)) → Climbs st.count [] (k os))
+      ((b < st.count) × (st.count ≤ visits)) × (MakesApart w → Apart (refs_of q)) × ((os : List (Object N)) → Climbs st.count [] (k os))
   Climbs b (x ∷ xs) (Ask q fr st k) = ⊥
 
   pub climbs_then : (r : Res N) (b : ℕ) (xs : List (Desc N)) (en : Entry N) (k : End N → St N → Res N) → Climbs b xs r → ((c : ℕ) (e : End N) (st : St N) → Late w c e st → Climbs c [] (k e st)) → Climbs b xs (then_do r en k)
@@ -27,7 +31,7 @@ module _ {N : Type 0} (w : World N) where
   climbs_then (Fin e st) b (x ∷ xs) en k g h = absurd g
   climbs_then (Tell d r) b [] en k g h = (g.0, g.1, climbs_then r b g.0 en k g.2 h)
   climbs_then (Tell d r) b (x ∷ xs) en k g h = (g.0, climbs_then r b xs en k g.1 h)
-  climbs_then (Ask q fr st p) b [] en k g h = (g.0, λ os. climbs_then (p os) st.count [] en k (g.1 os) h)
+  climbs_then (Ask q fr st p) b [] en k g h = (g.0, g.1, λ os. climbs_then (p os) st.count [] en k (g.2 os) h)
   climbs_then (Ask q fr st p) b (x ∷ xs) en k g h = absurd g
 
   pub climbs_got : (r : Res N) (b : ℕ) (en : Entry N) (k : Val N → St N → Res N) → Climbs b [] r → ((c : ℕ) (v : Val N) (st : St N) → Within w c st → Climbs c [] (k v st)) → Climbs b [] (then_do r en (on_got k))
@@ -68,8 +72,8 @@ module _ {N : Type 0} (w : World N) where
   climbs_answer (Ok v) p b st k h = h v
   climbs_answer (Err e) p b st k h = tt
 
-  pub climbs_ask : (q : Wait N) (b : ℕ) (st : St N) → Within w b st → b < st.count → Climbs b [] (ask w q st)
-  climbs_ask q b st l lt = ((lt, l.1), λ os. late_wait w q os st.count st (omega arith, l.1))
+  pub climbs_ask : (q : Wait N) (b : ℕ) (st : St N) → (MakesApart w → Apart (refs_of q)) → Within w b st → b < st.count → Climbs b [] (ask w q st)
+  climbs_ask q b st once l lt = ((lt, l.1), once, λ os. late_wait w q os st.count st (omega arith, l.1))
 
   pub climbs_decide : (v : Val N) (p : Place) (b : ℕ) (st : St N) (on off : St N → Res N) → Climbs b [] (on st) → Climbs b [] (off st) → Climbs b [] (decide v p st on off)
   climbs_decide (truth true) p b st on off g h = g
@@ -130,13 +134,13 @@ module _ {N : Type 0} (w : World N) where
   climbs_batch [] r b i g = g
   climbs_batch (x ∷ ds) r b i g = (ds, i, climbs_tell ds r b g)
 
-  module _ (b : ℕ) (st : St N) (k : List (Desc N) → St N → Res N) (g : (es : List (Desc N)) → Climbs b [] (k es st)) where
-    pub climbs_outputs_if : (x : Bool) (ds : List (Desc N)) (p : Place) → IsBatch ds → Climbs b [] (outputs_if w x ds p st k)
-    climbs_outputs_if false ds p i = tt
-    climbs_outputs_if true ds p i = climbs_batch ds _ b i (g (map w.make ds))
+  module _ (b : ℕ) (st : St N) (k : List (Desc N) → St N → Res N) (g : (es : List (Desc N)) → (MakesApart w → Apart es) → Climbs b [] (k es st)) where
+    pub climbs_outputs_if : (x : Bool) (ds : List (Desc N)) (p : Place) → IsBatch ds → (MakesApart w → Apart (map w.make ds)) → Climbs b [] (outputs_if w x ds p st k)
+    climbs_outputs_if false ds p i once = tt
+    climbs_outputs_if true ds p i once = climbs_batch ds _ b i (g (map w.make ds) once)
 
     pub climbs_outputs_count : (x : List ℕ) (a n : Val N) (p : Place) → Climbs b [] (outputs_count w x a n p st k)
-    climbs_outputs_count x a (num (pos n)) p = climbs_outputs_if (nat_lt 0 n && nat_lt n 65) (outputs x a n 0 n) p (inr (x, a, n, refl))
+    climbs_outputs_count x a (num (pos n)) p = climbs_outputs_if (nat_lt 0 n && nat_lt n 65) (outputs x a n 0 n) p (inr (x, a, n, refl)) (λ h. h x a n)
     climbs_outputs_count x a (num (negsuc n)) p = tt
     climbs_outputs_count x a null p = tt
     climbs_outputs_count x a (truth y) p = tt
@@ -188,17 +192,17 @@ module _ {N : Type 0} (w : World N) where
   climbs_three (x ∷ y ∷ z ∷ []) p b st k g = g x y z
   climbs_three (x ∷ y ∷ z ∷ u ∷ vs) p b st k g = tt
 
-  pub climbs_exec : (n : ℕ) (ds : List (Desc N)) (b : ℕ) (st : St N) → Within w b st → b < st.count → Climbs b [] (exec_ask w n ds st)
-  climbs_exec n ds b st l lt = climbs_got (ask w (all_of ds) st) b (exec_wait n ds) gives (climbs_ask (all_of ds) b st l lt) (λ c v s m. m)
+  pub climbs_exec : (n : ℕ) (ds : List (Desc N)) (b : ℕ) (st : St N) → (MakesApart w → Apart ds) → Within w b st → b < st.count → Climbs b [] (exec_ask w n ds st)
+  climbs_exec n ds b st once l lt = climbs_got (ask w (all_of ds) st) b (exec_wait n ds) gives (climbs_ask (all_of ds) b st once l lt) (λ c v s m. m)
 
   pub climbs_formed : (o : Form) (vs : List (Val N)) (n : ℕ) (p : Place) (b : ℕ) (st : St N) → Within w b st → b < st.count → Climbs b [] (formed w o vs n p st)
   climbs_formed Form.list vs n p b st l lt = climbs_answer (limited (list (vals_of vs))) p b st gives (λ v. l)
   climbs_formed Form.dict vs n p b st l lt = climbs_answer (dict_from vs no_pairs) p b st gives (λ v. l)
   climbs_formed Form.spawn vs n p b st l lt = climbs_two vs p b st _ (λ x y. climbs_spawned x y p b st l)
   climbs_formed Form.spawn_exec vs n p b st l lt =
-      climbs_three vs p b st _ (λ x y z. climbs_outputs b st (λ ds s. gives (list (refs_to ds)) s) (λ ds. l) x y z p)
+      climbs_three vs p b st _ (λ x y z. climbs_outputs b st (λ ds s. gives (list (refs_to ds)) s) (λ ds once. l) x y z p)
   climbs_formed Form.exec vs n p b st l lt =
-      climbs_three vs p b st _ (λ x y z. climbs_outputs b st (λ ds s. exec_ask w n ds s) (λ ds. climbs_exec n ds b st l lt) x y z p)
+      climbs_three vs p b st _ (λ x y z. climbs_outputs b st (λ ds s. exec_ask w n ds s) (λ ds once. climbs_exec n ds b st once l lt) x y z p)
   climbs_formed Form.ref vs n p b st l lt = climbs_one vs p b st _ (λ x. climbs_input x p b st l)
   climbs_formed Form.len vs n p b st l lt = climbs_one vs p b st _ (λ x. climbs_answer (len x) p b st gives (λ v. l))
   climbs_formed Form.keys vs n p b st l lt = climbs_one vs p b st _ (λ x. climbs_answer (keys x) p b st gives (λ v. l))
@@ -206,7 +210,7 @@ module _ {N : Type 0} (w : World N) where
   climbs_formed Form.range vs n p b st l lt = climbs_two vs p b st _ (λ x y. climbs_answer (range x y) p b st gives (λ v. l))
 
   pub climbs_deref : (v : Val N) (n k : ℕ) (ss : List SignAt) (p : Place) (b : ℕ) (st : St N) (go : Val N → St N → Res N) → Within w b st → b < st.count → ((c : ℕ) (u : Val N) (t : St N) → Within w c t → Climbs c [] (go u t)) → Climbs b [] (deref w v n k ss p st go)
-  climbs_deref (ref d) n k ss p b st go l lt g = climbs_got (ask w (one_of p d) st) b (star_wait n k d ss) go (climbs_ask (one_of p d) b st l lt) g
+  climbs_deref (ref d) n k ss p b st go l lt g = climbs_got (ask w (one_of p d) st) b (star_wait n k d ss) go (climbs_ask (one_of p d) b st (λ h. (λ i. i, tt)) l lt) g
   climbs_deref null n k ss p b st go l lt g = tt
   climbs_deref (truth y) n k ss p b st go l lt g = tt
   climbs_deref (num y) n k ss p b st go l lt g = tt
@@ -363,7 +367,7 @@ module _ {N : Type 0} (w : World N) where
     enough (Tell d r) b j (x ∷ xs) g = enough r b j xs g.1
     enough (Ask q fr st k) b j (x ∷ xs) g = absurd g
     enough (Ask q fr st k) b zero [] g = (omega (arith, g.0.0), g.0.1)
-    enough (Ask q fr st k) b (suc j) [] g = enough_on (see_all see (refs_of q)) k b st.count j g.0.0 (λ os. enough (k os) st.count j [] (g.1 os))
+    enough (Ask q fr st k) b (suc j) [] g = enough_on (see_all see (refs_of q)) k b st.count j g.0.0 (λ os. enough (k os) st.count j [] (g.2 os))
 
     batched_on : (x : Option (List (Object N))) (k : List (Object N) → Res N) → ((os : List (Object N)) → Batched [] (acts see (k os))) → Batched [] (acts_seen x (λ os. acts see (k os)))
     batched_on None k h = tt
@@ -375,5 +379,22 @@ module _ {N : Type 0} (w : World N) where
     batched (Fin e st) b (x ∷ xs) g = absurd g
     batched (Tell d r) b [] g = (g.0, g.1, batched r b g.0 g.2)
     batched (Tell d r) b (x ∷ xs) g = (g.0, batched r b xs g.1)
-    batched (Ask q fr st k) b [] g = batched_on (see_all see (refs_of q)) k (λ os. batched (k os) st.count [] (g.1 os))
+    batched (Ask q fr st k) b [] g = batched_on (see_all see (refs_of q)) k (λ os. batched (k os) st.count [] (g.2 os))
     batched (Ask q fr st k) b (x ∷ xs) g = absurd g
+
+    abbrev pub ApartAt : Option (Halt N) → Type 0
+    ApartAt None = Unit {0}
+    ApartAt (Some h) = Apart (refs_of h.wait)
+
+    apart_on : (x : Option (List (Object N))) (k : List (Object N) → Res N) (j : ℕ) → ((os : List (Object N)) → ApartAt (halt see j (k os))) → ApartAt (halts_seen x (λ os. halt see j (k os)))
+    apart_on None k j h = tt
+    apart_on (Some os) k j h = h os
+
+    -- and no wait is for a description twice
+    pub apart_waits : MakesApart w → (r : Res N) (b j : ℕ) (xs : List (Desc N)) → Climbs b xs r → ApartAt (halt see j r)
+    apart_waits m (Fin e st) b j xs g = tt
+    apart_waits m (Tell d r) b j [] g = apart_waits m r b j g.0 g.2
+    apart_waits m (Tell d r) b j (x ∷ xs) g = apart_waits m r b j xs g.1
+    apart_waits m (Ask q fr st k) b j (x ∷ xs) g = absurd g
+    apart_waits m (Ask q fr st k) b zero [] g = g.1 m
+    apart_waits m (Ask q fr st k) b (suc j) [] g = apart_on (see_all see (refs_of q)) k j (λ os. apart_waits m (k os) st.count j [] (g.2 os))

@@ -14,6 +14,7 @@ pub mod NodesLaw
 pub mod BodiesLaw
 pub mod OpenLaw
 pub mod CountLaw
+pub mod ApartLaw
 pub mod BatchLaw
 pub mod TaskOutputs
 pub mod TaskFuel

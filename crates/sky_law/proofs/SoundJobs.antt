@@ -1,6 +1,6 @@
 -- Every value that a job makes keeps the limits; a task has at most 64 bodies open.
 use Rattle.sky_base.specs.Val as v
-use Rattle.std.proofs.Common.{IsSome, ◌≡◌, ℕ, ◌+◌, List, [], ◌∷◌, ◌++◌, length, Option, Some, None, Ok, Err, refl, ap, subst, arith, lt-ltb, ◌⊎◌, inl, inr}
+use Rattle.std.proofs.Common.{IsSome, ◌≡◌, ℕ, ◌+◌, List, [], ◌∷◌, length, Option, Some, None, Ok, Err, refl, ap, subst, arith, lt-ltb, ◌⊎◌, inl, inr}
 use Rattle.sky_base.specs.Val.{null, truth, num, text, list, dict, fun, ref, no_vals, val, no_pairs, pair, call, out, input, known, refs, vals_refs, pairs_refs}
 use Rattle.sky_base.specs.Op.{Answer}
 use Rattle.sky_base.specs.Tree.{FunDef, Script}

@@ -101,7 +101,7 @@ maker_is (out x a n i) t e = go (nat_lt i n) e
 maker_is (input k) t e = e
 maker_is (known b) t e = absurd b
 
-outputs_apart : (x : List ℕ) (a : Val) (n m j : ℕ) → Apart (outputs x a n j m)
+pub outputs_apart : (x : List ℕ) (a : Val) (n m j : ℕ) → Apart (outputs x a n j m)
 outputs_apart x a n zero j = tt
 outputs_apart x a n (suc m) j = (λ h. later (out_of x a n m (suc j) (out x a n j) h), outputs_apart x a n m (suc j))
   where
@@ -196,6 +196,22 @@ module _ {N : Type 0} (same_known : N → N → Bool) (exact_known : (b c : N) �
   pub distinct_apart : (ds : List (v.Desc N)) → Apart (distinct same_known ds)
   distinct_apart ds = apart_from [] ds
 
+  -- where none stands twice nothing is left out
+  apart_kept : (before ds : List (v.Desc N)) → Apart ds → ((d : v.Desc N) → In d before → In d ds → ⊥) → distinct_from same_known before ds ≡ ds
+  apart_kept before [] a new = refl
+  apart_kept before (e ∷ es) a new = go (apart_kept (e ∷ before) es a.1 later) (stands_in same_known e before) refl
+    where
+      later : (d : v.Desc N) → In d (e ∷ before) → In d es → ⊥
+      later d (inl q) i = a.0 (subst (λ x. In x es) q i)
+      later d (inr j) i = new d j (inr i)
+
+      go : distinct_from same_known (e ∷ before) es ≡ es → (b : Bool) → stands_in same_known e before ≡ b → unless_in same_known b e (distinct_from same_known (e ∷ before) es) ≡ e ∷ es
+      go q true s = absurd (new e (stands_exact e before s) (inl refl))
+      go q false s = ap (λ xs. e ∷ xs) q
+
+  pub apart_distinct : (ds : List (v.Desc N)) → Apart ds → distinct same_known ds ≡ ds
+  apart_distinct ds a = apart_kept [] ds a (λ d i j. i)
+
   -- the same ones stand
   pub distinct_in : (ds : List (v.Desc N)) (d : v.Desc N) → In d (distinct same_known ds) → In d ds
   distinct_in ds d h = (kept_in [] ds d h).0
@@ -215,3 +231,6 @@ in_distinct_refs a d h = in_distinct (λ b c. true) (λ b c h. absurd b) (λ b. 
 
 pub distinct_refs_apart : (a : Val) → Apart (distinct_refs a)
 distinct_refs_apart a = distinct_apart (λ b c. true) (λ b c h. absurd b) (λ b. absurd b) (refs a)
+
+pub apart_refs : (ds : List Desc) → Apart ds → distinct (λ a b. true) ds ≡ ds
+apart_refs ds a = apart_distinct (λ b c. true) (λ b c h. absurd b) (λ b. absurd b) ds a

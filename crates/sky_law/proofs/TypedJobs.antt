@@ -1,5 +1,5 @@
 -- Every value that a job makes is typed, where its script and what is read as data are.
-use Rattle.std.proofs.Common.{◌≡◌, ℕ, ◌+◌, List, [], ◌∷◌, ◌++◌, length, Option, Some, None, Ok, Err, IsUtf8, subst, sym, ◌⊎◌, inl, inr}
+use Rattle.std.proofs.Common.{◌≡◌, ℕ, ◌+◌, List, [], ◌∷◌, length, Option, Some, None, Ok, Err, IsUtf8, subst, sym, ◌⊎◌, inl, inr}
 use Rattle.std.proofs.lemmas.Str.{IsUtf8-from_is_utf8, IsUtf8-nil}
 use Rattle.sky_base.specs.Val.{null, truth, num, text, list, dict, fun, ref, no_vals, val, no_pairs, pair, refs, vals_refs, pairs_refs, vals_of, Rising, RisingFrom}
 use Rattle.sky_base.specs.Op.{Answer, find, index, set_at, grown, negated, opposite, len, keys, has, range, limited, dict_from}

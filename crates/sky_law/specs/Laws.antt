@@ -4,7 +4,7 @@ use Rattle.sky_base.specs.Res.{Object, Res, others}
 use Rattle.sky_base.specs.Read.{Act, Halt, refs_of, see_all, outcome, halt, segment, segment_from, first_halt, rest_of}
 use Rattle.sky_base.specs.See.{Val, Vals, Pairs, Desc, Obj, Job, Around, Answered, Means, Never, see, wave, job_answer, run_of, world_of}
 use Rattle.sky_base.specs.Needed.{Task, State, WaitOf, StandsAt, Needed, Work}
-use Rattle.sky_law.specs.Tasks.{Batched, In, Each, Chain, HeldAt, acts_of, ended, made_in}
+use Rattle.sky_law.specs.Tasks.{Apart, Batched, In, Each, Chain, HeldAt, acts_of, ended, made_in}
 use Rattle.sky_law.specs.Sound.{Sound, SoundDesc, SoundObject, SoundReads, SoundState, SoundTask}
 use Rattle.sky_law.specs.Typed.{Typed, TypedDesc, TypedJob, TypedObject, TypedState, TypedTask}
 
@@ -63,6 +63,10 @@ MadeTogether = (job : Job) (around : Around) (n : ℕ) (t : Task) → Batched []
 abbrev pub WaitedIsSeen : Type 0
 WaitedIsSeen =
     (job : Job) (around : Around) (n : ℕ) (t : Task) (j : ℕ) (ds : List Desc) → ended job around n t ≡ true → WaitOf job around t j ds → Each (λ d. see job around n d ≢ None) ds
+
+-- no wait of a task is for a description twice
+abbrev pub WaitsApart : Type 0
+WaitsApart = (job : Job) (around : Around) (t : Task) (j : ℕ) (ds : List Desc) → WaitOf job around t j ds → Apart ds
 
 -- where needed tasks wait for each other in a circle, the job has no answer
 abbrev pub CircleNever : Type 0

@@ -1,6 +1,6 @@
 //! Laws of what a job means. Each is the contract of a function that does nothing.
 
-ghost use Rattle.sky_law.specs.Laws.{ActsGrow, AnswerStays, CircleNever, EndedStays, MadeIsSound, MadeIsTyped, MadeTogether, NeededIsSound, NeededIsTyped, OneAnswer, OneHeld, OneState, OneWait, RunsOn, SeenIsSound, SeenIsTyped, SeenStays, StateIsSound, StateIsTyped, WaitedIsSeen, WaitedIsSound, WaitedIsTyped, WaveIsSound, WaveIsTyped, WorkIsFinite};
+ghost use Rattle.sky_law.specs.Laws.{ActsGrow, AnswerStays, CircleNever, EndedStays, MadeIsSound, MadeIsTyped, MadeTogether, NeededIsSound, NeededIsTyped, OneAnswer, OneHeld, OneState, OneWait, RunsOn, SeenIsSound, SeenIsTyped, SeenStays, StateIsSound, StateIsTyped, WaitedIsSeen, WaitedIsSound, WaitedIsTyped, WaitsApart, WaveIsSound, WaveIsTyped, WorkIsFinite};
 ghost use Rattle.sky_law.specs.NamesLaws.{CallsAlike, DistinctAlike, OperatorsAlike, RefsAlike, RestsAlike, StacksAlike, Tag};
 
 /// A job means at most one answer.
@@ -33,6 +33,11 @@ pub fn outputs_are_made_together()
 /// A task that has ended has seen all that it waited for.
 pub fn waited_is_seen()
     ensures seen { WaitedIsSeen }
+{}
+
+/// No wait of a task is for a description twice.
+pub fn waits_are_apart()
+    ensures apart { WaitsApart }
 {}
 
 /// Where needed tasks wait for each other in a circle, the job has no answer.

@@ -7,5 +7,5 @@ pub mod frame;
 pub mod law;
 pub mod shown;
 pub mod spawned;
-mod start;
+pub mod start;
 pub mod state;
