@@ -205,11 +205,13 @@ run_free q r s t g h e =
 show_free : Free show_bytes ShowSpelled
 show_free = both_free (big_endian 4) Fits32 bytes IsData numbers_free data_free
 
-rest_same : (s u : Stand (List ℕ)) (r t : List ℕ) → StandSpelled s → StandSpelled u → kind_of s ≡ kind_of u → rest_bytes s ++ r ≡ rest_bytes u ++ t → r ≡ t
-rest_same (Stand.run q) (Stand.run p) r t g h k e = (run_free q p r t g h e).1
-rest_same (Stand.run q) (Stand.show_at v w) r t g h k e = absurd cc
-rest_same (Stand.show_at v w) (Stand.run p) r t g h k e = absurd cc
-rest_same (Stand.show_at v w) (Stand.show_at x y) r t g h k e = (show_free (w, v) (y, x) r t g h e).1
+rest_free : (s u : Stand (List ℕ)) (r t : List ℕ) → StandSpelled s → StandSpelled u → kind_of s ≡ kind_of u → rest_bytes s ++ r ≡ rest_bytes u ++ t → (s ≡ u) × (r ≡ t)
+rest_free (Stand.run q) (Stand.run p) r t g h k e = let same = run_free q p r t g h e in (ap Stand.run same.0, same.1)
+rest_free (Stand.run q) (Stand.show_at v w) r t g h k e = absurd cc
+rest_free (Stand.show_at v w) (Stand.run p) r t g h k e = absurd cc
+rest_free (Stand.show_at v w) (Stand.show_at x y) r t g h k e =
+    let same = show_free (w, v) (y, x) r t g h e in
+    (ap (λ (p : ℕ × Val (List ℕ)). Stand.show_at p.1 p.0) same.0, same.1)
 
 -- ---- all bytes
 
@@ -230,10 +232,15 @@ no_stand bs k mid h none s good e =
 pub more_follows : (bs : List ℕ) (k : ℕ) (mid : List ℕ) (u : Stand (List ℕ)) (new : List ℕ) → bs ≡ 75 ∷ 1 ∷ k ∷ mid → KindRead k mid u new → (new ≡ [] → ⊥) → NoStand bs
 more_follows bs k mid u new h p some s good e =
     let q = behind bs k mid s h e in
-    some (rest_same u s new [] p.1.1 good (p.0 ∙ sym q.0) (sym p.1.0 ∙ q.1 ∙ sym (append-nil (rest_bytes s))))
+    some (rest_free u s new [] p.1.1 good (p.0 ∙ sym q.0) (sym p.1.0 ∙ q.1 ∙ sym (append-nil (rest_bytes s)))).1
 
 pub all_read : (bs : List ℕ) (k : ℕ) (mid : List ℕ) (u : Stand (List ℕ)) (new : List ℕ) → bs ≡ 75 ∷ 1 ∷ k ∷ mid → KindRead k mid u new → new ≡ [] → frozen_bytes u ≡ bs
 all_read bs k mid u new h p none =
     frozen_is u
     ∙ ap₂ (λ j b. 75 ∷ 1 ∷ j ∷ b) p.0 (sym (append-nil (rest_bytes u)) ∙ ap (λ b. rest_bytes u ++ b) (sym none) ∙ sym p.1.0)
     ∙ sym h
+
+pub one_state : (s u : Stand (List ℕ)) → StandSpelled s → StandSpelled u → frozen_bytes s ≡ frozen_bytes u → s ≡ u
+one_state s u g h e =
+    let q = behind (frozen_bytes u) (kind_of u) (rest_bytes u) s (frozen_is u) e in
+    (rest_free s u [] [] g h q.0 (ap (λ b. b ++ []) (sym q.1))).0

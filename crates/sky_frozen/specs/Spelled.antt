@@ -69,6 +69,10 @@ NoHead old = (k : ℕ) (rest : List ℕ) → old ≡ 75 ∷ 1 ∷ k ∷ rest →
 abbrev pub NoStand : List ℕ → Type 0
 NoStand bs = (s : Stand (List ℕ)) → StandSpelled s → frozen_bytes s ≡ bs → ⊥
 
+-- two such states have the same bytes only where they are equal
+abbrev pub OneSpelling : Type 0
+OneSpelling = (s u : Stand (List ℕ)) → StandSpelled s → StandSpelled u → frozen_bytes s ≡ frozen_bytes u → s ≡ u
+
 -- what a refusal says that isn't want of memory
 abbrev pub IfBad : ReadFrozen → Type 0 → Type 0
 IfBad ReadFrozen.Memory P = Unit {0}

@@ -51,6 +51,15 @@ pub fn freeze(alloc: Global, state: &State) -> Result<Frozen, Memory>
 }
 
 impl Frozen {
+    /// A state that made nothing, with its bytes, which these are.
+    pub fn of(state: State, bytes: Bytes) -> Frozen
+        requires spawned { spawned_of state ≡ [] }
+        requires bytes { bytes ≡ frozen_bytes (stand_of state) }
+        ensures { result ≡ stand_of state }
+    {
+        Frozen { state, bytes }
+    }
+
     /// The state that was frozen, with nothing made.
     ///
     /// Answers `Memory` for want of memory.

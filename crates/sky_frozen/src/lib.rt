@@ -4,6 +4,7 @@
 
 mod copies;
 pub mod frozen;
+pub mod law;
 pub mod read;
 pub mod refusal;
 mod write;

@@ -1,0 +1,121 @@
+// Whether a state fits a script.
+
+ghost use Rattle.std.specs.Prelude.{IfOk, IsTrue, IsFalse};
+ghost use Rattle.sky_base.specs.View.{view};
+ghost use Rattle.sky_state.specs.Fits.{Before, Fits, FitsRun, FitsShow, Last};
+ghost use Rattle.sky_state.specs.StandView.{frames_view};
+ghost use Rattle.sky_state.specs.StateView.{stand_of};
+ghost use Rattle.sky_checked.specs.Ends.{EndsInCall, EndsInWait, Few, Stacked};
+
+use crate::fitting::Fitting;
+use crate::frames::{all_end_in_calls, frames_fit, functions_fit};
+use crate::start::is_start;
+use sky_base::text::Memory;
+use sky_base::value::Value;
+use sky_fits::frames::ends_in_wait;
+use sky_scope::state::MOST_VISITS;
+use sky_sound::values::is_sound;
+use sky_state::frame::Frame;
+use sky_state::state::{RunState, State};
+use std::alloc::Global;
+
+/// The most bodies that are open at one time.
+const MOST_FRAMES: usize = 64;
+
+/// The greatest wave.
+const MOST_WAVES: u32 = 100;
+
+/// Whether the state fits the script: exactly where a call could be taken up again from it, or the result be made further. What it
+/// made is not asked. It takes time in the size of the state, and for each frame at most in that of the script.
+///
+/// Answers `Memory` for want of memory.
+pub fn state_fits(alloc: Global, fitting: &Fitting, state: &State) -> Result<bool, Memory>
+    ensures yes { IfOk result (λ b. IsTrue b → Fits fitting.now (stand_of state.now)) }
+    ensures no { IfOk result (λ b. IsFalse b → Fits fitting.now (stand_of state.now) → ⊥) }
+{
+    match state {
+        State::Run(run) => {
+            let fits = run_fits(alloc, fitting, run)?;
+            Ok(fits)
+        }
+        State::Show { value, wave } => {
+            let fits = show_fits(alloc, fitting, value, *wave)?;
+            Ok(fits)
+        }
+    }
+}
+
+// Whether a call's stack fits.
+fn run_fits(alloc: Global, fitting: &Fitting, run: &RunState) -> Result<bool, Memory>
+    ensures yes { IfOk result (λ b. IsTrue b → FitsRun fitting.now (record { frames = run.now.frames; count = run.now.count; waits = run.now.waits })) }
+    ensures no { IfOk result (λ b. IsFalse b → FitsRun fitting.now (record { frames = run.now.frames; count = run.now.count; waits = run.now.waits }) → ⊥) }
+{
+    if !are_few(run) {
+        return Ok(false);
+    }
+    if !stack_fits(fitting, run.frames.as_slice()) {
+        return Ok(false);
+    }
+    if run.waits > 0 {
+        return Ok(top_waits(fitting, run.frames.as_slice()));
+    }
+    let start = is_start(alloc, fitting, run)?;
+    Ok(start)
+}
+
+// Whether there are 1 to 64 frames, at most a million visits, and at most as many waits.
+fn are_few(run: &RunState) -> bool
+    ensures yes { IsTrue result → Few (record { frames = run.now.frames; count = run.now.count; waits = run.now.waits }) }
+    ensures no { IsFalse result → Few (record { frames = run.now.frames; count = run.now.count; waits = run.now.waits }) → ⊥ }
+{
+    let frames = run.frames.as_slice();
+    !frames.is_empty()
+        && frames.len() <= MOST_FRAMES
+        && run.count <= MOST_VISITS
+        && run.waits <= run.count
+}
+
+// Whether each frame fits, and each but the top one ends in an open call.
+fn stack_fits(fitting: &Fitting, frames: &[Frame]) -> bool
+    ensures yes { IsTrue result → Stacked fitting.now (frames_view frames.now) }
+    ensures no { IsFalse result → Stacked fitting.now (frames_view frames.now) → ⊥ }
+{
+    functions_fit(fitting, frames) && frames_fit(fitting, frames) && calls_fit(fitting, frames)
+}
+
+// Whether the last form of each frame but the top one is an open call.
+fn calls_fit(fitting: &Fitting, frames: &[Frame]) -> bool
+    ensures yes { IsTrue result → Before (EndsInCall fitting.now) (frames_view frames.now) }
+    ensures no { IsFalse result → Before (EndsInCall fitting.now) (frames_view frames.now) → ⊥ }
+{
+    match frames.split_last() {
+        None => true,
+        Some((_, below)) => all_end_in_calls(fitting, below),
+    }
+}
+
+// Whether the last form of the top frame waits.
+fn top_waits(fitting: &Fitting, frames: &[Frame]) -> bool
+    ensures yes { IsTrue result → Last (EndsInWait fitting.now) (frames_view frames.now) }
+    ensures no { IsFalse result → Last (EndsInWait fitting.now) (frames_view frames.now) → ⊥ }
+{
+    match frames.split_last() {
+        None => false,
+        Some((top, _)) => ends_in_wait(fitting.code(), fitting.nodes(), top.todo.as_slice()),
+    }
+}
+
+// Whether the result at a wave fits: the wave is at most 100, and the value is sound and refers to something.
+fn show_fits(alloc: Global, fitting: &Fitting, value: &Value, wave: u32) -> Result<bool, Memory>
+    ensures yes { IfOk result (λ b. IsTrue b → FitsShow fitting.now (view value.now) wave) }
+    ensures no { IfOk result (λ b. IsFalse b → FitsShow fitting.now (view value.now) wave → ⊥) }
+{
+    if wave > MOST_WAVES {
+        return Ok(false);
+    }
+    if !is_sound(fitting.captures(), value) {
+        return Ok(false);
+    }
+    let names = value.refs(alloc)?;
+    Ok(!names.as_slice().is_empty())
+}

@@ -1,0 +1,2 @@
+pub mod UsesLaw
+pub mod KeysLaw
