@@ -9,10 +9,11 @@ use Rattle.sky_base.specs.declared.object.Object as rust
 use Rattle.sky_state.specs.Fits.{FitsRun}
 use Rattle.sky_state.specs.Stand.{Stand}
 use Rattle.sky_resume.specs.declared.on.Came.{Came}
-use Rattle.sky_onward.specs.Exactly.{Exactly, OneFurther}
+use Rattle.sky_onward.specs.Exactly.{Exactly, FitsAfter, OneFurther}
+use Rattle.sky_onward.specs.Laws.{Stays}
 use Rattle.sky_onward.specs.Onward.{ComesOf}
 use Rattle.sky_onward.proofs.Rests.{has_rest}
-use Rattle.sky_onward.proofs.Steps.{step_of}
+use Rattle.sky_onward.specs.Steps.{step_of}
 
 module _ (digest : List ℕ → List ℕ) (sc : Script) (old new : Run (List ℕ)) (answers : List rust.Object) where
   pub call_exactly : (came : Came) → ComesOf digest sc old answers came new → Exactly digest sc (map object_view answers) (Stand.run old) (Stand.run new) (step_of came)
@@ -24,3 +25,7 @@ module _ (digest : List ℕ → List ℕ) (sc : Script) (old new : Run (List ℕ
   call_further Came.Waits fits comes =
       let rest = has_rest digest sc old (map object_view answers) fits in
       ap (λ (r : Run (List ℕ)). r.waits) (comes rest.0 rest.1 rest.2).2
+
+pub call_fits : (sc : Script) (new : Run (List ℕ)) (came : Came) → Stays sc came new → FitsAfter sc (Stand.run new) (step_of came)
+call_fits sc new (Came.Ended o) h = h
+call_fits sc new Came.Waits h = h

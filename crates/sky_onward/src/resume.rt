@@ -13,7 +13,7 @@ ghost use Rattle.sky_waits.specs.Answers.{AnswersKept};
 ghost use Rattle.sky_resume.specs.Comes.{run_of};
 ghost use Rattle.sky_onward.specs.Exactly.{Exactly, MakesExactly, FitsAfter, OneFurther};
 ghost use Rattle.sky_onward.specs.Onward.{IsRead, AnswersSound, GrewSoundly};
-ghost use Rattle.sky_onward.specs.Steps.{Resumed};
+ghost use Rattle.sky_onward.specs.Steps.{step_of, Resumed};
 
 use crate::call::advance;
 use crate::step::Step;
@@ -81,9 +81,17 @@ fn of_call<'a, 'b, N: Namer>(
     ensures further { IfOk result (λ s. OneFurther (Stand.run (run_of run.old)) (Stand.run (run_of run.new)) s) }
     ensures sound { IfOk result (λ s. GrewSoundly (N.digest namer.now) script.now.code run.old.spawned run.new.spawned) }
 {
-    match advance(alloc, script, run, answers, namer)? {
-        call::Came::Ended(object) => Ok(Step::Ended(object)),
-        call::Came::Waits => Ok(Step::Waits),
+    let came = advance(alloc, script, run, answers, namer)?;
+    Ok(step(came))
+}
+
+/// The step of what a call came to.
+fn step(came: call::Came) -> Step
+    ensures { result ≡ step_of came }
+{
+    match came {
+        call::Came::Ended(object) => Step::Ended(object),
+        call::Came::Waits => Step::Waits,
     }
 }
 
