@@ -3,7 +3,7 @@ use Rattle.std.specs.Prelude.{◌≡◌, ◌≤◌, ◌<◌, ℕ, List, [], ◌�
 use Rattle.sky_base.specs.Tree.{Script}
 use Rattle.sky_base.specs.Eval.{body_of}
 use Rattle.sky_base.specs.Res.{visits, bodies}
-use Rattle.sky_base.specs.Read.{Todo, Frame, Run}
+use Rattle.sky_base.specs.Read.{Frame, Run}
 use Rattle.sky_law.specs.Sound.{Sound, SoundVars}
 use Rattle.sky_law.specs.Tasks.{Each}
 use Rattle.sky_state.specs.Table.{IsOpenCall, IsWaiting}
