@@ -24,7 +24,7 @@ forth_back : (w : Task s.Desc) → forth (back w) ≡ w
 forth_back show = refl
 forth_back (of d) = refl
 
-after_is : (j : ℕ) (es : List (r.Act ⊥)) → after_wait j (acts_of es) ≡ acts_of (t.after_wait j es)
+pub after_is : (j : ℕ) (es : List (r.Act ⊥)) → after_wait j (acts_of es) ≡ acts_of (t.after_wait j es)
 after_is zero es = refl
 after_is (suc j) [] = refl
 after_is (suc j) (r.made d ∷ es) = after_is (suc j) es
@@ -104,7 +104,7 @@ module _ (job : s.Job) (around : s.Around) (name : s.Desc → Digest) (mark : s.
   wait_to w one zero ds e = (0, first_is 0 (back w) one ∙ ap Some (sym e))
   wait_to w one (suc j) ds (k, e) = (k, sym (wait_is k w j) ∙ e)
 
-  wait_from : (w : Task s.Desc) → IsOne (back w) → (j : ℕ) (ds : List s.Desc) → n.WaitOf job around (back w) j ds → WaitOf the w j ds
+  pub wait_from : (w : Task s.Desc) → IsOne (back w) → (j : ℕ) (ds : List s.Desc) → n.WaitOf job around (back w) j ds → WaitOf the w j ds
   wait_from w one zero ds (k, e) = some_is ds (t.first_of (back w)) (sym e ∙ first_is k (back w) one)
   wait_from w one (suc j) ds (k, e) = (k, wait_is k w j ∙ e)
 

@@ -14,7 +14,7 @@ use Rattle.ciel_json.specs.Around.{json_around}
 use Rattle.ciel_meant.specs.Real.{real_job}
 use Rattle.ciel_name.specs.Object.{object_bytes}
 use Rattle.sky_frozen.specs.Bytes.{frozen_bytes}
-use Rattle.sky_state.specs.Stand.{low_state}
+use Rattle.sky_state.specs.Stand.{Stand, low_state}
 
 module _ (digest : List ℕ → List ℕ) where
   -- a description by names
@@ -28,13 +28,16 @@ module _ (digest : List ℕ → List ℕ) where
   abbrev pub object_by_names : s.Obj → Object (List ℕ)
   object_by_names o = low_obj no_name (digested digest) o
 
-  -- the mark of an object
-  abbrev pub mark_of : s.Obj → Digest
-  mark_of o = sha1 (object_bytes (low_obj no_name (digested digest) o))
+  -- a state by names
+  abbrev pub state_by_names : n.State → Stand (List ℕ)
+  state_by_names a = low_state (digested digest) a
 
-  -- the mark of a state
+  -- the mark of an object, and of a state
+  abbrev pub mark_of : s.Obj → Digest
+  mark_of o = sha1 (object_bytes (object_by_names o))
+
   abbrev pub frozen_mark : n.State → Digest
-  frozen_mark a = sha1 (frozen_bytes (low_state (digested digest) a))
+  frozen_mark a = sha1 (frozen_bytes (state_by_names a))
 
   -- the job of a script over its inputs, with executors that give so
   abbrev pub shop_job : s.Job → Gives → Job s.Desc

@@ -1,2 +1,4 @@
 pub mod Telling
 pub mod Middle
+pub mod Right
+pub mod Saying

@@ -1,7 +1,7 @@
 -- The walk of an order says what the job does.
-use Rattle.std.specs.Prelude.{◌≡◌, ℕ, List, [], ◌∷◌, map, Option, Some}
+use Rattle.std.specs.Prelude.{◌≡◌, ℕ, List, [], ◌∷◌, map, true, Option, Some}
 use Rattle.sky_base.specs.Val as v
-use Rattle.sky_base.specs.Val.{same_text}
+use Rattle.sky_base.specs.Val.{distinct, same_text}
 use Rattle.sky_base.specs.Name.{held_name, low_desc, name}
 use Rattle.sky_base.specs.Needed as n
 use Rattle.sky_base.specs.Res.{Object}
@@ -9,7 +9,7 @@ use Rattle.sky_base.specs.See as s
 use Rattle.sky_law.specs.Lower.{low_obj, low_ref}
 use Rattle.sky_law.specs.NamesLaws.{Tag, no_name}
 use Rattle.sky_law.specs.Refers.{PlainReads}
-use Rattle.sky_law.specs.Tasks.{Apart}
+use Rattle.sky_law.specs.Tasks as t
 use Rattle.sky_state.specs.Pending.{held_in, pending_in}
 use Rattle.sky_state.specs.Stand.{Stand, low_state}
 use Rattle.sky_state.specs.Stands.{Stands}
@@ -71,7 +71,7 @@ module _ (tag : Tag) (mark : Object (List ℕ) → Digest) (frozen : Stand (List
         pub waits : (ds : List s.Desc) × n.WaitOf job around (back o.task) o.from ds
         pub apart : (d e : s.Desc) → First d → First e → name no_name tag d ≡ name no_name tag e → d ≡ e
         -- no wait is twice for one description
-        pub once : (j : ℕ) (ds : List s.Desc) → n.WaitOf job around (back o.task) j ds → Apart ds
+        pub once : (j : ℕ) (ds : List s.Desc) → n.WaitOf job around (back o.task) j ds → distinct (λ a b. true) ds ≡ ds
 
 -- what a walk from there says of the job: the six cases
 abbrev pub WalksSay : Type 0
@@ -81,10 +81,11 @@ WalksSay =
     → Begins tag mark frozen job around o finds r → Walk tag job around (back o.task) finds r ms e
     → Says (the tag mark frozen job around) (real_inner job around) (lower tag mark frozen job around) o (record { number = o.number; spawned = ms; end = end_of tag mark frozen job around o.task e })
 
--- and where something is missing nothing is told of what was made
+-- and where something is missing of what was brought along, all that is waited for at the order's wait, nothing is told of what was made
 abbrev pub MissingSays : Type 0
 MissingSays =
     (tag : Tag) (mark : Object (List ℕ) → Digest) (frozen : Stand (List ℕ) → Digest) (job : s.Job) (around : s.Around) → PlainReads around
     → (o : OpenStart s.Desc) (finds : v.Desc (List ℕ) → Option (Object (List ℕ))) (r : Stand (List ℕ)) (name : Digest) (loss : ℕ)
     → Begins tag mark frozen job around o finds r
+    → ((d : v.Desc (List ℕ)) → t.In d (pending_in same_text r) → (x : Object (List ℕ)) × (finds d ≡ Some x))
     → Says (the tag mark frozen job around) (real_inner job around) (lower tag mark frozen job around) o (record { number = o.number; spawned = []; end = missing name loss })

@@ -1,18 +1,18 @@
 // Objects of what a row says of them, and what is said of objects.
 
+ghost use Rattle.std.specs.Prelude.{[], ◌∷◌, IfOk};
+ghost use Rattle.resume_rows.specs.Rows.{SoundAnywhere};
+
 use sky_base::fault::{Fault, FaultKind};
 use sky_base::object::Object;
-use sky_base::text::{Bytes, Memory};
-use sky_base::value::{Vals, Value};
+use sky_base::text::Bytes;
+use sky_base::value::Value;
 use std::alloc::Global;
 use std::test::Fail;
 
-/// An object: a number, a truth, a list of numbers, these bytes, or the fault `DivZero` at this line.
+/// An object: these bytes, or the fault `DivZero` at this line.
 #[derive(Clone, Copy)]
 pub enum Given {
-    Int(i64),
-    Bool(bool),
-    List(&'static [i64]),
     Bytes(&'static [u8]),
     Fault(u32),
 }
@@ -26,24 +26,18 @@ pub enum Ended {
     Other,
 }
 
-fn list(alloc: Global, numbers: &[i64]) -> Result<Value, Memory> {
-    let mut values = Vals::new(alloc);
-    for number in numbers {
-        values.push(Value::Int(*number))?;
-    }
-    Ok(Value::List(values))
-}
-
 fn bytes(alloc: Global, bytes: &[u8]) -> Result<Bytes, Fail> {
     Ok(Bytes::new(alloc, Vec::from_slice(alloc, bytes)?)?)
 }
 
-fn object(alloc: Global, given: Given) -> Result<Object, Fail> {
+fn object(alloc: Global, given: Given) -> Result<Object, Fail>
+    ensures { IfOk result (λ o. SoundAnywhere (o ∷ [])) }
+{
     match given {
-        Given::Int(number) => Ok(Object::Data(Value::Int(number))),
-        Given::Bool(truth) => Ok(Object::Data(Value::Bool(truth))),
-        Given::List(numbers) => Ok(Object::Data(list(alloc, numbers)?)),
-        Given::Bytes(given) => Ok(Object::Bytes(bytes(alloc, given)?)),
+        Given::Bytes(given) => {
+            let bytes = bytes(alloc, given)?;
+            Ok(Object::Bytes(bytes))
+        }
         Given::Fault(line) => Ok(Object::Fault(Fault {
             kind: FaultKind::DivZero,
             line,
@@ -53,7 +47,9 @@ fn object(alloc: Global, given: Given) -> Result<Object, Fail> {
 }
 
 /// The objects, in order.
-pub fn objects(alloc: Global, given: &[Given]) -> Result<Vec<Object>, Fail> {
+pub fn objects(alloc: Global, given: &[Given]) -> Result<Vec<Object>, Fail>
+    ensures { IfOk result (λ os. SoundAnywhere os.items) }
+{
     let mut objects = Vec::new(alloc);
     for one in given {
         let object = object(alloc, *one)?;

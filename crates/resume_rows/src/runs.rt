@@ -1,4 +1,11 @@
-// The main call of a script, begun and gone on with.
+// The main call of a script, step by step.
+
+ghost use Rattle.std.specs.Prelude.{◌≡◌, ◌≤◌, [], IfOk, length};
+ghost use Rattle.sky_parse.specs.Source.{IsScript};
+ghost use Rattle.sky_state.specs.Fits.{Fits};
+ghost use Rattle.sky_state.specs.StateView.{stand_of};
+ghost use Rattle.sky_onward.specs.Onward.{IsRead, AnswersSound};
+ghost use Rattle.resume_rows.specs.Rows.{FitsWhere};
 
 use crate::made::{Ended, in_numbers};
 use ciel_name::name::Sha1Namer;
@@ -7,9 +14,9 @@ use sky_base::script::{Script, Texts};
 use sky_base::text::Txt;
 use sky_base::value::{Pairs, Vals};
 use sky_numbers::code::Numbered;
+use sky_onward::resume::resume;
+use sky_onward::step as task;
 use sky_parse::script::parse;
-use sky_resume::on::{Came, go_on};
-use sky_resume::start::begin;
 use sky_state::state::State;
 use sky_text::lex::{lex, line_col};
 use std::alloc::Global;
@@ -22,18 +29,14 @@ pub enum Step {
     Waits,
 }
 
-/// The script of a text, which is one.
-pub fn script(alloc: Global, text: &str) -> Result<Script, Fail> {
-    let bytes = text.as_bytes();
-    if bytes.len() > 10_000 {
-        return Err(Fail::from("a long text"));
-    }
+/// The script that these bytes are.
+fn parsed(alloc: Global, bytes: &[u8]) -> Result<Script, Fail>
+    requires { length bytes.now ≤ 10000 }
+    ensures { IfOk result (λ s. IsScript bytes.now [] s) }
+{
     let Ok(tokens) = lex(alloc, bytes) else {
         return Err(Fail::from("no tokens"));
     };
-    if tokens.len() > 10_000 {
-        return Err(Fail::from("many tokens"));
-    }
     let end = line_col(bytes, bytes.len() as u32);
     match parse(alloc, tokens.as_slice(), end, Texts::of(Vec::new(alloc))) {
         Ok(script) => Ok(script),
@@ -41,15 +44,22 @@ pub fn script(alloc: Global, text: &str) -> Result<Script, Fail> {
     }
 }
 
-fn step(came: &Came) -> Step {
-    match came {
-        Came::Ended(object) => Step::Ended(in_numbers(object)),
-        Came::Waits => Step::Waits,
+/// The script of a text, which is one.
+pub fn script(alloc: Global, text: &str) -> Result<Script, Fail>
+    ensures { IfOk result (λ s. IsRead s) }
+{
+    let bytes = text.as_bytes();
+    if bytes.len() > 10_000 {
+        return Err(Fail::from("a long text"));
     }
+    let script = parsed(alloc, bytes)?;
+    Ok(script)
 }
 
 /// The start of the main call.
-pub fn start(alloc: Global, script: &Script) -> Result<State, Fail> {
+pub fn start(alloc: Global, script: &Script) -> Result<State, Fail>
+    ensures { IfOk result (λ s. Fits script.now (stand_of s)) }
+{
     let (main, caught, args) = (Txt::new(alloc, "")?, Pairs::new(alloc), Vals::new(alloc));
     let state = State::start_call(alloc, script, &main, &caught, &args)?;
     Ok(state)
@@ -61,10 +71,16 @@ pub fn resumed(
     script: &Numbered,
     state: &mut State,
     answers: &[Object],
-) -> Result<Step, Fail> {
-    match state {
-        State::Run(run) if run.waits == 0 => Ok(step(&begin(alloc, script, run, &Sha1Namer)?)),
-        State::Run(run) => Ok(step(&go_on(alloc, script, run, answers, &Sha1Namer)?)),
-        State::Show { .. } => Err(Fail::from("no run")),
+) -> Result<Step, Fail>
+    requires same { script.now.nodes ≡ script.now.code }
+    requires read { IsRead script.now.code }
+    requires fits { Fits script.now.code (stand_of state.old) }
+    requires answers { AnswersSound script.now.code answers.now }
+    ensures { IfOk result (λ s. FitsWhere script.now.code (stand_of state.new) s) }
+{
+    match resume(alloc, script, state, answers, &Sha1Namer)? {
+        task::Step::Ended(object) => Ok(Step::Ended(in_numbers(&object))),
+        task::Step::Waits => Ok(Step::Waits),
+        task::Step::Shown(_) => Err(Fail::from("no call")),
     }
 }

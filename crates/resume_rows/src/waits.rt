@@ -1,5 +1,11 @@
 // Where a call stands at each of its waits.
 
+ghost use Rattle.std.specs.Prelude.{◌≡◌, IfOk};
+ghost use Rattle.sky_state.specs.Fits.{Fits};
+ghost use Rattle.sky_state.specs.StateView.{stand_of};
+ghost use Rattle.sky_onward.specs.Onward.{IsRead};
+ghost use Rattle.resume_rows.specs.Rows.{FitsWhere};
+
 use crate::made::{Ended, Given, objects};
 use crate::runs::{Step, resumed, script, start};
 use sky_base::names::Names;
@@ -55,7 +61,7 @@ static ROWS: [Row; 4] = [
                     pending: 1,
                     holds: 2,
                 },
-                given: &[Given::Int(9)],
+                given: &[Given::Bytes(b"9")],
             },
             Stop {
                 at: At {
@@ -66,7 +72,7 @@ static ROWS: [Row; 4] = [
                     pending: 1,
                     holds: 2,
                 },
-                given: &[Given::Int(16)],
+                given: &[Given::Bytes(b"16")],
             },
         ],
         end: Ended::Int(25),
@@ -110,7 +116,7 @@ static ROWS: [Row; 4] = [
                 pending: 1,
                 holds: 1,
             },
-            given: &[Given::Int(6)],
+            given: &[Given::Bytes(b"6")],
         }],
         end: Ended::Int(24),
     },
@@ -151,27 +157,49 @@ fn stands(alloc: Global, state: &State) -> Result<At, Fail> {
 }
 
 /// Whether the call stands at the wait that is wanted, and what it comes to from there.
-fn passes(alloc: Global, script: &Numbered, state: &mut State, stop: &Stop) -> Result<Step, Fail> {
+fn passes(
+    alloc: Global,
+    script: &Numbered,
+    state: &mut State,
+    stop: &Stop,
+) -> Result<Step, Fail>
+    requires same { script.now.nodes ≡ script.now.code }
+    requires read { IsRead script.now.code }
+    requires fits { Fits script.now.code (stand_of state.old) }
+    ensures { IfOk result (λ s. FitsWhere script.now.code (stand_of state.new) s) }
+{
     if stands(alloc, state)? != stop.at {
         return Err(Fail::from("another wait"));
     }
     let given = objects(alloc, stop.given)?;
-    resumed(alloc, script, state, given.as_slice())
+    let step = resumed(alloc, script, state, given.as_slice())?;
+    Ok(step)
 }
 
 /// What the call comes to behind all its waits.
-fn ends(alloc: Global, script: &Numbered, state: &mut State, stops: &[Stop]) -> Result<Step, Fail> {
+fn ends(
+    alloc: Global,
+    script: &Numbered,
+    state: &mut State,
+    stops: &[Stop],
+) -> Result<Step, Fail>
+    requires same { script.now.nodes ≡ script.now.code }
+    requires read { IsRead script.now.code }
+    requires fits { Fits script.now.code (stand_of state.old) }
+{
     let mut step = resumed(alloc, script, state, &[])?;
     for stop in stops {
-        if step != Step::Waits {
-            return Err(Fail::from("an end"));
+        match step {
+            Step::Waits => step = passes(alloc, script, state, stop)?,
+            Step::Ended(_) => return Err(Fail::from("an end")),
         }
-        step = passes(alloc, script, state, stop)?;
     }
     Ok(step)
 }
 
-fn runs_so(alloc: Global, script: &Script, row: &Row) -> Result<Step, Fail> {
+fn runs_so(alloc: Global, script: &Script, row: &Row) -> Result<Step, Fail>
+    requires { IsRead script.now }
+{
     let numbered = number_script(alloc, script)?;
     let mut state = start(alloc, script)?;
     ends(alloc, &numbered, &mut state, row.stops)

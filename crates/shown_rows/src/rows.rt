@@ -98,11 +98,7 @@ static ROWS: [Row; 21] = [
     Row {
         value: Form::Many(&[1, 2, 3]),
         wave: 1,
-        given: &[
-            Given::Data(Form::Int(5)),
-            Given::Fault(8),
-            Given::Fault(7),
-        ],
+        given: &[Given::Data(Form::Int(5)), Given::Fault(8), Given::Fault(7)],
         want: Want::Fault(FaultKind::DivZero, 8, 1),
     },
     Row {

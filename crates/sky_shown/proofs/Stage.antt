@@ -1,5 +1,5 @@
 -- From a wave of a job's result on: the answer of the job, or its next wave.
-use Rattle.std.proofs.Common.{◌≡◌, ◌≢◌, ◌≤◌, ◌<◌, ℕ, zero, suc, ◌+◌, ◌-◌, List, [], ◌∷◌, length, map, Bool, true, false, cond, nat_le, nat_lt, Option, Some, None, inl, inr, ltb-true, leb-true, le-leb, lt-leb, refl, sym, ap, ap₂, subst, ◌∙◌, arith}
+use Rattle.std.proofs.Common.{◌≡◌, ◌≢◌, ◌≤◌, ◌<◌, ℕ, zero, suc, ◌+◌, ◌-◌, List, [], ◌∷◌, length, map, Bool, true, false, cond, nat_le, nat_lt, Option, Some, None, inl, inr, ltb-true, leb-true, le-leb, refl, sym, ap, ap₂, subst, ◌∙◌, arith}
 use Rattle.std.proofs.lemmas.List.{length-map}
 use Rattle.sky_base.specs.Val as v
 use Rattle.sky_base.specs.Val.{distinct, ref, refs, same_text}
@@ -15,24 +15,22 @@ use Rattle.sky_law.specs.Lower.{low_obj, low_ref}
 use Rattle.sky_law.specs.NamesLaws.{Tag, no_name, NoClash, ReadsAlike}
 use Rattle.sky_law.specs.Tasks.{In}
 use Rattle.sky_law.proofs.Lists.{some_is}
-use Rattle.sky_law.proofs.RefsLow.{refs_low}
+use Rattle.sky_law.proofs.RefsLow.{distinct_refs_low, refs_low}
 use Rattle.sky_law.proofs.SeenLaw.{stands_one}
 use Rattle.sky_law.proofs.TaskFuel.{wave_next, wave_zero}
 use Rattle.sky_law.proofs.TaskOutputs.{in_distinct_refs}
 use Rattle.sky_rows.specs.Data.{data_of}
 use Rattle.sky_rows.specs.Walk.{Row}
-use Rattle.sky_state.specs.Moves.{GoesTo, WaitsNoMore}
 use Rattle.sky_state.specs.Stand.{Stand, low_state}
 use Rattle.sky_state.specs.Stands.{Stands}
 use Rattle.sky_state.specs.declared.shown.Shown.{Shown}
-use Rattle.sky_state.proofs.HeldLaw.{apart_names, once_low}
 use Rattle.sky_waves.specs.Seen.{SeenAsKnown, Sees, WritesAlike}
 use Rattle.sky_waves.specs.Wave as over
 use Rattle.sky_waves.specs.Wave.{Turned, last_at}
 use Rattle.sky_waves.proofs.Lowered.{low_turn, turn_low}
 use Rattle.sky_shown.specs.Given.{given_for}
 use Rattle.sky_shown.specs.Shows.{Next, after_turn, came_view, next_of, shown_view, wave_if, waits_if}
-use Rattle.sky_shown.specs.Standing.{IsWait, ShowsAs, stop_of}
+use Rattle.sky_shown.specs.Standing.{ShownOrStands, ShowsAs}
 use Rattle.sky_shown.specs.declared.show.Came.{Came}
 use Rattle.sky_shown.proofs.Nexts.{IsNext, next_waits, turn_over}
 
@@ -65,10 +63,11 @@ module _ (tag : Tag) (sees : Desc → Option Obj) where
 
   pub given_at : (ds : List Desc) (os : List Obj) → NoClash tag ds → see_all sees ds ≡ Some os → (d : Desc) → In d ds → Found ds os d
   given_at [] os apart e d i = absurd i
-  given_at (c ∷ ds) os apart e d i = first (joined_is (sees c) (see_all sees ds) os e)
+  given_at (c ∷ ds) os apart e d i =
+      first (λ rest more j. given_at ds rest (λ a b k l n. apart a b (inr k) (inr l) n) more d j) (joined_is (sees c) (see_all sees ds) os e)
     where
-      first : (o : Obj) × (rest : List Obj) × (sees c ≡ Some o) × (see_all sees ds ≡ Some rest) × (os ≡ o ∷ rest) → Found (c ∷ ds) os d
-      first (o, rest, one, more, is) = subst (λ x. Found (c ∷ ds) x d) (sym is) (go (same_text (name no_name tag d) (name no_name tag c)) refl)
+      first : ((rest : List Obj) → see_all sees ds ≡ Some rest → In d ds → Found ds rest d) → (o : Obj) × (rest : List Obj) × (sees c ≡ Some o) × (see_all sees ds ≡ Some rest) × (os ≡ o ∷ rest) → Found (c ∷ ds) os d
+      first again (o, rest, one, more, is) = subst (λ x. Found (c ∷ ds) x d) (sym is) (go (same_text (name no_name tag d) (name no_name tag c)) refl)
         where
           later : In d (c ∷ ds) → same_text (name no_name tag d) (name no_name tag c) ≡ false → In d ds
           later (inl q) f = let t = ap (λ x. same_text (name no_name tag x) (name no_name tag c)) q ∙ self_text (name no_name tag c) in absurd (true_false (sym t ∙ f))
@@ -84,8 +83,7 @@ module _ (tag : Tag) (sees : Desc → Option Obj) where
           go true t =
               let q : d ≡ c = apart d c i (inl refl) (exact_text (name no_name tag d) (name no_name tag c) t) in
               (o, ap sees q ∙ one, ap (λ b. cond b (Some (L o)) (given_for (map R ds) (map L rest) (R d))) t)
-          go false f =
-              behind (given_at ds rest (λ a b j k n. apart a b (inr j) (inr k) n) more d (later i f)) f
+          go false f = behind (again rest more (later i f)) f
 
 -- ---- the waves of a job
 
@@ -112,12 +110,12 @@ module _ (job : Job) (around : Around) where
   answer_from n zero k p s e =
       let all : k ≡ 101 = omega (arith, s) in
       ap (λ u. round job around n 101 u) (some_is (ref main_call) p e) ∙ ap (λ i. round job around n i p) (sym all)
-  answer_from n (suc j) k p s e = go (wave_back n j p e)
+  answer_from n (suc j) k p s e =
+      go (let more : suc k + j ≡ 101 = omega (arith, s) in λ q w. answer_from n j (suc k) q more w) (wave_back n j p e)
     where
-      go : Before n j p → job_answer job around n ≡ round job around n k p
-      go (q, w, t) =
-          let more : suc k + j ≡ 101 = omega (arith, s) in
-          answer_from n j (suc k) q more w ∙ ap (λ x. on_turn job around n x (λ u. round job around n k u)) t
+      go : ((q : Val) → wave job around n j ≡ Some q → job_answer job around n ≡ round job around n (suc k) q) → Before n j p → job_answer job around n ≡ round job around n k p
+      go again (q, w, t) =
+          again q w ∙ ap (λ x. on_turn job around n x (λ u. round job around n k u)) t
 
   answer_ends : (n j k : ℕ) (p : Val) (a : Answered) → suc k + j ≡ 101 → wave job around n j ≡ Some p → turn job around n p ≡ Turn.ends a → job_answer job around n ≡ a
   unfolding round
@@ -164,7 +162,11 @@ module _ (job : Job) (around : Around) where
       ap (λ o. only_if (nat_le (suc j) 100) (wave_refs o)) e ∙ ap (λ ds. only_if (nat_le (suc j) 100) (unless_none (distinct (λ a b. true) ds))) r ∙ nothing (nat_le (suc j) 100)
 
   no_more : (n j : ℕ) → 100 < suc j → wait_at job around n Task.show (suc j) ≡ None
-  no_more n j l = ap (λ b. only_if b (wave_refs (wave job around n (suc j)))) (lt-leb (suc j) 100 l)
+  no_more n j l = ap (λ b. only_if b (wave_refs (wave job around n (suc j)))) (above (nat_le (suc j) 100) refl)
+    where
+      above : (b : Bool) → nat_le (suc j) 100 ≡ b → nat_le (suc j) 100 ≡ false
+      above true e = let le : suc j ≤ 100 = leb-true (suc j) 100 e in absurd (omega (arith, l, le))
+      above false e = e
 
 -- ---- where the value stands for the root task at a wave, and these are the objects of what it waits for there
 
@@ -200,7 +202,7 @@ module _ (tag : Tag) (job : Job) (around : Around) (n : ℕ) where
       where
         names : distinct same_text (refs a) ≡ map (low_ref no_name tag) ds
         names =
-            ap (λ x. distinct same_text (refs x)) (stood a w j p st h).0 ∙ ap (distinct same_text) (refs_low no_name tag p) ∙ once_low tag (refs p) (apart_names tag (refs p) ds (sym waits) apart) ∙ ap (map (low_ref no_name tag)) (sym waits)
+            ap (λ x. distinct same_text (refs x)) (stood a w j p st h).0 ∙ distinct_refs_low no_name tag (λ a b. true) (λ a b c. absurd a) (λ a. absurd a) p (λ d e k l q. apart d e (subst (In d) (sym waits) (in_distinct_refs p d k)) (subst (In e) (sym waits) (in_distinct_refs p e l)) q) ∙ ap (map (low_ref no_name tag)) (sym waits)
 
         of_found : (d : Desc) → Found tag (see job around n) ds os d → (o : Object (List ℕ)) × (given_for (distinct same_text (refs a)) given (low_ref no_name tag d) ≡ Some o) × Sees job around tag n d o
         of_found d (x, s, g) =
@@ -235,10 +237,10 @@ module _ (tag : Tag) (job : Job) (around : Around) (n : ℕ) where
     refs_next q = refs_low no_name tag q
 
     abbrev Ends : Answered → Type 0
-    Ends x = (job_answer job around n ≡ x) × WaitsNoMore tag job around n Task.show j
+    Ends x = (job_answer job around n ≡ x) × (wait_at job around n Task.show (suc j) ≡ None)
 
     -- the answer
-    pub means : (x : Answered) → next_of given a w ≡ Next.answers x → Ends x
+    means : (x : Answered) → next_of given a w ≡ Next.answers x → Ends x
     means x e = go (turn job around n h.p) refl
       where
         left : suc (100 - j) + j ≡ 101
@@ -276,7 +278,7 @@ module _ (tag : Tag) (job : Job) (around : Around) (n : ℕ) where
         Stands job around tag (Stand.show_at u (suc w)) Task.show (suc j) × (ds : List Desc) × (wait_at job around n Task.show (suc j) ≡ Some ds)
 
     -- the next wave
-    pub stands : (u : v.Val (List ℕ)) → next_of given a w ≡ Next.waits u → Goes u
+    stands : (u : v.Val (List ℕ)) → next_of given a w ≡ Next.waits u → Goes u
     stands u e = go (turn job around n h.p) refl
       where
         wait : (q : Val) (ds : List Desc) → distinct_refs q ≡ ds → (ds ≡ [] → ⊥) → wave_refs (Some q) ≡ Some ds
@@ -294,8 +296,7 @@ module _ (tag : Tag) (job : Job) (around : Around) (n : ℕ) where
         of_next q t (is, le, more) =
             let same : low no_name tag q ≡ u = next_is (low no_name tag q) u is in
             let refers : 0 < length (refs q) = subst (λ k. 0 < k) (length-map (refs q) (low_ref no_name tag)) (subst (λ xs. 0 < length xs) (refs_next q) (subst (λ x. 0 < length (refs x)) (sym same) more)) in
-            ((State.show_at q (suc j), (n, ap (wave_state (suc j)) (next_wave q t)), (λ i. Stand.show_at (sym same i) (suc (h.at i)))),
-            (distinct_refs q, ap₂ only_if (le-leb (suc j) 100 le) (ap wave_refs (next_wave q t) ∙ wait q (distinct_refs q) refl (some q refers))))
+            ((State.show_at q (suc j), (n, ap (wave_state (suc j)) (next_wave q t)), (λ i. Stand.show_at (sym same i) (suc (h.at i)))), distinct_refs q, ap₂ only_if (le-leb (suc j) 100 le) (ap wave_refs (next_wave q t) ∙ wait q (distinct_refs q) refl (some q refers)))
 
         go : (t : Turn) → turn job around n h.p ≡ t → Goes u
         go (Turn.ends y) t = absurd (ends_not y (sym (comes (Turn.ends y) t) ∙ e))
@@ -312,13 +313,13 @@ shown_some (Shown.Text b) e = absurd cc
 shown_some (Shown.Fault f) e = absurd cc
 
 pub shows_came : (a : v.Val (List ℕ)) (w : ℕ) (given : List (Object (List ℕ))) (c : Came) → next_of given a w ≡ came_view c → ShowsAs a w given c
-shows_came a w given c e tag job around n j reads_alike writes_alike st (ds, os, waits, seen, are) apart = go c e
+shows_came a w given c e tag job around n j ds os reads_alike writes_alike st waits seen are apart = go c e
   where
     h : Here tag job around n a w j given
-    h = here tag job around n a w j ds os given seen are (apart ds waits) st (at_wait job around n j ds waits)
+    h = here tag job around n a w j ds os given seen are apart st (at_wait job around n j ds waits)
 
-    go : (c : Came) → next_of given a w ≡ came_view c → GoesTo tag job around n Task.show j (stop_of c w) × IsWait tag job around n j c
+    go : (c : Came) → next_of given a w ≡ came_view c → ShownOrStands tag job around n j w c
     go (Came.Shown s) e =
         let m = means tag job around n reads_alike writes_alike a w j given h (shown_view s) e in
-        ((m.0, shown_some s, m.1), tt)
+        (m.0, shown_some s, m.1)
     go (Came.Next u) e = stands tag job around n reads_alike writes_alike a w j given h (view u) e

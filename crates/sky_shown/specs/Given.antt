@@ -2,8 +2,11 @@
 use Rattle.std.specs.Prelude.{◌≡◌, ℕ, suc, List, [], ◌∷◌, Bool, true, false, cond, Option, Some, None}
 use Rattle.std.specs.Option.{option_map}
 use Rattle.std.specs.BTreeMap.{BTreeMap, get}
+use Rattle.std.specs.Coded.{Coded, coded_list, coded×}
 use Rattle.sky_base.specs.NameOrder.{name_cmp}
 use Rattle.sky_base.specs.Val.{same_text, same_desc}
+use Rattle.sky_rows.specs.Known.{object_coded}
+use Rattle.sky_rows.specs.RowCode.{rows_code}
 use Rattle.sky_rows.specs.Walk.{Obj, Row}
 
 -- the object at the place of the first of these references that is d
@@ -31,3 +34,7 @@ or_here None false place = None
 -- each name has its first place
 abbrev pub FindsEach : BTreeMap (List ℕ) ℕ → List (List ℕ) → Type 0
 FindsEach places ns = (x : List ℕ) → place_at places x ≡ name_place x ns
+
+-- a code for references with objects, by which a proof tells them apart
+abbrev pub given_code : Coded (List Row × List Obj)
+given_code = coded× rows_code (coded_list object_coded)

@@ -33,9 +33,11 @@ impl<'a> Model for Given<'a> {
     ghost use Rattle.sky_law.specs.Tasks.{Each};
     ghost use Rattle.sky_rows.specs.Known.{KeptObject};
     ghost use Rattle.sky_rows.specs.Walk.{Obj, Row};
-    ghost use Rattle.sky_shown.specs.Given.{FindsEach};
+    ghost use Rattle.sky_shown.specs.Given.{FindsEach, given_code};
 
     ghost Value = { List Row × List Obj };
+
+    ghost coded = { given_code };
 
     ghost view = { λ g. (known_of g.names.now, map object_view g.objects.now) };
 

@@ -10,4 +10,3 @@ pub mod BodyView
 pub mod StateView
 pub mod Stands
 pub mod Laws
-pub mod Moves

@@ -96,7 +96,7 @@ fn turn<'a, 'b, F: Finds, N: Namer>(
     ensures finder { F.finds finder.new ≡ F.finds finder.old }
 {
     let names = state.pending(alloc)?;
-    let answers = match find_all(alloc, finder, names)? {
+    let answers = match find_all(alloc, finder, &names)? {
         Ok(answers) => answers,
         Err(refusal) => return Ok(Err(refusal)),
     };
@@ -108,7 +108,8 @@ fn turn<'a, 'b, F: Finds, N: Namer>(
             }
             Ok(Ok(Some(Step::Waits)))
         }
-        step => Ok(Ok(Some(step))),
+        Step::Ended(object) => Ok(Ok(Some(Step::Ended(object)))),
+        Step::Shown(shown) => Ok(Ok(Some(Step::Shown(shown)))),
     }
 }
 
@@ -116,14 +117,15 @@ fn turn<'a, 'b, F: Finds, N: Namer>(
 fn find_all<F: Finds>(
     alloc: Global,
     finder: &mut F,
-    names: Names,
+    names: &Names,
 ) -> Result<Result<Vec<Object>, F::Refusal>, Memory>
-    requires { AllFound (F.finds finder.old) (known_of names) }
-    ensures objects { IfOk result (λ r. IfOk r (λ os. map (F.finds finder.old) (known_of names) ≡ map Some (map object_view os.items))) }
+    requires { AllFound (F.finds finder.old) (known_of names.now) }
+    ensures objects { IfOk result (λ r. IfOk r (λ os. map (F.finds finder.old) (known_of names.now) ≡ map Some (map object_view os.items))) }
     ensures finder { F.finds finder.new ≡ F.finds finder.old }
 {
     let mut objects = Vec::new(alloc);
-    'names: for name in names.as_slice() {
+    let mut rest = names.as_slice();
+    'names: while let Some((name, more)) = rest.split_first() {
         match finder.find(alloc, name)? {
             Ok(object) => {
                 let Ok(()) = objects.push(object) else {
@@ -132,6 +134,7 @@ fn find_all<F: Finds>(
             }
             Err(refusal) => return Ok(Err(refusal)),
         }
+        rest = more;
     }
     Ok(Ok(objects))
 }
@@ -140,10 +143,12 @@ fn find_all<F: Finds>(
 fn has_all<F: Finds>(finder: &F, names: &Names) -> bool
     ensures { FoundIf (F.finds finder.now) result (known_of names.now) }
 {
-    'names: for name in names.as_slice() {
+    let mut rest = names.as_slice();
+    'names: while let Some((name, more)) = rest.split_first() {
         if !finder.has(name) {
             return false;
         }
+        rest = more;
     }
     true
 }

@@ -9,6 +9,6 @@ pub returns : goal.returns
 returns c =
     record {
       comes = c.in_ok-came.ensures;
-      stands = shows_came (view c.args.value.now) c.args.wave (map object_view c.args.answers.now) c.came c.in_ok-came.ensures;
-      fits = fits_came (map object_view c.args.answers.now) (view c.args.value.now) c.args.wave c.came c.in_ok-came.ensures;
+      stands = shows_came (view c.args.value.now) c.args.wave (map object_view c.args.answers.now) c.in_ok-came.came c.in_ok-came.ensures;
+      fits = fits_came (map object_view c.args.answers.now) (view c.args.value.now) c.args.wave c.in_ok-came.came c.in_ok-came.ensures;
     }

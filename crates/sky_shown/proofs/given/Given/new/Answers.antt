@@ -1,6 +1,6 @@
-use Rattle.std.proofs.Common.{take, sym, ap, ◌∙◌}
+use Rattle.std.proofs.Common.{sym, ap, ◌∙◌}
 use Rattle.sky_base.specs.Val.{same_text}
-use Rattle.sky_shown.specs.Given.{name_place, or_here}
+use Rattle.sky_shown.specs.Given.{or_here}
 use Rattle.sky_shown.proofs.Places.{place_more}
 use Rattle.sky_shown.proofs.given.Given.new.Goals as goal
 

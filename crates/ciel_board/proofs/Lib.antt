@@ -1,0 +1,16 @@
+mod Pairs
+mod Looking
+mod Holding
+mod Bringing
+mod Starting
+mod Following
+mod Learning
+mod Placing
+mod Saving
+mod Accepting
+mod Telling
+mod Opening
+mod Sounding
+mod Missing
+mod Searching
+mod Driving

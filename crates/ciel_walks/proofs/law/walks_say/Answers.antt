@@ -1,0 +1,6 @@
+use Rattle.ciel_walks.proofs.Saying.{walks}
+use Rattle.ciel_walks.proofs.law.walks_say.Goals as goal
+
+pub returns : goal.returns
+returns c =
+    record { says = λ tag mark frozen job around plain o finds r ms e b walk. walks tag mark frozen job around plain o finds r b ms e walk }

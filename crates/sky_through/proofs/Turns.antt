@@ -1,0 +1,77 @@
+-- Turns, one after the other.
+use Rattle.std.proofs.Common.{◌≡◌, ◌≤◌, ◌<◌, ◌+◌, ◌-◌, ◌++◌, ℕ, suc, List, [], ◌∷◌, map, Bool, true, false, Option, Some, None, is_some, refl, sym, ap, ◌∙◌, subst, arith, append_assoc, append-nil, Result, Ok, Err, IfOk, inl, inr}
+use Rattle.std.proofs.lemmas.List.{map-append}
+use Rattle.sky_base.specs.Val.{Desc, known, same_text}
+use Rattle.sky_base.specs.Tree.{Script}
+use Rattle.sky_base.specs.Res.{Object, visits}
+use Rattle.sky_base.specs.Names.{known_of}
+use Rattle.sky_base.specs.ObjectView.{object_view}
+use Rattle.sky_base.specs.declared.object.Object as rust
+use Rattle.sky_law.specs.Sound.{SoundDesc, SoundObject}
+use Rattle.sky_law.specs.Tasks.{In, Each}
+use Rattle.sky_law.proofs.Lists.{each_both}
+use Rattle.sky_state.specs.Fits.{Fits}
+use Rattle.sky_state.specs.Stand.{Stand}
+use Rattle.sky_resume.specs.Comes.{with_name}
+use Rattle.sky_onward.specs.Exactly.{gone_of}
+use Rattle.sky_onward.specs.Onward.{AnswersSound, GrewSoundly}
+use Rattle.sky_onward.specs.Steps.{Spawned, Resumed}
+use Rattle.sky_onward.specs.declared.step.Step.{Step}
+use Rattle.sky_through.specs.Found.{AllFound, OneLacks, FoundIf, FindsSound, still_to_come}
+
+-- ---- what is found
+
+module _ (finds : Desc (List ℕ) → Option (Object (List ℕ))) where
+  pub found_sound : (sc : Script) (ds : List (Desc (List ℕ))) (os : List rust.Object) → FindsSound finds sc → map finds ds ≡ map Some (map object_view os) → AnswersSound sc os
+  found_sound sc [] [] sound e = tt
+  found_sound sc [] (o ∷ os) sound e = absurd cc
+  found_sound sc (d ∷ ds) [] sound e = absurd cc
+  found_sound sc (d ∷ ds) (o ∷ os) sound e = (sound d (object_view o) (head_is _ _ _ _ e), found_sound sc ds os sound (tail_is _ _ _ _ e))
+    where
+      head_is : {A : Type 0} (x y : A) (xs ys : List A) → x ∷ xs ≡ y ∷ ys → x ≡ y
+      head_is x y xs ys e = cc
+
+      tail_is : {A : Type 0} (x y : A) (xs ys : List A) → x ∷ xs ≡ y ∷ ys → xs ≡ ys
+      tail_is x y xs ys e = cc
+
+  -- where one is there, those of the longer list are as those of the rest
+  pub one_more : (d : Desc (List ℕ)) (ds : List (Desc (List ℕ))) (b : Bool) → is_some (finds d) ≡ true → FoundIf finds b ds → FoundIf finds b (d ∷ ds)
+  one_more d ds true e h = (e, h)
+  one_more d ds false e (x, i, none) = (x, inr i, none)
+
+  pub none_of : (x : Option (Object (List ℕ))) → is_some x ≡ false → x ≡ None
+  none_of None e = refl
+  none_of (Some o) e = absurd cc
+
+  -- one more is found
+  pub found_more : (d : Desc (List ℕ)) (ds : List (Desc (List ℕ))) (xs : List (Option (Object (List ℕ)))) (os : List rust.Object) (o : rust.Object) → finds d ≡ Some (object_view o) → xs ≡ map Some (map object_view os) ++ map finds (d ∷ ds) → xs ≡ map Some (map object_view (os ++ o ∷ [])) ++ map finds ds
+  found_more d ds xs os o e g =
+      g
+      ∙ ap (λ x. map Some (map object_view os) ++ x ∷ map finds ds) e
+      ∙ sym (append_assoc (map Some (map object_view os)) (Some (object_view o) ∷ []) (map finds ds))
+      ∙ ap (λ ys. ys ++ map finds ds) (sym (ap (map Some) (map-append object_view os (o ∷ [])) ∙ map-append Some (map object_view os) (object_view o ∷ [])))
+
+-- ---- what was made
+
+pub grew_none : (digest : List ℕ → List ℕ) (sc : Script) (xs : Spawned) → GrewSoundly digest sc xs xs
+grew_none digest sc xs = record { made = []; grew = sym (append-nil xs); sound = tt }
+
+pub grew_both : (digest : List ℕ → List ℕ) (sc : Script) (xs ys zs : Spawned) → GrewSoundly digest sc xs ys → GrewSoundly digest sc ys zs → GrewSoundly digest sc xs zs
+grew_both digest sc xs ys zs a b = record {
+  made = a.made ++ b.made;
+  grew = b.grew ∙ ap (λ q. q ++ map (with_name digest) b.made) a.grew ∙ append_assoc xs (map (with_name digest) a.made) (map (with_name digest) b.made) ∙ ap (λ q. xs ++ q) (sym (map-append (with_name digest) a.made b.made));
+  sound = each_both (SoundDesc sc) a.made b.made a.sound b.sound;
+}
+
+-- ---- fewer waits are still to come
+
+gone_few : (sc : Script) (s : Stand (List ℕ)) → Fits sc s → gone_of s < visits + 101
+gone_few sc (Stand.run r) h = omega (arith, h.waits, h.count)
+gone_few sc (Stand.show_at v w) h = omega (arith, h.wave)
+
+pub falls : (sc : Script) (old new : Stand (List ℕ)) → Fits sc old → gone_of new ≡ suc (gone_of old) → still_to_come new < still_to_come old
+falls sc old new h e = omega (arith, gone_few sc old h, e)
+
+pub ok_map : {X E : Type 0} {P Q : X → Type 0} (r : Result X E) → ((x : X) → P x → Q x) → IfOk r P → IfOk r Q
+ok_map (Ok x) g h = g x h
+ok_map (Err e) g h = tt
