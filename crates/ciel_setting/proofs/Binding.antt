@@ -64,7 +64,6 @@ module _ {N : Type 0} where
       let r = fewer x xs ps h.1 in
       ((flip k x q.0, r.0), (q.1, r.1))
 
-
   -- a variable more
   put_from : (x : List ℕ) (v : Val N) (ps : Pairs N) (d : Desc N) → In d (pairs_refs (put x v ps)) → In d (refs v) ⊎ In d (pairs_refs ps)
   put_from x v no_pairs d i = in_join d (refs v) [] i

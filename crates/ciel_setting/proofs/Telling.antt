@@ -1,43 +1,37 @@
 -- Descriptions of the real job by names tell what the master reads from them.
-use Rattle.std.proofs.Common.{◌≡◌, ℕ, zero, suc, ◌<◌, List, [], ◌∷◌, ◌++◌, length, map, Bool, true, false, cond, ◌+◌, ◌||◌, nat_lt, Option, Some, None, ◌⊎◌, inl, inr, refl, ap, sym, ◌∙◌, subst, arith}
+use Rattle.std.proofs.Common.{◌≡◌, ℕ, suc, List, [], ◌∷◌, ◌++◌, length, map, Bool, true, false, cond, ◌+◌, ◌||◌, nat_lt, Option, Some, None, ◌⊎◌, inl, inr, refl, ap, sym, ◌∙◌, subst}
 use Rattle.std.specs.Option.{option_map}
-use Rattle.std.proofs.lemmas.Bool.{le-ltb, lt-ltb}
+use Rattle.std.proofs.lemmas.Bool.{lt-ltb}
 use Rattle.std.proofs.lemmas.List.{append-nil, map-append}
 use Rattle.sky_base.specs.Tree.{block_nodes}
 use Rattle.sky_base.specs.Eval.{Body, bind, body_of, find_body, find_body_if, find_fun, find_fun_if, is_one_of}
-use Rattle.sky_base.specs.Name.{digested, held_name, low, low_desc, low_pairs, low_vals, name}
+use Rattle.sky_base.specs.Name.{digested, low, low_desc, low_pairs, low_vals, name}
 use Rattle.sky_base.specs.Needed as n
-use Rattle.sky_base.specs.ObjectView.{desc_view}
 use Rattle.sky_base.specs.See as s
-use Rattle.sky_base.specs.Tree.{FunDef, Script}
-use Rattle.sky_base.specs.Val.{call, count, distinct, input, known, no_pairs, no_vals, out, pairs_refs, ref, refs, same_text, vals_refs}
+use Rattle.sky_base.specs.Tree.{FunDef}
+use Rattle.sky_base.specs.Val.{call, count, distinct, input, known, out, pairs_refs, ref, refs, same_text, vals_refs}
 use Rattle.sky_base.specs.Val as v
 use Rattle.sky_base.specs.View.{view}
 use Rattle.sky_base.specs.declared.object.Desc1.{Desc1}
 use Rattle.sky_grammar.proofs.UsesLaw.{one_of}
 use Rattle.sky_law.specs.Lower.{low_ref}
 use Rattle.sky_law.specs.NamesLaws.{no_name}
-use Rattle.sky_law.specs.Refers.{PlainReads}
-use Rattle.sky_law.specs.Sound.{CallsIf, IsMain, SoundDesc, SoundReads, SoundTask}
+use Rattle.sky_law.specs.Sound.{CallsIf, IsMain, SoundDesc, SoundReads}
 use Rattle.sky_law.specs.Tasks as t
 use Rattle.sky_law.proofs.RefsLow.{distinct_low, pairs_refs_low, refs_low, vals_refs_low}
 use Rattle.sky_law.proofs.SoundJobs.{made_sound, needed_sound}
 use Rattle.sky_law.proofs.TaskOutputs.{distinct_in, in_distinct}
-use Rattle.ciel_journal.specs.Job.{Digest, Held, In, Job, Needed, Task, made_in, of, show}
-use Rattle.ciel_journal.specs.Lawful.{NoClash}
+use Rattle.ciel_journal.specs.Job.{Digest, Held, In, Job, Task, made_in, of, show}
 use Rattle.ciel_journal.proofs.Near.{in_join, in_right}
 use Rattle.ciel_journal.proofs.Numbers.{in_left}
 use Rattle.ciel_journal.proofs.SeenAs.{in_names}
-use Rattle.ciel_meant.specs.Inner.{inside, real_inner}
-use Rattle.ciel_meant.specs.Real.{acts_of, at_of, back, forth, forth_if, held_if, real_job}
+use Rattle.ciel_meant.specs.Real.{acts_of, back, forth_if, held_if}
 use Rattle.ciel_meant.proofs.AlikeLaw.{is_one, made_is, needed_to}
 use Rattle.ciel_meant.proofs.RealLaw.{in_from, in_to}
 use Rattle.ciel_name.specs.Names.{first_output}
-use Rattle.ciel_table.specs.Named.{place_of}
-use Rattle.ciel_table.specs.Seen.{is_input}
 use Rattle.ciel_want.specs.Waited.{first_refs, names_of}
 use Rattle.ciel_board.specs.Board.{key_number, start_refs}
-use Rattle.ciel_board.specs.Setting.{AllStart, AreNames, IsMade, RootHoldsMain, Setting, Spells, TellsByNames, TellsFirst, TellsHeld, TellsInput, TellsTask, input_number}
+use Rattle.ciel_board.specs.Setting.{AllStart, AreNames, IsMade, RootHoldsMain, Setting, TellsByNames, TellsFirst, TellsHeld, TellsInput, TellsTask, input_number}
 use Rattle.ciel_setting.specs.Binds.{AllApart, AllBind}
 use Rattle.ciel_setting.specs.Laws.{real_setting}
 use Rattle.ciel_setting.proofs.Binding.{KeysApart, bound_from, bound_to, fun_binds, none_empty, used_apart}
@@ -138,6 +132,11 @@ module _ {P B : Type 0} (digest : List ℕ → List ℕ) (job : s.Job) (around :
   sound_made reads d (inr (u, w, k, i)) =
       inr (made_sound job around reads k (back u) d (needed_sound job around reads (back u) (needed_to job around (name no_name (digested digest)) mark frozen u w)) (in_from d (t.made_in (t.acts_of job around k (back u))) (subst (In d) (made_is (t.acts_of job around k (back u))) i)))
 
+  keyed : (l key : List ℕ) → l ≡ key → ((input key ≡ s.main_call) ⊎ SoundDesc {N = ⊥} job.script (input key)) → (i : ℕ) × (key_number job.script.keys l ≡ Some i)
+  keyed l key same (inl q) = cc
+  keyed l key same (inr q) =
+      let r = has_number key job.script.keys q.1 in (r.0, ap (key_number job.script.keys) same ∙ r.1)
+
   input_told : SoundReads job.script around → TellsInput here
   input_told reads x (call f c vs) k m e = cc
   input_told reads x (known b) k m e = absurd b
@@ -151,15 +150,8 @@ module _ {P B : Type 0} (digest : List ℕ → List ℕ) (job : s.Job) (around :
           cc
   input_told reads (Desc1.Call g c vs) (input key) k m e = cc
   input_told reads (Desc1.Exec y a j i) (input key) k m e = cc
-  input_told reads (Desc1.Input l) (input key) k m e = pick (sound_made reads (input key) m)
-    where
-      same : l ≡ key
-      same = cc
-
-      pick : ((input key ≡ s.main_call) ⊎ SoundDesc job.script (input key)) → (i : ℕ) × (key_number job.script.keys l ≡ Some i)
-      pick (inl q) = cc
-      pick (inr q) =
-          let r = has_number key job.script.keys q.1 in (r.0, ap (key_number job.script.keys) same ∙ r.1)
+  input_told reads (Desc1.Input l) (input key) k m e =
+      let same : l ≡ key = cc in keyed l key same (sound_made reads (input key) m)
 
   -- ---- what is waited for and held at first
 
