@@ -23,7 +23,6 @@ use Rattle.sky_shown.specs.Standing as shown
 use Rattle.sky_shown.specs.declared.show.Came as shows
 use Rattle.sky_moves.specs.Moves as moves
 use Rattle.sky_resume.proofs.Later.{no_later}
-use Rattle.sky_onward.specs.Exactly.{gone_of}
 use Rattle.sky_onward.specs.Steps.{stop_of, Resumed}
 use Rattle.sky_onward.specs.declared.step.Step.{Step}
 
@@ -122,11 +121,6 @@ not_halted : (tag : Tag) (f : List ℕ) (j : ℕ) (x : Option (Halt ⊥)) (a : S
 not_halted tag f j None a s e low h = none_some a e
 not_halted tag f j (Some x) a s e low h = not_run tag _ a s (some_is _ a e) low h
 
--- a state that stands for the root task stands at its wave
-wave_is : (tag : Tag) (j : ℕ) (x : Option Val) (a : State) (s : Stand (List ℕ)) → wave_state j x ≡ Some a → s ≡ low_state tag a → gone_of s ≡ j
-wave_is tag j None a s e low = absurd (none_some a e)
-wave_is tag j (Some u) a s e low = ap gone_of (low ∙ ap (low_state tag) (sym (some_is (State.show_at u j) a e)))
-
 is_told : (a : Answered) → a ≢ Answered.not_yet → is_answer a ≡ true
 is_told Answered.not_yet ne = absurd (ne refl)
 is_told (Answered.bytes b) ne = refl
@@ -146,17 +140,16 @@ module _ (digest : List ℕ → List ℕ) (sc : Script) (u : v.Val (List ℕ)) (
   tag = digested digest
 
   module _ (job : Job) (around : Around) (alike : ReadsAlike (digested digest) around data_of) (writes : WritesAlike (digested digest) around) where
-    at_wave : (n j : ℕ) → w ≡ j → (o : shows.Came) → shown.ShownOrStands tag job around n j o → moves.StepsTo tag job around Task.show j (stop_of (shows_step o) (shows_next u w o))
-    at_wave n j e (shows.Came.Shown s) (is, ne, none) =
+    at_wave : (n j : ℕ) (o : shows.Came) → shown.ShownOrStands tag job around n j w o → moves.StepsTo tag job around Task.show j (stop_of (shows_step o) (shows_next u w o))
+    at_wave n j (shows.Came.Shown s) (is, ne, none) =
         ((n, is, ne), no_later tag job around n Task.show j (ap is_answer is ∙ is_told (shown_view s) ne) none)
-    at_wave n j e (shows.Came.Next x) (stands, ds, wait) =
-        (subst (λ k. Stands job around tag (Stand.show_at (view x) (suc k)) Task.show (suc j)) (sym e) stands, (ds, wait))
+    at_wave n j (shows.Came.Next x) (stands, ds, wait) = (stands, (ds, (n, wait)))
 
     at_show : (j n : ℕ) → Stands job around tag (Stand.show_at u w) Task.show j → moves.Answers tag job around Task.show n j os → moves.StepsTo tag job around Task.show j (stop_of (shows_step came) (shows_next u w came))
     at_show j n s a =
         let once = show_once job around n j a.waited a.is_wait in
         let all : see_all (see job around n) a.waited ≡ Some a.objects = ap (see_all (see job around n)) (sym once) ∙ a.seen in
-        at_wave n j (wave_is tag j (wave job around s.1.0 j) s.0 (Stand.show_at u w) s.1.1 s.2) came (goes tag job around n j a.waited a.objects alike writes s a.is_wait all a.are a.apart)
+        at_wave n j came (goes tag job around n j a.waited a.objects alike writes s a.is_wait all a.are a.apart)
 
     steps : (t : Task) (j n : ℕ) → Stands job around tag (Stand.show_at u w) t j → moves.Answers tag job around t n j os → moves.StepsTo tag job around t j (stop_of (shows_step came) (shows_next u w came))
     unfolding IsShow

@@ -2,3 +2,4 @@ pub mod Laws
 pub mod Rest
 pub mod Onward
 pub mod Steps
+pub mod Exactly

@@ -203,11 +203,11 @@ module _ (digest : List ℕ → List ℕ) (job : Job) (around : Around) (alike :
 abbrev Named : (List ℕ → List ℕ) → Halt ⊥ → Halt (List ℕ)
 Named digest h = low_halt no_name (digested digest) h
 
-abbrev Low : (List ℕ → List ℕ) → List Obj → List (Object (List ℕ))
-Low digest os = map (low_obj no_name (digested digest)) os
+abbrev Objects : (List ℕ → List ℕ) → List Obj → List (Object (List ℕ))
+Objects digest os = map (low_obj no_name (digested digest)) os
 
 -- the rest from a wait is the same where each description is answered once
-rest_once : (digest : List ℕ → List ℕ) (sc : Script) (look : Desc → Option Obj) (h : Halt ⊥) (os xs : List Obj) → see_all look (distinct (λ a b. true) (refs_of h.wait)) ≡ Some os → see_all look (refs_of h.wait) ≡ Some xs → rest_of (over_names digest sc) others (Named digest h) (Low digest os) ≡ rest_of (over_names digest sc) others (Named digest h) (Low digest xs)
+rest_once : (digest : List ℕ → List ℕ) (sc : Script) (look : Desc → Option Obj) (h : Halt ⊥) (os xs : List Obj) → see_all look (distinct (λ a b. true) (refs_of h.wait)) ≡ Some os → see_all look (refs_of h.wait) ≡ Some xs → rest_of (over_names digest sc) others (Named digest h) (Objects digest os) ≡ rest_of (over_names digest sc) others (Named digest h) (Objects digest xs)
 rest_once digest sc look h os xs e g =
     let w = over_names digest sc in
     ap (λ x. plug w others (Named digest h).forms (Fin x (Named digest h).st)) (ends_once look w (digested digest) h.wait os xs e g)

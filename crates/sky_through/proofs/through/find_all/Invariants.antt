@@ -8,6 +8,7 @@ abbrev pub invariant-names : goal.invariant-names
 invariant-names g l = record {
   found : AllFound (g.F.Finds.finds l.fn.finder) (known_of l.rest);
   finder : g.F.Finds.finds l.finder ≡ g.F.Finds.finds l.fn.finder;
+  ready : g.F.Finds.ready l.finder;
   objects : map (g.F.Finds.finds l.fn.finder) (known_of l.names) ≡ map Some (map object_view l.objects.items) ++ map (g.F.Finds.finds l.fn.finder) (known_of l.rest);
 }
 

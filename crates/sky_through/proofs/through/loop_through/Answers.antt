@@ -18,6 +18,7 @@ turns-preserved g c =
       fits = fits;
       found = turned.3;
       finder = c.in_ok-turn.ensures.finder ∙ l.invariant.finder;
+      ready = c.in_ok-turn.ensures.ready;
       through = λ new s after th. l.invariant.through new s after (more turned.0 turned.1 turned.2 th);
       made = grew_both digest sc (spawned_of c.args.state.now) (spawned_of l.state) (spawned_of c.turn.new.state) l.invariant.made made;
     }

@@ -14,6 +14,7 @@ invariant-turns g l = record {
   fits : Fits l.script.code (stand_of l.state);
   found : HasAll (g.F.Finds.finds l.fn.finder) (stand_of l.state);
   finder : g.F.Finds.finds l.finder ≡ g.F.Finds.finds l.fn.finder;
+  ready : g.F.Finds.ready l.finder;
   through : (new : Stand (List ℕ)) (s : Step) (after : Spawned) → Through (g.F.Finds.finds l.fn.finder) (g.N.Namer.digest l.namer) l.script.code (stand_of l.state) new s (spawned_of l.state) after → Through (g.F.Finds.finds l.fn.finder) (g.N.Namer.digest l.namer) l.script.code (stand_of l.fn.state) new s (spawned_of l.fn.state) after;
   made : GrewSoundly (g.N.Namer.digest l.namer) l.script.code (spawned_of l.fn.state) (spawned_of l.state);
 }
