@@ -200,6 +200,7 @@ module _ {D P B : Type 0} (s : Setting D P B) (is : IsSetting s) (h : List (Even
         apart = apart s is h b sound f;
       })
       (record {
+        keys = f.stands.keys;
         main = f.stands.main;
         rows = mapped (RowIs s v.places) (RowIs s (λ d. filter (λ u. not (nat_eq w u)) (v.places d))) (c.row_without s.at w) v.book b.table.rows (λ d row i q. lost_row w d row q) f.stands.rows;
         waits = λ u i. waits_dropped s is w u v.saves b.table (f.stands.waits u i);
@@ -341,6 +342,7 @@ module _ {D P B : Type 0} (s : Setting D P B) (is : IsSetting s) (h : List (Even
             apart = subst (λ (u : Standing D). NoClash s.job u.book) (sym now) clear;
           })
           (subst (λ u. StandsFor s u (accepted s.digest b x.out spawned (rep.saved q))) (sym now) (record {
+            keys = f.stands.keys;
             main = f.stands.main;
             rows = rows_after sp clear told;
             waits = λ u i. waits_pushed s is (known_after s.job v.book sp) clear u o.task i (own_in sp clear told) v.saves save after_table x.out.task (wait_of q) refl order.task wait_is (waits_after sp clear told after_table refl refl u i);
@@ -417,6 +419,7 @@ module _ {D P B : Type 0} (s : Setting D P B) (is : IsSetting s) (h : List (Even
             apart = subst (λ (u : Standing D). NoClash s.job u.book) (sym now) clear;
           })
           (subst (λ u. StandsFor s u (accepted s.digest b x.out spawned (rep.made ms cs))) (sym now) (record {
+            keys = f.stands.keys;
             main = f.stands.main;
             rows = copied_rows;
             waits = waits_after sp clear told (with_copies cs made_table) (copies.shown ∙ outs.shown) (copies.saved ∙ outs.saved);

@@ -14,44 +14,44 @@ use Rattle.ciel_board.specs.Setting.{HasObject, Setting}
 
 -- ---- the spot of a name
 
-module _ {P : Type 0} (at : P → ℕ) (w : ℕ) (t : TableSeen P) where
-  not_brought : (n : Digest) (ns : List Digest) → spot_for at w t n ≡ None → spot_of n (brought at w t ns) ≡ None
+module _ {P : Type 0} (at : P → ℕ) (keys : List (List ℕ)) (w : ℕ) (t : TableSeen P) where
+  not_brought : (n : Digest) (ns : List Digest) → spot_for at keys w t n ≡ None → spot_of n (brought at keys w t ns) ≡ None
   not_brought n [] e = refl
-  not_brought n (m ∷ ms) e = pick (spot_for at w t m) refl (not_brought n ms e)
+  not_brought n (m ∷ ms) e = pick (spot_for at keys w t m) refl (not_brought n ms e)
     where
-      pick : (o : Option (Spot P)) → spot_for at w t m ≡ o → spot_of n (brought at w t ms) ≡ None → spot_of n (with_spot at m o (brought at w t ms)) ≡ None
+      pick : (o : Option (Spot P)) → spot_for at keys w t m ≡ o → spot_of n (brought at keys w t ms) ≡ None → spot_of n (with_spot at m o (brought at keys w t ms)) ≡ None
       pick None f r = r
       pick (Some u) f r = turn (bool_cases (same_text n m))
         where
-          turn : ((same_text n m ≡ true) ⊎ (same_text n m ≡ false)) → spot_of n (with_spot at m (Some u) (brought at w t ms)) ≡ None
+          turn : ((same_text n m ≡ true) ⊎ (same_text n m ≡ false)) → spot_of n (with_spot at m (Some u) (brought at keys w t ms)) ≡ None
           turn (inl y) =
-              let k : None ≡ Some u = sym e ∙ (ap (spot_for at w t) (exact_text n m y) ∙ f) in cc
-          turn (inr y) = ap (λ b. cond b (Some u) (spot_of n (brought at w t ms))) y ∙ r
+              let k : None ≡ Some u = sym e ∙ (ap (spot_for at keys w t) (exact_text n m y) ∙ f) in cc
+          turn (inr y) = ap (λ b. cond b (Some u) (spot_of n (brought at keys w t ms))) y ∙ r
 
   -- a name of the list stands where it is taken from, if it is live
-  pub spot_brought : (n : Digest) (ns : List Digest) → In n ns → spot_of n (brought at w t ns) ≡ spot_for at w t n
+  pub spot_brought : (n : Digest) (ns : List Digest) → In n ns → spot_of n (brought at keys w t ns) ≡ spot_for at keys w t n
   spot_brought n [] i = absurd i
-  spot_brought n (m ∷ ms) i = pick (spot_for at w t m) refl i (spot_brought n ms)
+  spot_brought n (m ∷ ms) i = pick (spot_for at keys w t m) refl i (spot_brought n ms)
     where
-      pick : (o : Option (Spot P)) → spot_for at w t m ≡ o → In n (m ∷ ms) → (In n ms → spot_of n (brought at w t ms) ≡ spot_for at w t n) → spot_of n (with_spot at m o (brought at w t ms)) ≡ spot_for at w t n
+      pick : (o : Option (Spot P)) → spot_for at keys w t m ≡ o → In n (m ∷ ms) → (In n ms → spot_of n (brought at keys w t ms) ≡ spot_for at keys w t n) → spot_of n (with_spot at m o (brought at keys w t ms)) ≡ spot_for at keys w t n
       pick None f (inl y) r =
-          let k : spot_for at w t n ≡ None = ap (spot_for at w t) y ∙ f in not_brought n ms k ∙ sym k
+          let k : spot_for at keys w t n ≡ None = ap (spot_for at keys w t) y ∙ f in not_brought n ms k ∙ sym k
       pick None f (inr j) r = r j
       pick (Some u) f (inl y) r =
-          ap (λ b. cond b (Some u) (spot_of n (brought at w t ms))) (subst (λ z. same_text n z ≡ true) y (self_text n)) ∙ sym (ap (spot_for at w t) y ∙ f)
+          ap (λ b. cond b (Some u) (spot_of n (brought at keys w t ms))) (subst (λ z. same_text n z ≡ true) y (self_text n)) ∙ sym (ap (spot_for at keys w t) y ∙ f)
       pick (Some u) f (inr j) r = turn (bool_cases (same_text n m))
         where
-          turn : ((same_text n m ≡ true) ⊎ (same_text n m ≡ false)) → spot_of n (with_spot at m (Some u) (brought at w t ms)) ≡ spot_for at w t n
+          turn : ((same_text n m ≡ true) ⊎ (same_text n m ≡ false)) → spot_of n (with_spot at m (Some u) (brought at keys w t ms)) ≡ spot_for at keys w t n
           turn (inl y) =
-              ap (λ b. cond b (Some u) (spot_of n (brought at w t ms))) y ∙ sym (ap (spot_for at w t) (exact_text n m y) ∙ f)
-          turn (inr y) = ap (λ b. cond b (Some u) (spot_of n (brought at w t ms))) y ∙ r j
+              ap (λ b. cond b (Some u) (spot_of n (brought at keys w t ms))) y ∙ sym (ap (spot_for at keys w t) (exact_text n m y) ∙ f)
+          turn (inr y) = ap (λ b. cond b (Some u) (spot_of n (brought at keys w t ms))) y ∙ r j
 
   -- what is brought stands in the list
-  pub brought_in : (n : Digest) (ns : List Digest) → In n (brought_names (brought at w t ns)) → In n ns
+  pub brought_in : (n : Digest) (ns : List Digest) → In n (brought_names (brought at keys w t ns)) → In n ns
   brought_in n [] i = absurd i
-  brought_in n (m ∷ ms) i = pick (spot_for at w t m) i (brought_in n ms)
+  brought_in n (m ∷ ms) i = pick (spot_for at keys w t m) i (brought_in n ms)
     where
-      pick : (o : Option (Spot P)) → In n (brought_names (with_spot at m o (brought at w t ms))) → (In n (brought_names (brought at w t ms)) → In n ms) → In n (m ∷ ms)
+      pick : (o : Option (Spot P)) → In n (brought_names (with_spot at m o (brought at keys w t ms))) → (In n (brought_names (brought at keys w t ms)) → In n ms) → In n (m ∷ ms)
       pick None j r = inr (r j)
       pick (Some u) (inl y) r = inl y
       pick (Some u) (inr j) r = inr (r j)

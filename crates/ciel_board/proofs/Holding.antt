@@ -22,7 +22,7 @@ use Rattle.ciel_want.specs.History.{AreRowsOf, Holds, IsRowOf, task_id}
 use Rattle.ciel_want.specs.Waited.{first_needs, first_refs, is_in, needs, needs_at}
 use Rattle.ciel_board.specs.Board.{Board, tasks_out}
 use Rattle.ciel_board.specs.Follows.{OneByOne, RowIs, StandsFor}
-use Rattle.ciel_board.specs.Setting.{IsMade, IsSetting, Setting}
+use Rattle.ciel_board.specs.Setting.{IsMade, IsSetting, Setting, input_number}
 use Rattle.ciel_board.specs.Sound.{RowSound, Sound}
 use Rattle.ciel_board.proofs.Looking.{BothWaits, Titled, last_both, outs, row_at, row_title}
 
@@ -39,6 +39,12 @@ some_live job at u (p ∷ ps) = refl
 module _ {D P B : Type 0} (s : Setting D P B) (is : IsSetting s) where
   abbrev Informed' : Standing D → Type 0
   Informed' = Informed s.job is.laws s.inner is.knows
+
+  -- what has a key is an input
+  pub input_is : (x : Desc1) → (i : ℕ) × (input_number s.keys x ≡ Some i) → is_input x ≡ true
+  input_is (Desc1.Call f c vs) (i, e) = cc
+  input_is (Desc1.Exec x v n k) (i, e) = cc
+  input_is (Desc1.Input k) (i, e) = refl
 
   no_root : (d : D) → s.job.task_of d ≡ Some show → ⊥
   no_root d h = subst (In d) is.laws.outputs_show (is.laws.made_by d show h)
@@ -58,7 +64,7 @@ module _ {D P B : Type 0} (s : Setting D P B) (is : IsSetting s) where
 
     input_row : (d : D) (r : Row P) → IsMade s d → RowIs s v.places d r → RowSound s.digest b.table r → (o : Option (Task D)) → s.job.task_of d ≡ o → IsRowOf s.job d o r
     input_row d r m q k None e =
-        let i : is_input r.desc ≡ true = is.tells.input r.desc d q.spells m e in
+        let i : is_input r.desc ≡ true = input_is r.desc (is.tells.input r.desc d q.spells m e) in
         (row_title s is v.places d r q k.name, i, k.task ∙ ap (λ n. TaskId.Of n) (ap (digested s.digest) (input_itself r.desc i) ∙ sym k.name))
     input_row d r m q k (Some show) e = absurd (no_root d e)
     input_row d r m q k (Some (of x)) e =
@@ -75,7 +81,7 @@ module _ {D P B : Type 0} (s : Setting D P B) (is : IsSetting s) where
     -- ---- what is live
 
     live_row : (d : D) (r : Row P) → IsMade s d → RowIs s v.places d r → (o : Option (Task D)) → s.job.task_of d ≡ o → is_live_row r ≡ live_if s.job o (v.places d)
-    live_row d r m q None e = ap (λ c. c || has_place r.places) (is.tells.input r.desc d q.spells m e)
+    live_row d r m q None e = ap (λ c. c || has_place r.places) (input_is r.desc (is.tells.input r.desc d q.spells m e))
     live_row d r m q (Some show) e = absurd (no_root d e)
     live_row d r m q (Some (of x)) e =
         ap (λ c. c || has_place r.places) (is.tells.made r.desc d x q.spells e).0

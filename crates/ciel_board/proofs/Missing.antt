@@ -135,7 +135,7 @@ module _ {D P B : Type 0} (s : Setting D P B) (is : IsSetting s) (h : List (Even
         turn d k n g = pick (s.job.task_of d) (subst (BroughtFor s o d (s.job.task_of d)) g (order.inputs d k))
           where
             pick : (t : Option (Task D)) → BroughtFor s o d t (Some (shelf place)) → Lacks name (s.at place)
-            pick None c = let bad : Some (shelf place) ≡ Some (Spot.input c.0) = c.2 in cc
+            pick None c = let bad : Some (shelf place) ≡ Some (Spot.input c.1) = c.4 in cc
             pick (Some u) c = at d k n (worker_for s.job o.worker (o.had d)) refl c
 
     stack_lacks : (name : Digest) (place : P) → x.stack ≡ Some place → name ≡ own_name s.digest s.at b.main x.out.task → Lacks name (s.at place)
@@ -167,6 +167,7 @@ module _ {D P B : Type 0} (s : Setting D P B) (is : IsSetting s) (h : List (Even
               room = subst (λ (u : Standing D). length u.book ≤ b.plan.limit) (sym now) (book_room s is h b sound f);
               apart = subst (λ (u : Standing D). NoClash s.job u.book) (sym now) (apart s is h b sound f);
             }) (subst (λ u. StandsFor s u (missed_at s.digest b x.out name loss)) (sym now) (record {
+              keys = f.stands.keys;
               main = f.stands.main;
               rows = f.stands.rows;
               waits = f.stands.waits;

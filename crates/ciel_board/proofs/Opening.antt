@@ -12,12 +12,13 @@ use Rattle.ciel_board.specs.Reports.{IsNamed, named_view}
 use Rattle.ciel_board.specs.Setting.{IsSetting, Setting}
 
 module _ {D P B : Type 0} (s : Setting D P B) (is : IsSetting s) where
-  pub opened_follows : (p : Plan) (main : Named) → IsNamed s.digest main → s.lower s.job.main ≡ named_view main → Follows s [] (opened s.digest p main)
+  pub opened_follows : (p : Plan) (main : Named) → IsNamed s.digest main → s.lower s.job.main ≡ named_view main → Follows s [] (opened s.digest p s.keys main)
   opened_follows p main named e =
       record {
         lawful = tt;
         journal = refl;
         stands = record {
+          keys = refl;
           main = named.name ∙ (ap (digested s.digest) (sym e) ∙ is.exact.own s.job.main);
           rows = (record { spells = sym e; places = refl; objects = tt }, tt);
           waits = λ u i. none u;
@@ -29,6 +30,6 @@ module _ {D P B : Type 0} (s : Setting D P B) (is : IsSetting s) where
         };
       }
     where
-      none : (u : Task D) → OneByOne (WaitIs s) (saves_of s.job u []) (waits_of (task_id s.job u) (opened s.digest p main).table)
+      none : (u : Task D) → OneByOne (WaitIs s) (saves_of s.job u []) (waits_of (task_id s.job u) (opened s.digest p s.keys main).table)
       none show = tt
       none (of d) = tt

@@ -489,16 +489,16 @@ module _ {P : Type 0} (digest : List ℕ → List ℕ) (at : P → ℕ) where
 
   -- ---- the beginning
 
-  abbrev open_table : Plan → Named → TableSeen P
-  open_table p main = (opened digest p main).table
+  abbrev open_table : Plan → List (List ℕ) → Named → TableSeen P
+  open_table p keys main = (opened digest p keys main).table
 
-  pub opened_sound : (p : Plan) (main : Named) → 1 ≤ p.limit → IsNamed digest main → main.desc ≡ Desc1.Call [] no_pairs no_vals → Sound digest at (opened digest p main)
-  opened_sound p main one m e =
+  pub opened_sound : (p : Plan) (keys : List (List ℕ)) (main : Named) → 1 ≤ p.limit → IsNamed digest main → main.desc ≡ Desc1.Call [] no_pairs no_vals → Sound digest at (opened digest p keys main)
+  opened_sound p keys main one m e =
       record {
         limit = refl;
         room = one;
         main = known;
-        rows = (record { name = m.name; task = refl; spelled = m.spelled; inside = subst (λ d. AllKnown (open_table p main) (start_refs d)) (sym e) tt; own = subst (λ d. Known (open_table p main) (digested digest (first_output (desc_view d)))) (sym e) (subst (Known (open_table p main)) (m.name ∙ ap (λ d. digested digest (desc_view d)) e) known) }, tt);
+        rows = (record { name = m.name; task = refl; spelled = m.spelled; inside = subst (λ d. AllKnown (open_table p keys main) (start_refs d)) (sym e) tt; own = subst (λ d. Known (open_table p keys main) (digested digest (first_output (desc_view d)))) (sym e) (subst (Known (open_table p keys main)) (m.name ∙ ap (λ d. digested digest (desc_view d)) e) known) }, tt);
         shown = tt;
         saved = tt;
         orders = tt;
@@ -507,7 +507,7 @@ module _ {P : Type 0} (digest : List ℕ → List ℕ) (at : P → ℕ) where
         workers = λ x y i. absurd i;
       }
     where
-      known : Known (open_table p main) main.name
+      known : Known (open_table p keys main) main.name
       known = subst (λ b. IsSome {T = ℕ} (cond b (Some 0) None)) (sym (self_text main.name)) refl
 
 -- the searches may be asked of it

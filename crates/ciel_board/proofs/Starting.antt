@@ -22,13 +22,13 @@ use Rattle.ciel_table.specs.Seen.{is_input, is_live, last_wait}
 use Rattle.ciel_table.specs.declared.row.Row.{Row}
 use Rattle.ciel_table.specs.declared.wait.Wait.{Wait}
 use Rattle.ciel_want.specs.History.{task_id}
-use Rattle.ciel_board.specs.Board.{Board, OrderOut, Spot, board_graph, first_held, held, held_at, idle_of, place_for, spot_for, spot_in, stack_at, start_refs, task_key, wait_number, workers_out}
-use Rattle.ciel_board.specs.Follows.{BroughtFor, FetchedAt, OneByOne, OrderIs, OutIs, RowIs, StandsFor, worker_for}
+use Rattle.ciel_board.specs.Board.{Board, OrderOut, Spot, board_graph, first_held, held, held_at, idle_of, key_number, place_for, spot_for, spot_in, stack_at, task_desc, start_refs, task_key, wait_number, workers_out}
+use Rattle.ciel_board.specs.Follows.{BroughtFor, FetchedAt, GoesBy, OneByOne, OrderIs, OutIs, RowIs, StandsFor, worker_for}
 use Rattle.ciel_board.specs.Moves.{order_for, started}
-use Rattle.ciel_board.specs.Setting.{HasState, IsMade, IsSetting, Setting}
+use Rattle.ciel_board.specs.Setting.{HasState, IsMade, IsSetting, Setting, input_number}
 use Rattle.ciel_board.specs.Sound.{Sound}
 use Rattle.ciel_board.proofs.Bringing.{brought_in, fetched, spot_brought}
-use Rattle.ciel_board.proofs.Holding.{Own, inside_apart, last_is, lives, needs_are, outs_are, reached_booked, reached_own, row_of}
+use Rattle.ciel_board.proofs.Holding.{Own, input_is, inside_apart, last_is, lives, needs_are, outs_are, reached_booked, reached_own, row_of}
 use Rattle.ciel_board.proofs.Looking.{BothWaits}
 use Rattle.ciel_board.proofs.Pairs.{join, long}
 
@@ -144,25 +144,28 @@ module _ {D P B : Type 0} (s : Setting D P B) (is : IsSetting s) where
       from_is : wait_number (last_wait (task_id s.job u) b.table) ≡ last s.job v u
       from_is = number_is (last_save s.job u v.saves) (last_wait (task_id s.job u) b.table) both
 
-      spot_is : (w : ℕ) (d : D) → In d v.book → (o : Option (Task D)) → s.job.task_of d ≡ o → BroughtFor s (order_of s.job v b.starts w u (last s.job v u)) d o (spot_for s.at w b.table (s.job.name d))
+      spot_is : (w : ℕ) (d : D) → In d v.book → (o : Option (Task D)) → s.job.task_of d ≡ o → BroughtFor s (order_of s.job v b.starts w u (last s.job v u)) d o (spot_for s.at b.keys w b.table (s.job.name d))
       spot_is w d j o e =
           let q = row_of s is v inf apart made b sound st d j in
-          subst (BroughtFor s (order_of s.job v b.starts w u (last s.job v u)) d o) (sym (ap (option_and_then (λ (r : Row P). spot_in s.at w r.desc r.places)) q.1)) (turn q.0 q.2 q.0.desc refl o e)
+          subst (BroughtFor s (order_of s.job v b.starts w u (last s.job v u)) d o) (sym (ap (option_and_then (λ (r : Row P). spot_in s.at b.keys w r.desc r.places)) q.1)) (turn q.0 q.2 q.0.desc refl o e)
         where
           place : (r : Row P) → RowIs s v.places d r → (x : Task D) → BroughtFor s (order_of s.job v b.starts w u (last s.job v u)) d (Some x) (option_map Spot.shelf (place_for s.at w r.places))
           place r q x =
               subst (λ ws. FetchedAt s d (worker_for s.job w ws) (option_map Spot.shelf (place_for s.at w r.places))) q.places (fetched s d w r.places q.objects)
 
-          turn : (r : Row P) → RowIs s v.places d r → (x : Desc1) → r.desc ≡ x → (o : Option (Task D)) → s.job.task_of d ≡ o → BroughtFor s (order_of s.job v b.starts w u (last s.job v u)) d o (spot_in s.at w x r.places)
+          turn : (r : Row P) → RowIs s v.places d r → (x : Desc1) → r.desc ≡ x → (o : Option (Task D)) → s.job.task_of d ≡ o → BroughtFor s (order_of s.job v b.starts w u (last s.job v u)) d o (spot_in s.at b.keys w x r.places)
           turn r q (Desc1.Call f c vs) f_ (Some x) g = place r q x
           turn r q (Desc1.Exec y a n k) f_ (Some x) g = place r q x
-          turn r q (Desc1.Input k) f_ None g = (k, sym q.spells ∙ ap desc_view f_, refl)
+          turn r q (Desc1.Input k) f_ None g =
+              let i = is.tells.input r.desc d q.spells (made d j) g in
+              let e : key_number s.keys k ≡ Some i.0 = sym (ap (input_number s.keys) f_) ∙ i.1 in
+              (k, i.0, sym q.spells ∙ ap desc_view f_, e, ap (option_map Spot.input) (ap (λ ks. key_number ks k) st.keys ∙ e))
           turn r q (Desc1.Call f c vs) f_ None g =
-              let bad : is_input r.desc ≡ true = is.tells.input r.desc d q.spells (made d j) g in
+              let bad : is_input r.desc ≡ true = input_is s is r.desc (is.tells.input r.desc d q.spells (made d j) g) in
               let no : false ≡ true = sym (ap is_input f_) ∙ bad in
               cc
           turn r q (Desc1.Exec y a n k) f_ None g =
-              let bad : is_input r.desc ≡ true = is.tells.input r.desc d q.spells (made d j) g in
+              let bad : is_input r.desc ≡ true = input_is s is r.desc (is.tells.input r.desc d q.spells (made d j) g) in
               let no : false ≡ true = sym (ap is_input f_) ∙ bad in
               cc
           turn r q (Desc1.Input k) f_ (Some show) g =
@@ -183,14 +186,22 @@ module _ {D P B : Type 0} (s : Setting D P B) (is : IsSetting s) where
               let c : w.place ≡ p = cc in
               subst (λ z. HasState s z u q.j) c (subst (λ z. HasState s w.place z q.j) (last_own u q f).1 k.state)
 
+      goes_by : (t : Task D) → In (own_name s.job t) v.book → GoesBy s t (task_desc b.main b.table (task_id s.job t))
+      goes_by show j = tt
+      goes_by (of d) j =
+          let q = row_of s is v inf apart made b sound st d j in
+          subst (GoesBy s (of d)) (sym (ap (option_map (λ (r : Row P). r.desc)) q.1)) q.2.spells
+
       pub order_is : (w : ℕ) → OrderIs s (order_of s.job v b.starts w u (last s.job v u)) (order_for s.at b (task_id s.job u) w)
       order_is w =
           record {
             out = record { number = refl; worker = refl; task = refl; from = from_is };
+            main = st.main;
+            desc = goes_by u i;
             stack = stack_is (last_save s.job u v.saves) (last_wait (task_id s.job u) b.table) both;
             state = state_there;
-            inputs = λ d k. subst (BroughtFor s (order_of s.job v b.starts w u (last s.job v u)) d (s.job.task_of d)) (sym (spot_brought s.at w b.table (s.job.name d) (held b.main b.table (task_id s.job u)) (held_in d k))) (spot_is w d (held_booked u i d k) (s.job.task_of d) refl);
-            only = λ n k. held_only n (brought_in s.at w b.table n (held b.main b.table (task_id s.job u)) k);
+            inputs = λ d k. subst (BroughtFor s (order_of s.job v b.starts w u (last s.job v u)) d (s.job.task_of d)) (sym (spot_brought s.at b.keys w b.table (s.job.name d) (held b.main b.table (task_id s.job u)) (held_in d k))) (spot_is w d (held_booked u i d k) (s.job.task_of d) refl);
+            only = λ n k. held_only n (brought_in s.at b.keys w b.table n (held b.main b.table (task_id s.job u)) k);
           }
 
     -- ---- the start
@@ -234,6 +245,7 @@ module _ {D P B : Type 0} (s : Setting D P B) (is : IsSetting s) where
       start_stands u r w =
           let order = start_order u r w in
           record {
+            keys = st.keys;
             main = st.main;
             rows = st.rows;
             waits = st.waits;

@@ -9,15 +9,16 @@ use Rattle.ciel_journal.specs.Graph.{Graph}
 use Rattle.ciel_journal.specs.History.{Plan}
 use Rattle.ciel_journal.specs.Job.{Digest, Task, of, show}
 use Rattle.ciel_journal.specs.Turns.{idle_workers}
+use Rattle.ciel_table.specs.Named.{place_of}
 use Rattle.ciel_table.specs.Seen.{TableSeen, last_wait, row_named}
 use Rattle.ciel_table.specs.declared.row.Row.{Row}
 use Rattle.ciel_table.specs.declared.wait.Wait.{Wait}
 use Rattle.ciel_want.specs.Waited.{first_refs, graph, names_of}
 
--- where an object is fetched from: a place, or the input of this key
+-- where an object is fetched from: a place, or the job's input of this number
 pub data Spot (P : Type 0) : Type 0 where
   shelf : P → Spot P
-  input : List ℕ → Spot P
+  input : ℕ → Spot P
 
 -- a name that an order brings along, with where its object is
 pub record Brought (P : Type 0) : Type 0 where
@@ -31,16 +32,20 @@ pub record OrderOut : Type 0 where
   pub task : TaskId
   pub from : ℕ
 
--- what a worker is given of it: besides, the place of the stack of that wait, and what the order brings along
+-- What a worker is given of it: besides, the main call's name, what the task goes by, the place of the stack of that wait, and
+-- what the order brings along
 pub record Order (P : Type 0) : Type 0 where
   pub out : OrderOut
+  pub main : Digest
+  pub desc : Option Desc1
   pub stack : Option P
   pub inputs : List (Brought P)
 
--- The plan; the name of the main call; the table, with the lost workers; the orders that are out; how many orders there
+-- The plan; the keys of the job's inputs; the name of the main call; the table, with the lost workers; the orders that are out; how many orders there
 -- were, and how many reports were taken; the journal; and whether the run has stopped, after which only the journal is asked
 pub record Board (P : Type 0) : Type 0 where
   pub plan : Plan
+  pub keys : List (List ℕ)
   pub main : Digest
   pub table : TableSeen P
   pub orders : List OrderOut
@@ -59,6 +64,10 @@ abbrev pub start_refs : Desc1 → List Digest
 start_refs (Desc1.Call f c vs) = names_of (distinct same_text (pairs_refs c ++ vals_refs vs))
 start_refs (Desc1.Exec x v n i) = first_refs (Desc1.Exec x v n i)
 start_refs (Desc1.Input k) = []
+
+-- the number of a key
+abbrev pub key_number : List (List ℕ) → List ℕ → Option ℕ
+key_number keys k = place_of (λ (n : List ℕ). n) k keys
 
 -- ---- orders that are out
 
@@ -100,6 +109,11 @@ module _ {P : Type 0} where
     abbrev pub first_held : TaskId → List Digest
     first_held TaskId.Show = main ∷ []
     first_held (TaskId.Of n) = option_map_or (λ (r : Row P). start_refs r.desc) (row_named n t) []
+
+    -- the description that a task goes by
+    abbrev pub task_desc : TaskId → Option Desc1
+    task_desc TaskId.Show = None
+    task_desc (TaskId.Of n) = option_map (λ (r : Row P). r.desc) (row_named n t)
 
     abbrev pub held_at : Option (Wait P) → TaskId → List Digest
     held_at None task = first_held task
@@ -143,20 +157,21 @@ module _ {P : Type 0} (at : P → ℕ) where
   abbrev pub place_for : ℕ → List P → Option P
   place_for w ps = or_least (place_at w ps) ps
 
-  -- an input is where the job has it; what is made is at a place, if it is live
-  abbrev pub spot_in : ℕ → Desc1 → List P → Option (Spot P)
-  spot_in w (Desc1.Call f c vs) ps = option_map Spot.shelf (place_for w ps)
-  spot_in w (Desc1.Exec x v n i) ps = option_map Spot.shelf (place_for w ps)
-  spot_in w (Desc1.Input k) ps = Some (Spot.input k)
+  module _ (keys : List (List ℕ)) where
+    -- an input has the number of its key; what is made is at a place, if it is live
+    abbrev pub spot_in : ℕ → Desc1 → List P → Option (Spot P)
+    spot_in w (Desc1.Call f c vs) ps = option_map Spot.shelf (place_for w ps)
+    spot_in w (Desc1.Exec x v n i) ps = option_map Spot.shelf (place_for w ps)
+    spot_in w (Desc1.Input k) ps = option_map Spot.input (key_number keys k)
 
-  abbrev pub spot_for : ℕ → TableSeen P → Digest → Option (Spot P)
-  spot_for w t n = option_and_then (λ (r : Row P). spot_in w r.desc r.places) (row_named n t)
+    abbrev pub spot_for : ℕ → TableSeen P → Digest → Option (Spot P)
+    spot_for w t n = option_and_then (λ (r : Row P). spot_in w r.desc r.places) (row_named n t)
 
   abbrev pub with_spot : Digest → Option (Spot P) → List (Brought P) → List (Brought P)
   with_spot n None rest = rest
   with_spot n (Some s) rest = record { name = n; spot = s } ∷ rest
 
   -- of these names those that are live, each with where its object is for this worker
-  abbrev pub brought : ℕ → TableSeen P → List Digest → List (Brought P)
-  brought w t [] = []
-  brought w t (n ∷ ns) = with_spot n (spot_for w t n) (brought w t ns)
+  abbrev pub brought : List (List ℕ) → ℕ → TableSeen P → List Digest → List (Brought P)
+  brought keys w t [] = []
+  brought keys w t (n ∷ ns) = with_spot n (spot_for keys w t n) (brought keys w t ns)

@@ -3,15 +3,16 @@ use Rattle.std.specs.Prelude.{◌≡◌, ℕ, List, [], ◌∷◌, false, cond, 
 use Rattle.std.specs.List.{AllByRecursion, list_any}
 use Rattle.std.specs.Option.{option_map}
 use Rattle.sky_base.specs.Val.{input}
+use Rattle.sky_base.specs.declared.object.Desc1.{Desc1}
 use Rattle.ciel_journal.specs.Entries.{journal_of}
 use Rattle.ciel_journal.specs.History.{Event, OpenStart, Save, Standing, same_task, standing}
-use Rattle.ciel_journal.specs.Job.{Digest, In, Job, Task}
+use Rattle.ciel_journal.specs.Job.{Digest, In, Job, Task, of, show}
 use Rattle.ciel_journal.specs.Lawful.{HeldAt, Lawful, least, own_name}
 use Rattle.ciel_table.specs.Seen.{waits_of}
 use Rattle.ciel_table.specs.declared.row.Row.{Row}
 use Rattle.ciel_table.specs.declared.wait.Wait.{Wait}
 use Rattle.ciel_want.specs.History.{task_id}
-use Rattle.ciel_board.specs.Board.{Board, Order, OrderOut, Spot, brought_names, shelf, spot_of}
+use Rattle.ciel_board.specs.Board.{Board, Order, OrderOut, Spot, brought_names, key_number, shelf, spot_of}
 use Rattle.ciel_board.specs.Setting.{HasObject, HasState, Setting, Spells}
 
 -- the lists go together, one by one
@@ -50,9 +51,10 @@ module _ {D P B : Type 0} (s : Setting D P B) where
   FetchedAt d None found = found ≡ None
   FetchedAt d (Some w) found = (p : P) × (found ≡ Some (shelf p)) × (s.at p ≡ w) × HasObject s p d
 
-  -- what stands for d among what an order brings along: an input by its key, and what is made where the order fetches it
+  -- what stands for d among what an order brings along: an input by the number of its key, and what is made where the order fetches it
   abbrev pub BroughtFor : OpenStart D → D → Option (Task D) → Option (Spot P) → Type 0
-  BroughtFor o d None found = (k : List ℕ) × (s.lower d ≡ input k) × (found ≡ Some (Spot.input k))
+  BroughtFor o d None found =
+      (k : List ℕ) × (i : ℕ) × (s.lower d ≡ input k) × (key_number s.keys k ≡ Some i) × (found ≡ Some (Spot.input i))
   BroughtFor o d (Some u) found = FetchedAt d (worker_for s.job o.worker (o.had d)) found
 
   -- an order that is out, of an open Start
@@ -62,9 +64,18 @@ module _ {D P B : Type 0} (s : Setting D P B) where
     pub task : x.task ≡ task_id s.job o.task
     pub from : x.from ≡ o.from
 
+  -- the description that the task goes by; none for the root task
+  abbrev pub GoesBy : Task D → Option Desc1 → Type 0
+  GoesBy show None = Unit {0}
+  GoesBy show (Some e) = ⊥
+  GoesBy (of d) None = ⊥
+  GoesBy (of d) (Some e) = Spells s e d
+
   -- what a worker is given of it: the stack of its wait, and what its task holds there and was live
   pub record OrderIs (o : OpenStart D) (x : Order P) : Type 0 where
     pub out : OutIs o x.out
+    pub main : x.main ≡ s.job.name s.job.main
+    pub desc : GoesBy o.task x.desc
     pub stack : option_map s.at x.stack ≡ o.stack
     pub state : (p : P) → x.stack ≡ Some p → HasState s p o.task o.from
     pub inputs : (d : D) → HeldAt s.job o.task o.from d → BroughtFor o d (s.job.task_of d) (spot_of (s.job.name d) x.inputs)
@@ -73,6 +84,7 @@ module _ {D P B : Type 0} (s : Setting D P B) where
   -- What stands, by names: the rows are the book; a task that goes by a name of the book has its saved waits; each open Start
   -- has its order
   pub record StandsFor (v : Standing D) (b : Board P) : Type 0 where
+    pub keys : b.keys ≡ s.keys
     pub main : b.main ≡ s.job.name s.job.main
     pub rows : OneByOne (RowIs v.places) v.book b.table.rows
     pub waits : (u : Task D) → In (own_name s.job u) v.book → OneByOne WaitIs (saves_of s.job u v.saves) (waits_of (task_id s.job u) b.table)

@@ -100,8 +100,8 @@ module _ (P : Type 0) where
   -- the state at the beginning is sound, where there is room for the main call
   abbrev pub OpenedIsSound : Type 0
   OpenedIsSound =
-      (digest : List ℕ → List ℕ) (at : P → ℕ) (p : Plan) (main : Named)
-      → 1 ≤ p.limit → IsNamed digest main → main.desc ≡ Desc1.Call [] no_pairs no_vals → Sound digest at (opened digest p main)
+      (digest : List ℕ → List ℕ) (at : P → ℕ) (p : Plan) (keys : List (List ℕ)) (main : Named)
+      → 1 ≤ p.limit → IsNamed digest main → main.desc ≡ Desc1.Call [] no_pairs no_vals → Sound digest at (opened digest p keys main)
 
   -- what is asked of a table that is searched holds of its table
   abbrev pub SoundIsWhole : Type 0
@@ -132,7 +132,7 @@ module _ (D P B : Type 0) where
   abbrev pub OpenedFollows : Type 0
   OpenedFollows =
       (s : Setting D P B) → IsSetting s → (p : Plan) (main : Named) → IsNamed s.digest main → s.lower s.job.main ≡ named_view main
-      → Follows s [] (opened s.digest p main)
+      → Follows s [] (opened s.digest p s.keys main)
 
   -- the table holds what stands
   abbrev pub TableHolds : Type 0

@@ -5,7 +5,7 @@ use Rattle.sky_base.specs.declared.object.TaskId.{TaskId}
 use Rattle.ciel_journal.specs.Entries.{Entry}
 use Rattle.ciel_journal.specs.History.{Plan}
 use Rattle.ciel_journal.specs.Job.{Digest}
-use Rattle.ciel_board.specs.Board.{Board, Order, OrderOut, brought, held, stack_at, task_key, wait_number}
+use Rattle.ciel_board.specs.Board.{Board, Order, OrderOut, brought, held, stack_at, task_desc, task_key, wait_number}
 use Rattle.ciel_board.specs.Reports.{Copy, End, Output, Stack, copy_names, learned_all, made, made_keys, missing, saved}
 use Rattle.ciel_table.specs.Changes as c
 use Rattle.ciel_table.specs.Learning as l
@@ -25,10 +25,11 @@ module _ {P : Type 0} where
   empty limit = record { limit = limit; rows = []; shown = []; saved = []; gone = [] }
 
   -- the beginning: the main call is known
-  abbrev pub opened : (List ℕ → List ℕ) → Plan → Named → Board P
-  opened digest plan main =
+  abbrev pub opened : (List ℕ → List ℕ) → Plan → List (List ℕ) → Named → Board P
+  opened digest plan keys main =
       record {
         plan = plan;
+        keys = keys;
         main = main.name;
         table = l.learned digest main (empty plan.limit);
         orders = [];
@@ -45,8 +46,10 @@ module _ {P : Type 0} where
   order_for at b task w =
       record {
         out = record { number = b.starts; worker = w; task = task; from = wait_number (last_wait task b.table) };
+        main = b.main;
+        desc = task_desc b.main b.table task;
         stack = stack_at (last_wait task b.table);
-        inputs = brought at w b.table (held b.main b.table task);
+        inputs = brought at b.keys w b.table (held b.main b.table task);
       }
 
   abbrev pub started : (P → ℕ) → Board P → TaskId → ℕ → Board P

@@ -1,5 +1,5 @@
 -- A job with what the master knows of it: descriptions by names, and what lies at places.
-use Rattle.std.specs.Prelude.{◌≡◌, ℕ, List, [], ◌∷◌, map, true, false, Option, Some, None, ◌⊎◌}
+use Rattle.std.specs.Prelude.{◌≡◌, ℕ, List, [], ◌∷◌, map, false, Option, Some, None, ◌⊎◌}
 use Rattle.sky_base.specs.Name.{digested}
 use Rattle.sky_base.specs.ObjectView.{desc_view}
 use Rattle.sky_base.specs.Val.{Desc}
@@ -11,13 +11,14 @@ use Rattle.ciel_name.specs.Names.{first_output}
 use Rattle.ciel_reports.specs.Report.{Exact}
 use Rattle.ciel_table.specs.Seen.{is_input}
 use Rattle.ciel_want.specs.Waited.{first_refs}
-use Rattle.ciel_board.specs.Board.{start_refs}
+use Rattle.ciel_board.specs.Board.{key_number, start_refs}
 
--- The job; what stands inside its descriptions; each description by names; the digest that gives the names; the worker of a
--- place and the block that lies there; and the block of the object of a description, and of the state of a task at a wait, as
+-- The job; the keys of its inputs; what stands inside its descriptions; each description by names; the digest that gives the
+-- names; the worker of a place and the block that lies there; and the block of the object of a description, and of the state of a task at a wait, as
 -- far as so much fuel tells
 pub record Setting (D P B : Type 0) : Type 0 where
   pub job : Job D
+  pub keys : List (List ℕ)
   pub inner : Inner D
   pub lower : D → Desc (List ℕ)
   pub digest : List ℕ → List ℕ
@@ -26,10 +27,16 @@ pub record Setting (D P B : Type 0) : Type 0 where
   pub object : ℕ → D → Option B
   pub state : ℕ → Task D → ℕ → Option B
 
+-- which of the inputs with these keys it is
+abbrev pub input_number : List (List ℕ) → Desc1 → Option ℕ
+input_number keys (Desc1.Call f c vs) = None
+input_number keys (Desc1.Exec x v n i) = None
+input_number keys (Desc1.Input k) = key_number keys k
+
 module _ {D P B : Type 0} (s : Setting D P B) where
-  -- the main call, or made by some task
+  -- the main call, or made by a needed task
   abbrev pub IsMade : D → Type 0
-  IsMade d = (d ≡ s.job.main) ⊎ ((t : Task D) × (n : ℕ) × In d (made_in (s.job.acts n t)))
+  IsMade d = (d ≡ s.job.main) ⊎ ((t : Task D) × Needed s.job t × (n : ℕ) × In d (made_in (s.job.acts n t)))
 
   -- x is d by names
   abbrev pub Spells : Desc1 → D → Type 0
@@ -42,9 +49,10 @@ module _ {D P B : Type 0} (s : Setting D P B) where
 
   -- ---- what a description by names tells
 
-  -- an input's says that it is one
+  -- an input's has one of the keys
   abbrev pub TellsInput : Type 0
-  TellsInput = (x : Desc1) (d : D) → Spells x d → IsMade d → s.job.task_of d ≡ None → is_input x ≡ true
+  TellsInput =
+      (x : Desc1) (d : D) → Spells x d → IsMade d → s.job.task_of d ≡ None → (i : ℕ) × (input_number s.keys x ≡ Some i)
 
   -- what a task makes says that it is none, and by which description its task goes
   abbrev pub TellsTask : Type 0

@@ -30,6 +30,7 @@ abbrev pub shop_setting : (List ℕ → List ℕ) → s.Job → Gives → Settin
 shop_setting digest job gives =
     record {
       job = shop_job digest job gives;
+      keys = job.script.keys;
       inner = real_inner job (json_around gives);
       lower = by_names digest;
       digest = digest;

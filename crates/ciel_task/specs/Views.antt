@@ -1,5 +1,5 @@
 -- Orders and reports as the master's laws see them.
-use Rattle.std.specs.Prelude.{ℕ, List, [], ◌∷◌, map, slice_index_or}
+use Rattle.std.specs.Prelude.{List, [], ◌∷◌, map}
 use Rattle.ciel_board.specs.Board as board
 use Rattle.ciel_board.specs.Reports as reports
 use Rattle.ciel_journal.specs.Job.{Digest}
@@ -15,21 +15,27 @@ use Rattle.ciel_task.specs.declared.report.Report.{Report}
 abbrev pub P : Type 0
 P = PlaceSeen Block
 
--- ---- orders, of a script with these inputs
+-- ---- orders
 
-abbrev pub spot_view : List (List ℕ) → Spot → board.Spot P
-spot_view keys (Spot.Shelf p) = board.Spot.shelf p
-spot_view keys (Spot.Input i) = board.Spot.input (slice_index_or keys i [])
+abbrev pub spot_view : Spot → board.Spot P
+spot_view (Spot.Shelf p) = board.Spot.shelf p
+spot_view (Spot.Input i) = board.Spot.input i
 
-abbrev pub brought_view : List (List ℕ) → Held → board.Brought P
-brought_view keys h = record { name = h.name; spot = spot_view keys h.at }
+abbrev pub brought_view : Held → board.Brought P
+brought_view h = record { name = h.name; spot = spot_view h.at }
 
 abbrev pub out_view : Order → board.OrderOut
 out_view x = record { number = x.number; worker = x.worker; task = x.task; from = x.from }
 
-abbrev pub order_view : List (List ℕ) → Order → board.Order P
-order_view keys x =
-    record { out = out_view x; stack = x.saved; inputs = map (brought_view keys) x.inputs.items }
+abbrev pub order_view : Order → board.Order P
+order_view x =
+    record {
+      out = out_view x;
+      main = x.main;
+      desc = x.desc;
+      stack = x.saved;
+      inputs = map brought_view x.inputs.items;
+    }
 
 -- ---- reports
 
@@ -37,13 +43,13 @@ abbrev pub output_view : Made → reports.Output P
 output_view m = record { name = m.name; place = m.place; mark = m.mark }
 
 -- a copy is at a place
+abbrev pub copy_at : Digest → Spot → List (reports.Copy P) → List (reports.Copy P)
+copy_at n (Spot.Shelf p) rest = record { name = n; place = p } ∷ rest
+copy_at n (Spot.Input i) rest = rest
+
 abbrev pub copies_view : List Held → List (reports.Copy P)
 copies_view [] = []
 copies_view (h ∷ hs) = copy_at h.name h.at (copies_view hs)
-  where
-    abbrev copy_at : Digest → Spot → List (reports.Copy P) → List (reports.Copy P)
-    copy_at n (Spot.Shelf p) rest = record { name = n; place = p } ∷ rest
-    copy_at n (Spot.Input i) rest = rest
 
 -- the root task's end has no outputs
 abbrev pub how_view : List Held → End → reports.End P

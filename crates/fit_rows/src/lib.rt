@@ -8,3 +8,5 @@ mod bytes;
 mod judged;
 #[cfg(test)]
 mod rows;
+#[cfg(test)]
+mod states;

@@ -3,7 +3,7 @@ use Rattle.std.specs.Prelude.{◌≡◌, ◌≤◌, ◌<◌, ℕ, List, [], ◌�
 use Rattle.sky_base.specs.Tree.{Script}
 use Rattle.sky_base.specs.Eval.{body_of}
 use Rattle.sky_base.specs.Res.{visits, bodies}
-use Rattle.sky_base.specs.Read.{Todo, Frame, Run}
+use Rattle.sky_base.specs.Read.{Frame, Run}
 use Rattle.sky_law.specs.Sound.{Sound, SoundVars}
 use Rattle.sky_law.specs.Tasks.{Each}
 use Rattle.sky_state.specs.Table.{IsOpenCall, IsWaiting}
@@ -19,7 +19,7 @@ module _ (sc : Script) where
 
   -- the forms under way of a frame, and the values that they keep
   abbrev pub FormsFit : Frame (List ℕ) → Type 0
-  FormsFit f = OnBody (body_of f.fun sc) f.todo × FitTogether sc f.todo f.stack
+  FormsFit f = OnBody sc (body_of f.fun sc) f.todo × FitTogether sc f.todo f.stack
 
   abbrev pub ValuesFit : Frame (List ℕ) → Type 0
   ValuesFit f = SoundVars sc f.vars × Each (Sound sc) f.stack
@@ -30,12 +30,13 @@ module _ (sc : Script) where
     pub frames : Each (FitsFrame sc) fs
     pub calls : Before EndsInCall fs
 
--- the numbers
-pub record Few (r : Run (List ℕ)) : Type 0 where
-  pub some_frame : 0 < length r.frames
-  pub few_frames : length r.frames ≤ bodies
-  pub count : r.count ≤ visits
-  pub waits : r.waits ≤ r.count
+-- there are 1 to 64 frames
+abbrev pub FramesFew : List (Frame (List ℕ)) → Type 0
+FramesFew fs = (0 < length fs) × (length fs ≤ bodies)
+
+-- all numbers are within their limits
+abbrev pub Few : Run (List ℕ) → Type 0
+Few r = FramesFew r.frames × (r.count ≤ visits) × (r.waits ≤ r.count)
 
 -- the first statement of the body at this node is next, and nothing is kept
 abbrev pub BodyBegins : ℕ → Frame (List ℕ) → Type 0

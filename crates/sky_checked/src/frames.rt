@@ -5,11 +5,11 @@ ghost use Rattle.sky_law.specs.Sound.{IsFun};
 ghost use Rattle.sky_law.specs.Tasks.{Each};
 ghost use Rattle.sky_state.specs.Fits.{FitsFrame, FunsOf};
 ghost use Rattle.sky_state.specs.StandView.{frame_view, frames_view};
-ghost use Rattle.sky_checked.specs.Ends.{EndsInCall, FormsFit, ValuesFit};
+ghost use Rattle.sky_checked.specs.Ends.{EndsInCall, EndsInWait, FormsFit, ValuesFit};
 
 use crate::fitting::Fitting;
 use sky_base::text::Txt;
-use sky_fits::frames::{ends_in_call, entries_fit, on_body};
+use sky_fits::frames::{ends_in_call, ends_in_wait, entries_fit, on_body};
 use sky_sound::values::{values_are_sound, vars_are_sound};
 use sky_state::frame::Frame;
 
@@ -97,9 +97,25 @@ pub(crate) fn all_end_in_calls(fitting: &Fitting, frames: &[Frame]) -> bool
     ensures no { IsFalse result → Each (EndsInCall fitting.now) (frames_view frames.now) → ⊥ }
 {
     for frame in frames {
-        if !ends_in_call(fitting.code(), fitting.nodes(), frame.todo.as_slice()) {
+        if !calls(fitting, frame) {
             return false;
         }
     }
     true
+}
+
+// Whether the last form of the frame is an open call.
+fn calls(fitting: &Fitting, frame: &Frame) -> bool
+    ensures yes { IsTrue result → EndsInCall fitting.now (frame_view frame.now) }
+    ensures no { IsFalse result → EndsInCall fitting.now (frame_view frame.now) → ⊥ }
+{
+    ends_in_call(fitting.code(), fitting.nodes(), frame.todo.as_slice())
+}
+
+/// Whether the last form of the frame waits.
+pub(crate) fn waits(fitting: &Fitting, frame: &Frame) -> bool
+    ensures yes { IsTrue result → EndsInWait fitting.now (frame_view frame.now) }
+    ensures no { IsFalse result → EndsInWait fitting.now (frame_view frame.now) → ⊥ }
+{
+    ends_in_wait(fitting.code(), fitting.nodes(), frame.todo.as_slice())
 }

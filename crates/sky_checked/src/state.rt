@@ -1,18 +1,19 @@
 // Whether a state fits a script.
 
-ghost use Rattle.std.specs.Prelude.{IfOk, IsTrue, IsFalse};
+ghost use Rattle.std.specs.Prelude.{◌≤◌, ◌<◌, IfOk, IsTrue, IsFalse, length};
+ghost use Rattle.sky_base.specs.Res.{visits};
+ghost use Rattle.sky_base.specs.Val.{refs};
 ghost use Rattle.sky_base.specs.View.{view};
 ghost use Rattle.sky_state.specs.Fits.{Before, Fits, FitsRun, FitsShow, Last};
 ghost use Rattle.sky_state.specs.StandView.{frames_view};
 ghost use Rattle.sky_state.specs.StateView.{stand_of};
-ghost use Rattle.sky_checked.specs.Ends.{EndsInCall, EndsInWait, Few, Stacked};
+ghost use Rattle.sky_checked.specs.Ends.{EndsInCall, EndsInWait, Few, FramesFew, Stacked};
 
 use crate::fitting::Fitting;
-use crate::frames::{all_end_in_calls, frames_fit, functions_fit};
+use crate::frames::{all_end_in_calls, frames_fit, functions_fit, waits};
 use crate::start::is_start;
 use sky_base::text::Memory;
 use sky_base::value::Value;
-use sky_fits::frames::ends_in_wait;
 use sky_scope::state::MOST_VISITS;
 use sky_sound::values::is_sound;
 use sky_state::frame::Frame;
@@ -68,11 +69,37 @@ fn are_few(run: &RunState) -> bool
     ensures yes { IsTrue result → Few (record { frames = run.now.frames; count = run.now.count; waits = run.now.waits }) }
     ensures no { IsFalse result → Few (record { frames = run.now.frames; count = run.now.count; waits = run.now.waits }) → ⊥ }
 {
-    let frames = run.frames.as_slice();
-    !frames.is_empty()
-        && frames.len() <= MOST_FRAMES
-        && run.count <= MOST_VISITS
-        && run.waits <= run.count
+    some_frames(run.frames.as_slice()) && counts_fit(run.count, run.waits)
+}
+
+// Whether there are 1 to 64 frames.
+#[tactic(auto, using(crate::proofs::Whole::as_many), unfolding(sky_base::specs::Res::others))]
+fn some_frames(frames: &[Frame]) -> bool
+    ensures yes { IsTrue result → FramesFew (frames_view frames.now) }
+    ensures no { IsFalse result → FramesFew (frames_view frames.now) → ⊥ }
+{
+    if frames.len() == 0 {
+        return false;
+    }
+    if frames.len() > MOST_FRAMES {
+        return false;
+    }
+    true
+}
+
+// Whether there are at most a million visits, and at most as many waits.
+#[tactic(auto, unfolding(sky_base::specs::Res::visits))]
+fn counts_fit(count: u32, waits: u32) -> bool
+    ensures yes { IsTrue result → (count ≤ visits) × (waits ≤ count) }
+    ensures no { IsFalse result → count ≤ visits → waits ≤ count → ⊥ }
+{
+    if count > MOST_VISITS {
+        return false;
+    }
+    if waits > count {
+        return false;
+    }
+    true
 }
 
 // Whether each frame fits, and each but the top one ends in an open call.
@@ -101,7 +128,7 @@ fn top_waits(fitting: &Fitting, frames: &[Frame]) -> bool
 {
     match frames.split_last() {
         None => false,
-        Some((top, _)) => ends_in_wait(fitting.code(), fitting.nodes(), top.todo.as_slice()),
+        Some((top, _)) => waits(fitting, top),
     }
 }
 
@@ -116,6 +143,19 @@ fn show_fits(alloc: Global, fitting: &Fitting, value: &Value, wave: u32) -> Resu
     if !is_sound(fitting.captures(), value) {
         return Ok(false);
     }
+    let refers = refers(alloc, value)?;
+    Ok(refers)
+}
+
+// Whether the value refers to something.
+#[tactic(auto, using(crate::proofs::Whole::references))]
+fn refers(alloc: Global, value: &Value) -> Result<bool, Memory>
+    ensures yes { IfOk result (λ b. IsTrue b → 0 < length (refs (view value.now))) }
+    ensures no { IfOk result (λ b. IsFalse b → 0 < length (refs (view value.now)) → ⊥) }
+{
     let names = value.refs(alloc)?;
-    Ok(!names.as_slice().is_empty())
+    if names.len() == 0 {
+        return Ok(false);
+    }
+    Ok(true)
 }

@@ -2,3 +2,9 @@ pub mod Waiting
 pub mod Onward
 pub mod Starts
 pub mod Rests
+pub mod Steps
+pub mod Shows
+pub mod Resumes
+pub mod Refs
+pub mod Knows
+pub mod ShowsKnown

@@ -26,6 +26,7 @@ use Rattle.sky_resume.specs.Comes.{StepsFit, over_names, with_name, LeftAt, obje
 use Rattle.sky_resume.specs.Standing.{GoesOnAs, MakesAs}
 use Rattle.sky_resume.specs.declared.on.Came.{Came}
 use Rattle.sky_resume.proofs.BeginLaw.{starts}
+use Rattle.sky_onward.specs.Exactly.{gone_of}
 use Rattle.sky_onward.specs.Laws.{Answered, CameTo, Stays}
 use Rattle.sky_onward.specs.Rest.{IsWhole, IsLeft, IsRest}
 use Rattle.sky_onward.specs.Onward.{IsRead, AnswersSound, ComesOf, MakesOf, GrewSoundly}
@@ -38,19 +39,15 @@ read_fits sc (source, keys, is, few) = steps_fit source keys sc is few
 
 -- ---- how many waits there were
 
-waits_of : Stand (List ℕ) → ℕ
-waits_of (Stand.run r) = r.waits
-waits_of (Stand.show_at v w) = w
-
 pub start_waits : (o : Option Body) (f : List ℕ) (c : Pairs (List ℕ)) (vs : Vals (List ℕ)) (r : Run (List ℕ)) → StartsIn o f c vs (Stand.run r) → r.waits ≡ 0
 start_waits None f c vs r h = absurd h
-start_waits (Some b) f c vs r h = ap waits_of h
+start_waits (Some b) f c vs r h = ap gone_of h
 
-halt_waits : (tag : Tag) (f : List ℕ) (j : ℕ) (x : Option (Halt ⊥)) (a : State) (s : Stand (List ℕ)) → halt_state f j x ≡ Some a → s ≡ low_state tag a → waits_of s ≡ j
+halt_waits : (tag : Tag) (f : List ℕ) (j : ℕ) (x : Option (Halt ⊥)) (a : State) (s : Stand (List ℕ)) → halt_state f j x ≡ Some a → s ≡ low_state tag a → gone_of s ≡ j
 halt_waits tag f j None a s e low = absurd cc
 halt_waits tag f j (Some h) a s e low =
     let same : State.run (run_of_halt f j h) ≡ a = cc in
-    ap waits_of (low ∙ ap (low_state tag) (sym same))
+    ap gone_of (low ∙ ap (low_state tag) (sym same))
 
 -- ---- at the start
 

@@ -23,16 +23,11 @@ use Rattle.sky_moves.specs.Moves.{HasWait}
 use Rattle.sky_resume.specs.Comes.{with_name}
 use Rattle.sky_resume.specs.Standing.{AnsweredBy, StandsOn, GoesOnAs, MakesAs}
 use Rattle.sky_resume.specs.declared.on.Came.{Came}
-use Rattle.sky_onward.specs.Steps.{Spawned, stop_of, Resumed}
+use Rattle.sky_onward.specs.Steps.{Spawned, step_of, stop_of, Resumed}
 use Rattle.sky_onward.specs.declared.step.Step.{Step}
 
 none_some : {A : Type 0} (a : A) → None ≡ Some a → ⊥
 none_some a e = cc
-
--- the step of what a call came to
-abbrev pub step_of : Came → Step
-step_of (Came.Ended o) = Step.Ended o
-step_of Came.Waits = Step.Waits
 
 -- ---- which states stand for calls
 

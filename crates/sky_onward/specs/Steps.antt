@@ -15,11 +15,17 @@ use Rattle.sky_shown.specs.Shows.{shown_view}
 use Rattle.sky_moves.specs.Moves as moves
 use Rattle.sky_moves.specs.Moves.{Stop}
 use Rattle.sky_resume.specs.Comes.{with_name}
+use Rattle.sky_resume.specs.declared.on.Came.{Came}
 use Rattle.sky_onward.specs.declared.step.Step.{Step}
 
 -- descriptions with their names
 abbrev pub Spawned : Type 0
 Spawned = List (List ℕ × v.Desc (List ℕ))
+
+-- the step of what a call came to
+abbrev pub step_of : Came → Step
+step_of (Came.Ended o) = Step.Ended o
+step_of Came.Waits = Step.Waits
 
 -- what a step comes to, with the state after it
 abbrev pub stop_of : Step → Stand (List ℕ) → Stop

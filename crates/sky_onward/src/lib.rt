@@ -4,4 +4,5 @@
 
 pub mod call;
 pub mod law;
+pub mod resume;
 pub mod step;

@@ -1,6 +1,6 @@
 // Whether variables are those with which a body begins.
 
-ghost use Rattle.std.specs.Prelude.{◌≡◌, IfOk, IsTrue, IsFalse};
+ghost use Rattle.std.specs.Prelude.{IfOk, IsTrue, IsFalse};
 ghost use Rattle.sky_base.specs.Eval.{find_fun};
 ghost use Rattle.sky_law.specs.Tasks.{Each};
 ghost use Rattle.sky_state.specs.Fits.{uses_of, KeysFrom, HasKey};

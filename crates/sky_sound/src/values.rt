@@ -1,6 +1,6 @@
 // Whether values are sound.
 
-ghost use Rattle.std.specs.Prelude.{◌≡◌, IsTrue, IsFalse};
+ghost use Rattle.std.specs.Prelude.{IsTrue, IsFalse};
 ghost use Rattle.sky_base.specs.Eval.{find_fun};
 ghost use Rattle.sky_base.specs.Kept.{Kept};
 ghost use Rattle.sky_base.specs.View.{view, vals_of, pairs_of};

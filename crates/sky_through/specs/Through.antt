@@ -27,6 +27,6 @@ module _ (finds : Desc (List ℕ) → Option (Object (List ℕ))) where
   -- from the old state on, step after step, each with the objects that are found for what is waited for, up to where it goes no further
   pub data Through (digest : List ℕ → List ℕ) (sc : Script) : (old new : Stand (List ℕ)) → Step → (before after : Spawned) → Type 0 where
     last : {old new : Stand (List ℕ)} {s : Step} {before after : Spawned} (os : List (Object (List ℕ)))
-      → AreFound old os → Resumed digest sc old new os s before after → StopsAt s new → Through digest sc old new s before after
+        → AreFound old os → Resumed digest sc old new os s before after → StopsAt s new → Through digest sc old new s before after
     more : {old mid new : Stand (List ℕ)} {s : Step} {before between after : Spawned} (os : List (Object (List ℕ)))
-      → AreFound old os → Resumed digest sc old mid os Step.Waits before between → Through digest sc mid new s between after → Through digest sc old new s before after
+        → AreFound old os → Resumed digest sc old mid os Step.Waits before between → Through digest sc mid new s between after → Through digest sc old new s before after

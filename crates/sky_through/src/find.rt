@@ -1,6 +1,6 @@
 //! Where objects are found by the names of their descriptions.
 
-ghost use Rattle.std.specs.Prelude.{◌≡◌, ℕ, List, Option, Some, IfOk, IsSome, is_some};
+ghost use Rattle.std.specs.Prelude.{◌≡◌, ℕ, List, Option, Some, IfErr, IfOk, IsSome, is_some};
 ghost use Rattle.sky_base.specs.ObjectView.{object_view};
 ghost use Rattle.sky_base.specs.Res as logic;
 ghost use Rattle.sky_base.specs.Val.{Desc, known};
@@ -10,7 +10,7 @@ use sky_base::object::Object;
 use sky_base::text::Memory;
 use std::alloc::Global;
 
-/// Objects by the names of their descriptions. What is found stays as it is while it is looked up.
+/// Objects by the names of their descriptions. What is there stays as it is while it is looked up.
 pub trait Finds {
     /// Why an object that there is can't be handed out.
     type Refusal;
@@ -18,15 +18,25 @@ pub trait Finds {
     /// The object of each description that there is.
     ghost finds: { Self → Desc (List ℕ) → Option (logic.Object (List ℕ)) };
 
+    /// What holds of it before and after each call.
+    ghost ready: { Self → Type 0 };
+
+    /// What a refusal tells.
+    ghost refuses: { Self → Self.Refusal → Type 0 };
+
     /// Whether there is an object of the description of this name.
     fn has(&self, name: &Name) -> bool
+        requires { ready self.now }
         ensures { result ≡ is_some (finds self.now (known name.now)) };
 
     /// The object of the description of this name, which there is.
     ///
     /// Answers `Memory` for want of memory.
     fn find(&mut self, alloc: Global, name: &Name) -> Result<Result<Object, Self::Refusal>, Memory>
-        requires { IsSome (finds self.old (known name.now)) }
+        requires ready { ready self.old }
+        requires there { IsSome (finds self.old (known name.now)) }
         ensures object { IfOk result (λ r. IfOk r (λ o. finds self.old (known name.now) ≡ Some (object_view o))) }
+        ensures refusal { IfOk result (λ r. IfErr r (refuses self.new)) }
+        ensures ready { ready self.new }
         ensures same { finds self.new ≡ finds self.old };
 }

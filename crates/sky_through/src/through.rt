@@ -1,13 +1,14 @@
 //! The waits whose objects are found are gone through.
 
-ghost use Rattle.std.specs.Prelude.{◌≡◌, ◌<◌, suc, List, IfOk, MatchOption, map, Some};
+ghost use Rattle.std.specs.Prelude.{◌≡◌, ◌<◌, suc, List, IfErr, IfOk, MatchOption, map, Some};
 ghost use Rattle.sky_base.specs.Names.{known_of};
 ghost use Rattle.sky_base.specs.ObjectView.{object_view};
 ghost use Rattle.sky_state.specs.Fits.{Fits};
 ghost use Rattle.sky_state.specs.StateView.{stand_of, spawned_of};
 ghost use Rattle.sky_onward.specs.Exactly.{FitsAfter, gone_of};
+ghost use Rattle.sky_onward.specs.Knows.{KnowsNames};
 ghost use Rattle.sky_onward.specs.Onward.{IsRead, GrewSoundly};
-ghost use Rattle.sky_through.specs.Found.{AllFound, FoundIf, HasAll, FindsSound, Turns};
+ghost use Rattle.sky_through.specs.Found.{AllFound, CameFrom, FoundIf, HasAll, FindsSound, SameKind, Turns, step_or};
 ghost use Rattle.sky_through.specs.Through.{Through};
 ghost use Rattle.sky_through.specs.Went.{GoesThrough};
 
@@ -39,11 +40,16 @@ pub fn run_through<'a, 'b, F: Finds, N: Namer>(
     requires fits { Fits script.now.code (stand_of state.old) }
     requires sound { FindsSound (F.finds finder.old) script.now.code }
     requires found { HasAll (F.finds finder.old) (stand_of state.old) }
+    requires finder { F.ready finder.old }
     ensures through { IfOk result (λ r. IfOk r (λ s. Through (F.finds finder.old) (N.digest namer.now) script.now.code (stand_of state.old) (stand_of state.new) s (spawned_of state.old) (spawned_of state.new))) }
     ensures goes { IfOk result (λ r. IfOk r (λ s. GoesThrough (N.digest namer.now) script.now.code (F.finds finder.old) (stand_of state.old) (stand_of state.new) s (spawned_of state.old) (spawned_of state.new))) }
     ensures fits { IfOk result (λ r. IfOk r (λ s. FitsAfter script.now.code (stand_of state.new) s)) }
+    ensures kind { IfOk result (λ r. IfOk r (λ s. SameKind (stand_of state.old) s (stand_of state.new))) }
     ensures made { IfOk result (λ r. IfOk r (λ s. GrewSoundly (N.digest namer.now) script.now.code (spawned_of state.old) (spawned_of state.new))) }
+    ensures known { IfOk result (λ r. IfOk r (λ s. KnowsNames (N.digest namer.now) (CameFrom (F.finds finder.old) (stand_of state.old)) s (stand_of state.new) (spawned_of state.old) (spawned_of state.new))) }
     ensures finder { F.finds finder.new ≡ F.finds finder.old }
+    ensures ready { F.ready finder.new }
+    ensures refusal { IfOk result (λ r. IfErr r (F.refuses finder.new)) }
 {
     let ran = loop_through(alloc, script, state, finder, namer)?;
     Ok(ran)
@@ -62,10 +68,15 @@ fn loop_through<'a, 'b, F: Finds, N: Namer>(
     requires fits { Fits script.now.code (stand_of state.old) }
     requires sound { FindsSound (F.finds finder.old) script.now.code }
     requires found { HasAll (F.finds finder.old) (stand_of state.old) }
+    requires finder { F.ready finder.old }
     ensures through { IfOk result (λ r. IfOk r (λ s. Through (F.finds finder.old) (N.digest namer.now) script.now.code (stand_of state.old) (stand_of state.new) s (spawned_of state.old) (spawned_of state.new))) }
     ensures fits { IfOk result (λ r. IfOk r (λ s. FitsAfter script.now.code (stand_of state.new) s)) }
+    ensures kind { IfOk result (λ r. IfOk r (λ s. SameKind (stand_of state.old) s (stand_of state.new))) }
     ensures made { IfOk result (λ r. IfOk r (λ s. GrewSoundly (N.digest namer.now) script.now.code (spawned_of state.old) (spawned_of state.new))) }
+    ensures known { IfOk result (λ r. IfOk r (λ s. KnowsNames (N.digest namer.now) (CameFrom (F.finds finder.old) (stand_of state.old)) s (stand_of state.new) (spawned_of state.old) (spawned_of state.new))) }
     ensures finder { F.finds finder.new ≡ F.finds finder.old }
+    ensures ready { F.ready finder.new }
+    ensures refusal { IfOk result (λ r. IfErr r (F.refuses finder.new)) }
 {
     'turns: loop {
         match turn(alloc, script, state, finder, namer)? {
@@ -89,11 +100,15 @@ fn turn<'a, 'b, F: Finds, N: Namer>(
     requires fits { Fits script.now.code (stand_of state.old) }
     requires sound { FindsSound (F.finds finder.old) script.now.code }
     requires found { HasAll (F.finds finder.old) (stand_of state.old) }
+    requires finder { F.ready finder.old }
     ensures turns { IfOk result (λ r. IfOk r (λ o. Turns (F.finds finder.old) (N.digest namer.now) script.now.code o (stand_of state.old) (stand_of state.new) (spawned_of state.old) (spawned_of state.new))) }
     ensures fits { IfOk result (λ r. IfOk r (λ o. MatchOption o (Fits script.now.code (stand_of state.new)) (FitsAfter script.now.code (stand_of state.new)))) }
+    ensures kind { IfOk result (λ r. IfOk r (λ o. SameKind (stand_of state.old) (step_or o) (stand_of state.new))) }
     ensures falls { IfOk result (λ r. IfOk r (λ o. MatchOption o (gone_of (stand_of state.new) ≡ suc (gone_of (stand_of state.old))) (λ s. Unit {0}))) }
     ensures made { IfOk result (λ r. IfOk r (λ o. GrewSoundly (N.digest namer.now) script.now.code (spawned_of state.old) (spawned_of state.new))) }
     ensures finder { F.finds finder.new ≡ F.finds finder.old }
+    ensures ready { F.ready finder.new }
+    ensures refusal { IfOk result (λ r. IfErr r (F.refuses finder.new)) }
 {
     let names = state.pending(alloc)?;
     let answers = match find_all(alloc, finder, &names)? {
@@ -119,9 +134,12 @@ fn find_all<F: Finds>(
     finder: &mut F,
     names: &Names,
 ) -> Result<Result<Vec<Object>, F::Refusal>, Memory>
-    requires { AllFound (F.finds finder.old) (known_of names.now) }
+    requires found { AllFound (F.finds finder.old) (known_of names.now) }
+    requires finder { F.ready finder.old }
     ensures objects { IfOk result (λ r. IfOk r (λ os. map (F.finds finder.old) (known_of names.now) ≡ map Some (map object_view os.items))) }
     ensures finder { F.finds finder.new ≡ F.finds finder.old }
+    ensures ready { F.ready finder.new }
+    ensures refusal { IfOk result (λ r. IfErr r (F.refuses finder.new)) }
 {
     let mut objects = Vec::new(alloc);
     let mut rest = names.as_slice();
@@ -141,6 +159,7 @@ fn find_all<F: Finds>(
 
 /// Whether there is an object of each description of these names.
 fn has_all<F: Finds>(finder: &F, names: &Names) -> bool
+    requires { F.ready finder.now }
     ensures { FoundIf (F.finds finder.now) result (known_of names.now) }
 {
     let mut rest = names.as_slice();

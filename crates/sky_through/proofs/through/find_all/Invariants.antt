@@ -1,4 +1,4 @@
-use Rattle.std.proofs.Common.{◌≡◌, ◌++◌, List, ℕ, map, Some, length}
+use Rattle.std.proofs.Common.{◌≡◌, ◌++◌, map, Some, length}
 use Rattle.sky_base.specs.Names.{known_of}
 use Rattle.sky_base.specs.ObjectView.{object_view}
 use Rattle.sky_through.specs.Found.{AllFound}
@@ -8,6 +8,7 @@ abbrev pub invariant-names : goal.invariant-names
 invariant-names g l = record {
   found : AllFound (g.F.Finds.finds l.fn.finder) (known_of l.rest);
   finder : g.F.Finds.finds l.finder ≡ g.F.Finds.finds l.fn.finder;
+  ready : g.F.Finds.ready l.finder;
   objects : map (g.F.Finds.finds l.fn.finder) (known_of l.names) ≡ map Some (map object_view l.objects.items) ++ map (g.F.Finds.finds l.fn.finder) (known_of l.rest);
 }
 
