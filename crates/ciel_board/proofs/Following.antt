@@ -36,7 +36,7 @@ module _ {D P B : Type 0} (s : Setting D P B) (is : IsSetting s) (h : List (Even
     where
       pick : t.Made s.job is.laws d → IsMade s d
       pick (inl e) = inl e
-      pick (inr m) = inr (m.0, m.2, m.3)
+      pick (inr m) = inr m
 
   pub traced : (q : Save D) → In q (standing s.job h).saves → t.SaveTraced s.job is.laws (standing s.job h).book q
   traced q i = (t.traced s.job is.laws b.plan h f.lawful).saves q i

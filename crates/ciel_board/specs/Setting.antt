@@ -34,9 +34,9 @@ input_number keys (Desc1.Exec x v n i) = None
 input_number keys (Desc1.Input k) = key_number keys k
 
 module _ {D P B : Type 0} (s : Setting D P B) where
-  -- the main call, or made by some task
+  -- the main call, or made by a needed task
   abbrev pub IsMade : D → Type 0
-  IsMade d = (d ≡ s.job.main) ⊎ ((t : Task D) × (n : ℕ) × In d (made_in (s.job.acts n t)))
+  IsMade d = (d ≡ s.job.main) ⊎ ((t : Task D) × Needed s.job t × (n : ℕ) × In d (made_in (s.job.acts n t)))
 
   -- x is d by names
   abbrev pub Spells : Desc1 → D → Type 0

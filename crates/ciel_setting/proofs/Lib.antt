@@ -1,0 +1,3 @@
+mod Binds
+mod Binding
+mod Telling
