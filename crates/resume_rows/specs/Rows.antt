@@ -1,16 +1,15 @@
 -- What the rows keep from step to step.
-use Rattle.std.specs.Prelude.{ℕ, List}
+use Rattle.std.specs.Prelude.{ℕ, List, Option, Some, None}
 use Rattle.sky_base.specs.Tree.{Script}
 use Rattle.sky_base.specs.declared.object.Object.{Object}
 use Rattle.sky_state.specs.Fits.{Fits}
 use Rattle.sky_state.specs.Stand.{Stand}
 use Rattle.sky_onward.specs.Onward.{AnswersSound}
-use Rattle.resume_rows.specs.declared.runs.Step.{Step}
 
--- where the call waits its state fits the script
-abbrev pub FitsWhere : Script → Stand (List ℕ) → Step → Type 0
-FitsWhere sc s (Step.Ended e) = Unit {0}
-FitsWhere sc s Step.Waits = Fits sc s
+-- where the call has no end yet its state fits the script
+abbrev pub FitsUnless : {A : Type 0} → Script → Stand (List ℕ) → Option A → Type 0
+FitsUnless sc s (Some end) = Unit {0}
+FitsUnless sc s None = Fits sc s
 
 -- the objects hold no value that a script could have made
 abbrev pub SoundAnywhere : List Object → Type 0

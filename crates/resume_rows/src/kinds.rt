@@ -6,7 +6,7 @@ ghost use Rattle.sky_state.specs.StateView.{stand_of};
 ghost use Rattle.sky_onward.specs.Onward.{IsRead, AnswersSound};
 
 use crate::made::{Ended, Given, objects};
-use crate::runs::{Step, resumed, script, start};
+use crate::runs::{resumed, script, start};
 use sky_base::fault::FaultKind;
 use sky_base::object::Object;
 use sky_base::script::Script;
@@ -247,8 +247,8 @@ fn ends(
     let mut step = resumed(alloc, script, state, given)?;
     for waits in 0..10 {
         match step {
-            Step::Ended(ended) => return Ok((waits, ended)),
-            Step::Waits => step = resumed(alloc, script, state, given)?,
+            Some(ended) => return Ok((waits, ended)),
+            None => step = resumed(alloc, script, state, given)?,
         }
     }
     Err(Fail::from("too many waits"))

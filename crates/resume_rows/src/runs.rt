@@ -5,7 +5,7 @@ ghost use Rattle.sky_parse.specs.Source.{IsScript};
 ghost use Rattle.sky_state.specs.Fits.{Fits};
 ghost use Rattle.sky_state.specs.StateView.{stand_of};
 ghost use Rattle.sky_onward.specs.Onward.{IsRead, AnswersSound};
-ghost use Rattle.resume_rows.specs.Rows.{FitsWhere};
+ghost use Rattle.resume_rows.specs.Rows.{FitsUnless};
 
 use crate::made::{Ended, in_numbers};
 use ciel_name::name::Sha1Namer;
@@ -15,19 +15,12 @@ use sky_base::text::Txt;
 use sky_base::value::{Pairs, Vals};
 use sky_numbers::code::Numbered;
 use sky_onward::resume::resume;
-use sky_onward::step as task;
+use sky_onward::step::Step;
 use sky_parse::script::parse;
 use sky_state::state::State;
 use sky_text::lex::{lex, line_col};
 use std::alloc::Global;
 use std::test::Fail;
-
-/// What a call comes to: its end, or a wait.
-#[derive(Clone, Copy, PartialEq, Eq)]
-pub enum Step {
-    Ended(Ended),
-    Waits,
-}
 
 /// The script that these bytes are.
 fn parsed(alloc: Global, bytes: &[u8]) -> Result<Script, Fail>
@@ -65,22 +58,22 @@ pub fn start(alloc: Global, script: &Script) -> Result<State, Fail>
     Ok(state)
 }
 
-/// The call begins, or goes on from its wait with these objects.
+/// The call begins, or goes on from its wait with these objects: its end, or none where it waits.
 pub fn resumed(
     alloc: Global,
     script: &Numbered,
     state: &mut State,
     answers: &[Object],
-) -> Result<Step, Fail>
+) -> Result<Option<Ended>, Fail>
     requires same { script.now.nodes ≡ script.now.code }
     requires read { IsRead script.now.code }
     requires fits { Fits script.now.code (stand_of state.old) }
     requires answers { AnswersSound script.now.code answers.now }
-    ensures { IfOk result (λ s. FitsWhere script.now.code (stand_of state.new) s) }
+    ensures { IfOk result (λ s. FitsUnless script.now.code (stand_of state.new) s) }
 {
     match resume(alloc, script, state, answers, &Sha1Namer)? {
-        task::Step::Ended(object) => Ok(Step::Ended(in_numbers(&object))),
-        task::Step::Waits => Ok(Step::Waits),
-        task::Step::Shown(_) => Err(Fail::from("no call")),
+        Step::Ended(object) => Ok(Some(in_numbers(&object))),
+        Step::Waits => Ok(None),
+        Step::Shown(_) => Err(Fail::from("no call")),
     }
 }

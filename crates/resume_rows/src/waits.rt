@@ -4,10 +4,10 @@ ghost use Rattle.std.specs.Prelude.{◌≡◌, IfOk};
 ghost use Rattle.sky_state.specs.Fits.{Fits};
 ghost use Rattle.sky_state.specs.StateView.{stand_of};
 ghost use Rattle.sky_onward.specs.Onward.{IsRead};
-ghost use Rattle.resume_rows.specs.Rows.{FitsWhere};
+ghost use Rattle.resume_rows.specs.Rows.{FitsUnless};
 
 use crate::made::{Ended, Given, objects};
-use crate::runs::{Step, resumed, script, start};
+use crate::runs::{resumed, script, start};
 use sky_base::names::Names;
 use sky_base::script::Script;
 use sky_numbers::code::{Numbered, number_script};
@@ -157,11 +157,16 @@ fn stands(alloc: Global, state: &State) -> Result<At, Fail> {
 }
 
 /// Whether the call stands at the wait that is wanted, and what it comes to from there.
-fn passes(alloc: Global, script: &Numbered, state: &mut State, stop: &Stop) -> Result<Step, Fail>
+fn passes(
+    alloc: Global,
+    script: &Numbered,
+    state: &mut State,
+    stop: &Stop,
+) -> Result<Option<Ended>, Fail>
     requires same { script.now.nodes ≡ script.now.code }
     requires read { IsRead script.now.code }
     requires fits { Fits script.now.code (stand_of state.old) }
-    ensures { IfOk result (λ s. FitsWhere script.now.code (stand_of state.new) s) }
+    ensures { IfOk result (λ s. FitsUnless script.now.code (stand_of state.new) s) }
 {
     if stands(alloc, state)? != stop.at {
         return Err(Fail::from("another wait"));
@@ -172,7 +177,12 @@ fn passes(alloc: Global, script: &Numbered, state: &mut State, stop: &Stop) -> R
 }
 
 /// What the call comes to behind all its waits.
-fn ends(alloc: Global, script: &Numbered, state: &mut State, stops: &[Stop]) -> Result<Step, Fail>
+fn ends(
+    alloc: Global,
+    script: &Numbered,
+    state: &mut State,
+    stops: &[Stop],
+) -> Result<Option<Ended>, Fail>
     requires same { script.now.nodes ≡ script.now.code }
     requires read { IsRead script.now.code }
     requires fits { Fits script.now.code (stand_of state.old) }
@@ -180,14 +190,14 @@ fn ends(alloc: Global, script: &Numbered, state: &mut State, stops: &[Stop]) -> 
     let mut step = resumed(alloc, script, state, &[])?;
     for stop in stops {
         match step {
-            Step::Waits => step = passes(alloc, script, state, stop)?,
-            Step::Ended(_) => return Err(Fail::from("an end")),
+            None => step = passes(alloc, script, state, stop)?,
+            Some(_) => return Err(Fail::from("an end")),
         }
     }
     Ok(step)
 }
 
-fn runs_so(alloc: Global, script: &Script, row: &Row) -> Result<Step, Fail>
+fn runs_so(alloc: Global, script: &Script, row: &Row) -> Result<Option<Ended>, Fail>
     requires { IsRead script.now }
 {
     let numbered = number_script(alloc, script)?;
@@ -199,7 +209,7 @@ fn runs_so(alloc: Global, script: &Script, row: &Row) -> Result<Step, Fail>
 fn comes_so(alloc: Global, row: &Row) -> Result<bool, Fail> {
     let script = script(alloc, row.text)?;
     let step = runs_so(alloc, &script, row)?;
-    Ok(step == Step::Ended(row.end))
+    Ok(step == Some(row.end))
 }
 
 #[test]
