@@ -6,7 +6,8 @@ ghost use Rattle.std.specs.Option.{option_map};
 ghost use Rattle.sky_base.specs.Val.{pairs_refs, refs, vals_refs};
 ghost use Rattle.sky_base.specs.View.{view};
 ghost use Rattle.ciel_board.specs.Board.{brought, first_held, held, key_number, least_place, lesser, place_at, place_for, spot_for, spot_in, stack_at, start_refs, task_desc, wait_number, with_spot};
-ghost use Rattle.ciel_master.specs.Views.{held_view, order_at, order_view, spot_view, worker_of};
+ghost use Rattle.ciel_master.specs.Views.{order_at, worker_of};
+ghost use Rattle.ciel_task.specs.Views.{brought_view, order_view, spot_view};
 ghost use Rattle.ciel_table.specs.Seen.{last_wait, row_named};
 
 use ciel_store::shelves::Place;
@@ -120,12 +121,7 @@ fn spot_in(keys: &[Txt], worker: u32, row: &Row<Place<Block>>) -> Option<Spot>
 }
 
 /// Where the object of a name is for this worker, if it is live.
-fn spot_for(
-    keys: &[Txt],
-    worker: u32,
-    table: &Table<Place<Block>>,
-    name: &Name,
-) -> Option<Spot>
+fn spot_for(keys: &[Txt], worker: u32, table: &Table<Place<Block>>, name: &Name) -> Option<Spot>
     requires few { length keys.now < 2 ^ 32 }
     ensures { option_map spot_view result ≡ spot_for worker_of keys.now worker table.now name.now }
 {
@@ -137,7 +133,7 @@ fn spot_for(
 
 /// Puts a name at the end, if there is a spot for it.
 fn push_spot(inputs: &mut Vec<Held>, name: &Name, spot: Option<Spot>) -> Result<(), Memory>
-    ensures { OnOk result (map held_view inputs.new.items ≡ map held_view inputs.old.items ++ with_spot worker_of name.now (option_map spot_view spot) []) }
+    ensures { OnOk result (map brought_view inputs.new.items ≡ map brought_view inputs.old.items ++ with_spot worker_of name.now (option_map spot_view spot) []) }
 {
     let Some(at) = spot else {
         return Ok(());
@@ -158,7 +154,7 @@ fn brought(
     names: &[Name],
 ) -> Result<Vec<Held>, Memory>
     requires few { length keys.now < 2 ^ 32 }
-    ensures { IfOk result (λ hs. map held_view hs.items ≡ brought worker_of keys.now worker table.now names.now) }
+    ensures { IfOk result (λ hs. map brought_view hs.items ≡ brought worker_of keys.now worker table.now names.now) }
 {
     let mut inputs = Vec::new(alloc);
     for i in 0..names.len() {
@@ -239,7 +235,7 @@ fn brought_first(
     task: &TaskId,
 ) -> Result<Vec<Held>, Memory>
     requires few { length keys.now < 2 ^ 32 }
-    ensures { IfOk result (λ hs. map held_view hs.items ≡ brought worker_of keys.now worker table.now (first_held main.now table.now task.now)) }
+    ensures { IfOk result (λ hs. map brought_view hs.items ≡ brought worker_of keys.now worker table.now (first_held main.now table.now task.now)) }
 {
     let names = first_held(alloc, main, table, task)?;
     let inputs = brought(alloc, keys, worker, table, names.as_slice())?;
@@ -284,7 +280,7 @@ fn inputs_for(
     task: &TaskId,
 ) -> Result<Vec<Held>, Memory>
     requires few { length keys.now < 2 ^ 32 }
-    ensures { IfOk result (λ hs. map held_view hs.items ≡ brought worker_of keys.now worker table.now (held main.now table.now task.now)) }
+    ensures { IfOk result (λ hs. map brought_view hs.items ≡ brought worker_of keys.now worker table.now (held main.now table.now task.now)) }
 {
     match table.last_wait(task) {
         Some(wait) => {

@@ -34,5 +34,8 @@ pub enum Entry {
         lost: u32,
     },
     /// A worker was lost when so many Starts had been closed.
-    Lost { worker: u32, after: u64 },
+    Lost {
+        worker: u32,
+        after: u64,
+    },
 }

@@ -28,11 +28,7 @@ fn why(refusal: Learn, given: &Named) -> Stop
 }
 
 /// Learns one description. A refusal changes nothing.
-fn learn<N: Namer>(
-    table: &mut Table<Place<Block>>,
-    namer: &N,
-    named: &Named,
-) -> Result<(), Stop>
+fn learn<N: Namer>(table: &mut Table<Place<Block>>, namer: &N, named: &Named) -> Result<(), Stop>
     ensures learned { OnOk result (table.new ≡ learned (N.digest namer.now) named.now table.old) }
     ensures answer { OnOk result ((id : ℕ) × (learn_answer named.now table.old ≡ Ok id)) }
     ensures refused { IfErr result (λ e. StopsAt named.now table.old e) }

@@ -13,3 +13,4 @@ mod orders;
 mod placing;
 pub mod plan;
 pub mod stop;
+mod taking;

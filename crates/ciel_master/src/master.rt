@@ -1,31 +1,43 @@
 //! The master itself.
 
-ghost use Rattle.std.specs.Prelude.{◌≡◌, ◌<◌, ◌^◌, ◌≢◌, [], ◌∷◌, IfNone, IfOk, IfSome, OnErr, OnOk, Some, false, is_some, length, map, true};
+ghost use Rattle.std.specs.Prelude.{◌≡◌, ◌<◌, ◌^◌, [], IfErr, IfNone, IfOk, IfSome, OnErr, OnOk, Some, false, is_some, length, map, true};
 ghost use Rattle.std.specs.Arc.{arc_value};
-ghost use Rattle.std.specs.List.{IsDistinct, list_any};
+ghost use Rattle.std.specs.List.{IsDistinct};
 ghost use Rattle.sky_base.specs.Val.{no_pairs, no_vals, same_text};
 ghost use Rattle.sky_base.specs.declared.object.Desc1.{Desc1};
 ghost use Rattle.sky_base.specs.declared.object.TaskId.{TaskId};
-ghost use Rattle.ciel_board.specs.Board.{board_graph, find_order, idle_of, tasks_out, workers_out};
-ghost use Rattle.ciel_board.specs.Moves.{empty, opened, order_for, started};
+ghost use Rattle.ciel_board.specs.Board as b;
+ghost use Rattle.ciel_board.specs.Board.{board_graph, find_order, idle_of};
+ghost use Rattle.ciel_board.specs.Moves.{accepted, empty, lost_at, opened, order_for, started};
 ghost use Rattle.ciel_board.specs.Reports.{IsNamed};
+ghost use Rattle.ciel_board.specs.Sound.{Fits};
 ghost use Rattle.ciel_journal.specs.Graph.{Circle, Picks, Runnable};
 ghost use Rattle.ciel_journal.specs.Job.{In};
-ghost use Rattle.ciel_master.specs.Seen.{most_descriptions, plan_view};
 ghost use Rattle.ciel_table.specs.Learning.{learned};
-ghost use Rattle.ciel_master.specs.Views.{entry_view, order_view, worker_of};
+ghost use Rattle.ciel_task.specs.Views.{P, order_view, report_end};
 ghost use Rattle.ciel_want.specs.Waited.{tasks_in_order};
+ghost use Rattle.ciel_master.specs.Refusals.{FirstStops};
+ghost use Rattle.ciel_master.specs.Seen.{MasterSeen, most_descriptions, plan_view};
+ghost use Rattle.ciel_master.specs.Views.{entry_view, worker_of};
 
+use crate::bring::order_at;
 use crate::entry::Entry;
-use crate::orders::{OrderOut, find};
+use crate::learning::learn_all;
+use crate::orders::{OrderOut, close, close_at, find, tasks};
 use crate::plan::RunPlan;
+use crate::stop::{Now, Stop};
+use crate::taking::{begin, is_last, take_end, write};
 use ciel_name::name::Namer;
 use ciel_store::shelves::Place;
 use ciel_table::table::Table;
 use ciel_task::block::Block;
+use ciel_task::order::Order;
+use ciel_task::report::Report;
 use ciel_task::shop::Shop;
+use ciel_want::want::{circle, runnable};
 use sky_base::name::Name;
-use sky_base::object::Named;
+use sky_base::names::Names;
+use sky_base::object::{Named, TaskId};
 use sky_base::text::Memory;
 use std::alloc::Global;
 use std::marker::Model;
@@ -106,6 +118,124 @@ impl<K: Drop, N: Namer + Drop> Master<K, N> {
             stopped: false,
             alloc,
         })
+    }
+
+    /// The tasks that can run, in the order of their least rows, the root task last.
+    ///
+    /// Answers `Memory` for want of memory.
+    pub fn runnable(&self) -> Result<Vec<TaskId>, Memory>
+        requires going { self.now.board.stopped ≡ false }
+        ensures runnable { IfOk result (λ ts. Picks (Runnable (board_graph self.now.board)) (tasks_in_order self.now.board.table) ts.items) }
+    {
+        let out = tasks(self.alloc, &self.orders)?;
+        let found = runnable(self.alloc, &self.table, &self.main, out.as_slice())?;
+        Ok(found)
+    }
+
+    /// A circle of waits, where nothing is out. `None` exactly where a task can run.
+    ///
+    /// Answers `Memory` for want of memory.
+    pub fn circle(&self) -> Result<Option<Names>, Memory>
+        requires going { self.now.board.stopped ≡ false }
+        requires none_out { self.now.board.orders ≡ [] }
+        ensures circle { IfOk result (λ o. IfSome o (λ ns. Circle (board_graph self.now.board) ns)) }
+        ensures distinct { IfOk result (λ o. IfSome o (λ ns. IsDistinct same_text ns)) }
+        ensures stuck { IfOk result (λ o. IfSome o (λ _. (task : TaskId) → Runnable (board_graph self.now.board) task → ⊥)) }
+        ensures none { IfOk result (λ o. IfNone o ((task : TaskId) × Runnable (board_graph self.now.board) task)) }
+    {
+        let found = circle(self.alloc, &self.table, &self.main)?;
+        Ok(found)
+    }
+
+    /// Starts a task at a worker: the order goes on with the task there from its last saved wait.
+    ///
+    /// Answers `Memory` for want of memory; the master is then as it was.
+    pub fn start(&mut self, task: &TaskId, worker: u32) -> Result<Order, Memory>
+        requires going { self.old.board.stopped ≡ false }
+        requires runnable { Runnable (board_graph self.old.board) task.now }
+        requires idle { In worker (idle_of self.old.board) }
+        ensures order { IfOk result (λ o. order_view o ≡ order_for worker_of self.old.board task.now worker) }
+        ensures started { OnOk result (self.new ≡ record self.old { board = started worker_of self.old.board task.now worker }) }
+        ensures kept { OnErr result (self.new ≡ self.old) }
+    {
+        let number = self.starts;
+        let keys = self.shop.job.script.keys().as_slice();
+        let order = order_at(
+            self.alloc,
+            keys,
+            &self.main,
+            &self.table,
+            number,
+            task,
+            worker,
+        )?;
+        let out = OrderOut {
+            number,
+            worker,
+            task: *task,
+            from: order.from,
+        };
+        begin(&mut self.orders, &mut self.journal, out)?;
+        self.starts += 1;
+        Ok(order)
+    }
+
+    /// Takes what a worker reports of an order that is out: learns what it spawned, places what it made, and writes it into the
+    /// journal.
+    ///
+    /// Answers what refuses the first description that isn't learned, and `Memory` for want of memory. The journal is then as it
+    /// was, and the run has stopped.
+    pub fn accept(&mut self, report: Report) -> Result<Now, Stop>
+        requires going { self.old.board.stopped ≡ false }
+        requires fits { (x : b.Order P) × (find_order report.number self.old.board.orders ≡ Some x.out) × Fits (N.digest self.old.namer) worker_of self.old.board x report.spawned.items (report_end report) }
+        ensures accepted { OnOk result ((x : b.OrderOut) × (find_order report.number self.old.board.orders ≡ Some x) × (self.new ≡ record self.old { board = accepted (N.digest self.old.namer) self.old.board x report.spawned.items (report_end report) })) }
+        ensures journal { OnErr result (self.new.board.journal ≡ self.old.board.journal) }
+        ensures stopped { OnErr result (self.new.board.stopped ≡ true) }
+        ensures refused { IfErr result (λ e. FirstStops (N.digest self.old.namer) report.spawned.items self.old.board.table e) }
+    {
+        self.stopped = true;
+        let Report {
+            number,
+            spawned,
+            copied,
+            end,
+            ..
+        } = report;
+        let Some(order) = find(&self.orders, number) else {
+            unreachable!()
+        };
+        let last = is_last(&order.task, &end, copied.as_slice());
+        learn_all(&mut self.table, &self.shop.namer, spawned.as_slice())?;
+        let now = take_end(
+            self.alloc,
+            &mut self.table,
+            &mut self.journal,
+            &order,
+            copied.as_slice(),
+            end,
+        )?;
+        close(&mut self.orders, order.number);
+        self.closes += 1;
+        self.stopped = last;
+        Ok(now)
+    }
+
+    /// A worker is lost: its places and the stacks that it saved are dropped, and the order that it had is closed.
+    ///
+    /// Answers `Memory` for want of memory; the master is then as it was.
+    pub fn lose(&mut self, worker: u32) -> Result<(), Memory>
+        requires going { self.old.board.stopped ≡ false }
+        ensures lost { OnOk result (self.new ≡ record self.old { board = lost_at worker_of worker self.old.board }) }
+        ensures kept { OnErr result (self.new ≡ self.old) }
+    {
+        let entry = Entry::Lost {
+            worker,
+            after: self.closes,
+        };
+        write(&mut self.journal, entry)?;
+        close_at(&mut self.orders, worker);
+        self.table.drop_worker(worker);
+        Ok(())
     }
 
     /// The journal so far.

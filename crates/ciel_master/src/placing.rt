@@ -4,7 +4,8 @@ ghost use Rattle.std.specs.Prelude.{◌≡◌, ◌++◌, ◌∷◌, [], IfOk, On
 ghost use Rattle.ciel_board.specs.Moves.{with_copies, with_outputs};
 ghost use Rattle.ciel_board.specs.Reports.{copy_names, made_keys};
 ghost use Rattle.ciel_journal.specs.Job.{Each};
-ghost use Rattle.ciel_master.specs.Views.{copies_view, made_view, worker_of};
+ghost use Rattle.ciel_master.specs.Views.{worker_of};
+ghost use Rattle.ciel_task.specs.Views.{copies_view, output_view};
 ghost use Rattle.ciel_table.specs.Changes.{placed};
 ghost use Rattle.ciel_table.specs.Seen.{Known};
 ghost use Rattle.ciel_table.specs.Sound.{Here};
@@ -21,7 +22,7 @@ use std::alloc::Global;
 /// Places the outputs of a task.
 pub(crate) fn place_outputs(table: &mut Table<Place<Block>>, made: &[Made]) -> Result<(), Memory>
     requires known { Each (λ m. Known table.old m.name × Here table.old.gone (worker_of m.place)) made.now }
-    ensures placed { OnOk result (table.new ≡ with_outputs (map made_view made.now) table.old) }
+    ensures placed { OnOk result (table.new ≡ with_outputs (map output_view made.now) table.old) }
 {
     for i in 0..made.len() {
         let output = &made[i];
@@ -57,7 +58,7 @@ pub(crate) fn place_copies(table: &mut Table<Place<Block>>, copied: &[Held]) -> 
 
 /// The outputs as the journal writes them.
 pub(crate) fn keys_of(alloc: Global, made: &[Made]) -> Result<Vec<(Name, [u8; 20])>, Memory>
-    ensures { IfOk result (λ ks. ks.items ≡ made_keys (map made_view made.now)) }
+    ensures { IfOk result (λ ks. ks.items ≡ made_keys (map output_view made.now)) }
 {
     let mut keys = Vec::new(alloc);
     for i in 0..made.len() {
