@@ -14,7 +14,7 @@ use Rattle.ciel_journal.specs.Job.{In}
 use Rattle.ciel_journal.proofs.Members.{bool_cases}
 use Rattle.ciel_journal.proofs.Near.{in_join, in_right}
 use Rattle.ciel_journal.proofs.Numbers.{in_left}
-use Rattle.ciel_setting.specs.Binds.{AllApart, AllBind, Binds, NoneOf}
+use Rattle.ciel_setting.proofs.Binds.{AllApart, AllBind, Binds, NoneOf}
 
 flip : (a b : List ℕ) → same_text a b ≡ false → same_text b a ≡ false
 flip a b h = pick (bool_cases (same_text b a))

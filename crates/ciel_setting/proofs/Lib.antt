@@ -1,2 +1,3 @@
+mod Binds
 mod Binding
 mod Telling

@@ -21,18 +21,18 @@ use Rattle.sky_law.specs.Tasks as t
 use Rattle.sky_law.proofs.RefsLow.{distinct_low, pairs_refs_low, refs_low, vals_refs_low}
 use Rattle.sky_law.proofs.SoundJobs.{made_sound, needed_sound}
 use Rattle.sky_law.proofs.TaskOutputs.{distinct_in, in_distinct}
-use Rattle.ciel_journal.specs.Job.{Digest, Held, In, Job, Task, made_in, of, show}
+use Rattle.ciel_journal.specs.Job.{Digest, Held, In, Task, of, show}
 use Rattle.ciel_journal.proofs.Near.{in_join, in_right}
 use Rattle.ciel_journal.proofs.Numbers.{in_left}
 use Rattle.ciel_journal.proofs.SeenAs.{in_names}
-use Rattle.ciel_meant.specs.Real.{acts_of, back, forth_if, held_if}
+use Rattle.ciel_meant.specs.Real.{back, forth_if, held_if}
 use Rattle.ciel_meant.proofs.AlikeLaw.{is_one, made_is, needed_to}
 use Rattle.ciel_meant.proofs.RealLaw.{in_from, in_to}
 use Rattle.ciel_name.specs.Names.{first_output}
 use Rattle.ciel_want.specs.Waited.{first_refs, names_of}
 use Rattle.ciel_board.specs.Board.{key_number, start_refs}
 use Rattle.ciel_board.specs.Setting.{AllStart, AreNames, IsMade, RootHoldsMain, Setting, TellsByNames, TellsFirst, TellsHeld, TellsInput, TellsTask, input_number}
-use Rattle.ciel_setting.specs.Binds.{AllApart, AllBind}
+use Rattle.ciel_setting.proofs.Binds.{AllApart, AllBind}
 use Rattle.ciel_setting.specs.Laws.{real_setting}
 use Rattle.ciel_setting.proofs.Binding.{KeysApart, bound_from, bound_to, fun_binds, none_empty, used_apart}
 

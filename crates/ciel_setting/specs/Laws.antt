@@ -6,11 +6,12 @@ use Rattle.sky_base.specs.See as s
 use Rattle.sky_law.specs.NamesLaws.{no_name}
 use Rattle.sky_law.specs.Refers.{PlainReads}
 use Rattle.sky_law.specs.Sound.{SoundReads}
+use Rattle.sky_law.specs.Tasks.{Each}
 use Rattle.ciel_journal.specs.Job.{Digest, Task}
 use Rattle.ciel_meant.specs.Inner.{real_inner}
 use Rattle.ciel_meant.specs.Real.{real_job}
 use Rattle.ciel_board.specs.Setting.{IsSetting, Setting}
-use Rattle.ciel_setting.specs.Binds.{AllBind}
+use Rattle.sky_params.specs.Orderly.{Orderly}
 
 module _ {P B : Type 0} where
   -- the job that a script means, with the names of this digest, and whatever lies at places
@@ -32,5 +33,5 @@ abbrev pub RealIsSetting : Type 0 → Type 0 → Type 0
 RealIsSetting P B =
     (digest : List ℕ → List ℕ) (job : s.Job) (around : s.Around) (mark : s.Obj → Digest) (frozen : n.State → Digest)
     (at : P → ℕ) (block : P → B) (object : ℕ → s.Desc → Option B) (state : ℕ → Task s.Desc → ℕ → Option B)
-    → PlainReads around → SoundReads job.script around → AllBind job.script.funs
+    → PlainReads around → SoundReads job.script around → Each Orderly job.script.funs
     → IsSetting (real_setting digest job around mark frozen at block object state)

@@ -3,8 +3,8 @@
 
 ghost use Rattle.ciel_setting.specs.Laws.{RealIsSetting};
 
-/// Where what is read as data is plain, and functions bind their parameters one by one, the job that a script means has the laws of
-/// a job, tells where all comes from, and its descriptions by names tell what the master reads from them.
+/// Where what is read as data is plain and sound, and the script's functions are orderly (`sky_params`), the job that a script
+/// means has the laws of a job, tells where all comes from, and its descriptions by names tell what the master reads from them.
 pub fn real_job_is_a_setting<P, B>()
     ensures real { RealIsSetting P B }
 {}

@@ -5,3 +5,6 @@ pub mod Rests
 pub mod Steps
 pub mod Shows
 pub mod Resumes
+pub mod Refs
+pub mod Knows
+pub mod ShowsKnown

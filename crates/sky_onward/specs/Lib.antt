@@ -3,3 +3,4 @@ pub mod Rest
 pub mod Onward
 pub mod Steps
 pub mod Exactly
+pub mod Knows

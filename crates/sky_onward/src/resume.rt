@@ -12,6 +12,7 @@ ghost use Rattle.sky_state.specs.StateView.{stand_of, spawned_of};
 ghost use Rattle.sky_waits.specs.Answers.{AnswersKept};
 ghost use Rattle.sky_resume.specs.Comes.{run_of};
 ghost use Rattle.sky_onward.specs.Exactly.{Exactly, MakesExactly, FitsAfter, OneFurther};
+ghost use Rattle.sky_onward.specs.Knows.{CameWith, KnowsNames};
 ghost use Rattle.sky_onward.specs.Onward.{IsRead, AnswersSound, GrewSoundly};
 ghost use Rattle.sky_onward.specs.Steps.{step_of, Resumed};
 
@@ -49,6 +50,7 @@ pub fn resume<'a, 'b, N: Namer>(
     ensures fits { IfOk result (λ s. FitsAfter script.now.code (stand_of state.new) s) }
     ensures further { IfOk result (λ s. OneFurther (stand_of state.old) (stand_of state.new) s) }
     ensures sound { IfOk result (λ s. GrewSoundly (N.digest namer.now) script.now.code (spawned_of state.old) (spawned_of state.new)) }
+    ensures known { IfOk result (λ s. KnowsNames (N.digest namer.now) (CameWith (stand_of state.old) (map object_view answers.now)) s (stand_of state.new) (spawned_of state.old) (spawned_of state.new)) }
 {
     match state {
         State::Run(run) => {
@@ -80,6 +82,7 @@ fn of_call<'a, 'b, N: Namer>(
     ensures fits { IfOk result (λ s. FitsAfter script.now.code (Stand.run (run_of run.new)) s) }
     ensures further { IfOk result (λ s. OneFurther (Stand.run (run_of run.old)) (Stand.run (run_of run.new)) s) }
     ensures sound { IfOk result (λ s. GrewSoundly (N.digest namer.now) script.now.code run.old.spawned run.new.spawned) }
+    ensures known { IfOk result (λ s. KnowsNames (N.digest namer.now) (CameWith (Stand.run (run_of run.old)) (map object_view answers.now)) s (Stand.run (run_of run.new)) run.old.spawned run.new.spawned) }
 {
     let came = advance(alloc, script, run, answers, namer)?;
     Ok(step(came))

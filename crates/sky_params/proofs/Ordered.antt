@@ -4,7 +4,7 @@ use Rattle.sky_base.specs.Eval.{is_one_of}
 use Rattle.sky_base.specs.Tree.{Place}
 use Rattle.sky_base.specs.Val.{same_text}
 use Rattle.sky_base.proofs.Exact.{self_text}
-use Rattle.sky_grammar.specs.Lifted.{param_names, stms_names, uses_of, count, exps_count, stm_count, stms_count, arms_count, made, exps_made, links_made, ands_made, steps_made, stm_made, stms_made, arms_made, else_made}
+use Rattle.sky_grammar.specs.Lifted.{number_name, param_names, stms_names, uses_of, count, exps_count, stm_count, stms_count, arms_count, made, exps_made, links_made, ands_made, steps_made, stm_made, stms_made, arms_made, else_made}
 use Rattle.sky_grammar.specs.Names.{at_twice, first_of, same_params, same, exps_same, links_same, ands_same, steps_same, stm_same, stms_same, arms_same, else_same, same_names}
 use Rattle.sky_grammar.specs.Source.{Param, Exp, Exps, Links, Ands, Steps, Stm, Stms, Arms, Else}
 use Rattle.sky_grammar.specs.Tops.{Top, defs_of, made_of, script_of}
@@ -12,6 +12,7 @@ use Rattle.sky_grammar.proofs.UsesLaw.{one_of, uses_has}
 use Rattle.sky_law.specs.Tasks.{Apart, Each, In}
 use Rattle.sky_law.proofs.Lists.{each_both}
 use Rattle.sky_params.specs.Orderly.{Orderly}
+use Rattle.sky_params.proofs.Naming.{HasByte, TopNamed}
 
 none_is : {A : Type 0} {p : A} → Some p ≡ None → ⊥
 none_is e = cc
@@ -82,11 +83,19 @@ no_param xs names x u i =
     both_are (is_one_of x names) (not (is_one_of x xs)) (sym (uses_has x xs names) ∙ u) (λ a b. both (not (is_one_of x xs)) b (ap not (in_one_of x xs i)))
 
 -- ---- functions
+
+numbered : (n : ℕ) → number_name n ≡ [] → ⊥
+numbered n e = cc
+
+has_name : (x : List ℕ) → HasByte x → x ≡ [] → ⊥
+has_name [] h e = h
+has_name (b ∷ x) h e = cc
+
 mutual
   exp_orderly : (n : ℕ) (x : Exp) → same x ≡ None → Each Orderly (made n x)
   exp_orderly n (Exp.literal v p) e0 = tt
   exp_orderly n (Exp.name x p) e0 = tt
-  exp_orderly n (Exp.func p xs b) e0 = neither (same_params [] xs) (stms_same b) e0 (λ e1 e2. (record { apart = (params_apart [] xs e1).0; captured = no_param (param_names xs) (stms_names b) }, stms_orderly (n + 1) b e2))
+  exp_orderly n (Exp.func p xs b) e0 = neither (same_params [] xs) (stms_same b) e0 (λ e1 e2. (record { named = numbered n; apart = (params_apart [] xs e1).0; captured = no_param (param_names xs) (stms_names b) }, stms_orderly (n + 1) b e2))
   exp_orderly n (Exp.parens e) e0 = exp_orderly n e e0
   exp_orderly n (Exp.parts o p es) e0 = exps_orderly n es e0
   exp_orderly n (Exp.chain e ls) e0 = neither (same e) (links_same ls) e0 (λ e1 e2. each_both Orderly (made n e) (links_made (n + count e) ls) (exp_orderly n e e1) (links_orderly (n + count e) ls e2))
@@ -140,12 +149,12 @@ mutual
 nothing_captured : (x : List ℕ) → is_one_of x [] ≡ true → ⊥
 nothing_captured x e = both false e refl
 
-defs_orderly : (n : ℕ) (seen : List (List ℕ)) (ts : List Top) → same_names seen ts ≡ None → Each Orderly (defs_of n ts)
-defs_orderly n seen [] e = tt
-defs_orderly n seen (Top.fun f ∷ ts) e =
-    neither (at_twice (is_one_of f.name seen) f.place) (first_of (same_params [] f.params) (first_of (stms_same f.body) (same_names (seen ++ f.name ∷ []) ts))) e (λ a r. neither (same_params [] f.params) (first_of (stms_same f.body) (same_names (seen ++ f.name ∷ []) ts)) r (λ s q. neither (stms_same f.body) (same_names (seen ++ f.name ∷ []) ts) q (λ b t. (record { apart = (params_apart [] f.params s).0; captured = λ x u i. nothing_captured x u }, defs_orderly (n + stms_count f.body) (seen ++ f.name ∷ []) ts t))))
-defs_orderly n seen (Top.stmt s ∷ ts) e =
-    neither (stm_same s) (same_names seen ts) e (λ a b. defs_orderly (n + stm_count s) seen ts b)
+defs_orderly : (n : ℕ) (seen : List (List ℕ)) (ts : List Top) → Each TopNamed ts → same_names seen ts ≡ None → Each Orderly (defs_of n ts)
+defs_orderly n seen [] ns e = tt
+defs_orderly n seen (Top.fun f ∷ ts) ns e =
+    neither (at_twice (is_one_of f.name seen) f.place) (first_of (same_params [] f.params) (first_of (stms_same f.body) (same_names (seen ++ f.name ∷ []) ts))) e (λ a r. neither (same_params [] f.params) (first_of (stms_same f.body) (same_names (seen ++ f.name ∷ []) ts)) r (λ s q. neither (stms_same f.body) (same_names (seen ++ f.name ∷ []) ts) q (λ b t. (record { named = has_name f.name ns.0; apart = (params_apart [] f.params s).0; captured = λ x u i. nothing_captured x u }, defs_orderly (n + stms_count f.body) (seen ++ f.name ∷ []) ts ns.1 t))))
+defs_orderly n seen (Top.stmt s ∷ ts) ns e =
+    neither (stm_same s) (same_names seen ts) e (λ a b. defs_orderly (n + stm_count s) seen ts ns.1 b)
 
 all_orderly : (n : ℕ) (seen : List (List ℕ)) (ts : List Top) → same_names seen ts ≡ None → Each Orderly (made_of n ts)
 all_orderly n seen [] e = tt
@@ -154,5 +163,5 @@ all_orderly n seen (Top.fun f ∷ ts) e =
 all_orderly n seen (Top.stmt s ∷ ts) e =
     neither (stm_same s) (same_names seen ts) e (λ a b. each_both Orderly (stm_made n s) (made_of (n + stm_count s) ts) (stm_orderly n s a) (all_orderly (n + stm_count s) seen ts b))
 
-pub script_orderly : (keys : List (List ℕ)) (tops : List Top) → same_names [] tops ≡ None → Each Orderly (script_of keys tops).funs
-script_orderly keys tops e = each_both Orderly (defs_of 0 tops) (made_of 0 tops) (defs_orderly 0 [] tops e) (all_orderly 0 [] tops e)
+pub script_orderly : (keys : List (List ℕ)) (tops : List Top) → Each TopNamed tops → same_names [] tops ≡ None → Each Orderly (script_of keys tops).funs
+script_orderly keys tops ns e = each_both Orderly (defs_of 0 tops) (made_of 0 tops) (defs_orderly 0 [] tops ns e) (all_orderly 0 [] tops e)

@@ -2,7 +2,7 @@
 
 ghost use Rattle.sky_params.specs.Orderly.{FunctionsAreOrderly};
 
-/// Each function of a script that is read has distinct parameters, and captures none of them.
+/// Each function of a script that is read has a name and distinct parameters, and captures none of these.
 pub fn functions_are_orderly()
     ensures orderly { FunctionsAreOrderly }
 {}

@@ -137,7 +137,7 @@ module _ (w : World (List ℕ)) (sound : SoundWorld w) where
 
     module _ (os : List (Object (List ℕ))) (waits : wait_in w.script h.forms ≡ Some h.wait) (objects : Each (SoundObject w.script) os) where
       answered : SoundEnd w.script (wait_end w h.wait os)
-      answered = wait_ends h.wait os (forms_asked w h.forms others h.wait back.0 waits) objects
+      answered = wait_ends h.wait os (forms_asked w (P w) (Q w) (V w) h.forms others h.wait back.0 waits) objects
 
       pub fits_answered : (g : Halt (List ℕ)) → first_halt (rest_of w others h os) ≡ Some g → FitsRun w.script (run_of_halt f (suc j) g)
       fits_answered g is = fits_again (wait_end w h.wait os) answered g is

@@ -1,6 +1,6 @@
 -- What is waited for is kept by the innermost form.
 use Rattle.std.proofs.Common.{◌≡◌, ℕ, List, [], ◌∷◌, Option, Some, None, subst}
-use Rattle.sky_base.specs.Val.{Desc, ref}
+use Rattle.sky_base.specs.Val.{Val, Pairs, Desc, ref}
 use Rattle.sky_base.specs.Tree.{SignAt}
 use Rattle.sky_base.specs.Res.{Entry, parens_in, part_at, chain_first, chain_more, logic_at, prefix_part, star_wait, postfix_first, index_at, arg_at, call_open, exec_wait, set_part, add_part, put_index, put_value, return_part, just_part, arm_test, while_test, while_body, repeat_body, repeat_test, for_list, for_body, block_at, node_of, kept_of, Wait, one_of, all_of}
 use Rattle.sky_base.specs.Eval.{World, inside}
@@ -10,16 +10,16 @@ use Rattle.sky_law.specs.Tasks.{Each}
 use Rattle.sky_law.proofs.FineLaw.{FormsOk}
 use Rattle.sky_waits.specs.Waits.{star_at, waits_for, wait_in}
 use Rattle.sky_refits.specs.Sounds.{asked}
-use Rattle.sky_refits.proofs.Soundly.{P, Q, V}
 
-module _ (w : World (List ℕ)) where
-  star_asked : (o : Option SignAt) (d : Desc (List ℕ)) (q : Wait (List ℕ)) → star_at o d ≡ Some q → P w (ref d) → P w (asked q)
+-- P is of values, Q of descriptions and V of variables
+module _ (w : World (List ℕ)) (P : Val (List ℕ) → Type 0) (Q : Desc (List ℕ) → Type 0) (V : Pairs (List ℕ) → Type 0) where
+  star_asked : (o : Option SignAt) (d : Desc (List ℕ)) (q : Wait (List ℕ)) → star_at o d ≡ Some q → P (ref d) → P (asked q)
   star_asked None d q e h = absurd cc
-  star_asked (Some s) d q e h = let same : one_of s.place d ≡ q = cc in subst (λ x. P w (asked x)) same h
+  star_asked (Some s) d q e h = let same : one_of s.place d ≡ q = cc in subst (λ x. P (asked x)) same h
 
-  form_asked : (t : Option Node) (en : Entry (List ℕ)) (q : Wait (List ℕ)) → waits_for t en ≡ Some q → Each (P w) (kept_of en) → P w (asked q)
+  form_asked : (t : Option Node) (en : Entry (List ℕ)) (q : Wait (List ℕ)) → waits_for t en ≡ Some q → Each P (kept_of en) → P (asked q)
   form_asked t (star_wait n k d ss) q e h = star_asked _ d q e h.0
-  form_asked t (exec_wait n ds) q e h = let same : all_of ds ≡ q = cc in subst (λ x. P w (asked x)) same h.0
+  form_asked t (exec_wait n ds) q e h = let same : all_of ds ≡ q = cc in subst (λ x. P (asked x)) same h.0
   form_asked t (parens_in n) q e h = absurd cc
   form_asked t (part_at n k m o p vs es) q e h = absurd cc
   form_asked t (chain_first n m ls) q e h = absurd cc
@@ -45,7 +45,7 @@ module _ (w : World (List ℕ)) where
   form_asked t (for_body n m i p x vs b) q e h = absurd cc
   form_asked t (block_at n k m b) q e h = absurd cc
 
-  pub forms_asked : (fr : List (Entry (List ℕ))) (d : ℕ) (q : Wait (List ℕ)) → FormsOk w (P w) (Q w) (V w) d fr → wait_in w.script fr ≡ Some q → P w (asked q)
+  pub forms_asked : (fr : List (Entry (List ℕ))) (d : ℕ) (q : Wait (List ℕ)) → FormsOk w P Q V d fr → wait_in w.script fr ≡ Some q → P (asked q)
   forms_asked [] d q h e = absurd cc
   forms_asked (en ∷ []) d q h e = form_asked (node_at w.script (node_of en)) en q e h.0.0
   forms_asked (en ∷ en' ∷ fr) d q h e = forms_asked (en' ∷ fr) (inside w en d) q h.1 e

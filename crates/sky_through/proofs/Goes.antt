@@ -1,5 +1,5 @@
 -- Going through the waits whose objects are found is going on so, where what is found is true.
-use Rattle.std.proofs.Common.{◌≡◌, ◌≢◌, ◌≤◌, ◌<◌, ◌+◌, ◌++◌, ℕ, zero, suc, List, [], ◌∷◌, map, true, Option, Some, None, is_some, Bool, false, nat_lt, ltb-true, ltb-false, inl, inr, refl, sym, ap, ◌∙◌, subst, arith, append_assoc, append-nil}
+use Rattle.std.proofs.Common.{◌≡◌, ◌≢◌, ◌≤◌, ◌<◌, ◌+◌, ◌++◌, ℕ, suc, List, [], ◌∷◌, map, true, Option, Some, None, is_some, Bool, false, nat_lt, ltb-true, ltb-false, inl, inr, refl, sym, ap, ◌∙◌, subst, arith, append_assoc, append-nil}
 use Rattle.std.proofs.lemmas.List.{map-append}
 use Rattle.sky_base.specs.Val as v
 use Rattle.sky_base.specs.Val.{distinct, same_text}
@@ -8,14 +8,12 @@ use Rattle.sky_base.specs.Tree.{Script}
 use Rattle.sky_base.specs.Res.{Object}
 use Rattle.sky_base.specs.Read.{see_all, joined}
 use Rattle.sky_base.specs.ObjectView.{object_view}
-use Rattle.sky_base.specs.See.{Desc, Obj, Job, Around, Answered, Means, see, job_answer}
+use Rattle.sky_base.specs.See.{Desc, Obj, Job, Around, Answered, see}
 use Rattle.sky_base.specs.Needed.{Task, WaitOf, wait_at}
 use Rattle.sky_law.specs.Lower.{low_obj, low_ref}
-use Rattle.sky_law.specs.NamesLaws.{no_name, NoClash, ReadsAlike}
-use Rattle.sky_law.specs.Tasks.{In, Each, Ends, MadeBetween, MadeAfter, NextWait, NextEnd, ended, is_answer, made_between, made_after}
-use Rattle.sky_law.proofs.Lists.{some_is}
+use Rattle.sky_law.specs.NamesLaws.{no_name, ReadsAlike}
+use Rattle.sky_law.specs.Tasks.{In, Each, Ends, MadeBetween, MadeAfter, NextEnd, ended, is_answer, made_between, made_after}
 use Rattle.sky_law.proofs.MoreFuel.{seen_stays, ended_stays_to}
-use Rattle.sky_law.proofs.SeenLaw.{wait_one}
 use Rattle.sky_law.proofs.TaskMade.{between_one, after_one}
 use Rattle.sky_law.proofs.TaskOutputs.{in_each, in_distinct, distinct_in}
 use Rattle.sky_rows.specs.Data.{data_of}
@@ -28,7 +26,7 @@ use Rattle.sky_waves.specs.Seen.{WritesAlike}
 use Rattle.sky_shown.specs.Shows.{shown_view}
 use Rattle.sky_moves.specs.Moves.{SeenAs, WaitsNoMore, Answers, EndsAs, ShowsAs, StepsTo}
 use Rattle.sky_moves.proofs.Making.{between_two, after_between, after_last, wait_to, all_to}
-use Rattle.sky_onward.specs.Steps.{Spawned, stop_of, Resumed}
+use Rattle.sky_onward.specs.Steps.{Spawned, stop_of}
 use Rattle.sky_onward.specs.declared.step.Step.{Step}
 use Rattle.sky_through.specs.Through.{AreFound, Lacks, StopsAt, Through, last, more}
 use Rattle.sky_through.specs.Went.{IsFound, Truly, TrulyFrom, GrewBy, WentOn, GoesThrough}

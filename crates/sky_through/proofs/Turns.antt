@@ -1,23 +1,22 @@
 -- Turns, one after the other.
-use Rattle.std.proofs.Common.{◌≡◌, ◌≤◌, ◌<◌, ◌+◌, ◌-◌, ◌++◌, ℕ, suc, List, [], ◌∷◌, map, Bool, true, false, Option, Some, None, is_some, refl, sym, ap, ◌∙◌, subst, arith, append_assoc, append-nil, Result, Ok, Err, IfOk, inl, inr}
+use Rattle.std.proofs.Common.{◌≡◌, ◌<◌, ◌+◌, ◌++◌, ℕ, suc, List, [], ◌∷◌, map, Bool, true, false, Option, Some, None, is_some, refl, sym, ap, ◌∙◌, subst, arith, append_assoc, append-nil, Result, Ok, Err, IfOk, inr}
 use Rattle.std.proofs.lemmas.List.{map-append}
-use Rattle.sky_base.specs.Val.{Desc, known, same_text}
+use Rattle.sky_base.specs.Val.{Desc}
 use Rattle.sky_base.specs.Tree.{Script}
 use Rattle.sky_base.specs.Res.{Object, visits}
-use Rattle.sky_base.specs.Names.{known_of}
 use Rattle.sky_base.specs.ObjectView.{object_view}
 use Rattle.sky_base.specs.declared.object.Object as rust
-use Rattle.sky_law.specs.Sound.{SoundDesc, SoundObject}
-use Rattle.sky_law.specs.Tasks.{In, Each}
+use Rattle.sky_law.specs.Sound.{SoundDesc}
 use Rattle.sky_law.proofs.Lists.{each_both}
 use Rattle.sky_state.specs.Fits.{Fits}
 use Rattle.sky_state.specs.Stand.{Stand}
 use Rattle.sky_resume.specs.Comes.{with_name}
-use Rattle.sky_onward.specs.Exactly.{gone_of}
+use Rattle.sky_onward.specs.Exactly.{Exactly, gone_of}
 use Rattle.sky_onward.specs.Onward.{AnswersSound, GrewSoundly}
-use Rattle.sky_onward.specs.Steps.{Spawned, Resumed}
+use Rattle.sky_onward.specs.Steps.{Spawned}
 use Rattle.sky_onward.specs.declared.step.Step.{Step}
-use Rattle.sky_through.specs.Found.{AllFound, OneLacks, FoundIf, FindsSound, still_to_come}
+use Rattle.sky_onward.proofs.Rests.{has_rest}
+use Rattle.sky_through.specs.Found.{FoundIf, FindsSound, SameKind, still_to_come}
 
 -- ---- what is found
 
@@ -75,3 +74,31 @@ falls sc old new h e = omega (arith, gone_few sc old h, e)
 pub ok_map : {X E : Type 0} {P Q : X → Type 0} (r : Result X E) → ((x : X) → P x → Q x) → IfOk r P → IfOk r Q
 ok_map (Ok x) g h = g x h
 ok_map (Err e) g h = tt
+
+-- ---- kinds of states
+
+pub kind_self : (s : Stand (List ℕ)) → SameKind s Step.Waits s
+kind_self (Stand.run r) = tt
+kind_self (Stand.show_at v w) = tt
+
+pub kind_both : (old mid new : Stand (List ℕ)) (s : Step) → SameKind old Step.Waits mid → SameKind mid s new → SameKind old s new
+kind_both (Stand.run r) (Stand.run q) new (Step.Ended o) h g = tt
+kind_both (Stand.run r) (Stand.run q) (Stand.run p) Step.Waits h g = tt
+kind_both (Stand.run r) (Stand.run q) (Stand.show_at u i) Step.Waits h g = absurd g
+kind_both (Stand.run r) (Stand.run q) new (Step.Shown a) h g = absurd g
+kind_both (Stand.run r) (Stand.show_at u i) new s h g = absurd h
+kind_both (Stand.show_at v w) (Stand.run q) new s h g = absurd h
+kind_both (Stand.show_at v w) (Stand.show_at u i) new (Step.Ended o) h g = absurd g
+kind_both (Stand.show_at v w) (Stand.show_at u i) (Stand.run p) Step.Waits h g = absurd g
+kind_both (Stand.show_at v w) (Stand.show_at u i) (Stand.show_at x j) Step.Waits h g = tt
+kind_both (Stand.show_at v w) (Stand.show_at u i) new (Step.Shown a) h g = tt
+
+pub kind_of : (digest : List ℕ → List ℕ) (sc : Script) (os : List (Object (List ℕ))) (old new : Stand (List ℕ)) (s : Step) → Fits sc old → Exactly digest sc os old new s → SameKind old s new
+kind_of digest sc os (Stand.run r) new (Step.Ended o) fits e = tt
+kind_of digest sc os (Stand.run r) new Step.Waits fits e =
+    let rest = has_rest digest sc r os fits in
+    subst (SameKind (Stand.run r) Step.Waits) (sym (e rest.0 rest.1 rest.2).2) tt
+kind_of digest sc os (Stand.run r) new (Step.Shown a) fits e = absurd e
+kind_of digest sc os (Stand.show_at v w) new (Step.Ended o) fits e = absurd e
+kind_of digest sc os (Stand.show_at v w) new Step.Waits fits (u, next, is) = subst (SameKind (Stand.show_at v w) Step.Waits) (sym is) tt
+kind_of digest sc os (Stand.show_at v w) new (Step.Shown a) fits e = tt

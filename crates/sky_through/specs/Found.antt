@@ -1,13 +1,14 @@
 -- What is found of what a state waits for, and one turn of going on.
-use Rattle.std.specs.Prelude.{◌≡◌, ◌-◌, ◌+◌, ℕ, List, Bool, true, false, Option, Some, None, IsSome}
+use Rattle.std.specs.Prelude.{◌≡◌, ◌-◌, ◌+◌, ℕ, List, Bool, true, false, Option, Some, None, IsSome, ◌⊎◌}
 use Rattle.sky_base.specs.Val.{Desc, same_text}
 use Rattle.sky_base.specs.Tree.{Script}
 use Rattle.sky_base.specs.Res.{Object, visits}
 use Rattle.sky_law.specs.Sound.{SoundObject}
 use Rattle.sky_law.specs.Tasks.{In, Each}
-use Rattle.sky_state.specs.Pending.{pending_in}
+use Rattle.sky_state.specs.Pending.{all_refs, pending_in}
 use Rattle.sky_state.specs.Stand.{Stand}
 use Rattle.sky_onward.specs.Exactly.{gone_of}
+use Rattle.sky_onward.specs.Knows.{object_refs, CameWith, KnowsNames}
 use Rattle.sky_onward.specs.Steps.{Spawned, Resumed}
 use Rattle.sky_onward.specs.declared.step.Step.{Step}
 use Rattle.sky_through.specs.Through.{AreFound, StopsAt}
@@ -30,6 +31,10 @@ module _ (finds : Desc (List ℕ) → Option (Object (List ℕ))) where
   abbrev pub HasAll : Stand (List ℕ) → Type 0
   HasAll s = AllFound (pending_in same_text s)
 
+  -- the state had this reference, or an object that is found has it
+  abbrev pub CameFrom : Stand (List ℕ) → Desc (List ℕ) → Type 0
+  CameFrom old d = In d (all_refs old) ⊎ ((e : Desc (List ℕ)) × (o : Object (List ℕ)) × (finds e ≡ Some o) × In d (object_refs o))
+
   -- what is found is sound for the script
   abbrev pub FindsSound : Script → Type 0
   FindsSound sc = (d : Desc (List ℕ)) (o : Object (List ℕ)) → finds d ≡ Some o → SoundObject sc o
@@ -38,8 +43,23 @@ module _ (finds : Desc (List ℕ) → Option (Object (List ℕ))) where
   abbrev pub Turns : (digest : List ℕ → List ℕ) → Script → Option Step → (old new : Stand (List ℕ)) → (before after : Spawned) → Type 0
   Turns digest sc (Some s) old new before after =
       (os : List (Object (List ℕ))) × AreFound finds old os × Resumed digest sc old new os s before after × StopsAt finds s new
+      × KnowsNames digest (CameWith old os) s new before after
   Turns digest sc None old new before after =
       (os : List (Object (List ℕ))) × AreFound finds old os × Resumed digest sc old new os Step.Waits before after × HasAll new
+      × KnowsNames digest (CameWith old os) Step.Waits new before after
+
+-- the state of a call stays one, and a call doesn't end with an answer; the root task's stays one, and it doesn't end with an object
+abbrev pub SameKind : (old : Stand (List ℕ)) → Step → (new : Stand (List ℕ)) → Type 0
+SameKind (Stand.run r) (Step.Ended o) new = Unit {0}
+SameKind (Stand.run r) Step.Waits (Stand.run q) = Unit {0}
+SameKind (Stand.show_at v w) (Step.Shown s) new = Unit {0}
+SameKind (Stand.show_at v w) Step.Waits (Stand.show_at u i) = Unit {0}
+SameKind _ _ _ = ⊥
+
+-- the step of a turn; without one it went on from a wait
+abbrev pub step_or : Option Step → Step
+step_or None = Step.Waits
+step_or (Some s) = s
 
 -- as many waits or waves may still come
 abbrev pub still_to_come : Stand (List ℕ) → ℕ

@@ -1,5 +1,5 @@
 -- What going on so means for the task.
-use Rattle.std.specs.Prelude.{◌≡◌, ◌≤◌, ◌<◌, ℕ, List, ◌++◌, map, Option, Some}
+use Rattle.std.specs.Prelude.{◌≡◌, ◌≤◌, ℕ, List, ◌++◌, map, Option, Some}
 use Rattle.sky_base.specs.Val as v
 use Rattle.sky_base.specs.Name.{digested, low_desc}
 use Rattle.sky_base.specs.Tree.{Script}

@@ -6,8 +6,9 @@ ghost use Rattle.sky_base.specs.ObjectView.{object_view};
 ghost use Rattle.sky_state.specs.Fits.{Fits};
 ghost use Rattle.sky_state.specs.StateView.{stand_of, spawned_of};
 ghost use Rattle.sky_onward.specs.Exactly.{FitsAfter, gone_of};
+ghost use Rattle.sky_onward.specs.Knows.{KnowsNames};
 ghost use Rattle.sky_onward.specs.Onward.{IsRead, GrewSoundly};
-ghost use Rattle.sky_through.specs.Found.{AllFound, FoundIf, HasAll, FindsSound, Turns};
+ghost use Rattle.sky_through.specs.Found.{AllFound, CameFrom, FoundIf, HasAll, FindsSound, SameKind, Turns, step_or};
 ghost use Rattle.sky_through.specs.Through.{Through};
 ghost use Rattle.sky_through.specs.Went.{GoesThrough};
 
@@ -43,7 +44,9 @@ pub fn run_through<'a, 'b, F: Finds, N: Namer>(
     ensures through { IfOk result (λ r. IfOk r (λ s. Through (F.finds finder.old) (N.digest namer.now) script.now.code (stand_of state.old) (stand_of state.new) s (spawned_of state.old) (spawned_of state.new))) }
     ensures goes { IfOk result (λ r. IfOk r (λ s. GoesThrough (N.digest namer.now) script.now.code (F.finds finder.old) (stand_of state.old) (stand_of state.new) s (spawned_of state.old) (spawned_of state.new))) }
     ensures fits { IfOk result (λ r. IfOk r (λ s. FitsAfter script.now.code (stand_of state.new) s)) }
+    ensures kind { IfOk result (λ r. IfOk r (λ s. SameKind (stand_of state.old) s (stand_of state.new))) }
     ensures made { IfOk result (λ r. IfOk r (λ s. GrewSoundly (N.digest namer.now) script.now.code (spawned_of state.old) (spawned_of state.new))) }
+    ensures known { IfOk result (λ r. IfOk r (λ s. KnowsNames (N.digest namer.now) (CameFrom (F.finds finder.old) (stand_of state.old)) s (stand_of state.new) (spawned_of state.old) (spawned_of state.new))) }
     ensures finder { F.finds finder.new ≡ F.finds finder.old }
     ensures ready { F.ready finder.new }
     ensures refusal { IfOk result (λ r. IfErr r (F.refuses finder.new)) }
@@ -68,7 +71,9 @@ fn loop_through<'a, 'b, F: Finds, N: Namer>(
     requires finder { F.ready finder.old }
     ensures through { IfOk result (λ r. IfOk r (λ s. Through (F.finds finder.old) (N.digest namer.now) script.now.code (stand_of state.old) (stand_of state.new) s (spawned_of state.old) (spawned_of state.new))) }
     ensures fits { IfOk result (λ r. IfOk r (λ s. FitsAfter script.now.code (stand_of state.new) s)) }
+    ensures kind { IfOk result (λ r. IfOk r (λ s. SameKind (stand_of state.old) s (stand_of state.new))) }
     ensures made { IfOk result (λ r. IfOk r (λ s. GrewSoundly (N.digest namer.now) script.now.code (spawned_of state.old) (spawned_of state.new))) }
+    ensures known { IfOk result (λ r. IfOk r (λ s. KnowsNames (N.digest namer.now) (CameFrom (F.finds finder.old) (stand_of state.old)) s (stand_of state.new) (spawned_of state.old) (spawned_of state.new))) }
     ensures finder { F.finds finder.new ≡ F.finds finder.old }
     ensures ready { F.ready finder.new }
     ensures refusal { IfOk result (λ r. IfErr r (F.refuses finder.new)) }
@@ -98,6 +103,7 @@ fn turn<'a, 'b, F: Finds, N: Namer>(
     requires finder { F.ready finder.old }
     ensures turns { IfOk result (λ r. IfOk r (λ o. Turns (F.finds finder.old) (N.digest namer.now) script.now.code o (stand_of state.old) (stand_of state.new) (spawned_of state.old) (spawned_of state.new))) }
     ensures fits { IfOk result (λ r. IfOk r (λ o. MatchOption o (Fits script.now.code (stand_of state.new)) (FitsAfter script.now.code (stand_of state.new)))) }
+    ensures kind { IfOk result (λ r. IfOk r (λ o. SameKind (stand_of state.old) (step_or o) (stand_of state.new))) }
     ensures falls { IfOk result (λ r. IfOk r (λ o. MatchOption o (gone_of (stand_of state.new) ≡ suc (gone_of (stand_of state.old))) (λ s. Unit {0}))) }
     ensures made { IfOk result (λ r. IfOk r (λ o. GrewSoundly (N.digest namer.now) script.now.code (spawned_of state.old) (spawned_of state.new))) }
     ensures finder { F.finds finder.new ≡ F.finds finder.old }

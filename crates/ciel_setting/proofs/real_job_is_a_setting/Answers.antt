@@ -3,6 +3,7 @@ use Rattle.sky_law.specs.NamesLaws.{no_name}
 use Rattle.ciel_meant.proofs.KnownLaw.{real_knows}
 use Rattle.ciel_meant.proofs.RealLaw.{real_laws}
 use Rattle.ciel_reports.proofs.Filled.{real_exact}
+use Rattle.ciel_setting.proofs.Binds.{all_bind}
 use Rattle.ciel_setting.proofs.Telling.{tells}
 use Rattle.ciel_setting.proofs.real_job_is_a_setting.Goals as goal
 
@@ -13,6 +14,6 @@ returns g c =
         laws = real_laws job around (name no_name (digested digest)) mark frozen;
         knows = real_knows job around (name no_name (digested digest)) mark frozen plain;
         exact = real_exact (digested digest) job around mark frozen;
-        tells = tells digest job around mark frozen at block object state reads all;
+        tells = tells digest job around mark frozen at block object state reads (all_bind job.script.funs all);
       };
     }

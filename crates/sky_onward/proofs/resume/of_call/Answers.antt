@@ -3,7 +3,9 @@ use Rattle.sky_base.specs.ObjectView.{object_view}
 use Rattle.sky_state.specs.Stand.{Stand}
 use Rattle.sky_resume.specs.Comes.{run_of}
 use Rattle.sky_onward.specs.Exactly.{Exactly, FitsAfter, OneFurther}
+use Rattle.sky_onward.specs.Knows.{CameWith, KnowsNames}
 use Rattle.sky_onward.specs.Steps.{Resumed}
+use Rattle.sky_onward.proofs.Knows.{call_knows}
 use Rattle.sky_onward.proofs.Resumes.{call_exactly, call_further, call_fits}
 use Rattle.sky_onward.proofs.Steps.{call_resumed}
 use Rattle.sky_onward.proofs.resume.of_call.Goals as goal
@@ -30,3 +32,9 @@ returns-clause-further g c =
     let digest = g.N.Namer.digest c.args.namer.now in
     let sc = c.args.script.now.code in
     subst (λ s. OneFurther (Stand.run (run_of c.args.run.now)) (Stand.run (run_of c.advance.new.run)) s) (sym c.step.ensures) (call_further digest sc (run_of c.args.run.now) (run_of c.advance.new.run) c.args.answers.now c.in_ok-came.came c.requires.fits c.in_ok-came.ensures.comes)
+
+pub returns-clause-known : goal.returns-clause-known
+returns-clause-known g c =
+    let digest = g.N.Namer.digest c.args.namer.now in
+    let sc = c.args.script.now.code in
+    subst (λ s. KnowsNames digest (CameWith (Stand.run (run_of c.args.run.now)) (map object_view c.args.answers.now)) s (Stand.run (run_of c.advance.new.run)) c.args.run.now.spawned c.advance.new.run.spawned) (sym c.step.ensures) (call_knows digest sc (run_of c.args.run.now) (run_of c.advance.new.run) c.args.answers.now c.in_ok-came.came c.args.run.now.spawned c.advance.new.run.spawned c.requires.fits c.in_ok-came.ensures.comes c.in_ok-came.ensures.made)

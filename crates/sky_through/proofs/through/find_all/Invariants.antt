@@ -1,4 +1,4 @@
-use Rattle.std.proofs.Common.{◌≡◌, ◌++◌, List, ℕ, map, Some, length}
+use Rattle.std.proofs.Common.{◌≡◌, ◌++◌, map, Some, length}
 use Rattle.sky_base.specs.Names.{known_of}
 use Rattle.sky_base.specs.ObjectView.{object_view}
 use Rattle.sky_through.specs.Found.{AllFound}

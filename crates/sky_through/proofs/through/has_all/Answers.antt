@@ -1,4 +1,4 @@
-use Rattle.std.proofs.Common.{◌≡◌, false, sym, ◌∙◌, subst, inl, refl}
+use Rattle.std.proofs.Common.{false, sym, ◌∙◌, subst, inl, refl}
 use Rattle.sky_base.specs.Val.{known}
 use Rattle.sky_base.specs.Names.{known_of}
 use Rattle.sky_through.specs.Found.{OneLacks}

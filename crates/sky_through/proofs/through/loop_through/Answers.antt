@@ -1,25 +1,47 @@
-use Rattle.std.proofs.Common.{Some, None, ◌∙◌, subst, sym}
+use Rattle.std.proofs.Common.{Some, None, refl, ◌∙◌, subst}
 use Rattle.sky_state.specs.StateView.{stand_of, spawned_of}
+use Rattle.sky_onward.specs.declared.step.Step.{Step}
 use Rattle.sky_through.specs.Through.{more, last}
 use Rattle.sky_through.specs.Found.{Turns}
-use Rattle.sky_through.proofs.Turns.{grew_both}
+use Rattle.sky_through.proofs.Knowing.{known_both, known_self}
+use Rattle.sky_through.proofs.Turns.{grew_none, grew_both, kind_self, kind_both}
 use Rattle.sky_through.proofs.through.loop_through.Goals as goal
+
+pub turns-init : goal.turns-init
+turns-init g c =
+    let digest = g.N.Namer.digest c.args.namer.now in
+    let finds = g.F.Finds.finds c.args.finder.now in
+    let s = c.args.state.now in
+    record {
+      fits = c.requires.fits;
+      found = c.requires.found;
+      finder = refl;
+      ready = c.requires.finder;
+      kind = kind_self (stand_of s);
+      through = λ new t after th. th;
+      known = known_self finds digest (stand_of s) (spawned_of s);
+      made = grew_none digest c.args.script.now.code (spawned_of s);
+    }
 
 pub turns-preserved : goal.turns-preserved
 turns-preserved g c =
     let digest = g.N.Namer.digest c.args.namer.now in
+    let finds = g.F.Finds.finds c.args.finder.now in
     let sc = c.args.script.now.code in
     let l = c.turns in
     let went = rw c.in-Ok-None.field-0-is at (rw c.in-Ok-None.is at c.in_ok-turn.ensures.turns) in
     let turned = subst (λ f. Turns f digest sc None (stand_of l.state) (stand_of c.turn.new.state) (spawned_of l.state) (spawned_of c.turn.new.state)) l.invariant.finder went in
     let fits = rw c.in-Ok-None.field-0-is at (rw c.in-Ok-None.is at c.in_ok-turn.ensures.fits) in
     let made = rw c.in-Ok-None.is at c.in_ok-turn.ensures.made in
+    let kind = rw c.in-Ok-None.field-0-is at (rw c.in-Ok-None.is at c.in_ok-turn.ensures.kind) in
     record {
       fits = fits;
       found = turned.3;
       finder = c.in_ok-turn.ensures.finder ∙ l.invariant.finder;
       ready = c.in_ok-turn.ensures.ready;
+      kind = kind_both (stand_of c.args.state.now) (stand_of l.state) (stand_of c.turn.new.state) Step.Waits l.invariant.kind kind;
       through = λ new s after th. l.invariant.through new s after (more turned.0 turned.1 turned.2 th);
+      known = known_both finds digest (stand_of c.args.state.now) (stand_of l.state) (stand_of c.turn.new.state) Step.Waits (spawned_of c.args.state.now) (spawned_of l.state) (spawned_of c.turn.new.state) turned.0 turned.1 l.invariant.known turned.4;
       made = grew_both digest sc (spawned_of c.args.state.now) (spawned_of l.state) (spawned_of c.turn.new.state) l.invariant.made made;
     }
 
@@ -37,3 +59,19 @@ pub returns-in-Ok-Some-clause-made : goal.returns-in-Ok-Some-clause-made
 returns-in-Ok-Some-clause-made g c =
     let made = rw c.in-Ok-Some.is at c.in_ok-turn.ensures.made in
     grew_both (g.N.Namer.digest c.args.namer.now) c.args.script.now.code (spawned_of c.args.state.now) (spawned_of c.turns.state) (spawned_of c.turn.new.state) c.turns.invariant.made made
+
+pub returns-in-Ok-Some-clause-kind : goal.returns-in-Ok-Some-clause-kind
+returns-in-Ok-Some-clause-kind g c =
+    let kind = rw c.in-Ok-Some.field-0-is at (rw c.in-Ok-Some.is at c.in_ok-turn.ensures.kind) in
+    kind_both (stand_of c.args.state.now) (stand_of c.turns.state) (stand_of c.turn.new.state) c.in-Ok-Some.step c.turns.invariant.kind kind
+
+pub returns-in-Ok-Some-clause-known : goal.returns-in-Ok-Some-clause-known
+returns-in-Ok-Some-clause-known g c =
+    let digest = g.N.Namer.digest c.args.namer.now in
+    let finds = g.F.Finds.finds c.args.finder.now in
+    let sc = c.args.script.now.code in
+    let l = c.turns in
+    let step = c.in-Ok-Some.step in
+    let went = rw c.in-Ok-Some.field-0-is at (rw c.in-Ok-Some.is at c.in_ok-turn.ensures.turns) in
+    let turned = subst (λ f. Turns f digest sc (Some step) (stand_of l.state) (stand_of c.turn.new.state) (spawned_of l.state) (spawned_of c.turn.new.state)) l.invariant.finder went in
+    known_both finds digest (stand_of c.args.state.now) (stand_of l.state) (stand_of c.turn.new.state) step (spawned_of c.args.state.now) (spawned_of l.state) (spawned_of c.turn.new.state) turned.0 turned.1 l.invariant.known turned.4
