@@ -9,7 +9,7 @@ use Rattle.ciel_board.specs.Board as board
 use Rattle.ciel_board.specs.Moves.{accepted, closed, empty, lost_at, started, without}
 use Rattle.ciel_board.specs.Reports as r
 use Rattle.ciel_board.specs.Reports.{AllLearned, Copy, IsNamed, learned_all}
-use Rattle.ciel_board.specs.Sound.{CopyFits, Fits, OrderSound, OutputFits, Sound, StackFits}
+use Rattle.ciel_board.specs.Sound.{CopyFits, Fits, OrderSound, OutputFits, Sound}
 use Rattle.ciel_board.proofs.Learning.{grown}
 use Rattle.ciel_board.proofs.Saving.{same_waits}
 use Rattle.ciel_board.proofs.Sounding.{accepted_sound, lost_sound, opened_sound, order_in, sound_whole, started_sound}

@@ -1,5 +1,5 @@
 -- Lists of orders that are out, by what they stand for.
-use Rattle.std.proofs.Common.{◌≡◌, ℕ, List, [], ◌∷◌, Bool, true, false, cond, map, filter, not, nat_eq, refl, ap, ◌∙◌}
+use Rattle.std.proofs.Common.{◌≡◌, ℕ, List, [], ◌∷◌, Bool, true, false, cond, map, filter, not, nat_eq, refl, ap}
 use Rattle.ciel_board.specs.Board as board
 use Rattle.ciel_board.specs.Moves.{without}
 use Rattle.ciel_master.specs.Views.{kept_view}

@@ -1,5 +1,5 @@
 -- What a loop over a report does at each turn.
-use Rattle.std.proofs.Common.{◌≡◌, ℕ, List, [], ◌∷◌, Result, Ok, Err, map, refl, ap, sym, subst}
+use Rattle.std.proofs.Common.{◌≡◌, ℕ, List, [], ◌∷◌, Result, Ok, Err, refl, ap, sym, subst}
 use Rattle.std.specs.Result.{IfErr, IsErrAnd}
 use Rattle.sky_base.specs.declared.object.Named.{Named}
 use Rattle.ciel_board.specs.Moves.{with_copies, with_outputs}

@@ -1,4 +1,4 @@
-use Rattle.std.proofs.Common.{◌≡◌, ◌≤◌, ◌+◌, length, drop, suc}
+use Rattle.std.proofs.Common.{◌≡◌, ◌≤◌, ◌+◌, length, drop}
 use Rattle.std.specs.Option.{option_map}
 use Rattle.ciel_board.specs.Board.{key_number}
 use Rattle.ciel_master.proofs.bring.key_number.Given as goal

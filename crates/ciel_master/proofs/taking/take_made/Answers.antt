@@ -1,6 +1,5 @@
 use Rattle.std.proofs.Common.{map, subst, sym}
 use Rattle.ciel_board.specs.Reports.{Copy}
-use Rattle.ciel_journal.specs.Job.{Each}
 use Rattle.ciel_task.specs.Views.{P, copies_view, output_view}
 use Rattle.ciel_master.specs.Taking.{CopiesPlace}
 use Rattle.ciel_master.proofs.Steps.{can_beside}
