@@ -8,11 +8,11 @@ use Rattle.ciel_board.specs.Board.{Board, Order, board_graph, find_order, idle_o
 use Rattle.ciel_board.specs.Board as board
 use Rattle.ciel_board.specs.Moves.{accepted, closed, empty, lost_at, started, without}
 use Rattle.ciel_board.specs.Reports as r
-use Rattle.ciel_board.specs.Reports.{AllLearned, Copy, IsNamed, learned_all}
+use Rattle.ciel_board.specs.Reports.{Copy, IsNamed, learned_all}
 use Rattle.ciel_board.specs.Sound.{CopyFits, Fits, OrderSound, OutputFits, Sound}
 use Rattle.ciel_board.proofs.Learning.{grown}
 use Rattle.ciel_board.proofs.Saving.{same_waits}
-use Rattle.ciel_board.proofs.Sounding.{accepted_sound, lost_sound, opened_sound, order_in, sound_whole, started_sound}
+use Rattle.ciel_board.proofs.Sounding.{accepted_sound, closed_sound, lost_sound, opened_sound, order_in, sound_whole, started_sound}
 use Rattle.ciel_journal.specs.Entries as j
 use Rattle.ciel_journal.specs.Graph.{Runnable}
 use Rattle.ciel_journal.specs.Job.{Each, In}
@@ -31,7 +31,7 @@ use Rattle.ciel_task.specs.declared.report.End.{End}
 use Rattle.ciel_task.specs.declared.report.Made.{Made}
 use Rattle.ciel_want.specs.Waited.{Whole}
 use Rattle.ciel_master.specs.Seen.{Going, MasterSeen, MasterStands, board_of, most_descriptions, plan_view}
-use Rattle.ciel_master.specs.Taking.{CanTake, CopiesPlace, OutputsPlace, entry_for, is_last, table_after}
+use Rattle.ciel_master.specs.Taking.{CanTake, CopiesPlace, LearnedFor, OutputsPlace, entry_for, is_last, learned_for, table_after}
 use Rattle.ciel_master.specs.Views.{worker_of}
 use Rattle.ciel_master.specs.declared.entry.Entry.{Entry}
 use Rattle.ciel_master.specs.declared.orders.OrderOut.{OrderOut}
@@ -59,24 +59,39 @@ module _ (digest : List ℕ → List ℕ) (b : Board P) (g : Going digest b) whe
       record { sound = started_sound digest worker_of b g.sound x w r i; counted = omega (arith, long, counted); few = g.few }
 
   -- the same by the parts of the end
-  abbrev pub taken : board.OrderOut → List Named → r.End P → Board P
-  taken x spawned end =
-      record (closed b x (table_after x.task end (learned_all digest spawned b.table)) (entry_for x.number end)) { stopped = is_last x.task end }
+  abbrev pub taken : board.OrderOut → List Named → List Held → End → Board P
+  taken x spawned copied end =
+      record (closed b x (table_after x.task (how_view copied end) (learned_for digest end spawned b.table)) (entry_for x.number (how_view copied end))) { stopped = is_last x.task (how_view copied end) }
 
-  pub taken_is : (x : board.OrderOut) (spawned : List Named) (end : r.End P) → b.stopped ≡ false → taken x spawned end ≡ accepted digest b x spawned end
-  taken_is x spawned (r.made ms cs) e = refl
-  taken_is x spawned (r.saved s) e = ap (λ z. record (taken x spawned (r.saved s)) { stopped = z }) (sym e)
-  taken_is x spawned (r.missing name loss) e = ap (λ z. record (taken x spawned (r.missing name loss)) { stopped = z }) (sym e)
+  pub taken_is : (x : board.OrderOut) (spawned : List Named) (copied : List Held) (end : End) → b.stopped ≡ false → taken x spawned copied end ≡ accepted digest b x spawned (how_view copied end)
+  taken_is x spawned copied (End.Made ms) e = refl
+  taken_is x spawned copied (End.Saved p k refs holds mark) e =
+      ap (λ z. record (taken x spawned copied (End.Saved p k refs holds mark)) { stopped = z }) (sym e)
+  taken_is x spawned copied (End.Shown s) e = refl
+  taken_is x spawned copied (End.Missing name loss seen) e =
+      ap (λ z. record (taken x spawned copied (End.Missing name loss seen)) { stopped = z }) (sym e)
 
-  pub taken_going : (x : Order P) (k : ℕ) → find_order k b.orders ≡ Some x.out → (spawned : List Named) (end : r.End P) → Fits digest worker_of b x spawned end → AllLearned digest spawned b.table → b.stopped ≡ false → Going digest (taken x.out spawned end)
-  taken_going x k out spawned end fits all e =
-      let long = more_written b.journal (entry_for x.out.number end) in
-      let counted = g.counted in
-      record {
-        sound = subst (Sound digest worker_of) (sym (taken_is x.out spawned end e)) (accepted_sound digest worker_of b g.sound x k out spawned end fits all);
-        counted = omega (arith, long, counted);
-        few = g.few;
-      }
+  module _ (x : Order P) (k : ℕ) (out : find_order k b.orders ≡ Some x.out) (spawned : List Named) (copied : List Held) where
+    accepted_is_sound : (end : End) → Fits digest worker_of b x spawned (how_view copied end) → LearnedFor digest end spawned b.table → Sound digest worker_of (accepted digest b x.out spawned (how_view copied end))
+    accepted_is_sound (End.Made ms) fits all =
+        accepted_sound digest worker_of b g.sound x k out spawned (how_view copied (End.Made ms)) fits all
+    accepted_is_sound (End.Saved p n refs holds mark) fits all =
+        accepted_sound digest worker_of b g.sound x k out spawned (how_view copied (End.Saved p n refs holds mark)) fits all
+    accepted_is_sound (End.Shown s) fits all =
+        accepted_sound digest worker_of b g.sound x k out spawned (how_view copied (End.Shown s)) fits all
+    accepted_is_sound (End.Missing name loss seen) fits all =
+        let s = g.sound in
+        closed_sound digest worker_of b s (λ (q : board.OrderOut). not (nat_eq x.out.number q.number)) b.table (b.journal ++ j.Entry.Missed x.out.number name loss.number ∷ []) (b.closes + 1) b.stopped (λ n i. i) (record { rows = s.rows; shown = s.shown; saved = s.saved }) s.room refl (λ y i q. (q.here, q.last))
+
+    pub taken_going : (end : End) → Fits digest worker_of b x spawned (how_view copied end) → LearnedFor digest end spawned b.table → b.stopped ≡ false → Going digest (taken x.out spawned copied end)
+    taken_going end fits all e =
+        let long = more_written b.journal (entry_for x.out.number (how_view copied end)) in
+        let counted = g.counted in
+        record {
+          sound = subst (Sound digest worker_of) (sym (taken_is x.out spawned copied end e)) (accepted_is_sound end fits all);
+          counted = omega (arith, long, counted);
+          few = g.few;
+        }
 
 -- what a report places can be placed
 module _ (digest : List ℕ → List ℕ) (t : TableSeen P) (x : Order P) (h : Here t.gone x.out.worker) where
@@ -103,7 +118,7 @@ module _ (digest : List ℕ → List ℕ) (b : Board P) (s : Sound digest worker
       let g = grown digest spawned b.table in
       subst (AllByRecursion (λ (w : Wait P). w.j < n)) (sym (same_waits x.out.task b.table then g.shown g.saved)) (all_more (λ (w : Wait P). w.j ≤ x.out.from) (λ (w : Wait P). w.j < n) (λ w m. omega (arith, m, l)) (waits_of x.out.task b.table) is_sound.last)
 
-  pub can_take : (copied : List Held) (end : End) → Fits digest worker_of b x spawned (how_view copied end) → CanTake x.out.task then copied end
+  pub can_take : (copied : List Held) (end : End) → Fits digest worker_of b x spawned (how_view copied end) → CanTake x.out.task (learned_for digest end spawned b.table) copied end
   can_take copied (End.Made ms) f =
       (outputs_can digest then x is_here ms.items f.end.0, copies_can digest then x is_here copied f.end.1)
   can_take copied (End.Saved q n refs holds mark) f =
@@ -143,13 +158,13 @@ module _ {N : Type 0} (dig : N → (List ℕ → List ℕ)) (m : MasterSeen N) (
         subst (Going (dig n)) (sym so) (record { sound = lost_sound (dig n) worker_of b going.sound w; counted = omega (arith, long, counted); few = going.few })
 
   -- after a report
-  module _ (number : ℕ) (spawned : List Named) (copied : List Held) (end : End) (fits : (x : Order P) × (find_order number m.board.orders ≡ Some x.out) × Fits (dig m.namer) worker_of m.board x spawned (how_view copied end)) (o : board.OrderOut) (found : find_order number b.orders ≡ Some o) (k : N) (is_k : k ≡ n) (ns : List Named) (is_ns : ns ≡ spawned) (cs : List Held) (is_cs : cs ≡ copied) (t : TableSeen P) (is_t : t ≡ learned_all (dig k) ns b.table) where
+  module _ (number : ℕ) (spawned : List Named) (copied : List Held) (end : End) (fits : (x : Order P) × (find_order number m.board.orders ≡ Some x.out) × Fits (dig m.namer) worker_of m.board x spawned (how_view copied end)) (o : board.OrderOut) (found : find_order number b.orders ≡ Some o) (k : N) (is_k : k ≡ n) (ns : List Named) (is_ns : ns ≡ spawned) (cs : List Held) (is_cs : cs ≡ copied) (t : TableSeen P) (is_t : t ≡ learned_for (dig k) end ns b.table) where
     fits_now : (x : Order P) × (find_order number b.orders ≡ Some x.out) × Fits (dig n) worker_of b x spawned (how_view copied end)
     fits_now =
         subst (λ (z : MasterSeen N). (x : Order P) × (find_order number z.board.orders ≡ Some x.out) × Fits (dig z.namer) worker_of z.board x spawned (how_view copied end)) (sym e) fits
 
-    is_then : t ≡ learned_all (dig n) spawned b.table
-    is_then = is_t ∙ (ap (λ z. learned_all (dig z) ns b.table) is_k ∙ ap (λ z. learned_all (dig n) z b.table) is_ns)
+    is_then : t ≡ learned_for (dig n) end spawned b.table
+    is_then = is_t ∙ (ap (λ z. learned_for (dig z) end ns b.table) is_k ∙ ap (λ z. learned_for (dig n) end z b.table) is_ns)
 
     same_order : fits_now.0.out ≡ o
     same_order = some_same fits_now.0.out o (sym fits_now.1 ∙ found)
@@ -158,30 +173,30 @@ module _ {N : Type 0} (dig : N → (List ℕ → List ℕ)) (m : MasterSeen N) (
     takes_now =
         let x = fits_now.0 in
         let can = can_take (dig n) b going.sound x number fits_now.1 spawned copied end fits_now.2 in
-        subst (λ (z : board.OrderOut). CanTake z.task t cs end) same_order (subst (λ u. CanTake x.out.task u cs end) (sym is_then) (subst (λ ds. CanTake x.out.task (learned_all (dig n) spawned b.table) ds end) (sym is_cs) can))
+        subst (λ (z : board.OrderOut). CanTake z.task t cs end) same_order (subst (λ u. CanTake x.out.task u cs end) (sym is_then) (subst (λ ds. CanTake x.out.task (learned_for (dig n) end spawned b.table) ds end) (sym is_cs) can))
 
-    module _ (all : AllLearned (dig k) ns b.table) (u : TableSeen P) (os : List board.OrderOut) (js : List j.Entry) (last : Bool) (is_u : u ≡ table_after o.task (how_view cs end) t) (is_os : os ≡ without o.number b.orders) (is_js : js ≡ b.journal ++ entry_for o.number (how_view cs end) ∷ []) (ds : List Held) (is_ds : ds ≡ copied) (is_last_so : last ≡ is_last o.task (how_view ds end)) where
+    module _ (all : LearnedFor (dig k) end ns b.table) (u : TableSeen P) (os : List board.OrderOut) (js : List j.Entry) (last : Bool) (is_u : u ≡ table_after o.task (how_view cs end) t) (is_os : os ≡ without o.number b.orders) (is_js : js ≡ b.journal ++ entry_for o.number (how_view cs end) ∷ []) (ds : List Held) (is_ds : ds ≡ copied) (is_last_so : last ≡ is_last o.task (how_view ds end)) where
       abbrev now : Board P
       now = record b { table = u; orders = os; closes = b.closes + 1; journal = js; stopped = last }
 
-      now_is : now ≡ taken (dig n) b going o spawned (how_view copied end)
+      now_is : now ≡ taken (dig n) b going o spawned copied end
       now_is =
           let u_so = is_u ∙ (ap (λ z. table_after o.task (how_view z end) t) is_cs ∙ ap (table_after o.task (how_view copied end)) is_then) in
           let js_so = is_js ∙ ap (λ z. b.journal ++ entry_for o.number (how_view z end) ∷ []) is_cs in
           let last_so = is_last_so ∙ ap (λ z. is_last o.task (how_view z end)) is_ds in
           ap (λ z. record now { table = z }) u_so
-          ∙ (ap (λ z. record now { table = table_after o.task (how_view copied end) (learned_all (dig n) spawned b.table); orders = z }) is_os
-          ∙ (ap (λ z. record (taken (dig n) b going o spawned (how_view copied end)) { journal = z; stopped = last }) js_so
-          ∙ ap (λ z. record (taken (dig n) b going o spawned (how_view copied end)) { stopped = z }) last_so))
+          ∙ (ap (λ z. record now { table = table_after o.task (how_view copied end) (learned_for (dig n) end spawned b.table); orders = z }) is_os
+          ∙ (ap (λ z. record (taken (dig n) b going o spawned copied end) { journal = z; stopped = last }) js_so
+          ∙ ap (λ z. record (taken (dig n) b going o spawned copied end) { stopped = z }) last_so))
 
-      all_now : AllLearned (dig n) spawned b.table
-      all_now = subst (λ ms. AllLearned (dig n) ms b.table) is_ns (subst (λ z. AllLearned (dig z) ns b.table) is_k all)
+      all_now : LearnedFor (dig n) end spawned b.table
+      all_now = subst (λ ms. LearnedFor (dig n) end ms b.table) is_ns (subst (λ z. LearnedFor (dig z) end ns b.table) is_k all)
 
       pub going_accepted : Going (dig n) now
       going_accepted =
-          subst (Going (dig n)) (sym now_is) (subst (λ (z : board.OrderOut). Going (dig n) (taken (dig n) b going z spawned (how_view copied end))) same_order (taken_going (dig n) b going fits_now.0 number fits_now.1 spawned (how_view copied end) fits_now.2 all_now goes))
+          subst (Going (dig n)) (sym now_is) (subst (λ (z : board.OrderOut). Going (dig n) (taken (dig n) b going z spawned copied end)) same_order (taken_going (dig n) b going fits_now.0 number fits_now.1 spawned copied end fits_now.2 all_now goes))
 
       pub accepted_so : (x : board.OrderOut) × (find_order number m.board.orders ≡ Some x) × (record { namer = n; board = now } ≡ record m { board = accepted (dig m.namer) m.board x spawned (how_view copied end) })
       accepted_so =
-          let so = now_is ∙ taken_is (dig n) b going o spawned (how_view copied end) goes in
+          let so = now_is ∙ taken_is (dig n) b going o spawned copied end goes in
           (o, subst (λ (z : MasterSeen N). find_order number z.board.orders ≡ Some o) e found, subst (λ (z : MasterSeen N). record { namer = n; board = now } ≡ record z { board = accepted (dig z.namer) z.board o spawned (how_view copied end) }) e (ap (λ z. record { namer = n; board = z }) so))

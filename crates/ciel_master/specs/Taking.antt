@@ -1,9 +1,10 @@
 -- What comes of the end of a report that is taken.
 use Rattle.std.specs.Prelude.{ℕ, List, Bool, false}
+use Rattle.sky_base.specs.declared.object.Named.{Named}
 use Rattle.sky_base.specs.declared.object.TaskId.{TaskId}
 use Rattle.ciel_board.specs.Moves.{is_root, with_copies, with_outputs, wait_of}
 use Rattle.ciel_board.specs.Reports as r
-use Rattle.ciel_board.specs.Reports.{Copy, copy_names, made_keys}
+use Rattle.ciel_board.specs.Reports.{AllLearned, Copy, copy_names, learned_all, made_keys}
 use Rattle.ciel_journal.specs.Entries as j
 use Rattle.ciel_journal.specs.Job.{Each}
 use Rattle.ciel_table.specs.Changes.{saved}
@@ -32,6 +33,19 @@ abbrev pub is_last : TaskId → r.End P → Bool
 is_last task (r.made ms cs) = is_root task
 is_last task (r.saved s) = false
 is_last task (r.missing name loss) = false
+
+-- the table after what is spawned is learned; where something is missing nothing is
+abbrev pub learned_for : (List ℕ → List ℕ) → End → List Named → TableSeen P → TableSeen P
+learned_for digest (End.Made ms) ns t = learned_all digest ns t
+learned_for digest (End.Saved p k refs holds mark) ns t = learned_all digest ns t
+learned_for digest (End.Shown s) ns t = learned_all digest ns t
+learned_for digest (End.Missing name loss seen) ns t = t
+
+abbrev pub LearnedFor : (List ℕ → List ℕ) → End → List Named → TableSeen P → Type 0
+LearnedFor digest (End.Made ms) ns t = AllLearned digest ns t
+LearnedFor digest (End.Saved p k refs holds mark) ns t = AllLearned digest ns t
+LearnedFor digest (End.Shown s) ns t = AllLearned digest ns t
+LearnedFor digest (End.Missing name loss seen) ns t = Unit {0}
 
 abbrev pub OutputsPlace : TableSeen P → List Made → Type 0
 OutputsPlace t ms = Each (λ (m : Made). Known t m.name × Here t.gone (worker_of m.place)) ms

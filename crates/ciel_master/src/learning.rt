@@ -3,6 +3,7 @@
 ghost use Rattle.std.specs.Prelude.{◌≡◌, ℕ, Ok, IfErr, OnErr, OnOk};
 ghost use Rattle.ciel_board.specs.Reports.{AllLearned, learned_all};
 ghost use Rattle.ciel_master.specs.Refusals.{FirstStops, Stops, StopsAt};
+ghost use Rattle.ciel_master.specs.Taking.{LearnedFor, learned_for};
 ghost use Rattle.ciel_table.specs.Learning.{learn_answer, learned};
 
 use crate::stop::Stop;
@@ -11,6 +12,7 @@ use ciel_store::shelves::Place;
 use ciel_table::refusal::Learn;
 use ciel_table::table::Table;
 use ciel_task::block::Block;
+use ciel_task::report::End;
 use sky_base::object::Named;
 
 /// Why a description isn't learned.
@@ -41,7 +43,7 @@ fn learn<N: Namer>(table: &mut Table<Place<Block>>, namer: &N, named: &Named) ->
 }
 
 /// Learns a list in order, up to the first that is refused.
-pub(crate) fn learn_all<N: Namer>(
+fn learn_all<N: Namer>(
     table: &mut Table<Place<Block>>,
     namer: &N,
     spawned: &[Named],
@@ -54,4 +56,26 @@ pub(crate) fn learn_all<N: Namer>(
         learn(table, namer, &spawned[i])?;
     }
     Ok(())
+}
+
+/// Learns what a report spawned; where it tells that something was missing, nothing.
+pub(crate) fn learn_for<N: Namer>(
+    table: &mut Table<Place<Block>>,
+    namer: &N,
+    spawned: &[Named],
+    end: &End,
+) -> Result<(), Stop>
+    ensures learned { OnOk result (table.new ≡ learned_for (N.digest namer.now) end.now spawned.now table.old) }
+    ensures all { OnOk result (LearnedFor (N.digest namer.now) end.now spawned.now table.old) }
+    ensures refused { IfErr result (λ e. FirstStops (N.digest namer.now) spawned.now table.old e) }
+{
+    match end {
+        End::Missing { .. } => Ok(()),
+        End::Made(_) | End::Saved { .. } | End::Shown(_) => {
+            match learn_all(table, namer, spawned) {
+                Ok(()) => Ok(()),
+                Err(stop) => Err(stop),
+            }
+        }
+    }
 }

@@ -22,7 +22,7 @@ ghost use Rattle.ciel_master.specs.Views.{entry_view, worker_of};
 
 use crate::bring::order_at;
 use crate::entry::Entry;
-use crate::learning::learn_all;
+use crate::learning::learn_for;
 use crate::orders::{OrderOut, close, close_at, find, tasks};
 use crate::plan::RunPlan;
 use crate::stop::{Now, Stop};
@@ -181,7 +181,7 @@ impl<K: Drop, N: Namer + Drop> Master<K, N> {
     }
 
     /// Takes what a worker reports of an order that is out: learns what it spawned, places what it made, and writes it into the
-    /// journal.
+    /// journal. Where something was missing the order is closed, and nothing else changes.
     ///
     /// Answers what refuses the first description that isn't learned, and `Memory` for want of memory. The journal is then as it
     /// was, and the run has stopped.
@@ -205,7 +205,7 @@ impl<K: Drop, N: Namer + Drop> Master<K, N> {
             unreachable!()
         };
         let last = is_last(&order.task, &end, copied.as_slice());
-        learn_all(&mut self.table, &self.shop.namer, spawned.as_slice())?;
+        learn_for(&mut self.table, &self.shop.namer, spawned.as_slice(), &end)?;
         let now = take_end(
             self.alloc,
             &mut self.table,
