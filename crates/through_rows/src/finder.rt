@@ -8,6 +8,7 @@ use sky_base::object::Object;
 use sky_base::text::{Bytes, Memory};
 use sky_through::find::Finds;
 use std::alloc::Global;
+#[cfg(test)]
 use std::test::Fail;
 
 /// The bytes, the name of the description that isn't there, if one isn't, and whether the bytes are never handed out.
@@ -47,11 +48,13 @@ impl Finds for Shelf {
     }
 }
 
+#[cfg(test)]
 fn bytes(alloc: Global, bytes: &[u8]) -> Result<Bytes, Fail> {
     Ok(Bytes::new(alloc, Vec::from_slice(alloc, bytes)?)?)
 }
 
 /// A finder.
+#[cfg(test)]
 pub fn shelf_of(
     alloc: Global,
     text: &[u8],

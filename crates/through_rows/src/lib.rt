@@ -4,8 +4,7 @@
 
 #[cfg(test)]
 mod calls;
-#[cfg(test)]
-mod finder;
+pub mod finder;
 #[cfg(test)]
 mod root;
 #[cfg(test)]
