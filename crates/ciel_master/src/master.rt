@@ -18,6 +18,7 @@ ghost use Rattle.ciel_task.specs.Views.{P, order_view, report_end};
 ghost use Rattle.ciel_want.specs.Waited.{tasks_in_order};
 ghost use Rattle.ciel_master.specs.Refusals.{FirstStops};
 ghost use Rattle.ciel_master.specs.Seen.{MasterSeen, most_descriptions, plan_view};
+ghost use Rattle.ciel_master.specs.Taking.{now_of};
 ghost use Rattle.ciel_master.specs.Views.{entry_view, worker_of};
 
 use crate::bring::order_at;
@@ -189,6 +190,7 @@ impl<K: Drop, N: Namer + Drop> Master<K, N> {
         requires going { self.old.board.stopped ≡ false }
         requires fits { (x : b.Order P) × (find_order report.number self.old.board.orders ≡ Some x.out) × Fits (N.digest self.old.namer) worker_of self.old.board x report.spawned.items (report_end report) }
         ensures accepted { OnOk result ((x : b.OrderOut) × (find_order report.number self.old.board.orders ≡ Some x) × (self.new ≡ record self.old { board = accepted (N.digest self.old.namer) self.old.board x report.spawned.items (report_end report) })) }
+        ensures now { IfOk result (λ now. now ≡ now_of report.end) }
         ensures journal { OnErr result (self.new.board.journal ≡ self.old.board.journal) }
         ensures stopped { OnErr result (self.new.board.stopped ≡ true) }
         ensures refused { IfErr result (λ e. FirstStops (N.digest self.old.namer) report.spawned.items self.old.board.table e) }
@@ -239,10 +241,10 @@ impl<K: Drop, N: Namer + Drop> Master<K, N> {
     }
 
     /// The journal so far.
-    pub fn journal(&self) -> &[Entry]
-        ensures { map entry_view result.now ≡ self.now.board.journal }
+    pub fn journal(&self) -> &Vec<Entry>
+        ensures { map entry_view result.now.items ≡ self.now.board.journal }
     {
-        self.journal.as_slice()
+        &self.journal
     }
 
     /// Whether an order of this number is out. It takes no memory.
