@@ -27,7 +27,7 @@ use sky_state::shown::Shown;
 use std::alloc::Global;
 
 /// Writes an entry. After `Memory` the journal is as it was.
-pub(crate) fn write(journal: &mut Vec<Entry>, entry: Entry) -> Result<(), Memory>
+fn write(journal: &mut Vec<Entry>, entry: Entry) -> Result<(), Memory>
     ensures written { OnOk result (map entry_view journal.new.items ≡ map entry_view journal.old.items ++ entry_view entry ∷ []) }
     ensures kept { OnErr result (journal.new.items ≡ journal.old.items) }
 {
@@ -59,6 +59,27 @@ pub(crate) fn begin(
     };
     write(journal, entry)?;
     orders.push_reserved(order);
+    Ok(())
+}
+
+/// A worker more is lost, and the journal has it. After `Memory` both are as they were.
+pub(crate) fn note_loss(
+    lost: &mut Vec<u32>,
+    journal: &mut Vec<Entry>,
+    worker: u32,
+    after: u64,
+) -> Result<(), Memory>
+    ensures lost { OnOk result (lost.new.items ≡ lost.old.items ++ worker ∷ []) }
+    ensures written { OnOk result (map entry_view journal.new.items ≡ map entry_view journal.old.items ++ entry_view (Entry.Lost worker after) ∷ []) }
+    ensures kept { OnErr result (lost.new.items ≡ lost.old.items) }
+    ensures unwritten { OnErr result (journal.new.items ≡ journal.old.items) }
+{
+    if lost.reserve(1).is_err() {
+        return Err(Memory);
+    }
+    let entry = Entry::Lost { worker, after };
+    write(journal, entry)?;
+    lost.push_reserved(worker);
     Ok(())
 }
 
