@@ -6,7 +6,7 @@ use Rattle.sky_base.specs.declared.object.Named.{Named}
 use Rattle.sky_base.specs.declared.object.TaskId.{TaskId}
 use Rattle.ciel_board.specs.Board.{Board, Order, board_graph, find_order, idle_of, task_key, wait_number}
 use Rattle.ciel_board.specs.Board as board
-use Rattle.ciel_board.specs.Moves.{accepted, closed, empty, lost_at, started, without}
+use Rattle.ciel_board.specs.Moves.{accepted, closed, empty, lost_at, started, with_copies, with_outputs, without}
 use Rattle.ciel_board.specs.Reports as r
 use Rattle.ciel_board.specs.Reports.{Copy, IsNamed, learned_all}
 use Rattle.ciel_board.specs.Sound.{CopyFits, Fits, OrderSound, OutputFits, Sound}
@@ -18,7 +18,7 @@ use Rattle.ciel_journal.specs.Graph.{Runnable}
 use Rattle.ciel_journal.specs.Job.{Each, In}
 use Rattle.ciel_journal.proofs.Booked.{each_more}
 use Rattle.ciel_journal.proofs.Members.{each_of}
-use Rattle.ciel_table.specs.Changes.{dropped}
+use Rattle.ciel_table.specs.Changes.{dropped, placed}
 use Rattle.ciel_table.specs.Learning.{learned}
 use Rattle.ciel_table.specs.Seen.{Known, TableSeen, last_wait, waits_of}
 use Rattle.ciel_table.specs.Sound.{Here, IsAbove}
@@ -126,13 +126,41 @@ module _ (digest : List ℕ → List ℕ) (b : Board P) (s : Sound digest worker
   can_take copied (End.Shown q) f = copies_can digest then x is_here copied f.end.1
   can_take copied (End.Missing name loss seen) f = tt
 
+-- the lost workers stay
+outputs_gone : (ms : List (r.Output P)) (t : TableSeen P) → (with_outputs ms t).gone ≡ t.gone
+outputs_gone [] t = refl
+outputs_gone (m ∷ ms) t = outputs_gone ms (placed m.name m.place t)
+
+copies_gone : (cs : List (Copy P)) (t : TableSeen P) → (with_copies cs t).gone ≡ t.gone
+copies_gone [] t = refl
+copies_gone (c ∷ cs) t = copies_gone cs (placed c.name c.place t)
+
+after_gone : (x : TaskId) (e : r.End P) (t : TableSeen P) → (table_after x e t).gone ≡ t.gone
+after_gone x (r.made ms cs) t = copies_gone cs (with_outputs ms t) ∙ outputs_gone ms t
+after_gone x (r.saved s) t = refl
+after_gone x (r.missing name loss) t = refl
+
+for_gone : (digest : List ℕ → List ℕ) (end : End) (ns : List Named) (t : TableSeen P) → (learned_for digest end ns t).gone ≡ t.gone
+for_gone digest (End.Made ms) ns t = (grown digest ns t).gone
+for_gone digest (End.Saved p k refs holds mark) ns t = (grown digest ns t).gone
+for_gone digest (End.Shown s) ns t = (grown digest ns t).gone
+for_gone digest (End.Missing name loss seen) ns t = refl
+
+pub open_gone : (digest : List ℕ → List ℕ) (main : Named) (t : TableSeen P) (lost : List ℕ) → t ≡ learned digest main (empty most_descriptions) → lost ≡ [] → t.gone ≡ lost
+open_gone digest main t lost is none =
+    let first : TableSeen P = empty most_descriptions in
+    ap (λ (u : TableSeen P). u.gone) is ∙ ((grown digest (main ∷ []) first).gone ∙ sym none)
+
 -- a master in its state, which goes on
-module _ {N : Type 0} (dig : N → (List ℕ → List ℕ)) (m : MasterSeen N) (n : N) (b : Board P) (e : record { namer = n; board = b } ≡ m) (stands : MasterStands (dig n) b) (run : m.board.stopped ≡ false) where
+module _ {N : Type 0} (dig : N → (List ℕ → List ℕ)) (m : MasterSeen N) (n : N) (b : Board P) (e : record { namer = n; board = b } ≡ m) (lost : List ℕ) (stands : MasterStands (dig n) b lost) (run : m.board.stopped ≡ false) where
   goes : b.stopped ≡ false
   goes = subst (λ (z : MasterSeen N). z.board.stopped ≡ false) (sym e) run
 
   going : Going (dig n) b
-  going = stands goes
+  going = (stands goes).0
+
+  pub gone_now : b.table.gone ≡ lost
+  gone_now = (stands goes).1
 
   pub whole_now : Whole b.main b.table
   whole_now = sound_whole (dig n) worker_of b going.sound
@@ -150,6 +178,10 @@ module _ {N : Type 0} (dig : N → (List ℕ → List ℕ)) (m : MasterSeen N) (
 
   -- after a loss
   module _ (w : ℕ) (u : TableSeen P) (os : List board.OrderOut) (js : List j.Entry) (is_u : u ≡ dropped worker_of w b.table) (is_os : os ≡ filter (λ (x : board.OrderOut). not (nat_eq w x.worker)) b.orders) (is_js : js ≡ b.journal ++ j.Entry.Lost w b.closes ∷ []) where
+    pub gone_lost : (more : List ℕ) → more ≡ lost ++ w ∷ [] → u.gone ≡ more
+    gone_lost more is =
+        ap (λ (z : TableSeen P). z.gone) is_u ∙ (ap (λ gs. gs ++ w ∷ []) gone_now ∙ sym is)
+
     pub going_lost : Going (dig n) (record b { table = u; orders = os; journal = js })
     going_lost =
         let so : record b { table = u; orders = os; journal = js } ≡ lost_at worker_of w b = ap (λ z. record b { table = z; orders = os; journal = js }) is_u ∙ (ap (λ z. record b { table = dropped worker_of w b.table; orders = z; journal = js }) is_os ∙ ap (λ z. record (lost_at worker_of w b) { journal = z }) is_js) in
@@ -176,6 +208,10 @@ module _ {N : Type 0} (dig : N → (List ℕ → List ℕ)) (m : MasterSeen N) (
         subst (λ (z : board.OrderOut). CanTake z.task t cs end) same_order (subst (λ u. CanTake x.out.task u cs end) (sym is_then) (subst (λ ds. CanTake x.out.task (learned_for (dig n) end spawned b.table) ds end) (sym is_cs) can))
 
     module _ (all : LearnedFor (dig k) end ns b.table) (u : TableSeen P) (os : List board.OrderOut) (js : List j.Entry) (last : Bool) (is_u : u ≡ table_after o.task (how_view cs end) t) (is_os : os ≡ without o.number b.orders) (is_js : js ≡ b.journal ++ entry_for o.number (how_view cs end) ∷ []) (ds : List Held) (is_ds : ds ≡ copied) (is_last_so : last ≡ is_last o.task (how_view ds end)) where
+      pub gone_after : u.gone ≡ lost
+      gone_after =
+          ap (λ (z : TableSeen P). z.gone) is_u ∙ (after_gone o.task (how_view cs end) t ∙ (ap (λ (z : TableSeen P). z.gone) is_t ∙ (for_gone (dig k) end ns b.table ∙ gone_now)))
+
       abbrev now : Board P
       now = record b { table = u; orders = os; closes = b.closes + 1; journal = js; stopped = last }
 

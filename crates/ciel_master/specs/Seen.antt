@@ -44,5 +44,6 @@ pub record Going (digest : List ℕ → List ℕ) (b : Board P) : Type 0 where
   pub counted : b.starts + b.closes ≤ length b.journal
   pub few : length b.keys < 2 ^ 32
 
-abbrev pub MasterStands : (List ℕ → List ℕ) → Board P → Type 0
-MasterStands digest b = b.stopped ≡ false → Going digest b
+-- besides, these are the lost workers
+abbrev pub MasterStands : (List ℕ → List ℕ) → Board P → List ℕ → Type 0
+MasterStands digest b lost = b.stopped ≡ false → Going digest b × (b.table.gone ≡ lost)

@@ -14,7 +14,9 @@ use Rattle.ciel_task.specs.Views.{P, copies_view}
 use Rattle.ciel_task.specs.declared.block.Held.{Held}
 use Rattle.ciel_task.specs.declared.report.End.{End}
 use Rattle.ciel_task.specs.declared.report.Made.{Made}
+use Rattle.sky_state.specs.declared.shown.Shown.{Shown}
 use Rattle.ciel_master.specs.Views.{worker_of}
+use Rattle.ciel_master.specs.declared.stop.Now.{Now}
 
 -- the table after it
 abbrev pub table_after : TaskId → r.End P → TableSeen P → TableSeen P
@@ -33,6 +35,14 @@ abbrev pub is_last : TaskId → r.End P → Bool
 is_last task (r.made ms cs) = is_root task
 is_last task (r.saved s) = false
 is_last task (r.missing name loss) = false
+
+-- what comes of it
+abbrev pub now_of : End → Now
+now_of (End.Shown (Shown.Text text)) = Now.Answer text
+now_of (End.Shown (Shown.Fault fault)) = Now.Fault fault
+now_of (End.Made ms) = Now.Goes
+now_of (End.Saved p k refs holds mark) = Now.Goes
+now_of (End.Missing name loss seen) = Now.Goes
 
 -- the table after what is spawned is learned; where something is missing nothing is
 abbrev pub learned_for : (List ℕ → List ℕ) → End → List Named → TableSeen P → TableSeen P

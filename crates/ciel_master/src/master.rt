@@ -1,32 +1,34 @@
 //! The master itself.
 
-ghost use Rattle.std.specs.Prelude.{◌≡◌, ◌<◌, ◌^◌, [], IfErr, IfNone, IfOk, IfSome, OnErr, OnOk, Some, false, is_some, length, map, true};
+ghost use Rattle.std.specs.Prelude.{◌≡◌, ◌<◌, ◌^◌, [], IfErr, IfNone, IfOk, IfSome, OnErr, OnOk, Some, false, is_some, length, map, nat_lt, true, ◌&&◌};
 ghost use Rattle.std.specs.Arc.{arc_value};
 ghost use Rattle.std.specs.List.{IsDistinct};
 ghost use Rattle.sky_base.specs.Val.{no_pairs, no_vals, same_text};
 ghost use Rattle.sky_base.specs.declared.object.Desc1.{Desc1};
 ghost use Rattle.sky_base.specs.declared.object.TaskId.{TaskId};
 ghost use Rattle.ciel_board.specs.Board as b;
-ghost use Rattle.ciel_board.specs.Board.{board_graph, find_order, idle_of};
+ghost use Rattle.ciel_board.specs.Board.{board_graph, find_order, idle_of, workers_out};
 ghost use Rattle.ciel_board.specs.Moves.{accepted, empty, lost_at, opened, order_for, started};
 ghost use Rattle.ciel_board.specs.Reports.{IsNamed};
 ghost use Rattle.ciel_board.specs.Sound.{Fits};
 ghost use Rattle.ciel_journal.specs.Graph.{Circle, Picks, Runnable};
 ghost use Rattle.ciel_journal.specs.Job.{In};
+ghost use Rattle.ciel_journal.specs.Turns.{is_idle};
 ghost use Rattle.ciel_table.specs.Learning.{learned};
 ghost use Rattle.ciel_task.specs.Views.{P, order_view, report_end};
 ghost use Rattle.ciel_want.specs.Waited.{tasks_in_order};
 ghost use Rattle.ciel_master.specs.Refusals.{FirstStops};
 ghost use Rattle.ciel_master.specs.Seen.{MasterSeen, most_descriptions, plan_view};
+ghost use Rattle.ciel_master.specs.Taking.{now_of};
 ghost use Rattle.ciel_master.specs.Views.{entry_view, worker_of};
 
 use crate::bring::order_at;
 use crate::entry::Entry;
 use crate::learning::learn_for;
-use crate::orders::{OrderOut, close, close_at, find, tasks};
+use crate::orders::{OrderOut, can_work, close, close_at, find, tasks};
 use crate::plan::RunPlan;
 use crate::stop::{Now, Stop};
-use crate::taking::{begin, is_last, take_end, write};
+use crate::taking::{begin, is_last, note_loss, take_end};
 use ciel_name::name::Namer;
 use ciel_store::shelves::Place;
 use ciel_table::table::Table;
@@ -56,6 +58,7 @@ pub struct Master<K, N: Namer> {
     closes: u64,
     journal: Vec<Entry>,
     stopped: bool,
+    lost: Vec<u32>,
     alloc: Global,
 }
 
@@ -72,7 +75,7 @@ impl<K, N: Namer> Model for Master<K, N> {
 
     ghost view = { λ m. record { namer = (arc_value m.shop).namer; board = board_of m.plan (arc_value m.shop).job.script.keys m.main m.table m.orders.items m.starts m.closes m.journal.items m.stopped } };
 
-    ghost invariant = { λ m. MasterStands (N.digest (arc_value m.shop).namer) (board_of m.plan (arc_value m.shop).job.script.keys m.main m.table m.orders.items m.starts m.closes m.journal.items m.stopped) };
+    ghost invariant = { λ m. MasterStands (N.digest (arc_value m.shop).namer) (board_of m.plan (arc_value m.shop).job.script.keys m.main m.table m.orders.items m.starts m.closes m.journal.items m.stopped) m.lost.items };
 }
 
 /// A table that knows the main call alone.
@@ -116,6 +119,7 @@ impl<K: Drop, N: Namer + Drop> Master<K, N> {
             closes: 0,
             journal: Vec::new(alloc),
             stopped: false,
+            lost: Vec::new(alloc),
             alloc,
         })
     }
@@ -189,6 +193,7 @@ impl<K: Drop, N: Namer + Drop> Master<K, N> {
         requires going { self.old.board.stopped ≡ false }
         requires fits { (x : b.Order P) × (find_order report.number self.old.board.orders ≡ Some x.out) × Fits (N.digest self.old.namer) worker_of self.old.board x report.spawned.items (report_end report) }
         ensures accepted { OnOk result ((x : b.OrderOut) × (find_order report.number self.old.board.orders ≡ Some x) × (self.new ≡ record self.old { board = accepted (N.digest self.old.namer) self.old.board x report.spawned.items (report_end report) })) }
+        ensures now { IfOk result (λ now. now ≡ now_of report.end) }
         ensures journal { OnErr result (self.new.board.journal ≡ self.old.board.journal) }
         ensures stopped { OnErr result (self.new.board.stopped ≡ true) }
         ensures refused { IfErr result (λ e. FirstStops (N.digest self.old.namer) report.spawned.items self.old.board.table e) }
@@ -228,21 +233,25 @@ impl<K: Drop, N: Namer + Drop> Master<K, N> {
         ensures lost { OnOk result (self.new ≡ record self.old { board = lost_at worker_of worker self.old.board }) }
         ensures kept { OnErr result (self.new ≡ self.old) }
     {
-        let entry = Entry::Lost {
-            worker,
-            after: self.closes,
-        };
-        write(&mut self.journal, entry)?;
+        note_loss(&mut self.lost, &mut self.journal, worker, self.closes)?;
         close_at(&mut self.orders, worker);
         self.table.drop_worker(worker);
         Ok(())
     }
 
-    /// The journal so far.
-    pub fn journal(&self) -> &[Entry]
-        ensures { map entry_view result.now ≡ self.now.board.journal }
+    /// Whether it is one of the plan's workers, isn't lost and has no order. It takes no memory.
+    pub fn is_idle(&self, worker: u32) -> bool
+        requires going { self.now.board.stopped ≡ false }
+        ensures { result ≡ (nat_lt worker self.now.board.plan.workers && is_idle self.now.board.table.gone (workers_out self.now.board.orders) worker) }
     {
-        self.journal.as_slice()
+        worker < self.plan.workers && can_work(&self.lost, &self.orders, worker)
+    }
+
+    /// The journal so far.
+    pub fn journal(&self) -> &Vec<Entry>
+        ensures { map entry_view result.now.items ≡ self.now.board.journal }
+    {
+        &self.journal
     }
 
     /// Whether an order of this number is out. It takes no memory.

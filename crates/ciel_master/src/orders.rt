@@ -5,6 +5,7 @@ ghost use Rattle.std.specs.Option.{option_map};
 ghost use Rattle.std.specs.List.{list_any};
 ghost use Rattle.ciel_board.specs.Board as b;
 ghost use Rattle.ciel_board.specs.Board.{find_order, tasks_out, workers_out};
+ghost use Rattle.ciel_journal.specs.Turns.{is_idle};
 ghost use Rattle.ciel_board.specs.Moves.{without};
 ghost use Rattle.ciel_master.specs.Views.{kept_view};
 
@@ -38,7 +39,7 @@ pub(crate) fn find(orders: &[OrderOut], number: u64) -> Option<OrderOut>
 }
 
 /// Whether a worker has one.
-pub(crate) fn is_busy(orders: &[OrderOut], worker: u32) -> bool
+fn is_busy(orders: &[OrderOut], worker: u32) -> bool
     ensures { result ≡ list_any (nat_eq worker) (workers_out (map kept_view orders.now)) }
 {
     let mut busy = false;
@@ -50,6 +51,28 @@ pub(crate) fn is_busy(orders: &[OrderOut], worker: u32) -> bool
         }
     }
     busy
+}
+
+/// Whether it is among these workers.
+fn has(workers: &[u32], worker: u32) -> bool
+    ensures { result ≡ list_any (nat_eq worker) workers.now }
+{
+    let mut found = false;
+    let mut i = workers.len();
+    while i > 0 {
+        i -= 1;
+        if worker == workers[i] {
+            found = true;
+        }
+    }
+    found
+}
+
+/// Whether a worker isn't among the lost ones and has no order.
+pub(crate) fn can_work(lost: &[u32], orders: &[OrderOut], worker: u32) -> bool
+    ensures { result ≡ is_idle lost.now (workers_out (map kept_view orders.now)) worker }
+{
+    !has(lost, worker) && !is_busy(orders, worker)
 }
 
 /// Takes the one of this number off the list.

@@ -1,9 +1,9 @@
 //! What comes of a report.
 
 use ciel_table::refusal::Learn;
+use sky_base::fault::Fault;
 use sky_base::object::Desc1;
 use sky_base::text::{Bytes, Memory};
-use sky_state::shown::Shown;
 
 /// What comes of a report that is taken.
 #[derive(Drop)]
@@ -11,7 +11,9 @@ pub enum Now {
     /// The run goes on.
     Goes,
     /// The root task has its answer, with which the run ends.
-    Ends(Shown),
+    Answer(Bytes),
+    /// It has a fault as its answer.
+    Fault(Fault),
 }
 
 /// Why a report isn't taken. Nothing that it made is placed then, the journal is as it was, and only the journal may be asked.

@@ -1,10 +1,11 @@
 //! What a start and the end of a report change.
 
-ghost use Rattle.std.specs.Prelude.{◌≡◌, ◌++◌, ◌∷◌, [], OnErr, OnOk, map};
+ghost use Rattle.std.specs.Prelude.{◌≡◌, ◌++◌, ◌∷◌, [], IfOk, OnErr, OnOk, map};
 ghost use Rattle.ciel_board.specs.Moves.{with_copies, with_outputs};
 ghost use Rattle.ciel_board.specs.Reports.{copy_names, made_keys};
 ghost use Rattle.ciel_journal.specs.Entries as j;
-ghost use Rattle.ciel_master.specs.Taking.{CanTake, CopiesPlace, OutputsPlace, entry_for, is_last, table_after};
+ghost use Rattle.ciel_task.specs.declared.report.End.{End};
+ghost use Rattle.ciel_master.specs.Taking.{CanTake, CopiesPlace, OutputsPlace, entry_for, is_last, now_of, table_after};
 ghost use Rattle.ciel_master.specs.Views.{entry_view, kept_view, worker_of};
 ghost use Rattle.ciel_task.specs.Views.{copies_view, how_view, output_view};
 ghost use Rattle.ciel_table.specs.Changes.{saved};
@@ -22,10 +23,11 @@ use ciel_task::block::{Block, Held};
 use ciel_task::report::{End, Made};
 use sky_base::object::TaskId;
 use sky_base::text::Memory;
+use sky_state::shown::Shown;
 use std::alloc::Global;
 
 /// Writes an entry. After `Memory` the journal is as it was.
-pub(crate) fn write(journal: &mut Vec<Entry>, entry: Entry) -> Result<(), Memory>
+fn write(journal: &mut Vec<Entry>, entry: Entry) -> Result<(), Memory>
     ensures written { OnOk result (map entry_view journal.new.items ≡ map entry_view journal.old.items ++ entry_view entry ∷ []) }
     ensures kept { OnErr result (journal.new.items ≡ journal.old.items) }
 {
@@ -57,6 +59,27 @@ pub(crate) fn begin(
     };
     write(journal, entry)?;
     orders.push_reserved(order);
+    Ok(())
+}
+
+/// A worker more is lost, and the journal has it. After `Memory` both are as they were.
+pub(crate) fn note_loss(
+    lost: &mut Vec<u32>,
+    journal: &mut Vec<Entry>,
+    worker: u32,
+    after: u64,
+) -> Result<(), Memory>
+    ensures lost { OnOk result (lost.new.items ≡ lost.old.items ++ worker ∷ []) }
+    ensures written { OnOk result (map entry_view journal.new.items ≡ map entry_view journal.old.items ++ entry_view (Entry.Lost worker after) ∷ []) }
+    ensures kept { OnErr result (lost.new.items ≡ lost.old.items) }
+    ensures unwritten { OnErr result (journal.new.items ≡ journal.old.items) }
+{
+    if lost.reserve(1).is_err() {
+        return Err(Memory);
+    }
+    let entry = Entry::Lost { worker, after };
+    write(journal, entry)?;
+    lost.push_reserved(worker);
     Ok(())
 }
 
@@ -112,6 +135,16 @@ fn take_saved(
     Ok(())
 }
 
+/// The answer of a run.
+fn answer(shown: Shown) -> Now
+    ensures { result ≡ now_of (End.Shown shown) }
+{
+    match shown {
+        Shown::Text(text) => Now::Answer(text),
+        Shown::Fault(fault) => Now::Fault(fault),
+    }
+}
+
 /// What the end of a report changes. After `Memory` the journal is as it was.
 pub(crate) fn take_end(
     alloc: Global,
@@ -125,6 +158,7 @@ pub(crate) fn take_end(
     ensures table { OnOk result (table.new ≡ table_after order.now.task (how_view copied.now end) table.old) }
     ensures journal { OnOk result (map entry_view journal.new.items ≡ map entry_view journal.old.items ++ entry_for order.now.number (how_view copied.now end) ∷ []) }
     ensures kept { OnErr result (journal.new.items ≡ journal.old.items) }
+    ensures now { IfOk result (λ now. now ≡ now_of end) }
 {
     match end {
         End::Made(made) => {
@@ -133,7 +167,7 @@ pub(crate) fn take_end(
         }
         End::Shown(shown) => {
             take_made(alloc, table, journal, order.number, &[], copied)?;
-            Ok(Now::Ends(shown))
+            Ok(answer(shown))
         }
         End::Saved {
             frozen,

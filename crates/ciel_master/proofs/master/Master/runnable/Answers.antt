@@ -8,4 +8,4 @@ runnable-requires g c =
     let i = c.self.inside in
     let n = (arc_value i.shop).namer in
     let b = board_of i.plan (arc_value i.shop).job.script.keys i.main i.table i.orders.items i.starts i.closes i.journal.items i.stopped in
-    record { whole = whole_now g.N.Namer.digest c.args.self.now n b c.self.view_is c.self.invariant c.requires.going }
+    record { whole = whole_now g.N.Namer.digest c.args.self.now n b c.self.view_is i.lost.items c.self.invariant c.requires.going }
