@@ -1,0 +1,25 @@
+-- What is gathered of some names.
+use Rattle.std.specs.Prelude.{◌≡◌, ℕ, List, Option, Some, map}
+use Rattle.std.specs.Option.{option_and_then}
+use Rattle.sky_base.specs.ObjectView.{object_view}
+use Rattle.sky_base.specs.Res.{Object}
+use Rattle.sky_base.specs.Tree.{Script}
+use Rattle.sky_law.specs.Sound.{SoundObject}
+use Rattle.sky_law.specs.Tasks.{Each, In}
+use Rattle.ciel_table.specs.Named.{found}
+use Rattle.ciel_task.specs.declared.block.Held.{Held}
+use Rattle.ciel_inputs.specs.Lies.{LostAt, held_name, lies_at}
+use Rattle.ciel_inputs.specs.declared.gather.Gathered.{Gathered}
+
+-- what lies there of the name
+abbrev pub lies_of : List (List ℕ × List ℕ) → List Held → List ℕ → Option (Object (List ℕ))
+lies_of inputs held n = option_and_then (λ h. lies_at inputs h.at) (found held_name n held)
+
+-- all of them, in order; or one of the names lies at a worker that is lost
+abbrev pub GatheredSo : List (List ℕ × List ℕ) → List Held → List (List ℕ) → Gathered → Type 0
+GatheredSo inputs held ns (Gathered.All os) = map (λ n. lies_of inputs held n) ns ≡ map (λ o. Some (object_view o)) os.items
+GatheredSo inputs held ns (Gathered.Lost n l) = In n ns × (h : Held) × (found held_name n held ≡ Some h) × LostAt l h.at
+
+abbrev pub AllSound : Script → Gathered → Type 0
+AllSound sc (Gathered.All os) = Each (λ o. SoundObject sc (object_view o)) os.items
+AllSound sc (Gathered.Lost n l) = Unit {0}
