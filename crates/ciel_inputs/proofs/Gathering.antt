@@ -11,8 +11,9 @@ use Rattle.sky_law.specs.Tasks.{Each, In}
 use Rattle.sky_law.proofs.Lists.{some_is}
 use Rattle.ciel_table.specs.Named.{found}
 use Rattle.ciel_task.specs.declared.block.Held.{Held}
-use Rattle.ciel_inputs.specs.Lies.{held_name, lies_at}
-use Rattle.ciel_inputs.specs.Gathers.{lies_of}
+use Rattle.ciel_store.specs.Seen.{ShelvesSeen}
+use Rattle.ciel_inputs.specs.Lies.{CopiedSo, held_name, lies_at}
+use Rattle.ciel_inputs.specs.Gathers.{CopiedFor, lies_of}
 
 -- ---- what is found
 
@@ -86,3 +87,20 @@ module _ (inputs : List (List ℕ × List ℕ)) (held : List Held) where
 
   pub gathered_all : (ns : List (List ℕ)) (i : ℕ) (os : List Object) → (i < length ns → ⊥) → map lies (take i ns) ≡ map seen_of os → map lies ns ≡ map seen_of os
   gathered_all ns i os h so = ap (map lies) (sym (take_whole ns i h)) ∙ so
+
+pub split_at : {A : Type 0} (xs : List A) (i : ℕ) (x : A) → i < length xs → x ≡ slice_index_or xs i x → (after : List A) × (xs ≡ take i xs ++ x ∷ after)
+split_at [] i x l e = absurd (omega (arith, l))
+split_at (y ∷ ys) zero x l e = (ys, ap (λ z. z ∷ ys) (sym e))
+split_at (y ∷ ys) (suc i) x l e =
+    let s = split_at ys i x (omega (arith, l)) e in
+    (s.0, ap (λ zs. y ∷ zs) s.1)
+
+-- ---- what was copied
+
+module _ (shelves : ShelvesSeen) (w : ℕ) (inputs : List (List ℕ × List ℕ)) (held old : List Held) where
+  pub copied_more : (ns : List (List ℕ)) (i : ℕ) (n : List ℕ) (h : Held) (o : logic.Object (List ℕ)) (mid new : List Held) → i < length ns → n ≡ slice_index_or ns i n → CopiedFor shelves w inputs held old (take i ns) mid → found held_name n held ≡ Some h → lies_at inputs h.at ≡ Some o → CopiedSo shelves w h o mid new → CopiedFor shelves w inputs held old (take (i + 1) ns) new
+  copied_more ns i n h o mid new l e c f at so =
+      subst (λ xs. CopiedFor shelves w inputs held old xs new) (sym (take_one ns i n l e)) (CopiedFor.one n h o c f at so)
+
+  pub copied_all : (ns : List (List ℕ)) (i : ℕ) (new : List Held) → (i < length ns → ⊥) → CopiedFor shelves w inputs held old (take i ns) new → CopiedFor shelves w inputs held old ns new
+  copied_all ns i new h c = subst (λ xs. CopiedFor shelves w inputs held old xs new) (take_whole ns i h) c

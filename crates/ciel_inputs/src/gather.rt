@@ -9,7 +9,7 @@ ghost use Rattle.ciel_table.specs.Inside.{IsIndex};
 ghost use Rattle.ciel_task.specs.Orders.{SpotSound, names_in};
 ghost use Rattle.ciel_task.specs.declared.block.Held.{Held};
 ghost use Rattle.ciel_inputs.specs.Lies.{held_name};
-ghost use Rattle.ciel_inputs.specs.Gathers.{AllSound, GatheredSo};
+ghost use Rattle.ciel_inputs.specs.Gathers.{AllSound, CopiedUpTo, GatheredSo, Saw};
 
 use crate::bring::bring;
 use crate::index::find;
@@ -56,6 +56,8 @@ pub fn gather<R: Wait>(
     ensures of { eye.new.of ≡ eye.old.of }
     ensures gathered { IfOk result (GatheredSo (job_view job.now).inputs held.now names.now) }
     ensures sound { IfOk result (AllSound (job_view job.now).script) }
+    ensures copied { IfOk result (λ g. CopiedUpTo shelves.now worker (job_view job.now).inputs held.now names.now g copied.old.items copied.new.items) }
+    ensures seen { IfOk result (λ g. Saw g eye.old eye.new) }
 {
     let mut objects = Vec::new(alloc);
     for name in names {

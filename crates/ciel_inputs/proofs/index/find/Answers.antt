@@ -1,5 +1,5 @@
 use Rattle.std.proofs.Common.{◌≡◌, Some, length, ltb-false, sym, ap, ◌∙◌, arith}
-use Rattle.ciel_table.specs.Named.{found, place_of}
+use Rattle.ciel_table.specs.Named.{place_of}
 use Rattle.ciel_table.proofs.ByName.{found_at, found_none, place_within}
 use Rattle.ciel_inputs.specs.Lies.{held_name}
 use Rattle.ciel_inputs.proofs.index.find.Goals as goal
