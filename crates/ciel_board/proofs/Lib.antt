@@ -4,13 +4,13 @@ mod Holding
 mod Bringing
 mod Starting
 mod Following
-mod Learning
+pub mod Learning
 mod Placing
-mod Saving
+pub mod Saving
 mod Accepting
 mod Telling
 mod Opening
-mod Sounding
+pub mod Sounding
 mod Missing
 mod Searching
 mod Driving

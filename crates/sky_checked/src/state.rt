@@ -26,8 +26,8 @@ const MOST_FRAMES: usize = 64;
 /// The greatest wave.
 const MOST_WAVES: u32 = 100;
 
-/// Whether the state fits the script: exactly where a call could be taken up again from it, or the result be made further. What it
-/// made is not asked. It takes time in the size of the state, and for each frame at most in that of the script.
+/// Whether the state fits the script, as `Fits` says: exactly where each form, value and number in it is one that the script allows
+/// there. What it made is not asked. It takes time in the size of the state, and for each frame at most in that of the script.
 ///
 /// Answers `Memory` for want of memory.
 pub fn state_fits(alloc: Global, fitting: &Fitting, state: &State) -> Result<bool, Memory>

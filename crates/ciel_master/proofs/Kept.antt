@@ -1,0 +1,238 @@
+-- Each call keeps what holds of a master.
+use Rattle.std.proofs.Common.{◌≡◌, ℕ, ◌+◌, ◌≤◌, ◌<◌, ◌^◌, List, [], ◌∷◌, ◌++◌, length, length-append, Bool, Some, false, filter, map, nat_eq, not, refl, ap, ◌∙◌, sym, subst, arith}
+use Rattle.sky_base.specs.Val.{no_pairs, no_vals}
+use Rattle.sky_base.specs.declared.object.Desc1.{Desc1}
+use Rattle.sky_base.specs.declared.object.Named.{Named}
+use Rattle.sky_base.specs.declared.object.TaskId.{TaskId}
+use Rattle.ciel_board.specs.Board.{Board, Order, board_graph, find_order, idle_of, task_key, wait_number}
+use Rattle.ciel_board.specs.Board as board
+use Rattle.ciel_board.specs.Moves.{accepted, closed, empty, lost_at, started, with_copies, with_outputs, without}
+use Rattle.ciel_board.specs.Reports as r
+use Rattle.ciel_board.specs.Reports.{Copy, IsNamed, learned_all}
+use Rattle.ciel_board.specs.Sound.{CopyFits, Fits, OrderSound, OutputFits, Sound}
+use Rattle.ciel_board.proofs.Learning.{grown}
+use Rattle.ciel_board.proofs.Saving.{same_waits}
+use Rattle.ciel_board.proofs.Sounding.{accepted_sound, closed_sound, lost_sound, opened_sound, order_in, sound_whole, started_sound}
+use Rattle.ciel_journal.specs.Entries as j
+use Rattle.ciel_journal.specs.Graph.{Runnable}
+use Rattle.ciel_journal.specs.Job.{Each, In}
+use Rattle.ciel_journal.proofs.Booked.{each_more}
+use Rattle.ciel_journal.proofs.Members.{each_of}
+use Rattle.ciel_table.specs.Changes.{dropped, placed}
+use Rattle.ciel_table.specs.Learning.{learned}
+use Rattle.ciel_table.specs.Seen.{Known, TableSeen, last_wait, waits_of}
+use Rattle.ciel_table.specs.Sound.{Here, IsAbove}
+use Rattle.ciel_table.specs.declared.wait.Wait.{Wait}
+use Rattle.ciel_table.proofs.Lists.{all_more}
+use Rattle.std.specs.List.{AllByRecursion}
+use Rattle.ciel_task.specs.Views.{P, copies_view, how_view, output_view}
+use Rattle.ciel_task.specs.declared.block.Held.{Held}
+use Rattle.ciel_task.specs.declared.report.End.{End}
+use Rattle.ciel_task.specs.declared.report.Made.{Made}
+use Rattle.ciel_want.specs.Waited.{Whole}
+use Rattle.ciel_master.specs.Seen.{Going, MasterSeen, MasterStands, board_of, most_descriptions, plan_view}
+use Rattle.ciel_master.specs.Taking.{CanTake, CopiesPlace, LearnedFor, OutputsPlace, entry_for, is_last, learned_for, table_after}
+use Rattle.ciel_master.specs.Views.{worker_of}
+use Rattle.ciel_master.specs.declared.entry.Entry.{Entry}
+use Rattle.ciel_master.specs.declared.orders.OrderOut.{OrderOut}
+use Rattle.ciel_master.specs.declared.plan.RunPlan.{RunPlan}
+
+module _ (digest : List ℕ → List ℕ) (p : RunPlan) (keys : List (List ℕ)) where
+  pub open_going : (main : Named) (t : TableSeen P) (os : List OrderOut) (es : List Entry) → t ≡ learned digest main (empty most_descriptions) → os ≡ [] → es ≡ [] → length keys < 2 ^ 32 → IsNamed digest main → main.desc ≡ Desc1.Call [] no_pairs no_vals → Going digest (board_of p keys main.name t os 0 0 es false)
+  open_going main t os es is none nothing few named call =
+      let first : Going digest (board_of p keys main.name (learned digest main (empty most_descriptions)) [] 0 0 [] false) =
+      record { sound = opened_sound digest worker_of (plan_view p) keys main (omega arith) named call; counted = omega arith; few = few } in
+      subst (λ u. Going digest (board_of p keys main.name u os 0 0 es false)) (sym is) (subst (λ xs. Going digest (board_of p keys main.name (learned digest main (empty most_descriptions)) xs 0 0 es false)) (sym none) (subst (λ xs. Going digest (board_of p keys main.name (learned digest main (empty most_descriptions)) [] 0 0 xs false)) (sym nothing) first))
+
+some_same : {A : Type 0} (x y : A) → Some x ≡ Some y → x ≡ y
+some_same x y e = cc
+
+-- an entry more
+more_written : (es : List j.Entry) (e : j.Entry) → length (es ++ e ∷ []) ≡ length es + 1
+more_written es e = length-append es (e ∷ [])
+
+module _ (digest : List ℕ → List ℕ) (b : Board P) (g : Going digest b) where
+  pub started_going : (x : TaskId) (w : ℕ) → Runnable (board_graph b) x → In w (idle_of b) → Going digest (started worker_of b x w)
+  started_going x w r i =
+      let long = more_written b.journal (j.Entry.Start b.starts w (task_key x) (wait_number (last_wait x b.table))) in
+      let counted = g.counted in
+      record { sound = started_sound digest worker_of b g.sound x w r i; counted = omega (arith, long, counted); few = g.few }
+
+  -- the same by the parts of the end
+  abbrev pub taken : board.OrderOut → List Named → List Held → End → Board P
+  taken x spawned copied end =
+      record (closed b x (table_after x.task (how_view copied end) (learned_for digest end spawned b.table)) (entry_for x.number (how_view copied end))) { stopped = is_last x.task (how_view copied end) }
+
+  pub taken_is : (x : board.OrderOut) (spawned : List Named) (copied : List Held) (end : End) → b.stopped ≡ false → taken x spawned copied end ≡ accepted digest b x spawned (how_view copied end)
+  taken_is x spawned copied (End.Made ms) e = refl
+  taken_is x spawned copied (End.Saved p k refs holds mark) e =
+      ap (λ z. record (taken x spawned copied (End.Saved p k refs holds mark)) { stopped = z }) (sym e)
+  taken_is x spawned copied (End.Shown s) e = refl
+  taken_is x spawned copied (End.Missing name loss seen) e =
+      ap (λ z. record (taken x spawned copied (End.Missing name loss seen)) { stopped = z }) (sym e)
+
+  module _ (x : Order P) (k : ℕ) (out : find_order k b.orders ≡ Some x.out) (spawned : List Named) (copied : List Held) where
+    accepted_is_sound : (end : End) → Fits digest worker_of b x spawned (how_view copied end) → LearnedFor digest end spawned b.table → Sound digest worker_of (accepted digest b x.out spawned (how_view copied end))
+    accepted_is_sound (End.Made ms) fits all =
+        accepted_sound digest worker_of b g.sound x k out spawned (how_view copied (End.Made ms)) fits all
+    accepted_is_sound (End.Saved p n refs holds mark) fits all =
+        accepted_sound digest worker_of b g.sound x k out spawned (how_view copied (End.Saved p n refs holds mark)) fits all
+    accepted_is_sound (End.Shown s) fits all =
+        accepted_sound digest worker_of b g.sound x k out spawned (how_view copied (End.Shown s)) fits all
+    accepted_is_sound (End.Missing name loss seen) fits all =
+        let s = g.sound in
+        closed_sound digest worker_of b s (λ (q : board.OrderOut). not (nat_eq x.out.number q.number)) b.table (b.journal ++ j.Entry.Missed x.out.number name loss.number ∷ []) (b.closes + 1) b.stopped (λ n i. i) (record { rows = s.rows; shown = s.shown; saved = s.saved }) s.room refl (λ y i q. (q.here, q.last))
+
+    pub taken_going : (end : End) → Fits digest worker_of b x spawned (how_view copied end) → LearnedFor digest end spawned b.table → b.stopped ≡ false → Going digest (taken x.out spawned copied end)
+    taken_going end fits all e =
+        let long = more_written b.journal (entry_for x.out.number (how_view copied end)) in
+        let counted = g.counted in
+        record {
+          sound = subst (Sound digest worker_of) (sym (taken_is x.out spawned copied end e)) (accepted_is_sound end fits all);
+          counted = omega (arith, long, counted);
+          few = g.few;
+        }
+
+-- what a report places can be placed
+module _ (digest : List ℕ → List ℕ) (t : TableSeen P) (x : Order P) (h : Here t.gone x.out.worker) where
+  outputs_can : (ms : List Made) → Each (OutputFits digest worker_of t x) (map output_view ms) → OutputsPlace t ms
+  outputs_can [] e = tt
+  outputs_can (m ∷ ms) e = ((e.0.known, subst (Here t.gone) (sym e.0.here) h), outputs_can ms e.1)
+
+  copies_can : (copied : List Held) → Each (CopyFits digest worker_of t x) (copies_view copied) → CopiesPlace t copied
+  copies_can copied e =
+      each_more (CopyFits digest worker_of t x) (λ (c : Copy P). Known t c.name × Here t.gone (worker_of c.place)) (λ c f. (f.known, subst (Here t.gone) (sym f.here) h)) (copies_view copied) e
+
+module _ (digest : List ℕ → List ℕ) (b : Board P) (s : Sound digest worker_of b) (x : Order P) (k : ℕ) (out : find_order k b.orders ≡ Some x.out) (spawned : List Named) where
+  abbrev then : TableSeen P
+  then = learned_all digest spawned b.table
+
+  is_sound : OrderSound b x.out
+  is_sound = each_of (OrderSound b) x.out b.orders (order_in k b.orders x.out out) s.orders
+
+  is_here : Here then.gone x.out.worker
+  is_here = subst (λ gs. Here gs x.out.worker) (sym (grown digest spawned b.table).gone) is_sound.here
+
+  is_above : (n : ℕ) → x.out.from < n → IsAbove n (waits_of x.out.task then)
+  is_above n l =
+      let g = grown digest spawned b.table in
+      subst (AllByRecursion (λ (w : Wait P). w.j < n)) (sym (same_waits x.out.task b.table then g.shown g.saved)) (all_more (λ (w : Wait P). w.j ≤ x.out.from) (λ (w : Wait P). w.j < n) (λ w m. omega (arith, m, l)) (waits_of x.out.task b.table) is_sound.last)
+
+  pub can_take : (copied : List Held) (end : End) → Fits digest worker_of b x spawned (how_view copied end) → CanTake x.out.task (learned_for digest end spawned b.table) copied end
+  can_take copied (End.Made ms) f =
+      (outputs_can digest then x is_here ms.items f.end.0, copies_can digest then x is_here copied f.end.1)
+  can_take copied (End.Saved q n refs holds mark) f =
+      (is_above n f.end.later, subst (Here then.gone) (sym f.end.here) is_here)
+  can_take copied (End.Shown q) f = copies_can digest then x is_here copied f.end.1
+  can_take copied (End.Missing name loss seen) f = tt
+
+-- the lost workers stay
+outputs_gone : (ms : List (r.Output P)) (t : TableSeen P) → (with_outputs ms t).gone ≡ t.gone
+outputs_gone [] t = refl
+outputs_gone (m ∷ ms) t = outputs_gone ms (placed m.name m.place t)
+
+copies_gone : (cs : List (Copy P)) (t : TableSeen P) → (with_copies cs t).gone ≡ t.gone
+copies_gone [] t = refl
+copies_gone (c ∷ cs) t = copies_gone cs (placed c.name c.place t)
+
+after_gone : (x : TaskId) (e : r.End P) (t : TableSeen P) → (table_after x e t).gone ≡ t.gone
+after_gone x (r.made ms cs) t = copies_gone cs (with_outputs ms t) ∙ outputs_gone ms t
+after_gone x (r.saved s) t = refl
+after_gone x (r.missing name loss) t = refl
+
+for_gone : (digest : List ℕ → List ℕ) (end : End) (ns : List Named) (t : TableSeen P) → (learned_for digest end ns t).gone ≡ t.gone
+for_gone digest (End.Made ms) ns t = (grown digest ns t).gone
+for_gone digest (End.Saved p k refs holds mark) ns t = (grown digest ns t).gone
+for_gone digest (End.Shown s) ns t = (grown digest ns t).gone
+for_gone digest (End.Missing name loss seen) ns t = refl
+
+pub open_gone : (digest : List ℕ → List ℕ) (main : Named) (t : TableSeen P) (lost : List ℕ) → t ≡ learned digest main (empty most_descriptions) → lost ≡ [] → t.gone ≡ lost
+open_gone digest main t lost is none =
+    let first : TableSeen P = empty most_descriptions in
+    ap (λ (u : TableSeen P). u.gone) is ∙ ((grown digest (main ∷ []) first).gone ∙ sym none)
+
+-- a master in its state, which goes on
+module _ {N : Type 0} (dig : N → (List ℕ → List ℕ)) (m : MasterSeen N) (n : N) (b : Board P) (e : record { namer = n; board = b } ≡ m) (lost : List ℕ) (stands : MasterStands (dig n) b lost) (run : m.board.stopped ≡ false) where
+  goes : b.stopped ≡ false
+  goes = subst (λ (z : MasterSeen N). z.board.stopped ≡ false) (sym e) run
+
+  going : Going (dig n) b
+  going = (stands goes).0
+
+  pub gone_now : b.table.gone ≡ lost
+  gone_now = (stands goes).1
+
+  pub whole_now : Whole b.main b.table
+  whole_now = sound_whole (dig n) worker_of b going.sound
+
+  -- after a start
+  module _ (x : TaskId) (w from : ℕ) (r : Runnable (board_graph m.board) x) (i : In w (idle_of m.board)) (os : List board.OrderOut) (js : List j.Entry) (is_from : from ≡ wait_number (last_wait x b.table)) (is_os : os ≡ b.orders ++ record { number = b.starts; worker = w; task = x; from = from } ∷ []) (is_js : js ≡ b.journal ++ j.Entry.Start b.starts w (task_key x) from ∷ []) where
+    pub going_started : Going (dig n) (record b { orders = os; starts = b.starts + 1; journal = js })
+    going_started =
+        let er = subst (λ (z : MasterSeen N). Runnable (board_graph z.board) x) (sym e) r in
+        let ei = subst (λ (z : MasterSeen N). In w (idle_of z.board)) (sym e) i in
+        let os_so = is_os ∙ ap (λ f. b.orders ++ record { number = b.starts; worker = w; task = x; from = f } ∷ []) is_from in
+        let js_so = is_js ∙ ap (λ f. b.journal ++ j.Entry.Start b.starts w (task_key x) f ∷ []) is_from in
+        let so : record b { orders = os; starts = b.starts + 1; journal = js } ≡ started worker_of b x w = ap (λ z. record b { orders = z; starts = b.starts + 1; journal = js }) os_so ∙ ap (λ z. record (started worker_of b x w) { journal = z }) js_so in
+        subst (Going (dig n)) (sym so) (started_going (dig n) b going x w er ei)
+
+  -- after a loss
+  module _ (w : ℕ) (u : TableSeen P) (os : List board.OrderOut) (js : List j.Entry) (is_u : u ≡ dropped worker_of w b.table) (is_os : os ≡ filter (λ (x : board.OrderOut). not (nat_eq w x.worker)) b.orders) (is_js : js ≡ b.journal ++ j.Entry.Lost w b.closes ∷ []) where
+    pub gone_lost : (more : List ℕ) → more ≡ lost ++ w ∷ [] → u.gone ≡ more
+    gone_lost more is =
+        ap (λ (z : TableSeen P). z.gone) is_u ∙ (ap (λ gs. gs ++ w ∷ []) gone_now ∙ sym is)
+
+    pub going_lost : Going (dig n) (record b { table = u; orders = os; journal = js })
+    going_lost =
+        let so : record b { table = u; orders = os; journal = js } ≡ lost_at worker_of w b = ap (λ z. record b { table = z; orders = os; journal = js }) is_u ∙ (ap (λ z. record b { table = dropped worker_of w b.table; orders = z; journal = js }) is_os ∙ ap (λ z. record (lost_at worker_of w b) { journal = z }) is_js) in
+        let long = more_written b.journal (j.Entry.Lost w b.closes) in
+        let counted = going.counted in
+        subst (Going (dig n)) (sym so) (record { sound = lost_sound (dig n) worker_of b going.sound w; counted = omega (arith, long, counted); few = going.few })
+
+  -- after a report
+  module _ (number : ℕ) (spawned : List Named) (copied : List Held) (end : End) (fits : (x : Order P) × (find_order number m.board.orders ≡ Some x.out) × Fits (dig m.namer) worker_of m.board x spawned (how_view copied end)) (o : board.OrderOut) (found : find_order number b.orders ≡ Some o) (k : N) (is_k : k ≡ n) (ns : List Named) (is_ns : ns ≡ spawned) (cs : List Held) (is_cs : cs ≡ copied) (t : TableSeen P) (is_t : t ≡ learned_for (dig k) end ns b.table) where
+    fits_now : (x : Order P) × (find_order number b.orders ≡ Some x.out) × Fits (dig n) worker_of b x spawned (how_view copied end)
+    fits_now =
+        subst (λ (z : MasterSeen N). (x : Order P) × (find_order number z.board.orders ≡ Some x.out) × Fits (dig z.namer) worker_of z.board x spawned (how_view copied end)) (sym e) fits
+
+    is_then : t ≡ learned_for (dig n) end spawned b.table
+    is_then = is_t ∙ (ap (λ z. learned_for (dig z) end ns b.table) is_k ∙ ap (λ z. learned_for (dig n) end z b.table) is_ns)
+
+    same_order : fits_now.0.out ≡ o
+    same_order = some_same fits_now.0.out o (sym fits_now.1 ∙ found)
+
+    pub takes_now : CanTake o.task t cs end
+    takes_now =
+        let x = fits_now.0 in
+        let can = can_take (dig n) b going.sound x number fits_now.1 spawned copied end fits_now.2 in
+        subst (λ (z : board.OrderOut). CanTake z.task t cs end) same_order (subst (λ u. CanTake x.out.task u cs end) (sym is_then) (subst (λ ds. CanTake x.out.task (learned_for (dig n) end spawned b.table) ds end) (sym is_cs) can))
+
+    module _ (all : LearnedFor (dig k) end ns b.table) (u : TableSeen P) (os : List board.OrderOut) (js : List j.Entry) (last : Bool) (is_u : u ≡ table_after o.task (how_view cs end) t) (is_os : os ≡ without o.number b.orders) (is_js : js ≡ b.journal ++ entry_for o.number (how_view cs end) ∷ []) (ds : List Held) (is_ds : ds ≡ copied) (is_last_so : last ≡ is_last o.task (how_view ds end)) where
+      pub gone_after : u.gone ≡ lost
+      gone_after =
+          ap (λ (z : TableSeen P). z.gone) is_u ∙ (after_gone o.task (how_view cs end) t ∙ (ap (λ (z : TableSeen P). z.gone) is_t ∙ (for_gone (dig k) end ns b.table ∙ gone_now)))
+
+      abbrev now : Board P
+      now = record b { table = u; orders = os; closes = b.closes + 1; journal = js; stopped = last }
+
+      now_is : now ≡ taken (dig n) b going o spawned copied end
+      now_is =
+          let u_so = is_u ∙ (ap (λ z. table_after o.task (how_view z end) t) is_cs ∙ ap (table_after o.task (how_view copied end)) is_then) in
+          let js_so = is_js ∙ ap (λ z. b.journal ++ entry_for o.number (how_view z end) ∷ []) is_cs in
+          let last_so = is_last_so ∙ ap (λ z. is_last o.task (how_view z end)) is_ds in
+          ap (λ z. record now { table = z }) u_so
+          ∙ (ap (λ z. record now { table = table_after o.task (how_view copied end) (learned_for (dig n) end spawned b.table); orders = z }) is_os
+          ∙ (ap (λ z. record (taken (dig n) b going o spawned copied end) { journal = z; stopped = last }) js_so
+          ∙ ap (λ z. record (taken (dig n) b going o spawned copied end) { stopped = z }) last_so))
+
+      all_now : LearnedFor (dig n) end spawned b.table
+      all_now = subst (λ ms. LearnedFor (dig n) end ms b.table) is_ns (subst (λ z. LearnedFor (dig z) end ns b.table) is_k all)
+
+      pub going_accepted : Going (dig n) now
+      going_accepted =
+          subst (Going (dig n)) (sym now_is) (subst (λ (z : board.OrderOut). Going (dig n) (taken (dig n) b going z spawned copied end)) same_order (taken_going (dig n) b going fits_now.0 number fits_now.1 spawned copied end fits_now.2 all_now goes))
+
+      pub accepted_so : (x : board.OrderOut) × (find_order number m.board.orders ≡ Some x) × (record { namer = n; board = now } ≡ record m { board = accepted (dig m.namer) m.board x spawned (how_view copied end) })
+      accepted_so =
+          let so = now_is ∙ taken_is (dig n) b going o spawned copied end goes in
+          (o, subst (λ (z : MasterSeen N). find_order number z.board.orders ≡ Some o) e found, subst (λ (z : MasterSeen N). record { namer = n; board = now } ≡ record z { board = accepted (dig z.namer) z.board o spawned (how_view copied end) }) e (ap (λ z. record { namer = n; board = z }) so))

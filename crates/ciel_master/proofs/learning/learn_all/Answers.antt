@@ -1,0 +1,34 @@
+-- What is refused first of the rest is what is refused first of all.
+use Rattle.std.proofs.Common.{◌≡◌, ◌+◌, ◌∷◌, drop, sym, ap, ◌∙◌, subst}
+use Rattle.std.proofs.lemmas.List.{drop_more}
+use Rattle.ciel_board.specs.Reports.{AllLearned, learned_all}
+use Rattle.ciel_master.specs.Refusals.{FirstStops}
+use Rattle.ciel_master.proofs.Steps.{refused_so, stops_here, stops_later}
+use Rattle.ciel_master.proofs.learning.learn_all.Goals as goal
+
+pub returns-in_err-learn-clause-refused : goal.returns-in_err-learn-clause-refused
+returns-in_err-learn-clause-refused g c =
+    let d = g.N.Namer.digest c.args.namer.now in
+    let l = c.loop-i in
+    let ns = c.args.spawned.now in
+    let n = c.index-spawned-i.result in
+    let rest = drop (l.i + 1) ns in
+    let e = c.in_err-learn.field-0.0 in
+    let here : drop l.i ns ≡ n ∷ rest = drop_more ns l.i n c.loop-i-test.true ∙ ap (λ y. y ∷ rest) (sym c.index-spawned-i.is) in
+    refused_so (FirstStops d ns c.args.table.now) c.from_residual.result e c.from_residual.ensures.1 (l.invariant.stops e (subst (λ xs. FirstStops d xs l.table e) (sym here) (stops_here d n rest l.table e c.in_err-learn.ensures.refused)))
+
+pub loop-i-preserved : goal.loop-i-preserved
+loop-i-preserved g c =
+    let d = g.N.Namer.digest c.args.namer.now in
+    let l = c.loop-i in
+    let ns = c.args.spawned.now in
+    let n = c.index-spawned-i.result in
+    let rest = drop (l.i + 1) ns in
+    let here : drop l.i ns ≡ n ∷ rest = drop_more ns l.i n c.loop-i-test.true ∙ ap (λ y. y ∷ rest) (sym c.index-spawned-i.is) in
+    let is = c.in_ok-learn.ensures.learned in
+    let answer = c.in_ok-learn.ensures.answer in
+    record {
+      table = ap (learned_all d rest) is ∙ (ap (λ xs. learned_all d xs l.table) (sym here) ∙ l.invariant.table);
+      all = λ a. l.invariant.all (subst (λ xs. AllLearned d xs l.table) (sym here) (answer, subst (AllLearned d rest) is a));
+      stops = λ e s. l.invariant.stops e (subst (λ xs. FirstStops d xs l.table e) (sym here) (stops_later d n rest l.table answer.0 answer.1 e (subst (λ t. FirstStops d rest t e) is s)));
+    }

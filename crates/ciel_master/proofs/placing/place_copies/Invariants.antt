@@ -1,0 +1,16 @@
+use Rattle.std.proofs.Common.{◌≡◌, drop}
+use Rattle.ciel_board.specs.Moves.{with_copies}
+use Rattle.ciel_board.specs.Reports.{Copy}
+use Rattle.ciel_journal.specs.Job.{Each}
+use Rattle.ciel_master.specs.Views.{worker_of}
+use Rattle.ciel_task.specs.Views.{P, copies_view}
+use Rattle.ciel_table.specs.Seen.{Known}
+use Rattle.ciel_table.specs.Sound.{Here}
+use Rattle.ciel_master.proofs.placing.place_copies.Given as goal
+
+abbrev pub invariant-loop-i : goal.invariant-loop-i
+invariant-loop-i l =
+    record {
+      table : with_copies (copies_view (drop l.i l.copied)) l.table ≡ with_copies (copies_view l.copied) l.fn.table;
+      known : Each (λ (c : Copy P). Known l.table c.name × Here l.table.gone (worker_of c.place)) (copies_view (drop l.i l.copied));
+    }

@@ -1,0 +1,16 @@
+use Rattle.std.proofs.Common.{◌≡◌, drop, map}
+use Rattle.ciel_board.specs.Moves.{with_outputs}
+use Rattle.ciel_journal.specs.Job.{Each}
+use Rattle.ciel_master.specs.Views.{worker_of}
+use Rattle.ciel_task.specs.Views.{output_view}
+use Rattle.ciel_table.specs.Seen.{Known}
+use Rattle.ciel_table.specs.Sound.{Here}
+use Rattle.ciel_task.specs.declared.report.Made.{Made}
+use Rattle.ciel_master.proofs.placing.place_outputs.Given as goal
+
+abbrev pub invariant-loop-i : goal.invariant-loop-i
+invariant-loop-i l =
+    record {
+      table : with_outputs (map output_view (drop l.i l.made)) l.table ≡ with_outputs (map output_view l.made) l.fn.table;
+      known : Each (λ (m : Made). Known l.table m.name × Here l.table.gone (worker_of m.place)) (drop l.i l.made);
+    }

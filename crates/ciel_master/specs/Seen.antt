@@ -1,0 +1,49 @@
+-- What contracts see of a master.
+use Rattle.std.specs.Prelude.{◌≡◌, ℕ, ◌+◌, ◌≤◌, ◌<◌, ◌^◌, List, Bool, false, length, map}
+use Rattle.ciel_board.specs.Board.{Board}
+use Rattle.ciel_board.specs.Sound.{Sound}
+use Rattle.ciel_journal.specs.History.{Plan}
+use Rattle.ciel_journal.specs.Job.{Digest}
+use Rattle.ciel_table.specs.Seen.{TableSeen}
+use Rattle.ciel_master.specs.Views.{entry_view, kept_view, worker_of}
+use Rattle.ciel_task.specs.Views.{P}
+use Rattle.ciel_master.specs.declared.entry.Entry.{Entry}
+use Rattle.ciel_master.specs.declared.orders.OrderOut.{OrderOut}
+use Rattle.ciel_master.specs.declared.plan.RunPlan.{RunPlan}
+
+-- what gives the names, and the state by names
+pub record MasterSeen (N : Type 0) : Type 0 where
+  pub namer : N
+  pub board : Board P
+
+-- how many descriptions a run may know
+abbrev pub most_descriptions : ℕ
+most_descriptions = 65536
+
+abbrev pub plan_view : RunPlan → Plan
+plan_view p = record { workers = p.workers; seed = p.seed; losses = p.losses; limit = most_descriptions }
+
+-- the state of these parts
+abbrev pub board_of : RunPlan → List (List ℕ) → Digest → TableSeen P → List OrderOut → (starts closes : ℕ) → List Entry → Bool → Board P
+board_of plan keys main table orders starts closes journal stopped =
+    record {
+      plan = plan_view plan;
+      keys = keys;
+      main = main;
+      table = table;
+      orders = map kept_view orders;
+      starts = starts;
+      closes = closes;
+      journal = map entry_view journal;
+      stopped = stopped;
+    }
+
+-- until the run stops: it is sound, each Start and each close has an entry, and inputs have numbers of 32 bits
+pub record Going (digest : List ℕ → List ℕ) (b : Board P) : Type 0 where
+  pub sound : Sound digest worker_of b
+  pub counted : b.starts + b.closes ≤ length b.journal
+  pub few : length b.keys < 2 ^ 32
+
+-- besides, these are the lost workers
+abbrev pub MasterStands : (List ℕ → List ℕ) → Board P → List ℕ → Type 0
+MasterStands digest b lost = b.stopped ≡ false → Going digest b × (b.table.gone ≡ lost)

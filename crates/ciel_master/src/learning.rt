@@ -1,0 +1,81 @@
+//! A report's spawned list, learned in order.
+
+ghost use Rattle.std.specs.Prelude.{◌≡◌, ℕ, Ok, IfErr, OnErr, OnOk};
+ghost use Rattle.ciel_board.specs.Reports.{AllLearned, learned_all};
+ghost use Rattle.ciel_master.specs.Refusals.{FirstStops, Stops, StopsAt};
+ghost use Rattle.ciel_master.specs.Taking.{LearnedFor, learned_for};
+ghost use Rattle.ciel_table.specs.Learning.{learn_answer, learned};
+
+use crate::stop::Stop;
+use ciel_name::name::Namer;
+use ciel_store::shelves::Place;
+use ciel_table::refusal::Learn;
+use ciel_table::table::Table;
+use ciel_task::block::Block;
+use ciel_task::report::End;
+use sky_base::object::Named;
+
+/// Why a description isn't learned.
+fn why(refusal: Learn, given: &Named) -> Stop
+    ensures { Stops refusal given.now result }
+{
+    match refusal {
+        Learn::Clash { kept, given } => Stop::NameClash { kept, given },
+        Learn::Full { held } => match given.desc.copy() {
+            Ok(given) => Stop::TooMany { held, given },
+            Err(_) => Stop::Memory,
+        },
+        Learn::Memory => Stop::Memory,
+    }
+}
+
+/// Learns one description. A refusal changes nothing.
+fn learn<N: Namer>(table: &mut Table<Place<Block>>, namer: &N, named: &Named) -> Result<(), Stop>
+    ensures learned { OnOk result (table.new ≡ learned (N.digest namer.now) named.now table.old) }
+    ensures answer { OnOk result ((id : ℕ) × (learn_answer named.now table.old ≡ Ok id)) }
+    ensures refused { IfErr result (λ e. StopsAt named.now table.old e) }
+    ensures kept { OnErr result (table.new ≡ table.old) }
+{
+    match table.learn(named, namer) {
+        Ok(_) => Ok(()),
+        Err(refusal) => Err(why(refusal, named)),
+    }
+}
+
+/// Learns a list in order, up to the first that is refused.
+fn learn_all<N: Namer>(
+    table: &mut Table<Place<Block>>,
+    namer: &N,
+    spawned: &[Named],
+) -> Result<(), Stop>
+    ensures learned { OnOk result (table.new ≡ learned_all (N.digest namer.now) spawned.now table.old) }
+    ensures all { OnOk result (AllLearned (N.digest namer.now) spawned.now table.old) }
+    ensures refused { IfErr result (λ e. FirstStops (N.digest namer.now) spawned.now table.old e) }
+{
+    for i in 0..spawned.len() {
+        learn(table, namer, &spawned[i])?;
+    }
+    Ok(())
+}
+
+/// Learns what a report spawned; where it tells that something was missing, nothing.
+pub(crate) fn learn_for<N: Namer>(
+    table: &mut Table<Place<Block>>,
+    namer: &N,
+    spawned: &[Named],
+    end: &End,
+) -> Result<(), Stop>
+    ensures learned { OnOk result (table.new ≡ learned_for (N.digest namer.now) end.now spawned.now table.old) }
+    ensures all { OnOk result (LearnedFor (N.digest namer.now) end.now spawned.now table.old) }
+    ensures refused { IfErr result (λ e. FirstStops (N.digest namer.now) spawned.now table.old e) }
+{
+    match end {
+        End::Missing { .. } => Ok(()),
+        End::Made(_) | End::Saved { .. } | End::Shown(_) => {
+            match learn_all(table, namer, spawned) {
+                Ok(()) => Ok(()),
+                Err(stop) => Err(stop),
+            }
+        }
+    }
+}

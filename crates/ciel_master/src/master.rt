@@ -1,0 +1,263 @@
+//! The master itself.
+
+ghost use Rattle.std.specs.Prelude.{◌≡◌, ◌<◌, ◌^◌, [], IfErr, IfNone, IfOk, IfSome, OnErr, OnOk, Some, false, is_some, length, map, nat_lt, true, ◌&&◌};
+ghost use Rattle.std.specs.Arc.{arc_value};
+ghost use Rattle.std.specs.List.{IsDistinct};
+ghost use Rattle.sky_base.specs.Val.{no_pairs, no_vals, same_text};
+ghost use Rattle.sky_base.specs.declared.object.Desc1.{Desc1};
+ghost use Rattle.sky_base.specs.declared.object.TaskId.{TaskId};
+ghost use Rattle.ciel_board.specs.Board as b;
+ghost use Rattle.ciel_board.specs.Board.{board_graph, find_order, idle_of, workers_out};
+ghost use Rattle.ciel_board.specs.Moves.{accepted, empty, lost_at, opened, order_for, started};
+ghost use Rattle.ciel_board.specs.Reports.{IsNamed};
+ghost use Rattle.ciel_board.specs.Sound.{Fits};
+ghost use Rattle.ciel_journal.specs.Graph.{Circle, Picks, Runnable};
+ghost use Rattle.ciel_journal.specs.Job.{In};
+ghost use Rattle.ciel_journal.specs.Turns.{is_idle};
+ghost use Rattle.ciel_table.specs.Learning.{learned};
+ghost use Rattle.ciel_task.specs.Views.{P, order_view, report_end};
+ghost use Rattle.ciel_want.specs.Waited.{tasks_in_order};
+ghost use Rattle.ciel_master.specs.Refusals.{FirstStops};
+ghost use Rattle.ciel_master.specs.Seen.{MasterSeen, most_descriptions, plan_view};
+ghost use Rattle.ciel_master.specs.Taking.{now_of};
+ghost use Rattle.ciel_master.specs.Views.{entry_view, worker_of};
+
+use crate::bring::order_at;
+use crate::entry::Entry;
+use crate::learning::learn_for;
+use crate::orders::{OrderOut, can_work, close, close_at, find, tasks};
+use crate::plan::RunPlan;
+use crate::stop::{Now, Stop};
+use crate::taking::{begin, is_last, note_loss, take_end};
+use ciel_name::name::Namer;
+use ciel_store::shelves::Place;
+use ciel_table::table::Table;
+use ciel_task::block::Block;
+use ciel_task::order::Order;
+use ciel_task::report::Report;
+use ciel_task::shop::Shop;
+use ciel_want::want::{circle, runnable};
+use sky_base::name::Name;
+use sky_base::names::Names;
+use sky_base::object::{Named, TaskId};
+use sky_base::text::Memory;
+use std::alloc::Global;
+use std::marker::Model;
+use std::sync::Arc;
+
+/// Hands out tasks, takes what workers report, and keeps the journal of it. Contracts see the state by names, and what gives the
+/// names.
+#[derive(Drop)]
+pub struct Master<K, N: Namer> {
+    shop: Arc<Shop<K, N>, Global>,
+    plan: RunPlan,
+    main: Name,
+    table: Table<Place<Block>>,
+    orders: Vec<OrderOut>,
+    starts: u64,
+    closes: u64,
+    journal: Vec<Entry>,
+    stopped: bool,
+    lost: Vec<u32>,
+    alloc: Global,
+}
+
+impl<K, N: Namer> Model for Master<K, N> {
+    ghost use Rattle.std.specs.Arc.{arc_value};
+    ghost use Rattle.std.specs.Coded.{codes};
+    ghost use Rattle.sky_base.specs.Code.{pairs_code, val_code, vals_code};
+    ghost use Rattle.sky_frozen.specs.FrozenCode.{stand_code};
+    ghost use Rattle.ciel_master.specs.Seen.{MasterSeen, MasterStands, board_of};
+
+    ghost Value = { MasterSeen N };
+
+    ghost coded = { Prim.hlevel (codes, val_code, vals_code, pairs_code, stand_code) };
+
+    ghost view = { λ m. record { namer = (arc_value m.shop).namer; board = board_of m.plan (arc_value m.shop).job.script.keys m.main m.table m.orders.items m.starts m.closes m.journal.items m.stopped } };
+
+    ghost invariant = { λ m. MasterStands (N.digest (arc_value m.shop).namer) (board_of m.plan (arc_value m.shop).job.script.keys m.main m.table m.orders.items m.starts m.closes m.journal.items m.stopped) m.lost.items };
+}
+
+/// A table that knows the main call alone.
+fn first_table<N: Namer>(
+    alloc: Global,
+    main: &Named,
+    namer: &N,
+) -> Result<Table<Place<Block>>, Memory>
+    ensures { IfOk result (λ t. t ≡ learned (N.digest namer.now) main.now (empty most_descriptions)) }
+{
+    let mut table = Table::open(alloc, 65_536)?;
+    match table.learn(main, namer) {
+        Ok(_) => Ok(table),
+        Err(_) => Err(Memory),
+    }
+}
+
+impl<K: Drop, N: Namer + Drop> Master<K, N> {
+    /// A master that has started nothing, of this shop's job. `main` is the main call with its name by the shop's namer.
+    ///
+    /// Answers `Memory` for want of memory.
+    pub fn open(
+        alloc: Global,
+        shop: Arc<Shop<K, N>, Global>,
+        main: Named,
+        plan: RunPlan,
+    ) -> Result<Master<K, N>, Memory>
+        requires named { IsNamed (N.digest (arc_value shop).namer) main }
+        requires keys { length (arc_value shop).job.script.keys < 2 ^ 32 }
+        requires main { main.desc ≡ Desc1.Call [] no_pairs no_vals }
+        ensures opened { IfOk result (λ m. m ≡ record { namer = (arc_value shop).namer; board = opened (N.digest (arc_value shop).namer) (plan_view plan) (arc_value shop).job.script.keys main }) }
+    {
+        let table = first_table(alloc, &main, &shop.namer)?;
+        Ok(Master {
+            shop,
+            plan,
+            main: main.name,
+            table,
+            orders: Vec::new(alloc),
+            starts: 0,
+            closes: 0,
+            journal: Vec::new(alloc),
+            stopped: false,
+            lost: Vec::new(alloc),
+            alloc,
+        })
+    }
+
+    /// The tasks that can run, in the order of their least rows, the root task last.
+    ///
+    /// Answers `Memory` for want of memory.
+    pub fn runnable(&self) -> Result<Vec<TaskId>, Memory>
+        requires going { self.now.board.stopped ≡ false }
+        ensures runnable { IfOk result (λ ts. Picks (Runnable (board_graph self.now.board)) (tasks_in_order self.now.board.table) ts.items) }
+    {
+        let out = tasks(self.alloc, &self.orders)?;
+        let found = runnable(self.alloc, &self.table, &self.main, out.as_slice())?;
+        Ok(found)
+    }
+
+    /// A circle of waits, where nothing is out. `None` exactly where a task can run.
+    ///
+    /// Answers `Memory` for want of memory.
+    pub fn circle(&self) -> Result<Option<Names>, Memory>
+        requires going { self.now.board.stopped ≡ false }
+        requires none_out { self.now.board.orders ≡ [] }
+        ensures circle { IfOk result (λ o. IfSome o (λ ns. Circle (board_graph self.now.board) ns)) }
+        ensures distinct { IfOk result (λ o. IfSome o (λ ns. IsDistinct same_text ns)) }
+        ensures stuck { IfOk result (λ o. IfSome o (λ _. (task : TaskId) → Runnable (board_graph self.now.board) task → ⊥)) }
+        ensures none { IfOk result (λ o. IfNone o ((task : TaskId) × Runnable (board_graph self.now.board) task)) }
+    {
+        let found = circle(self.alloc, &self.table, &self.main)?;
+        Ok(found)
+    }
+
+    /// Starts a task at a worker: the order goes on with the task there from its last saved wait.
+    ///
+    /// Answers `Memory` for want of memory; the master is then as it was.
+    pub fn start(&mut self, task: &TaskId, worker: u32) -> Result<Order, Memory>
+        requires going { self.old.board.stopped ≡ false }
+        requires runnable { Runnable (board_graph self.old.board) task.now }
+        requires idle { In worker (idle_of self.old.board) }
+        ensures order { IfOk result (λ o. order_view o ≡ order_for worker_of self.old.board task.now worker) }
+        ensures started { OnOk result (self.new ≡ record self.old { board = started worker_of self.old.board task.now worker }) }
+        ensures kept { OnErr result (self.new ≡ self.old) }
+    {
+        let number = self.starts;
+        let keys = self.shop.job.script.keys().as_slice();
+        let order = order_at(
+            self.alloc,
+            keys,
+            &self.main,
+            &self.table,
+            number,
+            task,
+            worker,
+        )?;
+        let out = OrderOut {
+            number,
+            worker,
+            task: *task,
+            from: order.from,
+        };
+        begin(&mut self.orders, &mut self.journal, out)?;
+        self.starts += 1;
+        Ok(order)
+    }
+
+    /// Takes what a worker reports of an order that is out: learns what it spawned, places what it made, and writes it into the
+    /// journal. Where something was missing the order is closed, and nothing else changes.
+    ///
+    /// Answers what refuses the first description that isn't learned, and `Memory` for want of memory. The journal is then as it
+    /// was, and the run has stopped.
+    pub fn accept(&mut self, report: Report) -> Result<Now, Stop>
+        requires going { self.old.board.stopped ≡ false }
+        requires fits { (x : b.Order P) × (find_order report.number self.old.board.orders ≡ Some x.out) × Fits (N.digest self.old.namer) worker_of self.old.board x report.spawned.items (report_end report) }
+        ensures accepted { OnOk result ((x : b.OrderOut) × (find_order report.number self.old.board.orders ≡ Some x) × (self.new ≡ record self.old { board = accepted (N.digest self.old.namer) self.old.board x report.spawned.items (report_end report) })) }
+        ensures now { IfOk result (λ now. now ≡ now_of report.end) }
+        ensures journal { OnErr result (self.new.board.journal ≡ self.old.board.journal) }
+        ensures stopped { OnErr result (self.new.board.stopped ≡ true) }
+        ensures refused { IfErr result (λ e. FirstStops (N.digest self.old.namer) report.spawned.items self.old.board.table e) }
+    {
+        self.stopped = true;
+        let Report {
+            number,
+            spawned,
+            copied,
+            end,
+            ..
+        } = report;
+        let Some(order) = find(&self.orders, number) else {
+            unreachable!()
+        };
+        let last = is_last(&order.task, &end, copied.as_slice());
+        learn_for(&mut self.table, &self.shop.namer, spawned.as_slice(), &end)?;
+        let now = take_end(
+            self.alloc,
+            &mut self.table,
+            &mut self.journal,
+            &order,
+            copied.as_slice(),
+            end,
+        )?;
+        close(&mut self.orders, order.number);
+        self.closes += 1;
+        self.stopped = last;
+        Ok(now)
+    }
+
+    /// A worker is lost: its places and the stacks that it saved are dropped, and the order that it had is closed.
+    ///
+    /// Answers `Memory` for want of memory; the master is then as it was.
+    pub fn lose(&mut self, worker: u32) -> Result<(), Memory>
+        requires going { self.old.board.stopped ≡ false }
+        ensures lost { OnOk result (self.new ≡ record self.old { board = lost_at worker_of worker self.old.board }) }
+        ensures kept { OnErr result (self.new ≡ self.old) }
+    {
+        note_loss(&mut self.lost, &mut self.journal, worker, self.closes)?;
+        close_at(&mut self.orders, worker);
+        self.table.drop_worker(worker);
+        Ok(())
+    }
+
+    /// Whether it is one of the plan's workers, isn't lost and has no order. It takes no memory.
+    pub fn is_idle(&self, worker: u32) -> bool
+        requires going { self.now.board.stopped ≡ false }
+        ensures { result ≡ (nat_lt worker self.now.board.plan.workers && is_idle self.now.board.table.gone (workers_out self.now.board.orders) worker) }
+    {
+        worker < self.plan.workers && can_work(&self.lost, &self.orders, worker)
+    }
+
+    /// The journal so far.
+    pub fn journal(&self) -> &Vec<Entry>
+        ensures { map entry_view result.now.items ≡ self.now.board.journal }
+    {
+        &self.journal
+    }
+
+    /// Whether an order of this number is out. It takes no memory.
+    pub fn is_out(&self, number: u64) -> bool
+        ensures { result ≡ is_some (find_order number self.now.board.orders) }
+    {
+        find(&self.orders, number).is_some()
+    }
+}

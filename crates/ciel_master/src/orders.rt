@@ -1,0 +1,103 @@
+//! Orders that are out: at most one for each worker.
+
+ghost use Rattle.std.specs.Prelude.{◌≡◌, ℕ, filter, map, not, nat_eq, IfOk};
+ghost use Rattle.std.specs.Option.{option_map};
+ghost use Rattle.std.specs.List.{list_any};
+ghost use Rattle.ciel_board.specs.Board as b;
+ghost use Rattle.ciel_board.specs.Board.{find_order, tasks_out, workers_out};
+ghost use Rattle.ciel_journal.specs.Turns.{is_idle};
+ghost use Rattle.ciel_board.specs.Moves.{without};
+ghost use Rattle.ciel_master.specs.Views.{kept_view};
+
+use sky_base::object::TaskId;
+use sky_base::text::Memory;
+use std::alloc::Global;
+
+/// An order that is out.
+#[derive(Clone, Copy, Debug, Drop)]
+pub struct OrderOut {
+    pub number: u64,
+    pub worker: u32,
+    pub task: TaskId,
+    pub from: u32,
+}
+
+/// The one of this number.
+pub(crate) fn find(orders: &[OrderOut], number: u64) -> Option<OrderOut>
+    ensures { option_map kept_view result ≡ find_order number (map kept_view orders.now) }
+{
+    let mut best = None;
+    let mut i = orders.len();
+    while i > 0 {
+        i -= 1;
+        let order = &orders[i];
+        if number == order.number {
+            best = Some(*order);
+        }
+    }
+    best
+}
+
+/// Whether a worker has one.
+fn is_busy(orders: &[OrderOut], worker: u32) -> bool
+    ensures { result ≡ list_any (nat_eq worker) (workers_out (map kept_view orders.now)) }
+{
+    let mut busy = false;
+    let mut i = orders.len();
+    while i > 0 {
+        i -= 1;
+        if worker == orders[i].worker {
+            busy = true;
+        }
+    }
+    busy
+}
+
+/// Whether it is among these workers.
+fn has(workers: &[u32], worker: u32) -> bool
+    ensures { result ≡ list_any (nat_eq worker) workers.now }
+{
+    let mut found = false;
+    let mut i = workers.len();
+    while i > 0 {
+        i -= 1;
+        if worker == workers[i] {
+            found = true;
+        }
+    }
+    found
+}
+
+/// Whether a worker isn't among the lost ones and has no order.
+pub(crate) fn can_work(lost: &[u32], orders: &[OrderOut], worker: u32) -> bool
+    ensures { result ≡ is_idle lost.now (workers_out (map kept_view orders.now)) worker }
+{
+    !has(lost, worker) && !is_busy(orders, worker)
+}
+
+/// Takes the one of this number off the list.
+pub(crate) fn close(orders: &mut Vec<OrderOut>, number: u64)
+    ensures { map kept_view orders.new.items ≡ without number (map kept_view orders.old.items) }
+{
+    orders.retain(|order| number != order.number);
+}
+
+/// Takes what is out at a worker off the list.
+pub(crate) fn close_at(orders: &mut Vec<OrderOut>, worker: u32)
+    ensures { map kept_view orders.new.items ≡ filter (λ (x : b.OrderOut). not (nat_eq worker x.worker)) (map kept_view orders.old.items) }
+{
+    orders.retain(|order| worker != order.worker);
+}
+
+/// The tasks that are out.
+pub(crate) fn tasks(alloc: Global, orders: &[OrderOut]) -> Result<Vec<TaskId>, Memory>
+    ensures { IfOk result (λ ts. ts.items ≡ tasks_out (map kept_view orders.now)) }
+{
+    let mut tasks = Vec::new(alloc);
+    for i in 0..orders.len() {
+        if tasks.push(orders[i].task).is_err() {
+            return Err(Memory);
+        }
+    }
+    Ok(tasks)
+}

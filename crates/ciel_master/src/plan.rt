@@ -1,0 +1,43 @@
+//! The plan of a run.
+
+ghost use Rattle.std.specs.Prelude.{◌≡◌};
+
+use std::marker::Model;
+
+/// Losses, numbered from 0: each a count of closed Starts and the worker that is lost as soon as it is reached.
+#[derive(Drop)]
+pub struct Losses {
+    items: Vec<(u32, u32)>,
+}
+
+impl Model for Losses {
+    ghost use Rattle.std.specs.Prelude.{List, ℕ};
+
+    ghost Value = { List (ℕ × ℕ) };
+
+    ghost view = { λ a. a.items.items };
+}
+
+impl Losses {
+    /// The losses, in order.
+    pub fn of(items: Vec<(u32, u32)>) -> Losses
+        ensures { result ≡ items.items }
+    {
+        Losses { items }
+    }
+
+    /// The losses in order.
+    pub fn as_slice(&self) -> &[(u32, u32)]
+        ensures { result.now ≡ self.now }
+    {
+        self.items.as_slice()
+    }
+}
+
+/// How many workers there are, the seed number, and the losses.
+#[derive(Drop)]
+pub struct RunPlan {
+    pub workers: u32,
+    pub seed: u64,
+    pub losses: Losses,
+}

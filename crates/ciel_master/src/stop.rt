@@ -1,0 +1,40 @@
+//! What comes of a report.
+
+use ciel_table::refusal::Learn;
+use sky_base::fault::Fault;
+use sky_base::object::Desc1;
+use sky_base::text::{Bytes, Memory};
+
+/// What comes of a report that is taken.
+#[derive(Drop)]
+pub enum Now {
+    /// The run goes on.
+    Goes,
+    /// The root task has its answer, with which the run ends.
+    Answer(Bytes),
+    /// It has a fault as its answer.
+    Fault(Fault),
+}
+
+/// Why a report isn't taken. Nothing that it made is placed then, the journal is as it was, and only the journal may be asked.
+#[derive(Drop)]
+pub enum Stop {
+    /// The first spawned description that isn't learned has the name of another one: the canonical bytes that are kept, and
+    /// those given.
+    NameClash { kept: Bytes, given: Bytes },
+    /// It is new, and so many descriptions are held, which is the limit.
+    TooMany { held: u32, given: Desc1 },
+    /// Want of memory.
+    Memory,
+}
+
+impl From<Memory> for Stop {
+    ghost use Rattle.std.specs.Prelude.{◌≡◌};
+    ghost use Rattle.ciel_master.specs.declared.stop.Stop.{Stop};
+
+    ghost from_gives = { λ _ e. e ≡ Stop.Memory };
+
+    fn from(_refusal: Memory) -> Stop {
+        Stop::Memory
+    }
+}

@@ -1,0 +1,211 @@
+//! What a start and the end of a report change.
+
+ghost use Rattle.std.specs.Prelude.{◌≡◌, ◌++◌, ◌∷◌, [], IfOk, OnErr, OnOk, map};
+ghost use Rattle.ciel_board.specs.Moves.{with_copies, with_outputs};
+ghost use Rattle.ciel_board.specs.Reports.{copy_names, made_keys};
+ghost use Rattle.ciel_journal.specs.Entries as j;
+ghost use Rattle.ciel_task.specs.declared.report.End.{End};
+ghost use Rattle.ciel_master.specs.Taking.{CanTake, CopiesPlace, OutputsPlace, entry_for, is_last, now_of, table_after};
+ghost use Rattle.ciel_master.specs.Views.{entry_view, kept_view, worker_of};
+ghost use Rattle.ciel_task.specs.Views.{copies_view, how_view, output_view};
+ghost use Rattle.ciel_table.specs.Changes.{saved};
+ghost use Rattle.ciel_table.specs.Seen.{waits_of};
+ghost use Rattle.ciel_table.specs.Sound.{Here, IsAbove};
+
+use crate::entry::Entry;
+use crate::orders::OrderOut;
+use crate::placing::{keys_of, names_of, place_copies, place_outputs};
+use crate::stop::Now;
+use ciel_store::shelves::Place;
+use ciel_table::table::Table;
+use ciel_table::wait::Wait;
+use ciel_task::block::{Block, Held};
+use ciel_task::report::{End, Made};
+use sky_base::object::TaskId;
+use sky_base::text::Memory;
+use sky_state::shown::Shown;
+use std::alloc::Global;
+
+/// Writes an entry. After `Memory` the journal is as it was.
+fn write(journal: &mut Vec<Entry>, entry: Entry) -> Result<(), Memory>
+    ensures written { OnOk result (map entry_view journal.new.items ≡ map entry_view journal.old.items ++ entry_view entry ∷ []) }
+    ensures kept { OnErr result (journal.new.items ≡ journal.old.items) }
+{
+    match journal.push(entry) {
+        Ok(()) => Ok(()),
+        Err(_) => Err(Memory),
+    }
+}
+
+/// An order is out, and the journal has it. After `Memory` both are as they were.
+pub(crate) fn begin(
+    orders: &mut Vec<OrderOut>,
+    journal: &mut Vec<Entry>,
+    order: OrderOut,
+) -> Result<(), Memory>
+    ensures orders { OnOk result (map kept_view orders.new.items ≡ map kept_view orders.old.items ++ kept_view order ∷ []) }
+    ensures journal { OnOk result (map entry_view journal.new.items ≡ map entry_view journal.old.items ++ entry_view (Entry.Start order.number order.worker order.task order.from) ∷ []) }
+    ensures kept { OnErr result (orders.new.items ≡ orders.old.items) }
+    ensures unwritten { OnErr result (journal.new.items ≡ journal.old.items) }
+{
+    if orders.reserve(1).is_err() {
+        return Err(Memory);
+    }
+    let entry = Entry::Start {
+        number: order.number,
+        worker: order.worker,
+        task: order.task,
+        from: order.from,
+    };
+    write(journal, entry)?;
+    orders.push_reserved(order);
+    Ok(())
+}
+
+/// A worker more is lost, and the journal has it. After `Memory` both are as they were.
+pub(crate) fn note_loss(
+    lost: &mut Vec<u32>,
+    journal: &mut Vec<Entry>,
+    worker: u32,
+    after: u64,
+) -> Result<(), Memory>
+    ensures lost { OnOk result (lost.new.items ≡ lost.old.items ++ worker ∷ []) }
+    ensures written { OnOk result (map entry_view journal.new.items ≡ map entry_view journal.old.items ++ entry_view (Entry.Lost worker after) ∷ []) }
+    ensures kept { OnErr result (lost.new.items ≡ lost.old.items) }
+    ensures unwritten { OnErr result (journal.new.items ≡ journal.old.items) }
+{
+    if lost.reserve(1).is_err() {
+        return Err(Memory);
+    }
+    let entry = Entry::Lost { worker, after };
+    write(journal, entry)?;
+    lost.push_reserved(worker);
+    Ok(())
+}
+
+/// The task came to its end: its outputs and copies are placed, and the journal has it. After `Memory` the journal is as it was.
+fn take_made(
+    alloc: Global,
+    table: &mut Table<Place<Block>>,
+    journal: &mut Vec<Entry>,
+    number: u64,
+    made: &[Made],
+    copied: &[Held],
+) -> Result<(), Memory>
+    requires made { OutputsPlace table.old made.now }
+    requires copied { CopiesPlace table.old copied.now }
+    ensures table { OnOk result (table.new ≡ with_copies (copies_view copied.now) (with_outputs (map output_view made.now) table.old)) }
+    ensures journal { OnOk result (map entry_view journal.new.items ≡ map entry_view journal.old.items ++ j.Entry.Done number (made_keys (map output_view made.now)) (copy_names (copies_view copied.now)) ∷ []) }
+    ensures kept { OnErr result (journal.new.items ≡ journal.old.items) }
+{
+    let keys = keys_of(alloc, made)?;
+    let names = names_of(alloc, copied)?;
+    place_outputs(table, made)?;
+    place_copies(table, copied)?;
+    let entry = Entry::Done {
+        number,
+        made: keys,
+        copied: names,
+    };
+    write(journal, entry)?;
+    Ok(())
+}
+
+/// The task waits: its stack is saved, and the journal has it. After `Memory` the journal is as it was.
+fn take_saved(
+    table: &mut Table<Place<Block>>,
+    journal: &mut Vec<Entry>,
+    order: &OrderOut,
+    wait: Wait<Place<Block>>,
+    mark: [u8; 20],
+) -> Result<(), Memory>
+    requires later { IsAbove wait.j (waits_of order.now.task table.old) }
+    requires here { Here table.old.gone (worker_of wait.place) }
+    ensures table { OnOk result (table.new ≡ saved order.now.task wait table.old) }
+    ensures journal { OnOk result (map entry_view journal.new.items ≡ map entry_view journal.old.items ++ j.Entry.Saved order.now.number wait.j mark ∷ []) }
+    ensures kept { OnErr result (journal.new.items ≡ journal.old.items) }
+{
+    let entry = Entry::Saved {
+        number: order.number,
+        j: wait.j,
+        mark,
+    };
+    table.save_wait(&order.task, wait)?;
+    write(journal, entry)?;
+    Ok(())
+}
+
+/// The answer of a run.
+fn answer(shown: Shown) -> Now
+    ensures { result ≡ now_of (End.Shown shown) }
+{
+    match shown {
+        Shown::Text(text) => Now::Answer(text),
+        Shown::Fault(fault) => Now::Fault(fault),
+    }
+}
+
+/// What the end of a report changes. After `Memory` the journal is as it was.
+pub(crate) fn take_end(
+    alloc: Global,
+    table: &mut Table<Place<Block>>,
+    journal: &mut Vec<Entry>,
+    order: &OrderOut,
+    copied: &[Held],
+    end: End,
+) -> Result<Now, Memory>
+    requires can { CanTake order.now.task table.old copied.now end }
+    ensures table { OnOk result (table.new ≡ table_after order.now.task (how_view copied.now end) table.old) }
+    ensures journal { OnOk result (map entry_view journal.new.items ≡ map entry_view journal.old.items ++ entry_for order.now.number (how_view copied.now end) ∷ []) }
+    ensures kept { OnErr result (journal.new.items ≡ journal.old.items) }
+    ensures now { IfOk result (λ now. now ≡ now_of end) }
+{
+    match end {
+        End::Made(made) => {
+            take_made(alloc, table, journal, order.number, made.as_slice(), copied)?;
+            Ok(Now::Goes)
+        }
+        End::Shown(shown) => {
+            take_made(alloc, table, journal, order.number, &[], copied)?;
+            Ok(answer(shown))
+        }
+        End::Saved {
+            frozen,
+            j,
+            refs,
+            holds,
+            mark,
+        } => {
+            let wait = Wait {
+                j,
+                place: frozen,
+                refs,
+                holds,
+            };
+            take_saved(table, journal, order, wait, mark)?;
+            Ok(Now::Goes)
+        }
+        End::Missing { name, loss, .. } => {
+            let entry = Entry::Missed {
+                number: order.number,
+                name,
+                lost: loss.number,
+            };
+            write(journal, entry)?;
+            Ok(Now::Goes)
+        }
+    }
+}
+
+/// Whether the run ends with this end of a task.
+pub(crate) fn is_last(task: &TaskId, end: &End, copied: &[Held]) -> bool
+    ensures { result ≡ is_last task.now (how_view copied.now end.now) }
+{
+    match end {
+        End::Made(_) | End::Shown(_) => match task {
+            TaskId::Show => true,
+            TaskId::Of(_) => false,
+        },
+        _ => false,
+    }
+}

@@ -1,0 +1,4 @@
+//! What a task does that goes through its waits is what the report of an order may say of it.
+#![tactic(auto)]
+
+pub mod law;

@@ -1,0 +1,105 @@
+// A task that goes through its waits.
+
+ghost use Rattle.std.specs.Prelude.{◌≡◌, ◌≤◌, [], IfOk, length};
+ghost use Rattle.sky_parse.specs.Source.{IsScript};
+ghost use Rattle.sky_state.specs.Fits.{Fits};
+ghost use Rattle.sky_state.specs.StateView.{stand_of};
+ghost use Rattle.sky_onward.specs.Onward.{IsRead};
+ghost use Rattle.sky_through.specs.Found.{HasAll};
+ghost use Rattle.through_rows.specs.Rows.{shelved};
+
+use crate::finder::Shelf;
+use ciel_name::name::Sha1Namer;
+use sky_base::fault::{Fault, FaultKind};
+use sky_base::object::Object;
+use sky_base::script::{Script, Texts};
+use sky_base::value::Value;
+use sky_numbers::code::Numbered;
+use sky_onward::step::Step;
+use sky_parse::script::parse;
+use sky_state::shown::Shown;
+use sky_state::state::State;
+use sky_text::lex::{lex, line_col};
+use sky_through::through::run_through;
+use std::alloc::Global;
+use std::test::Fail;
+
+/// What a task comes to: the number or the fault that a call ends with, the length of the text that the root task shows, a wait for
+/// something that isn't there, or a refusal.
+#[derive(Clone, Copy, PartialEq, Eq)]
+pub enum Came {
+    Int(i64),
+    Fault(FaultKind, u32, u32),
+    Other,
+    Text(usize),
+    Waits,
+    Refused,
+}
+
+/// The script that these bytes are.
+fn parsed(alloc: Global, bytes: &[u8]) -> Result<Script, Fail>
+    requires { length bytes.now ≤ 10000 }
+    ensures { IfOk result (λ s. IsScript bytes.now [] s) }
+{
+    let Ok(tokens) = lex(alloc, bytes) else {
+        return Err(Fail::from("no tokens"));
+    };
+    let end = line_col(bytes, bytes.len() as u32);
+    match parse(alloc, tokens.as_slice(), end, Texts::of(Vec::new(alloc))) {
+        Ok(script) => Ok(script),
+        Err(_) => Err(Fail::from("no script")),
+    }
+}
+
+/// The script of a text, which is one.
+pub fn script(alloc: Global, text: &str) -> Result<Script, Fail>
+    ensures { IfOk result (λ s. IsRead s) }
+{
+    let bytes = text.as_bytes();
+    if bytes.len() > 10_000 {
+        return Err(Fail::from("a long text"));
+    }
+    let script = parsed(alloc, bytes)?;
+    Ok(script)
+}
+
+fn object(object: &Object) -> Came {
+    match object {
+        Object::Data(Value::Int(number)) => Came::Int(*number),
+        Object::Fault(Fault { kind, line, col }) => Came::Fault(*kind, *line, *col),
+        _ => Came::Other,
+    }
+}
+
+fn answer(shown: &Shown) -> Came {
+    match shown {
+        Shown::Text(bytes) => Came::Text(bytes.as_slice().len()),
+        Shown::Fault(Fault { kind, line, col }) => Came::Fault(*kind, *line, *col),
+    }
+}
+
+fn step(step: &Step) -> Came {
+    match step {
+        Step::Ended(ended) => object(ended),
+        Step::Waits => Came::Waits,
+        Step::Shown(shown) => answer(shown),
+    }
+}
+
+/// The task goes on, as far as all is found.
+pub fn ran(
+    alloc: Global,
+    script: &Numbered,
+    state: &mut State,
+    shelf: &mut Shelf,
+) -> Result<Came, Fail>
+    requires same { script.now.nodes ≡ script.now.code }
+    requires read { IsRead script.now.code }
+    requires fits { Fits script.now.code (stand_of state.old) }
+    requires found { HasAll (shelved shelf.old) (stand_of state.old) }
+{
+    match run_through(alloc, script, state, shelf, &Sha1Namer)? {
+        Ok(came) => Ok(step(&came)),
+        Err(_) => Ok(Came::Refused),
+    }
+}
