@@ -19,7 +19,7 @@ use Rattle.sky_law.proofs.Lists.{some_is}
 use Rattle.ciel_journal.specs.Job.{Digest, Task, show, of, Act, made, wait, Held, Job, In, Each, WaitOf, StateOf, waits_in, made_before, made_in}
 use Rattle.ciel_journal.specs.Known.{Around, Batched, Begins, HandedTo, HandedToEnd, IsBatch, Knows, TellsTo, TellsToEnd}
 use Rattle.ciel_journal.proofs.Splits.{get_short}
-use Rattle.ciel_meant.specs.Inner.{inside, object_refs, real_inner}
+use Rattle.ciel_meant.specs.Inner.{inside, seen_refs, real_inner}
 use Rattle.ciel_meant.specs.Real.{back, forth_if, acts_of, held_if, real_job}
 use Rattle.ciel_meant.proofs.AlikeLaw.{before_is, made_is, wait_is}
 use Rattle.ciel_meant.proofs.ToldWaves as waves
@@ -80,31 +80,31 @@ module _ (job : s.Job) (around : s.Around) (name : s.Desc → Digest) (mark : s.
 
   -- ---- what an executor's output holds: nothing, since it is bytes
 
-  output_none : (bs : List (List ℕ)) (i : ℕ) → object_refs (Some (s.output_at bs i)) ≡ []
+  output_none : (bs : List (List ℕ)) (i : ℕ) → seen_refs (Some (s.output_at bs i)) ≡ []
   output_none [] i = refl
   output_none (b ∷ bs) zero = refl
   output_none (b ∷ bs) (suc i) = output_none bs i
 
-  run_none : (o : _) (i : ℕ) → object_refs (Some (s.run_output o i)) ≡ []
+  run_none : (o : _) (i : ℕ) → seen_refs (Some (s.run_output o i)) ≡ []
   run_none (Ok bs) i = output_none bs i
   run_none (Err k) i = refl
 
-  executed_none : (x : List ℕ) (a : s.Val) (m i : ℕ) (g : s.Gathered (List ℕ)) → object_refs (s.executed_on around x a m i g) ≡ []
+  executed_none : (x : List ℕ) (a : s.Val) (m i : ℕ) (g : s.Gathered (List ℕ)) → seen_refs (s.executed_on around x a m i g) ≡ []
   executed_none x a m i s.Gathered.not_yet = refl
   executed_none x a m i (s.Gathered.faulty f) = refl
   executed_none x a m i (s.Gathered.all bs) = run_none _ i
 
-  out_none : (k : ℕ) (x : List ℕ) (a : s.Val) (m i : ℕ) → object_refs (s.see job around k (v.out x a m i)) ≡ []
+  out_none : (k : ℕ) (x : List ℕ) (a : s.Val) (m i : ℕ) → seen_refs (s.see job around k (v.out x a m i)) ≡ []
   unfolding s.see
   out_none zero x a m i = refl
   out_none (suc k) x a m i = executed_none x a m i _
 
-  input_none : (k : ℕ) (y : List ℕ) → object_refs (s.see job around k (v.input y)) ≡ []
+  input_none : (k : ℕ) (y : List ℕ) → seen_refs (s.see job around k (v.input y)) ≡ []
   unfolding s.see
   input_none zero y = refl
   input_none (suc k) y = refl
 
-  carries_none : (d : s.Desc) (k : ℕ) → the.task_of d ≡ None → object_refs (s.see job around k d) ≡ []
+  carries_none : (d : s.Desc) (k : ℕ) → the.task_of d ≡ None → seen_refs (s.see job around k d) ≡ []
   carries_none (v.call f c vs) k e = cc
   carries_none (v.out x a m i) k e = out_none k x a m i
   carries_none (v.input y) k e = input_none k y
@@ -141,7 +141,7 @@ module _ (job : s.Job) (around : s.Around) (name : s.Desc → Digest) (mark : s.
     abbrev WaveTold : Option s.Val → Type 0
     WaveTold o = waves.WaveTold job around plain D o
 
-    seen_refers : (o : Option s.Obj) → Each D (object_refs o) → Seen o
+    seen_refers : (o : Option s.Obj) → Each D (seen_refs o) → Seen o
     seen_refers None h = tt
     seen_refers (Some (Object.bytes b)) h = tt
     seen_refers (Some (Object.data_of a)) h = each_refs D a (each_from D (v.refs a) h)
@@ -191,9 +191,9 @@ module _ (job : s.Job) (around : s.Around) (name : s.Desc → Digest) (mark : s.
       at_wait k i ds e =
           (k, ap (λ xs. slice_get xs i) (waits_are (r.acts (s.see job around k) run)) ∙ e)
 
-      seen_at : (k : ℕ) (ds : List s.Desc) → ((d e : s.Desc) → In d ds → In e (object_refs (s.see job around k d)) → In e S) → t.Each (λ d. Seen (s.see job around k d)) ds
+      seen_at : (k : ℕ) (ds : List s.Desc) → ((d e : s.Desc) → In d ds → In e (seen_refs (s.see job around k d)) → In e S) → t.Each (λ d. Seen (s.see job around k d)) ds
       seen_at k ds h =
-          outs.each_in (λ d. Seen (s.see job around k d)) ds (λ d i. seen_refers (s.see job around k d) (each_to D (object_refs (s.see job around k d)) (outs.each_in D (object_refs (s.see job around k d)) (λ e j. h d e (in_to d ds i) (in_to e (object_refs (s.see job around k d)) j)))))
+          outs.each_in (λ d. Seen (s.see job around k d)) ds (λ d i. seen_refers (s.see job around k d) (each_to D (seen_refs (s.see job around k d)) (outs.each_in D (seen_refs (s.see job around k d)) (λ e j. h d e (in_to d ds i) (in_to e (seen_refs (s.see job around k d)) j)))))
 
       seen_to : (k i : ℕ) → HandedTo' u (suc i) → SeenTo job around plain D (s.see job around k) i (t.waits_in (r.acts (s.see job around k) run))
       seen_to k i handed j ds l e =
@@ -268,20 +268,20 @@ module _ (job : s.Job) (around : s.Around) (name : s.Desc → Digest) (mark : s.
       call_end k before after x handed e m =
           inside_each x (makes_told job around plain D (s.see job around k) run others before after x (fine handed.begins) (sym (made_is (r.acts (s.see job around k) run)) ∙ e) (each_from D before m) (seen_all k handed))
 
-      outcome_refs : (k : ℕ) (o : r.Outcome ⊥) → OutcomeTold job around plain D (s.see job around k) o → Each D (object_refs (s.object_of o))
+      outcome_refs : (k : ℕ) (o : r.Outcome ⊥) → OutcomeTold job around plain D (s.see job around k) o → Each D (seen_refs (s.object_of o))
       outcome_refs k (r.Outcome.ended End.goes st) h = tt
       outcome_refs k (r.Outcome.ended (End.got a) st) h = each_to D (v.refs a) (refs_each D a h.0)
       outcome_refs k (r.Outcome.ended (End.returned a) st) h = each_to D (v.refs a) (refs_each D a h.0)
       outcome_refs k (r.Outcome.ended (End.failed x) st) h = tt
       outcome_refs k r.no_fuel h = tt
 
-      call_object : (k : ℕ) → TellsAll u → Each D (object_refs (s.see job around k (v.call f c vs)))
+      call_object : (k : ℕ) → TellsAll u → Each D (seen_refs (s.see job around k (v.call f c vs)))
       unfolding s.see
       call_object zero tells = tt
       call_object (suc k) tells = go (s.object_of (r.outcome (s.see job around k) run)) refl
         where
-          go : (o : Option s.Obj) → s.object_of (r.outcome (s.see job around k) run) ≡ o → Each D (object_refs (s.object_of (r.outcome (s.see job around k) run)))
-          go None q = subst (λ z. Each D (object_refs z)) (sym q) tt
+          go : (o : Option s.Obj) → s.object_of (r.outcome (s.see job around k) run) ≡ o → Each D (seen_refs (s.object_of (r.outcome (s.see job around k) run)))
+          go None q = subst (λ z. Each D (seen_refs z)) (sym q) tt
           go (Some x) q = outcome_refs k (r.outcome (s.see job around k) run) (outcome_told k tells (ap is_some q))
 
     -- ---- executors
@@ -294,7 +294,7 @@ module _ (job : s.Job) (around : s.Around) (name : s.Desc → Digest) (mark : s.
     -- what its values refer to up to a wave, at one fuel
     abbrev ReadsTo : ℕ → ℕ → Type 0
     ReadsTo k j =
-        (i : ℕ) (ds : List s.Desc) (d e : s.Desc) → i < j → WaitOf the show i ds → In d ds → In e (object_refs (s.see job around k d)) → In e S
+        (i : ℕ) (ds : List s.Desc) (d e : s.Desc) → i < j → WaitOf the show i ds → In d ds → In e (seen_refs (s.see job around k d)) → In e S
 
     some_refs : (a : s.Val) (d : s.Desc) → t.In d (v.refs a) → n.wave_refs (Some a) ≡ Some (n.distinct_refs a)
     some_refs a d i = go (n.distinct_refs a) (outs.in_distinct_refs a d i)
@@ -322,7 +322,7 @@ module _ (job : s.Job) (around : s.Around) (name : s.Desc → Digest) (mark : s.
         seen : (a : s.Val) (d : s.Desc) → s.wave job around k j ≡ Some a → t.In d (v.refs a) → Seen (s.see job around k d)
         seen a d e i =
             let wt = waves_wait k j a d (omega (arith, le)) e i in
-            seen_refers (s.see job around k d) (each_to D (object_refs (s.see job around k d)) (outs.each_in D (object_refs (s.see job around k d)) (λ x y. h j wt.0 d x (omega arith) wt.1 wt.2 (in_to x (object_refs (s.see job around k d)) y))))
+            seen_refers (s.see job around k d) (each_to D (seen_refs (s.see job around k d)) (outs.each_in D (seen_refs (s.see job around k d)) (λ x y. h j wt.0 d x (omega arith) wt.1 wt.2 (in_to x (seen_refs (s.see job around k d)) y))))
 
     at_wave : (k j : ℕ) (a : s.Val) → j ≤ 100 → TellsTo' show j → s.wave job around k j ≡ Some a → Refers D a
     at_wave k j a le tells e =
@@ -417,17 +417,17 @@ module _ (job : s.Job) (around : s.Around) (name : s.Desc → Digest) (mark : s.
     made_end_told (of (v.input y)) k before after x handed e h = none before after x e
     made_end_told (of (v.known b)) k before after x handed e h = absurd b
 
-    out_object : (k : ℕ) (x : List ℕ) (a : s.Val) (m i : ℕ) → Each D (object_refs (s.see job around k (v.out x a m i)))
+    out_object : (k : ℕ) (x : List ℕ) (a : s.Val) (m i : ℕ) → Each D (seen_refs (s.see job around k (v.out x a m i)))
     out_object k x a m i = subst (Each D) (sym (out_none k x a m i)) tt
 
-    object_of_told : (u : Task s.Desc) (k : ℕ) (d : s.Desc) → TellsAll u → In d (the.outputs u) → Each D (object_refs (s.see job around k d))
+    object_of_told : (u : Task s.Desc) (k : ℕ) (d : s.Desc) → TellsAll u → In d (the.outputs u) → Each D (seen_refs (s.see job around k d))
     object_of_told show k d tells i = absurd i
     object_of_told (of (v.call f c vs)) k d tells (inl e) =
-        subst (λ z. Each D (object_refs (s.see job around k z))) (sym e) (call_object f c vs k tells)
+        subst (λ z. Each D (seen_refs (s.see job around k z))) (sym e) (call_object f c vs k tells)
     object_of_told (of (v.call f c vs)) k d tells (inr i) = absurd i
     object_of_told (of (v.out x a m j)) k d tells i = go d (outs.makes d (n.Task.of (v.out x a m j)) (in_from d (t.outputs_of (n.Task.of (v.out x a m j))) i))
       where
-        go : (d : s.Desc) → t.maker d ≡ Some (n.Task.of (v.out x a m j)) → Each D (object_refs (s.see job around k d))
+        go : (d : s.Desc) → t.maker d ≡ Some (n.Task.of (v.out x a m j)) → Each D (seen_refs (s.see job around k d))
         go (v.call f c vs) e = cc
         go (v.out y b o p) e = out_object k y b o p
         go (v.input y) e = cc

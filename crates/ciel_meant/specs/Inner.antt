@@ -1,6 +1,6 @@
 -- What stands inside the real job's descriptions, and what its objects hold.
 use Rattle.std.specs.Prelude.{List, [], ◌++◌, Option, Some, None}
-use Rattle.sky_base.specs.Res.{Object}
+use Rattle.sky_base.specs.Res.{object_refs}
 use Rattle.sky_base.specs.Val.{call, out, input, known, refs, vals_refs, pairs_refs}
 use Rattle.sky_base.specs.See.{Around, Desc, Job, Obj, see}
 use Rattle.ciel_journal.specs.Known.{Inner}
@@ -13,11 +13,9 @@ inside (input k) = []
 inside (known b) = absurd b
 
 -- what an object refers to, where it is seen
-abbrev pub object_refs : Option Obj → List Desc
-object_refs None = []
-object_refs (Some (Object.bytes b)) = []
-object_refs (Some (Object.data_of a)) = refs a
-object_refs (Some (Object.fault f)) = []
+abbrev pub seen_refs : Option Obj → List Desc
+seen_refs None = []
+seen_refs (Some o) = object_refs o
 
 abbrev pub real_inner : Job → Around → Inner Desc
-real_inner job around = record { inside = inside; carries = λ n d. object_refs (see job around n d) }
+real_inner job around = record { inside = inside; carries = λ n d. seen_refs (see job around n d) }

@@ -2,41 +2,21 @@
 use Rattle.std.proofs.Common.{◌≡◌, ℕ, List, [], ◌∷◌, ◌++◌, true, false, cond, length, map, ap, sym, ◌∙◌, subst, ◌⊎◌, inl, inr, Some, None}
 use Rattle.std.specs.BTreeMap.{BTreeMap, get, is_at, Updates}
 use Rattle.std.specs.Map.{lookup}
-use Rattle.std.specs.Ordering.{nat_cmp, is_eq, ordering_then}
-use Rattle.std.specs.Cmp.Lexicographic.{slice_cmp}
-use Rattle.std.specs.declared.cmp.Ordering.{Ordering}
-use Rattle.std.proofs.lemmas.Cmp.{nat_cmp_total, tied_itself}
 use Rattle.sky_base.specs.NameOrder.{name_cmp}
 use Rattle.sky_base.specs.Val.{same_text}
-use Rattle.sky_base.proofs.Exact.{exact_text, self_text}
-use Rattle.sky_base.proofs.Found.{bools_alike}
+use Rattle.sky_base.proofs.Exact.{exact_text}
+use Rattle.sky_base.proofs.Found.{same_test}
 use Rattle.ciel_table.specs.Named.{place_of}
 use Rattle.ciel_table.specs.Inside.{IsIndex}
 use Rattle.ciel_table.proofs.Lists.{bool_cases}
 use Rattle.ciel_table.proofs.ByName.{place_new, place_still, place_same}
-
-then_second : (a b : Ordering) → is_eq (ordering_then a b) ≡ true → is_eq b ≡ true
-then_second Ordering.Less b e = cc
-then_second Ordering.Equal b e = e
-then_second Ordering.Greater b e = cc
-
-self_key : (n : List ℕ) → is_eq (name_cmp n n) ≡ true
-self_key n =
-    ap (λ o. is_eq (ordering_then o (slice_cmp nat_cmp n n))) (tied_itself nat_cmp_total (length n)) ∙ self_text n
-
--- names that the map takes for one are one
-same_key : (k n : List ℕ) → is_eq (name_cmp k n) ≡ same_text n k
-same_key k n =
-    bools_alike (is_eq (name_cmp k n)) (same_text n k)
-    (λ e. subst (λ m. same_text m k ≡ true) (exact_text k n (then_second (nat_cmp (length k) (length n)) (slice_cmp nat_cmp k n) e)) (self_text k))
-    (λ e. subst (λ m. is_eq (name_cmp k m) ≡ true) (sym (exact_text n k e)) (self_key k))
 
 module _ {X : Type 0} (name : X → List ℕ) where
   -- a new name comes to the end
   pub index_more : (old new : BTreeMap (List ℕ) ℕ) (xs : List X) (x : X) (k : List ℕ) (i : ℕ) → name x ≡ k → i ≡ length xs → IsIndex name old xs → place_of name k xs ≡ None → Updates name_cmp old new k (Some i) → IsIndex name new (xs ++ x ∷ [])
   index_more old new xs x k i s l h e u n =
       u.0 n
-      ∙ (ap (λ b. cond b (Some i) (get name_cmp old n)) (same_key k n)
+      ∙ (ap (λ b. cond b (Some i) (get name_cmp old n)) (same_test k n)
       ∙ (ap (λ o. cond (same_text n k) (Some i) o) (h n) ∙ turn (bool_cases (same_text n k))))
     where
       turn : ((same_text n k ≡ true) ⊎ (same_text n k ≡ false)) → cond (same_text n k) (Some i) (place_of name n xs) ≡ place_of name n (xs ++ x ∷ [])

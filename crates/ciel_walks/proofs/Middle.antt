@@ -17,7 +17,7 @@ use Rattle.sky_law.proofs.BoundLaw.{task_open}
 use Rattle.sky_law.proofs.FineLaw.{EndOk, FormsOk, Fine, ObjectOk}
 use Rattle.sky_law.proofs.FineReads.{SeenOk}
 use Rattle.sky_law.proofs.FormsLaw.{inner}
-use Rattle.sky_law.proofs.Lists.{some_is}
+use Rattle.sky_law.proofs.Lists.{some_is, none_some}
 use Rattle.sky_law.proofs.NodesLaw.{has_script}
 use Rattle.sky_law.proofs.OpenLaw as law
 use Rattle.sky_law.proofs.OpenLaw.{Opens, opens_call}
@@ -32,12 +32,9 @@ use Rattle.sky_state.proofs.LinkLaw.{linked_call}
 use Rattle.sky_rests.proofs.FitTaken.{fit_taken}
 use Rattle.sky_refits.proofs.Back.{Keeps, forms_back}
 use Rattle.sky_refits.proofs.Fines.{plug_fine, block_fine}
-use Rattle.ciel_meant.specs.Inner.{object_refs}
+use Rattle.ciel_meant.specs.Inner.{seen_refs}
 use Rattle.ciel_meant.proofs.ToldRun.{P, Q, V, w, closed, HaltTold, FrameTold, both, left, right, refs_each, each_refs, pairs_each, each_pairs, frames_told}
 use Rattle.ciel_meant.proofs.ToldWaves as waves
-
-none_some : {A : Type 0} (a : A) → None ≡ Some a → ⊥
-none_some a e = cc
 
 -- ---- the forms at a wait are opened by what is saved of them
 
@@ -132,7 +129,7 @@ module _ (job : Job) (around : Around) (plain : PlainReads around) (D : Desc →
   objects_ok look (d ∷ ds) os e h =
       joined_ok (look d) (see_all look ds) os e h.0 (λ ps q. objects_ok look ds ps q h.1)
 
-  seen_ok : (o : Option Obj) → Each D (object_refs o) → SeenOk W P' Q' o
+  seen_ok : (o : Option Obj) → Each D (seen_refs o) → SeenOk W P' Q' o
   seen_ok None h = tt
   seen_ok (Some (Object.bytes b)) h = tt
   seen_ok (Some (Object.data_of a)) h = each_refs D a h
@@ -242,14 +239,14 @@ module _ (job : Job) (around : Around) (plain : PlainReads around) (D : Desc →
     pub waits : wait_at job around n u j ≡ Some ds
     pub waited : Each D ds
     pub seen : see_all (see job around n) ds ≡ Some os
-    pub reads : (d : Desc) → In d ds → Each D (object_refs (see job around n d))
+    pub reads : (d : Desc) → In d ds → Each D (seen_refs (see job around n d))
     pub makes : Each D (made_between job around n u j (suc j))
 
   pub record Next (n : ℕ) (u : Task) (j : ℕ) : Type 0 where
     pub holds : (a : State) → stands_at job around n u j ≡ Some a → Each D (held a)
     pub waits : (ds : List Desc) → wait_at job around n u j ≡ Some ds → Each D ds
 
-  sees_all : (n : ℕ) (ds : List Desc) → ((d : Desc) → In d ds → Each D (object_refs (see job around n d))) → Each (Sees (see job around n)) ds
+  sees_all : (n : ℕ) (ds : List Desc) → ((d : Desc) → In d ds → Each D (seen_refs (see job around n d))) → Each (Sees (see job around n)) ds
   sees_all n ds h = each_in (Sees (see job around n)) ds (λ d i. seen_ok (see job around n d) (h d i))
 
   -- what a next halt says of the next wait
@@ -322,7 +319,7 @@ module _ (job : Job) (around : Around) (plain : PlainReads around) (D : Desc →
       told : (a : Val) → a ≡ u → Each (λ d. waves.Seen job around plain D (see job around n d)) (refs a)
       told a q = subst (λ x. Each (λ d. waves.Seen job around plain D (see job around n d)) (refs x)) (sym q) (of_map (refs u) h)
 
-  map_seen : (n : ℕ) (ds : List Desc) → ((d : Desc) → In d ds → Each D (object_refs (see job around n d))) → Each (waves.Seen job around plain D) (map (see job around n) ds)
+  map_seen : (n : ℕ) (ds : List Desc) → ((d : Desc) → In d ds → Each D (seen_refs (see job around n d))) → Each (waves.Seen job around plain D) (map (see job around n) ds)
   map_seen n [] h = tt
   map_seen n (d ∷ ds) h = (seen_ok (see job around n d) (h d (inl refl)), map_seen n ds (λ e i. h e (inr i)))
 

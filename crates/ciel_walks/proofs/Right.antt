@@ -14,7 +14,7 @@ use Rattle.sky_law.specs.Lower.{low_obj, low_ref}
 use Rattle.sky_law.specs.NamesLaws.{NoClash, Tag, no_name}
 use Rattle.sky_law.specs.Refers.{PlainReads}
 use Rattle.sky_law.specs.Tasks.{Each, MadeBetween, held, made_between}
-use Rattle.sky_law.proofs.Lists.{some_is}
+use Rattle.sky_law.proofs.Lists.{some_is, none_some, below_or_same}
 use Rattle.sky_law.proofs.SeenLaw.{stands_one, wait_one}
 use Rattle.sky_law.proofs.TaskHeld.{waits_held}
 use Rattle.sky_law.proofs.TaskMade.{between_one}
@@ -30,7 +30,7 @@ use Rattle.sky_moves.proofs.Making.{all_to, between_none, between_two, see_to, s
 use Rattle.ciel_journal.specs.History.{OpenStart, live_in}
 use Rattle.ciel_journal.specs.Job.{Digest, Held, Job}
 use Rattle.ciel_journal.specs.Lawful.{Given, HeldAt}
-use Rattle.ciel_meant.specs.Inner.{object_refs, real_inner}
+use Rattle.ciel_meant.specs.Inner.{seen_refs, real_inner}
 use Rattle.ciel_meant.specs.Real.{at_of, back, held_if}
 use Rattle.ciel_meant.proofs.RealLaw.{in_from, in_to}
 use Rattle.ciel_reports.specs.Report.{Met, brought, held_then}
@@ -39,9 +39,6 @@ use Rattle.ciel_walks.specs.Laws as laws
 use Rattle.ciel_walks.specs.Walk.{AreFound}
 use Rattle.ciel_walks.proofs.Middle.{middle}
 use Rattle.ciel_walks.proofs.Telling.{Clashing}
-
-none_some : {A : Type 0} (a : A) → None ≡ Some a → ⊥
-none_some a e = cc
 
 true_not : false ≡ true → ⊥
 true_not e = cc
@@ -97,24 +94,12 @@ behind : (d : s.Desc) (xs ys : List s.Desc) → t.In d ys → t.In d (xs ++ ys)
 behind d [] ys i = i
 behind d (x ∷ xs) ys i = inr (behind d xs ys i)
 
-nat_eq_or : (i j : ℕ) → i ≤ j → (i < j) ⊎ (i ≡ j)
-nat_eq_or zero zero le = inr refl
-nat_eq_or zero (suc j) le = inl (omega arith)
-nat_eq_or (suc i) zero le = absurd (omega (arith, le))
-nat_eq_or (suc i) (suc j) le = step (nat_eq_or i j (omega (arith, le)))
-  where
-    step : (i < j) ⊎ (i ≡ j) → (suc i < suc j) ⊎ (suc i ≡ suc j)
-    step (inl h) = inl (omega (arith, h))
-    step (inr q) = inr (ap suc q)
-
 below_or : (i j : ℕ) → i ≤ suc j → (i ≤ j) ⊎ (i ≡ suc j)
-below_or zero j le = inl (omega arith)
-below_or (suc i) zero le = inr (omega (arith, le))
-below_or (suc i) (suc j) le = step (below_or i j (omega (arith, le)))
+below_or i j le = go (below_or_same i (suc j) le)
   where
-    step : (i ≤ j) ⊎ (i ≡ suc j) → (suc i ≤ suc j) ⊎ (suc i ≡ suc (suc j))
-    step (inl h) = inl (omega (arith, h))
-    step (inr q) = inr (ap suc q)
+    go : (i < suc j) ⊎ (i ≡ suc j) → (i ≤ j) ⊎ (i ≡ suc j)
+    go (inl h) = inl (omega (arith, h))
+    go (inr q) = inr q
 
 module _ (job : s.Job) (around : s.Around) where
   held_as : (w : n.Task) (k j : ℕ) (a : n.State) → stands_at job around k w j ≡ Some a → t.held_at job around k w j ≡ Some (held a)
@@ -135,7 +120,7 @@ module _ (job : s.Job) (around : s.Around) where
 
   -- what is made between two waits is one list, whatever tells of it
   pub made_once : (w : n.Task) (i j : ℕ) (made : List s.Desc) → i ≤ j → MadeBetween job around w i j made → (k : ℕ) (ds : List s.Desc) → wait_at job around k w j ≡ Some ds → made_between job around k w i j ≡ made
-  made_once w i j made le m k ds wt = go (nat_eq_or i j le)
+  made_once w i j made le m k ds wt = go (below_or_same i j le)
     where
       go : (i < j) ⊎ (i ≡ j) → made_between job around k w i j ≡ made
       go (inl lt) = between_one job around w i j (made_between job around k w i j) made lt (k, (ds, wt), refl) m
@@ -399,7 +384,7 @@ module _ (tag : Tag) (mark : Object (List ℕ) → Digest) (frozen : Stand (List
         waits = wait_here;
         waited = each_in (D (made ++ seg)) g.has.0 (λ d i. inl (have_first d (in_each Have g.has.0 d here i)));
         seen = objects.1;
-        reads = λ d i. each_in (D (made ++ seg)) (object_refs (see job around k d)) (λ e c. inl (carried d k (in_each Have g.has.0 d here i) (in_to e (object_refs (see job around k d)) c)));
+        reads = λ d i. each_in (D (made ++ seg)) (seen_refs (see job around k d)) (λ e c. inl (carried d k (in_each Have g.has.0 d here i) (in_to e (seen_refs (see job around k d)) c)));
         makes = each_in (D (made ++ seg)) seg (λ d i. inr (behind d made seg i));
       }) in
       let up_to : MadeBetween job around u o.from j made = g.makes in

@@ -17,7 +17,7 @@ use Rattle.sky_law.specs.NamesLaws.{NoClash, Tag, no_name}
 use Rattle.sky_law.specs.Refers.{PlainReads}
 use Rattle.sky_law.specs.Tasks.{Each, MadeBetween, ended, held, is_answer, made_after, made_between}
 use Rattle.sky_law.proofs.ApartLaw.{waits_apart}
-use Rattle.sky_law.proofs.Lists.{some_is}
+use Rattle.sky_law.proofs.Lists.{some_is, none_some, below_or_same, above_or}
 use Rattle.sky_law.proofs.MoreFuel.{ended_stays_to}
 use Rattle.sky_law.proofs.TaskOutputs.{apart_refs, distinct_in, each_in, in_each}
 use Rattle.sky_state.specs.Pending.{pending_in}
@@ -46,9 +46,6 @@ use Rattle.ciel_walks.specs.Walk.{AreFound, StopsAt, Walk, last, more}
 use Rattle.ciel_walks.proofs.Right as right
 use Rattle.ciel_walks.proofs.Right.{Clashes, D, Further, Have, R, Right, answered, begun, equal_or, first_met, firsts_apart, further, goes, have_first, have_or, have_seen, haves_apart, held_of, low, nm, once, u}
 use Rattle.ciel_walks.proofs.Telling.{clear_both, clear_met, not_clear, tells_all, tells_astray}
-
-none_some : {A : Type 0} (a : A) → None ≡ Some a → ⊥
-none_some a e = cc
 
 true_not : false ≡ true → ⊥
 true_not e = cc
@@ -191,16 +188,6 @@ module _ (tag : Tag) (mark : Object (List ℕ) → Digest) (frozen : Stand (List
   abbrev Next' : Type 0
   Next' = ComesToEnd job around picks w o.from ⊎ ((i : ℕ) × t.NextWait job around (λ d. picks d ≡ true) w o.from i)
 
-  below_or : (i j : ℕ) → i ≤ j → (i < j) ⊎ (i ≡ j)
-  below_or zero zero le = inr refl
-  below_or zero (suc j) le = inl (omega arith)
-  below_or (suc i) zero le = absurd (omega (arith, le))
-  below_or (suc i) (suc j) le = step (below_or i j (omega (arith, le)))
-    where
-      step : (i < j) ⊎ (i ≡ j) → (suc i < suc j) ⊎ (suc i ≡ suc j)
-      step (inl h) = inl (omega (arith, h))
-      step (inr q) = inr (ap suc q)
-
   -- where all that is waited for at the order's wait was brought along
   next_is : ((ds : List s.Desc) → WaitOf job around w o.from ds → Each Have' ds) → Next'
   next_is first = next_there job around n0 w o.from picks (λ d e. seen d (have_picked d e)) before
@@ -222,7 +209,7 @@ module _ (tag : Tag) (mark : Object (List ℕ) → Digest) (frozen : Stand (List
       seen d h = more_fuel seen_for.k n0 d (omega arith) (seen_for.seen d h)
 
       before : (k : ℕ) (ds : List s.Desc) → k ≤ o.from → wait_at job around n0 w k ≡ Some ds → AllSeen job around n0 ds
-      before k ds le e = go (below_or k o.from le)
+      before k ds le e = go (below_or_same k o.from le)
         where
           go : (k < o.from) ⊎ (k ≡ o.from) → AllSeen job around n0 ds
           go (inl lt) = seen_before job around n0 w o.from b.stands.0 (stands_to job around b.stands.1.0 n0 w o.from b.stands.0 (omega arith) b.stands.1.1) k ds lt e
@@ -290,20 +277,11 @@ module _ (tag : Tag) (mark : Object (List ℕ) → Digest) (frozen : Stand (List
         where
           -- it isn't before the wait up to which all was brought along
           not_before : (i : ℕ) (x : t.NextWait job around (λ d. picks d ≡ true) w o.from i) → j ≤ i
-          not_before i x = least (below_or_not i j)
+          not_before i x = least (above_or j i)
             where
-              below_or_not : (i j : ℕ) → (i < j) ⊎ (j ≤ i)
-              below_or_not i zero = inr (omega arith)
-              below_or_not zero (suc j) = inl (omega arith)
-              below_or_not (suc i) (suc j) = step (below_or_not i j)
-                where
-                  step : (i < j) ⊎ (j ≤ i) → (suc i < suc j) ⊎ (suc j ≤ suc i)
-                  step (inl h) = inl (omega (arith, h))
-                  step (inr h) = inr (omega (arith, h))
-
-              least : (i < j) ⊎ (j ≤ i) → j ≤ i
-              least (inr h) = h
-              least (inl h) =
+              least : (j ≤ i) ⊎ (i < j) → j ≤ i
+              least (inl h) = h
+              least (inr h) =
                   absurd (x.is_missing (pick_have x.missing (in_each Have' x.waits x.missing (passed i x.waits x.above h x.waited) x.is_waited)))
 
           at_next : j ≤ i → says (map L front ++ rest) e
@@ -372,15 +350,6 @@ module _ (tag : Tag) (mark : Object (List ℕ) → Digest) (frozen : Stand (List
       go : (x : Option (List s.Desc)) → wait_at job around k w (suc j) ≡ x → wait_at job around k w (suc j) ≡ None
       go None e = e
       go (Some ds) e = absurd (h (suc j) ds (omega arith) (k, e))
-
-  above_or : (a c : ℕ) → (a ≤ c) ⊎ (c < a)
-  above_or zero c = inl (omega arith)
-  above_or (suc a) zero = inr (omega arith)
-  above_or (suc a) (suc c) = step (above_or a c)
-    where
-      step : (a ≤ c) ⊎ (c < a) → (suc a ≤ suc c) ⊎ (suc c < suc a)
-      step (inl h) = inl (omega (arith, h))
-      step (inr h) = inr (omega (arith, h))
 
   ends_at : (r : Stand (List ℕ)) (j : ℕ) (xs : List s.Desc) (os : List (Object (List ℕ))) (ms : List (v.Desc (List ℕ))) (e : Stop) → Right' r j xs → AreFound tag job around w finds r os → Step tag job around w r os ms e → t.Ends job around w → WaitsNoMore tag job around w j → AtEnd j xs ms
   ends_at r j xs os ms e g found st ends none =

@@ -26,7 +26,7 @@ then_second Ordering.Less b e = cc
 then_second Ordering.Equal b e = e
 then_second Ordering.Greater b e = cc
 
-self_name : (n : List ℕ) → is_eq (name_cmp n n) ≡ true
+pub self_name : (n : List ℕ) → is_eq (name_cmp n n) ≡ true
 self_name n = ap (λ o. is_eq (ordering_then o (slice_cmp nat_cmp n n))) (tied_itself nat_cmp_total (length n)) ∙ self_text n
 
 pub bools_alike : (a b : Bool) → (a ≡ true → b ≡ true) → (b ≡ true → a ≡ true) → a ≡ b
@@ -35,7 +35,8 @@ bools_alike true false f g = sym (f refl)
 bools_alike false true f g = g refl
 bools_alike false false f g = refl
 
-same_test : (k n : List ℕ) → is_eq (name_cmp k n) ≡ same_text n k
+-- names that the map takes for one are one
+pub same_test : (k n : List ℕ) → is_eq (name_cmp k n) ≡ same_text n k
 same_test k n =
     bools_alike (is_eq (name_cmp k n)) (same_text n k)
     (λ e. subst (λ m. same_text m k ≡ true) (exact_text k n (then_second (nat_cmp (length k) (length n)) (slice_cmp nat_cmp k n) e)) (self_text k))

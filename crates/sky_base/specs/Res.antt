@@ -1,6 +1,6 @@
 -- What a piece of script means: an end, or a description made and what comes then, or a wait and what comes for each answer.
 use Rattle.std.specs.Prelude.{ℕ, suc, ◌+◌, List, [], ◌∷◌, Bool, true, false, Option, Some, None, Ok, Err, nat_lt, pos}
-use Rattle.sky_base.specs.Val.{Val, Vals, Pairs, Desc, null, num, list, refs_to}
+use Rattle.sky_base.specs.Val.{Val, Vals, Pairs, Desc, null, num, list, refs, refs_to}
 use Rattle.sky_base.specs.Op.{Answer}
 use Rattle.sky_base.specs.Tree.{Place, Form, Junction, SignAt, Exp, Exps, Links, Ands, Steps, Stms, Arms, Else, Oper}
 use Rattle.sky_base.specs.declared.fault.FaultKind.{FaultKind}
@@ -22,6 +22,12 @@ pub data Object (N : Type 0) : Type 0 where
   bytes : List ℕ → Object N
   data_of : Val N → Object N
   fault : Fault → Object N
+
+-- what an object refers to
+abbrev pub object_refs : {N : Type 0} → Object N → List (Desc N)
+object_refs (Object.bytes b) = []
+object_refs (Object.data_of v) = refs v
+object_refs (Object.fault f) = []
 
 -- how a piece of script ends: it goes on, or it is an expression with its value, or the body returns, or there is a fault
 pub data End (N : Type 0) : Type 0 where

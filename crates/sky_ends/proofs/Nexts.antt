@@ -6,7 +6,7 @@ use Rattle.sky_base.specs.Read.{Outcome, no_fuel, outcome}
 use Rattle.sky_base.specs.See.{Val, Vals, Pairs, Desc, Job, Around, Answered, Gathered, not_yet, faulty, all, as_bytes, gather, executed_on, object_of, run_of, see, wave, round, job_answer, main_call}
 use Rattle.sky_base.specs.Needed.{Task, wait_at, WaitOf, distinct_refs}
 use Rattle.sky_law.specs.Tasks.{In, Each, acts_of, ended, is_answer, waits_in, NextEnd, NextWait, Passes}
-use Rattle.sky_law.proofs.Lists.{some_is}
+use Rattle.sky_law.proofs.Lists.{some_is, none_some, above_or}
 use Rattle.sky_law.proofs.NeededEnds.{wait_ended}
 use Rattle.sky_law.proofs.SeenLaw.{wait_one}
 use Rattle.sky_law.proofs.TaskFuel.{waits_at, wave_zero}
@@ -15,19 +15,6 @@ use Rattle.sky_ends.specs.Laws.{AllSeen, ComesToEnd, Next, Picked, PicksSeen, Se
 use Rattle.sky_ends.proofs.Gathering.{gathered}
 use Rattle.sky_ends.proofs.Running.{run_ends}
 use Rattle.sky_ends.proofs.Showing.{answers}
-
-none_not : {A : Type 0} (a : A) → None ≡ Some a → ⊥
-none_not a e = cc
-
--- the first is above the second, or not
-above_or : (a b : ℕ) → (a ≤ b) ⊎ (b < a)
-above_or zero b = inl (omega arith)
-above_or (suc a) zero = inr (omega arith)
-above_or (suc a) (suc b) = go (above_or a b)
-  where
-    go : (a ≤ b) ⊎ (b < a) → (suc a ≤ suc b) ⊎ (suc b < suc a)
-    go (inl h) = inl (omega (arith, h))
-    go (inr h) = inr (omega (arith, h))
 
 same_or : (k i : ℕ) → k < suc i → (k < i) ⊎ (k ≡ i)
 same_or k i lt = go (above_or i k)
@@ -48,7 +35,7 @@ short (x ∷ xs) zero e = absurd cc
 short (x ∷ xs) (suc i) e = let h : length xs ≤ i = short xs i e in omega (arith, h)
 
 below : {A : Type 0} (xs : List A) (k : ℕ) (x : A) → slice_get xs k ≡ Some x → k < length xs
-below [] k y e = absurd (none_not y e)
+below [] k y e = absurd (none_some y e)
 below (x ∷ xs) zero y e = omega arith
 below (x ∷ xs) (suc k) y e = let h : k < length xs = below xs k y e in omega (arith, h)
 

@@ -4,7 +4,7 @@ use Rattle.std.proofs.lemmas.List.{length-drop}
 use Rattle.sky_base.specs.Val.{Val}
 use Rattle.sky_base.specs.Tree.{Script}
 use Rattle.sky_base.specs.Read.{Todo}
-use Rattle.sky_law.proofs.Lists.{some_is}
+use Rattle.sky_law.proofs.Lists.{some_is, none_some}
 use Rattle.sky_state.specs.Table.{Row, keeps}
 use Rattle.sky_state.specs.Fits.{row_of, Parts, kept_in_all, Last}
 use Rattle.sky_state.specs.StandView.{todo_view, todos_view}
@@ -14,9 +14,6 @@ use Rattle.sky_fits.specs.Entered.{NextIn, Entered, FitTogether, last_row}
 
 abbrev Values : Type 0
 Values = List (Val (List ℕ))
-
-none_is : {A : Type 0} (a : A) → None ≡ Some a → ⊥
-none_is a e = cc
 
 no_values : (vs : Values) → length vs ≡ 0 → vs ≡ []
 no_values [] e = refl
@@ -55,7 +52,7 @@ module _ (sc : Script) where
   -- ---- the last entry
 
   pub last_yes : (P : Row → Type 0) (ts : List Todo) (r : Row) → last_row sc ts ≡ Some r → P r → Last (λ t. P (row_of sc t)) ts
-  last_yes P [] r e h = absurd (none_is r e)
+  last_yes P [] r e h = absurd (none_some r e)
   last_yes P (t ∷ []) r e h = subst P (sym (some_is (row_of sc t) r e)) h
   last_yes P (t ∷ u ∷ us) r e h = last_yes P (u ∷ us) r e h
 
@@ -66,7 +63,7 @@ module _ (sc : Script) where
 
   pub last_none : (P : Row → Type 0) (ts : List Todo) → last_row sc ts ≡ None → Last (λ t. P (row_of sc t)) ts → ⊥
   last_none P [] e h = h
-  last_none P (t ∷ []) e h = none_is (row_of sc t) (sym e)
+  last_none P (t ∷ []) e h = none_some (row_of sc t) (sym e)
   last_none P (t ∷ u ∷ us) e h = last_none P (u ∷ us) e h
 
   pub last_at : (ts : List code.Todo) (t : code.Todo) → Some t ≡ slice_get ts (length ts - 1) → last_row sc (todos_view ts) ≡ Some (row_of sc (todo_view t))

@@ -19,10 +19,7 @@ use Rattle.sky_law.proofs.FineLaw.{Closed, AnswerOk, ValsOk, ObjectOk, Fine, bin
 use Rattle.sky_law.proofs.FineReads.{SeenOk, ActOk, OutcomeOk, HaltOk, FrameOk, outcome_fine, halt_fine, acts_fine, frames_ok}
 use Rattle.sky_law.proofs.TaskOutputs.{in_contains, each_in, in_each, distinct_refs_in}
 use Rattle.sky_law.proofs.WrittenLaw.{BodyWritten, any_made, body_written}
-use Rattle.sky_law.proofs.Lists.{some_is}
-
-none_some : {A : Type 0} (a : A) → None ≡ Some a → ⊥
-none_some a e = cc
+use Rattle.sky_law.proofs.Lists.{some_is, none_some}
 
 -- P is of values, U what P asks beside the limits, Q of descriptions, V of variables, L of literals and K of names
 module _ (job : Job) (around : Around) (P U : Val → Type 0) (Q : Desc → Type 0) (V : Pairs → Type 0) (L : Lit → Type 0) (K : List ℕ → Type 0) where

@@ -7,10 +7,7 @@ use Rattle.sky_law.specs.Tasks.{Each, first_of, waits_in, is_answer, acts_of, en
 use Rattle.sky_law.proofs.SeenLaw.{kept_is, kept_on, on, on_either, wait_kept}
 use Rattle.sky_law.proofs.TaskOutputs.{in_contains, in_each}
 use Rattle.sky_law.proofs.TaskFuel.{kept, ended_stays, first_seen, later_seen, unseen, out_alike, waits_at}
-use Rattle.sky_law.proofs.Lists.{some_is}
-
-none_some : {A : Type 0} (a : A) → None ≡ Some a → ⊥
-none_some a e = cc
+use Rattle.sky_law.proofs.Lists.{some_is, none_some}
 
 some_none : {A : Type 0} (a : A) → Some a ≢ None
 some_none a e = cc

@@ -11,16 +11,13 @@ use Rattle.sky_law.specs.Tasks.{In, Each, maker, first_of, waits_in, after_wait,
 use Rattle.sky_base.specs.declared.fault.Fault.{Fault}
 use Rattle.sky_law.proofs.SeenLaw.{Kept, kept_map, kept_is, kept_one, Begins, begins_cons, all_kept, see_kept, acts_grow, turn_kept, answer_kept, wave_kept, stands_kept}
 use Rattle.sky_law.proofs.TaskOutputs.{each_in, in_each, distinct_refs_in, in_distinct_refs}
-use Rattle.sky_law.proofs.Lists.{some_is}
+use Rattle.sky_law.proofs.Lists.{some_is, none_some}
 
 yes_no : true ≡ false → ⊥
 yes_no e = cc
 
 some_none : {A : Type 0} (a : A) → Some a ≡ None → ⊥
 some_none a e = cc
-
-none_some : {A : Type 0} (a : A) → None ≡ Some a → ⊥
-none_some a e = cc
 
 there : {A : Type 0} (o : Option A) → o ≢ None → is_some o ≡ true
 there None h = absurd (h refl)

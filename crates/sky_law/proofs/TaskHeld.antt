@@ -12,10 +12,7 @@ use Rattle.sky_law.specs.Tasks.{In, vals_held, frames_held, held, held_at}
 use Rattle.sky_law.proofs.FineLaw.{waiting, Waits}
 use Rattle.sky_law.proofs.BoundLaw.{Any, Made, any_halt}
 use Rattle.sky_law.proofs.TaskOutputs.{in_distinct}
-use Rattle.sky_law.proofs.Lists.{some_is}
-
-none_some : {A : Type 0} (a : A) → None ≡ Some a → ⊥
-none_some a e = cc
+use Rattle.sky_law.proofs.Lists.{some_is, none_some}
 
 module _ (d : Desc) where
   in_left : (xs ys : List Desc) → In d xs → In d (xs ++ ys)

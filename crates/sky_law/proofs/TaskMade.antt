@@ -9,10 +9,7 @@ use Rattle.sky_law.specs.Tasks.{waits_in, after_wait, made_before, made_in, acts
 use Rattle.sky_law.proofs.SeenLaw.{Kept, kept_one, Begins, on, wait_kept}
 use Rattle.sky_law.proofs.TaskOutputs.{in_each}
 use Rattle.sky_law.proofs.TaskFuel.{more, kept, waits_at}
-use Rattle.sky_law.proofs.Lists.{some_is}
-
-none_some : {A : Type 0} (a : A) → None ≡ Some a → ⊥
-none_some a e = cc
+use Rattle.sky_law.proofs.Lists.{some_is, none_some}
 
 some_none : {A : Type 0} (a : A) → Some a ≡ None → ⊥
 some_none a e = cc

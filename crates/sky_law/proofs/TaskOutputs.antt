@@ -7,10 +7,7 @@ use Rattle.sky_base.specs.See.{Val, Desc}
 use Rattle.sky_base.specs.Needed.{Task, task_of, distinct_refs, only_if}
 use Rattle.sky_law.specs.Tasks.{In, Each, Apart, same, maker, outputs_of}
 use Rattle.sky_base.proofs.Exact.{exact_desc, self_desc}
-use Rattle.sky_law.proofs.Lists.{some_is}
-
-none_is : {A : Type 0} (b : A) → None ≡ Some b → ⊥
-none_is b e = cc
+use Rattle.sky_law.proofs.Lists.{some_is, none_some}
 
 module _ {A : Type 0} where
   pub in_contains : (d : A) (ds : List A) → Contains ds d → In d ds
@@ -65,8 +62,8 @@ made_by (out x a n i) t e = go (nat_lt i n) refl e
   where
     go : (b : Bool) → nat_lt i n ≡ b → only_if b (Some (Task.of (out x a n 0))) ≡ Some t → In (out x a n i) (outputs_of t)
     go true lt is = subst (λ u. In (out x a n i) (outputs_of u)) (some_is _ t is) (in_outputs x a n n 0 i i (omega arith) (ltb-true i n lt))
-    go false lt is = absurd (none_is t is)
-made_by (input k) t e = absurd (none_is t e)
+    go false lt is = absurd (none_some t is)
+made_by (input k) t e = absurd (none_some t e)
 made_by (known b) t e = absurd b
 
 -- each output of a task is of this task
@@ -97,7 +94,7 @@ maker_is (out x a n i) t e = go (nat_lt i n) e
   where
     go : (b : Bool) → only_if b (Some (Task.of (out x a n 0))) ≡ Some t → Some (Task.of (out x a n 0)) ≡ Some t
     go true is = is
-    go false is = absurd (none_is t is)
+    go false is = absurd (none_some t is)
 maker_is (input k) t e = e
 maker_is (known b) t e = absurd b
 

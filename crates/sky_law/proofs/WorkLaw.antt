@@ -7,10 +7,7 @@ use Rattle.sky_law.specs.Tasks.{In, Apart, same, first_of, waits_in, acts_of, en
 use Rattle.sky_law.proofs.TaskOutputs.{in_contains, contains_in, in_each, same_refl, same_exact}
 use Rattle.sky_law.proofs.TaskFuel.{ended_stays, first_seen, later_seen, waits_at}
 use Rattle.sky_law.proofs.NeededEnds.{wait_ended, first_is, task_ended, ends_before, means_ends}
-use Rattle.sky_law.proofs.Lists.{some_is}
-
-none_some : {A : Type 0} (a : A) → None ≡ Some a → ⊥
-none_some a e = cc
+use Rattle.sky_law.proofs.Lists.{some_is, none_some}
 
 there : {A : Type 0} (o : Option A) → o ≢ None → is_some o ≡ true
 there None h = absurd (h refl)

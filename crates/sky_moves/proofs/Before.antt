@@ -8,13 +8,10 @@ use Rattle.sky_base.specs.See.{Val, Desc, Obj, Job, Around, Answered, not_yet, g
 use Rattle.sky_base.specs.Needed.{Task, State, halt_state, wave_state, wave_refs, only_if, unless_none, distinct_refs, stands_at, wait_at}
 use Rattle.sky_base.specs.declared.fault.Fault.{Fault}
 use Rattle.sky_law.specs.Tasks.{Each, waits_in}
-use Rattle.sky_law.proofs.Lists.{some_is}
+use Rattle.sky_law.proofs.Lists.{some_is, none_some}
 use Rattle.sky_law.proofs.TaskFuel.{one_none, waits_at}
 use Rattle.sky_law.proofs.TaskOutputs.{each_in, in_each, distinct_refs_in}
 use Rattle.sky_ends.specs.Laws.{AllSeen}
-
-none_some : {A : Type 0} (a : A) → None ≡ Some a → ⊥
-none_some a e = cc
 
 module _ {N : Type 0} (see : v.Desc N → Option (Object N)) where
   join_none : (x : Option (Object N)) → joined x None ≡ None

@@ -4,7 +4,7 @@ use Rattle.sky_base.specs.Val.{Val, Vals, Pairs, Desc, known, list, ref, refs, r
 use Rattle.sky_base.specs.Name.{digested, low}
 use Rattle.sky_base.specs.Op.{Answer}
 use Rattle.sky_base.specs.Tree.{Place, Script, nowhere}
-use Rattle.sky_base.specs.Res.{others, bodies, Object, End, St, Res, Fin, Tell, Ask, Wait, one_of, all_of}
+use Rattle.sky_base.specs.Res.{others, bodies, Object, End, St, Res, Fin, Tell, Ask, Wait, one_of, all_of, object_refs}
 use Rattle.sky_base.specs.Eval.{World, Body, body_of, body_at, exec_end, read_end, plug, wait_end}
 use Rattle.sky_base.specs.Read.{Frame, Run, Halt, frames_of, run_of_halt, segment, first_end, first_halt, rest_of}
 use Rattle.sky_base.specs.See.{start_st}
@@ -17,7 +17,7 @@ use Rattle.sky_law.specs.Tasks.{In, Each}
 use Rattle.sky_law.specs.Refers.{Refers, ValsRefer, PairsRefer}
 use Rattle.sky_law.proofs.FineLaw.{EndOk, FormsOk, Fine, fine_call}
 use Rattle.sky_law.proofs.FineReads.{FrameOk, frames_ok}
-use Rattle.sky_law.proofs.Lists.{each_both}
+use Rattle.sky_law.proofs.Lists.{each_both, none_some}
 use Rattle.sky_law.proofs.RefsLow.{refs_low}
 use Rattle.sky_law.proofs.WrittenLaw.{any_lit, any_name, written_any}
 use Rattle.sky_state.specs.Chained.{body_places}
@@ -38,16 +38,13 @@ use Rattle.sky_resume.specs.Comes.{over_names, with_name, object_at, bottom_vars
 use Rattle.sky_resume.specs.Comes as comes
 use Rattle.sky_resume.proofs.Begins.{start_fun, start_vars}
 use Rattle.sky_resume.specs.declared.on.Came.{Came}
-use Rattle.sky_onward.specs.Knows.{object_refs, inside_refs, CameWith, Known, LeavesKnown, KnowsNames}
+use Rattle.sky_onward.specs.Knows.{inside_refs, CameWith, Known, LeavesKnown, KnowsNames}
 use Rattle.sky_onward.specs.Onward.{ComesOf, MakesOf}
 use Rattle.sky_onward.specs.Rest.{IsRest}
 use Rattle.sky_onward.specs.Steps.{Spawned, step_of}
 use Rattle.sky_onward.proofs.Starts.{is_start, start_calls}
 use Rattle.sky_onward.proofs.Waiting.{stack_left}
 use Rattle.sky_onward.proofs.Refs.{left, right, refs_each, pairs_each, each_refs, each_vals, each_pairs, Inside, inside_each, P, Q, V, M, read_so, closed}
-
-none_some : {A : Type 0} (a : A) → None ≡ Some a → ⊥
-none_some a e = cc
 
 -- ---- along a run
 

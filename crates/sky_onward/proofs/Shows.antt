@@ -12,8 +12,9 @@ use Rattle.sky_base.specs.Needed.{Task, State, WaitOf, wait_at, halt_state, star
 use Rattle.sky_base.specs.View.{view}
 use Rattle.sky_law.specs.Tasks.{In, Apart, after_wait, made_before, made_between, is_answer, wait_then, waves_from, acts_of, ended}
 use Rattle.sky_law.specs.NamesLaws.{Tag, no_name, ReadsAlike}
-use Rattle.sky_law.proofs.Lists.{some_is}
-use Rattle.sky_law.proofs.TaskOutputs.{stands_exact, distinct_apart}
+use Rattle.sky_law.proofs.ApartLaw.{waits_apart}
+use Rattle.sky_law.proofs.Lists.{some_is, none_some}
+use Rattle.sky_law.proofs.TaskOutputs.{apart_refs}
 use Rattle.sky_rows.specs.Data.{data_of}
 use Rattle.sky_state.specs.Stand.{Stand, low_state}
 use Rattle.sky_state.specs.Stands.{Stands}
@@ -25,9 +26,6 @@ use Rattle.sky_moves.specs.Moves as moves
 use Rattle.sky_resume.proofs.Later.{no_later}
 use Rattle.sky_onward.specs.Steps.{stop_of, Resumed}
 use Rattle.sky_onward.specs.declared.step.Step.{Step}
-
-none_some : {A : Type 0} (a : A) → None ≡ Some a → ⊥
-none_some a e = cc
 
 -- ---- the root task makes nothing
 
@@ -65,43 +63,8 @@ show_makes job around n j =
 
 -- ---- what the root task waits for is distinct
 
-stands_not : (d : Desc) (ds : List Desc) → (In d ds → ⊥) → stands_in (λ a b. true) d ds ≡ false
-stands_not d ds h = go (stands_in (λ a b. true) d ds) refl
-  where
-    go : (b : Bool) → stands_in (λ a b. true) d ds ≡ b → stands_in (λ a b. true) d ds ≡ false
-    go true e = absurd (h (stands_exact (λ a b. true) (λ a b c. absurd a) (λ a. absurd a) d ds e))
-    go false e = e
-
-apart_once : (before ds : List Desc) → Apart ds → ((d : Desc) → In d ds → In d before → ⊥) → distinct_from (λ a b. true) before ds ≡ ds
-apart_once before [] a h = refl
-apart_once before (d ∷ ds) a h =
-    ap (λ b. unless_in (λ a b. true) b d (distinct_from (λ a b. true) (d ∷ before) ds)) (stands_not d before (h d (inl refl)))
-    ∙ ap (λ es. d ∷ es) (apart_once (d ∷ before) ds a.1 later)
-  where
-    later : (e : Desc) → In e ds → In e (d ∷ before) → ⊥
-    later e i (inl g) = a.0 (subst (λ x. In x ds) g i)
-    later e i (inr j) = h e (inr i) j
-
-once_once : (ds : List Desc) → distinct (λ a b. true) (distinct (λ a b. true) ds) ≡ distinct (λ a b. true) ds
-once_once ds =
-    apart_once [] (distinct (λ a b. true) ds) (distinct_apart (λ a b. true) (λ a b c. absurd a) (λ a. absurd a) ds) (λ d i j. j)
-
-unless_once : (xs ds : List Desc) → unless_none xs ≡ Some ds → xs ≡ ds
-unless_once [] ds e = absurd (none_some ds e)
-unless_once (x ∷ xs) ds e = some_is (x ∷ xs) ds e
-
-wave_once : (b : Bool) (o : Option Val) (ds : List Desc) → only_if b (wave_refs o) ≡ Some ds → distinct (λ a b. true) ds ≡ ds
-wave_once false o ds e = absurd (none_some ds e)
-wave_once true None ds e = absurd (none_some ds e)
-wave_once true (Some u) ds e =
-    let is : distinct_refs u ≡ ds = unless_once (distinct_refs u) ds e in
-    ap (distinct (λ a b. true)) (sym is) ∙ once_once (refs u) ∙ is
-
 show_once : (job : Job) (around : Around) (n j : ℕ) (ds : List Desc) → wait_at job around n Task.show j ≡ Some ds → distinct (λ a b. true) ds ≡ ds
-show_once job around n zero ds e =
-    let is : main_call ∷ [] ≡ ds = some_is (main_call ∷ []) ds e in
-    ap (distinct (λ a b. true)) (sym is) ∙ is
-show_once job around n (suc j) ds e = wave_once (nat_le (suc j) 100) (wave job around n (suc j)) ds e
+show_once job around n j ds e = apart_refs ds (waits_apart job around n Task.show j ds e)
 
 -- ---- which states stand for the root task
 
@@ -135,7 +98,7 @@ abbrev pub shows_next : v.Val (List ℕ) → ℕ → shows.Came → Stand (List 
 shows_next u w (shows.Came.Shown s) = Stand.show_at u w
 shows_next u w (shows.Came.Next x) = Stand.show_at (view x) (suc w)
 
-module _ (digest : List ℕ → List ℕ) (sc : Script) (u : v.Val (List ℕ)) (w : ℕ) (os : List (Object (List ℕ))) (came : shows.Came) (goes : shown.ShowsAs u w os came) where
+module _ (digest : List ℕ → List ℕ) (sc : Script) (u : v.Val (List ℕ)) (w : ℕ) (os : List (Object (List ℕ))) (came : shows.Came) (goes : shown.GoesOnShown u w os came) where
   abbrev tag : Tag
   tag = digested digest
 

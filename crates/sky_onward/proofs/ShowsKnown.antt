@@ -4,7 +4,7 @@ use Rattle.std.specs.Str.{is_utf8}
 use Rattle.sky_base.specs.Val.{Val, Vals, Pairs, Desc, null, truth, num, text, list, dict, fun, ref, no_vals, val, no_pairs, pair, refs, depth, size, distinct, same_text, same_desc}
 use Rattle.sky_base.specs.Op.{Answer}
 use Rattle.sky_base.specs.Tree.{Stms, Script}
-use Rattle.sky_base.specs.Res.{Object}
+use Rattle.sky_base.specs.Res.{Object, object_refs}
 use Rattle.sky_base.specs.See.{Answered}
 use Rattle.sky_base.specs.declared.fault.Fault.{Fault}
 use Rattle.sky_law.specs.Refers.{Refers, ValsRefer, PairsRefer}
@@ -17,7 +17,7 @@ use Rattle.sky_waves.specs.Wave.{Turned, text_if, data_or_text, value_of, value_
 use Rattle.sky_shown.specs.Given.{given_for}
 use Rattle.sky_shown.specs.Shows.{Next, waits_if, wave_if, after_turn, next_of}
 use Rattle.sky_onward.specs.Exactly.{Exactly}
-use Rattle.sky_onward.specs.Knows.{object_refs, CameWith, Known, KnowsNames}
+use Rattle.sky_onward.specs.Knows.{CameWith, Known, KnowsNames}
 use Rattle.sky_onward.specs.declared.step.Step.{Step}
 use Rattle.sky_onward.proofs.Knows.{data_plain, from_each, in_flat}
 use Rattle.sky_onward.proofs.Refs.{refs_each, each_refs}

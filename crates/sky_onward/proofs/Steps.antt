@@ -25,9 +25,7 @@ use Rattle.sky_resume.specs.Standing.{AnsweredBy, StandsOn, GoesOnAs, MakesAs}
 use Rattle.sky_resume.specs.declared.on.Came.{Came}
 use Rattle.sky_onward.specs.Steps.{Spawned, step_of, stop_of, Resumed}
 use Rattle.sky_onward.specs.declared.step.Step.{Step}
-
-none_some : {A : Type 0} (a : A) → None ≡ Some a → ⊥
-none_some a e = cc
+use Rattle.sky_law.proofs.Lists.{none_some}
 
 -- ---- which states stand for calls
 

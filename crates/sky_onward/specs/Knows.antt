@@ -2,7 +2,7 @@
 use Rattle.std.specs.Prelude.{◌≡◌, ℕ, List, [], ◌∷◌, ◌++◌, map, flat_map, ◌⊎◌}
 use Rattle.sky_base.specs.Val.{Desc, call, out, input, known, refs, vals_refs, pairs_refs}
 use Rattle.sky_base.specs.Name.{digested}
-use Rattle.sky_base.specs.Res.{Object}
+use Rattle.sky_base.specs.Res.{Object, object_refs}
 use Rattle.sky_base.specs.ObjectView.{object_view}
 use Rattle.sky_law.specs.Tasks.{In, Each}
 use Rattle.sky_state.specs.Pending.{all_refs}
@@ -12,12 +12,6 @@ use Rattle.sky_onward.specs.Steps.{Spawned}
 use Rattle.sky_onward.specs.declared.step.Step.{Step}
 
 module _ {N : Type 0} where
-  -- what an object refers to
-  abbrev pub object_refs : Object N → List (Desc N)
-  object_refs (Object.bytes b) = []
-  object_refs (Object.data_of v) = refs v
-  object_refs (Object.fault f) = []
-
   -- what stands inside a description
   abbrev pub inside_refs : Desc N → List (Desc N)
   inside_refs (call f c vs) = pairs_refs c ++ vals_refs vs

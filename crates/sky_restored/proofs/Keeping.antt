@@ -6,17 +6,14 @@ use Rattle.sky_base.specs.TreeView.{at, exp_view, exps_view, steps_view}
 use Rattle.sky_base.specs.declared.tree.Expr.{Expr}
 use Rattle.sky_base.specs.declared.tree.Step.{Step}
 use Rattle.sky_law.specs.Opened.{next_part, times}
-use Rattle.sky_law.proofs.Lists.{some_is}
+use Rattle.sky_law.proofs.Lists.{some_is, none_some}
 use Rattle.sky_state.specs.Table.{keeps, on_by, past_part, past_link, past_and, past_arm, past_stm, past_sign, finished, in_index, in_call, spot_of, past_spot, part_row, link_row, and_row, sign_is, sign_row, spot_row, arm_row, ran_row, block_row, stm_row, exp_row, IsStep}
 use Rattle.sky_restored.specs.Kept.{kept_in_call, kept_after}
-
-none_is : {A : Type 0} (a : A) → None ≡ Some a → ⊥
-none_is a e = cc
 
 -- ---- parts
 
 past_next : (x y : ℕ × Exps) → past_part x ≡ Some y → next_part x ≡ y
-past_next (m, Exps.no_exps) y e = absurd (none_is y e)
+past_next (m, Exps.no_exps) y e = absurd (none_some y e)
 past_next (m, Exps.exp x es) y e = some_is (m + nodes x, es) y e
 
 times_on : (i : ℕ) (x y : ℕ × Exps) → on_by past_part i x ≡ Some y → times next_part i x ≡ y
@@ -24,7 +21,7 @@ times_on zero x y e = some_is x y e
 times_on (suc i) x y e = go (on_by past_part i x) e (λ z d. times_on i x z d) refl
   where
     go : (o : Option (ℕ × Exps)) → option_and_then past_part o ≡ Some y → ((z : ℕ × Exps) → on_by past_part i x ≡ Some z → times next_part i x ≡ z) → on_by past_part i x ≡ o → next_part (times next_part i x) ≡ y
-    go None h k d = absurd (none_is y h)
+    go None h k d = absurd (none_some y h)
     go (Some z) h k d = ap next_part (k z d) ∙ past_next z y h
 
 -- the place after i parts, where it is a step

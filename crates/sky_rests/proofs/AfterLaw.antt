@@ -10,7 +10,7 @@ use Rattle.sky_law.specs.Opened.{Node, exp_node, stm_node, block_node, next_part
 use Rattle.sky_law.specs.Nodes.{node_at}
 use Rattle.sky_law.specs.Tasks.{In}
 use Rattle.sky_law.proofs.NodesLaw.{has_script}
-use Rattle.sky_law.proofs.Lists.{some_is, length_push, up_two}
+use Rattle.sky_law.proofs.Lists.{some_is, length_push, up_two, none_some}
 use Rattle.sky_numbers.specs.Standing.{HasNode}
 use Rattle.sky_numbers.proofs.Inside.{stands}
 use Rattle.sky_state.specs.Table.{Row, pending, on_by, past_part, past_link, past_and, past_arm, past_stm, past_sign, Spot, finished, in_index, in_call, spot_of, past_spot, part_row, link_row, and_row, sign_is, sign_row, spot_row, exp_row, arm_row, arm_blocks, else_block, stm_row, ran_row, block_row, row, IsStep}
@@ -20,9 +20,6 @@ use Rattle.sky_state.proofs.OpenEntry.{times_are, part_past, link_past, and_past
 use Rattle.sky_state.proofs.LinkLaw.{in_left, in_right, next_place, up_one, Linked, got_each, goes_each, linked_got, linked_goes, linked_body, linked_visit, linked_answer, linked_decide, linked_add, linked_put, linked_signs, linked_eval, linked_parts, linked_links, linked_ands, linked_steps, linked_args, linked_turns, linked_repeats, linked_each, linked_each_of, linked_stms, linked_arms, linked_else, linked_call}
 
 -- ---- what stands behind the parts that are past
-
-none_some : {A : Type 0} (a : A) → None ≡ Some a → ⊥
-none_some a e = cc
 
 pub past_has : {A : Type 0} (P : A → Type 0) (f : A → Option A) → ((x y : A) → f x ≡ Some y → P x → P y) → (i : ℕ) (x y : A) → on_by f i x ≡ Some y → P x → P y
 past_has P f g zero x y e h = subst P (some_is x y e) h

@@ -26,7 +26,8 @@ use Rattle.sky_resume.specs.Comes.{over_names, with_name, object_at, Comes}
 use Rattle.sky_resume.specs.Standing.{StandsOn, GoesOnAs, MakesAs}
 use Rattle.sky_resume.specs.declared.on.Came.{Came}
 use Rattle.sky_resume.proofs.Later.{no_later}
-use Rattle.sky_resume.proofs.StandLaw.{none_some, mapped, made_one, end_outcome, end_object, end_no_halt}
+use Rattle.sky_resume.proofs.StandLaw.{mapped, made_one, end_outcome, end_object, end_no_halt}
+use Rattle.sky_law.proofs.Lists.{none_some}
 
 module _ (digest : List ℕ → List ℕ) (job : Job) (around : Around) (f : List ℕ) (c : Pairs) (vs : Vals) where
   abbrev caught : v.Pairs (List ℕ)

@@ -25,7 +25,7 @@ use Rattle.sky_law.proofs.OpenLaw.{Opens, opens_call}
 use Rattle.sky_law.proofs.SeenLaw.{stands_one}
 use Rattle.sky_law.proofs.TaskFuel.{made_next}
 use Rattle.sky_law.proofs.TaskLaw.{halt_is, task_ends, task_halts, resume_halts, resume_makes, resume_ends}
-use Rattle.sky_law.proofs.Lists.{some_is}
+use Rattle.sky_law.proofs.Lists.{some_is, none_some}
 use Rattle.sky_rows.specs.Data.{data_of}
 use Rattle.sky_state.specs.Stand.{Stand, low_state}
 use Rattle.sky_state.specs.Stands.{Stands}
@@ -38,9 +38,6 @@ use Rattle.sky_resume.specs.Standing.{StandsOn, GoesOnAs, MakesAs}
 use Rattle.sky_resume.specs.declared.on.Came.{Came}
 use Rattle.sky_resume.proofs.Later.{no_later}
 use Rattle.sky_resume.proofs.OnceLaw.{see_whole, ends_once}
-
-pub none_some : {A : Type 0} (a : A) → None ≡ Some a → ⊥
-none_some a e = cc
 
 all_opened : {N : Type 0} (w : World N) (at : ℕ → Option Node) (fr : List (Entry N)) → law.AllOpened w at fr → AllOpened at fr
 all_opened w at [] h = tt

@@ -1,36 +1,15 @@
 -- Objects are found by the places of their names.
 use Rattle.std.proofs.Common.{◌≡◌, ◌≤◌, ◌<◌, ℕ, zero, suc, ◌+◌, List, [], ◌∷◌, length, take, Bool, true, false, cond, is_some, Option, Some, None, slice_get, get_or, option_map, map, refl, sym, ap, subst, ◌∙◌, arith}
 use Rattle.std.specs.BTreeMap.{BTreeMap, Updates}
-use Rattle.std.specs.Ordering.{nat_cmp, is_eq, ordering_then}
-use Rattle.std.specs.Cmp.Lexicographic.{slice_cmp}
-use Rattle.std.specs.declared.cmp.Ordering.{Ordering}
-use Rattle.std.proofs.lemmas.Cmp.{nat_cmp_total, tied_itself}
 use Rattle.sky_base.specs.Names.{known_of}
 use Rattle.sky_base.specs.NameOrder.{name_cmp}
 use Rattle.sky_base.specs.ObjectView.{object_view}
 use Rattle.sky_base.specs.Val.{known, same_text}
 use Rattle.sky_base.specs.declared.object.Object.{Object}
-use Rattle.sky_base.proofs.Exact.{exact_text, self_text}
-use Rattle.sky_base.proofs.Found.{bools_alike}
+use Rattle.sky_base.proofs.Exact.{exact_text}
+use Rattle.sky_base.proofs.Found.{same_test}
 use Rattle.sky_rows.specs.Walk.{Obj}
 use Rattle.sky_shown.specs.Given.{given_for, name_place, place_at, or_here}
-
--- ---- names that the map takes for one are one
-
-then_second : (a b : Ordering) → is_eq (ordering_then a b) ≡ true → is_eq b ≡ true
-then_second Ordering.Less b e = cc
-then_second Ordering.Equal b e = e
-then_second Ordering.Greater b e = cc
-
-self_name : (n : List ℕ) → is_eq (name_cmp n n) ≡ true
-self_name n =
-    ap (λ o. is_eq (ordering_then o (slice_cmp nat_cmp n n))) (tied_itself nat_cmp_total (length n)) ∙ self_text n
-
-same_name : (k n : List ℕ) → is_eq (name_cmp k n) ≡ same_text n k
-same_name k n =
-    bools_alike (is_eq (name_cmp k n)) (same_text n k)
-    (λ e. subst (λ m. same_text m k ≡ true) (exact_text k n (then_second (nat_cmp (length k) (length n)) (slice_cmp nat_cmp k n) e)) (self_text k))
-    (λ e. subst (λ m. is_eq (name_cmp k m) ≡ true) (sym (exact_text n k e)) (self_name k))
 
 -- ---- one more name
 
@@ -73,7 +52,7 @@ there_if false None i h = refl
 
 pub added : (old new : BTreeMap (List ℕ) ℕ) (n x : List ℕ) (i : ℕ) → Updates name_cmp old new n (Some i) → is_some (place_at old n) ≡ false → place_at new x ≡ or_here (place_at old x) (same_text x n) i
 added old new n x i u h =
-    u.0 x ∙ ap (λ b. cond b (Some i) (place_at old x)) (same_name n x) ∙ added_if (same_text x n) (place_at old x) i (λ e. none (place_at old x) (ap (λ z. is_some (place_at old z)) (exact_text x n e) ∙ h))
+    u.0 x ∙ ap (λ b. cond b (Some i) (place_at old x)) (same_test n x) ∙ added_if (same_text x n) (place_at old x) i (λ e. none (place_at old x) (ap (λ z. is_some (place_at old z)) (exact_text x n e) ∙ h))
   where
     none : (o : Option ℕ) → is_some o ≡ false → o ≡ None
     none None q = refl

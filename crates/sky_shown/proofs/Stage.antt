@@ -14,7 +14,7 @@ use Rattle.ciel_json.specs.Text.{text_of as writes}
 use Rattle.sky_law.specs.Lower.{low_obj, low_ref}
 use Rattle.sky_law.specs.NamesLaws.{Tag, no_name, NoClash, ReadsAlike}
 use Rattle.sky_law.specs.Tasks.{In}
-use Rattle.sky_law.proofs.Lists.{some_is}
+use Rattle.sky_law.proofs.Lists.{some_is, none_some}
 use Rattle.sky_law.proofs.RefsLow.{distinct_refs_low, refs_low}
 use Rattle.sky_law.proofs.SeenLaw.{stands_one}
 use Rattle.sky_law.proofs.TaskFuel.{wave_next, wave_zero}
@@ -30,16 +30,13 @@ use Rattle.sky_waves.specs.Wave.{Turned, last_at}
 use Rattle.sky_waves.proofs.Lowered.{low_turn, turn_low}
 use Rattle.sky_shown.specs.Given.{given_for}
 use Rattle.sky_shown.specs.Shows.{Next, after_turn, came_view, next_of, shown_view, wave_if, waits_if}
-use Rattle.sky_shown.specs.Standing.{ShownOrStands, ShowsAs}
+use Rattle.sky_shown.specs.Standing.{ShownOrStands, GoesOnShown}
 use Rattle.sky_shown.specs.declared.show.Came.{Came}
 use Rattle.sky_shown.proofs.Nexts.{IsNext, next_waits, turn_over}
 
 nothing : (b : Bool) → only_if {A = List Desc} b None ≡ None
 nothing true = refl
 nothing false = refl
-
-none_some : {A : Type 0} (a : A) → None ≡ Some a → ⊥
-none_some a e = cc
 
 some_not : {A : Type 0} (a : A) → Some a ≢ None
 some_not a e = absurd cc
@@ -312,7 +309,7 @@ shown_some : (s : Shown) → shown_view s ≢ Answered.not_yet
 shown_some (Shown.Text b) e = absurd cc
 shown_some (Shown.Fault f) e = absurd cc
 
-pub shows_came : (a : v.Val (List ℕ)) (w : ℕ) (given : List (Object (List ℕ))) (c : Came) → next_of given a w ≡ came_view c → ShowsAs a w given c
+pub shows_came : (a : v.Val (List ℕ)) (w : ℕ) (given : List (Object (List ℕ))) (c : Came) → next_of given a w ≡ came_view c → GoesOnShown a w given c
 shows_came a w given c e tag job around n j ds os reads_alike writes_alike st waits seen are apart = go c e
   where
     h : Here tag job around n a w j given

@@ -19,7 +19,7 @@ use std::marker::Model;
 /// Objects within the limits, in the order of the names that they are given for. Contracts see it as the references with these names,
 /// and the objects.
 #[derive(Drop)]
-pub(crate) struct Given<'a> {
+pub struct Given<'a> {
     names: &'a [Name],
     objects: &'a [Object],
     // The place of each name.
@@ -46,7 +46,7 @@ impl<'a> Model for Given<'a> {
 
 impl<'a> Given<'a> {
     /// These objects for these names, in their order.
-    pub(crate) fn new(
+    pub fn new(
         alloc: Global,
         names: &'a [Name],
         objects: &'a [Object],

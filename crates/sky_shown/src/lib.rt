@@ -2,5 +2,5 @@
 // the next wave that waits for something, or to the answer.
 #![tactic(auto)]
 
-mod given;
+pub mod given;
 pub mod show;

@@ -11,7 +11,7 @@ ghost use Rattle.sky_law.specs.Tasks.{Each};
 ghost use Rattle.sky_rows.specs.Known.{KeptObject};
 ghost use Rattle.sky_waves.specs.Wave.{last_at};
 ghost use Rattle.sky_shown.specs.Shows.{came_view, next_of, shown_view, wave_if};
-ghost use Rattle.sky_shown.specs.Standing.{FitsOn, ShowsAs};
+ghost use Rattle.sky_shown.specs.Standing.{FitsOn, GoesOnShown};
 
 use crate::given::Given;
 use sky_base::object::Object;
@@ -37,7 +37,7 @@ pub fn go_on(alloc: Global, value: &Value, wave: u32, answers: &[Object]) -> Res
     requires kept { Kept (view value.now) }
     requires answers { Each (λ o. KeptObject (object_view o)) answers.now }
     ensures comes { IfOk result (λ c. next_of (map object_view answers.now) (view value.now) wave ≡ came_view c) }
-    ensures stands { IfOk result (λ c. ShowsAs (view value.now) wave (map object_view answers.now) c) }
+    ensures stands { IfOk result (λ c. GoesOnShown (view value.now) wave (map object_view answers.now) c) }
     ensures fits { IfOk result (λ c. FitsOn (view value.now) wave (map object_view answers.now) c) }
 {
     let came = from_wave(alloc, value, wave, answers)?;

@@ -32,12 +32,9 @@ use Rattle.sky_state.specs.Chained.{body_places, Chained}
 use Rattle.sky_state.proofs.LinkLaw.{Linked, linked_call}
 use Rattle.sky_law.proofs.SoundLow.{sound_low, vars_low, call_low}
 use Rattle.sky_law.proofs.SoundOps.{caught_kept}
-use Rattle.sky_law.proofs.Lists.{some_is}
+use Rattle.sky_law.proofs.Lists.{some_is, none_some}
 use Rattle.sky_state.proofs.Starts.{starts_fit}
 use Rattle.sky_state.proofs.SavedLaw.{saved_fits, fits_low}
-
-none_some : {A : Type 0} (a : A) → None ≡ Some a → ⊥
-none_some a e = cc
 
 -- ---- the forms under way at a wait
 

@@ -24,7 +24,7 @@ use Rattle.sky_law.proofs.SeenLaw.{stands_one, wait_one}
 use Rattle.sky_law.proofs.TaskFuel.{held_one}
 use Rattle.sky_law.proofs.TaskOutputs.{stands_exact, distinct_apart, distinct_refs_in, in_distinct}
 use Rattle.sky_base.proofs.Exact.{exact_text, self_text}
-use Rattle.sky_law.proofs.Lists.{some_is}
+use Rattle.sky_law.proofs.Lists.{some_is, none_some}
 use Rattle.sky_state.specs.Stand.{Stand, low_state}
 use Rattle.sky_state.specs.Stands.{Stands}
 use Rattle.sky_state.specs.Table.{Row, part, turn, star, outputs, open_call, no_step}
@@ -33,9 +33,6 @@ use Rattle.sky_state.specs.Chained.{body_places, row_at, Above, Chained}
 use Rattle.sky_state.specs.Pending.{last_refs, top_refs, stack_refs, frames_refs, all_refs, pending_in, held_in}
 use Rattle.sky_state.proofs.LinkLaw.{linked_call}
 use Rattle.sky_state.proofs.FitsLaw.{ChainedHalt, chained_halt}
-
-none_some : {A : Type 0} (a : A) → None ≡ Some a → ⊥
-none_some a e = cc
 
 -- ---- references over names
 
@@ -72,28 +69,8 @@ module _ (tag : Tag) where
   apart_names ds es e h a b i j n =
       h a b (subst (In a) e (in_distinct (λ a b. true) (λ a b c. absurd a) (λ a. absurd a) ds a i)) (subst (In b) e (in_distinct (λ a b. true) (λ a b c. absurd a) (λ a. absurd a) ds b j)) n
 
--- ---- where no two are equal, each stands once already
-
-stands_not : (d : Desc) (ds : List Desc) → (In d ds → ⊥) → stands_in (λ a b. true) d ds ≡ false
-stands_not d ds h = go (stands_in (λ a b. true) d ds) refl
-  where
-    go : (b : Bool) → stands_in (λ a b. true) d ds ≡ b → stands_in (λ a b. true) d ds ≡ false
-    go true e = absurd (h (stands_exact (λ a b. true) (λ a b c. absurd a) (λ a. absurd a) d ds e))
-    go false e = e
-
-apart_once : (before ds : List Desc) → Apart ds → ((d : Desc) → In d ds → In d before → ⊥) → distinct_from (λ a b. true) before ds ≡ ds
-apart_once before [] a h = refl
-apart_once before (d ∷ ds) a h =
-    ap (λ b. unless_in (λ a b. true) b d (distinct_from (λ a b. true) (d ∷ before) ds)) (stands_not d before (h d (inl refl)))
-    ∙ ap (λ es. d ∷ es) (apart_once (d ∷ before) ds a.1 later)
-  where
-    later : (e : Desc) → In e ds → In e (d ∷ before) → ⊥
-    later e i (inl g) = a.0 (subst (λ x. In x ds) g i)
-    later e i (inr j) = h e (inr i) j
-
 once_again : (ds : List Desc) → distinct (λ a b. true) (distinct (λ a b. true) ds) ≡ distinct (λ a b. true) ds
-once_again ds =
-    apart_once [] (distinct (λ a b. true) ds) (distinct_apart (λ a b. true) (λ a b c. absurd a) (λ a. absurd a) ds) (λ d i j. j)
+once_again ds = apart_refs (distinct (λ a b. true) ds) (distinct_apart (λ a b. true) (λ a b c. absurd a) (λ a. absurd a) ds)
 
 -- ---- the last value of the top frame
 

@@ -6,15 +6,12 @@ use Rattle.sky_base.specs.Tree.{Place, nowhere, Sign, SignAt, Form, Exp, Exps, L
 use Rattle.sky_base.specs.Res.{Entry, parens_in, part_at, chain_first, chain_more, logic_at, prefix_part, star_wait, postfix_first, index_at, arg_at, call_open, exec_wait, set_part, add_part, put_index, put_value, return_part, just_part, arm_test, while_test, while_body, repeat_body, repeat_test, for_list, for_body, block_at, node_of, step_of, kept_of, opens}
 use Rattle.sky_law.specs.Opened.{Node, exp_node, stm_node, block_node, next_part, next_link, next_and, next_arm, next_stm, Pos, enter_pos, next_pos, times, next_sign, descs_of, part_open, link_open, and_open, sign_open, pos_open, arm_open, stms_open, opened}
 use Rattle.sky_law.specs.Opened as place
-use Rattle.sky_law.proofs.Lists.{some_is}
+use Rattle.sky_law.proofs.Lists.{some_is, none_some}
 use Rattle.sky_state.specs.Table.{Row, part, pending, turn, star, outputs, open_call, no_step, on_by, past_part, past_link, past_and, past_arm, past_stm, past_sign, Spot, finished, in_index, in_call, spot_of, past_spot, part_row, link_row, and_row, sign_is, sign_row, spot_row, exp_row, arm_row, stm_row, ran_row, block_row, row, IsStep}
 use Rattle.sky_state.specs.Fits.{IsReference, AllReferences, IsListOfReferences, One, Two, UpTo, UpToLength}
 use Rattle.sky_state.specs.Chained.{KeptBy}
 
 -- ---- places
-
-none_some : {A : Type 0} (a : A) → None ≡ Some a → ⊥
-none_some a e = cc
 
 -- where each step can be done, so many steps lead to the same place
 times_if : {A B : Type 0} (f : A → Option A) (g : B → B) (h : A → B) (u : (x y : A) → f x ≡ Some y → g (h x) ≡ h y) (o : Option A) (x y : A) (b : B) → o ≡ Some x → option_and_then f o ≡ Some y → b ≡ h x → g b ≡ h y

@@ -30,9 +30,7 @@ use Rattle.sky_onward.specs.Steps.{Spawned, stop_of}
 use Rattle.sky_onward.specs.declared.step.Step.{Step}
 use Rattle.sky_through.specs.Through.{AreFound, Lacks, StopsAt, Through, last, more}
 use Rattle.sky_through.specs.Went.{IsFound, Truly, TrulyFrom, GrewBy, WentOn, GoesThrough}
-
-none_some : {A : Type 0} (a : A) → None ≡ Some a → ⊥
-none_some a e = cc
+use Rattle.sky_law.proofs.Lists.{none_some}
 
 -- ---- lists
 

@@ -3,14 +3,14 @@ use Rattle.std.proofs.Common.{◌≡◌, ◌++◌, ℕ, List, [], ◌∷◌, map
 use Rattle.std.proofs.lemmas.List.{map-append}
 use Rattle.sky_base.specs.Val.{Desc, known, same_text}
 use Rattle.sky_base.specs.Name.{digested}
-use Rattle.sky_base.specs.Res.{Object}
+use Rattle.sky_base.specs.Res.{Object, object_refs}
 use Rattle.sky_base.specs.ObjectView.{object_view}
 use Rattle.sky_law.specs.Tasks.{In, Each}
 use Rattle.sky_law.proofs.TaskOutputs.{in_each}
 use Rattle.sky_state.specs.Pending.{all_refs, pending_in}
 use Rattle.sky_state.specs.Stand.{Stand}
 use Rattle.sky_resume.specs.Comes.{with_name}
-use Rattle.sky_onward.specs.Knows.{object_refs, inside_refs, CameWith, Known, LeavesKnown, KnowsNames}
+use Rattle.sky_onward.specs.Knows.{inside_refs, CameWith, Known, LeavesKnown, KnowsNames}
 use Rattle.sky_onward.specs.Steps.{Spawned}
 use Rattle.sky_onward.specs.declared.step.Step.{Step}
 use Rattle.sky_onward.proofs.Knows.{from_each, in_first, in_second}

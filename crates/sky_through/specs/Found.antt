@@ -2,13 +2,13 @@
 use Rattle.std.specs.Prelude.{◌≡◌, ◌-◌, ◌+◌, ℕ, List, Bool, true, false, Option, Some, None, IsSome, ◌⊎◌}
 use Rattle.sky_base.specs.Val.{Desc, same_text}
 use Rattle.sky_base.specs.Tree.{Script}
-use Rattle.sky_base.specs.Res.{Object, visits}
+use Rattle.sky_base.specs.Res.{Object, visits, object_refs}
 use Rattle.sky_law.specs.Sound.{SoundObject}
 use Rattle.sky_law.specs.Tasks.{In, Each}
 use Rattle.sky_state.specs.Pending.{all_refs, pending_in}
 use Rattle.sky_state.specs.Stand.{Stand}
 use Rattle.sky_onward.specs.Exactly.{gone_of}
-use Rattle.sky_onward.specs.Knows.{object_refs, CameWith, KnowsNames}
+use Rattle.sky_onward.specs.Knows.{CameWith, KnowsNames}
 use Rattle.sky_onward.specs.Steps.{Spawned, Resumed}
 use Rattle.sky_onward.specs.declared.step.Step.{Step}
 use Rattle.sky_through.specs.Through.{AreFound, StopsAt}
