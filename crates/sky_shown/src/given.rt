@@ -46,11 +46,7 @@ impl<'a> Model for Given<'a> {
 
 impl<'a> Given<'a> {
     /// These objects for these names, in their order.
-    pub fn new(
-        alloc: Global,
-        names: &'a [Name],
-        objects: &'a [Object],
-    ) -> Result<Given<'a>, Memory>
+    pub fn new(alloc: Global, names: &'a [Name], objects: &'a [Object]) -> Result<Given<'a>, Memory>
         requires { Each (λ o. KeptObject (object_view o)) objects.now }
         ensures { IfOk result (λ g. g ≡ (known_of names.now, map object_view objects.now)) }
     {
