@@ -15,7 +15,7 @@ use Rattle.ciel_journal.proofs.Near.{each_all, in_right}
 use Rattle.ciel_journal.proofs.Numbers.{found_in, in_left}
 use Rattle.ciel_journal.proofs.Published.{book_apart}
 use Rattle.ciel_journal.proofs.Splits.{before_split, made_split}
-use Rattle.ciel_reports.specs.Report.{Clear, End, Exact, IsMissing, IsNew, Learns, MadeIs, Met, Or, Report, Says, Spawns, StoppedIs, Tells, made, missing, report_of, stopped, made_then, held_then, brought, at_end, at_wait}
+use Rattle.ciel_reports.specs.Report.{Clear, End, Exact, IsMissing, IsNew, Learns, MadeIs, Met, Or, Report, Says, Spawns, StoppedIs, Tells, made, missing, report_of, stopped, made_then, at_first, held_then, brought, at_end, at_wait}
 use Rattle.ciel_reports.proofs.Growing.{Clean, Tabled, in_map, map_in}
 use Rattle.ciel_reports.proofs.Learning.{book_apart_named, learned_rows, learns_apart, learns_has, learns_keeps}
 use Rattle.ciel_reports.proofs.Walking.{Inward, MetIn, Stopped, Walked, stops, walk}
@@ -44,9 +44,9 @@ module _ {D B : Type 0} (job : Job D) (laws : IsJob job) (inner : Inner D) (know
       -- what the task met stands in the book
       met_booked : MetIn job laws inner lower named exact (Met job inner lower o) v.book
       met_booked d (made_then n l i) = each_of Booked d (made_before o.from (job.acts n o.task)) i (known.told.makes n l)
-      met_booked d (held_then x) =
+      met_booked d (at_first (held_then x)) =
           each_of Booked d x.1.names x.3 (knows.holds_told v.book o.task o.from known.here.0 x.1 known.told known.here.1 (x.0, x.2))
-      met_booked d (brought e n g i) = live_carried job laws inner knows v.book o known e g.1 n d i
+      met_booked d (at_first (brought e n g i)) = live_carried job laws inner knows v.book o known e g.1 n d i
 
       -- all of them stand in the book with what was made before
       before_there : (P before : List D) → Each Booked P → Each (λ e. In e (v.book ++ before)) (P ++ before)

@@ -30,13 +30,21 @@ pub record Report (B : Type 0) : Type 0 where
 abbrev pub IsNew : {B : Type 0} → (B → Digest) → List B → B → Type 0
 IsNew named rows b = (c : _) → In c rows → named c ≢ named b
 
+module _ {D : Type 0} (job : Job D) (inner : Inner D) where
+  -- what the task of an order holds at the order's wait, and what the objects hold that the order brings along
+  pub data First (o : OpenStart D) (d : D) : Type 0 where
+    held_then : HeldAt job o.task o.from d → First o d
+    brought : (e : D) (n : ℕ) → Given job o e → In d (inner.carries n e) → First o d
+
+  -- no two of these share a name
+  abbrev pub FirstApart : OpenStart D → Type 0
+  FirstApart o = (d e : D) → First o d → First o e → job.name d ≡ job.name e → d ≡ e
+
 module _ {D B : Type 0} (job : Job D) (inner : Inner D) (lower : D → B) where
-  -- what the task of an order met before it went on: what it had made, what it holds there, and what the objects hold that
-  -- the order brings along
+  -- what the task of an order met before it went on: what it had made, and those
   pub data Met (o : OpenStart D) (d : D) : Type 0 where
     made_then : (n : ℕ) → o.from ≤ length (waits_in (job.acts n o.task)) → In d (made_before o.from (job.acts n o.task)) → Met o d
-    held_then : HeldAt job o.task o.from d → Met o d
-    brought : (e : D) (n : ℕ) → Given job o e → In d (inner.carries n e) → Met o d
+    at_first : First job inner o d → Met o d
 
   -- one of those that were met is another one of the same name
   abbrev pub ClashAmong : (D → Type 0) → D → Type 0

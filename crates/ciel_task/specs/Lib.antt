@@ -2,3 +2,4 @@ pub mod Named
 pub mod Orders
 pub mod Shop
 pub mod Views
+pub mod Performs

@@ -33,9 +33,8 @@ use Rattle.ciel_journal.specs.Lawful.{Given, HeldAt}
 use Rattle.ciel_meant.specs.Inner.{seen_refs, real_inner}
 use Rattle.ciel_meant.specs.Real.{at_of, back, held_if}
 use Rattle.ciel_meant.proofs.RealLaw.{in_from, in_to}
-use Rattle.ciel_reports.specs.Report.{Met, brought, held_then}
-use Rattle.ciel_walks.specs.Laws.{Begins, Brings, First, carried, the}
-use Rattle.ciel_walks.specs.Laws as laws
+use Rattle.ciel_reports.specs.Report.{First, Met, at_first, brought, held_then}
+use Rattle.ciel_walks.specs.Laws.{Begins, Brings, the}
 use Rattle.ciel_walks.specs.Walk.{AreFound}
 use Rattle.ciel_walks.proofs.Middle.{middle}
 use Rattle.ciel_walks.proofs.Telling.{Clashing}
@@ -147,7 +146,7 @@ module _ (tag : Tag) (mark : Object (List ℕ) → Digest) (frozen : Stand (List
   Have d = Given J o d
 
   abbrev pub First' : s.Desc → Type 0
-  First' d = First tag mark frozen job around o d
+  First' d = First J (real_inner job around) o d
 
   abbrev pub once : List s.Desc → List s.Desc
   once ds = distinct (λ a b. true) ds
@@ -211,11 +210,10 @@ module _ (tag : Tag) (mark : Object (List ℕ) → Digest) (frozen : Stand (List
       go (inr c) l q = inr (λ h. c (of_held o.from start d start_at h.0))
 
   pub have_first : (d : s.Desc) → Have d → First' d
-  have_first d h = laws.held h.0
+  have_first d h = held_then h.0
 
   pub first_met : (d : s.Desc) → First' d → Met J (real_inner job around) low o d
-  first_met d (laws.held h) = held_then h
-  first_met d (carried e k g i) = brought e k g i
+  first_met d f = at_first f
 
   pub firsts_apart : (d e : s.Desc) → First' d → First' e → nm d ≡ nm e → d ≡ e
   firsts_apart d e f g q = b.apart d e f g q
@@ -284,7 +282,7 @@ module _ (tag : Tag) (mark : Object (List ℕ) → Digest) (frozen : Stand (List
       one d i (y, e) =
           let g = b.brings.only d y e in
           let kept : HeldAt J o.task o.from d = held_of o.from start d start_at (held_there job around u o.from ds start d w start_at i) in
-          subst Have (firsts_apart g.0 d (have_first g.0 g.1) (laws.held kept) g.2) g.1
+          subst Have (firsts_apart g.0 d (have_first g.0 g.1) (held_then kept) g.2) g.1
 
   -- at the order's wait all that is waited for is found there
   pub first_have : (os : List (Object (List ℕ))) → AreFound tag job around u finds r0 os → (ds : List s.Desc) → WaitOf job around u o.from ds → Each Have ds
@@ -298,7 +296,7 @@ module _ (tag : Tag) (mark : Object (List ℕ) → Digest) (frozen : Stand (List
         has = b.waits;
         passes = λ i ds l m w. first_have os found ds (subst (λ k. WaitOf job around u k ds) (same i l m) w);
         makes = (b.waits.1.0, (b.waits.0, b.waits.1.1), between_none job around b.waits.1.0 u o.from);
-        holds = each_in (D []) (held start) (λ d i. inl (laws.held (held_of o.from start d start_at i)));
+        holds = each_in (D []) (held start) (λ d i. inl (held_then (held_of o.from start d start_at i)));
       }
     where
       same : (i : ℕ) → o.from ≤ i → i ≤ o.from → i ≡ o.from
@@ -384,7 +382,7 @@ module _ (tag : Tag) (mark : Object (List ℕ) → Digest) (frozen : Stand (List
         waits = wait_here;
         waited = each_in (D (made ++ seg)) g.has.0 (λ d i. inl (have_first d (in_each Have g.has.0 d here i)));
         seen = objects.1;
-        reads = λ d i. each_in (D (made ++ seg)) (seen_refs (see job around k d)) (λ e c. inl (carried d k (in_each Have g.has.0 d here i) (in_to e (seen_refs (see job around k d)) c)));
+        reads = λ d i. each_in (D (made ++ seg)) (seen_refs (see job around k d)) (λ e c. inl (brought d k (in_each Have g.has.0 d here i) (in_to e (seen_refs (see job around k d)) c)));
         makes = each_in (D (made ++ seg)) seg (λ d i. inr (behind d made seg i));
       }) in
       let up_to : MadeBetween job around u o.from j made = g.makes in

@@ -14,11 +14,11 @@ use Rattle.sky_state.specs.Pending.{held_in, pending_in}
 use Rattle.sky_state.specs.Stand.{Stand, low_state}
 use Rattle.sky_state.specs.Stands.{Stands}
 use Rattle.ciel_journal.specs.History.{OpenStart}
-use Rattle.ciel_journal.specs.Job.{Digest, Job, Task, show, of, In}
-use Rattle.ciel_journal.specs.Lawful.{Given, HeldAt}
+use Rattle.ciel_journal.specs.Job.{Digest, Job, Task, show, of}
+use Rattle.ciel_journal.specs.Lawful.{Given}
 use Rattle.ciel_meant.specs.Inner.{real_inner}
 use Rattle.ciel_meant.specs.Real.{back, real_job}
-use Rattle.ciel_reports.specs.Report.{End, Says, made, missing, stopped}
+use Rattle.ciel_reports.specs.Report.{End, FirstApart, Says, made, missing, stopped}
 use Rattle.sky_moves.specs.Moves.{SeenAs, Stop, ended, shown, waits}
 use Rattle.ciel_walks.specs.Walk.{Walk}
 
@@ -51,11 +51,6 @@ module _ (tag : Tag) (mark : Object (List ℕ) → Digest) (frozen : Stand (List
       stopped (waits_of r) (frozen r) (names_of (pending_in same_text r)) (names_of (held_in same_text r))
 
   module _ (o : OpenStart s.Desc) where
-    -- what the task holds at the order's wait, or the objects hold that the order brings along
-    pub data First (d : s.Desc) : Type 0 where
-      held : HeldAt the o.task o.from d → First d
-      carried : (e : s.Desc) (k : ℕ) → Given the o e → In d ((real_inner job around).carries k e) → First d
-
     module _ (finds : v.Desc (List ℕ) → Option (Object (List ℕ))) where
       -- this is what the order brings along: by its name the object of each description that the state there holds and that was live,
       -- and nothing else
@@ -69,7 +64,7 @@ module _ (tag : Tag) (mark : Object (List ℕ) → Digest) (frozen : Stand (List
         pub brings : Brings
         pub stands : Stands job around tag r (back o.task) o.from
         pub waits : (ds : List s.Desc) × n.WaitOf job around (back o.task) o.from ds
-        pub apart : (d e : s.Desc) → First d → First e → name no_name tag d ≡ name no_name tag e → d ≡ e
+        pub apart : FirstApart the (real_inner job around) o
 
 -- what a walk from there says of the job: the six cases
 abbrev pub WalksSay : Type 0
