@@ -144,7 +144,7 @@ module _ (digest : List ℕ → List ℕ) (job : s.Job) (gives : Gives) (keyed :
         (a, brought_live d h (S.job.task_of d) refl f (is.inputs d a))
 
     -- what the task holds there and the order has a place for
-    pub named_given : (d : s.Desc) → HeldAt S.job o.task o.from d → In (S.job.name d) (names_in held) → Given S.job o d
+    pub named_given : (d : s.Desc) → HeldAt S.job o.task o.from d → t.In (S.job.name d) (names_in held) → Given S.job o d
     named_given d a i = go (found held_name (S.job.name d) held) refl
       where
         go : (x : Option Held) → found held_name (S.job.name d) held ≡ x → Given S.job o d

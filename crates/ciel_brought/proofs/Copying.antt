@@ -9,7 +9,7 @@ use Rattle.sky_base.specs.See as s
 use Rattle.sky_base.specs.See.{see}
 use Rattle.sky_base.specs.Val.{same_text}
 use Rattle.sky_base.proofs.Exact.{exact_text}
-use Rattle.sky_law.specs.Tasks.{Each}
+use Rattle.sky_law.specs.Tasks.{Each, In}
 use Rattle.sky_law.proofs.Lists.{each_both, some_is}
 use Rattle.ciel_board.specs.Board as board
 use Rattle.ciel_board.specs.Board.{spot_of}
@@ -135,20 +135,24 @@ module _ (shelves : ShelvesSeen) (inputs : List (List ℕ × List ℕ)) (order :
             other = other;
           }
 
-  copy_seen : (c : Held) (copy : IsCopy shelves order.worker inputs held' c) (cs : List Held) → copies_view (c ∷ cs) ≡ record { name = c.name; place = copy.place } ∷ copies_view cs
+  pub copy_seen : (c : Held) (copy : IsCopy shelves order.worker inputs held' c) (cs : List Held) → copies_view (c ∷ cs) ≡ record { name = c.name; place = copy.place } ∷ copies_view cs
   copy_seen c copy cs = ap (λ sp. copy_at c.name sp (copies_view cs)) copy.at
 
-  pub copies_fit : (t : TableSeen P) (cs : List Held) → Each (IsCopy shelves order.worker inputs held') cs → AllKnown t (names_in held') → j.Each (CopyFits W t (order_view order)) (copies_view cs) × (copy_names (copies_view cs) ≡ names_in cs)
-  copies_fit t [] e a = (tt, refl)
+  -- they are seen with their names
+  pub copies_named : (cs : List Held) → Each (IsCopy shelves order.worker inputs held') cs → copy_names (copies_view cs) ≡ names_in cs
+  copies_named [] e = refl
+  copies_named (c ∷ cs) e =
+      ap copy_names (copy_seen c e.0 cs) ∙ ap (λ ns. c.name ∷ ns) (copies_named cs e.1)
+
+  pub copies_fit : (t : TableSeen P) (cs : List Held) → Each (IsCopy shelves order.worker inputs held') cs → AllKnown t (names_in held') → j.Each (CopyFits W t (order_view order)) (copies_view cs)
+  copies_fit t [] e a = tt
   copies_fit t (c ∷ cs) e a =
-      let rest = copies_fit t cs e.1 a in
-      let view = copy_seen c e.0 cs in
-      (subst (j.Each (CopyFits W t (order_view order))) (sym view) (copy_fits t c e.0 a, rest.0), ap copy_names view ∙ ap (λ ns. c.name ∷ ns) rest.1)
+      subst (j.Each (CopyFits W t (order_view order))) (sym (copy_seen c e.0 cs)) (copy_fits t c e.0 a, copies_fit t cs e.1 a)
 
 -- ---- one more
 
 module _ (shelves : ShelvesSeen) (w : ℕ) (inputs : List (List ℕ × List ℕ)) (held : List Held) where
-  last_apart : (n m : List ℕ) (ns : List (List ℕ)) → (j.In m (n ∷ ns) → ⊥) → AllByRecursion (λ y. same_text n y ≡ false) ns → AllByRecursion (λ y. same_text n y ≡ false) (ns ++ m ∷ [])
+  last_apart : (n m : List ℕ) (ns : List (List ℕ)) → (In m (n ∷ ns) → ⊥) → AllByRecursion (λ y. same_text n y ≡ false) ns → AllByRecursion (λ y. same_text n y ≡ false) (ns ++ m ∷ [])
   last_apart n m [] new h = (apart (same_text n m) refl, tt)
     where
       apart : (b : Bool) → same_text n m ≡ b → same_text n m ≡ false
@@ -156,11 +160,11 @@ module _ (shelves : ShelvesSeen) (w : ℕ) (inputs : List (List ℕ × List ℕ)
       apart false t = t
   last_apart n m (k ∷ ns) new h = (h.0, last_apart n m ns (λ i. new (skip i)) h.1)
     where
-      skip : j.In m (n ∷ ns) → j.In m (n ∷ k ∷ ns)
+      skip : In m (n ∷ ns) → In m (n ∷ k ∷ ns)
       skip (inl e) = inl e
       skip (inr i) = inr (inr i)
 
-  pub distinct_last : (ns : List (List ℕ)) (m : List ℕ) → (j.In m ns → ⊥) → IsDistinct same_text ns → IsDistinct same_text (ns ++ m ∷ [])
+  pub distinct_last : (ns : List (List ℕ)) (m : List ℕ) → (In m ns → ⊥) → IsDistinct same_text ns → IsDistinct same_text (ns ++ m ∷ [])
   unfolding IsDistinct
   distinct_last [] m new d = (tt, tt)
   distinct_last (n ∷ ns) m new d = (last_apart n m ns new d.0, distinct_last ns m (λ i. new (inr i)) d.1)
@@ -170,7 +174,7 @@ module _ (shelves : ShelvesSeen) (w : ℕ) (inputs : List (List ℕ × List ℕ)
   names_last (x ∷ cs) c = ap (λ ns. x.name ∷ ns) (names_last cs c)
 
   -- what was brought of a name that is new
-  pub copies_more : (n : List ℕ) (h : Held) (o : Object (List ℕ)) (old new : List Held) → Copies shelves w inputs held old → found held_name n held ≡ Some h → lies_at inputs h.at ≡ Some o → CopiedSo shelves w h o old new → (j.In n (names_in old) → ⊥) → Copies shelves w inputs held new
+  pub copies_more : (n : List ℕ) (h : Held) (o : Object (List ℕ)) (old new : List Held) → Copies shelves w inputs held old → found held_name n held ≡ Some h → lies_at inputs h.at ≡ Some o → CopiedSo shelves w h o old new → (In n (names_in old) → ⊥) → Copies shelves w inputs held new
   copies_more n h o old new c f at so fresh = go (is_elsewhere w h.at) refl so
     where
       is_name : n ≡ h.name
@@ -179,7 +183,7 @@ module _ (shelves : ShelvesSeen) (w : ℕ) (inputs : List (List ℕ × List ℕ)
       go : (b : Bool) → is_elsewhere w h.at ≡ b → CopiedIf b shelves w h.name o old new → Copies shelves w inputs held new
       go false e same = subst (Copies shelves w inputs held) (sym same) c
       go true e (p, grew, here, worker, same) =
-          subst (Copies shelves w inputs held) (sym grew) (each_both (IsCopy shelves w inputs held) old (one ∷ []) c.0 (copy, tt), subst (IsDistinct same_text) (sym (names_last old one)) (distinct_last (names_in old) h.name (λ i. fresh (subst (λ m. j.In m (names_in old)) (sym is_name) i)) c.1))
+          subst (Copies shelves w inputs held) (sym grew) (each_both (IsCopy shelves w inputs held) old (one ∷ []) c.0 (copy, tt), subst (IsDistinct same_text) (sym (names_last old one)) (distinct_last (names_in old) h.name (λ i. fresh (subst (λ m. In m (names_in old)) (sym is_name) i)) c.1))
         where
           one : Held
           one = record { name = h.name; at = Spot.Shelf p }
