@@ -47,6 +47,7 @@ use Rattle.ciel_walks.proofs.Right as right
 use Rattle.ciel_walks.proofs.Right.{Clashes, D, Further, Have, R, Right, answered, begun, equal_or, first_met, firsts_apart, further, goes, have_first, have_or, have_seen, haves_apart, held_of, low, nm, once, u}
 use Rattle.ciel_walks.proofs.Telling.{clear_both, clear_met, not_clear, tells_all, tells_astray}
 use Rattle.sky_state.proofs.WaitLaw.{stands_wait_is}
+use Rattle.sky_moves.proofs.Standing.{held_at_is}
 
 true_not : false ≡ true → ⊥
 true_not e = cc
@@ -390,7 +391,7 @@ module _ (tag : Tag) (mark : Object (List ℕ) → Digest) (frozen : Stand (List
         record { names = held st.0; mark = frozen (low_state tag st.0) },
         (st.1.0, right.at_is tag mark frozen job around plain o finds r0 b w st.1.0 j st.0 st.1.1),
         ap frozen st.2,
-        ap names_of (stands_holds tag job around q w j (held st.0) st (right.held_at_is job around w j st.0 st.1) (all_apart (held st.0) kept)) ∙ names_held tag (held st.0) ∙ sym (names_low J (held st.0)),
+        ap names_of (stands_holds tag job around q w j (held st.0) st (held_at_is job around w j st.0 st.1) (all_apart (held st.0) kept)) ∙ names_held tag (held st.0) ∙ sym (names_low J (held st.0)),
       ),
       ap names_of (stands_pending tag job around q w j ds st wt (all_apart ds waited) ∙ ap (map (λ d. low_ref no_name tag d)) (apart_refs ds (waits_apart job around wt.0 w j ds wt.1))) ∙ names_held tag ds ∙ sym (names_low J ds),
     )
