@@ -12,7 +12,7 @@ use Rattle.sky_state.specs.Stand.{Stand, low_state}
 use Rattle.sky_state.specs.Stands.{Stands}
 
 module _ (job : s.Job) (around : s.Around) (tag : Tag) where
-  wait_of_state : (a : n.State) → ℕ
+  abbrev wait_of_state : (a : n.State) → ℕ
   wait_of_state a = stand_wait (low_state tag a)
 
   halt_waits : (f : List ℕ) (j : ℕ) (x : Option _) (a : n.State) → n.halt_state f j x ≡ Some a → wait_of_state a ≡ j
