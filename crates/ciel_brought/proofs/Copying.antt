@@ -36,7 +36,6 @@ use Rattle.ciel_task.specs.declared.block.Block.{Block}
 use Rattle.ciel_task.specs.declared.block.Held.{Held}
 use Rattle.ciel_task.specs.declared.block.Spot.{Spot}
 use Rattle.ciel_task.specs.declared.order.Order.{Order}
-use Rattle.ciel_brought.specs.Brought.{InputsInOrder}
 use Rattle.ciel_brought.specs.Copies.{Copies, IsCopy}
 use Rattle.ciel_brought.proofs.Finding.{found_named, found_stands, is_object, object_is, shelf_view, spot_at, spot_found}
 

@@ -15,13 +15,13 @@ use Rattle.ciel_json.specs.Around.{json_around}
 use Rattle.ciel_store.specs.Seen.{ShelvesSeen}
 use Rattle.ciel_table.specs.Seen.{TableSeen}
 use Rattle.ciel_task.specs.Orders.{names_in}
-use Rattle.ciel_task.specs.Shop.{shop_setting}
+use Rattle.ciel_task.specs.Shop.{InputsInOrder, shop_setting}
 use Rattle.ciel_task.specs.Views.{P, copies_view, order_view}
 use Rattle.ciel_task.specs.declared.block.Held.{Held}
 use Rattle.ciel_task.specs.declared.order.Order.{Order}
 use Rattle.ciel_walks.specs.Laws.{Brings}
 use Rattle.ciel_want.specs.Waited.{AllKnown}
-use Rattle.ciel_brought.specs.Brought.{InputsInOrder, lies_known}
+use Rattle.ciel_brought.specs.Brought.{lies_known}
 use Rattle.ciel_brought.specs.Copies.{Copies, IsCopy}
 use Rattle.sha1.specs.Sha1.{sha1}
 use Rattle.ciel_name.specs.Object.{object_bytes}

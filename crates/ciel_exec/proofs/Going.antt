@@ -42,12 +42,12 @@ use Rattle.ciel_meant.proofs.RealLaw.{in_to}
 use Rattle.ciel_store.specs.Seen.{ShelvesSeen}
 use Rattle.ciel_task.specs.Orders.{CanBegin, Describes, OrderSound, Saved, names_in}
 use Rattle.ciel_task.specs.Shop as shop
-use Rattle.ciel_task.specs.Shop.{shop_setting}
+use Rattle.ciel_task.specs.Shop.{InputsInOrder, shop_setting}
 use Rattle.ciel_task.specs.Views.{P, order_view}
 use Rattle.ciel_task.specs.declared.block.Held as rust
 use Rattle.ciel_task.specs.declared.order.Order.{Order}
 use Rattle.ciel_walks.specs.Laws.{Brings}
-use Rattle.ciel_brought.specs.Brought.{InputsInOrder, lies_known}
+use Rattle.ciel_brought.specs.Brought.{lies_known}
 use Rattle.ciel_brought.proofs.Bringing.{named_given, order_brings}
 
 module _ {A B : Type 0} (g : A → B) where

@@ -5,8 +5,8 @@ ghost use Rattle.sky_base.specs.JobView.{job_view};
 ghost use Rattle.sky_base.specs.declared.object.Desc1.{Desc1};
 ghost use Rattle.ciel_task.specs.Orders.{OrderSound};
 ghost use Rattle.ciel_task.specs.Performs.{Performs};
-ghost use Rattle.ciel_brought.specs.Brought.{InputsInOrder};
-ghost use Rattle.ciel_brought.specs.Places.{PlacesSound};
+ghost use Rattle.ciel_task.specs.Shop.{InputsInOrder};
+ghost use Rattle.ciel_task.specs.Places.{PlacesSound};
 ghost use Rattle.ciel_exec.specs.Runs.{ArgumentsKept};
 
 use crate::run::{Ran, run};
