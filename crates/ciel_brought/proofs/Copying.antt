@@ -7,8 +7,11 @@ use Rattle.sky_base.specs.Name.{digested}
 use Rattle.sky_base.specs.Res.{Object}
 use Rattle.sky_base.specs.See as s
 use Rattle.sky_base.specs.See.{see}
+use Rattle.sky_base.specs.ObjectView.{object_view}
+use Rattle.sky_base.specs.Tree.{Script}
 use Rattle.sky_base.specs.Val.{same_text}
 use Rattle.sky_base.proofs.Exact.{exact_text}
+use Rattle.sky_law.specs.Sound.{SoundObject}
 use Rattle.sky_law.specs.Tasks.{Each, In}
 use Rattle.sky_law.proofs.Lists.{each_both, some_is}
 use Rattle.ciel_board.specs.Board as board
@@ -27,8 +30,10 @@ use Rattle.ciel_table.specs.Named.{found}
 use Rattle.ciel_table.specs.Seen.{Known, TableSeen}
 use Rattle.ciel_want.specs.Waited.{AllKnown}
 use Rattle.ciel_inputs.specs.Lies.{CopiedIf, CopiedSo, held_name, is_elsewhere, lies_at, object_in}
+use Rattle.ciel_inputs.proofs.Gathering.{each_found}
 use Rattle.ciel_task.specs.Named.{object_by_names}
-use Rattle.ciel_task.specs.Orders.{names_in}
+use Rattle.ciel_task.specs.Orders.{HasObject as HasObjectIn, SpotSound, names_in}
+use Rattle.ciel_task.specs.Places.{CopyAt}
 use Rattle.ciel_task.specs.Shop as shop
 use Rattle.ciel_task.specs.Shop.{block_view, shop_setting}
 use Rattle.ciel_task.specs.Views.{P, brought_view, copies_view, copy_at, order_view, spot_view}
@@ -147,6 +152,31 @@ module _ (shelves : ShelvesSeen) (inputs : List (List ℕ × List ℕ)) (order :
   copies_fit t [] e a = tt
   copies_fit t (c ∷ cs) e a =
       subst (j.Each (CopyFits W t (order_view order))) (sym (copy_seen c e.0 cs)) (copy_fits t c e.0 a, copies_fit t cs e.1 a)
+
+-- ---- what lies there
+
+-- an object that is sound for the script
+pub sound_there : (sc : Script) (v : Block) (x : Object (List ℕ)) → object_in v ≡ Some x → SoundObject sc x → HasObjectIn sc v
+sound_there sc (Block.Frozen a) x e h = absurd cc
+sound_there sc (Block.Object y) x e h = subst (SoundObject sc) (sym (some_is (object_view y) x e)) h
+
+module _ (shelves : ShelvesSeen) (w : ℕ) (inputs : List (List ℕ × List ℕ)) (held : List Held) (sc : Script) (count : ℕ) (spots : Each (λ (h : Held). SpotSound shelves sc count h.at) held) where
+  alike : (u v : Block) → object_in u ≡ object_in v → HasObjectIn sc v → HasObjectIn sc u
+  alike u (Block.Frozen a) e h = absurd h
+  alike u (Block.Object y) e h = sound_there sc u (object_view y) e h
+
+  copy_sound : (c : Held) → IsCopy shelves w inputs held c → CopyAt shelves w sc c.at
+  copy_sound c copy = go (elsewhere_at w copy.from.at copy.elsewhere) (each_found held_name (λ (h : Held). SpotSound shelves sc count h.at) c.name held copy.from spots copy.found)
+    where
+      go : (p : P) × (copy.from.at ≡ Spot.Shelf p) × (p.worker ≡ w → ⊥) → SpotSound shelves sc count copy.from.at → CopyAt shelves w sc c.at
+      go (p, at, other) spot =
+          let there : SpotSound shelves sc count (Spot.Shelf p) = subst (SpotSound shelves sc count) at spot in
+          subst (CopyAt shelves w sc) (sym copy.at)
+          (record { here = copy.here; worker = copy.worker; object = alike copy.place.at.value p.at.value (copy.same ∙ ap (lies_at inputs) at) there.1 })
+
+  pub copies_sound : (cs : List Held) → Each (IsCopy shelves w inputs held) cs → Each (λ (c : Held). CopyAt shelves w sc c.at) cs
+  copies_sound [] h = tt
+  copies_sound (c ∷ cs) h = (copy_sound c h.0, copies_sound cs h.1)
 
 -- ---- one more
 

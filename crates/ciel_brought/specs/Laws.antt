@@ -3,7 +3,8 @@ use Rattle.std.specs.Prelude.{◌≡◌, ℕ, List}
 use Rattle.sky_base.specs.KitView.{Gives}
 use Rattle.sky_base.specs.Name.{digested}
 use Rattle.sky_base.specs.See as s
-use Rattle.sky_law.specs.Tasks.{In}
+use Rattle.sky_base.specs.Tree.{Script}
+use Rattle.sky_law.specs.Tasks.{Each, In}
 use Rattle.ciel_board.specs.Follows.{OrderIs}
 use Rattle.ciel_board.specs.Reports.{copy_names}
 use Rattle.ciel_board.specs.Setting.{HasObject}
@@ -14,7 +15,8 @@ use Rattle.ciel_journal.specs.Lawful.{FetchedFrom, Given, HeldAt}
 use Rattle.ciel_json.specs.Around.{json_around}
 use Rattle.ciel_store.specs.Seen.{ShelvesSeen}
 use Rattle.ciel_table.specs.Seen.{TableSeen}
-use Rattle.ciel_task.specs.Orders.{names_in}
+use Rattle.ciel_task.specs.Orders.{SpotSound, names_in}
+use Rattle.ciel_task.specs.Places.{CopyAt}
 use Rattle.ciel_task.specs.Shop.{InputsInOrder, shop_setting}
 use Rattle.ciel_task.specs.Views.{P, copies_view, order_view}
 use Rattle.ciel_task.specs.declared.block.Held.{Held}
@@ -58,3 +60,9 @@ CopiesFit =
     (shelves : ShelvesSeen) (inputs : List (List ℕ × List ℕ)) (order : Order) (cs : List Held)
     → Copies shelves order.worker inputs order.inputs.items cs → (t : TableSeen P) → AllKnown t (names_in order.inputs.items)
     → j.Each (CopyFits (λ (p : P). p.worker) t (order_view order)) (copies_view cs) × (copy_names (copies_view cs) ≡ names_in cs)
+
+-- what lies there is sound for the script, where what the order brings along is
+abbrev pub CopiesAreSound : Type 0
+CopiesAreSound =
+    (shelves : ShelvesSeen) (w : ℕ) (inputs : List (List ℕ × List ℕ)) (held cs : List Held) → Copies shelves w inputs held cs
+    → (sc : Script) (count : ℕ) → Each (λ (h : Held). SpotSound shelves sc count h.at) held → Each (λ (c : Held). CopyAt shelves w sc c.at) cs
