@@ -25,11 +25,8 @@ out_set kept w x o e = map-set order_of kept w x ∙ ap (set (map order_of kept)
 
 module _ {K N : Type 0} (gives : K → Gives) (digest : N → List ℕ → List ℕ) (shop : Shop K N) where
   pub kept_set : (kept : List (Option Kept)) (w : ℕ) (x : Option Kept) → w < length kept → KeptSo gives digest shop kept → KeptAt gives digest shop w x → KeptSo gives digest shop (set kept w x)
-  kept_set kept w x lt so at k = go (same_or k w)
+  kept_set kept w x lt so at k = go (cases_eq k w)
     where
-      same_or : (a b : ℕ) → (a ≡ b) ⊎ (a ≢ b)
-      same_or a b = nat_or a b
-
       go : (k ≡ w) ⊎ (k ≢ w) → KeptAt gives digest shop k (get_or (set kept w x) k None)
       go (inl e) =
           subst (λ y. KeptAt gives digest shop y (get_or (set kept w x) y None)) (sym e) (subst (KeptAt gives digest shop w) (sym (get_or-set_same kept w x None lt)) at)
@@ -55,11 +52,14 @@ module _ {G : Type 0} (entered : G → Option (List TaskId)) where
       after : ℕ → Option (List TaskId)
       after k = get_or (map entered (set gates w new)) k None
 
+      longer_list : Option (List TaskId)
+      longer_list = extended (told_at (map entered gates) w) task
+
       was : told_at (map entered gates) w ≡ entered old
       was = told_one gates w old lt ∙ ap entered is
 
       each : (k : ℕ) → k < length (set (map entered gates) w (extended (told_at (map entered gates) w) task)) → Fades (get_or (set (map entered gates) w (extended (told_at (map entered gates) w) task)) k None) (after k)
-      each k under = go (nat_or k w)
+      each k under = go (cases_eq k w)
         where
           less : k < length gates
           less = omega (arith, under, length-set (map entered gates) w (extended (told_at (map entered gates) w) task), length-map gates entered)
@@ -72,5 +72,14 @@ module _ {G : Type 0} (entered : G → Option (List TaskId)) where
 
           go : (k ≡ w) ⊎ (k ≢ w) → Fades (get_or (set (map entered gates) w (extended (told_at (map entered gates) w) task)) k None) (after k)
           go (inl q) =
-              subst (λ y. Fades y (after k)) (sym (ap (get_or (set (map entered gates) w (extended (told_at (map entered gates) w) task))) q |> λ f. f None)) _
+              subst (λ y. Fades y (after k)) (sym left) (subst (Fades longer_list) (sym right) (subst (λ y. Fades (extended y task) (entered new)) (sym was) (fades_one task (entered old) (entered new) e)))
+            where
+              left : get_or (set (map entered gates) w longer_list) k None ≡ longer_list
+              left =
+                  ap (λ y. get_or (set (map entered gates) w longer_list) y None) q ∙ get_or-set_same (map entered gates) w longer_list None longer
+
+              right : after k ≡ entered new
+              right =
+                  mapped ∙ ap (λ y. get_or (set (map entered gates) w (entered new)) y None) q ∙ get_or-set_same (map entered gates) w (entered new) None longer
+
           go (inr n) = inr (mapped ∙ get_or-set_other (map entered gates) w k (entered new) None n ∙ sym (get_or-set_other (map entered gates) w k (extended (told_at (map entered gates) w) task) None n))
