@@ -1,6 +1,7 @@
 -- When an order is sound for a shop.
 use Rattle.std.specs.Prelude.{◌≡◌, ◌≢◌, ℕ, ◌<◌, List, length, map, Option, Some, None, ◌↔◌}
 use Rattle.std.specs.List.{IsDistinct, AllByRecursion}
+use Rattle.sky_base.specs.Kept.{Kept}
 use Rattle.sky_base.specs.Name.{digested, held_name}
 use Rattle.sky_base.specs.ObjectView.{desc_view, object_view}
 use Rattle.sky_base.specs.Tree.{Script}
@@ -11,7 +12,7 @@ use Rattle.sky_base.specs.declared.object.TaskId.{TaskId}
 use Rattle.sky_law.specs.Sound.{SoundObject}
 use Rattle.sky_law.specs.Tasks.{Each, In}
 use Rattle.sky_state.specs.Fits.{Fits}
-use Rattle.sky_state.specs.Pending.{pending_in}
+use Rattle.sky_state.specs.Pending.{pending_in, stand_wait}
 use Rattle.sky_state.specs.Stand.{Stand}
 use Rattle.sky_state.specs.Start.{CanStart}
 use Rattle.ciel_name.specs.Names.{first_output}
@@ -43,10 +44,6 @@ SpotSound shelves sc inputs (Spot.Input i) = i < inputs
 
 -- ---- what is to be done
 
-abbrev pub has_waits : Stand (List ℕ) → ℕ
-has_waits (Stand.run r) = r.waits
-has_waits (Stand.show_at v w) = w
-
 -- a state of this kind of task: of the root task or of a call
 abbrev pub OfKind : TaskId → Stand (List ℕ) → Type 0
 OfKind TaskId.Show (Stand.show_at v w) = Unit {0}
@@ -56,7 +53,7 @@ OfKind _ _ = ⊥
 -- what a task is the call, or the executor task, of, with what such a task needs at its start
 abbrev pub CanBegin : Script → List (List ℕ) → Desc1 → Type 0
 CanBegin sc given (Desc1.Call f c vs) = CanStart sc f c vs
-CanBegin sc given (Desc1.Exec x a n i) = (i ≡ 0) × Each (λ d. In (held_name d) given) (refs (view a))
+CanBegin sc given (Desc1.Exec x a n i) = (i ≡ 0) × Kept (view a) × Each (λ d. In (held_name d) given) (refs (view a))
 CanBegin sc given (Desc1.Input k) = ⊥
 
 -- the root task has none; another one has the description by which it goes, of the task's name
@@ -68,7 +65,7 @@ Describes digest sc given _ _ = ⊥
 -- where the task goes on, its stack stands at the order's wait, and all that it waits for there is brought along
 pub record GoesOnFrom (shelves : ShelvesSeen) (sc : Script) (order : Order) (p : PlaceSeen Block) : Type 0 where
   pub place : IsPlaceOf shelves p
-  pub stack : HasStack (λ s. Fits sc s × OfKind order.task s × (has_waits s ≡ order.from) × Each (λ d. In (held_name d) (names_in order.inputs.items)) (pending_in same_text s)) p.at.value
+  pub stack : HasStack (λ s. Fits sc s × OfKind order.task s × (stand_wait s ≡ order.from) × Each (λ d. In (held_name d) (names_in order.inputs.items)) (pending_in same_text s)) p.at.value
 
 -- at its start the root task waits for the main call
 abbrev pub ShowsMain : Order → TaskId → Type 0

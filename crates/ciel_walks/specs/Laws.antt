@@ -10,7 +10,7 @@ use Rattle.sky_law.specs.Lower.{low_obj, low_ref}
 use Rattle.sky_law.specs.NamesLaws.{Tag, no_name}
 use Rattle.sky_law.specs.Refers.{PlainReads}
 use Rattle.sky_law.specs.Tasks as t
-use Rattle.sky_state.specs.Pending.{held_in, pending_in}
+use Rattle.sky_state.specs.Pending.{held_in, pending_in, stand_wait}
 use Rattle.sky_state.specs.Stand.{Stand, low_state}
 use Rattle.sky_state.specs.Stands.{Stands}
 use Rattle.ciel_journal.specs.History.{OpenStart}
@@ -24,10 +24,6 @@ use Rattle.ciel_walks.specs.Walk.{Walk}
 
 abbrev pub names_of : List (v.Desc (List ℕ)) → List Digest
 names_of ds = map held_name ds
-
-abbrev pub waits_of : Stand (List ℕ) → ℕ
-waits_of (Stand.run r) = r.waits
-waits_of (Stand.show_at u w) = w
 
 -- marks are of objects and states by names
 module _ (tag : Tag) (mark : Object (List ℕ) → Digest) (frozen : Stand (List ℕ) → Digest) (job : s.Job) (around : s.Around) where
@@ -48,7 +44,7 @@ module _ (tag : Tag) (mark : Object (List ℕ) → Digest) (frozen : Stand (List
   end_of t (ended o) = made (object_made t o) []
   end_of t (shown a) = made [] []
   end_of t (waits r) =
-      stopped (waits_of r) (frozen r) (names_of (pending_in same_text r)) (names_of (held_in same_text r))
+      stopped (stand_wait r) (frozen r) (names_of (pending_in same_text r)) (names_of (held_in same_text r))
 
   module _ (o : OpenStart s.Desc) where
     module _ (finds : v.Desc (List ℕ) → Option (Object (List ℕ))) where
