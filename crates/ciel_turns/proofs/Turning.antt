@@ -363,7 +363,7 @@ module _ {D P B : Type 0} (s : Setting D P B) (is : IsSetting s) (most : ℕ) wh
 
             sound : Sound s.digest s.at (missed_at s.digest b x.out name loss)
             sound =
-                accepted_sound s.digest s.at b a.sound x x.out.number out.found [] (rep.missing name loss) (record { named = tt; inside = tt; tasks = tt; end = m }) tt
+                accepted_sound s.digest s.at b a.sound x x.out.number out.found [] (rep.missing name loss) (record { named = tt; missed = m; learned = λ k. record { inside = tt; tasks = tt; end = tt } }) tt
 
             weighs : is_stale s.at b.table.gone x ≡ true → one_of (is_stale s.at b.table.gone) (Some x) ≡ 1
             weighs t = ap one_if t
@@ -432,7 +432,7 @@ module _ {D P B : Type 0} (s : Setting D P B) (is : IsSetting s) (most : ℕ) wh
         pub report_turns : RestsNow b → (spawned : List Named) (end : End P) → Promised s most h b x spawned end → (IsMissing end → ⊥) → AllLearned s.digest spawned b.table → (accepted s.digest b x.out spawned end).stopped ≡ false → Turned s most h b slots (accepted s.digest b x.out spawned end) taken
         report_turns rest spawned (rep.missing name loss) p none all going = absurd (none tt)
         report_turns rest spawned (rep.saved q) p none all going =
-            turned_with rest spawned (rep.saved q) p all (λ z. z) going (saved_less s.digest s.at most b a.sound x.out there spawned (room_all s.digest spawned b.table all a.sound.room) q p.fits.end.later)
+            turned_with rest spawned (rep.saved q) p all (λ z. z) going (saved_less s.digest s.at most b a.sound x.out there spawned (room_all s.digest spawned b.table all a.sound.room) q (p.fits.learned all).end.later)
         report_turns rest spawned (rep.made ms cs) p none all going =
             turned_with rest spawned (rep.made ms cs) p all (λ z. z) going (done_less s.digest s.at most b a.sound x.out there spawned (room_all s.digest spawned b.table all a.sound.room) ms cs (not_root x.out.task going) live)
           where
