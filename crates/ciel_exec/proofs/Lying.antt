@@ -130,7 +130,7 @@ module _ (digest : List ℕ → List ℕ) (shelves : ShelvesSeen) (sc : Script) 
   copies_lie : (cs : List Held) → t.Each (IsCopy shelves order.worker job.inputs order.inputs.items) cs → j.Each (CopyLies S o) (copies_view cs)
   copies_lie [] h = tt
   copies_lie (c ∷ cs) h =
-      subst (j.Each (CopyLies S o)) (sym (copy_seen shelves job.inputs order c h.0 cs)) (one, copies_lie cs h.1)
+      subst (j.Each (CopyLies S o)) (sym (copy_seen digest shelves job.inputs order c h.0 cs)) (one, copies_lie cs h.1)
     where
       one : CopyLies S o (record { name = c.name; place = h.0.place })
       one d w e =

@@ -71,7 +71,7 @@ module _ (digest : List ℕ → List ℕ) (shelves : ShelvesSeen) (job : s.Job) 
 
   -- ---- it fits
 
-  outputs_fit : (tb : TableSeen P) → ((k : ℕ) → k < n → Known tb (digested digest (out x (view args) n k))) → (i : ℕ) (ms : List Made) → i + length ms ≡ n → OutputsFrom digest shelves order.worker x (view args) n made_here i ms → j.Each (OutputFits W tb (order_view order)) (map output_view ms)
+  outputs_fit : (tb : TableSeen P) → ((k : ℕ) → k < n → Known tb (digested digest (out x (view args) n k))) → (i : ℕ) (ms : List Made) → i + length ms ≡ n → OutputsFrom digest shelves order.worker x (view args) n made_here i ms → j.Each (OutputFits digest W tb (order_view order)) (map output_view ms)
   outputs_fit tb rows i [] e h = tt
   outputs_fit tb rows i (m ∷ ms) e h =
       (record { known = subst (Known tb) (sym h.0.name) (rows i (omega (arith, e))); here = h.0.worker }, outputs_fit tb rows (suc i) ms (omega (arith, e)) h.1)
@@ -82,7 +82,7 @@ module _ (digest : List ℕ → List ℕ) (shelves : ShelvesSeen) (job : s.Job) 
         named = tt;
         inside = tt;
         tasks = tt;
-        end = (outputs_fit b.table (subst (OutputsKnown digest b.table) by rows.outputs) 0 ms are.0 are.1, copies_fit shelves job.inputs order b.table cs copies.0 rows.brought, subst (IsDistinct same_text) (sym (copies_named shelves job.inputs order cs copies.0)) copies.1);
+        end = (outputs_fit b.table (subst (OutputsKnown digest b.table) by rows.outputs) 0 ms are.0 are.1, copies_fit digest shelves job.inputs order b.table cs copies.0 rows.brought, subst (IsDistinct same_text) (sym (copies_named digest shelves job.inputs order cs copies.0)) copies.1);
       }
 
   -- ---- the promise
