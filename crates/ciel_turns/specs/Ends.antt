@@ -61,7 +61,7 @@ module _ (D P B : Type 0) where
   ShownEnds =
       OfWork D P B (λ s most h b slots. RestsNow b → (w : ℕ) (x : Order P) → Has slots w x → IsOut s h b x → x.out.task ≡ TaskId.Show
       → (spawned : List Named) (cs : List (Copy P)) → Promised s most h b x spawned (made [] cs)
-      → AllLearned s.digest spawned b.table → RunEnded s h (accepted s.digest b x.out spawned (made [] cs)))
+      → AllLearned s.digest spawned b.table → RunEnded s h x spawned (made [] cs) (accepted s.digest b x.out spawned (made [] cs)))
 
   -- a description that is refused for its name
   abbrev pub ClashEnds : Type 0

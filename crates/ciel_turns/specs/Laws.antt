@@ -60,9 +60,10 @@ module _ {D P B : Type 0} (s : Setting D P B) where
     pub apart : r.FirstApart s.job s.inner start
     pub turned : Turned s most h b slots (started s.at b x w) (slice_set slots w (Some (order_for s.at b x w)))
 
-  -- the run ends: with the Done of the root task, which comes to its end
-  pub record RunEnded (h : List (Event D)) (c : Board P) : Type 0 where
+  -- the run ends with the event that the report tells, the Done of the root task, which comes to its end
+  pub record RunEnded (h : List (Event D)) (x : Order P) (spawned : List Named) (end : End P) (c : Board P) : Type 0 where
     pub event : Event D
+    pub tells : r.report_of s.job s.inner s.lower event ≡ Some (report_view x.out.number spawned end)
     pub runs : Runs s (h ++ event ∷ []) c
     pub done : ShowDone s.job (h ++ event ∷ [])
     pub ends : Ends s.job show
