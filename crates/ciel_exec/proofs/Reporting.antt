@@ -101,7 +101,7 @@ module _ (digest : List ℕ → List ℕ) (shelves : ShelvesSeen) (job : s.Job) 
           fits = λ b sd out rows learned not. moved (Fits digest W b (order_view order)) the_end end_is (made_fits ms.items cs.items are copies b rows);
           missed = subst (Missed digest order) (sym end) tt;
           says = λ o is apart. moved _ the_end end_is (says_made digest shelves job.script (length job.inputs) order sound x args n by job gives keyed o is ms.items cs.items are copies among);
-          lies = λ h p o lawful open is. moved _ the_end end_is (made_lies digest shelves job.script (length job.inputs) order sound x args n by job gives keyed o is ms.items cs.items are copies.0 h p lawful open);
+          lies = λ h p o lawful is_open is. moved _ the_end end_is (made_lies digest shelves job.script (length job.inputs) order sound x args n by job gives keyed o is ms.items cs.items are copies.0 h p lawful is_open);
         }
       where
         the_end : End P
@@ -119,7 +119,7 @@ module _ (digest : List ℕ → List ℕ) (shelves : ShelvesSeen) (job : s.Job) 
           fits = λ b sd out rows learned not. absurd (not (subst IsMissing (sym end) tt));
           missed = subst (Missed digest order) (sym end) (is_missed h.at refl lost);
           says = λ o is apart. moved _ the_end end_is (says_missing digest shelves job.script (length job.inputs) order sound x args n by job gives keyed o is nm l.number);
-          lies = λ hs p o lawful open is. moved _ the_end end_is (λ e tells allowed apart. tt);
+          lies = λ hs p o lawful is_open is. moved _ the_end end_is (λ e tells allowed apart. tt);
         }
       where
         the_end : End P
