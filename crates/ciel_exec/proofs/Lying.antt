@@ -76,11 +76,12 @@ module _ (digest : List ℕ → List ℕ) (shelves : ShelvesSeen) (sc : Script) 
 
   output_in : (c i k : ℕ) → i ≤ k → k < i + c → j.In (out x b n k) (outputs x b n i c)
   output_in zero i k up down = absurd (omega (arith, up, down))
-  output_in (suc c) i k up down = on (below_or_same i k up)
+  output_in (suc c) i k up down =
+      on (below_or_same i k up) (λ l. output_in c (suc i) k (omega (arith, l)) (omega (arith, down)))
     where
-      on : (i < k) ⊎ (i ≡ k) → j.In (out x b n k) (outputs x b n i (suc c))
-      on (inr e) = inl (ap (out x b n) (sym e))
-      on (inl l) = inr (output_in c (suc i) k (omega (arith, l)) (omega (arith, down)))
+      on : (i < k) ⊎ (i ≡ k) → (i < k → j.In (out x b n k) (outputs x b n (suc i) c)) → j.In (out x b n k) (outputs x b n i (suc c))
+      on (inr e) rest = inl (ap (out x b n) (sym e))
+      on (inl l) rest = inr (rest l)
 
   -- an output is in the book
   booked : (p : Plan) (h : List (Event s.Desc)) → Lawful S.job p h → find_open S.job order.number (standing S.job h).orders ≡ Some o → (d : s.Desc) → j.In d (S.job.outputs o.task) → j.In d (standing S.job h).book
