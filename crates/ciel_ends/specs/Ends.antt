@@ -84,18 +84,24 @@ module _ (digest : List ℕ → List ℕ) (job : s.Job) (gives : Gives) where
       → (count : ℕ) → slice_get b.plan.losses loss.number ≡ Some (count, loss.worker) → list_any (nat_eq loss.worker) b.table.gone ≡ true
       → MissingFits digest worker_of b (order_view order) name loss.number)
 
+  -- the run ends with this report
+  abbrev pub EndsWith : List (Event s.Desc) → Board P → Order → Report → Type 0
+  EndsWith h b order r =
+      RunEnded (the_shop digest job gives) h (order_view order) r.spawned.items (report_end r)
+      (accepted digest b (order_view order).out r.spawned.items (report_end r))
+
   -- with what is shown the run ends, and the job means it
   abbrev pub ShownIsMeant : Type 0
   ShownIsMeant =
       OfOrder (λ most h b order. RestsNow b → order.task ≡ TaskId.Show → (r : Report) → Performs digest job gives order r
       → (shown : Shown) → r.end ≡ End.Shown shown → AllLearned digest r.spawned.items b.table
-      → s.Means job (json_around gives) (shown_view shown)
-      × RunEnded (the_shop digest job gives) h (order_view order) r.spawned.items (report_end r) (accepted digest b (order_view order).out r.spawned.items (report_end r)))
+      → s.Means job (json_around gives) (shown_view shown) × EndsWith h b order r)
 
   -- a circle of the journal means that the job has no answer
   abbrev pub CircleIsNever : Type 0
   CircleIsNever =
-      IsOrderly → (p : Plan) (J : List Entry) (names : List Digest) → CircleOf (the_shop digest job gives).job p J names → s.Never job (json_around gives)
+      IsOrderly → (p : Plan) (J : List Entry) (names : List Digest) → CircleOf (the_shop digest job gives).job p J names
+      → s.Never job (json_around gives)
 
   -- a job that is modest in the meaning's words is so to the master
   abbrev pub ModestAlike : Type 0
