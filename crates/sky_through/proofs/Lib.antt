@@ -1,3 +1,5 @@
 pub mod Goes
 pub mod Turns
 pub mod Knowing
+pub mod Wholes
+pub mod Asking

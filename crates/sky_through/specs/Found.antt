@@ -1,12 +1,13 @@
 -- What is found of what a state waits for, and one turn of going on.
-use Rattle.std.specs.Prelude.{◌≡◌, ◌-◌, ◌+◌, ℕ, List, Bool, true, false, Option, Some, None, IsSome, ◌⊎◌}
-use Rattle.sky_base.specs.Val.{Desc, same_text}
+use Rattle.std.specs.Prelude.{◌≡◌, ◌-◌, ◌+◌, ◌<◌, ◌++◌, ℕ, List, map, Bool, true, false, Option, Some, None, IsSome, ◌⊎◌}
+use Rattle.sky_base.specs.Val.{Desc, Val, out, same_text}
 use Rattle.sky_base.specs.Tree.{Script}
 use Rattle.sky_base.specs.Res.{Object, visits, object_refs}
 use Rattle.sky_law.specs.Sound.{SoundObject}
 use Rattle.sky_law.specs.Tasks.{In, Each}
 use Rattle.sky_state.specs.Pending.{all_refs, pending_in}
 use Rattle.sky_state.specs.Stand.{Stand}
+use Rattle.sky_resume.specs.Comes.{with_name}
 use Rattle.sky_onward.specs.Exactly.{gone_of}
 use Rattle.sky_onward.specs.Knows.{CameWith, KnowsNames}
 use Rattle.sky_onward.specs.Steps.{Spawned, Resumed}
@@ -64,3 +65,13 @@ step_or (Some s) = s
 -- as many waits or waves may still come
 abbrev pub still_to_come : Stand (List ℕ) → ℕ
 still_to_come s = visits + 101 - gone_of s
+
+-- each output of an executor's task stands there with all outputs of that task
+abbrev pub HasAllOutputs : List (Desc (List ℕ)) → Type 0
+HasAllOutputs ds = (x : List ℕ) (a : Val (List ℕ)) (n i : ℕ) → In (out x a n i) ds → (k : ℕ) → k < n → In (out x a n k) ds
+
+-- what was spawned grew by such descriptions, each with its name
+pub record GrewWhole (digest : List ℕ → List ℕ) (before after : Spawned) : Type 0 where
+  pub made : List (Desc (List ℕ))
+  pub grew : after ≡ before ++ map (with_name digest) made
+  pub whole : HasAllOutputs made

@@ -1,3 +1,4 @@
+pub mod Asked
 pub mod Through
 pub mod Went
 pub mod Found

@@ -1,6 +1,7 @@
 //! Where objects are found by the names of their descriptions.
 
-ghost use Rattle.std.specs.Prelude.{◌≡◌, ℕ, List, Option, Some, IfErr, IfOk, IsSome, is_some};
+ghost use Rattle.std.specs.Prelude.{◌≡◌, [], ◌∷◌, ℕ, List, Option, Some, IfErr, IfOk, IsSome, is_some};
+ghost use Rattle.sky_through.specs.Asked.{AsksFor};
 ghost use Rattle.sky_base.specs.ObjectView.{object_view};
 ghost use Rattle.sky_base.specs.Res as logic;
 ghost use Rattle.sky_base.specs.Val.{Desc, known};
@@ -18,8 +19,15 @@ pub trait Finds {
     /// The object of each description that there is.
     ghost finds: { Self → Desc (List ℕ) → Option (logic.Object (List ℕ)) };
 
-    /// What holds of it before and after each call.
+    /// What holds of it before each call, and after one that doesn't answer `Memory`.
     ghost ready: { Self → Type 0 };
+
+    /// What stays of it through each call, after `Memory` too.
+    ghost Stays: { Type 0 };
+    ghost stays: { Self → Stays };
+
+    /// The names that it was asked for, as far as it tells them.
+    ghost asked: { Self → List ℕ → Type 0 };
 
     /// What a refusal tells.
     ghost refuses: { Self → Self.Refusal → Type 0 };
@@ -37,6 +45,8 @@ pub trait Finds {
         requires there { IsSome (finds self.old (known name.now)) }
         ensures object { IfOk result (λ r. IfOk r (λ o. finds self.old (known name.now) ≡ Some (object_view o))) }
         ensures refusal { IfOk result (λ r. IfErr r (refuses self.new)) }
-        ensures ready { ready self.new }
+        ensures asked { IfOk result (λ _. AsksFor (asked self.old) (asked self.new) (known name.now ∷ [])) }
+        ensures ready { IfOk result (λ _. ready self.new) }
+        ensures stays { stays self.new ≡ stays self.old }
         ensures same { finds self.new ≡ finds self.old };
 }

@@ -3,13 +3,16 @@
 ghost use Rattle.std.specs.Prelude.{◌≡◌, ◌<◌, suc, List, IfErr, IfOk, MatchOption, map, Some};
 ghost use Rattle.sky_base.specs.Names.{known_of};
 ghost use Rattle.sky_base.specs.ObjectView.{object_view};
+ghost use Rattle.sky_base.specs.Val.{same_text};
 ghost use Rattle.sky_state.specs.Fits.{Fits};
+ghost use Rattle.sky_state.specs.Pending.{pending_in};
 ghost use Rattle.sky_state.specs.StateView.{stand_of, spawned_of};
 ghost use Rattle.sky_onward.specs.Exactly.{FitsAfter, gone_of};
 ghost use Rattle.sky_onward.specs.Knows.{KnowsNames};
 ghost use Rattle.sky_onward.specs.Onward.{IsRead, GrewSoundly};
-ghost use Rattle.sky_through.specs.Found.{AllFound, CameFrom, FoundIf, HasAll, FindsSound, SameKind, Turns, step_or};
-ghost use Rattle.sky_through.specs.Through.{Through};
+ghost use Rattle.sky_through.specs.Asked.{AsksFor};
+ghost use Rattle.sky_through.specs.Found.{AllFound, CameFrom, FoundIf, GrewWhole, HasAll, FindsSound, SameKind, Turns, step_or};
+ghost use Rattle.sky_through.specs.Through.{GoesAsking};
 ghost use Rattle.sky_through.specs.Went.{GoesThrough};
 
 use crate::find::Finds;
@@ -41,14 +44,16 @@ pub fn run_through<'a, 'b, F: Finds, N: Namer>(
     requires sound { FindsSound (F.finds finder.old) script.now.code }
     requires found { HasAll (F.finds finder.old) (stand_of state.old) }
     requires finder { F.ready finder.old }
-    ensures through { IfOk result (λ r. IfOk r (λ s. Through (F.finds finder.old) (N.digest namer.now) script.now.code (stand_of state.old) (stand_of state.new) s (spawned_of state.old) (spawned_of state.new))) }
+    ensures through { IfOk result (λ r. IfOk r (λ s. GoesAsking (F.finds finder.old) (N.digest namer.now) script.now.code (F.asked finder.old) (F.asked finder.new) (stand_of state.old) (stand_of state.new) s (spawned_of state.old) (spawned_of state.new))) }
     ensures goes { IfOk result (λ r. IfOk r (λ s. GoesThrough (N.digest namer.now) script.now.code (F.finds finder.old) (stand_of state.old) (stand_of state.new) s (spawned_of state.old) (spawned_of state.new))) }
     ensures fits { IfOk result (λ r. IfOk r (λ s. FitsAfter script.now.code (stand_of state.new) s)) }
     ensures kind { IfOk result (λ r. IfOk r (λ s. SameKind (stand_of state.old) s (stand_of state.new))) }
     ensures made { IfOk result (λ r. IfOk r (λ s. GrewSoundly (N.digest namer.now) script.now.code (spawned_of state.old) (spawned_of state.new))) }
+    ensures whole { IfOk result (λ r. IfOk r (λ s. GrewWhole (N.digest namer.now) (spawned_of state.old) (spawned_of state.new))) }
     ensures known { IfOk result (λ r. IfOk r (λ s. KnowsNames (N.digest namer.now) (CameFrom (F.finds finder.old) (stand_of state.old)) s (stand_of state.new) (spawned_of state.old) (spawned_of state.new))) }
     ensures finder { F.finds finder.new ≡ F.finds finder.old }
-    ensures ready { F.ready finder.new }
+    ensures ready { IfOk result (λ _. F.ready finder.new) }
+    ensures stays { F.stays finder.new ≡ F.stays finder.old }
     ensures refusal { IfOk result (λ r. IfErr r (F.refuses finder.new)) }
 {
     let ran = loop_through(alloc, script, state, finder, namer)?;
@@ -69,13 +74,15 @@ fn loop_through<'a, 'b, F: Finds, N: Namer>(
     requires sound { FindsSound (F.finds finder.old) script.now.code }
     requires found { HasAll (F.finds finder.old) (stand_of state.old) }
     requires finder { F.ready finder.old }
-    ensures through { IfOk result (λ r. IfOk r (λ s. Through (F.finds finder.old) (N.digest namer.now) script.now.code (stand_of state.old) (stand_of state.new) s (spawned_of state.old) (spawned_of state.new))) }
+    ensures through { IfOk result (λ r. IfOk r (λ s. GoesAsking (F.finds finder.old) (N.digest namer.now) script.now.code (F.asked finder.old) (F.asked finder.new) (stand_of state.old) (stand_of state.new) s (spawned_of state.old) (spawned_of state.new))) }
     ensures fits { IfOk result (λ r. IfOk r (λ s. FitsAfter script.now.code (stand_of state.new) s)) }
     ensures kind { IfOk result (λ r. IfOk r (λ s. SameKind (stand_of state.old) s (stand_of state.new))) }
     ensures made { IfOk result (λ r. IfOk r (λ s. GrewSoundly (N.digest namer.now) script.now.code (spawned_of state.old) (spawned_of state.new))) }
+    ensures whole { IfOk result (λ r. IfOk r (λ s. GrewWhole (N.digest namer.now) (spawned_of state.old) (spawned_of state.new))) }
     ensures known { IfOk result (λ r. IfOk r (λ s. KnowsNames (N.digest namer.now) (CameFrom (F.finds finder.old) (stand_of state.old)) s (stand_of state.new) (spawned_of state.old) (spawned_of state.new))) }
     ensures finder { F.finds finder.new ≡ F.finds finder.old }
-    ensures ready { F.ready finder.new }
+    ensures ready { IfOk result (λ _. F.ready finder.new) }
+    ensures stays { F.stays finder.new ≡ F.stays finder.old }
     ensures refusal { IfOk result (λ r. IfErr r (F.refuses finder.new)) }
 {
     'turns: loop {
@@ -105,9 +112,12 @@ fn turn<'a, 'b, F: Finds, N: Namer>(
     ensures fits { IfOk result (λ r. IfOk r (λ o. MatchOption o (Fits script.now.code (stand_of state.new)) (FitsAfter script.now.code (stand_of state.new)))) }
     ensures kind { IfOk result (λ r. IfOk r (λ o. SameKind (stand_of state.old) (step_or o) (stand_of state.new))) }
     ensures falls { IfOk result (λ r. IfOk r (λ o. MatchOption o (gone_of (stand_of state.new) ≡ suc (gone_of (stand_of state.old))) (λ s. Unit {0}))) }
+    ensures asked { IfOk result (λ r. IfOk r (λ o. AsksFor (F.asked finder.old) (F.asked finder.new) (pending_in same_text (stand_of state.old)))) }
+    ensures whole { IfOk result (λ r. IfOk r (λ o. GrewWhole (N.digest namer.now) (spawned_of state.old) (spawned_of state.new))) }
     ensures made { IfOk result (λ r. IfOk r (λ o. GrewSoundly (N.digest namer.now) script.now.code (spawned_of state.old) (spawned_of state.new))) }
     ensures finder { F.finds finder.new ≡ F.finds finder.old }
-    ensures ready { F.ready finder.new }
+    ensures ready { IfOk result (λ _. F.ready finder.new) }
+    ensures stays { F.stays finder.new ≡ F.stays finder.old }
     ensures refusal { IfOk result (λ r. IfErr r (F.refuses finder.new)) }
 {
     let names = state.pending(alloc)?;
@@ -136,9 +146,11 @@ fn find_all<F: Finds>(
 ) -> Result<Result<Vec<Object>, F::Refusal>, Memory>
     requires found { AllFound (F.finds finder.old) (known_of names.now) }
     requires finder { F.ready finder.old }
+    ensures asked { IfOk result (λ r. IfOk r (λ os. AsksFor (F.asked finder.old) (F.asked finder.new) (known_of names.now))) }
     ensures objects { IfOk result (λ r. IfOk r (λ os. map (F.finds finder.old) (known_of names.now) ≡ map Some (map object_view os.items))) }
     ensures finder { F.finds finder.new ≡ F.finds finder.old }
-    ensures ready { F.ready finder.new }
+    ensures ready { IfOk result (λ _. F.ready finder.new) }
+    ensures stays { F.stays finder.new ≡ F.stays finder.old }
     ensures refusal { IfOk result (λ r. IfErr r (F.refuses finder.new)) }
 {
     let mut objects = Vec::new(alloc);

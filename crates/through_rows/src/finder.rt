@@ -30,6 +30,12 @@ impl Finds for Shelf {
 
     ghost ready = { λ s. Unit {0} };
 
+    ghost Stays = { Unit {0} };
+
+    ghost stays = { λ s. tt };
+
+    ghost asked = { λ s n. ⊥ };
+
     ghost refuses = { λ s r. s.refuses ≡ true };
 
     fn has(&self, name: &Name) -> bool {

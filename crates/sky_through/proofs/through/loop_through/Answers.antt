@@ -1,10 +1,11 @@
 use Rattle.std.proofs.Common.{Some, None, refl, ◌∙◌, subst}
 use Rattle.sky_state.specs.StateView.{stand_of, spawned_of}
 use Rattle.sky_onward.specs.declared.step.Step.{Step}
-use Rattle.sky_through.specs.Through.{more, last}
 use Rattle.sky_through.specs.Found.{Turns}
+use Rattle.sky_through.proofs.Asking.{asks_last, asks_on}
 use Rattle.sky_through.proofs.Knowing.{known_both, known_self}
 use Rattle.sky_through.proofs.Turns.{grew_none, grew_both, kind_self, kind_both}
+use Rattle.sky_through.proofs.Wholes.{grew_whole_none, grew_whole_both}
 use Rattle.sky_through.proofs.through.loop_through.Goals as goal
 
 pub turns-init : goal.turns-init
@@ -18,7 +19,9 @@ turns-init g c =
       finder = refl;
       ready = c.requires.finder;
       kind = kind_self (stand_of s);
-      through = λ new t after th. th;
+      stays = refl;
+      through = λ asked new t after th. th;
+      whole = grew_whole_none digest (spawned_of s);
       known = known_self finds digest (stand_of s) (spawned_of s);
       made = grew_none digest c.args.script.now.code (spawned_of s);
     }
@@ -38,9 +41,11 @@ turns-preserved g c =
       fits = fits;
       found = turned.3;
       finder = c.in_ok-turn.ensures.finder ∙ l.invariant.finder;
-      ready = c.in_ok-turn.ensures.ready;
+      ready = rw c.in-Ok-None.is at c.in_ok-turn.ensures.ready;
+      stays = c.in_ok-turn.ensures.stays ∙ l.invariant.stays;
+      whole = grew_whole_both digest (spawned_of c.args.state.now) (spawned_of l.state) (spawned_of c.turn.new.state) l.invariant.whole (rw c.in-Ok-None.is at c.in_ok-turn.ensures.whole);
       kind = kind_both (stand_of c.args.state.now) (stand_of l.state) (stand_of c.turn.new.state) Step.Waits l.invariant.kind kind;
-      through = λ new s after th. l.invariant.through new s after (more turned.0 turned.1 turned.2 th);
+      through = λ asked new s after th. l.invariant.through asked new s after (asks_on finds digest sc (g.F.Finds.asked l.finder) (g.F.Finds.asked c.turn.new.finder) asked (stand_of l.state) (stand_of c.turn.new.state) new s (spawned_of l.state) (spawned_of c.turn.new.state) after turned.0 turned.1 turned.2 (rw c.in-Ok-None.is at c.in_ok-turn.ensures.asked) th);
       known = known_both finds digest (stand_of c.args.state.now) (stand_of l.state) (stand_of c.turn.new.state) Step.Waits (spawned_of c.args.state.now) (spawned_of l.state) (spawned_of c.turn.new.state) turned.0 turned.1 l.invariant.known turned.4;
       made = grew_both digest sc (spawned_of c.args.state.now) (spawned_of l.state) (spawned_of c.turn.new.state) l.invariant.made made;
     }
@@ -48,12 +53,13 @@ turns-preserved g c =
 pub returns-in-Ok-Some-clause-through : goal.returns-in-Ok-Some-clause-through
 returns-in-Ok-Some-clause-through g c =
     let digest = g.N.Namer.digest c.args.namer.now in
+    let finds = g.F.Finds.finds c.args.finder.now in
     let sc = c.args.script.now.code in
     let l = c.turns in
     let step = c.in-Ok-Some.step in
     let went = rw c.in-Ok-Some.field-0-is at (rw c.in-Ok-Some.is at c.in_ok-turn.ensures.turns) in
     let turned = subst (λ f. Turns f digest sc (Some step) (stand_of l.state) (stand_of c.turn.new.state) (spawned_of l.state) (spawned_of c.turn.new.state)) l.invariant.finder went in
-    l.invariant.through (stand_of c.turn.new.state) step (spawned_of c.turn.new.state) (last turned.0 turned.1 turned.2 turned.3)
+    l.invariant.through (g.F.Finds.asked c.turn.new.finder) (stand_of c.turn.new.state) step (spawned_of c.turn.new.state) (asks_last finds digest sc (g.F.Finds.asked l.finder) (g.F.Finds.asked c.turn.new.finder) (stand_of l.state) (stand_of c.turn.new.state) step (spawned_of l.state) (spawned_of c.turn.new.state) turned.0 turned.1 turned.2 turned.3 (rw c.in-Ok-Some.is at c.in_ok-turn.ensures.asked))
 
 pub returns-in-Ok-Some-clause-made : goal.returns-in-Ok-Some-clause-made
 returns-in-Ok-Some-clause-made g c =
@@ -75,3 +81,8 @@ returns-in-Ok-Some-clause-known g c =
     let went = rw c.in-Ok-Some.field-0-is at (rw c.in-Ok-Some.is at c.in_ok-turn.ensures.turns) in
     let turned = subst (λ f. Turns f digest sc (Some step) (stand_of l.state) (stand_of c.turn.new.state) (spawned_of l.state) (spawned_of c.turn.new.state)) l.invariant.finder went in
     known_both finds digest (stand_of c.args.state.now) (stand_of l.state) (stand_of c.turn.new.state) step (spawned_of c.args.state.now) (spawned_of l.state) (spawned_of c.turn.new.state) turned.0 turned.1 l.invariant.known turned.4
+
+pub returns-in-Ok-Some-clause-whole : goal.returns-in-Ok-Some-clause-whole
+returns-in-Ok-Some-clause-whole g c =
+    let whole = rw c.in-Ok-Some.is at c.in_ok-turn.ensures.whole in
+    grew_whole_both (g.N.Namer.digest c.args.namer.now) (spawned_of c.args.state.now) (spawned_of c.turns.state) (spawned_of c.turn.new.state) c.turns.invariant.whole whole
