@@ -1,0 +1,9 @@
+use Rattle.ciel_brought.proofs.Copying.{copies_fit, copy_fetched}
+use Rattle.ciel_brought.proofs.law.copies_are_fetched.Goals as goal
+
+pub returns-clause-fetched : goal.returns-clause-fetched
+returns-clause-fetched g c digest job gives keyed o order is shelves one copy d a n =
+    copy_fetched digest job gives o order is shelves one copy d a n
+
+pub returns-clause-fit : goal.returns-clause-fit
+returns-clause-fit g c shelves inputs order cs copies t a = copies_fit shelves inputs order t cs copies.0 a

@@ -1,0 +1,4 @@
+pub mod Brought
+pub mod Copies
+pub mod Places
+pub mod Laws
