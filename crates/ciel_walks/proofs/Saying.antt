@@ -41,8 +41,8 @@ use Rattle.ciel_meant.proofs.RealLaw.{in_to}
 use Rattle.ciel_reports.specs.Report as report
 use Rattle.ciel_reports.specs.Report.{Clear, End, MadeIs, Met, Says, Spawns, StoppedIs, Tells, at_end, at_wait}
 use Rattle.ciel_journal.specs.Known.{Inner}
-use Rattle.ciel_walks.specs.Laws.{Begins, end_of, names_of, object_made, the, waits_of}
-use Rattle.ciel_walks.specs.Walk.{AreFound, StopsAt, Walk, last, more}
+use Rattle.ciel_walks.specs.Laws.{Begins, CameTo, SaysAnd, WaitsAt, end_of, names_of, object_made, the, to_end, to_wait, waits_of}
+use Rattle.ciel_walks.specs.Walk.{AreFound, PassedIn, StopsAt, Walk, last, more}
 use Rattle.ciel_walks.proofs.Right as right
 use Rattle.ciel_walks.proofs.Right.{Clashes, D, Further, Have, R, Right, answered, begun, equal_or, first_met, firsts_apart, further, goes, have_first, have_or, have_seen, haves_apart, held_of, low, nm, once, u}
 use Rattle.ciel_walks.proofs.Telling.{clear_both, clear_met, not_clear, tells_all, tells_astray}
@@ -69,6 +69,12 @@ names_held tag (d ∷ ds) = ap (λ xs. name no_name tag d ∷ xs) (names_held ta
 names_low : (job : Job s.Desc) (ds : List s.Desc) → low_names job ds ≡ map job.name ds
 names_low job [] = refl
 names_low job (d ∷ ds) = ap (λ xs. job.name d ∷ xs) (names_low job ds)
+
+-- what it says alone
+module _ {D B : Type 0} (j : Job D) (i : Inner D) (low : D → B) (o : OpenStart D) (r : report.Report B) (Q : Type 0) where
+  pub only_says : SaysAnd j i low o r Q → Says j i low o r
+  only_says (to_end ds nx sp tl g) = at_end ds nx sp tl (λ k. (g k).0)
+  only_says (to_wait n rs ds nx sp tl g) = at_wait n rs ds nx sp tl (λ k. (g k).0)
 
 none_twice : (same : s.Desc → s.Desc → Bool) → IsDistinct same []
 unfolding IsDistinct
@@ -101,6 +107,9 @@ module _ (tag : Tag) (mark : Object (List ℕ) → Digest) (frozen : Stand (List
 
   abbrev says : List (v.Desc (List ℕ)) → End → Type 0
   says bs e = Says J inner L o (record { number = o.number; spawned = bs; end = e })
+
+  abbrev says_and : List (v.Desc (List ℕ)) → End → Type 0 → Type 0
+  says_and bs e Q = SaysAnd J inner L o (record { number = o.number; spawned = bs; end = e }) Q
 
   -- ---- waits, ends and what is made, as the journal has them
 
@@ -259,20 +268,20 @@ module _ (tag : Tag) (mark : Object (List ℕ) → Digest) (frozen : Stand (List
   spawns_of ds bs (report.made objects copied) h x = x
   spawns_of ds bs (report.stopped j m refs holds) h x = x
 
-  pub says_astray : ((ds : List s.Desc) → WaitOf job around w o.from ds → Each Have' ds) → (j : ℕ) (front : List s.Desc) (rest : List (v.Desc (List ℕ))) (e : End) → o.from < j → MadeBetween job around w o.from j front → ((i : ℕ) (ds : List s.Desc) → o.from < i → i < j → WaitOf job around w i ds → Each Have' ds) → Clashes tag mark frozen job around plain o finds r0 b front → Told e → says (map L front ++ rest) e
-  says_astray first j front rest e lt m passed c told = go (next_is first)
+  pub says_astray : ((ds : List s.Desc) → WaitOf job around w o.from ds → Each Have' ds) → (j : ℕ) (front : List s.Desc) (rest : List (v.Desc (List ℕ))) (e : End) → o.from < j → MadeBetween job around w o.from j front → ((i : ℕ) (ds : List s.Desc) → o.from < i → i < j → WaitOf job around w i ds → Each Have' ds) → Clashes tag mark frozen job around plain o finds r0 b front → Told e → (Q : Type 0) → says_and (map L front ++ rest) e Q
+  says_astray first j front rest e lt m passed c told Q = go (next_is first)
     where
       same : (k : ℕ) (ds : List s.Desc) → wait_at job around k w j ≡ Some ds → made_between job around k w o.from j ≡ front
       same k ds x = right.made_once job around w o.from j front (omega (arith, lt)) m k ds x
 
-      go : Next' → says (map L front ++ rest) e
+      go : Next' → says_and (map L front ++ rest) e Q
       go (inl x) =
           let k = x.ends.0 + m.0 in
           let wait : wait_at job around k w j ≡ Some m.1.0 = wait_to job around m.0 k w j m.1.0 (omega arith) m.1.1 in
           let over : ended job around k w ≡ true = (ended_stays_to job around x.ends.0 k w (omega arith) x.ends.1).0 in
           let tail = made_after job around k w j in
           let full : made_after job around k w o.from ≡ front ++ tail = after_between job around k w o.from j (omega (arith, lt)) ∙ ap (λ xs. xs ++ tail) (same k m.1.0 wait) in
-          at_end (front ++ tail) (end_job x) (made_to_end k (front ++ tail) over full) (spawns_of (front ++ tail) (map L front ++ rest) e told (tells_astray J inner L Met' front tail rest c)) (λ q. absurd (not_clear J inner L Met' front tail c q))
+          to_end (front ++ tail) (end_job x) (made_to_end k (front ++ tail) over full) (spawns_of (front ++ tail) (map L front ++ rest) e told (tells_astray J inner L Met' front tail rest c)) (λ q. absurd (not_clear J inner L Met' front tail c q))
       go (inr (i, x)) = at_next (not_before i x)
         where
           -- it isn't before the wait up to which all was brought along
@@ -284,14 +293,14 @@ module _ (tag : Tag) (mark : Object (List ℕ) → Digest) (frozen : Stand (List
               least (inr h) =
                   absurd (x.is_missing (pick_have x.missing (in_each Have' x.waits x.missing (passed i x.waits x.above h x.waited) x.is_waited)))
 
-          at_next : j ≤ i → says (map L front ++ rest) e
+          at_next : j ≤ i → says_and (map L front ++ rest) e Q
           at_next le =
               let k = x.waited.0 + m.0 in
               let wait : wait_at job around k w j ≡ Some m.1.0 = wait_to job around m.0 k w j m.1.0 (omega arith) m.1.1 in
               let there : wait_at job around k w i ≡ Some x.waits = wait_to job around x.waited.0 k w i x.waits (omega arith) x.waited.1 in
               let tail = made_between job around k w j i in
               let full : made_between job around k w o.from i ≡ front ++ tail = between_two job around k w o.from j i (omega (arith, lt)) le ∙ ap (λ xs. xs ++ tail) (same k m.1.0 wait) in
-              at_wait i x.waits (front ++ tail) (wait_job i x) (made_to_wait i (front ++ tail) x.above (k, (x.waits, there), full)) (spawns_of (front ++ tail) (map L front ++ rest) e told (tells_astray J inner L Met' front tail rest c)) (λ q. absurd (not_clear J inner L Met' front tail c q))
+              to_wait i x.waits (front ++ tail) (wait_job i x) (made_to_wait i (front ++ tail) x.above (k, (x.waits, there), full)) (spawns_of (front ++ tail) (map L front ++ rest) e told (tells_astray J inner L Met' front tail rest c)) (λ q. absurd (not_clear J inner L Met' front tail c q))
 
   -- ---- where nothing clashes
 
@@ -424,21 +433,36 @@ module _ (tag : Tag) (mark : Object (List ℕ) → Digest) (frozen : Stand (List
   all_told xs seg ms e =
       subst (Tells J inner L Met' (xs ++ seg)) (map-append L xs seg ∙ ap (λ ys. map L xs ++ ys) (sym e)) (tells_all J inner L Met' (xs ++ seg))
 
+  -- where it goes on it is right
+  waits_at : (r : Stand (List ℕ)) (j : ℕ) (xs : List s.Desc) → Right' r j xs → WaitsAt tag mark frozen job around o r
+  waits_at r j xs g =
+      record { j = j; from = g.from; stands = g.stands; ds = g.has.0; waits = g.has.1; given = g.passes j g.has.0 g.from (omega arith) g.has.1 }
+
+  abbrev Came : Stop → Type 0
+  Came e = CameTo tag mark frozen job around o.task e
+
+  abbrev Passed : (r : Stand (List ℕ)) (ms : List (v.Desc (List ℕ))) (e : Stop) → Walk tag job around w finds r ms e → Type 0
+  Passed r ms e walk = (q : Stand (List ℕ)) → PassedIn tag job around w finds r ms e walk q → WaitsAt tag mark frozen job around o q
+
   -- the last step
-  last_says : (r : Stand (List ℕ)) (j : ℕ) (xs : List s.Desc) (os : List (Object (List ℕ))) (ms : List (v.Desc (List ℕ))) (e : Stop) → Right' r j xs → AreFound tag job around w finds r os → Step tag job around w r os ms e → StopsAt tag job around w finds e → says (map L xs ++ ms) (end_of tag mark frozen job around o.task e)
+  last_says : (r : Stand (List ℕ)) (j : ℕ) (xs : List s.Desc) (os : List (Object (List ℕ))) (ms : List (v.Desc (List ℕ))) (e : Stop) → Right' r j xs → AreFound tag job around w finds r os → Step tag job around w r os ms e → StopsAt tag job around w finds e → says_and (map L xs ++ ms) (end_of tag mark frozen job around o.task e) (Came e)
   last_says r j xs os ms (Stop.ended x) g found st stop =
       let to = st.steps j (answered tag mark frozen job around plain o finds r0 b r j xs os g found).k g.stands ((answered tag mark frozen job around plain o finds r0 b r j xs os g found).from_there _ (omega arith)) in
       let z = ends_at r j xs os ms (Stop.ended x) g found st (ends_of w x to.0) to.1 in
-      at_end (xs ++ z.seg) z.next z.spawns (all_told xs z.seg ms z.names) (λ k. made_end o.task j g.stands.0 x g.stands.1 refl to.0)
+      to_end (xs ++ z.seg) z.next z.spawns (all_told xs z.seg ms z.names) (λ k. (made_end o.task j g.stands.0 x g.stands.1 refl to.0, to.0))
   last_says r j xs os ms (Stop.shown a) g found st stop =
       let to = st.steps j (answered tag mark frozen job around plain o finds r0 b r j xs os g found).k g.stands ((answered tag mark frozen job around plain o finds r0 b r j xs os g found).from_there _ (omega arith)) in
       let z = ends_at r j xs os ms (Stop.shown a) g found st (shows_of w a to.0) to.1 in
-      at_end (xs ++ z.seg) z.next z.spawns (all_told xs z.seg ms z.names) (λ k. shown_end o.task a refl to.0)
+      to_end (xs ++ z.seg) z.next z.spawns (all_told xs z.seg ms z.names) (λ k. (shown_end o.task a refl to.0, to.0))
   last_says r j xs os ms (Stop.waits q) g found st lacks =
       let f = further tag mark frozen job around plain o finds r0 b r j xs os ms q g found st in
       let lt : o.from < suc j = omega (arith, g.from) in
-      at_wait (suc j) f.ds (xs ++ f.seg) (next f lt) (made_to_wait (suc j) (xs ++ f.seg) lt f.makes) (all_told xs f.seg ms f.names) (λ k. stopped_is (xs ++ f.seg) k q (suc j) f.ds f.stands f.waits f.waited f.holds)
+      to_wait (suc j) f.ds (xs ++ f.seg) (next f lt) (made_to_wait (suc j) (xs ++ f.seg) lt f.makes) (all_told xs f.seg ms f.names) (λ k. (stopped_is (xs ++ f.seg) k q (suc j) f.ds f.stands f.waits f.waited f.holds, stands_there k f.stands))
     where
+      -- its number tells at which wait it stands
+      stands_there : {ys : List s.Desc} → Clear J inner L Met' ys → Stands job around tag q w (suc j) → Stands job around tag q w (waits_of q)
+      stands_there {ys} k st = subst (Stands job around tag q w) (sym (waits_is ys k q (suc j) st)) st
+
       all_or : (ds : List s.Desc) → Each Have' ds ⊎ ((d : s.Desc) × t.In d ds × (Have' d → ⊥))
       all_or [] = inl tt
       all_or (d ∷ ds) = one (have_or tag mark frozen job around plain o finds r0 b d) (all_or ds)
@@ -477,8 +501,14 @@ module _ (tag : Tag) (mark : Object (List ℕ) → Digest) (frozen : Stand (List
   told_end (Stop.shown a) = tt
   told_end (Stop.waits q) = tt
 
-  walk_says : ((ds : List s.Desc) → WaitOf job around w o.from ds → Each Have' ds) → (r : Stand (List ℕ)) (j : ℕ) (xs : List s.Desc) (ms : List (v.Desc (List ℕ))) (e : Stop) → Right' r j xs → Walk tag job around w finds r ms e → says (map L xs ++ ms) (end_of tag mark frozen job around o.task e)
-  walk_says first r j xs ms e g (last t os ns x found st stop) = last_says t j xs os ns x g found st stop
+  -- more is said
+  says_more : (bs : List (v.Desc (List ℕ))) (e : End) (Q P : Type 0) → (Q → P) → says_and bs e Q → says_and bs e P
+  says_more bs e Q P f (to_end ds nx sp tl g) = to_end ds nx sp tl (λ k. ((g k).0, f (g k).1))
+  says_more bs e Q P f (to_wait i rs ds nx sp tl g) = to_wait i rs ds nx sp tl (λ k. ((g k).0, f (g k).1))
+
+  walk_says : ((ds : List s.Desc) → WaitOf job around w o.from ds → Each Have' ds) → (r : Stand (List ℕ)) (j : ℕ) (xs : List s.Desc) (ms : List (v.Desc (List ℕ))) (e : Stop) → Right' r j xs → (walk : Walk tag job around w finds r ms e) → says_and (map L xs ++ ms) (end_of tag mark frozen job around o.task e) (Came e × Passed r ms e walk)
+  walk_says first r j xs ms e g (last t os ns x found st stop) =
+      says_more (map L xs ++ ns) (end_of tag mark frozen job around o.task x) (Came x) (Came x × Passed t ns x (last t os ns x found st stop)) (λ c. (c, λ q p. subst (WaitsAt tag mark frozen job around o) (sym p) (waits_at t j xs g))) (last_says t j xs os ns x g found st stop)
   walk_says first r j xs ms e g (more t q os ns rest x found st walk) =
       let f = further tag mark frozen job around plain o finds r0 b t j xs os ns q g found st in
       let next = first_of q rest x walk in
@@ -488,15 +518,28 @@ module _ (tag : Tag) (mark : Object (List ℕ) → Digest) (frozen : Stand (List
       joined f =
           ap (λ ys. map L xs ++ (ys ++ rest)) f.names ∙ sym (append_assoc (map L xs) (map L f.seg) rest) ∙ ap (λ ys. ys ++ rest) (sym (map-append L xs f.seg))
 
-      on : (f : Further tag mark frozen job around plain o finds r0 b t j xs q ns) → Right' q (suc j) (xs ++ f.seg) ⊎ Clashes tag mark frozen job around plain o finds r0 b (xs ++ f.seg) → (Right' q (suc j) (xs ++ f.seg) → says (map L (xs ++ f.seg) ++ rest) (end_of tag mark frozen job around o.task x)) → says (map L xs ++ (ns ++ rest)) (end_of tag mark frozen job around o.task x)
-      on f (inl h) go = subst (λ bs. says bs (end_of tag mark frozen job around o.task x)) (sym (joined f)) (go h)
-      on f (inr c) go =
-          subst (λ bs. says bs (end_of tag mark frozen job around o.task x)) (sym (joined f)) (says_astray first (suc j) (xs ++ f.seg) rest (end_of tag mark frozen job around o.task x) (omega (arith, g.from)) f.makes (λ i ds up under wt. g.passes i ds (omega (arith, up)) (omega (arith, under)) wt) c (told_end x))
+      Whole : Type 0
+      Whole = Came x × Passed t (ns ++ rest) x (more t q os ns rest x found st walk)
 
-  pub walks : (ms : List (v.Desc (List ℕ))) (e : Stop) → Walk tag job around w finds r0 ms e → says ms (end_of tag mark frozen job around o.task e)
-  walks ms e walk =
+      both : Came x × Passed q rest x walk → Whole
+      both (c, p) = (c, all)
+        where
+          all : Passed t (ns ++ rest) x (more t q os ns rest x found st walk)
+          all y (inl h) = subst (WaitsAt tag mark frozen job around o) (sym h) (waits_at t j xs g)
+          all y (inr h) = p y h
+
+      on : (f : Further tag mark frozen job around plain o finds r0 b t j xs q ns) → Right' q (suc j) (xs ++ f.seg) ⊎ Clashes tag mark frozen job around plain o finds r0 b (xs ++ f.seg) → (Right' q (suc j) (xs ++ f.seg) → says_and (map L (xs ++ f.seg) ++ rest) (end_of tag mark frozen job around o.task x) (Came x × Passed q rest x walk)) → says_and (map L xs ++ (ns ++ rest)) (end_of tag mark frozen job around o.task x) Whole
+      on f (inl h) go = subst (λ bs. says_and bs (end_of tag mark frozen job around o.task x) Whole) (sym (joined f)) (says_more (map L (xs ++ f.seg) ++ rest) (end_of tag mark frozen job around o.task x) (Came x × Passed q rest x walk) Whole both (go h))
+      on f (inr c) go =
+          subst (λ bs. says_and bs (end_of tag mark frozen job around o.task x) Whole) (sym (joined f)) (says_astray first (suc j) (xs ++ f.seg) rest (end_of tag mark frozen job around o.task x) (omega (arith, g.from)) f.makes (λ i ds up under wt. g.passes i ds (omega (arith, up)) (omega (arith, under)) wt) c (told_end x) Whole)
+
+  pub walks_true : (ms : List (v.Desc (List ℕ))) (e : Stop) → (walk : Walk tag job around w finds r0 ms e) → says_and ms (end_of tag mark frozen job around o.task e) (Came e × Passed r0 ms e walk)
+  walks_true ms e walk =
       let f = first_of r0 ms e walk in
       walk_says (right.first_have tag mark frozen job around plain o finds r0 b f.0 f.1) r0 o.from [] ms e (begun tag mark frozen job around plain o finds r0 b f.0 f.1) walk
+
+  pub walks : (ms : List (v.Desc (List ℕ))) (e : Stop) → Walk tag job around w finds r0 ms e → says ms (end_of tag mark frozen job around o.task e)
+  walks ms e walk = only_says J inner L o _ _ (walks_true ms e walk)
 
   pub missing_one : ((d : v.Desc (List ℕ)) → t.In d (pending_in same_text r0) → (x : Object (List ℕ)) × (finds d ≡ Some x)) → (name : Digest) (loss : ℕ) → says [] (report.missing name loss)
   missing_one found name loss = says_missing (right.have_all tag mark frozen job around plain o finds r0 b found) name loss

@@ -1,5 +1,5 @@
 -- A walk of a task by names, from the wait of an order on, as far as what the order brings along answers it.
-use Rattle.std.specs.Prelude.{◌≡◌, ℕ, List, ◌++◌, map, Option, Some, None}
+use Rattle.std.specs.Prelude.{◌≡◌, ℕ, List, ◌++◌, map, Option, Some, None, ◌⊎◌}
 use Rattle.sky_base.specs.Val as v
 use Rattle.sky_base.specs.Val.{same_text}
 use Rattle.sky_base.specs.Needed as n
@@ -32,3 +32,8 @@ module _ (tag : Tag) (job : s.Job) (around : s.Around) (u : n.Task) (finds : v.D
         → AreFound t os → Step tag job around u t os ms e → StopsAt e → Walk t ms e
     more : (t r : Stand (List ℕ)) (os : List (Object (List ℕ))) (ms rest : List (v.Desc (List ℕ))) (e : Stop)
         → AreFound t os → Step tag job around u t os ms (waits r) → Walk r rest e → Walk t (ms ++ rest) e
+
+  -- one of the states from which it goes on
+  abbrev pub PassedIn : (t : Stand (List ℕ)) (ms : List (v.Desc (List ℕ))) (e : Stop) → Walk t ms e → Stand (List ℕ) → Type 0
+  PassedIn t ms e (last r os ns x found st stop) q = q ≡ t
+  PassedIn t ms e (more r p os ns rest x found st walk) q = (q ≡ t) ⊎ PassedIn p rest x walk q
