@@ -1,3 +1,3 @@
-mod Binds
+pub mod Binds
 mod Binding
-mod Telling
+pub mod Telling

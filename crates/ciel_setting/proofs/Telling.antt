@@ -25,6 +25,7 @@ use Rattle.ciel_journal.specs.Job.{Digest, Held, In, Task, of, show}
 use Rattle.ciel_journal.proofs.Near.{in_join, in_right}
 use Rattle.ciel_journal.proofs.Numbers.{in_left}
 use Rattle.ciel_journal.proofs.SeenAs.{in_names}
+use Rattle.ciel_meant.specs.Inner.{inside}
 use Rattle.ciel_meant.specs.Real.{back, forth_if, held_if}
 use Rattle.ciel_meant.proofs.AlikeLaw.{is_one, made_is, needed_to}
 use Rattle.ciel_meant.proofs.RealLaw.{in_from, in_to}
@@ -87,6 +88,30 @@ module _ (digest : List ℕ → List ℕ) where
   names_distinct ds apart =
       ap names_of (distinct_low no_name tag (λ a b. true) (λ b c e. absurd b) (λ b. absurd b) ds (λ a b i j e. apart a b (in_to a ds i) (in_to b ds j) e))
       ∙ names_low (distinct (λ a b. true) ds)
+
+  -- what a description by names refers to, each once, are the names of what stands inside it, each once
+  pub start_names : (x : Desc1) (d : s.Desc) → desc_view x ≡ low_desc no_name tag d → ((a b : s.Desc) → In a (inside d) → In b (inside d) → name_ a ≡ name_ b → a ≡ b) → start_refs x ≡ map name_ (distinct (λ a b. true) (inside d))
+  start_names (Desc1.Call g c ws) (call f a vs) e apart =
+      let i : c ≡ low_pairs no_name tag a = cc in
+      let j : ws ≡ low_vals no_name tag vs = cc in
+      ap (λ z. names_of (distinct same_text (pairs_refs z ++ vals_refs ws))) i
+      ∙ (ap (λ z. names_of (distinct same_text (pairs_refs (low_pairs no_name tag a) ++ vals_refs z))) j
+      ∙ (ap (λ z. names_of (distinct same_text (z ++ vals_refs (low_vals no_name tag vs)))) (pairs_refs_low no_name tag a)
+      ∙ (ap (λ z. names_of (distinct same_text (map (low_ref no_name tag) (pairs_refs a) ++ z))) (vals_refs_low no_name tag vs)
+      ∙ (ap (λ z. names_of (distinct same_text z)) (sym (map-append (low_ref no_name tag) (pairs_refs a) (vals_refs vs)))
+      ∙ names_distinct (pairs_refs a ++ vals_refs vs) apart))))
+  start_names (Desc1.Exec z x l o) (out y a j i) e apart =
+      let same : view x ≡ low no_name tag a = cc in
+      ap (λ w. names_of (distinct same_text (refs w))) same
+      ∙ (ap (λ ds. names_of (distinct same_text ds)) (refs_low no_name tag a) ∙ names_distinct (refs a) apart)
+  start_names (Desc1.Input k) (input key) e apart = refl
+  start_names (Desc1.Call g c ws) (out y a j i) e apart = cc
+  start_names (Desc1.Call g c ws) (input key) e apart = cc
+  start_names (Desc1.Exec z x l o) (call f a vs) e apart = cc
+  start_names (Desc1.Exec z x l o) (input key) e apart = cc
+  start_names (Desc1.Input k) (call f a vs) e apart = cc
+  start_names (Desc1.Input k) (out y a j i) e apart = cc
+  start_names x (known b) e apart = absurd b
 
   -- so a list of distinct names is that of all these descriptions
   are_names : (ds es : List s.Desc) → ((d : s.Desc) → In d es → In d ds) → ((d : s.Desc) → In d ds → In d es) → ((n : Digest) → In n (map name_ (distinct (λ a b. true) ds)) → (d : s.Desc) × In d (distinct (λ a b. true) es) × (n ≡ name_ d)) × ((d : s.Desc) → In d (distinct (λ a b. true) es) → In (name_ d) (map name_ (distinct (λ a b. true) ds)))
@@ -222,15 +247,7 @@ module _ {P B : Type 0} (digest : List ℕ → List ℕ) (job : s.Job) (around :
       sound = needed_sound job around reads (n.Task.of (call f c vs)) (needed_to job around (name no_name (digested digest)) mark frozen (of (call f c vs)) w)
 
       names : names_of (distinct same_text (pairs_refs d ++ vals_refs ws)) ≡ map nm (distinct (λ x y. true) (pairs_refs c ++ vals_refs vs))
-      names =
-          let i : d ≡ low_pairs no_name (digested digest) c = cc in
-          let j : ws ≡ low_vals no_name (digested digest) vs = cc in
-          ap (λ z. names_of (distinct same_text (pairs_refs z ++ vals_refs ws))) i
-          ∙ (ap (λ z. names_of (distinct same_text (pairs_refs (low_pairs no_name (digested digest) c) ++ vals_refs z))) j
-          ∙ (ap (λ z. names_of (distinct same_text (z ++ vals_refs (low_vals no_name (digested digest) vs)))) (pairs_refs_low no_name (digested digest) c)
-          ∙ (ap (λ z. names_of (distinct same_text (map (low_ref no_name (digested digest)) (pairs_refs c) ++ z))) (vals_refs_low no_name (digested digest) vs)
-          ∙ (ap (λ z. names_of (distinct same_text z)) (sym (map-append (low_ref no_name (digested digest)) (pairs_refs c) (vals_refs vs)))
-          ∙ names_distinct digest (pairs_refs c ++ vals_refs vs) apart))))
+      names = start_names digest (Desc1.Call g d ws) (call f c vs) q apart
 
       told : (es : List s.Desc) → ((z : s.Desc) → In z es → In z (pairs_refs c ++ vals_refs vs)) → ((z : s.Desc) → In z (pairs_refs c ++ vals_refs vs) → In z es) → AreNames here (names_of (distinct same_text (pairs_refs d ++ vals_refs ws))) (distinct (λ x y. true) es)
       told es back_ there =
@@ -249,9 +266,7 @@ module _ {P B : Type 0} (digest : List ℕ → List ℕ) (job : s.Job) (around :
   held_told reads all (Desc1.Call g d ws) (out y b j i) k a q w e apart = cc
   held_told reads all (Desc1.Input key) (out y b j i) k a q w e apart = cc
   held_told reads all (Desc1.Exec z x l o) (out y b j i) k a q w e apart =
-      let same : view x ≡ low no_name (digested digest) b = cc in
-      let names : first_refs (Desc1.Exec z x l o) ≡ map nm (distinct (λ u v. true) (refs b)) = ap (λ w. names_of (distinct same_text (refs w))) same
-      ∙ (ap (λ ds. names_of (distinct same_text ds)) (refs_low no_name (digested digest) b) ∙ names_distinct digest (refs b) apart) in
+      let names : first_refs (Desc1.Exec z x l o) ≡ map nm (distinct (λ u v. true) (refs b)) = start_names digest (Desc1.Exec z x l o) (out y b j i) q apart in
       let r = are_names digest (refs b) (refs b) (λ d i. i) (λ d i. i) in
       let m : distinct (λ u v. true) (refs b) ≡ a.names = ap (λ (o : Held s.Desc). o.names) (some_held _ a e) in
       subst (AreNames here (first_refs (Desc1.Exec z x l o))) m (subst (λ ns. AreNames here ns (distinct (λ u v. true) (refs b))) (sym names) (record { there = r.1; only = r.0 }))

@@ -11,7 +11,7 @@ use Rattle.sky_base.specs.declared.object.TaskId.{TaskId}
 use Rattle.sky_law.specs.Sound.{SoundObject}
 use Rattle.sky_law.specs.Tasks.{Each, In}
 use Rattle.sky_state.specs.Fits.{Fits}
-use Rattle.sky_state.specs.Pending.{pending_in}
+use Rattle.sky_state.specs.Pending.{pending_in, stand_wait}
 use Rattle.sky_state.specs.Stand.{Stand}
 use Rattle.sky_state.specs.Start.{CanStart}
 use Rattle.ciel_name.specs.Names.{first_output}
@@ -43,10 +43,6 @@ SpotSound shelves sc inputs (Spot.Input i) = i < inputs
 
 -- ---- what is to be done
 
-abbrev pub has_waits : Stand (List ℕ) → ℕ
-has_waits (Stand.run r) = r.waits
-has_waits (Stand.show_at v w) = w
-
 -- a state of this kind of task: of the root task or of a call
 abbrev pub OfKind : TaskId → Stand (List ℕ) → Type 0
 OfKind TaskId.Show (Stand.show_at v w) = Unit {0}
@@ -68,7 +64,7 @@ Describes digest sc given _ _ = ⊥
 -- where the task goes on, its stack stands at the order's wait, and all that it waits for there is brought along
 pub record GoesOnFrom (shelves : ShelvesSeen) (sc : Script) (order : Order) (p : PlaceSeen Block) : Type 0 where
   pub place : IsPlaceOf shelves p
-  pub stack : HasStack (λ s. Fits sc s × OfKind order.task s × (has_waits s ≡ order.from) × Each (λ d. In (held_name d) (names_in order.inputs.items)) (pending_in same_text s)) p.at.value
+  pub stack : HasStack (λ s. Fits sc s × OfKind order.task s × (stand_wait s ≡ order.from) × Each (λ d. In (held_name d) (names_in order.inputs.items)) (pending_in same_text s)) p.at.value
 
 -- at its start the root task waits for the main call
 abbrev pub ShowsMain : Order → TaskId → Type 0

@@ -16,9 +16,7 @@ use Rattle.sky_law.specs.Refers.{PlainReads}
 use Rattle.sky_law.specs.Tasks.{Each, MadeBetween, held, made_between}
 use Rattle.sky_law.proofs.Lists.{some_is, none_some, below_or_same}
 use Rattle.sky_law.proofs.SeenLaw.{stands_one, wait_one}
-use Rattle.sky_law.proofs.TaskHeld.{waits_held}
 use Rattle.sky_law.proofs.TaskMade.{between_one}
-use Rattle.std.specs.Option.{option_map}
 use Rattle.sky_law.proofs.TaskOutputs.{distinct_in, each_in, in_distinct, in_each, same_exact, same_refl}
 use Rattle.sky_state.specs.Pending.{pending_in}
 use Rattle.sky_state.specs.Stand.{Stand, low_state}
@@ -38,6 +36,7 @@ use Rattle.ciel_walks.specs.Laws.{Begins, Brings, the}
 use Rattle.ciel_walks.specs.Walk.{AreFound}
 use Rattle.ciel_walks.proofs.Middle.{middle}
 use Rattle.ciel_walks.proofs.Telling.{Clashing}
+use Rattle.sky_moves.proofs.Standing.{held_there}
 
 true_not : false ≡ true → ⊥
 true_not e = cc
@@ -101,22 +100,6 @@ below_or i j le = go (below_or_same i (suc j) le)
     go (inr q) = inr q
 
 module _ (job : s.Job) (around : s.Around) where
-  held_as : (w : n.Task) (k j : ℕ) (a : n.State) → stands_at job around k w j ≡ Some a → t.held_at job around k w j ≡ Some (held a)
-  held_as n.Task.show k j a e = ap (option_map held) e
-  held_as (n.Task.of (call f c vs)) k j a e = ap (option_map held) e
-  held_as (n.Task.of (out x y m i)) k j a e = absurd (none_some a e)
-  held_as (n.Task.of (input y)) k j a e = absurd (none_some a e)
-  held_as (n.Task.of (known z)) k j a e = absurd z
-
-  pub held_at_is : (w : n.Task) (j : ℕ) (a : n.State) → StandsAt job around w j a → t.HeldAt job around w j (held a)
-  held_at_is w j a st = (st.0, held_as w st.0 j a st.1)
-
-  -- what is waited for is held
-  held_there : (w : n.Task) (j : ℕ) (ds : List s.Desc) (a : n.State) (d : s.Desc) → WaitOf job around w j ds → StandsAt job around w j a → t.In d ds → t.In d (held a)
-  held_there w j ds a d wt st i =
-      let k = wt.0 + st.0 in
-      waits_held d job around k w j ds (held a) (wait_to job around wt.0 k w j ds (omega arith) wt.1) (held_as w k j a (stands_to job around st.0 k w j a (omega arith) st.1)) i
-
   -- what is made between two waits is one list, whatever tells of it
   pub made_once : (w : n.Task) (i j : ℕ) (made : List s.Desc) → i ≤ j → MadeBetween job around w i j made → (k : ℕ) (ds : List s.Desc) → wait_at job around k w j ≡ Some ds → made_between job around k w i j ≡ made
   made_once w i j made le m k ds wt = go (below_or_same i j le)

@@ -41,11 +41,13 @@ use Rattle.ciel_meant.proofs.RealLaw.{in_to}
 use Rattle.ciel_reports.specs.Report as report
 use Rattle.ciel_reports.specs.Report.{Clear, End, MadeIs, Met, Says, Spawns, StoppedIs, Tells, at_end, at_wait}
 use Rattle.ciel_journal.specs.Known.{Inner}
-use Rattle.ciel_walks.specs.Laws.{Begins, CameTo, SaysAnd, WaitsAt, end_of, names_of, object_made, the, to_end, to_wait, waits_of}
+use Rattle.ciel_walks.specs.Laws.{Begins, CameTo, SaysAnd, WaitsAt, end_of, names_of, object_made, the, to_end, to_wait}
 use Rattle.ciel_walks.specs.Walk.{AreFound, PassedIn, StopsAt, Walk, last, more}
 use Rattle.ciel_walks.proofs.Right as right
 use Rattle.ciel_walks.proofs.Right.{Clashes, D, Further, Have, R, Right, answered, begun, equal_or, first_met, firsts_apart, further, goes, have_first, have_or, have_seen, haves_apart, held_of, low, nm, once, u}
 use Rattle.ciel_walks.proofs.Telling.{clear_both, clear_met, not_clear, tells_all, tells_astray}
+use Rattle.sky_state.proofs.WaitLaw.{stands_wait_is}
+use Rattle.sky_moves.proofs.Standing.{held_at_is}
 
 true_not : false ≡ true → ⊥
 true_not e = cc
@@ -391,40 +393,14 @@ module _ (tag : Tag) (mark : Object (List ℕ) → Digest) (frozen : Stand (List
     all_apart : (ds : List s.Desc) → Each (D' xs) ds → NoClash tag ds
     all_apart ds h d e i k q = d_apart d e (in_each (D' xs) ds d h i) (in_each (D' xs) ds e h k) q
 
-    waits_is : (q : Stand (List ℕ)) (j : ℕ) → Stands job around tag q w j → waits_of q ≡ j
-    waits_is q j st = ap waits_of st.2 ∙ state_waits w j st.0 st.1
-      where
-        low_waits : (a : n.State) → ℕ
-        low_waits a = waits_of (low_state tag a)
-
-        halt_waits : (f : List ℕ) (j : ℕ) (x : Option _) (a : n.State) → n.halt_state f j x ≡ Some a → waits_of (low_state tag a) ≡ j
-        halt_waits f j None a e = absurd (none_some a e)
-        halt_waits f j (Some h) a e = ap low_waits (sym (some_is (n.State.run (run_of_halt f j h)) a e))
-
-        start_waits : (f : List ℕ) (c : s.Pairs) (vs : s.Vals) (x : Option _) (a : n.State) → n.start_frame f c vs x ≡ Some a → waits_of (low_state tag a) ≡ 0
-        start_waits f c vs None a e = absurd (none_some a e)
-        start_waits f c vs (Some y) a e = ap low_waits (sym (some_is _ a e))
-
-        wave_waits : (j : ℕ) (x : Option s.Val) (a : n.State) → n.wave_state j x ≡ Some a → waits_of (low_state tag a) ≡ j
-        wave_waits j None a e = absurd (none_some a e)
-        wave_waits j (Some y) a e = ap low_waits (sym (some_is (n.State.show_at y j) a e))
-
-        state_waits : (u : n.Task) (j : ℕ) (a : n.State) → StandsAt job around u j a → waits_of (low_state tag a) ≡ j
-        state_waits n.Task.show j a (k, e) = wave_waits j (s.wave job around k j) a e
-        state_waits (n.Task.of (call f c vs)) zero a (k, e) = start_waits f c vs _ a e
-        state_waits (n.Task.of (call f c vs)) (suc j) a (k, e) = halt_waits f (suc j) _ a e
-        state_waits (n.Task.of (out y z m i)) j a (k, e) = absurd (none_some a e)
-        state_waits (n.Task.of (input y)) j a (k, e) = absurd (none_some a e)
-        state_waits (n.Task.of (known z)) j a (k, e) = absurd z
-
     stopped_is : (q : Stand (List ℕ)) (j : ℕ) (ds : List s.Desc) (st : Stands job around tag q w j) → WaitOf job around w j ds → Each (D' xs) ds → Each (D' xs) (held st.0) → StoppedIs J inner L o j ds (end_of tag mark frozen job around o.task (Stop.waits q))
     stopped_is q j ds st wt waited kept = (
-      waits_is q j st,
+      stands_wait_is job around tag q w j st,
       (
         record { names = held st.0; mark = frozen (low_state tag st.0) },
         (st.1.0, right.at_is tag mark frozen job around plain o finds r0 b w st.1.0 j st.0 st.1.1),
         ap frozen st.2,
-        ap names_of (stands_holds tag job around q w j (held st.0) st (right.held_at_is job around w j st.0 st.1) (all_apart (held st.0) kept)) ∙ names_held tag (held st.0) ∙ sym (names_low J (held st.0)),
+        ap names_of (stands_holds tag job around q w j (held st.0) st (held_at_is job around w j st.0 st.1) (all_apart (held st.0) kept)) ∙ names_held tag (held st.0) ∙ sym (names_low J (held st.0)),
       ),
       ap names_of (stands_pending tag job around q w j ds st wt (all_apart ds waited) ∙ ap (map (λ d. low_ref no_name tag d)) (apart_refs ds (waits_apart job around wt.0 w j ds wt.1))) ∙ names_held tag ds ∙ sym (names_low J ds),
     )
@@ -460,8 +436,8 @@ module _ (tag : Tag) (mark : Object (List ℕ) → Digest) (frozen : Stand (List
       to_wait (suc j) f.ds (xs ++ f.seg) (next f lt) (made_to_wait (suc j) (xs ++ f.seg) lt f.makes) (all_told xs f.seg ms f.names) (λ k. (stopped_is (xs ++ f.seg) k q (suc j) f.ds f.stands f.waits f.waited f.holds, stands_there k f.stands))
     where
       -- its number tells at which wait it stands
-      stands_there : {ys : List s.Desc} → Clear J inner L Met' ys → Stands job around tag q w (suc j) → Stands job around tag q w (waits_of q)
-      stands_there {ys} k st = subst (Stands job around tag q w) (sym (waits_is ys k q (suc j) st)) st
+      stands_there : {ys : List s.Desc} → Clear J inner L Met' ys → Stands job around tag q w (suc j) → Stands job around tag q w (stand_wait q)
+      stands_there {ys} k st = subst (Stands job around tag q w) (sym (stands_wait_is tag job around q w (suc j) st)) st
 
       all_or : (ds : List s.Desc) → Each Have' ds ⊎ ((d : s.Desc) × t.In d ds × (Have' d → ⊥))
       all_or [] = inl tt

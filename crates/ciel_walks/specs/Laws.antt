@@ -10,7 +10,7 @@ use Rattle.sky_law.specs.Lower.{low_obj, low_ref}
 use Rattle.sky_law.specs.NamesLaws.{Tag, no_name}
 use Rattle.sky_law.specs.Refers.{PlainReads}
 use Rattle.sky_law.specs.Tasks as t
-use Rattle.sky_state.specs.Pending.{held_in, pending_in}
+use Rattle.sky_state.specs.Pending.{held_in, pending_in, stand_wait}
 use Rattle.sky_state.specs.Stand.{Stand, low_state}
 use Rattle.sky_state.specs.Stands.{Stands}
 use Rattle.ciel_journal.specs.History.{OpenStart}
@@ -25,10 +25,6 @@ use Rattle.ciel_walks.specs.Walk.{PassedIn, Walk}
 
 abbrev pub names_of : List (v.Desc (List ℕ)) → List Digest
 names_of ds = map held_name ds
-
-abbrev pub waits_of : Stand (List ℕ) → ℕ
-waits_of (Stand.run r) = r.waits
-waits_of (Stand.show_at u w) = w
 
 -- the report says what the job does, and where nothing that is made clashes, this holds too
 module _ {D B : Type 0} (job : Job D) (inner : Inner D) (lower : D → B) (o : OpenStart D) (r : Report B) (Q : Type 0) where
@@ -55,13 +51,13 @@ module _ (tag : Tag) (mark : Object (List ℕ) → Digest) (frozen : Stand (List
   end_of t (ended o) = made (object_made t o) []
   end_of t (shown a) = made [] []
   end_of t (waits r) =
-      stopped (waits_of r) (frozen r) (names_of (pending_in same_text r)) (names_of (held_in same_text r))
+      stopped (stand_wait r) (frozen r) (names_of (pending_in same_text r)) (names_of (held_in same_text r))
 
   -- the task truly came to this
   abbrev pub CameTo : Task s.Desc → Stop → Type 0
   CameTo t (ended x) = EndsAs tag job around (back t) x
   CameTo t (shown a) = ShowsAs tag job around (back t) a
-  CameTo t (waits q) = Stands job around tag q (back t) (waits_of q)
+  CameTo t (waits q) = Stands job around tag q (back t) (stand_wait q)
 
   module _ (o : OpenStart s.Desc) where
     -- the state is the task's at a wait, not before the order's, all that is waited for there being brought along

@@ -3,7 +3,7 @@ use Rattle.std.proofs.Common.{◌≡◌, ℕ, zero, suc, inl, inr, Bool, true, f
 use Rattle.std.specs.Option.{option_map}
 use Rattle.std.proofs.lemmas.List.{map-append}
 use Rattle.sky_base.specs.Val as v
-use Rattle.sky_base.specs.Val.{call, out, input, known, refs, vals_refs, pairs_refs, refs_to, same_text, stands_in, unless_in, distinct_from, distinct}
+use Rattle.sky_base.specs.Val.{call, out, input, known, refs, vals_refs, pairs_refs, refs_to, same_text, distinct}
 use Rattle.sky_base.specs.Name.{low}
 use Rattle.sky_base.specs.Tree.{nowhere}
 use Rattle.sky_base.specs.Res.{others, Entry, Wait, one_of, all_of, kept_of, opens}
@@ -22,7 +22,7 @@ use Rattle.sky_law.proofs.NodesLaw.{has_script}
 use Rattle.sky_law.proofs.RefsLow.{refs_low, pairs_refs_low, distinct_low}
 use Rattle.sky_law.proofs.SeenLaw.{stands_one, wait_one}
 use Rattle.sky_law.proofs.TaskFuel.{held_one}
-use Rattle.sky_law.proofs.TaskOutputs.{stands_exact, distinct_apart, distinct_refs_in, in_distinct}
+use Rattle.sky_law.proofs.TaskOutputs.{apart_refs, distinct_apart, distinct_refs_in, in_distinct}
 use Rattle.sky_base.proofs.Exact.{exact_text, self_text}
 use Rattle.sky_law.proofs.Lists.{some_is, none_some}
 use Rattle.sky_state.specs.Stand.{Stand, low_state}

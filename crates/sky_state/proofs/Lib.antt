@@ -12,3 +12,4 @@ pub mod FitsLaw
 pub mod HeldLaw
 pub mod OpenEntry
 pub mod OpenFrames
+pub mod WaitLaw

@@ -1,5 +1,5 @@
 -- What a state waits for, and what it holds.
-use Rattle.std.specs.Prelude.{List, [], ◌∷◌, ◌++◌, Bool, flat_map}
+use Rattle.std.specs.Prelude.{ℕ, List, [], ◌∷◌, ◌++◌, Bool, flat_map}
 use Rattle.sky_base.specs.Val.{Val, Desc, refs, pairs_refs, distinct}
 use Rattle.sky_base.specs.Read.{Frame}
 use Rattle.sky_state.specs.Stand.{Stand}
@@ -27,6 +27,11 @@ module _ {N : Type 0} where
   -- the bottom frame first, in each the variables in the order of their names and then the stack, the deepest value first
   abbrev pub frames_refs : List (Frame N) → List (Desc N)
   frames_refs fs = flat_map (λ f. pairs_refs f.vars ++ stack_refs f.stack) fs
+
+  -- the number of the wait at which it stands, of the root task that of the wave
+  abbrev pub stand_wait : Stand N → ℕ
+  stand_wait (Stand.run r) = r.waits
+  stand_wait (Stand.show_at v w) = w
 
   abbrev pub all_refs : Stand N → List (Desc N)
   all_refs (Stand.run r) = frames_refs r.frames
