@@ -1,5 +1,13 @@
 //! The finder of what an order brings along.
 
+ghost use Rattle.std.specs.Prelude.{◌≡◌, ◌<◌, [], IfOk, length};
+ghost use Rattle.sky_base.specs.JobView.{job_view};
+ghost use Rattle.sky_law.specs.Tasks.{Each};
+ghost use Rattle.ciel_task.specs.Orders.{SpotSound};
+ghost use Rattle.ciel_brought.specs.Brought.{lies_known};
+ghost use Rattle.ciel_finds.specs.Finds.{CanBring, IsLost, WasCopied};
+ghost use Rattle.ciel_finds.specs.Stays.{Stays};
+
 use crate::copied::{Copied, bring_once};
 use ciel_inputs::index::{find, index};
 use ciel_store::loss::Loss;
@@ -46,7 +54,18 @@ pub fn brought<'a, R: Wait>(
     worker: u32,
     held: &'a [Held],
     eye: &'a mut Eye,
-) -> Result<Brought<'a, R>, Memory> {
+) -> Result<Brought<'a, R>, Memory>
+    requires spots { Each (λ (h : Held). SpotSound shelves.now (job_view job.now).script (length (job_view job.now).inputs) h.at) held.now }
+    requires eye { eye.old.of ≡ shelves.now.of }
+    requires worker { worker < length shelves.now.rows }
+    ensures same { IfOk result (λ b. b.eye.ghost_name ≡ eye.entry.ghost_name) }
+    ensures can { IfOk result (λ b. CanBring shelves.now worker (job_view job.now).script (job_view job.now).inputs held.now b.places b.eye.now b.copied) }
+    ensures job { IfOk result (λ b. b.job.now ≡ job.now) }
+    ensures shelves { IfOk result (λ b. b.shelves.now ≡ shelves.now) }
+    ensures worker { IfOk result (λ b. b.worker ≡ worker) }
+    ensures held { IfOk result (λ b. b.held.now ≡ held.now) }
+    ensures copied { IfOk result (λ b. b.copied.items.items ≡ []) }
+{
     let places = index(alloc, held)?;
     Ok(Brought {
         rt,
@@ -63,20 +82,39 @@ pub fn brought<'a, R: Wait>(
 impl<'a, R: Wait> Finds for Brought<'a, R> {
     type Refusal = Lost;
 
+    ghost finds = { λ b. lies_known (job_view b.job.now).inputs b.held.now };
+
+    ghost ready = { λ b. CanBring b.shelves.now b.worker (job_view b.job.now).script (job_view b.job.now).inputs b.held.now b.places b.eye.now b.copied };
+
+    ghost Stays = { Stays };
+
+    ghost stays = { λ b. record {
+        eye = b.eye.ghost_name;
+        of = b.eye.now.of;
+        shelves = b.shelves.now;
+        worker = b.worker;
+        script = (job_view b.job.now).script;
+        inputs = (job_view b.job.now).inputs;
+        held = b.held.now;
+    } };
+
+    ghost asked = { λ b. WasCopied b.copied };
+
+    ghost refuses = { λ b r. IsLost b.held.now r.name r.loss b.eye.now };
+
     fn has(&self, name: &Name) -> bool {
         find(self.held, &self.places, name).is_some()
     }
 
     fn find(&mut self, _alloc: Global, name: &Name) -> Result<Result<Object, Lost>, Memory> {
-        let Some(one) = find(self.held, &self.places, name) else {
-            unreachable!()
-        };
         let brought = bring_once(
             self.rt,
             self.job,
             self.shelves,
             self.worker,
-            one,
+            self.held,
+            &self.places,
+            name,
             self.eye,
             &mut self.copied,
         )?;

@@ -20,7 +20,7 @@ use Rattle.sky_law.proofs.ApartLaw.{waits_apart}
 use Rattle.sky_law.proofs.Lists.{some_is, none_some, below_or_same, above_or}
 use Rattle.sky_law.proofs.MoreFuel.{ended_stays_to}
 use Rattle.sky_law.proofs.TaskOutputs.{apart_refs, distinct_in, each_in, in_each}
-use Rattle.sky_state.specs.Pending.{pending_in}
+use Rattle.sky_state.specs.Pending.{pending_in, stand_wait}
 use Rattle.sky_state.specs.Stand.{Stand, low_state}
 use Rattle.sky_state.specs.Stands.{Stands}
 use Rattle.sky_state.proofs.HeldLaw.{stands_holds, stands_pending}
@@ -433,11 +433,11 @@ module _ (tag : Tag) (mark : Object (List ℕ) → Digest) (frozen : Stand (List
   last_says r j xs os ms (Stop.waits q) g found st lacks =
       let f = further tag mark frozen job around plain o finds r0 b r j xs os ms q g found st in
       let lt : o.from < suc j = omega (arith, g.from) in
-      to_wait (suc j) f.ds (xs ++ f.seg) (next f lt) (made_to_wait (suc j) (xs ++ f.seg) lt f.makes) (all_told xs f.seg ms f.names) (λ k. (stopped_is (xs ++ f.seg) k q (suc j) f.ds f.stands f.waits f.waited f.holds, stands_there k f.stands))
+      to_wait (suc j) f.ds (xs ++ f.seg) (next f lt) (made_to_wait (suc j) (xs ++ f.seg) lt f.makes) (all_told xs f.seg ms f.names) (λ k. (stopped_is (xs ++ f.seg) k q (suc j) f.ds f.stands f.waits f.waited f.holds, stands_there f.stands))
     where
       -- its number tells at which wait it stands
-      stands_there : {ys : List s.Desc} → Clear J inner L Met' ys → Stands job around tag q w (suc j) → Stands job around tag q w (stand_wait q)
-      stands_there {ys} k st = subst (Stands job around tag q w) (sym (stands_wait_is tag job around q w (suc j) st)) st
+      stands_there : Stands job around tag q w (suc j) → Stands job around tag q w (stand_wait q)
+      stands_there st = subst (Stands job around tag q w) (sym (stands_wait_is job around tag q w (suc j) st)) st
 
       all_or : (ds : List s.Desc) → Each Have' ds ⊎ ((d : s.Desc) × t.In d ds × (Have' d → ⊥))
       all_or [] = inl tt

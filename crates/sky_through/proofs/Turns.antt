@@ -1,13 +1,16 @@
 -- Turns, one after the other.
-use Rattle.std.proofs.Common.{◌≡◌, ◌<◌, ◌+◌, ◌++◌, ℕ, suc, List, [], ◌∷◌, map, Bool, true, false, Option, Some, None, is_some, refl, sym, ap, ◌∙◌, subst, arith, append_assoc, append-nil, Result, Ok, Err, IfOk, inr}
+use Rattle.std.proofs.Common.{◌≡◌, ◌<◌, ◌+◌, ◌++◌, ℕ, suc, List, [], ◌∷◌, map, Bool, true, false, Option, Some, None, is_some, IsSome, refl, sym, ap, ◌∙◌, subst, arith, append_assoc, append-nil, Result, Ok, Err, IfOk, inl, inr}
 use Rattle.std.proofs.lemmas.List.{map-append}
-use Rattle.sky_base.specs.Val.{Desc}
+use Rattle.sky_base.specs.Names.{known_of}
+use Rattle.sky_base.specs.Val.{Desc, known}
 use Rattle.sky_base.specs.Tree.{Script}
 use Rattle.sky_base.specs.Res.{Object, visits}
 use Rattle.sky_base.specs.ObjectView.{object_view}
 use Rattle.sky_base.specs.declared.object.Object as rust
 use Rattle.sky_law.specs.Sound.{SoundDesc}
+use Rattle.sky_law.specs.Tasks.{In}
 use Rattle.sky_law.proofs.Lists.{each_both}
+use Rattle.sky_law.proofs.TaskOutputs.{in_each}
 use Rattle.sky_state.specs.Fits.{Fits}
 use Rattle.sky_state.specs.Stand.{Stand}
 use Rattle.sky_resume.specs.Comes.{with_name}
@@ -16,7 +19,7 @@ use Rattle.sky_onward.specs.Onward.{AnswersSound, GrewSoundly}
 use Rattle.sky_onward.specs.Steps.{Spawned}
 use Rattle.sky_onward.specs.declared.step.Step.{Step}
 use Rattle.sky_onward.proofs.Rests.{has_rest}
-use Rattle.sky_through.specs.Found.{FoundIf, FindsSound, SameKind, still_to_come}
+use Rattle.sky_through.specs.Found.{AllFound, FoundIf, FindsSound, SameKind, still_to_come}
 
 -- ---- what is found
 
@@ -37,6 +40,14 @@ module _ (finds : Desc (List ℕ) → Option (Object (List ℕ))) where
   pub one_more : (d : Desc (List ℕ)) (ds : List (Desc (List ℕ))) (b : Bool) → is_some (finds d) ≡ true → FoundIf finds b ds → FoundIf finds b (d ∷ ds)
   one_more d ds true e h = (e, h)
   one_more d ds false e (x, i, none) = (x, inr i, none)
+
+  -- all are found by their names, or one after the other
+  pub found_names : (ns : List (List ℕ)) → ((n : List ℕ) → In (known n) (known_of ns) → IsSome (finds (known n))) → AllFound finds (known_of ns)
+  found_names [] h = tt
+  found_names (n ∷ ns) h = (h n (inl refl), found_names ns (λ m i. h m (inr i)))
+
+  pub names_found : (ds : List (Desc (List ℕ))) → AllFound finds ds → (n : List ℕ) → In (known n) ds → IsSome (finds (known n))
+  names_found ds h n i = in_each (λ d. IsSome (finds d)) ds (known n) h i
 
   pub none_of : (x : Option (Object (List ℕ))) → is_some x ≡ false → x ≡ None
   none_of None e = refl

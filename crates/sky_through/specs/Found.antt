@@ -1,6 +1,6 @@
 -- What is found of what a state waits for, and one turn of going on.
 use Rattle.std.specs.Prelude.{◌≡◌, ◌-◌, ◌+◌, ◌<◌, ◌++◌, ℕ, List, map, Bool, true, false, Option, Some, None, IsSome, ◌⊎◌}
-use Rattle.sky_base.specs.Val.{Desc, Val, out, same_text}
+use Rattle.sky_base.specs.Val.{Desc, Val, known, out, same_text}
 use Rattle.sky_base.specs.Tree.{Script}
 use Rattle.sky_base.specs.Res.{Object, visits, object_refs}
 use Rattle.sky_law.specs.Sound.{SoundObject}
@@ -28,9 +28,9 @@ module _ (finds : Desc (List ℕ) → Option (Object (List ℕ))) where
   FoundIf true ds = AllFound ds
   FoundIf false ds = OneLacks ds
 
-  -- all that the state waits for is found
+  -- all that the state waits for is found by its name
   abbrev pub HasAll : Stand (List ℕ) → Type 0
-  HasAll s = AllFound (pending_in same_text s)
+  HasAll s = (n : List ℕ) → In (known n) (pending_in same_text s) → IsSome (finds (known n))
 
   -- the state had this reference, or an object that is found has it
   abbrev pub CameFrom : Stand (List ℕ) → Desc (List ℕ) → Type 0

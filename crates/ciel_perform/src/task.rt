@@ -1,0 +1,148 @@
+//! The order of a call or of the root task.
+
+ghost use Rattle.std.specs.Prelude.{◌≡◌, ◌<◌, [], IfOk, length};
+ghost use Rattle.sky_base.specs.JobView.{job_view};
+ghost use Rattle.sky_onward.specs.Onward.{IsRead};
+ghost use Rattle.sky_state.specs.StateView.{stand_of, spawned_of};
+ghost use Rattle.ciel_task.specs.Orders.{OrderSound};
+ghost use Rattle.ciel_perform.specs.Begins.{BeginsAt, HasState};
+ghost use Rattle.ciel_perform.specs.Ends.{CameSo, StepOf, told_copies};
+ghost use Rattle.ciel_perform.specs.Runs.{Ran};
+
+use crate::begin::{Begun, begin};
+use crate::end::{end_of, missing, stack_name};
+use ciel_finds::brought::{Brought, brought};
+use ciel_name::name::Namer;
+use ciel_store::seats::Eye;
+use ciel_task::block::Held;
+use ciel_task::order::Order;
+use ciel_task::report::Report;
+use ciel_task::shop::Shop;
+use sky_base::text::Memory;
+use sky_numbers::code::number_script;
+use sky_onward::step::Step;
+use sky_state::state::State;
+use sky_through::through::run_through;
+use std::alloc::Global;
+use std::sync::Wait;
+
+/// Performs an order of a call or of the root task: from its stack or its start it goes on through each wait whose objects the order
+/// brings along, up to its end or the first other wait.
+///
+/// Answers `Memory` for want of memory.
+pub fn run_task<K, N: Namer, R: Wait>(
+    rt: &R,
+    alloc: Global,
+    shop: &Shop<K, N>,
+    order: &Order,
+    eye: &mut Eye,
+) -> Result<Report, Memory>
+    requires sound { OrderSound (N.digest shop.now.namer) shop.now.shelves (job_view shop.now.job).script (length (job_view shop.now.job).inputs) order.now }
+    requires read { IsRead (job_view shop.now.job).script }
+    requires state { HasState order.now.desc }
+    requires eye { eye.old.of ≡ shop.now.shelves.of }
+    ensures of { eye.new.of ≡ eye.old.of }
+    ensures ran { IfOk result (Ran (N.digest shop.now.namer) shop.now.shelves (job_view shop.now.job).script (job_view shop.now.job).inputs order.now eye.new) }
+{
+    match begin(alloc, shop, order, eye)? {
+        Begun::State(state) => {
+            let report = go_on(rt, alloc, shop, order, state, eye)?;
+            Ok(report)
+        }
+        Begun::Lost(loss) => {
+            let name = stack_name(order);
+            Ok(missing(alloc, &shop.shelves, order, name, loss, eye))
+        }
+    }
+}
+
+// The task goes on from this state.
+fn go_on<K, N: Namer, R: Wait>(
+    rt: &R,
+    alloc: Global,
+    shop: &Shop<K, N>,
+    order: &Order,
+    mut state: State,
+    eye: &mut Eye,
+) -> Result<Report, Memory>
+    requires sound { OrderSound (N.digest shop.now.namer) shop.now.shelves (job_view shop.now.job).script (length (job_view shop.now.job).inputs) order.now }
+    requires read { IsRead (job_view shop.now.job).script }
+    requires begins { BeginsAt (job_view shop.now.job).script order.now (stand_of state) }
+    requires spawned { spawned_of state ≡ [] }
+    requires eye { eye.old.of ≡ shop.now.shelves.of }
+    ensures of { eye.new.of ≡ eye.old.of }
+    ensures ran { IfOk result (Ran (N.digest shop.now.namer) shop.now.shelves (job_view shop.now.job).script (job_view shop.now.job).inputs order.now eye.new) }
+{
+    let numbered = number_script(alloc, &shop.job.script)?;
+    let held = order.inputs.as_slice();
+    let mut finder = brought(
+        rt,
+        alloc,
+        &shop.job,
+        &shop.shelves,
+        order.worker,
+        held,
+        eye,
+    )?;
+    let went = run_through(alloc, &numbered, &mut state, &mut finder, &shop.namer)?;
+    let Brought { copied, .. } = finder;
+    match went {
+        Ok(step) => {
+            let report = came_to(rt, alloc, shop, order, step, state, copied.items)?;
+            Ok(report)
+        }
+        Err(lost) => Ok(missing(
+            alloc,
+            &shop.shelves,
+            order,
+            lost.name,
+            lost.loss,
+            eye,
+        )),
+    }
+}
+
+// The report of a run that came to this step, with the state after it and what was copied.
+fn came_to<K, N: Namer, R: Wait>(
+    rt: &R,
+    alloc: Global,
+    shop: &Shop<K, N>,
+    order: &Order,
+    step: Step,
+    mut state: State,
+    copied: Vec<Held>,
+) -> Result<Report, Memory>
+    requires worker { order.now.worker < length shop.now.shelves.rows }
+    requires step { StepOf order.now.task step }
+    ensures { IfOk result (CameSo shop.now.shelves order.now step (stand_of state) (spawned_of state) copied.items) }
+{
+    let copied = at_end(alloc, &step, copied);
+    let spawned = state.take_spawned(alloc).into_vec();
+    let end = end_of(
+        rt,
+        alloc,
+        &shop.shelves,
+        order.worker,
+        &order.task,
+        step,
+        &state,
+    )?;
+    Ok(Report {
+        number: order.number,
+        worker: order.worker,
+        task: order.task,
+        spawned,
+        copied,
+        end,
+    })
+}
+
+// What was copied is told at the end of a task alone.
+fn at_end(alloc: Global, step: &Step, copied: Vec<Held>) -> Vec<Held>
+    ensures { result.items ≡ told_copies step.now copied.items }
+{
+    match step {
+        Step::Waits => Vec::new(alloc),
+        _ => copied,
+    }
+}
