@@ -31,13 +31,13 @@ use Rattle.ciel_inputs.proofs.Gathering.{found_some}
 use Rattle.ciel_task.specs.Named.{name_of, object_by_names}
 use Rattle.ciel_task.specs.Orders.{names_in}
 use Rattle.ciel_task.specs.Shop as shop
-use Rattle.ciel_task.specs.Shop.{block_view, shop_setting}
+use Rattle.ciel_task.specs.Shop.{InputsInOrder, block_view, shop_setting}
 use Rattle.ciel_task.specs.Views.{P, brought_view, order_view, spot_view}
 use Rattle.ciel_task.specs.declared.block.Held.{Held}
 use Rattle.ciel_task.specs.declared.block.Spot.{Spot}
 use Rattle.ciel_task.specs.declared.order.Order.{Order}
 use Rattle.ciel_walks.specs.Laws.{Brings}
-use Rattle.ciel_brought.specs.Brought.{InputsInOrder, lies_known}
+use Rattle.ciel_brought.specs.Brought.{lies_known}
 use Rattle.ciel_brought.proofs.Finding.{found_named, found_stands, input_view, names_brought, numbered, object_is, shelf_view, spot_at, spot_found, spot_has}
 use Rattle.sha1.specs.Sha1.{sha1}
 use Rattle.sky_frozen.specs.Bytes.{frozen_bytes}
@@ -144,7 +144,7 @@ module _ (digest : List ℕ → List ℕ) (job : s.Job) (gives : Gives) (keyed :
         (a, brought_live d h (S.job.task_of d) refl f (is.inputs d a))
 
     -- what the task holds there and the order has a place for
-    pub named_given : (d : s.Desc) → HeldAt S.job o.task o.from d → In (S.job.name d) (names_in held) → Given S.job o d
+    pub named_given : (d : s.Desc) → HeldAt S.job o.task o.from d → t.In (S.job.name d) (names_in held) → Given S.job o d
     named_given d a i = go (found held_name (S.job.name d) held) refl
       where
         go : (x : Option Held) → found held_name (S.job.name d) held ≡ x → Given S.job o d

@@ -7,9 +7,12 @@ use Rattle.sky_base.specs.Name.{digested}
 use Rattle.sky_base.specs.Res.{Object}
 use Rattle.sky_base.specs.See as s
 use Rattle.sky_base.specs.See.{see}
+use Rattle.sky_base.specs.ObjectView.{object_view}
+use Rattle.sky_base.specs.Tree.{Script}
 use Rattle.sky_base.specs.Val.{same_text}
 use Rattle.sky_base.proofs.Exact.{exact_text}
-use Rattle.sky_law.specs.Tasks.{Each}
+use Rattle.sky_law.specs.Sound.{SoundObject}
+use Rattle.sky_law.specs.Tasks.{Each, In}
 use Rattle.sky_law.proofs.Lists.{each_both, some_is}
 use Rattle.ciel_board.specs.Board as board
 use Rattle.ciel_board.specs.Board.{spot_of}
@@ -27,8 +30,10 @@ use Rattle.ciel_table.specs.Named.{found}
 use Rattle.ciel_table.specs.Seen.{Known, TableSeen}
 use Rattle.ciel_want.specs.Waited.{AllKnown}
 use Rattle.ciel_inputs.specs.Lies.{CopiedIf, CopiedSo, held_name, is_elsewhere, lies_at, object_in}
+use Rattle.ciel_inputs.proofs.Gathering.{each_found}
 use Rattle.ciel_task.specs.Named.{object_by_names}
-use Rattle.ciel_task.specs.Orders.{names_in}
+use Rattle.ciel_task.specs.Orders.{HasObject as HasObjectIn, SpotSound, names_in}
+use Rattle.ciel_task.specs.Places.{CopyAt}
 use Rattle.ciel_task.specs.Shop as shop
 use Rattle.ciel_task.specs.Shop.{block_view, shop_setting}
 use Rattle.ciel_task.specs.Views.{P, brought_view, copies_view, copy_at, order_view, spot_view}
@@ -36,7 +41,6 @@ use Rattle.ciel_task.specs.declared.block.Block.{Block}
 use Rattle.ciel_task.specs.declared.block.Held.{Held}
 use Rattle.ciel_task.specs.declared.block.Spot.{Spot}
 use Rattle.ciel_task.specs.declared.order.Order.{Order}
-use Rattle.ciel_brought.specs.Brought.{InputsInOrder}
 use Rattle.ciel_brought.specs.Copies.{Copies, IsCopy}
 use Rattle.ciel_brought.proofs.Finding.{found_named, found_stands, is_object, object_is, shelf_view, spot_at, spot_found}
 
@@ -135,20 +139,49 @@ module _ (shelves : ShelvesSeen) (inputs : List (List ℕ × List ℕ)) (order :
             other = other;
           }
 
-  copy_seen : (c : Held) (copy : IsCopy shelves order.worker inputs held' c) (cs : List Held) → copies_view (c ∷ cs) ≡ record { name = c.name; place = copy.place } ∷ copies_view cs
+  pub copy_seen : (c : Held) (copy : IsCopy shelves order.worker inputs held' c) (cs : List Held) → copies_view (c ∷ cs) ≡ record { name = c.name; place = copy.place } ∷ copies_view cs
   copy_seen c copy cs = ap (λ sp. copy_at c.name sp (copies_view cs)) copy.at
 
-  pub copies_fit : (t : TableSeen P) (cs : List Held) → Each (IsCopy shelves order.worker inputs held') cs → AllKnown t (names_in held') → j.Each (CopyFits W t (order_view order)) (copies_view cs) × (copy_names (copies_view cs) ≡ names_in cs)
-  copies_fit t [] e a = (tt, refl)
+  -- they are seen with their names
+  pub copies_named : (cs : List Held) → Each (IsCopy shelves order.worker inputs held') cs → copy_names (copies_view cs) ≡ names_in cs
+  copies_named [] e = refl
+  copies_named (c ∷ cs) e =
+      ap copy_names (copy_seen c e.0 cs) ∙ ap (λ ns. c.name ∷ ns) (copies_named cs e.1)
+
+  pub copies_fit : (t : TableSeen P) (cs : List Held) → Each (IsCopy shelves order.worker inputs held') cs → AllKnown t (names_in held') → j.Each (CopyFits W t (order_view order)) (copies_view cs)
+  copies_fit t [] e a = tt
   copies_fit t (c ∷ cs) e a =
-      let rest = copies_fit t cs e.1 a in
-      let view = copy_seen c e.0 cs in
-      (subst (j.Each (CopyFits W t (order_view order))) (sym view) (copy_fits t c e.0 a, rest.0), ap copy_names view ∙ ap (λ ns. c.name ∷ ns) rest.1)
+      subst (j.Each (CopyFits W t (order_view order))) (sym (copy_seen c e.0 cs)) (copy_fits t c e.0 a, copies_fit t cs e.1 a)
+
+-- ---- what lies there
+
+-- an object that is sound for the script
+pub sound_there : (sc : Script) (v : Block) (x : Object (List ℕ)) → object_in v ≡ Some x → SoundObject sc x → HasObjectIn sc v
+sound_there sc (Block.Frozen a) x e h = absurd cc
+sound_there sc (Block.Object y) x e h = subst (SoundObject sc) (sym (some_is (object_view y) x e)) h
+
+module _ (shelves : ShelvesSeen) (w : ℕ) (inputs : List (List ℕ × List ℕ)) (held : List Held) (sc : Script) (count : ℕ) (spots : Each (λ (h : Held). SpotSound shelves sc count h.at) held) where
+  alike : (u v : Block) → object_in u ≡ object_in v → HasObjectIn sc v → HasObjectIn sc u
+  alike u (Block.Frozen a) e h = absurd h
+  alike u (Block.Object y) e h = sound_there sc u (object_view y) e h
+
+  copy_sound : (c : Held) → IsCopy shelves w inputs held c → CopyAt shelves w sc c.at
+  copy_sound c copy = go (elsewhere_at w copy.from.at copy.elsewhere) (each_found held_name (λ (h : Held). SpotSound shelves sc count h.at) c.name held copy.from spots copy.found)
+    where
+      go : (p : P) × (copy.from.at ≡ Spot.Shelf p) × (p.worker ≡ w → ⊥) → SpotSound shelves sc count copy.from.at → CopyAt shelves w sc c.at
+      go (p, at, other) spot =
+          let there : SpotSound shelves sc count (Spot.Shelf p) = subst (SpotSound shelves sc count) at spot in
+          subst (CopyAt shelves w sc) (sym copy.at)
+          (record { here = copy.here; worker = copy.worker; object = alike copy.place.at.value p.at.value (copy.same ∙ ap (lies_at inputs) at) there.1 })
+
+  pub copies_sound : (cs : List Held) → Each (IsCopy shelves w inputs held) cs → Each (λ (c : Held). CopyAt shelves w sc c.at) cs
+  copies_sound [] h = tt
+  copies_sound (c ∷ cs) h = (copy_sound c h.0, copies_sound cs h.1)
 
 -- ---- one more
 
 module _ (shelves : ShelvesSeen) (w : ℕ) (inputs : List (List ℕ × List ℕ)) (held : List Held) where
-  last_apart : (n m : List ℕ) (ns : List (List ℕ)) → (j.In m (n ∷ ns) → ⊥) → AllByRecursion (λ y. same_text n y ≡ false) ns → AllByRecursion (λ y. same_text n y ≡ false) (ns ++ m ∷ [])
+  last_apart : (n m : List ℕ) (ns : List (List ℕ)) → (In m (n ∷ ns) → ⊥) → AllByRecursion (λ y. same_text n y ≡ false) ns → AllByRecursion (λ y. same_text n y ≡ false) (ns ++ m ∷ [])
   last_apart n m [] new h = (apart (same_text n m) refl, tt)
     where
       apart : (b : Bool) → same_text n m ≡ b → same_text n m ≡ false
@@ -156,11 +189,11 @@ module _ (shelves : ShelvesSeen) (w : ℕ) (inputs : List (List ℕ × List ℕ)
       apart false t = t
   last_apart n m (k ∷ ns) new h = (h.0, last_apart n m ns (λ i. new (skip i)) h.1)
     where
-      skip : j.In m (n ∷ ns) → j.In m (n ∷ k ∷ ns)
+      skip : In m (n ∷ ns) → In m (n ∷ k ∷ ns)
       skip (inl e) = inl e
       skip (inr i) = inr (inr i)
 
-  pub distinct_last : (ns : List (List ℕ)) (m : List ℕ) → (j.In m ns → ⊥) → IsDistinct same_text ns → IsDistinct same_text (ns ++ m ∷ [])
+  pub distinct_last : (ns : List (List ℕ)) (m : List ℕ) → (In m ns → ⊥) → IsDistinct same_text ns → IsDistinct same_text (ns ++ m ∷ [])
   unfolding IsDistinct
   distinct_last [] m new d = (tt, tt)
   distinct_last (n ∷ ns) m new d = (last_apart n m ns new d.0, distinct_last ns m (λ i. new (inr i)) d.1)
@@ -170,7 +203,7 @@ module _ (shelves : ShelvesSeen) (w : ℕ) (inputs : List (List ℕ × List ℕ)
   names_last (x ∷ cs) c = ap (λ ns. x.name ∷ ns) (names_last cs c)
 
   -- what was brought of a name that is new
-  pub copies_more : (n : List ℕ) (h : Held) (o : Object (List ℕ)) (old new : List Held) → Copies shelves w inputs held old → found held_name n held ≡ Some h → lies_at inputs h.at ≡ Some o → CopiedSo shelves w h o old new → (j.In n (names_in old) → ⊥) → Copies shelves w inputs held new
+  pub copies_more : (n : List ℕ) (h : Held) (o : Object (List ℕ)) (old new : List Held) → Copies shelves w inputs held old → found held_name n held ≡ Some h → lies_at inputs h.at ≡ Some o → CopiedSo shelves w h o old new → (In n (names_in old) → ⊥) → Copies shelves w inputs held new
   copies_more n h o old new c f at so fresh = go (is_elsewhere w h.at) refl so
     where
       is_name : n ≡ h.name
@@ -179,7 +212,7 @@ module _ (shelves : ShelvesSeen) (w : ℕ) (inputs : List (List ℕ × List ℕ)
       go : (b : Bool) → is_elsewhere w h.at ≡ b → CopiedIf b shelves w h.name o old new → Copies shelves w inputs held new
       go false e same = subst (Copies shelves w inputs held) (sym same) c
       go true e (p, grew, here, worker, same) =
-          subst (Copies shelves w inputs held) (sym grew) (each_both (IsCopy shelves w inputs held) old (one ∷ []) c.0 (copy, tt), subst (IsDistinct same_text) (sym (names_last old one)) (distinct_last (names_in old) h.name (λ i. fresh (subst (λ m. j.In m (names_in old)) (sym is_name) i)) c.1))
+          subst (Copies shelves w inputs held) (sym grew) (each_both (IsCopy shelves w inputs held) old (one ∷ []) c.0 (copy, tt), subst (IsDistinct same_text) (sym (names_last old one)) (distinct_last (names_in old) h.name (λ i. fresh (subst (λ m. In m (names_in old)) (sym is_name) i)) c.1))
         where
           one : Held
           one = record { name = h.name; at = Spot.Shelf p }

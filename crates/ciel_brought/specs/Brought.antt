@@ -1,14 +1,9 @@
 -- What an order brings along.
-use Rattle.std.specs.Prelude.{◌≡◌, ℕ, List, map, Option, None}
+use Rattle.std.specs.Prelude.{ℕ, List, Option, None}
 use Rattle.sky_base.specs.Res.{Object}
-use Rattle.sky_base.specs.See.{Job}
 use Rattle.sky_base.specs.Val.{Desc, known}
 use Rattle.ciel_task.specs.declared.block.Held.{Held}
 use Rattle.ciel_inputs.specs.Gathers.{lies_of}
-
--- the inputs of a job stand in the order of its script's keys
-abbrev pub InputsInOrder : Job → Type 0
-InputsInOrder job = map (λ (x : List ℕ × List ℕ). x.0) job.inputs ≡ job.script.keys
 
 -- by its name the object that lies where the order says, where these are the inputs of the job
 abbrev pub lies_known : List (List ℕ × List ℕ) → List Held → Desc (List ℕ) → Option (Object (List ℕ))

@@ -2,31 +2,28 @@
 use Rattle.std.specs.Prelude.{◌≡◌, ℕ, List}
 use Rattle.sky_base.specs.KitView.{Gives}
 use Rattle.sky_base.specs.Name.{digested}
-use Rattle.sky_base.specs.Res.{Object}
 use Rattle.sky_base.specs.See as s
-use Rattle.sky_law.specs.Tasks.{Each}
-use Rattle.sky_state.specs.Stand.{Stand}
-use Rattle.ciel_board.specs.Board.{spot_of}
+use Rattle.sky_base.specs.Tree.{Script}
+use Rattle.sky_law.specs.Tasks.{Each, In}
 use Rattle.ciel_board.specs.Follows.{OrderIs}
 use Rattle.ciel_board.specs.Reports.{copy_names}
-use Rattle.ciel_board.specs.Setting.{HasObject, Setting}
+use Rattle.ciel_board.specs.Setting.{HasObject}
 use Rattle.ciel_board.specs.Sound.{CopyFits}
 use Rattle.ciel_journal.specs.History.{OpenStart}
 use Rattle.ciel_journal.specs.Job as j
-use Rattle.ciel_journal.specs.Job.{Digest}
 use Rattle.ciel_journal.specs.Lawful.{FetchedFrom, Given, HeldAt}
 use Rattle.ciel_json.specs.Around.{json_around}
-use Rattle.ciel_store.specs.Seen.{PlaceSeen, ShelvesSeen}
+use Rattle.ciel_store.specs.Seen.{ShelvesSeen}
 use Rattle.ciel_table.specs.Seen.{TableSeen}
-use Rattle.ciel_task.specs.Orders.{names_in}
-use Rattle.ciel_task.specs.Shop as shop
-use Rattle.ciel_task.specs.Shop.{shop_setting}
+use Rattle.ciel_task.specs.Orders.{SpotSound, names_in}
+use Rattle.ciel_task.specs.Places.{CopyAt}
+use Rattle.ciel_task.specs.Shop.{InputsInOrder, shop_setting}
 use Rattle.ciel_task.specs.Views.{P, copies_view, order_view}
 use Rattle.ciel_task.specs.declared.block.Held.{Held}
 use Rattle.ciel_task.specs.declared.order.Order.{Order}
 use Rattle.ciel_walks.specs.Laws.{Brings}
 use Rattle.ciel_want.specs.Waited.{AllKnown}
-use Rattle.ciel_brought.specs.Brought.{InputsInOrder, lies_known}
+use Rattle.ciel_brought.specs.Brought.{lies_known}
 use Rattle.ciel_brought.specs.Copies.{Copies, IsCopy}
 use Rattle.sha1.specs.Sha1.{sha1}
 use Rattle.ciel_name.specs.Object.{object_bytes}
@@ -47,7 +44,7 @@ OrdersBring =
 abbrev pub NamedIsGiven : Type 0
 NamedIsGiven =
     OfOrders (λ digest job gives o order. (d : s.Desc) → HeldAt (shop_setting digest job gives).job o.task o.from d
-    → j.In ((shop_setting digest job gives).job.name d) (names_in order.inputs.items) → Given (shop_setting digest job gives).job o d)
+    → In ((shop_setting digest job gives).job.name d) (names_in order.inputs.items) → Given (shop_setting digest job gives).job o d)
 
 -- a copy of what the task holds there is of what was fetched from another worker, and its object lies at the copy's place
 abbrev pub CopiesAreFetched : Type 0
@@ -63,3 +60,9 @@ CopiesFit =
     (shelves : ShelvesSeen) (inputs : List (List ℕ × List ℕ)) (order : Order) (cs : List Held)
     → Copies shelves order.worker inputs order.inputs.items cs → (t : TableSeen P) → AllKnown t (names_in order.inputs.items)
     → j.Each (CopyFits (λ (p : P). p.worker) t (order_view order)) (copies_view cs) × (copy_names (copies_view cs) ≡ names_in cs)
+
+-- what lies there is sound for the script, where what the order brings along is
+abbrev pub CopiesAreSound : Type 0
+CopiesAreSound =
+    (shelves : ShelvesSeen) (w : ℕ) (inputs : List (List ℕ × List ℕ)) (held cs : List Held) → Copies shelves w inputs held cs
+    → (sc : Script) (count : ℕ) → Each (λ (h : Held). SpotSound shelves sc count h.at) held → Each (λ (c : Held). CopyAt shelves w sc c.at) cs

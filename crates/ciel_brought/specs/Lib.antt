@@ -1,4 +1,3 @@
 pub mod Brought
 pub mod Copies
-pub mod Places
 pub mod Laws

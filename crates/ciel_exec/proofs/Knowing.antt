@@ -26,8 +26,7 @@ use Rattle.ciel_task.specs.declared.block.Held.{Held}
 use Rattle.ciel_task.specs.declared.report.Made.{Made}
 use Rattle.ciel_inputs.proofs.Gathering.{lies, seen_of}
 use Rattle.ciel_exec.specs.Outputs.{AreOutputs, IsMade, OutputsFrom}
-use Rattle.ciel_exec.specs.Runs.{IsSeen, SeenSo, lies_known}
-use Rattle.ciel_exec.specs.declared.run.Ran.{Ran}
+use Rattle.ciel_brought.specs.Brought.{lies_known}
 
 true_false : true ≡ false → ⊥
 true_false e = cc
@@ -82,41 +81,9 @@ module _ (inputs : List (List ℕ × List ℕ)) (held : List Held) where
 
 -- ---- what was made for an output
 
-outputs_at : (digest : List ℕ → List ℕ) (shelves : ShelvesSeen) (w : ℕ) (x : List ℕ) (a : Val (List ℕ)) (n : ℕ) (r : Result (List (List ℕ)) Fault) (i : ℕ) (ms : List Made) (j : ℕ) (m : Made) → OutputsFrom digest shelves w x a n r i ms → slice_get ms j ≡ Some m → IsMade digest shelves w (out x a n (i + j)) (output_of r (i + j)) m
-outputs_at digest shelves w x a n r i [] j m h e = absurd cc
-outputs_at digest shelves w x a n r i (k ∷ ms) zero m h e =
-    let at : i ≡ i + 0 = omega arith in
-    subst (λ y. IsMade digest shelves w (out x a n y) (output_of r y) m) at (subst (λ y. IsMade digest shelves w (out x a n i) (output_of r i) y) (some_is k m e) h.0)
-outputs_at digest shelves w x a n r i (k ∷ ms) (suc j) m h e =
-    let at : suc i + j ≡ i + suc j = omega arith in
-    subst (λ y. IsMade digest shelves w (out x a n y) (output_of r y) m) at (outputs_at digest shelves w x a n r (suc i) ms j m h.1 e)
-
 pub outputs_push : (digest : List ℕ → List ℕ) (shelves : ShelvesSeen) (w : ℕ) (x : List ℕ) (a : Val (List ℕ)) (n : ℕ) (r : Result (List (List ℕ)) Fault) (i k : ℕ) (ms : List Made) (m : Made) → OutputsFrom digest shelves w x a n r i ms → i + length ms ≡ k → IsMade digest shelves w (out x a n k) (output_of r k) m → OutputsFrom digest shelves w x a n r i (ms ++ m ∷ [])
 outputs_push digest shelves w x a n r i k [] m h e is =
     let at : k ≡ i = omega (arith, e) in (subst (λ y. IsMade digest shelves w (out x a n y) (output_of r y) m) at is, tt)
 outputs_push digest shelves w x a n r i k (l ∷ ms) m h e is =
     let at : suc i + length ms ≡ k = omega (arith, e) in
     (h.0, outputs_push digest shelves w x a n r (suc i) k ms m h.1 at is)
-
-pub seen_outputs : (digest : List ℕ → List ℕ) (gives : Gives) (shelves : ShelvesSeen) (w : ℕ) (inputs : List (List ℕ × List ℕ)) (held : List Held) (x : List ℕ) (a : Val (List ℕ)) (n : ℕ) (ms : Vec Made Global) → AreOutputs digest shelves w x a n (made gives (λ v. writes v) (lies_known inputs held) x a n) ms.items → SeenSo digest gives inputs held x a n (Ran.Made ms)
-seen_outputs digest gives shelves w inputs held x a n ms are job k b low_is seen i m e =
-    of_made (at_zero (outputs_at digest shelves w x a n (made gives (λ v. writes v) (lies_known inputs held) x a n) 0 ms.items i m are.1 e))
-  where
-    r : Result (List (List ℕ)) Fault
-    r = made gives (λ v. writes v) (lies_known inputs held) x a n
-
-    sees : Sees job (json_around gives) (digested digest) (suc k) (out x b n i) (output_of r i)
-    sees =
-        subst (λ v. Sees job (json_around gives) (digested digest) (suc k) (out x b n i) (output_of (made gives (λ u. writes u) (lies_known inputs held) x v n) i)) low_is (sees_out job (json_around gives) (λ v. writes v) (digested digest) (λ u. text_named (digested digest) u) k (lies_known inputs held) x b n i seen)
-
-    at_zero : IsMade digest shelves w (out x a n (0 + i)) (output_of r (0 + i)) m → IsMade digest shelves w (out x a n i) (output_of r i) m
-    at_zero h = let at : 0 + i ≡ i = omega arith in subst (λ y. IsMade digest shelves w (out x a n y) (output_of r y) m) at h
-
-    of_made : IsMade digest shelves w (out x a n i) (output_of r i) m → IsSeen digest gives job (suc k) (out x b n i) m
-    of_made is =
-        record {
-          name = is.name ∙ ap (λ v. digested digest (out x v n i)) (sym low_is);
-          object = output_of r i;
-          lies = is.object;
-          seen = sees;
-        }

@@ -1,1 +1,6 @@
 pub mod Knowing
+pub mod Copied
+pub mod Going
+pub mod Saying
+pub mod Lying
+pub mod Reporting

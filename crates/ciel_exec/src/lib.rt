@@ -1,5 +1,7 @@
-//! The run of an executor's order: its inputs are gathered, the kit is run, and its outputs are put on the worker's shelf.
+//! The run of an executor's order: its inputs are gathered, the kit is run once, its outputs are put on the worker's shelf, and all
+//! this is reported.
 #![tactic(auto)]
 
-pub mod publish;
-pub mod run;
+pub mod order;
+mod publish;
+mod run;

@@ -26,7 +26,7 @@ use std::sync::Wait;
 /// Puts the outputs of a task on a worker's shelf, in order, each with its name and its mark.
 ///
 /// Answers `Memory` for want of memory.
-pub fn publish<N: Namer, R: Wait>(
+pub(crate) fn publish<N: Namer, R: Wait>(
     rt: &R,
     alloc: Global,
     namer: &N,
@@ -43,19 +43,42 @@ pub fn publish<N: Namer, R: Wait>(
 {
     let mut published = Vec::new(alloc);
     for index in 0..outputs {
-        let desc = Desc1::Exec {
-            executor: executor.share()?,
-            args: args.copy()?,
-            outputs,
-            index,
-        };
-        let object = output(made, index)?;
-        let one = put(rt, alloc, namer, shelves, worker, &desc, object)?;
+        let one = put_one(
+            rt, alloc, namer, shelves, worker, executor, args, outputs, made, index,
+        )?;
         let Ok(()) = published.push(one) else {
             return Err(Memory);
         };
     }
     Ok(published)
+}
+
+// Puts one output of the task on the shelf.
+fn put_one<N: Namer, R: Wait>(
+    rt: &R,
+    alloc: Global,
+    namer: &N,
+    shelves: &Shelves<Block>,
+    worker: u32,
+    executor: &Txt,
+    args: &Value,
+    outputs: u32,
+    made: &Result<Vec<Bytes>, Fault>,
+    index: u32,
+) -> Result<Made, Memory>
+    requires worker { worker < length shelves.now.rows }
+    requires index { IfOk (listed made.now) (λ bs. index < length bs) }
+    ensures { IfOk result (λ m. IsMade (N.digest namer.now) shelves.now worker (out executor.now (view args.now) outputs index) (output_of (listed made.now) index) m) }
+{
+    let desc = Desc1::Exec {
+        executor: executor.share()?,
+        args: args.copy()?,
+        outputs,
+        index,
+    };
+    let object = output(made, index)?;
+    let one = put(rt, alloc, namer, shelves, worker, &desc, object)?;
+    Ok(one)
 }
 
 // An output as an object.

@@ -1,10 +1,6 @@
-//! The run of an executor's order.
+//! The run of an executor's task on what an order brings along.
 
 ghost use Rattle.std.specs.Prelude.{◌≡◌, ◌<◌, IfOk, length};
-ghost use Rattle.ciel_exec.specs.Outputs.{MadeSo};
-ghost use Rattle.ciel_exec.specs.Runs.{RanSo, SeenSo};
-ghost use Rattle.ciel_task.specs.Orders.{SpotSound, names_in};
-ghost use Rattle.ciel_task.specs.declared.block.Held.{Held};
 ghost use Rattle.sky_base.specs.JobView.{job_view};
 ghost use Rattle.sky_base.specs.Kept.{Kept};
 ghost use Rattle.sky_base.specs.Name.{held_name};
@@ -14,6 +10,10 @@ ghost use Rattle.sky_base.specs.View.{view};
 ghost use Rattle.sky_law.specs.Tasks.{Each, In};
 ghost use Rattle.sky_perform.specs.Perform.{listed};
 ghost use Rattle.sky_rows.specs.Known.{KeptObject};
+ghost use Rattle.ciel_task.specs.Orders.{SpotSound, names_in};
+ghost use Rattle.ciel_task.specs.declared.block.Held.{Held};
+ghost use Rattle.ciel_exec.specs.Outputs.{MadeSo};
+ghost use Rattle.ciel_exec.specs.Runs.{CopiedAlong, RanSo, SawLoss};
 
 use crate::publish::publish;
 use ciel_inputs::gather::{Gathered, gather};
@@ -35,18 +35,21 @@ use sky_shown::given::Given;
 use std::alloc::Global;
 use std::sync::Wait;
 
-/// What came of an executor's task: its outputs, in order, or the first name in its arguments whose object lay at a worker that is
-/// lost, with the loss.
+/// What came of an executor's task: its outputs, in order, with what was copied to the worker's shelf; or the first name in its
+/// arguments whose object lay at a worker that is lost, with the loss.
 #[derive(Drop)]
-pub enum Ran {
-    Made(Vec<Made>),
+pub(crate) enum Ran {
+    Made {
+        outputs: Vec<Made>,
+        copied: Vec<Held>,
+    },
     Lost(Name, Loss),
 }
 
 /// Runs the executor once on what the names in its arguments refer to, and puts its outputs on the worker's shelf.
 ///
 /// Answers `Memory` for want of memory.
-pub fn run<K: Kit, N: Namer, R: Wait>(
+pub(crate) fn run<K: Kit, N: Namer, R: Wait>(
     rt: &R,
     alloc: Global,
     shop: &Shop<K, N>,
@@ -56,7 +59,6 @@ pub fn run<K: Kit, N: Namer, R: Wait>(
     args: &Value,
     outputs: u32,
     eye: &mut Eye,
-    copied: &mut Vec<Held>,
 ) -> Result<Ran, Memory>
     requires kept { Kept (view args.now) }
     requires names { Each (λ d. In (held_name d) (names_in held.now)) (refs (view args.now)) }
@@ -64,11 +66,13 @@ pub fn run<K: Kit, N: Namer, R: Wait>(
     requires eye { eye.old.of ≡ shop.now.shelves.of }
     requires worker { worker < length shop.now.shelves.rows }
     ensures of { eye.new.of ≡ eye.old.of }
-    ensures ran { IfOk result (RanSo (N.digest shop.now.namer) (K.gives shop.now.kit) shop.now.shelves worker (job_view shop.now.job).inputs held.now executor.now (view args.now) outputs) }
-    ensures seen { IfOk result (SeenSo (N.digest shop.now.namer) (K.gives shop.now.kit) (job_view shop.now.job).inputs held.now executor.now (view args.now) outputs) }
+    ensures ran { IfOk result (RanSo shop.now.shelves worker (job_view shop.now.job).inputs held.now (view args.now) (N.digest shop.now.namer) (K.gives shop.now.kit) executor.now outputs) }
+    ensures copied { IfOk result (CopiedAlong shop.now.shelves worker (job_view shop.now.job).inputs held.now (view args.now)) }
+    ensures seen { IfOk result (λ r. SawLoss r eye.old eye.new) }
 {
     let names = args.refs(alloc)?;
     let index = index(alloc, held)?;
+    let mut copied = Vec::new(alloc);
     let gathered = gather(
         rt,
         alloc,
@@ -79,7 +83,7 @@ pub fn run<K: Kit, N: Namer, R: Wait>(
         &index,
         names.as_slice(),
         eye,
-        copied,
+        &mut copied,
     )?;
     match gathered {
         Gathered::Lost(name, loss) => Ok(Ran::Lost(name, loss)),
@@ -93,7 +97,7 @@ pub fn run<K: Kit, N: Namer, R: Wait>(
                 names.as_slice(),
                 objects.as_slice(),
             )?;
-            let published = publish(
+            let outputs = publish(
                 rt,
                 alloc,
                 &shop.namer,
@@ -104,7 +108,7 @@ pub fn run<K: Kit, N: Namer, R: Wait>(
                 outputs,
                 &made,
             )?;
-            Ok(Ran::Made(published))
+            Ok(Ran::Made { outputs, copied })
         }
     }
 }

@@ -1,5 +1,5 @@
 -- What a shop's job is to a master: descriptions by names, and what lies at places.
-use Rattle.std.specs.Prelude.{ℕ, List, Option}
+use Rattle.std.specs.Prelude.{◌≡◌, ℕ, List, map, Option}
 use Rattle.std.specs.Option.{option_map}
 use Rattle.sky_base.specs.KitView.{Gives}
 use Rattle.sky_base.specs.Needed as n
@@ -15,6 +15,10 @@ use Rattle.ciel_store.specs.Seen.{PlaceSeen}
 use Rattle.ciel_task.specs.Named.{by_names, object_by_names, shop_job, state_by_names}
 use Rattle.ciel_task.specs.declared.block.Block as rust
 use Rattle.sky_state.specs.Stand.{Stand}
+
+-- the inputs of a job stand in the order of its script's keys
+abbrev pub InputsInOrder : s.Job → Type 0
+InputsInOrder job = map (λ (x : List ℕ × List ℕ). x.0) job.inputs ≡ job.script.keys
 
 -- what lies at a place, by names: an object or a stack
 pub data Block : Type 0 where

@@ -6,9 +6,9 @@ use Rattle.sky_base.specs.Val.{same_text}
 use Rattle.sky_base.specs.declared.object.TaskId.{TaskId}
 use Rattle.sky_law.specs.Tasks.{Each}
 use Rattle.sky_state.specs.Fits.{Fits}
-use Rattle.sky_state.specs.Pending.{held_in, pending_in}
+use Rattle.sky_state.specs.Pending.{held_in, pending_in, stand_wait}
 use Rattle.ciel_store.specs.Seen.{IsPlaceOf, PlaceSeen, SeatSeen, ShelvesSeen}
-use Rattle.ciel_task.specs.Orders.{HasObject, HasStack, OfKind, has_waits}
+use Rattle.ciel_task.specs.Orders.{HasObject, HasStack, OfKind}
 use Rattle.ciel_task.specs.declared.block.Block.{Block}
 use Rattle.ciel_task.specs.declared.block.Held.{Held}
 use Rattle.ciel_task.specs.declared.block.Spot.{Spot}
@@ -32,7 +32,7 @@ module _ (shelves : ShelvesSeen) (w : ℕ) (sc : Script) where
   pub record StackAt (task : TaskId) (p : PlaceSeen Block) (j : ℕ) (refs holds : List (List ℕ)) : Type 0 where
     pub here : IsPlaceOf shelves p
     pub worker : p.worker ≡ w
-    pub stack : HasStack (λ s. Fits sc s × OfKind task s × (has_waits s ≡ j) × (map held_name (pending_in same_text s) ≡ refs) × (map held_name (held_in same_text s) ≡ holds)) p.at.value
+    pub stack : HasStack (λ s. Fits sc s × OfKind task s × (stand_wait s ≡ j) × (map held_name (pending_in same_text s) ≡ refs) × (map held_name (held_in same_text s) ≡ holds)) p.at.value
 
   abbrev pub CopyAt : Spot → Type 0
   CopyAt (Spot.Shelf p) = ObjectAt p

@@ -1,0 +1,127 @@
+-- The names in an executor's arguments, each once, and what was copied of them.
+use Rattle.std.proofs.Common.{◌≡◌, ℕ, List, [], ◌∷◌, ◌++◌, Bool, true, false, Option, Some, inl, inr, refl, sym, ap, subst, ◌∙◌}
+use Rattle.std.specs.List.{AllByRecursion, IsDistinct}
+use Rattle.sky_base.specs.Name.{held_name}
+use Rattle.sky_base.specs.Names.{known_of}
+use Rattle.sky_base.specs.Res as logic
+use Rattle.sky_base.specs.Val.{Desc, distinct, known, same_text}
+use Rattle.sky_base.proofs.Exact.{exact_text, self_text}
+use Rattle.sky_law.specs.Tasks.{Apart, Each, In}
+use Rattle.sky_law.proofs.TaskOutputs.{distinct_apart, distinct_in}
+use Rattle.ciel_store.specs.Seen.{ShelvesSeen}
+use Rattle.ciel_task.specs.Orders.{names_in}
+use Rattle.ciel_task.specs.declared.block.Held.{Held}
+use Rattle.ciel_inputs.specs.Gathers.{CopiedFor, none, one}
+use Rattle.ciel_inputs.specs.Lies.{CopiedIf, CopiedSo, is_elsewhere}
+use Rattle.ciel_brought.specs.Copies.{Copies, IsCopy}
+use Rattle.ciel_brought.proofs.Copying.{copies_more}
+use Rattle.ciel_brought.proofs.Finding.{found_named}
+use Rattle.sky_law.proofs.Lists.{each_both}
+
+-- ---- the names
+
+-- the name of each stands in the list of names
+among_known : (ns : List (List ℕ)) (n : List ℕ) → In n ns → In (known n) (known_of ns)
+among_known [] n i = absurd i
+among_known (m ∷ ns) n (inl e) = inl (ap known e)
+among_known (m ∷ ns) n (inr i) = inr (among_known ns n i)
+
+apart_names : (ns : List (List ℕ)) → Apart (known_of ns) → IsDistinct same_text ns
+unfolding IsDistinct
+apart_names [] a = tt
+apart_names (n ∷ ns) a = (others ns (λ i. a.0 (among_known ns n i)), apart_names ns a.1)
+  where
+    others : (ms : List (List ℕ)) → (In n ms → ⊥) → AllByRecursion (λ y. same_text n y ≡ false) ms
+    others [] h = tt
+    others (m ∷ ms) h = (no (same_text n m) refl, others ms (λ i. h (inr i)))
+      where
+        no : (b : Bool) → same_text n m ≡ b → same_text n m ≡ false
+        no true t = absurd (h (inl (exact_text n m t)))
+        no false t = t
+
+module _ (ns : List (List ℕ)) (ds : List (Desc (List ℕ))) (are : known_of ns ≡ distinct same_text ds) where
+  pub names_distinct : IsDistinct same_text ns
+  names_distinct = apart_names ns (subst Apart (sym are) (distinct_apart same_text exact_text self_text ds))
+
+  -- each of them is the name of a reference
+  pub names_refer : (n : List ℕ) → In n ns → In (known n) ds
+  names_refer n i = distinct_in same_text exact_text self_text ds (known n) (subst (In (known n)) are (among_known ns n i))
+
+  -- so it is brought along where all references are
+  pub names_there : (there : List (List ℕ)) → Each (λ d. In (held_name d) there) ds → Each (λ n. In n there) ns
+  names_there there h = each ns (λ n i. i)
+    where
+      of_ref : (es : List (Desc (List ℕ))) (d : Desc (List ℕ)) → Each (λ e. In (held_name e) there) es → In d es → In (held_name d) there
+      of_ref [] d e i = absurd i
+      of_ref (x ∷ es) d e (inl q) = subst (λ y. In (held_name y) there) (sym q) e.0
+      of_ref (x ∷ es) d e (inr i) = of_ref es d e.1 i
+
+      each : (ms : List (List ℕ)) → ((n : List ℕ) → In n ms → In n ns) → Each (λ n. In n there) ms
+      each [] sub = tt
+      each (m ∷ ms) sub = (of_ref ds (known m) h (names_refer m (sub m (inl refl))), each ms (λ n i. sub n (inr i)))
+
+-- ---- what was copied of them
+
+module _ (shelves : ShelvesSeen) (w : ℕ) (inputs : List (List ℕ × List ℕ)) (held : List Held) where
+  fewer_apart : (n m : List ℕ) (ns : List (List ℕ)) → AllByRecursion (λ y. same_text n y ≡ false) (ns ++ m ∷ []) → AllByRecursion (λ y. same_text n y ≡ false) ns × (same_text n m ≡ false)
+  fewer_apart n m [] a = (tt, a.0)
+  fewer_apart n m (k ∷ ns) a = let rest = fewer_apart n m ns a.1 in ((a.0, rest.0), rest.1)
+
+  -- without the last one
+  fewer : (ns : List (List ℕ)) (m : List ℕ) → IsDistinct same_text (ns ++ m ∷ []) → IsDistinct same_text ns × (In m ns → ⊥)
+  unfolding IsDistinct
+  fewer [] m d = (tt, λ i. i)
+  fewer (n ∷ ns) m d = ((first.0, rest.0), new)
+    where
+      first : AllByRecursion (λ y. same_text n y ≡ false) ns × (same_text n m ≡ false)
+      first = fewer_apart n m ns d.0
+
+      rest : IsDistinct same_text ns × (In m ns → ⊥)
+      rest = fewer ns m d.1
+
+      true_false : true ≡ false → ⊥
+      true_false e = cc
+
+      new : In m (n ∷ ns) → ⊥
+      new (inl e) = true_false (sym (ap (same_text n) e ∙ self_text n) ∙ first.1)
+      new (inr i) = rest.1 i
+
+  -- each of what was copied has one of these names
+  abbrev Among : List (List ℕ) → List Held → Type 0
+  Among ns cs = Each (λ (c : Held). In c.name ns) cs
+
+  in_more : (n m : List ℕ) (ns : List (List ℕ)) → In n ns → In n (ns ++ m ∷ [])
+  in_more n m [] i = absurd i
+  in_more n m (k ∷ ns) (inl e) = inl e
+  in_more n m (k ∷ ns) (inr i) = inr (in_more n m ns i)
+
+  in_last : (n : List ℕ) (ns : List (List ℕ)) → In n (ns ++ n ∷ [])
+  in_last n [] = inl refl
+  in_last n (k ∷ ns) = inr (in_last n ns)
+
+  among_more : (cs : List Held) (m : List ℕ) (ns : List (List ℕ)) → Among ns cs → Among (ns ++ m ∷ []) cs
+  among_more [] m ns a = tt
+  among_more (c ∷ cs) m ns a = (in_more c.name m ns a.0, among_more cs m ns a.1)
+
+  among_names : (cs : List Held) (ns : List (List ℕ)) (n : List ℕ) → Among ns cs → In n (names_in cs) → In n ns
+  among_names [] ns n a i = absurd i
+  among_names (c ∷ cs) ns n a (inl e) = subst (λ m. In m ns) (sym e) a.0
+  among_names (c ∷ cs) ns n a (inr i) = among_names cs ns n a.1 i
+
+  -- what was brought of one name more
+  among_one : (b : Bool) (n : List ℕ) (h : Held) (o : logic.Object (List ℕ)) (ns : List (List ℕ)) (old new : List Held) → n ≡ h.name → CopiedIf b shelves w h.name o old new → Among ns old → Among (ns ++ n ∷ []) new
+  among_one false n h o ns old new e so a = subst (Among (ns ++ n ∷ [])) (sym so) (among_more old n ns a)
+  among_one true n h o ns old new e (p, grew, rest) a =
+      subst (Among (ns ++ n ∷ [])) (sym grew)
+      (each_both (λ (c : Held). In c.name (ns ++ n ∷ [])) old _ (among_more old n ns a) (subst (λ m. In m (ns ++ n ∷ [])) e (in_last n ns), tt))
+
+  nothing_twice : IsDistinct same_text []
+  unfolding IsDistinct
+  nothing_twice = tt
+
+  pub copied_for : (ns : List (List ℕ)) (new : List Held) → CopiedFor shelves w inputs held [] ns new → IsDistinct same_text ns → Copies shelves w inputs held new × Among ns new
+  copied_for ns new none d = ((tt, nothing_twice), tt)
+  copied_for ns new (one n h o before f at so) d =
+      let d' = fewer _ n d in
+      let rest = copied_for _ _ before d'.0 in
+      (copies_more shelves w inputs held n h o _ new rest.0 f at so (λ i. d'.1 (among_names _ _ n rest.1 i)), among_one (is_elsewhere w h.at) n h o _ _ new (found_named n held h f) so rest.1)
