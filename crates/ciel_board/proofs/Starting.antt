@@ -54,7 +54,7 @@ module _ {D P B : Type 0} (s : Setting D P B) (is : IsSetting s) where
   same_workers (o ∷ os) (x ∷ xs) h =
       ap (λ n. n ∷ workers_out xs) h.0.worker ∙ ap (λ ws. o.worker ∷ ws) (same_workers os xs h.1)
 
-  number_is : (x : Option (Save D)) (y : Option (Wait P)) → BothWaits s is x y → wait_number y ≡ h.wait_number s.job x
+  pub number_is : (x : Option (Save D)) (y : Option (Wait P)) → BothWaits s is x y → wait_number y ≡ h.wait_number s.job x
   number_is None None k = refl
   number_is None (Some w) k = absurd k
   number_is (Some q) None k = absurd k

@@ -152,7 +152,7 @@ module _ {P B : Type 0} (digest : List ℕ → List ℕ) (job : s.Job) (around :
   task_told x (input key) e k m = cc
   task_told x (known b) e k m = absurd b
 
-  sound_made : SoundReads job.script around → (d : s.Desc) → IsMade here d → (d ≡ s.main_call) ⊎ SoundDesc job.script d
+  pub sound_made : SoundReads job.script around → (d : s.Desc) → IsMade here d → (d ≡ s.main_call) ⊎ SoundDesc job.script d
   sound_made reads d (inl e) = inl e
   sound_made reads d (inr (u, w, k, i)) =
       inr (made_sound job around reads k (back u) d (needed_sound job around reads (back u) (needed_to job around (name no_name (digested digest)) mark frozen u w)) (in_from d (t.made_in (t.acts_of job around k (back u))) (subst (In d) (made_is (t.acts_of job around k (back u))) i)))

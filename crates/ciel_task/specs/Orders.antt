@@ -1,6 +1,7 @@
 -- When an order is sound for a shop.
 use Rattle.std.specs.Prelude.{◌≡◌, ◌≢◌, ℕ, ◌<◌, List, length, map, Option, Some, None, ◌↔◌}
 use Rattle.std.specs.List.{IsDistinct, AllByRecursion}
+use Rattle.sky_base.specs.Kept.{Kept}
 use Rattle.sky_base.specs.Name.{digested, held_name}
 use Rattle.sky_base.specs.ObjectView.{desc_view, object_view}
 use Rattle.sky_base.specs.Tree.{Script}
@@ -52,7 +53,7 @@ OfKind _ _ = ⊥
 -- what a task is the call, or the executor task, of, with what such a task needs at its start
 abbrev pub CanBegin : Script → List (List ℕ) → Desc1 → Type 0
 CanBegin sc given (Desc1.Call f c vs) = CanStart sc f c vs
-CanBegin sc given (Desc1.Exec x a n i) = (i ≡ 0) × Each (λ d. In (held_name d) given) (refs (view a))
+CanBegin sc given (Desc1.Exec x a n i) = (i ≡ 0) × Kept (view a) × Each (λ d. In (held_name d) given) (refs (view a))
 CanBegin sc given (Desc1.Input k) = ⊥
 
 -- the root task has none; another one has the description by which it goes, of the task's name
