@@ -20,7 +20,6 @@ use Rattle.ciel_journal.proofs.Shelved.{fetched_in, learned_in}
 use Rattle.ciel_journal.proofs.Told.{book_told}
 use Rattle.ciel_journal.specs.Live.{spawned_of}
 use Rattle.ciel_reports.specs.Report as r
-use Rattle.ciel_reports.proofs.Reporting.{allowed}
 use Rattle.ciel_table.specs.Changes as c
 use Rattle.ciel_table.specs.Learning.{learn_answer, learn_at, learned}
 use Rattle.ciel_table.specs.Named.{found}

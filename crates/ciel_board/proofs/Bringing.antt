@@ -8,7 +8,7 @@ use Rattle.ciel_journal.specs.Job.{Digest, In}
 use Rattle.ciel_journal.specs.Lawful.{least, least_with}
 use Rattle.ciel_journal.proofs.Members.{bool_cases}
 use Rattle.ciel_table.specs.Seen.{TableSeen}
-use Rattle.ciel_board.specs.Board.{Spot, brought, brought_names, least_place, lesser, or_least, place_at, place_for, shelf, spot_for, spot_of, with_spot}
+use Rattle.ciel_board.specs.Board.{Spot, brought, brought_names, least_place, lesser, or_least, place_at, place_for, spot_for, spot_of, with_spot}
 use Rattle.ciel_board.specs.Follows.{FetchedAt, worker_for}
 use Rattle.ciel_board.specs.Setting.{HasObject, Setting}
 

@@ -29,7 +29,7 @@ use Rattle.ciel_board.proofs.Starting.{idle_same}
 use Rattle.ciel_board.proofs.Telling.{report_follows}
 
 -- what stands at a place of a list stands in it
-got_in : {A : Type 0} (xs : List A) (i : ℕ) (x : A) → slice_get xs i ≡ Some x → In x xs
+pub got_in : {A : Type 0} (xs : List A) (i : ℕ) (x : A) → slice_get xs i ≡ Some x → In x xs
 got_in [] i x e = cc
 got_in (y ∷ ys) zero x e = let q : y ≡ x = cc in inl (sym q)
 got_in (y ∷ ys) (suc i) x e = inr (got_in ys i x e)

@@ -1,16 +1,16 @@
-mod Pairs
-mod Looking
+pub mod Pairs
+pub mod Looking
 mod Holding
 mod Bringing
-mod Starting
-mod Following
+pub mod Starting
+pub mod Following
 pub mod Learning
-mod Placing
+pub mod Placing
 pub mod Saving
-mod Accepting
-mod Telling
-mod Opening
+pub mod Accepting
+pub mod Telling
+pub mod Opening
 pub mod Sounding
-mod Missing
-mod Searching
-mod Driving
+pub mod Missing
+pub mod Searching
+pub mod Driving

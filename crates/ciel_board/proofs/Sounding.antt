@@ -404,7 +404,8 @@ module _ {P : Type 0} (digest : List ℕ → List ℕ) (at : P → ℕ) where
     then = learned_all digest spawned b.table
 
     then_whole : Whole' digest then
-    then_whole = learned_whole digest spawned b.table (whole_of b s) fits.named fits.inside fits.tasks
+    then_whole =
+        let f = fits.learned all in learned_whole digest spawned b.table (whole_of b s) fits.named f.inside f.tasks
 
     then_room : length then.rows ≤ then.limit
     then_room =
@@ -462,9 +463,9 @@ module _ {P : Type 0} (digest : List ℕ → List ℕ) (at : P → ℕ) where
                 subst (AllByRecursion (λ (w : Wait P). w.j ≤ y.from)) (sym (more_waits y.task x.out.task (wait_of q) then ∙ (ap (λ b. cond b (waits_of y.task then ++ wait_of q ∷ []) (waits_of y.task then)) t ∙ same_waits y.task b.table then g.shown g.saved))) o.last
 
     pub accepted_sound : Sound digest at (accepted digest b x.out spawned end)
-    accepted_sound = pick end fits.end
+    accepted_sound = pick end (fits.learned all).end
       where
-        pick : (e : End P) → EndFits digest at b x then e → Sound digest at (accepted digest b x.out spawned e)
+        pick : (e : End P) → EndFits digest at x then e → Sound digest at (accepted digest b x.out spawned e)
         pick (rep.missing name loss) f = missing_sound name loss
         pick (rep.made ms cs) f = made_sound ms cs
         pick (rep.saved q) f = saved_sound q f

@@ -2,7 +2,6 @@
 use Rattle.std.proofs.Common.{◌≡◌, ℕ, ◌+◌, ◌≤◌, List, [], ◌∷◌, length, true, false, map, Option, Some, None, ◌⊎◌, inl, inr, refl, ap, sym, ◌∙◌, subst}
 use Rattle.std.specs.Option.{option_and_then, option_map, option_map_or}
 use Rattle.sky_base.specs.ObjectView.{desc_view}
-use Rattle.sky_base.specs.Val.{input}
 use Rattle.sky_base.specs.declared.object.Desc1.{Desc1}
 use Rattle.ciel_journal.specs.Entries.{low_task}
 use Rattle.ciel_journal.specs.Graph.{Runnable}

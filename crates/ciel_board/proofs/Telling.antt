@@ -72,7 +72,7 @@ module _ {D P B : Type 0} (s : Setting D P B) (is : IsSetting s) (h : List (Even
               let a = t2.allowed in
               let same = same_found s.job is.laws v k a.0 o a.1 taken.is_open in
               let now = after_saved s.job is.laws v k q.j q.mark w.refs w.holds w.spawned o taken.is_open in
-              let fits = subst (λ z. EndFits s.digest s.at b x after_table z) is_end taken.fits.end in
+              let fits = subst (λ z. EndFits s.digest s.at x after_table z) is_end (taken.fits.learned all).end in
               record {
                 event = saved k q.j q.mark w.refs w.holds w.spawned;
                 tells = t2.report;
@@ -88,7 +88,7 @@ module _ {D P B : Type 0} (s : Setting D P B) (is : IsSetting s) (h : List (Even
               let a = t2.allowed in
               let same = same_found s.job is.laws v k a.0 o a.1 taken.is_open in
               let now = after_done s.job is.laws v k w.made w.copied w.spawned o taken.is_open in
-              let fits = subst (λ z. EndFits s.digest s.at b x after_table z) is_end taken.fits.end in
+              let fits = subst (λ z. EndFits s.digest s.at x after_table z) is_end (taken.fits.learned all).end in
               record {
                 event = done k w.made w.copied w.spawned;
                 tells = t2.report;

@@ -16,7 +16,7 @@ use Rattle.ciel_table.specs.declared.wait.Wait.{Wait}
 use Rattle.ciel_table.specs.declared.wait.Saves.{Saves}
 use Rattle.ciel_want.specs.Waited.{AllKnown}
 use Rattle.ciel_board.specs.Board.{Board, Order, OrderOut, shelf, spot_of, start_refs}
-use Rattle.ciel_board.specs.Reports.{Copy, End, IsNamed, Output, Stack, copy_names, learned_all, made, missing, saved}
+use Rattle.ciel_board.specs.Reports.{AllLearned, Copy, End, IsNamed, Output, Stack, copy_names, learned_all, made, missing, saved}
 
 module _ {P : Type 0} (digest : List ℕ → List ℕ) where
   -- it has the name and the task that its description has by this digest, its canonical bytes spell it, and all that stands
@@ -101,16 +101,27 @@ module _ {P : Type 0} (digest : List ℕ → List ℕ) (at : P → ℕ) where
     pub planned : (count : ℕ) × (slice_get b.plan.losses loss ≡ Some (count, at place))
     pub lost : list_any (nat_eq (at place)) b.table.gone ≡ true
 
-  abbrev pub EndFits : Board P → Order P → TableSeen P → End P → Type 0
-  EndFits b x t (made ms cs) =
+  -- the end of a run, where all that it spawned is learned
+  abbrev pub EndFits : Order P → TableSeen P → End P → Type 0
+  EndFits x t (made ms cs) =
       Each (OutputFits t x) ms × Each (CopyFits t x) cs × IsDistinct same_text (copy_names cs)
-  EndFits b x t (saved s) = StackFits t x s
-  EndFits b x t (missing name loss) = MissingFits b x name loss
+  EndFits x t (saved s) = StackFits t x s
+  EndFits x t (missing name loss) = Unit {0}
 
-  -- it is learned whole, each that is spawned has its name, all that stands inside it has a row then, and so has its task; and
-  -- the end fits
+  -- what is missing, whatever is learned
+  abbrev pub MissFits : Board P → Order P → End P → Type 0
+  MissFits b x (made ms cs) = Unit {0}
+  MissFits b x (saved s) = Unit {0}
+  MissFits b x (missing name loss) = MissingFits b x name loss
+
+  -- with this table after it is learned, all that stands inside what is spawned has a row, and so has its task; and the end fits
+  pub record FitsIn (x : Order P) (t : TableSeen P) (spawned : List Named) (how : End P) : Type 0 where
+    pub inside : Each (λ (n : Named). AllKnown t (start_refs n.desc)) spawned
+    pub tasks : Each (λ (n : Named). Known t (digested digest (first_output (desc_view n.desc)))) spawned
+    pub end : EndFits x t how
+
+  -- each that is spawned has its name; what is missing is so; and where it is learned whole, it fits in the table then
   pub record Fits (b : Board P) (x : Order P) (spawned : List Named) (how : End P) : Type 0 where
     pub named : Each (IsNamed digest) spawned
-    pub inside : Each (λ (n : Named). AllKnown (learned_all digest spawned b.table) (start_refs n.desc)) spawned
-    pub tasks : Each (λ (n : Named). Known (learned_all digest spawned b.table) (digested digest (first_output (desc_view n.desc)))) spawned
-    pub end : EndFits b x (learned_all digest spawned b.table) how
+    pub missed : MissFits b x how
+    pub learned : AllLearned digest spawned b.table → FitsIn x (learned_all digest spawned b.table) spawned how

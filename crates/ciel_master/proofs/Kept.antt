@@ -118,13 +118,15 @@ module _ (digest : List ℕ → List ℕ) (b : Board P) (s : Sound digest worker
       let g = grown digest spawned b.table in
       subst (AllByRecursion (λ (w : Wait P). w.j < n)) (sym (same_waits x.out.task b.table then g.shown g.saved)) (all_more (λ (w : Wait P). w.j ≤ x.out.from) (λ (w : Wait P). w.j < n) (λ w m. omega (arith, m, l)) (waits_of x.out.task b.table) is_sound.last)
 
-  pub can_take : (copied : List Held) (end : End) → Fits digest worker_of b x spawned (how_view copied end) → CanTake x.out.task (learned_for digest end spawned b.table) copied end
-  can_take copied (End.Made ms) f =
-      (outputs_can digest then x is_here ms.items f.end.0, copies_can digest then x is_here copied f.end.1)
-  can_take copied (End.Saved q n refs holds mark) f =
-      (is_above n f.end.later, subst (Here then.gone) (sym f.end.here) is_here)
-  can_take copied (End.Shown q) f = copies_can digest then x is_here copied f.end.1
-  can_take copied (End.Missing name loss seen) f = tt
+  pub can_take : (copied : List Held) (end : End) → Fits digest worker_of b x spawned (how_view copied end) → LearnedFor digest end spawned b.table → CanTake x.out.task (learned_for digest end spawned b.table) copied end
+  can_take copied (End.Made ms) f all =
+      let e = (f.learned all).end in
+      (outputs_can digest then x is_here ms.items e.0, copies_can digest then x is_here copied e.1)
+  can_take copied (End.Saved q n refs holds mark) f all =
+      let e = (f.learned all).end in (is_above n e.later, subst (Here then.gone) (sym e.here) is_here)
+  can_take copied (End.Shown q) f all =
+      let e = (f.learned all).end in copies_can digest then x is_here copied e.1
+  can_take copied (End.Missing name loss seen) f all = tt
 
 -- the lost workers stay
 outputs_gone : (ms : List (r.Output P)) (t : TableSeen P) → (with_outputs ms t).gone ≡ t.gone
@@ -201,11 +203,15 @@ module _ {N : Type 0} (dig : N → (List ℕ → List ℕ)) (m : MasterSeen N) (
     same_order : fits_now.0.out ≡ o
     same_order = some_same fits_now.0.out o (sym fits_now.1 ∙ found)
 
-    pub takes_now : CanTake o.task t cs end
-    takes_now =
-        let x = fits_now.0 in
-        let can = can_take (dig n) b going.sound x number fits_now.1 spawned copied end fits_now.2 in
-        subst (λ (z : board.OrderOut). CanTake z.task t cs end) same_order (subst (λ u. CanTake x.out.task u cs end) (sym is_then) (subst (λ ds. CanTake x.out.task (learned_for (dig n) end spawned b.table) ds end) (sym is_cs) can))
+    module _ (all : LearnedFor (dig k) end ns b.table) where
+      all_now : LearnedFor (dig n) end spawned b.table
+      all_now = subst (λ ms. LearnedFor (dig n) end ms b.table) is_ns (subst (λ z. LearnedFor (dig z) end ns b.table) is_k all)
+
+      pub takes_now : CanTake o.task t cs end
+      takes_now =
+          let x = fits_now.0 in
+          let can = can_take (dig n) b going.sound x number fits_now.1 spawned copied end fits_now.2 all_now in
+          subst (λ (z : board.OrderOut). CanTake z.task t cs end) same_order (subst (λ u. CanTake x.out.task u cs end) (sym is_then) (subst (λ ds. CanTake x.out.task (learned_for (dig n) end spawned b.table) ds end) (sym is_cs) can))
 
     module _ (all : LearnedFor (dig k) end ns b.table) (u : TableSeen P) (os : List board.OrderOut) (js : List j.Entry) (last : Bool) (is_u : u ≡ table_after o.task (how_view cs end) t) (is_os : os ≡ without o.number b.orders) (is_js : js ≡ b.journal ++ entry_for o.number (how_view cs end) ∷ []) (ds : List Held) (is_ds : ds ≡ copied) (is_last_so : last ≡ is_last o.task (how_view ds end)) where
       pub gone_after : u.gone ≡ lost
@@ -225,12 +231,9 @@ module _ {N : Type 0} (dig : N → (List ℕ → List ℕ)) (m : MasterSeen N) (
           ∙ (ap (λ z. record (taken (dig n) b going o spawned copied end) { journal = z; stopped = last }) js_so
           ∙ ap (λ z. record (taken (dig n) b going o spawned copied end) { stopped = z }) last_so))
 
-      all_now : LearnedFor (dig n) end spawned b.table
-      all_now = subst (λ ms. LearnedFor (dig n) end ms b.table) is_ns (subst (λ z. LearnedFor (dig z) end ns b.table) is_k all)
-
       pub going_accepted : Going (dig n) now
       going_accepted =
-          subst (Going (dig n)) (sym now_is) (subst (λ (z : board.OrderOut). Going (dig n) (taken (dig n) b going z spawned copied end)) same_order (taken_going (dig n) b going fits_now.0 number fits_now.1 spawned copied end fits_now.2 all_now goes))
+          subst (Going (dig n)) (sym now_is) (subst (λ (z : board.OrderOut). Going (dig n) (taken (dig n) b going z spawned copied end)) same_order (taken_going (dig n) b going fits_now.0 number fits_now.1 spawned copied end fits_now.2 (all_now all) goes))
 
       pub accepted_so : (x : board.OrderOut) × (find_order number m.board.orders ≡ Some x) × (record { namer = n; board = now } ≡ record m { board = accepted (dig m.namer) m.board x spawned (how_view copied end) })
       accepted_so =

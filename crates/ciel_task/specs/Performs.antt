@@ -7,19 +7,22 @@ use Rattle.sky_base.specs.Res.{object_refs}
 use Rattle.sky_base.specs.See as s
 use Rattle.sky_base.specs.Val.{Desc, call, out}
 use Rattle.sky_base.specs.declared.object.Desc1.{Desc1}
+use Rattle.sky_base.specs.declared.object.TaskId.{TaskId}
 use Rattle.sky_law.specs.Tasks.{Each}
+use Rattle.sky_shown.specs.Shows.{shown_view}
 use Rattle.sky_state.specs.Pending.{all_refs}
 use Rattle.ciel_board.specs.Board.{Board, find_order, shelf, spot_of}
 use Rattle.ciel_board.specs.Follows.{OrderIs}
 use Rattle.ciel_board.specs.Laws.{LiesUnlessClash}
-use Rattle.ciel_board.specs.Reports.{AllLearned, report_view}
+use Rattle.ciel_board.specs.Reports.{report_view}
 use Rattle.ciel_board.specs.Setting.{Setting}
 use Rattle.ciel_board.specs.Sound as board
 use Rattle.ciel_board.specs.Sound.{own_name}
-use Rattle.ciel_journal.specs.History.{Event, OpenStart, Plan, find_open, standing}
+use Rattle.ciel_journal.specs.History.{Event, OpenStart, Plan, after, find_open, standing}
 use Rattle.ciel_journal.specs.Job.{Digest, In}
-use Rattle.ciel_journal.specs.Lawful.{Lawful}
-use Rattle.ciel_reports.specs.Report.{FirstApart, Says}
+use Rattle.ciel_journal.specs.Lawful.{Allowed, Lawful, NoClash}
+use Rattle.ciel_json.specs.Around.{json_around}
+use Rattle.ciel_reports.specs.Report.{FirstApart, Says, report_of}
 use Rattle.ciel_store.specs.Seen.{SeatSeen}
 use Rattle.ciel_store.specs.declared.loss.Loss.{Loss}
 use Rattle.ciel_table.specs.Seen.{Known, TableSeen}
@@ -93,19 +96,41 @@ abbrev pub IsMissing : End → Type 0
 IsMissing (End.Missing name loss seen) = Unit {0}
 IsMissing _ = ⊥
 
+-- ---- how it ended
+
+-- the root task's end is shown, another one's has what was made
+abbrev pub OfTask : TaskId → End → Type 0
+OfTask TaskId.Show (End.Made ms) = ⊥
+OfTask (TaskId.Of n) (End.Shown shown) = ⊥
+OfTask _ _ = Unit {0}
+
 -- ---- the promise
 
 module _ (digest : List ℕ → List ℕ) (job : s.Job) (gives : Gives) where
   abbrev pub the_shop : Setting s.Desc P shop.Block
   the_shop = shop_setting digest job gives
 
+  -- what is shown is the answer of the job
+  abbrev pub AnswerIs : End → Type 0
+  AnswerIs (End.Shown shown) = s.Means job (json_around gives) (shown_view shown)
+  AnswerIs _ = Unit {0}
+
+  -- so it is, unless two descriptions share a name
+  abbrev pub AnswersUnlessClash : List (Event s.Desc) → Plan → ℕ → Report → Type 0
+  AnswersUnlessClash h p k r =
+      (e : Event s.Desc) → report_of the_shop.job the_shop.inner the_shop.lower e ≡ Some (report_view k r.spawned.items (report_end r))
+      → Allowed the_shop.job p (standing the_shop.job h) e → NoClash the_shop.job (after the_shop.job (standing the_shop.job h) e).book
+      → AnswerIs r.end
+
   pub record Performs (order : Order) (r : Report) : Type 0 where
     pub number : r.number ≡ order.number
     pub worker : r.worker ≡ order.worker
     pub task : r.task ≡ order.task
-    -- it fits each sound state of a master in which the order is out, where it is learned whole and nothing was missing
+    -- the root task's end is shown, another one's has what was made
+    pub kind : OfTask order.task r.end
+    -- it fits each sound state of a master in which the order is out, where nothing was missing
     pub fits : (b : Board P) → board.Sound digest (λ p. p.worker) b → find_order order.number b.orders ≡ Some (out_view order)
-        → HasRows digest b.table order → AllLearned digest r.spawned.items b.table → (IsMissing r.end → ⊥)
+        → HasRows digest b.table order → (IsMissing r.end → ⊥)
         → board.Fits digest (λ p. p.worker) b (order_view order) r.spawned.items (report_end r)
     pub missed : Missed digest order r.end
     -- it says what the job does
@@ -115,3 +140,7 @@ module _ (digest : List ℕ → List ℕ) (job : s.Job) (gives : Gives) where
     pub lies : (h : List (Event s.Desc)) (p : Plan) (o : OpenStart s.Desc) → Lawful the_shop.job p h
         → find_open the_shop.job order.number (standing the_shop.job h).orders ≡ Some o → OrderIs the_shop o (order_view order)
         → LiesUnlessClash the_shop h p o order.number r.spawned.items (report_end r)
+    -- so is what is shown the job's answer
+    pub answers : (h : List (Event s.Desc)) (p : Plan) (o : OpenStart s.Desc) → Lawful the_shop.job p h
+        → find_open the_shop.job order.number (standing the_shop.job h).orders ≡ Some o → OrderIs the_shop o (order_view order)
+        → AnswersUnlessClash h p order.number r

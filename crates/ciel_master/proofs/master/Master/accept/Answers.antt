@@ -16,7 +16,7 @@ take_end-requires g c =
     let found : find_order c.args.report.number (map kept_view i.orders.items) ≡ Some o = ap (λ xs. find_order c.args.report.number (map kept_view xs)) (sym c.deref.ensures.value) ∙ (sym c.find.ensures ∙ ap (option_map kept_view) c.in-Some.is) in
     let k = c.deref-2.result.now.namer in
     let is_k : k ≡ n = ap (λ s. s.namer) c.deref-2.ensures in
-    record { can = takes_now g.N.Namer.digest c.args.self.now n b c.self.view_is i.lost.items c.self.invariant c.requires.going c.args.report.number c.args.report.spawned.items c.args.report.copied.items c.args.report.end c.requires.fits o found k is_k c.as_slice-2.result.now c.as_slice-2.ensures.value c.as_slice-3.result.now c.as_slice-3.ensures.value c.learn_for.new.table c.in_ok-learn_for.ensures.learned }
+    record { can = takes_now g.N.Namer.digest c.args.self.now n b c.self.view_is i.lost.items c.self.invariant c.requires.going c.args.report.number c.args.report.spawned.items c.args.report.copied.items c.args.report.end c.requires.fits o found k is_k c.as_slice-2.result.now c.as_slice-2.ensures.value c.as_slice-3.result.now c.as_slice-3.ensures.value c.learn_for.new.table c.in_ok-learn_for.ensures.learned c.in_ok-learn_for.ensures.all }
 
 pub invariant_of-self-2 : goal.invariant_of-self-2
 invariant_of-self-2 g c =

@@ -1,0 +1,10 @@
+mod Counting
+mod Summing
+mod Lessening
+mod Keeping
+mod Working
+mod Idling
+mod Handing
+mod Making
+mod Fresh
+mod Turning

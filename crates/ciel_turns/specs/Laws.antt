@@ -1,0 +1,163 @@
+-- The laws of turns: each leaves the master and its workers at work, with less to do, or ends the run.
+use Rattle.std.specs.Prelude.{◌≡◌, ℕ, ◌≤◌, ◌<◌, List, [], ◌∷◌, ◌++◌, replicate, true, false, Some, None, nat_lt, slice_get, slice_set, ◌&&◌, ◌↔◌}
+use Rattle.sky_base.specs.Val.{no_pairs, no_vals}
+use Rattle.sky_base.specs.declared.object.Desc1.{Desc1}
+use Rattle.sky_base.specs.declared.object.Named.{Named}
+use Rattle.sky_base.specs.declared.object.TaskId.{TaskId}
+use Rattle.ciel_journal.specs.Graph.{Runnable}
+use Rattle.ciel_journal.specs.History.{Event, OpenStart, Plan, find_open, standing}
+use Rattle.ciel_journal.specs.Job.{Digest, Ends, In, show}
+use Rattle.ciel_journal.specs.Laws.{ShowDone}
+use Rattle.ciel_journal.specs.Turns.{FirstDue, is_idle}
+use Rattle.ciel_reports.specs.Report as r
+use Rattle.ciel_board.specs.Board.{Board, Order, OrderOut, board_graph, find_order, idle_of, workers_out}
+use Rattle.ciel_board.specs.Driving.{CanRun, Picked, RestsNow, Runs}
+use Rattle.ciel_board.specs.Follows.{OrderIs}
+use Rattle.ciel_board.specs.Laws.{LiesUnlessClash, Taken}
+use Rattle.ciel_board.specs.Moves.{accepted, lost_at, missed_at, opened, order_for, started}
+use Rattle.ciel_board.specs.Reports.{AllLearned, Copy, End, IsNamed, made, missing, named_view, report_view, saved}
+use Rattle.ciel_board.specs.Setting.{IsSetting, Setting}
+use Rattle.ciel_board.specs.Sound.{Fits, MissingFits, Sound}
+use Rattle.ciel_turns.specs.AtWork.{AtWork, IsLost, Turned}
+use Rattle.ciel_turns.specs.Left.{Has, Slots, busy, work}
+
+-- ---- what a worker promises
+
+-- no wait that is saved has a greater number
+abbrev pub EndWithin : {P : Type 0} → ℕ → End P → Type 0
+EndWithin most (made ms cs) = Unit {0}
+EndWithin most (saved q) = q.j ≤ most
+EndWithin most (missing name loss) = Unit {0}
+
+abbrev pub IsMissing : {P : Type 0} → End P → Type 0
+IsMissing (made ms cs) = ⊥
+IsMissing (saved q) = ⊥
+IsMissing (missing name loss) = Unit {0}
+
+module _ {D P B : Type 0} (s : Setting D P B) where
+  -- of the report of an order that is out after this history: it fits, it says what the job does, and what the job has is at its
+  -- places
+  pub record Promised (most : ℕ) (h : List (Event D)) (b : Board P) (x : Order P) (spawned : List Named) (end : End P) : Type 0 where
+    pub fits : Fits s.digest s.at b x spawned end
+    pub within : EndWithin most end
+    pub says : (o : OpenStart D) → OrderIs s o x → r.FirstApart s.job s.inner o → r.Says s.job s.inner s.lower o (report_view x.out.number spawned end)
+    pub lies : (o : OpenStart D) → find_open s.job x.out.number (standing s.job h).orders ≡ Some o → OrderIs s o x
+        → LiesUnlessClash s h b.plan o x.out.number spawned end
+
+  -- the order that a worker has is out: it is that of an open Start, and no two descriptions that its task has there share a name
+  pub record IsOut (h : List (Event D)) (b : Board P) (x : Order P) : Type 0 where
+    pub found : find_order x.out.number b.orders ≡ Some x.out
+    pub start : OpenStart D
+    pub is_open : find_open s.job x.out.number (standing s.job h).orders ≡ Some start
+    pub order : OrderIs s start x
+    pub apart : r.FirstApart s.job s.inner start
+
+  -- the worker has nothing; the order is that of a new open Start; and the turn
+  pub record StartTurned (most : ℕ) (h : List (Event D)) (b : Board P) (slots : Slots P) (x : TaskId) (w : ℕ) : Type 0 where
+    pub free : slice_get slots w ≡ Some None
+    pub start : OpenStart D
+    pub order : OrderIs s start (order_for s.at b x w)
+    pub apart : r.FirstApart s.job s.inner start
+    pub turned : Turned s most h b slots (started s.at b x w) (slice_set slots w (Some (order_for s.at b x w)))
+
+  -- the run ends: with the Done of the root task, which comes to its end
+  pub record RunEnded (h : List (Event D)) (c : Board P) : Type 0 where
+    pub event : Event D
+    pub runs : Runs s (h ++ event ∷ []) c
+    pub done : ShowDone s.job (h ++ event ∷ [])
+    pub ends : Ends s.job show
+
+module _ (P : Type 0) where
+  -- ---- who can work
+
+  -- a worker that is idle is in the list of them
+  abbrev pub IdleIsListed : Type 0
+  IdleIsListed =
+      (b : Board P) (w : ℕ) → (nat_lt w b.plan.workers && is_idle b.table.gone (workers_out b.orders) w ≡ true) ↔ In w (idle_of b)
+
+  -- where nothing is out and not each worker is lost, there is one
+  abbrev pub SomeIsIdle : Type 0
+  SomeIsIdle =
+      (b : Board P) → b.orders ≡ [] → (w : ℕ) → w < b.plan.workers → (IsLost b.table.gone w → ⊥) → idle_of b ≡ [] → ⊥
+
+  -- where no task is listed that can run, none can
+  abbrev pub NoneCanRun : Type 0
+  NoneCanRun =
+      (digest : List ℕ → List ℕ) (at : P → ℕ) (b : Board P) → Sound digest at b → CanRun b [] → (x : TaskId) → Runnable (board_graph b) x → ⊥
+
+  -- what the draws pick can be started
+  abbrev pub PickedCanStart : Type 0
+  PickedCanStart = (b : Board P) (x : TaskId) (w : ℕ) → Picked b x w → Runnable (board_graph b) x × In w (idle_of b)
+
+module _ (D P B : Type 0) where
+  -- said of each setting, and of each master at work
+  abbrev OfWork : ((s : Setting D P B) → ℕ → List (Event D) → Board P → Slots P → Type 0) → Type 0
+  OfWork Q =
+      (s : Setting D P B) → IsSetting s → (most : ℕ) (h : List (Event D)) (b : Board P) (slots : Slots P)
+      → AtWork s most h b slots → Q s most h b slots
+
+  -- ---- turns
+
+  -- at the beginning nobody has an order
+  abbrev pub OpenedIsAtWork : Type 0
+  OpenedIsAtWork =
+      (s : Setting D P B) → IsSetting s → (most : ℕ) (p : Plan) (main : Named)
+      → 1 ≤ p.limit → IsNamed s.digest main → main.desc ≡ Desc1.Call [] no_pairs no_vals → s.lower s.job.main ≡ named_view main
+      → AtWork s most [] (opened s.digest p s.keys main) (replicate p.workers None)
+
+  -- the loss that is due first
+  abbrev pub LossTurns : Type 0
+  LossTurns =
+      OfWork (λ s most h b slots. (loss w : ℕ) → FirstDue b.plan.losses b.closes b.table.gone loss w
+      → Turned s most h b slots (lost_at s.at w b) slots)
+
+  -- the start that the draws pick
+  abbrev pub StartTurns : Type 0
+  StartTurns = OfWork (λ s most h b slots. (x : TaskId) (w : ℕ) → Picked b x w → StartTurned s most h b slots x w)
+
+  -- where no worker has an order, none is out
+  abbrev pub NoneIsOut : Type 0
+  NoneIsOut = OfWork (λ s most h b slots. busy slots ≡ 0 → b.orders ≡ [])
+
+  -- an order that a worker has and whose number is out is out itself
+  abbrev pub HadIsOut : Type 0
+  HadIsOut =
+      OfWork (λ s most h b slots. (w : ℕ) (x : Order P) (y : OrderOut) → Has slots w x → find_order x.out.number b.orders ≡ Some y
+      → IsOut s h b x)
+
+  -- a report whose order isn't out any more is thrown away
+  abbrev pub ThrownTurns : Type 0
+  ThrownTurns =
+      OfWork (λ s most h b slots. (w : ℕ) (x : Order P) → Has slots w x → find_order x.out.number b.orders ≡ None
+      → AtWork s most h b (slice_set slots w None) × (work s.at most b (slice_set slots w None) < work s.at most b slots))
+
+  -- a report that is taken, of another task than the root task or before its end
+  abbrev pub ReportTurns : Type 0
+  ReportTurns =
+      OfWork (λ s most h b slots. RestsNow b → (w : ℕ) (x : Order P) → Has slots w x → IsOut s h b x
+      → (spawned : List Named) (end : End P) → Promised s most h b x spawned end → (IsMissing end → ⊥)
+      → AllLearned s.digest spawned b.table → (accepted s.digest b x.out spawned end).stopped ≡ false
+      → Turned s most h b slots (accepted s.digest b x.out spawned end) (slice_set slots w None))
+
+  -- one that something is missing
+  abbrev pub MissedTurns : Type 0
+  MissedTurns =
+      OfWork (λ s most h b slots. RestsNow b → (w : ℕ) (x : Order P) → Has slots w x → IsOut s h b x
+      → (name : Digest) (loss : ℕ) → MissingFits s.digest s.at b x name loss
+      → Turned s most h b slots (missed_at s.digest b x.out name loss) (slice_set slots w None))
+
+  -- ---- ends
+
+  -- the end of the root task
+  abbrev pub ShownEnds : Type 0
+  ShownEnds =
+      OfWork (λ s most h b slots. RestsNow b → (w : ℕ) (x : Order P) → Has slots w x → IsOut s h b x → x.out.task ≡ TaskId.Show
+      → (spawned : List Named) (cs : List (Copy P)) → Promised s most h b x spawned (made [] cs)
+      → AllLearned s.digest spawned b.table → RunEnded s h (accepted s.digest b x.out spawned (made [] cs)))
+
+  -- a report that is refused is one of a run all the same
+  abbrev pub PromisedIsTaken : Type 0
+  PromisedIsTaken =
+      OfWork (λ s most h b slots. (w : ℕ) (x : Order P) → Has slots w x → (out : IsOut s h b x)
+      → (spawned : List Named) (end : End P) → Promised s most h b x spawned end
+      → Taken s h b x out.start x.out.number spawned end)

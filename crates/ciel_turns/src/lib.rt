@@ -1,0 +1,40 @@
+//! The turns of a run: each leaves less to do, so a run comes to an end.
+//!
+//! `specs/Left` has the number that falls, `specs/AtWork` what holds of a master and its workers between two turns, and
+//! `specs/Laws` the turns and the ends, as laws over the master's state by names. They are contracts of functions that do nothing.
+#![tactic(auto)]
+
+ghost use Rattle.ciel_turns.specs.Laws.{HadIsOut, IdleIsListed, LossTurns, MissedTurns, NoneCanRun, NoneIsOut, OpenedIsAtWork};
+ghost use Rattle.ciel_turns.specs.Laws.{PickedCanStart, PromisedIsTaken, ReportTurns, ShownEnds, SomeIsIdle, StartTurns, ThrownTurns};
+
+/// A worker that is idle is in the list of idle workers, and where nothing is out and not each worker is lost there is one. What
+/// two draws pick can be started, and where no task is listed that can run, none can.
+pub fn workers_are_idle<P>()
+    ensures listed { IdleIsListed P }
+    ensures some { SomeIsIdle P }
+    ensures picked { PickedCanStart P }
+    ensures none { NoneCanRun P }
+{}
+
+/// At the beginning a master is at work and no worker has an order. It stays so with each turn, and there is less to do after
+/// each: a loss that is due, a start, a report that is taken or thrown away.
+pub fn turns_leave_less<D, P, B>()
+    ensures opened { OpenedIsAtWork D P B }
+    ensures loss { LossTurns D P B }
+    ensures start { StartTurns D P B }
+    ensures report { ReportTurns D P B }
+    ensures missed { MissedTurns D P B }
+    ensures thrown { ThrownTurns D P B }
+{}
+
+/// An order that a worker has and whose number is out is that of an open Start; where no worker has an order, none is out.
+pub fn orders_are_kept<D, P, B>()
+    ensures out { HadIsOut D P B }
+    ensures taken { PromisedIsTaken D P B }
+    ensures none { NoneIsOut D P B }
+{}
+
+/// With the end of the root task the run ends, and the job means an answer.
+pub fn runs_end<D, P, B>()
+    ensures shown { ShownEnds D P B }
+{}
