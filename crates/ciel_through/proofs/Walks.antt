@@ -1,5 +1,5 @@
 -- What goes through waits is a walk of whatever task it is of.
-use Rattle.std.proofs.Common.{◌++◌, ℕ, List, map, Option, ap, ◌∙◌, append_assoc, sym}
+use Rattle.std.proofs.Common.{◌≡◌, ◌++◌, ℕ, List, map, Option, ap, ◌∙◌, append_assoc, sym, ◌⊎◌, inl, inr}
 use Rattle.std.proofs.lemmas.List.{map-append}
 use Rattle.sky_base.specs.Val as v
 use Rattle.sky_base.specs.Name.{digested}
@@ -22,13 +22,18 @@ module _ (digest : List ℕ → List ℕ) (sc : Script) (finds : v.Desc (List �
   stops job around t Step.Waits new h = h
   stops job around t (Step.Shown a) new h = tt
 
-  pub walked : (old new : Stand (List ℕ)) (s : Step) (before after : Spawned) → Through finds digest sc old new s before after → Walked digest sc finds old new s before after
+  pub walked : (old new : Stand (List ℕ)) (s : Step) (before after : Spawned) → (through : Through finds digest sc old new s before after) → Walked digest sc finds old new s before after through
   walked old new s before after (last os found r stop) =
-      record { made = r.made; grew = r.grew; walk = λ job around t is alike writes. walk.last old os r.made (stop_of s new) found (r.moves job around t is alike writes) (stops job around t s new stop) }
+      record { made = r.made; grew = r.grew; walk = λ job around t is alike writes. walk.last old os r.made (stop_of s new) found (r.moves job around t is alike writes) (stops job around t s new stop); passes = λ job around t is alike writes q p. p }
   walked old new s before after (more os found r rest) =
       let w = walked _ new s _ after rest in
       record {
         made = r.made ++ w.made;
         grew = w.grew ∙ ap (λ q. q ++ map (with_name digest) w.made) r.grew ∙ append_assoc before (map (with_name digest) r.made) (map (with_name digest) w.made) ∙ ap (λ q. before ++ q) (sym (map-append (with_name digest) r.made w.made));
         walk = λ job around t is alike writes. walk.more old _ os r.made w.made (stop_of s new) found (r.moves job around t is alike writes) (w.walk job around t is alike writes);
+        passes = λ job around t is alike writes q p. either p (λ h. w.passes job around t is alike writes q h);
       }
+    where
+      either : {A B C : Type 0} → A ⊎ B → (B → C) → A ⊎ C
+      either (inl a) f = inl a
+      either (inr b) f = inr (f b)

@@ -72,11 +72,15 @@ names_low : (job : Job s.Desc) (ds : List s.Desc) → low_names job ds ≡ map j
 names_low job [] = refl
 names_low job (d ∷ ds) = ap (λ xs. job.name d ∷ xs) (names_low job ds)
 
--- what it says alone
-module _ {D B : Type 0} (j : Job D) (i : Inner D) (low : D → B) (o : OpenStart D) (r : report.Report B) (Q : Type 0) where
-  pub only_says : SaysAnd j i low o r Q → Says j i low o r
-  only_says (to_end ds nx sp tl g) = at_end ds nx sp tl (λ k. (g k).0)
-  only_says (to_wait n rs ds nx sp tl g) = at_wait n rs ds nx sp tl (λ k. (g k).0)
+-- what it says alone, and with something else
+module _ {D B : Type 0} (j : Job D) (i : Inner D) (low : D → B) (o : OpenStart D) (r : report.Report B) where
+  pub only_says : (Q : Type 0) → SaysAnd j i low o r Q → Says j i low o r
+  only_says Q (to_end ds nx sp tl g) = at_end ds nx sp tl (λ k. (g k).0)
+  only_says Q (to_wait n rs ds nx sp tl g) = at_wait n rs ds nx sp tl (λ k. (g k).0)
+
+  pub says_more : (Q P : Type 0) → (Q → P) → SaysAnd j i low o r Q → SaysAnd j i low o r P
+  says_more Q P f (to_end ds nx sp tl g) = to_end ds nx sp tl (λ k. ((g k).0, f (g k).1))
+  says_more Q P f (to_wait n rs ds nx sp tl g) = to_wait n rs ds nx sp tl (λ k. ((g k).0, f (g k).1))
 
 none_twice : (same : s.Desc → s.Desc → Bool) → IsDistinct same []
 unfolding IsDistinct
@@ -477,14 +481,9 @@ module _ (tag : Tag) (mark : Object (List ℕ) → Digest) (frozen : Stand (List
   told_end (Stop.shown a) = tt
   told_end (Stop.waits q) = tt
 
-  -- more is said
-  says_more : (bs : List (v.Desc (List ℕ))) (e : End) (Q P : Type 0) → (Q → P) → says_and bs e Q → says_and bs e P
-  says_more bs e Q P f (to_end ds nx sp tl g) = to_end ds nx sp tl (λ k. ((g k).0, f (g k).1))
-  says_more bs e Q P f (to_wait i rs ds nx sp tl g) = to_wait i rs ds nx sp tl (λ k. ((g k).0, f (g k).1))
-
   walk_says : ((ds : List s.Desc) → WaitOf job around w o.from ds → Each Have' ds) → (r : Stand (List ℕ)) (j : ℕ) (xs : List s.Desc) (ms : List (v.Desc (List ℕ))) (e : Stop) → Right' r j xs → (walk : Walk tag job around w finds r ms e) → says_and (map L xs ++ ms) (end_of tag mark frozen job around o.task e) (Came e × Passed r ms e walk)
   walk_says first r j xs ms e g (last t os ns x found st stop) =
-      says_more (map L xs ++ ns) (end_of tag mark frozen job around o.task x) (Came x) (Came x × Passed t ns x (last t os ns x found st stop)) (λ c. (c, λ q p. subst (WaitsAt tag mark frozen job around o) (sym p) (waits_at t j xs g))) (last_says t j xs os ns x g found st stop)
+      says_more J inner L o _ (Came x) (Came x × Passed t ns x (last t os ns x found st stop)) (λ c. (c, λ q p. subst (WaitsAt tag mark frozen job around o) (sym p) (waits_at t j xs g))) (last_says t j xs os ns x g found st stop)
   walk_says first r j xs ms e g (more t q os ns rest x found st walk) =
       let f = further tag mark frozen job around plain o finds r0 b t j xs os ns q g found st in
       let next = first_of q rest x walk in
@@ -505,7 +504,7 @@ module _ (tag : Tag) (mark : Object (List ℕ) → Digest) (frozen : Stand (List
           all y (inr h) = p y h
 
       on : (f : Further tag mark frozen job around plain o finds r0 b t j xs q ns) → Right' q (suc j) (xs ++ f.seg) ⊎ Clashes tag mark frozen job around plain o finds r0 b (xs ++ f.seg) → (Right' q (suc j) (xs ++ f.seg) → says_and (map L (xs ++ f.seg) ++ rest) (end_of tag mark frozen job around o.task x) (Came x × Passed q rest x walk)) → says_and (map L xs ++ (ns ++ rest)) (end_of tag mark frozen job around o.task x) Whole
-      on f (inl h) go = subst (λ bs. says_and bs (end_of tag mark frozen job around o.task x) Whole) (sym (joined f)) (says_more (map L (xs ++ f.seg) ++ rest) (end_of tag mark frozen job around o.task x) (Came x × Passed q rest x walk) Whole both (go h))
+      on f (inl h) go = subst (λ bs. says_and bs (end_of tag mark frozen job around o.task x) Whole) (sym (joined f)) (says_more J inner L o _ (Came x × Passed q rest x walk) Whole both (go h))
       on f (inr c) go =
           subst (λ bs. says_and bs (end_of tag mark frozen job around o.task x) Whole) (sym (joined f)) (says_astray first (suc j) (xs ++ f.seg) rest (end_of tag mark frozen job around o.task x) (omega (arith, g.from)) f.makes (λ i ds up under wt. g.passes i ds (omega (arith, up)) (omega (arith, under)) wt) c (told_end x) Whole)
 
