@@ -3,7 +3,11 @@ use Rattle.std.specs.Prelude.{◌≡◌, ℕ, List, [], Option}
 use Rattle.sky_base.specs.Res.{Object}
 use Rattle.sky_base.specs.Tree.{Script}
 use Rattle.sky_base.specs.Val.{Desc, known, same_text}
-use Rattle.sky_law.specs.Tasks.{In}
+use Rattle.sky_base.specs.declared.object.Named.{Named}
+use Rattle.sky_law.specs.Tasks.{Each, In}
+use Rattle.sky_law.specs.Typed.{TypedDesc}
+use Rattle.ciel_board.specs.Reports.{named_view}
+use Rattle.ciel_spelled.specs.Typed.{DescOverNames}
 use Rattle.sky_onward.specs.Exactly.{FitsAfter}
 use Rattle.sky_onward.specs.Knows.{KnowsNames}
 use Rattle.sky_onward.specs.Onward.{GrewSoundly}
@@ -12,7 +16,7 @@ use Rattle.sky_onward.specs.declared.step.Step.{Step}
 use Rattle.sky_state.specs.Pending.{pending_in}
 use Rattle.sky_state.specs.Stand.{Stand}
 use Rattle.sky_state.specs.StandView.{spawned_view}
-use Rattle.sky_through.specs.Found.{CameFrom, GrewWhole, SameKind}
+use Rattle.sky_through.specs.Found.{CameFrom, Further, GrewWhole, SameKind}
 use Rattle.sky_through.specs.Through.{PassedAt, Through}
 use Rattle.ciel_board.specs.Sound.{own_name}
 use Rattle.ciel_store.specs.Seen.{SeatSeen, ShelvesSeen}
@@ -52,6 +56,8 @@ module _ (digest : List ℕ → List ℕ) (shelves : ShelvesSeen) (sc : Script) 
     pub sound : GrewSoundly digest sc [] (spawned_in r)
     pub whole : GrewWhole digest [] (spawned_in r)
     pub known : KnowsNames digest (CameFrom brings s) step new [] (spawned_in r)
+    pub further : Further s step new
+    pub typed : Each (λ (n : Named). TypedDesc (named_view n) × DescOverNames (named_view n)) r.spawned.items
     pub end : EndIs shelves order.worker order.task step new r.end
     -- what was copied is what it waited for
     pub copies : Copies shelves order.worker inputs order.inputs.items r.copied.items

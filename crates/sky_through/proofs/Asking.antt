@@ -24,31 +24,54 @@ asks_more before mid after ds n i f g m h = go (g m h)
     go (inr (inr k)) = absurd k
 
 module _ (finds : Desc (List ℕ) → Option (Object (List ℕ))) (digest : List ℕ → List ℕ) (sc : Script) where
-  -- asked in the last turn
-  pub asks_last : (asked after_asked : List ℕ → Type 0) (old new : Stand (List ℕ)) (s : Step) (before after : Spawned) (os : List (Object (List ℕ)))
-      → AreFound finds old os → Resumed digest sc old new os s before after → StopsAt finds s new → AsksFor asked after_asked (pending_in same_text old)
-      → GoesAsking finds digest sc asked after_asked old new s before after
-  asks_last asked after_asked old new s before after os found r stop asks =
-      record { through = last os found r stop; asks = λ n h. go n (asks n h) }
+  -- what went through waits up to here goes on as whatever goes through from here, and for nothing more was asked than what is waited for
+  -- at states from which it went on
+  pub record Before (asked now_asked : List ℕ → Type 0) (old mid : Stand (List ℕ)) (before between : Spawned) : Type 0 where
+    pub goes : (new : Stand (List ℕ)) (s : Step) (after : Spawned) → Through finds digest sc mid new s between after → Through finds digest sc old new s before after
+    pub passes : (new : Stand (List ℕ)) (s : Step) (after : Spawned) (th : Through finds digest sc mid new s between after) (q : Stand (List ℕ))
+        → PassedAt finds digest sc mid new s between after th q → PassedAt finds digest sc old new s before after (goes new s after th) q
+    pub asks : (n : List ℕ) → now_asked n
+        → asked n ⊎ ((q : Stand (List ℕ)) × In (known n) (pending_in same_text q) × ((new : Stand (List ℕ)) (s : Step) (after : Spawned) (th : Through finds digest sc mid new s between after) → PassedAt finds digest sc old new s before after (goes new s after th) q))
+
+  pub before_none : (asked : List ℕ → Type 0) (old : Stand (List ℕ)) (before : Spawned) → Before asked asked old old before before
+  before_none asked old before = record { goes = λ new s after th. th; passes = λ new s after th q p. p; asks = λ n h. inl h }
+
+  -- one turn more
+  pub before_more : (asked mid_asked now_asked : List ℕ → Type 0) (old mid now : Stand (List ℕ)) (before between later : Spawned) (os : List (Object (List ℕ)))
+      → AreFound finds mid os → Resumed digest sc mid now os Step.Waits between later → AsksFor mid_asked now_asked (pending_in same_text mid)
+      → Before asked mid_asked old mid before between → Before asked now_asked old now before later
+  before_more asked mid_asked now_asked old mid now before between later os found r asks b =
+      record {
+        goes = λ new s after th. b.goes new s after (more os found r th);
+        passes = λ new s after th q p. b.passes new s after (more os found r th) q (inr p);
+        asks = λ n h. turn n (asks n h);
+      }
     where
-      go : (n : List ℕ) → asked n ⊎ In (known n) (pending_in same_text old) → asked n ⊎ ((q : Stand (List ℕ)) × (q ≡ old) × In (known n) (pending_in same_text q))
-      go n (inl h) = inl h
-      go n (inr i) = inr (old, refl, i)
+      Told : List ℕ → Type 0
+      Told n = asked n ⊎ ((q : Stand (List ℕ)) × In (known n) (pending_in same_text q) × ((new : Stand (List ℕ)) (s : Step) (after : Spawned) (th : Through finds digest sc now new s later after) → PassedAt finds digest sc old new s before after (b.goes new s after (more os found r th)) q))
 
-  -- asked in a turn, and in those after it
-  pub asks_on : (asked mid_asked after_asked : List ℕ → Type 0) (old mid new : Stand (List ℕ)) (s : Step) (before between after : Spawned) (os : List (Object (List ℕ)))
-      → AreFound finds old os → Resumed digest sc old mid os Step.Waits before between → AsksFor asked mid_asked (pending_in same_text old)
-      → GoesAsking finds digest sc mid_asked after_asked mid new s between after → GoesAsking finds digest sc asked after_asked old new s before after
-  asks_on asked mid_asked after_asked old mid new s before between after os found r asks g =
-      record { through = more os found r g.through; asks = λ n h. go n (g.asks n h) }
+      earlier : (n : List ℕ) → asked n ⊎ ((q : Stand (List ℕ)) × In (known n) (pending_in same_text q) × ((new : Stand (List ℕ)) (s : Step) (after : Spawned) (th : Through finds digest sc mid new s between after) → PassedAt finds digest sc old new s before after (b.goes new s after th) q)) → Told n
+      earlier n (inl h) = inl h
+      earlier n (inr (q, i, f)) = inr (q, i, λ new s after th. f new s after (more os found r th))
+
+      turn : (n : List ℕ) → mid_asked n ⊎ In (known n) (pending_in same_text mid) → Told n
+      turn n (inl h) = earlier n (b.asks n h)
+      turn n (inr i) = inr (mid, i, λ new s after th. b.passes new s after (more os found r th) mid (inl refl))
+
+  -- the last turn
+  pub before_last : (asked mid_asked now_asked : List ℕ → Type 0) (old mid new : Stand (List ℕ)) (s : Step) (before between after : Spawned) (os : List (Object (List ℕ)))
+      → AreFound finds mid os → Resumed digest sc mid new os s between after → StopsAt finds s new → AsksFor mid_asked now_asked (pending_in same_text mid)
+      → Before asked mid_asked old mid before between → GoesAsking finds digest sc asked now_asked old new s before after
+  before_last asked mid_asked now_asked old mid new s before between after os found r stop asks b =
+      record { through = b.goes new s after (last os found r stop); asks = λ n h. turn n (asks n h) }
     where
-      Passed : Stand (List ℕ) → Type 0
-      Passed q = (q ≡ old) ⊎ PassedAt finds digest sc mid new s between after g.through q
+      Told : List ℕ → Type 0
+      Told n = asked n ⊎ ((q : Stand (List ℕ)) × PassedAt finds digest sc old new s before after (b.goes new s after (last os found r stop)) q × In (known n) (pending_in same_text q))
 
-      first : (n : List ℕ) → asked n ⊎ In (known n) (pending_in same_text old) → asked n ⊎ ((q : Stand (List ℕ)) × Passed q × In (known n) (pending_in same_text q))
-      first n (inl h) = inl h
-      first n (inr i) = inr (old, inl refl, i)
+      earlier : (n : List ℕ) → asked n ⊎ ((q : Stand (List ℕ)) × In (known n) (pending_in same_text q) × ((new : Stand (List ℕ)) (s : Step) (after : Spawned) (th : Through finds digest sc mid new s between after) → PassedAt finds digest sc old new s before after (b.goes new s after th) q)) → Told n
+      earlier n (inl h) = inl h
+      earlier n (inr (q, i, f)) = inr (q, f new s after (last os found r stop), i)
 
-      go : (n : List ℕ) → mid_asked n ⊎ ((q : Stand (List ℕ)) × PassedAt finds digest sc mid new s between after g.through q × In (known n) (pending_in same_text q)) → asked n ⊎ ((q : Stand (List ℕ)) × Passed q × In (known n) (pending_in same_text q))
-      go n (inl h) = first n (asks n h)
-      go n (inr (q, p, i)) = inr (q, inr p, i)
+      turn : (n : List ℕ) → mid_asked n ⊎ In (known n) (pending_in same_text mid) → Told n
+      turn n (inl h) = earlier n (b.asks n h)
+      turn n (inr i) = inr (mid, b.passes new s after (last os found r stop) mid refl, i)

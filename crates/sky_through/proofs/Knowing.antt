@@ -24,7 +24,7 @@ each_to P Q [] g h = tt
 each_to P Q (x ∷ xs) g h = (g x h.0, each_to P Q xs g h.1)
 
 -- a member of two lists is one of the first or one of the second
-in_parts : {B : Type 0} (ys zs : List B) (y : B) → In y (ys ++ zs) → In y ys ⊎ In y zs
+pub in_parts : {B : Type 0} (ys zs : List B) (y : B) → In y (ys ++ zs) → In y ys ⊎ In y zs
 in_parts [] zs y i = inr i
 in_parts (x ∷ ys) zs y (inl e) = inl (inl e)
 in_parts (x ∷ ys) zs y (inr i) = more (in_parts ys zs y i)

@@ -1,5 +1,5 @@
 -- Turns, one after the other.
-use Rattle.std.proofs.Common.{◌≡◌, ◌<◌, ◌+◌, ◌++◌, ℕ, suc, List, [], ◌∷◌, map, Bool, true, false, Option, Some, None, is_some, IsSome, refl, sym, ap, ◌∙◌, subst, arith, append_assoc, append-nil, Result, Ok, Err, IfOk, inl, inr}
+use Rattle.std.proofs.Common.{◌≡◌, ◌<◌, ◌≤◌, ◌+◌, ◌++◌, ℕ, suc, List, [], ◌∷◌, map, Bool, true, false, Option, Some, None, is_some, IsSome, refl, sym, ap, ◌∙◌, subst, arith, append_assoc, append-nil, Result, Ok, Err, IfOk, inl, inr}
 use Rattle.std.proofs.lemmas.List.{map-append}
 use Rattle.sky_base.specs.Names.{known_of}
 use Rattle.sky_base.specs.Val.{Desc, known}
@@ -14,12 +14,12 @@ use Rattle.sky_law.proofs.TaskOutputs.{in_each}
 use Rattle.sky_state.specs.Fits.{Fits}
 use Rattle.sky_state.specs.Stand.{Stand}
 use Rattle.sky_resume.specs.Comes.{with_name}
-use Rattle.sky_onward.specs.Exactly.{Exactly, gone_of}
+use Rattle.sky_onward.specs.Exactly.{Exactly, OneFurther, gone_of}
 use Rattle.sky_onward.specs.Onward.{AnswersSound, GrewSoundly}
 use Rattle.sky_onward.specs.Steps.{Spawned}
 use Rattle.sky_onward.specs.declared.step.Step.{Step}
 use Rattle.sky_onward.proofs.Rests.{has_rest}
-use Rattle.sky_through.specs.Found.{AllFound, FoundIf, FindsSound, SameKind, still_to_come}
+use Rattle.sky_through.specs.Found.{AllFound, FoundIf, FindsSound, Further, SameKind, still_to_come}
 
 -- ---- what is found
 
@@ -81,6 +81,17 @@ gone_few sc (Stand.show_at v w) h = omega (arith, h.wave)
 
 pub falls : (sc : Script) (old new : Stand (List ℕ)) → Fits sc old → gone_of new ≡ suc (gone_of old) → still_to_come new < still_to_come old
 falls sc old new h e = omega (arith, gone_few sc old h, e)
+
+-- one who comes further from further on has come further
+pub further_both : (old mid new : Stand (List ℕ)) (s : Step) → gone_of old ≤ gone_of mid → Further mid s new → Further old s new
+further_both old mid new (Step.Ended o) h f = tt
+further_both old mid new Step.Waits h f = omega (arith, h, f)
+further_both old mid new (Step.Shown a) h f = tt
+
+pub further_one : (old new : Stand (List ℕ)) (s : Step) → OneFurther old new s → Further old s new
+further_one old new (Step.Ended o) h = tt
+further_one old new Step.Waits h = omega (arith, h)
+further_one old new (Step.Shown a) h = tt
 
 pub ok_map : {X E : Type 0} {P Q : X → Type 0} (r : Result X E) → ((x : X) → P x → Q x) → IfOk r P → IfOk r Q
 ok_map (Ok x) g h = g x h

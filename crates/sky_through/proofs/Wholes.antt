@@ -52,23 +52,23 @@ outputs_are x y a b n m i j zero h = absurd h
 outputs_are x y a b n m i j (suc c) (inl e) = out_name x y a b n m i j e
 outputs_are x y a b n m i j (suc c) (inr h) = outputs_are x y a b n m i (suc j) c h
 
+below_or : (j k : ℕ) → j ≤ k → (k ≡ j) ⊎ (suc j ≤ k)
+below_or zero zero l = inl refl
+below_or zero (suc k) l = inr (omega arith)
+below_or (suc j) zero l = absurd (omega (arith, l))
+below_or (suc j) (suc k) l = up (below_or j k (omega (arith, l)))
+  where
+    up : (k ≡ j) ⊎ (suc j ≤ k) → (suc k ≡ suc j) ⊎ (suc (suc j) ≤ suc k)
+    up (inl e) = inl (ap suc e)
+    up (inr h) = inr (omega (arith, h))
+
 outputs_have : (y : List ℕ) (b : Val (List ℕ)) (m j c k : ℕ) → j ≤ k → k < j + c → In (out y b m k) (outputs y b m j c)
 outputs_have y b m j zero k l h = absurd (omega (arith, l, h))
-outputs_have y b m j (suc c) k l h = go (below_or j k l)
+outputs_have y b m j (suc c) k l h = go (below_or j k l) (λ q. outputs_have y b m (suc j) c k q (omega (arith, h)))
   where
-    below_or : (j k : ℕ) → j ≤ k → (k ≡ j) ⊎ (suc j ≤ k)
-    below_or zero zero l = inl refl
-    below_or zero (suc k) l = inr (omega arith)
-    below_or (suc j) zero l = absurd (omega (arith, l))
-    below_or (suc j) (suc k) l = up (below_or j k (omega (arith, l)))
-      where
-        up : (k ≡ j) ⊎ (suc j ≤ k) → (suc k ≡ suc j) ⊎ (suc (suc j) ≤ suc k)
-        up (inl e) = inl (ap suc e)
-        up (inr h) = inr (omega (arith, h))
-
-    go : (k ≡ j) ⊎ (suc j ≤ k) → In (out y b m k) (outputs y b m j (suc c))
-    go (inl e) = inl (ap (out y b m) e)
-    go (inr q) = inr (outputs_have y b m (suc j) c k q (omega (arith, h)))
+    go : (k ≡ j) ⊎ (suc j ≤ k) → (suc j ≤ k → In (out y b m k) (outputs y b m (suc j) c)) → In (out y b m k) (outputs y b m j (suc c))
+    go (inl e) later = inl (ap (out y b m) e)
+    go (inr q) later = inr (later q)
 
 not_lone : (d : Desc (List ℕ)) (x : List ℕ) (a : Val (List ℕ)) (n i : ℕ) → Lone d → out x a n i ≡ d → ⊥
 not_lone (call f c vs) x a n i h e = absurd cc

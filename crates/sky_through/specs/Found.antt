@@ -57,6 +57,11 @@ SameKind (Stand.show_at v w) (Step.Shown s) new = Unit {0}
 SameKind (Stand.show_at v w) Step.Waits (Stand.show_at u i) = Unit {0}
 SameKind _ _ _ = ⊥
 
+-- where it waits it has come further
+abbrev pub Further : (old : Stand (List ℕ)) → Step → (new : Stand (List ℕ)) → Type 0
+Further old Step.Waits new = gone_of old < gone_of new
+Further old _ new = Unit {0}
+
 -- the step of a turn; without one it went on from a wait
 abbrev pub step_or : Option Step → Step
 step_or None = Step.Waits

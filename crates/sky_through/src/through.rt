@@ -11,7 +11,7 @@ ghost use Rattle.sky_onward.specs.Exactly.{FitsAfter, gone_of};
 ghost use Rattle.sky_onward.specs.Knows.{KnowsNames};
 ghost use Rattle.sky_onward.specs.Onward.{IsRead, GrewSoundly};
 ghost use Rattle.sky_through.specs.Asked.{AsksFor};
-ghost use Rattle.sky_through.specs.Found.{AllFound, CameFrom, FoundIf, GrewWhole, HasAll, FindsSound, SameKind, Turns, step_or};
+ghost use Rattle.sky_through.specs.Found.{AllFound, CameFrom, FoundIf, FindsSound, Further, GrewWhole, HasAll, SameKind, Turns, step_or};
 ghost use Rattle.sky_through.specs.Through.{GoesAsking};
 ghost use Rattle.sky_through.specs.Went.{GoesThrough};
 
@@ -48,6 +48,7 @@ pub fn run_through<'a, 'b, F: Finds, N: Namer>(
     ensures goes { IfOk result (λ r. IfOk r (λ s. GoesThrough (N.digest namer.now) script.now.code (F.finds finder.old) (stand_of state.old) (stand_of state.new) s (spawned_of state.old) (spawned_of state.new))) }
     ensures fits { IfOk result (λ r. IfOk r (λ s. FitsAfter script.now.code (stand_of state.new) s)) }
     ensures kind { IfOk result (λ r. IfOk r (λ s. SameKind (stand_of state.old) s (stand_of state.new))) }
+    ensures further { IfOk result (λ r. IfOk r (λ s. Further (stand_of state.old) s (stand_of state.new))) }
     ensures made { IfOk result (λ r. IfOk r (λ s. GrewSoundly (N.digest namer.now) script.now.code (spawned_of state.old) (spawned_of state.new))) }
     ensures whole { IfOk result (λ r. IfOk r (λ s. GrewWhole (N.digest namer.now) (spawned_of state.old) (spawned_of state.new))) }
     ensures known { IfOk result (λ r. IfOk r (λ s. KnowsNames (N.digest namer.now) (CameFrom (F.finds finder.old) (stand_of state.old)) s (stand_of state.new) (spawned_of state.old) (spawned_of state.new))) }
@@ -77,6 +78,7 @@ fn loop_through<'a, 'b, F: Finds, N: Namer>(
     ensures through { IfOk result (λ r. IfOk r (λ s. GoesAsking (F.finds finder.old) (N.digest namer.now) script.now.code (F.asked finder.old) (F.asked finder.new) (stand_of state.old) (stand_of state.new) s (spawned_of state.old) (spawned_of state.new))) }
     ensures fits { IfOk result (λ r. IfOk r (λ s. FitsAfter script.now.code (stand_of state.new) s)) }
     ensures kind { IfOk result (λ r. IfOk r (λ s. SameKind (stand_of state.old) s (stand_of state.new))) }
+    ensures further { IfOk result (λ r. IfOk r (λ s. Further (stand_of state.old) s (stand_of state.new))) }
     ensures made { IfOk result (λ r. IfOk r (λ s. GrewSoundly (N.digest namer.now) script.now.code (spawned_of state.old) (spawned_of state.new))) }
     ensures whole { IfOk result (λ r. IfOk r (λ s. GrewWhole (N.digest namer.now) (spawned_of state.old) (spawned_of state.new))) }
     ensures known { IfOk result (λ r. IfOk r (λ s. KnowsNames (N.digest namer.now) (CameFrom (F.finds finder.old) (stand_of state.old)) s (stand_of state.new) (spawned_of state.old) (spawned_of state.new))) }
@@ -111,6 +113,7 @@ fn turn<'a, 'b, F: Finds, N: Namer>(
     ensures turns { IfOk result (λ r. IfOk r (λ o. Turns (F.finds finder.old) (N.digest namer.now) script.now.code o (stand_of state.old) (stand_of state.new) (spawned_of state.old) (spawned_of state.new))) }
     ensures fits { IfOk result (λ r. IfOk r (λ o. MatchOption o (Fits script.now.code (stand_of state.new)) (FitsAfter script.now.code (stand_of state.new)))) }
     ensures kind { IfOk result (λ r. IfOk r (λ o. SameKind (stand_of state.old) (step_or o) (stand_of state.new))) }
+    ensures further { IfOk result (λ r. IfOk r (λ o. Further (stand_of state.old) (step_or o) (stand_of state.new))) }
     ensures falls { IfOk result (λ r. IfOk r (λ o. MatchOption o (gone_of (stand_of state.new) ≡ suc (gone_of (stand_of state.old))) (λ s. Unit {0}))) }
     ensures asked { IfOk result (λ r. IfOk r (λ o. AsksFor (F.asked finder.old) (F.asked finder.new) (pending_in same_text (stand_of state.old)))) }
     ensures whole { IfOk result (λ r. IfOk r (λ o. GrewWhole (N.digest namer.now) (spawned_of state.old) (spawned_of state.new))) }

@@ -1,10 +1,10 @@
-use Rattle.std.proofs.Common.{Some, None, refl, ◌∙◌, subst}
+use Rattle.std.proofs.Common.{Some, None, refl, ◌∙◌, subst, arith}
 use Rattle.sky_state.specs.StateView.{stand_of, spawned_of}
 use Rattle.sky_onward.specs.declared.step.Step.{Step}
 use Rattle.sky_through.specs.Found.{Turns}
-use Rattle.sky_through.proofs.Asking.{asks_last, asks_on}
+use Rattle.sky_through.proofs.Asking.{before_last, before_more, before_none}
 use Rattle.sky_through.proofs.Knowing.{known_both, known_self}
-use Rattle.sky_through.proofs.Turns.{grew_none, grew_both, kind_self, kind_both}
+use Rattle.sky_through.proofs.Turns.{further_both, grew_none, grew_both, kind_self, kind_both}
 use Rattle.sky_through.proofs.Wholes.{grew_whole_none, grew_whole_both}
 use Rattle.sky_through.proofs.through.loop_through.Goals as goal
 
@@ -20,7 +20,8 @@ turns-init g c =
       ready = c.requires.finder;
       kind = kind_self (stand_of s);
       stays = refl;
-      through = λ asked new t after th. th;
+      through = before_none finds digest c.args.script.now.code (g.F.Finds.asked c.args.finder.now) (stand_of s) (spawned_of s);
+      further = omega arith;
       whole = grew_whole_none digest (spawned_of s);
       known = known_self finds digest (stand_of s) (spawned_of s);
       made = grew_none digest c.args.script.now.code (spawned_of s);
@@ -45,7 +46,8 @@ turns-preserved g c =
       stays = c.in_ok-turn.ensures.stays ∙ l.invariant.stays;
       whole = grew_whole_both digest (spawned_of c.args.state.now) (spawned_of l.state) (spawned_of c.turn.new.state) l.invariant.whole (rw c.in-Ok-None.is at c.in_ok-turn.ensures.whole);
       kind = kind_both (stand_of c.args.state.now) (stand_of l.state) (stand_of c.turn.new.state) Step.Waits l.invariant.kind kind;
-      through = λ asked new s after th. l.invariant.through asked new s after (asks_on finds digest sc (g.F.Finds.asked l.finder) (g.F.Finds.asked c.turn.new.finder) asked (stand_of l.state) (stand_of c.turn.new.state) new s (spawned_of l.state) (spawned_of c.turn.new.state) after turned.0 turned.1 turned.2 (rw c.in-Ok-None.is at c.in_ok-turn.ensures.asked) th);
+      through = before_more finds digest sc (g.F.Finds.asked c.args.finder.now) (g.F.Finds.asked l.finder) (g.F.Finds.asked c.turn.new.finder) (stand_of c.args.state.now) (stand_of l.state) (stand_of c.turn.new.state) (spawned_of c.args.state.now) (spawned_of l.state) (spawned_of c.turn.new.state) turned.0 turned.1 turned.2 (rw c.in-Ok-None.is at c.in_ok-turn.ensures.asked) l.invariant.through;
+      further = let falls = rw c.in-Ok-None.field-0-is at (rw c.in-Ok-None.is at c.in_ok-turn.ensures.falls) in let so = l.invariant.further in omega (arith, falls, so);
       known = known_both finds digest (stand_of c.args.state.now) (stand_of l.state) (stand_of c.turn.new.state) Step.Waits (spawned_of c.args.state.now) (spawned_of l.state) (spawned_of c.turn.new.state) turned.0 turned.1 l.invariant.known turned.4;
       made = grew_both digest sc (spawned_of c.args.state.now) (spawned_of l.state) (spawned_of c.turn.new.state) l.invariant.made made;
     }
@@ -59,7 +61,7 @@ returns-in-Ok-Some-clause-through g c =
     let step = c.in-Ok-Some.step in
     let went = rw c.in-Ok-Some.field-0-is at (rw c.in-Ok-Some.is at c.in_ok-turn.ensures.turns) in
     let turned = subst (λ f. Turns f digest sc (Some step) (stand_of l.state) (stand_of c.turn.new.state) (spawned_of l.state) (spawned_of c.turn.new.state)) l.invariant.finder went in
-    l.invariant.through (g.F.Finds.asked c.turn.new.finder) (stand_of c.turn.new.state) step (spawned_of c.turn.new.state) (asks_last finds digest sc (g.F.Finds.asked l.finder) (g.F.Finds.asked c.turn.new.finder) (stand_of l.state) (stand_of c.turn.new.state) step (spawned_of l.state) (spawned_of c.turn.new.state) turned.0 turned.1 turned.2 turned.3 (rw c.in-Ok-Some.is at c.in_ok-turn.ensures.asked))
+    before_last finds digest sc (g.F.Finds.asked c.args.finder.now) (g.F.Finds.asked l.finder) (g.F.Finds.asked c.turn.new.finder) (stand_of c.args.state.now) (stand_of l.state) (stand_of c.turn.new.state) step (spawned_of c.args.state.now) (spawned_of l.state) (spawned_of c.turn.new.state) turned.0 turned.1 turned.2 turned.3 (rw c.in-Ok-Some.is at c.in_ok-turn.ensures.asked) l.invariant.through
 
 pub returns-in-Ok-Some-clause-made : goal.returns-in-Ok-Some-clause-made
 returns-in-Ok-Some-clause-made g c =
@@ -86,3 +88,8 @@ pub returns-in-Ok-Some-clause-whole : goal.returns-in-Ok-Some-clause-whole
 returns-in-Ok-Some-clause-whole g c =
     let whole = rw c.in-Ok-Some.is at c.in_ok-turn.ensures.whole in
     grew_whole_both (g.N.Namer.digest c.args.namer.now) (spawned_of c.args.state.now) (spawned_of c.turns.state) (spawned_of c.turn.new.state) c.turns.invariant.whole whole
+
+pub returns-in-Ok-Some-clause-further : goal.returns-in-Ok-Some-clause-further
+returns-in-Ok-Some-clause-further g c =
+    let further = rw c.in-Ok-Some.field-0-is at (rw c.in-Ok-Some.is at c.in_ok-turn.ensures.further) in
+    further_both (stand_of c.args.state.now) (stand_of c.turns.state) (stand_of c.turn.new.state) c.in-Ok-Some.step c.turns.invariant.further further

@@ -1,13 +1,12 @@
-use Rattle.std.proofs.Common.{◌≡◌, ℕ, List}
+use Rattle.std.proofs.Common.{◌≡◌, ◌≤◌}
 use Rattle.sky_state.specs.Fits.{Fits}
-use Rattle.sky_state.specs.Stand.{Stand}
 use Rattle.sky_state.specs.StateView.{stand_of, spawned_of}
+use Rattle.sky_onward.specs.Exactly.{gone_of}
 use Rattle.sky_onward.specs.Knows.{KnowsNames}
 use Rattle.sky_onward.specs.Onward.{GrewSoundly}
-use Rattle.sky_onward.specs.Steps.{Spawned}
 use Rattle.sky_onward.specs.declared.step.Step.{Step}
 use Rattle.sky_through.specs.Found.{CameFrom, GrewWhole, HasAll, SameKind, still_to_come}
-use Rattle.sky_through.specs.Through.{GoesAsking}
+use Rattle.sky_through.proofs.Asking.{Before}
 use Rattle.sky_through.proofs.through.loop_through.Given as goal
 
 abbrev pub invariant-turns : goal.invariant-turns
@@ -18,7 +17,8 @@ invariant-turns g l = record {
   ready : g.F.Finds.ready l.finder;
   kind : SameKind (stand_of l.fn.state) Step.Waits (stand_of l.state);
   stays : g.F.Finds.stays l.finder ≡ g.F.Finds.stays l.fn.finder;
-  through : (asked : List ℕ → Type 0) (new : Stand (List ℕ)) (s : Step) (after : Spawned) → GoesAsking (g.F.Finds.finds l.fn.finder) (g.N.Namer.digest l.namer) l.script.code (g.F.Finds.asked l.finder) asked (stand_of l.state) new s (spawned_of l.state) after → GoesAsking (g.F.Finds.finds l.fn.finder) (g.N.Namer.digest l.namer) l.script.code (g.F.Finds.asked l.fn.finder) asked (stand_of l.fn.state) new s (spawned_of l.fn.state) after;
+  through : Before (g.F.Finds.finds l.fn.finder) (g.N.Namer.digest l.namer) l.script.code (g.F.Finds.asked l.fn.finder) (g.F.Finds.asked l.finder) (stand_of l.fn.state) (stand_of l.state) (spawned_of l.fn.state) (spawned_of l.state);
+  further : gone_of (stand_of l.fn.state) ≤ gone_of (stand_of l.state);
   whole : GrewWhole (g.N.Namer.digest l.namer) (spawned_of l.fn.state) (spawned_of l.state);
   known : KnowsNames (g.N.Namer.digest l.namer) (CameFrom (g.F.Finds.finds l.fn.finder) (stand_of l.fn.state)) Step.Waits (stand_of l.state) (spawned_of l.fn.state) (spawned_of l.state);
   made : GrewSoundly (g.N.Namer.digest l.namer) l.script.code (spawned_of l.fn.state) (spawned_of l.state);
