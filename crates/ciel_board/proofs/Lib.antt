@@ -1,7 +1,7 @@
 pub mod Pairs
 pub mod Looking
-mod Holding
-mod Bringing
+pub mod Holding
+pub mod Bringing
 pub mod Starting
 pub mod Following
 pub mod Learning

@@ -1,8 +1,8 @@
 //! The master itself.
 
-ghost use Rattle.std.specs.Prelude.{◌≡◌, ◌<◌, ◌^◌, [], IfErr, IfNone, IfOk, IfSome, OnErr, OnOk, Some, false, is_some, length, map, nat_lt, true, ◌&&◌};
+ghost use Rattle.std.specs.Prelude.{◌≡◌, ◌<◌, ◌^◌, ℕ, [], IfErr, IfNone, IfOk, IfSome, OnErr, OnOk, Some, false, is_some, length, map, nat_eq, nat_lt, true, ◌&&◌};
 ghost use Rattle.std.specs.Arc.{arc_value};
-ghost use Rattle.std.specs.List.{IsDistinct};
+ghost use Rattle.std.specs.List.{IsDistinct, list_any};
 ghost use Rattle.sky_base.specs.Val.{no_pairs, no_vals, same_text};
 ghost use Rattle.sky_base.specs.declared.object.Desc1.{Desc1};
 ghost use Rattle.sky_base.specs.declared.object.TaskId.{TaskId};
@@ -13,7 +13,7 @@ ghost use Rattle.ciel_board.specs.Reports.{IsNamed};
 ghost use Rattle.ciel_board.specs.Sound.{Fits};
 ghost use Rattle.ciel_journal.specs.Graph.{Circle, Picks, Runnable};
 ghost use Rattle.ciel_journal.specs.Job.{In};
-ghost use Rattle.ciel_journal.specs.Turns.{is_idle};
+ghost use Rattle.ciel_journal.specs.Turns.{FirstDue, NothingDue, is_idle};
 ghost use Rattle.ciel_table.specs.Learning.{learned};
 ghost use Rattle.ciel_task.specs.Views.{P, order_view, report_end};
 ghost use Rattle.ciel_want.specs.Waited.{tasks_in_order};
@@ -25,10 +25,11 @@ ghost use Rattle.ciel_master.specs.Views.{entry_view, worker_of};
 use crate::bring::order_at;
 use crate::entry::Entry;
 use crate::learning::learn_for;
-use crate::orders::{OrderOut, can_work, close, close_at, find, tasks};
+use crate::orders::{OrderOut, all_among, can_work, close, close_at, find, tasks, workers};
 use crate::plan::RunPlan;
 use crate::stop::{Now, Stop};
 use crate::taking::{begin, is_last, note_loss, take_end};
+use ciel_journal::turn::{first_due, idle};
 use ciel_name::name::Namer;
 use ciel_store::shelves::Place;
 use ciel_table::table::Table;
@@ -223,6 +224,59 @@ impl<K: Drop, N: Namer + Drop> Master<K, N> {
         self.closes += 1;
         self.stopped = last;
         Ok(now)
+    }
+
+    /// The number of the loss that comes next, of those whose count of closed Starts is reached and whose worker isn't lost: the one
+    /// with the least count, and of equal ones the first. It takes no memory.
+    pub fn due(&self) -> Option<u32>
+        requires going { self.now.board.stopped ≡ false }
+        ensures first { IfSome result (λ loss. (worker : ℕ) × FirstDue self.now.board.plan.losses self.now.board.closes self.now.board.table.gone loss worker) }
+        ensures none { IfNone result (NothingDue self.now.board.plan.losses self.now.board.closes self.now.board.table.gone) }
+    {
+        match first_due(
+            self.plan.losses.as_slice(),
+            self.closes,
+            self.lost.as_slice(),
+        ) {
+            Some(loss) => Some(loss as u32),
+            None => None,
+        }
+    }
+
+    /// Whether each worker of the plan is lost. It takes no memory.
+    pub fn all_lost(&self) -> bool
+        requires going { self.now.board.stopped ≡ false }
+        ensures all { result ≡ true → (worker : ℕ) → worker < self.now.board.plan.workers → list_any (nat_eq worker) self.now.board.table.gone ≡ true }
+        ensures some { result ≡ false → (worker : ℕ) × (worker < self.now.board.plan.workers) × (list_any (nat_eq worker) self.now.board.table.gone ≡ false) }
+    {
+        all_among(&self.lost, self.plan.workers)
+    }
+
+    /// The workers that are neither lost nor have an order, rising.
+    ///
+    /// Answers `Memory` for want of memory.
+    pub fn idle(&self) -> Result<Vec<u32>, Memory>
+        requires going { self.now.board.stopped ≡ false }
+        ensures idle { IfOk result (λ ws. ws.items ≡ idle_of self.now.board) }
+    {
+        let busy = workers(self.alloc, &self.orders)?;
+        match idle(
+            self.alloc,
+            self.plan.workers,
+            self.lost.as_slice(),
+            busy.as_slice(),
+        ) {
+            Ok(idle) => Ok(idle),
+            Err(_) => Err(Memory),
+        }
+    }
+
+    /// Whether nothing is out. It takes no memory.
+    pub fn is_at_rest(&self) -> bool
+        ensures none { result ≡ true → self.now.board.orders ≡ [] }
+        ensures some { result ≡ false → 0 < length self.now.board.orders }
+    {
+        self.orders.is_empty()
     }
 
     /// A worker is lost: its places and the stacks that it saved are dropped, and the order that it had is closed.

@@ -1,6 +1,6 @@
 //! Orders that are out: at most one for each worker.
 
-ghost use Rattle.std.specs.Prelude.{◌≡◌, ℕ, filter, map, not, nat_eq, IfOk};
+ghost use Rattle.std.specs.Prelude.{◌≡◌, ◌<◌, ℕ, false, filter, map, not, nat_eq, true, IfOk};
 ghost use Rattle.std.specs.Option.{option_map};
 ghost use Rattle.std.specs.List.{list_any};
 ghost use Rattle.ciel_board.specs.Board as b;
@@ -68,6 +68,21 @@ fn has(workers: &[u32], worker: u32) -> bool
     found
 }
 
+/// Whether each of so many workers is among these.
+pub(crate) fn all_among(lost: &[u32], workers: u32) -> bool
+    ensures all { result ≡ true → (worker : ℕ) → worker < workers → list_any (nat_eq worker) lost.now ≡ true }
+    ensures some { result ≡ false → (worker : ℕ) × (worker < workers) × (list_any (nat_eq worker) lost.now ≡ false) }
+{
+    let mut i = 0;
+    while i < workers {
+        if !has(lost, i) {
+            return false;
+        }
+        i += 1;
+    }
+    true
+}
+
 /// Whether a worker isn't among the lost ones and has no order.
 pub(crate) fn can_work(lost: &[u32], orders: &[OrderOut], worker: u32) -> bool
     ensures { result ≡ is_idle lost.now (workers_out (map kept_view orders.now)) worker }
@@ -87,6 +102,19 @@ pub(crate) fn close_at(orders: &mut Vec<OrderOut>, worker: u32)
     ensures { map kept_view orders.new.items ≡ filter (λ (x : b.OrderOut). not (nat_eq worker x.worker)) (map kept_view orders.old.items) }
 {
     orders.retain(|order| worker != order.worker);
+}
+
+/// The workers that have an order.
+pub(crate) fn workers(alloc: Global, orders: &[OrderOut]) -> Result<Vec<u32>, Memory>
+    ensures { IfOk result (λ ws. ws.items ≡ workers_out (map kept_view orders.now)) }
+{
+    let mut workers = Vec::new(alloc);
+    for i in 0..orders.len() {
+        if workers.push(orders[i].worker).is_err() {
+            return Err(Memory);
+        }
+    }
+    Ok(workers)
 }
 
 /// The tasks that are out.

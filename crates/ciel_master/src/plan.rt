@@ -1,26 +1,30 @@
 //! The plan of a run.
 
-ghost use Rattle.std.specs.Prelude.{◌≡◌};
+ghost use Rattle.std.specs.Prelude.{◌≡◌, ◌<◌, ◌^◌, length};
 
 use std::marker::Model;
 
-/// Losses, numbered from 0: each a count of closed Starts and the worker that is lost as soon as it is reached.
+/// Losses, numbered from 0: each a count of closed Starts and the worker that is lost as soon as it is reached. Their numbers have
+/// 32 bits.
 #[derive(Drop)]
 pub struct Losses {
     items: Vec<(u32, u32)>,
 }
 
 impl Model for Losses {
-    ghost use Rattle.std.specs.Prelude.{List, ℕ};
+    ghost use Rattle.std.specs.Prelude.{List, ℕ, ◌<◌, ◌^◌, length};
 
     ghost Value = { List (ℕ × ℕ) };
 
     ghost view = { λ a. a.items.items };
+
+    ghost invariant = { λ a. length a.items.items < 2 ^ 32 };
 }
 
 impl Losses {
     /// The losses, in order.
     pub fn of(items: Vec<(u32, u32)>) -> Losses
+        requires few { length items.items < 2 ^ 32 }
         ensures { result ≡ items.items }
     {
         Losses { items }
@@ -28,7 +32,8 @@ impl Losses {
 
     /// The losses in order.
     pub fn as_slice(&self) -> &[(u32, u32)]
-        ensures { result.now ≡ self.now }
+        ensures losses { result.now ≡ self.now }
+        ensures few { length self.now < 2 ^ 32 }
     {
         self.items.as_slice()
     }

@@ -1,7 +1,8 @@
-//! What comes of a report.
+//! What comes of a report, and of a run.
 
 use ciel_table::refusal::Learn;
 use sky_base::fault::Fault;
+use sky_base::names::Names;
 use sky_base::object::Desc1;
 use sky_base::text::{Bytes, Memory};
 
@@ -24,6 +25,25 @@ pub enum Stop {
     NameClash { kept: Bytes, given: Bytes },
     /// It is new, and so many descriptions are held, which is the limit.
     TooMany { held: u32, given: Desc1 },
+    /// Want of memory.
+    Memory,
+}
+
+/// How a run ends.
+#[derive(Drop)]
+pub enum RunEnd {
+    /// The root task has its answer.
+    Answer(Bytes),
+    /// It has a fault as its answer.
+    Fault(Fault),
+    /// The tasks of what has these names wait for one another: the job has no answer.
+    Endless(Names),
+    /// So many descriptions are held, which is the limit, and this one is new.
+    TooMany { held: u32, given: Desc1 },
+    /// Each worker is lost.
+    AllLost,
+    /// A description has the name of another one: the canonical bytes that are kept, and those given.
+    NameClash { kept: Bytes, given: Bytes },
     /// Want of memory.
     Memory,
 }

@@ -7,6 +7,7 @@ use Rattle.sky_base.specs.Tree.{block_nodes}
 use Rattle.sky_base.specs.Eval.{Body, bind, body_of, find_body, find_body_if, find_fun, find_fun_if, is_one_of}
 use Rattle.sky_base.specs.Name.{digested, low, low_desc, low_pairs, low_vals, name}
 use Rattle.sky_base.specs.Needed as n
+use Rattle.sky_base.specs.ObjectView.{desc_view}
 use Rattle.sky_base.specs.See as s
 use Rattle.sky_base.specs.Tree.{FunDef}
 use Rattle.sky_base.specs.Val.{call, count, distinct, input, known, out, pairs_refs, ref, refs, same_text, vals_refs}

@@ -1,5 +1,5 @@
 -- The job of a shop, by the names and marks that are given there.
-use Rattle.std.specs.Prelude.{ℕ, List, Option, Some, None, map}
+use Rattle.std.specs.Prelude.{ℕ, List}
 use Rattle.sha1.specs.Sha1.{sha1}
 use Rattle.sky_base.specs.KitView.{Gives}
 use Rattle.sky_base.specs.Name.{digested, low_desc, name}

@@ -1,6 +1,6 @@
 -- When an order is sound for a shop.
-use Rattle.std.specs.Prelude.{◌≡◌, ◌≢◌, ℕ, ◌<◌, List, length, map, Option, Some, None, ◌↔◌}
-use Rattle.std.specs.List.{IsDistinct, AllByRecursion}
+use Rattle.std.specs.Prelude.{◌≡◌, ◌≢◌, ℕ, ◌<◌, List, length, map, Option, Some, None}
+use Rattle.std.specs.List.{IsDistinct}
 use Rattle.sky_base.specs.Kept.{Kept}
 use Rattle.sky_base.specs.Name.{digested, held_name}
 use Rattle.sky_base.specs.ObjectView.{desc_view, object_view}

@@ -11,7 +11,7 @@ use Rattle.sky_base.specs.declared.object.TaskId.{TaskId}
 use Rattle.sky_law.specs.Tasks.{Each}
 use Rattle.sky_shown.specs.Shows.{shown_view}
 use Rattle.sky_state.specs.Pending.{all_refs}
-use Rattle.ciel_board.specs.Board.{Board, find_order, shelf, spot_of}
+use Rattle.ciel_board.specs.Board.{Board, find_order, shelf, spot_of, start_refs}
 use Rattle.ciel_board.specs.Follows.{OrderIs}
 use Rattle.ciel_board.specs.Laws.{LiesUnlessClash}
 use Rattle.ciel_board.specs.Reports.{report_view}
@@ -67,11 +67,18 @@ OutputsKnown digest t (Some d) = known (desc_view d)
     known (out x a n i) = (k : ℕ) → k < n → Known t (digested digest (out x a n k))
     known d = Unit {0}
 
--- what the order brings along has rows, as has all that its blocks refer to, and each output of the task
+-- all that stands inside what a task is of has rows
+abbrev pub InsideKnown : TableSeen P → Option Desc1 → Type 0
+InsideKnown t None = Unit {0}
+InsideKnown t (Some d) = AllKnown t (start_refs d)
+
+-- what the order brings along has rows, as has all that its blocks refer to, all that stands inside what its task is of, and each
+-- output of the task
 pub record HasRows (digest : List ℕ → List ℕ) (t : TableSeen P) (order : Order) : Type 0 where
   pub brought : AllKnown t (names_in order.inputs.items)
   pub carried : Each (λ (h : Held). SpotKnown t h.at) order.inputs.items
   pub stack : StackKnown t order.saved
+  pub inside : InsideKnown t order.desc
   pub outputs : OutputsKnown digest t order.desc
 
 -- ---- something that was missing

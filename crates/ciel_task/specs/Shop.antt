@@ -1,5 +1,5 @@
 -- What a shop's job is to a master: descriptions by names, and what lies at places.
-use Rattle.std.specs.Prelude.{◌≡◌, ℕ, List, map, Option}
+use Rattle.std.specs.Prelude.{◌≡◌, ℕ, List, map}
 use Rattle.std.specs.Option.{option_map}
 use Rattle.sky_base.specs.KitView.{Gives}
 use Rattle.sky_base.specs.Needed as n
@@ -7,7 +7,6 @@ use Rattle.sky_base.specs.ObjectView.{object_view}
 use Rattle.sky_base.specs.Res as logic
 use Rattle.sky_base.specs.See as s
 use Rattle.ciel_board.specs.Setting.{Setting}
-use Rattle.ciel_journal.specs.Job.{Task}
 use Rattle.ciel_json.specs.Around.{json_around}
 use Rattle.ciel_meant.specs.Inner.{real_inner}
 use Rattle.ciel_meant.specs.Real.{back}

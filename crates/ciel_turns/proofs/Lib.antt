@@ -8,3 +8,4 @@ mod Handing
 mod Making
 mod Fresh
 mod Turning
+mod Ending

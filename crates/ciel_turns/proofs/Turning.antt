@@ -452,10 +452,11 @@ module _ {D P B : Type 0} (s : Setting D P B) (is : IsSetting s) (most : ℕ) wh
 
         -- ---- the end of the root task
 
-        pub shown_ends : RestsNow b → x.out.task ≡ TaskId.Show → (spawned : List Named) (cs : List (Copy P)) → Promised s most h b x spawned (rep.made [] cs) → AllLearned s.digest spawned b.table → RunEnded s h (accepted s.digest b x.out spawned (rep.made [] cs))
+        pub shown_ends : RestsNow b → x.out.task ≡ TaskId.Show → (spawned : List Named) (cs : List (Copy P)) → Promised s most h b x spawned (rep.made [] cs) → AllLearned s.digest spawned b.table → RunEnded s h x spawned (rep.made [] cs) (accepted s.digest b x.out spawned (rep.made [] cs))
         shown_ends rest root spawned cs p all =
             record {
               event = got.event;
+              tells = got.tells;
               runs = accepted_runs rest spawned (rep.made [] cs) p all (λ z. z);
               done = ends done_is;
               ends = subst (Ends s.job) (ap (λ (o : OpenStart D). o.task) (same_found s.job is.laws v x.out.number allowed.0 out.start allowed.1 out.is_open) ∙ is_show) allowed.2.next.ends;

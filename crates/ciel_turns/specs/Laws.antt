@@ -15,7 +15,7 @@ use Rattle.ciel_board.specs.Driving.{CanRun, Picked, RestsNow, Runs}
 use Rattle.ciel_board.specs.Follows.{OrderIs}
 use Rattle.ciel_board.specs.Laws.{LiesUnlessClash, Taken}
 use Rattle.ciel_board.specs.Moves.{accepted, lost_at, missed_at, opened, order_for, started}
-use Rattle.ciel_board.specs.Reports.{AllLearned, Copy, End, IsNamed, made, missing, named_view, report_view, saved}
+use Rattle.ciel_board.specs.Reports.{AllLearned, End, IsNamed, made, missing, named_view, report_view, saved}
 use Rattle.ciel_board.specs.Setting.{IsSetting, Setting}
 use Rattle.ciel_board.specs.Sound.{Fits, MissingFits, Sound}
 use Rattle.ciel_turns.specs.AtWork.{AtWork, IsLost, Turned}
@@ -60,9 +60,10 @@ module _ {D P B : Type 0} (s : Setting D P B) where
     pub apart : r.FirstApart s.job s.inner start
     pub turned : Turned s most h b slots (started s.at b x w) (slice_set slots w (Some (order_for s.at b x w)))
 
-  -- the run ends: with the Done of the root task, which comes to its end
-  pub record RunEnded (h : List (Event D)) (c : Board P) : Type 0 where
+  -- the run ends with the event that the report tells, the Done of the root task, which comes to its end
+  pub record RunEnded (h : List (Event D)) (x : Order P) (spawned : List Named) (end : End P) (c : Board P) : Type 0 where
     pub event : Event D
+    pub tells : r.report_of s.job s.inner s.lower event ≡ Some (report_view x.out.number spawned end)
     pub runs : Runs s (h ++ event ∷ []) c
     pub done : ShowDone s.job (h ++ event ∷ [])
     pub ends : Ends s.job show
@@ -91,7 +92,7 @@ module _ (P : Type 0) where
 
 module _ (D P B : Type 0) where
   -- said of each setting, and of each master at work
-  abbrev OfWork : ((s : Setting D P B) → ℕ → List (Event D) → Board P → Slots P → Type 0) → Type 0
+  abbrev pub OfWork : ((s : Setting D P B) → ℕ → List (Event D) → Board P → Slots P → Type 0) → Type 0
   OfWork Q =
       (s : Setting D P B) → IsSetting s → (most : ℕ) (h : List (Event D)) (b : Board P) (slots : Slots P)
       → AtWork s most h b slots → Q s most h b slots
@@ -145,15 +146,6 @@ module _ (D P B : Type 0) where
       OfWork (λ s most h b slots. RestsNow b → (w : ℕ) (x : Order P) → Has slots w x → IsOut s h b x
       → (name : Digest) (loss : ℕ) → MissingFits s.digest s.at b x name loss
       → Turned s most h b slots (missed_at s.digest b x.out name loss) (slice_set slots w None))
-
-  -- ---- ends
-
-  -- the end of the root task
-  abbrev pub ShownEnds : Type 0
-  ShownEnds =
-      OfWork (λ s most h b slots. RestsNow b → (w : ℕ) (x : Order P) → Has slots w x → IsOut s h b x → x.out.task ≡ TaskId.Show
-      → (spawned : List Named) (cs : List (Copy P)) → Promised s most h b x spawned (made [] cs)
-      → AllLearned s.digest spawned b.table → RunEnded s h (accepted s.digest b x.out spawned (made [] cs)))
 
   -- a report that is refused is one of a run all the same
   abbrev pub PromisedIsTaken : Type 0

@@ -1,3 +1,4 @@
 pub mod Left
 pub mod AtWork
 pub mod Laws
+pub mod Ends

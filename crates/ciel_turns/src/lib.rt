@@ -1,11 +1,12 @@
 //! The turns of a run: each leaves less to do, so a run comes to an end.
 //!
 //! `specs/Left` has the number that falls, `specs/AtWork` what holds of a master and its workers between two turns, and
-//! `specs/Laws` the turns and the ends, as laws over the master's state by names. They are contracts of functions that do nothing.
+//! `specs/Laws` the turns, as laws over the master's state by names, and `specs/Ends` the ends. They are contracts of functions that do nothing.
 #![tactic(auto)]
 
 ghost use Rattle.ciel_turns.specs.Laws.{HadIsOut, IdleIsListed, LossTurns, MissedTurns, NoneCanRun, NoneIsOut, OpenedIsAtWork};
-ghost use Rattle.ciel_turns.specs.Laws.{PickedCanStart, PromisedIsTaken, ReportTurns, ShownEnds, SomeIsIdle, StartTurns, ThrownTurns};
+ghost use Rattle.ciel_turns.specs.Laws.{PickedCanStart, PromisedIsTaken, ReportTurns, SomeIsIdle, StartTurns, ThrownTurns};
+ghost use Rattle.ciel_turns.specs.Ends.{ClashEnds, JournalIsDriven, LostEnds, NoneCircles, NoneClashes, NoneOverflows, OverflowEnds, ShownEnds};
 
 /// A worker that is idle is in the list of idle workers, and where nothing is out and not each worker is lost there is one. What
 /// two draws pick can be started, and where no task is listed that can run, none can.
@@ -34,7 +35,20 @@ pub fn orders_are_kept<D, P, B>()
     ensures none { NoneIsOut D P B }
 {}
 
-/// With the end of the root task the run ends, and the job means an answer.
+/// With the end of the root task the run ends, and the job means an answer. What is refused of a report is a clash of the
+/// job's, or one description too many. Where each worker is lost the journal has it, and the journal of a run is driven.
 pub fn runs_end<D, P, B>()
     ensures shown { ShownEnds D P B }
+    ensures clash { ClashEnds D P B }
+    ensures overflow { OverflowEnds D P B }
+    ensures lost { LostEnds D P B }
+    ensures driven { JournalIsDriven D P B }
+{}
+
+/// Where the job means an answer, and its needed tasks make no more descriptions than there is room for, no two of which share a
+/// name, no run of it ends with a clash, with one description too many, or in a circle.
+pub fn modest_jobs_answer<D, P, B>()
+    ensures clash { NoneClashes D P B }
+    ensures overflow { NoneOverflows D P B }
+    ensures circle { NoneCircles D P B }
 {}

@@ -1,3 +1,5 @@
+use Rattle.std.proofs.Common.{sym}
+use Rattle.ciel_turns.proofs.Ending.{clash_ends, lost_ends, overflow_ends}
 use Rattle.ciel_turns.proofs.Turning.{shown_ends}
 use Rattle.ciel_turns.proofs.runs_end.Goals as goal
 
@@ -5,4 +7,8 @@ pub returns : goal.returns
 returns g c =
     record {
       shown = λ s is most h b slots a rest w x i out root spawned cs p all. shown_ends s is most h b slots a w x i out rest root spawned cs p all;
+      clash = λ s is most h b slots a w x i out spawned end p n kept given r. clash_ends s is most h b slots a w x i out spawned end p n kept given r;
+      overflow = λ s is most h b slots a w x i out spawned end p n held r. overflow_ends s is most h b slots a w x i out spawned end p n held r;
+      lost = λ s is h b r all. lost_ends s is h b r all;
+      driven = λ s h b r. (h, r.driven, sym r.follows.journal);
     }
