@@ -100,7 +100,7 @@ WalksAreTrue =
     → (o : OpenStart s.Desc) (finds : v.Desc (List ℕ) → Option (Object (List ℕ))) (r : Stand (List ℕ)) (ms : List (v.Desc (List ℕ))) (e : Stop)
     → Begins tag mark frozen job around o finds r → (walk : Walk tag job around (back o.task) finds r ms e)
     → SaysAnd (the tag mark frozen job around) (real_inner job around) (lower tag mark frozen job around) o (record { number = o.number; spawned = ms; end = end_of tag mark frozen job around o.task e })
-      (CameTo tag mark frozen job around o.task e × ((q : Stand (List ℕ)) → PassedIn tag job around (back o.task) finds r ms e walk q → WaitsAt tag mark frozen job around o q))
+    (CameTo tag mark frozen job around o.task e × ((q : Stand (List ℕ)) → PassedIn tag job around (back o.task) finds r ms e walk q → WaitsAt tag mark frozen job around o q))
 
 -- and where something is missing of what was brought along, all that is waited for at the order's wait, nothing is told of what was made
 abbrev pub MissingSays : Type 0

@@ -24,6 +24,7 @@ pub trait Finds {
 
     /// What stays of it through each call, after `Memory` too.
     ghost Stays: { Type 0 };
+
     ghost stays: { Self → Stays };
 
     /// The names that it was asked for, as far as it tells them.
