@@ -42,6 +42,13 @@ use Rattle.ciel_brought.proofs.Finding.{found_named, found_stands, input_view, n
 use Rattle.sha1.specs.Sha1.{sha1}
 use Rattle.sky_frozen.specs.Bytes.{frozen_bytes}
 
+abbrev as_object : List ℕ → Object (List ℕ)
+as_object w = Object.bytes w
+
+-- the bytes of an input, as an object
+abbrev bytes_at : Option (List ℕ × List ℕ) → Option (Object (List ℕ))
+bytes_at y = option_map (λ (x : List ℕ × List ℕ). Object.bytes x.1) y
+
 -- there is a worker for what some worker has
 least_some : {D : Type 0} (job : Job D) (w : ℕ) (ws : List ℕ) → least job (w ∷ ws) ≡ None → ⊥
 least_some job w ws e = go (least job ws) e
@@ -100,9 +107,9 @@ module _ (digest : List ℕ → List ℕ) (job : s.Job) (gives : Gives) (keyed :
       let same : m ≡ k = cc in
       (Object.bytes (input_bytes k job.inputs), (1, Object.bytes (input_bytes k job.inputs), ap (λ y. see job around 1 (input y)) same ∙ input_seen k, refl), lies (slice_get job.inputs i) (numbered job.inputs k i (ap (place_of (λ (n : List ℕ). n) k) keyed ∙ e)))
     where
-      lies : (y : Option (List ℕ × List ℕ)) → option_map (λ (x : List ℕ × List ℕ). x.1) y ≡ Some (input_bytes k job.inputs) → option_map (λ (x : List ℕ × List ℕ). Object.bytes x.1) y ≡ Some (Object.bytes (input_bytes k job.inputs))
+      lies : (y : Option (List ℕ × List ℕ)) → option_map (λ (x : List ℕ × List ℕ). x.1) y ≡ Some (input_bytes k job.inputs) → bytes_at y ≡ Some (as_object (input_bytes k job.inputs))
       lies None q = absurd cc
-      lies (Some y) q = ap (λ b. Some (Object.bytes b)) (some_is y.1 (input_bytes k job.inputs) q)
+      lies (Some y) q = ap (λ w. Some (as_object w)) (some_is y.1 (input_bytes k job.inputs) q)
 
   lies_is : (n : List ℕ) (h : Held) (sp : Spot) (x : Object (List ℕ)) → found held_name n held ≡ Some h → h.at ≡ sp → lies_at job.inputs sp ≡ Some x → lies_of job.inputs held n ≡ Some x
   lies_is n h sp x f at e =

@@ -1,5 +1,5 @@
 -- What was copied is the job's, and fits the order.
-use Rattle.std.proofs.Common.{◌≡◌, ℕ, List, [], ◌∷◌, ◌++◌, map, Bool, true, false, not, cond, Option, Some, None, nat_eq, inl, inr, refl, sym, ap, subst, ◌∙◌, eq-eqb}
+use Rattle.std.proofs.Common.{◌≡◌, ℕ, List, [], ◌∷◌, ◌++◌, map, Bool, true, false, not, cond, Option, Some, None, nat_eq, ◌==◌, inl, inr, refl, sym, ap, subst, ◌∙◌, eq-eqb}
 use Rattle.std.specs.List.{AllByRecursion, IsDistinct, list_any}
 use Rattle.std.specs.Option.{option_map}
 use Rattle.sky_base.specs.KitView.{Gives}
@@ -49,11 +49,11 @@ use Rattle.ciel_brought.proofs.Finding.{found_named, found_stands, is_object, ob
 -- what lies elsewhere is at a place of another worker
 pub elsewhere_at : (w : ℕ) (sp : Spot) → is_elsewhere w sp ≡ true → (p : P) × (sp ≡ Spot.Shelf p) × (p.worker ≡ w → ⊥)
 elsewhere_at w (Spot.Input i) e = absurd cc
-elsewhere_at w (Spot.Shelf p) e = (p, refl, λ q. no (eq-eqb p.worker w q) e)
+elsewhere_at w (Spot.Shelf p) e = (p, refl, λ q. no (p.worker == w) (eq-eqb p.worker w q) e)
   where
-    no : {b : Bool} → b ≡ true → not b ≡ true → ⊥
-    no {true} t f = cc
-    no {false} t f = cc
+    no : (b : Bool) → b ≡ true → not b ≡ true → ⊥
+    no true t f = cc
+    no false t f = cc
 
 module _ (digest : List ℕ → List ℕ) (job : s.Job) (gives : Gives) (o : OpenStart s.Desc) (order : Order) (is : OrderIs (shop_setting digest job gives) o (order_view order)) where
   abbrev S : Setting s.Desc P shop.Block
@@ -100,7 +100,7 @@ module _ (digest : List ℕ → List ℕ) (job : s.Job) (gives : Gives) (o : Ope
         from : (w : ℕ) (p : P) (b : Bool) → list_any (nat_eq o.worker) (o.had d) ≡ b → cond b (Some o.worker) (least S.job (o.had d)) ≡ Some w → p.worker ≡ w → p ≡ source.0 → (u : ℕ) × FetchedFrom S.job o d u
         from w p true t e at q =
             absurd (source.2 (ap (λ (r : P). r.worker) (sym q) ∙ at ∙ sym (some_is o.worker w e) ∙ here))
-        from w p false t e at q = (w, e, t)
+        from w p false t e at q = (w, (e, t))
 
         fetch : (w : Option ℕ) → worker_for S.job o.worker (o.had d) ≡ w → FetchedAt S d w spot → ((u : ℕ) × FetchedFrom S.job o d u) × HasObject S copy.place d
         fetch None q f = let e : Some (board.Spot.shelf source.0) ≡ None = sym spot_is ∙ f in absurd cc
@@ -114,7 +114,7 @@ module _ (digest : List ℕ → List ℕ) (job : s.Job) (gives : Gives) (o : Ope
 
 -- ---- fitting the order
 
-module _ (shelves : ShelvesSeen) (inputs : List (List ℕ × List ℕ)) (order : Order) where
+module _ (digest : List ℕ → List ℕ) (shelves : ShelvesSeen) (inputs : List (List ℕ × List ℕ)) (order : Order) where
   abbrev held' : List Held
   held' = order.inputs.items
 
@@ -126,10 +126,10 @@ module _ (shelves : ShelvesSeen) (inputs : List (List ℕ × List ℕ)) (order :
   in_known t (m ∷ ns) n (inl e) a = subst (Known t) (sym e) a.0
   in_known t (m ∷ ns) n (inr i) a = in_known t ns n i a.1
 
-  copy_fits : (t : TableSeen P) (c : Held) (copy : IsCopy shelves order.worker inputs held' c) → AllKnown t (names_in held') → CopyFits W t (order_view order) (record { name = c.name; place = copy.place })
+  copy_fits : (t : TableSeen P) (c : Held) (copy : IsCopy shelves order.worker inputs held' c) → AllKnown t (names_in held') → CopyFits digest W t (order_view order) (record { name = c.name; place = copy.place })
   copy_fits t c copy a = of_source (elsewhere_at order.worker copy.from.at copy.elsewhere)
     where
-      of_source : (p : P) × (copy.from.at ≡ Spot.Shelf p) × (p.worker ≡ order.worker → ⊥) → CopyFits W t (order_view order) (record { name = c.name; place = copy.place })
+      of_source : (p : P) × (copy.from.at ≡ Spot.Shelf p) × (p.worker ≡ order.worker → ⊥) → CopyFits digest W t (order_view order) (record { name = c.name; place = copy.place })
       of_source (p, at, other) =
           record {
             known = in_known t (names_in held') c.name (found_stands c.name held' copy.from copy.found) a;
@@ -148,10 +148,10 @@ module _ (shelves : ShelvesSeen) (inputs : List (List ℕ × List ℕ)) (order :
   copies_named (c ∷ cs) e =
       ap copy_names (copy_seen c e.0 cs) ∙ ap (λ ns. c.name ∷ ns) (copies_named cs e.1)
 
-  pub copies_fit : (t : TableSeen P) (cs : List Held) → Each (IsCopy shelves order.worker inputs held') cs → AllKnown t (names_in held') → j.Each (CopyFits W t (order_view order)) (copies_view cs)
+  pub copies_fit : (t : TableSeen P) (cs : List Held) → Each (IsCopy shelves order.worker inputs held') cs → AllKnown t (names_in held') → j.Each (CopyFits digest W t (order_view order)) (copies_view cs)
   copies_fit t [] e a = tt
   copies_fit t (c ∷ cs) e a =
-      subst (j.Each (CopyFits W t (order_view order))) (sym (copy_seen c e.0 cs)) (copy_fits t c e.0 a, copies_fit t cs e.1 a)
+      subst (j.Each (CopyFits digest W t (order_view order))) (sym (copy_seen c e.0 cs)) (copy_fits t c e.0 a, copies_fit t cs e.1 a)
 
 -- ---- what lies there
 

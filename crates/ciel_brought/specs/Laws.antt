@@ -57,9 +57,9 @@ CopiesAreFetched =
 -- and copies fit the order, where all that it brings along has rows; they are seen with their names
 abbrev pub CopiesFit : Type 0
 CopiesFit =
-    (shelves : ShelvesSeen) (inputs : List (List ℕ × List ℕ)) (order : Order) (cs : List Held)
+    (digest : List ℕ → List ℕ) (shelves : ShelvesSeen) (inputs : List (List ℕ × List ℕ)) (order : Order) (cs : List Held)
     → Copies shelves order.worker inputs order.inputs.items cs → (t : TableSeen P) → AllKnown t (names_in order.inputs.items)
-    → j.Each (CopyFits (λ (p : P). p.worker) t (order_view order)) (copies_view cs) × (copy_names (copies_view cs) ≡ names_in cs)
+    → j.Each (CopyFits digest (λ (p : P). p.worker) t (order_view order)) (copies_view cs) × (copy_names (copies_view cs) ≡ names_in cs)
 
 -- what lies there is sound for the script, where what the order brings along is
 abbrev pub CopiesAreSound : Type 0

@@ -71,20 +71,17 @@ module _ (shelves : ShelvesSeen) (w : ℕ) (inputs : List (List ℕ × List ℕ)
   fewer : (ns : List (List ℕ)) (m : List ℕ) → IsDistinct same_text (ns ++ m ∷ []) → IsDistinct same_text ns × (In m ns → ⊥)
   unfolding IsDistinct
   fewer [] m d = (tt, λ i. i)
-  fewer (n ∷ ns) m d = ((first.0, rest.0), new)
+  fewer (n ∷ ns) m d = go (fewer_apart n m ns d.0) (fewer ns m d.1)
     where
-      first : AllByRecursion (λ y. same_text n y ≡ false) ns × (same_text n m ≡ false)
-      first = fewer_apart n m ns d.0
-
-      rest : IsDistinct same_text ns × (In m ns → ⊥)
-      rest = fewer ns m d.1
-
       true_false : true ≡ false → ⊥
       true_false e = cc
 
-      new : In m (n ∷ ns) → ⊥
-      new (inl e) = true_false (sym (ap (same_text n) e ∙ self_text n) ∙ first.1)
-      new (inr i) = rest.1 i
+      go : AllByRecursion (λ y. same_text n y ≡ false) ns × (same_text n m ≡ false) → IsDistinct same_text ns × (In m ns → ⊥) → (AllByRecursion (λ y. same_text n y ≡ false) ns × IsDistinct same_text ns) × (In m (n ∷ ns) → ⊥)
+      go first rest = ((first.0, rest.0), new)
+        where
+          new : In m (n ∷ ns) → ⊥
+          new (inl e) = true_false (sym (ap (same_text n) e ∙ self_text n) ∙ first.1)
+          new (inr i) = rest.1 i
 
   -- each of what was copied has one of these names
   abbrev Among : List (List ℕ) → List Held → Type 0
@@ -111,7 +108,7 @@ module _ (shelves : ShelvesSeen) (w : ℕ) (inputs : List (List ℕ × List ℕ)
   -- what was brought of one name more
   among_one : (b : Bool) (n : List ℕ) (h : Held) (o : logic.Object (List ℕ)) (ns : List (List ℕ)) (old new : List Held) → n ≡ h.name → CopiedIf b shelves w h.name o old new → Among ns old → Among (ns ++ n ∷ []) new
   among_one false n h o ns old new e so a = subst (Among (ns ++ n ∷ [])) (sym so) (among_more old n ns a)
-  among_one true n h o ns old new e (p, grew, rest) a =
+  among_one true n h o ns old new e (p, grew, here, worker, same) a =
       subst (Among (ns ++ n ∷ [])) (sym grew)
       (each_both (λ (c : Held). In c.name (ns ++ n ∷ [])) old _ (among_more old n ns a) (subst (λ m. In m (ns ++ n ∷ [])) e (in_last n ns), tt))
 
@@ -125,3 +122,13 @@ module _ (shelves : ShelvesSeen) (w : ℕ) (inputs : List (List ℕ × List ℕ)
       let d' = fewer _ n d in
       let rest = copied_for _ _ before d'.0 in
       (copies_more shelves w inputs held n h o _ new rest.0 f at so (λ i. d'.1 (among_names _ _ n rest.1 i)), among_one (is_elsewhere w h.at) n h o _ _ new (found_named n held h f) so rest.1)
+
+  among_refs : (ns : List (List ℕ)) (ds : List (Desc (List ℕ))) → ((n : List ℕ) → In n ns → In (known n) ds) → (cs : List Held) → Among ns cs → Each (λ (c : Held). In (known c.name) ds) cs
+  among_refs ns ds f [] a = tt
+  among_refs ns ds f (c ∷ cs) a = (f c.name a.0, among_refs ns ds f cs a.1)
+
+  -- of the names of these references, each once
+  pub copied_refs : (ns : List (List ℕ)) (ds : List (Desc (List ℕ))) → known_of ns ≡ distinct same_text ds → (old new : List Held) → old ≡ [] → CopiedFor shelves w inputs held old ns new → Copies shelves w inputs held new × Each (λ (c : Held). In (known c.name) ds) new
+  copied_refs ns ds are old new none_yet c =
+      let all = copied_for ns new (subst (λ os. CopiedFor shelves w inputs held os ns new) none_yet c) (names_distinct ns ds are) in
+      (all.0, among_refs ns ds (λ n i. names_refer ns ds are n i) new all.1)

@@ -1,6 +1,7 @@
 -- An executor's order, and the task that it is of: where it begins, what it waits for, and that it comes to its end there.
 use Rattle.std.proofs.Common.{◌≡◌, ℕ, zero, suc, ◌+◌, ◌<◌, ◌≤◌, List, [], ◌∷◌, map, Bool, true, false, Option, Some, None, Result, is_some, slice_get, inl, inr, refl, sym, ap, ap₂, subst, ◌∙◌, arith}
 use Rattle.std.specs.Option.{option_map}
+use Rattle.sky_base.specs.Kept.{Kept}
 use Rattle.sky_base.specs.KitView.{Gives}
 use Rattle.sky_base.specs.Name.{digested, held_name, low, low_desc, name}
 use Rattle.sky_base.specs.Needed as n
@@ -66,15 +67,21 @@ module _ {A B : Type 0} (g : A → B) where
 
 -- an executor's order is sound, whose arguments have these references
 module _ (digest : List ℕ → List ℕ) (shelves : ShelvesSeen) (sc : Script) (count : ℕ) (order : Order) (sound : OrderSound digest shelves sc count order) (x : List ℕ) (args : Value) (n : ℕ) (by : order.desc ≡ Some (Desc1.Exec x args n 0)) where
-  begins : (tk : TaskId) (e : Option Desc1) → e ≡ Some (Desc1.Exec x args n 0) → Describes digest sc (names_in order.inputs.items) tk e → t.Each (λ d. t.In (held_name d) (names_in order.inputs.items)) (refs (view args))
+  begins : (tk : TaskId) (e : Option Desc1) → e ≡ Some (Desc1.Exec x args n 0) → Describes digest sc (names_in order.inputs.items) tk e → CanBegin sc (names_in order.inputs.items) (Desc1.Exec x args n 0)
   begins TaskId.Show None e h = absurd cc
   begins TaskId.Show (Some d) e h = absurd h
   begins (TaskId.Of m) None e h = absurd h
-  begins (TaskId.Of m) (Some d) e h = (subst (CanBegin sc (names_in order.inputs.items)) (some_is d (Desc1.Exec x args n 0) e) h.1).1
+  begins (TaskId.Of m) (Some d) e h = subst (CanBegin sc (names_in order.inputs.items)) (some_is d (Desc1.Exec x args n 0) e) h.1
+
+  can_begin : CanBegin sc (names_in order.inputs.items) (Desc1.Exec x args n 0)
+  can_begin = begins order.task order.desc by sound.describes
+
+  pub args_kept : Kept (view args)
+  args_kept = can_begin.1
 
   -- each reference of the arguments is brought along
   pub refs_there : t.Each (λ d. t.In (held_name d) (names_in order.inputs.items)) (refs (view args))
-  refs_there = begins order.task order.desc by sound.describes
+  refs_there = can_begin.2
 
   module _ (job : s.Job) (gives : Gives) (keyed : InputsInOrder job) (o : OpenStart s.Desc) (is : OrderIs (shop_setting digest job gives) o (order_view order)) where
     abbrev pub S : Setting s.Desc P shop.Block

@@ -6,6 +6,7 @@ use Rattle.sky_base.specs.Names.{known_of}
 use Rattle.sky_base.specs.ObjectView.{object_view}
 use Rattle.sky_base.specs.Res as logic
 use Rattle.sky_base.specs.See as s
+use Rattle.sky_base.specs.Tree.{Script}
 use Rattle.sky_base.specs.Val.{Val, distinct, known, out, refs, same_text}
 use Rattle.sky_base.specs.declared.fault.Fault.{Fault}
 use Rattle.sky_base.specs.declared.object.Object.{Object}
@@ -13,9 +14,11 @@ use Rattle.sky_base.proofs.Exact.{exact_text, self_text}
 use Rattle.ciel_json.specs.Around.{json_around}
 use Rattle.ciel_json.specs.Text.{text_of as writes}
 use Rattle.ciel_json.proofs.LowLaw.{text_named}
-use Rattle.sky_law.specs.Tasks.{In}
+use Rattle.sky_law.specs.Sound.{SoundObject}
+use Rattle.sky_law.specs.Tasks.{Each, In}
 use Rattle.sky_law.proofs.Lists.{some_is}
 use Rattle.sky_law.proofs.TaskOutputs.{in_distinct}
+use Rattle.sky_rows.specs.Known.{KeptObject}
 use Rattle.sky_rows.specs.Walk.{Row}
 use Rattle.sky_waves.specs.Seen.{Sees}
 use Rattle.sky_shown.specs.Given.{given_for}
@@ -87,3 +90,17 @@ outputs_push digest shelves w x a n r i k [] m h e is =
 outputs_push digest shelves w x a n r i k (l ∷ ms) m h e is =
     let at : suc i + length ms ≡ k = omega (arith, e) in
     (h.0, outputs_push digest shelves w x a n r (suc i) k ms m h.1 at is)
+
+-- ---- objects that are sound keep the limits
+
+objects_sound : (sc : Script) (os : List Object) → Each (λ o. SoundObject sc (object_view o)) os → Each (λ o. KeptObject (object_view o)) os
+objects_sound sc [] h = tt
+objects_sound sc (o ∷ os) h = (kept (object_view o) h.0, objects_sound sc os h.1)
+  where
+    kept : (x : logic.Object (List ℕ)) → SoundObject sc x → KeptObject x
+    kept (logic.Object.bytes b) h = tt
+    kept (logic.Object.data_of v) h = h.0
+    kept (logic.Object.fault f) h = tt
+
+pub objects_kept : (sc : Script) (seen os : List Object) → seen ≡ os → Each (λ o. SoundObject sc (object_view o)) os → Each (λ o. KeptObject (object_view o)) seen
+objects_kept sc seen os e h = subst (Each (λ o. KeptObject (object_view o))) (sym e) (objects_sound sc os h)

@@ -83,9 +83,9 @@ module _ (digest : List ℕ → List ℕ) (shelves : ShelvesSeen) (sc : Script) 
 
   -- an output is in the book
   booked : (p : Plan) (h : List (Event s.Desc)) → Lawful S.job p h → find_open S.job order.number (standing S.job h).orders ≡ Some o → (d : s.Desc) → j.In d (S.job.outputs o.task) → j.In d (standing S.job h).book
-  booked p h lawful open d i =
+  booked p h lawful is_open d i =
       let sh = shelved_all S.job laws p (before_all S.job) h (shelved_start S.job laws) lawful in
-      let at = found_in S.job laws order.number (standing S.job h).orders o open in
+      let at = found_in S.job laws order.number (standing S.job h).orders o is_open in
       each_of (λ e. j.In e (standing S.job h).book) d (S.job.outputs o.task) i (each_of (λ (q : OpenStart s.Desc). j.Each (λ e. j.In e (standing S.job h).book) (S.job.outputs q.task)) o (standing S.job h).orders at.0 sh.outputs)
 
   book_grows : (p : Plan) (v : Standing s.Desc) (e : Event s.Desc) → Allowed S.job p v e → (d : s.Desc) → j.In d v.book → j.In d (after S.job v e).book
@@ -130,7 +130,7 @@ module _ (digest : List ℕ → List ℕ) (shelves : ShelvesSeen) (sc : Script) 
   copies_lie : (cs : List Held) → t.Each (IsCopy shelves order.worker job.inputs order.inputs.items) cs → j.Each (CopyLies S o) (copies_view cs)
   copies_lie [] h = tt
   copies_lie (c ∷ cs) h =
-      subst (j.Each (CopyLies S o)) (sym (copy_seen shelves job.inputs order c h.0 cs)) (one, copies_lie cs h.1)
+      subst (j.Each (CopyLies S o)) (sym (copy_seen digest shelves job.inputs order c h.0 cs)) (one, copies_lie cs h.1)
     where
       one : CopyLies S o (record { name = c.name; place = h.0.place })
       one d w e =
@@ -139,9 +139,9 @@ module _ (digest : List ℕ → List ℕ) (shelves : ShelvesSeen) (sc : Script) 
   -- ---- the report
 
   pub made_lies : (ms : List Made) (cs : List Held) → AreOutputs digest shelves order.worker x (view args) n result ms → t.Each (IsCopy shelves order.worker job.inputs order.inputs.items) cs → (h : List (Event s.Desc)) (p : Plan) → Lawful S.job p h → find_open S.job order.number (standing S.job h).orders ≡ Some o → LiesUnlessClash S h p o order.number [] (board.made (map output_view ms) (copies_view cs))
-  made_lies ms cs are copies h p lawful open e tells allowed apart =
+  made_lies ms cs are copies h p lawful is_open e tells allowed apart =
       (outputs_lie no_two 0 ms are.0 are.1, copies_lie cs copies)
     where
       no_two : (d c : s.Desc) → j.In d (S.job.outputs o.task) → j.In c (S.job.outputs o.task) → S.job.name d ≡ S.job.name c → d ≡ c
       no_two d c i k q =
-          apart d c (book_grows p (standing S.job h) e allowed d (booked p h lawful open d i)) (book_grows p (standing S.job h) e allowed c (booked p h lawful open c k)) q
+          apart d c (book_grows p (standing S.job h) e allowed d (booked p h lawful is_open d i)) (book_grows p (standing S.job h) e allowed c (booked p h lawful is_open c k)) q

@@ -12,6 +12,7 @@ use Rattle.sky_base.specs.View.{view}
 use Rattle.sky_base.specs.declared.fault.Fault.{Fault}
 use Rattle.sky_base.specs.declared.object.Desc1.{Desc1}
 use Rattle.sky_base.specs.declared.object.Named.{Named}
+use Rattle.sky_base.specs.declared.object.TaskId.{TaskId}
 use Rattle.sky_base.specs.declared.value.Value.{Value}
 use Rattle.sky_law.specs.Sound.{SoundObject}
 use Rattle.sky_law.specs.Tasks as t
@@ -27,8 +28,8 @@ use Rattle.ciel_store.specs.declared.loss.Loss.{Loss}
 use Rattle.ciel_table.specs.Named.{found}
 use Rattle.ciel_table.specs.Seen.{Known, TableSeen}
 use Rattle.ciel_inputs.specs.Lies.{LostAt, held_name}
-use Rattle.ciel_task.specs.Orders.{OrderSound}
-use Rattle.ciel_task.specs.Performs.{HasRows, IsMissed, IsMissing, Missed, OutputsKnown, Performs}
+use Rattle.ciel_task.specs.Orders.{Describes, OrderSound, names_in}
+use Rattle.ciel_task.specs.Performs.{AnswerIs, HasRows, IsMissed, IsMissing, Missed, OfTask, OutputsKnown, Performs}
 use Rattle.ciel_task.specs.Places.{CopyAt, EndAt, ObjectAt, PlacesSound}
 use Rattle.ciel_task.specs.Shop.{InputsInOrder}
 use Rattle.ciel_task.specs.Views.{P, copies_view, how_view, order_view, output_view, report_end, spot_view}
@@ -43,6 +44,8 @@ use Rattle.ciel_brought.specs.Copies.{Copies}
 use Rattle.ciel_brought.proofs.Copying.{copies_fit, copies_named, copies_sound, sound_there}
 use Rattle.ciel_brought.proofs.Finding.{spot_at, spot_found}
 use Rattle.ciel_exec.specs.Outputs.{AreOutputs, OutputsFrom}
+use Rattle.ciel_exec.specs.Runs.{CopiedAlong, RanSo}
+use Rattle.ciel_exec.specs.declared.run.Ran.{Ran}
 use Rattle.ciel_exec.proofs.Saying.{says_made, says_missing}
 use Rattle.ciel_exec.proofs.Lying.{made_lies}
 
@@ -71,7 +74,7 @@ module _ (digest : List ℕ → List ℕ) (shelves : ShelvesSeen) (job : s.Job) 
 
   -- ---- it fits
 
-  outputs_fit : (tb : TableSeen P) → ((k : ℕ) → k < n → Known tb (digested digest (out x (view args) n k))) → (i : ℕ) (ms : List Made) → i + length ms ≡ n → OutputsFrom digest shelves order.worker x (view args) n made_here i ms → j.Each (OutputFits W tb (order_view order)) (map output_view ms)
+  outputs_fit : (tb : TableSeen P) → ((k : ℕ) → k < n → Known tb (digested digest (out x (view args) n k))) → (i : ℕ) (ms : List Made) → i + length ms ≡ n → OutputsFrom digest shelves order.worker x (view args) n made_here i ms → j.Each (OutputFits digest W tb (order_view order)) (map output_view ms)
   outputs_fit tb rows i [] e h = tt
   outputs_fit tb rows i (m ∷ ms) e h =
       (record { known = subst (Known tb) (sym h.0.name) (rows i (omega (arith, e))); here = h.0.worker }, outputs_fit tb rows (suc i) ms (omega (arith, e)) h.1)
@@ -80,10 +83,25 @@ module _ (digest : List ℕ → List ℕ) (shelves : ShelvesSeen) (job : s.Job) 
   made_fits ms cs are copies b rows =
       record {
         named = tt;
-        inside = tt;
-        tasks = tt;
-        end = (outputs_fit b.table (subst (OutputsKnown digest b.table) by rows.outputs) 0 ms are.0 are.1, copies_fit shelves job.inputs order b.table cs copies.0 rows.brought, subst (IsDistinct same_text) (sym (copies_named shelves job.inputs order cs copies.0)) copies.1);
+        missed = tt;
+        learned = λ all. record {
+          inside = tt;
+          tasks = tt;
+          end = (outputs_fit b.table (subst (OutputsKnown digest b.table) by rows.outputs) 0 ms are.0 are.1, copies_fit digest shelves job.inputs order b.table cs copies.0 rows.brought, subst (IsDistinct same_text) (sym (copies_named digest shelves job.inputs order cs copies.0)) copies.1);
+        };
       }
+
+  -- ---- its kind
+
+  -- the root task has no description, so this is another one
+  made_kind : (tk : TaskId) (d : Option Desc1) → d ≡ Some (Desc1.Exec x args n 0) → Describes digest job.script (names_in held) tk d → (ms : Vec Made Global) → OfTask tk (rust.End.Made ms)
+  made_kind TaskId.Show None e h ms = absurd cc
+  made_kind TaskId.Show (Some d) e h ms = absurd h
+  made_kind (TaskId.Of m) d e h ms = tt
+
+  missing_kind : (tk : TaskId) (nm : Digest) (l : Loss) (seen : SeatSeen) → OfTask tk (rust.End.Missing nm l (Some seen))
+  missing_kind TaskId.Show nm l seen = tt
+  missing_kind (TaskId.Of m) nm l seen = tt
 
   -- ---- the promise
 
@@ -98,10 +116,12 @@ module _ (digest : List ℕ → List ℕ) (shelves : ShelvesSeen) (job : s.Job) 
           number = number;
           worker = worker;
           task = task;
-          fits = λ b sd out rows learned not. moved (Fits digest W b (order_view order)) the_end end_is (made_fits ms.items cs.items are copies b rows);
+          kind = subst (OfTask order.task) (sym end) (made_kind order.task order.desc by sound.describes ms);
+          fits = λ b sd out rows not. moved (Fits digest W b (order_view order)) the_end end_is (made_fits ms.items cs.items are copies b rows);
           missed = subst (Missed digest order) (sym end) tt;
           says = λ o is apart. moved _ the_end end_is (says_made digest shelves job.script (length job.inputs) order sound x args n by job gives keyed o is ms.items cs.items are copies among);
-          lies = λ h p o lawful open is. moved _ the_end end_is (made_lies digest shelves job.script (length job.inputs) order sound x args n by job gives keyed o is ms.items cs.items are copies.0 h p lawful open);
+          lies = λ h p o lawful is_open is. moved _ the_end end_is (made_lies digest shelves job.script (length job.inputs) order sound x args n by job gives keyed o is ms.items cs.items are copies.0 h p lawful is_open);
+          answers = λ h p o lawful is_open is e tells allowed apart. subst (AnswerIs digest job gives) (sym end) tt;
         }
       where
         the_end : End P
@@ -116,10 +136,12 @@ module _ (digest : List ℕ → List ℕ) (shelves : ShelvesSeen) (job : s.Job) 
           number = number;
           worker = worker;
           task = task;
-          fits = λ b sd out rows learned not. absurd (not (subst IsMissing (sym end) tt));
+          kind = subst (OfTask order.task) (sym end) (missing_kind order.task nm l seen);
+          fits = λ b sd out rows not. absurd (not (subst IsMissing (sym end) tt));
           missed = subst (Missed digest order) (sym end) (is_missed h.at refl lost);
           says = λ o is apart. moved _ the_end end_is (says_missing digest shelves job.script (length job.inputs) order sound x args n by job gives keyed o is nm l.number);
-          lies = λ hs p o lawful open is. moved _ the_end end_is (λ e tells allowed apart. tt);
+          lies = λ hs p o lawful is_open is. moved _ the_end end_is (λ e tells allowed apart. tt);
+          answers = λ hs p o lawful is_open is e tells allowed apart. subst (AnswerIs digest job gives) (sym end) tt;
         }
       where
         the_end : End P
@@ -158,3 +180,16 @@ module _ (digest : List ℕ → List ℕ) (shelves : ShelvesSeen) (job : s.Job) 
         end = subst (EndAt shelves order.worker job.script r.task) (sym end) of;
         copied = subst (t.Each (λ (h : Held). CopyAt shelves order.worker job.script h.at)) (sym copied) tt;
       }
+
+  -- ---- what the run came to
+
+  -- where these are the inputs of the order
+  pub of_made : (hs : List Held) (ran : Ran) (ms : Vec Made Global) (cs : Vec Held Global) → hs ≡ held → ran ≡ Ran.Made ms cs → RanSo shelves order.worker job.inputs hs (view args) digest gives x n ran → CopiedAlong shelves order.worker job.inputs hs (view args) ran → AreOutputs digest shelves order.worker x (view args) n made_here ms.items × Copies shelves order.worker job.inputs held cs.items × t.Each (λ (c : Held). t.In (known c.name) (refs (view args))) cs.items
+  of_made hs ran ms cs same is so copied =
+      let along = subst (λ h. CopiedAlong shelves order.worker job.inputs h (view args) (Ran.Made ms cs)) same (subst (CopiedAlong shelves order.worker job.inputs hs (view args)) is copied) in
+      (subst (λ h. RanSo shelves order.worker job.inputs h (view args) digest gives x n (Ran.Made ms cs)) same (subst (RanSo shelves order.worker job.inputs hs (view args) digest gives x n) is so), along.0, along.1)
+
+  pub of_lost : (hs : List Held) (ran : Ran) (nm : Digest) (l : Loss) → hs ≡ held → ran ≡ Ran.Lost nm l → RanSo shelves order.worker job.inputs hs (view args) digest gives x n ran → (h : Held) × (found held_name nm held ≡ Some h) × LostAt l h.at
+  of_lost hs ran nm l same is so =
+      let lost = subst (λ h. RanSo shelves order.worker job.inputs h (view args) digest gives x n (Ran.Lost nm l)) same (subst (RanSo shelves order.worker job.inputs hs (view args) digest gives x n) is so) in
+      (lost.1, lost.2, lost.3)

@@ -138,4 +138,4 @@ module _ (digest : List ℕ → List ℕ) (shelves : ShelvesSeen) (sc : Script) 
     where
       is_made : (ds : List s.Desc) × j.Each (Copied S.job o) ds × (low_names S.job ds ≡ names_in cs) → MadeIs S.job o (end_view (made (map output_view ms) (copies_view cs)))
       is_made (ds, fetched, names) =
-          (paired 0 ms, ds, subst (λ es. Marked S.job es (paired 0 ms)) (sym (ap S.job.outputs task_is)) (marked_from n 0 ms are.0 are.1), fetched, distinct_descs ds (subst (IsDistinct same_text) (sym names) copies.1), keys_from 0 ms are.1, copies_named shelves job.inputs order cs copies.0 ∙ sym names)
+          (paired 0 ms, ds, subst (λ es. Marked S.job es (paired 0 ms)) (sym (ap S.job.outputs task_is)) (marked_from n 0 ms are.0 are.1), fetched, distinct_descs ds (subst (IsDistinct same_text) (sym names) copies.1), keys_from 0 ms are.1, copies_named digest shelves job.inputs order cs copies.0 ∙ sym names)

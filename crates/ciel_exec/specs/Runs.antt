@@ -1,10 +1,7 @@
 -- What the run of an executor's order comes to.
-use Rattle.std.specs.Prelude.{◌≡◌, ℕ, List, [], ◌∷◌, ◌++◌, Option, Some, None}
-use Rattle.sky_base.specs.Kept.{Kept}
+use Rattle.std.specs.Prelude.{◌≡◌, ℕ, List, [], ◌∷◌, ◌++◌, Some}
 use Rattle.sky_base.specs.KitView.{Gives}
 use Rattle.sky_base.specs.Val.{Val, known, refs}
-use Rattle.sky_base.specs.View.{view}
-use Rattle.sky_base.specs.declared.object.Desc1.{Desc1}
 use Rattle.sky_law.specs.Tasks.{Each, In}
 use Rattle.sky_perform.specs.Perform.{made}
 use Rattle.ciel_json.specs.Text.{text_of as writes}
@@ -16,11 +13,6 @@ use Rattle.ciel_brought.specs.Brought.{lies_known}
 use Rattle.ciel_brought.specs.Copies.{Copies}
 use Rattle.ciel_exec.specs.Outputs.{AreOutputs}
 use Rattle.ciel_exec.specs.declared.run.Ran.{Ran}
-
--- the arguments of an executor's task keep the limits of values
-abbrev pub ArgumentsKept : Option Desc1 → Type 0
-ArgumentsKept (Some (Desc1.Exec x a n i)) = Kept (view a)
-ArgumentsKept _ = Unit {0}
 
 module _ (shelves : ShelvesSeen) (w : ℕ) (inputs : List (List ℕ × List ℕ)) (held : List Held) (a : Val (List ℕ)) where
   -- the outputs are what the task makes of what lies there; or one of the names in its arguments lies at a worker that is lost

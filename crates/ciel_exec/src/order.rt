@@ -7,7 +7,6 @@ ghost use Rattle.ciel_task.specs.Orders.{OrderSound};
 ghost use Rattle.ciel_task.specs.Performs.{Performs};
 ghost use Rattle.ciel_task.specs.Shop.{InputsInOrder};
 ghost use Rattle.ciel_task.specs.Places.{PlacesSound};
-ghost use Rattle.ciel_exec.specs.Runs.{ArgumentsKept};
 
 use crate::run::{Ran, run};
 use ciel_name::name::Namer;
@@ -39,7 +38,6 @@ pub fn run_order<K: Kit, N: Namer, R: Wait>(
 ) -> Result<Report, Memory>
     requires desc { order.now.desc ≡ Some (Desc1.Exec executor.now args.now outputs 0) }
     requires sound { OrderSound (N.digest shop.now.namer) shop.now.shelves (job_view shop.now.job).script (length (job_view shop.now.job).inputs) order.now }
-    requires kept { ArgumentsKept order.now.desc }
     requires inputs { InputsInOrder (job_view shop.now.job) }
     requires eye { eye.old.of ≡ shop.now.shelves.of }
     ensures of { eye.new.of ≡ eye.old.of }

@@ -1,0 +1,65 @@
+//! What a crew is.
+
+ghost use Rattle.std.specs.Prelude.{◌≡◌, ◌<◌, ℕ, Bool, true, List, Option, Some, None, IfOk, OnOk, length, map, slice_set};
+ghost use Rattle.sky_base.specs.declared.object.TaskId.{TaskId};
+ghost use Rattle.ciel_task.specs.declared.order.Order.{Order as OrderSeen};
+ghost use Rattle.ciel_task.specs.declared.shop.Shop.{Shop};
+ghost use Rattle.ciel_crew.specs.Crews.{Answers, FadesEach, IsOut, Takes, extended, order_at, told_at};
+
+use ciel_gate::gate::Gate;
+use ciel_name::name::Namer;
+use ciel_task::order::Order;
+use ciel_task::report::Report;
+use sky_base::kit::Kit;
+use sky_base::text::Memory;
+
+/// The workers of a shop, each with its gate, numbered from 0. A worker has one order at a time.
+pub trait Crew {
+    type Gate: Gate;
+
+    type K: Kit;
+
+    type N: Namer;
+
+    /// The shop that it was opened with.
+    ghost shop: { Self → Shop Self.K Self.N };
+
+    /// The order of each worker that has one, which was sent and whose report wasn't given yet.
+    ghost out: { Self → List (Option OrderSeen) };
+
+    /// For each worker the tasks that its gate will have told when the crew is closed, where the gate tells them.
+    ghost told: { Self → List (Option (List TaskId)) };
+
+    /// No call has failed. After one that has, the crew can only be closed.
+    ghost is_sound: { Self → Bool };
+
+    /// Sends an order to its worker, which has none.
+    ///
+    /// Answers `Memory` for want of memory.
+    fn send(&mut self, order: Order) -> Result<(), Memory>
+        requires sound { is_sound self.old ≡ true }
+        requires worker { order.worker < length (out self.old) }
+        requires free { order_at (out self.old) order.worker ≡ None }
+        requires takes { Takes Self.K.gives Self.N.digest (shop self.old) order }
+        ensures shop { shop self.new ≡ shop self.old }
+        ensures sound { OnOk result (is_sound self.new ≡ true) }
+        ensures out { OnOk result (out self.new ≡ slice_set (out self.old) order.worker (Some order)) }
+        ensures told { OnOk result (FadesEach (slice_set (told self.old) order.worker (extended (told_at (told self.old) order.worker) order.task)) (told self.new)) };
+
+    /// The report of an order that is out. That of each order is given once.
+    ///
+    /// Answers `Memory` for want of memory.
+    fn next(&mut self) -> Result<Report, Memory>
+        requires sound { is_sound self.old ≡ true }
+        requires out { IsOut (out self.old) }
+        ensures shop { shop self.new ≡ shop self.old }
+        ensures sound { OnOk result (is_sound self.new ≡ true) }
+        ensures told { OnOk result (FadesEach (told self.old) (told self.new)) }
+        ensures report { IfOk result (λ r. (order : OrderSeen) × (order_at (out self.old) r.worker ≡ Some order) × (out self.new ≡ slice_set (out self.old) r.worker None) × Answers Self.K.gives Self.N.digest (shop self.old) order r) };
+
+    /// All gates, in order of workers. Each has entered the tasks of the orders that were sent to its worker, in order, unless a call
+    /// has failed.
+    fn close(self) -> Vec<Self::Gate>
+        ensures all { length result.items ≡ length (told self) }
+        ensures told { is_sound self ≡ true → FadesEach (told self) (map Self.Gate.entered result.items) };
+}
