@@ -1,30 +1,37 @@
 -- What an order brings along is found by its name, and is sound.
-use Rattle.std.proofs.Common.{◌≡◌, ◌<◌, ℕ, zero, suc, List, [], ◌∷◌, length, Option, Some, None, IsSome, is_some, true, false, refl, sym, ap, subst, ◌∙◌, arith, slice_get}
+use Rattle.std.proofs.Common.{◌≡◌, ◌<◌, ℕ, zero, suc, List, [], ◌∷◌, ◌++◌, length, Result, Ok, Err, MatchOption, MatchResult, inl, inr, Option, Some, None, IsSome, is_some, true, false, refl, sym, ap, subst, ◌∙◌, arith, slice_get}
 use Rattle.std.specs.Option.{option_and_then, option_map}
 use Rattle.sky_base.specs.ObjectView.{object_view}
 use Rattle.sky_base.specs.Res.{Object}
+use Rattle.sky_base.specs.declared.object.Object as rust
 use Rattle.sky_base.specs.Tree.{Script}
 use Rattle.sky_base.specs.Val.{Desc, call, out, input, known}
 use Rattle.sky_law.specs.Sound.{SoundObject}
 use Rattle.sky_law.specs.Tasks.{Each, In}
 use Rattle.sky_law.proofs.Lists.{some_is}
 use Rattle.sky_through.specs.Found.{FindsSound}
-use Rattle.ciel_store.specs.Seen.{ShelvesSeen}
+use Rattle.ciel_store.specs.Seen.{SeatSeen, ShelvesSeen}
+use Rattle.ciel_store.specs.declared.shelves.Gone.{Gone}
 use Rattle.ciel_table.specs.Named.{found}
 use Rattle.ciel_task.specs.Orders.{HasObject, SpotSound, names_in}
 use Rattle.ciel_task.specs.declared.block.Block.{Block}
 use Rattle.ciel_task.specs.declared.block.Held.{Held}
 use Rattle.ciel_task.specs.declared.block.Spot.{Spot}
 use Rattle.ciel_inputs.specs.Gathers.{lies_of}
-use Rattle.ciel_inputs.specs.Lies.{held_name, lies_at, object_in}
+use Rattle.ciel_inputs.specs.Lies.{LostAt, held_name, lies_at, object_in}
+use Rattle.ciel_finds.specs.Finds.{IsLost}
 use Rattle.ciel_inputs.proofs.Gathering.{each_found, found_some}
 use Rattle.ciel_brought.specs.Brought.{lies_known}
+
+in_end : {A : Type 0} (xs : List A) (y : A) → In y (xs ++ y ∷ [])
+in_end [] y = inl refl
+in_end (x ∷ xs) y = inr (in_end xs y)
 
 none_not : {A : Type 0} {a : A} → None ≡ Some a → ⊥
 none_not e = cc
 
 module _ (shelves : ShelvesSeen) (sc : Script) (inputs : List (List ℕ × List ℕ)) where
-  there_get : (xs : List (List ℕ × List ℕ)) (i : ℕ) → i < length xs → IsSome (option_map (λ (x : List ℕ × List ℕ). Object.bytes x.1) (slice_get xs i))
+  there_get : (xs : List (List ℕ × List ℕ)) (i : ℕ) → i < length xs → IsSome {T = Object (List ℕ)} (option_map (λ (x : List ℕ × List ℕ). Object.bytes x.1) (slice_get xs i))
   there_get [] i h = absurd (omega (arith, h))
   there_get (x ∷ xs) zero h = refl
   there_get (x ∷ xs) (suc i) h = there_get xs i (omega (arith, h))
@@ -90,3 +97,17 @@ module _ (shelves : ShelvesSeen) (sc : Script) (inputs : List (List ℕ × List 
           go : (x : Option Held) → found held_name n held ≡ x → SoundObject sc o
           go None f = absurd (none_not (sym (lies_none n f) ∙ e))
           go (Some h) f = spot_sound h.at o (spot_of n h f) (sym (lies_found n h f) ∙ e)
+
+      -- what was fetched for a name is what lies there, or is lost
+      pub fetched_so : (n : List ℕ) (h : Held) (r : Result rust.Object Gone) (old new : SeatSeen) → found held_name n held ≡ Some h
+          → MatchResult r (λ o. lies_at inputs h.at ≡ Some (object_view o)) (λ gone. LostAt gone.loss h.at)
+          → MatchResult r (λ _. new ≡ old) (λ gone. new.losses ≡ old.losses ++ gone.loss ∷ [])
+          → MatchResult r (λ o. lies_of inputs held n ≡ Some (object_view o)) (λ gone. IsLost held n gone.loss new)
+      fetched_so n h (Ok o) old new f lies seen = lies_found n h f ∙ lies
+      fetched_so n h (Err gone) old new f lost seen =
+          record { one = h; found = f; at = lost; seen = subst (In gone.loss) (sym seen) (in_end old.losses gone.loss) }
+
+      -- whether there is one of this name
+      pub has_so : {A : Type 0} (now : A → Held) (n : List ℕ) (r : Option A) → MatchOption r (found held_name n held ≡ None) (λ h. found held_name n held ≡ Some (now h)) → is_some r ≡ is_some (lies_of inputs held n)
+      has_so now n None f = ap is_some (sym (lies_none n f))
+      has_so now n (Some h) f = sym (lies_there n (now h) f)

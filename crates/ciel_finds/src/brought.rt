@@ -43,40 +43,42 @@ pub struct Brought<'a, R> {
     pub copied: Copied,
 }
 
-/// A finder of what these give, with nothing copied yet.
-///
-/// Answers `Memory` for want of memory.
-pub fn brought<'a, R: Wait>(
-    rt: &'a R,
-    alloc: Global,
-    job: &'a Job,
-    shelves: &'a Shelves<Block>,
-    worker: u32,
-    held: &'a [Held],
-    eye: &'a mut Eye,
-) -> Result<Brought<'a, R>, Memory>
-    requires spots { Each (λ (h : Held). SpotSound shelves.now (job_view job.now).script (length (job_view job.now).inputs) h.at) held.now }
-    requires eye { eye.old.of ≡ shelves.now.of }
-    requires worker { worker < length shelves.now.rows }
-    ensures same { IfOk result (λ b. b.eye.ghost_name ≡ eye.entry.ghost_name) }
-    ensures can { IfOk result (λ b. CanBring shelves.now worker (job_view job.now).script (job_view job.now).inputs held.now b.places b.eye.now b.copied) }
-    ensures job { IfOk result (λ b. b.job.now ≡ job.now) }
-    ensures shelves { IfOk result (λ b. b.shelves.now ≡ shelves.now) }
-    ensures worker { IfOk result (λ b. b.worker ≡ worker) }
-    ensures held { IfOk result (λ b. b.held.now ≡ held.now) }
-    ensures copied { IfOk result (λ b. b.copied.items.items ≡ []) }
-{
-    let places = index(alloc, held)?;
-    Ok(Brought {
-        rt,
-        job,
-        shelves,
-        worker,
-        held,
-        places,
-        eye,
-        copied: Copied::new(alloc),
-    })
+impl<'a, R: Wait> Brought<'a, R> {
+    /// A finder of what these give, with nothing copied yet.
+    ///
+    /// Answers `Memory` for want of memory.
+    pub fn new(
+        rt: &'a R,
+        alloc: Global,
+        job: &'a Job,
+        shelves: &'a Shelves<Block>,
+        worker: u32,
+        held: &'a [Held],
+        eye: &'a mut Eye,
+    ) -> Result<Brought<'a, R>, Memory>
+        requires spots { Each (λ (h : Held). SpotSound shelves.now (job_view job.now).script (length (job_view job.now).inputs) h.at) held.now }
+        requires eye { eye.old.of ≡ shelves.now.of }
+        requires worker { worker < length shelves.now.rows }
+        ensures same { IfOk result (λ b. b.eye.ghost_name ≡ eye.entry.ghost_name) }
+        ensures can { IfOk result (λ b. CanBring shelves.now worker (job_view job.now).script (job_view job.now).inputs held.now b.places b.eye.now b.copied) }
+        ensures job { IfOk result (λ b. b.job.now ≡ job.now) }
+        ensures shelves { IfOk result (λ b. b.shelves.now ≡ shelves.now) }
+        ensures worker { IfOk result (λ b. b.worker ≡ worker) }
+        ensures held { IfOk result (λ b. b.held.now ≡ held.now) }
+        ensures copied { IfOk result (λ b. b.copied.items.items ≡ []) }
+    {
+        let places = index(alloc, held)?;
+        Ok(Brought {
+            rt,
+            job,
+            shelves,
+            worker,
+            held,
+            places,
+            eye,
+            copied: Copied::new(alloc),
+        })
+    }
 }
 
 impl<'a, R: Wait> Finds for Brought<'a, R> {

@@ -11,7 +11,7 @@ ghost use Rattle.ciel_perform.specs.Runs.{Ran};
 
 use crate::begin::{Begun, begin};
 use crate::end::{end_of, missing, stack_name};
-use ciel_finds::brought::{Brought, brought};
+use ciel_finds::brought::Brought;
 use ciel_name::name::Namer;
 use ciel_store::seats::Eye;
 use ciel_task::block::Held;
@@ -75,7 +75,7 @@ fn go_on<K, N: Namer, R: Wait>(
 {
     let numbered = number_script(alloc, &shop.job.script)?;
     let held = order.inputs.as_slice();
-    let mut finder = brought(
+    let mut finder = Brought::new(
         rt,
         alloc,
         &shop.job,
