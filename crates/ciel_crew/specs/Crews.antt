@@ -1,5 +1,5 @@
 -- What a crew keeps of the orders that are out, and what it promises of their reports.
-use Rattle.std.specs.Prelude.{◌≡◌, ℕ, ◌<◌, List, [], ◌∷◌, ◌++◌, length, slice_index_or, Option, Some, None, ◌⊎◌}
+use Rattle.std.specs.Prelude.{◌≡◌, ℕ, ◌<◌, List, [], ◌∷◌, ◌++◌, length, slice_index_or, slice_set, Option, Some, None, ◌⊎◌}
 use Rattle.sky_base.specs.JobView.{job_view}
 use Rattle.sky_base.specs.KitView.{Gives}
 use Rattle.sky_base.specs.declared.object.TaskId.{TaskId}
@@ -38,6 +38,10 @@ FadesEach before after =
 abbrev pub told_at : List (Option (List TaskId)) → ℕ → Option (List TaskId)
 told_at told worker = slice_index_or told worker None
 
+-- the gate of the order's worker will have told its task too
+abbrev pub TellsTask : Order → (before after : List (Option (List TaskId))) → Type 0
+TellsTask order before after = FadesEach (slice_set before order.worker (extended (told_at before order.worker) order.task)) after
+
 -- ---- orders and reports of a shop
 
 -- for each kit what it gives, and for each namer its digest
@@ -50,3 +54,8 @@ module _ {K N : Type 0} (gives : K → Gives) (digest : N → List ℕ → List 
   pub record Answers (shop : Shop K N) (order : Order) (report : Report) : Type 0 where
     pub performs : Performs (digest shop.namer) (job_view shop.job) (gives shop.kit) order report
     pub places : PlacesSound shop.shelves order.worker (job_view shop.job).script report
+
+  -- it is a report of an order that was out, which is out no longer
+  abbrev pub Reports : Shop K N → (before after : List (Option Order)) → Report → Type 0
+  Reports shop before after report =
+      (order : Order) × (order_at before report.worker ≡ Some order) × (after ≡ slice_set before report.worker None) × Answers shop order report

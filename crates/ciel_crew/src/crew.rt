@@ -4,7 +4,7 @@ ghost use Rattle.std.specs.Prelude.{◌≡◌, ◌<◌, ℕ, Bool, true, List, O
 ghost use Rattle.sky_base.specs.declared.object.TaskId.{TaskId};
 ghost use Rattle.ciel_task.specs.declared.order.Order.{Order as OrderSeen};
 ghost use Rattle.ciel_task.specs.declared.shop.Shop.{Shop};
-ghost use Rattle.ciel_crew.specs.Crews.{Answers, FadesEach, IsOut, Takes, extended, order_at, told_at};
+ghost use Rattle.ciel_crew.specs.Crews.{FadesEach, IsOut, Reports, Takes, TellsTask, order_at};
 
 use ciel_gate::gate::Gate;
 use ciel_name::name::Namer;
@@ -44,7 +44,7 @@ pub trait Crew {
         ensures shop { shop self.new ≡ shop self.old }
         ensures sound { OnOk result (is_sound self.new ≡ true) }
         ensures out { OnOk result (out self.new ≡ slice_set (out self.old) order.worker (Some order)) }
-        ensures told { OnOk result (FadesEach (slice_set (told self.old) order.worker (extended (told_at (told self.old) order.worker) order.task)) (told self.new)) };
+        ensures told { OnOk result (TellsTask order (told self.old) (told self.new)) };
 
     /// The report of an order that is out. That of each order is given once.
     ///
@@ -55,7 +55,7 @@ pub trait Crew {
         ensures shop { shop self.new ≡ shop self.old }
         ensures sound { OnOk result (is_sound self.new ≡ true) }
         ensures told { OnOk result (FadesEach (told self.old) (told self.new)) }
-        ensures report { IfOk result (λ r. (order : OrderSeen) × (order_at (out self.old) r.worker ≡ Some order) × (out self.new ≡ slice_set (out self.old) r.worker None) × Answers Self.K.gives Self.N.digest (shop self.old) order r) };
+        ensures report { IfOk result (Reports Self.K.gives Self.N.digest (shop self.old) (out self.old) (out self.new)) };
 
     /// All gates, in order of workers. Each has entered the tasks of the orders that were sent to its worker, in order, unless a call
     /// has failed.

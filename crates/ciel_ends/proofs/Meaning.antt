@@ -1,18 +1,13 @@
 -- The laws of turns, of the job of a shop.
-use Rattle.std.proofs.Common.{◌≡◌, ℕ, ◌≤◌, List, [], ◌∷◌, ◌++◌, length, true, nat_eq, slice_get, Option, Some, ◌⊎◌, inl, inr, refl, ap, sym, ◌∙◌, subst}
+use Rattle.std.proofs.Common.{◌≡◌, ℕ, List, [], ◌∷◌, true, nat_eq, slice_get, Some, ◌⊎◌, inl, inr, ap, sym, ◌∙◌, subst}
 use Rattle.std.specs.List.{list_any}
 use Rattle.sky_base.specs.KitView.{Gives}
 use Rattle.sky_base.specs.Name.{digested}
-use Rattle.sky_base.specs.Needed as n
 use Rattle.sky_base.specs.See as s
-use Rattle.sky_base.specs.declared.object.TaskId.{TaskId}
 use Rattle.sky_law.specs.Tasks as t
 use Rattle.sky_shown.specs.Shows.{shown_view}
-use Rattle.sky_state.specs.declared.shown.Shown.{Shown}
-use Rattle.ciel_journal.specs.Entries.{Entry}
-use Rattle.ciel_journal.specs.History.{Event, Plan, after, before_all, standing}
-use Rattle.ciel_journal.specs.Job.{Digest, Ends, In, Needed, Task, made_in, show}
-use Rattle.ciel_journal.specs.Journals.{CircleOf}
+use Rattle.ciel_journal.specs.History.{before_all, standing}
+use Rattle.ciel_journal.specs.Job.{In}
 use Rattle.ciel_journal.specs.Lawful.{Allowed, Step}
 use Rattle.ciel_journal.proofs.Append.{lawful_split}
 use Rattle.ciel_journal.proofs.ByName.{never_named}
@@ -23,30 +18,21 @@ use Rattle.ciel_meant.proofs.AlikeLaw.{answer_alike, made_is, needed_to, never_a
 use Rattle.ciel_meant.proofs.KnownLaw.{real_knows}
 use Rattle.ciel_meant.proofs.RealLaw.{in_from, real_laws}
 use Rattle.ciel_reports.proofs.Filled.{real_exact}
-use Rattle.ciel_board.specs.Board.{Board}
-use Rattle.ciel_board.specs.Driving.{RestsNow}
+use Rattle.ciel_board.specs.Board.{shelf, spot_of}
 use Rattle.ciel_board.specs.Moves.{accepted}
 use Rattle.ciel_board.specs.Reports as rep
 use Rattle.ciel_board.specs.Reports.{AllLearned}
 use Rattle.ciel_board.specs.Setting.{IsMade, IsSetting, Setting}
-use Rattle.ciel_board.specs.Sound.{MissingFits}
+use Rattle.ciel_board.specs.Sound.{own_name}
 use Rattle.ciel_setting.proofs.Binds.{all_bind}
 use Rattle.ciel_setting.proofs.Telling.{tells}
-use Rattle.ciel_store.specs.Seen.{SeatSeen}
-use Rattle.ciel_store.specs.declared.loss.Loss.{Loss}
 use Rattle.ciel_task.specs.Named.{frozen_mark, mark_of, name_of}
-use Rattle.ciel_task.specs.Performs.{AnswerIs, HasRows, IsMissed, IsMissing, Performs, the_shop}
+use Rattle.ciel_task.specs.Performs.{AnswerIs, IsMissing, the_shop}
 use Rattle.ciel_task.specs.Shop as shop
 use Rattle.ciel_task.specs.Views.{P, copies_view, how_view, order_view, report_end}
-use Rattle.ciel_task.specs.declared.order.Order.{Order}
-use Rattle.ciel_task.specs.declared.report.End.{End}
-use Rattle.ciel_task.specs.declared.report.Report.{Report}
-use Rattle.ciel_turns.specs.AtWork.{AtWork}
-use Rattle.ciel_turns.specs.Ends.{Modest}
-use Rattle.ciel_turns.specs.Laws.{EndWithin, IsOut, Promised, RunEnded}
-use Rattle.ciel_turns.specs.Left.{Has, Slots}
+use Rattle.ciel_turns.specs.Laws.{EndWithin, Promised, RunEnded}
 use Rattle.ciel_turns.proofs.Turning.{shown_ends}
-use Rattle.ciel_ends.specs.Ends.{CircleIsNever, IsModest, IsOrderly, MadeBy, MissedFits, ModestAlike, PerformsPromises, ShopIsSetting, ShownIsMeant, worker_of}
+use Rattle.ciel_ends.specs.Ends.{CircleIsNever, MadeBy, MissedFits, ModestAlike, PerformsPromises, ShopIsSetting, ShownIsMeant, worker_of}
 
 module _ (digest : List ℕ → List ℕ) (job : s.Job) (gives : Gives) where
   abbrev S : Setting s.Desc P shop.Block
@@ -74,13 +60,20 @@ module _ (digest : List ℕ → List ℕ) (job : s.Job) (gives : Gives) where
       }
 
   pub missed_fits : MissedFits digest job gives
-  missed_fits b order name loss seen m count planned lost =
+  missed_fits orderly most h b slots a w order has out rows name loss seen m count planned lost =
       record {
         place = m.place;
-        given = m.given;
+        given = given m.given;
         planned = (count, subst (λ w. slice_get b.plan.losses loss.number ≡ Some (count, w)) (sym m.worker) planned);
         lost = subst (λ w. list_any (nat_eq w) b.table.gone ≡ true) (sym m.worker) lost;
       }
+    where
+      main : order.main ≡ b.main
+      main = out.order.main ∙ sym a.runs.follows.stands.main
+
+      given : ((spot_of name (order_view order).inputs ≡ Some (shelf m.place)) ⊎ ((order.saved ≡ Some m.place) × (name ≡ own_name digest worker_of order.main order.task))) → (spot_of name (order_view order).inputs ≡ Some (shelf m.place)) ⊎ ((order.saved ≡ Some m.place) × (name ≡ own_name digest worker_of b.main order.task))
+      given (inl e) = inl e
+      given (inr e) = inr (e.0, subst (λ z. name ≡ own_name digest worker_of z order.task) main e.1)
 
   -- ---- what is shown
 

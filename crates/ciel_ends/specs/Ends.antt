@@ -1,5 +1,5 @@
 -- What the turns and the ends of a shop's run say of the job that its script means.
-use Rattle.std.specs.Prelude.{◌≡◌, ℕ, ◌≤◌, List, [], length, true, Option, Some, nat_eq, slice_get, ◌⊎◌}
+use Rattle.std.specs.Prelude.{◌≡◌, ℕ, ◌≤◌, List, length, true, Option, Some, nat_eq, slice_get, ◌⊎◌}
 use Rattle.std.specs.List.{list_any}
 use Rattle.sky_base.specs.KitView.{Gives}
 use Rattle.sky_base.specs.Needed as n
@@ -80,22 +80,28 @@ module _ (digest : List ℕ → List ℕ) (job : s.Job) (gives : Gives) where
   -- something is missing, where the plan has that loss and its worker is lost
   abbrev pub MissedFits : Type 0
   MissedFits =
-      (b : Board P) (order : Order) (name : Digest) (loss : Loss) (seen : Option SeatSeen) → IsMissed digest order name loss seen
+      OfOrder (λ most h b order. (name : Digest) (loss : Loss) (seen : Option SeatSeen) → IsMissed digest order name loss seen
       → (count : ℕ) → slice_get b.plan.losses loss.number ≡ Some (count, loss.worker) → list_any (nat_eq loss.worker) b.table.gone ≡ true
-      → MissingFits digest worker_of b (order_view order) name loss.number
+      → MissingFits digest worker_of b (order_view order) name loss.number)
+
+  -- the run ends with this report
+  abbrev pub EndsWith : List (Event s.Desc) → Board P → Order → Report → Type 0
+  EndsWith h b order r =
+      RunEnded (the_shop digest job gives) h (order_view order) r.spawned.items (report_end r)
+      (accepted digest b (order_view order).out r.spawned.items (report_end r))
 
   -- with what is shown the run ends, and the job means it
   abbrev pub ShownIsMeant : Type 0
   ShownIsMeant =
       OfOrder (λ most h b order. RestsNow b → order.task ≡ TaskId.Show → (r : Report) → Performs digest job gives order r
       → (shown : Shown) → r.end ≡ End.Shown shown → AllLearned digest r.spawned.items b.table
-      → s.Means job (json_around gives) (shown_view shown)
-          × RunEnded (the_shop digest job gives) h (order_view order) r.spawned.items (report_end r) (accepted digest b (order_view order).out r.spawned.items (report_end r)))
+      → s.Means job (json_around gives) (shown_view shown) × EndsWith h b order r)
 
   -- a circle of the journal means that the job has no answer
   abbrev pub CircleIsNever : Type 0
   CircleIsNever =
-      IsOrderly → (p : Plan) (J : List Entry) (names : List Digest) → CircleOf (the_shop digest job gives).job p J names → s.Never job (json_around gives)
+      IsOrderly → (p : Plan) (J : List Entry) (names : List Digest) → CircleOf (the_shop digest job gives).job p J names
+      → s.Never job (json_around gives)
 
   -- a job that is modest in the meaning's words is so to the master
   abbrev pub ModestAlike : Type 0

@@ -4,7 +4,7 @@ use Rattle.std.specs.Option.{option_map}
 use Rattle.sky_base.specs.Kept.{Kept}
 use Rattle.sky_base.specs.KitView.{Gives}
 use Rattle.sky_base.specs.Name.{digested, held_name, low, low_desc, name}
-use Rattle.sky_base.specs.Needed as n
+use Rattle.sky_base.specs.Needed as needed
 use Rattle.sky_base.specs.Needed.{distinct_refs}
 use Rattle.sky_base.specs.ObjectView.{desc_view}
 use Rattle.sky_base.specs.Res.{Object}
@@ -126,9 +126,11 @@ module _ (digest : List ℕ → List ℕ) (shelves : ShelvesSeen) (sc : Script) 
     b = task.0
 
     pub task_is : o.task ≡ of (out x b n 0)
+    unfolding b task
     task_is = task.1
 
     pub args_are : low no_name tag b ≡ view args
+    unfolding b task
     args_are = task.2
 
     -- ---- where it begins
@@ -202,13 +204,14 @@ module _ (digest : List ℕ → List ℕ) (shelves : ShelvesSeen) (sc : Script) 
     made_here = made gives (λ u. writes u) finds x (view args) n
 
     pub sees : (i : ℕ) → Sees job around tag (suc fuel) (out x b n i) (output_of made_here i)
+    unfolding fuel all_seen
     sees i =
         subst (λ w. Sees job around tag (suc fuel) (out x b n i) (output_of (made gives (λ u. writes u) finds x w n) i)) args_are
         (sees_out job around (λ u. writes u) tag (λ u. text_named tag u) fuel finds x b n i all_seen.1)
 
     -- ---- its end
 
-    ends_there : t.ended job around fuel (n.Task.of (out x b n 0)) ≡ true
+    ends_there : t.ended job around fuel (needed.Task.of (out x b n 0)) ≡ true
     ends_there = ap is_some (sees 0).1
 
     pub no_wait : (k : ℕ) (es : List s.Desc) → 0 < k → WaitOf S.job (of (out x b n 0)) k es → ⊥

@@ -1,9 +1,10 @@
 -- What lies at the places of the report of an executor's order is the job's.
-use Rattle.std.proofs.Common.{◌≡◌, ℕ, zero, suc, ◌+◌, ◌<◌, ◌≤◌, List, [], ◌∷◌, ◌++◌, length, map, Some, Result, inl, inr, refl, sym, ap, ap₂, subst, ◌∙◌, arith}
+use Rattle.std.proofs.Common.{◌≡◌, ℕ, zero, suc, ◌+◌, ◌<◌, ◌≤◌, List, [], ◌∷◌, ◌++◌, length, map, Some, Result, ◌⊎◌, inl, inr, refl, sym, ap, ap₂, subst, ◌∙◌, arith}
 use Rattle.std.specs.Option.{option_map}
 use Rattle.sky_base.specs.Eval.{outputs}
 use Rattle.sky_base.specs.KitView.{Gives}
 use Rattle.sky_base.specs.Name.{digested}
+use Rattle.sky_base.specs.Needed.{distinct_refs}
 use Rattle.sky_base.specs.See as s
 use Rattle.sky_base.specs.Tree.{Script}
 use Rattle.sky_base.specs.Val.{known, out, refs}
@@ -75,11 +76,12 @@ module _ (digest : List ℕ → List ℕ) (shelves : ShelvesSeen) (sc : Script) 
 
   output_in : (c i k : ℕ) → i ≤ k → k < i + c → j.In (out x b n k) (outputs x b n i c)
   output_in zero i k up down = absurd (omega (arith, up, down))
-  output_in (suc c) i k up down = on (below_or_same i k up)
+  output_in (suc c) i k up down =
+      on (below_or_same i k up) (λ l. output_in c (suc i) k (omega (arith, l)) (omega (arith, down)))
     where
-      on : (i < k) ⊎ (i ≡ k) → j.In (out x b n k) (outputs x b n i (suc c))
-      on (inr e) = inl (ap (out x b n) (sym e))
-      on (inl l) = inr (output_in c (suc i) k (omega (arith, l)) (omega (arith, down)))
+      on : (i < k) ⊎ (i ≡ k) → (i < k → j.In (out x b n k) (outputs x b n (suc i) c)) → j.In (out x b n k) (outputs x b n i (suc c))
+      on (inr e) rest = inl (ap (out x b n) (sym e))
+      on (inl l) rest = inr (rest l)
 
   -- an output is in the book
   booked : (p : Plan) (h : List (Event s.Desc)) → Lawful S.job p h → find_open S.job order.number (standing S.job h).orders ≡ Some o → (d : s.Desc) → j.In d (S.job.outputs o.task) → j.In d (standing S.job h).book
@@ -140,7 +142,7 @@ module _ (digest : List ℕ → List ℕ) (shelves : ShelvesSeen) (sc : Script) 
 
   pub made_lies : (ms : List Made) (cs : List Held) → AreOutputs digest shelves order.worker x (view args) n result ms → t.Each (IsCopy shelves order.worker job.inputs order.inputs.items) cs → (h : List (Event s.Desc)) (p : Plan) → Lawful S.job p h → find_open S.job order.number (standing S.job h).orders ≡ Some o → LiesUnlessClash S h p o order.number [] (board.made (map output_view ms) (copies_view cs))
   made_lies ms cs are copies h p lawful is_open e tells allowed apart =
-      (outputs_lie no_two 0 ms are.0 are.1, copies_lie cs copies)
+      (outputs_lie no_two 0 ms (omega (arith, are.0)) are.1, copies_lie cs copies)
     where
       no_two : (d c : s.Desc) → j.In d (S.job.outputs o.task) → j.In c (S.job.outputs o.task) → S.job.name d ≡ S.job.name c → d ≡ c
       no_two d c i k q =

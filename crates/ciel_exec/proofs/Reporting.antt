@@ -19,10 +19,13 @@ use Rattle.sky_law.specs.Tasks as t
 use Rattle.sky_perform.specs.Perform.{made as made_by, output_at, output_of}
 use Rattle.ciel_json.specs.Text.{text_of as writes}
 use Rattle.ciel_board.specs.Board.{Board}
-use Rattle.ciel_board.specs.Reports.{End, copy_names, made, missing}
+use Rattle.ciel_board.specs.Laws.{LiesUnlessClash}
+use Rattle.ciel_board.specs.Reports.{End, copy_names, made, missing, report_view}
+use Rattle.ciel_board.specs.Setting.{Setting}
 use Rattle.ciel_board.specs.Sound.{Fits, OutputFits}
 use Rattle.ciel_journal.specs.Job as j
 use Rattle.ciel_journal.specs.Job.{Digest}
+use Rattle.ciel_reports.specs.Report.{Says}
 use Rattle.ciel_store.specs.Seen.{SeatSeen, ShelvesSeen}
 use Rattle.ciel_store.specs.declared.loss.Loss.{Loss}
 use Rattle.ciel_table.specs.Named.{found}
@@ -31,7 +34,8 @@ use Rattle.ciel_inputs.specs.Lies.{LostAt, held_name}
 use Rattle.ciel_task.specs.Orders.{Describes, OrderSound, names_in}
 use Rattle.ciel_task.specs.Performs.{AnswerIs, HasRows, IsMissed, IsMissing, Missed, OfTask, OutputsKnown, Performs}
 use Rattle.ciel_task.specs.Places.{CopyAt, EndAt, ObjectAt, PlacesSound}
-use Rattle.ciel_task.specs.Shop.{InputsInOrder}
+use Rattle.ciel_task.specs.Shop as shop
+use Rattle.ciel_task.specs.Shop.{InputsInOrder, shop_setting}
 use Rattle.ciel_task.specs.Views.{P, copies_view, how_view, order_view, output_view, report_end, spot_view}
 use Rattle.ciel_task.specs.declared.block.Held.{Held}
 use Rattle.ciel_task.specs.declared.block.Spot.{Spot}
@@ -72,6 +76,9 @@ module _ (digest : List ℕ → List ℕ) (shelves : ShelvesSeen) (job : s.Job) 
   abbrev W : P → ℕ
   W p = p.worker
 
+  abbrev S : Setting s.Desc P shop.Block
+  S = shop_setting digest job gives
+
   -- ---- it fits
 
   outputs_fit : (tb : TableSeen P) → ((k : ℕ) → k < n → Known tb (digested digest (out x (view args) n k))) → (i : ℕ) (ms : List Made) → i + length ms ≡ n → OutputsFrom digest shelves order.worker x (view args) n made_here i ms → j.Each (OutputFits digest W tb (order_view order)) (map output_view ms)
@@ -87,7 +94,7 @@ module _ (digest : List ℕ → List ℕ) (shelves : ShelvesSeen) (job : s.Job) 
         learned = λ all. record {
           inside = tt;
           tasks = tt;
-          end = (outputs_fit b.table (subst (OutputsKnown digest b.table) by rows.outputs) 0 ms are.0 are.1, copies_fit digest shelves job.inputs order b.table cs copies.0 rows.brought, subst (IsDistinct same_text) (sym (copies_named digest shelves job.inputs order cs copies.0)) copies.1);
+          end = (outputs_fit b.table (subst (OutputsKnown digest b.table) by rows.outputs) 0 ms (omega (arith, are.0)) are.1, copies_fit digest shelves job.inputs order b.table cs copies.0 rows.brought, subst (IsDistinct same_text) (sym (copies_named digest shelves job.inputs order cs copies.0)) copies.1);
         };
       }
 
@@ -119,8 +126,8 @@ module _ (digest : List ℕ → List ℕ) (shelves : ShelvesSeen) (job : s.Job) 
           kind = subst (OfTask order.task) (sym end) (made_kind order.task order.desc by sound.describes ms);
           fits = λ b sd out rows not. moved (Fits digest W b (order_view order)) the_end end_is (made_fits ms.items cs.items are copies b rows);
           missed = subst (Missed digest order) (sym end) tt;
-          says = λ o is apart. moved _ the_end end_is (says_made digest shelves job.script (length job.inputs) order sound x args n by job gives keyed o is ms.items cs.items are copies among);
-          lies = λ h p o lawful is_open is. moved _ the_end end_is (made_lies digest shelves job.script (length job.inputs) order sound x args n by job gives keyed o is ms.items cs.items are copies.0 h p lawful is_open);
+          says = λ o is apart. moved (λ sp e. Says S.job S.inner S.lower o (report_view order.number sp e)) the_end end_is (says_made digest shelves job.script (length job.inputs) order sound x args n by job gives keyed o is ms.items cs.items are copies among);
+          lies = λ h p o lawful is_open is. moved (λ sp e. LiesUnlessClash S h p o order.number sp e) the_end end_is (made_lies digest shelves job.script (length job.inputs) order sound x args n by job gives keyed o is ms.items cs.items are copies.0 h p lawful is_open);
           answers = λ h p o lawful is_open is e tells allowed apart. subst (AnswerIs digest job gives) (sym end) tt;
         }
       where
@@ -139,8 +146,8 @@ module _ (digest : List ℕ → List ℕ) (shelves : ShelvesSeen) (job : s.Job) 
           kind = subst (OfTask order.task) (sym end) (missing_kind order.task nm l seen);
           fits = λ b sd out rows not. absurd (not (subst IsMissing (sym end) tt));
           missed = subst (Missed digest order) (sym end) (is_missed h.at refl lost);
-          says = λ o is apart. moved _ the_end end_is (says_missing digest shelves job.script (length job.inputs) order sound x args n by job gives keyed o is nm l.number);
-          lies = λ hs p o lawful is_open is. moved _ the_end end_is (λ e tells allowed apart. tt);
+          says = λ o is apart. moved (λ sp e. Says S.job S.inner S.lower o (report_view order.number sp e)) the_end end_is (says_missing digest shelves job.script (length job.inputs) order sound x args n by job gives keyed o is nm l.number);
+          lies = λ hs p o lawful is_open is. moved (λ sp e. LiesUnlessClash S hs p o order.number sp e) the_end end_is (λ e tells allowed apart. tt);
           answers = λ hs p o lawful is_open is e tells allowed apart. subst (AnswerIs digest job gives) (sym end) tt;
         }
       where

@@ -77,6 +77,7 @@ module _ (digest : List ℕ → List ℕ) (shelves : ShelvesSeen) (sc : Script) 
   paired i (m ∷ ms) = (out x b n i, m.mark) ∷ paired (suc i) ms
 
   marked_from : (c i : ℕ) (ms : List Made) → length ms ≡ c → OutputsFrom digest shelves order.worker x (view args) n result i ms → Marked S.job (outputs x b n i c) (paired i ms)
+  unfolding paired
   marked_from zero i [] e h = tt
   marked_from zero i (m ∷ ms) e h = absurd (omega (arith, e))
   marked_from (suc c) i [] e h = absurd (omega (arith, e))
@@ -84,6 +85,7 @@ module _ (digest : List ℕ → List ℕ) (shelves : ShelvesSeen) (sc : Script) 
       (refl, subst (ObjectOf S.job (out x b n i)) (sym h.0.mark) (object_seen i), marked_from c (suc i) ms (omega (arith, e)) h.1)
 
   keys_from : (i : ℕ) (ms : List Made) → OutputsFrom digest shelves order.worker x (view args) n result i ms → made_keys (map output_view ms) ≡ low_made S.job (paired i ms)
+  unfolding paired
   keys_from i [] h = refl
   keys_from i (m ∷ ms) h =
       ap₂ (λ k ks. k ∷ ks) (ap (λ y. (y, m.mark)) (h.0.name ∙ ap (λ v. digested digest (out x v n i)) (sym (going.args_are digest shelves sc count order sound x args n by job gives keyed o is)))) (keys_from (suc i) ms h.1)
@@ -136,6 +138,6 @@ module _ (digest : List ℕ → List ℕ) (shelves : ShelvesSeen) (sc : Script) 
   says_made ms cs are copies among =
       at_end [] (going.next_end digest shelves sc count order sound x args n by job gives keyed o is) (going.spawned digest shelves sc count order sound x args n by job gives keyed o is) refl (λ c. is_made (copies_of cs copies.0 among))
     where
-      is_made : (ds : List s.Desc) × j.Each (Copied S.job o) ds × (low_names S.job ds ≡ names_in cs) → MadeIs S.job o (end_view (made (map output_view ms) (copies_view cs)))
+      is_made : (ds : List s.Desc) × j.Each (Copied S.job o) ds × (low_names S.job ds ≡ names_in cs) → MadeIs S.job S.inner S.lower o (end_view (made (map output_view ms) (copies_view cs)))
       is_made (ds, fetched, names) =
           (paired 0 ms, ds, subst (λ es. Marked S.job es (paired 0 ms)) (sym (ap S.job.outputs task_is)) (marked_from n 0 ms are.0 are.1), fetched, distinct_descs ds (subst (IsDistinct same_text) (sym names) copies.1), keys_from 0 ms are.1, copies_named digest shelves job.inputs order cs copies.0 ∙ sym names)

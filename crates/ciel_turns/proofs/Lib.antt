@@ -1,11 +1,11 @@
-mod Counting
-mod Summing
-mod Lessening
-mod Keeping
-mod Working
-mod Idling
-mod Handing
-mod Making
-mod Fresh
-mod Turning
-mod Ending
+pub mod Counting
+pub mod Summing
+pub mod Lessening
+pub mod Keeping
+pub mod Working
+pub mod Idling
+pub mod Handing
+pub mod Making
+pub mod Fresh
+pub mod Turning
+pub mod Ending

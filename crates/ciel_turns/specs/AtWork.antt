@@ -27,7 +27,8 @@ module _ {D P B : Type 0} (s : Setting D P B) where
     pub given : (w : ℕ) (x : Order P) → Has slots w x → x.out.number < b.starts
     pub apart : (w u : ℕ) (x y : Order P) → Has slots w x → Has slots u y → x.out.number ≡ y.out.number → w ≡ u
     -- each is that of the open Start of its number
-    pub is : (w : ℕ) (x : Order P) (o : OpenStart D) → Has slots w x → In o (standing s.job h).orders → o.number ≡ x.out.number → OrderIs s o x
+    pub is : (w : ℕ) (x : Order P) (o : OpenStart D) → Has slots w x → In o (standing s.job h).orders → o.number ≡ x.out.number
+        → OrderIs s o x
 
   -- the master hasn't stopped; its state is sound and that of a run with this history; no saved wait has a number above most
   pub record AtWork (most : ℕ) (h : List (Event D)) (b : Board P) (slots : Slots P) : Type 0 where

@@ -40,7 +40,8 @@ module _ {D P B : Type 0} (s : Setting D P B) where
   pub record Promised (most : ℕ) (h : List (Event D)) (b : Board P) (x : Order P) (spawned : List Named) (end : End P) : Type 0 where
     pub fits : Fits s.digest s.at b x spawned end
     pub within : EndWithin most end
-    pub says : (o : OpenStart D) → OrderIs s o x → r.FirstApart s.job s.inner o → r.Says s.job s.inner s.lower o (report_view x.out.number spawned end)
+    pub says : (o : OpenStart D) → OrderIs s o x → r.FirstApart s.job s.inner o
+        → r.Says s.job s.inner s.lower o (report_view x.out.number spawned end)
     pub lies : (o : OpenStart D) → find_open s.job x.out.number (standing s.job h).orders ≡ Some o → OrderIs s o x
         → LiesUnlessClash s h b.plan o x.out.number spawned end
 

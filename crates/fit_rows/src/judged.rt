@@ -39,18 +39,39 @@ fn fits(alloc: Global, fitting: &Fitting, bytes: &[u8]) -> Result<bool, Fail> {
     }
 }
 
+/// Whether no proper prefix of the bytes is read.
+fn no_prefix_fits(alloc: Global, fitting: &Fitting, bytes: &[u8]) -> Result<bool, Fail> {
+    for count in 0..bytes.len() {
+        if fits(alloc, fitting, &bytes[..count])? {
+            return Ok(false);
+        }
+    }
+    Ok(true)
+}
+
+/// Whether the bytes with one more behind them are read.
+fn longer_fits(alloc: Global, fitting: &Fitting, bytes: &[u8]) -> Result<bool, Fail> {
+    let mut more = Vec::from_slice(alloc, bytes)?;
+    more.push(0)?;
+    let fits = fits(alloc, fitting, more.as_slice())?;
+    Ok(fits)
+}
+
+/// Whether the bytes are read, but no proper prefix of them and none with a byte more.
+fn fits_alone(alloc: Global, fitting: &Fitting, bytes: &[u8]) -> Result<bool, Fail> {
+    let whole = fits(alloc, fitting, bytes)?;
+    let none_shorter = no_prefix_fits(alloc, fitting, bytes)?;
+    let longer = longer_fits(alloc, fitting, bytes)?;
+    Ok(whole && none_shorter && !longer)
+}
+
 /// The bytes of a state of this script: they are read again, but no proper prefix of them, and none with a byte more.
 pub fn is_read(rt: &impl Abort, alloc: Global, text: &str, bytes: &[u8]) -> Result<(), Fail> {
     let script = script(alloc, text)?;
     let numbered = number_script(alloc, &script)?;
     let fitting = Fitting::new(alloc, &numbered)?;
-    assert!(rt; fits(alloc, &fitting, bytes)?);
-    for count in 0..bytes.len() {
-        assert!(rt; !fits(alloc, &fitting, &bytes[..count])?);
-    }
-    let mut more = Vec::from_slice(alloc, bytes)?;
-    more.push(0)?;
-    assert!(rt; !fits(alloc, &fitting, more.as_slice())?);
+    let alone = fits_alone(alloc, &fitting, bytes)?;
+    assert!(rt; alone);
     Ok(())
 }
 
