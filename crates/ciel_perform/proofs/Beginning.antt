@@ -81,16 +81,16 @@ module _ (job : s.Job) (around : s.Around) (tag : Tag) (sc : Script) where
       let f : FitsShow sc (low no_name tag u) (suc i) = subst (Fits sc) at fits in
       let first = some_first tag u f.refers in
       let all = listed (distinct_refs u) first.0 (in_distinct (λ (y z : ⊥). true) (λ y z q. absurd y) (λ y. absurd y) (refs u) first.0 first.1) in
-      (all.0, k, ap (λ b. only_if b (wave_refs (wave job around k (suc i)))) (few_waves (suc i) f.wave) ∙ ap wave_refs w ∙ all.1)
+      (all.0, (k, ap (λ b. only_if b (wave_refs (wave job around k (suc i)))) (few_waves (suc i) f.wave) ∙ ap wave_refs w ∙ all.1))
 
   halt_waits : (k i : ℕ) (f : List ℕ) (c : s.Pairs) (vs : s.Vals) (a : n.State) (o : Option (Halt ⊥)) → halt (see job around k) i (run_of job around f c vs) ≡ o → halt_state f (suc i) o ≡ Some a → (ds : List s.Desc) × WaitOf job around (n.Task.of (call f c vs)) (suc i) ds
   halt_waits k i f c vs a None w e = absurd (none_not e)
-  halt_waits k i f c vs a (Some h) w e = (refs_of h.wait, k, ap halt_refs w)
+  halt_waits k i f c vs a (Some h) w e = (refs_of h.wait, (k, ap halt_refs w))
 
   pub stands_waiting : (u : n.Task) (i k : ℕ) (a : n.State) (x : Stand (List ℕ)) → stands_at job around k u i ≡ Some a → x ≡ low_state tag a → Fits sc x → (ds : List s.Desc) × WaitOf job around u i ds
-  stands_waiting n.Task.show zero k a x e is fits = (main_call ∷ [], 0, refl)
+  stands_waiting n.Task.show zero k a x e is fits = (main_call ∷ [], (0, refl))
   stands_waiting n.Task.show (suc i) k a x e is fits = wave_waits k i a x (wave job around k (suc i)) refl e is fits
-  stands_waiting (n.Task.of (call f c vs)) zero k a x e is fits = ([], 0, refl)
+  stands_waiting (n.Task.of (call f c vs)) zero k a x e is fits = ([], (0, refl))
   stands_waiting (n.Task.of (call f c vs)) (suc i) k a x e is fits = halt_waits k i f c vs a (halt (see job around k) i (run_of job around f c vs)) refl e
   stands_waiting (n.Task.of (out y z m l)) i k a x e is fits = absurd (none_not e)
   stands_waiting (n.Task.of (input y)) i k a x e is fits = absurd (none_not e)

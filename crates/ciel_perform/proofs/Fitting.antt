@@ -38,10 +38,10 @@ use Rattle.ciel_journal.specs.Job as j
 use Rattle.ciel_meant.proofs.RealLaw.{in_from, in_to}
 use Rattle.ciel_name.specs.Names.{first_output}
 use Rattle.ciel_setting.proofs.Binding.{bound_from}
-use Rattle.ciel_spelled.specs.Typed.{DescOverNames, NamedUseNothing}
+use Rattle.ciel_spelled.specs.Typed.{NamedUseNothing}
 use Rattle.ciel_spelled.proofs.Bare.{sound_spelled}
 use Rattle.ciel_spelled.proofs.Made.{script_uses}
-use Rattle.sky_law.specs.Typed.{TypedDesc}
+use Rattle.sky_typed.specs.Told.{DescTold}
 use Rattle.ciel_store.specs.Seen.{ShelvesSeen}
 use Rattle.ciel_table.specs.Learning.{learned, new_row}
 use Rattle.ciel_table.specs.Named.{found, place_of}
@@ -240,7 +240,7 @@ module _ (digest : List ℕ → List ℕ) (shelves : ShelvesSeen) (sc : Script) 
   in_views d (n ∷ ns) (inr i) = let q = in_views d ns i in (q.0, inr q.1, q.2)
 
   named : Each (λ (n : Named). n.name ≡ digested digest (named_view n)) items
-  named = names_are digest items w.known.made w.known.grew
+  named = names_are digest items w.knows.made w.knows.grew
 
   -- each has a row under its name
   spawned_known : (d : Desc (List ℕ)) → In d views → Known t (digested digest d)
@@ -249,8 +249,8 @@ module _ (digest : List ℕ → List ℕ) (shelves : ShelvesSeen) (sc : Script) 
       let name : n.0.name ≡ digested digest (named_view n.0) = in_each (λ (n : Named). n.name ≡ digested digest (named_view n)) items n.0 named n.1 in
       subst (Known t) (name ∙ ap (digested digest) (sym n.2)) (in_each (λ (n : Named). Known t n.name) items n.0 (all_learned digest items t0) n.1)
 
-  known_made : views ≡ w.known.made
-  known_made = same_made digest items w.known.made w.known.grew
+  known_made : views ≡ w.knows.made
+  known_made = same_made digest items w.knows.made w.knows.grew
 
   -- what is known by its name has a row
   knows_known : (earlier : List (Desc (List ℕ))) → ((m : Desc (List ℕ)) → In m earlier → In m views) → (d : Desc (List ℕ)) → Knows digest (CameFrom (brings digest shelves sc inputs order) x) earlier d → Known t (held_name d)
@@ -271,12 +271,12 @@ module _ (digest : List ℕ → List ℕ) (shelves : ShelvesSeen) (sc : Script) 
   inside_from : (before after : List Named) → items ≡ before ++ after → Each (λ (n : Named). AllKnown t (start_refs n.desc)) after
   inside_from before [] e = tt
   inside_from before (n ∷ after) e =
-      (refs_start n.desc (λ d i. knows_known (map named_view before) sub d (in_each (Knows digest (CameFrom (brings digest shelves sc inputs order) x) (map named_view before)) (inside_refs (named_view n)) d (w.known.within (map named_view before) (map named_view after) (named_view n) split) i)), inside_from (before ++ n ∷ []) after (e ∙ sym (append_assoc before (n ∷ []) after)))
+      (refs_start n.desc (λ d i. knows_known (map named_view before) sub d (in_each (Knows digest (CameFrom (brings digest shelves sc inputs order) x) (map named_view before)) (inside_refs (named_view n)) d (w.knows.within (map named_view before) (map named_view after) (named_view n) split) i)), inside_from (before ++ n ∷ []) after (e ∙ sym (append_assoc before (n ∷ []) after)))
     where
       all_views : views ≡ map named_view before ++ named_view n ∷ map named_view after
       all_views = ap (map named_view) e ∙ map-append named_view before (n ∷ after)
 
-      split : w.known.made ≡ map named_view before ++ named_view n ∷ map named_view after
+      split : w.knows.made ≡ map named_view before ++ named_view n ∷ map named_view after
       split = sym known_made ∙ all_views
 
       sub : (m : Desc (List ℕ)) → In m (map named_view before) → In m views
@@ -350,12 +350,12 @@ module _ (digest : List ℕ → List ℕ) (shelves : ShelvesSeen) (sc : Script) 
   held_all : (d : Desc (List ℕ)) (s : Stand (List ℕ)) → In d (held_in same_text s) → In d (all_refs s)
   held_all d s i = distinct_in same_text exact_text self_text (all_refs s) d i
 
-  made_views : (m : Desc (List ℕ)) → In m w.known.made → In m views
+  made_views : (m : Desc (List ℕ)) → In m w.knows.made → In m views
   made_views m i = subst (In m) (sym known_made) i
 
   -- what the state after it refers to has rows
-  left_known : (new : Stand (List ℕ)) → Each (Knows digest (CameFrom (brings digest shelves sc inputs order) x) w.known.made) (all_refs new) → (d : Desc (List ℕ)) → In d (all_refs new) → Known t (held_name d)
-  left_known new h d i = knows_known w.known.made made_views d (in_each (Knows digest (CameFrom (brings digest shelves sc inputs order) x) w.known.made) (all_refs new) d h i)
+  left_known : (new : Stand (List ℕ)) → Each (Knows digest (CameFrom (brings digest shelves sc inputs order) x) w.knows.made) (all_refs new) → (d : Desc (List ℕ)) → In d (all_refs new) → Known t (held_name d)
+  left_known new h d i = knows_known w.knows.made made_views d (in_each (Knows digest (CameFrom (brings digest shelves sc inputs order) x) w.knows.made) (all_refs new) d h i)
 
   abbrev W : P → ℕ
   W p = p.worker
@@ -363,8 +363,8 @@ module _ (digest : List ℕ → List ℕ) (shelves : ShelvesSeen) (sc : Script) 
   brought_known : AllKnown t (names_in order.inputs.items)
   brought_known = known_all t0 t more (names_in order.inputs.items) rows.brought
 
-  copied_fit : j.Each (CopyFits W t (order_view order)) (copies_view r.copied.items) × IsDistinct same_text (copy_names (copies_view r.copied.items))
-  copied_fit = (copies_fit shelves inputs order t r.copied.items w.copies.0 brought_known, subst (IsDistinct same_text) (sym (copies_named shelves inputs order r.copied.items w.copies.0)) w.copies.1)
+  copied_fit : j.Each (CopyFits digest W t (order_view order)) (copies_view r.copied.items) × IsDistinct same_text (copy_names (copies_view r.copied.items))
+  copied_fit = (copies_fit digest shelves inputs order t r.copied.items w.copies.0 brought_known, subst (IsDistinct same_text) (sym (copies_named digest shelves inputs order r.copied.items w.copies.0)) w.copies.1)
 
   further_on : (step : Step) (new : Stand (List ℕ)) → step ≡ Step.Waits → Further x step new → order.from < stand_wait new
   further_on Step.Waits new e f = let from : stand_wait x ≡ order.from = b.wait in omega (arith, f, from)
@@ -377,9 +377,9 @@ module _ (digest : List ℕ → List ℕ) (shelves : ShelvesSeen) (sc : Script) 
       no : Step.Shown a ≡ Step.Waits → ⊥
       no q = cc
 
-  end_fits : (step : Step) (new : Stand (List ℕ)) (end : rust_end.End) → EndIs shelves order.worker order.task step new end → LeavesKnown digest (CameFrom (brings digest shelves sc inputs order) x) w.known.made step new → Further x step new → EndFits digest W (order_view order) t (how_view r.copied.items end)
+  end_fits : (step : Step) (new : Stand (List ℕ)) (end : rust_end.End) → EndIs shelves order.worker order.task step new end → LeavesKnown digest (CameFrom (brings digest shelves sc inputs order) x) w.knows.made step new → Further x step new → EndFits digest W (order_view order) t (how_view r.copied.items end)
   end_fits (Step.Ended obj) new (rust_end.End.Made ms) (m, one, k) leaves f =
-      (subst (λ xs. j.Each (OutputFits W t (order_view order)) (map output_view xs)) (sym one) (record { known = more m.name (task_known m.name k.name); here = k.lies.worker }, tt), copied_fit)
+      (subst (λ xs. j.Each (OutputFits digest W t (order_view order)) (map output_view xs)) (sym one) (record { known = more m.name (task_known m.name k.name); here = k.lies.worker }, tt), copied_fit)
   end_fits (Step.Ended obj) new (rust_end.End.Saved p i refs holds mk) k leaves f = absurd k
   end_fits (Step.Ended obj) new (rust_end.End.Shown a) k leaves f = absurd k
   end_fits (Step.Ended obj) new (rust_end.End.Missing nm loss seen) k leaves f = absurd k
@@ -403,11 +403,11 @@ module _ (digest : List ℕ → List ℕ) (shelves : ShelvesSeen) (sc : Script) 
   fits_in = record {
     inside = to_journal (λ (n : Named). AllKnown t (start_refs n.desc)) items (inside_from [] items refl);
     tasks = to_journal (λ (n : Named). Known t (digested digest (first_output (desc_view n.desc)))) items (tasks_from items (λ n i. viewed n items i));
-    end = end_fits w.step w.new r.end w.end w.known.leaves w.further;
+    end = end_fits w.step w.new r.end w.end w.knows.leaves w.further;
   }
 
   -- each that is spawned has its name, and can be spelled
-  spelled_of : NamedUseNothing sc.funs → (ns : List Named) → ((n : Named) → In n ns → In (named_view n) views) → Each (λ (n : Named). n.name ≡ digested digest (named_view n)) ns → Each (λ (n : Named). TypedDesc (named_view n) × DescOverNames (named_view n)) ns → j.Each (IsNamed digest) ns
+  spelled_of : NamedUseNothing sc.funs → (ns : List Named) → ((n : Named) → In n ns → In (named_view n) views) → Each (λ (n : Named). n.name ≡ digested digest (named_view n)) ns → Each (λ (n : Named). DescTold (named_view n)) ns → j.Each (IsNamed digest) ns
   spelled_of bare [] f names typed = tt
   spelled_of bare (n ∷ ns) f names typed =
       (record { name = names.0; spelled = sound_spelled sc bare (named_view n) typed.0.0 typed.0.1 (in_each (SoundDesc sc) views (named_view n) sound_made (f n (inl refl))) }, spelled_of bare ns (λ m i. f m (inr i)) names.1 typed.1)

@@ -1,6 +1,9 @@
+pub mod Starting
 pub mod Beginning
 pub mod Clearing
 pub mod Making
 pub mod Telling
 pub mod Lying
+pub mod Going
 pub mod Fitting
+pub mod Performing

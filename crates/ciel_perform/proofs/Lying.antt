@@ -134,7 +134,7 @@ module _ (digest : List ℕ → List ℕ) (job : s.Job) (gives : Gives) (keyed :
     copies_lie : (cs : List Held) → t.Each (IsCopy shelves order.worker job.inputs order.inputs.items) cs → j.Each (CopyLies S o) (copies_view cs)
     copies_lie [] e = tt
     copies_lie (c ∷ cs) e =
-        subst (j.Each (CopyLies S o)) (sym (copy_seen shelves job.inputs order c e.0 cs)) (copy_lies c e.0, copies_lie cs e.1)
+        subst (j.Each (CopyLies S o)) (sym (copy_seen digest shelves job.inputs order c e.0 cs)) (copy_lies c e.0, copies_lie cs e.1)
 
     -- ---- what was made, and where it stands
 

@@ -112,7 +112,7 @@ module _ {D B : Type 0} (job : Job D) (inner : Inner D) (lower : D → B) (o : O
 
 -- ---- lists
 
-in_mapped : {A B : Type 0} (g : A → B) (xs : List A) (y : B) → t.In y (map g xs) → (x : A) × t.In x xs × (y ≡ g x)
+pub in_mapped : {A B : Type 0} (g : A → B) (xs : List A) (y : B) → t.In y (map g xs) → (x : A) × t.In x xs × (y ≡ g x)
 in_mapped g [] y h = absurd h
 in_mapped g (x ∷ xs) y (inl e) = (x, inl refl, e)
 in_mapped g (x ∷ xs) y (inr h) = let more = in_mapped g xs y h in (more.0, inr more.1, more.2)
@@ -176,7 +176,7 @@ module _ (digest : List ℕ → List ℕ) (job : s.Job) (gives : Gives) (keyed :
   brought = lies_known job.inputs order.inputs.items
 
   module _ (shelves : ShelvesSeen) (r : rust.Report) (w : Went digest shelves job.script job.inputs order x r) where
-    said : SaysWhere digest mark frozen job around o brought x w.new w.step [] (spawned_in digest shelves job.script job.inputs order r) w.through
+    pub said : SaysWhere digest mark frozen job around o brought x w.new w.step [] (spawned_in digest shelves job.script job.inputs order r) w.through
     said = says_where digest mark frozen job around plain alike writes o brought x w.new w.step [] (spawned_in digest shelves job.script job.inputs order r) (begins digest job gives o order is x b keyed apart) w.through
 
     abbrev Passed : Type 0
@@ -234,7 +234,7 @@ module _ (digest : List ℕ → List ℕ) (job : s.Job) (gives : Gives) (keyed :
       pub copies_are : CopiesAre J (real_inner job around) (S.lower) o (copy_names (copies_view r.copied.items))
       copies_are =
           let all = copies_of r.copied.items w.copies.0 (λ c i. i) in
-          (all.0, all.1, distinct_of J.same J.name same_exact all.0 (subst (IsDistinct same_text) (all.2 ∙ low_map all.0) w.copies.1), copies_named shelves job.inputs order r.copied.items w.copies.0 ∙ all.2)
+          (all.0, all.1, distinct_of J.same J.name same_exact all.0 (subst (IsDistinct same_text) (all.2 ∙ low_map all.0) w.copies.1), copies_named digest shelves job.inputs order r.copied.items w.copies.0 ∙ all.2)
 
     -- ---- the report
 

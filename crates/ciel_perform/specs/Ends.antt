@@ -3,9 +3,13 @@ use Rattle.std.specs.Prelude.{◌≡◌, ℕ, List, [], ◌∷◌, Option, Some}
 use Rattle.sha1.specs.Sha1.{sha1}
 use Rattle.sky_base.specs.ObjectView.{object_view}
 use Rattle.sky_base.specs.Val.{same_text}
+use Rattle.sky_base.specs.declared.object.Named.{Named}
 use Rattle.sky_base.specs.declared.object.Object.{Object}
 use Rattle.sky_base.specs.declared.object.TaskId.{TaskId}
 use Rattle.sky_frozen.specs.Bytes.{frozen_bytes}
+use Rattle.sky_law.specs.Tasks.{Each}
+use Rattle.sky_typed.specs.Told.{DescTold}
+use Rattle.ciel_board.specs.Reports.{named_view}
 use Rattle.sky_onward.specs.Steps.{Spawned}
 use Rattle.sky_onward.specs.declared.step.Step.{Step}
 use Rattle.sky_state.specs.Pending.{held_in, pending_in, stand_wait}
@@ -52,12 +56,12 @@ module _ (shelves : ShelvesSeen) (w : ℕ) where
     pub mark : m.mark ≡ sha1 (object_bytes (object_view o))
 
   -- the stack of the state lies there; the number of its wait, the names of what it waits for and holds there, and its mark
-  pub record IsSaved (s : Stand (List ℕ)) (p : PlaceSeen Block) (j : ℕ) (refs holds : List (List ℕ)) (mark : List ℕ) : Type 0 where
+  pub record IsSaved (s : Stand (List ℕ)) (p : PlaceSeen Block) (j : ℕ) (waited kept : List (List ℕ)) (m : List ℕ) : Type 0 where
     pub lies : LiesAt (Block.Frozen s) p
     pub wait : j ≡ stand_wait s
-    pub refs : refs ≡ names_of (pending_in same_text s)
-    pub holds : holds ≡ names_of (held_in same_text s)
-    pub mark : mark ≡ sha1 (frozen_bytes s)
+    pub refs : waited ≡ names_of (pending_in same_text s)
+    pub holds : kept ≡ names_of (held_in same_text s)
+    pub mark : m ≡ sha1 (frozen_bytes s)
 
   abbrev pub SavedSo : Stand (List ℕ) → End → Type 0
   SavedSo s (End.Saved p j refs holds mark) = IsSaved s p j refs holds mark
@@ -89,8 +93,9 @@ told_copies Step.Waits cs = []
 told_copies _ cs = cs
 
 -- the report of an order that came to this step, with the state after it, and of what was spawned and copied
-pub record CameSo (shelves : ShelvesSeen) (order : Order) (step : Step) (s : Stand (List ℕ)) (spawned : Spawned) (copied : List Held) (r : Report) : Type 0 where
+pub record CameSo (shelves : ShelvesSeen) (order : Order) (step : Step) (s : Stand (List ℕ)) (made : Spawned) (cs : List Held) (r : Report) : Type 0 where
   pub of : IsOf order r
-  pub spawned : spawned_view r.spawned.items ≡ spawned
-  pub copied : r.copied.items ≡ told_copies step copied
+  pub spawned : spawned_view r.spawned.items ≡ made
+  pub typed : Each (λ (n : Named). DescTold (named_view n)) r.spawned.items
+  pub copied : r.copied.items ≡ told_copies step cs
   pub end : EndIs shelves order.worker order.task step s r.end

@@ -1,13 +1,12 @@
 -- What the run of an order of a call or of the root task comes to.
-use Rattle.std.specs.Prelude.{◌≡◌, ℕ, List, [], Option}
+use Rattle.std.specs.Prelude.{◌≡◌, ℕ, List, [], Option, Result, Ok, Err}
 use Rattle.sky_base.specs.Res.{Object}
 use Rattle.sky_base.specs.Tree.{Script}
 use Rattle.sky_base.specs.Val.{Desc, known, same_text}
 use Rattle.sky_base.specs.declared.object.Named.{Named}
 use Rattle.sky_law.specs.Tasks.{Each, In}
-use Rattle.sky_law.specs.Typed.{TypedDesc}
+use Rattle.sky_typed.specs.Told.{DescTold}
 use Rattle.ciel_board.specs.Reports.{named_view}
-use Rattle.ciel_spelled.specs.Typed.{DescOverNames}
 use Rattle.sky_onward.specs.Exactly.{FitsAfter}
 use Rattle.sky_onward.specs.Knows.{KnowsNames}
 use Rattle.sky_onward.specs.Onward.{GrewSoundly}
@@ -29,6 +28,7 @@ use Rattle.ciel_task.specs.declared.report.Report.{Report}
 use Rattle.ciel_brought.specs.Brought.{lies_known}
 use Rattle.ciel_brought.specs.Copies.{Copies}
 use Rattle.ciel_finds.specs.Finds.{IsLost}
+use Rattle.ciel_finds.specs.declared.brought.Lost.{Lost}
 use Rattle.ciel_perform.specs.Begins.{BeginsAt, StackIsLost}
 use Rattle.ciel_perform.specs.Ends.{EndIs, IsOf, TellsMissing}
 
@@ -45,6 +45,23 @@ module _ (digest : List ℕ → List ℕ) (shelves : ShelvesSeen) (sc : Script) 
   abbrev pub spawned_in : Report → Spawned
   spawned_in r = spawned_view r.spawned.items
 
+  -- going through its waits the task came from this state to this step, with this state after it, where so much was spawned and copied
+  pub record CameThrough (s new : Stand (List ℕ)) (spawned : Spawned) (step : Step) (copied : List Held) : Type 0 where
+    pub through : Through brings digest sc s new step [] spawned
+    pub fits : FitsAfter sc new step
+    pub kind : SameKind s step new
+    pub further : Further s step new
+    pub sound : GrewSoundly digest sc [] spawned
+    pub whole : GrewWhole digest [] spawned
+    pub knows : KnowsNames digest (CameFrom brings s) step new [] spawned
+    pub copies : Copies shelves order.worker inputs order.inputs.items copied
+    pub asked : (n : List ℕ) → In n (names_in copied) → (q : Stand (List ℕ)) × PassedAt brings digest sc s new step [] spawned through q × In (known n) (pending_in same_text q)
+
+  -- or an object was lost
+  abbrev pub WentThrough : (s new : Stand (List ℕ)) → Spawned → SeatSeen → Result Step Lost → (copied : List Held) → Type 0
+  WentThrough s new spawned eye (Ok step) copied = CameThrough s new spawned step copied
+  WentThrough s new spawned eye (Err l) copied = IsLost order.inputs.items l.name l.loss eye
+
   -- the task went from this state through its waits as far as the order brings along what it waits for, and this is its report
   pub record Went (s : Stand (List ℕ)) (r : Report) : Type 0 where
     pub step : Step
@@ -55,9 +72,9 @@ module _ (digest : List ℕ → List ℕ) (shelves : ShelvesSeen) (sc : Script) 
     pub kind : SameKind s step new
     pub sound : GrewSoundly digest sc [] (spawned_in r)
     pub whole : GrewWhole digest [] (spawned_in r)
-    pub known : KnowsNames digest (CameFrom brings s) step new [] (spawned_in r)
+    pub knows : KnowsNames digest (CameFrom brings s) step new [] (spawned_in r)
     pub further : Further s step new
-    pub typed : Each (λ (n : Named). TypedDesc (named_view n) × DescOverNames (named_view n)) r.spawned.items
+    pub typed : Each (λ (n : Named). DescTold (named_view n)) r.spawned.items
     pub end : EndIs shelves order.worker order.task step new r.end
     -- what was copied is what it waited for
     pub copies : Copies shelves order.worker inputs order.inputs.items r.copied.items

@@ -5,32 +5,59 @@ ghost use Rattle.sky_base.specs.JobView.{job_view};
 ghost use Rattle.sky_onward.specs.Onward.{IsRead};
 ghost use Rattle.sky_state.specs.StateView.{stand_of, spawned_of};
 ghost use Rattle.ciel_task.specs.Orders.{OrderSound};
+ghost use Rattle.ciel_task.specs.Performs.{Performs};
+ghost use Rattle.ciel_task.specs.Places.{PlacesSound};
+ghost use Rattle.ciel_task.specs.Shop.{InputsInOrder};
 ghost use Rattle.ciel_perform.specs.Begins.{BeginsAt, HasState};
 ghost use Rattle.ciel_perform.specs.Ends.{CameSo, StepOf, told_copies};
-ghost use Rattle.ciel_perform.specs.Runs.{Ran};
+ghost use Rattle.ciel_perform.specs.Runs.{Ran, WentThrough};
 
 use crate::begin::{Begun, begin};
 use crate::end::{end_of, missing, stack_name};
-use ciel_finds::brought::Brought;
+use ciel_finds::brought::{Brought, Lost};
 use ciel_name::name::Namer;
 use ciel_store::seats::Eye;
 use ciel_task::block::Held;
 use ciel_task::order::Order;
 use ciel_task::report::Report;
 use ciel_task::shop::Shop;
+use sky_base::kit::Kit;
 use sky_base::text::Memory;
 use sky_numbers::code::number_script;
 use sky_onward::step::Step;
 use sky_state::state::State;
 use sky_through::through::run_through;
+use sky_typed::read::read_all;
 use std::alloc::Global;
 use std::sync::Wait;
 
 /// Performs an order of a call or of the root task: from its stack or its start it goes on through each wait whose objects the order
-/// brings along, up to its end or the first other wait.
+/// brings along, up to its end or the first other wait. An object, or the stack of that wait, is put on the worker's shelf and told in
+/// the report.
 ///
 /// Answers `Memory` for want of memory.
-pub fn run_task<K, N: Namer, R: Wait>(
+pub fn run_task<K: Kit, N: Namer, R: Wait>(
+    rt: &R,
+    alloc: Global,
+    shop: &Shop<K, N>,
+    order: &Order,
+    eye: &mut Eye,
+) -> Result<Report, Memory>
+    requires sound { OrderSound (N.digest shop.now.namer) shop.now.shelves (job_view shop.now.job).script (length (job_view shop.now.job).inputs) order.now }
+    requires read { IsRead (job_view shop.now.job).script }
+    requires inputs { InputsInOrder (job_view shop.now.job) }
+    requires state { HasState order.now.desc }
+    requires eye { eye.old.of ≡ shop.now.shelves.of }
+    ensures of { eye.new.of ≡ eye.old.of }
+    ensures performs { IfOk result (Performs (N.digest shop.now.namer) (job_view shop.now.job) (K.gives shop.now.kit) order.now) }
+    ensures places { IfOk result (PlacesSound shop.now.shelves order.now.worker (job_view shop.now.job).script) }
+{
+    let report = run(rt, alloc, shop, order, eye)?;
+    Ok(report)
+}
+
+// The run of the order, and its report.
+fn run<K, N: Namer, R: Wait>(
     rt: &R,
     alloc: Global,
     shop: &Shop<K, N>,
@@ -73,22 +100,10 @@ fn go_on<K, N: Namer, R: Wait>(
     ensures of { eye.new.of ≡ eye.old.of }
     ensures ran { IfOk result (Ran (N.digest shop.now.namer) shop.now.shelves (job_view shop.now.job).script (job_view shop.now.job).inputs order.now eye.new) }
 {
-    let numbered = number_script(alloc, &shop.job.script)?;
-    let held = order.inputs.as_slice();
-    let mut finder = Brought::new(
-        rt,
-        alloc,
-        &shop.job,
-        &shop.shelves,
-        order.worker,
-        held,
-        eye,
-    )?;
-    let went = run_through(alloc, &numbered, &mut state, &mut finder, &shop.namer)?;
-    let Brought { copied, .. } = finder;
+    let (went, copied) = through(rt, alloc, shop, order, &mut state, eye)?;
     match went {
         Ok(step) => {
-            let report = came_to(rt, alloc, shop, order, step, state, copied.items)?;
+            let report = came_to(rt, alloc, shop, order, step, state, copied)?;
             Ok(report)
         }
         Err(lost) => Ok(missing(
@@ -100,6 +115,38 @@ fn go_on<K, N: Namer, R: Wait>(
             eye,
         )),
     }
+}
+
+// The task goes through its waits as far as the order brings along what it waits for. Beside what it came to stands what was copied.
+fn through<'a, K, N: Namer, R: Wait>(
+    rt: &'a R,
+    alloc: Global,
+    shop: &'a Shop<K, N>,
+    order: &'a Order,
+    state: &mut State,
+    eye: &'a mut Eye,
+) -> Result<(Result<Step, Lost>, Vec<Held>), Memory>
+    requires sound { OrderSound (N.digest shop.now.namer) shop.now.shelves (job_view shop.now.job).script (length (job_view shop.now.job).inputs) order.now }
+    requires read { IsRead (job_view shop.now.job).script }
+    requires begins { BeginsAt (job_view shop.now.job).script order.now (stand_of state.old) }
+    requires spawned { spawned_of state.old ≡ [] }
+    requires eye { eye.old.of ≡ shop.now.shelves.of }
+    ensures of { eye.new.of ≡ eye.old.of }
+    ensures went { IfOk result (λ r. WentThrough (N.digest shop.now.namer) shop.now.shelves (job_view shop.now.job).script (job_view shop.now.job).inputs order.now (stand_of state.old) (stand_of state.new) (spawned_of state.new) eye.new r.0 r.1.items) }
+{
+    let numbered = number_script(alloc, &shop.job.script)?;
+    let mut finder = Brought::new(
+        rt,
+        alloc,
+        &shop.job,
+        &shop.shelves,
+        order.worker,
+        order.inputs.as_slice(),
+        eye,
+    )?;
+    let went = run_through(alloc, &numbered, state, &mut finder, &shop.namer)?;
+    let Brought { copied, .. } = finder;
+    Ok((went, copied.items))
 }
 
 // The report of a run that came to this step, with the state after it and what was copied.
@@ -118,6 +165,7 @@ fn came_to<K, N: Namer, R: Wait>(
 {
     let copied = at_end(alloc, &step, copied);
     let spawned = state.take_spawned(alloc).into_vec();
+    read_all(spawned.as_slice());
     let end = end_of(
         rt,
         alloc,
