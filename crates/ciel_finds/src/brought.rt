@@ -1,15 +1,12 @@
 //! The finder of what an order brings along.
 
-ghost use Rattle.std.specs.Prelude.{◌≡◌, ◌<◌, [], IfOk, length};
 ghost use Rattle.sky_base.specs.JobView.{job_view};
-ghost use Rattle.sky_law.specs.Tasks.{Each};
-ghost use Rattle.ciel_task.specs.Orders.{SpotSound};
 ghost use Rattle.ciel_brought.specs.Brought.{lies_known};
 ghost use Rattle.ciel_finds.specs.Finds.{CanBring, IsLost, WasCopied};
 ghost use Rattle.ciel_finds.specs.Stays.{Stays};
 
 use crate::copied::{Copied, bring_once};
-use ciel_inputs::index::{find, index};
+use ciel_inputs::index::find;
 use ciel_store::loss::Loss;
 use ciel_store::seats::Eye;
 use ciel_store::shelves::Shelves;
@@ -41,44 +38,6 @@ pub struct Brought<'a, R> {
     pub places: BTreeMap<Name, usize>,
     pub eye: &'a mut Eye,
     pub copied: Copied,
-}
-
-impl<'a, R: Wait> Brought<'a, R> {
-    /// A finder of what these give, with nothing copied yet.
-    ///
-    /// Answers `Memory` for want of memory.
-    pub fn new(
-        rt: &'a R,
-        alloc: Global,
-        job: &'a Job,
-        shelves: &'a Shelves<Block>,
-        worker: u32,
-        held: &'a [Held],
-        eye: &'a mut Eye,
-    ) -> Result<Brought<'a, R>, Memory>
-        requires spots { Each (λ (h : Held). SpotSound shelves.now (job_view job.now).script (length (job_view job.now).inputs) h.at) held.now }
-        requires eye { eye.old.of ≡ shelves.now.of }
-        requires worker { worker < length shelves.now.rows }
-        ensures same { IfOk result (λ b. b.eye.ghost_name ≡ eye.entry.ghost_name) }
-        ensures can { IfOk result (λ b. CanBring shelves.now worker (job_view job.now).script (job_view job.now).inputs held.now b.places b.eye.now b.copied) }
-        ensures job { IfOk result (λ b. b.job.now ≡ job.now) }
-        ensures shelves { IfOk result (λ b. b.shelves.now ≡ shelves.now) }
-        ensures worker { IfOk result (λ b. b.worker ≡ worker) }
-        ensures held { IfOk result (λ b. b.held.now ≡ held.now) }
-        ensures copied { IfOk result (λ b. b.copied.items.items ≡ []) }
-    {
-        let places = index(alloc, held)?;
-        Ok(Brought {
-            rt,
-            job,
-            shelves,
-            worker,
-            held,
-            places,
-            eye,
-            copied: Copied::new(alloc),
-        })
-    }
 }
 
 impl<'a, R: Wait> Finds for Brought<'a, R> {

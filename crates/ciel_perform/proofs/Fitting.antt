@@ -1,5 +1,5 @@
 -- The report of a run fits its order, in each state of a master whose table has rows for the names of the order.
-use Rattle.std.proofs.Common.{◌≡◌, ◌<◌, ℕ, suc, List, [], ◌∷◌, ◌++◌, map, append_assoc, length, Bool, true, false, cond, Option, Some, None, IsSome, ◌⊎◌, inl, inr, refl, sym, ap, subst, ◌∙◌, arith}
+use Rattle.std.proofs.Common.{◌≡◌, ◌<◌, ℕ, suc, List, [], ◌∷◌, ◌++◌, map, append_assoc, length, Bool, true, false, cond, Option, Some, None, IsSome, ◌⊎◌, inl, inr, refl, sym, ap, subst, ◌∙◌, slice_get, arith}
 use Rattle.std.specs.List.{AllByRecursion, IsDistinct}
 use Rattle.std.specs.Option.{option_map}
 use Rattle.std.proofs.lemmas.List.{append-nil, map-append}
@@ -20,6 +20,7 @@ use Rattle.sky_law.specs.Sound.{SoundDesc}
 use Rattle.sky_law.specs.Tasks.{Each, In}
 use Rattle.sky_law.proofs.Lists.{some_is}
 use Rattle.sky_law.proofs.TaskOutputs.{distinct_in, in_distinct, in_each}
+use Rattle.sky_onward.specs.Exactly.{gone_of}
 use Rattle.sky_onward.specs.Knows.{Known as Knows, LeavesKnown, inside_refs}
 use Rattle.sky_onward.specs.Onward.{IsRead}
 use Rattle.sky_onward.specs.declared.step.Step.{Step}
@@ -32,12 +33,10 @@ use Rattle.ciel_board.specs.Board.{start_refs}
 use Rattle.ciel_board.specs.Reports.{IsNamed, copy_names, learned_all, named_view}
 use Rattle.ciel_board.specs.Sound as board
 use Rattle.ciel_board.specs.Sound.{CopyFits, EndFits, FitsIn, OutputFits, StackFits}
-use Rattle.ciel_board.proofs.Learning.{Comes, comes, new, there}
-use Rattle.ciel_board.proofs.Sounding.{all_keeps, known_all}
+use Rattle.ciel_board.proofs.Learning as learn
+use Rattle.ciel_board.proofs.Sounding.{all_keeps}
 use Rattle.ciel_journal.specs.Job as j
-use Rattle.ciel_meant.proofs.RealLaw.{in_from, in_to}
 use Rattle.ciel_name.specs.Names.{first_output}
-use Rattle.ciel_setting.proofs.Binding.{bound_from}
 use Rattle.ciel_spelled.specs.Typed.{NamedUseNothing}
 use Rattle.ciel_spelled.proofs.Bare.{sound_spelled}
 use Rattle.ciel_spelled.proofs.Made.{script_uses}
@@ -45,6 +44,7 @@ use Rattle.sky_typed.specs.Told.{DescTold}
 use Rattle.ciel_store.specs.Seen.{ShelvesSeen}
 use Rattle.ciel_table.specs.Learning.{learned, new_row}
 use Rattle.ciel_table.specs.Named.{found, place_of}
+use Rattle.ciel_table.proofs.Lists.{all_more}
 use Rattle.ciel_table.specs.Seen.{Known, TableSeen, find, row_name}
 use Rattle.ciel_table.specs.declared.row.Row.{Row}
 use Rattle.ciel_want.specs.Waited.{AllKnown, names_of}
@@ -68,21 +68,11 @@ use Rattle.ciel_finds.proofs.Finding.{lies_found, lies_none}
 use Rattle.ciel_perform.specs.Begins.{BeginsAt, HasState, IsFrom, IsStartOf}
 use Rattle.ciel_perform.specs.Ends.{EndIs, IsMade}
 use Rattle.ciel_perform.specs.Runs.{Went, brings, spawned_in}
+use Rattle.ciel_perform.proofs.Binding.{behind, bound_from, in_front}
 use Rattle.ciel_perform.proofs.Making.{names_are, same_made}
 
 none_not : {A : Type 0} {a : A} → None ≡ Some a → ⊥
 none_not e = cc
-
--- ---- lists
-
-in_front : (d : Desc (List ℕ)) (xs ys : List (Desc (List ℕ))) → In d xs → In d (xs ++ ys)
-in_front d [] ys i = absurd i
-in_front d (z ∷ xs) ys (inl e) = inl e
-in_front d (z ∷ xs) ys (inr i) = inr (in_front d xs ys i)
-
-behind : (d : Desc (List ℕ)) (xs ys : List (Desc (List ℕ))) → In d ys → In d (xs ++ ys)
-behind d [] ys i = i
-behind d (z ∷ xs) ys i = inr (behind d xs ys i)
 
 -- ---- tables
 
@@ -124,15 +114,15 @@ last_place (x ∷ rs) r = go (same_text r.name x.name) (place_of row_name r.name
     go false None e h = subst IsSome e h
 
 one_learned : (digest : List ℕ → List ℕ) (n : Named) (t : TableSeen P) → Known (learned digest n t) n.name
-one_learned digest n t = go (comes digest n t)
+one_learned digest n t = go (learn.comes digest n t)
   where
     is_some : (o : Option ℕ) → (o ≡ None → ⊥) → IsSome o
     is_some None h = absurd (h refl)
     is_some (Some i) h = refl
 
-    go : Comes digest n t → Known (learned digest n t) n.name
-    go (there e r i q some f) = subst (λ rs. IsSome (place_of row_name n.name rs)) (sym e) (is_some (find n.name t) some)
-    go (new e none) = subst (λ rs. IsSome (place_of row_name n.name rs)) (sym e) (last_place t.rows (new_row digest n))
+    go : learn.Comes digest n t → Known (learned digest n t) n.name
+    go (learn.there e r i q some f) = subst (λ rs. IsSome (place_of row_name n.name rs)) (sym e) (is_some (find n.name t) some)
+    go (learn.new e none) = subst (λ rs. IsSome (place_of row_name n.name rs)) (sym e) (last_place t.rows (new_row digest n))
 
 all_learned : (digest : List ℕ → List ℕ) (ns : List Named) (t : TableSeen P) → Each (λ (n : Named). Known (learned_all digest ns t) n.name) ns
 all_learned digest [] t = tt
@@ -167,7 +157,7 @@ module _ (digest : List ℕ → List ℕ) (shelves : ShelvesSeen) (sc : Script) 
 
   call_known : (f : List ℕ) (c : Pairs (List ℕ)) (vs : Vals (List ℕ)) (o : Option Body) → StartsIn o f c vs x → AllKnown t0 (names_of (distinct same_text (pairs_refs c ++ vals_refs vs))) → (d : Desc (List ℕ)) → In d (all_refs x) → Known t0 (held_name d)
   call_known f c vs None s a d i = absurd s
-  call_known f c vs (Some y) s a d i = arg (bound_from y.params vs c d (in_to d (pairs_refs (bind y.params vs c)) (first (pairs_refs (bind y.params vs c)) (subst (λ z. In d (all_refs z)) s i))))
+  call_known f c vs (Some y) s a d i = arg (bound_from y.params vs c d (first (pairs_refs (bind y.params vs c)) (subst (λ z. In d (all_refs z)) s i)))
     where
       first : (ds : List (Desc (List ℕ))) → In d ((ds ++ []) ++ []) → In d ds
       first ds i = subst (In d) (append-nil ds) (subst (In d) (append-nil (ds ++ [])) i)
@@ -180,9 +170,9 @@ module _ (digest : List ℕ → List ℕ) (shelves : ShelvesSeen) (sc : Script) 
           among (e ∷ es) a (inl q) = subst (λ z. Known t0 (held_name z)) (sym q) a.0
           among (e ∷ es) a (inr i) = among es a.1 i
 
-      arg : j.In d (vals_refs vs) ⊎ j.In d (pairs_refs c) → Known t0 (held_name d)
-      arg (inl k) = one_known (pairs_refs c ++ vals_refs vs) a (behind d (pairs_refs c) (vals_refs vs) (in_from d (vals_refs vs) k))
-      arg (inr k) = one_known (pairs_refs c ++ vals_refs vs) a (in_front d (pairs_refs c) (vals_refs vs) (in_from d (pairs_refs c) k))
+      arg : In d (vals_refs vs) ⊎ In d (pairs_refs c) → Known t0 (held_name d)
+      arg (inl k) = one_known (pairs_refs c ++ vals_refs vs) a (behind d (pairs_refs c) (vals_refs vs) k)
+      arg (inr k) = one_known (pairs_refs c ++ vals_refs vs) a (in_front d (pairs_refs c) (vals_refs vs) k)
 
   start_known : (desc : Option Desc1) → order.desc ≡ desc → order.saved ≡ None → IsStartOf sc order.main desc x → (d : Desc (List ℕ)) → In d (all_refs x) → Known t0 (held_name d)
   start_known None e q s d i = go (subst (λ z. In d (all_refs z)) s.0 i)
@@ -361,13 +351,20 @@ module _ (digest : List ℕ → List ℕ) (shelves : ShelvesSeen) (sc : Script) 
   W p = p.worker
 
   brought_known : AllKnown t (names_in order.inputs.items)
-  brought_known = known_all t0 t more (names_in order.inputs.items) rows.brought
+  brought_known = all_more (Known t0) (Known t) more (names_in order.inputs.items) rows.brought
 
   copied_fit : j.Each (CopyFits digest W t (order_view order)) (copies_view r.copied.items) × IsDistinct same_text (copy_names (copies_view r.copied.items))
   copied_fit = (copies_fit digest shelves inputs order t r.copied.items w.copies.0 brought_known, subst (IsDistinct same_text) (sym (copies_named digest shelves inputs order r.copied.items w.copies.0)) w.copies.1)
 
+  gone_wait : (s : Stand (List ℕ)) → gone_of s ≡ stand_wait s
+  gone_wait (Stand.run q) = refl
+  gone_wait (Stand.show_at u i) = refl
+
   further_on : (step : Step) (new : Stand (List ℕ)) → step ≡ Step.Waits → Further x step new → order.from < stand_wait new
-  further_on Step.Waits new e f = let from : stand_wait x ≡ order.from = b.wait in omega (arith, f, from)
+  further_on Step.Waits new e f = let from : stand_wait x ≡ order.from = b.wait in
+      let old = gone_wait x in
+      let now = gone_wait new in
+      omega (arith, f, from, old, now)
   further_on (Step.Ended o) new e f = absurd (no e)
     where
       no : Step.Ended o ≡ Step.Waits → ⊥
@@ -379,12 +376,12 @@ module _ (digest : List ℕ → List ℕ) (shelves : ShelvesSeen) (sc : Script) 
 
   end_fits : (step : Step) (new : Stand (List ℕ)) (end : rust_end.End) → EndIs shelves order.worker order.task step new end → LeavesKnown digest (CameFrom (brings digest shelves sc inputs order) x) w.knows.made step new → Further x step new → EndFits digest W (order_view order) t (how_view r.copied.items end)
   end_fits (Step.Ended obj) new (rust_end.End.Made ms) (m, one, k) leaves f =
-      (subst (λ xs. j.Each (OutputFits digest W t (order_view order)) (map output_view xs)) (sym one) (record { known = more m.name (task_known m.name k.name); here = k.lies.worker }, tt), copied_fit)
-  end_fits (Step.Ended obj) new (rust_end.End.Saved p i refs holds mk) k leaves f = absurd k
+      (subst (λ xs. j.Each (OutputFits digest W t (order_view order)) (map output_view xs)) (sym one) (record { known = more m.name (task_known m.name k.name); here = k.lies.worker }, tt), copied_fit.0, copied_fit.1)
+  end_fits (Step.Ended obj) new (rust_end.End.Saved p i waited kept mk) k leaves f = absurd k
   end_fits (Step.Ended obj) new (rust_end.End.Shown a) k leaves f = absurd k
   end_fits (Step.Ended obj) new (rust_end.End.Missing nm loss seen) k leaves f = absurd k
   end_fits Step.Waits new (rust_end.End.Made ms) k leaves f = absurd k
-  end_fits Step.Waits new (rust_end.End.Saved p i refs holds mk) k leaves f =
+  end_fits Step.Waits new (rust_end.End.Saved p i waited kept mk) k leaves f =
       record {
         later = subst (λ z. order.from < z) (sym k.wait) (further_on Step.Waits new refl f);
         here = k.lies.worker;
@@ -394,8 +391,8 @@ module _ (digest : List ℕ → List ℕ) (shelves : ShelvesSeen) (sc : Script) 
   end_fits Step.Waits new (rust_end.End.Shown a) k leaves f = absurd k
   end_fits Step.Waits new (rust_end.End.Missing nm loss seen) k leaves f = absurd k
   end_fits (Step.Shown a) new (rust_end.End.Made ms) k leaves f = absurd k
-  end_fits (Step.Shown a) new (rust_end.End.Saved p i refs holds mk) k leaves f = absurd k
-  end_fits (Step.Shown a) new (rust_end.End.Shown c) k leaves f = (tt, copied_fit)
+  end_fits (Step.Shown a) new (rust_end.End.Saved p i waited kept mk) k leaves f = absurd k
+  end_fits (Step.Shown a) new (rust_end.End.Shown c) k leaves f = (tt, copied_fit.0, copied_fit.1)
   end_fits (Step.Shown a) new (rust_end.End.Missing nm loss seen) k leaves f = absurd k
 
   -- the report fits in the table after it is learned

@@ -11,14 +11,19 @@ use Rattle.sky_state.specs.Stand.{Stand}
 use Rattle.sky_through.specs.Found.{SameKind}
 use Rattle.sky_through.specs.Through.{PassedAt}
 use Rattle.ciel_journal.proofs.Members.{distinct_none}
-use Rattle.ciel_store.specs.Seen.{ShelvesSeen}
+use Rattle.ciel_board.specs.Sound.{own_name}
+use Rattle.ciel_store.specs.Seen.{SeatSeen, ShelvesSeen}
+use Rattle.ciel_store.specs.declared.loss.Loss.{Loss}
 use Rattle.ciel_task.specs.Orders.{OfKind, names_in}
+use Rattle.ciel_task.specs.Views.{P}
 use Rattle.ciel_task.specs.declared.block.Held.{Held}
 use Rattle.ciel_task.specs.declared.order.Order.{Order}
 use Rattle.ciel_task.specs.declared.report.Report.{Report}
 use Rattle.ciel_brought.specs.Copies.{Copies}
-use Rattle.ciel_perform.specs.Ends.{CameSo, StepOf, told_copies}
-use Rattle.ciel_perform.specs.Runs.{CameThrough, CopiesAt, Went, brings, spawned_in}
+use Rattle.ciel_finds.specs.Finds.{IsLost}
+use Rattle.ciel_perform.specs.Begins.{BeginsAt, StackIsLost}
+use Rattle.ciel_perform.specs.Ends.{CameSo, StepOf, TellsMissing, told_copies}
+use Rattle.ciel_perform.specs.Runs.{CameThrough, CopiesAt, Ran, Went, WentThrough, brings, lost, spawned_in, stack}
 
 -- a call comes to an object, the root task to an answer
 pub step_kind : (task : TaskId) (x new : Stand (List ℕ)) (step : Step) → OfKind task x → SameKind x step new → StepOf task step
@@ -53,3 +58,14 @@ module _ (digest : List ℕ → List ℕ) (shelves : ShelvesSeen) (sc : Script) 
       go c =
           let z = told step cs (λ n. (q : Stand (List ℕ)) × PassedAt (brings digest shelves sc inputs order) digest sc x new step [] (spawned_in digest shelves sc inputs order r) c.through q × In (known n) (pending_in same_text q)) so.copied c.copies c.asked in
           record { step = step; new = new; of = so.of; through = c.through; fits = c.fits; kind = c.kind; sound = c.sound; whole = c.whole; knows = c.knows; further = c.further; typed = so.typed; end = so.end; copies = z.copies; asked = z.asked; none = z.none }
+
+-- ---- something was lost
+
+module _ (digest : List ℕ → List ℕ) (shelves : ShelvesSeen) (sc : Script) (inputs : List (List ℕ × List ℕ)) (order : Order) (r : Report) (loss : Loss) (old now : SeatSeen) (same : now ≡ old) where
+  -- what the order has of a name
+  pub ran_lost : (x : Stand (List ℕ)) → BeginsAt sc order x → (name : List ℕ) → IsLost order.inputs.items name loss old → TellsMissing order name loss old r → Ran digest shelves sc inputs order now r
+  ran_lost x b name l told = subst (λ z. Ran digest shelves sc inputs order z r) (sym same) (lost x b name loss l told)
+
+  -- or its stack
+  pub ran_stack : (name : List ℕ) → name ≡ own_name digest (λ (p : P). p.worker) order.main order.task → StackIsLost order loss old → TellsMissing order name loss old r → Ran digest shelves sc inputs order now r
+  ran_stack name e l told = subst (λ z. Ran digest shelves sc inputs order z r) (sym same) (stack loss l (subst (λ n. TellsMissing order n loss old r) e told))

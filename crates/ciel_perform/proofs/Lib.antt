@@ -4,6 +4,8 @@ pub mod Clearing
 pub mod Making
 pub mod Telling
 pub mod Lying
+pub mod Passing
 pub mod Going
+pub mod Binding
 pub mod Fitting
 pub mod Performing

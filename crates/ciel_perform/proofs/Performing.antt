@@ -22,6 +22,7 @@ use Rattle.sky_onward.specs.declared.step.Step.{Step}
 use Rattle.sky_state.specs.Fits.{Fits}
 use Rattle.sky_state.specs.Pending.{held_in, pending_in, stand_wait}
 use Rattle.sky_state.specs.Stand.{Stand}
+use Rattle.sky_state.specs.Stands.{Stands}
 use Rattle.sky_state.proofs.HeldLaw.{stands_pending}
 use Rattle.sky_through.specs.Found.{SameKind}
 use Rattle.ciel_board.specs.Board as board
@@ -59,6 +60,7 @@ use Rattle.ciel_task.specs.declared.order.Order.{Order}
 use Rattle.ciel_task.specs.declared.report.End as rust_end
 use Rattle.ciel_task.specs.declared.report.Made.{Made}
 use Rattle.ciel_task.specs.declared.report.Report as rust
+use Rattle.ciel_walks.specs.Laws.{Begins}
 use Rattle.ciel_walks.proofs.Right.{held_of}
 use Rattle.ciel_walks.proofs.Saying.{missing_one, only_says}
 use Rattle.ciel_brought.specs.Brought.{lies_known}
@@ -100,16 +102,16 @@ end_kind shelves w TaskId.Show x new (Step.Ended o) (rust_end.End.Made ms) k sk 
     no : TaskId.Show ≡ TaskId.Of m.name → ⊥
     no e = cc
 end_kind shelves w (TaskId.Of n) x new (Step.Ended o) (rust_end.End.Made ms) k sk e = tt
-end_kind shelves w task x new (Step.Ended o) (rust_end.End.Saved p i refs holds mk) k sk e = absurd e
+end_kind shelves w task x new (Step.Ended o) (rust_end.End.Saved p i waited kept mk) k sk e = absurd e
 end_kind shelves w task x new (Step.Ended o) (rust_end.End.Shown a) k sk e = absurd e
 end_kind shelves w task x new (Step.Ended o) (rust_end.End.Missing nm loss seen) k sk e = absurd e
 end_kind shelves w task x new Step.Waits (rust_end.End.Made ms) k sk e = absurd e
-end_kind shelves w TaskId.Show x new Step.Waits (rust_end.End.Saved p i refs holds mk) k sk e = tt
-end_kind shelves w (TaskId.Of n) x new Step.Waits (rust_end.End.Saved p i refs holds mk) k sk e = tt
+end_kind shelves w TaskId.Show x new Step.Waits (rust_end.End.Saved p i waited kept mk) k sk e = tt
+end_kind shelves w (TaskId.Of n) x new Step.Waits (rust_end.End.Saved p i waited kept mk) k sk e = tt
 end_kind shelves w task x new Step.Waits (rust_end.End.Shown a) k sk e = absurd e
 end_kind shelves w task x new Step.Waits (rust_end.End.Missing nm loss seen) k sk e = absurd e
 end_kind shelves w task x new (Step.Shown a) (rust_end.End.Made ms) k sk e = absurd e
-end_kind shelves w task x new (Step.Shown a) (rust_end.End.Saved p i refs holds mk) k sk e = absurd e
+end_kind shelves w task x new (Step.Shown a) (rust_end.End.Saved p i waited kept mk) k sk e = absurd e
 end_kind shelves w TaskId.Show x new (Step.Shown a) (rust_end.End.Shown c) k sk e = tt
 end_kind shelves w (TaskId.Of n) (Stand.run q) new (Step.Shown a) (rust_end.End.Shown c) k sk e = absurd sk
 end_kind shelves w (TaskId.Of n) (Stand.show_at u i) new (Step.Shown a) (rust_end.End.Shown c) k sk e = absurd k
@@ -165,13 +167,13 @@ module _ (digest : List ℕ → List ℕ) (job : s.Job) (gives : Gives) (keyed :
     where
       not_missed : (end : rust_end.End) (cs : List Held) → (IsMissing end → ⊥) → (board : board.Board P) → MissFits digest (λ (p : P). p.worker) board (order_view order) (how_view cs end)
       not_missed (rust_end.End.Made ms) cs h board = tt
-      not_missed (rust_end.End.Saved p i refs holds mk) cs h board = tt
+      not_missed (rust_end.End.Saved p i waited kept mk) cs h board = tt
       not_missed (rust_end.End.Shown a) cs h board = tt
       not_missed (rust_end.End.Missing nm loss seen) cs h board = absurd (h tt)
 
       none_missed : (step : Step) (new : Stand (List ℕ)) (end : rust_end.End) → EndIs shelves order.worker order.task step new end → Missed digest order end
       none_missed step new (rust_end.End.Made ms) k = tt
-      none_missed step new (rust_end.End.Saved p i refs holds mk) k = tt
+      none_missed step new (rust_end.End.Saved p i waited kept mk) k = tt
       none_missed step new (rust_end.End.Shown a) k = tt
       none_missed (Step.Ended o) new (rust_end.End.Missing nm loss seen) k = absurd k
       none_missed Step.Waits new (rust_end.End.Missing nm loss seen) k = absurd k
@@ -183,8 +185,10 @@ module _ (digest : List ℕ → List ℕ) (job : s.Job) (gives : Gives) (keyed :
   waited_there : (o : OpenStart s.Desc) (is : OrderIs S o (order_view order)) → FirstApart J S.inner o → (x : Stand (List ℕ)) (b : BeginsAt job.script order x) → (d : v.Desc (List ℕ)) → In d (pending_in same_text x) → (y : Object (List ℕ)) × (lies_known job.inputs order.inputs.items d ≡ Some y)
   waited_there o is apart x b d i = subst (λ z. (y : Object (List ℕ)) × (lies_known job.inputs order.inputs.items z ≡ Some y)) (sym back_to.2) (some_there (lies_of job.inputs order.inputs.items (name no_name tag back_to.0)) refl named)
     where
+      begun : Begins tag mark frozen job around o (lies_known job.inputs order.inputs.items) x
       begun = begins digest job gives o order is x b keyed apart
 
+      st : Stands job around tag x (back o.task) o.from
       st = stands digest job gives o order is x b
 
       first : (e : s.Desc) → In e begun.waits.0 → report.First J S.inner o e
@@ -257,16 +261,16 @@ module _ (digest : List ℕ → List ℕ) (job : s.Job) (gives : Gives) (keyed :
   end_at : (x : Stand (List ℕ)) → OfKind order.task x → (step : Step) (new : Stand (List ℕ)) (end : rust_end.End) → EndIs shelves order.worker order.task step new end → FitsAfter job.script new step → SameKind x step new → EndAt shelves order.worker job.script order.task end
   end_at x k (Step.Ended o) new (rust_end.End.Made ms) (m, one, made) f sk =
       subst (Each (λ (z : Made). ObjectAt shelves order.worker job.script z.place)) (sym one) (record { here = made.lies.here; worker = made.lies.worker; object = subst (HasObject job.script) (sym made.lies.block) f }, tt)
-  end_at x k (Step.Ended o) new (rust_end.End.Saved p i refs holds mk) e f sk = absurd e
+  end_at x k (Step.Ended o) new (rust_end.End.Saved p i waited kept mk) e f sk = absurd e
   end_at x k (Step.Ended o) new (rust_end.End.Shown a) e f sk = absurd e
   end_at x k (Step.Ended o) new (rust_end.End.Missing nm loss seen) e f sk = absurd e
   end_at x k Step.Waits new (rust_end.End.Made ms) e f sk = absurd e
-  end_at x k Step.Waits new (rust_end.End.Saved p i refs holds mk) e f sk =
-      record { here = e.lies.here; worker = e.lies.worker; stack = subst (HasStack (λ z. Fits job.script z × OfKind order.task z × (stand_wait z ≡ i) × (map held_name (pending_in same_text z) ≡ refs) × (map held_name (held_in same_text z) ≡ holds))) (sym e.lies.block) (f, kept_kind order.task x new k sk, sym e.wait, sym e.refs, sym e.holds) }
+  end_at x k Step.Waits new (rust_end.End.Saved p i waited kept mk) e f sk =
+      record { here = e.lies.here; worker = e.lies.worker; stack = subst (HasStack (λ z. Fits job.script z × OfKind order.task z × (stand_wait z ≡ i) × (map held_name (pending_in same_text z) ≡ waited) × (map held_name (held_in same_text z) ≡ kept))) (sym e.lies.block) (f, kept_kind order.task x new k sk, sym e.wait, sym e.refs, sym e.holds) }
   end_at x k Step.Waits new (rust_end.End.Shown a) e f sk = absurd e
   end_at x k Step.Waits new (rust_end.End.Missing nm loss seen) e f sk = absurd e
   end_at x k (Step.Shown a) new (rust_end.End.Made ms) e f sk = absurd e
-  end_at x k (Step.Shown a) new (rust_end.End.Saved p i refs holds mk) e f sk = absurd e
+  end_at x k (Step.Shown a) new (rust_end.End.Saved p i waited kept mk) e f sk = absurd e
   end_at x k (Step.Shown a) new (rust_end.End.Shown c) e f sk = tt
   end_at x k (Step.Shown a) new (rust_end.End.Missing nm loss seen) e f sk = absurd e
 

@@ -4,7 +4,7 @@ use Rattle.sky_base.specs.Eval.{Body, body_of}
 use Rattle.sky_base.specs.Name.{held_name}
 use Rattle.sky_base.specs.Names.{known_of}
 use Rattle.sky_base.specs.Tree.{Script}
-use Rattle.sky_base.specs.Val.{Desc, Pairs, Vals, known, same_text}
+use Rattle.sky_base.specs.Val.{Desc, Pairs, Vals, known, ref, same_text}
 use Rattle.sky_base.specs.declared.object.Desc1.{Desc1}
 use Rattle.sky_base.specs.declared.object.TaskId.{TaskId}
 use Rattle.sky_base.proofs.Exact.{exact_text, self_text}
@@ -61,7 +61,7 @@ module _ (digest : List ℕ → List ℕ) (shelves : ShelvesSeen) (sc : Script) 
   starts TaskId.Show None h d main s = record {
     kind = subst (OfKind TaskId.Show) (sym s.0) tt;
     wait = ap stand_wait s.0;
-    pending = subst (λ z. Each (λ d. In (held_name d) (names_in order.inputs.items)) (pending_in same_text z)) (sym s.0) (from_each (λ d. In (held_name d) (names_in order.inputs.items)) _ (λ e i. one_known order.main main e (distinct_in same_text exact_text self_text (known order.main ∷ []) e i)));
+    pending = subst (λ z. Each (λ d. In (held_name d) (names_in order.inputs.items)) (pending_in same_text z)) (sym s.0) (from_each (λ d. In (held_name d) (names_in order.inputs.items)) (pending_in same_text (Stand.show_at (ref (known order.main)) 0)) (λ e i. one_known order.main main e (distinct_in same_text exact_text self_text (known order.main ∷ []) e i)));
   }
   starts (TaskId.Of n) None h d main s = absurd d
   starts TaskId.Show (Some (Desc1.Call f c vs)) h d main s = absurd d

@@ -86,11 +86,13 @@ fn start(alloc: Global, script: &Script, order: &Order) -> Result<State, Memory>
     ensures spawned { IfOk result (λ s. spawned_of s ≡ []) }
 {
     match &order.desc {
-        Some(Desc1::Call { fun, caught, args }) => {
-            let state = State::start_call(alloc, script, fun, caught, args)?;
-            Ok(state)
-        }
+        Some(desc) => match desc {
+            Desc1::Call { fun, caught, args } => {
+                let state = State::start_call(alloc, script, fun, caught, args)?;
+                Ok(state)
+            }
+            _ => unreachable!(),
+        },
         None => Ok(State::start_show(order.main)),
-        Some(_) => unreachable!(),
     }
 }

@@ -15,6 +15,8 @@ ghost use Rattle.ciel_perform.specs.Runs.{Ran, WentThrough};
 use crate::begin::{Begun, begin};
 use crate::end::{end_of, missing, stack_name};
 use ciel_finds::brought::{Brought, Lost};
+use ciel_finds::copied::Copied;
+use ciel_inputs::index::index;
 use ciel_name::name::Namer;
 use ciel_store::seats::Eye;
 use ciel_task::block::Held;
@@ -135,15 +137,18 @@ fn through<'a, K, N: Namer, R: Wait>(
     ensures went { IfOk result (λ r. WentThrough (N.digest shop.now.namer) shop.now.shelves (job_view shop.now.job).script (job_view shop.now.job).inputs order.now (stand_of state.old) (stand_of state.new) (spawned_of state.new) eye.new r.0 r.1.items) }
 {
     let numbered = number_script(alloc, &shop.job.script)?;
-    let mut finder = Brought::new(
+    let held = order.inputs.as_slice();
+    let places = index(alloc, held)?;
+    let mut finder = Brought {
         rt,
-        alloc,
-        &shop.job,
-        &shop.shelves,
-        order.worker,
-        order.inputs.as_slice(),
+        job: &shop.job,
+        shelves: &shop.shelves,
+        worker: order.worker,
+        held,
+        places,
         eye,
-    )?;
+        copied: Copied::new(alloc),
+    };
     let went = run_through(alloc, &numbered, state, &mut finder, &shop.namer)?;
     let Brought { copied, .. } = finder;
     Ok((went, copied.items))
