@@ -27,7 +27,8 @@ pub struct Lost {
     pub loss: Loss,
 }
 
-/// The objects that an order brings along, for the worker that performs it, and what was copied to that worker's shelf so far.
+/// The objects that an order brings along, by the places of their names, for the worker that performs it; and what was copied to that
+/// worker's shelf so far.
 #[derive(Drop)]
 pub struct Brought<'a, R> {
     pub rt: &'a R,
@@ -35,9 +36,9 @@ pub struct Brought<'a, R> {
     pub shelves: &'a Shelves<Block>,
     pub worker: u32,
     pub held: &'a [Held],
-    pub places: BTreeMap<Name, usize>,
+    pub places: &'a BTreeMap<Name, usize>,
     pub eye: &'a mut Eye,
-    pub copied: Copied,
+    pub copied: &'a mut Copied,
 }
 
 impl<'a, R: Wait> Finds for Brought<'a, R> {
@@ -45,12 +46,13 @@ impl<'a, R: Wait> Finds for Brought<'a, R> {
 
     ghost finds = { λ b. lies_known (job_view b.job.now).inputs b.held.now };
 
-    ghost ready = { λ b. CanBring b.shelves.now b.worker (job_view b.job.now).script (job_view b.job.now).inputs b.held.now b.places b.eye.now b.copied };
+    ghost ready = { λ b. CanBring b.shelves.now b.worker (job_view b.job.now).script (job_view b.job.now).inputs b.held.now b.places.now b.eye.now b.copied.now };
 
     ghost Stays = { Stays };
 
     ghost stays = { λ b. record {
         eye = b.eye.ghost_name;
+        copied = b.copied.ghost_name;
         of = b.eye.now.of;
         shelves = b.shelves.now;
         worker = b.worker;
@@ -59,12 +61,12 @@ impl<'a, R: Wait> Finds for Brought<'a, R> {
         held = b.held.now;
     } };
 
-    ghost asked = { λ b. WasCopied b.copied };
+    ghost asked = { λ b. WasCopied b.copied.now };
 
     ghost refuses = { λ b r. IsLost b.held.now r.name r.loss b.eye.now };
 
     fn has(&self, name: &Name) -> bool {
-        find(self.held, &self.places, name).is_some()
+        find(self.held, self.places, name).is_some()
     }
 
     fn find(&mut self, _alloc: Global, name: &Name) -> Result<Result<Object, Lost>, Memory> {
@@ -74,10 +76,10 @@ impl<'a, R: Wait> Finds for Brought<'a, R> {
             self.shelves,
             self.worker,
             self.held,
-            &self.places,
+            self.places,
             name,
             self.eye,
-            &mut self.copied,
+            self.copied,
         )?;
         match brought {
             Ok(object) => Ok(Ok(object)),

@@ -82,6 +82,11 @@ module _ (digest : List ℕ → List ℕ) (x new : Stand (List ℕ)) (step : Ste
       late n (inl i) = absurd i
       late n (inr p) = p
 
+-- of the same eye, with the same copied
+pub went_same : (digest : List ℕ → List ℕ) (shelves : ShelvesSeen) (sc : Script) (inputs : List (List ℕ × List ℕ)) (order : Order) (x new : Stand (List ℕ)) (spawned : Spawned) (eye now : SeatSeen) (r : Result Step Lost) (is to : Copied) → eye ≡ now → is ≡ to → WentThrough digest shelves sc inputs order x new spawned eye r is.items.items → WentThrough digest shelves sc inputs order x new spawned now r to.items.items
+went_same digest shelves sc inputs order x new spawned eye now r is to e c w =
+    subst (λ z. WentThrough digest shelves sc inputs order x new spawned z r to.items.items) e (subst (λ (z : Copied). WentThrough digest shelves sc inputs order x new spawned eye r z.items.items) c w)
+
 -- what the run says of a finder that is the same
 module _ (digest : List ℕ → List ℕ) (shelves : ShelvesSeen) (sc : Script) (inputs : List (List ℕ × List ℕ)) (order : Order) (x new : Stand (List ℕ)) (spawned : Spawned) (eye : SeatSeen) (is : List Held) where
   pub passed : (r : Result Step Lost) → (code : Script) → code ≡ sc → (held : List Held) → held ≡ order.inputs.items → (before : Spawned) → before ≡ [] → (was : List Held) → was ≡ []

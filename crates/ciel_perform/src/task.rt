@@ -4,10 +4,12 @@ ghost use Rattle.std.specs.Prelude.{◌≡◌, ◌<◌, [], IfOk, length};
 ghost use Rattle.sky_base.specs.JobView.{job_view};
 ghost use Rattle.sky_onward.specs.Onward.{IsRead};
 ghost use Rattle.sky_state.specs.StateView.{stand_of, spawned_of};
+ghost use Rattle.ciel_table.specs.Inside.{IsIndex};
 ghost use Rattle.ciel_task.specs.Orders.{OrderSound};
 ghost use Rattle.ciel_task.specs.Performs.{Performs};
 ghost use Rattle.ciel_task.specs.Places.{PlacesSound};
 ghost use Rattle.ciel_task.specs.Shop.{InputsInOrder};
+ghost use Rattle.ciel_inputs.specs.Lies.{held_name};
 ghost use Rattle.ciel_perform.specs.Begins.{BeginsAt, HasState};
 ghost use Rattle.ciel_perform.specs.Ends.{CameSo, StepOf, told_copies};
 ghost use Rattle.ciel_perform.specs.Runs.{Ran, WentThrough};
@@ -24,6 +26,7 @@ use ciel_task::order::Order;
 use ciel_task::report::Report;
 use ciel_task::shop::Shop;
 use sky_base::kit::Kit;
+use sky_base::name::Name;
 use sky_base::text::Memory;
 use sky_numbers::code::number_script;
 use sky_onward::step::Step;
@@ -31,6 +34,7 @@ use sky_state::state::State;
 use sky_through::through::run_through;
 use sky_typed::read::read_all;
 use std::alloc::Global;
+use std::collections::BTreeMap;
 use std::sync::Wait;
 
 /// Performs an order of a call or of the root task: from its stack or its start it goes on through each wait whose objects the order
@@ -102,10 +106,21 @@ fn go_on<K, N: Namer, R: Wait>(
     ensures of { eye.new.of ≡ eye.old.of }
     ensures ran { IfOk result (Ran (N.digest shop.now.namer) shop.now.shelves (job_view shop.now.job).script (job_view shop.now.job).inputs order.now eye.new) }
 {
-    let (went, copied) = through(rt, alloc, shop, order, &mut state, eye)?;
+    let places = index(alloc, order.inputs.as_slice())?;
+    let mut copied = Copied::new(alloc);
+    let went = through(
+        rt,
+        alloc,
+        shop,
+        order,
+        &places,
+        &mut state,
+        eye,
+        &mut copied,
+    )?;
     match went {
         Ok(step) => {
-            let report = came_to(rt, alloc, shop, order, step, state, copied)?;
+            let report = came_to(rt, alloc, shop, order, step, state, copied.items)?;
             Ok(report)
         }
         Err(lost) => Ok(missing(
@@ -119,39 +134,41 @@ fn go_on<K, N: Namer, R: Wait>(
     }
 }
 
-// The task goes through its waits as far as the order brings along what it waits for. Beside what it came to stands what was copied.
+// The task goes through its waits as far as the order brings along what it waits for. What was copied is noted.
 fn through<'a, K, N: Namer, R: Wait>(
     rt: &'a R,
     alloc: Global,
     shop: &'a Shop<K, N>,
     order: &'a Order,
+    places: &'a BTreeMap<Name, usize>,
     state: &mut State,
     eye: &'a mut Eye,
-) -> Result<(Result<Step, Lost>, Vec<Held>), Memory>
+    copied: &'a mut Copied,
+) -> Result<Result<Step, Lost>, Memory>
     requires sound { OrderSound (N.digest shop.now.namer) shop.now.shelves (job_view shop.now.job).script (length (job_view shop.now.job).inputs) order.now }
     requires read { IsRead (job_view shop.now.job).script }
+    requires index { IsIndex held_name places.now order.now.inputs.items }
     requires begins { BeginsAt (job_view shop.now.job).script order.now (stand_of state.old) }
     requires spawned { spawned_of state.old ≡ [] }
     requires eye { eye.old.of ≡ shop.now.shelves.of }
+    requires none { copied.old.items.items ≡ [] }
+    requires empty { IsIndex held_name copied.old.places [] }
     ensures of { eye.new.of ≡ eye.old.of }
-    ensures went { IfOk result (λ r. WentThrough (N.digest shop.now.namer) shop.now.shelves (job_view shop.now.job).script (job_view shop.now.job).inputs order.now (stand_of state.old) (stand_of state.new) (spawned_of state.new) eye.new r.0 r.1.items) }
+    ensures went { IfOk result (λ r. WentThrough (N.digest shop.now.namer) shop.now.shelves (job_view shop.now.job).script (job_view shop.now.job).inputs order.now (stand_of state.old) (stand_of state.new) (spawned_of state.new) eye.new r copied.new.items.items) }
 {
     let numbered = number_script(alloc, &shop.job.script)?;
-    let held = order.inputs.as_slice();
-    let places = index(alloc, held)?;
     let mut finder = Brought {
         rt,
         job: &shop.job,
         shelves: &shop.shelves,
         worker: order.worker,
-        held,
+        held: order.inputs.as_slice(),
         places,
         eye,
-        copied: Copied::new(alloc),
+        copied,
     };
     let went = run_through(alloc, &numbered, state, &mut finder, &shop.namer)?;
-    let Brought { copied, .. } = finder;
-    Ok((went, copied.items))
+    Ok(went)
 }
 
 // The report of a run that came to this step, with the state after it and what was copied.
