@@ -83,9 +83,9 @@ module _ (digest : List ℕ → List ℕ) (x new : Stand (List ℕ)) (step : Ste
       late n (inr p) = p
 
 -- of the same eye, with the same copied
-pub went_same : (digest : List ℕ → List ℕ) (shelves : ShelvesSeen) (sc : Script) (inputs : List (List ℕ × List ℕ)) (order : Order) (x new : Stand (List ℕ)) (spawned : Spawned) (eye now : SeatSeen) (r : Result Step Lost) (is to : Copied) → eye ≡ now → is ≡ to → WentThrough digest shelves sc inputs order x new spawned eye r is.items.items → WentThrough digest shelves sc inputs order x new spawned now r to.items.items
+pub went_same : (digest : List ℕ → List ℕ) (shelves : ShelvesSeen) (sc : Script) (inputs : List (List ℕ × List ℕ)) (order : Order) (x new : Stand (List ℕ)) (spawned : Spawned) (eye now : SeatSeen) (r : Result Step Lost) (is to : List Held) → eye ≡ now → is ≡ to → WentThrough digest shelves sc inputs order x new spawned eye r is → WentThrough digest shelves sc inputs order x new spawned now r to
 went_same digest shelves sc inputs order x new spawned eye now r is to e c w =
-    subst (λ z. WentThrough digest shelves sc inputs order x new spawned z r to.items.items) e (subst (λ (z : Copied). WentThrough digest shelves sc inputs order x new spawned eye r z.items.items) c w)
+    subst (λ z. WentThrough digest shelves sc inputs order x new spawned z r to) e (subst (WentThrough digest shelves sc inputs order x new spawned eye r) c w)
 
 -- what the run says of a finder that is the same
 module _ (digest : List ℕ → List ℕ) (shelves : ShelvesSeen) (sc : Script) (inputs : List (List ℕ × List ℕ)) (order : Order) (x new : Stand (List ℕ)) (spawned : Spawned) (eye : SeatSeen) (is : List Held) where

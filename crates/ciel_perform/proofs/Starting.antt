@@ -14,7 +14,8 @@ use Rattle.sky_onward.proofs.Knows.{from_each}
 use Rattle.sky_state.specs.Fits.{Fits}
 use Rattle.sky_state.specs.Pending.{pending_in, stand_wait}
 use Rattle.sky_state.specs.Stand.{Stand}
-use Rattle.sky_state.specs.Start.{StartsIn}
+use Rattle.sky_state.specs.Start.{StartsCall, StartsIn}
+use Rattle.sky_state.specs.Stands.{StandsForCall}
 use Rattle.ciel_store.specs.Seen.{ShelvesSeen}
 use Rattle.ciel_task.specs.Orders.{Describes, OfKind, OrderSound, Saved, ShowsMain, names_in}
 use Rattle.ciel_task.specs.Views.{P}
@@ -29,6 +30,11 @@ in_end (x ∷ xs) y = inr (in_end xs y)
 pub names_known : (ns : List (List ℕ)) → names_of (known_of ns) ≡ ns
 names_known [] = refl
 names_known (n ∷ ns) = ap (λ ms. n ∷ ms) (names_known ns)
+
+-- the state of a call at its start
+pub starts_call : (sc : Script) (main : List ℕ) (desc : Option Desc1) (d : Desc1) → desc ≡ Some d → (f : List ℕ) (c : Pairs (List ℕ)) (vs : Vals (List ℕ)) → d ≡ Desc1.Call f c vs → (s : Stand (List ℕ)) → StartsCall sc f c vs s → StandsForCall sc f c vs s → IsStartOf sc main desc s
+starts_call sc main desc d some f c vs call s start stands =
+    subst (λ z. IsStartOf sc main z s) (sym some) (subst (λ z. IsStartOf sc main (Some z) s) (sym call) (start, stands))
 
 -- what a sound order's task may be started with
 pub can_start : (digest : List ℕ → List ℕ) (sc : Script) (given : List (List ℕ)) (task : TaskId) (desc : Option Desc1) → HasState desc → Describes digest sc given task desc → CanStartAt sc desc
