@@ -23,7 +23,8 @@ use std::process::Abort;
 use std::sync::Wait;
 use std::test::Fail;
 
-static TEXT: &str = "function f(x) { return x * x; } a = spawn(f, [3]); b = spawn(f, [4]); return *a + *b;";
+static TEXT: &str =
+    "function f(x) { return x * x; } a = spawn(f, [3]); b = spawn(f, [4]); return *a + *b;";
 
 fn parsed(alloc: Global, bytes: &[u8]) -> Result<Script, Fail> {
     let Ok(tokens) = lex(alloc, bytes) else {
@@ -48,8 +49,7 @@ fn name_of(alloc: Global, desc: &Desc1) -> Result<Name, Fail> {
     Ok(Sha1Namer.name(canon(alloc, desc)?.as_slice()))
 }
 
-fn say(text: &str) {
-}
+fn say(text: &str) {}
 
 fn int_at(shelves: &Shelves<Block>, place: &Place<Block>, eye: &mut Eye) -> i64 {
     match shelves.fetch(place, eye) {
@@ -64,7 +64,10 @@ fn two_squares(rt: HostRuntime) -> Result<(), Fail> {
     let script = parsed(alloc, TEXT.as_bytes())?;
     let (shelves, mut marker, mut eyes) = Shelves::<Block>::new(alloc, 2)?;
     let shop = Shop {
-        job: Job { script, inputs: Inputs::of(Vec::new(alloc)) },
+        job: Job {
+            script,
+            inputs: Inputs::of(Vec::new(alloc)),
+        },
         kit: (),
         namer: Sha1Namer,
         shelves,
@@ -84,7 +87,14 @@ fn two_squares(rt: HostRuntime) -> Result<(), Fail> {
     };
     let first = run_task(&rt, alloc, &shop, &order, eye)?;
     assert_eq!(rt; first.spawned.len(), 2);
-    let End::Saved { frozen, j, refs, holds, mark: _ } = &first.end else {
+    let End::Saved {
+        frozen,
+        j,
+        refs,
+        holds,
+        mark: _,
+    } = &first.end
+    else {
         return Err(Fail::from("not saved"));
     };
     assert_eq!(rt; *j, 1);
@@ -110,7 +120,10 @@ fn two_squares(rt: HostRuntime) -> Result<(), Fail> {
     };
     assert_eq!(rt; int_at(&shop.shelves, &made[0].place, eye), 9);
     let mut inputs = Vec::new(alloc);
-    inputs.push(Held { name: a, at: Spot::Shelf(made[0].place.share()) })?;
+    inputs.push(Held {
+        name: a,
+        at: Spot::Shelf(made[0].place.share()),
+    })?;
     let order = Order {
         number: 2,
         worker: 0,
@@ -122,7 +135,14 @@ fn two_squares(rt: HostRuntime) -> Result<(), Fail> {
         inputs,
     };
     let third = run_task(&rt, alloc, &shop, &order, eye)?;
-    let End::Saved { frozen, j, refs, holds, mark: _ } = &third.end else {
+    let End::Saved {
+        frozen,
+        j,
+        refs,
+        holds,
+        mark: _,
+    } = &third.end
+    else {
         return Err(Fail::from("not saved 2"));
     };
     assert_eq!(rt; *j, 2);
@@ -146,8 +166,14 @@ fn two_squares(rt: HostRuntime) -> Result<(), Fail> {
     };
     // both from the second wait
     let mut inputs = Vec::new(alloc);
-    inputs.push(Held { name: a, at: Spot::Shelf(made[0].place.share()) })?;
-    inputs.push(Held { name: b, at: Spot::Shelf(other[0].place.share()) })?;
+    inputs.push(Held {
+        name: a,
+        at: Spot::Shelf(made[0].place.share()),
+    })?;
+    inputs.push(Held {
+        name: b,
+        at: Spot::Shelf(other[0].place.share()),
+    })?;
     let order = Order {
         number: 4,
         worker: 0,
@@ -169,8 +195,14 @@ fn two_squares(rt: HostRuntime) -> Result<(), Fail> {
         return Err(Fail::from("not saved"));
     };
     let mut inputs = Vec::new(alloc);
-    inputs.push(Held { name: b, at: Spot::Shelf(other[0].place.share()) })?;
-    inputs.push(Held { name: a, at: Spot::Shelf(made[0].place.share()) })?;
+    inputs.push(Held {
+        name: b,
+        at: Spot::Shelf(other[0].place.share()),
+    })?;
+    inputs.push(Held {
+        name: a,
+        at: Spot::Shelf(made[0].place.share()),
+    })?;
     let mut order = Order {
         number: 4,
         worker: 0,
@@ -184,11 +216,16 @@ fn two_squares(rt: HostRuntime) -> Result<(), Fail> {
     let again = run_task(&rt, alloc, &shop, &order, eye)?;
     assert_eq!(rt; again.copied.len(), 1);
     assert!(rt; again.copied[0].name == a);
-    let Spot::Shelf(place) = &again.copied[0].at else { return Err(Fail::from("spot")); };
+    let Spot::Shelf(place) = &again.copied[0].at else {
+        return Err(Fail::from("spot"));
+    };
     assert_eq!(rt; place.worker(), 0);
     assert_eq!(rt; int_at(&shop.shelves, place, eye), 9);
     let mut shows = Vec::new(alloc);
-    shows.push(Held { name: main, at: Spot::Shelf(sum[0].place.share()) })?;
+    shows.push(Held {
+        name: main,
+        at: Spot::Shelf(sum[0].place.share()),
+    })?;
     let show = Order {
         number: 5,
         worker: 0,
@@ -204,7 +241,13 @@ fn two_squares(rt: HostRuntime) -> Result<(), Fail> {
         return Err(Fail::from("not shown"));
     };
     assert!(rt; text.as_slice() == b"25\n".as_slice());
-    shop.shelves.mark_lost(&mut marker, ciel_store::loss::Loss { number: 3, worker: 1 });
+    shop.shelves.mark_lost(
+        &mut marker,
+        ciel_store::loss::Loss {
+            number: 3,
+            worker: 1,
+        },
+    );
     let missed = run_task(&rt, alloc, &shop, &order, eye)?;
     let End::Missing { name, loss, seen } = &missed.end else {
         return Err(Fail::from("not missing"));
