@@ -1,5 +1,5 @@
 -- One more is copied.
-use Rattle.std.proofs.Common.{◌≡◌, ◌<◌, ◌+◌, ℕ, zero, suc, List, [], ◌∷◌, ◌++◌, length, map, Bool, true, false, Option, Some, None, is_some, cond, nat_lt, Result, Ok, Err, MatchResult, ltb-true, ltb-false, inl, inr, ◌⊎◌, refl, sym, ap, subst, ◌∙◌, arith}
+use Rattle.std.proofs.Common.{◌≡◌, ◌<◌, ℕ, suc, List, [], ◌∷◌, ◌++◌, length, Bool, true, false, Option, Some, None, is_some, cond, nat_lt, Result, Ok, Err, MatchResult, ltb-true, ltb-false, inl, inr, ◌⊎◌, refl, sym, ap, subst, ◌∙◌, arith}
 use Rattle.std.specs.BTreeMap.{BTreeMap, Updates, get}
 use Rattle.std.specs.Option.{option_map}
 use Rattle.ciel_brought.specs.Copies.{Copies}
@@ -7,9 +7,9 @@ use Rattle.sky_base.specs.NameOrder.{name_cmp}
 use Rattle.sky_base.specs.ObjectView.{object_view}
 use Rattle.sky_base.specs.Res.{Object}
 use Rattle.sky_base.specs.declared.object.Object as rust
-use Rattle.sky_base.specs.Val.{Desc, known, same_text}
-use Rattle.sky_base.proofs.Exact.{exact_text, self_text}
-use Rattle.sky_law.specs.Tasks.{Each, In}
+use Rattle.sky_base.specs.Val.{known, same_text}
+use Rattle.sky_base.proofs.Exact.{self_text}
+use Rattle.sky_law.specs.Tasks.{In}
 use Rattle.ciel_journal.specs.Job as j
 use Rattle.sky_through.specs.Asked.{AsksFor}
 use Rattle.ciel_store.specs.Seen.{ShelvesSeen}
@@ -20,7 +20,6 @@ use Rattle.ciel_table.proofs.Index.{index_more}
 use Rattle.ciel_task.specs.Orders.{names_in}
 use Rattle.ciel_task.specs.declared.block.Held.{Held}
 use Rattle.ciel_task.specs.declared.block.Spot.{Spot}
-use Rattle.ciel_inputs.specs.Gathers.{lies_of}
 use Rattle.ciel_inputs.specs.Lies.{CopiedIf, CopiedSo, LostAt, held_name, is_elsewhere, lies_at}
 use Rattle.ciel_brought.proofs.Copying.{copies_more}
 use Rattle.ciel_brought.proofs.Finding.{found_named}
@@ -82,7 +81,7 @@ module _ (shelves : ShelvesSeen) (w : ℕ) (inputs : List (List ℕ × List ℕ)
       → (new : Copied) → new.items.items ≡ items → new.places ≡ places → CopiesStand shelves w inputs held new
   stands_more n h o old items places c fresh f at so noted new is ps =
       record {
-        copies = subst (Copies' ) (sym is) (copies_more shelves w inputs held n h o old.items.items items c.copies f at so (no_place n old.items.items fresh));
+        copies = subst (Copies') (sym is) (copies_more shelves w inputs held n h o old.items.items items c.copies f at so (no_place n old.items.items fresh));
         places = subst (λ m. IsIndex held_name m new.items.items) (sym ps) (subst (IsIndex held_name places) (sym is) (go (is_elsewhere w h.at) so));
       }
     where

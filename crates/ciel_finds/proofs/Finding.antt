@@ -5,7 +5,7 @@ use Rattle.sky_base.specs.ObjectView.{object_view}
 use Rattle.sky_base.specs.Res.{Object}
 use Rattle.sky_base.specs.declared.object.Object as rust
 use Rattle.sky_base.specs.Tree.{Script}
-use Rattle.sky_base.specs.Val.{Desc, call, out, input, known}
+use Rattle.sky_base.specs.Val.{call, out, input, known}
 use Rattle.sky_law.specs.Sound.{SoundObject}
 use Rattle.sky_law.specs.Tasks.{Each, In}
 use Rattle.sky_law.proofs.Lists.{some_is}

@@ -51,14 +51,14 @@ impl<'a, R: Wait> Finds for Brought<'a, R> {
     ghost Stays = { Stays };
 
     ghost stays = { λ b. record {
-        eye = b.eye.ghost_name;
-        copied = b.copied.ghost_name;
-        of = b.eye.now.of;
-        shelves = b.shelves.now;
-        worker = b.worker;
-        script = (job_view b.job.now).script;
-        inputs = (job_view b.job.now).inputs;
-        held = b.held.now;
+      eye = b.eye.ghost_name;
+      copied = b.copied.ghost_name;
+      of = b.eye.now.of;
+      shelves = b.shelves.now;
+      worker = b.worker;
+      script = (job_view b.job.now).script;
+      inputs = (job_view b.job.now).inputs;
+      held = b.held.now;
     } };
 
     ghost asked = { λ b. WasCopied b.copied.now };

@@ -3,12 +3,10 @@ use Rattle.std.proofs.Common.{◌≡◌, ◌≤◌, ◌<◌, ℕ, zero, suc, Lis
 use Rattle.std.specs.Option.{option_map}
 use Rattle.sha1.specs.Sha1.{sha1}
 use Rattle.sky_base.specs.KitView.{Gives}
-use Rattle.sky_base.specs.Name.{digested, low, low_desc, low_pairs, low_vals, name}
+use Rattle.sky_base.specs.Name.{digested, low, low_desc, low_pairs, low_vals}
 use Rattle.sky_base.specs.Needed as n
 use Rattle.sky_base.specs.Needed.{WaitOf, distinct_refs, halt_refs, halt_state, only_if, stands_at, unless_none, wait_at, wave_refs, wave_state}
-use Rattle.sky_base.specs.ObjectView.{desc_view}
-use Rattle.sky_base.specs.Read.{Halt, halt, refs_of, run_of_halt}
-use Rattle.sky_base.specs.Res.{Object}
+use Rattle.sky_base.specs.Read.{Halt, halt, refs_of}
 use Rattle.sky_base.specs.See as s
 use Rattle.sky_base.specs.See.{main_call, most_waves, run_of, see, wave}
 use Rattle.sky_base.specs.Tree.{Script}
@@ -22,17 +20,14 @@ use Rattle.sky_law.proofs.Lists.{some_is}
 use Rattle.sky_law.proofs.RefsLow.{refs_low}
 use Rattle.sky_law.proofs.TaskOutputs.{in_distinct}
 use Rattle.sky_state.specs.Fits.{Fits, FitsShow}
-use Rattle.sky_state.specs.Pending.{stand_wait}
 use Rattle.sky_state.specs.Stand.{Stand, low_state}
 use Rattle.sky_state.specs.Stands.{StandsForCall, Stands}
 use Rattle.sky_state.proofs.WaitLaw.{stands_wait_is}
 use Rattle.ciel_board.specs.Follows.{GoesBy, OrderIs}
 use Rattle.ciel_board.specs.Setting.{HasState, Setting}
 use Rattle.ciel_journal.specs.History.{OpenStart}
-use Rattle.ciel_journal.specs.Job as j
 use Rattle.ciel_journal.specs.Job.{Task, of, show}
 use Rattle.ciel_json.specs.Around.{json_around}
-use Rattle.ciel_meant.specs.Inner.{real_inner}
 use Rattle.ciel_meant.specs.Real.{back}
 use Rattle.ciel_name.specs.Object.{object_bytes}
 use Rattle.ciel_reports.specs.Report.{FirstApart}

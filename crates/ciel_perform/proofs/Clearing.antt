@@ -1,10 +1,9 @@
 -- Where no name stands for two descriptions of the book after an event that a report tells, nothing that is made clashes.
-use Rattle.std.proofs.Common.{◌≡◌, ◌≢◌, ◌<◌, ℕ, List, [], ◌∷◌, Option, Some, None, ◌⊎◌, inl, inr, refl, sym, ap, subst, ◌∙◌}
-use Rattle.ciel_journal.specs.Job.{Digest, Held, Job, In, Each, IsJob, made_before}
+use Rattle.std.proofs.Common.{◌≡◌, ℕ, List, [], ◌∷◌, Some, None, inl, inr, refl, sym, ap, subst, ◌∙◌}
+use Rattle.ciel_journal.specs.Job.{Digest, Job, In, IsJob, made_before}
 use Rattle.ciel_journal.specs.History.{Event, OpenStart, Plan, Standing, after, done, find_open, learned, lost, missed, saved, standing, start}
 use Rattle.ciel_journal.specs.Known.{Inner, Knows}
 use Rattle.ciel_journal.specs.Lawful.{Allowed, DoneAllowed, FetchedFrom, Given, HeldAt, Lawful, NoClash, SavedAllowed, SpawnedTo}
-use Rattle.ciel_journal.specs.Entries.{low_made, low_names}
 use Rattle.ciel_journal.proofs.BookKnown.{Informed, OrderKnown, informed_all, informed_start, learned_has, live_carried}
 use Rattle.ciel_journal.proofs.Good.{after_done, after_saved}
 use Rattle.ciel_journal.proofs.Members.{each_of}

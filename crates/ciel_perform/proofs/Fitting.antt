@@ -1,6 +1,6 @@
 -- The report of a run fits its order, in each state of a master whose table has rows for the names of the order.
 use Rattle.std.proofs.Common.{◌≡◌, ◌<◌, ℕ, suc, List, [], ◌∷◌, ◌++◌, map, append_assoc, length, Bool, true, false, cond, Option, Some, None, IsSome, ◌⊎◌, inl, inr, refl, sym, ap, subst, ◌∙◌, slice_get, arith}
-use Rattle.std.specs.List.{AllByRecursion, IsDistinct}
+use Rattle.std.specs.List.{IsDistinct}
 use Rattle.std.specs.Option.{option_map}
 use Rattle.std.proofs.lemmas.List.{append-nil, map-append}
 use Rattle.sky_base.specs.Eval.{Body, bind, body_of}
@@ -9,11 +9,10 @@ use Rattle.sky_base.specs.ObjectView.{desc_view, object_view}
 use Rattle.sky_base.specs.Res.{Object, object_refs}
 use Rattle.sky_base.specs.Tree.{Script}
 use Rattle.sky_base.specs.Read.{Frame}
-use Rattle.sky_base.specs.Val.{Desc, Pairs, Val, Vals, call, distinct, input, known, out, pairs_refs, ref, refs, same_text, vals_refs}
+use Rattle.sky_base.specs.Val.{Desc, Pairs, Val, Vals, call, distinct, input, known, out, pairs_refs, refs, same_text, vals_refs}
 use Rattle.sky_base.specs.View.{view}
 use Rattle.sky_base.specs.declared.object.Desc1.{Desc1}
 use Rattle.sky_base.specs.declared.object.Named.{Named}
-use Rattle.sky_base.specs.declared.object.Object as rust_object
 use Rattle.sky_base.specs.declared.object.TaskId.{TaskId}
 use Rattle.sky_base.proofs.Exact.{exact_text, self_text}
 use Rattle.sky_law.specs.Sound.{SoundDesc}
@@ -26,13 +25,11 @@ use Rattle.sky_onward.specs.Onward.{IsRead}
 use Rattle.sky_onward.specs.declared.step.Step.{Step}
 use Rattle.sky_state.specs.Pending.{all_refs, frames_refs, held_in, last_refs, pending_in, stack_refs, stand_wait, top_refs, waited_refs}
 use Rattle.sky_state.specs.Stand.{Stand}
-use Rattle.sky_state.specs.StandView.{spawned_view}
-use Rattle.sky_state.specs.Start.{StartsIn, start_in}
+use Rattle.sky_state.specs.Start.{StartsIn}
 use Rattle.sky_through.specs.Found.{CameFrom, Further, HasAllOutputs}
 use Rattle.ciel_board.specs.Board.{start_refs}
 use Rattle.ciel_board.specs.Reports.{IsNamed, copy_names, learned_all, named_view}
-use Rattle.ciel_board.specs.Sound as board
-use Rattle.ciel_board.specs.Sound.{CopyFits, EndFits, FitsIn, OutputFits, StackFits}
+use Rattle.ciel_board.specs.Sound.{CopyFits, EndFits, FitsIn, OutputFits}
 use Rattle.ciel_board.proofs.Learning as learn
 use Rattle.ciel_board.proofs.Sounding.{all_keeps}
 use Rattle.ciel_journal.specs.Job as j
@@ -52,22 +49,20 @@ use Rattle.ciel_inputs.specs.Gathers.{lies_of}
 use Rattle.ciel_inputs.specs.Lies.{held_name as name_of_held, lies_at, object_in}
 use Rattle.ciel_inputs.proofs.Gathering.{each_found}
 use Rattle.ciel_task.specs.Orders.{Describes, OrderSound, Saved, ShowsMain, names_in}
-use Rattle.ciel_task.specs.Performs.{BlockKnown, HasRows, InsideKnown, OutputsKnown, SpotKnown, StackKnown, block_refs}
+use Rattle.ciel_task.specs.Performs.{HasRows, InsideKnown, OutputsKnown, SpotKnown, StackKnown, block_refs}
 use Rattle.ciel_task.specs.Views.{P, copies_view, how_view, order_view, output_view}
 use Rattle.ciel_task.specs.declared.block.Block.{Block}
 use Rattle.ciel_task.specs.declared.block.Held.{Held}
 use Rattle.ciel_task.specs.declared.block.Spot.{Spot}
 use Rattle.ciel_task.specs.declared.order.Order.{Order}
 use Rattle.ciel_task.specs.declared.report.End as rust_end
-use Rattle.ciel_task.specs.declared.report.Made.{Made}
 use Rattle.ciel_task.specs.declared.report.Report as rust
-use Rattle.ciel_walks.specs.Laws as walks
 use Rattle.ciel_brought.specs.Brought.{lies_known}
 use Rattle.ciel_brought.proofs.Copying.{copies_fit, copies_named}
 use Rattle.ciel_finds.proofs.Finding.{lies_found, lies_none}
 use Rattle.ciel_perform.specs.Begins.{BeginsAt, HasState, IsFrom, IsStartOf}
-use Rattle.ciel_perform.specs.Ends.{EndIs, IsMade}
-use Rattle.ciel_perform.specs.Runs.{Went, brings, spawned_in}
+use Rattle.ciel_perform.specs.Ends.{EndIs}
+use Rattle.ciel_perform.specs.Runs.{Went, brings}
 use Rattle.ciel_perform.proofs.Binding.{behind, bound_from, in_front}
 use Rattle.ciel_perform.proofs.Making.{names_are, same_made}
 

@@ -1,5 +1,5 @@
 -- What a run came to, as a report tells it.
-use Rattle.std.proofs.Common.{◌≡◌, ℕ, List, [], ◌∷◌, refl, sym, subst}
+use Rattle.std.proofs.Common.{◌≡◌, ℕ, List, [], sym, subst}
 use Rattle.sky_base.specs.Tree.{Script}
 use Rattle.sky_base.specs.Val.{known, same_text}
 use Rattle.sky_base.specs.declared.object.TaskId.{TaskId}
@@ -23,7 +23,7 @@ use Rattle.ciel_brought.specs.Copies.{Copies}
 use Rattle.ciel_finds.specs.Finds.{IsLost}
 use Rattle.ciel_perform.specs.Begins.{BeginsAt, StackIsLost}
 use Rattle.ciel_perform.specs.Ends.{CameSo, StepOf, TellsMissing, told_copies}
-use Rattle.ciel_perform.specs.Runs.{CameThrough, CopiesAt, Ran, Went, WentThrough, brings, lost, spawned_in, stack}
+use Rattle.ciel_perform.specs.Runs.{CameThrough, CopiesAt, Ran, Went, brings, lost, spawned_in, stack}
 
 -- a call comes to an object, the root task to an answer
 pub step_kind : (task : TaskId) (x new : Stand (List ℕ)) (step : Step) → OfKind task x → SameKind x step new → StepOf task step

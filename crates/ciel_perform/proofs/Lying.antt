@@ -1,5 +1,5 @@
 -- What lies at the places of a report is the job's, and what is shown is the job's answer, unless two descriptions share a name.
-use Rattle.std.proofs.Common.{◌≡◌, ℕ, List, [], ◌∷◌, map, Option, Some, None, ◌⊎◌, inl, inr, refl, sym, ap, subst, ◌∙◌}
+use Rattle.std.proofs.Common.{◌≡◌, ℕ, List, [], ◌∷◌, map, Some, None, inl, inr, refl, sym, ap, subst, ◌∙◌}
 use Rattle.std.specs.Option.{option_map}
 use Rattle.sha1.specs.Sha1.{sha1}
 use Rattle.sky_base.specs.KitView.{Gives}
@@ -10,7 +10,6 @@ use Rattle.sky_base.specs.ObjectView.{object_view}
 use Rattle.sky_base.specs.Res.{Object}
 use Rattle.sky_base.specs.See as s
 use Rattle.sky_base.specs.See.{see}
-use Rattle.sky_base.specs.Val as v
 use Rattle.sky_base.specs.Val.{call, input, known, out}
 use Rattle.sky_base.specs.declared.object.Object as rust_object
 use Rattle.sky_law.specs.Lower.{low_obj}
@@ -23,7 +22,6 @@ use Rattle.sky_shown.specs.Shows.{shown_view}
 use Rattle.sky_state.specs.Pending.{stand_wait}
 use Rattle.sky_state.specs.Stand.{Stand, low_state}
 use Rattle.sky_state.specs.Stands.{Stands}
-use Rattle.ciel_board.specs.Board.{brought_names}
 use Rattle.ciel_board.specs.Follows.{OrderIs}
 use Rattle.ciel_board.specs.Laws.{CopyLies, Lies, LiesUnlessClash, OutputLies}
 use Rattle.ciel_board.specs.Reports.{end_view, report_view}
@@ -32,7 +30,7 @@ use Rattle.ciel_journal.specs.History.{Event, OpenStart, Plan, after, find_open,
 use Rattle.ciel_journal.specs.Job as j
 use Rattle.ciel_journal.specs.Job.{Digest, IsJob, Job, Task, of, show}
 use Rattle.ciel_journal.specs.Known.{Knows}
-use Rattle.ciel_journal.specs.Lawful.{Allowed, Copied, HeldAt, Lawful, NoClash}
+use Rattle.ciel_journal.specs.Lawful.{Allowed, HeldAt, Lawful, NoClash}
 use Rattle.ciel_journal.proofs.Published.{book_apart}
 use Rattle.ciel_json.specs.Around.{json_around}
 use Rattle.ciel_json.proofs.ReadLaw.{json_reads_plain}
@@ -41,11 +39,9 @@ use Rattle.ciel_meant.specs.Real.{back}
 use Rattle.ciel_meant.proofs.KnownLaw.{real_knows}
 use Rattle.ciel_meant.proofs.RealLaw.{real_laws}
 use Rattle.ciel_name.specs.Object.{object_bytes}
-use Rattle.ciel_reports.specs.Report as report
 use Rattle.ciel_reports.specs.Report.{FirstApart, IsMissing, at_first, report_of}
 use Rattle.ciel_store.specs.Seen.{ShelvesSeen}
 use Rattle.ciel_task.specs.Named.{frozen_mark, mark_of, name_of, object_by_names, state_by_names}
-use Rattle.ciel_task.specs.Orders.{names_in}
 use Rattle.ciel_task.specs.Performs.{AnswerIs, AnswersUnlessClash}
 use Rattle.ciel_task.specs.Shop as shop
 use Rattle.ciel_task.specs.Shop.{InputsInOrder, block_view, shop_setting}
@@ -54,7 +50,6 @@ use Rattle.ciel_task.specs.declared.block.Block.{Block}
 use Rattle.ciel_task.specs.declared.block.Held.{Held}
 use Rattle.ciel_task.specs.declared.order.Order.{Order}
 use Rattle.ciel_task.specs.declared.report.End as rust_end
-use Rattle.ciel_task.specs.declared.report.Made.{Made}
 use Rattle.ciel_task.specs.declared.report.Report as rust
 use Rattle.ciel_walks.specs.Laws.{CameTo}
 use Rattle.ciel_brought.specs.Copies.{IsCopy}

@@ -100,13 +100,13 @@ module _ (digest : List ℕ → List ℕ) (shelves : ShelvesSeen) (sc : Script) 
       → WentThrough digest shelves sc inputs order x new spawned eye r is
   passed (Ok p) code c held h before b was w s t e sh wk ins hs copies refusal asks fits kind further sound whole knows =
       let copied : Copies shelves order.worker inputs held is =
-          subst (λ z. Copies shelves order.worker inputs z is) hs
-          (subst (λ z. Copies shelves order.worker z t.held is) ins
-          (subst (λ z. Copies shelves z t.inputs t.held is) wk
-          (subst (λ z. Copies z t.worker t.inputs t.held is) sh
-          (subst (λ (z : Stays). Copies z.shelves z.worker z.inputs z.held is) e copies)))) in
+      subst (λ z. Copies shelves order.worker inputs z is) hs
+      (subst (λ z. Copies shelves order.worker z t.held is) ins
+      (subst (λ z. Copies shelves z t.inputs t.held is) wk
+      (subst (λ z. Copies z t.worker t.inputs t.held is) sh
+      (subst (λ (z : Stays). Copies z.shelves z.worker z.inputs z.held is) e copies)))) in
       let gone : Gone digest x new p spawned code inputs held shelves order.worker before was is =
-          record { asks = asks; fits = fits; kind = kind; further = further; sound = sound; whole = whole; knows = knows; copies = copied } in
+      record { asks = asks; fits = fits; kind = kind; further = further; sound = sound; whole = whole; knows = knows; copies = copied } in
       came_through digest x new p spawned sc inputs shelves order is
       (subst (λ z. Gone digest x new p spawned z inputs order.inputs.items shelves order.worker [] [] is) c
       (subst (λ z. Gone digest x new p spawned code inputs z shelves order.worker [] [] is) h

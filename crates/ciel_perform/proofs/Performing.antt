@@ -1,10 +1,9 @@
 -- The report of a run performs the order.
-use Rattle.std.proofs.Common.{◌≡◌, ◌≢◌, ℕ, List, [], ◌∷◌, length, map, true, Option, Some, None, IsSome, ◌⊎◌, inl, inr, refl, sym, ap, subst, ◌∙◌}
+use Rattle.std.proofs.Common.{◌≡◌, ℕ, List, [], length, map, true, Option, Some, None, IsSome, inl, inr, refl, sym, ap, subst, ◌∙◌}
 use Rattle.std.specs.Option.{option_map}
 use Rattle.sha1.specs.Sha1.{sha1}
 use Rattle.sky_base.specs.KitView.{Gives}
 use Rattle.sky_base.specs.Name.{digested, held_name, name}
-use Rattle.sky_base.specs.ObjectView.{object_view}
 use Rattle.sky_base.specs.Res.{Object}
 use Rattle.sky_base.specs.See as s
 use Rattle.sky_base.specs.Val as v
@@ -12,7 +11,6 @@ use Rattle.sky_base.specs.Val.{distinct, known, same_text}
 use Rattle.sky_base.specs.declared.object.TaskId.{TaskId}
 use Rattle.sky_law.specs.Lower.{low_ref}
 use Rattle.sky_law.specs.NamesLaws.{NoClash, Tag, no_name}
-use Rattle.sky_law.specs.Tasks as t
 use Rattle.sky_law.specs.Tasks.{Each, In}
 use Rattle.sky_law.proofs.TaskOutputs.{in_each}
 use Rattle.sky_moves.proofs.Standing.{held_there}
@@ -42,9 +40,8 @@ use Rattle.ciel_meant.proofs.RealLaw.{in_to}
 use Rattle.ciel_name.specs.Object.{object_bytes}
 use Rattle.ciel_reports.specs.Report as report
 use Rattle.ciel_reports.specs.Report.{FirstApart, Says, held_then}
-use Rattle.ciel_store.specs.Seen.{PlaceSeen, SeatSeen, ShelvesSeen}
+use Rattle.ciel_store.specs.Seen.{SeatSeen, ShelvesSeen}
 use Rattle.ciel_store.specs.declared.loss.Loss.{Loss}
-use Rattle.ciel_table.specs.Named.{found}
 use Rattle.ciel_inputs.specs.Gathers.{lies_of}
 use Rattle.ciel_inputs.specs.Lies.{LostAt}
 use Rattle.ciel_task.specs.Orders.{GoesOnFrom, HasObject, HasStack, OfKind, OrderSound, Saved, names_in}
@@ -52,7 +49,7 @@ use Rattle.ciel_task.specs.Performs.{AnswerIs, IsMissed, IsMissing, Missed, OfTa
 use Rattle.ciel_task.specs.Places.{CopyAt, EndAt, ObjectAt, PlacesSound}
 use Rattle.ciel_task.specs.Shop as shop
 use Rattle.ciel_task.specs.Shop.{InputsInOrder, shop_setting}
-use Rattle.ciel_task.specs.Views.{P, brought_view, copies_view, how_view, order_view, report_end, spot_view}
+use Rattle.ciel_task.specs.Views.{P, how_view, order_view, report_end, spot_view}
 use Rattle.ciel_task.specs.declared.block.Block.{Block}
 use Rattle.ciel_task.specs.declared.block.Held.{Held}
 use Rattle.ciel_task.specs.declared.block.Spot.{Spot}
@@ -70,11 +67,11 @@ use Rattle.ciel_finds.specs.Finds.{IsLost}
 use Rattle.ciel_finds.proofs.Finding.{named_there}
 use Rattle.sky_frozen.specs.Bytes.{frozen_bytes}
 use Rattle.ciel_perform.specs.Begins.{BeginsAt, HasState, IsFrom, StackIsLost}
-use Rattle.ciel_perform.specs.Ends.{EndIs, IsOf, TellsMissing}
+use Rattle.ciel_perform.specs.Ends.{EndIs, TellsMissing}
 use Rattle.ciel_perform.specs.Runs.{Ran, Went, lost, stack, went}
 use Rattle.ciel_perform.proofs.Beginning.{begins, stands}
 use Rattle.ciel_perform.proofs.Fitting.{are_named, fits_in}
-use Rattle.ciel_perform.proofs.Lying.{answers, lies, not_missing}
+use Rattle.ciel_perform.proofs.Lying.{answers, lies}
 use Rattle.ciel_perform.proofs.Telling.{Q, in_mapped, says_and}
 
 none_not : {A : Type 0} {a : A} → None ≡ Some a → ⊥

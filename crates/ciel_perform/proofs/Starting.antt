@@ -1,5 +1,5 @@
 -- From the start of its task an order goes on.
-use Rattle.std.proofs.Common.{◌≡◌, ℕ, List, [], ◌∷◌, ◌++◌, length, Option, Some, None, inl, inr, refl, sym, ap, subst, ◌∙◌}
+use Rattle.std.proofs.Common.{◌≡◌, ℕ, List, [], ◌∷◌, ◌++◌, Option, Some, None, inl, inr, refl, sym, ap, subst, ◌∙◌}
 use Rattle.sky_base.specs.Eval.{Body, body_of}
 use Rattle.sky_base.specs.Name.{held_name}
 use Rattle.sky_base.specs.Names.{known_of}

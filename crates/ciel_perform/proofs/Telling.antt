@@ -1,5 +1,5 @@
 -- The report of a run of an order says what the job does.
-use Rattle.std.proofs.Common.{◌≡◌, ◌≤◌, ℕ, List, [], ◌∷◌, ◌++◌, map, Bool, true, false, Option, Some, None, ◌⊎◌, inl, inr, refl, sym, ap, ap₂, subst, ◌∙◌}
+use Rattle.std.proofs.Common.{◌≡◌, ℕ, List, [], ◌∷◌, map, Bool, true, false, Option, Some, None, ◌⊎◌, inl, inr, refl, sym, ap, ap₂, subst, ◌∙◌}
 use Rattle.std.specs.List.{AllByRecursion, IsDistinct}
 use Rattle.sha1.specs.Sha1.{sha1}
 use Rattle.sky_base.specs.KitView.{Gives}
@@ -10,7 +10,6 @@ use Rattle.sky_base.specs.Res.{Object}
 use Rattle.sky_base.specs.See as s
 use Rattle.sky_base.specs.Val as v
 use Rattle.sky_base.specs.Val.{call, distinct, input, known, out, same_text}
-use Rattle.sky_base.specs.declared.object.Named.{Named}
 use Rattle.sky_base.specs.declared.object.Object as rust_object
 use Rattle.sky_base.specs.declared.object.TaskId.{TaskId}
 use Rattle.sky_base.proofs.Exact.{self_text}
@@ -18,35 +17,32 @@ use Rattle.sky_law.specs.Lower.{low_ref}
 use Rattle.sky_law.specs.NamesLaws.{NoClash, ReadsAlike, Tag, no_name}
 use Rattle.sky_law.specs.Refers.{PlainReads}
 use Rattle.sky_law.specs.Tasks as t
-use Rattle.sky_law.proofs.Lists.{some_is}
 use Rattle.sky_law.proofs.TaskOutputs.{distinct_in, same_exact}
 use Rattle.sky_rows.specs.Data.{data_of}
 use Rattle.sky_state.specs.Pending.{pending_in}
 use Rattle.sky_state.specs.Stand.{Stand}
-use Rattle.sky_state.specs.StandView.{spawned_view}
 use Rattle.sky_state.specs.Stands.{Stands}
 use Rattle.sky_state.proofs.HeldLaw.{stands_pending}
 use Rattle.sky_waves.specs.Seen.{WritesAlike}
 use Rattle.sky_onward.specs.Steps.{stop_of}
 use Rattle.sky_onward.specs.declared.step.Step.{Step}
-use Rattle.sky_resume.specs.Comes.{with_name}
 use Rattle.sky_through.specs.Through.{PassedAt}
 use Rattle.ciel_board.specs.Follows.{OrderIs}
-use Rattle.ciel_board.specs.Reports.{copy_names, end_view, made_keys, named_view, report_view}
+use Rattle.ciel_board.specs.Reports.{copy_names, end_view, made_keys, report_view}
 use Rattle.ciel_board.specs.Setting.{Setting}
 use Rattle.ciel_journal.specs.Entries.{low_names}
 use Rattle.ciel_journal.specs.History.{OpenStart}
 use Rattle.ciel_journal.specs.Job as j
 use Rattle.ciel_journal.specs.Job.{Digest, Job, Task, of, show}
 use Rattle.ciel_journal.specs.Known.{Inner}
-use Rattle.ciel_journal.specs.Lawful.{Copied, FetchedFrom, Given, SpawnedToEnd}
+use Rattle.ciel_journal.specs.Lawful.{Copied, Given}
 use Rattle.ciel_json.specs.Around.{json_around}
 use Rattle.ciel_json.proofs.LowLaw.{reads_named, text_named}
 use Rattle.ciel_json.proofs.ReadLaw.{json_reads_plain}
 use Rattle.ciel_meant.specs.Inner.{real_inner}
 use Rattle.ciel_meant.specs.Real.{back}
 use Rattle.ciel_meant.proofs.AlikeLaw.{wait_from}
-use Rattle.ciel_meant.proofs.RealLaw.{in_from, in_to}
+use Rattle.ciel_meant.proofs.RealLaw.{in_to}
 use Rattle.ciel_name.specs.Object.{object_bytes}
 use Rattle.ciel_reports.specs.Report as report
 use Rattle.ciel_reports.specs.Report.{Clear, End, FirstApart, MadeIs, Met, Report, Says, Spawns, StoppedIs, at_end, at_wait}
@@ -67,7 +63,7 @@ use Rattle.ciel_walks.specs.Laws.{CameTo, SaysAnd, WaitsAt, end_of, object_made,
 use Rattle.ciel_want.specs.History.{task_id}
 use Rattle.ciel_walks.proofs.Right.{haves_apart}
 use Rattle.ciel_brought.specs.Brought.{lies_known}
-use Rattle.ciel_brought.specs.Copies.{Copies, IsCopy}
+use Rattle.ciel_brought.specs.Copies.{IsCopy}
 use Rattle.ciel_brought.proofs.Copying.{copies_named, copy_fetched}
 use Rattle.sky_frozen.specs.Bytes.{frozen_bytes}
 use Rattle.ciel_perform.specs.Begins.{BeginsAt}

@@ -1,5 +1,5 @@
 -- What a report tells of the end of a run.
-use Rattle.std.specs.Prelude.{◌≡◌, ℕ, List, [], ◌∷◌, Option, Some}
+use Rattle.std.specs.Prelude.{◌≡◌, ℕ, List, [], ◌∷◌, Some}
 use Rattle.sha1.specs.Sha1.{sha1}
 use Rattle.sky_base.specs.ObjectView.{object_view}
 use Rattle.sky_base.specs.Val.{same_text}

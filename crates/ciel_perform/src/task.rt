@@ -123,14 +123,7 @@ fn go_on<K, N: Namer, R: Wait>(
             let report = came_to(rt, alloc, shop, order, step, state, copied.items)?;
             Ok(report)
         }
-        Err(lost) => Ok(missing(
-            alloc,
-            &shop.shelves,
-            order,
-            lost.name,
-            lost.loss,
-            eye,
-        )),
+        Err(lost) => Ok(missing(alloc, &shop.shelves, order, lost.name, lost.loss, eye)),
     }
 }
 

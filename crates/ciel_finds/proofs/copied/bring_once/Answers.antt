@@ -1,7 +1,5 @@
-use Rattle.std.proofs.Common.{◌≡◌, Some, length, subst, sym, ap, ◌∙◌, arith}
+use Rattle.std.proofs.Common.{◌≡◌, length, subst, sym, ap, ◌∙◌, arith}
 use Rattle.sky_base.specs.JobView.{job_view}
-use Rattle.sky_base.specs.ObjectView.{object_view}
-use Rattle.sky_base.specs.Val.{known}
 use Rattle.ciel_finds.specs.Finds.{Noted}
 use Rattle.ciel_finds.proofs.Copying.{asks_after, fresh_place, stands_after}
 use Rattle.ciel_finds.proofs.Finding.{fetched_so, spot_of}

@@ -1,6 +1,5 @@
-use Rattle.std.proofs.Common.{subst, sym}
 use Rattle.sky_state.specs.StateView.{stand_of, spawned_of}
-use Rattle.ciel_perform.specs.Runs.{WentThrough, went}
+use Rattle.ciel_perform.specs.Runs.{went}
 use Rattle.ciel_perform.proofs.Going.{ran_lost, went_of}
 use Rattle.ciel_perform.proofs.task.go_on.Goals as goal
 
