@@ -1,5 +1,5 @@
 -- Each call keeps what holds of a master.
-use Rattle.std.proofs.Common.{◌≡◌, ℕ, ◌+◌, ◌≤◌, ◌<◌, ◌^◌, List, [], ◌∷◌, ◌++◌, length, length-append, Bool, Some, false, filter, map, nat_eq, not, refl, ap, ◌∙◌, sym, subst, arith}
+use Rattle.std.proofs.Common.{◌≡◌, ℕ, zero, suc, ◌+◌, ◌≤◌, ◌<◌, ◌^◌, List, [], ◌∷◌, ◌++◌, length, length-append, Bool, Some, true, false, cond, filter, map, nat_eq, not, slice_get, slice_index_or, refl, ap, ◌∙◌, sym, subst, arith}
 use Rattle.sky_base.specs.Val.{no_pairs, no_vals}
 use Rattle.sky_base.specs.declared.object.Desc1.{Desc1}
 use Rattle.sky_base.specs.declared.object.Named.{Named}
@@ -16,6 +16,7 @@ use Rattle.ciel_board.proofs.Sounding.{accepted_sound, closed_sound, lost_sound,
 use Rattle.ciel_journal.specs.Entries as j
 use Rattle.ciel_journal.specs.Graph.{Runnable}
 use Rattle.ciel_journal.specs.Job.{Each, In}
+use Rattle.ciel_journal.specs.Turns.{FirstDue}
 use Rattle.ciel_journal.proofs.Booked.{each_more}
 use Rattle.ciel_journal.proofs.Members.{each_of}
 use Rattle.ciel_table.specs.Changes.{dropped, placed}
@@ -24,15 +25,18 @@ use Rattle.ciel_table.specs.Seen.{Known, TableSeen, last_wait, waits_of}
 use Rattle.ciel_table.specs.Sound.{Here, IsAbove}
 use Rattle.ciel_table.specs.declared.wait.Wait.{Wait}
 use Rattle.ciel_table.proofs.Lists.{all_more}
-use Rattle.std.specs.List.{AllByRecursion}
+use Rattle.std.specs.List.{AllByRecursion, list_any}
+use Rattle.std.proofs.lemmas.List.{length-map}
 use Rattle.ciel_task.specs.Views.{P, copies_view, how_view, output_view}
 use Rattle.ciel_task.specs.declared.block.Held.{Held}
 use Rattle.ciel_task.specs.declared.report.End.{End}
 use Rattle.ciel_task.specs.declared.report.Made.{Made}
 use Rattle.ciel_want.specs.Waited.{Whole}
-use Rattle.ciel_master.specs.Seen.{Going, MasterSeen, MasterStands, board_of, most_descriptions, plan_view}
+use Rattle.ciel_master.specs.Seen.{Going, HasRoom, MasterSeen, MasterStands, board_of, most_descriptions, plan_view}
 use Rattle.ciel_master.specs.Taking.{CanTake, CopiesPlace, LearnedFor, OutputsPlace, entry_for, is_last, learned_for, table_after}
-use Rattle.ciel_master.specs.Views.{worker_of}
+use Rattle.ciel_turns.specs.Left.{losses_left}
+use Rattle.ciel_turns.proofs.Working.{fewer_losses}
+use Rattle.ciel_master.specs.Views.{entry_view, worker_of}
 use Rattle.ciel_master.specs.declared.entry.Entry.{Entry}
 use Rattle.ciel_master.specs.declared.orders.OrderOut.{OrderOut}
 use Rattle.ciel_master.specs.declared.plan.RunPlan.{RunPlan}
@@ -153,8 +157,36 @@ open_gone digest main t lost is none =
     let first : TableSeen P = empty most_descriptions in
     ap (λ (u : TableSeen P). u.gone) is ∙ ((grown digest (main ∷ []) first).gone ∙ sym none)
 
+-- what is got is what stands there
+got_or : {A : Type 0} (xs : List A) (i : ℕ) (x d : A) → slice_get xs i ≡ Some x → slice_index_or xs i d ≡ x
+got_or [] i x d e = cc
+got_or (y ∷ ys) zero x d e = cc
+got_or (y ∷ ys) (suc i) x d e = got_or ys i x d e
+
+pub or_got : {A : Type 0} (xs : List A) (i : ℕ) (x : A) → i < length xs → x ≡ slice_index_or xs i x → slice_get xs i ≡ Some x
+or_got [] i x l e = absurd (omega (arith, l))
+or_got (y ∷ ys) zero x l e = ap (λ z. Some z) (sym e)
+or_got (y ∷ ys) (suc i) x l e = or_got ys i x (omega (arith, l)) e
+
+-- no more losses are left than there are
+left_most : (losses : List (ℕ × ℕ)) (gone : List ℕ) → losses_left losses gone ≤ length losses
+left_most [] gone = omega arith
+left_most (x ∷ xs) gone = pick (not (list_any (nat_eq x.1) gone)) (left_most xs gone)
+  where
+    pick : (c : Bool) → losses_left xs gone ≤ length xs → length (cond c (x ∷ filter (λ (y : ℕ × ℕ). not (list_any (nat_eq y.1) gone)) xs) (filter (λ (y : ℕ × ℕ). not (list_any (nat_eq y.1) gone)) xs)) ≤ suc (length xs)
+    pick true l = omega (arith, l)
+    pick false l = omega (arith, l)
+
+-- at the beginning
+pub open_room : (losses : List (ℕ × ℕ)) (lost : List ℕ) (es : List Entry) (room entries workers : ℕ) → lost ≡ [] → es ≡ [] → room ≡ length losses → room ≤ entries → room ≤ workers → HasRoom losses lost (length (map entry_view es)) entries workers
+open_room losses lost es room entries workers none nothing is a b =
+    let l = left_most losses lost in
+    let k : length (map entry_view es) ≡ 0 = ap (λ xs. length (map entry_view xs)) nothing in
+    let m : length lost ≡ 0 = ap length none in
+    record { journal = omega (arith, l, k, is, a); workers = omega (arith, l, m, is, b) }
+
 -- a master in its state, which goes on
-module _ {N : Type 0} (dig : N → (List ℕ → List ℕ)) (m : MasterSeen N) (n : N) (b : Board P) (e : record { namer = n; board = b } ≡ m) (lost : List ℕ) (stands : MasterStands (dig n) b lost) (run : m.board.stopped ≡ false) where
+module _ {N : Type 0} (dig : N → (List ℕ → List ℕ)) (m : MasterSeen N) (n : N) (b : Board P) (e : record { namer = n; board = b } ≡ m) (lost : List ℕ) (entries workers : ℕ) (stands : MasterStands (dig n) b lost entries workers) (run : m.board.stopped ≡ false) where
   goes : b.stopped ≡ false
   goes = subst (λ (z : MasterSeen N). z.board.stopped ≡ false) (sym e) run
 
@@ -163,6 +195,20 @@ module _ {N : Type 0} (dig : N → (List ℕ → List ℕ)) (m : MasterSeen N) (
 
   pub gone_now : b.table.gone ≡ lost
   gone_now = (stands goes).1
+
+  pub room_now : HasRoom b.plan.losses lost (length b.journal) entries workers
+  room_now = (stands goes).2
+
+  -- where an entry is written with room for all losses
+  pub room_written : (es : List Entry) (room more : ℕ) → room ≡ length b.plan.losses → length es + room ≤ more → HasRoom b.plan.losses lost (length (map entry_view es)) more workers
+  room_written es room more is fits =
+      let l = left_most b.plan.losses lost in
+      let k = length-map es entry_view in
+      record { journal = omega (arith, l, k, is, fits); workers = room_now.workers }
+
+  -- where it has grown
+  pub room_wider : (more : ℕ) → entries ≤ more → HasRoom b.plan.losses lost (length b.journal) more workers
+  room_wider more wide = let j = room_now.journal in record { journal = omega (arith, j, wide); workers = room_now.workers }
 
   pub whole_now : Whole b.main b.table
   whole_now = sound_whole (dig n) worker_of b going.sound
@@ -180,6 +226,16 @@ module _ {N : Type 0} (dig : N → (List ℕ → List ℕ)) (m : MasterSeen N) (
 
   -- after a loss
   module _ (w : ℕ) (u : TableSeen P) (os : List board.OrderOut) (js : List j.Entry) (is_u : u ≡ dropped worker_of w b.table) (is_os : os ≡ filter (λ (x : board.OrderOut). not (nat_eq w x.worker)) b.orders) (is_js : js ≡ b.journal ++ j.Entry.Lost w b.closes ∷ []) where
+    pub room_lost : (count loss : ℕ) → slice_get b.plan.losses loss ≡ Some (count, w) → list_any (nat_eq w) lost ≡ false → (more : List ℕ) → more ≡ lost ++ w ∷ [] → HasRoom b.plan.losses more (length js) entries workers
+    room_lost count loss planned here more is =
+        let f = fewer_losses b.plan.losses lost loss count w planned here in
+        let e : losses_left b.plan.losses more ≡ losses_left b.plan.losses (lost ++ w ∷ []) = ap (losses_left b.plan.losses) is in
+        let m : length more ≡ length lost + 1 = ap length is ∙ length-append lost (w ∷ []) in
+        let k : length js ≡ length b.journal + 1 = ap length is_js ∙ more_written b.journal (j.Entry.Lost w b.closes) in
+        let r = room_now.journal in
+        let q = room_now.workers in
+        record { journal = omega (arith, f, e, k, r); workers = omega (arith, f, e, m, q) }
+
     pub gone_lost : (more : List ℕ) → more ≡ lost ++ w ∷ [] → u.gone ≡ more
     gone_lost more is =
         ap (λ (z : TableSeen P). z.gone) is_u ∙ (ap (λ gs. gs ++ w ∷ []) gone_now ∙ sym is)
@@ -190,6 +246,57 @@ module _ {N : Type 0} (dig : N → (List ℕ → List ℕ)) (m : MasterSeen N) (
         let long = more_written b.journal (j.Entry.Lost w b.closes) in
         let counted = going.counted in
         subst (Going (dig n)) (sym so) (record { sound = lost_sound (dig n) worker_of b going.sound w; counted = omega (arith, long, counted); few = going.few })
+
+  -- the loss that comes next
+  module _ (number : ℕ) (due : (w : ℕ) × FirstDue m.board.plan.losses m.board.closes m.board.table.gone number w) (losses : List (ℕ × ℕ)) (is_losses : losses ≡ b.plan.losses) where
+    abbrev the_worker : ℕ
+    the_worker = (slice_index_or losses number (0, 0)).1
+
+    due_of : (w : ℕ) → FirstDue m.board.plan.losses m.board.closes m.board.table.gone number w → FirstDue b.plan.losses b.closes b.table.gone number w
+    due_of w d =
+        subst (λ (z : MasterSeen N). FirstDue z.board.plan.losses z.board.closes z.board.table.gone number w) (sym e) d
+
+    worker_is : (w : ℕ) → FirstDue m.board.plan.losses m.board.closes m.board.table.gone number w → the_worker ≡ w
+    worker_is w d =
+        let f = due_of w d in
+        ap (λ (x : ℕ × ℕ). x.1) (got_or losses number (f.count, w) (0, 0) (ap (λ xs. slice_get xs number) is_losses ∙ f.due.planned))
+
+    pub due_now : FirstDue b.plan.losses b.closes b.table.gone number the_worker
+    due_now = subst (FirstDue b.plan.losses b.closes b.table.gone number) (sym (worker_is due.0 due.1)) (due_of due.0 due.1)
+
+    pub planned_now : slice_get b.plan.losses number ≡ Some (due_now.count, the_worker)
+    planned_now = due_now.due.planned
+
+    pub here_now : list_any (nat_eq the_worker) lost ≡ false
+    here_now = subst (λ gs. list_any (nat_eq the_worker) gs ≡ false) gone_now due_now.due.here
+
+    one_left : 0 < losses_left b.plan.losses lost
+    one_left =
+        let f = fewer_losses b.plan.losses lost number due_now.count the_worker planned_now here_now in omega (arith, f)
+
+    pub place_now : length lost < workers
+    place_now = let o = one_left in
+        let r = room_now.workers in omega (arith, o, r)
+
+    pub line_now : (es : List Entry) → map entry_view es ≡ b.journal → length es < entries
+    line_now es is =
+        let o = one_left in
+        let r = room_now.journal in
+        let k = length-map es entry_view in
+        let q : length (map entry_view es) ≡ length b.journal = ap length is in
+        omega (arith, o, r, k, q)
+
+    -- and the state after it
+    module _ (u : TableSeen P) (os : List board.OrderOut) (js : List j.Entry) (is_u : u ≡ dropped worker_of the_worker b.table) (is_os : os ≡ filter (λ (x : board.OrderOut). not (nat_eq the_worker x.worker)) b.orders) (is_js : js ≡ b.journal ++ j.Entry.Lost the_worker b.closes ∷ []) where
+      pub lost_stands : (more : List ℕ) → more ≡ lost ++ the_worker ∷ [] → (lines places : ℕ) → lines ≡ entries → places ≡ workers → Going (dig n) (record b { table = u; orders = os; journal = js }) × (u.gone ≡ more) × HasRoom b.plan.losses more (length js) lines places
+      lost_stands more is lines places same also =
+          let r = room_lost the_worker u os js is_u is_os is_js due_now.count number planned_now here_now more is in
+          (going_lost the_worker u os js is_u is_os is_js, gone_lost the_worker u os js is_u is_os is_js more is, subst (λ k. HasRoom b.plan.losses more (length js) lines k) (sym also) (subst (λ k. HasRoom b.plan.losses more (length js) k workers) (sym same) r))
+
+      pub lost_so : (w : ℕ) → FirstDue m.board.plan.losses m.board.closes m.board.table.gone number w → record { namer = n; board = record b { table = u; orders = os; journal = js } } ≡ record m { board = lost_at worker_of w m.board }
+      lost_so w d =
+          let so : record b { table = u; orders = os; journal = js } ≡ lost_at worker_of the_worker b = ap (λ z. record b { table = z; orders = os; journal = js }) is_u ∙ (ap (λ z. record b { table = dropped worker_of the_worker b.table; orders = z; journal = js }) is_os ∙ ap (λ z. record (lost_at worker_of the_worker b) { journal = z }) is_js) in
+          ap (λ z. record { namer = n; board = z }) (so ∙ ap (λ z. lost_at worker_of z b) (worker_is w d)) ∙ ap (λ (z : MasterSeen N). record z { board = lost_at worker_of w z.board }) e
 
   -- after a report
   module _ (number : ℕ) (spawned : List Named) (copied : List Held) (end : End) (fits : (x : Order P) × (find_order number m.board.orders ≡ Some x.out) × Fits (dig m.namer) worker_of m.board x spawned (how_view copied end)) (o : board.OrderOut) (found : find_order number b.orders ≡ Some o) (k : N) (is_k : k ≡ n) (ns : List Named) (is_ns : ns ≡ spawned) (cs : List Held) (is_cs : cs ≡ copied) (t : TableSeen P) (is_t : t ≡ learned_for (dig k) end ns b.table) where
@@ -206,6 +313,10 @@ module _ {N : Type 0} (dig : N → (List ℕ → List ℕ)) (m : MasterSeen N) (
     module _ (all : LearnedFor (dig k) end ns b.table) where
       all_now : LearnedFor (dig n) end spawned b.table
       all_now = subst (λ ms. LearnedFor (dig n) end ms b.table) is_ns (subst (λ z. LearnedFor (dig z) end ns b.table) is_k all)
+
+      pub learned_so : LearnedFor (dig m.namer) end spawned m.board.table
+      learned_so =
+          subst (λ (z : MasterSeen N). LearnedFor (dig z.namer) end spawned z.board.table) e all_now
 
       pub takes_now : CanTake o.task t cs end
       takes_now =

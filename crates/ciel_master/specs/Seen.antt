@@ -5,6 +5,7 @@ use Rattle.ciel_board.specs.Sound.{Sound}
 use Rattle.ciel_journal.specs.History.{Plan}
 use Rattle.ciel_journal.specs.Job.{Digest}
 use Rattle.ciel_table.specs.Seen.{TableSeen}
+use Rattle.ciel_turns.specs.Left.{losses_left}
 use Rattle.ciel_master.specs.Views.{entry_view, kept_view, worker_of}
 use Rattle.ciel_task.specs.Views.{P}
 use Rattle.ciel_master.specs.declared.entry.Entry.{Entry}
@@ -44,6 +45,12 @@ pub record Going (digest : List ℕ → List ℕ) (b : Board P) : Type 0 where
   pub counted : b.starts + b.closes ≤ length b.journal
   pub few : length b.keys < 2 ^ 32
 
--- besides, these are the lost workers
-abbrev pub MasterStands : (List ℕ → List ℕ) → Board P → List ℕ → Type 0
-MasterStands digest b lost = b.stopped ≡ false → Going digest b × (b.table.gone ≡ lost)
+-- with so many entries there is room for one for each loss that is left, and among these lost workers for each of their workers
+pub record HasRoom (losses : List (ℕ × ℕ)) (lost : List ℕ) (entries entry_room lost_room : ℕ) : Type 0 where
+  pub journal : entries + losses_left losses lost ≤ entry_room
+  pub workers : length lost + losses_left losses lost ≤ lost_room
+
+-- besides, these are the lost workers, and there is room for the losses that are left
+abbrev pub MasterStands : (List ℕ → List ℕ) → Board P → (lost : List ℕ) → (entry_room lost_room : ℕ) → Type 0
+MasterStands digest b lost entry_room lost_room =
+    b.stopped ≡ false → Going digest b × (b.table.gone ≡ lost) × HasRoom b.plan.losses lost (length b.journal) entry_room lost_room

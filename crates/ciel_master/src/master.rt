@@ -1,6 +1,6 @@
 //! The master itself.
 
-ghost use Rattle.std.specs.Prelude.{◌≡◌, ◌<◌, ◌^◌, ℕ, [], IfErr, IfNone, IfOk, IfSome, OnErr, OnOk, Some, false, is_some, length, map, nat_eq, nat_lt, true, ◌&&◌};
+ghost use Rattle.std.specs.Prelude.{◌≡◌, ◌≤◌, ◌<◌, ◌^◌, ℕ, [], IfErr, IfNone, IfOk, IfSome, OnErr, OnOk, Some, false, is_some, length, map, nat_eq, nat_lt, slice_get, true, vec_capacity, ◌&&◌};
 ghost use Rattle.std.specs.Arc.{arc_value};
 ghost use Rattle.std.specs.List.{IsDistinct, list_any};
 ghost use Rattle.sky_base.specs.Val.{no_pairs, no_vals, same_text};
@@ -19,13 +19,13 @@ ghost use Rattle.ciel_task.specs.Views.{P, order_view, report_end};
 ghost use Rattle.ciel_want.specs.Waited.{tasks_in_order};
 ghost use Rattle.ciel_master.specs.Refusals.{FirstStops};
 ghost use Rattle.ciel_master.specs.Seen.{MasterSeen, most_descriptions, plan_view};
-ghost use Rattle.ciel_master.specs.Taking.{now_of};
+ghost use Rattle.ciel_master.specs.Taking.{LearnedFor, now_of};
 ghost use Rattle.ciel_master.specs.Views.{entry_view, worker_of};
 
 use crate::bring::order_at;
 use crate::entry::Entry;
 use crate::learning::learn_for;
-use crate::orders::{OrderOut, all_among, can_work, close, close_at, find, tasks, workers};
+use crate::orders::{OrderOut, all_among, can_work, close, close_at, find, has, tasks, workers};
 use crate::plan::RunPlan;
 use crate::stop::{Now, Stop};
 use crate::taking::{begin, is_last, note_loss, take_end};
@@ -66,6 +66,7 @@ pub struct Master<K, N: Namer> {
 impl<K, N: Namer> Model for Master<K, N> {
     ghost use Rattle.std.specs.Arc.{arc_value};
     ghost use Rattle.std.specs.Coded.{codes};
+    ghost use Rattle.std.specs.Prelude.{vec_capacity};
     ghost use Rattle.sky_base.specs.Code.{pairs_code, val_code, vals_code};
     ghost use Rattle.sky_frozen.specs.FrozenCode.{stand_code};
     ghost use Rattle.ciel_master.specs.Seen.{MasterSeen, MasterStands, board_of};
@@ -76,7 +77,7 @@ impl<K, N: Namer> Model for Master<K, N> {
 
     ghost view = { λ m. record { namer = (arc_value m.shop).namer; board = board_of m.plan (arc_value m.shop).job.script.keys m.main m.table m.orders.items m.starts m.closes m.journal.items m.stopped } };
 
-    ghost invariant = { λ m. MasterStands (N.digest (arc_value m.shop).namer) (board_of m.plan (arc_value m.shop).job.script.keys m.main m.table m.orders.items m.starts m.closes m.journal.items m.stopped) m.lost.items };
+    ghost invariant = { λ m. MasterStands (N.digest (arc_value m.shop).namer) (board_of m.plan (arc_value m.shop).job.script.keys m.main m.table m.orders.items m.starts m.closes m.journal.items m.stopped) m.lost.items (vec_capacity m.journal) (vec_capacity m.lost) };
 }
 
 /// A table that knows the main call alone.
@@ -90,6 +91,17 @@ fn first_table<N: Namer>(
     let mut table = Table::open(alloc, 65_536)?;
     match table.learn(main, namer) {
         Ok(_) => Ok(table),
+        Err(_) => Err(Memory),
+    }
+}
+
+/// An empty list with room for so many.
+fn with_room<T>(alloc: Global, room: usize) -> Result<Vec<T>, Memory>
+    ensures empty { IfOk result (λ v. v.items ≡ []) }
+    ensures room { IfOk result (λ v. room ≤ vec_capacity v) }
+{
+    match Vec::with_capacity(alloc, room) {
+        Ok(items) => Ok(items),
         Err(_) => Err(Memory),
     }
 }
@@ -110,6 +122,9 @@ impl<K: Drop, N: Namer + Drop> Master<K, N> {
         ensures opened { IfOk result (λ m. m ≡ record { namer = (arc_value shop).namer; board = opened (N.digest (arc_value shop).namer) (plan_view plan) (arc_value shop).job.script.keys main }) }
     {
         let table = first_table(alloc, &main, &shop.namer)?;
+        let losses = plan.losses.len();
+        let journal = with_room(alloc, losses)?;
+        let lost = with_room(alloc, losses)?;
         Ok(Master {
             shop,
             plan,
@@ -118,9 +133,9 @@ impl<K: Drop, N: Namer + Drop> Master<K, N> {
             orders: Vec::new(alloc),
             starts: 0,
             closes: 0,
-            journal: Vec::new(alloc),
+            journal,
             stopped: false,
-            lost: Vec::new(alloc),
+            lost,
             alloc,
         })
     }
@@ -180,7 +195,8 @@ impl<K: Drop, N: Namer + Drop> Master<K, N> {
             task: *task,
             from: order.from,
         };
-        begin(&mut self.orders, &mut self.journal, out)?;
+        let room = self.plan.losses.len();
+        begin(&mut self.orders, &mut self.journal, out, room)?;
         self.starts += 1;
         Ok(order)
     }
@@ -194,6 +210,7 @@ impl<K: Drop, N: Namer + Drop> Master<K, N> {
         requires going { self.old.board.stopped ≡ false }
         requires fits { (x : b.Order P) × (find_order report.number self.old.board.orders ≡ Some x.out) × Fits (N.digest self.old.namer) worker_of self.old.board x report.spawned.items (report_end report) }
         ensures accepted { OnOk result ((x : b.OrderOut) × (find_order report.number self.old.board.orders ≡ Some x) × (self.new ≡ record self.old { board = accepted (N.digest self.old.namer) self.old.board x report.spawned.items (report_end report) })) }
+        ensures learned { OnOk result (LearnedFor (N.digest self.old.namer) report.end report.spawned.items self.old.board.table) }
         ensures now { IfOk result (λ now. now ≡ now_of report.end) }
         ensures journal { OnErr result (self.new.board.journal ≡ self.old.board.journal) }
         ensures stopped { OnErr result (self.new.board.stopped ≡ true) }
@@ -212,6 +229,7 @@ impl<K: Drop, N: Namer + Drop> Master<K, N> {
         };
         let last = is_last(&order.task, &end, copied.as_slice());
         learn_for(&mut self.table, &self.shop.namer, spawned.as_slice(), &end)?;
+        let room = self.plan.losses.len();
         let now = take_end(
             self.alloc,
             &mut self.table,
@@ -219,6 +237,7 @@ impl<K: Drop, N: Namer + Drop> Master<K, N> {
             &order,
             copied.as_slice(),
             end,
+            room,
         )?;
         close(&mut self.orders, order.number);
         self.closes += 1;
@@ -240,6 +259,18 @@ impl<K: Drop, N: Namer + Drop> Master<K, N> {
         ) {
             Some(loss) => Some(loss as u32),
             None => None,
+        }
+    }
+
+    /// Whether the plan has a loss of this number and worker, and the worker is lost. It takes no memory.
+    pub fn has_lost(&self, number: u32, worker: u32) -> bool
+        requires going { self.now.board.stopped ≡ false }
+        ensures planned { result ≡ true → (count : ℕ) × (slice_get self.now.board.plan.losses number ≡ Some (count, worker)) }
+        ensures lost { result ≡ true → list_any (nat_eq worker) self.now.board.table.gone ≡ true }
+    {
+        match self.plan.losses.as_slice().get(number as usize) {
+            Some(loss) => worker == loss.1 && has(&self.lost, worker),
+            None => false,
         }
     }
 
@@ -279,18 +310,18 @@ impl<K: Drop, N: Namer + Drop> Master<K, N> {
         self.orders.is_empty()
     }
 
-    /// A worker is lost: its places and the stacks that it saved are dropped, and the order that it had is closed.
-    ///
-    /// Answers `Memory` for want of memory; the master is then as it was.
-    pub fn lose(&mut self, worker: u32) -> Result<(), Memory>
+    /// Carries out the loss that comes next: its worker's places and the stacks that it saved are dropped, and the order that it had is
+    /// closed. It takes no memory.
+    pub fn lose(&mut self, number: u32)
         requires going { self.old.board.stopped ≡ false }
-        ensures lost { OnOk result (self.new ≡ record self.old { board = lost_at worker_of worker self.old.board }) }
-        ensures kept { OnErr result (self.new ≡ self.old) }
+        requires due { (worker : ℕ) × FirstDue self.old.board.plan.losses self.old.board.closes self.old.board.table.gone number worker }
+        ensures lost { (worker : ℕ) → FirstDue self.old.board.plan.losses self.old.board.closes self.old.board.table.gone number worker → self.new ≡ record self.old { board = lost_at worker_of worker self.old.board } }
     {
-        note_loss(&mut self.lost, &mut self.journal, worker, self.closes)?;
+        let losses = self.plan.losses.as_slice();
+        let worker = losses[number as usize].1;
+        note_loss(&mut self.lost, &mut self.journal, worker, self.closes);
         close_at(&mut self.orders, worker);
         self.table.drop_worker(worker);
-        Ok(())
     }
 
     /// Whether it is one of the plan's workers, isn't lost and has no order. It takes no memory.

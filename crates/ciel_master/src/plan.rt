@@ -30,6 +30,14 @@ impl Losses {
         Losses { items }
     }
 
+    /// How many there are.
+    pub fn len(&self) -> usize
+        ensures len { result ≡ length self.now }
+        ensures few { result < 2 ^ 32 }
+    {
+        self.items.len()
+    }
+
     /// The losses in order.
     pub fn as_slice(&self) -> &[(u32, u32)]
         ensures losses { result.now ≡ self.now }

@@ -1,6 +1,6 @@
 //! What a start and the end of a report change.
 
-ghost use Rattle.std.specs.Prelude.{◌≡◌, ◌++◌, ◌∷◌, [], IfOk, OnErr, OnOk, map};
+ghost use Rattle.std.specs.Prelude.{◌≡◌, ◌+◌, ◌≤◌, ◌<◌, ◌^◌, ◌++◌, ◌∷◌, [], IfOk, OnErr, OnOk, length, map, vec_capacity};
 ghost use Rattle.ciel_board.specs.Moves.{with_copies, with_outputs};
 ghost use Rattle.ciel_board.specs.Reports.{copy_names, made_keys};
 ghost use Rattle.ciel_journal.specs.Entries as j;
@@ -26,27 +26,35 @@ use sky_base::text::Memory;
 use sky_state::shown::Shown;
 use std::alloc::Global;
 
-/// Writes an entry. After `Memory` the journal is as it was.
-fn write(journal: &mut Vec<Entry>, entry: Entry) -> Result<(), Memory>
+/// Writes an entry, and makes room for so many more. After `Memory` the journal is as it was, with no less room.
+fn write(journal: &mut Vec<Entry>, entry: Entry, room: usize) -> Result<(), Memory>
+    requires few { room < 2 ^ 32 }
     ensures written { OnOk result (map entry_view journal.new.items ≡ map entry_view journal.old.items ++ entry_view entry ∷ []) }
+    ensures room { OnOk result (length journal.new.items + room ≤ vec_capacity journal.new) }
     ensures kept { OnErr result (journal.new.items ≡ journal.old.items) }
+    ensures wide { vec_capacity journal.old ≤ vec_capacity journal.new }
 {
-    match journal.push(entry) {
-        Ok(()) => Ok(()),
-        Err(_) => Err(Memory),
+    if journal.reserve(room + 1).is_err() {
+        return Err(Memory);
     }
+    journal.push_reserved(entry);
+    Ok(())
 }
 
-/// An order is out, and the journal has it. After `Memory` both are as they were.
+/// An order is out, and the journal has it, with room for so many entries more. After `Memory` both are as they were.
 pub(crate) fn begin(
     orders: &mut Vec<OrderOut>,
     journal: &mut Vec<Entry>,
     order: OrderOut,
+    room: usize,
 ) -> Result<(), Memory>
+    requires few { room < 2 ^ 32 }
     ensures orders { OnOk result (map kept_view orders.new.items ≡ map kept_view orders.old.items ++ kept_view order ∷ []) }
     ensures journal { OnOk result (map entry_view journal.new.items ≡ map entry_view journal.old.items ++ entry_view (Entry.Start order.number order.worker order.task order.from) ∷ []) }
+    ensures room { OnOk result (length journal.new.items + room ≤ vec_capacity journal.new) }
     ensures kept { OnErr result (orders.new.items ≡ orders.old.items) }
     ensures unwritten { OnErr result (journal.new.items ≡ journal.old.items) }
+    ensures wide { vec_capacity journal.old ≤ vec_capacity journal.new }
 {
     if orders.reserve(1).is_err() {
         return Err(Memory);
@@ -57,30 +65,22 @@ pub(crate) fn begin(
         task: order.task,
         from: order.from,
     };
-    write(journal, entry)?;
+    write(journal, entry, room)?;
     orders.push_reserved(order);
     Ok(())
 }
 
-/// A worker more is lost, and the journal has it. After `Memory` both are as they were.
-pub(crate) fn note_loss(
-    lost: &mut Vec<u32>,
-    journal: &mut Vec<Entry>,
-    worker: u32,
-    after: u64,
-) -> Result<(), Memory>
-    ensures lost { OnOk result (lost.new.items ≡ lost.old.items ++ worker ∷ []) }
-    ensures written { OnOk result (map entry_view journal.new.items ≡ map entry_view journal.old.items ++ entry_view (Entry.Lost worker after) ∷ []) }
-    ensures kept { OnErr result (lost.new.items ≡ lost.old.items) }
-    ensures unwritten { OnErr result (journal.new.items ≡ journal.old.items) }
+/// A worker more is lost, and the journal has it. There is room in both.
+pub(crate) fn note_loss(lost: &mut Vec<u32>, journal: &mut Vec<Entry>, worker: u32, after: u64)
+    requires place { length lost.old.items < vec_capacity lost.old }
+    requires line { length journal.old.items < vec_capacity journal.old }
+    ensures lost { lost.new.items ≡ lost.old.items ++ worker ∷ [] }
+    ensures written { map entry_view journal.new.items ≡ map entry_view journal.old.items ++ entry_view (Entry.Lost worker after) ∷ [] }
+    ensures places { vec_capacity lost.new ≡ vec_capacity lost.old }
+    ensures lines { vec_capacity journal.new ≡ vec_capacity journal.old }
 {
-    if lost.reserve(1).is_err() {
-        return Err(Memory);
-    }
-    let entry = Entry::Lost { worker, after };
-    write(journal, entry)?;
+    journal.push_reserved(Entry::Lost { worker, after });
     lost.push_reserved(worker);
-    Ok(())
 }
 
 /// The task came to its end: its outputs and copies are placed, and the journal has it. After `Memory` the journal is as it was.
@@ -91,11 +91,14 @@ fn take_made(
     number: u64,
     made: &[Made],
     copied: &[Held],
+    room: usize,
 ) -> Result<(), Memory>
+    requires few { room < 2 ^ 32 }
     requires made { OutputsPlace table.old made.now }
     requires copied { CopiesPlace table.old copied.now }
     ensures table { OnOk result (table.new ≡ with_copies (copies_view copied.now) (with_outputs (map output_view made.now) table.old)) }
     ensures journal { OnOk result (map entry_view journal.new.items ≡ map entry_view journal.old.items ++ j.Entry.Done number (made_keys (map output_view made.now)) (copy_names (copies_view copied.now)) ∷ []) }
+    ensures room { OnOk result (length journal.new.items + room ≤ vec_capacity journal.new) }
     ensures kept { OnErr result (journal.new.items ≡ journal.old.items) }
 {
     let keys = keys_of(alloc, made)?;
@@ -107,7 +110,7 @@ fn take_made(
         made: keys,
         copied: names,
     };
-    write(journal, entry)?;
+    write(journal, entry, room)?;
     Ok(())
 }
 
@@ -118,11 +121,14 @@ fn take_saved(
     order: &OrderOut,
     wait: Wait<Place<Block>>,
     mark: [u8; 20],
+    room: usize,
 ) -> Result<(), Memory>
+    requires few { room < 2 ^ 32 }
     requires later { IsAbove wait.j (waits_of order.now.task table.old) }
     requires here { Here table.old.gone (worker_of wait.place) }
     ensures table { OnOk result (table.new ≡ saved order.now.task wait table.old) }
     ensures journal { OnOk result (map entry_view journal.new.items ≡ map entry_view journal.old.items ++ j.Entry.Saved order.now.number wait.j mark ∷ []) }
+    ensures room { OnOk result (length journal.new.items + room ≤ vec_capacity journal.new) }
     ensures kept { OnErr result (journal.new.items ≡ journal.old.items) }
 {
     let entry = Entry::Saved {
@@ -131,7 +137,7 @@ fn take_saved(
         mark,
     };
     table.save_wait(&order.task, wait)?;
-    write(journal, entry)?;
+    write(journal, entry, room)?;
     Ok(())
 }
 
@@ -153,20 +159,31 @@ pub(crate) fn take_end(
     order: &OrderOut,
     copied: &[Held],
     end: End,
+    room: usize,
 ) -> Result<Now, Memory>
+    requires few { room < 2 ^ 32 }
     requires can { CanTake order.now.task table.old copied.now end }
     ensures table { OnOk result (table.new ≡ table_after order.now.task (how_view copied.now end) table.old) }
     ensures journal { OnOk result (map entry_view journal.new.items ≡ map entry_view journal.old.items ++ entry_for order.now.number (how_view copied.now end) ∷ []) }
+    ensures room { OnOk result (length journal.new.items + room ≤ vec_capacity journal.new) }
     ensures kept { OnErr result (journal.new.items ≡ journal.old.items) }
     ensures now { IfOk result (λ now. now ≡ now_of end) }
 {
     match end {
         End::Made(made) => {
-            take_made(alloc, table, journal, order.number, made.as_slice(), copied)?;
+            take_made(
+                alloc,
+                table,
+                journal,
+                order.number,
+                made.as_slice(),
+                copied,
+                room,
+            )?;
             Ok(Now::Goes)
         }
         End::Shown(shown) => {
-            take_made(alloc, table, journal, order.number, &[], copied)?;
+            take_made(alloc, table, journal, order.number, &[], copied, room)?;
             Ok(answer(shown))
         }
         End::Saved {
@@ -182,7 +199,7 @@ pub(crate) fn take_end(
                 refs,
                 holds,
             };
-            take_saved(table, journal, order, wait, mark)?;
+            take_saved(table, journal, order, wait, mark, room)?;
             Ok(Now::Goes)
         }
         End::Missing { name, loss, .. } => {
@@ -191,7 +208,7 @@ pub(crate) fn take_end(
                 name,
                 lost: loss.number,
             };
-            write(journal, entry)?;
+            write(journal, entry, room)?;
             Ok(Now::Goes)
         }
     }
