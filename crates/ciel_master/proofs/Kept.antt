@@ -9,7 +9,7 @@ use Rattle.ciel_board.specs.Board as board
 use Rattle.ciel_board.specs.Moves.{accepted, closed, empty, lost_at, started, with_copies, with_outputs, without}
 use Rattle.ciel_board.specs.Reports as r
 use Rattle.ciel_board.specs.Reports.{Copy, IsNamed, learned_all}
-use Rattle.ciel_board.specs.Sound.{CopyFits, Fits, OrderSound, OutputFits, Sound}
+use Rattle.ciel_board.specs.Sound.{CopyFits, OrderSound, OutputFits, Sound}
 use Rattle.ciel_board.proofs.Learning.{grown}
 use Rattle.ciel_board.proofs.Saving.{same_waits}
 use Rattle.ciel_board.proofs.Sounding.{accepted_sound, closed_sound, lost_sound, opened_sound, order_in, sound_whole, started_sound}
@@ -32,10 +32,13 @@ use Rattle.ciel_task.specs.declared.block.Held.{Held}
 use Rattle.ciel_task.specs.declared.report.End.{End}
 use Rattle.ciel_task.specs.declared.report.Made.{Made}
 use Rattle.ciel_want.specs.Waited.{Whole}
+use Rattle.ciel_store.specs.Seen.{SeatSeen, ShelvesSeen, marked}
+use Rattle.ciel_master.specs.Marked.{FitsUnlessMissing, IsCarriedOut, Marked, WasMarked}
 use Rattle.ciel_master.specs.Seen.{Going, HasRoom, MasterSeen, MasterStands, board_of, most_descriptions, plan_view}
 use Rattle.ciel_master.specs.Taking.{CanTake, CopiesPlace, LearnedFor, OutputsPlace, entry_for, is_last, learned_for, table_after}
 use Rattle.ciel_turns.specs.Left.{losses_left}
 use Rattle.ciel_turns.proofs.Working.{fewer_losses}
+use Rattle.ciel_master.proofs.Marking.{carried_out, has_shelf, marked_more}
 use Rattle.ciel_master.specs.Views.{entry_view, worker_of}
 use Rattle.ciel_master.specs.declared.entry.Entry.{Entry}
 use Rattle.ciel_master.specs.declared.orders.OrderOut.{OrderOut}
@@ -76,18 +79,18 @@ module _ (digest : List ℕ → List ℕ) (b : Board P) (g : Going digest b) whe
       ap (λ z. record (taken x spawned copied (End.Missing name loss seen)) { stopped = z }) (sym e)
 
   module _ (x : Order P) (k : ℕ) (out : find_order k b.orders ≡ Some x.out) (spawned : List Named) (copied : List Held) where
-    accepted_is_sound : (end : End) → Fits digest worker_of b x spawned (how_view copied end) → LearnedFor digest end spawned b.table → Sound digest worker_of (accepted digest b x.out spawned (how_view copied end))
+    accepted_is_sound : (end : End) → FitsUnlessMissing digest b x spawned copied end → LearnedFor digest end spawned b.table → Sound digest worker_of (accepted digest b x.out spawned (how_view copied end))
     accepted_is_sound (End.Made ms) fits all =
-        accepted_sound digest worker_of b g.sound x k out spawned (how_view copied (End.Made ms)) fits all
+        accepted_sound digest worker_of b g.sound x k out spawned (how_view copied (End.Made ms)) (fits (λ z. z)) all
     accepted_is_sound (End.Saved p n refs holds mark) fits all =
-        accepted_sound digest worker_of b g.sound x k out spawned (how_view copied (End.Saved p n refs holds mark)) fits all
+        accepted_sound digest worker_of b g.sound x k out spawned (how_view copied (End.Saved p n refs holds mark)) (fits (λ z. z)) all
     accepted_is_sound (End.Shown s) fits all =
-        accepted_sound digest worker_of b g.sound x k out spawned (how_view copied (End.Shown s)) fits all
+        accepted_sound digest worker_of b g.sound x k out spawned (how_view copied (End.Shown s)) (fits (λ z. z)) all
     accepted_is_sound (End.Missing name loss seen) fits all =
         let s = g.sound in
         closed_sound digest worker_of b s (λ (q : board.OrderOut). not (nat_eq x.out.number q.number)) b.table (b.journal ++ j.Entry.Missed x.out.number name loss.number ∷ []) (b.closes + 1) b.stopped (λ n i. i) (record { rows = s.rows; shown = s.shown; saved = s.saved }) s.room refl (λ y i q. (q.here, q.last))
 
-    pub taken_going : (end : End) → Fits digest worker_of b x spawned (how_view copied end) → LearnedFor digest end spawned b.table → b.stopped ≡ false → Going digest (taken x.out spawned copied end)
+    pub taken_going : (end : End) → FitsUnlessMissing digest b x spawned copied end → LearnedFor digest end spawned b.table → b.stopped ≡ false → Going digest (taken x.out spawned copied end)
     taken_going end fits all e =
         let long = more_written b.journal (entry_for x.out.number (how_view copied end)) in
         let counted = g.counted in
@@ -122,14 +125,14 @@ module _ (digest : List ℕ → List ℕ) (b : Board P) (s : Sound digest worker
       let g = grown digest spawned b.table in
       subst (AllByRecursion (λ (w : Wait P). w.j < n)) (sym (same_waits x.out.task b.table then g.shown g.saved)) (all_more (λ (w : Wait P). w.j ≤ x.out.from) (λ (w : Wait P). w.j < n) (λ w m. omega (arith, m, l)) (waits_of x.out.task b.table) is_sound.last)
 
-  pub can_take : (copied : List Held) (end : End) → Fits digest worker_of b x spawned (how_view copied end) → LearnedFor digest end spawned b.table → CanTake x.out.task (learned_for digest end spawned b.table) copied end
+  pub can_take : (copied : List Held) (end : End) → FitsUnlessMissing digest b x spawned copied end → LearnedFor digest end spawned b.table → CanTake x.out.task (learned_for digest end spawned b.table) copied end
   can_take copied (End.Made ms) f all =
-      let e = (f.learned all).end in
+      let e = ((f (λ z. z)).learned all).end in
       (outputs_can digest then x is_here ms.items e.0, copies_can digest then x is_here copied e.1)
   can_take copied (End.Saved q n refs holds mark) f all =
-      let e = (f.learned all).end in (is_above n e.later, subst (Here then.gone) (sym e.here) is_here)
+      let e = ((f (λ z. z)).learned all).end in (is_above n e.later, subst (Here then.gone) (sym e.here) is_here)
   can_take copied (End.Shown q) f all =
-      let e = (f.learned all).end in copies_can digest then x is_here copied e.1
+      let e = ((f (λ z. z)).learned all).end in copies_can digest then x is_here copied e.1
   can_take copied (End.Missing name loss seen) f all = tt
 
 -- the lost workers stay
@@ -186,7 +189,7 @@ open_room losses lost es room entries workers none nothing is a b =
     record { journal = omega (arith, l, k, is, a); workers = omega (arith, l, m, is, b) }
 
 -- a master in its state, which goes on
-module _ {N : Type 0} (dig : N → (List ℕ → List ℕ)) (m : MasterSeen N) (n : N) (b : Board P) (e : record { namer = n; board = b } ≡ m) (lost : List ℕ) (entries workers : ℕ) (stands : MasterStands (dig n) b lost entries workers) (run : m.board.stopped ≡ false) where
+module _ {N : Type 0} (dig : N → (List ℕ → List ℕ)) (m : MasterSeen N) (n : N) (shelves : ShelvesSeen) (b : Board P) (e : record { namer = n; shelves = shelves; board = b } ≡ m) (lost : List ℕ) (entries workers : ℕ) (marker : SeatSeen) (stands : MasterStands (dig n) b lost entries workers shelves marker) (run : m.board.stopped ≡ false) where
   goes : b.stopped ≡ false
   goes = subst (λ (z : MasterSeen N). z.board.stopped ≡ false) (sym e) run
 
@@ -209,6 +212,13 @@ module _ {N : Type 0} (dig : N → (List ℕ → List ℕ)) (m : MasterSeen N) (
   -- where it has grown
   pub room_wider : (more : ℕ) → entries ≤ more → HasRoom b.plan.losses lost (length b.journal) more workers
   room_wider more wide = let j = room_now.journal in record { journal = omega (arith, j, wide); workers = room_now.workers }
+
+  pub marked_now : Marked b.plan.losses lost shelves marker
+  marked_now = (stands goes).3
+
+  pub carried_now : (now : SeatSeen) → now ≡ marker → (end : End) → WasMarked now.losses end → IsCarriedOut m.board end
+  carried_now now same end k =
+      subst (λ (z : MasterSeen N). IsCarriedOut z.board end) e (carried_out b.plan.losses lost shelves marker marked_now b refl gone_now end (subst (λ (s : SeatSeen). WasMarked s.losses end) same k))
 
   pub whole_now : Whole b.main b.table
   whole_now = sound_whole (dig n) worker_of b going.sound
@@ -286,6 +296,12 @@ module _ {N : Type 0} (dig : N → (List ℕ → List ℕ)) (m : MasterSeen N) (
         let q : length (map entry_view es) ≡ length b.journal = ap length is in
         omega (arith, o, r, k, q)
 
+    pub of_now : marker.of ≡ shelves.of
+    of_now = marked_now.of
+
+    pub shelf_now : the_worker < length shelves.rows
+    shelf_now = has_shelf b.plan.losses lost shelves marker marked_now number due_now.count the_worker planned_now
+
     -- and the state after it
     module _ (u : TableSeen P) (os : List board.OrderOut) (js : List j.Entry) (is_u : u ≡ dropped worker_of the_worker b.table) (is_os : os ≡ filter (λ (x : board.OrderOut). not (nat_eq the_worker x.worker)) b.orders) (is_js : js ≡ b.journal ++ j.Entry.Lost the_worker b.closes ∷ []) where
       pub lost_stands : (more : List ℕ) → more ≡ lost ++ the_worker ∷ [] → (lines places : ℕ) → lines ≡ entries → places ≡ workers → Going (dig n) (record b { table = u; orders = os; journal = js }) × (u.gone ≡ more) × HasRoom b.plan.losses more (length js) lines places
@@ -293,16 +309,20 @@ module _ {N : Type 0} (dig : N → (List ℕ → List ℕ)) (m : MasterSeen N) (
           let r = room_lost the_worker u os js is_u is_os is_js due_now.count number planned_now here_now more is in
           (going_lost the_worker u os js is_u is_os is_js, gone_lost the_worker u os js is_u is_os is_js more is, subst (λ k. HasRoom b.plan.losses more (length js) lines k) (sym also) (subst (λ k. HasRoom b.plan.losses more (length js) k workers) (sym same) r))
 
-      pub lost_so : (w : ℕ) → FirstDue m.board.plan.losses m.board.closes m.board.table.gone number w → record { namer = n; board = record b { table = u; orders = os; journal = js } } ≡ record m { board = lost_at worker_of w m.board }
+      pub marked_lost : (more : List ℕ) → more ≡ lost ++ the_worker ∷ [] → (seat : SeatSeen) → seat ≡ record { of = marker.of; losses = marked marker.losses (record { number = number; worker = the_worker }) } → Marked b.plan.losses more shelves seat
+      marked_lost more is seat so =
+          marked_more b.plan.losses lost shelves marker marked_now (record { number = number; worker = the_worker }) (due_now.count, planned_now) here_now more is seat so
+
+      pub lost_so : (w : ℕ) → FirstDue m.board.plan.losses m.board.closes m.board.table.gone number w → record { namer = n; shelves = shelves; board = record b { table = u; orders = os; journal = js } } ≡ record m { board = lost_at worker_of w m.board }
       lost_so w d =
           let so : record b { table = u; orders = os; journal = js } ≡ lost_at worker_of the_worker b = ap (λ z. record b { table = z; orders = os; journal = js }) is_u ∙ (ap (λ z. record b { table = dropped worker_of the_worker b.table; orders = z; journal = js }) is_os ∙ ap (λ z. record (lost_at worker_of the_worker b) { journal = z }) is_js) in
-          ap (λ z. record { namer = n; board = z }) (so ∙ ap (λ z. lost_at worker_of z b) (worker_is w d)) ∙ ap (λ (z : MasterSeen N). record z { board = lost_at worker_of w z.board }) e
+          ap (λ z. record { namer = n; shelves = shelves; board = z }) (so ∙ ap (λ z. lost_at worker_of z b) (worker_is w d)) ∙ ap (λ (z : MasterSeen N). record z { board = lost_at worker_of w z.board }) e
 
   -- after a report
-  module _ (number : ℕ) (spawned : List Named) (copied : List Held) (end : End) (fits : (x : Order P) × (find_order number m.board.orders ≡ Some x.out) × Fits (dig m.namer) worker_of m.board x spawned (how_view copied end)) (o : board.OrderOut) (found : find_order number b.orders ≡ Some o) (k : N) (is_k : k ≡ n) (ns : List Named) (is_ns : ns ≡ spawned) (cs : List Held) (is_cs : cs ≡ copied) (t : TableSeen P) (is_t : t ≡ learned_for (dig k) end ns b.table) where
-    fits_now : (x : Order P) × (find_order number b.orders ≡ Some x.out) × Fits (dig n) worker_of b x spawned (how_view copied end)
+  module _ (number : ℕ) (spawned : List Named) (copied : List Held) (end : End) (fits : (x : Order P) × (find_order number m.board.orders ≡ Some x.out) × FitsUnlessMissing (dig m.namer) m.board x spawned copied end) (o : board.OrderOut) (found : find_order number b.orders ≡ Some o) (k : N) (is_k : k ≡ n) (ns : List Named) (is_ns : ns ≡ spawned) (cs : List Held) (is_cs : cs ≡ copied) (t : TableSeen P) (is_t : t ≡ learned_for (dig k) end ns b.table) where
+    fits_now : (x : Order P) × (find_order number b.orders ≡ Some x.out) × FitsUnlessMissing (dig n) b x spawned copied end
     fits_now =
-        subst (λ (z : MasterSeen N). (x : Order P) × (find_order number z.board.orders ≡ Some x.out) × Fits (dig z.namer) worker_of z.board x spawned (how_view copied end)) (sym e) fits
+        subst (λ (z : MasterSeen N). (x : Order P) × (find_order number z.board.orders ≡ Some x.out) × FitsUnlessMissing (dig z.namer) z.board x spawned copied end) (sym e) fits
 
     is_then : t ≡ learned_for (dig n) end spawned b.table
     is_then = is_t ∙ (ap (λ z. learned_for (dig z) end ns b.table) is_k ∙ ap (λ z. learned_for (dig n) end z b.table) is_ns)
@@ -346,7 +366,7 @@ module _ {N : Type 0} (dig : N → (List ℕ → List ℕ)) (m : MasterSeen N) (
       going_accepted =
           subst (Going (dig n)) (sym now_is) (subst (λ (z : board.OrderOut). Going (dig n) (taken (dig n) b going z spawned copied end)) same_order (taken_going (dig n) b going fits_now.0 number fits_now.1 spawned copied end fits_now.2 (all_now all) goes))
 
-      pub accepted_so : (x : board.OrderOut) × (find_order number m.board.orders ≡ Some x) × (record { namer = n; board = now } ≡ record m { board = accepted (dig m.namer) m.board x spawned (how_view copied end) })
+      pub accepted_so : (x : board.OrderOut) × (find_order number m.board.orders ≡ Some x) × (record { namer = n; shelves = shelves; board = now } ≡ record m { board = accepted (dig m.namer) m.board x spawned (how_view copied end) })
       accepted_so =
           let so = now_is ∙ taken_is (dig n) b going o spawned copied end goes in
-          (o, subst (λ (z : MasterSeen N). find_order number z.board.orders ≡ Some o) e found, subst (λ (z : MasterSeen N). record { namer = n; board = now } ≡ record z { board = accepted (dig z.namer) z.board o spawned (how_view copied end) }) e (ap (λ z. record { namer = n; board = z }) so))
+          (o, subst (λ (z : MasterSeen N). find_order number z.board.orders ≡ Some o) e found, subst (λ (z : MasterSeen N). record { namer = n; shelves = shelves; board = now } ≡ record z { board = accepted (dig z.namer) z.board o spawned (how_view copied end) }) e (ap (λ z. record { namer = n; shelves = shelves; board = z }) so))

@@ -1,3 +1,4 @@
 mod Lists
 mod Steps
+mod Marking
 mod Kept

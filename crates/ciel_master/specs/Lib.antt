@@ -1,4 +1,5 @@
 pub mod Views
 pub mod Refusals
 pub mod Taking
+pub mod Marked
 pub mod Seen

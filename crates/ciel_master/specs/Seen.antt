@@ -4,17 +4,20 @@ use Rattle.ciel_board.specs.Board.{Board}
 use Rattle.ciel_board.specs.Sound.{Sound}
 use Rattle.ciel_journal.specs.History.{Plan}
 use Rattle.ciel_journal.specs.Job.{Digest}
+use Rattle.ciel_store.specs.Seen.{SeatSeen, ShelvesSeen}
 use Rattle.ciel_table.specs.Seen.{TableSeen}
 use Rattle.ciel_turns.specs.Left.{losses_left}
+use Rattle.ciel_master.specs.Marked.{Marked}
 use Rattle.ciel_master.specs.Views.{entry_view, kept_view, worker_of}
 use Rattle.ciel_task.specs.Views.{P}
 use Rattle.ciel_master.specs.declared.entry.Entry.{Entry}
 use Rattle.ciel_master.specs.declared.orders.OrderOut.{OrderOut}
 use Rattle.ciel_master.specs.declared.plan.RunPlan.{RunPlan}
 
--- what gives the names, and the state by names
+-- what gives the names, the shelves, and the state by names
 pub record MasterSeen (N : Type 0) : Type 0 where
   pub namer : N
+  pub shelves : ShelvesSeen
   pub board : Board P
 
 -- how many descriptions a run may know
@@ -50,7 +53,7 @@ pub record HasRoom (losses : List (ℕ × ℕ)) (lost : List ℕ) (entries entry
   pub journal : entries + losses_left losses lost ≤ entry_room
   pub workers : length lost + losses_left losses lost ≤ lost_room
 
--- besides, these are the lost workers, and there is room for the losses that are left
-abbrev pub MasterStands : (List ℕ → List ℕ) → Board P → (lost : List ℕ) → (entry_room lost_room : ℕ) → Type 0
-MasterStands digest b lost entry_room lost_room =
-    b.stopped ≡ false → Going digest b × (b.table.gone ≡ lost) × HasRoom b.plan.losses lost (length b.journal) entry_room lost_room
+-- besides, these are the lost workers, there is room for the losses that are left, and those that were carried out are marked
+abbrev pub MasterStands : (List ℕ → List ℕ) → Board P → (lost : List ℕ) → (entry_room lost_room : ℕ) → ShelvesSeen → SeatSeen → Type 0
+MasterStands digest b lost entry_room lost_room shelves marker =
+    b.stopped ≡ false → Going digest b × (b.table.gone ≡ lost) × HasRoom b.plan.losses lost (length b.journal) entry_room lost_room × Marked b.plan.losses lost shelves marker

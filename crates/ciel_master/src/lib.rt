@@ -8,6 +8,7 @@
 mod bring;
 pub mod entry;
 mod learning;
+mod marks;
 pub mod master;
 mod orders;
 mod placing;

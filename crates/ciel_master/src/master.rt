@@ -1,6 +1,6 @@
 //! The master itself.
 
-ghost use Rattle.std.specs.Prelude.{◌≡◌, ◌≤◌, ◌<◌, ◌^◌, ℕ, [], IfErr, IfNone, IfOk, IfSome, OnErr, OnOk, Some, false, is_some, length, map, nat_eq, nat_lt, slice_get, true, vec_capacity, ◌&&◌};
+ghost use Rattle.std.specs.Prelude.{◌≡◌, ◌≤◌, ◌<◌, ◌^◌, ℕ, [], IfErr, IfNone, IfOk, IfSome, OnErr, OnOk, Some, false, is_some, length, map, nat_eq, nat_lt, true, vec_capacity, ◌&&◌};
 ghost use Rattle.std.specs.Arc.{arc_value};
 ghost use Rattle.std.specs.List.{IsDistinct, list_any};
 ghost use Rattle.sky_base.specs.Val.{no_pairs, no_vals, same_text};
@@ -10,13 +10,13 @@ ghost use Rattle.ciel_board.specs.Board as b;
 ghost use Rattle.ciel_board.specs.Board.{board_graph, find_order, idle_of, workers_out};
 ghost use Rattle.ciel_board.specs.Moves.{accepted, empty, lost_at, opened, order_for, started};
 ghost use Rattle.ciel_board.specs.Reports.{IsNamed};
-ghost use Rattle.ciel_board.specs.Sound.{Fits};
 ghost use Rattle.ciel_journal.specs.Graph.{Circle, Picks, Runnable};
-ghost use Rattle.ciel_journal.specs.Job.{In};
+ghost use Rattle.ciel_journal.specs.Job.{Each, In};
 ghost use Rattle.ciel_journal.specs.Turns.{FirstDue, NothingDue, is_idle};
 ghost use Rattle.ciel_table.specs.Learning.{learned};
 ghost use Rattle.ciel_task.specs.Views.{P, order_view, report_end};
 ghost use Rattle.ciel_want.specs.Waited.{tasks_in_order};
+ghost use Rattle.ciel_master.specs.Marked.{FitsUnlessMissing, IsCarriedOut, SeenOf};
 ghost use Rattle.ciel_master.specs.Refusals.{FirstStops};
 ghost use Rattle.ciel_master.specs.Seen.{MasterSeen, most_descriptions, plan_view};
 ghost use Rattle.ciel_master.specs.Taking.{LearnedFor, now_of};
@@ -25,12 +25,15 @@ ghost use Rattle.ciel_master.specs.Views.{entry_view, worker_of};
 use crate::bring::order_at;
 use crate::entry::Entry;
 use crate::learning::learn_for;
+use crate::marks::confirm;
 use crate::orders::{OrderOut, all_among, can_work, close, close_at, find, has, tasks, workers};
 use crate::plan::RunPlan;
 use crate::stop::{Now, Stop};
 use crate::taking::{begin, is_last, note_loss, take_end};
 use ciel_journal::turn::{first_due, idle};
 use ciel_name::name::Namer;
+use ciel_store::loss::Loss;
+use ciel_store::seats::Marker;
 use ciel_store::shelves::Place;
 use ciel_table::table::Table;
 use ciel_task::block::Block;
@@ -60,6 +63,7 @@ pub struct Master<K, N: Namer> {
     journal: Vec<Entry>,
     stopped: bool,
     lost: Vec<u32>,
+    marker: Marker,
     alloc: Global,
 }
 
@@ -75,9 +79,9 @@ impl<K, N: Namer> Model for Master<K, N> {
 
     ghost coded = { Prim.hlevel (codes, val_code, vals_code, pairs_code, stand_code) };
 
-    ghost view = { λ m. record { namer = (arc_value m.shop).namer; board = board_of m.plan (arc_value m.shop).job.script.keys m.main m.table m.orders.items m.starts m.closes m.journal.items m.stopped } };
+    ghost view = { λ m. record { namer = (arc_value m.shop).namer; shelves = (arc_value m.shop).shelves; board = board_of m.plan (arc_value m.shop).job.script.keys m.main m.table m.orders.items m.starts m.closes m.journal.items m.stopped } };
 
-    ghost invariant = { λ m. MasterStands (N.digest (arc_value m.shop).namer) (board_of m.plan (arc_value m.shop).job.script.keys m.main m.table m.orders.items m.starts m.closes m.journal.items m.stopped) m.lost.items (vec_capacity m.journal) (vec_capacity m.lost) };
+    ghost invariant = { λ m. MasterStands (N.digest (arc_value m.shop).namer) (board_of m.plan (arc_value m.shop).job.script.keys m.main m.table m.orders.items m.starts m.closes m.journal.items m.stopped) m.lost.items (vec_capacity m.journal) (vec_capacity m.lost) (arc_value m.shop).shelves m.marker };
 }
 
 /// A table that knows the main call alone.
@@ -107,19 +111,25 @@ fn with_room<T>(alloc: Global, room: usize) -> Result<Vec<T>, Memory>
 }
 
 impl<K: Drop, N: Namer + Drop> Master<K, N> {
-    /// A master that has started nothing, of this shop's job. `main` is the main call with its name by the shop's namer.
+    /// A master that has started nothing, of this shop's job. `marker` marks losses at the words of the shop's shelves, and has marked
+    /// none. `main` is the main call with its name by the shop's namer.
     ///
     /// Answers `Memory` for want of memory.
     pub fn open(
         alloc: Global,
         shop: Arc<Shop<K, N>, Global>,
+        marker: Marker,
         main: Named,
         plan: RunPlan,
     ) -> Result<Master<K, N>, Memory>
+        requires of { marker.of ≡ (arc_value shop).shelves.of }
+        requires unmarked { marker.losses ≡ [] }
+        requires workers { plan.workers ≡ length (arc_value shop).shelves.rows }
+        requires losses { Each (λ (loss : ℕ × ℕ). loss.1 < plan.workers) plan.losses }
         requires named { IsNamed (N.digest (arc_value shop).namer) main }
         requires keys { length (arc_value shop).job.script.keys < 2 ^ 32 }
         requires main { main.desc ≡ Desc1.Call [] no_pairs no_vals }
-        ensures opened { IfOk result (λ m. m ≡ record { namer = (arc_value shop).namer; board = opened (N.digest (arc_value shop).namer) (plan_view plan) (arc_value shop).job.script.keys main }) }
+        ensures opened { IfOk result (λ m. m ≡ record { namer = (arc_value shop).namer; shelves = (arc_value shop).shelves; board = opened (N.digest (arc_value shop).namer) (plan_view plan) (arc_value shop).job.script.keys main }) }
     {
         let table = first_table(alloc, &main, &shop.namer)?;
         let losses = plan.losses.len();
@@ -136,6 +146,7 @@ impl<K: Drop, N: Namer + Drop> Master<K, N> {
             journal,
             stopped: false,
             lost,
+            marker,
             alloc,
         })
     }
@@ -202,46 +213,25 @@ impl<K: Drop, N: Namer + Drop> Master<K, N> {
     }
 
     /// Takes what a worker reports of an order that is out: learns what it spawned, places what it made, and writes it into the
-    /// journal. Where something was missing the order is closed, and nothing else changes.
+    /// journal. Where something was missing the order is closed, and nothing else changes; the loss with which it is missing, where the
+    /// report's eye has seen it, is one that was carried out.
     ///
     /// Answers what refuses the first description that isn't learned, and `Memory` for want of memory. The journal is then as it
     /// was, and the run has stopped.
     pub fn accept(&mut self, report: Report) -> Result<Now, Stop>
         requires going { self.old.board.stopped ≡ false }
-        requires fits { (x : b.Order P) × (find_order report.number self.old.board.orders ≡ Some x.out) × Fits (N.digest self.old.namer) worker_of self.old.board x report.spawned.items (report_end report) }
+        requires fits { (x : b.Order P) × (find_order report.number self.old.board.orders ≡ Some x.out) × FitsUnlessMissing (N.digest self.old.namer) self.old.board x report.spawned.items report.copied.items report.end }
+        requires seen { SeenOf self.old.shelves report.end }
         ensures accepted { OnOk result ((x : b.OrderOut) × (find_order report.number self.old.board.orders ≡ Some x) × (self.new ≡ record self.old { board = accepted (N.digest self.old.namer) self.old.board x report.spawned.items (report_end report) })) }
         ensures learned { OnOk result (LearnedFor (N.digest self.old.namer) report.end report.spawned.items self.old.board.table) }
+        ensures carried { IsCarriedOut self.old.board report.end }
         ensures now { IfOk result (λ now. now ≡ now_of report.end) }
         ensures journal { OnErr result (self.new.board.journal ≡ self.old.board.journal) }
         ensures stopped { OnErr result (self.new.board.stopped ≡ true) }
         ensures refused { IfErr result (λ e. FirstStops (N.digest self.old.namer) report.spawned.items self.old.board.table e) }
     {
-        self.stopped = true;
-        let Report {
-            number,
-            spawned,
-            copied,
-            end,
-            ..
-        } = report;
-        let Some(order) = find(&self.orders, number) else {
-            unreachable!()
-        };
-        let last = is_last(&order.task, &end, copied.as_slice());
-        learn_for(&mut self.table, &self.shop.namer, spawned.as_slice(), &end)?;
-        let room = self.plan.losses.len();
-        let now = take_end(
-            self.alloc,
-            &mut self.table,
-            &mut self.journal,
-            &order,
-            copied.as_slice(),
-            end,
-            room,
-        )?;
-        close(&mut self.orders, order.number);
-        self.closes += 1;
-        self.stopped = last;
+        let report = confirm(&self.shop.shelves, &mut self.marker, report);
+        let now = self.take(report)?;
         Ok(now)
     }
 
@@ -259,18 +249,6 @@ impl<K: Drop, N: Namer + Drop> Master<K, N> {
         ) {
             Some(loss) => Some(loss as u32),
             None => None,
-        }
-    }
-
-    /// Whether the plan has a loss of this number and worker, and the worker is lost. It takes no memory.
-    pub fn has_lost(&self, number: u32, worker: u32) -> bool
-        requires going { self.now.board.stopped ≡ false }
-        ensures planned { result ≡ true → (count : ℕ) × (slice_get self.now.board.plan.losses number ≡ Some (count, worker)) }
-        ensures lost { result ≡ true → list_any (nat_eq worker) self.now.board.table.gone ≡ true }
-    {
-        match self.plan.losses.as_slice().get(number as usize) {
-            Some(loss) => worker == loss.1 && has(&self.lost, worker),
-            None => false,
         }
     }
 
@@ -310,7 +288,7 @@ impl<K: Drop, N: Namer + Drop> Master<K, N> {
         self.orders.is_empty()
     }
 
-    /// Carries out the loss that comes next: its worker's places and the stacks that it saved are dropped, and the order that it had is
+    /// Carries out the loss that comes next: it is marked at the shelves, its worker's places and the stacks that it saved are dropped, and the order that it had is
     /// closed. It takes no memory.
     pub fn lose(&mut self, number: u32)
         requires going { self.old.board.stopped ≡ false }
@@ -319,6 +297,8 @@ impl<K: Drop, N: Namer + Drop> Master<K, N> {
     {
         let losses = self.plan.losses.as_slice();
         let worker = losses[number as usize].1;
+        let loss = Loss { number, worker };
+        self.shop.shelves.mark_lost(&mut self.marker, loss);
         note_loss(&mut self.lost, &mut self.journal, worker, self.closes);
         close_at(&mut self.orders, worker);
         self.table.drop_worker(worker);
@@ -344,5 +324,47 @@ impl<K: Drop, N: Namer + Drop> Master<K, N> {
         ensures { result ≡ is_some (find_order number self.now.board.orders) }
     {
         find(&self.orders, number).is_some()
+    }
+}
+
+impl<K: Drop, N: Namer + Drop> Master<K, N> {
+    // Takes a report that fits its order, unless something was missing.
+    fn take(&mut self, report: Report) -> Result<Now, Stop>
+        requires going { self.old.board.stopped ≡ false }
+        requires fits { (x : b.Order P) × (find_order report.number self.old.board.orders ≡ Some x.out) × FitsUnlessMissing (N.digest self.old.namer) self.old.board x report.spawned.items report.copied.items report.end }
+        ensures accepted { OnOk result ((x : b.OrderOut) × (find_order report.number self.old.board.orders ≡ Some x) × (self.new ≡ record self.old { board = accepted (N.digest self.old.namer) self.old.board x report.spawned.items (report_end report) })) }
+        ensures learned { OnOk result (LearnedFor (N.digest self.old.namer) report.end report.spawned.items self.old.board.table) }
+        ensures now { IfOk result (λ now. now ≡ now_of report.end) }
+        ensures journal { OnErr result (self.new.board.journal ≡ self.old.board.journal) }
+        ensures stopped { OnErr result (self.new.board.stopped ≡ true) }
+        ensures refused { IfErr result (λ e. FirstStops (N.digest self.old.namer) report.spawned.items self.old.board.table e) }
+    {
+        self.stopped = true;
+        let Report {
+            number,
+            spawned,
+            copied,
+            end,
+            ..
+        } = report;
+        let Some(order) = find(&self.orders, number) else {
+            unreachable!()
+        };
+        let last = is_last(&order.task, &end, copied.as_slice());
+        learn_for(&mut self.table, &self.shop.namer, spawned.as_slice(), &end)?;
+        let room = self.plan.losses.len();
+        let now = take_end(
+            self.alloc,
+            &mut self.table,
+            &mut self.journal,
+            &order,
+            copied.as_slice(),
+            end,
+            room,
+        )?;
+        close(&mut self.orders, order.number);
+        self.closes += 1;
+        self.stopped = last;
+        Ok(now)
     }
 }

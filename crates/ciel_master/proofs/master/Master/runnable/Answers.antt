@@ -9,4 +9,4 @@ runnable-requires g c =
     let i = c.self.inside in
     let n = (arc_value i.shop).namer in
     let b = board_of i.plan (arc_value i.shop).job.script.keys i.main i.table i.orders.items i.starts i.closes i.journal.items i.stopped in
-    record { whole = whole_now g.N.Namer.digest c.args.self.now n b c.self.view_is i.lost.items (vec_capacity i.journal) (vec_capacity i.lost) c.self.invariant c.requires.going }
+    record { whole = whole_now g.N.Namer.digest c.args.self.now n (arc_value i.shop).shelves b c.self.view_is i.lost.items (vec_capacity i.journal) (vec_capacity i.lost) i.marker c.self.invariant c.requires.going }
