@@ -39,7 +39,7 @@ OfOrders Q =
 abbrev pub OrdersBring : Type 0
 OrdersBring =
     OfOrders (λ digest job gives o order. Brings (digested digest) (λ x. sha1 (object_bytes x)) (λ a. sha1 (frozen_bytes a))
-      job (json_around gives) o (lies_known job.inputs order.inputs.items))
+    job (json_around gives) o (lies_known job.inputs order.inputs.items))
 
 -- what the task holds there and the order has a place for was live
 abbrev pub NamedIsGiven : Type 0

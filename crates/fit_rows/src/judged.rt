@@ -1,34 +1,13 @@
 // Bytes that are read as a state of a script.
 
-use sky_base::script::{Script, Texts};
+use row_scripts::script::script;
 use sky_checked::fitting::Fitting;
 use sky_checked::read::read_frozen;
 use sky_frozen::refusal::ReadFrozen;
 use sky_numbers::code::number_script;
-use sky_parse::script::parse;
-use sky_text::lex::{lex, line_col};
 use std::alloc::Global;
 use std::process::Abort;
 use std::test::Fail;
-
-/// The script of a text, which is one.
-fn script(alloc: Global, text: &str) -> Result<Script, Fail> {
-    let bytes = text.as_bytes();
-    if bytes.len() > 10_000 {
-        return Err(Fail::from("a long text"));
-    }
-    let Ok(tokens) = lex(alloc, bytes) else {
-        return Err(Fail::from("no tokens"));
-    };
-    if tokens.len() > 10_000 {
-        return Err(Fail::from("many tokens"));
-    }
-    let end = line_col(bytes, bytes.len() as u32);
-    match parse(alloc, tokens.as_slice(), end, Texts::of(Vec::new(alloc))) {
-        Ok(script) => Ok(script),
-        Err(_) => Err(Fail::from("no script")),
-    }
-}
 
 /// Whether the bytes are those of a state that fits, and the state that is read has them.
 fn fits(alloc: Global, fitting: &Fitting, bytes: &[u8]) -> Result<bool, Fail> {

@@ -1,18 +1,17 @@
 // A script, run by the machine from its start.
 
 use ciel_name::name::Sha1Namer;
+use row_scripts::script::script;
 use sky_base::fault::{Fault, FaultKind};
-use sky_base::script::{Script, Texts};
+use sky_base::script::Script;
 use sky_base::text::Txt;
 use sky_base::value::{Pairs, Vals, Value};
 use sky_entries::control::{End, Wait};
 use sky_machine::run::Stop;
 use sky_machine::start::run_call;
 use sky_numbers::code::number_script;
-use sky_parse::script::parse;
 use sky_parts::made::Ground;
 use sky_scope::state::State;
-use sky_text::lex::{lex, line_col};
 use std::alloc::Global;
 use std::test::Fail;
 
@@ -34,25 +33,6 @@ pub struct Run {
     pub made: usize,
     pub forms: usize,
     pub visits: u32,
-}
-
-/// The script of a text, which is one.
-fn script(alloc: Global, text: &str) -> Result<Script, Fail> {
-    let bytes = text.as_bytes();
-    if bytes.len() > 10_000 {
-        return Err(Fail::from("a long text"));
-    }
-    let Ok(tokens) = lex(alloc, bytes) else {
-        return Err(Fail::from("no tokens"));
-    };
-    if tokens.len() > 10_000 {
-        return Err(Fail::from("many tokens"));
-    }
-    let end = line_col(bytes, bytes.len() as u32);
-    match parse(alloc, tokens.as_slice(), end, Texts::of(Vec::new(alloc))) {
-        Ok(script) => Ok(script),
-        Err(_) => Err(Fail::from("no script")),
-    }
 }
 
 /// What the main body of a script comes to first.

@@ -6,7 +6,9 @@ ghost use Rattle.sky_state.specs.StateView.{stand_of};
 ghost use Rattle.sky_onward.specs.Onward.{IsRead, AnswersSound};
 
 use crate::made::{Ended, Given, objects};
-use crate::runs::{resumed, script, start};
+use crate::runs::resumed;
+use row_scripts::script::script;
+use row_scripts::start::start;
 use sky_base::fault::FaultKind;
 use sky_base::object::Object;
 use sky_base::script::Script;

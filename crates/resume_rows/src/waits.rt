@@ -7,7 +7,9 @@ ghost use Rattle.sky_onward.specs.Onward.{IsRead};
 ghost use Rattle.resume_rows.specs.Rows.{FitsUnless};
 
 use crate::made::{Ended, Given, objects};
-use crate::runs::{resumed, script, start};
+use crate::runs::resumed;
+use row_scripts::script::script;
+use row_scripts::start::start;
 use sky_base::names::Names;
 use sky_base::script::Script;
 use sky_numbers::code::{Numbered, number_script};

@@ -8,12 +8,13 @@ ghost use Rattle.sky_state.specs.Fits.{Fits};
 ghost use Rattle.sky_state.specs.StateView.{stand_of};
 ghost use Rattle.sky_onward.specs.Onward.{IsRead, AnswersSound};
 
-use crate::scripts::script;
 use ciel_name::name::Sha1Namer;
+use row_scripts::script::script;
+use row_scripts::start::start;
 use sky_base::object::Object;
 use sky_base::script::Script;
-use sky_base::text::{Bytes, Txt};
-use sky_base::value::{Pairs, Vals, Value};
+use sky_base::text::Bytes;
+use sky_base::value::Value;
 use sky_checked::fitting::Fitting;
 use sky_checked::read::read_frozen;
 use sky_frozen::frozen::freeze;
@@ -23,13 +24,6 @@ use sky_onward::step::Step;
 use sky_state::state::State;
 use std::alloc::Global;
 use std::test::Fail;
-
-/// The start of the main call.
-fn start(alloc: Global, script: &Script) -> Result<State, Fail> {
-    let (main, caught, args) = (Txt::new(alloc, "")?, Pairs::new(alloc), Vals::new(alloc));
-    let state = State::start_call(alloc, script, &main, &caught, &args)?;
-    Ok(state)
-}
 
 /// Lets go of what was made, and reads the state again from its bytes.
 fn read_again(alloc: Global, fitting: &Fitting, state: &mut State) -> Result<(), Fail>

@@ -6,5 +6,3 @@
 mod calls;
 #[cfg(test)]
 mod rows;
-#[cfg(test)]
-mod scripts;

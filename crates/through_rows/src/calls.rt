@@ -1,19 +1,16 @@
 // The main call of a script goes as far as all is found.
 
 ghost use Rattle.std.specs.Prelude.{◌≡◌, [], IfOk};
-ghost use Rattle.sky_base.specs.Val.{same_text};
-ghost use Rattle.sky_state.specs.Fits.{Fits};
-ghost use Rattle.sky_state.specs.Pending.{pending_in};
 ghost use Rattle.sky_state.specs.StateView.{stand_of};
 ghost use Rattle.sky_onward.specs.Onward.{IsRead};
 
 use crate::finder::{Shelf, shelf_of};
-use crate::runs::{Came, ran, script};
+use crate::runs::{Came, ran};
+use row_scripts::script::script;
+use row_scripts::start::start;
 use sky_base::fault::FaultKind;
 use sky_base::name::Name;
 use sky_base::script::Script;
-use sky_base::text::Txt;
-use sky_base::value::{Pairs, Vals};
 use sky_numbers::code::{Numbered, number_script};
 use sky_state::state::State;
 use std::alloc::Global;
@@ -130,16 +127,6 @@ static ROWS: [Row; 12] = [
         made: 3,
     },
 ];
-
-/// The start of the main call.
-fn start(alloc: Global, script: &Script) -> Result<State, Fail>
-    ensures fits { IfOk result (λ s. Fits script.now (stand_of s)) }
-    ensures waits { IfOk result (λ s. pending_in same_text (stand_of s) ≡ []) }
-{
-    let (main, caught, args) = (Txt::new(alloc, "")?, Pairs::new(alloc), Vals::new(alloc));
-    let state = State::start_call(alloc, script, &main, &caught, &args)?;
-    Ok(state)
-}
 
 /// What the call comes to, and its state there.
 fn call(

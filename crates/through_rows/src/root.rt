@@ -4,7 +4,8 @@ ghost use Rattle.std.specs.Prelude.{◌≡◌, None};
 ghost use Rattle.sky_onward.specs.Onward.{IsRead};
 
 use crate::finder::{Shelf, shelf_of};
-use crate::runs::{Came, ran, script};
+use crate::runs::{Came, ran};
+use row_scripts::script::script;
 use sky_base::name::Name;
 use sky_numbers::code::{Numbered, number_script};
 use sky_state::state::State;

@@ -1,7 +1,6 @@
 // A task that goes through its waits.
 
 ghost use Rattle.std.specs.Prelude.{◌≡◌, ◌≤◌, [], IfOk, length};
-ghost use Rattle.sky_parse.specs.Source.{IsScript};
 ghost use Rattle.sky_state.specs.Fits.{Fits};
 ghost use Rattle.sky_state.specs.StateView.{stand_of};
 ghost use Rattle.sky_onward.specs.Onward.{IsRead};
@@ -12,14 +11,11 @@ use crate::finder::Shelf;
 use ciel_name::name::Sha1Namer;
 use sky_base::fault::{Fault, FaultKind};
 use sky_base::object::Object;
-use sky_base::script::{Script, Texts};
 use sky_base::value::Value;
 use sky_numbers::code::Numbered;
 use sky_onward::step::Step;
-use sky_parse::script::parse;
 use sky_state::shown::Shown;
 use sky_state::state::State;
-use sky_text::lex::{lex, line_col};
 use sky_through::through::run_through;
 use std::alloc::Global;
 use std::test::Fail;
@@ -34,33 +30,6 @@ pub enum Came {
     Text(usize),
     Waits,
     Refused,
-}
-
-/// The script that these bytes are.
-fn parsed(alloc: Global, bytes: &[u8]) -> Result<Script, Fail>
-    requires { length bytes.now ≤ 10000 }
-    ensures { IfOk result (λ s. IsScript bytes.now [] s) }
-{
-    let Ok(tokens) = lex(alloc, bytes) else {
-        return Err(Fail::from("no tokens"));
-    };
-    let end = line_col(bytes, bytes.len() as u32);
-    match parse(alloc, tokens.as_slice(), end, Texts::of(Vec::new(alloc))) {
-        Ok(script) => Ok(script),
-        Err(_) => Err(Fail::from("no script")),
-    }
-}
-
-/// The script of a text, which is one.
-pub fn script(alloc: Global, text: &str) -> Result<Script, Fail>
-    ensures { IfOk result (λ s. IsRead s) }
-{
-    let bytes = text.as_bytes();
-    if bytes.len() > 10_000 {
-        return Err(Fail::from("a long text"));
-    }
-    let script = parsed(alloc, bytes)?;
-    Ok(script)
 }
 
 fn object(object: &Object) -> Came {

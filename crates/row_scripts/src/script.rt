@@ -1,4 +1,4 @@
-// Scripts of their texts.
+//! The script of a text.
 
 ghost use Rattle.std.specs.Prelude.{◌≤◌, [], IfOk, length};
 ghost use Rattle.sky_parse.specs.Source.{IsScript};
@@ -10,7 +10,7 @@ use sky_text::lex::{lex, line_col};
 use std::alloc::Global;
 use std::test::Fail;
 
-/// The script that these bytes are.
+// The script that these bytes are.
 fn parsed(alloc: Global, bytes: &[u8]) -> Result<Script, Fail>
     requires { length bytes.now ≤ 10000 }
     ensures { IfOk result (λ s. IsScript bytes.now [] s) }
@@ -25,9 +25,9 @@ fn parsed(alloc: Global, bytes: &[u8]) -> Result<Script, Fail>
     }
 }
 
-/// The script of a text, which is one.
+/// The script of a text of at most 10,000 bytes, which is one without inputs. Fails where it is none, or for want of memory.
 pub fn script(alloc: Global, text: &str) -> Result<Script, Fail>
-    ensures { IfOk result (λ s. IsRead s) }
+    ensures read { IfOk result (λ s. IsRead s) }
 {
     let bytes = text.as_bytes();
     if bytes.len() > 10_000 {
