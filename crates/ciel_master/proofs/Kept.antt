@@ -163,6 +163,11 @@ got_or [] i x d e = cc
 got_or (y ∷ ys) zero x d e = cc
 got_or (y ∷ ys) (suc i) x d e = got_or ys i x d e
 
+pub or_got : {A : Type 0} (xs : List A) (i : ℕ) (x : A) → i < length xs → x ≡ slice_index_or xs i x → slice_get xs i ≡ Some x
+or_got [] i x l e = absurd (omega (arith, l))
+or_got (y ∷ ys) zero x l e = ap (λ z. Some z) (sym e)
+or_got (y ∷ ys) (suc i) x l e = or_got ys i x (omega (arith, l)) e
+
 -- no more losses are left than there are
 left_most : (losses : List (ℕ × ℕ)) (gone : List ℕ) → losses_left losses gone ≤ length losses
 left_most [] gone = omega arith
@@ -308,6 +313,10 @@ module _ {N : Type 0} (dig : N → (List ℕ → List ℕ)) (m : MasterSeen N) (
     module _ (all : LearnedFor (dig k) end ns b.table) where
       all_now : LearnedFor (dig n) end spawned b.table
       all_now = subst (λ ms. LearnedFor (dig n) end ms b.table) is_ns (subst (λ z. LearnedFor (dig z) end ns b.table) is_k all)
+
+      pub learned_so : LearnedFor (dig m.namer) end spawned m.board.table
+      learned_so =
+          subst (λ (z : MasterSeen N). LearnedFor (dig z.namer) end spawned z.board.table) e all_now
 
       pub takes_now : CanTake o.task t cs end
       takes_now =

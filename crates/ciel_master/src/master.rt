@@ -1,6 +1,6 @@
 //! The master itself.
 
-ghost use Rattle.std.specs.Prelude.{◌≡◌, ◌≤◌, ◌<◌, ◌^◌, ℕ, [], IfErr, IfNone, IfOk, IfSome, OnErr, OnOk, Some, false, is_some, length, map, nat_eq, nat_lt, true, vec_capacity, ◌&&◌};
+ghost use Rattle.std.specs.Prelude.{◌≡◌, ◌≤◌, ◌<◌, ◌^◌, ℕ, [], IfErr, IfNone, IfOk, IfSome, OnErr, OnOk, Some, false, is_some, length, map, nat_eq, nat_lt, slice_get, true, vec_capacity, ◌&&◌};
 ghost use Rattle.std.specs.Arc.{arc_value};
 ghost use Rattle.std.specs.List.{IsDistinct, list_any};
 ghost use Rattle.sky_base.specs.Val.{no_pairs, no_vals, same_text};
@@ -19,13 +19,13 @@ ghost use Rattle.ciel_task.specs.Views.{P, order_view, report_end};
 ghost use Rattle.ciel_want.specs.Waited.{tasks_in_order};
 ghost use Rattle.ciel_master.specs.Refusals.{FirstStops};
 ghost use Rattle.ciel_master.specs.Seen.{MasterSeen, most_descriptions, plan_view};
-ghost use Rattle.ciel_master.specs.Taking.{now_of};
+ghost use Rattle.ciel_master.specs.Taking.{LearnedFor, now_of};
 ghost use Rattle.ciel_master.specs.Views.{entry_view, worker_of};
 
 use crate::bring::order_at;
 use crate::entry::Entry;
 use crate::learning::learn_for;
-use crate::orders::{OrderOut, all_among, can_work, close, close_at, find, tasks, workers};
+use crate::orders::{OrderOut, all_among, can_work, close, close_at, find, has, tasks, workers};
 use crate::plan::RunPlan;
 use crate::stop::{Now, Stop};
 use crate::taking::{begin, is_last, note_loss, take_end};
@@ -210,6 +210,7 @@ impl<K: Drop, N: Namer + Drop> Master<K, N> {
         requires going { self.old.board.stopped ≡ false }
         requires fits { (x : b.Order P) × (find_order report.number self.old.board.orders ≡ Some x.out) × Fits (N.digest self.old.namer) worker_of self.old.board x report.spawned.items (report_end report) }
         ensures accepted { OnOk result ((x : b.OrderOut) × (find_order report.number self.old.board.orders ≡ Some x) × (self.new ≡ record self.old { board = accepted (N.digest self.old.namer) self.old.board x report.spawned.items (report_end report) })) }
+        ensures learned { OnOk result (LearnedFor (N.digest self.old.namer) report.end report.spawned.items self.old.board.table) }
         ensures now { IfOk result (λ now. now ≡ now_of report.end) }
         ensures journal { OnErr result (self.new.board.journal ≡ self.old.board.journal) }
         ensures stopped { OnErr result (self.new.board.stopped ≡ true) }
@@ -258,6 +259,18 @@ impl<K: Drop, N: Namer + Drop> Master<K, N> {
         ) {
             Some(loss) => Some(loss as u32),
             None => None,
+        }
+    }
+
+    /// Whether the plan has a loss of this number and worker, and the worker is lost. It takes no memory.
+    pub fn has_lost(&self, number: u32, worker: u32) -> bool
+        requires going { self.now.board.stopped ≡ false }
+        ensures planned { result ≡ true → (count : ℕ) × (slice_get self.now.board.plan.losses number ≡ Some (count, worker)) }
+        ensures lost { result ≡ true → list_any (nat_eq worker) self.now.board.table.gone ≡ true }
+    {
+        match self.plan.losses.as_slice().get(number as usize) {
+            Some(loss) => worker == loss.1 && has(&self.lost, worker),
+            None => false,
         }
     }
 

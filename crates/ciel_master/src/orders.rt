@@ -54,7 +54,7 @@ fn is_busy(orders: &[OrderOut], worker: u32) -> bool
 }
 
 /// Whether it is among these workers.
-fn has(workers: &[u32], worker: u32) -> bool
+pub(crate) fn has(workers: &[u32], worker: u32) -> bool
     ensures { result ≡ list_any (nat_eq worker) workers.now }
 {
     let mut found = false;

@@ -1,0 +1,11 @@
+pub mod Starting
+pub mod Beginning
+pub mod Clearing
+pub mod Making
+pub mod Telling
+pub mod Lying
+pub mod Passing
+pub mod Going
+pub mod Binding
+pub mod Fitting
+pub mod Performing

@@ -1,0 +1,88 @@
+-- What the run of an order of a call or of the root task comes to.
+use Rattle.std.specs.Prelude.{◌≡◌, ℕ, List, [], Option, Result, Ok, Err}
+use Rattle.sky_base.specs.Res.{Object}
+use Rattle.sky_base.specs.Tree.{Script}
+use Rattle.sky_base.specs.Val.{Desc, known, same_text}
+use Rattle.sky_base.specs.declared.object.Named.{Named}
+use Rattle.sky_law.specs.Tasks.{Each, In}
+use Rattle.sky_typed.specs.Told.{DescTold}
+use Rattle.ciel_board.specs.Reports.{named_view}
+use Rattle.sky_onward.specs.Exactly.{FitsAfter}
+use Rattle.sky_onward.specs.Knows.{KnowsNames}
+use Rattle.sky_onward.specs.Onward.{GrewSoundly}
+use Rattle.sky_onward.specs.Steps.{Spawned}
+use Rattle.sky_onward.specs.declared.step.Step.{Step}
+use Rattle.sky_state.specs.Pending.{pending_in}
+use Rattle.sky_state.specs.Stand.{Stand}
+use Rattle.sky_state.specs.StandView.{spawned_view}
+use Rattle.sky_through.specs.Found.{CameFrom, Further, GrewWhole, SameKind}
+use Rattle.sky_through.specs.Through.{PassedAt, Through}
+use Rattle.ciel_board.specs.Sound.{own_name}
+use Rattle.ciel_store.specs.Seen.{SeatSeen, ShelvesSeen}
+use Rattle.ciel_store.specs.declared.loss.Loss.{Loss}
+use Rattle.ciel_task.specs.Orders.{names_in}
+use Rattle.ciel_task.specs.Views.{P}
+use Rattle.ciel_task.specs.declared.block.Held.{Held}
+use Rattle.ciel_task.specs.declared.order.Order.{Order}
+use Rattle.ciel_task.specs.declared.report.Report.{Report}
+use Rattle.ciel_brought.specs.Brought.{lies_known}
+use Rattle.ciel_brought.specs.Copies.{Copies}
+use Rattle.ciel_finds.specs.Finds.{IsLost}
+use Rattle.ciel_finds.specs.declared.brought.Lost.{Lost}
+use Rattle.ciel_perform.specs.Begins.{BeginsAt, StackIsLost}
+use Rattle.ciel_perform.specs.Ends.{EndIs, IsOf, TellsMissing}
+
+-- where it waits nothing was copied
+abbrev pub CopiesAt : Step → List Held → Type 0
+CopiesAt Step.Waits cs = cs ≡ []
+CopiesAt _ cs = Unit {0}
+
+module _ (digest : List ℕ → List ℕ) (shelves : ShelvesSeen) (sc : Script) (inputs : List (List ℕ × List ℕ)) (order : Order) where
+  -- what the order brings along, by names
+  abbrev pub brings : Desc (List ℕ) → Option (Object (List ℕ))
+  brings = lies_known inputs order.inputs.items
+
+  abbrev pub spawned_in : Report → Spawned
+  spawned_in r = spawned_view r.spawned.items
+
+  -- going through its waits the task came from this state to this step, with this state after it, where so much was spawned and copied
+  pub record CameThrough (s new : Stand (List ℕ)) (spawned : Spawned) (step : Step) (copied : List Held) : Type 0 where
+    pub through : Through brings digest sc s new step [] spawned
+    pub fits : FitsAfter sc new step
+    pub kind : SameKind s step new
+    pub further : Further s step new
+    pub sound : GrewSoundly digest sc [] spawned
+    pub whole : GrewWhole digest [] spawned
+    pub knows : KnowsNames digest (CameFrom brings s) step new [] spawned
+    pub copies : Copies shelves order.worker inputs order.inputs.items copied
+    pub asked : (n : List ℕ) → In n (names_in copied) → (q : Stand (List ℕ)) × PassedAt brings digest sc s new step [] spawned through q × In (known n) (pending_in same_text q)
+
+  -- or an object was lost
+  abbrev pub WentThrough : (s new : Stand (List ℕ)) → Spawned → SeatSeen → Result Step Lost → (copied : List Held) → Type 0
+  WentThrough s new spawned eye (Ok step) copied = CameThrough s new spawned step copied
+  WentThrough s new spawned eye (Err l) copied = IsLost order.inputs.items l.name l.loss eye
+
+  -- the task went from this state through its waits as far as the order brings along what it waits for, and this is its report
+  pub record Went (s : Stand (List ℕ)) (r : Report) : Type 0 where
+    pub step : Step
+    pub new : Stand (List ℕ)
+    pub of : IsOf order r
+    pub through : Through brings digest sc s new step [] (spawned_in r)
+    pub fits : FitsAfter sc new step
+    pub kind : SameKind s step new
+    pub sound : GrewSoundly digest sc [] (spawned_in r)
+    pub whole : GrewWhole digest [] (spawned_in r)
+    pub knows : KnowsNames digest (CameFrom brings s) step new [] (spawned_in r)
+    pub further : Further s step new
+    pub typed : Each (λ (n : Named). DescTold (named_view n)) r.spawned.items
+    pub end : EndIs shelves order.worker order.task step new r.end
+    -- what was copied is what it waited for
+    pub copies : Copies shelves order.worker inputs order.inputs.items r.copied.items
+    pub asked : (n : List ℕ) → In n (names_in r.copied.items) → (q : Stand (List ℕ)) × PassedAt brings digest sc s new step [] (spawned_in r) through q × In (known n) (pending_in same_text q)
+    pub none : CopiesAt step r.copied.items
+
+  -- it went so from the state from which the order's task goes on, or something was lost: what the order has of a name, or the stack
+  pub data Ran (eye : SeatSeen) (r : Report) : Type 0 where
+    went : (s : Stand (List ℕ)) → BeginsAt sc order s → Went s r → Ran eye r
+    lost : (s : Stand (List ℕ)) → BeginsAt sc order s → (name : List ℕ) (loss : Loss) → IsLost order.inputs.items name loss eye → TellsMissing order name loss eye r → Ran eye r
+    stack : (loss : Loss) → StackIsLost order loss eye → TellsMissing order (own_name digest (λ (p : P). p.worker) order.main order.task) loss eye r → Ran eye r

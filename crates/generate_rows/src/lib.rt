@@ -1,0 +1,5 @@
+// Rows of generated lines. They stand in a crate of their own, since a crate with tests is proved twice.
+#![tactic(auto)]
+
+#[cfg(test)]
+mod rows;
