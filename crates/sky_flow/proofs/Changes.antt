@@ -1,5 +1,5 @@
 -- What `+=` and `x[i] =` do to the variables, as the interpreter's operators say it.
-use Rattle.std.proofs.Common.{◌≡◌, ◌≢◌, ℕ, List, [], Option, Some, None, Result, Ok, Err, refl, sym, ap, ◌∙◌}
+use Rattle.std.proofs.Common.{◌≡◌, ℕ, List, [], Option, Some, None, Ok, Err, sym, ap}
 use Rattle.sky_base.specs.Tree.{Place}
 use Rattle.sky_base.specs.Op.{grown, set_at}
 use Rattle.sky_base.specs.Res as logic
@@ -8,10 +8,8 @@ use Rattle.sky_base.specs.Eval as run
 use Rattle.sky_base.specs.Eval.{set_var}
 use Rattle.sky_base.specs.declared.fault.Fault.{Fault}
 use Rattle.sky_base.specs.declared.fault.FaultKind.{FaultKind}
-use Rattle.sky_rows.specs.Walk.{Row}
 use Rattle.sky_scope.specs.Plain as plain
 use Rattle.sky_scope.specs.Plain.{Val, Vars, Answer, Out, Cutoff}
-use Rattle.sky_entries.specs.Config.{Run}
 
 answer_goes : (a : Answer) (p : Place) (x : List ℕ) (st st' : Vars) → plain.answer a p [] (λ u. Out.goes [] (set_var x u st)) ≡ Out.goes [] st' → logic.answer a p st (λ u s. Fin End.goes (set_var x u s)) ≡ Fin End.goes st'
 answer_goes (Ok v) p x st st' e = let f : set_var x v st ≡ st' = cc in ap (Fin End.goes) f

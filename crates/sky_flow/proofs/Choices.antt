@@ -1,6 +1,6 @@
 -- A choice from its first arm.
-use Rattle.std.proofs.Common.{◌≡◌, ◌+◌, ℕ, List, Option, Some, refl, sym, ap, ◌∙◌, subst, arith}
-use Rattle.sky_base.specs.Tree.{Stms, Arms, Else, arms_nodes}
+use Rattle.std.proofs.Common.{◌≡◌, ◌+◌, ℕ, List, Option, Some, refl, sym, ap, subst, arith}
+use Rattle.sky_base.specs.Tree.{Arms, Else, arms_nodes}
 use Rattle.sky_base.specs.Eval.{World, eval_arms, eval_else, body_at}
 use Rattle.sky_law.specs.Opened.{Node, exp_node, block_node, HasArms, HasElse}
 use Rattle.sky_scope.specs.Plain.{Vars}

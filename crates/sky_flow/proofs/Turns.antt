@@ -1,7 +1,7 @@
 -- A loop is its first turn, and then the loop: its bound is never met, so each turn may begin with all of it.
 use Rattle.std.proofs.Common.{◌≡◌, ℕ, zero, suc, ◌+◌, ◌<◌, ◌≤◌, List, arith}
 use Rattle.sky_base.specs.Tree.{Place, Exp, Stms}
-use Rattle.sky_base.specs.Res.{visits, Res, while_test, while_body, repeat_body, repeat_test, then_do}
+use Rattle.sky_base.specs.Res.{visits, while_test, while_body, repeat_body, repeat_test, then_do}
 use Rattle.sky_base.specs.Eval.{World, turns, repeats, eval, eval_block, body_at, go_while, go_repeat, after}
 use Rattle.sky_law.proofs.FormsLaw.{alike, got_alike, goes_alike, decide_alike, good_eval, good_call, good_block}
 use Rattle.sky_scope.specs.Plain.{Vars}

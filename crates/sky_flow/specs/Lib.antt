@@ -1,1 +1,3 @@
 pub mod Returns
+pub mod AtOnce
+pub mod Turned

@@ -2,6 +2,8 @@
 #![tactic(auto)]
 
 pub mod arms;
+pub mod at_once;
 pub mod block;
 pub mod loops;
+pub mod rounds;
 pub mod stmt;

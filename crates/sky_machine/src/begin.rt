@@ -27,7 +27,8 @@ use sky_entries::entry::Entry;
 use sky_parts::made::Ground;
 use sky_parts::parts::begin_parts;
 use sky_scope::state::State;
-use sky_steps::first::{begin_chain, begin_logic, begin_parens, begin_prefix};
+use sky_steps::ahead::begin_links;
+use sky_steps::first::{begin_logic, begin_parens, begin_prefix};
 use sky_steps::leaf::{function, literal, name};
 
 /// Begins an expression: a leaf is visited, and of any other form its first part is begun.
@@ -80,7 +81,7 @@ pub fn begin<'a, 'b, N: Namer>(
             Ok(control)
         }
         Shape::Chain { first, rest } => {
-            let control = begin_chain(code, entries, node, first, rest)?;
+            let control = begin_links(ground.alloc, code, state, entries, node, first, rest)?;
             Ok(control)
         }
         Shape::Logic { stop, first, rest } => {

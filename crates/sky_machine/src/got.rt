@@ -26,8 +26,9 @@ use sky_calls::postfix::{Postfix, close, got_arg, got_index, next_step};
 use sky_entries::control::{Control, End};
 use sky_entries::entry::{Entry, InBlock, InForm, InPostfix, InStmt};
 use sky_flow::arms::got_arm;
-use sky_flow::block::next_stmt;
-use sky_flow::loops::{each, got_list, got_repeat, got_while, test_again, turn};
+use sky_flow::at_once::go_stmts;
+use sky_flow::loops::{each, got_list, got_repeat, got_while, test_again};
+use sky_flow::rounds::turns;
 use sky_flow::stmt::{add, put_index, put_value, set};
 use sky_parts::made::Ground;
 use sky_parts::parts::got_part;
@@ -426,7 +427,7 @@ fn goes_block<'a, 'b, N: Namer>(
     let code = ground.code;
     match block {
         InBlock::WhileBody(of) => {
-            let control = turn(code, entries, of)?;
+            let control = turns(ground.alloc, code, state, entries, of)?;
             Ok(control)
         }
         InBlock::RepeatBody(of) => {
@@ -438,7 +439,7 @@ fn goes_block<'a, 'b, N: Namer>(
             Ok(control)
         }
         InBlock::Block(of) => {
-            let control = next_stmt(code, entries, of)?;
+            let control = go_stmts(ground.alloc, code, state, entries, of)?;
             Ok(control)
         }
         _other => Ok(Control::End(End::Goes)),

@@ -1,5 +1,5 @@
 -- A part of a chain is begun.
-use Rattle.std.proofs.Common.{◌≡◌, ◌≢◌, ◌<◌, ◌≤◌, ◌+◌, ℕ, suc, List, [], ◌∷◌, length, Bool, true, false, Option, refl, sym, ap, ◌∙◌, subst, arith}
+use Rattle.std.proofs.Common.{◌≡◌, ◌≢◌, ◌<◌, ◌≤◌, ◌+◌, ℕ, List, [], ◌∷◌, length, Bool, true, false, Option, refl, sym, ◌∙◌, subst, arith}
 use Rattle.sky_base.specs.Val.{Val, null, truth, num, text, list, dict, fun, ref}
 use Rattle.sky_base.specs.Tree.{Place, Oper, Exp, Links, Ands, nodes}
 use Rattle.sky_base.specs.TreeView.{ands_view}

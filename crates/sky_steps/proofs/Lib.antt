@@ -1,3 +1,4 @@
 pub mod Chains
 pub mod LastSigns
 pub mod Firsts
+pub mod Leaves

@@ -1,1 +1,3 @@
 pub mod Applied
+pub mod Ahead
+pub mod AtOnce

@@ -89,7 +89,12 @@ pub fn next_link<'a>(
 }
 
 /// What an operator of a chain makes of two values.
-fn operate(alloc: Global, op: Op, a: &Value, b: &Value) -> Result<Result<Value, FaultKind>, Memory>
+pub fn operate(
+    alloc: Global,
+    op: Op,
+    a: &Value,
+    b: &Value,
+) -> Result<Result<Value, FaultKind>, Memory>
     requires a { Kept (view a.now) }
     requires b { Kept (view b.now) }
     ensures answer { IfOk result (λ r. Exactly r (oper (op_view op) (view a.now) (view b.now))) }

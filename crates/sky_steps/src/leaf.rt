@@ -19,6 +19,7 @@ ghost use Rattle.sky_entries.specs.declared.control.Control.{Control};
 use sky_base::fault::FaultKind;
 use sky_base::text::{Memory, Txt};
 use sky_base::tree::Lit;
+use sky_base::value::Value;
 use sky_code::code::Code;
 use sky_entries::control::End;
 use sky_entries::visit::{failed, given, visit};
@@ -36,6 +37,10 @@ pub fn literal(state: &mut State, value: &Lit, line: u32, col: u32) -> Result<En
 {
     if !visit(state, line, col) {
         return Ok(failed(FaultKind::TooLong, line, col));
+    }
+    // A number keeps the limits, so no look at them is needed.
+    if let Lit::Int(n) = value {
+        return Ok(End::Got(Value::Int(*n)));
     }
     let end = given(ops::literal(value), line, col)?;
     Ok(end)

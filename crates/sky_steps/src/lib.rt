@@ -2,6 +2,8 @@
 // one part at most, so nothing here calls itself down the tree.
 #![tactic(auto)]
 
+pub mod ahead;
+pub mod at_once;
 pub mod chain;
 pub mod first;
 pub mod leaf;

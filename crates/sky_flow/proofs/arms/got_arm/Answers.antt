@@ -1,4 +1,4 @@
-use Rattle.std.proofs.Common.{◌+◌, sym, ap, subst}
+use Rattle.std.proofs.Common.{◌+◌, sym, subst}
 use Rattle.sky_base.specs.Tree.{arms_nodes}
 use Rattle.sky_base.specs.StmtView.{arms_view}
 use Rattle.sky_law.specs.Opened.{HasArms, HasElse}

@@ -1,4 +1,4 @@
-use Rattle.std.proofs.Common.{◌≡◌, ◌+◌, sym, ap, ◌∙◌, subst}
+use Rattle.std.proofs.Common.{◌+◌, sym, ap, ◌∙◌, subst}
 use Rattle.sky_base.specs.TreeView.{at, exp_view}
 use Rattle.sky_base.specs.Res.{repeat_body}
 use Rattle.sky_base.specs.Eval.{eval_block, after, body_at}

@@ -1,5 +1,5 @@
 use Rattle.std.proofs.Common.{◌+◌, sym, ap, ◌∙◌}
-use Rattle.sky_base.specs.TreeView.{at, exp_view}
+use Rattle.sky_base.specs.TreeView.{exp_view}
 use Rattle.sky_base.specs.Res.{just_part}
 use Rattle.sky_base.specs.Eval.{eval, after, body_at}
 use Rattle.sky_law.specs.Nodes.{node_at}

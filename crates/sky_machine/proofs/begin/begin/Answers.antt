@@ -33,13 +33,13 @@ pub returns-in_ok-control-in-Parts-clause-same : goal.returns-in_ok-control-in-P
 returns-in_ok-control-in-Parts-clause-same g c = λ w h.
     parts_so w (g.N.Namer.digest c.args.ground.now.namer.now) c.args.made.now.items c.args.entries.now.items _ (exp_view c.args.e.now) c.args.node (rw c.in-Parts.is at c.shape_of.ensures) c.begin_parts.new.made.items c.begin_parts.new.entries.items c.in_ok-control-in-Parts.control c.args.state.now c.begin_parts.new.state (c.in_ok-control-in-Parts.ensures.same w h)
 
-pub begin_chain-requires-clause-has : goal.begin_chain-requires-clause-has
-begin_chain-requires-clause-has g c =
+pub begin_links-requires-clause-has : goal.begin_links-requires-clause-has
+begin_links-requires-clause-has g c =
     has_so (λ i. node_at c.args.ground.now.code.now i) _ (exp_view c.args.e.now) c.args.node (rw c.in-Chain.is at c.shape_of.ensures) c.requires.has
 
 pub returns-in_ok-control-in-Chain-clause-same : goal.returns-in_ok-control-in-Chain-clause-same
 returns-in_ok-control-in-Chain-clause-same g c = λ w h.
-    begins_so w (g.N.Namer.digest c.args.ground.now.namer.now) c.args.made.now.items c.args.entries.now.items _ (exp_view c.args.e.now) c.args.node (rw c.in-Chain.is at c.shape_of.ensures) c.begin_chain.new.entries.items c.in_ok-control-in-Chain.control c.args.state.now c.args.state.now (c.in_ok-control-in-Chain.ensures.same w c.args.state.now)
+    begins_so w (g.N.Namer.digest c.args.ground.now.namer.now) c.args.made.now.items c.args.entries.now.items _ (exp_view c.args.e.now) c.args.node (rw c.in-Chain.is at c.shape_of.ensures) c.begin_links.new.entries.items c.in_ok-control-in-Chain.control c.args.state.now c.begin_links.new.state (c.in_ok-control-in-Chain.ensures.same w h.script)
 
 pub begin_logic-requires-clause-has : goal.begin_logic-requires-clause-has
 begin_logic-requires-clause-has g c =

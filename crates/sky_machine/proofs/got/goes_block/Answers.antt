@@ -4,11 +4,11 @@ use Rattle.sky_entries.specs.Entries.{forms}
 use Rattle.sky_machine.proofs.Passes.{block_goes}
 use Rattle.sky_machine.proofs.got.goes_block.Goals as goal
 
-pub turn-requires-clause-entry : goal.turn-requires-clause-entry
-turn-requires-clause-entry g c = rw c.in-WhileBody.is at c.requires.entry
+pub turns-requires-clause-entry : goal.turns-requires-clause-entry
+turns-requires-clause-entry g c = rw c.in-WhileBody.is at c.requires.entry
 
 pub returns-in_ok-control-in-WhileBody-clause-same : goal.returns-in_ok-control-in-WhileBody-clause-same
-returns-in_ok-control-in-WhileBody-clause-same g c = λ w h. rw c.in-WhileBody.is (c.in_ok-control-in-WhileBody.ensures.same w c.args.state.now c.requires.within)
+returns-in_ok-control-in-WhileBody-clause-same g c = λ w h. rw c.in-WhileBody.is (c.in_ok-control-in-WhileBody.ensures.same w h)
 
 pub test_again-requires-clause-entry : goal.test_again-requires-clause-entry
 test_again-requires-clause-entry g c = rw c.in-RepeatBody.is at c.requires.entry
@@ -22,14 +22,14 @@ each-requires-clause-entry g c = rw c.in-ForBody.is at c.requires.entry
 pub returns-in_ok-control-in-ForBody-clause-same : goal.returns-in_ok-control-in-ForBody-clause-same
 returns-in_ok-control-in-ForBody-clause-same g c = λ w h. rw c.in-ForBody.is (c.in_ok-control-in-ForBody.ensures.same w)
 
-pub next_stmt-requires-clause-step : goal.next_stmt-requires-clause-step
-next_stmt-requires-clause-step g c = (rw c.in-Block.is at c.requires.entry).0
+pub go_stmts-requires-clause-step : goal.go_stmts-requires-clause-step
+go_stmts-requires-clause-step g c = (rw c.in-Block.is at c.requires.entry).0
 
-pub next_stmt-requires-clause-has : goal.next_stmt-requires-clause-has
-next_stmt-requires-clause-has g c = (rw c.in-Block.is at c.requires.entry).1
+pub go_stmts-requires-clause-has : goal.go_stmts-requires-clause-has
+go_stmts-requires-clause-has g c = (rw c.in-Block.is at c.requires.entry).1
 
 pub returns-in_ok-control-in-Block-clause-same : goal.returns-in_ok-control-in-Block-clause-same
-returns-in_ok-control-in-Block-clause-same g c = λ w h. rw c.in-Block.is (c.in_ok-control-in-Block.ensures.same w c.args.state.now)
+returns-in_ok-control-in-Block-clause-same g c = λ w h. rw c.in-Block.is (c.in_ok-control-in-Block.ensures.same w h)
 
 pub returns-in_default-clause-same : goal.returns-in_default-clause-same
 returns-in_default-clause-same g c = λ w h.

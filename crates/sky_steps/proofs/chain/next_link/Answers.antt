@@ -6,7 +6,7 @@ use Rattle.sky_law.specs.Nodes.{node_at}
 use Rattle.sky_code.specs.Shapes.{op_view, operands_view}
 use Rattle.sky_entries.specs.Config.{room, rest_in}
 use Rattle.sky_entries.specs.Entries.{forms}
-use Rattle.sky_steps.proofs.Chains.{link_begun, links_none, link_ready, link_has}
+use Rattle.sky_steps.proofs.Chains.{link_begun, link_ready, link_has}
 use Rattle.sky_steps.proofs.chain.next_link.Goals as goal
 
 pub after_exp-after-requires : goal.after_exp-after-requires

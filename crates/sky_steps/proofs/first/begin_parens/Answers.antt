@@ -1,12 +1,8 @@
-use Rattle.std.proofs.Common.{◌<◌, ◌+◌, ℕ, sym, ap, ◌∙◌, subst, arith}
-use Rattle.sky_base.specs.Tree.{nodes}
-use Rattle.sky_base.specs.TreeView.{at, exp_view, ands_view, signs_view}
-use Rattle.sky_base.specs.Res.{parens_in, chain_first, logic_at, prefix_part, then_do}
+use Rattle.std.proofs.Common.{◌+◌, ap, ◌∙◌}
+use Rattle.sky_base.specs.TreeView.{exp_view}
+use Rattle.sky_base.specs.Res.{parens_in}
 use Rattle.sky_base.specs.Eval.{eval, after, body_at}
-use Rattle.sky_law.specs.Opened.{HasLinks, HasAnds}
 use Rattle.sky_law.specs.Nodes.{node_at}
-use Rattle.sky_code.specs.Shapes.{operands_view, stops_at}
-use Rattle.sky_code.proofs.Bodies.{nodes_pos}
 use Rattle.sky_entries.specs.Config.{room, rest_in}
 use Rattle.sky_entries.specs.Entries.{forms}
 use Rattle.sky_steps.proofs.Firsts.{first_begun, first_at, first_has}
