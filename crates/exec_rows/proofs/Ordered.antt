@@ -1,5 +1,5 @@
 -- The order is sound for its shop.
-use Rattle.std.proofs.Common.{◌≡◌, ℕ, List, [], ◌∷◌, Some, inl, inr, refl, sym, subst}
+use Rattle.std.proofs.Common.{◌≡◌, ℕ, List, Some, inl, inr, refl, sym, subst}
 use Rattle.std.specs.List.{IsDistinct}
 use Rattle.sha1.specs.Sha1.{sha1}
 use Rattle.sky_base.specs.Kept.{Kept}
@@ -34,6 +34,10 @@ refs_there given args are names =
 pub describes : (sc : Script) (given : List (List ℕ)) (x : List ℕ) (args : Value) (task : TaskId) → task ≡ TaskId.Of (digested (λ bytes. sha1 bytes) (first_output (desc_view (Desc1.Exec x args 1 0)))) → refs (view args) ≡ known_of three → Kept (view args) → given ≡ three → Describes (λ bytes. sha1 bytes) sc given task (Some (Desc1.Exec x args 1 0))
 describes sc given x args task is are kept names =
     subst (λ tk. Describes (λ bytes. sha1 bytes) sc given tk (Some (Desc1.Exec x args 1 0))) (sym is) (refl, (refl, kept, refs_there given args are names))
+
+-- the name of that task
+abbrev pub name_of : List ℕ → Value → List ℕ
+name_of x args = digested (λ bytes. sha1 bytes) (first_output (desc_view (Desc1.Exec x args 1 0)))
 
 -- it isn't the root task
 pub no_main : (order : Order) (task : TaskId) (n : List ℕ) → task ≡ TaskId.Of n → ShowsMain order task

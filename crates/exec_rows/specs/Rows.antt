@@ -2,11 +2,10 @@
 use Rattle.std.specs.Prelude.{◌≡◌, ℕ, List, [], ◌∷◌, length, replicate}
 use Rattle.sha1.specs.Sha1.{sha1}
 use Rattle.sky_base.specs.JobView.{job_view}
-use Rattle.ciel_store.specs.Seen.{PlaceSeen, SeatSeen}
+use Rattle.ciel_store.specs.Seen.{SeatSeen}
 use Rattle.ciel_task.specs.Orders.{OrderSound, SpotSound}
 use Rattle.ciel_task.specs.Places.{PlacesSound}
 use Rattle.ciel_task.specs.Shop.{InputsInOrder}
-use Rattle.ciel_task.specs.declared.block.Block.{Block}
 use Rattle.ciel_task.specs.declared.block.Spot.{Spot}
 use Rattle.ciel_task.specs.declared.order.Order.{Order}
 use Rattle.ciel_task.specs.declared.report.Report.{Report}
