@@ -1,0 +1,9 @@
+// Rows of an executor's order, over what lies on the shelves of two workers and among the job's inputs. They stand in a crate of
+// their own, since a crate with tests is proved twice.
+#![tactic(auto)]
+
+pub mod kit;
+pub mod made;
+pub mod order;
+#[cfg(test)]
+mod rows;
