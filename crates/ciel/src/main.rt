@@ -5,16 +5,19 @@
 
 ghost use Rattle.std.specs.Prelude.{◌≡◌, ◌≢◌, IfErr};
 ghost use Rattle.ciel.specs.Refused.{IsUsageOrMemory};
-ghost use Rattle.ciel_run.specs.Ending.{status_of};
-ghost use Rattle.ciel_run.specs.declared.top.Why.{Why};
+ghost use Rattle.ciel_why.specs.Status.{status_of};
+ghost use Rattle.ciel_why.specs.declared.why.Why.{Why};
 
+use ciel_gate::open::Open;
 use ciel_io::host::{HostErr, HostFiles, HostOut};
-use ciel_run::message::put_message;
-use ciel_run::top::{Why, ciel_main};
+use ciel_run::top::ciel_main;
+use ciel_why::message::put_message;
+use ciel_why::why::Why;
 use sky_base::text::Txt;
 use std::alloc::Global;
 use std::process::ExitCode;
-use std::rt::Env;
+use std::rt::{Env, Files};
+use std::sync::Wait;
 use std::thread::{Builder, Promise};
 use std::{env, io};
 
@@ -25,6 +28,9 @@ const STACK: usize = 256 << 20;
 /// The bytes of stack that are tried where no thread can have so many. The deepest script that was found
 /// takes 44 MiB.
 const LESS_STACK: usize = 64 << 20;
+
+/// How many gates there are, as many as the most workers.
+const GATES: usize = 64;
 
 /// What the thread of a run promises of the status that it gives: nothing.
 #[derive(Clone, Copy)]
@@ -66,16 +72,24 @@ fn why(e: io::Error) -> Why
 }
 
 /// Runs the program, and gives the status of the process.
-fn run(rt: HostRuntime) -> u8 {
-    let mut log = HostErr::new(rt.stderr());
-    match words(&rt) {
-        Ok(words) => {
-            let mut out = HostOut::new(rt.stdout());
-            let mut files = HostFiles::new(rt);
-            ciel_main(rt.alloc(), &words, &mut files, &mut out, &mut log).status
-        }
-        Err(why) => refused(&why, &mut log),
-    }
+fn run<R: Env + Files + Wait + Alloc<A = Global> + Drop>(
+    rt: R,
+    mut out: HostOut,
+    mut log: HostErr,
+) -> u8 {
+    let words = match words(&rt) {
+        Ok(words) => words,
+        Err(why) => return refused(&why, &mut log),
+    };
+    let alloc = rt.alloc();
+    let Ok(mut gates) = Vec::from_elem(alloc, Open, GATES) else {
+        return refused(&Why::Memory, &mut log);
+    };
+    let mut files = HostFiles::new(&rt);
+    ciel_main(
+        &rt, alloc, &words, &mut files, &mut out, &mut log, &mut gates,
+    )
+    .status
 }
 
 /// Puts the message on the log, and gives the status of the process.
@@ -89,7 +103,9 @@ fn refused(why: &Why, log: &mut HostErr) -> u8
 
 /// Runs the program on a thread with a large stack, else on one with a smaller stack, else on its own.
 fn main(rt: HostRuntime) -> ExitCode {
-    let run = move || run(rt);
+    let out = HostOut::new(rt.stdout());
+    let log = HostErr::new(rt.stderr());
+    let run = move || run(rt, out, log);
     ExitCode::from(
         match Builder::new()
             .stack_size(STACK)

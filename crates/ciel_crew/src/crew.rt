@@ -44,7 +44,8 @@ pub trait Crew {
         ensures shop { shop self.new ≡ shop self.old }
         ensures sound { OnOk result (is_sound self.new ≡ true) }
         ensures out { OnOk result (out self.new ≡ slice_set (out self.old) order.worker (Some order)) }
-        ensures told { OnOk result (TellsTask order (told self.old) (told self.new)) };
+        ensures told { OnOk result (TellsTask order (told self.old) (told self.new)) }
+        ensures gates { length (told self.new) ≡ length (told self.old) };
 
     /// The report of an order that is out. That of each order is given once.
     ///
@@ -55,6 +56,7 @@ pub trait Crew {
         ensures shop { shop self.new ≡ shop self.old }
         ensures sound { OnOk result (is_sound self.new ≡ true) }
         ensures told { OnOk result (FadesEach (told self.old) (told self.new)) }
+        ensures gates { length (told self.new) ≡ length (told self.old) }
         ensures report { IfOk result (Reports Self.K.gives Self.N.digest (shop self.old) (out self.old) (out self.new)) };
 
     /// All gates, in order of workers. Each has entered the tasks of the orders that were sent to its worker, in order, unless a call

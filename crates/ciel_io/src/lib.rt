@@ -8,6 +8,7 @@ pub mod files;
 pub mod host;
 pub mod mem_files;
 pub mod mem_sink;
+pub mod pieces;
 mod room;
 mod shelf;
 pub mod sink;

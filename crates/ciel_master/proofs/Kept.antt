@@ -39,7 +39,8 @@ use Rattle.ciel_master.specs.Taking.{CanTake, CopiesPlace, LearnedFor, OutputsPl
 use Rattle.ciel_turns.specs.Left.{losses_left}
 use Rattle.ciel_turns.proofs.Working.{fewer_losses}
 use Rattle.ciel_master.proofs.Marking.{carried_out, has_shelf, marked_more}
-use Rattle.ciel_master.specs.Views.{entry_view, worker_of}
+use Rattle.ciel_bring.specs.Brings.{worker_of}
+use Rattle.ciel_master.specs.Views.{entry_view}
 use Rattle.ciel_master.specs.declared.entry.Entry.{Entry}
 use Rattle.ciel_master.specs.declared.orders.OrderOut.{OrderOut}
 use Rattle.ciel_master.specs.declared.plan.RunPlan.{RunPlan}

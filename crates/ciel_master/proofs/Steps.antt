@@ -16,7 +16,7 @@ use Rattle.ciel_task.specs.Views.{P, copies_view, copy_at}
 use Rattle.ciel_task.specs.declared.block.Held.{Held}
 use Rattle.ciel_task.specs.declared.block.Spot.{Spot}
 use Rattle.ciel_master.specs.Refusals.{FirstStops, StopsAt}
-use Rattle.ciel_master.specs.Views.{worker_of}
+use Rattle.ciel_bring.specs.Brings.{worker_of}
 use Rattle.ciel_master.specs.declared.stop.Stop.{Stop}
 
 -- ---- what is refused

@@ -12,7 +12,7 @@ use Rattle.ciel_task.specs.Places.{SeenAt}
 use Rattle.ciel_task.specs.Views.{P, how_view}
 use Rattle.ciel_task.specs.declared.block.Held.{Held}
 use Rattle.ciel_task.specs.declared.report.End.{End}
-use Rattle.ciel_master.specs.Views.{worker_of}
+use Rattle.ciel_bring.specs.Brings.{worker_of}
 use Rattle.sky_base.specs.declared.object.Named.{Named}
 
 abbrev pub worker_lost : Loss → ℕ

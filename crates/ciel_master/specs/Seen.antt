@@ -8,7 +8,8 @@ use Rattle.ciel_store.specs.Seen.{SeatSeen, ShelvesSeen}
 use Rattle.ciel_table.specs.Seen.{TableSeen}
 use Rattle.ciel_turns.specs.Left.{losses_left}
 use Rattle.ciel_master.specs.Marked.{Marked}
-use Rattle.ciel_master.specs.Views.{entry_view, kept_view, worker_of}
+use Rattle.ciel_bring.specs.Brings.{worker_of}
+use Rattle.ciel_master.specs.Views.{entry_view, kept_view}
 use Rattle.ciel_task.specs.Views.{P}
 use Rattle.ciel_master.specs.declared.entry.Entry.{Entry}
 use Rattle.ciel_master.specs.declared.orders.OrderOut.{OrderOut}

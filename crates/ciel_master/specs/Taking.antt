@@ -15,7 +15,7 @@ use Rattle.ciel_task.specs.declared.block.Held.{Held}
 use Rattle.ciel_task.specs.declared.report.End.{End}
 use Rattle.ciel_task.specs.declared.report.Made.{Made}
 use Rattle.sky_state.specs.declared.shown.Shown.{Shown}
-use Rattle.ciel_master.specs.Views.{worker_of}
+use Rattle.ciel_bring.specs.Brings.{worker_of}
 use Rattle.ciel_master.specs.declared.stop.Now.{Now}
 
 -- the table after it

@@ -20,9 +20,9 @@ ghost use Rattle.ciel_master.specs.Marked.{FitsUnlessMissing, IsCarriedOut, Seen
 ghost use Rattle.ciel_master.specs.Refusals.{FirstStops};
 ghost use Rattle.ciel_master.specs.Seen.{MasterSeen, most_descriptions, plan_view};
 ghost use Rattle.ciel_master.specs.Taking.{LearnedFor, now_of};
-ghost use Rattle.ciel_master.specs.Views.{entry_view, worker_of};
+ghost use Rattle.ciel_bring.specs.Brings.{worker_of};
+ghost use Rattle.ciel_master.specs.Views.{entry_view};
 
-use crate::bring::order_at;
 use crate::entry::Entry;
 use crate::learning::learn_for;
 use crate::marks::confirm;
@@ -30,6 +30,7 @@ use crate::orders::{OrderOut, all_among, can_work, close, close_at, find, has, t
 use crate::plan::RunPlan;
 use crate::stop::{Now, Stop};
 use crate::taking::{begin, is_last, note_loss, take_end};
+use ciel_bring::bring::order_at;
 use ciel_journal::turn::{first_due, idle};
 use ciel_name::name::Namer;
 use ciel_store::loss::Loss;
@@ -310,6 +311,14 @@ impl<K: Drop, N: Namer + Drop> Master<K, N> {
         ensures { result ≡ (nat_lt worker self.now.board.plan.workers && is_idle self.now.board.table.gone (workers_out self.now.board.orders) worker) }
     {
         worker < self.plan.workers && can_work(&self.lost, &self.orders, worker)
+    }
+
+    /// The journal, where the run has ended.
+    pub fn into_journal(self) -> Vec<Entry>
+        ensures { map entry_view result.items ≡ self.board.journal }
+    {
+        let Master { journal, .. } = self;
+        journal
     }
 
     /// The journal so far.

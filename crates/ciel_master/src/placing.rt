@@ -4,7 +4,7 @@ ghost use Rattle.std.specs.Prelude.{◌≡◌, ◌++◌, ◌∷◌, [], IfOk, On
 ghost use Rattle.ciel_board.specs.Moves.{with_copies, with_outputs};
 ghost use Rattle.ciel_board.specs.Reports.{copy_names, made_keys};
 ghost use Rattle.ciel_journal.specs.Job.{Each};
-ghost use Rattle.ciel_master.specs.Views.{worker_of};
+ghost use Rattle.ciel_bring.specs.Brings.{worker_of};
 ghost use Rattle.ciel_task.specs.Views.{copies_view, output_view};
 ghost use Rattle.ciel_table.specs.Changes.{placed};
 ghost use Rattle.ciel_table.specs.Seen.{Known};

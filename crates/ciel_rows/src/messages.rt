@@ -1,11 +1,12 @@
 // The message of each end that isn't well, whether a script of today can end so or not.
 
 ghost use Rattle.std.specs.Prelude.{◌≢◌};
-ghost use Rattle.ciel_run.specs.declared.top.Why.{Why};
+ghost use Rattle.ciel_why.specs.declared.why.Why.{Why};
 
 use ciel_io::mem_sink::SureSink;
-use ciel_run::message::put_message;
-use ciel_run::top::{SyntaxKind, Why};
+use ciel_load::script::SyntaxKind;
+use ciel_why::message::put_message;
+use ciel_why::why::Why;
 use sky_base::fault::{Fault, FaultKind};
 use sky_base::text::Txt;
 use std::alloc::Global;

@@ -4,10 +4,11 @@
 use crate::memory::{at_s, only, outcome, over, over_files, run, writes};
 use ciel_io::mem_files::{MemFiles, SureFiles};
 use ciel_io::mem_sink::{MemSink, SureSink};
-use ciel_run::top::Why;
+use ciel_why::why::Why;
 use sky_base::text::Txt;
 use std::alloc::Global;
 use std::process::Abort;
+use std::sync::Wait;
 use std::test::Fail;
 
 /// A sum in so many bytes, filled up with blanks.
@@ -36,7 +37,7 @@ fn is_too_long(why: &Why) -> bool {
 #[test]
 fn a_script_that_is_too_long(rt: HostRuntime) -> Result<(), Fail> {
     let source = filled(rt.alloc(), 1_048_577)?;
-    let got = outcome(rt.alloc(), &source)?;
+    let got = outcome(&rt, rt.alloc(), &source, &[])?;
     assert!(rt; got.ended.status == 11);
     assert!(rt; is_too_long(&got.ended.why));
     assert!(rt; got.log.bytes() == b"ciel: too long s 1048576\n".as_slice());
@@ -57,7 +58,7 @@ fn a_failing_file(rt: HostRuntime) -> Result<(), Fail> {
     let mut files = failing(rt.alloc(), b"return 1 + 2;")?;
     let mut out = SureSink::new(rt.alloc(), 100)?;
     let mut log = SureSink::new(rt.alloc(), 200)?;
-    let ended = over_files(rt.alloc(), &mut files, &mut out, &mut log)?;
+    let ended = over_files(&rt, rt.alloc(), &[], &mut files, &mut out, &mut log)?;
     assert!(rt; ended.status == 8);
     assert!(rt; is_read_fault(&ended.why));
     assert!(rt; out.bytes().is_empty());
@@ -74,7 +75,7 @@ fn breaking(alloc: Global, room: u64) -> Result<MemSink, Fail> {
 fn a_failing_output(rt: HostRuntime) -> Result<(), Fail> {
     let mut out = breaking(rt.alloc(), 100)?;
     let mut log = SureSink::new(rt.alloc(), 200)?;
-    let ended = over(rt.alloc(), b"return 1 + 2;", &mut out, &mut log)?;
+    let ended = over(&rt, rt.alloc(), b"return 1 + 2;", &[], &mut out, &mut log)?;
     assert!(rt; ended.status == 9);
     assert!(rt; matches!(ended.why, Why::WriteFault));
     assert!(rt; b"3\n".starts_with(out.bytes()));
@@ -87,7 +88,7 @@ fn a_failing_log_changes_no_status(rt: HostRuntime) -> Result<(), Fail> {
     let mut out = SureSink::new(rt.alloc(), 100)?;
     let mut log = breaking(rt.alloc(), 200)?;
     let source = b"return 9223372036854775807 + 1;";
-    let ended = over(rt.alloc(), source, &mut out, &mut log)?;
+    let ended = over(&rt, rt.alloc(), source, &[], &mut out, &mut log)?;
     assert!(rt; ended.status == 3);
     assert!(rt; out.bytes().is_empty());
     assert!(rt; b"ciel: fault Overflow 1:28\n".starts_with(log.bytes()));
@@ -97,13 +98,13 @@ fn a_failing_log_changes_no_status(rt: HostRuntime) -> Result<(), Fail> {
 
 /// The message for words that are no line.
 const USAGE: &str =
-    "ciel: usage: ciel SCRIPT [--workers N] [--seed N] [--lose K:W,K:W] [--trace] [--plain] [NAME=PATH]... or ciel --generate N\n";
+    "ciel: usage: ciel SCRIPT [--workers N] [--seed N] [--lose K:W,K:W] [--trace] [--plain] [NAME=PATH]... [--names sha1|sha256] or ciel --generate N\n";
 
-fn ends_with(rt: &impl Abort, alloc: Global, words: &[Txt], want: u8) -> Result<(), Fail> {
+fn ends_with(rt: &(impl Abort + Wait), alloc: Global, words: &[Txt], want: u8) -> Result<(), Fail> {
     let mut files = SureFiles::new(alloc, at_s(alloc, b"return 1;")?)?;
     let mut out = SureSink::new(alloc, 100)?;
-    let mut log = SureSink::new(alloc, 200)?;
-    let ended = run(alloc, words, &mut files, &mut out, &mut log);
+    let mut log = SureSink::new(alloc, 300)?;
+    let ended = run(rt, alloc, words, &mut files, &mut out, &mut log)?;
     assert!(rt; ended.status == want);
     assert!(rt; (log.bytes() == USAGE.as_bytes()) == (want == 1));
     Ok(())

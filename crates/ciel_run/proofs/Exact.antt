@@ -2,7 +2,7 @@
 -- first bracket that is nested too deep, one place where they go wrong or one script, the script one first name that stands
 -- twice, and the inputs one that is too long first.
 use Rattle.std.proofs.Common.{◌≡◌, ◌⊎◌, inl, inr, ℕ, ◌≤◌, ◌<◌, List, [], ◌∷◌, length, Option, Some, None, Result, Ok, Err, refl, sym, ap, subst, ◌∙◌, arith}
-use Rattle.sky_base.specs.See.{Desc, Answered, Means}
+use Rattle.sky_base.specs.See.{Answered, Desc, Job, Means, Never}
 use Rattle.sky_base.specs.Tree.{Place, Script}
 use Rattle.sky_base.specs.TreeView.{at}
 use Rattle.sky_text.specs.Lexing.{tokens_of}
@@ -18,15 +18,18 @@ use Rattle.sky_grammar.proofs.Exact.{spelled_or_refused}
 use Rattle.sky_grammar.proofs.UniqueScripts.{one_script}
 use Rattle.sky_plain.specs.Needs.{Chain, MakesMany}
 use Rattle.sky_law.proofs.SeenLaw.{means_one}
-use Rattle.ciel_run.specs.Words.{Line}
 use Rattle.sky_parse.specs.Source.{IsScript, end_of}
-use Rattle.ciel_run.specs.Source.{Input, keys_of, job_of, over_lines}
-use Rattle.ciel_run.specs.Syntax.{IsSyntaxFault}
-use Rattle.ciel_run.specs.Found.{limit, input_limit, AllWithin, Fits}
-use Rattle.ciel_run.specs.Ending.{IsExpected, IsFirstOver}
+use Rattle.ciel_load.specs.Line as files
+use Rattle.ciel_load.specs.Line.{Input, keys_of}
+use Rattle.ciel_words.specs.declared.words.Words.{Words}
+use Rattle.ciel_lines.specs.Line.{FitsIn, SourceFits, files_of}
+use Rattle.ciel_lines.specs.Source.{IsAnswer, IsSource, OfJob, job_of, over_lines}
+use Rattle.ciel_load.specs.Syntax.{IsSyntaxFault}
+use Rattle.ciel_load.specs.Found.{AllWithin, Fits, IsFirstOver, IsTooLong, input_limit, limit}
+use Rattle.ciel_run.specs.Ending.{IsExpected, MayEnd, TooLongIn}
 use Rattle.ciel_run.specs.Laws.{EndsSo, NoScriptIsRefused, EndsScript, ScriptIsRun, TooLongIsRefused, TooLongInputIsRefused, MeansOneAnswer}
-use Rattle.ciel_run.specs.declared.top.SyntaxKind.{SyntaxKind}
-use Rattle.ciel_run.specs.declared.top.Why.{Why}
+use Rattle.ciel_load.specs.declared.script.SyntaxKind.{SyntaxKind}
+use Rattle.ciel_why.specs.declared.why.Why.{Why}
 
 -- ---- what the bytes come to, stage by stage: the end that refuses them, or none for a script
 
@@ -146,24 +149,63 @@ no_script source end keys script x s = let e = one_end source (Some end) None x 
 same_end : (source : List ℕ) (end why : Why) → Ends source (Some end) → Ends source (Some why) → why ≡ end
 same_end source end why x y = let e = one_end source (Some end) (Some why) x y in cc
 
-refused_so : (line : Line) (source : List ℕ) (inputs : List Input) (end : Why) → Ends source (Some end) → length source ≤ limit → EndsSo line source inputs end
-refused_so line source inputs end x h Why.Done y = absurd (no_script source end (keys_of inputs) y.1.1.0 x y.1.1.1)
-refused_so line source inputs end x h (Why.Syntax kind l c) y = inr (same_end source end (Why.Syntax kind l c) x (of_syntax source kind l c y.1))
-refused_so line source inputs end x h (Why.Fault fault) y = absurd (no_script source end (keys_of inputs) y.1.0 x y.1.1)
-refused_so line source inputs end x h (Why.TooMany held given) y = absurd (no_script source end (keys_of inputs) y.1.0 x y.1.1)
-refused_so line source inputs end x h (Why.TooDeepPlain depth) y = absurd (no_script source end (keys_of inputs) y.1.0 x y.1.1)
-refused_so line source inputs end x h (Why.TooLongInput path most) (inl y) = absurd (omega (arith, h, y.2))
-refused_so line source inputs end x h (Why.TooLongInput path most) (inr y) = absurd (no_script source end (keys_of inputs) y.1.0 x y.1.1)
-refused_so line source inputs end x h Why.Memory y = inl refl
-refused_so line source inputs end x h Why.Usage y = absurd y
-refused_so line source inputs end x h (Why.ReadFault path) y = absurd y
-refused_so line source inputs end x h Why.WriteFault y = absurd y
+-- a run's end speaks of a script
+end_script : (w : Words) (source : List ℕ) (inputs : List Input) (why : Why) → MayEnd w source inputs why → IsSource source inputs
+end_script w source inputs (Why.TooMany held None) m = (m.0, m.1, tt)
+end_script w source inputs (Why.TooMany held (Some given)) m = m
+end_script w source inputs Why.Done m = (m.1.0, m.1.1, tt)
+end_script w source inputs (Why.Fault fault) m = (m.0, m.1, tt)
+end_script w source inputs (Why.Endless names) m = (m.0, m.1, tt)
+end_script w source inputs Why.AllLost m = m
+end_script w source inputs (Why.NameClash kept given) m = m
+end_script w source inputs (Why.TooDeepPlain depth) m = (m.0, m.1, tt)
+end_script w source inputs Why.Usage m = absurd m
+end_script w source inputs (Why.Syntax kind l c) m = absurd m
+end_script w source inputs (Why.ReadFault path) m = absurd m
+end_script w source inputs Why.WriteFault m = absurd m
+end_script w source inputs Why.Memory m = absurd m
+end_script w source inputs (Why.TooLongInput path at) m = absurd m
+
+-- where it is none, or too long, no run ends
+no_end : (w : Words) (source : List ℕ) (inputs : List Input) (why : Why) → (IsSource source inputs → ⊥) → MayEnd w source inputs why → ⊥
+no_end w source inputs why n m = n (end_script w source inputs why m)
+
+-- what is too long stands in a file, and the script isn't too long
+too_long_script : (f : Option files.Line) (source : List ℕ) (inputs : List Input) (path : List ℕ) (at : ℕ) → SourceFits f source → TooLongIn f source inputs path at
+    → (script : Script) × IsScript source (keys_of inputs) script
+too_long_script None source inputs path at h t = absurd t
+too_long_script (Some f) source inputs path at h (inl t) = absurd (omega (arith, h, t.2))
+too_long_script (Some f) source inputs path at h (inr t) = t.1
+
+refused_so : (w : Words) (source : List ℕ) (inputs : List Input) (end : Why) → Ends source (Some end) → SourceFits (files_of w) source → EndsSo w source inputs end
+refused_so w source inputs end x h why y = of why y
+  where
+    none : IsSource source inputs → ⊥
+    none s = no_script source end (keys_of inputs) s.0 x s.1
+
+    of : (why : Why) → IsExpected w source inputs why → (why ≡ Why.Memory) ⊎ (why ≡ end)
+    of (Why.Syntax kind l c) y = inr (same_end source end (Why.Syntax kind l c) x (of_syntax source kind l c y.1))
+    of (Why.TooLongInput path at) y =
+        let s = too_long_script (files_of w) source inputs path at h y in
+        absurd (no_script source end (keys_of inputs) s.0 x s.1)
+    of Why.Memory y = inl refl
+    of (Why.TooMany held None) y = absurd (no_end w source inputs (Why.TooMany held None) none y.1)
+    of (Why.TooMany held (Some given)) y = absurd (no_end w source inputs (Why.TooMany held (Some given)) none y.1)
+    of Why.Done y = absurd (no_end w source inputs Why.Done none y.1)
+    of (Why.Fault fault) y = absurd (no_end w source inputs (Why.Fault fault) none y.1)
+    of (Why.Endless names) y = absurd (no_end w source inputs (Why.Endless names) none y.1)
+    of Why.AllLost y = absurd (no_end w source inputs Why.AllLost none y.1)
+    of (Why.NameClash kept given) y = absurd (no_end w source inputs (Why.NameClash kept given) none y.1)
+    of (Why.TooDeepPlain depth) y = absurd (no_end w source inputs (Why.TooDeepPlain depth) none y.1)
+    of Why.Usage y = absurd y.1
+    of (Why.ReadFault path) y = absurd y.1
+    of Why.WriteFault y = absurd y.1
 
 pub no_script_is_refused : NoScriptIsRefused
-no_script_is_refused = λ line source inputs kind l c x h. refused_so line source inputs (Why.Syntax kind l c) (of_syntax source kind l c x) h
+no_script_is_refused = λ w source inputs kind l c x h. refused_so w source inputs (Why.Syntax kind l c) (of_syntax source kind l c x) h
 
 -- bytes are no two scripts
-same_script : (source : List ℕ) (keys : List (List ℕ)) (a b : Script) → IsScript source keys a → IsScript source keys b → a ≡ b
+pub same_script : (source : List ℕ) (keys : List (List ℕ)) (a b : Script) → IsScript source keys a → IsScript source keys b → a ≡ b
 same_script source keys a b x y =
     let t = x.2 in
     let u = y.2 in
@@ -171,53 +213,92 @@ same_script source keys a b x y =
     let v : Spells x.1 y.0 = subst (λ (ts : List Token). Spells x.1 ts) tokens x.3.0 in
     x.4 ∙ ap (script_of keys) (one_script x.1 y.1 y.0 v y.3.0) ∙ sym y.4
 
-script_ends : (line : Line) (source : List ℕ) (inputs : List Input) (script : Script) → IsScript source (keys_of inputs) script → Fits source inputs → (why : Why) → IsExpected line source inputs why → EndsScript script inputs why
-script_ends line source inputs script s h Why.Done y = (y.1.0, subst (λ (t : Script). Means (job_of t inputs) over_lines (Answered.bytes y.1.0)) (same_script source (keys_of inputs) y.1.1.0 script y.1.1.1 s) y.1.1.2)
-script_ends line source inputs script s h (Why.Syntax kind l c) y = no_script source (Why.Syntax kind l c) (keys_of inputs) script (of_syntax source kind l c y.1) s
-script_ends line source inputs script s h (Why.Fault fault) y = subst (λ (t : Script). Means (job_of t inputs) over_lines (Answered.fault fault)) (same_script source (keys_of inputs) y.1.0 script y.1.1 s) y.1.2
-script_ends line source inputs script s h (Why.TooMany held given) y = subst (λ (t : Script). MakesMany (job_of t inputs) over_lines 65537) (same_script source (keys_of inputs) y.1.0 script y.1.1 s) y.1.2
-script_ends line source inputs script s h (Why.TooDeepPlain depth) y = subst (λ (t : Script). (d : Desc) × Chain (job_of t inputs) over_lines 4096 d) (same_script source (keys_of inputs) y.1.0 script y.1.1 s) y.1.2
-script_ends line source inputs script s h (Why.TooLongInput path most) (inl y) = omega (arith, h.0, y.2)
-script_ends line source inputs script s h (Why.TooLongInput path most) (inr y) = none_over line.inputs inputs path y.3 h.1
-script_ends line source inputs script s h Why.Memory y = tt
-script_ends line source inputs script s h Why.Usage y = y
-script_ends line source inputs script s h (Why.ReadFault path) y = y
-script_ends line source inputs script s h Why.WriteFault y = y
+-- what is said of a job of the bytes is said of that of this script
+as_script : (source : List ℕ) (inputs : List Input) (script : Script) (P : Job → Type 0) → IsScript source (keys_of inputs) script → OfJob source inputs P
+    → P (job_of script inputs)
+as_script source inputs script P s o =
+    subst (λ (t : Script). P (job_of t inputs)) (same_script source (keys_of inputs) o.0 script o.1 s) o.2
+
+-- a script within the limits isn't too long
+not_too_long : (f : Option files.Line) (source : List ℕ) (inputs : List Input) (path : List ℕ) (at : ℕ) → FitsIn f source inputs → TooLongIn f source inputs path at → ⊥
+not_too_long None source inputs path at h t = t
+not_too_long (Some f) source inputs path at h (inl t) = let k = h.0 in omega (arith, k, t.2)
+not_too_long (Some f) source inputs path at h (inr t) = none_over f.inputs inputs path t.3 h.1
+
+script_ends : (w : Words) (source : List ℕ) (inputs : List Input) (script : Script) → IsScript source (keys_of inputs) script → FitsIn (files_of w) source inputs → (why : Why) → IsExpected w source inputs why → EndsScript script inputs why
+script_ends w source inputs script s h Why.Done y =
+    (y.1.0, as_script source inputs script (λ j. Means j over_lines (Answered.bytes y.1.0)) s y.1.1)
+script_ends w source inputs script s h (Why.Fault fault) y = as_script source inputs script (λ j. Means j over_lines (Answered.fault fault)) s y.1
+script_ends w source inputs script s h (Why.Endless names) y = as_script source inputs script (λ j. Never j over_lines) s y.1
+script_ends w source inputs script s h (Why.TooMany held None) y = as_script source inputs script (λ j. MakesMany j over_lines 65537) s y.1
+script_ends w source inputs script s h (Why.TooMany held (Some given)) y = tt
+script_ends w source inputs script s h Why.AllLost y = tt
+script_ends w source inputs script s h (Why.NameClash kept given) y = tt
+script_ends w source inputs script s h (Why.TooDeepPlain depth) y = as_script source inputs script (λ j. (d : Desc) × Chain j over_lines 4096 d) s y.1
+script_ends w source inputs script s h Why.Memory y = tt
+script_ends w source inputs script s h (Why.Syntax kind l c) y =
+    absurd (no_script source (Why.Syntax kind l c) (keys_of inputs) script (of_syntax source kind l c y.1) s)
+script_ends w source inputs script s h (Why.TooLongInput path at) y = absurd (not_too_long (files_of w) source inputs path at h y)
+script_ends w source inputs script s h Why.Usage y = absurd y.1
+script_ends w source inputs script s h (Why.ReadFault path) y = absurd y.1
+script_ends w source inputs script s h Why.WriteFault y = absurd y.1
 
 pub script_is_run : ScriptIsRun
-script_is_run = λ line source inputs script s h why y. script_ends line source inputs script s h why y
+script_is_run = λ w source inputs script s h why y. script_ends w source inputs script s h why y
 
-too_long : (line : Line) (source : List ℕ) (inputs : List Input) → limit < length source → EndsSo line source inputs (Why.TooLongInput line.script limit)
-too_long line source inputs h Why.Done y = absurd (omega (arith, h, y.0.0))
-too_long line source inputs h (Why.Syntax kind l c) y = absurd (omega (arith, h, y.0))
-too_long line source inputs h (Why.Fault fault) y = absurd (omega (arith, h, y.0.0))
-too_long line source inputs h (Why.TooMany held given) y = absurd (omega (arith, h, y.0.0))
-too_long line source inputs h (Why.TooDeepPlain depth) y = absurd (omega (arith, h, y.0.0))
-too_long line source inputs h (Why.TooLongInput path most) (inl y) = inr (λ i. Why.TooLongInput (y.0 i) (y.1 i))
-too_long line source inputs h (Why.TooLongInput path most) (inr y) = absurd (omega (arith, h, y.0))
-too_long line source inputs h Why.Memory y = inl refl
-too_long line source inputs h Why.Usage y = absurd y
-too_long line source inputs h (Why.ReadFault path) y = absurd y
-too_long line source inputs h Why.WriteFault y = absurd y
+-- ---- what is too long
+
+-- where it is too long, no end of a run and no refusal of the bytes is expected
+module _ (w : Words) (f : files.Line) (is : files_of w ≡ Some f) (source : List ℕ) (inputs : List Input) where
+  fit_of : (P : Option files.Line → Type 0) → P (files_of w) → P (Some f)
+  fit_of P p = subst P is p
+
+  one_end_of : (end : Why) → (FitsIn (Some f) source inputs → ⊥) → ((kind : SyntaxKind) (l c : ℕ) → SourceFits (Some f) source × IsSyntaxFault source kind l c → ⊥)
+      → ((path : List ℕ) (at : ℕ) → TooLongIn (Some f) source inputs path at → Why.TooLongInput path at ≡ end) → EndsSo w source inputs end
+  one_end_of end none no_kind same why y = of why y
+    where
+      unfit : FitsIn (files_of w) source inputs → ⊥
+      unfit h = none (fit_of (λ g. FitsIn g source inputs) h)
+
+      of : (why : Why) → IsExpected w source inputs why → (why ≡ Why.Memory) ⊎ (why ≡ end)
+      of (Why.Syntax kind l c) y = absurd (no_kind kind l c (fit_of (λ g. SourceFits g source × IsSyntaxFault source kind l c) y))
+      of (Why.TooLongInput path at) y = inr (same path at (fit_of (λ g. TooLongIn g source inputs path at) y))
+      of Why.Memory y = inl refl
+      of (Why.TooMany held None) y = absurd (unfit y.0)
+      of (Why.TooMany held (Some given)) y = absurd (unfit y.0)
+      of Why.Done y = absurd (unfit y.0)
+      of (Why.Fault fault) y = absurd (unfit y.0)
+      of (Why.Endless names) y = absurd (unfit y.0)
+      of Why.AllLost y = absurd (unfit y.0)
+      of (Why.NameClash kept given) y = absurd (unfit y.0)
+      of (Why.TooDeepPlain depth) y = absurd (unfit y.0)
+      of Why.Usage y = absurd y.1
+      of (Why.ReadFault path) y = absurd y.1
+      of Why.WriteFault y = absurd y.1
+
+  too_long : limit < length source → EndsSo w source inputs (Why.TooLongInput f.script limit)
+  too_long h =
+      one_end_of (Why.TooLongInput f.script limit) (λ k. let a = k.0 in omega (arith, h, a)) (λ kind l c k. let a = k.0 in omega (arith, h, a)) same
+    where
+      same : (path : List ℕ) (at : ℕ) → TooLongIn (Some f) source inputs path at → Why.TooLongInput path at ≡ Why.TooLongInput f.script limit
+      same path at (inl t) = λ i. Why.TooLongInput (t.0 i) (t.1 i)
+      same path at (inr t) = absurd (omega (arith, h, t.0))
+
+  too_long_input : (script : Script) (path : List ℕ) → IsScript source (keys_of inputs) script → length source ≤ limit → IsFirstOver f.inputs inputs path
+      → EndsSo w source inputs (Why.TooLongInput path input_limit)
+  too_long_input script path s h o =
+      one_end_of (Why.TooLongInput path input_limit) (λ k. none_over f.inputs inputs path o k.1)
+      (λ kind l c k. no_script source (Why.Syntax kind l c) (keys_of inputs) script (of_syntax source kind l c k.1) s) same
+    where
+      same : (at : List ℕ) (most : ℕ) → TooLongIn (Some f) source inputs at most → Why.TooLongInput at most ≡ Why.TooLongInput path input_limit
+      same at most (inl t) = absurd (omega (arith, h, t.2))
+      same at most (inr t) = λ i. Why.TooLongInput (one_over f.inputs inputs at path t.3 o i) (t.2 i)
 
 pub too_long_is_refused : TooLongIsRefused
-too_long_is_refused = λ line source inputs h why y. too_long line source inputs h why y
-
-too_long_input : (line : Line) (source : List ℕ) (inputs : List Input) (script : Script) (path : List ℕ) → IsScript source (keys_of inputs) script → length source ≤ limit → IsFirstOver line.inputs inputs path → EndsSo line source inputs (Why.TooLongInput path input_limit)
-too_long_input line source inputs script path s h f Why.Done y = absurd (none_over line.inputs inputs path f y.0.1)
-too_long_input line source inputs script path s h f (Why.Syntax kind l c) y = absurd (no_script source (Why.Syntax kind l c) (keys_of inputs) script (of_syntax source kind l c y.1) s)
-too_long_input line source inputs script path s h f (Why.Fault fault) y = absurd (none_over line.inputs inputs path f y.0.1)
-too_long_input line source inputs script path s h f (Why.TooMany held given) y = absurd (none_over line.inputs inputs path f y.0.1)
-too_long_input line source inputs script path s h f (Why.TooDeepPlain depth) y = absurd (none_over line.inputs inputs path f y.0.1)
-too_long_input line source inputs script path s h f (Why.TooLongInput at most) (inl y) = absurd (omega (arith, h, y.2))
-too_long_input line source inputs script path s h f (Why.TooLongInput at most) (inr y) = inr (λ i. Why.TooLongInput (one_over line.inputs inputs at path y.3 f i) (y.2 i))
-too_long_input line source inputs script path s h f Why.Memory y = inl refl
-too_long_input line source inputs script path s h f Why.Usage y = absurd y
-too_long_input line source inputs script path s h f (Why.ReadFault at) y = absurd y
-too_long_input line source inputs script path s h f Why.WriteFault y = absurd y
+too_long_is_refused = λ w f is source inputs h. too_long w f is source inputs h
 
 pub too_long_input_is_refused : TooLongInputIsRefused
-too_long_input_is_refused = λ line source inputs script path s h f why y. too_long_input line source inputs script path s h f why y
+too_long_input_is_refused = λ w f is source inputs script path s h o. too_long_input w f is source inputs script path s h o
 
 pub means_one_answer : MeansOneAnswer
 means_one_answer source inputs a b x y =

@@ -1,5 +1,4 @@
-mod Ends
 pub mod Exact
-mod Loaded
-mod Pieces
-mod Taken
+mod Over
+mod Modest
+mod Headline

@@ -1,10 +1,2 @@
-pub mod Words
-pub mod Source
-pub mod Syntax
-pub mod Found
-pub mod Refused
 pub mod Ending
-pub mod Reading
-pub mod Loading
 pub mod Laws
-pub mod Message

@@ -1,204 +1,250 @@
-// The top call: the words, the read of the script, its answer, and the writing. Each way in which it
-// ends is a `Why`, and each `Why` but want of memory has a clause that says when it comes.
+//! The top call: the words, the reading, the run, and the writing. Each way in which it ends is a `Why`, and each `Why` but want of memory
+//! has a clause that says when it comes.
 
-ghost use Rattle.std.specs.Prelude.{◌≡◌, ◌≢◌, ◌↔◌, Some, None, Contains};
-ghost use Rattle.sky_base.specs.See.{Answered};
+ghost use Rattle.std.specs.Prelude.{◌≡◌, ◌≢◌, ◌≤◌, ◌⊎◌, ◌++◌, [], None, Contains, OnErr, OnOk, drop, false, length, map, true};
+ghost use Rattle.sky_base.specs.See.{Answered as Meant};
+ghost use Rattle.ciel_drive.specs.Told.{ToldBy};
+ghost use Rattle.ciel_engine.specs.Told.{told_of};
 ghost use Rattle.ciel_io.specs.Faults.{HasRisen};
 ghost use Rattle.ciel_io.specs.Tells.{Tells, TellsPart};
-ghost use Rattle.ciel_run.specs.Words.{Line, line_of, paths_of, paths};
-ghost use Rattle.ciel_run.specs.Source.{IsAnswer, HasChain, Makes};
-ghost use Rattle.ciel_run.specs.Syntax.{IsSyntaxFault};
-ghost use Rattle.ciel_run.specs.Found.{OverFiles, OverScript};
-ghost use Rattle.ciel_run.specs.Ending.{status_of, IfSyntax, IfFault, IfTooMany, IfTooDeep, IfTooLong, IfReadFault, IsOver, WritesAnswer, WritesPart, IsExpected, AsksFor};
-ghost use Rattle.ciel_run.specs.Message.{message_of};
+ghost use Rattle.ciel_load.specs.Syntax.{IsSyntaxFault};
+ghost use Rattle.ciel_master.specs.Views.{entry_view};
+ghost use Rattle.ciel_turns.specs.Ends.{AllAreLost};
+ghost use Rattle.ciel_words.specs.Line.{line_of};
+ghost use Rattle.ciel_words.specs.Sound.{LineIsSound};
+ghost use Rattle.ciel_lines.specs.Causes.{Clashes, GoesRound, HasTooMany, IsTooDeep, TooLongOf};
+ghost use Rattle.ciel_run.specs.Ending.{IfEndless, IfFault, IfNameClash, IfReadFault, IfSyntax, IfTooDeep, IfTooLong, IfTooMany};
+ghost use Rattle.ciel_lines.specs.Asked.{AsksFor, NoRun, ShowsEnd};
+ghost use Rattle.ciel_why.specs.Status.{status_of};
+ghost use Rattle.ciel_run.specs.Ending.{Answers, EndCause, IsExpected, TellsParts, Writes, WritesAnswer, WritesPart, trace_of};
+ghost use Rattle.ciel_lines.specs.Line.{OfLine, OverFiles, OverLine, OverScript, files_of, is_plain, is_traced, paths, paths_in, workers_of};
+ghost use Rattle.ciel_why.specs.Message.{message_of};
+ghost use Rattle.ciel_lines.specs.Runs.{EndsShown, IsDriven, NamesHaveOne, StartsFew, StartsMissing, StartsNeeded, plan_of};
+ghost use Rattle.ciel_lines.specs.Source.{IsAnswer, OfJob};
+ghost use Rattle.ciel_why.specs.Summary.{output_of};
+ghost use Rattle.ciel_why.specs.declared.why.Why.{Why};
 
-use crate::answer::{NoAnswer, answer};
-use crate::load::{NoJob, load};
-use crate::message::put_message;
+use ciel_drive::law::modest_runs_answer;
+use ciel_gate::gate::Gate;
 use ciel_io::files::Files;
-use ciel_io::sink::Sink;
-use sky_base::fault::Fault;
-use sky_base::object::Desc1;
-use sky_base::text::Txt;
+use ciel_io::sink::{Failed, Sink};
+use ciel_lines::answer::Answered;
+use ciel_lines::lines::answer_line;
+use ciel_master::entry::Entry;
+use ciel_trace::text::put_journal;
+use ciel_why::message::put_message;
+use ciel_why::output::put_answer;
+use ciel_why::why::{Ended, Why};
+use ciel_words::law::lines_are_sound;
+use ciel_words::words::{Words, WordsRefusal, read_words};
+use sky_base::text::{Bytes, Txt};
+use sky_params::law::functions_are_orderly;
 use std::alloc::Global;
+use std::sync::Wait;
 
-/// The greatest number of bytes of a script.
-pub const LIMIT: u64 = 1_048_576;
-
-/// Why the bytes of a script are no script.
-#[derive(Clone, Copy, Debug, PartialEq, Eq)]
-pub enum SyntaxKind {
-    BadByte,
-    OpenText,
-    BadEscape,
-    BigNumber,
-    TooNested,
-    NoSentence,
-    SameName,
-}
-
-/// Why a call of the program ended.
-#[derive(Drop)]
-pub enum Why {
-    /// The answer was written. Status 0.
-    Done,
-    /// The words are no line of the command. Status 1.
-    Usage,
-    /// The bytes of the script are no script. Status 2.
-    Syntax {
-        kind: SyntaxKind,
-        line: u32,
-        col: u32,
-    },
-    /// The job means this fault. Status 3.
-    Fault(Fault),
-    /// So many distinct descriptions are held, 65,536, and a further one is made, which isn't given by
-    /// a sequential run. Status 5.
-    TooMany {
-        held: u32,
-        given: Option<Desc1>,
-    },
-    /// The file at the path could not be read. Status 8.
-    ReadFault {
-        path: Txt,
-    },
-    /// The answer could not be written whole. Status 9.
-    WriteFault,
-    /// Want of memory. Status 10.
-    Memory,
-    /// The file at the path has more bytes than the limit. Status 11.
-    TooLongInput {
-        path: Txt,
-        limit: u64,
-    },
-    /// So many descriptions are open, 4,096, each waited for by the one before it. Status 13.
-    TooDeepPlain {
-        depth: u32,
-    },
-}
-
-/// How a call of the program ended: the status of the process, and why.
-#[derive(Drop)]
-pub struct Ended {
-    pub status: u8,
-    pub why: Why,
-}
-
-impl Why {
-    ghost use Rattle.std.specs.Prelude.{◌≡◌};
-    ghost use Rattle.ciel_run.specs.Ending.{status_of};
-
-    /// The status of the process.
-    pub fn status(&self) -> u8
-        ensures { result ≡ status_of self.now }
-    {
-        match self {
-            Why::Done => 0,
-            Why::Usage => 1,
-            Why::Syntax { .. } => 2,
-            Why::Fault(_) => 3,
-            Why::TooMany { .. } => 5,
-            Why::ReadFault { .. } => 8,
-            Why::WriteFault => 9,
-            Why::Memory => 10,
-            Why::TooLongInput { .. } => 11,
-            Why::TooDeepPlain { .. } => 13,
-        }
-    }
-}
-
-/// Runs the program on the words of its command line, without the program's own name: reads the
-/// script and the inputs that they name, and writes the answer of their job to `out` in one `put`. Where
-/// the status isn't 0, the message goes to `log`, and a failure there changes nothing else.
+/// Runs the program on the words of its command line, without the program's own name. A script and its inputs are read, or a job is
+/// generated; it is run on as many workers as the words say, each with its gate, or by the sequential interpreter; and its answer, or the
+/// summary of a generated one, is written to `out`. With `--trace` the journal's text goes to `log` then. Where the status isn't 0, the
+/// message goes there too, and a failure there changes nothing else.
 ///
-/// The words are SCRIPT, then at most 256 times NAME=PATH. A script has at most 1,048,576 bytes, and an
-/// input at most 16,777,216. The inputs are read in the order of the words, after the script was seen to be
-/// one. The executors are those over lines.
-pub fn ciel_main<F: Files, O: Sink, J: Sink>(
+/// A script has at most 1,048,576 bytes, and an input at most 16,777,216. The inputs are read in the order of the words, after the script
+/// was seen to be one. The executors are those over lines. There are 64 gates, of which the first are the workers'.
+pub fn ciel_main<F: Files, O: Sink, J: Sink, G: Gate, R: Wait + Drop>(
+    rt: R,
     alloc: Global,
     words: &[Txt],
     files: &mut F,
     out: &mut O,
     log: &mut J,
+    gates: &mut Vec<G>,
 ) -> Ended
+    requires gates { length gates.old.items ≡ 64 }
+
     // What is written where it ends well.
-    ensures bytes { result.status ≡ 0 → OverFiles (F.content files.old) words.now (λ line source inputs. WritesAnswer source inputs (O.written out.old) (O.written out.new)) }
+    ensures bytes { result.status ≡ 0 → OverFiles (F.content files.old) words.now (λ w source inputs. WritesAnswer w source inputs (O.written out.old) (O.written out.new)) }
+
+    // What the journal says: it is that of a driven history, and where there is an answer it ends with the root task. Each task started was
+    // needed, none was started whose outputs were all live, they are few, and no name was made with two values.
+    ensures driven { OverFiles (F.content files.old) words.now (λ w source inputs. IsDriven w source inputs (map entry_view result.journal.items)) }
+    ensures root { is_plain (line_of words.now) ≡ false → ShowsEnd result.why → OverFiles (F.content files.old) words.now (λ w source inputs. EndsShown w source inputs (map entry_view result.journal.items)) }
+    ensures needed { OverFiles (F.content files.old) words.now (λ w source inputs. StartsNeeded w source inputs (map entry_view result.journal.items)) }
+    ensures missing { OverFiles (F.content files.old) words.now (λ w source inputs. StartsMissing w source inputs (map entry_view result.journal.items)) }
+    ensures few { OverFiles (F.content files.old) words.now (λ w source inputs. StartsFew w source inputs (map entry_view result.journal.items)) }
+    ensures one_value { OverFiles (F.content files.old) words.now (λ w source inputs. NamesHaveOne w source inputs (map entry_view result.journal.items)) }
+    ensures empty { NoRun (is_plain (line_of words.now)) result.why → map entry_view result.journal.items ≡ [] }
+
+    // What the gates tell.
+    ensures told { result.why ≢ Why.Memory → ToldBy (map entry_view result.journal.items) (told_of G.entered (workers_of (line_of words.now)) gates.old.items) (told_of G.entered (workers_of (line_of words.now)) gates.new.items) }
+    ensures others { result.why ≢ Why.Memory → drop (workers_of (line_of words.now)) gates.new.items ≡ drop (workers_of (line_of words.now)) gates.old.items }
+    ensures all { result.why ≢ Why.Memory → length gates.new.items ≡ 64 }
+    ensures kept { NoRun (is_plain (line_of words.now)) result.why → gates.new ≡ gates.old }
 
     // When each other end comes.
-    ensures usage { (result.why ≡ Why.Usage) ↔ (line_of words.now ≡ None) }
-    ensures syntax { IfSyntax result.why (λ kind line col. OverScript (F.content files.old) words.now (λ source. IsSyntaxFault source kind line col)) }
-    ensures fault { IfFault result.why (λ fault. OverFiles (F.content files.old) words.now (λ line source inputs. IsAnswer source inputs (Answered.fault fault))) }
-    ensures too_many { IfTooMany result.why (λ held given. (held ≡ 65536) × (given ≡ None) × OverFiles (F.content files.old) words.now (λ line source inputs. Makes source inputs 65537)) }
-    ensures too_deep { IfTooDeep result.why (λ depth. (depth ≡ 4096) × OverFiles (F.content files.old) words.now (λ line source inputs. HasChain source inputs 4096)) }
-    ensures too_long { IfTooLong result.why (λ path at. (line : Line) × (line_of words.now ≡ Some line) × IsOver (F.content files.old) line path at) }
+    ensures usage { result.why ≡ Why.Usage → line_of words.now ≡ None }
+    ensures no_line { line_of words.now ≡ None → (result.why ≡ Why.Usage) ⊎ (result.why ≡ Why.Memory) }
+    ensures syntax { IfSyntax result.why (λ kind line col. OverScript (F.content files.old) words.now (λ w source. IsSyntaxFault source kind line col)) }
+    ensures fault { IfFault result.why (λ fault. OverFiles (F.content files.old) words.now (λ w source inputs. IsAnswer source inputs (Meant.fault fault))) }
+    ensures endless { IfEndless result.why (λ names. OverFiles (F.content files.old) words.now (λ w source inputs. OfJob source inputs (λ job. GoesRound w (map entry_view result.journal.items) job names))) }
+    ensures too_many { IfTooMany result.why (λ held given. OverFiles (F.content files.old) words.now (λ w source inputs. OfJob source inputs (λ job. HasTooMany w (map entry_view result.journal.items) job held given))) }
+    ensures all_lost { result.why ≡ Why.AllLost → OverLine (F.content files.old) words.now (λ w. (w.plain ≡ false) × AllAreLost (plan_of w) (map entry_view result.journal.items)) }
+    ensures name_clash { IfNameClash result.why (λ kept given. OverFiles (F.content files.old) words.now (λ w source inputs. OfJob source inputs (λ job. Clashes w (map entry_view result.journal.items) job kept given))) }
+    ensures too_deep { IfTooDeep result.why (λ depth. OverFiles (F.content files.old) words.now (λ w source inputs. OfJob source inputs (λ job. IsTooDeep w (map entry_view result.journal.items) job depth))) }
+    ensures too_long { IfTooLong result.why (λ path at. OverLine (F.content files.old) words.now (λ w. TooLongOf (F.content files.old) (files_of w) path at)) }
     ensures read_fault { IfReadFault result.why (λ path. Contains (paths (line_of words.now)) path × HasRisen (F.faults files.old) (F.faults files.new)) }
-    ensures write_fault { result.why ≡ Why.WriteFault → HasRisen (O.faults out.old) (O.faults out.new) }
+    ensures write_fault { result.why ≡ Why.WriteFault → HasRisen (O.faults out.old) (O.faults out.new) ⊎ ((is_traced (line_of words.now) ≡ true) × HasRisen (J.faults log.old) (J.faults log.new)) }
 
-    // Which end comes where files tell, and reading and writing go well.
-    ensures complete { ¬ HasRisen (F.faults files.old) (F.faults files.new) → ¬ HasRisen (O.faults out.old) (O.faults out.new) → OverFiles (F.content files.old) words.now (λ line source inputs. IsExpected line source inputs result.why) }
+    // Which end comes where files tell, and reading and writing go well; and that it is the answer, where the job means one and some worker
+    // stays.
+    ensures complete { ¬ HasRisen (F.faults files.old) (F.faults files.new) → ¬ HasRisen (O.faults out.old) (O.faults out.new) → ¬ HasRisen (J.faults log.old) (J.faults log.new) → OverFiles (F.content files.old) words.now (λ w source inputs. IsExpected w source inputs result.why) }
+    ensures answers { ¬ HasRisen (F.faults files.old) (F.faults files.new) → ¬ HasRisen (O.faults out.old) (O.faults out.new) → ¬ HasRisen (J.faults log.old) (J.faults log.new) → OverFiles (F.content files.old) words.now (λ w source inputs. Answers w source inputs result.why) }
 
     // What was asked, and what was written where it doesn't end well.
     ensures asked { AsksFor result.why (paths (line_of words.now)) (F.asked files.old) (F.asked files.new) }
-    ensures part { result.why ≡ Why.WriteFault → OverFiles (F.content files.old) words.now (λ line source inputs. WritesPart source inputs (O.written out.old) (O.written out.new)) }
+    ensures part { result.why ≡ Why.WriteFault → OverFiles (F.content files.old) words.now (λ w source inputs. WritesPart w source inputs (O.written out.old) (O.written out.new)) }
     ensures nothing { result.why ≢ Why.Done → result.why ≢ Why.WriteFault → out.new ≡ out.old }
 
-    // What is put on the log: the message, which is empty for an answer that was written.
-    ensures message { ¬ HasRisen (J.faults log.old) (J.faults log.new) → Tells (J.written log.old) (J.written log.new) (message_of result.why) }
-    ensures message_part { TellsPart (J.written log.old) (J.written log.new) (message_of result.why) }
+    // What is put on the log: the journal's text where it is asked for, and the message, which is empty for an answer that was written.
+    ensures message { ¬ HasRisen (J.faults log.old) (J.faults log.new) → Tells (J.written log.old) (J.written log.new) (trace_of (is_traced (line_of words.now)) result.journal.items ++ message_of result.why) }
+    ensures message_part { TellsParts (J.written log.old) (J.written log.new) (trace_of (is_traced (line_of words.now)) result.journal.items) (message_of result.why) }
 
     ensures status { result.status ≡ status_of result.why }
 {
-    let why = run(alloc, words, files, out);
-    tell(&why, log);
+    let line = match read_words(alloc, words) {
+        Ok(line) => line,
+        Err(WordsRefusal::Usage) => return refused(alloc, Why::Usage, log),
+        Err(WordsRefusal::Memory) => return refused(alloc, Why::Memory, log),
+    };
+    lines_are_sound();
+    modest_runs_answer();
+    functions_are_orderly();
+    run(rt, alloc, &line, files, out, log, gates)
+}
+
+/// Ends a call whose words are no line, with its message.
+fn refused<J: Sink>(alloc: Global, why: Why, log: &mut J) -> Ended
+    requires why { why ≢ Why.Done }
+    ensures why { result.why ≡ why }
+    ensures empty { result.journal.items ≡ [] }
+    ensures status { result.status ≡ status_of why }
+    ensures message { ¬ HasRisen (J.faults log.old) (J.faults log.new) → Tells (J.written log.old) (J.written log.new) (message_of why) }
+    ensures message_part { TellsPart (J.written log.old) (J.written log.new) (message_of why) }
+{
+    let _ = put_message(&why, log);
+    ended(why, Vec::new(alloc))
+}
+
+fn ended(why: Why, journal: Vec<Entry>) -> Ended
+    ensures { result ≡ record { status = status_of why; why = why; journal = journal } }
+{
     Ended {
         status: why.status(),
         why,
+        journal,
     }
 }
 
-/// Puts the message on the log, where there is one.
-fn tell<J: Sink>(why: &Why, log: &mut J)
-    ensures message { ¬ HasRisen (J.faults log.old) (J.faults log.new) → Tells (J.written log.old) (J.written log.new) (message_of why.now) }
-    ensures message_part { TellsPart (J.written log.old) (J.written log.new) (message_of why.now) }
+/// Runs a line, and writes what it comes to.
+fn run<F: Files, O: Sink, J: Sink, G: Gate, R: Wait + Drop>(
+    rt: R,
+    alloc: Global,
+    line: &Words,
+    files: &mut F,
+    out: &mut O,
+    log: &mut J,
+    gates: &mut Vec<G>,
+) -> Ended
+    requires line { LineIsSound line.now }
+    requires gates { length gates.old.items ≡ 64 }
+    ensures done { result.why ≡ Why.Done → Writes (F.content files.old) line.now (Tells (O.written out.old) (O.written out.new)) }
+    ensures part { result.why ≡ Why.WriteFault → Writes (F.content files.old) line.now (TellsPart (O.written out.old) (O.written out.new)) }
+    ensures nothing { result.why ≢ Why.Done → result.why ≢ Why.WriteFault → out.new ≡ out.old }
+    ensures cause { EndCause (F.content files.old) line.now (HasRisen (F.faults files.old) (F.faults files.new)) (map entry_view result.journal.items) result.why }
+    ensures write_fault { result.why ≡ Why.WriteFault → HasRisen (O.faults out.old) (O.faults out.new) ⊎ ((line.now.trace ≡ true) × HasRisen (J.faults log.old) (J.faults log.new)) }
+    ensures driven { OfLine (F.content files.old) line.now (λ source inputs. IsDriven line.now source inputs (map entry_view result.journal.items)) }
+    ensures root { line.now.plain ≡ false → ShowsEnd result.why → OfLine (F.content files.old) line.now (λ source inputs. EndsShown line.now source inputs (map entry_view result.journal.items)) }
+    ensures empty { NoRun line.now.plain result.why → map entry_view result.journal.items ≡ [] }
+    ensures kept { NoRun line.now.plain result.why → gates.new ≡ gates.old }
+    ensures told { result.why ≢ Why.Memory → ToldBy (map entry_view result.journal.items) (told_of G.entered line.now.workers gates.old.items) (told_of G.entered line.now.workers gates.new.items) }
+    ensures others { result.why ≢ Why.Memory → drop line.now.workers gates.new.items ≡ drop line.now.workers gates.old.items }
+    ensures all { result.why ≢ Why.Memory → length gates.new.items ≡ 64 }
+    ensures asked { AsksFor result.why (paths_in (files_of line.now)) (F.asked files.old) (F.asked files.new) }
+    ensures message { ¬ HasRisen (J.faults log.old) (J.faults log.new) → Tells (J.written log.old) (J.written log.new) (trace_of line.now.trace result.journal.items ++ message_of result.why) }
+    ensures message_part { TellsParts (J.written log.old) (J.written log.new) (trace_of line.now.trace result.journal.items) (message_of result.why) }
+    ensures status { result.status ≡ status_of result.why }
 {
-    if matches!(why, Why::Done) {
-        return;
+    let Answered { result, journal } = answer_line(rt, alloc, line, files, gates);
+    match result {
+        Ok(answer) => {
+            let why = write(line, &answer, journal.as_slice(), out, log);
+            ended(why, journal)
+        }
+        Err(why) => {
+            tell(line.trace, journal.as_slice(), &why, log);
+            ended(why, journal)
+        }
     }
+}
+
+/// Writes an answer, and then the journal's text where the line asks for it. Where either fails, the message follows.
+fn write<O: Sink, J: Sink>(
+    line: &Words,
+    answer: &Bytes,
+    journal: &[Entry],
+    out: &mut O,
+    log: &mut J,
+) -> Why
+    ensures ends { (result ≡ Why.Done) ⊎ (result ≡ Why.WriteFault) }
+    ensures done { result ≡ Why.Done → Tells (O.written out.old) (O.written out.new) (output_of line.now.generate answer.now) }
+    ensures part { result ≡ Why.WriteFault → TellsPart (O.written out.old) (O.written out.new) (output_of line.now.generate answer.now) }
+    ensures write_fault { result ≡ Why.WriteFault → HasRisen (O.faults out.old) (O.faults out.new) ⊎ ((line.now.trace ≡ true) × HasRisen (J.faults log.old) (J.faults log.new)) }
+    ensures message { ¬ HasRisen (J.faults log.old) (J.faults log.new) → Tells (J.written log.old) (J.written log.new) (trace_of line.now.trace journal.now ++ message_of result) }
+    ensures message_part { TellsParts (J.written log.old) (J.written log.new) (trace_of line.now.trace journal.now) (message_of result) }
+{
+    match put_answer(line.generate, answer.as_slice(), out) {
+        Ok(()) => trace(line.trace, journal, log),
+        Err(_) => {
+            tell(line.trace, journal, &Why::WriteFault, log);
+            Why::WriteFault
+        }
+    }
+}
+
+/// Puts the journal's text on the log, where it is asked for. Where that fails, the message follows.
+fn trace<J: Sink>(traced: bool, journal: &[Entry], log: &mut J) -> Why
+    ensures ends { (result ≡ Why.Done) ⊎ (result ≡ Why.WriteFault) }
+    ensures write_fault { result ≡ Why.WriteFault → (traced ≡ true) × HasRisen (J.faults log.old) (J.faults log.new) }
+    ensures message { ¬ HasRisen (J.faults log.old) (J.faults log.new) → Tells (J.written log.old) (J.written log.new) (trace_of traced journal.now ++ message_of result) }
+    ensures message_part { TellsParts (J.written log.old) (J.written log.new) (trace_of traced journal.now) (message_of result) }
+{
+    match put_trace(traced, journal, log) {
+        Ok(()) => Why::Done,
+        Err(_) => {
+            let _ = put_message(&Why::WriteFault, log);
+            Why::WriteFault
+        }
+    }
+}
+
+/// Puts the journal's text on the log, where it is asked for.
+fn put_trace<J: Sink>(traced: bool, journal: &[Entry], log: &mut J) -> Result<(), Failed>
+    ensures written { OnOk result (Tells (J.written log.old) (J.written log.new) (trace_of traced journal.now)) }
+    ensures part { OnErr result (TellsPart (J.written log.old) (J.written log.new) (trace_of traced journal.now)) }
+    ensures cause { OnErr result (HasRisen (J.faults log.old) (J.faults log.new)) }
+    ensures traced { OnErr result (traced ≡ true) }
+    ensures never_falls { J.faults log.old ≤ J.faults log.new }
+{
+    if traced {
+        return put_journal(journal, log);
+    }
+    Ok(())
+}
+
+/// Puts the journal's text on the log, where it is asked for, and the message behind it. What fails there changes nothing else.
+fn tell<J: Sink>(traced: bool, journal: &[Entry], why: &Why, log: &mut J)
+    requires why { why.now ≢ Why.Done }
+    ensures message { ¬ HasRisen (J.faults log.old) (J.faults log.new) → Tells (J.written log.old) (J.written log.new) (trace_of traced journal.now ++ message_of why.now) }
+    ensures message_part { TellsParts (J.written log.old) (J.written log.new) (trace_of traced journal.now) (message_of why.now) }
+{
+    let _ = put_trace(traced, journal, log);
     let _ = put_message(why, log);
-}
-
-/// Reads the script and the inputs, runs the job and writes.
-fn run<F: Files, O: Sink>(alloc: Global, words: &[Txt], files: &mut F, out: &mut O) -> Why
-    ensures bytes { result ≡ Why.Done → OverFiles (F.content files.old) words.now (λ line source inputs. WritesAnswer source inputs (O.written out.old) (O.written out.new)) }
-    ensures usage { (result ≡ Why.Usage) ↔ (line_of words.now ≡ None) }
-    ensures syntax { IfSyntax result (λ kind line col. OverScript (F.content files.old) words.now (λ source. IsSyntaxFault source kind line col)) }
-    ensures fault { IfFault result (λ fault. OverFiles (F.content files.old) words.now (λ line source inputs. IsAnswer source inputs (Answered.fault fault))) }
-    ensures too_many { IfTooMany result (λ held given. (held ≡ 65536) × (given ≡ None) × OverFiles (F.content files.old) words.now (λ line source inputs. Makes source inputs 65537)) }
-    ensures too_deep { IfTooDeep result (λ depth. (depth ≡ 4096) × OverFiles (F.content files.old) words.now (λ line source inputs. HasChain source inputs 4096)) }
-    ensures too_long { IfTooLong result (λ path at. (line : Line) × (line_of words.now ≡ Some line) × IsOver (F.content files.old) line path at) }
-    ensures read_fault { IfReadFault result (λ path. Contains (paths (line_of words.now)) path × HasRisen (F.faults files.old) (F.faults files.new)) }
-    ensures write_fault { result ≡ Why.WriteFault → HasRisen (O.faults out.old) (O.faults out.new) }
-    ensures complete { ¬ HasRisen (F.faults files.old) (F.faults files.new) → ¬ HasRisen (O.faults out.old) (O.faults out.new) → OverFiles (F.content files.old) words.now (λ line source inputs. IsExpected line source inputs result) }
-    ensures asked { AsksFor result (paths (line_of words.now)) (F.asked files.old) (F.asked files.new) }
-    ensures part { result ≡ Why.WriteFault → OverFiles (F.content files.old) words.now (λ line source inputs. WritesPart source inputs (O.written out.old) (O.written out.new)) }
-    ensures nothing { result ≢ Why.Done → result ≢ Why.WriteFault → out.new ≡ out.old }
-{
-    let job = match load(alloc, words, files) {
-        Ok(job) => job,
-        Err(NoJob::Usage) => return Why::Usage,
-        Err(NoJob::Syntax { kind, line, col }) => return Why::Syntax { kind, line, col },
-        Err(NoJob::Failed { path }) => return Why::ReadFault { path },
-        Err(NoJob::TooLong { path, limit }) => return Why::TooLongInput { path, limit },
-        Err(NoJob::Memory) => return Why::Memory,
-    };
-    match answer(alloc, &job) {
-        Ok(bytes) => match out.put(bytes.as_slice()) {
-            Ok(()) => Why::Done,
-            Err(_) => Why::WriteFault,
-        },
-        Err(NoAnswer::Fault(fault)) => Why::Fault(fault),
-        Err(NoAnswer::TooMany { held }) => Why::TooMany { held, given: None },
-        Err(NoAnswer::TooDeep { depth }) => Why::TooDeepPlain { depth },
-        Err(NoAnswer::Memory) => Why::Memory,
-    }
 }

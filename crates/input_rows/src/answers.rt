@@ -3,6 +3,7 @@
 use crate::memory::{bytes, over};
 use std::alloc::Global;
 use std::process::Abort;
+use std::sync::Wait;
 use std::test::Fail;
 
 /// A script over one input: its word, its bytes, and what is written.
@@ -68,9 +69,14 @@ static ANSWERS: [Row; 16] = [
     ),
 ];
 
-/// The program writes what is wanted, and tells nothing.
-fn answers(rt: &impl Abort, alloc: Global, row: &Row) -> Result<(), Fail> {
-    let got = over(alloc, row.0, &[row.1], bytes(alloc, row.2)?)?;
+/// With this word among the others the program writes what is wanted, and tells nothing.
+fn answers(
+    rt: &(impl Abort + Wait),
+    alloc: Global,
+    row: &Row,
+    how: &'static str,
+) -> Result<(), Fail> {
+    let got = over(rt, alloc, row.0, &[row.1, how], bytes(alloc, row.2)?)?;
     assert_eq!(rt; got.status, 0, "for {}", row.0);
     assert!(rt; got.out.bytes() == row.3.as_bytes(), "not {}", row.3);
     assert!(rt; got.log.bytes().is_empty(), "a message for {}", row.0);
@@ -80,7 +86,9 @@ fn answers(rt: &impl Abort, alloc: Global, row: &Row) -> Result<(), Fail> {
 #[test]
 fn jobs_over_inputs_are_answered(rt: HostRuntime) -> Result<(), Fail> {
     for row in &ANSWERS {
-        answers(&rt, rt.alloc(), row)?;
+        answers(&rt, rt.alloc(), row, "--workers=1")?;
+        answers(&rt, rt.alloc(), row, "--workers=3")?;
+        answers(&rt, rt.alloc(), row, "--plain")?;
     }
     Ok(())
 }

@@ -4,6 +4,7 @@
 use crate::memory::{bytes, over};
 use std::alloc::Global;
 use std::process::Abort;
+use std::sync::Wait;
 use std::test::Fail;
 
 /// A script over one input: its word, its bytes, and the fault that is told.
@@ -72,9 +73,14 @@ static FAULTS: [Row; 13] = [
     ("return *ref(\"t\");", "t=f", HUNDRED_AND_ONE, "TooDeep 1:8"),
 ];
 
-/// The program tells what is wanted, and writes nothing.
-fn faults(rt: &impl Abort, alloc: Global, row: &Row) -> Result<(), Fail> {
-    let got = over(alloc, row.0, &[row.1], bytes(alloc, row.2)?)?;
+/// With this word among the others the program tells what is wanted, and writes nothing.
+fn faults(
+    rt: &(impl Abort + Wait),
+    alloc: Global,
+    row: &Row,
+    how: &'static str,
+) -> Result<(), Fail> {
+    let got = over(rt, alloc, row.0, &[row.1, how], bytes(alloc, row.2)?)?;
     assert_eq!(rt; got.status, 3, "for {}", row.0);
     assert!(rt; got.out.bytes().is_empty(), "an answer for {}", row.0);
     let told = match got.log.bytes().strip_prefix(b"ciel: fault ".as_slice()) {
@@ -92,7 +98,8 @@ fn faults(rt: &impl Abort, alloc: Global, row: &Row) -> Result<(), Fail> {
 #[test]
 fn jobs_over_inputs_have_their_faults(rt: HostRuntime) -> Result<(), Fail> {
     for row in &FAULTS {
-        faults(&rt, rt.alloc(), row)?;
+        faults(&rt, rt.alloc(), row, "--seed=5")?;
+        faults(&rt, rt.alloc(), row, "--plain")?;
     }
     Ok(())
 }

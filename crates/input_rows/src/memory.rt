@@ -1,11 +1,17 @@
-// A script at the path `s` and one input at `f`, run over files and sinks in memory.
+// A script at the path `s` and one input at `f`, run over files and sinks in memory. One helper calls the program, and its contract says
+// nothing: what the program promises would else be carried through every row.
 
+ghost use Rattle.std.specs.Prelude.{◌≡◌, IfOk, length};
+
+use ciel_gate::open::Open;
 use ciel_io::files::Files;
 use ciel_io::mem_files::SureFiles;
 use ciel_io::mem_sink::SureSink;
-use ciel_run::top::{Why, ciel_main};
+use ciel_run::top::ciel_main;
+use ciel_why::why::Why;
 use sky_base::text::{Bytes, Txt};
 use std::alloc::Global;
+use std::sync::Wait;
 use std::test::Fail;
 
 /// How the program ended: its status, whether the words were none, what it wrote, and what it told.
@@ -40,11 +46,27 @@ pub fn words(alloc: Global, more: &[&str]) -> Result<Vec<Txt>, Fail> {
     Ok(words)
 }
 
+/// A gate for each worker that there may be.
+fn gates(alloc: Global) -> Result<Vec<Open>, Fail>
+    ensures { IfOk result (λ gates. length gates.items ≡ 64) }
+{
+    match Vec::from_elem(alloc, Open, 64) {
+        Ok(gates) => Ok(gates),
+        Err(_) => Err(Fail::from("memory")),
+    }
+}
+
 /// Runs the program.
-pub fn run(alloc: Global, words: &[Txt], files: &mut impl Files) -> Result<Got, Fail> {
+pub fn run(
+    rt: &impl Wait,
+    alloc: Global,
+    words: &[Txt],
+    files: &mut impl Files,
+) -> Result<Got, Fail> {
     let mut out = SureSink::new(alloc, 200)?;
-    let mut log = SureSink::new(alloc, 200)?;
-    let ended = ciel_main(alloc, words, files, &mut out, &mut log);
+    let mut log = SureSink::new(alloc, 300)?;
+    let mut gates = gates(alloc)?;
+    let ended = ciel_main(rt, alloc, words, files, &mut out, &mut log, &mut gates);
     Ok(Got {
         status: ended.status,
         usage: matches!(ended.why, Why::Usage),
@@ -53,8 +75,14 @@ pub fn run(alloc: Global, words: &[Txt], files: &mut impl Files) -> Result<Got, 
     })
 }
 
-/// Runs the program over the words `s` and those given, with the script at `s` and the input at `f`.
-pub fn over(alloc: Global, source: &str, more: &[&str], input: Bytes) -> Result<Got, Fail> {
+/// Runs the program over the word `s` and those given, with the script at `s` and the input at `f`.
+pub fn over(
+    rt: &impl Wait,
+    alloc: Global,
+    source: &str,
+    more: &[&str],
+    input: Bytes,
+) -> Result<Got, Fail> {
     let mut files = SureFiles::new(alloc, files(alloc, source, input)?)?;
-    run(alloc, &words(alloc, more)?, &mut files)
+    run(rt, alloc, &words(alloc, more)?, &mut files)
 }

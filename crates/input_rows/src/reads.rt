@@ -4,11 +4,12 @@ use crate::memory::{bytes, files, run, words};
 use ciel_io::mem_files::MemFiles;
 use std::alloc::Global;
 use std::process::Abort;
+use std::sync::Wait;
 use std::test::Fail;
 
 /// How the program ends, and what it tells, where this read fails, counted from 1. There are files at `s` and `f`.
 fn ends(
-    rt: &impl Abort,
+    rt: &(impl Abort + Wait),
     alloc: Global,
     fails: u32,
     source: &str,
@@ -18,7 +19,7 @@ fn ends(
     let mut failing = Vec::new(alloc);
     failing.push(fails)?;
     let mut files = MemFiles::new(alloc, files(alloc, source, bytes(alloc, "x")?)?, failing)?;
-    let got = run(alloc, &words(alloc, more)?, &mut files)?;
+    let got = run(rt, alloc, &words(alloc, more)?, &mut files)?;
     assert_eq!(rt; got.status, want.0, "for {source}");
     assert!(rt; got.log.bytes() == want.1.as_bytes(), "not {}", want.1);
     Ok(())

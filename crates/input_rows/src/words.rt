@@ -5,18 +5,19 @@ use ciel_io::mem_files::SureFiles;
 use sky_base::text::Txt;
 use std::alloc::Global;
 use std::process::Abort;
+use std::sync::Wait;
 use std::test::Fail;
 
 /// The words are a line, or the program refuses them and reads nothing.
-fn is_line(rt: &impl Abort, got: &Got, want: bool) {
+fn is_line(rt: &(impl Abort + Wait), got: &Got, want: bool) {
     assert_eq!(rt; got.status, if want { 0 } else { 1 });
     assert_eq!(rt; got.usage, !want);
     assert_eq!(rt; got.log.bytes().starts_with(b"ciel: usage: "), !want);
 }
 
 /// Whether the word `s` and these are a line.
-fn checks(rt: &impl Abort, alloc: Global, more: &[&str], want: bool) -> Result<(), Fail> {
-    let got = over(alloc, "return 1;", more, bytes(alloc, "x")?)?;
+fn checks(rt: &(impl Abort + Wait), alloc: Global, more: &[&str], want: bool) -> Result<(), Fail> {
+    let got = over(rt, alloc, "return 1;", more, bytes(alloc, "x")?)?;
     is_line(rt, &got, want);
     Ok(())
 }
@@ -33,7 +34,7 @@ static GOOD: [&str; 8] = [
 ];
 
 static BAD: [&str; 10] = [
-    "a", "a=", "=f", "", "-a=f", ".a=f", "a b=f", "\u{e4}=f", "--trace", "-",
+    "a", "a=", "=f", "", "-a=f", ".a=f", "a b=f", "\u{e4}=f", "--traces", "-",
 ];
 
 #[test]
@@ -71,15 +72,15 @@ fn named(alloc: Global, name: &str, more: &str) -> Result<Txt, Fail> {
 }
 
 /// Whether these words are a line.
-fn judged(rt: &impl Abort, alloc: Global, words: &[Txt], want: bool) -> Result<(), Fail> {
+fn judged(rt: &(impl Abort + Wait), alloc: Global, words: &[Txt], want: bool) -> Result<(), Fail> {
     let mut files = SureFiles::new(alloc, files(alloc, "return 1;", bytes(alloc, "x")?)?)?;
-    let got = run(alloc, words, &mut files)?;
+    let got = run(rt, alloc, words, &mut files)?;
     is_line(rt, &got, want);
     Ok(())
 }
 
 /// Whether a name of 64 bytes and these more is one.
-fn long(rt: &impl Abort, alloc: Global, more: &str, want: bool) -> Result<(), Fail> {
+fn long(rt: &(impl Abort + Wait), alloc: Global, more: &str, want: bool) -> Result<(), Fail> {
     let mut words = words(alloc, &[])?;
     words.push(named(alloc, LONG, more)?)?;
     judged(rt, alloc, &words, want)

@@ -20,9 +20,9 @@ fn line_feeds(bytes: &[u8]) -> usize
     memchr_iter(b'\n', bytes).count()
 }
 
-// One for each line feed, and one for a last line that has none.
+/// The number of lines: one for each line feed, and one for a last line that has none. It takes no memory.
 #[tactic(auto, using(crate::proofs::OpenLaw::opens))]
-fn lines_in(bytes: &[u8]) -> usize
+pub fn lines_in(bytes: &[u8]) -> usize
     ensures value { result ≡ length (lines bytes.now) }
     ensures bound { result ≤ 2 ^ 63 }
 {

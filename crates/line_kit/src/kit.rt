@@ -93,6 +93,7 @@ fn with_args(
 /// for arguments that are no dictionary, NoKey for a missing key, BadKind for another key or a value of another
 /// kind, BadLine for a line of `sum` or `half` without its number of at most 64 signed bits, Overflow for a sum
 /// above 9,223,372,036,854,775,807, TooLarge for an output of more than 67,108,864 bytes.
+#[derive(Clone, Copy, Debug, Drop)]
 pub struct LineKit;
 
 impl Kit for LineKit {

@@ -2,7 +2,7 @@
 #![tactic(auto)]
 
 mod arguments;
-mod counts;
+pub mod counts;
 pub mod executor;
 pub mod kit;
 pub mod laws;

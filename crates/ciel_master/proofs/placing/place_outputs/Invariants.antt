@@ -1,7 +1,7 @@
 use Rattle.std.proofs.Common.{◌≡◌, drop, map}
 use Rattle.ciel_board.specs.Moves.{with_outputs}
 use Rattle.ciel_journal.specs.Job.{Each}
-use Rattle.ciel_master.specs.Views.{worker_of}
+use Rattle.ciel_bring.specs.Brings.{worker_of}
 use Rattle.ciel_task.specs.Views.{output_view}
 use Rattle.ciel_table.specs.Seen.{Known}
 use Rattle.ciel_table.specs.Sound.{Here}

@@ -1,8 +1,7 @@
--- The message, or where the log failed a part of it.
-use Rattle.ciel_run.specs.Message.{message_of}
-use Rattle.ciel_run.proofs.Pieces.{part_of}
+-- The journal's text, and the message behind it.
+use Rattle.ciel_run.proofs.Over.{both_parts}
 use Rattle.ciel_run.proofs.top.tell.Goals as goal
 
 pub returns-clause-message_part : goal.returns-clause-message_part
 returns-clause-message_part g c =
-    part_of c.put_message.result (g.J.Sink.written c.args.log.now) (g.J.Sink.written c.put_message.new.log) (message_of c.args.why.now) c.put_message.ensures.written c.put_message.ensures.part
+    both_parts _ _ _ _ _ c.put_trace.result c.put_message.result c.put_trace.ensures.written c.put_trace.ensures.part c.put_message.ensures.written c.put_message.ensures.part

@@ -12,4 +12,4 @@ invariant_of-self-2 g c =
     let i = c.self.inside in
     let n = (arc_value i.shop).namer in
     let b = board_of i.plan (arc_value i.shop).job.script.keys i.main i.table i.orders.items i.starts i.closes i.journal.items i.stopped in
-    λ run. (going_started g.N.Namer.digest c.args.self.now n (arc_value i.shop).shelves b c.self.view_is i.lost.items (vec_capacity i.journal) (vec_capacity i.lost) i.marker c.self.invariant c.requires.going c.args.task.now c.args.worker c.in_ok-order.order.from c.requires.runnable c.requires.idle (map kept_view c.begin.new.orders.items) (map entry_view c.begin.new.journal.items) (ap (λ (z : Order P). z.out.from) c.in_ok-order.ensures) c.in_ok-begin.ensures.orders c.in_ok-begin.ensures.journal, gone_now g.N.Namer.digest c.args.self.now n (arc_value i.shop).shelves b c.self.view_is i.lost.items (vec_capacity i.journal) (vec_capacity i.lost) i.marker c.self.invariant c.requires.going, room_written g.N.Namer.digest c.args.self.now n (arc_value i.shop).shelves b c.self.view_is i.lost.items (vec_capacity i.journal) (vec_capacity i.lost) i.marker c.self.invariant c.requires.going c.begin.new.journal.items c.len-room.result (vec_capacity c.begin.new.journal) c.len-room.ensures.len c.in_ok-begin.ensures.room, marked_now g.N.Namer.digest c.args.self.now n (arc_value i.shop).shelves b c.self.view_is i.lost.items (vec_capacity i.journal) (vec_capacity i.lost) i.marker c.self.invariant c.requires.going)
+    λ run. (going_started g.N.Namer.digest c.args.self.now n (arc_value i.shop).shelves b c.self.view_is i.lost.items (vec_capacity i.journal) (vec_capacity i.lost) i.marker c.self.invariant c.requires.going c.args.task.now c.args.worker c.in_ok-order.order.from c.requires.runnable c.requires.idle (map kept_view c.begin.new.orders.items) (map entry_view c.begin.new.journal.items) (ap (λ (z : Order P). z.out.from) c.in_ok-order.ensures.order) c.in_ok-begin.ensures.orders c.in_ok-begin.ensures.journal, gone_now g.N.Namer.digest c.args.self.now n (arc_value i.shop).shelves b c.self.view_is i.lost.items (vec_capacity i.journal) (vec_capacity i.lost) i.marker c.self.invariant c.requires.going, room_written g.N.Namer.digest c.args.self.now n (arc_value i.shop).shelves b c.self.view_is i.lost.items (vec_capacity i.journal) (vec_capacity i.lost) i.marker c.self.invariant c.requires.going c.begin.new.journal.items c.len-room.result (vec_capacity c.begin.new.journal) c.len-room.ensures.len c.in_ok-begin.ensures.room, marked_now g.N.Namer.digest c.args.self.now n (arc_value i.shop).shelves b c.self.view_is i.lost.items (vec_capacity i.journal) (vec_capacity i.lost) i.marker c.self.invariant c.requires.going)

@@ -1,0 +1,6 @@
+mod Slots
+mod Telling
+mod Turns
+mod Reports
+mod Over
+mod Modest

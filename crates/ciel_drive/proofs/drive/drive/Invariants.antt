@@ -1,0 +1,16 @@
+use Rattle.std.proofs.Common.{◌≡◌}
+use Rattle.ciel_drive.specs.Kept.{Kept, left}
+use Rattle.ciel_drive.specs.Told.{ToldOn}
+use Rattle.ciel_drive.proofs.drive.drive.Given as goal
+
+abbrev pub invariant-run : goal.invariant-run
+invariant-run g l =
+    record {
+      kept : Kept g.K.Kit.gives g.N.Namer.digest (g.C.Crew.shop l.crew) (g.C.Crew.is_sound l.crew) l.master (g.C.Crew.out l.crew) l.state;
+      plan : l.master.board.plan ≡ l.fn.master.board.plan;
+      shop : g.C.Crew.shop l.crew ≡ g.C.Crew.shop l.fn.crew;
+      told : ToldOn l.fn.master.board.journal l.master.board.journal (g.C.Crew.told l.fn.crew) (g.C.Crew.told l.crew);
+    }
+
+abbrev pub decreases-run : goal.decreases-run
+decreases-run g l = left l.master (g.C.Crew.out l.crew)

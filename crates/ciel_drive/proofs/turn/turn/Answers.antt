@@ -1,0 +1,13 @@
+use Rattle.std.proofs.Common.{sym, ◌∙◌, arith, eqb-true}
+use Rattle.std.proofs.lemmas.List.{nil_from_length}
+use Rattle.ciel_drive.proofs.Over.{all_lost, some_busy}
+use Rattle.ciel_drive.proofs.turn.turn.Goals as goal
+
+pub returns-then-all_lost-clause-end : goal.returns-then-all_lost-clause-end
+returns-then-all_lost-clause-end g c = all_lost c.requires.kept (c.all_lost.ensures.all c.if-all_lost.true)
+
+pub take_one-requires-clause-some_out : goal.take_one-requires-clause-some_out
+take_one-requires-clause-some_out g c =
+    let idle = c.in-Ok.idle in
+    let none = nil_from_length idle.items (omega (arith, idle.ok.0, eqb-true _ 0 (sym c.is_empty.ensures ∙ c.if-is_empty.true))) in
+    some_busy c.requires.kept (c.all_lost.ensures.some c.if-all_lost.false) c.in-Ok.ensures.idle none

@@ -1,0 +1,172 @@
+//! The turns of a run: a loss, a start, a report, or the end.
+
+ghost use Rattle.std.specs.Prelude.{◌≡◌, ◌≢◌, ◌<◌, ℕ, [], IfErr, OnOk, length, true};
+ghost use Rattle.ciel_board.specs.Board.{idle_of};
+ghost use Rattle.ciel_board.specs.Driving.{CanRun, Quiet, RestsNow};
+ghost use Rattle.ciel_drive.specs.Ended.{Ended};
+ghost use Rattle.ciel_drive.specs.Kept.{Kept, left};
+ghost use Rattle.ciel_drive.specs.Told.{ToldOn};
+ghost use Rattle.ciel_journal.specs.Turns.{FirstDue};
+ghost use Rattle.ciel_master.specs.declared.stop.RunEnd.{RunEnd as End};
+
+use crate::draws::pick;
+use ciel_crew::crew::Crew;
+use ciel_master::master::Master;
+use ciel_master::stop::{Now, RunEnd, Stop};
+use ciel_name::name::Namer;
+use ciel_orders::{orders_are_sound, places_stay, rows_stay};
+use sky_base::kit::Kit;
+use sky_base::object::TaskId;
+
+/// Carries out a loss.
+fn lose_one<K: Kit + Drop, N: Namer + Drop, C: Crew<K = K, N = N>>(
+    master: &mut Master<K, N>,
+    crew: &C,
+    state: u64,
+    loss: u32,
+)
+    requires kept { Kept K.gives N.digest (C.shop crew.now) (C.is_sound crew.now) master.old (C.out crew.now) state }
+    requires due { (worker : ℕ) × FirstDue master.old.board.plan.losses master.old.board.closes master.old.board.table.gone loss worker }
+    ensures kept { Kept K.gives N.digest (C.shop crew.now) (C.is_sound crew.now) master.new (C.out crew.now) state }
+    ensures less { left master.new (C.out crew.now) < left master.old (C.out crew.now) }
+    ensures plan { master.new.board.plan ≡ master.old.board.plan }
+    ensures told { ToldOn master.old.board.journal master.new.board.journal (C.told crew.now) (C.told crew.now) }
+{
+    places_stay();
+    rows_stay();
+    master.lose(loss);
+}
+
+/// Starts the task that one draw picks at the worker that the next picks, and sends its order.
+fn start_one<K: Kit + Drop, N: Namer + Drop, C: Crew<K = K, N = N>>(
+    master: &mut Master<K, N>,
+    crew: &mut C,
+    state: &mut u64,
+    tasks: &[TaskId],
+    idle: &[u32],
+) -> Result<(), RunEnd>
+    requires kept { Kept K.gives N.digest (C.shop crew.old) (C.is_sound crew.old) master.old (C.out crew.old) state.old }
+    requires quiet { Quiet master.old.board }
+    requires tasks { CanRun master.old.board tasks.now }
+    requires some_task { 0 < length tasks.now }
+    requires idle { idle.now ≡ idle_of master.old.board }
+    requires some_worker { 0 < length idle.now }
+    ensures kept { OnOk result (Kept K.gives N.digest (C.shop crew.new) (C.is_sound crew.new) master.new (C.out crew.new) state.new) }
+    ensures less { OnOk result (left master.new (C.out crew.new) < left master.old (C.out crew.old)) }
+    ensures plan { OnOk result (master.new.board.plan ≡ master.old.board.plan) }
+    ensures told { OnOk result (ToldOn master.old.board.journal master.new.board.journal (C.told crew.old) (C.told crew.new)) }
+    ensures shop { C.shop crew.new ≡ C.shop crew.old }
+    ensures memory { IfErr result (λ e. e ≡ End.Memory) }
+    ensures end { IfErr result (λ e. Ended K.gives N.digest (C.shop crew.old) master.old.board.plan master.new.board.journal e) }
+{
+    orders_are_sound();
+    rows_stay();
+    let task = pick(state, tasks.len());
+    let worker = pick(state, idle.len());
+    let order = match master.start(&tasks[task], idle[worker]) {
+        Ok(order) => order,
+        Err(_) => return Err(RunEnd::Memory),
+    };
+    match crew.send(order) {
+        Ok(()) => Ok(()),
+        Err(_) => Err(RunEnd::Memory),
+    }
+}
+
+/// Takes one report. One whose order isn't out any more is thrown away.
+fn take_one<K: Kit + Drop, N: Namer + Drop, C: Crew<K = K, N = N>>(
+    master: &mut Master<K, N>,
+    crew: &mut C,
+    state: u64,
+) -> Result<(), RunEnd>
+    requires kept { Kept K.gives N.digest (C.shop crew.old) (C.is_sound crew.old) master.old (C.out crew.old) state }
+    requires rests { RestsNow master.old.board }
+    requires some_out { 0 < length master.old.board.orders }
+    ensures kept { OnOk result (Kept K.gives N.digest (C.shop crew.new) (C.is_sound crew.new) master.new (C.out crew.new) state) }
+    ensures less { OnOk result (left master.new (C.out crew.new) < left master.old (C.out crew.old)) }
+    ensures plan { OnOk result (master.new.board.plan ≡ master.old.board.plan) }
+    ensures told { OnOk result (ToldOn master.old.board.journal master.new.board.journal (C.told crew.old) (C.told crew.new)) }
+    ensures shop { C.shop crew.new ≡ C.shop crew.old }
+    ensures end { IfErr result (λ e. Ended K.gives N.digest (C.shop crew.old) master.old.board.plan master.new.board.journal e) }
+    ensures sound { IfErr result (λ e. e ≢ End.Memory → C.is_sound crew.new ≡ true) }
+    ensures last { IfErr result (λ e. e ≢ End.Memory → ToldOn master.old.board.journal master.new.board.journal (C.told crew.old) (C.told crew.new)) }
+{
+    places_stay();
+    rows_stay();
+    let report = match crew.next() {
+        Ok(report) => report,
+        Err(_) => return Err(RunEnd::Memory),
+    };
+    if !master.is_out(report.number) {
+        return Ok(());
+    }
+    match master.accept(report) {
+        Ok(Now::Goes) => Ok(()),
+        Ok(Now::Answer(text)) => Err(RunEnd::Answer(text)),
+        Ok(Now::Fault(fault)) => Err(RunEnd::Fault(fault)),
+        Err(Stop::NameClash { kept, given }) => Err(RunEnd::NameClash { kept, given }),
+        Err(Stop::TooMany { held, given }) => Err(RunEnd::TooMany { held, given }),
+        Err(Stop::Memory) => Err(RunEnd::Memory),
+    }
+}
+
+/// The end where nothing is out and nothing can run.
+fn come_round<K: Kit + Drop, N: Namer + Drop, C: Crew<K = K, N = N>>(
+    master: &Master<K, N>,
+    crew: &C,
+    state: u64,
+) -> RunEnd
+    requires kept { Kept K.gives N.digest (C.shop crew.now) (C.is_sound crew.now) master.now (C.out crew.now) state }
+    requires none_out { master.now.board.orders ≡ [] }
+    requires none_runs { CanRun master.now.board [] }
+    ensures end { Ended K.gives N.digest (C.shop crew.now) master.now.board.plan master.now.board.journal result }
+{
+    match master.circle() {
+        Ok(Some(names)) => RunEnd::Endless(names),
+        Ok(None) => unreachable!(),
+        Err(_) => RunEnd::Memory,
+    }
+}
+
+/// One turn.
+pub(crate) fn turn<K: Kit + Drop, N: Namer + Drop, C: Crew<K = K, N = N>>(
+    master: &mut Master<K, N>,
+    crew: &mut C,
+    state: &mut u64,
+) -> Result<(), RunEnd>
+    requires kept { Kept K.gives N.digest (C.shop crew.old) (C.is_sound crew.old) master.old (C.out crew.old) state.old }
+    ensures kept { OnOk result (Kept K.gives N.digest (C.shop crew.new) (C.is_sound crew.new) master.new (C.out crew.new) state.new) }
+    ensures less { OnOk result (left master.new (C.out crew.new) < left master.old (C.out crew.old)) }
+    ensures plan { OnOk result (master.new.board.plan ≡ master.old.board.plan) }
+    ensures told { OnOk result (ToldOn master.old.board.journal master.new.board.journal (C.told crew.old) (C.told crew.new)) }
+    ensures shop { C.shop crew.new ≡ C.shop crew.old }
+    ensures end { IfErr result (λ e. Ended K.gives N.digest (C.shop crew.old) master.old.board.plan master.new.board.journal e) }
+    ensures sound { IfErr result (λ e. e ≢ End.Memory → C.is_sound crew.new ≡ true) }
+    ensures last { IfErr result (λ e. e ≢ End.Memory → ToldOn master.old.board.journal master.new.board.journal (C.told crew.old) (C.told crew.new)) }
+{
+    if let Some(loss) = master.due() {
+        lose_one(master, crew, *state, loss);
+        return Ok(());
+    }
+    if master.all_lost() {
+        return Err(RunEnd::AllLost);
+    }
+    let idle = match master.idle() {
+        Ok(idle) => idle,
+        Err(_) => return Err(RunEnd::Memory),
+    };
+    if idle.is_empty() {
+        return take_one(master, crew, *state);
+    }
+    let tasks = match master.runnable() {
+        Ok(tasks) => tasks,
+        Err(_) => return Err(RunEnd::Memory),
+    };
+    if !tasks.is_empty() {
+        return start_one(master, crew, state, tasks.as_slice(), idle.as_slice());
+    }
+    if master.is_at_rest() {
+        return Err(come_round(master, crew, *state));
+    }
+    take_one(master, crew, *state)
+}

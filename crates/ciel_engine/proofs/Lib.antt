@@ -1,0 +1,2 @@
+mod Began
+mod Lent

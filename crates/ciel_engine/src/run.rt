@@ -1,0 +1,145 @@
+//! The run of a job.
+
+ghost use Rattle.std.specs.Prelude.{[], ◌≡◌, ◌≢◌, ◌≤◌, ◌⊎◌, ◌++◌, ◌<◌, ◌^◌, ℕ, None, drop, length, map};
+ghost use Rattle.std.specs.Arc.{arc_value};
+ghost use Rattle.sky_base.specs.JobView.{job_view};
+ghost use Rattle.sky_onward.specs.Onward.{IsRead};
+ghost use Rattle.ciel_journal.specs.Job.{Each};
+ghost use Rattle.ciel_drive.specs.Ended.{EndsSo};
+ghost use Rattle.ciel_master.specs.Seen.{plan_view};
+ghost use Rattle.ciel_master.specs.Views.{entry_view};
+ghost use Rattle.ciel_master.specs.declared.stop.RunEnd.{RunEnd};
+ghost use Rattle.ciel_task.specs.Shop.{InputsInOrder};
+ghost use Rattle.ciel_engine.specs.Opened.{IsOpened, ShopOf};
+ghost use Rattle.ciel_drive.specs.Told.{ToldBy};
+ghost use Rattle.ciel_engine.specs.Told.{told_of};
+
+use crate::gates::{put_behind, set_aside};
+use crate::opening::{Opened, open};
+use ciel_crew::crew::Crew;
+use ciel_drive::drive::drive;
+use ciel_gate::gate::Gate;
+use ciel_inline::inline::Inline;
+use ciel_master::entry::Entry;
+use ciel_master::plan::RunPlan;
+use ciel_master::stop::RunEnd;
+use ciel_name::name::Namer;
+use ciel_orders::places_stay;
+use sky_base::job::Job;
+use sky_base::kit::Kit;
+use sky_base::text::Memory;
+use sky_params::law::functions_are_orderly;
+use std::alloc::Global;
+use std::mem;
+use std::snapshot::Snapshot;
+use std::sync::Wait;
+
+/// What a run came to: how it ended, and its journal.
+#[derive(Drop)]
+pub struct Ran {
+    pub end: RunEnd,
+    pub journal: Vec<Entry>,
+}
+
+/// Runs a job on as many workers as the plan has, each with its gate, to the end of the run. The first gates are the workers', and
+/// the others stay as they are.
+///
+/// There are 1 to 64 workers. The end is `Memory` for want of memory; the gates may then be fewer.
+pub fn run_job<K: Kit + Drop, N: Namer + Drop, G: Gate, R: Wait + Drop>(
+    rt: R,
+    alloc: Global,
+    job: Job,
+    kit: K,
+    namer: N,
+    gates: &mut Vec<G>,
+    plan: RunPlan,
+) -> Ran
+    requires read { IsRead (job_view job).script }
+    requires inputs { InputsInOrder (job_view job) }
+    requires keys { length job.script.keys < 2 ^ 32 }
+    requires workers { (0 < plan.workers) × (plan.workers ≤ 64) }
+    requires gates { plan.workers ≤ length gates.old.items }
+    requires losses { Each (λ (loss : ℕ × ℕ). loss.1 < plan.workers) plan.losses }
+    ensures end { EndsSo (N.digest namer) (job_view job) (K.gives kit) (plan_view plan) (map entry_view result.journal.items) result.end }
+    ensures told { result.end ≢ RunEnd.Memory → ToldBy (map entry_view result.journal.items) (told_of G.entered plan.workers gates.old.items) (told_of G.entered plan.workers gates.new.items) }
+    ensures others { result.end ≢ RunEnd.Memory → drop plan.workers gates.new.items ≡ drop plan.workers gates.old.items }
+    ensures all { result.end ≢ RunEnd.Memory → length gates.new.items ≡ length gates.old.items }
+{
+    let workers = plan.workers as usize;
+    let seed = plan.seed;
+    let planned = Snapshot::of(&plan);
+    let Ok(opened) = open(alloc, job, kit, namer, plan) else {
+        return not_begun(alloc);
+    };
+    let Ok(others) = set_aside(gates, workers) else {
+        return not_begun(alloc);
+    };
+    let own = mem::replace(gates, Vec::new(alloc));
+    let (ran, back) = run_opened(rt, alloc, opened, own, planned, seed);
+    let (ran, all) = put_back(ran, back, others);
+    *gates = all;
+    ran
+}
+
+/// Puts the other gates back behind the workers'. Where there is no memory for it, the run ends so.
+fn put_back<G: Drop>(ran: Ran, mut gates: Vec<G>, mut others: Vec<G>) -> (Ran, Vec<G>)
+    ensures journal { result.0.journal ≡ ran.journal }
+    ensures end { (result.0.end ≡ ran.end) ⊎ (result.0.end ≡ RunEnd.Memory) }
+    ensures gates { result.0.end ≢ RunEnd.Memory → result.1.items ≡ gates.items ++ others.items }
+{
+    match put_behind(&mut gates, &mut others) {
+        Ok(()) => (ran, gates),
+        Err(Memory) => {
+            let Ran { journal, .. } = ran;
+            let end = RunEnd::Memory;
+            (Ran { end, journal }, gates)
+        }
+    }
+}
+
+/// A run that didn't begin, for want of memory.
+fn not_begun(alloc: Global) -> Ran
+    ensures end { result.end ≡ RunEnd.Memory }
+    ensures empty { result.journal.items ≡ [] }
+{
+    Ran {
+        end: RunEnd::Memory,
+        journal: Vec::new(alloc),
+    }
+}
+
+/// Runs what was opened, with the workers' gates, and hands these back.
+fn run_opened<K: Kit + Drop, N: Namer + Drop, G: Gate, R: Wait + Drop>(
+    rt: R,
+    alloc: Global,
+    opened: Opened<K, N>,
+    gates: Vec<G>,
+    plan: Snapshot<RunPlan>,
+    seed: u64,
+) -> (Ran, Vec<G>)
+    requires opened { IsOpened N.digest plan.value (arc_value opened.shop) opened.master opened.eyes.items }
+    requires read { IsRead (job_view (arc_value opened.shop).job).script }
+    requires inputs { InputsInOrder (job_view (arc_value opened.shop).job) }
+    requires seed { seed ≡ plan.value.seed }
+    requires gates { length gates.items ≡ plan.value.workers }
+    ensures end { EndsSo (N.digest (arc_value opened.shop).namer) (job_view (arc_value opened.shop).job) (K.gives (arc_value opened.shop).kit) (plan_view plan.value) (map entry_view result.0.journal.items) result.0.end }
+    ensures told { result.0.end ≢ RunEnd.Memory → ToldBy (map entry_view result.0.journal.items) (map G.entered gates.items) (map G.entered result.1.items) }
+    ensures all { result.0.end ≢ RunEnd.Memory → length result.1.items ≡ length gates.items }
+{
+    functions_are_orderly();
+    places_stay();
+    let Opened {
+        shop,
+        mut master,
+        eyes,
+    } = opened;
+    match Inline::open(rt, alloc, shop, gates, eyes) {
+        Ok(mut crew) => {
+            let end = drive(&mut master, &mut crew, seed);
+            let gates = crew.close();
+            let journal = master.into_journal();
+            (Ran { end, journal }, gates)
+        }
+        Err((gates, Memory)) => (not_begun(alloc), gates),
+    }
+}

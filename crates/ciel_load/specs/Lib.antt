@@ -1,0 +1,6 @@
+pub mod Line
+pub mod Found
+pub mod Reading
+pub mod Syntax
+pub mod Loading
+pub mod Generated

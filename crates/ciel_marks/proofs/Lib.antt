@@ -1,0 +1,13 @@
+pub mod Slots
+pub mod Settling
+pub mod Rises
+pub mod Keeping
+pub mod Going
+pub mod Starting
+pub mod Wanting
+pub mod Counting
+pub mod Opening
+pub mod Placing
+pub mod Closing
+pub mod Adding
+pub mod Beginning

@@ -1,0 +1,179 @@
+-- Where a job means an answer and makes few descriptions, no two of which share a name, and some worker stays, no end comes but its answer.
+use Rattle.std.proofs.Common.{◌≡◌, ◌≢◌, ◌≤◌, ◌<◌, ◌⊎◌, inl, inr, ℕ, zero, suc, List, [], ◌∷◌, true, false, Option, Some, None, length, refl, sym, ap, subst, ◌∙◌, arith}
+use Rattle.sky_base.specs.See as s
+use Rattle.sky_base.specs.See.{Answered}
+use Rattle.sky_law.specs.Tasks as t
+use Rattle.sky_params.specs.Orderly.{FunctionsAreOrderly}
+use Rattle.sky_plain.specs.Needs as p
+use Rattle.ciel_drive.specs.Ended.{EndsSo, HasAnswer, ModestRunsAnswer, SomeStays}
+use Rattle.ciel_ends.specs.Ends.{IsModest, IsOrderly}
+use Rattle.ciel_journal.specs.Entries.{Entry}
+use Rattle.ciel_journal.specs.Journals.{DrivenJournal}
+use Rattle.ciel_load.specs.Line.{Input, keys_of}
+use Rattle.ciel_load.specs.declared.script.SyntaxKind.{SyntaxKind}
+use Rattle.ciel_master.specs.Seen.{most_descriptions}
+use Rattle.ciel_master.specs.declared.stop.RunEnd.{RunEnd}
+use Rattle.ciel_words.specs.declared.words.Words.{Words}
+use Rattle.line_kit.specs.Gives.{gives}
+use Rattle.sky_parse.specs.Source.{IsScript}
+use Rattle.sky_base.specs.Tree.{Script}
+use Rattle.ciel_lines.specs.Causes.{CauseOf, JobCause}
+use Rattle.ciel_run.specs.Ending.{Answers, EndCause, IsAnswered}
+use Rattle.ciel_lines.specs.Line.{FitsIn, OfLine, StandsIn, files_of}
+use Rattle.ciel_lines.specs.Runs.{IsDriven, IsModestFor, digest_of, plan_of, told_of}
+use Rattle.ciel_lines.specs.Source.{OfJob, job_of, over_lines}
+use Rattle.ciel_why.specs.declared.why.Why.{Why}
+use Rattle.ciel_run.proofs.Exact.{same_script, script_is_run}
+use Rattle.ciel_run.proofs.Over.{source_of, too_long_in}
+
+-- ---- distinct members of a list are no more than it has
+
+module _ {A : Type 0} where
+  record Without (x : A) (all : List A) : Type 0 where
+    rest : List A
+    shorter : length all ≡ suc (length rest)
+    left : (y : A) → t.In y all → (y ≡ x) ⊎ t.In y rest
+
+  without : (x : A) (all : List A) → t.In x all → Without x all
+  without x [] i = absurd i
+  without x (a ∷ all) (inl e) = record {
+    rest = all;
+    shorter = refl;
+    left = λ y j. of y j;
+  }
+    where
+      of : (y : A) → t.In y (a ∷ all) → (y ≡ x) ⊎ t.In y all
+      of y (inl f) = inl (f ∙ sym e)
+      of y (inr j) = inr j
+  without x (a ∷ all) (inr i) =
+      let u = without x all i in record {
+        rest = a ∷ u.rest;
+        shorter = ap suc u.shorter;
+        left = λ y j. of u y j;
+      }
+    where
+      of : (u : Without x all) (y : A) → t.In y (a ∷ all) → (y ≡ x) ⊎ t.In y (a ∷ u.rest)
+      of u y (inl f) = inr (inl f)
+      of u y (inr j) = on (u.left y j)
+        where
+          on : (y ≡ x) ⊎ t.In y u.rest → (y ≡ x) ⊎ t.In y (a ∷ u.rest)
+          on (inl e) = inl e
+          on (inr k) = inr (inr k)
+
+  fewer : (ds all : List A) → t.Apart ds → t.Each (λ d. t.In d all) ds → length ds ≤ length all
+  fewer [] all a e = omega arith
+  fewer (d ∷ ds) all a e =
+      let u = without d all e.0 in
+      let k = fewer ds u.rest a.1 (each ds u a.0 e.1) in
+      let l = u.shorter in
+      omega (arith, k, l)
+    where
+      each : (ds : List A) (u : Without d all) → (t.In d ds → ⊥) → t.Each (λ c. t.In c all) ds → t.Each (λ c. t.In c u.rest) ds
+      each [] u n e = tt
+      each (c ∷ ds) u n e = (on (u.left c e.0), each ds u (λ i. n (inr i)) e.1)
+        where
+          on : (c ≡ d) ⊎ t.In c u.rest → t.In c u.rest
+          on (inl f) = absurd (n (inl (sym f)))
+          on (inr k) = k
+
+-- ---- of a job
+
+module _ (digest : List ℕ → List ℕ) (job : s.Job) where
+  made_in_all : (m : IsModest digest job gives most_descriptions) (d : s.Desc) → p.Makes job over_lines d → t.In d m.all
+  made_in_all m d (inl e) = m.made d (inl e)
+  made_in_all m d (inr x) = m.made d (inr (x.0, x.2, x.1, x.3))
+
+  all_made : (m : IsModest digest job gives most_descriptions) (ds : List s.Desc) → t.Each (p.Makes job over_lines) ds → t.Each (λ d. t.In d m.all) ds
+  all_made m [] e = tt
+  all_made m (d ∷ ds) e = (made_in_all m d e.0, all_made m ds e.1)
+
+  pub not_many : IsModest digest job gives most_descriptions → p.MakesMany job over_lines 65537 → ⊥
+  not_many m x =
+      let k = fewer x.0 m.all x.2 (all_made m x.0 x.3) in
+      let f = m.few in
+      let l = x.1 in
+      omega (arith, k, f, l)
+
+-- the end of a run with this cause
+module _ (w : Words) (job : s.Job) (J : List Entry) where
+  driven_or : (J ≡ []) ⊎ DrivenJournal (told_of w job) (plan_of w) J → DrivenJournal (told_of w job) (plan_of w) J
+  driven_or (inl e) = ([], tt, sym e)
+  driven_or (inr d) = d
+
+  module _ (laws : ModestRunsAnswer) (orderly : IsOrderly (digest_of w.names) job gives) (m : IsModest (digest_of w.names) job gives most_descriptions) (stays : SomeStays (plan_of w)) (d : DrivenJournal (told_of w job) (plan_of w) J) where
+    has : (end : RunEnd) → EndsSo (digest_of w.names) job gives (plan_of w) J end → HasAnswer end
+    has end e = laws (digest_of w.names) job gives orderly (plan_of w) m stays J end e
+
+    pub no_other : (why : Why) → JobCause w J job why → IsAnswered w.plain why
+    no_other (Why.Fault fault) c = tt
+    no_other Why.Memory c = tt
+    no_other (Why.TooDeepPlain depth) c = c.0
+    no_other (Why.Endless names) c = has (RunEnd.Endless names) (record { driven = d; cause = (c.1, c.2) })
+    no_other (Why.TooMany held None) c = not_many (digest_of w.names) job m c.2
+    no_other (Why.TooMany held (Some given)) c = has (RunEnd.TooMany held given) (record { driven = d; cause = (c.2.0, sym c.2.1, c.2.2) })
+    no_other Why.AllLost c = has RunEnd.AllLost (record { driven = d; cause = c.1 })
+    no_other (Why.NameClash kept given) c = has (RunEnd.NameClash kept given) (record { driven = d; cause = c.1 })
+    no_other Why.Done c = tt
+    no_other Why.Usage c = c
+    no_other (Why.Syntax kind line col) c = c
+    no_other (Why.ReadFault path) c = c
+    no_other Why.WriteFault c = c
+    no_other (Why.TooLongInput path at) c = c
+
+-- ---- of a line
+
+module _ (content : List ℕ → Option (List ℕ)) (w : Words) (risen : Type 0) (J : List Entry) (laws : ModestRunsAnswer) (functions : FunctionsAreOrderly) where
+  -- a cause said of one script of the bytes is said of the one whose job is modest
+  same_job : (source : List ℕ) (inputs : List Input) (P : s.Job → Type 0) (script : Script) → IsScript source (keys_of inputs) script → OfJob source inputs P → P (job_of script inputs)
+  same_job source inputs P script is o =
+      subst (λ (x : Script). P (job_of x inputs)) (same_script source (keys_of inputs) o.0 script o.1 is) o.2
+
+  module _ (source : List ℕ) (inputs : List Input) (m : IsModestFor w source inputs) (stays : SomeStays (plan_of w)) (driven : IsDriven w source inputs J) where
+    abbrev job : s.Job
+    job = job_of m.0 inputs
+
+    d : DrivenJournal (told_of w job) (plan_of w) J
+    d = of driven
+      where
+        of : IsDriven w source inputs J → DrivenJournal (told_of w job) (plan_of w) J
+        of (inl e) = driven_or w job J (inl e)
+        of (inr x) = same_job source inputs (λ j. DrivenJournal (told_of w j) (plan_of w) J) m.0 m.1 x
+
+    one : (why : Why) → JobCause w J job why → IsAnswered w.plain why
+    one why c = no_other w job J laws (functions source (keys_of inputs) m.0 m.1) m.2 stays d why c
+
+    pub answered : (why : Why) → OfJob source inputs (λ j. JobCause w J j why) → IsAnswered w.plain why
+    answered why o = one why (same_job source inputs (λ j. JobCause w J j why) m.0 m.1 o)
+
+    pub lost_answered : JobCause w J job Why.AllLost → IsAnswered w.plain Why.AllLost
+    lost_answered c = one Why.AllLost c
+
+  -- bytes that are a script within the limits are refused neither as none nor as too long
+  no_syntax : (kind : SyntaxKind) (l c : ℕ) → CauseOf content w risen J (Why.Syntax kind l c) → (source : List ℕ) (inputs : List Input)
+      → StandsIn content (files_of w) w.generate source inputs → FitsIn (files_of w) source inputs → (script : Script) → IsScript source (keys_of inputs) script → ⊥
+  no_syntax kind l c x source inputs st fits script is =
+      script_is_run w source inputs script is fits (Why.Syntax kind l c) (x source (source_of content w (files_of w) w.generate source inputs st))
+
+  no_too_long : (path : List ℕ) (at : ℕ) → CauseOf content w risen J (Why.TooLongInput path at) → (source : List ℕ) (inputs : List Input)
+      → StandsIn content (files_of w) w.generate source inputs → FitsIn (files_of w) source inputs → (script : Script) → IsScript source (keys_of inputs) script → ⊥
+  no_too_long path at x source inputs st fits script is =
+      script_is_run w source inputs script is fits (Why.TooLongInput path at) (too_long_in content w (files_of w) w.generate source inputs path at st x)
+
+  pub answers : (why : Why) → EndCause content w risen J why → ¬ risen → (why ≡ Why.WriteFault → ⊥) → OfLine content w (λ source inputs. IsDriven w source inputs J)
+      → OfLine content w (λ source inputs. Answers w source inputs why)
+  answers Why.Done c quiet nw dr source inputs st fits m stays = tt
+  answers Why.WriteFault c quiet nw dr source inputs st fits m stays = absurd (nw refl)
+  answers Why.Memory c quiet nw dr source inputs st fits m stays = tt
+  answers (Why.Fault fault) c quiet nw dr source inputs st fits m stays = tt
+  answers (Why.TooDeepPlain depth) c quiet nw dr source inputs st fits m stays = c.0
+  answers (Why.Endless names) c quiet nw dr source inputs st fits m stays =
+      answered source inputs m stays (dr source inputs st) (Why.Endless names) (c source inputs st).1
+  answers (Why.TooMany held given) c quiet nw dr source inputs st fits m stays =
+      answered source inputs m stays (dr source inputs st) (Why.TooMany held given) (c source inputs st).1
+  answers (Why.NameClash kept given) c quiet nw dr source inputs st fits m stays =
+      answered source inputs m stays (dr source inputs st) (Why.NameClash kept given) (c source inputs st).1
+  answers Why.AllLost c quiet nw dr source inputs st fits m stays = lost_answered source inputs m stays (dr source inputs st) (c.0, c.1)
+  answers (Why.Syntax kind l k) c quiet nw dr source inputs st fits m stays = absurd (no_syntax kind l k c source inputs st fits m.0 m.1)
+  answers (Why.TooLongInput path at) c quiet nw dr source inputs st fits m stays = absurd (no_too_long path at c source inputs st fits m.0 m.1)
+  answers (Why.ReadFault path) c quiet nw dr source inputs st fits m stays = absurd (quiet c.1)
+  answers Why.Usage c quiet nw dr source inputs st fits m stays = absurd c

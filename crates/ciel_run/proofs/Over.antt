@@ -1,0 +1,228 @@
+-- From a line to the words that are it, and to each end's cause.
+use Rattle.std.proofs.Common.{◌≡◌, ◌≢◌, ◌≤◌, ◌<◌, ◌⊎◌, inl, inr, ℕ, zero, suc, ◌+◌, List, [], ◌∷◌, ◌++◌, true, false, Option, Some, None, Result, Ok, Err, OnErr, OnOk, Contains, length, take, refl, sym, ap, subst, ◌∙◌, arith}
+use Rattle.std.proofs.lemmas.List.{append-nil, take_all}
+use Rattle.sky_base.specs.See as s
+use Rattle.sky_base.specs.See.{Answered}
+use Rattle.sky_law.specs.Tasks as t
+use Rattle.sky_params.specs.Orderly.{FunctionsAreOrderly}
+use Rattle.sky_plain.specs.Needs as p
+use Rattle.ciel_drive.specs.Ended.{EndsSo, HasAnswer, ModestRunsAnswer, SomeStays}
+use Rattle.ciel_ends.specs.Ends.{IsModest, IsOrderly, MadeBy}
+use Rattle.ciel_io.specs.Faults.{HasRisen}
+use Rattle.ciel_io.specs.Tells.{Tells, TellsPart}
+use Rattle.ciel_io.proofs.Joined.{part_whole, tells_more, tells_none}
+use Rattle.ciel_journal.specs.Entries.{Entry}
+use Rattle.ciel_journal.specs.Journals.{DrivenJournal}
+use Rattle.ciel_load.specs.Found.{Holds}
+use Rattle.ciel_load.specs.Line as files
+use Rattle.ciel_load.specs.Line.{Input, keys_of}
+use Rattle.ciel_load.specs.Syntax.{IsSyntaxFault}
+use Rattle.ciel_load.specs.declared.script.SyntaxKind.{SyntaxKind}
+use Rattle.ciel_master.specs.Seen.{most_descriptions}
+use Rattle.ciel_master.specs.declared.stop.RunEnd.{RunEnd}
+use Rattle.ciel_words.specs.Line.{line_of}
+use Rattle.ciel_words.specs.declared.words.Words.{Words}
+use Rattle.line_kit.specs.Gives.{gives}
+use Rattle.ciel_lines.specs.Causes.{CauseOf, IsTooDeep, JobCause, OfRun, TooLongOf}
+use Rattle.ciel_run.specs.Ending.{Answers, EndCause, IfReadFault, IfTooDeep, IsAnswered, IsExpected, MayEnd, TellsParts, TooLongIn, Writes, WritesAnswer, WritesPart}
+use Rattle.ciel_lines.specs.Line.{FitsIn, OfLine, OfSource, OverFiles, SourceFits, SourceIn, StandsIn, files_of, paths}
+use Rattle.ciel_lines.specs.Runs.{IsDriven, IsModestFor, digest_of, plan_of, told_of}
+use Rattle.ciel_lines.specs.Source.{IsAnswer, OfJob, job_of, over_lines}
+use Rattle.ciel_why.specs.declared.why.Why.{Why}
+use Rattle.ciel_run.proofs.Exact.{same_script}
+
+-- ---- the line that the words are
+
+pub over_line : (words : List (List ℕ)) (line : Words) (P : Words → Type 0) → line_of words ≡ Some line → P line → (w : Words) → line_of words ≡ Some w → P w
+over_line words line P e p w f =
+    let both : Some line ≡ Some w = sym e ∙ f in
+    let same : line ≡ w = cc in
+    subst P same p
+
+pub at_line : (words : List (List ℕ)) (line : Words) (P : Option Words → Type 0) → line_of words ≡ Some line → P (Some line) → P (line_of words)
+at_line words line P e p = subst P (sym e) p
+
+-- ---- counts of faults
+
+same_or_below : (f z : ℕ) → f ≤ z → (f ≡ z) ⊎ (f < z)
+same_or_below zero zero h = inl refl
+same_or_below zero (suc z) h = inr (omega arith)
+same_or_below (suc f) zero h = absurd (omega (arith, h))
+same_or_below (suc f) (suc z) h = up (same_or_below f z (omega (arith, h)))
+  where
+    up : (f ≡ z) ⊎ (f < z) → (suc f ≡ suc z) ⊎ (suc f < suc z)
+    up (inl e) = inl (ap suc e)
+    up (inr l) = inr (omega (arith, l))
+
+pub risen_on : (a f z : ℕ) → a ≤ f → f ≤ z → HasRisen a f → HasRisen a z
+risen_on a f z k h (inl r) = inl (omega (arith, h, r))
+risen_on a f z k h (inr r) = of (same_or_below f z h)
+  where
+    of : (f ≡ z) ⊎ (f < z) → HasRisen a z
+    of (inl e) = inr (sym e ∙ r)
+    of (inr l) = inl (omega (arith, k, l))
+
+pub risen_since : (a f z : ℕ) → a ≤ f → HasRisen f z → HasRisen a z
+risen_since a f z k (inl r) = inl (omega (arith, k, r))
+risen_since a f z k (inr r) = inr r
+
+-- ---- two texts on the log
+
+module _ (b m n : Option (List ℕ)) (text more : List ℕ) where
+  parts : TellsPart b m text → TellsPart m n more → TellsParts b n text more
+  parts x y = (x.0, y.0, tells_more b m n (take x.0 text) (take y.0 more) x.1 y.1)
+
+  part_then : {T E : Type 0} (r : Result T E) → OnOk r (Tells b m text) → OnErr r (TellsPart b m text) → TellsPart b m text
+  part_then (Ok x) w p = part_whole b m text w
+  part_then (Err x) w p = p
+
+  part_last : {T E : Type 0} (r : Result T E) → OnOk r (Tells m n more) → OnErr r (TellsPart m n more) → TellsPart m n more
+  part_last (Ok x) w p = part_whole m n more w
+  part_last (Err x) w p = p
+
+  pub both_parts : {T E U V : Type 0} (r : Result T E) (q : Result U V) → OnOk r (Tells b m text) → OnErr r (TellsPart b m text) → OnOk q (Tells m n more) → OnErr q (TellsPart m n more)
+      → TellsParts b n text more
+  both_parts r q w p x y = parts (part_then r w p) (part_last q x y)
+
+  whole : {T E U V : Type 0} (r : Result T E) (q : Result U V) (a f z : ℕ) → f ≤ z → a ≤ f → OnOk r (Tells b m text) → OnErr r (HasRisen a f) → OnOk q (Tells m n more) → OnErr q (HasRisen f z)
+      → ¬ HasRisen a z → Tells b n (text ++ more)
+  whole (Ok x) (Ok y) a f z h k w p u v quiet = tells_more b m n text more w u
+  whole (Err x) q a f z h k w p u v quiet = absurd (quiet (risen_on a f z k h p))
+  whole (Ok x) (Err y) a f z h k w p u v quiet = absurd (quiet (risen_since a f z k v))
+
+  pub both_whole : {T E U V : Type 0} (r : Result T E) (q : Result U V) (a f z : ℕ) → f ≤ z → a ≤ f → OnOk r (Tells b m text) → OnErr r (HasRisen a f) → OnOk q (Tells m n more) → OnErr q (HasRisen f z)
+      → ¬ HasRisen a z → Tells b n (text ++ more)
+  both_whole r q a f z h k w p u v quiet = whole r q a f z h k w p u v quiet
+
+-- ---- what is written
+
+module _ (content : List ℕ → Option (List ℕ)) (w : Words) where
+  -- the answer that is written is that of the script over the inputs
+  pub writes : (b n : Option (List ℕ)) → Writes content w (Tells b n) → OfLine content w (λ source inputs. WritesAnswer w source inputs b n)
+  writes b n x source inputs st = (x.0, (x.1 source inputs st).1, x.2)
+
+  pub writes_part : (b n : Option (List ℕ)) → Writes content w (TellsPart b n) → OfLine content w (λ source inputs. WritesPart w source inputs b n)
+  writes_part b n x source inputs st = (x.0, (x.1 source inputs st).1, x.2)
+
+  -- ---- which end is expected
+
+  -- a source that stands there stands with its inputs
+  pub source_of : (f : Option files.Line) (g : Option ℕ) (source : List ℕ) (inputs : List Input) → StandsIn content f g source inputs → SourceIn content f g source
+  source_of (Some f) g source inputs st = st.source_there
+  source_of None (Some lines) source inputs st = st.0
+  source_of None None source inputs st = absurd st
+
+  pub too_long_in : (f : Option files.Line) (g : Option ℕ) (source : List ℕ) (inputs : List Input) (path : List ℕ) (at : ℕ) → StandsIn content f g source inputs → TooLongOf content f path at
+      → TooLongIn f source inputs path at
+  too_long_in None g source inputs path at st t = absurd t
+  too_long_in (Some f) g source inputs path at st t = t.1 source inputs st
+
+  module _ (risen : Type 0) (J : List Entry) where
+    -- each end that isn't an answer written, by its cause
+    expected_of : (why : Why) → CauseOf content w risen J why → ¬ risen → (why ≢ Why.WriteFault) → OfLine content w (λ source inputs. IsExpected w source inputs why)
+    expected_of (Why.Syntax kind l c) x quiet nw source inputs st = x source (source_of (files_of w) w.generate source inputs st)
+    expected_of (Why.TooLongInput path at) x quiet nw source inputs st = too_long_in (files_of w) w.generate source inputs path at st x
+    expected_of Why.Memory x quiet nw source inputs st = tt
+    expected_of (Why.Fault fault) x quiet nw source inputs st = x source inputs st
+    expected_of (Why.Endless names) x quiet nw source inputs st =
+        let y = x source inputs st in (y.0, (y.1.0, y.1.1, y.1.2.2))
+    expected_of (Why.TooMany held None) x quiet nw source inputs st =
+        let y = x source inputs st in (y.0, (y.1.0, y.1.1, y.1.2.2))
+    expected_of (Why.TooMany held (Some given)) x quiet nw source inputs st =
+        let y = x source inputs st in (y.0, (y.1.0, y.1.1, tt))
+    expected_of Why.AllLost x quiet nw source inputs st = x.2 source inputs st
+    expected_of (Why.NameClash kept given) x quiet nw source inputs st =
+        let y = x source inputs st in (y.0, (y.1.0, y.1.1, tt))
+    expected_of (Why.TooDeepPlain depth) x quiet nw source inputs st =
+        let y = x.1 source inputs st in (y.0, (y.1.0, y.1.1, y.1.2.2))
+    expected_of (Why.ReadFault path) x quiet nw source inputs st = absurd (quiet x.1)
+    expected_of Why.Done x quiet nw source inputs st = absurd x
+    expected_of Why.Usage x quiet nw source inputs st = absurd x
+    expected_of Why.WriteFault x quiet nw source inputs st = absurd x
+
+    done_expected : (b n : Option (List ℕ)) → Writes content w (Tells b n) → OfLine content w (λ source inputs. IsExpected w source inputs Why.Done)
+    done_expected b n x source inputs st = ((x.1 source inputs st).0, (x.0, (x.1 source inputs st).1))
+
+    pub expected : (why : Why) (b n : Option (List ℕ)) → EndCause content w risen J why → (why ≡ Why.Done → Writes content w (Tells b n)) → ¬ risen → (why ≡ Why.WriteFault → ⊥)
+        → OfLine content w (λ source inputs. IsExpected w source inputs why)
+    expected Why.Done b n c d quiet nw = done_expected b n (d refl)
+    expected Why.WriteFault b n c d quiet nw = absurd (nw refl)
+    expected (Why.Syntax kind l k) b n c d quiet nw = expected_of (Why.Syntax kind l k) c quiet nw
+    expected (Why.TooLongInput path at) b n c d quiet nw = expected_of (Why.TooLongInput path at) c quiet nw
+    expected Why.Memory b n c d quiet nw = expected_of Why.Memory c quiet nw
+    expected (Why.Fault fault) b n c d quiet nw = expected_of (Why.Fault fault) c quiet nw
+    expected (Why.Endless names) b n c d quiet nw = expected_of (Why.Endless names) c quiet nw
+    expected (Why.TooMany held given) b n c d quiet nw = expected_of (Why.TooMany held given) c quiet nw
+    expected Why.AllLost b n c d quiet nw = expected_of Why.AllLost c quiet nw
+    expected (Why.NameClash kept given) b n c d quiet nw = expected_of (Why.NameClash kept given) c quiet nw
+    expected (Why.TooDeepPlain depth) b n c d quiet nw = expected_of (Why.TooDeepPlain depth) c quiet nw
+    expected (Why.ReadFault path) b n c d quiet nw = expected_of (Why.ReadFault path) c quiet nw
+    expected Why.Usage b n c d quiet nw = expected_of Why.Usage c quiet nw
+
+-- ---- causes, of the words
+
+module _ (content : List ℕ → Option (List ℕ)) (words : List (List ℕ)) (line : Words) (e : line_of words ≡ Some line) (risen : Type 0) (J : List Entry) where
+  pub too_deep : (why : Why) → EndCause content line risen J why
+      → IfTooDeep why (λ depth. OverFiles content words (λ w source inputs. OfJob source inputs (λ job. IsTooDeep w J job depth)))
+  too_deep Why.Done c = tt
+  too_deep Why.Usage c = tt
+  too_deep (Why.Syntax kind l k) c = tt
+  too_deep (Why.Fault fault) c = tt
+  too_deep (Why.Endless names) c = tt
+  too_deep (Why.TooMany held given) c = tt
+  too_deep Why.AllLost c = tt
+  too_deep (Why.NameClash kept given) c = tt
+  too_deep (Why.ReadFault path) c = tt
+  too_deep Why.WriteFault c = tt
+  too_deep Why.Memory c = tt
+  too_deep (Why.TooLongInput path at) c = tt
+  too_deep (Why.TooDeepPlain depth) c =
+      over_line words line (λ w. OfLine content w (λ source inputs. OfJob source inputs (λ job. IsTooDeep w J job depth))) e (λ source inputs st. (c.1 source inputs st).1)
+
+  pub read_fault : (why : Why) → EndCause content line risen J why → IfReadFault why (λ path. Contains (paths (line_of words)) path × risen)
+  read_fault Why.Done c = tt
+  read_fault Why.Usage c = tt
+  read_fault (Why.Syntax kind l k) c = tt
+  read_fault (Why.Fault fault) c = tt
+  read_fault (Why.Endless names) c = tt
+  read_fault (Why.TooMany held given) c = tt
+  read_fault Why.AllLost c = tt
+  read_fault (Why.NameClash kept given) c = tt
+  read_fault (Why.ReadFault path) c = (at_line words line (λ o. Contains (paths o) path) e c.0, c.1)
+  read_fault Why.WriteFault c = tt
+  read_fault Why.Memory c = tt
+  read_fault (Why.TooLongInput path at) c = tt
+  read_fault (Why.TooDeepPlain depth) c = tt
+
+  pub not_usage : (why : Why) → EndCause content line risen J why → why ≡ Why.Usage → ⊥
+  not_usage why c u = subst (EndCause content line risen J) u c
+
+-- where neither count rose nothing failed to be written
+pub no_write : (A X B : Type 0) → A ⊎ (X × B) → (A → ⊥) → (B → ⊥) → ⊥
+no_write A X B (inl a) f g = f a
+no_write A X B (inr b) f g = g b.1
+
+module _ (content : List ℕ → Option (List ℕ)) (line : Words) (risen : Type 0) (J : List Entry) where
+  -- what was written, or wasn't written whole, has no other cause
+  pub written_cause : (why : Why) → (why ≡ Why.Done) ⊎ (why ≡ Why.WriteFault) → EndCause content line risen J why
+  written_cause why (inl e) = subst (EndCause content line risen J) (sym e) tt
+  written_cause why (inr e) = subst (EndCause content line risen J) (sym e) tt
+
+  pub end_cause : (why : Why) → CauseOf content line risen J why → EndCause content line risen J why
+  end_cause Why.Done c = tt
+  end_cause Why.Usage c = c
+  end_cause (Why.Syntax kind l k) c = c
+  end_cause (Why.Fault fault) c = c
+  end_cause (Why.Endless names) c = c
+  end_cause (Why.TooMany held given) c = c
+  end_cause Why.AllLost c = c
+  end_cause (Why.NameClash kept given) c = c
+  end_cause (Why.ReadFault path) c = c
+  end_cause Why.WriteFault c = tt
+  end_cause Why.Memory c = c
+  end_cause (Why.TooLongInput path at) c = c
+  end_cause (Why.TooDeepPlain depth) c = c
+
+-- a text that was put whole, and nothing behind it
+pub parts_whole : (b n : Option (List ℕ)) (text : List ℕ) → Tells b n text → TellsParts b n text []
+parts_whole b n text t = parts b n n text [] (part_whole b n text t) (0, tells_none n)

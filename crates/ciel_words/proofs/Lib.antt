@@ -1,0 +1,13 @@
+mod Mapped
+mod Pieces
+mod Parsed
+mod Grammar
+mod Walks
+mod Spelled
+mod Instance
+mod Loose
+mod Rows
+mod Readings
+mod Strict
+mod Said
+mod SoundLaw

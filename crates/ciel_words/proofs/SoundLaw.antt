@@ -1,0 +1,152 @@
+-- The numbers of a line are within their limits.
+use Rattle.std.proofs.Common.{◌≡◌, ◌≢◌, ◌<◌, ◌≤◌, ◌-◌, ◌^◌, ℕ, suc, Bool, true, false, cond, List, [], ◌∷◌, Option, Some, None, codes, length, map, nat_le, nat_lt, refl, ap, subst, arith}
+use Rattle.std.specs.Prelude.{◌&&◌, option_and_then, option_map}
+use Rattle.std.specs.List.{AllByRecursion, list_all}
+use Rattle.std.specs.Str.Parse.{digits_value}
+use Rattle.std.proofs.lemmas.Bool.Decides.{nat_tests}
+use Rattle.ciel_words.specs.Inputs.{all_apart, are_inputs, input_in, is_input, key_in, most_inputs}
+use Rattle.ciel_words.specs.Line.{files_in, line_said, line_with, lines_in, most_workers, with}
+use Rattle.ciel_words.specs.Parts.{Part, Text, has_flag, names_of, parts_of, texts_of, value_of}
+use Rattle.ciel_words.specs.Sound.{LineIsSound, LinesAreSound}
+use Rattle.ciel_words.specs.Values.{count_in, each_loss, is_number, loss_in, losses_in, most_losses, names_in, number_within, or_absent, pieces, worker_in}
+use Rattle.ciel_words.specs.declared.words.NameKind.{NameKind}
+use Rattle.ciel_words.specs.declared.words.Words.{Words}
+
+no_some : {A : Type 0} (a : A) → None ≡ Some a → ⊥
+no_some a e = cc
+
+some_is : {A : Type 0} (a b : A) → Some a ≡ Some b → a ≡ b
+some_is a b e = cc
+
+-- what was read first, and what came of it
+given : {A B : Type 0} (o : Option A) (next : A → Option B) (b : B) → with o next ≡ Some b → (a : A) × (o ≡ Some a) × (next a ≡ Some b)
+given None next b e = absurd (no_some b e)
+given (Some a) next b e = (a, refl, e)
+
+cut : (c : Bool) (v n : ℕ) → cond c (Some v) None ≡ Some n → (c ≡ true) × (v ≡ n)
+cut true v n e = (refl, some_is v n e)
+cut false v n e = absurd (no_some n e)
+
+last_two : (a b c : Bool) → (a && b && c) ≡ true → (b ≡ true) × (c ≡ true)
+last_two true true c e = (refl, e)
+last_two true false c e = absurd (let bad : false ≡ true = e in cc)
+last_two false b c e = absurd (let bad : false ≡ true = e in cc)
+
+within : (low high : ℕ) (t : List ℕ) (n : ℕ) → number_within low high t ≡ Some n → (low ≤ n) × (n ≤ high)
+within low high t n e =
+    let v = digits_value 10 t in
+    let is = cut (is_number t && nat_le low v && nat_le v high) v n e in
+    let tests = last_two (is_number t) (nat_le low v) (nat_le v high) is.0 in
+    let below : low ≤ v = grind (arith, nat_tests) in
+    let above : v ≤ high = grind (arith, nat_tests) in
+    (omega (arith, below, is.1), omega (arith, above, is.1))
+
+workers_within : (o : Option (List ℕ)) (n : ℕ) → or_absent 1 (number_within 1 most_workers) o ≡ Some n → (0 < n) × (n ≤ most_workers)
+workers_within None n e = let is = some_is 1 n e in (omega (arith, is), omega (arith, is))
+workers_within (Some t) n e = let is = within 1 most_workers t n e in (omega (arith, is.0), is.1)
+
+loss_step : (k w : Option ℕ) (l : ℕ × ℕ) → option_and_then (λ a. option_map (λ b. (a, b)) w) k ≡ Some l → w ≡ Some l.1
+loss_step None w l e = absurd (no_some l e)
+loss_step (Some a) None l e = absurd (no_some l e)
+loss_step (Some a) (Some b) l e = ap (λ (p : ℕ × ℕ). Some p.1) (some_is (a, b) l e)
+
+loss_below : (workers : ℕ) → 0 < workers → (pair : List ℕ) (l : ℕ × ℕ) → loss_in workers pair ≡ Some l → l.1 < workers
+loss_below workers h pair l e =
+    let worker = loss_step (number_within 0 (2 ^ 32 - 1) (count_in pair)) (number_within 0 (workers - 1) (worker_in pair)) l e in
+    omega (arith, h, (within 0 (workers - 1) (worker_in pair) l.1 worker).1)
+
+abbrev pub LossesFit : (workers count : ℕ) → List (ℕ × ℕ) → Type 0
+LossesFit workers count ls = AllByRecursion (λ (l : ℕ × ℕ). l.1 < workers) ls × (length ls ≡ count)
+
+losses_step : (workers count : ℕ) (o : Option (ℕ × ℕ)) (more : Option (List (ℕ × ℕ))) (ls : List (ℕ × ℕ)) → option_and_then (λ l. option_map (λ m. l ∷ m) more) o ≡ Some ls
+    → ((l : ℕ × ℕ) → o ≡ Some l → l.1 < workers) → ((m : List (ℕ × ℕ)) → more ≡ Some m → LossesFit workers count m) → LossesFit workers (suc count) ls
+losses_step workers count None more ls e one rest = absurd (no_some ls e)
+losses_step workers count (Some l) None ls e one rest = absurd (no_some ls e)
+losses_step workers count (Some l) (Some m) ls e one rest =
+    let fit = rest m refl in
+    subst (LossesFit workers (suc count)) (some_is (l ∷ m) ls e) ((one l refl, fit.0), ap suc fit.1)
+
+losses_fit : (workers : ℕ) → 0 < workers → (ps : List (List ℕ)) (ls : List (ℕ × ℕ)) → each_loss workers ps ≡ Some ls → LossesFit workers (length ps) ls
+losses_fit workers h [] ls e = subst (LossesFit workers 0) (some_is [] ls e) (tt, refl)
+losses_fit workers h (p ∷ ps) ls e = losses_step workers (length ps) (loss_in workers p) (each_loss workers ps) ls e (loss_below workers h p) (losses_fit workers h ps)
+
+abbrev pub LossesSound : ℕ → List (ℕ × ℕ) → Type 0
+LossesSound workers ls = AllByRecursion (λ (l : ℕ × ℕ). l.1 < workers) ls × (length ls ≤ most_losses)
+
+losses_within : (workers : ℕ) → 0 < workers → (t : List ℕ) (ls : List (ℕ × ℕ)) → losses_in workers t ≡ Some ls → LossesSound workers ls
+losses_within workers h t ls e = split (nat_le (length (pieces t)) most_losses) refl e
+  where
+    split : (b : Bool) → nat_le (length (pieces t)) most_losses ≡ b → cond b (each_loss workers (pieces t)) None ≡ Some ls → LossesSound workers ls
+    split true b f =
+        let fit = losses_fit workers h (pieces t) ls f in
+        let few : length (pieces t) ≤ most_losses = grind (arith, nat_tests) in
+        (fit.0, omega (arith, fit.1, few))
+    split false b f = absurd (no_some ls f)
+
+losses_sound : (workers : ℕ) → 0 < workers → (o : Option (List ℕ)) (ls : List (ℕ × ℕ)) → or_absent [] (losses_in workers) o ≡ Some ls → LossesSound workers ls
+losses_sound workers h None ls e = subst (LossesSound workers) (some_is [] ls e) (tt, omega arith)
+losses_sound workers h (Some t) ls e = losses_within workers h t ls e
+
+abbrev pub FilesSound : Option ℕ → Option Text × List (Text × Text) → Type 0
+FilesSound g f = (length f.1 ≤ most_inputs) × (f.0 ≡ None → g ≢ None)
+
+length_map : {A B : Type 0} (f : A → B) (xs : List A) → length (map f xs) ≡ length xs
+length_map f [] = refl
+length_map f (x ∷ xs) = ap suc (length_map f xs)
+
+first_two : (a b : Bool) → (a && b) ≡ true → b ≡ true
+first_two true b e = e
+first_two false b e = absurd (let bad : false ≡ true = e in cc)
+
+front : (a b : Bool) → (a && b) ≡ true → a ≡ true
+front true b e = refl
+front false b e = absurd (let bad : false ≡ true = e in cc)
+
+files_sound : (g : Option ℕ) (ws : List Text) (f : Option Text × List (Text × Text)) → files_in g ws ≡ Some f → FilesSound g f
+files_sound None [] f e = absurd (no_some f e)
+files_sound None (w ∷ ws) f e = split (nat_lt 0 (length w) && are_inputs ws) refl e
+  where
+    split : (b : Bool) → (nat_lt 0 (length w) && are_inputs ws) ≡ b → cond b (Some (Some w, map input_in ws)) None ≡ Some f → FilesSound None f
+    split true b h =
+        let test : nat_le (length ws) most_inputs ≡ true =
+        front (nat_le (length ws) most_inputs) (list_all is_input ws && all_apart (map key_in ws)) (first_two (nat_lt 0 (length w)) (are_inputs ws) b) in
+        let few : length ws ≤ most_inputs = grind (arith, nat_tests) in
+        subst (FilesSound None) (some_is (Some w, map input_in ws) f h)
+        (omega (arith, few, length_map input_in ws), λ none. absurd (let bad : Some w ≡ None = none in cc))
+    split false b h = absurd (no_some f h)
+files_sound (Some n) [] f e =
+    subst (FilesSound (Some n)) (some_is (None, []) f e) (omega arith, λ z none. (let bad : Some n ≡ None = none in cc))
+files_sound (Some n) (w ∷ ws) f e = absurd (no_some f e)
+
+said_sound : (workers seed lose names generate : Option Text) (trace plain : Bool) (texts : List Text) (w : Words) → line_said workers seed lose names generate trace plain texts ≡ Some w
+    → LineIsSound w
+said_sound workers seed lose names generate trace plain texts w e =
+    let one = given (or_absent 1 (number_within 1 most_workers) workers) _ w e in
+    let two = given (or_absent 0 (number_within 0 (2 ^ 64 - 1)) seed) _ w one.2 in
+    let three = given (or_absent [] (losses_in one.0) lose) _ w two.2 in
+    let four = given (or_absent NameKind.Sha1 names_in names) _ w three.2 in
+    let five = given (or_absent None lines_in generate) _ w four.2 in
+    let six = given (files_in five.0 texts) _ w five.2 in
+    let count = workers_within workers one.0 one.1 in
+    let losses = losses_sound one.0 count.0 lose three.0 three.1 in
+    let files = files_sound five.0 texts six.0 six.1 in
+    subst LineIsSound (some_is _ w six.2) (record {
+      some = count.0;
+      most = count.1;
+      losses = losses.0;
+      few = losses.1;
+      inputs = files.0;
+      named = files.1;
+    })
+
+pub lines_are_sound : LinesAreSound
+lines_are_sound words w e =
+    let parts = given (parts_of words) _ w e in
+    let ps = parts.0 in
+    split ps (all_apart (names_of ps)) parts.2
+  where
+    split : (ps : List Part) (b : Bool) → cond b (line_with ps) None ≡ Some w → LineIsSound w
+    split ps true h =
+        said_sound (value_of (codes "workers") ps) (value_of (codes "seed") ps) (value_of (codes "lose") ps) (value_of (codes "names") ps) (value_of (codes "generate") ps)
+        (has_flag (codes "trace") ps) (has_flag (codes "plain") ps) (texts_of ps) w h
+    split ps false h = absurd (no_some w h)

@@ -1,0 +1,20 @@
+-- What holds of every line: its numbers are within their limits.
+use Rattle.std.specs.Prelude.{◌≡◌, ◌≢◌, ◌<◌, ◌≤◌, ℕ, List, None, Some, length}
+use Rattle.std.specs.List.{AllByRecursion}
+use Rattle.ciel_words.specs.Inputs.{most_inputs}
+use Rattle.ciel_words.specs.Line.{line_of, most_workers}
+use Rattle.ciel_words.specs.Parts.{Text}
+use Rattle.ciel_words.specs.Values.{most_losses}
+use Rattle.ciel_words.specs.declared.words.Words.{Words}
+
+pub record LineIsSound (w : Words) : Type 0 where
+  pub some : 0 < w.workers
+  pub most : w.workers ≤ most_workers
+  pub losses : AllByRecursion (λ (l : ℕ × ℕ). l.1 < w.workers) w.losses
+  pub few : length w.losses ≤ most_losses
+  pub inputs : length w.inputs ≤ most_inputs
+  -- where there is no script, a job is generated
+  pub named : w.script ≡ None → w.generate ≢ None
+
+abbrev pub LinesAreSound : Type 0
+LinesAreSound = (words : List Text) (w : Words) → line_of words ≡ Some w → LineIsSound w

@@ -1,0 +1,133 @@
+//! What the values of a line say.
+
+ghost use Rattle.std.specs.Prelude.{◌≡◌, ◌<◌, [], Some, None, Err, IfOk, map};
+ghost use Rattle.ciel_words.specs.Line.{files_in, lines_in};
+ghost use Rattle.ciel_words.specs.Raw.{said_by, text_of};
+ghost use Rattle.ciel_words.specs.Values.{losses_in, names_in, or_absent};
+
+use crate::inputs::{are_inputs, inputs};
+use crate::losses::losses;
+use crate::numbers::{number_or, number_within};
+use crate::raw::Raw;
+use crate::words::{InputPaths, LossList, NameKind, Words, WordsRefusal};
+use sky_base::text::Txt;
+use std::alloc::Global;
+
+/// The greatest number of workers.
+const MOST_WORKERS: u64 = 64;
+
+/// The greatest number of lines of a generated job.
+const MOST_LINES: u64 = 1_000_000;
+
+// The losses that the value of `--lose` asks for; none where the option is absent.
+fn losses_or_none(
+    alloc: Global,
+    value: Option<&str>,
+    workers: u32,
+) -> Result<LossList, WordsRefusal>
+    requires { 0 < workers }
+    ensures losses { IfOk result (λ l. or_absent [] (losses_in workers) (text_of value.entry) ≡ Some l) }
+    ensures usage { result ≡ Err WordsRefusal.Usage → or_absent [] (losses_in workers) (text_of value.entry) ≡ None }
+{
+    match value {
+        Some(value) => losses(alloc, value, workers),
+        None => Ok(LossList::of(Vec::new(alloc))),
+    }
+}
+
+// The digest that the value of `--names` names.
+fn name_kind(value: Option<&str>) -> Option<NameKind>
+    ensures { result ≡ or_absent NameKind.Sha1 names_in (text_of value.entry) }
+{
+    match value {
+        None | Some("sha1") => Some(NameKind::Sha1),
+        Some("sha256") => Some(NameKind::Sha256),
+        Some(_) => None,
+    }
+}
+
+// The number of lines of a generated job, where one is asked for.
+fn generated(value: Option<&str>) -> Option<Option<u32>>
+    ensures { result ≡ or_absent None lines_in (text_of value.entry) }
+{
+    match value {
+        Some(text) => {
+            let lines = number_within(1, MOST_LINES, text)?;
+            Some(Some(lines as u32))
+        }
+        None => Some(None),
+    }
+}
+
+// The path of the script, and the inputs behind it.
+fn script_and_inputs(alloc: Global, words: &[&str]) -> Result<(Txt, InputPaths), WordsRefusal>
+    ensures files { IfOk result (λ f. files_in None (map (λ w. w.now) words.now) ≡ Some (Some f.0, f.1)) }
+    ensures usage { result ≡ Err WordsRefusal.Usage → files_in None (map (λ w. w.now) words.now) ≡ None }
+{
+    let Some((script, rest)) = words.split_first() else {
+        return Err(WordsRefusal::Usage);
+    };
+    if script.is_empty() || !are_inputs(rest) {
+        return Err(WordsRefusal::Usage);
+    }
+    let Ok(script) = Txt::new(alloc, script) else {
+        return Err(WordsRefusal::Memory);
+    };
+    match inputs(alloc, rest) {
+        Ok(inputs) => Ok((script, inputs)),
+        Err(_) => Err(WordsRefusal::Memory),
+    }
+}
+
+// The same; there is no positional word where a job is generated.
+fn files(
+    alloc: Global,
+    generate: Option<u32>,
+    words: &[&str],
+) -> Result<(Option<Txt>, InputPaths), WordsRefusal>
+    ensures files { IfOk result (λ f. files_in generate (map (λ w. w.now) words.now) ≡ Some f) }
+    ensures usage { result ≡ Err WordsRefusal.Usage → files_in generate (map (λ w. w.now) words.now) ≡ None }
+{
+    if generate.is_none() {
+        let (script, inputs) = script_and_inputs(alloc, words)?;
+        return Ok((Some(script), inputs));
+    }
+    if words.is_empty() {
+        Ok((None, InputPaths::of(Vec::new(alloc))))
+    } else {
+        Err(WordsRefusal::Usage)
+    }
+}
+
+/// What the values say, where each is one that its option may have.
+pub(crate) fn line_from(alloc: Global, raw: &Raw<'_>) -> Result<Words, WordsRefusal>
+    ensures line { IfOk result (λ line. said_by raw.now ≡ Some line) }
+    ensures usage { result ≡ Err WordsRefusal.Usage → said_by raw.now ≡ None }
+{
+    let Some(workers) = number_or(1, 1, MOST_WORKERS, raw.workers) else {
+        return Err(WordsRefusal::Usage);
+    };
+    let workers = workers as u32;
+    let Some(seed) = number_or(0, 0, u64::MAX, raw.seed) else {
+        return Err(WordsRefusal::Usage);
+    };
+    let losses = losses_or_none(alloc, raw.lose, workers)?;
+    let Some(names) = name_kind(raw.names) else {
+        return Err(WordsRefusal::Usage);
+    };
+    let Some(generate) = generated(raw.generate) else {
+        return Err(WordsRefusal::Usage);
+    };
+    let (script, inputs) = files(alloc, generate, raw.words.as_slice())?;
+    Ok(Words {
+        script,
+        inputs,
+        workers,
+        seed,
+        losses,
+        trace: raw.trace,
+        plain: raw.plain,
+        names,
+        generate,
+    })
+}

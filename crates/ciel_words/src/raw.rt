@@ -1,0 +1,94 @@
+//! The words taken apart, each value as text.
+
+ghost use Rattle.std.specs.Prelude.{◌≡◌, ◌≢◌, [], None, Some, Err, IfOk, codes, map, unwrap_or};
+ghost use Rattle.std.specs.List.{AllByRecursion};
+ghost use Rattle.std.specs.Str.{IsUtf8};
+ghost use Rattle.clap.specs.Walk.{all_of, first_of, one_of};
+ghost use Rattle.clap.specs.Words.{found_of, kind_of, rows_of};
+ghost use Rattle.clap.specs.declared.error.kind.ErrorKind.TheVariants.{OutOfMemory};
+ghost use Rattle.ciel_words.specs.Command.{FlagSays};
+ghost use Rattle.ciel_words.specs.Line.{line_of};
+ghost use Rattle.ciel_words.specs.Raw.{said_by, text_of};
+
+use crate::command::command;
+use crate::words::WordsRefusal;
+use clap::error::ErrorKind;
+use clap::{ArgMatches, Error};
+use sky_base::text::Txt;
+use std::alloc::{AllocError, Global};
+
+/// What the words give, as text.
+#[derive(Drop)]
+pub(crate) struct Raw<'a> {
+    pub workers: Option<&'a str>,
+    pub seed: Option<&'a str>,
+    pub lose: Option<&'a str>,
+    pub names: Option<&'a str>,
+    pub generate: Option<&'a str>,
+    pub trace: bool,
+    pub plain: bool,
+    pub words: Vec<&'a str>,
+}
+
+// What clap's matches say of each name.
+fn gather<'a>(alloc: Global, matches: &ArgMatches<'a>) -> Result<Raw<'a>, AllocError>
+    ensures workers { IfOk result (λ r. text_of r.workers ≡ first_of (codes "workers") (rows_of (found_of matches.now))) }
+    ensures seed { IfOk result (λ r. text_of r.seed ≡ first_of (codes "seed") (rows_of (found_of matches.now))) }
+    ensures lose { IfOk result (λ r. text_of r.lose ≡ first_of (codes "lose") (rows_of (found_of matches.now))) }
+    ensures names { IfOk result (λ r. text_of r.names ≡ first_of (codes "names") (rows_of (found_of matches.now))) }
+    ensures generate { IfOk result (λ r. text_of r.generate ≡ first_of (codes "generate") (rows_of (found_of matches.now))) }
+    ensures trace { IfOk result (λ r. FlagSays (one_of (codes "trace") (rows_of (found_of matches.now))) r.trace) }
+    ensures plain { IfOk result (λ r. FlagSays (one_of (codes "plain") (rows_of (found_of matches.now))) r.plain) }
+    ensures words { IfOk result (λ r. map (λ w. w.now) r.words.items ≡ unwrap_or (all_of (codes "words") (rows_of (found_of matches.now))) []) }
+{
+    let words = match matches.get_strs("words") {
+        Some(words) => Vec::from_slice(alloc, words)?,
+        None => Vec::new(alloc),
+    };
+    Ok(Raw {
+        workers: matches.get_str("workers"),
+        seed: matches.get_str("seed"),
+        lose: matches.get_str("lose"),
+        names: matches.get_str("names"),
+        generate: matches.get_str("generate"),
+        trace: matches.get_flag("trace"),
+        plain: matches.get_flag("plain"),
+        words,
+    })
+}
+
+fn refusal_of(error: &Error) -> WordsRefusal
+    ensures { result ≡ WordsRefusal.Usage → kind_of error.now ≢ OutOfMemory }
+{
+    match error.kind() {
+        ErrorKind::OutOfMemory => WordsRefusal::Memory,
+        _ => WordsRefusal::Usage,
+    }
+}
+
+// That each word is a text, as its type keeps, told of the list.
+fn are_texts(words: &[Txt])
+    ensures { AllByRecursion IsUtf8 words.now }
+{
+    for word in words {
+        let _text = word.as_str();
+    }
+}
+
+/// The words taken apart. `Usage` comes only where they are no line.
+pub(crate) fn read_raw<'a>(alloc: Global, words: &'a [Txt]) -> Result<Raw<'a>, WordsRefusal>
+    ensures raw { IfOk result (λ r. line_of words.entry.now ≡ said_by r) }
+    ensures usage { result ≡ Err WordsRefusal.Usage → line_of words.entry.now ≡ None }
+{
+    are_texts(words);
+    let Ok(command) = command(alloc) else {
+        return Err(WordsRefusal::Memory);
+    };
+    match command.try_get_matches_from(words) {
+        Ok(matches) => match gather(alloc, &matches) {
+            Ok(raw) => Ok(raw),
+            Err(AllocError) => Err(WordsRefusal::Memory),
+        },
+        Err(error) => Err(refusal_of(&error)),
+    }
+}

@@ -1,0 +1,5 @@
+// Rows of runs whose names clash. They stand in a crate of their own, since a crate with tests is proved twice.
+#![tactic(auto)]
+
+#[cfg(test)]
+mod clashes;

@@ -1,0 +1,5 @@
+// Rows of the text of a journal. They stand in a crate of their own, since a crate with tests is proved twice.
+#![tactic(auto)]
+
+#[cfg(test)]
+mod rows;

@@ -1,0 +1,7 @@
+// Rows of words of the command line. They stand in a crate of their own, since a crate with tests is proved twice.
+#![tactic(auto)]
+
+#[cfg(test)]
+mod pictures;
+#[cfg(test)]
+mod rows;
