@@ -1,16 +1,15 @@
-// The worked rows of the language and of the program, over files and sinks in memory. They stand in
-// a crate of their own, since a crate with tests is proved twice.
+// The rows of the program that need files, sinks or gates in memory: reads, writes and logs that fail at a given call, what gates are told, the
+// message of each end, and parts of the sequential interpreter. All other rows of the program stand in rows/, and the built program runs
+// them. A crate of their own, since a crate with tests is proved twice.
 #![tactic(auto)]
 
 #[cfg(test)]
-mod large;
+mod calls;
 #[cfg(test)]
-mod memory;
+mod failing;
+#[cfg(test)]
+mod gates;
 #[cfg(test)]
 mod messages;
 #[cfg(test)]
-mod outside;
-#[cfg(test)]
 mod plain_rows;
-#[cfg(test)]
-mod scripts;

@@ -4,8 +4,8 @@
 ghost use Rattle.std.specs.Prelude.{◌≡◌, length};
 
 use ciel_gate::gate::Gate;
-use ciel_io::mem_files::SureFiles;
-use ciel_io::mem_sink::SureSink;
+use ciel_io::mem_files::MemFiles;
+use ciel_io::mem_sink::MemSink;
 use ciel_run::top::ciel_main;
 use ciel_why::why::Ended;
 use sky_base::text::{Bytes, Txt};
@@ -13,19 +13,34 @@ use std::alloc::Global;
 use std::sync::Wait;
 use std::test::Fail;
 
+/// Which read, which write of the result and which write on the log fails, counted from 1; 0 where none does.
+pub type Fails = (u32, u32, u32);
+
 /// A file with these bytes.
 fn file(alloc: Global, path: &str, text: &str) -> Result<(Txt, Bytes), Fail> {
     let bytes = Bytes::new(alloc, Vec::from_slice(alloc, text.as_bytes())?)?;
     Ok((Txt::new(alloc, path)?, bytes))
 }
 
+/// A list of this number.
+fn only(alloc: Global, number: u32) -> Result<Vec<u32>, Fail> {
+    let mut numbers = Vec::new(alloc);
+    numbers.push(number)?;
+    Ok(numbers)
+}
+
 /// The script and the input.
-fn files(alloc: Global, source: &str, input: &str) -> Result<SureFiles, Fail> {
+fn files(alloc: Global, source: &str, fails: u32) -> Result<MemFiles, Fail> {
     let mut files = Vec::new(alloc);
     files.push(file(alloc, "s", source)?)?;
-    files.push(file(alloc, "f", input)?)?;
-    let files = SureFiles::new(alloc, files)?;
+    files.push(file(alloc, "f", "x")?)?;
+    let files = MemFiles::new(alloc, files, only(alloc, fails)?)?;
     Ok(files)
+}
+
+fn sink(alloc: Global, fails: u32) -> Result<MemSink, Fail> {
+    let sink = MemSink::new(alloc, 1_000, only(alloc, fails)?)?;
+    Ok(sink)
 }
 
 /// The words of a row: a space stands between two words.
@@ -37,28 +52,29 @@ fn words_of(alloc: Global, row: &str) -> Result<Vec<Txt>, Fail> {
     Ok(words)
 }
 
-/// How the program ended, and what it wrote.
+/// How the program ended, what it wrote, and what it told on its log.
 #[derive(Drop)]
 pub struct Got {
     pub ended: Ended,
-    pub out: SureSink,
+    pub out: MemSink,
+    pub log: MemSink,
 }
 
-/// The program over the words of a row and these gates, with a script and an input.
+/// The program over the words of a row, a script and these gates.
 pub fn outcome<G: Gate>(
     rt: &impl Wait,
     alloc: Global,
     row: &str,
     source: &str,
-    input: &str,
+    fails: Fails,
     gates: &mut Vec<G>,
 ) -> Result<Got, Fail>
     requires { length gates.old.items ≡ 64 }
 {
-    let mut files = files(alloc, source, input)?;
+    let mut files = files(alloc, source, fails.0)?;
     let words = words_of(alloc, row)?;
-    let mut out = SureSink::new(alloc, 200)?;
-    let mut log = SureSink::new(alloc, 200)?;
+    let mut out = sink(alloc, fails.1)?;
+    let mut log = sink(alloc, fails.2)?;
     let ended = ciel_main(rt, alloc, &words, &mut files, &mut out, &mut log, gates);
-    Ok(Got { ended, out })
+    Ok(Got { ended, out, log })
 }

@@ -73,7 +73,7 @@ fn told(rt: &(impl Abort + Wait), alloc: Global, row: &str) -> Result<(), Fail> 
     let source =
         "function f(x) { return x * x; } a = spawn(f, [3]); b = spawn(f, [4]); return *a + *b;";
     let mut gates = recorders(alloc)?;
-    let got = outcome(rt, alloc, row, source, "", &mut gates)?;
+    let got = outcome(rt, alloc, row, source, (0, 0, 0), &mut gates)?;
     assert_eq!(rt; got.ended.status, 0);
     assert_eq!(rt; gates.len(), 64);
     all_tell(rt, alloc, got.ended.journal.as_slice(), gates.as_slice())
