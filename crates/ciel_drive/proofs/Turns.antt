@@ -5,7 +5,7 @@ use Rattle.sky_base.specs.KitView.{Gives}
 use Rattle.sky_base.specs.See as s
 use Rattle.sky_base.specs.declared.object.TaskId.{TaskId}
 use Rattle.ciel_board.specs.Board.{Board, board_graph, idle_of, task_key, wait_number}
-use Rattle.ciel_board.specs.Driving.{CanRun, Picked, Quiet}
+use Rattle.ciel_board.specs.Driving.{Picked, Quiet}
 use Rattle.ciel_board.specs.Moves.{lost_at, order_for, started}
 use Rattle.ciel_board.specs.Setting.{IsSetting, Setting}
 use Rattle.ciel_crew.specs.Crews.{Takes, TellsTask, order_at}
@@ -15,10 +15,14 @@ use Rattle.ciel_journal.specs.Entries.{Entry}
 use Rattle.ciel_journal.specs.Graph.{Runnable}
 use Rattle.ciel_journal.specs.Job.{In}
 use Rattle.ciel_journal.specs.Turns.{FirstDue, state_after}
+use Rattle.ciel_journal.proofs.Picked.{picks_unique}
+use Rattle.ciel_master.specs.Orders.{ready_of}
 use Rattle.ciel_master.specs.Seen.{MasterSeen}
 use Rattle.ciel_master.specs.declared.stop.RunEnd.{RunEnd}
 use Rattle.ciel_orders.specs.Laws.{IsOrderFor, OrderHasRows, OrderIsSound, PlacesStay, RowsStay}
+use Rattle.ciel_ready.specs.Seen.{CanRunAt, CanRunMany}
 use Rattle.ciel_table.specs.Seen.{last_wait}
+use Rattle.ciel_want.specs.Waited.{tasks_in_order}
 use Rattle.ciel_task.specs.Performs.{HasRows, the_shop}
 use Rattle.ciel_task.specs.Shop as shop
 use Rattle.ciel_task.specs.Views.{P, order_view}
@@ -105,14 +109,16 @@ module _ {K N : Type 0} {gives : K → Gives} {digest : N → List ℕ → List 
           let e : suc (2 * b.starts + 1) ≡ 2 * (b.starts + 1) = omega arith in
           second_is ∙ ap (state_after b.plan.seed) e
 
-      -- what the draws pick, by the places that they gave
-      pub picked : (tasks : List TaskId) {idle : List ℕ} {i j : ℕ} {x : TaskId} → Quiet b → CanRun b tasks → idle ≡ idle_of b → i ≡ (first / 2 ^ 33) % length tasks → j ≡ (second / 2 ^ 33) % length idle → i < length tasks → j < length idle → x ≡ slice_index_or tasks i x → Picked b x (slice_index_or idle j 0)
-      picked tasks {idle} {i} {j} {x} quiet can is_idle is_i is_j below also is_x =
+      -- what the draws pick: the task at the first place of those that can run, and the worker at the second of those that are idle
+      pub picked : {n : ℕ} → CanRunMany (ready_of b) n → {idle : List ℕ} {i j : ℕ} {x : TaskId} → Quiet b → CanRunAt (ready_of b) i x → idle ≡ idle_of b → i ≡ (first / 2 ^ 33) % n → j ≡ (second / 2 ^ 33) % length idle → j < length idle → Picked b x (slice_index_or idle j 0)
+      picked {n} many {idle} {i} {j} {x} quiet at is_idle is_i is_j also =
+          let same : at.0 ≡ many.0 = picks_unique (Runnable (board_graph b)) (tasks_in_order b.table) at.0 many.0 at.1 many.1 in
+          let long : n ≡ length at.0 = sym many.2 ∙ ap length (sym same) in
           record {
             quiet = quiet;
-            tasks = tasks;
-            runnable = can;
-            task = subst (λ d. slice_get tasks (d / 2 ^ 33 % length tasks) ≡ Some x) first_is (subst (λ n. slice_get tasks n ≡ Some x) is_i (got_index tasks i x below ∙ ap (λ z. Some z) (sym is_x)));
+            tasks = at.0;
+            runnable = at.1;
+            task = subst (λ d. slice_get at.0 (d / 2 ^ 33 % length at.0) ≡ Some x) first_is (subst (λ k. slice_get at.0 k ≡ Some x) (is_i ∙ ap (λ l. first / 2 ^ 33 % l) long) at.2);
             worker = subst (λ d. slice_get (idle_of b) (d / 2 ^ 33 % length (idle_of b)) ≡ Some (slice_index_or idle j 0)) second_is (subst (λ ws. slice_get ws (second / 2 ^ 33 % length ws) ≡ Some (slice_index_or idle j 0)) is_idle (subst (λ n. slice_get idle n ≡ Some (slice_index_or idle j 0)) is_j (got_index idle j 0 also)));
           }
 

@@ -1,12 +1,18 @@
 //! The turns of a run: a loss, a start, a report, or the end.
 
-ghost use Rattle.std.specs.Prelude.{◌≡◌, ◌≢◌, ◌<◌, ℕ, [], IfErr, OnOk, length, true};
+ghost use Rattle.std.specs.Prelude.{◌≡◌, ◌≢◌, ◌<◌, ℕ, [], IfErr, IfOk, OnErr, OnOk, false, length, true};
 ghost use Rattle.ciel_board.specs.Board.{idle_of};
 ghost use Rattle.ciel_board.specs.Driving.{CanRun, Quiet, RestsNow};
+ghost use Rattle.ciel_board.specs.Moves.{order_for, started};
+ghost use Rattle.ciel_ends.specs.Ends.{worker_of};
 ghost use Rattle.ciel_drive.specs.Ended.{Ended};
 ghost use Rattle.ciel_drive.specs.Kept.{Kept, left};
 ghost use Rattle.ciel_drive.specs.Told.{ToldOn};
+ghost use Rattle.ciel_journal.specs.Job.{In};
 ghost use Rattle.ciel_journal.specs.Turns.{FirstDue};
+ghost use Rattle.ciel_task.specs.Views.{order_view};
+ghost use Rattle.ciel_master.specs.Orders.{ready_of};
+ghost use Rattle.ciel_ready.specs.Seen.{CanRunAt, CanRunMany};
 ghost use Rattle.ciel_master.specs.declared.stop.RunEnd.{RunEnd as End};
 
 use crate::draws::pick;
@@ -15,8 +21,9 @@ use ciel_master::master::Master;
 use ciel_master::stop::{Now, RunEnd, Stop};
 use ciel_name::name::Namer;
 use ciel_orders::{orders_are_sound, places_stay, rows_stay};
+use ciel_task::order::Order;
 use sky_base::kit::Kit;
-use sky_base::object::TaskId;
+use sky_base::text::Memory;
 
 /// Carries out a loss.
 fn lose_one<K: Kit + Drop, N: Namer + Drop, C: Crew<K = K, N = N>>(
@@ -37,18 +44,37 @@ fn lose_one<K: Kit + Drop, N: Namer + Drop, C: Crew<K = K, N = N>>(
     master.lose(loss);
 }
 
+/// Starts the task at a place among those that can run. After `Memory` the master is as it was.
+fn start_at<K: Drop, N: Namer + Drop>(
+    master: &mut Master<K, N>,
+    place: usize,
+    worker: u32,
+) -> Result<Order, Memory>
+    requires going { master.old.board.stopped ≡ false }
+    requires within { (n : ℕ) × CanRunMany (ready_of master.old.board) n × (place < n) }
+    requires idle { In worker (idle_of master.old.board) }
+    ensures task { IfOk result (λ o. CanRunAt (ready_of master.old.board) place o.task) }
+    ensures order { IfOk result (λ o. order_view o ≡ order_for worker_of master.old.board o.task worker) }
+    ensures started { IfOk result (λ o. master.new ≡ record master.old { board = started worker_of master.old.board o.task worker }) }
+    ensures kept { OnErr result (master.new ≡ master.old) }
+{
+    let task = master.nth(place)?;
+    let order = master.start(&task, worker)?;
+    Ok(order)
+}
+
 /// Starts the task that one draw picks at the worker that the next picks, and sends its order.
 fn start_one<K: Kit + Drop, N: Namer + Drop, C: Crew<K = K, N = N>>(
     master: &mut Master<K, N>,
     crew: &mut C,
     state: &mut u64,
-    tasks: &[TaskId],
+    count: usize,
     idle: &[u32],
 ) -> Result<(), RunEnd>
     requires kept { Kept K.gives N.digest (C.shop crew.old) (C.is_sound crew.old) master.old (C.out crew.old) state.old }
     requires quiet { Quiet master.old.board }
-    requires tasks { CanRun master.old.board tasks.now }
-    requires some_task { 0 < length tasks.now }
+    requires count { CanRunMany (ready_of master.old.board) count }
+    requires some_task { 0 < count }
     requires idle { idle.now ≡ idle_of master.old.board }
     requires some_worker { 0 < length idle.now }
     ensures kept { OnOk result (Kept K.gives N.digest (C.shop crew.new) (C.is_sound crew.new) master.new (C.out crew.new) state.new) }
@@ -61,9 +87,9 @@ fn start_one<K: Kit + Drop, N: Namer + Drop, C: Crew<K = K, N = N>>(
 {
     orders_are_sound();
     rows_stay();
-    let task = pick(state, tasks.len());
+    let place = pick(state, count);
     let worker = pick(state, idle.len());
-    let order = match master.start(&tasks[task], idle[worker]) {
+    let order = match start_at(master, place, idle[worker]) {
         Ok(order) => order,
         Err(_) => return Err(RunEnd::Memory),
     };
@@ -158,12 +184,12 @@ pub(crate) fn turn<K: Kit + Drop, N: Namer + Drop, C: Crew<K = K, N = N>>(
     if idle.is_empty() {
         return take_one(master, crew, *state);
     }
-    let tasks = match master.runnable() {
-        Ok(tasks) => tasks,
+    let count = match master.count() {
+        Ok(count) => count,
         Err(_) => return Err(RunEnd::Memory),
     };
-    if !tasks.is_empty() {
-        return start_one(master, crew, state, tasks.as_slice(), idle.as_slice());
+    if count > 0 {
+        return start_one(master, crew, state, count, idle.as_slice());
     }
     if master.is_at_rest() {
         return Err(come_round(master, crew, *state));

@@ -4,7 +4,7 @@ use Rattle.sky_base.specs.Val.{no_pairs, no_vals}
 use Rattle.sky_base.specs.declared.object.Desc1.{Desc1}
 use Rattle.sky_base.specs.declared.object.Named.{Named}
 use Rattle.sky_base.specs.declared.object.TaskId.{TaskId}
-use Rattle.ciel_board.specs.Board.{Board, Order, board_graph, find_order, idle_of, task_key, wait_number}
+use Rattle.ciel_board.specs.Board.{Board, Order, board_graph, find_order, idle_of, task_key, tasks_out, wait_number}
 use Rattle.ciel_board.specs.Board as board
 use Rattle.ciel_board.specs.Moves.{accepted, closed, empty, lost_at, started, with_copies, with_outputs, without}
 use Rattle.ciel_board.specs.Reports as r
@@ -33,14 +33,17 @@ use Rattle.ciel_task.specs.declared.report.End.{End}
 use Rattle.ciel_task.specs.declared.report.Made.{Made}
 use Rattle.ciel_want.specs.Waited.{Whole}
 use Rattle.ciel_store.specs.Seen.{SeatSeen, ShelvesSeen, marked}
+use Rattle.ciel_ready.specs.Seen.{ReadySeen, with_out, with_table}
+use Rattle.ciel_master.specs.Orders.{OneEach, ready_of}
 use Rattle.ciel_master.specs.Marked.{FitsUnlessMissing, IsCarriedOut, Marked, WasMarked}
 use Rattle.ciel_master.specs.Seen.{Going, HasRoom, MasterSeen, MasterStands, board_of, most_descriptions, plan_view}
 use Rattle.ciel_master.specs.Taking.{CanTake, CopiesPlace, LearnedFor, OutputsPlace, entry_for, is_last, learned_for, table_after}
 use Rattle.ciel_turns.specs.Left.{losses_left}
 use Rattle.ciel_turns.proofs.Working.{fewer_losses}
+use Rattle.ciel_master.proofs.Stays.{tasks_join}
 use Rattle.ciel_master.proofs.Marking.{carried_out, has_shelf, marked_more}
 use Rattle.ciel_bring.specs.Brings.{worker_of}
-use Rattle.ciel_master.specs.Views.{entry_view}
+use Rattle.ciel_master.specs.Views.{entry_view, kept_view}
 use Rattle.ciel_master.specs.declared.entry.Entry.{Entry}
 use Rattle.ciel_master.specs.declared.orders.OrderOut.{OrderOut}
 use Rattle.ciel_master.specs.declared.plan.RunPlan.{RunPlan}
@@ -189,8 +192,19 @@ open_room losses lost es room entries workers none nothing is a b =
     let m : length lost ≡ 0 = ap length none in
     record { journal = omega (arith, l, k, is, a); workers = omega (arith, l, m, is, b) }
 
+-- what is kept, by its parts
+parts : (new : ReadySeen P) (main : List ℕ) (out : List TaskId) → new.main ≡ main → new.out ≡ out → new ≡ record { table = new.table; main = main; out = out }
+parts new main out e f =
+    ap (λ z. record { table = new.table; main = z; out = new.out }) e
+    ∙ ap (λ z. record { table = new.table; main = main; out = z }) f
+
+-- at the beginning
+pub open_ready : (main : Named) (p : RunPlan) (keys : List (List ℕ)) (t : TableSeen P) (os : List OrderOut) (es : List Entry) (new : ReadySeen P) → new ≡ record { table = t; main = main.name; out = [] } → os ≡ [] → new ≡ ready_of (board_of p keys main.name new.table os 0 0 es false)
+open_ready main p keys t os es new is none =
+    parts new main.name (tasks_out (map kept_view os)) (ap (λ (r : ReadySeen P). r.main) is) (ap (λ (r : ReadySeen P). r.out) is ∙ ap (λ xs. tasks_out (map kept_view xs)) (sym none))
+
 -- a master in its state, which goes on
-module _ {N : Type 0} (dig : N → (List ℕ → List ℕ)) (m : MasterSeen N) (n : N) (shelves : ShelvesSeen) (b : Board P) (e : record { namer = n; shelves = shelves; board = b } ≡ m) (lost : List ℕ) (entries workers : ℕ) (marker : SeatSeen) (stands : MasterStands (dig n) b lost entries workers shelves marker) (run : m.board.stopped ≡ false) where
+module _ {N : Type 0} (dig : N → (List ℕ → List ℕ)) (m : MasterSeen N) (n : N) (shelves : ShelvesSeen) (b : Board P) (e : record { namer = n; shelves = shelves; board = b } ≡ m) (lost : List ℕ) (entries workers : ℕ) (marker : SeatSeen) (ready : ReadySeen P) (stands : MasterStands (dig n) b lost entries workers shelves marker ready) (run : m.board.stopped ≡ false) where
   goes : b.stopped ≡ false
   goes = subst (λ (z : MasterSeen N). z.board.stopped ≡ false) (sym e) run
 
@@ -224,16 +238,59 @@ module _ {N : Type 0} (dig : N → (List ℕ → List ℕ)) (m : MasterSeen N) (
   pub whole_now : Whole b.main b.table
   whole_now = sound_whole (dig n) worker_of b going.sound
 
+  pub ready_now : ready ≡ ready_of b
+  ready_now = (stands goes).4
+
+  pub ready_whole : Whole ready.main ready.table
+  ready_whole = subst (λ (r : ReadySeen P). Whole r.main r.table) (sym ready_now) whole_now
+
+  pub table_whole : (t : TableSeen P) → t ≡ b.table → Whole b.main t
+  table_whole t e = subst (Whole b.main) (sym e) whole_now
+
+  pub ready_is : ready ≡ ready_of m.board
+  ready_is = ready_now ∙ ap (λ (z : MasterSeen N). ready_of z.board) e
+
+  pub one_each : OneEach b.orders
+  one_each =
+      let s = going.sound in
+      record { numbers = s.numbers; tasks = s.tasks; workers = s.workers }
+
   -- after a start
-  module _ (x : TaskId) (w from : ℕ) (r : Runnable (board_graph m.board) x) (i : In w (idle_of m.board)) (os : List board.OrderOut) (js : List j.Entry) (is_from : from ≡ wait_number (last_wait x b.table)) (is_os : os ≡ b.orders ++ record { number = b.starts; worker = w; task = x; from = from } ∷ []) (is_js : js ≡ b.journal ++ j.Entry.Start b.starts w (task_key x) from ∷ []) where
-    pub going_started : Going (dig n) (record b { orders = os; starts = b.starts + 1; journal = js })
+  module _ (x : TaskId) (w from : ℕ) (r : Runnable (board_graph m.board) x) (i : In w (idle_of m.board)) (os : List board.OrderOut) (js : List j.Entry) (is_from : from ≡ wait_number (last_wait x b.table)) (is_os : os ≡ b.orders ++ record { number = b.starts; worker = w; task = x; from = from } ∷ []) (is_js : js ≡ b.journal ++ j.Entry.Start b.starts w (task_key x) from ∷ []) (new : ReadySeen P) (is_new : new ≡ with_out ready x) where
+    abbrev now_started : Board P
+    now_started = record b { table = new.table; orders = os; starts = b.starts + 1; journal = js }
+
+    pub same_table : new.table ≡ b.table
+    same_table = ap (λ (r : ReadySeen P). r.table) is_new ∙ ap (λ (r : ReadySeen P). r.table) ready_now
+
+    pub ready_started : new ≡ ready_of now_started
+    ready_started =
+        parts new b.main (tasks_out os) (ap (λ (r : ReadySeen P). r.main) is_new ∙ ap (λ (r : ReadySeen P). r.main) ready_now) (ap (λ (r : ReadySeen P). r.out) is_new ∙ (ap (λ (r : ReadySeen P). r.out ++ x ∷ []) ready_now ∙ (sym (tasks_join b.orders (record { number = b.starts; worker = w; task = x; from = from })) ∙ ap tasks_out (sym is_os))))
+
+    pub gone_started : new.table.gone ≡ lost
+    gone_started = ap (λ (t : TableSeen P). t.gone) same_table ∙ gone_now
+
+    pub going_started : Going (dig n) now_started
     going_started =
         let er = subst (λ (z : MasterSeen N). Runnable (board_graph z.board) x) (sym e) r in
         let ei = subst (λ (z : MasterSeen N). In w (idle_of z.board)) (sym e) i in
         let os_so = is_os ∙ ap (λ f. b.orders ++ record { number = b.starts; worker = w; task = x; from = f } ∷ []) is_from in
         let js_so = is_js ∙ ap (λ f. b.journal ++ j.Entry.Start b.starts w (task_key x) f ∷ []) is_from in
-        let so : record b { orders = os; starts = b.starts + 1; journal = js } ≡ started worker_of b x w = ap (λ z. record b { orders = z; starts = b.starts + 1; journal = js }) os_so ∙ ap (λ z. record (started worker_of b x w) { journal = z }) js_so in
+        let so : now_started ≡ started worker_of b x w = ap (λ z. record b { table = z; orders = os; starts = b.starts + 1; journal = js }) same_table ∙ (ap (λ z. record b { orders = z; starts = b.starts + 1; journal = js }) os_so ∙ ap (λ z. record (started worker_of b x w) { journal = z }) js_so) in
         subst (Going (dig n)) (sym so) (started_going (dig n) b going x w er ei)
+
+  -- where the table alone has changed
+  pub changed_out : (now : ReadySeen P) (t : TableSeen P) → now ≡ with_table ready t → now.out ≡ tasks_out b.orders
+  changed_out now t is_now = ap (λ (r : ReadySeen P). r.out) is_now ∙ ap (λ (r : ReadySeen P). r.out) ready_now
+
+  -- after orders are closed: the table has changed, then what is out
+  module _ (before new : ReadySeen P) (t : TableSeen P) (os : List board.OrderOut) (is_before : before ≡ with_table ready t) (is_new : new ≡ record before { out = tasks_out os }) where
+    pub closed_table : new.table ≡ t
+    closed_table = ap (λ (r : ReadySeen P). r.table) is_new ∙ ap (λ (r : ReadySeen P). r.table) is_before
+
+    pub closed_ready : new ≡ record { table = new.table; main = b.main; out = tasks_out os }
+    closed_ready =
+        parts new b.main (tasks_out os) (ap (λ (r : ReadySeen P). r.main) is_new ∙ (ap (λ (r : ReadySeen P). r.main) is_before ∙ ap (λ (r : ReadySeen P). r.main) ready_now)) (ap (λ (r : ReadySeen P). r.out) is_new)
 
   -- after a loss
   module _ (w : ℕ) (u : TableSeen P) (os : List board.OrderOut) (js : List j.Entry) (is_u : u ≡ dropped worker_of w b.table) (is_os : os ≡ filter (λ (x : board.OrderOut). not (nat_eq w x.worker)) b.orders) (is_js : js ≡ b.journal ++ j.Entry.Lost w b.closes ∷ []) where

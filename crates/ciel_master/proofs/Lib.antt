@@ -1,4 +1,5 @@
 mod Lists
 mod Steps
 mod Marking
+mod Stays
 mod Kept

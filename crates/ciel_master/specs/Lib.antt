@@ -2,4 +2,5 @@ pub mod Views
 pub mod Refusals
 pub mod Taking
 pub mod Marked
+pub mod Orders
 pub mod Seen

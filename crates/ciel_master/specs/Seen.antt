@@ -7,6 +7,8 @@ use Rattle.ciel_journal.specs.Job.{Digest}
 use Rattle.ciel_store.specs.Seen.{SeatSeen, ShelvesSeen}
 use Rattle.ciel_table.specs.Seen.{TableSeen}
 use Rattle.ciel_turns.specs.Left.{losses_left}
+use Rattle.ciel_ready.specs.Seen.{ReadySeen}
+use Rattle.ciel_master.specs.Orders.{ready_of}
 use Rattle.ciel_master.specs.Marked.{Marked}
 use Rattle.ciel_bring.specs.Brings.{worker_of}
 use Rattle.ciel_master.specs.Views.{entry_view, kept_view}
@@ -54,7 +56,9 @@ pub record HasRoom (losses : List (ℕ × ℕ)) (lost : List ℕ) (entries entry
   pub journal : entries + losses_left losses lost ≤ entry_room
   pub workers : length lost + losses_left losses lost ≤ lost_room
 
--- besides, these are the lost workers, there is room for the losses that are left, and those that were carried out are marked
-abbrev pub MasterStands : (List ℕ → List ℕ) → Board P → (lost : List ℕ) → (entry_room lost_room : ℕ) → ShelvesSeen → SeatSeen → Type 0
-MasterStands digest b lost entry_room lost_room shelves marker =
-    b.stopped ≡ false → Going digest b × (b.table.gone ≡ lost) × HasRoom b.plan.losses lost (length b.journal) entry_room lost_room × Marked b.plan.losses lost shelves marker
+-- besides, these are the lost workers, there is room for the losses that are left, those that were carried out are marked, and what is
+-- kept of the tasks that can run is the state's
+abbrev pub MasterStands : (List ℕ → List ℕ) → Board P → (lost : List ℕ) → (entry_room lost_room : ℕ) → ShelvesSeen → SeatSeen → ReadySeen P → Type 0
+MasterStands digest b lost entry_room lost_room shelves marker ready =
+    b.stopped ≡ false → Going digest b × (b.table.gone ≡ lost) × HasRoom b.plan.losses lost (length b.journal) entry_room lost_room
+    × Marked b.plan.losses lost shelves marker × (ready ≡ ready_of b)

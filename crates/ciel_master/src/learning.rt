@@ -4,13 +4,14 @@ ghost use Rattle.std.specs.Prelude.{◌≡◌, ℕ, Ok, IfErr, OnErr, OnOk};
 ghost use Rattle.ciel_board.specs.Reports.{AllLearned, learned_all};
 ghost use Rattle.ciel_master.specs.Refusals.{FirstStops, Stops, StopsAt};
 ghost use Rattle.ciel_master.specs.Taking.{LearnedFor, learned_for};
+ghost use Rattle.ciel_ready.specs.Seen.{with_table};
 ghost use Rattle.ciel_table.specs.Learning.{learn_answer, learned};
 
 use crate::stop::Stop;
 use ciel_name::name::Namer;
+use ciel_ready::ready::Ready;
 use ciel_store::shelves::Place;
 use ciel_table::refusal::Learn;
-use ciel_table::table::Table;
 use ciel_task::block::Block;
 use ciel_task::report::End;
 use sky_base::object::Named;
@@ -30,13 +31,13 @@ fn why(refusal: Learn, given: &Named) -> Stop
 }
 
 /// Learns one description. A refusal changes nothing.
-fn learn<N: Namer>(table: &mut Table<Place<Block>>, namer: &N, named: &Named) -> Result<(), Stop>
-    ensures learned { OnOk result (table.new ≡ learned (N.digest namer.now) named.now table.old) }
-    ensures answer { OnOk result ((id : ℕ) × (learn_answer named.now table.old ≡ Ok id)) }
-    ensures refused { IfErr result (λ e. StopsAt named.now table.old e) }
-    ensures kept { OnErr result (table.new ≡ table.old) }
+fn learn<N: Namer>(ready: &mut Ready<Place<Block>>, namer: &N, named: &Named) -> Result<(), Stop>
+    ensures learned { OnOk result (ready.new ≡ with_table ready.old (learned (N.digest namer.now) named.now ready.old.table)) }
+    ensures answer { OnOk result ((id : ℕ) × (learn_answer named.now ready.old.table ≡ Ok id)) }
+    ensures refused { IfErr result (λ e. StopsAt named.now ready.old.table e) }
+    ensures kept { OnErr result (ready.new ≡ ready.old) }
 {
-    match table.learn(named, namer) {
+    match ready.learn(named, namer) {
         Ok(_) => Ok(()),
         Err(refusal) => Err(why(refusal, named)),
     }
@@ -44,35 +45,35 @@ fn learn<N: Namer>(table: &mut Table<Place<Block>>, namer: &N, named: &Named) ->
 
 /// Learns a list in order, up to the first that is refused.
 fn learn_all<N: Namer>(
-    table: &mut Table<Place<Block>>,
+    ready: &mut Ready<Place<Block>>,
     namer: &N,
     spawned: &[Named],
 ) -> Result<(), Stop>
-    ensures learned { OnOk result (table.new ≡ learned_all (N.digest namer.now) spawned.now table.old) }
-    ensures all { OnOk result (AllLearned (N.digest namer.now) spawned.now table.old) }
-    ensures refused { IfErr result (λ e. FirstStops (N.digest namer.now) spawned.now table.old e) }
+    ensures learned { OnOk result (ready.new ≡ with_table ready.old (learned_all (N.digest namer.now) spawned.now ready.old.table)) }
+    ensures all { OnOk result (AllLearned (N.digest namer.now) spawned.now ready.old.table) }
+    ensures refused { IfErr result (λ e. FirstStops (N.digest namer.now) spawned.now ready.old.table e) }
 {
     for i in 0..spawned.len() {
-        learn(table, namer, &spawned[i])?;
+        learn(ready, namer, &spawned[i])?;
     }
     Ok(())
 }
 
 /// Learns what a report spawned; where it tells that something was missing, nothing.
 pub(crate) fn learn_for<N: Namer>(
-    table: &mut Table<Place<Block>>,
+    ready: &mut Ready<Place<Block>>,
     namer: &N,
     spawned: &[Named],
     end: &End,
 ) -> Result<(), Stop>
-    ensures learned { OnOk result (table.new ≡ learned_for (N.digest namer.now) end.now spawned.now table.old) }
-    ensures all { OnOk result (LearnedFor (N.digest namer.now) end.now spawned.now table.old) }
-    ensures refused { IfErr result (λ e. FirstStops (N.digest namer.now) spawned.now table.old e) }
+    ensures learned { OnOk result (ready.new ≡ with_table ready.old (learned_for (N.digest namer.now) end.now spawned.now ready.old.table)) }
+    ensures all { OnOk result (LearnedFor (N.digest namer.now) end.now spawned.now ready.old.table) }
+    ensures refused { IfErr result (λ e. FirstStops (N.digest namer.now) spawned.now ready.old.table e) }
 {
     match end {
         End::Missing { .. } => Ok(()),
         End::Made(_) | End::Saved { .. } | End::Shown(_) => {
-            match learn_all(table, namer, spawned) {
+            match learn_all(ready, namer, spawned) {
                 Ok(()) => Ok(()),
                 Err(stop) => Err(stop),
             }

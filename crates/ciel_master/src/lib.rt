@@ -5,6 +5,7 @@
 //! and its objects, `orders` holds what is out; `master` is the whole.
 #![tactic(auto)]
 
+mod closing;
 pub mod entry;
 mod learning;
 mod marks;

@@ -10,12 +10,13 @@ ghost use Rattle.ciel_board.specs.Board as b;
 ghost use Rattle.ciel_board.specs.Board.{board_graph, find_order, idle_of, workers_out};
 ghost use Rattle.ciel_board.specs.Moves.{accepted, empty, lost_at, opened, order_for, started};
 ghost use Rattle.ciel_board.specs.Reports.{IsNamed};
-ghost use Rattle.ciel_journal.specs.Graph.{Circle, Picks, Runnable};
+ghost use Rattle.ciel_journal.specs.Graph.{Circle, Runnable};
 ghost use Rattle.ciel_journal.specs.Job.{Each, In};
 ghost use Rattle.ciel_journal.specs.Turns.{FirstDue, NothingDue, is_idle};
 ghost use Rattle.ciel_table.specs.Learning.{learned};
+ghost use Rattle.ciel_ready.specs.Seen.{CanRunAt, CanRunMany};
 ghost use Rattle.ciel_task.specs.Views.{P, order_view, report_end};
-ghost use Rattle.ciel_want.specs.Waited.{tasks_in_order};
+ghost use Rattle.ciel_master.specs.Orders.{ready_of};
 ghost use Rattle.ciel_master.specs.Marked.{FitsUnlessMissing, IsCarriedOut, SeenOf};
 ghost use Rattle.ciel_master.specs.Refusals.{FirstStops};
 ghost use Rattle.ciel_master.specs.Seen.{MasterSeen, most_descriptions, plan_view};
@@ -23,25 +24,26 @@ ghost use Rattle.ciel_master.specs.Taking.{LearnedFor, now_of};
 ghost use Rattle.ciel_bring.specs.Brings.{worker_of};
 ghost use Rattle.ciel_master.specs.Views.{entry_view};
 
+use crate::closing::{close_lost, close_order};
 use crate::entry::Entry;
 use crate::learning::learn_for;
 use crate::marks::confirm;
-use crate::orders::{OrderOut, all_among, can_work, close, close_at, find, has, tasks, workers};
+use crate::orders::{OrderOut, all_among, can_work, find, workers};
 use crate::plan::RunPlan;
 use crate::stop::{Now, Stop};
 use crate::taking::{begin, is_last, note_loss, take_end};
 use ciel_bring::bring::order_at;
 use ciel_journal::turn::{first_due, idle};
 use ciel_name::name::Namer;
+use ciel_ready::ready::Ready;
 use ciel_store::loss::Loss;
 use ciel_store::seats::Marker;
 use ciel_store::shelves::Place;
-use ciel_table::table::Table;
 use ciel_task::block::Block;
 use ciel_task::order::Order;
 use ciel_task::report::Report;
 use ciel_task::shop::Shop;
-use ciel_want::want::{circle, runnable};
+use ciel_want::want::circle;
 use sky_base::name::Name;
 use sky_base::names::Names;
 use sky_base::object::{Named, TaskId};
@@ -57,7 +59,7 @@ pub struct Master<K, N: Namer> {
     shop: Arc<Shop<K, N>, Global>,
     plan: RunPlan,
     main: Name,
-    table: Table<Place<Block>>,
+    ready: Ready<Place<Block>>,
     orders: Vec<OrderOut>,
     starts: u64,
     closes: u64,
@@ -80,22 +82,22 @@ impl<K, N: Namer> Model for Master<K, N> {
 
     ghost coded = { Prim.hlevel (codes, val_code, vals_code, pairs_code, stand_code) };
 
-    ghost view = { λ m. record { namer = (arc_value m.shop).namer; shelves = (arc_value m.shop).shelves; board = board_of m.plan (arc_value m.shop).job.script.keys m.main m.table m.orders.items m.starts m.closes m.journal.items m.stopped } };
+    ghost view = { λ m. record { namer = (arc_value m.shop).namer; shelves = (arc_value m.shop).shelves; board = board_of m.plan (arc_value m.shop).job.script.keys m.main m.ready.table m.orders.items m.starts m.closes m.journal.items m.stopped } };
 
-    ghost invariant = { λ m. MasterStands (N.digest (arc_value m.shop).namer) (board_of m.plan (arc_value m.shop).job.script.keys m.main m.table m.orders.items m.starts m.closes m.journal.items m.stopped) m.lost.items (vec_capacity m.journal) (vec_capacity m.lost) (arc_value m.shop).shelves m.marker };
+    ghost invariant = { λ m. MasterStands (N.digest (arc_value m.shop).namer) (board_of m.plan (arc_value m.shop).job.script.keys m.main m.ready.table m.orders.items m.starts m.closes m.journal.items m.stopped) m.lost.items (vec_capacity m.journal) (vec_capacity m.lost) (arc_value m.shop).shelves m.marker m.ready };
 }
 
-/// A table that knows the main call alone.
-fn first_table<N: Namer>(
+/// A table that knows the main call alone, with nothing out.
+fn first_ready<N: Namer>(
     alloc: Global,
     main: &Named,
     namer: &N,
-) -> Result<Table<Place<Block>>, Memory>
-    ensures { IfOk result (λ t. t ≡ learned (N.digest namer.now) main.now (empty most_descriptions)) }
+) -> Result<Ready<Place<Block>>, Memory>
+    ensures { IfOk result (λ r. r ≡ record { table = learned (N.digest namer.now) main.now (empty most_descriptions); main = main.now.name; out = [] }) }
 {
-    let mut table = Table::open(alloc, 65_536)?;
-    match table.learn(main, namer) {
-        Ok(_) => Ok(table),
+    let mut ready = Ready::open(alloc, main.name, 65_536)?;
+    match ready.learn(main, namer) {
+        Ok(_) => Ok(ready),
         Err(_) => Err(Memory),
     }
 }
@@ -132,7 +134,7 @@ impl<K: Drop, N: Namer + Drop> Master<K, N> {
         requires main { main.desc ≡ Desc1.Call [] no_pairs no_vals }
         ensures opened { IfOk result (λ m. m ≡ record { namer = (arc_value shop).namer; shelves = (arc_value shop).shelves; board = opened (N.digest (arc_value shop).namer) (plan_view plan) (arc_value shop).job.script.keys main }) }
     {
-        let table = first_table(alloc, &main, &shop.namer)?;
+        let ready = first_ready(alloc, &main, &shop.namer)?;
         let losses = plan.losses.len();
         let journal = with_room(alloc, losses)?;
         let lost = with_room(alloc, losses)?;
@@ -140,7 +142,7 @@ impl<K: Drop, N: Namer + Drop> Master<K, N> {
             shop,
             plan,
             main: main.name,
-            table,
+            ready,
             orders: Vec::new(alloc),
             starts: 0,
             closes: 0,
@@ -152,16 +154,29 @@ impl<K: Drop, N: Namer + Drop> Master<K, N> {
         })
     }
 
-    /// The tasks that can run, in the order of their least rows, the root task last.
+    /// How many tasks can run. It costs as much as what has changed since it was asked for last, and after a loss as much as the table.
     ///
     /// Answers `Memory` for want of memory.
-    pub fn runnable(&self) -> Result<Vec<TaskId>, Memory>
-        requires going { self.now.board.stopped ≡ false }
-        ensures runnable { IfOk result (λ ts. Picks (Runnable (board_graph self.now.board)) (tasks_in_order self.now.board.table) ts.items) }
+    pub fn count(&mut self) -> Result<usize, Memory>
+        requires going { self.old.board.stopped ≡ false }
+        ensures count { IfOk result (λ n. CanRunMany (ready_of self.old.board) n) }
+        ensures same { self.new ≡ self.old }
     {
-        let out = tasks(self.alloc, &self.orders)?;
-        let found = runnable(self.alloc, &self.table, &self.main, out.as_slice())?;
-        Ok(found)
+        let count = self.ready.count()?;
+        Ok(count)
+    }
+
+    /// The k-th of the tasks that can run, from 0, in the order of their least rows, the root task last.
+    ///
+    /// Answers `Memory` for want of memory.
+    pub fn nth(&mut self, k: usize) -> Result<TaskId, Memory>
+        requires going { self.old.board.stopped ≡ false }
+        requires within { (n : ℕ) × CanRunMany (ready_of self.old.board) n × (k < n) }
+        ensures task { IfOk result (λ task. CanRunAt (ready_of self.old.board) k task) }
+        ensures same { self.new ≡ self.old }
+    {
+        let task = self.ready.nth(k)?;
+        Ok(task)
     }
 
     /// A circle of waits, where nothing is out. `None` exactly where a task can run.
@@ -175,7 +190,7 @@ impl<K: Drop, N: Namer + Drop> Master<K, N> {
         ensures stuck { IfOk result (λ o. IfSome o (λ _. (task : TaskId) → Runnable (board_graph self.now.board) task → ⊥)) }
         ensures none { IfOk result (λ o. IfNone o ((task : TaskId) × Runnable (board_graph self.now.board) task)) }
     {
-        let found = circle(self.alloc, &self.table, &self.main)?;
+        let found = circle(self.alloc, self.ready.table(), &self.main)?;
         Ok(found)
     }
 
@@ -196,7 +211,7 @@ impl<K: Drop, N: Namer + Drop> Master<K, N> {
             self.alloc,
             keys,
             &self.main,
-            &self.table,
+            self.ready.table(),
             number,
             task,
             worker,
@@ -208,7 +223,13 @@ impl<K: Drop, N: Namer + Drop> Master<K, N> {
             from: order.from,
         };
         let room = self.plan.losses.len();
-        begin(&mut self.orders, &mut self.journal, out, room)?;
+        begin(
+            &mut self.ready,
+            &mut self.orders,
+            &mut self.journal,
+            out,
+            room,
+        )?;
         self.starts += 1;
         Ok(order)
     }
@@ -301,8 +322,8 @@ impl<K: Drop, N: Namer + Drop> Master<K, N> {
         let loss = Loss { number, worker };
         self.shop.shelves.mark_lost(&mut self.marker, loss);
         note_loss(&mut self.lost, &mut self.journal, worker, self.closes);
-        close_at(&mut self.orders, worker);
-        self.table.drop_worker(worker);
+        self.ready.drop_worker(worker);
+        close_lost(&mut self.ready, &mut self.orders, worker);
     }
 
     /// Whether it is one of the plan's workers, isn't lost and has no order. It takes no memory.
@@ -360,18 +381,18 @@ impl<K: Drop, N: Namer + Drop> Master<K, N> {
             unreachable!()
         };
         let last = is_last(&order.task, &end, copied.as_slice());
-        learn_for(&mut self.table, &self.shop.namer, spawned.as_slice(), &end)?;
+        learn_for(&mut self.ready, &self.shop.namer, spawned.as_slice(), &end)?;
         let room = self.plan.losses.len();
         let now = take_end(
             self.alloc,
-            &mut self.table,
+            &mut self.ready,
             &mut self.journal,
             &order,
             copied.as_slice(),
             end,
             room,
         )?;
-        close(&mut self.orders, order.number);
+        close_order(&mut self.ready, &mut self.orders, &order);
         self.closes += 1;
         self.stopped = last;
         Ok(now)

@@ -4,9 +4,10 @@ ghost use Rattle.std.specs.Prelude.{◌≡◌, ◌<◌, ℕ, false, filter, map,
 ghost use Rattle.std.specs.Option.{option_map};
 ghost use Rattle.std.specs.List.{list_any};
 ghost use Rattle.ciel_board.specs.Board as b;
-ghost use Rattle.ciel_board.specs.Board.{find_order, tasks_out, workers_out};
+ghost use Rattle.ciel_board.specs.Board.{find_order, workers_out};
 ghost use Rattle.ciel_journal.specs.Turns.{is_idle};
 ghost use Rattle.ciel_board.specs.Moves.{without};
+ghost use Rattle.ciel_master.specs.Orders.{worker_order};
 ghost use Rattle.ciel_master.specs.Views.{kept_view};
 
 use sky_base::object::TaskId;
@@ -32,6 +33,22 @@ pub(crate) fn find(orders: &[OrderOut], number: u64) -> Option<OrderOut>
         i -= 1;
         let order = &orders[i];
         if number == order.number {
+            best = Some(*order);
+        }
+    }
+    best
+}
+
+/// The one of this worker.
+pub(crate) fn find_at(orders: &[OrderOut], worker: u32) -> Option<OrderOut>
+    ensures { option_map kept_view result ≡ worker_order worker (map kept_view orders.now) }
+{
+    let mut best = None;
+    let mut i = orders.len();
+    while i > 0 {
+        i -= 1;
+        let order = &orders[i];
+        if worker == order.worker {
             best = Some(*order);
         }
     }
@@ -115,17 +132,4 @@ pub(crate) fn workers(alloc: Global, orders: &[OrderOut]) -> Result<Vec<u32>, Me
         }
     }
     Ok(workers)
-}
-
-/// The tasks that are out.
-pub(crate) fn tasks(alloc: Global, orders: &[OrderOut]) -> Result<Vec<TaskId>, Memory>
-    ensures { IfOk result (λ ts. ts.items ≡ tasks_out (map kept_view orders.now)) }
-{
-    let mut tasks = Vec::new(alloc);
-    for i in 0..orders.len() {
-        if tasks.push(orders[i].task).is_err() {
-            return Err(Memory);
-        }
-    }
-    Ok(tasks)
 }

@@ -6,12 +6,13 @@ ghost use Rattle.ciel_board.specs.Reports.{copy_names, made_keys};
 ghost use Rattle.ciel_journal.specs.Job.{Each};
 ghost use Rattle.ciel_bring.specs.Brings.{worker_of};
 ghost use Rattle.ciel_task.specs.Views.{copies_view, output_view};
+ghost use Rattle.ciel_ready.specs.Seen.{with_table};
 ghost use Rattle.ciel_table.specs.Changes.{placed};
 ghost use Rattle.ciel_table.specs.Seen.{Known};
 ghost use Rattle.ciel_table.specs.Sound.{Here};
 
+use ciel_ready::ready::Ready;
 use ciel_store::shelves::Place;
-use ciel_table::table::Table;
 use ciel_task::block::{Block, Held, Spot};
 use ciel_task::report::Made;
 use sky_base::name::Name;
@@ -20,25 +21,25 @@ use sky_base::text::Memory;
 use std::alloc::Global;
 
 /// Places the outputs of a task.
-pub(crate) fn place_outputs(table: &mut Table<Place<Block>>, made: &[Made]) -> Result<(), Memory>
-    requires known { Each (λ m. Known table.old m.name × Here table.old.gone (worker_of m.place)) made.now }
-    ensures placed { OnOk result (table.new ≡ with_outputs (map output_view made.now) table.old) }
+pub(crate) fn place_outputs(ready: &mut Ready<Place<Block>>, made: &[Made]) -> Result<(), Memory>
+    requires known { Each (λ m. Known ready.old.table m.name × Here ready.old.table.gone (worker_of m.place)) made.now }
+    ensures placed { OnOk result (ready.new ≡ with_table ready.old (with_outputs (map output_view made.now) ready.old.table)) }
 {
     for i in 0..made.len() {
         let output = &made[i];
-        table.add_place(&output.name, output.place.share())?;
+        ready.add_place(&output.name, output.place.share())?;
     }
     Ok(())
 }
 
 /// Places one copy; what isn't at a shelf is none.
-fn place_copy(table: &mut Table<Place<Block>>, copy: &Held) -> Result<(), Memory>
-    requires known { Each (λ c. Known table.old c.name × Here table.old.gone (worker_of c.place)) (copies_view (copy.now ∷ [])) }
-    ensures placed { OnOk result (table.new ≡ with_copies (copies_view (copy.now ∷ [])) table.old) }
+fn place_copy(ready: &mut Ready<Place<Block>>, copy: &Held) -> Result<(), Memory>
+    requires known { Each (λ c. Known ready.old.table c.name × Here ready.old.table.gone (worker_of c.place)) (copies_view (copy.now ∷ [])) }
+    ensures placed { OnOk result (ready.new ≡ with_table ready.old (with_copies (copies_view (copy.now ∷ [])) ready.old.table)) }
 {
     match &copy.at {
         Spot::Shelf(place) => {
-            table.add_place(&copy.name, place.share())?;
+            ready.add_place(&copy.name, place.share())?;
             Ok(())
         }
         Spot::Input(_) => Ok(()),
@@ -46,12 +47,12 @@ fn place_copy(table: &mut Table<Place<Block>>, copy: &Held) -> Result<(), Memory
 }
 
 /// Places what was copied.
-pub(crate) fn place_copies(table: &mut Table<Place<Block>>, copied: &[Held]) -> Result<(), Memory>
-    requires known { Each (λ c. Known table.old c.name × Here table.old.gone (worker_of c.place)) (copies_view copied.now) }
-    ensures placed { OnOk result (table.new ≡ with_copies (copies_view copied.now) table.old) }
+pub(crate) fn place_copies(ready: &mut Ready<Place<Block>>, copied: &[Held]) -> Result<(), Memory>
+    requires known { Each (λ c. Known ready.old.table c.name × Here ready.old.table.gone (worker_of c.place)) (copies_view copied.now) }
+    ensures placed { OnOk result (ready.new ≡ with_table ready.old (with_copies (copies_view copied.now) ready.old.table)) }
 {
     for i in 0..copied.len() {
-        place_copy(table, &copied[i])?;
+        place_copy(ready, &copied[i])?;
     }
     Ok(())
 }

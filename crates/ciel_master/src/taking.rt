@@ -8,6 +8,7 @@ ghost use Rattle.ciel_task.specs.declared.report.End.{End};
 ghost use Rattle.ciel_master.specs.Taking.{CanTake, CopiesPlace, OutputsPlace, entry_for, is_last, now_of, table_after};
 ghost use Rattle.ciel_bring.specs.Brings.{worker_of};
 ghost use Rattle.ciel_master.specs.Views.{entry_view, kept_view};
+ghost use Rattle.ciel_ready.specs.Seen.{with_out, with_table};
 ghost use Rattle.ciel_task.specs.Views.{copies_view, how_view, output_view};
 ghost use Rattle.ciel_table.specs.Changes.{saved};
 ghost use Rattle.ciel_table.specs.Seen.{waits_of};
@@ -17,8 +18,8 @@ use crate::entry::Entry;
 use crate::orders::OrderOut;
 use crate::placing::{keys_of, names_of, place_copies, place_outputs};
 use crate::stop::Now;
+use ciel_ready::ready::Ready;
 use ciel_store::shelves::Place;
-use ciel_table::table::Table;
 use ciel_table::wait::Wait;
 use ciel_task::block::{Block, Held};
 use ciel_task::report::{End, Made};
@@ -42,31 +43,36 @@ fn write(journal: &mut Vec<Entry>, entry: Entry, room: usize) -> Result<(), Memo
     Ok(())
 }
 
-/// An order is out, and the journal has it, with room for so many entries more. After `Memory` both are as they were.
+/// An order is out, and its task with it, and the journal has it, with room for so many entries more. After `Memory` all are as they
+/// were.
 pub(crate) fn begin(
+    ready: &mut Ready<Place<Block>>,
     orders: &mut Vec<OrderOut>,
     journal: &mut Vec<Entry>,
     order: OrderOut,
     room: usize,
 ) -> Result<(), Memory>
     requires few { room < 2 ^ 32 }
+    ensures ready { OnOk result (ready.new ≡ with_out ready.old order.task) }
     ensures orders { OnOk result (map kept_view orders.new.items ≡ map kept_view orders.old.items ++ kept_view order ∷ []) }
     ensures journal { OnOk result (map entry_view journal.new.items ≡ map entry_view journal.old.items ++ entry_view (Entry.Start order.number order.worker order.task order.from) ∷ []) }
     ensures room { OnOk result (length journal.new.items + room ≤ vec_capacity journal.new) }
+    ensures still { OnErr result (ready.new ≡ ready.old) }
     ensures kept { OnErr result (orders.new.items ≡ orders.old.items) }
     ensures unwritten { OnErr result (journal.new.items ≡ journal.old.items) }
     ensures wide { vec_capacity journal.old ≤ vec_capacity journal.new }
 {
-    if orders.reserve(1).is_err() {
+    if orders.reserve(1).is_err() || journal.reserve(room + 1).is_err() {
         return Err(Memory);
     }
+    ready.start(&order.task)?;
     let entry = Entry::Start {
         number: order.number,
         worker: order.worker,
         task: order.task,
         from: order.from,
     };
-    write(journal, entry, room)?;
+    journal.push_reserved(entry);
     orders.push_reserved(order);
     Ok(())
 }
@@ -87,7 +93,7 @@ pub(crate) fn note_loss(lost: &mut Vec<u32>, journal: &mut Vec<Entry>, worker: u
 /// The task came to its end: its outputs and copies are placed, and the journal has it. After `Memory` the journal is as it was.
 fn take_made(
     alloc: Global,
-    table: &mut Table<Place<Block>>,
+    ready: &mut Ready<Place<Block>>,
     journal: &mut Vec<Entry>,
     number: u64,
     made: &[Made],
@@ -95,17 +101,17 @@ fn take_made(
     room: usize,
 ) -> Result<(), Memory>
     requires few { room < 2 ^ 32 }
-    requires made { OutputsPlace table.old made.now }
-    requires copied { CopiesPlace table.old copied.now }
-    ensures table { OnOk result (table.new ≡ with_copies (copies_view copied.now) (with_outputs (map output_view made.now) table.old)) }
+    requires made { OutputsPlace ready.old.table made.now }
+    requires copied { CopiesPlace ready.old.table copied.now }
+    ensures ready { OnOk result (ready.new ≡ with_table ready.old (with_copies (copies_view copied.now) (with_outputs (map output_view made.now) ready.old.table))) }
     ensures journal { OnOk result (map entry_view journal.new.items ≡ map entry_view journal.old.items ++ j.Entry.Done number (made_keys (map output_view made.now)) (copy_names (copies_view copied.now)) ∷ []) }
     ensures room { OnOk result (length journal.new.items + room ≤ vec_capacity journal.new) }
     ensures kept { OnErr result (journal.new.items ≡ journal.old.items) }
 {
     let keys = keys_of(alloc, made)?;
     let names = names_of(alloc, copied)?;
-    place_outputs(table, made)?;
-    place_copies(table, copied)?;
+    place_outputs(ready, made)?;
+    place_copies(ready, copied)?;
     let entry = Entry::Done {
         number,
         made: keys,
@@ -117,7 +123,7 @@ fn take_made(
 
 /// The task waits: its stack is saved, and the journal has it. After `Memory` the journal is as it was.
 fn take_saved(
-    table: &mut Table<Place<Block>>,
+    ready: &mut Ready<Place<Block>>,
     journal: &mut Vec<Entry>,
     order: &OrderOut,
     wait: Wait<Place<Block>>,
@@ -125,9 +131,9 @@ fn take_saved(
     room: usize,
 ) -> Result<(), Memory>
     requires few { room < 2 ^ 32 }
-    requires later { IsAbove wait.j (waits_of order.now.task table.old) }
-    requires here { Here table.old.gone (worker_of wait.place) }
-    ensures table { OnOk result (table.new ≡ saved order.now.task wait table.old) }
+    requires later { IsAbove wait.j (waits_of order.now.task ready.old.table) }
+    requires here { Here ready.old.table.gone (worker_of wait.place) }
+    ensures ready { OnOk result (ready.new ≡ with_table ready.old (saved order.now.task wait ready.old.table)) }
     ensures journal { OnOk result (map entry_view journal.new.items ≡ map entry_view journal.old.items ++ j.Entry.Saved order.now.number wait.j mark ∷ []) }
     ensures room { OnOk result (length journal.new.items + room ≤ vec_capacity journal.new) }
     ensures kept { OnErr result (journal.new.items ≡ journal.old.items) }
@@ -137,7 +143,7 @@ fn take_saved(
         j: wait.j,
         mark,
     };
-    table.save_wait(&order.task, wait)?;
+    ready.save_wait(&order.task, wait)?;
     write(journal, entry, room)?;
     Ok(())
 }
@@ -155,7 +161,7 @@ fn answer(shown: Shown) -> Now
 /// What the end of a report changes. After `Memory` the journal is as it was.
 pub(crate) fn take_end(
     alloc: Global,
-    table: &mut Table<Place<Block>>,
+    ready: &mut Ready<Place<Block>>,
     journal: &mut Vec<Entry>,
     order: &OrderOut,
     copied: &[Held],
@@ -163,8 +169,8 @@ pub(crate) fn take_end(
     room: usize,
 ) -> Result<Now, Memory>
     requires few { room < 2 ^ 32 }
-    requires can { CanTake order.now.task table.old copied.now end }
-    ensures table { OnOk result (table.new ≡ table_after order.now.task (how_view copied.now end) table.old) }
+    requires can { CanTake order.now.task ready.old.table copied.now end }
+    ensures ready { OnOk result (ready.new ≡ with_table ready.old (table_after order.now.task (how_view copied.now end) ready.old.table)) }
     ensures journal { OnOk result (map entry_view journal.new.items ≡ map entry_view journal.old.items ++ entry_for order.now.number (how_view copied.now end) ∷ []) }
     ensures room { OnOk result (length journal.new.items + room ≤ vec_capacity journal.new) }
     ensures kept { OnErr result (journal.new.items ≡ journal.old.items) }
@@ -174,7 +180,7 @@ pub(crate) fn take_end(
         End::Made(made) => {
             take_made(
                 alloc,
-                table,
+                ready,
                 journal,
                 order.number,
                 made.as_slice(),
@@ -184,7 +190,7 @@ pub(crate) fn take_end(
             Ok(Now::Goes)
         }
         End::Shown(shown) => {
-            take_made(alloc, table, journal, order.number, &[], copied, room)?;
+            take_made(alloc, ready, journal, order.number, &[], copied, room)?;
             Ok(answer(shown))
         }
         End::Saved {
@@ -200,7 +206,7 @@ pub(crate) fn take_end(
                 refs,
                 holds,
             };
-            take_saved(table, journal, order, wait, mark, room)?;
+            take_saved(ready, journal, order, wait, mark, room)?;
             Ok(Now::Goes)
         }
         End::Missing { name, loss, .. } => {

@@ -4,6 +4,7 @@ use Rattle.ciel_board.specs.Reports.{Copy}
 use Rattle.ciel_journal.specs.Job.{Each}
 use Rattle.ciel_bring.specs.Brings.{worker_of}
 use Rattle.ciel_task.specs.Views.{P, copies_view}
+use Rattle.ciel_ready.specs.Seen.{with_table}
 use Rattle.ciel_table.specs.Seen.{Known}
 use Rattle.ciel_table.specs.Sound.{Here}
 use Rattle.ciel_master.proofs.placing.place_copies.Given as goal
@@ -11,6 +12,6 @@ use Rattle.ciel_master.proofs.placing.place_copies.Given as goal
 abbrev pub invariant-loop-i : goal.invariant-loop-i
 invariant-loop-i l =
     record {
-      table : with_copies (copies_view (drop l.i l.copied)) l.table ≡ with_copies (copies_view l.copied) l.fn.table;
-      known : Each (λ (c : Copy P). Known l.table c.name × Here l.table.gone (worker_of c.place)) (copies_view (drop l.i l.copied));
+      placed : with_table l.ready (with_copies (copies_view (drop l.i l.copied)) l.ready.table) ≡ with_table l.fn.ready (with_copies (copies_view l.copied) l.fn.ready.table);
+      known : Each (λ (c : Copy P). Known l.ready.table c.name × Here l.ready.table.gone (worker_of c.place)) (copies_view (drop l.i l.copied));
     }

@@ -3,6 +3,7 @@ use Rattle.ciel_board.specs.Moves.{with_outputs}
 use Rattle.ciel_journal.specs.Job.{Each}
 use Rattle.ciel_bring.specs.Brings.{worker_of}
 use Rattle.ciel_task.specs.Views.{output_view}
+use Rattle.ciel_ready.specs.Seen.{with_table}
 use Rattle.ciel_table.specs.Seen.{Known}
 use Rattle.ciel_table.specs.Sound.{Here}
 use Rattle.ciel_task.specs.declared.report.Made.{Made}
@@ -11,6 +12,6 @@ use Rattle.ciel_master.proofs.placing.place_outputs.Given as goal
 abbrev pub invariant-loop-i : goal.invariant-loop-i
 invariant-loop-i l =
     record {
-      table : with_outputs (map output_view (drop l.i l.made)) l.table ≡ with_outputs (map output_view l.made) l.fn.table;
-      known : Each (λ (m : Made). Known l.table m.name × Here l.table.gone (worker_of m.place)) (drop l.i l.made);
+      placed : with_table l.ready (with_outputs (map output_view (drop l.i l.made)) l.ready.table) ≡ with_table l.fn.ready (with_outputs (map output_view l.made) l.fn.ready.table);
+      known : Each (λ (m : Made). Known l.ready.table m.name × Here l.ready.table.gone (worker_of m.place)) (drop l.i l.made);
     }
