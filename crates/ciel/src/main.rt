@@ -18,7 +18,7 @@ use std::alloc::Global;
 use std::process::ExitCode;
 use std::rt::{Env, Files};
 use std::sync::Wait;
-use std::thread::{Builder, Promise};
+use std::thread::{Builder, Promise, Threads};
 use std::{env, io};
 
 /// The bytes of stack that a run gets. The interpreter recurses over the tree of the script, through up to
@@ -72,11 +72,10 @@ fn why(e: io::Error) -> Why
 }
 
 /// Runs the program, and gives the status of the process.
-fn run<R: Env + Files + Wait + Alloc<A = Global> + Drop>(
-    rt: R,
-    mut out: HostOut,
-    mut log: HostErr,
-) -> u8 {
+fn run<R>(rt: R, mut out: HostOut, mut log: HostErr) -> u8
+where
+    R: Env + Files + Threads + Wait + Alloc<A = Global> + Copy + Send + Drop + 'static,
+{
     let words = match words(&rt) {
         Ok(words) => words,
         Err(why) => return refused(&why, &mut log),
@@ -87,7 +86,7 @@ fn run<R: Env + Files + Wait + Alloc<A = Global> + Drop>(
     };
     let mut files = HostFiles::new(&rt);
     ciel_main(
-        &rt, alloc, &words, &mut files, &mut out, &mut log, &mut gates,
+        rt, alloc, &words, &mut files, &mut out, &mut log, &mut gates,
     )
     .status
 }

@@ -9,7 +9,7 @@ use Rattle.sky_base.specs.declared.object.Desc1.{Desc1}
 use Rattle.sky_base.specs.declared.object.Named.{Named}
 use Rattle.sky_base.specs.declared.object.TaskId.{TaskId}
 use Rattle.sky_base.specs.ObjectView.{desc_view}
-use Rattle.sky_onward.specs.Onward.{IsRead}
+use Rattle.ciel_channels.specs.Onward.{IsRead}
 use Rattle.sky_params.specs.Orderly.{FunctionsAreOrderly}
 use Rattle.ciel_board.specs.Board.{Board}
 use Rattle.ciel_board.specs.Moves.{opened}
@@ -17,7 +17,7 @@ use Rattle.ciel_crew.specs.Crews.{order_at}
 use Rattle.ciel_drive.specs.Kept.{Keeps, Kept, most_waits, slots_of}
 use Rattle.ciel_ends.specs.Ends.{IsOrderly}
 use Rattle.ciel_ends.proofs.Meaning.{shop_is}
-use Rattle.ciel_inline.specs.Kept.{CrewSeen}
+use Rattle.ciel_channels.specs.Kept.{CrewSeen}
 use Rattle.ciel_master.specs.Seen.{MasterSeen, plan_view}
 use Rattle.ciel_master.specs.declared.plan.RunPlan.{RunPlan}
 use Rattle.ciel_orders.specs.Laws.{PlacesStay}

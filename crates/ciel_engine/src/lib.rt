@@ -1,9 +1,11 @@
 //! A job on the engine: a shop, a master and a crew are opened over it, and the run is driven to its end.
 //!
-//! What executes is a crew in one thread today (`ciel_inline`). Nothing that is said here speaks of it: the end, the journal and what
-//! the gates tell are those that driving promises of any crew.
+//! What executes is a crew of threads (`ciel_channels`). Nothing that is said here speaks of it: the end, the journal and what the gates tell
+//! are those that driving promises of any crew.
 #![tactic(auto)]
 
 mod gates;
 mod opening;
 pub mod run;
+
+pub use ciel_drive::law;

@@ -3,7 +3,7 @@
 ghost use Rattle.std.specs.Prelude.{[], ◌≡◌, ◌≢◌, ◌≤◌, ◌⊎◌, ◌++◌, ◌<◌, ◌^◌, ℕ, None, drop, length, map};
 ghost use Rattle.std.specs.Arc.{arc_value};
 ghost use Rattle.sky_base.specs.JobView.{job_view};
-ghost use Rattle.sky_onward.specs.Onward.{IsRead};
+ghost use Rattle.ciel_channels.specs.Onward.{IsRead};
 ghost use Rattle.ciel_journal.specs.Job.{Each};
 ghost use Rattle.ciel_drive.specs.Ended.{EndsSo};
 ghost use Rattle.ciel_master.specs.Seen.{plan_view};
@@ -16,10 +16,10 @@ ghost use Rattle.ciel_engine.specs.Told.{told_of};
 
 use crate::gates::{put_behind, set_aside};
 use crate::opening::{Opened, open};
+use ciel_channels::channels::Channels;
 use ciel_crew::crew::Crew;
 use ciel_drive::drive::drive;
 use ciel_gate::gate::Gate;
-use ciel_inline::inline::Inline;
 use ciel_master::entry::Entry;
 use ciel_master::plan::RunPlan;
 use ciel_master::stop::RunEnd;
@@ -33,6 +33,7 @@ use std::alloc::Global;
 use std::mem;
 use std::snapshot::Snapshot;
 use std::sync::Wait;
+use std::thread::Threads;
 
 /// What a run came to: how it ended, and its journal.
 #[derive(Drop)]
@@ -41,11 +42,11 @@ pub struct Ran {
     pub journal: Vec<Entry>,
 }
 
-/// Runs a job on as many workers as the plan has, each with its gate, to the end of the run. The first gates are the workers', and
+/// Runs a job on as many workers as the plan has, each a thread with its gate, to the end of the run. The first gates are the workers', and
 /// the others stay as they are.
 ///
 /// There are 1 to 64 workers. The end is `Memory` for want of memory; the gates may then be fewer.
-pub fn run_job<K: Kit + Drop, N: Namer + Drop, G: Gate, R: Wait + Drop>(
+pub fn run_job<K, N, G, R>(
     rt: R,
     alloc: Global,
     job: Job,
@@ -54,6 +55,11 @@ pub fn run_job<K: Kit + Drop, N: Namer + Drop, G: Gate, R: Wait + Drop>(
     gates: &mut Vec<G>,
     plan: RunPlan,
 ) -> Ran
+where
+    K: Kit + Send + Sync + Drop + 'static,
+    N: Namer + Send + Sync + Drop + 'static,
+    G: Gate + Send + 'static,
+    R: Threads + Wait + Copy + Send + Drop + 'static,
     requires read { IsRead (job_view job).script }
     requires inputs { InputsInOrder (job_view job) }
     requires keys { length job.script.keys < 2 ^ 32 }
@@ -109,7 +115,7 @@ fn not_begun(alloc: Global) -> Ran
 }
 
 /// Runs what was opened, with the workers' gates, and hands these back.
-fn run_opened<K: Kit + Drop, N: Namer + Drop, G: Gate, R: Wait + Drop>(
+fn run_opened<K, N, G, R>(
     rt: R,
     alloc: Global,
     opened: Opened<K, N>,
@@ -117,11 +123,17 @@ fn run_opened<K: Kit + Drop, N: Namer + Drop, G: Gate, R: Wait + Drop>(
     plan: Snapshot<RunPlan>,
     seed: u64,
 ) -> (Ran, Vec<G>)
+where
+    K: Kit + Send + Sync + Drop + 'static,
+    N: Namer + Send + Sync + Drop + 'static,
+    G: Gate + Send + 'static,
+    R: Threads + Wait + Copy + Send + Drop + 'static,
     requires opened { IsOpened N.digest plan.value (arc_value opened.shop) opened.master opened.eyes.items }
     requires read { IsRead (job_view (arc_value opened.shop).job).script }
     requires inputs { InputsInOrder (job_view (arc_value opened.shop).job) }
     requires seed { seed ≡ plan.value.seed }
     requires gates { length gates.items ≡ plan.value.workers }
+    requires workers { (0 < plan.value.workers) × (plan.value.workers ≤ 64) }
     ensures end { EndsSo (N.digest (arc_value opened.shop).namer) (job_view (arc_value opened.shop).job) (K.gives (arc_value opened.shop).kit) (plan_view plan.value) (map entry_view result.0.journal.items) result.0.end }
     ensures told { result.0.end ≢ RunEnd.Memory → ToldBy (map entry_view result.0.journal.items) (map G.entered gates.items) (map G.entered result.1.items) }
     ensures all { result.0.end ≢ RunEnd.Memory → length result.1.items ≡ length gates.items }
@@ -133,7 +145,7 @@ fn run_opened<K: Kit + Drop, N: Namer + Drop, G: Gate, R: Wait + Drop>(
         mut master,
         eyes,
     } = opened;
-    match Inline::open(rt, alloc, shop, gates, eyes) {
+    match Channels::open(rt, alloc, shop, gates, eyes) {
         Ok(mut crew) => {
             let end = drive(&mut master, &mut crew, seed);
             let gates = crew.close();

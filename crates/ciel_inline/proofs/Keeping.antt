@@ -115,7 +115,7 @@ none_out kept seen out e same none_kept (w, order, is) =
 -- ---- gates
 
 -- a list with one task more, where it is still told
-fades_one : (task : TaskId) (before after : Option (List TaskId)) → IsEntered before task after → Fades (extended before task) after
+pub fades_one : (task : TaskId) (before after : Option (List TaskId)) → IsEntered before task after → Fades (extended before task) after
 fades_one task before None e = inl refl
 fades_one task before (Some ts) (was, b, a) =
     inr (ap Some a ∙ sym (ap (λ x. extended x task) b))

@@ -3,7 +3,7 @@ use Rattle.std.specs.Prelude.{◌≡◌, ℕ, ◌<◌, List, Bool, length, slice
 use Rattle.sky_base.specs.JobView.{job_view}
 use Rattle.sky_base.specs.KitView.{Gives}
 use Rattle.sky_base.specs.declared.object.TaskId.{TaskId}
-use Rattle.sky_onward.specs.Onward.{IsRead}
+use Rattle.ciel_worker.specs.Onward.{IsRead}
 use Rattle.ciel_store.specs.Seen.{SeatSeen}
 use Rattle.ciel_task.specs.Shop.{InputsInOrder}
 use Rattle.ciel_task.specs.declared.order.Order.{Order}

@@ -3,7 +3,7 @@
 ghost use Rattle.std.specs.Prelude.{◌≡◌, true, None, IfErr, IfOk, length, map, replicate};
 ghost use Rattle.std.specs.Arc.{arc_value};
 ghost use Rattle.sky_base.specs.JobView.{job_view};
-ghost use Rattle.sky_onward.specs.Onward.{IsRead};
+ghost use Rattle.ciel_worker.specs.Onward.{IsRead};
 ghost use Rattle.ciel_task.specs.Shop.{InputsInOrder};
 ghost use Rattle.ciel_inline.specs.Kept.{AllLook};
 

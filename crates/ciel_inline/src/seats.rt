@@ -2,7 +2,7 @@
 
 ghost use Rattle.std.specs.Prelude.{◌≡◌, ◌<◌, ℕ, None, IfOk, IsSome, MatchOption, length, slice_index_or};
 ghost use Rattle.sky_base.specs.JobView.{job_view};
-ghost use Rattle.sky_onward.specs.Onward.{IsRead};
+ghost use Rattle.ciel_worker.specs.Onward.{IsRead};
 ghost use Rattle.ciel_gate.specs.Entered.{IsEntered};
 ghost use Rattle.ciel_task.specs.Shop.{InputsInOrder};
 ghost use Rattle.ciel_crew.specs.Crews.{Answers, Takes};

@@ -2,8 +2,8 @@
 use Rattle.std.proofs.Common.{◌≡◌, ◌<◌, ◌≤◌, ◌^◌, ℕ, List, [], true, false, inl, inr, Option, Some, None, Result, Ok, Err, IfErr, IfOk, length, refl, sym, ap, subst, ◌∙◌, arith}
 use Rattle.sky_base.specs.See as s
 use Rattle.sky_base.specs.See.{Answered}
-use Rattle.sky_onward.specs.Onward.{IsRead}
-use Rattle.ciel_drive.specs.Ended.{EndsSo}
+use Rattle.ciel_engine.specs.Onward.{IsRead}
+use Rattle.ciel_engine.specs.Ended.{EndsSo}
 use Rattle.ciel_journal.specs.Entries.{Entry}
 use Rattle.ciel_load.specs.Loading.{IsReadJob}
 use Rattle.ciel_master.specs.declared.stop.RunEnd.{RunEnd}

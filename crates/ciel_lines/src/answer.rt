@@ -4,8 +4,8 @@ ghost use Rattle.std.specs.Prelude.{◌≡◌, ◌≢◌, ◌≤◌, ◌<◌, �
 ghost use Rattle.sky_base.specs.JobView.{job_view};
 ghost use Rattle.sky_base.specs.See.{Answered as Meant, Means};
 ghost use Rattle.ciel_journal.specs.Job.{Each};
-ghost use Rattle.ciel_drive.specs.Ended.{EndsSo};
-ghost use Rattle.ciel_drive.specs.Told.{ToldBy};
+ghost use Rattle.ciel_engine.specs.Ended.{EndsSo};
+ghost use Rattle.ciel_engine.specs.Told.{ToldBy};
 ghost use Rattle.ciel_engine.specs.Told.{told_of};
 ghost use Rattle.ciel_master.specs.Seen.{plan_view};
 ghost use Rattle.ciel_master.specs.Views.{entry_view};
@@ -32,6 +32,7 @@ use sky_base::text::{Bytes, Memory};
 use sky_plain::plain::{Answer, plain};
 use std::alloc::Global;
 use std::sync::Wait;
+use std::thread::Threads;
 
 /// What a job comes to, and the journal of its run.
 #[derive(Drop)]
@@ -88,7 +89,7 @@ fn plan(alloc: Global, line: &Words) -> Result<RunPlan, Memory>
 }
 
 /// Runs a job on the engine, with names by the digest that the line asks for.
-fn run<G: Gate, R: Wait + Drop>(
+fn run<G, R>(
     rt: R,
     alloc: Global,
     names: NameKind,
@@ -96,6 +97,9 @@ fn run<G: Gate, R: Wait + Drop>(
     gates: &mut Vec<G>,
     plan: RunPlan,
 ) -> Ran
+where
+    G: Gate + Send + 'static,
+    R: Threads + Wait + Copy + Send + Drop + 'static,
     requires job { CanRunJob (job_view job) }
     requires workers { (0 < plan.workers) × (plan.workers ≤ 64) }
     requires losses { Each (λ (loss : ℕ × ℕ). loss.1 < plan.workers) plan.losses }
@@ -112,13 +116,10 @@ fn run<G: Gate, R: Wait + Drop>(
 }
 
 /// What the job of a line comes to.
-pub fn answer<G: Gate, R: Wait + Drop>(
-    rt: R,
-    alloc: Global,
-    line: &Words,
-    job: Job,
-    gates: &mut Vec<G>,
-) -> Answered
+pub fn answer<G, R>(rt: R, alloc: Global, line: &Words, job: Job, gates: &mut Vec<G>) -> Answered
+where
+    G: Gate + Send + 'static,
+    R: Threads + Wait + Copy + Send + Drop + 'static,
     requires line { LineIsSound line.now }
     requires job { CanRunJob (job_view job) }
     requires gates { length gates.old.items ≡ 64 }

@@ -4,3 +4,5 @@
 
 pub mod answer;
 pub mod lines;
+
+pub use ciel_engine::law;

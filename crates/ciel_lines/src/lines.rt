@@ -3,7 +3,7 @@
 ghost use Rattle.std.specs.Prelude.{◌≡◌, ◌≢◌, [], None, Err, false, IfErr, IfOk, OnOk, drop, length, map};
 ghost use Rattle.sky_base.specs.JobView.{job_view};
 ghost use Rattle.sky_base.specs.See.{Answered as Meant, Means};
-ghost use Rattle.ciel_drive.specs.Told.{ToldBy};
+ghost use Rattle.ciel_engine.specs.Told.{ToldBy};
 ghost use Rattle.ciel_engine.specs.Told.{told_of};
 ghost use Rattle.ciel_io.specs.Faults.{HasRisen};
 ghost use Rattle.ciel_io.specs.Tells.{Tells};
@@ -29,6 +29,7 @@ use ciel_words::words::Words;
 use sky_base::job::Job;
 use std::alloc::Global;
 use std::sync::Wait;
+use std::thread::Threads;
 
 /// Why a line names no job that can be run.
 fn why_no_job(no: NoJob) -> Why
@@ -77,13 +78,16 @@ fn job_of<F: Files>(alloc: Global, line: &Words, files: &mut F) -> Result<Job, W
 }
 
 /// What the job of a line comes to.
-pub fn answer_line<F: Files, G: Gate, R: Wait + Drop>(
+pub fn answer_line<F: Files, G, R>(
     rt: R,
     alloc: Global,
     line: &Words,
     files: &mut F,
     gates: &mut Vec<G>,
 ) -> Answered
+where
+    G: Gate + Send + 'static,
+    R: Threads + Wait + Copy + Send + Drop + 'static,
     requires line { LineIsSound line.now }
     requires gates { length gates.old.items ≡ 64 }
     ensures bytes { IfOk result.result (λ b. OfRun (F.content files.old) line.now (HasRisen (F.faults files.old) (F.faults files.new)) (map entry_view result.journal.items) (λ job. Means job over_lines (Meant.bytes b))) }

@@ -12,6 +12,7 @@ use sky_base::text::{Bytes, Txt};
 use std::alloc::Global;
 use std::sync::Wait;
 use std::test::Fail;
+use std::thread::Threads;
 
 /// Which read, which write of the result and which write on the log fails, counted from 1; 0 where none does.
 pub type Fails = (u32, u32, u32);
@@ -61,8 +62,8 @@ pub struct Got {
 }
 
 /// The program over the words of a row, a script and these gates.
-pub fn outcome<G: Gate>(
-    rt: &impl Wait,
+pub fn outcome<G: Gate + Send + 'static, R: Threads + Wait + Copy + Send + Drop + 'static>(
+    rt: R,
     alloc: Global,
     row: &str,
     source: &str,

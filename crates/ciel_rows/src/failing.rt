@@ -9,6 +9,7 @@ use std::alloc::Global;
 use std::process::Abort;
 use std::sync::Wait;
 use std::test::Fail;
+use std::thread::Threads;
 
 /// A gate for each worker that there may be.
 fn gates(alloc: Global) -> Result<Vec<Open>, Fail>
@@ -20,7 +21,13 @@ fn gates(alloc: Global) -> Result<Vec<Open>, Fail>
     }
 }
 
-fn over(rt: &impl Wait, alloc: Global, row: &str, source: &str, fails: Fails) -> Result<Got, Fail> {
+fn over<R: Threads + Wait + Copy + Send + Drop + 'static>(
+    rt: R,
+    alloc: Global,
+    row: &str,
+    source: &str,
+    fails: Fails,
+) -> Result<Got, Fail> {
     let mut gates = gates(alloc)?;
     outcome(rt, alloc, row, source, fails, &mut gates)
 }
@@ -76,7 +83,11 @@ fn is(bytes: &[u8], text: &str, failed: u32) -> bool {
         && (bytes.len() < text.len()) == (failed > 0 && !text.is_empty())
 }
 
-fn ends(rt: &(impl Abort + Wait), alloc: Global, row: &Row) -> Result<(), Fail> {
+fn ends<R: Abort + Threads + Wait + Copy + Send + Drop + 'static>(
+    rt: R,
+    alloc: Global,
+    row: &Row,
+) -> Result<(), Fail> {
     let got = over(rt, alloc, row.0, row.1, row.2)?;
     assert_eq!(rt; got.ended.status, row.3, "for {}", row.0);
     assert!(rt; is(got.out.bytes(), row.4, row.2.1), "not {}", row.4);
@@ -87,7 +98,7 @@ fn ends(rt: &(impl Abort + Wait), alloc: Global, row: &Row) -> Result<(), Fail> 
 #[test]
 fn what_fails_is_told(rt: HostRuntime) -> Result<(), Fail> {
     for row in &ROWS {
-        ends(&rt, rt.alloc(), row)?;
+        ends(rt, rt.alloc(), row)?;
     }
     Ok(())
 }
@@ -104,7 +115,7 @@ static JOURNALS: [(&str, u32, u8, &str); 5] = [
 #[test]
 fn journals_that_fail(rt: HostRuntime) -> Result<(), Fail> {
     for row in &JOURNALS {
-        let got = over(&rt, rt.alloc(), "s --trace", row.0, (0, 0, row.1))?;
+        let got = over(rt, rt.alloc(), "s --trace", row.0, (0, 0, row.1))?;
         assert_eq!(&rt; got.ended.status, row.2);
         assert!(&rt; is(got.out.bytes(), row.3, 0));
     }

@@ -10,6 +10,7 @@ use std::alloc::Global;
 use std::process::Abort;
 use std::sync::Wait;
 use std::test::Fail;
+use std::thread::Threads;
 
 // 64 gates, each with room for so many tasks.
 fn recorders(alloc: Global) -> Result<Vec<Recorder>, Fail>
@@ -69,20 +70,24 @@ fn all_tell(
     Ok(())
 }
 
-fn told(rt: &(impl Abort + Wait), alloc: Global, row: &str) -> Result<(), Fail> {
+fn told<R: Abort + Threads + Wait + Copy + Send + Drop + 'static>(
+    rt: R,
+    alloc: Global,
+    row: &str,
+) -> Result<(), Fail> {
     let source =
         "function f(x) { return x * x; } a = spawn(f, [3]); b = spawn(f, [4]); return *a + *b;";
     let mut gates = recorders(alloc)?;
     let got = outcome(rt, alloc, row, source, (0, 0, 0), &mut gates)?;
     assert_eq!(rt; got.ended.status, 0);
     assert_eq!(rt; gates.len(), 64);
-    all_tell(rt, alloc, got.ended.journal.as_slice(), gates.as_slice())
+    all_tell(&rt, alloc, got.ended.journal.as_slice(), gates.as_slice())
 }
 
 #[test]
 fn gates_tell_the_tasks_of_their_workers(rt: HostRuntime) -> Result<(), Fail> {
-    told(&rt, rt.alloc(), "s")?;
-    told(&rt, rt.alloc(), "s --workers 2 --seed 3")?;
-    told(&rt, rt.alloc(), "s --workers 3 --lose 2:0,3:1")?;
-    told(&rt, rt.alloc(), "s --plain")
+    told(rt, rt.alloc(), "s")?;
+    told(rt, rt.alloc(), "s --workers 2 --seed 3")?;
+    told(rt, rt.alloc(), "s --workers 3 --lose 2:0,3:1")?;
+    told(rt, rt.alloc(), "s --plain")
 }

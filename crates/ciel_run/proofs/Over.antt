@@ -6,7 +6,7 @@ use Rattle.sky_base.specs.See.{Answered}
 use Rattle.sky_law.specs.Tasks as t
 use Rattle.sky_params.specs.Orderly.{FunctionsAreOrderly}
 use Rattle.sky_plain.specs.Needs as p
-use Rattle.ciel_drive.specs.Ended.{EndsSo, HasAnswer, ModestRunsAnswer, SomeStays}
+use Rattle.ciel_lines.specs.Ended.{EndsSo, HasAnswer, ModestRunsAnswer, SomeStays}
 use Rattle.ciel_ends.specs.Ends.{IsModest, IsOrderly, MadeBy}
 use Rattle.ciel_io.specs.Faults.{HasRisen}
 use Rattle.ciel_io.specs.Tells.{Tells, TellsPart}

@@ -18,7 +18,7 @@ use Rattle.ciel_trace.specs.Text.{journal_text}
 use Rattle.ciel_words.specs.declared.words.Words.{Words}
 use Rattle.ciel_lines.specs.Line.{FitsIn, OfLine, SourceFits, files_of}
 use Rattle.ciel_lines.specs.Causes.{CauseOf}
-use Rattle.ciel_drive.specs.Ended.{SomeStays}
+use Rattle.ciel_lines.specs.Ended.{SomeStays}
 use Rattle.ciel_lines.specs.Runs.{IsModestFor, plan_of}
 use Rattle.ciel_lines.specs.Source.{HasChain, HasNone, IsAnswer, IsSource, Makes}
 use Rattle.ciel_why.specs.Summary.{output_of}

@@ -3,8 +3,8 @@
 
 ghost use Rattle.std.specs.Prelude.{◌≡◌, ◌≢◌, ◌≤◌, ◌⊎◌, ◌++◌, [], None, Contains, OnErr, OnOk, drop, false, length, map, true};
 ghost use Rattle.sky_base.specs.See.{Answered as Meant};
-ghost use Rattle.ciel_drive.specs.Told.{ToldBy};
-ghost use Rattle.ciel_engine.specs.Told.{told_of};
+ghost use Rattle.ciel_lines.specs.Told.{ToldBy};
+ghost use Rattle.ciel_lines.specs.Told.{told_of};
 ghost use Rattle.ciel_io.specs.Faults.{HasRisen};
 ghost use Rattle.ciel_io.specs.Tells.{Tells, TellsPart};
 ghost use Rattle.ciel_load.specs.Syntax.{IsSyntaxFault};
@@ -24,11 +24,11 @@ ghost use Rattle.ciel_lines.specs.Source.{IsAnswer, OfJob};
 ghost use Rattle.ciel_why.specs.Summary.{output_of};
 ghost use Rattle.ciel_why.specs.declared.why.Why.{Why};
 
-use ciel_drive::law::modest_runs_answer;
 use ciel_gate::gate::Gate;
 use ciel_io::files::Files;
 use ciel_io::sink::{Failed, Sink};
 use ciel_lines::answer::Answered;
+use ciel_lines::law::modest_runs_answer;
 use ciel_lines::lines::answer_line;
 use ciel_master::entry::Entry;
 use ciel_trace::text::put_journal;
@@ -41,6 +41,7 @@ use sky_base::text::{Bytes, Txt};
 use sky_params::law::functions_are_orderly;
 use std::alloc::Global;
 use std::sync::Wait;
+use std::thread::Threads;
 
 /// Runs the program on the words of its command line, without the program's own name. A script and its inputs are read, or a job is
 /// generated; it is run on as many workers as the words say, each with its gate, or by the sequential interpreter; and its answer, or the
@@ -49,7 +50,7 @@ use std::sync::Wait;
 ///
 /// A script has at most 1,048,576 bytes, and an input at most 16,777,216. The inputs are read in the order of the words, after the script
 /// was seen to be one. The executors are those over lines. There are 64 gates, of which the first are the workers'.
-pub fn ciel_main<F: Files, O: Sink, J: Sink, G: Gate, R: Wait + Drop>(
+pub fn ciel_main<F: Files, O: Sink, J: Sink, G, R>(
     rt: R,
     alloc: Global,
     words: &[Txt],
@@ -58,6 +59,9 @@ pub fn ciel_main<F: Files, O: Sink, J: Sink, G: Gate, R: Wait + Drop>(
     log: &mut J,
     gates: &mut Vec<G>,
 ) -> Ended
+where
+    G: Gate + Send + 'static,
+    R: Threads + Wait + Copy + Send + Drop + 'static,
     requires gates { length gates.old.items ≡ 64 }
 
     // What is written where it ends well.
@@ -144,7 +148,7 @@ fn ended(why: Why, journal: Vec<Entry>) -> Ended
 }
 
 /// Runs a line, and writes what it comes to.
-fn run<F: Files, O: Sink, J: Sink, G: Gate, R: Wait + Drop>(
+fn run<F: Files, O: Sink, J: Sink, G, R>(
     rt: R,
     alloc: Global,
     line: &Words,
@@ -153,6 +157,9 @@ fn run<F: Files, O: Sink, J: Sink, G: Gate, R: Wait + Drop>(
     log: &mut J,
     gates: &mut Vec<G>,
 ) -> Ended
+where
+    G: Gate + Send + 'static,
+    R: Threads + Wait + Copy + Send + Drop + 'static,
     requires line { LineIsSound line.now }
     requires gates { length gates.old.items ≡ 64 }
     ensures done { result.why ≡ Why.Done → Writes (F.content files.old) line.now (Tells (O.written out.old) (O.written out.new)) }

@@ -1,9 +1,8 @@
 // A run whose names clash: with a digest that gives every description one name, the second one is told, with the first.
 
-ghost use Rattle.std.specs.Prelude.{◌≡◌, ◌≤◌, [], IfOk, length};
-ghost use Rattle.sky_parse.specs.Source.{IsScript};
-ghost use Rattle.sky_onward.specs.Onward.{IsRead};
+ghost use Rattle.std.specs.Prelude.{◌≡◌, IfOk, length};
 
+use crate::script::script;
 use ciel_engine::run::{Ran, run_job};
 use ciel_gate::open::Open;
 use ciel_master::plan::{Losses, RunPlan};
@@ -11,40 +10,10 @@ use ciel_master::stop::RunEnd;
 use ciel_name::name::WeakNamer;
 use line_kit::kit::LineKit;
 use sky_base::job::{Inputs, Job};
-use sky_base::script::{Script, Texts};
-use sky_parse::script::parse;
-use sky_text::lex::{lex, line_col};
 use std::alloc::Global;
 use std::sync::Wait;
 use std::test::Fail;
-
-// The script that these bytes are, which is one without inputs.
-fn parsed(alloc: Global, bytes: &[u8]) -> Result<Script, Fail>
-    requires { length bytes.now ≤ 10000 }
-    ensures { IfOk result (λ s. IsScript bytes.now [] s) }
-{
-    let Ok(tokens) = lex(alloc, bytes) else {
-        return Err(Fail::from("no tokens"));
-    };
-    let end = line_col(bytes, bytes.len() as u32);
-    match parse(alloc, tokens.as_slice(), end, Texts::of(Vec::new(alloc))) {
-        Ok(script) => Ok(script),
-        Err(_) => Err(Fail::from("no script")),
-    }
-}
-
-// The script of a text, and that it names no inputs.
-fn script(alloc: Global, text: &str) -> Result<Script, Fail>
-    ensures read { IfOk result (λ s. IsRead s) }
-    ensures alone { IfOk result (λ s. s.keys ≡ []) }
-{
-    let bytes = text.as_bytes();
-    if bytes.len() > 10_000 {
-        return Err(Fail::from("a long text"));
-    }
-    let script = parsed(alloc, bytes)?;
-    Ok(script)
-}
+use std::thread::Threads;
 
 // A gate for the one worker.
 fn gates(alloc: Global) -> Result<Vec<Open>, Fail>
@@ -57,7 +26,11 @@ fn gates(alloc: Global) -> Result<Vec<Open>, Fail>
 }
 
 // The run of a script on one worker, where all descriptions have one name.
-fn ran(rt: &impl Wait, alloc: Global, text: &str) -> Result<Ran, Fail> {
+fn ran<R: Threads + Wait + Copy + Send + Drop + 'static>(
+    rt: R,
+    alloc: Global,
+    text: &str,
+) -> Result<Ran, Fail> {
     let script = script(alloc, text)?;
     let mut gates = gates(alloc)?;
     let job = Job {
@@ -88,7 +61,7 @@ fn clashes(end: &RunEnd) -> bool {
 #[test]
 fn two_descriptions_of_one_name(rt: HostRuntime) -> Result<(), Fail> {
     let ran = ran(
-        &rt,
+        rt,
         rt.alloc(),
         "function f(x) { return x; } return *spawn(f, [3]);",
     )?;
@@ -105,7 +78,7 @@ fn answers(end: &RunEnd) -> bool {
 
 #[test]
 fn one_description_has_its_answer(rt: HostRuntime) -> Result<(), Fail> {
-    let ran = ran(&rt, rt.alloc(), "return 7;")?;
+    let ran = ran(rt, rt.alloc(), "return 7;")?;
     assert!(&rt; answers(&ran.end));
     Ok(())
 }

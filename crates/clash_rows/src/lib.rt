@@ -1,5 +1,10 @@
-// Rows of runs whose names clash. They stand in a crate of their own, since a crate with tests is proved twice.
+// Rows of whole runs with namers and gates of their own: names that clash, and two tasks that are performed at the same time. They stand
+// in a crate of their own, since a crate with tests is proved twice.
 #![tactic(auto)]
 
 #[cfg(test)]
 mod clashes;
+#[cfg(test)]
+mod meetings;
+#[cfg(test)]
+mod script;

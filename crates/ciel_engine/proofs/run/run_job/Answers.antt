@@ -1,10 +1,15 @@
 -- The gates are those that were lent, and the others.
 use Rattle.std.proofs.Common.{map, ap, subst, sym, ◌∙◌}
+use Rattle.sky_base.specs.JobView.{job_view}
+use Rattle.ciel_channels.specs.Onward.{IsRead}
 use Rattle.ciel_drive.specs.Told.{ToldBy}
 use Rattle.ciel_engine.specs.Told.{told_of}
 use Rattle.ciel_master.specs.Views.{entry_view}
 use Rattle.ciel_engine.proofs.Lent.{all_now, others_now, still, told_now}
 use Rattle.ciel_engine.proofs.run.run_job.Goals as goal
+
+pub run_opened-ran-requires-clause-read : goal.run_opened-ran-requires-clause-read
+run_opened-ran-requires-clause-read g c κs within = subst (λ j. IsRead (job_view j).script) (sym c.in-Ok.ensures.shop.job_is) c.requires.read
 
 pub returns-clause-told : goal.returns-clause-told
 returns-clause-told g c = λ ends.

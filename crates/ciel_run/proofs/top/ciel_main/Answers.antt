@@ -13,7 +13,7 @@ use Rattle.ciel_run.proofs.Over.{at_line, expected, no_write, not_usage, over_li
 use Rattle.ciel_run.proofs.top.ciel_main.Goals as goal
 
 pub run-requires-clause-line : goal.run-requires-clause-line
-run-requires-clause-line g c = c.lines_are_sound.ensures c.args.words.now c.in-Ok.line c.in-Ok.ensures.line
+run-requires-clause-line g c κs within = c.lines_are_sound.ensures c.args.words.now c.in-Ok.line c.in-Ok.ensures.line
 
 pub returns-clause-driven : goal.returns-clause-driven
 returns-clause-driven g c =
