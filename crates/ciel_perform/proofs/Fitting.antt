@@ -19,14 +19,14 @@ use Rattle.sky_law.specs.Sound.{SoundDesc}
 use Rattle.sky_law.specs.Tasks.{Each, In}
 use Rattle.sky_law.proofs.Lists.{some_is}
 use Rattle.sky_law.proofs.TaskOutputs.{distinct_in, in_distinct, in_each}
-use Rattle.sky_onward.specs.Exactly.{gone_of}
-use Rattle.sky_onward.specs.Knows.{Known as Knows, LeavesKnown, inside_refs}
-use Rattle.sky_onward.specs.Onward.{IsRead}
-use Rattle.sky_onward.specs.declared.step.Step.{Step}
+use Rattle.ciel_through.specs.Exactly.{gone_of}
+use Rattle.ciel_through.specs.Knows.{Known as Knows, LeavesKnown, inside_refs}
+use Rattle.ciel_through.specs.Onward.{IsRead}
+use Rattle.ciel_through.specs.Step.{Step}
 use Rattle.sky_state.specs.Pending.{all_refs, frames_refs, held_in, last_refs, pending_in, stack_refs, stand_wait, top_refs, waited_refs}
 use Rattle.sky_state.specs.Stand.{Stand}
 use Rattle.sky_state.specs.Start.{StartsIn}
-use Rattle.sky_through.specs.Found.{CameFrom, Further, HasAllOutputs}
+use Rattle.ciel_through.specs.Found.{CameFrom, Further, HasAllOutputs}
 use Rattle.ciel_board.specs.Board.{start_refs}
 use Rattle.ciel_board.specs.Reports.{IsNamed, copy_names, learned_all, named_view}
 use Rattle.ciel_board.specs.Sound.{CopyFits, EndFits, FitsIn, OutputFits}

@@ -4,12 +4,12 @@ use Rattle.sky_base.specs.Tree.{Script}
 use Rattle.sky_base.specs.Val.{known, same_text}
 use Rattle.sky_base.specs.declared.object.TaskId.{TaskId}
 use Rattle.sky_law.specs.Tasks.{In}
-use Rattle.sky_onward.specs.Steps.{Spawned}
-use Rattle.sky_onward.specs.declared.step.Step.{Step}
+use Rattle.ciel_through.specs.Steps.{Spawned}
+use Rattle.ciel_through.specs.Step.{Step}
 use Rattle.sky_state.specs.Pending.{pending_in}
 use Rattle.sky_state.specs.Stand.{Stand}
-use Rattle.sky_through.specs.Found.{SameKind}
-use Rattle.sky_through.specs.Through.{PassedAt}
+use Rattle.ciel_through.specs.Found.{SameKind}
+use Rattle.ciel_through.specs.Through.{PassedAt}
 use Rattle.ciel_journal.proofs.Members.{distinct_none}
 use Rattle.ciel_board.specs.Sound.{own_name}
 use Rattle.ciel_store.specs.Seen.{SeatSeen, ShelvesSeen}

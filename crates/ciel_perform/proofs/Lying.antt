@@ -16,8 +16,8 @@ use Rattle.sky_law.specs.Lower.{low_obj}
 use Rattle.sky_law.specs.NamesLaws.{Tag, no_name}
 use Rattle.sky_law.specs.Tasks as t
 use Rattle.sky_moves.specs.Moves.{EndsAs}
-use Rattle.sky_onward.specs.Steps.{stop_of}
-use Rattle.sky_onward.specs.declared.step.Step.{Step}
+use Rattle.ciel_through.specs.Steps.{stop_of}
+use Rattle.ciel_through.specs.Step.{Step}
 use Rattle.sky_shown.specs.Shows.{shown_view}
 use Rattle.sky_state.specs.Pending.{stand_wait}
 use Rattle.sky_state.specs.Stand.{Stand, low_state}

@@ -5,7 +5,7 @@ use Rattle.sky_base.specs.Val.{Desc}
 use Rattle.sky_base.specs.declared.object.Named.{Named}
 use Rattle.sky_law.specs.Tasks.{Each}
 use Rattle.sky_state.specs.StandView.{spawned_view}
-use Rattle.sky_resume.specs.Comes.{with_name}
+use Rattle.ciel_through.specs.Comes.{with_name}
 use Rattle.ciel_board.specs.Reports.{named_view}
 
 module _ (digest : List ℕ → List ℕ) where

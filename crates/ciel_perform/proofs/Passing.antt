@@ -6,15 +6,15 @@ use Rattle.sky_base.specs.Tree.{Script}
 use Rattle.sky_base.specs.Val.{known, same_text}
 use Rattle.sky_law.specs.Tasks.{Each, In}
 use Rattle.sky_law.proofs.TaskOutputs.{in_each}
-use Rattle.sky_onward.specs.Exactly.{FitsAfter}
-use Rattle.sky_onward.specs.Knows.{KnowsNames}
-use Rattle.sky_onward.specs.Onward.{GrewSoundly}
-use Rattle.sky_onward.specs.Steps.{Spawned}
-use Rattle.sky_onward.specs.declared.step.Step.{Step}
+use Rattle.ciel_through.specs.Exactly.{FitsAfter}
+use Rattle.ciel_through.specs.Knows.{KnowsNames}
+use Rattle.ciel_through.specs.Onward.{GrewSoundly}
+use Rattle.ciel_through.specs.Steps.{Spawned}
+use Rattle.ciel_through.specs.Step.{Step}
 use Rattle.sky_state.specs.Pending.{pending_in}
 use Rattle.sky_state.specs.Stand.{Stand}
-use Rattle.sky_through.specs.Found.{CameFrom, FindsSound, Further, GrewWhole, HasAll, SameKind}
-use Rattle.sky_through.specs.Through.{GoesAsking, PassedAt}
+use Rattle.ciel_through.specs.Found.{CameFrom, FindsSound, Further, GrewWhole, HasAll, SameKind}
+use Rattle.ciel_through.specs.Through.{GoesAsking, PassedAt}
 use Rattle.ciel_journal.proofs.Members.{distinct_none}
 use Rattle.ciel_store.specs.Seen.{SeatSeen, ShelvesSeen}
 use Rattle.ciel_table.specs.Inside.{IsIndex}

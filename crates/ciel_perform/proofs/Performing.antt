@@ -14,15 +14,15 @@ use Rattle.sky_law.specs.NamesLaws.{NoClash, Tag, no_name}
 use Rattle.sky_law.specs.Tasks.{Each, In}
 use Rattle.sky_law.proofs.TaskOutputs.{in_each}
 use Rattle.sky_moves.proofs.Standing.{held_there}
-use Rattle.sky_onward.specs.Exactly.{FitsAfter}
-use Rattle.sky_onward.specs.Onward.{IsRead}
-use Rattle.sky_onward.specs.declared.step.Step.{Step}
+use Rattle.ciel_through.specs.Exactly.{FitsAfter}
+use Rattle.ciel_through.specs.Onward.{IsRead}
+use Rattle.ciel_through.specs.Step.{Step}
 use Rattle.sky_state.specs.Fits.{Fits}
 use Rattle.sky_state.specs.Pending.{held_in, pending_in, stand_wait}
 use Rattle.sky_state.specs.Stand.{Stand}
 use Rattle.sky_state.specs.Stands.{Stands}
 use Rattle.sky_state.proofs.HeldLaw.{stands_pending}
-use Rattle.sky_through.specs.Found.{SameKind}
+use Rattle.ciel_through.specs.Found.{SameKind}
 use Rattle.ciel_board.specs.Board as board
 use Rattle.ciel_board.specs.Board.{spot_of}
 use Rattle.ciel_board.specs.Follows.{OrderIs}

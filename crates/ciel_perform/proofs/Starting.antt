@@ -10,7 +10,7 @@ use Rattle.sky_base.specs.declared.object.TaskId.{TaskId}
 use Rattle.sky_base.proofs.Exact.{exact_text, self_text}
 use Rattle.sky_law.specs.Tasks.{Each, In}
 use Rattle.sky_law.proofs.TaskOutputs.{distinct_in}
-use Rattle.sky_onward.proofs.Knows.{from_each}
+use Rattle.ciel_through.proofs.Knows.{from_each}
 use Rattle.sky_state.specs.Fits.{Fits}
 use Rattle.sky_state.specs.Pending.{pending_in, stand_wait}
 use Rattle.sky_state.specs.Stand.{Stand}

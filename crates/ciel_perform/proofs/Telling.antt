@@ -24,9 +24,9 @@ use Rattle.sky_state.specs.Stand.{Stand}
 use Rattle.sky_state.specs.Stands.{Stands}
 use Rattle.sky_state.proofs.HeldLaw.{stands_pending}
 use Rattle.sky_waves.specs.Seen.{WritesAlike}
-use Rattle.sky_onward.specs.Steps.{stop_of}
-use Rattle.sky_onward.specs.declared.step.Step.{Step}
-use Rattle.sky_through.specs.Through.{PassedAt}
+use Rattle.ciel_through.specs.Steps.{stop_of}
+use Rattle.ciel_through.specs.Step.{Step}
+use Rattle.ciel_through.specs.Through.{PassedAt}
 use Rattle.ciel_board.specs.Follows.{OrderIs}
 use Rattle.ciel_board.specs.Reports.{copy_names, end_view, made_keys, report_view}
 use Rattle.ciel_board.specs.Setting.{Setting}

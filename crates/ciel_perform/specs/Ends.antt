@@ -10,8 +10,8 @@ use Rattle.sky_frozen.specs.Bytes.{frozen_bytes}
 use Rattle.sky_law.specs.Tasks.{Each}
 use Rattle.sky_typed.specs.Told.{DescTold}
 use Rattle.ciel_board.specs.Reports.{named_view}
-use Rattle.sky_onward.specs.Steps.{Spawned}
-use Rattle.sky_onward.specs.declared.step.Step.{Step}
+use Rattle.ciel_through.specs.Steps.{Spawned}
+use Rattle.ciel_through.specs.Step.{Step}
 use Rattle.sky_state.specs.Pending.{held_in, pending_in, stand_wait}
 use Rattle.sky_state.specs.Stand.{Stand}
 use Rattle.sky_state.specs.StandView.{spawned_view}

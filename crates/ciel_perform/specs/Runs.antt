@@ -7,16 +7,16 @@ use Rattle.sky_base.specs.declared.object.Named.{Named}
 use Rattle.sky_law.specs.Tasks.{Each, In}
 use Rattle.sky_typed.specs.Told.{DescTold}
 use Rattle.ciel_board.specs.Reports.{named_view}
-use Rattle.sky_onward.specs.Exactly.{FitsAfter}
-use Rattle.sky_onward.specs.Knows.{KnowsNames}
-use Rattle.sky_onward.specs.Onward.{GrewSoundly}
-use Rattle.sky_onward.specs.Steps.{Spawned}
-use Rattle.sky_onward.specs.declared.step.Step.{Step}
+use Rattle.ciel_through.specs.Exactly.{FitsAfter}
+use Rattle.ciel_through.specs.Knows.{KnowsNames}
+use Rattle.ciel_through.specs.Onward.{GrewSoundly}
+use Rattle.ciel_through.specs.Steps.{Spawned}
+use Rattle.ciel_through.specs.Step.{Step}
 use Rattle.sky_state.specs.Pending.{pending_in}
 use Rattle.sky_state.specs.Stand.{Stand}
 use Rattle.sky_state.specs.StandView.{spawned_view}
-use Rattle.sky_through.specs.Found.{CameFrom, Further, GrewWhole, SameKind}
-use Rattle.sky_through.specs.Through.{PassedAt, Through}
+use Rattle.ciel_through.specs.Found.{CameFrom, Further, GrewWhole, SameKind}
+use Rattle.ciel_through.specs.Through.{PassedAt, Through}
 use Rattle.ciel_board.specs.Sound.{own_name}
 use Rattle.ciel_store.specs.Seen.{SeatSeen, ShelvesSeen}
 use Rattle.ciel_store.specs.declared.loss.Loss.{Loss}

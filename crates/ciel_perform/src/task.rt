@@ -2,7 +2,7 @@
 
 ghost use Rattle.std.specs.Prelude.{◌≡◌, ◌<◌, [], IfOk, length};
 ghost use Rattle.sky_base.specs.JobView.{job_view};
-ghost use Rattle.sky_onward.specs.Onward.{IsRead};
+ghost use Rattle.ciel_through.specs.Onward.{IsRead};
 ghost use Rattle.sky_state.specs.StateView.{stand_of, spawned_of};
 ghost use Rattle.ciel_table.specs.Inside.{IsIndex};
 ghost use Rattle.ciel_task.specs.Orders.{OrderSound};
@@ -25,13 +25,13 @@ use ciel_task::block::Held;
 use ciel_task::order::Order;
 use ciel_task::report::Report;
 use ciel_task::shop::Shop;
+use ciel_through::step::Step;
+use ciel_through::through::run_through;
 use sky_base::kit::Kit;
 use sky_base::name::Name;
 use sky_base::text::Memory;
 use sky_numbers::code::number_script;
-use sky_onward::step::Step;
 use sky_state::state::State;
-use sky_through::through::run_through;
 use sky_typed::read::read_all;
 use std::alloc::Global;
 use std::collections::BTreeMap;

@@ -5,7 +5,7 @@ use Rattle.ciel_meant.specs.Inner.{real_inner}
 use Rattle.ciel_meant.specs.Real.{back}
 use Rattle.ciel_walks.specs.Laws.{lower, the}
 use Rattle.ciel_walks.proofs.Saying.{says_more, walks_true}
-use Rattle.sky_onward.specs.Steps.{stop_of}
+use Rattle.sky_through.specs.Steps.{stop_of}
 use Rattle.ciel_through.specs.Saying.{ThroughSays}
 use Rattle.ciel_through.proofs.Walks.{walked}
 

@@ -10,9 +10,9 @@ use Rattle.sky_base.specs.Needed.{Task}
 use Rattle.sky_state.specs.Stand.{Stand}
 use Rattle.ciel_walks.specs.Walk as walk
 use Rattle.ciel_walks.specs.Walk.{Walk}
-use Rattle.sky_resume.specs.Comes.{with_name}
-use Rattle.sky_onward.specs.Steps.{Spawned, stop_of}
-use Rattle.sky_onward.specs.declared.step.Step.{Step}
+use Rattle.sky_through.specs.Comes.{with_name}
+use Rattle.sky_through.specs.Steps.{Spawned, stop_of}
+use Rattle.sky_through.specs.Step.{Step}
 use Rattle.sky_through.specs.Through.{StopsAt, Through, last, more}
 use Rattle.ciel_through.specs.Walks.{Walked}
 

@@ -1,2 +1,10 @@
+pub use Rattle.sky_through.specs.Comes
+pub use Rattle.sky_through.specs.Through
+pub use Rattle.sky_through.specs.Found
+pub use Rattle.sky_through.specs.Step
+pub use Rattle.sky_through.specs.Steps
+pub use Rattle.sky_through.specs.Onward
+pub use Rattle.sky_through.specs.Knows
+pub use Rattle.sky_through.specs.Exactly
 pub mod Walks
 pub mod Saying

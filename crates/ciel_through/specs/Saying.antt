@@ -13,9 +13,9 @@ use Rattle.ciel_journal.specs.History.{OpenStart}
 use Rattle.ciel_journal.specs.Job.{Digest}
 use Rattle.ciel_meant.specs.Inner.{real_inner}
 use Rattle.ciel_walks.specs.Laws.{Begins, CameTo, SaysAnd, WaitsAt, the, lower, end_of}
-use Rattle.sky_resume.specs.Comes.{with_name}
-use Rattle.sky_onward.specs.Steps.{Spawned, stop_of}
-use Rattle.sky_onward.specs.declared.step.Step.{Step}
+use Rattle.sky_through.specs.Comes.{with_name}
+use Rattle.sky_through.specs.Steps.{Spawned, stop_of}
+use Rattle.sky_through.specs.Step.{Step}
 use Rattle.sky_through.specs.Through.{PassedAt, Through}
 
 -- what was spawned grew by what was made, each with its name; and a report of what was made and of this step, with the state after it,

@@ -11,9 +11,9 @@ use Rattle.sky_rows.specs.Data.{data_of}
 use Rattle.sky_state.specs.Stand.{Stand}
 use Rattle.sky_waves.specs.Seen.{WritesAlike}
 use Rattle.ciel_walks.specs.Walk.{PassedIn, Walk}
-use Rattle.sky_resume.specs.Comes.{with_name}
-use Rattle.sky_onward.specs.Steps.{Spawned, stop_of}
-use Rattle.sky_onward.specs.declared.step.Step.{Step}
+use Rattle.sky_through.specs.Comes.{with_name}
+use Rattle.sky_through.specs.Steps.{Spawned, stop_of}
+use Rattle.sky_through.specs.Step.{Step}
 use Rattle.sky_through.specs.Through.{PassedAt, Through}
 
 -- what was spawned grew by what was made, each with its name; and for whatever task of whatever job with this script that is a walk

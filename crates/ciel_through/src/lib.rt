@@ -2,3 +2,5 @@
 #![tactic(auto)]
 
 pub mod law;
+
+pub use sky_through::{step, through};

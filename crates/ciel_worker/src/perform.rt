@@ -2,7 +2,7 @@
 
 ghost use Rattle.std.specs.Prelude.{◌≡◌, IfOk, length};
 ghost use Rattle.sky_base.specs.JobView.{job_view};
-ghost use Rattle.sky_onward.specs.Onward.{IsRead};
+ghost use Rattle.ciel_perform.specs.Onward.{IsRead};
 ghost use Rattle.ciel_gate.specs.Entered.{IsEntered};
 ghost use Rattle.ciel_task.specs.Orders.{OrderSound};
 ghost use Rattle.ciel_task.specs.Performs.{Performs};

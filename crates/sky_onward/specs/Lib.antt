@@ -1,3 +1,4 @@
+pub use Rattle.sky_resume.specs.Comes
 pub mod Laws
 pub mod Rest
 pub mod Onward

@@ -21,7 +21,7 @@ use Rattle.sky_state.specs.Pending.{pending_in}
 use Rattle.sky_state.specs.Stand.{Stand}
 use Rattle.sky_state.specs.Stands.{Stands}
 use Rattle.sky_state.proofs.HeldLaw.{stands_pending}
-use Rattle.sky_resume.specs.Comes.{with_name}
+use Rattle.sky_onward.specs.Comes.{with_name}
 use Rattle.sky_waves.specs.Seen.{WritesAlike}
 use Rattle.sky_shown.specs.Shows.{shown_view}
 use Rattle.sky_moves.specs.Moves.{SeenAs, WaitsNoMore, Answers, EndsAs, ShowsAs, StepsTo}

@@ -9,7 +9,7 @@ use Rattle.sky_law.specs.Tasks.{In, Each}
 use Rattle.sky_law.proofs.TaskOutputs.{in_each}
 use Rattle.sky_state.specs.Pending.{all_refs, pending_in}
 use Rattle.sky_state.specs.Stand.{Stand}
-use Rattle.sky_resume.specs.Comes.{with_name}
+use Rattle.sky_onward.specs.Comes.{with_name}
 use Rattle.sky_onward.specs.Knows.{inside_refs, CameWith, Known, LeavesKnown, KnowsNames}
 use Rattle.sky_onward.specs.Steps.{Spawned}
 use Rattle.sky_onward.specs.declared.step.Step.{Step}

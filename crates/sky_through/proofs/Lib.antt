@@ -1,3 +1,4 @@
+pub use Rattle.sky_onward.proofs.Knows
 pub mod Goes
 pub mod Turns
 pub mod Knowing

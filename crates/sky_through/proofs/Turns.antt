@@ -13,7 +13,7 @@ use Rattle.sky_law.proofs.Lists.{each_both}
 use Rattle.sky_law.proofs.TaskOutputs.{in_each}
 use Rattle.sky_state.specs.Fits.{Fits}
 use Rattle.sky_state.specs.Stand.{Stand}
-use Rattle.sky_resume.specs.Comes.{with_name}
+use Rattle.sky_onward.specs.Comes.{with_name}
 use Rattle.sky_onward.specs.Exactly.{Exactly, OneFurther, gone_of}
 use Rattle.sky_onward.specs.Onward.{AnswersSound, GrewSoundly}
 use Rattle.sky_onward.specs.Steps.{Spawned}

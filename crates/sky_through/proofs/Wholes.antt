@@ -13,7 +13,7 @@ use Rattle.sky_law.proofs.FormsLaw.{Late, Within}
 use Rattle.sky_refits.proofs.Climb.{plug_climbs}
 use Rattle.sky_state.specs.Fits.{Fits, FitsRun}
 use Rattle.sky_state.specs.Stand.{Stand}
-use Rattle.sky_resume.specs.Comes.{over_names, with_name}
+use Rattle.sky_onward.specs.Comes.{over_names, with_name}
 use Rattle.sky_onward.specs.Exactly.{MakesExactly}
 use Rattle.sky_onward.specs.Rest.{IsRest, IsWhole, IsLeft}
 use Rattle.sky_onward.specs.Steps.{Spawned}

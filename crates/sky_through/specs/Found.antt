@@ -7,7 +7,7 @@ use Rattle.sky_law.specs.Sound.{SoundObject}
 use Rattle.sky_law.specs.Tasks.{In, Each}
 use Rattle.sky_state.specs.Pending.{all_refs, pending_in}
 use Rattle.sky_state.specs.Stand.{Stand}
-use Rattle.sky_resume.specs.Comes.{with_name}
+use Rattle.sky_onward.specs.Comes.{with_name}
 use Rattle.sky_onward.specs.Exactly.{gone_of}
 use Rattle.sky_onward.specs.Knows.{CameWith, KnowsNames}
 use Rattle.sky_onward.specs.Steps.{Spawned, Resumed}

@@ -1,3 +1,9 @@
+pub use Rattle.sky_onward.specs.Onward
+pub use Rattle.sky_onward.specs.Knows
+pub use Rattle.sky_onward.specs.Exactly
+pub use Rattle.sky_onward.specs.declared.step.Step
+pub use Rattle.sky_onward.specs.Steps
+pub use Rattle.sky_onward.specs.Comes
 pub mod Asked
 pub mod Through
 pub mod Went

@@ -16,7 +16,7 @@ use Rattle.sky_state.specs.Stands.{Stands}
 use Rattle.sky_waves.specs.Seen.{WritesAlike}
 use Rattle.sky_shown.specs.Shows.{shown_view}
 use Rattle.sky_moves.specs.Moves.{SeenAs, EndsAs, ShowsAs, HasWait}
-use Rattle.sky_resume.specs.Comes.{with_name}
+use Rattle.sky_onward.specs.Comes.{with_name}
 use Rattle.sky_onward.specs.Steps.{Spawned}
 use Rattle.sky_onward.specs.declared.step.Step.{Step}
 use Rattle.sky_through.specs.Through.{Through}

@@ -5,3 +5,5 @@
 pub mod find;
 pub mod law;
 pub mod through;
+
+pub use sky_onward::step;
