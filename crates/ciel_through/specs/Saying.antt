@@ -21,7 +21,9 @@ use Rattle.sky_through.specs.Through.{PassedAt, Through}
 -- what was spawned grew by what was made, each with its name; and a report of what was made and of this step, with the state after it,
 -- says of this order what the job does; where nothing that is made clashes, the task truly came to this, and each state from which it
 -- went on was the task's at a wait
-pub record SaysWhere (digest : List ℕ → List ℕ) (mark : Object (List ℕ) → Digest) (frozen : Stand (List ℕ) → Digest) (job : Job) (around : Around) (o : OpenStart Desc) (finds : v.Desc (List ℕ) → Option (Object (List ℕ))) (old new : Stand (List ℕ)) (s : Step) (before after : Spawned) (through : Through finds digest job.script old new s before after) : Type 0 where
+pub record SaysWhere (digest : List ℕ → List ℕ) (mark : Object (List ℕ) → Digest) (frozen : Stand (List ℕ) → Digest) (job : Job) (around : Around)
+    (o : OpenStart Desc) (finds : v.Desc (List ℕ) → Option (Object (List ℕ))) (old new : Stand (List ℕ)) (s : Step) (before after : Spawned)
+    (through : Through finds digest job.script old new s before after) : Type 0 where
   pub made : List (v.Desc (List ℕ))
   pub grew : after ≡ before ++ map (with_name digest) made
   pub says : SaysAnd (the (digested digest) mark frozen job around) (real_inner job around) (lower (digested digest) mark frozen job around) o

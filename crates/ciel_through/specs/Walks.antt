@@ -18,7 +18,8 @@ use Rattle.sky_through.specs.Through.{PassedAt, Through}
 
 -- what was spawned grew by what was made, each with its name; and for whatever task of whatever job with this script that is a walk
 -- from the old state up to this step, with the state after it; it goes on from the same states
-pub record Walked (digest : List ℕ → List ℕ) (sc : Script) (finds : v.Desc (List ℕ) → Option (Object (List ℕ))) (old new : Stand (List ℕ)) (s : Step) (before after : Spawned) (through : Through finds digest sc old new s before after) : Type 0 where
+pub record Walked (digest : List ℕ → List ℕ) (sc : Script) (finds : v.Desc (List ℕ) → Option (Object (List ℕ)))
+    (old new : Stand (List ℕ)) (s : Step) (before after : Spawned) (through : Through finds digest sc old new s before after) : Type 0 where
   pub made : List (v.Desc (List ℕ))
   pub grew : after ≡ before ++ map (with_name digest) made
   pub walk : (job : Job) (around : Around) (t : Task)
