@@ -3,6 +3,7 @@
 ghost use Rattle.std.specs.Prelude.{◌≡◌, ◌⊎◌, ◌==◌, length, ◌↔◌, IsTrue, IfSome};
 ghost use Rattle.std.proofs.Common.{rules};
 ghost use Rattle.std.specs.Cmp.{partial_order_from_own_ties};
+ghost use Rattle.std.specs.Cmp.Lexicographic.{slice_cmp};
 ghost use Rattle.std.specs.Cmp.Rules.{comparing};
 ghost use Rattle.std.specs.Ordering.{nat_cmp, as_partial_cmp};
 ghost use Rattle.sky_base.specs.NameOrder.{name_cmp, name_eq};
@@ -62,8 +63,21 @@ impl Ord for Name {
 
     fn cmp(&self, other: &Name) -> Ordering {
         let by_length = self.bytes().len().cmp(&other.bytes().len());
-        by_length.then(self.bytes().cmp(other.bytes()))
+        by_length.then(by_bytes(self.bytes(), other.bytes()))
     }
+}
+
+// The order of two lists of bytes. Names are digests, so nearly always their first bytes tell.
+fn by_bytes(left: &[u8], right: &[u8]) -> Ordering
+    ensures { result ≡ slice_cmp nat_cmp left.now right.now }
+{
+    if let (Some((first, _)), Some((other, _))) = (left.split_first(), right.split_first()) {
+        let by_first = first.cmp(other);
+        if by_first != Ordering::Equal {
+            return by_first;
+        }
+    }
+    left.cmp(right)
 }
 
 impl PartialOrd for Name {
