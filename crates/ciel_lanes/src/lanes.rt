@@ -101,9 +101,11 @@ fn places_of<W: Work>(
     Ok(all)
 }
 
+// A lane at work. One that is alone gets no thread: its master could only wait for it.
 fn staffed<W: Work, R: Threads + Wait + Copy + Send + Drop + 'static>(
     rt: R,
     place: Place<W>,
+    is_alone: bool,
 ) -> Lane<W>
 where
     W: Send + 'static,
@@ -116,7 +118,11 @@ where
         mut bell,
         post,
     } = place;
-    let hands = hire(rt, &mut bell, post);
+    let hands = if is_alone {
+        Hands::Own(post.chair)
+    } else {
+        hire(rt, &mut bell, post)
+    };
     Lane {
         desk,
         bell,
@@ -131,7 +137,8 @@ where
     W::In: Send + 'static,
     W::Out: Send + 'static,
 {
-    /// So many lanes, with nothing out, each with a thread where one can be had, and the room that `close` needs.
+    /// So many lanes, with nothing out, and the room that `close` needs. Each has a thread where one can be had, but for
+    /// a lane that is alone, whose jobs are worked by whoever takes their outputs.
     pub fn open(rt: R, alloc: Global, lanes: u32) -> Result<Lanes<W, R>, AllocError>
         requires some { 0 < lanes }
         ensures opened { IfOk result (λ l. (length l ≡ lanes) × All (λ x. x ≡ record { put = []; out = None }) l) }
@@ -141,7 +148,7 @@ where
         let done = Vec::with_capacity(alloc, lanes as usize)?;
         let mut all = Vec::with_capacity(alloc, lanes as usize)?;
         for place in places {
-            all.push_reserved(staffed(rt, place));
+            all.push_reserved(staffed(rt, place, lanes == 1));
         }
         Ok(Lanes {
             rt,
