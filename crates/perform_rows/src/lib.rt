@@ -2,12 +2,17 @@
 // twice.
 #![tactic(auto)]
 
-pub mod bench;
-pub mod kit;
-pub mod orders;
+#[cfg(test)]
+mod bench;
+#[cfg(test)]
+mod kit;
+#[cfg(test)]
+mod orders;
 #[cfg(test)]
 mod rows;
 #[cfg(test)]
 mod starts;
-pub mod tells;
-pub mod turn;
+#[cfg(test)]
+mod tells;
+#[cfg(test)]
+mod turn;
