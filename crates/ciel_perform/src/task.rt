@@ -149,7 +149,8 @@ fn through<'a, K, N: Namer, R: Wait>(
     ensures of { eye.new.of ≡ eye.old.of }
     ensures went { IfOk result (λ r. WentThrough (N.digest shop.now.namer) shop.now.shelves (job_view shop.now.job).script (job_view shop.now.job).inputs order.now (stand_of state.old) (stand_of state.new) (spawned_of state.new) eye.new r copied.new.items.items) }
 {
-    let numbered = number_script(alloc, &shop.job.script)?;
+    let tables = number_script(alloc, &shop.job.script)?;
+    let numbered = tables.over(&shop.job.script);
     let mut finder = Brought {
         rt,
         job: &shop.job,
