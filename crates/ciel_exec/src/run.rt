@@ -76,7 +76,7 @@ pub(crate) fn run<K: Kit, N: Namer, R: Wait>(
     let gathered = gather(
         rt,
         alloc,
-        shop.job.job(),
+        &shop.job,
         &shop.shelves,
         worker,
         held,

@@ -151,7 +151,7 @@ fn through<'a, K, N: Namer, R: Wait>(
     let numbered = shop.job.numbered();
     let mut finder = Brought {
         rt,
-        job: shop.job.job(),
+        job: &shop.job,
         shelves: &shop.shelves,
         worker: order.worker,
         held: order.inputs.as_slice(),

@@ -2,7 +2,8 @@
 
 ghost use Rattle.std.specs.Prelude.{◌≡◌, IfOk};
 
-use sky_base::job::Job;
+use sky_base::job::{Inputs, Job};
+use sky_base::script::Script;
 use sky_base::text::Memory;
 use sky_numbers::code::{Numbered, number_script};
 use sky_numbers::tables::Tables;
@@ -42,14 +43,21 @@ impl ReadyJob {
         Ok(ReadyJob { job, tables })
     }
 
-    /// The job itself.
-    pub fn job(&self) -> &Job
-        ensures { result.now ≡ self.now }
+    /// The script.
+    pub fn script(&self) -> &Script
+        ensures { result.now ≡ self.now.script }
     {
-        &self.job
+        &self.job.script
     }
 
-    /// Its script, ready to be run: in constant time, and without memory.
+    /// The inputs.
+    pub fn inputs(&self) -> &Inputs
+        ensures { result.now ≡ self.now.inputs }
+    {
+        &self.job.inputs
+    }
+
+    /// The script, ready to be run: in constant time, and without memory.
     pub fn numbered(&self) -> Numbered<'_>
         ensures code { result.code ≡ self.now.script }
         ensures nodes { result.nodes ≡ self.now.script }
