@@ -10,6 +10,7 @@ use ciel_name::name::Sha1Namer;
 use ciel_store::seats::{Eye, Marker};
 use ciel_store::shelves::{Place, Shelves};
 use ciel_task::block::Block;
+use ciel_task::ready::ReadyJob;
 use ciel_task::shop::Shop;
 use row_scripts::script::script;
 use sky_base::job::{Inputs, Job};
@@ -50,6 +51,7 @@ pub fn with_eyes(alloc: Global, text: &str) -> Result<(Bench, Marker, Vec<Eye>),
         script,
         inputs: Inputs::of(Vec::new(alloc)),
     };
+    let job = ReadyJob::new(alloc, job)?;
     let bench = Shop {
         job,
         kit: Nothing,
