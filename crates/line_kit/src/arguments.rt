@@ -31,7 +31,7 @@ fn has_key(args: &[Pair], key: &str) -> bool
 }
 
 /// Whether each key of the executor is there.
-pub(crate) fn has_keys(executor: Executor, args: &[Pair]) -> bool
+pub fn has_keys(executor: Executor, args: &[Pair]) -> bool
     ensures { result ≡ has_keys executor (pairs_of args.now) }
 {
     match executor {
@@ -91,7 +91,7 @@ fn fits_at(executor: Executor, key: &str, value: &Value) -> bool
 }
 
 /// Whether each pair is one that the executor has.
-pub(crate) fn all_fit(executor: Executor, args: &[Pair]) -> bool
+pub fn all_fit(executor: Executor, args: &[Pair]) -> bool
     ensures { result ≡ all_fit executor (pairs_of args.now) }
 {
     for pair in args {
@@ -103,7 +103,7 @@ pub(crate) fn all_fit(executor: Executor, args: &[Pair]) -> bool
 }
 
 /// The text at the key `text`.
-pub(crate) fn text_of(args: &[Pair]) -> &[u8]
+pub fn text_of(args: &[Pair]) -> &[u8]
     ensures { result.now ≡ text_of (pairs_of args.now) }
 {
     match find(args, "text") {
@@ -113,7 +113,7 @@ pub(crate) fn text_of(args: &[Pair]) -> &[u8]
 }
 
 /// The number at the key `lines`.
-pub(crate) fn lines_of(args: &[Pair]) -> u64
+pub fn lines_of(args: &[Pair]) -> u64
     ensures { result ≡ lines_of (pairs_of args.now) }
 {
     match find(args, "lines") {

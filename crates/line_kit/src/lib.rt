@@ -1,18 +1,18 @@
 // Executors over lines: what they give is the table in specs/Gives, row by row.
 #![tactic(auto)]
 
-mod arguments;
+pub mod arguments;
 pub mod counts;
 pub mod executor;
 pub mod kit;
 pub mod laws;
-mod lines;
-mod numbers;
+pub mod lines;
+pub mod numbers;
 mod orders;
-mod output;
+pub mod output;
 mod parts;
 mod picks;
-mod same;
-mod search;
+pub mod same;
+pub mod search;
 mod totals;
-mod words;
+pub mod words;

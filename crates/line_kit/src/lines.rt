@@ -9,7 +9,7 @@ use std::alloc::Global;
 use std::marker::Model;
 
 /// The first place of a byte, or the end.
-pub(crate) fn place_of(byte: u8, bytes: &[u8]) -> usize
+pub fn place_of(byte: u8, bytes: &[u8]) -> usize
     ensures bound { result ≤ length bytes.now }
     ensures clean { (k : ℕ) → k < result → slice_index bytes.now k ≢ byte }
     ensures stops { result < length bytes.now → slice_index bytes.now result ≡ byte }
@@ -33,7 +33,7 @@ pub(crate) fn first_line<'a>(bytes: &'a [u8]) -> (&'a [u8], &'a [u8])
 }
 
 /// Whether the last line has no line feed.
-pub(crate) fn is_open(bytes: &[u8]) -> bool
+pub fn is_open(bytes: &[u8]) -> bool
     ensures { result ≡ is_open bytes.now }
 {
     match bytes.last() {

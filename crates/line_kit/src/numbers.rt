@@ -16,7 +16,7 @@ use sky_base::text::Bytes;
 use std::alloc::Global;
 
 /// The greatest number in a line of `sum`.
-pub(crate) const MOST: u64 = 9_223_372_036_854_775_807;
+pub const MOST: u64 = 9_223_372_036_854_775_807;
 
 fn all_digits(bytes: &[u8]) -> bool
     ensures { result ≡ list_all is_ascii_digit bytes.now }
@@ -55,8 +55,8 @@ fn negated(number: u64) -> i64
     (-i128::from(number)) as i64
 }
 
-// The number of 64 signed bits that the bytes write.
-fn signed_number(bytes: &[u8]) -> Option<i64>
+/// The number of 64 signed bits that the bytes write.
+pub fn signed_number(bytes: &[u8]) -> Option<i64>
     ensures { result ≡ signed_number bytes.now }
 {
     match bytes {
@@ -73,7 +73,7 @@ fn number_end(line: &[u8]) -> usize
 }
 
 /// The number in front of the first space, and what follows the space.
-pub(crate) fn counted(line: &[u8]) -> Option<(&[u8], u64)>
+pub fn counted(line: &[u8]) -> Option<(&[u8], u64)>
     ensures value { option_map (λ e. (e.0.now, e.1)) result ≡ counted line.now }
     ensures bound { IfSome result (λ e. e.1 < 2 ^ 63) }
 {
@@ -85,8 +85,8 @@ pub(crate) fn counted(line: &[u8]) -> Option<(&[u8], u64)>
     Some((&line[end + 1..], number))
 }
 
-// The half towards zero.
-fn half_of(number: i64) -> i64
+/// The half towards zero.
+pub fn half_of(number: i64) -> i64
     ensures { result ≡ int_div number (pos 2) }
 {
     number / 2

@@ -16,14 +16,14 @@ use std::alloc::Global;
 use std::marker::Model;
 
 /// The most bytes that an output may have.
-const MOST_BYTES: usize = 67_108_864;
+pub const MOST_BYTES: usize = 67_108_864;
 
 /// What an executor answers: its outputs or a fault, or want of memory.
-pub(crate) type Answer = Result<Result<Vec<Bytes>, FaultKind>, Memory>;
+pub type Answer = Result<Result<Vec<Bytes>, FaultKind>, Memory>;
 
 /// An output. Contracts see its bytes, or nothing once they are too many.
 #[derive(Drop)]
-pub(crate) struct Output {
+pub struct Output {
     bytes: Vec<u8>,
     over: bool,
 }
@@ -40,7 +40,7 @@ impl Model for Output {
 
 impl Output {
     /// The empty output.
-    pub(crate) fn new(alloc: Global) -> Output
+    pub fn new(alloc: Global) -> Output
         ensures { result ≡ Some [] }
     {
         Output {
@@ -51,7 +51,7 @@ impl Output {
 
     /// Puts a piece at the end.
     #[tactic(auto, using(crate::proofs::WrittenLaw::caps))]
-    pub(crate) fn put(&mut self, piece: &[u8]) -> Result<(), Memory>
+    pub fn put(&mut self, piece: &[u8]) -> Result<(), Memory>
         ensures { IfOk result (λ _. self.new ≡ extended self.old piece.now) }
     {
         if self.over {
@@ -69,7 +69,7 @@ impl Output {
 
     /// Puts a line and a line feed.
     #[tactic(auto, using(crate::proofs::WrittenLaw::pieces))]
-    pub(crate) fn put_line(&mut self, line: &[u8]) -> Result<(), Memory>
+    pub fn put_line(&mut self, line: &[u8]) -> Result<(), Memory>
         ensures { IfOk result (λ _. self.new ≡ extended self.old (ended line.now)) }
     {
         self.put(line)?;
@@ -78,7 +78,7 @@ impl Output {
 
     /// Puts a number, a space, the line and a line feed.
     #[tactic(auto, using(crate::proofs::WrittenLaw::pieces))]
-    pub(crate) fn put_count(&mut self, count: u128, line: &[u8]) -> Result<(), Memory>
+    pub fn put_count(&mut self, count: u128, line: &[u8]) -> Result<(), Memory>
         ensures { IfOk result (λ _. self.new ≡ extended self.old (ended (count_line count line.now))) }
     {
         let mut buffer = Buffer::new();
@@ -96,7 +96,7 @@ impl Output {
     }
 
     /// The answer with this one output: it has the lines that were put onto it.
-    pub(crate) fn alone(self, alloc: Global) -> Answer
+    pub fn alone(self, alloc: Global) -> Answer
         ensures { (ls : List (List ℕ)) → finished self ≡ capped (joined ls) → IfOk result (λ r. RunsSo r (one ls)) }
     {
         let mut outputs = Vec::new(alloc);
@@ -108,7 +108,7 @@ impl Output {
 }
 
 /// The answer with one output of one line.
-pub(crate) fn one_line(alloc: Global, line: &[u8]) -> Answer
+pub fn one_line(alloc: Global, line: &[u8]) -> Answer
     ensures { IfOk result (λ r. RunsSo r (one (line.now ∷ []))) }
 {
     let mut out = Output::new(alloc);

@@ -34,7 +34,8 @@ fn same_lines(one: &[u8], other: &[u8]) -> bool
     others.next_line().is_none()
 }
 
-fn truth_text(holds: bool) -> &'static [u8]
+/// The text of a truth value.
+pub fn truth_text(holds: bool) -> &'static [u8]
     ensures { result.now ≡ truth_text holds }
 {
     if holds { b"true" } else { b"false" }

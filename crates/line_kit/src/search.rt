@@ -16,7 +16,8 @@ use memchr::memrchr;
 use sky_base::text::{Bytes, Memory};
 use std::alloc::Global;
 
-fn has_line_feed(text: &[u8]) -> bool
+/// Whether a text has a line feed: then no line contains it.
+pub fn has_line_feed(text: &[u8]) -> bool
     ensures { result ≡ list_any is_feed text.now }
 {
     place_of(b'\n', text) < text.len()
@@ -35,8 +36,8 @@ fn line_start(bytes: &[u8], at: usize) -> usize
     }
 }
 
-// The first line that contains the text, and what follows it.
-fn next_found<'a>(finder: &Finder, bytes: &'a [u8]) -> Option<(&'a [u8], &'a [u8])>
+/// The first line that contains the text, and what follows it.
+pub fn next_found<'a>(finder: &Finder, bytes: &'a [u8]) -> Option<(&'a [u8], &'a [u8])>
     requires { list_any is_feed finder.now ≡ false }
     ensures { MatchOption result (with_text finder.now (lines bytes.now) ≡ [])
         (λ f. (with_text finder.now (lines bytes.now) ≡ f.0.now ∷ with_text finder.now (lines f.1.now))
