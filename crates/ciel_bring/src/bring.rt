@@ -5,14 +5,15 @@ ghost use Rattle.std.specs.Prelude.{◌≡◌, ◌<◌, ◌^◌, ◌++◌, ◌�
 ghost use Rattle.std.specs.Option.{option_map};
 ghost use Rattle.sky_base.specs.Val.{pairs_refs, refs, vals_refs};
 ghost use Rattle.sky_base.specs.View.{view};
-ghost use Rattle.ciel_board.specs.Board.{brought, first_held, held, key_number, least_place, lesser, place_at, place_for, spot_for, spot_in, stack_at, start_refs, task_desc, wait_number, with_spot};
-ghost use Rattle.ciel_bring.specs.Brings.{order_at, worker_of};
+ghost use Rattle.ciel_board.specs.Board.{brought, key_number, least_place, lesser, place_at, place_for, spot_for, spot_in, stack_at, start_refs, wait_number, with_spot};
+ghost use Rattle.ciel_bring.specs.Brings.{first_held_by, order_at, row_for, worker_of};
 ghost use Rattle.ciel_task.specs.Views.{brought_view, order_view, spot_view};
-ghost use Rattle.ciel_table.specs.Seen.{last_wait, row_named};
+ghost use Rattle.ciel_table.specs.Seen.{row_named};
 
 use ciel_store::shelves::Place;
 use ciel_table::row::Row;
 use ciel_table::table::Table;
+use ciel_table::wait::Wait;
 use ciel_task::block::{Block, Held, Spot};
 use ciel_task::order::Order;
 use sky_base::name::Name;
@@ -201,21 +202,31 @@ fn only(alloc: Global, name: &Name) -> Result<Names, Memory>
     Ok(names)
 }
 
-/// What a task holds at its start.
+/// The row of a task's name; none for the root task.
+fn row_for<'a>(table: &'a Table<Place<Block>>, task: &TaskId) -> Option<&'a Row<Place<Block>>>
+    ensures { MatchOption result (row_for task.now table.now ≡ None) (λ r. row_for task.now table.now ≡ Some r.now) }
+{
+    match task {
+        TaskId::Show => None,
+        TaskId::Of(name) => row_named(table, name),
+    }
+}
+
+/// What a task holds at its start, by the row of its name.
 fn first_held(
     alloc: Global,
     main: &Name,
-    table: &Table<Place<Block>>,
     task: &TaskId,
+    row: Option<&Row<Place<Block>>>,
 ) -> Result<Names, Memory>
-    ensures { IfOk result (λ ns. ns ≡ first_held main.now table.now task.now) }
+    ensures { IfOk result (λ ns. ns ≡ first_held_by main.now task.now (option_map (λ r. r.now) row.entry)) }
 {
     match task {
         TaskId::Show => {
             let names = only(alloc, main)?;
             Ok(names)
         }
-        TaskId::Of(name) => match row_named(table, name) {
+        TaskId::Of(_) => match row {
             Some(row) => {
                 let names = start_refs(alloc, &row.desc)?;
                 Ok(names)
@@ -225,7 +236,28 @@ fn first_held(
     }
 }
 
-/// What a worker is given of a task at its start: what it holds there and is live.
+/// The description of a row, if there is one.
+fn desc_of(row: Option<&Row<Place<Block>>>) -> Result<Option<Desc1>, Memory>
+    ensures { IfOk result (λ d. d ≡ option_map (λ r. r.now.desc) row.entry) }
+{
+    match row {
+        Some(row) => Ok(Some(row.desc.copy()?)),
+        None => Ok(None),
+    }
+}
+
+/// From which wait a task goes on, and where its stack is; at its start from 0, without one.
+fn goes_on(wait: Option<&Wait<Place<Block>>>) -> (u32, Option<Place<Block>>)
+    ensures from { result.0 ≡ wait_number (option_map (λ w. w.now) wait.entry) }
+    ensures stack { result.1 ≡ stack_at (option_map (λ w. w.now) wait.entry) }
+{
+    match wait {
+        None => (0, None),
+        Some(wait) => (wait.j, Some(wait.place.share())),
+    }
+}
+
+/// What a task at its start holds and is live, by the row of its name.
 fn brought_first(
     alloc: Global,
     keys: &[Txt],
@@ -233,65 +265,14 @@ fn brought_first(
     main: &Name,
     table: &Table<Place<Block>>,
     task: &TaskId,
+    row: Option<&Row<Place<Block>>>,
 ) -> Result<Vec<Held>, Memory>
     requires few { length keys.now < 2 ^ 32 }
-    ensures { IfOk result (λ hs. map brought_view hs.items ≡ brought worker_of keys.now worker table.now (first_held main.now table.now task.now)) }
+    ensures { IfOk result (λ hs. map brought_view hs.items ≡ brought worker_of keys.now worker table.now (first_held_by main.now task.now (option_map (λ r. r.now) row.entry))) }
 {
-    let names = first_held(alloc, main, table, task)?;
+    let names = first_held(alloc, main, task, row)?;
     let inputs = brought(alloc, keys, worker, table, names.as_slice())?;
     Ok(inputs)
-}
-
-/// The description that a task goes by; none for the root task.
-fn task_desc(
-    main: &Name,
-    table: &Table<Place<Block>>,
-    task: &TaskId,
-) -> Result<Option<Desc1>, Memory>
-    ensures { IfOk result (λ d. d ≡ task_desc main.now table.now task.now) }
-{
-    match task {
-        TaskId::Show => Ok(None),
-        TaskId::Of(name) => match row_named(table, name) {
-            Some(row) => Ok(Some(row.desc.copy()?)),
-            None => Ok(None),
-        },
-    }
-}
-
-/// From which wait a task goes on, and where its stack is; at its start from 0, without one.
-fn goes_on(table: &Table<Place<Block>>, task: &TaskId) -> (u32, Option<Place<Block>>)
-    ensures from { result.0 ≡ wait_number (last_wait task.now table.now) }
-    ensures stack { result.1 ≡ stack_at (last_wait task.now table.now) }
-{
-    match table.last_wait(task) {
-        None => (0, None),
-        Some(wait) => (wait.j, Some(wait.place.share())),
-    }
-}
-
-/// What a task holds where it goes on and is live.
-fn inputs_for(
-    alloc: Global,
-    keys: &[Txt],
-    worker: u32,
-    main: &Name,
-    table: &Table<Place<Block>>,
-    task: &TaskId,
-) -> Result<Vec<Held>, Memory>
-    requires few { length keys.now < 2 ^ 32 }
-    ensures { IfOk result (λ hs. map brought_view hs.items ≡ brought worker_of keys.now worker table.now (held main.now table.now task.now)) }
-{
-    match table.last_wait(task) {
-        Some(wait) => {
-            let inputs = brought(alloc, keys, worker, table, wait.holds.as_slice())?;
-            Ok(inputs)
-        }
-        None => {
-            let inputs = brought_first(alloc, keys, worker, main, table, task)?;
-            Ok(inputs)
-        }
-    }
 }
 
 /// The order of a task at a worker, with this number: it goes on from the task's last saved wait, and brings along what the task holds there
@@ -310,9 +291,14 @@ pub fn order_at(
     requires few { length keys.now < 2 ^ 32 }
     ensures order { IfOk result (λ o. order_view o ≡ order_at keys.now main.now table.now number task.now worker) }
 {
-    let desc = task_desc(main, table, task)?;
-    let inputs = inputs_for(alloc, keys, worker, main, table, task)?;
-    let resumed = goes_on(table, task);
+    let row = row_for(table, task);
+    let wait = table.last_wait(task);
+    let desc = desc_of(row)?;
+    let inputs = match wait {
+        Some(wait) => brought(alloc, keys, worker, table, wait.holds.as_slice())?,
+        None => brought_first(alloc, keys, worker, main, table, task, row)?,
+    };
+    let resumed = goes_on(wait);
     Ok(Order {
         number,
         worker,

@@ -17,6 +17,7 @@ use ciel_name::name::Namer;
 use ciel_name::object::canon;
 use ciel_store::seats::Eye;
 use ciel_store::shelves::Shelves;
+use ciel_task::ready::ReadyJob;
 use ciel_task::shop::Shop;
 use sky_base::job::Job;
 use sky_base::object::{Desc1, Named};
@@ -68,6 +69,7 @@ pub(crate) fn open<K: Drop, N: Namer + Drop>(
         return Err(Memory);
     };
     let main = main_call(alloc, &namer)?;
+    let job = ReadyJob::new(alloc, job)?;
     let shop = Shop {
         job,
         kit,

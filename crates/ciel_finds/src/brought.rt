@@ -11,7 +11,7 @@ use ciel_store::loss::Loss;
 use ciel_store::seats::Eye;
 use ciel_store::shelves::Shelves;
 use ciel_task::block::{Block, Held};
-use sky_base::job::Job;
+use ciel_task::ready::ReadyJob;
 use sky_base::name::Name;
 use sky_base::object::Object;
 use sky_base::text::Memory;
@@ -32,7 +32,7 @@ pub struct Lost {
 #[derive(Drop)]
 pub struct Brought<'a, R> {
     pub rt: &'a R,
-    pub job: &'a Job,
+    pub job: &'a ReadyJob,
     pub shelves: &'a Shelves<Block>,
     pub worker: u32,
     pub held: &'a [Held],

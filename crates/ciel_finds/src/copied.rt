@@ -19,7 +19,7 @@ use ciel_inputs::index::find;
 use ciel_store::seats::Eye;
 use ciel_store::shelves::{Gone, Shelves};
 use ciel_task::block::{Block, Held};
-use sky_base::job::Job;
+use ciel_task::ready::ReadyJob;
 use sky_base::name::Name;
 use sky_base::object::Object;
 use sky_base::text::Memory;
@@ -53,7 +53,7 @@ impl Copied {
 /// Answers `Memory` for want of memory.
 pub fn bring_once<R: Wait>(
     rt: &R,
-    job: &Job,
+    job: &ReadyJob,
     shelves: &Shelves<Block>,
     worker: u32,
     held: &[Held],

@@ -12,7 +12,7 @@ use crate::fetch::fetch;
 use ciel_store::seats::Eye;
 use ciel_store::shelves::{Gone, Place, Shelves};
 use ciel_task::block::{Block, Held, Spot};
-use sky_base::job::Job;
+use ciel_task::ready::ReadyJob;
 use sky_base::object::Object;
 use sky_base::text::Memory;
 use std::sync::Wait;
@@ -23,7 +23,7 @@ use std::sync::Wait;
 /// Answers `Memory` for want of memory.
 pub fn bring<R: Wait>(
     rt: &R,
-    job: &Job,
+    job: &ReadyJob,
     shelves: &Shelves<Block>,
     worker: u32,
     held: &Held,

@@ -11,7 +11,7 @@ ghost use Rattle.ciel_inputs.specs.Lies.{LostAt, lies_at, object_in};
 use ciel_store::seats::Eye;
 use ciel_store::shelves::{Gone, Shelves};
 use ciel_task::block::{Block, Held, Spot};
-use sky_base::job::Job;
+use ciel_task::ready::ReadyJob;
 use sky_base::object::Object;
 use sky_base::text::Memory;
 
@@ -20,7 +20,7 @@ use sky_base::text::Memory;
 ///
 /// Answers `Memory` for want of memory.
 pub fn fetch(
-    job: &Job,
+    job: &ReadyJob,
     shelves: &Shelves<Block>,
     held: &Held,
     eye: &mut Eye,
@@ -37,7 +37,7 @@ pub fn fetch(
             Ok(block) => Ok(Ok(object_in(block)?)),
             Err(gone) => Ok(Err(gone)),
         },
-        Spot::Input(number) => match job.inputs.as_slice().get(*number as usize) {
+        Spot::Input(number) => match job.inputs().as_slice().get(*number as usize) {
             Some((_, bytes)) => Ok(Ok(Object::Bytes(bytes.share()?))),
             None => unreachable!(),
         },

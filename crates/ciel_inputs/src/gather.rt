@@ -17,7 +17,7 @@ use ciel_store::loss::Loss;
 use ciel_store::seats::Eye;
 use ciel_store::shelves::Shelves;
 use ciel_task::block::{Block, Held};
-use sky_base::job::Job;
+use ciel_task::ready::ReadyJob;
 use sky_base::name::Name;
 use sky_base::object::Object;
 use sky_base::text::Memory;
@@ -39,7 +39,7 @@ pub enum Gathered {
 pub fn gather<R: Wait>(
     rt: &R,
     alloc: Global,
-    job: &Job,
+    job: &ReadyJob,
     shelves: &Shelves<Block>,
     worker: u32,
     held: &[Held],

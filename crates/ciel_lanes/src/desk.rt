@@ -57,7 +57,6 @@ fn receive<W: Work, R: Wait>(
 }
 
 /// The master's end. Contracts see the jobs that were put, the one that is out, and how many were taken back.
-#[derive(Drop)]
 pub struct Desk<W: Work> {
     to: DeskSender<W>,
     from: DeskReceiver<W>,
@@ -72,8 +71,18 @@ impl<W: Work> Model for Desk<W> {
     ghost invariant = { λ d. IsSeatAt (sends_on d.to) d.pass × (receives_on d.from ≡ sends_on d.to) × IsDesk (known d.pass) };
 }
 
+// Written here, so that each exit of a function that holds one has one call and not the drops of all that it owns.
+impl<W: Work> Drop for Desk<W> {
+    fn drop(self) {
+        let Desk {
+            to: _,
+            from: _,
+            pass: _,
+        } = self;
+    }
+}
+
 /// The worker's end. Contracts see how many jobs were taken, and how many outputs were taken back.
-#[derive(Drop)]
 pub struct Chair<W: Work> {
     to: DeskSender<W>,
     from: DeskReceiver<W>,
@@ -86,6 +95,16 @@ impl<W: Work> Model for Chair<W> {
     ghost view = { λ d. chair_seen (known d.pass) };
 
     ghost invariant = { λ d. IsSeatAt (sends_on d.to) d.pass × (receives_on d.from ≡ sends_on d.to) × IsChair (known d.pass) };
+}
+
+impl<W: Work> Drop for Chair<W> {
+    fn drop(self) {
+        let Chair {
+            to: _,
+            from: _,
+            pass: _,
+        } = self;
+    }
 }
 
 impl<W: Work> Desk<W> {

@@ -57,6 +57,11 @@ pub(crate) enum Hands<W: Work> {
     Own(Chair<W>),
 }
 
+// Nobody but whoever takes the output.
+pub(crate) fn own_hands<W: Work>(post: Post<W>) -> Hands<W> {
+    Hands::Own(post.chair)
+}
+
 // Starts a thread. Where none can be had, the closure is called here after a last bell, and gives the chair back.
 pub(crate) fn hire<W: Work, R: Threads + Wait + Copy + Send + Drop + 'static>(
     rt: R,

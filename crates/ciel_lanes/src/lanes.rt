@@ -5,7 +5,7 @@ ghost use Rattle.ciel_lanes.specs.Seen.{LaneSeen, IsOut, HasTaken, Closes, lane_
 
 use crate::bells::{Listener, Ringer, bells};
 use crate::desk::Desk;
-use crate::lane::{Bell, Hands, Lane, Post, hire};
+use crate::lane::{Bell, Hands, Lane, Post, hire, own_hands};
 use crate::work::Work;
 use std::alloc::{AllocError, Global};
 use std::marker::Model;
@@ -119,7 +119,7 @@ where
         post,
     } = place;
     let hands = if is_alone {
-        Hands::Own(post.chair)
+        own_hands(post)
     } else {
         hire(rt, &mut bell, post)
     };

@@ -13,19 +13,20 @@ use Rattle.ciel_marks.proofs.Wanting.{Makers, makers_wanted, wants_is}
 pub makers_graph : (rows : List ℕ) (m : MarksSeen) → SameGraph m (wants_makers rows m)
 makers_graph [] m = record { live = refl; makers = refl; out = refl }
 makers_graph (x ∷ xs) m =
-    let a = some (entry m.makers x) in
-    let b = makers_graph xs (wants_some (entry m.makers x) m) in
+    let n = wants_makers xs m in
+    let a = makers_graph xs m in
+    let b = some n (entry n.makers x) in
     record { live = b.live ∙ a.live; makers = b.makers ∙ a.makers; out = b.out ∙ a.out }
   where
-    one : (u : ℕ) (b : Bool) → flag m.wanted u ≡ b → SameGraph m (wants u m)
-    one u true e =
-        subst (SameGraph m) (sym (wants_is u m true e)) (record { live = refl; makers = refl; out = refl })
-    one u false e =
-        subst (SameGraph m) (sym (wants_is u m false e)) (record { live = refl; makers = refl; out = refl })
+    one : (n : MarksSeen) (u : ℕ) (b : Bool) → flag n.wanted u ≡ b → SameGraph n (wants u n)
+    one n u true e =
+        subst (SameGraph n) (sym (wants_is u n true e)) (record { live = refl; makers = refl; out = refl })
+    one n u false e =
+        subst (SameGraph n) (sym (wants_is u n false e)) (record { live = refl; makers = refl; out = refl })
 
-    some : (o : Option ℕ) → SameGraph m (wants_some o m)
-    some None = record { live = refl; makers = refl; out = refl }
-    some (Some u) = one u (flag m.wanted u) refl
+    some : (n : MarksSeen) (o : Option ℕ) → SameGraph n (wants_some o n)
+    some n None = record { live = refl; makers = refl; out = refl }
+    some n (Some u) = one n u (flag n.wanted u) refl
 
 module _ (m : MarksSeen) (u : ℕ) (rows : List ℕ) (needs : Needs) (a : Active m u) (dead : AreDead needs m u rows) (s : Stands m needs (u ∷ []) []) where
   led : Led (net needs m.live m.makers m.out) u

@@ -142,40 +142,38 @@ module _ (needs : Needs) (fresh late : List ℕ) where
     pub stands : Stands n needs fresh late
     pub all : (r v : ℕ) → In r rows → entry m.makers r ≡ Some v → flag n.wanted v ≡ true
 
+  -- the maker of one row more
+  one_more : (x : ℕ) (xs : List ℕ) (m n : MarksSeen) (q : Makers xs m n) (o : Option ℕ) → entry n.makers x ≡ o → ((v : ℕ) → entry n.makers x ≡ Some v → Led (net needs n.live n.makers n.out) v) → Makers (x ∷ xs) m (wants_some o n)
+  one_more x xs m n q None e led =
+      record { wider = q.wider; stands = q.stands; all = all }
+    where
+      all : (r v : ℕ) → In r (x ∷ xs) → entry m.makers r ≡ Some v → flag n.wanted v ≡ true
+      all r v (inl s) y =
+          let p : None ≡ Some v = sym e ∙ (ap (entry n.makers) (sym s) ∙ (ap (λ es. entry es r) q.wider.graph.makers ∙ y)) in cc
+      all r v (inr h) y = q.all r v h y
+  one_more x xs m n q (Some u) e led =
+      let l = node_long n needs fresh late q.stands x u e in
+      let w = wants_wider u n l in
+      record {
+        wider = wider_more m n (wants u n) q.wider w.0;
+        stands = wants_stands u n needs fresh late q.stands (led u e) l;
+        all = λ r v h y. all w.0 w.1 r v h y;
+      }
+    where
+      all : Wider n (wants u n) → flag (wants u n).wanted u ≡ true → (r v : ℕ) → In r (x ∷ xs) → entry m.makers r ≡ Some v → flag (wants u n).wanted v ≡ true
+      all w t r v (inl s) y =
+          let p : Some u ≡ Some v = sym e ∙ (ap (entry n.makers) (sym s) ∙ (ap (λ es. entry es r) q.wider.graph.makers ∙ y)) in
+          let z : u ≡ v = cc in
+          subst (λ a. flag (wants u n).wanted a ≡ true) z t
+      all w t r v (inr h) y = w.wanted v (q.all r v h y)
+
   pub makers_wanted : (rows : List ℕ) (m : MarksSeen) → Stands m needs fresh late → ((r v : ℕ) → In r rows → entry m.makers r ≡ Some v → Led (net needs m.live m.makers m.out) v) → Makers rows m (wants_makers rows m)
   makers_wanted [] m s f = record { wider = wider_none m; stands = s; all = λ r v h e. absurd h }
-  makers_wanted (x ∷ xs) m s f = turn (entry m.makers x) refl (makers_wanted xs)
+  makers_wanted (x ∷ xs) m s f =
+      let n = wants_makers xs m in
+      let q = makers_wanted xs m s (λ r v h. f r v (inr h)) in
+      one_more x xs m n q (entry n.makers x) refl (λ v e. led n q.wider.graph v (f x v (inl refl) (ap (λ es. entry es x) (sym q.wider.graph.makers) ∙ e)))
     where
-      turn : (o : Option ℕ) → entry m.makers x ≡ o → ((n : MarksSeen) → Stands n needs fresh late → ((r v : ℕ) → In r xs → entry n.makers r ≡ Some v → Led (net needs n.live n.makers n.out) v) → Makers xs n (wants_makers xs n)) → Makers (x ∷ xs) m (wants_makers (x ∷ xs) m)
-      turn None e rec =
-          let q = rec m s (λ r v h. f r v (inr h)) in
-          subst (λ o. Makers (x ∷ xs) m (wants_makers xs (wants_some o m))) (sym e) (record {
-            wider = q.wider;
-            stands = q.stands;
-            all = λ r v h y. none q r v h y;
-          })
-        where
-          none : Makers xs m (wants_makers xs m) → (r v : ℕ) → In r (x ∷ xs) → entry m.makers r ≡ Some v → flag (wants_makers xs m).wanted v ≡ true
-          none q r v (inl s) y = let p : None ≡ Some v = sym e ∙ (ap (entry m.makers) (sym s) ∙ y) in cc
-          none q r v (inr h) y = q.all r v h y
-      turn (Some u) e rec =
-          let l = node_long m needs fresh late s x u e in
-          let w = wants_wider u m l in
-          let g = w.0.graph in
-          let q = rec (wants u m) (wants_stands u m needs fresh late s (f x u (inl refl) e) l) (λ r v h y. led g r v (f r v (inr h) (ap (λ es. entry es r) (sym g.makers) ∙ y))) in
-          subst (λ o. Makers (x ∷ xs) m (wants_makers xs (wants_some o m))) (sym e) (record {
-            wider = wider_more m (wants u m) (wants_makers xs (wants u m)) w.0 q.wider;
-            stands = q.stands;
-            all = λ r v h y. some w.0 w.1 q r v h y;
-          })
-        where
-          led : SameGraph m (wants u m) → (r v : ℕ) → Led (net needs m.live m.makers m.out) v → Led (net needs (wants u m).live (wants u m).makers (wants u m).out) v
-          led g r v l =
-              subst (λ fs. Led (net needs fs (wants u m).makers (wants u m).out) v) (sym g.live) (subst (λ es. Led (net needs m.live es (wants u m).out) v) (sym g.makers) (subst (λ fs. Led (net needs m.live m.makers fs) v) (sym g.out) l))
-
-          some : Wider m (wants u m) → flag (wants u m).wanted u ≡ true → Makers xs (wants u m) (wants_makers xs (wants u m)) → (r v : ℕ) → In r (x ∷ xs) → entry m.makers r ≡ Some v → flag (wants_makers xs (wants u m)).wanted v ≡ true
-          some w t q r v (inl s) y =
-              let p : Some u ≡ Some v = sym e ∙ (ap (entry m.makers) (sym s) ∙ y) in
-              let z : u ≡ v = cc in
-              q.wider.wanted v (subst (λ x. flag (wants u m).wanted x ≡ true) z t)
-          some w t q r v (inr h) y = q.all r v h (ap (λ es. entry es r) w.graph.makers ∙ y)
+      led : (n : MarksSeen) → SameGraph m n → (v : ℕ) → Led (net needs m.live m.makers m.out) v → Led (net needs n.live n.makers n.out) v
+      led n g v l =
+          subst (λ fs. Led (net needs fs n.makers n.out) v) (sym g.live) (subst (λ es. Led (net needs m.live es n.out) v) (sym g.makers) (subst (λ fs. Led (net needs m.live m.makers fs) v) (sym g.out) l))

@@ -67,10 +67,14 @@ abbrev pub wants_some : Option ℕ → MarksSeen → MarksSeen
 wants_some None m = m
 wants_some (Some u) m = wants u m
 
--- the makers of rows are wanted
+-- the maker of a row is wanted
+abbrev pub wants_maker : ℕ → MarksSeen → MarksSeen
+wants_maker r m = wants_some (entry m.makers r) m
+
+-- the makers of rows are wanted, that of the last first
 abbrev pub wants_makers : List ℕ → MarksSeen → MarksSeen
 wants_makers [] m = m
-wants_makers (r ∷ rs) m = wants_makers rs (wants_some (entry m.makers r) m)
+wants_makers (r ∷ rs) m = wants_maker r (wants_makers rs m)
 
 -- of what is put into the list, if there is something
 abbrev pub HasSome : Option ℕ → List ℕ → List ℕ → Type 0

@@ -176,11 +176,14 @@ impl Marks {
         }
     }
 
-    // The makers of rows are wanted.
+    // The makers of rows are wanted, that of the last first: then the needs of the first one's are looked at first, and what can run
+    // is listed mostly behind what is listed already.
     fn want_makers(&mut self, rows: &[u32]) -> Result<(), Memory>
         ensures { OnOk result (self.new ≡ wants_makers rows.now self.old) }
     {
-        for i in 0..rows.len() {
+        let mut i = rows.len();
+        while i > 0 {
+            i -= 1;
             self.want_maker(rows[i])?;
         }
         Ok(())

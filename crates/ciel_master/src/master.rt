@@ -206,7 +206,7 @@ impl<K: Drop, N: Namer + Drop> Master<K, N> {
         ensures kept { OnErr result (self.new ≡ self.old) }
     {
         let number = self.starts;
-        let keys = self.shop.job.script.keys().as_slice();
+        let keys = self.shop.job.script().keys().as_slice();
         let order = order_at(
             self.alloc,
             keys,

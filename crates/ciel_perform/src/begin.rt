@@ -49,7 +49,7 @@ pub fn begin<K, N: Namer>(
             Ok(begun)
         }
         None => {
-            let state = start(alloc, &shop.job.script, order)?;
+            let state = start(alloc, shop.job.script(), order)?;
             Ok(Begun::State(state))
         }
     }

@@ -30,7 +30,6 @@ use ciel_through::through::run_through;
 use sky_base::kit::Kit;
 use sky_base::name::Name;
 use sky_base::text::Memory;
-use sky_numbers::code::number_script;
 use sky_state::state::State;
 use sky_typed::read::read_all;
 use std::alloc::Global;
@@ -149,7 +148,7 @@ fn through<'a, K, N: Namer, R: Wait>(
     ensures of { eye.new.of ≡ eye.old.of }
     ensures went { IfOk result (λ r. WentThrough (N.digest shop.now.namer) shop.now.shelves (job_view shop.now.job).script (job_view shop.now.job).inputs order.now (stand_of state.old) (stand_of state.new) (spawned_of state.new) eye.new r copied.new.items.items) }
 {
-    let numbered = number_script(alloc, &shop.job.script)?;
+    let numbered = shop.job.numbered();
     let mut finder = Brought {
         rt,
         job: &shop.job,

@@ -41,7 +41,7 @@ fn makers<P: At + Drop>(alloc: Global, table: &Table<P>) -> Result<Vec<Option<u3
 {
     let mut nodes = Vec::new(alloc);
     for row in 0..table.len() {
-        let node = node_of(table, &table.row(row).task);
+        let node = node_of(table, row, &table.row(row).task);
         push(&mut nodes, node)?;
     }
     Ok(nodes)

@@ -40,7 +40,7 @@ fn with_row<P: At + Drop>(
     ensures { IfSome result (λ n. (r : Row P) × (slice_get table.now.rows row ≡ Some r) × LearnedWith table.now out.now r marks n) }
 {
     let held = table.row(row);
-    let maker = node_of(table, &held.task);
+    let maker = node_of(table, row, &held.task);
     if marks.is_long() {
         return None;
     }

@@ -12,7 +12,7 @@ ghost use Rattle.ciel_want.specs.Waited.{Whole, same_id};
 
 use crate::anew::{anew, is_same};
 use crate::change;
-use crate::nodes::node_for;
+use crate::nodes::{find_live, node_for};
 use ciel_marks::marks::Marks;
 use ciel_name::name::Namer;
 use ciel_table::refusal::Learn;
@@ -35,6 +35,8 @@ pub struct Ready<P: At> {
     out: Vec<TaskId>,
     // None where they don't tell all: they are made anew when they are asked for.
     marks: Option<Marks>,
+    // The row that was looked for last.
+    near: RowId,
 }
 
 impl<P: At> Model for Ready<P> {
@@ -67,6 +69,7 @@ impl<P: At + Drop> Ready<P> {
             main,
             out: Vec::new(alloc),
             marks: None,
+            near: 0,
         })
     }
 
@@ -113,8 +116,7 @@ impl<P: At + Drop> Ready<P> {
         ensures placed { OnOk result (self.new ≡ with_table self.old (placed name.now place self.old.table)) }
         ensures kept { OnErr result (self.new ≡ self.old) }
     {
-        let was = self.table.is_live(name);
-        let row = self.table.find(name);
+        let (row, was) = find_live(&self.table, &mut self.near, name);
         let marks = self.marks.take();
         match self.table.add_place(name, place) {
             Ok(()) => {
@@ -135,7 +137,7 @@ impl<P: At + Drop> Ready<P> {
         ensures saved { OnOk result (self.new ≡ with_table self.old (saved task.now wait self.old.table)) }
         ensures kept { OnErr result (self.new ≡ self.old) }
     {
-        let node = node_for(&self.table, task);
+        let node = node_for(&self.table, &mut self.near, task);
         let marks = self.marks.take();
         match self.table.save_wait(task, wait) {
             Ok(()) => {
@@ -165,7 +167,7 @@ impl<P: At + Drop> Ready<P> {
         if self.out.reserve(1).is_err() {
             return Err(Memory);
         }
-        let node = node_for(&self.table, task);
+        let node = node_for(&self.table, &mut self.near, task);
         let marks = self.marks.take();
         self.out.push_reserved(*task);
         self.marks = change::started(marks, node);
@@ -176,7 +178,7 @@ impl<P: At + Drop> Ready<P> {
     pub fn close(&mut self, task: &TaskId)
         ensures closed { self.new ≡ without self.old task.now }
     {
-        let node = node_for(&self.table, task);
+        let node = node_for(&self.table, &mut self.near, task);
         let marks = self.marks.take();
         take_off(&mut self.out, task);
         self.marks = change::closed(self.alloc, &self.table, &self.main, marks, node);
@@ -206,7 +208,7 @@ impl<P: At + Drop> Ready<P> {
         ensures same { self.new ≡ self.old }
     {
         let marks = self.take_marks()?;
-        let task = task_at(&self.table, &marks, k);
+        let task = task_at(&self.table, &mut self.near, &marks, k);
         self.marks = Some(marks);
         Ok(task)
     }
@@ -245,13 +247,14 @@ fn many(marks: &Marks) -> usize
 }
 
 // The task of the k-th node that can run.
-fn task_at<P: At + Drop>(table: &Table<P>, marks: &Marks, k: usize) -> TaskId
+fn task_at<P: At + Drop>(table: &Table<P>, near: &mut RowId, marks: &Marks, k: usize) -> TaskId
     requires rows { (k : ℕ) (r : ℕ) → slice_get marks.now.list k ≡ Some r → r < length table.now.rows }
     ensures task { result ≡ runs_at table.now marks.now k }
     ensures rising { Rising marks.now.list }
 {
     let list = marks.list();
     if k < list.len() {
+        *near = list[k];
         table.row(list[k]).task
     } else {
         TaskId::Show

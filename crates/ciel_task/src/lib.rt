@@ -4,5 +4,6 @@
 
 pub mod block;
 pub mod order;
+pub mod ready;
 pub mod report;
 pub mod shop;

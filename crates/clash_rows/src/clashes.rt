@@ -10,6 +10,7 @@ use ciel_master::stop::RunEnd;
 use ciel_name::name::WeakNamer;
 use line_kit::kit::LineKit;
 use sky_base::job::{Inputs, Job};
+use sky_base::script::Texts;
 use std::alloc::Global;
 use std::sync::Wait;
 use std::test::Fail;
@@ -31,7 +32,7 @@ fn ran<R: Threads + Wait + Copy + Send + Drop + 'static>(
     alloc: Global,
     text: &str,
 ) -> Result<Ran, Fail> {
-    let script = script(alloc, text)?;
+    let script = script(alloc, text, Texts::of(Vec::new(alloc)))?;
     let mut gates = gates(alloc)?;
     let job = Job {
         script,

@@ -2,8 +2,11 @@
 // their own, since a crate with tests is proved twice.
 #![tactic(auto)]
 
-pub mod kit;
-pub mod made;
-pub mod order;
+#[cfg(test)]
+mod kit;
+#[cfg(test)]
+mod made;
+#[cfg(test)]
+mod order;
 #[cfg(test)]
 mod rows;

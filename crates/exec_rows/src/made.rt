@@ -11,6 +11,7 @@ use ciel_name::name::Sha1Namer;
 use ciel_store::seats::{Eye, Marker};
 use ciel_store::shelves::{Place, Shelves};
 use ciel_task::block::Block;
+use ciel_task::ready::ReadyJob;
 use ciel_task::shop::Shop;
 use sky_base::job::{Inputs, Job};
 use sky_base::object::Object;
@@ -66,7 +67,7 @@ pub fn shop(alloc: Global, shelves: Shelves<Block>, input: &str) -> Result<LineS
     ensures shelves { IfOk result (λ s. s.shelves ≡ shelves) }
     ensures small { IfOk result (λ s. IsSmall s) }
 {
-    let job = job(alloc, input)?;
+    let job = ReadyJob::new(alloc, job(alloc, input)?)?;
     Ok(Shop {
         job,
         kit: Lines,

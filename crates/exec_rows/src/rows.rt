@@ -75,10 +75,8 @@ fn made(shop: &LineShop, order: &Order, report: &Report, eye: &mut Eye, text: &s
 
 // Whether the object of this name alone was copied.
 fn copied(report: &Report, name: &Name) -> bool {
-    match report.copied.as_slice() {
-        [one] => one.name == *name,
-        _ => false,
-    }
+    let copied = report.copied.as_slice();
+    copied.len() == 1 && copied[0].name == *name
 }
 
 // Whether this name is missing by the loss of this number, which the eye had seen, and nothing was copied.

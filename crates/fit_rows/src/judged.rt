@@ -47,7 +47,8 @@ fn fits_alone(alloc: Global, fitting: &Fitting, bytes: &[u8]) -> Result<bool, Fa
 /// The bytes of a state of this script: they are read again, but no proper prefix of them, and none with a byte more.
 pub fn is_read(rt: &impl Abort, alloc: Global, text: &str, bytes: &[u8]) -> Result<(), Fail> {
     let script = script(alloc, text)?;
-    let numbered = number_script(alloc, &script)?;
+    let tables = number_script(alloc, &script)?;
+    let numbered = tables.over(&script);
     let fitting = Fitting::new(alloc, &numbered)?;
     let alone = fits_alone(alloc, &fitting, bytes)?;
     assert!(rt; alone);
@@ -63,7 +64,8 @@ pub fn with_byte(
     byte: u8,
 ) -> Result<bool, Fail> {
     let script = script(alloc, text)?;
-    let numbered = number_script(alloc, &script)?;
+    let tables = number_script(alloc, &script)?;
+    let numbered = tables.over(&script);
     let fitting = Fitting::new(alloc, &numbered)?;
     let mut other = Vec::from_slice(alloc, bytes)?;
     if at < other.len() {

@@ -37,7 +37,8 @@ pub struct Run {
 
 /// What the main body of a script comes to first.
 fn run_main(alloc: Global, script: &Script) -> Result<Run, Fail> {
-    let numbered = number_script(alloc, script)?;
+    let tables = number_script(alloc, script)?;
+    let numbered = tables.over(script);
     let namer = Sha1Namer;
     let ground = Ground {
         alloc,

@@ -69,9 +69,10 @@ fn ran(alloc: Global) -> i64 {
     let Some(script) = script(alloc, LOOP) else {
         return -2;
     };
-    let Ok(numbered) = number_script(alloc, &script) else {
+    let Ok(tables) = number_script(alloc, &script) else {
         return -5;
     };
+    let numbered = tables.over(&script);
     let namer = Sha1Namer;
     let ground = Ground {
         alloc,

@@ -259,7 +259,8 @@ fn ends(
 fn runs_so(alloc: Global, script: &Script, row: &Row) -> Result<bool, Fail>
     requires { IsRead script.now }
 {
-    let numbered = number_script(alloc, script)?;
+    let tables = number_script(alloc, script)?;
+    let numbered = tables.over(script);
     let mut state = start(alloc, script)?;
     let given = objects(alloc, row.given)?;
     let (waits, end) = ends(alloc, &numbered, &mut state, given.as_slice())?;

@@ -202,7 +202,8 @@ fn ends(
 fn runs_so(alloc: Global, script: &Script, row: &Row) -> Result<Option<Ended>, Fail>
     requires { IsRead script.now }
 {
-    let numbered = number_script(alloc, script)?;
+    let tables = number_script(alloc, script)?;
+    let numbered = tables.over(script);
     let mut state = start(alloc, script)?;
     ends(alloc, &numbered, &mut state, row.stops)
 }

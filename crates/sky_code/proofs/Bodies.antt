@@ -1,12 +1,15 @@
 -- What stands at a number, and what a call runs.
-use Rattle.std.proofs.Common.{◌≡◌, ◌≢◌, ◌<◌, ℕ, zero, suc, ◌+◌, List, [], ◌∷◌, Bool, true, false, Option, Some, None, slice_get, slice_index, refl, ◌∙◌, arith}
-use Rattle.sky_base.specs.Tree.{Exp, Stm, FunDef, Script, nodes, stm_nodes, block_nodes}
+use Rattle.std.proofs.Common.{◌≡◌, ◌≢◌, ◌<◌, ◌≤◌, ℕ, zero, suc, ◌+◌, List, [], ◌∷◌, ◌-◌, length, Bool, true, false, Option, Some, None, slice_get, slice_index, slice_index_or, refl, sym, ap, ◌∙◌, subst, arith}
+use Rattle.std.specs.List.Sorted.{IsNonDecreasing}
+use Rattle.std.proofs.lemmas.List.Sorted.{IsNonDecreasingBy-from_all_adjacent}
+use Rattle.sky_base.specs.Tree.{Exp, Stm, FunDef, Script, nodes, stm_nodes, block_nodes, funs_nodes, script_nodes}
 use Rattle.sky_base.specs.Val.{same_text}
 use Rattle.sky_base.specs.Eval.{Body, find_fun, find_fun_if, find_body, find_body_if, body_of}
 use Rattle.sky_scope.specs.FunPlace.{place_if, fun_place}
-use Rattle.sky_law.specs.Opened.{Node, exp_node, stm_node, block_node, HasExp, HasStm}
+use Rattle.sky_law.specs.Opened.{Node, exp_node, stm_node, block_node, HasExp, HasStm, HasStms, HasFuns}
 use Rattle.sky_law.specs.Nodes.{pre_script, node_at}
-use Rattle.sky_code.specs.Numbers.{node_size, ends_from, ends_of, starts_from, starts_of}
+use Rattle.sky_law.proofs.NodesLaw.{has_script, script_count}
+use Rattle.sky_code.specs.Numbers.{Holds, node_size, ends_from, ends_of, starts_from, starts_of}
 
 end_from : (ts : List Node) (n i : ℕ) (t : Node) → slice_get ts i ≡ Some t → slice_index (ends_from ts n) i ≡ n + i + node_size t
 end_from [] n i t e = absurd cc
@@ -105,3 +108,85 @@ pub size_pos : (t : Node) → 0 < node_size t
 size_pos (exp_node e) = nodes_pos e
 size_pos (stm_node a) = stm_nodes_pos a
 size_pos (block_node b) = omega arith
+
+-- ---- the body that holds a node
+
+ends_length : (ts : List Node) (n : ℕ) → length (ends_from ts n) ≡ length ts
+ends_length [] n = refl
+ends_length (t ∷ ts) n = ap suc (ends_length ts (n + 1))
+
+get_past : {A : Type 0} (xs : List A) (i : ℕ) → length xs ≤ i → slice_get xs i ≡ None
+get_past [] i h = refl
+get_past (x ∷ xs) zero h = absurd (omega (arith, h))
+get_past (x ∷ xs) (suc i) h = get_past xs i (omega (arith, h))
+
+-- as many ends as nodes
+pub ends_count : (sc : Script) → length (ends_of sc) ≡ script_nodes sc
+ends_count sc = ends_length (pre_script sc) 0 ∙ script_count sc
+
+pub no_node : (sc : Script) (i : ℕ) → length (ends_of sc) ≤ i → node_at sc i ≡ None
+no_node sc i h = get_past (pre_script sc) i (omega (arith, h, ends_length (pre_script sc) 0))
+
+-- the main body's
+pub main_end : (sc : Script) → slice_index (ends_of sc) 0 ≡ block_nodes sc.main
+main_end sc = end_at sc 0 (block_node sc.main) (has_script sc).0.0 ∙ omega arith
+
+pub main_holds : (sc : Script) (i : ℕ) → i < block_nodes sc.main → Holds sc sc.main 0 i
+main_holds sc i h = ((has_script sc).0.0, (has_script sc).0.1, omega arith, omega (arith, h))
+
+-- a function's
+starts_rise : (fs : List FunDef) (n k d : ℕ) → k + 1 < length (starts_from fs n) → slice_index_or (starts_from fs n) k d ≤ slice_index_or (starts_from fs n) (k + 1) d
+starts_rise [] n k d h = absurd (omega (arith, h))
+starts_rise (f ∷ []) n k d h = absurd (omega (arith, h))
+starts_rise (f ∷ g ∷ fs) n zero d h = omega arith
+starts_rise (f ∷ g ∷ fs) n (suc k) d h =
+    let e : suc k + 1 ≡ suc (k + 1) = omega arith in
+    rw e (starts_rise (g ∷ fs) (n + block_nodes f.body) k d (omega (arith, h)))
+
+pub starts_sorted : (sc : Script) → IsNonDecreasing (starts_of sc)
+starts_sorted sc = IsNonDecreasingBy-from_all_adjacent (λ x. x) (starts_of sc) (starts_rise sc.funs (block_nodes sc.main))
+
+pub starts_length : (fs : List FunDef) (n : ℕ) → length (starts_from fs n) ≡ length fs
+starts_length [] n = refl
+starts_length (f ∷ fs) n = ap suc (starts_length fs (n + block_nodes f.body))
+
+-- between the start of a function's block and the next one
+module _ (at : ℕ → Option Node) where
+  pub fun_holds : (fs : List FunDef) (n i k : ℕ) (f : FunDef) → HasFuns at fs n → slice_get fs k ≡ Some f → slice_index (starts_from fs n) k ≤ i → (k + 1 < length fs → i < slice_index (starts_from fs n) (k + 1)) → i < n + funs_nodes fs → (at (slice_index (starts_from fs n) k) ≡ Some (block_node f.body)) × HasStms at f.body (slice_index (starts_from fs n) k + 1) × (i < slice_index (starts_from fs n) k + block_nodes f.body)
+  fun_holds [] n i k f h e low high last = absurd cc
+  fun_holds (g ∷ []) n i zero f h e low high last =
+      let s : g ≡ f = cc in
+      rw (← s) (h.0.0, h.0.1, omega (arith, last))
+  fun_holds (g ∷ g' ∷ fs) n i zero f h e low high last =
+      let s : g ≡ f = cc in
+      rw (← s) (h.0.0, h.0.1, high (omega arith))
+  fun_holds (g ∷ fs) n i (suc k) f h e low high last =
+      let one : suc k + 1 ≡ suc (k + 1) = omega arith in
+      fun_holds fs (n + block_nodes g.body) i k f h.1 e low (λ l. subst (λ m. i < slice_index (starts_from (g ∷ fs) n) m) one (high (omega (arith, l)))) (omega (arith, last))
+
+-- so many starts are at most i, and the others are greater
+module _ (sc : Script) (starts : List ℕ) (are : starts ≡ starts_of sc) (i r : ℕ) (lo : block_nodes sc.main ≤ i) (hi : i < length (ends_of sc)) (others : (k : ℕ) → r ≤ k → k < length starts → i < slice_index starts k) where
+  first_start : (fs : List FunDef) (n : ℕ) → n ≤ i → i < n + funs_nodes fs → ((k : ℕ) → r ≤ k → k < length (starts_from fs n) → i < slice_index (starts_from fs n) k) → 1 ≤ r
+  first_start [] n from to h = absurd (omega (arith, from, to))
+  first_start (f ∷ fs) n from to h = either r refl
+    where
+      either : (m : ℕ) → m ≡ r → 1 ≤ r
+      either zero e = absurd (omega (arith, from, h 0 (omega (arith, e)) (omega arith)))
+      either (suc m) e = omega (arith, e)
+
+  more_starts : (k : ℕ) → r ≤ k → k < length (starts_of sc) → i < slice_index (starts_of sc) k
+  more_starts = subst (λ xs. (k : ℕ) → r ≤ k → k < length xs → i < slice_index xs k) are others
+
+  pub one_start : 1 ≤ r
+  one_start = first_start sc.funs (block_nodes sc.main) lo (omega (arith, hi, ends_count sc)) more_starts
+
+  pub start_within : r ≤ length starts → r - 1 < length sc.funs
+  start_within most = omega (arith, most, one_start, ap length are, starts_length sc.funs (block_nodes sc.main))
+
+  pub start_holds : ((k : ℕ) → k < r → slice_index starts k ≤ i) → (f : FunDef) (m : ℕ) → slice_get sc.funs (r - 1) ≡ Some f → m ≡ slice_index starts (r - 1) → Holds sc f.body m i
+  start_holds first f m e is =
+      let k = r - 1 in
+      let here : m ≡ slice_index (starts_of sc) k = is ∙ ap (λ xs. slice_index xs k) are in
+      let low : slice_index (starts_of sc) k ≤ i = subst (λ xs. slice_index xs k ≤ i) are (first k (omega (arith, one_start))) in
+      let held = fun_holds (λ j. node_at sc j) sc.funs (block_nodes sc.main) i k f (has_script sc).1 e low (λ l. more_starts (k + 1) (omega arith) (omega (arith, l, starts_length sc.funs (block_nodes sc.main)))) (omega (arith, hi, ends_count sc)) in
+      subst (λ n. Holds sc f.body n i) (sym here) (held.0, held.1, low, held.2)

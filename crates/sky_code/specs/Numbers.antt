@@ -1,8 +1,8 @@
 -- The numbers of a script's nodes: where each node ends, and where the blocks of functions stand.
-use Rattle.std.specs.Prelude.{ℕ, ◌+◌, List, [], ◌∷◌}
-use Rattle.sky_base.specs.Tree.{FunDef, Script, nodes, stm_nodes, block_nodes}
-use Rattle.sky_law.specs.Opened.{Node, exp_node, stm_node, block_node}
-use Rattle.sky_law.specs.Nodes.{pre_script}
+use Rattle.std.specs.Prelude.{◌≡◌, ◌≤◌, ◌<◌, ℕ, ◌+◌, List, [], ◌∷◌, Some}
+use Rattle.sky_base.specs.Tree.{FunDef, Script, Stms, nodes, stm_nodes, block_nodes}
+use Rattle.sky_law.specs.Opened.{Node, exp_node, stm_node, block_node, HasStms}
+use Rattle.sky_law.specs.Nodes.{node_at, pre_script}
 
 -- how many nodes there are in a node, itself included
 abbrev pub node_size : Node → ℕ
@@ -25,3 +25,8 @@ starts_from (f ∷ fs) n = n ∷ starts_from fs (n + block_nodes f.body)
 
 abbrev pub starts_of : Script → List ℕ
 starts_of sc = starts_from sc.funs (block_nodes sc.main)
+
+-- the block stands at the node n with all that is in it, and i is the number of one of these nodes
+abbrev pub Holds : Script → Stms → (n i : ℕ) → Type 0
+Holds sc b n i =
+    (node_at sc n ≡ Some (block_node b)) × HasStms (λ k. node_at sc k) b (n + 1) × (n ≤ i) × (i < n + block_nodes b)

@@ -1,6 +1,7 @@
 // A script with the numbers of its nodes.
 
-ghost use Rattle.std.specs.Prelude.{◌≡◌, ◌<◌, ◌≤◌, ◌+◌, Some, None, MatchOption, slice_index};
+ghost use Rattle.std.specs.Prelude.{◌≡◌, ◌<◌, ◌≤◌, ◌+◌, ℕ, [], Some, None, MatchOption, leb, length, slice_index};
+ghost use Rattle.std.specs.List.Sorted.{IsNonDecreasing};
 ghost use Rattle.sky_base.specs.Tree.{nodes, stm_nodes, block_nodes};
 ghost use Rattle.sky_base.specs.TreeView.{exp_view};
 ghost use Rattle.sky_base.specs.StmtView.{stm_view};
@@ -8,7 +9,7 @@ ghost use Rattle.sky_base.specs.Eval.{body_of};
 ghost use Rattle.sky_base.specs.ScriptView.{funs_view};
 ghost use Rattle.sky_law.specs.Opened.{Node, block_node, HasExp, HasStm};
 ghost use Rattle.sky_law.specs.Nodes.{node_at};
-ghost use Rattle.sky_code.specs.Numbers.{ends_of, starts_of, node_size};
+ghost use Rattle.sky_code.specs.Numbers.{Holds, ends_of, starts_of, node_size};
 
 use sky_base::stmt::{Block, Stmt};
 use sky_base::text::Txt;
@@ -21,9 +22,9 @@ use std::marker::Model;
 pub struct Code<'a> {
     program: Program<'a>,
     // For each node the number after all that is in it.
-    ends: Vec<u32>,
+    ends: &'a [u32],
     // The nodes of the functions' blocks.
-    starts: Vec<u32>,
+    starts: &'a [u32],
 }
 
 impl<'a> Model for Code<'a> {
@@ -38,7 +39,7 @@ impl<'a> Model for Code<'a> {
 
     ghost view = { λ c. c.program };
 
-    ghost invariant = { λ c. (c.ends.items ≡ ends_of c.program) × (c.starts.items ≡ starts_of c.program) };
+    ghost invariant = { λ c. (c.ends.now ≡ ends_of c.program) × (c.starts.now ≡ starts_of c.program) };
 }
 
 /// What a call of a function runs: its parameters, its block and the node of the block.
@@ -50,10 +51,10 @@ pub struct Body<'a> {
 }
 
 impl<'a> Code<'a> {
-    /// The script with these numbers.
-    pub fn of(program: Program<'a>, ends: Vec<u32>, starts: Vec<u32>) -> Code<'a>
-        requires ends { ends.items ≡ ends_of program }
-        requires starts { starts.items ≡ starts_of program }
+    /// The script with these numbers, in constant time.
+    pub fn of(program: Program<'a>, ends: &'a [u32], starts: &'a [u32]) -> Code<'a>
+        requires ends { ends.now ≡ ends_of program }
+        requires starts { starts.now ≡ starts_of program }
         ensures { result ≡ program.entry }
     {
         Code {
@@ -74,7 +75,7 @@ impl<'a> Code<'a> {
     pub fn after(&self, node: u32) -> u32
         ensures { (t : Node) → node_at self.now node ≡ Some t → result ≡ node + node_size t }
     {
-        number_at(self.ends.as_slice(), node as usize)
+        number_at(self.ends, node as usize)
     }
 
     /// The number after all that is in an expression.
@@ -107,8 +108,8 @@ impl<'a> Code<'a> {
         ensures some { (t : Node) → node_at self.now (node + 1) ≡ Some t → result ≡ node + 1 }
         ensures positive { 0 < result }
     {
-        let _here = number_at(self.ends.as_slice(), node as usize);
-        let _end = number_at(self.ends.as_slice(), node as usize + 1);
+        let _here = number_at(self.ends, node as usize);
+        let _end = number_at(self.ends, node as usize + 1);
         node.saturating_add(1)
     }
 
@@ -117,11 +118,7 @@ impl<'a> Code<'a> {
         ensures { MatchOption result (body_of name.now self.now ≡ None) (λ b. body_of name.now self.now ≡ Some (record { params = b.params.now; block = b.block.now; node = b.node })) }
     {
         if name.is_empty() {
-            return Some(Body {
-                params: &[],
-                block: self.program.main(),
-                node: 0,
-            });
+            return Some(self.main_body());
         }
         let Some(place) = self.program.place(name) else {
             return None;
@@ -132,9 +129,57 @@ impl<'a> Code<'a> {
         Some(Body {
             params: fun.params.as_slice(),
             block: &fun.body,
-            node: number_at(self.starts.as_slice(), place),
+            node: number_at(self.starts, place),
         })
     }
+
+    /// The body in whose block the node of this number stands, if there is one. A function's is found by halves.
+    pub fn holding(&self, number: u32) -> Option<Body<'a>>
+        ensures { MatchOption result (node_at self.now number ≡ None) (λ b. Holds self.now b.block.now b.node number) }
+    {
+        if number as usize >= self.ends.len() {
+            return None;
+        }
+        if number < self.after(0) {
+            return Some(self.main_body());
+        }
+        let last = begun(self.starts, number) - 1;
+        match self.program.funs().get(last) {
+            Some(fun) => Some(Body {
+                params: fun.params.as_slice(),
+                block: &fun.body,
+                node: number_at(self.starts, last),
+            }),
+            None => unreachable!(),
+        }
+    }
+
+    // The main body, whose block is the first node.
+    fn main_body(&self) -> Body<'a>
+        ensures params { result.params.now ≡ [] }
+        ensures block { result.block.now ≡ self.now.main }
+        ensures node { result.node ≡ 0 }
+    {
+        Body {
+            params: &[],
+            block: self.program.main(),
+            node: 0,
+        }
+    }
+}
+
+// How many of these numbers, which rise, are at most this one.
+fn begun(starts: &[u32], number: u32) -> usize
+    requires { IsNonDecreasing starts.now }
+    ensures most { result ≤ length starts.now }
+    ensures first { (k : ℕ) → k < result → slice_index starts.now k ≤ number }
+    ensures others { (k : ℕ) → result ≤ k → k < length starts.now → number < slice_index starts.now k }
+{
+    starts.partition_point(
+        |start: &u32| -> bool
+            ensures { result ≡ leb start.now number }
+        { *start <= number },
+    )
 }
 
 // The number at a place, or 0 past the end.

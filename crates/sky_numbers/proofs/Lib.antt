@@ -1,3 +1,3 @@
-pub mod Tables
-pub mod Places
 pub mod Inside
+pub mod Filling
+pub mod Finding

@@ -1,5 +1,5 @@
--- The table of a script's nodes, while it is filled in their order: each node, and the number that comes after all that is in it.
-use Rattle.std.specs.Prelude.{◌≡◌, ◌<◌, ◌+◌, ◌^◌, ℕ, List, [], ◌∷◌, ◌++◌, length, map, set}
+-- The table of the ends of a script's nodes, while it is filled in their order: for each node the number that comes after all that is in it.
+use Rattle.std.specs.Prelude.{◌≡◌, ◌<◌, ◌+◌, ◌^◌, ℕ, List, [], ◌∷◌, ◌++◌, length, set}
 use Rattle.sky_base.specs.Tree.{Exp, Stm}
 use Rattle.sky_base.specs.TreeView.{exp_view}
 use Rattle.sky_base.specs.StmtView.{stm_view}
@@ -8,7 +8,6 @@ use Rattle.sky_law.specs.Opened.{Node, exp_node, stm_node, block_node}
 use Rattle.sky_law.specs.Nodes.{pre_exp, pre_exps, pre_stm}
 use Rattle.sky_code.specs.Numbers.{ends_from}
 use Rattle.sky_numbers.specs.declared.node.NodeRef.{NodeRef}
-use Rattle.sky_numbers.specs.declared.table.Table.{Table}
 
 -- which node it is
 abbrev pub node_view : NodeRef → Node
@@ -16,33 +15,21 @@ node_view (NodeRef.Exp e) = exp_node (exp_view e.now)
 node_view (NodeRef.Stmt s) = stm_node (stm_view s.now)
 node_view (NodeRef.Block b) = block_node b.now
 
-abbrev pub nodes_view : List NodeRef → List Node
-nodes_view rs = map node_view rs
-
--- what stands in the table
-pub record Rows : Type 0 where
-  pub ends : List ℕ
-  pub nodes : List Node
-
-abbrev pub rows : Table → Rows
-rows t = record { ends = t.ends.items; nodes = nodes_view t.nodes.items }
-
 -- a node is begun: its end isn't known yet
-abbrev pub begun : Rows → Node → Rows
-begun r t = record { ends = r.ends ++ 0 ∷ []; nodes = r.nodes ++ t ∷ [] }
+abbrev pub begun : List ℕ → List ℕ
+begun ends = ends ++ 0 ∷ []
 
 -- the node at this place has ended
-abbrev pub ended : Rows → ℕ → Rows
-ended r at = record { ends = set r.ends at (length r.ends); nodes = r.nodes }
+abbrev pub ended : List ℕ → ℕ → List ℕ
+ended ends at = set ends at (length ends)
 
--- the table got these nodes with their ends, one after the other
-pub record Filled (old new : Rows) (ts : List Node) : Type 0 where
-  pub ends : new.ends ≡ old.ends ++ ends_from ts (length old.ends)
-  pub nodes : new.nodes ≡ old.nodes ++ ts
+-- the table got the ends of these nodes, one after the other
+pub record Filled (old new : List ℕ) (ts : List Node) : Type 0 where
+  pub ends : new ≡ old ++ ends_from ts (length old)
 
 -- the numbers of these nodes fit
-abbrev pub Fits : Rows → List Node → Type 0
-Fits old ts = length old.ends + length ts < 2 ^ 32
+abbrev pub Fits : List ℕ → List Node → Type 0
+Fits old ts = length old + length ts < 2 ^ 32
 
 -- all but the first
 abbrev pub inner : List Node → List Node

@@ -3,8 +3,11 @@
 #![tactic(auto)]
 
 pub mod code;
+mod ends;
 mod exprs;
+mod find_exp;
+mod find_stm;
 pub mod node;
 pub mod nodes;
 mod stmts;
-mod table;
+pub mod tables;

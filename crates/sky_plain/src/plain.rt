@@ -18,6 +18,7 @@ use sky_base::text::{Bytes, Memory, Txt};
 use sky_base::value::{Pairs, Vals, Value};
 use sky_rows::objects::{Objects, number_of, slot};
 use sky_rows::rows::Rows;
+use sky_scope::places::Places;
 use sky_scope::program::Program;
 use sky_waves::wave::{Turned, last_turn, turn};
 use std::alloc::Global;
@@ -39,7 +40,8 @@ pub enum Answer {
 pub fn plain<K: Kit>(alloc: Global, job: &Job, kit: &K) -> Result<Answer, Memory>
     ensures answer { IfOk result (λ a. AnswersSo (job_view job.now) (json_around (K.gives kit.now)) a) }
 {
-    let program = Program::new(alloc, &job.script)?;
+    let places = Places::new(alloc, &job.script)?;
+    let program = Program::of(&job.script, &places);
     let mut rows = Rows::new(alloc);
     let mut objects = Objects::new(alloc);
     let fun = Txt::new(alloc, "")?;

@@ -1,13 +1,10 @@
 -- Functions are found at their places.
 use Rattle.std.proofs.Common.{◌≡◌, ◌≤◌, ◌<◌, ℕ, zero, suc, ◌+◌, List, [], ◌∷◌, length, take, Bool, true, false, cond, is_some, Option, Some, None, slice_get, get_or, refl, sym, ap, ◌∙◌, arith}
-use Rattle.std.specs.Str.{bytes_eq}
-use Rattle.std.specs.BTreeMap.{BTreeMap}
-use Rattle.std.specs.Borrow.{Bor}
+use Rattle.std.specs.BTreeMap.{BTreeMap, Updates}
 use Rattle.std.specs.Ordering.{nat_cmp, is_eq, ordering_reverse}
 use Rattle.std.specs.Cmp.Lexicographic.{slice_cmp}
 use Rattle.std.specs.declared.cmp.Ordering.{Ordering}
 use Rattle.std.proofs.lemmas.Cmp.{nat_list_cmp_total}
-use Rattle.std.proofs.lemmas.Map.Text.{is_eq-slice_cmp}
 use Rattle.sky_base.proofs.Exact.{exact_text}
 use Rattle.sky_base.specs.Val.{same_text}
 use Rattle.sky_base.specs.Tree as logic
@@ -81,9 +78,8 @@ view_length (f ∷ fs) = ap suc (view_length fs)
 
 -- ---- a name more
 
-same_flip : (x n : List ℕ) → bytes_eq n x ≡ same_text x n
-same_flip x n =
-    sym (is_eq-slice_cmp n x) ∙ ap is_eq (nat_list_cmp_total.antisymm n x) ∙ reversed (slice_cmp nat_cmp x n)
+same_flip : (x n : List ℕ) → is_eq (slice_cmp nat_cmp n x) ≡ same_text x n
+same_flip x n = ap is_eq (nat_list_cmp_total.antisymm n x) ∙ reversed (slice_cmp nat_cmp x n)
   where
     reversed : (o : Ordering) → is_eq (ordering_reverse o) ≡ is_eq o
     reversed Ordering.Less = refl
@@ -100,19 +96,19 @@ there_if b (Some j) i h = refl
 there_if true None i h = let q : false ≡ true = h refl in absurd cc
 there_if false None i h = refl
 
-pub added : (places : BTreeMap (Bor (List ℕ)) ℕ) (n x : List ℕ) (i : ℕ) → is_some (place_at places n) ≡ false → cond (bytes_eq n x) (Some i) (place_at places x) ≡ or_here (place_at places x) (same_text x n) i
-added places n x i h =
-    ap (λ b. cond b (Some i) (place_at places x)) (same_flip x n) ∙ added_if (same_text x n) (place_at places x) i (λ e. none (place_at places x) (ap (λ z. is_some (place_at places z)) (exact_text x n e) ∙ h))
+pub added : (old new : BTreeMap (List ℕ) ℕ) (n x : List ℕ) (i : ℕ) → Updates (slice_cmp nat_cmp) old new n (Some i) → is_some (place_at old.entries n) ≡ false → place_at new.entries x ≡ or_here (place_at old.entries x) (same_text x n) i
+added old new n x i u h =
+    u.0 x ∙ ap (λ b. cond b (Some i) (place_at old.entries x)) (same_flip x n) ∙ added_if (same_text x n) (place_at old.entries x) i (λ e. none (place_at old.entries x) (ap (λ z. is_some (place_at old.entries z)) (exact_text x n e) ∙ h))
   where
     none : (o : Option ℕ) → is_some o ≡ false → o ≡ None
     none None q = refl
     none (Some j) q = absurd cc
 
-pub stands_there : (places : BTreeMap (Bor (List ℕ)) ℕ) (n x : List ℕ) (i : ℕ) → is_some (place_at places n) ≡ true → place_at places x ≡ or_here (place_at places x) (same_text x n) i
+pub stands_there : (places : List (List ℕ × ℕ)) (n x : List ℕ) (i : ℕ) → is_some (place_at places n) ≡ true → place_at places x ≡ or_here (place_at places x) (same_text x n) i
 stands_there places n x i h =
     there_if (same_text x n) (place_at places x) i (λ e. ap (λ z. is_some (place_at places z)) (exact_text x n e) ∙ h)
 
-get_view : (fs : List FunDef) (k : ℕ) (f : FunDef) → k < length fs → f ≡ get_or fs k f → slice_get (funs_view fs) k ≡ Some (fun_view f)
+pub get_view : (fs : List FunDef) (k : ℕ) (f : FunDef) → k < length fs → f ≡ get_or fs k f → slice_get (funs_view fs) k ≡ Some (fun_view f)
 get_view [] k f h e = absurd (omega (arith, h))
 get_view (g ∷ fs) zero f h e = ap (λ z. Some (fun_view z)) (sym e)
 get_view (g ∷ fs) (suc k) f h e = get_view fs k f (omega (arith, h)) e

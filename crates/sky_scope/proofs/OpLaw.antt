@@ -1,5 +1,5 @@
 -- Counts, bodies of functions, lists that grow, dictionaries by twos and numbers in a row.
-use Rattle.std.proofs.Common.{◌≡◌, ℕ, zero, suc, ◌+◌, ◌-◌, ◌<◌, ◌≤◌, List, [], ◌∷◌, length, drop, Bool, true, false, Option, Some, None, refl, sym, ap, ◌∙◌, arith, get_or, ℤ, pos, negsuc, ◌+ℤ◌, ◌-ℤ◌, ◌≤ℤ◌, ◌<ℤ◌, nat_lt}
+use Rattle.std.proofs.Common.{◌≡◌, ℕ, zero, suc, ◌+◌, ◌<◌, ◌≤◌, List, [], ◌∷◌, length, drop, Bool, true, false, Option, Some, None, refl, sym, ap, ◌∙◌, arith, get_or, ℤ, pos, negsuc, ◌+ℤ◌, ◌-ℤ◌, ◌≤ℤ◌, ◌<ℤ◌, nat_lt}
 use Rattle.std.proofs.lemmas.Int.{ints, to_z-of_z}
 use Rattle.std.proofs.lemmas.Bool.{lt-ltb, le-ltb}
 use Rattle.sky_base.specs.Val.{Val, Vals, Pairs, no_vals, val, no_pairs, pair, size, sizes, pair_sizes, count, pair_count, null, truth, num, text, list, dict, fun, ref}
@@ -12,7 +12,6 @@ use Rattle.sky_base.specs.Tree.{FunDef, Script, block_nodes}
 use Rattle.sky_base.specs.Eval.{Body, find_fun, find_fun_if, find_body, find_body_if, body_of}
 use Rattle.sky_base.specs.Kept.{Kept}
 use Rattle.sky_scope.specs.RunView.{code_of}
-use Rattle.sky_rows.specs.Walk as known
 use Rattle.sky_scope.specs.Plain.{items}
 
 size_some : (v : Val (List ℕ)) → 1 ≤ size v

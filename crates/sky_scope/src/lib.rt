@@ -5,5 +5,6 @@
 pub mod cut;
 pub mod funs;
 pub mod ops;
+pub mod places;
 pub mod program;
 pub mod state;

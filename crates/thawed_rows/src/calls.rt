@@ -111,7 +111,8 @@ fn waits_and_end(
 fn of_script(alloc: Global, script: &Script, bytes: &[u8]) -> Result<(u32, i64), Fail>
     requires { IsRead script.now }
 {
-    let numbered = number_script(alloc, script)?;
+    let tables = number_script(alloc, script)?;
+    let numbered = tables.over(script);
     let mut state = start(alloc, script)?;
     let found = waits_and_end(alloc, &numbered, &mut state, bytes)?;
     Ok(found)

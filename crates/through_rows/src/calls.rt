@@ -183,7 +183,8 @@ fn lacking(
 fn runs_so(alloc: Global, script: &Script, row: &Row) -> Result<bool, Fail>
     requires { IsRead script.now }
 {
-    let numbered = number_script(alloc, script)?;
+    let tables = number_script(alloc, script)?;
+    let numbered = tables.over(script);
     let lacks = lacking(alloc, script, &numbered, row)?;
     let mut shelf = shelf_of(alloc, row.bytes, lacks, row.refuses)?;
     let (came, mut state) = call(alloc, script, &numbered, &mut shelf)?;

@@ -52,7 +52,8 @@ fn shows(alloc: Global, script: &Numbered, shelf: &mut Shelf) -> Result<Came, Fa
 /// One of the rows.
 fn comes_so(alloc: Global, row: &Row) -> Result<bool, Fail> {
     let script = script(alloc, "return 1;")?;
-    let numbered = number_script(alloc, &script)?;
+    let tables = number_script(alloc, &script)?;
+    let numbered = tables.over(&script);
     let mut shelf = shelf_of(alloc, row.bytes, None, row.refuses)?;
     let came = shows(alloc, &numbered, &mut shelf)?;
     Ok(came == row.came)

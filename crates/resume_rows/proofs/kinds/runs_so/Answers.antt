@@ -4,4 +4,4 @@ use Rattle.resume_rows.proofs.kinds.runs_so.Goals as goal
 
 pub ends-requires-clause-answers : goal.ends-requires-clause-answers
 ends-requires-clause-answers c =
-    subst (AnswersSound c.in_ok-numbered.numbered.code) (sym c.as_slice.ensures.value) (c.in_ok-given.ensures c.in_ok-numbered.numbered.code)
+    subst (AnswersSound c.over-numbered.result.code) (sym c.as_slice.ensures.value) (c.in_ok-given.ensures c.over-numbered.result.code)

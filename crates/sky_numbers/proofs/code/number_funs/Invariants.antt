@@ -2,14 +2,13 @@ use Rattle.std.proofs.Common.{◌≡◌, ◌++◌, length}
 use Rattle.sky_base.specs.ScriptView.{funs_view}
 use Rattle.sky_law.specs.Nodes.{pre_funs}
 use Rattle.sky_code.specs.Numbers.{starts_from}
-use Rattle.sky_numbers.specs.Filled.{rows}
-use Rattle.sky_numbers.proofs.Tables.{Left}
+use Rattle.sky_numbers.proofs.Filling.{Left}
 use Rattle.sky_numbers.proofs.code.number_funs.Given as goal
 
 abbrev pub invariant-loop-fun : goal.invariant-loop-fun
 invariant-loop-fun l = record {
-  left : Left (rows l.fn.table) (rows l.table) (pre_funs (funs_view l.funs)) (pre_funs (funs_view l.rest));
-  starts : l.starts.items ++ starts_from (funs_view l.rest) (length l.table.ends.items) ≡ l.fn.starts.items ++ starts_from (funs_view l.funs) (length l.fn.table.ends.items);
+  left : Left l.fn.ends.items l.ends.items (pre_funs (funs_view l.funs)) (pre_funs (funs_view l.rest));
+  starts : l.starts.items ++ starts_from (funs_view l.rest) (length l.ends.items) ≡ l.fn.starts.items ++ starts_from (funs_view l.funs) (length l.fn.ends.items);
 }
 
 abbrev pub decreases-loop-fun : goal.decreases-loop-fun

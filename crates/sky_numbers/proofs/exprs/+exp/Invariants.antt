@@ -2,8 +2,8 @@ use Rattle.std.proofs.Common.{◌+◌, ◌*◌, length}
 use Rattle.sky_base.specs.TreeView.{exp_view, ands_view, steps_view}
 use Rattle.sky_law.specs.Nodes.{pre_exp, pre_exps, pre_links, pre_ands, pre_steps}
 use Rattle.sky_code.specs.Shapes.{shape_view, rest_view, operands_view}
-use Rattle.sky_numbers.specs.Filled.{rows, in_exp, in_step}
-use Rattle.sky_numbers.proofs.Tables.{Left}
+use Rattle.sky_numbers.specs.Filled.{in_exp, in_step}
+use Rattle.sky_numbers.proofs.Filling.{Left}
 use Rattle.sky_numbers.proofs.exprs.+exp.Given as goal
 
 abbrev pub decreases-number_exp : goal.decreases-number_exp
@@ -31,28 +31,28 @@ decreases-number_step l = 4 * length (in_step l.step.now) + 2
 
 abbrev pub invariant-number_parts-loop-next : goal.invariant-number_parts-loop-next
 invariant-number_parts-loop-next l =
-    Left (rows l.fn.table) (rows l.table) (pre_exps (rest_view l.parts)) (pre_exps (rest_view l.rest))
+    Left l.fn.ends.items l.ends.items (pre_exps (rest_view l.parts)) (pre_exps (rest_view l.rest))
 
 abbrev pub decreases-number_parts-loop-next : goal.decreases-number_parts-loop-next
 decreases-number_parts-loop-next l = length (pre_exps (rest_view l.rest))
 
 abbrev pub invariant-number_operands-loop-next : goal.invariant-number_operands-loop-next
 invariant-number_operands-loop-next l =
-    Left (rows l.fn.table) (rows l.table) (pre_links (operands_view l.operands)) (pre_links (operands_view l.rest))
+    Left l.fn.ends.items l.ends.items (pre_links (operands_view l.operands)) (pre_links (operands_view l.rest))
 
 abbrev pub decreases-number_operands-loop-next : goal.decreases-number_operands-loop-next
 decreases-number_operands-loop-next l = length (pre_links (operands_view l.rest))
 
 abbrev pub invariant-number_joins-loop-join : goal.invariant-number_joins-loop-join
 invariant-number_joins-loop-join l =
-    Left (rows l.fn.table) (rows l.table) (pre_ands (ands_view l.joins)) (pre_ands (ands_view l.rest))
+    Left l.fn.ends.items l.ends.items (pre_ands (ands_view l.joins)) (pre_ands (ands_view l.rest))
 
 abbrev pub decreases-number_joins-loop-join : goal.decreases-number_joins-loop-join
 decreases-number_joins-loop-join l = length l.rest
 
 abbrev pub invariant-number_steps-loop-step : goal.invariant-number_steps-loop-step
 invariant-number_steps-loop-step l =
-    Left (rows l.fn.table) (rows l.table) (pre_steps (steps_view l.steps)) (pre_steps (steps_view l.rest))
+    Left l.fn.ends.items l.ends.items (pre_steps (steps_view l.steps)) (pre_steps (steps_view l.rest))
 
 abbrev pub decreases-number_steps-loop-step : goal.decreases-number_steps-loop-step
 decreases-number_steps-loop-step l = length l.rest

@@ -2,8 +2,8 @@ use Rattle.std.proofs.Common.{◌+◌, ◌*◌, ◌++◌, length}
 use Rattle.sky_base.specs.TreeView.{exp_view}
 use Rattle.sky_base.specs.StmtView.{stm_view, stms_view, arms_view}
 use Rattle.sky_law.specs.Nodes.{pre_exp, pre_stm, pre_stms, pre_arms, pre_block}
-use Rattle.sky_numbers.specs.Filled.{rows, in_stm}
-use Rattle.sky_numbers.proofs.Tables.{Left}
+use Rattle.sky_numbers.specs.Filled.{in_stm}
+use Rattle.sky_numbers.proofs.Filling.{Left}
 use Rattle.sky_numbers.proofs.stmts.+stm.Given as goal
 
 abbrev pub decreases-number_block : goal.decreases-number_block
@@ -28,14 +28,14 @@ decreases-number_arm l = 4 * length (pre_exp (exp_view l.arm.now.test) ++ pre_bl
 
 abbrev pub invariant-number_stmts-loop-stmt : goal.invariant-number_stmts-loop-stmt
 invariant-number_stmts-loop-stmt l =
-    Left (rows l.fn.table) (rows l.table) (pre_stms (stms_view l.stmts)) (pre_stms (stms_view l.rest))
+    Left l.fn.ends.items l.ends.items (pre_stms (stms_view l.stmts)) (pre_stms (stms_view l.rest))
 
 abbrev pub decreases-number_stmts-loop-stmt : goal.decreases-number_stmts-loop-stmt
 decreases-number_stmts-loop-stmt l = length l.rest
 
 abbrev pub invariant-number_arms-loop-arm : goal.invariant-number_arms-loop-arm
 invariant-number_arms-loop-arm l =
-    Left (rows l.fn.table) (rows l.table) (pre_arms (arms_view l.arms)) (pre_arms (arms_view l.rest))
+    Left l.fn.ends.items l.ends.items (pre_arms (arms_view l.arms)) (pre_arms (arms_view l.rest))
 
 abbrev pub decreases-number_arms-loop-arm : goal.decreases-number_arms-loop-arm
 decreases-number_arms-loop-arm l = length l.rest

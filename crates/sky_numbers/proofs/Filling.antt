@@ -8,7 +8,7 @@ use Rattle.sky_base.specs.declared.stmt.Arm.{Arm}
 use Rattle.sky_law.specs.Opened.{Node, exp_node, stm_node}
 use Rattle.sky_law.specs.Nodes.{pre_exp, pre_steps, pre_stm, pre_stms, pre_arms, pre_block, pre_funs, pre_script}
 use Rattle.sky_code.specs.Numbers.{node_size, ends_from, ends_of, starts_from, starts_of}
-use Rattle.sky_numbers.specs.Filled.{Rows, begun, ended, Filled, Fits, in_exp, in_stm, in_step}
+use Rattle.sky_numbers.specs.Filled.{begun, ended, Filled, Fits, in_exp, in_stm, in_step}
 use Rattle.sky_law.proofs.NodesLaw.{exp_count, stm_count, block_count, script_count}
 
 ends_append : (xs ys : List Node) (n : ℕ) → ends_from (xs ++ ys) n ≡ ends_from xs n ++ ends_from ys (n + length xs)
@@ -22,27 +22,26 @@ ends_length [] n = refl
 ends_length (t ∷ ts) n = ap suc (ends_length ts (n + 1))
 
 -- the table is longer by as many
-pub filled_length : (old new : Rows) (ts : List Node) → Filled old new ts → length new.ends ≡ length old.ends + length ts
+pub filled_length : (old new : List ℕ) (ts : List Node) → Filled old new ts → length new ≡ length old + length ts
 filled_length old new ts h =
-    let n = length old.ends in
-    ap length h.ends ∙ length-append old.ends (ends_from ts n) ∙ ap (λ k. n + k) (ends_length ts n)
+    let n = length old in
+    ap length h.ends ∙ length-append old (ends_from ts n) ∙ ap (λ k. n + k) (ends_length ts n)
 
-pub filled_none : (old : Rows) → Filled old old []
-filled_none old = record { ends = sym (append-nil old.ends); nodes = sym (append-nil old.nodes) }
+pub filled_none : (old : List ℕ) → Filled old old []
+filled_none old = record { ends = sym (append-nil old) }
 
 -- one after the other
-pub filled_both : (a b c : Rows) (xs ys : List Node) → Filled a b xs → Filled b c ys → Filled a c (xs ++ ys)
+pub filled_both : (a b c : List ℕ) (xs ys : List Node) → Filled a b xs → Filled b c ys → Filled a c (xs ++ ys)
 filled_both a b c xs ys h g =
-    let n = length a.ends in
+    let n = length a in
     record {
-      ends = g.ends ∙ ap (λ m. b.ends ++ ends_from ys m) (filled_length a b xs h) ∙ ap (λ zs. zs ++ ends_from ys (n + length xs)) h.ends ∙ append_assoc a.ends (ends_from xs n) (ends_from ys (n + length xs)) ∙ ap (λ zs. a.ends ++ zs) (sym (ends_append xs ys n));
-      nodes = g.nodes ∙ ap (λ zs. zs ++ ys) h.nodes ∙ append_assoc a.nodes xs ys;
+      ends = g.ends ∙ ap (λ m. b ++ ends_from ys m) (filled_length a b xs h) ∙ ap (λ zs. zs ++ ends_from ys (n + length xs)) h.ends ∙ append_assoc a (ends_from xs n) (ends_from ys (n + length xs)) ∙ ap (λ zs. a ++ zs) (sym (ends_append xs ys n));
     }
 
-pub fits_first : (old : Rows) (xs ys : List Node) → Fits old (xs ++ ys) → Fits old xs
+pub fits_first : (old : List ℕ) (xs ys : List Node) → Fits old (xs ++ ys) → Fits old xs
 fits_first old xs ys h = omega (arith, h, length-append xs ys)
 
-pub fits_more : (old new : Rows) (xs ys : List Node) → Filled old new xs → Fits old (xs ++ ys) → Fits new ys
+pub fits_more : (old new : List ℕ) (xs ys : List Node) → Filled old new xs → Fits old (xs ++ ys) → Fits new ys
 fits_more old new xs ys f h = omega (arith, h, length-append xs ys, filled_length old new xs f)
 
 -- ---- a node is begun, what is in it is numbered, and it ends
@@ -51,21 +50,20 @@ set_first : (old more : List ℕ) (x y : ℕ) → set (old ++ x ∷ more) (lengt
 set_first [] more x y = refl
 set_first (o ∷ old) more x y = ap (λ zs. o ∷ zs) (set_first old more x y)
 
-node_filled : (old mid : Rows) (t : Node) (ts : List Node) → node_size t ≡ 1 + length ts → Filled (begun old t) mid ts → Filled old (ended mid (length old.ends)) (t ∷ ts)
+node_filled : (old mid : List ℕ) (t : Node) (ts : List Node) → node_size t ≡ 1 + length ts → Filled (begun old) mid ts → Filled old (ended mid (length old)) (t ∷ ts)
 node_filled old mid t ts size h =
-    let n = length old.ends in
-    let one : length (old.ends ++ 0 ∷ []) ≡ n + 1 = length-append old.ends (0 ∷ []) in
-    let is : mid.ends ≡ old.ends ++ 0 ∷ ends_from ts (n + 1) = h.ends ∙ ap (λ m. (old.ends ++ 0 ∷ []) ++ ends_from ts m) one ∙ append_assoc old.ends (0 ∷ []) (ends_from ts (n + 1)) in
-    let last : length mid.ends ≡ n + node_size t = omega (arith, filled_length (begun old t) mid ts h, one, size) in
+    let n = length old in
+    let one : length (old ++ 0 ∷ []) ≡ n + 1 = length-append old (0 ∷ []) in
+    let is : mid ≡ old ++ 0 ∷ ends_from ts (n + 1) = h.ends ∙ ap (λ m. (old ++ 0 ∷ []) ++ ends_from ts m) one ∙ append_assoc old (0 ∷ []) (ends_from ts (n + 1)) in
+    let last : length mid ≡ n + node_size t = omega (arith, filled_length (begun old) mid ts h, one, size) in
     record {
-      ends = ap (λ zs. set zs n (length mid.ends)) is ∙ set_first old.ends (ends_from ts (n + 1)) 0 (length mid.ends) ∙ ap (λ k. old.ends ++ k ∷ ends_from ts (n + 1)) last;
-      nodes = h.nodes ∙ append_assoc old.nodes (t ∷ []) ts;
+      ends = ap (λ zs. set zs n (length mid)) is ∙ set_first old (ends_from ts (n + 1)) 0 (length mid) ∙ ap (λ k. old ++ k ∷ ends_from ts (n + 1)) last;
     }
 
-node_end : (old mid : Rows) (t : Node) (ts : List Node) → Fits old (t ∷ ts) → Filled (begun old t) mid ts → (length old.ends < length mid.ends) × (length mid.ends < 2 ^ 32)
+node_end : (old mid : List ℕ) (t : Node) (ts : List Node) → Fits old (t ∷ ts) → Filled (begun old) mid ts → (length old < length mid) × (length mid < 2 ^ 32)
 node_end old mid t ts h f =
-    let n = filled_length (begun old t) mid ts f in
-    let one = length-append old.ends (0 ∷ []) in (omega (arith, n, one), omega (arith, n, one, h))
+    let n = filled_length (begun old) mid ts f in
+    let one = length-append old (0 ∷ []) in (omega (arith, n, one), omega (arith, n, one, h))
 
 -- ---- the nodes of an expression, a statement and a block: the first, and what is in it
 
@@ -104,19 +102,19 @@ block_size b = omega (arith, block_count b)
 -- ---- one list of trees after the other
 
 -- of all these nodes, the first of which stands at the table's first length, so many are left
-pub record Left (first now : Rows) (all left : List Node) : Type 0 where
+pub record Left (first now : List ℕ) (all left : List Node) : Type 0 where
   pub fits : Fits now left
   pub most : length left ≤ length all
-  pub filled : (new : Rows) → Filled now new left → Filled first new all
+  pub filled : (new : List ℕ) → Filled now new left → Filled first new all
 
-pub left_start : (first : Rows) (all : List Node) → Fits first all → Left first first all all
+pub left_start : (first : List ℕ) (all : List Node) → Fits first all → Left first first all all
 left_start first all h = record { fits = h; most = omega arith; filled = λ new f. f }
 
-pub left_fits : (first now : Rows) (all left xs ys : List Node) → left ≡ xs ++ ys → Left first now all left → Fits now xs × (length xs ≤ length all)
+pub left_fits : (first now : List ℕ) (all left xs ys : List Node) → left ≡ xs ++ ys → Left first now all left → Fits now xs × (length xs ≤ length all)
 left_fits first now all left xs ys e h =
     (fits_first now xs ys (subst (Fits now) e h.fits), omega (arith, h.most, ap length e, length-append xs ys))
 
-pub left_next : (first now mid : Rows) (all left xs ys : List Node) → left ≡ xs ++ ys → Filled now mid xs → Left first now all left → Left first mid all ys
+pub left_next : (first now mid : List ℕ) (all left xs ys : List Node) → left ≡ xs ++ ys → Filled now mid xs → Left first now all left → Left first mid all ys
 left_next first now mid all left xs ys e f h =
     record {
       fits = fits_more now mid xs ys f (subst (Fits now) e h.fits);
@@ -124,19 +122,19 @@ left_next first now mid all left xs ys e f h =
       filled = λ new g. h.filled new (subst (Filled now new) (sym e) (filled_both now mid new xs ys f g));
     }
 
-pub left_done : (first now : Rows) (all left : List Node) → left ≡ [] → Left first now all left → Filled first now all
+pub left_done : (first now : List ℕ) (all left : List Node) → left ≡ [] → Left first now all left → Filled first now all
 left_done first now all left e h = h.filled now (subst (Filled now now) (sym e) (filled_none now))
 
 -- ---- from the begin of a node to its end
 
 -- the table when the node is begun, when what is in it is numbered, and at its end
-module _ (old start : Rows) (t : Node) (ts all : List Node) (are : all ≡ t ∷ ts) (one : start ≡ begun old t) where
-  pub end_in : (mid : Rows) (at : ℕ) → at ≡ length old.ends → Fits old all → Filled start mid ts → (at < length mid.ends) × (length mid.ends < 2 ^ 32)
+module _ (old start : List ℕ) (t : Node) (ts all : List Node) (are : all ≡ t ∷ ts) (one : start ≡ begun old) where
+  pub end_in : (mid : List ℕ) (at : ℕ) → at ≡ length old → Fits old all → Filled start mid ts → (at < length mid) × (length mid < 2 ^ 32)
   end_in mid at e h f =
       let both = node_end old mid t ts (subst (Fits old) are h) (subst (λ r. Filled r mid ts) one f) in
       (omega (arith, e, both.0), both.1)
 
-  pub node_ended : (mid new : Rows) (at : ℕ) → at ≡ length old.ends → node_size t ≡ 1 + length ts → Filled start mid ts → new ≡ ended mid at → Filled old new all
+  pub node_ended : (mid new : List ℕ) (at : ℕ) → at ≡ length old → node_size t ≡ 1 + length ts → Filled start mid ts → new ≡ ended mid at → Filled old new all
   node_ended mid new at e size f g =
       subst (Filled old new) (sym are) (subst (λ r. Filled old r (t ∷ ts)) (sym (g ∙ ap (ended mid) e)) (node_filled old mid t ts size (subst (λ r. Filled r mid ts) one f)))
 
@@ -155,31 +153,22 @@ arms_first a more = sym (append_assoc (pre_exp (exp_view a.test)) (pre_block a.b
 
 -- ---- the blocks of functions, and the whole script
 
-pub starts_next : (starts new : List ℕ) (now mid : Rows) (f : FunDef) (fs : List FunDef) → new ≡ starts ++ length now.ends ∷ [] → Filled now mid (pre_block f.body) → new ++ starts_from fs (length mid.ends) ≡ starts ++ starts_from (f ∷ fs) (length now.ends)
+pub starts_next : (starts new : List ℕ) (now mid : List ℕ) (f : FunDef) (fs : List FunDef) → new ≡ starts ++ length now ∷ [] → Filled now mid (pre_block f.body) → new ++ starts_from fs (length mid) ≡ starts ++ starts_from (f ∷ fs) (length now)
 starts_next starts new now mid f fs e h =
-    let n = length now.ends in
-    let next : length mid.ends ≡ n + block_nodes f.body = omega (arith, filled_length now mid (pre_block f.body) h, block_count f.body) in
-    ap (λ zs. zs ++ starts_from fs (length mid.ends)) e ∙ append_assoc starts (n ∷ []) (starts_from fs (length mid.ends)) ∙ ap (λ k. starts ++ (n ∷ starts_from fs k)) next
-
-abbrev pub of_lists : List ℕ → List Node → Rows
-of_lists es ts = record { ends = es; nodes = ts }
-
-abbrev pub empty : Rows
-empty = of_lists [] []
-
-pub is_empty : (es : List ℕ) (ts : List Node) → es ≡ [] → ts ≡ [] → of_lists es ts ≡ empty
-is_empty es ts e g = λ i. of_lists (e i) (g i)
+    let n = length now in
+    let next : length mid ≡ n + block_nodes f.body = omega (arith, filled_length now mid (pre_block f.body) h, block_count f.body) in
+    ap (λ zs. zs ++ starts_from fs (length mid)) e ∙ append_assoc starts (n ∷ []) (starts_from fs (length mid)) ∙ ap (λ k. starts ++ (n ∷ starts_from fs k)) next
 
 module _ (sc : Script) (few : script_nodes sc < 2 ^ 32) where
-  pub script_fits : Fits empty (pre_script sc)
+  pub script_fits : Fits [] (pre_script sc)
   script_fits = omega (arith, few, script_count sc)
 
   -- first the block of the main body, then those of the functions
-  module _ (first last : Rows) (main : Filled empty first (pre_block sc.main)) (funs : Filled first last (pre_funs sc.funs)) where
-    pub ends_are : last.ends ≡ ends_of sc
-    ends_are = (filled_both empty first last (pre_block sc.main) (pre_funs sc.funs) main funs).ends
+  module _ (first last : List ℕ) (main : Filled [] first (pre_block sc.main)) (funs : Filled first last (pre_funs sc.funs)) where
+    pub ends_are : last ≡ ends_of sc
+    ends_are = (filled_both [] first last (pre_block sc.main) (pre_funs sc.funs) main funs).ends
 
-    pub starts_are : (starts : List ℕ) → starts ≡ starts_from sc.funs (length first.ends) → starts ≡ starts_of sc
+    pub starts_are : (starts : List ℕ) → starts ≡ starts_from sc.funs (length first) → starts ≡ starts_of sc
     starts_are starts e =
-        let n : length first.ends ≡ block_nodes sc.main = omega (arith, filled_length empty first (pre_block sc.main) main, block_count sc.main) in
+        let n : length first ≡ block_nodes sc.main = omega (arith, filled_length [] first (pre_block sc.main) main, block_count sc.main) in
         e ∙ ap (starts_from sc.funs) n
