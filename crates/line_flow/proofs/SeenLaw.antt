@@ -89,12 +89,3 @@ more_new line es n f =
 pub values-above : (most : ℕ) (es : List Entry) → list_any (λ sum. nat_lt most sum) (map (λ e. e.1) es) ≡ list_any (λ (e : List ℕ × ℕ). nat_lt most e.1) (map see es)
 values-above most [] = refl
 values-above most (e ∷ es) = ap (λ b. nat_lt most e.1 || b) (values-above most es)
-
--- where it isn't found nothing is set
-set_none_by : (b : Bool) (e : Entry) (w : ℕ) (es ds : List Entry) (found : Option ℕ) → cond b (Some e.1) found ≡ None → (found ≡ None → ds ≡ es) → cond b ((e.0, w) ∷ es) (e ∷ ds) ≡ e ∷ es
-set_none_by true e w es ds found f h = absurd (let bad : Some e.1 ≡ None = f in (cc))
-set_none_by false e w es ds found f h = ap (λ (xs : List Entry). e ∷ xs) (h f)
-
-pub set_none : (line : List ℕ) (es : List Entry) (w : ℕ) → lookup (is_at (asks line)) es ≡ None → set_value (is_at (asks line)) es w ≡ es
-set_none line [] w f = refl
-set_none line (e ∷ es) w f = set_none_by (is_eq (asks line e.0)) e w es (set_value (is_at (asks line)) es w) (lookup (is_at (asks line)) es) f (set_none line es w)

@@ -6,6 +6,8 @@ use Rattle.std.specs.Ordering.{nat_cmp}
 use Rattle.std.specs.Cmp.Lexicographic.{slice_cmp}
 use Rattle.std.specs.Fmt.{signed_decimal}
 use Rattle.std.specs.Bool.{MatchBool}
+use Rattle.std.specs.Map.{lookup, set_value}
+use Rattle.std.specs.BTreeMap.{is_at}
 use Rattle.std.specs.List.{flat_map}
 use Rattle.sky_base.specs.Val.{Pairs}
 use Rattle.line_kit.specs.Lines.{all_lines, lines, joined, with_text, is_open, same_lines}
@@ -125,6 +127,11 @@ asks line k = slice_cmp nat_cmp line k.items
 
 abbrev pub by_bytes : Vec ℕ Global → Vec ℕ Global → Ordering
 by_bytes x y = slice_cmp nat_cmp x.items y.items
+
+-- at a line that the map has, a number more
+abbrev pub Raised : List ℕ → ℕ → (old new : List (Vec ℕ Global × ℕ)) → Type 0
+Raised line number old new =
+    (sum : ℕ) × (lookup (is_at (asks line)) old ≡ Some sum) × (new ≡ set_value (is_at (asks line)) old (sum + number))
 
 abbrev pub SumsUp : Sums → List (List ℕ) → Type 0
 SumsUp s ls = (es : List (List ℕ × ℕ)) × (read_each counted ls ≡ Some es) × (sums_in s.totals ≡ totals es)

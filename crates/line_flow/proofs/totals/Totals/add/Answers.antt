@@ -1,23 +1,18 @@
-use Rattle.std.proofs.Common.{◌≡◌, ℕ, ◌+◌, List, map, Some, None, sym, ap, ◌∙◌, rules}
-use Rattle.std.specs.Map.{lookup, set_value}
-use Rattle.std.specs.BTreeMap.{is_at}
-use Rattle.line_kit.specs.Totals.{with_more}
-use Rattle.line_flow.specs.Kept.{asks}
+use Rattle.std.proofs.Common.{List, map, refl, ap, ◌∙◌}
+use Rattle.std.specs.Ordering.{nat_cmp}
+use Rattle.std.specs.Cmp.Lexicographic.{slice_cmp}
+use Rattle.std.specs.BTreeMap.{insert_entry}
 use Rattle.line_flow.proofs.Results.{on_ok}
-use Rattle.line_flow.proofs.SeenLaw.{see, more_there, more_new}
+use Rattle.line_flow.proofs.SeenLaw.{Entry, see, more_there, more_new}
 use Rattle.line_flow.proofs.totals.Totals.add.Goals as goal
 
-pub returns-in-Some-checked_add-clause-ok : goal.returns-in-Some-checked_add-clause-ok
-returns-in-Some-checked_add-clause-ok c =
-    let entries = c.args.self.now.sums.entries in
-    let line = c.args.line.now in
-    let found : lookup (is_at (asks line)) entries ≡ Some c.in-Some.sum = sym c.get.ensures.value ∙ sym c.copied.ensures ∙ c.in-Some.is in
-    let sum : c.in-Some-checked_add.more ≡ c.in-Some.sum + c.args.number = c.in-Some-checked_add.ensures.1 ∙ ap (λ (n : ℕ). c.in-Some.sum + n) c.from.ensures in
-    ap (map see) c.set.ensures.value ∙ ap (λ (n : ℕ). map see (set_value (is_at (asks line)) entries n)) sum
-    ∙ more_there line entries c.in-Some.sum c.args.number c.set.ensures.ordered found
+pub returns-in-Some-clause-ok : goal.returns-in-Some-clause-ok
+returns-in-Some-clause-ok c =
+    on_ok c.in-Some.raised (λ a h. ap (map see) h.2 ∙ more_there c.args.line.now c.args.self.now.sums.entries h.0 c.args.number c.in-Some.ensures.ordered h.1) c.in-Some.ensures.ok
 
 pub returns-in-None-clause-ok : goal.returns-in-None-clause-ok
 returns-in-None-clause-ok c =
     let entries = c.args.self.now.sums.entries in
-    let none : lookup (is_at (asks c.args.line.now)) entries ≡ None = sym c.get.ensures.value ∙ sym c.copied.ensures ∙ c.in-None.is in
-    on_ok c.begin.result (λ a h. h ∙ more_new c.args.line.now entries c.args.number none) c.begin.ensures.ok
+    let line = c.args.line.now in
+    let kept = c.in-None.ensures.none refl in
+    on_ok c.begin.result (λ a h. h ∙ ap (λ (es : List Entry). insert_entry (slice_cmp nat_cmp) (map see es) line c.args.number) kept.1 ∙ more_new line entries c.args.number kept.0) c.begin.ensures.ok
