@@ -1,12 +1,12 @@
 -- Inputs that grow by pieces, and their lines.
 use Rattle.std.proofs.lemmas.List.{take_more, take-append-drop}
 use Rattle.std.proofs.lemmas.Grind.{flat_map-append}
-use Rattle.std.proofs.Common.{◌≡◌, ℕ, zero, suc, ◌+◌, ◌-◌, ◌<◌, Bool, true, false, cond, List, [], ◌∷◌, ◌++◌, length, take, drop, get_or, length-take, refl, sym, ap, ap₂, ◌∙◌, arith, append_assoc, append-nil}
-use Rattle.std.specs.Prelude.{◌==◌, count_by, replicate}
+use Rattle.std.proofs.Common.{◌≡◌, ℕ, zero, suc, ◌+◌, ◌-◌, ◌<◌, false, List, [], ◌∷◌, ◌++◌, length, take, drop, get_or, length-take, refl, sym, ap, ap₂, ◌∙◌, arith, append_assoc, append-nil}
+use Rattle.std.specs.Prelude.{count_by, replicate}
 use Rattle.line_kit.specs.Lines.{is_feed, lines, all_lines, is_open}
 use Rattle.line_kit.specs.Gives.{input}
 use Rattle.line_flow.specs.Told.{grow, settled_lines, ended_lines}
-use Rattle.line_flow.specs.Kept.{Seen, seen_of, seen_more, at_input}
+use Rattle.line_flow.specs.Kept.{seen_of, seen_more, at_input}
 use Rattle.line_flow.specs.Stands.{AllEmpty, EndsAt}
 use Rattle.line_flow.proofs.LinesLaw.{lines-append, closed-append, ended-append}
 

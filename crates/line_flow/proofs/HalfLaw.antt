@@ -1,12 +1,11 @@
 -- Halves written one after the other.
-use Rattle.std.proofs.Common.{◌≡◌, ◌<◌, ℕ, ℤ, pos, int_div, Bool, true, false, cond, nat_lt, List, [], ◌∷◌, ◌++◌, length, map, Option, Some, None, Ok, Err, refl, sym, ap, ◌∙◌, arith, append-nil}
+use Rattle.std.proofs.Common.{◌≡◌, ◌<◌, ℕ, ℤ, pos, int_div, Bool, true, false, cond, nat_lt, List, [], ◌∷◌, ◌++◌, length, Ok, Err, refl, sym, ap, ◌∙◌, arith, append-nil}
 use Rattle.std.specs.Fmt.{signed_decimal}
-use Rattle.std.specs.List.{list_any}
 use Rattle.std.proofs.lemmas.List.{map-append}
 use Rattle.std.proofs.lemmas.Bool.Decides.{nat_tests}
 use Rattle.sky_base.specs.declared.fault.FaultKind.TheVariants.{TooLarge}
 use Rattle.line_kit.specs.Lines.{joined, ended}
-use Rattle.line_kit.specs.Gives.{one, unless_large, halved}
+use Rattle.line_kit.specs.Gives.{one, unless_large}
 use Rattle.line_kit.proofs.WrittenLaw.{joined-append}
 use Rattle.line_flow.specs.Kept.{half_lines}
 

@@ -1,7 +1,7 @@
 -- An output that is too large already stays so, whatever lines follow.
-use Rattle.std.proofs.Common.{◌≡◌, ℕ, zero, suc, ◌+◌, ◌-◌, ◌%◌, ◌<◌, ◌≤◌, Bool, true, false, cond, nat_lt, ◌||◌, List, [], ◌∷◌, ◌++◌, map, take, drop, length, Option, Some, Err, refl, sym, ap, ap₂, subst, ◌∙◌, arith, append_assoc, append-nil, length-append}
+use Rattle.std.proofs.Common.{◌≡◌, ℕ, zero, suc, ◌+◌, ◌-◌, ◌%◌, ◌<◌, ◌≤◌, Bool, true, false, cond, nat_lt, ◌||◌, List, [], ◌∷◌, ◌++◌, map, take, length, Err, refl, sym, ap, ◌∙◌, arith, length-append}
 use Rattle.std.specs.Prelude.{◌==◌}
-use Rattle.std.specs.List.{list_any, flat_map, filter, range_with_len}
+use Rattle.std.specs.List.{list_any, flat_map, range_with_len}
 use Rattle.std.proofs.lemmas.Bool.Decides.{nat_tests}
 use Rattle.std.proofs.lemmas.Grind.{flat_map-append}
 use Rattle.std.proofs.lemmas.List.Elements.{filter-append}
@@ -9,7 +9,7 @@ use Rattle.sky_base.specs.declared.fault.FaultKind.TheVariants.{TooLarge}
 use Rattle.line_kit.specs.Lines.{joined, with_text, contains}
 use Rattle.line_kit.specs.Words.{words}
 use Rattle.line_kit.specs.Parts.{every, dealt}
-use Rattle.line_kit.specs.Gives.{Answer, one, with_lines, unless_large}
+use Rattle.line_kit.specs.Gives.{one, with_lines}
 use Rattle.line_kit.proofs.WrittenLaw.{joined-append}
 use Rattle.line_flow.specs.Kept.{HasOne, AreStreams, is_over}
 use Rattle.line_flow.specs.declared.stream.Stream.{Stream}

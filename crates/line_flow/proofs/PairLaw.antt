@@ -1,5 +1,5 @@
 -- Two lists of lines, compared line by line.
-use Rattle.std.proofs.Common.{◌≡◌, ℕ, zero, suc, ◌+◌, ◌<◌, ◌≤◌, Bool, true, false, List, [], ◌∷◌, ◌++◌, length, drop, ◌&&◌, nat_eq, cond, refl, sym, ap, ap₂, ◌∙◌, arith, append_assoc, append-nil, length-drop}
+use Rattle.std.proofs.Common.{◌≡◌, ℕ, zero, suc, ◌<◌, ◌≤◌, Bool, true, false, List, [], ◌∷◌, ◌++◌, length, drop, ◌&&◌, nat_eq, cond, refl, sym, ap, ap₂, ◌∙◌, arith, append_assoc, append-nil, length-drop}
 use Rattle.std.specs.Prelude.{◌==◌}
 use Rattle.std.specs.Str.{bytes_eq}
 use Rattle.std.proofs.lemmas.Bool.{true≢false, eqb-true, eq-eqb}

@@ -1,5 +1,5 @@
 -- Clauses on what was answered, and on truth values.
-use Rattle.std.proofs.Common.{◌≡◌, Bool, true, false, refl, sym, Result, Ok, Err, IfOk, IfErr}
+use Rattle.std.proofs.Common.{◌≡◌, Bool, true, false, sym, Result, Ok, Err, IfOk, IfErr}
 use Rattle.std.specs.Bool.{MatchBool}
 use Rattle.std.proofs.lemmas.Bool.{true≢false}
 

@@ -6,8 +6,6 @@ use Rattle.std.specs.Ordering.{nat_cmp}
 use Rattle.std.specs.Cmp.Lexicographic.{slice_cmp}
 use Rattle.std.specs.Fmt.{signed_decimal}
 use Rattle.std.specs.Bool.{MatchBool}
-use Rattle.std.specs.Map.{lookup, set_value}
-use Rattle.std.specs.BTreeMap.{is_at}
 use Rattle.std.specs.List.{flat_map}
 use Rattle.sky_base.specs.Val.{Pairs}
 use Rattle.line_kit.specs.Lines.{all_lines, lines, joined, with_text, is_open, same_lines}
@@ -118,8 +116,11 @@ abbrev pub HasHalves : Halves → List (List ℕ) → Type 0
 HasHalves h ls = MatchBool h.bad (Unread signed_number ls) (WritesHalves h ls)
 
 -- the lines of the map with their sums
+abbrev pub seen_sums : List (Vec ℕ Global × ℕ) → List (List ℕ × ℕ)
+seen_sums entries = map (λ e. (e.0.items, e.1)) entries
+
 abbrev pub sums_in : Kept → List (List ℕ × ℕ)
-sums_in t = map (λ e. (e.0.items, e.1)) t.sums.entries
+sums_in t = seen_sums t.sums.entries
 
 -- how a line compares with one that the map owns
 abbrev pub asks : List ℕ → Vec ℕ Global → Ordering
@@ -127,11 +128,6 @@ asks line k = slice_cmp nat_cmp line k.items
 
 abbrev pub by_bytes : Vec ℕ Global → Vec ℕ Global → Ordering
 by_bytes x y = slice_cmp nat_cmp x.items y.items
-
--- at a line that the map has, a number more
-abbrev pub Raised : List ℕ → ℕ → (old new : List (Vec ℕ Global × ℕ)) → Type 0
-Raised line number old new =
-    (sum : ℕ) × (lookup (is_at (asks line)) old ≡ Some sum) × (new ≡ set_value (is_at (asks line)) old (sum + number))
 
 abbrev pub SumsUp : Sums → List (List ℕ) → Type 0
 SumsUp s ls = (es : List (List ℕ × ℕ)) × (read_each counted ls ≡ Some es) × (sums_in s.totals ≡ totals es)

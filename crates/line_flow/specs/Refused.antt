@@ -1,5 +1,5 @@
 -- What is refused whatever the inputs are.
-use Rattle.std.specs.Prelude.{◌≡◌, ℕ, List, Option, Some, None, true, Result, Ok, Err, if◌then◌else◌}
+use Rattle.std.specs.Prelude.{◌≡◌, ℕ, List, Option, Some, None, true, if◌then◌else◌}
 use Rattle.sky_base.specs.Val.{Val, Pairs, dict}
 use Rattle.sky_base.specs.declared.fault.FaultKind.{FaultKind}
 use Rattle.sky_base.specs.declared.fault.FaultKind.TheVariants.{BadExec, BadCount, BadKind, NoKey}

@@ -1,5 +1,5 @@
 -- What a flow was told, and what of its outputs can be had before its inputs end.
-use Rattle.std.specs.Prelude.{ℕ, zero, suc, ◌<◌, ◌≤◌, List, [], ◌∷◌, ◌++◌, length, take, map, count_by, replicate, Option, Some, None}
+use Rattle.std.specs.Prelude.{ℕ, zero, suc, ◌<◌, ◌≤◌, List, [], ◌∷◌, ◌++◌, length, take, map, count_by, replicate, Option, Some}
 use Rattle.std.specs.List.{flat_map}
 use Rattle.sky_base.specs.Val.{Val, Pairs, no_pairs, dict}
 use Rattle.line_kit.specs.Lines.{all_lines, lines, joined, with_text, is_feed}

@@ -1,37 +1,36 @@
 // Sums by line, in the order of the lines' bytes, each with a copy of its line.
 
-ghost use Rattle.std.specs.Prelude.{◌≡◌, [], None, IfOk, IfErr, IfSome, map, nat_lt};
+ghost use Rattle.std.specs.Prelude.{◌≡◌, [], IfOk, IfErr, map, nat_lt, Some, None, true, false};
 ghost use Rattle.std.specs.Ordering.{nat_cmp};
 ghost use Rattle.std.specs.Cmp.Lexicographic.{slice_cmp};
-ghost use Rattle.std.specs.BTreeMap.{IsOrdered, insert_entry, is_at, values};
+ghost use Rattle.std.specs.BTreeMap.{insert_entry, is_at, values};
 ghost use Rattle.std.specs.Map.{lookup};
 ghost use Rattle.std.specs.List.{list_any};
 ghost use Rattle.line_kit.specs.Lines.{joined};
 ghost use Rattle.line_kit.specs.Numbers.{count_line};
 ghost use Rattle.line_kit.specs.Totals.{with_more};
 ghost use Rattle.line_kit.specs.Written.{extended, finished};
-ghost use Rattle.line_flow.specs.Kept.{sums_in, asks, by_bytes, Raised};
+ghost use Rattle.line_flow.specs.Kept.{sums_in, seen_sums, asks};
 
 use line_kit::output::Output;
 use sky_base::text::Memory;
 use std::alloc::Global;
 use std::collections::BTreeMap;
 
-// Adds a number at a line that is there, by one look-up; none where it isn't there. A sum that more than 128 bits would write is as
-// want of memory.
-fn raise(sums: &mut BTreeMap<Vec<u8>, u128>, line: &[u8], number: u64) -> Option<Result<(), Memory>>
-    ensures none { result ≡ None → (lookup (is_at (asks line.now)) sums.old.entries ≡ None) × (sums.new.entries ≡ sums.old.entries) }
-    ensures ok { IfSome result (λ r. IfOk r (λ _. Raised line.now number sums.old.entries sums.new.entries)) }
-    ensures err { IfSome result (λ r. IfErr r (λ _. sums.new.entries ≡ sums.old.entries)) }
-    ensures ordered { IsOrdered by_bytes sums.old }
+// Adds a number at a line that is there, and answers whether its sum has room: one search does both.
+fn add_there(sums: &mut BTreeMap<Vec<u8>, u128>, line: &[u8], number: u64) -> Option<bool>
+    ensures absent { result ≡ None → lookup (is_at (asks line.now)) sums.old.entries ≡ None }
+    ensures same { result ≡ None → sums.new.entries ≡ sums.old.entries }
+    ensures added { result ≡ Some true → seen_sums sums.new.entries ≡ with_more (seen_sums sums.old.entries) line.now number }
+    ensures full { result ≡ Some false → sums.new.entries ≡ sums.old.entries }
 {
     match sums.get_mut(line) {
         Some(sum) => match sum.checked_add(u128::from(number)) {
             Some(more) => {
                 *sum = more;
-                Some(Ok(()))
+                Some(true)
             }
-            None => Some(Err(Memory)),
+            None => Some(false),
         },
         None => None,
     }
@@ -78,8 +77,9 @@ impl Totals {
         ensures ok { IfOk result (λ _. sums_in self.new ≡ with_more (sums_in self.old) line.now number) }
         ensures err { IfErr result (λ _. sums_in self.new ≡ sums_in self.old) }
     {
-        match raise(&mut self.sums, line, number) {
-            Some(raised) => raised,
+        match add_there(&mut self.sums, line, number) {
+            Some(true) => Ok(()),
+            Some(false) => Err(Memory),
             None => self.begin(alloc, line, number),
         }
     }

@@ -1,4 +1,4 @@
-use Rattle.std.proofs.Common.{◌≡◌, ◌++◌, ℕ, List, [], ◌∷◌, IfOk, true, false, cond, sym, ap, ◌∙◌, append-nil}
+use Rattle.std.proofs.Common.{◌≡◌, ◌++◌, ℕ, List, [], ◌∷◌, false, cond, sym, ap, ◌∙◌, append-nil}
 use Rattle.line_kit.specs.Lines.{lines, joined, is_open}
 use Rattle.line_kit.proofs.OpenLaw.{joined-lines}
 use Rattle.line_flow.proofs.Results.{on_ok}

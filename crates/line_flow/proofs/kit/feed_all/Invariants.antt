@@ -1,4 +1,4 @@
-use Rattle.std.proofs.Common.{◌≡◌, ℕ, List, ◌++◌, length}
+use Rattle.std.proofs.Common.{◌≡◌, length}
 use Rattle.line_flow.specs.Told.{Told, CanFeed, fed_more}
 use Rattle.line_flow.specs.Stands.{Stands}
 use Rattle.line_flow.proofs.kit.feed_all.Given as goal

@@ -1,4 +1,4 @@
-use Rattle.std.proofs.Common.{◌≡◌, ◌≤◌, ◌-◌, ℕ, List, [], ◌++◌, length, take}
+use Rattle.std.proofs.Common.{◌≤◌, ◌-◌, ℕ, List, [], ◌++◌, take}
 use Rattle.std.specs.Prelude.{replicate}
 use Rattle.sky_base.specs.Val.{Val}
 use Rattle.line_flow.specs.Told.{opened}

@@ -1,4 +1,4 @@
-use Rattle.std.proofs.Common.{◌≡◌, ℕ, List, map, Option, ap, ◌∙◌}
+use Rattle.std.proofs.Common.{ℕ, List, map, Option, ap, ◌∙◌}
 use Rattle.line_kit.specs.Lines.{joined}
 use Rattle.line_kit.specs.Numbers.{count_line}
 use Rattle.line_kit.specs.Written.{extended}

@@ -1,11 +1,11 @@
-use Rattle.std.proofs.Common.{◌≡◌, ℕ, List, [], ◌∷◌, Some, sym, ap, subst, ◌∙◌}
+use Rattle.std.proofs.Common.{◌≡◌, ℕ, List, [], ◌∷◌, Some, sym, ap, subst}
 use Rattle.std.specs.Prelude.{replicate}
 use Rattle.line_kit.specs.Lines.{joined, with_text}
 use Rattle.line_kit.specs.Table.{text_of}
 use Rattle.line_kit.specs.declared.executor.Executor.{Executor}
 use Rattle.line_flow.specs.Told.{early_by}
 use Rattle.line_flow.specs.Drained.{Follows}
-use Rattle.line_flow.specs.Kept.{KeptBlocks, HasOne, Undrained}
+use Rattle.line_flow.specs.Kept.{KeptBlocks, HasOne}
 use Rattle.line_flow.specs.declared.blocks.Blocks.{Blocks}
 use Rattle.line_flow.proofs.Results.{on_ok}
 use Rattle.line_flow.proofs.KeptLaw.{follows_none, early_kept}

@@ -1,8 +1,8 @@
-use Rattle.std.proofs.Common.{◌≡◌, ℕ, List, [], ◌∷◌, ◌++◌, length, IfOk, sym, ap, subst, ◌∙◌, append-nil}
+use Rattle.std.proofs.Common.{◌≡◌, [], ◌∷◌, length, IfOk, subst, ◌∙◌, append-nil}
 use Rattle.sky_base.specs.KitView.{RunsSo}
 use Rattle.sky_base.specs.View.{view}
 use Rattle.line_kit.specs.Lines.{lines, all_lines}
-use Rattle.line_kit.specs.Gives.{Answer, row, gives}
+use Rattle.line_kit.specs.Gives.{Answer, row}
 use Rattle.line_kit.specs.Counts.{gives_counts}
 use Rattle.line_flow.specs.Kept.{KeptBlocks, seen_of}
 use Rattle.line_flow.specs.declared.blocks.Blocks.{Blocks}

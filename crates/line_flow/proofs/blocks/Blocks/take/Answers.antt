@@ -1,4 +1,4 @@
-use Rattle.std.proofs.Common.{◌≡◌, ℕ, List, ◌++◌, false, sym, ap, ap₂, subst, ◌∙◌}
+use Rattle.std.proofs.Common.{ℕ, List, ◌++◌, ap, ap₂, subst, ◌∙◌}
 use Rattle.line_kit.specs.Lines.{lines, joined, is_open}
 use Rattle.line_flow.specs.Kept.{KeptBlocks}
 use Rattle.line_flow.specs.declared.blocks.Blocks.{Blocks}

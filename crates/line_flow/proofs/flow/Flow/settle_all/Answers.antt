@@ -1,4 +1,4 @@
-use Rattle.std.proofs.Common.{◌≡◌, ◌<◌, ◌≤◌, ℕ, length, arith, sym, ◌∙◌}
+use Rattle.std.proofs.Common.{◌≡◌, arith, sym, ◌∙◌}
 use Rattle.std.proofs.lemmas.Bool.{eqb-true, eq-eqb, true≢false}
 use Rattle.line_flow.proofs.StandsLaw.{stands_took, whole_took}
 use Rattle.line_flow.proofs.flow.Flow.settle_all.Goals as goal

@@ -1,4 +1,4 @@
-use Rattle.std.proofs.Common.{◌≡◌, ℕ, List, true, refl, sym, ◌∙◌, rules}
+use Rattle.std.proofs.Common.{refl, rules}
 use Rattle.line_flow.specs.Told.{fed_more}
 use Rattle.line_flow.specs.declared.flow.Flow.{Flow}
 use Rattle.line_flow.proofs.StandsLaw.{stands_later}

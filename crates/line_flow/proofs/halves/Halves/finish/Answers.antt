@@ -1,4 +1,4 @@
-use Rattle.std.proofs.Common.{◌≡◌, ap, ◌∙◌}
+use Rattle.std.proofs.Common.{ap}
 use Rattle.line_kit.specs.Numbers.{signed_number}
 use Rattle.line_kit.specs.Gives.{halved}
 use Rattle.line_flow.specs.Kept.{WritesHalves}

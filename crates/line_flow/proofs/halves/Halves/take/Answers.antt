@@ -1,8 +1,7 @@
-use Rattle.std.proofs.Common.{◌≡◌, ℕ, ℤ, pos, int_div, to_z, of_z, w64, List, [], ◌∷◌, ◌++◌, map, Some, sym, ap, subst, ◌∙◌, rules, append-nil}
-use Rattle.std.specs.Fmt.{signed_decimal}
-use Rattle.line_kit.specs.Lines.{joined, ended}
+use Rattle.std.proofs.Common.{◌≡◌, ℤ, pos, int_div, to_z, of_z, w64, [], ◌∷◌, ◌++◌, Some, ap, subst, ◌∙◌, rules}
+use Rattle.line_kit.specs.Lines.{joined}
 use Rattle.line_kit.specs.Numbers.{signed_number}
-use Rattle.line_flow.specs.Kept.{HasHalves, WritesHalves, Unread, Caps, half_lines}
+use Rattle.line_flow.specs.Kept.{Unread, Caps, half_lines}
 use Rattle.line_flow.proofs.Results.{on_ok, when_false, so_false}
 use Rattle.line_flow.proofs.ReadLaw.{read_more, unread_now}
 use Rattle.line_flow.proofs.HalfLaw.{half_more}

@@ -1,4 +1,4 @@
-use Rattle.std.proofs.Common.{◌≡◌, ℕ, List, [], ◌∷◌, Some, map, take, sym, ap, subst, ◌∙◌}
+use Rattle.std.proofs.Common.{◌≡◌, ℕ, List, [], ◌∷◌, Some, map, take, sym, ap, subst}
 use Rattle.std.specs.Prelude.{replicate}
 use Rattle.std.specs.List.{flat_map}
 use Rattle.line_kit.specs.Lines.{joined}
@@ -8,7 +8,7 @@ use Rattle.line_kit.specs.Table.{lines_of}
 use Rattle.line_kit.specs.declared.executor.Executor.{Executor}
 use Rattle.line_flow.specs.Told.{early_by}
 use Rattle.line_flow.specs.Drained.{Follows}
-use Rattle.line_flow.specs.Kept.{KeptLined, HasOne, HasTurns}
+use Rattle.line_flow.specs.Kept.{KeptLined, HasOne}
 use Rattle.line_flow.specs.declared.lined.Lined.{Lined}
 use Rattle.line_flow.proofs.Results.{on_ok, on_both}
 use Rattle.line_flow.proofs.KeptLaw.{follows_none}

@@ -1,9 +1,9 @@
-use Rattle.std.proofs.Common.{◌≡◌, ℕ, List, true, map, sym, ap, subst, ◌∙◌}
+use Rattle.std.proofs.Common.{◌≡◌, ℕ, List, true, sym, ap, subst, ◌∙◌}
 use Rattle.std.specs.Prelude.{◌==◌}
 use Rattle.sky_base.specs.KitView.{RunsSo}
 use Rattle.line_kit.specs.Lines.{all_lines}
 use Rattle.line_kit.specs.Table.{may_have}
-use Rattle.line_kit.specs.Gives.{Answer, row, one, tallied}
+use Rattle.line_kit.specs.Gives.{row, one, tallied}
 use Rattle.line_kit.proofs.SumsLaw.{count_lines, tallied-totals}
 use Rattle.line_kit.specs.declared.executor.Executor.{Executor}
 use Rattle.line_flow.specs.Drained.{Completes}

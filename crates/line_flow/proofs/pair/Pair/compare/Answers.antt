@@ -1,9 +1,9 @@
-use Rattle.std.proofs.Common.{◌≡◌, ◌+◌, ◌-◌, ◌<◌, ◌≤◌, ℕ, Bool, true, false, List, [], ◌∷◌, ◌++◌, length, take, drop, refl, sym, ap, ◌∙◌, arith, append-nil, length-drop, drop-drop}
+use Rattle.std.proofs.Common.{◌≡◌, ◌+◌, ◌-◌, ◌<◌, ◌≤◌, ℕ, Bool, true, false, List, [], ◌∷◌, ◌++◌, length, take, drop, sym, ap, ◌∙◌, arith, append-nil, length-drop, drop-drop}
 use Rattle.std.specs.Str.{bytes_eq}
 use Rattle.std.specs.Bool.{MatchBool}
 use Rattle.std.proofs.lemmas.List.{drop_all, take_all}
 use Rattle.line_kit.specs.Lines.{lines, is_open}
-use Rattle.line_flow.specs.Kept.{HasPair, Differ}
+use Rattle.line_flow.specs.Kept.{Differ}
 use Rattle.line_flow.proofs.Results.{map_match}
 use Rattle.line_flow.proofs.LinesLaw.{first_cut}
 use Rattle.line_flow.proofs.PairLaw.{differ_more, differ_longer, differ_next, equal_next}

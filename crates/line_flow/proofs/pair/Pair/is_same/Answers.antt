@@ -1,11 +1,8 @@
-use Rattle.std.proofs.Common.{◌≡◌, ◌<◌, ◌≤◌, ℕ, Bool, true, false, List, [], ◌++◌, length, drop, nat_eq, refl, sym, ap, ap₂, ◌∙◌, arith, append-nil}
+use Rattle.std.proofs.Common.{◌≡◌, ℕ, [], length, nat_eq, sym, ap, ◌∙◌, arith, append-nil}
 use Rattle.std.specs.Prelude.{not}
-use Rattle.std.proofs.lemmas.Bool.{cases_Bool, eqb-true, ne_eqb, eq-eqb}
-use Rattle.std.proofs.lemmas.List.{drop_all}
-use Rattle.line_kit.specs.Lines.{lines, same_lines}
-use Rattle.line_flow.specs.Kept.{HasPair}
+use Rattle.line_kit.specs.Lines.{same_lines}
 use Rattle.line_flow.proofs.Results.{when_true, when_false}
-use Rattle.line_flow.proofs.PairLaw.{same_self, rest_decides}
+use Rattle.line_flow.proofs.PairLaw.{rest_decides}
 use Rattle.line_flow.proofs.pair.Pair.is_same.Goals as goal
 
 pub returns-then-not-self : goal.returns-then-not-self

@@ -1,7 +1,6 @@
-use Rattle.std.proofs.Common.{◌≡◌, ◌+◌, ◌<◌, ◌≤◌, ℕ, Bool, true, false, List, [], ◌∷◌, ◌++◌, length, drop, refl, sym, ap, subst, ◌∙◌, arith, append-nil, length-append}
-use Rattle.std.specs.Bool.{MatchBool}
-use Rattle.line_kit.specs.Lines.{lines, joined, is_open}
-use Rattle.line_flow.specs.Kept.{HasPair, Differ, at_input}
+use Rattle.std.proofs.Common.{◌≡◌, ℕ, List, [], ◌++◌, length, sym, ap, subst, ◌∙◌, arith, append-nil, length-append}
+use Rattle.line_kit.specs.Lines.{lines, joined}
+use Rattle.line_flow.specs.Kept.{HasPair, at_input}
 use Rattle.line_flow.proofs.Results.{on_ok}
 use Rattle.line_flow.proofs.PairLaw.{first_more, at_none}
 use Rattle.line_flow.specs.declared.pair.Pair.{Pair}

@@ -1,4 +1,4 @@
-use Rattle.std.proofs.Common.{◌≡◌, ℕ, List, sym, ap, subst, ◌∙◌}
+use Rattle.std.proofs.Common.{sym, subst}
 use Rattle.line_flow.specs.Kept.{Keeps, KeptBlocks}
 use Rattle.line_flow.specs.declared.settled.Settled.{Settled}
 use Rattle.line_flow.proofs.KeptLaw.{seen-nothing}

@@ -1,11 +1,11 @@
-use Rattle.std.proofs.Common.{◌≡◌, ℕ, List, Bool, map, true, false, nat_lt, sym, ap, subst, ◌∙◌}
+use Rattle.std.proofs.Common.{◌≡◌, ℕ, List, Bool, true, false, nat_lt, sym, ap, subst, ◌∙◌}
 use Rattle.std.specs.List.{list_any}
 use Rattle.sky_base.specs.KitView.{RunsSo}
 use Rattle.line_kit.specs.Numbers.{counted}
 use Rattle.line_kit.specs.Gives.{one, summed}
 use Rattle.line_kit.specs.Totals.{totals}
 use Rattle.line_kit.proofs.SumsLaw.{count_lines, summed-over, summed-lines}
-use Rattle.line_flow.specs.Kept.{Unread, SumsUp, sums_in}
+use Rattle.line_flow.specs.Kept.{Unread, SumsUp}
 use Rattle.line_flow.proofs.Results.{on_ok, when_true, when_false}
 use Rattle.line_flow.proofs.ReadLaw.{unread_all}
 use Rattle.line_flow.proofs.sums.Sums.finish.Goals as goal

@@ -1,8 +1,8 @@
-use Rattle.std.proofs.Common.{◌≡◌, ℕ, List, [], ◌∷◌, ◌++◌, map, Some, None, sym, ap, ◌∙◌, rules}
+use Rattle.std.proofs.Common.{◌≡◌, ℕ, List, [], ◌∷◌, ◌++◌, Some, ap, ◌∙◌, rules}
 use Rattle.line_kit.specs.Numbers.{counted}
-use Rattle.line_kit.specs.Totals.{with_more, totals}
+use Rattle.line_kit.specs.Totals.{with_more}
 use Rattle.line_kit.proofs.TotalsLaw.{with_more-totals}
-use Rattle.line_flow.specs.Kept.{Unread, sums_in}
+use Rattle.line_flow.specs.Kept.{Unread}
 use Rattle.line_flow.proofs.Results.{on_ok, when_false, so_false}
 use Rattle.line_flow.proofs.ReadLaw.{read_more, unread_now}
 use Rattle.line_flow.proofs.sums.Sums.take.Goals as goal

@@ -1,5 +1,4 @@
-use Rattle.std.proofs.Common.{◌≡◌, ℕ, ◌+◌, ◌<◌, List, length, refl, sym, ap, ◌∙◌, arith}
-use Rattle.line_flow.specs.Kept.{HasTurns}
+use Rattle.std.proofs.Common.{◌≡◌, ◌+◌, refl, sym, arith}
 use Rattle.line_flow.specs.declared.stream.Stream.{Stream}
 use Rattle.line_flow.proofs.TurnsLaw.{streams_on, turn_on, turn_round}
 use Rattle.line_flow.proofs.turns.Turns.take.Goals as goal
