@@ -22,6 +22,7 @@ use Rattle.sky_base.proofs.tree.Lit.TheSendSync as tree_lit
 use Rattle.sky_base.proofs.tree.SignAt.TheSendSync as tree_signat
 use Rattle.sky_base.proofs.value.Pairs.TheLaws.TheKnot as value_pairs
 use Rattle.sky_base.proofs.value.Total.TheSendSync as value_total
+use Rattle.sky_numbers.proofs.tables.Tables.TheSendSync as tables_tables
 use Rattle.sky_state.proofs.frame.Todos.TheSendSync as frame_todos
 use Rattle.std.proofs.Crossing as std_crossing
 use Rattle.std.proofs.alloc.Global.TheSendSync as alloc_global
@@ -30,6 +31,7 @@ use Rattle.std.proofs.result.Result.TheSendSync as result_result
 use Rattle.std.proofs.sync.Arc.TheSendSync as sync_arc
 use Rattle.std.proofs.vec.Vec.TheSendSync as vec_vec
 use Rattle.ciel_task.specs.contracts.order.Order as order_row
+use Rattle.ciel_task.specs.contracts.ready.ReadyJob as ready_row
 use Rattle.ciel_task.specs.contracts.report.Report as report_row
 use Rattle.sky_base.specs.contracts.job.Inputs as inputs_row
 use Rattle.sky_base.specs.contracts.object.Object as object_row
@@ -112,6 +114,12 @@ job_field_sync = search (script_sync, inputs_sync, std_crossing.crosses, sendabl
 pub job_field_send : IsSend (job_row.the_field).row
 job_field_send = search (script_send, inputs_send, std_crossing.crosses, sendable) depth 60 fits 20000
 
+pub ready_sync : IsSync ready_row.the_row
+ready_sync = search (job_field_sync, tables_tables.the_sync, std_crossing.crosses, sendable) depth 60 fits 20000
+
+pub ready_send : IsSend ready_row.the_row
+ready_send = search (job_field_send, tables_tables.the_send, std_crossing.crosses, sendable) depth 60 fits 20000
+
 pub report_field_send : IsSend (report_row.the_field).row
 report_field_send = search (std_crossing.crosses, value_pairs.crosses, block_held.the_send, report_end.the_field_send, name_name.the_send, name_name.the_sync, object_taskid.the_field_send, text_txt.the_send, text_txt.the_sync, value_total.the_send, value_total.the_sync, alloc_global.the_field_send, shared_shared.the_field_send, shared_shared.the_send, shared_shared.the_sync, vec_vec.the_send, sendable) depth 60 fits 20000
 
@@ -119,10 +127,10 @@ pub order_field_send : IsSend (order_row.the_field).row
 order_field_send = search (std_crossing.crosses, value_pairs.crosses, shelves_place.the_send, block_held.the_send, name_name.the_send, name_name.the_sync, object_taskid.the_field_send, text_txt.the_send, text_txt.the_sync, value_total.the_send, value_total.the_sync, alloc_global.the_field_send, option_option.the_field_send, shared_shared.the_field_send, shared_shared.the_send, shared_shared.the_sync, sendable) depth 60 fits 20000
 
 pub shop_field_sync : (K N : RattleType) → IsSync K → IsSync N → IsSync (shop_row.the_field K N).row
-shop_field_sync K N k n = search (job_field_sync, shelves.the_sync, block_send, block_sync, std_crossing.crosses, sendable) depth 60 fits 20000
+shop_field_sync K N k n = search (ready_sync, shelves.the_sync, block_send, block_sync, std_crossing.crosses, sendable) depth 60 fits 20000
 
 pub shop_field_send : (K N : RattleType) → IsSend K → IsSend N → IsSend (shop_row.the_field K N).row
-shop_field_send K N k n = search (job_field_send, shelves.the_send, block_send, block_sync, std_crossing.crosses, sendable) depth 60 fits 20000
+shop_field_send K N k n = search (ready_send, shelves.the_send, block_send, block_sync, std_crossing.crosses, sendable) depth 60 fits 20000
 
 pub tools_field_send : (G : RattleType) → IsSend G → IsSend (tools_row.the_field G).row
 tools_field_send G g = search (eye.the_send, std_crossing.crosses, sendable) depth 60 fits 20000

@@ -26,7 +26,7 @@ use ciel_master::stop::RunEnd;
 use ciel_name::name::{Sha1Namer, Sha256Namer};
 use ciel_why::why::Why;
 use ciel_words::words::{NameKind, Words};
-use line_kit::kit::LineKit;
+use line_flow::kit::FlowKit;
 use sky_base::job::Job;
 use sky_base::text::{Bytes, Memory};
 use sky_plain::plain::{Answer, plain};
@@ -46,7 +46,7 @@ fn plainly(alloc: Global, job: &Job) -> Result<Bytes, Why>
     ensures bytes { IfOk result (λ b. Means (job_view job.now) over_lines (Meant.bytes b)) }
     ensures none { IfErr result (PlainCause (job_view job.now)) }
 {
-    match plain(alloc, job, &LineKit) {
+    match plain(alloc, job, &FlowKit) {
         Ok(Answer::Text(bytes)) => Ok(bytes),
         Ok(Answer::Fault(fault)) => Err(Why::Fault(fault)),
         Ok(Answer::TooMany { held }) => Err(Why::TooMany { held, given: None }),
@@ -110,8 +110,8 @@ where
     ensures all { result.end ≢ RunEnd.Memory → length gates.new.items ≡ 64 }
 {
     match names {
-        NameKind::Sha1 => run_job(rt, alloc, job, LineKit, Sha1Namer, gates, plan),
-        NameKind::Sha256 => run_job(rt, alloc, job, LineKit, Sha256Namer, gates, plan),
+        NameKind::Sha1 => run_job(rt, alloc, job, FlowKit, Sha1Namer, gates, plan),
+        NameKind::Sha256 => run_job(rt, alloc, job, FlowKit, Sha256Namer, gates, plan),
     }
 }
 

@@ -1,0 +1,12 @@
+pub mod LinesLaw
+pub mod Places
+pub mod Growing
+pub mod Results
+pub mod PairLaw
+pub mod ReadLaw
+pub mod SeenLaw
+pub mod HalfLaw
+pub mod StandsLaw
+pub mod TurnsLaw
+pub mod KeptLaw
+pub mod OverLaw

@@ -1,0 +1,5 @@
+pub mod Told
+pub mod Drained
+pub mod Refused
+pub mod Kept
+pub mod Stands
