@@ -54,7 +54,8 @@ fn gates(alloc: Global, limit: u32) -> Result<Vec<Meeting>, Fail>
 
 // The one input, with its name.
 fn inputs(alloc: Global) -> Result<(Texts, Inputs), Fail>
-    ensures { IfOk result (λ r. map (λ (x : List ℕ × List ℕ). x.0) r.1 ≡ r.0) }
+    ensures named { IfOk result (λ r. map (λ (x : List ℕ × List ℕ). x.0) r.1 ≡ r.0) }
+    ensures one { IfOk result (λ r. length r.0 ≡ 1) }
 {
     let mut keys = Vec::new(alloc);
     keys.push(Txt::new(alloc, "t")?)?;
