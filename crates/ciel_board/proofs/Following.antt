@@ -24,7 +24,8 @@ use Rattle.ciel_board.specs.Sound.{Sound}
 use Rattle.ciel_board.proofs.Holding as holding
 use Rattle.ciel_board.proofs.Starting.{key_is, start_order, start_stands, start_step}
 
-module _ {D P B : Type 0} (s : Setting D P B) (is : IsSetting s) (h : List (Event D)) (b : Board P) (sound : Sound s.digest s.at b) (f : Follows s h b) where
+module _ {D P B : Type 0} (s : Setting D P B) (is : IsSetting s) (h : List (Event D)) (b : Board P) (sound : Sound s.digest s.at b)
+    (f : Follows s h b) where
   pub informed : Informed s.job is.laws s.inner is.knows (standing s.job h)
   informed = startable.informed s.job is.laws s.inner is.knows b.plan h f.lawful
 
@@ -52,7 +53,8 @@ module _ {D P B : Type 0} (s : Setting D P B) (is : IsSetting s) (h : List (Even
       lawful_agrees s.job is.laws s.inner is.knows b.plan h f.lawful b.main b.table (tasks_out b.orders) table_holds
 
   -- a lawful event after which that stands
-  pub goes_on : (e : Event D) (c : Board P) → c.plan ≡ b.plan → c.journal ≡ b.journal ++ low s.job e ∷ [] → Step s.job b.plan (standing s.job h) e → StandsFor s (after s.job (standing s.job h) e) c → Follows s (h ++ e ∷ []) c
+  pub goes_on : (e : Event D) (c : Board P) → c.plan ≡ b.plan → c.journal ≡ b.journal ++ low s.job e ∷ []
+      → Step s.job b.plan (standing s.job h) e → StandsFor s (after s.job (standing s.job h) e) c → Follows s (h ++ e ∷ []) c
   goes_on e c plan journal step stands =
       record {
         lawful = subst (λ p. Lawful s.job p (h ++ e ∷ [])) (sym plan) (lawful_append s.job b.plan (before_all s.job) h e f.lawful step);
@@ -70,5 +72,9 @@ module _ {D P B : Type 0} (s : Setting D P B) (is : IsSetting s) (h : List (Even
             is = refl;
             reached = q.2;
             order = start_order s is (standing s.job h) informed apart made traced b sound f.stands known q.0 q.2 w;
-            follows = goes_on (start b.starts w q.0 (wait_number (last_wait (task_id s.job q.0) b.table))) (started s.at b (task_id s.job q.0) w) refl (ap (λ k. b.journal ++ Entry.Start b.starts w k (wait_number (last_wait (task_id s.job q.0) b.table)) ∷ []) (key_is s.job q.0)) (start_step s is (standing s.job h) informed apart made traced b sound f.stands known q.0 q.2 (subst (Runnable (board_graph b)) (sym q.1) r) w i going) (start_stands s is (standing s.job h) informed apart made traced b sound f.stands known q.0 q.2 w);
+            follows = goes_on (start b.starts w q.0 (wait_number (last_wait (task_id s.job q.0) b.table))) (started s.at b (task_id s.job q.0) w)
+                refl (ap (λ k. b.journal ++ Entry.Start b.starts w k (wait_number (last_wait (task_id s.job q.0) b.table)) ∷ [])
+                (key_is s.job q.0)) (start_step s is (standing s.job h) informed apart made traced b sound f.stands known q.0 q.2
+                (subst (Runnable (board_graph b)) (sym q.1) r) w i going)
+                (start_stands s is (standing s.job h) informed apart made traced b sound f.stands known q.0 q.2 w);
           })

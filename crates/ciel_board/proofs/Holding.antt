@@ -49,7 +49,8 @@ module _ {D P B : Type 0} (s : Setting D P B) (is : IsSetting s) where
   no_root : (d : D) → s.job.task_of d ≡ Some show → ⊥
   no_root d h = subst (In d) is.laws.outputs_show (is.laws.made_by d show h)
 
-  module _ (v : Standing D) (inf : Informed' v) (apart : NoClash s.job v.book) (made : (d : D) → In d v.book → IsMade s d) (b : Board P) (sound : Sound s.digest s.at b) (st : StandsFor s v b) where
+  module _ (v : Standing D) (inf : Informed' v) (apart : NoClash s.job v.book) (made : (d : D) → In d v.book → IsMade s d) (b : Board P)
+      (sound : Sound s.digest s.at b) (st : StandsFor s v b) where
     titled : AllByRecursion (Titled s is) b.table.rows
     titled = all_more (RowSound s.digest b.table) (Titled s is) (λ r k. k.name) b.table.rows sound.rows
 
@@ -58,20 +59,27 @@ module _ {D P B : Type 0} (s : Setting D P B) (is : IsSetting s) where
 
     pub inside_apart : (d : D) → In d v.book → NoClash s.job (s.inner.inside d)
     inside_apart d i x y j k n =
-        apart x y (each_of (λ e. In e v.book) x (s.inner.inside d) j (inf.whole d i).0) (each_of (λ e. In e v.book) y (s.inner.inside d) k (inf.whole d i).0) n
+        apart x y (each_of (λ e. In e v.book) x (s.inner.inside d) j (inf.whole d i).0)
+        (each_of (λ e. In e v.book) y (s.inner.inside d) k (inf.whole d i).0) n
 
     -- ---- rows
 
-    input_row : (d : D) (r : Row P) → IsMade s d → RowIs s v.places d r → RowSound s.digest b.table r → (o : Option (Task D)) → s.job.task_of d ≡ o → IsRowOf s.job d o r
+    input_row : (d : D) (r : Row P) → IsMade s d → RowIs s v.places d r → RowSound s.digest b.table r → (o : Option (Task D)) → s.job.task_of d
+        ≡ o → IsRowOf s.job d o r
     input_row d r m q k None e =
         let i : is_input r.desc ≡ true = input_is r.desc (is.tells.input r.desc d q.spells m e) in
         (row_title s is v.places d r q k.name, i, k.task ∙ ap (λ n. TaskId.Of n) (ap (digested s.digest) (input_itself r.desc i) ∙ sym k.name))
     input_row d r m q k (Some show) e = absurd (no_root d e)
     input_row d r m q k (Some (of x)) e =
-        let i = is.tells.made r.desc d x q.spells e in
-        (row_title s is v.places d r q k.name, i.0, k.task ∙ ap (λ n. TaskId.Of n) (ap (λ z. digested s.digest (first_output z)) q.spells ∙ (ap (digested s.digest) i.1 ∙ is.exact.own x)))
+        let i = is.tells.made r.desc d x q.spells e in (
+          row_title s is v.places d r q k.name,
+          i.0,
+          k.task
+              ∙ ap (λ n. TaskId.Of n) (ap (λ z. digested s.digest (first_output z)) q.spells ∙ (ap (digested s.digest) i.1 ∙ is.exact.own x)),
+        )
 
-    rows_are : (ds : List D) (rs : List (Row P)) → ((d : D) → In d ds → IsMade s d) → OneByOne (RowIs s v.places) ds rs → AllByRecursion (RowSound s.digest b.table) rs → AreRowsOf s.job ds rs
+    rows_are : (ds : List D) (rs : List (Row P)) → ((d : D) → In d ds → IsMade s d) → OneByOne (RowIs s v.places) ds rs
+        → AllByRecursion (RowSound s.digest b.table) rs → AreRowsOf s.job ds rs
     rows_are [] [] m h k = tt
     rows_are [] (r ∷ rs) m h k = absurd h
     rows_are (d ∷ ds) [] m h k = absurd h
@@ -80,7 +88,8 @@ module _ {D P B : Type 0} (s : Setting D P B) (is : IsSetting s) where
 
     -- ---- what is live
 
-    live_row : (d : D) (r : Row P) → IsMade s d → RowIs s v.places d r → (o : Option (Task D)) → s.job.task_of d ≡ o → is_live_row r ≡ live_if s.job o (v.places d)
+    live_row : (d : D) (r : Row P) → IsMade s d → RowIs s v.places d r → (o : Option (Task D)) → s.job.task_of d ≡ o → is_live_row r
+        ≡ live_if s.job o (v.places d)
     live_row d r m q None e = ap (λ c. c || has_place r.places) (input_is r.desc (is.tells.input r.desc d q.spells m e))
     live_row d r m q (Some show) e = absurd (no_root d e)
     live_row d r m q (Some (of x)) e =
@@ -126,10 +135,12 @@ module _ {D P B : Type 0} (s : Setting D P B) (is : IsSetting s) where
         ap (λ r. option_map_or (λ (r : Row P). first_refs r.desc) r []) q.1
         ∙ is.tells.first q.0.desc d q.2.spells (o d refl) (inside_apart d i)
 
-    pub needs_are : (u : Task D) → In (own_name s.job u) v.book → Own u → needs b.main b.table (task_id s.job u) ≡ map s.job.name (needs_after s.job v u)
+    pub needs_are : (u : Task D) → In (own_name s.job u) v.book → Own u → needs b.main b.table (task_id s.job u)
+        ≡ map s.job.name (needs_after s.job v u)
     needs_are u i o = pick (last_save s.job u v.saves) (last_wait (task_id s.job u) b.table) (last_is u i)
       where
-        pick : (x : Option (Save D)) (y : Option (Wait P)) → BothWaits s is x y → needs_at b.main b.table y (task_id s.job u) ≡ map s.job.name (needs_of s.job u x)
+        pick : (x : Option (Save D)) (y : Option (Wait P)) → BothWaits s is x y → needs_at b.main b.table y (task_id s.job u)
+            ≡ map s.job.name (needs_of s.job u x)
         pick None None k = first_is u i o
         pick None (Some w) k = absurd k
         pick (Some q) None k = absurd k
@@ -138,7 +149,8 @@ module _ {D P B : Type 0} (s : Setting D P B) (is : IsSetting s) where
     pub outs_are : (u : Task D) → In (own_name s.job u) v.book → is_in (tasks_out b.orders) (task_id s.job u) ≡ is_out s.job v u
     outs_are u i = outs s is v.book apart u i v.orders b.orders st.orders inf.shelved.own
 
-    pub table_holds : ((u : Task D) → Reached s.job v u → Each (λ d. In d v.book) (needs_after s.job v u)) → Holds s.job v b.main b.table (tasks_out b.orders)
+    pub table_holds : ((u : Task D) → Reached s.job v u → Each (λ d. In d v.book) (needs_after s.job v u))
+        → Holds s.job v b.main b.table (tasks_out b.orders)
     table_holds known =
         record {
           rows = rows_are v.book b.table.rows made st.rows sound.rows;

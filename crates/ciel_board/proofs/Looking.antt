@@ -1,5 +1,6 @@
 -- What is looked up in the table of a state that stands for a history: rows, saved waits, orders.
-use Rattle.std.proofs.Common.{◌≡◌, ℕ, List, [], ◌∷◌, Bool, true, false, cond, ◌||◌, nat_lt, Option, Some, None, ◌⊎◌, inl, inr, refl, ap, sym, ◌∙◌, subst}
+use Rattle.std.proofs.Common.{◌≡◌, ℕ, List, [], ◌∷◌, Bool, true, false, cond, ◌||◌, nat_lt, Option, Some, None, ◌⊎◌, inl, inr, refl, ap, sym, ◌∙◌}
+use Rattle.std.proofs.Common.{subst}
 use Rattle.std.specs.List.{AllByRecursion, list_any}
 use Rattle.sky_base.specs.Name.{digested}
 use Rattle.sky_base.specs.ObjectView.{desc_view}
@@ -28,7 +29,9 @@ module _ {D P B : Type 0} (s : Setting D P B) (is : IsSetting s) where
   row_title had d r q t = t ∙ (ap (digested s.digest) q.spells ∙ is.exact.own d)
 
   -- the row of a name
-  pub row_at : (had : D → List ℕ) (ds : List D) (rs : List (Row P)) → OneByOne (RowIs s had) ds rs → AllByRecursion Titled rs → (d : D) → ((x : D) → In x ds → s.job.name x ≡ s.job.name d → x ≡ d) → In d ds → (r : Row P) × (found row_name (s.job.name d) rs ≡ Some r) × RowIs s had d r
+  pub row_at : (had : D → List ℕ) (ds : List D) (rs : List (Row P)) → OneByOne (RowIs s had) ds rs → AllByRecursion Titled rs → (d : D)
+      → ((x : D) → In x ds → s.job.name x ≡ s.job.name d → x ≡ d) → In d ds → (r : Row P) × (found row_name (s.job.name d) rs ≡ Some r)
+      × RowIs s had d r
   row_at had [] [] h t d apart i = absurd i
   row_at had [] (r ∷ rs) h t d apart i = absurd h
   row_at had (e ∷ es) [] h t d apart i = absurd h
@@ -41,12 +44,14 @@ module _ {D P B : Type 0} (s : Setting D P B) (is : IsSetting s) where
       Found : List (Row P) → Type 0
       Found xs = (q : Row P) × (found row_name (s.job.name d) xs ≡ Some q) × RowIs s had d q
 
-      turn : ((same_text (s.job.name d) r.name ≡ true) ⊎ (same_text (s.job.name d) r.name ≡ false)) → In d (e ∷ es) → (In d es → Found rs) → Found (r ∷ rs)
+      turn : ((same_text (s.job.name d) r.name ≡ true) ⊎ (same_text (s.job.name d) r.name ≡ false)) → In d (e ∷ es) → (In d es → Found rs)
+          → Found (r ∷ rs)
       turn (inl y) j go =
           let same : e ≡ d = apart e (inl refl) (sym title ∙ sym (exact_text (s.job.name d) r.name y)) in
           (r, ap (λ c. cond c (Some r) (found row_name (s.job.name d) rs)) y, subst (λ x. RowIs s had x r) same h.0)
       turn (inr n) (inl j) go =
-          let y : same_text (s.job.name d) r.name ≡ true = subst (λ m. same_text (s.job.name d) m ≡ true) (ap s.job.name j ∙ sym title) (self_text (s.job.name d)) in
+          let y : same_text (s.job.name d) r.name ≡ true =
+          subst (λ m. same_text (s.job.name d) m ≡ true) (ap s.job.name j ∙ sym title) (self_text (s.job.name d)) in
           let bad : true ≡ false = sym y ∙ n in
           cc
       turn (inr n) (inr j) go =
@@ -63,7 +68,8 @@ module _ {D P B : Type 0} (s : Setting D P B) (is : IsSetting s) where
   last_best u [] = refl
   last_best u (q ∷ qs) = pick (same_task s.job u q.task) (last_best u qs)
     where
-      pick : (b : Bool) → last_save s.job u qs ≡ best (saves_of s.job u qs) → cond b (better s.job q (last_save s.job u qs)) (last_save s.job u qs) ≡ best (cond b (q ∷ saves_of s.job u qs) (saves_of s.job u qs))
+      pick : (b : Bool) → last_save s.job u qs ≡ best (saves_of s.job u qs)
+          → cond b (better s.job q (last_save s.job u qs)) (last_save s.job u qs) ≡ best (cond b (q ∷ saves_of s.job u qs) (saves_of s.job u qs))
       pick true r = ap (better s.job q) r
       pick false r = r
 
@@ -93,22 +99,28 @@ module _ {D P B : Type 0} (s : Setting D P B) (is : IsSetting s) where
           turn false true e = cc
           turn false false e = k
 
-  pub last_both : (u : Task D) (qs : List (Save D)) (ws : List (Wait P)) → OneByOne (WaitIs s) (saves_of s.job u qs) ws → BothWaits (last_save s.job u qs) (latest ws)
+  pub last_both : (u : Task D) (qs : List (Save D)) (ws : List (Wait P)) → OneByOne (WaitIs s) (saves_of s.job u qs) ws
+      → BothWaits (last_save s.job u qs) (latest ws)
   last_both u qs ws h =
       subst (λ o. BothWaits o (latest ws)) (sym (last_best u qs)) (latest_best (saves_of s.job u qs) ws h)
 
   -- ---- tasks by their names
 
   -- two tasks that go by names of a book in which no two names clash are one where their names are
-  pub same_named : (book : List D) → NoClash s.job book → (u t : Task D) → In (own_name s.job u) book → In (own_name s.job t) book → same_id (task_id s.job u) (task_id s.job t) ≡ same_task s.job u t
+  pub same_named : (book : List D) → NoClash s.job book → (u t : Task D) → In (own_name s.job u) book → In (own_name s.job t) book
+      → same_id (task_id s.job u) (task_id s.job t) ≡ same_task s.job u t
   same_named book apart show show i j = refl
   same_named book apart show (of e) i j = refl
   same_named book apart (of d) show i j = refl
   same_named book apart (of d) (of e) i j =
-      agree (same_text (s.job.name d) (s.job.name e)) (s.job.same d e) (λ h. subst (λ x. s.job.same d x ≡ true) (apart d e i j (exact_text (s.job.name d) (s.job.name e) h)) (is.laws.same_refl d)) (λ h. subst (λ x. same_text (s.job.name d) (s.job.name x) ≡ true) (is.laws.same_exact d e h) (self_text (s.job.name d)))
+      agree (same_text (s.job.name d) (s.job.name e)) (s.job.same d e)
+      (λ h. subst (λ x. s.job.same d x ≡ true) (apart d e i j (exact_text (s.job.name d) (s.job.name e) h)) (is.laws.same_refl d))
+      (λ h. subst (λ x. same_text (s.job.name d) (s.job.name x) ≡ true) (is.laws.same_exact d e h) (self_text (s.job.name d)))
 
   -- the tasks that are out have open Starts
-  pub outs : (book : List D) → NoClash s.job book → (u : Task D) → In (own_name s.job u) book → (os : List (OpenStart D)) (xs : List OrderOut) → OneByOne (OutIs s) os xs → Each (λ (o : OpenStart D). In (own_name s.job o.task) book) os → is_in (tasks_out xs) (task_id s.job u) ≡ list_any (λ (o : OpenStart D). same_task s.job u o.task) os
+  pub outs : (book : List D) → NoClash s.job book → (u : Task D) → In (own_name s.job u) book → (os : List (OpenStart D)) (xs : List OrderOut)
+      → OneByOne (OutIs s) os xs → Each (λ (o : OpenStart D). In (own_name s.job o.task) book) os → is_in (tasks_out xs) (task_id s.job u)
+      ≡ list_any (λ (o : OpenStart D). same_task s.job u o.task) os
   outs book apart u i [] [] h k = refl
   outs book apart u i [] (x ∷ xs) h k = absurd h
   outs book apart u i (o ∷ os) [] h k = absurd h

@@ -1,11 +1,13 @@
 -- A report that something is missing is an event that the state follows.
-use Rattle.std.proofs.Common.{◌≡◌, ℕ, ◌+◌, ◌≤◌, List, [], ◌∷◌, ◌++◌, length, true, false, not, cond, filter, nat_eq, eqb-true, Option, Some, None, ◌⊎◌, inl, inr, refl, ap, sym, ◌∙◌, subst}
+use Rattle.std.proofs.Common.{◌≡◌, ℕ, ◌+◌, ◌≤◌, List, [], ◌∷◌, ◌++◌, length, true, false, not, cond, filter, nat_eq, eqb-true, Option, Some, None}
+use Rattle.std.proofs.Common.{◌⊎◌, inl, inr, refl, ap, sym, ◌∙◌, subst}
 use Rattle.std.specs.List.{list_any}
 use Rattle.std.specs.Option.{option_map}
 use Rattle.sky_base.specs.Val.{same_text}
 use Rattle.sky_base.proofs.Exact.{exact_text}
 use Rattle.ciel_journal.specs.Entries.{Entry}
-use Rattle.ciel_journal.specs.History.{Event, OpenStart, Save, Standing, before_all, find_open, last_save, lost, missed, order_of, stack_of, standing, start}
+use Rattle.ciel_journal.specs.History.{Event, OpenStart, Save, Standing, before_all, find_open, last_save, lost, missed, order_of, stack_of, standing}
+use Rattle.ciel_journal.specs.History.{start}
 use Rattle.ciel_journal.specs.Job.{Digest, In, Task, of, show}
 use Rattle.ciel_journal.specs.Lawful as lawful
 use Rattle.ciel_journal.specs.Lawful.{FetchedFrom, HeldAt, Lawful, NoClash, least}
@@ -36,11 +38,13 @@ spot_named : {P : Type 0} (n : Digest) (xs : List (Brought P)) (q : Spot P) → 
 spot_named n [] q e = cc
 spot_named n (x ∷ xs) q e = pick (bool_cases (same_text n x.name)) (spot_named n xs q)
   where
-    pick : ((same_text n x.name ≡ true) ⊎ (same_text n x.name ≡ false)) → (spot_of n xs ≡ Some q → In n (brought_names xs)) → In n (x.name ∷ brought_names xs)
+    pick : ((same_text n x.name ≡ true) ⊎ (same_text n x.name ≡ false)) → (spot_of n xs ≡ Some q → In n (brought_names xs))
+        → In n (x.name ∷ brought_names xs)
     pick (inl t) r = inl (exact_text n x.name t)
     pick (inr f) r = inr (r (sym (ap (λ b. cond b (Some x.spot) (spot_of n xs)) f) ∙ e))
 
-module _ {D P B : Type 0} (s : Setting D P B) (is : IsSetting s) (h : List (Event D)) (b : Board P) (sound : Sound s.digest s.at b) (f : Follows s h b) where
+module _ {D P B : Type 0} (s : Setting D P B) (is : IsSetting s) (h : List (Event D)) (b : Board P) (sound : Sound s.digest s.at b)
+    (f : Follows s h b) where
   abbrev v : Standing D
   v = standing s.job h
 
@@ -48,7 +52,8 @@ module _ {D P B : Type 0} (s : Setting D P B) (is : IsSetting s) (h : List (Even
   own_is show = f.stands.main
   own_is (of d) = refl
 
-  module _ (x : Order P) (o : OpenStart D) (k : ℕ) (is_out : find_order k b.orders ≡ Some x.out) (is_open : find_open s.job k v.orders ≡ Some o) (order : OrderIs s o x) where
+  module _ (x : Order P) (o : OpenStart D) (k : ℕ) (is_out : find_order k b.orders ≡ Some x.out) (is_open : find_open s.job k v.orders ≡ Some o)
+      (order : OrderIs s o x) where
     open_in : In o v.orders
     open_in = (found_in s.job is.laws k v.orders o is_open).0
 
@@ -56,7 +61,8 @@ module _ {D P B : Type 0} (s : Setting D P B) (is : IsSetting s) (h : List (Even
     not_own : (w : ℕ) → list_any (nat_eq w) b.table.gone ≡ true → o.worker ≡ w → ⊥
     not_own w l e =
         let here = (each_of (OrderSound b) x.out b.orders (order_in k b.orders x.out is_out) sound.orders).here in
-        let there : list_any (nat_eq x.out.worker) b.table.gone ≡ true = subst (λ z. list_any (nat_eq z) b.table.gone ≡ true) (sym (order.out.worker ∙ e)) l in
+        let there : list_any (nat_eq x.out.worker) b.table.gone ≡ true =
+        subst (λ z. list_any (nat_eq z) b.table.gone ≡ true) (sym (order.out.worker ∙ e)) l in
         let bad : true ≡ false = sym there ∙ here in
         cc
 
@@ -70,20 +76,25 @@ module _ {D P B : Type 0} (s : Setting D P B) (is : IsSetting s) (h : List (Even
 
     lawful_then : Lawful s.job b.plan before
     lawful_then =
-        (lawful_split s.job b.plan (before_all s.job) before (start o.number o.worker o.task o.from ∷ (began s.job h o open_in).rest) (subst (Lawful s.job b.plan) (began s.job h o open_in).whole f.lawful)).0
+        (lawful_split s.job b.plan (before_all s.job) before (start o.number o.worker o.task o.from ∷ (began s.job h o open_in).rest)
+        (subst (Lawful s.job b.plan) (began s.job h o open_in).whole f.lawful)).0
 
     not_gone : (w : ℕ) → (In w (standing s.job before).gone → ⊥) → list_any (nat_eq w) o.gone ≡ false
     not_gone w n =
-        subst (λ (q : OpenStart D). list_any (nat_eq w) q.gone ≡ false) (sym stood) (pick (bool_cases (list_any (nat_eq w) (standing s.job before).gone)))
+        subst (λ (q : OpenStart D). list_any (nat_eq w) q.gone ≡ false) (sym stood)
+        (pick (bool_cases (list_any (nat_eq w) (standing s.job before).gone)))
       where
-        pick : ((list_any (nat_eq w) (standing s.job before).gone ≡ true) ⊎ (list_any (nat_eq w) (standing s.job before).gone ≡ false)) → list_any (nat_eq w) (standing s.job before).gone ≡ false
+        pick : ((list_any (nat_eq w) (standing s.job before).gone ≡ true) ⊎ (list_any (nat_eq w) (standing s.job before).gone ≡ false))
+            → list_any (nat_eq w) (standing s.job before).gone ≡ false
         pick (inl t) = absurd (n (any_in nat_eq (λ a c e. eqb-true a c e) w (standing s.job before).gone t))
         pick (inr g) = g
 
     -- who had an object then wasn't lost
     had_here : (d : D) (w : ℕ) → list_any (nat_eq w) (o.had d) ≡ true → list_any (nat_eq w) o.gone ≡ false
     had_here d w t =
-        let i : In w ((standing s.job before).places d) = any_in nat_eq (λ a c e. eqb-true a c e) w ((standing s.job before).places d) (subst (λ (q : OpenStart D). list_any (nat_eq w) (q.had d) ≡ true) stood t) in
+        let i : In w ((standing s.job before).places d) =
+        any_in nat_eq (λ a c e. eqb-true a c e) w ((standing s.job before).places d)
+        (subst (λ (q : OpenStart D). list_any (nat_eq w) (q.had d) ≡ true) stood t) in
         let live = (placed_text s.job is.laws b.plan before lawful_then d w).0 i in
         not_gone w (λ j. live.1 ((gone_told s.job before w).0 j))
 
@@ -92,7 +103,10 @@ module _ {D P B : Type 0} (s : Setting D P B) (is : IsSetting s) (h : List (Even
     stack_here w e =
         pick (last_cases s.job is.laws s.inner is.knows o.task (standing s.job before).saves) (sym (ap (λ (q : OpenStart D). q.stack) stood) ∙ e)
       where
-        pick : ((last_save s.job o.task (standing s.job before).saves ≡ None) ⊎ ((q : Save D) × In q (standing s.job before).saves × (q.task ≡ o.task) × (last_save s.job o.task (standing s.job before).saves ≡ Some q))) → stack_of s.job (last_save s.job o.task (standing s.job before).saves) ≡ Some w → list_any (nat_eq w) o.gone ≡ false
+        pick : ((last_save s.job o.task (standing s.job before).saves ≡ None)
+            ⊎ ((q : Save D) × In q (standing s.job before).saves × (q.task ≡ o.task)
+            × (last_save s.job o.task (standing s.job before).saves ≡ Some q)))
+            → stack_of s.job (last_save s.job o.task (standing s.job before).saves) ≡ Some w → list_any (nat_eq w) o.gone ≡ false
         pick (inl n) g = let bad : None ≡ Some w = sym (ap (stack_of s.job) n) ∙ g in cc
         pick (inr q) g =
             let a : Some q.0.worker ≡ Some w = sym (ap (stack_of s.job) q.3) ∙ g in
@@ -116,22 +130,32 @@ module _ {D P B : Type 0} (s : Setting D P B) (is : IsSetting s) (h : List (Even
       where
         fetched : (d : D) → HeldAt s.job o.task o.from d → name ≡ s.job.name d → FetchedFrom s.job o d (s.at place) → Lacks name (s.at place)
         fetched d k n g =
-            record { what = d; named = sym n; not_before = had_here d (s.at place) (least_has s.job is.laws (o.had d) (s.at place) g.0); reason = inl (k, g) }
+            record {
+              what = d;
+              named = sym n;
+              not_before = had_here d (s.at place) (least_has s.job is.laws (o.had d) (s.at place) g.0);
+              reason =
+                  inl (k, g);
+            }
 
-        from : (d : D) → HeldAt s.job o.task o.from d → name ≡ s.job.name d → ((list_any (nat_eq o.worker) (o.had d) ≡ true) ⊎ (list_any (nat_eq o.worker) (o.had d) ≡ false)) → worker_for s.job o.worker (o.had d) ≡ Some (s.at place) → Lacks name (s.at place)
+        from : (d : D) → HeldAt s.job o.task o.from d → name ≡ s.job.name d
+            → ((list_any (nat_eq o.worker) (o.had d) ≡ true) ⊎ (list_any (nat_eq o.worker) (o.had d) ≡ false))
+            → worker_for s.job o.worker (o.had d) ≡ Some (s.at place) → Lacks name (s.at place)
         from d k n (inl t) g =
             let a : Some o.worker ≡ Some (s.at place) = sym (ap (λ c. cond c (Some o.worker) (least s.job (o.had d))) t) ∙ g in
             let c : o.worker ≡ s.at place = cc in
             absurd (other c)
         from d k n (inr t) g = fetched d k n (sym (ap (λ c. cond c (Some o.worker) (least s.job (o.had d))) t) ∙ g, t)
 
-        at : (d : D) → HeldAt s.job o.task o.from d → name ≡ s.job.name d → (u : Option ℕ) → worker_for s.job o.worker (o.had d) ≡ u → FetchedAt s d u (Some (shelf place)) → Lacks name (s.at place)
+        at : (d : D) → HeldAt s.job o.task o.from d → name ≡ s.job.name d → (u : Option ℕ) → worker_for s.job o.worker (o.had d) ≡ u
+            → FetchedAt s d u (Some (shelf place)) → Lacks name (s.at place)
         at d k n None g c = cc
         at d k n (Some w) g c =
             let a : place ≡ c.0 = cc in
             from d k n (bool_cases (list_any (nat_eq o.worker) (o.had d))) (g ∙ ap (λ z. Some z) (sym c.2 ∙ ap s.at (sym a)))
 
-        turn : (d : D) → HeldAt s.job o.task o.from d → name ≡ s.job.name d → spot_of (s.job.name d) x.inputs ≡ Some (shelf place) → Lacks name (s.at place)
+        turn : (d : D) → HeldAt s.job o.task o.from d → name ≡ s.job.name d → spot_of (s.job.name d) x.inputs ≡ Some (shelf place)
+            → Lacks name (s.at place)
         turn d k n g = pick (s.job.task_of d) (subst (BroughtFor s o d (s.job.task_of d)) g (order.inputs d k))
           where
             pick : (t : Option (Task D)) → BroughtFor s o d t (Some (shelf place)) → Lacks name (s.at place)
@@ -151,7 +175,8 @@ module _ {D P B : Type 0} (s : Setting D P B) (is : IsSetting s) (h : List (Even
     pub missed_follows : b.stopped ≡ false → (name : Digest) (loss : ℕ) → MissingFits s.digest s.at b x name loss → MissedAs s h b x.out name loss
     missed_follows going name loss fits = turn (pick fits.given)
       where
-        pick : ((spot_of name x.inputs ≡ Some (shelf fits.place)) ⊎ ((x.stack ≡ Some fits.place) × (name ≡ own_name s.digest s.at b.main x.out.task))) → Lacks name (s.at fits.place)
+        pick : ((spot_of name x.inputs ≡ Some (shelf fits.place))
+            ⊎ ((x.stack ≡ Some fits.place) × (name ≡ own_name s.digest s.at b.main x.out.task))) → Lacks name (s.at fits.place)
         pick (inl e) = object_lacks name fits.place e (not_own (s.at fits.place) fits.lost)
         pick (inr e) = stack_lacks name fits.place e.0 e.1
 
@@ -161,9 +186,24 @@ module _ {D P B : Type 0} (s : Setting D P B) (is : IsSetting s) (h : List (Even
         turn : Lacks name (s.at fits.place) → MissedAs s h b x.out name loss
         turn l =
             let now = after_missed s.job is.laws v k l.what loss o is_open in
-            let stays : Follows s (h ++ missed k l.what loss ∷ []) (missed_at s.digest b x.out name loss) = goes_on s is h b sound f (missed k l.what loss) (missed_at s.digest b x.out name loss) refl (ap (λ n. b.journal ++ Entry.Missed n name loss ∷ []) (sym number) ∙ ap (λ n. b.journal ++ Entry.Missed k n loss ∷ []) (sym l.named)) (record {
+            let stays : Follows s (h ++ missed k l.what loss ∷ []) (missed_at s.digest b x.out name loss) =
+            goes_on s is h b sound f (missed k l.what loss) (missed_at s.digest b x.out name loss) refl
+            (ap (λ n. b.journal ++ Entry.Missed n name loss ∷ []) (sym number)
+            ∙ ap (λ n. b.journal ++ Entry.Missed k n loss ∷ []) (sym l.named)) (record {
               going = f.stands.going going;
-              allowed = (o, is_open, record { worker = s.at fits.place; planned = fits.planned; since = subst (λ gs. list_any (nat_eq (s.at fits.place)) gs ≡ true) f.stands.gone fits.lost; not_before = l.not_before; reason = l.reason });
+              allowed = (
+                o,
+                is_open,
+                record {
+                  worker = s.at fits.place;
+                  planned = fits.planned;
+                  since =
+                      subst (λ gs. list_any (nat_eq (s.at fits.place)) gs ≡ true) f.stands.gone fits.lost;
+                  not_before = l.not_before;
+                  reason =
+                      l.reason;
+                },
+              );
               room = subst (λ (u : Standing D). length u.book ≤ b.plan.limit) (sym now) (book_room s is h b sound f);
               apart = subst (λ (u : Standing D). NoClash s.job u.book) (sym now) (apart s is h b sound f);
             }) (subst (λ u. StandsFor s u (missed_at s.digest b x.out name loss)) (sym now) (record {
@@ -171,10 +211,17 @@ module _ {D P B : Type 0} (s : Setting D P B) (is : IsSetting s) (h : List (Even
               main = f.stands.main;
               rows = f.stands.rows;
               waits = f.stands.waits;
-              orders = subst (λ n. OneByOne (OutIs s) (filter (λ (q : OpenStart D). not (nat_eq k q.number)) v.orders) (without n b.orders)) number (filtered (OutIs s) (λ (q : OpenStart D). not (nat_eq k q.number)) (λ (y : OrderOut). not (nat_eq k y.number)) (λ q y e. ap (λ n. not (nat_eq k n)) (sym e.number)) v.orders b.orders f.stands.orders);
+              orders = subst (λ n. OneByOne (OutIs s) (filter (λ (q : OpenStart D). not (nat_eq k q.number)) v.orders) (without n b.orders))
+                  number (filtered (OutIs s) (λ (q : OpenStart D). not (nat_eq k q.number)) (λ (y : OrderOut). not (nat_eq k y.number))
+                  (λ q y e. ap (λ n. not (nat_eq k n)) (sym e.number)) v.orders b.orders f.stands.orders);
               gone = f.stands.gone;
               starts = f.stands.starts;
               closes = ap (λ n. n + 1) f.stands.closes;
               going = f.stands.going;
             })) in
-            record { what = l.what; is = l.named; follows = subst (λ n. Follows s (h ++ missed n l.what loss ∷ []) (missed_at s.digest b x.out name loss)) number stays }
+            record {
+              what = l.what;
+              is = l.named;
+              follows =
+                  subst (λ n. Follows s (h ++ missed n l.what loss ∷ []) (missed_at s.digest b x.out name loss)) number stays;
+            }

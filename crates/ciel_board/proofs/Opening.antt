@@ -12,7 +12,8 @@ use Rattle.ciel_board.specs.Reports.{IsNamed, named_view}
 use Rattle.ciel_board.specs.Setting.{IsSetting, Setting}
 
 module _ {D P B : Type 0} (s : Setting D P B) (is : IsSetting s) where
-  pub opened_follows : (p : Plan) (main : Named) → IsNamed s.digest main → s.lower s.job.main ≡ named_view main → Follows s [] (opened s.digest p s.keys main)
+  pub opened_follows : (p : Plan) (main : Named) → IsNamed s.digest main → s.lower s.job.main ≡ named_view main
+      → Follows s [] (opened s.digest p s.keys main)
   opened_follows p main named e =
       record {
         lawful = tt;

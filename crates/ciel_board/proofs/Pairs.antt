@@ -18,13 +18,15 @@ module _ {A C : Type 0} (R : A → C → Type 0) where
   long (x ∷ xs) (y ∷ ys) h = ap (λ n. suc n) (long xs ys h.1)
 
   -- what passes tests that agree
-  pub filtered : (p : A → Bool) (q : C → Bool) → ((x : A) (y : C) → R x y → p x ≡ q y) → (xs : List A) (ys : List C) → OneByOne R xs ys → OneByOne R (filter p xs) (filter q ys)
+  pub filtered : (p : A → Bool) (q : C → Bool) → ((x : A) (y : C) → R x y → p x ≡ q y) → (xs : List A) (ys : List C) → OneByOne R xs ys
+      → OneByOne R (filter p xs) (filter q ys)
   filtered p q e [] [] h = tt
   filtered p q e [] (y ∷ ys) h = absurd h
   filtered p q e (x ∷ xs) [] h = absurd h
   filtered p q e (x ∷ xs) (y ∷ ys) h = pick (p x) (q y) (e x y h.0) (filtered p q e xs ys h.1)
     where
-      pick : (b c : Bool) → b ≡ c → OneByOne R (filter p xs) (filter q ys) → OneByOne R (cond b (x ∷ filter p xs) (filter p xs)) (cond c (y ∷ filter q ys) (filter q ys))
+      pick : (b c : Bool) → b ≡ c → OneByOne R (filter p xs) (filter q ys)
+          → OneByOne R (cond b (x ∷ filter p xs) (filter p xs)) (cond c (y ∷ filter q ys) (filter q ys))
       pick true true s r = (h.0, r)
       pick true false s r = cc
       pick false true s r = cc
@@ -53,7 +55,8 @@ module _ {A C : Type 0} (R : A → C → Type 0) where
 
 module _ {A C : Type 0} (R Q : A → C → Type 0) where
   -- what holds of each two more, where the second ones are changed
-  pub mapped : (f : C → C) → (xs : List A) (ys : List C) → ((x : A) (y : C) → In x xs → R x y → Q x (f y)) → OneByOne R xs ys → OneByOne Q xs (map f ys)
+  pub mapped : (f : C → C) → (xs : List A) (ys : List C) → ((x : A) (y : C) → In x xs → R x y → Q x (f y)) → OneByOne R xs ys
+      → OneByOne Q xs (map f ys)
   mapped f [] [] g h = tt
   mapped f [] (y ∷ ys) g h = absurd h
   mapped f (x ∷ xs) [] g h = absurd h
@@ -85,7 +88,8 @@ module _ {A : Type 0} where
       there : (b : Bool) → q x ≡ b → filter q (x ∷ filter p xs) ≡ cond b (x ∷ filter q (filter p xs)) (filter q (filter p xs))
       there b e = ap (λ c. cond c (x ∷ filter q (filter p xs)) (filter q (filter p xs))) e
 
-      pick : (b c : Bool) → p x ≡ b → q x ≡ c → filter p (filter q xs) ≡ filter q (filter p xs) → filter p (cond c (x ∷ filter q xs) (filter q xs)) ≡ filter q (cond b (x ∷ filter p xs) (filter p xs))
+      pick : (b c : Bool) → p x ≡ b → q x ≡ c → filter p (filter q xs) ≡ filter q (filter p xs)
+          → filter p (cond c (x ∷ filter q xs) (filter q xs)) ≡ filter q (cond b (x ∷ filter p xs) (filter p xs))
       pick true true e f r = here true e ∙ (ap (λ zs. x ∷ zs) r ∙ sym (there true f))
       pick true false e f r = r ∙ sym (there false f)
       pick false true e f r = here false e ∙ r
@@ -95,6 +99,7 @@ module _ {A : Type 0} where
   filter_join p [] ys = refl
   filter_join p (x ∷ xs) ys = pick (p x) (filter_join p xs ys)
     where
-      pick : (b : Bool) → filter p (xs ++ ys) ≡ filter p xs ++ filter p ys → cond b (x ∷ filter p (xs ++ ys)) (filter p (xs ++ ys)) ≡ cond b (x ∷ filter p xs) (filter p xs) ++ filter p ys
+      pick : (b : Bool) → filter p (xs ++ ys) ≡ filter p xs ++ filter p ys → cond b (x ∷ filter p (xs ++ ys)) (filter p (xs ++ ys))
+          ≡ cond b (x ∷ filter p xs) (filter p xs) ++ filter p ys
       pick true r = ap (λ zs. x ∷ zs) r
       pick false r = r

@@ -54,11 +54,14 @@ module _ {D P B : Type 0} (s : Setting D P B) (is : IsSetting s) where
   abbrev with : D → ℕ → (D → List ℕ) → D → List ℕ
   with e w f d = cond (s.job.same e d) (f d ++ w ∷ []) (f d)
 
-  here_row : (f : D → List ℕ) (e : D) (w : ℕ) (p : P) (r : Row P) → s.at p ≡ w → HasObject s p e → RowIs s f e r → RowIs s (with e w f) e (row_with p r)
+  here_row : (f : D → List ℕ) (e : D) (w : ℕ) (p : P) (r : Row P) → s.at p ≡ w → HasObject s p e → RowIs s f e r
+      → RowIs s (with e w f) e (row_with p r)
   here_row f e w p r a k q =
       record {
         spells = q.spells;
-        places = map-append s.at r.places (p ∷ []) ∙ (ap (λ xs. xs ++ s.at p ∷ []) q.places ∙ (ap (λ n. f e ++ n ∷ []) a ∙ ap (λ b. cond b (f e ++ w ∷ []) (f e)) (sym (is.laws.same_refl e))));
+        places = map-append s.at r.places (p ∷ [])
+            ∙ (ap (λ xs. xs ++ s.at p ∷ []) q.places
+            ∙ (ap (λ n. f e ++ n ∷ []) a ∙ ap (λ b. cond b (f e ++ w ∷ []) (f e)) (sym (is.laws.same_refl e))));
         objects = all_push (λ z. HasObject s z e) r.places p q.objects k;
       }
 
@@ -78,7 +81,9 @@ module _ {D P B : Type 0} (s : Setting D P B) (is : IsSetting s) where
       pick (inr f) = f
 
   -- one more place of e
-  place_one : (f : D → List ℕ) (e : D) (w : ℕ) (p : P) (n : Digest) → s.at p ≡ w → HasObject s p e → n ≡ s.job.name e → (past ds : List D) (rs : List (Row P)) → Once past ds → ((d : D) → In d ds → s.job.name d ≡ s.job.name e → d ≡ e) → AllByRecursion (Titled s is) rs → OneByOne (RowIs s f) ds rs → OneByOne (RowIs s (with e w f)) ds (changed row_name (row_with p) n rs)
+  place_one : (f : D → List ℕ) (e : D) (w : ℕ) (p : P) (n : Digest) → s.at p ≡ w → HasObject s p e → n ≡ s.job.name e
+      → (past ds : List D) (rs : List (Row P)) → Once past ds → ((d : D) → In d ds → s.job.name d ≡ s.job.name e → d ≡ e)
+      → AllByRecursion (Titled s is) rs → OneByOne (RowIs s f) ds rs → OneByOne (RowIs s (with e w f)) ds (changed row_name (row_with p) n rs)
   place_one f e w p n a k m past [] [] o apart t h = tt
   place_one f e w p n a k m past [] (r ∷ rs) o apart t h = absurd h
   place_one f e w p n a k m past (d ∷ ds) [] o apart t h = absurd h
@@ -88,15 +93,22 @@ module _ {D P B : Type 0} (s : Setting D P B) (is : IsSetting s) where
       title : r.name ≡ s.job.name d
       title = row_title s is f d r h.0 t.0
 
-      turn : ((same_text n r.name ≡ true) ⊎ (same_text n r.name ≡ false)) → OneByOne (RowIs s (with e w f)) ds (changed row_name (row_with p) n rs) → OneByOne (RowIs s (with e w f)) (d ∷ ds) (cond (same_text n r.name) (row_with p r ∷ rs) (r ∷ changed row_name (row_with p) n rs))
+      turn : ((same_text n r.name ≡ true) ⊎ (same_text n r.name ≡ false))
+          → OneByOne (RowIs s (with e w f)) ds (changed row_name (row_with p) n rs)
+          → OneByOne (RowIs s (with e w f)) (d ∷ ds) (cond (same_text n r.name) (row_with p r ∷ rs) (r ∷ changed row_name (row_with p) n rs))
       turn (inl y) rest =
           let same : d ≡ e = apart d (inl refl) (sym title ∙ (sym (exact_text n r.name y) ∙ m)) in
-          let head : RowIs s (with e w f) d (row_with p r) = subst (λ x. RowIs s (with e w f) x (row_with p r)) (sym same) (here_row f e w p r a k (subst (λ x. RowIs s f x r) same h.0)) in
-          let tail : OneByOne (RowIs s (with e w f)) ds rs = more (RowIs s f) (RowIs s (with e w f)) ds rs (λ x z i q. other_row f e x w z (differ e x (λ g. once_not (d ∷ past) ds o.1 x i (inl (sym g ∙ sym same)))) q) h.1 in
-          subst (λ b. OneByOne (RowIs s (with e w f)) (d ∷ ds) (cond b (row_with p r ∷ rs) (r ∷ changed row_name (row_with p) n rs))) (sym y) (head, tail)
+          let head : RowIs s (with e w f) d (row_with p r) =
+          subst (λ x. RowIs s (with e w f) x (row_with p r)) (sym same) (here_row f e w p r a k (subst (λ x. RowIs s f x r) same h.0)) in
+          let tail : OneByOne (RowIs s (with e w f)) ds rs =
+          more (RowIs s f) (RowIs s (with e w f)) ds rs
+          (λ x z i q. other_row f e x w z (differ e x (λ g. once_not (d ∷ past) ds o.1 x i (inl (sym g ∙ sym same)))) q) h.1 in
+          subst (λ b. OneByOne (RowIs s (with e w f)) (d ∷ ds) (cond b (row_with p r ∷ rs) (r ∷ changed row_name (row_with p) n rs))) (sym y)
+          (head, tail)
       turn (inr y) rest =
           let head : RowIs s (with e w f) d r = other_row f e d w r (differ e d (λ g. clash g)) h.0 in
-          subst (λ b. OneByOne (RowIs s (with e w f)) (d ∷ ds) (cond b (row_with p r ∷ rs) (r ∷ changed row_name (row_with p) n rs))) (sym y) (head, rest)
+          subst (λ b. OneByOne (RowIs s (with e w f)) (d ∷ ds) (cond b (row_with p r ∷ rs) (r ∷ changed row_name (row_with p) n rs))) (sym y)
+          (head, rest)
         where
           clash : e ≡ d → ⊥
           clash g =
@@ -104,7 +116,8 @@ module _ {D P B : Type 0} (s : Setting D P B) (is : IsSetting s) where
               let bad : true ≡ false = sym z ∙ y in
               cc
 
-  titled_on : (p : P) (n : Digest) (rs : List (Row P)) → AllByRecursion (Titled s is) rs → AllByRecursion (Titled s is) (changed row_name (row_with p) n rs)
+  titled_on : (p : P) (n : Digest) (rs : List (Row P)) → AllByRecursion (Titled s is) rs
+      → AllByRecursion (Titled s is) (changed row_name (row_with p) n rs)
   titled_on p n rs t = all_changed row_name (Titled s is) (row_with p) n rs (λ r f k. k) t
 
   module _ (book : List D) (once : Once [] book) (apart : NoClash s.job book) (w : ℕ) where
@@ -119,14 +132,18 @@ module _ {D P B : Type 0} (s : Setting D P B) (is : IsSetting s) where
     abbrev Pairs : List (D × Digest) → List (Output P) → Type 0
     Pairs as_ ms = OneByOne (λ (a : D × Digest) (m : Output P). IsOutput a.0 m) as_ ms
 
-    pub outputs_placed : (f : D → List ℕ) (t : TableSeen P) (as_ : List (D × Digest)) (ms : List (Output P)) → made_keys ms ≡ low_made s.job as_ → Pairs as_ ms → AllByRecursion (Titled s is) t.rows → OneByOne (RowIs s f) book t.rows → OneByOne (RowIs s (placed s.job (names_of as_) w f)) book (with_outputs ms t).rows × AllByRecursion (Titled s is) (with_outputs ms t).rows
+    pub outputs_placed : (f : D → List ℕ) (t : TableSeen P) (as_ : List (D × Digest)) (ms : List (Output P)) → made_keys ms ≡ low_made s.job as_
+        → Pairs as_ ms → AllByRecursion (Titled s is) t.rows → OneByOne (RowIs s f) book t.rows
+        → OneByOne (RowIs s (placed s.job (names_of as_) w f)) book (with_outputs ms t).rows
+        × AllByRecursion (Titled s is) (with_outputs ms t).rows
     outputs_placed f t [] [] e k l h = (h, l)
     outputs_placed f t [] (m ∷ ms) e k l h = absurd k
     outputs_placed f t (a ∷ as_) [] e k l h = absurd k
     outputs_placed f t (a ∷ as_) (m ∷ ms) e k l h =
         let n : m.name ≡ s.job.name a.0 = ap (λ (z : Digest × Digest). z.0) (first e) in
         let rest : made_keys ms ≡ low_made s.job as_ = cc in
-        outputs_placed (with a.0 w f) (c.placed m.name m.place t) as_ ms rest k.1 (titled_on m.place m.name t.rows l) (place_one f a.0 w m.place m.name k.0.here k.0.object n [] book t.rows once (λ d i q. apart d a.0 i k.0.known q) l h)
+        outputs_placed (with a.0 w f) (c.placed m.name m.place t) as_ ms rest k.1 (titled_on m.place m.name t.rows l)
+        (place_one f a.0 w m.place m.name k.0.here k.0.object n [] book t.rows once (λ d i q. apart d a.0 i k.0.known q) l h)
       where
         first : {A : Type 0} {x y : A} {xs ys : List A} → x ∷ xs ≡ y ∷ ys → x ≡ y
         first e = cc
@@ -138,11 +155,14 @@ module _ {D P B : Type 0} (s : Setting D P B) (is : IsSetting s) where
       pub here : s.at x.place ≡ w
       pub object : HasObject s x.place d
 
-    pub copies_placed : (f : D → List ℕ) (t : TableSeen P) (ds : List D) (xs : List (Copy P)) → copy_names xs ≡ low_names s.job ds → OneByOne IsCopy ds xs → AllByRecursion (Titled s is) t.rows → OneByOne (RowIs s f) book t.rows → OneByOne (RowIs s (placed s.job ds w f)) book (with_copies xs t).rows
+    pub copies_placed : (f : D → List ℕ) (t : TableSeen P) (ds : List D) (xs : List (Copy P)) → copy_names xs ≡ low_names s.job ds
+        → OneByOne IsCopy ds xs → AllByRecursion (Titled s is) t.rows → OneByOne (RowIs s f) book t.rows
+        → OneByOne (RowIs s (placed s.job ds w f)) book (with_copies xs t).rows
     copies_placed f t [] [] e k l h = h
     copies_placed f t [] (x ∷ xs) e k l h = absurd k
     copies_placed f t (d ∷ ds) [] e k l h = absurd k
     copies_placed f t (d ∷ ds) (x ∷ xs) e k l h =
         let n : x.name ≡ s.job.name d = cc in
         let rest : copy_names xs ≡ low_names s.job ds = cc in
-        copies_placed (with d w f) (c.placed x.name x.place t) ds xs rest k.1 (titled_on x.place x.name t.rows l) (place_one f d w x.place x.name k.0.here k.0.object n [] book t.rows once (λ y i q. apart y d i k.0.known q) l h)
+        copies_placed (with d w f) (c.placed x.name x.place t) ds xs rest k.1 (titled_on x.place x.name t.rows l)
+        (place_one f d w x.place x.name k.0.here k.0.object n [] book t.rows once (λ y i q. apart y d i k.0.known q) l h)

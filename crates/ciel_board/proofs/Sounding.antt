@@ -1,5 +1,6 @@
 -- Each call keeps what holds of the master's state by names.
-use Rattle.std.proofs.Common.{◌≡◌, ℕ, zero, suc, ◌+◌, ◌≤◌, ◌<◌, List, [], ◌∷◌, ◌++◌, length, Bool, true, false, not, cond, ◌&&◌, map, filter, nat_eq, nat_lt, eq-eqb, Option, Some, None, IsSome, ◌⊎◌, inl, inr, refl, ap, sym, ◌∙◌, subst, arith}
+use Rattle.std.proofs.Common.{◌≡◌, ℕ, zero, suc, ◌+◌, ◌≤◌, ◌<◌, List, [], ◌∷◌, ◌++◌, length, Bool, true, false, not, cond, ◌&&◌, map, filter, nat_eq}
+use Rattle.std.proofs.Common.{nat_lt, eq-eqb, Option, Some, None, IsSome, ◌⊎◌, inl, inr, refl, ap, sym, ◌∙◌, subst, arith}
 use Rattle.std.specs.List.{AllByRecursion, list_any}
 use Rattle.std.specs.Option.{option_and_then, option_map}
 use Rattle.std.proofs.lemmas.Bool.{ltb-true, ltb-false}
@@ -76,7 +77,9 @@ module _ {P : Type 0} where
       back None k = cc
       back (Some i) k = refl
 
-      pick : (b : Bool) (o : Option ℕ) → place_of row_name n xs ≡ o → IsSome (cond b (Some 0) (option_map suc (place_of row_name n xs))) → (IsSome (place_of row_name n xs) → IsSome (place_of row_name n (xs ++ r ∷ []))) → IsSome (cond b (Some 0) (option_map suc (place_of row_name n (xs ++ r ∷ []))))
+      pick : (b : Bool) (o : Option ℕ) → place_of row_name n xs ≡ o → IsSome (cond b (Some 0) (option_map suc (place_of row_name n xs)))
+          → (IsSome (place_of row_name n xs) → IsSome (place_of row_name n (xs ++ r ∷ [])))
+          → IsSome (cond b (Some 0) (option_map suc (place_of row_name n (xs ++ r ∷ []))))
       pick true o e k f = refl
       pick false o e k f = some (place_of row_name n (xs ++ r ∷ [])) (f (back (place_of row_name n xs) k))
 
@@ -93,7 +96,8 @@ module _ {P : Type 0} where
 
   -- ---- what is sound stays sound
 
-  row_kept : (digest : List ℕ → List ℕ) (t u : TableSeen P) → Keeps t u → (r : Row P) (ps : List P) → RowSound digest t r → RowSound digest u (record r { places = ps })
+  row_kept : (digest : List ℕ → List ℕ) (t u : TableSeen P) → Keeps t u → (r : Row P) (ps : List P) → RowSound digest t r
+      → RowSound digest u (record r { places = ps })
   row_kept digest t u k r ps a =
       record {
         name = a.name;
@@ -103,7 +107,8 @@ module _ {P : Type 0} where
         own = k (digested digest (first_output (desc_view r.desc))) a.own;
       }
 
-  rows_kept : (digest : List ℕ → List ℕ) (t u : TableSeen P) → Keeps t u → (rs : List (Row P)) → AllByRecursion (RowSound digest t) rs → AllByRecursion (RowSound digest u) rs
+  rows_kept : (digest : List ℕ → List ℕ) (t u : TableSeen P) → Keeps t u → (rs : List (Row P)) → AllByRecursion (RowSound digest t) rs
+      → AllByRecursion (RowSound digest u) rs
   rows_kept digest t u k rs a = all_more (RowSound digest t) (RowSound digest u) (λ r q. row_kept digest t u k r r.places q) rs a
 
   wait_kept : (t u : TableSeen P) → Keeps t u → (w : Wait P) → WaitSound t w → WaitSound u w
@@ -119,7 +124,8 @@ module _ {P : Type 0} where
   saved_kept t u k qs a = all_more (SavesSound t) (SavesSound u) (saves_kept t u k) qs a
 
   -- rows after learning, by what holds of the new ones
-  learned_rows : (Q : Row P → Type 0) (digest : List ℕ → List ℕ) (ns : List Named) (t : TableSeen P) → AllByRecursion Q t.rows → Each (λ (n : Named). Q (new_row digest n)) ns → AllByRecursion Q (learned_all digest ns t).rows
+  learned_rows : (Q : Row P → Type 0) (digest : List ℕ → List ℕ) (ns : List Named) (t : TableSeen P) → AllByRecursion Q t.rows
+      → Each (λ (n : Named). Q (new_row digest n)) ns → AllByRecursion Q (learned_all digest ns t).rows
   learned_rows Q digest [] t a e = a
   learned_rows Q digest (n ∷ ns) t a e = learned_rows Q digest ns (learned digest n t) (pick (comes digest n t)) e.1
     where
@@ -133,13 +139,19 @@ module _ {P : Type 0} where
     pub shown : AllByRecursion (WaitSound t) t.shown
     pub saved : AllByRecursion (SavesSound t) t.saved
 
-  pub learned_whole : (digest : List ℕ → List ℕ) (ns : List Named) (t : TableSeen P) → Whole' digest t → Each (IsNamed digest) ns → Each (λ (n : Named). AllKnown (learned_all digest ns t) (start_refs n.desc)) ns → Each (λ (n : Named). Known (learned_all digest ns t) (digested digest (first_output (desc_view n.desc)))) ns → Whole' digest (learned_all digest ns t)
+  pub learned_whole : (digest : List ℕ → List ℕ) (ns : List Named) (t : TableSeen P) → Whole' digest t → Each (IsNamed digest) ns
+      → Each (λ (n : Named). AllKnown (learned_all digest ns t) (start_refs n.desc)) ns
+      → Each (λ (n : Named). Known (learned_all digest ns t) (digested digest (first_output (desc_view n.desc)))) ns
+      → Whole' digest (learned_all digest ns t)
   learned_whole digest ns t w named inside own =
       let u = learned_all digest ns t in
       let k = all_keeps digest ns t in
       let g = grown digest ns t in
       record {
-        rows = learned_rows (RowSound digest u) digest ns t (rows_kept digest t u k t.rows w.rows) (each_three (IsNamed digest) (λ (n : Named). AllKnown u (start_refs n.desc)) (λ (n : Named). Known u (digested digest (first_output (desc_view n.desc)))) (λ (n : Named). RowSound digest u (new_row digest n)) (λ n a i o. record { name = a.name; task = refl; spelled = a.spelled; inside = i; own = o }) ns named inside own);
+        rows = learned_rows (RowSound digest u) digest ns t (rows_kept digest t u k t.rows w.rows)
+            (each_three (IsNamed digest) (λ (n : Named). AllKnown u (start_refs n.desc))
+            (λ (n : Named). Known u (digested digest (first_output (desc_view n.desc)))) (λ (n : Named). RowSound digest u (new_row digest n))
+            (λ n a i o. record { name = a.name; task = refl; spelled = a.spelled; inside = i; own = o }) ns named inside own);
         shown = subst (AllByRecursion (WaitSound u)) (sym g.shown) (waits_kept t u k t.shown w.shown);
         saved = subst (AllByRecursion (SavesSound u)) (sym g.saved) (saved_kept t u k t.saved w.saved);
       }
@@ -153,31 +165,37 @@ module _ {P : Type 0} where
       let u = c.placed n p t in
       let k = placed_keeps n p t in
       record {
-        rows = all_changed row_name (RowSound digest u) (row_with p) n t.rows (λ r f a. row_kept digest u u (λ m j. j) r (r.places ++ p ∷ []) a) (rows_kept digest t u k t.rows w.rows);
+        rows = all_changed row_name (RowSound digest u) (row_with p) n t.rows (λ r f a. row_kept digest u u (λ m j. j) r (r.places ++ p ∷ []) a)
+            (rows_kept digest t u k t.rows w.rows);
         shown = waits_kept t u k t.shown w.shown;
         saved = saved_kept t u k t.saved w.saved;
       }
 
-  pub outputs_whole : (digest : List ℕ → List ℕ) (ms : List (Output P)) (t : TableSeen P) → Whole' digest t → Whole' digest (with_outputs ms t) × Keeps t (with_outputs ms t) × (length (with_outputs ms t).rows ≡ length t.rows)
+  pub outputs_whole : (digest : List ℕ → List ℕ) (ms : List (Output P)) (t : TableSeen P) → Whole' digest t → Whole' digest (with_outputs ms t)
+      × Keeps t (with_outputs ms t) × (length (with_outputs ms t).rows ≡ length t.rows)
   outputs_whole digest [] t w = (w, λ n k. k, refl)
   outputs_whole digest (m ∷ ms) t w =
       let r = outputs_whole digest ms (c.placed m.name m.place t) (placed_whole digest m.name m.place t w) in
       (r.0, λ n k. r.1 n (placed_keeps m.name m.place t n k), r.2 ∙ length_changed row_name (row_with m.place) m.name t.rows)
 
-  pub copies_whole : (digest : List ℕ → List ℕ) (xs : List (Copy P)) (t : TableSeen P) → Whole' digest t → Whole' digest (with_copies xs t) × Keeps t (with_copies xs t) × (length (with_copies xs t).rows ≡ length t.rows)
+  pub copies_whole : (digest : List ℕ → List ℕ) (xs : List (Copy P)) (t : TableSeen P) → Whole' digest t → Whole' digest (with_copies xs t)
+      × Keeps t (with_copies xs t) × (length (with_copies xs t).rows ≡ length t.rows)
   copies_whole digest [] t w = (w, λ n k. k, refl)
   copies_whole digest (x ∷ xs) t w =
       let r = copies_whole digest xs (c.placed x.name x.place t) (placed_whole digest x.name x.place t w) in
       (r.0, λ n k. r.1 n (placed_keeps x.name x.place t n k), r.2 ∙ length_changed row_name (row_with x.place) x.name t.rows)
 
   -- a saved wait more
-  save_whole : (t : TableSeen P) (n : List ℕ) (w : Wait P) (qs : List (Saves P)) (o : Option (Saves P)) → found saves_name n qs ≡ o → Known t n → WaitSound t w → AllByRecursion (SavesSound t) qs → AllByRecursion (SavesSound t) (c.save_at o n w qs)
+  save_whole : (t : TableSeen P) (n : List ℕ) (w : Wait P) (qs : List (Saves P)) (o : Option (Saves P)) → found saves_name n qs ≡ o → Known t n
+      → WaitSound t w → AllByRecursion (SavesSound t) qs → AllByRecursion (SavesSound t) (c.save_at o n w qs)
   save_whole t n w qs None e k a all =
       all_push (SavesSound t) qs (record { name = n; waits = w ∷ [] }) all (record { task = k; waits = (a, tt) })
   save_whole t n w qs (Some q) e k a all =
-      all_changed saves_name (SavesSound t) (c.saves_with w) n qs (λ x f y. record { task = y.task; waits = all_push (WaitSound t) x.waits w y.waits a }) all
+      all_changed saves_name (SavesSound t) (c.saves_with w) n qs
+      (λ x f y. record { task = y.task; waits = all_push (WaitSound t) x.waits w y.waits a }) all
 
-  pub saved_whole : (digest : List ℕ → List ℕ) (z : TaskId) (w : Wait P) (t : TableSeen P) → IsTask t z → WaitSound t w → Whole' digest t → Whole' digest (c.saved z w t)
+  pub saved_whole : (digest : List ℕ → List ℕ) (z : TaskId) (w : Wait P) (t : TableSeen P) → IsTask t z → WaitSound t w → Whole' digest t
+      → Whole' digest (c.saved z w t)
   saved_whole digest TaskId.Show w t k a h =
       let u = c.saved TaskId.Show w t in
       let j : Keeps t u = λ n i. i in
@@ -192,7 +210,8 @@ module _ {P : Type 0} where
       record {
         rows = rows_kept digest t u j t.rows h.rows;
         shown = waits_kept t u j t.shown h.shown;
-        saved = saved_kept t u j (c.save_at (found saves_name n t.saved) n w t.saved) (save_whole t n w t.saved (found saves_name n t.saved) refl k a h.saved);
+        saved = saved_kept t u j (c.save_at (found saves_name n t.saved) n w t.saved)
+            (save_whole t n w t.saved (found saves_name n t.saved) refl k a h.saved);
       }
 
 -- ---- saved waits and numbers
@@ -218,13 +237,17 @@ module _ {P : Type 0} where
               other true m = cc
               other false m = cc
 
-      pick : (o : Option (Wait P)) → latest ws ≡ o → AllByRecursion (λ (v : Wait P). v.j ≤ wait_number (latest ws)) ws → AllByRecursion (λ (v : Wait P). v.j ≤ wait_number (later w (latest ws))) (w ∷ ws)
+      pick : (o : Option (Wait P)) → latest ws ≡ o → AllByRecursion (λ (v : Wait P). v.j ≤ wait_number (latest ws)) ws
+          → AllByRecursion (λ (v : Wait P). v.j ≤ wait_number (later w (latest ws))) (w ∷ ws)
       pick None e h =
-          subst (λ o. AllByRecursion (λ (v : Wait P). v.j ≤ wait_number (later w o)) (w ∷ ws)) (sym e) (omega arith, subst (AllByRecursion (λ (v : Wait P). v.j ≤ w.j)) (sym (none ws e)) tt)
+          subst (λ o. AllByRecursion (λ (v : Wait P). v.j ≤ wait_number (later w o)) (w ∷ ws)) (sym e)
+          (omega arith, subst (AllByRecursion (λ (v : Wait P). v.j ≤ w.j)) (sym (none ws e)) tt)
       pick (Some u) e h =
-          subst (λ o. AllByRecursion (λ (v : Wait P). v.j ≤ wait_number (later w o)) (w ∷ ws)) (sym e) (turn (nat_lt u.j w.j) refl (subst (λ o. AllByRecursion (λ (v : Wait P). v.j ≤ wait_number o) ws) e h))
+          subst (λ o. AllByRecursion (λ (v : Wait P). v.j ≤ wait_number (later w o)) (w ∷ ws)) (sym e)
+          (turn (nat_lt u.j w.j) refl (subst (λ o. AllByRecursion (λ (v : Wait P). v.j ≤ wait_number o) ws) e h))
         where
-          turn : (b : Bool) → nat_lt u.j w.j ≡ b → AllByRecursion (λ (v : Wait P). v.j ≤ u.j) ws → AllByRecursion (λ (v : Wait P). v.j ≤ wait_number (cond b (Some w) (Some u))) (w ∷ ws)
+          turn : (b : Bool) → nat_lt u.j w.j ≡ b → AllByRecursion (λ (v : Wait P). v.j ≤ u.j) ws
+              → AllByRecursion (λ (v : Wait P). v.j ≤ wait_number (cond b (Some w) (Some u))) (w ∷ ws)
           turn true t k = let l = ltb-true u.j w.j t in (omega arith, up u.j w.j (omega (arith, l)) ws k)
           turn false t k = let l = ltb-false u.j w.j t in (omega (arith, l), k)
 
@@ -233,10 +256,13 @@ pub idle_in : (gone busy : List ℕ) (a n w : ℕ) → In w (idle_from gone busy
 idle_in gone busy a zero w i = absurd i
 idle_in gone busy a (suc n) w i = pick (is_idle gone busy a) refl i (idle_in gone busy (a + 1) n w)
   where
-    later : (In w (idle_from gone busy (a + 1) n) → (w < (a + 1) + n) × (is_idle gone busy w ≡ true)) → In w (idle_from gone busy (a + 1) n) → (w < a + suc n) × (is_idle gone busy w ≡ true)
+    later : (In w (idle_from gone busy (a + 1) n) → (w < (a + 1) + n) × (is_idle gone busy w ≡ true)) → In w (idle_from gone busy (a + 1) n)
+        → (w < a + suc n) × (is_idle gone busy w ≡ true)
     later r j = let q = r j in let l = q.0 in (omega (arith, l), q.1)
 
-    pick : (b : Bool) → is_idle gone busy a ≡ b → In w (cond b (a ∷ idle_from gone busy (a + 1) n) (idle_from gone busy (a + 1) n)) → (In w (idle_from gone busy (a + 1) n) → (w < (a + 1) + n) × (is_idle gone busy w ≡ true)) → (w < a + suc n) × (is_idle gone busy w ≡ true)
+    pick : (b : Bool) → is_idle gone busy a ≡ b → In w (cond b (a ∷ idle_from gone busy (a + 1) n) (idle_from gone busy (a + 1) n))
+        → (In w (idle_from gone busy (a + 1) n) → (w < (a + 1) + n) × (is_idle gone busy w ≡ true)) → (w < a + suc n)
+        × (is_idle gone busy w ≡ true)
     pick true e (inl s) r = (omega (arith, s), subst (λ x. is_idle gone busy x ≡ true) (sym s) e)
     pick true e (inr j) r = later r j
     pick false e j r = later r j
@@ -310,7 +336,8 @@ module _ {P : Type 0} (digest : List ℕ → List ℕ) (at : P → ℕ) where
 
   -- ---- a start
 
-  pub started_sound : (b : Board P) → Sound digest at b → (x : TaskId) (w : ℕ) → Runnable (board_graph b) x → In w (idle_of b) → Sound digest at (started at b x w)
+  pub started_sound : (b : Board P) → Sound digest at b → (x : TaskId) (w : ℕ) → Runnable (board_graph b) x → In w (idle_of b)
+      → Sound digest at (started at b x w)
   started_sound b s x w r i =
       record {
         limit = s.limit;
@@ -319,8 +346,10 @@ module _ {P : Type 0} (digest : List ℕ → List ℕ) (at : P → ℕ) where
         rows = s.rows;
         shown = s.shown;
         saved = s.saved;
-        orders = each_join (OrderSound (started at b x w)) b.orders ((order_for at b x w).out ∷ []) (each_more (OrderSound b) (OrderSound (started at b x w)) older b.orders s.orders) (newest, tt);
-        numbers = λ y z j k e. both (λ (q : OrderOut). q.number) s.numbers (λ q m f. let l = each_of (OrderSound b) q b.orders m s.orders in let n = l.number in omega (arith, n, f)) y z j k e;
+        orders = each_join (OrderSound (started at b x w)) b.orders ((order_for at b x w).out ∷ [])
+            (each_more (OrderSound b) (OrderSound (started at b x w)) older b.orders s.orders) (newest, tt);
+        numbers = λ y z j k e. both (λ (q : OrderOut). q.number) s.numbers
+            (λ q m f. let l = each_of (OrderSound b) q b.orders m s.orders in let n = l.number in omega (arith, n, f)) y z j k e;
         tasks = λ y z j k e. both (λ (q : OrderOut). q.task) s.tasks (λ q m f. not_out q m f) y z j k e;
         workers = λ y z j k e. both (λ (q : OrderOut). q.worker) s.workers (λ q m f. not_busy q m f) y z j k e;
       }
@@ -353,17 +382,22 @@ module _ {P : Type 0} (digest : List ℕ → List ℕ) (at : P → ℕ) where
 
       not_out : (q : OrderOut) → In q b.orders → q.task ≡ x → ⊥
       not_out q m f =
-          let t : is_in (tasks_out b.orders) x ≡ true = subst (λ z. is_in (tasks_out b.orders) z ≡ true) f (in_any same_id same_self q.task (tasks_out b.orders) (task_in b.orders q m)) in
+          let t : is_in (tasks_out b.orders) x ≡ true =
+          subst (λ z. is_in (tasks_out b.orders) z ≡ true) f (in_any same_id same_self q.task (tasks_out b.orders) (task_in b.orders q m)) in
           let bad : true ≡ false = sym t ∙ r.not_out in
           cc
 
       not_busy : (q : OrderOut) → In q b.orders → q.worker ≡ w → ⊥
       not_busy q m f =
-          let t : list_any (nat_eq w) (workers_out b.orders) ≡ true = subst (λ z. list_any (nat_eq z) (workers_out b.orders) ≡ true) f (in_any nat_eq (λ a. eq-eqb a a refl) q.worker (workers_out b.orders) (worker_in b.orders q m)) in
+          let t : list_any (nat_eq w) (workers_out b.orders) ≡ true =
+          subst (λ z. list_any (nat_eq z) (workers_out b.orders) ≡ true) f
+          (in_any nat_eq (λ a. eq-eqb a a refl) q.worker (workers_out b.orders) (worker_in b.orders q m)) in
           let bad : true ≡ false = sym t ∙ free.1 in
           cc
 
-      both : {K : Type 0} (f : OrderOut → K) → ((y z : OrderOut) → In y b.orders → In z b.orders → f y ≡ f z → y ≡ z) → ((q : OrderOut) → In q b.orders → f q ≡ f (order_for at b x w).out → ⊥) → (y z : OrderOut) → In y (b.orders ++ (order_for at b x w).out ∷ []) → In z (b.orders ++ (order_for at b x w).out ∷ []) → f y ≡ f z → y ≡ z
+      both : {K : Type 0} (f : OrderOut → K) → ((y z : OrderOut) → In y b.orders → In z b.orders → f y ≡ f z → y ≡ z)
+          → ((q : OrderOut) → In q b.orders → f q ≡ f (order_for at b x w).out → ⊥) → (y z : OrderOut)
+          → In y (b.orders ++ (order_for at b x w).out ∷ []) → In z (b.orders ++ (order_for at b x w).out ∷ []) → f y ≡ f z → y ≡ z
       both f one none y z j k e = pick (in_last y b.orders (order_for at b x w).out j) (in_last z b.orders (order_for at b x w).out k)
         where
           pick : (In y b.orders ⊎ (y ≡ (order_for at b x w).out)) → (In z b.orders ⊎ (z ≡ (order_for at b x w).out)) → y ≡ z
@@ -380,7 +414,9 @@ module _ {P : Type 0} (digest : List ℕ → List ℕ) (at : P → ℕ) where
     next =
         record b { table = u; orders = filter p b.orders; closes = closes; journal = journal; stopped = stopped }
 
-    pub closed_sound : Keeps b.table u → Whole' digest u → length u.rows ≤ u.limit → u.limit ≡ b.table.limit → ((y : OrderOut) → In y (filter p b.orders) → OrderSound b y → Here u.gone y.worker × AllByRecursion (λ (w : Wait P). w.j ≤ y.from) (waits_of y.task u)) → Sound digest at next
+    pub closed_sound : Keeps b.table u → Whole' digest u → length u.rows ≤ u.limit → u.limit ≡ b.table.limit
+        → ((y : OrderOut) → In y (filter p b.orders) → OrderSound b y → Here u.gone y.worker
+        × AllByRecursion (λ (w : Wait P). w.j ≤ y.from) (waits_of y.task u)) → Sound digest at next
     closed_sound k w room limit here =
         record {
           limit = limit ∙ s.limit;
@@ -389,7 +425,15 @@ module _ {P : Type 0} (digest : List ℕ → List ℕ) (at : P → ℕ) where
           rows = w.rows;
           shown = w.shown;
           saved = w.saved;
-          orders = each_kept (OrderSound b) (OrderSound next) (filter p b.orders) (λ y i q. record { number = q.number; worker = q.worker; here = (here y i q).0; task = task_kept y.task q.task; last = (here y i q).1 }) (each_filter (OrderSound b) p b.orders s.orders);
+          orders = each_kept (OrderSound b) (OrderSound next) (filter p b.orders)
+              (λ y i q. record {
+                number = q.number;
+                worker = q.worker;
+                here = (here y i q).0;
+                task = task_kept y.task q.task;
+                last =
+                    (here y i q).1;
+              }) (each_filter (OrderSound b) p b.orders s.orders);
           numbers = λ y z i j e. s.numbers y z (in_filter p y b.orders i) (in_filter p z b.orders j) e;
           tasks = λ y z i j e. s.tasks y z (in_filter p y b.orders i) (in_filter p z b.orders j) e;
           workers = λ y z i j e. s.workers y z (in_filter p y b.orders i) (in_filter p z b.orders j) e;
@@ -399,7 +443,8 @@ module _ {P : Type 0} (digest : List ℕ → List ℕ) (at : P → ℕ) where
         task_kept TaskId.Show t = tt
         task_kept (TaskId.Of n) t = k n t
 
-  module _ (b : Board P) (s : Sound digest at b) (x : Order P) (k : ℕ) (out : find_order k b.orders ≡ Some x.out) (spawned : List Named) (end : End P) (fits : Fits digest at b x spawned end) (all : AllLearned digest spawned b.table) where
+  module _ (b : Board P) (s : Sound digest at b) (x : Order P) (k : ℕ) (out : find_order k b.orders ≡ Some x.out) (spawned : List Named)
+      (end : End P) (fits : Fits digest at b x spawned end) (all : AllLearned digest spawned b.table) where
     abbrev then : TableSeen P
     then = learned_all digest spawned b.table
 
@@ -416,18 +461,23 @@ module _ {P : Type 0} (digest : List ℕ → List ℕ) (at : P → ℕ) where
     other_task y i e =
         let j = in_filter (λ (q : OrderOut). not (nat_eq x.out.number q.number)) y b.orders i in
         let same : y ≡ x.out = s.tasks y x.out j (order_in k b.orders x.out out) e in
-        let t : nat_eq x.out.number y.number ≡ false = not_true (nat_eq x.out.number y.number) (kept_test (λ (q : OrderOut). not (nat_eq x.out.number q.number)) y b.orders i) in
+        let t : nat_eq x.out.number y.number ≡ false =
+        not_true (nat_eq x.out.number y.number) (kept_test (λ (q : OrderOut). not (nat_eq x.out.number q.number)) y b.orders i) in
         let z : nat_eq x.out.number y.number ≡ true = eq-eqb x.out.number y.number (sym (ap (λ (q : OrderOut). q.number) same)) in
         let bad : true ≡ false = sym z ∙ t in
         cc
 
-    still : (u : TableSeen P) → u.shown ≡ b.table.shown → u.saved ≡ b.table.saved → u.gone ≡ b.table.gone → (y : OrderOut) → OrderSound b y → Here u.gone y.worker × AllByRecursion (λ (w : Wait P). w.j ≤ y.from) (waits_of y.task u)
-    still u a e g y q =
-        (subst (λ gs. Here gs y.worker) (sym g) q.here, subst (AllByRecursion (λ (w : Wait P). w.j ≤ y.from)) (sym (same_waits y.task b.table u a e)) q.last)
+    still : (u : TableSeen P) → u.shown ≡ b.table.shown → u.saved ≡ b.table.saved → u.gone ≡ b.table.gone → (y : OrderOut) → OrderSound b y
+        → Here u.gone y.worker × AllByRecursion (λ (w : Wait P). w.j ≤ y.from) (waits_of y.task u)
+    still u a e g y q = (
+      subst (λ gs. Here gs y.worker) (sym g) q.here,
+      subst (AllByRecursion (λ (w : Wait P). w.j ≤ y.from)) (sym (same_waits y.task b.table u a e)) q.last,
+    )
 
     missing_sound : (name : Digest) (loss : ℕ) → Sound digest at (accepted digest b x.out spawned (rep.missing name loss))
     missing_sound name loss =
-        closed_sound b s (λ (q : OrderOut). not (nat_eq x.out.number q.number)) b.table (b.journal ++ Entry.Missed x.out.number name loss ∷ []) (b.closes + 1) b.stopped (λ n k. k) (whole_of b s) s.room refl (λ y i q. (q.here, q.last))
+        closed_sound b s (λ (q : OrderOut). not (nat_eq x.out.number q.number)) b.table (b.journal ++ Entry.Missed x.out.number name loss ∷ [])
+        (b.closes + 1) b.stopped (λ n k. k) (whole_of b s) s.room refl (λ y i q. (q.here, q.last))
 
     made_sound : (ms : List (Output P)) (cs : List (Copy P)) → Sound digest at (accepted digest b x.out spawned (rep.made ms cs))
     made_sound ms cs =
@@ -439,12 +489,22 @@ module _ {P : Type 0} (digest : List ℕ → List ℕ) (at : P → ℕ) where
         let limit = n.limit ∙ m.limit in
         let long = w.2 ∙ o.2 in
         let r = then_room in
-        closed_sound b s (λ (q : OrderOut). not (nat_eq x.out.number q.number)) (with_copies cs (with_outputs ms then)) (b.journal ++ Entry.Done x.out.number (rep.made_keys ms) (rep.copy_names cs) ∷ []) (b.closes + 1) (is_root x.out.task) (λ a j. w.1 a (o.1 a (all_keeps digest spawned b.table a j))) w.0 (omega (arith, limit, long, r)) (limit ∙ g.limit) (λ y i q. still (with_copies cs (with_outputs ms then)) (n.shown ∙ (m.shown ∙ g.shown)) (n.saved ∙ (m.saved ∙ g.saved)) (n.gone ∙ (m.gone ∙ g.gone)) y q)
+        closed_sound b s (λ (q : OrderOut). not (nat_eq x.out.number q.number)) (with_copies cs (with_outputs ms then))
+        (b.journal ++ Entry.Done x.out.number (rep.made_keys ms) (rep.copy_names cs) ∷ []) (b.closes + 1) (is_root x.out.task)
+        (λ a j. w.1 a (o.1 a (all_keeps digest spawned b.table a j))) w.0 (omega (arith, limit, long, r)) (limit ∙ g.limit)
+        (λ y i q. still (with_copies cs (with_outputs ms then)) (n.shown ∙ (m.shown ∙ g.shown)) (n.saved ∙ (m.saved ∙ g.saved))
+        (n.gone ∙ (m.gone ∙ g.gone)) y q)
 
     saved_sound : (q : Stack P) → StackFits digest at then x q → Sound digest at (accepted digest b x.out spawned (rep.saved q))
     saved_sound q f =
         let g = grown digest spawned b.table in
-        closed_sound b s (λ (z : OrderOut). not (nat_eq x.out.number z.number)) (c.saved x.out.task (wait_of q) then) (b.journal ++ Entry.Saved x.out.number q.j q.mark ∷ []) (b.closes + 1) b.stopped (λ n j. same_rows n (all_keeps digest spawned b.table n j)) (saved_whole digest x.out.task (wait_of q) then (task_then x.out.task (each_of (OrderSound b) x.out b.orders (order_in k b.orders x.out out) s.orders).task) (record { refs = f.refs; holds = f.holds }) then_whole) then_room g.limit (λ y i o. (subst (λ gs. Here gs y.worker) (sym g.gone) o.here, last_still y i o))
+        closed_sound b s (λ (z : OrderOut). not (nat_eq x.out.number z.number)) (c.saved x.out.task (wait_of q) then)
+        (b.journal ++ Entry.Saved x.out.number q.j q.mark ∷ []) (b.closes + 1) b.stopped
+        (λ n j. same_rows n (all_keeps digest spawned b.table n j))
+        (saved_whole digest x.out.task (wait_of q)
+        then (task_then x.out.task (each_of (OrderSound b) x.out b.orders (order_in k b.orders x.out out) s.orders).task)
+        (record { refs = f.refs; holds = f.holds }) then_whole) then_room g.limit
+        (λ y i o. (subst (λ gs. Here gs y.worker) (sym g.gone) o.here, last_still y i o))
       where
         same_rows : (n : List ℕ) → Known then n → Known (c.saved x.out.task (wait_of q) then) n
         same_rows n j = j
@@ -453,14 +513,19 @@ module _ {P : Type 0} (digest : List ℕ → List ℕ) (at : P → ℕ) where
         task_then TaskId.Show t = tt
         task_then (TaskId.Of n) t = all_keeps digest spawned b.table n t
 
-        last_still : (y : OrderOut) → In y (without x.out.number b.orders) → OrderSound b y → AllByRecursion (λ (w : Wait P). w.j ≤ y.from) (waits_of y.task (c.saved x.out.task (wait_of q) then))
+        last_still : (y : OrderOut) → In y (without x.out.number b.orders) → OrderSound b y
+            → AllByRecursion (λ (w : Wait P). w.j ≤ y.from) (waits_of y.task (c.saved x.out.task (wait_of q) then))
         last_still y i o = pick (bool_cases (same_id y.task x.out.task))
           where
-            pick : ((same_id y.task x.out.task ≡ true) ⊎ (same_id y.task x.out.task ≡ false)) → AllByRecursion (λ (w : Wait P). w.j ≤ y.from) (waits_of y.task (c.saved x.out.task (wait_of q) then))
+            pick : ((same_id y.task x.out.task ≡ true) ⊎ (same_id y.task x.out.task ≡ false))
+                → AllByRecursion (λ (w : Wait P). w.j ≤ y.from) (waits_of y.task (c.saved x.out.task (wait_of q) then))
             pick (inl t) = absurd (other_task y i (same_exact y.task x.out.task t))
             pick (inr t) =
                 let g = grown digest spawned b.table in
-                subst (AllByRecursion (λ (w : Wait P). w.j ≤ y.from)) (sym (more_waits y.task x.out.task (wait_of q) then ∙ (ap (λ b. cond b (waits_of y.task then ++ wait_of q ∷ []) (waits_of y.task then)) t ∙ same_waits y.task b.table then g.shown g.saved))) o.last
+                subst (AllByRecursion (λ (w : Wait P). w.j ≤ y.from))
+                (sym (more_waits y.task x.out.task (wait_of q) then
+                ∙ (ap (λ b. cond b (waits_of y.task then ++ wait_of q ∷ []) (waits_of y.task then)) t
+                ∙ same_waits y.task b.table then g.shown g.saved))) o.last
 
     pub accepted_sound : Sound digest at (accepted digest b x.out spawned end)
     accepted_sound = pick end (fits.learned all).end
@@ -481,25 +546,52 @@ module _ {P : Type 0} (digest : List ℕ → List ℕ) (at : P → ℕ) where
       let r = s.room in
       closed_sound b s (λ (x : OrderOut). not (nat_eq w x.worker)) u (b.journal ++ Entry.Lost w b.closes ∷ []) b.closes b.stopped k
       (record {
-        rows = all_map (RowSound digest b.table) (RowSound digest u) (c.row_without at w) (λ row a. row_kept digest b.table u k row (c.places_without at w row.places) a) b.table.rows s.rows;
-        shown = all_filter (WaitSound b.table) (WaitSound u) (λ (x : Wait P). not (nat_eq w (at x.place))) (λ x a t. wait_kept b.table u k x a) b.table.shown s.shown;
-        saved = all_map (SavesSound b.table) (SavesSound u) (c.saves_without at w) (λ q a. record { task = k q.name a.task; waits = all_filter (WaitSound b.table) (WaitSound u) (λ (x : Wait P). not (nat_eq w (at x.place))) (λ x e t. wait_kept b.table u k x e) q.waits a.waits }) b.table.saved s.saved;
+        rows = all_map (RowSound digest b.table) (RowSound digest u) (c.row_without at w)
+            (λ row a. row_kept digest b.table u k row (c.places_without at w row.places) a) b.table.rows s.rows;
+        shown = all_filter (WaitSound b.table) (WaitSound u) (λ (x : Wait P). not (nat_eq w (at x.place))) (λ x a t. wait_kept b.table u k x a)
+            b.table.shown s.shown;
+        saved = all_map (SavesSound b.table) (SavesSound u) (c.saves_without at w)
+            (λ q a. record {
+              task = k q.name a.task;
+              waits =
+                  all_filter (WaitSound b.table) (WaitSound u) (λ (x : Wait P). not (nat_eq w (at x.place))) (λ x e t. wait_kept b.table u k x e)
+                  q.waits a.waits;
+            }) b.table.saved s.saved;
       })
       (omega (arith, long, r)) refl
-      (λ y i q. (any_last (nat_eq y.worker) b.table.gone w q.here (flip_nat w y.worker (not_true (nat_eq w y.worker) (kept_test (λ (x : OrderOut). not (nat_eq w x.worker)) y b.orders i))), subst (AllByRecursion (λ (z : Wait P). z.j ≤ y.from)) (sym (fewer_waits at w y.task b.table)) (all_filter (λ (z : Wait P). z.j ≤ y.from) (λ (z : Wait P). z.j ≤ y.from) (λ (x : Wait P). not (nat_eq w (at x.place))) (λ x e t. e) (waits_of y.task b.table) q.last)))
+      (λ y i q. (
+        any_last (nat_eq y.worker) b.table.gone w q.here
+            (flip_nat w y.worker (not_true (nat_eq w y.worker) (kept_test (λ (x : OrderOut). not (nat_eq w x.worker)) y b.orders i))),
+        subst (AllByRecursion (λ (z : Wait P). z.j ≤ y.from)) (sym (fewer_waits at w y.task b.table))
+            (all_filter (λ (z : Wait P). z.j ≤ y.from) (λ (z : Wait P). z.j ≤ y.from) (λ (x : Wait P). not (nat_eq w (at x.place))) (λ x e t. e)
+            (waits_of y.task b.table) q.last),
+      ))
 
   -- ---- the beginning
 
   abbrev open_table : Plan → List (List ℕ) → Named → TableSeen P
   open_table p keys main = (opened digest p keys main).table
 
-  pub opened_sound : (p : Plan) (keys : List (List ℕ)) (main : Named) → 1 ≤ p.limit → IsNamed digest main → main.desc ≡ Desc1.Call [] no_pairs no_vals → Sound digest at (opened digest p keys main)
+  pub opened_sound : (p : Plan) (keys : List (List ℕ)) (main : Named) → 1 ≤ p.limit → IsNamed digest main → main.desc
+      ≡ Desc1.Call [] no_pairs no_vals → Sound digest at (opened digest p keys main)
   opened_sound p keys main one m e =
       record {
         limit = refl;
         room = one;
         main = known;
-        rows = (record { name = m.name; task = refl; spelled = m.spelled; inside = subst (λ d. AllKnown (open_table p keys main) (start_refs d)) (sym e) tt; own = subst (λ d. Known (open_table p keys main) (digested digest (first_output (desc_view d)))) (sym e) (subst (Known (open_table p keys main)) (m.name ∙ ap (λ d. digested digest (desc_view d)) e) known) }, tt);
+        rows = (
+          record {
+            name = m.name;
+            task = refl;
+            spelled = m.spelled;
+            inside =
+                subst (λ d. AllKnown (open_table p keys main) (start_refs d)) (sym e) tt;
+            own =
+                subst (λ d. Known (open_table p keys main) (digested digest (first_output (desc_view d)))) (sym e)
+                (subst (Known (open_table p keys main)) (m.name ∙ ap (λ d. digested digest (desc_view d)) e) known);
+          },
+          tt,
+        );
         shown = tt;
         saved = tt;
         orders = tt;
@@ -526,7 +618,10 @@ module _ {P : Type 0} (digest : List ℕ → List ℕ) (at : P → ℕ) (b : Boa
   sound_whole =
       named_whole b.main b.table (record {
         entry = s.main;
-        rows = all_more (RowSound digest b.table) (λ (r : Row P). RowNamed b.main b.table (is_input r.desc) r) (λ r k. row_named' r k (is_input r.desc)) b.table.rows s.rows;
+        rows = all_more (RowSound digest b.table) (λ (r : Row P). RowNamed b.main b.table (is_input r.desc) r)
+            (λ r k. row_named' r k (is_input r.desc)) b.table.rows s.rows;
         shown = all_more (WaitSound b.table) (λ (w : Wait P). AllKnown b.table w.refs) (λ w k. k.refs) b.table.shown s.shown;
-        saved = all_more (SavesSound b.table) (λ (q : Saves P). AllByRecursion (λ (w : Wait P). AllKnown b.table w.refs) q.waits) (λ q k. all_more (WaitSound b.table) (λ (w : Wait P). AllKnown b.table w.refs) (λ w j. j.refs) q.waits k.waits) b.table.saved s.saved;
+        saved = all_more (SavesSound b.table) (λ (q : Saves P). AllByRecursion (λ (w : Wait P). AllKnown b.table w.refs) q.waits)
+            (λ q k. all_more (WaitSound b.table) (λ (w : Wait P). AllKnown b.table w.refs) (λ w j. j.refs) q.waits k.waits) b.table.saved
+            s.saved;
       })

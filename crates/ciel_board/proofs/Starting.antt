@@ -21,7 +21,8 @@ use Rattle.ciel_table.specs.Seen.{is_input, is_live, last_wait}
 use Rattle.ciel_table.specs.declared.row.Row.{Row}
 use Rattle.ciel_table.specs.declared.wait.Wait.{Wait}
 use Rattle.ciel_want.specs.History.{task_id}
-use Rattle.ciel_board.specs.Board.{Board, OrderOut, Spot, board_graph, first_held, held, held_at, idle_of, key_number, place_for, spot_for, spot_in, stack_at, task_desc, start_refs, task_key, wait_number, workers_out}
+use Rattle.ciel_board.specs.Board.{Board, OrderOut, Spot, board_graph, first_held, held, held_at, idle_of, key_number, place_for, spot_for, spot_in}
+use Rattle.ciel_board.specs.Board.{stack_at, task_desc, start_refs, task_key, wait_number, workers_out}
 use Rattle.ciel_board.specs.Follows.{BroughtFor, FetchedAt, GoesBy, OneByOne, OrderIs, OutIs, RowIs, StandsFor, worker_for}
 use Rattle.ciel_board.specs.Moves.{order_for, started}
 use Rattle.ciel_board.specs.Setting.{HasState, IsMade, IsSetting, Setting, input_number}
@@ -36,7 +37,8 @@ of_names f n [] i = absurd i
 of_names f n (e ∷ es) (inl s) = (e, inl refl, s)
 of_names f n (e ∷ es) (inr i) = let q = of_names f n es i in (q.0, inr q.1, q.2)
 
-each_met : {D : Type 0} (P : Digest → Type 0) (Q : D → Type 0) (f : D → Digest) (ds : List D) → ((d : D) → In d ds → P (f d) → Q d) → Each P (map f ds) → Each Q ds
+each_met : {D : Type 0} (P : Digest → Type 0) (Q : D → Type 0) (f : D → Digest) (ds : List D) → ((d : D) → In d ds → P (f d) → Q d)
+    → Each P (map f ds) → Each Q ds
 each_met P Q f [] g e = tt
 each_met P Q f (d ∷ ds) g e = (g d (inl refl) e.0, each_met P Q f ds (λ x i. g x (inr i)) e.1)
 
@@ -65,12 +67,15 @@ module _ {D P B : Type 0} (s : Setting D P B) (is : IsSetting s) where
   stack_is (Some q) None k = absurd k
   stack_is (Some q) (Some w) k = ap (λ n. Some n) k.worker
 
-  module _ (v : Standing D) (inf : Informed s.job is.laws s.inner is.knows v) (apart : NoClash s.job v.book) (made : (d : D) → In d v.book → IsMade s d) (traced : (q : Save D) → In q v.saves → SaveTraced s.job is.laws v.book q) (b : Board P) (sound : Sound s.digest s.at b) (st : StandsFor s v b) where
+  module _ (v : Standing D) (inf : Informed s.job is.laws s.inner is.knows v) (apart : NoClash s.job v.book)
+      (made : (d : D) → In d v.book → IsMade s d) (traced : (q : Save D) → In q v.saves → SaveTraced s.job is.laws v.book q) (b : Board P)
+      (sound : Sound s.digest s.at b) (st : StandsFor s v b) where
     -- a save that is a task's last is one of its own
     pub last_own : (u : Task D) (q : Save D) → last_save s.job u v.saves ≡ Some q → In q v.saves × (q.task ≡ u)
     last_own u q e = pick (last_cases s.job is.laws s.inner is.knows u v.saves)
       where
-        pick : ((last_save s.job u v.saves ≡ None) ⊎ ((x : Save D) × In x v.saves × (x.task ≡ u) × (last_save s.job u v.saves ≡ Some x))) → In q v.saves × (q.task ≡ u)
+        pick : ((last_save s.job u v.saves ≡ None) ⊎ ((x : Save D) × In x v.saves × (x.task ≡ u) × (last_save s.job u v.saves ≡ Some x)))
+            → In q v.saves × (q.task ≡ u)
         pick (inl n) = let bad : None ≡ Some q = sym n ∙ e in cc
         pick (inr x) =
             let a : Some x.0 ≡ Some q = sym x.3 ∙ e in
@@ -80,19 +85,24 @@ module _ {D P B : Type 0} (s : Setting D P B) (is : IsSetting s) where
     -- what a task holds where it goes on is in the book
     pub held_booked : (u : Task D) → In (own_name s.job u) v.book → (d : D) → HeldAt s.job u (last s.job v u) d → In d v.book
     held_booked u i d k =
-        each_of (λ e. In e v.book) d k.1.names k.3 (is.knows.holds_told v.book u (last s.job v u) (needs_after s.job v u) k.1 (start_known s.job is.laws s.inner is.knows v inf u i) (last_ok s.job is.laws u v.saves inf.saves_ok) (k.0, k.2))
+        each_of (λ e. In e v.book) d k.1.names k.3
+        (is.knows.holds_told v.book u (last s.job v u) (needs_after s.job v u) k.1 (start_known s.job is.laws s.inner is.knows v inf u i)
+        (last_ok s.job is.laws u v.saves inf.saves_ok) (k.0, k.2))
 
     module _ (u : Task D) (i : In (own_name s.job u) v.book) (own : Own s is v inf apart made b sound st u) (needed : Needed s.job u) where
       -- ---- what it holds at its start
 
-      first_in : (t : Task D) → In (own_name s.job t) v.book → Own s is v inf apart made b sound st t → Needed s.job t → (d : D) → HeldAt s.job t 0 d → In (s.job.name d) (first_held b.main b.table (task_id s.job t))
+      first_in : (t : Task D) → In (own_name s.job t) v.book → Own s is v inf apart made b sound st t → Needed s.job t → (d : D)
+          → HeldAt s.job t 0 d → In (s.job.name d) (first_held b.main b.table (task_id s.job t))
       first_in show j o w d k =
           subst (λ n. In (s.job.name d) (n ∷ [])) (sym st.main) ((is.tells.root k.0 k.1 k.2).there d k.3)
       first_in (of e) j o w d k =
           let q = row_of s is v inf apart made b sound st e j in
-          subst (λ r. In (s.job.name d) (option_map_or (λ (r : Row P). start_refs r.desc) r [])) (sym q.1) ((is.tells.held q.0.desc e k.0 k.1 q.2.spells w k.2 (inside_apart s is v inf apart made b sound st e j)).there d k.3)
+          subst (λ r. In (s.job.name d) (option_map_or (λ (r : Row P). start_refs r.desc) r [])) (sym q.1)
+          ((is.tells.held q.0.desc e k.0 k.1 q.2.spells w k.2 (inside_apart s is v inf apart made b sound st e j)).there d k.3)
 
-      first_only : (t : Task D) → In (own_name s.job t) v.book → Own s is v inf apart made b sound st t → Needed s.job t → (n : Digest) → In n (first_held b.main b.table (task_id s.job t)) → (d : D) × HeldAt s.job t 0 d × (n ≡ s.job.name d)
+      first_only : (t : Task D) → In (own_name s.job t) v.book → Own s is v inf apart made b sound st t → Needed s.job t → (n : Digest)
+          → In n (first_held b.main b.table (task_id s.job t)) → (d : D) × HeldAt s.job t 0 d × (n ≡ s.job.name d)
       first_only show j o w n k =
           let a = is.tells.starts show w in
           let q = (is.tells.root a.0 a.1 a.2).only n (subst (λ m. In n (m ∷ [])) st.main k) in
@@ -100,7 +110,8 @@ module _ {D P B : Type 0} (s : Setting D P B) (is : IsSetting s) where
       first_only (of e) j o w n k =
           let r = row_of s is v inf apart made b sound st e j in
           let a = is.tells.starts (of e) w in
-          let q = (is.tells.held r.0.desc e a.0 a.1 r.2.spells w a.2 (inside_apart s is v inf apart made b sound st e j)).only n (subst (λ r. In n (option_map_or (λ (r : Row P). start_refs r.desc) r [])) r.1 k) in
+          let q = (is.tells.held r.0.desc e a.0 a.1 r.2.spells w a.2 (inside_apart s is v inf apart made b sound st e j)).only n
+          (subst (λ r. In n (option_map_or (λ (r : Row P). start_refs r.desc) r [])) r.1 k) in
           (q.0, (a.0, a.1, a.2, q.1), q.2)
 
       -- ---- and where it goes on
@@ -117,19 +128,22 @@ module _ {D P B : Type 0} (s : Setting D P B) (is : IsSetting s) where
       pub held_in : (d : D) → HeldAt s.job u (last s.job v u) d → In (s.job.name d) (held b.main b.table (task_id s.job u))
       held_in d k = pick (last_save s.job u v.saves) (last_wait (task_id s.job u) b.table) refl both k
         where
-          pick : (x : Option (Save D)) (y : Option (Wait P)) → last_save s.job u v.saves ≡ x → BothWaits s is x y → HeldAt s.job u (h.wait_number s.job x) d → In (s.job.name d) (held_at b.main b.table y (task_id s.job u))
+          pick : (x : Option (Save D)) (y : Option (Wait P)) → last_save s.job u v.saves ≡ x → BothWaits s is x y
+              → HeldAt s.job u (h.wait_number s.job x) d → In (s.job.name d) (held_at b.main b.table y (task_id s.job u))
           pick None None e p k = first_in u i own needed d k
           pick None (Some w) e p k = absurd p
           pick (Some q) None e p k = absurd p
           pick (Some q) (Some w) e p k =
               let t = state_of q e in
-              let same : k.1 ≡ record { names = q.holds; mark = t.0 } = state_unique s.job is.laws u q.j k.1 (record { names = q.holds; mark = t.0 }) (k.0, k.2) t.1 in
+              let same : k.1 ≡ record { names = q.holds; mark = t.0 } =
+              state_unique s.job is.laws u q.j k.1 (record { names = q.holds; mark = t.0 }) (k.0, k.2) t.1 in
               subst (In (s.job.name d)) (sym p.holds) (in_names s.job.name d q.holds (subst (λ (a : Held D). In d a.names) same k.3))
 
       pub held_only : (n : Digest) → In n (held b.main b.table (task_id s.job u)) → (d : D) × HeldAt s.job u (last s.job v u) d × (n ≡ s.job.name d)
       held_only n k = pick (last_save s.job u v.saves) (last_wait (task_id s.job u) b.table) refl both k
         where
-          pick : (x : Option (Save D)) (y : Option (Wait P)) → last_save s.job u v.saves ≡ x → BothWaits s is x y → In n (held_at b.main b.table y (task_id s.job u)) → (d : D) × HeldAt s.job u (h.wait_number s.job x) d × (n ≡ s.job.name d)
+          pick : (x : Option (Save D)) (y : Option (Wait P)) → last_save s.job u v.saves ≡ x → BothWaits s is x y
+              → In n (held_at b.main b.table y (task_id s.job u)) → (d : D) × HeldAt s.job u (h.wait_number s.job x) d × (n ≡ s.job.name d)
           pick None None e p k = first_only u i own needed n k
           pick None (Some w) e p k = absurd p
           pick (Some q) None e p k = absurd p
@@ -143,16 +157,21 @@ module _ {D P B : Type 0} (s : Setting D P B) (is : IsSetting s) where
       from_is : wait_number (last_wait (task_id s.job u) b.table) ≡ last s.job v u
       from_is = number_is (last_save s.job u v.saves) (last_wait (task_id s.job u) b.table) both
 
-      spot_is : (w : ℕ) (d : D) → In d v.book → (o : Option (Task D)) → s.job.task_of d ≡ o → BroughtFor s (order_of s.job v b.starts w u (last s.job v u)) d o (spot_for s.at b.keys w b.table (s.job.name d))
+      spot_is : (w : ℕ) (d : D) → In d v.book → (o : Option (Task D)) → s.job.task_of d ≡ o
+          → BroughtFor s (order_of s.job v b.starts w u (last s.job v u)) d o (spot_for s.at b.keys w b.table (s.job.name d))
       spot_is w d j o e =
           let q = row_of s is v inf apart made b sound st d j in
-          subst (BroughtFor s (order_of s.job v b.starts w u (last s.job v u)) d o) (sym (ap (option_and_then (λ (r : Row P). spot_in s.at b.keys w r.desc r.places)) q.1)) (turn q.0 q.2 q.0.desc refl o e)
+          subst (BroughtFor s (order_of s.job v b.starts w u (last s.job v u)) d o)
+          (sym (ap (option_and_then (λ (r : Row P). spot_in s.at b.keys w r.desc r.places)) q.1)) (turn q.0 q.2 q.0.desc refl o e)
         where
-          place : (r : Row P) → RowIs s v.places d r → (x : Task D) → BroughtFor s (order_of s.job v b.starts w u (last s.job v u)) d (Some x) (option_map Spot.shelf (place_for s.at w r.places))
+          place : (r : Row P) → RowIs s v.places d r → (x : Task D)
+              → BroughtFor s (order_of s.job v b.starts w u (last s.job v u)) d (Some x) (option_map Spot.shelf (place_for s.at w r.places))
           place r q x =
-              subst (λ ws. FetchedAt s d (worker_for s.job w ws) (option_map Spot.shelf (place_for s.at w r.places))) q.places (fetched s d w r.places q.objects)
+              subst (λ ws. FetchedAt s d (worker_for s.job w ws) (option_map Spot.shelf (place_for s.at w r.places))) q.places
+              (fetched s d w r.places q.objects)
 
-          turn : (r : Row P) → RowIs s v.places d r → (x : Desc1) → r.desc ≡ x → (o : Option (Task D)) → s.job.task_of d ≡ o → BroughtFor s (order_of s.job v b.starts w u (last s.job v u)) d o (spot_in s.at b.keys w x r.places)
+          turn : (r : Row P) → RowIs s v.places d r → (x : Desc1) → r.desc ≡ x → (o : Option (Task D)) → s.job.task_of d ≡ o
+              → BroughtFor s (order_of s.job v b.starts w u (last s.job v u)) d o (spot_in s.at b.keys w x r.places)
           turn r q (Desc1.Call f c vs) f_ (Some x) g = place r q x
           turn r q (Desc1.Exec y a n k) f_ (Some x) g = place r q x
           turn r q (Desc1.Input k) f_ None g =
@@ -177,7 +196,8 @@ module _ {D P B : Type 0} (s : Setting D P B) (is : IsSetting s) where
       state_there : (p : P) → stack_at (last_wait (task_id s.job u) b.table) ≡ Some p → HasState s p u (last s.job v u)
       state_there p e = pick (last_save s.job u v.saves) (last_wait (task_id s.job u) b.table) refl both e
         where
-          pick : (x : Option (Save D)) (y : Option (Wait P)) → last_save s.job u v.saves ≡ x → BothWaits s is x y → stack_at y ≡ Some p → HasState s p u (h.wait_number s.job x)
+          pick : (x : Option (Save D)) (y : Option (Wait P)) → last_save s.job u v.saves ≡ x → BothWaits s is x y → stack_at y ≡ Some p
+              → HasState s p u (h.wait_number s.job x)
           pick None None f k e = cc
           pick None (Some w) f k e = absurd k
           pick (Some q) None f k e = cc
@@ -199,7 +219,9 @@ module _ {D P B : Type 0} (s : Setting D P B) (is : IsSetting s) where
             desc = goes_by u i;
             stack = stack_is (last_save s.job u v.saves) (last_wait (task_id s.job u) b.table) both;
             state = state_there;
-            inputs = λ d k. subst (BroughtFor s (order_of s.job v b.starts w u (last s.job v u)) d (s.job.task_of d)) (sym (spot_brought s.at b.keys w b.table (s.job.name d) (held b.main b.table (task_id s.job u)) (held_in d k))) (spot_is w d (held_booked u i d k) (s.job.task_of d) refl);
+            inputs = λ d k. subst (BroughtFor s (order_of s.job v b.starts w u (last s.job v u)) d (s.job.task_of d))
+                (sym (spot_brought s.at b.keys w b.table (s.job.name d) (held b.main b.table (task_id s.job u)) (held_in d k)))
+                (spot_is w d (held_booked u i d k) (s.job.task_of d) refl);
             only = λ n k. held_only n (brought_in s.at b.keys w b.table n (held b.main b.table (task_id s.job u)) k);
           }
 
@@ -213,7 +235,9 @@ module _ {D P B : Type 0} (s : Setting D P B) (is : IsSetting s) where
           record {
             reached = r;
             not_out = sym (outs_are s is v inf apart made b sound st u i) ∙ k.not_out;
-            met = each_met (λ n. is_live n b.table ≡ true) (λ d. h.live s.job v d ≡ true) s.job.name (needs_after s.job v u) (λ d j e. sym (lives s is v inf apart made b sound st d (each_of (λ x. In x v.book) d (needs_after s.job v u) j (known u r))) ∙ e) (subst (Each (λ n. is_live n b.table ≡ true)) (needs_are s is v inf apart made b sound st u i own) k.met);
+            met = each_met (λ n. is_live n b.table ≡ true) (λ d. h.live s.job v d ≡ true) s.job.name (needs_after s.job v u)
+                (λ d j e. sym (lives s is v inf apart made b sound st d (each_of (λ x. In x v.book) d (needs_after s.job v u) j (known u r)))
+                ∙ e) (subst (Each (λ n. is_live n b.table ≡ true)) (needs_are s is v inf apart made b sound st u i own) k.met);
           }
 
       pub idle_same : idle_of b ≡ idle s.job b.plan v
@@ -223,16 +247,23 @@ module _ {D P B : Type 0} (s : Setting D P B) (is : IsSetting s) where
 
       room : length v.book ≤ b.plan.limit
       room =
-          subst (λ n. length v.book ≤ n) sound.limit (subst (λ n. n ≤ b.table.limit) (sym (long (RowIs s v.places) v.book b.table.rows st.rows)) sound.room)
+          subst (λ n. length v.book ≤ n) sound.limit
+          (subst (λ n. n ≤ b.table.limit) (sym (long (RowIs s v.places) v.book b.table.rows st.rows)) sound.room)
 
-      pub start_step : (u : Task D) → Reached s.job v u → Runnable (board_graph b) (task_id s.job u) → (w : ℕ) → In w (idle_of b) → b.stopped ≡ false → Step s.job b.plan v (start b.starts w u (wait_number (last_wait (task_id s.job u) b.table)))
+      pub start_step : (u : Task D) → Reached s.job v u → Runnable (board_graph b) (task_id s.job u) → (w : ℕ) → In w (idle_of b) → b.stopped
+          ≡ false → Step s.job b.plan v (start b.starts w u (wait_number (last_wait (task_id s.job u) b.table)))
       start_step u r k w j going =
           let i = reached_booked s is v inf apart made b sound st known u r in
-          let step = ready_step s.job is.laws s.inner is.knows v inf b.plan u w (st.going going) room apart (ready u r k) (subst (In w) idle_same j) in
-          subst (λ n. Step s.job b.plan v (start n w u (wait_number (last_wait (task_id s.job u) b.table)))) (sym st.starts) (subst (λ n. Step s.job b.plan v (start v.starts w u n)) (sym (number_is (last_save s.job u v.saves) (last_wait (task_id s.job u) b.table) (last_is s is v inf apart made b sound st u i))) step)
+          let step = ready_step s.job is.laws s.inner is.knows v inf b.plan u w (st.going going) room apart (ready u r k)
+          (subst (In w) idle_same j) in
+          subst (λ n. Step s.job b.plan v (start n w u (wait_number (last_wait (task_id s.job u) b.table)))) (sym st.starts)
+          (subst (λ n. Step s.job b.plan v (start v.starts w u n))
+          (sym (number_is (last_save s.job u v.saves) (last_wait (task_id s.job u) b.table) (last_is s is v inf apart made b sound st u i)))
+          step)
 
       -- the order that is handed out is that of the new open Start
-      pub start_order : (u : Task D) → Reached s.job v u → (w : ℕ) → OrderIs s (order_of s.job v b.starts w u (wait_number (last_wait (task_id s.job u) b.table))) (order_for s.at b (task_id s.job u) w)
+      pub start_order : (u : Task D) → Reached s.job v u → (w : ℕ)
+          → OrderIs s (order_of s.job v b.starts w u (wait_number (last_wait (task_id s.job u) b.table))) (order_for s.at b (task_id s.job u) w)
       start_order u r w =
           let i = reached_booked s is v inf apart made b sound st known u r in
           let own = reached_own s is v inf apart made b sound st known u r in
@@ -240,7 +271,9 @@ module _ {D P B : Type 0} (s : Setting D P B) (is : IsSetting s) where
           let from = number_is (last_save s.job u v.saves) (last_wait (task_id s.job u) b.table) (last_is s is v inf apart made b sound st u i) in
           subst (λ n. OrderIs s (order_of s.job v b.starts w u n) (order_for s.at b (task_id s.job u) w)) (sym from) (order_is u i own needed w)
 
-      pub start_stands : (u : Task D) → Reached s.job v u → (w : ℕ) → StandsFor s (after s.job v (start b.starts w u (wait_number (last_wait (task_id s.job u) b.table)))) (started s.at b (task_id s.job u) w)
+      pub start_stands : (u : Task D) → Reached s.job v u → (w : ℕ)
+          → StandsFor s (after s.job v (start b.starts w u (wait_number (last_wait (task_id s.job u) b.table))))
+          (started s.at b (task_id s.job u) w)
       start_stands u r w =
           let order = start_order u r w in
           record {
@@ -248,7 +281,8 @@ module _ {D P B : Type 0} (s : Setting D P B) (is : IsSetting s) where
             main = st.main;
             rows = st.rows;
             waits = st.waits;
-            orders = join (OutIs s) v.orders b.orders (order_of s.job v b.starts w u (wait_number (last_wait (task_id s.job u) b.table)) ∷ []) ((order_for s.at b (task_id s.job u) w).out ∷ []) st.orders (order.out, tt);
+            orders = join (OutIs s) v.orders b.orders (order_of s.job v b.starts w u (wait_number (last_wait (task_id s.job u) b.table)) ∷ [])
+                ((order_for s.at b (task_id s.job u) w).out ∷ []) st.orders (order.out, tt);
             gone = st.gone;
             starts = ap (λ n. n + 1) st.starts;
             closes = st.closes;

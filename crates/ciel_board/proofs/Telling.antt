@@ -31,7 +31,8 @@ each_front : {A : Type 0} (Q : A → Type 0) (xs ys : List A) (y : A) → Each Q
 each_front Q [] ys y e = (tt, e.0)
 each_front Q (x ∷ xs) ys y e = let r = each_front Q xs ys y e.1 in ((e.0, r.0), r.1)
 
-module _ {D P B : Type 0} (s : Setting D P B) (is : IsSetting s) (h : List (Event D)) (b : Board P) (sound : Sound s.digest s.at b) (f : Follows s h b) where
+module _ {D P B : Type 0} (s : Setting D P B) (is : IsSetting s) (h : List (Event D)) (b : Board P) (sound : Sound s.digest s.at b)
+    (f : Follows s h b) where
   abbrev v : Standing D
   v = standing s.job h
 
@@ -41,9 +42,11 @@ module _ {D P B : Type 0} (s : Setting D P B) (is : IsSetting s) (h : List (Even
   book_views : views b.table.rows ≡ map s.lower v.book
   book_views = views_are s v.places v.book b.table.rows f.stands.rows
 
-  book_learns : (ns : List Named) → Each (IsNamed s.digest) ns → AllLearned s.digest ns b.table → r.Learns tag (map s.lower v.book) (map named_view ns) (views (learned_all s.digest ns b.table).rows)
+  book_learns : (ns : List Named) → Each (IsNamed s.digest) ns → AllLearned s.digest ns b.table
+      → r.Learns tag (map s.lower v.book) (map named_view ns) (views (learned_all s.digest ns b.table).rows)
   book_learns ns named all =
-      subst (λ zs. r.Learns tag zs (map named_view ns) (views (learned_all s.digest ns b.table).rows)) book_views (learns s.digest ns b.table (rows_named s is h b sound f) named all)
+      subst (λ zs. r.Learns tag zs (map named_view ns) (views (learned_all s.digest ns b.table).rows)) book_views
+      (learns s.digest ns b.table (rows_named s is h b sound f) named all)
 
   module _ (x : Order P) (o : OpenStart D) (k : ℕ) (spawned : List Named) (end : End P) (taken : Taken s h b x o k spawned end) where
     abbrev after_table : TableSeen P
@@ -57,9 +60,11 @@ module _ {D P B : Type 0} (s : Setting D P B) (is : IsSetting s) (h : List (Even
       pub book : views after_table.rows ≡ map s.lower (after s.job v ev).book
       pub lies : Lies s o e
 
-    told : (r.IsMissing (report_view k spawned end).end → ⊥) → AllLearned s.digest spawned b.table → LiesUnlessClash s h b.plan o k spawned end → (ev : Event D) × Told ev end
+    told : (r.IsMissing (report_view k spawned end).end → ⊥) → AllLearned s.digest spawned b.table → LiesUnlessClash s h b.plan o k spawned end
+        → (ev : Event D) × Told ev end
     told none all lies =
-        let t = reporting.allowed s.job is.laws s.inner is.knows s.lower tag is.exact b.plan h f.lawful o (report_view k spawned end) taken.is_open (views after_table.rows) (book_learns spawned taken.fits.named all) taken.says none in
+        let t = reporting.allowed s.job is.laws s.inner is.knows s.lower tag is.exact b.plan h f.lawful o (report_view k spawned end)
+        taken.is_open (views after_table.rows) (book_learns spawned taken.fits.named all) taken.says none in
         (t.0, record { report = t.1; allowed = t.2; apart = t.3; book = t.4; lies = lies t.0 t.1 t.2 t.3 })
 
     module _ (going : b.stopped ≡ false) (all : AllLearned s.digest spawned b.table) where
@@ -76,10 +81,14 @@ module _ {D P B : Type 0} (s : Setting D P B) (is : IsSetting s) (h : List (Even
               record {
                 event = saved k q.j q.mark w.refs w.holds w.spawned;
                 tells = t2.report;
-                follows = saved_follows s is h b sound f x o k spawned end taken all q is_end w.refs w.holds w.spawned w.refs_are w.holds_are (subst (λ z. SavedAllowed s.job z q.j q.mark w.refs w.holds w.spawned) same a.2) (subst (λ (u : Standing D). NoClash s.job u.book) now t2.apart) (t2.book ∙ ap (λ (u : Standing D). map s.lower u.book) now) t2.lies fits.here going;
+                follows = saved_follows s is h b sound f x o k spawned end taken all q is_end w.refs w.holds w.spawned w.refs_are w.holds_are
+                    (subst (λ z. SavedAllowed s.job z q.j q.mark w.refs w.holds w.spawned) same a.2)
+                    (subst (λ (u : Standing D). NoClash s.job u.book) now t2.apart) (t2.book ∙ ap (λ (u : Standing D). map s.lower u.book) now)
+                    t2.lies fits.here going;
               }
 
-      done_event : (ms : List (Output P)) (cs : List (Copy P)) → end ≡ rep.made ms cs → (ev : Event D) → Told ev (rep.made ms cs) → AcceptedAs s h b x.out k spawned (rep.made ms cs)
+      done_event : (ms : List (Output P)) (cs : List (Copy P)) → end ≡ rep.made ms cs → (ev : Event D) → Told ev (rep.made ms cs)
+          → AcceptedAs s h b x.out k spawned (rep.made ms cs)
       done_event ms cs is_end ev t = turn (read_done s k spawned ms cs ev t.report)
         where
           turn : IsDone s k ms cs ev → AcceptedAs s h b x.out k spawned (rep.made ms cs)
@@ -92,13 +101,18 @@ module _ {D P B : Type 0} (s : Setting D P B) (is : IsSetting s) (h : List (Even
               record {
                 event = done k w.made w.copied w.spawned;
                 tells = t2.report;
-                follows = done_follows s is h b sound f x o k spawned end taken all ms cs w.made w.copied w.spawned w.made_are w.copied_are (subst (λ z. DoneAllowed s.job z w.made w.copied w.spawned) same a.2) (subst (λ (u : Standing D). NoClash s.job u.book) now t2.apart) (t2.book ∙ ap (λ (u : Standing D). map s.lower u.book) now) t2.lies.0 t2.lies.1 fits.0 fits.1 going;
+                follows = done_follows s is h b sound f x o k spawned end taken all ms cs w.made w.copied w.spawned w.made_are w.copied_are
+                    (subst (λ z. DoneAllowed s.job z w.made w.copied w.spawned) same a.2)
+                    (subst (λ (u : Standing D). NoClash s.job u.book) now t2.apart) (t2.book ∙ ap (λ (u : Standing D). map s.lower u.book) now)
+                    t2.lies.0 t2.lies.1 fits.0 fits.1 going;
               }
 
-      pub report_follows : (r.IsMissing (report_view k spawned end).end → ⊥) → LiesUnlessClash s h b.plan o k spawned end → AcceptedAs s h b x.out k spawned end
+      pub report_follows : (r.IsMissing (report_view k spawned end).end → ⊥) → LiesUnlessClash s h b.plan o k spawned end
+          → AcceptedAs s h b x.out k spawned end
       report_follows none lies = pick end refl none (told none all lies)
         where
-          pick : (e : End P) → end ≡ e → (r.IsMissing (report_view k spawned e).end → ⊥) → ((ev : Event D) × Told ev end) → AcceptedAs s h b x.out k spawned end
+          pick : (e : End P) → end ≡ e → (r.IsMissing (report_view k spawned e).end → ⊥) → ((ev : Event D) × Told ev end)
+              → AcceptedAs s h b x.out k spawned end
           pick (rep.missing name loss) g n t = absurd (n tt)
           pick (rep.saved q) g n t =
               subst (λ z. AcceptedAs s h b x.out k spawned z) (sym g) (saved_event q g t.0 (subst (Told t.0) g t.1))
@@ -121,19 +135,27 @@ module _ {D P B : Type 0} (s : Setting D P B) (is : IsSetting s) (h : List (Even
       split : map named_view spawned ≡ map named_view w.before ++ named_view given ∷ map named_view w.after
       split = ap (map named_view) w.split ∙ map-append named_view w.before (given ∷ w.after)
 
-    pub clash_follows : (given : Named) (kept bytes : List ℕ) → FirstRefused s.digest spawned b.table given (Learn.Clash kept bytes) → ClashIs s h kept bytes
+    pub clash_follows : (given : Named) (kept bytes : List ℕ) → FirstRefused s.digest spawned b.table given (Learn.Clash kept bytes)
+        → ClashIs s h kept bytes
     clash_follows given kept bytes w =
         let c = clash s.digest given (learned_all s.digest w.before b.table) kept bytes w.refused in
         let n = named_front given (Learn.Clash kept bytes) w in
         let row = in_rows s.digest (learned_all s.digest w.before b.table).rows (named_then given (Learn.Clash kept bytes) w) c.row c.there in
-        let t = reporting.clash s.job is.laws s.inner is.knows s.lower tag is.exact b.plan h f.lawful o (report_view k spawned end) taken.is_open (map named_view w.before) (map named_view w.after) (views (learned_all s.digest w.before b.table).rows) (named_view given) (split given (Learn.Clash kept bytes) w) (book_learns w.before n.0 w.learned) taken.says (desc_view c.row.desc) (view_in c.row (learned_all s.digest w.before b.table).rows c.there) (sym row.name ∙ (c.name ∙ n.1.name)) c.other in
+        let t = reporting.clash s.job is.laws s.inner is.knows s.lower tag is.exact b.plan h f.lawful o (report_view k spawned end) taken.is_open
+        (map named_view w.before) (map named_view w.after) (views (learned_all s.digest w.before b.table).rows) (named_view given)
+        (split given (Learn.Clash kept bytes) w) (book_learns w.before n.0 w.learned) taken.says (desc_view c.row.desc)
+        (view_in c.row (learned_all s.digest w.before b.table).rows c.there) (sym row.name ∙ (c.name ∙ n.1.name)) c.other in
         record { first = t.0; second = t.1; is_kept = ap canon t.2 ∙ c.kept_is; is_given = ap canon t.3 ∙ c.given_is; clashes = t.4 }
 
-    pub overflow_follows : (given : Named) (held : ℕ) → FirstRefused s.digest spawned b.table given (Learn.Full held) → (held ≡ b.plan.limit) × OverflowIs s h held given
+    pub overflow_follows : (given : Named) (held : ℕ) → FirstRefused s.digest spawned b.table given (Learn.Full held) → (held ≡ b.plan.limit)
+        × OverflowIs s h held given
     overflow_follows given held w =
         let c = full s.digest given (learned_all s.digest w.before b.table) held w.refused in
         let n = named_front given (Learn.Full held) w in
-        let t = reporting.overflow s.job is.laws s.inner is.knows s.lower tag is.exact b.plan h f.lawful o (report_view k spawned end) taken.is_open (map named_view w.before) (map named_view w.after) (views (learned_all s.digest w.before b.table).rows) (named_view given) (split given (Learn.Full held) w) (book_learns w.before n.0 w.learned) taken.says (new_name s.digest given (learned_all s.digest w.before b.table) (named_then given (Learn.Full held) w) n.1 c.new) in
+        let t = reporting.overflow s.job is.laws s.inner is.knows s.lower tag is.exact b.plan h f.lawful o (report_view k spawned end)
+        taken.is_open (map named_view w.before) (map named_view w.after) (views (learned_all s.digest w.before b.table).rows)
+        (named_view given) (split given (Learn.Full held) w) (book_learns w.before n.0 w.learned) taken.says
+        (new_name s.digest given (learned_all s.digest w.before b.table) (named_then given (Learn.Full held) w) n.1 c.new) in
         let g = grown s.digest w.before b.table in
         let l = room_all s.digest w.before b.table w.learned sound.room in
         let m = c.full in

@@ -5,7 +5,8 @@ ghost use Rattle.std.specs.Prelude.{◌≡◌, ◌<◌, ◌^◌, ◌++◌, ◌�
 ghost use Rattle.std.specs.Option.{option_map};
 ghost use Rattle.sky_base.specs.Val.{pairs_refs, refs, vals_refs};
 ghost use Rattle.sky_base.specs.View.{view};
-ghost use Rattle.ciel_board.specs.Board.{brought, key_number, least_place, lesser, place_at, place_for, spot_for, spot_in, stack_at, start_refs, wait_number, with_spot};
+ghost use Rattle.ciel_board.specs.Board.{brought, key_number, least_place, lesser, place_at, place_for, spot_for, spot_in, stack_at, start_refs};
+ghost use Rattle.ciel_board.specs.Board.{wait_number, with_spot};
 ghost use Rattle.ciel_bring.specs.Brings.{first_held_by, order_at, row_for, worker_of};
 ghost use Rattle.ciel_task.specs.Views.{brought_view, order_view, spot_view};
 ghost use Rattle.ciel_table.specs.Seen.{row_named};
@@ -134,7 +135,8 @@ fn spot_for(keys: &[Txt], worker: u32, table: &Table<Place<Block>>, name: &Name)
 
 /// Puts a name at the end, if there is a spot for it.
 fn push_spot(inputs: &mut Vec<Held>, name: &Name, spot: Option<Spot>) -> Result<(), Memory>
-    ensures { OnOk result (map brought_view inputs.new.items ≡ map brought_view inputs.old.items ++ with_spot worker_of name.now (option_map spot_view spot) []) }
+    ensures { OnOk result (map brought_view inputs.new.items ≡ map brought_view inputs.old.items
+        ++ with_spot worker_of name.now (option_map spot_view spot) []) }
 {
     let Some(at) = spot else {
         return Ok(());
@@ -268,7 +270,8 @@ fn brought_first(
     row: Option<&Row<Place<Block>>>,
 ) -> Result<Vec<Held>, Memory>
     requires few { length keys.now < 2 ^ 32 }
-    ensures { IfOk result (λ hs. map brought_view hs.items ≡ brought worker_of keys.now worker table.now (first_held_by main.now task.now (option_map (λ r. r.now) row.entry))) }
+    ensures { IfOk result (λ hs. map brought_view hs.items
+        ≡ brought worker_of keys.now worker table.now (first_held_by main.now task.now (option_map (λ r. r.now) row.entry))) }
 {
     let names = first_held(alloc, main, task, row)?;
     let inputs = brought(alloc, keys, worker, table, names.as_slice())?;

@@ -1,5 +1,6 @@
 -- What an order brings along is what the task holds at the order's wait and was live.
-use Rattle.std.proofs.Common.{◌≡◌, ℕ, suc, List, [], ◌∷◌, map, Bool, true, false, cond, Option, Some, None, nat_eq, nat_lt, slice_get, refl, sym, ap, subst, ◌∙◌}
+use Rattle.std.proofs.Common.{◌≡◌, ℕ, suc, List, [], ◌∷◌, map, Bool, true, false, cond, Option, Some, None, nat_eq, nat_lt, slice_get, refl, sym, ap}
+use Rattle.std.proofs.Common.{subst, ◌∙◌}
 use Rattle.std.specs.List.{list_any}
 use Rattle.std.specs.Option.{option_map, option_and_then}
 use Rattle.sky_base.specs.KitView.{Gives}
@@ -38,7 +39,8 @@ use Rattle.ciel_task.specs.declared.block.Spot.{Spot}
 use Rattle.ciel_task.specs.declared.order.Order.{Order}
 use Rattle.ciel_walks.specs.Laws.{Brings}
 use Rattle.ciel_brought.specs.Brought.{lies_known}
-use Rattle.ciel_brought.proofs.Finding.{found_named, found_stands, input_view, names_brought, numbered, object_is, shelf_view, spot_at, spot_found, spot_has}
+use Rattle.ciel_brought.proofs.Finding.{found_named, found_stands, input_view, names_brought, numbered, object_is, shelf_view, spot_at, spot_found}
+use Rattle.ciel_brought.proofs.Finding.{spot_has}
 use Rattle.sha1.specs.Sha1.{sha1}
 use Rattle.sky_frozen.specs.Bytes.{frozen_bytes}
 
@@ -61,7 +63,8 @@ least_some job w ws e = go (least job ws) e
     go None q = cc
     go (Some u) q = two (nat_lt u w) u q
 
-worker_some : {D : Type 0} (job : Job D) (w : ℕ) (ws : List ℕ) (tk : Option (Task D)) (u : Task D) → tk ≡ Some u → live_if job tk ws ≡ true → worker_for job w ws ≡ None → ⊥
+worker_some : {D : Type 0} (job : Job D) (w : ℕ) (ws : List ℕ) (tk : Option (Task D)) (u : Task D) → tk ≡ Some u → live_if job tk ws ≡ true
+    → worker_for job w ws ≡ None → ⊥
 worker_some job w [] tk u is l e = absurd (false_true (sym (ap (λ x. live_if job x []) is) ∙ l))
   where
     false_true : false ≡ true → ⊥
@@ -89,34 +92,53 @@ module _ (digest : List ℕ → List ℕ) (job : s.Job) (gives : Gives) (keyed :
   pub has_seen : (p : P) (d : s.Desc) → HasObject S p d → (x : Object (List ℕ)) × SeenAs tag job around d x × (object_in p.at.value ≡ Some x)
   has_seen p d h = go (see job around h.0 d) refl h.1
     where
-      go : (y : Option s.Obj) → see job around h.0 d ≡ y → option_map (λ x. shop.Block.object (object_by_names digest x)) y ≡ Some (block_view p.at.value) → (x : Object (List ℕ)) × SeenAs tag job around d x × (object_in p.at.value ≡ Some x)
+      go : (y : Option s.Obj) → see job around h.0 d ≡ y → option_map (λ x. shop.Block.object (object_by_names digest x)) y
+          ≡ Some (block_view p.at.value) → (x : Object (List ℕ)) × SeenAs tag job around d x × (object_in p.at.value ≡ Some x)
       go None q e = absurd cc
-      go (Some y) q e =
-          (low_obj no_name tag y, (h.0, y, q, refl), object_is p.at.value (low_obj no_name tag y) (sym (some_is (shop.Block.object (object_by_names digest y)) (block_view p.at.value) e)))
+      go (Some y) q e = (
+        low_obj no_name tag y,
+        (h.0, y, q, refl),
+        object_is p.at.value (low_obj no_name tag y)
+            (sym (some_is (shop.Block.object (object_by_names digest y)) (block_view p.at.value) e)),
+      )
 
   input_seen : (k : List ℕ) → see job around 1 (input k) ≡ Some (Object.bytes (input_bytes k job.inputs))
   unfolding see
   input_seen k = refl
 
   -- of an input, its bytes
-  input_is : (d : s.Desc) (k : List ℕ) (i : ℕ) → low_desc no_name tag d ≡ input k → key_number job.script.keys k ≡ Some i → (x : Object (List ℕ)) × SeenAs tag job around d x × (lies_at job.inputs (Spot.Input i) ≡ Some x)
+  input_is : (d : s.Desc) (k : List ℕ) (i : ℕ) → low_desc no_name tag d ≡ input k → key_number job.script.keys k ≡ Some i → (x : Object (List ℕ))
+      × SeenAs tag job around d x × (lies_at job.inputs (Spot.Input i) ≡ Some x)
   input_is (call f c vs) k i l e = absurd cc
   input_is (out x a n j) k i l e = absurd cc
   input_is (known b) k i l e = absurd b
   input_is (input m) k i l e =
-      let same : m ≡ k = cc in
-      (Object.bytes (input_bytes k job.inputs), (1, Object.bytes (input_bytes k job.inputs), ap (λ y. see job around 1 (input y)) same ∙ input_seen k, refl), lies (slice_get job.inputs i) (numbered job.inputs k i (ap (place_of (λ (n : List ℕ). n) k) keyed ∙ e)))
+      let same : m ≡ k = cc in (
+        Object.bytes (input_bytes k job.inputs),
+        (
+          1,
+          Object.bytes (input_bytes k job.inputs),
+          ap (λ y. see job around 1 (input y)) same
+              ∙ input_seen k,
+          refl,
+        ),
+        lies (slice_get job.inputs i) (numbered job.inputs k i (ap (place_of (λ (n : List ℕ). n) k) keyed ∙ e)),
+      )
     where
-      lies : (y : Option (List ℕ × List ℕ)) → option_map (λ (x : List ℕ × List ℕ). x.1) y ≡ Some (input_bytes k job.inputs) → bytes_at y ≡ Some (as_object (input_bytes k job.inputs))
+      lies : (y : Option (List ℕ × List ℕ)) → option_map (λ (x : List ℕ × List ℕ). x.1) y ≡ Some (input_bytes k job.inputs) → bytes_at y
+          ≡ Some (as_object (input_bytes k job.inputs))
       lies None q = absurd cc
       lies (Some y) q = ap (λ w. Some (as_object w)) (some_is y.1 (input_bytes k job.inputs) q)
 
-  lies_is : (n : List ℕ) (h : Held) (sp : Spot) (x : Object (List ℕ)) → found held_name n held ≡ Some h → h.at ≡ sp → lies_at job.inputs sp ≡ Some x → lies_of job.inputs held n ≡ Some x
+  lies_is : (n : List ℕ) (h : Held) (sp : Spot) (x : Object (List ℕ)) → found held_name n held ≡ Some h → h.at ≡ sp → lies_at job.inputs sp
+      ≡ Some x → lies_of job.inputs held n ≡ Some x
   lies_is n h sp x f at e =
       ap (λ y. option_and_then (λ (g : Held). lies_at job.inputs g.at) y) f ∙ ap (lies_at job.inputs) at ∙ e
 
   -- what is brought for d, where d was live
-  brought_is : (d : s.Desc) (tk : Option (Task s.Desc)) → S.job.task_of d ≡ tk → BroughtFor S o d tk (spot_of (S.job.name d) (map brought_view held)) → live_if S.job (S.job.task_of d) (o.had d) ≡ true → (x : Object (List ℕ)) × SeenAs tag job around d x × (lies_of job.inputs held (S.job.name d) ≡ Some x)
+  brought_is : (d : s.Desc) (tk : Option (Task s.Desc)) → S.job.task_of d ≡ tk
+      → BroughtFor S o d tk (spot_of (S.job.name d) (map brought_view held)) → live_if S.job (S.job.task_of d) (o.had d) ≡ true
+      → (x : Object (List ℕ)) × SeenAs tag job around d x × (lies_of job.inputs held (S.job.name d) ≡ Some x)
   brought_is d None is b l = (seen.0, seen.1, lies_is (S.job.name d) f.0 (Spot.Input b.1) seen.0 f.1 (input_view f.0.at b.1 f.2) seen.2)
     where
       seen : (x : Object (List ℕ)) × SeenAs tag job around d x × (lies_at job.inputs (Spot.Input b.1) ≡ Some x)
@@ -126,7 +148,8 @@ module _ (digest : List ℕ → List ℕ) (job : s.Job) (gives : Gives) (keyed :
       f = spot_has (S.job.name d) held (board.Spot.input b.1) b.4
   brought_is d (Some u) is b l = go (worker_for S.job o.worker (o.had d)) refl b
     where
-      go : (w : Option ℕ) → worker_for S.job o.worker (o.had d) ≡ w → FetchedAt S d w (spot_of (S.job.name d) (map brought_view held)) → (x : Object (List ℕ)) × SeenAs tag job around d x × (lies_of job.inputs held (S.job.name d) ≡ Some x)
+      go : (w : Option ℕ) → worker_for S.job o.worker (o.had d) ≡ w → FetchedAt S d w (spot_of (S.job.name d) (map brought_view held))
+          → (x : Object (List ℕ)) × SeenAs tag job around d x × (lies_of job.inputs held (S.job.name d) ≡ Some x)
       go None q a = absurd (worker_some S.job o.worker (o.had d) (S.job.task_of d) u is l q)
       go (Some w) q a = (seen.0, seen.1, lies_is (S.job.name d) f.0 (Spot.Shelf a.0) seen.0 f.1 (shelf_view f.0.at a.0 f.2) seen.2)
         where
@@ -137,11 +160,13 @@ module _ (digest : List ℕ → List ℕ) (job : s.Job) (gives : Gives) (keyed :
           f = spot_has (S.job.name d) held (board.Spot.shelf a.0) a.1
 
   -- what has a place was live
-  brought_live : (d : s.Desc) (h : Held) (tk : Option (Task s.Desc)) → S.job.task_of d ≡ tk → found held_name (S.job.name d) held ≡ Some h → BroughtFor S o d tk (spot_of (S.job.name d) (map brought_view held)) → live_if S.job tk (o.had d) ≡ true
+  brought_live : (d : s.Desc) (h : Held) (tk : Option (Task s.Desc)) → S.job.task_of d ≡ tk → found held_name (S.job.name d) held ≡ Some h
+      → BroughtFor S o d tk (spot_of (S.job.name d) (map brought_view held)) → live_if S.job tk (o.had d) ≡ true
   brought_live d h None is f b = refl
   brought_live d h (Some u) is f b = go (o.had d) b
     where
-      go : (ws : List ℕ) → FetchedAt S d (worker_for S.job o.worker ws) (spot_of (S.job.name d) (map brought_view held)) → live_if S.job (Some u) ws ≡ true
+      go : (ws : List ℕ) → FetchedAt S d (worker_for S.job o.worker ws) (spot_of (S.job.name d) (map brought_view held))
+          → live_if S.job (Some u) ws ≡ true
       go [] a = let e : Some (spot_at h) ≡ None = ap (option_map spot_at) (sym f) ∙ sym (spot_found (S.job.name d) held) ∙ a in absurd cc
       go (w ∷ ws) a = refl
 
@@ -161,7 +186,8 @@ module _ (digest : List ℕ → List ℕ) (job : s.Job) (gives : Gives) (keyed :
     lies_found : (n : List ℕ) (x : Object (List ℕ)) → lies_of job.inputs held n ≡ Some x → (h : Held) × (found held_name n held ≡ Some h)
     lies_found n x e = go (found held_name n held) refl e
       where
-        go : (y : Option Held) → found held_name n held ≡ y → option_and_then (λ (g : Held). lies_at job.inputs g.at) y ≡ Some x → (h : Held) × (found held_name n held ≡ Some h)
+        go : (y : Option Held) → found held_name n held ≡ y → option_and_then (λ (g : Held). lies_at job.inputs g.at) y ≡ Some x → (h : Held)
+            × (found held_name n held ≡ Some h)
         go None q f = absurd cc
         go (Some h) q f = (h, q)
 
@@ -172,8 +198,11 @@ module _ (digest : List ℕ → List ℕ) (job : s.Job) (gives : Gives) (keyed :
           only = λ d x e. whose d (lies_found (S.job.name d) x e);
         }
       where
-        whose : (d : s.Desc) → (h : Held) × (found held_name (S.job.name d) held ≡ Some h) → (e : s.Desc) × Given S.job o e × (S.job.name e ≡ S.job.name d)
-        whose d (h, f) = of_only (is.only (S.job.name d) (subst (In (S.job.name d)) (sym (names_brought held)) (found_stands (S.job.name d) held h f)))
+        whose : (d : s.Desc) → (h : Held) × (found held_name (S.job.name d) held ≡ Some h) → (e : s.Desc) × Given S.job o e
+            × (S.job.name e ≡ S.job.name d)
+        whose d (h, f) = of_only (is.only (S.job.name d)
+            (subst (In (S.job.name d)) (sym (names_brought held)) (found_stands (S.job.name d) held h f)))
           where
-            of_only : (e : s.Desc) × HeldAt S.job o.task o.from e × (S.job.name d ≡ S.job.name e) → (e : s.Desc) × Given S.job o e × (S.job.name e ≡ S.job.name d)
+            of_only : (e : s.Desc) × HeldAt S.job o.task o.from e × (S.job.name d ≡ S.job.name e) → (e : s.Desc) × Given S.job o e
+                × (S.job.name e ≡ S.job.name d)
             of_only (e, a, n) = (e, found_given e h a (ap (λ m. found held_name m held) (sym n) ∙ f), sym n)

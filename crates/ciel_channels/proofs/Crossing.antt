@@ -52,10 +52,56 @@ use Rattle.ciel_channels.specs.contracts.performing.Job as work_row
 use Rattle.ciel_channels.specs.contracts.performing.Done as done_row
 
 pub body_sync : IsSync block_row.the_row
-body_sync = search (std_crossing.crosses, stmt_arms.crosses, tree_exprs.crosses, text_txt.the_send, text_txt.the_sync, tree_arithop.the_send, tree_arithop.the_sync, tree_cmp.the_field_send, tree_cmp.the_send, tree_cmp.the_field_sync, tree_cmp.the_sync, tree_lit.the_field_send, tree_lit.the_send, tree_lit.the_field_sync, tree_lit.the_sync, tree_signat.the_send, tree_signat.the_sync, option_option.the_field_send, option_option.the_send, option_option.the_field_sync, option_option.the_sync, sendable) depth 60 fits 20000
+body_sync = search (
+  std_crossing.crosses,
+  stmt_arms.crosses,
+  tree_exprs.crosses,
+  text_txt.the_send,
+  text_txt.the_sync,
+  tree_arithop.the_send,
+  tree_arithop.the_sync,
+  tree_cmp.the_field_send,
+  tree_cmp.the_send,
+  tree_cmp.the_field_sync,
+  tree_cmp.the_sync,
+  tree_lit.the_field_send,
+  tree_lit.the_send,
+  tree_lit.the_field_sync,
+  tree_lit.the_sync,
+  tree_signat.the_send,
+  tree_signat.the_sync,
+  option_option.the_field_send,
+  option_option.the_send,
+  option_option.the_field_sync,
+  option_option.the_sync,
+  sendable,
+) depth 60 fits 20000
 
 pub body_send : IsSend block_row.the_row
-body_send = search (std_crossing.crosses, stmt_arms.crosses, tree_exprs.crosses, text_txt.the_send, text_txt.the_sync, tree_arithop.the_send, tree_arithop.the_sync, tree_cmp.the_field_send, tree_cmp.the_send, tree_cmp.the_field_sync, tree_cmp.the_sync, tree_lit.the_field_send, tree_lit.the_send, tree_lit.the_field_sync, tree_lit.the_sync, tree_signat.the_send, tree_signat.the_sync, option_option.the_field_send, option_option.the_send, option_option.the_field_sync, option_option.the_sync, sendable) depth 60 fits 20000
+body_send = search (
+  std_crossing.crosses,
+  stmt_arms.crosses,
+  tree_exprs.crosses,
+  text_txt.the_send,
+  text_txt.the_sync,
+  tree_arithop.the_send,
+  tree_arithop.the_sync,
+  tree_cmp.the_field_send,
+  tree_cmp.the_send,
+  tree_cmp.the_field_sync,
+  tree_cmp.the_sync,
+  tree_lit.the_field_send,
+  tree_lit.the_send,
+  tree_lit.the_field_sync,
+  tree_lit.the_sync,
+  tree_signat.the_send,
+  tree_signat.the_sync,
+  option_option.the_field_send,
+  option_option.the_send,
+  option_option.the_field_sync,
+  option_option.the_sync,
+  sendable,
+) depth 60 fits 20000
 
 pub texts_sync : IsSync texts_row.the_row
 texts_sync = script_texts.the_sync
@@ -64,10 +110,62 @@ pub texts_send : IsSend texts_row.the_row
 texts_send = script_texts.the_send
 
 pub defs_sync : IsSync fundefs_row.the_row
-defs_sync = search (std_crossing.crosses, stmt_arms.crosses, tree_exprs.crosses, script_texts.the_sync, text_txt.the_send, text_txt.the_sync, tree_arithop.the_send, tree_arithop.the_sync, tree_cmp.the_field_send, tree_cmp.the_send, tree_cmp.the_field_sync, tree_cmp.the_sync, tree_lit.the_field_send, tree_lit.the_send, tree_lit.the_field_sync, tree_lit.the_sync, tree_signat.the_send, tree_signat.the_sync, vec_vec.the_sync, option_option.the_field_send, option_option.the_send, option_option.the_field_sync, option_option.the_sync, sendable) depth 60 fits 20000
+defs_sync = search (
+  std_crossing.crosses,
+  stmt_arms.crosses,
+  tree_exprs.crosses,
+  script_texts.the_sync,
+  text_txt.the_send,
+  text_txt.the_sync,
+  tree_arithop.the_send,
+  tree_arithop.the_sync,
+  tree_cmp.the_field_send,
+  tree_cmp.the_send,
+  tree_cmp.the_field_sync,
+  tree_cmp.the_sync,
+  tree_lit.the_field_send,
+  tree_lit.the_send,
+  tree_lit.the_field_sync,
+  tree_lit.the_sync,
+  tree_signat.the_send,
+  tree_signat.the_sync,
+  vec_vec.the_sync,
+  option_option.the_field_send,
+  option_option.the_send,
+  option_option.the_field_sync,
+  option_option.the_sync,
+  sendable,
+) depth
+    60 fits 20000
 
 pub defs_send : IsSend fundefs_row.the_row
-defs_send = search (std_crossing.crosses, stmt_arms.crosses, tree_exprs.crosses, script_texts.the_send, text_txt.the_send, text_txt.the_sync, tree_arithop.the_send, tree_arithop.the_sync, tree_cmp.the_field_send, tree_cmp.the_send, tree_cmp.the_field_sync, tree_cmp.the_sync, tree_lit.the_field_send, tree_lit.the_send, tree_lit.the_field_sync, tree_lit.the_sync, tree_signat.the_send, tree_signat.the_sync, vec_vec.the_send, option_option.the_field_send, option_option.the_send, option_option.the_field_sync, option_option.the_sync, sendable) depth 60 fits 20000
+defs_send = search (
+  std_crossing.crosses,
+  stmt_arms.crosses,
+  tree_exprs.crosses,
+  script_texts.the_send,
+  text_txt.the_send,
+  text_txt.the_sync,
+  tree_arithop.the_send,
+  tree_arithop.the_sync,
+  tree_cmp.the_field_send,
+  tree_cmp.the_send,
+  tree_cmp.the_field_sync,
+  tree_cmp.the_sync,
+  tree_lit.the_field_send,
+  tree_lit.the_send,
+  tree_lit.the_field_sync,
+  tree_lit.the_sync,
+  tree_signat.the_send,
+  tree_signat.the_sync,
+  vec_vec.the_send,
+  option_option.the_field_send,
+  option_option.the_send,
+  option_option.the_field_sync,
+  option_option.the_sync,
+  sendable,
+) depth
+    60 fits 20000
 
 pub inputs_sync : IsSync inputs_row.the_row
 inputs_sync = job_inputs.the_sync
@@ -82,13 +180,64 @@ pub script_send : IsSend script_row.the_row
 script_send = search (defs_send, body_send, texts_send, std_crossing.crosses, sendable) depth 60 fits 20000
 
 pub run_field_sync : IsSync (runstate_row.the_field).row
-run_field_sync = search (std_crossing.crosses, value_pairs.crosses, name_name.the_send, name_name.the_sync, text_txt.the_send, text_txt.the_sync, value_total.the_send, value_total.the_sync, frame_todos.the_sync, vec_vec.the_sync, alloc_global.the_field_sync, shared_shared.the_send, shared_shared.the_field_sync, shared_shared.the_sync, sync_arc.the_sync, vec_vec.the_send, sendable) depth 60 fits 20000
+run_field_sync = search (
+  std_crossing.crosses,
+  value_pairs.crosses,
+  name_name.the_send,
+  name_name.the_sync,
+  text_txt.the_send,
+  text_txt.the_sync,
+  value_total.the_send,
+  value_total.the_sync,
+  frame_todos.the_sync,
+  vec_vec.the_sync,
+  alloc_global.the_field_sync,
+  shared_shared.the_send,
+  shared_shared.the_field_sync,
+  shared_shared.the_sync,
+  sync_arc.the_sync,
+  vec_vec.the_send,
+  sendable,
+) depth 60 fits 20000
 
 pub state_field_sync : IsSync (state_row.the_field).row
-state_field_sync = search (run_field_sync, std_crossing.crosses, value_pairs.crosses, name_name.the_send, name_name.the_sync, text_txt.the_send, text_txt.the_sync, value_total.the_send, value_total.the_sync, shared_shared.the_send, shared_shared.the_field_sync, shared_shared.the_sync, sendable) depth 60 fits 20000
+state_field_sync = search (
+  run_field_sync,
+  std_crossing.crosses,
+  value_pairs.crosses,
+  name_name.the_send,
+  name_name.the_sync,
+  text_txt.the_send,
+  text_txt.the_sync,
+  value_total.the_send,
+  value_total.the_sync,
+  shared_shared.the_send,
+  shared_shared.the_field_sync,
+  shared_shared.the_sync,
+  sendable,
+) depth 60 fits 20000
 
 pub state_field_send : IsSend (state_row.the_field).row
-state_field_send = search (std_crossing.crosses, value_pairs.crosses, name_name.the_send, name_name.the_sync, text_txt.the_send, text_txt.the_sync, value_total.the_send, value_total.the_sync, frame_todos.the_send, vec_vec.the_sync, alloc_global.the_field_send, alloc_global.the_send, shared_shared.the_field_send, shared_shared.the_send, shared_shared.the_sync, sync_arc.the_send, vec_vec.the_send, sendable) depth 60 fits 20000
+state_field_send = search (
+  std_crossing.crosses,
+  value_pairs.crosses,
+  name_name.the_send,
+  name_name.the_sync,
+  text_txt.the_send,
+  text_txt.the_sync,
+  value_total.the_send,
+  value_total.the_sync,
+  frame_todos.the_send,
+  vec_vec.the_sync,
+  alloc_global.the_field_send,
+  alloc_global.the_send,
+  shared_shared.the_field_send,
+  shared_shared.the_send,
+  shared_shared.the_sync,
+  sync_arc.the_send,
+  vec_vec.the_send,
+  sendable,
+) depth 60 fits 20000
 
 pub frozen_send : IsSend frozen_row.the_row
 frozen_send = search (state_field_send, text_bytes.the_send, std_crossing.crosses, sendable) depth 60 fits 20000
@@ -97,10 +246,40 @@ pub frozen_sync : IsSync frozen_row.the_row
 frozen_sync = search (state_field_sync, text_bytes.the_sync, std_crossing.crosses, sendable) depth 60 fits 20000
 
 pub object_field_send : IsSend (object_row.the_field).row
-object_field_send = search (std_crossing.crosses, value_pairs.crosses, fault_fault.the_field_send, name_name.the_send, name_name.the_sync, text_bytes.the_send, text_txt.the_send, text_txt.the_sync, value_total.the_send, value_total.the_sync, shared_shared.the_field_send, shared_shared.the_send, shared_shared.the_sync, sendable) depth 60 fits 20000
+object_field_send = search (
+  std_crossing.crosses,
+  value_pairs.crosses,
+  fault_fault.the_field_send,
+  name_name.the_send,
+  name_name.the_sync,
+  text_bytes.the_send,
+  text_txt.the_send,
+  text_txt.the_sync,
+  value_total.the_send,
+  value_total.the_sync,
+  shared_shared.the_field_send,
+  shared_shared.the_send,
+  shared_shared.the_sync,
+  sendable,
+) depth 60 fits 20000
 
 pub object_field_sync : IsSync (object_row.the_field).row
-object_field_sync = search (std_crossing.crosses, value_pairs.crosses, fault_fault.the_field_sync, name_name.the_send, name_name.the_sync, text_bytes.the_sync, text_txt.the_send, text_txt.the_sync, value_total.the_send, value_total.the_sync, shared_shared.the_send, shared_shared.the_field_sync, shared_shared.the_sync, sendable) depth 60 fits 20000
+object_field_sync = search (
+  std_crossing.crosses,
+  value_pairs.crosses,
+  fault_fault.the_field_sync,
+  name_name.the_send,
+  name_name.the_sync,
+  text_bytes.the_sync,
+  text_txt.the_send,
+  text_txt.the_sync,
+  value_total.the_send,
+  value_total.the_sync,
+  shared_shared.the_send,
+  shared_shared.the_field_sync,
+  shared_shared.the_sync,
+  sendable,
+) depth 60 fits 20000
 
 pub block_send : IsSend spot_row.the_row
 block_send = search (object_field_send, frozen_send, std_crossing.crosses, sendable) depth 60 fits 20000
@@ -121,10 +300,47 @@ pub ready_send : IsSend ready_row.the_row
 ready_send = search (job_field_send, tables_tables.the_send, std_crossing.crosses, sendable) depth 60 fits 20000
 
 pub report_field_send : IsSend (report_row.the_field).row
-report_field_send = search (std_crossing.crosses, value_pairs.crosses, block_held.the_send, report_end.the_field_send, name_name.the_send, name_name.the_sync, object_taskid.the_field_send, text_txt.the_send, text_txt.the_sync, value_total.the_send, value_total.the_sync, alloc_global.the_field_send, shared_shared.the_field_send, shared_shared.the_send, shared_shared.the_sync, vec_vec.the_send, sendable) depth 60 fits 20000
+report_field_send = search (
+  std_crossing.crosses,
+  value_pairs.crosses,
+  block_held.the_send,
+  report_end.the_field_send,
+  name_name.the_send,
+  name_name.the_sync,
+  object_taskid.the_field_send,
+  text_txt.the_send,
+  text_txt.the_sync,
+  value_total.the_send,
+  value_total.the_sync,
+  alloc_global.the_field_send,
+  shared_shared.the_field_send,
+  shared_shared.the_send,
+  shared_shared.the_sync,
+  vec_vec.the_send,
+  sendable,
+) depth
+    60 fits 20000
 
 pub order_field_send : IsSend (order_row.the_field).row
-order_field_send = search (std_crossing.crosses, value_pairs.crosses, shelves_place.the_send, block_held.the_send, name_name.the_send, name_name.the_sync, object_taskid.the_field_send, text_txt.the_send, text_txt.the_sync, value_total.the_send, value_total.the_sync, alloc_global.the_field_send, option_option.the_field_send, shared_shared.the_field_send, shared_shared.the_send, shared_shared.the_sync, sendable) depth 60 fits 20000
+order_field_send = search (
+  std_crossing.crosses,
+  value_pairs.crosses,
+  shelves_place.the_send,
+  block_held.the_send,
+  name_name.the_send,
+  name_name.the_sync,
+  object_taskid.the_field_send,
+  text_txt.the_send,
+  text_txt.the_sync,
+  value_total.the_send,
+  value_total.the_sync,
+  alloc_global.the_field_send,
+  option_option.the_field_send,
+  shared_shared.the_field_send,
+  shared_shared.the_send,
+  shared_shared.the_sync,
+  sendable,
+) depth 60 fits 20000
 
 pub shop_field_sync : (K N : RattleType) → IsSync K → IsSync N → IsSync (shop_row.the_field K N).row
 shop_field_sync K N k n = search (ready_sync, shelves.the_sync, block_send, block_sync, std_crossing.crosses, sendable) depth 60 fits 20000
@@ -136,7 +352,27 @@ pub tools_field_send : (G : RattleType) → IsSend G → IsSend (tools_row.the_f
 tools_field_send G g = search (eye.the_send, std_crossing.crosses, sendable) depth 60 fits 20000
 
 pub work_send : (K N G R : RattleType) → IsSend K → IsSync K → IsSend N → IsSync N → IsSend G → IsSend R → IsSend (work_row.the_row K N G R)
-work_send K N G R k k' n n' g r = search (shop_field_send, shop_field_sync, order_field_send, tools_field_send, sync_arc.the_send, alloc_global.the_send, alloc_global.the_sync, alloc_global.the_field_send, std_crossing.crosses, sendable) depth 60 fits 20000
+work_send K N G R k k' n n' g r = search (
+  shop_field_send,
+  shop_field_sync,
+  order_field_send,
+  tools_field_send,
+  sync_arc.the_send,
+  alloc_global.the_send,
+  alloc_global.the_sync,
+  alloc_global.the_field_send,
+  std_crossing.crosses,
+  sendable,
+) depth 60 fits 20000
 
 pub done_send : (G : RattleType) → IsSend G → IsSend (done_row.the_row G)
-done_send G g = search (report_field_send, tools_field_send, result_result.the_field_send, result_result.the_send, text_memory.the_field_send, text_memory.the_send, std_crossing.crosses, sendable) depth 60 fits 20000
+done_send G g = search (
+  report_field_send,
+  tools_field_send,
+  result_result.the_field_send,
+  result_result.the_send,
+  text_memory.the_field_send,
+  text_memory.the_send,
+  std_crossing.crosses,
+  sendable,
+) depth 60 fits 20000

@@ -1,5 +1,6 @@
 -- The crew at the opening.
-use Rattle.std.proofs.Common.{◌≡◌, ℕ, zero, suc, ◌<◌, ◌≤◌, List, [], ◌∷◌, length, get_or, map, replicate, true, Option, Some, None, refl, sym, ap, subst, ◌∙◌, arith}
+use Rattle.std.proofs.Common.{◌≡◌, ℕ, zero, suc, ◌<◌, ◌≤◌, List, [], ◌∷◌, length, get_or, map, replicate, true, Option, Some, None, refl, sym, ap}
+use Rattle.std.proofs.Common.{subst, ◌∙◌, arith}
 use Rattle.std.specs.Prelude.{All}
 use Rattle.sky_base.specs.JobView.{job_view}
 use Rattle.sky_base.specs.declared.object.TaskId.{TaskId}
@@ -36,9 +37,11 @@ module _ {K N G R : Type 0} where
   no_orders [] all = refl
   no_orders (l ∷ ls) all =
       let rest : orders_of ls ≡ replicate (length ls) None = no_orders ls (rest_fresh l ls all) in
-      subst (λ (x : LaneSeen (Job K N G R)). orders_of (x ∷ ls) ≡ replicate (length (l ∷ ls)) None) (sym (all zero l (omega arith))) (ap (λ os. None ∷ os) rest)
+      subst (λ (x : LaneSeen (Job K N G R)). orders_of (x ∷ ls) ≡ replicate (length (l ∷ ls)) None) (sym (all zero l (omega arith)))
+      (ap (λ os. None ∷ os) rest)
 
-  all_told : (entered : G → Option (List TaskId)) (ls : List (LaneSeen (Job K N G R))) (gates : List G) (eyes : List SeatSeen) → All IsFresh ls → length ls ≡ length gates → length eyes ≡ length gates
+  all_told : (entered : G → Option (List TaskId)) (ls : List (LaneSeen (Job K N G R))) (gates : List G) (eyes : List SeatSeen) → All IsFresh ls
+      → length ls ≡ length gates → length eyes ≡ length gates
       → lanes_told entered ls (tools_of gates eyes) ≡ map entered gates
   all_told entered [] [] eyes all many e = refl
   all_told entered [] (g ∷ gates) eyes all many e = absurd (omega (arith, many))
@@ -48,10 +51,12 @@ module _ {K N G R : Type 0} where
       let more : length ls ≡ length gates = omega (arith, many) in
       let fewer : length eyes ≡ length gates = omega (arith, e) in
       let rest : lanes_told entered ls (tools_of gates eyes) ≡ map entered gates = all_told entered ls gates eyes (rest_fresh l ls all) more fewer in
-      subst (λ (y : LaneSeen (Job K N G R)). lanes_told entered (y ∷ ls) (tools_of (g ∷ gates) (x ∷ eyes)) ≡ map entered (g ∷ gates)) (sym (all zero l (omega arith))) (ap (λ ts. entered g ∷ ts) rest)
+      subst (λ (y : LaneSeen (Job K N G R)). lanes_told entered (y ∷ ls) (tools_of (g ∷ gates) (x ∷ eyes)) ≡ map entered (g ∷ gates))
+      (sym (all zero l (omega arith))) (ap (λ ts. entered g ∷ ts) rest)
 
   module _ (shop : Shop K N) where
-    keeps_at : (gates : List G) (eyes : List SeatSeen) → length eyes ≡ length gates → AllLook shop eyes → (k j : ℕ) → k < length gates → KeepsAt {R = R} shop j None (get_or (tools_of gates eyes) k None)
+    keeps_at : (gates : List G) (eyes : List SeatSeen) → length eyes ≡ length gates → AllLook shop eyes → (k j : ℕ) → k < length gates
+        → KeepsAt {R = R} shop j None (get_or (tools_of gates eyes) k None)
     keeps_at [] eyes e look k j lt = absurd (omega (arith, lt))
     keeps_at (g ∷ gates) [] e look k j lt = absurd (omega (arith, e))
     keeps_at (g ∷ gates) (x ∷ eyes) e look zero j lt = record { one = refl; order = tt; look = look zero x (omega arith) }
@@ -59,21 +64,28 @@ module _ {K N G R : Type 0} where
         let rest : length eyes ≡ length gates = omega (arith, e) in
         keeps_at gates eyes rest (λ i y under. look (suc i) y (omega (arith, under))) k j (omega (arith, lt))
 
-    pub opens : (ls : List (LaneSeen (Job K N G R))) (gates : List G) (eyes : List SeatSeen) → All IsFresh ls → length ls ≡ length gates → length eyes ≡ length gates → AllLook shop eyes → Keeps shop ls (tools_of gates eyes)
+    pub opens : (ls : List (LaneSeen (Job K N G R))) (gates : List G) (eyes : List SeatSeen) → All IsFresh ls → length ls ≡ length gates
+        → length eyes ≡ length gates → AllLook shop eyes → Keeps shop ls (tools_of gates eyes)
     opens ls gates eyes all many e look = record {
       same = tools_many gates eyes e ∙ sym many;
       each = λ k lt.
           let f : lane_at ls k ≡ record { put = []; out = None } = all k record { put = []; out = None } lt in
-          subst (λ (x : LaneSeen (Job K N G R)). KeepsAt shop k x.out (get_or (tools_of gates eyes) k None)) (sym f) (keeps_at gates eyes e look k k (omega (arith, lt, many)));
+          subst (λ (x : LaneSeen (Job K N G R)). KeepsAt shop k x.out (get_or (tools_of gates eyes) k None)) (sym f)
+          (keeps_at gates eyes e look k k (omega (arith, lt, many)));
     }
 
-  pub opened_as : (shop : Shop K N) (entered : G → Option (List TaskId)) (ls : List (LaneSeen (Job K N G R))) (gates : List G) (eyes : List SeatSeen) (idle : List (Option (Tools G))) → All IsFresh ls → length ls ≡ length gates → length eyes ≡ length gates → idle ≡ tools_of gates eyes
+  pub opened_as : (shop : Shop K N) (entered : G → Option (List TaskId)) (ls : List (LaneSeen (Job K N G R))) (gates : List G)
+      (eyes : List SeatSeen) (idle : List (Option (Tools G))) → All IsFresh ls → length ls ≡ length gates → length eyes ≡ length gates → idle
+      ≡ tools_of gates eyes
       → seen_as shop (lanes_told entered ls idle) (orders_of ls) ≡ seen_as shop (map entered gates) (replicate (length gates) None)
   opened_as shop entered ls gates eyes idle all many e is =
-      ap (seen_as shop (lanes_told entered ls idle)) (no_orders ls all ∙ ap (λ (n : ℕ). replicate n None) many) ∙ ap (λ t. seen_as shop t (replicate (length gates) None)) (ap (lanes_told entered ls) is ∙ all_told entered ls gates eyes all many e)
+      ap (seen_as shop (lanes_told entered ls idle)) (no_orders ls all ∙ ap (λ (n : ℕ). replicate n None) many)
+      ∙ ap (λ t. seen_as shop t (replicate (length gates) None)) (ap (lanes_told entered ls) is ∙ all_told entered ls gates eyes all many e)
 
-  pub opened_stands : (shop : Shop K N) (ls : List (LaneSeen (Job K N G R))) (gates : List G) (eyes : List SeatSeen) (idle : List (Option (Tools G))) (room : List G) (capacity : ℕ) → IsRead (job_view shop.job).script → InputsInOrder (job_view shop.job)
-      → All IsFresh ls → length ls ≡ length gates → length eyes ≡ length gates → AllLook shop eyes → idle ≡ tools_of gates eyes → room ≡ [] → length gates ≤ capacity → Stands shop ls idle room capacity
+  pub opened_stands : (shop : Shop K N) (ls : List (LaneSeen (Job K N G R))) (gates : List G) (eyes : List SeatSeen)
+      (idle : List (Option (Tools G))) (room : List G) (capacity : ℕ) → IsRead (job_view shop.job).script → InputsInOrder (job_view shop.job)
+      → All IsFresh ls → length ls ≡ length gates → length eyes ≡ length gates → AllLook shop eyes → idle ≡ tools_of gates eyes → room ≡ []
+      → length gates ≤ capacity → Stands shop ls idle room capacity
   opened_stands shop ls gates eyes idle room capacity read inputs all many e look is empty enough =
       let long : length idle ≡ length gates = ap length is ∙ tools_many gates eyes e in
       record {

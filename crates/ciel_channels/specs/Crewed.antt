@@ -66,7 +66,8 @@ module _ {K N G R : Type 0} where
     pub each : (k : ℕ) → k < length lanes → KeepsAt shop k (lane_at lanes k).out (slice_index_or idle k None)
 
   -- the job's script is read from bytes, its inputs stand in order, the workers keep so, and there is room for all gates
-  pub record Stands (shop : Shop K N) (lanes : List (LaneSeen (Job K N G R))) (idle : List (Option (Tools G))) (gates : List G) (room : ℕ) : Type 0 where
+  pub record Stands (shop : Shop K N) (lanes : List (LaneSeen (Job K N G R))) (idle : List (Option (Tools G))) (gates : List G) (room : ℕ) : Type
+      0 where
     pub read : IsRead (job_view shop.job).script
     pub inputs : InputsInOrder (job_view shop.job)
     pub keeps : Keeps shop lanes idle

@@ -52,7 +52,13 @@ impl<K: Kit + Drop, N: Namer + Drop, G: Gate, R: Wait + Drop> Model for Channels
 
     ghost coded = { Prim.hlevel (codes, script_code, val_code, vals_code, pairs_code, stand_code) };
 
-    ghost view = { λ c. record { shop = arc_value c.shop; out = orders_of c.lanes; told = lanes_told G.entered c.lanes c.idle.items; sound = not c.broken } };
+    ghost view = { λ c. record {
+      shop = arc_value c.shop;
+      out = orders_of c.lanes;
+      told = lanes_told G.entered c.lanes c.idle.items;
+      sound =
+          not c.broken;
+    } };
 
     ghost invariant = { λ c. Stands (arc_value c.shop) c.lanes c.idle.items c.room.items (vec_capacity c.room) };
 }
@@ -81,7 +87,13 @@ where
         requires inputs { InputsInOrder (job_view (arc_value shop).job) }
         requires eyes { length eyes.items ≡ length gates.items }
         requires look { AllLook (arc_value shop) eyes.items }
-        ensures opened { IfOk result (λ c. c ≡ record { shop = arc_value shop; out = replicate (length gates.items) None; told = map G.entered gates.items; sound = true }) }
+        ensures opened { IfOk result (λ c. c ≡ record {
+          shop = arc_value shop;
+          out = replicate (length gates.items) None;
+          told =
+              map G.entered gates.items;
+          sound = true;
+        }) }
         ensures back { IfErr result (λ e. e.0 ≡ gates) }
     {
         let workers = gates.len() as u32;

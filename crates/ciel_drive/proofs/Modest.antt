@@ -19,7 +19,8 @@ use Rattle.ciel_drive.specs.Ended.{EndsSo, HasAnswer, SomeStays}
 
 -- a Lost in a driven history is of a loss of the plan
 module _ {D : Type 0} (job : Job D) (p : Plan) where
-  planned : (v : Standing D) (h : List (Event D)) (w c : ℕ) → DrivenFrom job p v h → In (Entry.Lost w c) (journal_of job h) → (loss : ℕ) × (count : ℕ) × (slice_get p.losses loss ≡ Some (count, w))
+  planned : (v : Standing D) (h : List (Event D)) (w c : ℕ) → DrivenFrom job p v h → In (Entry.Lost w c) (journal_of job h) → (loss : ℕ)
+      × (count : ℕ) × (slice_get p.losses loss ≡ Some (count, w))
   planned v [] w c d i = absurd i
   planned v (e ∷ es) w c d (inr i) = planned (after job v e) es w c d.2 i
   planned v (start k u t from ∷ es) w c d (inl q) = cc
@@ -31,7 +32,8 @@ module _ {D : Type 0} (job : Job D) (p : Plan) where
       let same : u ≡ w = cc in
       (a.0, a.1, subst (λ z. slice_get p.losses a.0 ≡ Some (a.1, z)) same a.2)
 
-module _ (digest : List ℕ → List ℕ) (job : s.Job) (gives : Gives) (orderly : IsOrderly digest job gives) (p : Plan) (m : IsModest digest job gives p.limit) (stays : SomeStays p) (J : List Entry) where
+module _ (digest : List ℕ → List ℕ) (job : s.Job) (gives : Gives) (orderly : IsOrderly digest job gives) (p : Plan)
+    (m : IsModest digest job gives p.limit) (stays : SomeStays p) (J : List Entry) where
   abbrev S : Setting s.Desc P shop.Block
   S = the_shop digest job gives
 

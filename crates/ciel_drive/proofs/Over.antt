@@ -28,7 +28,8 @@ use Rattle.ciel_turns.proofs.Idling.{none_can_run, some_is_idle}
 use Rattle.ciel_drive.specs.Ended.{Ended}
 use Rattle.ciel_drive.specs.Kept.{Kept}
 
-module _ {K N : Type 0} {gives : K → Gives} {digest : N → List ℕ → List ℕ} {shop_ : Shop K N} {unbroken : Bool} {m : MasterSeen N} {out : List (Option Order)} {draw : ℕ} (k : Kept gives digest shop_ unbroken m out draw) where
+module _ {K N : Type 0} {gives : K → Gives} {digest : N → List ℕ → List ℕ} {shop_ : Shop K N} {unbroken : Bool} {m : MasterSeen N}
+    {out : List (Option Order)} {draw : ℕ} (k : Kept gives digest shop_ unbroken m out draw) where
   abbrev D : List ℕ → List ℕ
   D = digest shop_.namer
 
@@ -57,7 +58,8 @@ module _ {K N : Type 0} {gives : K → Gives} {digest : N → List ℕ → List 
       record { driven = driven; cause = lost_ends S (shop_is D J G k.orderly) k.history b k.keeps.at_work.runs all }
 
   -- where tasks wait for each other
-  pub comes_round : b.orders ≡ [] → (names : List Digest) → Circle (board_graph b) names → Ended gives digest shop_ b.plan b.journal (RunEnd.Endless names)
+  pub comes_round : b.orders ≡ [] → (names : List Digest) → Circle (board_graph b) names
+      → Ended gives digest shop_ b.plan b.journal (RunEnd.Endless names)
   comes_round none names circle =
       let at = k.keeps.at_work in
       let c = (circle_follows S (shop_is D J G k.orderly) k.history b at.sound at.runs.follows none names circle).0 in
@@ -68,7 +70,8 @@ module _ {K N : Type 0} {gives : K → Gives} {digest : N → List ℕ → List 
   none_runs none x = none_can_run D worker_of b k.keeps.at_work.sound none x.0 x.1
 
   -- where no worker is idle, and one isn't lost, something is out
-  pub some_busy : ((w : ℕ) × (w < b.plan.workers) × (list_any (nat_eq w) b.table.gone ≡ false)) → {idle : List ℕ} → idle ≡ idle_of b → idle ≡ [] → 0 < length b.orders
+  pub some_busy : ((w : ℕ) × (w < b.plan.workers) × (list_any (nat_eq w) b.table.gone ≡ false)) → {idle : List ℕ} → idle ≡ idle_of b → idle ≡ []
+      → 0 < length b.orders
   some_busy here is e = go b.orders refl
     where
       go : (os : List OrderOut) → b.orders ≡ os → 0 < length os
@@ -77,6 +80,7 @@ module _ {K N : Type 0} {gives : K → Gives} {digest : N → List ℕ → List 
       go (y ∷ ys) q = omega arith
 
 -- an end later in the run is one of the run
-pub ended_on : {K N : Type 0} (gives : K → Gives) (digest : N → List ℕ → List ℕ) {shop shop_ : Shop K N} {p q : Plan} (journal : List Entry) (end : RunEnd) → shop ≡ shop_ → p ≡ q → Ended gives digest shop p journal end → Ended gives digest shop_ q journal end
+pub ended_on : {K N : Type 0} (gives : K → Gives) (digest : N → List ℕ → List ℕ) {shop shop_ : Shop K N} {p q : Plan} (journal : List Entry)
+    (end : RunEnd) → shop ≡ shop_ → p ≡ q → Ended gives digest shop p journal end → Ended gives digest shop_ q journal end
 ended_on gives digest {shop} {shop_} {p} {q} journal end same plan e =
     subst (λ z. Ended gives digest z q journal end) same (subst (λ z. Ended gives digest shop z journal end) plan e)

@@ -1,5 +1,6 @@
 -- What holds between two turns is kept by a report, or the run ends for a reason.
-use Rattle.std.proofs.Common.{◌≡◌, ℕ, ◌*◌, ◌≤◌, ◌<◌, List, [], ◌∷◌, ◌++◌, length, map, Bool, true, false, Option, Some, None, is_some, ◌⊎◌, inl, inr, refl, ap, sym, ◌∙◌, subst, arith, slice_set}
+use Rattle.std.proofs.Common.{◌≡◌, ℕ, ◌*◌, ◌≤◌, ◌<◌, List, [], ◌∷◌, ◌++◌, length, map, Bool, true, false, Option, Some, None, is_some, ◌⊎◌, inl, inr}
+use Rattle.std.proofs.Common.{refl, ap, sym, ◌∙◌, subst, arith, slice_set}
 use Rattle.sky_base.specs.JobView.{job_view}
 use Rattle.sky_base.specs.KitView.{Gives}
 use Rattle.sky_base.specs.Res.{visits}
@@ -94,22 +95,27 @@ module _ (shelves : ShelvesSeen) (w : ℕ) (sc : Script) where
   end_within task copied (End.Shown shown) k = tt
   end_within task copied (End.Missing name loss seen) k = tt
   end_within task copied (End.Saved p j refs holds mark) k =
-      let q = stack_has (λ a. state.Fits sc a × OfKind task a × (stand_wait a ≡ j) × (map held_name (pending_in same_text a) ≡ refs) × (map held_name (held_in same_text a) ≡ holds)) p.at.value k.stack in
+      let q = stack_has (λ a. state.Fits sc a × OfKind task a × (stand_wait a ≡ j) × (map held_name (pending_in same_text a) ≡ refs)
+      × (map held_name (held_in same_text a) ≡ holds)) p.at.value k.stack in
       subst (λ n. n ≤ most_waits) q.1.2 (stand_within sc q.0 q.1.0)
 
-  made_places : (ms : List Made) → tasks.Each (λ (m : Made). places.ObjectAt shelves w sc m.place) ms → Each (λ (m : Output P). IsPlaceOf shelves m.place) (map output_view ms)
+  made_places : (ms : List Made) → tasks.Each (λ (m : Made). places.ObjectAt shelves w sc m.place) ms
+      → Each (λ (m : Output P). IsPlaceOf shelves m.place) (map output_view ms)
   made_places [] k = tt
   made_places (m ∷ ms) k = (k.0.here, made_places ms k.1)
 
-  copied_places : (hs : List Held) → tasks.Each (λ (h : Held). places.CopyAt shelves w sc h.at) hs → Each (λ (c : Copy P). IsPlaceOf shelves c.place) (copies_view hs)
+  copied_places : (hs : List Held) → tasks.Each (λ (h : Held). places.CopyAt shelves w sc h.at) hs
+      → Each (λ (c : Copy P). IsPlaceOf shelves c.place) (copies_view hs)
   copied_places [] k = tt
   copied_places (h ∷ hs) k = pick h.at k.0 (copied_places hs k.1)
     where
-      pick : (x : Spot) → places.CopyAt shelves w sc x → Each (λ (c : Copy P). IsPlaceOf shelves c.place) (copies_view hs) → Each (λ (c : Copy P). IsPlaceOf shelves c.place) (copy_at h.name x (copies_view hs))
+      pick : (x : Spot) → places.CopyAt shelves w sc x → Each (λ (c : Copy P). IsPlaceOf shelves c.place) (copies_view hs)
+          → Each (λ (c : Copy P). IsPlaceOf shelves c.place) (copy_at h.name x (copies_view hs))
       pick (Spot.Shelf p) q rest = (q.here, rest)
       pick (Spot.Input i) q rest = absurd q
 
-  end_places : (task : TaskId) (copied : List Held) (e : End) → places.EndAt shelves w sc task e → tasks.Each (λ (h : Held). places.CopyAt shelves w sc h.at) copied → EndPlaces shelves (how_view copied e)
+  end_places : (task : TaskId) (copied : List Held) (e : End) → places.EndAt shelves w sc task e
+      → tasks.Each (λ (h : Held). places.CopyAt shelves w sc h.at) copied → EndPlaces shelves (how_view copied e)
   end_places task copied (End.Made ms) k c = (made_places ms.items k, copied_places copied c)
   end_places task copied (End.Shown shown) k c = (tt, copied_places copied c)
   end_places task copied (End.Saved p j refs holds mark) k c = k.here
@@ -138,7 +144,8 @@ seen_at shelves w sc task (End.Saved p j refs holds mark) k = tt
 seen_at shelves w sc task (End.Shown shown) k = tt
 seen_at shelves w sc task (End.Missing name loss seen) k = k
 
-learned_cases : (digest : List ℕ → List ℕ) (ns : List Named) (t : TableSeen P) (e : End) → LearnedFor digest e ns t → (IsMissing e → ⊥) → AllLearned digest ns t
+learned_cases : (digest : List ℕ → List ℕ) (ns : List Named) (t : TableSeen P) (e : End) → LearnedFor digest e ns t → (IsMissing e → ⊥)
+    → AllLearned digest ns t
 learned_cases digest ns t (End.Made ms) l none = l
 learned_cases digest ns t (End.Saved p j refs holds mark) l none = l
 learned_cases digest ns t (End.Shown shown) l none = l
@@ -176,7 +183,8 @@ quiet_for k (rep.missing name loss) = tt
 
 -- ---- a report
 
-module _ {K N : Type 0} {gives : K → Gives} {digest : N → List ℕ → List ℕ} {shop_ : Shop K N} {unbroken : Bool} {m : MasterSeen N} {out : List (Option Order)} {draw : ℕ} (k : Kept gives digest shop_ unbroken m out draw) where
+module _ {K N : Type 0} {gives : K → Gives} {digest : N → List ℕ → List ℕ} {shop_ : Shop K N} {unbroken : Bool} {m : MasterSeen N}
+    {out : List (Option Order)} {draw : ℕ} (k : Kept gives digest shop_ unbroken m out draw) where
   abbrev D : List ℕ → List ℕ
   D = digest shop_.namer
 
@@ -245,9 +253,11 @@ module _ {K N : Type 0} {gives : K → Gives} {digest : N → List ℕ → List 
     -- ---- thrown away
 
     module _ (none : find_order r.number b.orders ≡ None) where
-      thrown : AtWork S most_waits k.history b (slice_set (slots_of out) r.worker None) × (work S.at most_waits b (slice_set (slots_of out) r.worker None) < work S.at most_waits b (slots_of out))
+      thrown : AtWork S most_waits k.history b (slice_set (slots_of out) r.worker None)
+          × (work S.at most_waits b (slice_set (slots_of out) r.worker None) < work S.at most_waits b (slots_of out))
       thrown =
-          thrown_turns S is most_waits k.history b (slots_of out) at r.worker (order_view order) has (subst (λ n. find_order n b.orders ≡ None) (sym number) none)
+          thrown_turns S is most_waits k.history b (slots_of out) at r.worker (order_view order) has
+          (subst (λ n. find_order n b.orders ≡ None) (sym number) none)
 
       pub thrown_kept : RowsStay → {again : Shop K N} → again ≡ shop_ → {still : Bool} → still ≡ true → Kept gives digest again still m then draw
       thrown_kept law {again} same {still} ok =
@@ -275,7 +285,8 @@ module _ {K N : Type 0} {gives : K → Gives} {digest : N → List ℕ → List 
     module _ (there : (y : OrderOut) × (find_order r.number b.orders ≡ Some y)) where
       out_is : IsOut S k.history b (order_view order)
       out_is =
-          had_is_out S is most_waits k.history b (slots_of out) at r.worker (order_view order) there.0 has (subst (λ n. find_order n b.orders ≡ Some there.0) (sym number) there.1)
+          had_is_out S is most_waits k.history b (slots_of out) at r.worker (order_view order) there.0 has
+          (subst (λ n. find_order n b.orders ≡ Some there.0) (sym number) there.1)
 
       found_is : find_order r.number b.orders ≡ Some (order_view order).out
       found_is = subst (λ n. find_order n b.orders ≡ Some (order_view order).out) number out_is.found
@@ -288,11 +299,14 @@ module _ {K N : Type 0} {gives : K → Gives} {digest : N → List ℕ → List 
       spawned_none miss =
           pick r.end refl miss (a.performs.says out_is.start out_is.order out_is.apart)
         where
-          pick : (end : End) → r.end ≡ end → IsMissing end → report.Says S.job S.inner S.lower out_is.start (report_view order.number r.spawned.items (report_end r)) → r.spawned.items ≡ []
+          pick : (end : End) → r.end ≡ end → IsMissing end
+              → report.Says S.job S.inner S.lower out_is.start (report_view order.number r.spawned.items (report_end r)) → r.spawned.items ≡ []
           pick (End.Missing name loss seen) q i (report.at_end ds next spawns sp rest) =
-              nothing r.spawned.items (subst (λ z. report.Spawns S.job S.inner S.lower out_is.start ds (map named_view r.spawned.items) (rep.end_view (how_view r.copied.items z))) q sp)
+              nothing r.spawned.items (subst (λ z. report.Spawns S.job S.inner S.lower out_is.start ds (map named_view r.spawned.items)
+              (rep.end_view (how_view r.copied.items z))) q sp)
           pick (End.Missing name loss seen) q i (report.at_wait n refs ds next spawns sp rest) =
-              nothing r.spawned.items (subst (λ z. report.Spawns S.job S.inner S.lower out_is.start ds (map named_view r.spawned.items) (rep.end_view (how_view r.copied.items z))) q sp)
+              nothing r.spawned.items (subst (λ z. report.Spawns S.job S.inner S.lower out_is.start ds (map named_view r.spawned.items)
+              (rep.end_view (how_view r.copied.items z))) q sp)
           pick (End.Made ms) q i says = absurd i
           pick (End.Shown shown) q i says = absurd i
           pick (End.Saved p j refs holds mark) q i says = absurd i
@@ -301,16 +315,22 @@ module _ {K N : Type 0} {gives : K → Gives} {digest : N → List ℕ → List 
       fits_so : FitsUnlessMissing D b (order_view order) r.spawned.items r.copied.items r.end
       fits_so none = a.performs.fits b at.sound out_is.found rows_now none
 
-      pub fits_now : (x : board.Order P) × (find_order r.number b.orders ≡ Some x.out) × FitsUnlessMissing (digest m.namer) b x r.spawned.items r.copied.items r.end
-      fits_now =
-          (order_view order, found_is, subst (λ n. FitsUnlessMissing (digest n) b (order_view order) r.spawned.items r.copied.items r.end) (sym k.namer) fits_so)
+      pub fits_now : (x : board.Order P) × (find_order r.number b.orders ≡ Some x.out)
+          × FitsUnlessMissing (digest m.namer) b x r.spawned.items r.copied.items r.end
+      fits_now = (
+        order_view order,
+        found_is,
+        subst (λ n. FitsUnlessMissing (digest n) b (order_view order) r.spawned.items r.copied.items r.end)
+            (sym k.namer) fits_so,
+      )
 
       pub seen_here : SeenOf m.shelves r.end
       seen_here =
           subst (λ z. SeenOf z r.end) (sym k.shelves) (seen_at shop_.shelves order.worker J.script r.task r.end a.places.end)
 
       -- then the loss is one that was carried out
-      missing_is : (name : Digest) (loss : Loss) (seen : Option SeatSeen) → r.end ≡ End.Missing name loss seen → IsCarriedOut b r.end → MissingFits D worker_of b (order_view order) name loss.number
+      missing_is : (name : Digest) (loss : Loss) (seen : Option SeatSeen) → r.end ≡ End.Missing name loss seen → IsCarriedOut b r.end
+          → MissingFits D worker_of b (order_view order) name loss.number
       missing_is name loss seen q carried =
           let miss = subst (Missed D order) q a.performs.missed in
           let c = subst (IsCarriedOut b) q carried miss.seen in
@@ -318,7 +338,8 @@ module _ {K N : Type 0} {gives : K → Gives} {digest : N → List ℕ → List 
 
       promised : (IsMissing r.end → ⊥) → Promised S most_waits k.history b (order_view order) r.spawned.items (report_end r)
       promised none =
-          performs_promises D J G k.orderly most_waits k.history b (slots_of out) at r.worker order has out_is rows_now r a.performs none (end_within shop_.shelves order.worker J.script r.task r.copied.items r.end a.places.end)
+          performs_promises D J G k.orderly most_waits k.history b (slots_of out) at r.worker order has out_is rows_now r a.performs none
+          (end_within shop_.shelves order.worker J.script r.task r.copied.items r.end a.places.end)
 
       -- ---- refused
 
@@ -329,29 +350,49 @@ module _ {K N : Type 0} {gives : K → Gives} {digest : N → List ℕ → List 
           empty [] q = cc
           empty (x ∷ xs) q = cc
 
-      clash_at : (n : Named) (kept given : List ℕ) → FirstRefused D r.spawned.items b.table n (Learn.Clash kept given) → (J2 : List Entry) → J2 ≡ b.journal → Ended gives digest shop_ b.plan J2 (RunEnd.NameClash kept given)
+      clash_at : (n : Named) (kept given : List ℕ) → FirstRefused D r.spawned.items b.table n (Learn.Clash kept given) → (J2 : List Entry) → J2
+          ≡ b.journal → Ended gives digest shop_ b.plan J2 (RunEnd.NameClash kept given)
       clash_at n kept given f J2 q =
-          subst (λ z. Ended gives digest shop_ b.plan z (RunEnd.NameClash kept given)) (sym q) (record { driven = now_driven; cause = clash_ends S is most_waits k.history b (slots_of out) at r.worker (order_view order) has out_is r.spawned.items (report_end r) (promised (none_refused n (Learn.Clash kept given) f)) n kept given f })
+          subst (λ z. Ended gives digest shop_ b.plan z (RunEnd.NameClash kept given)) (sym q)
+          (record {
+            driven = now_driven;
+            cause = clash_ends S is most_waits k.history b (slots_of out) at r.worker (order_view order) has
+                out_is r.spawned.items (report_end r) (promised (none_refused n (Learn.Clash kept given) f)) n kept given f;
+          })
 
-      overflow_at : (n : Named) (held : ℕ) (given : Desc1) → given ≡ n.desc → FirstRefused D r.spawned.items b.table n (Learn.Full held) → (J2 : List Entry) → J2 ≡ b.journal → Ended gives digest shop_ b.plan J2 (RunEnd.TooMany held given)
+      overflow_at : (n : Named) (held : ℕ) (given : Desc1) → given ≡ n.desc → FirstRefused D r.spawned.items b.table n (Learn.Full held)
+          → (J2 : List Entry) → J2 ≡ b.journal → Ended gives digest shop_ b.plan J2 (RunEnd.TooMany held given)
       overflow_at n held given g f J2 q =
-          subst (λ z. Ended gives digest shop_ b.plan z (RunEnd.TooMany held given)) (sym q) (record { driven = now_driven; cause = (n, g, overflow_ends S is most_waits k.history b (slots_of out) at r.worker (order_view order) has out_is r.spawned.items (report_end r) (promised (none_refused n (Learn.Full held) f)) n held f) })
+          subst (λ z. Ended gives digest shop_ b.plan z (RunEnd.TooMany held given)) (sym q)
+          (record {
+            driven = now_driven;
+            cause = (
+              n,
+              g,
+              overflow_ends S is most_waits k.history b (slots_of out) at r.worker (order_view order) has out_is r.spawned.items (report_end r)
+                  (promised (none_refused n (Learn.Full held) f)) n held f,
+            );
+          })
 
       -- by what accept refuses
       module _ {J2 : List Entry} (same : J2 ≡ b.journal) where
-        pub clash_ended : (kept given : List ℕ) → FirstStops (digest m.namer) r.spawned.items b.table (Stop.NameClash kept given) → Ended gives digest shop_ b.plan J2 (RunEnd.NameClash kept given)
+        pub clash_ended : (kept given : List ℕ) → FirstStops (digest m.namer) r.spawned.items b.table (Stop.NameClash kept given)
+            → Ended gives digest shop_ b.plan J2 (RunEnd.NameClash kept given)
         clash_ended kept given why =
             let f = subst (λ n. FirstStops (digest n) r.spawned.items b.table (Stop.NameClash kept given)) k.namer why in
             clash_at f.0 kept given f.1 J2 same
 
-        pub overflow_ended : (held : ℕ) (given : Desc1) → FirstStops (digest m.namer) r.spawned.items b.table (Stop.TooMany held given) → Ended gives digest shop_ b.plan J2 (RunEnd.TooMany held given)
+        pub overflow_ended : (held : ℕ) (given : Desc1) → FirstStops (digest m.namer) r.spawned.items b.table (Stop.TooMany held given)
+            → Ended gives digest shop_ b.plan J2 (RunEnd.TooMany held given)
         overflow_ended held given why =
             let f = subst (λ n. FirstStops (digest n) r.spawned.items b.table (Stop.TooMany held given)) k.namer why in
             overflow_at f.0 held given f.2 f.1 J2 same
 
       -- ---- accepted
 
-      module _ (rest : RestsNow b) (carried : IsCarriedOut b r.end) (learns : LearnedFor (digest m.namer) r.end r.spawned.items b.table) {m2 : MasterSeen N} (took : (x : OrderOut) × (find_order r.number b.orders ≡ Some x) × (m2 ≡ record m { board = accepted (digest m.namer) b x r.spawned.items (report_end r) })) where
+      module _ (rest : RestsNow b) (carried : IsCarriedOut b r.end) (learns : LearnedFor (digest m.namer) r.end r.spawned.items b.table)
+          {m2 : MasterSeen N} (took : (x : OrderOut) × (find_order r.number b.orders ≡ Some x)
+          × (m2 ≡ record m { board = accepted (digest m.namer) b x r.spawned.items (report_end r) })) where
         law : LearnedFor D r.end r.spawned.items b.table
         law = subst (λ n. LearnedFor (digest n) r.end r.spawned.items b.table) k.namer learns
 
@@ -364,7 +405,8 @@ module _ {K N : Type 0} {gives : K → Gives} {digest : N → List ℕ → List 
 
         new_is : m2 ≡ record m { board = next }
         new_is =
-            new ∙ ap (λ z. record m { board = accepted D b z r.spawned.items (report_end r) }) (same_order took.0 (order_view order).out (sym took.1 ∙ found_is))
+            new ∙ ap (λ z. record m { board = accepted D b z r.spawned.items (report_end r) })
+            (same_order took.0 (order_view order).out (sym took.1 ∙ found_is))
 
         all : (IsMissing r.end → ⊥) → AllLearned D r.spawned.items b.table
         all none = learned_cases D r.spawned.items b.table r.end law none
@@ -375,36 +417,44 @@ module _ {K N : Type 0} {gives : K → Gives} {digest : N → List ℕ → List 
         -- ---- the run goes on
 
         abbrev To : rep.End P → Type 0
-        To e = Turned S most_waits k.history b (slots_of out) (accepted D b (order_view order).out r.spawned.items e) (slice_set (slots_of out) r.worker None)
+        To e = Turned S most_waits k.history b (slots_of out) (accepted D b (order_view order).out r.spawned.items e)
+            (slice_set (slots_of out) r.worker None)
 
         turned : Now.Goes ≡ now_of r.end → Turned S most_waits k.history b (slots_of out) next (slice_set (slots_of out) r.worker None)
         turned goes = pick r.end refl goes a.performs.kind
           where
             whole : (IsMissing r.end → ⊥) → (laws.IsMissing (report_end r) → ⊥) → next.stopped ≡ false → To (report_end r)
             whole none also going =
-                report_turns S is most_waits k.history b (slots_of out) at r.worker (order_view order) has out_is rest r.spawned.items (report_end r) (promised none) also (all none) going
+                report_turns S is most_waits k.history b (slots_of out) at r.worker (order_view order) has out_is rest r.spawned.items
+                (report_end r) (promised none) also (all none) going
 
             pick : (e : End) → r.end ≡ e → Now.Goes ≡ now_of e → OfTask order.task r.end → To (report_end r)
             pick (End.Made ms) q g kind =
                 let v : report_end r ≡ rep.made (map output_view ms.items) (copies_view r.copied.items) = ap (how_view r.copied.items) q in
-                whole (λ i. subst IsMissing q i) (λ i. subst laws.IsMissing v i) (subst (λ e. (accepted D b (order_view order).out r.spawned.items e).stopped ≡ false) (sym v) (not_root order.task (subst (OfTask order.task) q kind)))
+                whole (λ i. subst IsMissing q i) (λ i. subst laws.IsMissing v i)
+                (subst (λ e. (accepted D b (order_view order).out r.spawned.items e).stopped ≡ false) (sym v)
+                (not_root order.task (subst (OfTask order.task) q kind)))
               where
                 not_root : (task : TaskId) → OfTask task (End.Made ms) → is_root task ≡ false
                 not_root TaskId.Show i = absurd i
                 not_root (TaskId.Of n) i = refl
             pick (End.Saved p j refs holds mark) q g kind =
                 let v : report_end r ≡ how_view r.copied.items (End.Saved p j refs holds mark) = ap (how_view r.copied.items) q in
-                whole (λ i. subst IsMissing q i) (λ i. subst laws.IsMissing v i) (subst (λ e. (accepted D b (order_view order).out r.spawned.items e).stopped ≡ false) (sym v) at.going)
+                whole (λ i. subst IsMissing q i) (λ i. subst laws.IsMissing v i)
+                (subst (λ e. (accepted D b (order_view order).out r.spawned.items e).stopped ≡ false) (sym v) at.going)
             pick (End.Shown (Shown.Text text)) q g kind = let bad : Now.Goes ≡ Now.Answer text = g in cc
             pick (End.Shown (Shown.Fault fault)) q g kind = let bad : Now.Goes ≡ Now.Fault fault = g in cc
             pick (End.Missing name loss seen) q g kind =
                 let v : report_end r ≡ rep.missing name loss.number = ap (how_view r.copied.items) q in
-                subst To (sym v) (missed_turns S is most_waits k.history b (slots_of out) at r.worker (order_view order) has out_is rest name loss.number (missing_is name loss seen q carried))
+                subst To (sym v) (missed_turns S is most_waits k.history b (slots_of out) at r.worker (order_view order) has out_is rest name
+                loss.number (missing_is name loss seen q carried))
 
-        pub taken_kept : Now.Goes ≡ now_of r.end → PlacesStay → RowsStay → {again : Shop K N} → again ≡ shop_ → {still : Bool} → still ≡ true → Kept gives digest again still m2 then draw
+        pub taken_kept : Now.Goes ≡ now_of r.end → PlacesStay → RowsStay → {again : Shop K N} → again ≡ shop_ → {still : Bool} → still ≡ true
+            → Kept gives digest again still m2 then draw
         taken_kept goes places rows {again} same {still} ok =
             let t = turned goes in
-            subst (λ z. Kept gives digest z still m2 then draw) (sym same) (subst (λ z. Kept gives digest shop_ still z then draw) (sym new_is) (record {
+            subst (λ z. Kept gives digest z still m2 then draw) (sym same)
+            (subst (λ z. Kept gives digest shop_ still z then draw) (sym new_is) (record {
               namer = k.namer;
               shelves = k.shelves;
               sound = ok;
@@ -413,7 +463,8 @@ module _ {K N : Type 0} {gives : K → Gives} {digest : N → List ℕ → List 
               history = k.history ++ t.event ∷ [];
               keeps = record {
                 at_work = subst (AtWork S most_waits (k.history ++ t.event ∷ []) next) (sym slots_then) t.at_work;
-                places = places.accepted shop_.shelves D b (order_view order).out r.spawned.items (report_end r) k.keeps.places (end_places shop_.shelves order.worker J.script r.task r.copied.items r.end a.places.end a.places.copied);
+                places = places.accepted shop_.shelves D b (order_view order).out r.spawned.items (report_end r) k.keeps.places
+                    (end_places shop_.shelves order.worker J.script r.task r.copied.items r.end a.places.end a.places.copied);
                 rows = rows_then next (rows.accepted D b (order_view order).out r.spawned.items (report_end r)) rows;
                 wide = subst (λ (z : Plan). z.workers ≤ length shop_.shelves.rows) (sym plan_next) k.keeps.wide;
               };
@@ -422,24 +473,30 @@ module _ {K N : Type 0} {gives : K → Gives} {digest : N → List ℕ → List 
           where
             draw_now : draw ≡ state_after next.plan.seed (2 * next.starts)
             draw_now =
-                k.draws ∙ (ap (λ (z : Plan). state_after z.seed (2 * b.starts)) (sym plan_next) ∙ ap (λ n. state_after next.plan.seed (2 * n)) (sym (starts_same D b (order_view order).out r.spawned.items (report_end r))))
+                k.draws ∙ (ap (λ (z : Plan). state_after z.seed (2 * b.starts)) (sym plan_next)
+                ∙ ap (λ n. state_after next.plan.seed (2 * n)) (sym (starts_same D b (order_view order).out r.spawned.items (report_end r))))
 
         pub taken_less : Now.Goes ≡ now_of r.end → left m2 then < left m out
         taken_less goes =
-            subst (λ (z : MasterSeen N). left z then < left m out) (sym new_is) (subst (λ z. work worker_of most_waits next z < left m out) (sym slots_then) (turned goes).less)
+            subst (λ (z : MasterSeen N). left z then < left m out) (sym new_is)
+            (subst (λ z. work worker_of most_waits next z < left m out) (sym slots_then) (turned goes).less)
 
         pub taken_plan : m2.board.plan ≡ m.board.plan
         taken_plan = ap (λ (z : MasterSeen N). z.board.plan) new_is ∙ plan_next
 
         pub taken_told : (told later : List (Option (List TaskId))) → FadesEach told later → ToldOn m.board.journal m2.board.journal told later
         taken_told told later fades =
-            subst (λ (z : MasterSeen N). ToldOn m.board.journal z.board.journal told later) (sym new_is) (tells_quiet m.board.journal next.journal (entry_for (order_view order).out.number (report_end r)) told later (quiet_for (order_view order).out.number (report_end r)) (journal_next D b (order_view order).out r.spawned.items (report_end r)) fades)
+            subst (λ (z : MasterSeen N). ToldOn m.board.journal z.board.journal told later) (sym new_is)
+            (tells_quiet m.board.journal next.journal (entry_for (order_view order).out.number (report_end r)) told later
+            (quiet_for (order_view order).out.number (report_end r)) (journal_next D b (order_view order).out r.spawned.items (report_end r))
+            fades)
 
         -- ---- or it is the end
 
         shows : (shown : Shown) → r.end ≡ End.Shown shown → s.Means J (json_around G) (shown_view shown) × Shows D J G b.plan m2.board.journal
         shows shown q =
-            let x = shown_meant D J G k.orderly most_waits k.history b (slots_of out) at r.worker order has out_is rows_now rest (root order.task (subst (OfTask order.task) q a.performs.kind)) r a.performs shown q (all (λ i. subst IsMissing q i)) in (
+            let x = shown_meant D J G k.orderly most_waits k.history b (slots_of out) at r.worker order has out_is rows_now rest
+            (root order.task (subst (OfTask order.task) q a.performs.kind)) r a.performs shown q (all (λ i. subst IsMissing q i)) in (
               x.0,
               record {
                 history = k.history ++ x.1.event ∷ [];
@@ -453,7 +510,8 @@ module _ {K N : Type 0} {gives : K → Gives} {digest : N → List ℕ → List 
             root TaskId.Show i = refl
             root (TaskId.Of n) i = absurd i
 
-        over : (shown : Shown) → r.end ≡ End.Shown shown → (e : RunEnd) → Because D J G b.plan m2.board.journal e → Ended gives digest shop_ b.plan m2.board.journal e
+        over : (shown : Shown) → r.end ≡ End.Shown shown → (e : RunEnd) → Because D J G b.plan m2.board.journal e
+            → Ended gives digest shop_ b.plan m2.board.journal e
         over shown q e why =
             let x = (shows shown q).1 in
             record { driven = (x.history, x.driven, x.journal); cause = why }

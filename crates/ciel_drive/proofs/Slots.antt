@@ -1,5 +1,6 @@
 -- The orders that workers have, and the slots that the turns see.
-use Rattle.std.proofs.Common.{◌≡◌, ℕ, zero, suc, ◌<◌, List, [], ◌∷◌, length, Option, Some, None, ◌⊎◌, inl, inr, refl, ap, arith, slice_get, slice_index_or, slice_set}
+use Rattle.std.proofs.Common.{◌≡◌, ℕ, zero, suc, ◌<◌, List, [], ◌∷◌, length, Option, Some, None, ◌⊎◌, inl, inr, refl, ap, arith, slice_get}
+use Rattle.std.proofs.Common.{slice_index_or, slice_set}
 use Rattle.std.specs.Option.{option_map}
 use Rattle.ciel_board.specs.Board as board
 use Rattle.ciel_crew.specs.Crews.{order_at}
@@ -13,7 +14,8 @@ slots_at [] w order e = cc
 slots_at (o ∷ os) zero order e = ap (λ z. Some (option_map order_view z)) e
 slots_at (o ∷ os) (suc w) order e = slots_at os w order e
 
-pub at_slots : (out : List (Option Order)) (w : ℕ) (x : board.Order P) → Has (slots_of out) w x → (order : Order) × (order_at out w ≡ Some order) × (order_view order ≡ x)
+pub at_slots : (out : List (Option Order)) (w : ℕ) (x : board.Order P) → Has (slots_of out) w x → (order : Order) × (order_at out w ≡ Some order)
+    × (order_view order ≡ x)
 at_slots [] w x e = let bad : None ≡ Some (Some x) = e in cc
 at_slots (None ∷ os) zero x e = let bad : Some None ≡ Some (Some x) = e in cc
 at_slots (Some o ∷ os) zero x e = let q : order_view o ≡ x = cc in (o, refl, q)
@@ -30,12 +32,14 @@ below_slots [] w o e = let bad : None ≡ Some o = e in cc
 below_slots (x ∷ xs) zero o e = omega arith
 below_slots (x ∷ xs) (suc w) o e = let l = below_slots xs w o e in omega (arith, l)
 
-pub slots_set : (out : List (Option Order)) (w : ℕ) (o : Option Order) → slots_of (slice_set out w o) ≡ slice_set (slots_of out) w (option_map order_view o)
+pub slots_set : (out : List (Option Order)) (w : ℕ) (o : Option Order) → slots_of (slice_set out w o)
+    ≡ slice_set (slots_of out) w (option_map order_view o)
 slots_set [] w o = refl
 slots_set (x ∷ xs) zero o = refl
 slots_set (x ∷ xs) (suc w) o = ap (λ z. option_map order_view x ∷ z) (slots_set xs w o)
 
-pub set_at : (out : List (Option Order)) (w u : ℕ) (o : Option Order) (order : Order) → order_at (slice_set out w o) u ≡ Some order → ((u ≡ w) × (o ≡ Some order)) ⊎ (order_at out u ≡ Some order)
+pub set_at : (out : List (Option Order)) (w u : ℕ) (o : Option Order) (order : Order) → order_at (slice_set out w o) u ≡ Some order
+    → ((u ≡ w) × (o ≡ Some order)) ⊎ (order_at out u ≡ Some order)
 set_at [] w u o order e = inr e
 set_at (x ∷ xs) zero zero o order e = inl (refl, e)
 set_at (x ∷ xs) zero (suc u) o order e = inr e

@@ -1,5 +1,6 @@
 -- What holds between two turns is kept by a loss and by a start.
-use Rattle.std.proofs.Common.{◌≡◌, ℕ, suc, ◌+◌, ◌*◌, ◌/◌, ◌%◌, ◌^◌, ◌<◌, List, [], ◌∷◌, ◌++◌, length, Bool, true, Option, Some, None, ◌⊎◌, inl, inr, refl, ap, sym, ◌∙◌, subst, arith, slice_get, slice_index_or, slice_set}
+use Rattle.std.proofs.Common.{◌≡◌, ℕ, suc, ◌+◌, ◌*◌, ◌/◌, ◌%◌, ◌^◌, ◌<◌, List, [], ◌∷◌, ◌++◌, length, Bool, true, Option, Some, None, ◌⊎◌, inl, inr}
+use Rattle.std.proofs.Common.{refl, ap, sym, ◌∙◌, subst, arith, slice_get, slice_index_or, slice_set}
 use Rattle.sky_base.specs.JobView.{job_view}
 use Rattle.sky_base.specs.KitView.{Gives}
 use Rattle.sky_base.specs.See as s
@@ -39,7 +40,8 @@ use Rattle.ciel_drive.specs.Told.{ToldOn}
 use Rattle.ciel_drive.proofs.Telling.{none_fades, tells_quiet, tells_start}
 use Rattle.ciel_drive.proofs.Slots.{below_slots, free_at, got_index, set_at, slots_set}
 
-module _ {K N : Type 0} {gives : K → Gives} {digest : N → List ℕ → List ℕ} {shop_ : Shop K N} {sound : Bool} {m : MasterSeen N} {out : List (Option Order)} {state : ℕ} (k : Kept gives digest shop_ sound m out state) where
+module _ {K N : Type 0} {gives : K → Gives} {digest : N → List ℕ → List ℕ} {shop_ : Shop K N} {sound : Bool} {m : MasterSeen N}
+    {out : List (Option Order)} {state : ℕ} (k : Kept gives digest shop_ sound m out state) where
   abbrev D : List ℕ → List ℕ
   D = digest shop_.namer
 
@@ -60,7 +62,8 @@ module _ {K N : Type 0} {gives : K → Gives} {digest : N → List ℕ → List 
 
   -- ---- a loss
 
-  module _ {loss w : ℕ} (due : FirstDue b.plan.losses b.closes b.table.gone loss w) {c : MasterSeen N} (new : c ≡ record m { board = lost_at worker_of w m.board }) where
+  module _ {loss w : ℕ} (due : FirstDue b.plan.losses b.closes b.table.gone loss w) {c : MasterSeen N}
+      (new : c ≡ record m { board = lost_at worker_of w m.board }) where
     lost_turn : Turned S most_waits k.history b (slots_of out) (lost_at worker_of w b) (slots_of out)
     lost_turn = loss_turns S is most_waits k.history b (slots_of out) k.keeps.at_work loss w due
 
@@ -90,7 +93,8 @@ module _ {K N : Type 0} {gives : K → Gives} {digest : N → List ℕ → List 
 
     pub lost_told : (told : List (Option (List TaskId))) → ToldOn m.board.journal c.board.journal told told
     lost_told told =
-        subst (λ (z : MasterSeen N). ToldOn m.board.journal z.board.journal told told) (sym new) (tells_quiet m.board.journal (lost_at worker_of w m.board).journal (Entry.Lost w b.closes) told told tt refl (none_fades told))
+        subst (λ (z : MasterSeen N). ToldOn m.board.journal z.board.journal told told) (sym new)
+        (tells_quiet m.board.journal (lost_at worker_of w m.board).journal (Entry.Lost w b.closes) told told tt refl (none_fades told))
 
   -- ---- draws
 
@@ -110,7 +114,8 @@ module _ {K N : Type 0} {gives : K → Gives} {digest : N → List ℕ → List 
           second_is ∙ ap (state_after b.plan.seed) e
 
       -- what the draws pick: the task at the first place of those that can run, and the worker at the second of those that are idle
-      pub picked : {n : ℕ} → CanRunMany (ready_of b) n → {idle : List ℕ} {i j : ℕ} {x : TaskId} → Quiet b → CanRunAt (ready_of b) i x → idle ≡ idle_of b → i ≡ (first / 2 ^ 33) % n → j ≡ (second / 2 ^ 33) % length idle → j < length idle → Picked b x (slice_index_or idle j 0)
+      pub picked : {n : ℕ} → CanRunMany (ready_of b) n → {idle : List ℕ} {i j : ℕ} {x : TaskId} → Quiet b → CanRunAt (ready_of b) i x → idle
+          ≡ idle_of b → i ≡ (first / 2 ^ 33) % n → j ≡ (second / 2 ^ 33) % length idle → j < length idle → Picked b x (slice_index_or idle j 0)
       picked {n} many {idle} {i} {j} {x} quiet at is_idle is_i is_j also =
           let same : at.0 ≡ many.0 = picks_unique (Runnable (board_graph b)) (tasks_in_order b.table) at.0 many.0 at.1 many.1 in
           let long : n ≡ length at.0 = sym many.2 ∙ ap length (sym same) in
@@ -118,8 +123,11 @@ module _ {K N : Type 0} {gives : K → Gives} {digest : N → List ℕ → List 
             quiet = quiet;
             tasks = at.0;
             runnable = at.1;
-            task = subst (λ d. slice_get at.0 (d / 2 ^ 33 % length at.0) ≡ Some x) first_is (subst (λ k. slice_get at.0 k ≡ Some x) (is_i ∙ ap (λ l. first / 2 ^ 33 % l) long) at.2);
-            worker = subst (λ d. slice_get (idle_of b) (d / 2 ^ 33 % length (idle_of b)) ≡ Some (slice_index_or idle j 0)) second_is (subst (λ ws. slice_get ws (second / 2 ^ 33 % length ws) ≡ Some (slice_index_or idle j 0)) is_idle (subst (λ n. slice_get idle n ≡ Some (slice_index_or idle j 0)) is_j (got_index idle j 0 also)));
+            task = subst (λ d. slice_get at.0 (d / 2 ^ 33 % length at.0) ≡ Some x) first_is
+                (subst (λ k. slice_get at.0 k ≡ Some x) (is_i ∙ ap (λ l. first / 2 ^ 33 % l) long) at.2);
+            worker = subst (λ d. slice_get (idle_of b) (d / 2 ^ 33 % length (idle_of b)) ≡ Some (slice_index_or idle j 0)) second_is
+                (subst (λ ws. slice_get ws (second / 2 ^ 33 % length ws) ≡ Some (slice_index_or idle j 0)) is_idle
+                (subst (λ n. slice_get idle n ≡ Some (slice_index_or idle j 0)) is_j (got_index idle j 0 also)));
           }
 
   -- ---- a start
@@ -151,33 +159,45 @@ module _ {K N : Type 0} {gives : K → Gives} {digest : N → List ℕ → List 
 
     pub send_takes : OrderIsSound D J G → Takes gives digest shop_ order
     send_takes law =
-        law k.orderly k.inputs k.history b k.keeps.at_work.sound k.keeps.at_work.runs.follows k.keeps.at_work.going order order_is shop_.shelves k.keeps.places k.keeps.wide
+        law k.orderly k.inputs k.history b k.keeps.at_work.sound k.keeps.at_work.runs.follows k.keeps.at_work.going order order_is shop_.shelves
+        k.keeps.places k.keeps.wide
 
     -- the journal is driven where the order isn't sent
-    pub start_ends : {c : MasterSeen N} → c ≡ record m { board = started worker_of m.board x w } → Ended gives digest shop_ m.board.plan c.board.journal RunEnd.Memory
+    pub start_ends : {c : MasterSeen N} → c ≡ record m { board = started worker_of m.board x w }
+        → Ended gives digest shop_ m.board.plan c.board.journal RunEnd.Memory
     start_ends {c} new =
         subst (λ (z : MasterSeen N). Ended gives digest shop_ m.board.plan z.board.journal RunEnd.Memory) (sym new) (record {
-          driven = (k.history ++ (begun p).turned.event ∷ [], (begun p).turned.at_work.runs.driven, sym (begun p).turned.at_work.runs.follows.journal);
+          driven = (
+            k.history ++ (begun p).turned.event ∷ [],
+            (begun p).turned.at_work.runs.driven,
+            sym (begun p).turned.at_work.runs.follows.journal,
+          );
           cause = tt;
         })
 
-    pub start_told : {c : MasterSeen N} → c ≡ record m { board = started worker_of m.board x w } → (told then : List (Option (List TaskId))) → TellsTask order told then → ToldOn m.board.journal c.board.journal told then
+    pub start_told : {c : MasterSeen N} → c ≡ record m { board = started worker_of m.board x w } → (told then : List (Option (List TaskId)))
+        → TellsTask order told then → ToldOn m.board.journal c.board.journal told then
     start_told {c} new told then tells =
-        subst (λ (z : MasterSeen N). ToldOn m.board.journal z.board.journal told then) (sym new) (tells_start order told m.board.journal (started worker_of m.board x w).journal b.starts from then same tells)
+        subst (λ (z : MasterSeen N). ToldOn m.board.journal z.board.journal told then) (sym new)
+        (tells_start order told m.board.journal (started worker_of m.board x w).journal b.starts from then same tells)
       where
         from : ℕ
         from = wait_number (last_wait x b.table)
 
         same : (started worker_of b x w).journal ≡ b.journal ++ Entry.Start b.starts order.worker (task_key order.task) from ∷ []
         same =
-            ap (λ e. b.journal ++ e ∷ []) (ap (λ n. Entry.Start b.starts n (task_key x) from) (sym worker_is) ∙ ap (λ t. Entry.Start b.starts order.worker (task_key t) from) (sym task_is))
+            ap (λ e. b.journal ++ e ∷ []) (ap (λ n. Entry.Start b.starts n (task_key x) from) (sym worker_is)
+            ∙ ap (λ t. Entry.Start b.starts order.worker (task_key t) from) (sym task_is))
 
-    module _ {c : MasterSeen N} (new : c ≡ record m { board = started worker_of m.board x w }) {then : List (Option Order)} (sent : then ≡ slice_set out order.worker (Some order)) where
+    module _ {c : MasterSeen N} (new : c ≡ record m { board = started worker_of m.board x w }) {then : List (Option Order)}
+        (sent : then ≡ slice_set out order.worker (Some order)) where
       slots_then : slots_of then ≡ slice_set (slots_of out) w (Some (order_for worker_of b x w))
       slots_then =
-          ap slots_of sent ∙ (slots_set out order.worker (Some order) ∙ (ap (λ n. slice_set (slots_of out) n (Some (order_view order))) worker_is ∙ ap (λ z. slice_set (slots_of out) w (Some z)) view))
+          ap slots_of sent ∙ (slots_set out order.worker (Some order)
+          ∙ (ap (λ n. slice_set (slots_of out) n (Some (order_view order))) worker_is ∙ ap (λ z. slice_set (slots_of out) w (Some z)) view))
 
-      pub start_kept : OrderHasRows D J G → {again : Shop K N} → again ≡ shop_ → {still : Bool} → still ≡ true → {last : ℕ} → last ≡ state_after b.plan.seed (2 * (b.starts + 1)) → Kept gives digest again still c then last
+      pub start_kept : OrderHasRows D J G → {again : Shop K N} → again ≡ shop_ → {still : Bool} → still ≡ true → {last : ℕ} → last
+          ≡ state_after b.plan.seed (2 * (b.starts + 1)) → Kept gives digest again still c then last
       start_kept law {again} same {still} ok {last} is_last =
           subst (λ a. Kept gives digest a still c then last) (sym same) (subst (λ z. Kept gives digest shop_ still z then last) (sym new) (record {
             namer = k.namer;
@@ -187,7 +207,8 @@ module _ {K N : Type 0} {gives : K → Gives} {digest : N → List ℕ → List 
             inputs = k.inputs;
             history = k.history ++ (begun p).turned.event ∷ [];
             keeps = record {
-              at_work = subst (AtWork S most_waits (k.history ++ (begun p).turned.event ∷ []) (started worker_of b x w)) (sym slots_then) (begun p).turned.at_work;
+              at_work = subst (AtWork S most_waits (k.history ++ (begun p).turned.event ∷ []) (started worker_of b x w)) (sym slots_then)
+                  (begun p).turned.at_work;
               places = k.keeps.places;
               rows = rows;
               wide = k.keeps.wide;
@@ -209,4 +230,5 @@ module _ {K N : Type 0} {gives : K → Gives} {digest : N → List ℕ → List 
 
       pub start_less : left c then < left m out
       start_less =
-          subst (λ (z : MasterSeen N). left z then < left m out) (sym new) (subst (λ z. work worker_of most_waits (started worker_of b x w) z < left m out) (sym slots_then) (begun p).turned.less)
+          subst (λ (z : MasterSeen N). left z then < left m out) (sym new)
+          (subst (λ z. work worker_of most_waits (started worker_of b x w) z < left m out) (sym slots_then) (begun p).turned.less)

@@ -47,7 +47,8 @@ module _ (digest : List ℕ → List ℕ) (job : s.Job) (gives : Gives) where
         laws = real_laws job around (name_of digest) (mark_of digest) (frozen_mark digest);
         knows = real_knows job around (name_of digest) (mark_of digest) (frozen_mark digest) (json_reads_plain gives);
         exact = real_exact (digested digest) job around (mark_of digest) (frozen_mark digest);
-        tells = tells digest job around (mark_of digest) (frozen_mark digest) S.at S.block S.object S.state (json_reads_sound job.script gives) (all_bind job.script.funs orderly);
+        tells = tells digest job around (mark_of digest) (frozen_mark digest) S.at S.block S.object S.state (json_reads_sound job.script gives)
+            (all_bind job.script.funs orderly);
       }
 
   pub performs_promises : PerformsPromises digest job gives
@@ -71,7 +72,10 @@ module _ (digest : List ℕ → List ℕ) (job : s.Job) (gives : Gives) where
       main : order.main ≡ b.main
       main = out.order.main ∙ sym a.runs.follows.stands.main
 
-      given : ((spot_of name (order_view order).inputs ≡ Some (shelf m.place)) ⊎ ((order.saved ≡ Some m.place) × (name ≡ own_name digest worker_of order.main order.task))) → (spot_of name (order_view order).inputs ≡ Some (shelf m.place)) ⊎ ((order.saved ≡ Some m.place) × (name ≡ own_name digest worker_of b.main order.task))
+      given : ((spot_of name (order_view order).inputs ≡ Some (shelf m.place))
+          ⊎ ((order.saved ≡ Some m.place) × (name ≡ own_name digest worker_of order.main order.task)))
+          → (spot_of name (order_view order).inputs ≡ Some (shelf m.place))
+          ⊎ ((order.saved ≡ Some m.place) × (name ≡ own_name digest worker_of b.main order.task))
       given (inl e) = inl e
       given (inr e) = inr (e.0, subst (λ z. name ≡ own_name digest worker_of z order.task) main e.1)
 
@@ -92,22 +96,27 @@ module _ (digest : List ℕ → List ℕ) (job : s.Job) (gives : Gives) where
 
       promised : Promised S most h b (order_view order) r.spawned.items (rep.made [] (copies_view r.copied.items))
       promised =
-          subst (Promised S most h b (order_view order) r.spawned.items) end_is (performs_promises orderly most h b slots a w order has out rows r p none (subst (EndWithin most) (sym end_is) tt))
+          subst (Promised S most h b (order_view order) r.spawned.items) end_is
+          (performs_promises orderly most h b slots a w order has out rows r p none (subst (EndWithin most) (sym end_is) tt))
 
       ended : RunEnded S h (order_view order) r.spawned.items (report_end r) (accepted digest b (order_view order).out r.spawned.items (report_end r))
       ended =
-          subst (λ e. RunEnded S h (order_view order) r.spawned.items e (accepted digest b (order_view order).out r.spawned.items e)) (sym end_is) (shown_ends S is most h b slots a w (order_view order) has out rest root r.spawned.items (copies_view r.copied.items) promised all)
+          subst (λ e. RunEnded S h (order_view order) r.spawned.items e (accepted digest b (order_view order).out r.spawned.items e))
+          (sym end_is) (shown_ends S is most h b slots a w (order_view order) has out rest root r.spawned.items (copies_view r.copied.items)
+          promised all)
 
       step : Step S.job (accepted digest b (order_view order).out r.spawned.items (report_end r)).plan (standing S.job h) ended.event
       step =
-          (lawful_split S.job (accepted digest b (order_view order).out r.spawned.items (report_end r)).plan (before_all S.job) h (ended.event ∷ []) ended.runs.follows.lawful).1.0
+          (lawful_split S.job (accepted digest b (order_view order).out r.spawned.items (report_end r)).plan (before_all S.job) h
+          (ended.event ∷ []) ended.runs.follows.lawful).1.0
 
       same_plan : (accepted digest b (order_view order).out r.spawned.items (report_end r)).plan ≡ b.plan
       same_plan = ap (λ e. (accepted digest b (order_view order).out r.spawned.items e).plan) end_is
 
       answer : AnswerIs digest job gives r.end
       answer =
-          p.answers h b.plan out.start a.runs.follows.lawful out.is_open out.order ended.event ended.tells (subst (λ q. Allowed S.job q (standing S.job h) ended.event) same_plan step.allowed) step.apart
+          p.answers h b.plan out.start a.runs.follows.lawful out.is_open out.order ended.event ended.tells
+          (subst (λ q. Allowed S.job q (standing S.job h) ended.event) same_plan step.allowed) step.apart
 
       means : s.Means job around (shown_view shown)
       means = subst (AnswerIs digest job gives) is_shown answer
@@ -121,7 +130,12 @@ module _ (digest : List ℕ → List ℕ) (job : s.Job) (gives : Gives) where
   made_by : (d : s.Desc) → IsMade S d → MadeBy digest job gives d
   made_by d (inl e) = inl e
   made_by d (inr x) =
-      inr (back x.0, needed_to job around (name_of digest) (mark_of digest) (frozen_mark digest) x.0 x.1, x.2, in_from d (t.made_in (t.acts_of job around x.2 (back x.0))) (subst (In d) (made_is (t.acts_of job around x.2 (back x.0))) x.3))
+      inr (
+        back x.0,
+        needed_to job around (name_of digest) (mark_of digest) (frozen_mark digest) x.0 x.1,
+        x.2,
+        in_from d (t.made_in (t.acts_of job around x.2 (back x.0))) (subst (In d) (made_is (t.acts_of job around x.2 (back x.0))) x.3),
+      )
 
   pub modest_alike : ModestAlike digest job gives
   modest_alike orderly limit m =

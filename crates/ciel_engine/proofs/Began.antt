@@ -1,5 +1,6 @@
 -- What is opened is at work: a master that has started nothing, and a crew with no order.
-use Rattle.std.proofs.Common.{◌≡◌, ℕ, zero, suc, ◌≤◌, List, [], ◌∷◌, length, map, replicate, true, Option, Some, None, slice_index_or, refl, sym, ap, subst, ◌∙◌, arith}
+use Rattle.std.proofs.Common.{◌≡◌, ℕ, zero, suc, ◌≤◌, List, [], ◌∷◌, length, map, replicate, true, Option, Some, None, slice_index_or, refl, sym, ap}
+use Rattle.std.proofs.Common.{subst, ◌∙◌, arith}
 use Rattle.std.specs.Option.{option_map}
 use Rattle.sky_base.specs.JobView.{job_view}
 use Rattle.sky_base.specs.KitView.{Gives}
@@ -42,7 +43,8 @@ none_at zero w order e = absurd cc
 none_at (suc n) zero order e = absurd cc
 none_at (suc n) (suc w) order e = none_at n w order e
 
-module _ {K N : Type 0} (gives : K → Gives) (digest : N → List ℕ → List ℕ) (shop : Shop K N) (plan : RunPlan) (m : MasterSeen N) (eyes : List SeatSeen) where
+module _ {K N : Type 0} (gives : K → Gives) (digest : N → List ℕ → List ℕ) (shop : Shop K N) (plan : RunPlan) (m : MasterSeen N)
+    (eyes : List SeatSeen) where
   abbrev D : List ℕ → List ℕ
   D = digest shop.namer
 
@@ -56,7 +58,8 @@ module _ {K N : Type 0} (gives : K → Gives) (digest : N → List ℕ → List 
   orderly : FunctionsAreOrderly → IsRead J.script → IsOrderly D J G
   orderly f r = f r.0 r.1 J.script r.2
 
-  module _ (o : IsOpened digest plan shop m eyes) (read : IsRead J.script) (inputs : InputsInOrder J) (places : PlacesStay) (functions : FunctionsAreOrderly) where
+  module _ (o : IsOpened digest plan shop m eyes) (read : IsRead J.script) (inputs : InputsInOrder J) (places : PlacesStay)
+      (functions : FunctionsAreOrderly) where
     abbrev first : Board P
     first = opened D (plan_view plan) shop.job.script.keys o.main
 
@@ -64,7 +67,8 @@ module _ {K N : Type 0} (gives : K → Gives) (digest : N → List ℕ → List 
     keeps = record {
       at_work =
           let lower : (the_shop D J G).lower (the_shop D J G).job.main ≡ desc_view o.main.desc = sym (ap desc_view o.is_main) in
-          let works = opened_works (the_shop D J G) (shop_is D J G (orderly functions read)) most_waits (plan_view plan) o.main (omega arith) o.named o.is_main lower in
+          let works = opened_works (the_shop D J G) (shop_is D J G (orderly functions read)) most_waits (plan_view plan) o.main (omega arith)
+          o.named o.is_main lower in
           subst (AtWork (the_shop D J G) most_waits [] first) (sym (none_out plan.workers)) works;
       places = places.opened shop.shelves D (plan_view plan) shop.job.script.keys o.main;
       rows = λ w order e. absurd (none_at plan.workers w order e);
@@ -84,7 +88,8 @@ module _ {K N : Type 0} (gives : K → Gives) (digest : N → List ℕ → List 
     })
 
     -- a crew of this shop that has no order
-    pub kept_of : (workers seed : ℕ) (told : List (Option (List TaskId))) (crew : CrewSeen K N) → crew ≡ record { shop = shop; out = replicate workers None; told = told; sound = true }
+    pub kept_of : (workers seed : ℕ) (told : List (Option (List TaskId))) (crew : CrewSeen K N) → crew
+        ≡ record { shop = shop; out = replicate workers None; told = told; sound = true }
         → workers ≡ plan.workers → seed ≡ plan.seed → Kept gives digest crew.shop crew.sound m crew.out seed
     kept_of workers seed told crew is many same =
         let e : replicate {A = Option Order} plan.workers None ≡ replicate workers None = ap (λ n. replicate n None) (sym many) in

@@ -1,5 +1,6 @@
 -- The gates of the workers, and the others behind them.
-use Rattle.std.proofs.Common.{◌≡◌, ◌≢◌, ◌⊎◌, ◌+◌, ℕ, zero, suc, ◌<◌, ◌≤◌, List, [], ◌∷◌, ◌++◌, length, map, take, drop, replicate, Option, Some, None, inl, inr, refl, sym, ap, subst, ◌∙◌, arith, length-append}
+use Rattle.std.proofs.Common.{◌≡◌, ◌≢◌, ◌⊎◌, ◌+◌, ℕ, zero, suc, ◌<◌, ◌≤◌, List, [], ◌∷◌, ◌++◌, length, map, take, drop, replicate, Option, Some, None}
+use Rattle.std.proofs.Common.{inl, inr, refl, sym, ap, subst, ◌∙◌, arith, length-append}
 use Rattle.std.proofs.lemmas.List.{length-map}
 use Rattle.sky_base.specs.declared.object.TaskId.{TaskId}
 use Rattle.ciel_crew.specs.Crews.{Fades, FadesEach, told_at}
@@ -45,12 +46,14 @@ drop_append (suc n) (x ∷ xs) ys e = drop_append n xs ys (omega (arith, e))
 -- ---- after a run
 
 -- from what the crew was told at first to what the gates tell that it gave back
-pub told_after : (J0 J1 J2 : List Entry) (first b m a : List Told) → J0 ≡ [] → b ≡ first → J2 ≡ J1 → ToldOn J0 J1 b m → FadesEach m a → ToldBy J2 first a
+pub told_after : (J0 J1 J2 : List Entry) (first b m a : List Told) → J0 ≡ [] → b ≡ first → J2 ≡ J1 → ToldOn J0 J1 b m → FadesEach m a
+    → ToldBy J2 first a
 told_after J0 J1 J2 first b m a none same whole t f =
     let u : ToldOn [] J1 first m = subst (λ (x : List Entry × List Told). ToldOn x.0 J1 x.1 m) (λ i. (none i, same i)) t in
     subst (λ es. ToldBy es first a) (sym whole) (told_then J1 first m a (told_whole J1 first m u) f)
 
-pub many_after : {G : Type 0} (entered : G → Told) (es : List Entry) (first back : List G) → ToldBy es (map entered first) (map entered back) → length back ≡ length first
+pub many_after : {G : Type 0} (entered : G → Told) (es : List Entry) (first back : List G) → ToldBy es (map entered first) (map entered back)
+    → length back ≡ length first
 many_after entered es first back t = sym (length-map back entered) ∙ t.0 ∙ length-map first entered
 
 -- an end that isn't want of memory was none before
@@ -59,7 +62,8 @@ still a b (inl e) n = λ m. n (e ∙ m)
 still a b (inr m) n = absurd (n m)
 
 -- the workers' gates before the others
-module _ {G : Type 0} (entered : G → Told) (w : ℕ) (old own others back new : List G) (own_is : own ≡ take w old) (others_is : others ≡ drop w old) (enough : w ≤ length old) (new_is : new ≡ back ++ others) (same : length back ≡ length own) where
+module _ {G : Type 0} (entered : G → Told) (w : ℕ) (old own others back new : List G) (own_is : own ≡ take w old)
+    (others_is : others ≡ drop w old) (enough : w ≤ length old) (new_is : new ≡ back ++ others) (same : length back ≡ length own) where
   own_length : length own ≡ w
   own_length = ap length own_is ∙ taken w old enough
     where

@@ -18,11 +18,17 @@ pub record ShopOf {K N : Type 0} (job : Job) (kit : K) (namer : N) (shop : Shop 
   pub namer_is : shop.namer ≡ namer
 
 -- there is a shelf and an eye for each worker of the plan, and a master of this shop that has started nothing
-pub record IsOpened {K N : Type 0} (digest : N → List ℕ → List ℕ) (plan : RunPlan) (shop : Shop K N) (m : MasterSeen N) (eyes : List SeatSeen) : Type 0 where
+pub record IsOpened {K N : Type 0} (digest : N → List ℕ → List ℕ) (plan : RunPlan) (shop : Shop K N) (m : MasterSeen N)
+    (eyes : List SeatSeen) : Type 0 where
   pub main : Named
   pub named : IsNamed (digest shop.namer) main
   pub is_main : main.desc ≡ Desc1.Call [] no_pairs no_vals
   pub wide : length shop.shelves.rows ≡ plan.workers
   pub many : length eyes ≡ plan.workers
   pub look : All (λ (e : SeatSeen). e.of ≡ shop.shelves.of) eyes
-  pub master : m ≡ record { namer = shop.namer; shelves = shop.shelves; board = opened (digest shop.namer) (plan_view plan) shop.job.script.keys main }
+  pub master : m ≡ record {
+    namer = shop.namer;
+    shelves = shop.shelves;
+    board =
+        opened (digest shop.namer) (plan_view plan) shop.job.script.keys main;
+  }

@@ -67,7 +67,8 @@ where
     requires gates { plan.workers ≤ length gates.old.items }
     requires losses { Each (λ (loss : ℕ × ℕ). loss.1 < plan.workers) plan.losses }
     ensures end { EndsSo (N.digest namer) (job_view job) (K.gives kit) (plan_view plan) (map entry_view result.journal.items) result.end }
-    ensures told { result.end ≢ RunEnd.Memory → ToldBy (map entry_view result.journal.items) (told_of G.entered plan.workers gates.old.items) (told_of G.entered plan.workers gates.new.items) }
+    ensures told { result.end ≢ RunEnd.Memory → ToldBy (map entry_view result.journal.items) (told_of G.entered plan.workers gates.old.items)
+        (told_of G.entered plan.workers gates.new.items) }
     ensures others { result.end ≢ RunEnd.Memory → drop plan.workers gates.new.items ≡ drop plan.workers gates.old.items }
     ensures all { result.end ≢ RunEnd.Memory → length gates.new.items ≡ length gates.old.items }
 {
@@ -134,8 +135,10 @@ where
     requires seed { seed ≡ plan.value.seed }
     requires gates { length gates.items ≡ plan.value.workers }
     requires workers { (0 < plan.value.workers) × (plan.value.workers ≤ 64) }
-    ensures end { EndsSo (N.digest (arc_value opened.shop).namer) (job_view (arc_value opened.shop).job) (K.gives (arc_value opened.shop).kit) (plan_view plan.value) (map entry_view result.0.journal.items) result.0.end }
-    ensures told { result.0.end ≢ RunEnd.Memory → ToldBy (map entry_view result.0.journal.items) (map G.entered gates.items) (map G.entered result.1.items) }
+    ensures end { EndsSo (N.digest (arc_value opened.shop).namer) (job_view (arc_value opened.shop).job) (K.gives (arc_value opened.shop).kit)
+        (plan_view plan.value) (map entry_view result.0.journal.items) result.0.end }
+    ensures told { result.0.end ≢ RunEnd.Memory
+        → ToldBy (map entry_view result.0.journal.items) (map G.entered gates.items) (map G.entered result.1.items) }
     ensures all { result.0.end ≢ RunEnd.Memory → length result.1.items ≡ length gates.items }
 {
     functions_are_orderly();

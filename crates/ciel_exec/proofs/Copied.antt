@@ -63,7 +63,8 @@ module _ (ns : List (List ℕ)) (ds : List (Desc (List ℕ))) (are : known_of ns
 -- ---- what was copied of them
 
 module _ (shelves : ShelvesSeen) (w : ℕ) (inputs : List (List ℕ × List ℕ)) (held : List Held) where
-  fewer_apart : (n m : List ℕ) (ns : List (List ℕ)) → AllByRecursion (λ y. same_text n y ≡ false) (ns ++ m ∷ []) → AllByRecursion (λ y. same_text n y ≡ false) ns × (same_text n m ≡ false)
+  fewer_apart : (n m : List ℕ) (ns : List (List ℕ)) → AllByRecursion (λ y. same_text n y ≡ false) (ns ++ m ∷ [])
+      → AllByRecursion (λ y. same_text n y ≡ false) ns × (same_text n m ≡ false)
   fewer_apart n m [] a = (tt, a.0)
   fewer_apart n m (k ∷ ns) a = let rest = fewer_apart n m ns a.1 in ((a.0, rest.0), rest.1)
 
@@ -76,7 +77,8 @@ module _ (shelves : ShelvesSeen) (w : ℕ) (inputs : List (List ℕ × List ℕ)
       true_false : true ≡ false → ⊥
       true_false e = cc
 
-      go : AllByRecursion (λ y. same_text n y ≡ false) ns × (same_text n m ≡ false) → IsDistinct same_text ns × (In m ns → ⊥) → (AllByRecursion (λ y. same_text n y ≡ false) ns × IsDistinct same_text ns) × (In m (n ∷ ns) → ⊥)
+      go : AllByRecursion (λ y. same_text n y ≡ false) ns × (same_text n m ≡ false) → IsDistinct same_text ns × (In m ns → ⊥)
+          → (AllByRecursion (λ y. same_text n y ≡ false) ns × IsDistinct same_text ns) × (In m (n ∷ ns) → ⊥)
       go first rest = ((first.0, rest.0), new)
         where
           new : In m (n ∷ ns) → ⊥
@@ -106,7 +108,8 @@ module _ (shelves : ShelvesSeen) (w : ℕ) (inputs : List (List ℕ × List ℕ)
   among_names (c ∷ cs) ns n a (inr i) = among_names cs ns n a.1 i
 
   -- what was brought of one name more
-  among_one : (b : Bool) (n : List ℕ) (h : Held) (o : logic.Object (List ℕ)) (ns : List (List ℕ)) (old new : List Held) → n ≡ h.name → CopiedIf b shelves w h.name o old new → Among ns old → Among (ns ++ n ∷ []) new
+  among_one : (b : Bool) (n : List ℕ) (h : Held) (o : logic.Object (List ℕ)) (ns : List (List ℕ)) (old new : List Held) → n ≡ h.name
+      → CopiedIf b shelves w h.name o old new → Among ns old → Among (ns ++ n ∷ []) new
   among_one false n h o ns old new e so a = subst (Among (ns ++ n ∷ [])) (sym so) (among_more old n ns a)
   among_one true n h o ns old new e (p, grew, here, worker, same) a =
       subst (Among (ns ++ n ∷ [])) (sym grew)
@@ -116,19 +119,24 @@ module _ (shelves : ShelvesSeen) (w : ℕ) (inputs : List (List ℕ × List ℕ)
   unfolding IsDistinct
   nothing_twice = tt
 
-  pub copied_for : (ns : List (List ℕ)) (new : List Held) → CopiedFor shelves w inputs held [] ns new → IsDistinct same_text ns → Copies shelves w inputs held new × Among ns new
+  pub copied_for : (ns : List (List ℕ)) (new : List Held) → CopiedFor shelves w inputs held [] ns new → IsDistinct same_text ns
+      → Copies shelves w inputs held new × Among ns new
   copied_for ns new none d = ((tt, nothing_twice), tt)
   copied_for ns new (one n h o before f at so) d =
       let d' = fewer _ n d in
-      let rest = copied_for _ _ before d'.0 in
-      (copies_more shelves w inputs held n h o _ new rest.0 f at so (λ i. d'.1 (among_names _ _ n rest.1 i)), among_one (is_elsewhere w h.at) n h o _ _ new (found_named n held h f) so rest.1)
+      let rest = copied_for _ _ before d'.0 in (
+        copies_more shelves w inputs held n h o _ new rest.0 f at so (λ i. d'.1 (among_names _ _ n rest.1 i)),
+        among_one (is_elsewhere w h.at) n h o _ _ new (found_named n held h f) so rest.1,
+      )
 
-  among_refs : (ns : List (List ℕ)) (ds : List (Desc (List ℕ))) → ((n : List ℕ) → In n ns → In (known n) ds) → (cs : List Held) → Among ns cs → Each (λ (c : Held). In (known c.name) ds) cs
+  among_refs : (ns : List (List ℕ)) (ds : List (Desc (List ℕ))) → ((n : List ℕ) → In n ns → In (known n) ds) → (cs : List Held) → Among ns cs
+      → Each (λ (c : Held). In (known c.name) ds) cs
   among_refs ns ds f [] a = tt
   among_refs ns ds f (c ∷ cs) a = (f c.name a.0, among_refs ns ds f cs a.1)
 
   -- of the names of these references, each once
-  pub copied_refs : (ns : List (List ℕ)) (ds : List (Desc (List ℕ))) → known_of ns ≡ distinct same_text ds → (old new : List Held) → old ≡ [] → CopiedFor shelves w inputs held old ns new → Copies shelves w inputs held new × Each (λ (c : Held). In (known c.name) ds) new
+  pub copied_refs : (ns : List (List ℕ)) (ds : List (Desc (List ℕ))) → known_of ns ≡ distinct same_text ds → (old new : List Held) → old ≡ []
+      → CopiedFor shelves w inputs held old ns new → Copies shelves w inputs held new × Each (λ (c : Held). In (known c.name) ds) new
   copied_refs ns ds are old new none_yet c =
       let all = copied_for ns new (subst (λ os. CopiedFor shelves w inputs held os ns new) none_yet c) (names_distinct ns ds are) in
       (all.0, among_refs ns ds (λ n i. names_refer ns ds are n i) new all.1)

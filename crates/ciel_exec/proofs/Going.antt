@@ -1,5 +1,6 @@
 -- An executor's order, and the task that it is of: where it begins, what it waits for, and that it comes to its end there.
-use Rattle.std.proofs.Common.{◌≡◌, ℕ, zero, suc, ◌+◌, ◌<◌, ◌≤◌, List, [], ◌∷◌, map, Bool, true, false, Option, Some, None, Result, is_some, slice_get, inl, inr, refl, sym, ap, ap₂, subst, ◌∙◌, arith}
+use Rattle.std.proofs.Common.{◌≡◌, ℕ, zero, suc, ◌+◌, ◌<◌, ◌≤◌, List, [], ◌∷◌, map, Bool, true, false, Option, Some, None, Result, is_some, slice_get}
+use Rattle.std.proofs.Common.{inl, inr, refl, sym, ap, ap₂, subst, ◌∙◌, arith}
 use Rattle.std.specs.Option.{option_map}
 use Rattle.sky_base.specs.Kept.{Kept}
 use Rattle.sky_base.specs.KitView.{Gives}
@@ -66,8 +67,10 @@ module _ {A B : Type 0} (g : A → B) where
       later (x, k, e) = (x, inr k, e)
 
 -- an executor's order is sound, whose arguments have these references
-module _ (digest : List ℕ → List ℕ) (shelves : ShelvesSeen) (sc : Script) (count : ℕ) (order : Order) (sound : OrderSound digest shelves sc count order) (x : List ℕ) (args : Value) (n : ℕ) (by : order.desc ≡ Some (Desc1.Exec x args n 0)) where
-  begins : (tk : TaskId) (e : Option Desc1) → e ≡ Some (Desc1.Exec x args n 0) → Describes digest sc (names_in order.inputs.items) tk e → CanBegin sc (names_in order.inputs.items) (Desc1.Exec x args n 0)
+module _ (digest : List ℕ → List ℕ) (shelves : ShelvesSeen) (sc : Script) (count : ℕ) (order : Order)
+    (sound : OrderSound digest shelves sc count order) (x : List ℕ) (args : Value) (n : ℕ) (by : order.desc ≡ Some (Desc1.Exec x args n 0)) where
+  begins : (tk : TaskId) (e : Option Desc1) → e ≡ Some (Desc1.Exec x args n 0) → Describes digest sc (names_in order.inputs.items) tk e
+      → CanBegin sc (names_in order.inputs.items) (Desc1.Exec x args n 0)
   begins TaskId.Show None e h = absurd cc
   begins TaskId.Show (Some d) e h = absurd h
   begins (TaskId.Of m) None e h = absurd h
@@ -83,7 +86,8 @@ module _ (digest : List ℕ → List ℕ) (shelves : ShelvesSeen) (sc : Script) 
   pub refs_there : t.Each (λ d. t.In (held_name d) (names_in order.inputs.items)) (refs (view args))
   refs_there = can_begin.2
 
-  module _ (job : s.Job) (gives : Gives) (keyed : InputsInOrder job) (o : OpenStart s.Desc) (is : OrderIs (shop_setting digest job gives) o (order_view order)) where
+  module _ (job : s.Job) (gives : Gives) (keyed : InputsInOrder job) (o : OpenStart s.Desc)
+      (is : OrderIs (shop_setting digest job gives) o (order_view order)) where
     abbrev pub S : Setting s.Desc P shop.Block
     S = shop_setting digest job gives
 
@@ -109,13 +113,15 @@ module _ (digest : List ℕ → List ℕ) (shelves : ShelvesSeen) (sc : Script) 
         let args_are : low no_name tag b ≡ view args = cc in
         (b, ap₂ (λ z k. out z b k i) one two ∙ ap (out x b n) three, args_are)
 
-    goes : (tk : Task s.Desc) (e : Option Desc1) → e ≡ Some (Desc1.Exec x args n 0) → GoesBy S tk e → (b : s.Val) × (tk ≡ of (out x b n 0)) × (low no_name tag b ≡ view args)
+    goes : (tk : Task s.Desc) (e : Option Desc1) → e ≡ Some (Desc1.Exec x args n 0) → GoesBy S tk e → (b : s.Val) × (tk ≡ of (out x b n 0))
+        × (low no_name tag b ≡ view args)
     goes show None e g = absurd cc
     goes show (Some d) e g = absurd g
     goes (of d) None e g = absurd g
     goes (of d) (Some c) e g = go (shape d (sym (ap desc_view (some_is c (Desc1.Exec x args n 0) e)) ∙ g))
       where
-        go : (b : s.Val) × (d ≡ out x b n 0) × (low no_name tag b ≡ view args) → (b : s.Val) × (of d ≡ of (out x b n 0)) × (low no_name tag b ≡ view args)
+        go : (b : s.Val) × (d ≡ out x b n 0) × (low no_name tag b ≡ view args) → (b : s.Val) × (of d ≡ of (out x b n 0))
+            × (low no_name tag b ≡ view args)
         go (b, e, l) = (b, ap of e, l)
 
     task : (b : s.Val) × (o.task ≡ of (out x b n 0)) × (low no_name tag b ≡ view args)
@@ -150,15 +156,20 @@ module _ (digest : List ℕ → List ℕ) (shelves : ShelvesSeen) (sc : Script) 
     -- ---- what it holds there
 
     pub held_there : (d : s.Desc) → t.In d (refs b) → HeldAt S.job o.task o.from d
-    held_there d i =
-        (0, record { names = distinct_refs b; mark = [] }, ap₂ (λ tk k. S.job.at 0 tk k) task_is from_is, in_to d (distinct_refs b) (in_distinct_refs b d i))
+    held_there d i = (
+      0,
+      record { names = distinct_refs b; mark = [] },
+      ap₂ (λ tk k. S.job.at 0 tk k) task_is from_is,
+      in_to d (distinct_refs b) (in_distinct_refs b d i),
+    )
 
     low_refs : refs (view args) ≡ map (low_ref no_name tag) (refs b)
     low_refs = ap refs (sym args_are) ∙ refs_low no_name tag b
 
     there : (d : s.Desc) → t.In d (refs b) → t.In (S.job.name d) (names_in held)
     there d i =
-        in_each (λ e. t.In (held_name e) (names_in held)) (map (low_ref no_name tag) (refs b)) (low_ref no_name tag d) (subst (t.Each (λ e. t.In (held_name e) (names_in held))) low_refs refs_there) (mapped (low_ref no_name tag) (refs b) d i)
+        in_each (λ e. t.In (held_name e) (names_in held)) (map (low_ref no_name tag) (refs b)) (low_ref no_name tag d)
+        (subst (t.Each (λ e. t.In (held_name e) (names_in held))) low_refs refs_there) (mapped (low_ref no_name tag) (refs b) d i)
 
     pub given : (d : s.Desc) → t.In d (refs b) → Given S.job o d
     given d i = named_given digest job gives keyed o order is d (held_there d i) (there d i)
@@ -178,19 +189,25 @@ module _ (digest : List ℕ → List ℕ) (shelves : ShelvesSeen) (sc : Script) 
     seen_one : (d : s.Desc) → t.In d (refs b) → (y : Object (List ℕ)) × SeenAs tag job around d y × (finds (low_ref no_name tag d) ≡ Some y)
     seen_one d i = (order_brings digest job gives keyed o order is).given d (given d i)
 
-    seen_all : (ds : List s.Desc) → ((d : s.Desc) → t.In d ds → (y : Object (List ℕ)) × SeenAs tag job around d y × (finds (low_ref no_name tag d) ≡ Some y)) → (k : ℕ) × SeenAsKnown job around tag k finds ds
+    seen_all : (ds : List s.Desc) → ((d : s.Desc) → t.In d ds → (y : Object (List ℕ)) × SeenAs tag job around d y
+        × (finds (low_ref no_name tag d) ≡ Some y)) → (k : ℕ) × SeenAsKnown job around tag k finds ds
     seen_all [] f = (0, λ d i. absurd i)
     seen_all (d ∷ ds) f = join (f d (inl refl)) (seen_all ds (λ e i. f e (inr i)))
       where
-        join : (y : Object (List ℕ)) × SeenAs tag job around d y × (finds (low_ref no_name tag d) ≡ Some y) → (k : ℕ) × SeenAsKnown job around tag k finds ds → (k : ℕ) × SeenAsKnown job around tag k finds (d ∷ ds)
+        join : (y : Object (List ℕ)) × SeenAs tag job around d y × (finds (low_ref no_name tag d) ≡ Some y) → (k : ℕ)
+            × SeenAsKnown job around tag k finds ds → (k : ℕ) × SeenAsKnown job around tag k finds (d ∷ ds)
         join (y, (h, z, e, q), l) (k, g) = (h + k, all)
           where
-            later : (c : s.Desc) → (u : Object (List ℕ)) × (finds (low_ref no_name tag c) ≡ Some u) × Sees job around tag k c u → (u : Object (List ℕ)) × (finds (low_ref no_name tag c) ≡ Some u) × Sees job around tag (h + k) c u
+            later : (c : s.Desc) → (u : Object (List ℕ)) × (finds (low_ref no_name tag c) ≡ Some u) × Sees job around tag k c u
+                → (u : Object (List ℕ)) × (finds (low_ref no_name tag c) ≡ Some u) × Sees job around tag (h + k) c u
             later c (u, l, (p, a, w)) = (u, l, (p, see_to job around k (h + k) c p (omega arith) a, w))
 
             all : (c : s.Desc) → t.In c (d ∷ ds) → (u : Object (List ℕ)) × (finds (low_ref no_name tag c) ≡ Some u) × Sees job around tag (h + k) c u
-            all c (inl r) =
-                (y, ap (λ w. finds (low_ref no_name tag w)) r ∙ l, (z, ap (see job around (h + k)) r ∙ see_to job around h (h + k) d z (omega arith) e, sym q))
+            all c (inl r) = (
+              y,
+              ap (λ w. finds (low_ref no_name tag w)) r ∙ l,
+              (z, ap (see job around (h + k)) r ∙ see_to job around h (h + k) d z (omega arith) e, sym q),
+            )
             all c (inr i) = later c (g c i)
 
     all_seen : (k : ℕ) × SeenAsKnown job around tag k finds (refs b)

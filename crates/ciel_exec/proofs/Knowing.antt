@@ -1,5 +1,6 @@
 -- What lies where an order says is what is given for the names.
-use Rattle.std.proofs.Common.{◌≡◌, ℕ, zero, suc, ◌+◌, List, [], ◌∷◌, ◌++◌, length, map, Bool, true, false, cond, Option, Some, Result, Vec, Global, slice_get, inl, inr, refl, sym, ap, ap₂, subst, ◌∙◌, arith}
+use Rattle.std.proofs.Common.{◌≡◌, ℕ, zero, suc, ◌+◌, List, [], ◌∷◌, ◌++◌, length, map, Bool, true, false, cond, Option, Some, Result, Vec, Global}
+use Rattle.std.proofs.Common.{slice_get, inl, inr, refl, sym, ap, ap₂, subst, ◌∙◌, arith}
 use Rattle.sky_base.specs.KitView.{Gives}
 use Rattle.sky_base.specs.Name.{digested, name}
 use Rattle.sky_base.specs.Names.{known_of}
@@ -40,19 +41,25 @@ module _ (inputs : List (List ℕ × List ℕ)) (held : List Held) where
   heads : (a b : Option (logic.Object (List ℕ))) (xs ys : List (Option (logic.Object (List ℕ)))) → a ∷ xs ≡ b ∷ ys → (a ≡ b) × (xs ≡ ys)
   heads a b xs ys e = (cc, cc)
 
-  given_lies : (ns : List (List ℕ)) (os : List Object) → map (lies inputs held) ns ≡ map (seen_of inputs held) os → (n : List ℕ) → In n ns → given_for (known_of ns) (map object_view os) (known n) ≡ lies inputs held n
+  given_lies : (ns : List (List ℕ)) (os : List Object) → map (lies inputs held) ns ≡ map (seen_of inputs held) os → (n : List ℕ) → In n ns
+      → given_for (known_of ns) (map object_view os) (known n) ≡ lies inputs held n
   given_lies [] os e n i = absurd i
   given_lies (m ∷ ns) [] e n i = absurd cc
   given_lies (m ∷ ns) (o ∷ os) e n i =
-      go (same_text n m) refl (heads (lies inputs held m) (seen_of inputs held o) (map (lies inputs held) ns) (map (seen_of inputs held) os) e) (λ more j. given_lies ns os more n j)
+      go (same_text n m) refl (heads (lies inputs held m) (seen_of inputs held o) (map (lies inputs held) ns) (map (seen_of inputs held) os) e)
+      (λ more j. given_lies ns os more n j)
     where
       later : In n (m ∷ ns) → same_text n m ≡ false → In n ns
       later (inl q) f = absurd (true_false (sym (ap (λ x. same_text n x) (sym q) ∙ self_text n) ∙ f))
       later (inr j) f = j
 
-      go : (b : Bool) → same_text n m ≡ b → (lies inputs held m ≡ seen_of inputs held o) × (map (lies inputs held) ns ≡ map (seen_of inputs held) os) → (map (lies inputs held) ns ≡ map (seen_of inputs held) os → In n ns → given_for (known_of ns) (map object_view os) (known n) ≡ lies inputs held n) → given_for (known_of (m ∷ ns)) (map object_view (o ∷ os)) (known n) ≡ lies inputs held n
+      go : (b : Bool) → same_text n m ≡ b → (lies inputs held m ≡ seen_of inputs held o)
+          × (map (lies inputs held) ns ≡ map (seen_of inputs held) os)
+          → (map (lies inputs held) ns ≡ map (seen_of inputs held) os → In n ns → given_for (known_of ns) (map object_view os) (known n)
+          ≡ lies inputs held n) → given_for (known_of (m ∷ ns)) (map object_view (o ∷ os)) (known n) ≡ lies inputs held n
       go true t both rest =
-          ap (λ b. cond b (Some (object_view o)) (given_for (known_of ns) (map object_view os) (known n))) t ∙ sym both.0 ∙ ap (lies inputs held) (sym (exact_text n m t))
+          ap (λ b. cond b (Some (object_view o)) (given_for (known_of ns) (map object_view os) (known n))) t ∙ sym both.0
+          ∙ ap (lies inputs held) (sym (exact_text n m t))
       go false f both rest =
           ap (λ b. cond b (Some (object_view o)) (given_for (known_of ns) (map object_view os) (known n))) f ∙ rest both.1 (later i f)
 
@@ -65,7 +72,8 @@ module _ (inputs : List (List ℕ × List ℕ)) (held : List Held) where
       go (m, j, e) = (m, inr j, e)
 
   -- of each reference of the arguments
-  given_known : (ns : List (List ℕ)) (os : List Object) (ds : List Row) → known_of ns ≡ distinct same_text ds → map (lies inputs held) ns ≡ map (seen_of inputs held) os → (d : Row) → In d ds → given_for (known_of ns) (map object_view os) d ≡ lies_known inputs held d
+  given_known : (ns : List (List ℕ)) (os : List Object) (ds : List Row) → known_of ns ≡ distinct same_text ds → map (lies inputs held) ns
+      ≡ map (seen_of inputs held) os → (d : Row) → In d ds → given_for (known_of ns) (map object_view os) d ≡ lies_known inputs held d
   given_known ns os ds e so d i =
       go (among ns d (subst (In d) (sym e) (in_distinct same_text exact_text self_text ds d i)))
     where
@@ -78,13 +86,20 @@ module _ (inputs : List (List ℕ × List ℕ)) (held : List Held) where
   collect_alike g h [] e = refl
   collect_alike g h (d ∷ ds) e = ap₂ one_more (e d (inl refl)) (collect_alike g h ds (λ c i. e c (inr i)))
 
-  pub made_lies : (gives : Gives) (x : List ℕ) (a : Val (List ℕ)) (n : ℕ) (ns : List (List ℕ)) (os : List Object) → known_of ns ≡ distinct same_text (refs a) → map (lies inputs held) ns ≡ map (seen_of inputs held) os → made gives (λ v. writes v) (given_for (known_of ns) (map object_view os)) x a n ≡ made gives (λ v. writes v) (lies_known inputs held) x a n
+  pub made_lies : (gives : Gives) (x : List ℕ) (a : Val (List ℕ)) (n : ℕ) (ns : List (List ℕ)) (os : List Object) → known_of ns
+      ≡ distinct same_text (refs a) → map (lies inputs held) ns ≡ map (seen_of inputs held) os
+      → made gives (λ v. writes v) (given_for (known_of ns) (map object_view os)) x a n
+      ≡ made gives (λ v. writes v) (lies_known inputs held) x a n
   made_lies gives x a n ns os e so =
-      ap (made_of gives x a n) (collect_alike (λ d. bytes_seen (λ v. writes v) (given_for (known_of ns) (map object_view os) d)) (λ d. bytes_seen (λ v. writes v) (lies_known inputs held d)) (refs a) (λ d i. ap (bytes_seen (λ v. writes v)) (given_known ns os (refs a) e so d i)))
+      ap (made_of gives x a n) (collect_alike (λ d. bytes_seen (λ v. writes v) (given_for (known_of ns) (map object_view os) d))
+      (λ d. bytes_seen (λ v. writes v) (lies_known inputs held d)) (refs a)
+      (λ d i. ap (bytes_seen (λ v. writes v)) (given_known ns os (refs a) e so d i)))
 
 -- ---- what was made for an output
 
-pub outputs_push : (digest : List ℕ → List ℕ) (shelves : ShelvesSeen) (w : ℕ) (x : List ℕ) (a : Val (List ℕ)) (n : ℕ) (r : Result (List (List ℕ)) Fault) (i k : ℕ) (ms : List Made) (m : Made) → OutputsFrom digest shelves w x a n r i ms → i + length ms ≡ k → IsMade digest shelves w (out x a n k) (output_of r k) m → OutputsFrom digest shelves w x a n r i (ms ++ m ∷ [])
+pub outputs_push : (digest : List ℕ → List ℕ) (shelves : ShelvesSeen) (w : ℕ) (x : List ℕ) (a : Val (List ℕ)) (n : ℕ)
+    (r : Result (List (List ℕ)) Fault) (i k : ℕ) (ms : List Made) (m : Made) → OutputsFrom digest shelves w x a n r i ms → i + length ms ≡ k
+    → IsMade digest shelves w (out x a n k) (output_of r k) m → OutputsFrom digest shelves w x a n r i (ms ++ m ∷ [])
 outputs_push digest shelves w x a n r i k [] m h e is =
     let at : k ≡ i = omega (arith, e) in (subst (λ y. IsMade digest shelves w (out x a n y) (output_of r y) m) at is, tt)
 outputs_push digest shelves w x a n r i k (l ∷ ms) m h e is =
@@ -102,5 +117,6 @@ objects_sound sc (o ∷ os) h = (kept (object_view o) h.0, objects_sound sc os h
     kept (logic.Object.data_of v) h = h.0
     kept (logic.Object.fault f) h = tt
 
-pub objects_kept : (sc : Script) (seen os : List Object) → seen ≡ os → Each (λ o. SoundObject sc (object_view o)) os → Each (λ o. KeptObject (object_view o)) seen
+pub objects_kept : (sc : Script) (seen os : List Object) → seen ≡ os → Each (λ o. SoundObject sc (object_view o)) os
+    → Each (λ o. KeptObject (object_view o)) seen
 objects_kept sc seen os e h = subst (Each (λ o. KeptObject (object_view o))) (sym e) (objects_sound sc os h)

@@ -1,5 +1,6 @@
 -- The report of an executor's order is what a worker promises.
-use Rattle.std.proofs.Common.{◌≡◌, ℕ, zero, suc, ◌+◌, ◌<◌, List, [], ◌∷◌, ◌++◌, length, map, Option, Some, None, Ok, Err, Result, Vec, Global, inl, inr, refl, sym, ap, ap₂, subst, ◌∙◌, arith}
+use Rattle.std.proofs.Common.{◌≡◌, ℕ, zero, suc, ◌+◌, ◌<◌, List, [], ◌∷◌, ◌++◌, length, map, Option, Some, None, Ok, Err, Result, Vec, Global, inl}
+use Rattle.std.proofs.Common.{inr, refl, sym, ap, ap₂, subst, ◌∙◌, arith}
 use Rattle.std.specs.List.{IsDistinct}
 use Rattle.std.specs.Option.{option_map}
 use Rattle.sky_base.specs.KitView.{Gives}
@@ -66,7 +67,9 @@ in_last : {A : Type 0} (l : A) (ls : List A) → j.In l (ls ++ l ∷ [])
 in_last l [] = inl refl
 in_last l (k ∷ ls) = inr (in_last l ls)
 
-module _ (digest : List ℕ → List ℕ) (shelves : ShelvesSeen) (job : s.Job) (gives : Gives) (order : Order) (sound : OrderSound digest shelves job.script (length job.inputs) order) (keyed : InputsInOrder job) (x : List ℕ) (args : Value) (n : ℕ) (by : order.desc ≡ Some (Desc1.Exec x args n 0)) where
+module _ (digest : List ℕ → List ℕ) (shelves : ShelvesSeen) (job : s.Job) (gives : Gives) (order : Order)
+    (sound : OrderSound digest shelves job.script (length job.inputs) order) (keyed : InputsInOrder job) (x : List ℕ) (args : Value) (n : ℕ)
+    (by : order.desc ≡ Some (Desc1.Exec x args n 0)) where
   abbrev held : List Held
   held = order.inputs.items
 
@@ -81,12 +84,18 @@ module _ (digest : List ℕ → List ℕ) (shelves : ShelvesSeen) (job : s.Job) 
 
   -- ---- it fits
 
-  outputs_fit : (tb : TableSeen P) → ((k : ℕ) → k < n → Known tb (digested digest (out x (view args) n k))) → (i : ℕ) (ms : List Made) → i + length ms ≡ n → OutputsFrom digest shelves order.worker x (view args) n made_here i ms → j.Each (OutputFits digest W tb (order_view order)) (map output_view ms)
+  outputs_fit : (tb : TableSeen P) → ((k : ℕ) → k < n → Known tb (digested digest (out x (view args) n k))) → (i : ℕ) (ms : List Made)
+      → i + length ms ≡ n → OutputsFrom digest shelves order.worker x (view args) n made_here i ms
+      → j.Each (OutputFits digest W tb (order_view order)) (map output_view ms)
   outputs_fit tb rows i [] e h = tt
-  outputs_fit tb rows i (m ∷ ms) e h =
-      (record { known = subst (Known tb) (sym h.0.name) (rows i (omega (arith, e))); here = h.0.worker }, outputs_fit tb rows (suc i) ms (omega (arith, e)) h.1)
+  outputs_fit tb rows i (m ∷ ms) e h = (
+    record { known = subst (Known tb) (sym h.0.name) (rows i (omega (arith, e))); here = h.0.worker },
+    outputs_fit tb rows (suc i) ms (omega (arith, e)) h.1,
+  )
 
-  made_fits : (ms : List Made) (cs : List Held) → AreOutputs digest shelves order.worker x (view args) n made_here ms → Copies shelves order.worker job.inputs held cs → (b : Board P) → HasRows digest b.table order → Fits digest W b (order_view order) [] (made (map output_view ms) (copies_view cs))
+  made_fits : (ms : List Made) (cs : List Held) → AreOutputs digest shelves order.worker x (view args) n made_here ms
+      → Copies shelves order.worker job.inputs held cs → (b : Board P) → HasRows digest b.table order
+      → Fits digest W b (order_view order) [] (made (map output_view ms) (copies_view cs))
   made_fits ms cs are copies b rows =
       record {
         named = tt;
@@ -94,14 +103,19 @@ module _ (digest : List ℕ → List ℕ) (shelves : ShelvesSeen) (job : s.Job) 
         learned = λ all. record {
           inside = tt;
           tasks = tt;
-          end = (outputs_fit b.table (subst (OutputsKnown digest b.table) by rows.outputs) 0 ms (omega (arith, are.0)) are.1, copies_fit digest shelves job.inputs order b.table cs copies.0 rows.brought, subst (IsDistinct same_text) (sym (copies_named digest shelves job.inputs order cs copies.0)) copies.1);
+          end = (
+            outputs_fit b.table (subst (OutputsKnown digest b.table) by rows.outputs) 0 ms (omega (arith, are.0)) are.1,
+            copies_fit digest shelves job.inputs order b.table cs copies.0 rows.brought,
+            subst (IsDistinct same_text) (sym (copies_named digest shelves job.inputs order cs copies.0)) copies.1,
+          );
         };
       }
 
   -- ---- its kind
 
   -- the root task has no description, so this is another one
-  made_kind : (tk : TaskId) (d : Option Desc1) → d ≡ Some (Desc1.Exec x args n 0) → Describes digest job.script (names_in held) tk d → (ms : Vec Made Global) → OfTask tk (rust.End.Made ms)
+  made_kind : (tk : TaskId) (d : Option Desc1) → d ≡ Some (Desc1.Exec x args n 0) → Describes digest job.script (names_in held) tk d
+      → (ms : Vec Made Global) → OfTask tk (rust.End.Made ms)
   made_kind TaskId.Show None e h ms = absurd cc
   made_kind TaskId.Show (Some d) e h ms = absurd h
   made_kind (TaskId.Of m) d e h ms = tt
@@ -112,12 +126,15 @@ module _ (digest : List ℕ → List ℕ) (shelves : ShelvesSeen) (job : s.Job) 
 
   -- ---- the promise
 
-  module _ (r : Report) (number : r.number ≡ order.number) (worker : r.worker ≡ order.worker) (task : r.task ≡ order.task) (spawned : r.spawned.items ≡ []) where
+  module _ (r : Report) (number : r.number ≡ order.number) (worker : r.worker ≡ order.worker) (task : r.task ≡ order.task)
+      (spawned : r.spawned.items ≡ []) where
     -- with nothing spawned and this end
     moved : (Q : List Named → End P → Type 0) (e : End P) → report_end r ≡ e → Q [] e → Q r.spawned.items (report_end r)
     moved Q e is q = subst (Q r.spawned.items) (sym is) (subst (λ sp. Q sp e) (sym spawned) q)
 
-    pub performs_made : (ms : Vec Made Global) (cs : Vec Held Global) → r.copied ≡ cs → r.end ≡ rust.End.Made ms → AreOutputs digest shelves order.worker x (view args) n made_here ms.items → Copies shelves order.worker job.inputs held cs.items → t.Each (λ (c : Held). t.In (known c.name) (refs (view args))) cs.items → Performs digest job gives order r
+    pub performs_made : (ms : Vec Made Global) (cs : Vec Held Global) → r.copied ≡ cs → r.end ≡ rust.End.Made ms
+        → AreOutputs digest shelves order.worker x (view args) n made_here ms.items → Copies shelves order.worker job.inputs held cs.items
+        → t.Each (λ (c : Held). t.In (known c.name) (refs (view args))) cs.items → Performs digest job gives order r
     performs_made ms cs copied end are copies among =
         record {
           number = number;
@@ -126,8 +143,12 @@ module _ (digest : List ℕ → List ℕ) (shelves : ShelvesSeen) (job : s.Job) 
           kind = subst (OfTask order.task) (sym end) (made_kind order.task order.desc by sound.describes ms);
           fits = λ b sd out rows not. moved (Fits digest W b (order_view order)) the_end end_is (made_fits ms.items cs.items are copies b rows);
           missed = subst (Missed digest order) (sym end) tt;
-          says = λ o is apart. moved (λ sp e. Says S.job S.inner S.lower o (report_view order.number sp e)) the_end end_is (says_made digest shelves job.script (length job.inputs) order sound x args n by job gives keyed o is ms.items cs.items are copies among);
-          lies = λ h p o lawful is_open is. moved (λ sp e. LiesUnlessClash S h p o order.number sp e) the_end end_is (made_lies digest shelves job.script (length job.inputs) order sound x args n by job gives keyed o is ms.items cs.items are copies.0 h p lawful is_open);
+          says = λ o is apart. moved (λ sp e. Says S.job S.inner S.lower o (report_view order.number sp e)) the_end end_is
+              (says_made digest shelves job.script (length job.inputs) order sound x args n by job gives keyed o is ms.items cs.items are copies
+              among);
+          lies = λ h p o lawful is_open is. moved (λ sp e. LiesUnlessClash S h p o order.number sp e) the_end end_is
+              (made_lies digest shelves job.script (length job.inputs) order sound x args n by job gives keyed o is ms.items cs.items are
+              copies.0 h p lawful is_open);
           answers = λ h p o lawful is_open is e tells allowed apart. subst (AnswerIs digest job gives) (sym end) tt;
         }
       where
@@ -137,7 +158,8 @@ module _ (digest : List ℕ → List ℕ) (shelves : ShelvesSeen) (job : s.Job) 
         end_is : report_end r ≡ the_end
         end_is = ap₂ (λ (c : Vec Held Global) e. how_view c.items e) copied end
 
-    pub performs_missing : (nm : Digest) (l : Loss) (seen : SeatSeen) (old : List Loss) (h : Held) → r.end ≡ rust.End.Missing nm l (Some seen) → found held_name nm held ≡ Some h → LostAt l h.at → seen.losses ≡ old ++ l ∷ [] → Performs digest job gives order r
+    pub performs_missing : (nm : Digest) (l : Loss) (seen : SeatSeen) (old : List Loss) (h : Held) → r.end ≡ rust.End.Missing nm l (Some seen)
+        → found held_name nm held ≡ Some h → LostAt l h.at → seen.losses ≡ old ++ l ∷ [] → Performs digest job gives order r
     performs_missing nm l seen old h end f lost saw =
         record {
           number = number;
@@ -146,7 +168,8 @@ module _ (digest : List ℕ → List ℕ) (shelves : ShelvesSeen) (job : s.Job) 
           kind = subst (OfTask order.task) (sym end) (missing_kind order.task nm l seen);
           fits = λ b sd out rows not. absurd (not (subst IsMissing (sym end) tt));
           missed = subst (Missed digest order) (sym end) (is_missed h.at refl lost);
-          says = λ o is apart. moved (λ sp e. Says S.job S.inner S.lower o (report_view order.number sp e)) the_end end_is (says_missing digest shelves job.script (length job.inputs) order sound x args n by job gives keyed o is nm l.number);
+          says = λ o is apart. moved (λ sp e. Says S.job S.inner S.lower o (report_view order.number sp e)) the_end end_is
+              (says_missing digest shelves job.script (length job.inputs) order sound x args n by job gives keyed o is nm l.number);
           lies = λ hs p o lawful is_open is. moved (λ sp e. LiesUnlessClash S hs p o order.number sp e) the_end end_is (λ e tells allowed apart. tt);
           answers = λ hs p o lawful is_open is e tells allowed apart. subst (AnswerIs digest job gives) (sym end) tt;
         }
@@ -169,19 +192,31 @@ module _ (digest : List ℕ → List ℕ) (shelves : ShelvesSeen) (job : s.Job) 
 
   -- ---- its places
 
-  objects_at : (i : ℕ) (ms : List Made) → OutputsFrom digest shelves order.worker x (view args) n made_here i ms → t.Each (λ (m : Made). ObjectAt shelves order.worker job.script m.place) ms
+  objects_at : (i : ℕ) (ms : List Made) → OutputsFrom digest shelves order.worker x (view args) n made_here i ms
+      → t.Each (λ (m : Made). ObjectAt shelves order.worker job.script m.place) ms
   objects_at i [] h = tt
-  objects_at i (m ∷ ms) h =
-      (record { here = h.0.place; worker = h.0.worker; object = sound_there job.script m.place.at.value (output_of made_here i) h.0.object (output_sound job.script made_here i) }, objects_at (suc i) ms h.1)
+  objects_at i (m ∷ ms) h = (
+    record {
+      here = h.0.place;
+      worker = h.0.worker;
+      object =
+          sound_there job.script m.place.at.value (output_of made_here i) h.0.object (output_sound job.script made_here i);
+    },
+    objects_at (suc i) ms h.1,
+  )
 
-  pub places_made : (r : Report) (ms : Vec Made Global) (cs : Vec Held Global) → r.copied ≡ cs → r.end ≡ rust.End.Made ms → AreOutputs digest shelves order.worker x (view args) n made_here ms.items → Copies shelves order.worker job.inputs held cs.items → PlacesSound shelves order.worker job.script r
+  pub places_made : (r : Report) (ms : Vec Made Global) (cs : Vec Held Global) → r.copied ≡ cs → r.end ≡ rust.End.Made ms
+      → AreOutputs digest shelves order.worker x (view args) n made_here ms.items → Copies shelves order.worker job.inputs held cs.items
+      → PlacesSound shelves order.worker job.script r
   places_made r ms cs copied end are copies =
       record {
         end = subst (EndAt shelves order.worker job.script r.task) (sym end) (objects_at 0 ms.items are.1);
-        copied = subst (λ (c : Vec Held Global). t.Each (λ (h : Held). CopyAt shelves order.worker job.script h.at) c.items) (sym copied) (copies_sound shelves order.worker job.inputs held job.script (length job.inputs) sound.spots cs.items copies.0);
+        copied = subst (λ (c : Vec Held Global). t.Each (λ (h : Held). CopyAt shelves order.worker job.script h.at) c.items) (sym copied)
+            (copies_sound shelves order.worker job.inputs held job.script (length job.inputs) sound.spots cs.items copies.0);
       }
 
-  pub places_missing : (r : Report) (nm : Digest) (l : Loss) (seen : SeatSeen) → r.copied.items ≡ [] → r.end ≡ rust.End.Missing nm l (Some seen) → seen.of ≡ shelves.of → PlacesSound shelves order.worker job.script r
+  pub places_missing : (r : Report) (nm : Digest) (l : Loss) (seen : SeatSeen) → r.copied.items ≡ [] → r.end ≡ rust.End.Missing nm l (Some seen)
+      → seen.of ≡ shelves.of → PlacesSound shelves order.worker job.script r
   places_missing r nm l seen copied end of =
       record {
         end = subst (EndAt shelves order.worker job.script r.task) (sym end) of;
@@ -191,12 +226,24 @@ module _ (digest : List ℕ → List ℕ) (shelves : ShelvesSeen) (job : s.Job) 
   -- ---- what the run came to
 
   -- where these are the inputs of the order
-  pub of_made : (hs : List Held) (ran : Ran) (ms : Vec Made Global) (cs : Vec Held Global) → hs ≡ held → ran ≡ Ran.Made ms cs → RanSo shelves order.worker job.inputs hs (view args) digest gives x n ran → CopiedAlong shelves order.worker job.inputs hs (view args) ran → AreOutputs digest shelves order.worker x (view args) n made_here ms.items × Copies shelves order.worker job.inputs held cs.items × t.Each (λ (c : Held). t.In (known c.name) (refs (view args))) cs.items
+  pub of_made : (hs : List Held) (ran : Ran) (ms : Vec Made Global) (cs : Vec Held Global) → hs ≡ held → ran ≡ Ran.Made ms cs
+      → RanSo shelves order.worker job.inputs hs (view args) digest gives x n ran
+      → CopiedAlong shelves order.worker job.inputs hs (view args) ran
+      → AreOutputs digest shelves order.worker x (view args) n made_here ms.items × Copies shelves order.worker job.inputs held cs.items
+      × t.Each (λ (c : Held). t.In (known c.name) (refs (view args))) cs.items
   of_made hs ran ms cs same is so copied =
-      let along = subst (λ h. CopiedAlong shelves order.worker job.inputs h (view args) (Ran.Made ms cs)) same (subst (CopiedAlong shelves order.worker job.inputs hs (view args)) is copied) in
-      (subst (λ h. RanSo shelves order.worker job.inputs h (view args) digest gives x n (Ran.Made ms cs)) same (subst (RanSo shelves order.worker job.inputs hs (view args) digest gives x n) is so), along.0, along.1)
+      let along = subst (λ h. CopiedAlong shelves order.worker job.inputs h (view args) (Ran.Made ms cs)) same
+      (subst (CopiedAlong shelves order.worker job.inputs hs (view args)) is copied) in (
+        subst (λ h. RanSo shelves order.worker job.inputs h (view args) digest gives x n (Ran.Made ms cs)) same
+            (subst (RanSo shelves order.worker job.inputs hs (view args) digest gives x n) is so),
+        along.0,
+        along.1,
+      )
 
-  pub of_lost : (hs : List Held) (ran : Ran) (nm : Digest) (l : Loss) → hs ≡ held → ran ≡ Ran.Lost nm l → RanSo shelves order.worker job.inputs hs (view args) digest gives x n ran → (h : Held) × (found held_name nm held ≡ Some h) × LostAt l h.at
+  pub of_lost : (hs : List Held) (ran : Ran) (nm : Digest) (l : Loss) → hs ≡ held → ran ≡ Ran.Lost nm l
+      → RanSo shelves order.worker job.inputs hs (view args) digest gives x n ran → (h : Held) × (found held_name nm held ≡ Some h)
+      × LostAt l h.at
   of_lost hs ran nm l same is so =
-      let lost = subst (λ h. RanSo shelves order.worker job.inputs h (view args) digest gives x n (Ran.Lost nm l)) same (subst (RanSo shelves order.worker job.inputs hs (view args) digest gives x n) is so) in
+      let lost = subst (λ h. RanSo shelves order.worker job.inputs h (view args) digest gives x n (Ran.Lost nm l)) same
+      (subst (RanSo shelves order.worker job.inputs hs (view args) digest gives x n) is so) in
       (lost.1, lost.2, lost.3)

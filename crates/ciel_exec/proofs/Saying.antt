@@ -1,5 +1,6 @@
 -- The report of an executor's order says what the job does.
-use Rattle.std.proofs.Common.{◌≡◌, ℕ, zero, suc, ◌+◌, ◌≤◌, List, [], ◌∷◌, length, map, Bool, true, false, Some, Result, inl, inr, refl, sym, ap, ap₂, subst, ◌∙◌, arith}
+use Rattle.std.proofs.Common.{◌≡◌, ℕ, zero, suc, ◌+◌, ◌≤◌, List, [], ◌∷◌, length, map, Bool, true, false, Some, Result, inl, inr, refl, sym, ap, ap₂}
+use Rattle.std.proofs.Common.{subst, ◌∙◌, arith}
 use Rattle.std.specs.List.{AllByRecursion, IsDistinct}
 use Rattle.sky_base.specs.Eval.{outputs}
 use Rattle.sky_base.specs.KitView.{Gives}
@@ -45,7 +46,10 @@ use Rattle.ciel_exec.specs.Outputs.{AreOutputs, OutputsFrom}
 use Rattle.ciel_exec.proofs.Going as going
 use Rattle.sha1.specs.Sha1.{sha1}
 
-module _ (digest : List ℕ → List ℕ) (shelves : ShelvesSeen) (sc : Script) (count : ℕ) (order : Order) (sound : OrderSound digest shelves sc count order) (x : List ℕ) (args : Value) (n : ℕ) (by : order.desc ≡ Some (Desc1.Exec x args n 0)) (job : s.Job) (gives : Gives) (keyed : InputsInOrder job) (o : OpenStart s.Desc) (is : OrderIs (shop_setting digest job gives) o (order_view order)) where
+module _ (digest : List ℕ → List ℕ) (shelves : ShelvesSeen) (sc : Script) (count : ℕ) (order : Order)
+    (sound : OrderSound digest shelves sc count order) (x : List ℕ) (args : Value) (n : ℕ) (by : order.desc ≡ Some (Desc1.Exec x args n 0))
+    (job : s.Job) (gives : Gives) (keyed : InputsInOrder job) (o : OpenStart s.Desc)
+    (is : OrderIs (shop_setting digest job gives) o (order_view order)) where
   abbrev S : Setting s.Desc P shop.Block
   S = shop_setting digest job gives
 
@@ -69,14 +73,20 @@ module _ (digest : List ℕ → List ℕ) (shelves : ShelvesSeen) (sc : Script) 
   pub object_seen : (i : ℕ) → ObjectOf S.job (out x b n i) (sha1 (object_bytes (output_of result i)))
   object_seen i = go (going.sees digest shelves sc count order sound x args n by job gives keyed o is i)
     where
-      go : Sees job (going.around digest shelves sc count order sound x args n by job gives keyed o is) (digested digest) (suc fuel) (out x b n i) (output_of result i) → ObjectOf S.job (out x b n i) (sha1 (object_bytes (output_of result i)))
-      go (p, e, q) = (suc fuel, ap (mark_if job (going.around digest shelves sc count order sound x args n by job gives keyed o is) S.job.name (mark_of digest) (λ a. [])) e ∙ ap (λ y. Some (sha1 (object_bytes y))) q)
+      go : Sees job (going.around digest shelves sc count order sound x args n by job gives keyed o is) (digested digest) (suc fuel)
+          (out x b n i) (output_of result i) → ObjectOf S.job (out x b n i) (sha1 (object_bytes (output_of result i)))
+      go (p, e, q) = (
+        suc fuel,
+        ap (mark_if job (going.around digest shelves sc count order sound x args n by job gives keyed o is) S.job.name
+            (mark_of digest) (λ a. [])) e ∙ ap (λ y. Some (sha1 (object_bytes y))) q,
+      )
 
   paired : ℕ → List Made → List (s.Desc × Digest)
   paired i [] = []
   paired i (m ∷ ms) = (out x b n i, m.mark) ∷ paired (suc i) ms
 
-  marked_from : (c i : ℕ) (ms : List Made) → length ms ≡ c → OutputsFrom digest shelves order.worker x (view args) n result i ms → Marked S.job (outputs x b n i c) (paired i ms)
+  marked_from : (c i : ℕ) (ms : List Made) → length ms ≡ c → OutputsFrom digest shelves order.worker x (view args) n result i ms
+      → Marked S.job (outputs x b n i c) (paired i ms)
   unfolding paired
   marked_from zero i [] e h = tt
   marked_from zero i (m ∷ ms) e h = absurd (omega (arith, e))
@@ -84,11 +94,14 @@ module _ (digest : List ℕ → List ℕ) (shelves : ShelvesSeen) (sc : Script) 
   marked_from (suc c) i (m ∷ ms) e h =
       (refl, subst (ObjectOf S.job (out x b n i)) (sym h.0.mark) (object_seen i), marked_from c (suc i) ms (omega (arith, e)) h.1)
 
-  keys_from : (i : ℕ) (ms : List Made) → OutputsFrom digest shelves order.worker x (view args) n result i ms → made_keys (map output_view ms) ≡ low_made S.job (paired i ms)
+  keys_from : (i : ℕ) (ms : List Made) → OutputsFrom digest shelves order.worker x (view args) n result i ms → made_keys (map output_view ms)
+      ≡ low_made S.job (paired i ms)
   unfolding paired
   keys_from i [] h = refl
   keys_from i (m ∷ ms) h =
-      ap₂ (λ k ks. k ∷ ks) (ap (λ y. (y, m.mark)) (h.0.name ∙ ap (λ v. digested digest (out x v n i)) (sym (going.args_are digest shelves sc count order sound x args n by job gives keyed o is)))) (keys_from (suc i) ms h.1)
+      ap₂ (λ k ks. k ∷ ks) (ap (λ y. (y, m.mark))
+      (h.0.name ∙ ap (λ v. digested digest (out x v n i))
+      (sym (going.args_are digest shelves sc count order sound x args n by job gives keyed o is)))) (keys_from (suc i) ms h.1)
 
   -- ---- what was copied
 
@@ -100,7 +113,8 @@ module _ (digest : List ℕ → List ℕ) (shelves : ShelvesSeen) (sc : Script) 
       true_false : true ≡ false → ⊥
       true_false e = cc
 
-      others : (es : List s.Desc) → AllByRecursion (λ y. same_text (S.job.name d) y ≡ false) (low_names S.job es) → AllByRecursion (λ e. t.same d e ≡ false) es
+      others : (es : List s.Desc) → AllByRecursion (λ y. same_text (S.job.name d) y ≡ false) (low_names S.job es)
+          → AllByRecursion (λ e. t.same d e ≡ false) es
       others [] g = tt
       others (e ∷ es) g = (no (t.same d e) refl, others es g.1)
         where
@@ -110,19 +124,29 @@ module _ (digest : List ℕ → List ℕ) (shelves : ShelvesSeen) (sc : Script) 
               absurd (true_false (sym (self_text (S.job.name d)) ∙ ap (λ y. same_text (S.job.name d) (S.job.name y)) (same_exact d e q) ∙ g.0))
 
   -- what a copy is of
-  copy_of : (c : Held) → IsCopy shelves order.worker job.inputs order.inputs.items c → t.In (known c.name) (refs (view args)) → (d : s.Desc) × Copied S.job o d × (S.job.name d ≡ c.name)
+  copy_of : (c : Held) → IsCopy shelves order.worker job.inputs order.inputs.items c → t.In (known c.name) (refs (view args)) → (d : s.Desc)
+      × Copied S.job o d × (S.job.name d ≡ c.name)
   copy_of c copy i = go (going.of_name digest shelves sc count order sound x args n by job gives keyed o is c.name i)
     where
       go : (d : s.Desc) × t.In d (refs b) × (c.name ≡ S.job.name d) → (d : s.Desc) × Copied S.job o d × (S.job.name d ≡ c.name)
       go (d, k, e) =
-          let at = going.held_there digest shelves sc count order sound x args n by job gives keyed o is d k in
-          (d, ((0, distinct_refs b, omega (arith, from_is), sym (ap S.job.first task_is), in_to d (distinct_refs b) (in_distinct_refs b d k)), (copy_fetched digest job gives o order is shelves c copy d at e).0), sym e)
+          let at = going.held_there digest shelves sc count order sound x args n by job gives keyed o is d k in (
+            d,
+            (
+              (0, distinct_refs b, omega (arith, from_is), sym (ap S.job.first task_is), in_to d (distinct_refs b) (in_distinct_refs b d k)),
+              (copy_fetched digest job gives o order is shelves c copy d at e).0,
+            ),
+            sym e,
+          )
 
-  copies_of : (cs : List Held) → t.Each (IsCopy shelves order.worker job.inputs order.inputs.items) cs → t.Each (λ (c : Held). t.In (known c.name) (refs (view args))) cs → (ds : List s.Desc) × j.Each (Copied S.job o) ds × (low_names S.job ds ≡ names_in cs)
+  copies_of : (cs : List Held) → t.Each (IsCopy shelves order.worker job.inputs order.inputs.items) cs
+      → t.Each (λ (c : Held). t.In (known c.name) (refs (view args))) cs → (ds : List s.Desc) × j.Each (Copied S.job o) ds
+      × (low_names S.job ds ≡ names_in cs)
   copies_of [] h i = ([], tt, refl)
   copies_of (c ∷ cs) h i = join (copy_of c h.0 i.0) (copies_of cs h.1 i.1)
     where
-      join : (d : s.Desc) × Copied S.job o d × (S.job.name d ≡ c.name) → (ds : List s.Desc) × j.Each (Copied S.job o) ds × (low_names S.job ds ≡ names_in cs) → (ds : List s.Desc) × j.Each (Copied S.job o) ds × (low_names S.job ds ≡ names_in (c ∷ cs))
+      join : (d : s.Desc) × Copied S.job o d × (S.job.name d ≡ c.name) → (ds : List s.Desc) × j.Each (Copied S.job o) ds
+          × (low_names S.job ds ≡ names_in cs) → (ds : List s.Desc) × j.Each (Copied S.job o) ds × (low_names S.job ds ≡ names_in (c ∷ cs))
       join (d, w, e) (ds, ws, es) = (d ∷ ds, (w, ws), ap₂ (λ y ys. y ∷ ys) e es)
 
   -- ---- the report
@@ -132,12 +156,24 @@ module _ (digest : List ℕ → List ℕ) (shelves : ShelvesSeen) (sc : Script) 
 
   pub says_missing : (name : Digest) (loss : ℕ) → Said (missing name loss)
   says_missing name loss =
-      at_end [] (going.next_end digest shelves sc count order sound x args n by job gives keyed o is) (going.spawned digest shelves sc count order sound x args n by job gives keyed o is) refl (λ c. tt)
+      at_end [] (going.next_end digest shelves sc count order sound x args n by job gives keyed o is)
+      (going.spawned digest shelves sc count order sound x args n by job gives keyed o is) refl (λ c. tt)
 
-  pub says_made : (ms : List Made) (cs : List Held) → AreOutputs digest shelves order.worker x (view args) n result ms → Copies shelves order.worker job.inputs order.inputs.items cs → t.Each (λ (c : Held). t.In (known c.name) (refs (view args))) cs → Said (end_view (made (map output_view ms) (copies_view cs)))
+  pub says_made : (ms : List Made) (cs : List Held) → AreOutputs digest shelves order.worker x (view args) n result ms
+      → Copies shelves order.worker job.inputs order.inputs.items cs → t.Each (λ (c : Held). t.In (known c.name) (refs (view args))) cs
+      → Said (end_view (made (map output_view ms) (copies_view cs)))
   says_made ms cs are copies among =
-      at_end [] (going.next_end digest shelves sc count order sound x args n by job gives keyed o is) (going.spawned digest shelves sc count order sound x args n by job gives keyed o is) refl (λ c. is_made (copies_of cs copies.0 among))
+      at_end [] (going.next_end digest shelves sc count order sound x args n by job gives keyed o is)
+      (going.spawned digest shelves sc count order sound x args n by job gives keyed o is) refl (λ c. is_made (copies_of cs copies.0 among))
     where
-      is_made : (ds : List s.Desc) × j.Each (Copied S.job o) ds × (low_names S.job ds ≡ names_in cs) → MadeIs S.job S.inner S.lower o (end_view (made (map output_view ms) (copies_view cs)))
-      is_made (ds, fetched, names) =
-          (paired 0 ms, ds, subst (λ es. Marked S.job es (paired 0 ms)) (sym (ap S.job.outputs task_is)) (marked_from n 0 ms are.0 are.1), fetched, distinct_descs ds (subst (IsDistinct same_text) (sym names) copies.1), keys_from 0 ms are.1, copies_named digest shelves job.inputs order cs copies.0 ∙ sym names)
+      is_made : (ds : List s.Desc) × j.Each (Copied S.job o) ds × (low_names S.job ds ≡ names_in cs)
+          → MadeIs S.job S.inner S.lower o (end_view (made (map output_view ms) (copies_view cs)))
+      is_made (ds, fetched, names) = (
+        paired 0 ms,
+        ds,
+        subst (λ es. Marked S.job es (paired 0 ms)) (sym (ap S.job.outputs task_is)) (marked_from n 0 ms are.0 are.1),
+        fetched,
+        distinct_descs ds (subst (IsDistinct same_text) (sym names) copies.1),
+        keys_from 0 ms are.1,
+        copies_named digest shelves job.inputs order cs copies.0 ∙ sym names,
+      )

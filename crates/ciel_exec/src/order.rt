@@ -37,7 +37,8 @@ pub fn run_order<K: Kit, N: Namer, R: Wait>(
     eye: &mut Eye,
 ) -> Result<Report, Memory>
     requires desc { order.now.desc ≡ Some (Desc1.Exec executor.now args.now outputs 0) }
-    requires sound { OrderSound (N.digest shop.now.namer) shop.now.shelves (job_view shop.now.job).script (length (job_view shop.now.job).inputs) order.now }
+    requires sound { OrderSound (N.digest shop.now.namer) shop.now.shelves (job_view shop.now.job).script (length (job_view shop.now.job).inputs)
+        order.now }
     requires inputs { InputsInOrder (job_view shop.now.job) }
     requires eye { eye.old.of ≡ shop.now.shelves.of }
     ensures of { eye.new.of ≡ eye.old.of }

@@ -68,7 +68,8 @@ fn put_one<N: Namer, R: Wait>(
 ) -> Result<Made, Memory>
     requires worker { worker < length shelves.now.rows }
     requires index { IfOk (listed made.now) (λ bs. index < length bs) }
-    ensures { IfOk result (λ m. IsMade (N.digest namer.now) shelves.now worker (out executor.now (view args.now) outputs index) (output_of (listed made.now) index) m) }
+    ensures { IfOk result (λ m. IsMade (N.digest namer.now) shelves.now worker (out executor.now (view args.now) outputs index)
+        (output_of (listed made.now) index) m) }
 {
     let desc = Desc1::Exec {
         executor: executor.share()?,

@@ -62,11 +62,13 @@ pub(crate) fn run<K: Kit, N: Namer, R: Wait>(
 ) -> Result<Ran, Memory>
     requires kept { Kept (view args.now) }
     requires names { Each (λ d. In (held_name d) (names_in held.now)) (refs (view args.now)) }
-    requires spots { Each (λ (h : Held). SpotSound shop.now.shelves (job_view shop.now.job).script (length (job_view shop.now.job).inputs) h.at) held.now }
+    requires spots { Each (λ (h : Held). SpotSound shop.now.shelves (job_view shop.now.job).script (length (job_view shop.now.job).inputs) h.at)
+        held.now }
     requires eye { eye.old.of ≡ shop.now.shelves.of }
     requires worker { worker < length shop.now.shelves.rows }
     ensures of { eye.new.of ≡ eye.old.of }
-    ensures ran { IfOk result (RanSo shop.now.shelves worker (job_view shop.now.job).inputs held.now (view args.now) (N.digest shop.now.namer) (K.gives shop.now.kit) executor.now outputs) }
+    ensures ran { IfOk result (RanSo shop.now.shelves worker (job_view shop.now.job).inputs held.now (view args.now) (N.digest shop.now.namer)
+        (K.gives shop.now.kit) executor.now outputs) }
     ensures copied { IfOk result (CopiedAlong shop.now.shelves worker (job_view shop.now.job).inputs held.now (view args.now)) }
     ensures seen { IfOk result (λ r. SawLoss r eye.old eye.new) }
 {

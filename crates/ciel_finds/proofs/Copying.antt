@@ -1,5 +1,6 @@
 -- One more is copied.
-use Rattle.std.proofs.Common.{◌≡◌, ◌<◌, ℕ, suc, List, [], ◌∷◌, ◌++◌, length, Bool, true, false, Option, Some, None, is_some, cond, nat_lt, Result, Ok, Err, MatchResult, ltb-true, ltb-false, inl, inr, ◌⊎◌, refl, sym, ap, subst, ◌∙◌, arith}
+use Rattle.std.proofs.Common.{◌≡◌, ◌<◌, ℕ, suc, List, [], ◌∷◌, ◌++◌, length, Bool, true, false, Option, Some, None, is_some, cond, nat_lt, Result, Ok}
+use Rattle.std.proofs.Common.{Err, MatchResult, ltb-true, ltb-false, inl, inr, ◌⊎◌, refl, sym, ap, subst, ◌∙◌, arith}
 use Rattle.std.specs.BTreeMap.{BTreeMap, Updates, get}
 use Rattle.std.specs.Option.{option_map}
 use Rattle.ciel_brought.specs.Copies.{Copies}
@@ -39,7 +40,8 @@ no_place n (c ∷ cs) e i = go (same_text n c.name) refl (place_of held_name n c
     no : true ≡ false → ⊥
     no x = cc
 
-    go : (b : Bool) → same_text n c.name ≡ b → (o : Option ℕ) → place_of held_name n cs ≡ o → cond b (Some 0) (option_map suc o) ≡ None → j.In n (c.name ∷ names_in cs) → (place_of held_name n cs ≡ None → j.In n (names_in cs) → ⊥) → ⊥
+    go : (b : Bool) → same_text n c.name ≡ b → (o : Option ℕ) → place_of held_name n cs ≡ o → cond b (Some 0) (option_map suc o) ≡ None
+        → j.In n (c.name ∷ names_in cs) → (place_of held_name n cs ≡ None → j.In n (names_in cs) → ⊥) → ⊥
     go true t o q z h later = some_not z
     go false t (Some k) q z h later = some_not z
     go false t None q z (inl same) later = let f : same_text n c.name ≡ true = subst (λ m. same_text n m ≡ true) same (self_text n) in no (sym f ∙ t)
@@ -76,12 +78,14 @@ less k m h = go (nat_lt k m) refl
 module _ (shelves : ShelvesSeen) (w : ℕ) (inputs : List (List ℕ × List ℕ)) (held : List Held) where
   -- what was brought of a name that wasn't copied yet
   pub stands_more : (n : List ℕ) (h : Held) (o : Object (List ℕ)) (old : Copied) (items : List Held) (places : BTreeMap (List ℕ) ℕ)
-      → CopiesStand shelves w inputs held old → place_of held_name n old.items.items ≡ None → found held_name n held ≡ Some h → lies_at inputs h.at ≡ Some o
+      → CopiesStand shelves w inputs held old → place_of held_name n old.items.items ≡ None → found held_name n held ≡ Some h
+      → lies_at inputs h.at ≡ Some o
       → CopiedSo shelves w h o old.items.items items → Noted n (length old.items.items) items old.places places
       → (new : Copied) → new.items.items ≡ items → new.places ≡ places → CopiesStand shelves w inputs held new
   stands_more n h o old items places c fresh f at so noted new is ps =
       record {
-        copies = subst (Copies') (sym is) (copies_more shelves w inputs held n h o old.items.items items c.copies f at so (no_place n old.items.items fresh));
+        copies = subst (Copies') (sym is) (copies_more shelves w inputs held n h o old.items.items items c.copies f at so
+            (no_place n old.items.items fresh));
         places = subst (λ m. IsIndex held_name m new.items.items) (sym ps) (subst (IsIndex held_name places) (sym is) (go (is_elsewhere w h.at) so));
       }
     where
@@ -90,20 +94,29 @@ module _ (shelves : ShelvesSeen) (w : ℕ) (inputs : List (List ℕ × List ℕ)
 
       go : (b : Bool) → CopiedIf b shelves w h.name o old.items.items items → IsIndex held_name places items
       go false same =
-          let stays : places ≡ old.places = subst (λ b. NotedIf b n (length old.items.items) old.places places) (ap (λ (xs : List Held). nat_lt (length old.items.items) (length xs)) same ∙ same_length (length old.items.items)) noted in
+          let stays : places ≡ old.places = subst (λ b. NotedIf b n (length old.items.items) old.places places)
+          (ap (λ (xs : List Held). nat_lt (length old.items.items) (length xs)) same ∙ same_length (length old.items.items)) noted in
           subst (IsIndex held_name places) (sym same) (subst (λ m. IsIndex held_name m old.items.items) (sym stays) c.places)
       go true (p, grew, here, at, lies) =
           let one : Held = record { name = h.name; at = Spot.Shelf p } in
-          let updates : Updates name_cmp old.places places n (Some (length old.items.items)) = subst (λ b. NotedIf b n (length old.items.items) old.places places) (less (length old.items.items) (length items) (subst (λ (xs : List Held). length old.items.items < length xs) (sym grew) (longer old.items.items one))) noted in
-          subst (IsIndex held_name places) (sym grew) (index_more held_name old.places places old.items.items one n (length old.items.items) (sym (found_named n held h f)) refl c.places fresh updates)
+          let updates : Updates name_cmp old.places places n (Some (length old.items.items)) =
+          subst (λ b. NotedIf b n (length old.items.items) old.places places)
+          (less (length old.items.items) (length items)
+          (subst (λ (xs : List Held). length old.items.items < length xs) (sym grew) (longer old.items.items one))) noted in
+          subst (IsIndex held_name places) (sym grew)
+          (index_more held_name old.places places old.items.items one n (length old.items.items) (sym (found_named n held h f)) refl c.places
+          fresh updates)
 
   -- and nothing else was asked for
-  pub asks_one : (n : List ℕ) (h : Held) (o : Object (List ℕ)) (old items : List Held) → found held_name n held ≡ Some h → CopiedSo shelves w h o old items → AsksFor (λ m. In m (names_in old)) (λ m. In m (names_in items)) (known n ∷ [])
+  pub asks_one : (n : List ℕ) (h : Held) (o : Object (List ℕ)) (old items : List Held) → found held_name n held ≡ Some h
+      → CopiedSo shelves w h o old items → AsksFor (λ m. In m (names_in old)) (λ m. In m (names_in items)) (known n ∷ [])
   asks_one n h o old items f so = go (is_elsewhere w h.at) so
     where
-      go : (b : Bool) → CopiedIf b shelves w h.name o old items → (m : List ℕ) → In m (names_in items) → In m (names_in old) ⊎ In (known m) (known n ∷ [])
+      go : (b : Bool) → CopiedIf b shelves w h.name o old items → (m : List ℕ) → In m (names_in items) → In m (names_in old)
+          ⊎ In (known m) (known n ∷ [])
       go false same m i = inl (subst (λ xs. In m (names_in xs)) same i)
-      go true (p, grew, here, at, lies) m i = last (in_last m old (record { name = h.name; at = Spot.Shelf p }) (subst (λ xs. In m (names_in xs)) grew i))
+      go true (p, grew, here, at, lies) m i = last
+          (in_last m old (record { name = h.name; at = Spot.Shelf p }) (subst (λ xs. In m (names_in xs)) grew i))
         where
           last : In m (names_in old) ⊎ (m ≡ h.name) → In m (names_in old) ⊎ In (known m) (known n ∷ [])
           last (inl k) = inl k
@@ -111,11 +124,13 @@ module _ (shelves : ShelvesSeen) (w : ℕ) (inputs : List (List ℕ × List ℕ)
 
   -- ---- one that is brought, or isn't
 
-  none_noted : (n : List ℕ) (old : Copied) (places : BTreeMap (List ℕ) ℕ) → Noted n (length old.items.items) old.items.items old.places places → places ≡ old.places
+  none_noted : (n : List ℕ) (old : Copied) (places : BTreeMap (List ℕ) ℕ) → Noted n (length old.items.items) old.items.items old.places places
+      → places ≡ old.places
   none_noted n old places noted =
       subst (λ b. NotedIf b n (length old.items.items) old.places places) (same_length (length old.items.items)) noted
 
-  pub stands_after : (n : List ℕ) (h : Held) (r : Result rust.Object Gone) (old new : Copied) (items : List Held) → CopiesStand shelves w inputs held old → place_of held_name n old.items.items ≡ None → found held_name n held ≡ Some h
+  pub stands_after : (n : List ℕ) (h : Held) (r : Result rust.Object Gone) (old new : Copied) (items : List Held)
+      → CopiesStand shelves w inputs held old → place_of held_name n old.items.items ≡ None → found held_name n held ≡ Some h
       → MatchResult r (λ o. lies_at inputs h.at ≡ Some (object_view o)) (λ gone. LostAt gone.loss h.at)
       → MatchResult r (λ o. CopiedSo shelves w h (object_view o) old.items.items items) (λ _. items ≡ old.items.items)
       → Noted n (length old.items.items) items old.places new.places → new.items.items ≡ items → CopiesStand shelves w inputs held new
@@ -125,7 +140,9 @@ module _ (shelves : ShelvesSeen) (w : ℕ) (inputs : List (List ℕ × List ℕ)
       let there : new.items.items ≡ old.items.items = is ∙ same in
       record {
         copies = subst (Copies shelves w inputs held) (sym there) c.copies;
-        places = subst (λ m. IsIndex held_name m new.items.items) (sym (none_noted n old new.places (subst (λ xs. Noted n (length old.items.items) xs old.places new.places) same noted))) (subst (IsIndex held_name old.places) (sym there) c.places);
+        places = subst (λ m. IsIndex held_name m new.items.items)
+            (sym (none_noted n old new.places (subst (λ xs. Noted n (length old.items.items) xs old.places new.places) same noted)))
+            (subst (IsIndex held_name old.places) (sym there) c.places);
       }
 
   pub asks_after : (n : List ℕ) (h : Held) (r : Result rust.Object Gone) (old new : Copied) (items : List Held) → found held_name n held ≡ Some h
@@ -135,7 +152,8 @@ module _ (shelves : ShelvesSeen) (w : ℕ) (inputs : List (List ℕ × List ℕ)
   asks_after n h (Err gone) old new items f same is m i = inl (subst (λ xs. In m (names_in xs)) (is ∙ same) i)
 
 -- what the map hasn't has no place
-pub fresh_place : (c : BTreeMap (List ℕ) ℕ) (cs : List Held) (n : List ℕ) → IsIndex held_name c cs → is_some (get name_cmp c n) ≡ false → place_of held_name n cs ≡ None
+pub fresh_place : (c : BTreeMap (List ℕ) ℕ) (cs : List Held) (n : List ℕ) → IsIndex held_name c cs → is_some (get name_cmp c n) ≡ false
+    → place_of held_name n cs ≡ None
 fresh_place c cs n index e = go (place_of held_name n cs) refl
   where
     no : true ≡ false → ⊥

@@ -1,5 +1,6 @@
 -- What an order brings along is found by its name, and is sound.
-use Rattle.std.proofs.Common.{◌≡◌, ◌<◌, ℕ, zero, suc, List, [], ◌∷◌, ◌++◌, length, Result, Ok, Err, MatchOption, MatchResult, inl, inr, Option, Some, None, IsSome, is_some, true, false, refl, sym, ap, subst, ◌∙◌, arith, slice_get}
+use Rattle.std.proofs.Common.{◌≡◌, ◌<◌, ℕ, zero, suc, List, [], ◌∷◌, ◌++◌, length, Result, Ok, Err, MatchOption, MatchResult, inl, inr, Option, Some}
+use Rattle.std.proofs.Common.{None, IsSome, is_some, true, false, refl, sym, ap, subst, ◌∙◌, arith, slice_get}
 use Rattle.std.specs.Option.{option_and_then, option_map}
 use Rattle.sky_base.specs.ObjectView.{object_view}
 use Rattle.sky_base.specs.Res.{Object}
@@ -31,7 +32,8 @@ none_not : {A : Type 0} {a : A} → None ≡ Some a → ⊥
 none_not e = cc
 
 module _ (shelves : ShelvesSeen) (sc : Script) (inputs : List (List ℕ × List ℕ)) where
-  there_get : (xs : List (List ℕ × List ℕ)) (i : ℕ) → i < length xs → IsSome {T = Object (List ℕ)} (option_map (λ (x : List ℕ × List ℕ). Object.bytes x.1) (slice_get xs i))
+  there_get : (xs : List (List ℕ × List ℕ)) (i : ℕ) → i < length xs
+      → IsSome {T = Object (List ℕ)} (option_map (λ (x : List ℕ × List ℕ). Object.bytes x.1) (slice_get xs i))
   there_get [] i h = absurd (omega (arith, h))
   there_get (x ∷ xs) zero h = refl
   there_get (x ∷ xs) (suc i) h = there_get xs i (omega (arith, h))
@@ -49,7 +51,8 @@ module _ (shelves : ShelvesSeen) (sc : Script) (inputs : List (List ℕ × List 
   block_sound (Block.Object x) o h e = subst (SoundObject sc) (some_is (object_view x) o e) h
   block_sound (Block.Frozen s) o h e = absurd h
 
-  input_sound : (x : Option (List ℕ × List ℕ)) (o : Object (List ℕ)) → option_map (λ (y : List ℕ × List ℕ). Object.bytes y.1) x ≡ Some o → SoundObject sc o
+  input_sound : (x : Option (List ℕ × List ℕ)) (o : Object (List ℕ)) → option_map (λ (y : List ℕ × List ℕ). Object.bytes y.1) x ≡ Some o
+      → SoundObject sc o
   input_sound None o e = absurd (none_not e)
   input_sound (Some y) o e = subst (SoundObject sc) (some_is (Object.bytes y.1) o e) tt
 
@@ -108,6 +111,8 @@ module _ (shelves : ShelvesSeen) (sc : Script) (inputs : List (List ℕ × List 
           record { one = h; found = f; at = lost; seen = subst (In gone.loss) (sym seen) (in_end old.losses gone.loss) }
 
       -- whether there is one of this name
-      pub has_so : {A : Type 0} (now : A → Held) (n : List ℕ) (r : Option A) → MatchOption r (found held_name n held ≡ None) (λ h. found held_name n held ≡ Some (now h)) → is_some r ≡ is_some (lies_of inputs held n)
+      pub has_so : {A : Type 0} (now : A → Held) (n : List ℕ) (r : Option A)
+          → MatchOption r (found held_name n held ≡ None) (λ h. found held_name n held ≡ Some (now h)) → is_some r
+          ≡ is_some (lies_of inputs held n)
       has_so now n None f = ap is_some (sym (lies_none n f))
       has_so now n (Some h) f = sym (lies_there n (now h) f)

@@ -5,8 +5,8 @@ use Rattle.sky_base.specs.Tree.{Script}
 use Rattle.ciel_store.specs.Seen.{ShelvesSeen}
 use Rattle.ciel_task.specs.declared.block.Held.{Held}
 
--- which eye it looks through and what it notes in, and of which words that eye is; the shelves and the worker, the script and the inputs of the job, and what the
--- order has
+-- which eye it looks through and what it notes in, and of which words that eye is; the shelves and the worker, the script and the inputs of the job,
+-- and what the order has
 pub record Stays : Type 0 where
   pub eye : ℕ
   pub copied : ℕ

@@ -46,7 +46,8 @@ impl<'a, R: Wait> Finds for Brought<'a, R> {
 
     ghost finds = { λ b. lies_known (job_view b.job.now).inputs b.held.now };
 
-    ghost ready = { λ b. CanBring b.shelves.now b.worker (job_view b.job.now).script (job_view b.job.now).inputs b.held.now b.places.now b.eye.now b.copied.now };
+    ghost ready = { λ b. CanBring b.shelves.now b.worker (job_view b.job.now).script (job_view b.job.now).inputs b.held.now b.places.now
+        b.eye.now b.copied.now };
 
     ghost Stays = { Stays };
 

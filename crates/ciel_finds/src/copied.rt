@@ -69,7 +69,8 @@ pub fn bring_once<R: Wait>(
     requires worker { worker < length shelves.now.rows }
     requires copied { CopiesStand shelves.now worker (job_view job.now).inputs held.now copied.old }
     ensures of { eye.new.of ≡ eye.old.of }
-    ensures object { IfOk result (λ r. MatchResult r (λ o. lies_of (job_view job.now).inputs held.now name.now ≡ Some (object_view o)) (λ gone. IsLost held.now name.now gone.loss eye.new)) }
+    ensures object { IfOk result (λ r. MatchResult r (λ o. lies_of (job_view job.now).inputs held.now name.now ≡ Some (object_view o))
+        (λ gone. IsLost held.now name.now gone.loss eye.new)) }
     ensures copied { IfOk result (λ _. CopiesStand shelves.now worker (job_view job.now).inputs held.now copied.new) }
     ensures asked { IfOk result (λ _. AsksFor (WasCopied copied.old) (WasCopied copied.new) (known name.now ∷ [])) }
 {

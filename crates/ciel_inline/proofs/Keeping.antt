@@ -1,5 +1,6 @@
 -- What a crew keeps where an order is performed, and where a report is handed out.
-use Rattle.std.proofs.Common.{◌≡◌, ◌≢◌, ℕ, zero, suc, ◌<◌, List, [], ◌∷◌, length, map, get_or, set, replicate, true, Option, Some, None, ◌⊎◌, inl, inr, refl, sym, ap, subst, ◌∙◌, arith}
+use Rattle.std.proofs.Common.{◌≡◌, ◌≢◌, ℕ, zero, suc, ◌<◌, List, [], ◌∷◌, length, map, get_or, set, replicate, true, Option, Some, None, ◌⊎◌, inl}
+use Rattle.std.proofs.Common.{inr, refl, sym, ap, subst, ◌∙◌, arith}
 use Rattle.std.proofs.lemmas.Bool.{cases_eq}
 use Rattle.std.proofs.lemmas.List.{get_or_default, get_or-map, get_or-set_other, get_or-set_same, length-map, length-set, map-set}
 use Rattle.sky_base.specs.KitView.{Gives}
@@ -20,7 +21,8 @@ out_at [] (suc k) = refl
 out_at (x ∷ kept) zero = refl
 out_at (x ∷ kept) (suc k) = out_at kept k
 
-pub out_set : (kept : List (Option Kept)) (w : ℕ) (x : Option Kept) (o : Option Order) → order_of x ≡ o → map order_of (set kept w x) ≡ set (map order_of kept) w o
+pub out_set : (kept : List (Option Kept)) (w : ℕ) (x : Option Kept) (o : Option Order) → order_of x ≡ o → map order_of (set kept w x)
+    ≡ set (map order_of kept) w o
 out_set kept w x o e = map-set order_of kept w x ∙ ap (set (map order_of kept) w) e
 
 -- at the opening nothing is out
@@ -31,22 +33,26 @@ nothing_out (suc n) = ap (λ os. None ∷ os) (nothing_out n)
 abbrev seen_as : {K N : Type 0} → Shop K N → List (Option (List TaskId)) → List (Option Order) → CrewSeen K N
 seen_as shop told out = record { shop = shop; out = out; told = told; sound = true }
 
-pub opened_as : {K N : Type 0} (shop : Shop K N) (told : List (Option (List TaskId))) (kept : List (Option Kept)) (workers many : ℕ) → kept ≡ replicate workers None → workers ≡ many → seen_as shop told (map order_of kept) ≡ seen_as shop told (replicate many None)
+pub opened_as : {K N : Type 0} (shop : Shop K N) (told : List (Option (List TaskId))) (kept : List (Option Kept)) (workers many : ℕ) → kept
+    ≡ replicate workers None → workers ≡ many → seen_as shop told (map order_of kept) ≡ seen_as shop told (replicate many None)
 opened_as shop told kept workers many e is =
     ap (seen_as shop told) (ap (map order_of) e ∙ nothing_out workers ∙ ap (λ n. replicate n None) is)
 
 -- ---- what is kept
 
 module _ {K N : Type 0} (gives : K → Gives) (digest : N → List ℕ → List ℕ) (shop : Shop K N) where
-  pub kept_set : (kept : List (Option Kept)) (w : ℕ) (x : Option Kept) → w < length kept → KeptSo gives digest shop kept → KeptAt gives digest shop w x → KeptSo gives digest shop (set kept w x)
+  pub kept_set : (kept : List (Option Kept)) (w : ℕ) (x : Option Kept) → w < length kept → KeptSo gives digest shop kept
+      → KeptAt gives digest shop w x → KeptSo gives digest shop (set kept w x)
   kept_set kept w x lt so at k = go (cases_eq k w)
     where
       go : (k ≡ w) ⊎ (k ≢ w) → KeptAt gives digest shop k (get_or (set kept w x) k None)
       go (inl e) =
-          subst (λ y. KeptAt gives digest shop y (get_or (set kept w x) y None)) (sym e) (subst (KeptAt gives digest shop w) (sym (get_or-set_same kept w x None lt)) at)
+          subst (λ y. KeptAt gives digest shop y (get_or (set kept w x) y None)) (sym e)
+          (subst (KeptAt gives digest shop w) (sym (get_or-set_same kept w x None lt)) at)
       go (inr n) = subst (KeptAt gives digest shop k) (sym (get_or-set_other kept w k x None n)) (so k)
 
-  look_set : (eyes : List SeatSeen) (w : ℕ) (eye : SeatSeen) → AllLook shop eyes → w < length eyes → eye.of ≡ shop.shelves.of → AllLook shop (set eyes w eye)
+  look_set : (eyes : List SeatSeen) (w : ℕ) (eye : SeatSeen) → AllLook shop eyes → w < length eyes → eye.of ≡ shop.shelves.of
+      → AllLook shop (set eyes w eye)
   look_set eyes w eye look lt of k d under = go (cases_eq k w)
     where
       go : (k ≡ w) ⊎ (k ≢ w) → (get_or (set eyes w eye) k d).of ≡ shop.shelves.of
@@ -56,7 +62,9 @@ module _ {K N : Type 0} (gives : K → Gives) (digest : N → List ℕ → List 
           ap (λ (y : SeatSeen). y.of) (get_or-set_other eyes w k eye d n) ∙ look k d (omega (arith, under, length-set eyes w eye))
 
   -- where an order was performed
-  pub stands_after : {G : Type 0} (gates : List G) (w : ℕ) (gate : G) (eyes : List SeatSeen) (eye : SeatSeen) (kept after : List (Option Kept)) → Stands gives digest shop (length gates) eyes kept → w < length eyes → eye.of ≡ shop.shelves.of → length after ≡ length kept → KeptSo gives digest shop after → Stands gives digest shop (length (set gates w gate)) (set eyes w eye) after
+  pub stands_after : {G : Type 0} (gates : List G) (w : ℕ) (gate : G) (eyes : List SeatSeen) (eye : SeatSeen) (kept after : List (Option Kept))
+      → Stands gives digest shop (length gates) eyes kept → w < length eyes → eye.of ≡ shop.shelves.of → length after ≡ length kept
+      → KeptSo gives digest shop after → Stands gives digest shop (length (set gates w gate)) (set eyes w eye) after
   stands_after gates w gate eyes eye kept after s lt of many so =
       record {
         read = s.read;
@@ -68,7 +76,8 @@ module _ {K N : Type 0} (gives : K → Gives) (digest : N → List ℕ → List 
       }
 
   -- where a report was handed out
-  pub stands_handed : (workers : ℕ) (eyes : List SeatSeen) (kept : List (Option Kept)) (w : ℕ) (x : Option Kept) → Stands gives digest shop workers eyes kept → w < length kept → x ≡ None → Stands gives digest shop workers eyes (set kept w x)
+  pub stands_handed : (workers : ℕ) (eyes : List SeatSeen) (kept : List (Option Kept)) (w : ℕ) (x : Option Kept)
+      → Stands gives digest shop workers eyes kept → w < length kept → x ≡ None → Stands gives digest shop workers eyes (set kept w x)
   stands_handed workers eyes kept w x s lt e =
       record {
         read = s.read;
@@ -79,13 +88,20 @@ module _ {K N : Type 0} (gives : K → Gives) (digest : N → List ℕ → List 
         so = kept_set kept w x lt s.so (subst (KeptAt gives digest shop w) (sym e) tt);
       }
 
-  pub handed : (kept : List (Option Kept)) (w : ℕ) (k : Kept) (x : Option Kept) → KeptSo gives digest shop kept → get_or kept w None ≡ Some k → x ≡ None → Reports gives digest shop (map order_of kept) (map order_of (set kept w x)) k.report
+  pub handed : (kept : List (Option Kept)) (w : ℕ) (k : Kept) (x : Option Kept) → KeptSo gives digest shop kept → get_or kept w None ≡ Some k → x
+      ≡ None → Reports gives digest shop (map order_of kept) (map order_of (set kept w x)) k.report
   handed kept w k x so e none_left = go (subst (KeptAt gives digest shop w) e (so w))
     where
-      go : (k.of.value.worker ≡ w) × Answers gives digest shop k.of.value k.report → Reports gives digest shop (map order_of kept) (map order_of (set kept w x)) k.report
+      go : (k.of.value.worker ≡ w) × Answers gives digest shop k.of.value k.report
+          → Reports gives digest shop (map order_of kept) (map order_of (set kept w x)) k.report
       go (at, answers) =
-          let here : k.report.worker ≡ w = answers.performs.worker ∙ at in
-          (k.of.value, ap (order_at (map order_of kept)) here ∙ out_at kept w ∙ ap order_of e, out_set kept w x None (ap order_of none_left) ∙ ap (λ y. set (map order_of kept) y None) (sym here), answers)
+          let here : k.report.worker ≡ w = answers.performs.worker ∙ at in (
+            k.of.value,
+            ap (order_at (map order_of kept)) here ∙ out_at kept w ∙ ap order_of e,
+            out_set kept w x None (ap order_of none_left)
+                ∙ ap (λ y. set (map order_of kept) y None) (sym here),
+            answers,
+          )
 
 -- a worker that the crew has
 pub within : (kept : List (Option Kept)) {out : List (Option Order)} {w : ℕ} → map order_of kept ≡ out → w < length out → w < length kept
@@ -93,21 +109,26 @@ within kept {out} {w} e lt =
     let same : length out ≡ length kept = ap length (sym e) ∙ length-map kept order_of in
     omega (arith, lt, same)
 
-pub looks_there : {K N : Type 0} (shop : Shop K N) (eyes : List SeatSeen) (w : ℕ) (eye : SeatSeen) → AllLook shop eyes → w < length eyes → eye ≡ get_or eyes w eye → eye.of ≡ shop.shelves.of
+pub looks_there : {K N : Type 0} (shop : Shop K N) (eyes : List SeatSeen) (w : ℕ) (eye : SeatSeen) → AllLook shop eyes → w < length eyes → eye
+    ≡ get_or eyes w eye → eye.of ≡ shop.shelves.of
 looks_there shop eyes w eye look lt is = ap (λ (y : SeatSeen). y.of) is ∙ look w eye lt
 
-pub kept_at : {K N : Type 0} (gives : K → Gives) (digest : N → List ℕ → List ℕ) (shop : Shop K N) (order : Order) (k : Kept) → k.of.value ≡ order → Answers gives digest shop order k.report → KeptAt gives digest shop order.worker (Some k)
+pub kept_at : {K N : Type 0} (gives : K → Gives) (digest : N → List ℕ → List ℕ) (shop : Shop K N) (order : Order) (k : Kept) → k.of.value ≡ order
+    → Answers gives digest shop order k.report → KeptAt gives digest shop order.worker (Some k)
 kept_at gives digest shop order k e a =
     (ap (λ (x : Order). x.worker) e, subst (λ x. Answers gives digest shop x k.report) (sym e) a)
 
 -- what was taken from the place
-pub taken_is : (kept : List (Option Kept)) (w : ℕ) (was got : Option Kept) (k : Kept) → w < length kept → was ≡ get_or kept w was → got ≡ was → got ≡ Some k → get_or kept w None ≡ Some k
+pub taken_is : (kept : List (Option Kept)) (w : ℕ) (was got : Option Kept) (k : Kept) → w < length kept → was ≡ get_or kept w was → got ≡ was
+    → got ≡ Some k → get_or kept w None ≡ Some k
 taken_is kept w was got k lt is same e = get_or_default kept w None was lt ∙ sym is ∙ sym same ∙ e
 
 -- where no report is kept, no order is out
-pub none_out : (kept seen : List (Option Kept)) (out : List (Option Order)) → map order_of kept ≡ out → seen ≡ kept → ((k : ℕ) → get_or seen k None ≡ None) → IsOut out → ⊥
+pub none_out : (kept seen : List (Option Kept)) (out : List (Option Order)) → map order_of kept ≡ out → seen ≡ kept
+    → ((k : ℕ) → get_or seen k None ≡ None) → IsOut out → ⊥
 none_out kept seen out e same none_kept (w, order, is) =
-    absurd (some_none (sym (ap (λ o. order_at o w) (sym e) ∙ out_at kept w ∙ ap (λ l. order_of (get_or l w None)) (sym same) ∙ ap order_of (none_kept w)) ∙ is))
+    absurd (some_none (sym (ap (λ o. order_at o w) (sym e) ∙ out_at kept w ∙ ap (λ l. order_of (get_or l w None)) (sym same)
+    ∙ ap order_of (none_kept w)) ∙ is))
   where
     some_none : None ≡ Some order → ⊥
     some_none q = cc
@@ -125,7 +146,9 @@ module _ {G : Type 0} (entered : G → Option (List TaskId)) where
   told_one gates k d lt = get_or-map entered gates k d None lt
 
   -- one gate entered a task
-  pub enters : (gates : List G) (w : ℕ) (old new : G) (task : TaskId) → w < length gates → get_or gates w old ≡ old → IsEntered (entered old) task (entered new) → FadesEach (set (map entered gates) w (extended (told_at (map entered gates) w) task)) (map entered (set gates w new))
+  pub enters : (gates : List G) (w : ℕ) (old new : G) (task : TaskId) → w < length gates → get_or gates w old ≡ old
+      → IsEntered (entered old) task (entered new)
+      → FadesEach (set (map entered gates) w (extended (told_at (map entered gates) w) task)) (map entered (set gates w new))
   enters gates w old new task lt is e =
       (length-map (set gates w new) entered ∙ length-set gates w new ∙ sym (length-set (map entered gates) w _ ∙ length-map gates entered), each)
     where
@@ -138,7 +161,8 @@ module _ {G : Type 0} (entered : G → Option (List TaskId)) where
       was : told_at (map entered gates) w ≡ entered old
       was = told_one gates w old lt ∙ ap entered is
 
-      each : (k : ℕ) → k < length (set (map entered gates) w (extended (told_at (map entered gates) w) task)) → Fades (get_or (set (map entered gates) w (extended (told_at (map entered gates) w) task)) k None) (after k)
+      each : (k : ℕ) → k < length (set (map entered gates) w (extended (told_at (map entered gates) w) task))
+          → Fades (get_or (set (map entered gates) w (extended (told_at (map entered gates) w) task)) k None) (after k)
       each k under = go (cases_eq k w)
         where
           less : k < length gates
@@ -152,7 +176,9 @@ module _ {G : Type 0} (entered : G → Option (List TaskId)) where
 
           go : (k ≡ w) ⊎ (k ≢ w) → Fades (get_or (set (map entered gates) w (extended (told_at (map entered gates) w) task)) k None) (after k)
           go (inl q) =
-              subst (λ y. Fades y (after k)) (sym left) (subst (Fades longer_list) (sym right) (subst (λ y. Fades (extended y task) (entered new)) (sym was) (fades_one task (entered old) (entered new) e)))
+              subst (λ y. Fades y (after k)) (sym left)
+              (subst (Fades longer_list) (sym right) (subst (λ y. Fades (extended y task) (entered new)) (sym was)
+              (fades_one task (entered old) (entered new) e)))
             where
               left : get_or (set (map entered gates) w longer_list) k None ≡ longer_list
               left =
@@ -160,5 +186,7 @@ module _ {G : Type 0} (entered : G → Option (List TaskId)) where
 
               right : after k ≡ entered new
               right =
-                  mapped ∙ ap (λ y. get_or (set (map entered gates) w (entered new)) y None) q ∙ get_or-set_same (map entered gates) w (entered new) None longer
-          go (inr n) = inr (mapped ∙ get_or-set_other (map entered gates) w k (entered new) None n ∙ sym (get_or-set_other (map entered gates) w k (extended (told_at (map entered gates) w) task) None n))
+                  mapped ∙ ap (λ y. get_or (set (map entered gates) w (entered new)) y None) q
+                  ∙ get_or-set_same (map entered gates) w (entered new) None longer
+          go (inr n) = inr (mapped ∙ get_or-set_other (map entered gates) w k (entered new) None n
+              ∙ sym (get_or-set_other (map entered gates) w k (extended (told_at (map entered gates) w) task) None n))

@@ -47,7 +47,13 @@ impl<K: Kit, N: Namer, G: Gate, R> Model for Inline<K, N, G, R> {
 
     ghost coded = { Prim.hlevel (codes, script_code, val_code, vals_code, pairs_code, stand_code) };
 
-    ghost view = { λ c. record { shop = arc_value c.shop; out = map order_of c.kept.items; told = map G.entered c.gates.items; sound = not c.broken } };
+    ghost view = { λ c. record {
+      shop = arc_value c.shop;
+      out = map order_of c.kept.items;
+      told = map G.entered c.gates.items;
+      sound =
+          not c.broken;
+    } };
 
     ghost invariant = { λ c. Stands K.gives N.digest (arc_value c.shop) (length c.gates.items) c.eyes.items c.kept.items };
 }
@@ -66,7 +72,13 @@ impl<K: Kit + Drop, N: Namer + Drop, G: Gate, R: Wait + Drop> Inline<K, N, G, R>
         requires inputs { InputsInOrder (job_view (arc_value shop).job) }
         requires eyes { length eyes.items ≡ length gates.items }
         requires look { AllLook (arc_value shop) eyes.items }
-        ensures opened { IfOk result (λ c. c ≡ record { shop = arc_value shop; out = replicate (length gates.items) None; told = map G.entered gates.items; sound = true }) }
+        ensures opened { IfOk result (λ c. c ≡ record {
+          shop = arc_value shop;
+          out = replicate (length gates.items) None;
+          told =
+              map G.entered gates.items;
+          sound = true;
+        }) }
         ensures back { IfErr result (λ e. e.0 ≡ gates) }
     {
         match nothing_kept(alloc, gates.len()) {

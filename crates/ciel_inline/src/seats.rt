@@ -29,7 +29,8 @@ pub(crate) struct Kept {
 
 /// The first worker of which a report is kept. It takes no memory.
 pub(crate) fn first_kept(kept: &[Option<Kept>]) -> Option<usize>
-    ensures { MatchOption result ((k : ℕ) → slice_index_or kept.now k None ≡ None) (λ i. (i < length kept.now) × IsSome (slice_index_or kept.now i None)) }
+    ensures { MatchOption result ((k : ℕ) → slice_index_or kept.now k None ≡ None)
+        (λ i. (i < length kept.now) × IsSome (slice_index_or kept.now i None)) }
 {
     for worker in 0..kept.len() {
         if kept[worker].is_some() {

@@ -1,5 +1,6 @@
 -- What is gathered so far, and one more.
-use Rattle.std.proofs.Common.{◌≡◌, ◌<◌, ℕ, zero, suc, ◌+◌, List, [], ◌∷◌, ◌++◌, length, map, take, Bool, true, false, cond, Option, Some, None, slice_index_or, inl, inr, refl, sym, ap, ap₂, subst, ◌∙◌, arith}
+use Rattle.std.proofs.Common.{◌≡◌, ◌<◌, ℕ, zero, suc, ◌+◌, List, [], ◌∷◌, ◌++◌, length, map, take, Bool, true, false, cond, Option, Some, None}
+use Rattle.std.proofs.Common.{slice_index_or, inl, inr, refl, sym, ap, ap₂, subst, ◌∙◌, arith}
 use Rattle.std.proofs.lemmas.List.{map-append}
 use Rattle.std.specs.Option.{option_and_then}
 use Rattle.sky_base.specs.ObjectView.{object_view}
@@ -78,17 +79,21 @@ module _ (inputs : List (List ℕ × List ℕ)) (held : List Held) where
   lies_is n h o f l = ap (λ x. option_and_then (λ (g : Held). lies_at inputs g.at) x) f ∙ l
 
   -- one more
-  pub gathered_more : (ns : List (List ℕ)) (i : ℕ) (n : List ℕ) (h : Held) (os : List Object) (o : Object) → i < length ns → n ≡ slice_index_or ns i n → map lies (take i ns) ≡ map seen_of os → found held_name n held ≡ Some h → lies_at inputs h.at ≡ Some (object_view o) → map lies (take (i + 1) ns) ≡ map seen_of (os ++ o ∷ [])
+  pub gathered_more : (ns : List (List ℕ)) (i : ℕ) (n : List ℕ) (h : Held) (os : List Object) (o : Object) → i < length ns → n
+      ≡ slice_index_or ns i n → map lies (take i ns) ≡ map seen_of os → found held_name n held ≡ Some h → lies_at inputs h.at
+      ≡ Some (object_view o) → map lies (take (i + 1) ns) ≡ map seen_of (os ++ o ∷ [])
   gathered_more ns i n h os o l e so f at =
       ap (map lies) (take_one ns i n l e)
       ∙ map-append lies (take i ns) (n ∷ [])
       ∙ ap₂ (λ xs x. xs ++ x ∷ []) so (lies_is n h o f at)
       ∙ sym (map-append seen_of os (o ∷ []))
 
-  pub gathered_all : (ns : List (List ℕ)) (i : ℕ) (os : List Object) → (i < length ns → ⊥) → map lies (take i ns) ≡ map seen_of os → map lies ns ≡ map seen_of os
+  pub gathered_all : (ns : List (List ℕ)) (i : ℕ) (os : List Object) → (i < length ns → ⊥) → map lies (take i ns) ≡ map seen_of os → map lies ns
+      ≡ map seen_of os
   gathered_all ns i os h so = ap (map lies) (sym (take_whole ns i h)) ∙ so
 
-pub split_at : {A : Type 0} (xs : List A) (i : ℕ) (x : A) → i < length xs → x ≡ slice_index_or xs i x → (after : List A) × (xs ≡ take i xs ++ x ∷ after)
+pub split_at : {A : Type 0} (xs : List A) (i : ℕ) (x : A) → i < length xs → x ≡ slice_index_or xs i x → (after : List A)
+    × (xs ≡ take i xs ++ x ∷ after)
 split_at [] i x l e = absurd (omega (arith, l))
 split_at (y ∷ ys) zero x l e = (ys, ap (λ z. z ∷ ys) (sym e))
 split_at (y ∷ ys) (suc i) x l e =
@@ -98,9 +103,12 @@ split_at (y ∷ ys) (suc i) x l e =
 -- ---- what was copied
 
 module _ (shelves : ShelvesSeen) (w : ℕ) (inputs : List (List ℕ × List ℕ)) (held old : List Held) where
-  pub copied_more : (ns : List (List ℕ)) (i : ℕ) (n : List ℕ) (h : Held) (o : logic.Object (List ℕ)) (mid new : List Held) → i < length ns → n ≡ slice_index_or ns i n → CopiedFor shelves w inputs held old (take i ns) mid → found held_name n held ≡ Some h → lies_at inputs h.at ≡ Some o → CopiedSo shelves w h o mid new → CopiedFor shelves w inputs held old (take (i + 1) ns) new
+  pub copied_more : (ns : List (List ℕ)) (i : ℕ) (n : List ℕ) (h : Held) (o : logic.Object (List ℕ)) (mid new : List Held) → i < length ns → n
+      ≡ slice_index_or ns i n → CopiedFor shelves w inputs held old (take i ns) mid → found held_name n held ≡ Some h → lies_at inputs h.at
+      ≡ Some o → CopiedSo shelves w h o mid new → CopiedFor shelves w inputs held old (take (i + 1) ns) new
   copied_more ns i n h o mid new l e c f at so =
       subst (λ xs. CopiedFor shelves w inputs held old xs new) (sym (take_one ns i n l e)) (CopiedFor.one n h o c f at so)
 
-  pub copied_all : (ns : List (List ℕ)) (i : ℕ) (new : List Held) → (i < length ns → ⊥) → CopiedFor shelves w inputs held old (take i ns) new → CopiedFor shelves w inputs held old ns new
+  pub copied_all : (ns : List (List ℕ)) (i : ℕ) (new : List Held) → (i < length ns → ⊥) → CopiedFor shelves w inputs held old (take i ns) new
+      → CopiedFor shelves w inputs held old ns new
   copied_all ns i new h c = subst (λ xs. CopiedFor shelves w inputs held old xs new) (take_whole ns i h) c

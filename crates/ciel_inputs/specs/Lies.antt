@@ -35,7 +35,8 @@ is_elsewhere w (Spot.Input i) = false
 -- one is named beside those that were copied before: it has the name, and lies on the shelf of this worker
 abbrev pub CopiedOne : ShelvesSeen → (worker : ℕ) → List ℕ → logic.Object (List ℕ) → (old new : List Held) → Type 0
 CopiedOne shelves w n o old new =
-    (p : PlaceSeen Block) × (new ≡ old ++ (record { name = n; at = Spot.Shelf p } ∷ [])) × IsPlaceOf shelves p × (p.worker ≡ w) × (object_in p.at.value ≡ Some o)
+    (p : PlaceSeen Block) × (new ≡ old ++ (record { name = n; at = Spot.Shelf p } ∷ [])) × IsPlaceOf shelves p × (p.worker ≡ w)
+    × (object_in p.at.value ≡ Some o)
 
 abbrev pub CopiedIf : Bool → ShelvesSeen → (worker : ℕ) → List ℕ → logic.Object (List ℕ) → (old new : List Held) → Type 0
 CopiedIf true shelves w n o old new = CopiedOne shelves w n o old new

@@ -34,10 +34,13 @@ pub fn bring<R: Wait>(
     requires eye { eye.old.of ≡ shelves.now.of }
     requires worker { worker < length shelves.now.rows }
     ensures of { eye.new.of ≡ eye.old.of }
-    ensures object { IfOk result (λ r. MatchResult r (λ o. lies_at (job_view job.now).inputs held.now.at ≡ Some (object_view o)) (λ gone. LostAt gone.loss held.now.at)) }
+    ensures object { IfOk result (λ r. MatchResult r (λ o. lies_at (job_view job.now).inputs held.now.at ≡ Some (object_view o))
+        (λ gone. LostAt gone.loss held.now.at)) }
     ensures sound { IfOk result (λ r. IfOk r (λ o. SoundObject (job_view job.now).script (object_view o))) }
     ensures seen { IfOk result (λ r. MatchResult r (λ _. eye.new ≡ eye.old) (λ gone. eye.new.losses ≡ eye.old.losses ++ gone.loss ∷ [])) }
-    ensures copied { IfOk result (λ r. MatchResult r (λ o. CopiedSo shelves.now worker held.now (object_view o) copied.old.items copied.new.items) (λ _. copied.new.items ≡ copied.old.items)) }
+    ensures copied { IfOk result (λ r. MatchResult r
+        (λ o. CopiedSo shelves.now worker held.now (object_view o) copied.old.items copied.new.items)
+        (λ _. copied.new.items ≡ copied.old.items)) }
 {
     match fetch(job, shelves, held, eye)? {
         Ok(object) => {

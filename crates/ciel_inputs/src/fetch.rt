@@ -28,7 +28,8 @@ pub fn fetch(
     requires spot { SpotSound shelves.now (job_view job.now).script (length (job_view job.now).inputs) held.now.at }
     requires eye { eye.old.of ≡ shelves.now.of }
     ensures of { eye.new.of ≡ eye.old.of }
-    ensures object { IfOk result (λ r. MatchResult r (λ o. lies_at (job_view job.now).inputs held.now.at ≡ Some (object_view o)) (λ gone. LostAt gone.loss held.now.at)) }
+    ensures object { IfOk result (λ r. MatchResult r (λ o. lies_at (job_view job.now).inputs held.now.at ≡ Some (object_view o))
+        (λ gone. LostAt gone.loss held.now.at)) }
     ensures sound { IfOk result (λ r. IfOk r (λ o. SoundObject (job_view job.now).script (object_view o))) }
     ensures seen { IfOk result (λ r. MatchResult r (λ _. eye.new ≡ eye.old) (λ gone. eye.new.losses ≡ eye.old.losses ++ gone.loss ∷ [])) }
 {

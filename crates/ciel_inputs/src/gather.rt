@@ -56,7 +56,8 @@ pub fn gather<R: Wait>(
     ensures of { eye.new.of ≡ eye.old.of }
     ensures gathered { IfOk result (GatheredSo (job_view job.now).inputs held.now names.now) }
     ensures sound { IfOk result (AllSound (job_view job.now).script) }
-    ensures copied { IfOk result (λ g. CopiedUpTo shelves.now worker (job_view job.now).inputs held.now names.now g copied.old.items copied.new.items) }
+    ensures copied { IfOk result (λ g. CopiedUpTo shelves.now worker (job_view job.now).inputs held.now names.now g copied.old.items
+        copied.new.items) }
     ensures seen { IfOk result (λ g. Saw g eye.old eye.new) }
 {
     let mut objects = Vec::new(alloc);

@@ -1,5 +1,6 @@
 -- A text put in pieces: what is written is the pieces so far, or a part of the whole.
-use Rattle.std.proofs.Common.{◌≡◌, ℕ, zero, suc, ◌+◌, ◌<◌, ◌≤◌, List, [], ◌∷◌, ◌++◌, Option, Some, None, Result, Ok, Err, OnOk, OnErr, Bor, length, map, take, drop, get_or, refl, sym, ap, subst, ◌∙◌, append_assoc, arith}
+use Rattle.std.proofs.Common.{◌≡◌, ℕ, zero, suc, ◌+◌, ◌<◌, ◌≤◌, List, [], ◌∷◌, ◌++◌, Option, Some, None, Result, Ok, Err, OnOk, OnErr, Bor, length}
+use Rattle.std.proofs.Common.{map, take, drop, get_or, refl, sym, ap, subst, ◌∙◌, append_assoc, arith}
 use Rattle.std.specs.List.{concat}
 use Rattle.std.proofs.lemmas.List.{append-nil, take_all}
 use Rattle.ciel_io.specs.Tells.{Tells, TellsPart}
@@ -64,7 +65,8 @@ joined_parts (p ∷ ps) zero d h = refl
 joined_parts (p ∷ ps) (suc i) d h =
     let e : suc i + 1 ≡ suc (i + 1) = omega arith in
     let below : i < length ps = omega arith in
-    rw e (ap (λ y. p.now ++ y) (joined_parts ps i d below) ∙ sym (append_assoc p.now (joined (take i ps)) ((get_or ps i d).now ++ joined (drop (i + 1) ps))))
+    rw e (ap (λ y. p.now ++ y) (joined_parts ps i d below)
+    ∙ sym (append_assoc p.now (joined (take i ps)) ((get_or ps i d).now ++ joined (drop (i + 1) ps))))
 
 pub on_err : {T E P : Type 0} (r : Result T E) → P → OnErr r P
 on_err (Ok x) p = tt

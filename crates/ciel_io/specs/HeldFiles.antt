@@ -1,5 +1,6 @@
 -- Files in memory as contracts see them, and what a read of them answers.
-use Rattle.std.specs.Prelude.{◌+◌, ◌++◌, ℕ, List, [], ◌∷◌, bytes_eq, Option, Some, None, Bool, Result, Ok, Err, if◌then◌else◌, length, nat_lt, unwrap_or}
+use Rattle.std.specs.Prelude.{◌+◌, ◌++◌, ℕ, List, [], ◌∷◌, bytes_eq, Option, Some, None, Bool, Result, Ok, Err, if◌then◌else◌, length, nat_lt}
+use Rattle.std.specs.Prelude.{unwrap_or}
 use Rattle.ciel_io.specs.declared.files.FileRefusal.{FileRefusal}
 use Rattle.ciel_io.specs.declared.files.FileRefusal.TheVariants.{Failed, TooLong, Memory}
 use Rattle.ciel_io.specs.Faults.{next, is_listed}

@@ -1,5 +1,6 @@
 -- What is made in batches between two waits holds all outputs of each task, the first one first.
-use Rattle.std.proofs.Common.{◌≡◌, ℕ, zero, suc, List, [], ◌∷◌, ◌++◌, length, Bool, true, false, cond, Some, None, ◌⊎◌, inl, inr, refl, ap, sym, ◌∙◌, subst}
+use Rattle.std.proofs.Common.{◌≡◌, ℕ, zero, suc, List, [], ◌∷◌, ◌++◌, length, Bool, true, false, cond, Some, None, ◌⊎◌, inl, inr, refl, ap, sym, ◌∙◌}
+use Rattle.std.proofs.Common.{subst}
 use Rattle.std.specs.List.{list_any}
 use Rattle.ciel_journal.specs.Job.{Act, Task, of, made, wait, Job, In, Each, IsJob, after_wait, made_before, made_in, waits_in}
 use Rattle.ciel_journal.specs.History.{learned}
@@ -39,7 +40,8 @@ module _ {D : Type 0} (job : Job D) (laws : IsJob job) where
   rest_made (y ∷ ys) i (wait ds ∷ acts) b x j = absurd b
 
   -- each of what is made is of the rest of a batch, or stands there with all outputs of its task
-  outputs_made : (xs : List D) (i : ℕ) (acts : List (Act D)) → Batched job xs acts → (x : D) → In x (made_before i acts) → (t : Task D) → job.task_of x ≡ Some t → In x xs ⊎ ((e : D) → In e (job.outputs t) → In e (made_before i acts))
+  outputs_made : (xs : List D) (i : ℕ) (acts : List (Act D)) → Batched job xs acts → (x : D) → In x (made_before i acts) → (t : Task D)
+      → job.task_of x ≡ Some t → In x xs ⊎ ((e : D) → In e (job.outputs t) → In e (made_before i acts))
   outputs_made xs zero acts b x j t k = absurd j
   outputs_made xs (suc i) [] b x j t k = absurd j
   outputs_made [] (suc i) (made d ∷ acts) b x (inl s) t k = inr (λ e o. go e (subst (In e) (batch_outputs d b.0 x t b.1 (inl s) k) o))
@@ -53,19 +55,22 @@ module _ {D : Type 0} (job : Job D) (laws : IsJob job) where
       go e (inl q) = inl q
       go e (inr q) = inr (rest_made b.0 i acts b.2 e q)
 
-      pick : (In x b.0 ⊎ ((e : D) → In e (job.outputs t) → In e (made_before (suc i) acts))) → (e : D) → In e (job.outputs t) → In e (d ∷ made_before (suc i) acts)
+      pick : (In x b.0 ⊎ ((e : D) → In e (job.outputs t) → In e (made_before (suc i) acts))) → (e : D) → In e (job.outputs t)
+          → In e (d ∷ made_before (suc i) acts)
       pick (inl q) e o = go e (subst (In e) (batch_outputs d b.0 x t b.1 (inr q) k) o)
       pick (inr f) e o = inr (f e o)
   outputs_made (y ∷ ys) (suc i) (made d ∷ acts) b x (inl s) t k = inl (inl (s ∙ b.0))
   outputs_made (y ∷ ys) (suc i) (made d ∷ acts) b x (inr j) t k = pick (outputs_made ys (suc i) acts b.1 x j t k)
     where
-      pick : (In x ys ⊎ ((e : D) → In e (job.outputs t) → In e (made_before (suc i) acts))) → In x (y ∷ ys) ⊎ ((e : D) → In e (job.outputs t) → In e (d ∷ made_before (suc i) acts))
+      pick : (In x ys ⊎ ((e : D) → In e (job.outputs t) → In e (made_before (suc i) acts))) → In x (y ∷ ys)
+          ⊎ ((e : D) → In e (job.outputs t) → In e (d ∷ made_before (suc i) acts))
       pick (inl q) = inl (inr q)
       pick (inr f) = inr (λ e o. inr (f e o))
   outputs_made [] (suc i) (wait ds ∷ acts) b x j t k = outputs_made [] i acts b x j t k
   outputs_made (y ∷ ys) (suc i) (wait ds ∷ acts) b x j t k = absurd b
 
-  heads_made : (xs seen : List D) (i : ℕ) (acts : List (Act D)) → Batched job xs acts → ((x e : D) → In x xs → job.task_of x ≡ Some (of e) → In e seen) → HeadsFirst job seen (made_before i acts)
+  heads_made : (xs seen : List D) (i : ℕ) (acts : List (Act D)) → Batched job xs acts
+      → ((x e : D) → In x xs → job.task_of x ≡ Some (of e) → In e seen) → HeadsFirst job seen (made_before i acts)
   heads_made xs seen zero acts b h = tt
   heads_made xs seen (suc i) [] b h = tt
   heads_made [] seen (suc i) (made d ∷ acts) b h = (first b.1, heads_made b.0 (d ∷ seen) (suc i) acts b.2 later)
@@ -107,20 +112,24 @@ module _ {D : Type 0} (job : Job D) (laws : IsJob job) where
   abbrev pub WithOutputs : List D → D → Type 0
   WithOutputs ds x = (t : Task D) → job.task_of x ≡ Some t → Each (λ e. In e ds) (job.outputs t)
 
-  between_outputs : (j i : ℕ) (acts : List (Act D)) → Batched job [] acts → (x : D) → In x (made_before i (after_wait j acts)) → WithOutputs (made_before i (after_wait j acts)) x
+  between_outputs : (j i : ℕ) (acts : List (Act D)) → Batched job [] acts → (x : D) → In x (made_before i (after_wait j acts))
+      → WithOutputs (made_before i (after_wait j acts)) x
   between_outputs j i acts b x k t e = pick (outputs_made [] i (after_wait j acts) (from_batched j acts b) x k t e)
     where
-      pick : (In x [] ⊎ ((o : D) → In o (job.outputs t) → In o (made_before i (after_wait j acts)))) → Each (λ o. In o (made_before i (after_wait j acts))) (job.outputs t)
+      pick : (In x [] ⊎ ((o : D) → In o (job.outputs t) → In o (made_before i (after_wait j acts))))
+          → Each (λ o. In o (made_before i (after_wait j acts))) (job.outputs t)
       pick (inl q) = absurd q
       pick (inr f) = each_all (λ o. In o (made_before i (after_wait j acts))) (job.outputs t) f
 
   -- what is made between two waits is there with all outputs of its task, each behind the one that the task goes by
-  pub segment_whole : (j i : ℕ) (acts : List (Act D)) (ds : List D) → Batched job [] acts → ds ≡ made_before i (after_wait j acts) → ((x : D) → In x ds → WithOutputs ds x) × HeadsFirst job [] ds
+  pub segment_whole : (j i : ℕ) (acts : List (Act D)) (ds : List D) → Batched job [] acts → ds ≡ made_before i (after_wait j acts)
+      → ((x : D) → In x ds → WithOutputs ds x) × HeadsFirst job [] ds
   segment_whole j i acts ds b s =
       subst (λ z. ((x : D) → In x z → WithOutputs z x) × HeadsFirst job [] z) (sym s)
       (λ x k. between_outputs j i acts b x k, heads_made [] [] i (after_wait j acts) (from_batched j acts b) (λ x e k. absurd k))
 
-  pub end_whole : (j : ℕ) (acts : List (Act D)) (ds : List D) → Batched job [] acts → ds ≡ made_in (after_wait j acts) → ((x : D) → In x ds → WithOutputs ds x) × HeadsFirst job [] ds
+  pub end_whole : (j : ℕ) (acts : List (Act D)) (ds : List D) → Batched job [] acts → ds ≡ made_in (after_wait j acts)
+      → ((x : D) → In x ds → WithOutputs ds x) × HeadsFirst job [] ds
   end_whole j acts ds b s =
       segment_whole j (suc (length (waits_in (after_wait j acts)))) acts ds b (s ∙ all_before (after_wait j acts))
 
@@ -134,7 +143,8 @@ module _ {D : Type 0} (job : Job D) (laws : IsJob job) where
       wide x (inl s) = inl s
       wide x (inr i) = inr (g x i)
 
-  heads_last : (seen ds : List D) (d : D) → HeadsFirst job seen ds → ((e : D) → job.task_of d ≡ Some (of e) → (e ≡ d) ⊎ (In e seen ⊎ In e ds)) → HeadsFirst job seen (ds ++ d ∷ [])
+  heads_last : (seen ds : List D) (d : D) → HeadsFirst job seen ds → ((e : D) → job.task_of d ≡ Some (of e) → (e ≡ d) ⊎ (In e seen ⊎ In e ds))
+      → HeadsFirst job seen (ds ++ d ∷ [])
   heads_last seen [] d h f = (λ e k. pick e (f e k), tt)
     where
       pick : (e : D) → ((e ≡ d) ⊎ (In e seen ⊎ In e [])) → In e (d ∷ seen)
@@ -158,7 +168,8 @@ module _ {D : Type 0} (job : Job D) (laws : IsJob job) where
   at_last [] y = inl refl
   at_last (z ∷ zs) y = inr (at_last zs y)
 
-  learned_heads : (book seen ds : List D) → ((x : D) → In x seen → In x book) → HeadsFirst job [] book → HeadsFirst job seen ds → HeadsFirst job [] (learned job book ds)
+  learned_heads : (book seen ds : List D) → ((x : D) → In x seen → In x book) → HeadsFirst job [] book → HeadsFirst job seen ds
+      → HeadsFirst job [] (learned job book ds)
   learned_heads book seen [] g h k = h
   learned_heads book seen (d ∷ ds) g h k = pick (list_any (job.same d) book) refl (λ more old heads. learned_heads more (d ∷ seen) ds old heads k.1)
     where
@@ -174,7 +185,9 @@ module _ {D : Type 0} (job : Job D) (laws : IsJob job) where
       head e (inl s) = inl s
       head e (inr i) = inr (inr (g e i))
 
-      pick : (b : Bool) → list_any (job.same d) book ≡ b → ((more : List D) → ((x : D) → In x (d ∷ seen) → In x more) → HeadsFirst job [] more → HeadsFirst job [] (learned job more ds)) → HeadsFirst job [] (learned job (cond b book (book ++ d ∷ [])) ds)
+      pick : (b : Bool) → list_any (job.same d) book ≡ b
+          → ((more : List D) → ((x : D) → In x (d ∷ seen) → In x more) → HeadsFirst job [] more → HeadsFirst job [] (learned job more ds))
+          → HeadsFirst job [] (learned job (cond b book (book ++ d ∷ [])) ds)
       pick true e on = on book (old_known e) h
       pick false e on = on (book ++ d ∷ []) old_new (heads_last [] book d h (λ x q. head x (k.0 x q)))
 

@@ -1,7 +1,8 @@
 -- Each open Start says what stood when it was made.
 use Rattle.std.proofs.Common.{◌≡◌, List, [], ◌∷◌, ◌++◌, Option, Some, None, ◌⊎◌, inl, inr, refl, ap, sym, subst, not, nat_eq}
 use Rattle.ciel_journal.specs.Job.{Job, In}
-use Rattle.ciel_journal.specs.History.{Event, start, done, saved, missed, lost, OpenStart, Standing, after, after_all, before_all, close_with, done_with, saved_with, missed_with, find_open, order_of, standing}
+use Rattle.ciel_journal.specs.History.{Event, start, done, saved, missed, lost, OpenStart, Standing, after, after_all, before_all, close_with}
+use Rattle.ciel_journal.specs.History.{done_with, saved_with, missed_with, find_open, order_of, standing}
 use Rattle.ciel_journal.proofs.Numbers.{in_filter, in_last}
 
 module _ {D : Type 0} (job : Job D) where
@@ -17,7 +18,8 @@ module _ {D : Type 0} (job : Job D) where
       record { before = e ∷ m.before; rest = m.rest; whole = ap (λ x. e ∷ x) m.whole; stood = m.stood }
 
   -- an event makes the Start that it says, and no other
-  one_event : (v : Standing D) (e : Event D) (es : List (Event D)) (o : OpenStart D) → In o (after job v e).orders → In o v.orders ⊎ MadeIn v (e ∷ es) o
+  one_event : (v : Standing D) (e : Event D) (es : List (Event D)) (o : OpenStart D) → In o (after job v e).orders → In o v.orders
+      ⊎ MadeIn v (e ∷ es) o
   one_event v (start k w t from) es o i = pick (in_last o v.orders (order_of job v k w t from) i)
     where
       made : o ≡ order_of job v k w t from → MadeIn v (start k w t from ∷ es) o

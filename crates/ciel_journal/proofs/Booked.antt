@@ -30,7 +30,8 @@ module _ {A : Type 0} where
       pick false h = inl h
   any_join_cases p (x ∷ xs) y h = pick (p x) (any_join_cases p xs y) h
     where
-      pick : (b : Bool) → (list_any p (xs ++ y ∷ []) ≡ true → (list_any p xs ≡ true) ⊎ (p y ≡ true)) → b || list_any p (xs ++ y ∷ []) ≡ true → (b || list_any p xs ≡ true) ⊎ (p y ≡ true)
+      pick : (b : Bool) → (list_any p (xs ++ y ∷ []) ≡ true → (list_any p xs ≡ true) ⊎ (p y ≡ true)) → b || list_any p (xs ++ y ∷ []) ≡ true
+          → (b || list_any p xs ≡ true) ⊎ (p y ≡ true)
       pick true r h = inl refl
       pick false r h = r h
 

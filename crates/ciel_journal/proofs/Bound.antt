@@ -1,8 +1,12 @@
 -- Between two losses no task is started twice from one wait.
-use Rattle.std.proofs.Common.{◌≡◌, ℕ, zero, suc, ◌+◌, ◌*◌, ◌≤◌, ◌<◌, List, [], ◌∷◌, ◌++◌, length, Bool, true, false, cond, ◌&&◌, ◌||◌, zero-add, nat_eq, nat_lt, Option, Some, None, ◌⊎◌, inl, inr, refl, ap, sym, ◌∙◌, subst, arith, eqb-true, eq-eqb, suc-mul, zero-mul, ltb-true, ltb-false}
+use Rattle.std.proofs.Common.{◌≡◌, ℕ, zero, suc, ◌+◌, ◌*◌, ◌≤◌, ◌<◌, List, [], ◌∷◌, ◌++◌, length, Bool, true, false, cond, ◌&&◌, ◌||◌, zero-add}
+use Rattle.std.proofs.Common.{nat_eq, nat_lt, Option, Some, None, ◌⊎◌, inl, inr, refl, ap, sym, ◌∙◌, subst, arith, eqb-true, eq-eqb, suc-mul}
+use Rattle.std.proofs.Common.{zero-mul, ltb-true, ltb-false}
 use Rattle.std.specs.List.{list_any, IsDistinct}
 use Rattle.ciel_journal.specs.Job.{Digest, Each, In, IsJob, Job, Task, WaitOf, of, show}
-use Rattle.ciel_journal.specs.History.{Event, OpenStart, Plan, Save, Standing, after, after_all, before_all, better, closed, done, done_with, ends_show, last, last_save, live, live_if, lost, missed, names_of, needs, order_of, placed, same_task, saved, saved_with, start, wait_number}
+use Rattle.ciel_journal.specs.History.{Event, OpenStart, Plan, Save, Standing, after, after_all, before_all, better, closed, done, done_with}
+use Rattle.ciel_journal.specs.History.{ends_show, last, last_save, live, live_if, lost, missed, names_of, needs, order_of, placed, same_task, saved}
+use Rattle.ciel_journal.specs.History.{saved_with, start, wait_number}
 use Rattle.ciel_journal.specs.Lawful.{Lawful, LawfulFrom, Marked, Step}
 use Rattle.ciel_journal.specs.Work.{Covers, Slot, losses_of, same_slot}
 use Rattle.ciel_journal.proofs.Members.{bool_cases, or_true, any_in, distinct_more, distinct_none, fewer}
@@ -44,7 +48,8 @@ module _ {D : Type 0} (job : Job D) (laws : IsJob job) where
 
   -- ---- what stays
 
-  live_placed : (o : Option (Task D)) (ns : List D) (w : ℕ) (f : D → List ℕ) (d : D) → live_if job o (f d) ≡ true → live_if job o (placed job ns w f d) ≡ true
+  live_placed : (o : Option (Task D)) (ns : List D) (w : ℕ) (f : D → List ℕ) (d : D) → live_if job o (f d) ≡ true
+      → live_if job o (placed job ns w f d) ≡ true
   live_placed o [] w f d h = h
   live_placed o (n ∷ ns) w f d h = live_placed o ns w (λ e. cond (job.same n e) (f e ++ w ∷ []) (f e)) d (one (job.same n d) o (f d) h)
     where
@@ -70,12 +75,18 @@ module _ {D : Type 0} (job : Job D) (laws : IsJob job) where
   better_low s None = (omega arith, omega arith)
   better_low s (Some r) = pick (bool_cases (nat_lt r.j s.j))
     where
-      pick : ((nat_lt r.j s.j ≡ true) ⊎ (nat_lt r.j s.j ≡ false)) → (s.j ≤ wait_number job (cond (nat_lt r.j s.j) (Some s) (Some r))) × (r.j ≤ wait_number job (cond (nat_lt r.j s.j) (Some s) (Some r)))
-      pick (inl e) = let l = ltb-true r.j s.j e in subst (λ b. (s.j ≤ wait_number job (cond b (Some s) (Some r))) × (r.j ≤ wait_number job (cond b (Some s) (Some r)))) (sym e) (omega arith, omega (arith, l))
-      pick (inr e) = let l = ltb-false r.j s.j e in subst (λ b. (s.j ≤ wait_number job (cond b (Some s) (Some r))) × (r.j ≤ wait_number job (cond b (Some s) (Some r)))) (sym e) (omega (arith, l), omega arith)
+      pick : ((nat_lt r.j s.j ≡ true) ⊎ (nat_lt r.j s.j ≡ false)) → (s.j ≤ wait_number job (cond (nat_lt r.j s.j) (Some s) (Some r)))
+          × (r.j ≤ wait_number job (cond (nat_lt r.j s.j) (Some s) (Some r)))
+      pick (inl e) = let l = ltb-true r.j s.j e in
+          subst (λ b. (s.j ≤ wait_number job (cond b (Some s) (Some r))) × (r.j ≤ wait_number job (cond b (Some s) (Some r)))) (sym e)
+          (omega arith, omega (arith, l))
+      pick (inr e) = let l = ltb-false r.j s.j e in
+          subst (λ b. (s.j ≤ wait_number job (cond b (Some s) (Some r))) × (r.j ≤ wait_number job (cond b (Some s) (Some r)))) (sym e)
+          (omega (arith, l), omega arith)
 
   -- a further save takes nothing from the last wait
-  last_keeps : (t : Task D) (ss : List (Save D)) (s : Save D) → wait_number job (last_save job t ss) ≤ wait_number job (last_save job t (ss ++ s ∷ []))
+  last_keeps : (t : Task D) (ss : List (Save D)) (s : Save D)
+      → wait_number job (last_save job t ss) ≤ wait_number job (last_save job t (ss ++ s ∷ []))
   last_keeps t [] s = omega arith
   last_keeps t (x ∷ xs) s = pick (same_task job t x.task) (last_save job t xs) (last_save job t (xs ++ s ∷ [])) (last_keeps t xs s)
     where
@@ -83,11 +94,14 @@ module _ {D : Type 0} (job : Job D) (laws : IsJob job) where
       grow None q l = (better_low x q).0
       grow (Some r) q l = turn (bool_cases (nat_lt r.j x.j))
         where
-          turn : ((nat_lt r.j x.j ≡ true) ⊎ (nat_lt r.j x.j ≡ false)) → wait_number job (cond (nat_lt r.j x.j) (Some x) (Some r)) ≤ wait_number job (better job x q)
+          turn : ((nat_lt r.j x.j ≡ true) ⊎ (nat_lt r.j x.j ≡ false))
+              → wait_number job (cond (nat_lt r.j x.j) (Some x) (Some r)) ≤ wait_number job (better job x q)
           turn (inl e) = subst (λ b. wait_number job (cond b (Some x) (Some r)) ≤ wait_number job (better job x q)) (sym e) (better_low x q).0
-          turn (inr e) = let k = (better_low x q).1 in subst (λ b. wait_number job (cond b (Some x) (Some r)) ≤ wait_number job (better job x q)) (sym e) (omega (arith, k, l))
+          turn (inr e) = let k = (better_low x q).1 in
+              subst (λ b. wait_number job (cond b (Some x) (Some r)) ≤ wait_number job (better job x q)) (sym e) (omega (arith, k, l))
 
-      pick : (b : Bool) (o q : Option (Save D)) → wait_number job o ≤ wait_number job q → wait_number job (cond b (better job x o) o) ≤ wait_number job (cond b (better job x q) q)
+      pick : (b : Bool) (o q : Option (Save D)) → wait_number job o ≤ wait_number job q
+          → wait_number job (cond b (better job x o) o) ≤ wait_number job (cond b (better job x q) q)
       pick true o q l = grow o q l
       pick false o q l = l
 
@@ -110,7 +124,8 @@ module _ {D : Type 0} (job : Job D) (laws : IsJob job) where
   all_in P [] h = tt
   all_in P (d ∷ ds) h = (h d (inl refl), all_in P ds (λ e i. h e (inr i)))
 
-  spent_done : (p : Plan) (v : Standing D) (s : Slot D) (k : ℕ) (made : List (D × Digest)) (copied spawned : List D) → Numbered job laws v → Step job p v (done k made copied spawned) → Spent v s → Spent (after job v (done k made copied spawned)) s
+  spent_done : (p : Plan) (v : Standing D) (s : Slot D) (k : ℕ) (made : List (D × Digest)) (copied spawned : List D) → Numbered job laws v
+      → Step job p v (done k made copied spawned) → Spent v s → Spent (after job v (done k made copied spawned)) s
   spent_done p v s k made copied spawned n step sp =
       let a = step.allowed in
       subst (λ u. Spent u s) (sym (after_done job laws v k made copied spawned a.0 a.1)) (pick sp)
@@ -126,10 +141,15 @@ module _ {D : Type 0} (job : Job D) (laws : IsJob job) where
           turn (of d) h =
               let same : step.allowed.0.task ≡ s.task = ap (λ (x : OpenStart D). x.task) (sym r) ∙ e in
               is_live (λ z. let bad : of d ≡ show = sym h ∙ (same ∙ z) in cc)
-              (subst (λ t. Each (λ x. live_if job (job.task_of x) (placed job copied step.allowed.0.worker (placed job (names_of made) step.allowed.0.worker v.places) x) ≡ true) (job.outputs t)) same
-              (all_in (λ x. live_if job (job.task_of x) (placed job copied step.allowed.0.worker (placed job (names_of made) step.allowed.0.worker v.places) x) ≡ true) (job.outputs step.allowed.0.task)
+              (subst (λ t. Each (λ x. live_if job (job.task_of x)
+              (placed job copied step.allowed.0.worker (placed job (names_of made) step.allowed.0.worker v.places) x) ≡ true)
+              (job.outputs t)) same
+              (all_in (λ x. live_if job (job.task_of x)
+              (placed job copied step.allowed.0.worker (placed job (names_of made) step.allowed.0.worker v.places) x) ≡ true)
+              (job.outputs step.allowed.0.task)
               (λ x i. live_placed (job.task_of x) copied step.allowed.0.worker (placed job (names_of made) step.allowed.0.worker v.places) x
-              (live_at (job.task_of x) (names_of made) step.allowed.0.worker v.places x (marked_in (job.outputs step.allowed.0.task) made step.allowed.2.marked x i)))))
+              (live_at (job.task_of x) (names_of made) step.allowed.0.worker v.places x
+              (marked_in (job.outputs step.allowed.0.task) made step.allowed.2.marked x i)))))
 
       pick : Spent v s → Spent (done_with job made copied spawned step.allowed.0 (closed job v k)) s
       pick (is_open q i e f g) = turn (stays job laws v k step.allowed.0 q n step.allowed.1 i)
@@ -139,11 +159,15 @@ module _ {D : Type 0} (job : Job D) (laws : IsJob job) where
           turn (inr r) = ended q e r
       pick (is_over h) = let g = step.going in let bad : true ≡ false = sym h ∙ g in cc
       pick (is_live h l) =
-          is_live h (each_more (λ x. live job v x ≡ true) (λ x. live_if job (job.task_of x) (placed job copied step.allowed.0.worker (placed job (names_of made) step.allowed.0.worker v.places) x) ≡ true)
-          (λ x y. live_placed (job.task_of x) copied step.allowed.0.worker (placed job (names_of made) step.allowed.0.worker v.places) x (live_placed (job.task_of x) (names_of made) step.allowed.0.worker v.places x y)) (job.outputs s.task) l)
+          is_live h (each_more (λ x. live job v x ≡ true)
+          (λ x. live_if job (job.task_of x) (placed job copied step.allowed.0.worker
+          (placed job (names_of made) step.allowed.0.worker v.places) x) ≡ true)
+          (λ x y. live_placed (job.task_of x) copied step.allowed.0.worker (placed job (names_of made) step.allowed.0.worker v.places) x
+          (live_placed (job.task_of x) (names_of made) step.allowed.0.worker v.places x y)) (job.outputs s.task) l)
       pick (is_past l) = is_past l
 
-  spent_saved : (p : Plan) (v : Standing D) (s : Slot D) (k j : ℕ) (mark : Digest) (refs holds spawned : List D) → Numbered job laws v → Step job p v (saved k j mark refs holds spawned) → Spent v s → Spent (after job v (saved k j mark refs holds spawned)) s
+  spent_saved : (p : Plan) (v : Standing D) (s : Slot D) (k j : ℕ) (mark : Digest) (refs holds spawned : List D) → Numbered job laws v
+      → Step job p v (saved k j mark refs holds spawned) → Spent v s → Spent (after job v (saved k j mark refs holds spawned)) s
   spent_saved p v s k j mark refs holds spawned n step sp =
       let a = step.allowed in
       subst (λ u. Spent u s) (sym (after_saved job laws v k j mark refs holds spawned a.0 a.1)) (pick sp)
@@ -168,10 +192,12 @@ module _ {D : Type 0} (job : Job D) (laws : IsJob job) where
       pick (is_live h l) = is_live h l
       pick (is_past l) =
           let one : Save D = record { task = step.allowed.0.task; j = j; worker = step.allowed.0.worker; refs = refs; holds = holds } in
-          let up : wait_number job (last_save job s.task v.saves) ≤ wait_number job (last_save job s.task (v.saves ++ one ∷ [])) = last_keeps s.task v.saves one in
+          let up : wait_number job (last_save job s.task v.saves) ≤ wait_number job (last_save job s.task (v.saves ++ one ∷ [])) =
+          last_keeps s.task v.saves one in
           is_past (omega (arith, up, l))
 
-  spent_missed : (p : Plan) (v : Standing D) (s : Slot D) (k : ℕ) (d : D) (loss : ℕ) → Numbered job laws v → Step job p v (missed k d loss) → Spent v s → Spent (after job v (missed k d loss)) s
+  spent_missed : (p : Plan) (v : Standing D) (s : Slot D) (k : ℕ) (d : D) (loss : ℕ) → Numbered job laws v → Step job p v (missed k d loss)
+      → Spent v s → Spent (after job v (missed k d loss)) s
   spent_missed p v s k d loss n step sp =
       let a = step.allowed in
       subst (λ u. Spent u s) (sym (after_missed job laws v k d loss a.0 a.1)) (pick sp)
@@ -196,14 +222,17 @@ module _ {D : Type 0} (job : Job D) (laws : IsJob job) where
   spent_start v s k w t from (is_live h l) = is_live h l
   spent_start v s k w t from (is_past l) = is_past l
 
-  pub out_test : (t : Task D) (os : List (OpenStart D)) (o : OpenStart D) → In o os → o.task ≡ t → list_any (λ (q : OpenStart D). same_task job t q.task) os ≡ true
+  pub out_test : (t : Task D) (os : List (OpenStart D)) (o : OpenStart D) → In o os → o.task ≡ t
+      → list_any (λ (q : OpenStart D). same_task job t q.task) os ≡ true
   out_test t [] o i e = absurd i
   out_test t (q ∷ qs) o (inl s) e =
-      ap (λ b. b || list_any (λ (q : OpenStart D). same_task job t q.task) qs) (subst (λ u. same_task job t u ≡ true) (sym e ∙ ap (λ (x : OpenStart D). x.task) s) (task_refl t))
+      ap (λ b. b || list_any (λ (q : OpenStart D). same_task job t q.task) qs)
+      (subst (λ u. same_task job t u ≡ true) (sym e ∙ ap (λ (x : OpenStart D). x.task) s) (task_refl t))
   out_test t (q ∷ qs) o (inr i) e = or_true (same_task job t q.task) _ (out_test t qs o i e)
 
   -- a Start is not of a slot that is spent
-  not_spent : (p : Plan) (v : Standing D) (k w : ℕ) (t : Task D) (from : ℕ) (s : Slot D) → Step job p v (start k w t from) → s.task ≡ t → s.from ≡ from → Spent v s → ⊥
+  not_spent : (p : Plan) (v : Standing D) (k w : ℕ) (t : Task D) (from : ℕ) (s : Slot D) → Step job p v (start k w t from) → s.task ≡ t → s.from
+      ≡ from → Spent v s → ⊥
   not_spent p v k w t from s step e f (is_open o i a b g) =
       let x = out_test t v.orders o i (a ∙ e) in let y = step.allowed.not_out in let bad : true ≡ false = sym x ∙ y in cc
   not_spent p v k w t from s step e f (is_over h) = let g = step.going in let bad : true ≡ false = sym h ∙ g in cc
@@ -242,14 +271,16 @@ module _ {D : Type 0} (job : Job D) (laws : IsJob job) where
     few : (v : Standing D) (used : List (Slot D)) (c : ℕ) → Paced v used c → v.starts ≤ budget (suc c) (length slots)
     few v used c q = let n = fewer (same_slot job) slot_refl slot_exact used slots q.distinct q.inside in let k = q.count in omega (arith, n, k)
 
-    unused : (p : Plan) (v : Standing D) (k w : ℕ) (t : Task D) (from : ℕ) (used : List (Slot D)) → Step job p v (start k w t from) → Each (Spent v) used → (s : Slot D) → s.task ≡ t → s.from ≡ from → list_any ((same_slot job) s) used ≡ false
+    unused : (p : Plan) (v : Standing D) (k w : ℕ) (t : Task D) (from : ℕ) (used : List (Slot D)) → Step job p v (start k w t from)
+        → Each (Spent v) used → (s : Slot D) → s.task ≡ t → s.from ≡ from → list_any ((same_slot job) s) used ≡ false
     unused p v k w t from used step sp s e f = pick (bool_cases (list_any ((same_slot job) s) used))
       where
         pick : ((list_any ((same_slot job) s) used ≡ true) ⊎ (list_any ((same_slot job) s) used ≡ false)) → list_any ((same_slot job) s) used ≡ false
         pick (inr h) = h
         pick (inl h) = absurd (not_spent p v k w t from s step e f (each_at (Spent v) s used (any_in (same_slot job) slot_exact s used h) sp))
 
-    paced_all : (p : Plan) (v : Standing D) (h : List (Event D)) (used : List (Slot D)) (c : ℕ) → Paced v used c → LawfulFrom job p v h → (after_all job v h).starts ≤ budget (suc (losses_of job h + c)) (length slots)
+    paced_all : (p : Plan) (v : Standing D) (h : List (Event D)) (used : List (Slot D)) (c : ℕ) → Paced v used c → LawfulFrom job p v h
+        → (after_all job v h).starts ≤ budget (suc (losses_of job h + c)) (length slots)
     paced_all p v [] used c q l = subst (λ n. v.starts ≤ budget (suc n) (length slots)) (sym (zero-add c)) (few v used c q)
     paced_all p v (start k w t from ∷ es) used c q l =
         let s : Slot D = record { task = t; from = from } in
@@ -262,7 +293,11 @@ module _ {D : Type 0} (job : Job D) (laws : IsJob job) where
           saves = saves_step job laws p v (start k w t from) q.saves l.0.allowed;
           spent = (me, each_more (Spent v) (Spent u) (λ x y. spent_start v x k w t from y) used q.spent);
           distinct = distinct_more (same_slot job) s used (unused p v k w t from used l.0 q.spent s refl refl) q.distinct;
-          inside = (covers t from (needs job v t) a.needed (subst (λ n. WaitOf job t n (needs job v t)) (sym a.from_last) (last_ok job laws t v.saves q.saves)) s refl refl, q.inside);
+          inside = (
+            covers t from (needs job v t) a.needed
+                (subst (λ n. WaitOf job t n (needs job v t)) (sym a.from_last) (last_ok job laws t v.saves q.saves)) s refl refl,
+            q.inside,
+          );
           count = let k = q.count in omega (arith, k);
         }) l.1
     paced_all p v (done k made copied spawned ∷ es) used c q l =
@@ -270,20 +305,24 @@ module _ {D : Type 0} (job : Job D) (laws : IsJob job) where
         (record {
           numbered = numbered_step job laws p v (done k made copied spawned) q.numbered l.0;
           saves = saves_step job laws p v (done k made copied spawned) q.saves l.0.allowed;
-          spent = each_more (Spent v) (Spent (after job v (done k made copied spawned))) (λ x y. spent_done p v x k made copied spawned q.numbered l.0 y) used q.spent;
+          spent = each_more (Spent v) (Spent (after job v (done k made copied spawned)))
+              (λ x y. spent_done p v x k made copied spawned q.numbered l.0 y) used q.spent;
           distinct = q.distinct;
           inside = q.inside;
-          count = subst (λ (u : Standing D). u.starts ≤ budget c (length slots) + length used) (sym (after_done job laws v k made copied spawned l.0.allowed.0 l.0.allowed.1)) q.count;
+          count = subst (λ (u : Standing D). u.starts ≤ budget c (length slots) + length used)
+              (sym (after_done job laws v k made copied spawned l.0.allowed.0 l.0.allowed.1)) q.count;
         }) l.1
     paced_all p v (saved k j mark refs holds spawned ∷ es) used c q l =
         paced_all p (after job v (saved k j mark refs holds spawned)) es used c
         (record {
           numbered = numbered_step job laws p v (saved k j mark refs holds spawned) q.numbered l.0;
           saves = saves_step job laws p v (saved k j mark refs holds spawned) q.saves l.0.allowed;
-          spent = each_more (Spent v) (Spent (after job v (saved k j mark refs holds spawned))) (λ x y. spent_saved p v x k j mark refs holds spawned q.numbered l.0 y) used q.spent;
+          spent = each_more (Spent v) (Spent (after job v (saved k j mark refs holds spawned)))
+              (λ x y. spent_saved p v x k j mark refs holds spawned q.numbered l.0 y) used q.spent;
           distinct = q.distinct;
           inside = q.inside;
-          count = subst (λ (u : Standing D). u.starts ≤ budget c (length slots) + length used) (sym (after_saved job laws v k j mark refs holds spawned l.0.allowed.0 l.0.allowed.1)) q.count;
+          count = subst (λ (u : Standing D). u.starts ≤ budget c (length slots) + length used)
+              (sym (after_saved job laws v k j mark refs holds spawned l.0.allowed.0 l.0.allowed.1)) q.count;
         }) l.1
     paced_all p v (missed k d loss ∷ es) used c q l =
         paced_all p (after job v (missed k d loss)) es used c
@@ -293,7 +332,8 @@ module _ {D : Type 0} (job : Job D) (laws : IsJob job) where
           spent = each_more (Spent v) (Spent (after job v (missed k d loss))) (λ x y. spent_missed p v x k d loss q.numbered l.0 y) used q.spent;
           distinct = q.distinct;
           inside = q.inside;
-          count = subst (λ (u : Standing D). u.starts ≤ budget c (length slots) + length used) (sym (after_missed job laws v k d loss l.0.allowed.0 l.0.allowed.1)) q.count;
+          count = subst (λ (u : Standing D). u.starts ≤ budget c (length slots) + length used)
+              (sym (after_missed job laws v k d loss l.0.allowed.0 l.0.allowed.1)) q.count;
         }) l.1
     paced_all p v (lost w closes ∷ es) used c q l =
         subst (λ n. (after_all job (after job v (lost w closes)) es).starts ≤ budget (suc n) (length slots)) (swap (losses_of job es) c)
@@ -308,8 +348,19 @@ module _ {D : Type 0} (job : Job D) (laws : IsJob job) where
         }) l.1)
 
     -- at most one Start for each slot, and again for each loss
-    pub starts_bound : (p : Plan) (h : List (Event D)) → Lawful job p h → (after_all job (before_all job) h).starts ≤ (losses_of job h + 1) * length slots
+    pub starts_bound : (p : Plan) (h : List (Event D)) → Lawful job p h
+        → (after_all job (before_all job) h).starts ≤ (losses_of job h + 1) * length slots
     starts_bound p h l =
-        let b = paced_all p (before_all job) h [] 0 (record { numbered = record { below = tt; one = λ a b i j q. absurd i }; saves = saves_start job laws; spent = tt; distinct = distinct_none (same_slot job); inside = tt; count = omega arith }) l in
+        let b = paced_all p (before_all job) h [] 0
+        (record {
+          numbered = record { below = tt; one = λ a b i j q. absurd i };
+          saves = saves_start job laws;
+          spent = tt;
+          distinct =
+              distinct_none (same_slot job);
+          inside = tt;
+          count = omega arith;
+        }) l in
         let e : suc (losses_of job h + 0) ≡ losses_of job h + 1 = omega arith in
-        subst (λ n. (after_all job (before_all job) h).starts ≤ n) (budget_times (suc (losses_of job h + 0)) (length slots) ∙ ap (λ n. n * length slots) e) b
+        subst (λ n. (after_all job (before_all job) h).starts ≤ n)
+        (budget_times (suc (losses_of job h + 0)) (length slots) ∙ ap (λ n. n * length slots) e) b

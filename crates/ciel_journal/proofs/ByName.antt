@@ -1,5 +1,6 @@
 -- What a journal says by its entries alone, and what the history behind it says, are one.
-use Rattle.std.proofs.Common.{◌≡◌, ℕ, List, [], ◌∷◌, cond, map, ◌⊎◌, ◌↔◌, inl, inr, refl, ap, sym, ◌∙◌, subst, nat_eq, eq-eqb, eqb-true, Bool, true, false}
+use Rattle.std.proofs.Common.{◌≡◌, ℕ, List, [], ◌∷◌, cond, map, ◌⊎◌, ◌↔◌, inl, inr, refl, ap, sym, ◌∙◌, subst, nat_eq, eq-eqb, eqb-true, Bool, true}
+use Rattle.std.proofs.Common.{false}
 use Rattle.ciel_journal.specs.Job.{Digest, Task, Job, In, IsJob, Never}
 use Rattle.ciel_journal.specs.History.{Event, start, done, saved, missed, lost, Plan, Standing, after, before_all, entered, names_of, standing}
 use Rattle.ciel_journal.specs.Lawful.{Copied, Lawful, LawfulFrom}
@@ -20,7 +21,9 @@ module _ {D : Type 0} (job : Job D) where
   entered_alike w [] = refl
   entered_alike w (start k u t from ∷ es) = pick (nat_eq w u) (entered_alike w es)
     where
-      pick : (b : Bool) → entered_in w (journal_of job es) ≡ map (low_task job) (entered job w es) → cond b (low_task job t ∷ entered_in w (journal_of job es)) (entered_in w (journal_of job es)) ≡ map (low_task job) (cond b (t ∷ entered job w es) (entered job w es))
+      pick : (b : Bool) → entered_in w (journal_of job es) ≡ map (low_task job) (entered job w es)
+          → cond b (low_task job t ∷ entered_in w (journal_of job es)) (entered_in w (journal_of job es))
+          ≡ map (low_task job) (cond b (t ∷ entered job w es) (entered job w es))
       pick true e = ap (λ ts. low_task job t ∷ ts) e
       pick false e = e
   entered_alike w (done k made copied spawned ∷ es) = entered_alike w es
@@ -84,7 +87,8 @@ module _ {D : Type 0} (job : Job D) where
   DoneAs h k made copied =
       (ms : List (D × Digest)) × (c : List D) × (s : List D) × In (done k ms c s) h × (made ≡ low_made job ms) × (copied ≡ low_names job c)
 
-  done_low : (h : List (Event D)) (k : ℕ) (made : List (Digest × Digest)) (copied : List Digest) → In (Entry.Done k made copied) (journal_of job h) → DoneAs h k made copied
+  done_low : (h : List (Event D)) (k : ℕ) (made : List (Digest × Digest)) (copied : List Digest)
+      → In (Entry.Done k made copied) (journal_of job h) → DoneAs h k made copied
   done_low [] k made copied i = absurd i
   done_low (e ∷ es) k made copied (inr i) =
       let q = done_low es k made copied i in (q.0, q.1, q.2, inr q.3, q.4, q.5)
@@ -129,7 +133,8 @@ module _ {D : Type 0} (job : Job D) where
 
 module _ {D : Type 0} (job : Job D) (laws : IsJob job) (p : Plan) (h : List (Event D)) (l : Lawful job p h) where
   -- what was copied is in the book
-  copied_booked : (k : ℕ) (made : List (D × Digest)) (copied spawned : List D) → In (done k made copied spawned) h → (d : D) → In d copied → In d (standing job h).book
+  copied_booked : (k : ℕ) (made : List (D × Digest)) (copied spawned : List D) → In (done k made copied spawned) h → (d : D) → In d copied
+      → In d (standing job h).book
   copied_booked k made copied spawned i d j =
       let s = in_split (done k made copied spawned) h i in
       let q = lawful_step job laws p h s.0 s.1 (done k made copied spawned) s.2 l in
@@ -153,7 +158,17 @@ module _ {D : Type 0} (job : Job D) (laws : IsJob job) (p : Plan) (h : List (Eve
 
       whole : (In d (names_of ended.0) ⊎ In d ended.1) → Published h w d
       whole has =
-          record { number = q.number; task = begun.0; from = q.from; begun = begun.1; made = ended.0; copied = ended.1; spawned = ended.2; ended = ended.3; has = has }
+          record {
+            number = q.number;
+            task = begun.0;
+            from = q.from;
+            begun = begun.1;
+            made = ended.0;
+            copied = ended.1;
+            spawned = ended.2;
+            ended = ended.3;
+            has = has;
+          }
 
       pick : (In (job.name d) (names_of q.made) ⊎ In (job.name d) q.copied) → Published h w d
       pick (inl j) =
@@ -167,8 +182,10 @@ module _ {D : Type 0} (job : Job D) (laws : IsJob job) (p : Plan) (h : List (Eve
   -- who has what by what stands is who has it by the text
   pub placed_text : (d : D) (w : ℕ) → In w ((standing job h).places d) ↔ LiveAt h w d
   placed_text d w =
-      let q = places_text job laws p h l w d in
-      (λ j. q.0 (in_any nat_eq (λ a. eq-eqb a a refl) w ((standing job h).places d) j), λ x. any_in nat_eq (λ a b e. eqb-true a b e) w ((standing job h).places d) (q.1 x))
+      let q = places_text job laws p h l w d in (
+        λ j. q.0 (in_any nat_eq (λ a. eq-eqb a a refl) w ((standing job h).places d) j),
+        λ x. any_in nat_eq (λ a b e. eqb-true a b e) w ((standing job h).places d) (q.1 x),
+      )
 
   -- where a description of the book is, its name is
   pub placed_alike : (d : D) → In d (standing job h).book → (w : ℕ) → In w ((standing job h).places d) ↔ NameAt (journal_of job h) w (job.name d)
@@ -181,7 +198,8 @@ module _ {D : Type 0} (job : Job D) (laws : IsJob job) (p : Plan) (h : List (Eve
 
       back : NameAt (journal_of job h) w (job.name d) → In w ((standing job h).places d)
       back q =
-          any_in nat_eq (λ a b e. eqb-true a b e) w ((standing job h).places d) ((places_text job laws p h l w d).1 (published_high w d i q.0, λ x. q.1 (x.0, low_in job (lost w x.0) h x.1)))
+          any_in nat_eq (λ a b e. eqb-true a b e) w ((standing job h).places d)
+          ((places_text job laws p h l w d).1 (published_high w d i q.0, λ x. q.1 (x.0, low_in job (lost w x.0) h x.1)))
 
 module _ {D : Type 0} (job : Job D) where
   driven_from : (p : Plan) (v : Standing D) (h : List (Event D)) → DrivenFrom job p v h → LawfulFrom job p v h

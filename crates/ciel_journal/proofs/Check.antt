@@ -1,9 +1,13 @@
 -- A test of histories that is computed: what passes it is lawful and driven. The small histories are shown by it.
-use Rattle.std.proofs.Common.{◌≡◌, ℕ, zero, suc, ◌-◌, ◌≤◌, ◌<◌, List, [], ◌∷◌, length, Bool, true, false, not, ◌&&◌, ◌||◌, Option, Some, None, is_some, slice_get, ◌⊎◌, inl, inr, refl, ap, sym, ◌∙◌, subst, arith, nat_eq, nat_lt, nat_le, eqb-true, ltb-true, leb-true}
+use Rattle.std.proofs.Common.{◌≡◌, ℕ, zero, suc, ◌-◌, ◌≤◌, ◌<◌, List, [], ◌∷◌, length, Bool, true, false, not, ◌&&◌, ◌||◌, Option, Some, None}
+use Rattle.std.proofs.Common.{is_some, slice_get, ◌⊎◌, inl, inr, refl, ap, sym, ◌∙◌, subst, arith, nat_eq, nat_lt, nat_le, eqb-true, ltb-true}
+use Rattle.std.proofs.Common.{leb-true}
 use Rattle.std.specs.List.{list_any, IsDistinct}
 use Rattle.ciel_journal.specs.Job.{Digest, Task, show, of, Held, Job, In, Each, IsJob, WaitOf, Needed, waits_in, after_wait, made_before, made_in}
-use Rattle.ciel_journal.specs.History.{Event, start, done, saved, missed, lost, OpenStart, Plan, Standing, after, find_open, is_out, last, live, live_in, needs, same_task}
-use Rattle.ciel_journal.specs.Lawful.{Copied, DoneAllowed, FetchedFrom, Given, HeldAt, LawfulFrom, LostAllowed, Marked, MissedAllowed, NextEnd, NextWait, NoClash, SavedAllowed, StartAllowed, Step, Allowed, least, own_name}
+use Rattle.ciel_journal.specs.History.{Event, start, done, saved, missed, lost, OpenStart, Plan, Standing, after, find_open, is_out, last, live}
+use Rattle.ciel_journal.specs.History.{live_in, needs, same_task}
+use Rattle.ciel_journal.specs.Lawful.{Copied, DoneAllowed, FetchedFrom, Given, HeldAt, LawfulFrom, LostAllowed, Marked, MissedAllowed, NextEnd}
+use Rattle.ciel_journal.specs.Lawful.{NextWait, NoClash, SavedAllowed, StartAllowed, Step, Allowed, least, own_name}
 use Rattle.ciel_journal.proofs.Members.{any_in, bool_cases, distinct_more, distinct_none}
 use Rattle.ciel_journal.proofs.Bound.{task_exact}
 use Rattle.ciel_journal.proofs.Circle.{wait_at_end}
@@ -141,7 +145,8 @@ module _ {D : Type 0} (job : Job D) (laws : IsJob job) (fuel : ℕ) (needed : Li
   after_given o zero (ds ∷ ws) = all_true (each_passes (given_test o) ds ∷ after_given o zero ws ∷ [])
   after_given o (suc j) (ds ∷ ws) = after_given o j ws
 
-  after_at : (o : OpenStart D) (j : ℕ) (ws : List (List D)) (i : ℕ) (es : List D) → after_given o j ws ≡ true → j ≤ i → slice_get ws i ≡ Some es → Each (Given job o) es
+  after_at : (o : OpenStart D) (j : ℕ) (ws : List (List D)) (i : ℕ) (es : List D) → after_given o j ws ≡ true → j ≤ i → slice_get ws i ≡ Some es
+      → Each (Given job o) es
   after_at o j [] i es h l g = cc
   after_at o zero (ds ∷ ws) zero es h l g =
       let q = parts (each_passes (given_test o) ds ∷ after_given o zero ws ∷ []) h in
@@ -166,7 +171,9 @@ module _ {D : Type 0} (job : Job D) (laws : IsJob job) (fuel : ℕ) (needed : Li
       met zero es l w = absurd (omega (arith, l))
       met (suc k) es l w = after_at o o.from (waits o.task) k es h (omega (arith, l)) (wait_at_end job laws fuel o.task k es e w)
 
-  wait_next : (o : OpenStart D) (j : ℕ) (refs : List D) → o.from < suc j → slice_get (waits o.task) j ≡ Some refs → list_any (λ d. not (live_in job o.had d)) refs ≡ true → after_given o o.from (first_few j (waits o.task)) ≡ true → NextWait job (Given job o) o.task o.from (suc j) refs
+  wait_next : (o : OpenStart D) (j : ℕ) (refs : List D) → o.from < suc j → slice_get (waits o.task) j ≡ Some refs
+      → list_any (λ d. not (live_in job o.had d)) refs ≡ true → after_given o o.from (first_few j (waits o.task)) ≡ true
+      → NextWait job (Given job o) o.task o.from (suc j) refs
   wait_next o j refs l g u h =
       let x = any_find (λ d. not (live_in job o.had d)) refs u in
       record {
@@ -198,9 +205,13 @@ module _ {D : Type 0} (job : Job D) (laws : IsJob job) (fuel : ℕ) (needed : Li
 
   abbrev start_tests : Standing D → ℕ → ℕ → Task D → ℕ → List Bool
   start_tests v k w t from =
-      nat_eq k v.starts ∷ nat_lt w p.workers ∷ not (list_any (nat_eq w) v.gone) ∷ not (list_any (λ (o : OpenStart D). nat_eq w o.worker) v.orders) ∷ list_any (same_task job t) needed ∷ not (is_out job v t) ∷ each_passes (λ d. list_any (job.same d) v.book) (job.outputs t) ∷ (is_show t || list_any (λ d. not (live job v d)) (job.outputs t)) ∷ nat_eq from (last job v t) ∷ each_passes (live job v) (needs job v t) ∷ []
+      nat_eq k v.starts ∷ nat_lt w p.workers ∷ not (list_any (nat_eq w) v.gone)
+      ∷ not (list_any (λ (o : OpenStart D). nat_eq w o.worker) v.orders) ∷ list_any (same_task job t) needed ∷ not (is_out job v t)
+      ∷ each_passes (λ d. list_any (job.same d) v.book) (job.outputs t) ∷ (is_show t || list_any (λ d. not (live job v d)) (job.outputs t))
+      ∷ nat_eq from (last job v t) ∷ each_passes (live job v) (needs job v t) ∷ []
 
-  start_true : (v : Standing D) (k w : ℕ) (t : Task D) (from : ℕ) → SavesOk job laws v → all_true (start_tests v k w t from) ≡ true → StartAllowed job p v k w t from
+  start_true : (v : Standing D) (k w : ℕ) (t : Task D) (from : ℕ) → SavesOk job laws v → all_true (start_tests v k w t from) ≡ true
+      → StartAllowed job p v k w t from
   start_true v k w t from saves h =
       let q = parts (start_tests v k w t from) h in
       let n = any_find (same_task job t) needed q.1.1.1.1.0 in
@@ -214,7 +225,10 @@ module _ {D : Type 0} (job : Job D) (laws : IsJob job) (fuel : ℕ) (needed : Li
         known = passes_each (λ d. list_any (job.same d) v.book ≡ true) (λ d. list_any (job.same d) v.book) (λ d e. e) (job.outputs t) q.1.1.1.1.1.1.0;
         some_missing = missing (or_cases (is_show t) _ q.1.1.1.1.1.1.1.0);
         from_last = eqb-true from (last job v t) q.1.1.1.1.1.1.1.1.0;
-        met = λ ds w. subst (Each (λ d. live job v d ≡ true)) (wait_unique job laws t (last job v t) (needs job v t) ds (last_ok job laws t v.saves saves) (subst (λ i. WaitOf job t i ds) (eqb-true from (last job v t) q.1.1.1.1.1.1.1.1.0) w)) (passes_each (λ d. live job v d ≡ true) (live job v) (λ d e. e) (needs job v t) q.1.1.1.1.1.1.1.1.1.0);
+        met = λ ds w. subst (Each (λ d. live job v d ≡ true))
+            (wait_unique job laws t (last job v t) (needs job v t) ds (last_ok job laws t v.saves saves)
+            (subst (λ i. WaitOf job t i ds) (eqb-true from (last job v t) q.1.1.1.1.1.1.1.1.0) w))
+            (passes_each (λ d. live job v d ≡ true) (live job v) (λ d e. e) (needs job v t) q.1.1.1.1.1.1.1.1.1.0);
       }
     where
       each_needed : (ts : List (Task D)) → Each (Needed job) ts → (u : Task D) → In u ts → Needed job u
@@ -222,7 +236,8 @@ module _ {D : Type 0} (job : Job D) (laws : IsJob job) (fuel : ℕ) (needed : Li
       each_needed (x ∷ xs) e u (inl s) = subst (Needed job) (sym s) e.0
       each_needed (x ∷ xs) e u (inr i) = each_needed xs e.1 u i
 
-      missing : ((is_show t ≡ true) ⊎ (list_any (λ d. not (live job v d)) (job.outputs t) ≡ true)) → (t ≡ show) ⊎ ((d : D) × In d (job.outputs t) × (live job v d ≡ false))
+      missing : ((is_show t ≡ true) ⊎ (list_any (λ d. not (live job v d)) (job.outputs t) ≡ true)) → (t ≡ show)
+          ⊎ ((d : D) × In d (job.outputs t) × (live job v d ≡ false))
       missing (inl e) = inl (show_true t e)
       missing (inr e) = let x = any_find (λ d. not (live job v d)) (job.outputs t) e in inr (x.0, x.1, not_true _ x.2)
 
@@ -259,11 +274,14 @@ module _ {D : Type 0} (job : Job D) (laws : IsJob job) (fuel : ℕ) (needed : Li
   waited_after zero (ds ∷ ws) d = list_any (job.same d) ds || waited_after zero ws d
   waited_after (suc j) (ds ∷ ws) d = waited_after j ws d
 
-  waited_true : (j : ℕ) (ws : List (List D)) (d : D) → waited_after j ws d ≡ true → (i : ℕ) × (ds : List D) × (j ≤ i) × (slice_get ws i ≡ Some ds) × In d ds
+  waited_true : (j : ℕ) (ws : List (List D)) (d : D) → waited_after j ws d ≡ true → (i : ℕ) × (ds : List D) × (j ≤ i)
+      × (slice_get ws i ≡ Some ds) × In d ds
   waited_true j [] d h = cc
   waited_true zero (ds ∷ ws) d h = pick (or_cases (list_any (job.same d) ds) _ h) (waited_true zero ws d)
     where
-      pick : ((list_any (job.same d) ds ≡ true) ⊎ (waited_after zero ws d ≡ true)) → (waited_after zero ws d ≡ true → (i : ℕ) × (es : List D) × (0 ≤ i) × (slice_get ws i ≡ Some es) × In d es) → (i : ℕ) × (es : List D) × (0 ≤ i) × (slice_get (ds ∷ ws) i ≡ Some es) × In d es
+      pick : ((list_any (job.same d) ds ≡ true) ⊎ (waited_after zero ws d ≡ true))
+          → (waited_after zero ws d ≡ true → (i : ℕ) × (es : List D) × (0 ≤ i) × (slice_get ws i ≡ Some es) × In d es) → (i : ℕ) × (es : List D)
+          × (0 ≤ i) × (slice_get (ds ∷ ws) i ≡ Some es) × In d es
       pick (inl e) r = (0, ds, omega arith, refl, any_in job.same laws.same_exact d ds e)
       pick (inr e) r = let a = r e in (suc a.0, a.1, omega arith, a.3, a.4)
   waited_true (suc j) (ds ∷ ws) d h =
@@ -289,13 +307,16 @@ module _ {D : Type 0} (job : Job D) (laws : IsJob job) (fuel : ℕ) (needed : Li
   distinct_true : (ds : List D) → distinct_test ds ≡ true → IsDistinct job.same ds
   distinct_true [] h = distinct_none job.same
   distinct_true (d ∷ ds) h =
-      let q = parts (not (list_any (job.same d) ds) ∷ distinct_test ds ∷ []) h in distinct_more job.same d ds (not_true _ q.0) (distinct_true ds q.1.0)
+      let q = parts (not (list_any (job.same d) ds) ∷ distinct_test ds ∷ []) h in
+      distinct_more job.same d ds (not_true _ q.0) (distinct_true ds q.1.0)
 
   abbrev done_tests : OpenStart D → List (D × Digest) → List D → List D → List Bool
   done_tests o ms copied spawned =
-      job.ended fuel o.task ∷ after_given o o.from (waits o.task) ∷ marked_test (job.outputs o.task) ms ∷ distinct_test copied ∷ each_passes (copied_test o) copied ∷ names_same spawned (made_in (after_wait o.from (job.acts fuel o.task))) ∷ []
+      job.ended fuel o.task ∷ after_given o o.from (waits o.task) ∷ marked_test (job.outputs o.task) ms ∷ distinct_test copied
+      ∷ each_passes (copied_test o) copied ∷ names_same spawned (made_in (after_wait o.from (job.acts fuel o.task))) ∷ []
 
-  done_true : (o : OpenStart D) (ms : List (D × Digest)) (copied spawned : List D) → all_true (done_tests o ms copied spawned) ≡ true → DoneAllowed job o ms copied spawned
+  done_true : (o : OpenStart D) (ms : List (D × Digest)) (copied spawned : List D) → all_true (done_tests o ms copied spawned) ≡ true
+      → DoneAllowed job o ms copied spawned
   done_true o ms copied spawned h =
       let q = parts (done_tests o ms copied spawned) h in
       record {
@@ -312,29 +333,44 @@ module _ {D : Type 0} (job : Job D) (laws : IsJob job) (fuel : ℕ) (needed : Li
   held_exact : (a b : Held D) → held_same a b ≡ true → a ≡ b
   held_exact a b h =
       let q = parts (names_same a.names b.names ∷ digest_same a.mark b.mark ∷ []) h in
-      ap (λ (x : List D). record { names = x; mark = a.mark }) (names_exact a.names b.names q.0) ∙ ap (λ (x : Digest). record { names = b.names; mark = x }) (digest_exact a.mark b.mark q.1.0)
+      ap (λ (x : List D). record { names = x; mark = a.mark }) (names_exact a.names b.names q.0)
+      ∙ ap (λ (x : Digest). record { names = b.names; mark = x }) (digest_exact a.mark b.mark q.1.0)
 
   abbrev saved_tests : OpenStart D → ℕ → Digest → List D → List D → List D → List Bool
   saved_tests o j mark refs holds spawned =
-      nat_lt o.from (suc j) ∷ is_that names_same (slice_get (waits o.task) j) refs ∷ list_any (λ d. not (live_in job o.had d)) refs ∷ after_given o o.from (first_few j (waits o.task)) ∷ is_that held_same (job.at fuel o.task (suc j)) (record { names = holds; mark = mark }) ∷ nat_le (suc j) (length (waits o.task)) ∷ names_same spawned (made_before (suc j - o.from) (after_wait o.from (job.acts fuel o.task))) ∷ []
+      nat_lt o.from (suc j) ∷ is_that names_same (slice_get (waits o.task) j) refs ∷ list_any (λ d. not (live_in job o.had d)) refs
+      ∷ after_given o o.from (first_few j (waits o.task))
+      ∷ is_that held_same (job.at fuel o.task (suc j)) (record { names = holds; mark = mark }) ∷ nat_le (suc j) (length (waits o.task))
+      ∷ names_same spawned (made_before (suc j - o.from) (after_wait o.from (job.acts fuel o.task))) ∷ []
 
-  saved_true : (o : OpenStart D) (j : ℕ) (mark : Digest) (refs holds spawned : List D) → all_true (saved_tests o j mark refs holds spawned) ≡ true → SavedAllowed job o (suc j) mark refs holds spawned
+  saved_true : (o : OpenStart D) (j : ℕ) (mark : Digest) (refs holds spawned : List D) → all_true (saved_tests o j mark refs holds spawned)
+      ≡ true → SavedAllowed job o (suc j) mark refs holds spawned
   saved_true o j mark refs holds spawned h =
       let q = parts (saved_tests o j mark refs holds spawned) h in
       record {
-        next = wait_next o j refs (ltb-true o.from (suc j) q.0) (that_exact names_same names_exact (slice_get (waits o.task) j) refs q.1.0) q.1.1.0 q.1.1.1.0;
+        next = wait_next o j refs (ltb-true o.from (suc j) q.0) (that_exact names_same names_exact (slice_get (waits o.task) j) refs q.1.0)
+            q.1.1.0 q.1.1.1.0;
         frozen = (fuel, that_exact held_same held_exact (job.at fuel o.task (suc j)) (record { names = holds; mark = mark }) q.1.1.1.1.0);
-        spawns = (fuel, leb-true (suc j) (length (waits o.task)) q.1.1.1.1.1.0, names_exact spawned (made_before (suc j - o.from) (after_wait o.from (job.acts fuel o.task))) q.1.1.1.1.1.1.0);
+        spawns = (
+          fuel,
+          leb-true (suc j) (length (waits o.task)) q.1.1.1.1.1.0,
+          names_exact spawned (made_before (suc j - o.from) (after_wait o.from (job.acts fuel o.task))) q.1.1.1.1.1.1.0,
+        );
       }
 
   abbrev reason_test : OpenStart D → D → ℕ → Bool
   reason_test o d w =
-      all_true (held_test o.task o.from d ∷ is_that nat_eq (least job (o.had d)) w ∷ not (list_any (nat_eq o.worker) (o.had d)) ∷ []) || all_true (job.same d (own_name job o.task) ∷ is_that nat_eq o.stack w ∷ [])
+      all_true (held_test o.task o.from d ∷ is_that nat_eq (least job (o.had d)) w ∷ not (list_any (nat_eq o.worker) (o.had d)) ∷ [])
+      || all_true (job.same d (own_name job o.task) ∷ is_that nat_eq o.stack w ∷ [])
 
-  reason_true : (o : OpenStart D) (d : D) (w : ℕ) → reason_test o d w ≡ true → (HeldAt job o.task o.from d × FetchedFrom job o d w) ⊎ ((d ≡ own_name job o.task) × (o.stack ≡ Some w))
-  reason_true o d w h = pick (or_cases (all_true (held_test o.task o.from d ∷ is_that nat_eq (least job (o.had d)) w ∷ not (list_any (nat_eq o.worker) (o.had d)) ∷ [])) _ h)
+  reason_true : (o : OpenStart D) (d : D) (w : ℕ) → reason_test o d w ≡ true → (HeldAt job o.task o.from d × FetchedFrom job o d w)
+      ⊎ ((d ≡ own_name job o.task) × (o.stack ≡ Some w))
+  reason_true o d w h = pick (or_cases (all_true
+      (held_test o.task o.from d ∷ is_that nat_eq (least job (o.had d)) w ∷ not (list_any (nat_eq o.worker) (o.had d)) ∷ [])) _ h)
     where
-      pick : ((all_true (held_test o.task o.from d ∷ is_that nat_eq (least job (o.had d)) w ∷ not (list_any (nat_eq o.worker) (o.had d)) ∷ []) ≡ true) ⊎ (all_true (job.same d (own_name job o.task) ∷ is_that nat_eq o.stack w ∷ []) ≡ true)) → (HeldAt job o.task o.from d × FetchedFrom job o d w) ⊎ ((d ≡ own_name job o.task) × (o.stack ≡ Some w))
+      pick : ((all_true (held_test o.task o.from d ∷ is_that nat_eq (least job (o.had d)) w ∷ not (list_any (nat_eq o.worker) (o.had d)) ∷ [])
+          ≡ true) ⊎ (all_true (job.same d (own_name job o.task) ∷ is_that nat_eq o.stack w ∷ []) ≡ true))
+          → (HeldAt job o.task o.from d × FetchedFrom job o d w) ⊎ ((d ≡ own_name job o.task) × (o.stack ≡ Some w))
       pick (inl e) =
           let q = parts (held_test o.task o.from d ∷ is_that nat_eq (least job (o.had d)) w ∷ not (list_any (nat_eq o.worker) (o.had d)) ∷ []) e in
           inl (held_true o.task o.from d q.0, (that_exact nat_eq (λ x y z. eqb-true x y z) (least job (o.had d)) w q.1.0, not_true _ q.1.1.0))
@@ -347,7 +383,8 @@ module _ {D : Type 0} (job : Job D) (laws : IsJob job) (fuel : ℕ) (needed : Li
   missed_tests v o d (Some x) =
       list_any (nat_eq x.1) v.gone ∷ not (list_any (nat_eq x.1) o.gone) ∷ reason_test o d x.1 ∷ []
 
-  missed_true : (v : Standing D) (o : OpenStart D) (d : D) (loss : ℕ) → all_true (missed_tests v o d (slice_get p.losses loss)) ≡ true → MissedAllowed job p v o d loss
+  missed_true : (v : Standing D) (o : OpenStart D) (d : D) (loss : ℕ) → all_true (missed_tests v o d (slice_get p.losses loss)) ≡ true
+      → MissedAllowed job p v o d loss
   missed_true v o d loss h = pick (slice_get p.losses loss) refl h
     where
       pick : (x : Option (ℕ × ℕ)) → slice_get p.losses loss ≡ x → all_true (missed_tests v o d x) ≡ true → MissedAllowed job p v o d loss
@@ -384,7 +421,8 @@ module _ {D : Type 0} (job : Job D) (laws : IsJob job) (fuel : ℕ) (needed : Li
   order_tests None f = false ∷ []
   order_tests (Some o) f = f o
 
-  order_true : (P : OpenStart D → Type 0) (f : OpenStart D → List Bool) → ((o : OpenStart D) → all_true (f o) ≡ true → P o) → (x : Option (OpenStart D)) → all_true (order_tests x f) ≡ true → (o : OpenStart D) × (x ≡ Some o) × P o
+  order_true : (P : OpenStart D → Type 0) (f : OpenStart D → List Bool) → ((o : OpenStart D) → all_true (f o) ≡ true → P o)
+      → (x : Option (OpenStart D)) → all_true (order_tests x f) ≡ true → (o : OpenStart D) × (x ≡ Some o) × P o
   order_true P f g None h = cc
   order_true P f g (Some o) h = (o, refl, g o h)
 
@@ -419,14 +457,18 @@ module _ {D : Type 0} (job : Job D) (laws : IsJob job) (fuel : ℕ) (needed : Li
       q : AllTrue (not (list_any (λ e. digest_same (job.name d) (job.name e) || digest_same (job.name e) (job.name d)) ds) ∷ names_apart ds ∷ [])
       q = parts (not (list_any (λ e. digest_same (job.name d) (job.name e) || digest_same (job.name e) (job.name d)) ds) ∷ names_apart ds ∷ []) h
 
-      clash : (xs : List D) (x : D) → In x xs → job.name d ≡ job.name x → list_any (λ e. digest_same (job.name d) (job.name e) || digest_same (job.name e) (job.name d)) xs ≡ true
+      clash : (xs : List D) (x : D) → In x xs → job.name d ≡ job.name x
+          → list_any (λ e. digest_same (job.name d) (job.name e) || digest_same (job.name e) (job.name d)) xs ≡ true
       clash [] x k m = absurd k
       clash (y ∷ ys) x (inl s) m =
-          let n : digest_same (job.name d) (job.name y) ≡ true = subst (λ z. digest_same (job.name d) z ≡ true) (m ∙ ap job.name s) (digest_refl (job.name d)) in
-          ap (λ b. (b || digest_same (job.name y) (job.name d)) || list_any (λ e. digest_same (job.name d) (job.name e) || digest_same (job.name e) (job.name d)) ys) n
+          let n : digest_same (job.name d) (job.name y) ≡ true =
+          subst (λ z. digest_same (job.name d) z ≡ true) (m ∙ ap job.name s) (digest_refl (job.name d)) in
+          ap (λ b. (b || digest_same (job.name y) (job.name d))
+          || list_any (λ e. digest_same (job.name d) (job.name e) || digest_same (job.name e) (job.name d)) ys) n
       clash (y ∷ ys) x (inr k) m = skip (digest_same (job.name d) (job.name y) || digest_same (job.name y) (job.name d)) (clash ys x k m)
         where
-          skip : (b : Bool) → list_any (λ e. digest_same (job.name d) (job.name e) || digest_same (job.name e) (job.name d)) ys ≡ true → b || list_any (λ e. digest_same (job.name d) (job.name e) || digest_same (job.name e) (job.name d)) ys ≡ true
+          skip : (b : Bool) → list_any (λ e. digest_same (job.name d) (job.name e) || digest_same (job.name e) (job.name d)) ys ≡ true → b
+              || list_any (λ e. digest_same (job.name d) (job.name e) || digest_same (job.name e) (job.name d)) ys ≡ true
           skip true z = refl
           skip false z = z
 
@@ -446,17 +488,26 @@ module _ {D : Type 0} (job : Job D) (laws : IsJob job) (fuel : ℕ) (needed : Li
   pub step_true : (v : Standing D) (e : Event D) → SavesOk job laws v → step_test v e ≡ true → Step job p v e
   step_true v e saves h =
       let q = parts (not v.over ∷ all_true (tests v e) ∷ nat_le (length (after job v e).book) p.limit ∷ names_apart (after job v e).book ∷ []) h in
-      record { going = not_true _ q.0; allowed = allowed e q.1.0; room = leb-true _ p.limit q.1.1.0; apart = apart_true (after job v e).book q.1.1.1.0 }
+      record {
+        going = not_true _ q.0;
+        allowed = allowed e q.1.0;
+        room = leb-true _ p.limit q.1.1.0;
+        apart =
+            apart_true (after job v e).book q.1.1.1.0;
+      }
     where
       allowed : (e : Event D) → all_true (tests v e) ≡ true → Allowed job p v e
       allowed (start k w t from) t' = start_true v k w t from saves t'
       allowed (done k ms copied spawned) t' =
-          order_true (λ o. DoneAllowed job o ms copied spawned) (λ o. done_tests o ms copied spawned) (λ o z. done_true o ms copied spawned z) (find_open job k v.orders) t'
+          order_true (λ o. DoneAllowed job o ms copied spawned) (λ o. done_tests o ms copied spawned) (λ o z. done_true o ms copied spawned z)
+          (find_open job k v.orders) t'
       allowed (saved k zero mark refs holds spawned) t' = cc
       allowed (saved k (suc j) mark refs holds spawned) t' =
-          order_true (λ o. SavedAllowed job o (suc j) mark refs holds spawned) (λ o. saved_tests o j mark refs holds spawned) (λ o z. saved_true o j mark refs holds spawned z) (find_open job k v.orders) t'
+          order_true (λ o. SavedAllowed job o (suc j) mark refs holds spawned) (λ o. saved_tests o j mark refs holds spawned)
+          (λ o z. saved_true o j mark refs holds spawned z) (find_open job k v.orders) t'
       allowed (missed k d loss) t' =
-          order_true (λ o. MissedAllowed job p v o d loss) (λ o. missed_tests v o d (slice_get p.losses loss)) (λ o z. missed_true v o d loss z) (find_open job k v.orders) t'
+          order_true (λ o. MissedAllowed job p v o d loss) (λ o. missed_tests v o d (slice_get p.losses loss)) (λ o z. missed_true v o d loss z)
+          (find_open job k v.orders) t'
       allowed (lost w closes) t' = lost_true v w closes t'
 
   abbrev pub lawful_test : Standing D → List (Event D) → Bool

@@ -1,10 +1,13 @@
 -- A test of turns that is computed: what passes it is driven.
-use Rattle.std.proofs.Common.{◌≡◌, ℕ, zero, suc, ◌+◌, ◌*◌, ◌%◌, ◌≤◌, ◌<◌, List, [], ◌∷◌, ◌++◌, length, Bool, true, false, not, cond, ◌&&◌, ◌||◌, Option, Some, None, slice_get, ◌⊎◌, inl, inr, refl, ap, sym, ◌∙◌, subst, arith, nat_eq, nat_lt, nat_le, filter, eqb-true, ltb-true, ltb-false, leb-true, le-leb}
+use Rattle.std.proofs.Common.{◌≡◌, ℕ, zero, suc, ◌+◌, ◌*◌, ◌%◌, ◌≤◌, ◌<◌, List, [], ◌∷◌, ◌++◌, length, Bool, true, false, not, cond, ◌&&◌, ◌||◌}
+use Rattle.std.proofs.Common.{Option, Some, None, slice_get, ◌⊎◌, inl, inr, refl, ap, sym, ◌∙◌, subst, arith, nat_eq, nat_lt, nat_le, filter}
+use Rattle.std.proofs.Common.{eqb-true, ltb-true, ltb-false, leb-true, le-leb}
 use Rattle.std.specs.List.{list_any}
 use Rattle.ciel_journal.specs.Job.{Task, show, Job, In, Each, IsJob, Needed}
 use Rattle.ciel_journal.specs.History.{Event, start, done, saved, missed, lost, Plan, Standing, after, is_out, live, needs, same_task}
 use Rattle.ciel_journal.specs.Graph.{Picks, root, through}
-use Rattle.ciel_journal.specs.Turns.{Chosen, DrivenFrom, FirstDue, IsDue, IsReadyList, NothingDue, due_test, Reached, Ready, Rests, Turn, Undue, draw, idle, tasks_of}
+use Rattle.ciel_journal.specs.Turns.{Chosen, DrivenFrom, FirstDue, IsDue, IsReadyList, NothingDue, due_test, Reached, Ready, Rests, Turn, Undue, draw}
+use Rattle.ciel_journal.specs.Turns.{idle, tasks_of}
 use Rattle.ciel_journal.proofs.Members.{any_in, in_any, bool_cases}
 use Rattle.ciel_journal.proofs.Bound.{task_exact, task_refl}
 use Rattle.ciel_journal.proofs.Check.{all_true, parts, not_true, each_passes, passes_each, is_that, that_exact, step_test, step_true}
@@ -19,7 +22,8 @@ module _ (closes : ℕ) (gone : List ℕ) where
       let b : not (list_any (nat_eq u) gone) ≡ true = ap not d.here in
       ap (λ c. c && not (list_any (nat_eq u) gone)) a ∙ b
 
-  pub is_due : (losses : List (ℕ × ℕ)) (i k u : ℕ) → slice_get losses i ≡ Some (k, u) → due_test closes gone (k, u) ≡ true → IsDue losses closes gone i k u
+  pub is_due : (losses : List (ℕ × ℕ)) (i k u : ℕ) → slice_get losses i ≡ Some (k, u) → due_test closes gone (k, u) ≡ true
+      → IsDue losses closes gone i k u
   is_due losses i k u g h =
       let q = both (nat_le k closes) (not (list_any (nat_eq u) gone)) h in
       record { planned = g; reached = leb-true k closes q.0; here = not_true _ q.1 }
@@ -121,7 +125,8 @@ module _ (closes : ℕ) (gone : List ℕ) where
       choose true h None f = first h (λ i k u d. absurd (f i k u d))
       choose true h (Some y) f = turn (bool_cases (nat_lt y.1.0 x.0))
         where
-          turn : ((nat_lt y.1.0 x.0 ≡ true) ⊎ (nat_lt y.1.0 x.0 ≡ false)) → DueIs (x ∷ xs) (cond (nat_lt y.1.0 x.0) (Some (suc y.0, y.1)) (Some (0, x)))
+          turn : ((nat_lt y.1.0 x.0 ≡ true) ⊎ (nat_lt y.1.0 x.0 ≡ false))
+              → DueIs (x ∷ xs) (cond (nat_lt y.1.0 x.0) (Some (suc y.0, y.1)) (Some (0, x)))
           turn (inl t) = subst (λ c. DueIs (x ∷ xs) (cond c (Some (suc y.0, y.1)) (Some (0, x)))) (sym t) (other h y t f)
           turn (inr t) =
               subst (λ c. DueIs (x ∷ xs) (cond c (Some (suc y.0, y.1)) (Some (0, x)))) (sym t)
@@ -176,7 +181,8 @@ module _ {D : Type 0} (job : Job D) (laws : IsJob job) where
         pick (inl j) = a t j
         pick (inr s) = subst (Reached job v) (sym s) r
 
-    needs_reached : (t : Task D) → Reached job v t → is_out job v t ≡ false → (ds : List D) → ((d : D) → In d ds → In d (needs job v t)) → (S : List (Task D)) → AllReached S → AllReached (add_needs ds S)
+    needs_reached : (t : Task D) → Reached job v t → is_out job v t ≡ false → (ds : List D) → ((d : D) → In d ds → In d (needs job v t))
+        → (S : List (Task D)) → AllReached S → AllReached (add_needs ds S)
     needs_reached t r o [] inside S a = a
     needs_reached t r o (d ∷ ds) inside S a =
         needs_reached t r o ds (λ e i. inside e (inr i)) (add_task (live job v d) (job.task_of d) S) (one (live job v d) refl (job.task_of d) refl)
@@ -237,8 +243,10 @@ module _ {D : Type 0} (job : Job D) (laws : IsJob job) where
         go j =
             let q = parts (has_task S show ∷ each_passes (closed_test S) S ∷ []) h in
             let c : closed_test S s ≡ true = each_at (closed_test S) S s q.1.0 j in
-            let f : each_passes (λ x. need_test S (live job v x) (job.task_of x)) (needs job v s) ≡ true = sym (ap (λ b. b || each_passes (λ x. need_test S (live job v x) (job.task_of x)) (needs job v s)) o) ∙ c in
-            let g : need_test S (live job v d) (job.task_of d) ≡ true = each_at (λ x. need_test S (live job v x) (job.task_of x)) (needs job v s) d f i in
+            let f : each_passes (λ x. need_test S (live job v x) (job.task_of x)) (needs job v s) ≡ true =
+            sym (ap (λ b. b || each_passes (λ x. need_test S (live job v x) (job.task_of x)) (needs job v s)) o) ∙ c in
+            let g : need_test S (live job v d) (job.task_of d) ≡ true =
+            each_at (λ x. need_test S (live job v x) (job.task_of x)) (needs job v s) d f i in
             let k : has_task S t ≡ true = sym (ap (λ b. need_test S b (job.task_of d)) l ∙ ap (need_test S false) e) ∙ g in
             any_in (same_task job) (task_exact job laws) t S k
 
@@ -278,7 +286,8 @@ module _ {D : Type 0} (job : Job D) (laws : IsJob job) where
         keeps [] = refl
         keeps (x ∷ xs) = pick (ready_test S x) refl (keeps xs)
           where
-            pick : (c : Bool) → ready_test S x ≡ c → Picks (Ready job v) xs (filter (ready_test S) xs) → Picks (Ready job v) (x ∷ xs) (cond c (x ∷ filter (ready_test S) xs) (filter (ready_test S) xs))
+            pick : (c : Bool) → ready_test S x ≡ c → Picks (Ready job v) xs (filter (ready_test S) xs)
+                → Picks (Ready job v) (x ∷ xs) (cond c (x ∷ filter (ready_test S) xs) (filter (ready_test S) xs))
             pick true e k = inl (sound x e, (filter (ready_test S) xs, refl, k))
             pick false e k = inr ((λ r. let y = complete x r in let bad : true ≡ false = sym y ∙ e in cc), k)
 
@@ -312,11 +321,15 @@ module _ {D : Type 0} (job : Job D) (laws : IsJob job) where
 
     abbrev rest_test : Standing D → Bool
     rest_test v =
-        all_true (none_of (pick_due v.closes v.gone p.losses) ∷ full_test v (reached_now v n) ∷ (is_empty (ready_now v (reached_now v n)) || is_empty (idle job p v)) ∷ [])
+        all_true (none_of (pick_due v.closes v.gone p.losses) ∷ full_test v (reached_now v n)
+        ∷ (is_empty (ready_now v (reached_now v n)) || is_empty (idle job p v)) ∷ [])
 
     abbrev choice_test : Standing D → ℕ → Task D → Bool
     choice_test v w t =
-        all_true (none_of (pick_due v.closes v.gone p.losses) ∷ full_test v (reached_now v n) ∷ is_that (same_task job) (slice_get (ready_now v (reached_now v n)) (draw p.seed (2 * v.starts) % length (ready_now v (reached_now v n)))) t ∷ is_that nat_eq (slice_get (idle job p v) (draw p.seed (2 * v.starts + 1) % length (idle job p v))) w ∷ [])
+        all_true (none_of (pick_due v.closes v.gone p.losses) ∷ full_test v (reached_now v n)
+        ∷ is_that (same_task job) (slice_get (ready_now v (reached_now v n))
+        (draw p.seed (2 * v.starts) % length (ready_now v (reached_now v n)))) t
+        ∷ is_that nat_eq (slice_get (idle job p v) (draw p.seed (2 * v.starts + 1) % length (idle job p v))) w ∷ [])
 
     abbrev turn_test : Standing D → Event D → Bool
     turn_test v (lost w closes) = first_of (pick_due v.closes v.gone p.losses) w
@@ -338,16 +351,21 @@ module _ {D : Type 0} (job : Job D) (laws : IsJob job) where
 
     rest_true : (v : Standing D) → rest_test v ≡ true → Rests job p v
     rest_true v h =
-        let q = parts (none_of (pick_due v.closes v.gone p.losses) ∷ full_test v (reached_now v n) ∷ (is_empty (ready_now v (reached_now v n)) || is_empty (idle job p v)) ∷ []) h in
+        let q = parts (none_of (pick_due v.closes v.gone p.losses) ∷ full_test v (reached_now v n)
+        ∷ (is_empty (ready_now v (reached_now v n)) || is_empty (idle job p v)) ∷ []) h in
         (undue v q.0, pick (is_empty (ready_now v (reached_now v n))) refl q.1.1.0 q.1.0)
       where
-        pick : (b : Bool) → is_empty (ready_now v (reached_now v n)) ≡ b → b || is_empty (idle job p v) ≡ true → full_test v (reached_now v n) ≡ true → IsReadyList job v [] ⊎ (idle job p v ≡ [])
+        pick : (b : Bool) → is_empty (ready_now v (reached_now v n)) ≡ b → b || is_empty (idle job p v) ≡ true → full_test v (reached_now v n)
+            ≡ true → IsReadyList job v [] ⊎ (idle job p v ≡ [])
         pick true e k f = inl (subst (IsReadyList job v) (empty_true (ready_now v (reached_now v n)) e) (now_ready v n f))
         pick false e k f = inr (empty_true (idle job p v) k)
 
     choice_true : (v : Standing D) (w : ℕ) (t : Task D) → choice_test v w t ≡ true → Chosen job p v w t
     choice_true v w t h =
-        let q = parts (none_of (pick_due v.closes v.gone p.losses) ∷ full_test v (reached_now v n) ∷ is_that (same_task job) (slice_get (ready_now v (reached_now v n)) (draw p.seed (2 * v.starts) % length (ready_now v (reached_now v n)))) t ∷ is_that nat_eq (slice_get (idle job p v) (draw p.seed (2 * v.starts + 1) % length (idle job p v))) w ∷ []) h in
+        let q = parts (none_of (pick_due v.closes v.gone p.losses) ∷ full_test v (reached_now v n)
+        ∷ is_that (same_task job) (slice_get (ready_now v (reached_now v n))
+        (draw p.seed (2 * v.starts) % length (ready_now v (reached_now v n)))) t
+        ∷ is_that nat_eq (slice_get (idle job p v) (draw p.seed (2 * v.starts + 1) % length (idle job p v))) w ∷ []) h in
         record {
           nothing_due = undue v q.0;
           tasks = ready_now v (reached_now v n);
@@ -356,10 +374,12 @@ module _ {D : Type 0} (job : Job D) (laws : IsJob job) where
           worker = that_exact nat_eq (λ x y e. eqb-true x y e) _ w q.1.1.1.0;
         }
 
-    first_true : (v : Standing D) (w : ℕ) → first_of (pick_due v.closes v.gone p.losses) w ≡ true → (loss : ℕ) × FirstDue p.losses v.closes v.gone loss w
+    first_true : (v : Standing D) (w : ℕ) → first_of (pick_due v.closes v.gone p.losses) w ≡ true → (loss : ℕ)
+        × FirstDue p.losses v.closes v.gone loss w
     first_true v w h = pick (pick_due v.closes v.gone p.losses) (pick_true v.closes v.gone p.losses) h
       where
-        pick : (o : Option (ℕ × (ℕ × ℕ))) → DueIs v.closes v.gone p.losses o → first_of o w ≡ true → (loss : ℕ) × FirstDue p.losses v.closes v.gone loss w
+        pick : (o : Option (ℕ × (ℕ × ℕ))) → DueIs v.closes v.gone p.losses o → first_of o w ≡ true → (loss : ℕ)
+            × FirstDue p.losses v.closes v.gone loss w
         pick None f k = cc
         pick (Some x) f k = (x.0, subst (FirstDue p.losses v.closes v.gone x.0) (eqb-true x.1.1 w k) f.0)
 

@@ -1,5 +1,6 @@
 -- A circle of waits means that the root task never ends.
-use Rattle.std.proofs.Common.{◌≡◌, ◌≢◌, ℕ, zero, suc, ◌+◌, List, [], ◌∷◌, ◌++◌, Bool, true, false, Option, Some, None, slice_get, inl, inr, refl, ap, sym, ◌∙◌, subst, append_assoc, append-nil, add_comm, suc-add, zero-add}
+use Rattle.std.proofs.Common.{◌≡◌, ◌≢◌, ℕ, zero, suc, ◌+◌, List, [], ◌∷◌, ◌++◌, Bool, true, false, Option, Some, None, slice_get, inl, inr, refl, ap}
+use Rattle.std.proofs.Common.{sym, ◌∙◌, subst, append_assoc, append-nil, add_comm, suc-add, zero-add}
 use Rattle.ciel_journal.specs.Job.{Act, Digest, Each, In, IsJob, IsPrefix, Job, Never, Task, WaitOf, made, show, wait, waits_in}
 use Rattle.ciel_journal.specs.History.{Standing, needs}
 use Rattle.ciel_journal.specs.Graph.{Chain, WaitsOn, root, standing_graph, through}
@@ -40,7 +41,8 @@ module _ {D : Type 0} (job : Job D) (laws : IsJob job) where
       rw e (s.0 ∙ r.0, s.1)
 
   -- each wait of a task that has ended was met by then
-  pub wait_at_end : (n : ℕ) (t : Task D) (j : ℕ) (ds : List D) → job.ended n t ≡ true → WaitOf job t (suc j) ds → slice_get (waits_in (job.acts n t)) j ≡ Some ds
+  pub wait_at_end : (n : ℕ) (t : Task D) (j : ℕ) (ds : List D) → job.ended n t ≡ true → WaitOf job t (suc j) ds
+      → slice_get (waits_in (job.acts n t)) j ≡ Some ds
   wait_at_end n t j ds h w =
       let p = acts_grow n w.0 t in
       let a : slice_get (waits_in (job.acts w.0 t) ++ waits_in p.0) j ≡ Some ds = get_front _ _ j ds w.1 in
@@ -92,7 +94,8 @@ module _ {D : Type 0} (job : Job D) (laws : IsJob job) where
     never_up t (through r o d i l e) h n =
         never_up _ r (λ m. false_or _ (λ s. needs_seen m _ d s i (never_seen d t e h m))) n
 
-    next_of : (first d : D) (ds : List D) → Chain (standing_graph job v) first d ds → (x : D) → In x (d ∷ ds) → (e : D) × In e (first ∷ d ∷ ds) × WaitsOn (standing_graph job v) x e
+    next_of : (first d : D) (ds : List D) → Chain (standing_graph job v) first d ds → (x : D) → In x (d ∷ ds) → (e : D) × In e (first ∷ d ∷ ds)
+        × WaitsOn (standing_graph job v) x e
     next_of first d [] c x (inl s) = (first, inl refl, subst (λ y. WaitsOn (standing_graph job v) y first) (sym s) c)
     next_of first d [] c x (inr i) = absurd i
     next_of first d (e ∷ es) c x (inl s) = (e, inr (inr (inl refl)), subst (λ y. WaitsOn (standing_graph job v) y e) (sym s) c.0)
@@ -114,4 +117,5 @@ module _ {D : Type 0} (job : Job D) (laws : IsJob job) where
     circle_never (d ∷ ds) c n =
         let turns = turns_of d ds c.1 in
         let w = (turns d (inl refl)).2 in
-        never_up w.0 w.2 (λ m. false_or _ (λ s. needs_seen m w.0 (turns d (inl refl)).0 s w.4 (circle_unseen (d ∷ ds) turns m (turns d (inl refl)).0 (turns d (inl refl)).1))) n
+        never_up w.0 w.2 (λ m. false_or _ (λ s. needs_seen m w.0 (turns d (inl refl)).0 s w.4
+        (circle_unseen (d ∷ ds) turns m (turns d (inl refl)).0 (turns d (inl refl)).1))) n

@@ -1,5 +1,6 @@
 -- The first loss that is due among those up to a place.
-use Rattle.std.proofs.Common.{◌≡◌, ℕ, zero, suc, ◌+◌, ◌≤◌, ◌<◌, List, [], ◌∷◌, length, true, false, Option, Some, None, IfSome, IfNone, slice_get, ◌⊎◌, inl, inr, ap, sym, ◌∙◌, subst, arith}
+use Rattle.std.proofs.Common.{◌≡◌, ℕ, zero, suc, ◌+◌, ◌≤◌, ◌<◌, List, [], ◌∷◌, length, true, false, Option, Some, None, IfSome, IfNone, slice_get}
+use Rattle.std.proofs.Common.{◌⊎◌, inl, inr, ap, sym, ◌∙◌, subst, arith}
 use Rattle.ciel_journal.specs.Turns.{FirstDue, IsDue, NothingDue, due_test}
 use Rattle.ciel_journal.proofs.CheckTurns.{is_due, due_is}
 
@@ -62,7 +63,8 @@ module _ (losses : List (ℕ × ℕ)) (closes : ℕ) (gone : List ℕ) where
   count_at : (n j : ℕ) (y : ℕ × ℕ) → slice_get losses j ≡ Some y → (b : Below n (Some j)) → y.0 ≡ b.1.0
   count_at n j y g b = (there j b.1.0 b.1.1 y g b.1.2).0
 
-  pub below_better : (n j : ℕ) (x y : ℕ × ℕ) → slice_get losses n ≡ Some x → slice_get losses j ≡ Some y → due_test closes gone x ≡ true → x.0 < y.0 → Below n (Some j) → Below (suc n) (Some n)
+  pub below_better : (n j : ℕ) (x y : ℕ × ℕ) → slice_get losses n ≡ Some x → slice_get losses j ≡ Some y → due_test closes gone x ≡ true
+      → x.0 < y.0 → Below n (Some j) → Below (suc n) (Some n)
   below_better n j x y g h f lt b = (omega arith, (x.0, x.1, is_due closes gone losses n x.0 x.1 g f, least))
     where
       least : (i l v : ℕ) → i < suc n → Due i l v → (x.0 < l) ⊎ ((x.0 ≡ l) × (n ≤ i))
@@ -76,7 +78,8 @@ module _ (losses : List (ℕ × ℕ)) (closes : ℕ) (gone : List ℕ) where
           pick (inl a) = inl (low (b.1.3 i k u a d))
           pick (inr e) = inr ((there i k u x (subst (λ z. slice_get losses z ≡ Some x) (sym e) g) d).0, omega (arith, e))
 
-  pub below_keep : (n j : ℕ) (x y : ℕ × ℕ) → slice_get losses n ≡ Some x → slice_get losses j ≡ Some y → y.0 ≤ x.0 → Below n (Some j) → Below (suc n) (Some j)
+  pub below_keep : (n j : ℕ) (x y : ℕ × ℕ) → slice_get losses n ≡ Some x → slice_get losses j ≡ Some y → y.0 ≤ x.0 → Below n (Some j)
+      → Below (suc n) (Some j)
   below_keep n j x y g h le b = let l = b.0 in (omega (arith, l), (b.1.0, b.1.1, b.1.2, least))
     where
       least : (i l v : ℕ) → i < suc n → Due i l v → (b.1.0 < l) ⊎ ((b.1.0 ≡ l) × (j ≤ i))
@@ -110,7 +113,8 @@ module _ (losses : List (ℕ × ℕ)) (closes : ℕ) (gone : List ℕ) where
   pub below_nothing : Below (length losses) None → NothingDue losses closes gone
   below_nothing b i k u d = b i k u (short i k u d) d
 
-  pub first_some : (n : ℕ) → n ≡ length losses → (o : Option ℕ) → Below n o → IfSome o (λ loss. (worker : ℕ) × FirstDue losses closes gone loss worker)
+  pub first_some : (n : ℕ) → n ≡ length losses → (o : Option ℕ) → Below n o
+      → IfSome o (λ loss. (worker : ℕ) × FirstDue losses closes gone loss worker)
   first_some n e None b = tt
   first_some n e (Some j) b = below_all j (subst (λ m. Below m (Some j)) e b)
 

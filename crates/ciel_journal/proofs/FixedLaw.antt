@@ -1,7 +1,9 @@
 -- Jobs with fixed lists have the laws of a job.
-use Rattle.std.proofs.Common.{◌≡◌, ◌≢◌, ℕ, zero, suc, ◌≤◌, ◌<◌, List, [], ◌∷◌, length, length-append, Bool, true, false, cond, ◌&&◌, Option, Some, None, slice_get, inl, inr, refl, ap, sym, ◌∙◌, subst, arith, nat_eq, nat_le, eqb-true, eq-eqb, leb-true, le-leb}
+use Rattle.std.proofs.Common.{◌≡◌, ◌≢◌, ℕ, zero, suc, ◌≤◌, ◌<◌, List, [], ◌∷◌, length, length-append, Bool, true, false, cond, ◌&&◌, Option, Some}
+use Rattle.std.proofs.Common.{None, slice_get, inl, inr, refl, ap, sym, ◌∙◌, subst, arith, nat_eq, nat_le, eqb-true, eq-eqb, leb-true, le-leb}
 use Rattle.ciel_journal.specs.Job.{Task, show, of, Act, made, wait, Held, In, Each, IsPrefix, waits_in, IsJob}
-use Rattle.ciel_journal.specs.Fixed.{Fixed, all_seen, until, passes, acts_by, ends_by, seen_by, seen_with, fixed_job, IsFixed, Piece, number, piece_task, piece_outputs, piece_first, small_lists}
+use Rattle.ciel_journal.specs.Fixed.{Fixed, all_seen, until, passes, acts_by, ends_by, seen_by, seen_with, fixed_job, IsFixed, Piece, number}
+use Rattle.ciel_journal.specs.Fixed.{piece_task, piece_outputs, piece_first, small_lists}
 use Rattle.ciel_journal.specs.Fixed as f
 use Rattle.ciel_journal.proofs.Circle.{waits_join}
 
@@ -28,7 +30,8 @@ module _ {D : Type 0} (s r : D → Bool) (up : (d : D) → s d ≡ true → r d 
   until_more (made d ∷ es) = let p = until_more es in (p.0, ap (λ xs. made d ∷ xs) p.1)
   until_more (wait ds ∷ es) = pick (all_seen s ds) refl (until_more es)
     where
-      pick : (b : Bool) → all_seen s ds ≡ b → IsPrefix (until s es) (until r es) → IsPrefix (wait ds ∷ cond b (until s es) []) (wait ds ∷ cond (all_seen r ds) (until r es) [])
+      pick : (b : Bool) → all_seen s ds ≡ b → IsPrefix (until s es) (until r es)
+          → IsPrefix (wait ds ∷ cond b (until s es) []) (wait ds ∷ cond (all_seen r ds) (until r es) [])
       pick true e p = (p.0, ap (λ xs. wait ds ∷ xs) (p.1 ∙ ap (λ b. cond b (until r es) []) (sym (all_more ds e))))
       pick false e p = (cond (all_seen r ds) (until r es) [], refl)
 
@@ -58,16 +61,20 @@ module _ {D : Type 0} (f : Fixed D) (ok : IsFixed f) where
   seen_more zero d h = cc
   seen_more (suc n) d h = pick (f.task_of d) h (seen_more n)
     where
-      pick : (o : Option (Task D)) → seen_by f (seen_with f n) o ≡ true → ((e : D) → seen_with f n e ≡ true → seen_with f (suc n) e ≡ true) → seen_by f (seen_with f (suc n)) o ≡ true
+      pick : (o : Option (Task D)) → seen_by f (seen_with f n) o ≡ true → ((e : D) → seen_with f n e ≡ true → seen_with f (suc n) e ≡ true)
+          → seen_by f (seen_with f (suc n)) o ≡ true
       pick None h up = refl
       pick (Some t) h up = ends_more (seen_with f n) (seen_with f (suc n)) up t h
 
   acts_more : (n : ℕ) (t : Task D) → IsPrefix (acts_by f (seen_with f n) t) (acts_by f (seen_with f (suc n)) t)
   acts_more n t = pick (all_seen (seen_with f n) (f.first t)) refl
     where
-      pick : (b : Bool) → all_seen (seen_with f n) (f.first t) ≡ b → IsPrefix (cond b (until (seen_with f n) (f.script t)) []) (acts_by f (seen_with f (suc n)) t)
+      pick : (b : Bool) → all_seen (seen_with f n) (f.first t) ≡ b
+          → IsPrefix (cond b (until (seen_with f n) (f.script t)) []) (acts_by f (seen_with f (suc n)) t)
       pick true e =
-          subst (λ b. IsPrefix (until (seen_with f n) (f.script t)) (cond b (until (seen_with f (suc n)) (f.script t)) [])) (sym (all_more (seen_with f n) (seen_with f (suc n)) (seen_more n) (f.first t) e)) (until_more (seen_with f n) (seen_with f (suc n)) (seen_more n) (f.script t))
+          subst (λ b. IsPrefix (until (seen_with f n) (f.script t)) (cond b (until (seen_with f (suc n)) (f.script t)) []))
+          (sym (all_more (seen_with f n) (seen_with f (suc n)) (seen_more n) (f.first t) e))
+          (until_more (seen_with f n) (seen_with f (suc n)) (seen_more n) (f.script t))
       pick false e = (acts_by f (seen_with f (suc n)) t, refl)
 
   -- a task that has ended has done all
@@ -122,11 +129,16 @@ module _ {D : Type 0} (f : Fixed D) (ok : IsFixed f) where
         size = ok.size;
         first_smaller = ok.first_smaller;
         more = acts_more;
-        kept = λ n t h. let k = ends_more (seen_with f n) (seen_with f (suc n)) (seen_more n) t h in (acts_end (seen_with f (suc n)) t k ∙ sym (acts_end (seen_with f n) t h), k);
+        kept = λ n t h. let k = ends_more (seen_with f n) (seen_with f (suc n)) (seen_more n) t h in
+            (acts_end (seen_with f (suc n)) t k ∙ sym (acts_end (seen_with f n) t h), k);
         held_kept = held_more;
-        object_kept = λ n d m h. let b = cond_some (seen_with f n d) (f.object_mark d) m h in ap (λ c. cond c (Some (f.object_mark d)) None) (seen_more n d b) ∙ (sym (ap (λ c. cond c (Some (f.object_mark d)) None) b) ∙ h);
+        object_kept = λ n d m h. let b = cond_some (seen_with f n d) (f.object_mark d) m h in
+            ap (λ c. cond c (Some (f.object_mark d)) None) (seen_more n d b) ∙ (sym (ap (λ c. cond c (Some (f.object_mark d)) None) b) ∙ h);
         first_seen = λ n t h. each_shown n (f.first t) (and_parts (all_seen (seen_with f n) (f.first t)) (passes (seen_with f n) (f.script t)) h).0;
-        later_seen = λ n t j ds h g. each_shown n ds (wait_seen (seen_with f n) (f.script t) j ds (and_parts (all_seen (seen_with f n) (f.first t)) (passes (seen_with f n) (f.script t)) h).1 (sym (ap (λ xs. slice_get (waits_in xs) j) (acts_end (seen_with f n) t h)) ∙ g));
+        later_seen = λ n t j ds h g. each_shown n ds
+            (wait_seen (seen_with f n) (f.script t) j ds
+            (and_parts (all_seen (seen_with f n) (f.first t)) (passes (seen_with f n) (f.script t)) h).1
+            (sym (ap (λ xs. slice_get (waits_in xs) j) (acts_end (seen_with f n) t h)) ∙ g));
         unseen = λ d t e. refl;
         seen = λ n d t e h. subst (λ o. seen_by f (seen_with f n) o ≡ true) e (cond_not (seen_with f (suc n) d) (f.object_mark d) h);
       }

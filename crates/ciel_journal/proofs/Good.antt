@@ -1,7 +1,9 @@
 -- What holds of what stands after a lawful history.
 use Rattle.std.proofs.Common.{◌≡◌, ℕ, List, [], ◌∷◌, ◌++◌, Bool, true, false, cond, Option, Some, None, refl, ap, sym, subst, nat_lt, filter}
 use Rattle.ciel_journal.specs.Job.{Digest, Each, IsJob, Job, Needed, Never, Task, WaitOf, of, show}
-use Rattle.ciel_journal.specs.History.{Event, OpenStart, Plan, Save, Standing, after, after_all, before_all, better, close_with, closed, done, done_with, find_open, last_save, lost, missed, missed_with, needs_of, same_task, saved, saved_with, start, wait_number}
+use Rattle.ciel_journal.specs.History.{Event, OpenStart, Plan, Save, Standing, after, after_all, before_all, better, close_with, closed, done}
+use Rattle.ciel_journal.specs.History.{done_with, find_open, last_save, lost, missed, missed_with, needs_of, same_task, saved, saved_with, start}
+use Rattle.ciel_journal.specs.History.{wait_number}
 use Rattle.ciel_journal.specs.Lawful.{Allowed, Lawful, LawfulFrom}
 use Rattle.ciel_journal.specs.Graph.{root, through}
 use Rattle.ciel_journal.specs.Turns.{CircleAtRest, Reached}
@@ -21,13 +23,16 @@ module _ {A : Type 0} (P : A → Type 0) where
       pick false r = r
 
 module _ {D : Type 0} (job : Job D) (laws : IsJob job) where
-  pub after_done : (v : Standing D) (k : ℕ) (made : List (D × Digest)) (copied spawned : List D) (o : OpenStart D) → find_open job k v.orders ≡ Some o → after job v (done k made copied spawned) ≡ done_with job made copied spawned o (closed job v k)
+  pub after_done : (v : Standing D) (k : ℕ) (made : List (D × Digest)) (copied spawned : List D) (o : OpenStart D) → find_open job k v.orders
+      ≡ Some o → after job v (done k made copied spawned) ≡ done_with job made copied spawned o (closed job v k)
   after_done v k made copied spawned o e = ap (close_with job (done_with job made copied spawned) v k) e
 
-  pub after_saved : (v : Standing D) (k j : ℕ) (mark : Digest) (refs holds spawned : List D) (o : OpenStart D) → find_open job k v.orders ≡ Some o → after job v (saved k j mark refs holds spawned) ≡ saved_with job j refs holds spawned o (closed job v k)
+  pub after_saved : (v : Standing D) (k j : ℕ) (mark : Digest) (refs holds spawned : List D) (o : OpenStart D) → find_open job k v.orders
+      ≡ Some o → after job v (saved k j mark refs holds spawned) ≡ saved_with job j refs holds spawned o (closed job v k)
   after_saved v k j mark refs holds spawned o e = ap (close_with job (saved_with job j refs holds spawned) v k) e
 
-  pub after_missed : (v : Standing D) (k : ℕ) (d : D) (loss : ℕ) (o : OpenStart D) → find_open job k v.orders ≡ Some o → after job v (missed k d loss) ≡ closed job v k
+  pub after_missed : (v : Standing D) (k : ℕ) (d : D) (loss : ℕ) (o : OpenStart D) → find_open job k v.orders ≡ Some o
+      → after job v (missed k d loss) ≡ closed job v k
   after_missed v k d loss o e = ap (close_with job (missed_with job) v k) e
 
   abbrev pub SaveOk : Save D → Type 0
@@ -63,11 +68,13 @@ module _ {D : Type 0} (job : Job D) (laws : IsJob job) where
   same_task_exact (of d) (of e) h = ap of (laws.same_exact d e h)
 
   -- the last save of a task is one of its saves
-  pub last_ok : (t : Task D) (ss : List (Save D)) → Each SaveOk ss → WaitOf job t (wait_number job (last_save job t ss)) (needs_of job t (last_save job t ss))
+  pub last_ok : (t : Task D) (ss : List (Save D)) → Each SaveOk ss
+      → WaitOf job t (wait_number job (last_save job t ss)) (needs_of job t (last_save job t ss))
   last_ok t [] h = refl
   last_ok t (s ∷ ss) h = pick (same_task job t s.task) refl (last_save job t ss) (last_ok t ss h.1)
     where
-      pick : (b : Bool) → same_task job t s.task ≡ b → (o : Option (Save D)) → WaitOf job t (wait_number job o) (needs_of job t o) → WaitOf job t (wait_number job (cond b (better job s o) o)) (needs_of job t (cond b (better job s o) o))
+      pick : (b : Bool) → same_task job t s.task ≡ b → (o : Option (Save D)) → WaitOf job t (wait_number job o) (needs_of job t o)
+          → WaitOf job t (wait_number job (cond b (better job s o) o)) (needs_of job t (cond b (better job s o) o))
       pick true e None r = subst (λ u. WaitOf job u s.j s.refs) (sym (same_task_exact t s.task e)) h.0
       pick true e (Some q) r = choose (nat_lt q.j s.j)
         where
@@ -80,8 +87,10 @@ module _ {D : Type 0} (job : Job D) (laws : IsJob job) where
   waiting_ok v h t = (_, last_ok t v.saves h)
 
   -- an endless circle after a lawful history
-  pub lawful_circle : (p : Plan) (h : List (Event D)) → Lawful job p h → (ds : List D) → CircleAtRest job (after_all job (before_all job) h) ds → Never job
-  lawful_circle p h l ds c = circle_never job laws (after_all job (before_all job) h) (waiting_ok (after_all job (before_all job) h) (saves_all p (before_all job) h saves_start l)) ds c
+  pub lawful_circle : (p : Plan) (h : List (Event D)) → Lawful job p h → (ds : List D) → CircleAtRest job (after_all job (before_all job) h) ds
+      → Never job
+  lawful_circle p h l ds c = circle_never job laws (after_all job (before_all job) h)
+      (waiting_ok (after_all job (before_all job) h) (saves_all p (before_all job) h saves_start l)) ds c
 
   -- what is reached is needed
   pub reached_needed : (v : Standing D) → SavesOk v → (t : Task D) → Reached job v t → Needed job t

@@ -44,7 +44,8 @@ module _ {A : Type 0} where
   apart p [] h = tt
   apart p (y ∷ ys) h = pick (bool_cases (p y)) (apart p ys)
     where
-      pick : ((p y ≡ true) ⊎ (p y ≡ false)) → (list_any p ys ≡ false → AllByRecursion (λ y. p y ≡ false) ys) → AllByRecursion (λ y. p y ≡ false) (y ∷ ys)
+      pick : ((p y ≡ true) ⊎ (p y ≡ false)) → (list_any p ys ≡ false → AllByRecursion (λ y. p y ≡ false) ys)
+          → AllByRecursion (λ y. p y ≡ false) (y ∷ ys)
       pick (inl e) r = let a : true ≡ false = sym (ap (λ b. b || list_any p ys) e) ∙ h in cc
       pick (inr e) r = (e, r (sym (ap (λ b. b || list_any p ys) e) ∙ h))
 
@@ -62,6 +63,7 @@ module _ {A : Type 0} where
   distinct_none eq = tt
 
   -- a distinct list inside another is no longer
-  pub fewer : (eq : A → A → Bool) → ((a : A) → eq a a ≡ true) → ((a b : A) → eq a b ≡ true → a ≡ b) → (xs ys : List A) → IsDistinct eq xs → Each (λ d. list_any (eq d) ys ≡ true) xs → length xs ≤ length ys
+  pub fewer : (eq : A → A → Bool) → ((a : A) → eq a a ≡ true) → ((a b : A) → eq a b ≡ true → a ≡ b) → (xs ys : List A) → IsDistinct eq xs
+      → Each (λ d. list_any (eq d) ys ≡ true) xs → length xs ≤ length ys
   fewer eq r x xs ys k e =
       length-le_from_is_member (same_laws eq r x) xs ys k (λ q h. each_of (λ d. list_any (eq d) ys ≡ true) q xs (any_in eq x q xs h) e)

@@ -1,6 +1,7 @@
 -- Where nothing is open, a task is ready or there is a circle: what reached tasks wait for is among finitely many
 -- descriptions, since each saved wait names finitely many, and what a task waits for at first is smaller than what it makes.
-use Rattle.std.proofs.Common.{◌≡◌, ℕ, zero, suc, ◌≤◌, ◌<◌, List, [], ◌∷◌, ◌++◌, Bool, true, false, cond, nat_lt, Option, Some, None, ◌⊎◌, inl, inr, refl, ap, sym, ◌∙◌, subst, arith}
+use Rattle.std.proofs.Common.{◌≡◌, ℕ, zero, suc, ◌≤◌, ◌<◌, List, [], ◌∷◌, ◌++◌, Bool, true, false, cond, nat_lt, Option, Some, None, ◌⊎◌, inl, inr}
+use Rattle.std.proofs.Common.{refl, ap, sym, ◌∙◌, subst, arith}
 use Rattle.std.specs.List.{list_any}
 use Rattle.ciel_journal.specs.Job.{Task, show, Job, In, Each, IsJob}
 use Rattle.ciel_journal.specs.History.{Save, Standing, better, last_save, needs_of, needs, same_task}
@@ -37,7 +38,8 @@ module _ {A : Type 0} where
   spread_in f [] x i = absurd i
   spread_in f (e ∷ es) x i = pick (in_join x (e ∷ f e) (spread f es) i) (spread_in f es x)
     where
-      pick : (In x (e ∷ f e) ⊎ In x (spread f es)) → (In x (spread f es) → (y : A) × In y es × In x (y ∷ f y)) → (y : A) × In y (e ∷ es) × In x (y ∷ f y)
+      pick : (In x (e ∷ f e) ⊎ In x (spread f es)) → (In x (spread f es) → (y : A) × In y es × In x (y ∷ f y)) → (y : A) × In y (e ∷ es)
+          × In x (y ∷ f y)
       pick (inl a) r = (e, inl refl, a)
       pick (inr b) r = let q = r b in (q.0, inr q.1, q.2)
 
@@ -91,11 +93,13 @@ module _ {D : Type 0} (job : Job D) (laws : IsJob job) where
       wide (inl a) = inl (in_right e s.refs (saved_refs ss) a)
       wide (inr b) = inr b
 
-      choose : (c : Bool) (q : Save D) → (In e q.refs → In e (saved_refs ss) ⊎ In e (job.first t)) → In e (needs_of job t (cond c (Some s) (Some q))) → In e (s.refs ++ saved_refs ss) ⊎ In e (job.first t)
+      choose : (c : Bool) (q : Save D) → (In e q.refs → In e (saved_refs ss) ⊎ In e (job.first t))
+          → In e (needs_of job t (cond c (Some s) (Some q))) → In e (s.refs ++ saved_refs ss) ⊎ In e (job.first t)
       choose true q r j = inl (in_left e s.refs (saved_refs ss) j)
       choose false q r j = wide (r j)
 
-      pick : (b : Bool) (o : Option (Save D)) → (In e (needs_of job t o) → In e (saved_refs ss) ⊎ In e (job.first t)) → In e (needs_of job t (cond b (better job s o) o)) → In e (s.refs ++ saved_refs ss) ⊎ In e (job.first t)
+      pick : (b : Bool) (o : Option (Save D)) → (In e (needs_of job t o) → In e (saved_refs ss) ⊎ In e (job.first t))
+          → In e (needs_of job t (cond b (better job s o) o)) → In e (s.refs ++ saved_refs ss) ⊎ In e (job.first t)
       pick true None r j = inl (in_left e s.refs (saved_refs ss) j)
       pick true (Some q) r j = choose (nat_lt q.j s.j) q r j
       pick false o r j = wide (r j)
@@ -133,4 +137,5 @@ module _ {D : Type 0} (job : Job D) (laws : IsJob job) where
 
     pub ready_or_round : v.orders ≡ [] → ((t : Task D) × Ready job v t) ⊎ ((ds : List D) × CircleAtRest job v ds)
     ready_or_round none =
-        ready_or_circle job laws v none near (λ t r. each_all (λ d. list_any (job.same d) near ≡ true) (needs job v t) (λ d i. in_any job.same laws.same_refl d near (reached_near t r d i)))
+        ready_or_circle job laws v none near (λ t r. each_all (λ d. list_any (job.same d) near ≡ true) (needs job v t)
+        (λ d i. in_any job.same laws.same_refl d near (reached_near t r d i)))

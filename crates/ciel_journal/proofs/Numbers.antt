@@ -1,7 +1,9 @@
 -- Each number names at most one open Start.
-use Rattle.std.proofs.Common.{◌≡◌, ℕ, ◌+◌, ◌<◌, List, [], ◌∷◌, ◌++◌, Bool, true, false, not, cond, nat_eq, Some, ◌⊎◌, inl, inr, refl, ap, sym, ◌∙◌, subst, arith, filter, eqb-true}
+use Rattle.std.proofs.Common.{◌≡◌, ℕ, ◌+◌, ◌<◌, List, [], ◌∷◌, ◌++◌, Bool, true, false, not, cond, nat_eq, Some, ◌⊎◌, inl, inr, refl, ap, sym, ◌∙◌}
+use Rattle.std.proofs.Common.{subst, arith, filter, eqb-true}
 use Rattle.ciel_journal.specs.Job.{Each, In, IsJob, Job}
-use Rattle.ciel_journal.specs.History.{Event, OpenStart, Plan, Standing, after, closed, done, done_with, find_open, lost, missed, saved, saved_with, start}
+use Rattle.ciel_journal.specs.History.{Event, OpenStart, Plan, Standing, after, closed, done, done_with, find_open, lost, missed, saved, saved_with}
+use Rattle.ciel_journal.specs.History.{start}
 use Rattle.ciel_journal.specs.Lawful.{Step}
 use Rattle.ciel_journal.proofs.Members.{bool_cases}
 use Rattle.ciel_journal.proofs.Good.{after_done, after_saved, after_missed, each_join, each_filter}
@@ -61,14 +63,16 @@ module _ {D : Type 0} (job : Job D) (laws : IsJob job) where
   found_in k [] o e = cc
   found_in k (q ∷ qs) o e = pick (bool_cases (nat_eq k q.number)) (found_in k qs o)
     where
-      pick : ((nat_eq k q.number ≡ true) ⊎ (nat_eq k q.number ≡ false)) → (find_open job k qs ≡ Some o → In o qs × (k ≡ o.number)) → In o (q ∷ qs) × (k ≡ o.number)
+      pick : ((nat_eq k q.number ≡ true) ⊎ (nat_eq k q.number ≡ false)) → (find_open job k qs ≡ Some o → In o qs × (k ≡ o.number))
+          → In o (q ∷ qs) × (k ≡ o.number)
       pick (inl t) r =
           let s : Some q ≡ Some o = sym (ap (λ b. cond b (Some q) (find_open job k qs)) t) ∙ e in
           let w : q ≡ o = cc in (inl (sym w), eqb-true k q.number t ∙ ap (λ (x : OpenStart D). x.number) w)
       pick (inr f) r = let a = r (sym (ap (λ b. cond b (Some q) (find_open job k qs)) f) ∙ e) in (inr a.0, a.1)
 
   -- an open Start stays, or is the one that is closed
-  pub stays : (v : Standing D) (k : ℕ) (o q : OpenStart D) → Numbered v → find_open job k v.orders ≡ Some o → In q v.orders → In q (closed job v k).orders ⊎ (q ≡ o)
+  pub stays : (v : Standing D) (k : ℕ) (o q : OpenStart D) → Numbered v → find_open job k v.orders ≡ Some o → In q v.orders
+      → In q (closed job v k).orders ⊎ (q ≡ o)
   stays v k o q n e i = pick (bool_cases (nat_eq k q.number))
     where
       pick : ((nat_eq k q.number ≡ true) ⊎ (nat_eq k q.number ≡ false)) → In q (closed job v k).orders ⊎ (q ≡ o)
@@ -78,14 +82,20 @@ module _ {D : Type 0} (job : Job D) (laws : IsJob job) where
   numbered_filter : (v u : Standing D) (p : OpenStart D → Bool) → Numbered v → u.orders ≡ filter p v.orders → u.starts ≡ v.starts → Numbered u
   numbered_filter v u p n e s =
       record {
-        below = subst (Each (λ (o : OpenStart D). o.number < u.starts)) (sym e) (subst (λ m. Each (λ (o : OpenStart D). o.number < m) (filter p v.orders)) (sym s) (each_filter (λ (o : OpenStart D). o.number < v.starts) p v.orders n.below));
+        below = subst (Each (λ (o : OpenStart D). o.number < u.starts)) (sym e)
+            (subst (λ m. Each (λ (o : OpenStart D). o.number < m) (filter p v.orders)) (sym s)
+            (each_filter (λ (o : OpenStart D). o.number < v.starts) p v.orders n.below));
         one = λ a b i j q. n.one a b (in_filter p a v.orders (subst (In a) e i)) (in_filter p b v.orders (subst (In b) e j)) q;
       }
 
-  numbered_start : (v u : Standing D) (o : OpenStart D) → Numbered v → o.number ≡ v.starts → u.orders ≡ v.orders ++ o ∷ [] → u.starts ≡ v.starts + 1 → Numbered u
+  numbered_start : (v u : Standing D) (o : OpenStart D) → Numbered v → o.number ≡ v.starts → u.orders ≡ v.orders ++ o ∷ [] → u.starts
+      ≡ v.starts + 1 → Numbered u
   numbered_start v u o n m e s =
       record {
-        below = subst (Each (λ (x : OpenStart D). x.number < u.starts)) (sym e) (each_join (λ (x : OpenStart D). x.number < u.starts) v.orders (o ∷ []) (each_more (λ (x : OpenStart D). x.number < v.starts) (λ (x : OpenStart D). x.number < u.starts) (λ x h. omega (arith, s)) v.orders n.below) (omega (arith, m, s), tt));
+        below = subst (Each (λ (x : OpenStart D). x.number < u.starts)) (sym e)
+            (each_join (λ (x : OpenStart D). x.number < u.starts) v.orders (o ∷ [])
+            (each_more (λ (x : OpenStart D). x.number < v.starts) (λ (x : OpenStart D). x.number < u.starts) (λ x h. omega (arith, s)) v.orders
+            n.below) (omega (arith, m, s), tt));
         one = λ a b i j q. pick a b (in_last a v.orders o (subst (In a) e i)) (in_last b v.orders o (subst (In b) e j)) q;
       }
     where
@@ -101,9 +111,13 @@ module _ {D : Type 0} (job : Job D) (laws : IsJob job) where
   pub numbered_step : (p : Plan) (v : Standing D) (e : Event D) → Numbered v → Step job p v e → Numbered (after job v e)
   numbered_step p v (start k w t from) n s = numbered_start v _ _ n s.allowed.number refl refl
   numbered_step p v (done k made copied spawned) n s =
-      let a = s.allowed in subst Numbered (sym (after_done job laws v k made copied spawned a.0 a.1)) (numbered_filter v (done_with job made copied spawned a.0 (closed job v k)) (λ (x : OpenStart D). not (nat_eq k x.number)) n refl refl)
+      let a = s.allowed in subst Numbered (sym (after_done job laws v k made copied spawned a.0 a.1))
+      (numbered_filter v (done_with job made copied spawned a.0 (closed job v k)) (λ (x : OpenStart D). not (nat_eq k x.number)) n refl refl)
   numbered_step p v (saved k j mark refs holds spawned) n s =
-      let a = s.allowed in subst Numbered (sym (after_saved job laws v k j mark refs holds spawned a.0 a.1)) (numbered_filter v (saved_with job j refs holds spawned a.0 (closed job v k)) (λ (x : OpenStart D). not (nat_eq k x.number)) n refl refl)
+      let a = s.allowed in subst Numbered (sym (after_saved job laws v k j mark refs holds spawned a.0 a.1))
+      (numbered_filter v (saved_with job j refs holds spawned a.0 (closed job v k)) (λ (x : OpenStart D). not (nat_eq k x.number)) n refl
+      refl)
   numbered_step p v (missed k d loss) n s =
-      let a = s.allowed in subst Numbered (sym (after_missed job laws v k d loss a.0 a.1)) (numbered_filter v (closed job v k) (λ (x : OpenStart D). not (nat_eq k x.number)) n refl refl)
+      let a = s.allowed in subst Numbered (sym (after_missed job laws v k d loss a.0 a.1))
+      (numbered_filter v (closed job v k) (λ (x : OpenStart D). not (nat_eq k x.number)) n refl refl)
   numbered_step p v (lost w closes) n s = numbered_filter v (after job v (lost w closes)) (λ (x : OpenStart D). not (nat_eq w x.worker)) n refl refl

@@ -21,6 +21,7 @@ module _ {D : Type 0} (job : Job D) (laws : IsJob job) where
       new : list_any (job.same d) book ≡ false → In d book → ⊥
       new e i = let h = in_any job.same laws.same_refl d book i in let bad : true ≡ false = sym h ∙ e in cc
 
-      pick : (b : Bool) → list_any (job.same d) book ≡ b → ((more : List D) → Once [] more → Once [] (learned job more ds)) → Once [] (learned job (cond b book (book ++ d ∷ [])) ds)
+      pick : (b : Bool) → list_any (job.same d) book ≡ b → ((more : List D) → Once [] more → Once [] (learned job more ds))
+          → Once [] (learned job (cond b book (book ++ d ∷ [])) ds)
       pick true e on = on book o
       pick false e on = on (book ++ d ∷ []) (once_last [] book d o (λ i. i) (new e))

@@ -1,8 +1,10 @@
 -- With one worker each turn allows one event.
-use Rattle.std.proofs.Common.{◌≡◌, ℕ, ◌+◌, ◌*◌, ◌%◌, ◌≤◌, ◌<◌, List, [], ◌∷◌, ◌++◌, length, Bool, true, false, not, cond, ◌||◌, Option, Some, None, slice_get, ◌⊎◌, inl, inr, refl, ap, sym, ◌∙◌, subst, arith, nat_eq, nat_lt, filter, eqb-true, eq-eqb, append-nil}
+use Rattle.std.proofs.Common.{◌≡◌, ℕ, ◌+◌, ◌*◌, ◌%◌, ◌≤◌, ◌<◌, List, [], ◌∷◌, ◌++◌, length, Bool, true, false, not, cond, ◌||◌, Option, Some, None}
+use Rattle.std.proofs.Common.{slice_get, ◌⊎◌, inl, inr, refl, ap, sym, ◌∙◌, subst, arith, nat_eq, nat_lt, filter, eqb-true, eq-eqb, append-nil}
 use Rattle.std.specs.List.{list_any}
 use Rattle.ciel_journal.specs.Job.{Digest, Task, Job, In, Each, IsPrefix, IsJob}
-use Rattle.ciel_journal.specs.History.{Event, start, done, saved, missed, lost, OpenStart, Plan, Save, Standing, after, before_all, better, closed, done_with, saved_with, find_open, last, last_save, names_of, order_of, placed, same_task, stack_of, after_all}
+use Rattle.ciel_journal.specs.History.{Event, start, done, saved, missed, lost, OpenStart, Plan, Save, Standing, after, before_all, better, closed}
+use Rattle.ciel_journal.specs.History.{done_with, saved_with, find_open, last, last_save, names_of, order_of, placed, same_task, stack_of, after_all}
 use Rattle.ciel_journal.specs.Lawful.{Copied, DoneAllowed, FetchedFrom, Given, HeldAt, NextWait, SavedAllowed, Step, own_name}
 use Rattle.ciel_journal.specs.Turns.{Chosen, Driven, DrivenFrom, FirstDue, Ready, Rests, Turn, draw, idle, tasks_of}
 use Rattle.ciel_journal.proofs.Picked.{picks_unique}
@@ -26,11 +28,21 @@ module _ {D : Type 0} (job : Job D) (laws : IsJob job) where
 
   lone_start : Lone (before_all job)
   lone_start =
-      record { workers = λ o i. absurd i; one = λ a b i j. absurd i; here = λ o i. absurd i; places = λ d w h. cc; had = λ o i. absurd i; saves = λ s i. absurd i; stacks = λ o i. absurd i }
+      record {
+        workers = λ o i. absurd i;
+        one = λ a b i j. absurd i;
+        here = λ o i. absurd i;
+        places = λ d w h. cc;
+        had = λ o i. absurd i;
+        saves =
+            λ s i. absurd i;
+        stacks = λ o i. absurd i;
+      }
 
   -- ---- what stays
 
-  nobody : (os : List (OpenStart D)) → ((o : OpenStart D) → In o os → o.worker ≡ 0) → list_any (λ (o : OpenStart D). nat_eq 0 o.worker) os ≡ false → os ≡ []
+  nobody : (os : List (OpenStart D)) → ((o : OpenStart D) → In o os → o.worker ≡ 0) → list_any (λ (o : OpenStart D). nat_eq 0 o.worker) os
+      ≡ false → os ≡ []
   nobody [] h f = refl
   nobody (o ∷ os) h f =
       let a : nat_eq 0 o.worker ≡ true = eq-eqb 0 o.worker (sym (h o (inl refl))) in
@@ -40,7 +52,8 @@ module _ {D : Type 0} (job : Job D) (laws : IsJob job) where
   only_here o q (inl s) = s
   only_here o q (inr i) = absurd i
 
-  stack_zero : (t : Task D) (ss : List (Save D)) → ((s : Save D) → In s ss → s.worker ≡ 0) → (w : ℕ) → stack_of job (last_save job t ss) ≡ Some w → w ≡ 0
+  stack_zero : (t : Task D) (ss : List (Save D)) → ((s : Save D) → In s ss → s.worker ≡ 0) → (w : ℕ) → stack_of job (last_save job t ss) ≡ Some w
+      → w ≡ 0
   stack_zero t [] h w e = cc
   stack_zero t (s ∷ ss) h w e = pick (same_task job t s.task) (last_save job t ss) (stack_zero t ss (λ x i. h x (inr i)) w) e
     where
@@ -57,7 +70,8 @@ module _ {D : Type 0} (job : Job D) (laws : IsJob job) where
       pick false o r k = r k
 
   -- what stays where orders go
-  lone_less : (v u : Standing D) (p : OpenStart D → Bool) → Lone v → u.orders ≡ filter p v.orders → u.gone ≡ v.gone → ((d : D) (w : ℕ) → Has u.places w d → w ≡ 0) → ((s : Save D) → In s u.saves → s.worker ≡ 0) → Lone u
+  lone_less : (v u : Standing D) (p : OpenStart D → Bool) → Lone v → u.orders ≡ filter p v.orders → u.gone ≡ v.gone
+      → ((d : D) (w : ℕ) → Has u.places w d → w ≡ 0) → ((s : Save D) → In s u.saves → s.worker ≡ 0) → Lone u
   lone_less v u p l e g places saves =
       record {
         workers = λ o i. l.workers o (back o i);
@@ -76,7 +90,8 @@ module _ {D : Type 0} (job : Job D) (laws : IsJob job) where
   none_join p [] y h k = ap (λ b. b || false) k
   none_join p (x ∷ xs) y h k = pick (p x) h (none_join p xs y)
     where
-      pick : (b : Bool) → b || list_any p xs ≡ false → (list_any p xs ≡ false → p y ≡ false → list_any p (xs ++ y ∷ []) ≡ false) → b || list_any p (xs ++ y ∷ []) ≡ false
+      pick : (b : Bool) → b || list_any p xs ≡ false → (list_any p xs ≡ false → p y ≡ false → list_any p (xs ++ y ∷ []) ≡ false) → b
+          || list_any p (xs ++ y ∷ []) ≡ false
       pick true h r = cc
       pick false h r = r h k
 
@@ -123,15 +138,18 @@ module _ {D : Type 0} (job : Job D) (laws : IsJob job) where
   lone_step p n v (saved k j mark refs holds spawned) l step =
       let a = step.allowed in
       subst Lone (sym (after_saved job laws v k j mark refs holds spawned a.0 a.1))
-      (lone_less v (saved_with job j refs holds spawned a.0 (closed job v k)) (λ (o : OpenStart D). not (nat_eq k o.number)) l refl refl l.places (λ s i. turn s (in_last s v.saves (record { task = a.0.task; j = j; worker = a.0.worker; refs = refs; holds = holds }) i)))
+      (lone_less v (saved_with job j refs holds spawned a.0 (closed job v k)) (λ (o : OpenStart D). not (nat_eq k o.number)) l refl refl l.places
+      (λ s i. turn s (in_last s v.saves (record { task = a.0.task; j = j; worker = a.0.worker; refs = refs; holds = holds }) i)))
     where
-      turn : (s : Save D) → (In s v.saves ⊎ (s ≡ record { task = step.allowed.0.task; j = j; worker = step.allowed.0.worker; refs = refs; holds = holds })) → s.worker ≡ 0
+      turn : (s : Save D) → (In s v.saves
+          ⊎ (s ≡ record { task = step.allowed.0.task; j = j; worker = step.allowed.0.worker; refs = refs; holds = holds })) → s.worker ≡ 0
       turn s (inl i) = l.saves s i
       turn s (inr e) =
           ap (λ (x : Save D). x.worker) e ∙ l.workers step.allowed.0 (found_in job laws k v.orders step.allowed.0 step.allowed.1).0
   lone_step p n v (missed k d loss) l step =
       let a = step.allowed in
-      subst Lone (sym (after_missed job laws v k d loss a.0 a.1)) (lone_less v (closed job v k) (λ (o : OpenStart D). not (nat_eq k o.number)) l refl refl l.places l.saves)
+      subst Lone (sym (after_missed job laws v k d loss a.0 a.1))
+      (lone_less v (closed job v k) (λ (o : OpenStart D). not (nat_eq k o.number)) l refl refl l.places l.saves)
   lone_step p n v (lost w closes) l step =
       record {
         workers = λ o i. l.workers o (back o i);
@@ -146,11 +164,16 @@ module _ {D : Type 0} (job : Job D) (laws : IsJob job) where
       back : (o : OpenStart D) → In o (filter (λ (x : OpenStart D). not (nat_eq w x.worker)) v.orders) → In o v.orders
       back o i = in_filter (λ (x : OpenStart D). not (nat_eq w x.worker)) o v.orders i
 
-      kept_by : (os : List (OpenStart D)) (o : OpenStart D) → In o (filter (λ (x : OpenStart D). not (nat_eq w x.worker)) os) → not (nat_eq w o.worker) ≡ true
+      kept_by : (os : List (OpenStart D)) (o : OpenStart D) → In o (filter (λ (x : OpenStart D). not (nat_eq w x.worker)) os)
+          → not (nat_eq w o.worker) ≡ true
       kept_by [] o i = absurd i
       kept_by (x ∷ xs) o i = pick (not (nat_eq w x.worker)) refl i (kept_by xs o)
         where
-          pick : (b : Bool) → not (nat_eq w x.worker) ≡ b → In o (cond b (x ∷ filter (λ (y : OpenStart D). not (nat_eq w y.worker)) xs) (filter (λ (y : OpenStart D). not (nat_eq w y.worker)) xs)) → (In o (filter (λ (y : OpenStart D). not (nat_eq w y.worker)) xs) → not (nat_eq w o.worker) ≡ true) → not (nat_eq w o.worker) ≡ true
+          pick : (b : Bool) → not (nat_eq w x.worker) ≡ b
+              → In o (cond b (x ∷ filter (λ (y : OpenStart D). not (nat_eq w y.worker)) xs)
+              (filter (λ (y : OpenStart D). not (nat_eq w y.worker)) xs))
+              → (In o (filter (λ (y : OpenStart D). not (nat_eq w y.worker)) xs) → not (nat_eq w o.worker) ≡ true) → not (nat_eq w o.worker)
+              ≡ true
           pick true e (inl s) r = subst (λ (y : OpenStart D). not (nat_eq w y.worker) ≡ true) (sym s) e
           pick true e (inr j) r = r j
           pick false e j r = r j
@@ -188,10 +211,12 @@ module _ {D : Type 0} (job : Job D) (laws : IsJob job) where
       zero_not : step.allowed.2.worker ≡ 0 → ⊥
       zero_not z =
           let m = l.workers step.allowed.0 order in
-          let a : list_any (nat_eq step.allowed.0.worker) v.gone ≡ true = subst (λ x. list_any (nat_eq x) v.gone ≡ true) (z ∙ sym m) step.allowed.2.since in
+          let a : list_any (nat_eq step.allowed.0.worker) v.gone ≡ true =
+          subst (λ x. list_any (nat_eq x) v.gone ≡ true) (z ∙ sym m) step.allowed.2.since in
           let b : true ≡ false = sym a ∙ l.here step.allowed.0 order in cc
 
-      pick : ((HeldAt job step.allowed.0.task step.allowed.0.from d × FetchedFrom job step.allowed.0 d step.allowed.2.worker) ⊎ ((d ≡ own_name job step.allowed.0.task) × (step.allowed.0.stack ≡ Some step.allowed.2.worker))) → ⊥
+      pick : ((HeldAt job step.allowed.0.task step.allowed.0.from d × FetchedFrom job step.allowed.0 d step.allowed.2.worker)
+          ⊎ ((d ≡ own_name job step.allowed.0.task) × (step.allowed.0.stack ≡ Some step.allowed.2.worker))) → ⊥
       pick (inl x) = no_fetch v l step.allowed.0 order d step.allowed.2.worker x.1
       pick (inr x) = zero_not (l.stacks step.allowed.0 order step.allowed.2.worker x.1)
 
@@ -219,9 +244,11 @@ module _ {D : Type 0} (job : Job D) (laws : IsJob job) where
   not_rests : (p : Plan) (v : Standing D) (w : ℕ) (t : Task D) → Chosen job p v w t → Rests job p v → ⊥
   not_rests p v w t c (n, inl r) =
       let e : c.tasks ≡ [] = picks_unique (Ready job v) (tasks_of job v.book) c.tasks [] c.ready r in
-      let a : slice_get [] (draw p.seed (2 * v.starts) % length c.tasks) ≡ Some t = subst (λ ts. slice_get ts (draw p.seed (2 * v.starts) % length c.tasks) ≡ Some t) e c.task in cc
+      let a : slice_get [] (draw p.seed (2 * v.starts) % length c.tasks) ≡ Some t =
+      subst (λ ts. slice_get ts (draw p.seed (2 * v.starts) % length c.tasks) ≡ Some t) e c.task in cc
   not_rests p v w t c (n, inr r) =
-      let a : slice_get [] (draw p.seed (2 * v.starts + 1) % length (idle job p v)) ≡ Some w = subst (λ ws. slice_get ws (draw p.seed (2 * v.starts + 1) % length (idle job p v)) ≡ Some w) r c.worker in cc
+      let a : slice_get [] (draw p.seed (2 * v.starts + 1) % length (idle job p v)) ≡ Some w =
+      subst (λ ws. slice_get ws (draw p.seed (2 * v.starts + 1) % length (idle job p v)) ≡ Some w) r c.worker in cc
 
   same_chosen : (p : Plan) (v : Standing D) (w u : ℕ) (t s : Task D) → Chosen job p v w t → Chosen job p v u s → (w ≡ u) × (t ≡ s)
   same_chosen p v w u t s x y = (workers (x.worker), tasks)
@@ -232,18 +259,22 @@ module _ {D : Type 0} (job : Job D) (laws : IsJob job) where
       tasks : t ≡ s
       tasks =
           let e : x.tasks ≡ y.tasks = picks_unique (Ready job v) (tasks_of job v.book) x.tasks y.tasks x.ready y.ready in
-          let a : slice_get y.tasks (draw p.seed (2 * v.starts) % length y.tasks) ≡ Some t = subst (λ ts. slice_get ts (draw p.seed (2 * v.starts) % length ts) ≡ Some t) e x.task in
+          let a : slice_get y.tasks (draw p.seed (2 * v.starts) % length y.tasks) ≡ Some t =
+          subst (λ ts. slice_get ts (draw p.seed (2 * v.starts) % length ts) ≡ Some t) e x.task in
           let b : Some t ≡ Some s = sym a ∙ y.task in cc
 
   -- the open order is the only one
-  same_order : (v : Standing D) → Lone v → (k l : ℕ) (a b : OpenStart D) → find_open job k v.orders ≡ Some a → find_open job l v.orders ≡ Some b → (a ≡ b) × (k ≡ l)
+  same_order : (v : Standing D) → Lone v → (k l : ℕ) (a b : OpenStart D) → find_open job k v.orders ≡ Some a → find_open job l v.orders ≡ Some b
+      → (a ≡ b) × (k ≡ l)
   same_order v o k l a b x y =
       let i = found_in job laws k v.orders a x in
       let j = found_in job laws l v.orders b y in
       let e = o.one a b i.0 j.0 in
       (e, i.1 ∙ (ap (λ (q : OpenStart D). q.number) e ∙ sym j.1))
 
-  same_done : (v : Standing D) → Lone v → (k l : ℕ) (m n : List (D × Digest)) (c d s t : List D) → (o : OpenStart D) → find_open job k v.orders ≡ Some o → DoneAllowed job o m c s → (q : OpenStart D) → find_open job l v.orders ≡ Some q → DoneAllowed job q n d t → done k m c s ≡ done l n d t
+  same_done : (v : Standing D) → Lone v → (k l : ℕ) (m n : List (D × Digest)) (c d s t : List D) → (o : OpenStart D) → find_open job k v.orders
+      ≡ Some o → DoneAllowed job o m c s → (q : OpenStart D) → find_open job l v.orders ≡ Some q → DoneAllowed job q n d t → done k m c s
+      ≡ done l n d t
   same_done v lone k l m n c d s t o x a q y b =
       let e = same_order v lone k l o q x y in
       let i = found_in job laws k v.orders o x in
@@ -253,7 +284,9 @@ module _ {D : Type 0} (job : Job D) (laws : IsJob job) where
       ∙ (ap (λ z. done k n z s) f
       ∙ (ap (λ z. done k n d z) (spawned_end_unique job laws o s t a.spawns b'.spawns) ∙ ap (λ z. done z n d t) e.1))
 
-  same_save : (v : Standing D) → Lone v → (k l j i : ℕ) (mark note : Digest) (r q h g s t : List D) → (o : OpenStart D) → find_open job k v.orders ≡ Some o → SavedAllowed job o j mark r h s → (u : OpenStart D) → find_open job l v.orders ≡ Some u → SavedAllowed job u i note q g t → saved k j mark r h s ≡ saved l i note q g t
+  same_save : (v : Standing D) → Lone v → (k l j i : ℕ) (mark note : Digest) (r q h g s t : List D) → (o : OpenStart D)
+      → find_open job k v.orders ≡ Some o → SavedAllowed job o j mark r h s → (u : OpenStart D) → find_open job l v.orders ≡ Some u
+      → SavedAllowed job u i note q g t → saved k j mark r h s ≡ saved l i note q g t
   same_save v lone k l j i mark note r q h g s t o x a u y b =
       let e = same_order v lone k l o u x y in
       let b' : SavedAllowed job o i note q g t = subst (λ z. SavedAllowed job z i note q g t) (sym e.0) b in
@@ -261,7 +294,9 @@ module _ {D : Type 0} (job : Job D) (laws : IsJob job) where
       let b'' : SavedAllowed job o j note q g t = subst (λ z. SavedAllowed job o z note q g t) (sym f) b' in
       same_saved job laws k o j mark note r q h g s t a b'' ∙ (ap (λ z. saved z j note q g t) e.1 ∙ ap (λ z. saved l z note q g t) f)
 
-  not_both : (v : Standing D) → Lone v → (k l j : ℕ) (mark : Digest) (m : List (D × Digest)) (c s r h t : List D) → (o : OpenStart D) → find_open job k v.orders ≡ Some o → DoneAllowed job o m c s → (q : OpenStart D) → find_open job l v.orders ≡ Some q → SavedAllowed job q j mark r h t → ⊥
+  not_both : (v : Standing D) → Lone v → (k l j : ℕ) (mark : Digest) (m : List (D × Digest)) (c s r h t : List D) → (o : OpenStart D)
+      → find_open job k v.orders ≡ Some o → DoneAllowed job o m c s → (q : OpenStart D) → find_open job l v.orders ≡ Some q
+      → SavedAllowed job q j mark r h t → ⊥
   not_both v lone k l j mark m c s r h t o x a q y b =
       let e = same_order v lone k l o q x y in
       not_end job laws (Given job o) o.task o.from j r a.next (subst (λ z. NextWait job (Given job z) z.task z.from j r) (sym e.0) b.next)
@@ -299,7 +334,8 @@ module _ {D : Type 0} (job : Job D) (laws : IsJob job) where
   same_event p v l (saved k j n r h g) (missed i f e) x s y t = absurd (no_missed p v l i f e y)
   same_event p v l (missed k d i) b x s y t = absurd (no_missed p v l k d i x)
 
-  same_from : (p : Plan) → p.workers ≡ 1 → (v : Standing D) → Lone v → (g h : List (Event D)) → DrivenFrom job p v g → DrivenFrom job p v h → length g ≤ length h → IsPrefix g h
+  same_from : (p : Plan) → p.workers ≡ 1 → (v : Standing D) → Lone v → (g h : List (Event D)) → DrivenFrom job p v g → DrivenFrom job p v h
+      → length g ≤ length h → IsPrefix g h
   same_from p n v l [] h x y le = (h, refl)
   same_from p n v l (a ∷ g) [] x y le = absurd (omega (arith, le))
   same_from p n v l (a ∷ g) (b ∷ h) x y le =
@@ -327,7 +363,8 @@ module _ {D : Type 0} (job : Job D) (laws : IsJob job) where
           let bad : true ≡ false = sym o ∙ s in cc
 
   -- two whole runs are one
-  pub one_whole : (p : Plan) → p.workers ≡ 1 → (g h : List (Event D)) → Driven job p g → Driven job p h → (after_all job (before_all job) g).over ≡ true → (after_all job (before_all job) h).over ≡ true → g ≡ h
+  pub one_whole : (p : Plan) → p.workers ≡ 1 → (g h : List (Event D)) → Driven job p g → Driven job p h → (after_all job (before_all job) g).over
+      ≡ true → (after_all job (before_all job) h).over ≡ true → g ≡ h
   one_whole p n g h x y a b = pick (cases (length g) (length h))
     where
       cases : (i j : ℕ) → (i ≤ j) ⊎ (j ≤ i)

@@ -58,12 +58,21 @@ fetch_left : Needed o.fetching (of f.left)
 fetch_left = waited fetch_main 1 (f.left ∷ f.two ∷ []) f.left (1, refl) (inl refl) refl
 
 fetch_are : Each (Needed o.fetching) (show ∷ of f.main ∷ of f.one ∷ of f.two ∷ of f.left ∷ [])
-fetch_are =
-    (root, (fetch_main, (waited fetch_left 0 (f.one ∷ []) f.one refl (inl refl) refl, (waited fetch_main 1 (f.left ∷ f.two ∷ []) f.two (1, refl) (inr (inl refl)) refl, (fetch_left, tt)))))
+fetch_are = (
+  root,
+  (
+    fetch_main,
+    (
+      waited fetch_left 0 (f.one ∷ []) f.one refl (inl refl) refl,
+      (waited fetch_main 1 (f.left ∷ f.two ∷ []) f.two (1, refl) (inr (inl refl)) refl, (fetch_left, tt)),
+    ),
+  ),
+)
 
 pub fetched : Driven o.fetching o.third_lost o.fetch_missed
 fetched =
-    driven_true o.fetching fetch_laws o.third_lost 4 8 (show ∷ of f.main ∷ of f.one ∷ of f.two ∷ of f.left ∷ []) fetch_are (before_all o.fetching) o.fetch_missed tt refl
+    driven_true o.fetching fetch_laws o.third_lost 4 8 (show ∷ of f.main ∷ of f.one ∷ of f.two ∷ of f.left ∷ []) fetch_are
+    (before_all o.fetching) o.fetch_missed tt refl
 
 -- ---- the square that waits for itself
 
@@ -132,6 +141,7 @@ namesake_laws = fixed_laws (record (small_lists false) { name = λ d. [] }) name
 pub clash : BreaksLawOf o.namesakes h.one_worker h.begun h.saved_once
 clash =
     record {
-      lawful = lawful_true o.namesakes namesake_laws 8 (show ∷ of f.main ∷ []) (root, (namesake_main, tt)) h.one_worker (before_all o.namesakes) h.begun tt refl;
+      lawful = lawful_true o.namesakes namesake_laws 8 (show ∷ of f.main ∷ []) (root, (namesake_main, tt)) h.one_worker (before_all o.namesakes)
+          h.begun tt refl;
       broken = λ l. let e : f.main ≡ f.one = l.1.0.apart f.main f.one (inl refl) (inr (inl refl)) refl in cc;
     }

@@ -29,7 +29,8 @@ module _ {T N U M : Type 0} (g : Graph T N) (h : Graph U M) (task : T → U) (na
   pub led_there : (t : T) → Led g t → Led h (task t)
   led_there t (root) = subst (Led h) (sym s.root) root
   led_there t (through {t = u} l o d i v k) =
-      through (led_there u l) (s.out u l ∙ o) (name d) (subst (In (name d)) (sym (s.needs u l)) (in_names name d (g.needs u) i)) (s.live u d l i ∙ v) (s.maker u d l i v ∙ ap (option_map task) k)
+      through (led_there u l) (s.out u l ∙ o) (name d) (subst (In (name d)) (sym (s.needs u l)) (in_names name d (g.needs u) i))
+      (s.live u d l i ∙ v) (s.maker u d l i v ∙ ap (option_map task) k)
 
   -- what is seen as a task
   abbrev pub Comes : U → Type 0
@@ -63,7 +64,8 @@ module _ {T N U M : Type 0} (g : Graph T N) (h : Graph U M) (task : T → U) (na
       record {
         reached = led_there t r.reached;
         not_out = s.out t r.reached ∙ r.not_out;
-        met = subst (Each (λ m. h.live m ≡ true)) (sym (s.needs t r.reached)) (each_there name (λ d. g.live d ≡ true) (λ m. h.live m ≡ true) (g.needs t) (λ d i e. s.live t d r.reached i ∙ e) r.met);
+        met = subst (Each (λ m. h.live m ≡ true)) (sym (s.needs t r.reached))
+            (each_there name (λ d. g.live d ≡ true) (λ m. h.live m ≡ true) (g.needs t) (λ d i e. s.live t d r.reached i ∙ e) r.met);
       }
 
   pub runs_here : (x : U) → Runnable h x → (t : T) × (task t ≡ x) × Runnable g t
@@ -71,7 +73,8 @@ module _ {T N U M : Type 0} (g : Graph T N) (h : Graph U M) (task : T → U) (na
     where
       next : Comes x → (t : T) × (task t ≡ x) × Runnable g t
       next q =
-          let e : Each (λ m. h.live m ≡ true) (map name (g.needs q.0)) = subst (Each (λ m. h.live m ≡ true)) (ap h.needs (sym q.1) ∙ s.needs q.0 q.2) r.met in (
+          let e : Each (λ m. h.live m ≡ true) (map name (g.needs q.0)) =
+          subst (Each (λ m. h.live m ≡ true)) (ap h.needs (sym q.1) ∙ s.needs q.0 q.2) r.met in (
             q.0,
             q.1,
             record {
@@ -109,7 +112,8 @@ module _ {T N U M : Type 0} (g : Graph T N) (h : Graph U M) (task : T → U) (na
   circle_there [] c = absurd c
   circle_there (d ∷ ds) c = chain_there d d ds (ends_waited d d ds c) c
 
-  module _ (none_out : (t : T) → g.out t ≡ false) (tasks : (t u : T) → Led g t → Led g u → task t ≡ task u → t ≡ u) (names : (d e : N) → Waited d → Waited e → name d ≡ name e → d ≡ e) where
+  module _ (none_out : (t : T) → g.out t ≡ false) (tasks : (t u : T) → Led g t → Led g u → task t ≡ task u → t ≡ u)
+      (names : (d e : N) → Waited d → Waited e → name d ≡ name e → d ≡ e) where
     -- the next name of a circle there is that of one that is waited for here
     waits_here : (d : N) (m : M) → Waited d → WaitsOn h (name d) m → (e : N) × (m ≡ name e) × WaitsOn g d e
     waits_here d m w k = next (need_here k.0 m (led_here k.0 k.2) k.4)
@@ -123,7 +127,8 @@ module _ {T N U M : Type 0} (g : Graph T N) (h : Graph U M) (task : T → U) (na
             (q.1, q.5, (u.0, u.1, l, dead, subst (λ x. In q.1 (g.needs x)) (sym same) q.4))
 
     -- the names there of a circle that began at a name
-    chain_here : (front : N) (m : M) (d : N) (ms : List M) → Waited front → Waited d → m ≡ name d → Chain h (name front) m ms → (es : List N) × (ms ≡ map name es) × Chain g front d es
+    chain_here : (front : N) (m : M) (d : N) (ms : List M) → Waited front → Waited d → m ≡ name d → Chain h (name front) m ms → (es : List N)
+        × (ms ≡ map name es) × Chain g front d es
     chain_here front m d [] f w e c =
         let q = waits_here d (name front) w (subst (λ x. WaitsOn h x (name front)) e c) in
         let same : front ≡ q.0 = names front q.0 f (q.2.0, q.2.2, q.2.4) q.1 in
@@ -131,7 +136,9 @@ module _ {T N U M : Type 0} (g : Graph T N) (h : Graph U M) (task : T → U) (na
     chain_here front m d (n ∷ ns) f w e c =
         next (waits_here d n w (subst (λ x. WaitsOn h x n) e c.0)) (λ y v k. chain_here front n y ns f v k c.1)
       where
-        next : ((y : N) × (n ≡ name y) × WaitsOn g d y) → ((y : N) → Waited y → n ≡ name y → (es : List N) × (ns ≡ map name es) × Chain g front y es) → (es : List N) × (n ∷ ns ≡ map name es) × Chain g front d es
+        next : ((y : N) × (n ≡ name y) × WaitsOn g d y)
+            → ((y : N) → Waited y → n ≡ name y → (es : List N) × (ns ≡ map name es) × Chain g front y es) → (es : List N)
+            × (n ∷ ns ≡ map name es) × Chain g front d es
         next q go =
             let r = go q.0 (q.2.0, q.2.2, q.2.4) q.1 in
             (q.0 ∷ r.0, ap (λ x. x ∷ ns) q.1 ∙ ap (λ xs. name q.0 ∷ xs) r.1, (q.2, r.2))

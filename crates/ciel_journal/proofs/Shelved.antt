@@ -1,9 +1,11 @@
 -- All that a worker has is in the book: what a Done made are outputs of a task that was started, and what it copied was had
 -- by another worker before.
-use Rattle.std.proofs.Common.{◌≡◌, ℕ, List, [], ◌∷◌, Bool, true, false, not, cond, ◌||◌, Option, Some, None, ◌⊎◌, inl, inr, refl, ap, sym, ◌∙◌, subst, nat_eq, nat_lt, filter, eq-eqb}
+use Rattle.std.proofs.Common.{◌≡◌, ℕ, List, [], ◌∷◌, Bool, true, false, not, cond, ◌||◌, Option, Some, None, ◌⊎◌, inl, inr, refl, ap, sym, ◌∙◌, subst}
+use Rattle.std.proofs.Common.{nat_eq, nat_lt, filter, eq-eqb}
 use Rattle.std.specs.List.{list_any}
 use Rattle.ciel_journal.specs.Job.{Digest, Task, show, of, Job, In, Each, IsJob, Needed}
-use Rattle.ciel_journal.specs.History.{Event, start, done, saved, missed, lost, OpenStart, Plan, Standing, after, after_all, before_all, closed, done_with, saved_with, learned, names_of, order_of, placed}
+use Rattle.ciel_journal.specs.History.{Event, start, done, saved, missed, lost, OpenStart, Plan, Standing, after, after_all, before_all, closed}
+use Rattle.ciel_journal.specs.History.{done_with, saved_with, learned, names_of, order_of, placed}
 use Rattle.ciel_journal.specs.Lawful.{Allowed, Copied, FetchedFrom, LawfulFrom, Marked, NoClash, StartAllowed, least, least_with, own_name}
 use Rattle.ciel_journal.proofs.Members.{any_in, in_any, each_of, or_true}
 use Rattle.ciel_journal.proofs.Booked.{each_more, learned_keeps}
@@ -34,7 +36,8 @@ module _ {D : Type 0} (job : Job D) (laws : IsJob job) where
       here : Some x ≡ Some w → nat_eq w x || list_any (nat_eq w) xs ≡ true
       here h = let s : x ≡ w = cc in ap (λ b. b || list_any (nat_eq w) xs) (eq-eqb w x (sym s))
 
-      choose : (b : Bool) (u : ℕ) → (Some u ≡ Some w → list_any (nat_eq w) xs ≡ true) → cond b (Some u) (Some x) ≡ Some w → nat_eq w x || list_any (nat_eq w) xs ≡ true
+      choose : (b : Bool) (u : ℕ) → (Some u ≡ Some w → list_any (nat_eq w) xs ≡ true) → cond b (Some u) (Some x) ≡ Some w → nat_eq w x
+          || list_any (nat_eq w) xs ≡ true
       choose true u r h = or_true (nat_eq w x) _ (r h)
       choose false u r h = here h
 
@@ -53,7 +56,8 @@ module _ {D : Type 0} (job : Job D) (laws : IsJob job) where
   known_in book ds h =
       each_more (λ d. list_any (job.same d) book ≡ true) (λ d. In d book) (λ d k. any_in job.same laws.same_exact d book k) ds h
 
-  pub started_own : (p : Plan) (v : Standing D) → Shelved v → (k w : ℕ) (t : Task D) (from : ℕ) → StartAllowed job p v k w t from → In (own_name job t) v.book
+  pub started_own : (p : Plan) (v : Standing D) → Shelved v → (k w : ℕ) (t : Task D) (from : ℕ) → StartAllowed job p v k w t from
+      → In (own_name job t) v.book
   started_own p v s k w show from a = s.main
   started_own p v s k w (of d) from a =
       each_of (λ e. In e v.book) d (job.outputs (of d)) (laws.made_by d (of d) (own_task d a.needed)) (known_in v.book (job.outputs (of d)) a.known)
@@ -73,14 +77,19 @@ module _ {D : Type 0} (job : Job D) (laws : IsJob job) where
   abbrev Grows : Standing D → Standing D → Type 0
   Grows v u = (d : D) → In d v.book → In d u.book
 
-  kept_orders : (v u : Standing D) (p : OpenStart D → Bool) → Grows v u → u.orders ≡ filter p v.orders → Shelved v → ((d : D) (w : ℕ) → Has u.places w d → In d u.book) → Shelved u
+  kept_orders : (v u : Standing D) (p : OpenStart D → Bool) → Grows v u → u.orders ≡ filter p v.orders → Shelved v
+      → ((d : D) (w : ℕ) → Has u.places w d → In d u.book) → Shelved u
   kept_orders v u p g e s places =
       record {
         main = g job.main s.main;
         places = places;
-        had = back (λ (o : OpenStart D). (d : D) (w : ℕ) → Has o.had w d → In d v.book) (λ (o : OpenStart D). (d : D) (w : ℕ) → Has o.had w d → In d u.book) (λ o h d w k. g d (h d w k)) s.had;
-        outputs = back (λ (o : OpenStart D). Each (λ d. In d v.book) (job.outputs o.task)) (λ (o : OpenStart D). Each (λ d. In d u.book) (job.outputs o.task)) (λ o h. each_more (λ d. In d v.book) (λ d. In d u.book) g (job.outputs o.task) h) s.outputs;
-        own = back (λ (o : OpenStart D). In (own_name job o.task) v.book) (λ (o : OpenStart D). In (own_name job o.task) u.book) (λ o h. g (own_name job o.task) h) s.own;
+        had = back (λ (o : OpenStart D). (d : D) (w : ℕ) → Has o.had w d → In d v.book)
+            (λ (o : OpenStart D). (d : D) (w : ℕ) → Has o.had w d → In d u.book) (λ o h d w k. g d (h d w k)) s.had;
+        outputs = back (λ (o : OpenStart D). Each (λ d. In d v.book) (job.outputs o.task))
+            (λ (o : OpenStart D). Each (λ d. In d u.book) (job.outputs o.task))
+            (λ o h. each_more (λ d. In d v.book) (λ d. In d u.book) g (job.outputs o.task) h) s.outputs;
+        own = back (λ (o : OpenStart D). In (own_name job o.task) v.book) (λ (o : OpenStart D). In (own_name job o.task) u.book)
+            (λ o h. g (own_name job o.task) h) s.own;
       }
     where
       back : (P Q : OpenStart D → Type 0) → ((o : OpenStart D) → P o → Q o) → Each P v.orders → Each Q u.orders
@@ -92,14 +101,18 @@ module _ {D : Type 0} (job : Job D) (laws : IsJob job) where
       record {
         main = s.main;
         places = s.places;
-        had = each_join (λ (o : OpenStart D). (d : D) (w : ℕ) → Has o.had w d → In d v.book) v.orders (order_of job v k w t from ∷ []) s.had (s.places, tt);
-        outputs = each_join (λ (o : OpenStart D). Each (λ d. In d v.book) (job.outputs o.task)) v.orders (order_of job v k w t from ∷ []) s.outputs (known_in v.book (job.outputs t) a.known, tt);
-        own = each_join (λ (o : OpenStart D). In (own_name job o.task) v.book) v.orders (order_of job v k w t from ∷ []) s.own (started_own p v s k w t from a, tt);
+        had = each_join (λ (o : OpenStart D). (d : D) (w : ℕ) → Has o.had w d → In d v.book) v.orders (order_of job v k w t from ∷ []) s.had
+            (s.places, tt);
+        outputs = each_join (λ (o : OpenStart D). Each (λ d. In d v.book) (job.outputs o.task)) v.orders (order_of job v k w t from ∷ [])
+            s.outputs (known_in v.book (job.outputs t) a.known, tt);
+        own = each_join (λ (o : OpenStart D). In (own_name job o.task) v.book) v.orders (order_of job v k w t from ∷ []) s.own
+            (started_own p v s k w t from a, tt);
       }
   shelved_step p v (done k made copied spawned) s step =
       let a = step in
       subst Shelved (sym (after_done job laws v k made copied spawned a.0 a.1))
-      (kept_orders v (done_with job made copied spawned a.0 (closed job v k)) (λ (o : OpenStart D). not (nat_eq k o.number)) (learned_in v.book spawned) refl s (λ d w h. learned_in v.book spawned d (here d w h)))
+      (kept_orders v (done_with job made copied spawned a.0 (closed job v k)) (λ (o : OpenStart D). not (nat_eq k o.number))
+      (learned_in v.book spawned) refl s (λ d w h. learned_in v.book spawned d (here d w h)))
     where
       order : In step.0 v.orders
       order = (found_in job laws k v.orders step.0 step.1).0
@@ -128,13 +141,15 @@ module _ {D : Type 0} (job : Job D) (laws : IsJob job) where
   shelved_step p v (saved k j mark refs holds spawned) s step =
       let a = step in
       subst Shelved (sym (after_saved job laws v k j mark refs holds spawned a.0 a.1))
-      (kept_orders v (saved_with job j refs holds spawned a.0 (closed job v k)) (λ (o : OpenStart D). not (nat_eq k o.number)) (learned_in v.book spawned) refl s (λ d w h. learned_in v.book spawned d (s.places d w h)))
+      (kept_orders v (saved_with job j refs holds spawned a.0 (closed job v k)) (λ (o : OpenStart D). not (nat_eq k o.number))
+      (learned_in v.book spawned) refl s (λ d w h. learned_in v.book spawned d (s.places d w h)))
   shelved_step p v (missed k d loss) s step =
       let a = step in
       subst Shelved (sym (after_missed job laws v k d loss a.0 a.1))
       (kept_orders v (closed job v k) (λ (o : OpenStart D). not (nat_eq k o.number)) (λ d i. i) refl s s.places)
   shelved_step p v (lost w closes) s step =
-      kept_orders v (after job v (lost w closes)) (λ (o : OpenStart D). not (nat_eq w o.worker)) (λ d i. i) refl s (λ d u h. s.places d u (filter_has job laws w u (v.places d) h).0)
+      kept_orders v (after job v (lost w closes)) (λ (o : OpenStart D). not (nat_eq w o.worker)) (λ d i. i) refl s
+      (λ d u h. s.places d u (filter_has job laws w u (v.places d) h).0)
 
   pub shelved_all : (p : Plan) (v : Standing D) (h : List (Event D)) → Shelved v → LawfulFrom job p v h → Shelved (after_all job v h)
   shelved_all p v [] s l = s
@@ -144,9 +159,11 @@ module _ {D : Type 0} (job : Job D) (laws : IsJob job) where
   book_step : (p : Plan) (v : Standing D) (e : Event D) → Allowed job p v e → (d : D) → In d v.book → In d (after job v e).book
   book_step p v (start k w t from) step d i = i
   book_step p v (done k made copied spawned) step d i =
-      let a = step in subst (λ (u : Standing D). In d u.book) (sym (after_done job laws v k made copied spawned a.0 a.1)) (learned_in v.book spawned d i)
+      let a = step in subst (λ (u : Standing D). In d u.book) (sym (after_done job laws v k made copied spawned a.0 a.1))
+      (learned_in v.book spawned d i)
   book_step p v (saved k j mark refs holds spawned) step d i =
-      let a = step in subst (λ (u : Standing D). In d u.book) (sym (after_saved job laws v k j mark refs holds spawned a.0 a.1)) (learned_in v.book spawned d i)
+      let a = step in subst (λ (u : Standing D). In d u.book) (sym (after_saved job laws v k j mark refs holds spawned a.0 a.1))
+      (learned_in v.book spawned d i)
   book_step p v (missed k e loss) step d i =
       let a = step in subst (λ (u : Standing D). In d u.book) (sym (after_missed job laws v k e loss a.0 a.1)) i
   book_step p v (lost w closes) step d i = i

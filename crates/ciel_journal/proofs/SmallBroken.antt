@@ -1,5 +1,6 @@
 -- Why the small histories that break a law do.
-use Rattle.std.proofs.Common.{◌≡◌, ℕ, zero, suc, ◌≤◌, List, [], ◌∷◌, ◌++◌, Bool, true, false, cond, Some, None, nat_eq, slice_get, ◌⊎◌, inl, inr, refl, ap, sym, ◌∙◌, subst, arith}
+use Rattle.std.proofs.Common.{◌≡◌, ℕ, zero, suc, ◌≤◌, List, [], ◌∷◌, ◌++◌, Bool, true, false, cond, Some, None, nat_eq, slice_get, ◌⊎◌, inl, inr}
+use Rattle.std.proofs.Common.{refl, ap, sym, ◌∙◌, subst, arith}
 use Rattle.ciel_journal.specs.Job.{Task, show, of, Act, made, wait, Each, In, IsPrefix, WaitOf, Needed, root, waited, waits_in}
 use Rattle.ciel_journal.specs.History.{OpenStart, before_all, find_open, order_of, standing, live}
 use Rattle.ciel_journal.specs.Lawful.{Copied, Marked}
@@ -31,7 +32,8 @@ acts_prefix x s t = pick (all_seen s (x.first t))
     pick false = (x.script t, refl)
 
 -- what is waited for stands in the list of the task
-pub script_wait : {D : Type 0} (x : Fixed D) (t : Task D) (j : ℕ) (ds : List D) → WaitOf (fixed_job x) t (suc j) ds → slice_get (waits_in (x.script t)) j ≡ Some ds
+pub script_wait : {D : Type 0} (x : Fixed D) (t : Task D) (j : ℕ) (ds : List D) → WaitOf (fixed_job x) t (suc j) ds
+    → slice_get (waits_in (x.script t)) j ≡ Some ds
 script_wait x t j ds w =
     let p = acts_prefix x (seen_with x w.0) t in
     let a = get_front (waits_in (acts_by x (seen_with x w.0) t)) (waits_in p.0) j ds w.1 in
@@ -59,15 +61,19 @@ main_waits (suc zero) ds d g i =
     let e : f.two ∷ [] ≡ ds = cc in inr (inr (one_of d f.two (subst (In d) (sym e) i)))
 main_waits (suc (suc j)) ds d g i = cc
 
-later_wanted : (t : Task Piece) → Among t → (j : ℕ) (ds : List Piece) (d : Piece) → slice_get (waits_in (f.piece_script false t)) j ≡ Some ds → In d ds → Wanted d
+later_wanted : (t : Task Piece) → Among t → (j : ℕ) (ds : List Piece) (d : Piece) → slice_get (waits_in (f.piece_script false t)) j ≡ Some ds
+    → In d ds → Wanted d
 later_wanted t (inl e) j ds d g i =
-    let a : slice_get (waits_in (f.piece_script false show)) j ≡ Some ds = subst (λ u. slice_get (waits_in (f.piece_script false u)) j ≡ Some ds) e g in cc
+    let a : slice_get (waits_in (f.piece_script false show)) j ≡ Some ds =
+    subst (λ u. slice_get (waits_in (f.piece_script false u)) j ≡ Some ds) e g in cc
 later_wanted t (inr (x, inl s, e)) j ds d g i =
     main_waits j ds d (subst (λ u. slice_get (waits_in (f.piece_script false u)) j ≡ Some ds) (e ∙ ap of s) g) i
 later_wanted t (inr (x, inr (inl s), e)) j ds d g i =
-    let a : slice_get (waits_in (f.piece_script false (of f.one))) j ≡ Some ds = subst (λ u. slice_get (waits_in (f.piece_script false u)) j ≡ Some ds) (e ∙ ap of s) g in cc
+    let a : slice_get (waits_in (f.piece_script false (of f.one))) j ≡ Some ds =
+    subst (λ u. slice_get (waits_in (f.piece_script false u)) j ≡ Some ds) (e ∙ ap of s) g in cc
 later_wanted t (inr (x, inr (inr s), e)) j ds d g i =
-    let a : slice_get (waits_in (f.piece_script false (of f.two))) j ≡ Some ds = subst (λ u. slice_get (waits_in (f.piece_script false u)) j ≡ Some ds) (e ∙ ap of s) g in cc
+    let a : slice_get (waits_in (f.piece_script false (of f.two))) j ≡ Some ds =
+    subst (λ u. slice_get (waits_in (f.piece_script false u)) j ≡ Some ds) (e ∙ ap of s) g in cc
 
 task_among : (d : Piece) (u : Task Piece) → Wanted d → piece_task d ≡ Some u → Among u
 task_among d u (inl s) e =
@@ -105,7 +111,8 @@ needless =
 pub again : BreaksLaw h.one_worker (h.saved_once ++ h.first_square) h.runs_a_live_task_again
 again =
     record {
-      lawful = lawful_true squares (laws_of false) 8 squares_needed squares_are h.one_worker (before_all squares) (h.saved_once ++ h.first_square) tt refl;
+      lawful = lawful_true squares (laws_of false) 8 squares_needed squares_are h.one_worker (before_all squares)
+          (h.saved_once ++ h.first_square) tt refl;
       broken = λ l. pick l.1.1.1.1.0.allowed.some_missing;
     }
   where
@@ -113,7 +120,8 @@ again =
     pick (inl e) = cc
     pick (inr x) =
         let s : x.0 ≡ f.one = one_of x.0 f.one x.1 in
-        let a : live squares (standing squares (h.saved_once ++ h.first_square)) f.one ≡ false = subst (λ d. live squares (standing squares (h.saved_once ++ h.first_square)) d ≡ false) s x.2 in
+        let a : live squares (standing squares (h.saved_once ++ h.first_square)) f.one ≡ false =
+        subst (λ d. live squares (standing squares (h.saved_once ++ h.first_square)) d ≡ false) s x.2 in
         let b : true ≡ false = a in cc
 
 pub kept_places : BreaksLaw h.loss_of_the_first h.square_lost h.keeps_places_of_a_lost_worker
@@ -126,7 +134,8 @@ kept_places =
 pub other_wait : BreaksLaw h.one_worker (h.saved_once ++ h.first_square) h.resumes_another_wait
 other_wait =
     record {
-      lawful = lawful_true squares (laws_of false) 8 squares_needed squares_are h.one_worker (before_all squares) (h.saved_once ++ h.first_square) tt refl;
+      lawful = lawful_true squares (laws_of false) 8 squares_needed squares_are h.one_worker (before_all squares)
+          (h.saved_once ++ h.first_square) tt refl;
       broken = λ l. let a : 0 ≡ 1 = l.1.1.1.1.0.allowed.from_last in cc;
     }
 
@@ -142,7 +151,8 @@ dropped =
 pub undone : BreaksTurns h.loss_of_the_only h.leaves_losses_undone
 undone =
     record {
-      lawful = lawful_true squares (laws_of false) 8 squares_needed squares_are h.loss_of_the_only (before_all squares) h.leaves_losses_undone tt refl;
+      lawful = lawful_true squares (laws_of false) 8 squares_needed squares_are h.loss_of_the_only (before_all squares) h.leaves_losses_undone tt
+          refl;
       broken = λ d. d.2.2.2.2.1.nothing_due 0 2 0 (record { planned = refl; reached = omega arith; here = refl });
     }
 
@@ -174,10 +184,12 @@ wrong_mark =
       broken = λ l. let a = l.1.1.1.0.allowed in mine a.0 a.1 a.2.marked;
     }
   where
-    mine : (o : OpenStart Piece) → find_open squares 1 (standing squares h.one_running).orders ≡ Some o → Marked squares (squares.outputs o.task) ((f.one, f.object_mark f.two) ∷ []) → ⊥
+    mine : (o : OpenStart Piece) → find_open squares 1 (standing squares h.one_running).orders ≡ Some o
+        → Marked squares (squares.outputs o.task) ((f.one, f.object_mark f.two) ∷ []) → ⊥
     mine o e m =
         let t : of f.one ≡ o.task = cc in
-        let k : Marked squares (f.one ∷ []) ((f.one, f.object_mark f.two) ∷ []) = subst (λ u. Marked squares (squares.outputs u) ((f.one, f.object_mark f.two) ∷ [])) (sym t) m in
+        let k : Marked squares (f.one ∷ []) ((f.one, f.object_mark f.two) ∷ []) =
+        subst (λ u. Marked squares (squares.outputs u) ((f.one, f.object_mark f.two) ∷ [])) (sym t) m in
         one_mark k.1.0 k.1.1
 
 some_open : (a b : OpenStart Piece) → Some a ≡ Some b → a ≡ b

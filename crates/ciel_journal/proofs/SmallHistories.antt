@@ -6,7 +6,8 @@ use Rattle.ciel_journal.specs.Lawful.{Lawful}
 use Rattle.ciel_journal.specs.Turns.{Driven}
 use Rattle.ciel_journal.specs.Fixed.{Piece, fixed_job, small_lists, squares, lines}
 use Rattle.ciel_journal.specs.Fixed as f
-use Rattle.ciel_journal.specs.SmallHistories.{one_worker, squares_alone, loss_after_two, squares_recovered, loss_at_once, lost_at_once, two_workers, lines_copied, loss_of_the_first, missed_and_made_again, stack_missed}
+use Rattle.ciel_journal.specs.SmallHistories.{one_worker, squares_alone, loss_after_two, squares_recovered, loss_at_once, lost_at_once, two_workers}
+use Rattle.ciel_journal.specs.SmallHistories.{lines_copied, loss_of_the_first, missed_and_made_again, stack_missed}
 use Rattle.ciel_journal.proofs.FixedLaw.{fixed_laws, small_fixed}
 use Rattle.ciel_journal.proofs.Check.{lawful_true}
 use Rattle.ciel_journal.proofs.CheckTurns.{driven_true}

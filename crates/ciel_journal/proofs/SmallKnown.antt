@@ -1,9 +1,11 @@
 -- The small jobs tell where all comes from that their tasks wait for and hold.
-use Rattle.std.proofs.Common.{◌≡◌, ℕ, zero, suc, ◌≤◌, ◌<◌, List, [], ◌∷◌, ◌++◌, length, length-append, append_assoc, Bool, true, false, cond, Some, None, slice_get, ◌⊎◌, inl, inr, refl, ap, sym, ◌∙◌, subst, arith, nat_le, leb-true}
+use Rattle.std.proofs.Common.{◌≡◌, ℕ, zero, suc, ◌≤◌, ◌<◌, List, [], ◌∷◌, ◌++◌, length, length-append, append_assoc, Bool, true, false, cond, Some}
+use Rattle.std.proofs.Common.{None, slice_get, ◌⊎◌, inl, inr, refl, ap, sym, ◌∙◌, subst, arith, nat_le, leb-true}
 use Rattle.ciel_journal.specs.Job.{Task, show, of, Act, made, wait, Held, Job, In, Each, WaitOf, StateOf, waits_in, after_wait, made_before, made_in}
 use Rattle.ciel_journal.specs.Lawful.{HeldAt}
 use Rattle.ciel_journal.specs.Known.{Around, Batched, Inner, Knows, TellsTo, TellsToEnd}
-use Rattle.ciel_journal.specs.Fixed.{Piece, acts_by, all_seen, until, seen_with, fixed_job, small_lists, small_inner, piece_task, piece_outputs, piece_first, piece_script, piece_holds, piece_inside, piece_carries}
+use Rattle.ciel_journal.specs.Fixed.{Piece, acts_by, all_seen, until, seen_with, fixed_job, small_lists, small_inner, piece_task, piece_outputs}
+use Rattle.ciel_journal.specs.Fixed.{piece_first, piece_script, piece_holds, piece_inside, piece_carries}
 use Rattle.ciel_journal.specs.Fixed as f
 use Rattle.ciel_journal.proofs.Circle.{waits_join}
 use Rattle.ciel_journal.proofs.Members.{each_of}
@@ -47,7 +49,8 @@ module _ (reads : Bool) where
   cond_is false x y h = cc
 
   -- a state is that of a wait of the list, and holds what is said there
-  state_is : (n : ℕ) (t : Task Piece) (j : ℕ) (a : Held Piece) → job.at n t j ≡ Some a → (j ≤ length (waits_in (piece_script reads t))) × (a.names ≡ piece_holds t j)
+  state_is : (n : ℕ) (t : Task Piece) (j : ℕ) (a : Held Piece) → job.at n t j ≡ Some a → (j ≤ length (waits_in (piece_script reads t)))
+      × (a.names ≡ piece_holds t j)
   state_is n t j a h =
       let q = cond_is (nat_le j (length (waits_in (acts_at n t)))) (record { names = piece_holds t j; mark = f.state_mark j }) a h in
       let l = leb-true j (length (waits_in (acts_at n t))) q.0 in
@@ -103,9 +106,11 @@ module _ (reads : Bool) where
   script_batched (of f.text) = tt
 
   pub batches : (n : ℕ) (t : Task Piece) → Batched job [] (job.acts n t)
-  batches n t = pick (all_seen (seen_with (small_lists reads) n) (piece_first t)) (until_batched (seen_with (small_lists reads) n) [] (piece_script reads t) (script_batched t))
+  batches n t = pick (all_seen (seen_with (small_lists reads) n) (piece_first t))
+      (until_batched (seen_with (small_lists reads) n) [] (piece_script reads t) (script_batched t))
     where
-      pick : (c : Bool) → Batched job [] (until (seen_with (small_lists reads) n) (piece_script reads t)) → Batched job [] (cond c (until (seen_with (small_lists reads) n) (piece_script reads t)) [])
+      pick : (c : Bool) → Batched job [] (until (seen_with (small_lists reads) n) (piece_script reads t))
+          → Batched job [] (cond c (until (seen_with (small_lists reads) n) (piece_script reads t)) [])
       pick true h = h
       pick false h = tt
 
@@ -147,14 +152,18 @@ module _ (reads : Bool) (S : List Piece) where
   show_left i l t e =
       t.handed.reads 0 (f.main ∷ []) f.main f.left 0 l refl (inl refl) (subst (λ c. In f.left (piece_carries c f.main)) e (inl refl))
 
-  main_waits : (m : ℕ) (ds : List Piece) → Told (of f.main) (suc m) → WaitOf theJob (of f.main) (suc m) ds → slice_get (waits_in (piece_script reads (of f.main))) m ≡ Some ds → Each (λ d. In d S) ds
+  main_waits : (m : ℕ) (ds : List Piece) → Told (of f.main) (suc m) → WaitOf theJob (of f.main) (suc m) ds
+      → slice_get (waits_in (piece_script reads (of f.main))) m ≡ Some ds → Each (λ d. In d S) ds
   main_waits zero ds t w g =
-      let v = five_to reads S 0 w.0 t (get_short (waits_in (theJob.acts w.0 (of f.main))) 0 ds w.1) in let e : f.one ∷ [] ≡ ds = cc in subst (Each (λ d. In d S)) e (v.one, tt)
+      let v = five_to reads S 0 w.0 t (get_short (waits_in (theJob.acts w.0 (of f.main))) 0 ds w.1) in let e : f.one ∷ [] ≡ ds = cc in
+      subst (Each (λ d. In d S)) e (v.one, tt)
   main_waits (suc zero) ds t w g =
-      let v = five_to reads S 1 w.0 t (get_short (waits_in (theJob.acts w.0 (of f.main))) 1 ds w.1) in let e : f.two ∷ [] ≡ ds = cc in subst (Each (λ d. In d S)) e (v.two, tt)
+      let v = five_to reads S 1 w.0 t (get_short (waits_in (theJob.acts w.0 (of f.main))) 1 ds w.1) in let e : f.two ∷ [] ≡ ds = cc in
+      subst (Each (λ d. In d S)) e (v.two, tt)
   main_waits (suc (suc m)) ds t w g = cc
 
-  show_waits : (b : Bool) → b ≡ reads → (m : ℕ) (ds : List Piece) → Told show (suc m) → slice_get (waits_in (piece_script b show)) m ≡ Some ds → Each (λ d. In d S) ds
+  show_waits : (b : Bool) → b ≡ reads → (m : ℕ) (ds : List Piece) → Told show (suc m) → slice_get (waits_in (piece_script b show)) m ≡ Some ds
+      → Each (λ d. In d S) ds
   show_waits true e zero ds t g =
       let s : f.left ∷ [] ≡ ds = cc in subst (Each (λ d. In d S)) s (show_left 1 (omega arith) t e, tt)
   show_waits true e (suc m) ds t g = cc
@@ -163,7 +172,8 @@ module _ (reads : Bool) (S : List Piece) where
   waits_told : (t : Task Piece) (i : ℕ) (ds : List Piece) → Told t i → WaitOf theJob t i ds → Each (λ d. In d S) ds
   waits_told show zero ds s w = subst (Each (λ d. In d S)) (sym w) (s.handed.begins, tt)
   waits_told (of e) zero ds s w =
-      subst (Each (λ d. In d S)) (sym w) (each_all (λ d. In d S) (piece_first (of e)) (λ d i. each_of (λ x. In x S) d (piece_inside e) (first_inside e d i) s.handed.begins))
+      subst (Each (λ d. In d S)) (sym w) (each_all (λ d. In d S) (piece_first (of e))
+      (λ d i. each_of (λ x. In x S) d (piece_inside e) (first_inside e d i) s.handed.begins))
   waits_told show (suc m) ds s w = show_waits reads refl m ds s (script_wait (small_lists reads) show m ds w)
   waits_told (of f.main) (suc m) ds s w =
       main_waits m ds s w (script_wait (small_lists reads) (of f.main) m ds w)
@@ -178,24 +188,29 @@ module _ (reads : Bool) (S : List Piece) where
   waits_told (of f.text) (suc m) ds s w =
       let g : slice_get (waits_in (piece_script reads (of f.text))) m ≡ Some ds = script_wait (small_lists reads) (of f.text) m ds w in cc
 
-  main_holds : (m n : ℕ) (a : Held Piece) → Told (of f.main) (suc m) → theJob.at n (of f.main) (suc m) ≡ Some a → suc m ≤ 2 → Each (λ d. In d S) (piece_holds (of f.main) (suc m))
+  main_holds : (m n : ℕ) (a : Held Piece) → Told (of f.main) (suc m) → theJob.at n (of f.main) (suc m) ≡ Some a → suc m ≤ 2
+      → Each (λ d. In d S) (piece_holds (of f.main) (suc m))
   main_holds m n a t g k = four (five_to reads S m n t (at_waits (nat_le (suc m) (length (waits_in (theJob.acts n (of f.main))))) refl g))
     where
       four : Five reads S → Each (λ d. In d S) (f.one ∷ f.two ∷ f.left ∷ f.right ∷ [])
       four v = (v.one, (v.two, (v.left, (v.right, tt))))
 
-      at_waits : (b : Bool) → nat_le (suc m) (length (waits_in (theJob.acts n (of f.main)))) ≡ b → cond b (Some (record { names = piece_holds (of f.main) (suc m); mark = f.state_mark (suc m) })) None ≡ Some a → suc m ≤ length (waits_in (theJob.acts n (of f.main)))
+      at_waits : (b : Bool) → nat_le (suc m) (length (waits_in (theJob.acts n (of f.main)))) ≡ b
+          → cond b (Some (record { names = piece_holds (of f.main) (suc m); mark = f.state_mark (suc m) })) None ≡ Some a
+          → suc m ≤ length (waits_in (theJob.acts n (of f.main)))
       at_waits true e h = leb-true (suc m) (length (waits_in (theJob.acts n (of f.main)))) e
       at_waits false e h = cc
 
-  show_holds : (b : Bool) → b ≡ reads → (m : ℕ) → Told show (suc m) → suc m ≤ length (waits_in (piece_script b show)) → Each (λ d. In d S) (f.left ∷ [])
+  show_holds : (b : Bool) → b ≡ reads → (m : ℕ) → Told show (suc m) → suc m ≤ length (waits_in (piece_script b show))
+      → Each (λ d. In d S) (f.left ∷ [])
   show_holds false e m t k = absurd (omega (arith, k))
   show_holds true e m t k = (show_left (suc m) (omega arith) t e, tt)
 
   holds_told : (t : Task Piece) (i : ℕ) (a : Held Piece) → Told t i → StateOf theJob t i a → Each (λ d. In d S) a.names
   holds_told t i a s w = let q = state_is reads w.0 t i a w.1 in subst (Each (λ d. In d S)) (sym q.1) (go t i s w.1 q.0)
     where
-      go : (t : Task Piece) (i : ℕ) → Told t i → theJob.at w.0 t i ≡ Some a → i ≤ length (waits_in (piece_script reads t)) → Each (λ d. In d S) (piece_holds t i)
+      go : (t : Task Piece) (i : ℕ) → Told t i → theJob.at w.0 t i ≡ Some a → i ≤ length (waits_in (piece_script reads t))
+          → Each (λ d. In d S) (piece_holds t i)
       go show zero x y k = (x.handed.begins, tt)
       go (of e) zero x y k =
           each_all (λ d. In d S) (piece_holds (of e) 0) (λ d i. each_of (λ z. In z S) d (piece_inside e) (held_inside e d i) x.handed.begins)
@@ -208,7 +223,8 @@ module _ (reads : Bool) (S : List Piece) where
       go (of f.text) (suc m) x y k = absurd (omega (arith, k))
 
   -- where these begin the pieces that the main call makes
-  around_five : (before after rest : List Piece) (d : Piece) → (before ++ d ∷ after) ++ rest ≡ all_five reads → Each (λ e. In e S) before → Around theJob (small_inner reads) S d
+  around_five : (before after rest : List Piece) (d : Piece) → (before ++ d ∷ after) ++ rest ≡ all_five reads → Each (λ e. In e S) before
+      → Around theJob (small_inner reads) S d
   around_five [] after rest d e k = let q : d ≡ f.one = cc in subst (Around theJob (small_inner reads) S) (sym q) tt
   around_five (a ∷ []) after rest d e k = let q : d ≡ f.two = cc in subst (Around theJob (small_inner reads) S) (sym q) tt
   around_five (a ∷ b ∷ []) after rest d e k =
@@ -256,30 +272,38 @@ module _ (reads : Bool) (S : List Piece) where
   no_front (x ∷ xs) after rest d e = cc
 
   -- what is made begins what the list of the task makes
-  around_script : (t : Task Piece) (before after rest : List Piece) (d : Piece) → (before ++ d ∷ after) ++ rest ≡ made_in (piece_script reads t) → Each (λ e. In e S) before → Around theJob (small_inner reads) S d
+  around_script : (t : Task Piece) (before after rest : List Piece) (d : Piece) → (before ++ d ∷ after) ++ rest ≡ made_in (piece_script reads t)
+      → Each (λ e. In e S) before → Around theJob (small_inner reads) S d
   around_script t before after rest d e k = pick (script_made t)
     where
       pick : ((made_in (piece_script reads t) ≡ all_five reads) ⊎ (made_in (piece_script reads t) ≡ [])) → Around theJob (small_inner reads) S d
       pick (inl q) = around_five before after rest d (e ∙ q) k
       pick (inr q) = absurd (no_front before after rest d (e ∙ q))
 
-  end_told : (t : Task Piece) (n : ℕ) (before after : List Piece) (d : Piece) → made_in (theJob.acts n t) ≡ before ++ d ∷ after → Each (λ e. In e S) before → Around theJob (small_inner reads) S d
+  end_told : (t : Task Piece) (n : ℕ) (before after : List Piece) (d : Piece) → made_in (theJob.acts n t) ≡ before ++ d ∷ after
+      → Each (λ e. In e S) before → Around theJob (small_inner reads) S d
   end_told t n before after d e k =
       let p = acts_prefix (small_lists reads) (seen_with (small_lists reads) n) t in
-      around_script t before after (made_in p.0) d (ap (λ ds. ds ++ made_in p.0) (sym e) ∙ (sym (made_prefix (theJob.acts n t) p.0) ∙ ap made_in p.1)) k
+      around_script t before after (made_in p.0) d
+      (ap (λ ds. ds ++ made_in p.0) (sym e) ∙ (sym (made_prefix (theJob.acts n t) p.0) ∙ ap made_in p.1)) k
 
-  made_told : (t : Task Piece) (i n : ℕ) (before after : List Piece) (d : Piece) → made_before i (theJob.acts n t) ≡ before ++ d ∷ after → Each (λ e. In e S) before → Around theJob (small_inner reads) S d
+  made_told : (t : Task Piece) (i n : ℕ) (before after : List Piece) (d : Piece) → made_before i (theJob.acts n t) ≡ before ++ d ∷ after
+      → Each (λ e. In e S) before → Around theJob (small_inner reads) S d
   made_told t i n before after d e k =
       let p = acts_prefix (small_lists reads) (seen_with (small_lists reads) n) t in
-      let whole : made_in (theJob.acts n t) ≡ (before ++ d ∷ after) ++ made_in (after_wait i (theJob.acts n t)) = made_split i (theJob.acts n t) ∙ ap (λ ds. ds ++ made_in (after_wait i (theJob.acts n t))) e in
-      let more : (before ++ d ∷ after) ++ (made_in (after_wait i (theJob.acts n t)) ++ made_in p.0) ≡ made_in (piece_script reads t) = sym (append_assoc (before ++ d ∷ after) (made_in (after_wait i (theJob.acts n t))) (made_in p.0)) ∙ (ap (λ ds. ds ++ made_in p.0) (sym whole) ∙ (sym (made_prefix (theJob.acts n t) p.0) ∙ ap made_in p.1)) in
+      let whole : made_in (theJob.acts n t) ≡ (before ++ d ∷ after) ++ made_in (after_wait i (theJob.acts n t)) = made_split i (theJob.acts n t)
+      ∙ ap (λ ds. ds ++ made_in (after_wait i (theJob.acts n t))) e in
+      let more : (before ++ d ∷ after) ++ (made_in (after_wait i (theJob.acts n t)) ++ made_in p.0) ≡ made_in (piece_script reads t) =
+      sym (append_assoc (before ++ d ∷ after) (made_in (after_wait i (theJob.acts n t))) (made_in p.0))
+      ∙ (ap (λ ds. ds ++ made_in p.0) (sym whole) ∙ (sym (made_prefix (theJob.acts n t) p.0) ∙ ap made_in p.1)) in
       around_script t before after (made_in (after_wait i (theJob.acts n t)) ++ made_in p.0) d more k
 
   carries_main : (b : Bool) → In f.left S → Each (λ e. In e S) (piece_carries b f.main)
   carries_main true i = (i, tt)
   carries_main false i = tt
 
-  object_told : (t : Task Piece) (n : ℕ) (d : Piece) → TellsToEnd theJob (small_inner reads) S t → In d (piece_outputs t) → Each (λ e. In e S) (piece_carries reads d)
+  object_told : (t : Task Piece) (n : ℕ) (d : Piece) → TellsToEnd theJob (small_inner reads) S t → In d (piece_outputs t)
+      → Each (λ e. In e S) (piece_carries reads d)
   object_told show n d s i = absurd i
   object_told (of f.main) n d s i =
       subst (λ x. Each (λ e. In e S) (piece_carries reads x)) (sym (one_of d f.main i)) (carries_main reads (five_end reads S s).left)

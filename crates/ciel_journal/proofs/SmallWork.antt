@@ -59,7 +59,8 @@ two_waits (suc (suc (suc j))) l = (λ le. absurd (omega (arith, le)), back)
   where
     back : ((ds : List Piece) × WaitOf squares (of f.main) (suc (suc (suc j))) ds) → suc (suc (suc j)) ≤ 2
     back x =
-        let e : slice_get (waits_in (piece_script false (of f.main))) (suc (suc j)) ≡ Some x.0 = script_wait (small_lists false) (of f.main) (suc (suc j)) x.0 x.1 in absurd (past x.0 e)
+        let e : slice_get (waits_in (piece_script false (of f.main))) (suc (suc j)) ≡ Some x.0 =
+        script_wait (small_lists false) (of f.main) (suc (suc j)) x.0 x.1 in absurd (past x.0 e)
       where
         past : (ds : List Piece) → slice_get (waits_in (piece_script false (of f.main))) (suc (suc j)) ≡ Some ds → ⊥
         past ds e = cc

@@ -39,7 +39,8 @@ module _ {D : Type 0} where
   later_part P xs j ds e h =
       subst (Each P) (sym e) (each_right P (made_before j xs) (made_in (after_wait j xs)) (subst (Each P) (made_split j xs) h))
 
-  pub part_before : (P : D → Type 0) (xs : List (Act D)) (j i : ℕ) (ds : List D) → j ≤ i → ds ≡ made_before (i - j) (after_wait j xs) → Each P (made_before i xs) → Each P ds
+  pub part_before : (P : D → Type 0) (xs : List (Act D)) (j i : ℕ) (ds : List D) → j ≤ i → ds ≡ made_before (i - j) (after_wait j xs)
+      → Each P (made_before i xs) → Each P ds
   part_before P xs j i ds l e h =
       subst (Each P) (sym e) (each_right P (made_before j xs) (made_before (i - j) (after_wait j xs)) (subst (Each P) (before_split j i xs l) h))
 

@@ -1,8 +1,10 @@
 -- What is reached is in the book, so each ready task stands in the list of ready tasks and may be started.
-use Rattle.std.proofs.Common.{◌≡◌, ℕ, zero, suc, ◌+◌, ◌≤◌, ◌<◌, List, [], ◌∷◌, ◌++◌, length, Bool, true, false, not, cond, ◌&&◌, ◌||◌, Some, None, ◌⊎◌, inl, inr, refl, ap, sym, ◌∙◌, subst, arith, nat_eq, eq-eqb}
+use Rattle.std.proofs.Common.{◌≡◌, ℕ, zero, suc, ◌+◌, ◌≤◌, ◌<◌, List, [], ◌∷◌, ◌++◌, length, Bool, true, false, not, cond, ◌&&◌, ◌||◌, Some, None}
+use Rattle.std.proofs.Common.{◌⊎◌, inl, inr, refl, ap, sym, ◌∙◌, subst, arith, nat_eq, eq-eqb}
 use Rattle.std.specs.List.{list_any}
 use Rattle.ciel_journal.specs.Job.{Task, show, of, Job, In, Each, IsJob}
-use Rattle.ciel_journal.specs.History.{Event, start, OpenStart, Plan, Save, Standing, after, after_all, before_all, last, live, needs, needs_of, standing, last_save}
+use Rattle.ciel_journal.specs.History.{Event, start, OpenStart, Plan, Save, Standing, after, after_all, before_all, last, live, needs, needs_of}
+use Rattle.ciel_journal.specs.History.{standing, last_save}
 use Rattle.ciel_journal.specs.Lawful.{HeldAt, Lawful, LawfulFrom, NoClash, Step, own_name}
 use Rattle.ciel_journal.specs.Known.{Begins, Inner, Knows, TellsTo}
 use Rattle.ciel_journal.specs.Graph.{root, through}
@@ -50,7 +52,8 @@ module _ {D : Type 0} (job : Job D) (laws : IsJob job) (inner : Inner D) (knows 
         at_first show o j =
             each_of (λ y. In y v.book) d (job.main ∷ []) (subst (In d) laws.first_show j) (inf.shelved.main, tt)
         at_first (of x) o j =
-            each_of (λ y. In y v.book) d (job.first (of x)) j (knows.waits_told v.book (of x) 0 (job.first (of x)) (nothing_yet (of x) (inf.whole x o).0) refl)
+            each_of (λ y. In y v.book) d (job.first (of x)) j
+            (knows.waits_told v.book (of x) 0 (job.first (of x)) (nothing_yet (of x) (inf.whole x o).0) refl)
 
         pick : ((last_save job t v.saves ≡ None) ⊎ ((s : Save D) × In s v.saves × (s.task ≡ t) × (last_save job t v.saves ≡ Some s))) → In d v.book
         pick (inl n) = at_first t own (subst (λ o. In d (needs_of job t o)) n i)
@@ -109,10 +112,13 @@ module _ {D : Type 0} (job : Job D) (laws : IsJob job) (inner : Inner D) (knows 
     idle_in gone busy a zero w i = absurd i
     idle_in gone busy a (suc n) w i = pick (is_idle gone busy a) refl i (idle_in gone busy (a + 1) n w)
       where
-        later : (In w (idle_from gone busy (a + 1) n) → (w < (a + 1) + n) × (is_idle gone busy w ≡ true)) → In w (idle_from gone busy (a + 1) n) → (w < a + suc n) × (is_idle gone busy w ≡ true)
+        later : (In w (idle_from gone busy (a + 1) n) → (w < (a + 1) + n) × (is_idle gone busy w ≡ true)) → In w (idle_from gone busy (a + 1) n)
+            → (w < a + suc n) × (is_idle gone busy w ≡ true)
         later r j = let q = r j in let l = q.0 in (omega (arith, l), q.1)
 
-        pick : (b : Bool) → is_idle gone busy a ≡ b → In w (cond b (a ∷ idle_from gone busy (a + 1) n) (idle_from gone busy (a + 1) n)) → (In w (idle_from gone busy (a + 1) n) → (w < (a + 1) + n) × (is_idle gone busy w ≡ true)) → (w < a + suc n) × (is_idle gone busy w ≡ true)
+        pick : (b : Bool) → is_idle gone busy a ≡ b → In w (cond b (a ∷ idle_from gone busy (a + 1) n) (idle_from gone busy (a + 1) n))
+            → (In w (idle_from gone busy (a + 1) n) → (w < (a + 1) + n) × (is_idle gone busy w ≡ true)) → (w < a + suc n)
+            × (is_idle gone busy w ≡ true)
         pick true e (inl s) r = (omega (arith, s), subst (λ x. is_idle gone busy x ≡ true) (sym s) e)
         pick true e (inr j) r = later r j
         pick false e j r = later r j
@@ -121,7 +127,8 @@ module _ {D : Type 0} (job : Job D) (laws : IsJob job) (inner : Inner D) (knows 
     busy_test [] w = refl
     busy_test (o ∷ os) w = ap (λ b. nat_eq w o.worker || b) (busy_test os w)
 
-    pub ready_step : (p : Plan) (t : Task D) (w : ℕ) → v.over ≡ false → length v.book ≤ p.limit → NoClash job v.book → Ready job v t → In w (idle job p v) → Step job p v (start v.starts w t (last job v t))
+    pub ready_step : (p : Plan) (t : Task D) (w : ℕ) → v.over ≡ false → length v.book ≤ p.limit → NoClash job v.book → Ready job v t
+        → In w (idle job p v) → Step job p v (start v.starts w t (last job v t))
     ready_step p t w going room apart ready i =
         let q = idle_in v.gone (busy job v.orders) 0 p.workers w i in
         let l = q.0 in
@@ -135,10 +142,13 @@ module _ {D : Type 0} (job : Job D) (laws : IsJob job) (inner : Inner D) (knows 
             idle = sym (busy_test v.orders w) ∙ not_true _ b.1;
             needed = reached_needed job laws v inf.saves_ok t ready.reached;
             not_out = ready.not_out;
-            known = each_all (λ d. list_any (job.same d) v.book ≡ true) (job.outputs t) (λ d j. in_any job.same laws.same_refl d v.book (each_of (λ e. In e v.book) d (job.outputs t) j (reached_outputs t ready.reached)));
+            known = each_all (λ d. list_any (job.same d) v.book ≡ true) (job.outputs t)
+                (λ d j. in_any job.same laws.same_refl d v.book
+                (each_of (λ e. In e v.book) d (job.outputs t) j (reached_outputs t ready.reached)));
             some_missing = reached_missing t ready.reached;
             from_last = refl;
-            met = λ ds h. subst (Each (λ d. live job v d ≡ true)) (wait_unique job laws t (last job v t) (needs job v t) ds (last_ok job laws t v.saves inf.saves_ok) h) ready.met;
+            met = λ ds h. subst (Each (λ d. live job v d ≡ true))
+                (wait_unique job laws t (last job v t) (needs job v t) ds (last_ok job laws t v.saves inf.saves_ok) h) ready.met;
           };
           room = room;
           apart = apart;
@@ -149,13 +159,19 @@ module _ {D : Type 0} (job : Job D) (laws : IsJob job) (inner : Inner D) (knows 
       informed_all job laws inner knows p (before_all job) h (informed_start job laws inner knows) l
 
   -- what a reached task waits for is in the book
-  pub reached_needs : (p : Plan) (h : List (Event D)) → Lawful job p h → (t : Task D) → Reached job (standing job h) t → Each (λ d. In d (standing job h).book) (needs job (standing job h) t)
+  pub reached_needs : (p : Plan) (h : List (Event D)) → Lawful job p h → (t : Task D) → Reached job (standing job h) t
+      → Each (λ d. In d (standing job h).book) (needs job (standing job h) t)
   reached_needs p h l t r =
-      each_all (λ d. In d (standing job h).book) (needs job (standing job h) t) (λ d i. needs_booked (standing job h) (informed p h l) t (reached_booked (standing job h) (informed p h l) t r) d i)
+      each_all (λ d. In d (standing job h).book) (needs job (standing job h) t)
+      (λ d i. needs_booked (standing job h) (informed p h l) t (reached_booked (standing job h) (informed p h l) t r) d i)
 
   -- what some worker has is in the book, with all that its object holds
-  pub placed_booked : (p : Plan) (h : List (Event D)) → Lawful job p h → (d : D) (w : ℕ) → In w ((standing job h).places d) → In d (standing job h).book × ((n : ℕ) → Each (λ e. In e (standing job h).book) (inner.carries n d))
-  placed_booked p h l d w i = (inf.shelved.places d w has, λ n. each_all (λ e. In e (standing job h).book) (inner.carries n d) (λ e c. inf.carried d w has n e c))
+  pub placed_booked : (p : Plan) (h : List (Event D)) → Lawful job p h → (d : D) (w : ℕ) → In w ((standing job h).places d)
+      → In d (standing job h).book × ((n : ℕ) → Each (λ e. In e (standing job h).book) (inner.carries n d))
+  placed_booked p h l d w i = (
+    inf.shelved.places d w has,
+    λ n. each_all (λ e. In e (standing job h).book) (inner.carries n d) (λ e c. inf.carried d w has n e c),
+  )
     where
       inf : Informed job laws inner knows (standing job h)
       inf = informed p h l
@@ -164,7 +180,8 @@ module _ {D : Type 0} (job : Job D) (laws : IsJob job) (inner : Inner D) (knows 
       has = in_any nat_eq (λ a. eq-eqb a a refl) w ((standing job h).places d) i
 
   -- so is what is waited for at a saved wait, and held there
-  pub saved_booked : (p : Plan) (h : List (Event D)) → Lawful job p h → (s : Save D) → In s (standing job h).saves → Each (λ d. In d (standing job h).book) s.refs × Each (λ d. In d (standing job h).book) s.holds
+  pub saved_booked : (p : Plan) (h : List (Event D)) → Lawful job p h → (s : Save D) → In s (standing job h).saves
+      → Each (λ d. In d (standing job h).book) s.refs × Each (λ d. In d (standing job h).book) s.holds
   saved_booked p h l s i =
       let k = (informed p h l).saves s i in
       let t = (traced job laws p h l).saves s i in
@@ -172,25 +189,32 @@ module _ {D : Type 0} (job : Job D) (laws : IsJob job) (inner : Inner D) (knows 
       (k.refs, knows.holds_told (standing job h).book s.task s.j s.refs (record { names = s.holds; mark = t.2 }) k.told w t.3)
 
   -- and what the task of an open Start held
-  pub open_booked : (p : Plan) (h : List (Event D)) → Lawful job p h → (o : OpenStart D) → In o (standing job h).orders → (d : D) → HeldAt job o.task o.from d → In d (standing job h).book
+  pub open_booked : (p : Plan) (h : List (Event D)) → Lawful job p h → (o : OpenStart D) → In o (standing job h).orders → (d : D)
+      → HeldAt job o.task o.from d → In d (standing job h).book
   open_booked p h l o i d k =
       let n = (informed p h l).orders o i in
-      each_of (λ e. In e (standing job h).book) d k.1.names k.3 (knows.holds_told (standing job h).book o.task o.from n.here.0 k.1 n.told n.here.1 (k.0, k.2))
+      each_of (λ e. In e (standing job h).book) d k.1.names k.3
+      (knows.holds_told (standing job h).book o.task o.from n.here.0 k.1 n.told n.here.1 (k.0, k.2))
 
-  room_all : (p : Plan) (v : Standing D) (h : List (Event D)) → length v.book ≤ p.limit → LawfulFrom job p v h → length (after_all job v h).book ≤ p.limit
+  room_all : (p : Plan) (v : Standing D) (h : List (Event D)) → length v.book ≤ p.limit → LawfulFrom job p v h
+      → length (after_all job v h).book ≤ p.limit
   room_all p v [] r l = r
   room_all p v (e ∷ es) r l = room_all p (after job v e) es l.0.room l.1
 
   -- a ready task may be started at an idle worker
-  pub ready_starts : (p : Plan) (h : List (Event D)) → 1 ≤ p.limit → Lawful job p h → (standing job h).over ≡ false → (t : Task D) → Ready job (standing job h) t → (w : ℕ) → In w (idle job p (standing job h)) → Lawful job p (h ++ start (standing job h).starts w t (last job (standing job h) t) ∷ [])
+  pub ready_starts : (p : Plan) (h : List (Event D)) → 1 ≤ p.limit → Lawful job p h → (standing job h).over ≡ false → (t : Task D)
+      → Ready job (standing job h) t → (w : ℕ) → In w (idle job p (standing job h))
+      → Lawful job p (h ++ start (standing job h).starts w t (last job (standing job h) t) ∷ [])
   ready_starts p h one l going t r w i =
       lawful_append job p (before_all job) h (start (standing job h).starts w t (last job (standing job h) t)) l
       (ready_step (standing job h) (informed p h l) p t w going (room_all p (before_all job) h one l) (book_apart job laws p h l) r i)
 
   -- where nothing is open, the list of ready tasks isn't empty or there is a circle
-  pub listed_or_circle : (p : Plan) (h : List (Event D)) → Lawful job p h → (standing job h).orders ≡ [] → (ts : List (Task D)) → IsReadyList job (standing job h) ts → ((t : Task D) × In t ts) ⊎ ((ds : List D) × CircleAtRest job (standing job h) ds)
+  pub listed_or_circle : (p : Plan) (h : List (Event D)) → Lawful job p h → (standing job h).orders ≡ [] → (ts : List (Task D))
+      → IsReadyList job (standing job h) ts → ((t : Task D) × In t ts) ⊎ ((ds : List D) × CircleAtRest job (standing job h) ds)
   listed_or_circle p h l none ts k = pick (ready_or_round job laws (standing job h) none)
     where
-      pick : (((t : Task D) × Ready job (standing job h) t) ⊎ ((ds : List D) × CircleAtRest job (standing job h) ds)) → ((t : Task D) × In t ts) ⊎ ((ds : List D) × CircleAtRest job (standing job h) ds)
+      pick : (((t : Task D) × Ready job (standing job h) t) ⊎ ((ds : List D) × CircleAtRest job (standing job h) ds)) → ((t : Task D) × In t ts)
+          ⊎ ((ds : List D) × CircleAtRest job (standing job h) ds)
       pick (inl r) = inl (r.0, ready_listed (standing job h) (informed p h l) ts k r.0 r.1)
       pick (inr c) = inr c

@@ -1,8 +1,10 @@
 -- What a lawful history says of each of its Starts, and how many there are.
-use Rattle.std.proofs.Common.{◌≡◌, ℕ, zero, suc, ◌+◌, ◌*◌, ◌≤◌, List, [], ◌∷◌, ◌++◌, length, length-append, true, false, ◌||◌, nat_eq, Option, Some, None, ◌⊎◌, inl, inr, refl, ap, sym, ◌∙◌, subst, arith, ◌↔◌, eq-eqb}
+use Rattle.std.proofs.Common.{◌≡◌, ℕ, zero, suc, ◌+◌, ◌*◌, ◌≤◌, List, [], ◌∷◌, ◌++◌, length, length-append, true, false, ◌||◌, nat_eq, Option, Some}
+use Rattle.std.proofs.Common.{None, ◌⊎◌, inl, inr, refl, ap, sym, ◌∙◌, subst, arith, ◌↔◌, eq-eqb}
 use Rattle.std.specs.List.{list_any}
 use Rattle.ciel_journal.specs.Job.{Task, show, Job, In, IsJob, WaitOf, Needed}
-use Rattle.ciel_journal.specs.History.{Event, start, done, saved, missed, lost, OpenStart, Plan, Standing, live, live_if, after, after_all, before_all, standing, find_open, close_with, done_with, saved_with, missed_with}
+use Rattle.ciel_journal.specs.History.{Event, start, done, saved, missed, lost, OpenStart, Plan, Standing, live, live_if, after, after_all}
+use Rattle.ciel_journal.specs.History.{before_all, standing, find_open, close_with, done_with, saved_with, missed_with}
 use Rattle.ciel_journal.specs.Lawful.{Lawful}
 use Rattle.ciel_journal.specs.Live.{Live}
 use Rattle.ciel_journal.specs.Work.{Slot, same_slot, Covers, Work, total, starts_of, losses_of}
@@ -38,16 +40,19 @@ module _ {D : Type 0} (job : Job D) (laws : IsJob job) where
           back : Live job h d → live_if job (job.task_of d) ((standing job h).places d) ≡ true
           back (inl n) = let bad : Some t ≡ None = sym e ∙ n in cc
           back (inr x) =
-              ap (λ o. live_if job o ((standing job h).places d)) e ∙ has_some ((standing job h).places d) t x.0 ((places_text job laws p h l x.0 d).1 x.1)
+              ap (λ o. live_if job o ((standing job h).places d)) e
+              ∙ has_some ((standing job h).places d) t x.0 ((places_text job laws p h l x.0 d).1 x.1)
 
   -- each task started is needed, and some output of it isn't live
-  pub started : (p : Plan) (g h : List (Event D)) (k w : ℕ) (t : Task D) (from : ℕ) → Lawful job p (g ++ start k w t from ∷ h) → Needed job t × ((t ≡ show) ⊎ ((d : D) × In d (job.outputs t) × (Live job g d → ⊥)))
+  pub started : (p : Plan) (g h : List (Event D)) (k w : ℕ) (t : Task D) (from : ℕ) → Lawful job p (g ++ start k w t from ∷ h) → Needed job t
+      × ((t ≡ show) ⊎ ((d : D) × In d (job.outputs t) × (Live job g d → ⊥)))
   started p g h k w t from l =
       let q = lawful_split job p (before_all job) g (start k w t from ∷ h) l in
       let a = q.1.0.allowed in
       (a.needed, pick q.0 a.some_missing)
     where
-      pick : Lawful job p g → ((t ≡ show) ⊎ ((d : D) × In d (job.outputs t) × (live job (standing job g) d ≡ false))) → (t ≡ show) ⊎ ((d : D) × In d (job.outputs t) × (Live job g d → ⊥))
+      pick : Lawful job p g → ((t ≡ show) ⊎ ((d : D) × In d (job.outputs t) × (live job (standing job g) d ≡ false))) → (t ≡ show)
+          ⊎ ((d : D) × In d (job.outputs t) × (Live job g d → ⊥))
       pick m (inl s) = inl s
       pick m (inr x) = inr (x.0, x.1, λ y. let z = (live_text p g m x.0).1 y in let n = x.2 in let bad : true ≡ false = sym z ∙ n in cc)
 
@@ -93,7 +98,8 @@ module _ {D : Type 0} (job : Job D) (laws : IsJob job) where
   all_length : (xs : List (Task D × ℕ)) → length (all_slots xs) ≡ total job xs
   all_length [] = refl
   all_length (x ∷ xs) =
-      length-append (slots_to x.0 x.1) (all_slots xs) ∙ (ap (λ n. n + length (all_slots xs)) (slots_length x.0 x.1) ∙ ap (λ n. suc x.1 + n) (all_length xs))
+      length-append (slots_to x.0 x.1) (all_slots xs)
+      ∙ (ap (λ n. n + length (all_slots xs)) (slots_length x.0 x.1) ∙ ap (λ n. suc x.1 + n) (all_length xs))
 
   slot_in : (s : Slot D) (t : Task D) (k : ℕ) → s.task ≡ t → s.from ≤ k → In s (slots_to t k)
   slot_in s t zero e l =
@@ -122,7 +128,8 @@ module _ {D : Type 0} (job : Job D) (laws : IsJob job) where
       let b = starts_bound job laws (all_slots work.tasks) covers p h l in
       let c = starts_after (before_all job) h in
       let e : length (all_slots work.tasks) ≡ m = all_length work.tasks ∙ work.sum in
-      subst (λ n. starts_of job h ≤ (losses_of job h + 1) * n) e (subst (λ n. n ≤ (losses_of job h + 1) * length (all_slots work.tasks)) (c ∙ zero_left (starts_of job h)) b)
+      subst (λ n. starts_of job h ≤ (losses_of job h + 1) * n) e
+      (subst (λ n. n ≤ (losses_of job h + 1) * length (all_slots work.tasks)) (c ∙ zero_left (starts_of job h)) b)
     where
       zero_left : (n : ℕ) → 0 + n ≡ n
       zero_left n = omega arith
@@ -130,7 +137,8 @@ module _ {D : Type 0} (job : Job D) (laws : IsJob job) where
       covers : Covers job (all_slots work.tasks)
       covers t j ds n w s e f =
           let k = (work.needed t).0 n in
-          in_any (same_slot job) (slot_refl job laws) s (all_slots work.tasks) (all_in work.tasks s k.0 (subst (λ u. In (u, k.0) work.tasks) (sym e) k.1) (subst (λ i. i ≤ k.0) (sym f) (below j w)))
+          in_any (same_slot job) (slot_refl job laws) s (all_slots work.tasks)
+          (all_in work.tasks s k.0 (subst (λ u. In (u, k.0) work.tasks) (sym e) k.1) (subst (λ i. i ≤ k.0) (sym f) (below j w)))
         where
           below : (i : ℕ) → WaitOf job t i ds → i ≤ ((work.needed t).0 n).0
           below zero x = omega arith

@@ -1,7 +1,8 @@
 -- What is open and saved is of needed tasks that go by a name of the book, and each description of the book was made by one.
 use Rattle.std.proofs.Common.{◌≡◌, ℕ, ◌-◌, List, [], ◌∷◌, not, ◌⊎◌, inl, inr, sym, subst, nat_eq}
 use Rattle.ciel_journal.specs.Job.{Digest, Task, Job, In, IsJob, Needed, StateOf, made_in}
-use Rattle.ciel_journal.specs.History.{Event, start, done, saved, missed, lost, OpenStart, Plan, Save, Standing, after, after_all, before_all, learned, order_of}
+use Rattle.ciel_journal.specs.History.{Event, start, done, saved, missed, lost, OpenStart, Plan, Save, Standing, after, after_all, before_all}
+use Rattle.ciel_journal.specs.History.{learned, order_of}
 use Rattle.ciel_journal.specs.Lawful.{Allowed, LawfulFrom, own_name}
 use Rattle.ciel_journal.proofs.BookKnown.{learned_from}
 use Rattle.ciel_journal.proofs.Good.{after_done, after_saved, after_missed}
@@ -76,7 +77,12 @@ module _ {D : Type 0} (job : Job D) (laws : IsJob job) where
       new d i =
           let a = step in
           let s = a.2.spawns in
-          inr (a.0.task, (kept.orders a.0 (found_in job laws k v.orders a.0 a.1).0).0, s.0, made_after_in a.0.from (job.acts s.0 a.0.task) d (subst (In d) s.2 i))
+          inr (
+            a.0.task,
+            (kept.orders a.0 (found_in job laws k v.orders a.0 a.1).0).0,
+            s.0,
+            made_after_in a.0.from (job.acts s.0 a.0.task) d (subst (In d) s.2 i),
+          )
   traced_step p v (saved k j mark refs holds spawned) kept step =
       let a = step in
       let sh = shelved_step job laws p v (saved k j mark refs holds spawned) kept.shelved step in
@@ -97,11 +103,13 @@ module _ {D : Type 0} (job : Job D) (laws : IsJob job) where
           let s = a.2.spawns in
           inr (a.0.task, (kept.orders a.0 order).0, s.0, made_between_in a.0.from (j - a.0.from) (job.acts s.0 a.0.task) d (subst (In d) s.2 i))
 
-      pick : (s : Save D) → (In s v.saves ⊎ (s ≡ record { task = step.0.task; j = j; worker = step.0.worker; refs = refs; holds = holds })) → SaveTraced (learned job v.book spawned) s
+      pick : (s : Save D) → (In s v.saves ⊎ (s ≡ record { task = step.0.task; j = j; worker = step.0.worker; refs = refs; holds = holds }))
+          → SaveTraced (learned job v.book spawned) s
       pick s (inl i) = save_later v.book spawned s (kept.saves s i)
       pick s (inr e) =
           let k = kept.orders step.0 order in
-          subst (SaveTraced (learned job v.book spawned)) (sym e) (k.0, learned_in job laws v.book spawned (own_name job step.0.task) k.1, mark, step.2.frozen)
+          subst (SaveTraced (learned job v.book spawned)) (sym e)
+          (k.0, learned_in job laws v.book spawned (own_name job step.0.task) k.1, mark, step.2.frozen)
   traced_step p v (missed k d loss) kept step =
       let a = step in
       let sh = shelved_step job laws p v (missed k d loss) kept.shelved step in

@@ -1,8 +1,11 @@
 -- A line of the journal and what stands before it tell the whole event.
-use Rattle.std.proofs.Common.{◌≡◌, ℕ, zero, suc, ◌+◌, ◌-◌, ◌≤◌, ◌<◌, List, [], ◌∷◌, ◌++◌, length, Some, ◌⊎◌, inl, inr, refl, ap, sym, ◌∙◌, subst, arith, add_comm}
-use Rattle.ciel_journal.specs.Job.{Act, Digest, Each, Held, In, IsJob, Job, Task, ObjectOf, StateOf, after_wait, made, made_before, made_in, of, show, wait, waits_in}
+use Rattle.std.proofs.Common.{◌≡◌, ℕ, zero, suc, ◌+◌, ◌-◌, ◌≤◌, ◌<◌, List, [], ◌∷◌, ◌++◌, length, Some, ◌⊎◌, inl, inr, refl, ap, sym, ◌∙◌, subst}
+use Rattle.std.proofs.Common.{arith, add_comm}
+use Rattle.ciel_journal.specs.Job.{Act, Digest, Each, Held, In, IsJob, Job, Task, ObjectOf, StateOf, after_wait, made, made_before, made_in, of, show}
+use Rattle.ciel_journal.specs.Job.{wait, waits_in}
 use Rattle.ciel_journal.specs.History.{Event, OpenStart, Plan, Standing, after, before_all, done, find_open, lost, missed, saved, start}
-use Rattle.ciel_journal.specs.Lawful.{Copied, DoneAllowed, FetchedFrom, HeldAt, Lawful, LawfulFrom, Marked, MissedAllowed, NoClash, SavedAllowed, SpawnedTo, SpawnedToEnd, Step, own_name}
+use Rattle.ciel_journal.specs.Lawful.{Copied, DoneAllowed, FetchedFrom, HeldAt, Lawful, LawfulFrom, Marked, MissedAllowed, NoClash, SavedAllowed}
+use Rattle.ciel_journal.specs.Lawful.{SpawnedTo, SpawnedToEnd, Step, own_name}
 use Rattle.ciel_journal.specs.Entries.{journal_of, low, low_names, low_task}
 use Rattle.ciel_journal.proofs.Members.{each_of}
 use Rattle.ciel_journal.proofs.Circle.{acts_grow, ended_stays}
@@ -31,7 +34,8 @@ module _ {D : Type 0} where
 
 module _ {D : Type 0} (job : Job D) (laws : IsJob job) where
   -- what was spawned up to a wait
-  spawned_more : (o : OpenStart D) (i : ℕ) (n m : ℕ) → o.from ≤ i → i ≤ length (waits_in (job.acts n o.task)) → made_before (i - o.from) (after_wait o.from (job.acts (m + n) o.task)) ≡ made_before (i - o.from) (after_wait o.from (job.acts n o.task))
+  spawned_more : (o : OpenStart D) (i : ℕ) (n m : ℕ) → o.from ≤ i → i ≤ length (waits_in (job.acts n o.task))
+      → made_before (i - o.from) (after_wait o.from (job.acts (m + n) o.task)) ≡ made_before (i - o.from) (after_wait o.from (job.acts n o.task))
   spawned_more o i n m f l =
       let p = acts_grow job laws m n o.task in
       let w = after_waits o.from (job.acts n o.task) in
@@ -66,7 +70,8 @@ module _ {D : Type 0} (job : Job D) (laws : IsJob job) where
   object_more : (m n : ℕ) (d : D) (a : Digest) → job.object n d ≡ Some a → job.object (m + n) d ≡ Some a
   object_more zero n d a h = let e : zero + n ≡ n = omega arith in subst (λ k. job.object k d ≡ Some a) (sym e) h
   object_more (suc m) n d a h =
-      let e : suc m + n ≡ suc (m + n) = omega arith in subst (λ k. job.object k d ≡ Some a) (sym e) (laws.object_kept (m + n) d a (object_more m n d a h))
+      let e : suc m + n ≡ suc (m + n) = omega arith in
+      subst (λ k. job.object k d ≡ Some a) (sym e) (laws.object_kept (m + n) d a (object_more m n d a h))
 
   pub object_unique : (d : D) (a b : Digest) → ObjectOf job d a → ObjectOf job d b → a ≡ b
   object_unique d a b x y =
@@ -91,7 +96,8 @@ module _ {D : Type 0} (job : Job D) (laws : IsJob job) where
 
   -- ---- events with one entry
 
-  pub same_names : (book : List D) → NoClash job book → (xs ys : List D) → Each (λ d. In d book) xs → Each (λ d. In d book) ys → low_names job xs ≡ low_names job ys → xs ≡ ys
+  pub same_names : (book : List D) → NoClash job book → (xs ys : List D) → Each (λ d. In d book) xs → Each (λ d. In d book) ys → low_names job xs
+      ≡ low_names job ys → xs ≡ ys
   same_names book c [] [] a b e = refl
   same_names book c [] (y ∷ ys) a b e = cc
   same_names book c (x ∷ xs) [] a b e = cc
@@ -100,37 +106,44 @@ module _ {D : Type 0} (job : Job D) (laws : IsJob job) where
       let t : low_names job xs ≡ low_names job ys = cc in
       ap (λ z. z ∷ xs) (c x y a.0 b.0 n) ∙ ap (λ zs. y ∷ zs) (same_names book c xs ys a.1 b.1 t)
 
-  copied_in : (v : Standing D) → Shelved job laws v → (o : OpenStart D) → In o v.orders → (copied : List D) → Each (Copied job o) copied → Each (λ d. In d v.book) copied
+  copied_in : (v : Standing D) → Shelved job laws v → (o : OpenStart D) → In o v.orders → (copied : List D) → Each (Copied job o) copied
+      → Each (λ d. In d v.book) copied
   copied_in v s o f [] h = tt
   copied_in v s o f (d ∷ ds) h = (fetched_in job laws v s o f d h.0.1.0 h.0.1.1, copied_in v s o f ds h.1)
 
-  missed_in : (p : Plan) (v : Standing D) → Shelved job laws v → (o : OpenStart D) → In o v.orders → (d : D) (loss : ℕ) → MissedAllowed job p v o d loss → In d v.book
+  missed_in : (p : Plan) (v : Standing D) → Shelved job laws v → (o : OpenStart D) → In o v.orders → (d : D) (loss : ℕ)
+      → MissedAllowed job p v o d loss → In d v.book
   missed_in p v s o f d loss a = pick a.reason
     where
       pick : ((HeldAt job o.task o.from d × FetchedFrom job o d a.worker) ⊎ ((d ≡ own_name job o.task) × (o.stack ≡ Some a.worker))) → In d v.book
       pick (inl x) = fetched_in job laws v s o f d a.worker x.1
       pick (inr x) = subst (λ z. In z v.book) (sym x.0) (each_of (λ (q : OpenStart D). In (own_name job q.task) v.book) o v.orders f s.own)
 
-  low_same : (v : Standing D) → NoClash job v.book → (t u : Task D) → In (own_name job t) v.book → In (own_name job u) v.book → low_task job t ≡ low_task job u → t ≡ u
+  low_same : (v : Standing D) → NoClash job v.book → (t u : Task D) → In (own_name job t) v.book → In (own_name job u) v.book → low_task job t
+      ≡ low_task job u → t ≡ u
   low_same v c show show a b e = refl
   low_same v c show (of d) a b e = cc
   low_same v c (of d) show a b e = cc
   low_same v c (of d) (of x) a b e = let n : job.name d ≡ job.name x = cc in ap of (c d x a b n)
 
-  same_done : (v : Standing D) → NoClash job v.book → Shelved job laws v → (k : ℕ) (o : OpenStart D) → In o v.orders → (m n : List (D × Digest)) (c d s t : List D) → DoneAllowed job o m c s → DoneAllowed job o n d t → low_names job c ≡ low_names job d → done k m c s ≡ done k n d t
+  same_done : (v : Standing D) → NoClash job v.book → Shelved job laws v → (k : ℕ) (o : OpenStart D) → In o v.orders
+      → (m n : List (D × Digest)) (c d s t : List D) → DoneAllowed job o m c s → DoneAllowed job o n d t → low_names job c ≡ low_names job d
+      → done k m c s ≡ done k n d t
   same_done v clash sh k o f m n c d s t a b y =
       ap (λ z. done k z c s) (same_marked (job.outputs o.task) m n a.marked b.marked)
       ∙ (ap (λ z. done k n z s) (same_names v.book clash c d (copied_in v sh o f c a.fetched) (copied_in v sh o f d b.fetched) y)
       ∙ ap (λ z. done k n d z) (spawned_end_unique o s t a.spawns b.spawns))
 
-  pub same_saved : (k : ℕ) (o : OpenStart D) (j : ℕ) (mark note : Digest) (r q h g s t : List D) → SavedAllowed job o j mark r h s → SavedAllowed job o j note q g t → saved k j mark r h s ≡ saved k j note q g t
+  pub same_saved : (k : ℕ) (o : OpenStart D) (j : ℕ) (mark note : Digest) (r q h g s t : List D) → SavedAllowed job o j mark r h s
+      → SavedAllowed job o j note q g t → saved k j mark r h s ≡ saved k j note q g t
   same_saved k o j mark note r q h g s t a b =
       let w = wait_unique job laws o.task j r q a.next.waits b.next.waits in
       let x = state_unique o.task j (record { names = h; mark = mark }) (record { names = g; mark = note }) a.frozen b.frozen in
       let y = spawned_to_unique o j s t a.next.later a.spawns b.spawns in
       ap (λ z. saved k j mark z h s) w ∙ (ap (λ (z : Held D). saved k j z.mark q z.names s) x ∙ ap (λ z. saved k j note q g z) y)
 
-  pub same_event : (p q : Plan) (v : Standing D) → NoClash job v.book → Shelved job laws v → (a b : Event D) → Step job p v a → Step job q v b → low job a ≡ low job b → a ≡ b
+  pub same_event : (p q : Plan) (v : Standing D) → NoClash job v.book → Shelved job laws v → (a b : Event D) → Step job p v a → Step job q v b
+      → low job a ≡ low job b → a ≡ b
   same_event p q v c sh (start k w t from) (start l u s i) x y e =
       let m : low_task job t ≡ low_task job s = cc in
       let n : t ≡ s = low_same v c t s (started_own job laws p v sh k w t from x.allowed) (started_own job laws q v sh l u s i y.allowed) m in cc
@@ -155,7 +168,8 @@ module _ {D : Type 0} (job : Job D) (laws : IsJob job) where
       let a = x.allowed in
       let b = y.allowed in
       let n : job.name d ≡ job.name f = cc in
-      let s : d ≡ f = c d f (missed_in p v sh a.0 (found_in job laws k v.orders a.0 a.1).0 d i a.2) (missed_in q v sh b.0 (found_in job laws l v.orders b.0 b.1).0 f j b.2) n in cc
+      let s : d ≡ f = c d f (missed_in p v sh a.0 (found_in job laws k v.orders a.0 a.1).0 d i a.2)
+      (missed_in q v sh b.0 (found_in job laws l v.orders b.0 b.1).0 f j b.2) n in cc
   same_event p q v c sh (lost w i) (lost u j) x y e = cc
   same_event p q v c sh (start k w t from) (done l n f u) x y e = cc
   same_event p q v c sh (start k w t from) (saved l i note g f u) x y e = cc
@@ -178,7 +192,8 @@ module _ {D : Type 0} (job : Job D) (laws : IsJob job) where
   same_event p q v c sh (lost w i) (saved l j note g f u) x y e = cc
   same_event p q v c sh (lost w i) (missed l f j) x y e = cc
 
-  same_from : (p q : Plan) (v : Standing D) → NoClash job v.book → Shelved job laws v → (g h : List (Event D)) → LawfulFrom job p v g → LawfulFrom job q v h → journal_of job g ≡ journal_of job h → g ≡ h
+  same_from : (p q : Plan) (v : Standing D) → NoClash job v.book → Shelved job laws v → (g h : List (Event D)) → LawfulFrom job p v g
+      → LawfulFrom job q v h → journal_of job g ≡ journal_of job h → g ≡ h
   same_from p q v c sh [] [] x y e = refl
   same_from p q v c sh [] (b ∷ h) x y e = cc
   same_from p q v c sh (a ∷ g) [] x y e = cc

@@ -62,7 +62,8 @@ module _ {D : Type 0} (f : Fixed D) where
         first = f.first;
         acts = λ n t. acts_by (seen_with n) t;
         ended = λ n t. ends_by (seen_with n) t;
-        at = λ n t j. cond (nat_le j (length (waits_in (acts_by (seen_with n) t)))) (Some (record { names = f.holds t j; mark = f.state_mark t j })) None;
+        at = λ n t j. cond (nat_le j (length (waits_in (acts_by (seen_with n) t))))
+            (Some (record { names = f.holds t j; mark = f.state_mark t j })) None;
         object = λ n d. cond (seen_with n d) (Some (f.object_mark d)) None;
       }
 

@@ -130,7 +130,8 @@ module _ {D : Type 0} (job : Job D) where
     pub object_kept : (n : ℕ) (d : D) (mark : Digest) → job.object n d ≡ Some mark → job.object (suc n) d ≡ Some mark
     -- where a task has ended, each description that it waited for is seen
     pub first_seen : (n : ℕ) (t : Task D) → job.ended n t ≡ true → Each (λ d. job.object n d ≢ None) (job.first t)
-    pub later_seen : (n : ℕ) (t : Task D) (j : ℕ) (ds : List D) → job.ended n t ≡ true → slice_get (waits_in (job.acts n t)) j ≡ Some ds → Each (λ d. job.object n d ≢ None) ds
+    pub later_seen : (n : ℕ) (t : Task D) (j : ℕ) (ds : List D) → job.ended n t ≡ true → slice_get (waits_in (job.acts n t)) j ≡ Some ds
+        → Each (λ d. job.object n d ≢ None) ds
     -- what is seen with one more comes from a task that has ended
     pub unseen : (d : D) (t : Task D) → job.task_of d ≡ Some t → job.object zero d ≡ None
     pub seen : (n : ℕ) (d : D) (t : Task D) → job.task_of d ≡ Some t → job.object (suc n) d ≢ None → job.ended n t ≡ true

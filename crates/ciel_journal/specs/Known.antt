@@ -73,7 +73,10 @@ module _ {D : Type 0} (job : Job D) (inner : Inner D) where
     pub batches : (n : ℕ) (t : Task D) → Batched job [] (job.acts n t)
     -- what a task waits for and holds at a wait, what it makes by what it made before, and what its outputs' objects hold
     pub waits_told : (S : List D) (t : Task D) (i : ℕ) (ds : List D) → TellsTo S t i → WaitOf job t i ds → Each (λ d. In d S) ds
-    pub holds_told : (S : List D) (t : Task D) (i : ℕ) (ds : List D) (a : Held D) → TellsTo S t i → WaitOf job t i ds → StateOf job t i a → Each (λ d. In d S) a.names
-    pub made_told : (S : List D) (t : Task D) (i n : ℕ) (before after : List D) (d : D) → HandedTo S t i → made_before i (job.acts n t) ≡ before ++ d ∷ after → Each (λ e. In e S) before → Around S d
-    pub end_told : (S : List D) (t : Task D) (n : ℕ) (before after : List D) (d : D) → HandedToEnd S t → made_in (job.acts n t) ≡ before ++ d ∷ after → Each (λ e. In e S) before → Around S d
+    pub holds_told : (S : List D) (t : Task D) (i : ℕ) (ds : List D) (a : Held D) → TellsTo S t i → WaitOf job t i ds → StateOf job t i a
+        → Each (λ d. In d S) a.names
+    pub made_told : (S : List D) (t : Task D) (i n : ℕ) (before after : List D) (d : D) → HandedTo S t i → made_before i (job.acts n t) ≡ before
+        ++ d ∷ after → Each (λ e. In e S) before → Around S d
+    pub end_told : (S : List D) (t : Task D) (n : ℕ) (before after : List D) (d : D) → HandedToEnd S t → made_in (job.acts n t) ≡ before ++ d
+        ∷ after → Each (λ e. In e S) before → Around S d
     pub object_told : (S : List D) (t : Task D) (n : ℕ) (d : D) → TellsToEnd S t → In d (job.outputs t) → Each (λ e. In e S) (inner.carries n d)

@@ -1,8 +1,10 @@
 -- Which histories are lawful: what is asked of each event, where this stands before it.
 use Rattle.std.specs.Prelude.{◌≡◌, ℕ, ◌-◌, ◌≤◌, ◌<◌, List, [], ◌∷◌, length, true, false, cond, Option, Some, None, nat_eq, nat_lt, slice_get, ◌⊎◌}
 use Rattle.std.specs.List.{list_any, IsDistinct}
-use Rattle.ciel_journal.specs.Job.{Digest, Task, show, of, Held, Job, In, Each, WaitOf, Ends, Needed, ObjectOf, StateOf, waits_in, after_wait, made_before, made_in}
-use Rattle.ciel_journal.specs.History.{Event, start, done, saved, missed, lost, OpenStart, Standing, Plan, live_in, live, last, is_out, find_open, after, before_all}
+use Rattle.ciel_journal.specs.Job.{Digest, Task, show, of, Held, Job, In, Each, WaitOf, Ends, Needed, ObjectOf, StateOf, waits_in, after_wait}
+use Rattle.ciel_journal.specs.Job.{made_before, made_in}
+use Rattle.ciel_journal.specs.History.{Event, start, done, saved, missed, lost, OpenStart, Standing, Plan, live_in, live, last, is_out, find_open}
+use Rattle.ciel_journal.specs.History.{after, before_all}
 
 module _ {D : Type 0} (job : Job D) where
   -- ---- what the job says of what is done from a Start on

@@ -1,7 +1,8 @@
 -- The laws of a run's journal, each said of every job.
 use Rattle.std.specs.Prelude.{◌≡◌, ℕ, ◌+◌, ◌*◌, ◌≤◌, List, [], ◌∷◌, ◌++◌, length, true, false, Some, ◌⊎◌, ◌↔◌, map}
 use Rattle.ciel_journal.specs.Job.{Digest, Once, Task, show, Job, In, Each, IsJob, IsPrefix, Needed, Never, ObjectOf, StateOf, made_in}
-use Rattle.ciel_journal.specs.History.{Event, OpenStart, Plan, Save, after, done, entered, find_open, order_of, last, needs, learned, live, saved, standing, start, Standing}
+use Rattle.ciel_journal.specs.History.{Event, OpenStart, Plan, Save, after, done, entered, find_open, order_of, last, needs, learned, live, saved}
+use Rattle.ciel_journal.specs.History.{standing, start, Standing}
 use Rattle.ciel_journal.specs.Known.{HeadsFirst, Inner, Knows, Whole}
 use Rattle.ciel_journal.specs.Lawful.{Allowed, HeldAt, Lawful, NextEnd, NextWait, Step, own_name}
 use Rattle.ciel_journal.specs.Live.{Live, LiveAt, LostIn, OpenIn, SavedIn, closes_of, spawned_of}
@@ -108,12 +109,14 @@ module _ (D : Type 0) where
 
   abbrev pub DrivenGoesOn : Type 0
   DrivenGoesOn =
-      (job : Job D) (p : Plan) (h : List (Event D)) (e : Event D) → Driven job p h → Step job p (standing job h) e → Turn job p (standing job h) e → Driven job p (h ++ e ∷ [])
+      (job : Job D) (p : Plan) (h : List (Event D)) (e : Event D) → Driven job p h → Step job p (standing job h) e
+      → Turn job p (standing job h) e → Driven job p (h ++ e ∷ [])
 
   -- what stands then, and its journal
   abbrev pub StandsOn : Type 0
   StandsOn =
-      (job : Job D) (h : List (Event D)) (e : Event D) → (standing job (h ++ e ∷ []) ≡ after job (standing job h) e) × (journal_of job (h ++ e ∷ []) ≡ journal_of job h ++ low job e ∷ [])
+      (job : Job D) (h : List (Event D)) (e : Event D) → (standing job (h ++ e ∷ []) ≡ after job (standing job h) e)
+      × (journal_of job (h ++ e ∷ []) ≡ journal_of job h ++ low job e ∷ [])
 
   -- each part of a driven history is driven from what stands before it
   abbrev pub DrivenInParts : Type 0
@@ -135,7 +138,8 @@ module _ (D : Type 0) where
   -- a saved wait is of a needed task, which goes by a name of the book, and has what its state holds there
   abbrev pub SavedIsState : Type 0
   SavedIsState =
-      OfLawful (λ job p h v. (s : Save D) → In s v.saves → Needed job s.task × In (own_name job s.task) v.book × (mark : Digest) × StateOf job s.task s.j (record { names = s.holds; mark = mark }))
+      OfLawful (λ job p h v. (s : Save D) → In s v.saves → Needed job s.task × In (own_name job s.task) v.book × (mark : Digest)
+      × StateOf job s.task s.j (record { names = s.holds; mark = mark }))
 
   -- each description of the book stands behind the one that its task goes by, or is that one: an executor's first output
   abbrev pub FirstsComeFirst : Type 0
@@ -175,7 +179,8 @@ module _ (D : Type 0) where
   -- each task started was needed
   abbrev pub StartedIsNeeded : Type 0
   StartedIsNeeded =
-      OfJob (λ job. (p : Plan) (before rest : List (Event D)) (k w : ℕ) (t : Task D) (from : ℕ) → Lawful job p (before ++ start k w t from ∷ rest) → Needed job t)
+      OfJob (λ job. (p : Plan) (before rest : List (Event D)) (k w : ℕ) (t : Task D) (from : ℕ)
+      → Lawful job p (before ++ start k w t from ∷ rest) → Needed job t)
 
   -- none was started whose outputs were all live; the root task has none
   abbrev pub StartedIsMissing : Type 0
@@ -212,11 +217,13 @@ module _ (D : Type 0) where
   -- there, where the root task isn't done, a ready task may be started at an idle worker
   abbrev pub ReadyStarts : Type 0
   ReadyStarts =
-      OfKnown (λ job inner p h v. 1 ≤ p.limit → v.over ≡ false → (t : Task D) → Ready job v t → (w : ℕ) → In w (idle job p v) → Lawful job p (h ++ start v.starts w t (last job v t) ∷ []))
+      OfKnown (λ job inner p h v. 1 ≤ p.limit → v.over ≡ false → (t : Task D) → Ready job v t → (w : ℕ) → In w (idle job p v)
+      → Lawful job p (h ++ start v.starts w t (last job v t) ∷ []))
 
   -- a task has one next wait for something outside a list, and none where it comes to its end
   pub record OneNext (job : Job D) : Type 0 where
-    pub wait : (S : List D) (t : Task D) (from j i : ℕ) (r q : List D) → NextWait job (λ d. In d S) t from j r → NextWait job (λ d. In d S) t from i q → (j ≡ i) × (r ≡ q)
+    pub wait : (S : List D) (t : Task D) (from j i : ℕ) (r q : List D) → NextWait job (λ d. In d S) t from j r
+        → NextWait job (λ d. In d S) t from i q → (j ≡ i) × (r ≡ q)
     pub end : (S : List D) (t : Task D) (from j : ℕ) (r : List D) → NextEnd job (λ d. In d S) t from → NextWait job (λ d. In d S) t from j r → ⊥
 
   abbrev pub NextIsOne : Type 0
@@ -227,7 +234,8 @@ module _ (D : Type 0) where
   -- each name made is that of one description of the book, beside the mark of the one object that the job sees for it
   abbrev pub MadeIsSeen : Type 0
   MadeIsSeen =
-      OfLawful (λ job p h v. (k : ℕ) (made : List (D × Digest)) (copied spawned : List D) (d : D) (mark : Digest) → In (done k made copied spawned) h → In (d, mark) made → Publishes job h d mark)
+      OfLawful (λ job p h v. (k : ℕ) (made : List (D × Digest)) (copied spawned : List D) (d : D) (mark : Digest)
+      → In (done k made copied spawned) h → In (d, mark) made → Publishes job h d mark)
 
   -- no name stands with two marks
   abbrev pub OneMark : Type 0

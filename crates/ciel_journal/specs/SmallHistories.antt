@@ -186,7 +186,8 @@ main_again = saved_once ++ (first_square ++ start 2 0 (of main) 1 ∷ [])
 -- both squares are made, and the main call goes on
 abbrev pub two_done : List (Event Piece)
 two_done =
-    main_again ++ (saved 2 2 (state_mark 2) (two ∷ []) (one ∷ two ∷ left ∷ right ∷ []) ([]) ∷ (start 3 0 (of two) 0 ∷ (done 3 ((two, object_mark two) ∷ []) ([]) ([]) ∷ [])))
+    main_again ++ (saved 2 2 (state_mark 2) (two ∷ []) (one ∷ two ∷ left ∷ right ∷ []) ([])
+    ∷ (start 3 0 (of two) 0 ∷ (done 3 ((two, object_mark two) ∷ []) ([]) ([]) ∷ [])))
 
 abbrev pub main_last : List (Event Piece)
 main_last = two_done ++ start 4 0 (of main) 2 ∷ []

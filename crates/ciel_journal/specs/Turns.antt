@@ -1,5 +1,6 @@
 -- Which task and worker come next: the turns of a run, and histories that keep to them.
-use Rattle.std.specs.Prelude.{◌≡◌, ℕ, zero, suc, ◌+◌, ◌*◌, ◌/◌, ◌%◌, ◌^◌, ◌≤◌, ◌<◌, List, [], ◌∷◌, length, Bool, false, cond, not, ◌&&◌, Option, Some, None, nat_eq, nat_le, slice_get, ◌⊎◌}
+use Rattle.std.specs.Prelude.{◌≡◌, ℕ, zero, suc, ◌+◌, ◌*◌, ◌/◌, ◌%◌, ◌^◌, ◌≤◌, ◌<◌, List, [], ◌∷◌, length, Bool, false, cond, not, ◌&&◌, Option, Some}
+use Rattle.std.specs.Prelude.{None, nat_eq, nat_le, slice_get, ◌⊎◌}
 use Rattle.std.specs.List.{list_any}
 use Rattle.ciel_journal.specs.Graph.{Circle, Led, Picks, Runnable, standing_graph}
 use Rattle.ciel_journal.specs.Job.{Task, show, of, Job}

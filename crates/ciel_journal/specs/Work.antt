@@ -34,7 +34,8 @@ module _ {D : Type 0} (job : Job D) where
   -- each needed task stands in the list with each of its waits, the one before its start included
   abbrev pub Covers : List (Slot D) → Type 0
   Covers slots =
-      (t : Task D) (j : ℕ) (ds : List D) → Needed job t → WaitOf job t j ds → (s : Slot D) → s.task ≡ t → s.from ≡ j → list_any (same_slot s) slots ≡ true
+      (t : Task D) (j : ℕ) (ds : List D) → Needed job t → WaitOf job t j ds → (s : Slot D) → s.task ≡ t → s.from ≡ j
+      → list_any (same_slot s) slots ≡ true
 
   abbrev pub total : List (Task D × ℕ) → ℕ
   total [] = 0

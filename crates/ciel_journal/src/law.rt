@@ -11,7 +11,12 @@ ghost use Rattle.ciel_journal.specs.SmallHistories as h;
 ghost use Rattle.ciel_journal.specs.Turns.{CircleAtRest, Driven};
 ghost use Rattle.ciel_journal.specs.Work.{Work};
 ghost use Rattle.ciel_journal.specs.Known.{Knows};
-ghost use Rattle.ciel_journal.specs.Laws.{BookIsMade, BookIsOnce, BookIsTold, BookIsWhole, CircleIsEndless, CountsAreTold, DrivenGoesOn, DrivenInParts, DrivenIsLawful, EnteredAlike, FewStarts, FirstsComeFirst, GoneIsTold, LawfulGoesOn, ListedOrCircle, LiveIsTold, MadeIsSeen, NamedCircleIsEndless, NamesDetermine, NextIsOne, NewIsWhole, OneBook, OneMark, OneState, OneWhole, OneWorker, OpenIsBooked, OpenIsNeeded, OpenIsTold, OpenStood, OverIsTold, PlacedAlike, PlacedIsBooked, PlacesAreTold, ReachedIsBooked, ReadyOrCircle, ReadyStarts, SavedIsBooked, SavedIsState, SavedIsTold, StandsOn, StartedIsMissing, StartedIsNeeded};
+ghost use Rattle.ciel_journal.specs.Laws.{BookIsMade, BookIsOnce, BookIsTold, BookIsWhole, CircleIsEndless, CountsAreTold, DrivenGoesOn};
+ghost use Rattle.ciel_journal.specs.Laws.{DrivenInParts, DrivenIsLawful, EnteredAlike, FewStarts, FirstsComeFirst, GoneIsTold, LawfulGoesOn};
+ghost use Rattle.ciel_journal.specs.Laws.{ListedOrCircle, LiveIsTold, MadeIsSeen, NamedCircleIsEndless, NamesDetermine, NextIsOne, NewIsWhole};
+ghost use Rattle.ciel_journal.specs.Laws.{OneBook, OneMark, OneState, OneWhole, OneWorker, OpenIsBooked, OpenIsNeeded, OpenIsTold, OpenStood};
+ghost use Rattle.ciel_journal.specs.Laws.{OverIsTold, PlacedAlike, PlacedIsBooked, PlacesAreTold, ReachedIsBooked, ReadyOrCircle, ReadyStarts};
+ghost use Rattle.ciel_journal.specs.Laws.{SavedIsBooked, SavedIsState, SavedIsTold, StandsOn, StartedIsMissing, StartedIsNeeded};
 
 /// The small jobs have the laws that are asked of a job, and that of the squares is six Starts of work: the root task, the main
 /// call with its two waits, and the squares.

@@ -1,5 +1,6 @@
 -- No value is written with a float, and values written one after another.
-use Rattle.std.proofs.Common.{◌≡◌, ℕ, false, true, Some, None, if◌then◌else◌, List, [], ◌∷◌, map, Ordering, Less, Equal, Greater, nat_cmp, ℤ, pos, negsuc, refl, ap, ◌∙◌}
+use Rattle.std.proofs.Common.{◌≡◌, ℕ, false, true, Some, None, if◌then◌else◌, List, [], ◌∷◌, map, Ordering, Less, Equal, Greater, nat_cmp, ℤ, pos}
+use Rattle.std.proofs.Common.{negsuc, refl, ap, ◌∙◌}
 use Rattle.std.proofs.lemmas.Bool.{or_from, or_parts}
 use Rattle.std.specs.Ordering.{match_ordering}
 use Rattle.std.specs.Cmp.Lexicographic.{slice_cmp}

@@ -1,12 +1,14 @@
 -- Reading and writing commute with the lowering of references: data holds none.
-use Rattle.std.proofs.Common.{◌≡◌, ℕ, List, Bool, true, false, ◌&&◌, if◌then◌else◌, Option, Some, None, option_map, option_and_then, Err, ℤ, length, nat_lt, refl, sym, ap, ap₂, ◌∙◌}
+use Rattle.std.proofs.Common.{◌≡◌, ℕ, List, Bool, true, false, ◌&&◌, if◌then◌else◌, Option, Some, None, option_map, option_and_then, Err, ℤ, length}
+use Rattle.std.proofs.Common.{nat_lt, refl, sym, ap, ap₂, ◌∙◌}
 use Rattle.std.specs.Str.{is_utf8}
 use Rattle.serde_json.specs.Data.{Data, Items, no_items, item, Members, no_members, member, put}
 use Rattle.serde_json.specs.Data as json
 use Rattle.serde_json.specs.Find.{as_i64}
 use Rattle.serde_json.specs.Read.{read}
 use Rattle.serde_json.specs.Written.{compact_text}
-use Rattle.sky_base.specs.Val.{Val, Vals, Pairs, Desc, null, truth, num, text, list, dict, fun, ref, no_vals, val, no_pairs, pair, is_plain, vals_plain, pairs_plain}
+use Rattle.sky_base.specs.Val.{Val, Vals, Pairs, Desc, null, truth, num, text, list, dict, fun, ref, no_vals, val, no_pairs, pair, is_plain}
+use Rattle.sky_base.specs.Val.{vals_plain, pairs_plain}
 use Rattle.sky_base.specs.Op as op
 use Rattle.sky_base.specs.Name.{low, low_vals, low_pairs}
 use Rattle.sky_law.specs.Lower.{lower}

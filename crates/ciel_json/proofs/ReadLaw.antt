@@ -1,5 +1,6 @@
 -- What bytes are read as keeps the limits and holds no function and no reference.
-use Rattle.std.proofs.Common.{◌≡◌, ℕ, List, [], ◌∷◌, ◌++◌, Bool, true, false, if◌then◌else◌, Option, Some, None, option_map, option_and_then, IfSome, IfOk, Ok, Err, ℤ, length, nat_lt, refl, subst, ltb-false, Ordering, Less, Equal, Greater, nat_cmp}
+use Rattle.std.proofs.Common.{◌≡◌, ℕ, List, [], ◌∷◌, ◌++◌, Bool, true, false, if◌then◌else◌, Option, Some, None, option_map, option_and_then, IfSome}
+use Rattle.std.proofs.Common.{IfOk, Ok, Err, ℤ, length, nat_lt, refl, subst, ltb-false, Ordering, Less, Equal, Greater, nat_cmp}
 use Rattle.std.specs.Ordering.{match_ordering}
 use Rattle.std.specs.Cmp.Lexicographic.{slice_cmp}
 use Rattle.std.specs.Str.{is_utf8}
@@ -7,7 +8,8 @@ use Rattle.serde_json.specs.Data.{Data, Num, Items, no_items, item, Members, no_
 use Rattle.serde_json.specs.Data as json
 use Rattle.serde_json.specs.Find.{as_i64}
 use Rattle.serde_json.specs.Read.{read}
-use Rattle.sky_base.specs.Val.{Val, Vals, Pairs, Desc, null, truth, num, text, list, dict, fun, ref, no_vals, val, no_pairs, pair, size, depth, refs, vals_refs, pairs_refs}
+use Rattle.sky_base.specs.Val.{Val, Vals, Pairs, Desc, null, truth, num, text, list, dict, fun, ref, no_vals, val, no_pairs, pair, size, depth, refs}
+use Rattle.sky_base.specs.Val.{vals_refs, pairs_refs}
 use Rattle.sky_base.specs.Op.{Answer, limited, unless, put}
 use Rattle.sky_base.specs.Tree.{Script}
 use Rattle.sky_law.specs.Refers.{PlainReads, Refers, ValsRefer, PairsRefer}
@@ -262,7 +264,9 @@ module _ {N : Type 0} (P : Val N → Type 0) where
 -- data that is read refers to nothing
 pub json_reads_plain : (gives : Gives) → PlainReads (json_around gives)
 json_reads_plain gives b a e =
-    refs_none a (subst (λ r. IfOk r (Refers (λ d. ⊥))) e (reads_is (Refers (λ d. ⊥)) b (read_is (Refers (λ d. ⊥)) (ValsRefer (λ d. ⊥)) (PairsRefer (λ d. ⊥)) any_text refers_closed b (λ z. any_read (read b)))))
+    refs_none a (subst (λ r. IfOk r (Refers (λ d. ⊥))) e
+    (reads_is (Refers (λ d. ⊥)) b (read_is (Refers (λ d. ⊥)) (ValsRefer (λ d. ⊥)) (PairsRefer (λ d. ⊥)) any_text refers_closed b
+    (λ z. any_read (read b)))))
 
 -- what the meaning is asked of the reading of data
 pub json_reads_sound : (sc : Script) (gives : Gives) → SoundReads sc (json_around gives)

@@ -133,7 +133,8 @@ impl<W: Work> Lane<W> {
 
     pub(crate) fn take<R: Wait>(&mut self, rt: &R) -> Option<W::Out>
         requires { IsSome self.old.out }
-        ensures { MatchOption result (self.new ≡ self.old) (λ x. IfSome self.old.out (λ job. W.fits job x) × (self.new ≡ record self.old { out = None })) }
+        ensures { MatchOption result (self.new ≡ self.old)
+            (λ x. IfSome self.old.out (λ job. W.fits job x) × (self.new ≡ record self.old { out = None })) }
     {
         let taken = self.desk.take(rt);
         if taken.is_some() {
@@ -145,7 +146,8 @@ impl<W: Work> Lane<W> {
     /// Works the job where the lane has no thread, and takes what lies on the desk.
     pub(crate) fn worked<R: Wait>(&mut self, rt: &R) -> Option<W::Out>
         requires { IsSome self.old.out }
-        ensures { MatchOption result (self.new ≡ self.old) (λ x. IfSome self.old.out (λ job. W.fits job x) × (self.new ≡ record self.old { out = None })) }
+        ensures { MatchOption result (self.new ≡ self.old)
+            (λ x. IfSome self.old.out (λ job. W.fits job x) × (self.new ≡ record self.old { out = None })) }
     {
         self.work(rt);
         self.take(rt)

@@ -1,6 +1,7 @@
 // Lanes: so many workers, each with its desk, and the bells by which the master hears whose output is there.
 
-ghost use Rattle.std.specs.Prelude.{◌≡◌, ◌<◌, ◌≤◌, ◌++◌, ◌∷◌, [], ℕ, List, Some, None, length, slice_get, slice_set, IfOk, IfErr, IfSome, IsSome, IsNone, IsSomeAnd, All, MatchOption, ◌^◌, ◌+◌, replicate, vec_capacity, vec_len};
+ghost use Rattle.std.specs.Prelude.{◌≡◌, ◌<◌, ◌≤◌, ◌++◌, ◌∷◌, [], ℕ, List, Some, None, length, slice_get, slice_set, IfOk, IfErr, IfSome, IsSome};
+ghost use Rattle.std.specs.Prelude.{IsNone, IsSomeAnd, All, MatchOption, ◌^◌, ◌+◌, replicate, vec_capacity, vec_len};
 ghost use Rattle.ciel_lanes.specs.Seen.{LaneSeen, IsOut, HasTaken, Closes, lane_at};
 
 use crate::bells::{Listener, Ringer, bells};

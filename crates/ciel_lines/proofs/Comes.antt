@@ -68,7 +68,8 @@ module _ (content : Files) (w : Words) (risen : Type 0) (J : List Entry) (job : 
   root_of : IsTheJob → RootEnds w J job → OfLine content w (λ source inputs. EndsShown w source inputs J)
   root_of t x = λ source inputs st. of_job source inputs job (RootEnds w J) (t source inputs st).1 x
 
-  pub root : IsTheJob → (r : Result (List ℕ) Why) → AnswersSo w J job r → w.plain ≡ false → ShowsResult r → OfLine content w (λ source inputs. EndsShown w source inputs J)
+  pub root : IsTheJob → (r : Result (List ℕ) Why) → AnswersSo w J job r → w.plain ≡ false → ShowsResult r
+      → OfLine content w (λ source inputs. EndsShown w source inputs J)
   root t (Ok b) a p x = root_of t (a.root p)
   root t (Err (Why.Fault fault)) a p x = root_of t (a.root p)
   root t (Err Why.Done) a p x = absurd a.none
@@ -103,7 +104,8 @@ no_run w J job (Err (Why.TooDeepPlain depth)) a n = a.none.0
 
 -- ---- which paths were asked
 
-pub job_asks : (w : Words) (J : List Entry) (job : s.Job) (r : Result (List ℕ) Why) (ps : List (List ℕ)) (b n : Option (List (List ℕ))) → AnswersSo w J job r → Tells b n ps → AsksOf r ps b n
+pub job_asks : (w : Words) (J : List Entry) (job : s.Job) (r : Result (List ℕ) Why) (ps : List (List ℕ)) (b n : Option (List (List ℕ)))
+    → AnswersSo w J job r → Tells b n ps → AsksOf r ps b n
 job_asks w J job (Ok x) ps b n a t = t
 job_asks w J job (Err Why.Memory) ps b n a t = part_whole b n ps t
 job_asks w J job (Err (Why.Syntax kind line col)) ps b n a t = absurd a.none

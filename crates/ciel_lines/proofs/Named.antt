@@ -27,7 +27,8 @@ at path inputs = record { script = path; inputs = inputs }
 
 -- ---- can be run
 
-pub loaded_can : (content : Files) (path : List ℕ) (inputs : List (List ℕ × List ℕ)) (job : s.Job) → length inputs ≤ 256 → IsLoaded content (at path inputs) job → CanRunJob job
+pub loaded_can : (content : Files) (path : List ℕ) (inputs : List (List ℕ × List ℕ)) (job : s.Job) → length inputs ≤ 256
+    → IsLoaded content (at path inputs) job → CanRunJob job
 loaded_can content path inputs job few l =
     let n : length (map name_in inputs) ≡ length inputs = length-map inputs name_in in
     (map name_in inputs, l.read, omega (arith, n, few))
@@ -52,12 +53,14 @@ module _ (content : Files) (w : Words) where
   pub loaded_of : (path : List ℕ) (job : s.Job) → w.script ≡ Some path → IsLoaded content (at path w.inputs) job
       → OfLine content w (λ source inputs. FitsIn (files_of w) source inputs × IsOf source inputs job)
   loaded_of path job e l =
-      by_path (λ f g. (source : List ℕ) (inputs : List Input) → StandsIn content f g source inputs → FitsIn f source inputs × IsOf source inputs job) path e l.stands
+      by_path (λ f g. (source : List ℕ) (inputs : List Input) → StandsIn content f g source inputs → FitsIn f source inputs
+      × IsOf source inputs job) path e l.stands
 
   pub generated_of : (lines : ℕ) (job : s.Job) → w.script ≡ None → w.generate ≡ Some lines → IsOf generator (generated_inputs lines) job
       → OfLine content w (λ source inputs. FitsIn (files_of w) source inputs × IsOf source inputs job)
   generated_of lines job e g o =
-      by_lines (λ f g. (source : List ℕ) (inputs : List Input) → StandsIn content f g source inputs → FitsIn f source inputs × IsOf source inputs job) lines e g
+      by_lines (λ f g. (source : List ℕ) (inputs : List Input) → StandsIn content f g source inputs → FitsIn f source inputs
+      × IsOf source inputs job) lines e g
       (λ source inputs st. (tt, generated_is source inputs st))
     where
       generated_is : (source : List ℕ) (inputs : List Input) → (source ≡ generator) × (inputs ≡ generated_inputs lines) → IsOf source inputs job
@@ -87,21 +90,25 @@ module _ (content : Files) (w : Words) where
     back Why.WriteFault n = absurd n
     back (Why.TooDeepPlain depth) n = absurd n
 
-    unloaded : (path : List ℕ) (why : NoJob) → NotLoaded content (at path w.inputs) risen why → None_of (Some (at path w.inputs)) w.generate (no_job_view why)
+    unloaded : (path : List ℕ) (why : NoJob) → NotLoaded content (at path w.inputs) risen why
+        → None_of (Some (at path w.inputs)) w.generate (no_job_view why)
     unloaded path (NoJob.Syntax kind l c) n = n
     unloaded path (NoJob.Failed p) n = n
     unloaded path (NoJob.TooLong p m) n = n
     unloaded path NoJob.Memory n = n
 
-    pub not_loaded_of : (path : List ℕ) (why : NoJob) → w.script ≡ Some path → NotLoaded content (at path w.inputs) risen why → NoJobBy content w risen [] (no_job_view why)
+    pub not_loaded_of : (path : List ℕ) (why : NoJob) → w.script ≡ Some path → NotLoaded content (at path w.inputs) risen why
+        → NoJobBy content w risen [] (no_job_view why)
     not_loaded_of path why e n = back (no_job_view why) (by_path (λ f g. None_of f g (no_job_view why)) path e (unloaded path why n))
 
     unscripted : (lines : ℕ) (why : NoScript) → RefusedSo generator why → None_of None (Some lines) (no_script_view why)
     unscripted lines (NoScript.Syntax kind l c) n = λ source e. (tt, subst (λ (x : List ℕ). IsSyntaxFault x kind l c) (sym e) n)
     unscripted lines NoScript.Memory n = tt
 
-    pub not_generated_of : (lines : ℕ) (why : NoScript) → w.script ≡ None → w.generate ≡ Some lines → RefusedSo generator why → NoJobBy content w risen [] (no_script_view why)
-    not_generated_of lines why e g n = back (no_script_view why) (by_lines (λ f h. None_of f h (no_script_view why)) lines e g (unscripted lines why n))
+    pub not_generated_of : (lines : ℕ) (why : NoScript) → w.script ≡ None → w.generate ≡ Some lines → RefusedSo generator why
+        → NoJobBy content w risen [] (no_script_view why)
+    not_generated_of lines why e g n = back (no_script_view why)
+        (by_lines (λ f h. None_of f h (no_script_view why)) lines e g (unscripted lines why n))
 
     -- whatever the journal is
     pub no_job_cause : (J : List Entry) (why : Why) → NoJobBy content w risen [] why → CauseOf content w risen J why
@@ -121,7 +128,8 @@ module _ (content : Files) (w : Words) where
 
   -- ---- which paths were asked
 
-  pub loaded_asks : (path : List ℕ) (b n : Option (List (List ℕ))) → w.script ≡ Some path → Tells b n (files.paths_of (at path w.inputs)) → Tells b n (paths_in (files_of w))
+  pub loaded_asks : (path : List ℕ) (b n : Option (List (List ℕ))) → w.script ≡ Some path → Tells b n (files.paths_of (at path w.inputs))
+      → Tells b n (paths_in (files_of w))
   loaded_asks path b n e t = by_path (λ f g. Tells b n (paths_in f)) path e t
 
   asked_so : (why : NoJob) (ps : List (List ℕ)) (b n : Option (List (List ℕ))) → AsksJob why ps b n → AsksFor (no_job_view why) ps b n
@@ -130,5 +138,7 @@ module _ (content : Files) (w : Words) where
   asked_so (NoJob.TooLong p m) ps b n a = a
   asked_so NoJob.Memory ps b n a = a
 
-  pub not_loaded_asks : (path : List ℕ) (why : NoJob) (b n : Option (List (List ℕ))) → w.script ≡ Some path → AsksJob why (files.paths_of (at path w.inputs)) b n → AsksFor (no_job_view why) (paths_in (files_of w)) b n
-  not_loaded_asks path why b n e a = by_path (λ f g. AsksFor (no_job_view why) (paths_in f) b n) path e (asked_so why (files.paths_of (at path w.inputs)) b n a)
+  pub not_loaded_asks : (path : List ℕ) (why : NoJob) (b n : Option (List (List ℕ))) → w.script ≡ Some path
+      → AsksJob why (files.paths_of (at path w.inputs)) b n → AsksFor (no_job_view why) (paths_in (files_of w)) b n
+  not_loaded_asks path why b n e a = by_path (λ f g. AsksFor (no_job_view why) (paths_in f) b n) path e
+      (asked_so why (files.paths_of (at path w.inputs)) b n a)

@@ -1,5 +1,6 @@
 -- What a job comes to, by the sequential interpreter or on the engine, is what is said of a job that ran.
-use Rattle.std.proofs.Common.{◌≡◌, ◌<◌, ◌≤◌, ◌^◌, ℕ, List, [], true, false, inl, inr, Option, Some, None, Result, Ok, Err, IfErr, IfOk, length, refl, sym, ap, subst, ◌∙◌, arith}
+use Rattle.std.proofs.Common.{◌≡◌, ◌<◌, ◌≤◌, ◌^◌, ℕ, List, [], true, false, inl, inr, Option, Some, None, Result, Ok, Err, IfErr, IfOk, length, refl}
+use Rattle.std.proofs.Common.{sym, ap, subst, ◌∙◌, arith}
 use Rattle.sky_base.specs.See as s
 use Rattle.sky_base.specs.See.{Answered}
 use Rattle.ciel_engine.specs.Onward.{IsRead}

@@ -105,7 +105,8 @@ where
     requires losses { Each (λ (loss : ℕ × ℕ). loss.1 < plan.workers) plan.losses }
     requires gates { length gates.old.items ≡ 64 }
     ensures end { EndsSo (digest_of names) (job_view job) gives (plan_view plan) (map entry_view result.journal.items) result.end }
-    ensures told { result.end ≢ RunEnd.Memory → ToldBy (map entry_view result.journal.items) (told_of G.entered plan.workers gates.old.items) (told_of G.entered plan.workers gates.new.items) }
+    ensures told { result.end ≢ RunEnd.Memory → ToldBy (map entry_view result.journal.items) (told_of G.entered plan.workers gates.old.items)
+        (told_of G.entered plan.workers gates.new.items) }
     ensures others { result.end ≢ RunEnd.Memory → drop plan.workers gates.new.items ≡ drop plan.workers gates.old.items }
     ensures all { result.end ≢ RunEnd.Memory → length gates.new.items ≡ 64 }
 {
@@ -124,7 +125,9 @@ where
     requires job { CanRunJob (job_view job) }
     requires gates { length gates.old.items ≡ 64 }
     ensures answers { AnswersSo line.now (map entry_view result.journal.items) (job_view job) result.result }
-    ensures told { result.result ≢ Err Why.Memory → ToldBy (map entry_view result.journal.items) (told_of G.entered line.now.workers gates.old.items) (told_of G.entered line.now.workers gates.new.items) }
+    ensures told { result.result ≢ Err Why.Memory
+        → ToldBy (map entry_view result.journal.items) (told_of G.entered line.now.workers gates.old.items)
+        (told_of G.entered line.now.workers gates.new.items) }
     ensures others { result.result ≢ Err Why.Memory → drop line.now.workers gates.new.items ≡ drop line.now.workers gates.old.items }
     ensures all { result.result ≢ Err Why.Memory → length gates.new.items ≡ 64 }
     ensures plain { line.now.plain ≡ true → gates.new ≡ gates.old }

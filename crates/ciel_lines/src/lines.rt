@@ -57,7 +57,8 @@ fn why_no_script(no: NoScript) -> Why
 fn job_of<F: Files>(alloc: Global, line: &Words, files: &mut F) -> Result<Job, Why>
     requires line { LineIsSound line.now }
     ensures read { IfOk result (λ job. CanRunJob (job_view job)) }
-    ensures job { IfOk result (λ job. OfLine (F.content files.old) line.now (λ source inputs. FitsIn (files_of line.now) source inputs × IsOf source inputs (job_view job))) }
+    ensures job { IfOk result (λ job. OfLine (F.content files.old) line.now
+        (λ source inputs. FitsIn (files_of line.now) source inputs × IsOf source inputs (job_view job))) }
     ensures none { IfErr result (NoJobBy (F.content files.old) line.now (HasRisen (F.faults files.old) (F.faults files.new)) []) }
     ensures asked { OnOk result (Tells (F.asked files.old) (F.asked files.new) (paths_in (files_of line.now))) }
     ensures asks { IfErr result (λ why. AsksFor why (paths_in (files_of line.now)) (F.asked files.old) (F.asked files.new)) }
@@ -90,13 +91,18 @@ where
     R: Threads + Wait + Copy + Send + Drop + 'static,
     requires line { LineIsSound line.now }
     requires gates { length gates.old.items ≡ 64 }
-    ensures bytes { IfOk result.result (λ b. OfRun (F.content files.old) line.now (HasRisen (F.faults files.old) (F.faults files.new)) (map entry_view result.journal.items) (λ job. Means job over_lines (Meant.bytes b))) }
-    ensures none { IfErr result.result (CauseOf (F.content files.old) line.now (HasRisen (F.faults files.old) (F.faults files.new)) (map entry_view result.journal.items)) }
+    ensures bytes { IfOk result.result (λ b. OfRun (F.content files.old) line.now (HasRisen (F.faults files.old) (F.faults files.new))
+        (map entry_view result.journal.items) (λ job. Means job over_lines (Meant.bytes b))) }
+    ensures none { IfErr result.result (CauseOf (F.content files.old) line.now (HasRisen (F.faults files.old) (F.faults files.new))
+        (map entry_view result.journal.items)) }
     ensures driven { OfLine (F.content files.old) line.now (λ source inputs. IsDriven line.now source inputs (map entry_view result.journal.items)) }
-    ensures root { line.now.plain ≡ false → ShowsResult result.result → OfLine (F.content files.old) line.now (λ source inputs. EndsShown line.now source inputs (map entry_view result.journal.items)) }
+    ensures root { line.now.plain ≡ false → ShowsResult result.result
+        → OfLine (F.content files.old) line.now (λ source inputs. EndsShown line.now source inputs (map entry_view result.journal.items)) }
     ensures empty { NoRunOf line.now.plain result.result → map entry_view result.journal.items ≡ [] }
     ensures kept { NoRunOf line.now.plain result.result → gates.new ≡ gates.old }
-    ensures told { result.result ≢ Err Why.Memory → ToldBy (map entry_view result.journal.items) (told_of G.entered line.now.workers gates.old.items) (told_of G.entered line.now.workers gates.new.items) }
+    ensures told { result.result ≢ Err Why.Memory
+        → ToldBy (map entry_view result.journal.items) (told_of G.entered line.now.workers gates.old.items)
+        (told_of G.entered line.now.workers gates.new.items) }
     ensures others { result.result ≢ Err Why.Memory → drop line.now.workers gates.new.items ≡ drop line.now.workers gates.old.items }
     ensures all { result.result ≢ Err Why.Memory → length gates.new.items ≡ 64 }
     ensures asks { AsksOf result.result (paths_in (files_of line.now)) (F.asked files.old) (F.asked files.new) }

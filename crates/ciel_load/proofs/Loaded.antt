@@ -37,7 +37,8 @@ source_is None read source e h = absurd cc
 source_is (Some f) read source e h = h ∙ cc
 
 -- what a job asks where a file wasn't read is what its reads asked
-pub job_asks : (A : Type 0) (e : Unread) (b n : Option (List (List ℕ))) (ps : List (List ℕ)) → AsksEach {A = A} (Err e) ps b n → AsksJob (unread e) ps b n
+pub job_asks : (A : Type 0) (e : Unread) (b n : Option (List (List ℕ))) (ps : List (List ℕ)) → AsksEach {A = A} (Err e) ps b n
+    → AsksJob (unread e) ps b n
 job_asks A (Unread.Failed path) b n ps a = a
 job_asks A (Unread.TooLong path at) b n ps a = a
 job_asks A Unread.Memory b n ps a = a
@@ -47,7 +48,8 @@ module _ (content : Files) (path : List ℕ) (is : List Named) where
   line = record { script = path; inputs = is }
 
   -- the script of a line was read, and is one
-  script_is : (read : List ℕ) (keys : List (List ℕ)) (script : Script) → IfSome (content path) (λ file. read ≡ file) → length read ≤ limit → keys ≡ map name_in is → IsScript read keys script
+  script_is : (read : List ℕ) (keys : List (List ℕ)) (script : Script) → IfSome (content path) (λ file. read ≡ file) → length read ≤ limit → keys
+      ≡ map name_in is → IsScript read keys script
       → (source : List ℕ) (inputs : List Input) → Holds content line source inputs → (length source ≤ limit) × IsScript source (keys_of inputs) script
   script_is read keys script found within named s source inputs h =
       let same : read ≡ source = source_is (content path) read source h.source_there found in
@@ -56,7 +58,8 @@ module _ (content : Files) (path : List ℕ) (is : List Named) where
         subst (λ (bytes : List ℕ). IsScript bytes (keys_of inputs) script) same (subst (λ (ks : List (List ℕ)). IsScript read ks script) their s),
       )
 
-  pub loaded : (job : Job) (read : List ℕ) (keys : List (List ℕ)) → IfSome (content path) (λ file. read ≡ file) → length read ≤ limit → keys ≡ map name_in is → IsScript read keys job.script
+  pub loaded : (job : Job) (read : List ℕ) (keys : List (List ℕ)) → IfSome (content path) (λ file. read ≡ file) → length read ≤ limit → keys
+      ≡ map name_in is → IsScript read keys job.script
       → ReadAll content is job.inputs → IsLoaded content line job
   loaded job read keys found within named s all = record {
     read = record {
@@ -81,7 +84,8 @@ module _ (content : Files) (path : List ℕ) (is : List Named) where
   script_unread risen Unread.Memory u = tt
 
   -- an input wasn't
-  pub input_unread : (risen later : Type 0) (e : Unread) (read : List ℕ) (keys : List (List ℕ)) (script : Script) → (risen → later) → IfSome (content path) (λ file. read ≡ file) → length read ≤ limit → keys ≡ map name_in is → IsScript read keys script
+  pub input_unread : (risen later : Type 0) (e : Unread) (read : List ℕ) (keys : List (List ℕ)) (script : Script) → (risen → later)
+      → IfSome (content path) (λ file. read ≡ file) → length read ≤ limit → keys ≡ map name_in is → IsScript read keys script
       → UnreadOf content is risen e → NotLoaded content line later (unread e)
   input_unread risen later (Unread.Failed at) read keys script f found within named s u = (there path at (map path_in is) u.0, f u.1)
   input_unread risen later (Unread.TooLong at n) read keys script f found within named s u = (
@@ -93,7 +97,8 @@ module _ (content : Files) (path : List ℕ) (is : List Named) where
   input_unread risen later Unread.Memory read keys script f found within named s u = tt
 
   -- the bytes are none
-  pub syntax_is : (told : Option (List ℕ)) (read source : List ℕ) (P : List ℕ → Type 0) → told ≡ Some source → IfSome told (λ file. read ≡ file) → P read → P source
+  pub syntax_is : (told : Option (List ℕ)) (read source : List ℕ) (P : List ℕ → Type 0) → told ≡ Some source → IfSome told (λ file. read ≡ file)
+      → P read → P source
   syntax_is told read source P e found p = subst P (source_is told read source e found) p
 
   -- ---- which paths were asked
@@ -104,8 +109,10 @@ module _ (content : Files) (path : List ℕ) (is : List Named) where
   pub all_asked : (b m n : Option (List (List ℕ))) → Tells b m (path ∷ []) → Tells m n (map path_in is) → Tells b n (paths_of line)
   all_asked b m n t u = tells_more b m n (path ∷ []) (map path_in is) t u
 
-  pub input_asked : (A : Type 0) (e : Unread) (b m n : Option (List (List ℕ))) → Tells b m (path ∷ []) → AsksEach {A = A} (Err e) (map path_in is) m n → AsksJob (unread e) (paths_of line) b n
+  pub input_asked : (A : Type 0) (e : Unread) (b m n : Option (List (List ℕ))) → Tells b m (path ∷ [])
+      → AsksEach {A = A} (Err e) (map path_in is) m n → AsksJob (unread e) (paths_of line) b n
   input_asked A e b m n t u = job_asks A e b n (paths_of line) (asks_more {A = A} (Err e) b m n path (map path_in is) t u)
 
-  pub script_asked : (A : Type 0) (e : Unread) (b n : Option (List (List ℕ))) → AsksEach {A = A} (Err e) (path ∷ []) b n → AsksJob (unread e) (paths_of line) b n
+  pub script_asked : (A : Type 0) (e : Unread) (b n : Option (List (List ℕ))) → AsksEach {A = A} (Err e) (path ∷ []) b n
+      → AsksJob (unread e) (paths_of line) b n
   script_asked A e b n u = job_asks A e b n (paths_of line) (asks_first A A e b n path (map path_in is) u)

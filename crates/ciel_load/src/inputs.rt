@@ -33,7 +33,8 @@ pub(crate) fn keys(alloc: Global, inputs: &[(Txt, Txt)]) -> Result<Texts, Memory
 /// One input.
 fn input<F: Files>(alloc: Global, named: &(Txt, Txt), files: &mut F) -> Result<(Txt, Bytes), Unread>
     ensures read { IfOk result (λ i. ReadSo (F.content files.old) named.now i) }
-    ensures unread { IfErr result (UnreadSo (F.content files.old) (path_in named.now) input_limit (HasRisen (F.faults files.old) (F.faults files.new))) }
+    ensures unread { IfErr result (UnreadSo (F.content files.old) (path_in named.now) input_limit
+        (HasRisen (F.faults files.old) (F.faults files.new))) }
     ensures asks { AsksEach result (path_in named.now ∷ []) (F.asked files.old) (F.asked files.new) }
     ensures never_falls { F.faults files.old ≤ F.faults files.new }
     ensures kept { F.content files.new ≡ F.content files.old }

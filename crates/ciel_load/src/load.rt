@@ -64,9 +64,11 @@ pub fn load<F: Files>(
     files: &mut F,
 ) -> Result<Job, NoJob>
     ensures job { IfOk result (λ job. IsLoaded (F.content files.old) (record { script = path.now; inputs = named.now }) (job_view job)) }
-    ensures refused { IfErr result (NotLoaded (F.content files.old) (record { script = path.now; inputs = named.now }) (HasRisen (F.faults files.old) (F.faults files.new))) }
+    ensures refused { IfErr result (NotLoaded (F.content files.old) (record { script = path.now; inputs = named.now })
+        (HasRisen (F.faults files.old) (F.faults files.new))) }
     ensures asked { OnOk result (Tells (F.asked files.old) (F.asked files.new) (paths_of (record { script = path.now; inputs = named.now }))) }
-    ensures asks { IfErr result (λ why. AsksJob why (paths_of (record { script = path.now; inputs = named.now })) (F.asked files.old) (F.asked files.new)) }
+    ensures asks { IfErr result (λ why. AsksJob why (paths_of (record { script = path.now; inputs = named.now })) (F.asked files.old)
+        (F.asked files.new)) }
 {
     let Ok(keys) = keys(alloc, named) else {
         return Err(NoJob::Memory);

@@ -1,12 +1,15 @@
 -- One row more.
-use Rattle.std.proofs.Common.{◌≡◌, ◌≤◌, ◌+◌, ℕ, zero, suc, ◌<◌, List, [], ◌∷◌, ◌++◌, length, length-set, length-append, Bool, true, false, not, ◌||◌, ◌&&◌, set, slice_get, refl, ap, sym, ◌∙◌, subst, arith, ◌⊎◌, inl, inr, Option, Some, None, is_some}
+use Rattle.std.proofs.Common.{◌≡◌, ◌≤◌, ◌+◌, ℕ, zero, suc, ◌<◌, List, [], ◌∷◌, ◌++◌, length, length-set, length-append, Bool, true, false, not, ◌||◌}
+use Rattle.std.proofs.Common.{◌&&◌, set, slice_get, refl, ap, sym, ◌∙◌, subst, arith, ◌⊎◌, inl, inr, Option, Some, None, is_some}
 use Rattle.std.specs.Option.{option_map_or, option_and_then}
 use Rattle.ciel_journal.specs.Graph.{Led, root, through}
 use Rattle.ciel_journal.specs.Job.{In}
 use Rattle.ciel_marks.specs.Lists.{at, entry, flag}
-use Rattle.ciel_marks.specs.Marks.{Active, Counted, Filed, Justified, LacksIt, Least, Listed, MarksSeen, Needs, Right, Stands, Watches, is_live, maker, net}
+use Rattle.ciel_marks.specs.Marks.{Active, Counted, Filed, Justified, LacksIt, Least, Listed, MarksSeen, Needs, Right, Stands, Watches, is_live}
+use Rattle.ciel_marks.specs.Marks.{maker, net}
 use Rattle.ciel_marks.specs.Moves.{Added, IsNode, SameNeeds, filed, grown}
-use Rattle.ciel_marks.proofs.Slots.{at_here, at_more, at_other, entry_within, flag_more, flag_within, get_before, get_last, in_last, in_left, in_push, nat_cases, not_both, set_last}
+use Rattle.ciel_marks.proofs.Slots.{at_here, at_more, at_other, entry_within, flag_more, flag_within, get_before, get_last, in_last, in_left, in_push}
+use Rattle.ciel_marks.proofs.Slots.{nat_cases, not_both, set_last}
 use Rattle.ciel_marks.proofs.Keeping.{all_counted, counted_still, lack_made, least_in, led_wanted}
 
 -- the lists of a graph with one row more
@@ -50,7 +53,10 @@ module _ (m : MarksSeen) (is : Bool) (by : Option ℕ) where
         orphans = orphans;
       }
 
-  module _ (before after : Needs) (right : Right m before) (node : IsNode (suc (length m.live)) by) (same : SameNeeds m before after) (known : m.orphans ≡ false) (makes : List (List ℕ)) (orphans : Bool) (fit : (by ≡ None) → (is ≡ true) × (orphans ≡ true)) (longs : length makes ≡ suc (suc (length m.live))) (pushed : (u : ℕ) → (by ≡ Some u) → at makes u ≡ at m.makes u ++ length m.live ∷ []) (kept : (u : ℕ) → ((by ≡ Some u) → ⊥) → at makes u ≡ at m.makes u) where
+  module _ (before after : Needs) (right : Right m before) (node : IsNode (suc (length m.live)) by) (same : SameNeeds m before after)
+      (known : m.orphans ≡ false) (makes : List (List ℕ)) (orphans : Bool) (fit : (by ≡ None) → (is ≡ true) × (orphans ≡ true))
+      (longs : length makes ≡ suc (suc (length m.live))) (pushed : (u : ℕ) → (by ≡ Some u) → at makes u ≡ at m.makes u ++ length m.live ∷ [])
+      (kept : (u : ℕ) → ((by ≡ Some u) → ⊥) → at makes u ≡ at m.makes u) where
     s : Stands m before [] []
     s = right.0
 
@@ -95,12 +101,15 @@ module _ (m : MarksSeen) (is : Bool) (by : Option ℕ) where
         here : In d (after x)
         here = subst (In d) (sym (same x (led_wanted m before right x l, o))) i
 
-        row : (e : Option ℕ) → d ≡ e → maker m.makers d ≡ Some w → Led (net after (m.live ++ is ∷ []) (m.makers ++ by ∷ []) (m.out ++ false ∷ [])) x → Led (net after (m.live ++ is ∷ []) (m.makers ++ by ∷ []) (m.out ++ false ∷ [])) w
+        row : (e : Option ℕ) → d ≡ e → maker m.makers d ≡ Some w
+            → Led (net after (m.live ++ is ∷ []) (m.makers ++ by ∷ []) (m.out ++ false ∷ [])) x
+            → Led (net after (m.live ++ is ∷ []) (m.makers ++ by ∷ []) (m.out ++ false ∷ [])) w
         row None e z g = let p : None ≡ Some w = ap (maker m.makers) (sym e) ∙ z in cc
         row (Some r) e z g =
             let y : entry m.makers r ≡ Some w = ap (maker m.makers) (sym e) ∙ z in
             let b = maker_within r w y in
-            through g (flag_more m.out x ∙ o) d here (ap (is_live (m.live ++ is ∷ [])) e ∙ (live_before r b ∙ (ap (is_live m.live) (sym e) ∙ f))) (ap (maker (m.makers ++ by ∷ [])) e ∙ (maker_before r b ∙ y))
+            through g (flag_more m.out x ∙ o) d here (ap (is_live (m.live ++ is ∷ [])) e ∙ (live_before r b ∙ (ap (is_live m.live) (sym e) ∙ f)))
+            (ap (maker (m.makers ++ by ∷ [])) e ∙ (maker_before r b ∙ y))
 
     -- what a node makes
     in_makes : (w r : ℕ) → In r (at m.makes w) → In r (at makes w)
@@ -203,11 +212,19 @@ module _ (m : MarksSeen) (is : Bool) (by : Option ℕ) where
 
     counted : (w : ℕ) → Active m w → Counted m before [] w → Counted (more makes orphans) after [] w
     counted w a c =
-        counted_still m (more makes orphans) before after [] [] w (same w a) live_after lack (at_more m.lacks w) (λ x. (at_more m.lacks w ∙ x.0, listed w x.1)) watch (λ h. h) c
+        counted_still m (more makes orphans) before after [] [] w (same w a) live_after lack (at_more m.lacks w)
+        (λ x. (at_more m.lacks w ∙ x.0, listed w x.1)) watch (λ h. h) c
       where
         lack : (d : Option ℕ) → LacksIt m w d → (is_live (m.live ++ is ∷ []) d ≡ true) ⊎ LacksIt (more makes orphans) w d
         lack d x =
-            inr (x.0, x.1, x.2, subst (In x.0) (sym (at_more m.lacks w)) x.3, maker_before x.0 (maker_within x.0 x.1 x.4) ∙ x.4, flag_more m.wanted x.1 ∙ x.5)
+            inr (
+              x.0,
+              x.1,
+              x.2,
+              subst (In x.0) (sym (at_more m.lacks w)) x.3,
+              maker_before x.0 (maker_within x.0 x.1 x.4) ∙ x.4,
+              flag_more m.wanted x.1 ∙ x.5,
+            )
 
         watch : Watches m w → Watches (more makes orphans) w ⊎ In w []
         watch x =
@@ -284,7 +301,8 @@ not_full false false None e = cc
 not_full false false (Some u) e = (refl, λ z. cc)
 
 module _ (m : MarksSeen) (is : Bool) (by : Option ℕ) where
-  more_is : length m.makers ≡ length m.live → filed (length m.live) is by (grown m) ≡ more m is by (makes_of m.makes (length m.live) by) (orphans_of m.orphans by)
+  more_is : length m.makers ≡ length m.live → filed (length m.live) is by (grown m)
+      ≡ more m is by (makes_of m.makes (length m.live) by) (orphans_of m.orphans by)
   unfolding makes_of orphans_of
   more_is e = turn by refl
     where
@@ -294,15 +312,28 @@ module _ (m : MarksSeen) (is : Bool) (by : Option ℕ) where
       makers_is : (o : Option ℕ) → set (m.makers ++ None ∷ []) (length m.live) o ≡ m.makers ++ o ∷ []
       makers_is o = ap (λ i. set (m.makers ++ None ∷ []) i o) (sym e) ∙ set_last m.makers None o
 
-      turn : (o : Option ℕ) → by ≡ o → filed (length m.live) is o (grown m) ≡ more m is o (makes_of m.makes (length m.live) o) (orphans_of m.orphans o)
+      turn : (o : Option ℕ) → by ≡ o → filed (length m.live) is o (grown m)
+          ≡ more m is o (makes_of m.makes (length m.live) o) (orphans_of m.orphans o)
       turn None z =
           ap (λ ls. record (grown m) { live = ls; makers = set (m.makers ++ None ∷ []) (length m.live) None; orphans = true }) live_is
           ∙ ap (λ ms. record (grown m) { live = m.live ++ is ∷ []; makers = ms; orphans = true }) (makers_is None)
       turn (Some u) z =
-          ap (λ ls. record (grown m) { live = ls; makers = set (m.makers ++ None ∷ []) (length m.live) (Some u); makes = set (m.makes ++ [] ∷ []) u (at (m.makes ++ [] ∷ []) u ++ length m.live ∷ []) }) live_is
-          ∙ ap (λ ms. record (grown m) { live = m.live ++ is ∷ []; makers = ms; makes = set (m.makes ++ [] ∷ []) u (at (m.makes ++ [] ∷ []) u ++ length m.live ∷ []) }) (makers_is (Some u))
+          ap (λ ls. record (grown m) {
+            live = ls;
+            makers = set (m.makers ++ None ∷ []) (length m.live) (Some u);
+            makes =
+                set (m.makes ++ [] ∷ []) u (at (m.makes ++ [] ∷ []) u ++ length m.live ∷ []);
+          }) live_is
+          ∙ ap (λ ms. record (grown m) {
+            live = m.live ++ is ∷ [];
+            makers = ms;
+            makes =
+                set (m.makes ++ [] ∷ []) u (at (m.makes ++ [] ∷ []) u ++ length m.live ∷ []);
+          }) (makers_is (Some u))
 
-  pub adds : (n p : MarksSeen) (r : ℕ) → m.orphans || (not is && not (is_some by)) ≡ false → r ≡ length m.live → n ≡ grown m → p ≡ filed r is by n → (before after : Needs) → IsNode (suc (length m.live)) by → SameNeeds m before after → Right m before → Added is by m p × Right p after
+  pub adds : (n p : MarksSeen) (r : ℕ) → m.orphans || (not is && not (is_some by)) ≡ false → r ≡ length m.live → n ≡ grown m → p
+      ≡ filed r is by n → (before after : Needs) → IsNode (suc (length m.live)) by → SameNeeds m before after → Right m before → Added is by m p
+      × Right p after
   unfolding makes_of orphans_of
   adds n p r full row grew file before after node same right = (
     record {
@@ -311,7 +342,8 @@ module _ (m : MarksSeen) (is : Bool) (by : Option ℕ) where
       makers = ap (λ (x : MarksSeen). x.makers) z;
       out = ap (λ (x : MarksSeen). x.out) z;
     },
-    subst (λ x. Right x after) (sym z) (adds_right m is by before after right node same q.0 (makes_of m.makes (length m.live) by) (orphans_of m.orphans by) (λ e. (q.1 e, ap (orphans_of m.orphans) e)) (longs by) (λ u e. pushed by u node e) (λ u f. kept by u f)),
+    subst (λ x. Right x after) (sym z) (adds_right m is by before after right node same q.0 (makes_of m.makes (length m.live) by)
+        (orphans_of m.orphans by) (λ e. (q.1 e, ap (orphans_of m.orphans) e)) (longs by) (λ u e. pushed by u node e) (λ u f. kept by u f)),
   )
     where
       s : Stands m before [] []
@@ -335,7 +367,8 @@ module _ (m : MarksSeen) (is : Bool) (by : Option ℕ) where
       longs (Some u) =
           length-set (m.makes ++ [] ∷ []) u (at (m.makes ++ [] ∷ []) u ++ length m.live ∷ []) ∙ one
 
-      pushed : (o : Option ℕ) (u : ℕ) → IsNode (suc (length m.live)) o → o ≡ Some u → at (makes_of m.makes (length m.live) o) u ≡ at m.makes u ++ length m.live ∷ []
+      pushed : (o : Option ℕ) (u : ℕ) → IsNode (suc (length m.live)) o → o ≡ Some u → at (makes_of m.makes (length m.live) o) u ≡ at m.makes u
+          ++ length m.live ∷ []
       pushed None u i e = cc
       pushed (Some v) u i e =
           let y : v ≡ u = cc in

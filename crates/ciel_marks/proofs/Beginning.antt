@@ -1,5 +1,6 @@
 -- The marks of a graph, from nothing.
-use Rattle.std.proofs.Common.{◌≡◌, ◌≤◌, ◌+◌, ℕ, suc, ◌<◌, List, [], ◌∷◌, ◌++◌, length, length-set, Bool, true, false, set, slice_get, refl, ap, sym, ◌∙◌, subst, arith, ◌⊎◌, inl, inr, not, ◌&&◌, is_some, Option, Some, None}
+use Rattle.std.proofs.Common.{◌≡◌, ◌≤◌, ◌+◌, ℕ, suc, ◌<◌, List, [], ◌∷◌, ◌++◌, length, length-set, Bool, true, false, set, slice_get, refl, ap, sym}
+use Rattle.std.proofs.Common.{◌∙◌, subst, arith, ◌⊎◌, inl, inr, not, ◌&&◌, is_some, Option, Some, None}
 use Rattle.ciel_journal.specs.Graph.{Led, root}
 use Rattle.ciel_journal.specs.Job.{In}
 use Rattle.ciel_marks.specs.Lists.{at, entry, flag}
@@ -79,7 +80,8 @@ module _ (live : List Bool) (makers : List (Option ℕ)) (out : List Bool) where
         orphan r (inl l) z = ((f.orphan r l z).0, refl)
         orphan r (inr s) z = (ap (flag live) s ∙ y, refl)
 
-    pub filed_some : (v : ℕ) → length makes ≡ suc (length live) → entry makers i ≡ Some v → Filed (suc i) live makers (set makes v (at makes v ++ i ∷ [])) orphans
+    pub filed_some : (v : ℕ) → length makes ≡ suc (length live) → entry makers i ≡ Some v
+        → Filed (suc i) live makers (set makes v (at makes v ++ i ∷ [])) orphans
     filed_some v long e =
         record {
           makes_it = λ r u l z. makes_it r u (last_or_before i r l) z;
@@ -101,7 +103,8 @@ module _ (live : List Bool) (makers : List (Option ℕ)) (out : List Bool) where
         makes_it r u (inr s) z =
             let p : Some v ≡ Some u = sym e ∙ (ap (entry makers) (sym s) ∙ z) in
             let q : v ≡ u = cc in
-            subst (λ x. In r (at (set makes v (at makes v ++ i ∷ [])) x)) q (subst (In r) (sym here) (subst (λ x. In x (at makes v ++ i ∷ [])) (sym s) (in_last (at makes v) i)))
+            subst (λ x. In r (at (set makes v (at makes v ++ i ∷ [])) x)) q
+            (subst (In r) (sym here) (subst (λ x. In x (at makes v ++ i ∷ [])) (sym s) (in_last (at makes v) i)))
 
         of_now : (r u : ℕ) → In r (at (set makes v (at makes v ++ i ∷ [])) u) → In r (at makes u) ⊎ ((r ≡ i) × (u ≡ v))
         of_now r u h = turn (nat_cases u v)
@@ -120,7 +123,9 @@ module _ (live : List Bool) (makers : List (Option ℕ)) (out : List Bool) where
           where
             turn : ((u ≡ v) ⊎ (u ≡ v → ⊥)) → Least makes u r ⊎ ((r ≡ i) × (at makes u ≡ []))
             turn (inl s) =
-                subst (λ x. Least makes x r ⊎ ((r ≡ i) × (at makes x ≡ []))) (sym s) (first_was (at makes v) i r (ap (λ xs. slice_get xs 0) (sym here) ∙ subst (λ x. Least (set makes v (at makes v ++ i ∷ [])) x r) s l))
+                subst (λ x. Least makes x r ⊎ ((r ≡ i) × (at makes x ≡ []))) (sym s)
+                (first_was (at makes v) i r (ap (λ xs. slice_get xs 0) (sym here)
+                ∙ subst (λ x. Least (set makes v (at makes v ++ i ∷ [])) x r) s l))
             turn (inr k) = inl (ap (λ xs. slice_get xs 0) (sym (at_other makes v u (at makes v ++ i ∷ []) k)) ∙ l)
 
         made : (r u : ℕ) → (In r (at makes u) ⊎ ((r ≡ i) × (u ≡ v))) → (r < suc i) × (entry makers r ≡ Some u)
@@ -142,7 +147,8 @@ module _ (live : List Bool) (makers : List (Option ℕ)) (out : List Bool) where
         orphan r (inl l) z = f.orphan r l z
         orphan r (inr s) z = let p : None ≡ Some v = sym z ∙ (ap (entry makers) s ∙ e) in cc
 
-  pub files_one : (g : IsGraph live makers out) (i : ℕ) (m n : MarksSeen) (by : Option ℕ) → Filing i m → entry makers i ≡ by → ((by ≡ None) → flag live i ≡ true) → n ≡ filed_under i by m → Filing (suc i) n
+  pub files_one : (g : IsGraph live makers out) (i : ℕ) (m n : MarksSeen) (by : Option ℕ) → Filing i m → entry makers i ≡ by
+      → ((by ≡ None) → flag live i ≡ true) → n ≡ filed_under i by m → Filing (suc i) n
   files_one g i m n None q e y s =
       subst (Filing (suc i)) (sym s) (record {
         live_is = q.live_is;
@@ -178,7 +184,8 @@ module _ (live : List Bool) (makers : List (Option ℕ)) (out : List Bool) where
 
   -- ---- all rows are filed
 
-  pub files_all : (g : IsGraph live makers out) (i : ℕ) (m : MarksSeen) → length live ≤ i → i ≤ length live → Filing i m → HasGraph live makers out m × ((needs : Needs) → Stands m needs [] [])
+  pub files_all : (g : IsGraph live makers out) (i : ℕ) (m : MarksSeen) → length live ≤ i → i ≤ length live → Filing i m
+      → HasGraph live makers out m × ((needs : Needs) → Stands m needs [] [])
   files_all g i m a b q = (
     record { live_is = q.live_is; makers_is = q.makers_is; out_is = q.out_is },
     λ needs. record {
@@ -192,7 +199,9 @@ module _ (live : List Bool) (makers : List (Option ℕ)) (out : List Bool) where
         lacks = q.lacks ∙ ap (λ fs. suc (length fs)) (sym q.live_is);
         nodes = λ r u e. subst (λ fs. (0 < u) × (u ≤ length fs)) (sym q.live_is) (g.nodes r u (ap (λ es. entry es r) (sym q.makers_is) ∙ e));
       };
-      filed = subst (λ fs. Filed (length fs) fs m.makers m.makes m.orphans) (sym q.live_is) (subst (λ es. Filed (length live) live es m.makes m.orphans) (sym q.makers_is) (subst (λ z. Filed z live makers m.makes m.orphans) (all a b) q.rows));
+      filed = subst (λ fs. Filed (length fs) fs m.makers m.makes m.orphans) (sym q.live_is)
+          (subst (λ es. Filed (length live) live es m.makes m.orphans) (sym q.makers_is)
+          (subst (λ z. Filed z live makers m.makes m.orphans) (all a b) q.rows));
       root = q.root;
       justified = λ u h. inl (subst (Led (net needs m.live m.makers m.out)) (sym (q.others u h)) root);
       counted = λ u c. inr (inl (subst (In u) (sym q.todo) (inl (q.others u c.0))));

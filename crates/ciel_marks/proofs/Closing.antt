@@ -1,5 +1,6 @@
 -- A node is out no longer.
-use Rattle.std.proofs.Common.{◌≡◌, ℕ, zero, suc, ◌<◌, List, [], ◌∷◌, ◌++◌, length, length-set, Bool, true, false, not, ◌||◌, nat_eq, eqb-true, eq-eqb, set, refl, ap, sym, ◌∙◌, subst, arith, ◌⊎◌, inl, inr, Option, Some}
+use Rattle.std.proofs.Common.{◌≡◌, ℕ, zero, suc, ◌<◌, List, [], ◌∷◌, ◌++◌, length, length-set, Bool, true, false, not, ◌||◌, nat_eq, eqb-true, eq-eqb}
+use Rattle.std.proofs.Common.{set, refl, ap, sym, ◌∙◌, subst, arith, ◌⊎◌, inl, inr, Option, Some}
 use Rattle.ciel_journal.specs.Graph.{Led, root, through}
 use Rattle.ciel_journal.specs.Job.{In}
 use Rattle.ciel_journal.proofs.Members.{bool_cases}
@@ -30,7 +31,8 @@ module _ (m : MarksSeen) (u : ℕ) (needs : Needs) (right : Right m needs) (was 
   other : (w : ℕ) → flag m.out w ≡ false → w ≡ u → ⊥
   other w o e = not_both (flag m.out w) (subst (λ x. flag m.out x ≡ true) (sym e) was) o
 
-  justified : (w : ℕ) → (w ≡ u → ⊥) → Justified m needs w → Led (net needs m.live m.makers outs) w ⊎ ((flag outs w ≡ true) × (flag m.touched w ≡ true))
+  justified : (w : ℕ) → (w ≡ u → ⊥) → Justified m needs w → Led (net needs m.live m.makers outs) w
+      ⊎ ((flag outs w ≡ true) × (flag m.touched w ≡ true))
   justified w f (inl l) = inl (led w l)
   justified w f (inr o) = inr (flag_other m.out u w false f ∙ o.0, o.1)
 
@@ -66,7 +68,8 @@ module _ (m : MarksSeen) (u : ℕ) (needs : Needs) (right : Right m needs) (was 
         filed = s.filed;
         root = s.root;
         justified = λ w h. justified w (apart w h) (s.justified w h);
-        counted = λ w a. inl (counted_still m closed needs needs [] [] w refl (λ d y. y) (λ d x. inr x) refl (λ x. (x.0, listed w x.1)) (λ x. inl x) (λ x. x) (all_counted m needs right w (a.0, before w (apart w a.0) a.1)));
+        counted = λ w a. inl (counted_still m closed needs needs [] [] w refl (λ d y. y) (λ d x. inr x) refl (λ x. (x.0, listed w x.1))
+            (λ x. inl x) (λ x. x) (all_counted m needs right w (a.0, before w (apart w a.0) a.1)));
         ready = λ r h. let q = s.ready r h in (q.0, (q.1.0, flag_off m.out u q.0 q.1.1), q.2, q.3);
       }
     where
@@ -102,7 +105,8 @@ module _ (m : MarksSeen) (u : ℕ) (needs : Needs) (right : Right m needs) (was 
       its_own (inr f) (inl l) = led u l
       its_own (inr f) (inr o) = not_both (flag m.touched u) o.1 f
 
-      pick : (w : ℕ) → flag m.wanted w ≡ true → ((w ≡ u) ⊎ (w ≡ u → ⊥)) → Led (net needs m.live m.makers outs) w ⊎ ((flag outs w ≡ true) × (flag m.touched w ≡ true))
+      pick : (w : ℕ) → flag m.wanted w ≡ true → ((w ≡ u) ⊎ (w ≡ u → ⊥)) → Led (net needs m.live m.makers outs) w
+          ⊎ ((flag outs w ≡ true) × (flag m.touched w ≡ true))
       pick w h (inl e) =
           inl (subst (Led (net needs m.live m.makers outs)) (sym e) (its_own why (s.justified u (subst (λ x. flag m.wanted x ≡ true) e h))))
       pick w h (inr f) = justified w f (s.justified w h)
@@ -114,7 +118,8 @@ module _ (m : MarksSeen) (u : ℕ) (needs : Needs) (right : Right m needs) (was 
       counted : (w : ℕ) → Active reopened w → ((w ≡ u) ⊎ (w ≡ u → ⊥)) → Counted reopened needs [] w ⊎ (In w reopened.todo ⊎ In w [])
       counted w a (inl e) = inr (inl (subst (λ x. In x (m.todo ++ u ∷ [])) (sym e) (in_last m.todo u)))
       counted w a (inr f) =
-          inl (counted_still m reopened needs needs [] [] w refl (λ d y. y) (λ d x. inr x) refl (λ x. (x.0, listed w x.1)) (λ x. inl x) (λ x. x) (all_counted m needs right w (a.0, before w f a.1)))
+          inl (counted_still m reopened needs needs [] [] w refl (λ d y. y) (λ d x. inr x) refl (λ x. (x.0, listed w x.1)) (λ x. inl x) (λ x. x)
+          (all_counted m needs right w (a.0, before w f a.1)))
 
   pub closes_ended : (u ≡ 0 → ⊥) → ((r : ℕ) → In r (at m.makes u) → flag m.live r ≡ true) → Stands ended needs [] []
   closes_ended some all =
@@ -134,7 +139,8 @@ module _ (m : MarksSeen) (u : ℕ) (needs : Needs) (right : Right m needs) (was 
         justified = λ w h. let f = apart w h in
             touch w f (justified w f (s.justified w (wanted_before w f h)));
         counted = λ w a. let f = apart w a.0 in
-            inl (counted_still m ended needs needs [] [] w refl (λ d y. y) (lack w) refl (λ x. (x.0, listed w x.1)) (λ x. inl x) (λ x. x) (all_counted m needs right w (wanted_before w f a.0, before w f a.1)));
+            inl (counted_still m ended needs needs [] [] w refl (λ d y. y) (lack w) refl (λ x. (x.0, listed w x.1)) (λ x. inl x) (λ x. x)
+            (all_counted m needs right w (wanted_before w f a.0, before w f a.1)));
         ready = λ r h. let q = s.ready r h in
             let f = other q.0 q.1.1 in
             (q.0, (flag_other m.wanted u q.0 false f ∙ q.1.0, flag_off m.out u q.0 q.1.1), q.2, q.3);
@@ -154,7 +160,8 @@ module _ (m : MarksSeen) (u : ℕ) (needs : Needs) (right : Right m needs) (was 
       wanted_before : (w : ℕ) → (w ≡ u → ⊥) → flag ended.wanted w ≡ true → flag m.wanted w ≡ true
       wanted_before w f h = sym (flag_other m.wanted u w false f) ∙ h
 
-      touch : (w : ℕ) → (w ≡ u → ⊥) → Led (net needs m.live m.makers outs) w ⊎ ((flag outs w ≡ true) × (flag m.touched w ≡ true)) → Justified ended needs w
+      touch : (w : ℕ) → (w ≡ u → ⊥) → Led (net needs m.live m.makers outs) w ⊎ ((flag outs w ≡ true) × (flag m.touched w ≡ true))
+          → Justified ended needs w
       touch w f (inl l) = inl l
       touch w f (inr o) = inr (o.0, flag_other m.touched u w false f ∙ o.1)
 

@@ -1,5 +1,6 @@
 -- The needs of a node are looked at.
-use Rattle.std.proofs.Common.{◌≡◌, ◌≤◌, ℕ, zero, suc, ◌<◌, List, [], ◌∷◌, length, length-set, Bool, true, false, refl, ap, sym, ◌∙◌, subst, arith, ◌⊎◌, inl, inr, Option, Some, None}
+use Rattle.std.proofs.Common.{◌≡◌, ◌≤◌, ℕ, zero, suc, ◌<◌, List, [], ◌∷◌, length, length-set, Bool, true, false, refl, ap, sym, ◌∙◌, subst, arith}
+use Rattle.std.proofs.Common.{◌⊎◌, inl, inr, Option, Some, None}
 use Rattle.ciel_journal.specs.Graph.{Led, root, through}
 use Rattle.ciel_journal.specs.Job.{In}
 use Rattle.ciel_marks.specs.Lists.{at, entry, flag}
@@ -28,7 +29,8 @@ makers_graph (x ∷ xs) m =
     some n None = record { live = refl; makers = refl; out = refl }
     some n (Some u) = one n u (flag n.wanted u) refl
 
-module _ (m : MarksSeen) (u : ℕ) (rows : List ℕ) (needs : Needs) (a : Active m u) (dead : AreDead needs m u rows) (s : Stands m needs (u ∷ []) []) where
+module _ (m : MarksSeen) (u : ℕ) (rows : List ℕ) (needs : Needs) (a : Active m u) (dead : AreDead needs m u rows)
+    (s : Stands m needs (u ∷ []) []) where
   led : Led (net needs m.live m.makers m.out) u
   led = turn (s.justified u a.0)
     where
@@ -74,11 +76,19 @@ module _ (m : MarksSeen) (u : ℕ) (rows : List ℕ) (needs : Needs) (a : Active
         next = inr (inr (inl refl));
       }
     where
-      known : (d : Option ℕ) → ((is_live m.live d ≡ true) ⊎ ((r : ℕ) × (d ≡ Some r) × In r rows)) → (is_live wider.live d ≡ true) ⊎ LacksIt (lacking wider u rows) u d
+      known : (d : Option ℕ) → ((is_live m.live d ≡ true) ⊎ ((r : ℕ) × (d ≡ Some r) × In r rows)) → (is_live wider.live d ≡ true)
+          ⊎ LacksIt (lacking wider u rows) u d
       known d (inl y) = inl (ap (λ fs. is_live fs d) q.wider.graph.live ∙ y)
       known d (inr x) =
           let v = some_maker x.0 x.2 in
-          inr (x.0, v.0, x.1, subst (In x.0) (sym (at_here wider.lacks u rows long)) x.2, ap (λ es. entry es x.0) q.wider.graph.makers ∙ v.1, q.all x.0 v.0 x.2 v.1)
+          inr (
+            x.0,
+            v.0,
+            x.1,
+            subst (In x.0) (sym (at_here wider.lacks u rows long)) x.2,
+            ap (λ es. entry es x.0) q.wider.graph.makers ∙ v.1,
+            q.all x.0 v.0 x.2 v.1,
+          )
 
   pub stands_now : Stands (lacking wider u rows) needs [] (u ∷ [])
   stands_now =
@@ -107,17 +117,21 @@ module _ (m : MarksSeen) (u : ℕ) (rows : List ℕ) (needs : Needs) (a : Active
       listed zero l = tt
       listed (suc e) l = l
 
-      counted : (w : ℕ) → ((w ≡ u) ⊎ (w ≡ u → ⊥)) → (Counted wider needs [] w ⊎ (In w wider.todo ⊎ In w (u ∷ []))) → Counted (lacking wider u rows) needs (u ∷ []) w ⊎ (In w wider.todo ⊎ In w [])
+      counted : (w : ℕ) → ((w ≡ u) ⊎ (w ≡ u → ⊥)) → (Counted wider needs [] w ⊎ (In w wider.todo ⊎ In w (u ∷ [])))
+          → Counted (lacking wider u rows) needs (u ∷ []) w ⊎ (In w wider.todo ⊎ In w [])
       counted w (inl e) o = inl (subst (Counted (lacking wider u rows) needs (u ∷ [])) (sym e) counted_now)
       counted w (inr f) (inl c) =
-          inl (counted_still wider (lacking wider u rows) needs needs [] (u ∷ []) w refl (λ d y. y) (λ d x. inr (x.0, x.1, x.2, subst (In x.0) (sym (other w f)) x.3, x.4, x.5)) (other w f) (λ x. (other w f ∙ x.0, listed w x.1)) (λ x. inl (x.0, subst (In x.0) (sym (other w f)) x.1, x.2, x.3)) (λ h. absurd h) c)
+          inl (counted_still wider (lacking wider u rows) needs needs [] (u ∷ []) w refl (λ d y. y)
+          (λ d x. inr (x.0, x.1, x.2, subst (In x.0) (sym (other w f)) x.3, x.4, x.5)) (other w f) (λ x. (other w f ∙ x.0, listed w x.1))
+          (λ x. inl (x.0, subst (In x.0) (sym (other w f)) x.1, x.2, x.3)) (λ h. absurd h) c)
       counted w (inr f) (inr (inl h)) = inr (inl h)
       counted w (inr f) (inr (inr (inl e))) = absurd (f e)
       counted w (inr f) (inr (inr (inr h))) = absurd h
 
 -- ---- as the calls leave the marks
 
-module _ (m m1 m2 m3 : MarksSeen) (u : ℕ) (rows given : List ℕ) (wanted : m1 ≡ wants_makers given m) (same : given ≡ rows) (lacks : m2 ≡ lacking m1 u rows) where
+module _ (m m1 m2 m3 : MarksSeen) (u : ℕ) (rows given : List ℕ) (wanted : m1 ≡ wants_makers given m) (same : given ≡ rows)
+    (lacks : m2 ≡ lacking m1 u rows) where
   now : m2 ≡ lacking (wants_makers rows m) u rows
   now = lacks ∙ ap (λ x. lacking x u rows) (wanted ∙ ap (λ xs. wants_makers xs m) same)
 
@@ -130,10 +144,13 @@ module _ (m m1 m2 m3 : MarksSeen) (u : ℕ) (rows given : List ℕ) (wanted : m1
         out = g.out ∙ (ap (λ (x : MarksSeen). x.out) now ∙ a.out);
       }
 
-  pub counts : left_of m3 ≡ left_of m2 → ((needs : Needs) (fresh late : List ℕ) → (Active m2 u → Counted m2 needs (u ∷ late) u) → Stands m2 needs fresh (u ∷ late) → Stands m3 needs fresh late) → (needs : Needs) → Active m u → AreDead needs m u rows → Stands m needs (u ∷ []) [] → Stands m3 needs [] [] × (left_of m3 ≤ left_of m)
+  pub counts : left_of m3 ≡ left_of m2 → ((needs : Needs) (fresh late : List ℕ) → (Active m2 u → Counted m2 needs (u ∷ late) u)
+      → Stands m2 needs fresh (u ∷ late) → Stands m3 needs fresh late) → (needs : Needs) → Active m u → AreDead needs m u rows
+      → Stands m needs (u ∷ []) [] → Stands m3 needs [] [] × (left_of m3 ≤ left_of m)
   counts left go needs a dead s =
       let l = left_wider m u rows needs a dead s in
       let e : left_of m3 ≡ left_of (wants_makers rows m) = left ∙ ap left_of now in (
-        go needs [] [] (λ b. subst (λ x. Counted x needs (u ∷ []) u) (sym now) (counted_now m u rows needs a dead s)) (subst (λ x. Stands x needs [] (u ∷ [])) (sym now) (stands_now m u rows needs a dead s)),
+        go needs [] [] (λ b. subst (λ x. Counted x needs (u ∷ []) u) (sym now) (counted_now m u rows needs a dead s))
+            (subst (λ x. Stands x needs [] (u ∷ [])) (sym now) (stands_now m u rows needs a dead s)),
         omega (arith, l, e),
       )

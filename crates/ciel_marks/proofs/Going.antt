@@ -17,7 +17,8 @@ not_active m u e a =
     let x : true ≡ false = sym t ∙ e in
     cc
 
-module _ (m n p : MarksSeen) (u : ℕ) (needs : Needs) (fresh late : List ℕ) (counted : Active m u → Counted m needs (u ∷ late) u) (s : Stands m needs fresh (u ∷ late)) (a : Active m u) where
+module _ (m n p : MarksSeen) (u : ℕ) (needs : Needs) (fresh late : List ℕ) (counted : Active m u → Counted m needs (u ∷ late) u)
+    (s : Stands m needs fresh (u ∷ late)) (a : Active m u) where
   pub goes_listed : SettledAt m n u None → ListedAt n p u → Stands p needs fresh late
   goes_listed q l =
       let e : p ≡ lacking_listed m u q.0 l.0 = l.1 ∙ ap (λ (x : MarksSeen). record x { list = l.0 }) q.1 in
@@ -30,7 +31,8 @@ module _ (m n p : MarksSeen) (u : ℕ) (needs : Needs) (fresh late : List ℕ) (
       subst (λ x. Stands x needs fresh late) (sym e) (go_watching m u q.0 needs fresh late a s (counted a) r q.2)
 
 -- one that isn't wanted, or is out, isn't late
-pub goes_not : (m : MarksSeen) (u : ℕ) (needs : Needs) (fresh late : List ℕ) → (Active m u → ⊥) → Stands m needs fresh (u ∷ late) → Stands m needs fresh late
+pub goes_not : (m : MarksSeen) (u : ℕ) (needs : Needs) (fresh late : List ℕ) → (Active m u → ⊥) → Stands m needs fresh (u ∷ late)
+    → Stands m needs fresh late
 goes_not m u needs fresh late f s =
     record {
       shape = s.shape;

@@ -1,5 +1,6 @@
 -- What the changes of marks keep.
-use Rattle.std.proofs.Common.{◌≡◌, ℕ, zero, suc, ◌<◌, List, [], ◌∷◌, ◌++◌, length, length-set, true, false, set, slice_get, refl, ap, sym, ◌∙◌, subst, arith, ◌⊎◌, inl, inr, Option, Some, None}
+use Rattle.std.proofs.Common.{◌≡◌, ℕ, zero, suc, ◌<◌, List, [], ◌∷◌, ◌++◌, length, length-set, true, false, set, slice_get, refl, ap, sym, ◌∙◌, subst}
+use Rattle.std.proofs.Common.{arith, ◌⊎◌, inl, inr, Option, Some, None}
 use Rattle.ciel_journal.specs.Graph.{Led, root, through}
 use Rattle.ciel_journal.specs.Job.{In}
 use Rattle.ciel_marks.specs.Lists.{Settled, at, entry, flag}
@@ -31,7 +32,8 @@ module _ (m : MarksSeen) (needs : Needs) where
           subst (λ x. flag m.wanted x ≡ true) s q.5
 
   -- a row that is lacked and isn't live has a maker
-  pub lack_made : (late : List ℕ) (u r : ℕ) → Counted m needs late u → In r (at m.lacks u) → flag m.live r ≡ false → (v : ℕ) × (entry m.makers r ≡ Some v)
+  pub lack_made : (late : List ℕ) (u r : ℕ) → Counted m needs late u → In r (at m.lacks u) → flag m.live r ≡ false → (v : ℕ)
+      × (entry m.makers r ≡ Some v)
   lack_made late u r c h f = turn (c.known (Some r) (c.lacked r h))
     where
       turn : ((is_live m.live (Some r) ≡ true) ⊎ LacksIt m u (Some r)) → (v : ℕ) × (entry m.makers r ≡ Some v)
@@ -46,7 +48,11 @@ module _ (m : MarksSeen) (needs : Needs) where
   least_in (x ∷ xs) r h = let s : x ≡ r = cc in inl (sym s)
 
 -- what was counted stays so where it lacks the same
-pub counted_still : (m n : MarksSeen) (before after : Needs) (late later : List ℕ) (u : ℕ) → after u ≡ before u → ((d : Option ℕ) → is_live m.live d ≡ true → is_live n.live d ≡ true) → ((d : Option ℕ) → LacksIt m u d → (is_live n.live d ≡ true) ⊎ LacksIt n u d) → at n.lacks u ≡ at m.lacks u → (((at m.lacks u ≡ []) × Listed m u) → ((at n.lacks u ≡ []) × Listed n u)) → (Watches m u → Watches n u ⊎ In u later) → (In u late → In u later) → Counted m before late u → Counted n after later u
+pub counted_still : (m n : MarksSeen) (before after : Needs) (late later : List ℕ) (u : ℕ) → after u ≡ before u
+    → ((d : Option ℕ) → is_live m.live d ≡ true → is_live n.live d ≡ true)
+    → ((d : Option ℕ) → LacksIt m u d → (is_live n.live d ≡ true) ⊎ LacksIt n u d) → at n.lacks u ≡ at m.lacks u
+    → (((at m.lacks u ≡ []) × Listed m u) → ((at n.lacks u ≡ []) × Listed n u)) → (Watches m u → Watches n u ⊎ In u later)
+    → (In u late → In u later) → Counted m before late u → Counted n after later u
 counted_still m n before after late later u e live lack same listed watches is_late c =
     record {
       known = λ d i. known d (c.known d (subst (In d) e i));
@@ -64,7 +70,8 @@ counted_still m n before after late later u e live lack same listed watches is_l
     next (inr (inr h)) = inr (inr (is_late h))
 
 -- the late ones may be more
-pub stands_late : (m : MarksSeen) (needs : Needs) (fresh late later : List ℕ) → ((u : ℕ) → In u late → In u later) → Stands m needs fresh late → Stands m needs fresh later
+pub stands_late : (m : MarksSeen) (needs : Needs) (fresh late later : List ℕ) → ((u : ℕ) → In u late → In u later) → Stands m needs fresh late
+    → Stands m needs fresh later
 stands_late m needs fresh late later f s =
     record {
       shape = s.shape;
@@ -106,7 +113,8 @@ module _ (m : MarksSeen) (u : ℕ) (left : List ℕ) where
     lack_other w f n e = ap (λ ls. at ls w) e ∙ at_other m.lacks u w left f
 
     -- all that it waits for is live or left
-    known_left : (top : Option ℕ) → Settled m.live (at m.lacks u) left top → (d : Option ℕ) → In d (needs u) → (is_live m.live d ≡ true) ⊎ LacksIt (lacking m u left) u d
+    known_left : (top : Option ℕ) → Settled m.live (at m.lacks u) left top → (d : Option ℕ) → In d (needs u) → (is_live m.live d ≡ true)
+        ⊎ LacksIt (lacking m u left) u d
     known_left top t d i = turn (c.known d i)
       where
         still : (q : LacksIt m u d) → (In q.0 left ⊎ (flag m.live q.0 ≡ true)) → (is_live m.live d ≡ true) ⊎ LacksIt (lacking m u left) u d
@@ -121,7 +129,8 @@ module _ (m : MarksSeen) (u : ℕ) (left : List ℕ) where
     lacked_left top t r h = c.lacked r (t.inside r (subst (In r) here h))
 
     -- nothing is left: it is listed
-    pub go_listed : (list : List ℕ) → Settled m.live (at m.lacks u) left None → HasSome (slice_get (at m.makes u) 0) m.list list → Stands (lacking_listed list) needs fresh late
+    pub go_listed : (list : List ℕ) → Settled m.live (at m.lacks u) left None → HasSome (slice_get (at m.makes u) 0) m.list list
+        → Stands (lacking_listed list) needs fresh late
     go_listed list t k =
         record {
           shape = record {
@@ -151,7 +160,8 @@ module _ (m : MarksSeen) (u : ℕ) (left : List ℕ) where
             turn (inl y) = y
             turn (inr q) = absurd (subst (In q.0) (here ∙ none) q.3)
 
-        ready_some : (o : Option ℕ) → slice_get (at m.makes u) 0 ≡ o → HasSome o m.list list → (r : ℕ) → In r list → Ready (lacking_listed list) needs r
+        ready_some : (o : Option ℕ) → slice_get (at m.makes u) 0 ≡ o → HasSome o m.list list → (r : ℕ) → In r list
+            → Ready (lacking_listed list) needs r
         ready_some None e k r h = s.ready r (subst (In r) k h)
         ready_some (Some x) e k r h = turn ((k r).0 h)
           where
@@ -204,7 +214,8 @@ module _ (m : MarksSeen) (u : ℕ) (left : List ℕ) where
             first (Some r) z =
                 (r, z, put (slice_get (at m.makes u) 0) r (ap (λ x. slice_get (at m.makes x) 0) (sym y) ∙ z) k)
 
-        counted : (w : ℕ) → ((w ≡ u) ⊎ (w ≡ u → ⊥)) → (Counted m needs (u ∷ late) w ⊎ (In w m.todo ⊎ In w fresh)) → Counted (lacking_listed list) needs late w ⊎ (In w m.todo ⊎ In w fresh)
+        counted : (w : ℕ) → ((w ≡ u) ⊎ (w ≡ u → ⊥)) → (Counted m needs (u ∷ late) w ⊎ (In w m.todo ⊎ In w fresh))
+            → Counted (lacking_listed list) needs late w ⊎ (In w m.todo ⊎ In w fresh)
         counted w (inl y) o =
             inl (subst (Counted (lacking_listed list) needs late) (sym y) (record {
               known = known_left None t;
@@ -212,7 +223,10 @@ module _ (m : MarksSeen) (u : ℕ) (left : List ℕ) where
               next = inl (here ∙ none, listed_now u refl);
             }))
         counted w (inr f) (inl q) =
-            inl (counted_still m (lacking_listed list) needs needs (u ∷ late) late w refl (λ d y. y) (λ d x. inr (x.0, x.1, x.2, subst (In x.0) (sym (lack_other w f (lacking_listed list) refl)) x.3, x.4, x.5)) (lack_other w f (lacking_listed list) refl) (λ x. (lack_other w f (lacking_listed list) refl ∙ x.0, more w x.1)) (λ x. inl (x.0, subst (In x.0) (sym (lack_other w f (lacking_listed list) refl)) x.1, x.2, x.3)) late_other q)
+            inl (counted_still m (lacking_listed list) needs needs (u ∷ late) late w refl (λ d y. y)
+            (λ d x. inr (x.0, x.1, x.2, subst (In x.0) (sym (lack_other w f (lacking_listed list) refl)) x.3, x.4, x.5))
+            (lack_other w f (lacking_listed list) refl) (λ x. (lack_other w f (lacking_listed list) refl ∙ x.0, more w x.1))
+            (λ x. inl (x.0, subst (In x.0) (sym (lack_other w f (lacking_listed list) refl)) x.1, x.2, x.3)) late_other q)
           where
             late_other : In w (u ∷ late) → In w late
             late_other (inl y) = absurd (f y)
@@ -248,7 +262,8 @@ module _ (m : MarksSeen) (u : ℕ) (left : List ℕ) where
             let y = s.shape.watchers in
             subst (In u) (sym (at_here m.watchers r (at m.watchers r ++ u ∷ []) (omega (arith, l, x, y)))) (in_last (at m.watchers r) u)
 
-        counted : (w : ℕ) → ((w ≡ u) ⊎ (w ≡ u → ⊥)) → (Counted m needs (u ∷ late) w ⊎ (In w m.todo ⊎ In w fresh)) → Counted (lacking_watching r) needs late w ⊎ (In w m.todo ⊎ In w fresh)
+        counted : (w : ℕ) → ((w ≡ u) ⊎ (w ≡ u → ⊥)) → (Counted m needs (u ∷ late) w ⊎ (In w m.todo ⊎ In w fresh))
+            → Counted (lacking_watching r) needs late w ⊎ (In w m.todo ⊎ In w fresh)
         counted w (inl y) o =
             inl (subst (Counted (lacking_watching r) needs late) (sym y) (record {
               known = known_left (Some r) t;
@@ -256,7 +271,11 @@ module _ (m : MarksSeen) (u : ℕ) (left : List ℕ) where
               next = inr (inl (r, subst (In r) (sym here) t.ends.0, t.ends.1, here_now));
             }))
         counted w (inr f) (inl q) =
-            inl (counted_still m (lacking_watching r) needs needs (u ∷ late) late w refl (λ d y. y) (λ d x. inr (x.0, x.1, x.2, subst (In x.0) (sym (lack_other w f (lacking_watching r) refl)) x.3, x.4, x.5)) (lack_other w f (lacking_watching r) refl) (λ x. (lack_other w f (lacking_watching r) refl ∙ x.0, x.1)) (λ x. inl (x.0, subst (In x.0) (sym (lack_other w f (lacking_watching r) refl)) x.1, x.2, at_pushed m.watchers r x.0 u w x.3)) late_other q)
+            inl (counted_still m (lacking_watching r) needs needs (u ∷ late) late w refl (λ d y. y)
+            (λ d x. inr (x.0, x.1, x.2, subst (In x.0) (sym (lack_other w f (lacking_watching r) refl)) x.3, x.4, x.5))
+            (lack_other w f (lacking_watching r) refl) (λ x. (lack_other w f (lacking_watching r) refl ∙ x.0, x.1))
+            (λ x. inl (x.0, subst (In x.0) (sym (lack_other w f (lacking_watching r) refl)) x.1, x.2, at_pushed m.watchers r x.0 u w x.3))
+            late_other q)
           where
             late_other : In w (u ∷ late) → In w late
             late_other (inl y) = absurd (f y)
@@ -278,7 +297,8 @@ module _ (m : MarksSeen) (before after : Needs) (right : Right m before) (same :
       filed = right.0.filed;
       root = right.0.root;
       justified = λ u h. justified u (right.0.justified u h);
-      counted = λ u a. inl (counted_still m m before after [] [] u (same u a) (λ d y. y) (λ d q. inr q) refl (λ q. q) (λ w. inl w) (λ h. h) (all_counted m before right u a));
+      counted = λ u a. inl (counted_still m m before after [] [] u (same u a) (λ d y. y) (λ d q. inr q) refl (λ q. q) (λ w. inl w) (λ h. h)
+          (all_counted m before right u a));
       ready = λ r h. let q = right.0.ready r h in
           (q.0, q.1, q.2, λ d i. q.3 d (subst (In d) (same q.0 q.1) i));
     },

@@ -1,5 +1,6 @@
 -- The next node whose needs are to be looked at.
-use Rattle.std.proofs.Common.{◌≡◌, ◌≤◌, ◌+◌, arith, length, length-append, ℕ, zero, suc, List, [], ◌∷◌, ◌++◌, refl, ap, sym, ◌∙◌, subst, ◌⊎◌, inl, inr}
+use Rattle.std.proofs.Common.{◌≡◌, ◌≤◌, ◌+◌, arith, length, length-append, ℕ, zero, suc, List, [], ◌∷◌, ◌++◌, refl, ap, sym, ◌∙◌, subst, ◌⊎◌, inl}
+use Rattle.std.proofs.Common.{inr}
 use Rattle.ciel_journal.specs.Job.{In}
 use Rattle.ciel_marks.specs.Marks.{Active, Counted, Listed, MarksSeen, Needs, Right, Stands}
 use Rattle.ciel_marks.proofs.Slots.{in_push}
@@ -31,9 +32,11 @@ module _ (m n : MarksSeen) (needs : Needs) (same : n ≡ record m { todo = n.tod
       listed zero l = tt
       listed (suc e) l = l
 
-      turn : (w : ℕ) → Active m w → (Counted m needs [] w ⊎ (In w m.todo ⊎ In w [])) → Counted (record m { todo = n.todo }) needs [] w ⊎ (In w n.todo ⊎ In w fresh)
+      turn : (w : ℕ) → Active m w → (Counted m needs [] w ⊎ (In w m.todo ⊎ In w [])) → Counted (record m { todo = n.todo }) needs [] w
+          ⊎ (In w n.todo ⊎ In w fresh)
       turn w a (inl c) =
-          inl (counted_still m (record m { todo = n.todo }) needs needs [] [] w refl (λ d y. y) (λ d q. inr q) refl (λ q. (q.0, listed w q.1)) (λ x. inl x) (λ h. h) c)
+          inl (counted_still m (record m { todo = n.todo }) needs needs [] [] w refl (λ d y. y) (λ d q. inr q) refl (λ q. (q.0, listed w q.1))
+          (λ x. inl x) (λ h. h) c)
       turn w a (inr (inl h)) = inr (f w a h)
       turn w a (inr (inr h)) = absurd h
 

@@ -1,5 +1,6 @@
 -- A row becomes live.
-use Rattle.std.proofs.Common.{◌≡◌, ◌≤◌, ℕ, zero, suc, List, [], ◌∷◌, ◌++◌, length-set, true, false, refl, ap, sym, ◌∙◌, subst, arith, ◌⊎◌, inl, inr, Option, Some, None}
+use Rattle.std.proofs.Common.{◌≡◌, ◌≤◌, ℕ, zero, suc, List, [], ◌∷◌, ◌++◌, length-set, true, false, refl, ap, sym, ◌∙◌, subst, arith, ◌⊎◌, inl, inr}
+use Rattle.std.proofs.Common.{Option, Some, None}
 use Rattle.ciel_journal.specs.Graph.{Led, root, through}
 use Rattle.ciel_journal.specs.Job.{In}
 use Rattle.ciel_journal.proofs.Members.{bool_cases}
@@ -97,14 +98,16 @@ module _ (m : MarksSeen) (r v : ℕ) where
           });
           root = s.root;
           justified = λ w h. justified w h (s.justified w h);
-          counted = λ w a. inl (counted_still m placed needs needs [] (at m.watchers r) w refl live_more (λ d x. inr x) refl (λ x. (x.0, listed w x.1)) (watches w) (λ h. absurd h) (all_counted m needs right w a));
+          counted = λ w a. inl (counted_still m placed needs needs [] (at m.watchers r) w refl live_more (λ d x. inr x) refl
+              (λ x. (x.0, listed w x.1)) (watches w) (λ h. absurd h) (all_counted m needs right w a));
           ready = λ x h. let q = s.ready x h in (q.0, q.1, q.2, λ d i. live_more d (q.3 d i));
         }
 
 -- ---- those that waited for it go on
 
 module _ (m n : MarksSeen) (u : ℕ) (waiting rest : List ℕ) (last : waiting ≡ rest ++ u ∷ []) (needs : Needs) (none : m.todo ≡ []) where
-  pub goes_next : ((needs : Needs) (fresh late : List ℕ) → (Active m u → Counted m needs (u ∷ late) u) → Stands m needs fresh (u ∷ late) → Stands n needs fresh late) → Stands m needs [] waiting → Stands n needs [] rest
+  pub goes_next : ((needs : Needs) (fresh late : List ℕ) → (Active m u → Counted m needs (u ∷ late) u) → Stands m needs fresh (u ∷ late)
+      → Stands n needs fresh late) → Stands m needs [] waiting → Stands n needs [] rest
   goes_next go s = go needs [] rest (λ a. counted (t.counted u a)) t
     where
       is_late : (w : ℕ) → (In w rest ⊎ (w ≡ u)) → In w (u ∷ rest)

@@ -1,5 +1,6 @@
 -- Rising lists: what is put in and taken out.
-use Rattle.std.proofs.Common.{◌≡◌, ◌≤◌, ℕ, zero, suc, ◌<◌, List, [], ◌∷◌, ◌++◌, Bool, true, false, cond, is_ok, Result, Ok, Err, OnOk, length, get_or, take, drop, refl, sym, ◌∙◌, subst, arith, ◌⊎◌, inl, inr}
+use Rattle.std.proofs.Common.{◌≡◌, ◌≤◌, ℕ, zero, suc, ◌<◌, List, [], ◌∷◌, ◌++◌, Bool, true, false, cond, is_ok, Result, Ok, Err, OnOk, length, get_or}
+use Rattle.std.proofs.Common.{take, drop, refl, sym, ◌∙◌, subst, arith, ◌⊎◌, inl, inr}
 use Rattle.std.specs.List.{AllByRecursion}
 use Rattle.std.specs.List.Sorted.{IsBinarySearchResult}
 use Rattle.std.specs.Ordering.{nat_cmp}
@@ -147,14 +148,16 @@ fits_none (suc i) (z ∷ zs) x f (inr h) = fits_none i zs x (fits_tail i z x zs 
 
 -- ---- what a search by halves finds
 
-searched_there : (xs : List ℕ) (x : ℕ) (r : Result ℕ ℕ) → Rising xs → IsBinarySearchResult (λ y. nat_cmp y x) xs r → MatchResult r (λ i. (i < length xs) × (get_or xs i 0 ≡ x)) (λ i. Fits i xs x)
+searched_there : (xs : List ℕ) (x : ℕ) (r : Result ℕ ℕ) → Rising xs → IsBinarySearchResult (λ y. nat_cmp y x) xs r
+    → MatchResult r (λ i. (i < length xs) × (get_or xs i 0 ≡ x)) (λ i. Fits i xs x)
 searched_there xs x r s h = searched xs x r h (in_order xs s)
 
 pub search_found : (xs : List ℕ) (x : ℕ) (r : Result ℕ ℕ) → Rising xs → IsBinarySearchResult (λ y. nat_cmp y x) xs r → is_ok r ≡ true → In x xs
 search_found xs x (Ok i) s h e = got xs i x (searched_there xs x (Ok i) s h)
 search_found xs x (Err i) s h e = cc
 
-pub search_at : (xs : List ℕ) (x : ℕ) (r : Result ℕ ℕ) (i : ℕ) → Rising xs → IsBinarySearchResult (λ y. nat_cmp y x) xs r → r ≡ Ok i → (i < length xs) × (get_or xs i 0 ≡ x)
+pub search_at : (xs : List ℕ) (x : ℕ) (r : Result ℕ ℕ) (i : ℕ) → Rising xs → IsBinarySearchResult (λ y. nat_cmp y x) xs r → r ≡ Ok i
+    → (i < length xs) × (get_or xs i 0 ≡ x)
 search_at xs x (Ok j) i s h e =
     let p : j ≡ i = cc in
     subst (λ k. (k < length xs) × (get_or xs k 0 ≡ x)) p (searched_there xs x (Ok j) s h)
@@ -168,6 +171,7 @@ pub put_rises_either : (b : Bool) (i : ℕ) (xs new : List ℕ) (x : ℕ) → ne
 put_rises_either true i xs new x e r f = subst Rising (sym e) (put_rises i xs x r f)
 put_rises_either false i xs new x e r f = subst Rising (sym e) r
 
-pub put_on_ok : {T E : Type 0} (r : Result T E) (i : ℕ) (xs new : List ℕ) (x : ℕ) → new ≡ cond (is_ok r) (put_in i xs x) xs → OnOk r (HasAlso x xs new)
+pub put_on_ok : {T E : Type 0} (r : Result T E) (i : ℕ) (xs new : List ℕ) (x : ℕ) → new ≡ cond (is_ok r) (put_in i xs x) xs
+    → OnOk r (HasAlso x xs new)
 put_on_ok (Ok o) i xs new x e = subst (HasAlso x xs) (sym e) (put_has i xs x)
 put_on_ok (Err o) i xs new x e = tt

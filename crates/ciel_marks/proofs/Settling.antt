@@ -4,7 +4,8 @@ use Rattle.ciel_journal.specs.Job.{In}
 use Rattle.ciel_marks.specs.Lists.{Settled, at, flag}
 use Rattle.ciel_marks.proofs.Slots.{at_beyond, in_last, in_push, set_beyond}
 
-module _ (flags : List Bool) (old cur : List ℕ) (inside : (y : ℕ) → In y cur → In y old) (left : (y : ℕ) → In y old → In y cur ⊎ (flag flags y ≡ true)) where
+module _ (flags : List Bool) (old cur : List ℕ) (inside : (y : ℕ) → In y cur → In y old)
+    (left : (y : ℕ) → In y old → In y cur ⊎ (flag flags y ≡ true)) where
   module _ (popped : List ℕ) (x : ℕ) (is : cur ≡ popped ++ x ∷ []) where
     pub settled_some : (now : List ℕ) → now ≡ popped ++ x ∷ [] → flag flags x ≡ false → Settled flags old now (Some x)
     settled_some now e f =
@@ -35,7 +36,8 @@ module _ (flags : List Bool) (old cur : List ℕ) (inside : (y : ℕ) → In y c
         turn (inr f) = inr f
 
 -- beyond the end there is nothing to take
-pub settled_beyond : (lists : List (List ℕ)) (i : ℕ) (flags : List Bool) → length lists ≤ i → (x : List ℕ) × (lists ≡ set lists i x) × Settled flags (at lists i) x None
+pub settled_beyond : (lists : List (List ℕ)) (i : ℕ) (flags : List Bool) → length lists ≤ i → (x : List ℕ) × (lists ≡ set lists i x)
+    × Settled flags (at lists i) x None
 settled_beyond lists i flags l =
     let e : at lists i ≡ [] = at_beyond lists i l in (
       [],

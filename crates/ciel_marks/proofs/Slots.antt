@@ -1,5 +1,6 @@
 -- Lists that are looked up by number.
-use Rattle.std.proofs.Common.{◌≡◌, ℕ, zero, suc, ◌≤◌, ◌<◌, List, [], ◌∷◌, ◌++◌, length, Bool, true, false, not, ◌&&◌, Result, Ok, Err, OnOk, set, slice_get, refl, ap, sym, ◌∙◌, arith, ◌⊎◌, inl, inr, Option, Some, nat_eq, eqb-true, eq-eqb}
+use Rattle.std.proofs.Common.{◌≡◌, ℕ, zero, suc, ◌≤◌, ◌<◌, List, [], ◌∷◌, ◌++◌, length, Bool, true, false, not, ◌&&◌, Result, Ok, Err, OnOk, set}
+use Rattle.std.proofs.Common.{slice_get, refl, ap, sym, ◌∙◌, arith, ◌⊎◌, inl, inr, Option, Some, nat_eq, eqb-true, eq-eqb}
 use Rattle.std.specs.Option.{option_map_or}
 use Rattle.ciel_journal.specs.Job.{In}
 use Rattle.ciel_journal.proofs.Members.{bool_cases}

@@ -1,5 +1,6 @@
 -- A node that can run is out.
-use Rattle.std.proofs.Common.{◌≡◌, ℕ, zero, suc, ◌<◌, List, [], length, length-set, true, false, set, slice_get, refl, ap, sym, ◌∙◌, subst, arith, ◌⊎◌, inl, inr, Option, Some, None}
+use Rattle.std.proofs.Common.{◌≡◌, ℕ, zero, suc, ◌<◌, List, [], length, length-set, true, false, set, slice_get, refl, ap, sym, ◌∙◌, subst, arith}
+use Rattle.std.proofs.Common.{◌⊎◌, inl, inr, Option, Some, None}
 use Rattle.ciel_journal.specs.Graph.{Led, root, through}
 use Rattle.ciel_journal.specs.Job.{In}
 use Rattle.ciel_marks.specs.Lists.{at, flag}
@@ -17,7 +18,8 @@ module _ (m : MarksSeen) (u : ℕ) (list : List ℕ) where
   abbrev pub begun : MarksSeen
   begun = record m { out = set m.out u true; list = list }
 
-  module _ (needs : Needs) (right : Right m needs) (off : flag m.out u ≡ false) (can : CanRun m u) (k : HasNot (slice_get (at m.makes u) 0) m.list list) where
+  module _ (needs : Needs) (right : Right m needs) (off : flag m.out u ≡ false) (can : CanRun m u)
+      (k : HasNot (slice_get (at m.makes u) 0) m.list list) where
     s : Stands m needs [] []
     s = right.0
 
@@ -79,10 +81,15 @@ module _ (m : MarksSeen) (u : ℕ) (list : List ℕ) where
     justified w (inr o) = inr (flag_kept m.out u w o.0, o.1)
 
     -- another one is listed still
-    in_list : (o : Option ℕ) → slice_get (at m.makes u) 0 ≡ o → HasNot o m.list list → (y w : ℕ) → (w ≡ u → ⊥) → Least m.makes w y → In y m.list → In y list
+    in_list : (o : Option ℕ) → slice_get (at m.makes u) 0 ≡ o → HasNot o m.list list → (y w : ℕ) → (w ≡ u → ⊥) → Least m.makes w y → In y m.list
+        → In y list
     in_list None e z y w f l h = subst (In y) (sym z) h
     in_list (Some r) e z y w f l h =
-        (z y).1 (h, λ p. f (made_one y w u (least_in m needs (at m.makes w) y l) (subst (λ x. In x (at m.makes u)) (sym p) (least_in m needs (at m.makes u) r e))))
+        (z y).1 (
+          h,
+          λ p. f (made_one y w u (least_in m needs (at m.makes w) y l)
+              (subst (λ x. In x (at m.makes u)) (sym p) (least_in m needs (at m.makes u) r e))),
+        )
 
     listed : (w : ℕ) → (w ≡ u → ⊥) → Listed m w → Listed begun w
     listed zero f l = tt
@@ -116,7 +123,8 @@ module _ (m : MarksSeen) (u : ℕ) (list : List ℕ) where
         root = s.root;
         justified = λ w h. justified w (s.justified w h);
         counted = λ w a. let q = was w a in
-            inl (counted_still m begun needs needs [] [] w refl (λ d y. y) (λ d x. inr x) refl (λ x. (x.0, listed w q.0 x.1)) (λ x. inl x) (λ x. x) (all_counted m needs right w q.1));
+            inl (counted_still m begun needs needs [] [] w refl (λ d y. y) (λ d x. inr x) refl (λ x. (x.0, listed w q.0 x.1)) (λ x. inl x)
+            (λ x. x) (all_counted m needs right w q.1));
         ready = ready;
       },
       right.1,
@@ -124,7 +132,9 @@ module _ (m : MarksSeen) (u : ℕ) (list : List ℕ) where
 
 -- ---- as the calls leave the marks
 
-pub starts : (m n p : MarksSeen) (u : ℕ) → n ≡ record m { out = set m.out u true } → UnlistedAt n p u → (flag m.out u ≡ false) × CanRun m u → (needs : Needs) → Right m needs → Right p needs
+pub starts : (m n p : MarksSeen) (u : ℕ) → n ≡ record m { out = set m.out u true } → UnlistedAt n p u → (flag m.out u ≡ false) × CanRun m u
+    → (needs : Needs) → Right m needs → Right p needs
 starts m n p u e q can needs r =
     let z : p ≡ begun m u q.0 = q.1 ∙ ap (λ (x : MarksSeen). record x { list = q.0 }) e in
-    subst (λ x. Right x needs) (sym z) (starts_right m u q.0 needs r can.0 can.1 (subst (λ (x : MarksSeen). HasNot (slice_get (at x.makes u) 0) x.list q.0) e q.2))
+    subst (λ x. Right x needs) (sym z) (starts_right m u q.0 needs r can.0 can.1
+    (subst (λ (x : MarksSeen). HasNot (slice_get (at x.makes u) 0) x.list q.0) e q.2))

@@ -1,5 +1,6 @@
 -- The makers of what a node lacks are wanted.
-use Rattle.std.proofs.Common.{◌≡◌, ◌≤◌, ◌+◌, ℕ, zero, suc, ◌<◌, List, [], ◌∷◌, ◌++◌, cond, length, length-set, length-append, Bool, true, false, set, refl, ap, sym, ◌∙◌, subst, arith, ◌⊎◌, inl, inr, Option, Some, None}
+use Rattle.std.proofs.Common.{◌≡◌, ◌≤◌, ◌+◌, ℕ, zero, suc, ◌<◌, List, [], ◌∷◌, ◌++◌, cond, length, length-set, length-append, Bool, true, false, set}
+use Rattle.std.proofs.Common.{refl, ap, sym, ◌∙◌, subst, arith, ◌⊎◌, inl, inr, Option, Some, None}
 use Rattle.ciel_journal.specs.Graph.{Led, root}
 use Rattle.ciel_journal.specs.Job.{In}
 use Rattle.ciel_journal.proofs.Members.{bool_cases}
@@ -81,14 +82,16 @@ module _ (v : ℕ) (m : MarksSeen) where
         turn (inr f) =
             subst (λ n. Wider m n × (flag n.wanted v ≡ true)) (sym (wants_is false f)) (wider_marked f, flag_here m.wanted v true long)
 
-  module _ (needs : Needs) (fresh late : List ℕ) (s : Stands m needs fresh late) (l : Led (net needs m.live m.makers m.out) v) (long : v < length m.wanted) where
+  module _ (needs : Needs) (fresh late : List ℕ) (s : Stands m needs fresh late) (l : Led (net needs m.live m.makers m.out) v)
+      (long : v < length m.wanted) where
     justified : (w : ℕ) → ((w ≡ v) ⊎ (w ≡ v → ⊥)) → flag marked.wanted w ≡ true → Justified marked needs w
     justified w (inl e) h = inl (subst (Led (net needs m.live m.makers m.out)) (sym e) l)
     justified w (inr f) h = s.justified w (sym (flag_other m.wanted v w true f) ∙ h)
 
     still : (w : ℕ) → (Counted m needs late w ⊎ (In w m.todo ⊎ In w fresh)) → Counted marked needs late w ⊎ (In w marked.todo ⊎ In w fresh)
     still w (inl c) =
-        inl (counted_still m marked needs needs late late w refl (λ d y. y) (λ d q. inr (q.0, q.1, q.2, q.3, q.4, flag_kept m.wanted v q.1 q.5)) refl (λ q. (q.0, listed w q.1)) (λ x. inl x) (λ x. x) c)
+        inl (counted_still m marked needs needs late late w refl (λ d y. y) (λ d q. inr (q.0, q.1, q.2, q.3, q.4, flag_kept m.wanted v q.1 q.5))
+        refl (λ q. (q.0, listed w q.1)) (λ x. inl x) (λ x. x) c)
       where
         listed : (w : ℕ) → Listed m w → Listed marked w
         listed zero x = tt
@@ -129,7 +132,8 @@ module _ (v : ℕ) (m : MarksSeen) where
 
 -- ---- the makers of rows
 
-node_long : (m : MarksSeen) (needs : Needs) (fresh late : List ℕ) → Stands m needs fresh late → (r v : ℕ) → entry m.makers r ≡ Some v → v < length m.wanted
+node_long : (m : MarksSeen) (needs : Needs) (fresh late : List ℕ) → Stands m needs fresh late → (r v : ℕ) → entry m.makers r ≡ Some v
+    → v < length m.wanted
 node_long m needs fresh late s r v e =
     let l = (s.shape.nodes r v e).1 in
     let a = s.shape.wanted in
@@ -143,7 +147,8 @@ module _ (needs : Needs) (fresh late : List ℕ) where
     pub all : (r v : ℕ) → In r rows → entry m.makers r ≡ Some v → flag n.wanted v ≡ true
 
   -- the maker of one row more
-  one_more : (x : ℕ) (xs : List ℕ) (m n : MarksSeen) (q : Makers xs m n) (o : Option ℕ) → entry n.makers x ≡ o → ((v : ℕ) → entry n.makers x ≡ Some v → Led (net needs n.live n.makers n.out) v) → Makers (x ∷ xs) m (wants_some o n)
+  one_more : (x : ℕ) (xs : List ℕ) (m n : MarksSeen) (q : Makers xs m n) (o : Option ℕ) → entry n.makers x ≡ o
+      → ((v : ℕ) → entry n.makers x ≡ Some v → Led (net needs n.live n.makers n.out) v) → Makers (x ∷ xs) m (wants_some o n)
   one_more x xs m n q None e led =
       record { wider = q.wider; stands = q.stands; all = all }
     where
@@ -160,20 +165,24 @@ module _ (needs : Needs) (fresh late : List ℕ) where
         all = λ r v h y. all w.0 w.1 r v h y;
       }
     where
-      all : Wider n (wants u n) → flag (wants u n).wanted u ≡ true → (r v : ℕ) → In r (x ∷ xs) → entry m.makers r ≡ Some v → flag (wants u n).wanted v ≡ true
+      all : Wider n (wants u n) → flag (wants u n).wanted u ≡ true → (r v : ℕ) → In r (x ∷ xs) → entry m.makers r ≡ Some v
+          → flag (wants u n).wanted v ≡ true
       all w t r v (inl s) y =
           let p : Some u ≡ Some v = sym e ∙ (ap (entry n.makers) (sym s) ∙ (ap (λ es. entry es r) q.wider.graph.makers ∙ y)) in
           let z : u ≡ v = cc in
           subst (λ a. flag (wants u n).wanted a ≡ true) z t
       all w t r v (inr h) y = w.wanted v (q.all r v h y)
 
-  pub makers_wanted : (rows : List ℕ) (m : MarksSeen) → Stands m needs fresh late → ((r v : ℕ) → In r rows → entry m.makers r ≡ Some v → Led (net needs m.live m.makers m.out) v) → Makers rows m (wants_makers rows m)
+  pub makers_wanted : (rows : List ℕ) (m : MarksSeen) → Stands m needs fresh late
+      → ((r v : ℕ) → In r rows → entry m.makers r ≡ Some v → Led (net needs m.live m.makers m.out) v) → Makers rows m (wants_makers rows m)
   makers_wanted [] m s f = record { wider = wider_none m; stands = s; all = λ r v h e. absurd h }
   makers_wanted (x ∷ xs) m s f =
       let n = wants_makers xs m in
       let q = makers_wanted xs m s (λ r v h. f r v (inr h)) in
-      one_more x xs m n q (entry n.makers x) refl (λ v e. led n q.wider.graph v (f x v (inl refl) (ap (λ es. entry es x) (sym q.wider.graph.makers) ∙ e)))
+      one_more x xs m n q (entry n.makers x) refl
+      (λ v e. led n q.wider.graph v (f x v (inl refl) (ap (λ es. entry es x) (sym q.wider.graph.makers) ∙ e)))
     where
       led : (n : MarksSeen) → SameGraph m n → (v : ℕ) → Led (net needs m.live m.makers m.out) v → Led (net needs n.live n.makers n.out) v
       led n g v l =
-          subst (λ fs. Led (net needs fs n.makers n.out) v) (sym g.live) (subst (λ es. Led (net needs m.live es n.out) v) (sym g.makers) (subst (λ fs. Led (net needs m.live m.makers fs) v) (sym g.out) l))
+          subst (λ fs. Led (net needs fs n.makers n.out) v) (sym g.live)
+          (subst (λ es. Led (net needs m.live es n.out) v) (sym g.makers) (subst (λ fs. Led (net needs m.live m.makers fs) v) (sym g.out) l))

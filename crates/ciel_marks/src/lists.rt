@@ -91,7 +91,8 @@ pub(crate) fn put_at(lists: &mut Vec<Numbers>, number: u32, list: Numbers)
 
 /// Takes those whose flags are set off the end of the list of a number, and answers the last one that is left.
 pub(crate) fn settle_at(lists: &mut Vec<Numbers>, number: u32, flags: &[bool]) -> Option<u32>
-    ensures { (left : List ℕ) × (lists.new.items ≡ slice_set lists.old.items number left) × Settled flags.now (at lists.old.items number) left result }
+    ensures { (left : List ℕ) × (lists.new.items ≡ slice_set lists.old.items number left)
+        × Settled flags.now (at lists.old.items number) left result }
 {
     let i = number as usize;
     if i < lists.len() {

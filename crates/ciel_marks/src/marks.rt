@@ -1,10 +1,13 @@
 //! The marks: which nodes are wanted, which wait for which rows, and which can run.
 
-ghost use Rattle.std.specs.Prelude.{◌^◌, ◌&&◌, ◌||◌, nat_eq, not, ◌≡◌, ◌<◌, ◌+◌, ◌++◌, ◌∷◌, [], ℕ, true, false, IfOk, IfSome, MatchOption, None, Ok, OnOk, Option, Some, length, slice_get, slice_set, is_some};
+ghost use Rattle.std.specs.Prelude.{◌^◌, ◌&&◌, ◌||◌, nat_eq, not, ◌≡◌, ◌<◌, ◌+◌, ◌++◌, ◌∷◌, [], ℕ, true, false, IfOk, IfSome, MatchOption, None, Ok};
+ghost use Rattle.std.specs.Prelude.{OnOk, Option, Some, length, slice_get, slice_set, is_some};
 ghost use Rattle.ciel_journal.specs.Job.{In};
 ghost use Rattle.ciel_marks.specs.Lists.{Rising, at, entry, flag};
 ghost use Rattle.ciel_marks.specs.Marks.{Active, MarksSeen};
-ghost use Rattle.ciel_marks.specs.Moves.{AddsRight, CanRun, ClosesRight, GoesOn, KeepsRight, ListedAt, LooksAt, Opens, Placed, PlacesRight, SameGraph, SettledAt, UnlistedAt, filed, filed_under, grown, is_none, lacking, left_of, made_live, wants, wants_makers, wants_some, watched};
+ghost use Rattle.ciel_marks.specs.Moves.{AddsRight, CanRun, ClosesRight, GoesOn, KeepsRight, ListedAt, LooksAt, Opens, Placed, PlacesRight};
+ghost use Rattle.ciel_marks.specs.Moves.{SameGraph, SettledAt, UnlistedAt, filed, filed_under, grown, is_none, lacking, left_of, made_live, wants};
+ghost use Rattle.ciel_marks.specs.Moves.{wants_makers, wants_some, watched};
 
 use crate::lists::{
     entry_at, first_of, flag, list_at, push_at, put_at, set_flag, settle_at, take_at,
@@ -37,7 +40,20 @@ impl Model for Marks {
 
     ghost Value = { MarksSeen };
 
-    ghost view = { λ m. record { live = m.live.items; makers = m.makers.items; watchers = m.watchers.items; wanted = m.wanted.items; out = m.out.items; touched = m.touched.items; makes = m.makes.items; lacks = m.lacks.items; list = m.list; todo = m.todo; orphans = m.orphans } };
+    ghost view = { λ m. record {
+      live = m.live.items;
+      makers = m.makers.items;
+      watchers = m.watchers.items;
+      wanted = m.wanted.items;
+      out =
+          m.out.items;
+      touched = m.touched.items;
+      makes = m.makes.items;
+      lacks = m.lacks.items;
+      list = m.list;
+      todo = m.todo;
+      orphans = m.orphans;
+    } };
 }
 
 pub(crate) fn push<T: Drop>(items: &mut Vec<T>, item: T) -> Result<(), Memory>

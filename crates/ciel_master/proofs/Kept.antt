@@ -1,5 +1,6 @@
 -- Each call keeps what holds of a master.
-use Rattle.std.proofs.Common.{◌≡◌, ℕ, zero, suc, ◌+◌, ◌≤◌, ◌<◌, ◌^◌, List, [], ◌∷◌, ◌++◌, length, length-append, Bool, Some, true, false, cond, filter, map, nat_eq, not, slice_get, slice_index_or, refl, ap, ◌∙◌, sym, subst, arith}
+use Rattle.std.proofs.Common.{◌≡◌, ℕ, zero, suc, ◌+◌, ◌≤◌, ◌<◌, ◌^◌, List, [], ◌∷◌, ◌++◌, length, length-append, Bool, Some, true, false, cond}
+use Rattle.std.proofs.Common.{filter, map, nat_eq, not, slice_get, slice_index_or, refl, ap, ◌∙◌, sym, subst, arith}
 use Rattle.sky_base.specs.Val.{no_pairs, no_vals}
 use Rattle.sky_base.specs.declared.object.Desc1.{Desc1}
 use Rattle.sky_base.specs.declared.object.Named.{Named}
@@ -49,11 +50,16 @@ use Rattle.ciel_master.specs.declared.orders.OrderOut.{OrderOut}
 use Rattle.ciel_master.specs.declared.plan.RunPlan.{RunPlan}
 
 module _ (digest : List ℕ → List ℕ) (p : RunPlan) (keys : List (List ℕ)) where
-  pub open_going : (main : Named) (t : TableSeen P) (os : List OrderOut) (es : List Entry) → t ≡ learned digest main (empty most_descriptions) → os ≡ [] → es ≡ [] → length keys < 2 ^ 32 → IsNamed digest main → main.desc ≡ Desc1.Call [] no_pairs no_vals → Going digest (board_of p keys main.name t os 0 0 es false)
+  pub open_going : (main : Named) (t : TableSeen P) (os : List OrderOut) (es : List Entry) → t ≡ learned digest main (empty most_descriptions)
+      → os ≡ [] → es ≡ [] → length keys < 2 ^ 32 → IsNamed digest main → main.desc ≡ Desc1.Call [] no_pairs no_vals
+      → Going digest (board_of p keys main.name t os 0 0 es false)
   open_going main t os es is none nothing few named call =
       let first : Going digest (board_of p keys main.name (learned digest main (empty most_descriptions)) [] 0 0 [] false) =
       record { sound = opened_sound digest worker_of (plan_view p) keys main (omega arith) named call; counted = omega arith; few = few } in
-      subst (λ u. Going digest (board_of p keys main.name u os 0 0 es false)) (sym is) (subst (λ xs. Going digest (board_of p keys main.name (learned digest main (empty most_descriptions)) xs 0 0 es false)) (sym none) (subst (λ xs. Going digest (board_of p keys main.name (learned digest main (empty most_descriptions)) [] 0 0 xs false)) (sym nothing) first))
+      subst (λ u. Going digest (board_of p keys main.name u os 0 0 es false)) (sym is)
+      (subst (λ xs. Going digest (board_of p keys main.name (learned digest main (empty most_descriptions)) xs 0 0 es false)) (sym none)
+      (subst (λ xs. Going digest (board_of p keys main.name (learned digest main (empty most_descriptions)) [] 0 0 xs false)) (sym nothing)
+      first))
 
 some_same : {A : Type 0} (x y : A) → Some x ≡ Some y → x ≡ y
 some_same x y e = cc
@@ -72,9 +78,11 @@ module _ (digest : List ℕ → List ℕ) (b : Board P) (g : Going digest b) whe
   -- the same by the parts of the end
   abbrev pub taken : board.OrderOut → List Named → List Held → End → Board P
   taken x spawned copied end =
-      record (closed b x (table_after x.task (how_view copied end) (learned_for digest end spawned b.table)) (entry_for x.number (how_view copied end))) { stopped = is_last x.task (how_view copied end) }
+      record (closed b x (table_after x.task (how_view copied end) (learned_for digest end spawned b.table))
+      (entry_for x.number (how_view copied end))) { stopped = is_last x.task (how_view copied end) }
 
-  pub taken_is : (x : board.OrderOut) (spawned : List Named) (copied : List Held) (end : End) → b.stopped ≡ false → taken x spawned copied end ≡ accepted digest b x spawned (how_view copied end)
+  pub taken_is : (x : board.OrderOut) (spawned : List Named) (copied : List Held) (end : End) → b.stopped ≡ false → taken x spawned copied end
+      ≡ accepted digest b x spawned (how_view copied end)
   taken_is x spawned copied (End.Made ms) e = refl
   taken_is x spawned copied (End.Saved p k refs holds mark) e =
       ap (λ z. record (taken x spawned copied (End.Saved p k refs holds mark)) { stopped = z }) (sym e)
@@ -83,7 +91,8 @@ module _ (digest : List ℕ → List ℕ) (b : Board P) (g : Going digest b) whe
       ap (λ z. record (taken x spawned copied (End.Missing name loss seen)) { stopped = z }) (sym e)
 
   module _ (x : Order P) (k : ℕ) (out : find_order k b.orders ≡ Some x.out) (spawned : List Named) (copied : List Held) where
-    accepted_is_sound : (end : End) → FitsUnlessMissing digest b x spawned copied end → LearnedFor digest end spawned b.table → Sound digest worker_of (accepted digest b x.out spawned (how_view copied end))
+    accepted_is_sound : (end : End) → FitsUnlessMissing digest b x spawned copied end → LearnedFor digest end spawned b.table
+        → Sound digest worker_of (accepted digest b x.out spawned (how_view copied end))
     accepted_is_sound (End.Made ms) fits all =
         accepted_sound digest worker_of b g.sound x k out spawned (how_view copied (End.Made ms)) (fits (λ z. z)) all
     accepted_is_sound (End.Saved p n refs holds mark) fits all =
@@ -92,9 +101,12 @@ module _ (digest : List ℕ → List ℕ) (b : Board P) (g : Going digest b) whe
         accepted_sound digest worker_of b g.sound x k out spawned (how_view copied (End.Shown s)) (fits (λ z. z)) all
     accepted_is_sound (End.Missing name loss seen) fits all =
         let s = g.sound in
-        closed_sound digest worker_of b s (λ (q : board.OrderOut). not (nat_eq x.out.number q.number)) b.table (b.journal ++ j.Entry.Missed x.out.number name loss.number ∷ []) (b.closes + 1) b.stopped (λ n i. i) (record { rows = s.rows; shown = s.shown; saved = s.saved }) s.room refl (λ y i q. (q.here, q.last))
+        closed_sound digest worker_of b s (λ (q : board.OrderOut). not (nat_eq x.out.number q.number)) b.table
+        (b.journal ++ j.Entry.Missed x.out.number name loss.number ∷ []) (b.closes + 1) b.stopped (λ n i. i)
+        (record { rows = s.rows; shown = s.shown; saved = s.saved }) s.room refl (λ y i q. (q.here, q.last))
 
-    pub taken_going : (end : End) → FitsUnlessMissing digest b x spawned copied end → LearnedFor digest end spawned b.table → b.stopped ≡ false → Going digest (taken x.out spawned copied end)
+    pub taken_going : (end : End) → FitsUnlessMissing digest b x spawned copied end → LearnedFor digest end spawned b.table → b.stopped ≡ false
+        → Going digest (taken x.out spawned copied end)
     taken_going end fits all e =
         let long = more_written b.journal (entry_for x.out.number (how_view copied end)) in
         let counted = g.counted in
@@ -112,9 +124,11 @@ module _ (digest : List ℕ → List ℕ) (t : TableSeen P) (x : Order P) (h : H
 
   copies_can : (copied : List Held) → Each (CopyFits digest worker_of t x) (copies_view copied) → CopiesPlace t copied
   copies_can copied e =
-      each_more (CopyFits digest worker_of t x) (λ (c : Copy P). Known t c.name × Here t.gone (worker_of c.place)) (λ c f. (f.known, subst (Here t.gone) (sym f.here) h)) (copies_view copied) e
+      each_more (CopyFits digest worker_of t x) (λ (c : Copy P). Known t c.name × Here t.gone (worker_of c.place))
+      (λ c f. (f.known, subst (Here t.gone) (sym f.here) h)) (copies_view copied) e
 
-module _ (digest : List ℕ → List ℕ) (b : Board P) (s : Sound digest worker_of b) (x : Order P) (k : ℕ) (out : find_order k b.orders ≡ Some x.out) (spawned : List Named) where
+module _ (digest : List ℕ → List ℕ) (b : Board P) (s : Sound digest worker_of b) (x : Order P) (k : ℕ) (out : find_order k b.orders ≡ Some x.out)
+    (spawned : List Named) where
   abbrev then : TableSeen P
   then = learned_all digest spawned b.table
 
@@ -127,9 +141,12 @@ module _ (digest : List ℕ → List ℕ) (b : Board P) (s : Sound digest worker
   is_above : (n : ℕ) → x.out.from < n → IsAbove n (waits_of x.out.task then)
   is_above n l =
       let g = grown digest spawned b.table in
-      subst (AllByRecursion (λ (w : Wait P). w.j < n)) (sym (same_waits x.out.task b.table then g.shown g.saved)) (all_more (λ (w : Wait P). w.j ≤ x.out.from) (λ (w : Wait P). w.j < n) (λ w m. omega (arith, m, l)) (waits_of x.out.task b.table) is_sound.last)
+      subst (AllByRecursion (λ (w : Wait P). w.j < n)) (sym (same_waits x.out.task b.table then g.shown g.saved))
+      (all_more (λ (w : Wait P). w.j ≤ x.out.from) (λ (w : Wait P). w.j < n) (λ w m. omega (arith, m, l)) (waits_of x.out.task b.table)
+      is_sound.last)
 
-  pub can_take : (copied : List Held) (end : End) → FitsUnlessMissing digest b x spawned copied end → LearnedFor digest end spawned b.table → CanTake x.out.task (learned_for digest end spawned b.table) copied end
+  pub can_take : (copied : List Held) (end : End) → FitsUnlessMissing digest b x spawned copied end → LearnedFor digest end spawned b.table
+      → CanTake x.out.task (learned_for digest end spawned b.table) copied end
   can_take copied (End.Made ms) f all =
       let e = ((f (λ z. z)).learned all).end in
       (outputs_can digest then x is_here ms.items e.0, copies_can digest then x is_here copied e.1)
@@ -159,7 +176,8 @@ for_gone digest (End.Saved p k refs holds mark) ns t = (grown digest ns t).gone
 for_gone digest (End.Shown s) ns t = (grown digest ns t).gone
 for_gone digest (End.Missing name loss seen) ns t = refl
 
-pub open_gone : (digest : List ℕ → List ℕ) (main : Named) (t : TableSeen P) (lost : List ℕ) → t ≡ learned digest main (empty most_descriptions) → lost ≡ [] → t.gone ≡ lost
+pub open_gone : (digest : List ℕ → List ℕ) (main : Named) (t : TableSeen P) (lost : List ℕ) → t ≡ learned digest main (empty most_descriptions)
+    → lost ≡ [] → t.gone ≡ lost
 open_gone digest main t lost is none =
     let first : TableSeen P = empty most_descriptions in
     ap (λ (u : TableSeen P). u.gone) is ∙ ((grown digest (main ∷ []) first).gone ∙ sym none)
@@ -180,12 +198,15 @@ left_most : (losses : List (ℕ × ℕ)) (gone : List ℕ) → losses_left losse
 left_most [] gone = omega arith
 left_most (x ∷ xs) gone = pick (not (list_any (nat_eq x.1) gone)) (left_most xs gone)
   where
-    pick : (c : Bool) → losses_left xs gone ≤ length xs → length (cond c (x ∷ filter (λ (y : ℕ × ℕ). not (list_any (nat_eq y.1) gone)) xs) (filter (λ (y : ℕ × ℕ). not (list_any (nat_eq y.1) gone)) xs)) ≤ suc (length xs)
+    pick : (c : Bool) → losses_left xs gone ≤ length xs
+        → length (cond c (x ∷ filter (λ (y : ℕ × ℕ). not (list_any (nat_eq y.1) gone)) xs)
+        (filter (λ (y : ℕ × ℕ). not (list_any (nat_eq y.1) gone)) xs)) ≤ suc (length xs)
     pick true l = omega (arith, l)
     pick false l = omega (arith, l)
 
 -- at the beginning
-pub open_room : (losses : List (ℕ × ℕ)) (lost : List ℕ) (es : List Entry) (room entries workers : ℕ) → lost ≡ [] → es ≡ [] → room ≡ length losses → room ≤ entries → room ≤ workers → HasRoom losses lost (length (map entry_view es)) entries workers
+pub open_room : (losses : List (ℕ × ℕ)) (lost : List ℕ) (es : List Entry) (room entries workers : ℕ) → lost ≡ [] → es ≡ [] → room ≡ length losses
+    → room ≤ entries → room ≤ workers → HasRoom losses lost (length (map entry_view es)) entries workers
 open_room losses lost es room entries workers none nothing is a b =
     let l = left_most losses lost in
     let k : length (map entry_view es) ≡ 0 = ap (λ xs. length (map entry_view xs)) nothing in
@@ -193,18 +214,23 @@ open_room losses lost es room entries workers none nothing is a b =
     record { journal = omega (arith, l, k, is, a); workers = omega (arith, l, m, is, b) }
 
 -- what is kept, by its parts
-parts : (new : ReadySeen P) (main : List ℕ) (out : List TaskId) → new.main ≡ main → new.out ≡ out → new ≡ record { table = new.table; main = main; out = out }
+parts : (new : ReadySeen P) (main : List ℕ) (out : List TaskId) → new.main ≡ main → new.out ≡ out → new
+    ≡ record { table = new.table; main = main; out = out }
 parts new main out e f =
     ap (λ z. record { table = new.table; main = z; out = new.out }) e
     ∙ ap (λ z. record { table = new.table; main = main; out = z }) f
 
 -- at the beginning
-pub open_ready : (main : Named) (p : RunPlan) (keys : List (List ℕ)) (t : TableSeen P) (os : List OrderOut) (es : List Entry) (new : ReadySeen P) → new ≡ record { table = t; main = main.name; out = [] } → os ≡ [] → new ≡ ready_of (board_of p keys main.name new.table os 0 0 es false)
+pub open_ready : (main : Named) (p : RunPlan) (keys : List (List ℕ)) (t : TableSeen P) (os : List OrderOut) (es : List Entry) (new : ReadySeen P)
+    → new ≡ record { table = t; main = main.name; out = [] } → os ≡ [] → new ≡ ready_of (board_of p keys main.name new.table os 0 0 es false)
 open_ready main p keys t os es new is none =
-    parts new main.name (tasks_out (map kept_view os)) (ap (λ (r : ReadySeen P). r.main) is) (ap (λ (r : ReadySeen P). r.out) is ∙ ap (λ xs. tasks_out (map kept_view xs)) (sym none))
+    parts new main.name (tasks_out (map kept_view os)) (ap (λ (r : ReadySeen P). r.main) is)
+    (ap (λ (r : ReadySeen P). r.out) is ∙ ap (λ xs. tasks_out (map kept_view xs)) (sym none))
 
 -- a master in its state, which goes on
-module _ {N : Type 0} (dig : N → (List ℕ → List ℕ)) (m : MasterSeen N) (n : N) (shelves : ShelvesSeen) (b : Board P) (e : record { namer = n; shelves = shelves; board = b } ≡ m) (lost : List ℕ) (entries workers : ℕ) (marker : SeatSeen) (ready : ReadySeen P) (stands : MasterStands (dig n) b lost entries workers shelves marker ready) (run : m.board.stopped ≡ false) where
+module _ {N : Type 0} (dig : N → (List ℕ → List ℕ)) (m : MasterSeen N) (n : N) (shelves : ShelvesSeen) (b : Board P)
+    (e : record { namer = n; shelves = shelves; board = b } ≡ m) (lost : List ℕ) (entries workers : ℕ) (marker : SeatSeen) (ready : ReadySeen P)
+    (stands : MasterStands (dig n) b lost entries workers shelves marker ready) (run : m.board.stopped ≡ false) where
   goes : b.stopped ≡ false
   goes = subst (λ (z : MasterSeen N). z.board.stopped ≡ false) (sym e) run
 
@@ -218,7 +244,8 @@ module _ {N : Type 0} (dig : N → (List ℕ → List ℕ)) (m : MasterSeen N) (
   room_now = (stands goes).2
 
   -- where an entry is written with room for all losses
-  pub room_written : (es : List Entry) (room more : ℕ) → room ≡ length b.plan.losses → length es + room ≤ more → HasRoom b.plan.losses lost (length (map entry_view es)) more workers
+  pub room_written : (es : List Entry) (room more : ℕ) → room ≡ length b.plan.losses → length es + room ≤ more
+      → HasRoom b.plan.losses lost (length (map entry_view es)) more workers
   room_written es room more is fits =
       let l = left_most b.plan.losses lost in
       let k = length-map es entry_view in
@@ -233,7 +260,9 @@ module _ {N : Type 0} (dig : N → (List ℕ → List ℕ)) (m : MasterSeen N) (
 
   pub carried_now : (now : SeatSeen) → now ≡ marker → (end : End) → WasMarked now.losses end → IsCarriedOut m.board end
   carried_now now same end k =
-      subst (λ (z : MasterSeen N). IsCarriedOut z.board end) e (carried_out b.plan.losses lost shelves marker marked_now b refl gone_now end (subst (λ (s : SeatSeen). WasMarked s.losses end) same k))
+      subst (λ (z : MasterSeen N). IsCarriedOut z.board end) e
+      (carried_out b.plan.losses lost shelves marker marked_now b refl gone_now end
+      (subst (λ (s : SeatSeen). WasMarked s.losses end) same k))
 
   pub whole_now : Whole b.main b.table
   whole_now = sound_whole (dig n) worker_of b going.sound
@@ -256,7 +285,10 @@ module _ {N : Type 0} (dig : N → (List ℕ → List ℕ)) (m : MasterSeen N) (
       record { numbers = s.numbers; tasks = s.tasks; workers = s.workers }
 
   -- after a start
-  module _ (x : TaskId) (w from : ℕ) (r : Runnable (board_graph m.board) x) (i : In w (idle_of m.board)) (os : List board.OrderOut) (js : List j.Entry) (is_from : from ≡ wait_number (last_wait x b.table)) (is_os : os ≡ b.orders ++ record { number = b.starts; worker = w; task = x; from = from } ∷ []) (is_js : js ≡ b.journal ++ j.Entry.Start b.starts w (task_key x) from ∷ []) (new : ReadySeen P) (is_new : new ≡ with_out ready x) where
+  module _ (x : TaskId) (w from : ℕ) (r : Runnable (board_graph m.board) x) (i : In w (idle_of m.board)) (os : List board.OrderOut)
+      (js : List j.Entry) (is_from : from ≡ wait_number (last_wait x b.table))
+      (is_os : os ≡ b.orders ++ record { number = b.starts; worker = w; task = x; from = from } ∷ [])
+      (is_js : js ≡ b.journal ++ j.Entry.Start b.starts w (task_key x) from ∷ []) (new : ReadySeen P) (is_new : new ≡ with_out ready x) where
     abbrev now_started : Board P
     now_started = record b { table = new.table; orders = os; starts = b.starts + 1; journal = js }
 
@@ -265,7 +297,9 @@ module _ {N : Type 0} (dig : N → (List ℕ → List ℕ)) (m : MasterSeen N) (
 
     pub ready_started : new ≡ ready_of now_started
     ready_started =
-        parts new b.main (tasks_out os) (ap (λ (r : ReadySeen P). r.main) is_new ∙ ap (λ (r : ReadySeen P). r.main) ready_now) (ap (λ (r : ReadySeen P). r.out) is_new ∙ (ap (λ (r : ReadySeen P). r.out ++ x ∷ []) ready_now ∙ (sym (tasks_join b.orders (record { number = b.starts; worker = w; task = x; from = from })) ∙ ap tasks_out (sym is_os))))
+        parts new b.main (tasks_out os) (ap (λ (r : ReadySeen P). r.main) is_new ∙ ap (λ (r : ReadySeen P). r.main) ready_now)
+        (ap (λ (r : ReadySeen P). r.out) is_new ∙ (ap (λ (r : ReadySeen P). r.out ++ x ∷ []) ready_now
+        ∙ (sym (tasks_join b.orders (record { number = b.starts; worker = w; task = x; from = from })) ∙ ap tasks_out (sym is_os))))
 
     pub gone_started : new.table.gone ≡ lost
     gone_started = ap (λ (t : TableSeen P). t.gone) same_table ∙ gone_now
@@ -276,7 +310,10 @@ module _ {N : Type 0} (dig : N → (List ℕ → List ℕ)) (m : MasterSeen N) (
         let ei = subst (λ (z : MasterSeen N). In w (idle_of z.board)) (sym e) i in
         let os_so = is_os ∙ ap (λ f. b.orders ++ record { number = b.starts; worker = w; task = x; from = f } ∷ []) is_from in
         let js_so = is_js ∙ ap (λ f. b.journal ++ j.Entry.Start b.starts w (task_key x) f ∷ []) is_from in
-        let so : now_started ≡ started worker_of b x w = ap (λ z. record b { table = z; orders = os; starts = b.starts + 1; journal = js }) same_table ∙ (ap (λ z. record b { orders = z; starts = b.starts + 1; journal = js }) os_so ∙ ap (λ z. record (started worker_of b x w) { journal = z }) js_so) in
+        let so : now_started ≡ started worker_of b x w =
+        ap (λ z. record b { table = z; orders = os; starts = b.starts + 1; journal = js }) same_table
+        ∙ (ap (λ z. record b { orders = z; starts = b.starts + 1; journal = js }) os_so
+        ∙ ap (λ z. record (started worker_of b x w) { journal = z }) js_so) in
         subst (Going (dig n)) (sym so) (started_going (dig n) b going x w er ei)
 
   -- where the table alone has changed
@@ -284,17 +321,22 @@ module _ {N : Type 0} (dig : N → (List ℕ → List ℕ)) (m : MasterSeen N) (
   changed_out now t is_now = ap (λ (r : ReadySeen P). r.out) is_now ∙ ap (λ (r : ReadySeen P). r.out) ready_now
 
   -- after orders are closed: the table has changed, then what is out
-  module _ (before new : ReadySeen P) (t : TableSeen P) (os : List board.OrderOut) (is_before : before ≡ with_table ready t) (is_new : new ≡ record before { out = tasks_out os }) where
+  module _ (before new : ReadySeen P) (t : TableSeen P) (os : List board.OrderOut) (is_before : before ≡ with_table ready t)
+      (is_new : new ≡ record before { out = tasks_out os }) where
     pub closed_table : new.table ≡ t
     closed_table = ap (λ (r : ReadySeen P). r.table) is_new ∙ ap (λ (r : ReadySeen P). r.table) is_before
 
     pub closed_ready : new ≡ record { table = new.table; main = b.main; out = tasks_out os }
     closed_ready =
-        parts new b.main (tasks_out os) (ap (λ (r : ReadySeen P). r.main) is_new ∙ (ap (λ (r : ReadySeen P). r.main) is_before ∙ ap (λ (r : ReadySeen P). r.main) ready_now)) (ap (λ (r : ReadySeen P). r.out) is_new)
+        parts new b.main (tasks_out os) (ap (λ (r : ReadySeen P). r.main) is_new
+        ∙ (ap (λ (r : ReadySeen P). r.main) is_before ∙ ap (λ (r : ReadySeen P). r.main) ready_now)) (ap (λ (r : ReadySeen P). r.out) is_new)
 
   -- after a loss
-  module _ (w : ℕ) (u : TableSeen P) (os : List board.OrderOut) (js : List j.Entry) (is_u : u ≡ dropped worker_of w b.table) (is_os : os ≡ filter (λ (x : board.OrderOut). not (nat_eq w x.worker)) b.orders) (is_js : js ≡ b.journal ++ j.Entry.Lost w b.closes ∷ []) where
-    pub room_lost : (count loss : ℕ) → slice_get b.plan.losses loss ≡ Some (count, w) → list_any (nat_eq w) lost ≡ false → (more : List ℕ) → more ≡ lost ++ w ∷ [] → HasRoom b.plan.losses more (length js) entries workers
+  module _ (w : ℕ) (u : TableSeen P) (os : List board.OrderOut) (js : List j.Entry) (is_u : u ≡ dropped worker_of w b.table)
+      (is_os : os ≡ filter (λ (x : board.OrderOut). not (nat_eq w x.worker)) b.orders)
+      (is_js : js ≡ b.journal ++ j.Entry.Lost w b.closes ∷ []) where
+    pub room_lost : (count loss : ℕ) → slice_get b.plan.losses loss ≡ Some (count, w) → list_any (nat_eq w) lost ≡ false → (more : List ℕ) → more
+        ≡ lost ++ w ∷ [] → HasRoom b.plan.losses more (length js) entries workers
     room_lost count loss planned here more is =
         let f = fewer_losses b.plan.losses lost loss count w planned here in
         let e : losses_left b.plan.losses more ≡ losses_left b.plan.losses (lost ++ w ∷ []) = ap (losses_left b.plan.losses) is in
@@ -310,13 +352,18 @@ module _ {N : Type 0} (dig : N → (List ℕ → List ℕ)) (m : MasterSeen N) (
 
     pub going_lost : Going (dig n) (record b { table = u; orders = os; journal = js })
     going_lost =
-        let so : record b { table = u; orders = os; journal = js } ≡ lost_at worker_of w b = ap (λ z. record b { table = z; orders = os; journal = js }) is_u ∙ (ap (λ z. record b { table = dropped worker_of w b.table; orders = z; journal = js }) is_os ∙ ap (λ z. record (lost_at worker_of w b) { journal = z }) is_js) in
+        let so : record b { table = u; orders = os; journal = js } ≡ lost_at worker_of w b =
+        ap (λ z. record b { table = z; orders = os; journal = js }) is_u
+        ∙ (ap (λ z. record b { table = dropped worker_of w b.table; orders = z; journal = js }) is_os
+        ∙ ap (λ z. record (lost_at worker_of w b) { journal = z }) is_js) in
         let long = more_written b.journal (j.Entry.Lost w b.closes) in
         let counted = going.counted in
-        subst (Going (dig n)) (sym so) (record { sound = lost_sound (dig n) worker_of b going.sound w; counted = omega (arith, long, counted); few = going.few })
+        subst (Going (dig n)) (sym so)
+        (record { sound = lost_sound (dig n) worker_of b going.sound w; counted = omega (arith, long, counted); few = going.few })
 
   -- the loss that comes next
-  module _ (number : ℕ) (due : (w : ℕ) × FirstDue m.board.plan.losses m.board.closes m.board.table.gone number w) (losses : List (ℕ × ℕ)) (is_losses : losses ≡ b.plan.losses) where
+  module _ (number : ℕ) (due : (w : ℕ) × FirstDue m.board.plan.losses m.board.closes m.board.table.gone number w) (losses : List (ℕ × ℕ))
+      (is_losses : losses ≡ b.plan.losses) where
     abbrev the_worker : ℕ
     the_worker = (slice_index_or losses number (0, 0)).1
 
@@ -361,26 +408,47 @@ module _ {N : Type 0} (dig : N → (List ℕ → List ℕ)) (m : MasterSeen N) (
     shelf_now = has_shelf b.plan.losses lost shelves marker marked_now number due_now.count the_worker planned_now
 
     -- and the state after it
-    module _ (u : TableSeen P) (os : List board.OrderOut) (js : List j.Entry) (is_u : u ≡ dropped worker_of the_worker b.table) (is_os : os ≡ filter (λ (x : board.OrderOut). not (nat_eq the_worker x.worker)) b.orders) (is_js : js ≡ b.journal ++ j.Entry.Lost the_worker b.closes ∷ []) where
-      pub lost_stands : (more : List ℕ) → more ≡ lost ++ the_worker ∷ [] → (lines places : ℕ) → lines ≡ entries → places ≡ workers → Going (dig n) (record b { table = u; orders = os; journal = js }) × (u.gone ≡ more) × HasRoom b.plan.losses more (length js) lines places
+    module _ (u : TableSeen P) (os : List board.OrderOut) (js : List j.Entry) (is_u : u ≡ dropped worker_of the_worker b.table)
+        (is_os : os ≡ filter (λ (x : board.OrderOut). not (nat_eq the_worker x.worker)) b.orders)
+        (is_js : js ≡ b.journal ++ j.Entry.Lost the_worker b.closes ∷ []) where
+      pub lost_stands : (more : List ℕ) → more ≡ lost ++ the_worker ∷ [] → (lines places : ℕ) → lines ≡ entries → places ≡ workers
+          → Going (dig n) (record b { table = u; orders = os; journal = js }) × (u.gone ≡ more)
+          × HasRoom b.plan.losses more (length js) lines places
       lost_stands more is lines places same also =
-          let r = room_lost the_worker u os js is_u is_os is_js due_now.count number planned_now here_now more is in
-          (going_lost the_worker u os js is_u is_os is_js, gone_lost the_worker u os js is_u is_os is_js more is, subst (λ k. HasRoom b.plan.losses more (length js) lines k) (sym also) (subst (λ k. HasRoom b.plan.losses more (length js) k workers) (sym same) r))
+          let r = room_lost the_worker u os js is_u is_os is_js due_now.count number planned_now here_now more is in (
+            going_lost the_worker u os js is_u is_os is_js,
+            gone_lost the_worker u os js is_u is_os is_js more is,
+            subst (λ k. HasRoom b.plan.losses more (length js) lines k) (sym also)
+                (subst (λ k. HasRoom b.plan.losses more (length js) k workers) (sym same) r),
+          )
 
-      pub marked_lost : (more : List ℕ) → more ≡ lost ++ the_worker ∷ [] → (seat : SeatSeen) → seat ≡ record { of = marker.of; losses = marked marker.losses (record { number = number; worker = the_worker }) } → Marked b.plan.losses more shelves seat
+      pub marked_lost : (more : List ℕ) → more ≡ lost ++ the_worker ∷ [] → (seat : SeatSeen) → seat
+          ≡ record { of = marker.of; losses = marked marker.losses (record { number = number; worker = the_worker }) }
+          → Marked b.plan.losses more shelves seat
       marked_lost more is seat so =
-          marked_more b.plan.losses lost shelves marker marked_now (record { number = number; worker = the_worker }) (due_now.count, planned_now) here_now more is seat so
+          marked_more b.plan.losses lost shelves marker marked_now (record { number = number; worker = the_worker }) (due_now.count, planned_now)
+          here_now more is seat so
 
-      pub lost_so : (w : ℕ) → FirstDue m.board.plan.losses m.board.closes m.board.table.gone number w → record { namer = n; shelves = shelves; board = record b { table = u; orders = os; journal = js } } ≡ record m { board = lost_at worker_of w m.board }
+      pub lost_so : (w : ℕ) → FirstDue m.board.plan.losses m.board.closes m.board.table.gone number w
+          → record { namer = n; shelves = shelves; board = record b { table = u; orders = os; journal = js } }
+          ≡ record m { board = lost_at worker_of w m.board }
       lost_so w d =
-          let so : record b { table = u; orders = os; journal = js } ≡ lost_at worker_of the_worker b = ap (λ z. record b { table = z; orders = os; journal = js }) is_u ∙ (ap (λ z. record b { table = dropped worker_of the_worker b.table; orders = z; journal = js }) is_os ∙ ap (λ z. record (lost_at worker_of the_worker b) { journal = z }) is_js) in
-          ap (λ z. record { namer = n; shelves = shelves; board = z }) (so ∙ ap (λ z. lost_at worker_of z b) (worker_is w d)) ∙ ap (λ (z : MasterSeen N). record z { board = lost_at worker_of w z.board }) e
+          let so : record b { table = u; orders = os; journal = js } ≡ lost_at worker_of the_worker b =
+          ap (λ z. record b { table = z; orders = os; journal = js }) is_u
+          ∙ (ap (λ z. record b { table = dropped worker_of the_worker b.table; orders = z; journal = js }) is_os
+          ∙ ap (λ z. record (lost_at worker_of the_worker b) { journal = z }) is_js) in
+          ap (λ z. record { namer = n; shelves = shelves; board = z }) (so ∙ ap (λ z. lost_at worker_of z b) (worker_is w d))
+          ∙ ap (λ (z : MasterSeen N). record z { board = lost_at worker_of w z.board }) e
 
   -- after a report
-  module _ (number : ℕ) (spawned : List Named) (copied : List Held) (end : End) (fits : (x : Order P) × (find_order number m.board.orders ≡ Some x.out) × FitsUnlessMissing (dig m.namer) m.board x spawned copied end) (o : board.OrderOut) (found : find_order number b.orders ≡ Some o) (k : N) (is_k : k ≡ n) (ns : List Named) (is_ns : ns ≡ spawned) (cs : List Held) (is_cs : cs ≡ copied) (t : TableSeen P) (is_t : t ≡ learned_for (dig k) end ns b.table) where
+  module _ (number : ℕ) (spawned : List Named) (copied : List Held) (end : End)
+      (fits : (x : Order P) × (find_order number m.board.orders ≡ Some x.out) × FitsUnlessMissing (dig m.namer) m.board x spawned copied end)
+      (o : board.OrderOut) (found : find_order number b.orders ≡ Some o) (k : N) (is_k : k ≡ n) (ns : List Named) (is_ns : ns ≡ spawned)
+      (cs : List Held) (is_cs : cs ≡ copied) (t : TableSeen P) (is_t : t ≡ learned_for (dig k) end ns b.table) where
     fits_now : (x : Order P) × (find_order number b.orders ≡ Some x.out) × FitsUnlessMissing (dig n) b x spawned copied end
     fits_now =
-        subst (λ (z : MasterSeen N). (x : Order P) × (find_order number z.board.orders ≡ Some x.out) × FitsUnlessMissing (dig z.namer) z.board x spawned copied end) (sym e) fits
+        subst (λ (z : MasterSeen N). (x : Order P) × (find_order number z.board.orders ≡ Some x.out)
+        × FitsUnlessMissing (dig z.namer) z.board x spawned copied end) (sym e) fits
 
     is_then : t ≡ learned_for (dig n) end spawned b.table
     is_then = is_t ∙ (ap (λ z. learned_for (dig z) end ns b.table) is_k ∙ ap (λ z. learned_for (dig n) end z b.table) is_ns)
@@ -400,12 +468,18 @@ module _ {N : Type 0} (dig : N → (List ℕ → List ℕ)) (m : MasterSeen N) (
       takes_now =
           let x = fits_now.0 in
           let can = can_take (dig n) b going.sound x number fits_now.1 spawned copied end fits_now.2 all_now in
-          subst (λ (z : board.OrderOut). CanTake z.task t cs end) same_order (subst (λ u. CanTake x.out.task u cs end) (sym is_then) (subst (λ ds. CanTake x.out.task (learned_for (dig n) end spawned b.table) ds end) (sym is_cs) can))
+          subst (λ (z : board.OrderOut). CanTake z.task t cs end) same_order
+          (subst (λ u. CanTake x.out.task u cs end) (sym is_then)
+          (subst (λ ds. CanTake x.out.task (learned_for (dig n) end spawned b.table) ds end) (sym is_cs) can))
 
-    module _ (all : LearnedFor (dig k) end ns b.table) (u : TableSeen P) (os : List board.OrderOut) (js : List j.Entry) (last : Bool) (is_u : u ≡ table_after o.task (how_view cs end) t) (is_os : os ≡ without o.number b.orders) (is_js : js ≡ b.journal ++ entry_for o.number (how_view cs end) ∷ []) (ds : List Held) (is_ds : ds ≡ copied) (is_last_so : last ≡ is_last o.task (how_view ds end)) where
+    module _ (all : LearnedFor (dig k) end ns b.table) (u : TableSeen P) (os : List board.OrderOut) (js : List j.Entry) (last : Bool)
+        (is_u : u ≡ table_after o.task (how_view cs end) t) (is_os : os ≡ without o.number b.orders)
+        (is_js : js ≡ b.journal ++ entry_for o.number (how_view cs end) ∷ []) (ds : List Held) (is_ds : ds ≡ copied)
+        (is_last_so : last ≡ is_last o.task (how_view ds end)) where
       pub gone_after : u.gone ≡ lost
       gone_after =
-          ap (λ (z : TableSeen P). z.gone) is_u ∙ (after_gone o.task (how_view cs end) t ∙ (ap (λ (z : TableSeen P). z.gone) is_t ∙ (for_gone (dig k) end ns b.table ∙ gone_now)))
+          ap (λ (z : TableSeen P). z.gone) is_u ∙ (after_gone o.task (how_view cs end) t
+          ∙ (ap (λ (z : TableSeen P). z.gone) is_t ∙ (for_gone (dig k) end ns b.table ∙ gone_now)))
 
       abbrev now : Board P
       now = record b { table = u; orders = os; closes = b.closes + 1; journal = js; stopped = last }
@@ -422,9 +496,17 @@ module _ {N : Type 0} (dig : N → (List ℕ → List ℕ)) (m : MasterSeen N) (
 
       pub going_accepted : Going (dig n) now
       going_accepted =
-          subst (Going (dig n)) (sym now_is) (subst (λ (z : board.OrderOut). Going (dig n) (taken (dig n) b going z spawned copied end)) same_order (taken_going (dig n) b going fits_now.0 number fits_now.1 spawned copied end fits_now.2 (all_now all) goes))
+          subst (Going (dig n)) (sym now_is) (subst (λ (z : board.OrderOut). Going (dig n) (taken (dig n) b going z spawned copied end))
+          same_order (taken_going (dig n) b going fits_now.0 number fits_now.1 spawned copied end fits_now.2 (all_now all) goes))
 
-      pub accepted_so : (x : board.OrderOut) × (find_order number m.board.orders ≡ Some x) × (record { namer = n; shelves = shelves; board = now } ≡ record m { board = accepted (dig m.namer) m.board x spawned (how_view copied end) })
+      pub accepted_so : (x : board.OrderOut) × (find_order number m.board.orders ≡ Some x)
+          × (record { namer = n; shelves = shelves; board = now }
+          ≡ record m { board = accepted (dig m.namer) m.board x spawned (how_view copied end) })
       accepted_so =
-          let so = now_is ∙ taken_is (dig n) b going o spawned copied end goes in
-          (o, subst (λ (z : MasterSeen N). find_order number z.board.orders ≡ Some o) e found, subst (λ (z : MasterSeen N). record { namer = n; shelves = shelves; board = now } ≡ record z { board = accepted (dig z.namer) z.board o spawned (how_view copied end) }) e (ap (λ z. record { namer = n; shelves = shelves; board = z }) so))
+          let so = now_is ∙ taken_is (dig n) b going o spawned copied end goes in (
+            o,
+            subst (λ (z : MasterSeen N). find_order number z.board.orders ≡ Some o) e found,
+            subst (λ (z : MasterSeen N). record { namer = n; shelves = shelves; board = now }
+                ≡ record z { board = accepted (dig z.namer) z.board o spawned (how_view copied end) }) e
+                (ap (λ z. record { namer = n; shelves = shelves; board = z }) so),
+          )

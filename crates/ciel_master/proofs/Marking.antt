@@ -1,5 +1,6 @@
 -- Losses that were carried out, and what an eye had seen of them.
-use Rattle.std.proofs.Common.{◌≡◌, ℕ, zero, suc, ◌<◌, List, [], ◌∷◌, ◌++◌, length, true, false, ◌||◌, ◌==◌, ◌⊎◌, inl, inr, Option, Some, None, cond, map, nat_eq, slice_get, eqb-true, eq-eqb, refl, ap, sym, ◌∙◌, subst, arith}
+use Rattle.std.proofs.Common.{◌≡◌, ℕ, zero, suc, ◌<◌, List, [], ◌∷◌, ◌++◌, length, true, false, ◌||◌, ◌==◌, ◌⊎◌, inl, inr, Option, Some, None, cond}
+use Rattle.std.proofs.Common.{map, nat_eq, slice_get, eqb-true, eq-eqb, refl, ap, sym, ◌∙◌, subst, arith}
 use Rattle.std.specs.List.{list_any}
 use mathlib.Core.Option.{some}
 use lib.ListN.{get_elem?}
@@ -35,7 +36,8 @@ all_in seen own a l i =
     let h = a l (in_has seen l i) in at_in own h.0 l h.1
 
 -- what an eye had seen is in the list that it was confirmed by
-pub seen_is : (o : Option SeatSeen) (seen : SeatSeen) → o ≡ Some seen → (own : List Loss) → AllIn seen.losses own → (l : Loss) → HasSeen o l → In l own
+pub seen_is : (o : Option SeatSeen) (seen : SeatSeen) → o ≡ Some seen → (own : List Loss) → AllIn seen.losses own → (l : Loss) → HasSeen o l
+    → In l own
 seen_is o seen is own a l h = all_in seen.losses own a l (subst (λ z. HasSeen z l) is h)
 
 pub nothing_seen : (o : Option SeatSeen) → o ≡ None → (own : List Loss) (l : Loss) → HasSeen o l → In l own
@@ -55,7 +57,8 @@ pub not_lost : (ls : List Loss) (w : ℕ) → list_any (nat_eq w) (map worker_lo
 not_lost [] w e = refl
 not_lost (l ∷ ls) w e = pick (bool_cases (nat_eq w l.worker)) (bool_cases (l.worker == w)) (not_lost ls w)
   where
-    pick : ((nat_eq w l.worker ≡ true) ⊎ (nat_eq w l.worker ≡ false)) → ((l.worker == w ≡ true) ⊎ (l.worker == w ≡ false)) → (list_any (nat_eq w) (map worker_lost ls) ≡ false → is_lost ls w ≡ false) → is_lost (l ∷ ls) w ≡ false
+    pick : ((nat_eq w l.worker ≡ true) ⊎ (nat_eq w l.worker ≡ false)) → ((l.worker == w ≡ true) ⊎ (l.worker == w ≡ false))
+        → (list_any (nat_eq w) (map worker_lost ls) ≡ false → is_lost ls w ≡ false) → is_lost (l ∷ ls) w ≡ false
     pick (inl y) k r = let a : true ≡ false = sym (ap (λ b. b || list_any (nat_eq w) (map worker_lost ls)) y) ∙ e in cc
     pick (inr n) (inl y) r =
         let a : true ≡ false = sym (eq-eqb w l.worker (sym (eqb-true l.worker w y))) ∙ n in cc
@@ -84,10 +87,13 @@ module _ (losses : List (ℕ × ℕ)) (lost : List ℕ) (shelves : ShelvesSeen) 
       at (x ∷ xs) (suc k) e a = at xs k e a.1
 
   -- with a loss more
-  pub marked_more : (l : Loss) → IsPlanned losses l → list_any (nat_eq l.worker) lost ≡ false → (more : List ℕ) → more ≡ lost ++ l.worker ∷ [] → (now : SeatSeen) → now ≡ record { of = marker.of; losses = marked marker.losses l } → Marked losses more shelves now
+  pub marked_more : (l : Loss) → IsPlanned losses l → list_any (nat_eq l.worker) lost ≡ false → (more : List ℕ) → more ≡ lost ++ l.worker ∷ []
+      → (now : SeatSeen) → now ≡ record { of = marker.of; losses = marked marker.losses l } → Marked losses more shelves now
   marked_more l planned here more is now so =
-      let fresh : is_lost marker.losses l.worker ≡ false = not_lost marker.losses l.worker (subst (λ ws. list_any (nat_eq l.worker) ws ≡ false) (sym m.workers) here) in
-      let list : now.losses ≡ marker.losses ++ l ∷ [] = ap (λ (z : SeatSeen). z.losses) so ∙ ap (λ b. cond b marker.losses (marker.losses ++ l ∷ [])) fresh in
+      let fresh : is_lost marker.losses l.worker ≡ false =
+      not_lost marker.losses l.worker (subst (λ ws. list_any (nat_eq l.worker) ws ≡ false) (sym m.workers) here) in
+      let list : now.losses ≡ marker.losses ++ l ∷ [] = ap (λ (z : SeatSeen). z.losses) so
+      ∙ ap (λ b. cond b marker.losses (marker.losses ++ l ∷ [])) fresh in
       record {
         of = ap (λ (z : SeatSeen). z.of) so ∙ m.of;
         workers = ap (map worker_lost) list ∙ (map_end marker.losses l ∙ (ap (λ ws. ws ++ l.worker ∷ []) m.workers ∙ sym is));
@@ -101,11 +107,15 @@ module _ (losses : List (ℕ × ℕ)) (lost : List ℕ) (shelves : ShelvesSeen) 
   carried_out b plan gone (End.Saved p n refs holds mark) k = tt
   carried_out b plan gone (End.Shown s) k = tt
   carried_out b plan gone (End.Missing name loss seen) k =
-      λ s. let i = k s in
-      (subst (λ xs. IsPlanned xs loss) (sym plan) (each_of (IsPlanned losses) loss marker.losses i m.planned), subst (λ ws. list_any (nat_eq loss.worker) ws ≡ true) (m.workers ∙ sym gone) (member_lost marker.losses loss i))
+      λ s. let i = k s in (
+        subst (λ xs. IsPlanned xs loss) (sym plan) (each_of (IsPlanned losses) loss marker.losses i m.planned),
+        subst (λ ws. list_any (nat_eq loss.worker) ws ≡ true) (m.workers ∙ sym gone) (member_lost marker.losses loss i),
+      )
 
 -- at the beginning
-pub open_marked : (losses : List (ℕ × ℕ)) (lost : List ℕ) (shelves : ShelvesSeen) (marker : SeatSeen) (workers : ℕ) → marker.of ≡ shelves.of → marker.losses ≡ [] → lost ≡ [] → workers ≡ length shelves.rows → Each (λ (loss : ℕ × ℕ). loss.1 < workers) losses → Marked losses lost shelves marker
+pub open_marked : (losses : List (ℕ × ℕ)) (lost : List ℕ) (shelves : ShelvesSeen) (marker : SeatSeen) (workers : ℕ) → marker.of ≡ shelves.of
+    → marker.losses ≡ [] → lost ≡ [] → workers ≡ length shelves.rows → Each (λ (loss : ℕ × ℕ). loss.1 < workers) losses
+    → Marked losses lost shelves marker
 open_marked losses lost shelves marker workers of none nothing many small =
     record {
       of = of;

@@ -1,5 +1,6 @@
 -- The tasks of the orders that stay where one is closed.
-use Rattle.std.proofs.Common.{◌≡◌, ℕ, List, [], ◌∷◌, ◌++◌, Bool, true, false, not, cond, filter, nat_eq, eq-eqb, eqb-true, Some, None, ◌⊎◌, inl, inr, refl, ap, sym, ◌∙◌, subst}
+use Rattle.std.proofs.Common.{◌≡◌, ℕ, List, [], ◌∷◌, ◌++◌, Bool, true, false, not, cond, filter, nat_eq, eq-eqb, eqb-true, Some, None, ◌⊎◌, inl, inr}
+use Rattle.std.proofs.Common.{refl, ap, sym, ◌∙◌, subst}
 use Rattle.sky_base.specs.declared.object.TaskId.{TaskId}
 use Rattle.ciel_board.specs.Board.{OrderOut, tasks_out}
 use Rattle.ciel_board.specs.Moves.{without}
@@ -11,12 +12,15 @@ use Rattle.ciel_want.proofs.Listed.{same_exact}
 use Rattle.ciel_master.specs.Orders.{OneEach, worker_order}
 
 -- where two tests, one of orders and one of their tasks, agree
-tasks_kept : (p : OrderOut → Bool) (q : TaskId → Bool) (os : List OrderOut) → ((y : OrderOut) → In y os → q y.task ≡ p y) → filter q (tasks_out os) ≡ tasks_out (filter p os)
+tasks_kept : (p : OrderOut → Bool) (q : TaskId → Bool) (os : List OrderOut) → ((y : OrderOut) → In y os → q y.task ≡ p y)
+    → filter q (tasks_out os) ≡ tasks_out (filter p os)
 tasks_kept p q [] h = refl
 tasks_kept p q (y ∷ ys) h =
-    ap (λ b. cond b (y.task ∷ filter q (tasks_out ys)) (filter q (tasks_out ys))) (h y (inl refl)) ∙ pick (p y) (tasks_kept p q ys (λ z i. h z (inr i)))
+    ap (λ b. cond b (y.task ∷ filter q (tasks_out ys)) (filter q (tasks_out ys))) (h y (inl refl))
+    ∙ pick (p y) (tasks_kept p q ys (λ z i. h z (inr i)))
   where
-    pick : (b : Bool) → filter q (tasks_out ys) ≡ tasks_out (filter p ys) → cond b (y.task ∷ filter q (tasks_out ys)) (filter q (tasks_out ys)) ≡ tasks_out (cond b (y ∷ filter p ys) (filter p ys))
+    pick : (b : Bool) → filter q (tasks_out ys) ≡ tasks_out (filter p ys) → cond b (y.task ∷ filter q (tasks_out ys)) (filter q (tasks_out ys))
+        ≡ tasks_out (cond b (y ∷ filter p ys) (filter p ys))
     pick true e = ap (λ ts. y.task ∷ ts) e
     pick false e = e
 
@@ -26,27 +30,34 @@ module _ (os : List OrderOut) (one : OneEach os) (x : OrderOut) (here : In x os)
 
   same_number : (y : OrderOut) → In y os → same_id x.task y.task ≡ nat_eq x.number y.number
   same_number y i =
-      agree (same_id x.task y.task) (nat_eq x.number y.number) (λ t. eq-eqb x.number y.number (ap (λ (z : OrderOut). z.number) (one.tasks x y here i (same_exact x.task y.task t)))) (λ t. alike y (one.numbers x y here i (eqb-true x.number y.number t)))
+      agree (same_id x.task y.task) (nat_eq x.number y.number)
+      (λ t. eq-eqb x.number y.number (ap (λ (z : OrderOut). z.number) (one.tasks x y here i (same_exact x.task y.task t))))
+      (λ t. alike y (one.numbers x y here i (eqb-true x.number y.number t)))
 
   same_worker : (y : OrderOut) → In y os → same_id x.task y.task ≡ nat_eq x.worker y.worker
   same_worker y i =
-      agree (same_id x.task y.task) (nat_eq x.worker y.worker) (λ t. eq-eqb x.worker y.worker (ap (λ (z : OrderOut). z.worker) (one.tasks x y here i (same_exact x.task y.task t)))) (λ t. alike y (one.workers x y here i (eqb-true x.worker y.worker t)))
+      agree (same_id x.task y.task) (nat_eq x.worker y.worker)
+      (λ t. eq-eqb x.worker y.worker (ap (λ (z : OrderOut). z.worker) (one.tasks x y here i (same_exact x.task y.task t))))
+      (λ t. alike y (one.workers x y here i (eqb-true x.worker y.worker t)))
 
   -- it is closed by its number
   pub closed_tasks : filter (λ z. not (same_id x.task z)) (tasks_out os) ≡ tasks_out (without x.number os)
   closed_tasks = tasks_kept (λ (y : OrderOut). not (nat_eq x.number y.number)) (λ z. not (same_id x.task z)) os (λ y i. ap not (same_number y i))
 
   -- by its worker
-  pub lost_tasks : (w : ℕ) → w ≡ x.worker → filter (λ z. not (same_id x.task z)) (tasks_out os) ≡ tasks_out (filter (λ (y : OrderOut). not (nat_eq w y.worker)) os)
+  pub lost_tasks : (w : ℕ) → w ≡ x.worker → filter (λ z. not (same_id x.task z)) (tasks_out os)
+      ≡ tasks_out (filter (λ (y : OrderOut). not (nat_eq w y.worker)) os)
   lost_tasks w e =
-      tasks_kept (λ (y : OrderOut). not (nat_eq w y.worker)) (λ z. not (same_id x.task z)) os (λ y i. ap not (same_worker y i ∙ ap (λ v. nat_eq v y.worker) (sym e)))
+      tasks_kept (λ (y : OrderOut). not (nat_eq w y.worker)) (λ z. not (same_id x.task z)) os
+      (λ y i. ap not (same_worker y i ∙ ap (λ v. nat_eq v y.worker) (sym e)))
 
 -- the order of a worker is one of them
 pub worker_in : (w : ℕ) (os : List OrderOut) (x : OrderOut) → worker_order w os ≡ Some x → In x os × (w ≡ x.worker)
 worker_in w [] x e = cc
 worker_in w (y ∷ ys) x e = pick (bool_cases (nat_eq w y.worker)) (worker_in w ys x)
   where
-    pick : ((nat_eq w y.worker ≡ true) ⊎ (nat_eq w y.worker ≡ false)) → (worker_order w ys ≡ Some x → In x ys × (w ≡ x.worker)) → In x (y ∷ ys) × (w ≡ x.worker)
+    pick : ((nat_eq w y.worker ≡ true) ⊎ (nat_eq w y.worker ≡ false)) → (worker_order w ys ≡ Some x → In x ys × (w ≡ x.worker)) → In x (y ∷ ys)
+        × (w ≡ x.worker)
     pick (inl t) r =
         let h : Some y ≡ Some x = sym (ap (λ b. cond b (Some y) (worker_order w ys)) t) ∙ e in
         let q : y ≡ x = cc in
@@ -62,7 +73,8 @@ pub none_lost : (w : ℕ) (os : List OrderOut) → worker_order w os ≡ None �
 none_lost w [] e = refl
 none_lost w (y ∷ ys) e = pick (nat_eq w y.worker) (elsewhere w ys) e (none_lost w ys)
   where
-    pick : (b : Bool) (rest : List OrderOut) → cond b (Some y) (worker_order w ys) ≡ None → (worker_order w ys ≡ None → rest ≡ ys) → cond (not b) (y ∷ rest) rest ≡ y ∷ ys
+    pick : (b : Bool) (rest : List OrderOut) → cond b (Some y) (worker_order w ys) ≡ None → (worker_order w ys ≡ None → rest ≡ ys)
+        → cond (not b) (y ∷ rest) rest ≡ y ∷ ys
     pick true rest k r = let bad : Some y ≡ None = k in cc
     pick false rest k r = ap (λ zs. y ∷ zs) (r k)
 

@@ -28,10 +28,29 @@ module _ {Q : Type 0} (digest : List ℕ → List ℕ) (n : Named) (ns : List Na
   stops_here Stop.Memory s = tt
 
   pub stops_later : (id : ℕ) → learn_answer n t ≡ Ok id → (e : Stop) → FirstStops digest ns (learned digest n t) e → FirstStops digest (n ∷ ns) t e
-  stops_later id a (Stop.NameClash kept given) s =
-      (s.0, record { before = n ∷ s.1.before; after = s.1.after; split = ap (λ xs. n ∷ xs) s.1.split; learned = ((id, a), s.1.learned); refused = s.1.refused })
-  stops_later id a (Stop.TooMany held given) s =
-      (s.0, record { before = n ∷ s.1.before; after = s.1.after; split = ap (λ xs. n ∷ xs) s.1.split; learned = ((id, a), s.1.learned); refused = s.1.refused }, s.2)
+  stops_later id a (Stop.NameClash kept given) s = (
+    s.0,
+    record {
+      before = n ∷ s.1.before;
+      after = s.1.after;
+      split = ap (λ xs. n ∷ xs) s.1.split;
+      learned = ((id, a), s.1.learned);
+      refused =
+          s.1.refused;
+    },
+  )
+  stops_later id a (Stop.TooMany held given) s = (
+    s.0,
+    record {
+      before = n ∷ s.1.before;
+      after = s.1.after;
+      split = ap (λ xs. n ∷ xs) s.1.split;
+      learned = ((id, a), s.1.learned);
+      refused =
+          s.1.refused;
+    },
+    s.2,
+  )
   stops_later id a Stop.Memory s = tt
 
 -- the refusal that a function returns is the one that it had
@@ -48,7 +67,8 @@ module _ {X : Type 0} (name : X → Digest) (place : X → P) where
   -- it can be after a place more
   pub can_still : (n : Digest) (p : P) (t : TableSeen P) (xs : List X) → Each (CanPlace t) xs → Each (CanPlace (placed n p t)) xs
   can_still n p t xs h =
-      each_more (CanPlace t) (CanPlace (placed n p t)) (λ x a. (same_names t (placed n p t) (names_changed row_name (row_with p) (λ r. refl) n t.rows) (name x) a.0, a.1)) xs h
+      each_more (CanPlace t) (CanPlace (placed n p t))
+      (λ x a. (same_names t (placed n p t) (names_changed row_name (row_with p) (λ r. refl) n t.rows) (name x) a.0, a.1)) xs h
 
   pub can_beside : (ms : List (Output P)) (t : TableSeen P) (xs : List X) → Each (CanPlace t) xs → Each (CanPlace (with_outputs ms t)) xs
   can_beside [] t xs h = h

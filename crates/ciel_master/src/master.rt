@@ -1,6 +1,7 @@
 //! The master itself.
 
-ghost use Rattle.std.specs.Prelude.{◌≡◌, ◌≤◌, ◌<◌, ◌^◌, ℕ, [], IfErr, IfNone, IfOk, IfSome, OnErr, OnOk, Some, false, is_some, length, map, nat_eq, nat_lt, true, vec_capacity, ◌&&◌};
+ghost use Rattle.std.specs.Prelude.{◌≡◌, ◌≤◌, ◌<◌, ◌^◌, ℕ, [], IfErr, IfNone, IfOk, IfSome, OnErr, OnOk, Some, false, is_some, length, map, nat_eq};
+ghost use Rattle.std.specs.Prelude.{nat_lt, true, vec_capacity, ◌&&◌};
 ghost use Rattle.std.specs.Arc.{arc_value};
 ghost use Rattle.std.specs.List.{IsDistinct, list_any};
 ghost use Rattle.sky_base.specs.Val.{no_pairs, no_vals, same_text};
@@ -82,9 +83,16 @@ impl<K, N: Namer> Model for Master<K, N> {
 
     ghost coded = { Prim.hlevel (codes, val_code, vals_code, pairs_code, stand_code) };
 
-    ghost view = { λ m. record { namer = (arc_value m.shop).namer; shelves = (arc_value m.shop).shelves; board = board_of m.plan (arc_value m.shop).job.script.keys m.main m.ready.table m.orders.items m.starts m.closes m.journal.items m.stopped } };
+    ghost view = { λ m. record {
+      namer = (arc_value m.shop).namer;
+      shelves = (arc_value m.shop).shelves;
+      board =
+          board_of m.plan (arc_value m.shop).job.script.keys m.main m.ready.table m.orders.items m.starts m.closes m.journal.items m.stopped;
+    } };
 
-    ghost invariant = { λ m. MasterStands (N.digest (arc_value m.shop).namer) (board_of m.plan (arc_value m.shop).job.script.keys m.main m.ready.table m.orders.items m.starts m.closes m.journal.items m.stopped) m.lost.items (vec_capacity m.journal) (vec_capacity m.lost) (arc_value m.shop).shelves m.marker m.ready };
+    ghost invariant = { λ m. MasterStands (N.digest (arc_value m.shop).namer)
+        (board_of m.plan (arc_value m.shop).job.script.keys m.main m.ready.table m.orders.items m.starts m.closes m.journal.items m.stopped)
+        m.lost.items (vec_capacity m.journal) (vec_capacity m.lost) (arc_value m.shop).shelves m.marker m.ready };
 }
 
 /// A table that knows the main call alone, with nothing out.
@@ -93,7 +101,12 @@ fn first_ready<N: Namer>(
     main: &Named,
     namer: &N,
 ) -> Result<Ready<Place<Block>>, Memory>
-    ensures { IfOk result (λ r. r ≡ record { table = learned (N.digest namer.now) main.now (empty most_descriptions); main = main.now.name; out = [] }) }
+    ensures { IfOk result (λ r. r ≡ record {
+      table = learned (N.digest namer.now) main.now (empty most_descriptions);
+      main = main.now.name;
+      out =
+          [];
+    }) }
 {
     let mut ready = Ready::open(alloc, main.name, 65_536)?;
     match ready.learn(main, namer) {
@@ -132,7 +145,12 @@ impl<K: Drop, N: Namer + Drop> Master<K, N> {
         requires named { IsNamed (N.digest (arc_value shop).namer) main }
         requires keys { length (arc_value shop).job.script.keys < 2 ^ 32 }
         requires main { main.desc ≡ Desc1.Call [] no_pairs no_vals }
-        ensures opened { IfOk result (λ m. m ≡ record { namer = (arc_value shop).namer; shelves = (arc_value shop).shelves; board = opened (N.digest (arc_value shop).namer) (plan_view plan) (arc_value shop).job.script.keys main }) }
+        ensures opened { IfOk result (λ m. m ≡ record {
+          namer = (arc_value shop).namer;
+          shelves = (arc_value shop).shelves;
+          board =
+              opened (N.digest (arc_value shop).namer) (plan_view plan) (arc_value shop).job.script.keys main;
+        }) }
     {
         let ready = first_ready(alloc, &main, &shop.namer)?;
         let losses = plan.losses.len();
@@ -242,9 +260,13 @@ impl<K: Drop, N: Namer + Drop> Master<K, N> {
     /// was, and the run has stopped.
     pub fn accept(&mut self, report: Report) -> Result<Now, Stop>
         requires going { self.old.board.stopped ≡ false }
-        requires fits { (x : b.Order P) × (find_order report.number self.old.board.orders ≡ Some x.out) × FitsUnlessMissing (N.digest self.old.namer) self.old.board x report.spawned.items report.copied.items report.end }
+        requires fits { (x : b.Order P) × (find_order report.number self.old.board.orders ≡ Some x.out)
+            × FitsUnlessMissing (N.digest self.old.namer) self.old.board x report.spawned.items report.copied.items report.end }
         requires seen { SeenOf self.old.shelves report.end }
-        ensures accepted { OnOk result ((x : b.OrderOut) × (find_order report.number self.old.board.orders ≡ Some x) × (self.new ≡ record self.old { board = accepted (N.digest self.old.namer) self.old.board x report.spawned.items (report_end report) })) }
+        ensures accepted { OnOk result ((x : b.OrderOut) × (find_order report.number self.old.board.orders ≡ Some x)
+            × (self.new ≡ record self.old {
+              board = accepted (N.digest self.old.namer) self.old.board x report.spawned.items (report_end report);
+            })) }
         ensures learned { OnOk result (LearnedFor (N.digest self.old.namer) report.end report.spawned.items self.old.board.table) }
         ensures carried { IsCarriedOut self.old.board report.end }
         ensures now { IfOk result (λ now. now ≡ now_of report.end) }
@@ -261,7 +283,8 @@ impl<K: Drop, N: Namer + Drop> Master<K, N> {
     /// with the least count, and of equal ones the first. It takes no memory.
     pub fn due(&self) -> Option<u32>
         requires going { self.now.board.stopped ≡ false }
-        ensures first { IfSome result (λ loss. (worker : ℕ) × FirstDue self.now.board.plan.losses self.now.board.closes self.now.board.table.gone loss worker) }
+        ensures first { IfSome result (λ loss. (worker : ℕ)
+            × FirstDue self.now.board.plan.losses self.now.board.closes self.now.board.table.gone loss worker) }
         ensures none { IfNone result (NothingDue self.now.board.plan.losses self.now.board.closes self.now.board.table.gone) }
     {
         match first_due(
@@ -277,8 +300,10 @@ impl<K: Drop, N: Namer + Drop> Master<K, N> {
     /// Whether each worker of the plan is lost. It takes no memory.
     pub fn all_lost(&self) -> bool
         requires going { self.now.board.stopped ≡ false }
-        ensures all { result ≡ true → (worker : ℕ) → worker < self.now.board.plan.workers → list_any (nat_eq worker) self.now.board.table.gone ≡ true }
-        ensures some { result ≡ false → (worker : ℕ) × (worker < self.now.board.plan.workers) × (list_any (nat_eq worker) self.now.board.table.gone ≡ false) }
+        ensures all { result ≡ true → (worker : ℕ) → worker < self.now.board.plan.workers → list_any (nat_eq worker) self.now.board.table.gone
+            ≡ true }
+        ensures some { result ≡ false → (worker : ℕ) × (worker < self.now.board.plan.workers)
+            × (list_any (nat_eq worker) self.now.board.table.gone ≡ false) }
     {
         all_among(&self.lost, self.plan.workers)
     }
@@ -310,12 +335,13 @@ impl<K: Drop, N: Namer + Drop> Master<K, N> {
         self.orders.is_empty()
     }
 
-    /// Carries out the loss that comes next: it is marked at the shelves, its worker's places and the stacks that it saved are dropped, and the order that it had is
-    /// closed. It takes no memory.
+    /// Carries out the loss that comes next: it is marked at the shelves, its worker's places and the stacks that it saved are dropped, and the order
+    /// that it had is closed. It takes no memory.
     pub fn lose(&mut self, number: u32)
         requires going { self.old.board.stopped ≡ false }
         requires due { (worker : ℕ) × FirstDue self.old.board.plan.losses self.old.board.closes self.old.board.table.gone number worker }
-        ensures lost { (worker : ℕ) → FirstDue self.old.board.plan.losses self.old.board.closes self.old.board.table.gone number worker → self.new ≡ record self.old { board = lost_at worker_of worker self.old.board } }
+        ensures lost { (worker : ℕ) → FirstDue self.old.board.plan.losses self.old.board.closes self.old.board.table.gone number worker
+            → self.new ≡ record self.old { board = lost_at worker_of worker self.old.board } }
     {
         let losses = self.plan.losses.as_slice();
         let worker = losses[number as usize].1;
@@ -329,7 +355,8 @@ impl<K: Drop, N: Namer + Drop> Master<K, N> {
     /// Whether it is one of the plan's workers, isn't lost and has no order. It takes no memory.
     pub fn is_idle(&self, worker: u32) -> bool
         requires going { self.now.board.stopped ≡ false }
-        ensures { result ≡ (nat_lt worker self.now.board.plan.workers && is_idle self.now.board.table.gone (workers_out self.now.board.orders) worker) }
+        ensures { result ≡ (nat_lt worker self.now.board.plan.workers
+            && is_idle self.now.board.table.gone (workers_out self.now.board.orders) worker) }
     {
         worker < self.plan.workers && can_work(&self.lost, &self.orders, worker)
     }
@@ -361,8 +388,12 @@ impl<K: Drop, N: Namer + Drop> Master<K, N> {
     // Takes a report that fits its order, unless something was missing.
     fn take(&mut self, report: Report) -> Result<Now, Stop>
         requires going { self.old.board.stopped ≡ false }
-        requires fits { (x : b.Order P) × (find_order report.number self.old.board.orders ≡ Some x.out) × FitsUnlessMissing (N.digest self.old.namer) self.old.board x report.spawned.items report.copied.items report.end }
-        ensures accepted { OnOk result ((x : b.OrderOut) × (find_order report.number self.old.board.orders ≡ Some x) × (self.new ≡ record self.old { board = accepted (N.digest self.old.namer) self.old.board x report.spawned.items (report_end report) })) }
+        requires fits { (x : b.Order P) × (find_order report.number self.old.board.orders ≡ Some x.out)
+            × FitsUnlessMissing (N.digest self.old.namer) self.old.board x report.spawned.items report.copied.items report.end }
+        ensures accepted { OnOk result ((x : b.OrderOut) × (find_order report.number self.old.board.orders ≡ Some x)
+            × (self.new ≡ record self.old {
+              board = accepted (N.digest self.old.namer) self.old.board x report.spawned.items (report_end report);
+            })) }
         ensures learned { OnOk result (LearnedFor (N.digest self.old.namer) report.end report.spawned.items self.old.board.table) }
         ensures now { IfOk result (λ now. now ≡ now_of report.end) }
         ensures journal { OnErr result (self.new.board.journal ≡ self.old.board.journal) }

@@ -55,7 +55,8 @@ pub(crate) fn begin(
     requires few { room < 2 ^ 32 }
     ensures ready { OnOk result (ready.new ≡ with_out ready.old order.task) }
     ensures orders { OnOk result (map kept_view orders.new.items ≡ map kept_view orders.old.items ++ kept_view order ∷ []) }
-    ensures journal { OnOk result (map entry_view journal.new.items ≡ map entry_view journal.old.items ++ entry_view (Entry.Start order.number order.worker order.task order.from) ∷ []) }
+    ensures journal { OnOk result (map entry_view journal.new.items ≡ map entry_view journal.old.items
+        ++ entry_view (Entry.Start order.number order.worker order.task order.from) ∷ []) }
     ensures room { OnOk result (length journal.new.items + room ≤ vec_capacity journal.new) }
     ensures still { OnErr result (ready.new ≡ ready.old) }
     ensures kept { OnErr result (orders.new.items ≡ orders.old.items) }
@@ -103,8 +104,10 @@ fn take_made(
     requires few { room < 2 ^ 32 }
     requires made { OutputsPlace ready.old.table made.now }
     requires copied { CopiesPlace ready.old.table copied.now }
-    ensures ready { OnOk result (ready.new ≡ with_table ready.old (with_copies (copies_view copied.now) (with_outputs (map output_view made.now) ready.old.table))) }
-    ensures journal { OnOk result (map entry_view journal.new.items ≡ map entry_view journal.old.items ++ j.Entry.Done number (made_keys (map output_view made.now)) (copy_names (copies_view copied.now)) ∷ []) }
+    ensures ready { OnOk result (ready.new ≡ with_table ready.old
+        (with_copies (copies_view copied.now) (with_outputs (map output_view made.now) ready.old.table))) }
+    ensures journal { OnOk result (map entry_view journal.new.items ≡ map entry_view journal.old.items
+        ++ j.Entry.Done number (made_keys (map output_view made.now)) (copy_names (copies_view copied.now)) ∷ []) }
     ensures room { OnOk result (length journal.new.items + room ≤ vec_capacity journal.new) }
     ensures kept { OnErr result (journal.new.items ≡ journal.old.items) }
 {
@@ -134,7 +137,8 @@ fn take_saved(
     requires later { IsAbove wait.j (waits_of order.now.task ready.old.table) }
     requires here { Here ready.old.table.gone (worker_of wait.place) }
     ensures ready { OnOk result (ready.new ≡ with_table ready.old (saved order.now.task wait ready.old.table)) }
-    ensures journal { OnOk result (map entry_view journal.new.items ≡ map entry_view journal.old.items ++ j.Entry.Saved order.now.number wait.j mark ∷ []) }
+    ensures journal { OnOk result (map entry_view journal.new.items ≡ map entry_view journal.old.items
+        ++ j.Entry.Saved order.now.number wait.j mark ∷ []) }
     ensures room { OnOk result (length journal.new.items + room ≤ vec_capacity journal.new) }
     ensures kept { OnErr result (journal.new.items ≡ journal.old.items) }
 {
@@ -171,7 +175,8 @@ pub(crate) fn take_end(
     requires few { room < 2 ^ 32 }
     requires can { CanTake order.now.task ready.old.table copied.now end }
     ensures ready { OnOk result (ready.new ≡ with_table ready.old (table_after order.now.task (how_view copied.now end) ready.old.table)) }
-    ensures journal { OnOk result (map entry_view journal.new.items ≡ map entry_view journal.old.items ++ entry_for order.now.number (how_view copied.now end) ∷ []) }
+    ensures journal { OnOk result (map entry_view journal.new.items ≡ map entry_view journal.old.items
+        ++ entry_for order.now.number (how_view copied.now end) ∷ []) }
     ensures room { OnOk result (length journal.new.items + room ≤ vec_capacity journal.new) }
     ensures kept { OnErr result (journal.new.items ≡ journal.old.items) }
     ensures now { IfOk result (λ now. now ≡ now_of end) }

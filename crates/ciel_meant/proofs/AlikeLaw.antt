@@ -10,14 +10,16 @@ use Rattle.sky_law.proofs.TaskSound as sound
 use Rattle.sky_law.proofs.NeededEnds as ends
 use Rattle.sky_law.proofs.WorkLaw.{means_work}
 use Rattle.sky_law.specs.Sound.{SoundReads}
-use Rattle.std.proofs.Common.{◌≡◌, ◌≢◌, ℕ, zero, suc, ◌+◌, ◌-◌, ◌≤◌, ◌<◌, ◌↔◌, List, [], ◌∷◌, map, Bool, true, false, Option, Some, None, slice_get, sum_by, Contains, inl, inr, refl, ap, ap₂, sym, ◌∙◌, subst, arith, nat_lt}
+use Rattle.std.proofs.Common.{◌≡◌, ◌≢◌, ℕ, zero, suc, ◌+◌, ◌-◌, ◌≤◌, ◌<◌, ◌↔◌, List, [], ◌∷◌, map, Bool, true, false, Option, Some, None, slice_get}
+use Rattle.std.proofs.Common.{sum_by, Contains, inl, inr, refl, ap, ap₂, sym, ◌∙◌, subst, arith, nat_lt}
 use Rattle.std.proofs.lemmas.List.Sums.{sum_by-cons}
 use Rattle.std.specs.Option.{option_map}
 use Rattle.sky_law.proofs.Lists.{some_is}
 use Rattle.ciel_journal.specs.Job.{Digest, Task, show, of, Held, Job, In, WaitOf, Needed, waits_in, after_wait, made_before, made_in}
 use Rattle.ciel_journal.specs.Work.{Work, total}
 use Rattle.ciel_meant.specs.Real.{back, forth, forth_if, acts_of, held_if, mark_if, real_job}
-use Rattle.ciel_meant.specs.RealLaws.{IsTask, WaitsAlike, OutputsAlike, EndsAlike, NeverAlike, AnswerAlike, ObjectsAlike, StatesAlike, MadeAlike, NeededAlike, WorkIsFinite}
+use Rattle.ciel_meant.specs.RealLaws.{IsTask, WaitsAlike, OutputsAlike, EndsAlike, NeverAlike, AnswerAlike, ObjectsAlike, StatesAlike, MadeAlike}
+use Rattle.ciel_meant.specs.RealLaws.{NeededAlike, WorkIsFinite}
 use Rattle.ciel_meant.proofs.RealLaw.{in_to, in_from, back_forth, made_of, waits_are}
 
 forth_back : (w : Task s.Desc) → forth (back w) ≡ w
@@ -111,8 +113,10 @@ module _ (job : s.Job) (around : s.Around) (name : s.Desc → Digest) (mark : s.
   pub waits_alike : WaitsAlike job around name mark frozen
   waits_alike u one j ds =
       let q : back (forth u) ≡ u = back_forth u in
-      let o : IsOne (back (forth u)) = subst IsOne (sym q) one in
-      (λ h. subst (λ x. n.WaitOf job around x j ds) q (wait_to (forth u) o j ds h), λ h. wait_from (forth u) o j ds (subst (λ x. n.WaitOf job around x j ds) (sym q) h))
+      let o : IsOne (back (forth u)) = subst IsOne (sym q) one in (
+        λ h. subst (λ x. n.WaitOf job around x j ds) q (wait_to (forth u) o j ds h),
+        λ h. wait_from (forth u) o j ds (subst (λ x. n.WaitOf job around x j ds) (sym q) h),
+      )
 
   pub outputs_alike : OutputsAlike job around name mark frozen
   outputs_alike u = ap t.outputs_of (back_forth u)
@@ -143,7 +147,8 @@ module _ (job : s.Job) (around : s.Around) (name : s.Desc → Digest) (mark : s.
 
   -- ---- objects and states
 
-  object_to : (d : s.Desc) (m : Digest) (k : ℕ) (o : Option s.Obj) → s.see job around k d ≡ o → mark_if job around name mark frozen o ≡ Some m → (x : s.Obj) × ((i : ℕ) × (s.see job around i d ≡ Some x)) × (m ≡ mark x)
+  object_to : (d : s.Desc) (m : Digest) (k : ℕ) (o : Option s.Obj) → s.see job around k d ≡ o → mark_if job around name mark frozen o ≡ Some m
+      → (x : s.Obj) × ((i : ℕ) × (s.see job around i d ≡ Some x)) × (m ≡ mark x)
   object_to d m k None e h = cc
   object_to d m k (Some x) e h = (x, (k, e), sym (some_is (mark x) m h))
 
@@ -154,18 +159,24 @@ module _ (job : s.Job) (around : s.Around) (name : s.Desc → Digest) (mark : s.
   abbrev state_held : n.State → Held s.Desc
   state_held x = record { names = t.held x; mark = frozen x }
 
-  state_to : (u : n.Task) (j k : ℕ) (a : Held s.Desc) (o : Option n.State) → n.stands_at job around k u j ≡ o → held_if job around name mark frozen o ≡ Some a → (x : n.State) × n.StandsAt job around u j x × (a ≡ state_held x)
+  state_to : (u : n.Task) (j k : ℕ) (a : Held s.Desc) (o : Option n.State) → n.stands_at job around k u j ≡ o
+      → held_if job around name mark frozen o ≡ Some a → (x : n.State) × n.StandsAt job around u j x × (a ≡ state_held x)
   state_to u j k a None e h = cc
   state_to u j k a (Some x) e h = (x, (k, e), sym (some_is (state_held x) a h))
 
-  state_from : (u : n.Task) (j k : ℕ) (a : Held s.Desc) (x : n.State) → n.stands_at job around k u j ≡ Some x → a ≡ state_held x → held_if job around name mark frozen (n.stands_at job around k u j) ≡ Some a
+  state_from : (u : n.Task) (j k : ℕ) (a : Held s.Desc) (x : n.State) → n.stands_at job around k u j ≡ Some x → a ≡ state_held x
+      → held_if job around name mark frozen (n.stands_at job around k u j) ≡ Some a
   state_from u j k a x e q = ap (held_if job around name mark frozen) e ∙ ap Some (sym q)
 
   pub states_alike : StatesAlike job around name mark frozen
-  states_alike n.Task.show has j a =
-      (λ (k, h). state_to n.Task.show j k a (n.stands_at job around k n.Task.show j) refl h, λ (x, (k, e), q). (k, state_from n.Task.show j k a x e q))
-  states_alike (n.Task.of (v.call f c vs)) has j a =
-      (λ (k, h). state_to (n.Task.of (v.call f c vs)) j k a (n.stands_at job around k (n.Task.of (v.call f c vs)) j) refl h, λ (x, (k, e), q). (k, state_from (n.Task.of (v.call f c vs)) j k a x e q))
+  states_alike n.Task.show has j a = (
+    λ (k, h). state_to n.Task.show j k a (n.stands_at job around k n.Task.show j) refl h,
+    λ (x, (k, e), q). (k, state_from n.Task.show j k a x e q),
+  )
+  states_alike (n.Task.of (v.call f c vs)) has j a = (
+    λ (k, h). state_to (n.Task.of (v.call f c vs)) j k a (n.stands_at job around k (n.Task.of (v.call f c vs)) j) refl h,
+    λ (x, (k, e), q). (k, state_from (n.Task.of (v.call f c vs)) j k a x e q),
+  )
   states_alike (n.Task.of (v.out x b m i)) has j a = absurd has
   states_alike (n.Task.of (v.input y)) has j a = absurd has
   states_alike (n.Task.of (v.known b)) has j a = absurd b
@@ -175,8 +186,10 @@ module _ (job : s.Job) (around : s.Around) (name : s.Desc → Digest) (mark : s.
   pub made_alike : MadeAlike job around name mark frozen
   made_alike =
       record {
-        between = λ k u j i. ap (λ x. made_before (i - j) (after_wait j (acts_of (t.acts_of job around k x)))) (back_forth u) ∙ ap (made_before (i - j)) (after_is j (t.acts_of job around k u)) ∙ before_is (i - j) (t.after_wait j (t.acts_of job around k u));
-        after = λ k u j. ap (λ x. made_in (after_wait j (acts_of (t.acts_of job around k x)))) (back_forth u) ∙ ap made_in (after_is j (t.acts_of job around k u)) ∙ made_is (t.after_wait j (t.acts_of job around k u));
+        between = λ k u j i. ap (λ x. made_before (i - j) (after_wait j (acts_of (t.acts_of job around k x)))) (back_forth u)
+            ∙ ap (made_before (i - j)) (after_is j (t.acts_of job around k u)) ∙ before_is (i - j) (t.after_wait j (t.acts_of job around k u));
+        after = λ k u j. ap (λ x. made_in (after_wait j (acts_of (t.acts_of job around k x)))) (back_forth u)
+            ∙ ap made_in (after_is j (t.acts_of job around k u)) ∙ made_is (t.after_wait j (t.acts_of job around k u));
       }
 
   -- ---- which tasks are needed
@@ -188,10 +201,12 @@ module _ (job : s.Job) (around : s.Around) (name : s.Desc → Digest) (mark : s.
   pub needed_to : (w : Task s.Desc) → Needed the w → n.Needed job around (back w)
   needed_to show Needed.root = n.root
   needed_to u (Needed.waited {t = w} need j ds d wait i e) =
-      n.Needed.waited (needed_to w need) j ds d (wait_to w (is_one w need) j ds wait) (outs.contains_in d ds (in_from d ds i)) (maker_task d (back u) (made_of d u e))
+      n.Needed.waited (needed_to w need) j ds d (wait_to w (is_one w need) j ds wait) (outs.contains_in d ds (in_from d ds i))
+      (maker_task d (back u) (made_of d u e))
 
   module _ (reads : SoundReads job.script around) where
-    made_so : (u w : n.Task) (j : ℕ) (ds : List s.Desc) (d : s.Desc) → n.Needed job around u → n.WaitOf job around u j ds → Contains ds d → n.task_of d ≡ Some w → t.maker d ≡ Some w
+    made_so : (u w : n.Task) (j : ℕ) (ds : List s.Desc) (d : s.Desc) → n.Needed job around u → n.WaitOf job around u j ds → Contains ds d
+        → n.task_of d ≡ Some w → t.maker d ≡ Some w
     made_so u w j ds d need wait among is =
         sound.waited_maker job around reads u j ds d need wait (outs.in_contains d ds among) ∙ is
 
@@ -202,11 +217,13 @@ module _ (job : s.Job) (around : s.Around) (name : s.Desc → Digest) (mark : s.
     needed_from : (u : n.Task) → n.Needed job around u → Needed the (forth u)
     needed_from n.Task.show n.root = Needed.root
     needed_from u (n.Needed.waited {t = w} need j ds d wait among is) =
-        Needed.waited (needed_from w need) j ds d ((waits_alike w (one_of_needed w need) j ds).1 wait) (in_to d ds (outs.in_contains d ds among)) (ap forth_if (made_so w u j ds d need wait among is))
+        Needed.waited (needed_from w need) j ds d ((waits_alike w (one_of_needed w need) j ds).1 wait) (in_to d ds (outs.in_contains d ds among))
+        (ap forth_if (made_so w u j ds d need wait among is))
 
     -- ---- work
 
-    work_waits : (w : Task s.Desc) (k : ℕ) → n.Needed job around (back w) → n.Waits job around (back w) k → (j : ℕ) → 0 < j → (j ≤ k) ↔ ((ds : List s.Desc) × WaitOf the w j ds)
+    work_waits : (w : Task s.Desc) (k : ℕ) → n.Needed job around (back w) → n.Waits job around (back w) k → (j : ℕ) → 0 < j
+        → (j ≤ k) ↔ ((ds : List s.Desc) × WaitOf the w j ds)
     work_waits w k need waits j pos =
         let one = one_of_needed (back w) need in
         (λ le. let p = (waits.each j pos).0 le in (p.0, wait_from w one j p.0 p.1), λ (ds, h). (waits.each j pos).1 (ds, wait_to w one j ds h))
@@ -215,9 +232,20 @@ module _ (job : s.Job) (around : s.Around) (name : s.Desc → Digest) (mark : s.
     finite m w =
         record {
           tasks = map forth_with w.tasks;
-          apart = λ i j u a b e f. w.apart i j (back u) a b (got_back (slice_get w.tasks i) u a (sym (get_forth w.tasks i) ∙ e)) (got_back (slice_get w.tasks j) u b (sym (get_forth w.tasks j) ∙ f));
-          needed = λ u. (λ need. let p = (w.needed (back u)).0 (needed_to u need) in (p.0, subst (λ x. In (x, p.0) (map forth_with w.tasks)) (forth_back u) (in_forth w.tasks (back u) p.0 (in_to (back u, p.0) w.tasks (outs.in_contains (back u, p.0) w.tasks p.1)))), λ (k, i). subst (Needed the) (forth_back u) (needed_from (back u) ((w.needed (back u)).1 (k, outs.contains_in (back u, k) w.tasks (in_from (back u, k) w.tasks (in_back w.tasks u k i))))));
-          waits = λ u k i j pos. let c = outs.contains_in (back u, k) w.tasks (in_from (back u, k) w.tasks (in_back w.tasks u k i)) in work_waits u k ((w.needed (back u)).1 (k, c)) (w.waits (back u) k c) j pos;
+          apart = λ i j u a b e f. w.apart i j (back u) a b (got_back (slice_get w.tasks i) u a (sym (get_forth w.tasks i) ∙ e))
+              (got_back (slice_get w.tasks j) u b (sym (get_forth w.tasks j) ∙ f));
+          needed = λ u. (
+            λ need. let p = (w.needed (back u)).0 (needed_to u need) in (
+              p.0,
+              subst (λ x. In (x, p.0) (map forth_with w.tasks)) (forth_back u)
+                  (in_forth w.tasks (back u) p.0 (in_to (back u, p.0) w.tasks (outs.in_contains (back u, p.0) w.tasks p.1))),
+            ),
+            λ (k, i). subst (Needed the) (forth_back u)
+                (needed_from (back u) ((w.needed (back u)).1
+                (k, outs.contains_in (back u, k) w.tasks (in_from (back u, k) w.tasks (in_back w.tasks u k i))))),
+          );
+          waits = λ u k i j pos. let c = outs.contains_in (back u, k) w.tasks (in_from (back u, k) w.tasks (in_back w.tasks u k i)) in
+              work_waits u k ((w.needed (back u)).1 (k, c)) (w.waits (back u) k c) j pos;
           sum = total_is the w.tasks ∙ w.total;
         }
 

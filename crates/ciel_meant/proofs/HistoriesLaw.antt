@@ -42,7 +42,8 @@ module _ (job : s.Job) (around : s.Around) (name : s.Desc → Digest) (mark : s.
       some_is x o (sym b ∙ a)
 
   -- only what has states is saved
-  has_states : (u : Task s.Desc) (j : ℕ) (a : Held s.Desc) → 0 < j → StateOf the u j a → (x : n.State) × n.StandsAt job around (back u) j x × (a ≡ record { names = t.held x; mark = frozen x })
+  has_states : (u : Task s.Desc) (j : ℕ) (a : Held s.Desc) → 0 < j → StateOf the u j a → (x : n.State) × n.StandsAt job around (back u) j x
+      × (a ≡ record { names = t.held x; mark = frozen x })
   has_states show j a l h = (states_alike job around name mark frozen n.Task.show tt j a).0 h
   has_states (of (v.call f c vs)) j a l h = (states_alike job around name mark frozen (n.Task.of (v.call f c vs)) tt j a).0 h
   has_states (of (v.out x b m i)) zero a l h = absurd (omega (arith, l))
@@ -59,7 +60,8 @@ module _ (job : s.Job) (around : s.Around) (name : s.Desc → Digest) (mark : s.
     pub starts_needed : (k w : ℕ) (u : Task s.Desc) (from : ℕ) → In (start k w u from) h → n.Needed job around (back u)
     starts_needed k w u from i = needed_to job around name mark frozen u (start_needed k w u from i)
 
-    pub starts_few : SoundReads job.script around → (a : s.Answered) → s.Means job around a → (m : ℕ) × n.Work job around m × (starts_of the h ≤ (losses_of the h + 1) * m)
+    pub starts_few : SoundReads job.script around → (a : s.Answered) → s.Means job around a → (m : ℕ) × n.Work job around m
+        × (starts_of the h ≤ (losses_of the h + 1) * m)
     starts_few reads a means =
         let w = means_work job around a means in
         (w.0, w.1, few_starts the laws w.0 (finite job around name mark frozen reads w.0 w.1) p h l)
@@ -79,13 +81,15 @@ module _ (job : s.Job) (around : s.Around) (name : s.Desc → Digest) (mark : s.
     pub circles_never : (ds : List s.Desc) → CircleAtRest the (standing the h) ds → s.Never job around
     circles_never ds c = (never_alike job around name mark frozen).0 (lawful_circle the laws p h l ds c)
 
-    pub made_seen : (k : ℕ) (made : List (s.Desc × Digest)) (copied spawned : List s.Desc) (d : s.Desc) (m : Digest) → In (done k made copied spawned) h → In (d, m) made → In d (standing the h).book × ((o : s.Obj) × SeenAs job around d o × (m ≡ mark o))
+    pub made_seen : (k : ℕ) (made : List (s.Desc × Digest)) (copied spawned : List s.Desc) (d : s.Desc) (m : Digest)
+        → In (done k made copied spawned) h → In (d, m) made → In d (standing the h).book × ((o : s.Obj) × SeenAs job around d o × (m ≡ mark o))
     made_seen k made copied spawned d m i j =
         let q = publishes the laws p h l k made copied spawned d m i j in
         let o = (objects_alike job around name mark frozen d m).0 q.seen in
         (q.known, (o.0, record { seen = o.1; only = λ z x e. one_seen d o.1.0 z o.0 x o.1.1 e }, o.2))
 
-    pub saved_stands : (k w : ℕ) (u : Task s.Desc) (from : ℕ) → In (start k w u from) h → (j : ℕ) (m : Digest) (refs holds spawned : List s.Desc) → In (saved k j m refs holds spawned) h → SavedAs job around frozen (back u) j m refs holds
+    pub saved_stands : (k w : ℕ) (u : Task s.Desc) (from : ℕ) → In (start k w u from) h → (j : ℕ) (m : Digest) (refs holds spawned : List s.Desc)
+        → In (saved k j m refs holds spawned) h → SavedAs job around frozen (back u) j m refs holds
     saved_stands k w u from st j m refs holds spawned i =
         let q = saved_task the laws p h l k j m refs holds spawned i w u from st in
         let x = has_states u j (record { names = holds; mark = m }) q.2 q.0 in
@@ -97,13 +101,20 @@ module _ (job : s.Job) (around : s.Around) (name : s.Desc → Digest) (mark : s.
           waits = wait_to job around name mark frozen u (is_one job around name mark frozen u (start_needed k w u from st)) j refs q.1;
         }
 
-    pub book_made : (d : s.Desc) → In d (standing the h).book → (d ≡ s.main_call) ⊎ ((u : n.Task) × n.Needed job around u × (k : ℕ) × t.In d (t.made_in (t.acts_of job around k u)))
+    pub book_made : (d : s.Desc) → In d (standing the h).book → (d ≡ s.main_call)
+        ⊎ ((u : n.Task) × n.Needed job around u × (k : ℕ) × t.In d (t.made_in (t.acts_of job around k u)))
     book_made d i = pick ((traced the laws p h l).book d i)
       where
-        pick : ((d ≡ s.main_call) ⊎ ((u : Task s.Desc) × Needed the u × (k : ℕ) × In d (made_in (the.acts k u)))) → (d ≡ s.main_call) ⊎ ((u : n.Task) × n.Needed job around u × (k : ℕ) × t.In d (t.made_in (t.acts_of job around k u)))
+        pick : ((d ≡ s.main_call) ⊎ ((u : Task s.Desc) × Needed the u × (k : ℕ) × In d (made_in (the.acts k u)))) → (d ≡ s.main_call)
+            ⊎ ((u : n.Task) × n.Needed job around u × (k : ℕ) × t.In d (t.made_in (t.acts_of job around k u)))
         pick (inl e) = inl e
         pick (inr x) =
-            inr (back x.0, needed_to job around name mark frozen x.0 x.1, x.2, in_from d (t.made_in (t.acts_of job around x.2 (back x.0))) (subst (In d) (made_is (t.acts_of job around x.2 (back x.0))) x.3))
+            inr (
+              back x.0,
+              needed_to job around name mark frozen x.0 x.1,
+              x.2,
+              in_from d (t.made_in (t.acts_of job around x.2 (back x.0))) (subst (In d) (made_is (t.acts_of job around x.2 (back x.0))) x.3),
+            )
 
   pub knows : PlainReads around → Knows the (real_inner job around)
   knows plain = real_knows job around name mark frozen plain

@@ -6,7 +6,8 @@ use Rattle.sky_base.specs.Read as r
 use Rattle.sky_base.specs.Needed as n
 use Rattle.sky_law.proofs.TaskFuel as fuel
 use Rattle.sky_law.proofs.TaskOutputs as outs
-use Rattle.std.proofs.Common.{◌≡◌, ℕ, zero, suc, ◌<◌, ◌≤◌, List, [], ◌∷◌, ◌++◌, length, Bool, true, false, Option, Some, None, Ok, Err, slice_get, inl, inr, refl, ap, sym, ◌∙◌, subst, arith, nat_le, leb-true, le-leb, is_some}
+use Rattle.std.proofs.Common.{◌≡◌, ℕ, zero, suc, ◌<◌, ◌≤◌, List, [], ◌∷◌, ◌++◌, length, Bool, true, false, Option, Some, None, Ok, Err, slice_get}
+use Rattle.std.proofs.Common.{inl, inr, refl, ap, sym, ◌∙◌, subst, arith, nat_le, leb-true, le-leb, is_some}
 use Rattle.std.specs.Option.{option_map}
 use Rattle.sky_base.specs.Tree.{nowhere}
 use Rattle.sky_base.specs.Res.{End, Object, others, Res}
@@ -24,7 +25,9 @@ use Rattle.ciel_meant.specs.Real.{back, forth_if, acts_of, held_if, real_job}
 use Rattle.ciel_meant.proofs.AlikeLaw.{before_is, made_is, wait_is}
 use Rattle.ciel_meant.proofs.ToldWaves as waves
 use Rattle.ciel_meant.proofs.RealLaw.{in_to, in_from, waits_are}
-use Rattle.ciel_meant.proofs.ToldRun.{FrameTold, HaltTold, InsideRefers, OutcomeTold, P, Q, SeenAll, SeenTo, V, w, closed, each_pairs, each_refs, each_vals, ends_told, frames_told, halt_told, left, made_told, makes_told, pairs_each, refs_each, right, both, vals_each, vals_so}
+use Rattle.ciel_meant.proofs.ToldRun.{FrameTold, HaltTold, InsideRefers, OutcomeTold, P, Q, SeenAll, SeenTo, V, w, closed, each_pairs, each_refs}
+use Rattle.ciel_meant.proofs.ToldRun.{each_vals, ends_told, frames_told, halt_told, left, made_told, makes_told, pairs_each, refs_each, right, both}
+use Rattle.ciel_meant.proofs.ToldRun.{vals_each, vals_so}
 
 module _ {A : Type 0} where
   each_to : (P : A → Type 0) (xs : List A) → t.Each P xs → Each P xs
@@ -52,7 +55,10 @@ module _ (job : s.Job) (around : s.Around) (name : s.Desc → Digest) (mark : s.
   outputs_batch x a zero d ds e = cc
   outputs_batch x a (suc m) d ds e =
       let is : d ≡ v.out x a (suc m) 0 = cc in
-      subst (λ z. IsBatch the z ds) (sym is) (inr (ap forth_if (outs.makes (v.out x a (suc m) 0) (n.Task.of (v.out x a (suc m) 0)) (inl refl)), sym (subst (λ z. z ∷ ds ≡ outputs x a (suc m) 0 (suc m)) is e)))
+      subst (λ z. IsBatch the z ds) (sym is) (inr (
+        ap forth_if (outs.makes (v.out x a (suc m) 0) (n.Task.of (v.out x a (suc m) 0)) (inl refl)),
+        sym (subst (λ z. z ∷ ds ≡ outputs x a (suc m) 0 (suc m)) is e),
+      ))
 
   lone_batch : (d : s.Desc) → t.Lone d → IsBatch the d []
   lone_batch (v.call f c vs) h = inr (refl, refl)
@@ -185,33 +191,45 @@ module _ (job : s.Job) (around : s.Around) (name : s.Desc → Digest) (mark : s.
 
       fine : Begun → Fine (w job around plain D) (P job around plain D) (Q job around plain D) (V job around plain D) D others run
       fine b =
-          fine_call (w job around plain D) (P job around plain D) (Q job around plain D) (V job around plain D) D any_lit any_name (closed job around plain D) (written_any job.script) others f c vs nowhere s.start_st tt (captured b) (vals_so job around plain D vs (arguments b))
+          fine_call (w job around plain D) (P job around plain D) (Q job around plain D) (V job around plain D) D any_lit any_name
+          (closed job around plain D) (written_any job.script) others f c vs nowhere s.start_st tt (captured b)
+          (vals_so job around plain D vs (arguments b))
 
       at_wait : (k i : ℕ) (ds : List s.Desc) → slice_get (t.waits_in (r.acts (s.see job around k) run)) i ≡ Some ds → WaitOf the u (suc i) ds
       at_wait k i ds e =
           (k, ap (λ xs. slice_get xs i) (waits_are (r.acts (s.see job around k) run)) ∙ e)
 
-      seen_at : (k : ℕ) (ds : List s.Desc) → ((d e : s.Desc) → In d ds → In e (seen_refs (s.see job around k d)) → In e S) → t.Each (λ d. Seen (s.see job around k d)) ds
+      seen_at : (k : ℕ) (ds : List s.Desc) → ((d e : s.Desc) → In d ds → In e (seen_refs (s.see job around k d)) → In e S)
+          → t.Each (λ d. Seen (s.see job around k d)) ds
       seen_at k ds h =
-          outs.each_in (λ d. Seen (s.see job around k d)) ds (λ d i. seen_refers (s.see job around k d) (each_to D (seen_refs (s.see job around k d)) (outs.each_in D (seen_refs (s.see job around k d)) (λ e j. h d e (in_to d ds i) (in_to e (seen_refs (s.see job around k d)) j)))))
+          outs.each_in (λ d. Seen (s.see job around k d)) ds
+          (λ d i. seen_refers (s.see job around k d)
+          (each_to D (seen_refs (s.see job around k d))
+          (outs.each_in D (seen_refs (s.see job around k d)) (λ e j. h d e (in_to d ds i) (in_to e (seen_refs (s.see job around k d)) j)))))
 
       seen_to : (k i : ℕ) → HandedTo' u (suc i) → SeenTo job around plain D (s.see job around k) i (t.waits_in (r.acts (s.see job around k) run))
       seen_to k i handed j ds l e =
           seen_at k ds (λ d x a b. handed.reads (suc j) ds d x k (omega (arith, l)) (at_wait k j ds e) a b)
 
-      made_to : (k i : ℕ) → TellsTo' u (suc i) → suc i ≤ length (waits_in (the.acts k u)) → t.Each D (t.made_before (suc i) (r.acts (s.see job around k) run))
+      made_to : (k i : ℕ) → TellsTo' u (suc i) → suc i ≤ length (waits_in (the.acts k u))
+          → t.Each D (t.made_before (suc i) (r.acts (s.see job around k) run))
       made_to k i tells l =
-          each_from D (t.made_before (suc i) (r.acts (s.see job around k) run)) (subst (Each D) (before_is (suc i) (r.acts (s.see job around k) run)) (tells.makes k l))
+          each_from D (t.made_before (suc i) (r.acts (s.see job around k) run))
+          (subst (Each D) (before_is (suc i) (r.acts (s.see job around k) run)) (tells.makes k l))
 
-      halt_at : (k i : ℕ) → TellsTo' u (suc i) → suc i ≤ length (waits_in (the.acts k u)) → HaltTold job around plain D (s.see job around k) others (r.halt (s.see job around k) i run)
+      halt_at : (k i : ℕ) → TellsTo' u (suc i) → suc i ≤ length (waits_in (the.acts k u))
+          → HaltTold job around plain D (s.see job around k) others (r.halt (s.see job around k) i run)
       halt_at k i tells l =
           halt_told job around plain D (s.see job around k) i run others (fine tells.handed.begins) (made_to k i tells l) (seen_to k i tells.handed)
 
       call_waits : (k i : ℕ) (ds : List s.Desc) → TellsTo' u (suc i) → slice_get (waits_in (the.acts k u)) i ≡ Some ds → Each D ds
       call_waits k i ds tells e =
-          go (r.halt (s.see job around k) i run) (sym (fuel.halt_waits (s.see job around k) run i) ∙ (sym (ap (λ xs. slice_get xs i) (waits_are (r.acts (s.see job around k) run))) ∙ e)) (halt_at k i tells (get_short (waits_in (the.acts k u)) i ds e))
+          go (r.halt (s.see job around k) i run) (sym (fuel.halt_waits (s.see job around k) run i)
+          ∙ (sym (ap (λ xs. slice_get xs i) (waits_are (r.acts (s.see job around k) run))) ∙ e))
+          (halt_at k i tells (get_short (waits_in (the.acts k u)) i ds e))
         where
-          go : (o : Option (r.Halt ⊥)) → option_map (λ (h : r.Halt ⊥). r.refs_of h.wait) o ≡ Some ds → HaltTold job around plain D (s.see job around k) others o → Each D ds
+          go : (o : Option (r.Halt ⊥)) → option_map (λ (h : r.Halt ⊥). r.refs_of h.wait) o ≡ Some ds
+              → HaltTold job around plain D (s.see job around k) others o → Each D ds
           go None q h = cc
           go (Some x) q h = subst (Each D) (some_is (r.refs_of x.wait) ds q) (each_to D (r.refs_of x.wait) h.0)
 
@@ -222,51 +240,78 @@ module _ (job : s.Job) (around : s.Around) (name : s.Desc → Digest) (mark : s.
       frames_refs : (fs : List (r.Frame ⊥)) → t.Each (FrameTold job around plain D) fs → t.Each D (t.frames_held fs)
       frames_refs [] h = tt
       frames_refs (x ∷ xs) h =
-          both D (v.pairs_refs x.vars) (t.vals_held x.stack ++ t.frames_held xs) (pairs_each D x.vars h.0.0) (both D (t.vals_held x.stack) (t.frames_held xs) (values_refs x.stack h.0.1) (frames_refs xs h.1))
+          both D (v.pairs_refs x.vars) (t.vals_held x.stack ++ t.frames_held xs) (pairs_each D x.vars h.0.0)
+          (both D (t.vals_held x.stack) (t.frames_held xs) (values_refs x.stack h.0.1) (frames_refs xs h.1))
 
       held_each : (x : r.Run ⊥) → t.Each (FrameTold job around plain D) x.frames → Each D (t.held (n.State.run x))
       held_each x h =
-          each_to D (t.held (n.State.run x)) (each_sub D (t.frames_held x.frames) (t.held (n.State.run x)) (λ d i. outs.distinct_in (λ b c. true) (λ b c z. absurd b) (λ b. absurd b) (t.frames_held x.frames) d i) (frames_refs x.frames h))
+          each_to D (t.held (n.State.run x)) (each_sub D (t.frames_held x.frames) (t.held (n.State.run x))
+          (λ d i. outs.distinct_in (λ b c. true) (λ b c z. absurd b) (λ b. absurd b) (t.frames_held x.frames) d i) (frames_refs x.frames h))
 
       names_of : (x : n.State) (a : Held s.Desc) → held_if job around name mark frozen (Some x) ≡ Some a → t.held x ≡ a.names
       names_of x a e = ap (λ (z : Held s.Desc). z.names) (some_is (record { names = t.held x; mark = frozen x }) a e)
 
       abbrev first_run : Body → r.Run ⊥
       first_run x =
-          record { frames = record { fun = f; vars = bind x.params vs c; stack = []; todo = record { node = x.node; step = 0 } ∷ [] } ∷ []; count = 0; waits = 0 }
+          record {
+            frames = record { fun = f; vars = bind x.params vs c; stack = []; todo = record { node = x.node; step = 0 } ∷ [] } ∷ [];
+            count = 0;
+            waits = 0;
+          }
 
-      start_holds : (o : Option Body) → BodyWritten any_lit any_name o → Begun → (a : Held s.Desc) → held_if job around name mark frozen (n.start_frame f c vs o) ≡ Some a → Each D a.names
+      start_holds : (o : Option Body) → BodyWritten any_lit any_name o → Begun → (a : Held s.Desc)
+          → held_if job around name mark frozen (n.start_frame f c vs o) ≡ Some a → Each D a.names
       start_holds None z b a e = cc
       start_holds (Some x) z b a e =
-          subst (Each D) (names_of (n.State.run (first_run x)) a e) (held_each (first_run x) (((bind_ok (w job around plain D) (P job around plain D) (Q job around plain D) (V job around plain D) D any_lit any_name (closed job around plain D) x.params vs c z.0 (vals_so job around plain D vs (arguments b)) (captured b)), tt), tt))
+          subst (Each D) (names_of (n.State.run (first_run x)) a e)
+          (held_each (first_run x) (
+            (
+              (bind_ok (w job around plain D) (P job around plain D) (Q job around plain D) (V job around plain D) D
+                  any_lit any_name (closed job around plain D) x.params vs c z.0 (vals_so job around plain D vs (arguments b)) (captured b)),
+              tt,
+            ),
+            tt,
+          ))
 
-      halt_holds : (k i : ℕ) → TellsTo' u (suc i) → (o : Option (r.Halt ⊥)) → r.halt (s.see job around k) i run ≡ o → (a : Held s.Desc) → held_if job around name mark frozen (n.halt_state f (suc i) o) ≡ Some a → Each D a.names
+      halt_holds : (k i : ℕ) → TellsTo' u (suc i) → (o : Option (r.Halt ⊥)) → r.halt (s.see job around k) i run ≡ o → (a : Held s.Desc)
+          → held_if job around name mark frozen (n.halt_state f (suc i) o) ≡ Some a → Each D a.names
       halt_holds k i tells None q a e = cc
       halt_holds k i tells (Some x) q a e =
-          let get : slice_get (waits_in (the.acts k u)) i ≡ Some (r.refs_of x.wait) = ap (λ xs. slice_get xs i) (waits_are (r.acts (s.see job around k) run)) ∙ (fuel.halt_waits (s.see job around k) run i ∙ ap (option_map (λ (h : r.Halt ⊥). r.refs_of h.wait)) q) in
-          let told = subst (HaltTold job around plain D (s.see job around k) others) q (halt_at k i tells (get_short (waits_in (the.acts k u)) i (r.refs_of x.wait) get)) in
-          subst (Each D) (names_of (n.State.run (r.run_of_halt f (suc i) x)) a e) (held_each (r.run_of_halt f (suc i) x) (frames_told job around plain D x.forms others f x.st.vars told.1 told.2))
+          let get : slice_get (waits_in (the.acts k u)) i ≡ Some (r.refs_of x.wait) =
+          ap (λ xs. slice_get xs i) (waits_are (r.acts (s.see job around k) run))
+          ∙ (fuel.halt_waits (s.see job around k) run i ∙ ap (option_map (λ (h : r.Halt ⊥). r.refs_of h.wait)) q) in
+          let told = subst (HaltTold job around plain D (s.see job around k) others) q
+          (halt_at k i tells (get_short (waits_in (the.acts k u)) i (r.refs_of x.wait) get)) in
+          subst (Each D) (names_of (n.State.run (r.run_of_halt f (suc i) x)) a e)
+          (held_each (r.run_of_halt f (suc i) x) (frames_told job around plain D x.forms others f x.st.vars told.1 told.2))
 
       call_holds : (i k : ℕ) (a : Held s.Desc) → TellsTo' u i → the.at k u i ≡ Some a → Each D a.names
       call_holds zero k a tells e =
           start_holds (body_of f job.script) (body_written any_lit any_name job.script (written_any job.script) f) tells.handed.begins a e
       call_holds (suc i) k a tells e = halt_holds k i tells (r.halt (s.see job around k) i run) refl a e
 
-      call_made : (i k : ℕ) (before after : List s.Desc) (x : s.Desc) → HandedTo' u i → made_before i (the.acts k u) ≡ before ++ x ∷ after → Each D before → Around' x
+      call_made : (i k : ℕ) (before after : List s.Desc) (x : s.Desc) → HandedTo' u i → made_before i (the.acts k u) ≡ before ++ x ∷ after
+          → Each D before → Around' x
       call_made zero k before after x handed e m = none before after x e
       call_made (suc i) k before after x handed e m =
-          inside_each x (made_told job around plain D (s.see job around k) i run others before after x (fine handed.begins) (sym (before_is (suc i) (r.acts (s.see job around k) run)) ∙ e) (each_from D before m) (seen_to k i handed))
+          inside_each x (made_told job around plain D (s.see job around k) i run others before after x (fine handed.begins)
+          (sym (before_is (suc i) (r.acts (s.see job around k) run)) ∙ e) (each_from D before m) (seen_to k i handed))
 
       seen_all : (k : ℕ) → HandedAll u → SeenAll job around plain D (s.see job around k) (t.waits_in (r.acts (s.see job around k) run))
       seen_all k handed j ds e = seen_at k ds (λ d x a b. handed.reads (suc j) ds d x k (at_wait k j ds e) a b)
 
-      outcome_told : (k : ℕ) → TellsAll u → the.ended k u ≡ true → OutcomeTold job around plain D (s.see job around k) (r.outcome (s.see job around k) run)
+      outcome_told : (k : ℕ) → TellsAll u → the.ended k u ≡ true
+          → OutcomeTold job around plain D (s.see job around k) (r.outcome (s.see job around k) run)
       outcome_told k tells e =
-          ends_told job around plain D (s.see job around k) run others (fine tells.handed.begins) (each_from D (t.made_in (r.acts (s.see job around k) run)) (subst (Each D) (made_is (r.acts (s.see job around k) run)) (tells.makes k e))) (seen_all k tells.handed)
+          ends_told job around plain D (s.see job around k) run others (fine tells.handed.begins)
+          (each_from D (t.made_in (r.acts (s.see job around k) run))
+          (subst (Each D) (made_is (r.acts (s.see job around k) run)) (tells.makes k e))) (seen_all k tells.handed)
 
-      call_end : (k : ℕ) (before after : List s.Desc) (x : s.Desc) → HandedAll u → made_in (the.acts k u) ≡ before ++ x ∷ after → Each D before → Around' x
+      call_end : (k : ℕ) (before after : List s.Desc) (x : s.Desc) → HandedAll u → made_in (the.acts k u) ≡ before ++ x ∷ after → Each D before
+          → Around' x
       call_end k before after x handed e m =
-          inside_each x (makes_told job around plain D (s.see job around k) run others before after x (fine handed.begins) (sym (made_is (r.acts (s.see job around k) run)) ∙ e) (each_from D before m) (seen_all k handed))
+          inside_each x (makes_told job around plain D (s.see job around k) run others before after x (fine handed.begins)
+          (sym (made_is (r.acts (s.see job around k) run)) ∙ e) (each_from D before m) (seen_all k handed))
 
       outcome_refs : (k : ℕ) (o : r.Outcome ⊥) → OutcomeTold job around plain D (s.see job around k) o → Each D (seen_refs (s.object_of o))
       outcome_refs k (r.Outcome.ended End.goes st) h = tt
@@ -280,7 +325,8 @@ module _ (job : s.Job) (around : s.Around) (name : s.Desc → Digest) (mark : s.
       call_object zero tells = tt
       call_object (suc k) tells = go (s.object_of (r.outcome (s.see job around k) run)) refl
         where
-          go : (o : Option s.Obj) → s.object_of (r.outcome (s.see job around k) run) ≡ o → Each D (seen_refs (s.object_of (r.outcome (s.see job around k) run)))
+          go : (o : Option s.Obj) → s.object_of (r.outcome (s.see job around k) run) ≡ o
+              → Each D (seen_refs (s.object_of (r.outcome (s.see job around k) run)))
           go None q = subst (λ z. Each D (seen_refs z)) (sym q) tt
           go (Some x) q = outcome_refs k (r.outcome (s.see job around k) run) (outcome_told k tells (ap is_some q))
 
@@ -304,31 +350,37 @@ module _ (job : s.Job) (around : s.Around) (name : s.Desc → Digest) (mark : s.
         go (e ∷ es) j = refl
 
     -- what the value of a wave refers to is waited for there
-    waves_wait : (k j : ℕ) (a : s.Val) (d : s.Desc) → j ≤ 100 → s.wave job around k j ≡ Some a → t.In d (v.refs a) → (ds : List s.Desc) × WaitOf the show j ds × In d ds
+    waves_wait : (k j : ℕ) (a : s.Val) (d : s.Desc) → j ≤ 100 → s.wave job around k j ≡ Some a → t.In d (v.refs a) → (ds : List s.Desc)
+        × WaitOf the show j ds × In d ds
     unfolding s.wave
     waves_wait k zero a d le e i =
         let q : v.ref s.main_call ≡ a = some_is (v.ref s.main_call) a e in
         (s.main_call ∷ [], refl, in_to d (s.main_call ∷ []) (subst (λ x. t.In d (v.refs x)) (sym q) i))
     waves_wait k (suc j) a d le e i =
         let on : nat_le (suc j) 100 ≡ true = le-leb (suc j) 100 le in
-        let at : n.wait_at job around k n.Task.show (suc j) ≡ Some (n.distinct_refs a) = ap (λ b. n.only_if b (n.wave_refs (s.wave job around k (suc j)))) on ∙ (ap n.wave_refs e ∙ some_refs a d i) in
+        let at : n.wait_at job around k n.Task.show (suc j) ≡ Some (n.distinct_refs a) =
+        ap (λ b. n.only_if b (n.wave_refs (s.wave job around k (suc j)))) on ∙ (ap n.wave_refs e ∙ some_refs a d i) in
         (n.distinct_refs a, (k, wait_is job around name mark frozen k show j ∙ at), in_to d (n.distinct_refs a) (outs.in_distinct_refs a d i))
 
     wave_told : (k j : ℕ) → j ≤ 100 → In s.main_call S → ReadsTo k j → WaveTold (s.wave job around k j)
     unfolding s.wave
     wave_told k zero le m h = m
-    wave_told k (suc j) le m h = waves.next_wave job around plain D k (s.wave job around k j) (λ a e. outs.each_in (λ d. Seen (s.see job around k d)) (v.refs a) (λ d i. seen a d e i))
+    wave_told k (suc j) le m h = waves.next_wave job around plain D k (s.wave job around k j)
+        (λ a e. outs.each_in (λ d. Seen (s.see job around k d)) (v.refs a) (λ d i. seen a d e i))
       where
         seen : (a : s.Val) (d : s.Desc) → s.wave job around k j ≡ Some a → t.In d (v.refs a) → Seen (s.see job around k d)
         seen a d e i =
             let wt = waves_wait k j a d (omega (arith, le)) e i in
-            seen_refers (s.see job around k d) (each_to D (seen_refs (s.see job around k d)) (outs.each_in D (seen_refs (s.see job around k d)) (λ x y. h j wt.0 d x (omega arith) wt.1 wt.2 (in_to x (seen_refs (s.see job around k d)) y))))
+            seen_refers (s.see job around k d) (each_to D (seen_refs (s.see job around k d))
+            (outs.each_in D (seen_refs (s.see job around k d))
+            (λ x y. h j wt.0 d x (omega arith) wt.1 wt.2 (in_to x (seen_refs (s.see job around k d)) y))))
 
     at_wave : (k j : ℕ) (a : s.Val) → j ≤ 100 → TellsTo' show j → s.wave job around k j ≡ Some a → Refers D a
     at_wave k j a le tells e =
         subst WaveTold e (wave_told k j le tells.handed.begins (λ i ds d x l wt m c. tells.handed.reads i ds d x k l wt m c))
 
-    few_waits : (k j : ℕ) (ds : List s.Desc) → slice_get (waits_in (the.acts k show)) j ≡ Some ds → (suc j ≤ 100) × ((a : s.Val) × (s.wave job around k (suc j) ≡ Some a) × (ds ≡ n.distinct_refs a))
+    few_waits : (k j : ℕ) (ds : List s.Desc) → slice_get (waits_in (the.acts k show)) j ≡ Some ds → (suc j ≤ 100)
+        × ((a : s.Val) × (s.wave job around k (suc j) ≡ Some a) × (ds ≡ n.distinct_refs a))
     few_waits k j ds e = go (nat_le (suc j) 100) refl (s.wave job around k (suc j)) refl (sym (wait_is job around name mark frozen k show j) ∙ e)
       where
         listed : (a : s.Val) → n.unless_none (n.distinct_refs a) ≡ Some ds → ds ≡ n.distinct_refs a
@@ -338,7 +390,9 @@ module _ (job : s.Job) (around : s.Around) (name : s.Desc → Digest) (mark : s.
             pick [] z = cc
             pick (x ∷ xs) z = sym (some_is (x ∷ xs) ds z)
 
-        go : (b : Bool) → nat_le (suc j) 100 ≡ b → (o : Option s.Val) → s.wave job around k (suc j) ≡ o → n.only_if b (n.wave_refs (s.wave job around k (suc j))) ≡ Some ds → (suc j ≤ 100) × ((a : s.Val) × (s.wave job around k (suc j) ≡ Some a) × (ds ≡ n.distinct_refs a))
+        go : (b : Bool) → nat_le (suc j) 100 ≡ b → (o : Option s.Val) → s.wave job around k (suc j) ≡ o
+            → n.only_if b (n.wave_refs (s.wave job around k (suc j))) ≡ Some ds → (suc j ≤ 100)
+            × ((a : s.Val) × (s.wave job around k (suc j) ≡ Some a) × (ds ≡ n.distinct_refs a))
         go false q o z h = cc
         go true q None z h = let bad : n.wave_refs None ≡ Some ds = ap n.wave_refs (sym z) ∙ h in cc
         go true q (Some a) z h = (leb-true (suc j) 100 q, (a, z, listed a (ap n.wave_refs (sym z) ∙ h)))
@@ -366,7 +420,8 @@ module _ (job : s.Job) (around : s.Around) (name : s.Desc → Digest) (mark : s.
     waves_make k zero j = refl
     waves_make k (suc m) j = go (n.wave_refs (s.wave job around k j)) (waves_make k m (suc j))
       where
-        go : (o : Option (List s.Desc)) → t.made_in (t.waves_from job around k m (suc j)) ≡ [] → t.made_in (t.wait_then o (t.waves_from job around k m (suc j))) ≡ []
+        go : (o : Option (List s.Desc)) → t.made_in (t.waves_from job around k m (suc j)) ≡ []
+            → t.made_in (t.wait_then o (t.waves_from job around k m (suc j))) ≡ []
         go None q = refl
         go (Some ds) q = q
 
@@ -391,7 +446,8 @@ module _ (job : s.Job) (around : s.Around) (name : s.Desc → Digest) (mark : s.
     waits_told (of (v.input y)) (suc j) ds tells (k, e) = cc
     waits_told (of (v.known b)) i ds tells e = absurd b
 
-    holds_told : (u : Task s.Desc) (i : ℕ) (ds : List s.Desc) (a : Held s.Desc) → TellsTo' u i → WaitOf the u i ds → StateOf the u i a → Each D a.names
+    holds_told : (u : Task s.Desc) (i : ℕ) (ds : List s.Desc) (a : Held s.Desc) → TellsTo' u i → WaitOf the u i ds → StateOf the u i a
+        → Each D a.names
     holds_told show i ds a tells wt (k, e) = show_holds i k a (few i ds wt) tells e
     holds_told (of (v.call f c vs)) i ds a tells wt (k, e) = call_holds f c vs i k a tells e
     holds_told (of (v.out x b m i)) zero ds a tells wt (k, e) =
@@ -400,7 +456,8 @@ module _ (job : s.Job) (around : s.Around) (name : s.Desc → Digest) (mark : s.
     holds_told (of (v.input y)) i ds a tells wt (k, e) = cc
     holds_told (of (v.known b)) i ds a tells wt e = absurd b
 
-    made_before_told : (u : Task s.Desc) (i k : ℕ) (before after : List s.Desc) (x : s.Desc) → HandedTo' u i → made_before i (the.acts k u) ≡ before ++ x ∷ after → Each D before → Around' x
+    made_before_told : (u : Task s.Desc) (i k : ℕ) (before after : List s.Desc) (x : s.Desc) → HandedTo' u i → made_before i (the.acts k u)
+        ≡ before ++ x ∷ after → Each D before → Around' x
     made_before_told show i k before after x handed e m =
         none before after x (sym (none_before (the.acts k show) i (show_makes k)) ∙ e)
     made_before_told (of (v.call f c vs)) i k before after x handed e m = call_made f c vs i k before after x handed e m
@@ -410,7 +467,8 @@ module _ (job : s.Job) (around : s.Around) (name : s.Desc → Digest) (mark : s.
         none before after x (sym (none_before [] i refl) ∙ e)
     made_before_told (of (v.known b)) i k before after x handed e h = absurd b
 
-    made_end_told : (u : Task s.Desc) (k : ℕ) (before after : List s.Desc) (x : s.Desc) → HandedAll u → made_in (the.acts k u) ≡ before ++ x ∷ after → Each D before → Around' x
+    made_end_told : (u : Task s.Desc) (k : ℕ) (before after : List s.Desc) (x : s.Desc) → HandedAll u → made_in (the.acts k u) ≡ before ++ x
+        ∷ after → Each D before → Around' x
     made_end_told show k before after x handed e m = none before after x (sym (show_makes k) ∙ e)
     made_end_told (of (v.call f c vs)) k before after x handed e m = call_end f c vs k before after x handed e m
     made_end_told (of (v.out y a m j)) k before after x handed e h = none before after x e
@@ -425,7 +483,8 @@ module _ (job : s.Job) (around : s.Around) (name : s.Desc → Digest) (mark : s.
     object_of_told (of (v.call f c vs)) k d tells (inl e) =
         subst (λ z. Each D (seen_refs (s.see job around k z))) (sym e) (call_object f c vs k tells)
     object_of_told (of (v.call f c vs)) k d tells (inr i) = absurd i
-    object_of_told (of (v.out x a m j)) k d tells i = go d (outs.makes d (n.Task.of (v.out x a m j)) (in_from d (t.outputs_of (n.Task.of (v.out x a m j))) i))
+    object_of_told (of (v.out x a m j)) k d tells i =
+        go d (outs.makes d (n.Task.of (v.out x a m j)) (in_from d (t.outputs_of (n.Task.of (v.out x a m j))) i))
       where
         go : (d : s.Desc) → t.maker d ≡ Some (n.Task.of (v.out x a m j)) → Each D (seen_refs (s.see job around k d))
         go (v.call f c vs) e = cc

@@ -7,7 +7,8 @@ use Rattle.sky_base.specs.Needed as n
 use Rattle.sky_law.proofs.TaskFuel as fuel
 use Rattle.sky_law.proofs.TaskOutputs as outs
 use Rattle.sky_law.proofs.SeenLaw as seen
-use Rattle.std.proofs.Common.{◌≡◌, ◌≢◌, ℕ, zero, suc, ◌+◌, ◌≤◌, ◌<◌, List, [], ◌∷◌, ◌++◌, Bool, true, false, Option, Some, None, slice_get, inl, inr, refl, ap, sym, ◌∙◌, subst, arith, nat_lt, ltb-true, lt-ltb}
+use Rattle.std.proofs.Common.{◌≡◌, ◌≢◌, ℕ, zero, suc, ◌+◌, ◌≤◌, ◌<◌, List, [], ◌∷◌, ◌++◌, Bool, true, false, Option, Some, None, slice_get, inl, inr}
+use Rattle.std.proofs.Common.{refl, ap, sym, ◌∙◌, subst, arith, nat_lt, ltb-true, lt-ltb}
 use Rattle.ciel_journal.specs.Job.{Digest, Task, show, of, Held, Job, In, Each, IsJob, waits_in}
 use Rattle.ciel_meant.specs.Real.{back, forth, forth_if, act_of, acts_of, held_if, at_of, mark_if, real_job, rank, ranks, pair_ranks, desc_rank}
 
@@ -45,7 +46,8 @@ acts_join : (xs ys : List (r.Act ⊥)) → acts_of (xs ++ ys) ≡ acts_of xs ++ 
 acts_join [] ys = refl
 acts_join (x ∷ xs) ys = ap (λ zs. act_of x ∷ zs) (acts_join xs ys)
 
-pick_in : (xs ys : List s.Desc) (d : s.Desc) (a b : ℕ) → (In d xs → desc_rank d ≤ a) → (In d ys → desc_rank d ≤ b) → In d (xs ++ ys) → desc_rank d ≤ a + b
+pick_in : (xs ys : List s.Desc) (d : s.Desc) (a b : ℕ) → (In d xs → desc_rank d ≤ a) → (In d ys → desc_rank d ≤ b) → In d (xs ++ ys)
+    → desc_rank d ≤ a + b
 pick_in [] ys d a b f g i = let l = g i in omega (arith, l)
 pick_in (x ∷ xs) ys d a b f g (inl s) = let l = f (inl s) in omega (arith, l)
 pick_in (x ∷ xs) ys d a b f g (inr i) = pick_in xs ys d a b (λ j. f (inr j)) g i
@@ -111,7 +113,8 @@ module _ (job : s.Job) (around : s.Around) (name : s.Desc → Digest) (mark : s.
       below : desc_rank e ≤ rank a
       below = rank_in a e (in_to e (v.refs a) (outs.distinct_refs_in a e (in_from e (n.distinct_refs a) i)))
 
-      out_go : (y : List ℕ) (b : v.Val ⊥) (k l : ℕ) (c : Bool) → n.only_if c (Some (n.Task.of (v.out y b k 0))) ≡ Some (n.Task.of (v.out x a m j)) → desc_rank e < suc (rank b)
+      out_go : (y : List ℕ) (b : v.Val ⊥) (k l : ℕ) (c : Bool) → n.only_if c (Some (n.Task.of (v.out y b k 0)))
+          ≡ Some (n.Task.of (v.out x a m j)) → desc_rank e < suc (rank b)
       out_go y b k l true g = let q : a ≡ b = cc in let w = ap rank q in let z = below in omega (arith, w, z)
       out_go y b k l false g = cc
 
@@ -135,12 +138,14 @@ module _ (job : s.Job) (around : s.Around) (name : s.Desc → Digest) (mark : s.
         own = λ d e h. of_made d (of d) (own d e (made_of e (of d) h));
         size = desc_rank;
         first_smaller = λ d e u h i nr. smaller d e (back u) (made_of d u h) i (λ z. nr (shown u z));
-        more = λ k u. let p = fuel.more job around k (back u) in (acts_of p.0, sym (acts_join (t.acts_of job around k (back u)) p.0) ∙ ap acts_of (sym p.1));
+        more = λ k u. let p = fuel.more job around k (back u) in
+            (acts_of p.0, sym (acts_join (t.acts_of job around k (back u)) p.0) ∙ ap acts_of (sym p.1));
         kept = λ k u h. let p = fuel.kept job around k (back u) h in (ap acts_of p.0, p.1);
         held_kept = λ k u j a h. at_more (back u) k j a h;
         object_kept = λ k d m h. object_more (s.see job around k d) (s.see job around (suc k) d) m (seen.see_kept job around k d) h;
         first_seen = λ k u h. marks_each k (t.first_of (back u)) (fuel.first_seen job around k (back u) h);
-        later_seen = λ k u j ds h g. marks_each k ds (fuel.later_seen job around k (back u) j ds h (ap (λ xs. slice_get xs j) (sym (waits_are (t.acts_of job around k (back u)))) ∙ g));
+        later_seen = λ k u j ds h g. marks_each k ds
+            (fuel.later_seen job around k (back u) j ds h (ap (λ xs. slice_get xs j) (sym (waits_are (t.acts_of job around k (back u)))) ∙ g));
         unseen = λ d u h. ap marked (fuel.unseen job around d);
         seen = λ k d u h ne. fuel.seen job around k d (back u) (made_of d u h) (seen_mark (s.see job around (suc k) d) ne);
       }
@@ -149,15 +154,19 @@ module _ (job : s.Job) (around : s.Around) (name : s.Desc → Digest) (mark : s.
       shown show z = refl
       shown (of d) z = cc
 
-      held_more : (x y : Option n.State) (a : Held s.Desc) → seen.Kept None x y → held_if job around name mark frozen x ≡ Some a → held_if job around name mark frozen y ≡ Some a
+      held_more : (x y : Option n.State) (a : Held s.Desc) → seen.Kept None x y → held_if job around name mark frozen x ≡ Some a
+          → held_if job around name mark frozen y ≡ Some a
       held_more x y a (inl e) h = let bad : None ≡ Some a = sym (ap (held_if job around name mark frozen) e) ∙ h in cc
       held_more x y a (inr e) h = ap (held_if job around name mark frozen) (sym e) ∙ h
 
-      at_more : (u : n.Task) (k j : ℕ) (a : Held s.Desc) → at_of job around name mark frozen k u j ≡ Some a → at_of job around name mark frozen (suc k) u j ≡ Some a
+      at_more : (u : n.Task) (k j : ℕ) (a : Held s.Desc) → at_of job around name mark frozen k u j ≡ Some a
+          → at_of job around name mark frozen (suc k) u j ≡ Some a
       at_more n.Task.show k j a h =
-          held_more (n.stands_at job around k n.Task.show j) (n.stands_at job around (suc k) n.Task.show j) a (seen.stands_kept job around n.Task.show j k) h
+          held_more (n.stands_at job around k n.Task.show j) (n.stands_at job around (suc k) n.Task.show j) a
+          (seen.stands_kept job around n.Task.show j k) h
       at_more (n.Task.of (v.call f c vs)) k j a h =
-          held_more (n.stands_at job around k (n.Task.of (v.call f c vs)) j) (n.stands_at job around (suc k) (n.Task.of (v.call f c vs)) j) a (seen.stands_kept job around (n.Task.of (v.call f c vs)) j k) h
+          held_more (n.stands_at job around k (n.Task.of (v.call f c vs)) j) (n.stands_at job around (suc k) (n.Task.of (v.call f c vs)) j) a
+          (seen.stands_kept job around (n.Task.of (v.call f c vs)) j k) h
       at_more (n.Task.of (v.out x b m i)) k zero a h = h
       at_more (n.Task.of (v.out x b m i)) k (suc j) a h = h
       at_more (n.Task.of (v.input y)) k j a h = h

@@ -1,16 +1,20 @@
 -- What a call waits for, holds and makes refers to what it began with, to what it saw, and to what it made before.
 use Rattle.std.proofs.Common.{◌≡◌, ℕ, zero, suc, ◌<◌, List, [], ◌∷◌, ◌++◌, Option, Some, None, Ok, Err, refl, sym, subst, arith, slice_get}
-use Rattle.sky_base.specs.Val.{null, truth, num, text, list, dict, fun, ref, no_vals, val, no_pairs, pair, call, out, input, known, refs, vals_refs, pairs_refs, vals_of}
+use Rattle.sky_base.specs.Val.{null, truth, num, text, list, dict, fun, ref, no_vals, val, no_pairs, pair, call, out, input, known, refs, vals_refs}
+use Rattle.sky_base.specs.Val.{pairs_refs, vals_of}
 use Rattle.sky_base.specs.Op.{Answer, limited, dict_from, index, keys, has, len, negated, opposite}
 use Rattle.sky_base.specs.Eval.{World, caught_by, oper, lit_val, inside}
 use Rattle.sky_base.specs.Res.{Entry, Res, Fin, Tell, Ask, kept_of, opens}
-use Rattle.sky_base.specs.Read.{Outcome, no_fuel, Halt, Todo, Frame, refs_of, joined, see_all, on_seen, acts_seen, halts_seen, outcome, acts, halt, todo_of, in_front, frame_of, frames_of}
+use Rattle.sky_base.specs.Read.{Outcome, no_fuel, Halt, Todo, Frame, refs_of, joined, see_all, on_seen, acts_seen, halts_seen, outcome, acts, halt}
+use Rattle.sky_base.specs.Read.{todo_of, in_front, frame_of, frames_of}
 use Rattle.sky_base.specs.See.{Val, Vals, Pairs, Desc, Obj, Job, Around, world_of}
 use Rattle.sky_law.specs.Tasks.{Each, made_before, made_in, waits_in}
 use Rattle.sky_law.specs.Refers.{PlainReads, Refers, ValsRefer, PairsRefer}
 use Rattle.sky_law.proofs.FineLaw.{Closed, AnswerOk, OptionOk, ValsOk, ObjectOk, EndOk, OpenOk, FormsOk, Fine}
 use Rattle.sky_law.proofs.FineReads.{SeenOk}
-use Rattle.sky_law.proofs.RefersOps.{AnswerRefers, OptionRefers, simple_refers, limited_refers, put_refers, find_refers, caught_refers, oper_refers, index_refers, set_at_refers, grown_refers, len_refers, keys_refers, range_refers, list_refers, dict_refers, lit_refers, refs_refers}
+use Rattle.sky_law.proofs.RefersOps.{AnswerRefers, OptionRefers, simple_refers, limited_refers, put_refers, find_refers, caught_refers, oper_refers}
+use Rattle.sky_law.proofs.RefersOps.{index_refers, set_at_refers, grown_refers, len_refers, keys_refers, range_refers, list_refers, dict_refers}
+use Rattle.sky_law.proofs.RefersOps.{lit_refers, refs_refers}
 use Rattle.sky_law.proofs.SimpleOps.{negated_simple, opposite_simple, has_simple}
 use Rattle.sky_law.proofs.WrittenLaw.{any_lit, any_name}
 
@@ -115,7 +119,8 @@ module _ (job : Job) (around : Around) (plain : PlainReads around) (D : Desc →
         put_ok = λ x a ps k h l. put_refers ⊥ D x a ps h l;
         find_ok = λ x ps l. found _ (find_refers ⊥ D x ps l);
         fun_ok = λ x k i. answered (limited (fun x no_pairs)) (limited_refers ⊥ D (fun x no_pairs) tt);
-        closed_ok = λ f x ps k e l. answered (limited (fun x (caught_by f.uses ps))) (limited_refers ⊥ D (fun x (caught_by f.uses ps)) (caught_refers ⊥ D f.uses ps l));
+        closed_ok = λ f x ps k e l. answered (limited (fun x (caught_by f.uses ps)))
+            (limited_refers ⊥ D (fun x (caught_by f.uses ps)) (caught_refers ⊥ D f.uses ps l));
         caught_ok = λ f ca h. h;
         list_ok = λ vs h. answered (limited (list (vals_of vs))) (list_refers ⊥ D vs h);
         dict_ok = λ vs h. answered (dict_from vs no_pairs) (dict_refers ⊥ D vs no_pairs h tt);
@@ -168,28 +173,39 @@ module _ (job : Job) (around : Around) (plain : PlainReads around) (D : Desc →
     HaltTold d None = Unit {0}
     HaltTold d (Some h) = Each D (refs_of h.wait) × FormsOk w P Q V d h.forms × V h.st.vars
 
-    on_halt : (x : Option (List Obj)) (k : List Obj → Res ⊥) (i d : ℕ) → AllSeen x → Each D (made_before (suc i) (acts_seen x (λ os. acts look (k os)))) → SeenTo i (waits_in (acts_seen x (λ os. acts look (k os)))) → ((os : List Obj) → Each (ObjectOk w P Q) os → Each D (made_before (suc i) (acts look (k os))) → SeenTo i (waits_in (acts look (k os))) → HaltTold d (halt look i (k os))) → HaltTold d (halts_seen x (λ os. halt look i (k os)))
+    on_halt : (x : Option (List Obj)) (k : List Obj → Res ⊥) (i d : ℕ) → AllSeen x
+        → Each D (made_before (suc i) (acts_seen x (λ os. acts look (k os)))) → SeenTo i (waits_in (acts_seen x (λ os. acts look (k os))))
+        → ((os : List Obj) → Each (ObjectOk w P Q) os → Each D (made_before (suc i) (acts look (k os))) → SeenTo i (waits_in (acts look (k os)))
+        → HaltTold d (halt look i (k os))) → HaltTold d (halts_seen x (λ os. halt look i (k os)))
     on_halt None k i d h m s g = tt
     on_halt (Some os) k i d h m s g = g os h m s
 
     -- at the wait i, counted from 0
-    pub halt_told : (i : ℕ) (r : Res ⊥) (d : ℕ) → Fine w P Q V D d r → Each D (made_before (suc i) (acts look r)) → SeenTo i (waits_in (acts look r)) → HaltTold d (halt look i r)
+    pub halt_told : (i : ℕ) (r : Res ⊥) (d : ℕ) → Fine w P Q V D d r → Each D (made_before (suc i) (acts look r))
+        → SeenTo i (waits_in (acts look r)) → HaltTold d (halt look i r)
     halt_told i (Fin e st) d g m s = tt
     halt_told i (Tell o r) d g m s = halt_told i r d (g.1 m.0) m.1 s
     halt_told zero (Ask q fr st k) d g m s = (g.0.0, g.0.1, g.0.2)
     halt_told (suc i) (Ask q fr st k) d g m s =
-        on_halt (see_all look (refs_of q)) k i d (all_seen (refs_of q) (s 0 (refs_of q) (omega arith) refl)) m (later i (waits_in (acts_seen (see_all look (refs_of q)) (λ os. acts look (k os)))) (refs_of q) s) (λ os h n t. halt_told i (k os) d (g.1 os h) n t)
+        on_halt (see_all look (refs_of q)) k i d (all_seen (refs_of q) (s 0 (refs_of q) (omega arith) refl)) m
+        (later i (waits_in (acts_seen (see_all look (refs_of q)) (λ os. acts look (k os)))) (refs_of q) s)
+        (λ os h n t. halt_told i (k os) d (g.1 os h) n t)
 
     none_made : (before after : List Desc) (x : Desc) → [] ≡ before ++ x ∷ after → Q x
     none_made [] after x e = cc
     none_made (b ∷ bs) after x e = cc
 
-    on_made : (o : Option (List Obj)) (k : List Obj → Res ⊥) (i : ℕ) (before after : List Desc) (x : Desc) → AllSeen o → made_before (suc i) (acts_seen o (λ os. acts look (k os))) ≡ before ++ x ∷ after → SeenTo i (waits_in (acts_seen o (λ os. acts look (k os)))) → ((os : List Obj) → Each (ObjectOk w P Q) os → made_before (suc i) (acts look (k os)) ≡ before ++ x ∷ after → SeenTo i (waits_in (acts look (k os))) → Q x) → Q x
+    on_made : (o : Option (List Obj)) (k : List Obj → Res ⊥) (i : ℕ) (before after : List Desc) (x : Desc) → AllSeen o
+        → made_before (suc i) (acts_seen o (λ os. acts look (k os))) ≡ before ++ x ∷ after
+        → SeenTo i (waits_in (acts_seen o (λ os. acts look (k os))))
+        → ((os : List Obj) → Each (ObjectOk w P Q) os → made_before (suc i) (acts look (k os)) ≡ before ++ x ∷ after
+        → SeenTo i (waits_in (acts look (k os))) → Q x) → Q x
     on_made None k i before after x h e n g = none_made before after x e
     on_made (Some os) k i before after x h e n g = g os h e n
 
     -- what stands inside a description that is made before the wait i, counted from 0, where what was made before it is told
-    pub made_told : (i : ℕ) (r : Res ⊥) (d : ℕ) (before after : List Desc) (x : Desc) → Fine w P Q V D d r → made_before (suc i) (acts look r) ≡ before ++ x ∷ after → Each D before → SeenTo i (waits_in (acts look r)) → Q x
+    pub made_told : (i : ℕ) (r : Res ⊥) (d : ℕ) (before after : List Desc) (x : Desc) → Fine w P Q V D d r → made_before (suc i) (acts look r)
+        ≡ before ++ x ∷ after → Each D before → SeenTo i (waits_in (acts look r)) → Q x
     made_told i (Fin e st) d [] after x g q m s = cc
     made_told i (Fin e st) d (b ∷ bs) after x g q m s = cc
     made_told i (Tell o r) d [] after x g q m s = let is : o ≡ x = cc in subst Q is g.0
@@ -200,7 +216,9 @@ module _ (job : Job) (around : Around) (plain : PlainReads around) (D : Desc →
     made_told zero (Ask y fr st k) d [] after x g q m s = cc
     made_told zero (Ask y fr st k) d (b ∷ bs) after x g q m s = cc
     made_told (suc i) (Ask y fr st k) d before after x g q m s =
-        on_made (see_all look (refs_of y)) k i before after x (all_seen (refs_of y) (s 0 (refs_of y) (omega arith) refl)) q (later i (waits_in (acts_seen (see_all look (refs_of y)) (λ os. acts look (k os)))) (refs_of y) s) (λ os h e n. made_told i (k os) d before after x (g.1 os h) e m n)
+        on_made (see_all look (refs_of y)) k i before after x (all_seen (refs_of y) (s 0 (refs_of y) (omega arith) refl)) q
+        (later i (waits_in (acts_seen (see_all look (refs_of y)) (λ os. acts look (k os)))) (refs_of y) s)
+        (λ os h e n. made_told i (k os) d before after x (g.1 os h) e m n)
 
     -- to the end
     abbrev pub SeenAll : List (List Desc) → Type 0
@@ -210,22 +228,31 @@ module _ (job : Job) (around : Around) (plain : PlainReads around) (D : Desc →
     OutcomeTold (Outcome.ended e st) = EndOk w P Q e × V st.vars
     OutcomeTold no_fuel = Unit {0}
 
-    on_end : (x : Option (List Obj)) (k : List Obj → Res ⊥) → AllSeen x → Each D (made_in (acts_seen x (λ os. acts look (k os)))) → SeenAll (waits_in (acts_seen x (λ os. acts look (k os)))) → ((os : List Obj) → Each (ObjectOk w P Q) os → Each D (made_in (acts look (k os))) → SeenAll (waits_in (acts look (k os))) → OutcomeTold (outcome look (k os))) → OutcomeTold (on_seen x (λ os. outcome look (k os)))
+    on_end : (x : Option (List Obj)) (k : List Obj → Res ⊥) → AllSeen x → Each D (made_in (acts_seen x (λ os. acts look (k os))))
+        → SeenAll (waits_in (acts_seen x (λ os. acts look (k os))))
+        → ((os : List Obj) → Each (ObjectOk w P Q) os → Each D (made_in (acts look (k os))) → SeenAll (waits_in (acts look (k os)))
+        → OutcomeTold (outcome look (k os))) → OutcomeTold (on_seen x (λ os. outcome look (k os)))
     on_end None k h m s g = tt
     on_end (Some os) k h m s g = g os h m s
 
-    pub ends_told : (r : Res ⊥) (d : ℕ) → Fine w P Q V D d r → Each D (made_in (acts look r)) → SeenAll (waits_in (acts look r)) → OutcomeTold (outcome look r)
+    pub ends_told : (r : Res ⊥) (d : ℕ) → Fine w P Q V D d r → Each D (made_in (acts look r)) → SeenAll (waits_in (acts look r))
+        → OutcomeTold (outcome look r)
     ends_told (Fin e st) d g m s = g
     ends_told (Tell o r) d g m s = ends_told r d (g.1 m.0) m.1 s
     ends_told (Ask q fr st k) d g m s =
-        on_end (see_all look (refs_of q)) k (all_seen (refs_of q) (s 0 (refs_of q) refl)) m (λ i ds e. s (suc i) ds e) (λ os h n t. ends_told (k os) d (g.1 os h) n t)
+        on_end (see_all look (refs_of q)) k (all_seen (refs_of q) (s 0 (refs_of q) refl)) m (λ i ds e. s (suc i) ds e)
+        (λ os h n t. ends_told (k os) d (g.1 os h) n t)
 
-    on_makes : (o : Option (List Obj)) (k : List Obj → Res ⊥) (before after : List Desc) (x : Desc) → AllSeen o → made_in (acts_seen o (λ os. acts look (k os))) ≡ before ++ x ∷ after → SeenAll (waits_in (acts_seen o (λ os. acts look (k os)))) → ((os : List Obj) → Each (ObjectOk w P Q) os → made_in (acts look (k os)) ≡ before ++ x ∷ after → SeenAll (waits_in (acts look (k os))) → Q x) → Q x
+    on_makes : (o : Option (List Obj)) (k : List Obj → Res ⊥) (before after : List Desc) (x : Desc) → AllSeen o
+        → made_in (acts_seen o (λ os. acts look (k os))) ≡ before ++ x ∷ after → SeenAll (waits_in (acts_seen o (λ os. acts look (k os))))
+        → ((os : List Obj) → Each (ObjectOk w P Q) os → made_in (acts look (k os)) ≡ before ++ x ∷ after → SeenAll (waits_in (acts look (k os)))
+        → Q x) → Q x
     on_makes None k before after x h e n g = none_made before after x e
     on_makes (Some os) k before after x h e n g = g os h e n
 
     -- what stands inside a description that is made, where what was made before it is told
-    pub makes_told : (r : Res ⊥) (d : ℕ) (before after : List Desc) (x : Desc) → Fine w P Q V D d r → made_in (acts look r) ≡ before ++ x ∷ after → Each D before → SeenAll (waits_in (acts look r)) → Q x
+    pub makes_told : (r : Res ⊥) (d : ℕ) (before after : List Desc) (x : Desc) → Fine w P Q V D d r → made_in (acts look r) ≡ before ++ x ∷ after
+        → Each D before → SeenAll (waits_in (acts look r)) → Q x
     makes_told (Fin e st) d [] after x g q m s = cc
     makes_told (Fin e st) d (b ∷ bs) after x g q m s = cc
     makes_told (Tell o r) d [] after x g q m s = let is : o ≡ x = cc in subst Q is g.0
@@ -234,7 +261,8 @@ module _ (job : Job) (around : Around) (plain : PlainReads around) (D : Desc →
         let rest : made_in (acts look r) ≡ bs ++ x ∷ after = cc in
         makes_told r d bs after x (g.1 (subst D is m.0)) rest m.1 s
     makes_told (Ask y fr st k) d before after x g q m s =
-        on_makes (see_all look (refs_of y)) k before after x (all_seen (refs_of y) (s 0 (refs_of y) refl)) q (λ i ds e. s (suc i) ds e) (λ os h e n. makes_told (k os) d before after x (g.1 os h) e m n)
+        on_makes (see_all look (refs_of y)) k before after x (all_seen (refs_of y) (s 0 (refs_of y) refl)) q (λ i ds e. s (suc i) ds e)
+        (λ os h e n. makes_told (k os) d before after x (g.1 os h) e m n)
 
   -- ---- frames
 
@@ -249,11 +277,14 @@ module _ (job : Job) (around : Around) (plain : PlainReads around) (D : Desc →
   front t vs [] h i = tt
   front t vs (f ∷ fs) h i = ((i.0.0, stacks vs f.stack h i.0.1), i.1)
 
-  frame : (d : ℕ) (o : Option (List ℕ × Pairs)) (f : List ℕ) (t : Todo) (vs : List Val) (same : List (Frame ⊥)) (above : List ℕ → List (Frame ⊥)) → OpenOk w P Q V d o → Each P vs → Each FrameTold same → ((g : List ℕ) → Each FrameTold (above g)) → Each FrameTold (frame_of o f t vs same above)
+  frame : (d : ℕ) (o : Option (List ℕ × Pairs)) (f : List ℕ) (t : Todo) (vs : List Val) (same : List (Frame ⊥)) (above : List ℕ → List (Frame ⊥))
+      → OpenOk w P Q V d o → Each P vs → Each FrameTold same → ((g : List ℕ) → Each FrameTold (above g))
+      → Each FrameTold (frame_of o f t vs same above)
   frame d None f t vs same above o h i g = front t vs same h i
   frame d (Some c) f t vs same above o h i g = ((o.2, h), g c.0)
 
   pub frames_told : (fr : List (Entry ⊥)) (d : ℕ) (f : List ℕ) (xs : Pairs) → FormsOk w P Q V d fr → V xs → Each FrameTold (frames_of fr f xs)
   frames_told [] d f xs h l = ((l, tt), tt)
   frames_told (en ∷ fr) d f xs h l =
-      frame d (opens en) f (todo_of en) (kept_of en) (frames_of fr f xs) (λ g. frames_of fr g xs) h.0.1 h.0.0 (frames_told fr (inside w en d) f xs h.1 l) (λ g. frames_told fr (inside w en d) g xs h.1 l)
+      frame d (opens en) f (todo_of en) (kept_of en) (frames_of fr f xs) (λ g. frames_of fr g xs) h.0.1 h.0.0
+      (frames_told fr (inside w en d) f xs h.1 l) (λ g. frames_told fr (inside w en d) g xs h.1 l)

@@ -81,7 +81,8 @@ module _ (job : s.Job) (around : s.Around) (plain : PlainReads around) (D : s.De
   one_told None g h i = tt
   one_told (Some o) g h i = on_told (s.as_value around o) g (value_told o h) i
 
-  gather_told : (k : ℕ) (ds : List s.Desc) → t.Each (λ d. Seen (s.see job around k d)) ds → GatheredTold (s.gather (s.see job around k) (s.as_value around) ds)
+  gather_told : (k : ℕ) (ds : List s.Desc) → t.Each (λ d. Seen (s.see job around k d)) ds
+      → GatheredTold (s.gather (s.see job around k) (s.as_value around) ds)
   gather_told k [] h = tt
   gather_told k (d ∷ ds) h = one_told (s.see job around k d) (s.gather (s.see job around k) (s.as_value around) ds) h.0 (gather_told k ds h.1)
 
@@ -116,7 +117,8 @@ module _ (job : s.Job) (around : s.Around) (plain : PlainReads around) (D : s.De
   turn_told k (d ∷ ds) (v.dict ps) h = all_told k (v.dict ps) h
   turn_told k (d ∷ ds) (v.fun f c) h = all_told k (v.fun f c) h
 
-  pub next_wave : (k : ℕ) (o : Option s.Val) → ((a : s.Val) → o ≡ Some a → t.Each (λ d. Seen (s.see job around k d)) (v.refs a)) → WaveTold (s.wave_on job around k (s.turn_of job around k o))
+  pub next_wave : (k : ℕ) (o : Option s.Val) → ((a : s.Val) → o ≡ Some a → t.Each (λ d. Seen (s.see job around k d)) (v.refs a))
+      → WaveTold (s.wave_on job around k (s.turn_of job around k o))
   next_wave k None h = tt
   next_wave k (Some a) h = go (s.turn job around k a) (turn_told k (v.refs a) a (h a refl))
     where

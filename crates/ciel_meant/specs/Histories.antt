@@ -19,7 +19,8 @@ pub record SeenAs (job : s.Job) (around : s.Around) (d : s.Desc) (o : s.Obj) : T
   pub only : (k : ℕ) (other : s.Obj) → s.see job around k d ≡ Some other → other ≡ o
 
 -- what is saved has the mark of the state in which its task stands, what that holds, and what it waits for there
-pub record SavedAs (job : s.Job) (around : s.Around) (frozen : n.State → Digest) (u : n.Task) (j : ℕ) (m : Digest) (refs holds : List s.Desc) : Type 0 where
+pub record SavedAs (job : s.Job) (around : s.Around) (frozen : n.State → Digest) (u : n.Task) (j : ℕ) (m : Digest)
+    (refs holds : List s.Desc) : Type 0 where
   pub state : n.State
   pub stands : n.StandsAt job around u j state
   pub marked : m ≡ frozen state
@@ -27,7 +28,8 @@ pub record SavedAs (job : s.Job) (around : s.Around) (frozen : n.State → Diges
   pub waits : n.WaitOf job around u j refs
 
 -- a history of the job that a script means, whatever its names and marks are
-module _ (job : s.Job) (around : s.Around) (name : s.Desc → Digest) (mark : s.Obj → Digest) (frozen : n.State → Digest) (p : Plan) (h : List (Event s.Desc)) where
+module _ (job : s.Job) (around : s.Around) (name : s.Desc → Digest) (mark : s.Obj → Digest) (frozen : n.State → Digest) (p : Plan)
+    (h : List (Event s.Desc)) where
   abbrev real : Job s.Desc
   real = the job around name mark frozen
 
@@ -55,12 +57,14 @@ module _ (job : s.Job) (around : s.Around) (name : s.Desc → Digest) (mark : s.
   -- where nothing is open, the list of ready tasks isn't empty or there is a circle
   abbrev pub ListedOrCircle : Type 0
   ListedOrCircle =
-      now.orders ≡ [] → (us : List (Task s.Desc)) → IsReadyList real now us → ((u : Task s.Desc) × In u us) ⊎ ((ds : List s.Desc) × CircleAtRest real now ds)
+      now.orders ≡ [] → (us : List (Task s.Desc)) → IsReadyList real now us → ((u : Task s.Desc) × In u us)
+      ⊎ ((ds : List s.Desc) × CircleAtRest real now ds)
 
   -- a ready task may be started at an idle worker
   abbrev pub ReadyStarts : Type 0
   ReadyStarts =
-      1 ≤ p.limit → now.over ≡ false → (u : Task s.Desc) → Ready real now u → (w : ℕ) → In w (idle real p now) → Lawful real p (h ++ start now.starts w u (last real now u) ∷ [])
+      1 ≤ p.limit → now.over ≡ false → (u : Task s.Desc) → Ready real now u → (w : ℕ) → In w (idle real p now)
+      → Lawful real p (h ++ start now.starts w u (last real now u) ∷ [])
 
   -- what is made is in the book, and has the mark of the object as which it is seen
   abbrev pub MadeIsSeen : Type 0
@@ -83,7 +87,8 @@ module _ (job : s.Job) (around : s.Around) (name : s.Desc → Digest) (mark : s.
       → (d ≡ s.main_call) ⊎ ((u : n.Task) × n.Needed job around u × (k : ℕ) × t.In d (t.made_in (t.acts_of job around k u)))
 
 -- said of every lawful history of the job that a script means, where what is read as data is plain
-abbrev pub OfHistories : ((job : s.Job) (around : s.Around) (name : s.Desc → Digest) (mark : s.Obj → Digest) (frozen : n.State → Digest) → Plan → List (Event s.Desc) → Type 0) → Type 0
+abbrev pub OfHistories : ((job : s.Job) (around : s.Around) (name : s.Desc → Digest) (mark : s.Obj → Digest) (frozen : n.State → Digest) → Plan
+    → List (Event s.Desc) → Type 0) → Type 0
 OfHistories P =
     OfReal (λ job around name mark frozen. SoundReads job.script around → PlainReads around
     → (p : Plan) (h : List (Event s.Desc)) → Lawful (the job around name mark frozen) p h → P job around name mark frozen p h)

@@ -55,7 +55,8 @@ module _ (job : s.Job) (around : s.Around) (name : s.Desc → Digest) (mark : s.
   -- a task that has states is at a wait in the one in which it is in the meaning: with what that holds, and its mark
   abbrev pub StatesAlike : Type 0
   StatesAlike =
-      (u : n.Task) → HasStates u → (j : ℕ) (a : Held s.Desc) → StateOf the (forth u) j a ↔ ((x : n.State) × n.StandsAt job around u j x × (a ≡ record { names = t.held x; mark = frozen x }))
+      (u : n.Task) → HasStates u → (j : ℕ) (a : Held s.Desc)
+      → StateOf the (forth u) j a ↔ ((x : n.State) × n.StandsAt job around u j x × (a ≡ record { names = t.held x; mark = frozen x }))
 
   -- what is made between two waits, and after one
   pub record MadeAlike : Type 0 where

@@ -1,8 +1,10 @@
 //! The job that a script means, as a job of journals.
 #![tactic(auto)]
 
-ghost use Rattle.ciel_meant.specs.Histories.{BookIsMade, CirclesNever, EndsInAnswer, ListedOrCircle, MadeIsSeen, OfHistories, ReadyStarts, SavedStands, StartsAreFew, StartsAreNeeded};
-ghost use Rattle.ciel_meant.specs.RealLaws.{OfReal, RealIsJob, WaitsAlike, OutputsAlike, EndsAlike, NeverAlike, AnswerAlike, ObjectsAlike, StatesAlike, MadeAlike, NeededAlike, AllIsTold, WorkIsFinite};
+ghost use Rattle.ciel_meant.specs.Histories.{BookIsMade, CirclesNever, EndsInAnswer, ListedOrCircle, MadeIsSeen, OfHistories, ReadyStarts};
+ghost use Rattle.ciel_meant.specs.Histories.{SavedStands, StartsAreFew, StartsAreNeeded};
+ghost use Rattle.ciel_meant.specs.RealLaws.{OfReal, RealIsJob, WaitsAlike, OutputsAlike, EndsAlike, NeverAlike, AnswerAlike, ObjectsAlike};
+ghost use Rattle.ciel_meant.specs.RealLaws.{StatesAlike, MadeAlike, NeededAlike, AllIsTold, WorkIsFinite};
 
 /// The job that a script means has the laws that the journal asks of a job, whatever its names and
 /// marks are.

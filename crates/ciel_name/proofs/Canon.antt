@@ -1,9 +1,11 @@
 -- Canonical bytes tell descriptions apart.
 use Rattle.std.proofs.Common.{◌≡◌, ◌<◌, ◌^◌, ◌⊎◌, inl, inr, ℕ, List, [], ◌∷◌, ◌++◌, Bool, true, false, nat_eq, refl, ap, sym, ◌∙◌, append-nil, eq-eqb}
 use Rattle.std.proofs.lemmas.Bool.{false≢true}
-use Rattle.sky_base.specs.Val.{Val, Vals, Pairs, Desc, null, truth, num, text, list, dict, fun, ref, no_vals, val, no_pairs, pair, call, out, input, known, count, pair_count, refs, vals_refs, pairs_refs, same_text}
+use Rattle.sky_base.specs.Val.{Val, Vals, Pairs, Desc, null, truth, num, text, list, dict, fun, ref, no_vals, val, no_pairs, pair, call, out, input}
+use Rattle.sky_base.specs.Val.{known, count, pair_count, refs, vals_refs, pairs_refs, same_text}
 use Rattle.sky_base.specs.See as see
-use Rattle.sky_base.specs.Name.{bytes, vals_bytes, pairs_bytes, bytes_of_text, big_endian, is_anonymous, call_bytes, canon, low, low_vals, low_pairs, low_desc, name, digested}
+use Rattle.sky_base.specs.Name.{bytes, vals_bytes, pairs_bytes, bytes_of_text, big_endian, is_anonymous, call_bytes, canon, low, low_vals, low_pairs}
+use Rattle.sky_base.specs.Name.{low_desc, name, digested}
 use Rattle.sky_base.proofs.Exact.{exact_text, self_text}
 use Rattle.sky_law.specs.Tasks.{In}
 use Rattle.sky_law.proofs.WorkLaw.{in_left, in_right}
@@ -21,7 +23,8 @@ tails a b r s e = cc
 pub one_spelling : OneSpelling
 one_spelling a b p q e = (val_free a b [] [] p q (append-nil (bytes a) ∙ e ∙ sym (append-nil (bytes b)))).0
 
-args_free : (vs ws : Vals (List ℕ)) → AllSpelled vs → AllSpelled ws → count vs < 2 ^ 32 → count ws < 2 ^ 32 → big_endian 4 (count vs) ++ vals_bytes vs ≡ big_endian 4 (count ws) ++ vals_bytes ws → vs ≡ ws
+args_free : (vs ws : Vals (List ℕ)) → AllSpelled vs → AllSpelled ws → count vs < 2 ^ 32 → count ws < 2 ^ 32 → big_endian 4 (count vs)
+    ++ vals_bytes vs ≡ big_endian 4 (count ws) ++ vals_bytes ws → vs ≡ ws
 args_free vs ws p q h g e =
     let k = four_free (count vs) (count ws) (vals_bytes vs) (vals_bytes ws) h g e in
     (vals_free vs ws [] [] p q k.0 (append-nil (vals_bytes vs) ∙ k.1 ∙ sym (append-nil (vals_bytes ws)))).0
@@ -32,7 +35,9 @@ spelled_pairs c = big_endian 4 (pair_count c) ++ pairs_bytes c
 abbrev spelled_vals : Vals (List ℕ) → List ℕ
 spelled_vals vs = big_endian 4 (count vs) ++ vals_bytes vs
 
-call_free : (a b : Bool) (f g : List ℕ) (c d : Pairs (List ℕ)) (vs ws : Vals (List ℕ)) → IsText f → IsText g → CapturesSo a c × PairsSpelled c → CapturesSo b d × PairsSpelled d → AllSpelled vs × (count vs < 2 ^ 32) → AllSpelled ws × (count ws < 2 ^ 32) → call_bytes a f (spelled_pairs c) (spelled_vals vs) ≡ call_bytes b g (spelled_pairs d) (spelled_vals ws) → call f c vs ≡ call g d ws
+call_free : (a b : Bool) (f g : List ℕ) (c d : Pairs (List ℕ)) (vs ws : Vals (List ℕ)) → IsText f → IsText g → CapturesSo a c × PairsSpelled c
+    → CapturesSo b d × PairsSpelled d → AllSpelled vs × (count vs < 2 ^ 32) → AllSpelled ws × (count ws < 2 ^ 32)
+    → call_bytes a f (spelled_pairs c) (spelled_vals vs) ≡ call_bytes b g (spelled_pairs d) (spelled_vals ws) → call f c vs ≡ call g d ws
 call_free false true f g c d vs ws p q r s t u e = absurd (heads 67 76 _ _ refl e)
 call_free true false f g c d vs ws p q r s t u e = absurd (heads 76 67 _ _ refl e)
 call_free false false f g c d vs ws p q r s t u e =
@@ -61,7 +66,8 @@ one_canon (call f c vs) (input k) p q e = absurd (call_not 73 (is_anonymous f) f
 one_canon (call f c vs) (known n) p q e = absurd q
 one_canon (out x v n i) (call g d ws) p q e = absurd (call_not 69 (is_anonymous g) g (spelled_pairs d) (spelled_vals ws) _ refl refl (sym e))
 one_canon (out x v n i) (out y w m j) p q e =
-    let rest : bytes_of_text x ++ (bytes v ++ (big_endian 4 n ++ big_endian 4 i)) ≡ bytes_of_text y ++ (bytes w ++ (big_endian 4 m ++ big_endian 4 j)) = tails _ _ _ _ e in
+    let rest : bytes_of_text x ++ (bytes v ++ (big_endian 4 n ++ big_endian 4 i)) ≡ bytes_of_text y
+    ++ (bytes w ++ (big_endian 4 m ++ big_endian 4 j)) = tails _ _ _ _ e in
     let a = text_free x y (bytes v ++ (big_endian 4 n ++ big_endian 4 i)) (bytes w ++ (big_endian 4 m ++ big_endian 4 j)) p.0 q.0 rest in
     let b = val_free v w (big_endian 4 n ++ big_endian 4 i) (big_endian 4 m ++ big_endian 4 j) p.1.0 q.1.0 a.1 in
     let c = four_free n m (big_endian 4 i) (big_endian 4 j) p.1.1.0 q.1.1.0 b.1 in
@@ -88,16 +94,20 @@ abbrev found : Tag → List see.Desc → List ℕ → see.Desc
 found tag [] n = input []
 found tag (d ∷ ds) n = pick tag (same_text (name no_name tag d) n) d (found tag ds n)
 
-pick_is : (tag : Tag) (d e : see.Desc) (ds : List see.Desc) (b : Bool) → same_text (name no_name tag d) (name no_name tag e) ≡ b → (name no_name tag d ≡ name no_name tag e → d ≡ e) → (b ≡ false → found tag ds (name no_name tag e) ≡ e) → pick tag b d (found tag ds (name no_name tag e)) ≡ e
+pick_is : (tag : Tag) (d e : see.Desc) (ds : List see.Desc) (b : Bool) → same_text (name no_name tag d) (name no_name tag e) ≡ b
+    → (name no_name tag d ≡ name no_name tag e → d ≡ e) → (b ≡ false → found tag ds (name no_name tag e) ≡ e)
+    → pick tag b d (found tag ds (name no_name tag e)) ≡ e
 pick_is tag d e ds true h same go = same (exact_text (name no_name tag d) (name no_name tag e) h)
 pick_is tag d e ds false h same go = go refl
 
 found_is : (tag : Tag) (ds : List see.Desc) → NoClash tag ds → (e : see.Desc) → In e ds → found tag ds (name no_name tag e) ≡ e
 found_is tag [] apart e h = absurd h
 found_is tag (d ∷ ds) apart e (inl g) =
-    pick_is tag d e ds (same_text (name no_name tag d) (name no_name tag e)) refl (λ n. sym g) (λ no. absurd (false≢true (sym no ∙ ap (λ x. same_text (name no_name tag d) (name no_name tag x)) g ∙ self_text (name no_name tag d))))
+    pick_is tag d e ds (same_text (name no_name tag d) (name no_name tag e)) refl (λ n. sym g)
+    (λ no. absurd (false≢true (sym no ∙ ap (λ x. same_text (name no_name tag d) (name no_name tag x)) g ∙ self_text (name no_name tag d))))
 found_is tag (d ∷ ds) apart e (inr g) =
-    pick_is tag d e ds (same_text (name no_name tag d) (name no_name tag e)) refl (apart d e (inl refl) (inr g)) (λ no. found_is tag ds (λ a b x y. apart a b (inr x) (inr y)) e g)
+    pick_is tag d e ds (same_text (name no_name tag d) (name no_name tag e)) refl (apart d e (inl refl) (inr g))
+    (λ no. found_is tag ds (λ a b x y. apart a b (inr x) (inr y)) e g)
 
 -- names taken back for the descriptions that have them
 module _ (tag : Tag) (ds : List see.Desc) where
@@ -149,16 +159,19 @@ module _ (tag : Tag) (ds : List see.Desc) where
     raise_vals_low : NoClash tag ds → (vs : see.Vals) → Among (vals_refs vs) → raise_vals (low_vals no_name tag vs) ≡ vs
     raise_vals_low apart no_vals h = refl
     raise_vals_low apart (val v vs) h =
-        λ i. val (raise_low apart v (λ e g. h e (in_left e (refs v) (vals_refs vs) g)) i) (raise_vals_low apart vs (λ e g. h e (in_right e (refs v) (vals_refs vs) g)) i)
+        λ i. val (raise_low apart v (λ e g. h e (in_left e (refs v) (vals_refs vs) g)) i)
+        (raise_vals_low apart vs (λ e g. h e (in_right e (refs v) (vals_refs vs) g)) i)
 
     raise_pairs_low : NoClash tag ds → (ps : see.Pairs) → Among (pairs_refs ps) → raise_pairs (low_pairs no_name tag ps) ≡ ps
     raise_pairs_low apart no_pairs h = refl
     raise_pairs_low apart (pair k v ps) h =
-        λ i. pair k (raise_low apart v (λ e g. h e (in_left e (refs v) (pairs_refs ps) g)) i) (raise_pairs_low apart ps (λ e g. h e (in_right e (refs v) (pairs_refs ps) g)) i)
+        λ i. pair k (raise_low apart v (λ e g. h e (in_left e (refs v) (pairs_refs ps) g)) i)
+        (raise_pairs_low apart ps (λ e g. h e (in_right e (refs v) (pairs_refs ps) g)) i)
 
   raise_desc_low : NoClash tag ds → (d : see.Desc) → Among (inner d) → raise_desc (low_desc no_name tag d) ≡ d
   raise_desc_low apart (call f c vs) h =
-      λ i. call f (raise_pairs_low apart c (λ e g. h e (in_left e (pairs_refs c) (vals_refs vs) g)) i) (raise_vals_low apart vs (λ e g. h e (in_right e (pairs_refs c) (vals_refs vs) g)) i)
+      λ i. call f (raise_pairs_low apart c (λ e g. h e (in_left e (pairs_refs c) (vals_refs vs) g)) i)
+      (raise_vals_low apart vs (λ e g. h e (in_right e (pairs_refs c) (vals_refs vs) g)) i)
   raise_desc_low apart (out x v n i) h = ap (λ w. out x w n i) (raise_low apart v h)
   raise_desc_low apart (input k) h = refl
   raise_desc_low apart (known b) h = absurd b

@@ -1,5 +1,6 @@
 -- Numbers by their bytes, and bytes put one behind the other.
-use Rattle.std.proofs.Common.{◌≡◌, ◌/◌, ◌%◌, ◌^◌, ◌-◌, ◌+◌, ℕ, zero, suc, ℤ, pos, negsuc, List, [], ◌∷◌, ◌++◌, drop, refl, ap, ap₂, sym, ◌∙◌, append_assoc, take, length, get_or, ◌<◌}
+use Rattle.std.proofs.Common.{◌≡◌, ◌/◌, ◌%◌, ◌^◌, ◌-◌, ◌+◌, ℕ, zero, suc, ℤ, pos, negsuc, List, [], ◌∷◌, ◌++◌, drop, refl, ap, ap₂, sym, ◌∙◌}
+use Rattle.std.proofs.Common.{append_assoc, take, length, get_or, ◌<◌}
 use Rattle.std.proofs.lemmas.Int.{of_z-to_z}
 use Rattle.std.proofs.lemmas.Nat.{be_bytes_8}
 use Rattle.std.proofs.lemmas.List.{take-append-drop}
@@ -37,7 +38,8 @@ taken bs s n e = sym (take-append-drop n s) ∙ ap (λ t. t ++ drop n s) (sym e)
 
 pub ruleset takes = (taken, taken)
 
-pub int_read : (bs : List ℕ) (n : ℕ) → length bs ≡ 8 → ((i : ℕ) → get_or bs i 0 < 256) → n < 2 ^ 64 → n ≡ from_be_bytes w64 bs → bytes_of_int (cast_signed w64 n) ≡ bs
+pub int_read : (bs : List ℕ) (n : ℕ) → length bs ≡ 8 → ((i : ℕ) → get_or bs i 0 < 256) → n < 2 ^ 64 → n ≡ from_be_bytes w64 bs
+    → bytes_of_int (cast_signed w64 n) ≡ bs
 int_read bs n len small fits e =
     sym (be_bytes_int (cast_signed w64 n)) ∙ ap (to_be_bytes w64) (of_z-to_z w64 n fits) ∙ be_bytes_8 bs n len small e
 

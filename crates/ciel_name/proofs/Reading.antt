@@ -1,12 +1,16 @@
 -- What was read, and what can't be read, step by step.
-use Rattle.std.proofs.Common.{◌≡◌, ◌≤◌, ◌<◌, ◌+◌, ◌-◌, ◌^◌, max, ℕ, zero, suc, ℤ, List, [], ◌∷◌, ◌++◌, Bool, true, false, nat_eq, length, refl, ap, ap₂, sym, ◌∙◌, subst, arith, append_assoc, length-append, append-nil, FitsSigned, IsUtf8, ◌⊎◌, inl, inr}
-use Rattle.sky_base.specs.Val.{Val, Vals, Pairs, Desc, null, truth, num, text, list, dict, fun, ref, no_vals, val, no_pairs, pair, known, count, pair_count, depth, depths, pair_depths, add_val, Rising, most_depth, most_size, size}
+use Rattle.std.proofs.Common.{◌≡◌, ◌≤◌, ◌<◌, ◌+◌, ◌-◌, ◌^◌, max, ℕ, zero, suc, ℤ, List, [], ◌∷◌, ◌++◌, Bool, true, false, nat_eq, length, refl, ap}
+use Rattle.std.proofs.Common.{ap₂, sym, ◌∙◌, subst, arith, append_assoc, length-append, append-nil, FitsSigned, IsUtf8, ◌⊎◌, inl, inr}
+use Rattle.sky_base.specs.Val.{Val, Vals, Pairs, Desc, null, truth, num, text, list, dict, fun, ref, no_vals, val, no_pairs, pair, known, count}
+use Rattle.sky_base.specs.Val.{pair_count, depth, depths, pair_depths, add_val, Rising, most_depth, most_size, size}
 use Rattle.sky_base.specs.Name.{bytes, vals_bytes, pairs_bytes, bytes_of_int, bytes_of_text, big_endian, is_anonymous, held_name}
 use Rattle.ciel_name.specs.declared.refusal.Decode.{Decode}
-use Rattle.ciel_name.specs.Spelled.{IsText, IsName, CapturesSo, Spelled, AllSpelled, PairsSpelled, Refuses, Read, NoneRead, TextRead, NoTextRead, IsData, NoData}
+use Rattle.ciel_name.specs.Spelled.{IsText, IsName, CapturesSo, Spelled, AllSpelled, PairsSpelled, Refuses, Read, NoneRead, TextRead, NoTextRead}
+use Rattle.ciel_name.specs.Spelled.{IsData, NoData}
 use Rattle.ciel_name.specs.Bodies.{tag, fun_tag, ref_tag, body, is_short, BodyRead, NoBody, ItemsRead, NoItems, PairsRead, NoPairs}
 use Rattle.ciel_name.proofs.Tags.{bytes-is, when_num, when_text, when_list, when_dict, when_named, when_anonymous, when_short_ref, when_long_ref}
-use Rattle.ciel_name.proofs.Spelling.{four_free, length-int, text_free, short_name, long_name, val_free, split_same, fun_body_is, captures, pair_bytes}
+use Rattle.ciel_name.proofs.Spelling.{four_free, length-int, text_free, short_name, long_name, val_free, split_same, fun_body_is, captures}
+use Rattle.ciel_name.proofs.Spelling.{pair_bytes}
 
 pub refuses_more : {P Q : Type 0} (e : Decode) → (P → Q) → Refuses e P → Refuses e Q
 refuses_more Decode.Memory f p = tt
@@ -107,14 +111,16 @@ pub list_short : (left : ℕ) (mid : List ℕ) → length mid < 4 → NoBody 5 l
 list_short left mid h v rest s d t m =
     when_list v t (λ vs g. too_short 4 mid (big_endian 4 (count vs)) (vals_bytes vs ++ rest) h refl (m ∙ ap (λ x. body x ++ rest) g))
 
-pub list_none : (left below n : ℕ) (mid inner : List ℕ) → mid ≡ big_endian 4 n ++ inner → n < 2 ^ 32 → left ≡ suc below → NoItems n below inner → NoBody 5 left mid
+pub list_none : (left below n : ℕ) (mid inner : List ℕ) → mid ≡ big_endian 4 n ++ inner → n < 2 ^ 32 → left ≡ suc below → NoItems n below inner
+    → NoBody 5 left mid
 list_none left below n mid inner e f l none v rest s d t m = when_list v t (λ vs g.
     let sp : Spelled (list vs) = subst Spelled g s in
     let dp : depth (list vs) ≤ left = subst (λ x. depth x ≤ left) g d in
     let k = four_free n (count vs) inner (vals_bytes vs ++ rest) f sp.1 (sym e ∙ m ∙ ap (λ x. body x ++ rest) g) in
     none vs rest sp.0 (omega (arith, dp, l)) (sym k.0) k.1)
 
-pub list_read : (left below n : ℕ) (mid inner : List ℕ) (vs : Vals (List ℕ)) (new : List ℕ) → mid ≡ big_endian 4 n ++ inner → n < 2 ^ 32 → left ≡ suc below → ItemsRead n below inner vs new → BodyRead 5 left mid (list vs) new
+pub list_read : (left below n : ℕ) (mid inner : List ℕ) (vs : Vals (List ℕ)) (new : List ℕ) → mid ≡ big_endian 4 n ++ inner → n < 2 ^ 32 → left
+    ≡ suc below → ItemsRead n below inner vs new → BodyRead 5 left mid (list vs) new
 list_read left below n mid inner vs new e f l p =
     let counted : count vs ≡ n = p.1.1.1 in
     (refl, (e ∙ ap₂ (λ k b. big_endian 4 k ++ b) (sym counted) p.0, ((p.1.0, subst (λ k. k < 2 ^ 32) (sym counted) f), omega (arith, p.1.1.0, l))))
@@ -123,17 +129,24 @@ pub dict_short : (left : ℕ) (mid : List ℕ) → length mid < 4 → NoBody 6 l
 dict_short left mid h v rest s d t m =
     when_dict v t (λ ps g. too_short 4 mid (big_endian 4 (pair_count ps)) (pairs_bytes ps ++ rest) h refl (m ∙ ap (λ x. body x ++ rest) g))
 
-pub dict_none : (left below n : ℕ) (mid inner : List ℕ) → mid ≡ big_endian 4 n ++ inner → n < 2 ^ 32 → left ≡ suc below → NoPairs n below inner → NoBody 6 left mid
+pub dict_none : (left below n : ℕ) (mid inner : List ℕ) → mid ≡ big_endian 4 n ++ inner → n < 2 ^ 32 → left ≡ suc below → NoPairs n below inner
+    → NoBody 6 left mid
 dict_none left below n mid inner e f l none v rest s d t m = when_dict v t (λ ps g.
     let sp : Spelled (dict ps) = subst Spelled g s in
     let dp : depth (dict ps) ≤ left = subst (λ x. depth x ≤ left) g d in
     let k = four_free n (pair_count ps) inner (pairs_bytes ps ++ rest) f sp.1.1 (sym e ∙ m ∙ ap (λ x. body x ++ rest) g) in
     none ps rest sp.0 sp.1.0 (omega (arith, dp, l)) (sym k.0) k.1)
 
-pub dict_read : (left below n : ℕ) (mid inner : List ℕ) (ps : Pairs (List ℕ)) (new : List ℕ) → mid ≡ big_endian 4 n ++ inner → n < 2 ^ 32 → left ≡ suc below → PairsRead n below inner ps new → BodyRead 6 left mid (dict ps) new
+pub dict_read : (left below n : ℕ) (mid inner : List ℕ) (ps : Pairs (List ℕ)) (new : List ℕ) → mid ≡ big_endian 4 n ++ inner → n < 2 ^ 32 → left
+    ≡ suc below → PairsRead n below inner ps new → BodyRead 6 left mid (dict ps) new
 dict_read left below n mid inner ps new e f l p =
-    let counted : pair_count ps ≡ n = p.1.1.1.1 in
-    (refl, (e ∙ ap₂ (λ k b. big_endian 4 k ++ b) (sym counted) p.0, ((p.1.0, (p.1.1.0, subst (λ k. k < 2 ^ 32) (sym counted) f)), omega (arith, p.1.1.1.0, l))))
+    let counted : pair_count ps ≡ n = p.1.1.1.1 in (
+      refl,
+      (
+        e ∙ ap₂ (λ k b. big_endian 4 k ++ b) (sym counted) p.0,
+        ((p.1.0, (p.1.1.0, subst (λ k. k < 2 ^ 32) (sym counted) f)), omega (arith, p.1.1.1.0, l)),
+      ),
+    )
 
 -- ---- functions
 
@@ -150,20 +163,32 @@ named_none left mid f new p a v rest s d t m = when_named v t (λ g c h b.
     absurd cc)
 
 pub named_read : (left : ℕ) (mid f new : List ℕ) → 0 < left → TextRead mid f new → is_anonymous f ≡ false → BodyRead 7 left mid (fun f no_pairs) new
-named_read left mid f new h p a =
-    (ap fun_tag a, (p.0 ∙ ap (λ x. x ++ new) (sym (fun_body_is f no_pairs false a)), ((p.1, (subst (λ b. CapturesSo b no_pairs) (sym a) refl, tt)), omega (arith, h))))
+named_read left mid f new h p a = (
+  ap fun_tag a,
+  (
+    p.0 ∙ ap (λ x. x ++ new) (sym (fun_body_is f no_pairs false a)),
+    ((p.1, (subst (λ b. CapturesSo b no_pairs) (sym a) refl, tt)), omega (arith, h)),
+  ),
+)
 
 pub anonymous_text : (left : ℕ) (mid : List ℕ) → NoTextRead mid → NoBody 10 left mid
 anonymous_text left mid n v rest s d t m = when_anonymous v t (λ f c g b.
     let sp : Spelled (fun f c) = subst Spelled g s in
-    n f (big_endian 4 (pair_count c) ++ (pairs_bytes c ++ rest)) sp.0 (m ∙ ap (λ x. body x ++ rest) g ∙ ap (λ x. x ++ rest) (fun_body_is f c true b) ∙ pair_bytes (bytes_of_text f) (big_endian 4 (pair_count c)) (pairs_bytes c) rest))
+    n f (big_endian 4 (pair_count c) ++ (pairs_bytes c ++ rest)) sp.0
+    (m ∙ ap (λ x. body x ++ rest) g ∙ ap (λ x. x ++ rest) (fun_body_is f c true b)
+    ∙ pair_bytes (bytes_of_text f) (big_endian 4 (pair_count c)) (pairs_bytes c) rest))
 
 -- what stands behind the name of an anonymous function
-anonymous_rest : {P : Type 0} (left : ℕ) (mid f new : List ℕ) → TextRead mid f new → (v : Val (List ℕ)) (rest : List ℕ) → Spelled v → depth v ≤ left → tag v ≡ 10 → mid ≡ body v ++ rest → ((c : Pairs (List ℕ)) → is_anonymous f ≡ true → Spelled (fun f c) → depth (fun f c) ≤ left → new ≡ big_endian 4 (pair_count c) ++ (pairs_bytes c ++ rest) → P) → P
+anonymous_rest : {P : Type 0} (left : ℕ) (mid f new : List ℕ) → TextRead mid f new → (v : Val (List ℕ)) (rest : List ℕ) → Spelled v
+    → depth v ≤ left → tag v ≡ 10 → mid ≡ body v ++ rest
+    → ((c : Pairs (List ℕ)) → is_anonymous f ≡ true → Spelled (fun f c) → depth (fun f c) ≤ left → new ≡ big_endian 4 (pair_count c)
+    ++ (pairs_bytes c ++ rest) → P) → P
 anonymous_rest left mid f new p v rest s d t m go = when_anonymous v t (λ g c h b.
     let sp : Spelled (fun g c) = subst Spelled h s in
     let dp : depth (fun g c) ≤ left = subst (λ x. depth x ≤ left) h d in
-    let k = text_free f g new (big_endian 4 (pair_count c) ++ (pairs_bytes c ++ rest)) p.1 sp.0 (sym p.0 ∙ m ∙ ap (λ x. body x ++ rest) h ∙ ap (λ x. x ++ rest) (fun_body_is g c true b) ∙ pair_bytes (bytes_of_text g) (big_endian 4 (pair_count c)) (pairs_bytes c) rest) in
+    let k = text_free f g new (big_endian 4 (pair_count c) ++ (pairs_bytes c ++ rest)) p.1 sp.0
+    (sym p.0 ∙ m ∙ ap (λ x. body x ++ rest) h ∙ ap (λ x. x ++ rest) (fun_body_is g c true b)
+    ∙ pair_bytes (bytes_of_text g) (big_endian 4 (pair_count c)) (pairs_bytes c) rest) in
     go c (ap is_anonymous k.0 ∙ b) (subst (λ x. Spelled (fun x c)) (sym k.0) sp) (subst (λ x. depth (fun x c) ≤ left) (sym k.0) dp) k.1)
 
 pub anonymous_not : (left : ℕ) (mid f new : List ℕ) → TextRead mid f new → is_anonymous f ≡ false → NoBody 10 left mid
@@ -174,18 +199,27 @@ pub anonymous_short : (left : ℕ) (mid f new : List ℕ) → TextRead mid f new
 anonymous_short left mid f new p h v rest s d t m =
     anonymous_rest left mid f new p v rest s d t m (λ c b sp dp e. too_short 4 new (big_endian 4 (pair_count c)) (pairs_bytes c ++ rest) h refl e)
 
-pub anonymous_none : (left below n : ℕ) (mid f new inner : List ℕ) → TextRead mid f new → new ≡ big_endian 4 n ++ inner → n < 2 ^ 32 → left ≡ suc below → NoPairs n below inner → NoBody 10 left mid
+pub anonymous_none : (left below n : ℕ) (mid f new inner : List ℕ) → TextRead mid f new → new ≡ big_endian 4 n ++ inner → n < 2 ^ 32 → left
+    ≡ suc below → NoPairs n below inner → NoBody 10 left mid
 anonymous_none left below n mid f new inner p e h l none v rest s d t m =
     anonymous_rest left mid f new p v rest s d t m (λ c b sp dp g.
     let so = captures f c true b sp in
     let k = four_free n (pair_count c) inner (pairs_bytes c ++ rest) h so.1 (sym e ∙ g) in
     none c rest sp.1.1 so.0 (omega (arith, dp, l)) (sym k.0) k.1)
 
-pub anonymous_read : (left below n : ℕ) (mid f new inner last : List ℕ) (c : Pairs (List ℕ)) → TextRead mid f new → is_anonymous f ≡ true → new ≡ big_endian 4 n ++ inner → n < 2 ^ 32 → left ≡ suc below → PairsRead n below inner c last → BodyRead 10 left mid (fun f c) last
+pub anonymous_read : (left below n : ℕ) (mid f new inner last : List ℕ) (c : Pairs (List ℕ)) → TextRead mid f new → is_anonymous f ≡ true → new
+    ≡ big_endian 4 n ++ inner → n < 2 ^ 32 → left ≡ suc below → PairsRead n below inner c last → BodyRead 10 left mid (fun f c) last
 anonymous_read left below n mid f new inner last c p a e h l q =
     let counted : pair_count c ≡ n = q.1.1.1.1 in
-    let so : CapturesSo true c = (q.1.1.0, subst (λ k. k < 2 ^ 32) (sym counted) h) in
-    (ap fun_tag a, (p.0 ∙ ap (λ x. bytes_of_text f ++ x) (e ∙ ap₂ (λ k b. big_endian 4 k ++ b) (sym counted) q.0) ∙ sym (pair_bytes (bytes_of_text f) (big_endian 4 (pair_count c)) (pairs_bytes c) last) ∙ ap (λ x. x ++ last) (sym (fun_body_is f c true a)), ((p.1, (subst (λ b. CapturesSo b c) (sym a) so, q.1.0)), omega (arith, q.1.1.1.0, l))))
+    let so : CapturesSo true c = (q.1.1.0, subst (λ k. k < 2 ^ 32) (sym counted) h) in (
+      ap fun_tag a,
+      (
+        p.0 ∙ ap (λ x. bytes_of_text f ++ x) (e ∙ ap₂ (λ k b. big_endian 4 k ++ b) (sym counted) q.0)
+            ∙ sym (pair_bytes (bytes_of_text f) (big_endian 4 (pair_count c)) (pairs_bytes c) last)
+            ∙ ap (λ x. x ++ last) (sym (fun_body_is f c true a)),
+        ((p.1, (subst (λ b. CapturesSo b c) (sym a) so, q.1.0)), omega (arith, q.1.1.1.0, l)),
+      ),
+    )
 
 -- ---- references
 
@@ -209,7 +243,8 @@ pub data_none : (bs : List ℕ) → NoneRead most_depth bs → NoData bs
 data_none bs n v d e = n v [] d.spelled d.kept.deep (sym e ∙ sym (append-nil (bytes v)))
 
 -- where a value stands in front, no other has all the bytes
-the_value : (bs : List ℕ) (v : Val (List ℕ)) (rest : List ℕ) (w : Val (List ℕ)) → Read most_depth bs v rest → IsData w → bytes w ≡ bs → (v ≡ w) × (rest ≡ [])
+the_value : (bs : List ℕ) (v : Val (List ℕ)) (rest : List ℕ) (w : Val (List ℕ)) → Read most_depth bs v rest → IsData w → bytes w ≡ bs → (v ≡ w)
+    × (rest ≡ [])
 the_value bs v rest w r d e =
     val_free v w rest [] r.1.0 d.spelled (sym r.0 ∙ sym e ∙ sym (append-nil (bytes w)))
 

@@ -1,15 +1,18 @@
 -- No value's bytes begin another's: where two values stand in front of the same bytes, they are one, and so is what is left.
-use Rattle.std.proofs.Common.{◌≡◌, ◌+◌, ◌<◌, ◌^◌, ◌⊎◌, inl, inr, ℕ, zero, suc, ℤ, pos, negsuc, List, [], ◌∷◌, ◌++◌, Bool, true, false, nat_eq, length, refl, ap, sym, ◌∙◌, subst, arith, append_assoc, FitsSigned, IsUtf8}
+use Rattle.std.proofs.Common.{◌≡◌, ◌+◌, ◌<◌, ◌^◌, ◌⊎◌, inl, inr, ℕ, zero, suc, ℤ, pos, negsuc, List, [], ◌∷◌, ◌++◌, Bool, true, false, nat_eq, length}
+use Rattle.std.proofs.Common.{refl, ap, sym, ◌∙◌, subst, arith, append_assoc, FitsSigned, IsUtf8}
 use Rattle.std.proofs.lemmas.Nat.{from_be_bytes-to_be_bytes_4, from_be_bytes-to_be_bytes_8}
 use Rattle.std.proofs.lemmas.Int.{to_z-of_z}
 use Rattle.std.proofs.Math.Facts.{Fits-of_z, Fits-lt-pow}
 use Rattle.std.specs.Int.{w32, w64, to_be_bytes, from_be_bytes, cast_signed, cast_unsigned}
-use Rattle.sky_base.specs.Val.{Val, Vals, Pairs, Desc, null, truth, num, text, list, dict, fun, ref, no_vals, val, no_pairs, pair, call, out, input, known, count, pair_count}
+use Rattle.sky_base.specs.Val.{Val, Vals, Pairs, Desc, null, truth, num, text, list, dict, fun, ref, no_vals, val, no_pairs, pair, call, out, input}
+use Rattle.sky_base.specs.Val.{known, count, pair_count}
 use Rattle.sky_base.specs.Name.{bytes, vals_bytes, pairs_bytes, bytes_of_int, bytes_of_text, big_endian, is_anonymous, held_name}
 use Rattle.ciel_name.specs.Spelled.{IsText, IsName, CapturesSo, Spelled, AllSpelled, PairsSpelled}
 use Rattle.ciel_name.proofs.Numbers.{be_bytes_32, be_bytes_int}
 use Rattle.ciel_name.specs.Bodies.{tag, fun_tag, ref_tag, body, fun_body, is_short}
-use Rattle.ciel_name.proofs.Tags.{bytes-is, when_null, when_truth_false, when_truth_true, when_num, when_text, when_list, when_dict, when_named, when_anonymous, when_short_ref, when_long_ref}
+use Rattle.ciel_name.proofs.Tags.{bytes-is, when_null, when_truth_false, when_truth_true, when_num, when_text, when_list, when_dict, when_named}
+use Rattle.ciel_name.proofs.Tags.{when_anonymous, when_short_ref, when_long_ref}
 
 abbrev Same : {A : Type 0} → A → A → List ℕ → List ℕ → Type 0
 Same a b r s = (a ≡ b) × (r ≡ s)
@@ -81,7 +84,8 @@ held_known (call f c vs) p = absurd p
 held_known (out x v n i) p = absurd p
 held_known (input k) p = absurd p
 
-pub name_free : (d e : Desc (List ℕ)) (r s : List ℕ) → IsName d → IsName e → length (held_name d) ≡ length (held_name e) → held_name d ++ r ≡ held_name e ++ s → Same d e r s
+pub name_free : (d e : Desc (List ℕ)) (r s : List ℕ) → IsName d → IsName e → length (held_name d) ≡ length (held_name e) → held_name d ++ r
+    ≡ held_name e ++ s → Same d e r s
 name_free d e r s p q l h =
     let t = split_same (held_name d) (held_name e) r s l h in
     (held_known d p ∙ ap known t.0 ∙ sym (held_known e q), t.1)
@@ -110,28 +114,34 @@ pub pair_bytes : (k a b r : List ℕ) → (k ++ (a ++ b)) ++ r ≡ k ++ (a ++ (b
 pair_bytes k a b r = append_assoc k (a ++ b) r ∙ ap (λ x. k ++ x) (append_assoc a b r)
 
 abbrev FreeOf : Pairs (List ℕ) → Type 0
-FreeOf c = (d : Pairs (List ℕ)) (r s : List ℕ) → PairsSpelled c → PairsSpelled d → pair_count c ≡ pair_count d → pairs_bytes c ++ r ≡ pairs_bytes d ++ s → Same c d r s
+FreeOf c = (d : Pairs (List ℕ)) (r s : List ℕ) → PairsSpelled c → PairsSpelled d → pair_count c ≡ pair_count d → pairs_bytes c ++ r
+    ≡ pairs_bytes d ++ s → Same c d r s
 
-fun_free : (f : List ℕ) (c : Pairs (List ℕ)) (w : Val (List ℕ)) (r s : List ℕ) → Spelled (fun f c) → Spelled w → bytes (fun f c) ++ r ≡ bytes w ++ s → FreeOf c → (b : Bool) → is_anonymous f ≡ b → Same (fun f c) w r s
+fun_free : (f : List ℕ) (c : Pairs (List ℕ)) (w : Val (List ℕ)) (r s : List ℕ) → Spelled (fun f c) → Spelled w → bytes (fun f c) ++ r ≡ bytes w
+    ++ s → FreeOf c → (b : Bool) → is_anonymous f ≡ b → Same (fun f c) w r s
 fun_free f c w r s p q e again false h = when_named w (tag_same (fun f c) w r s e ∙ ap fun_tag h) (λ g d k j.
     let qs : Spelled (fun g d) = subst Spelled k q in
-    let same = ap (λ x. x ++ r) (sym (fun_body_is f c false h)) ∙ body_same (fun f c) w (fun g d) r s e k ∙ ap (λ x. x ++ s) (fun_body_is g d false j) in
+    let same = ap (λ x. x ++ r) (sym (fun_body_is f c false h)) ∙ body_same (fun f c) w (fun g d) r s e k
+    ∙ ap (λ x. x ++ s) (fun_body_is g d false j) in
     let t = text_free f g r s p.0 qs.0 same in
     let none : c ≡ d = captures f c false h p ∙ sym (captures g d false j qs) in
     ((λ i. fun (t.0 i) (none i)) ∙ sym k, t.1))
 fun_free f c w r s p q e again true h = when_anonymous w (tag_same (fun f c) w r s e ∙ ap fun_tag h) (λ g d k j.
     let qs : Spelled (fun g d) = subst Spelled k q in
-    let same = ap (λ x. x ++ r) (sym (fun_body_is f c true h)) ∙ body_same (fun f c) w (fun g d) r s e k ∙ ap (λ x. x ++ s) (fun_body_is g d true j) in
+    let same = ap (λ x. x ++ r) (sym (fun_body_is f c true h)) ∙ body_same (fun f c) w (fun g d) r s e k
+    ∙ ap (λ x. x ++ s) (fun_body_is g d true j) in
     let cut =
     sym (pair_bytes (bytes_of_text f) (big_endian 4 (pair_count c)) (pairs_bytes c) r)
     ∙ same
     ∙ pair_bytes (bytes_of_text g) (big_endian 4 (pair_count d)) (pairs_bytes d) s in
     let t = text_free f g (big_endian 4 (pair_count c) ++ (pairs_bytes c ++ r)) (big_endian 4 (pair_count d) ++ (pairs_bytes d ++ s)) p.0 qs.0 cut in
-    let n = four_free (pair_count c) (pair_count d) (pairs_bytes c ++ r) (pairs_bytes d ++ s) (captures f c true h p).1 (captures g d true j qs).1 t.1 in
+    let n = four_free (pair_count c) (pair_count d) (pairs_bytes c ++ r) (pairs_bytes d ++ s) (captures f c true h p).1
+    (captures g d true j qs).1 t.1 in
     let a = again d r s p.1.1 qs.1.1 n.0 n.1 in
     ((λ i. fun (t.0 i) (a.0 i)) ∙ sym k, a.1))
 
-ref_free : (d : Desc (List ℕ)) (w : Val (List ℕ)) (r s : List ℕ) → Spelled (ref d) → Spelled w → bytes (ref d) ++ r ≡ bytes w ++ s → (b : Bool) → is_short d ≡ b → Same (ref d) w r s
+ref_free : (d : Desc (List ℕ)) (w : Val (List ℕ)) (r s : List ℕ) → Spelled (ref d) → Spelled w → bytes (ref d) ++ r ≡ bytes w ++ s → (b : Bool)
+    → is_short d ≡ b → Same (ref d) w r s
 ref_free d w r s p q e true h = when_short_ref w (tag_same (ref d) w r s e ∙ ap ref_tag h) (λ x k j.
     let g : IsName x = subst Spelled k q in
     let t = name_free d x r s p g (short_name d p h ∙ sym (short_name x g j)) (body_same (ref d) w (ref x) r s e k) in
@@ -159,14 +169,16 @@ mutual
       (ap list t.0 ∙ sym h, t.1))
   val_free (dict ps) w r s p q e = when_dict w (tag_same (dict ps) w r s e) (λ qs h.
       let g : Spelled (dict qs) = subst Spelled h q in
-      let k = four_free (pair_count ps) (pair_count qs) (pairs_bytes ps ++ r) (pairs_bytes qs ++ s) p.1.1 g.1.1 (body_same (dict ps) w (dict qs) r s e h) in
+      let k = four_free (pair_count ps) (pair_count qs) (pairs_bytes ps ++ r) (pairs_bytes qs ++ s) p.1.1 g.1.1
+      (body_same (dict ps) w (dict qs) r s e h) in
       let t = pairs_free ps qs r s p.0 g.0 k.0 k.1 in
       (ap dict t.0 ∙ sym h, t.1))
   val_free (fun f c) w r s p q e =
       fun_free f c w r s p q e (λ d r s p q k e. pairs_free c d r s p q k e) (is_anonymous f) refl
   val_free (ref d) w r s p q e = ref_free d w r s p q e (is_short d) refl
 
-  pub vals_free : (vs ws : Vals (List ℕ)) (r s : List ℕ) → AllSpelled vs → AllSpelled ws → count vs ≡ count ws → vals_bytes vs ++ r ≡ vals_bytes ws ++ s → Same vs ws r s
+  pub vals_free : (vs ws : Vals (List ℕ)) (r s : List ℕ) → AllSpelled vs → AllSpelled ws → count vs ≡ count ws → vals_bytes vs ++ r
+      ≡ vals_bytes ws ++ s → Same vs ws r s
   vals_free no_vals no_vals r s p q c e = (refl, e)
   vals_free no_vals (val w ws) r s p q c e = absurd cc
   vals_free (val v vs) no_vals r s p q c e = absurd cc
@@ -177,7 +189,8 @@ mutual
       let t = vals_free vs ws r s p.1 q.1 m h.1 in
       ((λ i. val (h.0 i) (t.0 i)), t.1)
 
-  pub pairs_free : (ps qs : Pairs (List ℕ)) (r s : List ℕ) → PairsSpelled ps → PairsSpelled qs → pair_count ps ≡ pair_count qs → pairs_bytes ps ++ r ≡ pairs_bytes qs ++ s → Same ps qs r s
+  pub pairs_free : (ps qs : Pairs (List ℕ)) (r s : List ℕ) → PairsSpelled ps → PairsSpelled qs → pair_count ps ≡ pair_count qs → pairs_bytes ps
+      ++ r ≡ pairs_bytes qs ++ s → Same ps qs r s
   pairs_free no_pairs no_pairs r s p q c e = (refl, e)
   pairs_free no_pairs (pair l w qs) r s p q c e = absurd cc
   pairs_free (pair k v ps) no_pairs r s p q c e = absurd cc

@@ -2,9 +2,11 @@
 use Rattle.std.proofs.Common.{◌≡◌, ℕ, ℤ, List, [], ◌∷◌, ◌++◌, Bool, true, false, nat_eq, length, refl}
 use Rattle.ciel_name.specs.Bodies.{tag, fun_tag, ref_tag, body, fun_body, is_short}
 use Rattle.sky_base.specs.Val.{Val, Vals, Pairs, Desc, null, truth, num, text, list, dict, fun, ref, count, pair_count}
-use Rattle.sky_base.specs.Name.{bytes, vals_bytes, pairs_bytes, bytes_of_int, bytes_of_text, big_endian, is_anonymous, held_name, fun_bytes, name_bytes_if}
+use Rattle.sky_base.specs.Name.{bytes, vals_bytes, pairs_bytes, bytes_of_int, bytes_of_text, big_endian, is_anonymous, held_name, fun_bytes}
+use Rattle.sky_base.specs.Name.{name_bytes_if}
 
-fun_bytes-is : (b : Bool) (f : List ℕ) (c : Pairs (List ℕ)) → fun_bytes b f (big_endian 4 (pair_count c) ++ pairs_bytes c) ≡ fun_tag b ∷ fun_body b f c
+fun_bytes-is : (b : Bool) (f : List ℕ) (c : Pairs (List ℕ)) → fun_bytes b f (big_endian 4 (pair_count c) ++ pairs_bytes c) ≡ fun_tag b
+    ∷ fun_body b f c
 fun_bytes-is false f c = refl
 fun_bytes-is true f c = refl
 

@@ -1,6 +1,7 @@
 -- A value's bytes as a first byte, which tells its kind, and what stands behind it.
 use Rattle.std.specs.Prelude.{◌≡◌, ◌≤◌, ◌<◌, ◌^◌, ℕ, List, [], ◌++◌, Bool, true, false, nat_eq, length}
-use Rattle.sky_base.specs.Val.{Val, Vals, Pairs, Desc, null, truth, num, text, list, dict, fun, ref, no_pairs, pair, count, pair_count, depth, depths, pair_depths, Rising}
+use Rattle.sky_base.specs.Val.{Val, Vals, Pairs, Desc, null, truth, num, text, list, dict, fun, ref, no_pairs, pair, count, pair_count, depth, depths}
+use Rattle.sky_base.specs.Val.{pair_depths, Rising}
 use Rattle.std.specs.Ordering.{nat_cmp, is_lt}
 use Rattle.std.specs.Cmp.Lexicographic.{slice_cmp}
 use Rattle.sky_base.specs.Name.{vals_bytes, pairs_bytes, bytes_of_int, bytes_of_text, big_endian, is_anonymous, held_name}
@@ -62,7 +63,8 @@ abbrev pub PairsRead : ℕ → ℕ → List ℕ → Pairs (List ℕ) → List �
 PairsRead n left old ps new = (old ≡ pairs_bytes ps ++ new) × (PairsSpelled ps × (Rising ps × ((pair_depths ps ≤ left) × (pair_count ps ≡ n))))
 
 abbrev pub NoPairs : ℕ → ℕ → List ℕ → Type 0
-NoPairs n left old = (ps : Pairs (List ℕ)) (rest : List ℕ) → PairsSpelled ps → Rising ps → pair_depths ps ≤ left → pair_count ps ≡ n → old ≡ pairs_bytes ps ++ rest → ⊥
+NoPairs n left old = (ps : Pairs (List ℕ)) (rest : List ℕ) → PairsSpelled ps → Rising ps → pair_depths ps ≤ left → pair_count ps ≡ n → old
+    ≡ pairs_bytes ps ++ rest → ⊥
 
 -- whether a key is above the last one of the pairs
 abbrev pub above_from : List ℕ → Pairs (List ℕ) → List ℕ → Bool

@@ -40,9 +40,11 @@ canon_of tag d = canon (low_desc no_name tag d)
 -- in a set that holds its inner ones too and in which no two share a name, two that differ have different canonical bytes
 abbrev pub ApartInSet : Type 0
 ApartInSet =
-    (digest : List ℕ → List ℕ) (ds : List Desc) → HoldsInner ds → NoClash (digested digest) ds → (d e : Desc) → In d ds → In e ds → canon_of (digested digest) d ≡ canon_of (digested digest) e → d ≡ e
+    (digest : List ℕ → List ℕ) (ds : List Desc) → HoldsInner ds → NoClash (digested digest) ds → (d e : Desc) → In d ds → In e ds
+    → canon_of (digested digest) d ≡ canon_of (digested digest) e → d ≡ e
 
 -- whatever gives the names: where no two that they refer to share one, two that differ have different canonical bytes
 abbrev pub ApartByInner : Type 0
 ApartByInner =
-    (tag : Tag) (d e : Desc) → NoClash tag (inner d ++ inner e) → SpelledDesc (low_desc no_name tag d) → SpelledDesc (low_desc no_name tag e) → canon_of tag d ≡ canon_of tag e → d ≡ e
+    (tag : Tag) (d e : Desc) → NoClash tag (inner d ++ inner e) → SpelledDesc (low_desc no_name tag d) → SpelledDesc (low_desc no_name tag e)
+    → canon_of tag d ≡ canon_of tag e → d ≡ e

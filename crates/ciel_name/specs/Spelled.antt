@@ -2,7 +2,8 @@
 use Rattle.std.specs.Prelude.{◌≡◌, ◌≤◌, ◌<◌, ◌^◌, ◌⊎◌, FitsSigned, ℕ, List, length, Bool, true, false, ◌++◌}
 use Rattle.std.specs.Str.{IsUtf8}
 use Rattle.std.specs.Int.{w64}
-use Rattle.sky_base.specs.Val.{Val, Vals, Pairs, Desc, null, truth, num, text, list, dict, fun, ref, no_vals, val, no_pairs, pair, call, out, input, known, count, pair_count, depth, Rising}
+use Rattle.sky_base.specs.Val.{Val, Vals, Pairs, Desc, null, truth, num, text, list, dict, fun, ref, no_vals, val, no_pairs, pair, call, out, input}
+use Rattle.sky_base.specs.Val.{known, count, pair_count, depth, Rising}
 use Rattle.sky_base.specs.Kept.{Kept}
 use Rattle.sky_base.specs.Name.{bytes, bytes_of_text, is_anonymous}
 use Rattle.ciel_name.specs.declared.refusal.Decode.{Decode}

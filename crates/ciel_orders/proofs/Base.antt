@@ -1,5 +1,6 @@
 -- What stands of a shop's job after a history, and what a task that can run waits for and holds.
-use Rattle.std.proofs.Common.{◌≡◌, ℕ, zero, suc, ◌+◌, ◌<◌, List, [], ◌∷◌, Bool, true, false, cond, nat_eq, nat_lt, Option, Some, None, ◌⊎◌, inl, inr, refl, ap, sym, ◌∙◌, subst, arith}
+use Rattle.std.proofs.Common.{◌≡◌, ℕ, zero, suc, ◌+◌, ◌<◌, List, [], ◌∷◌, Bool, true, false, cond, nat_eq, nat_lt, Option, Some, None, ◌⊎◌, inl, inr}
+use Rattle.std.proofs.Common.{refl, ap, sym, ◌∙◌, subst, arith}
 use Rattle.std.specs.List.{list_any}
 use Rattle.sky_base.specs.KitView.{Gives}
 use Rattle.sky_base.specs.Name.{digested}
@@ -59,7 +60,8 @@ idle_below gone busy k (suc m) w i = go (is_idle gone busy k) i (λ j. idle_belo
     later : w < k + 1 + m → w < k + suc m
     later below = omega (arith, below)
 
-    go : (b : Bool) → In w (cond b (k ∷ idle_from gone busy (k + 1) m) (idle_from gone busy (k + 1) m)) → (In w (idle_from gone busy (k + 1) m) → w < k + 1 + m) → w < k + suc m
+    go : (b : Bool) → In w (cond b (k ∷ idle_from gone busy (k + 1) m) (idle_from gone busy (k + 1) m))
+        → (In w (idle_from gone busy (k + 1) m) → w < k + 1 + m) → w < k + suc m
     go true (inl e) rest = omega (arith, e)
     go true (inr j) rest = later (rest j)
     go false j rest = later (rest j)
@@ -89,15 +91,19 @@ module _ (digest : List ℕ → List ℕ) (job : s.Job) (gives : Gives) (orderly
   -- ---- what a task holds at a wait
 
   -- what it waits for there is held
-  pub wait_held : (u : Task s.Desc) (k j : ℕ) (a : Held s.Desc) (ds : List s.Desc) (d : s.Desc) → S.job.at k u j ≡ Some a → n.WaitOf job around (back u) j ds → In d ds → In d a.names
+  pub wait_held : (u : Task s.Desc) (k j : ℕ) (a : Held s.Desc) (ds : List s.Desc) (d : s.Desc) → S.job.at k u j ≡ Some a
+      → n.WaitOf job around (back u) j ds → In d ds → In d a.names
   wait_held u k j a ds d e w i = go u e w
     where
-      state : (y : n.Task) (o : Option n.State) → n.stands_at job around k y j ≡ o → held_if job around (name_of digest) (mark_of digest) (frozen_mark digest) o ≡ Some a → n.WaitOf job around y j ds → In d a.names
+      state : (y : n.Task) (o : Option n.State) → n.stands_at job around k y j ≡ o
+          → held_if job around (name_of digest) (mark_of digest) (frozen_mark digest) o ≡ Some a → n.WaitOf job around y j ds → In d a.names
       state y None q g x = absurd (none_some a g)
       state y (Some z) q g x =
-          subst (In d) (ap (λ (b : Held s.Desc). b.names) (some_is _ a g)) (in_to d (held z) (held_there job around y j ds z d x (k, q) (in_from d ds i)))
+          subst (In d) (ap (λ (b : Held s.Desc). b.names) (some_is _ a g))
+          (in_to d (held z) (held_there job around y j ds z d x (k, q) (in_from d ds i)))
 
-      exec : (x : List ℕ) (c : s.Val) (m l i_ : ℕ) → S.job.at k (of (out x c m l)) i_ ≡ Some a → n.WaitOf job around (n.Task.of (out x c m l)) i_ ds → In d a.names
+      exec : (x : List ℕ) (c : s.Val) (m l i_ : ℕ) → S.job.at k (of (out x c m l)) i_ ≡ Some a
+          → n.WaitOf job around (n.Task.of (out x c m l)) i_ ds → In d a.names
       exec x c m l zero g y =
           subst (In d) (ap (λ (b : Held s.Desc). b.names) (some_is _ a g)) (subst (In d) (sym (some_is _ ds y.1)) i)
       exec x c m l (suc i_) g y = absurd (none_some a g)
@@ -111,7 +117,8 @@ module _ (digest : List ℕ → List ℕ) (job : s.Job) (gives : Gives) (orderly
       go (of (known z)) g x = absurd z
 
   -- as the journal has it
-  pub at_stands : (u : Task s.Desc) (k j : ℕ) (z : n.State) → n.stands_at job around k (back u) j ≡ Some z → S.job.at k u j ≡ Some (record { names = held z; mark = frozen_mark digest z })
+  pub at_stands : (u : Task s.Desc) (k j : ℕ) (z : n.State) → n.stands_at job around k (back u) j ≡ Some z → S.job.at k u j
+      ≡ Some (record { names = held z; mark = frozen_mark digest z })
   at_stands show k j z e = ap (held_if job around (name_of digest) (mark_of digest) (frozen_mark digest)) e
   at_stands (of (call f c vs)) k j z e = ap (held_if job around (name_of digest) (mark_of digest) (frozen_mark digest)) e
   at_stands (of (out x c m i)) k j z e = absurd (none_some z e)
@@ -163,7 +170,8 @@ module _ (digest : List ℕ → List ℕ) (job : s.Job) (gives : Gives) (orderly
 
     main_sound : SoundDesc job.script s.main_call
     main_sound =
-        needed_sound job around reads (n.Task.of s.main_call) (n.Needed.waited n.root 0 (s.main_call ∷ []) s.main_call (0, refl) (0, omega arith, refl) refl)
+        needed_sound job around reads (n.Task.of s.main_call)
+        (n.Needed.waited n.root 0 (s.main_call ∷ []) s.main_call (0, refl) (0, omega arith, refl) refl)
 
     -- what is booked is sound
     pub book_sound : (d : s.Desc) → In d stand.book → SoundDesc job.script d
@@ -201,7 +209,8 @@ module _ (digest : List ℕ → List ℕ) (job : s.Job) (gives : Gives) (orderly
 
       pub from_is : from ≡ last S.job stand u
       from_is =
-          starting.number_is S is (last_save S.job u stand.saves) (last_wait (task_id S.job u) b.table) (holding.last_is S is stand inf apart made b sound f.stands u booked)
+          starting.number_is S is (last_save S.job u stand.saves) (last_wait (task_id S.job u) b.table)
+          (holding.last_is S is stand inf apart made b sound f.stands u booked)
 
       abbrev pub waits : List s.Desc
       waits = needs S.job stand u
@@ -212,7 +221,8 @@ module _ (digest : List ℕ → List ℕ) (job : s.Job) (gives : Gives) (orderly
 
       pub real_wait : n.WaitOf job around (back u) from waits
       real_wait =
-          wait_to job around (name_of digest) (mark_of digest) (frozen_mark digest) u (is_one job around (name_of digest) (mark_of digest) (frozen_mark digest) u needed) from waits waited
+          wait_to job around (name_of digest) (mark_of digest) (frozen_mark digest) u
+          (is_one job around (name_of digest) (mark_of digest) (frozen_mark digest) u needed) from waits waited
 
       pub waits_booked : (d : s.Desc) → In d waits → In d stand.book
       waits_booked d i = each_of (λ x. In x stand.book) d waits i (known_needs u r)
@@ -221,12 +231,14 @@ module _ (digest : List ℕ → List ℕ) (job : s.Job) (gives : Gives) (orderly
       pub at_from : (k : ℕ) × (a : Held s.Desc) × (S.job.at k u from ≡ Some a)
       at_from = subst (λ j. (k : ℕ) × (a : Held s.Desc) × (S.job.at k u j ≡ Some a)) (sym from_is) (go (last_save S.job u stand.saves) refl)
         where
-          go : (o : Option (Save s.Desc)) → last_save S.job u stand.saves ≡ o → (k : ℕ) × (a : Held s.Desc) × (S.job.at k u (h.wait_number S.job o) ≡ Some a)
+          go : (o : Option (Save s.Desc)) → last_save S.job u stand.saves ≡ o → (k : ℕ) × (a : Held s.Desc)
+              × (S.job.at k u (h.wait_number S.job o) ≡ Some a)
           go None e = is.tells.starts u needed
           go (Some q) e =
               let mine = starting.last_own S is stand inf apart made traced b sound f.stands u q e in
               let told = traced q mine.0 in
-              subst (λ x. (k : ℕ) × (a : Held s.Desc) × (S.job.at k x q.j ≡ Some a)) mine.1 (told.3.0, record { names = q.holds; mark = told.2 }, told.3.1)
+              subst (λ x. (k : ℕ) × (a : Held s.Desc) × (S.job.at k x q.j ≡ Some a)) mine.1
+              (told.3.0, record { names = q.holds; mark = told.2 }, told.3.1)
 
       -- what is waited for there is held there
       pub held_wait : (d : s.Desc) → In d waits → HeldAt S.job u from d
@@ -262,10 +274,12 @@ module _ (digest : List ℕ → List ℕ) (job : s.Job) (gives : Gives) (orderly
                     under true q = cc
                     under false q = cc
 
-            go : (o : Option (Task s.Desc)) → S.job.task_of d ≡ o → BroughtFor S open_start d o (spot_of (S.job.name d) X.inputs) → In (S.job.name d) (brought_names X.inputs)
+            go : (o : Option (Task s.Desc)) → S.job.task_of d ≡ o → BroughtFor S open_start d o (spot_of (S.job.name d) X.inputs)
+                → In (S.job.name d) (brought_names X.inputs)
             go None e (k, m, low, number, found) = spot_named (S.job.name d) X.inputs (Spot.input m) found
             go (Some x) e fetched = at (worker_for S.job w (stand.places d)) refl fetched
               where
-                at : (o : Option ℕ) → worker_for S.job w (stand.places d) ≡ o → FetchedAt S d o (spot_of (S.job.name d) X.inputs) → In (S.job.name d) (brought_names X.inputs)
+                at : (o : Option ℕ) → worker_for S.job w (stand.places d) ≡ o → FetchedAt S d o (spot_of (S.job.name d) X.inputs)
+                    → In (S.job.name d) (brought_names X.inputs)
                 at None q g = absurd (some_worker (stand.places d) x (sym (ap (λ y. live_if S.job y (stand.places d)) e) ∙ is_live) q)
                 at (Some k) q (p, found, here, has) = spot_named (S.job.name d) X.inputs (shelf p) found

@@ -29,15 +29,18 @@ copies_grow : (xs : List (Copy P)) (tb : TableSeen P) → GrowsTo tb (with_copie
 copies_grow [] tb n k = k
 copies_grow (x ∷ xs) tb n k = copies_grow xs (c.placed x.name x.place tb) n (placed_grows x.name x.place tb n k)
 
-pub accepted_grows : (digest : List ℕ → List ℕ) (b : Board P) (x : OrderOut) (spawned : List Named) (end : End P) → GrowsTo b.table (accepted digest b x spawned end).table
+pub accepted_grows : (digest : List ℕ → List ℕ) (b : Board P) (x : OrderOut) (spawned : List Named) (end : End P)
+    → GrowsTo b.table (accepted digest b x spawned end).table
 accepted_grows digest b x spawned (made ms cs) n k =
-    copies_grow cs (with_outputs ms (learned_all digest spawned b.table)) n (outputs_grow ms (learned_all digest spawned b.table) n (all_keeps digest spawned b.table n k))
+    copies_grow cs (with_outputs ms (learned_all digest spawned b.table)) n
+    (outputs_grow ms (learned_all digest spawned b.table) n (all_keeps digest spawned b.table n k))
 accepted_grows digest b x spawned (saved q) n k = all_keeps digest spawned b.table n k
 accepted_grows digest b x spawned (missing name loss) n k = k
 
 pub lost_grows : (b : Board P) (w : ℕ) → GrowsTo b.table (lost_at (λ (p : P). p.worker) w b).table
 lost_grows b w =
-    same_names b.table (lost_at (λ (p : P). p.worker) w b).table (names_mapped row_name (c.row_without (λ (p : P). p.worker) w) (λ r. refl) b.table.rows)
+    same_names b.table (lost_at (λ (p : P). p.worker) w b).table
+    (names_mapped row_name (c.row_without (λ (p : P). p.worker) w) (λ r. refl) b.table.rows)
 
 -- ---- what an order brings along
 

@@ -43,12 +43,14 @@ module _ (shelves : ShelvesSeen) where
         saved = a.saved;
       }
 
-  outputs_places : (ms : List (Output P)) (t : TableSeen P) → Each (λ (m : Output P). IsPlaceOf shelves m.place) ms → PlacesOf shelves t → PlacesOf shelves (with_outputs ms t)
+  outputs_places : (ms : List (Output P)) (t : TableSeen P) → Each (λ (m : Output P). IsPlaceOf shelves m.place) ms → PlacesOf shelves t
+      → PlacesOf shelves (with_outputs ms t)
   outputs_places [] t e a = a
   outputs_places (m ∷ ms) t e a =
       outputs_places ms (c.placed m.name m.place t) e.1 (placed_places m.name m.place t e.0 a)
 
-  copies_places : (cs : List (Copy P)) (t : TableSeen P) → Each (λ (m : Copy P). IsPlaceOf shelves m.place) cs → PlacesOf shelves t → PlacesOf shelves (with_copies cs t)
+  copies_places : (cs : List (Copy P)) (t : TableSeen P) → Each (λ (m : Copy P). IsPlaceOf shelves m.place) cs → PlacesOf shelves t
+      → PlacesOf shelves (with_copies cs t)
   copies_places [] t e a = a
   copies_places (m ∷ ms) t e a =
       copies_places ms (c.placed m.name m.place t) e.1 (placed_places m.name m.place t e.0 a)
@@ -63,13 +65,16 @@ module _ (shelves : ShelvesSeen) where
       at None = all_push SavesPlaces t.saved (record { name = n; waits = w ∷ [] }) a.saved (i, tt)
       at (Some s) = all_changed saves_name SavesPlaces (c.saves_with w) n t.saved (λ x q h. all_push (WaitPlace shelves) x.waits w h i) a.saved
 
-  pub opened_places : (digest : List ℕ → List ℕ) (p : Plan) (keys : List (List ℕ)) (main : Named) → PlacesOf shelves (opened {P = P} digest p keys main).table
+  pub opened_places : (digest : List ℕ → List ℕ) (p : Plan) (keys : List (List ℕ)) (main : Named)
+      → PlacesOf shelves (opened {P = P} digest p keys main).table
   opened_places digest p keys main =
       learned_places digest main (empty p.limit) (record { rows = tt; shown = tt; saved = tt })
 
-  pub accepted_places : (digest : List ℕ → List ℕ) (b : Board P) (x : OrderOut) (spawned : List Named) (end : End P) → PlacesOf shelves b.table → EndPlaces shelves end → PlacesOf shelves (accepted digest b x spawned end).table
+  pub accepted_places : (digest : List ℕ → List ℕ) (b : Board P) (x : OrderOut) (spawned : List Named) (end : End P) → PlacesOf shelves b.table
+      → EndPlaces shelves end → PlacesOf shelves (accepted digest b x spawned end).table
   accepted_places digest b x spawned (made ms cs) a e =
-      copies_places cs (with_outputs ms (learned_all digest spawned b.table)) e.1 (outputs_places ms (learned_all digest spawned b.table) e.0 (all_places digest spawned b.table a))
+      copies_places cs (with_outputs ms (learned_all digest spawned b.table)) e.1
+      (outputs_places ms (learned_all digest spawned b.table) e.0 (all_places digest spawned b.table a))
   accepted_places digest b x spawned (saved q) a e =
       save_places x.task (wait_of q) (learned_all digest spawned b.table) e (all_places digest spawned b.table a)
   accepted_places digest b x spawned (missing name loss) a e = a
@@ -77,10 +82,13 @@ module _ (shelves : ShelvesSeen) where
   pub lost_places : (b : Board P) (w : ℕ) → PlacesOf shelves b.table → PlacesOf shelves (lost_at (λ (p : P). p.worker) w b).table
   lost_places b w a =
       record {
-        rows = all_map (RowPlaces shelves) (RowPlaces shelves) (c.row_without (λ (p : P). p.worker) w) (λ r h. all_filter (λ p. IsPlaceOf shelves p) (λ p. IsPlaceOf shelves p) (λ (p : P). not (nat_eq w p.worker)) (λ p i e. i) r.places h) b.table.rows a.rows;
+        rows = all_map (RowPlaces shelves) (RowPlaces shelves) (c.row_without (λ (p : P). p.worker) w)
+            (λ r h. all_filter (λ p. IsPlaceOf shelves p) (λ p. IsPlaceOf shelves p) (λ (p : P). not (nat_eq w p.worker)) (λ p i e. i) r.places
+            h) b.table.rows a.rows;
         shown = waits b.table.shown a.shown;
         saved = all_map SavesPlaces SavesPlaces (c.saves_without (λ (p : P). p.worker) w) (λ s h. waits s.waits h) b.table.saved a.saved;
       }
     where
-      waits : (ws : List (Wait P)) → AllByRecursion (WaitPlace shelves) ws → AllByRecursion (WaitPlace shelves) (c.waits_without (λ (p : P). p.worker) w ws)
+      waits : (ws : List (Wait P)) → AllByRecursion (WaitPlace shelves) ws
+          → AllByRecursion (WaitPlace shelves) (c.waits_without (λ (p : P). p.worker) w ws)
       waits ws h = all_filter (WaitPlace shelves) (WaitPlace shelves) (λ (x : Wait P). not (nat_eq w x.place.worker)) (λ x i e. i) ws h

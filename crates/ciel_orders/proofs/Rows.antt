@@ -1,5 +1,6 @@
 -- The table has rows for what an order brings along.
-use Rattle.std.proofs.Common.{◌≡◌, ℕ, ◌<◌, List, [], ◌∷◌, map, true, ◌||◌, nat_eq, eq-eqb, Option, Some, None, IsSome, inl, inr, refl, ap, sym, ◌∙◌, subst}
+use Rattle.std.proofs.Common.{◌≡◌, ℕ, ◌<◌, List, [], ◌∷◌, map, true, ◌||◌, nat_eq, eq-eqb, Option, Some, None, IsSome, inl, inr, refl, ap, sym, ◌∙◌}
+use Rattle.std.proofs.Common.{subst}
 use Rattle.std.specs.List.{AllByRecursion, list_any}
 use Rattle.std.specs.Option.{option_map}
 use Rattle.sky_base.specs.KitView.{Gives}
@@ -91,7 +92,8 @@ module _ (digest : List ℕ → List ℕ) (job : s.Job) (gives : Gives) where
   object_refs_low (Object.data_of a) = refs_low no_name tag a
   object_refs_low (Object.fault x) = refl
 
-  module _ (orderly : t.Each Orderly job.script.funs) (hs : List (Event s.Desc)) (b : Board P) (sound : Sound digest S.at b) (f : Follows S hs b) where
+  module _ (orderly : t.Each Orderly job.script.funs) (hs : List (Event s.Desc)) (b : Board P) (sound : Sound digest S.at b)
+      (f : Follows S hs b) where
     abbrev stand : Standing s.Desc
     stand = standing S.job hs
 
@@ -100,7 +102,8 @@ module _ (digest : List ℕ → List ℕ) (job : s.Job) (gives : Gives) where
 
     booked_known : (d : s.Desc) → In d stand.book → Known b.table (S.job.name d)
     booked_known d i =
-        let q = holding.row_of S is stand (base.inf digest job gives orderly hs b sound f) (base.apart digest job gives orderly hs b sound f) (base.made digest job gives orderly hs b sound f) b sound f.stands d i in
+        let q = holding.row_of S is stand (base.inf digest job gives orderly hs b sound f) (base.apart digest job gives orderly hs b sound f)
+        (base.made digest job gives orderly hs b sound f) b sound f.stands d i in
         row_known b.table (S.job.name d) q.0 q.1
 
     names_known : (ds : List s.Desc) → ((d : s.Desc) → t.In d ds → In d stand.book) → AllKnown b.table (map S.job.name ds)
@@ -128,16 +131,21 @@ module _ (digest : List ℕ → List ℕ) (job : s.Job) (gives : Gives) where
       held_known d k = base.held_booked digest job gives orderly hs b sound f u r w d k
 
       -- where an object lies it refers to what is known
-      object_known : (x : rust.Block) (d : s.Desc) (k : ℕ) → list_any (nat_eq k) (stand.places d) ≡ true → (m : ℕ) × (S.object m d ≡ Some (shop.block_view x)) → AllKnown b.table (map held_name (performs.block_refs x))
+      object_known : (x : rust.Block) (d : s.Desc) (k : ℕ) → list_any (nat_eq k) (stand.places d) ≡ true → (m : ℕ)
+          × (S.object m d ≡ Some (shop.block_view x)) → AllKnown b.table (map held_name (performs.block_refs x))
       object_known x d k has (m, e) = go (s.see job around m d) refl e
         where
-          block : (y : rust.Block) (o : s.Obj) → s.see job around m d ≡ Some o → shop.Block.object (object_by_names digest o) ≡ shop.block_view y → AllKnown b.table (map held_name (performs.block_refs y))
+          block : (y : rust.Block) (o : s.Obj) → s.see job around m d ≡ Some o → shop.Block.object (object_by_names digest o) ≡ shop.block_view y
+              → AllKnown b.table (map held_name (performs.block_refs y))
           block (rust.Block.Object a) o q g =
               let same : object_view a ≡ low_obj no_name tag o = cc in
-              subst (λ ds. AllKnown b.table (map held_name ds)) (sym (ap object_refs same ∙ object_refs_low o)) (refs_known (object_refs o) (λ c i. (base.inf digest job gives orderly hs b sound f).carried d k has m c (in_to c (seen_refs (s.see job around m d)) (subst (λ z. t.In c (seen_refs z)) (sym q) i))))
+              subst (λ ds. AllKnown b.table (map held_name ds)) (sym (ap object_refs same ∙ object_refs_low o))
+              (refs_known (object_refs o) (λ c i. (base.inf digest job gives orderly hs b sound f).carried d k has m c
+              (in_to c (seen_refs (s.see job around m d)) (subst (λ z. t.In c (seen_refs z)) (sym q) i))))
           block (rust.Block.Frozen z) o q g = cc
 
-          go : (o : Option s.Obj) → s.see job around m d ≡ o → option_map (λ y. shop.Block.object (object_by_names digest y)) o ≡ Some (shop.block_view x) → AllKnown b.table (map held_name (performs.block_refs x))
+          go : (o : Option s.Obj) → s.see job around m d ≡ o → option_map (λ y. shop.Block.object (object_by_names digest y)) o
+              ≡ Some (shop.block_view x) → AllKnown b.table (map held_name (performs.block_refs x))
           go None q g = absurd (none_some (shop.block_view x) g)
           go (Some o) q g = block x o q (some_is (shop.Block.object (object_by_names digest o)) (shop.block_view x) g)
 
@@ -150,7 +158,8 @@ module _ (digest : List ℕ → List ℕ) (job : s.Job) (gives : Gives) where
       input_spot (given.Spot.Input l) m g = tt
       input_spot (given.Spot.Shelf p) m g = cc
 
-      shelf_spot : (z : given.Spot) (p : P) (d : s.Desc) (k : ℕ) → list_any (nat_eq k) (stand.places d) ≡ true → HasObject S p d → shelf p ≡ spot_view z → SpotKnown b.table z
+      shelf_spot : (z : given.Spot) (p : P) (d : s.Desc) (k : ℕ) → list_any (nat_eq k) (stand.places d) ≡ true → HasObject S p d → shelf p
+          ≡ spot_view z → SpotKnown b.table z
       shelf_spot (given.Spot.Input l) p d k has h g = cc
       shelf_spot (given.Spot.Shelf q) p d k has h g =
           let same : p ≡ q = cc in object_known q.at.value d k has (subst (λ z. HasObject S z d) same h)
@@ -158,13 +167,15 @@ module _ (digest : List ℕ → List ℕ) (job : s.Job) (gives : Gives) where
       spot_held : (y : HeldOf) (d : s.Desc) → HeldAt S.job u from d → spot_of (S.job.name d) X.inputs ≡ Some (spot_view y.at) → SpotKnown b.table y.at
       spot_held y d c there = go (S.job.task_of d) (order.inputs d c)
         where
-          fetched : (o : Option ℕ) → worker_for S.job w (stand.places d) ≡ o → FetchedAt S d o (spot_of (S.job.name d) X.inputs) → SpotKnown b.table y.at
+          fetched : (o : Option ℕ) → worker_for S.job w (stand.places d) ≡ o → FetchedAt S d o (spot_of (S.job.name d) X.inputs)
+              → SpotKnown b.table y.at
           fetched None q g = absurd (none_some (spot_view y.at) (sym g ∙ there))
           fetched (Some k) q (p, found, here, has) =
               let m = some_has (stand.places d) k q in
               shelf_spot y.at p d m.0 m.1 has (some_is (shelf p) (spot_view y.at) (sym found ∙ there))
 
-          go : (o : Option (Task s.Desc)) → BroughtFor S (order_of S.job stand b.starts w u from) d o (spot_of (S.job.name d) X.inputs) → SpotKnown b.table y.at
+          go : (o : Option (Task s.Desc)) → BroughtFor S (order_of S.job stand b.starts w u from) d o (spot_of (S.job.name d) X.inputs)
+              → SpotKnown b.table y.at
           go None (k, m, low_, number, found) =
               input_spot y.at m (some_is (Spot.input m) (spot_view y.at) (sym found ∙ there))
           go (Some x) g = fetched (worker_for S.job w (stand.places d)) refl g
@@ -174,15 +185,19 @@ module _ (digest : List ℕ → List ℕ) (job : s.Job) (gives : Gives) where
           let only = order.only y.name i in
           spot_held y only.0 only.1 (ap (λ m. spot_of m X.inputs) (sym only.2) ∙ e)
 
-      spots_known : (ys : List HeldOf) → Found X.inputs (map brought_view ys) → t.Each (λ (z : Brought P). In z.name (brought_names X.inputs)) (map brought_view ys) → t.Each (λ (y : HeldOf). SpotKnown b.table y.at) ys
+      spots_known : (ys : List HeldOf) → Found X.inputs (map brought_view ys)
+          → t.Each (λ (z : Brought P). In z.name (brought_names X.inputs)) (map brought_view ys)
+          → t.Each (λ (y : HeldOf). SpotKnown b.table y.at) ys
       spots_known [] g i = tt
       spots_known (y ∷ ys) g i = (spot_known y i.0 g.0, spots_known ys g.1 i.1)
 
       -- what the stack of the order's wait refers to
-      stack_known : (x : rust.Block) → (k : ℕ) × (S.state k u from ≡ Some (shop.block_view x)) → AllKnown b.table (map held_name (performs.block_refs x))
+      stack_known : (x : rust.Block) → (k : ℕ) × (S.state k u from ≡ Some (shop.block_view x))
+          → AllKnown b.table (map held_name (performs.block_refs x))
       stack_known x (k, e) = go (n.stands_at job around k (back u) from) refl e
         where
-          refs_of_state : (z : Stand (List ℕ)) (a : n.State) → n.stands_at job around k (back u) from ≡ Some a → z ≡ low_state tag a → AllKnown b.table (map held_name (all_refs z))
+          refs_of_state : (z : Stand (List ℕ)) (a : n.State) → n.stands_at job around k (back u) from ≡ Some a → z ≡ low_state tag a
+              → AllKnown b.table (map held_name (all_refs z))
           refs_of_state z a q g = all (all_refs z) (λ c i. i)
             where
               there : (d : s.Desc) → t.In d (held a) → In d stand.book
@@ -191,7 +206,8 @@ module _ (digest : List ℕ → List ℕ) (job : s.Job) (gives : Gives) where
 
               are : held_in same_text z ≡ map R (held a)
               are =
-                  stands_holds tag job around z (back u) from (held a) (a, (k, q), g) (held_at_is job around (back u) from a (k, q)) (base.booked_apart digest job gives orderly hs b sound f (held a) there)
+                  stands_holds tag job around z (back u) from (held a) (a, (k, q), g) (held_at_is job around (back u) from a (k, q))
+                  (base.booked_apart digest job gives orderly hs b sound f (held a) there)
 
               named : (ds : List s.Desc) (c : v.Desc (List ℕ)) → t.In c (map R ds) → (d : s.Desc) × t.In d ds × (c ≡ R d)
               named [] c i = absurd i
@@ -207,11 +223,13 @@ module _ (digest : List ℕ → List ℕ) (job : s.Job) (gives : Gives) where
               all [] h = tt
               all (c ∷ cs) h = (one c (h c (inl refl)), all cs (λ y i. h y (inr i)))
 
-          block : (y : rust.Block) (a : n.State) → n.stands_at job around k (back u) from ≡ Some a → shop.Block.stack (state_by_names digest a) ≡ shop.block_view y → AllKnown b.table (map held_name (performs.block_refs y))
+          block : (y : rust.Block) (a : n.State) → n.stands_at job around k (back u) from ≡ Some a → shop.Block.stack (state_by_names digest a)
+              ≡ shop.block_view y → AllKnown b.table (map held_name (performs.block_refs y))
           block (rust.Block.Object o) a q g = cc
           block (rust.Block.Frozen z) a q g = let same : z ≡ low_state tag a = cc in refs_of_state z a q same
 
-          go : (o : Option n.State) → n.stands_at job around k (back u) from ≡ o → option_map (λ a. shop.Block.stack (state_by_names digest a)) o ≡ Some (shop.block_view x) → AllKnown b.table (map held_name (performs.block_refs x))
+          go : (o : Option n.State) → n.stands_at job around k (back u) from ≡ o → option_map (λ a. shop.Block.stack (state_by_names digest a)) o
+              ≡ Some (shop.block_view x) → AllKnown b.table (map held_name (performs.block_refs x))
           go None q g = absurd (none_some (shop.block_view x) g)
           go (Some a) q g = block x a q (some_is (shop.Block.stack (state_by_names digest a)) (shop.block_view x) g)
 
@@ -230,9 +248,11 @@ module _ (digest : List ℕ → List ℕ) (job : s.Job) (gives : Gives) where
 
           output : (d : s.Desc) → In d stand.book → S.job.task_of d ≡ Some (of d) → (c : s.Desc) → S.job.task_of c ≡ Some (of d) → In c stand.book
           output d i own c m =
-              each_of (λ z. In z stand.book) c (S.job.outputs (of d)) (is.laws.made_by c (of d) m) (((base.inf digest job gives orderly hs b sound f).whole d i).1 (of d) own)
+              each_of (λ z. In z stand.book) c (S.job.outputs (of d)) (is.laws.made_by c (of d) m)
+              (((base.inf digest job gives orderly hs b sound f).whole d i).1 (of d) own)
 
-          each : (y : Desc1) (d : s.Desc) → desc_view y ≡ S.lower d → S.job.task_of d ≡ Some (of d) → In d stand.book → OutputsKnown digest b.table (Some y)
+          each : (y : Desc1) (d : s.Desc) → desc_view y ≡ S.lower d → S.job.task_of d ≡ Some (of d) → In d stand.book
+              → OutputsKnown digest b.table (Some y)
           each (Desc1.Call h c vs) d q own i =
               subst (Known b.table) (sym (ap (digested digest) q ∙ is.exact.own d)) (booked_known d i)
           each (Desc1.Exec h c m l) (out x a k i_) q own i =
@@ -240,8 +260,11 @@ module _ (digest : List ℕ → List ℕ) (job : s.Job) (gives : Gives) where
               let a_ : view c ≡ low no_name tag a = cc in
               let k_ : m ≡ k = cc in
               λ j lt.
-              let task : S.job.task_of (out x a k j) ≡ Some (of (out x a k i_)) = sent.output_task digest job gives x a k i_ j own (subst (λ z. j < z) k_ lt) in
-              let named : digested digest (out h (view c) m j) ≡ S.job.name (out x a k j) = ap (λ z. digested digest (out z (view c) m j)) x_ ∙ ap (λ z. digested digest (out x z m j)) a_ ∙ ap (λ z. digested digest (out x (low no_name tag a) z j)) k_ ∙ is.exact.own (out x a k j) in
+              let task : S.job.task_of (out x a k j) ≡ Some (of (out x a k i_)) =
+              sent.output_task digest job gives x a k i_ j own (subst (λ z. j < z) k_ lt) in
+              let named : digested digest (out h (view c) m j) ≡ S.job.name (out x a k j) = ap (λ z. digested digest (out z (view c) m j)) x_
+              ∙ ap (λ z. digested digest (out x z m j)) a_ ∙ ap (λ z. digested digest (out x (low no_name tag a) z j)) k_
+              ∙ is.exact.own (out x a k j) in
               subst (Known b.table) (sym named) (booked_known (out x a k j) (output (out x a k i_) i own (out x a k j) task))
           each (Desc1.Exec h c m l) (call x y z) q own i = cc
           each (Desc1.Exec h c m l) (input z) q own i = cc
@@ -254,14 +277,24 @@ module _ (digest : List ℕ → List ℕ) (job : s.Job) (gives : Gives) where
       inside_known show e (Some d) g = absurd g
       inside_known (of d) e (Some y) g =
           let i = subst (λ z. In (own_name S.job z) stand.book) e (base.booked digest job gives orderly hs b sound f u r w) in
-          let within : (c : s.Desc) → In c (inside d) → In c stand.book = λ c j. each_of (λ z. In z stand.book) c (inside d) j ((base.inf digest job gives orderly hs b sound f).whole d i).0 in
-          subst (AllKnown b.table) (sym (start_names digest y d g (λ c x j k q. base.apart digest job gives orderly hs b sound f c x (within c j) (within x k) q))) (names_known (distinct (λ c x. true) (inside d)) (λ c j. within c (in_to c (inside d) (distinct_in (λ c x. true) (λ c x q. absurd c) (λ c. absurd c) (inside d) c j))))
+          let within : (c : s.Desc) → In c (inside d) → In c stand.book =
+          λ c j. each_of (λ z. In z stand.book) c (inside d) j ((base.inf digest job gives orderly hs b sound f).whole d i).0 in
+          subst (AllKnown b.table) (sym (start_names digest y d g
+          (λ c x j k q. base.apart digest job gives orderly hs b sound f c x (within c j) (within x k) q)))
+          (names_known (distinct (λ c x. true) (inside d))
+          (λ c j. within c (in_to c (inside d) (distinct_in (λ c x. true) (λ c x q. absurd c) (λ c. absurd c) (inside d) c j))))
 
       pub has_rows : (y : Order) → order_view y ≡ X → HasRows digest b.table y
       has_rows y e =
           record {
-            brought = subst (AllKnown b.table) (sym (sent.names_are digest job gives orderly hs b sound f u r w run y e)) (all_in (Known b.table) (brought_names X.inputs) (λ m i. let d = order.only m i in subst (Known b.table) (sym d.2) (booked_known d.0 (held_known d.0 d.1))));
-            carried = spots_known y.inputs.items (subst (Found X.inputs) (sym (sent.inputs_are digest job gives orderly hs b sound f u r w run y e)) (all_found X.inputs (sent.given_once digest job gives orderly hs b sound f u r w run))) (subst (t.Each (λ (z : Brought P). In z.name (brought_names X.inputs))) (sym (sent.inputs_are digest job gives orderly hs b sound f u r w run y e)) (sent.all_named X.inputs X.inputs (λ m i. i)));
+            brought = subst (AllKnown b.table) (sym (sent.names_are digest job gives orderly hs b sound f u r w run y e))
+                (all_in (Known b.table) (brought_names X.inputs)
+                (λ m i. let d = order.only m i in subst (Known b.table) (sym d.2) (booked_known d.0 (held_known d.0 d.1))));
+            carried = spots_known y.inputs.items (subst (Found X.inputs)
+                (sym (sent.inputs_are digest job gives orderly hs b sound f u r w run y e))
+                (all_found X.inputs (sent.given_once digest job gives orderly hs b sound f u r w run)))
+                (subst (t.Each (λ (z : Brought P). In z.name (brought_names X.inputs)))
+                (sym (sent.inputs_are digest job gives orderly hs b sound f u r w run y e)) (sent.all_named X.inputs X.inputs (λ m i. i)));
             stack = subst (StackKnown b.table) (sym (ap (λ (z : board.Order P). z.stack) e)) (place_known X.stack refl);
             inside = subst (InsideKnown b.table) (sym (ap (λ (z : board.Order P). z.desc) e)) (inside_known u refl X.desc order.desc);
             outputs = subst (OutputsKnown digest b.table) (sym (ap (λ (z : board.Order P). z.desc) e)) (outputs_known u refl X.desc order.desc);

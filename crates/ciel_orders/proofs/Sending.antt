@@ -26,9 +26,12 @@ use Rattle.ciel_orders.proofs.Base as base
 use Rattle.ciel_orders.proofs.Rows.{has_rows}
 use Rattle.ciel_orders.proofs.Sent.{order_sound}
 
-module _ (digest : List ℕ → List ℕ) (job : s.Job) (gives : Gives) (orderly : t.Each Orderly job.script.funs) (hs : List (Event s.Desc)) (b : Board P) (sound : Sound digest (λ (p : P). p.worker) b) (f : Follows (the_shop digest job gives) hs b) (order : Order) (is : IsOrderFor digest job gives b order) where
+module _ (digest : List ℕ → List ℕ) (job : s.Job) (gives : Gives) (orderly : t.Each Orderly job.script.funs) (hs : List (Event s.Desc))
+    (b : Board P) (sound : Sound digest (λ (p : P). p.worker) b) (f : Follows (the_shop digest job gives) hs b) (order : Order)
+    (is : IsOrderFor digest job gives b order) where
   -- the task is one of the job's
-  its_task : (u : Task s.Desc) × (task_id (the_shop digest job gives).job u ≡ is.task) × Reached (the_shop digest job gives).job (standing (the_shop digest job gives).job hs) u
+  its_task : (u : Task s.Desc) × (task_id (the_shop digest job gives).job u ≡ is.task)
+      × Reached (the_shop digest job gives).job (standing (the_shop digest job gives).job hs) u
   its_task =
       (agrees (the_shop digest job gives) (base.is digest job gives orderly) hs b sound f).only is.task is.runnable.reached
 
@@ -42,9 +45,11 @@ module _ (digest : List ℕ → List ℕ) (job : s.Job) (gives : Gives) (orderly
   below =
       let lt = base.idle_below b.table.gone (workers_out b.orders) 0 b.plan.workers is.worker is.idle in omega (arith, lt)
 
-  pub sent_sound : InputsInOrder job → (shelves : ShelvesSeen) → PlacesOf shelves b.table → b.plan.workers ≤ length shelves.rows → OrderSound digest shelves job.script (length job.inputs) order
+  pub sent_sound : InputsInOrder job → (shelves : ShelvesSeen) → PlacesOf shelves b.table → b.plan.workers ≤ length shelves.rows
+      → OrderSound digest shelves job.script (length job.inputs) order
   sent_sound inputs shelves places workers =
-      order_sound digest job gives orderly hs b sound f its_task.0 its_task.2 is.worker run shelves places (sym (length-map job.inputs (λ (i : List ℕ × List ℕ). i.0)) ∙ ap length inputs) workers below order view
+      order_sound digest job gives orderly hs b sound f its_task.0 its_task.2 is.worker run shelves places
+      (sym (length-map job.inputs (λ (i : List ℕ × List ℕ). i.0)) ∙ ap length inputs) workers below order view
 
   pub sent_rows : HasRows digest b.table order
   sent_rows = has_rows digest job gives orderly hs b sound f its_task.0 its_task.2 is.worker run order view

@@ -1,5 +1,6 @@
 -- An order for a task that can run is sound for the shop.
-use Rattle.std.proofs.Common.{◌≡◌, ◌≢◌, ℕ, zero, suc, ◌≤◌, ◌<◌, List, [], ◌∷◌, length, map, Bool, true, false, cond, nat_eq, nat_lt, Option, Some, None, inl, inr, refl, ap, sym, ◌∙◌, subst, arith, lt-ltb}
+use Rattle.std.proofs.Common.{◌≡◌, ◌≢◌, ℕ, zero, suc, ◌≤◌, ◌<◌, List, [], ◌∷◌, length, map, Bool, true, false, cond, nat_eq, nat_lt, Option, Some}
+use Rattle.std.proofs.Common.{None, inl, inr, refl, ap, sym, ◌∙◌, subst, arith, lt-ltb}
 use Rattle.std.specs.List.{AllByRecursion, IsDistinct}
 use Rattle.std.specs.Option.{option_and_then, option_map, option_map_or}
 use Rattle.sky_base.specs.Kept.{Kept}
@@ -58,7 +59,9 @@ use Rattle.ciel_table.specs.declared.row.Row.{Row}
 use Rattle.ciel_table.specs.declared.wait.Saves.{Saves}
 use Rattle.ciel_table.specs.declared.wait.Wait.{Wait}
 use Rattle.ciel_want.specs.History.{task_id}
-use Rattle.ciel_board.specs.Board.{Board, Brought, Spot, board_graph, brought, brought_names, first_held, held_at, idle_of, key_number, least_place, lesser, or_least, place_at, place_for, shelf, spot_for, spot_in, spot_of, stack_at, start_refs, task_desc, wait_number, with_spot}
+use Rattle.ciel_board.specs.Board.{Board, Brought, Spot, board_graph, brought, brought_names, first_held, held_at, idle_of, key_number, least_place}
+use Rattle.ciel_board.specs.Board.{lesser, or_least, place_at, place_for, shelf, spot_for, spot_in, spot_of, stack_at, start_refs, task_desc}
+use Rattle.ciel_board.specs.Board.{wait_number, with_spot}
 use Rattle.ciel_board.specs.Board as board
 use Rattle.ciel_board.specs.Follows.{BroughtFor, FetchedAt, Follows, GoesBy, OrderIs, worker_for}
 use Rattle.ciel_board.specs.Moves.{order_for}
@@ -84,9 +87,13 @@ use Rattle.ciel_orders.proofs.Spots.{Found, Once, all_found, brought_once, once_
 
 -- ---- names once
 
-names_once : {D : Type 0} (name : D → Digest) (ds : List D) → t.Apart ds → ((d e : D) → t.In d ds → t.In e ds → name d ≡ name e → d ≡ e) → Once (map name ds)
+names_once : {D : Type 0} (name : D → Digest) (ds : List D) → t.Apart ds → ((d e : D) → t.In d ds → t.In e ds → name d ≡ name e → d ≡ e)
+    → Once (map name ds)
 names_once name [] a h = tt
-names_once {D} name (d ∷ ds) a h = (λ i. from ds (λ e j q. a.0 (subst (λ x. t.In x ds) (sym (h d e (inl refl) (inr j) q)) j)) i, names_once name ds a.1 (λ x y i j q. h x y (inr i) (inr j) q))
+names_once {D} name (d ∷ ds) a h = (
+  λ i. from ds (λ e j q. a.0 (subst (λ x. t.In x ds) (sym (h d e (inl refl) (inr j) q)) j)) i,
+  names_once name ds a.1 (λ x y i j q. h x y (inr i) (inr j) q),
+)
   where
     from : (es : List D) → ((e : D) → t.In e es → name d ≡ name e → ⊥) → In (name d) (map name es) → ⊥
     from [] g i = i
@@ -104,7 +111,8 @@ number_below : (keys : List (List ℕ)) (k : List ℕ) (i : ℕ) → key_number 
 number_below [] k i e = absurd (none_some i e)
 number_below (x ∷ xs) k i e = go (same_text k x) (key_number xs k) refl e (λ j q. number_below xs k j q)
   where
-    go : (b : Bool) (o : Option ℕ) → key_number xs k ≡ o → cond b (Some 0) (option_map suc o) ≡ Some i → ((j : ℕ) → key_number xs k ≡ Some j → j < length xs) → i < suc (length xs)
+    go : (b : Bool) (o : Option ℕ) → key_number xs k ≡ o → cond b (Some 0) (option_map suc o) ≡ Some i
+        → ((j : ℕ) → key_number xs k ≡ Some j → j < length xs) → i < suc (length xs)
     go true o q g rest = let z : 0 ≡ i = some_is 0 i g in omega (arith, z)
     go false None q g rest = absurd (none_some i g)
     go false (Some j) q g rest =
@@ -131,7 +139,8 @@ module _ (Q : P → Type 0) where
       pick r h true k = subst Q (some_is r p k) h
       pick r h false k = subst Q (some_is q p k) a.0
 
-      go : (o : Option P) → least_place (λ (x : P). x.worker) qs ≡ o → lesser (λ (x : P). x.worker) q o ≡ Some p → ((r : P) → least_place (λ (x : P). x.worker) qs ≡ Some r → Q r) → Q p
+      go : (o : Option P) → least_place (λ (x : P). x.worker) qs ≡ o → lesser (λ (x : P). x.worker) q o ≡ Some p
+          → ((r : P) → least_place (λ (x : P). x.worker) qs ≡ Some r → Q r) → Q p
       go None g h rest = subst Q (some_is q p h) a.0
       go (Some r) g h rest = pick r (rest r g) (nat_lt r.worker q.worker) h
 
@@ -146,7 +155,8 @@ module _ (Q : P → Type 0) where
   abbrev RowHas : Row P → Type 0
   RowHas r = AllByRecursion Q r.places
 
-  found_has : {X : Type 0} (name : X → List ℕ) (R : X → Type 0) (m : List ℕ) (xs : List X) (x : X) → AllByRecursion R xs → found name m xs ≡ Some x → R x
+  found_has : {X : Type 0} (name : X → List ℕ) (R : X → Type 0) (m : List ℕ) (xs : List X) (x : X) → AllByRecursion R xs → found name m xs
+      ≡ Some x → R x
   found_has name R m [] x a e = absurd (none_some x e)
   found_has name R m (y ∷ ys) x a e = go (same_text m (name y)) e (found_has name R m ys x a.1)
     where
@@ -164,7 +174,8 @@ module _ (Q : P → Type 0) where
   shelf_is None p e = absurd (none_some (shelf p) e)
   shelf_is (Some q) p e = let k : shelf q ≡ shelf p = some_is (shelf q) (shelf p) e in let l : q ≡ p = cc in ap (λ z. Some z) l
 
-  spot_has : (keys : List (List ℕ)) (w : ℕ) (tb : TableSeen P) (m : Digest) (p : P) → AllByRecursion RowHas tb.rows → spot_for (λ (x : P). x.worker) keys w tb m ≡ Some (shelf p) → Q p
+  spot_has : (keys : List (List ℕ)) (w : ℕ) (tb : TableSeen P) (m : Digest) (p : P) → AllByRecursion RowHas tb.rows
+      → spot_for (λ (x : P). x.worker) keys w tb m ≡ Some (shelf p) → Q p
   spot_has keys w tb m p a e = go (row_named m tb) refl e
     where
       no_input : (o : Option ℕ) → input_of o ≡ Some (shelf p) → Q p
@@ -178,18 +189,21 @@ module _ (Q : P → Type 0) where
           for_has w ps p h (shelf_is (place_for (λ (x : P). x.worker) w ps) p g)
       in_row (Desc1.Input k) ps h g = no_input (key_number keys k) g
 
-      go : (o : Option (Row P)) → row_named m tb ≡ o → option_and_then (λ (r : Row P). spot_in (λ (x : P). x.worker) keys w r.desc r.places) o ≡ Some (shelf p) → Q p
+      go : (o : Option (Row P)) → row_named m tb ≡ o → option_and_then (λ (r : Row P). spot_in (λ (x : P). x.worker) keys w r.desc r.places) o
+          ≡ Some (shelf p) → Q p
       go None g h = absurd (none_some (shelf p) h)
       go (Some r) g h = in_row r.desc r.places (found_has row_name RowHas m tb.rows r a g) h
 
   abbrev ShelfHas : Brought P → Type 0
   ShelfHas x = (p : P) → x.spot ≡ shelf p → Q p
 
-  brought_has : (keys : List (List ℕ)) (w : ℕ) (tb : TableSeen P) (ns : List Digest) → AllByRecursion RowHas tb.rows → t.Each ShelfHas (brought (λ (x : P). x.worker) keys w tb ns)
+  brought_has : (keys : List (List ℕ)) (w : ℕ) (tb : TableSeen P) (ns : List Digest) → AllByRecursion RowHas tb.rows
+      → t.Each ShelfHas (brought (λ (x : P). x.worker) keys w tb ns)
   brought_has keys w tb [] a = tt
   brought_has keys w tb (m ∷ ms) a = go (spot_for (λ (x : P). x.worker) keys w tb m) refl (brought_has keys w tb ms a)
     where
-      go : (o : Option (Spot P)) → spot_for (λ (x : P). x.worker) keys w tb m ≡ o → t.Each ShelfHas (brought (λ (x : P). x.worker) keys w tb ms) → t.Each ShelfHas (with_spot (λ (x : P). x.worker) m o (brought (λ (x : P). x.worker) keys w tb ms))
+      go : (o : Option (Spot P)) → spot_for (λ (x : P). x.worker) keys w tb m ≡ o → t.Each ShelfHas (brought (λ (x : P). x.worker) keys w tb ms)
+          → t.Each ShelfHas (with_spot (λ (x : P). x.worker) m o (brought (λ (x : P). x.worker) keys w tb ms))
       go None g rest = rest
       go (Some u) g rest = (λ p e. spot_has keys w tb m p a (g ∙ ap (λ z. Some z) e), rest)
 
@@ -209,7 +223,8 @@ module _ (Q : P → Type 0) where
       go None g h rest = subst WaitHas (some_is y x h) a.0
       go (Some z) g h rest = pick z (rest z g) (nat_lt z.j y.j) h
 
-  last_has : (task : TaskId) (tb : TableSeen P) (x : Wait P) → AllByRecursion WaitHas tb.shown → AllByRecursion (λ (z : Saves P). AllByRecursion WaitHas z.waits) tb.saved → last_wait task tb ≡ Some x → Q x.place
+  last_has : (task : TaskId) (tb : TableSeen P) (x : Wait P) → AllByRecursion WaitHas tb.shown
+      → AllByRecursion (λ (z : Saves P). AllByRecursion WaitHas z.waits) tb.saved → last_wait task tb ≡ Some x → Q x.place
   last_has TaskId.Show tb x a c e = latest_has tb.shown x a e
   last_has (TaskId.Of m) tb x a c e = go (found saves_name m tb.saved) refl e
     where
@@ -219,7 +234,8 @@ module _ (Q : P → Type 0) where
 
 -- ---- objects and states by names
 
-pub all_named : (xs ys : List (Brought P)) → ((m : Digest) → In m (brought_names ys) → In m (brought_names xs)) → t.Each (λ (z : Brought P). In z.name (brought_names xs)) ys
+pub all_named : (xs ys : List (Brought P)) → ((m : Digest) → In m (brought_names ys) → In m (brought_names xs))
+    → t.Each (λ (z : Brought P). In z.name (brought_names xs)) ys
 all_named xs [] g = tt
 all_named xs (y ∷ ys) g = (g y.name (inl refl), all_named xs ys (λ m i. g m (inr i)))
 
@@ -294,12 +310,14 @@ module _ (digest : List ℕ → List ℕ) (job : s.Job) (gives : Gives) where
       go true g = sym (ap index (some_is (of (out x c m 0)) (of (out x c m i)) g))
 
   -- each output of a task is its
-  pub output_task : (x : List ℕ) (c : s.Val) (m i j : ℕ) → S.job.task_of (out x c m i) ≡ Some (of (out x c m i)) → j < m → S.job.task_of (out x c m j) ≡ Some (of (out x c m i))
+  pub output_task : (x : List ℕ) (c : s.Val) (m i j : ℕ) → S.job.task_of (out x c m i) ≡ Some (of (out x c m i)) → j < m
+      → S.job.task_of (out x c m j) ≡ Some (of (out x c m i))
   output_task x c m i j e lt =
       let first : i ≡ 0 = first_index x c m i e in
       ap (λ z. forth_if (n.only_if z (Some (n.Task.of (out x c m 0))))) (lt-ltb j m lt) ∙ ap (λ z. Some (of (out x c m z))) (sym first)
 
-  module _ (orderly : t.Each Orderly job.script.funs) (hs : List (Event s.Desc)) (b : Board P) (sound : Sound digest S.at b) (f : Follows S hs b) (u : Task s.Desc) (r : Reached S.job (standing S.job hs) u) (w : ℕ) (run : Runnable (board_graph b) (task_id S.job u)) where
+  module _ (orderly : t.Each Orderly job.script.funs) (hs : List (Event s.Desc)) (b : Board P) (sound : Sound digest S.at b) (f : Follows S hs b)
+      (u : Task s.Desc) (r : Reached S.job (standing S.job hs) u) (w : ℕ) (run : Runnable (board_graph b) (task_id S.job u)) where
     abbrev is : IsSetting S
     is = base.is digest job gives orderly
 
@@ -329,16 +347,20 @@ module _ (digest : List ℕ → List ℕ) (job : s.Job) (gives : Gives) where
 
     sound_task : SoundTask job.script (back u)
     sound_task =
-        needed_sound job around (base.reads digest job gives orderly) (back u) (needed_to job around (name_of digest) (mark_of digest) (frozen_mark digest) u (base.needed digest job gives orderly hs b sound f u r w))
+        needed_sound job around (base.reads digest job gives orderly) (back u)
+        (needed_to job around (name_of digest) (mark_of digest) (frozen_mark digest) u
+        (base.needed digest job gives orderly hs b sound f u r w))
 
     waits_apart : names.NoClash tag waits
     waits_apart =
-        base.booked_apart digest job gives orderly hs b sound f waits (λ d i. base.waits_booked digest job gives orderly hs b sound f u r w d (in_to d waits i))
+        base.booked_apart digest job gives orderly hs b sound f waits
+        (λ d i. base.waits_booked digest job gives orderly hs b sound f u r w d (in_to d waits i))
 
     -- ---- what the task is of
 
     -- each reference of an executor's arguments is brought along
-    refs_brought : (x : List ℕ) (c : s.Val) (m i : ℕ) (xs : List (v.Desc (List ℕ))) → u ≡ of (out x c m i) → xs ≡ map R (refs c) → t.Each (λ d. t.In (held_name d) given_names) xs
+    refs_brought : (x : List ℕ) (c : s.Val) (m i : ℕ) (xs : List (v.Desc (List ℕ))) → u ≡ of (out x c m i) → xs ≡ map R (refs c)
+        → t.Each (λ d. t.In (held_name d) given_names) xs
     refs_brought x c m i xs e q = subst (t.Each (λ d. t.In (held_name d) given_names)) (sym q) (all (refs c) (λ d j. j))
       where
         are : waits ≡ n.distinct_refs c
@@ -346,20 +368,30 @@ module _ (digest : List ℕ → List ℕ) (job : s.Job) (gives : Gives) where
 
         all : (ds : List s.Desc) → ((d : s.Desc) → t.In d ds → t.In d (refs c)) → t.Each (λ d. t.In (held_name d) given_names) (map R ds)
         all [] g = tt
-        all (d ∷ ds) g =
-            (in_from (S.job.name d) given_names (wait_brought d (subst (In d) (sym are) (in_to d (n.distinct_refs c) (in_distinct (λ y z. true) (λ y z k. absurd y) (λ y. absurd y) (refs c) d (g d (inl refl)))))), all ds (λ y j. g y (inr j)))
+        all (d ∷ ds) g = (
+          in_from (S.job.name d) given_names (wait_brought d
+              (subst (In d) (sym are) (in_to d (n.distinct_refs c)
+              (in_distinct (λ y z. true) (λ y z k. absurd y) (λ y. absurd y) (refs c) d (g d (inl refl)))))),
+          all ds (λ y j. g y (inr j)),
+        )
 
     can_begin : (e : Desc1) (d : s.Desc) → u ≡ of d → desc_view e ≡ S.lower d → is_input e ≡ false → CanBegin job.script given_names e
     can_begin (Desc1.Call g c vs) (call k y z) own q i =
         let a : g ≡ k = cc in
         let x : c ≡ low_pairs no_name tag y = cc in
         let l : vs ≡ low_vals no_name tag z = cc in
-        subst (λ m. CanStart job.script m c vs) (sym a) (subst (λ m. CanStart job.script k m vs) (sym x) (subst (λ m. CanStart job.script k (low_pairs no_name tag y) m) (sym l) (can_start tag job.script k y z (subst (λ m. SoundTask job.script (back m)) own sound_task))))
+        subst (λ m. CanStart job.script m c vs) (sym a)
+        (subst (λ m. CanStart job.script k m vs) (sym x)
+        (subst (λ m. CanStart job.script k (low_pairs no_name tag y) m) (sym l)
+        (can_start tag job.script k y z (subst (λ m. SoundTask job.script (back m)) own sound_task))))
     can_begin (Desc1.Exec g c m_ l) (out k y m i_) own q i =
         let a : l ≡ i_ = cc in
         let x : view c ≡ low no_name tag y = cc in
-        let h = subst (λ z. SoundTask job.script (back z)) own sound_task in
-        (a ∙ first_index k y m i_ (base.own digest job gives orderly hs b sound f u r w (out k y m i_) own), subst Kept (sym x) (sound_low no_name tag job.script y (h.1, h.2)).0, refs_brought k y m i_ (refs (view c)) own (ap refs x ∙ refs_low no_name tag y))
+        let h = subst (λ z. SoundTask job.script (back z)) own sound_task in (
+          a ∙ first_index k y m i_ (base.own digest job gives orderly hs b sound f u r w (out k y m i_) own),
+          subst Kept (sym x) (sound_low no_name tag job.script y (h.1, h.2)).0,
+          refs_brought k y m i_ (refs (view c)) own (ap refs x ∙ refs_low no_name tag y),
+        )
     can_begin (Desc1.Input k) d own q i = cc
     can_begin (Desc1.Call g c vs) (out k y m i_) own q i = cc
     can_begin (Desc1.Call g c vs) (input k) own q i = cc
@@ -382,19 +414,23 @@ module _ (digest : List ℕ → List ℕ) (job : s.Job) (gives : Gives) where
     shows_main : (x : Task s.Desc) → u ≡ x → from ≡ 0 → (main : Digest) → main ≡ X.main → ShowsIn main given_names (task_id S.job x)
     shows_main show e start main q =
         let are : waits ≡ s.main_call ∷ [] = show_waits from waits start (subst (λ y. n.WaitOf job around (back y) from waits) e real_wait) in
-        subst (λ m. t.In m given_names) (sym (q ∙ order.main)) (in_from (S.job.name s.main_call) given_names (wait_brought s.main_call (subst (In s.main_call) (sym are) (inl refl))))
+        subst (λ m. t.In m given_names) (sym (q ∙ order.main))
+        (in_from (S.job.name s.main_call) given_names (wait_brought s.main_call (subst (In s.main_call) (sym are) (inl refl))))
     shows_main (of d) e start main q = tt
 
     -- what a stack at the order's wait is
     abbrev StackFits : Stand (List ℕ) → Type 0
-    StackFits z = Fits job.script z × OfKind (task_id S.job u) z × (stand_wait z ≡ from) × t.Each (λ d. t.In (held_name d) given_names) (pending_in same_text z)
+    StackFits z = Fits job.script z × OfKind (task_id S.job u) z × (stand_wait z ≡ from)
+        × t.Each (λ d. t.In (held_name d) given_names) (pending_in same_text z)
 
     stack_fits : (z : Stand (List ℕ)) → Stands job around tag z (back u) from → StackFits z
     stack_fits z st = (
-      subst (Fits job.script) (sym st.2) (stands_fits tag job around (base.reads digest job gives orderly) (back u) from st.0 waits sound_task st.1 real_wait),
+      subst (Fits job.script) (sym st.2) (stands_fits tag job around (base.reads digest job gives orderly) (back u) from st.0 waits sound_task
+          st.1 real_wait),
       subst (OfKind (task_id S.job u)) (sym st.2) (of_kind u from st.0 st.1),
       stands_wait_is job around tag z (back u) from st,
-      subst (t.Each (λ d. t.In (held_name d) given_names)) (sym (stands_pending tag job around z (back u) from waits st real_wait waits_apart)) (all (distinct (λ x y. true) waits) (λ d i. distinct_in (λ x y. true) (λ x y k. absurd x) (λ x. absurd x) waits d i)),
+      subst (t.Each (λ d. t.In (held_name d) given_names)) (sym (stands_pending tag job around z (back u) from waits st real_wait waits_apart))
+          (all (distinct (λ x y. true) waits) (λ d i. distinct_in (λ x y. true) (λ x y k. absurd x) (λ x. absurd x) waits d i)),
     )
       where
         all : (ds : List s.Desc) → ((d : s.Desc) → t.In d ds → t.In d waits) → t.Each (λ d. t.In (held_name d) given_names) (map R ds)
@@ -406,12 +442,14 @@ module _ (digest : List ℕ → List ℕ) (job : s.Job) (gives : Gives) where
     state_block : (x : rust.Block) → (k : ℕ) × (S.state k u from ≡ Some (shop.block_view x)) → HasStack StackFits x
     state_block x (k, e) = go (n.stands_at job around k (back u) from) refl e
       where
-        block : (y : rust.Block) (a : n.State) → n.stands_at job around k (back u) from ≡ Some a → shop.Block.stack (state_by_names digest a) ≡ shop.block_view y → HasStack StackFits y
+        block : (y : rust.Block) (a : n.State) → n.stands_at job around k (back u) from ≡ Some a → shop.Block.stack (state_by_names digest a)
+            ≡ shop.block_view y → HasStack StackFits y
         block (rust.Block.Object o) a q g = cc
         block (rust.Block.Frozen z) a q g =
             let same : z ≡ low_state tag a = cc in stack_fits z (a, (k, q), same)
 
-        go : (o : Option n.State) → n.stands_at job around k (back u) from ≡ o → option_map (λ a. shop.Block.stack (state_by_names digest a)) o ≡ Some (shop.block_view x) → HasStack StackFits x
+        go : (o : Option n.State) → n.stands_at job around k (back u) from ≡ o → option_map (λ a. shop.Block.stack (state_by_names digest a)) o
+            ≡ Some (shop.block_view x) → HasStack StackFits x
         go None q g = absurd (none_some (shop.block_view x) g)
         go (Some a) q g = block x a q (some_is (shop.Block.stack (state_by_names digest a)) (shop.block_view x) g)
 
@@ -422,33 +460,52 @@ module _ (digest : List ℕ → List ℕ) (job : s.Job) (gives : Gives) where
       where
         both : BothWaits S is (last_save S.job u (standing S.job hs).saves) (last_wait (task_id S.job u) b.table)
         both =
-            holding.last_is S is (standing S.job hs) (base.inf digest job gives orderly hs b sound f) (base.apart digest job gives orderly hs b sound f) (base.made digest job gives orderly hs b sound f) b sound f.stands u (base.booked digest job gives orderly hs b sound f u r w)
+            holding.last_is S is (standing S.job hs) (base.inf digest job gives orderly hs b sound f)
+            (base.apart digest job gives orderly hs b sound f) (base.made digest job gives orderly hs b sound f) b sound f.stands u
+            (base.booked digest job gives orderly hs b sound f u r w)
 
         -- each once, of booked descriptions
         once : (ds : List s.Desc) → ((d : s.Desc) → t.In d ds → In d (standing S.job hs).book) → Once (map S.job.name (distinct (λ x y. true) ds))
         once ds booked =
-            names_once S.job.name (distinct (λ x y. true) ds) (distinct_apart (λ x y. true) (λ x y k. absurd x) (λ x. absurd x) ds) (λ d e i j q. base.booked_apart digest job gives orderly hs b sound f ds booked d e (distinct_in (λ x y. true) (λ x y k. absurd x) (λ x. absurd x) ds d i) (distinct_in (λ x y. true) (λ x y k. absurd x) (λ x. absurd x) ds e j) q)
+            names_once S.job.name (distinct (λ x y. true) ds) (distinct_apart (λ x y. true) (λ x y k. absurd x) (λ x. absurd x) ds)
+            (λ d e i j q. base.booked_apart digest job gives orderly hs b sound f ds booked d e
+            (distinct_in (λ x y. true) (λ x y k. absurd x) (λ x. absurd x) ds d i)
+            (distinct_in (λ x y. true) (λ x y k. absurd x) (λ x. absurd x) ds e j) q)
 
         first : (x : Task s.Desc) → u ≡ x → Once (first_held b.main b.table (task_id S.job x))
         first show e = ((λ i. i), tt)
         first (of d) e =
             let i = subst (λ y. In (own_name S.job y) (standing S.job hs).book) e (base.booked digest job gives orderly hs b sound f u r w) in
-            let q = holding.row_of S is (standing S.job hs) (base.inf digest job gives orderly hs b sound f) (base.apart digest job gives orderly hs b sound f) (base.made digest job gives orderly hs b sound f) b sound f.stands d i in
-            let within : (y : s.Desc) → In y (inside d) → In y (standing S.job hs).book = λ y j. each_of (λ z. In z (standing S.job hs).book) y (inside d) j ((base.inf digest job gives orderly hs b sound f).whole d i).0 in
-            subst (λ o. Once (option_map_or (λ (y : Row P). start_refs y.desc) o [])) (sym q.1) (subst Once (sym (start_names digest q.0.desc d q.2.spells (λ x y j k g. (base.apart digest job gives orderly hs b sound f) x y (within x j) (within y k) g))) (once (inside d) (λ y j. within y (in_to y (inside d) j))))
+            let q = holding.row_of S is (standing S.job hs) (base.inf digest job gives orderly hs b sound f)
+            (base.apart digest job gives orderly hs b sound f) (base.made digest job gives orderly hs b sound f) b sound f.stands d i in
+            let within : (y : s.Desc) → In y (inside d) → In y (standing S.job hs).book =
+            λ y j. each_of (λ z. In z (standing S.job hs).book) y (inside d) j
+            ((base.inf digest job gives orderly hs b sound f).whole d i).0 in
+            subst (λ o. Once (option_map_or (λ (y : Row P). start_refs y.desc) o [])) (sym q.1)
+            (subst Once (sym (start_names digest q.0.desc d q.2.spells
+            (λ x y j k g. (base.apart digest job gives orderly hs b sound f) x y (within x j) (within y k) g)))
+            (once (inside d) (λ y j. within y (in_to y (inside d) j))))
 
         -- the state there
         saved : (q : Save s.Desc) → last_save S.job u (standing S.job hs).saves ≡ Some q → Once (map S.job.name q.holds)
         saved q e =
-            let mine = starting.last_own S is (standing S.job hs) (base.inf digest job gives orderly hs b sound f) (base.apart digest job gives orderly hs b sound f) (base.made digest job gives orderly hs b sound f) (base.traced digest job gives orderly hs b sound f) b sound f.stands u q e in
+            let mine = starting.last_own S is (standing S.job hs) (base.inf digest job gives orderly hs b sound f)
+            (base.apart digest job gives orderly hs b sound f) (base.made digest job gives orderly hs b sound f)
+            (base.traced digest job gives orderly hs b sound f) b sound f.stands u q e in
             let told = base.traced digest job gives orderly hs b sound f q mine.0 in
-            let there : (d : s.Desc) → t.In d q.holds → In d (standing S.job hs).book = λ d i. each_of (λ z. In z (standing S.job hs).book) d q.holds (in_to d q.holds i) (saved_booked S.job is.laws S.inner is.knows b.plan hs f.lawful q mine.0).1 in
+            let there : (d : s.Desc) → t.In d q.holds → In d (standing S.job hs).book =
+            λ d i. each_of (λ z. In z (standing S.job hs).book) d q.holds (in_to d q.holds i)
+            (saved_booked S.job is.laws S.inner is.knows b.plan hs f.lawful q mine.0).1 in
             state q there q.task told.2 told.3
           where
-            state : (q : Save s.Desc) → ((d : s.Desc) → t.In d q.holds → In d (standing S.job hs).book) → (y : Task s.Desc) (mark : Digest) → StateOf S.job y q.j (record { names = q.holds; mark = mark }) → Once (map S.job.name q.holds)
-            state q there y mark st = names_once S.job.name q.holds (base.held_apart digest job gives orderly y st.0 q.j (record { names = q.holds; mark = mark }) st.1) (λ d e i j g. (base.apart digest job gives orderly hs b sound f) d e (there d i) (there e j) g)
+            state : (q : Save s.Desc) → ((d : s.Desc) → t.In d q.holds → In d (standing S.job hs).book) → (y : Task s.Desc) (mark : Digest)
+                → StateOf S.job y q.j (record { names = q.holds; mark = mark }) → Once (map S.job.name q.holds)
+            state q there y mark st = names_once S.job.name q.holds
+                (base.held_apart digest job gives orderly y st.0 q.j (record { names = q.holds; mark = mark }) st.1)
+                (λ d e i j g. (base.apart digest job gives orderly hs b sound f) d e (there d i) (there e j) g)
 
-        go : (x : Option (Save s.Desc)) (y : Option (Wait P)) → last_save S.job u (standing S.job hs).saves ≡ x → BothWaits S is x y → Once (held_at b.main b.table y (task_id S.job u))
+        go : (x : Option (Save s.Desc)) (y : Option (Wait P)) → last_save S.job u (standing S.job hs).saves ≡ x → BothWaits S is x y
+            → Once (held_at b.main b.table y (task_id S.job u))
         go None None e k = first u refl
         go None (Some q) e k = absurd k
         go (Some q) None e k = absurd k
@@ -466,34 +523,44 @@ module _ (digest : List ℕ → List ℕ) (job : s.Job) (gives : Gives) where
     -- the spot of each that is brought along
     module _ (shelves : ShelvesSeen) (places : PlacesOf shelves b.table) (keyed : length job.inputs ≡ length job.script.keys) where
       -- where the object of a description lies it is sound
-      object_sound : (x : rust.Block) (d : s.Desc) → SoundDesc job.script d → (k : ℕ) × (S.object k d ≡ Some (shop.block_view x)) → orders.HasObject job.script x
+      object_sound : (x : rust.Block) (d : s.Desc) → SoundDesc job.script d → (k : ℕ) × (S.object k d ≡ Some (shop.block_view x))
+          → orders.HasObject job.script x
       object_sound x d h (k, e) = go (s.see job around k d) refl e
         where
-          block : (y : rust.Block) (o : s.Obj) → s.see job around k d ≡ Some o → shop.Block.object (object_by_names digest o) ≡ shop.block_view y → orders.HasObject job.script y
+          block : (y : rust.Block) (o : s.Obj) → s.see job around k d ≡ Some o → shop.Block.object (object_by_names digest o) ≡ shop.block_view y
+              → orders.HasObject job.script y
           block (rust.Block.Object a) o q g =
               let same : object_view a ≡ low_obj no_name tag o = cc in
-              subst (SoundObject job.script) (sym same) (sound_object tag job.script o (see_sound job around (base.reads digest job gives orderly) k d o h q))
+              subst (SoundObject job.script) (sym same)
+              (sound_object tag job.script o (see_sound job around (base.reads digest job gives orderly) k d o h q))
           block (rust.Block.Frozen z) o q g = cc
 
-          go : (o : Option s.Obj) → s.see job around k d ≡ o → option_map (λ y. shop.Block.object (object_by_names digest y)) o ≡ Some (shop.block_view x) → orders.HasObject job.script x
+          go : (o : Option s.Obj) → s.see job around k d ≡ o → option_map (λ y. shop.Block.object (object_by_names digest y)) o
+              ≡ Some (shop.block_view x) → orders.HasObject job.script x
           go None q g = absurd (none_some (shop.block_view x) g)
           go (Some o) q g = block x o q (some_is (shop.Block.object (object_by_names digest o)) (shop.block_view x) g)
 
-      input_spot : (z : given.Spot) (k : List ℕ) (m : ℕ) → key_number job.script.keys k ≡ Some m → Spot.input m ≡ spot_view z → SpotSound shelves job.script (length job.inputs) z
+      input_spot : (z : given.Spot) (k : List ℕ) (m : ℕ) → key_number job.script.keys k ≡ Some m → Spot.input m ≡ spot_view z
+          → SpotSound shelves job.script (length job.inputs) z
       input_spot (given.Spot.Input l) k m q g =
           let same : m ≡ l = cc in
           let lt : m < length job.script.keys = number_below job.script.keys k m q in
           omega (arith, keyed, same, lt)
       input_spot (given.Spot.Shelf p) k m q g = cc
 
-      shelf_spot : (z : given.Spot) (p : P) (d : s.Desc) → HeldAt S.job u from d → HasObject S p d → ((q : P) → spot_view z ≡ shelf q → IsPlaceOf shelves q) → shelf p ≡ spot_view z → SpotSound shelves job.script (length job.inputs) z
+      shelf_spot : (z : given.Spot) (p : P) (d : s.Desc) → HeldAt S.job u from d → HasObject S p d
+          → ((q : P) → spot_view z ≡ shelf q → IsPlaceOf shelves q) → shelf p ≡ spot_view z → SpotSound shelves job.script (length job.inputs) z
       shelf_spot (given.Spot.Input l) p d k has at_ g = cc
       shelf_spot (given.Spot.Shelf q) p d k has at_ g =
-          let same : p ≡ q = cc in
-          (at_ q refl, object_sound q.at.value d (base.book_sound digest job gives orderly hs b sound f d (base.held_booked digest job gives orderly hs b sound f u r w d k)) (subst (λ z. HasObject S z d) same has))
+          let same : p ≡ q = cc in (
+            at_ q refl,
+            object_sound q.at.value d (base.book_sound digest job gives orderly hs b sound f d
+                (base.held_booked digest job gives orderly hs b sound f u r w d k)) (subst (λ z. HasObject S z d) same has),
+          )
 
       -- the spot of what is held
-      spot_of_held : (y : HeldOf) → ((p : P) → spot_view y.at ≡ shelf p → IsPlaceOf shelves p) → (d : s.Desc) → HeldAt S.job u from d → spot_of (S.job.name d) X.inputs ≡ Some (spot_view y.at) → SpotSound shelves job.script (length job.inputs) y.at
+      spot_of_held : (y : HeldOf) → ((p : P) → spot_view y.at ≡ shelf p → IsPlaceOf shelves p) → (d : s.Desc) → HeldAt S.job u from d
+          → spot_of (S.job.name d) X.inputs ≡ Some (spot_view y.at) → SpotSound shelves job.script (length job.inputs) y.at
       spot_of_held y place d k there = go (S.job.task_of d) (order.inputs d k)
         where
           fetched : (o : Option ℕ) → FetchedAt S d o (spot_of (S.job.name d) X.inputs) → SpotSound shelves job.script (length job.inputs) y.at
@@ -501,18 +568,23 @@ module _ (digest : List ℕ → List ℕ) (job : s.Job) (gives : Gives) where
           fetched (Some m) (p, found, here, has) =
               shelf_spot y.at p d k has place (some_is (shelf p) (spot_view y.at) (sym found ∙ there))
 
-          go : (o : Option (Task s.Desc)) → BroughtFor S begun d o (spot_of (S.job.name d) X.inputs) → SpotSound shelves job.script (length job.inputs) y.at
+          go : (o : Option (Task s.Desc)) → BroughtFor S begun d o (spot_of (S.job.name d) X.inputs)
+              → SpotSound shelves job.script (length job.inputs) y.at
           go None (key, m, low_, number, found) =
               input_spot y.at key m number (some_is (Spot.input m) (spot_view y.at) (sym found ∙ there))
           go (Some x) g = fetched (worker_for S.job w ((standing S.job hs).places d)) g
 
-      spot_sound : (y : HeldOf) → In y.name given_names → spot_of y.name X.inputs ≡ Some (spot_view y.at) → ((p : P) → spot_view y.at ≡ shelf p → IsPlaceOf shelves p) → SpotSound shelves job.script (length job.inputs) y.at
+      spot_sound : (y : HeldOf) → In y.name given_names → spot_of y.name X.inputs ≡ Some (spot_view y.at)
+          → ((p : P) → spot_view y.at ≡ shelf p → IsPlaceOf shelves p) → SpotSound shelves job.script (length job.inputs) y.at
       spot_sound y i e place =
           let only = order.only y.name i in
           spot_of_held y place only.0 only.1 (ap (λ m. spot_of m X.inputs) (sym only.2) ∙ e)
 
       -- each of the list
-      spots_sound : (ys : List HeldOf) → Found X.inputs (map brought_view ys) → t.Each (λ (z : Brought P). In z.name given_names) (map brought_view ys) → t.Each (ShelfHas (λ p. IsPlaceOf shelves p)) (map brought_view ys) → t.Each (λ (y : HeldOf). SpotSound shelves job.script (length job.inputs) y.at) ys
+      spots_sound : (ys : List HeldOf) → Found X.inputs (map brought_view ys)
+          → t.Each (λ (z : Brought P). In z.name given_names) (map brought_view ys)
+          → t.Each (ShelfHas (λ p. IsPlaceOf shelves p)) (map brought_view ys)
+          → t.Each (λ (y : HeldOf). SpotSound shelves job.script (length job.inputs) y.at) ys
       spots_sound [] g i h = tt
       spots_sound (y ∷ ys) g i h = (spot_sound y i.0 g.0 h.0, spots_sound ys g.1 i.1 h.1)
 
@@ -524,12 +596,17 @@ module _ (digest : List ℕ → List ℕ) (job : s.Job) (gives : Gives) where
         where
           both : BothWaits S is (last_save S.job u (standing S.job hs).saves) (Some q)
           both =
-              subst (BothWaits S is (last_save S.job u (standing S.job hs).saves)) e (holding.last_is S is (standing S.job hs) (base.inf digest job gives orderly hs b sound f) (base.apart digest job gives orderly hs b sound f) (base.made digest job gives orderly hs b sound f) b sound f.stands u (base.booked digest job gives orderly hs b sound f u r w))
+              subst (BothWaits S is (last_save S.job u (standing S.job hs).saves)) e
+              (holding.last_is S is (standing S.job hs) (base.inf digest job gives orderly hs b sound f)
+              (base.apart digest job gives orderly hs b sound f) (base.made digest job gives orderly hs b sound f) b sound f.stands u
+              (base.booked digest job gives orderly hs b sound f u r w))
 
           go : (x : Option (Save s.Desc)) → last_save S.job u (standing S.job hs).saves ≡ x → BothWaits S is x (Some q) → ⊥
           go None g k = k
           go (Some y) g k =
-              let mine = starting.last_own S is (standing S.job hs) (base.inf digest job gives orderly hs b sound f) (base.apart digest job gives orderly hs b sound f) (base.made digest job gives orderly hs b sound f) (base.traced digest job gives orderly hs b sound f) b sound f.stands u y g in
+              let mine = starting.last_own S is (standing S.job hs) (base.inf digest job gives orderly hs b sound f)
+              (base.apart digest job gives orderly hs b sound f) (base.made digest job gives orderly hs b sound f)
+              (base.traced digest job gives orderly hs b sound f) b sound f.stands u y g in
               let lt = save_behind S.job is.laws b.plan hs f.lawful y mine.0 in
               let same = k.j in
               omega (arith, lt, same, z)
@@ -555,16 +632,30 @@ module _ (digest : List ℕ → List ℕ) (job : s.Job) (gives : Gives) where
           record { place = place_of_wait q g; stack = has q.place.at.value (state_block q.place.at.value (order.state q.place (ap stack_at g))) },
         )
           where
-            has : (x : rust.Block) → orders.HasStack StackFits x → orders.HasStack (λ z. Fits job.script z × OfKind y.task z × (stand_wait z ≡ y.from) × t.Each (λ d. t.In (held_name d) (names_in y.inputs.items)) (pending_in same_text z)) x
+            has : (x : rust.Block) → orders.HasStack StackFits x
+                → orders.HasStack (λ z. Fits job.script z × OfKind y.task z × (stand_wait z ≡ y.from)
+                × t.Each (λ d. t.In (held_name d) (names_in y.inputs.items)) (pending_in same_text z)) x
             has (rust.Block.Object o) h = absurd h
-            has (rust.Block.Frozen z) h = (h.0, subst (λ k. OfKind k z) (sym task_is) h.1, h.2 ∙ sym from_order, subst (λ ns. t.Each (λ d. t.In (held_name d) ns) (pending_in same_text z)) (sym (names_are y e)) h.3)
+            has (rust.Block.Frozen z) h = (
+              h.0,
+              subst (λ k. OfKind k z) (sym task_is) h.1,
+              h.2 ∙ sym from_order,
+              subst (λ ns. t.Each (λ d. t.In (held_name d) ns) (pending_in same_text z)) (sym (names_are y e)) h.3,
+            )
 
         pub order_sound : OrderSound digest shelves job.script (length job.inputs) y
         order_sound =
             record {
               worker = let same : y.worker ≡ w = ap (λ (z : board.Order P). z.out.worker) e in omega (arith, same, below, workers);
-              describes = subst (λ ns. Describes digest job.script ns y.task y.desc) (sym (names_are y e)) (subst (λ k. Describes digest job.script given_names k y.desc) (sym task_is) (subst (Describes digest job.script given_names (task_id S.job u)) (sym (ap (λ (z : board.Order P). z.desc) e)) (describes u refl X.desc order.desc)));
-              saved = subst (orders.Saved shelves job.script y) (sym (ap (λ (z : board.Order P). z.stack) e)) (saved_sound (last_wait (task_id S.job u) b.table) refl);
-              spots = spots_sound y.inputs.items (subst (Found X.inputs) (sym (inputs_are y e)) (all_found X.inputs given_once)) (subst (t.Each (λ (z : Brought P). In z.name given_names)) (sym (inputs_are y e)) (all_named X.inputs X.inputs (λ m i. i))) (subst (t.Each (ShelfHas (λ p. IsPlaceOf shelves p))) (sym (inputs_are y e)) (brought_has (λ p. IsPlaceOf shelves p) b.keys w b.table (board.held b.main b.table (task_id S.job u)) places.rows));
+              describes = subst (λ ns. Describes digest job.script ns y.task y.desc) (sym (names_are y e))
+                  (subst (λ k. Describes digest job.script given_names k y.desc) (sym task_is)
+                  (subst (Describes digest job.script given_names (task_id S.job u)) (sym (ap (λ (z : board.Order P). z.desc) e))
+                  (describes u refl X.desc order.desc)));
+              saved = subst (orders.Saved shelves job.script y) (sym (ap (λ (z : board.Order P). z.stack) e))
+                  (saved_sound (last_wait (task_id S.job u) b.table) refl);
+              spots = spots_sound y.inputs.items (subst (Found X.inputs) (sym (inputs_are y e)) (all_found X.inputs given_once))
+                  (subst (t.Each (λ (z : Brought P). In z.name given_names)) (sym (inputs_are y e)) (all_named X.inputs X.inputs (λ m i. i)))
+                  (subst (t.Each (ShelfHas (λ p. IsPlaceOf shelves p))) (sym (inputs_are y e))
+                  (brought_has (λ p. IsPlaceOf shelves p) b.keys w b.table (board.held b.main b.table (task_id S.job u)) places.rows));
               distinct = subst (IsDistinct same_text) (sym (names_are y e)) (once_distinct given_names given_once);
             }

@@ -37,7 +37,8 @@ module _ {P : Type 0} where
   spot_named n [] u e = absurd (none_some u e)
   spot_named n (x ∷ xs) u e = go (same_text n x.name) refl e (spot_named n xs u)
     where
-      go : (b : Bool) → same_text n x.name ≡ b → cond b (Some x.spot) (spot_of n xs) ≡ Some u → (spot_of n xs ≡ Some u → In n (brought_names xs)) → In n (x.name ∷ brought_names xs)
+      go : (b : Bool) → same_text n x.name ≡ b → cond b (Some x.spot) (spot_of n xs) ≡ Some u → (spot_of n xs ≡ Some u → In n (brought_names xs))
+          → In n (x.name ∷ brought_names xs)
       go true q g rest = inl (exact_text n x.name q)
       go false q g rest = inr (rest g)
 
@@ -48,8 +49,10 @@ module _ {P : Type 0} where
 
   found_more : (y : Brought P) (all xs : List (Brought P)) → (In y.name (brought_names xs) → ⊥) → Found all xs → Found (y ∷ all) xs
   found_more y all [] h f = tt
-  found_more y all (x ∷ xs) h f =
-      (ap (λ b. cond b (Some y.spot) (spot_of x.name all)) (other_text x.name y.name (λ e. h (inl (sym e)))) ∙ f.0, found_more y all xs (λ i. h (inr i)) f.1)
+  found_more y all (x ∷ xs) h f = (
+    ap (λ b. cond b (Some y.spot) (spot_of x.name all)) (other_text x.name y.name (λ e. h (inl (sym e)))) ∙ f.0,
+    found_more y all xs (λ i. h (inr i)) f.1,
+  )
 
   pub all_found : (xs : List (Brought P)) → Once (brought_names xs) → Found xs xs
   all_found [] o = tt

@@ -1,5 +1,6 @@
 -- The state from which the task of an order goes on is the task's at the order's wait, where the order is that of an open Start.
-use Rattle.std.proofs.Common.{◌≡◌, ◌≤◌, ◌<◌, ℕ, zero, suc, List, [], ◌∷◌, length, map, Bool, true, false, Option, Some, None, nat_le, leb-false, inl, refl, sym, ap, subst, ◌∙◌, arith}
+use Rattle.std.proofs.Common.{◌≡◌, ◌≤◌, ◌<◌, ℕ, zero, suc, List, [], ◌∷◌, length, map, Bool, true, false, Option, Some, None, nat_le, leb-false, inl}
+use Rattle.std.proofs.Common.{refl, sym, ap, subst, ◌∙◌, arith}
 use Rattle.std.specs.Option.{option_map}
 use Rattle.sha1.specs.Sha1.{sha1}
 use Rattle.sky_base.specs.KitView.{Gives}
@@ -69,7 +70,8 @@ few_waves k h = go (nat_le k most_waves) refl
     go false e = absurd (omega (arith, h, leb-false k most_waves e))
 
 module _ (job : s.Job) (around : s.Around) (tag : Tag) (sc : Script) where
-  wave_waits : (k i : ℕ) (a : n.State) (x : Stand (List ℕ)) (o : Option s.Val) → wave job around k (suc i) ≡ o → wave_state (suc i) o ≡ Some a → x ≡ low_state tag a → Fits sc x → (ds : List s.Desc) × WaitOf job around n.Task.show (suc i) ds
+  wave_waits : (k i : ℕ) (a : n.State) (x : Stand (List ℕ)) (o : Option s.Val) → wave job around k (suc i) ≡ o → wave_state (suc i) o ≡ Some a
+      → x ≡ low_state tag a → Fits sc x → (ds : List s.Desc) × WaitOf job around n.Task.show (suc i) ds
   wave_waits k i a x None w e is fits = absurd (none_not e)
   wave_waits k i a x (Some u) w e is fits =
       let at : x ≡ Stand.show_at (low no_name tag u) (suc i) = is ∙ ap (low_state tag) (sym (some_is (n.State.show_at u (suc i)) a e)) in
@@ -78,22 +80,27 @@ module _ (job : s.Job) (around : s.Around) (tag : Tag) (sc : Script) where
       let all = listed (distinct_refs u) first.0 (in_distinct (λ (y z : ⊥). true) (λ y z q. absurd y) (λ y. absurd y) (refs u) first.0 first.1) in
       (all.0, (k, ap (λ b. only_if b (wave_refs (wave job around k (suc i)))) (few_waves (suc i) f.wave) ∙ ap wave_refs w ∙ all.1))
 
-  halt_waits : (k i : ℕ) (f : List ℕ) (c : s.Pairs) (vs : s.Vals) (a : n.State) (o : Option (Halt ⊥)) → halt (see job around k) i (run_of job around f c vs) ≡ o → halt_state f (suc i) o ≡ Some a → (ds : List s.Desc) × WaitOf job around (n.Task.of (call f c vs)) (suc i) ds
+  halt_waits : (k i : ℕ) (f : List ℕ) (c : s.Pairs) (vs : s.Vals) (a : n.State) (o : Option (Halt ⊥))
+      → halt (see job around k) i (run_of job around f c vs) ≡ o → halt_state f (suc i) o ≡ Some a → (ds : List s.Desc)
+      × WaitOf job around (n.Task.of (call f c vs)) (suc i) ds
   halt_waits k i f c vs a None w e = absurd (none_not e)
   halt_waits k i f c vs a (Some h) w e = (refs_of h.wait, (k, ap halt_refs w))
 
-  pub stands_waiting : (u : n.Task) (i k : ℕ) (a : n.State) (x : Stand (List ℕ)) → stands_at job around k u i ≡ Some a → x ≡ low_state tag a → Fits sc x → (ds : List s.Desc) × WaitOf job around u i ds
+  pub stands_waiting : (u : n.Task) (i k : ℕ) (a : n.State) (x : Stand (List ℕ)) → stands_at job around k u i ≡ Some a → x ≡ low_state tag a
+      → Fits sc x → (ds : List s.Desc) × WaitOf job around u i ds
   stands_waiting n.Task.show zero k a x e is fits = (main_call ∷ [], (0, refl))
   stands_waiting n.Task.show (suc i) k a x e is fits = wave_waits k i a x (wave job around k (suc i)) refl e is fits
   stands_waiting (n.Task.of (call f c vs)) zero k a x e is fits = ([], (0, refl))
-  stands_waiting (n.Task.of (call f c vs)) (suc i) k a x e is fits = halt_waits k i f c vs a (halt (see job around k) i (run_of job around f c vs)) refl e
+  stands_waiting (n.Task.of (call f c vs)) (suc i) k a x e is fits =
+      halt_waits k i f c vs a (halt (see job around k) i (run_of job around f c vs)) refl e
   stands_waiting (n.Task.of (out y z m l)) i k a x e is fits = absurd (none_not e)
   stands_waiting (n.Task.of (input y)) i k a x e is fits = absurd (none_not e)
   stands_waiting (n.Task.of (known y)) i k a x e is fits = absurd y
 
 -- ---- the order's wait
 
-module _ (digest : List ℕ → List ℕ) (job : s.Job) (gives : Gives) (o : OpenStart s.Desc) (order : Order) (is : OrderIs (shop_setting digest job gives) o (order_view order)) (x : Stand (List ℕ)) (b : BeginsAt job.script order x) where
+module _ (digest : List ℕ → List ℕ) (job : s.Job) (gives : Gives) (o : OpenStart s.Desc) (order : Order)
+    (is : OrderIs (shop_setting digest job gives) o (order_view order)) (x : Stand (List ℕ)) (b : BeginsAt job.script order x) where
   abbrev S : Setting s.Desc P shop.Block
   S = shop_setting digest job gives
 
@@ -113,17 +120,22 @@ module _ (digest : List ℕ → List ℕ) (job : s.Job) (gives : Gives) (o : Ope
       h : HasState S p o.task o.from
       h = is.state p saved
 
-      go : (y : Option n.State) → stands_at job around h.0 (back o.task) o.from ≡ y → option_map (λ a. shop.Block.stack (state_by_names digest a)) y ≡ Some (block_view p.at.value) → Stands job around tag x (back o.task) o.from
+      go : (y : Option n.State) → stands_at job around h.0 (back o.task) o.from ≡ y
+          → option_map (λ a. shop.Block.stack (state_by_names digest a)) y ≡ Some (block_view p.at.value)
+          → Stands job around tag x (back o.task) o.from
       go None e q = absurd (none_not q)
       go (Some a) e q =
-          let there : shop.Block.stack (low_state tag a) ≡ shop.Block.stack x = some_is (shop.Block.stack (low_state tag a)) (block_view p.at.value) q ∙ ap block_view at in
+          let there : shop.Block.stack (low_state tag a) ≡ shop.Block.stack x =
+          some_is (shop.Block.stack (low_state tag a)) (block_view p.at.value) q ∙ ap block_view at in
           (a, (h.0, e), sym (stack_is (low_state tag a) x there))
 
   -- from its start
-  call_is : (f g : List ℕ) (c : v.Pairs (List ℕ)) (vs : v.Vals (List ℕ)) (d : s.Pairs) (us : s.Vals) → call f c vs ≡ call g (low_pairs no_name tag d) (low_vals no_name tag us) → (f ≡ g) × (c ≡ low_pairs no_name tag d) × (vs ≡ low_vals no_name tag us)
+  call_is : (f g : List ℕ) (c : v.Pairs (List ℕ)) (vs : v.Vals (List ℕ)) (d : s.Pairs) (us : s.Vals) → call f c vs
+      ≡ call g (low_pairs no_name tag d) (low_vals no_name tag us) → (f ≡ g) × (c ≡ low_pairs no_name tag d) × (vs ≡ low_vals no_name tag us)
   call_is f g c vs d us e = (cc, cc, cc)
 
-  called : (f : List ℕ) (c : v.Pairs (List ℕ)) (vs : v.Vals (List ℕ)) (d : s.Desc) → call f c vs ≡ low_desc no_name tag d → StandsForCall job.script f c vs x → Stands job around tag x (n.Task.of d) 0
+  called : (f : List ℕ) (c : v.Pairs (List ℕ)) (vs : v.Vals (List ℕ)) (d : s.Desc) → call f c vs ≡ low_desc no_name tag d
+      → StandsForCall job.script f c vs x → Stands job around tag x (n.Task.of d) 0
   called f c vs (call g e us) q st =
       let same = call_is f g c vs e us q in
       subst (λ h. Stands job around tag x (n.Task.of (call h e us)) 0) same.0 (st tag job around e us refl same.1 same.2)
@@ -158,7 +170,8 @@ module _ (digest : List ℕ → List ℕ) (job : s.Job) (gives : Gives) (o : Ope
       go (Some p) e h = from_stack p e h
 
   -- a run of the order may begin from there
-  pub begins : InputsInOrder job → FirstApart S.job S.inner o → Begins tag (λ y. sha1 (object_bytes y)) (λ a. sha1 (frozen_bytes a)) job around o (lies_known job.inputs order.inputs.items) x
+  pub begins : InputsInOrder job → FirstApart S.job S.inner o
+      → Begins tag (λ y. sha1 (object_bytes y)) (λ a. sha1 (frozen_bytes a)) job around o (lies_known job.inputs order.inputs.items) x
   begins keyed apart = record {
     brings = order_brings digest job gives keyed o order is;
     stands = stands;

@@ -37,17 +37,20 @@ module _ {N : Type 0} where
       right (inl j) = inl j
       right (inr j) = inr (behind d (refs w) (pairs_refs ps) j)
 
-      later : (In d (refs w) ⊎ In d (pairs_refs (put x v ps))) → (In d (pairs_refs (put x v ps)) → In d (refs v) ⊎ In d (pairs_refs ps)) → In d (refs v) ⊎ In d (refs w ++ pairs_refs ps)
+      later : (In d (refs w) ⊎ In d (pairs_refs (put x v ps))) → (In d (pairs_refs (put x v ps)) → In d (refs v) ⊎ In d (pairs_refs ps))
+          → In d (refs v) ⊎ In d (refs w ++ pairs_refs ps)
       later (inl j) r = inr (in_front d (refs w) (pairs_refs ps) j)
       later (inr j) r = right (r j)
 
-      pick : (o : Ordering) → In d (pairs_refs (match_ordering o (pair x v (pair l w ps)) (pair l v ps) (pair l w (put x v ps)))) → (In d (pairs_refs (put x v ps)) → In d (refs v) ⊎ In d (pairs_refs ps)) → In d (refs v) ⊎ In d (refs w ++ pairs_refs ps)
+      pick : (o : Ordering) → In d (pairs_refs (match_ordering o (pair x v (pair l w ps)) (pair l v ps) (pair l w (put x v ps))))
+          → (In d (pairs_refs (put x v ps)) → In d (refs v) ⊎ In d (pairs_refs ps)) → In d (refs v) ⊎ In d (refs w ++ pairs_refs ps)
       pick Ordering.Less j r = in_join d (refs v) (refs w ++ pairs_refs ps) j
       pick Ordering.Equal j r = right (in_join d (refs v) (pairs_refs ps) j)
       pick Ordering.Greater j r = later (in_join d (refs w) (pairs_refs (put x v ps)) j) r
 
   -- all parameters
-  pub bound_from : (xs : List (List ℕ)) (vs : Vals N) (ps : Pairs N) (d : Desc N) → In d (pairs_refs (bind xs vs ps)) → In d (vals_refs vs) ⊎ In d (pairs_refs ps)
+  pub bound_from : (xs : List (List ℕ)) (vs : Vals N) (ps : Pairs N) (d : Desc N) → In d (pairs_refs (bind xs vs ps)) → In d (vals_refs vs)
+      ⊎ In d (pairs_refs ps)
   bound_from [] vs ps d i = inr i
   bound_from (x ∷ xs) no_vals ps d i = inr i
   bound_from (x ∷ xs) (val v vs) ps d i = pick (bound_from xs vs (put x v ps) d i)

@@ -15,7 +15,8 @@ use Rattle.ciel_reports.specs.Report as report
 use Rattle.ciel_reports.specs.Report.{Clear, ClashAmong, IsMissing, Met, Or, Report, at_first, brought, held_then, made_then, report_of}
 use Rattle.ciel_walks.specs.Laws.{SaysAnd, to_end, to_wait}
 
-module _ {D B : Type 0} (job : Job D) (laws : IsJob job) (inner : Inner D) (knows : Knows job inner) (lower : D → B) (p : Plan) (h : List (Event D)) (lawful : Lawful job p h) where
+module _ {D B : Type 0} (job : Job D) (laws : IsJob job) (inner : Inner D) (knows : Knows job inner) (lower : D → B) (p : Plan)
+    (h : List (Event D)) (lawful : Lawful job p h) where
   abbrev v : Standing D
   v = standing job h
 
@@ -45,7 +46,8 @@ module _ {D B : Type 0} (job : Job D) (laws : IsJob job) (inner : Inner D) (know
     met_booked d (at_first (brought e n g i)) = live_carried job laws inner knows v.book o known e g.1 n d i
 
     -- what is made is clear where it stands in a book beside that in which no two share a name
-    clear_of : (L : List D) → NoClash job L → (met : D → Type 0) (ds : List D) → ((d : D) → met d → In d L) → ((d : D) → In d ds → In d L) → Clear job inner lower met ds
+    clear_of : (L : List D) → NoClash job L → (met : D → Type 0) (ds : List D) → ((d : D) → met d → In d L) → ((d : D) → In d ds → In d L)
+        → Clear job inner lower met ds
     clear_of L apart met [] f g = tt
     clear_of L apart met (d ∷ ds) f g = (none, clear_of L apart (Or job inner lower met d) ds more (λ e i. g e (inr i)))
       where
@@ -58,7 +60,8 @@ module _ {D B : Type 0} (job : Job D) (laws : IsJob job) (inner : Inner D) (know
 
     clear : (ds : List D) → NoClash job (learned job v.book ds) → Clear job inner lower (Met job inner lower o) ds
     clear ds apart =
-        clear_of (learned job v.book ds) apart (Met job inner lower o) ds (λ d m. learned_in job laws v.book ds d (met_booked d m)) (λ d i. learned_has job laws v.book ds d i)
+        clear_of (learned job v.book ds) apart (Met job inner lower o) ds (λ d m. learned_in job laws v.book ds d (met_booked d m))
+        (λ d i. learned_has job laws v.book ds d i)
 
     some_is : (a b : OpenStart D) → Some a ≡ Some b → a ≡ b
     some_is a b e = cc
@@ -67,19 +70,27 @@ module _ {D B : Type 0} (job : Job D) (laws : IsJob job) (inner : Inner D) (know
       same_order : (n : ℕ) (x : OpenStart D) → n ≡ k → find_open job n v.orders ≡ Some x → x ≡ o
       same_order n x e f = some_is x o (sym f ∙ ap (λ m. find_open job m v.orders) e ∙ opened)
 
-      from_done : (n : ℕ) (objects : List (D × Digest)) (copied spawned : List D) → n ≡ k → (find_open job n v.orders ≡ Some o) → DoneAllowed job o objects copied spawned → NoClash job (after job v (done n objects copied spawned)).book → SaysAnd job inner lower o r Q → Q
+      from_done : (n : ℕ) (objects : List (D × Digest)) (copied spawned : List D) → n ≡ k → (find_open job n v.orders ≡ Some o)
+          → DoneAllowed job o objects copied spawned → NoClash job (after job v (done n objects copied spawned)).book
+          → SaysAnd job inner lower o r Q → Q
       from_done n objects copied spawned e f a apart (to_end ds nx sp tl g) =
           let same : ds ≡ spawned = spawned_end_unique job laws o ds spawned sp a.spawns in
-          let book : (after job v (done n objects copied spawned)).book ≡ learned job v.book spawned = ap (λ (z : Standing D). z.book) (after_done job laws v n objects copied spawned o f) in
+          let book : (after job v (done n objects copied spawned)).book ≡ learned job v.book spawned =
+          ap (λ (z : Standing D). z.book) (after_done job laws v n objects copied spawned o f) in
           (g (clear ds (subst (λ z. NoClash job (learned job v.book z)) (sym same) (subst (NoClash job) book apart)))).1
-      from_done n objects copied spawned e f a apart (to_wait i rs ds nx sp tl g) = absurd (not_end job laws (Given job o) o.task o.from i rs a.next nx)
+      from_done n objects copied spawned e f a apart (to_wait i rs ds nx sp tl g) =
+          absurd (not_end job laws (Given job o) o.task o.from i rs a.next nx)
 
-      from_saved : (n j : ℕ) (mark : Digest) (refs holds spawned : List D) → n ≡ k → (find_open job n v.orders ≡ Some o) → SavedAllowed job o j mark refs holds spawned → NoClash job (after job v (saved n j mark refs holds spawned)).book → SaysAnd job inner lower o r Q → Q
-      from_saved n j mark refs holds spawned e f a apart (to_end ds nx sp tl g) = absurd (not_end job laws (Given job o) o.task o.from j refs nx a.next)
+      from_saved : (n j : ℕ) (mark : Digest) (refs holds spawned : List D) → n ≡ k → (find_open job n v.orders ≡ Some o)
+          → SavedAllowed job o j mark refs holds spawned → NoClash job (after job v (saved n j mark refs holds spawned)).book
+          → SaysAnd job inner lower o r Q → Q
+      from_saved n j mark refs holds spawned e f a apart (to_end ds nx sp tl g) =
+          absurd (not_end job laws (Given job o) o.task o.from j refs nx a.next)
       from_saved n j mark refs holds spawned e f a apart (to_wait i rs ds nx sp tl g) =
           let at : j ≡ i = one_wait job laws (Given job o) o.task o.from j i refs rs a.next nx in
           let same : ds ≡ spawned = spawned_to_unique job laws o i ds spawned nx.later sp (subst (λ z. SpawnedTo job o z spawned) at a.spawns) in
-          let book : (after job v (saved n j mark refs holds spawned)).book ≡ learned job v.book spawned = ap (λ (z : Standing D). z.book) (after_saved job laws v n j mark refs holds spawned o f) in
+          let book : (after job v (saved n j mark refs holds spawned)).book ≡ learned job v.book spawned =
+          ap (λ (z : Standing D). z.book) (after_saved job laws v n j mark refs holds spawned o f) in
           (g (clear ds (subst (λ z. NoClash job (learned job v.book z)) (sym same) (subst (NoClash job) book apart)))).1
 
       report_is : (a b : Report B) → Some a ≡ Some b → a ≡ b
@@ -89,7 +100,8 @@ module _ {D B : Type 0} (job : Job D) (laws : IsJob job) (inner : Inner D) (know
       none_some e = cc
 
       -- where an event that the report tells is allowed, and no name stands for two descriptions of the book then, it holds too
-      pub truly : SaysAnd job inner lower o r Q → (e : Event D) → report_of job inner lower e ≡ Some r → Allowed job p v e → NoClash job (after job v e).book → Q
+      pub truly : SaysAnd job inner lower o r Q → (e : Event D) → report_of job inner lower e ≡ Some r → Allowed job p v e
+          → NoClash job (after job v e).book → Q
       truly says (start n w t from) q a apart = absurd (none_some q)
       truly says (lost w n) q a apart = absurd (none_some q)
       truly says (missed n d loss) q a apart =

@@ -1,5 +1,6 @@
 -- The report of a run fits its order, in each state of a master whose table has rows for the names of the order.
-use Rattle.std.proofs.Common.{◌≡◌, ◌<◌, ℕ, suc, List, [], ◌∷◌, ◌++◌, map, append_assoc, length, Bool, true, false, cond, Option, Some, None, IsSome, ◌⊎◌, inl, inr, refl, sym, ap, subst, ◌∙◌, slice_get, arith}
+use Rattle.std.proofs.Common.{◌≡◌, ◌<◌, ℕ, suc, List, [], ◌∷◌, ◌++◌, map, append_assoc, length, Bool, true, false, cond, Option, Some, None, IsSome}
+use Rattle.std.proofs.Common.{◌⊎◌, inl, inr, refl, sym, ap, subst, ◌∙◌, slice_get, arith}
 use Rattle.std.specs.List.{IsDistinct}
 use Rattle.std.specs.Option.{option_map}
 use Rattle.std.proofs.lemmas.List.{append-nil, map-append}
@@ -77,7 +78,8 @@ module _ (t : TableSeen P) where
   all_known [] f = tt
   all_known (d ∷ ds) f = (f d (inl refl), all_known ds (λ e i. f e (inr i)))
 
-  pub once_known : (ds : List (Desc (List ℕ))) → ((d : Desc (List ℕ)) → In d ds → Known t (held_name d)) → AllKnown t (names_of (distinct same_text ds))
+  pub once_known : (ds : List (Desc (List ℕ))) → ((d : Desc (List ℕ)) → In d ds → Known t (held_name d))
+      → AllKnown t (names_of (distinct same_text ds))
   once_known ds f = all_known (distinct same_text ds) (λ d i. f d (distinct_in same_text exact_text self_text ds d i))
 
   pub known_in : (ds : List (Desc (List ℕ))) (d : Desc (List ℕ)) → AllKnown t (map held_name ds) → In d ds → Known t (held_name d)
@@ -103,7 +105,8 @@ last_place [] r = go (same_text r.name r.name) (self_text r.name)
     go false e = cc
 last_place (x ∷ rs) r = go (same_text r.name x.name) (place_of row_name r.name (rs ++ r ∷ [])) refl (last_place rs r)
   where
-    go : (b : Bool) (o : Option ℕ) → place_of row_name r.name (rs ++ r ∷ []) ≡ o → IsSome (place_of row_name r.name (rs ++ r ∷ [])) → IsSome (cond b (Some 0) (option_map suc o))
+    go : (b : Bool) (o : Option ℕ) → place_of row_name r.name (rs ++ r ∷ []) ≡ o → IsSome (place_of row_name r.name (rs ++ r ∷ []))
+        → IsSome (cond b (Some 0) (option_map suc o))
     go true o e h = refl
     go false (Some i) e h = refl
     go false None e h = subst IsSome e h
@@ -126,7 +129,9 @@ all_learned digest (n ∷ ns) t =
 
 -- ---- the order
 
-module _ (digest : List ℕ → List ℕ) (shelves : ShelvesSeen) (sc : Script) (inputs : List (List ℕ × List ℕ)) (order : Order) (x : Stand (List ℕ)) (b : BeginsAt sc order x) (sound : OrderSound digest shelves sc (length inputs) order) (state : HasState order.desc) (r : rust.Report) (w : Went digest shelves sc inputs order x r) (t0 : TableSeen P) (rows : HasRows digest t0 order) where
+module _ (digest : List ℕ → List ℕ) (shelves : ShelvesSeen) (sc : Script) (inputs : List (List ℕ × List ℕ)) (order : Order) (x : Stand (List ℕ))
+    (b : BeginsAt sc order x) (sound : OrderSound digest shelves sc (length inputs) order) (state : HasState order.desc) (r : rust.Report)
+    (w : Went digest shelves sc inputs order x r) (t0 : TableSeen P) (rows : HasRows digest t0 order) where
   abbrev items : List Named
   items = r.spawned.items
 
@@ -141,7 +146,8 @@ module _ (digest : List ℕ → List ℕ) (shelves : ShelvesSeen) (sc : Script) 
 
   -- ---- what is known from the beginning
 
-  main_known : (task : TaskId) (desc : Option Desc1) → Describes digest sc (names_in order.inputs.items) task desc → desc ≡ None → ShowsMain order task → Known t0 order.main
+  main_known : (task : TaskId) (desc : Option Desc1) → Describes digest sc (names_in order.inputs.items) task desc → desc ≡ None
+      → ShowsMain order task → Known t0 order.main
   main_known TaskId.Show desc h e main = known_of t0 (names_in order.inputs.items) order.main rows.brought main
   main_known (TaskId.Of n) None h e main = absurd h
   main_known (TaskId.Of n) (Some d) h e main = absurd (none_not (sym e))
@@ -150,7 +156,9 @@ module _ (digest : List ℕ → List ℕ) (shelves : ShelvesSeen) (sc : Script) 
   saved_main None e q h = h.1
   saved_main (Some p) e q h = absurd (none_not (sym q))
 
-  call_known : (f : List ℕ) (c : Pairs (List ℕ)) (vs : Vals (List ℕ)) (o : Option Body) → StartsIn o f c vs x → AllKnown t0 (names_of (distinct same_text (pairs_refs c ++ vals_refs vs))) → (d : Desc (List ℕ)) → In d (all_refs x) → Known t0 (held_name d)
+  call_known : (f : List ℕ) (c : Pairs (List ℕ)) (vs : Vals (List ℕ)) (o : Option Body) → StartsIn o f c vs x
+      → AllKnown t0 (names_of (distinct same_text (pairs_refs c ++ vals_refs vs))) → (d : Desc (List ℕ)) → In d (all_refs x)
+      → Known t0 (held_name d)
   call_known f c vs None s a d i = absurd s
   call_known f c vs (Some y) s a d i = arg (bound_from y.params vs c d (first (pairs_refs (bind y.params vs c)) (subst (λ z. In d (all_refs z)) s i)))
     where
@@ -169,11 +177,13 @@ module _ (digest : List ℕ → List ℕ) (shelves : ShelvesSeen) (sc : Script) 
       arg (inl k) = one_known (pairs_refs c ++ vals_refs vs) a (behind d (pairs_refs c) (vals_refs vs) k)
       arg (inr k) = one_known (pairs_refs c ++ vals_refs vs) a (in_front d (pairs_refs c) (vals_refs vs) k)
 
-  start_known : (desc : Option Desc1) → order.desc ≡ desc → order.saved ≡ None → IsStartOf sc order.main desc x → (d : Desc (List ℕ)) → In d (all_refs x) → Known t0 (held_name d)
+  start_known : (desc : Option Desc1) → order.desc ≡ desc → order.saved ≡ None → IsStartOf sc order.main desc x → (d : Desc (List ℕ))
+      → In d (all_refs x) → Known t0 (held_name d)
   start_known None e q s d i = go (subst (λ z. In d (all_refs z)) s.0 i)
     where
       go : In d (known order.main ∷ []) → Known t0 (held_name d)
-      go (inl same) = subst (λ z. Known t0 (held_name z)) (sym same) (main_known order.task order.desc sound.describes e (saved_main order.saved refl q sound.saved))
+      go (inl same) = subst (λ z. Known t0 (held_name z)) (sym same)
+          (main_known order.task order.desc sound.describes e (saved_main order.saved refl q sound.saved))
       go (inr i) = absurd i
   start_known (Some (Desc1.Call f c vs)) e q s d i = call_known f c vs (body_of f sc) s.0 (subst (InsideKnown t0) e rows.inside) d i
   start_known (Some (Desc1.Exec y z m k)) e q s d i = absurd s
@@ -188,11 +198,13 @@ module _ (digest : List ℕ → List ℕ) (shelves : ShelvesSeen) (sc : Script) 
       go (Some p) e h k = known_in t0 (all_refs x) d (subst (λ z. AllKnown t0 (map held_name (block_refs z))) h k) i
 
   -- and so has what an object refers to that is brought along
-  object_known : (n : List ℕ) (o : Object (List ℕ)) → lies_of inputs order.inputs.items n ≡ Some o → (d : Desc (List ℕ)) → In d (object_refs o) → Known t0 (held_name d)
+  object_known : (n : List ℕ) (o : Object (List ℕ)) → lies_of inputs order.inputs.items n ≡ Some o → (d : Desc (List ℕ)) → In d (object_refs o)
+      → Known t0 (held_name d)
   object_known n o e d i = go (found name_of_held n order.inputs.items) refl
     where
       of_block : (z : Block) → object_in z ≡ Some o → AllKnown t0 (map held_name (block_refs z)) → Known t0 (held_name d)
-      of_block (Block.Object y) q a = known_in t0 (object_refs (object_view y)) d a (subst (λ z. In d (object_refs z)) (sym (some_is (object_view y) o q)) i)
+      of_block (Block.Object y) q a = known_in t0 (object_refs (object_view y)) d a
+          (subst (λ z. In d (object_refs z)) (sym (some_is (object_view y) o q)) i)
       of_block (Block.Frozen s) q a = absurd (none_not q)
 
       of_input : (y : Option (List ℕ × List ℕ)) → option_map (λ (z : List ℕ × List ℕ). Object.bytes z.1) y ≡ Some o → Known t0 (held_name d)
@@ -205,7 +217,8 @@ module _ (digest : List ℕ → List ℕ) (shelves : ShelvesSeen) (sc : Script) 
 
       go : (y : Option Held) → found name_of_held n order.inputs.items ≡ y → Known t0 (held_name d)
       go None f = absurd (none_not (sym (lies_none shelves sc inputs order.inputs.items n f) ∙ e))
-      go (Some h) f = of_spot h.at (sym (lies_found shelves sc inputs order.inputs.items n h f) ∙ e) (each_found name_of_held (λ (g : Held). SpotKnown t0 g.at) n order.inputs.items h rows.carried f)
+      go (Some h) f = of_spot h.at (sym (lies_found shelves sc inputs order.inputs.items n h f) ∙ e)
+          (each_found name_of_held (λ (g : Held). SpotKnown t0 g.at) n order.inputs.items h rows.carried f)
 
   base_known : (d : Desc (List ℕ)) → CameFrom (brings digest shelves sc inputs order) x d → Known t0 (held_name d)
   base_known d (inl i) = state_known d i
@@ -238,11 +251,13 @@ module _ (digest : List ℕ → List ℕ) (shelves : ShelvesSeen) (sc : Script) 
   known_made = same_made digest items w.knows.made w.knows.grew
 
   -- what is known by its name has a row
-  knows_known : (earlier : List (Desc (List ℕ))) → ((m : Desc (List ℕ)) → In m earlier → In m views) → (d : Desc (List ℕ)) → Knows digest (CameFrom (brings digest shelves sc inputs order) x) earlier d → Known t (held_name d)
+  knows_known : (earlier : List (Desc (List ℕ))) → ((m : Desc (List ℕ)) → In m earlier → In m views) → (d : Desc (List ℕ))
+      → Knows digest (CameFrom (brings digest shelves sc inputs order) x) earlier d → Known t (held_name d)
   knows_known earlier sub d (inl h) = more (held_name d) (base_known d h)
   knows_known earlier sub d (inr i) = go earlier sub i
     where
-      go : (ms : List (Desc (List ℕ))) → ((m : Desc (List ℕ)) → In m ms → In m views) → In d (map (λ m. known (digested digest m)) ms) → Known t (held_name d)
+      go : (ms : List (Desc (List ℕ))) → ((m : Desc (List ℕ)) → In m ms → In m views) → In d (map (λ m. known (digested digest m)) ms)
+          → Known t (held_name d)
       go [] sub i = absurd i
       go (m ∷ ms) sub (inl e) = subst (λ z. Known t (held_name z)) (sym e) (spawned_known m (sub m (inl refl)))
       go (m ∷ ms) sub (inr i) = go ms (λ y k. sub y (inr k)) i
@@ -255,8 +270,12 @@ module _ (digest : List ℕ → List ℕ) (shelves : ShelvesSeen) (sc : Script) 
 
   inside_from : (before after : List Named) → items ≡ before ++ after → Each (λ (n : Named). AllKnown t (start_refs n.desc)) after
   inside_from before [] e = tt
-  inside_from before (n ∷ after) e =
-      (refs_start n.desc (λ d i. knows_known (map named_view before) sub d (in_each (Knows digest (CameFrom (brings digest shelves sc inputs order) x) (map named_view before)) (inside_refs (named_view n)) d (w.knows.within (map named_view before) (map named_view after) (named_view n) split) i)), inside_from (before ++ n ∷ []) after (e ∙ sym (append_assoc before (n ∷ []) after)))
+  inside_from before (n ∷ after) e = (
+    refs_start n.desc (λ d i. knows_known (map named_view before) sub d
+        (in_each (Knows digest (CameFrom (brings digest shelves sc inputs order) x) (map named_view before)) (inside_refs (named_view n)) d
+        (w.knows.within (map named_view before) (map named_view after) (named_view n) split) i)),
+    inside_from (before ++ n ∷ []) after (e ∙ sym (append_assoc before (n ∷ []) after)),
+  )
     where
       all_views : views ≡ map named_view before ++ named_view n ∷ map named_view after
       all_views = ap (map named_view) e ∙ map-append named_view before (n ∷ after)
@@ -281,10 +300,13 @@ module _ (digest : List ℕ → List ℕ) (shelves : ShelvesSeen) (sc : Script) 
   sound_made : Each (SoundDesc sc) views
   sound_made = subst (Each (SoundDesc sc)) (sym (same_made digest items w.sound.made w.sound.grew)) w.sound.sound
 
-  tasks_from : (ns : List Named) → ((n : Named) → In n ns → In (named_view n) views) → Each (λ (n : Named). Known t (digested digest (first_output (desc_view n.desc)))) ns
+  tasks_from : (ns : List Named) → ((n : Named) → In n ns → In (named_view n) views)
+      → Each (λ (n : Named). Known t (digested digest (first_output (desc_view n.desc)))) ns
   tasks_from [] f = tt
-  tasks_from (n ∷ ns) f =
-      (first_known (named_view n) (f n (inl refl)) (in_each (SoundDesc sc) views (named_view n) sound_made (f n (inl refl))), tasks_from ns (λ m i. f m (inr i)))
+  tasks_from (n ∷ ns) f = (
+    first_known (named_view n) (f n (inl refl)) (in_each (SoundDesc sc) views (named_view n) sound_made (f n (inl refl))),
+    tasks_from ns (λ m i. f m (inr i)),
+  )
 
   viewed : (n : Named) (ns : List Named) → In n ns → In (named_view n) (map named_view ns)
   viewed n [] i = absurd i
@@ -307,7 +329,8 @@ module _ (digest : List ℕ → List ℕ) (shelves : ShelvesSeen) (sc : Script) 
       no_root : TaskId.Show ≡ TaskId.Of n → ⊥
       no_root e = cc
 
-      go : (task : TaskId) (desc : Option Desc1) → task ≡ TaskId.Of n → HasState desc → Describes digest sc (names_in order.inputs.items) task desc → OutputsKnown digest t0 desc → Known t0 n
+      go : (task : TaskId) (desc : Option Desc1) → task ≡ TaskId.Of n → HasState desc
+          → Describes digest sc (names_in order.inputs.items) task desc → OutputsKnown digest t0 desc → Known t0 n
       go TaskId.Show desc e st h k = absurd (no_root e)
       go (TaskId.Of m) None e st h k = absurd h
       go (TaskId.Of m) (Some (Desc1.Call f c vs)) e st h k = subst (Known t0) (sym h.0 ∙ same m e) k
@@ -322,7 +345,8 @@ module _ (digest : List ℕ → List ℕ) (shelves : ShelvesSeen) (sc : Script) 
 
   top_all : (d : Desc (List ℕ)) (fs : List (Frame (List ℕ))) → In d (top_refs fs) → In d (frames_refs fs)
   top_all d [] i = i
-  top_all d (f ∷ []) i = in_front d (pairs_refs f.vars ++ stack_refs f.stack) [] (behind d (pairs_refs f.vars) (stack_refs f.stack) (last_all d f.stack i))
+  top_all d (f ∷ []) i = in_front d (pairs_refs f.vars ++ stack_refs f.stack) []
+      (behind d (pairs_refs f.vars) (stack_refs f.stack) (last_all d f.stack i))
   top_all d (f ∷ g ∷ fs) i = behind d (pairs_refs f.vars ++ stack_refs f.stack) (frames_refs (g ∷ fs)) (top_all d (g ∷ fs) i)
 
   waited_all : (d : Desc (List ℕ)) (s : Stand (List ℕ)) → In d (waited_refs s) → In d (all_refs s)
@@ -339,8 +363,10 @@ module _ (digest : List ℕ → List ℕ) (shelves : ShelvesSeen) (sc : Script) 
   made_views m i = subst (In m) (sym known_made) i
 
   -- what the state after it refers to has rows
-  left_known : (new : Stand (List ℕ)) → Each (Knows digest (CameFrom (brings digest shelves sc inputs order) x) w.knows.made) (all_refs new) → (d : Desc (List ℕ)) → In d (all_refs new) → Known t (held_name d)
-  left_known new h d i = knows_known w.knows.made made_views d (in_each (Knows digest (CameFrom (brings digest shelves sc inputs order) x) w.knows.made) (all_refs new) d h i)
+  left_known : (new : Stand (List ℕ)) → Each (Knows digest (CameFrom (brings digest shelves sc inputs order) x) w.knows.made) (all_refs new)
+      → (d : Desc (List ℕ)) → In d (all_refs new) → Known t (held_name d)
+  left_known new h d i = knows_known w.knows.made made_views d
+      (in_each (Knows digest (CameFrom (brings digest shelves sc inputs order) x) w.knows.made) (all_refs new) d h i)
 
   abbrev W : P → ℕ
   W p = p.worker
@@ -348,8 +374,12 @@ module _ (digest : List ℕ → List ℕ) (shelves : ShelvesSeen) (sc : Script) 
   brought_known : AllKnown t (names_in order.inputs.items)
   brought_known = all_more (Known t0) (Known t) more (names_in order.inputs.items) rows.brought
 
-  copied_fit : j.Each (CopyFits digest W t (order_view order)) (copies_view r.copied.items) × IsDistinct same_text (copy_names (copies_view r.copied.items))
-  copied_fit = (copies_fit digest shelves inputs order t r.copied.items w.copies.0 brought_known, subst (IsDistinct same_text) (sym (copies_named digest shelves inputs order r.copied.items w.copies.0)) w.copies.1)
+  copied_fit : j.Each (CopyFits digest W t (order_view order)) (copies_view r.copied.items)
+      × IsDistinct same_text (copy_names (copies_view r.copied.items))
+  copied_fit = (
+    copies_fit digest shelves inputs order t r.copied.items w.copies.0 brought_known,
+    subst (IsDistinct same_text) (sym (copies_named digest shelves inputs order r.copied.items w.copies.0)) w.copies.1,
+  )
 
   gone_wait : (s : Stand (List ℕ)) → gone_of s ≡ stand_wait s
   gone_wait (Stand.run q) = refl
@@ -369,9 +399,15 @@ module _ (digest : List ℕ → List ℕ) (shelves : ShelvesSeen) (sc : Script) 
       no : Step.Shown a ≡ Step.Waits → ⊥
       no q = cc
 
-  end_fits : (step : Step) (new : Stand (List ℕ)) (end : rust_end.End) → EndIs shelves order.worker order.task step new end → LeavesKnown digest (CameFrom (brings digest shelves sc inputs order) x) w.knows.made step new → Further x step new → EndFits digest W (order_view order) t (how_view r.copied.items end)
-  end_fits (Step.Ended obj) new (rust_end.End.Made ms) (m, one, k) leaves f =
-      (subst (λ xs. j.Each (OutputFits digest W t (order_view order)) (map output_view xs)) (sym one) (record { known = more m.name (task_known m.name k.name); here = k.lies.worker }, tt), copied_fit.0, copied_fit.1)
+  end_fits : (step : Step) (new : Stand (List ℕ)) (end : rust_end.End) → EndIs shelves order.worker order.task step new end
+      → LeavesKnown digest (CameFrom (brings digest shelves sc inputs order) x) w.knows.made step new → Further x step new
+      → EndFits digest W (order_view order) t (how_view r.copied.items end)
+  end_fits (Step.Ended obj) new (rust_end.End.Made ms) (m, one, k) leaves f = (
+    subst (λ xs. j.Each (OutputFits digest W t (order_view order)) (map output_view xs)) (sym one)
+        (record { known = more m.name (task_known m.name k.name); here = k.lies.worker }, tt),
+    copied_fit.0,
+    copied_fit.1,
+  )
   end_fits (Step.Ended obj) new (rust_end.End.Saved p i waited kept mk) k leaves f = absurd k
   end_fits (Step.Ended obj) new (rust_end.End.Shown a) k leaves f = absurd k
   end_fits (Step.Ended obj) new (rust_end.End.Missing nm loss seen) k leaves f = absurd k
@@ -394,15 +430,24 @@ module _ (digest : List ℕ → List ℕ) (shelves : ShelvesSeen) (sc : Script) 
   pub fits_in : FitsIn digest W (order_view order) t items (how_view r.copied.items r.end)
   fits_in = record {
     inside = to_journal (λ (n : Named). AllKnown t (start_refs n.desc)) items (inside_from [] items refl);
-    tasks = to_journal (λ (n : Named). Known t (digested digest (first_output (desc_view n.desc)))) items (tasks_from items (λ n i. viewed n items i));
+    tasks = to_journal (λ (n : Named). Known t (digested digest (first_output (desc_view n.desc)))) items
+        (tasks_from items (λ n i. viewed n items i));
     end = end_fits w.step w.new r.end w.end w.knows.leaves w.further;
   }
 
   -- each that is spawned has its name, and can be spelled
-  spelled_of : NamedUseNothing sc.funs → (ns : List Named) → ((n : Named) → In n ns → In (named_view n) views) → Each (λ (n : Named). n.name ≡ digested digest (named_view n)) ns → Each (λ (n : Named). DescTold (named_view n)) ns → j.Each (IsNamed digest) ns
+  spelled_of : NamedUseNothing sc.funs → (ns : List Named) → ((n : Named) → In n ns → In (named_view n) views)
+      → Each (λ (n : Named). n.name ≡ digested digest (named_view n)) ns → Each (λ (n : Named). DescTold (named_view n)) ns
+      → j.Each (IsNamed digest) ns
   spelled_of bare [] f names typed = tt
-  spelled_of bare (n ∷ ns) f names typed =
-      (record { name = names.0; spelled = sound_spelled sc bare (named_view n) typed.0.0 typed.0.1 (in_each (SoundDesc sc) views (named_view n) sound_made (f n (inl refl))) }, spelled_of bare ns (λ m i. f m (inr i)) names.1 typed.1)
+  spelled_of bare (n ∷ ns) f names typed = (
+    record {
+      name = names.0;
+      spelled = sound_spelled sc bare (named_view n) typed.0.0 typed.0.1
+          (in_each (SoundDesc sc) views (named_view n) sound_made (f n (inl refl)));
+    },
+    spelled_of bare ns (λ m i. f m (inr i)) names.1 typed.1,
+  )
 
   bare_script : IsRead sc → NamedUseNothing sc.funs
   bare_script (source, keys, is, few) = subst (λ (z : Script). NamedUseNothing z.funs) (sym is.4) (script_uses keys is.1)

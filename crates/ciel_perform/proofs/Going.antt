@@ -36,36 +36,77 @@ step_kind (TaskId.Of n) (Stand.show_at u i) new step k s = absurd k
 step_kind (TaskId.Of n) (Stand.run q) new (Step.Ended o) k s = tt
 step_kind (TaskId.Of n) (Stand.run q) new Step.Waits k s = tt
 
-module _ (digest : List ℕ → List ℕ) (shelves : ShelvesSeen) (sc : Script) (inputs : List (List ℕ × List ℕ)) (order : Order) (x new : Stand (List ℕ)) (r : Report) where
+module _ (digest : List ℕ → List ℕ) (shelves : ShelvesSeen) (sc : Script) (inputs : List (List ℕ × List ℕ)) (order : Order)
+    (x new : Stand (List ℕ)) (r : Report) where
   -- what is told of what was copied
   record Told (step : Step) (came : (n : List ℕ) → Type 0) : Type 0 where
     copies : Copies shelves order.worker inputs order.inputs.items r.copied.items
     asked : (n : List ℕ) → In n (names_in r.copied.items) → came n
     none : CopiesAt step r.copied.items
 
-  told : (step : Step) (cs : List Held) (came : (n : List ℕ) → Type 0) → r.copied.items ≡ told_copies step cs → Copies shelves order.worker inputs order.inputs.items cs → ((n : List ℕ) → In n (names_in cs) → came n) → Told step came
+  told : (step : Step) (cs : List Held) (came : (n : List ℕ) → Type 0) → r.copied.items ≡ told_copies step cs
+      → Copies shelves order.worker inputs order.inputs.items cs → ((n : List ℕ) → In n (names_in cs) → came n) → Told step came
   told (Step.Ended o) cs came e c f =
-      record { copies = subst (Copies shelves order.worker inputs order.inputs.items) (sym e) c; asked = λ n i. f n (subst (λ z. In n (names_in z)) e i); none = tt }
+      record {
+        copies = subst (Copies shelves order.worker inputs order.inputs.items) (sym e) c;
+        asked =
+            λ n i. f n (subst (λ z. In n (names_in z)) e i);
+        none = tt;
+      }
   told Step.Waits cs came e c f =
-      record { copies = subst (Copies shelves order.worker inputs order.inputs.items) (sym e) (tt, distinct_none same_text); asked = λ n i. absurd (subst (λ z. In n (names_in z)) e i); none = e }
+      record {
+        copies = subst (Copies shelves order.worker inputs order.inputs.items) (sym e) (tt, distinct_none same_text);
+        asked =
+            λ n i. absurd (subst (λ z. In n (names_in z)) e i);
+        none = e;
+      }
   told (Step.Shown a) cs came e c f =
-      record { copies = subst (Copies shelves order.worker inputs order.inputs.items) (sym e) c; asked = λ n i. f n (subst (λ z. In n (names_in z)) e i); none = tt }
+      record {
+        copies = subst (Copies shelves order.worker inputs order.inputs.items) (sym e) c;
+        asked =
+            λ n i. f n (subst (λ z. In n (names_in z)) e i);
+        none = tt;
+      }
 
-  pub went_of : (step : Step) (spawned : Spawned) (cs : List Held) → CameThrough digest shelves sc inputs order x new spawned step cs → CameSo shelves order step new spawned cs r → Went digest shelves sc inputs order x r
+  pub went_of : (step : Step) (spawned : Spawned) (cs : List Held) → CameThrough digest shelves sc inputs order x new spawned step cs
+      → CameSo shelves order step new spawned cs r → Went digest shelves sc inputs order x r
   went_of step spawned cs came so = go (subst (λ z. CameThrough digest shelves sc inputs order x new z step cs) (sym so.spawned) came)
     where
-      go : CameThrough digest shelves sc inputs order x new (spawned_in digest shelves sc inputs order r) step cs → Went digest shelves sc inputs order x r
+      go : CameThrough digest shelves sc inputs order x new (spawned_in digest shelves sc inputs order r) step cs
+          → Went digest shelves sc inputs order x r
       go c =
-          let z = told step cs (λ n. (q : Stand (List ℕ)) × PassedAt (brings digest shelves sc inputs order) digest sc x new step [] (spawned_in digest shelves sc inputs order r) c.through q × In (known n) (pending_in same_text q)) so.copied c.copies c.asked in
-          record { step = step; new = new; of = so.of; through = c.through; fits = c.fits; kind = c.kind; sound = c.sound; whole = c.whole; knows = c.knows; further = c.further; typed = so.typed; end = so.end; copies = z.copies; asked = z.asked; none = z.none }
+          let z = told step cs (λ n. (q : Stand (List ℕ))
+          × PassedAt (brings digest shelves sc inputs order) digest sc x new step [] (spawned_in digest shelves sc inputs order r) c.through
+          q × In (known n) (pending_in same_text q)) so.copied c.copies c.asked in
+          record {
+            step = step;
+            new = new;
+            of = so.of;
+            through = c.through;
+            fits = c.fits;
+            kind = c.kind;
+            sound = c.sound;
+            whole = c.whole;
+            knows = c.knows;
+            further = c.further;
+            typed = so.typed;
+            end = so.end;
+            copies = z.copies;
+            asked = z.asked;
+            none = z.none;
+          }
 
 -- ---- something was lost
 
-module _ (digest : List ℕ → List ℕ) (shelves : ShelvesSeen) (sc : Script) (inputs : List (List ℕ × List ℕ)) (order : Order) (r : Report) (loss : Loss) (old now : SeatSeen) (same : now ≡ old) where
+module _ (digest : List ℕ → List ℕ) (shelves : ShelvesSeen) (sc : Script) (inputs : List (List ℕ × List ℕ)) (order : Order) (r : Report)
+    (loss : Loss) (old now : SeatSeen) (same : now ≡ old) where
   -- what the order has of a name
-  pub ran_lost : (x : Stand (List ℕ)) → BeginsAt sc order x → (name : List ℕ) → IsLost order.inputs.items name loss old → TellsMissing order name loss old r → Ran digest shelves sc inputs order now r
+  pub ran_lost : (x : Stand (List ℕ)) → BeginsAt sc order x → (name : List ℕ) → IsLost order.inputs.items name loss old
+      → TellsMissing order name loss old r → Ran digest shelves sc inputs order now r
   ran_lost x b name l told = subst (λ z. Ran digest shelves sc inputs order z r) (sym same) (lost x b name loss l told)
 
   -- or its stack
-  pub ran_stack : (name : List ℕ) → name ≡ own_name digest (λ (p : P). p.worker) order.main order.task → StackIsLost order loss old → TellsMissing order name loss old r → Ran digest shelves sc inputs order now r
-  ran_stack name e l told = subst (λ z. Ran digest shelves sc inputs order z r) (sym same) (stack loss l (subst (λ n. TellsMissing order n loss old r) e told))
+  pub ran_stack : (name : List ℕ) → name ≡ own_name digest (λ (p : P). p.worker) order.main order.task → StackIsLost order loss old
+      → TellsMissing order name loss old r → Ran digest shelves sc inputs order now r
+  ran_stack name e l told = subst (λ z. Ran digest shelves sc inputs order z r) (sym same)
+      (stack loss l (subst (λ n. TellsMissing order n loss old r) e told))

@@ -33,28 +33,40 @@ use Rattle.ciel_perform.specs.Begins.{BeginsAt}
 use Rattle.ciel_perform.specs.Runs.{CameThrough, WentThrough, brings}
 
 -- the finder of what an order brings along, which is this list
-module _ (shelves : ShelvesSeen) (sc : Script) (inputs : List (List ℕ × List ℕ)) (order : Order) (spots : Each (λ (h : Held). SpotSound shelves sc (length inputs) h.at) order.inputs.items) (held : List Held) (same : held ≡ order.inputs.items) where
+module _ (shelves : ShelvesSeen) (sc : Script) (inputs : List (List ℕ × List ℕ)) (order : Order)
+    (spots : Each (λ (h : Held). SpotSound shelves sc (length inputs) h.at) order.inputs.items) (held : List Held)
+    (same : held ≡ order.inputs.items) where
   -- finds what is sound
   pub finds_sound : (code : Script) → code ≡ sc → FindsSound (lies_known inputs held) code
-  finds_sound code e = subst (FindsSound (lies_known inputs held)) (sym e) (subst (λ z. FindsSound (lies_known inputs z) sc) (sym same) (known_sound shelves sc inputs order.inputs.items spots))
+  finds_sound code e = subst (FindsSound (lies_known inputs held)) (sym e)
+      (subst (λ z. FindsSound (lies_known inputs z) sc) (sym same) (known_sound shelves sc inputs order.inputs.items spots))
 
   -- and all that its task waits for
   pub all_there : (x : Stand (List ℕ)) → BeginsAt sc order x → HasAll (lies_known inputs held) x
-  all_there x b = subst (λ z. HasAll (lies_known inputs z) x) (sym same) (λ n i. named_there shelves sc inputs order.inputs.items spots n (in_each (λ d. In (held_name d) (names_in order.inputs.items)) (pending_in same_text x) (known n) b.pending i))
+  all_there x b = subst (λ z. HasAll (lies_known inputs z) x) (sym same)
+      (λ n i. named_there shelves sc inputs order.inputs.items spots n
+      (in_each (λ d. In (held_name d) (names_in order.inputs.items)) (pending_in same_text x) (known n) b.pending i))
 
   -- it stands where nothing was copied yet
-  pub can_bring : (w : ℕ) → w < length shelves.rows → (places : BTreeMap (List ℕ) ℕ) → IsIndex name_of_held places held → (eye : SeatSeen) → eye.of ≡ shelves.of → (copied : Copied) → copied.items.items ≡ [] → IsIndex name_of_held copied.places [] → CanBring shelves w sc inputs held places eye copied
+  pub can_bring : (w : ℕ) → w < length shelves.rows → (places : BTreeMap (List ℕ) ℕ) → IsIndex name_of_held places held → (eye : SeatSeen)
+      → eye.of ≡ shelves.of → (copied : Copied) → copied.items.items ≡ [] → IsIndex name_of_held copied.places []
+      → CanBring shelves w sc inputs held places eye copied
   can_bring w worker places index eye of copied none empty = record {
     index = index;
     spots = subst (Each (λ (h : Held). SpotSound shelves sc (length inputs) h.at)) (sym same) spots;
     eye = of;
     worker = worker;
-    copied = record { copies = subst (Copies shelves w inputs held) (sym none) (tt, distinct_none same_text); places = subst (IsIndex name_of_held copied.places) (sym none) empty };
+    copied = record {
+      copies = subst (Copies shelves w inputs held) (sym none) (tt, distinct_none same_text);
+      places =
+          subst (IsIndex name_of_held copied.places) (sym none) empty;
+    };
   }
 
 module _ (digest : List ℕ → List ℕ) (x new : Stand (List ℕ)) (step : Step) (spawned : Spawned) where
   -- the run through what this finder has, for this script, on these shelves
-  pub record Gone (sc : Script) (inputs : List (List ℕ × List ℕ)) (held : List Held) (shelves : ShelvesSeen) (w : ℕ) (before : Spawned) (was is : List Held) : Type 0 where
+  pub record Gone (sc : Script) (inputs : List (List ℕ × List ℕ)) (held : List Held) (shelves : ShelvesSeen) (w : ℕ) (before : Spawned)
+      (was is : List Held) : Type 0 where
     pub asks : GoesAsking (lies_known inputs held) digest sc (λ n. In n (names_in was)) (λ n. In n (names_in is)) x new step before spawned
     pub fits : FitsAfter sc new step
     pub kind : SameKind x step new
@@ -65,7 +77,8 @@ module _ (digest : List ℕ → List ℕ) (x new : Stand (List ℕ)) (step : Ste
     pub copies : Copies shelves w inputs held is
 
   -- nothing was copied or spawned before
-  pub came_through : (sc : Script) (inputs : List (List ℕ × List ℕ)) (shelves : ShelvesSeen) (order : Order) (is : List Held) → Gone sc inputs order.inputs.items shelves order.worker [] [] is → CameThrough digest shelves sc inputs order x new spawned step is
+  pub came_through : (sc : Script) (inputs : List (List ℕ × List ℕ)) (shelves : ShelvesSeen) (order : Order) (is : List Held)
+      → Gone sc inputs order.inputs.items shelves order.worker [] [] is → CameThrough digest shelves sc inputs order x new spawned step is
   came_through sc inputs shelves order is g = record {
     through = g.asks.through;
     fits = g.fits;
@@ -78,18 +91,27 @@ module _ (digest : List ℕ → List ℕ) (x new : Stand (List ℕ)) (step : Ste
     asked = λ n i. late n (g.asks.asks n i);
   }
     where
-      late : (n : List ℕ) → (In n (names_in []) ⊎ ((q : Stand (List ℕ)) × PassedAt (brings digest shelves sc inputs order) digest sc x new step [] spawned g.asks.through q × In (known n) (pending_in same_text q))) → (q : Stand (List ℕ)) × PassedAt (brings digest shelves sc inputs order) digest sc x new step [] spawned g.asks.through q × In (known n) (pending_in same_text q)
+      late : (n : List ℕ) → (In n (names_in []) ⊎ ((q : Stand (List ℕ))
+          × PassedAt (brings digest shelves sc inputs order) digest sc x new step [] spawned g.asks.through q
+          × In (known n) (pending_in same_text q))) → (q : Stand (List ℕ))
+          × PassedAt (brings digest shelves sc inputs order) digest sc x new step [] spawned g.asks.through q
+          × In (known n) (pending_in same_text q)
       late n (inl i) = absurd i
       late n (inr p) = p
 
 -- of the same eye, with the same copied
-pub went_same : (digest : List ℕ → List ℕ) (shelves : ShelvesSeen) (sc : Script) (inputs : List (List ℕ × List ℕ)) (order : Order) (x new : Stand (List ℕ)) (spawned : Spawned) (eye now : SeatSeen) (r : Result Step Lost) (is to : List Held) → eye ≡ now → is ≡ to → WentThrough digest shelves sc inputs order x new spawned eye r is → WentThrough digest shelves sc inputs order x new spawned now r to
+pub went_same : (digest : List ℕ → List ℕ) (shelves : ShelvesSeen) (sc : Script) (inputs : List (List ℕ × List ℕ)) (order : Order)
+    (x new : Stand (List ℕ)) (spawned : Spawned) (eye now : SeatSeen) (r : Result Step Lost) (is to : List Held) → eye ≡ now → is ≡ to
+    → WentThrough digest shelves sc inputs order x new spawned eye r is → WentThrough digest shelves sc inputs order x new spawned now r to
 went_same digest shelves sc inputs order x new spawned eye now r is to e c w =
-    subst (λ z. WentThrough digest shelves sc inputs order x new spawned z r to) e (subst (WentThrough digest shelves sc inputs order x new spawned eye r) c w)
+    subst (λ z. WentThrough digest shelves sc inputs order x new spawned z r to) e
+    (subst (WentThrough digest shelves sc inputs order x new spawned eye r) c w)
 
 -- what the run says of a finder that is the same
-module _ (digest : List ℕ → List ℕ) (shelves : ShelvesSeen) (sc : Script) (inputs : List (List ℕ × List ℕ)) (order : Order) (x new : Stand (List ℕ)) (spawned : Spawned) (eye : SeatSeen) (is : List Held) where
-  pub passed : (r : Result Step Lost) → (code : Script) → code ≡ sc → (held : List Held) → held ≡ order.inputs.items → (before : Spawned) → before ≡ [] → (was : List Held) → was ≡ []
+module _ (digest : List ℕ → List ℕ) (shelves : ShelvesSeen) (sc : Script) (inputs : List (List ℕ × List ℕ)) (order : Order)
+    (x new : Stand (List ℕ)) (spawned : Spawned) (eye : SeatSeen) (is : List Held) where
+  pub passed : (r : Result Step Lost) → (code : Script) → code ≡ sc → (held : List Held) → held ≡ order.inputs.items → (before : Spawned)
+      → before ≡ [] → (was : List Held) → was ≡ []
       → (s t : Stays) → s ≡ t → t.shelves ≡ shelves → t.worker ≡ order.worker → t.inputs ≡ inputs → t.held ≡ held
       → Copies s.shelves s.worker s.inputs s.held is
       → IfErr r (λ l. IsLost s.held l.name l.loss eye)

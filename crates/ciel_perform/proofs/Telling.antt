@@ -102,9 +102,12 @@ module _ {D B : Type 0} (job : Job D) (inner : Inner D) (lower : D → B) (o : O
   stopped_too i ds (report.missing name loss) h = h
 
   -- where what is copied may be, once nothing that is made clashes, the report says so with the copies too
-  pub says_copied : (number : ℕ) (bs : List B) (e : End) (Q : Type 0) → (Q → CopiesAre) → SaysAnd job inner lower o (record { number = number; spawned = bs; end = e }) Q → SaysAnd job inner lower o (record { number = number; spawned = bs; end = with_copies names e }) Q
+  pub says_copied : (number : ℕ) (bs : List B) (e : End) (Q : Type 0) → (Q → CopiesAre)
+      → SaysAnd job inner lower o (record { number = number; spawned = bs; end = e }) Q
+      → SaysAnd job inner lower o (record { number = number; spawned = bs; end = with_copies names e }) Q
   says_copied number bs e Q f (to_end ds nx sp tl g) = to_end ds nx sp (spawns_too ds bs e tl) (λ k. (made_too e (f (g k).1) (g k).0, (g k).1))
-  says_copied number bs e Q f (to_wait i rs ds nx sp tl g) = to_wait i rs ds nx sp (spawns_too ds bs e tl) (λ k. (stopped_too i rs e (g k).0, (g k).1))
+  says_copied number bs e Q f (to_wait i rs ds nx sp tl g) =
+      to_wait i rs ds nx sp (spawns_too ds bs e tl) (λ k. (stopped_too i rs e (g k).0, (g k).1))
 
 -- ---- lists
 
@@ -114,7 +117,8 @@ in_mapped g (x ∷ xs) y (inl e) = (x, inl refl, e)
 in_mapped g (x ∷ xs) y (inr h) = let more = in_mapped g xs y h in (more.0, inr more.1, more.2)
 
 -- of different names the descriptions differ
-distinct_of : {D : Type 0} (same : D → D → Bool) (f : D → Digest) → ((a b : D) → same a b ≡ true → a ≡ b) → (ds : List D) → IsDistinct same_text (map f ds) → IsDistinct same ds
+distinct_of : {D : Type 0} (same : D → D → Bool) (f : D → Digest) → ((a b : D) → same a b ≡ true → a ≡ b) → (ds : List D)
+    → IsDistinct same_text (map f ds) → IsDistinct same ds
 unfolding IsDistinct
 distinct_of same f exact [] h = tt
 distinct_of same f exact (d ∷ ds) h = (apart ds h.0, distinct_of same f exact ds h.1)
@@ -132,7 +136,9 @@ distinct_of same f exact (d ∷ ds) h = (apart ds h.0, distinct_of same f exact 
 
 -- ---- what an order's run says
 
-module _ (digest : List ℕ → List ℕ) (job : s.Job) (gives : Gives) (keyed : InputsInOrder job) (o : OpenStart s.Desc) (order : Order) (is : OrderIs (shop_setting digest job gives) o (order_view order)) (x : Stand (List ℕ)) (b : BeginsAt job.script order x) (apart : FirstApart (shop_setting digest job gives).job (shop_setting digest job gives).inner o) where
+module _ (digest : List ℕ → List ℕ) (job : s.Job) (gives : Gives) (keyed : InputsInOrder job) (o : OpenStart s.Desc) (order : Order)
+    (is : OrderIs (shop_setting digest job gives) o (order_view order)) (x : Stand (List ℕ)) (b : BeginsAt job.script order x)
+    (apart : FirstApart (shop_setting digest job gives).job (shop_setting digest job gives).inner o) where
   abbrev S : Setting s.Desc P shop.Block
   S = shop_setting digest job gives
 
@@ -173,18 +179,36 @@ module _ (digest : List ℕ → List ℕ) (job : s.Job) (gives : Gives) (keyed :
 
   module _ (shelves : ShelvesSeen) (r : rust.Report) (w : Went digest shelves job.script job.inputs order x r) where
     pub said : SaysWhere digest mark frozen job around o brought x w.new w.step [] (spawned_in digest shelves job.script job.inputs order r) w.through
-    said = says_where digest mark frozen job around plain alike writes o brought x w.new w.step [] (spawned_in digest shelves job.script job.inputs order r) (begins digest job gives o order is x b keyed apart) w.through
+    said = says_where digest mark frozen job around plain alike writes o brought x w.new w.step []
+        (spawned_in digest shelves job.script job.inputs order r) (begins digest job gives o order is x b keyed apart) w.through
 
     abbrev Passed : Type 0
-    Passed = (q : Stand (List ℕ)) → PassedAt brought digest job.script x w.new w.step [] (spawned_in digest shelves job.script job.inputs order r) w.through q → WaitsAt tag mark frozen job around o q
+    Passed = (q : Stand (List ℕ)) → PassedAt brought digest job.script x w.new w.step []
+        (spawned_in digest shelves job.script job.inputs order r) w.through q → WaitsAt tag mark frozen job around o q
 
     -- ---- what was copied is what the task waited for
 
     module _ (passed : Passed) where
-      pub copy_of : (c : Held) → IsCopy shelves order.worker job.inputs order.inputs.items c → t.In c.name (names_in r.copied.items) → (d : s.Desc) × Copied J o d × (c.name ≡ J.name d)
-      copy_of c copy i = (back_to.0, ((at.j, at.ds, at.from, wait_from job around (name_of digest) (mark_of digest) (frozen_mark digest) o.task (one o.task o.from (stands digest job gives o order is x b)) at.j at.ds at.waits, in_to back_to.0 at.ds there), (copy_fetched digest job gives o order is shelves c copy back_to.0 given.0 named).0), named)
+      pub copy_of : (c : Held) → IsCopy shelves order.worker job.inputs order.inputs.items c → t.In c.name (names_in r.copied.items)
+          → (d : s.Desc) × Copied J o d × (c.name ≡ J.name d)
+      copy_of c copy i = (
+        back_to.0,
+        (
+          (
+            at.j,
+            at.ds,
+            at.from,
+            wait_from job around (name_of digest) (mark_of digest) (frozen_mark digest) o.task
+                (one o.task o.from (stands digest job gives o order is x b)) at.j at.ds at.waits,
+            in_to back_to.0 at.ds there,
+          ),
+          (copy_fetched digest job gives o order is shelves c copy back_to.0 given.0 named).0,
+        ),
+        named,
+      )
         where
-          asked : (q : Stand (List ℕ)) × PassedAt brought digest job.script x w.new w.step [] (spawned_in digest shelves job.script job.inputs order r) w.through q × t.In (known c.name) (pending_in same_text q)
+          asked : (q : Stand (List ℕ)) × PassedAt brought digest job.script x w.new w.step []
+              (spawned_in digest shelves job.script job.inputs order r) w.through q × t.In (known c.name) (pending_in same_text q)
           asked = w.asked c.name i
 
           at : WaitsAt tag mark frozen job around o asked.0
@@ -216,7 +240,9 @@ module _ (digest : List ℕ → List ℕ) (job : s.Job) (gives : Gives) (keyed :
           named : c.name ≡ J.name back_to.0
           named = name_is c.name (name no_name tag back_to.0) back_to.2
 
-      copies_of : (cs : List Held) → t.Each (IsCopy shelves order.worker job.inputs order.inputs.items) cs → ((c : Held) → t.In c.name (names_in cs) → t.In c.name (names_in r.copied.items)) → (ds : List s.Desc) × j.Each (Copied J o) ds × (names_in cs ≡ low_names J ds)
+      copies_of : (cs : List Held) → t.Each (IsCopy shelves order.worker job.inputs order.inputs.items) cs
+          → ((c : Held) → t.In c.name (names_in cs) → t.In c.name (names_in r.copied.items)) → (ds : List s.Desc) × j.Each (Copied J o) ds
+          × (names_in cs ≡ low_names J ds)
       copies_of [] e f = ([], tt, refl)
       copies_of (c ∷ cs) e f =
           let first = copy_of c e.0 (f c (inl refl)) in
@@ -229,8 +255,12 @@ module _ (digest : List ℕ → List ℕ) (job : s.Job) (gives : Gives) (keyed :
 
       pub copies_are : CopiesAre J (real_inner job around) (S.lower) o (copy_names (copies_view r.copied.items))
       copies_are =
-          let all = copies_of r.copied.items w.copies.0 (λ c i. i) in
-          (all.0, all.1, distinct_of J.same J.name same_exact all.0 (subst (IsDistinct same_text) (all.2 ∙ low_map all.0) w.copies.1), copies_named digest shelves job.inputs order r.copied.items w.copies.0 ∙ all.2)
+          let all = copies_of r.copied.items w.copies.0 (λ c i. i) in (
+            all.0,
+            all.1,
+            distinct_of J.same J.name same_exact all.0 (subst (IsDistinct same_text) (all.2 ∙ low_map all.0) w.copies.1),
+            copies_named digest shelves job.inputs order r.copied.items w.copies.0 ∙ all.2,
+          )
 
     -- ---- the report
 
@@ -240,7 +270,8 @@ module _ (digest : List ℕ → List ℕ) (job : s.Job) (gives : Gives) (keyed :
     abbrev end_said : Step → Stand (List ℕ) → End
     end_said step new = with_copies names (end_of tag mark frozen job around o.task (stop_of step new))
 
-    task_made : (u : Task s.Desc) (obj : rust_object.Object) (m : Made) → order.task ≡ task_id J u → IsMade shelves order.worker order.task obj m → (m.name, m.mark) ∷ [] ≡ object_made tag mark frozen job around u (object_view obj)
+    task_made : (u : Task s.Desc) (obj : rust_object.Object) (m : Made) → order.task ≡ task_id J u → IsMade shelves order.worker order.task obj m
+        → (m.name, m.mark) ∷ [] ≡ object_made tag mark frozen job around u (object_view obj)
     task_made show obj m e k = absurd (no (sym e ∙ k.name))
       where
         no : TaskId.Show ≡ TaskId.Of m.name → ⊥
@@ -250,7 +281,8 @@ module _ (digest : List ℕ → List ℕ) (job : s.Job) (gives : Gives) (keyed :
         same : TaskId.Of m.name ≡ TaskId.Of (J.name d) → m.name ≡ J.name d
         same q = cc
 
-    ends_same : (step : Step) (new : Stand (List ℕ)) (end : rust_end.End) → EndIs shelves order.worker order.task step new end → end_view (how_view r.copied.items end) ≡ end_said step new
+    ends_same : (step : Step) (new : Stand (List ℕ)) (end : rust_end.End) → EndIs shelves order.worker order.task step new end
+        → end_view (how_view r.copied.items end) ≡ end_said step new
     ends_same (Step.Ended obj) new (rust_end.End.Made ms) (m, one, k) =
         ap (λ xs. report.made (made_keys (map output_view xs)) names) one ∙ ap (λ xs. report.made xs names) (task_made o.task obj m is.out.task k)
     ends_same (Step.Ended obj) new (rust_end.End.Saved p i refs holds mk) k = absurd k
@@ -269,7 +301,8 @@ module _ (digest : List ℕ → List ℕ) (job : s.Job) (gives : Gives) (keyed :
     abbrev pub Q : Type 0
     Q = CameTo tag mark frozen job around o.task (stop_of w.step w.new) × Passed
 
-    pub report_is : record { number = o.number; spawned = said.made; end = end_said w.step w.new } ≡ report_view order.number r.spawned.items (report_end r)
+    pub report_is : record { number = o.number; spawned = said.made; end = end_said w.step w.new }
+        ≡ report_view order.number r.spawned.items (report_end r)
     report_is =
         let spawned = same_made digest r.spawned.items said.made said.grew in
         (λ z. record { number = sym is.out.number z; spawned = sym spawned z; end = sym (ends_same w.step w.new r.end w.end) z })
@@ -278,4 +311,5 @@ module _ (digest : List ℕ → List ℕ) (job : s.Job) (gives : Gives) (keyed :
     pub says_and : SaysAnd J (real_inner job around) S.lower o (report_view order.number r.spawned.items (report_end r)) Q
     says_and =
         subst (λ y. SaysAnd J (real_inner job around) S.lower o y Q) report_is
-        (says_copied J (real_inner job around) S.lower o names o.number said.made (end_of tag mark frozen job around o.task (stop_of w.step w.new)) Q (λ h. copies_are h.1) said.says)
+        (says_copied J (real_inner job around) S.lower o names o.number said.made
+        (end_of tag mark frozen job around o.task (stop_of w.step w.new)) Q (λ h. copies_are h.1) said.says)

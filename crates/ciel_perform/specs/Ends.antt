@@ -93,7 +93,8 @@ told_copies Step.Waits cs = []
 told_copies _ cs = cs
 
 -- the report of an order that came to this step, with the state after it, and of what was spawned and copied
-pub record CameSo (shelves : ShelvesSeen) (order : Order) (step : Step) (s : Stand (List ℕ)) (made : Spawned) (cs : List Held) (r : Report) : Type 0 where
+pub record CameSo (shelves : ShelvesSeen) (order : Order) (step : Step) (s : Stand (List ℕ)) (made : Spawned) (cs : List Held)
+    (r : Report) : Type 0 where
   pub of : IsOf order r
   pub spawned : spawned_view r.spawned.items ≡ made
   pub typed : Each (λ (n : Named). DescTold (named_view n)) r.spawned.items

@@ -55,7 +55,8 @@ module _ (digest : List ℕ → List ℕ) (shelves : ShelvesSeen) (sc : Script) 
     pub whole : GrewWhole digest [] spawned
     pub knows : KnowsNames digest (CameFrom brings s) step new [] spawned
     pub copies : Copies shelves order.worker inputs order.inputs.items copied
-    pub asked : (n : List ℕ) → In n (names_in copied) → (q : Stand (List ℕ)) × PassedAt brings digest sc s new step [] spawned through q × In (known n) (pending_in same_text q)
+    pub asked : (n : List ℕ) → In n (names_in copied) → (q : Stand (List ℕ)) × PassedAt brings digest sc s new step [] spawned through q
+        × In (known n) (pending_in same_text q)
 
   -- or an object was lost
   abbrev pub WentThrough : (s new : Stand (List ℕ)) → Spawned → SeatSeen → Result Step Lost → (copied : List Held) → Type 0
@@ -78,11 +79,14 @@ module _ (digest : List ℕ → List ℕ) (shelves : ShelvesSeen) (sc : Script) 
     pub end : EndIs shelves order.worker order.task step new r.end
     -- what was copied is what it waited for
     pub copies : Copies shelves order.worker inputs order.inputs.items r.copied.items
-    pub asked : (n : List ℕ) → In n (names_in r.copied.items) → (q : Stand (List ℕ)) × PassedAt brings digest sc s new step [] (spawned_in r) through q × In (known n) (pending_in same_text q)
+    pub asked : (n : List ℕ) → In n (names_in r.copied.items) → (q : Stand (List ℕ))
+        × PassedAt brings digest sc s new step [] (spawned_in r) through q × In (known n) (pending_in same_text q)
     pub none : CopiesAt step r.copied.items
 
   -- it went so from the state from which the order's task goes on, or something was lost: what the order has of a name, or the stack
   pub data Ran (eye : SeatSeen) (r : Report) : Type 0 where
     went : (s : Stand (List ℕ)) → BeginsAt sc order s → Went s r → Ran eye r
-    lost : (s : Stand (List ℕ)) → BeginsAt sc order s → (name : List ℕ) (loss : Loss) → IsLost order.inputs.items name loss eye → TellsMissing order name loss eye r → Ran eye r
-    stack : (loss : Loss) → StackIsLost order loss eye → TellsMissing order (own_name digest (λ (p : P). p.worker) order.main order.task) loss eye r → Ran eye r
+    lost : (s : Stand (List ℕ)) → BeginsAt sc order s → (name : List ℕ) (loss : Loss) → IsLost order.inputs.items name loss eye
+        → TellsMissing order name loss eye r → Ran eye r
+    stack : (loss : Loss) → StackIsLost order loss eye
+        → TellsMissing order (own_name digest (λ (p : P). p.worker) order.main order.task) loss eye r → Ran eye r

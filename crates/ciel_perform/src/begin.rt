@@ -37,7 +37,8 @@ pub fn begin<K, N: Namer>(
     order: &Order,
     eye: &mut Eye,
 ) -> Result<Begun, Memory>
-    requires sound { OrderSound (N.digest shop.now.namer) shop.now.shelves (job_view shop.now.job).script (length (job_view shop.now.job).inputs) order.now }
+    requires sound { OrderSound (N.digest shop.now.namer) shop.now.shelves (job_view shop.now.job).script (length (job_view shop.now.job).inputs)
+        order.now }
     requires state { HasState order.now.desc }
     requires eye { eye.old.of ≡ shop.now.shelves.of }
     ensures of { eye.new.of ≡ eye.old.of }

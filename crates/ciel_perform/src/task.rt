@@ -48,7 +48,8 @@ pub fn run_task<K: Kit, N: Namer, R: Wait>(
     order: &Order,
     eye: &mut Eye,
 ) -> Result<Report, Memory>
-    requires sound { OrderSound (N.digest shop.now.namer) shop.now.shelves (job_view shop.now.job).script (length (job_view shop.now.job).inputs) order.now }
+    requires sound { OrderSound (N.digest shop.now.namer) shop.now.shelves (job_view shop.now.job).script (length (job_view shop.now.job).inputs)
+        order.now }
     requires read { IsRead (job_view shop.now.job).script }
     requires inputs { InputsInOrder (job_view shop.now.job) }
     requires state { HasState order.now.desc }
@@ -69,12 +70,14 @@ fn run<K, N: Namer, R: Wait>(
     order: &Order,
     eye: &mut Eye,
 ) -> Result<Report, Memory>
-    requires sound { OrderSound (N.digest shop.now.namer) shop.now.shelves (job_view shop.now.job).script (length (job_view shop.now.job).inputs) order.now }
+    requires sound { OrderSound (N.digest shop.now.namer) shop.now.shelves (job_view shop.now.job).script (length (job_view shop.now.job).inputs)
+        order.now }
     requires read { IsRead (job_view shop.now.job).script }
     requires state { HasState order.now.desc }
     requires eye { eye.old.of ≡ shop.now.shelves.of }
     ensures of { eye.new.of ≡ eye.old.of }
-    ensures ran { IfOk result (Ran (N.digest shop.now.namer) shop.now.shelves (job_view shop.now.job).script (job_view shop.now.job).inputs order.now eye.new) }
+    ensures ran { IfOk result (Ran (N.digest shop.now.namer) shop.now.shelves (job_view shop.now.job).script (job_view shop.now.job).inputs
+        order.now eye.new) }
 {
     match begin(alloc, shop, order, eye)? {
         Begun::State(state) => {
@@ -97,13 +100,15 @@ fn go_on<K, N: Namer, R: Wait>(
     mut state: State,
     eye: &mut Eye,
 ) -> Result<Report, Memory>
-    requires sound { OrderSound (N.digest shop.now.namer) shop.now.shelves (job_view shop.now.job).script (length (job_view shop.now.job).inputs) order.now }
+    requires sound { OrderSound (N.digest shop.now.namer) shop.now.shelves (job_view shop.now.job).script (length (job_view shop.now.job).inputs)
+        order.now }
     requires read { IsRead (job_view shop.now.job).script }
     requires begins { BeginsAt (job_view shop.now.job).script order.now (stand_of state) }
     requires spawned { spawned_of state ≡ [] }
     requires eye { eye.old.of ≡ shop.now.shelves.of }
     ensures of { eye.new.of ≡ eye.old.of }
-    ensures ran { IfOk result (Ran (N.digest shop.now.namer) shop.now.shelves (job_view shop.now.job).script (job_view shop.now.job).inputs order.now eye.new) }
+    ensures ran { IfOk result (Ran (N.digest shop.now.namer) shop.now.shelves (job_view shop.now.job).script (job_view shop.now.job).inputs
+        order.now eye.new) }
 {
     let places = index(alloc, order.inputs.as_slice())?;
     let mut copied = Copied::new(alloc);
@@ -137,7 +142,8 @@ fn through<'a, K, N: Namer, R: Wait>(
     eye: &'a mut Eye,
     copied: &'a mut Copied,
 ) -> Result<Result<Step, Lost>, Memory>
-    requires sound { OrderSound (N.digest shop.now.namer) shop.now.shelves (job_view shop.now.job).script (length (job_view shop.now.job).inputs) order.now }
+    requires sound { OrderSound (N.digest shop.now.namer) shop.now.shelves (job_view shop.now.job).script (length (job_view shop.now.job).inputs)
+        order.now }
     requires read { IsRead (job_view shop.now.job).script }
     requires index { IsIndex held_name places.now order.now.inputs.items }
     requires begins { BeginsAt (job_view shop.now.job).script order.now (stand_of state.old) }
@@ -146,7 +152,9 @@ fn through<'a, K, N: Namer, R: Wait>(
     requires none { copied.old.items.items ≡ [] }
     requires empty { IsIndex held_name copied.old.places [] }
     ensures of { eye.new.of ≡ eye.old.of }
-    ensures went { IfOk result (λ r. WentThrough (N.digest shop.now.namer) shop.now.shelves (job_view shop.now.job).script (job_view shop.now.job).inputs order.now (stand_of state.old) (stand_of state.new) (spawned_of state.new) eye.new r copied.new.items.items) }
+    ensures went { IfOk result (λ r. WentThrough (N.digest shop.now.namer) shop.now.shelves (job_view shop.now.job).script
+        (job_view shop.now.job).inputs order.now (stand_of state.old) (stand_of state.new) (spawned_of state.new) eye.new r
+        copied.new.items.items) }
 {
     let numbered = shop.job.numbered();
     let mut finder = Brought {

@@ -1,5 +1,6 @@
 -- The marks fit the table after each change.
-use Rattle.std.proofs.Common.{◌≡◌, ◌≤◌, ◌+◌, ℕ, zero, suc, ◌<◌, List, [], ◌∷◌, ◌++◌, length, length-append, Bool, true, false, cond, not, ◌||◌, map, filter, set, slice_get, refl, ap, sym, ◌∙◌, subst, arith, ◌⊎◌, inl, inr, Option, Some, None, IfSome}
+use Rattle.std.proofs.Common.{◌≡◌, ◌≤◌, ◌+◌, ℕ, zero, suc, ◌<◌, List, [], ◌∷◌, ◌++◌, length, length-append, Bool, true, false, cond, not, ◌||◌, map}
+use Rattle.std.proofs.Common.{filter, set, slice_get, refl, ap, sym, ◌∙◌, subst, arith, ◌⊎◌, inl, inr, Option, Some, None, IfSome}
 use Rattle.std.specs.Option.{option_map, option_map_or}
 use Rattle.sky_base.specs.Val.{same_text}
 use Rattle.sky_base.specs.declared.object.TaskId.{TaskId}
@@ -12,7 +13,8 @@ use Rattle.ciel_marks.specs.Moves.{Added, IsNode, Placed, SameNeeds}
 use Rattle.ciel_marks.proofs.Keeping.{all_counted, right_needs}
 use Rattle.ciel_marks.proofs.Slots.{flag_within, get_before, get_within, not_both}
 use Rattle.ciel_ready.specs.Fits.{Fits, FitsOut, lives, maker_of, makers, needs_by, node_for, node_of, row_of, rows_of}
-use Rattle.ciel_ready.proofs.Alike.{lives_placed, makers_placed, map_alike, map_alike_at, map_last, needs_alike, needs_placed, outs_placed, outs_set, set_kept}
+use Rattle.ciel_ready.proofs.Alike.{lives_placed, makers_placed, map_alike, map_alike_at, map_last, needs_alike, needs_placed, outs_placed, outs_set}
+use Rattle.ciel_ready.proofs.Alike.{set_kept}
 use Rattle.ciel_ready.proofs.Numbering.{live_name, long, maker_row}
 use Rattle.ciel_table.specs.Changes.{placed, save_at, saved, saves_with}
 use Rattle.ciel_table.specs.Named.{IsOnce, changed, found, place_of}
@@ -32,13 +34,16 @@ module _ {P : Type 0} (main : List ℕ) (t : TableSeen P) (out : List TaskId) (m
   -- ---- a place
 
   module _ (n : List ℕ) (p : P) (e : ℕ) (at : find n t ≡ Some e) where
-    pub fits_placed : (k : MarksSeen) → s.is_live n t ≡ false → Placed e m k → ((needs : Needs) → flag m.live e ≡ false → Right m needs → Right k needs) → FitsOut main (placed n p t) out k
+    pub fits_placed : (k : MarksSeen) → s.is_live n t ≡ false → Placed e m k
+        → ((needs : Needs) → flag m.live e ≡ false → Right m needs → Right k needs) → FitsOut main (placed n p t) out k
     fits_placed k d g r =
         record {
           fits = record {
             live = g.live ∙ (ap (λ fs. set fs e true) ff.fits.live ∙ sym (lives_placed main t n p e at));
             makers_are = g.makers ∙ (ff.fits.makers_are ∙ sym (makers_placed main t n p));
-            right = right_needs k (needs_by main t) (needs_by main (placed n p t)) (r (needs_by main t) (ap (is_live m.live) (sym at) ∙ (live_name main t m ff.fits n ∙ d)) ff.fits.right) (λ u a. needs_placed main t n p u);
+            right = right_needs k (needs_by main t) (needs_by main (placed n p t))
+                (r (needs_by main t) (ap (is_live m.live) (sym at) ∙ (live_name main t m ff.fits n ∙ d)) ff.fits.right)
+                (λ u a. needs_placed main t n p u);
           };
           outs_are = g.out ∙ (ff.outs_are ∙ sym (outs_placed main t n p out));
         }
@@ -46,7 +51,8 @@ module _ {P : Type 0} (main : List ℕ) (t : TableSeen P) (out : List TaskId) (m
     -- one that was live is so still
     pub fits_again : s.is_live n t ≡ true → FitsOut main (placed n p t) out m
     fits_again d =
-        let f : flag (lives t) e ≡ true = ap (λ fs. flag fs e) (sym ff.fits.live) ∙ (ap (is_live m.live) (sym at) ∙ (live_name main t m ff.fits n ∙ d)) in
+        let f : flag (lives t) e ≡ true = ap (λ fs. flag fs e) (sym ff.fits.live)
+        ∙ (ap (is_live m.live) (sym at) ∙ (live_name main t m ff.fits n ∙ d)) in
         record {
           fits = record {
             live = ff.fits.live ∙ (sym (set_kept (lives t) e f) ∙ sym (lives_placed main t n p e at));
@@ -66,11 +72,13 @@ module _ {P : Type 0} (main : List ℕ) (t : TableSeen P) (out : List TaskId) (m
       turn false = refl
   any_last x task (y ∷ ys) = turn (same_id x y) (any_last x task ys)
     where
-      turn : (b : Bool) → is_in (ys ++ task ∷ []) x ≡ is_in ys x || same_id x task → b || is_in (ys ++ task ∷ []) x ≡ (b || is_in ys x) || same_id x task
+      turn : (b : Bool) → is_in (ys ++ task ∷ []) x ≡ is_in ys x || same_id x task → b || is_in (ys ++ task ∷ []) x ≡ (b || is_in ys x)
+          || same_id x task
       turn true e = refl
       turn false e = e
 
-  pub fits_started : (k : MarksSeen) (task : TaskId) (u : ℕ) → IsOnce row_name t.rows → node_for t task ≡ Some u → k.out ≡ set m.out u true → k.live ≡ m.live → k.makers ≡ m.makers → ((needs : Needs) → Right m needs → Right k needs) → FitsOut main t (out ++ task ∷ []) k
+  pub fits_started : (k : MarksSeen) (task : TaskId) (u : ℕ) → IsOnce row_name t.rows → node_for t task ≡ Some u → k.out ≡ set m.out u true
+      → k.live ≡ m.live → k.makers ≡ m.makers → ((needs : Needs) → Right m needs → Right k needs) → FitsOut main t (out ++ task ∷ []) k
   fits_started k task u once h o l g r =
       record {
         fits = record {
@@ -80,7 +88,9 @@ module _ {P : Type 0} (main : List ℕ) (t : TableSeen P) (out : List TaskId) (m
         };
         outs_are = o
             ∙ (ap (λ fs. set fs u true) ff.outs_are
-            ∙ sym (outs_set t once task true (is_in (out ++ task ∷ [])) (is_in out) (λ x e. any_last x task out ∙ (ap (λ b. is_in out x || b) e ∙ yes (is_in out x))) (λ x e. any_last x task out ∙ (ap (λ b. is_in out x || b) e ∙ still (is_in out x))) u h));
+            ∙ sym (outs_set t once task true (is_in (out ++ task ∷ [])) (is_in out)
+            (λ x e. any_last x task out ∙ (ap (λ b. is_in out x || b) e ∙ yes (is_in out x)))
+            (λ x e. any_last x task out ∙ (ap (λ b. is_in out x || b) e ∙ still (is_in out x))) u h));
       }
     where
       yes : (b : Bool) → b || true ≡ true
@@ -99,7 +109,8 @@ module _ {P : Type 0} (main : List ℕ) (t : TableSeen P) (out : List TaskId) (m
   less_here task x [] e = refl
   less_here task x (y ∷ ys) e = turn (bool_cases (same_id task y)) (less_here task x ys e)
     where
-      turn : ((same_id task y ≡ true) ⊎ (same_id task y ≡ false)) → is_in (less task ys) x ≡ false → is_in (cond (not (same_id task y)) (y ∷ less task ys) (less task ys)) x ≡ false
+      turn : ((same_id task y ≡ true) ⊎ (same_id task y ≡ false)) → is_in (less task ys) x ≡ false
+          → is_in (cond (not (same_id task y)) (y ∷ less task ys) (less task ys)) x ≡ false
       turn (inl t) r = ap (λ b. is_in (cond (not b) (y ∷ less task ys) (less task ys)) x) t ∙ r
       turn (inr f) r =
           ap (λ b. is_in (cond (not b) (y ∷ less task ys) (less task ys)) x) f
@@ -109,29 +120,35 @@ module _ {P : Type 0} (main : List ℕ) (t : TableSeen P) (out : List TaskId) (m
   less_other task x [] e = refl
   less_other task x (y ∷ ys) e = turn (bool_cases (same_id task y)) (less_other task x ys e)
     where
-      turn : ((same_id task y ≡ true) ⊎ (same_id task y ≡ false)) → is_in (less task ys) x ≡ is_in ys x → is_in (cond (not (same_id task y)) (y ∷ less task ys) (less task ys)) x ≡ same_id x y || is_in ys x
+      turn : ((same_id task y ≡ true) ⊎ (same_id task y ≡ false)) → is_in (less task ys) x ≡ is_in ys x
+          → is_in (cond (not (same_id task y)) (y ∷ less task ys) (less task ys)) x ≡ same_id x y || is_in ys x
       turn (inl t) r =
           ap (λ b. is_in (cond (not b) (y ∷ less task ys) (less task ys)) x) t
           ∙ (r ∙ sym (ap (λ b. b || is_in ys x) (subst (λ z. same_id x z ≡ false) (same_exact task y t) e)))
       turn (inr f) r =
           ap (λ b. is_in (cond (not b) (y ∷ less task ys) (less task ys)) x) f ∙ ap (λ b. same_id x y || b) r
 
-  pub fits_closed : (k : MarksSeen) (task : TaskId) (u : ℕ) → IsOnce row_name t.rows → node_for t task ≡ Some u → k.out ≡ set m.out u false → Fits main t k → FitsOut main t (less task out) k
+  pub fits_closed : (k : MarksSeen) (task : TaskId) (u : ℕ) → IsOnce row_name t.rows → node_for t task ≡ Some u → k.out ≡ set m.out u false
+      → Fits main t k → FitsOut main t (less task out) k
   fits_closed k task u once h o g =
       record {
         fits = g;
         outs_are = o
             ∙ (ap (λ fs. set fs u false) ff.outs_are
-            ∙ sym (outs_set t once task false (is_in (less task out)) (is_in out) (λ x e. less_here task x out e) (λ x e. less_other task x out e) u h));
+            ∙ sym (outs_set t once task false (is_in (less task out)) (is_in out) (λ x e. less_here task x out e)
+            (λ x e. less_other task x out e) u h));
       }
 
   -- ---- a saved wait
 
-  found_changed : (n k : List ℕ) (f : Saves P → Saves P) → ((x : Saves P) → (f x).name ≡ x.name) → (ss : List (Saves P)) → same_text n k ≡ false → found saves_name n (changed saves_name f k ss) ≡ found saves_name n ss
+  found_changed : (n k : List ℕ) (f : Saves P → Saves P) → ((x : Saves P) → (f x).name ≡ x.name) → (ss : List (Saves P)) → same_text n k ≡ false
+      → found saves_name n (changed saves_name f k ss) ≡ found saves_name n ss
   found_changed n k f keeps [] d = refl
   found_changed n k f keeps (x ∷ xs) d = turn (bool_cases (same_text k x.name)) (found_changed n k f keeps xs d)
     where
-      turn : ((same_text k x.name ≡ true) ⊎ (same_text k x.name ≡ false)) → found saves_name n (changed saves_name f k xs) ≡ found saves_name n xs → found saves_name n (cond (same_text k x.name) (f x ∷ xs) (x ∷ changed saves_name f k xs)) ≡ cond (same_text n x.name) (Some x) (found saves_name n xs)
+      turn : ((same_text k x.name ≡ true) ⊎ (same_text k x.name ≡ false)) → found saves_name n (changed saves_name f k xs)
+          ≡ found saves_name n xs → found saves_name n (cond (same_text k x.name) (f x ∷ xs) (x ∷ changed saves_name f k xs))
+          ≡ cond (same_text n x.name) (Some x) (found saves_name n xs)
       turn (inl y) e =
           let z : same_text n x.name ≡ false = subst (λ q. same_text n q ≡ false) (exact_text k x.name y) d in
           ap (λ b. found saves_name n (cond b (f x ∷ xs) (x ∷ changed saves_name f k xs))) y
@@ -140,7 +157,8 @@ module _ {P : Type 0} (main : List ℕ) (t : TableSeen P) (out : List TaskId) (m
       turn (inr y) e =
           ap (λ b. found saves_name n (cond b (f x ∷ xs) (x ∷ changed saves_name f k xs))) y ∙ ap (λ o. cond (same_text n x.name) (Some x) o) e
 
-  found_last : (n : List ℕ) (ss : List (Saves P)) (x : Saves P) → same_text n x.name ≡ false → found saves_name n (ss ++ x ∷ []) ≡ found saves_name n ss
+  found_last : (n : List ℕ) (ss : List (Saves P)) (x : Saves P) → same_text n x.name ≡ false → found saves_name n (ss ++ x ∷ [])
+      ≡ found saves_name n ss
   found_last n [] x d = ap (λ b. cond b (Some x) None) d
   found_last n (y ∷ ys) x d = ap (λ o. cond (same_text n y.name) (Some y) o) (found_last n ys x d)
 
@@ -178,7 +196,8 @@ module _ {P : Type 0} (main : List ℕ) (t : TableSeen P) (out : List TaskId) (m
       let y = long main t m ff.fits in
       omega (arith, l, x, y)
 
-  pub fits_saved : (task : TaskId) (w : Wait P) (u : ℕ) → IsOnce row_name t.rows → node_for t task ≡ Some u → flag m.out u ≡ true → FitsOut main (saved task w t) out m
+  pub fits_saved : (task : TaskId) (w : Wait P) (u : ℕ) → IsOnce row_name t.rows → node_for t task ≡ Some u → flag m.out u ≡ true
+      → FitsOut main (saved task w t) out m
   fits_saved task w u once h o =
       record {
         fits = record {
@@ -200,7 +219,8 @@ module _ {P : Type 0} (main : List ℕ) (t : TableSeen P) (out : List TaskId) (m
       apart : (v : ℕ) → Active m v → same_id (task_at t (row_of v)) task ≡ false
       apart v a = turn (bool_cases (same_id (task_at t (row_of v)) task))
         where
-          turn : ((same_id (task_at t (row_of v)) task ≡ true) ⊎ (same_id (task_at t (row_of v)) task ≡ false)) → same_id (task_at t (row_of v)) task ≡ false
+          turn : ((same_id (task_at t (row_of v)) task ≡ true) ⊎ (same_id (task_at t (row_of v)) task ≡ false))
+              → same_id (task_at t (row_of v)) task ≡ false
           turn (inr f) = f
           turn (inl e) =
               let z : Some v ≡ Some u = sym (node_at once v (active_long v a)) ∙ (ap (node_for t) (same_exact (task_at t (row_of v)) task e) ∙ h) in
@@ -210,7 +230,8 @@ module _ {P : Type 0} (main : List ℕ) (t : TableSeen P) (out : List TaskId) (m
       same : (v : ℕ) → Active m v → needs_by main (saved task w t) v ≡ needs_by main t v
       same v a =
           ap (λ x. rows_of t (needs main (saved task w t) x)) (same_task (row_of v))
-          ∙ ap (rows_of t) (needs_alike main t (saved task w t) (task_at t (row_of v)) (last_other (task_at t (row_of v)) task w (apart v a)) (firsts_saved (task_at t (row_of v)) task w))
+          ∙ ap (rows_of t) (needs_alike main t (saved task w t) (task_at t (row_of v)) (last_other (task_at t (row_of v)) task w (apart v a))
+          (firsts_saved (task_at t (row_of v)) task w))
 
   -- ---- one row more
 
@@ -222,7 +243,9 @@ module _ {P : Type 0} (main : List ℕ) (t : TableSeen P) (out : List TaskId) (m
     place_still n [] i e = cc
     place_still n (x ∷ xs) i e = turn (same_text n x.name) (place_of row_name n xs) refl e (place_still n xs)
       where
-        turn : (b : Bool) (o : Option ℕ) → place_of row_name n xs ≡ o → cond b (Some 0) (option_map suc o) ≡ Some i → ((j : ℕ) → place_of row_name n xs ≡ Some j → place_of row_name n (xs ++ r ∷ []) ≡ Some j) → cond b (Some 0) (option_map suc (place_of row_name n (xs ++ r ∷ []))) ≡ Some i
+        turn : (b : Bool) (o : Option ℕ) → place_of row_name n xs ≡ o → cond b (Some 0) (option_map suc o) ≡ Some i
+            → ((j : ℕ) → place_of row_name n xs ≡ Some j → place_of row_name n (xs ++ r ∷ []) ≡ Some j)
+            → cond b (Some 0) (option_map suc (place_of row_name n (xs ++ r ∷ []))) ≡ Some i
         turn true o q h k = h
         turn false None q h k = cc
         turn false (Some j) q h k = ap (option_map suc) (k j q) ∙ h
@@ -231,7 +254,9 @@ module _ {P : Type 0} (main : List ℕ) (t : TableSeen P) (out : List TaskId) (m
     found_still n [] x e = cc
     found_still n (y ∷ ys) x e = turn (same_text n y.name) e (found_still n ys x)
       where
-        turn : (b : Bool) → cond b (Some y) (found row_name n ys) ≡ Some x → (found row_name n ys ≡ Some x → found row_name n (ys ++ r ∷ []) ≡ Some x) → cond b (Some y) (found row_name n (ys ++ r ∷ [])) ≡ Some x
+        turn : (b : Bool) → cond b (Some y) (found row_name n ys) ≡ Some x
+            → (found row_name n ys ≡ Some x → found row_name n (ys ++ r ∷ []) ≡ Some x) → cond b (Some y) (found row_name n (ys ++ r ∷ []))
+            ≡ Some x
         turn true h k = h
         turn false h k = k h
 
@@ -310,7 +335,9 @@ module _ {P : Type 0} (main : List ℕ) (t : TableSeen P) (out : List TaskId) (m
                 place None g h = cc
                 place (Some j) g h = ap (option_map suc) (place_still n t.rows j g ∙ sym g)
 
-    pub fits_learned : (k : MarksSeen) → is_in out (TaskId.Of r.name) ≡ false → ((before after : Needs) → IsNode (suc (length m.live)) (maker_of with_row r) → SameNeeds m before after → Right m before → Added (is_live_row r) (maker_of with_row r) m k × Right k after) → FitsOut main with_row out k
+    pub fits_learned : (k : MarksSeen) → is_in out (TaskId.Of r.name) ≡ false
+        → ((before after : Needs) → IsNode (suc (length m.live)) (maker_of with_row r) → SameNeeds m before after → Right m before
+        → Added (is_live_row r) (maker_of with_row r) m k × Right k after) → FitsOut main with_row out k
     fits_learned k o g =
         let q = g (needs_by main t) (needs_by main with_row) is_node needs_still ff.fits.right in
         record {

@@ -1,5 +1,6 @@
 -- The list is that of the tasks that can run, each at its least row.
-use Rattle.std.proofs.Common.{◌≡◌, ◌≤◌, ◌+◌, ℕ, zero, suc, ◌<◌, List, [], ◌∷◌, ◌++◌, length, length-append, drop, Bool, true, false, cond, not, ◌&&◌, ◌||◌, map, slice_get, refl, ap, sym, ◌∙◌, subst, arith, ◌⊎◌, inl, inr, Option, Some, None}
+use Rattle.std.proofs.Common.{◌≡◌, ◌≤◌, ◌+◌, ℕ, zero, suc, ◌<◌, List, [], ◌∷◌, ◌++◌, length, length-append, drop, Bool, true, false, cond, not, ◌&&◌}
+use Rattle.std.proofs.Common.{◌||◌, map, slice_get, refl, ap, sym, ◌∙◌, subst, arith, ◌⊎◌, inl, inr, Option, Some, None}
 use Rattle.std.specs.Option.{option_map, option_map_or}
 use Rattle.sky_base.specs.declared.object.TaskId.{TaskId}
 use Rattle.ciel_journal.specs.Graph.{Led, Picks, Runnable, root}
@@ -105,9 +106,11 @@ module _ {P : Type 0} (main : List ℕ) (t : TableSeen P) (out : List TaskId) (m
 
   -- ---- what is listed can run
 
-  runs_of : (u : ℕ) → Active m u → ((d : Option ℕ) → In d (needs_by main t u) → is_live m.live d ≡ true) → (x : TaskId) × (node main t m x ≡ u) × CanGo x
+  runs_of : (u : ℕ) → Active m u → ((d : Option ℕ) → In d (needs_by main t u) → is_live m.live d ≡ true) → (x : TaskId) × (node main t m x ≡ u)
+      × CanGo x
   runs_of u a all =
-      runs_here (graph main t out) (net (needs_by main t) m.live m.makers m.out) (node main t m) (λ n. find n t) (seen main t m f out ff.outs_are) u (record {
+      runs_here (graph main t out) (net (needs_by main t) m.live m.makers m.out) (node main t m) (λ n. find n t)
+      (seen main t m f out ff.outs_are) u (record {
         reached = led_of u a;
         not_out = a.1;
         met = each_all (λ d. is_live m.live d ≡ true) (needs_by main t u) all;
@@ -138,12 +141,14 @@ module _ {P : Type 0} (main : List ℕ) (t : TableSeen P) (out : List TaskId) (m
 
       r : Runnable (net (needs_by main t) m.live m.makers m.out) (node main t m x)
       r =
-          runs_there (graph main t out) (net (needs_by main t) m.live m.makers m.out) (node main t m) (λ n. find n t) (seen main t m f out ff.outs_are) x c
+          runs_there (graph main t out) (net (needs_by main t) m.live m.makers m.out) (node main t m) (λ n. find n t)
+          (seen main t m f out ff.outs_are) x c
 
       a : Active m (node main t m x)
       a = (led_wanted m (needs_by main t) f.right (node main t m x) r.reached, r.not_out)
 
-      turn : ((at m.lacks (node main t m x) ≡ []) × Listed m (node main t m x)) ⊎ (Watches m (node main t m x) ⊎ In (node main t m x) []) → Met (node main t m x)
+      turn : ((at m.lacks (node main t m x) ≡ []) × Listed m (node main t m x)) ⊎ (Watches m (node main t m x) ⊎ In (node main t m x) [])
+          → Met (node main t m x)
       turn (inl q) = record { active = a; lacks = q.0; listed = q.1 }
       turn (inr (inl q)) =
           let i = (all_counted m (needs_by main t) f.right (node main t m x) a).lacked q.0 q.1 in
@@ -151,7 +156,8 @@ module _ {P : Type 0} (main : List ℕ) (t : TableSeen P) (out : List TaskId) (m
       turn (inr (inr h)) = absurd h
 
   -- the least row of the task of a row, if it can run
-  runs_listed : (i : ℕ) (r : Row P) → slice_get t.rows i ≡ Some r → i < length t.rows → (r.task ≡ TaskId.Show → ⊥) → CanGo r.task → (y : ℕ) × In y m.list × (y ≤ i) × (entry m.makers y ≡ entry m.makers i)
+  runs_listed : (i : ℕ) (r : Row P) → slice_get t.rows i ≡ Some r → i < length t.rows → (r.task ≡ TaskId.Show → ⊥) → CanGo r.task → (y : ℕ)
+      × In y m.list × (y ≤ i) × (entry m.makers y ≡ entry m.makers i)
   runs_listed i r e l g c = known (led_known main t m f out r.task c.reached)
     where
       known : IsKnown main t m r.task → (y : ℕ) × In y m.list × (y ≤ i) × (entry m.makers y ≡ entry m.makers i)
@@ -245,11 +251,13 @@ module _ {P : Type 0} (main : List ℕ) (t : TableSeen P) (out : List TaskId) (m
           ap (λ (w : Row P). same_id x.task w.task || is_in before x.task) z
           ∙ ap (λ b. b || is_in before x.task) (same_self x.task)
 
-      of : (x : TaskId) → ((same_id x r.task ≡ true) ⊎ (same_id x r.task ≡ false)) → is_in (r.task ∷ before) x ≡ true → (x ≡ TaskId.Show) ⊎ ((j : ℕ) × (y : Row P) × (j < suc i) × (slice_get t.rows j ≡ Some y) × (y.task ≡ x))
+      of : (x : TaskId) → ((same_id x r.task ≡ true) ⊎ (same_id x r.task ≡ false)) → is_in (r.task ∷ before) x ≡ true → (x ≡ TaskId.Show)
+          ⊎ ((j : ℕ) × (y : Row P) × (j < suc i) × (slice_get t.rows j ≡ Some y) × (y.task ≡ x))
       of x (inl s) h = inr (i, r, omega arith, e, sym (same_exact x r.task s))
       of x (inr s) h = turn (p.of x (sym (ap (λ b. b || is_in before x) s) ∙ h))
         where
-          turn : ((x ≡ TaskId.Show) ⊎ ((j : ℕ) × (y : Row P) × (j < i) × (slice_get t.rows j ≡ Some y) × (y.task ≡ x))) → (x ≡ TaskId.Show) ⊎ ((j : ℕ) × (y : Row P) × (j < suc i) × (slice_get t.rows j ≡ Some y) × (y.task ≡ x))
+          turn : ((x ≡ TaskId.Show) ⊎ ((j : ℕ) × (y : Row P) × (j < i) × (slice_get t.rows j ≡ Some y) × (y.task ≡ x))) → (x ≡ TaskId.Show)
+              ⊎ ((j : ℕ) × (y : Row P) × (j < suc i) × (slice_get t.rows j ≡ Some y) × (y.task ≡ x))
           turn (inl z) = inl z
           turn (inr q) = let l = q.2 in inr (q.0, q.1, omega (arith, l), q.3, q.4)
 
@@ -312,7 +320,8 @@ module _ {P : Type 0} (main : List ℕ) (t : TableSeen P) (out : List TaskId) (m
           let k = z.2 in
           absurd (omega (arith, l, k))
 
-  picks_rows : (rs : List (Row P)) (i : ℕ) (before : List TaskId) (ls : List ℕ) (b : Bool) → drop i t.rows ≡ rs → Past i before → From i ls → root_test ≡ b → Picks CanGo (tasks_after before rs) (map task_of ls ++ if_root b)
+  picks_rows : (rs : List (Row P)) (i : ℕ) (before : List TaskId) (ls : List ℕ) (b : Bool) → drop i t.rows ≡ rs → Past i before → From i ls
+      → root_test ≡ b → Picks CanGo (tasks_after before rs) (map task_of ls ++ if_root b)
   picks_rows [] i before [] true d p w e = inl (root_goes e, ([], refl, refl))
   picks_rows [] i before [] false d p w e = inr (λ c. not_both root_test (goes_root c) e, refl)
   picks_rows [] i before (y ∷ ls) b d p w e =
@@ -352,31 +361,47 @@ module _ {P : Type 0} (main : List ℕ) (t : TableSeen P) (out : List TaskId) (m
                   let x = held_at t.rows q.0 (within q.0 z.0 made) in
                   let u : node_of t r.task ≡ Some z.0 = sym (maker_row main t m f i r here) ∙ (sym q.3 ∙ made) in
                   let v : node_of t x.0.task ≡ Some z.0 = sym (maker_row main t m f q.0 x.0 x.1) ∙ made in
-                  let same : r.task ≡ x.0.task = same_task x.0.task r.task z.0 v (led_known main t m f out r.task c.reached) (node_is main t m f r.task z.0 u) in
+                  let same : r.task ≡ x.0.task = same_task x.0.task r.task z.0 v (led_known main t m f out r.task c.reached)
+                  (node_is main t m f r.task z.0 u) in
                   not_both (is_in before r.task) (ap (is_in before) same ∙ p.has q.0 x.0 l x.1) n
 
               turn : ((q.0 ≡ i) ⊎ (q.0 ≡ i → ⊥)) → ⊥
               turn (inl k) = g (w.all i (omega arith) (subst (λ z. In z m.list) k q.1))
               turn (inr k) = lower k
 
-      turn : ((is_in before r.task ≡ true) ⊎ (is_in before r.task ≡ false)) → ((ls : List ℕ) (b : Bool) → drop (suc i) t.rows ≡ rs → Past (suc i) (r.task ∷ before) → From (suc i) ls → root_test ≡ b → Picks CanGo (tasks_after (r.task ∷ before) rs) (map task_of ls ++ if_root b)) → (ls : List ℕ) → From i ls → Picks CanGo (unless (is_in before r.task) r.task (tasks_after (r.task ∷ before) rs)) (map task_of ls ++ if_root b)
+      turn : ((is_in before r.task ≡ true) ⊎ (is_in before r.task ≡ false))
+          → ((ls : List ℕ) (b : Bool) → drop (suc i) t.rows ≡ rs → Past (suc i) (r.task ∷ before) → From (suc i) ls → root_test ≡ b
+          → Picks CanGo (tasks_after (r.task ∷ before) rs) (map task_of ls ++ if_root b)) → (ls : List ℕ) → From i ls
+          → Picks CanGo (unless (is_in before r.task) r.task (tasks_after (r.task ∷ before) rs)) (map task_of ls ++ if_root b)
       turn (inl y) rec ls w =
-          subst (λ c. Picks CanGo (unless c r.task (tasks_after (r.task ∷ before) rs)) (map task_of ls ++ if_root b)) (sym y) (rec ls b rest more (from_next i ls w (λ h. first_of i r before here p y (w.inside i h))) e)
+          subst (λ c. Picks CanGo (unless c r.task (tasks_after (r.task ∷ before) rs)) (map task_of ls ++ if_root b)) (sym y)
+          (rec ls b rest more (from_next i ls w (λ h. first_of i r before here p y (w.inside i h))) e)
       turn (inr n) rec [] w =
-          subst (λ c. Picks CanGo (unless c r.task (tasks_after (r.task ∷ before) rs)) (map task_of [] ++ if_root b)) (sym n) (inr (stays [] w (λ h. h) n, rec [] b rest more (from_next i [] w (λ h. h)) e))
+          subst (λ c. Picks CanGo (unless c r.task (tasks_after (r.task ∷ before) rs)) (map task_of [] ++ if_root b)) (sym n)
+          (inr (stays [] w (λ h. h) n, rec [] b rest more (from_next i [] w (λ h. h)) e))
       turn (inr n) rec (y ∷ ls) w = pick (nat_cases y i)
         where
           task : task_of i ≡ r.task
           task = task_is i r here
 
-          pick : ((y ≡ i) ⊎ (y ≡ i → ⊥)) → Picks CanGo (unless (is_in before r.task) r.task (tasks_after (r.task ∷ before) rs)) (map task_of (y ∷ ls) ++ if_root b)
+          pick : ((y ≡ i) ⊎ (y ≡ i → ⊥)) → Picks CanGo (unless (is_in before r.task) r.task (tasks_after (r.task ∷ before) rs))
+              (map task_of (y ∷ ls) ++ if_root b)
           pick (inl s) =
               let w2 = subst (λ z. From i (z ∷ ls)) s w in
               let c = subst CanGo task (listed_runs i (w2.inside i (inl refl))) in
-              subst (λ c. Picks CanGo (unless c r.task (tasks_after (r.task ∷ before) rs)) (map task_of (y ∷ ls) ++ if_root b)) (sym n) (inl (c, (map task_of ls ++ if_root b, ap (λ z. z ∷ (map task_of ls ++ if_root b)) (ap task_of s ∙ task), rec ls b rest more (from_tail i ls w2) e)))
+              subst (λ c. Picks CanGo (unless c r.task (tasks_after (r.task ∷ before) rs)) (map task_of (y ∷ ls) ++ if_root b)) (sym n)
+              (inl (
+                c,
+                (
+                  map task_of ls ++ if_root b,
+                  ap (λ z. z ∷ (map task_of ls ++ if_root b)) (ap task_of s ∙ task),
+                  rec ls b rest more (from_tail i ls w2) e,
+                ),
+              ))
           pick (inr k) =
               let g = not_there k in
-              subst (λ c. Picks CanGo (unless c r.task (tasks_after (r.task ∷ before) rs)) (map task_of (y ∷ ls) ++ if_root b)) (sym n) (inr (stays (y ∷ ls) w g n, rec (y ∷ ls) b rest more (from_next i (y ∷ ls) w g) e))
+              subst (λ c. Picks CanGo (unless c r.task (tasks_after (r.task ∷ before) rs)) (map task_of (y ∷ ls) ++ if_root b)) (sym n)
+              (inr (stays (y ∷ ls) w g n, rec (y ∷ ls) b rest more (from_next i (y ∷ ls) w g) e))
             where
               not_there : (y ≡ i → ⊥) → In i (y ∷ ls) → ⊥
               not_there k (inl s) = k (sym s)
@@ -399,7 +424,8 @@ module _ {P : Type 0} (main : List ℕ) (t : TableSeen P) (out : List TaskId) (m
         all = λ y l h. h;
       }) refl
     where
-      of : (x : TaskId) → is_in (TaskId.Show ∷ []) x ≡ true → (x ≡ TaskId.Show) ⊎ ((j : ℕ) × (y : Row P) × (j < 0) × (slice_get t.rows j ≡ Some y) × (y.task ≡ x))
+      of : (x : TaskId) → is_in (TaskId.Show ∷ []) x ≡ true → (x ≡ TaskId.Show)
+          ⊎ ((j : ℕ) × (y : Row P) × (j < 0) × (slice_get t.rows j ≡ Some y) × (y.task ≡ x))
       of TaskId.Show h = inl refl
       of (TaskId.Of n) h = cc
 
@@ -420,14 +446,16 @@ module _ {P : Type 0} (main : List ℕ) (t : TableSeen P) (out : List TaskId) (m
   runs_many r = (map task_of m.list ++ if_root root_test, picks_list r, long_list)
 
   -- the k-th of the list, or the root task behind it
-  get_at : (ls : List ℕ) (b : Bool) (k : ℕ) → k < length ls + cond b 1 0 → slice_get (map task_of ls ++ if_root b) k ≡ Some (option_map_or task_of (slice_get ls k) TaskId.Show)
+  get_at : (ls : List ℕ) (b : Bool) (k : ℕ) → k < length ls + cond b 1 0 → slice_get (map task_of ls ++ if_root b) k
+      ≡ Some (option_map_or task_of (slice_get ls k) TaskId.Show)
   get_at [] true zero l = refl
   get_at [] true (suc k) l = absurd (omega (arith, l))
   get_at [] false k l = absurd (omega (arith, l))
   get_at (y ∷ ys) b zero l = refl
   get_at (y ∷ ys) b (suc k) l = get_at ys b k (omega (arith, l))
 
-  pub runs_kth : Rising m.list → (k : ℕ) → ((n : ℕ) × CanRunMany (record { table = t; main = main; out = out }) n × (k < n)) → CanRunAt (record { table = t; main = main; out = out }) k (runs_at t m k)
+  pub runs_kth : Rising m.list → (k : ℕ) → ((n : ℕ) × CanRunMany (record { table = t; main = main; out = out }) n × (k < n))
+      → CanRunAt (record { table = t; main = main; out = out }) k (runs_at t m k)
   runs_kth r k q =
       let same = picks_unique CanGo (tasks_in_order t) q.1.0 (map task_of m.list ++ if_root root_test) q.1.1 (picks_list r) in
       let a = ap length same in

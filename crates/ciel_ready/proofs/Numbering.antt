@@ -1,5 +1,6 @@
 -- The table's graph by numbers is the table's.
-use Rattle.std.proofs.Common.{◌≡◌, ℕ, zero, suc, ◌<◌, List, [], ◌∷◌, length, Bool, true, false, cond, ◌||◌, map, slice_get, refl, ap, sym, ◌∙◌, subst, arith, ◌⊎◌, inl, inr, Option, Some, None}
+use Rattle.std.proofs.Common.{◌≡◌, ℕ, zero, suc, ◌<◌, List, [], ◌∷◌, length, Bool, true, false, cond, ◌||◌, map, slice_get, refl, ap, sym, ◌∙◌, subst}
+use Rattle.std.proofs.Common.{arith, ◌⊎◌, inl, inr, Option, Some, None}
 use Rattle.std.specs.Option.{option_and_then, option_map, option_map_or}
 use Rattle.sky_base.specs.declared.object.TaskId.{TaskId}
 use Rattle.ciel_journal.specs.Graph.{Led, SeenAs, root, through}
@@ -63,7 +64,8 @@ module _ {P : Type 0} (main : List ℕ) (t : TableSeen P) (m : MarksSeen) where
     node_known TaskId.Show u e = cc
     node_known (TaskId.Of n) u e = turn (find n t) refl e
       where
-        turn : (o : Option ℕ) → find n t ≡ o → option_map suc o ≡ Some u → (k : List ℕ) × (e : ℕ) × (TaskId.Of n ≡ TaskId.Of k) × (find k t ≡ Some e) × (suc e ≡ u)
+        turn : (o : Option ℕ) → find n t ≡ o → option_map suc o ≡ Some u → (k : List ℕ) × (e : ℕ) × (TaskId.Of n ≡ TaskId.Of k)
+            × (find k t ≡ Some e) × (suc e ≡ u)
         turn None q h = cc
         turn (Some e) q h = (n, e, refl, q, cc)
 
@@ -76,7 +78,8 @@ module _ {P : Type 0} (main : List ℕ) (t : TableSeen P) (m : MarksSeen) where
         turn (Some e) h = cc
 
     -- what makes a row that isn't live has a node
-    pub dead_made : (i : ℕ) (r : Row P) → slice_get t.rows i ≡ Some r → i < length t.rows → is_live_row r ≡ false → (u : ℕ) × (node_of t r.task ≡ Some u)
+    pub dead_made : (i : ℕ) (r : Row P) → slice_get t.rows i ≡ Some r → i < length t.rows → is_live_row r ≡ false → (u : ℕ)
+        × (node_of t r.task ≡ Some u)
     dead_made i r e l d = turn (entry m.makers i) refl
       where
         turn : (o : Option ℕ) → entry m.makers i ≡ o → (u : ℕ) × (node_of t r.task ≡ Some u)
@@ -108,7 +111,8 @@ module _ {P : Type 0} (main : List ℕ) (t : TableSeen P) (m : MarksSeen) where
             let r = item_at row_name d t.rows i q in
             let dead : is_live_row r.item ≡ false = ap (λ (o : Option (Row P)). option_map_or is_live_row o false) (sym r.is_found) ∙ v in
             let input = or_false (is_input r.item.desc) (has_place r.item.places) dead in
-            let x : Some r.item.task ≡ Some task = sym (ap (option_and_then (made_by t)) r.is_found ∙ ap (λ b. cond b None (Some r.item.task)) input) ∙ k in
+            let x : Some r.item.task ≡ Some task = sym
+            (ap (option_and_then (made_by t)) r.is_found ∙ ap (λ b. cond b None (Some r.item.task)) input) ∙ k in
             let w = dead_made i r.item r.there r.within dead in
             record {
               row = r.item;
@@ -132,7 +136,8 @@ module _ {P : Type 0} (main : List ℕ) (t : TableSeen P) (m : MarksSeen) where
     at_node task (inl e) = subst (λ x. task_at t (row_of (node x)) ≡ x) (sym e) refl
     at_node task (inr q) =
         let r = item_at row_name q.0 t.rows q.1 q.3 in
-        let here : task_at t (Some q.1) ≡ TaskId.Of q.0 = ap (λ (o : Option (Row P)). TaskId.Of (option_map_or row_name o [])) r.there ∙ ap (λ k. TaskId.Of k) r.named in
+        let here : task_at t (Some q.1) ≡ TaskId.Of q.0 = ap (λ (o : Option (Row P)). TaskId.Of (option_map_or row_name o [])) r.there
+        ∙ ap (λ k. TaskId.Of k) r.named in
         subst (λ x. task_at t (row_of (node x)) ≡ x) (sym q.2) (ap (λ o. task_at t (row_of (option_map_or suc o 0))) q.3 ∙ here)
 
     pub live_name : (d : List ℕ) → is_live m.live (find d t) ≡ s.is_live d t
@@ -155,7 +160,8 @@ module _ {P : Type 0} (main : List ℕ) (t : TableSeen P) (m : MarksSeen) where
             let r = item_at row_name d t.rows i q in
             let dead : is_live_row r.item ≡ false = ap (λ (o : Option (Row P)). option_map_or is_live_row o false) (sym r.is_found) ∙ v in
             let input = or_false (is_input r.item.desc) (has_place r.item.places) dead in
-            let x : Some r.item.task ≡ None = sym (ap (option_and_then (made_by t)) r.is_found ∙ ap (λ b. cond b None (Some r.item.task)) input) ∙ k in
+            let x : Some r.item.task ≡ None = sym (ap (option_and_then (made_by t)) r.is_found ∙ ap (λ b. cond b None (Some r.item.task)) input)
+            ∙ k in
             cc
 
         turn : (o : Option TaskId) → made t d ≡ o → maker m.makers (find d t) ≡ option_map node o

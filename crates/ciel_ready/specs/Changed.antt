@@ -22,12 +22,14 @@ LearnedWith t out r m n =
 -- a row is learned, unless it was held before
 abbrev pub LearnedFrom : {P : Type 0} → TableSeen P → List TaskId → Option MarksSeen → ℕ → ℕ → MarksSeen → Type 0
 LearnedFrom {P} t out marks held row n =
-    (m : MarksSeen) × (marks ≡ Some m) × (((row < held) × (n ≡ m)) ⊎ ((row < held → ⊥) × (r : Row P) × (slice_get t.rows row ≡ Some r) × LearnedWith t out r m n))
+    (m : MarksSeen) × (marks ≡ Some m) × (((row < held) × (n ≡ m))
+    ⊎ ((row < held → ⊥) × (r : Row P) × (slice_get t.rows row ≡ Some r) × LearnedWith t out r m n))
 
 -- a node is out
 abbrev pub StartedFrom : Option MarksSeen → Option ℕ → MarksSeen → Type 0
 StartedFrom marks node n =
-    (m : MarksSeen) × (u : ℕ) × (marks ≡ Some m) × (node ≡ Some u) × (n.out ≡ slice_set m.out u true) × (n.live ≡ m.live) × (n.makers ≡ m.makers) × KeepsRight m n
+    (m : MarksSeen) × (u : ℕ) × (marks ≡ Some m) × (node ≡ Some u) × (n.out ≡ slice_set m.out u true) × (n.live ≡ m.live) × (n.makers ≡ m.makers)
+    × KeepsRight m n
 
 -- it is out no longer
 abbrev pub ClosedFrom : {P : Type 0} → List ℕ → TableSeen P → Option MarksSeen → Option ℕ → MarksSeen → Type 0

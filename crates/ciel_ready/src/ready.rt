@@ -60,7 +60,12 @@ impl<P: At + Drop> Ready<P> {
     ///
     /// Answers `Memory` for want of memory.
     pub fn open(alloc: Global, main: Name, limit: u32) -> Result<Ready<P>, Memory>
-        ensures empty { IfOk result (λ r. r ≡ record { table = record { limit = limit; rows = []; shown = []; saved = []; gone = [] }; main = main; out = [] }) }
+        ensures empty { IfOk result (λ r. r ≡ record {
+          table = record { limit = limit; rows = []; shown = []; saved = []; gone = [] };
+          main =
+              main;
+          out = [];
+        }) }
     {
         let table = Table::open(alloc, limit)?;
         Ok(Ready {

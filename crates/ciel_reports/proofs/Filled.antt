@@ -5,7 +5,8 @@ use Rattle.std.proofs.Math.Seq.{drop-append_seam}
 use Rattle.sky_base.specs.Name.{low, low_desc, low_pairs, low_vals, name}
 use Rattle.sky_base.specs.Needed as n
 use Rattle.sky_base.specs.See as s
-use Rattle.sky_base.specs.Val.{Val, Vals, Pairs, Desc, null, truth, num, text, list, dict, fun, ref, no_vals, val, no_pairs, pair, call, out, input, known, refs, vals_refs, pairs_refs}
+use Rattle.sky_base.specs.Val.{Val, Vals, Pairs, Desc, null, truth, num, text, list, dict, fun, ref, no_vals, val, no_pairs, pair, call, out, input}
+use Rattle.sky_base.specs.Val.{known, refs, vals_refs, pairs_refs}
 use Rattle.sky_law.specs.Lower.{low_ref}
 use Rattle.sky_law.specs.NamesLaws.{no_name}
 use Rattle.sky_law.proofs.RefsLow.{refs_low, vals_refs_low, pairs_refs_low}
@@ -48,7 +49,8 @@ module _ (tag : Desc (List ℕ) → List ℕ) where
   -- behind what one value refers to comes what the others do
   behind : (a : Val ⊥) (xs more : List Whole) → drop (length (refs (low no_name tag a))) ((refs a ++ xs) ++ more) ≡ xs ++ more
   behind a xs more =
-      ap (λ k. drop k ((refs a ++ xs) ++ more)) (as_long a) ∙ (ap (drop (length (refs a))) (append_assoc (refs a) xs more) ∙ drop-append_seam (refs a) (xs ++ more))
+      ap (λ k. drop k ((refs a ++ xs) ++ more)) (as_long a)
+      ∙ (ap (drop (length (refs a))) (append_assoc (refs a) xs more) ∙ drop-append_seam (refs a) (xs ++ more))
 
   same_vals : (a b : Val ⊥) (us vs : Vals ⊥) → a ≡ b → us ≡ vs → val a us ≡ val b vs
   same_vals a b us vs e f = ap (λ z. val z us) e ∙ ap (val b) f
@@ -70,12 +72,18 @@ module _ (tag : Desc (List ℕ) → List ℕ) where
     filled_vals : (vs : Vals ⊥) (more : List Whole) → fill_vals (vals_refs vs ++ more) (low_vals no_name tag vs) ≡ vs
     filled_vals no_vals more = refl
     filled_vals (val a vs) more =
-        same_vals (fill ((refs a ++ vals_refs vs) ++ more) (low no_name tag a)) a (fill_vals (drop (length (refs (low no_name tag a))) ((refs a ++ vals_refs vs) ++ more)) (low_vals no_name tag vs)) vs (ap (λ ds. fill ds (low no_name tag a)) (append_assoc (refs a) (vals_refs vs) more) ∙ filled a (vals_refs vs ++ more)) (ap (λ ds. fill_vals ds (low_vals no_name tag vs)) (behind a (vals_refs vs) more) ∙ filled_vals vs more)
+        same_vals (fill ((refs a ++ vals_refs vs) ++ more) (low no_name tag a)) a
+        (fill_vals (drop (length (refs (low no_name tag a))) ((refs a ++ vals_refs vs) ++ more)) (low_vals no_name tag vs)) vs
+        (ap (λ ds. fill ds (low no_name tag a)) (append_assoc (refs a) (vals_refs vs) more) ∙ filled a (vals_refs vs ++ more))
+        (ap (λ ds. fill_vals ds (low_vals no_name tag vs)) (behind a (vals_refs vs) more) ∙ filled_vals vs more)
 
     filled_pairs : (ps : Pairs ⊥) (more : List Whole) → fill_pairs (pairs_refs ps ++ more) (low_pairs no_name tag ps) ≡ ps
     filled_pairs no_pairs more = refl
     filled_pairs (pair k a ps) more =
-        same_pairs k (fill ((refs a ++ pairs_refs ps) ++ more) (low no_name tag a)) a (fill_pairs (drop (length (refs (low no_name tag a))) ((refs a ++ pairs_refs ps) ++ more)) (low_pairs no_name tag ps)) ps (ap (λ ds. fill ds (low no_name tag a)) (append_assoc (refs a) (pairs_refs ps) more) ∙ filled a (pairs_refs ps ++ more)) (ap (λ ds. fill_pairs ds (low_pairs no_name tag ps)) (behind a (pairs_refs ps) more) ∙ filled_pairs ps more)
+        same_pairs k (fill ((refs a ++ pairs_refs ps) ++ more) (low no_name tag a)) a
+        (fill_pairs (drop (length (refs (low no_name tag a))) ((refs a ++ pairs_refs ps) ++ more)) (low_pairs no_name tag ps)) ps
+        (ap (λ ds. fill ds (low no_name tag a)) (append_assoc (refs a) (pairs_refs ps) more) ∙ filled a (pairs_refs ps ++ more))
+        (ap (λ ds. fill_pairs ds (low_pairs no_name tag ps)) (behind a (pairs_refs ps) more) ∙ filled_pairs ps more)
 
   -- a description, again
   abbrev again : List Whole → Desc (List ℕ) → Whole
@@ -90,8 +98,11 @@ module _ (tag : Desc (List ℕ) → List ℕ) where
   is_again : (d : Whole) → again (inside d) (low_desc no_name tag d) ≡ d
   is_again (call f c vs) =
       let left : fill_pairs (pairs_refs c ++ vals_refs vs) (low_pairs no_name tag c) ≡ c = filled_pairs c (vals_refs vs) in
-      let rest : drop (length (pairs_refs (low_pairs no_name tag c))) (pairs_refs c ++ vals_refs vs) ≡ vals_refs vs ++ [] = ap (λ k. drop k (pairs_refs c ++ vals_refs vs)) (pairs_as_long c) ∙ (drop-append_seam (pairs_refs c) (vals_refs vs) ∙ sym (append-nil (vals_refs vs))) in
-      ap (λ z. call f z (fill_vals (drop (length (pairs_refs (low_pairs no_name tag c))) (pairs_refs c ++ vals_refs vs)) (low_vals no_name tag vs))) left ∙ ap (call f c) (ap (λ ds. fill_vals ds (low_vals no_name tag vs)) rest ∙ filled_vals vs [])
+      let rest : drop (length (pairs_refs (low_pairs no_name tag c))) (pairs_refs c ++ vals_refs vs) ≡ vals_refs vs ++ [] =
+      ap (λ k. drop k (pairs_refs c ++ vals_refs vs)) (pairs_as_long c)
+      ∙ (drop-append_seam (pairs_refs c) (vals_refs vs) ∙ sym (append-nil (vals_refs vs))) in
+      ap (λ z. call f z (fill_vals (drop (length (pairs_refs (low_pairs no_name tag c))) (pairs_refs c ++ vals_refs vs))
+      (low_vals no_name tag vs))) left ∙ ap (call f c) (ap (λ ds. fill_vals ds (low_vals no_name tag vs)) rest ∙ filled_vals vs [])
   is_again (out x a n i) =
       ap (λ z. out x z n i) (ap (λ ds. fill ds (low no_name tag a)) (sym (append-nil (refs a))) ∙ filled a [])
   is_again (input k) = refl
@@ -121,7 +132,9 @@ module _ (tag : Desc (List ℕ) → List ℕ) where
 
     inside_low : (d : Whole) → inside_names (low_desc no_name tag d) ≡ map (low_ref no_name tag) (inside d)
     inside_low (call f c vs) =
-        ap (λ z. z ++ vals_refs (low_vals no_name tag vs)) (pairs_refs_low no_name tag c) ∙ (ap (λ z. map (low_ref no_name tag) (pairs_refs c) ++ z) (vals_refs_low no_name tag vs) ∙ sym (map-append (low_ref no_name tag) (pairs_refs c) (vals_refs vs)))
+        ap (λ z. z ++ vals_refs (low_vals no_name tag vs)) (pairs_refs_low no_name tag c)
+        ∙ (ap (λ z. map (low_ref no_name tag) (pairs_refs c) ++ z) (vals_refs_low no_name tag vs)
+        ∙ sym (map-append (low_ref no_name tag) (pairs_refs c) (vals_refs vs)))
     inside_low (out x a n i) = refs_low no_name tag a
     inside_low (input k) = refl
     inside_low (known b) = absurd b
@@ -134,7 +147,8 @@ module _ (tag : Desc (List ℕ) → List ℕ) where
 
     within : (d e : Whole) → low_desc no_name tag d ≡ low_desc no_name tag e → low_names the (inside d) ≡ low_names the (inside e)
     within d e q =
-        sym (names_held (inside d)) ∙ (ap held (sym (inside_low d)) ∙ (ap (λ z. held (inside_names z)) q ∙ (ap held (inside_low e) ∙ names_held (inside e))))
+        sym (names_held (inside d)) ∙ (ap held (sym (inside_low d))
+        ∙ (ap (λ z. held (inside_names z)) q ∙ (ap held (inside_low e) ∙ names_held (inside e))))
 
     only : (d e : Whole) → low_desc no_name tag d ≡ low_desc no_name tag e → inside d ≡ inside e → d ≡ e
     only d e q i =

@@ -20,7 +20,8 @@ module _ {D B : Type 0} where
   map_in f b (y ∷ xs) (inl e) = (y, inl refl, sym e)
   map_in f b (y ∷ xs) (inr i) = let m = map_in f b xs i in (m.0, inr m.1, m.2)
 
-module _ {D B : Type 0} (job : Job D) (laws : IsJob job) (inner : Inner D) (lower : D → B) (named : B → Digest) (exact : Exact job inner lower named) where
+module _ {D B : Type 0} (job : Job D) (laws : IsJob job) (inner : Inner D) (lower : D → B) (named : B → Digest)
+    (exact : Exact job inner lower named) where
   -- no two share a name, and what stands inside each stands among them
   pub record Clean (L : List D) : Type 0 where
     pub apart : NoClash job L
@@ -32,12 +33,14 @@ module _ {D B : Type 0} (job : Job D) (laws : IsJob job) (inner : Inner D) (lowe
     pub there : (d : D) → In d L → In (lower d) T
 
   -- one more with what stands inside
-  same_one : (T : List B) (L : List D) (d a : D) → Clean L → Tabled T L → Each (λ e. In e L) (inner.inside d) → In (lower d) T → In a L → job.name a ≡ job.name d → a ≡ d
+  same_one : (T : List B) (L : List D) (d a : D) → Clean L → Tabled T L → Each (λ e. In e L) (inner.inside d) → In (lower d) T → In a L
+      → job.name a ≡ job.name d → a ≡ d
   same_one T L d a clean tabled whole there i n =
       let l : lower a ≡ lower d = tabled.apart (lower a) (lower d) (tabled.there a i) there (exact.own a ∙ (n ∙ sym (exact.own d))) in
       exact.only a d l (same_names job laws L clean.apart (inner.inside a) (inner.inside d) (clean.whole a i) whole (exact.within a d l))
 
-  pub clean_more : (T : List B) (L : List D) (d : D) → Clean L → Tabled T L → Each (λ e. In e L) (inner.inside d) → In (lower d) T → Clean (L ++ d ∷ [])
+  pub clean_more : (T : List B) (L : List D) (d : D) → Clean L → Tabled T L → Each (λ e. In e L) (inner.inside d) → In (lower d) T
+      → Clean (L ++ d ∷ [])
   clean_more T L d clean tabled whole there = record { apart = apart; whole = all }
     where
       more : (x : D) → In x L → In x (L ++ d ∷ [])
@@ -49,7 +52,8 @@ module _ {D B : Type 0} (job : Job D) (laws : IsJob job) (inner : Inner D) (lowe
           pick : (In e L ⊎ (e ≡ d)) → Each (λ x. In x (L ++ d ∷ [])) (inner.inside e)
           pick (inl j) = each_more (λ x. In x L) (λ x. In x (L ++ d ∷ [])) more (inner.inside e) (clean.whole e j)
           pick (inr s) =
-              subst (λ z. Each (λ x. In x (L ++ d ∷ [])) (inner.inside z)) (sym s) (each_more (λ x. In x L) (λ x. In x (L ++ d ∷ [])) more (inner.inside d) whole)
+              subst (λ z. Each (λ x. In x (L ++ d ∷ [])) (inner.inside z)) (sym s)
+              (each_more (λ x. In x L) (λ x. In x (L ++ d ∷ [])) more (inner.inside d) whole)
 
       apart : (a b : D) → In a (L ++ d ∷ []) → In b (L ++ d ∷ []) → job.name a ≡ job.name b → a ≡ b
       apart a b i j n = pick (in_last a L d i) (in_last b L d j)

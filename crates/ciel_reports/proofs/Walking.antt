@@ -7,7 +7,8 @@ use Rattle.ciel_journal.proofs.Numbers.{in_left, last_in}
 use Rattle.ciel_reports.specs.Report.{ClashAmong, Clear, Exact, Or, Tells}
 use Rattle.ciel_reports.proofs.Growing.{Clean, Tabled, clean_more, tabled_more}
 
-module _ {D B : Type 0} (job : Job D) (laws : IsJob job) (inner : Inner D) (lower : D → B) (named : B → Digest) (exact : Exact job inner lower named) where
+module _ {D B : Type 0} (job : Job D) (laws : IsJob job) (inner : Inner D) (lower : D → B) (named : B → Digest)
+    (exact : Exact job inner lower named) where
   abbrev Clean' : List D → Type 0
   Clean' L = Clean job laws inner lower named exact L
 
@@ -35,7 +36,8 @@ module _ {D B : Type 0} (job : Job D) (laws : IsJob job) (inner : Inner D) (lowe
   met_more met L d m e (inr k) = in_left e L (d ∷ []) (m e k)
 
   -- one that is known by names clashes with nothing
-  no_clash : (T : List B) (met : D → Type 0) (L : List D) (d : D) → Clean' L → Tabled' T L → MetIn met L → Each (λ e. In e L) (inner.inside d) → In (lower d) T → ClashAmong job inner lower met d → ⊥
+  no_clash : (T : List B) (met : D → Type 0) (L : List D) (d : D) → Clean' L → Tabled' T L → MetIn met L → Each (λ e. In e L) (inner.inside d)
+      → In (lower d) T → ClashAmong job inner lower met d → ⊥
   no_clash T met L d clean tabled m whole there c =
       let next = clean_more job laws inner lower named exact T L d clean tabled whole there in
       c.3 (next.apart c.0 d (in_left c.0 L (d ∷ []) (m c.0 c.1)) (last_in L d) c.2)
@@ -45,14 +47,17 @@ module _ {D B : Type 0} (job : Job D) (laws : IsJob job) (inner : Inner D) (lowe
     pub all : bs ≡ map lower ds
     pub clean : Clean' (L ++ ds)
 
-  pub walk : (T : List B) (met : D → Type 0) (L ds : List D) (bs : List B) → Clean' L → Tabled' T L → Inward L ds → MetIn met L → ((b : B) → In b bs → In b T) → Tells job inner lower met ds bs → Walked met L ds bs
+  pub walk : (T : List B) (met : D → Type 0) (L ds : List D) (bs : List B) → Clean' L → Tabled' T L → Inward L ds → MetIn met L
+      → ((b : B) → In b bs → In b T) → Tells job inner lower met ds bs → Walked met L ds bs
   walk T met L [] bs clean tabled inward m there t =
       record { clear = tt; all = t; clean = subst Clean' (sym (append-nil L)) clean }
   walk T met L (d ∷ ds) bs clean tabled inward m there t =
       let here : In (lower d) T = there (lower d) (subst (In (lower d)) (sym t.1) (inl refl)) in
       let whole = inward_first L ds d inward in
       let none = no_clash T met L d clean tabled m whole here in
-      let w = walk T (Or job inner lower met d) (L ++ d ∷ []) ds t.0 (clean_more job laws inner lower named exact T L d clean tabled whole here) (tabled_more job laws inner lower named exact T L d tabled here) (inward_rest L ds d inward) (met_more met L d m) (λ b i. there b (subst (In b) (sym t.1) (inr i))) (t.2 none) in
+      let w = walk T (Or job inner lower met d) (L ++ d ∷ []) ds t.0 (clean_more job laws inner lower named exact T L d clean tabled whole here)
+      (tabled_more job laws inner lower named exact T L d tabled here) (inward_rest L ds d inward) (met_more met L d m)
+      (λ b i. there b (subst (In b) (sym t.1) (inr i))) (t.2 none) in
       record {
         clear = (none, w.clear);
         all = t.1 ∙ ap (λ z. lower d ∷ z) w.all;
@@ -69,7 +74,8 @@ module _ {D B : Type 0} (job : Job D) (laws : IsJob job) (inner : Inner D) (lowe
     pub is : lower next ≡ given
     pub clean : Clean' (L ++ front)
 
-  one_more : (L ds : List D) (d : D) (before : List B) (b given : B) → b ≡ lower d → Stopped (L ++ d ∷ []) ds before given → Stopped L (d ∷ ds) (b ∷ before) given
+  one_more : (L ds : List D) (d : D) (before : List B) (b given : B) → b ≡ lower d → Stopped (L ++ d ∷ []) ds before given
+      → Stopped L (d ∷ ds) (b ∷ before) given
   one_more L ds d before b given f w =
       record {
         front = d ∷ w.front;
@@ -81,7 +87,9 @@ module _ {D B : Type 0} (job : Job D) (laws : IsJob job) (inner : Inner D) (lowe
         clean = subst Clean' (append_assoc L (d ∷ []) w.front) w.clean;
       }
 
-  pub stops : (T : List B) (met : D → Type 0) (L ds : List D) (bs before after : List B) (given : B) → Clean' L → Tabled' T L → Inward L ds → MetIn met L → ((b : B) → In b before → In b T) → bs ≡ before ++ given ∷ after → Tells job inner lower met ds bs → Stopped L ds before given
+  pub stops : (T : List B) (met : D → Type 0) (L ds : List D) (bs before after : List B) (given : B) → Clean' L → Tabled' T L → Inward L ds
+      → MetIn met L → ((b : B) → In b before → In b T) → bs ≡ before ++ given ∷ after → Tells job inner lower met ds bs
+      → Stopped L ds before given
   stops T met L [] bs [] after given clean tabled inward m there s t = let bad : [] ≡ given ∷ after = sym t ∙ s in cc
   stops T met L [] bs (b ∷ before) after given clean tabled inward m there s t =
       let bad : [] ≡ b ∷ (before ++ given ∷ after) = sym t ∙ s in cc
@@ -95,4 +103,7 @@ module _ {D B : Type 0} (job : Job D) (laws : IsJob job) (inner : Inner D) (lowe
       let here : In (lower d) T = there (lower d) (inl (sym f)) in
       let whole = inward_first L ds d inward in
       let none = no_clash T met L d clean tabled m whole here in
-      one_more L ds d before b given f (stops T (Or job inner lower met d) (L ++ d ∷ []) ds t.0 before after given (clean_more job laws inner lower named exact T L d clean tabled whole here) (tabled_more job laws inner lower named exact T L d tabled here) (inward_rest L ds d inward) (met_more met L d m) (λ x i. there x (inr i)) g (t.2 none))
+      one_more L ds d before b given f (stops T (Or job inner lower met d) (L ++ d ∷ []) ds t.0 before after given
+      (clean_more job laws inner lower named exact T L d clean tabled whole here)
+      (tabled_more job laws inner lower named exact T L d tabled here) (inward_rest L ds d inward) (met_more met L d m)
+      (λ x i. there x (inr i)) g (t.2 none))

@@ -8,13 +8,15 @@ use Rattle.ciel_journal.specs.Segment as segment
 use Rattle.ciel_reports.specs.Report.{Exact, IsMissing, IsNew, Learns, Report, Says, report_of}
 
 -- after a lawful history, the report of an order that is out, which says what the job does
-pub record Reported {D B : Type 0} (job : Job D) (inner : Inner D) (lower : D → B) (p : Plan) (h : List (Event D)) (o : OpenStart D) (r : Report B) : Type 0 where
+pub record Reported {D B : Type 0} (job : Job D) (inner : Inner D) (lower : D → B) (p : Plan) (h : List (Event D)) (o : OpenStart D)
+    (r : Report B) : Type 0 where
   pub lawful : Lawful job p h
   pub is_out : find_open job r.number (standing job h).orders ≡ Some o
   pub says : Says job inner lower o r
 
 -- an allowed event that this report tells; no name stands for two descriptions after it, and these rows are the book
-pub record TellsEvent {D B : Type 0} (job : Job D) (inner : Inner D) (lower : D → B) (p : Plan) (v : Standing D) (r : Report B) (rows : List B) : Type 0 where
+pub record TellsEvent {D B : Type 0} (job : Job D) (inner : Inner D) (lower : D → B) (p : Plan) (v : Standing D) (r : Report B)
+    (rows : List B) : Type 0 where
   pub event : Event D
   pub report : report_of job inner lower event ≡ Some r
   pub allowed : Allowed job p v event

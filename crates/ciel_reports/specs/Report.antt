@@ -88,8 +88,10 @@ module _ {D B : Type 0} (job : Job D) (inner : Inner D) (lower : D → B) where
   -- the report of a run of this order: from the order's wait the task comes to its end, or to its next wait for something
   -- that the order doesn't bring along
   pub data Says (o : OpenStart D) (r : Report B) : Type 0 where
-    at_end : (ds : List D) → NextEnd job (Given job o) o.task o.from → SpawnedToEnd job o ds → Spawns o ds r.spawned r.end → (Clear (Met o) ds → MadeIs o r.end) → Says o r
-    at_wait : (i : ℕ) (refs ds : List D) → NextWait job (Given job o) o.task o.from i refs → SpawnedTo job o i ds → Spawns o ds r.spawned r.end → (Clear (Met o) ds → StoppedIs o i refs r.end) → Says o r
+    at_end : (ds : List D) → NextEnd job (Given job o) o.task o.from → SpawnedToEnd job o ds → Spawns o ds r.spawned r.end
+        → (Clear (Met o) ds → MadeIs o r.end) → Says o r
+    at_wait : (i : ℕ) (refs ds : List D) → NextWait job (Given job o) o.task o.from i refs → SpawnedTo job o i ds → Spawns o ds r.spawned r.end
+        → (Clear (Met o) ds → StoppedIs o i refs r.end) → Says o r
 
   -- the report that tells an event
   abbrev pub report_of : Event D → Option (Report B)

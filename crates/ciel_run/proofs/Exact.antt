@@ -1,7 +1,8 @@
 -- The causes of refusals exclude each other, and a script: the bytes have one list of tokens or one refusal, the tokens one
 -- first bracket that is nested too deep, one place where they go wrong or one script, the script one first name that stands
 -- twice, and the inputs one that is too long first.
-use Rattle.std.proofs.Common.{◌≡◌, ◌⊎◌, inl, inr, ℕ, ◌≤◌, ◌<◌, List, [], ◌∷◌, length, Option, Some, None, Result, Ok, Err, refl, sym, ap, subst, ◌∙◌, arith}
+use Rattle.std.proofs.Common.{◌≡◌, ◌⊎◌, inl, inr, ℕ, ◌≤◌, ◌<◌, List, [], ◌∷◌, length, Option, Some, None, Result, Ok, Err, refl, sym, ap, subst, ◌∙◌}
+use Rattle.std.proofs.Common.{arith}
 use Rattle.sky_base.specs.See.{Answered, Desc, Job, Means, Never}
 use Rattle.sky_base.specs.Tree.{Place, Script}
 use Rattle.sky_base.specs.TreeView.{at}
@@ -102,14 +103,23 @@ of_refusal source e end t h = subst (λ (r : Result (List Token) LexRefusal). By
 of_tokens : (source : List ℕ) (ts : List Token) (o : Option Why) → tokens_of source ≡ Ok ts → ByNesting source ts (too_nested 0 ts) o → Ends source o
 of_tokens source ts o t x = subst (λ (r : Result (List Token) LexRefusal). ByTokens source r o) (sym t) x
 
-of_flat : (source : List ℕ) (ts : List Token) (o : Option Why) → tokens_of source ≡ Ok ts → too_nested 0 ts ≡ None → ByNesting source ts None o → Ends source o
+of_flat : (source : List ℕ) (ts : List Token) (o : Option Why) → tokens_of source ≡ Ok ts → too_nested 0 ts ≡ None → ByNesting source ts None o
+    → Ends source o
 of_flat source ts o t n x = of_tokens source ts o t (subst (λ (q : Option Place). ByNesting source ts q o) (sym n) x)
 
 of_syntax : (source : List ℕ) (kind : SyntaxKind) (line col : ℕ) → IsSyntaxFault source kind line col → Ends source (Some (Why.Syntax kind line col))
-of_syntax source SyntaxKind.BadByte line col x = of_refusal source (LexRefusal.BadByte x.0) (Why.Syntax SyntaxKind.BadByte line col) x.1 (ap (λ (p : ℕ × ℕ). Why.Syntax SyntaxKind.BadByte p.0 p.1) (sym x.2))
-of_syntax source SyntaxKind.OpenText line col x = of_refusal source (LexRefusal.OpenText x.0) (Why.Syntax SyntaxKind.OpenText line col) x.1 (ap (λ (p : ℕ × ℕ). Why.Syntax SyntaxKind.OpenText p.0 p.1) (sym x.2))
-of_syntax source SyntaxKind.BadEscape line col x = of_refusal source (LexRefusal.BadEscape x.0) (Why.Syntax SyntaxKind.BadEscape line col) x.1 (ap (λ (p : ℕ × ℕ). Why.Syntax SyntaxKind.BadEscape p.0 p.1) (sym x.2))
-of_syntax source SyntaxKind.BigNumber line col x = of_refusal source (LexRefusal.BigNumber x.0) (Why.Syntax SyntaxKind.BigNumber line col) x.1 (ap (λ (p : ℕ × ℕ). Why.Syntax SyntaxKind.BigNumber p.0 p.1) (sym x.2))
+of_syntax source SyntaxKind.BadByte line col x =
+    of_refusal source (LexRefusal.BadByte x.0) (Why.Syntax SyntaxKind.BadByte line col) x.1
+    (ap (λ (p : ℕ × ℕ). Why.Syntax SyntaxKind.BadByte p.0 p.1) (sym x.2))
+of_syntax source SyntaxKind.OpenText line col x =
+    of_refusal source (LexRefusal.OpenText x.0) (Why.Syntax SyntaxKind.OpenText line col) x.1
+    (ap (λ (p : ℕ × ℕ). Why.Syntax SyntaxKind.OpenText p.0 p.1) (sym x.2))
+of_syntax source SyntaxKind.BadEscape line col x =
+    of_refusal source (LexRefusal.BadEscape x.0) (Why.Syntax SyntaxKind.BadEscape line col) x.1
+    (ap (λ (p : ℕ × ℕ). Why.Syntax SyntaxKind.BadEscape p.0 p.1) (sym x.2))
+of_syntax source SyntaxKind.BigNumber line col x =
+    of_refusal source (LexRefusal.BigNumber x.0) (Why.Syntax SyntaxKind.BigNumber line col) x.1
+    (ap (λ (p : ℕ × ℕ). Why.Syntax SyntaxKind.BigNumber p.0 p.1) (sym x.2))
 of_syntax source SyntaxKind.TooNested line col x =
     let o : Option Why = syntax SyntaxKind.TooNested (at line col) in
     of_tokens source x.0 o x.1 (subst (λ (q : Option Place). ByNesting source x.0 q o) (sym x.2) refl)
@@ -171,13 +181,15 @@ no_end : (w : Words) (source : List ℕ) (inputs : List Input) (why : Why) → (
 no_end w source inputs why n m = n (end_script w source inputs why m)
 
 -- what is too long stands in a file, and the script isn't too long
-too_long_script : (f : Option files.Line) (source : List ℕ) (inputs : List Input) (path : List ℕ) (at : ℕ) → SourceFits f source → TooLongIn f source inputs path at
+too_long_script : (f : Option files.Line) (source : List ℕ) (inputs : List Input) (path : List ℕ) (at : ℕ) → SourceFits f source
+    → TooLongIn f source inputs path at
     → (script : Script) × IsScript source (keys_of inputs) script
 too_long_script None source inputs path at h t = absurd t
 too_long_script (Some f) source inputs path at h (inl t) = absurd (omega (arith, h, t.2))
 too_long_script (Some f) source inputs path at h (inr t) = t.1
 
-refused_so : (w : Words) (source : List ℕ) (inputs : List Input) (end : Why) → Ends source (Some end) → SourceFits (files_of w) source → EndsSo w source inputs end
+refused_so : (w : Words) (source : List ℕ) (inputs : List Input) (end : Why) → Ends source (Some end) → SourceFits (files_of w) source
+    → EndsSo w source inputs end
 refused_so w source inputs end x h why y = of why y
   where
     none : IsSource source inputs → ⊥
@@ -214,18 +226,21 @@ same_script source keys a b x y =
     x.4 ∙ ap (script_of keys) (one_script x.1 y.1 y.0 v y.3.0) ∙ sym y.4
 
 -- what is said of a job of the bytes is said of that of this script
-as_script : (source : List ℕ) (inputs : List Input) (script : Script) (P : Job → Type 0) → IsScript source (keys_of inputs) script → OfJob source inputs P
+as_script : (source : List ℕ) (inputs : List Input) (script : Script) (P : Job → Type 0) → IsScript source (keys_of inputs) script
+    → OfJob source inputs P
     → P (job_of script inputs)
 as_script source inputs script P s o =
     subst (λ (t : Script). P (job_of t inputs)) (same_script source (keys_of inputs) o.0 script o.1 s) o.2
 
 -- a script within the limits isn't too long
-not_too_long : (f : Option files.Line) (source : List ℕ) (inputs : List Input) (path : List ℕ) (at : ℕ) → FitsIn f source inputs → TooLongIn f source inputs path at → ⊥
+not_too_long : (f : Option files.Line) (source : List ℕ) (inputs : List Input) (path : List ℕ) (at : ℕ) → FitsIn f source inputs
+    → TooLongIn f source inputs path at → ⊥
 not_too_long None source inputs path at h t = t
 not_too_long (Some f) source inputs path at h (inl t) = let k = h.0 in omega (arith, k, t.2)
 not_too_long (Some f) source inputs path at h (inr t) = none_over f.inputs inputs path t.3 h.1
 
-script_ends : (w : Words) (source : List ℕ) (inputs : List Input) (script : Script) → IsScript source (keys_of inputs) script → FitsIn (files_of w) source inputs → (why : Why) → IsExpected w source inputs why → EndsScript script inputs why
+script_ends : (w : Words) (source : List ℕ) (inputs : List Input) (script : Script) → IsScript source (keys_of inputs) script
+    → FitsIn (files_of w) source inputs → (why : Why) → IsExpected w source inputs why → EndsScript script inputs why
 script_ends w source inputs script s h Why.Done y =
     (y.1.0, as_script source inputs script (λ j. Means j over_lines (Answered.bytes y.1.0)) s y.1.1)
 script_ends w source inputs script s h (Why.Fault fault) y = as_script source inputs script (λ j. Means j over_lines (Answered.fault fault)) s y.1
@@ -253,7 +268,8 @@ module _ (w : Words) (f : files.Line) (is : files_of w ≡ Some f) (source : Lis
   fit_of : (P : Option files.Line → Type 0) → P (files_of w) → P (Some f)
   fit_of P p = subst P is p
 
-  one_end_of : (end : Why) → (FitsIn (Some f) source inputs → ⊥) → ((kind : SyntaxKind) (l c : ℕ) → SourceFits (Some f) source × IsSyntaxFault source kind l c → ⊥)
+  one_end_of : (end : Why) → (FitsIn (Some f) source inputs → ⊥)
+      → ((kind : SyntaxKind) (l c : ℕ) → SourceFits (Some f) source × IsSyntaxFault source kind l c → ⊥)
       → ((path : List ℕ) (at : ℕ) → TooLongIn (Some f) source inputs path at → Why.TooLongInput path at ≡ end) → EndsSo w source inputs end
   one_end_of end none no_kind same why y = of why y
     where
@@ -284,7 +300,8 @@ module _ (w : Words) (f : files.Line) (is : files_of w ≡ Some f) (source : Lis
       same path at (inl t) = λ i. Why.TooLongInput (t.0 i) (t.1 i)
       same path at (inr t) = absurd (omega (arith, h, t.0))
 
-  too_long_input : (script : Script) (path : List ℕ) → IsScript source (keys_of inputs) script → length source ≤ limit → IsFirstOver f.inputs inputs path
+  too_long_input : (script : Script) (path : List ℕ) → IsScript source (keys_of inputs) script → length source ≤ limit
+      → IsFirstOver f.inputs inputs path
       → EndsSo w source inputs (Why.TooLongInput path input_limit)
   too_long_input script path s h o =
       one_end_of (Why.TooLongInput path input_limit) (λ k. none_over f.inputs inputs path o k.1)
@@ -302,4 +319,5 @@ too_long_input_is_refused = λ w f is source inputs script path s h o. too_long_
 
 pub means_one_answer : MeansOneAnswer
 means_one_answer source inputs a b x y =
-    means_one (job_of x.0 inputs) over_lines a b x.2 (subst (λ (s : Script). Means (job_of s inputs) over_lines b) (same_script source (keys_of inputs) y.0 x.0 y.1 x.1) y.2)
+    means_one (job_of x.0 inputs) over_lines a b x.2
+    (subst (λ (s : Script). Means (job_of s inputs) over_lines b) (same_script source (keys_of inputs) y.0 x.0 y.1 x.1) y.2)

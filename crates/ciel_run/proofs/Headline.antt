@@ -29,7 +29,8 @@ module _ (w : Words) (source : List ℕ) (inputs : List Input) (J : List Entry) 
   lawful : (job : s.Job) (h : List (Event s.Desc)) → Driven (told_of w job) (plan_of w) h → Lawful (told_of w job) (plan_of w) h
   lawful job h d = from (before_all (told_of w job)) h d
     where
-      from : (v : Standing s.Desc) (es : List (Event s.Desc)) → DrivenFrom (told_of w job) (plan_of w) v es → LawfulFrom (told_of w job) (plan_of w) v es
+      from : (v : Standing s.Desc) (es : List (Event s.Desc)) → DrivenFrom (told_of w job) (plan_of w) v es
+          → LawfulFrom (told_of w job) (plan_of w) v es
       from v [] d = tt
       from v (e ∷ es) d = (d.0, from (after (told_of w job) v e) es d.2)
 

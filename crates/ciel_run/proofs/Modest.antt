@@ -1,5 +1,6 @@
 -- Where a job means an answer and makes few descriptions, no two of which share a name, and some worker stays, no end comes but its answer.
-use Rattle.std.proofs.Common.{◌≡◌, ◌≢◌, ◌≤◌, ◌<◌, ◌⊎◌, inl, inr, ℕ, zero, suc, List, [], ◌∷◌, true, false, Option, Some, None, length, refl, sym, ap, subst, ◌∙◌, arith}
+use Rattle.std.proofs.Common.{◌≡◌, ◌≢◌, ◌≤◌, ◌<◌, ◌⊎◌, inl, inr, ℕ, zero, suc, List, [], ◌∷◌, true, false, Option, Some, None, length, refl, sym, ap}
+use Rattle.std.proofs.Common.{subst, ◌∙◌, arith}
 use Rattle.sky_base.specs.See as s
 use Rattle.sky_base.specs.See.{Answered}
 use Rattle.sky_law.specs.Tasks as t
@@ -100,7 +101,9 @@ module _ (w : Words) (job : s.Job) (J : List Entry) where
   driven_or (inl e) = ([], tt, sym e)
   driven_or (inr d) = d
 
-  module _ (laws : ModestRunsAnswer) (orderly : IsOrderly (digest_of w.names) job gives) (m : IsModest (digest_of w.names) job gives most_descriptions) (stays : SomeStays (plan_of w)) (d : DrivenJournal (told_of w job) (plan_of w) J) where
+  module _ (laws : ModestRunsAnswer) (orderly : IsOrderly (digest_of w.names) job gives)
+      (m : IsModest (digest_of w.names) job gives most_descriptions) (stays : SomeStays (plan_of w))
+      (d : DrivenJournal (told_of w job) (plan_of w) J) where
     has : (end : RunEnd) → EndsSo (digest_of w.names) job gives (plan_of w) J end → HasAnswer end
     has end e = laws (digest_of w.names) job gives orderly (plan_of w) m stays J end e
 
@@ -122,13 +125,16 @@ module _ (w : Words) (job : s.Job) (J : List Entry) where
 
 -- ---- of a line
 
-module _ (content : List ℕ → Option (List ℕ)) (w : Words) (risen : Type 0) (J : List Entry) (laws : ModestRunsAnswer) (functions : FunctionsAreOrderly) where
+module _ (content : List ℕ → Option (List ℕ)) (w : Words) (risen : Type 0) (J : List Entry) (laws : ModestRunsAnswer)
+    (functions : FunctionsAreOrderly) where
   -- a cause said of one script of the bytes is said of the one whose job is modest
-  same_job : (source : List ℕ) (inputs : List Input) (P : s.Job → Type 0) (script : Script) → IsScript source (keys_of inputs) script → OfJob source inputs P → P (job_of script inputs)
+  same_job : (source : List ℕ) (inputs : List Input) (P : s.Job → Type 0) (script : Script) → IsScript source (keys_of inputs) script
+      → OfJob source inputs P → P (job_of script inputs)
   same_job source inputs P script is o =
       subst (λ (x : Script). P (job_of x inputs)) (same_script source (keys_of inputs) o.0 script o.1 is) o.2
 
-  module _ (source : List ℕ) (inputs : List Input) (m : IsModestFor w source inputs) (stays : SomeStays (plan_of w)) (driven : IsDriven w source inputs J) where
+  module _ (source : List ℕ) (inputs : List Input) (m : IsModestFor w source inputs) (stays : SomeStays (plan_of w))
+      (driven : IsDriven w source inputs J) where
     abbrev job : s.Job
     job = job_of m.0 inputs
 
@@ -150,16 +156,20 @@ module _ (content : List ℕ → Option (List ℕ)) (w : Words) (risen : Type 0)
 
   -- bytes that are a script within the limits are refused neither as none nor as too long
   no_syntax : (kind : SyntaxKind) (l c : ℕ) → CauseOf content w risen J (Why.Syntax kind l c) → (source : List ℕ) (inputs : List Input)
-      → StandsIn content (files_of w) w.generate source inputs → FitsIn (files_of w) source inputs → (script : Script) → IsScript source (keys_of inputs) script → ⊥
+      → StandsIn content (files_of w) w.generate source inputs → FitsIn (files_of w) source inputs → (script : Script)
+      → IsScript source (keys_of inputs) script → ⊥
   no_syntax kind l c x source inputs st fits script is =
       script_is_run w source inputs script is fits (Why.Syntax kind l c) (x source (source_of content w (files_of w) w.generate source inputs st))
 
   no_too_long : (path : List ℕ) (at : ℕ) → CauseOf content w risen J (Why.TooLongInput path at) → (source : List ℕ) (inputs : List Input)
-      → StandsIn content (files_of w) w.generate source inputs → FitsIn (files_of w) source inputs → (script : Script) → IsScript source (keys_of inputs) script → ⊥
+      → StandsIn content (files_of w) w.generate source inputs → FitsIn (files_of w) source inputs → (script : Script)
+      → IsScript source (keys_of inputs) script → ⊥
   no_too_long path at x source inputs st fits script is =
-      script_is_run w source inputs script is fits (Why.TooLongInput path at) (too_long_in content w (files_of w) w.generate source inputs path at st x)
+      script_is_run w source inputs script is fits (Why.TooLongInput path at)
+      (too_long_in content w (files_of w) w.generate source inputs path at st x)
 
-  pub answers : (why : Why) → EndCause content w risen J why → ¬ risen → (why ≡ Why.WriteFault → ⊥) → OfLine content w (λ source inputs. IsDriven w source inputs J)
+  pub answers : (why : Why) → EndCause content w risen J why → ¬ risen → (why ≡ Why.WriteFault → ⊥)
+      → OfLine content w (λ source inputs. IsDriven w source inputs J)
       → OfLine content w (λ source inputs. Answers w source inputs why)
   answers Why.Done c quiet nw dr source inputs st fits m stays = tt
   answers Why.WriteFault c quiet nw dr source inputs st fits m stays = absurd (nw refl)

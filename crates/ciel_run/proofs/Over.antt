@@ -1,5 +1,6 @@
 -- From a line to the words that are it, and to each end's cause.
-use Rattle.std.proofs.Common.{◌≡◌, ◌≢◌, ◌≤◌, ◌<◌, ◌⊎◌, inl, inr, ℕ, zero, suc, ◌+◌, List, [], ◌∷◌, ◌++◌, true, false, Option, Some, None, Result, Ok, Err, OnErr, OnOk, Contains, length, take, refl, sym, ap, subst, ◌∙◌, arith}
+use Rattle.std.proofs.Common.{◌≡◌, ◌≢◌, ◌≤◌, ◌<◌, ◌⊎◌, inl, inr, ℕ, zero, suc, ◌+◌, List, [], ◌∷◌, ◌++◌, true, false, Option, Some, None, Result, Ok}
+use Rattle.std.proofs.Common.{Err, OnErr, OnOk, Contains, length, take, refl, sym, ap, subst, ◌∙◌, arith}
 use Rattle.std.proofs.lemmas.List.{append-nil, take_all}
 use Rattle.sky_base.specs.See as s
 use Rattle.sky_base.specs.See.{Answered}
@@ -24,7 +25,8 @@ use Rattle.ciel_words.specs.Line.{line_of}
 use Rattle.ciel_words.specs.declared.words.Words.{Words}
 use Rattle.line_kit.specs.Gives.{gives}
 use Rattle.ciel_lines.specs.Causes.{CauseOf, IsTooDeep, JobCause, OfRun, TooLongOf}
-use Rattle.ciel_run.specs.Ending.{Answers, EndCause, IfReadFault, IfTooDeep, IsAnswered, IsExpected, MayEnd, TellsParts, TooLongIn, Writes, WritesAnswer, WritesPart}
+use Rattle.ciel_run.specs.Ending.{Answers, EndCause, IfReadFault, IfTooDeep, IsAnswered, IsExpected, MayEnd, TellsParts, TooLongIn, Writes}
+use Rattle.ciel_run.specs.Ending.{WritesAnswer, WritesPart}
 use Rattle.ciel_lines.specs.Line.{FitsIn, OfLine, OfSource, OverFiles, SourceFits, SourceIn, StandsIn, files_of, paths}
 use Rattle.ciel_lines.specs.Runs.{IsDriven, IsModestFor, digest_of, plan_of, told_of}
 use Rattle.ciel_lines.specs.Source.{IsAnswer, OfJob, job_of, over_lines}
@@ -33,7 +35,8 @@ use Rattle.ciel_run.proofs.Exact.{same_script}
 
 -- ---- the line that the words are
 
-pub over_line : (words : List (List ℕ)) (line : Words) (P : Words → Type 0) → line_of words ≡ Some line → P line → (w : Words) → line_of words ≡ Some w → P w
+pub over_line : (words : List (List ℕ)) (line : Words) (P : Words → Type 0) → line_of words ≡ Some line → P line → (w : Words) → line_of words
+    ≡ Some w → P w
 over_line words line P e p w f =
     let both : Some line ≡ Some w = sym e ∙ f in
     let same : line ≡ w = cc in
@@ -80,17 +83,20 @@ module _ (b m n : Option (List ℕ)) (text more : List ℕ) where
   part_last (Ok x) w p = part_whole m n more w
   part_last (Err x) w p = p
 
-  pub both_parts : {T E U V : Type 0} (r : Result T E) (q : Result U V) → OnOk r (Tells b m text) → OnErr r (TellsPart b m text) → OnOk q (Tells m n more) → OnErr q (TellsPart m n more)
+  pub both_parts : {T E U V : Type 0} (r : Result T E) (q : Result U V) → OnOk r (Tells b m text) → OnErr r (TellsPart b m text)
+      → OnOk q (Tells m n more) → OnErr q (TellsPart m n more)
       → TellsParts b n text more
   both_parts r q w p x y = parts (part_then r w p) (part_last q x y)
 
-  whole : {T E U V : Type 0} (r : Result T E) (q : Result U V) (a f z : ℕ) → f ≤ z → a ≤ f → OnOk r (Tells b m text) → OnErr r (HasRisen a f) → OnOk q (Tells m n more) → OnErr q (HasRisen f z)
+  whole : {T E U V : Type 0} (r : Result T E) (q : Result U V) (a f z : ℕ) → f ≤ z → a ≤ f → OnOk r (Tells b m text) → OnErr r (HasRisen a f)
+      → OnOk q (Tells m n more) → OnErr q (HasRisen f z)
       → ¬ HasRisen a z → Tells b n (text ++ more)
   whole (Ok x) (Ok y) a f z h k w p u v quiet = tells_more b m n text more w u
   whole (Err x) q a f z h k w p u v quiet = absurd (quiet (risen_on a f z k h p))
   whole (Ok x) (Err y) a f z h k w p u v quiet = absurd (quiet (risen_since a f z k v))
 
-  pub both_whole : {T E U V : Type 0} (r : Result T E) (q : Result U V) (a f z : ℕ) → f ≤ z → a ≤ f → OnOk r (Tells b m text) → OnErr r (HasRisen a f) → OnOk q (Tells m n more) → OnErr q (HasRisen f z)
+  pub both_whole : {T E U V : Type 0} (r : Result T E) (q : Result U V) (a f z : ℕ) → f ≤ z → a ≤ f → OnOk r (Tells b m text)
+      → OnErr r (HasRisen a f) → OnOk q (Tells m n more) → OnErr q (HasRisen f z)
       → ¬ HasRisen a z → Tells b n (text ++ more)
   both_whole r q a f z h k w p u v quiet = whole r q a f z h k w p u v quiet
 
@@ -107,19 +113,22 @@ module _ (content : List ℕ → Option (List ℕ)) (w : Words) where
   -- ---- which end is expected
 
   -- a source that stands there stands with its inputs
-  pub source_of : (f : Option files.Line) (g : Option ℕ) (source : List ℕ) (inputs : List Input) → StandsIn content f g source inputs → SourceIn content f g source
+  pub source_of : (f : Option files.Line) (g : Option ℕ) (source : List ℕ) (inputs : List Input) → StandsIn content f g source inputs
+      → SourceIn content f g source
   source_of (Some f) g source inputs st = st.source_there
   source_of None (Some lines) source inputs st = st.0
   source_of None None source inputs st = absurd st
 
-  pub too_long_in : (f : Option files.Line) (g : Option ℕ) (source : List ℕ) (inputs : List Input) (path : List ℕ) (at : ℕ) → StandsIn content f g source inputs → TooLongOf content f path at
+  pub too_long_in : (f : Option files.Line) (g : Option ℕ) (source : List ℕ) (inputs : List Input) (path : List ℕ) (at : ℕ)
+      → StandsIn content f g source inputs → TooLongOf content f path at
       → TooLongIn f source inputs path at
   too_long_in None g source inputs path at st t = absurd t
   too_long_in (Some f) g source inputs path at st t = t.1 source inputs st
 
   module _ (risen : Type 0) (J : List Entry) where
     -- each end that isn't an answer written, by its cause
-    expected_of : (why : Why) → CauseOf content w risen J why → ¬ risen → (why ≢ Why.WriteFault) → OfLine content w (λ source inputs. IsExpected w source inputs why)
+    expected_of : (why : Why) → CauseOf content w risen J why → ¬ risen → (why ≢ Why.WriteFault)
+        → OfLine content w (λ source inputs. IsExpected w source inputs why)
     expected_of (Why.Syntax kind l c) x quiet nw source inputs st = x source (source_of (files_of w) w.generate source inputs st)
     expected_of (Why.TooLongInput path at) x quiet nw source inputs st = too_long_in (files_of w) w.generate source inputs path at st x
     expected_of Why.Memory x quiet nw source inputs st = tt
@@ -143,7 +152,8 @@ module _ (content : List ℕ → Option (List ℕ)) (w : Words) where
     done_expected : (b n : Option (List ℕ)) → Writes content w (Tells b n) → OfLine content w (λ source inputs. IsExpected w source inputs Why.Done)
     done_expected b n x source inputs st = ((x.1 source inputs st).0, (x.0, (x.1 source inputs st).1))
 
-    pub expected : (why : Why) (b n : Option (List ℕ)) → EndCause content w risen J why → (why ≡ Why.Done → Writes content w (Tells b n)) → ¬ risen → (why ≡ Why.WriteFault → ⊥)
+    pub expected : (why : Why) (b n : Option (List ℕ)) → EndCause content w risen J why → (why ≡ Why.Done → Writes content w (Tells b n))
+        → ¬ risen → (why ≡ Why.WriteFault → ⊥)
         → OfLine content w (λ source inputs. IsExpected w source inputs why)
     expected Why.Done b n c d quiet nw = done_expected b n (d refl)
     expected Why.WriteFault b n c d quiet nw = absurd (nw refl)
@@ -161,7 +171,8 @@ module _ (content : List ℕ → Option (List ℕ)) (w : Words) where
 
 -- ---- causes, of the words
 
-module _ (content : List ℕ → Option (List ℕ)) (words : List (List ℕ)) (line : Words) (e : line_of words ≡ Some line) (risen : Type 0) (J : List Entry) where
+module _ (content : List ℕ → Option (List ℕ)) (words : List (List ℕ)) (line : Words) (e : line_of words ≡ Some line) (risen : Type 0)
+    (J : List Entry) where
   pub too_deep : (why : Why) → EndCause content line risen J why
       → IfTooDeep why (λ depth. OverFiles content words (λ w source inputs. OfJob source inputs (λ job. IsTooDeep w J job depth)))
   too_deep Why.Done c = tt
@@ -177,7 +188,8 @@ module _ (content : List ℕ → Option (List ℕ)) (words : List (List ℕ)) (l
   too_deep Why.Memory c = tt
   too_deep (Why.TooLongInput path at) c = tt
   too_deep (Why.TooDeepPlain depth) c =
-      over_line words line (λ w. OfLine content w (λ source inputs. OfJob source inputs (λ job. IsTooDeep w J job depth))) e (λ source inputs st. (c.1 source inputs st).1)
+      over_line words line (λ w. OfLine content w (λ source inputs. OfJob source inputs (λ job. IsTooDeep w J job depth))) e
+      (λ source inputs st. (c.1 source inputs st).1)
 
   pub read_fault : (why : Why) → EndCause content line risen J why → IfReadFault why (λ path. Contains (paths (line_of words)) path × risen)
   read_fault Why.Done c = tt

@@ -65,51 +65,78 @@ where
     requires gates { length gates.old.items ≡ 64 }
 
     // What is written where it ends well.
-    ensures bytes { result.status ≡ 0 → OverFiles (F.content files.old) words.now (λ w source inputs. WritesAnswer w source inputs (O.written out.old) (O.written out.new)) }
+    ensures bytes { result.status ≡ 0 → OverFiles (F.content files.old) words.now
+        (λ w source inputs. WritesAnswer w source inputs (O.written out.old) (O.written out.new)) }
 
     // What the journal says: it is that of a driven history, and where there is an answer it ends with the root task. Each task started was
     // needed, none was started whose outputs were all live, they are few, and no name was made with two values.
     ensures driven { OverFiles (F.content files.old) words.now (λ w source inputs. IsDriven w source inputs (map entry_view result.journal.items)) }
-    ensures root { is_plain (line_of words.now) ≡ false → ShowsEnd result.why → OverFiles (F.content files.old) words.now (λ w source inputs. EndsShown w source inputs (map entry_view result.journal.items)) }
-    ensures needed { OverFiles (F.content files.old) words.now (λ w source inputs. StartsNeeded w source inputs (map entry_view result.journal.items)) }
-    ensures missing { OverFiles (F.content files.old) words.now (λ w source inputs. StartsMissing w source inputs (map entry_view result.journal.items)) }
+    ensures root { is_plain (line_of words.now) ≡ false → ShowsEnd result.why
+        → OverFiles (F.content files.old) words.now (λ w source inputs. EndsShown w source inputs (map entry_view result.journal.items)) }
+    ensures needed { OverFiles (F.content files.old) words.now
+        (λ w source inputs. StartsNeeded w source inputs (map entry_view result.journal.items)) }
+    ensures missing { OverFiles (F.content files.old) words.now
+        (λ w source inputs. StartsMissing w source inputs (map entry_view result.journal.items)) }
     ensures few { OverFiles (F.content files.old) words.now (λ w source inputs. StartsFew w source inputs (map entry_view result.journal.items)) }
-    ensures one_value { OverFiles (F.content files.old) words.now (λ w source inputs. NamesHaveOne w source inputs (map entry_view result.journal.items)) }
+    ensures one_value { OverFiles (F.content files.old) words.now
+        (λ w source inputs. NamesHaveOne w source inputs (map entry_view result.journal.items)) }
     ensures empty { NoRun (is_plain (line_of words.now)) result.why → map entry_view result.journal.items ≡ [] }
 
     // What the gates tell.
-    ensures told { result.why ≢ Why.Memory → ToldBy (map entry_view result.journal.items) (told_of G.entered (workers_of (line_of words.now)) gates.old.items) (told_of G.entered (workers_of (line_of words.now)) gates.new.items) }
-    ensures others { result.why ≢ Why.Memory → drop (workers_of (line_of words.now)) gates.new.items ≡ drop (workers_of (line_of words.now)) gates.old.items }
+    ensures told { result.why ≢ Why.Memory → ToldBy (map entry_view result.journal.items)
+        (told_of G.entered (workers_of (line_of words.now)) gates.old.items)
+        (told_of G.entered (workers_of (line_of words.now)) gates.new.items) }
+    ensures others { result.why ≢ Why.Memory → drop (workers_of (line_of words.now)) gates.new.items
+        ≡ drop (workers_of (line_of words.now)) gates.old.items }
     ensures all { result.why ≢ Why.Memory → length gates.new.items ≡ 64 }
     ensures kept { NoRun (is_plain (line_of words.now)) result.why → gates.new ≡ gates.old }
 
     // When each other end comes.
     ensures usage { result.why ≡ Why.Usage → line_of words.now ≡ None }
     ensures no_line { line_of words.now ≡ None → (result.why ≡ Why.Usage) ⊎ (result.why ≡ Why.Memory) }
-    ensures syntax { IfSyntax result.why (λ kind line col. OverScript (F.content files.old) words.now (λ w source. IsSyntaxFault source kind line col)) }
-    ensures fault { IfFault result.why (λ fault. OverFiles (F.content files.old) words.now (λ w source inputs. IsAnswer source inputs (Meant.fault fault))) }
-    ensures endless { IfEndless result.why (λ names. OverFiles (F.content files.old) words.now (λ w source inputs. OfJob source inputs (λ job. GoesRound w (map entry_view result.journal.items) job names))) }
-    ensures too_many { IfTooMany result.why (λ held given. OverFiles (F.content files.old) words.now (λ w source inputs. OfJob source inputs (λ job. HasTooMany w (map entry_view result.journal.items) job held given))) }
-    ensures all_lost { result.why ≡ Why.AllLost → OverLine (F.content files.old) words.now (λ w. (w.plain ≡ false) × AllAreLost (plan_of w) (map entry_view result.journal.items)) }
-    ensures name_clash { IfNameClash result.why (λ kept given. OverFiles (F.content files.old) words.now (λ w source inputs. OfJob source inputs (λ job. Clashes w (map entry_view result.journal.items) job kept given))) }
-    ensures too_deep { IfTooDeep result.why (λ depth. OverFiles (F.content files.old) words.now (λ w source inputs. OfJob source inputs (λ job. IsTooDeep w (map entry_view result.journal.items) job depth))) }
-    ensures too_long { IfTooLong result.why (λ path at. OverLine (F.content files.old) words.now (λ w. TooLongOf (F.content files.old) (files_of w) path at)) }
-    ensures read_fault { IfReadFault result.why (λ path. Contains (paths (line_of words.now)) path × HasRisen (F.faults files.old) (F.faults files.new)) }
-    ensures write_fault { result.why ≡ Why.WriteFault → HasRisen (O.faults out.old) (O.faults out.new) ⊎ ((is_traced (line_of words.now) ≡ true) × HasRisen (J.faults log.old) (J.faults log.new)) }
+    ensures syntax { IfSyntax result.why (λ kind line col. OverScript (F.content files.old) words.now
+        (λ w source. IsSyntaxFault source kind line col)) }
+    ensures fault { IfFault result.why (λ fault. OverFiles (F.content files.old) words.now
+        (λ w source inputs. IsAnswer source inputs (Meant.fault fault))) }
+    ensures endless { IfEndless result.why (λ names. OverFiles (F.content files.old) words.now
+        (λ w source inputs. OfJob source inputs (λ job. GoesRound w (map entry_view result.journal.items) job names))) }
+    ensures too_many { IfTooMany result.why (λ held given. OverFiles (F.content files.old) words.now
+        (λ w source inputs. OfJob source inputs (λ job. HasTooMany w (map entry_view result.journal.items) job held given))) }
+    ensures all_lost { result.why ≡ Why.AllLost
+        → OverLine (F.content files.old) words.now (λ w. (w.plain ≡ false) × AllAreLost (plan_of w) (map entry_view result.journal.items)) }
+    ensures name_clash { IfNameClash result.why
+        (λ kept given. OverFiles (F.content files.old) words.now
+        (λ w source inputs. OfJob source inputs (λ job. Clashes w (map entry_view result.journal.items) job kept given))) }
+    ensures too_deep { IfTooDeep result.why (λ depth. OverFiles (F.content files.old) words.now
+        (λ w source inputs. OfJob source inputs (λ job. IsTooDeep w (map entry_view result.journal.items) job depth))) }
+    ensures too_long { IfTooLong result.why (λ path at. OverLine (F.content files.old) words.now
+        (λ w. TooLongOf (F.content files.old) (files_of w) path at)) }
+    ensures read_fault { IfReadFault result.why
+        (λ path. Contains (paths (line_of words.now)) path × HasRisen (F.faults files.old) (F.faults files.new)) }
+    ensures write_fault { result.why ≡ Why.WriteFault → HasRisen (O.faults out.old) (O.faults out.new)
+        ⊎ ((is_traced (line_of words.now) ≡ true) × HasRisen (J.faults log.old) (J.faults log.new)) }
 
     // Which end comes where files tell, and reading and writing go well; and that it is the answer, where the job means one and some worker
     // stays.
-    ensures complete { ¬ HasRisen (F.faults files.old) (F.faults files.new) → ¬ HasRisen (O.faults out.old) (O.faults out.new) → ¬ HasRisen (J.faults log.old) (J.faults log.new) → OverFiles (F.content files.old) words.now (λ w source inputs. IsExpected w source inputs result.why) }
-    ensures answers { ¬ HasRisen (F.faults files.old) (F.faults files.new) → ¬ HasRisen (O.faults out.old) (O.faults out.new) → ¬ HasRisen (J.faults log.old) (J.faults log.new) → OverFiles (F.content files.old) words.now (λ w source inputs. Answers w source inputs result.why) }
+    ensures complete { ¬ HasRisen (F.faults files.old) (F.faults files.new) → ¬ HasRisen (O.faults out.old) (O.faults out.new)
+        → ¬ HasRisen (J.faults log.old) (J.faults log.new)
+        → OverFiles (F.content files.old) words.now (λ w source inputs. IsExpected w source inputs result.why) }
+    ensures answers { ¬ HasRisen (F.faults files.old) (F.faults files.new) → ¬ HasRisen (O.faults out.old) (O.faults out.new)
+        → ¬ HasRisen (J.faults log.old) (J.faults log.new)
+        → OverFiles (F.content files.old) words.now (λ w source inputs. Answers w source inputs result.why) }
 
     // What was asked, and what was written where it doesn't end well.
     ensures asked { AsksFor result.why (paths (line_of words.now)) (F.asked files.old) (F.asked files.new) }
-    ensures part { result.why ≡ Why.WriteFault → OverFiles (F.content files.old) words.now (λ w source inputs. WritesPart w source inputs (O.written out.old) (O.written out.new)) }
+    ensures part { result.why ≡ Why.WriteFault → OverFiles (F.content files.old) words.now
+        (λ w source inputs. WritesPart w source inputs (O.written out.old) (O.written out.new)) }
     ensures nothing { result.why ≢ Why.Done → result.why ≢ Why.WriteFault → out.new ≡ out.old }
 
     // What is put on the log: the journal's text where it is asked for, and the message, which is empty for an answer that was written.
-    ensures message { ¬ HasRisen (J.faults log.old) (J.faults log.new) → Tells (J.written log.old) (J.written log.new) (trace_of (is_traced (line_of words.now)) result.journal.items ++ message_of result.why) }
-    ensures message_part { TellsParts (J.written log.old) (J.written log.new) (trace_of (is_traced (line_of words.now)) result.journal.items) (message_of result.why) }
+    ensures message { ¬ HasRisen (J.faults log.old) (J.faults log.new)
+        → Tells (J.written log.old) (J.written log.new)
+        (trace_of (is_traced (line_of words.now)) result.journal.items ++ message_of result.why) }
+    ensures message_part { TellsParts (J.written log.old) (J.written log.new) (trace_of (is_traced (line_of words.now)) result.journal.items)
+        (message_of result.why) }
 
     ensures status { result.status ≡ status_of result.why }
 {
@@ -165,17 +192,22 @@ where
     ensures done { result.why ≡ Why.Done → Writes (F.content files.old) line.now (Tells (O.written out.old) (O.written out.new)) }
     ensures part { result.why ≡ Why.WriteFault → Writes (F.content files.old) line.now (TellsPart (O.written out.old) (O.written out.new)) }
     ensures nothing { result.why ≢ Why.Done → result.why ≢ Why.WriteFault → out.new ≡ out.old }
-    ensures cause { EndCause (F.content files.old) line.now (HasRisen (F.faults files.old) (F.faults files.new)) (map entry_view result.journal.items) result.why }
-    ensures write_fault { result.why ≡ Why.WriteFault → HasRisen (O.faults out.old) (O.faults out.new) ⊎ ((line.now.trace ≡ true) × HasRisen (J.faults log.old) (J.faults log.new)) }
+    ensures cause { EndCause (F.content files.old) line.now (HasRisen (F.faults files.old) (F.faults files.new))
+        (map entry_view result.journal.items) result.why }
+    ensures write_fault { result.why ≡ Why.WriteFault → HasRisen (O.faults out.old) (O.faults out.new)
+        ⊎ ((line.now.trace ≡ true) × HasRisen (J.faults log.old) (J.faults log.new)) }
     ensures driven { OfLine (F.content files.old) line.now (λ source inputs. IsDriven line.now source inputs (map entry_view result.journal.items)) }
-    ensures root { line.now.plain ≡ false → ShowsEnd result.why → OfLine (F.content files.old) line.now (λ source inputs. EndsShown line.now source inputs (map entry_view result.journal.items)) }
+    ensures root { line.now.plain ≡ false → ShowsEnd result.why
+        → OfLine (F.content files.old) line.now (λ source inputs. EndsShown line.now source inputs (map entry_view result.journal.items)) }
     ensures empty { NoRun line.now.plain result.why → map entry_view result.journal.items ≡ [] }
     ensures kept { NoRun line.now.plain result.why → gates.new ≡ gates.old }
-    ensures told { result.why ≢ Why.Memory → ToldBy (map entry_view result.journal.items) (told_of G.entered line.now.workers gates.old.items) (told_of G.entered line.now.workers gates.new.items) }
+    ensures told { result.why ≢ Why.Memory → ToldBy (map entry_view result.journal.items) (told_of G.entered line.now.workers gates.old.items)
+        (told_of G.entered line.now.workers gates.new.items) }
     ensures others { result.why ≢ Why.Memory → drop line.now.workers gates.new.items ≡ drop line.now.workers gates.old.items }
     ensures all { result.why ≢ Why.Memory → length gates.new.items ≡ 64 }
     ensures asked { AsksFor result.why (paths_in (files_of line.now)) (F.asked files.old) (F.asked files.new) }
-    ensures message { ¬ HasRisen (J.faults log.old) (J.faults log.new) → Tells (J.written log.old) (J.written log.new) (trace_of line.now.trace result.journal.items ++ message_of result.why) }
+    ensures message { ¬ HasRisen (J.faults log.old) (J.faults log.new)
+        → Tells (J.written log.old) (J.written log.new) (trace_of line.now.trace result.journal.items ++ message_of result.why) }
     ensures message_part { TellsParts (J.written log.old) (J.written log.new) (trace_of line.now.trace result.journal.items) (message_of result.why) }
     ensures status { result.status ≡ status_of result.why }
 {
@@ -203,8 +235,10 @@ fn write<O: Sink, J: Sink>(
     ensures ends { (result ≡ Why.Done) ⊎ (result ≡ Why.WriteFault) }
     ensures done { result ≡ Why.Done → Tells (O.written out.old) (O.written out.new) (output_of line.now.generate answer.now) }
     ensures part { result ≡ Why.WriteFault → TellsPart (O.written out.old) (O.written out.new) (output_of line.now.generate answer.now) }
-    ensures write_fault { result ≡ Why.WriteFault → HasRisen (O.faults out.old) (O.faults out.new) ⊎ ((line.now.trace ≡ true) × HasRisen (J.faults log.old) (J.faults log.new)) }
-    ensures message { ¬ HasRisen (J.faults log.old) (J.faults log.new) → Tells (J.written log.old) (J.written log.new) (trace_of line.now.trace journal.now ++ message_of result) }
+    ensures write_fault { result ≡ Why.WriteFault → HasRisen (O.faults out.old) (O.faults out.new)
+        ⊎ ((line.now.trace ≡ true) × HasRisen (J.faults log.old) (J.faults log.new)) }
+    ensures message { ¬ HasRisen (J.faults log.old) (J.faults log.new)
+        → Tells (J.written log.old) (J.written log.new) (trace_of line.now.trace journal.now ++ message_of result) }
     ensures message_part { TellsParts (J.written log.old) (J.written log.new) (trace_of line.now.trace journal.now) (message_of result) }
 {
     match put_answer(line.generate, answer.as_slice(), out) {
@@ -220,7 +254,8 @@ fn write<O: Sink, J: Sink>(
 fn trace<J: Sink>(traced: bool, journal: &[Entry], log: &mut J) -> Why
     ensures ends { (result ≡ Why.Done) ⊎ (result ≡ Why.WriteFault) }
     ensures write_fault { result ≡ Why.WriteFault → (traced ≡ true) × HasRisen (J.faults log.old) (J.faults log.new) }
-    ensures message { ¬ HasRisen (J.faults log.old) (J.faults log.new) → Tells (J.written log.old) (J.written log.new) (trace_of traced journal.now ++ message_of result) }
+    ensures message { ¬ HasRisen (J.faults log.old) (J.faults log.new)
+        → Tells (J.written log.old) (J.written log.new) (trace_of traced journal.now ++ message_of result) }
     ensures message_part { TellsParts (J.written log.old) (J.written log.new) (trace_of traced journal.now) (message_of result) }
 {
     match put_trace(traced, journal, log) {
@@ -249,7 +284,8 @@ fn put_trace<J: Sink>(traced: bool, journal: &[Entry], log: &mut J) -> Result<()
 /// Puts the journal's text on the log, where it is asked for, and the message behind it. What fails there changes nothing else.
 fn tell<J: Sink>(traced: bool, journal: &[Entry], why: &Why, log: &mut J)
     requires why { why.now ≢ Why.Done }
-    ensures message { ¬ HasRisen (J.faults log.old) (J.faults log.new) → Tells (J.written log.old) (J.written log.new) (trace_of traced journal.now ++ message_of why.now) }
+    ensures message { ¬ HasRisen (J.faults log.old) (J.faults log.new)
+        → Tells (J.written log.old) (J.written log.new) (trace_of traced journal.now ++ message_of why.now) }
     ensures message_part { TellsParts (J.written log.old) (J.written log.new) (trace_of traced journal.now) (message_of why.now) }
 {
     let _ = put_trace(traced, journal, log);

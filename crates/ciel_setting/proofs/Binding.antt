@@ -77,28 +77,34 @@ module _ {N : Type 0} where
       instead (inl j) = inl j
       instead (inr j) = inr (in_right d (refs w) (pairs_refs ps) j)
 
-      later : (In d (refs w) ⊎ In d (pairs_refs (put x v ps))) → (In d (pairs_refs (put x v ps)) → In d (refs v) ⊎ In d (pairs_refs ps)) → In d (refs v) ⊎ In d (refs w ++ pairs_refs ps)
+      later : (In d (refs w) ⊎ In d (pairs_refs (put x v ps))) → (In d (pairs_refs (put x v ps)) → In d (refs v) ⊎ In d (pairs_refs ps))
+          → In d (refs v) ⊎ In d (refs w ++ pairs_refs ps)
       later (inl j) r = inr (in_left d (refs w) (pairs_refs ps) j)
       later (inr j) r = right (r j)
 
-      pick : (o : Ordering) → In d (pairs_refs (match_ordering o (pair x v (pair l w ps)) (pair l v ps) (pair l w (put x v ps)))) → (In d (pairs_refs (put x v ps)) → In d (refs v) ⊎ In d (pairs_refs ps)) → In d (refs v) ⊎ In d (refs w ++ pairs_refs ps)
+      pick : (o : Ordering) → In d (pairs_refs (match_ordering o (pair x v (pair l w ps)) (pair l v ps) (pair l w (put x v ps))))
+          → (In d (pairs_refs (put x v ps)) → In d (refs v) ⊎ In d (pairs_refs ps)) → In d (refs v) ⊎ In d (refs w ++ pairs_refs ps)
       pick Ordering.Less j r = in_join d (refs v) (refs w ++ pairs_refs ps) j
       pick Ordering.Equal j r = instead (in_join d (refs v) (pairs_refs ps) j)
       pick Ordering.Greater j r = later (in_join d (refs w) (pairs_refs (put x v ps)) j) r
 
-  put_to : (x : List ℕ) (v : Val N) (ps : Pairs N) → NoKey x ps → (d : Desc N) → (In d (refs v) ⊎ In d (pairs_refs ps)) → In d (pairs_refs (put x v ps))
+  put_to : (x : List ℕ) (v : Val N) (ps : Pairs N) → NoKey x ps → (d : Desc N) → (In d (refs v) ⊎ In d (pairs_refs ps))
+      → In d (pairs_refs (put x v ps))
   put_to x v no_pairs n d (inl i) = in_left d (refs v) [] i
   put_to x v no_pairs n d (inr i) = absurd i
   put_to x v (pair l w ps) n d i = pick (slice_cmp nat_cmp x l) refl i (put_to x v ps n.1 d)
     where
-      pick : (o : Ordering) → slice_cmp nat_cmp x l ≡ o → (In d (refs v) ⊎ In d (refs w ++ pairs_refs ps)) → ((In d (refs v) ⊎ In d (pairs_refs ps)) → In d (pairs_refs (put x v ps))) → In d (pairs_refs (match_ordering o (pair x v (pair l w ps)) (pair l v ps) (pair l w (put x v ps))))
+      pick : (o : Ordering) → slice_cmp nat_cmp x l ≡ o → (In d (refs v) ⊎ In d (refs w ++ pairs_refs ps))
+          → ((In d (refs v) ⊎ In d (pairs_refs ps)) → In d (pairs_refs (put x v ps)))
+          → In d (pairs_refs (match_ordering o (pair x v (pair l w ps)) (pair l v ps) (pair l w (put x v ps))))
       pick Ordering.Less e (inl j) r = in_left d (refs v) (refs w ++ pairs_refs ps) j
       pick Ordering.Less e (inr j) r = in_right d (refs v) (refs w ++ pairs_refs ps) j
       pick Ordering.Equal e j r = absurd (not_equal x l n.0 e)
       pick Ordering.Greater e (inl j) r = in_right d (refs w) (pairs_refs (put x v ps)) (r (inl j))
       pick Ordering.Greater e (inr j) r = turn (in_join d (refs w) (pairs_refs ps) j) r
         where
-          turn : (In d (refs w) ⊎ In d (pairs_refs ps)) → ((In d (refs v) ⊎ In d (pairs_refs ps)) → In d (pairs_refs (put x v ps))) → In d (refs w ++ pairs_refs (put x v ps))
+          turn : (In d (refs w) ⊎ In d (pairs_refs ps)) → ((In d (refs v) ⊎ In d (pairs_refs ps)) → In d (pairs_refs (put x v ps)))
+              → In d (refs w ++ pairs_refs (put x v ps))
           turn (inl k) r = in_left d (refs w) (pairs_refs (put x v ps)) k
           turn (inr k) r = in_right d (refs w) (pairs_refs (put x v ps)) (r (inr k))
 
@@ -106,13 +112,15 @@ module _ {N : Type 0} where
   put_apart xs x v no_pairs n h = (n, tt)
   put_apart xs x v (pair l w ps) n h = pick (slice_cmp nat_cmp x l) (put_apart xs x v ps n h.1)
     where
-      pick : (o : Ordering) → KeysApart xs (put x v ps) → KeysApart xs (match_ordering o (pair x v (pair l w ps)) (pair l v ps) (pair l w (put x v ps)))
+      pick : (o : Ordering) → KeysApart xs (put x v ps)
+          → KeysApart xs (match_ordering o (pair x v (pair l w ps)) (pair l v ps) (pair l w (put x v ps)))
       pick Ordering.Less r = (n, h)
       pick Ordering.Equal r = (h.0, h.1)
       pick Ordering.Greater r = (h.0, r)
 
   -- all parameters
-  pub bound_from : (xs : List (List ℕ)) (vs : Vals N) (ps : Pairs N) (d : Desc N) → In d (pairs_refs (bind xs vs ps)) → In d (vals_refs vs) ⊎ In d (pairs_refs ps)
+  pub bound_from : (xs : List (List ℕ)) (vs : Vals N) (ps : Pairs N) (d : Desc N) → In d (pairs_refs (bind xs vs ps)) → In d (vals_refs vs)
+      ⊎ In d (pairs_refs ps)
   bound_from [] vs ps d i = inr i
   bound_from (x ∷ xs) no_vals ps d i = inr i
   bound_from (x ∷ xs) (val v vs) ps d i = pick (bound_from xs vs (put x v ps) d i)
@@ -125,7 +133,8 @@ module _ {N : Type 0} where
       pick (inl j) = inl (in_right d (refs v) (vals_refs vs) j)
       pick (inr j) = turn (put_from x v ps d j)
 
-  pub bound_to : (xs : List (List ℕ)) (vs : Vals N) (ps : Pairs N) → length xs ≡ count vs → AllApart xs → KeysApart xs ps → (d : Desc N) → (In d (vals_refs vs) ⊎ In d (pairs_refs ps)) → In d (pairs_refs (bind xs vs ps))
+  pub bound_to : (xs : List (List ℕ)) (vs : Vals N) (ps : Pairs N) → length xs ≡ count vs → AllApart xs → KeysApart xs ps → (d : Desc N)
+      → (In d (vals_refs vs) ⊎ In d (pairs_refs ps)) → In d (pairs_refs (bind xs vs ps))
   bound_to [] no_vals ps l a k d (inl i) = absurd i
   bound_to [] no_vals ps l a k d (inr i) = i
   bound_to [] (val v vs) ps l a k d i = absurd (omega (arith, l))
@@ -134,11 +143,15 @@ module _ {N : Type 0} where
       let f = fewer x xs ps k in
       pick i f.0 (bound_to xs vs (put x v ps) (omega (arith, l)) a.1 (put_apart xs x v ps a.0 f.1) d)
     where
-      turn : (In d (refs v) ⊎ In d (vals_refs vs)) → NoKey x ps → ((In d (vals_refs vs) ⊎ In d (pairs_refs (put x v ps))) → In d (pairs_refs (bind xs vs (put x v ps)))) → In d (pairs_refs (bind xs vs (put x v ps)))
+      turn : (In d (refs v) ⊎ In d (vals_refs vs)) → NoKey x ps
+          → ((In d (vals_refs vs) ⊎ In d (pairs_refs (put x v ps))) → In d (pairs_refs (bind xs vs (put x v ps))))
+          → In d (pairs_refs (bind xs vs (put x v ps)))
       turn (inl j) n r = r (inr (put_to x v ps n d (inl j)))
       turn (inr j) n r = r (inl j)
 
-      pick : (In d (refs v ++ vals_refs vs) ⊎ In d (pairs_refs ps)) → NoKey x ps → ((In d (vals_refs vs) ⊎ In d (pairs_refs (put x v ps))) → In d (pairs_refs (bind xs vs (put x v ps)))) → In d (pairs_refs (bind xs vs (put x v ps)))
+      pick : (In d (refs v ++ vals_refs vs) ⊎ In d (pairs_refs ps)) → NoKey x ps
+          → ((In d (vals_refs vs) ⊎ In d (pairs_refs (put x v ps))) → In d (pairs_refs (bind xs vs (put x v ps))))
+          → In d (pairs_refs (bind xs vs (put x v ps)))
       pick (inl j) n r = turn (in_join d (refs v) (vals_refs vs) j) n r
       pick (inr j) n r = r (inr (put_to x v ps n d (inr j)))
 

@@ -15,7 +15,8 @@ use Rattle.sky_params.specs.Orderly.{Orderly}
 
 module _ {P B : Type 0} where
   -- the job that a script means, with the names of this digest, and whatever lies at places
-  abbrev pub real_setting : (List ℕ → List ℕ) → s.Job → s.Around → (s.Obj → Digest) → (n.State → Digest) → (P → ℕ) → (P → B) → (ℕ → s.Desc → Option B) → (ℕ → Task s.Desc → ℕ → Option B) → Setting s.Desc P B
+  abbrev pub real_setting : (List ℕ → List ℕ) → s.Job → s.Around → (s.Obj → Digest) → (n.State → Digest) → (P → ℕ) → (P → B)
+      → (ℕ → s.Desc → Option B) → (ℕ → Task s.Desc → ℕ → Option B) → Setting s.Desc P B
   real_setting digest job around mark frozen at block object state =
       record {
         job = real_job job around (name no_name (digested digest)) mark frozen;

@@ -1,11 +1,15 @@
 -- Each string and each key that stands in JSON is UTF-8.
-use Rattle.std.proofs.Common.{◌≡◌, ℕ, zero, suc, Bool, true, false, List, [], ◌∷◌, ◌++◌, length, Option, Some, None, option_and_then, IsUtf8, refl, sym, subst, arith, append_assoc}
+use Rattle.std.proofs.Common.{◌≡◌, ℕ, zero, suc, Bool, true, false, List, [], ◌∷◌, ◌++◌, length, Option, Some, None, option_and_then, IsUtf8, refl}
+use Rattle.std.proofs.Common.{sym, subst, arith, append_assoc}
 use Rattle.std.specs.Prelude.{◌==◌}
 use Rattle.std.proofs.lemmas.Bool.{cond_both, eqb-true}
 use Rattle.json.specs.Ascii as ascii
 use Rattle.json.specs.Json as json
-use Rattle.json.specs.Json.{Json, Items, Members, no_items, item, no_members, member, Parse, parse_map, after_end_array, read_key, items_step, members_step, items, members, value_with, value, if_last}
-use Rattle.json.specs.Lex.{Lexeme, token, comma, colon, Class, class, quote, backslash, operator, space, other, operator_lexeme, string_token, Mode, between, in_word, in_string, in_escape, lex_byte, lex, Place, fresh, after_value, after_comma, after_key, begins_colon, may_begin, may_close, if_allowed, place_token, punctuate, tokens}
+use Rattle.json.specs.Json.{Json, Items, Members, no_items, item, no_members, member, Parse, parse_map, after_end_array, read_key, items_step}
+use Rattle.json.specs.Json.{members_step, items, members, value_with, value, if_last}
+use Rattle.json.specs.Lex.{Lexeme, token, comma, colon, Class, class, quote, backslash, operator, space, other, operator_lexeme, string_token, Mode}
+use Rattle.json.specs.Lex.{between, in_word, in_string, in_escape, lex_byte, lex, Place, fresh, after_value, after_comma, after_key, begins_colon}
+use Rattle.json.specs.Lex.{may_begin, may_close, if_allowed, place_token, punctuate, tokens}
 use Rattle.json.specs.Text.{content, plain}
 use Rattle.json.specs.Token as tok
 use Rattle.json.specs.Token.{Token}
@@ -55,7 +59,11 @@ word_ok xs =
 
 operator_ok : (x : ℕ) → LexemeOk (operator_lexeme x)
 operator_ok x =
-    cond_both (x == ascii.open_brace) _ _ LexemeOk (λ _. tt) (λ _. cond_both (x == ascii.close_brace) _ _ LexemeOk (λ _. tt) (λ _. cond_both (x == ascii.open_bracket) _ _ LexemeOk (λ _. tt) (λ _. cond_both (x == ascii.close_bracket) _ _ LexemeOk (λ _. tt) (λ _. cond_both (x == ascii.comma) comma colon LexemeOk (λ _. tt) (λ _. tt)))))
+    cond_both (x == ascii.open_brace) _ _ LexemeOk (λ _. tt)
+    (λ _. cond_both (x == ascii.close_brace) _ _ LexemeOk (λ _. tt)
+    (λ _. cond_both (x == ascii.open_bracket) _ _ LexemeOk (λ _. tt)
+    (λ _. cond_both (x == ascii.close_bracket) _ _ LexemeOk (λ _. tt)
+    (λ _. cond_both (x == ascii.comma) comma colon LexemeOk (λ _. tt) (λ _. tt)))))
 
 string_ok : (o : Option (List ℕ)) → Behind [] o → TokenOk (string_token o)
 string_ok None h = tt
@@ -69,7 +77,8 @@ quote_is x e =
     cond_both (is_operator x) operator _ Goal (λ _ k. absurd (cc k)) (λ _.
     cond_both (is_space x) space other Goal (λ _ k. absurd (cc k)) (λ _ k. absurd (cc k))))) e
 
-byte_ok : (m : Mode) (c : Class) (x : ℕ) (xs : List ℕ) (k : Mode → List Lexeme) → (c ≡ quote → IsUtf8 xs) → ((next : Mode) → Lexemes (k next)) → Lexemes (lex_byte m c x xs k)
+byte_ok : (m : Mode) (c : Class) (x : ℕ) (xs : List ℕ) (k : Mode → List Lexeme) → (c ≡ quote → IsUtf8 xs) → ((next : Mode) → Lexemes (k next))
+    → Lexemes (lex_byte m c x xs k)
 byte_ok between quote x xs k u more = (string_ok (content plain xs) (content_utf8 xs [] (u refl)), more in_string)
 byte_ok between backslash x xs k u more = (tt, more in_word)
 byte_ok between operator x xs k u more = (operator_ok x, more between)
@@ -91,11 +100,13 @@ lex_ok : (xs front : List ℕ) (m : Mode) → IsUtf8 (front ++ xs) → Lexemes (
 unfolding lex
 lex_ok [] front m u = tt
 lex_ok (x ∷ xs) front m u =
-    byte_ok m (class x) x xs (λ next. lex next xs) (λ e. let is : x ≡ 34 = quote_is x e in after_ascii front x xs u (omega (arith, is))) (λ next. lex_ok xs (front ++ x ∷ []) next (subst IsUtf8 (sym (append_assoc front (x ∷ []) xs)) u))
+    byte_ok m (class x) x xs (λ next. lex next xs) (λ e. let is : x ≡ 34 = quote_is x e in after_ascii front x xs u (omega (arith, is)))
+    (λ next. lex_ok xs (front ++ x ∷ []) next (subst IsUtf8 (sym (append_assoc front (x ∷ []) xs)) u))
 
 -- ---- commas and colons
 
-allowed_ok : (b : Bool) (t : Token) (k : Place → List Token) (next : Place) → TokenOk t → ((p : Place) → Tokens (k p)) → Tokens (if_allowed b t k next)
+allowed_ok : (b : Bool) (t : Token) (k : Place → List Token) (next : Place) → TokenOk t → ((p : Place) → Tokens (k p))
+    → Tokens (if_allowed b t k next)
 allowed_ok true t k next h more = (h, more next)
 allowed_ok false t k next h more = (tt, tt)
 
@@ -119,8 +130,10 @@ punctuate_ok [] after_value h = tt
 punctuate_ok [] after_comma h = (tt, tt)
 punctuate_ok [] after_key h = (tt, tt)
 punctuate_ok (token t ∷ ls) fresh h = placed_ok fresh t (begins_colon ls) (λ next. punctuate next ls) h.0 (λ next. punctuate_ok ls next h.1)
-punctuate_ok (token t ∷ ls) after_value h = placed_ok after_value t (begins_colon ls) (λ next. punctuate next ls) h.0 (λ next. punctuate_ok ls next h.1)
-punctuate_ok (token t ∷ ls) after_comma h = placed_ok after_comma t (begins_colon ls) (λ next. punctuate next ls) h.0 (λ next. punctuate_ok ls next h.1)
+punctuate_ok (token t ∷ ls) after_value h = placed_ok after_value t (begins_colon ls) (λ next. punctuate next ls) h.0
+    (λ next. punctuate_ok ls next h.1)
+punctuate_ok (token t ∷ ls) after_comma h = placed_ok after_comma t (begins_colon ls) (λ next. punctuate next ls) h.0
+    (λ next. punctuate_ok ls next h.1)
 punctuate_ok (token t ∷ ls) after_key h = placed_ok after_key t (begins_colon ls) (λ next. punctuate next ls) h.0 (λ next. punctuate_ok ls next h.1)
 punctuate_ok (comma ∷ ls) fresh h = (tt, tt)
 punctuate_ok (comma ∷ ls) after_value h = punctuate_ok ls after_comma h.1
@@ -161,11 +174,13 @@ Parsed F (Some p) = F p.0 × Tokens p.1
 abbrev Parses : {A : Type 0} → (A → Type 0) → Parse A → Type 0
 Parses F parse = (ts : List Token) → Tokens ts → Parsed F (parse ts)
 
-mapped : {A B : Type 0} (F : A → Type 0) (G : B → Type 0) (f : A → B) (o : Option (A × List Token)) → Parsed F o → ((a : A) → F a → G (f a)) → Parsed G (parse_map f o)
+mapped : {A B : Type 0} (F : A → Type 0) (G : B → Type 0) (f : A → B) (o : Option (A × List Token)) → Parsed F o → ((a : A) → F a → G (f a))
+    → Parsed G (parse_map f o)
 mapped F G f None h g = tt
 mapped F G f (Some p) h g = (g p.0 h.0, h.1)
 
-chained : {A B : Type 0} (F : A → Type 0) (G : B → Type 0) (o : Option (A × List Token)) (next : A × List Token → Option (B × List Token)) → Parsed F o → ((p : A × List Token) → F p.0 → Tokens p.1 → Parsed G (next p)) → Parsed G (option_and_then next o)
+chained : {A B : Type 0} (F : A → Type 0) (G : B → Type 0) (o : Option (A × List Token)) (next : A × List Token → Option (B × List Token))
+    → Parsed F o → ((p : A × List Token) → F p.0 → Tokens p.1 → Parsed G (next p)) → Parsed G (option_and_then next o)
 chained F G None next h g = tt
 chained F G (Some p) next h g = g p h.0 h.1
 
@@ -203,7 +218,8 @@ key_ok (tok.boolean b ∷ ts) h = tt
 key_ok (tok.null ∷ ts) h = tt
 key_ok (tok.bad ∷ ts) h = tt
 
-items_step_ok : (v : Parse Json) (more : Parse Items) → Parses JsonOk v → Parses ItemsOk more → (ts : List Token) (o : Option (List Token)) → Tokens ts → RestOk o → Parsed ItemsOk (items_step v more ts o)
+items_step_ok : (v : Parse Json) (more : Parse Items) → Parses JsonOk v → Parses ItemsOk more → (ts : List Token) (o : Option (List Token))
+    → Tokens ts → RestOk o → Parsed ItemsOk (items_step v more ts o)
 items_step_ok v more hv hm ts (Some rest) h r = (tt, r)
 items_step_ok v more hv hm ts None h r =
     chained JsonOk ItemsOk (v ts) _ (hv ts h) (λ p j us. mapped ItemsOk ItemsOk (item p.0) (more p.1) (hm p.1 us) (λ js i. (j, i)))
@@ -213,7 +229,8 @@ unfolding items
 items_ok v hv zero ts h = tt
 items_ok v hv (suc n) ts h = items_step_ok v (items v n) hv (items_ok v hv n) ts (after_end_array ts) h (array_end ts h)
 
-members_step_ok : (v : Parse Json) (more : Parse Members) → Parses JsonOk v → Parses MembersOk more → (k : Option (List ℕ)) → KeyOk k → Parses MembersOk (members_step v more k)
+members_step_ok : (v : Parse Json) (more : Parse Members) → Parses JsonOk v → Parses MembersOk more → (k : Option (List ℕ)) → KeyOk k
+    → Parses MembersOk (members_step v more k)
 members_step_ok v more hv hm None u ts h = (tt, h)
 members_step_ok v more hv hm (Some k) u ts h =
     chained JsonOk MembersOk (v ts) _ (hv ts h) (λ p j us. mapped MembersOk MembersOk (member k p.0) (more p.1) (hm p.1 us) (λ ms i. (u, j, i)))
@@ -241,7 +258,9 @@ value_ok : (depth : ℕ) → Parses JsonOk (value depth)
 unfolding value items members
 value_ok zero ts h = with_ok (λ us. None) (λ us. None) (λ us i. tt) (λ us i. tt) ts h
 value_ok (suc depth) ts h =
-    with_ok (λ us. items (value depth) (length us) us) (λ us. members (value depth) (length us) us) (λ us i. items_ok (value depth) (value_ok depth) (length us) us i) (λ us i. members_ok (value depth) (value_ok depth) (length us) us i) ts h
+    with_ok (λ us. items (value depth) (length us) us) (λ us. members (value depth) (length us) us)
+    (λ us i. items_ok (value depth) (value_ok depth) (length us) us i) (λ us i. members_ok (value depth) (value_ok depth) (length us) us i)
+    ts h
 
 abbrev pub SomeJson : Option Json → Type 0
 SomeJson None = Unit {0}

@@ -1,5 +1,7 @@
 -- What bytes are read as has the types: whole numbers of 64 bits, UTF-8, and keys that rise.
-use Rattle.std.proofs.Common.{◌≡◌, ℕ, zero, suc, ◌<◌, ◌≤◌, ◌^◌, Bool, true, false, ◌&&◌, List, length, FitsSigned, Option, Some, None, option_map, option_and_then, IfSome, Ok, Err, IsUtf8, nat_lt, nat_le, pos, if◌then◌else◌, arith, ltb-true, leb-true, Ordering, Less, Equal, Greater, nat_cmp}
+use Rattle.std.proofs.Common.{◌≡◌, ℕ, zero, suc, ◌<◌, ◌≤◌, ◌^◌, Bool, true, false, ◌&&◌, List, length, FitsSigned, Option, Some, None, option_map}
+use Rattle.std.proofs.Common.{option_and_then, IfSome, Ok, Err, IsUtf8, nat_lt, nat_le, pos, if◌then◌else◌, arith, ltb-true, leb-true, Ordering, Less}
+use Rattle.std.proofs.Common.{Equal, Greater, nat_cmp}
 use Rattle.std.specs.Float.{binary64, float_is_finite}
 use Rattle.std.specs.Prelude.{◌==◌, drop, neg_ℤ, slice_index}
 use Rattle.std.specs.Int.{w64}
@@ -54,7 +56,8 @@ put_ok : (k : List ℕ) (d : Data) (ms : Members) → IsUtf8 k → DataOk d → 
 put_ok k d no_members u h i = (u, h, tt)
 put_ok k d (member l e ms) u h i = go (slice_cmp nat_cmp k l) (put_ok k d ms u h i.2)
   where
-    go : (o : Ordering) → KeysOk (json.put k d ms) → KeysOk (match_ordering o (member k d (member l e ms)) (member l d ms) (member l e (json.put k d ms)))
+    go : (o : Ordering) → KeysOk (json.put k d ms)
+        → KeysOk (match_ordering o (member k d (member l e ms)) (member l d ms) (member l e (json.put k d ms)))
     go Less j = (u, h, i)
     go Equal j = (i.0, h, i.2)
     go Greater j = (i.0, i.1, j)
@@ -71,9 +74,12 @@ float_ok sign p =
 
 number_ok : (sign : Bool) (p : Parts) → IfSome (number_from sign p) NumOk
 number_ok false p =
-    cond_both (is_integer p && nat_lt (digits_of p) (2 ^ 64)) (Some (unsigned (digits_of p))) (float_of false p) (λ o. IfSome o NumOk) (λ _. tt) (λ _. float_ok false p)
+    cond_both (is_integer p && nat_lt (digits_of p) (2 ^ 64)) (Some (unsigned (digits_of p))) (float_of false p) (λ o. IfSome o NumOk) (λ _. tt)
+    (λ _. float_ok false p)
 number_ok true p =
-    cond_both (is_integer p && nat_lt 0 (digits_of p) && nat_le (digits_of p) (2 ^ 63)) (Some (negative (with_sign true (digits_of p)))) (float_of true p) (λ o. IfSome o NumOk) (λ t. neg_fits (digits_of p) (small (both (is_integer p && nat_lt 0 (digits_of p)) (nat_le (digits_of p) (2 ^ 63)) t).1)) (λ _. float_ok true p)
+    cond_both (is_integer p && nat_lt 0 (digits_of p) && nat_le (digits_of p) (2 ^ 63)) (Some (negative (with_sign true (digits_of p))))
+    (float_of true p) (λ o. IfSome o NumOk) (λ t. neg_fits (digits_of p)
+    (small (both (is_integer p && nat_lt 0 (digits_of p)) (nat_le (digits_of p) (2 ^ 63)) t).1)) (λ _. float_ok true p)
   where
     small : nat_le (digits_of p) (2 ^ 63) ≡ true → digits_of p ≤ 9223372036854775808
     small e = leb-true (digits_of p) (2 ^ 63) e
@@ -81,7 +87,8 @@ number_ok true p =
 read_number_ok : (s : List ℕ) → IfSome (number_of s) NumOk
 unfolding number_of
 read_number_ok s =
-    cond_both (slice_index s 0 == minus) (number_from true (scan (drop 1 s))) (number_from false (scan s)) (λ o. IfSome o NumOk) (λ _. number_ok true (scan (drop 1 s))) (λ _. number_ok false (scan s))
+    cond_both (slice_index s 0 == minus) (number_from true (scan (drop 1 s))) (number_from false (scan s)) (λ o. IfSome o NumOk)
+    (λ _. number_ok true (scan (drop 1 s))) (λ _. number_ok false (scan s))
 
 -- ---- from JSON to data
 
@@ -102,7 +109,9 @@ item_data None os h i = tt
 item_data (Some d) None h i = tt
 item_data (Some d) (Some ds) h i = (h, i)
 
-member_data : (k : List ℕ) (found : Members) (ms : source.Members) (o : Option Data) → IsUtf8 k → KeysOk found → IfSome o DataOk → ((more : Members) → KeysOk more → IfSome (of_members ms more) KeysOk) → IfSome (option_and_then (λ d. of_members ms (json.put k d found)) o) KeysOk
+member_data : (k : List ℕ) (found : Members) (ms : source.Members) (o : Option Data) → IsUtf8 k → KeysOk found → IfSome o DataOk
+    → ((more : Members) → KeysOk more → IfSome (of_members ms more) KeysOk)
+    → IfSome (option_and_then (λ d. of_members ms (json.put k d found)) o) KeysOk
 member_data k found ms None u f h go = tt
 member_data k found ms (Some d) u f h go = go (json.put k d found) (put_ok k d found u h f)
 
@@ -139,7 +148,8 @@ K n = Unit {0}
 
 number_value : (n : Num) → NumOk n → IfSome (option_map num (as_i64 n)) (Typed {N = ⊥})
 number_value (unsigned n) h =
-    cond_both (nat_lt n (2 ^ 63)) (Some (pos n)) None (λ o. IfSome (option_map num o) (Typed {N = ⊥})) (λ t. record { sfits = ltb-true n (2 ^ 63) t }) (λ _. tt)
+    cond_both (nat_lt n (2 ^ 63)) (Some (pos n)) None (λ o. IfSome (option_map num o) (Typed {N = ⊥}))
+    (λ t. record { sfits = ltb-true n (2 ^ 63) t }) (λ _. tt)
 number_value (negative z) h = h
 number_value (float x) h = tt
 
@@ -151,12 +161,15 @@ dict_value : (o : Option (Pairs ⊥)) → IfSome o (PairsTyped ⊥ K) → IfSome
 dict_value None h = tt
 dict_value (Some ps) h = h
 
-item_value : (o : Option (Val ⊥)) (os : Option (Vals ⊥)) → IfSome o (Typed {N = ⊥}) → IfSome os (ValsTyped K) → IfSome (option_and_then (λ v. option_map (val v) os) o) (ValsTyped K)
+item_value : (o : Option (Val ⊥)) (os : Option (Vals ⊥)) → IfSome o (Typed {N = ⊥}) → IfSome os (ValsTyped K)
+    → IfSome (option_and_then (λ v. option_map (val v) os) o) (ValsTyped K)
 item_value None os h i = tt
 item_value (Some v) None h i = tt
 item_value (Some v) (Some vs) h i = (h, i)
 
-member_value : (k : List ℕ) (ps : Pairs ⊥) (ms : Members) (o : Option (Val ⊥)) → IsUtf8 k → PairsTyped ⊥ K ps → IfSome o (Typed {N = ⊥}) → ((qs : Pairs ⊥) → PairsTyped ⊥ K qs → IfSome (pairs_onto qs ms) (PairsTyped ⊥ K)) → IfSome (option_and_then (λ v. pairs_onto (put k v ps) ms) o) (PairsTyped ⊥ K)
+member_value : (k : List ℕ) (ps : Pairs ⊥) (ms : Members) (o : Option (Val ⊥)) → IsUtf8 k → PairsTyped ⊥ K ps → IfSome o (Typed {N = ⊥})
+    → ((qs : Pairs ⊥) → PairsTyped ⊥ K qs → IfSome (pairs_onto qs ms) (PairsTyped ⊥ K))
+    → IfSome (option_and_then (λ v. pairs_onto (put k v ps) ms) o) (PairsTyped ⊥ K)
 member_value k ps ms None u f h go = tt
 member_value k ps ms (Some v) u f h go = go (put k v ps) (put_typed ⊥ K k v ps u h f)
 
@@ -184,7 +197,8 @@ data_value (Some d) h = value_typed d h
 
 read_value : (b : List ℕ) → IfSome (value_read b) (Typed {N = ⊥})
 read_value b =
-    cond_both (is_utf8 b) (option_and_then value_of (read b)) None (λ o. IfSome o (Typed {N = ⊥})) (λ t. data_value (read b) (read_ok b (IsUtf8-from_is_utf8 b t))) (λ _. tt)
+    cond_both (is_utf8 b) (option_and_then value_of (read b)) None (λ o. IfSome o (Typed {N = ⊥}))
+    (λ t. data_value (read b) (read_ok b (IsUtf8-from_is_utf8 b t))) (λ _. tt)
 
 within_typed : (o : Option (Val ⊥)) → IfSome o (Typed {N = ⊥}) → TypedAnswer ⊥ K (within_limits o)
 within_typed None h = tt
@@ -193,7 +207,8 @@ within_typed (Some v) h = limited_typed ⊥ K v h
 reads_typed : (b : List ℕ) → TypedAnswer ⊥ K (reads b)
 reads_typed b = go (nat_lt 8388608 (length b)) (nests_too_deep b)
   where
-    go : (large deep : Bool) → TypedAnswer ⊥ K (if large then Err FaultKind.TooLarge else (if deep then Err FaultKind.TooDeep else within_limits (value_read b)))
+    go : (large deep : Bool) → TypedAnswer ⊥ K (if large then Err FaultKind.TooLarge
+        else (if deep then Err FaultKind.TooDeep else within_limits (value_read b)))
     go true deep = tt
     go false true = tt
     go false false = within_typed (value_read b) (read_value b)

@@ -5,7 +5,8 @@ use Rattle.sky_base.specs.Needed.{Task, WaitOf, Needed}
 use Rattle.sky_base.specs.KitView.{Gives}
 use Rattle.sky_base.specs.See as see
 use Rattle.sky_base.specs.Tree.{Script}
-use Rattle.sky_base.specs.Val.{Val, Vals, Pairs, Desc, null, truth, num, text, list, dict, fun, ref, no_vals, val, no_pairs, pair, call, out, input, known, refs, vals_refs, pairs_refs, Rising, RisingFrom}
+use Rattle.sky_base.specs.Val.{Val, Vals, Pairs, Desc, null, truth, num, text, list, dict, fun, ref, no_vals, val, no_pairs, pair, call, out, input}
+use Rattle.sky_base.specs.Val.{known, refs, vals_refs, pairs_refs, Rising, RisingFrom}
 use Rattle.sky_law.specs.Lower.{low_ref}
 use Rattle.sky_law.specs.NamesLaws.{Tag, no_name}
 use Rattle.sky_law.specs.Sound.{SoundDesc, SoundReads}
@@ -83,8 +84,10 @@ module _ (tag : Tag) where
     each_name (d ∷ ds) = (name_given d, each_name ds)
 
     over_names : (d : Desc ⊥) → DescOverNames (low_desc no_name tag d)
-    over_names (call f c vs) =
-        (subst (Each IsName) (sym (pairs_refs_low no_name tag c)) (each_name (pairs_refs c)), subst (Each IsName) (sym (vals_refs_low no_name tag vs)) (each_name (vals_refs vs)))
+    over_names (call f c vs) = (
+      subst (Each IsName) (sym (pairs_refs_low no_name tag c)) (each_name (pairs_refs c)),
+      subst (Each IsName) (sym (vals_refs_low no_name tag vs)) (each_name (vals_refs vs)),
+    )
     over_names (out x a n i) = subst (Each IsName) (sym (refs_low no_name tag a)) (each_name (refs a))
     over_names (input k) = tt
     over_names (known b) = absurd b
@@ -114,15 +117,18 @@ module _ (tag : Tag) where
 
       pub made_spelled : (n : ℕ) (t : Task) (d : see.Desc) → Needed job around t → In d (made_in (acts_of job around n t)) → SpelledDesc (named tag d)
       made_spelled n t d need i =
-          spelled_low job.script bare d (made_sound job around sound n t d (needed_sound job around sound t need) i) (made_typed job around start n t d need i)
+          spelled_low job.script bare d (made_sound job around sound n t d (needed_sound job around sound t need) i)
+          (made_typed job around start n t d need i)
 
       each_spelled : (ds : List see.Desc) → Each (SoundDesc job.script) ds → Each TypedDesc ds → Each (λ d. SpelledDesc (named tag d)) ds
       each_spelled [] s t = tt
       each_spelled (d ∷ ds) s t = (spelled_low job.script bare d s.0 t.0, each_spelled ds s.1 t.1)
 
-      pub waited_spelled : (t : Task) (j : ℕ) (ds : List see.Desc) → Needed job around t → WaitOf job around t j ds → Each (λ d. SpelledDesc (named tag d)) ds
+      pub waited_spelled : (t : Task) (j : ℕ) (ds : List see.Desc) → Needed job around t → WaitOf job around t j ds
+          → Each (λ d. SpelledDesc (named tag d)) ds
       waited_spelled t j ds need wait =
-          each_spelled ds (wait_sound job around sound t j ds (needed_sound job around sound t need) wait) (waits_typed job around start t j ds need wait)
+          each_spelled ds (wait_sound job around sound t j ds (needed_sound job around sound t need) wait)
+          (waits_typed job around start t j ds need wait)
 
       pub needed_spelled : (d : see.Desc) → Needed job around (Task.of d) → SpelledDesc (named tag d)
       needed_spelled d need =

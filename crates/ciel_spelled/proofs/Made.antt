@@ -2,7 +2,8 @@
 use Rattle.std.proofs.Common.{ℕ, ◌+◌, List, [], ◌∷◌, ◌++◌, refl}
 use Rattle.sky_base.specs.Tree.{FunDef}
 use Rattle.sky_grammar.specs.Source.{Exp, Exps, Links, Ands, Steps, Stm, Stms, Arms, Else}
-use Rattle.sky_grammar.specs.Lifted.{count, exps_count, stm_count, stms_count, arms_count, made, exps_made, links_made, ands_made, steps_made, stm_made, stms_made, arms_made, else_made}
+use Rattle.sky_grammar.specs.Lifted.{count, exps_count, stm_count, stms_count, arms_count, made, exps_made, links_made, ands_made, steps_made}
+use Rattle.sky_grammar.specs.Lifted.{stm_made, stms_made, arms_made, else_made}
 use Rattle.sky_grammar.specs.Tops.{Top, defs_of, made_of, script_of, top_count, top_made}
 use Rattle.ciel_spelled.specs.Typed.{NamedUseNothing}
 
@@ -60,7 +61,9 @@ mutual
   use_arms : (n : ℕ) (arms : Arms) → NamedUseNothing (arms_made n arms)
   use_arms n Arms.no_arms = tt
   use_arms n (Arms.arm p e b arms) =
-      both (made n e) (stms_made (n + count e) b ++ arms_made (n + count e + stms_count b) arms) (use_made n e) (both (stms_made (n + count e) b) (arms_made (n + count e + stms_count b) arms) (use_stms (n + count e) b) (use_arms (n + count e + stms_count b) arms))
+      both (made n e) (stms_made (n + count e) b ++ arms_made (n + count e + stms_count b) arms) (use_made n e)
+      (both (stms_made (n + count e) b) (arms_made (n + count e + stms_count b) arms) (use_stms (n + count e) b)
+      (use_arms (n + count e + stms_count b) arms))
 
   use_else : (n : ℕ) (els : Else) → NamedUseNothing (else_made n els)
   use_else n Else.no_else = tt

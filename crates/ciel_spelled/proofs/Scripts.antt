@@ -1,5 +1,6 @@
 -- The literals and names of a script that trees make are those of the tokens that the trees spell.
-use Rattle.std.proofs.Common.{ℕ, zero, suc, ◌+◌, ◌<◌, ◌/◌, ◌%◌, false, List, [], ◌∷◌, ◌++◌, FitsSigned, IsUtf8, nat_lt, pos, negsuc, sym, subst, arith}
+use Rattle.std.proofs.Common.{ℕ, zero, suc, ◌+◌, ◌<◌, ◌/◌, ◌%◌, false, List, [], ◌∷◌, ◌++◌, FitsSigned, IsUtf8, nat_lt, pos, negsuc, sym, subst}
+use Rattle.std.proofs.Common.{arith}
 use Rattle.std.specs.Prelude.{◌==◌}
 use Rattle.std.specs.Fmt.{decimal, digits, digits_onto, digit_glyph}
 use Rattle.std.specs.Int.{w64}
@@ -8,14 +9,19 @@ use Rattle.std.proofs.lemmas.Str.{IsUtf8-append, IsUtf8-nil}
 use Rattle.sky_base.specs.Tree.{Place, Lit, SignAt, Form, FunDef, Junction, Script}
 use Rattle.sky_law.specs.Tasks.{Each}
 use Rattle.sky_law.specs.Typed.{TypedLit, TypedScript}
-use Rattle.sky_law.specs.Written.{ExpWritten, ExpsWritten, LinksWritten, AndsWritten, StepsWritten, StmWritten, StmsWritten, ArmsWritten, ElseWritten, FunWritten}
+use Rattle.sky_law.specs.Written.{ExpWritten, ExpsWritten, LinksWritten, AndsWritten, StepsWritten, StmWritten, StmsWritten, ArmsWritten, ElseWritten}
+use Rattle.sky_law.specs.Written.{FunWritten}
 use Rattle.sky_text.specs.Spelling.{IsKind}
 use Rattle.sky_text.specs.declared.token.TokenKind.{TokenKind}
 use Rattle.sky_text.specs.declared.token.Token.{Token}
 use Rattle.sky_text.proofs.SpellingUtf8.{spelled_utf8}
 use Rattle.sky_text.proofs.TextUtf8.{ascii_utf8}
-use Rattle.sky_grammar.specs.Grammar.{Mark, lit_kind, Fits, Follows, spell, spell_signs, spell_exps, spell_others, spell_pairs, spell_value, spell_other_pairs, spell_links, spell_ands, spell_steps, spell_stm, spell_stms, spell_arms, spell_other_arms, spell_else, spell_params, spell_other_params, started}
-use Rattle.sky_grammar.specs.Lifted.{number_name, param_names, count, exps_count, stm_count, stms_count, arms_count, tree, exps_tree, links_tree, ands_tree, steps_tree, stm_tree, stms_tree, arms_tree, else_tree, made, exps_made, links_made, ands_made, steps_made, stm_made, stms_made, arms_made, else_made}
+use Rattle.sky_grammar.specs.Grammar.{Mark, lit_kind, Fits, Follows, spell, spell_signs, spell_exps, spell_others, spell_pairs, spell_value}
+use Rattle.sky_grammar.specs.Grammar.{spell_other_pairs, spell_links, spell_ands, spell_steps, spell_stm, spell_stms, spell_arms, spell_other_arms}
+use Rattle.sky_grammar.specs.Grammar.{spell_else, spell_params, spell_other_params, started}
+use Rattle.sky_grammar.specs.Lifted.{number_name, param_names, count, exps_count, stm_count, stms_count, arms_count, tree, exps_tree, links_tree}
+use Rattle.sky_grammar.specs.Lifted.{ands_tree, steps_tree, stm_tree, stms_tree, arms_tree, else_tree, made, exps_made, links_made, ands_made}
+use Rattle.sky_grammar.specs.Lifted.{steps_made, stm_made, stms_made, arms_made, else_made}
 use Rattle.sky_grammar.specs.Source.{Param, Exp, Exps, Links, Ands, Steps, Stm, Stms, Arms, Else}
 use Rattle.sky_grammar.specs.Tops.{Top, defs_of, main_of, made_of, spell_tops, top_count}
 use Rattle.sky_parse.specs.Source.{IsScript}
@@ -74,8 +80,10 @@ glyph_ascii d h = cond_both (nat_lt d 10) (48 + d) (87 + d) (λ x. x < 128) (λ 
 onto_utf8 : (k n : ℕ) (acc : List ℕ) → IsUtf8 acc → IsUtf8 (digits_onto k 10 false n acc)
 onto_utf8 zero n acc u = u
 onto_utf8 (suc k) n acc u =
-    let one : IsUtf8 (digit_glyph false (n % 10) ∷ acc) = IsUtf8-append (digit_glyph false (n % 10) ∷ []) acc (ascii_utf8 (digit_glyph false (n % 10)) (glyph_ascii (n % 10) (omega arith))) u in
-    cond_both (n / 10 == 0) (digit_glyph false (n % 10) ∷ acc) (digits_onto k 10 false (n / 10) (digit_glyph false (n % 10) ∷ acc)) IsUtf8 (λ t. one) (λ t. onto_utf8 k (n / 10) (digit_glyph false (n % 10) ∷ acc) one)
+    let one : IsUtf8 (digit_glyph false (n % 10) ∷ acc) =
+    IsUtf8-append (digit_glyph false (n % 10) ∷ []) acc (ascii_utf8 (digit_glyph false (n % 10)) (glyph_ascii (n % 10) (omega arith))) u in
+    cond_both (n / 10 == 0) (digit_glyph false (n % 10) ∷ acc) (digits_onto k 10 false (n / 10) (digit_glyph false (n % 10) ∷ acc)) IsUtf8
+    (λ t. one) (λ t. onto_utf8 k (n / 10) (digit_glyph false (n % 10) ∷ acc) one)
 
 decimal_utf8 : (n : ℕ) → IsUtf8 (decimal n)
 unfolding digits
@@ -121,7 +129,8 @@ pass : (A : Type 0) (fs : List FunDef) (m : Mark) (more : List Mark) → Told A 
 pass A fs m more a = record { tree_is = a.tree_is; funs_are = a.funs_are; rest = a.rest.1 }
 
 -- the parts of an arm: its test, its block, and the arms behind it
-three : (A B C : Type 0) (fs gs hs : List FunDef) (ms ns more : List Mark) → Told A fs ms → (Marks ms → Told B gs ns) → (Marks ns → Told C hs more) → Told (A × B × C) (fs ++ (gs ++ hs)) more
+three : (A B C : Type 0) (fs gs hs : List FunDef) (ms ns more : List Mark) → Told A fs ms → (Marks ms → Told B gs ns)
+    → (Marks ns → Told C hs more) → Told (A × B × C) (fs ++ (gs ++ hs)) more
 three A B C fs gs hs ms ns more a f g =
     let b : Told B gs ns = f a.rest in
     let c : Told C hs more = g b.rest in
@@ -155,35 +164,43 @@ mutual
   told (Exp.prefix ss e) n more h = told e n more (signs_told ss (spell e more) h)
   told (Exp.postfix e ss) n more h = pair _ _ _ _ _ more (told e n _ h) (λ k. steps_told ss (n + count e) more k)
 
-  exps_told : (es : Exps) (n : ℕ) (more : List Mark) → Marks (spell_exps es more) → Told (ExpsWritten TypedLit IsUtf8 (exps_tree n es)) (exps_made n es) more
+  exps_told : (es : Exps) (n : ℕ) (more : List Mark) → Marks (spell_exps es more)
+      → Told (ExpsWritten TypedLit IsUtf8 (exps_tree n es)) (exps_made n es) more
   exps_told Exps.no_exps n more h = record { tree_is = tt; funs_are = tt; rest = h }
   exps_told (Exps.exp e es) n more h = pair _ _ _ _ _ more (told e n _ h) (λ k. others_told es (n + count e) more k)
 
-  others_told : (es : Exps) (n : ℕ) (more : List Mark) → Marks (spell_others es more) → Told (ExpsWritten TypedLit IsUtf8 (exps_tree n es)) (exps_made n es) more
+  others_told : (es : Exps) (n : ℕ) (more : List Mark) → Marks (spell_others es more)
+      → Told (ExpsWritten TypedLit IsUtf8 (exps_tree n es)) (exps_made n es) more
   others_told Exps.no_exps n more h = record { tree_is = tt; funs_are = tt; rest = h }
   others_told (Exps.exp e es) n more h = pair _ _ _ _ _ more (told e n _ h.1) (λ k. others_told es (n + count e) more k)
 
-  pairs_told : (es : Exps) (n : ℕ) (more : List Mark) → Marks (spell_pairs es more) → Told (ExpsWritten TypedLit IsUtf8 (exps_tree n es)) (exps_made n es) more
+  pairs_told : (es : Exps) (n : ℕ) (more : List Mark) → Marks (spell_pairs es more)
+      → Told (ExpsWritten TypedLit IsUtf8 (exps_tree n es)) (exps_made n es) more
   pairs_told Exps.no_exps n more h = record { tree_is = tt; funs_are = tt; rest = h }
   pairs_told (Exps.exp e es) n more h = pair _ _ _ _ _ more (told e n _ h) (λ k. value_told es (n + count e) more k)
 
-  value_told : (es : Exps) (n : ℕ) (more : List Mark) → Marks (spell_value es more) → Told (ExpsWritten TypedLit IsUtf8 (exps_tree n es)) (exps_made n es) more
+  value_told : (es : Exps) (n : ℕ) (more : List Mark) → Marks (spell_value es more)
+      → Told (ExpsWritten TypedLit IsUtf8 (exps_tree n es)) (exps_made n es) more
   value_told Exps.no_exps n more h = record { tree_is = tt; funs_are = tt; rest = h }
   value_told (Exps.exp e es) n more h = pair _ _ _ _ _ more (told e n _ h.1) (λ k. other_pairs_told es (n + count e) more k)
 
-  other_pairs_told : (es : Exps) (n : ℕ) (more : List Mark) → Marks (spell_other_pairs es more) → Told (ExpsWritten TypedLit IsUtf8 (exps_tree n es)) (exps_made n es) more
+  other_pairs_told : (es : Exps) (n : ℕ) (more : List Mark) → Marks (spell_other_pairs es more)
+      → Told (ExpsWritten TypedLit IsUtf8 (exps_tree n es)) (exps_made n es) more
   other_pairs_told Exps.no_exps n more h = record { tree_is = tt; funs_are = tt; rest = h }
   other_pairs_told (Exps.exp e es) n more h = pair _ _ _ _ _ more (told e n _ h.1) (λ k. value_told es (n + count e) more k)
 
-  links_told : (ls : Links) (n : ℕ) (more : List Mark) → Marks (spell_links ls more) → Told (LinksWritten TypedLit IsUtf8 (links_tree n ls)) (links_made n ls) more
+  links_told : (ls : Links) (n : ℕ) (more : List Mark) → Marks (spell_links ls more)
+      → Told (LinksWritten TypedLit IsUtf8 (links_tree n ls)) (links_made n ls) more
   links_told Links.no_links n more h = record { tree_is = tt; funs_are = tt; rest = h }
   links_told (Links.link o p e ls) n more h = pair _ _ _ _ _ more (told e n _ h.1) (λ k. links_told ls (n + count e) more k)
 
-  ands_told : (j : Junction) (ls : Ands) (n : ℕ) (more : List Mark) → Marks (spell_ands j ls more) → Told (AndsWritten TypedLit IsUtf8 (ands_tree n ls)) (ands_made n ls) more
+  ands_told : (j : Junction) (ls : Ands) (n : ℕ) (more : List Mark) → Marks (spell_ands j ls more)
+      → Told (AndsWritten TypedLit IsUtf8 (ands_tree n ls)) (ands_made n ls) more
   ands_told j Ands.no_ands n more h = record { tree_is = tt; funs_are = tt; rest = h }
   ands_told j (Ands.and p e ls) n more h = pair _ _ _ _ _ more (told e n _ h.1) (λ k. ands_told j ls (n + count e) more k)
 
-  steps_told : (ss : Steps) (n : ℕ) (more : List Mark) → Marks (spell_steps ss more) → Told (StepsWritten TypedLit IsUtf8 (steps_tree n ss)) (steps_made n ss) more
+  steps_told : (ss : Steps) (n : ℕ) (more : List Mark) → Marks (spell_steps ss more)
+      → Told (StepsWritten TypedLit IsUtf8 (steps_tree n ss)) (steps_made n ss) more
   steps_told Steps.no_steps n more h = record { tree_is = tt; funs_are = tt; rest = h }
   steps_told (Steps.index e p ss) n more h = pair _ _ _ _ _ more (pass _ _ _ _ (told e n _ h.1)) (λ k. steps_told ss (n + count e) more k)
   steps_told (Steps.call es p ss) n more h = pair _ _ _ _ _ more (pass _ _ _ _ (exps_told es n _ h.1)) (λ k. steps_told ss (n + exps_count es) more k)
@@ -201,43 +218,55 @@ mutual
   stm_told (Stm.return p e) n more h = pass _ _ _ more (told e n _ h.1)
   stm_told (Stm.leave p) n more h = record { tree_is = tt; funs_are = tt; rest = h.1.1 }
   stm_told (Stm.cases p arms els) n more h =
-      pair _ _ _ _ _ more (arms_told arms n _ (unstarted p (spell_arms arms (spell_else els more)) h)) (λ k. else_told els (n + arms_count arms) more k)
+      pair _ _ _ _ _ more (arms_told arms n _ (unstarted p (spell_arms arms (spell_else els more)) h))
+      (λ k. else_told els (n + arms_count arms) more k)
   stm_told (Stm.while p e b) n more h =
       pass _ _ _ more (pair _ _ _ _ _ _ (pass _ _ _ _ (pass _ _ _ _ (told e n _ h.1.1))) (λ k. stms_told b (n + count e) _ k))
   stm_told (Stm.repeat p b e) n more h =
-      pass _ _ _ more (pass _ _ _ _ (pair _ _ _ _ _ _ (pass _ _ _ _ (pass _ _ _ _ (pass _ _ _ _ (stms_told b n _ h.1.1)))) (λ k. told e (n + stms_count b) _ k)))
+      pass _ _ _ more (pass _ _ _ _ (pair _ _ _ _ _ _ (pass _ _ _ _ (pass _ _ _ _ (pass _ _ _ _ (stms_told b n _ h.1.1))))
+      (λ k. told e (n + stms_count b) _ k)))
   stm_told (Stm.for p x e b) n more h =
       let parts = pair _ _ _ _ _ _ (pass _ _ _ _ (pass _ _ _ _ (told e n _ h.1.1.1.1))) (λ k. stms_told b (n + count e) _ k) in
       record { tree_is = (h.1.1.0, parts.tree_is.0, parts.tree_is.1); funs_are = parts.funs_are; rest = parts.rest.1 }
   stm_told (Stm.just p e) n more h = pass _ _ _ more (told e n _ (unstarted p (spell e _) h))
 
-  stms_told : (ss : Stms) (n : ℕ) (more : List Mark) → Marks (spell_stms ss more) → Told (StmsWritten TypedLit IsUtf8 (stms_tree n ss)) (stms_made n ss) more
+  stms_told : (ss : Stms) (n : ℕ) (more : List Mark) → Marks (spell_stms ss more)
+      → Told (StmsWritten TypedLit IsUtf8 (stms_tree n ss)) (stms_made n ss) more
   stms_told Stms.no_stms n more h = record { tree_is = tt; funs_are = tt; rest = h }
   stms_told (Stms.stm s ss) n more h = pair _ _ _ _ _ more (stm_told s n _ h) (λ k. stms_told ss (n + stm_count s) more k)
 
-  arms_told : (arms : Arms) (n : ℕ) (more : List Mark) → Marks (spell_arms arms more) → Told (ArmsWritten TypedLit IsUtf8 (arms_tree n arms)) (arms_made n arms) more
+  arms_told : (arms : Arms) (n : ℕ) (more : List Mark) → Marks (spell_arms arms more)
+      → Told (ArmsWritten TypedLit IsUtf8 (arms_tree n arms)) (arms_made n arms) more
   arms_told Arms.no_arms n more h = record { tree_is = tt; funs_are = tt; rest = h }
   arms_told (Arms.arm p e b arms) n more h =
-      three _ _ _ _ _ _ _ _ more (told e n _ h.1.1) (λ k. stms_told b (n + count e) _ k.1.1) (λ k. other_arms_told arms (n + count e + stms_count b) more k.1)
+      three _ _ _ _ _ _ _ _ more (told e n _ h.1.1) (λ k. stms_told b (n + count e) _ k.1.1)
+      (λ k. other_arms_told arms (n + count e + stms_count b) more k.1)
 
-  other_arms_told : (arms : Arms) (n : ℕ) (more : List Mark) → Marks (spell_other_arms arms more) → Told (ArmsWritten TypedLit IsUtf8 (arms_tree n arms)) (arms_made n arms) more
+  other_arms_told : (arms : Arms) (n : ℕ) (more : List Mark) → Marks (spell_other_arms arms more)
+      → Told (ArmsWritten TypedLit IsUtf8 (arms_tree n arms)) (arms_made n arms) more
   other_arms_told Arms.no_arms n more h = record { tree_is = tt; funs_are = tt; rest = h }
   other_arms_told (Arms.arm p e b arms) n more h =
-      three _ _ _ _ _ _ _ _ more (told e n _ h.1.1.1) (λ k. stms_told b (n + count e) _ k.1.1) (λ k. other_arms_told arms (n + count e + stms_count b) more k.1)
+      three _ _ _ _ _ _ _ _ more (told e n _ h.1.1.1) (λ k. stms_told b (n + count e) _ k.1.1)
+      (λ k. other_arms_told arms (n + count e + stms_count b) more k.1)
 
-  else_told : (els : Else) (n : ℕ) (more : List Mark) → Marks (spell_else els more) → Told (ElseWritten TypedLit IsUtf8 (else_tree n els)) (else_made n els) more
+  else_told : (els : Else) (n : ℕ) (more : List Mark) → Marks (spell_else els more)
+      → Told (ElseWritten TypedLit IsUtf8 (else_tree n els)) (else_made n els) more
   else_told Else.no_else n more h = record { tree_is = tt; funs_are = tt; rest = h }
   else_told (Else.otherwise b) n more h = pass _ _ _ more (stms_told b n _ h.1.1)
 
 -- ---- scripts
 
-tops_marks : (n : ℕ) (tops : List Top) → Marks (spell_tops tops []) → Funs (defs_of n tops) × StmsWritten TypedLit IsUtf8 (main_of n tops) × Funs (made_of n tops)
+tops_marks : (n : ℕ) (tops : List Top) → Marks (spell_tops tops []) → Funs (defs_of n tops) × StmsWritten TypedLit IsUtf8 (main_of n tops)
+    × Funs (made_of n tops)
 tops_marks n [] h = (tt, tt, tt)
 tops_marks n (Top.fun f ∷ ts) h =
     let ps = params_told f.params _ h.1.1.1 in
     let body = stms_told f.body n _ ps.1.1.1 in
-    let more = tops_marks (n + top_count (Top.fun f)) ts body.rest.1 in
-    ((record { name = h.1.0; params = ps.0; body = body.tree_is }, more.0), more.1, both (stms_made n f.body) (made_of (n + top_count (Top.fun f)) ts) body.funs_are more.2)
+    let more = tops_marks (n + top_count (Top.fun f)) ts body.rest.1 in (
+      (record { name = h.1.0; params = ps.0; body = body.tree_is }, more.0),
+      more.1,
+      both (stms_made n f.body) (made_of (n + top_count (Top.fun f)) ts) body.funs_are more.2,
+    )
 tops_marks n (Top.stmt s ∷ ts) h =
     let part = stm_told s n _ h in
     let more = tops_marks (n + top_count (Top.stmt s)) ts part.rest in

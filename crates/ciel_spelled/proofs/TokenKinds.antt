@@ -1,5 +1,6 @@
 -- The names and texts of a script's tokens are UTF-8, and its numbers have 64 bits.
-use Rattle.std.proofs.Common.{◌≡◌, ℕ, zero, suc, ◌+◌, ◌<◌, ◌≤◌, true, List, [], ◌∷◌, ◌++◌, length, take, pos, negsuc, Ok, Err, IsUtf8, sym, subst, arith, append_assoc, inl, inr}
+use Rattle.std.proofs.Common.{◌≡◌, ℕ, zero, suc, ◌+◌, ◌<◌, ◌≤◌, true, List, [], ◌∷◌, ◌++◌, length, take, pos, negsuc, Ok, Err, IsUtf8, sym, subst}
+use Rattle.std.proofs.Common.{arith, append_assoc, inl, inr}
 use Rattle.std.specs.Prelude.{◌==◌}
 use Rattle.std.specs.Char.{is_ascii_digit}
 use Rattle.std.specs.List.{list_all}
@@ -43,7 +44,8 @@ valid_within bs (suc n) =
 valid_all : (bs : List ℕ) (n : ℕ) → valid_len_up_to bs n ≡ n → IsUtf8 (take n bs)
 valid_all bs zero e = IsUtf8-nil
 valid_all bs (suc n) e =
-    cond_both (is_utf8 (take (suc n) bs)) (suc n) (valid_len_up_to bs n) (λ m. m ≡ suc n → IsUtf8 (take (suc n) bs)) (λ u g. IsUtf8-from_is_utf8 (take (suc n) bs) u) (λ u g. absurd (omega (arith, g, valid_within bs n))) e
+    cond_both (is_utf8 (take (suc n) bs)) (suc n) (valid_len_up_to bs n) (λ m. m ≡ suc n → IsUtf8 (take (suc n) bs))
+    (λ u g. IsUtf8-from_is_utf8 (take (suc n) bs) u) (λ u g. absurd (omega (arith, g, valid_within bs n))) e
 
 valid_utf8 : (bs : List ℕ) → utf8_valid_len bs ≡ length bs → IsUtf8 bs
 unfolding utf8_valid_len
@@ -52,7 +54,8 @@ valid_utf8 bs e = subst IsUtf8 (take_all (length bs) bs (omega arith)) (valid_al
 source_utf8 : (bytes : List ℕ) (ts : List Token) → tokens_of bytes ≡ Ok ts → IsUtf8 bytes
 unfolding tokens_of
 source_utf8 bytes ts e =
-    cond_both (utf8_valid_len bytes == length bytes) (tokens_from bytes 0 0 bytes) (Err (LexRefusal.BadByte (utf8_valid_len bytes))) (λ r. r ≡ Ok ts → IsUtf8 bytes) (λ t k. valid_utf8 bytes (eqb-true (utf8_valid_len bytes) (length bytes) t)) (λ t k. absurd (cc k)) e
+    cond_both (utf8_valid_len bytes == length bytes) (tokens_from bytes 0 0 bytes) (Err (LexRefusal.BadByte (utf8_valid_len bytes)))
+    (λ r. r ≡ Ok ts → IsUtf8 bytes) (λ t k. valid_utf8 bytes (eqb-true (utf8_valid_len bytes) (length bytes) t)) (λ t k. absurd (cc k)) e
 
 -- ---- parts
 
@@ -70,7 +73,9 @@ escape_ascii c h = grind (arith, nat_tests)
 
 unescaped_ascii : (c : ℕ) → c < 128 → unescaped c < 128
 unescaped_ascii c h =
-    cond_both (c == 110) 10 _ (λ x. x < 128) (λ t. omega arith) (λ t. cond_both (c == 116) 9 _ (λ x. x < 128) (λ t. omega arith) (λ t. cond_both (c == 114) 13 c (λ x. x < 128) (λ t. omega arith) (λ t. h)))
+    cond_both (c == 110) 10 _ (λ x. x < 128) (λ t. omega arith)
+    (λ t. cond_both (c == 116) 9 _ (λ x. x < 128) (λ t. omega arith)
+    (λ t. cond_both (c == 114) 13 c (λ x. x < 128) (λ t. omega arith) (λ t. h)))
 
 after_comment : (front rest : List ℕ) → LineEnds rest → IsUtf8 (front ++ rest) → IsUtf8 rest
 after_comment front [] e u = IsUtf8-nil
@@ -96,8 +101,10 @@ content_utf8 (escape e q c is h) xs u =
     let low : e < 128 = escape_ascii e is in
     let behind : IsUtf8 (e ∷ q) = after_ascii xs 92 (e ∷ q) u (omega arith) in
     let rest : IsUtf8 q = after_ascii [] e q behind low in
-    let front : IsUtf8 (xs ++ unescaped e ∷ []) = IsUtf8-append xs (unescaped e ∷ []) (before_ascii xs 92 (e ∷ q) u (omega arith)) (ascii_utf8 (unescaped e) (unescaped_ascii e low)) in
-    subst IsUtf8 (append_assoc xs (unescaped e ∷ []) c) (content_utf8 h (xs ++ unescaped e ∷ []) (IsUtf8-append (xs ++ unescaped e ∷ []) q front rest))
+    let front : IsUtf8 (xs ++ unescaped e ∷ []) =
+    IsUtf8-append xs (unescaped e ∷ []) (before_ascii xs 92 (e ∷ q) u (omega arith)) (ascii_utf8 (unescaped e) (unescaped_ascii e low)) in
+    subst IsUtf8 (append_assoc xs (unescaped e ∷ []) c)
+    (content_utf8 h (xs ++ unescaped e ∷ []) (IsUtf8-append (xs ++ unescaped e ∷ []) q front rest))
 
 -- what a token's bytes say of its kind, and of what follows
 abbrev Told : TokenKind → List ℕ → Type 0

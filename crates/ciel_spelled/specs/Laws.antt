@@ -65,4 +65,5 @@ WaitedIsSpelled =
 -- and every needed task itself
 abbrev pub NeededIsSpelled : Type 0
 NeededIsSpelled =
-    (job : see.Job) (gives : Gives) → OfBytes job → (tag : Tag) → GivesNames tag → (d : see.Desc) → Needed job (json_around gives) (Task.of d) → SpelledDesc (named tag d)
+    (job : see.Job) (gives : Gives) → OfBytes job → (tag : Tag) → GivesNames tag → (d : see.Desc) → Needed job (json_around gives) (Task.of d)
+    → SpelledDesc (named tag d)

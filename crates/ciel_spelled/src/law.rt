@@ -1,6 +1,7 @@
 //! Laws of the values of a run. Each is the contract of a function that does nothing.
 
-ghost use Rattle.ciel_spelled.specs.Laws.{MadeIsSpelled, NeededIsSpelled, ReadsAreTyped, ScriptsAreTyped, ScriptsUseSo, SoundIsData, SoundIsSpelled, WaitedIsSpelled};
+ghost use Rattle.ciel_spelled.specs.Laws.{MadeIsSpelled, NeededIsSpelled, ReadsAreTyped, ScriptsAreTyped, ScriptsUseSo, SoundIsData, SoundIsSpelled};
+ghost use Rattle.ciel_spelled.specs.Laws.{WaitedIsSpelled};
 
 /// In a script that functions and statements make, a named function uses nothing of what stands around it.
 pub fn named_functions_use_nothing()

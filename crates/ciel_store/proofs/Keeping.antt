@@ -1,5 +1,6 @@
 -- Each step on a word keeps the rule.
-use Rattle.std.proofs.Common.{◌≡◌, ◌≢◌, ℕ, zero, suc, ◌+◌, ◌-◌, ◌<◌, ◌==◌, ◌^◌, true, false, List, [], ◌∷◌, ◌++◌, length, set, get_or, sym, refl, ap, ◌∙◌, subst, arith, ⊎_elim, length-set}
+use Rattle.std.proofs.Common.{◌≡◌, ◌≢◌, ℕ, zero, suc, ◌+◌, ◌-◌, ◌<◌, ◌==◌, ◌^◌, true, false, List, [], ◌∷◌, ◌++◌, length, set, get_or, sym, refl, ap}
+use Rattle.std.proofs.Common.{◌∙◌, subst, arith, ⊎_elim, length-set}
 use Rattle.std.proofs.lemmas.List.{set-get_or, get_or-set_same, get_or-set_other}
 use Rattle.std.proofs.lemmas.Bool.Decides.{nat_tests}
 use mathlib.Core.Option.{some, some-injective, some-ne-none}
@@ -20,13 +21,15 @@ has_last xs l = (length xs, at_last xs l (length xs) refl)
 
 -- what is in a list that is longer by one
 in_longer : (xs ys : List Loss) (l : Loss) → AllIn xs ys → Has ys l → AllIn (xs ++ l ∷ []) ys
-in_longer xs ys l all has x h = ⊎_elim (λ (e : get_elem? xs h.0 ≡ some x). all x (h.0, e)) (λ (e : l ≡ x). subst (λ (z : Loss). Has ys z) e has) (at_snoc xs l x h.0 h.1)
+in_longer xs ys l all has x h = ⊎_elim (λ (e : get_elem? xs h.0 ≡ some x). all x (h.0, e)) (λ (e : l ≡ x). subst (λ (z : Loss). Has ys z) e has)
+    (at_snoc xs l x h.0 h.1)
 
 none_in : (ys : List Loss) → AllIn [] ys
 none_in ys l h = absurd (some-ne-none l (sym h.1))
 
 -- the views after a step
-each_set : (views : List View) (seat id : ℕ) (losses losses' : List Loss) (w : View) → ((j : ℕ) (v : View) → get_elem? views j ≡ some v → j ≢ id → Fits seat losses' j v) → Fits seat losses' id w
+each_set : (views : List View) (seat id : ℕ) (losses losses' : List Loss) (w : View)
+    → ((j : ℕ) (v : View) → get_elem? views j ≡ some v → j ≢ id → Fits seat losses' j v) → Fits seat losses' id w
     → (j : ℕ) (v : View) → get_elem? (set views id w) j ≡ some v → Fits seat losses' j v
 each_set views seat id losses losses' w others mine j v e = ⊎_elim
     (λ (x : (j ≡ id) × (w ≡ v)). subst (λ (y : ℕ). Fits seat losses' y v) (sym x.0) (subst (λ (y : View). Fits seat losses' id y) x.1 mine))
@@ -55,17 +58,23 @@ said_after ws losses i number lt small z said l h = ⊎_elim
     let ne : l.worker ≢ i = (λ e. let f : get_or ws i 0 ≡ l.number + 1 = subst (λ (w : ℕ). get_or ws w 0 ≡ l.number + 1) e was.0 in omega arith) in
     (get_or-set_other ws i l.worker (number + 1) 0 ne ∙ was.0, was.1))
     (λ (x : loss (number + 1 - 1) i ≡ l).
-    subst (λ (y : Loss). (get_or (set ws i (number + 1)) y.worker 0 ≡ y.number + 1) × (y.number < 2 ^ 32)) x (get_or-set_same ws i (number + 1) 0 lt ∙ omega arith, omega arith))
+    subst (λ (y : Loss). (get_or (set ws i (number + 1)) y.worker 0 ≡ y.number + 1) × (y.number < 2 ^ 32)) x
+    (get_or-set_same ws i (number + 1) 0 lt ∙ omega arith, omega arith))
     (at_snoc losses (loss (number + 1 - 1) i) l h.0 h.1)
 
-meant_after : (ws : List ℕ) (losses : List Loss) (i number : ℕ) → i < length ws → ((w : ℕ) → 0 < get_or ws w 0 → Has losses (loss (get_or ws w 0 - 1) w))
-    → (w : ℕ) → Dec (w ≡ i) → 0 < get_or (set ws i (number + 1)) w 0 → Has (losses ++ loss (number + 1 - 1) i ∷ []) (loss (get_or (set ws i (number + 1)) w 0 - 1) w)
+meant_after : (ws : List ℕ) (losses : List Loss) (i number : ℕ) → i < length ws
+    → ((w : ℕ) → 0 < get_or ws w 0 → Has losses (loss (get_or ws w 0 - 1) w))
+    → (w : ℕ) → Dec (w ≡ i) → 0 < get_or (set ws i (number + 1)) w 0
+    → Has (losses ++ loss (number + 1 - 1) i ∷ []) (loss (get_or (set ws i (number + 1)) w 0 - 1) w)
 meant_after ws losses i number lt meant w (yes e) pos =
-    let r : get_or (set ws i (number + 1)) w 0 ≡ number + 1 = subst (λ (j : ℕ). get_or (set ws i (number + 1)) j 0 ≡ number + 1) (sym e) (get_or-set_same ws i (number + 1) 0 lt) in
-    subst (λ (y : Loss). Has (losses ++ loss (number + 1 - 1) i ∷ []) y) (λ k. loss (sym r k - 1) (sym e k)) (has_last losses (loss (number + 1 - 1) i))
+    let r : get_or (set ws i (number + 1)) w 0 ≡ number + 1 =
+    subst (λ (j : ℕ). get_or (set ws i (number + 1)) j 0 ≡ number + 1) (sym e) (get_or-set_same ws i (number + 1) 0 lt) in
+    subst (λ (y : Loss). Has (losses ++ loss (number + 1 - 1) i ∷ []) y) (λ k. loss (sym r k - 1) (sym e k))
+    (has_last losses (loss (number + 1 - 1) i))
 meant_after ws losses i number lt meant w (no ne) pos =
     let r : get_or (set ws i (number + 1)) w 0 ≡ get_or ws w 0 = get_or-set_other ws i w (number + 1) 0 ne in
-    subst (λ (x : ℕ). Has (losses ++ loss (number + 1 - 1) i ∷ []) (loss (x - 1) w)) (sym r) (has_longer losses (loss (number + 1 - 1) i ∷ []) (loss (get_or ws w 0 - 1) w) (meant w (omega arith)))
+    subst (λ (x : ℕ). Has (losses ++ loss (number + 1 - 1) i ∷ []) (loss (x - 1) w)) (sym r)
+    (has_longer losses (loss (number + 1 - 1) i ∷ []) (loss (get_or ws w 0 - 1) w) (meant w (omega arith)))
 
 one_view : (v u : View) (j : ℕ) → get_elem? (v ∷ []) j ≡ some u → (j ≡ 0) × (v ≡ u)
 one_view v u zero e = (refl, some-injective v u e)
@@ -74,7 +83,8 @@ one_view v u (suc j) e = absurd (some-ne-none u (sym e))
 module _ {S : Type 0} where
   -- a load, after which the seat has some view that fits
   pub loads : (n slots id i : ℕ) (me : Me S View) (then : ℕ → Me S View → Type 0)
-      → ((s : State S View) → (k : Kept n s) → get_elem? s.views id ≡ some me.0 → (w : View) × Fits k.seat k.losses id w × then (get_or s.words i 0) (w, me.1))
+      → ((s : State S View) → (k : Kept n s) → get_elem? s.views id ≡ some me.0 → (w : View) × Fits k.seat k.losses id w
+      × then (get_or s.words i 0) (w, me.1))
       → Allows (Kept n) slots id me i (λ x. x) then
   loads n slots id i me then f s k len at small = let r = f s k at in let same = set-get_or s.words i 0 in (
     r.0,
@@ -91,10 +101,12 @@ module _ {S : Type 0} where
     r.2,
   )
 
-  seen_before : (n : ℕ) (s : State S View) (k : Kept n s) (id i : ℕ) (v : View) → Fits k.seat k.losses id v → (l : Loss) → Has v.own l → l.worker ≡ i → get_or s.words i 0 ≡ l.number + 1
+  seen_before : (n : ℕ) (s : State S View) (k : Kept n s) (id i : ℕ) (v : View) → Fits k.seat k.losses id v → (l : Loss) → Has v.own l → l.worker
+      ≡ i → get_or s.words i 0 ≡ l.number + 1
   seen_before n s k id i v fit l h e = subst (λ (w : ℕ). get_or s.words w 0 ≡ l.number + 1) e (k.said l (fit.own l h)).0
 
-  look : (n : ℕ) (s : State S View) (k : Kept n s) (id i : ℕ) (me : Me S View) → me.0.marks ≡ false → get_elem? s.views id ≡ some me.0 → Dec (get_or s.words i 0 ≡ 0)
+  look : (n : ℕ) (s : State S View) (k : Kept n s) (id i : ℕ) (me : Me S View) → me.0.marks ≡ false → get_elem? s.views id ≡ some me.0
+      → Dec (get_or s.words i 0 ≡ 0)
       → (w : View) × Fits k.seat k.losses id w × (HasLooked i me.0 (get_or s.words i 0) w × (me.1 ≡ me.1))
   look n s k id i me plain at (yes e) = let fit = k.each id me.0 at in (
     me.0,
@@ -110,18 +122,27 @@ module _ {S : Type 0} where
         (record { none = λ z. absurd (ne z); some_loss = λ _. refl; small = omega (arith, said.1); before = seen_before n s k id i me.0 fit }, refl),
       )
 
-  pub looks : (n slots id i : ℕ) (me : Me S View) → me.0.marks ≡ false → Allows (Kept n) slots id me i (λ x. x) (λ r m. HasLooked i me.0 r m.0 × (m.1 ≡ me.1))
-  looks n slots id i me plain = loads n slots id i me (λ r m. HasLooked i me.0 r m.0 × (m.1 ≡ me.1)) (λ s k at. look n s k id i me plain at (ℕ_discrete (get_or s.words i 0) 0))
+  pub looks : (n slots id i : ℕ) (me : Me S View) → me.0.marks ≡ false
+      → Allows (Kept n) slots id me i (λ x. x) (λ r m. HasLooked i me.0 r m.0 × (m.1 ≡ me.1))
+  looks n slots id i me plain = loads n slots id i me (λ r m. HasLooked i me.0 r m.0 × (m.1 ≡ me.1))
+      (λ s k at. look n s k id i me plain at (ℕ_discrete (get_or s.words i 0) 0))
 
-  pub confirms : (n slots id i : ℕ) (me : Me S View) → me.0.marks ≡ true → Allows (Kept n) slots id me i (λ x. x) (λ r m. (m ≡ me) × AllIn me.0.beside me.0.own)
+  pub confirms : (n slots id i : ℕ) (me : Me S View) → me.0.marks ≡ true
+      → Allows (Kept n) slots id me i (λ x. x) (λ r m. (m ≡ me) × AllIn me.0.beside me.0.own)
   confirms n slots id i me marks = loads n slots id i me (λ r m. (m ≡ me) × AllIn me.0.beside me.0.own)
-      (λ s k at. let fit = k.each id me.0 at in (me.0, fit, (refl, subst (λ (xs : List Loss). AllIn me.0.beside xs) (sym (fit.one marks).1) fit.beside)))
+      (λ s k at. let fit = k.each id me.0 at in (
+        me.0,
+        fit,
+        (refl, subst (λ (xs : List Loss). AllIn me.0.beside xs) (sym (fit.one marks).1) fit.beside),
+      ))
 
   abbrev Marked : (n i number : ℕ) (s : State S View) (id : ℕ) (me : Me S View) → Type 0
-  Marked n i number s id me = (w : View) × (a : Act S) × Valid s.homes me.1 a × Kept n (stepped s i (either (get_or s.words i 0 == 0) (number + 1) (get_or s.words i 0)) id me.1 w a)
+  Marked n i number s id me = (w : View) × (a : Act S) × Valid s.homes me.1 a
+      × Kept n (stepped s i (either (get_or s.words i 0 == 0) (number + 1) (get_or s.words i 0)) id me.1 w a)
       × (HasMarked i (number + 1) me.0 (get_or s.words i 0) w × (carried_after me.1 a ≡ me.1))
 
-  mark : (n id i number : ℕ) (me : Me S View) → me.0.marks ≡ true → i < n → number < 2 ^ 32 → (s : State S View) → (k : Kept n s) → get_elem? s.views id ≡ some me.0 → Dec (get_or s.words i 0 ≡ 0) → Marked n i number s id me
+  mark : (n id i number : ℕ) (me : Me S View) → me.0.marks ≡ true → i < n → number < 2 ^ 32 → (s : State S View) → (k : Kept n s)
+      → get_elem? s.views id ≡ some me.0 → Dec (get_or s.words i 0 ≡ 0) → Marked n i number s id me
   mark n id i number me is lt small s k at (yes z) =
       let fit = k.each id me.0 at in
       let mine = fit.one is in
@@ -163,7 +184,8 @@ module _ {S : Type 0} where
       let fit = k.each id me.0 at in
       let pos : 0 < get_or s.words i 0 = omega arith in
       let becomes = either_other (get_or s.words i 0) (number + 1) pos in
-      let same : set s.words i (either (get_or s.words i 0 == 0) (number + 1) (get_or s.words i 0)) ≡ s.words = ap (λ (x : ℕ). set s.words i x) becomes ∙ set-get_or s.words i 0 in
+      let same : set s.words i (either (get_or s.words i 0 == 0) (number + 1) (get_or s.words i 0)) ≡ s.words =
+      ap (λ (x : ℕ). set s.words i x) becomes ∙ set-get_or s.words i 0 in
       let has = k.meant i pos in (
         me.0,
         keeps,
@@ -177,7 +199,11 @@ module _ {S : Type 0} where
           meant = k.meant;
         },
         (
-          record { fresh = λ z. absurd (ne z); stale = λ _. (refl, subst (λ (xs : List Loss). Has xs (loss (get_or s.words i 0 - 1) i)) (sym (fit.one is).1) has) },
+          record {
+            fresh = λ z. absurd (ne z);
+            stale =
+                λ _. (refl, subst (λ (xs : List Loss). Has xs (loss (get_or s.words i 0 - 1) i)) (sym (fit.one is).1) has);
+          },
           refl,
         ),
       )
@@ -189,20 +215,37 @@ module _ {S : Type 0} where
   split_off : (n : ℕ) (s : State S View) (k : Kept n s) (id : ℕ) (v : View) (xs : List Loss) → get_elem? s.views id ≡ some v → AllIn xs k.losses
       → (j : ℕ) (u : View) → get_elem? (set s.views id v ++ eye xs ∷ []) j ≡ some u → Fits k.seat k.losses j u
   split_off n s k id v xs at all j u e = ⊎_elim
-      (λ (x : get_elem? (set s.views id v) j ≡ some u). each_set s.views k.seat id k.losses k.losses v (λ i y f _. k.each i y f) (k.each id v at) j u x)
+      (λ (x : get_elem? (set s.views id v) j ≡ some u). each_set s.views k.seat id k.losses k.losses v (λ i y f _. k.each i y f) (k.each id v at)
+      j u x)
       (λ (x : eye xs ≡ u). subst (λ (y : View). Fits k.seat k.losses j y) x record { one = λ m. absurd cc; own = all; beside = none_in k.losses })
       (at_snoc (set s.views id v) (eye xs) u j e)
 
   pub begins_eye : (n id : ℕ) (v : View) → Splits (Kept {S = S} n) id v v (eye [])
-  begins_eye n id v s k at = record { seat = k.seat; losses = k.losses; wide = k.wide; each = split_off n s k id v [] at (none_in k.losses); said = k.said; meant = k.meant }
+  begins_eye n id v s k at = record {
+    seat = k.seat;
+    losses = k.losses;
+    wide = k.wide;
+    each = split_off n s k id v [] at (none_in k.losses);
+    said = k.said;
+    meant = k.meant;
+  }
 
   pub shows : (n id : ℕ) (v : View) → Splits (Kept {S = S} n) id v v (eye v.own)
-  shows n id v s k at = record { seat = k.seat; losses = k.losses; wide = k.wide; each = split_off n s k id v v.own at (k.each id v at).own; said = k.said; meant = k.meant }
+  shows n id v s k at = record {
+    seat = k.seat;
+    losses = k.losses;
+    wide = k.wide;
+    each = split_off n s k id v v.own at (k.each id v at).own;
+    said = k.said;
+    meant = k.meant;
+  }
 
   pub takes : (n id : ℕ) (v : View) (other : ℕ) (w : View) → v.marks ≡ true → Joins (Kept {S = S} n) id v other w (marker v.own w.own) (eye [])
   takes n id v other w is s k at apart at' =
       let fit = k.each id v at in
-      let theirs : get_elem? s.views other ≡ some w = ⊎_elim (λ (x : (other ≡ id) × (marker v.own w.own ≡ w)). absurd (apart x.0)) (λ (x : (other ≢ id) × (get_elem? s.views other ≡ some w)). x.1) (at_set s.views id other (marker v.own w.own) w at') in
+      let theirs : get_elem? s.views other ≡ some w =
+      ⊎_elim (λ (x : (other ≡ id) × (marker v.own w.own ≡ w)). absurd (apart x.0))
+      (λ (x : (other ≢ id) × (get_elem? s.views other ≡ some w)). x.1) (at_set s.views id other (marker v.own w.own) w at') in
       record {
         seat = k.seat;
         losses = k.losses;
@@ -220,7 +263,8 @@ module _ {S : Type 0} where
     seat = 0;
     losses = [];
     wide = refl;
-    each = λ j v e. let r = one_view (marker [] []) v j e in subst (λ (y : View). Fits 0 [] j y) r.1 record { one = λ _. (r.0, refl); own = λ l h. h; beside = λ l h. h };
+    each = λ j v e. let r = one_view (marker [] []) v j e in
+        subst (λ (y : View). Fits 0 [] j y) r.1 record { one = λ _. (r.0, refl); own = λ l h. h; beside = λ l h. h };
     said = λ l h. absurd (some-ne-none l (sym h.1));
     meant = λ w pos. absurd (let z = zeros w in omega arith);
   }

@@ -29,7 +29,8 @@ some_lost [] w n k e = absurd (some-ne-none (loss n w) (sym e))
 some_lost (l ∷ ls) w n zero e = let same : l ≡ loss n w = some-injective l (loss n w) e in rw (agree l.worker w (ap (λ (x : Loss). x.worker) same))
 some_lost (l ∷ ls) w n (suc k) e = rw (some_lost ls w n k e) (or_true (l.worker == w))
 
-go : (word number : ℕ) (v w : View) (n : ℕ) (l : Loss) → l.worker ≡ word → number ≡ l.number → HasMarked word (number + 1) v n w → Dec (n ≡ 0) → w.own ≡ marked v.own l
+go : (word number : ℕ) (v w : View) (n : ℕ) (l : Loss) → l.worker ≡ word → number ≡ l.number → HasMarked word (number + 1) v n w → Dec (n ≡ 0)
+    → w.own ≡ marked v.own l
 go word number v w n l ew en h (yes z) =
     let f = h.fresh z in
     let none : is_lost v.own l.worker ≡ false = none_lost v.own l.worker (λ x i e. f.1 x i (e ∙ ew)) in
@@ -37,8 +38,10 @@ go word number v w n l ew en h (yes z) =
     rw none (ap (λ (x : View). x.own) f.0 ∙ λ k. v.own ++ loss (m k) (sym ew k) ∷ [])
 go word number v w n l ew en h (no ne) =
     let f = h.stale (omega arith) in
-    let lost : is_lost v.own l.worker ≡ true = some_lost v.own l.worker (n - 1) f.1.0 (subst (λ (x : ℕ). get_elem? v.own f.1.0 ≡ some (loss (n - 1) x)) (sym ew) f.1.1) in
+    let lost : is_lost v.own l.worker ≡ true = some_lost v.own l.worker (n - 1) f.1.0
+    (subst (λ (x : ℕ). get_elem? v.own f.1.0 ≡ some (loss (n - 1) x)) (sym ew) f.1.1) in
     rw lost (ap (λ (x : View). x.own) f.0)
 
-pub marked_is : (word number : ℕ) (v w : View) (n : ℕ) (l : Loss) → l.worker ≡ word → number ≡ l.number → HasMarked word (number + 1) v n w → w.own ≡ marked v.own l
+pub marked_is : (word number : ℕ) (v w : View) (n : ℕ) (l : Loss) → l.worker ≡ word → number ≡ l.number → HasMarked word (number + 1) v n w
+    → w.own ≡ marked v.own l
 marked_is word number v w n l ew en h = go word number v w n l ew en h (ℕ_discrete n 0)

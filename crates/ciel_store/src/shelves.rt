@@ -41,7 +41,8 @@ impl<B: Drop> Model for Shelves<B> {
 
     ghost view = { λ s. record { of = s.words.shared.table_id; rows = s.rows.items } };
 
-    ghost invariant = { λ s. (s.words.shared.key ≡ length s.rows.items) × (s.words.shared.table_id.words ≡ length s.rows.items) × (0 < length s.rows.items) };
+    ghost invariant = { λ s. (s.words.shared.key ≡ length s.rows.items) × (s.words.shared.table_id.words ≡ length s.rows.items)
+        × (0 < length s.rows.items) };
 }
 
 /// The worker of the place is lost.
@@ -94,7 +95,8 @@ impl<B: Drop> Shelves<B> {
         requires place { IsPlaceOf self.now place.now }
         requires eye { eye.old.of ≡ self.now.of }
         ensures of { eye.new.of ≡ eye.old.of }
-        ensures found { MatchResult result (λ b. (b.now ≡ place.now.at.value) × (eye.new ≡ eye.old)) (λ gone. (gone.loss.worker ≡ place.now.worker) × (eye.new.losses ≡ eye.old.losses ++ gone.loss ∷ [])) }
+        ensures found { MatchResult result (λ b. (b.now ≡ place.now.at.value) × (eye.new ≡ eye.old))
+            (λ gone. (gone.loss.worker ≡ place.now.worker) × (eye.new.losses ≡ eye.old.losses ++ gone.loss ∷ [])) }
         ensures again { (l : Loss) → Has eye.old.losses l → l.worker ≡ place.now.worker → IsErrAnd result (λ gone. gone.loss ≡ l) }
     {
         let worker = place.worker;

@@ -13,7 +13,8 @@ use Rattle.ciel_table.proofs.ByName.{place_new, place_still, place_same}
 
 module _ {X : Type 0} (name : X → List ℕ) where
   -- a new name comes to the end
-  pub index_more : (old new : BTreeMap (List ℕ) ℕ) (xs : List X) (x : X) (k : List ℕ) (i : ℕ) → name x ≡ k → i ≡ length xs → IsIndex name old xs → place_of name k xs ≡ None → Updates name_cmp old new k (Some i) → IsIndex name new (xs ++ x ∷ [])
+  pub index_more : (old new : BTreeMap (List ℕ) ℕ) (xs : List X) (x : X) (k : List ℕ) (i : ℕ) → name x ≡ k → i ≡ length xs → IsIndex name old xs
+      → place_of name k xs ≡ None → Updates name_cmp old new k (Some i) → IsIndex name new (xs ++ x ∷ [])
   index_more old new xs x k i s l h e u n =
       u.0 n
       ∙ (ap (λ b. cond b (Some i) (get name_cmp old n)) (same_test k n)

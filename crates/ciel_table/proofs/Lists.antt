@@ -1,5 +1,6 @@
 -- What holds of each item of a list.
-use Rattle.std.proofs.Common.{◌≡◌, ℕ, zero, suc, ◌<◌, List, [], ◌∷◌, ◌++◌, Bool, true, false, cond, ◌||◌, filter, map, length, get_or, nat_eq, refl, ap, sym, subst, ◌⊎◌, inl, inr, arith, eqb-true, eq-eqb, Result, Ok, Err, OnOk, OnErr}
+use Rattle.std.proofs.Common.{◌≡◌, ℕ, zero, suc, ◌<◌, List, [], ◌∷◌, ◌++◌, Bool, true, false, cond, ◌||◌, filter, map, length, get_or, nat_eq, refl}
+use Rattle.std.proofs.Common.{ap, sym, subst, ◌⊎◌, inl, inr, arith, eqb-true, eq-eqb, Result, Ok, Err, OnOk, OnErr}
 use Rattle.std.specs.List.{AllByRecursion, list_any}
 
 pub bool_cases : (b : Bool) → (b ≡ true) ⊎ (b ≡ false)
@@ -17,7 +18,8 @@ pub any_last : (p : ℕ → Bool) (xs : List ℕ) (x : ℕ) → list_any p xs �
 any_last p [] x h k = ap (λ b. b || false) k
 any_last p (y ∷ ys) x h k = turn (p y) h (any_last p ys x)
   where
-    turn : (b : Bool) → b || list_any p ys ≡ false → (list_any p ys ≡ false → p x ≡ false → list_any p (ys ++ x ∷ []) ≡ false) → b || list_any p (ys ++ x ∷ []) ≡ false
+    turn : (b : Bool) → b || list_any p ys ≡ false → (list_any p ys ≡ false → p x ≡ false → list_any p (ys ++ x ∷ []) ≡ false) → b
+        || list_any p (ys ++ x ∷ []) ≡ false
     turn true h r = cc
     turn false h r = r h k
 
@@ -43,12 +45,14 @@ module _ {X : Type 0} where
   all_more P Q f [] h = tt
   all_more P Q f (x ∷ xs) h = (f x h.0, all_more P Q f xs h.1)
 
-  pub all_map : {Y : Type 0} (P : X → Type 0) (Q : Y → Type 0) (f : X → Y) → ((x : X) → P x → Q (f x)) → (xs : List X) → AllByRecursion P xs → AllByRecursion Q (map f xs)
+  pub all_map : {Y : Type 0} (P : X → Type 0) (Q : Y → Type 0) (f : X → Y) → ((x : X) → P x → Q (f x)) → (xs : List X) → AllByRecursion P xs
+      → AllByRecursion Q (map f xs)
   all_map P Q f h [] a = tt
   all_map P Q f h (x ∷ xs) a = (h x a.0, all_map P Q f h xs a.1)
 
   -- what passes a test keeps what held of it
-  pub all_filter : (P Q : X → Type 0) (test : X → Bool) → ((x : X) → P x → test x ≡ true → Q x) → (xs : List X) → AllByRecursion P xs → AllByRecursion Q (filter test xs)
+  pub all_filter : (P Q : X → Type 0) (test : X → Bool) → ((x : X) → P x → test x ≡ true → Q x) → (xs : List X) → AllByRecursion P xs
+      → AllByRecursion Q (filter test xs)
   all_filter P Q test f [] h = tt
   all_filter P Q test f (x ∷ xs) h = turn (test x) refl (all_filter P Q test f xs h.1)
     where

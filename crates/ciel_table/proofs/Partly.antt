@@ -20,6 +20,7 @@ module _ {X : Type 0} (f : X → X) where
   partly_all (x ∷ xs) (suc i) l = ap (λ ys. f x ∷ ys) (partly_all xs i (omega (arith, l)))
 
   -- one more item changed
-  pub partly_next : (xs ys : List X) (i : ℕ) (x y : X) → ys ≡ partly i xs → x ≡ get_or ys i x → y ≡ f x → i < length xs → set ys i y ≡ partly (suc i) xs
+  pub partly_next : (xs ys : List X) (i : ℕ) (x y : X) → ys ≡ partly i xs → x ≡ get_or ys i x → y ≡ f x → i < length xs → set ys i y
+      ≡ partly (suc i) xs
   partly_next xs ys i x y e s h l =
       ap (set ys i) (h ∙ ap f s) ∙ (ap (λ zs. set zs i (f (get_or zs i x))) e ∙ partly_step xs i x l)

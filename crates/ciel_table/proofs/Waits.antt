@@ -1,5 +1,6 @@
 -- Saved waits of one task: their numbers rise, so the last one has the greatest.
-use Rattle.std.proofs.Common.{◌≡◌, ℕ, ◌<◌, ◌-◌, List, [], ◌∷◌, ◌++◌, Bool, true, false, cond, filter, length, slice_get, refl, ap, sym, ◌∙◌, subst, arith, Option, Some, None, MatchOption, Bor, nat_lt}
+use Rattle.std.proofs.Common.{◌≡◌, ℕ, ◌<◌, ◌-◌, List, [], ◌∷◌, ◌++◌, Bool, true, false, cond, filter, length, slice_get, refl, ap, sym, ◌∙◌, subst}
+use Rattle.std.proofs.Common.{arith, Option, Some, None, MatchOption, Bor, nat_lt}
 use Rattle.std.specs.List.{AllByRecursion}
 use Rattle.std.specs.Option.{option_copied}
 use Rattle.std.proofs.lemmas.Bool.{le-ltb, ltb-true, ltb-false}
@@ -32,7 +33,8 @@ module _ {P : Type 0} where
   latest_is (w ∷ ws) r =
       let q = last_of w ws r in q.is ∙ (sym q.at ∙ ap (slice_get (w ∷ ws)) (omega arith))
 
-  pub latest_answer : (r : Option (Bor (Wait P))) (ws : List (Wait P)) → Rising ws → option_copied r ≡ slice_get ws (length ws - 1) → MatchOption r (latest ws ≡ None) (λ w. latest ws ≡ Some w.now)
+  pub latest_answer : (r : Option (Bor (Wait P))) (ws : List (Wait P)) → Rising ws → option_copied r ≡ slice_get ws (length ws - 1)
+      → MatchOption r (latest ws ≡ None) (λ w. latest ws ≡ Some w.now)
   latest_answer None ws r e = latest_is ws r ∙ sym e
   latest_answer (Some b) ws r e = latest_is ws r ∙ sym e
 
@@ -49,7 +51,8 @@ module _ {P : Type 0} where
       turn false k = k
 
   -- one wait more
-  pub sound_push : (at : P → ℕ) (gone : List ℕ) (ws : List (Wait P)) (w : Wait P) → WaitsSound at gone ws → IsAbove w.j ws → Here gone (at w.place) → WaitsSound at gone (ws ++ w ∷ [])
+  pub sound_push : (at : P → ℕ) (gone : List ℕ) (ws : List (Wait P)) (w : Wait P) → WaitsSound at gone ws → IsAbove w.j ws
+      → Here gone (at w.place) → WaitsSound at gone (ws ++ w ∷ [])
   sound_push at gone ws w s a h =
       record {
         rising = rising_push ws w s.rising a;
@@ -57,7 +60,8 @@ module _ {P : Type 0} where
       }
 
   -- those that pass a test
-  pub sound_filter : (at : P → ℕ) (gone after : List ℕ) (test : Wait P → Bool) (ws : List (Wait P)) → WaitsSound at gone ws → ((w : Wait P) → Here gone (at w.place) → test w ≡ true → Here after (at w.place)) → WaitsSound at after (filter test ws)
+  pub sound_filter : (at : P → ℕ) (gone after : List ℕ) (test : Wait P → Bool) (ws : List (Wait P)) → WaitsSound at gone ws
+      → ((w : Wait P) → Here gone (at w.place) → test w ≡ true → Here after (at w.place)) → WaitsSound at after (filter test ws)
   sound_filter at gone after test ws s f =
       record {
         rising = rising_filter test ws s.rising;
@@ -85,7 +89,8 @@ module _ {P : Type 0} where
   above_latest j [] w e l = tt
   above_latest j (v ∷ vs) w e l = turn (latest vs) refl e (above_latest j vs)
     where
-      turn : (o : Option (Wait P)) → latest vs ≡ o → later v o ≡ Some w → ((u : Wait P) → latest vs ≡ Some u → u.j < j → IsAbove j vs) → IsAbove j (v ∷ vs)
+      turn : (o : Option (Wait P)) → latest vs ≡ o → later v o ≡ Some w → ((u : Wait P) → latest vs ≡ Some u → u.j < j → IsAbove j vs)
+          → IsAbove j (v ∷ vs)
       turn None q h r =
           let s : v ≡ w = cc in (subst (λ (x : Wait P). x.j < j) (sym s) l, above_none j vs q)
       turn (Some u) q h r = pick (nat_lt u.j v.j) refl h

@@ -1,6 +1,7 @@
 //! The table.
 
-ghost use Rattle.std.specs.Prelude.{◌≡◌, ◌<◌, ℕ, List, [], ◌∷◌, ◌++◌, None, Some, Ok, Err, IfOk, IfErr, OnOk, OnErr, MatchOption, length, map, slice_get};
+ghost use Rattle.std.specs.Prelude.{◌≡◌, ◌<◌, ℕ, List, [], ◌∷◌, ◌++◌, None, Some, Ok, Err, IfOk, IfErr, OnOk, OnErr, MatchOption, length, map};
+ghost use Rattle.std.specs.Prelude.{slice_get};
 ghost use Rattle.sky_base.specs.Name.{canon};
 ghost use Rattle.ciel_table.specs.Changes.{dropped, placed, row_without, saved, saves_without};
 ghost use Rattle.ciel_table.specs.Learning.{Refuses, learn_answer, learned};

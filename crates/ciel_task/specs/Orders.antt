@@ -65,7 +65,8 @@ Describes digest sc given _ _ = ⊥
 -- where the task goes on, its stack stands at the order's wait, and all that it waits for there is brought along
 pub record GoesOnFrom (shelves : ShelvesSeen) (sc : Script) (order : Order) (p : PlaceSeen Block) : Type 0 where
   pub place : IsPlaceOf shelves p
-  pub stack : HasStack (λ s. Fits sc s × OfKind order.task s × (stand_wait s ≡ order.from) × Each (λ d. In (held_name d) (names_in order.inputs.items)) (pending_in same_text s)) p.at.value
+  pub stack : HasStack (λ s. Fits sc s × OfKind order.task s × (stand_wait s ≡ order.from)
+      × Each (λ d. In (held_name d) (names_in order.inputs.items)) (pending_in same_text s)) p.at.value
 
 -- at its start the root task waits for the main call
 abbrev pub ShowsMain : Order → TaskId → Type 0

@@ -91,7 +91,8 @@ HasSeen (Some seen) loss = In loss seen.losses
 -- the place that the order gives for the name, or for its stack, is at the worker that is lost, and that was seen
 pub record IsMissed (digest : List ℕ → List ℕ) (order : Order) (name : Digest) (loss : Loss) (eye : Option SeatSeen) : Type 0 where
   pub place : P
-  pub given : (spot_of name (order_view order).inputs ≡ Some (shelf place)) ⊎ ((order.saved ≡ Some place) × (name ≡ own_name digest (λ (p : P). p.worker) order.main order.task))
+  pub given : (spot_of name (order_view order).inputs ≡ Some (shelf place))
+      ⊎ ((order.saved ≡ Some place) × (name ≡ own_name digest (λ (p : P). p.worker) order.main order.task))
   pub worker : place.worker ≡ loss.worker
   pub seen : HasSeen eye loss
 

@@ -32,7 +32,8 @@ module _ (shelves : ShelvesSeen) (w : ℕ) (sc : Script) where
   pub record StackAt (task : TaskId) (p : PlaceSeen Block) (j : ℕ) (refs holds : List (List ℕ)) : Type 0 where
     pub here : IsPlaceOf shelves p
     pub worker : p.worker ≡ w
-    pub stack : HasStack (λ s. Fits sc s × OfKind task s × (stand_wait s ≡ j) × (map held_name (pending_in same_text s) ≡ refs) × (map held_name (held_in same_text s) ≡ holds)) p.at.value
+    pub stack : HasStack (λ s. Fits sc s × OfKind task s × (stand_wait s ≡ j) × (map held_name (pending_in same_text s) ≡ refs)
+        × (map held_name (held_in same_text s) ≡ holds)) p.at.value
 
   abbrev pub CopyAt : Spot → Type 0
   CopyAt (Spot.Shelf p) = ObjectAt p

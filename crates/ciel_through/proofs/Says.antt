@@ -16,5 +16,8 @@ says_where digest mark frozen job around plain alike writes o finds old new s be
     record {
       made = w.made;
       grew = w.grew;
-      says = says_more (the tag mark frozen job around) (real_inner job around) (lower tag mark frozen job around) o _ _ _ (λ h. (h.0, λ q p. h.1 q (w.passes job around (back o.task) refl alike writes q p))) (walks_true tag mark frozen job around plain o finds old begins w.made (stop_of s new) (w.walk job around (back o.task) refl alike writes));
+      says = says_more (the tag mark frozen job around) (real_inner job around) (lower tag mark frozen job around) o _ _ _
+          (λ h. (h.0, λ q p. h.1 q (w.passes job around (back o.task) refl alike writes q p)))
+          (walks_true tag mark frozen job around plain o finds old begins w.made (stop_of s new)
+          (w.walk job around (back o.task) refl alike writes));
     }

@@ -29,7 +29,8 @@ pub record SaysWhere (digest : List ℕ → List ℕ) (mark : Object (List ℕ) 
   pub says : SaysAnd (the (digested digest) mark frozen job around) (real_inner job around) (lower (digested digest) mark frozen job around) o
       (record { number = o.number; spawned = made; end = end_of (digested digest) mark frozen job around o.task (stop_of s new) })
       (CameTo (digested digest) mark frozen job around o.task (stop_of s new)
-      × ((q : Stand (List ℕ)) → PassedAt finds digest job.script old new s before after through q → WaitsAt (digested digest) mark frozen job around o q))
+      × ((q : Stand (List ℕ)) → PassedAt finds digest job.script old new s before after through q
+      → WaitsAt (digested digest) mark frozen job around o q))
 
 -- the law: of each job with the script, from a state from which a run of the order may begin
 abbrev pub ThroughSays : Type 0

@@ -33,5 +33,6 @@ pub record Walked (digest : List ℕ → List ℕ) (sc : Script) (finds : v.Desc
 -- the law
 abbrev pub ThroughIsWalk : Type 0
 ThroughIsWalk =
-    (digest : List ℕ → List ℕ) (sc : Script) (finds : v.Desc (List ℕ) → Option (Object (List ℕ))) (old new : Stand (List ℕ)) (s : Step) (before after : Spawned)
+    (digest : List ℕ → List ℕ) (sc : Script) (finds : v.Desc (List ℕ) → Option (Object (List ℕ))) (old new : Stand (List ℕ)) (s : Step)
+    (before after : Spawned)
     → (through : Through finds digest sc old new s before after) → Walked digest sc finds old new s before after through

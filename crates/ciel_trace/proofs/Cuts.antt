@@ -15,7 +15,8 @@ number_back n = concat (codes " " ∷ n ∷ codes "\n" ∷ [])
 pub start_cut : (number worker : ℕ) (task : TaskId) (from : ℕ) (n w f : List ℕ) → n ≡ decimal number → w ≡ decimal worker → f ≡ decimal from
     → start_text number worker task from ≡ start_front n w ++ (task_text task ++ number_back f)
 start_cut number worker task from n w f e h k =
-    rw (e, h, k) (concat_of_parts (codes "start " ∷ decimal number ∷ codes " " ∷ decimal worker ∷ codes " " ∷ []) (task_text task ∷ codes " " ∷ decimal from ∷ codes "\n" ∷ []))
+    rw (e, h, k) (concat_of_parts (codes "start " ∷ decimal number ∷ codes " " ∷ decimal worker ∷ codes " " ∷ [])
+    (task_text task ∷ codes " " ∷ decimal from ∷ codes "\n" ∷ []))
 
 abbrev pub saved_front : List ℕ → List ℕ → List ℕ
 saved_front n w = concat (codes "saved " ∷ n ∷ codes " " ∷ w ∷ codes " " ∷ [])

@@ -1,5 +1,6 @@
 -- Texts put one behind another: digits of bytes in parts, and the texts of a list's members.
-use Rattle.std.proofs.Common.{◌≡◌, ◌<◌, ◌+◌, ◌/◌, ◌%◌, ◌++◌, ℕ, zero, suc, List, [], ◌∷◌, Option, Result, Ok, Err, OnErr, flat_map, get_or, length, take, drop, slice_index, refl, sym, ap, subst, ◌∙◌, append_assoc, arith}
+use Rattle.std.proofs.Common.{◌≡◌, ◌<◌, ◌+◌, ◌/◌, ◌%◌, ◌++◌, ℕ, zero, suc, List, [], ◌∷◌, Option, Result, Ok, Err, OnErr, flat_map, get_or, length}
+use Rattle.std.proofs.Common.{take, drop, slice_index, refl, sym, ap, subst, ◌∙◌, append_assoc, arith}
 use Rattle.std.specs.List.{concat}
 use Rattle.hex.specs.Hex.{encode_lower, encode_with, lower_digits}
 use Rattle.ciel_io.specs.Tells.{Tells, TellsPart}
@@ -21,7 +22,8 @@ concat_of_parts [] ys = refl
 concat_of_parts (x ∷ xs) ys = ap (λ zs. x ++ zs) (concat_of_parts xs ys) ∙ sym (append_assoc x (concat xs) (concat ys))
 
 -- a part of a text of which `front` was put, where `next` comes then
-pub part_at : (b m n : Option (List ℕ)) (whole front next rest : List ℕ) → whole ≡ front ++ (next ++ rest) → Tells b m front → TellsPart m n next → TellsPart b n whole
+pub part_at : (b m n : Option (List ℕ)) (whole front next rest : List ℕ) → whole ≡ front ++ (next ++ rest) → Tells b m front → TellsPart m n next
+    → TellsPart b n whole
 part_at b m n whole front next rest e g h = subst (TellsPart b n) (sym e) (part_more b m n front next rest g h)
 
 pub part_first : (b n : Option (List ℕ)) (whole next rest : List ℕ) → whole ≡ next ++ rest → TellsPart b n next → TellsPart b n whole

@@ -1,5 +1,6 @@
 -- Slots: what is there after one is set, and how many of them pass a test.
-use Rattle.std.proofs.Common.{◌≡◌, ℕ, zero, suc, ◌+◌, ◌≤◌, ◌<◌, List, [], ◌∷◌, length, replicate, Bool, true, false, Option, Some, None, ◌⊎◌, inl, inr, refl, ap, sym, ◌∙◌, subst, arith, nat_eq, eqb-true, eq-eqb, slice_get, slice_set}
+use Rattle.std.proofs.Common.{◌≡◌, ℕ, zero, suc, ◌+◌, ◌≤◌, ◌<◌, List, [], ◌∷◌, length, replicate, Bool, true, false, Option, Some, None, ◌⊎◌, inl}
+use Rattle.std.proofs.Common.{inr, refl, ap, sym, ◌∙◌, subst, arith, nat_eq, eqb-true, eq-eqb, slice_get, slice_set}
 use Rattle.std.specs.Option.{option_map_or}
 use Rattle.ciel_journal.proofs.Members.{bool_cases}
 use Rattle.ciel_board.specs.Board.{Order}
@@ -44,7 +45,8 @@ module _ {A : Type 0} where
   set_long (y ∷ ys) (suc i) x = ap suc (set_long ys i x)
 
   -- what is at a place is what was set there, or it was there before
-  pub set_cases : (xs : List A) (i j : ℕ) (x y : A) → slice_get (slice_set xs i x) j ≡ Some y → ((j ≡ i) × (y ≡ x)) ⊎ ((j ≡ i → ⊥) × (slice_get xs j ≡ Some y))
+  pub set_cases : (xs : List A) (i j : ℕ) (x y : A) → slice_get (slice_set xs i x) j ≡ Some y → ((j ≡ i) × (y ≡ x))
+      ⊎ ((j ≡ i → ⊥) × (slice_get xs j ≡ Some y))
   set_cases xs i j x y e = pick (differ_nat j i)
     where
       pick : ((j ≡ i) ⊎ (j ≡ i → ⊥)) → ((j ≡ i) × (y ≡ x)) ⊎ ((j ≡ i → ⊥) × (slice_get xs j ≡ Some y))
@@ -90,7 +92,8 @@ module _ {P : Type 0} where
       let b = count_most test os in omega (arith, a, b)
 
   -- a slot that is set counts for what was there
-  pub count_set : (test : Order P → Bool) (slots : Slots P) (w : ℕ) (old new : Option (Order P)) → slice_get slots w ≡ Some old → count_of test (slice_set slots w new) + one_of test old ≡ count_of test slots + one_of test new
+  pub count_set : (test : Order P → Bool) (slots : Slots P) (w : ℕ) (old new : Option (Order P)) → slice_get slots w ≡ Some old
+      → count_of test (slice_set slots w new) + one_of test old ≡ count_of test slots + one_of test new
   count_set test [] w old new e = cc
   count_set test (o ∷ os) zero old new e =
       let q : o ≡ old = cc in

@@ -1,5 +1,6 @@
 -- How runs end, and the jobs whose runs end in an answer.
-use Rattle.std.proofs.Common.{◌≡◌, ◌≢◌, ℕ, ◌<◌, List, [], ◌∷◌, ◌++◌, length, Bool, true, false, cond, nat_eq, nat_lt, eqb-true, Option, Some, None, Ok, Err, ◌⊎◌, inl, inr, refl, ap, sym, ◌∙◌, subst, arith}
+use Rattle.std.proofs.Common.{◌≡◌, ◌≢◌, ℕ, ◌<◌, List, [], ◌∷◌, ◌++◌, length, Bool, true, false, cond, nat_eq, nat_lt, eqb-true, Option, Some, None}
+use Rattle.std.proofs.Common.{Ok, Err, ◌⊎◌, inl, inr, refl, ap, sym, ◌∙◌, subst, arith}
 use Rattle.std.specs.List.{IsDistinct, list_any}
 use Rattle.sky_base.specs.Name.{canon}
 use Rattle.sky_base.specs.ObjectView.{desc_view}
@@ -65,10 +66,13 @@ drive_law job p v [] d = tt
 drive_law job p v (e ∷ es) d = (d.0, drive_law job p (after job v e) es d.2)
 
 module _ {D P B : Type 0} (s : Setting D P B) (is : IsSetting s) where
-  module _ (most : ℕ) (h : List (Event D)) (b : Board P) (slots : Slots P) (a : AtWork s most h b slots) (w : ℕ) (x : Order P) (i : Has slots w x) (out : IsOut s h b x) (spawned : List Named) (end : End P) (p : Promised s most h b x spawned end) where
-    pub clash_ends : (n : Named) (kept given : List ℕ) → FirstRefused s.digest spawned b.table n (Learn.Clash kept given) → ClashOf s b.plan b.journal kept given
+  module _ (most : ℕ) (h : List (Event D)) (b : Board P) (slots : Slots P) (a : AtWork s most h b slots) (w : ℕ) (x : Order P)
+      (i : Has slots w x) (out : IsOut s h b x) (spawned : List Named) (end : End P) (p : Promised s most h b x spawned end) where
+    pub clash_ends : (n : Named) (kept given : List ℕ) → FirstRefused s.digest spawned b.table n (Learn.Clash kept given)
+        → ClashOf s b.plan b.journal kept given
     clash_ends n kept given r =
-        let c = clash_follows s is h b a.sound a.runs.follows x out.start x.out.number spawned end (promised_taken s is most h b slots a w x i out spawned end p) n kept given r in
+        let c = clash_follows s is h b a.sound a.runs.follows x out.start x.out.number spawned end
+        (promised_taken s is most h b slots a w x i out spawned end p) n kept given r in
         record {
           history = h;
           driven = a.runs.driven;
@@ -80,7 +84,8 @@ module _ {D P B : Type 0} (s : Setting D P B) (is : IsSetting s) where
 
     pub overflow_ends : (n : Named) (held : ℕ) → FirstRefused s.digest spawned b.table n (Learn.Full held) → OverflowOf s b.plan b.journal held n
     overflow_ends n held r =
-        let c = overflow_follows s is h b a.sound a.runs.follows x out.start x.out.number spawned end (promised_taken s is most h b slots a w x i out spawned end p) n held r in
+        let c = overflow_follows s is h b a.sound a.runs.follows x out.start x.out.number spawned end
+        (promised_taken s is most h b slots a w x i out spawned end p) n held r in
         record {
           history = h;
           driven = a.runs.driven;
@@ -101,7 +106,8 @@ module _ {D P B : Type 0} (s : Setting D P B) (is : IsSetting s) where
   low_there e (y ∷ ys) (inl q) = inl (ap (low s.job) q)
   low_there e (y ∷ ys) (inr i) = inr (low_there e ys i)
 
-  pub lost_ends : (h : List (Event D)) (b : Board P) → Runs s h b → ((w : ℕ) → w < b.plan.workers → IsLost b.table.gone w) → AllAreLost b.plan b.journal
+  pub lost_ends : (h : List (Event D)) (b : Board P) → Runs s h b → ((w : ℕ) → w < b.plan.workers → IsLost b.table.gone w)
+      → AllAreLost b.plan b.journal
   lost_ends h b r all w l =
       let f = r.follows in
       let k = (gone_told s.job h w).0 (subst (In w) f.stands.gone (any_in nat_eq (λ m n e. eqb-true m n e) w b.table.gone (all w l))) in
@@ -119,9 +125,15 @@ module _ {D P B : Type 0} (s : Setting D P B) (is : IsSetting s) where
       next_made ds d n e i =
           let o = n.order in
           let q = n.begun in
-          m.made e (inr (o.task, (told.orders o n.is_open).0, q.0, made_after_in o.from (s.job.acts q.0 o.task) e (subst (In e) q.1.1 (in_left e (ds ++ d ∷ []) q.1.0 i))))
+          m.made e (inr (
+            o.task,
+            (told.orders o n.is_open).0,
+            q.0,
+            made_after_in o.from (s.job.acts q.0 o.task) e (subst (In e) q.1.1 (in_left e (ds ++ d ∷ []) q.1.0 i)),
+          ))
 
-      known_made : (ds : List D) (d : D) → MadeNext s.job (standing s.job h) ds d → (e : D) → In e (learned s.job (standing s.job h).book ds) → In e m.all
+      known_made : (ds : List D) (d : D) → MadeNext s.job (standing s.job h) ds d → (e : D) → In e (learned s.job (standing s.job h).book ds)
+          → In e m.all
       known_made ds d n e i = pick (learned_from s.job is.laws (standing s.job h).book ds e i)
         where
           pick : (In e (standing s.job h).book ⊎ In e ds) → In e m.all
@@ -131,7 +143,8 @@ module _ {D P B : Type 0} (s : Setting D P B) (is : IsSetting s) where
     pub none_clashes : (kept given : List ℕ) → ClashOf s p J kept given → ⊥
     none_clashes kept given c =
         let k = c.clash.clashes in
-        k.other (m.apart c.clash.first c.clash.second (known_made c.history c.driven k.before c.clash.second k.next c.clash.first k.known) (next_made c.history c.driven k.before c.clash.second k.next c.clash.second (last_in k.before c.clash.second)) k.named)
+        k.other (m.apart c.clash.first c.clash.second (known_made c.history c.driven k.before c.clash.second k.next c.clash.first k.known)
+        (next_made c.history c.driven k.before c.clash.second k.next c.clash.second (last_in k.before c.clash.second)) k.named)
 
     -- what stands once is distinct
     once_distinct : (past ds : List D) → Once past ds → IsDistinct s.job.same ds
@@ -171,7 +184,9 @@ module _ {D P B : Type 0} (s : Setting D P B) (is : IsSetting s) where
 
         there : (e : D) → In e (c.overflow.next ∷ learned s.job (standing s.job c.history).book c.overflow.overflows.before) → In e m.all
         there e (inl q) =
-            next_made c.history c.driven c.overflow.overflows.before c.overflow.next c.overflow.overflows.next e (subst (λ z. In z (c.overflow.overflows.before ++ c.overflow.next ∷ [])) (sym q) (last_in c.overflow.overflows.before c.overflow.next))
+            next_made c.history c.driven c.overflow.overflows.before c.overflow.next c.overflow.overflows.next e
+            (subst (λ z. In z (c.overflow.overflows.before ++ c.overflow.next ∷ [])) (sym q)
+            (last_in c.overflow.overflows.before c.overflow.next))
         there e (inr i) =
             known_made c.history c.driven c.overflow.overflows.before c.overflow.next c.overflow.overflows.next e i
 

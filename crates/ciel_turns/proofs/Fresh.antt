@@ -1,5 +1,6 @@
 -- Nothing that a new order brings along is at a worker that is lost.
-use Rattle.std.proofs.Common.{◌≡◌, ℕ, List, [], ◌∷◌, Bool, true, false, cond, ◌||◌, map, nat_eq, nat_lt, eqb-true, Option, Some, None, ◌⊎◌, inl, inr, refl, ap, sym, ◌∙◌, subst}
+use Rattle.std.proofs.Common.{◌≡◌, ℕ, List, [], ◌∷◌, Bool, true, false, cond, ◌||◌, map, nat_eq, nat_lt, eqb-true, Option, Some, None, ◌⊎◌, inl, inr}
+use Rattle.std.proofs.Common.{refl, ap, sym, ◌∙◌, subst}
 use Rattle.std.specs.List.{AllByRecursion, list_any}
 use Rattle.std.specs.Option.{option_and_then, option_map, option_map_or}
 use Rattle.sky_base.specs.declared.object.Desc1.{Desc1}
@@ -15,7 +16,8 @@ use Rattle.ciel_journal.proofs.Members.{any_in, bool_cases}
 use Rattle.ciel_journal.proofs.OpenTold.{saved_told}
 use Rattle.ciel_table.specs.Seen.{TableSeen, row_name, row_named}
 use Rattle.ciel_table.specs.declared.row.Row.{Row}
-use Rattle.ciel_board.specs.Board.{Board, Brought, Spot, brought, held, least_place, lesser, or_least, place_at, place_for, spot_for, spot_in, with_spot}
+use Rattle.ciel_board.specs.Board.{Board, Brought, Spot, brought, held, least_place, lesser, or_least, place_at, place_for, spot_for, spot_in}
+use Rattle.ciel_board.specs.Board.{with_spot}
 use Rattle.ciel_board.specs.Follows.{Follows, RowIs}
 use Rattle.ciel_board.specs.Laws.{StartedAs}
 use Rattle.ciel_board.specs.Moves.{order_for}
@@ -93,7 +95,8 @@ module _ {P : Type 0} (at : P → ℕ) (gone : List ℕ) where
     brought_here [] = refl
     brought_here (n ∷ ns) = pick (spot_for at keys w t n) (named_here n) (brought_here ns)
       where
-        pick : (o : Option (Spot P)) → HereSpot o → list_any (λ (i : Brought P). gone_spot at gone i.spot) (brought at keys w t ns) ≡ false → list_any (λ (i : Brought P). gone_spot at gone i.spot) (with_spot at n o (brought at keys w t ns)) ≡ false
+        pick : (o : Option (Spot P)) → HereSpot o → list_any (λ (i : Brought P). gone_spot at gone i.spot) (brought at keys w t ns) ≡ false
+            → list_any (λ (i : Brought P). gone_spot at gone i.spot) (with_spot at n o (brought at keys w t ns)) ≡ false
         pick None k r = r
         pick (Some x) k r =
             ap (λ c. c || list_any (λ (i : Brought P). gone_spot at gone i.spot) (brought at keys w t ns)) k ∙ r
@@ -124,17 +127,22 @@ module _ {D P B : Type 0} (s : Setting D P B) (is : IsSetting s) (h : List (Even
       let q = back (RowIs s v.places) v.book b.table.rows f.stands.rows r i in
       places_here q.0 r.places q.2.places
 
-  stack_here : (x : TaskId) (w : ℕ) (a : StartedAs s h b x w) → (o : Option P) → option_map s.at o ≡ hist.stack_of s.job (last_save s.job a.task v.saves) → option_map_or (is_gone s.at b.table.gone) o false ≡ false
+  stack_here : (x : TaskId) (w : ℕ) (a : StartedAs s h b x w) → (o : Option P) → option_map s.at o
+      ≡ hist.stack_of s.job (last_save s.job a.task v.saves) → option_map_or (is_gone s.at b.table.gone) o false ≡ false
   stack_here x w a None e = refl
   stack_here x w a (Some p) e = pick (last_cases s.job is.laws s.inner is.knows a.task v.saves)
     where
-      pick : ((last_save s.job a.task v.saves ≡ None) ⊎ ((q : Save D) × In q v.saves × (q.task ≡ a.task) × (last_save s.job a.task v.saves ≡ Some q))) → is_gone s.at b.table.gone p ≡ false
+      pick : ((last_save s.job a.task v.saves ≡ None)
+          ⊎ ((q : Save D) × In q v.saves × (q.task ≡ a.task) × (last_save s.job a.task v.saves ≡ Some q))) → is_gone s.at b.table.gone p ≡ false
       pick (inl n) = let bad : Some (s.at p) ≡ None = e ∙ ap (hist.stack_of s.job) n in cc
       pick (inr q) =
           let k : Some (s.at p) ≡ Some q.0.worker = e ∙ ap (hist.stack_of s.job) q.3 in
           let same : s.at p ≡ q.0.worker = cc in
-          subst (λ n. list_any (nat_eq n) b.table.gone ≡ false) (sym same) (not_lost q.0.worker ((saved_told s.job is.laws b.plan h f.lawful q.0).0 q.1).here)
+          subst (λ n. list_any (nat_eq n) b.table.gone ≡ false) (sym same)
+          (not_lost q.0.worker ((saved_told s.job is.laws b.plan h f.lawful q.0).0 q.1).here)
 
   pub not_stale : (x : TaskId) (w : ℕ) → StartedAs s h b x w → is_stale s.at b.table.gone (order_for s.at b x w) ≡ false
   not_stale x w a =
-      ap (λ c. c || option_map_or (is_gone s.at b.table.gone) (order_for s.at b x w).stack false) (brought_here s.at b.table.gone b.keys w b.table rows_here (held b.main b.table x)) ∙ stack_here x w a (order_for s.at b x w).stack a.order.stack
+      ap (λ c. c || option_map_or (is_gone s.at b.table.gone) (order_for s.at b x w).stack false)
+      (brought_here s.at b.table.gone b.keys w b.table rows_here (held b.main b.table x))
+      ∙ stack_here x w a (order_for s.at b x w).stack a.order.stack

@@ -1,5 +1,6 @@
 -- What workers have, as the run goes on.
-use Rattle.std.proofs.Common.{◌≡◌, ℕ, ◌+◌, ◌<◌, List, [], ◌∷◌, ◌++◌, replicate, Bool, true, false, not, cond, ◌&&◌, nat_eq, eqb-true, eq-eqb, filter, slice_get, slice_set, Option, Some, None, ◌⊎◌, inl, inr, refl, ap, sym, ◌∙◌, subst, arith}
+use Rattle.std.proofs.Common.{◌≡◌, ℕ, ◌+◌, ◌<◌, List, [], ◌∷◌, ◌++◌, replicate, Bool, true, false, not, cond, ◌&&◌, nat_eq, eqb-true, eq-eqb, filter}
+use Rattle.std.proofs.Common.{slice_get, slice_set, Option, Some, None, ◌⊎◌, inl, inr, refl, ap, sym, ◌∙◌, subst, arith}
 use Rattle.std.specs.List.{list_any}
 use Rattle.sky_base.specs.declared.object.TaskId.{TaskId}
 use Rattle.ciel_journal.specs.History.{Event, OpenStart, Plan, find_open, standing}
@@ -56,7 +57,8 @@ not_found k (y ∷ ys) e x i s = pick (bool_cases (nat_eq k y.number)) i (λ f j
 
 module _ {D P B : Type 0} (s : Setting D P B) where
   -- the open Start of an order
-  pub open_of : (k : ℕ) (os : List (OpenStart D)) (xs : List OrderOut) → OneByOne (OutIs s) os xs → (x : OrderOut) → find_order k xs ≡ Some x → (o : OpenStart D) × (find_open s.job k os ≡ Some o) × OutIs s o x
+  pub open_of : (k : ℕ) (os : List (OpenStart D)) (xs : List OrderOut) → OneByOne (OutIs s) os xs → (x : OrderOut) → find_order k xs ≡ Some x
+      → (o : OpenStart D) × (find_open s.job k os ≡ Some o) × OutIs s o x
   open_of k [] [] h x e = cc
   open_of k [] (y ∷ ys) h x e = absurd h
   open_of k (q ∷ qs) [] h x e = absurd h
@@ -115,7 +117,9 @@ module _ {D P B : Type 0} (s : Setting D P B) where
 
     -- ---- a loss
 
-    module _ (g : List (Event D)) (c : Board P) (w : ℕ) (plan : c.plan ≡ b.plan) (starts : c.starts ≡ b.starts) (gone : c.table.gone ≡ b.table.gone ++ w ∷ []) (orders : c.orders ≡ filter (λ (x : OrderOut). not (nat_eq w x.worker)) b.orders) (opens : (o : OpenStart D) → In o (standing s.job g).orders → In o (standing s.job h).orders) where
+    module _ (g : List (Event D)) (c : Board P) (w : ℕ) (plan : c.plan ≡ b.plan) (starts : c.starts ≡ b.starts)
+        (gone : c.table.gone ≡ b.table.gone ++ w ∷ []) (orders : c.orders ≡ filter (λ (x : OrderOut). not (nat_eq w x.worker)) b.orders)
+        (opens : (o : OpenStart D) → In o (standing s.job g).orders → In o (standing s.job h).orders) where
       pub lost_handed : Handed s g c slots
       lost_handed =
           record {
@@ -131,13 +135,15 @@ module _ {D P B : Type 0} (s : Setting D P B) where
           still : (u : ℕ) (x : Order P) → Has slots u x → In x.out c.orders ⊎ IsLost c.table.gone u
           still u x i = pick (k.still u x i) (differ_nat w x.out.worker)
             where
-              pick : (In x.out b.orders ⊎ IsLost b.table.gone u) → ((w ≡ x.out.worker) ⊎ (w ≡ x.out.worker → ⊥)) → In x.out c.orders ⊎ IsLost c.table.gone u
+              pick : (In x.out b.orders ⊎ IsLost b.table.gone u) → ((w ≡ x.out.worker) ⊎ (w ≡ x.out.worker → ⊥)) → In x.out c.orders
+                  ⊎ IsLost c.table.gone u
               pick (inr l) q =
                   inr (subst (λ gs. IsLost gs u) (sym gone) (any_join_left (nat_eq u) b.table.gone (w ∷ []) l))
               pick (inl j) (inl e) =
                   inr (subst (λ gs. IsLost gs u) (sym gone) (any_join_last (nat_eq u) b.table.gone w (eq-eqb u w (sym (k.own u x i) ∙ sym e))))
               pick (inl j) (inr d) =
-                  inl (subst (In x.out) (sym orders) (filter_in (λ (y : OrderOut). not (nat_eq w y.worker)) x.out b.orders j (differ_test w x.out.worker d)))
+                  inl (subst (In x.out) (sym orders) (filter_in (λ (y : OrderOut). not (nat_eq w y.worker)) x.out b.orders j
+                  (differ_test w x.out.worker d)))
 
     -- ---- an order that comes back
 
@@ -157,7 +163,9 @@ module _ {D P B : Type 0} (s : Setting D P B) where
           pick (inr q) = q
 
       -- it is closed
-      pub closed_handed : (g : List (Event D)) (c : Board P) → c.plan ≡ b.plan → c.starts ≡ b.starts → c.table.gone ≡ b.table.gone → In x.out b.orders → c.orders ≡ without x.out.number b.orders → ((o : OpenStart D) → In o (standing s.job g).orders → In o (standing s.job h).orders) → Handed s g c taken
+      pub closed_handed : (g : List (Event D)) (c : Board P) → c.plan ≡ b.plan → c.starts ≡ b.starts → c.table.gone ≡ b.table.gone
+          → In x.out b.orders → c.orders ≡ without x.out.number b.orders
+          → ((o : OpenStart D) → In o (standing s.job g).orders → In o (standing s.job h).orders) → Handed s g c taken
       closed_handed g c plan starts gone there orders opens =
           record {
             each = set_long slots w None ∙ (k.each ∙ ap (λ (p : Plan). p.workers) (sym plan));
@@ -175,15 +183,21 @@ module _ {D P B : Type 0} (s : Setting D P B) where
               pick : (In y.out b.orders ⊎ IsLost b.table.gone u) → In y.out c.orders ⊎ IsLost c.table.gone u
               pick (inr l) = inr (subst (λ gs. IsLost gs u) (sym gone) l)
               pick (inl j) =
-                  inl (subst (In y.out) (sym orders) (filter_in (λ (z : OrderOut). not (nat_eq x.out.number z.number)) y.out b.orders j (differ_test x.out.number y.out.number (other u y d i))))
+                  inl (subst (In y.out) (sym orders) (filter_in (λ (z : OrderOut). not (nat_eq x.out.number z.number)) y.out b.orders j
+                  (differ_test x.out.number y.out.number (other u y d i))))
 
           sent : (y : OrderOut) → In y c.orders → (z : Order P) × Has taken y.worker z × (z.out ≡ y)
           sent y i =
               let j = subst (In y) orders i in
-              let z = k.sent y (in_filter (λ (q : OrderOut). not (nat_eq x.out.number q.number)) y b.orders j) in
-              (z.0, set_keeps slots w y.worker None (Some z.0) (λ e. elsewhere y z.0 z.1 z.2 e (filter_kept (λ (q : OrderOut). not (nat_eq x.out.number q.number)) y b.orders j)) z.1, z.2)
+              let z = k.sent y (in_filter (λ (q : OrderOut). not (nat_eq x.out.number q.number)) y b.orders j) in (
+                z.0,
+                set_keeps slots w y.worker None (Some z.0)
+                    (λ e. elsewhere y z.0 z.1 z.2 e (filter_kept (λ (q : OrderOut). not (nat_eq x.out.number q.number)) y b.orders j)) z.1,
+                z.2,
+              )
             where
-              elsewhere : (y : OrderOut) (z : Order P) → Has slots y.worker z → z.out ≡ y → y.worker ≡ w → not (nat_eq x.out.number y.number) ≡ true → ⊥
+              elsewhere : (y : OrderOut) (z : Order P) → Has slots y.worker z → z.out ≡ y → y.worker ≡ w → not (nat_eq x.out.number y.number)
+                  ≡ true → ⊥
               elsewhere y z i q e t =
                   let f : Some (Some z) ≡ Some (Some x) = sym i ∙ (ap (slice_get slots) e ∙ has) in
                   let one : z ≡ x = cc in
@@ -239,7 +253,9 @@ module _ {D P B : Type 0} (s : Setting D P B) where
           pick : (In y.out b.orders ⊎ IsLost b.table.gone w) → ⊥
           pick (inr l) = let bad : true ≡ false = sym l ∙ is_free.1 in cc
           pick (inl j) =
-              let t : list_any (nat_eq w) (workers_out b.orders) ≡ true = in_any nat_eq (λ a. eq-eqb a a refl) w (workers_out b.orders) (subst (λ n. In n (workers_out b.orders)) (k.own w y i) (worker_there b.orders y.out j)) in
+              let t : list_any (nat_eq w) (workers_out b.orders) ≡ true =
+              in_any nat_eq (λ a. eq-eqb a a refl) w (workers_out b.orders)
+              (subst (λ n. In n (workers_out b.orders)) (k.own w y i) (worker_there b.orders y.out j)) in
               let bad : true ≡ false = sym t ∙ is_free.2 in
               cc
 
@@ -263,13 +279,16 @@ module _ {D P B : Type 0} (s : Setting D P B) where
       which : (u : ℕ) (y : Order P) → Has sending u y → ((u ≡ w) × (y ≡ new)) ⊎ ((u ≡ w → ⊥) × Has slots u y)
       which u y i = pick (set_cases slots w u (Some new) (Some y) i)
         where
-          pick : ((u ≡ w) × (Some y ≡ Some new)) ⊎ ((u ≡ w → ⊥) × (slice_get slots u ≡ Some (Some y))) → ((u ≡ w) × (y ≡ new)) ⊎ ((u ≡ w → ⊥) × Has slots u y)
+          pick : ((u ≡ w) × (Some y ≡ Some new)) ⊎ ((u ≡ w → ⊥) × (slice_get slots u ≡ Some (Some y))) → ((u ≡ w) × (y ≡ new))
+              ⊎ ((u ≡ w → ⊥) × Has slots u y)
           pick (inl q) =
               let e : Some y ≡ Some new = q.1 in
               let z : y ≡ new = cc in inl (q.0, z)
           pick (inr q) = inr q
 
-      pub start_handed : (g : List (Event D)) → ((o : OpenStart D) → In o (standing s.job h).orders → o.number < b.starts) → ((o : OpenStart D) → In o (standing s.job g).orders → In o (standing s.job h).orders ⊎ ((o.number ≡ b.starts) × OrderIs s o new)) → Handed s g (started s.at b x w) sending
+      pub start_handed : (g : List (Event D)) → ((o : OpenStart D) → In o (standing s.job h).orders → o.number < b.starts)
+          → ((o : OpenStart D) → In o (standing s.job g).orders → In o (standing s.job h).orders ⊎ ((o.number ≡ b.starts) × OrderIs s o new))
+          → Handed s g (started s.at b x w) sending
       start_handed g below opens =
           record {
             each = set_long slots w (Some new) ∙ k.each;
@@ -334,7 +353,8 @@ module _ {D P B : Type 0} (s : Setting D P B) where
           is : (u : ℕ) (y : Order P) (o : OpenStart D) → Has sending u y → In o (standing s.job g).orders → o.number ≡ y.out.number → OrderIs s o y
           is u y o i j e = pick (which u y i) (opens o j)
             where
-              pick : ((u ≡ w) × (y ≡ new)) ⊎ ((u ≡ w → ⊥) × Has slots u y) → (In o (standing s.job h).orders ⊎ ((o.number ≡ b.starts) × OrderIs s o new)) → OrderIs s o y
+              pick : ((u ≡ w) × (y ≡ new)) ⊎ ((u ≡ w → ⊥) × Has slots u y)
+                  → (In o (standing s.job h).orders ⊎ ((o.number ≡ b.starts) × OrderIs s o new)) → OrderIs s o y
               pick (inl p) (inr q) = subst (OrderIs s o) (sym p.1) q.1
               pick (inr p) (inl q) = k.is u y o p.1 q e
               pick (inr p) (inr q) =

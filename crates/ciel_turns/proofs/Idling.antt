@@ -1,5 +1,6 @@
 -- Who can work, and what can be started.
-use Rattle.std.proofs.Common.{◌≡◌, ℕ, zero, suc, ◌+◌, ◌*◌, ◌%◌, ◌≤◌, ◌<◌, List, ◌∷◌, length, Bool, true, false, not, cond, ◌&&◌, nat_eq, nat_lt, eq-eqb, eqb-true, ◌⊎◌, inl, inr, refl, ap, sym, ◌∙◌, subst, arith}
+use Rattle.std.proofs.Common.{◌≡◌, ℕ, zero, suc, ◌+◌, ◌*◌, ◌%◌, ◌≤◌, ◌<◌, List, ◌∷◌, length, Bool, true, false, not, cond, ◌&&◌, nat_eq, nat_lt}
+use Rattle.std.proofs.Common.{eq-eqb, eqb-true, ◌⊎◌, inl, inr, refl, ap, sym, ◌∙◌, subst, arith}
 use Rattle.std.specs.List.{list_any}
 use Rattle.std.proofs.lemmas.Bool.{lt-ltb, ltb-false, ltb-true}
 use Rattle.ciel_journal.specs.Graph.{Runnable}
@@ -30,7 +31,8 @@ idle_listed gone busy w a (suc n) l m e =
     pick : ((nat_eq w a ≡ true) ⊎ (nat_eq w a ≡ false)) → (a + 1 ≤ w → In w (idle_from gone busy (a + 1) n)) → In w (idle_from gone busy a (suc n))
     pick (inl t) r =
         let s : w ≡ a = eqb-true w a t in
-        subst (λ b. In w (cond b (a ∷ idle_from gone busy (a + 1) n) (idle_from gone busy (a + 1) n))) (sym (subst (λ z. is_idle gone busy z ≡ true) s e)) (inl s)
+        subst (λ b. In w (cond b (a ∷ idle_from gone busy (a + 1) n) (idle_from gone busy (a + 1) n)))
+        (sym (subst (λ z. is_idle gone busy z ≡ true) s e)) (inl s)
     pick (inr f) r = rest (r (above (λ s. clash (eq-eqb w a s))))
       where
         clash : nat_eq w a ≡ true → ⊥
@@ -69,7 +71,8 @@ module _ {P : Type 0} where
           true_and (nat_lt w b.plan.workers) (is_idle b.table.gone (workers_out b.orders) w) (lt-ltb w b.plan.workers (omega (arith, l))) q.1
 
   pub some_is_idle : SomeIsIdle P
-  some_is_idle b none w l here e = subst (In w) e (idle_listed b.table.gone (workers_out b.orders) w 0 b.plan.workers (omega arith) (omega (arith, l)) idle)
+  some_is_idle b none w l here e = subst (In w) e
+      (idle_listed b.table.gone (workers_out b.orders) w 0 b.plan.workers (omega arith) (omega (arith, l)) idle)
     where
       pick : ((list_any (nat_eq w) b.table.gone ≡ true) ⊎ (list_any (nat_eq w) b.table.gone ≡ false)) → list_any (nat_eq w) b.table.gone ≡ false
       pick (inl t) = absurd (here t)
@@ -77,11 +80,15 @@ module _ {P : Type 0} where
 
       idle : is_idle b.table.gone (workers_out b.orders) w ≡ true
       idle =
-          subst (λ os. is_idle b.table.gone (workers_out os) w ≡ true) (sym none) (ap (λ c. not c && true) (pick (bool_cases (list_any (nat_eq w) b.table.gone))))
+          subst (λ os. is_idle b.table.gone (workers_out os) w ≡ true) (sym none)
+          (ap (λ c. not c && true) (pick (bool_cases (list_any (nat_eq w) b.table.gone))))
 
   pub picked_can_start : PickedCanStart P
-  picked_can_start b x w p =
-      (picked_has (Runnable (board_graph b)) (tasks_in_order b.table) p.tasks p.runnable x (got_in p.tasks (draw b.plan.seed (2 * b.starts) % length p.tasks) x p.task), got_in (idle_of b) (draw b.plan.seed (2 * b.starts + 1) % length (idle_of b)) w p.worker)
+  picked_can_start b x w p = (
+    picked_has (Runnable (board_graph b)) (tasks_in_order b.table) p.tasks p.runnable x
+        (got_in p.tasks (draw b.plan.seed (2 * b.starts) % length p.tasks) x p.task),
+    got_in (idle_of b) (draw b.plan.seed (2 * b.starts + 1) % length (idle_of b)) w p.worker,
+  )
 
   pub none_can_run : NoneCanRun P
   none_can_run digest at b sound none x r =

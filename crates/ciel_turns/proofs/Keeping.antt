@@ -31,7 +31,8 @@ module _ {P : Type 0} (most : ℕ) where
   save_early n w qs None l a =
       all_push (λ (s : Saves P). Early most s.waits) qs (record { name = n; waits = w ∷ [] }) a (l, tt)
   save_early n w qs (Some q) l a =
-      all_changed saves_name (λ (s : Saves P). Early most s.waits) (c.saves_with w) n qs (λ x f y. all_push (λ (v : Wait P). v.j ≤ most) x.waits w y l) a
+      all_changed saves_name (λ (s : Saves P). Early most s.waits) (c.saves_with w) n qs
+      (λ x f y. all_push (λ (v : Wait P). v.j ≤ most) x.waits w y l) a
 
   pub within_saved : (z : TaskId) (w : Wait P) (t : TableSeen P) → w.j ≤ most → Within most t → Within most (c.saved z w t)
   within_saved TaskId.Show w t l k =
@@ -42,11 +43,15 @@ module _ {P : Type 0} (most : ℕ) where
   pub within_lost : (at : P → ℕ) (w : ℕ) (b : Board P) → Within most b.table → Within most (lost_at at w b).table
   within_lost at w b k =
       record {
-        shown = all_filter (λ (v : Wait P). v.j ≤ most) (λ (v : Wait P). v.j ≤ most) (λ (v : Wait P). not (nat_eq w (at v.place))) (λ v l t. l) b.table.shown k.shown;
-        saved = all_map (λ (s : Saves P). Early most s.waits) (λ (s : Saves P). Early most s.waits) (c.saves_without at w) (λ q a. all_filter (λ (v : Wait P). v.j ≤ most) (λ (v : Wait P). v.j ≤ most) (λ (v : Wait P). not (nat_eq w (at v.place))) (λ v l t. l) q.waits a) b.table.saved k.saved;
+        shown = all_filter (λ (v : Wait P). v.j ≤ most) (λ (v : Wait P). v.j ≤ most) (λ (v : Wait P). not (nat_eq w (at v.place))) (λ v l t. l)
+            b.table.shown k.shown;
+        saved = all_map (λ (s : Saves P). Early most s.waits) (λ (s : Saves P). Early most s.waits) (c.saves_without at w)
+            (λ q a. all_filter (λ (v : Wait P). v.j ≤ most) (λ (v : Wait P). v.j ≤ most) (λ (v : Wait P). not (nat_eq w (at v.place)))
+            (λ v l t. l) q.waits a) b.table.saved k.saved;
       }
 
-  pub within_accepted : (digest : List ℕ → List ℕ) (b : Board P) (x : OrderOut) (spawned : List Named) (end : End P) → EndWithin most end → Within most b.table → Within most (accepted digest b x spawned end).table
+  pub within_accepted : (digest : List ℕ → List ℕ) (b : Board P) (x : OrderOut) (spawned : List Named) (end : End P) → EndWithin most end
+      → Within most b.table → Within most (accepted digest b x spawned end).table
   within_accepted digest b x spawned (rep.missing name loss) e w = w
   within_accepted digest b x spawned (rep.made ms cs) e w =
       let t = learned_all digest spawned b.table in

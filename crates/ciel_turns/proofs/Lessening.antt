@@ -1,5 +1,6 @@
 -- Each turn but a loss and what is missing leaves no more to start, and a start leaves less.
-use Rattle.std.proofs.Common.{◌≡◌, ℕ, suc, ◌+◌, ◌-◌, ◌*◌, ◌≤◌, ◌<◌, List, [], ◌∷◌, ◌++◌, length, Bool, true, false, not, cond, ◌||◌, nat_eq, nat_lt, eqb-true, Option, Some, None, ◌⊎◌, inl, inr, refl, ap, sym, ◌∙◌, subst, arith}
+use Rattle.std.proofs.Common.{◌≡◌, ℕ, suc, ◌+◌, ◌-◌, ◌*◌, ◌≤◌, ◌<◌, List, [], ◌∷◌, ◌++◌, length, Bool, true, false, not, cond, ◌||◌, nat_eq, nat_lt}
+use Rattle.std.proofs.Common.{eqb-true, Option, Some, None, ◌⊎◌, inl, inr, refl, ap, sym, ◌∙◌, subst, arith}
 use Rattle.std.specs.List.{AllByRecursion}
 use Rattle.std.specs.Option.{option_and_then, option_map_or}
 use Rattle.sky_base.specs.Val.{same_text}
@@ -121,19 +122,22 @@ module _ {P : Type 0} where
   changed_fuller n p [] = tt
   changed_fuller n p (r ∷ rs) = pick (same_text n r.name) (changed_fuller n p rs)
     where
-      pick : (b : Bool) → OneByOne Fuller rs (changed row_name (c.row_with p) n rs) → OneByOne Fuller (r ∷ rs) (cond b (c.row_with p r ∷ rs) (r ∷ changed row_name (c.row_with p) n rs))
+      pick : (b : Bool) → OneByOne Fuller rs (changed row_name (c.row_with p) n rs)
+          → OneByOne Fuller (r ∷ rs) (cond b (c.row_with p r ∷ rs) (r ∷ changed row_name (c.row_with p) n rs))
       pick true h = (row_fuller p r, one_self Fuller fuller_self rs)
       pick false h = (fuller_self r, h)
 
   outputs_fuller : (ms : List (Output P)) (t : TableSeen P) → OneByOne Fuller t.rows (with_outputs ms t).rows
   outputs_fuller [] t = one_self Fuller fuller_self t.rows
   outputs_fuller (m ∷ ms) t =
-      fuller_join t.rows (c.placed m.name m.place t).rows (with_outputs (m ∷ ms) t).rows (changed_fuller m.name m.place t.rows) (outputs_fuller ms (c.placed m.name m.place t))
+      fuller_join t.rows (c.placed m.name m.place t).rows (with_outputs (m ∷ ms) t).rows (changed_fuller m.name m.place t.rows)
+      (outputs_fuller ms (c.placed m.name m.place t))
 
   copies_fuller : (xs : List (Copy P)) (t : TableSeen P) → OneByOne Fuller t.rows (with_copies xs t).rows
   copies_fuller [] t = one_self Fuller fuller_self t.rows
   copies_fuller (x ∷ xs) t =
-      fuller_join t.rows (c.placed x.name x.place t).rows (with_copies (x ∷ xs) t).rows (changed_fuller x.name x.place t.rows) (copies_fuller xs (c.placed x.name x.place t))
+      fuller_join t.rows (c.placed x.name x.place t).rows (with_copies (x ∷ xs) t).rows (changed_fuller x.name x.place t.rows)
+      (copies_fuller xs (c.placed x.name x.place t))
 
 -- ---- which tasks are out
 
@@ -145,7 +149,8 @@ out_more [] o y = pick (same_id y o.task)
     pick false = refl
 out_more (x ∷ xs) o y = pick (same_id y x.task) (out_more xs o y)
   where
-    pick : (c : Bool) → is_in (tasks_out (xs ++ o ∷ [])) y ≡ is_in (tasks_out xs) y || same_id y o.task → c || is_in (tasks_out (xs ++ o ∷ [])) y ≡ (c || is_in (tasks_out xs) y) || same_id y o.task
+    pick : (c : Bool) → is_in (tasks_out (xs ++ o ∷ [])) y ≡ is_in (tasks_out xs) y || same_id y o.task → c || is_in (tasks_out (xs ++ o ∷ [])) y
+        ≡ (c || is_in (tasks_out xs) y) || same_id y o.task
     pick true e = refl
     pick false e = e
 
@@ -154,14 +159,16 @@ pub out_has : (xs : List OrderOut) (y : TaskId) → is_in (tasks_out xs) y ≡ t
 out_has [] y e = cc
 out_has (x ∷ xs) y e = pick (bool_cases (same_id y x.task)) (out_has xs y)
   where
-    pick : ((same_id y x.task ≡ true) ⊎ (same_id y x.task ≡ false)) → (is_in (tasks_out xs) y ≡ true → (o : OrderOut) × In o xs × (o.task ≡ y)) → (o : OrderOut) × In o (x ∷ xs) × (o.task ≡ y)
+    pick : ((same_id y x.task ≡ true) ⊎ (same_id y x.task ≡ false)) → (is_in (tasks_out xs) y ≡ true → (o : OrderOut) × In o xs × (o.task ≡ y))
+        → (o : OrderOut) × In o (x ∷ xs) × (o.task ≡ y)
     pick (inl t) r = (x, inl refl, sym (same_exact y x.task t))
     pick (inr f) r = let q = r (sym (ap (λ b. b || is_in (tasks_out xs) y) f) ∙ e) in (q.0, inr q.1, q.2)
 
 pub has_out : (xs : List OrderOut) (o : OrderOut) → In o xs → is_in (tasks_out xs) o.task ≡ true
 has_out [] o i = absurd i
 has_out (x ∷ xs) o (inl s) =
-    subst (λ (z : OrderOut). same_id z.task x.task || is_in (tasks_out xs) z.task ≡ true) (sym s) (ap (λ b. b || is_in (tasks_out xs) x.task) (same_self x.task))
+    subst (λ (z : OrderOut). same_id z.task x.task || is_in (tasks_out xs) z.task ≡ true) (sym s)
+    (ap (λ b. b || is_in (tasks_out xs) x.task) (same_self x.task))
 has_out (x ∷ xs) o (inr i) = pick (same_id o.task x.task) (has_out xs o i)
   where
     pick : (c : Bool) → is_in (tasks_out xs) o.task ≡ true → c || is_in (tasks_out xs) o.task ≡ true
@@ -170,12 +177,16 @@ has_out (x ∷ xs) o (inr i) = pick (same_id o.task x.task) (has_out xs o i)
 
 module _ {P : Type 0} (digest : List ℕ → List ℕ) (at : P → ℕ) (most : ℕ) (b : Board P) (sound : Sound digest at b) where
   -- an order that is closed: another task that is out stays out
-  still_out : (x : OrderOut) → In x b.orders → (y : TaskId) → same_id y x.task ≡ false → is_in (tasks_out b.orders) y ≡ true → is_in (tasks_out (without x.number b.orders)) y ≡ true
+  still_out : (x : OrderOut) → In x b.orders → (y : TaskId) → same_id y x.task ≡ false → is_in (tasks_out b.orders) y ≡ true
+      → is_in (tasks_out (without x.number b.orders)) y ≡ true
   still_out x i y n e =
       let q = out_has b.orders y e in
-      subst (λ z. is_in (tasks_out (without x.number b.orders)) z ≡ true) q.2 (has_out (without x.number b.orders) q.0 (filter_in (λ (o : OrderOut). not (nat_eq x.number o.number)) q.0 b.orders q.1 (other q.0 q.1 q.2 (bool_cases (nat_eq x.number q.0.number)))))
+      subst (λ z. is_in (tasks_out (without x.number b.orders)) z ≡ true) q.2
+      (has_out (without x.number b.orders) q.0 (filter_in (λ (o : OrderOut). not (nat_eq x.number o.number)) q.0 b.orders q.1
+      (other q.0 q.1 q.2 (bool_cases (nat_eq x.number q.0.number)))))
     where
-      other : (o : OrderOut) → In o b.orders → o.task ≡ y → ((nat_eq x.number o.number ≡ true) ⊎ (nat_eq x.number o.number ≡ false)) → not (nat_eq x.number o.number) ≡ true
+      other : (o : OrderOut) → In o b.orders → o.task ≡ y → ((nat_eq x.number o.number ≡ true) ⊎ (nat_eq x.number o.number ≡ false))
+          → not (nat_eq x.number o.number) ≡ true
       other o j k (inr f) = ap not f
       other o j k (inl t) =
           let z : x ≡ o = sound.numbers x o i j (eqb-true x.number o.number t) in
@@ -205,7 +216,8 @@ module _ {P : Type 0} (digest : List ℕ → List ℕ) (at : P → ℕ) (most : 
 
     start_left : (y : TaskId) → starts_left most start_then y ≤ starts_left most b y
     start_left y =
-        left_less (is_in (tasks_out b.orders) y) (is_in (tasks_out start_then.orders) y) (wait_number (last_wait y b.table)) (wait_number (last_wait y b.table)) (omega arith) (λ e. out_now y ∙ ap (λ c. c || same_id y x) e)
+        left_less (is_in (tasks_out b.orders) y) (is_in (tasks_out start_then.orders) y) (wait_number (last_wait y b.table))
+        (wait_number (last_wait y b.table)) (omega arith) (λ e. out_now y ∙ ap (λ c. c || same_id y x) e)
 
     start_row : (r : Row P) → row_left most start_then r ≤ row_left most b r
     start_row r = pick (is_live_row r)
@@ -218,8 +230,10 @@ module _ {P : Type 0} (digest : List ℕ → List ℕ) (at : P → ℕ) (most : 
     start_drops =
         let l = last_below most (waits_of x b.table) (waits_early most b.table early x) in
         let e : is_in (tasks_out start_then.orders) x ≡ true = out_now x ∙ (ap (λ c. c || same_id x x) out ∙ same_self x) in
-        let n : starts_left most start_then x ≡ most - wait_number (last_wait x b.table) = ap (λ c. cond c most (suc most) - wait_number (last_wait x b.table)) e in
-        let o : starts_left most b x ≡ suc most - wait_number (last_wait x b.table) = ap (λ c. cond c most (suc most) - wait_number (last_wait x b.table)) out in
+        let n : starts_left most start_then x ≡ most - wait_number (last_wait x b.table) =
+        ap (λ c. cond c most (suc most) - wait_number (last_wait x b.table)) e in
+        let o : starts_left most b x ≡ suc most - wait_number (last_wait x b.table) =
+        ap (λ c. cond c most (suc most) - wait_number (last_wait x b.table)) out in
         sums (wait_number (last_wait x b.table)) (starts_left most start_then x) (starts_left most b x) l n o
       where
         sums : (l n o : ℕ) → l ≤ most → n ≡ most - l → o ≡ suc most - l → n < o
@@ -247,7 +261,9 @@ module _ {P : Type 0} (digest : List ℕ → List ℕ) (at : P → ℕ) (most : 
 
         pick : (y : TaskId) → y ≡ x → Led (board_graph b) y → all_left most start_then < all_left most b
         pick y e root =
-            at_root (starts_left most start_then TaskId.Show) (starts_left most b TaskId.Show) (rows_left most start_then b.table.rows) (rows_left most b b.table.rows) rest (subst (λ z. starts_left most start_then z < starts_left most b z) (sym e) start_drops) (rows_same b.table.rows)
+            at_root (starts_left most start_then TaskId.Show) (starts_left most b TaskId.Show) (rows_left most start_then b.table.rows)
+            (rows_left most b b.table.rows) rest (subst (λ z. starts_left most start_then z < starts_left most b z) (sym e) start_drops)
+            (rows_same b.table.rows)
         pick y e (through l o d i dead makes) = turn (row_named d b.table) refl
           where
             turn : (o : Option (Row P)) → row_named d b.table ≡ o → all_left most start_then < all_left most b
@@ -266,10 +282,15 @@ module _ {P : Type 0} (digest : List ℕ → List ℕ) (at : P → ℕ) (most : 
                 other false g =
                     let s : Some r.task ≡ Some y = sym (ap (λ c. cond c None (Some r.task)) g) ∙ made in
                     let t : r.task ≡ y = cc in
-                    let n : row_left most start_then r ≡ starts_left most start_then x = ap (λ c. cond c 0 (starts_left most start_then r.task)) live ∙ ap (starts_left most start_then) (t ∙ e) in
-                    let o : row_left most b r ≡ starts_left most b x = ap (λ c. cond c 0 (starts_left most b r.task)) live ∙ ap (starts_left most b) (t ∙ e) in
-                    let l : row_left most start_then r < row_left most b r = subst (λ z. row_left most start_then r < z) (sym o) (subst (λ z. z < starts_left most b x) (sym n) start_drops) in
-                    at_row (starts_left most start_then TaskId.Show) (starts_left most b TaskId.Show) (rows_left most start_then b.table.rows) (rows_left most b b.table.rows) rest (start_left TaskId.Show) (rows_drop most b start_then b.table.rows (λ z j. start_row z) r (found_in row_name d b.table.rows r f) l)
+                    let n : row_left most start_then r ≡ starts_left most start_then x =
+                    ap (λ c. cond c 0 (starts_left most start_then r.task)) live ∙ ap (starts_left most start_then) (t ∙ e) in
+                    let o : row_left most b r ≡ starts_left most b x = ap (λ c. cond c 0 (starts_left most b r.task)) live
+                    ∙ ap (starts_left most b) (t ∙ e) in
+                    let l : row_left most start_then r < row_left most b r =
+                    subst (λ z. row_left most start_then r < z) (sym o) (subst (λ z. z < starts_left most b x) (sym n) start_drops) in
+                    at_row (starts_left most start_then TaskId.Show) (starts_left most b TaskId.Show) (rows_left most start_then b.table.rows)
+                    (rows_left most b b.table.rows) rest (start_left TaskId.Show)
+                    (rows_drop most b start_then b.table.rows (λ z j. start_row z) r (found_in row_name d b.table.rows r f) l)
 
   -- ---- a report
 
@@ -280,22 +301,30 @@ module _ {P : Type 0} (digest : List ℕ → List ℕ) (at : P → ℕ) (most : 
         subst (λ os. is_in (tasks_out os) y ≡ true) (sym orders) (still_out x there y n e)
 
     -- another task may be started as often as before
-    pub other_left : (y : TaskId) → same_id y x.task ≡ false → waits_of y then.table ≡ waits_of y b.table → starts_left most then y ≤ starts_left most b y
+    pub other_left : (y : TaskId) → same_id y x.task ≡ false → waits_of y then.table ≡ waits_of y b.table
+        → starts_left most then y ≤ starts_left most b y
     other_left y n w =
         let l : wait_number (last_wait y b.table) ≡ wait_number (last_wait y then.table) = sym (ap (λ ws. wait_number (latest ws)) w) in
-        left_less (is_in (tasks_out b.orders) y) (is_in (tasks_out then.orders) y) (wait_number (last_wait y b.table)) (wait_number (last_wait y then.table)) (same_le l) (out_then y n)
+        left_less (is_in (tasks_out b.orders) y) (is_in (tasks_out then.orders) y) (wait_number (last_wait y b.table))
+        (wait_number (last_wait y then.table)) (same_le l) (out_then y n)
       where
         same_le : {l m : ℕ} → l ≡ m → l ≤ m
         same_le {l} {m} e = omega (arith, e)
 
     -- its own, after a later wait, too
-    pub own_left : (w : Wait P) → x.from < w.j → waits_of x.task then.table ≡ waits_of x.task b.table ++ w ∷ [] → starts_left most then x.task ≤ starts_left most b x.task
+    pub own_left : (w : Wait P) → x.from < w.j → waits_of x.task then.table ≡ waits_of x.task b.table ++ w ∷ []
+        → starts_left most then x.task ≤ starts_left most b x.task
     own_left w later waits =
         let o = each_of (OrderSound b) x b.orders there sound.orders in
         let before : wait_number (last_wait x.task b.table) ≤ x.from = last_below x.from (waits_of x.task b.table) o.last in
-        let after : w.j ≤ wait_number (last_wait x.task then.table) = subst (λ ws. w.j ≤ wait_number (latest ws)) (sym waits) (last_above (waits_of x.task b.table) w) in
-        let e : starts_left most b x.task ≡ most - wait_number (last_wait x.task b.table) = ap (λ c. cond c most (suc most) - wait_number (last_wait x.task b.table)) (has_out b.orders x there) in
-        subst (λ z. starts_left most then x.task ≤ z) (sym e) (left_step (is_in (tasks_out then.orders) x.task) (wait_number (last_wait x.task b.table)) (wait_number (last_wait x.task then.table)) (between x.from w.j (wait_number (last_wait x.task b.table)) (wait_number (last_wait x.task then.table)) before later after))
+        let after : w.j ≤ wait_number (last_wait x.task then.table) =
+        subst (λ ws. w.j ≤ wait_number (latest ws)) (sym waits) (last_above (waits_of x.task b.table) w) in
+        let e : starts_left most b x.task ≡ most - wait_number (last_wait x.task b.table) =
+        ap (λ c. cond c most (suc most) - wait_number (last_wait x.task b.table)) (has_out b.orders x there) in
+        subst (λ z. starts_left most then x.task ≤ z) (sym e)
+        (left_step (is_in (tasks_out then.orders) x.task) (wait_number (last_wait x.task b.table))
+        (wait_number (last_wait x.task then.table))
+        (between x.from w.j (wait_number (last_wait x.task b.table)) (wait_number (last_wait x.task then.table)) before later after))
       where
         between : (f j l m : ℕ) → l ≤ f → f < j → j ≤ m → l < m
         between f j l m a c d = omega (arith, a, c, d)
@@ -307,7 +336,8 @@ module _ {P : Type 0} (digest : List ℕ → List ℕ) (at : P → ℕ) (most : 
         pick true = omega arith
         pick false = h r.task
 
-  module _ (x : OrderOut) (there : In x b.orders) (spawned : List Named) (room : length (learned_all digest spawned b.table).rows ≤ b.table.limit) where
+  module _ (x : OrderOut) (there : In x b.orders) (spawned : List Named)
+      (room : length (learned_all digest spawned b.table).rows ≤ b.table.limit) where
     abbrev learned_then : TableSeen P
     learned_then = learned_all digest spawned b.table
 
@@ -321,7 +351,8 @@ module _ {P : Type 0} (digest : List ℕ → List ℕ) (at : P → ℕ) (most : 
     pub saved_less : (q : Stack P) → x.from < q.j → all_left most (saved_at digest b x spawned q) ≤ all_left most b
     saved_less q later =
         let g = grown digest spawned b.table in
-        all_lighter most b then g.news (subst (λ rs. OneByOne (Lighter most b then) (b.table.rows ++ g.news) rs) (sym g.rows) (one_self (Lighter most b then) (same_row x there then refl left) (b.table.rows ++ g.news))) g.limit fits (left TaskId.Show)
+        all_lighter most b then g.news (subst (λ rs. OneByOne (Lighter most b then) (b.table.rows ++ g.news) rs) (sym g.rows)
+        (one_self (Lighter most b then) (same_row x there then refl left) (b.table.rows ++ g.news))) g.limit fits (left TaskId.Show)
       where
         then : Board P
         then = saved_at digest b x spawned q
@@ -334,16 +365,23 @@ module _ {P : Type 0} (digest : List ℕ → List ℕ) (at : P → ℕ) (most : 
           where
             pick : ((same_id y x.task ≡ true) ⊎ (same_id y x.task ≡ false)) → starts_left most then y ≤ starts_left most b y
             pick (inl t) =
-                subst (λ z. starts_left most then z ≤ starts_left most b z) (sym (same_exact y x.task t)) (own_left x there then refl (wait_of q) later (waits x.task ∙ (ap (λ c. cond c (waits_of x.task learned_then ++ wait_of q ∷ []) (waits_of x.task learned_then)) (same_self x.task) ∙ ap (λ ws. ws ++ wait_of q ∷ []) (learned_waits x.task))))
+                subst (λ z. starts_left most then z ≤ starts_left most b z) (sym (same_exact y x.task t))
+                (own_left x there then refl (wait_of q) later
+                (waits x.task ∙ (ap (λ c. cond c (waits_of x.task learned_then ++ wait_of q ∷ []) (waits_of x.task learned_then))
+                (same_self x.task) ∙ ap (λ ws. ws ++ wait_of q ∷ []) (learned_waits x.task))))
             pick (inr f) =
-                other_left x there then refl y f (waits y ∙ (ap (λ c. cond c (waits_of y learned_then ++ wait_of q ∷ []) (waits_of y learned_then)) f ∙ learned_waits y))
+                other_left x there then refl y f (waits y
+                ∙ (ap (λ c. cond c (waits_of y learned_then ++ wait_of q ∷ []) (waits_of y learned_then)) f ∙ learned_waits y))
 
     -- where each row of its task is live then
-    pub done_less : (ms : List (Output P)) (cs : List (Copy P)) → same_id TaskId.Show x.task ≡ false → ((r : Row P) → In r (done_at digest b x spawned ms cs).table.rows → r.task ≡ x.task → is_live_row r ≡ true) → all_left most (done_at digest b x spawned ms cs) ≤ all_left most b
+    pub done_less : (ms : List (Output P)) (cs : List (Copy P)) → same_id TaskId.Show x.task ≡ false
+        → ((r : Row P) → In r (done_at digest b x spawned ms cs).table.rows → r.task ≡ x.task → is_live_row r ≡ true)
+        → all_left most (done_at digest b x spawned ms cs) ≤ all_left most b
     done_less ms cs not_root live =
         let g = grown digest spawned b.table in
         let limit : then.table.limit ≡ learned_then.limit = copies.limit ∙ outs.limit in
-        all_lighter most b then g.news (subst (λ rs. OneByOne (Lighter most b then) rs then.table.rows) g.rows lighter) (limit ∙ g.limit) (room_then limit) (left TaskId.Show not_root)
+        all_lighter most b then g.news (subst (λ rs. OneByOne (Lighter most b then) rs then.table.rows) g.rows lighter) (limit ∙ g.limit)
+        (room_then limit) (left TaskId.Show not_root)
       where
         then : Board P
         then = done_at digest b x spawned ms cs
@@ -356,7 +394,8 @@ module _ {P : Type 0} (digest : List ℕ → List ℕ) (at : P → ℕ) (most : 
 
         fuller : OneByOne Fuller learned_then.rows then.table.rows
         fuller =
-            fuller_join learned_then.rows (with_outputs ms learned_then).rows then.table.rows (outputs_fuller ms learned_then) (copies_fuller cs (with_outputs ms learned_then))
+            fuller_join learned_then.rows (with_outputs ms learned_then).rows then.table.rows (outputs_fuller ms learned_then)
+            (copies_fuller cs (with_outputs ms learned_then))
 
         room_then : then.table.limit ≡ learned_then.limit → length then.table.rows ≤ then.table.limit
         room_then l =
@@ -383,8 +422,10 @@ module _ {P : Type 0} (digest : List ℕ → List ℕ) (at : P → ℕ) (most : 
                 turn : ((is_live_row r ≡ true) ⊎ (is_live_row r ≡ false)) → row_left most then q ≤ row_left most b r
                 turn (inl e) = none (f.live e)
                 turn (inr e) =
-                    let a : starts_left most then q.task ≤ starts_left most b r.task = subst (λ z. starts_left most then q.task ≤ starts_left most b z) f.task (left q.task n) in
-                    subst (λ z. row_left most then q ≤ z) (sym (ap (λ c. cond c 0 (starts_left most b r.task)) e)) (cut (is_live_row q) (starts_left most then q.task) (starts_left most b r.task) a)
+                    let a : starts_left most then q.task ≤ starts_left most b r.task =
+                    subst (λ z. starts_left most then q.task ≤ starts_left most b z) f.task (left q.task n) in
+                    subst (λ z. row_left most then q ≤ z) (sym (ap (λ c. cond c 0 (starts_left most b r.task)) e))
+                    (cut (is_live_row q) (starts_left most then q.task) (starts_left most b r.task) a)
 
         lighter : OneByOne (Lighter most b then) learned_then.rows then.table.rows
         lighter =

@@ -1,5 +1,6 @@
 -- After the end of a task each row of its outputs is live.
-use Rattle.std.proofs.Common.{◌≡◌, ℕ, List, [], ◌∷◌, ◌++◌, Bool, true, false, cond, ◌||◌, map, Option, Some, None, inl, inr, refl, ap, sym, ◌∙◌, subst}
+use Rattle.std.proofs.Common.{◌≡◌, ℕ, List, [], ◌∷◌, ◌++◌, Bool, true, false, cond, ◌||◌, map, Option, Some, None, inl, inr, refl, ap, sym, ◌∙◌}
+use Rattle.std.proofs.Common.{subst}
 use Rattle.std.specs.List.{AllByRecursion}
 use Rattle.sky_base.specs.Name.{digested}
 use Rattle.sky_base.specs.ObjectView.{desc_view}
@@ -52,7 +53,9 @@ module _ {D P B : Type 0} (s : Setting D P B) (is : IsSetting s) where
   placed_some : (es : List D) (w : ℕ) (f : D → List ℕ) (d : D) → In d es → Some_ (placed s.job es w f d)
   placed_some [] w f d i = absurd i
   placed_some (e ∷ es) w f d (inl q) =
-      placed_keeps es w (λ x. cond (s.job.same e x) (f x ++ w ∷ []) (f x)) d (subst (λ b. Some_ (cond b (f d ++ w ∷ []) (f d))) (sym (subst (λ z. s.job.same z d ≡ true) q (is.laws.same_refl d))) (some_end (f d) w))
+      placed_keeps es w (λ x. cond (s.job.same e x) (f x ++ w ∷ []) (f x)) d
+      (subst (λ b. Some_ (cond b (f d ++ w ∷ []) (f d))) (sym (subst (λ z. s.job.same z d ≡ true) q (is.laws.same_refl d)))
+      (some_end (f d) w))
   placed_some (e ∷ es) w f d (inr i) =
       placed_some es w (λ x. cond (s.job.same e x) (f x ++ w ∷ []) (f x)) d i
 
@@ -72,7 +75,8 @@ module _ {D P B : Type 0} (s : Setting D P B) (is : IsSetting s) where
   or_some false [] k = absurd k
   or_some false (p ∷ ps) k = refl
 
-  module _ (h : List (Event D)) (b : Board P) (f : Follows s h b) (x : OrderOut) (k : ℕ) (is_out : find_order k b.orders ≡ Some x) (spawned : List Named) (ms : List (Output P)) (cs : List (Copy P)) (all : List (D × Digest)) (copied sp : List D) where
+  module _ (h : List (Event D)) (b : Board P) (f : Follows s h b) (x : OrderOut) (k : ℕ) (is_out : find_order k b.orders ≡ Some x)
+      (spawned : List Named) (ms : List (Output P)) (cs : List (Copy P)) (all : List (D × Digest)) (copied sp : List D) where
     abbrev v : Standing D
     v = standing s.job h
 
@@ -102,13 +106,16 @@ module _ {D P B : Type 0} (s : Setting D P B) (is : IsSetting s) where
       -- an output is live
       made_here : (d : D) → In d (s.job.outputs o.task) → Some_ (u.places d)
       made_here d i =
-          subst (λ (z : Standing D). Some_ (z.places d)) (sym now) (placed_keeps copied o.worker (placed s.job (names_of all) o.worker v.places) d (placed_some (names_of all) o.worker v.places d (marked_in (s.job.outputs o.task) all allowed.2.marked d i)))
+          subst (λ (z : Standing D). Some_ (z.places d)) (sym now)
+          (placed_keeps copied o.worker (placed s.job (names_of all) o.worker v.places) d
+          (placed_some (names_of all) o.worker v.places d (marked_in (s.job.outputs o.task) all allowed.2.marked d i)))
 
       -- what the task goes by is in the book
       own_in : In (own_name s.job o.task) u.book
       own_in =
           let inf = startable.informed s.job is.laws s.inner is.knows b.plan h f.lawful in
-          let i = each_of (λ (q : OpenStart D). In (own_name s.job q.task) v.book) o v.orders (found_in s.job is.laws k v.orders o allowed.1).0 inf.shelved.own in
+          let i = each_of (λ (q : OpenStart D). In (own_name s.job q.task) v.book) o v.orders (found_in s.job is.laws k v.orders o allowed.1).0
+          inf.shelved.own in
           subst (λ (z : Standing D). In (own_name s.job o.task) z.book) (sym now) (learned_in s.job is.laws v.book sp (own_name s.job o.task) i)
 
       -- so is a row whose task is the order's
@@ -138,14 +145,16 @@ module _ {D P B : Type 0} (s : Setting D P B) (is : IsSetting s) where
                 where
                   first : digested s.digest (first_output (desc_view q.desc)) ≡ s.job.name y
                   first =
-                      ap (λ z. digested s.digest (first_output z)) r.spells ∙ (ap (digested s.digest) (is.tells.made q.desc d y r.spells m).1 ∙ is.exact.own y)
+                      ap (λ z. digested s.digest (first_output z)) r.spells
+                      ∙ (ap (digested s.digest) (is.tells.made q.desc d y r.spells m).1 ∙ is.exact.own y)
 
                   named : TaskId.Of (s.job.name y) ≡ task_id s.job o.task
                   named = sym (row.task ∙ ap (λ z. TaskId.Of z) first) ∙ (t ∙ order.task)
 
                   y_in : In y u.book
                   y_in =
-                      each_of (λ z. In z u.book) y (s.job.outputs (of y)) (is.laws.made_by y (of y) (is.laws.own y d m)) (((informed s is (h ++ e ∷ []) c sound g).whole d j).1 (of y) m)
+                      each_of (λ z. In z u.book) y (s.job.outputs (of y)) (is.laws.made_by y (of y) (is.laws.own y d m))
+                      (((informed s is (h ++ e ∷ []) c sound g).whole d j).1 (of y) m)
 
                   same : (w : Task D) → TaskId.Of (s.job.name y) ≡ task_id s.job w → In (own_name s.job w) u.book → of y ≡ w
                   same show n l = cc

@@ -1,5 +1,6 @@
 -- What is left to start, summed over rows.
-use Rattle.std.proofs.Common.{◌≡◌, ℕ, suc, ◌+◌, ◌-◌, ◌*◌, ◌≤◌, ◌<◌, List, [], ◌∷◌, ◌++◌, length, length-append, Bool, true, false, cond, inl, inr, refl, ap, sym, ◌∙◌, subst, arith}
+use Rattle.std.proofs.Common.{◌≡◌, ℕ, suc, ◌+◌, ◌-◌, ◌*◌, ◌≤◌, ◌<◌, List, [], ◌∷◌, ◌++◌, length, length-append, Bool, true, false, cond, inl, inr}
+use Rattle.std.proofs.Common.{refl, ap, sym, ◌∙◌, subst, arith}
 use Rattle.std.proofs.Math.Nat.{add-mul}
 use Rattle.sky_base.specs.declared.object.TaskId.{TaskId}
 use Rattle.ciel_journal.specs.Job.{In}
@@ -65,10 +66,12 @@ module _ {P : Type 0} (most : ℕ) where
       sums f g t u a e = omega (arith, a, e)
 
   -- one of them counts for one less
-  pub rows_drop : (b c : Board P) (rs : List (Row P)) → ((r : Row P) → In r rs → row_left most c r ≤ row_left most b r) → (q : Row P) → In q rs → row_left most c q < row_left most b q → rows_left most c rs < rows_left most b rs
+  pub rows_drop : (b c : Board P) (rs : List (Row P)) → ((r : Row P) → In r rs → row_left most c r ≤ row_left most b r) → (q : Row P) → In q rs
+      → row_left most c q < row_left most b q → rows_left most c rs < rows_left most b rs
   rows_drop b c [] h q i l = absurd i
   rows_drop b c (r ∷ rs) h q (inl s) l =
-      sums (row_left most c r) (row_left most b r) (rows_left most c rs) (rows_left most b rs) (subst (λ z. row_left most c z < row_left most b z) s l) (same rs (λ z j. h z (inr j)))
+      sums (row_left most c r) (row_left most b r) (rows_left most c rs) (rows_left most b rs)
+      (subst (λ z. row_left most c z < row_left most b z) s l) (same rs (λ z j. h z (inr j)))
     where
       same : (zs : List (Row P)) → ((r : Row P) → In r zs → row_left most c r ≤ row_left most b r) → rows_left most c zs ≤ rows_left most b zs
       same [] k = omega arith
@@ -81,7 +84,8 @@ module _ {P : Type 0} (most : ℕ) where
       sums : (f g t u : ℕ) → f < g → t ≤ u → f + t < g + u
       sums f g t u a e = omega (arith, a, e)
   rows_drop b c (r ∷ rs) h q (inr i) l =
-      sums (row_left most c r) (row_left most b r) (rows_left most c rs) (rows_left most b rs) (h r (inl refl)) (rows_drop b c rs (λ z j. h z (inr j)) q i l)
+      sums (row_left most c r) (row_left most b r) (rows_left most c rs) (rows_left most b rs) (h r (inl refl))
+      (rows_drop b c rs (λ z j. h z (inr j)) q i l)
     where
       sums : (f g t u : ℕ) → f ≤ g → t < u → f + t < g + u
       sums f g t u a e = omega (arith, a, e)
@@ -89,12 +93,20 @@ module _ {P : Type 0} (most : ℕ) where
   -- ---- all that is left
 
   -- where rows are added and each counts for no more than before, no more is left
-  pub all_lighter : (b c : Board P) (news : List (Row P)) → OneByOne (Lighter b c) (b.table.rows ++ news) c.table.rows → c.table.limit ≡ b.table.limit → length c.table.rows ≤ c.table.limit → starts_left most c TaskId.Show ≤ starts_left most b TaskId.Show → all_left most c ≤ all_left most b
+  pub all_lighter : (b c : Board P) (news : List (Row P)) → OneByOne (Lighter b c) (b.table.rows ++ news) c.table.rows → c.table.limit
+      ≡ b.table.limit → length c.table.rows ≤ c.table.limit → starts_left most c TaskId.Show ≤ starts_left most b TaskId.Show
+      → all_left most c ≤ all_left most b
   all_lighter b c news h limit room root =
-      let n : length b.table.rows + length news ≡ length c.table.rows = sym (length-append b.table.rows news) ∙ long (Lighter b c) (b.table.rows ++ news) c.table.rows h in
+      let n : length b.table.rows + length news ≡ length c.table.rows = sym (length-append b.table.rows news)
+      ∙ long (Lighter b c) (b.table.rows ++ news) c.table.rows h in
       let fits : length b.table.rows + length news ≤ b.table.limit = omega (arith, n, room, limit) in
-      let k : (c.table.limit - length c.table.rows) * suc most ≡ (b.table.limit - (length b.table.rows + length news)) * suc most = ap (λ z. (z - length c.table.rows) * suc most) limit ∙ ap (λ z. (b.table.limit - z) * suc most) (sym n) in
-      sums (starts_left most c TaskId.Show) (starts_left most b TaskId.Show) (rows_left most c c.table.rows) (rows_left most b (b.table.rows ++ news)) (rows_left most b b.table.rows) (rows_left most b news) (length news * suc most) ((c.table.limit - length c.table.rows) * suc most) ((b.table.limit - (length b.table.rows + length news)) * suc most) ((b.table.limit - length b.table.rows) * suc most) root (rows_lighter b c (b.table.rows ++ news) c.table.rows h) (rows_join b b.table.rows news) (rows_most b news) k (slack b.table.limit (length b.table.rows) (length news) (suc most) fits)
+      let k : (c.table.limit - length c.table.rows) * suc most ≡ (b.table.limit - (length b.table.rows + length news)) * suc most =
+      ap (λ z. (z - length c.table.rows) * suc most) limit ∙ ap (λ z. (b.table.limit - z) * suc most) (sym n) in
+      sums (starts_left most c TaskId.Show) (starts_left most b TaskId.Show) (rows_left most c c.table.rows)
+      (rows_left most b (b.table.rows ++ news)) (rows_left most b b.table.rows) (rows_left most b news) (length news * suc most)
+      ((c.table.limit - length c.table.rows) * suc most) ((b.table.limit - (length b.table.rows + length news)) * suc most)
+      ((b.table.limit - length b.table.rows) * suc most) root (rows_lighter b c (b.table.rows ++ news) c.table.rows h)
+      (rows_join b b.table.rows news) (rows_most b news) k (slack b.table.limit (length b.table.rows) (length news) (suc most) fits)
     where
       sums : (r s t u v w x y z a : ℕ) → r ≤ s → t ≤ u → u ≡ v + w → w ≤ x → y ≡ z → z + x ≡ a → (r + t) + y ≤ (s + v) + a
       sums r s t u v w x y z a c1 c2 c3 c4 c5 c6 = omega (arith, c1, c2, c3, c4, c5, c6)
@@ -103,8 +115,11 @@ module _ {P : Type 0} (most : ℕ) where
   pub all_most : (b : Board P) → length b.table.rows ≤ b.table.limit → all_left most b ≤ suc b.table.limit * suc most
   all_most b room =
       let all : (b.table.limit - length b.table.rows) + length b.table.rows ≡ b.table.limit = omega (arith, room) in
-      let e : (b.table.limit - length b.table.rows) * suc most + length b.table.rows * suc most ≡ b.table.limit * suc most = sym (add-mul (b.table.limit - length b.table.rows) (length b.table.rows) (suc most)) ∙ ap (λ n. n * suc most) all in
-      sums (starts_left most b TaskId.Show) (suc most) (rows_left most b b.table.rows) (length b.table.rows * suc most) ((b.table.limit - length b.table.rows) * suc most) (b.table.limit * suc most) (suc b.table.limit * suc most) (starts_most b TaskId.Show) (rows_most b b.table.rows) e (omega arith)
+      let e : (b.table.limit - length b.table.rows) * suc most + length b.table.rows * suc most ≡ b.table.limit * suc most =
+      sym (add-mul (b.table.limit - length b.table.rows) (length b.table.rows) (suc most)) ∙ ap (λ n. n * suc most) all in
+      sums (starts_left most b TaskId.Show) (suc most) (rows_left most b b.table.rows) (length b.table.rows * suc most)
+      ((b.table.limit - length b.table.rows) * suc most) (b.table.limit * suc most) (suc b.table.limit * suc most)
+      (starts_most b TaskId.Show) (rows_most b b.table.rows) e (omega arith)
     where
       sums : (r c t w v l k : ℕ) → r ≤ c → t ≤ w → v + w ≡ l → k ≡ c + l → (r + t) + v ≤ k
       sums r c t w v l k a d e f = omega (arith, a, d, e, f)

@@ -1,5 +1,6 @@
 -- The turns.
-use Rattle.std.proofs.Common.{◌≡◌, ℕ, suc, ◌+◌, ◌*◌, ◌≤◌, ◌<◌, List, [], ◌∷◌, ◌++◌, length, replicate, Bool, true, false, not, cond, ◌||◌, nat_eq, slice_get, slice_set, Option, Some, None, ◌⊎◌, inl, inr, refl, ap, sym, ◌∙◌, subst, arith}
+use Rattle.std.proofs.Common.{◌≡◌, ℕ, suc, ◌+◌, ◌*◌, ◌≤◌, ◌<◌, List, [], ◌∷◌, ◌++◌, length, replicate, Bool, true, false, not, cond, ◌||◌, nat_eq}
+use Rattle.std.proofs.Common.{slice_get, slice_set, Option, Some, None, ◌⊎◌, inl, inr, refl, ap, sym, ◌∙◌, subst, arith}
 use Rattle.std.specs.List.{list_any}
 use Rattle.std.specs.Option.{option_map_or}
 use Rattle.sky_base.specs.Val.{no_pairs, no_vals, same_text}
@@ -93,14 +94,16 @@ module _ {P : Type 0} (digest : List ℕ → List ℕ) (b : Board P) (x : OrderO
   limit_same (rep.saved q) = (grown digest spawned b.table).limit
   limit_same (rep.missing name loss) = refl
 
-module _ {D P B : Type 0} (s : Setting D P B) (is : IsSetting s) (h : List (Event D)) (b : Board P) (sound : Sound s.digest s.at b) (f : Follows s h b) (o : OpenStart D) (i : In o (standing s.job h).orders) where
+module _ {D P B : Type 0} (s : Setting D P B) (is : IsSetting s) (h : List (Event D)) (b : Board P) (sound : Sound s.digest s.at b)
+    (f : Follows s h b) (o : OpenStart D) (i : In o (standing s.job h).orders) where
   known : OrderKnown s.job is.laws s.inner is.knows (standing s.job h).book o
   known = (informed s is h b sound f).orders o i
 
   -- what an order brings along, and holds, is in the book
   first_booked : (d : D) → First s.job s.inner o d → In d (standing s.job h).book
   first_booked d (held_then x) =
-      each_of (λ e. In e (standing s.job h).book) d x.1.names x.3 (is.knows.holds_told (standing s.job h).book o.task o.from known.here.0 x.1 known.told known.here.1 (x.0, x.2))
+      each_of (λ e. In e (standing s.job h).book) d x.1.names x.3
+      (is.knows.holds_told (standing s.job h).book o.task o.from known.here.0 x.1 known.told known.here.1 (x.0, x.2))
   first_booked d (brought e n g j) =
       live_carried s.job is.laws s.inner is.knows (standing s.job h).book o known e g.1 n d j
 
@@ -110,7 +113,8 @@ module _ {D P B : Type 0} (s : Setting D P B) (is : IsSetting s) (h : List (Even
 module _ {D P B : Type 0} (s : Setting D P B) (is : IsSetting s) (most : ℕ) where
   -- ---- the beginning
 
-  pub opened_works : (p : Plan) (main : Named) → 1 ≤ p.limit → IsNamed s.digest main → main.desc ≡ Desc1.Call [] no_pairs no_vals → s.lower s.job.main ≡ named_view main → AtWork s most [] (opened s.digest p s.keys main) (replicate p.workers None)
+  pub opened_works : (p : Plan) (main : Named) → 1 ≤ p.limit → IsNamed s.digest main → main.desc ≡ Desc1.Call [] no_pairs no_vals
+      → s.lower s.job.main ≡ named_view main → AtWork s most [] (opened s.digest p s.keys main) (replicate p.workers None)
   opened_works p main one named desc lower =
       record {
         going = refl;
@@ -133,7 +137,8 @@ module _ {D P B : Type 0} (s : Setting D P B) (is : IsSetting s) (most : ℕ) wh
     -- the journal tells the event
     same_runs : (e : Event D) (c : Board P) → Follows s (h ++ e ∷ []) c → RunsOn s h c → Runs s (h ++ e ∷ []) c
     same_runs e c k q =
-        subst (λ g. Runs s g c) (names_determine s.job is.laws c.plan c.plan (h ++ q.event ∷ []) (h ++ e ∷ []) q.runs.follows.lawful k.lawful (sym q.runs.follows.journal ∙ k.journal)) q.runs
+        subst (λ g. Runs s g c) (names_determine s.job is.laws c.plan c.plan (h ++ q.event ∷ []) (h ++ e ∷ []) q.runs.follows.lawful k.lawful
+        (sym q.runs.follows.journal ∙ k.journal)) q.runs
 
     below : (o : OpenStart D) → In o v.orders → o.number < b.starts
     below o i =
@@ -157,9 +162,14 @@ module _ {D P B : Type 0} (s : Setting D P B) (is : IsSetting s) (most : ℕ) wh
             sound = sound;
             runs = same_runs (hist.lost w b.closes) (lost_at s.at w b) k (loss_runs s is h b a.sound a.runs a.going w loss due);
             within = within_lost most s.at w b a.within;
-            handed = lost_handed s h b slots a.handed (h ++ hist.lost w b.closes ∷ []) (lost_at s.at w b) w refl refl refl refl (λ o i. in_filter (λ (q : OpenStart D). not (nat_eq w q.worker)) o v.orders (subst (λ (u : Standing D). In o u.orders) (after_is (hist.lost w b.closes)) i));
+            handed = lost_handed s h b slots a.handed (h ++ hist.lost w b.closes ∷ []) (lost_at s.at w b) w refl refl refl refl
+                (λ o i. in_filter (λ (q : OpenStart D). not (nat_eq w q.worker)) o v.orders
+                (subst (λ (u : Standing D). In o u.orders) (after_is (hist.lost w b.closes)) i));
           };
-          less = work_big s.at most b (lost_at s.at w b) slots slots refl refl (fewer_big s.at most b (lost_at s.at w b) slots slots refl refl (fewer_losses b.plan.losses b.table.gone loss due.count w due.due.planned due.due.here)) (all_most most (lost_at s.at w b) sound.room);
+          less = work_big s.at most b (lost_at s.at w b) slots slots refl refl
+              (fewer_big s.at most b (lost_at s.at w b) slots slots refl refl
+              (fewer_losses b.plan.losses b.table.gone loss due.count w due.due.planned due.due.here))
+              (all_most most (lost_at s.at w b) sound.room);
         }
 
     -- ---- what is out
@@ -177,7 +187,8 @@ module _ {D P B : Type 0} (s : Setting D P B) (is : IsSetting s) (most : ℕ) wh
           apart = open_apart s is h b a.sound f q.0 j.0;
         }
 
-    pub promised_taken : (w : ℕ) (x : Order P) → Has slots w x → (out : IsOut s h b x) → (spawned : List Named) (end : End P) → Promised s most h b x spawned end → Taken s h b x out.start x.out.number spawned end
+    pub promised_taken : (w : ℕ) (x : Order P) → Has slots w x → (out : IsOut s h b x) → (spawned : List Named) (end : End P)
+        → Promised s most h b x spawned end → Taken s h b x out.start x.out.number spawned end
     promised_taken w x i out spawned end p =
         record {
           is_out = out.found;
@@ -226,14 +237,18 @@ module _ {D P B : Type 0} (s : Setting D P B) (is : IsSetting s) (most : ℕ) wh
       new_apart : FirstApart s.job s.inner o
       new_apart =
           let then = started_sound s.digest s.at b a.sound x w can.0 can.1 in
-          open_apart s is (h ++ e ∷ []) (started s.at b x w) then runs.follows o (subst (λ (u : Standing D). In o u.orders) (sym (after_is e)) (last_in v.orders o))
+          open_apart s is (h ++ e ∷ []) (started s.at b x w) then runs.follows o
+          (subst (λ (u : Standing D). In o u.orders) (sym (after_is e)) (last_in v.orders o))
 
-      big : losses_left b.plan.losses b.table.gone * suc (length sending) + stale s.at b.table.gone sending ≤ losses_left b.plan.losses b.table.gone * suc (length slots) + stale s.at b.table.gone slots
+      big : losses_left b.plan.losses b.table.gone * suc (length sending) + stale s.at b.table.gone sending ≤ losses_left b.plan.losses
+          b.table.gone * suc (length slots) + stale s.at b.table.gone slots
       big =
           let t = count_set (is_stale s.at b.table.gone) slots w None (Some new) none in
           let z : one_of (is_stale s.at b.table.gone) (Some new) ≡ 0 = ap one_if (not_stale s is h b f x w k) in
-          let n : losses_left b.plan.losses b.table.gone * suc (length sending) ≡ losses_left b.plan.losses b.table.gone * suc (length slots) = ap (λ m. losses_left b.plan.losses b.table.gone * suc m) (set_long slots w (Some new)) in
-          sums (losses_left b.plan.losses b.table.gone * suc (length sending)) (losses_left b.plan.losses b.table.gone * suc (length slots)) (stale s.at b.table.gone sending) (stale s.at b.table.gone slots) (one_of (is_stale s.at b.table.gone) (Some new)) n z t
+          let n : losses_left b.plan.losses b.table.gone * suc (length sending) ≡ losses_left b.plan.losses b.table.gone * suc (length slots) =
+          ap (λ m. losses_left b.plan.losses b.table.gone * suc m) (set_long slots w (Some new)) in
+          sums (losses_left b.plan.losses b.table.gone * suc (length sending)) (losses_left b.plan.losses b.table.gone * suc (length slots))
+          (stale s.at b.table.gone sending) (stale s.at b.table.gone slots) (one_of (is_stale s.at b.table.gone) (Some new)) n z t
         where
           sums : (m n t u c : ℕ) → m ≡ n → c ≡ 0 → t + 0 ≡ u + c → m + t ≤ n + u
           sums m n t u c e z k = omega (arith, e, z, k)
@@ -284,9 +299,16 @@ module _ {D P B : Type 0} (s : Setting D P B) (is : IsSetting s) (most : ℕ) wh
           let e = count_set (is_stale s.at gone) slots w (Some x) None i in omega (arith, e)
 
       -- as many losses, and no more stale orders
-      same_big : (c : Board P) → c.plan ≡ b.plan → c.table.gone ≡ b.table.gone → losses_left c.plan.losses c.table.gone * suc (length taken) + stale s.at c.table.gone taken ≤ losses_left b.plan.losses b.table.gone * suc (length slots) + stale s.at b.table.gone slots
+      same_big : (c : Board P) → c.plan ≡ b.plan → c.table.gone ≡ b.table.gone
+          → losses_left c.plan.losses c.table.gone * suc (length taken) + stale s.at c.table.gone taken ≤ losses_left b.plan.losses
+          b.table.gone * suc (length slots) + stale s.at b.table.gone slots
       same_big c plan gone =
-          sums (losses_left c.plan.losses c.table.gone * suc (length taken)) (losses_left b.plan.losses b.table.gone * suc (length slots)) (stale s.at c.table.gone taken) (stale s.at b.table.gone slots) (ap (λ (q : Plan). losses_left q.losses c.table.gone * suc (length taken)) plan ∙ (ap (λ gs. losses_left b.plan.losses gs * suc (length taken)) gone ∙ ap (λ n. losses_left b.plan.losses b.table.gone * suc n) long)) (subst (λ gs. stale s.at gs taken ≤ stale s.at b.table.gone slots) (sym gone) (less_stale b.table.gone))
+          sums (losses_left c.plan.losses c.table.gone * suc (length taken)) (losses_left b.plan.losses b.table.gone * suc (length slots))
+          (stale s.at c.table.gone taken) (stale s.at b.table.gone slots)
+          (ap (λ (q : Plan). losses_left q.losses c.table.gone * suc (length taken)) plan
+          ∙ (ap (λ gs. losses_left b.plan.losses gs * suc (length taken)) gone
+          ∙ ap (λ n. losses_left b.plan.losses b.table.gone * suc n) long))
+          (subst (λ gs. stale s.at gs taken ≤ stale s.at b.table.gone slots) (sym gone) (less_stale b.table.gone))
         where
           sums : (m n t u : ℕ) → m ≡ n → t ≤ u → m + t ≤ n + u
           sums m n t u e k = omega (arith, e, k)
@@ -298,21 +320,33 @@ module _ {D P B : Type 0} (s : Setting D P B) (is : IsSetting s) (most : ℕ) wh
           sums m n t u k j = omega (arith, k, j)
 
       pub thrown_turns : find_order x.out.number b.orders ≡ None → AtWork s most h b taken × (work s.at most b taken < work s.at most b slots)
-      thrown_turns none =
-          (record { going = a.going; sound = a.sound; runs = a.runs; within = a.within; handed = thrown_handed s h b slots a.handed a.sound w x i none }, work_small s.at most b b slots taken long refl (same_big b refl refl) (same_small b (omega arith)))
+      thrown_turns none = (
+        record {
+          going = a.going;
+          sound = a.sound;
+          runs = a.runs;
+          within = a.within;
+          handed =
+              thrown_handed s h b slots a.handed a.sound w x i none;
+        },
+        work_small s.at most b b slots taken long refl (same_big b refl refl) (same_small b (omega arith)),
+      )
 
       module _ (out : IsOut s h b x) where
         there : In x.out b.orders
         there = order_in x.out.number b.orders x.out out.found
 
         -- an entry that closes the order
-        closes : (e : Event D) → (after s.job v e).orders ≡ (closed s.job v x.out.number).orders → (o : OpenStart D) → In o (standing s.job (h ++ e ∷ [])).orders → In o v.orders
+        closes : (e : Event D) → (after s.job v e).orders ≡ (closed s.job v x.out.number).orders → (o : OpenStart D)
+            → In o (standing s.job (h ++ e ∷ [])).orders → In o v.orders
         closes e k o j =
-            in_filter (λ (q : OpenStart D). not (nat_eq x.out.number q.number)) o v.orders (subst (In o) k (subst (λ (u : Standing D). In o u.orders) (after_is e) j))
+            in_filter (λ (q : OpenStart D). not (nat_eq x.out.number q.number)) o v.orders
+            (subst (In o) k (subst (λ (u : Standing D). In o u.orders) (after_is e) j))
 
         -- ---- something is missing
 
-        spot_stale : (n : Digest) (p : P) (xs : List (Brought P)) → spot_of n xs ≡ Some (shelf p) → is_gone s.at b.table.gone p ≡ true → list_any (λ (y : Brought P). gone_spot s.at b.table.gone y.spot) xs ≡ true
+        spot_stale : (n : Digest) (p : P) (xs : List (Brought P)) → spot_of n xs ≡ Some (shelf p) → is_gone s.at b.table.gone p ≡ true
+            → list_any (λ (y : Brought P). gone_spot s.at b.table.gone y.spot) xs ≡ true
         spot_stale n p [] e g = cc
         spot_stale n p (y ∷ ys) e g = pick (same_text n y.name) e (spot_stale n p ys)
           where
@@ -320,11 +354,15 @@ module _ {D P B : Type 0} (s : Setting D P B) (is : IsSetting s) (most : ℕ) wh
             here q =
                 ap (λ c. c || list_any (λ (z : Brought P). gone_spot s.at b.table.gone z.spot) ys) (ap (gone_spot s.at b.table.gone) q ∙ g)
 
-            pick : (c : Bool) → cond c (Some y.spot) (spot_of n ys) ≡ Some (shelf p) → (spot_of n ys ≡ Some (shelf p) → is_gone s.at b.table.gone p ≡ true → list_any (λ (z : Brought P). gone_spot s.at b.table.gone z.spot) ys ≡ true) → gone_spot s.at b.table.gone y.spot || list_any (λ (z : Brought P). gone_spot s.at b.table.gone z.spot) ys ≡ true
+            pick : (c : Bool) → cond c (Some y.spot) (spot_of n ys) ≡ Some (shelf p)
+                → (spot_of n ys ≡ Some (shelf p) → is_gone s.at b.table.gone p ≡ true
+                → list_any (λ (z : Brought P). gone_spot s.at b.table.gone z.spot) ys ≡ true) → gone_spot s.at b.table.gone y.spot
+                || list_any (λ (z : Brought P). gone_spot s.at b.table.gone z.spot) ys ≡ true
             pick true q k = let z : y.spot ≡ shelf p = cc in here z
             pick false q k = either (gone_spot s.at b.table.gone y.spot) (k q g)
               where
-                either : (c : Bool) → list_any (λ (z : Brought P). gone_spot s.at b.table.gone z.spot) ys ≡ true → c || list_any (λ (z : Brought P). gone_spot s.at b.table.gone z.spot) ys ≡ true
+                either : (c : Bool) → list_any (λ (z : Brought P). gone_spot s.at b.table.gone z.spot) ys ≡ true → c
+                    || list_any (λ (z : Brought P). gone_spot s.at b.table.gone z.spot) ys ≡ true
                 either true t = refl
                 either false t = t
 
@@ -336,13 +374,18 @@ module _ {D P B : Type 0} (s : Setting D P B) (is : IsSetting s) (most : ℕ) wh
             both false d (inl q) = cc
             both false d (inr q) = q
 
-            pick : ((spot_of name x.inputs ≡ Some (shelf m.place)) ⊎ ((x.stack ≡ Some m.place) × (name ≡ own_name s.digest s.at b.main x.out.task))) → is_stale s.at b.table.gone x ≡ true
+            pick : ((spot_of name x.inputs ≡ Some (shelf m.place))
+                ⊎ ((x.stack ≡ Some m.place) × (name ≡ own_name s.digest s.at b.main x.out.task))) → is_stale s.at b.table.gone x ≡ true
             pick (inl e) =
-                both (list_any (λ (y : Brought P). gone_spot s.at b.table.gone y.spot) x.inputs) (option_map_or (is_gone s.at b.table.gone) x.stack false) (inl (spot_stale name m.place x.inputs e m.lost))
+                both (list_any (λ (y : Brought P). gone_spot s.at b.table.gone y.spot) x.inputs)
+                (option_map_or (is_gone s.at b.table.gone) x.stack false) (inl (spot_stale name m.place x.inputs e m.lost))
             pick (inr e) =
-                both (list_any (λ (y : Brought P). gone_spot s.at b.table.gone y.spot) x.inputs) (option_map_or (is_gone s.at b.table.gone) x.stack false) (inr (ap (λ o. option_map_or (is_gone s.at b.table.gone) o false) e.0 ∙ m.lost))
+                both (list_any (λ (y : Brought P). gone_spot s.at b.table.gone y.spot) x.inputs)
+                (option_map_or (is_gone s.at b.table.gone) x.stack false)
+                (inr (ap (λ o. option_map_or (is_gone s.at b.table.gone) o false) e.0 ∙ m.lost))
 
-        pub missed_turns : RestsNow b → (name : Digest) (loss : ℕ) → MissingFits s.digest s.at b x name loss → Turned s most h b slots (missed_at s.digest b x.out name loss) taken
+        pub missed_turns : RestsNow b → (name : Digest) (loss : ℕ) → MissingFits s.digest s.at b x name loss
+            → Turned s most h b slots (missed_at s.digest b x.out name loss) taken
         missed_turns rest name loss m =
             let k = missed_follows s is h b a.sound f x out.start x.out.number out.found out.is_open out.order a.going name loss m in
             let e = count_set (is_stale s.at b.table.gone) slots w (Some x) None i in
@@ -351,11 +394,18 @@ module _ {D P B : Type 0} (s : Setting D P B) (is : IsSetting s) (most : ℕ) wh
               at_work = record {
                 going = a.going;
                 sound = sound;
-                runs = same_runs (hist.missed x.out.number k.what loss) then k.follows (missed_runs s is h b a.sound a.runs a.going rest x out.start x.out.number out.found out.is_open out.order name loss m);
+                runs = same_runs (hist.missed x.out.number k.what loss) then k.follows
+                    (missed_runs s is h b a.sound a.runs a.going rest x out.start x.out.number out.found out.is_open out.order name loss m);
                 within = a.within;
-                handed = closed_handed s h b slots a.handed a.sound w x i (h ++ hist.missed x.out.number k.what loss ∷ []) then refl refl refl there refl (closes (hist.missed x.out.number k.what loss) (ap (λ (u : Standing D). u.orders) (after_missed s.job is.laws v x.out.number k.what loss out.start out.is_open)));
+                handed = closed_handed s h b slots a.handed a.sound w x i (h ++ hist.missed x.out.number k.what loss ∷ []) then refl refl refl
+                    there refl (closes (hist.missed x.out.number k.what loss)
+                    (ap (λ (u : Standing D). u.orders) (after_missed s.job is.laws v x.out.number k.what loss out.start out.is_open)));
               };
-              less = work_big s.at most b then slots taken long refl (sums (losses_left b.plan.losses b.table.gone * suc (length taken)) (losses_left b.plan.losses b.table.gone * suc (length slots)) (stale s.at b.table.gone taken) (stale s.at b.table.gone slots) (one_of (is_stale s.at b.table.gone) (Some x)) (ap (λ n. losses_left b.plan.losses b.table.gone * suc n) long) (weighs (missing_stale name loss m)) e) (all_most most then sound.room);
+              less = work_big s.at most b then slots taken long refl
+                  (sums (losses_left b.plan.losses b.table.gone * suc (length taken))
+                  (losses_left b.plan.losses b.table.gone * suc (length slots)) (stale s.at b.table.gone taken) (stale s.at b.table.gone slots)
+                  (one_of (is_stale s.at b.table.gone) (Some x)) (ap (λ n. losses_left b.plan.losses b.table.gone * suc n) long)
+                  (weighs (missing_stale name loss m)) e) (all_most most then sound.room);
             }
           where
             then : Board P
@@ -363,7 +413,8 @@ module _ {D P B : Type 0} (s : Setting D P B) (is : IsSetting s) (most : ℕ) wh
 
             sound : Sound s.digest s.at (missed_at s.digest b x.out name loss)
             sound =
-                accepted_sound s.digest s.at b a.sound x x.out.number out.found [] (rep.missing name loss) (record { named = tt; missed = m; learned = λ k. record { inside = tt; tasks = tt; end = tt } }) tt
+                accepted_sound s.digest s.at b a.sound x x.out.number out.found [] (rep.missing name loss)
+                (record { named = tt; missed = m; learned = λ k. record { inside = tt; tasks = tt; end = tt } }) tt
 
             weighs : is_stale s.at b.table.gone x ≡ true → one_of (is_stale s.at b.table.gone) (Some x) ≡ 1
             weighs t = ap one_if t
@@ -373,7 +424,8 @@ module _ {D P B : Type 0} (s : Setting D P B) (is : IsSetting s) (most : ℕ) wh
 
         -- ---- a report
 
-        module _ (rest : RestsNow b) (spawned : List Named) (end : End P) (p : Promised s most h b x spawned end) (all : AllLearned s.digest spawned b.table) where
+        module _ (rest : RestsNow b) (spawned : List Named) (end : End P) (p : Promised s most h b x spawned end)
+            (all : AllLearned s.digest spawned b.table) where
           is_taken : Taken s h b x out.start x.out.number spawned end
           is_taken = promised_taken w x i out spawned end p
 
@@ -394,26 +446,32 @@ module _ {D P B : Type 0} (s : Setting D P B) (is : IsSetting s) (most : ℕ) wh
 
             pub accepted_runs : Runs s (h ++ accepted_as.event ∷ []) (accepted s.digest b x.out spawned end)
             accepted_runs =
-                same_runs accepted_as.event (accepted s.digest b x.out spawned end) accepted_as.follows (report_runs s is h b a.sound a.runs a.going rest x out.start x.out.number spawned end is_taken none all lies)
+                same_runs accepted_as.event (accepted s.digest b x.out spawned end) accepted_as.follows
+                (report_runs s is h b a.sound a.runs a.going rest x out.start x.out.number spawned end is_taken none all lies)
 
-            close_told : (e : Event D) → r.report_of s.job s.inner s.lower e ≡ Some (report_view x.out.number spawned end) → (after s.job v e).orders ≡ (closed s.job v x.out.number).orders
+            close_told : (e : Event D) → r.report_of s.job s.inner s.lower e ≡ Some (report_view x.out.number spawned end)
+                → (after s.job v e).orders ≡ (closed s.job v x.out.number).orders
             close_told (hist.start k u t from) q = cc
             close_told (hist.lost u n) q = cc
             close_told (hist.done k ms cs sp) q =
                 let n : k ≡ x.out.number = ap number_in q in
-                subst (λ z. (after s.job v (hist.done z ms cs sp)).orders ≡ (closed s.job v x.out.number).orders) (sym n) (ap (λ (u : Standing D). u.orders) (after_done s.job is.laws v x.out.number ms cs sp out.start out.is_open))
+                subst (λ z. (after s.job v (hist.done z ms cs sp)).orders ≡ (closed s.job v x.out.number).orders) (sym n)
+                (ap (λ (u : Standing D). u.orders) (after_done s.job is.laws v x.out.number ms cs sp out.start out.is_open))
             close_told (hist.saved k j m rs hs sp) q =
                 let n : k ≡ x.out.number = ap number_in q in
-                subst (λ z. (after s.job v (hist.saved z j m rs hs sp)).orders ≡ (closed s.job v x.out.number).orders) (sym n) (ap (λ (u : Standing D). u.orders) (after_saved s.job is.laws v x.out.number j m rs hs sp out.start out.is_open))
+                subst (λ z. (after s.job v (hist.saved z j m rs hs sp)).orders ≡ (closed s.job v x.out.number).orders) (sym n)
+                (ap (λ (u : Standing D). u.orders) (after_saved s.job is.laws v x.out.number j m rs hs sp out.start out.is_open))
             close_told (hist.missed k d n) q =
                 let e : k ≡ x.out.number = ap number_in q in
-                subst (λ z. (after s.job v (hist.missed z d n)).orders ≡ (closed s.job v x.out.number).orders) (sym e) (ap (λ (u : Standing D). u.orders) (after_missed s.job is.laws v x.out.number d n out.start out.is_open))
+                subst (λ z. (after s.job v (hist.missed z d n)).orders ≡ (closed s.job v x.out.number).orders) (sym e)
+                (ap (λ (u : Standing D). u.orders) (after_missed s.job is.laws v x.out.number d n out.start out.is_open))
 
             -- its order is closed
             closing : (after s.job v accepted_as.event).orders ≡ (closed s.job v x.out.number).orders
             closing = close_told accepted_as.event accepted_as.tells
 
-            pub turned_with : then.stopped ≡ false → all_left most then ≤ all_left most b → Turned s most h b slots (accepted s.digest b x.out spawned end) taken
+            pub turned_with : then.stopped ≡ false → all_left most then ≤ all_left most b
+                → Turned s most h b slots (accepted s.digest b x.out spawned end) taken
             turned_with going m =
                 let plan = plan_same s.digest b x.out spawned end in
                 let gone = gone_same s.digest b x.out spawned end in
@@ -424,17 +482,27 @@ module _ {D P B : Type 0} (s : Setting D P B) (is : IsSetting s) (most : ℕ) wh
                     sound = then_sound;
                     runs = accepted_runs;
                     within = within_accepted most s.digest b x.out spawned end p.within a.within;
-                    handed = closed_handed s h b slots a.handed a.sound w x i (h ++ accepted_as.event ∷ []) (accepted s.digest b x.out spawned end) plan (starts_same s.digest b x.out spawned end) gone there (orders_same s.digest b x.out spawned end) (closes accepted_as.event closing);
+                    handed = closed_handed s h b slots a.handed a.sound w x i (h ++ accepted_as.event ∷ [])
+                        (accepted s.digest b x.out spawned end) plan (starts_same s.digest b x.out spawned end) gone there
+                        (orders_same s.digest b x.out spawned end) (closes accepted_as.event closing);
                   };
-                  less = work_small s.at most b (accepted s.digest b x.out spawned end) slots taken long (limit_same s.digest b x.out spawned end) (same_big (accepted s.digest b x.out spawned end) plan gone) (same_small (accepted s.digest b x.out spawned end) m);
+                  less = work_small s.at most b (accepted s.digest b x.out spawned end) slots taken long
+                      (limit_same s.digest b x.out spawned end) (same_big (accepted s.digest b x.out spawned end) plan gone)
+                      (same_small (accepted s.digest b x.out spawned end) m);
                 }
 
-        pub report_turns : RestsNow b → (spawned : List Named) (end : End P) → Promised s most h b x spawned end → (IsMissing end → ⊥) → AllLearned s.digest spawned b.table → (accepted s.digest b x.out spawned end).stopped ≡ false → Turned s most h b slots (accepted s.digest b x.out spawned end) taken
+        pub report_turns : RestsNow b → (spawned : List Named) (end : End P) → Promised s most h b x spawned end → (IsMissing end → ⊥)
+            → AllLearned s.digest spawned b.table → (accepted s.digest b x.out spawned end).stopped ≡ false
+            → Turned s most h b slots (accepted s.digest b x.out spawned end) taken
         report_turns rest spawned (rep.missing name loss) p none all going = absurd (none tt)
         report_turns rest spawned (rep.saved q) p none all going =
-            turned_with rest spawned (rep.saved q) p all (λ z. z) going (saved_less s.digest s.at most b a.sound x.out there spawned (room_all s.digest spawned b.table all a.sound.room) q (p.fits.learned all).end.later)
+            turned_with rest spawned (rep.saved q) p all (λ z. z) going
+            (saved_less s.digest s.at most b a.sound x.out there spawned (room_all s.digest spawned b.table all a.sound.room) q
+            (p.fits.learned all).end.later)
         report_turns rest spawned (rep.made ms cs) p none all going =
-            turned_with rest spawned (rep.made ms cs) p all (λ z. z) going (done_less s.digest s.at most b a.sound x.out there spawned (room_all s.digest spawned b.table all a.sound.room) ms cs (not_root x.out.task going) live)
+            turned_with rest spawned (rep.made ms cs) p all (λ z. z) going
+            (done_less s.digest s.at most b a.sound x.out there spawned (room_all s.digest spawned b.table all a.sound.room) ms cs
+            (not_root x.out.task going) live)
           where
             not_root : (t : TaskId) → is_root t ≡ false → same_id TaskId.Show t ≡ false
             not_root TaskId.Show e = cc
@@ -448,18 +516,23 @@ module _ {D P B : Type 0} (s : Setting D P B) (is : IsSetting s) (most : ℕ) wh
 
             live : (q : Row P) → In q (accepted s.digest b x.out spawned (rep.made ms cs)).table.rows → q.task ≡ x.out.task → is_live_row q ≡ true
             live q j t =
-                rows_live s is h b f x.out x.out.number out.found spawned ms cs done_is.made done_is.copied done_is.spawned (subst (λ e. Follows s (h ++ e ∷ []) (accepted s.digest b x.out spawned (rep.made ms cs))) done_is.is got.follows) (then_sound rest spawned (rep.made ms cs) p all) q j t
+                rows_live s is h b f x.out x.out.number out.found spawned ms cs done_is.made done_is.copied done_is.spawned
+                (subst (λ e. Follows s (h ++ e ∷ []) (accepted s.digest b x.out spawned (rep.made ms cs))) done_is.is got.follows)
+                (then_sound rest spawned (rep.made ms cs) p all) q j t
 
         -- ---- the end of the root task
 
-        pub shown_ends : RestsNow b → x.out.task ≡ TaskId.Show → (spawned : List Named) (cs : List (Copy P)) → Promised s most h b x spawned (rep.made [] cs) → AllLearned s.digest spawned b.table → RunEnded s h x spawned (rep.made [] cs) (accepted s.digest b x.out spawned (rep.made [] cs))
+        pub shown_ends : RestsNow b → x.out.task ≡ TaskId.Show → (spawned : List Named) (cs : List (Copy P))
+            → Promised s most h b x spawned (rep.made [] cs) → AllLearned s.digest spawned b.table
+            → RunEnded s h x spawned (rep.made [] cs) (accepted s.digest b x.out spawned (rep.made [] cs))
         shown_ends rest root spawned cs p all =
             record {
               event = got.event;
               tells = got.tells;
               runs = accepted_runs rest spawned (rep.made [] cs) p all (λ z. z);
               done = ends done_is;
-              ends = subst (Ends s.job) (ap (λ (o : OpenStart D). o.task) (same_found s.job is.laws v x.out.number allowed.0 out.start allowed.1 out.is_open) ∙ is_show) allowed.2.next.ends;
+              ends = subst (Ends s.job) (ap (λ (o : OpenStart D). o.task)
+                  (same_found s.job is.laws v x.out.number allowed.0 out.start allowed.1 out.is_open) ∙ is_show) allowed.2.next.ends;
             }
           where
             got : AcceptedAs s h b x.out x.out.number spawned (rep.made [] cs)
@@ -491,5 +564,7 @@ module _ {D P B : Type 0} (s : Setting D P B) (is : IsSetting s) (most : ℕ) wh
                   root = is_show;
                 }
 
-            allowed : (o : OpenStart D) × (find_open s.job x.out.number v.orders ≡ Some o) × DoneAllowed s.job o done_is.made done_is.copied done_is.spawned
-            allowed = (lawful_split s.job b.plan (before_all s.job) h (hist.done x.out.number done_is.made done_is.copied done_is.spawned ∷ []) (subst (λ e. Lawful s.job b.plan (h ++ e ∷ [])) done_is.is got.follows.lawful)).1.0.allowed
+            allowed : (o : OpenStart D) × (find_open s.job x.out.number v.orders ≡ Some o)
+                × DoneAllowed s.job o done_is.made done_is.copied done_is.spawned
+            allowed = (lawful_split s.job b.plan (before_all s.job) h (hist.done x.out.number done_is.made done_is.copied done_is.spawned ∷ [])
+                (subst (λ e. Lawful s.job b.plan (h ++ e ∷ [])) done_is.is got.follows.lawful)).1.0.allowed

@@ -3,7 +3,8 @@ use Rattle.sky_base.specs.Val as v
 use Rattle.sky_base.specs.Needed as n
 use Rattle.sky_base.specs.See as s
 use Rattle.sky_law.specs.Tasks as t
-use Rattle.std.proofs.Common.{◌≡◌, ◌≢◌, ℕ, zero, suc, ◌+◌, ◌<◌, ◌≤◌, List, [], ◌∷◌, ◌++◌, map, Bool, true, false, Option, Some, None, ◌⊎◌, inl, inr, refl, sym, ap, ◌∙◌, subst, arith}
+use Rattle.std.proofs.Common.{◌≡◌, ◌≢◌, ℕ, zero, suc, ◌+◌, ◌<◌, ◌≤◌, List, [], ◌∷◌, ◌++◌, map, Bool, true, false, Option, Some, None, ◌⊎◌, inl, inr}
+use Rattle.std.proofs.Common.{refl, sym, ap, ◌∙◌, subst, arith}
 use Rattle.sky_base.specs.Val.{call, out, input, known, distinct, same_text}
 use Rattle.sky_base.specs.Name.{low_desc, name}
 use Rattle.sky_base.specs.Res.{Object}
@@ -101,15 +102,19 @@ below_or i j le = go (below_or_same i (suc j) le)
 
 module _ (job : s.Job) (around : s.Around) where
   -- what is made between two waits is one list, whatever tells of it
-  pub made_once : (w : n.Task) (i j : ℕ) (made : List s.Desc) → i ≤ j → MadeBetween job around w i j made → (k : ℕ) (ds : List s.Desc) → wait_at job around k w j ≡ Some ds → made_between job around k w i j ≡ made
+  pub made_once : (w : n.Task) (i j : ℕ) (made : List s.Desc) → i ≤ j → MadeBetween job around w i j made → (k : ℕ) (ds : List s.Desc)
+      → wait_at job around k w j ≡ Some ds → made_between job around k w i j ≡ made
   made_once w i j made le m k ds wt = go (below_or_same i j le)
     where
       go : (i < j) ⊎ (i ≡ j) → made_between job around k w i j ≡ made
       go (inl lt) = between_one job around w i j (made_between job around k w i j) made lt (k, (ds, wt), refl) m
       go (inr is) =
-          ap (λ x. made_between job around k w x j) is ∙ between_none job around k w j ∙ sym (sym m.2 ∙ ap (λ x. made_between job around m.0 w x j) is ∙ between_none job around m.0 w j)
+          ap (λ x. made_between job around k w x j) is ∙ between_none job around k w j
+          ∙ sym (sym m.2 ∙ ap (λ x. made_between job around m.0 w x j) is ∙ between_none job around m.0 w j)
 
-module _ (tag : Tag) (mark : Object (List ℕ) → Digest) (frozen : Stand (List ℕ) → Digest) (job : s.Job) (around : s.Around) (plain : PlainReads around) (o : OpenStart s.Desc) (finds : v.Desc (List ℕ) → Option (Object (List ℕ))) (r0 : Stand (List ℕ)) (b : Begins tag mark frozen job around o finds r0) where
+module _ (tag : Tag) (mark : Object (List ℕ) → Digest) (frozen : Stand (List ℕ) → Digest) (job : s.Job) (around : s.Around)
+    (plain : PlainReads around) (o : OpenStart s.Desc) (finds : v.Desc (List ℕ) → Option (Object (List ℕ))) (r0 : Stand (List ℕ))
+    (b : Begins tag mark frozen job around o finds r0) where
   abbrev J : Job s.Desc
   J = the tag mark frozen job around
 
@@ -143,7 +148,9 @@ module _ (tag : Tag) (mark : Object (List ℕ) → Digest) (frozen : Stand (List
   -- ---- what the task holds at the order's wait
 
   -- at a wait where it stands in a state, what the job says of it
-  pub at_is : (w : n.Task) (k j : ℕ) (a : n.State) → stands_at job around k w j ≡ Some a → at_of job around nm (λ x. mark (low_obj no_name tag x)) (λ y. frozen (low_state tag y)) k w j ≡ Some (record { names = held a; mark = frozen (low_state tag a) })
+  pub at_is : (w : n.Task) (k j : ℕ) (a : n.State) → stands_at job around k w j ≡ Some a
+      → at_of job around nm (λ x. mark (low_obj no_name tag x)) (λ y. frozen (low_state tag y)) k w j
+      ≡ Some (record { names = held a; mark = frozen (low_state tag a) })
   at_is n.Task.show k j a e =
       ap (held_if job around nm (λ x. mark (low_obj no_name tag x)) (λ y. frozen (low_state tag y))) e
   at_is (n.Task.of (call f c vs)) k j a e =
@@ -152,18 +159,26 @@ module _ (tag : Tag) (mark : Object (List ℕ) → Digest) (frozen : Stand (List
   at_is (n.Task.of (input y)) k j a e = absurd (none_some a e)
   at_is (n.Task.of (known z)) k j a e = absurd z
 
-  is_at : (w : n.Task) (k j : ℕ) (a : n.State) (x : Held s.Desc) → StandsAt job around w j a → at_of job around nm (λ x. mark (low_obj no_name tag x)) (λ y. frozen (low_state tag y)) k w j ≡ Some x → x.names ≡ held a
+  is_at : (w : n.Task) (k j : ℕ) (a : n.State) (x : Held s.Desc) → StandsAt job around w j a
+      → at_of job around nm (λ x. mark (low_obj no_name tag x)) (λ y. frozen (low_state tag y)) k w j ≡ Some x → x.names ≡ held a
   is_at w k j a x st e = go w st (stands_at job around k w j) refl e
     where
-      state : (w : n.Task) → StandsAt job around w j a → (y : n.State) → stands_at job around k w j ≡ Some y → held_if job around nm (λ x. mark (low_obj no_name tag x)) (λ z. frozen (low_state tag z)) (Some y) ≡ Some x → x.names ≡ held a
+      state : (w : n.Task) → StandsAt job around w j a → (y : n.State) → stands_at job around k w j ≡ Some y
+          → held_if job around nm (λ x. mark (low_obj no_name tag x)) (λ z. frozen (low_state tag z)) (Some y) ≡ Some x → x.names ≡ held a
       state w st y q g =
           ap (λ (z : Held s.Desc). z.names) (sym (some_is _ x g)) ∙ ap held (stands_one job around w j y a (k, q) st)
 
-      go : (w : n.Task) → StandsAt job around w j a → (y : Option n.State) → stands_at job around k w j ≡ y → at_of job around nm (λ x. mark (low_obj no_name tag x)) (λ z. frozen (low_state tag z)) k w j ≡ Some x → x.names ≡ held a
-      go n.Task.show st None q g = absurd (none_some x (sym (ap (held_if job around nm (λ x. mark (low_obj no_name tag x)) (λ z. frozen (low_state tag z))) q) ∙ g))
-      go n.Task.show st (Some y) q g = state n.Task.show st y q (sym (ap (held_if job around nm (λ x. mark (low_obj no_name tag x)) (λ z. frozen (low_state tag z))) q) ∙ g)
-      go (n.Task.of (call f c vs)) st None q g = absurd (none_some x (sym (ap (held_if job around nm (λ x. mark (low_obj no_name tag x)) (λ z. frozen (low_state tag z))) q) ∙ g))
-      go (n.Task.of (call f c vs)) st (Some y) q g = state (n.Task.of (call f c vs)) st y q (sym (ap (held_if job around nm (λ x. mark (low_obj no_name tag x)) (λ z. frozen (low_state tag z))) q) ∙ g)
+      go : (w : n.Task) → StandsAt job around w j a → (y : Option n.State) → stands_at job around k w j ≡ y
+          → at_of job around nm (λ x. mark (low_obj no_name tag x)) (λ z. frozen (low_state tag z)) k w j ≡ Some x → x.names ≡ held a
+      go n.Task.show st None q g = absurd (none_some x
+          (sym (ap (held_if job around nm (λ x. mark (low_obj no_name tag x)) (λ z. frozen (low_state tag z))) q) ∙ g))
+      go n.Task.show st (Some y) q g = state n.Task.show st y q
+          (sym (ap (held_if job around nm (λ x. mark (low_obj no_name tag x)) (λ z. frozen (low_state tag z))) q) ∙ g)
+      go (n.Task.of (call f c vs)) st None q g =
+          absurd (none_some x (sym (ap (held_if job around nm (λ x. mark (low_obj no_name tag x)) (λ z. frozen (low_state tag z))) q) ∙ g))
+      go (n.Task.of (call f c vs)) st (Some y) q g =
+          state (n.Task.of (call f c vs)) st y q (sym
+          (ap (held_if job around nm (λ x. mark (low_obj no_name tag x)) (λ z. frozen (low_state tag z))) q) ∙ g)
       go (n.Task.of (out y w m i)) st z q g = absurd (none_some a st.1)
       go (n.Task.of (input y)) st z q g = absurd (none_some a st.1)
       go (n.Task.of (known z)) st y q g = absurd z
@@ -237,7 +252,10 @@ module _ (tag : Tag) (mark : Object (List ℕ) → Digest) (frozen : Stand (List
       let rest = have_seen ds h.1 in
       record {
         k = one.0 + rest.k;
-        seen = (λ q. some_not one.1 (sym (see_to job around one.0 (one.0 + rest.k) d one.1 (omega arith) one.2) ∙ q), all_more rest.k (one.0 + rest.k) ds (omega arith) rest.seen);
+        seen = (
+          λ q. some_not one.1 (sym (see_to job around one.0 (one.0 + rest.k) d one.1 (omega arith) one.2) ∙ q),
+          all_more rest.k (one.0 + rest.k) ds (omega arith) rest.seen,
+        );
       }
 
   -- ---- where the walk is right
@@ -258,7 +276,8 @@ module _ (tag : Tag) (mark : Object (List ℕ) → Digest) (frozen : Stand (List
     pub makes : MadeBetween job around u o.from j made
     pub holds : Each (D made) (held stands.0)
 
-  pub have_all : ((d : v.Desc (List ℕ)) → t.In d (pending_in same_text r0) → (x : Object (List ℕ)) × (finds d ≡ Some x)) → (ds : List s.Desc) → WaitOf job around u o.from ds → Each Have ds
+  pub have_all : ((d : v.Desc (List ℕ)) → t.In d (pending_in same_text r0) → (x : Object (List ℕ)) × (finds d ≡ Some x)) → (ds : List s.Desc)
+      → WaitOf job around u o.from ds → Each Have ds
   have_all found ds w = each_in Have ds (λ d i. one d i (found (R d) (stands_waits tag job around r0 u o.from ds d b.stands w i)))
     where
       one : (d : s.Desc) → t.In d ds → (y : Object (List ℕ)) × (finds (R d) ≡ Some y) → Have d
@@ -268,7 +287,8 @@ module _ (tag : Tag) (mark : Object (List ℕ) → Digest) (frozen : Stand (List
           subst Have (firsts_apart g.0 d (have_first g.0 g.1) (held_then kept) g.2) g.1
 
   -- at the order's wait all that is waited for is found there
-  pub first_have : (os : List (Object (List ℕ))) → AreFound tag job around u finds r0 os → (ds : List s.Desc) → WaitOf job around u o.from ds → Each Have ds
+  pub first_have : (os : List (Object (List ℕ))) → AreFound tag job around u finds r0 os → (ds : List s.Desc) → WaitOf job around u o.from ds
+      → Each Have ds
   first_have os found ds w = have_all (λ d i. found_each finds (pending_in same_text r0) os found d i) ds w
 
   pub begun : (os : List (Object (List ℕ))) → AreFound tag job around u finds r0 os → Right r0 o.from []
@@ -311,7 +331,8 @@ module _ (tag : Tag) (mark : Object (List ℕ) → Digest) (frozen : Stand (List
       let later : see_all (see job around m) ds ≡ Some rest.objects = all_to job around rest.k m ds rest.objects (omega arith) rest.seen in
       record { k = m; objects = one.1 ∷ rest.objects; seen = (λ i. joined (first i) (later i)); are = (λ i. one.3 i ∷ rest.are i) }
 
-  pub answered : (r : Stand (List ℕ)) (j : ℕ) (made : List s.Desc) (os : List (Object (List ℕ))) → Right r j made → AreFound tag job around u finds r os → Answered r j os
+  pub answered : (r : Stand (List ℕ)) (j : ℕ) (made : List s.Desc) (os : List (Object (List ℕ))) → Right r j made
+      → AreFound tag job around u finds r os → Answered r j os
   answered r j made os g found =
       let ds = g.has.0 in
       let here = g.passes j ds g.from (omega arith) g.has.1 in
@@ -347,7 +368,9 @@ module _ (tag : Tag) (mark : Object (List ℕ) → Digest) (frozen : Stand (List
     pub waited : Each (D (made ++ seg)) ds
     pub holds : Each (D (made ++ seg)) (held stands.0)
 
-  pub further : (r : Stand (List ℕ)) (j : ℕ) (made : List s.Desc) (os : List (Object (List ℕ))) (ms : List (v.Desc (List ℕ))) (q : Stand (List ℕ)) → Right r j made → AreFound tag job around u finds r os → Step tag job around u r os ms (waits q) → Further r j made q ms
+  pub further : (r : Stand (List ℕ)) (j : ℕ) (made : List s.Desc) (os : List (Object (List ℕ))) (ms : List (v.Desc (List ℕ)))
+      (q : Stand (List ℕ)) → Right r j made → AreFound tag job around u finds r os → Step tag job around u r os ms (waits q)
+      → Further r j made q ms
   further r j made os ms q g found st =
       let ans = answered r j made os g found in
       let to = st.steps j ans.k g.stands (ans.from_there ans.k (omega arith)) in
@@ -358,14 +381,16 @@ module _ (tag : Tag) (mark : Object (List ℕ) → Digest) (frozen : Stand (List
       let names = st.makes j k g.stands (ans.from_there k (omega arith)) in
       let wait_here : wait_at job around k u j ≡ Some g.has.0 = wait_to job around g.has.1.0 k u j g.has.0 (omega arith) g.has.1.1 in
       let wait_next : wait_at job around k u (suc j) ≡ Some to.1.0 = wait_to job around to.1.1.0 k u (suc j) to.1.0 (omega arith) to.1.1.1 in
-      let objects = list_there (see_all (see job around k) g.has.0) (all_there (see job around k) g.has.0 (all_more all.k k g.has.0 (omega arith) all.seen)) in
+      let objects = list_there (see_all (see job around k) g.has.0)
+      (all_there (see job around k) g.has.0 (all_more all.k k g.has.0 (omega arith) all.seen)) in
       let next = middle job around plain (D (made ++ seg)) k u j g.stands.0 g.has.0 objects.0 (record {
         stands = stands_to job around g.stands.1.0 k u j g.stands.0 (omega arith) g.stands.1.1;
         holds = each_in (D (made ++ seg)) (held g.stands.0) (λ d i. more_made made seg d (in_each (D made) (held g.stands.0) d g.holds i));
         waits = wait_here;
         waited = each_in (D (made ++ seg)) g.has.0 (λ d i. inl (have_first d (in_each Have g.has.0 d here i)));
         seen = objects.1;
-        reads = λ d i. each_in (D (made ++ seg)) (seen_refs (see job around k d)) (λ e c. inl (brought d k (in_each Have g.has.0 d here i) (in_to e (seen_refs (see job around k d)) c)));
+        reads = λ d i. each_in (D (made ++ seg)) (seen_refs (see job around k d))
+            (λ e c. inl (brought d k (in_each Have g.has.0 d here i) (in_to e (seen_refs (see job around k d)) c)));
         makes = each_in (D (made ++ seg)) seg (λ d i. inr (behind d made seg i));
       }) in
       let up_to : MadeBetween job around u o.from j made = g.makes in
@@ -381,14 +406,17 @@ module _ (tag : Tag) (mark : Object (List ℕ) → Digest) (frozen : Stand (List
         holds = next.holds to.0.0 (stands_to job around to.0.1.0 k u (suc j) to.0.0 (omega arith) to.0.1.1);
       }
     where
-      made_stays : (i j : ℕ) (made : List s.Desc) → i ≤ j → MadeBetween job around u i j made → (k : ℕ) → 0 ≤ k → (ds : List s.Desc) → wait_at job around k u j ≡ Some ds → made_between job around k u i j ≡ made
+      made_stays : (i j : ℕ) (made : List s.Desc) → i ≤ j → MadeBetween job around u i j made → (k : ℕ) → 0 ≤ k → (ds : List s.Desc)
+          → wait_at job around k u j ≡ Some ds → made_between job around k u i j ≡ made
       made_stays i j made le m k z ds w = made_once job around u i j made le m k ds w
 
   -- all that the next wait is for was brought along, or something that was made clashes
   abbrev pub Clashes : List s.Desc → Type 0
   Clashes made = Clashing J (real_inner job around) low (Met J (real_inner job around) low o) made
 
-  have_or_clash : (made : List s.Desc) (q : Stand (List ℕ)) (j : ℕ) (ds all : List s.Desc) (os : List (Object (List ℕ))) → Stands job around tag q u j → WaitOf job around u j all → ((d : s.Desc) → t.In d ds → t.In d all) → Each (D made) ds → AreFound tag job around u finds q os → Each Have ds ⊎ Clashes made
+  have_or_clash : (made : List s.Desc) (q : Stand (List ℕ)) (j : ℕ) (ds all : List s.Desc) (os : List (Object (List ℕ)))
+      → Stands job around tag q u j → WaitOf job around u j all → ((d : s.Desc) → t.In d ds → t.In d all) → Each (D made) ds
+      → AreFound tag job around u finds q os → Each Have ds ⊎ Clashes made
   have_or_clash made q j [] all os st w sub h found = inl tt
   have_or_clash made q j (d ∷ ds) all os st w sub h found =
       let x = found_each finds (pending_in same_text q) os found (R d) (stands_waits tag job around q u j all d st w (sub d (inl refl))) in
@@ -403,7 +431,9 @@ module _ (tag : Tag) (mark : Object (List ℕ) → Digest) (frozen : Stand (List
           inr (record { which = d; there = in_to d made i; other = e; is_met = first_met e (have_first e g); same = n; apart = other })
 
   -- so the walk is right at the next wait, or something that was made clashes
-  pub goes : (r : Stand (List ℕ)) (j : ℕ) (made : List s.Desc) (ms : List (v.Desc (List ℕ))) (q : Stand (List ℕ)) (os : List (Object (List ℕ))) → Right r j made → (f : Further r j made q ms) → AreFound tag job around u finds q os → Right q (suc j) (made ++ f.seg) ⊎ Clashes (made ++ f.seg)
+  pub goes : (r : Stand (List ℕ)) (j : ℕ) (made : List s.Desc) (ms : List (v.Desc (List ℕ))) (q : Stand (List ℕ)) (os : List (Object (List ℕ)))
+      → Right r j made → (f : Further r j made q ms) → AreFound tag job around u finds q os → Right q (suc j) (made ++ f.seg)
+      ⊎ Clashes (made ++ f.seg)
   goes r j made ms q os g f found =
       next (have_or_clash (made ++ f.seg) q (suc j) f.ds f.ds os f.stands f.waits (λ d i. i) f.waited found)
     where

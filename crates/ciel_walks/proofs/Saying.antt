@@ -3,7 +3,8 @@ use Rattle.sky_base.specs.Val as v
 use Rattle.sky_base.specs.Needed as n
 use Rattle.sky_base.specs.See as s
 use Rattle.sky_law.specs.Tasks as t
-use Rattle.std.proofs.Common.{◌≡◌, ◌≢◌, ℕ, zero, suc, ◌+◌, ◌-◌, ◌<◌, ◌≤◌, List, [], ◌∷◌, ◌++◌, append_assoc, map, length, Bool, true, false, Option, Some, None, is_some, slice_get, ◌⊎◌, inl, inr, refl, sym, ap, ◌∙◌, subst, arith}
+use Rattle.std.proofs.Common.{◌≡◌, ◌≢◌, ℕ, zero, suc, ◌+◌, ◌-◌, ◌<◌, ◌≤◌, List, [], ◌∷◌, ◌++◌, append_assoc, map, length, Bool, true, false, Option}
+use Rattle.std.proofs.Common.{Some, None, is_some, slice_get, ◌⊎◌, inl, inr, refl, sym, ap, ◌∙◌, subst, arith}
 use Rattle.std.specs.List.{IsDistinct}
 use Rattle.std.proofs.lemmas.List.{append-nil, map-append}
 use Rattle.sky_base.specs.Val.{call, out, input, known, distinct, same_text}
@@ -44,7 +45,8 @@ use Rattle.ciel_journal.specs.Known.{Inner}
 use Rattle.ciel_walks.specs.Laws.{Begins, CameTo, SaysAnd, WaitsAt, end_of, names_of, object_made, the, to_end, to_wait}
 use Rattle.ciel_walks.specs.Walk.{AreFound, PassedIn, StopsAt, Walk, last, more}
 use Rattle.ciel_walks.proofs.Right as right
-use Rattle.ciel_walks.proofs.Right.{Clashes, D, Further, Have, R, Right, answered, begun, equal_or, first_met, firsts_apart, further, goes, have_first, have_or, have_seen, haves_apart, held_of, low, nm, once, u}
+use Rattle.ciel_walks.proofs.Right.{Clashes, D, Further, Have, R, Right, answered, begun, equal_or, first_met, firsts_apart, further, goes}
+use Rattle.ciel_walks.proofs.Right.{have_first, have_or, have_seen, haves_apart, held_of, low, nm, once, u}
 use Rattle.ciel_walks.proofs.Telling.{clear_both, clear_met, not_clear, tells_all, tells_astray}
 use Rattle.sky_state.proofs.WaitLaw.{stands_wait_is}
 use Rattle.sky_moves.proofs.Standing.{held_at_is}
@@ -86,7 +88,9 @@ none_twice : (same : s.Desc → s.Desc → Bool) → IsDistinct same []
 unfolding IsDistinct
 none_twice same = tt
 
-module _ (tag : Tag) (mark : Object (List ℕ) → Digest) (frozen : Stand (List ℕ) → Digest) (job : s.Job) (around : s.Around) (plain : PlainReads around) (o : OpenStart s.Desc) (finds : v.Desc (List ℕ) → Option (Object (List ℕ))) (r0 : Stand (List ℕ)) (b : Begins tag mark frozen job around o finds r0) where
+module _ (tag : Tag) (mark : Object (List ℕ) → Digest) (frozen : Stand (List ℕ) → Digest) (job : s.Job) (around : s.Around)
+    (plain : PlainReads around) (o : OpenStart s.Desc) (finds : v.Desc (List ℕ) → Option (Object (List ℕ))) (r0 : Stand (List ℕ))
+    (b : Begins tag mark frozen job around o finds r0) where
   abbrev J : Job s.Desc
   J = the tag mark frozen job around
 
@@ -121,17 +125,24 @@ module _ (tag : Tag) (mark : Object (List ℕ) → Digest) (frozen : Stand (List
 
   wait_to_job : (j : ℕ) (ds : List s.Desc) → o.from < j → WaitOf job around w j ds → journal.WaitOf J o.task j ds
   wait_to_job zero ds lt x = absurd (omega (arith, lt))
-  wait_to_job (suc j) ds lt (k, e) = (k, wait_is job around (name no_name tag) (λ x. mark (low_obj no_name tag x)) (λ y. frozen (low_state tag y)) k o.task j ∙ e)
+  wait_to_job (suc j) ds lt (k, e) =
+      (k, wait_is job around (name no_name tag) (λ x. mark (low_obj no_name tag x)) (λ y. frozen (low_state tag y)) k o.task j ∙ e)
 
   wait_from_job : (j : ℕ) (ds : List s.Desc) → o.from < j → journal.WaitOf J o.task j ds → WaitOf job around w j ds
   wait_from_job zero ds lt x = absurd (omega (arith, lt))
-  wait_from_job (suc j) ds lt (k, e) = (k, sym (wait_is job around (name no_name tag) (λ x. mark (low_obj no_name tag x)) (λ y. frozen (low_state tag y)) k o.task j) ∙ e)
+  wait_from_job (suc j) ds lt (k, e) =
+      (k, sym (wait_is job around (name no_name tag) (λ x. mark (low_obj no_name tag x)) (λ y. frozen (low_state tag y)) k o.task j) ∙ e)
 
   made_to_wait : (j : ℕ) (ds : List s.Desc) → o.from < j → MadeBetween job around w o.from j ds → SpawnedTo J o j ds
   made_to_wait zero ds lt m = absurd (omega (arith, lt))
   made_to_wait (suc j) ds lt (k, (es, e), is) =
-      let there : slice_get (journal.waits_in (J.acts k o.task)) j ≡ Some es = wait_is job around (name no_name tag) (λ x. mark (low_obj no_name tag x)) (λ y. frozen (low_state tag y)) k o.task j ∙ e in
-      (k, long (journal.waits_in (J.acts k o.task)) j es there, sym (ap (journal.made_before (suc j - o.from)) (after_is o.from (t.acts_of job around k w)) ∙ (before_is (suc j - o.from) (t.after_wait o.from (t.acts_of job around k w)) ∙ is)))
+      let there : slice_get (journal.waits_in (J.acts k o.task)) j ≡ Some es =
+      wait_is job around (name no_name tag) (λ x. mark (low_obj no_name tag x)) (λ y. frozen (low_state tag y)) k o.task j ∙ e in (
+        k,
+        long (journal.waits_in (J.acts k o.task)) j es there,
+        sym (ap (journal.made_before (suc j - o.from)) (after_is o.from (t.acts_of job around k w))
+            ∙ (before_is (suc j - o.from) (t.after_wait o.from (t.acts_of job around k w)) ∙ is)),
+      )
 
   made_to_end : (k : ℕ) (ds : List s.Desc) → ended job around k w ≡ true → made_after job around k w o.from ≡ ds → SpawnedToEnd J o ds
   made_to_end k ds e is =
@@ -179,7 +190,8 @@ module _ (tag : Tag) (mark : Object (List ℕ) → Digest) (frozen : Stand (List
           at None z = h z
           at (Some x) z = some_not x (sym (see_to job around k m d x le z) ∙ q)
 
-      go : Have' e ⊎ (Have' e → ⊥) → (k : ℕ) × ((d : s.Desc) → t.In d ds → Have' d → see job around k d ≢ None) → (k : ℕ) × ((d : s.Desc) → t.In d (e ∷ ds) → Have' d → see job around k d ≢ None)
+      go : Have' e ⊎ (Have' e → ⊥) → (k : ℕ) × ((d : s.Desc) → t.In d ds → Have' d → see job around k d ≢ None) → (k : ℕ)
+          × ((d : s.Desc) → t.In d (e ∷ ds) → Have' d → see job around k d ≢ None)
       go (inr no_have) (k, f) = (k, both)
         where
           both : (d : s.Desc) → t.In d (e ∷ ds) → Have' d → see job around k d ≢ None
@@ -227,12 +239,15 @@ module _ (tag : Tag) (mark : Object (List ℕ) → Digest) (frozen : Stand (List
       before k ds le e = go (below_or_same k o.from le)
         where
           go : (k < o.from) ⊎ (k ≡ o.from) → AllSeen job around n0 ds
-          go (inl lt) = seen_before job around n0 w o.from b.stands.0 (stands_to job around b.stands.1.0 n0 w o.from b.stands.0 (omega arith) b.stands.1.1) k ds lt e
+          go (inl lt) = seen_before job around n0 w o.from b.stands.0
+              (stands_to job around b.stands.1.0 n0 w o.from b.stands.0 (omega arith) b.stands.1.1) k ds lt e
           go (inr is) =
-              each_in (λ d. see job around n0 d ≢ None) ds (λ d i. seen d (in_each Have' ds d (first ds (n0, ap (wait_at job around n0 w) (sym is) ∙ e)) i))
+              each_in (λ d. see job around n0 d ≢ None) ds
+              (λ d i. seen d (in_each Have' ds d (first ds (n0, ap (wait_at job around n0 w) (sym is) ∙ e)) i))
 
   -- what the journal says of it
-  passes_job : (i : ℕ) (es : List s.Desc) → o.from < i → journal.WaitOf J o.task i es → (WaitOf job around w i es → Each (λ d. picks d ≡ true) es) → journal.Each Have' es
+  passes_job : (i : ℕ) (es : List s.Desc) → o.from < i → journal.WaitOf J o.task i es
+      → (WaitOf job around w i es → Each (λ d. picks d ≡ true) es) → journal.Each Have' es
   passes_job i es lt x f =
       let all = f (wait_from_job i es lt x) in
       each_to Have' es (each_in Have' es (λ d k. have_picked d (in_each (λ d. picks d ≡ true) es d all k)))
@@ -252,7 +267,8 @@ module _ (tag : Tag) (mark : Object (List ℕ) → Digest) (frozen : Stand (List
 
   -- ---- nothing is told where something is missing
 
-  pub says_missing : ((ds : List s.Desc) → WaitOf job around w o.from ds → Each Have' ds) → (name : Digest) (loss : ℕ) → says [] (report.missing name loss)
+  pub says_missing : ((ds : List s.Desc) → WaitOf job around w o.from ds → Each Have' ds) → (name : Digest) (loss : ℕ)
+      → says [] (report.missing name loss)
   says_missing first name loss = go (next_is first)
     where
       go : Next' → says [] (report.missing name loss)
@@ -260,7 +276,8 @@ module _ (tag : Tag) (mark : Object (List ℕ) → Digest) (frozen : Stand (List
           at_end (made_after job around c.ends.0 w o.from) (end_job c) (made_to_end c.ends.0 _ c.ends.1 refl) refl (λ k. tt)
       go (inr (i, x)) =
           let k = x.waited.0 in
-          at_wait i x.waits (made_between job around k w o.from i) (wait_job i x) (made_to_wait i _ x.above (k, (x.waits, x.waited.1), refl)) refl (λ q. tt)
+          at_wait i x.waits (made_between job around k w o.from i) (wait_job i x) (made_to_wait i _ x.above (k, (x.waits, x.waited.1), refl))
+          refl (λ q. tt)
 
   -- ---- where something that was made clashes
 
@@ -274,7 +291,10 @@ module _ (tag : Tag) (mark : Object (List ℕ) → Digest) (frozen : Stand (List
   spawns_of ds bs (report.made objects copied) h x = x
   spawns_of ds bs (report.stopped j m refs holds) h x = x
 
-  pub says_astray : ((ds : List s.Desc) → WaitOf job around w o.from ds → Each Have' ds) → (j : ℕ) (front : List s.Desc) (rest : List (v.Desc (List ℕ))) (e : End) → o.from < j → MadeBetween job around w o.from j front → ((i : ℕ) (ds : List s.Desc) → o.from < i → i < j → WaitOf job around w i ds → Each Have' ds) → Clashes tag mark frozen job around plain o finds r0 b front → Told e → (Q : Type 0) → says_and (map L front ++ rest) e Q
+  pub says_astray : ((ds : List s.Desc) → WaitOf job around w o.from ds → Each Have' ds)
+      → (j : ℕ) (front : List s.Desc) (rest : List (v.Desc (List ℕ))) (e : End) → o.from < j → MadeBetween job around w o.from j front
+      → ((i : ℕ) (ds : List s.Desc) → o.from < i → i < j → WaitOf job around w i ds → Each Have' ds)
+      → Clashes tag mark frozen job around plain o finds r0 b front → Told e → (Q : Type 0) → says_and (map L front ++ rest) e Q
   says_astray first j front rest e lt m passed c told Q = go (next_is first)
     where
       same : (k : ℕ) (ds : List s.Desc) → wait_at job around k w j ≡ Some ds → made_between job around k w o.from j ≡ front
@@ -286,8 +306,11 @@ module _ (tag : Tag) (mark : Object (List ℕ) → Digest) (frozen : Stand (List
           let wait : wait_at job around k w j ≡ Some m.1.0 = wait_to job around m.0 k w j m.1.0 (omega arith) m.1.1 in
           let over : ended job around k w ≡ true = (ended_stays_to job around x.ends.0 k w (omega arith) x.ends.1).0 in
           let tail = made_after job around k w j in
-          let full : made_after job around k w o.from ≡ front ++ tail = after_between job around k w o.from j (omega (arith, lt)) ∙ ap (λ xs. xs ++ tail) (same k m.1.0 wait) in
-          to_end (front ++ tail) (end_job x) (made_to_end k (front ++ tail) over full) (spawns_of (front ++ tail) (map L front ++ rest) e told (tells_astray J inner L Met' front tail rest c)) (λ q. absurd (not_clear J inner L Met' front tail c q))
+          let full : made_after job around k w o.from ≡ front ++ tail = after_between job around k w o.from j (omega (arith, lt))
+          ∙ ap (λ xs. xs ++ tail) (same k m.1.0 wait) in
+          to_end (front ++ tail) (end_job x) (made_to_end k (front ++ tail) over full)
+          (spawns_of (front ++ tail) (map L front ++ rest) e told (tells_astray J inner L Met' front tail rest c))
+          (λ q. absurd (not_clear J inner L Met' front tail c q))
       go (inr (i, x)) = at_next (not_before i x)
         where
           -- it isn't before the wait up to which all was brought along
@@ -305,8 +328,11 @@ module _ (tag : Tag) (mark : Object (List ℕ) → Digest) (frozen : Stand (List
               let wait : wait_at job around k w j ≡ Some m.1.0 = wait_to job around m.0 k w j m.1.0 (omega arith) m.1.1 in
               let there : wait_at job around k w i ≡ Some x.waits = wait_to job around x.waited.0 k w i x.waits (omega arith) x.waited.1 in
               let tail = made_between job around k w j i in
-              let full : made_between job around k w o.from i ≡ front ++ tail = between_two job around k w o.from j i (omega (arith, lt)) le ∙ ap (λ xs. xs ++ tail) (same k m.1.0 wait) in
-              to_wait i x.waits (front ++ tail) (wait_job i x) (made_to_wait i (front ++ tail) x.above (k, (x.waits, there), full)) (spawns_of (front ++ tail) (map L front ++ rest) e told (tells_astray J inner L Met' front tail rest c)) (λ q. absurd (not_clear J inner L Met' front tail c q))
+              let full : made_between job around k w o.from i ≡ front ++ tail = between_two job around k w o.from j i (omega (arith, lt)) le
+              ∙ ap (λ xs. xs ++ tail) (same k m.1.0 wait) in
+              to_wait i x.waits (front ++ tail) (wait_job i x) (made_to_wait i (front ++ tail) x.above (k, (x.waits, there), full))
+              (spawns_of (front ++ tail) (map L front ++ rest) e told (tells_astray J inner L Met' front tail rest c))
+              (λ q. absurd (not_clear J inner L Met' front tail c q))
 
   -- ---- where nothing clashes
 
@@ -319,7 +345,8 @@ module _ (tag : Tag) (mark : Object (List ℕ) → Digest) (frozen : Stand (List
       mark_of j d k m = m
 
       seen_mark : (k : ℕ) (y : s.Obj) → see job around k d ≡ Some y → x ≡ low_obj no_name tag y → J.object k d ≡ Some (mark x)
-      seen_mark k y e is = ap (mark_if job around (name no_name tag) (λ z. mark (low_obj no_name tag z)) (λ z. frozen (low_state tag z))) e ∙ ap (λ z. Some (mark z)) (sym is)
+      seen_mark k y e is = ap (mark_if job around (name no_name tag) (λ z. mark (low_obj no_name tag z)) (λ z. frozen (low_state tag z))) e
+          ∙ ap (λ z. Some (mark z)) (sym is)
 
   -- of a task that has states
   HasStates : n.Task → Type 0
@@ -327,10 +354,18 @@ module _ (tag : Tag) (mark : Object (List ℕ) → Digest) (frozen : Stand (List
   HasStates (n.Task.of (call f c vs)) = Unit {0}
   HasStates (n.Task.of d) = ⊥
 
-  made_end : (task : Task s.Desc) (j : ℕ) (a : n.State) (x : Object (List ℕ)) → StandsAt job around (back task) j a → task ≡ o.task → EndsAs tag job around (back task) x → MadeIs J inner L o (report.made (object_made tag mark frozen job around task x) [])
+  made_end : (task : Task s.Desc) (j : ℕ) (a : n.State) (x : Object (List ℕ)) → StandsAt job around (back task) j a → task ≡ o.task
+      → EndsAs tag job around (back task) x → MadeIs J inner L o (report.made (object_made tag mark frozen job around task x) [])
   made_end show j a x st is e = absurd e
-  made_end (of (call f c vs)) j a x st is e =
-      (((call f c vs, mark x) ∷ []), [], subst (λ z. Marked J (J.outputs z) ((call f c vs, mark x) ∷ [])) is (marked_call (call f c vs) x e), tt, none_twice J.same, refl, refl)
+  made_end (of (call f c vs)) j a x st is e = (
+    ((call f c vs, mark x) ∷ []),
+    [],
+    subst (λ z. Marked J (J.outputs z) ((call f c vs, mark x) ∷ [])) is (marked_call (call f c vs) x e),
+    tt,
+    none_twice J.same,
+    refl,
+    refl,
+  )
   made_end (of (out y z m i)) j a x st is e = absurd (none_some a st.1)
   made_end (of (input y)) j a x st is e = absurd (none_some a st.1)
   made_end (of (known z)) j a x st is e = absurd z
@@ -366,7 +401,9 @@ module _ (tag : Tag) (mark : Object (List ℕ) → Digest) (frozen : Stand (List
       go None e = e
       go (Some ds) e = absurd (h (suc j) ds (omega arith) (k, e))
 
-  ends_at : (r : Stand (List ℕ)) (j : ℕ) (xs : List s.Desc) (os : List (Object (List ℕ))) (ms : List (v.Desc (List ℕ))) (e : Stop) → Right' r j xs → AreFound tag job around w finds r os → Step tag job around w r os ms e → t.Ends job around w → WaitsNoMore tag job around w j → AtEnd j xs ms
+  ends_at : (r : Stand (List ℕ)) (j : ℕ) (xs : List s.Desc) (os : List (Object (List ℕ))) (ms : List (v.Desc (List ℕ))) (e : Stop)
+      → Right' r j xs → AreFound tag job around w finds r os → Step tag job around w r os ms e → t.Ends job around w
+      → WaitsNoMore tag job around w j → AtEnd j xs ms
   ends_at r j xs os ms e g found st ends none =
       let ans = answered tag mark frozen job around plain o finds r0 b r j xs os g found in
       let k = ans.k + (ends.0 + (g.has.1.0 + g.makes.0)) in
@@ -374,7 +411,8 @@ module _ (tag : Tag) (mark : Object (List ℕ) → Digest) (frozen : Stand (List
       let wait : wait_at job around k w j ≡ Some g.has.0 = wait_to job around g.has.1.0 k w j g.has.0 (omega arith) g.has.1.1 in
       let seg = made_between job around k w j (suc j) in
       let front : made_between job around k w o.from j ≡ xs = right.made_once job around w o.from j xs g.from g.makes k g.has.0 wait in
-      let rest : made_after job around k w j ≡ seg = after_between job around k w j (suc j) (omega arith) ∙ ap (λ ds. seg ++ ds) (after_last job around k w j (no_wait j k none)) ∙ append-nil seg in
+      let rest : made_after job around k w j ≡ seg = after_between job around k w j (suc j) (omega arith)
+      ∙ ap (λ ds. seg ++ ds) (after_last job around k w j (no_wait j k none)) ∙ append-nil seg in
       record {
         seg = seg;
         names = st.makes j k g.stands (ans.from_there k (omega arith));
@@ -390,23 +428,29 @@ module _ (tag : Tag) (mark : Object (List ℕ) → Digest) (frozen : Stand (List
   module _ (xs : List s.Desc) (clear : Clear J inner L Met' xs) where
     d_apart : (d e : s.Desc) → D' xs d → D' xs e → name no_name tag d ≡ name no_name tag e → d ≡ e
     d_apart d e (inl f) (inl g) q = firsts_apart tag mark frozen job around plain o finds r0 b d e f g q
-    d_apart d e (inl f) (inr i) q = clear_met J inner L equal_or Met' xs clear e d (in_to e xs i) (first_met tag mark frozen job around plain o finds r0 b d f) q
-    d_apart d e (inr i) (inl g) q = sym (clear_met J inner L equal_or Met' xs clear d e (in_to d xs i) (first_met tag mark frozen job around plain o finds r0 b e g) (sym q))
+    d_apart d e (inl f) (inr i) q = clear_met J inner L equal_or Met' xs clear e d (in_to e xs i)
+        (first_met tag mark frozen job around plain o finds r0 b d f) q
+    d_apart d e (inr i) (inl g) q =
+        sym (clear_met J inner L equal_or Met' xs clear d e (in_to d xs i) (first_met tag mark frozen job around plain o finds r0 b e g) (sym q))
     d_apart d e (inr i) (inr k) q = clear_both J inner L equal_or Met' xs clear d e (in_to d xs i) (in_to e xs k) q
 
     all_apart : (ds : List s.Desc) → Each (D' xs) ds → NoClash tag ds
     all_apart ds h d e i k q = d_apart d e (in_each (D' xs) ds d h i) (in_each (D' xs) ds e h k) q
 
-    stopped_is : (q : Stand (List ℕ)) (j : ℕ) (ds : List s.Desc) (st : Stands job around tag q w j) → WaitOf job around w j ds → Each (D' xs) ds → Each (D' xs) (held st.0) → StoppedIs J inner L o j ds (end_of tag mark frozen job around o.task (Stop.waits q))
+    stopped_is : (q : Stand (List ℕ)) (j : ℕ) (ds : List s.Desc) (st : Stands job around tag q w j) → WaitOf job around w j ds → Each (D' xs) ds
+        → Each (D' xs) (held st.0) → StoppedIs J inner L o j ds (end_of tag mark frozen job around o.task (Stop.waits q))
     stopped_is q j ds st wt waited kept = (
       stands_wait_is job around tag q w j st,
       (
         record { names = held st.0; mark = frozen (low_state tag st.0) },
         (st.1.0, right.at_is tag mark frozen job around plain o finds r0 b w st.1.0 j st.0 st.1.1),
         ap frozen st.2,
-        ap names_of (stands_holds tag job around q w j (held st.0) st (held_at_is job around w j st.0 st.1) (all_apart (held st.0) kept)) ∙ names_held tag (held st.0) ∙ sym (names_low J (held st.0)),
+        ap names_of (stands_holds tag job around q w j (held st.0) st (held_at_is job around w j st.0 st.1) (all_apart (held st.0) kept))
+            ∙ names_held tag (held st.0) ∙ sym (names_low J (held st.0)),
       ),
-      ap names_of (stands_pending tag job around q w j ds st wt (all_apart ds waited) ∙ ap (map (λ d. low_ref no_name tag d)) (apart_refs ds (waits_apart job around wt.0 w j ds wt.1))) ∙ names_held tag ds ∙ sym (names_low J ds),
+      ap names_of (stands_pending tag job around q w j ds st wt (all_apart ds waited)
+          ∙ ap (map (λ d. low_ref no_name tag d)) (apart_refs ds (waits_apart job around wt.0 w j ds wt.1))) ∙ names_held tag ds
+          ∙ sym (names_low J ds),
     )
 
   all_told : (xs seg : List s.Desc) (ms : List (v.Desc (List ℕ))) → ms ≡ map L seg → Tells J inner L Met' (xs ++ seg) (map L xs ++ ms)
@@ -425,19 +469,24 @@ module _ (tag : Tag) (mark : Object (List ℕ) → Digest) (frozen : Stand (List
   Passed r ms e walk = (q : Stand (List ℕ)) → PassedIn tag job around w finds r ms e walk q → WaitsAt tag mark frozen job around o q
 
   -- the last step
-  last_says : (r : Stand (List ℕ)) (j : ℕ) (xs : List s.Desc) (os : List (Object (List ℕ))) (ms : List (v.Desc (List ℕ))) (e : Stop) → Right' r j xs → AreFound tag job around w finds r os → Step tag job around w r os ms e → StopsAt tag job around w finds e → says_and (map L xs ++ ms) (end_of tag mark frozen job around o.task e) (Came e)
+  last_says : (r : Stand (List ℕ)) (j : ℕ) (xs : List s.Desc) (os : List (Object (List ℕ))) (ms : List (v.Desc (List ℕ))) (e : Stop)
+      → Right' r j xs → AreFound tag job around w finds r os → Step tag job around w r os ms e → StopsAt tag job around w finds e
+      → says_and (map L xs ++ ms) (end_of tag mark frozen job around o.task e) (Came e)
   last_says r j xs os ms (Stop.ended x) g found st stop =
-      let to = st.steps j (answered tag mark frozen job around plain o finds r0 b r j xs os g found).k g.stands ((answered tag mark frozen job around plain o finds r0 b r j xs os g found).from_there _ (omega arith)) in
+      let to = st.steps j (answered tag mark frozen job around plain o finds r0 b r j xs os g found).k g.stands
+      ((answered tag mark frozen job around plain o finds r0 b r j xs os g found).from_there _ (omega arith)) in
       let z = ends_at r j xs os ms (Stop.ended x) g found st (ends_of w x to.0) to.1 in
       to_end (xs ++ z.seg) z.next z.spawns (all_told xs z.seg ms z.names) (λ k. (made_end o.task j g.stands.0 x g.stands.1 refl to.0, to.0))
   last_says r j xs os ms (Stop.shown a) g found st stop =
-      let to = st.steps j (answered tag mark frozen job around plain o finds r0 b r j xs os g found).k g.stands ((answered tag mark frozen job around plain o finds r0 b r j xs os g found).from_there _ (omega arith)) in
+      let to = st.steps j (answered tag mark frozen job around plain o finds r0 b r j xs os g found).k g.stands
+      ((answered tag mark frozen job around plain o finds r0 b r j xs os g found).from_there _ (omega arith)) in
       let z = ends_at r j xs os ms (Stop.shown a) g found st (shows_of w a to.0) to.1 in
       to_end (xs ++ z.seg) z.next z.spawns (all_told xs z.seg ms z.names) (λ k. (shown_end o.task a refl to.0, to.0))
   last_says r j xs os ms (Stop.waits q) g found st lacks =
       let f = further tag mark frozen job around plain o finds r0 b r j xs os ms q g found st in
       let lt : o.from < suc j = omega (arith, g.from) in
-      to_wait (suc j) f.ds (xs ++ f.seg) (next f lt) (made_to_wait (suc j) (xs ++ f.seg) lt f.makes) (all_told xs f.seg ms f.names) (λ k. (stopped_is (xs ++ f.seg) k q (suc j) f.ds f.stands f.waits f.waited f.holds, stands_there f.stands))
+      to_wait (suc j) f.ds (xs ++ f.seg) (next f lt) (made_to_wait (suc j) (xs ++ f.seg) lt f.makes) (all_told xs f.seg ms f.names)
+      (λ k. (stopped_is (xs ++ f.seg) k q (suc j) f.ds f.stands f.waits f.waited f.holds, stands_there f.stands))
     where
       -- its number tells at which wait it stands
       stands_there : Stands job around tag q w (suc j) → Stands job around tag q w (stand_wait q)
@@ -447,15 +496,18 @@ module _ (tag : Tag) (mark : Object (List ℕ) → Digest) (frozen : Stand (List
       all_or [] = inl tt
       all_or (d ∷ ds) = one (have_or tag mark frozen job around plain o finds r0 b d) (all_or ds)
         where
-          one : Have' d ⊎ (Have' d → ⊥) → Each Have' ds ⊎ ((e : s.Desc) × t.In e ds × (Have' e → ⊥)) → Each Have' (d ∷ ds) ⊎ ((e : s.Desc) × t.In e (d ∷ ds) × (Have' e → ⊥))
+          one : Have' d ⊎ (Have' d → ⊥) → Each Have' ds ⊎ ((e : s.Desc) × t.In e ds × (Have' e → ⊥)) → Each Have' (d ∷ ds)
+              ⊎ ((e : s.Desc) × t.In e (d ∷ ds) × (Have' e → ⊥))
           one (inl h) (inl rest) = inl (h, rest)
           one (inl h) (inr x) = inr (x.0, inr x.1, x.2)
           one (inr no_have) rest = inr (d, inl refl, no_have)
 
-      unmet : (f : Further tag mark frozen job around plain o finds r0 b r j xs q ms) → Each Have' f.ds ⊎ ((d : s.Desc) × t.In d f.ds × (Have' d → ⊥)) → (d : s.Desc) × In d f.ds × (Have' d → ⊥)
+      unmet : (f : Further tag mark frozen job around plain o finds r0 b r j xs q ms) → Each Have' f.ds
+          ⊎ ((d : s.Desc) × t.In d f.ds × (Have' d → ⊥)) → (d : s.Desc) × In d f.ds × (Have' d → ⊥)
       unmet f (inr x) = (x.0, in_to x.0 f.ds x.1, x.2)
       unmet f (inl all) =
-          let pending = stands_pending tag job around q w (suc j) f.ds f.stands f.waits (haves_apart tag mark frozen job around plain o finds r0 b f.ds all) in
+          let pending = stands_pending tag job around q w (suc j) f.ds f.stands f.waits
+          (haves_apart tag mark frozen job around plain o finds r0 b f.ds all) in
           let back_to = right.from_map (λ d. low_ref no_name tag d) (distinct (λ a c. true) f.ds) lacks.0 (subst (t.In lacks.0) pending lacks.1) in
           let there = distinct_in (λ a c. true) (λ a c z. absurd a) (λ a. absurd a) f.ds back_to.0 back_to.1 in
           let have = in_each Have' f.ds back_to.0 all there in
@@ -472,7 +524,8 @@ module _ (tag : Tag) (mark : Object (List ℕ) → Digest) (frozen : Stand (List
 
   -- ---- the whole walk
 
-  first_of : (r : Stand (List ℕ)) (ms : List (v.Desc (List ℕ))) (e : Stop) → Walk tag job around w finds r ms e → (os : List (Object (List ℕ))) × AreFound tag job around w finds r os
+  first_of : (r : Stand (List ℕ)) (ms : List (v.Desc (List ℕ))) (e : Stop) → Walk tag job around w finds r ms e → (os : List (Object (List ℕ)))
+      × AreFound tag job around w finds r os
   first_of r ms e (last t os ns x found st stop) = (os, found)
   first_of r ms e (more t q os ns rest x found st walk) = (os, found)
 
@@ -481,17 +534,23 @@ module _ (tag : Tag) (mark : Object (List ℕ) → Digest) (frozen : Stand (List
   told_end (Stop.shown a) = tt
   told_end (Stop.waits q) = tt
 
-  walk_says : ((ds : List s.Desc) → WaitOf job around w o.from ds → Each Have' ds) → (r : Stand (List ℕ)) (j : ℕ) (xs : List s.Desc) (ms : List (v.Desc (List ℕ))) (e : Stop) → Right' r j xs → (walk : Walk tag job around w finds r ms e) → says_and (map L xs ++ ms) (end_of tag mark frozen job around o.task e) (Came e × Passed r ms e walk)
+  walk_says : ((ds : List s.Desc) → WaitOf job around w o.from ds → Each Have' ds)
+      → (r : Stand (List ℕ)) (j : ℕ) (xs : List s.Desc) (ms : List (v.Desc (List ℕ))) (e : Stop) → Right' r j xs
+      → (walk : Walk tag job around w finds r ms e)
+      → says_and (map L xs ++ ms) (end_of tag mark frozen job around o.task e) (Came e × Passed r ms e walk)
   walk_says first r j xs ms e g (last t os ns x found st stop) =
-      says_more J inner L o _ (Came x) (Came x × Passed t ns x (last t os ns x found st stop)) (λ c. (c, λ q p. subst (WaitsAt tag mark frozen job around o) (sym p) (waits_at t j xs g))) (last_says t j xs os ns x g found st stop)
+      says_more J inner L o _ (Came x) (Came x × Passed t ns x (last t os ns x found st stop))
+      (λ c. (c, λ q p. subst (WaitsAt tag mark frozen job around o) (sym p) (waits_at t j xs g))) (last_says t j xs os ns x g found st stop)
   walk_says first r j xs ms e g (more t q os ns rest x found st walk) =
       let f = further tag mark frozen job around plain o finds r0 b t j xs os ns q g found st in
       let next = first_of q rest x walk in
-      on f (goes tag mark frozen job around plain o finds r0 b t j xs ns q next.0 g f next.1) (λ h. walk_says first q (suc j) (xs ++ f.seg) rest x h walk)
+      on f (goes tag mark frozen job around plain o finds r0 b t j xs ns q next.0 g f next.1)
+      (λ h. walk_says first q (suc j) (xs ++ f.seg) rest x h walk)
     where
       joined : (f : Further tag mark frozen job around plain o finds r0 b t j xs q ns) → map L xs ++ (ns ++ rest) ≡ map L (xs ++ f.seg) ++ rest
       joined f =
-          ap (λ ys. map L xs ++ (ys ++ rest)) f.names ∙ sym (append_assoc (map L xs) (map L f.seg) rest) ∙ ap (λ ys. ys ++ rest) (sym (map-append L xs f.seg))
+          ap (λ ys. map L xs ++ (ys ++ rest)) f.names ∙ sym (append_assoc (map L xs) (map L f.seg) rest)
+          ∙ ap (λ ys. ys ++ rest) (sym (map-append L xs f.seg))
 
       Whole : Type 0
       Whole = Came x × Passed t (ns ++ rest) x (more t q os ns rest x found st walk)
@@ -503,18 +562,27 @@ module _ (tag : Tag) (mark : Object (List ℕ) → Digest) (frozen : Stand (List
           all y (inl h) = subst (WaitsAt tag mark frozen job around o) (sym h) (waits_at t j xs g)
           all y (inr h) = p y h
 
-      on : (f : Further tag mark frozen job around plain o finds r0 b t j xs q ns) → Right' q (suc j) (xs ++ f.seg) ⊎ Clashes tag mark frozen job around plain o finds r0 b (xs ++ f.seg) → (Right' q (suc j) (xs ++ f.seg) → says_and (map L (xs ++ f.seg) ++ rest) (end_of tag mark frozen job around o.task x) (Came x × Passed q rest x walk)) → says_and (map L xs ++ (ns ++ rest)) (end_of tag mark frozen job around o.task x) Whole
-      on f (inl h) go = subst (λ bs. says_and bs (end_of tag mark frozen job around o.task x) Whole) (sym (joined f)) (says_more J inner L o _ (Came x × Passed q rest x walk) Whole both (go h))
+      on : (f : Further tag mark frozen job around plain o finds r0 b t j xs q ns) → Right' q (suc j) (xs ++ f.seg)
+          ⊎ Clashes tag mark frozen job around plain o finds r0 b (xs ++ f.seg)
+          → (Right' q (suc j) (xs ++ f.seg) → says_and (map L (xs ++ f.seg) ++ rest) (end_of tag mark frozen job around o.task x)
+          (Came x × Passed q rest x walk)) → says_and (map L xs ++ (ns ++ rest)) (end_of tag mark frozen job around o.task x) Whole
+      on f (inl h) go = subst (λ bs. says_and bs (end_of tag mark frozen job around o.task x) Whole) (sym (joined f))
+          (says_more J inner L o _ (Came x × Passed q rest x walk) Whole both (go h))
       on f (inr c) go =
-          subst (λ bs. says_and bs (end_of tag mark frozen job around o.task x) Whole) (sym (joined f)) (says_astray first (suc j) (xs ++ f.seg) rest (end_of tag mark frozen job around o.task x) (omega (arith, g.from)) f.makes (λ i ds up under wt. g.passes i ds (omega (arith, up)) (omega (arith, under)) wt) c (told_end x) Whole)
+          subst (λ bs. says_and bs (end_of tag mark frozen job around o.task x) Whole) (sym (joined f))
+          (says_astray first (suc j) (xs ++ f.seg) rest (end_of tag mark frozen job around o.task x) (omega (arith, g.from)) f.makes
+          (λ i ds up under wt. g.passes i ds (omega (arith, up)) (omega (arith, under)) wt) c (told_end x) Whole)
 
-  pub walks_true : (ms : List (v.Desc (List ℕ))) (e : Stop) → (walk : Walk tag job around w finds r0 ms e) → says_and ms (end_of tag mark frozen job around o.task e) (Came e × Passed r0 ms e walk)
+  pub walks_true : (ms : List (v.Desc (List ℕ))) (e : Stop) → (walk : Walk tag job around w finds r0 ms e)
+      → says_and ms (end_of tag mark frozen job around o.task e) (Came e × Passed r0 ms e walk)
   walks_true ms e walk =
       let f = first_of r0 ms e walk in
-      walk_says (right.first_have tag mark frozen job around plain o finds r0 b f.0 f.1) r0 o.from [] ms e (begun tag mark frozen job around plain o finds r0 b f.0 f.1) walk
+      walk_says (right.first_have tag mark frozen job around plain o finds r0 b f.0 f.1) r0 o.from [] ms e
+      (begun tag mark frozen job around plain o finds r0 b f.0 f.1) walk
 
   pub walks : (ms : List (v.Desc (List ℕ))) (e : Stop) → Walk tag job around w finds r0 ms e → says ms (end_of tag mark frozen job around o.task e)
   walks ms e walk = only_says J inner L o _ _ (walks_true ms e walk)
 
-  pub missing_one : ((d : v.Desc (List ℕ)) → t.In d (pending_in same_text r0) → (x : Object (List ℕ)) × (finds d ≡ Some x)) → (name : Digest) (loss : ℕ) → says [] (report.missing name loss)
+  pub missing_one : ((d : v.Desc (List ℕ)) → t.In d (pending_in same_text r0) → (x : Object (List ℕ)) × (finds d ≡ Some x))
+      → (name : Digest) (loss : ℕ) → says [] (report.missing name loss)
   missing_one found name loss = says_missing (right.have_all tag mark frozen job around plain o finds r0 b found) name loss

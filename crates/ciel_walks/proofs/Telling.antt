@@ -29,16 +29,22 @@ module _ {D B : Type 0} (job : Job D) (inner : Inner D) (lower : D → B) where
       record { which = c.which; there = i; other = c.other; is_met = inr c.is_met; same = c.same; apart = c.apart }
 
   -- where nothing clashes at the first, it is behind it
-  at_or_behind : {P : Type 0} (met : D → Type 0) (d : D) (ds : List D) → (Clashing (Or job inner lower met d) ds → P) → (Clash met d → ⊥) → (c : Clashing met (d ∷ ds)) → In c.which (d ∷ ds) → P
+  at_or_behind : {P : Type 0} (met : D → Type 0) (d : D) (ds : List D) → (Clashing (Or job inner lower met d) ds → P) → (Clash met d → ⊥)
+      → (c : Clashing met (d ∷ ds)) → In c.which (d ∷ ds) → P
   at_or_behind met d ds f none c (inl e) =
       absurd (none (clash_here met d c.other c.is_met (c.same ∙ ap job.name e) (λ q. c.apart (q ∙ sym e))))
   at_or_behind met d ds f none c (inr i) = f (further met d ds c i)
 
   -- then it has them up to the clash, whatever comes behind them
-  pub tells_astray : (met : D → Type 0) (front tail : List D) (rest : List B) → Clashing met front → Tells job inner lower met (front ++ tail) (map lower front ++ rest)
+  pub tells_astray : (met : D → Type 0) (front tail : List D) (rest : List B) → Clashing met front
+      → Tells job inner lower met (front ++ tail) (map lower front ++ rest)
   tells_astray met [] tail rest c = absurd c.there
-  tells_astray met (d ∷ front) tail rest c =
-      (map lower front ++ rest, refl, λ none. at_or_behind met d front (λ f. tells_astray (Or job inner lower met d) front tail rest f) none c c.there)
+  tells_astray met (d ∷ front) tail rest c = (
+    map lower front ++ rest,
+    refl,
+    λ none. at_or_behind met d front (λ f. tells_astray (Or job inner lower met d) front tail rest f) none c
+        c.there,
+  )
 
   -- and it isn't clear
   pub not_clear : (met : D → Type 0) (front tail : List D) → Clashing met front → Clear job inner lower met (front ++ tail) → ⊥

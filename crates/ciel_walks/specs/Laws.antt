@@ -29,8 +29,11 @@ names_of ds = map held_name ds
 -- the report says what the job does, and where nothing that is made clashes, this holds too
 module _ {D B : Type 0} (job : Job D) (inner : Inner D) (lower : D → B) (o : OpenStart D) (r : Report B) (Q : Type 0) where
   pub data SaysAnd : Type 0 where
-    to_end : (ds : List D) → NextEnd job (Given job o) o.task o.from → SpawnedToEnd job o ds → Spawns job inner lower o ds r.spawned r.end → (Clear job inner lower (Met job inner lower o) ds → MadeIs job inner lower o r.end × Q) → SaysAnd
-    to_wait : (i : ℕ) (refs ds : List D) → NextWait job (Given job o) o.task o.from i refs → SpawnedTo job o i ds → Spawns job inner lower o ds r.spawned r.end → (Clear job inner lower (Met job inner lower o) ds → StoppedIs job inner lower o i refs r.end × Q) → SaysAnd
+    to_end : (ds : List D) → NextEnd job (Given job o) o.task o.from → SpawnedToEnd job o ds → Spawns job inner lower o ds r.spawned r.end
+        → (Clear job inner lower (Met job inner lower o) ds → MadeIs job inner lower o r.end × Q) → SaysAnd
+    to_wait : (i : ℕ) (refs ds : List D) → NextWait job (Given job o) o.task o.from i refs → SpawnedTo job o i ds
+        → Spawns job inner lower o ds r.spawned r.end
+        → (Clear job inner lower (Met job inner lower o) ds → StoppedIs job inner lower o i refs r.end × Q) → SaysAnd
 
 -- marks are of objects and states by names
 module _ (tag : Tag) (mark : Object (List ℕ) → Digest) (frozen : Stand (List ℕ) → Digest) (job : s.Job) (around : s.Around) where
@@ -74,7 +77,8 @@ module _ (tag : Tag) (mark : Object (List ℕ) → Digest) (frozen : Stand (List
       -- and nothing else
       pub record Brings : Type 0 where
         pub given : (d : s.Desc) → Given the o d → (x : Object (List ℕ)) × SeenAs tag job around d x × (finds (low_ref no_name tag d) ≡ Some x)
-        pub only : (d : s.Desc) (x : Object (List ℕ)) → finds (low_ref no_name tag d) ≡ Some x → (e : s.Desc) × Given the o e × (name no_name tag e ≡ name no_name tag d)
+        pub only : (d : s.Desc) (x : Object (List ℕ)) → finds (low_ref no_name tag d) ≡ Some x → (e : s.Desc) × Given the o e
+            × (name no_name tag e ≡ name no_name tag d)
 
       -- a run of the order may begin from this state: it is the task's at the order's wait, and no two descriptions that are held or
       -- brought along there share a name
@@ -90,7 +94,8 @@ WalksSay =
     (tag : Tag) (mark : Object (List ℕ) → Digest) (frozen : Stand (List ℕ) → Digest) (job : s.Job) (around : s.Around) → PlainReads around
     → (o : OpenStart s.Desc) (finds : v.Desc (List ℕ) → Option (Object (List ℕ))) (r : Stand (List ℕ)) (ms : List (v.Desc (List ℕ))) (e : Stop)
     → Begins tag mark frozen job around o finds r → Walk tag job around (back o.task) finds r ms e
-    → Says (the tag mark frozen job around) (real_inner job around) (lower tag mark frozen job around) o (record { number = o.number; spawned = ms; end = end_of tag mark frozen job around o.task e })
+    → Says (the tag mark frozen job around) (real_inner job around) (lower tag mark frozen job around) o
+    (record { number = o.number; spawned = ms; end = end_of tag mark frozen job around o.task e })
 
 -- and besides: where nothing that is made clashes, the task truly came to where the walk stopped, and each state from which it went on was
 -- the task's at a wait
@@ -99,8 +104,10 @@ WalksAreTrue =
     (tag : Tag) (mark : Object (List ℕ) → Digest) (frozen : Stand (List ℕ) → Digest) (job : s.Job) (around : s.Around) → PlainReads around
     → (o : OpenStart s.Desc) (finds : v.Desc (List ℕ) → Option (Object (List ℕ))) (r : Stand (List ℕ)) (ms : List (v.Desc (List ℕ))) (e : Stop)
     → Begins tag mark frozen job around o finds r → (walk : Walk tag job around (back o.task) finds r ms e)
-    → SaysAnd (the tag mark frozen job around) (real_inner job around) (lower tag mark frozen job around) o (record { number = o.number; spawned = ms; end = end_of tag mark frozen job around o.task e })
-    (CameTo tag mark frozen job around o.task e × ((q : Stand (List ℕ)) → PassedIn tag job around (back o.task) finds r ms e walk q → WaitsAt tag mark frozen job around o q))
+    → SaysAnd (the tag mark frozen job around) (real_inner job around) (lower tag mark frozen job around) o
+    (record { number = o.number; spawned = ms; end = end_of tag mark frozen job around o.task e })
+    (CameTo tag mark frozen job around o.task e
+    × ((q : Stand (List ℕ)) → PassedIn tag job around (back o.task) finds r ms e walk q → WaitsAt tag mark frozen job around o q))
 
 -- and where something is missing of what was brought along, all that is waited for at the order's wait, nothing is told of what was made
 abbrev pub MissingSays : Type 0
@@ -109,4 +116,5 @@ MissingSays =
     → (o : OpenStart s.Desc) (finds : v.Desc (List ℕ) → Option (Object (List ℕ))) (r : Stand (List ℕ)) (name : Digest) (loss : ℕ)
     → Begins tag mark frozen job around o finds r
     → ((d : v.Desc (List ℕ)) → t.In d (pending_in same_text r) → (x : Object (List ℕ)) × (finds d ≡ Some x))
-    → Says (the tag mark frozen job around) (real_inner job around) (lower tag mark frozen job around) o (record { number = o.number; spawned = []; end = missing name loss })
+    → Says (the tag mark frozen job around) (real_inner job around) (lower tag mark frozen job around) o
+    (record { number = o.number; spawned = []; end = missing name loss })

@@ -53,10 +53,12 @@ is_true : (b : Bool) → (b ≡ true → ⊥) → b ≡ false
 is_true true h = absurd (h refl)
 is_true false h = refl
 
-module _ {D P : Type 0} (job : Job D) (laws : IsJob job) (v : Standing D) (main : List ℕ) (t : TableSeen P) (out : List TaskId) (his : IsHistory job v main t out) where
+module _ {D P : Type 0} (job : Job D) (laws : IsJob job) (v : Standing D) (main : List ℕ) (t : TableSeen P) (out : List TaskId)
+    (his : IsHistory job v main t out) where
   -- ---- the row of a description
 
-  row_of : (ds : List D) (rs : List (Row P)) → AreRowsOf job ds rs → ((x : D) → In x ds → In x v.book) → (d : D) → In d v.book → In d ds → (r : Row P) × (found row_name (job.name d) rs ≡ Some r) × IsRowOf job d (job.task_of d) r
+  row_of : (ds : List D) (rs : List (Row P)) → AreRowsOf job ds rs → ((x : D) → In x ds → In x v.book) → (d : D) → In d v.book → In d ds
+      → (r : Row P) × (found row_name (job.name d) rs ≡ Some r) × IsRowOf job d (job.task_of d) r
   row_of [] [] a w d b i = absurd i
   row_of [] (r ∷ rs) a w d b i = absurd i
   row_of (e ∷ es) [] a w d b i = absurd a
@@ -70,12 +72,14 @@ module _ {D P : Type 0} (job : Job D) (laws : IsJob job) (v : Standing D) (main 
       named None q = q.0
       named (Some u) q = q.0
 
-      turn : ((same_text (job.name d) r.name ≡ true) ⊎ (same_text (job.name d) r.name ≡ false)) → In d (e ∷ es) → (In d es → Found rs) → Found (r ∷ rs)
+      turn : ((same_text (job.name d) r.name ≡ true) ⊎ (same_text (job.name d) r.name ≡ false)) → In d (e ∷ es) → (In d es → Found rs)
+          → Found (r ∷ rs)
       turn (inl s) j go =
           let same : d ≡ e = his.apart d e b (w e (inl refl)) (exact_text (job.name d) r.name s ∙ named (job.task_of e) a.0) in
           (r, ap (λ c. cond c (Some r) (found row_name (job.name d) rs)) s, subst (λ x. IsRowOf job x (job.task_of x) r) (sym same) a.0)
       turn (inr s) (inl j) go =
-          let y : same_text (job.name d) r.name ≡ true = subst (λ n. same_text (job.name d) n ≡ true) (ap job.name j ∙ sym (named (job.task_of e) a.0)) (self_text (job.name d)) in
+          let y : same_text (job.name d) r.name ≡ true =
+          subst (λ n. same_text (job.name d) n ≡ true) (ap job.name j ∙ sym (named (job.task_of e) a.0)) (self_text (job.name d)) in
           let bad : true ≡ false = sym y ∙ s in
           cc
       turn (inr s) (inr j) go =
@@ -204,7 +208,8 @@ module _ {D P : Type 0} (job : Job D) (laws : IsJob job) (v : Standing D) (main 
   start =
       record { has_root = refl; has = λ d i. absurd i; only = λ n e. cc; closed = λ d i. absurd i; inside = λ d i. absurd i }
 
-  more : (past : List D) (before : List TaskId) (d : D) (x : TaskId) → Before past before → In d v.book → ((own job d ≡ d) ⊎ In (own job d) past) → x ≡ TaskId.Of (job.name (own job d)) → Before (d ∷ past) (x ∷ before)
+  more : (past : List D) (before : List TaskId) (d : D) (x : TaskId) → Before past before → In d v.book → ((own job d ≡ d) ⊎ In (own job d) past)
+      → x ≡ TaskId.Of (job.name (own job d)) → Before (d ∷ past) (x ∷ before)
   more past before d x b k o s =
       record {
         has_root = or_true (same_id TaskId.Show x) (is_in before TaskId.Show) b.has_root;
@@ -217,7 +222,8 @@ module _ {D P : Type 0} (job : Job D) (laws : IsJob job) (v : Standing D) (main 
       has : (e : D) → In e (d ∷ past) → is_in (x ∷ before) (TaskId.Of (job.name (own job e))) ≡ true
       has e (inl y) =
           let q : TaskId.Of (job.name (own job e)) ≡ x = ap (λ z. TaskId.Of (job.name (own job z))) y ∙ sym s in
-          ap (λ c. c || is_in before (TaskId.Of (job.name (own job e)))) (subst (λ z. same_id (TaskId.Of (job.name (own job e))) z ≡ true) q (self_id (TaskId.Of (job.name (own job e)))))
+          ap (λ c. c || is_in before (TaskId.Of (job.name (own job e))))
+          (subst (λ z. same_id (TaskId.Of (job.name (own job e))) z ≡ true) q (self_id (TaskId.Of (job.name (own job e)))))
       has e (inr i) =
           or_true (same_id (TaskId.Of (job.name (own job e))) x) (is_in before (TaskId.Of (job.name (own job e)))) (b.has e i)
 
@@ -244,7 +250,9 @@ module _ {D P : Type 0} (job : Job D) (laws : IsJob job) (v : Standing D) (main 
   Lists xs ys = Beside (Ready job v) Runs (task_id job) xs ys
 
   -- one description and its row
-  step : (past : List D) (before : List TaskId) (d : D) (ds : List D) (r : Row P) (rs : List (Row P)) → Before past before → In d v.book → IsRowOf job d (job.task_of d) r → (In d past → ⊥) → ((own job d ≡ d) ⊎ In (own job d) past) → Lists (tasks_of job ds) (tasks_after (r.task ∷ before) rs) → Lists (tasks_of job (d ∷ ds)) (tasks_after before (r ∷ rs))
+  step : (past : List D) (before : List TaskId) (d : D) (ds : List D) (r : Row P) (rs : List (Row P)) → Before past before → In d v.book
+      → IsRowOf job d (job.task_of d) r → (In d past → ⊥) → ((own job d ≡ d) ⊎ In (own job d) past)
+      → Lists (tasks_of job ds) (tasks_after (r.task ∷ before) rs) → Lists (tasks_of job (d ∷ ds)) (tasks_after before (r ∷ rs))
   step past before d ds r rs b k q new o rec = turn o
     where
       Goal : Bool → Bool → Type 0
@@ -254,7 +262,8 @@ module _ {D P : Type 0} (job : Job D) (laws : IsJob job) (v : Standing D) (main 
       task : r.task ≡ TaskId.Of (job.name (own job d))
       task = row_task d r q
 
-      answer : (first seen_before : Bool) → is_first job d (job.task_of d) ≡ first → is_in before r.task ≡ seen_before → Goal first seen_before → Goal (is_first job d (job.task_of d)) (is_in before r.task)
+      answer : (first seen_before : Bool) → is_first job d (job.task_of d) ≡ first → is_in before r.task ≡ seen_before → Goal first seen_before
+          → Goal (is_first job d (job.task_of d)) (is_in before r.task)
       answer first seen_before x y g =
           subst (λ c. Goal c (is_in before r.task)) (sym x) (subst (Goal first) (sym y) g)
 
@@ -293,23 +302,33 @@ module _ {D P : Type 0} (job : Job D) (laws : IsJob job) (v : Standing D) (main 
         where
           go : (z : Option (Task D)) → job.task_of d ≡ z → Goal (is_first job d (job.task_of d)) (is_in before r.task)
           go None e =
-              answer false false (ap (is_first job d) e) (fresh s) (one_head (Ready job v) Runs (task_id job) r.task (tasks_of job ds) (tasks_after (r.task ∷ before) rs) (λ y. let w = (runs_of d k (subst Runs (task ∙ at s) y)).1 in cc) rec)
+              answer false false (ap (is_first job d) e) (fresh s)
+              (one_head (Ready job v) Runs (task_id job) r.task (tasks_of job ds) (tasks_after (r.task ∷ before) rs)
+              (λ y. let w = (runs_of d k (subst Runs (task ∙ at s) y)).1 in cc) rec)
           go (Some show) e = absurd (subst (In d) laws.outputs_show (laws.made_by d show e))
           go (Some (of x)) e =
               let same : x ≡ d = sym (ap (own_if job d) e) ∙ s in
-              answer true false (ap (is_first job d) e ∙ subst (λ w. job.same d w ≡ true) (sym same) (laws.same_refl d)) (fresh s) (both_heads (Ready job v) Runs (task_id job) (of d) r.task (tasks_of job ds) (tasks_after (r.task ∷ before) rs) (task ∙ at s) (λ y. subst Runs (sym (task ∙ at s)) (runs_there (standing_graph job v) (graph main t out) (task_id job) job.name seen (of d) y)) (λ y. (runs_of d k (subst Runs (task ∙ at s) y)).0) rec)
+              answer true false (ap (is_first job d) e ∙ subst (λ w. job.same d w ≡ true) (sym same) (laws.same_refl d)) (fresh s)
+              (both_heads (Ready job v) Runs (task_id job) (of d) r.task (tasks_of job ds) (tasks_after (r.task ∷ before) rs) (task ∙ at s)
+              (λ y. subst Runs (sym (task ∙ at s)) (runs_there (standing_graph job v) (graph main t out) (task_id job) job.name seen (of d)
+              y)) (λ y. (runs_of d k (subst Runs (task ∙ at s) y)).0) rec)
 
       turn : ((own job d ≡ d) ⊎ In (own job d) past) → Goal (is_first job d (job.task_of d)) (is_in before r.task)
       turn (inl s) = here s
       turn (inr i) = later i
 
-  lists : (past : List D) (before : List TaskId) (ds : List D) (rs : List (Row P)) → Before past before → ((x : D) → In x ds → In x v.book) → AreRowsOf job ds rs → Listed job past ds → Lists (tasks_of job ds) (tasks_after before rs)
+  lists : (past : List D) (before : List TaskId) (ds : List D) (rs : List (Row P)) → Before past before → ((x : D) → In x ds → In x v.book)
+      → AreRowsOf job ds rs → Listed job past ds → Lists (tasks_of job ds) (tasks_after before rs)
   lists past before [] [] b w a l =
-      both_heads (Ready job v) Runs (task_id job) show TaskId.Show [] [] refl (λ y. runs_there (standing_graph job v) (graph main t out) (task_id job) job.name seen show y) runs_root (λ us ts p q. q ∙ ap (map (task_id job)) (sym p))
+      both_heads (Ready job v) Runs (task_id job) show TaskId.Show [] [] refl
+      (λ y. runs_there (standing_graph job v) (graph main t out) (task_id job) job.name seen show y) runs_root
+      (λ us ts p q. q ∙ ap (map (task_id job)) (sym p))
   lists past before [] (r ∷ rs) b w a l = absurd a
   lists past before (d ∷ ds) [] b w a l = absurd a
   lists past before (d ∷ ds) (r ∷ rs) b w a l =
-      step past before d ds r rs b (w d (inl refl)) a.0 l.0 l.1 (lists (d ∷ past) (r.task ∷ before) ds rs (more past before d r.task b (w d (inl refl)) l.1 (row_task d r a.0)) (λ x i. w x (inr i)) a.1 l.2)
+      step past before d ds r rs b (w d (inl refl)) a.0 l.0 l.1
+      (lists (d ∷ past) (r.task ∷ before) ds rs (more past before d r.task b (w d (inl refl)) l.1 (row_task d r a.0)) (λ x i. w x (inr i))
+      a.1 l.2)
 
   none_is_out : v.orders ≡ [] → (u : Task D) → is_out job v u ≡ false
   none_is_out e u = ap (λ os. list_any (λ (o : OpenStart D). same_task job u o.task) os) e
@@ -320,5 +339,6 @@ module _ {D P : Type 0} (job : Job D) (laws : IsJob job) (v : Standing D) (main 
         reached = led_there (standing_graph job v) (graph main t out) (task_id job) job.name seen;
         only = led_here (standing_graph job v) (graph main t out) (task_id job) job.name seen;
         ready = lists [] (TaskId.Show ∷ []) v.book t.rows start (λ x i. i) his.rows his.listed;
-        circle = λ e ns c. let q = circle_here (standing_graph job v) (graph main t out) (task_id job) job.name seen (none_is_out e) tasks_apart (λ d e a b n. his.apart d e (waited_known d a) (waited_known e b) n) ns c in (q.0, q.1, (e, q.2));
+        circle = λ e ns c. let q = circle_here (standing_graph job v) (graph main t out) (task_id job) job.name seen (none_is_out e) tasks_apart
+            (λ d e a b n. his.apart d e (waited_known d a) (waited_known e b) n) ns c in (q.0, q.1, (e, q.2));
       }

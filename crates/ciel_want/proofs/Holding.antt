@@ -36,8 +36,10 @@ module _ {D : Type 0} (job : Job D) (laws : IsJob job) (p : Plan) (h : List (Eve
   once_book =
       subst (Once []) (sym (book_told job laws p h l)) (once_learned job laws (job.main ∷ []) (spawned_of h) (λ i. i, tt))
 
-module _ {D P : Type 0} (job : Job D) (laws : IsJob job) (inner : Inner D) (knows : Knows job inner) (p : Plan) (h : List (Event D)) (l : Lawful job p h) where
-  is_history : (main : List ℕ) (t : TableSeen P) (out : List TaskId) → Holds job (standing job h) main t out → IsHistory job (standing job h) main t out
+module _ {D P : Type 0} (job : Job D) (laws : IsJob job) (inner : Inner D) (knows : Knows job inner) (p : Plan) (h : List (Event D))
+    (l : Lawful job p h) where
+  is_history : (main : List ℕ) (t : TableSeen P) (out : List TaskId) → Holds job (standing job h) main t out
+      → IsHistory job (standing job h) main t out
   is_history main t out k =
       record {
         rows = k.rows;
@@ -49,5 +51,6 @@ module _ {D P : Type 0} (job : Job D) (laws : IsJob job) (inner : Inner D) (know
         outs = k.outs;
       }
 
-  pub lawful_agrees : (main : List ℕ) (t : TableSeen P) (out : List TaskId) → Holds job (standing job h) main t out → Agree job (standing job h) main t out
+  pub lawful_agrees : (main : List ℕ) (t : TableSeen P) (out : List TaskId) → Holds job (standing job h) main t out
+      → Agree job (standing job h) main t out
   lawful_agrees main t out k = history_agrees job laws (standing job h) main t out (is_history main t out k)

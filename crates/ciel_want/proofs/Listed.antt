@@ -28,7 +28,8 @@ module _ {P : Type 0} where
   root_listed before (r ∷ rs) =
       unless_in (is_in before r.task) TaskId.Show r.task (tasks_after (r.task ∷ before) rs) (root_listed (r.task ∷ before) rs)
 
-  task_listed : (before : List TaskId) (rs : List (Row P)) (n : List ℕ) (r : Row P) → found row_name n rs ≡ Some r → is_in before r.task ≡ false → In r.task (tasks_after before rs)
+  task_listed : (before : List TaskId) (rs : List (Row P)) (n : List ℕ) (r : Row P) → found row_name n rs ≡ Some r → is_in before r.task ≡ false
+      → In r.task (tasks_after before rs)
   task_listed before [] n r e f = cc
   task_listed before (x ∷ xs) n r e f =
       turn (same_text n x.name) e (λ h k. task_listed (x.task ∷ before) xs n r h k)
@@ -37,12 +38,15 @@ module _ {P : Type 0} where
       head s =
           subst (λ b. In r.task (unless b x.task (tasks_after (x.task ∷ before) xs))) (sym (ap (is_in before) s ∙ f)) (inl (sym s))
 
-      later : found row_name n xs ≡ Some r → ((same_id r.task x.task ≡ true) ⊎ (same_id r.task x.task ≡ false)) → (is_in (x.task ∷ before) r.task ≡ false → In r.task (tasks_after (x.task ∷ before) xs)) → In r.task (tasks_after before (x ∷ xs))
+      later : found row_name n xs ≡ Some r → ((same_id r.task x.task ≡ true) ⊎ (same_id r.task x.task ≡ false))
+          → (is_in (x.task ∷ before) r.task ≡ false → In r.task (tasks_after (x.task ∷ before) xs)) → In r.task (tasks_after before (x ∷ xs))
       later h (inl s) k = head (sym (same_exact r.task x.task s))
       later h (inr s) k =
           unless_in (is_in before x.task) r.task x.task (tasks_after (x.task ∷ before) xs) (k (ap (λ b. b || is_in before r.task) s ∙ f))
 
-      turn : (b : Bool) → cond b (Some x) (found row_name n xs) ≡ Some r → (found row_name n xs ≡ Some r → is_in (x.task ∷ before) r.task ≡ false → In r.task (tasks_after (x.task ∷ before) xs)) → In r.task (tasks_after before (x ∷ xs))
+      turn : (b : Bool) → cond b (Some x) (found row_name n xs) ≡ Some r
+          → (found row_name n xs ≡ Some r → is_in (x.task ∷ before) r.task ≡ false → In r.task (tasks_after (x.task ∷ before) xs))
+          → In r.task (tasks_after before (x ∷ xs))
       turn true h rec = let s : x ≡ r = cc in head (ap (λ (y : Row P). y.task) s)
       turn false h rec = later h (bool_cases (same_id r.task x.task)) (rec h)
 

@@ -1,5 +1,6 @@
 -- Flags beside the list of what was seen.
-use Rattle.std.proofs.Common.{◌≡◌, ℕ, zero, suc, ◌<◌, List, [], ◌∷◌, ◌++◌, length, get_or, set, append_assoc, append-nil, Bool, true, false, cond, ◌||◌, Some, ◌⊎◌, inl, inr, refl, ap, sym, ◌∙◌, arith, nat_eq, eqb-true, eq-eqb, slice_get, replicate}
+use Rattle.std.proofs.Common.{◌≡◌, ℕ, zero, suc, ◌<◌, List, [], ◌∷◌, ◌++◌, length, get_or, set, append_assoc, append-nil, Bool, true, false, cond}
+use Rattle.std.proofs.Common.{◌||◌, Some, ◌⊎◌, inl, inr, refl, ap, sym, ◌∙◌, arith, nat_eq, eqb-true, eq-eqb, slice_get, replicate}
 use Rattle.std.specs.List.{list_any}
 use Rattle.ciel_want.specs.Search.{Among, news}
 use Rattle.ciel_journal.proofs.Members.{bool_cases}
@@ -13,7 +14,8 @@ read_flag [] e d x l h = absurd (omega (arith, l))
 read_flag (f ∷ fs) zero d x l h = some_same f x h
 read_flag (f ∷ fs) (suc e) d x l h = read_flag fs e d x (omega (arith, l)) h
 
-pub flag_is : (flags : List Bool) (seen : List ℕ) (e : ℕ) (d : Bool) → Marked flags seen → e < length flags → get_or flags e d ≡ list_any (nat_eq e) seen
+pub flag_is : (flags : List Bool) (seen : List ℕ) (e : ℕ) (d : Bool) → Marked flags seen → e < length flags → get_or flags e d
+    ≡ list_any (nat_eq e) seen
 flag_is flags seen e d m l = read_flag flags e d (list_any (nat_eq e) seen) l (m e l)
 
 -- a row that was seen is not new, and one that wasn't is
@@ -31,7 +33,8 @@ any_last e [] x = pick (nat_eq e x)
     pick false = refl
 any_last e (y ∷ ys) x = pick (nat_eq e y) (any_last e ys x)
   where
-    pick : (c : Bool) → list_any (nat_eq e) (ys ++ x ∷ []) ≡ list_any (nat_eq e) ys || nat_eq e x → c || list_any (nat_eq e) (ys ++ x ∷ []) ≡ (c || list_any (nat_eq e) ys) || nat_eq e x
+    pick : (c : Bool) → list_any (nat_eq e) (ys ++ x ∷ []) ≡ list_any (nat_eq e) ys || nat_eq e x → c || list_any (nat_eq e) (ys ++ x ∷ [])
+        ≡ (c || list_any (nat_eq e) ys) || nat_eq e x
     pick true h = refl
     pick false h = h
 
@@ -52,14 +55,16 @@ set_other (f ∷ fs) (suc i) (suc e) x h = set_other fs i e x (differ (bool_case
         let s : nat_eq (suc e) (suc i) ≡ true = eq-eqb (suc e) (suc i) (ap (λ n. suc n) (eqb-true e i t)) in cc
     differ (inr f) = f
 
-pub marked_more : (flags after : List Bool) (seen : List ℕ) (i : ℕ) → Marked flags seen → i < length flags → after ≡ set flags i true → length after ≡ length flags → Marked after (seen ++ i ∷ [])
+pub marked_more : (flags after : List Bool) (seen : List ℕ) (i : ℕ) → Marked flags seen → i < length flags → after ≡ set flags i true
+    → length after ≡ length flags → Marked after (seen ++ i ∷ [])
 marked_more flags after seen i m l a n e k = pick (bool_cases (nat_eq e i))
   where
     pick : ((nat_eq e i ≡ true) ⊎ (nat_eq e i ≡ false)) → slice_get after e ≡ Some (list_any (nat_eq e) (seen ++ i ∷ []))
     pick (inl t) =
         let s : e ≡ i = eqb-true e i t in
         let x : slice_get after e ≡ Some true = ap (λ fs. slice_get fs e) a ∙ (ap (slice_get (set flags i true)) s ∙ set_here flags i true l) in
-        let y : list_any (nat_eq e) (seen ++ i ∷ []) ≡ true = any_last e seen i ∙ (ap (λ b. list_any (nat_eq e) seen || b) t ∙ right (list_any (nat_eq e) seen)) in
+        let y : list_any (nat_eq e) (seen ++ i ∷ []) ≡ true = any_last e seen i
+        ∙ (ap (λ b. list_any (nat_eq e) seen || b) t ∙ right (list_any (nat_eq e) seen)) in
         x ∙ ap (λ b. Some b) (sym y)
       where
         right : (b : Bool) → b || true ≡ true
@@ -68,7 +73,8 @@ marked_more flags after seen i m l a n e k = pick (bool_cases (nat_eq e i))
     pick (inr f) =
         let k2 : e < length flags = omega (arith, k, n) in
         let x : slice_get after e ≡ Some (list_any (nat_eq e) seen) = ap (λ fs. slice_get fs e) a ∙ (set_other flags i e true f ∙ m e k2) in
-        let y : list_any (nat_eq e) (seen ++ i ∷ []) ≡ list_any (nat_eq e) seen = any_last e seen i ∙ (ap (λ b. list_any (nat_eq e) seen || b) f ∙ right (list_any (nat_eq e) seen)) in
+        let y : list_any (nat_eq e) (seen ++ i ∷ []) ≡ list_any (nat_eq e) seen = any_last e seen i
+        ∙ (ap (λ b. list_any (nat_eq e) seen || b) f ∙ right (list_any (nat_eq e) seen)) in
         x ∙ ap (λ b. Some b) (sym y)
       where
         right : (b : Bool) → b || false ≡ b
@@ -76,10 +82,12 @@ marked_more flags after seen i m l a n e k = pick (bool_cases (nat_eq e i))
         right false = refl
 
 -- what is new of a list is what is new of its first, and then of the others
-pub news_split : (acc seen : List ℕ) (x : ℕ) (xs : List ℕ) → (acc ++ news seen (x ∷ [])) ++ news (seen ++ news seen (x ∷ [])) xs ≡ acc ++ news seen (x ∷ xs)
+pub news_split : (acc seen : List ℕ) (x : ℕ) (xs : List ℕ) → (acc ++ news seen (x ∷ [])) ++ news (seen ++ news seen (x ∷ [])) xs ≡ acc
+    ++ news seen (x ∷ xs)
 news_split acc seen x xs = pick (list_any (nat_eq x) seen)
   where
-    pick : (b : Bool) → (acc ++ cond b [] (x ∷ [])) ++ news (seen ++ cond b [] (x ∷ [])) xs ≡ acc ++ cond b (news seen xs) (x ∷ news (seen ++ x ∷ []) xs)
+    pick : (b : Bool) → (acc ++ cond b [] (x ∷ [])) ++ news (seen ++ cond b [] (x ∷ [])) xs ≡ acc
+        ++ cond b (news seen xs) (x ∷ news (seen ++ x ∷ []) xs)
     pick true = ap (λ ys. ys ++ news (seen ++ []) xs) (append-nil acc) ∙ ap (λ s. acc ++ news s xs) (append-nil seen)
     pick false = append_assoc acc (x ∷ []) (news (seen ++ x ∷ []) xs)
 

@@ -19,7 +19,8 @@ module _ {P : Type 0} (main : List ℕ) (t : TableSeen P) (named : AllNamed main
   refs_known (Desc1.Exec x v n i) h = h refl
   refs_known (Desc1.Input k) h = tt
 
-  row_is : (r : Row P) → RowNamed main t (is_input r.desc) r → is_input r.desc ≡ false → TaskKnown t r.task × AllByRecursion (Known t) (first_refs r.desc)
+  row_is : (r : Row P) → RowNamed main t (is_input r.desc) r → is_input r.desc ≡ false → TaskKnown t r.task
+      × AllByRecursion (Known t) (first_refs r.desc)
   row_is r h e = subst (λ b. RowNamed main t b r) e h
 
   waits_named : (task : TaskId) → WaitsNamed main t (waits_of task t)
@@ -47,7 +48,8 @@ module _ {P : Type 0} (main : List ℕ) (t : TableSeen P) (named : AllNamed main
       turn (Some w) e =
           latest_all (λ (x : Wait P). AllByRecursion (Known t) x.refs) (waits_of task t) w (waits_named task) e
 
-  rows_whole : (rs : List (Row P)) → AllByRecursion (λ (r : Row P). RowNamed main t (is_input r.desc) r) rs → AllByRecursion (λ (r : Row P). RowWhole main t (is_input r.desc) r) rs
+  rows_whole : (rs : List (Row P)) → AllByRecursion (λ (r : Row P). RowNamed main t (is_input r.desc) r) rs
+      → AllByRecursion (λ (r : Row P). RowWhole main t (is_input r.desc) r) rs
   rows_whole [] a = tt
   rows_whole (r ∷ rs) a = (turn (is_input r.desc) a.0, rows_whole rs a.1)
     where

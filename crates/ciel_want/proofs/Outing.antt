@@ -1,5 +1,6 @@
 -- Setting the flags of the tasks that are out, one after another.
-use Rattle.std.proofs.Common.{◌≡◌, ℕ, zero, suc, ◌<◌, List, [], ◌∷◌, Bool, true, false, ◌||◌, length, nat_eq, eqb-true, replicate, set, slice_get, refl, ap, sym, ◌∙◌, subst, ◌⊎◌, inl, inr, arith, Option, Some, None}
+use Rattle.std.proofs.Common.{◌≡◌, ℕ, zero, suc, ◌<◌, List, [], ◌∷◌, Bool, true, false, ◌||◌, length, nat_eq, eqb-true, replicate, set, slice_get}
+use Rattle.std.proofs.Common.{refl, ap, sym, ◌∙◌, subst, ◌⊎◌, inl, inr, arith, Option, Some, None}
 use Rattle.std.specs.Option.{option_map_or}
 use Rattle.std.proofs.lemmas.List.{length-replicate}
 use Rattle.sky_base.specs.Val.{same_text}
@@ -47,7 +48,8 @@ module _ {P : Type 0} (t : TableSeen P) where
         rows_say = λ k l. record { set = false; is = ap (λ fs. slice_get fs k) e ∙ unset (length t.rows) k l; says = refl };
       }
 
-  flag_step : (tasks rest : List TaskId) (x task : TaskId) (old new : Option Bool) → Flag tasks (task ∷ rest) x old → IsSet (same_id x task) old new → Flag tasks rest x new
+  flag_step : (tasks rest : List TaskId) (x task : TaskId) (old new : Option Bool) → Flag tasks (task ∷ rest) x old
+      → IsSet (same_id x task) old new → Flag tasks rest x new
   flag_step tasks rest x task old new f h = turn (same_id x task) refl h
     where
       turn : (b : Bool) → same_id x task ≡ b → IsSet b old new → Flag tasks rest x new
@@ -64,7 +66,10 @@ module _ {P : Type 0} (t : TableSeen P) where
       turn false q k =
           record { set = f.set; is = k ∙ f.is; says = ap (λ b. f.set || (b || is_in rest x)) (sym q) ∙ f.says }
 
-  pub out_step : (tasks rest : List TaskId) (task : TaskId) (rows after : List Bool) (root next : Bool) → Outing tasks (task ∷ rest) rows root → next ≡ root || same_id TaskId.Show task → length after ≡ length t.rows → ((e : ℕ) → e < length t.rows → IsSet (same_id (task_at t (Some e)) task) (slice_get rows e) (slice_get after e)) → Outing tasks rest after next
+  pub out_step : (tasks rest : List TaskId) (task : TaskId) (rows after : List Bool) (root next : Bool) → Outing tasks (task ∷ rest) rows root
+      → next ≡ root || same_id TaskId.Show task → length after ≡ length t.rows
+      → ((e : ℕ) → e < length t.rows → IsSet (same_id (task_at t (Some e)) task) (slice_get rows e) (slice_get after e))
+      → Outing tasks rest after next
   out_step tasks rest task rows after root next o n l h =
       record {
         long = l;
@@ -101,14 +106,16 @@ module _ {P : Type 0} (t : TableSeen P) where
       ap (λ n. find n t) (sym (exact_text (name e) m s) ∙ name_is e q.0 q.1)
       ∙ own_place row_name t.rows e q.0 once q.1
 
-  pub flag_none : IsOnce row_name t.rows → (m : List ℕ) (e : ℕ) (old : Option Bool) → find m t ≡ None → e < length t.rows → IsSet (same_text (name e) m) old old
+  pub flag_none : IsOnce row_name t.rows → (m : List ℕ) (e : ℕ) (old : Option Bool) → find m t ≡ None → e < length t.rows
+      → IsSet (same_text (name e) m) old old
   flag_none once m e old f l = turn (bool_cases (same_text (name e) m))
     where
       turn : ((same_text (name e) m ≡ true) ⊎ (same_text (name e) m ≡ false)) → IsSet (same_text (name e) m) old old
       turn (inl s) = let a : Some e ≡ None = sym (own_row once m e l s) ∙ f in cc
       turn (inr s) = subst (λ b. IsSet b old old) (sym s) refl
 
-  pub flag_some : IsOnce row_name t.rows → (m : List ℕ) (k e : ℕ) (flags : List Bool) → find m t ≡ Some k → length flags ≡ length t.rows → e < length t.rows → IsSet (same_text (name e) m) (slice_get flags e) (slice_get (set flags k true) e)
+  pub flag_some : IsOnce row_name t.rows → (m : List ℕ) (k e : ℕ) (flags : List Bool) → find m t ≡ Some k → length flags ≡ length t.rows
+      → e < length t.rows → IsSet (same_text (name e) m) (slice_get flags e) (slice_get (set flags k true) e)
   flag_some once m k e flags f n l = turn (bool_cases (same_text (name e) m))
     where
       apart : same_text (name e) m ≡ false → ((nat_eq e k ≡ true) ⊎ (nat_eq e k ≡ false)) → nat_eq e k ≡ false
@@ -119,11 +126,14 @@ module _ {P : Type 0} (t : TableSeen P) where
           let b : true ≡ false = sym (subst (λ x. same_text x m ≡ true) (sym same) (self_text m)) ∙ s in
           cc
 
-      turn : ((same_text (name e) m ≡ true) ⊎ (same_text (name e) m ≡ false)) → IsSet (same_text (name e) m) (slice_get flags e) (slice_get (set flags k true) e)
+      turn : ((same_text (name e) m ≡ true) ⊎ (same_text (name e) m ≡ false))
+          → IsSet (same_text (name e) m) (slice_get flags e) (slice_get (set flags k true) e)
       turn (inl s) =
           let a : Some k ≡ Some e = sym f ∙ own_row once m e l s in
           let same : k ≡ e = cc in
-          let h : slice_get (set flags k true) e ≡ Some true = ap (λ i. slice_get (set flags i true) e) same ∙ set_here flags e true (omega (arith, n, l)) in
+          let h : slice_get (set flags k true) e ≡ Some true = ap (λ i. slice_get (set flags i true) e) same
+          ∙ set_here flags e true (omega (arith, n, l)) in
           subst (λ b. IsSet b (slice_get flags e) (slice_get (set flags k true) e)) (sym s) h
       turn (inr s) =
-          subst (λ b. IsSet b (slice_get flags e) (slice_get (set flags k true) e)) (sym s) (set_other flags k e true (apart s (bool_cases (nat_eq e k))))
+          subst (λ b. IsSet b (slice_get flags e) (slice_get (set flags k true) e)) (sym s)
+          (set_other flags k e true (apart s (bool_cases (nat_eq e k))))

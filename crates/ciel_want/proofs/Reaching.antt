@@ -1,5 +1,6 @@
 -- The rows to which the root task leads are those of the reached tasks.
-use Rattle.std.proofs.Common.{◌≡◌, ℕ, zero, suc, ◌<◌, List, [], ◌∷◌, Bool, true, false, cond, not, filter, length, slice_get, refl, ap, sym, ◌∙◌, subst, ◌⊎◌, inl, inr, arith, Option, Some, None, IfSome}
+use Rattle.std.proofs.Common.{◌≡◌, ℕ, zero, suc, ◌<◌, List, [], ◌∷◌, Bool, true, false, cond, not, filter, length, slice_get, refl, ap, sym, ◌∙◌}
+use Rattle.std.proofs.Common.{subst, ◌⊎◌, inl, inr, arith, Option, Some, None, IfSome}
 use Rattle.std.specs.Option.{option_map_or}
 use Rattle.sky_base.specs.declared.object.TaskId.{TaskId}
 use Rattle.ciel_journal.specs.Graph.{Led, root, through}
@@ -10,7 +11,8 @@ use Rattle.ciel_table.specs.declared.row.Row.{Row}
 use Rattle.ciel_want.specs.Board.{IsFlagged, blockers_of, is_set, leads, never, task_at, task_row}
 use Rattle.ciel_want.specs.Marked.{Flagged}
 use Rattle.ciel_want.specs.Waited.{Whole, graph, is_in, needs}
-use Rattle.ciel_want.proofs.Waiting.{Blocks, all_in, among_here, among_more, blocker_of, blockers_from, blockers_has, blocks_known, blocks_of, dead_of, maker_of, needs_known}
+use Rattle.ciel_want.proofs.Waiting.{Blocks, all_in, among_here, among_more, blocker_of, blockers_from, blockers_has, blocks_known, blocks_of}
+use Rattle.ciel_want.proofs.Waiting.{dead_of, maker_of, needs_known}
 use Rattle.ciel_want.proofs.Rows.{item_at}
 
 pub keep_all : (es : List ℕ) → filter (λ e. not (never e)) es ≡ es
@@ -39,18 +41,21 @@ upto_has (suc n) e l = pick (cases e n (omega (arith, l))) (upto_has n e)
 
 module _ {P : Type 0} (main : List ℕ) (t : TableSeen P) (out : List TaskId) where
   -- from a row to the rows of what blocks its task
-  leads_of : (from : Option ℕ) (e : ℕ) → Among e (unmet (leads t main out) never from) → (is_in out (task_at t from) ≡ false) × ((n : List ℕ) × In n (needs main t (task_at t from)) × Blocks t n e)
+  leads_of : (from : Option ℕ) (e : ℕ) → Among e (unmet (leads t main out) never from) → (is_in out (task_at t from) ≡ false)
+      × ((n : List ℕ) × In n (needs main t (task_at t from)) × Blocks t n e)
   leads_of from e a = turn (is_in out (task_at t from)) refl (subst (Among e) (keep_all (leads t main out from)) a)
     where
       found : Among e (blockers_of t (needs main t (task_at t from))) → (n : List ℕ) × In n (needs main t (task_at t from)) × Blocks t n e
       found h =
           let q = blockers_from t (needs main t (task_at t from)) e h in (q.0, q.1, blocks_of t q.0 e q.2)
 
-      turn : (b : Bool) → is_in out (task_at t from) ≡ b → Among e (cond b [] (blockers_of t (needs main t (task_at t from)))) → (is_in out (task_at t from) ≡ false) × ((n : List ℕ) × In n (needs main t (task_at t from)) × Blocks t n e)
+      turn : (b : Bool) → is_in out (task_at t from) ≡ b → Among e (cond b [] (blockers_of t (needs main t (task_at t from))))
+          → (is_in out (task_at t from) ≡ false) × ((n : List ℕ) × In n (needs main t (task_at t from)) × Blocks t n e)
       turn true q h = cc
       turn false q h = (q, found h)
 
-  leads_has : (from : Option ℕ) (task : TaskId) (n : List ℕ) (e : ℕ) → task_at t from ≡ task → is_in out task ≡ false → In n (needs main t task) → Blocks t n e → Among e (unmet (leads t main out) never from)
+  leads_has : (from : Option ℕ) (task : TaskId) (n : List ℕ) (e : ℕ) → task_at t from ≡ task → is_in out task ≡ false → In n (needs main t task)
+      → Blocks t n e → Among e (unmet (leads t main out) never from)
   leads_has from task n e s o i b =
       let h = blockers_has t (needs main t task) n e i (blocker_of t n e b) in
       let k : leads t main out from ≡ blockers_of t (needs main t task) = ap (λ x. cond (is_in out x) [] (blockers_of t (needs main t x))) s
@@ -82,14 +87,16 @@ module _ {P : Type 0} (main : List ℕ) (t : TableSeen P) (out : List TaskId) wh
     pub own : find task t ≡ Some e
     pub led : Led (graph main t out) (TaskId.Of task)
 
-  step : (from : Option ℕ) (task : TaskId) (e : ℕ) → task_at t from ≡ task → Led (graph main t out) task → Among e (unmet (leads t main out) never from) → Stands e
+  step : (from : Option ℕ) (task : TaskId) (e : ℕ) → task_at t from ≡ task → Led (graph main t out) task
+      → Among e (unmet (leads t main out) never from) → Stands e
   step from task e s l a =
       let q = leads_of from e a in
       let b = q.1.2 in
       record {
         task = b.task;
         own = b.own;
-        led = through l (ap (is_in out) (sym s) ∙ q.0) q.1.0 (subst (λ k. In q.1.0 (needs main t k)) s q.1.1) (dead_of t q.1.0 e b) (maker_of t q.1.0 e b);
+        led = through l (ap (is_in out) (sym s) ∙ q.0) q.1.0 (subst (λ k. In q.1.0 (needs main t k)) s q.1.1) (dead_of t q.1.0 e b)
+            (maker_of t q.1.0 e b);
       }
 
   pub row_led : (e : ℕ) → LedTo (leads t main out) never e → Stands e
@@ -104,7 +111,8 @@ module _ {P : Type 0} (main : List ℕ) (t : TableSeen P) (out : List TaskId) wh
     pub record Reaches (task : TaskId) : Type 0 where
       pub from : Option ℕ
       pub is : task_at t from ≡ task
-      pub own : (task ≡ TaskId.Show) ⊎ ((e : ℕ) × (m : List ℕ) × (from ≡ Some e) × (task ≡ TaskId.Of m) × (find m t ≡ Some e) × LedTo (leads t main out) never e)
+      pub own : (task ≡ TaskId.Show) ⊎ ((e : ℕ) × (m : List ℕ) × (from ≡ Some e) × (task ≡ TaskId.Of m) × (find m t ≡ Some e)
+          × LedTo (leads t main out) never e)
 
     pub led_row : (task : TaskId) → Led (graph main t out) task → Reaches task
     led_row task (root) = record { from = None; is = refl; own = inl refl }
@@ -121,11 +129,13 @@ module _ {P : Type 0} (main : List ℕ) (t : TableSeen P) (out : List TaskId) wh
         led : (q : Reaches from) (e : ℕ) → Among e (unmet (leads t main out) never q.from) → LedTo (leads t main out) never e
         led q e a = turn q.own
           where
-            at_root : from ≡ TaskId.Show → (f : Option ℕ) → task_at t f ≡ from → Among e (unmet (leads t main out) never f) → LedTo (leads t main out) never e
+            at_root : from ≡ TaskId.Show → (f : Option ℕ) → task_at t f ≡ from → Among e (unmet (leads t main out) never f)
+                → LedTo (leads t main out) never e
             at_root s None x h = first e h
             at_root s (Some y) x h = let z = x ∙ s in cc
 
-            turn : ((from ≡ TaskId.Show) ⊎ ((d : ℕ) × (m : List ℕ) × (q.from ≡ Some d) × (from ≡ TaskId.Of m) × (find m t ≡ Some d) × LedTo (leads t main out) never d)) → LedTo (leads t main out) never e
+            turn : ((from ≡ TaskId.Show) ⊎ ((d : ℕ) × (m : List ℕ) × (q.from ≡ Some d) × (from ≡ TaskId.Of m) × (find m t ≡ Some d)
+                × LedTo (leads t main out) never d)) → LedTo (leads t main out) never e
             turn (inl s) = at_root s q.from q.is a
             turn (inr r) = further r.0 e r.5 (subst (λ f. Among e (unmet (leads t main out) never f)) r.2 a)
 
@@ -137,11 +147,13 @@ module _ {P : Type 0} (main : List ℕ) (t : TableSeen P) (out : List TaskId) wh
             here b.0 b.1 same (led q b.0 (leads_has q.from from n b.0 q.is o i b.1))
 
     -- flags of the rows to which one leads are those of the reached tasks
-    module _ (flags : List Bool) (all : (e : ℕ) → LedTo (leads t main out) never e → Flagged flags e) (only : (e : ℕ) → Flagged flags e → LedTo (leads t main out) never e) where
+    module _ (flags : List Bool) (all : (e : ℕ) → LedTo (leads t main out) never e → Flagged flags e)
+        (only : (e : ℕ) → Flagged flags e → LedTo (leads t main out) never e) where
       pub led_flagged : (task : TaskId) → Led (graph main t out) task → IsFlagged t flags true task
       led_flagged task l = turn (led_row task l).own
         where
-          turn : ((task ≡ TaskId.Show) ⊎ ((e : ℕ) × (m : List ℕ) × ((led_row task l).from ≡ Some e) × (task ≡ TaskId.Of m) × (find m t ≡ Some e) × LedTo (leads t main out) never e)) → IsFlagged t flags true task
+          turn : ((task ≡ TaskId.Show) ⊎ ((e : ℕ) × (m : List ℕ) × ((led_row task l).from ≡ Some e) × (task ≡ TaskId.Of m) × (find m t ≡ Some e)
+              × LedTo (leads t main out) never e)) → IsFlagged t flags true task
           turn (inl s) = inl (s, refl)
           turn (inr r) =
               inr (ap (λ k. is_set flags (task_row t k)) r.3

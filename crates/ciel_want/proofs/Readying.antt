@@ -1,5 +1,6 @@
 -- Flags of those that were worked off and pass a test, beside the lists of a search.
-use Rattle.std.proofs.Common.{◌≡◌, ℕ, zero, suc, ◌<◌, List, [], ◌∷◌, ◌++◌, length, set, Bool, true, false, Some, ◌⊎◌, inl, inr, ap, sym, ◌∙◌, subst, nat_eq, eqb-true, slice_get, replicate}
+use Rattle.std.proofs.Common.{◌≡◌, ℕ, zero, suc, ◌<◌, List, [], ◌∷◌, ◌++◌, length, set, Bool, true, false, Some, ◌⊎◌, inl, inr, ap, sym, ◌∙◌, subst}
+use Rattle.std.proofs.Common.{nat_eq, eqb-true, slice_get, replicate}
 use Rattle.ciel_want.specs.Search.{Among}
 use Rattle.ciel_journal.proofs.Booked.{any_join_cases, any_join_left}
 use Rattle.ciel_journal.proofs.Members.{bool_cases}
@@ -22,7 +23,8 @@ module _ (test : ℕ → Bool) where
   ready_start n seen =
       record { done = λ e a. inl a; only = λ e f. absurd (none_flagged n e f) }
 
-  pub ready_step : (ready : List Bool) (seen todo rest new : List ℕ) (d : ℕ) → Readied ready seen todo → todo ≡ rest ++ d ∷ [] → d < length ready → Among d seen → Readied (set ready d (test d)) (seen ++ new) (rest ++ new)
+  pub ready_step : (ready : List Bool) (seen todo rest new : List ℕ) (d : ℕ) → Readied ready seen todo → todo ≡ rest ++ d ∷ [] → d < length ready
+      → Among d seen → Readied (set ready d (test d)) (seen ++ new) (rest ++ new)
   ready_step ready seen todo rest new d s split l here = record { done = done; only = only }
     where
       now : (e : ℕ) → nat_eq e d ≡ true → slice_get (set ready d (test d)) e ≡ Some (test e)
@@ -30,11 +32,13 @@ module _ (test : ℕ → Bool) where
           let k = eqb-true e d h in
           ap (slice_get (set ready d (test d))) k ∙ (set_here ready d (test d) l ∙ ap (λ i. Some (test i)) (sym k))
 
-      kept : (e : ℕ) → ((nat_eq e d ≡ true) ⊎ (nat_eq e d ≡ false)) → slice_get ready e ≡ Some (test e) → slice_get (set ready d (test d)) e ≡ Some (test e)
+      kept : (e : ℕ) → ((nat_eq e d ≡ true) ⊎ (nat_eq e d ≡ false)) → slice_get ready e ≡ Some (test e) → slice_get (set ready d (test d)) e
+          ≡ Some (test e)
       kept e (inl h) k = now e h
       kept e (inr h) k = set_other ready d e (test d) h ∙ k
 
-      worked : (e : ℕ) → (Among e todo ⊎ (slice_get ready e ≡ Some (test e))) → Among e (rest ++ new) ⊎ (slice_get (set ready d (test d)) e ≡ Some (test e))
+      worked : (e : ℕ) → (Among e todo ⊎ (slice_get ready e ≡ Some (test e))) → Among e (rest ++ new)
+          ⊎ (slice_get (set ready d (test d)) e ≡ Some (test e))
       worked e (inl a) = turn (any_join_cases (nat_eq e) rest d (subst (Among e) split a))
         where
           turn : Among e rest ⊎ (nat_eq e d ≡ true) → Among e (rest ++ new) ⊎ (slice_get (set ready d (test d)) e ≡ Some (test e))
@@ -56,7 +60,8 @@ module _ (test : ℕ → Bool) where
           turn (inl h) = subst (λ i. Among i seen) (sym (eqb-true e d h)) here
           turn (inr h) = s.only e (sym (set_other ready d e (test d) h) ∙ f)
 
-  pub ready_end : (ready : List Bool) (seen todo : List ℕ) → Readied ready seen todo → length todo ≡ 0 → (e : ℕ) → Among e seen → slice_get ready e ≡ Some (test e)
+  pub ready_end : (ready : List Bool) (seen todo : List ℕ) → Readied ready seen todo → length todo ≡ 0 → (e : ℕ) → Among e seen
+      → slice_get ready e ≡ Some (test e)
   ready_end ready seen todo s z e a = turn (s.done e a)
     where
       turn : Among e todo ⊎ (slice_get ready e ≡ Some (test e)) → slice_get ready e ≡ Some (test e)

@@ -1,5 +1,6 @@
 -- A circle by rows is a circle of waits, and where a row waits for nothing that isn't live a task can run.
-use Rattle.std.proofs.Common.{◌≡◌, ℕ, zero, suc, ◌<◌, List, [], ◌∷◌, ◌++◌, drop, Bool, true, false, cond, not, filter, length, slice_get, refl, ap, sym, ◌∙◌, subst, ◌⊎◌, inl, inr, Option, Some, None, nat_eq, eq-eqb, ◌||◌}
+use Rattle.std.proofs.Common.{◌≡◌, ℕ, zero, suc, ◌<◌, List, [], ◌∷◌, ◌++◌, drop, Bool, true, false, cond, not, filter, length, slice_get, refl, ap}
+use Rattle.std.proofs.Common.{sym, ◌∙◌, subst, ◌⊎◌, inl, inr, Option, Some, None, nat_eq, eq-eqb, ◌||◌}
 use Rattle.std.specs.List.{AllByRecursion, IsDistinct}
 use Rattle.std.specs.Option.{option_map_or, option_and_then}
 use Rattle.sky_base.specs.Val.{same_text}
@@ -35,7 +36,8 @@ among_filter q e (x ∷ xs) h = turn (q x) refl h (among_filter q e xs)
     one t (inl s) r = (subst (λ y. Among y (x ∷ xs)) (sym s) (among_here x xs), ap q s ∙ t)
     one t (inr k) r = more (r k)
 
-    turn : (b : Bool) → q x ≡ b → Among e (cond b (x ∷ filter q xs) (filter q xs)) → (Among e (filter q xs) → Among e xs × (q e ≡ true)) → Among e (x ∷ xs) × (q e ≡ true)
+    turn : (b : Bool) → q x ≡ b → Among e (cond b (x ∷ filter q xs) (filter q xs)) → (Among e (filter q xs) → Among e xs × (q e ≡ true))
+        → Among e (x ∷ xs) × (q e ≡ true)
     turn true t k r = one t (among_head e x (filter q xs) k) r
     turn false t k r = more (r k)
 
@@ -43,7 +45,8 @@ filter_none : (q : ℕ → Bool) (e : ℕ) (xs : List ℕ) → filter q xs ≡ [
 filter_none q e [] h a = cc
 filter_none q e (x ∷ xs) h a = turn (q x) refl h (among_head e x xs a) (filter_none q e xs)
   where
-    turn : (b : Bool) → q x ≡ b → cond b (x ∷ filter q xs) (filter q xs) ≡ [] → ((e ≡ x) ⊎ Among e xs) → (filter q xs ≡ [] → Among e xs → q e ≡ false) → q e ≡ false
+    turn : (b : Bool) → q x ≡ b → cond b (x ∷ filter q xs) (filter q xs) ≡ [] → ((e ≡ x) ⊎ Among e xs)
+        → (filter q xs ≡ [] → Among e xs → q e ≡ false) → q e ≡ false
     turn true t k i r = cc
     turn false t k (inl s) r = ap q s ∙ t
     turn false t k (inr i) r = r k i
@@ -78,11 +81,13 @@ module _ {P : Type 0} (main : List ℕ) (t : TableSeen P) where
       more : ((n : List ℕ) × In n ms × (find n t ≡ Some e)) → (n : List ℕ) × In n (m ∷ ms) × (find n t ≡ Some e)
       more q = (q.0, inr q.1, q.2)
 
-      one : (x : ℕ) → find m t ≡ Some x → ((e ≡ x) ⊎ Among e (rows_of t ms)) → (Among e (rows_of t ms) → (n : List ℕ) × In n ms × (find n t ≡ Some e)) → (n : List ℕ) × In n (m ∷ ms) × (find n t ≡ Some e)
+      one : (x : ℕ) → find m t ≡ Some x → ((e ≡ x) ⊎ Among e (rows_of t ms))
+          → (Among e (rows_of t ms) → (n : List ℕ) × In n ms × (find n t ≡ Some e)) → (n : List ℕ) × In n (m ∷ ms) × (find n t ≡ Some e)
       one x q (inl s) r = (m, inl refl, q ∙ ap (λ y. Some y) (sym s))
       one x q (inr k) r = more (r k)
 
-      turn : (o : Option ℕ) → find m t ≡ o → Among e (with_some o (rows_of t ms)) → (Among e (rows_of t ms) → (n : List ℕ) × In n ms × (find n t ≡ Some e)) → (n : List ℕ) × In n (m ∷ ms) × (find n t ≡ Some e)
+      turn : (o : Option ℕ) → find m t ≡ o → Among e (with_some o (rows_of t ms))
+          → (Among e (rows_of t ms) → (n : List ℕ) × In n ms × (find n t ≡ Some e)) → (n : List ℕ) × In n (m ∷ ms) × (find n t ≡ Some e)
       turn None q h r = more (r h)
       turn (Some x) q h r = one x q (among_head e x (rows_of t ms) h) r
 
@@ -114,7 +119,8 @@ module _ {P : Type 0} (main : List ℕ) (t : TableSeen P) where
   at_row e d = ap (λ (o : Option (Row P)). option_map_or (λ (r : Row P). r.task) o TaskId.Show) d.there
 
   -- from a reached task on to what it waits for and isn't live
-  from_led : (from : Option ℕ) (e : ℕ) → Among e (unmet (row_leads main t) (live_at t) from) → (d : Dead e) × In d.row.name (needs main t (maker_at t from))
+  from_led : (from : Option ℕ) (e : ℕ) → Among e (unmet (row_leads main t) (live_at t) from) → (d : Dead e)
+      × In d.row.name (needs main t (maker_at t from))
   unfolding dead_of
   from_led from e a =
       let f = among_filter (λ x. not (live_at t x)) e (row_leads main t from) a in
@@ -171,18 +177,21 @@ module _ {P : Type 0} (main : List ℕ) (t : TableSeen P) where
         subst (λ x. In (name e) (needs main t x)) k (subst (λ m. In m (needs main t (maker_at t (Some d)))) (sym (name_at e q.0)) q.1),
       )
 
-  chain : (front d : ℕ) (es : List ℕ) → LedTo (row_leads main t) (live_at t) d → Links (row_leads main t) (live_at t) front d es → Chain (graph main t []) (name front) (name d) (names_at t es)
+  chain : (front d : ℕ) (es : List ℕ) → LedTo (row_leads main t) (live_at t) d → Links (row_leads main t) (live_at t) front d es
+      → Chain (graph main t []) (name front) (name d) (names_at t es)
   chain front d [] l k = waits_on d front (reach d l) k
   chain front d (e ∷ es) l k =
       (waits_on d e (reach d l) k.0, chain front e es (further d e l k.0) k.1)
 
   -- what a circle holds is reached
-  all_led : (front d : ℕ) (es : List ℕ) → LedTo (row_leads main t) (live_at t) d → Links (row_leads main t) (live_at t) front d es → AllByRecursion (λ e. Reach e) es
+  all_led : (front d : ℕ) (es : List ℕ) → LedTo (row_leads main t) (live_at t) d → Links (row_leads main t) (live_at t) front d es
+      → AllByRecursion (λ e. Reach e) es
   all_led front d [] l k = tt
   all_led front d (e ∷ es) l k =
       let m = further d e l k.0 in (reach e m, all_led front e es m k.1)
 
-  apart : (d : ℕ) (es : List ℕ) → Reach d → AllByRecursion (λ e. Reach e) es → AllByRecursion (λ e. nat_eq d e ≡ false) es → AllByRecursion (λ n. same_text (name d) n ≡ false) (names_at t es)
+  apart : (d : ℕ) (es : List ℕ) → Reach d → AllByRecursion (λ e. Reach e) es → AllByRecursion (λ e. nat_eq d e ≡ false) es
+      → AllByRecursion (λ n. same_text (name d) n ≡ false) (names_at t es)
   apart d [] r a h = tt
   apart d (e ∷ es) r a h = (turn (bool_cases (same_text (name d) (name e))), apart d es r a.1 h.1)
     where
@@ -226,9 +235,11 @@ module _ {P : Type 0} (main : List ℕ) (t : TableSeen P) where
 
       live : (n : List ℕ) → In n (needs main t (maker_at t s.from)) → is_live n t ≡ true
       live n i =
-          let p = some_place row_name n t.rows (all_in (Known t) (needs main t (maker_at t s.from)) n (needs_known t main whole [] (maker_at t s.from) (led s.from s.reached)) i) in
+          let p = some_place row_name n t.rows (all_in (Known t) (needs main t (maker_at t s.from)) n
+          (needs_known t main whole [] (maker_at t s.from) (led s.from s.reached)) i) in
           let q = item_at row_name n t.rows p.0 p.1 in
-          let f = filter_none (λ x. not (live_at t x)) p.0 (row_leads main t s.from) s.met (rows_has (needs main t (maker_at t s.from)) n p.0 i p.1) in
+          let f = filter_none (λ x. not (live_at t x)) p.0 (row_leads main t s.from) s.met
+          (rows_has (needs main t (maker_at t s.from)) n p.0 i p.1) in
           ap (λ (o : Option (Row P)). option_map_or is_live_row o false) q.is_found
           ∙ (sym (ap (λ (o : Option (Row P)). option_map_or is_live_row o false) q.there)
           ∙ not_false (live_at t p.0) f)

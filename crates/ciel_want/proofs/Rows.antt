@@ -1,5 +1,6 @@
 -- Rows by their names and by their numbers.
-use Rattle.std.proofs.Common.{◌≡◌, ℕ, zero, suc, ◌<◌, List, [], ◌∷◌, Bool, true, false, cond, map, length, slice_get, refl, ap, sym, ◌∙◌, subst, ◌⊎◌, inl, inr, arith, Option, Some, None, IsSome}
+use Rattle.std.proofs.Common.{◌≡◌, ℕ, zero, suc, ◌<◌, List, [], ◌∷◌, Bool, true, false, cond, map, length, slice_get, refl, ap, sym, ◌∙◌, subst, ◌⊎◌}
+use Rattle.std.proofs.Common.{inl, inr, arith, Option, Some, None, IsSome}
 use Rattle.std.specs.List.{AllByRecursion, IsDistinct}
 use Rattle.std.specs.Option.{option_map}
 use Rattle.sky_base.specs.Val.{same_text}
@@ -41,17 +42,21 @@ module _ {X : Type 0} (name : X → List ℕ) where
             within = (let w = q.within in omega (arith, w));
           })
 
-      turn : ((same_text n (name x) ≡ true) ⊎ (same_text n (name x) ≡ false)) → (o : Option ℕ) → place_of name n xs ≡ o → ((k : ℕ) → place_of name n xs ≡ Some k → Item n xs k) → Item n (x ∷ xs) i
+      turn : ((same_text n (name x) ≡ true) ⊎ (same_text n (name x) ≡ false)) → (o : Option ℕ) → place_of name n xs ≡ o
+          → ((k : ℕ) → place_of name n xs ≡ Some k → Item n xs k) → Item n (x ∷ xs) i
       turn (inl t) o h r =
           let s : Some 0 ≡ Some i = sym (ap (λ b. cond b (Some 0) (option_map suc (place_of name n xs))) t) ∙ e in
           let z : 0 ≡ i = cc in here t z
       turn (inr f) None h r =
-          let s : None ≡ Some i = sym (ap (λ q. option_map suc q) h) ∙ (sym (ap (λ b. cond b (Some 0) (option_map suc (place_of name n xs))) f) ∙ e) in cc
+          let s : None ≡ Some i = sym (ap (λ q. option_map suc q) h)
+          ∙ (sym (ap (λ b. cond b (Some 0) (option_map suc (place_of name n xs))) f) ∙ e) in cc
       turn (inr f) (Some k) h r =
-          let s : Some (suc k) ≡ Some i = sym (ap (λ q. option_map suc q) h) ∙ (sym (ap (λ b. cond b (Some 0) (option_map suc (place_of name n xs))) f) ∙ e) in
+          let s : Some (suc k) ≡ Some i = sym (ap (λ q. option_map suc q) h)
+          ∙ (sym (ap (λ b. cond b (Some 0) (option_map suc (place_of name n xs))) f) ∙ e) in
           let z : suc k ≡ i = cc in after f k z (r k h)
 
-  apart_at : (m : List ℕ) (xs : List X) (i : ℕ) (y : X) → AllByRecursion (λ n. same_text m n ≡ false) (map name xs) → slice_get xs i ≡ Some y → same_text m (name y) ≡ false
+  apart_at : (m : List ℕ) (xs : List X) (i : ℕ) (y : X) → AllByRecursion (λ n. same_text m n ≡ false) (map name xs) → slice_get xs i ≡ Some y
+      → same_text m (name y) ≡ false
   apart_at m [] i y a e = cc
   apart_at m (x ∷ xs) zero y a e = let s : x ≡ y = cc in subst (λ z. same_text m (name z) ≡ false) s a.0
   apart_at m (x ∷ xs) (suc i) y a e = apart_at m xs i y a.1 e
@@ -62,7 +67,8 @@ module _ {X : Type 0} (name : X → List ℕ) where
   own_place [] i x o e = cc
   own_place (y ∷ ys) zero x o e =
       let s : y ≡ x = cc in
-      ap (λ b. cond b (Some 0) (option_map suc (place_of name (name x) ys))) (subst (λ z. same_text (name x) (name z) ≡ true) (sym s) (self_text (name x)))
+      ap (λ b. cond b (Some 0) (option_map suc (place_of name (name x) ys)))
+      (subst (λ z. same_text (name x) (name z) ≡ true) (sym s) (self_text (name x)))
   own_place (y ∷ ys) (suc i) x o e =
       let f : same_text (name x) (name y) ≡ false = flip_text (name y) (name x) (apart_at (name y) ys i x o.0 e) in
       ap (λ b. cond b (Some 0) (option_map suc (place_of name (name x) ys))) f

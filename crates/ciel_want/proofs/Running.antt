@@ -1,5 +1,6 @@
 -- Which of the reached tasks can run.
-use Rattle.std.proofs.Common.{◌≡◌, ℕ, List, [], ◌∷◌, Bool, true, false, ◌&&◌, ◌==◌, not, length, refl, ap, sym, ◌∙◌, subst, ◌⊎◌, inl, inr, arith, eqb-true, Option, Some, None, IfSome, IfNone}
+use Rattle.std.proofs.Common.{◌≡◌, ℕ, List, [], ◌∷◌, Bool, true, false, ◌&&◌, ◌==◌, not, length, refl, ap, sym, ◌∙◌, subst, ◌⊎◌, inl, inr, arith}
+use Rattle.std.proofs.Common.{eqb-true, Option, Some, None, IfSome, IfNone}
 use Rattle.std.specs.List.{AllByRecursion}
 use Rattle.sky_base.specs.declared.object.TaskId.{TaskId}
 use Rattle.ciel_journal.specs.Graph.{Led, Runnable}
@@ -84,6 +85,7 @@ module _ {P : Type 0} (main : List ℕ) (t : TableSeen P) (whole : Whole main t)
           let c : true ≡ false = sym l ∙ d in
           cc
 
-      both : (b : Bool) → b ≡ false → (es : List ℕ) → blockers_of t (needs main t task) ≡ es → not b && is_none (blockers_of t (needs main t task)) ≡ true
+      both : (b : Bool) → b ≡ false → (es : List ℕ) → blockers_of t (needs main t task) ≡ es → not b
+          && is_none (blockers_of t (needs main t task)) ≡ true
       both true e es q = cc
       both false e es q = ap is_none q ∙ empty es q

@@ -1,5 +1,6 @@
 -- The test of a table, and what it says.
-use Rattle.std.proofs.Common.{◌≡◌, ◌↔◌, ℕ, suc, List, [], ◌∷◌, Bool, true, false, ◌&&◌, ◌||◌, drop, slice_get, refl, ap, sym, ◌∙◌, subst, Option, Some, None, IsSome}
+use Rattle.std.proofs.Common.{◌≡◌, ◌↔◌, ℕ, suc, List, [], ◌∷◌, Bool, true, false, ◌&&◌, ◌||◌, drop, slice_get, refl, ap, sym, ◌∙◌, subst, Option}
+use Rattle.std.proofs.Common.{Some, None, IsSome}
 use Rattle.std.specs.List.{AllByRecursion}
 use Rattle.std.specs.Option.{option_map_or}
 use Rattle.sky_base.specs.declared.object.TaskId.{TaskId}
@@ -22,7 +23,8 @@ module _ {P : Type 0} (main : List ℕ) (t : TableSeen P) where
   known_says [] e = tt
   known_says (n ∷ ns) e = turn (find n t) refl e (known_says ns)
     where
-      turn : (o : Option ℕ) → find n t ≡ o → option_map_or (λ (k : ℕ). all_known t ns) o false ≡ true → (all_known t ns ≡ true → AllKnown t ns) → AllKnown t (n ∷ ns)
+      turn : (o : Option ℕ) → find n t ≡ o → option_map_or (λ (k : ℕ). all_known t ns) o false ≡ true → (all_known t ns ≡ true → AllKnown t ns)
+          → AllKnown t (n ∷ ns)
       turn None h k r = cc
       turn (Some i) h k r = (subst IsSome (sym h) refl, r k)
 
@@ -91,14 +93,17 @@ module _ {P : Type 0} (main : List ℕ) (t : TableSeen P) where
 
   -- ---- the steps of the test
 
-  first_row : (i : ℕ) (r : Row P) → slice_get t.rows i ≡ Some r → rows_whole main t (drop i t.rows) ≡ row_whole main t r && rows_whole main t (drop (suc i) t.rows)
+  first_row : (i : ℕ) (r : Row P) → slice_get t.rows i ≡ Some r → rows_whole main t (drop i t.rows) ≡ row_whole main t r
+      && rows_whole main t (drop (suc i) t.rows)
   first_row i r g = ap (rows_whole main t) (drop_at t.rows i r g)
 
-  pub row_stops : (i : ℕ) (r : Row P) (b : Bool) → rows_whole main t (drop i t.rows) ≡ rows_whole main t t.rows → slice_get t.rows i ≡ Some r → b ≡ row_whole main t r → b ≡ false → false ≡ rows_whole main t t.rows
+  pub row_stops : (i : ℕ) (r : Row P) (b : Bool) → rows_whole main t (drop i t.rows) ≡ rows_whole main t t.rows → slice_get t.rows i ≡ Some r → b
+      ≡ row_whole main t r → b ≡ false → false ≡ rows_whole main t t.rows
   row_stops i r b k g e h =
       ap (λ c. c && rows_whole main t (drop (suc i) t.rows)) (sym h ∙ e) ∙ (sym (first_row i r g) ∙ k)
 
-  pub row_goes : (i : ℕ) (r : Row P) (b : Bool) → rows_whole main t (drop i t.rows) ≡ rows_whole main t t.rows → slice_get t.rows i ≡ Some r → b ≡ row_whole main t r → b ≡ true → rows_whole main t (drop (suc i) t.rows) ≡ rows_whole main t t.rows
+  pub row_goes : (i : ℕ) (r : Row P) (b : Bool) → rows_whole main t (drop i t.rows) ≡ rows_whole main t t.rows → slice_get t.rows i ≡ Some r → b
+      ≡ row_whole main t r → b ≡ true → rows_whole main t (drop (suc i) t.rows) ≡ rows_whole main t t.rows
   row_goes i r b k g e h =
       ap (λ c. c && rows_whole main t (drop (suc i) t.rows)) (sym h ∙ e) ∙ (sym (first_row i r g) ∙ k)
 

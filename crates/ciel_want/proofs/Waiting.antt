@@ -1,5 +1,6 @@
 -- What the tasks of a table wait for, and the rows to which it leads.
-use Rattle.std.proofs.Common.{◌≡◌, ℕ, List, [], ◌∷◌, ◌++◌, Bool, true, false, cond, ◌||◌, refl, ap, sym, ◌∙◌, subst, ◌⊎◌, inl, inr, Option, Some, None, nat_eq, eq-eqb, nat_lt}
+use Rattle.std.proofs.Common.{◌≡◌, ℕ, List, [], ◌∷◌, ◌++◌, Bool, true, false, cond, ◌||◌, refl, ap, sym, ◌∙◌, subst, ◌⊎◌, inl, inr, Option, Some}
+use Rattle.std.proofs.Common.{None, nat_eq, eq-eqb, nat_lt}
 use Rattle.std.specs.List.{AllByRecursion, list_any}
 use Rattle.std.specs.Option.{option_map_or, option_and_then}
 use Rattle.sky_base.specs.Names.{known_of}
@@ -117,18 +118,23 @@ module _ {P : Type 0} (t : TableSeen P) where
       more : ((n : List ℕ) × In n ms × (blocker t n ≡ Some e)) → (n : List ℕ) × In n (m ∷ ms) × (blocker t n ≡ Some e)
       more q = (q.0, inr q.1, q.2)
 
-      one : (x : ℕ) → blocker t m ≡ Some x → ((e ≡ x) ⊎ Among e (blockers_of t ms)) → (Among e (blockers_of t ms) → (n : List ℕ) × In n ms × (blocker t n ≡ Some e)) → (n : List ℕ) × In n (m ∷ ms) × (blocker t n ≡ Some e)
+      one : (x : ℕ) → blocker t m ≡ Some x → ((e ≡ x) ⊎ Among e (blockers_of t ms))
+          → (Among e (blockers_of t ms) → (n : List ℕ) × In n ms × (blocker t n ≡ Some e)) → (n : List ℕ) × In n (m ∷ ms)
+          × (blocker t n ≡ Some e)
       one x q (inl s) r = (m, inl refl, q ∙ ap (λ y. Some y) (sym s))
       one x q (inr k) r = more (r k)
 
-      turn : (o : Option ℕ) → blocker t m ≡ o → Among e (with_some o (blockers_of t ms)) → (Among e (blockers_of t ms) → (n : List ℕ) × In n ms × (blocker t n ≡ Some e)) → (n : List ℕ) × In n (m ∷ ms) × (blocker t n ≡ Some e)
+      turn : (o : Option ℕ) → blocker t m ≡ o → Among e (with_some o (blockers_of t ms))
+          → (Among e (blockers_of t ms) → (n : List ℕ) × In n ms × (blocker t n ≡ Some e)) → (n : List ℕ) × In n (m ∷ ms)
+          × (blocker t n ≡ Some e)
       turn None q h r = more (r h)
       turn (Some x) q h r = one x q (among_head e x (blockers_of t ms) h) r
 
   -- ---- what a whole table says
 
   module _ (main : List ℕ) where
-    row_whole : (r : Row P) → RowWhole main t (is_input r.desc) r → is_input r.desc ≡ false → TaskKnown t r.task × AllByRecursion (Known t) (needs main t r.task)
+    row_whole : (r : Row P) → RowWhole main t (is_input r.desc) r → is_input r.desc ≡ false → TaskKnown t r.task
+        × AllByRecursion (Known t) (needs main t r.task)
     row_whole r h e = subst (λ b. RowWhole main t b r) e h
 
     module _ (whole : Whole main t) where
@@ -137,14 +143,16 @@ module _ {P : Type 0} (t : TableSeen P) where
       needs_known out task (root) = whole.root
       needs_known out task (through l o n i v k) = found_row (row_named n t) refl k
         where
-          made : (r : Row P) → row_named n t ≡ Some r → (b : Bool) → is_input r.desc ≡ b → cond b None (Some r.task) ≡ Some task → AllByRecursion (Known t) (needs main t task)
+          made : (r : Row P) → row_named n t ≡ Some r → (b : Bool) → is_input r.desc ≡ b → cond b None (Some r.task) ≡ Some task
+              → AllByRecursion (Known t) (needs main t task)
           made r q true d h = cc
           made r q false d h =
               let s : r.task ≡ task = cc in
               let w = row_whole r (all_found row_name (λ (x : Row P). RowWhole main t (is_input x.desc) x) n t.rows r whole.rows q) d in
               subst (λ x. AllByRecursion (Known t) (needs main t x)) s w.1
 
-          found_row : (o : Option (Row P)) → row_named n t ≡ o → option_and_then (made_by t) o ≡ Some task → AllByRecursion (Known t) (needs main t task)
+          found_row : (o : Option (Row P)) → row_named n t ≡ o → option_and_then (made_by t) o ≡ Some task
+              → AllByRecursion (Known t) (needs main t task)
           found_row None q h = cc
           found_row (Some r) q h = made r q (is_input r.desc) refl h
 
@@ -154,7 +162,8 @@ module _ {P : Type 0} (t : TableSeen P) where
           let p = some_place row_name n t.rows k in
           let q = item_at row_name n t.rows p.0 p.1 in
           let dead : is_live_row q.item ≡ false = sym (ap (λ (o : Option (Row P)). option_map_or is_live_row o false) q.is_found) ∙ l in
-          let w = row_whole q.item (all_found row_name (λ (x : Row P). RowWhole main t (is_input x.desc) x) n t.rows q.item whole.rows q.is_found) (or_false (is_input q.item.desc) (has_place q.item.places) dead).0 in
+          let w = row_whole q.item (all_found row_name (λ (x : Row P). RowWhole main t (is_input x.desc) x) n t.rows q.item whole.rows
+          q.is_found) (or_false (is_input q.item.desc) (has_place q.item.places) dead).0 in
           task q.item q.is_found dead q.item.task refl w.0
         where
           task : (r : Row P) → row_named n t ≡ Some r → is_live_row r ≡ false → (k : TaskId) → r.task ≡ k → TaskKnown t k → (e : ℕ) × Blocks n e

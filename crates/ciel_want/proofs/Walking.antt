@@ -1,5 +1,6 @@
 -- A walk along unmet needs: each name of the trail waits for the next one.
-use Rattle.std.proofs.Common.{◌≡◌, ℕ, zero, suc, ◌-◌, ◌≤◌, List, [], ◌∷◌, ◌++◌, length, drop, Bool, true, false, ◌||◌, nat_eq, Option, Some, None, slice_get, ◌⊎◌, inl, inr, refl, ap, sym, ◌∙◌, subst, arith, eqb-true, eq-eqb}
+use Rattle.std.proofs.Common.{◌≡◌, ℕ, zero, suc, ◌-◌, ◌≤◌, List, [], ◌∷◌, ◌++◌, length, drop, Bool, true, false, ◌||◌, nat_eq, Option, Some, None}
+use Rattle.std.proofs.Common.{slice_get, ◌⊎◌, inl, inr, refl, ap, sym, ◌∙◌, subst, arith, eqb-true, eq-eqb}
 use Rattle.std.proofs.Math.ListN.{take}
 use Rattle.std.proofs.Math.Seq.{take-length}
 use Rattle.std.proofs.lemmas.List.{length-drop}
@@ -66,7 +67,8 @@ module _ (needs : Option ℕ → List ℕ) (live : ℕ → Bool) where
         few = let l : length trail ≡ 0 = ap length e in omega (arith, l);
       }
 
-  pub walk_step : (bound : ℕ) (trail : List ℕ) (d : ℕ) (next : Option ℕ) → IsWithin needs live bound → Walking bound trail (Some d) → list_any (nat_eq d) trail ≡ false → next ≡ slice_get (unmet needs live (Some d)) 0 → Walking bound (trail ++ d ∷ []) next
+  pub walk_step : (bound : ℕ) (trail : List ℕ) (d : ℕ) (next : Option ℕ) → IsWithin needs live bound → Walking bound trail (Some d)
+      → list_any (nat_eq d) trail ≡ false → next ≡ slice_get (unmet needs live (Some d)) 0 → Walking bound (trail ++ d ∷ []) next
   walk_step bound trail d next w s new n =
       let p = path_last None trail s.at d s.path (next_among (unmet needs live s.at) d s.is_next) in
       let dis = distinct_last trail d s.distinct new in
@@ -89,7 +91,8 @@ module _ (needs : Option ℕ → List ℕ) (live : ℕ → Bool) where
   abbrev Rest : Option ℕ → ℕ → List ℕ → Type 0
   Rest at d xs = (rest : List ℕ) × (xs ≡ d ∷ rest) × Path (Some d) rest at × LedTo needs live d
 
-  path_split : (x : Option ℕ) (ds : List ℕ) (at : Option ℕ) (i d : ℕ) → IsReached needs live x → Path x ds at → slice_get ds i ≡ Some d → Rest at d (drop i ds)
+  path_split : (x : Option ℕ) (ds : List ℕ) (at : Option ℕ) (i d : ℕ) → IsReached needs live x → Path x ds at → slice_get ds i ≡ Some d
+      → Rest at d (drop i ds)
   path_split x [] at i d r p g = cc
   path_split x (e ∷ es) at zero d r p g =
       let s : e ≡ d = cc in
@@ -103,11 +106,15 @@ module _ (needs : Option ℕ → List ℕ) (live : ℕ → Bool) where
   distinct_drop (x ∷ xs) zero d = d
   distinct_drop (x ∷ xs) (suc i) d = distinct_drop xs i d.1
 
-  pub walk_circle : (bound : ℕ) (trail : List ℕ) (d i : ℕ) → Walking bound trail (Some d) → slice_get trail i ≡ Some d → IsCircle needs live (drop i trail)
+  pub walk_circle : (bound : ℕ) (trail : List ℕ) (d i : ℕ) → Walking bound trail (Some d) → slice_get trail i ≡ Some d
+      → IsCircle needs live (drop i trail)
   walk_circle bound trail d i s g =
       let r = path_split None trail s.at i d reached_none s.path g in
-      subst (IsCircle needs live) (sym r.1)
-      (r.3, links_of d d r.0 s.at r.2 (next_among (unmet needs live s.at) d s.is_next), subst (IsDistinct nat_eq) r.1 (distinct_drop trail i s.distinct))
+      subst (IsCircle needs live) (sym r.1) (
+        r.3,
+        links_of d d r.0 s.at r.2 (next_among (unmet needs live s.at) d s.is_next),
+        subst (IsDistinct nat_eq) r.1 (distinct_drop trail i s.distinct),
+      )
 
 -- all that is left from a place on
 pub take_rest : (xs ys : List ℕ) (i : ℕ) → xs ≡ ys → take (length xs - i) (drop i xs) ≡ drop i ys

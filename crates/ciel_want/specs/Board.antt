@@ -1,5 +1,6 @@
 -- The graph of a table by numbers of rows: each stands for the task of its name.
-use Rattle.std.specs.Prelude.{◌≡◌, ℕ, List, [], ◌∷◌, Bool, true, false, cond, not, filter, Option, Some, None, ◌&&◌, ◌||◌, slice_get, slice_set, length, ◌<◌, ◌⊎◌}
+use Rattle.std.specs.Prelude.{◌≡◌, ℕ, List, [], ◌∷◌, Bool, true, false, cond, not, filter, Option, Some, None, ◌&&◌, ◌||◌, slice_get, slice_set}
+use Rattle.std.specs.Prelude.{length, ◌<◌, ◌⊎◌}
 use Rattle.std.specs.Option.{option_map_or, option_and_then}
 use Rattle.sky_base.specs.declared.object.TaskId.{TaskId}
 use Rattle.ciel_table.specs.Seen.{TableSeen, find, is_input, is_live_row, row_name, row_named}

@@ -60,7 +60,8 @@ module _ {D P : Type 0} (job : Job D) (v : Standing D) (main : List ℕ) (t : Ta
   pub record Agree : Type 0 where
     pub reached : (u : Task D) → Reached job v u → Led (graph main t out) (task_id job u)
     pub only : (x : TaskId) → Led (graph main t out) x → (u : Task D) × (task_id job u ≡ x) × Reached job v u
-    pub ready : (us : List (Task D)) (ts : List TaskId) → IsReadyList job v us → Picks (Runnable (graph main t out)) (tasks_in_order t) ts → ts ≡ map (task_id job) us
+    pub ready : (us : List (Task D)) (ts : List TaskId) → IsReadyList job v us → Picks (Runnable (graph main t out)) (tasks_in_order t) ts → ts
+        ≡ map (task_id job) us
     pub circle : v.orders ≡ [] → (ns : List (List ℕ)) → Circle (graph main t out) ns → (ds : List D) × (ns ≡ map job.name ds) × CircleAtRest job v ds
 
 module _ {D P : Type 0} (job : Job D) (v : Standing D) (main : List ℕ) (t : TableSeen P) (out : List TaskId) where
@@ -83,7 +84,8 @@ module _ (D P : Type 0) where
   -- a table that is a history's agrees with it
   abbrev pub HistoryAgrees : Type 0
   HistoryAgrees =
-      (job : Job D) → IsJob job → (v : Standing D) (main : List ℕ) (t : TableSeen P) (out : List TaskId) → IsHistory job v main t out → Agree job v main t out
+      (job : Job D) → IsJob job → (v : Standing D) (main : List ℕ) (t : TableSeen P) (out : List TaskId) → IsHistory job v main t out
+      → Agree job v main t out
 
 module _ (P : Type 0) where
   -- where all names have rows, a table is whole

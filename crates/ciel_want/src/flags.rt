@@ -44,7 +44,8 @@ fn flag<P: At + Drop>(table: &Table<P>, rows: &mut Vec<bool>, task: &TaskId)
     requires once { IsOnce row_name table.now.rows }
     requires long { length rows.old.items ≡ length table.now.rows }
     ensures long { length rows.new.items ≡ length table.now.rows }
-    ensures set { (e : ℕ) → e < length table.now.rows → IsSet (same_id (task_at table.now (Some e)) task.now) (slice_get rows.old.items e) (slice_get rows.new.items e) }
+    ensures set { (e : ℕ) → e < length table.now.rows
+        → IsSet (same_id (task_at table.now (Some e)) task.now) (slice_get rows.old.items e) (slice_get rows.new.items e) }
 {
     if let TaskId::Of(name) = task {
         match table.find(name) {

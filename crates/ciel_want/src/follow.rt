@@ -138,7 +138,8 @@ pub(crate) fn follow<P: At + Drop>(
     table: &Table<P>,
     main: &Name,
 ) -> Result<Option<Names>, Memory>
-    ensures circle { IfOk result (λ o. IfSome o (λ ns. (es : List ℕ) × IsCircle (row_leads main.now table.now) (live_at table.now) es × (ns ≡ names_at table.now es))) }
+    ensures circle { IfOk result (λ o. IfSome o
+        (λ ns. (es : List ℕ) × IsCircle (row_leads main.now table.now) (live_at table.now) es × (ns ≡ names_at table.now es))) }
     ensures met { IfOk result (λ o. IfNone o (SomeMet (row_leads main.now table.now) (live_at table.now))) }
 {
     let mut flags = no_flags(alloc, table.len() as usize)?;

@@ -31,7 +31,9 @@ fn list<P: At + Drop>(
 ) -> Result<(), Memory>
     requires held { row < length table.now.rows }
     requires long { length flags.old.items ≡ length table.now.rows }
-    ensures tasks { OnOk result (tasks.new.items ≡ cond (is_set flags.old.items (task_row table.now (maker_at table.now (Some row)))) (tasks.old.items ++ maker_at table.now (Some row) ∷ []) tasks.old.items) }
+    ensures tasks { OnOk result (tasks.new.items
+        ≡ cond (is_set flags.old.items (task_row table.now (maker_at table.now (Some row))))
+        (tasks.old.items ++ maker_at table.now (Some row) ∷ []) tasks.old.items) }
     ensures flags { OnOk result (flags.new.items ≡ cleared (task_row table.now (maker_at table.now (Some row))) flags.old.items) }
 {
     let Some(own) = own_row(table, row) else {

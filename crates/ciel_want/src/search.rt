@@ -109,7 +109,8 @@ pub(crate) fn reached<P: At + Drop>(
     ensures all { IfOk result (λ f. (e : ℕ) → LedTo (leads table.now main.now out.now.tasks.now) never e → Flagged f.reached.items e) }
     ensures only { IfOk result (λ f. (e : ℕ) → Flagged f.reached.items e → LedTo (leads table.now main.now out.now.tasks.now) never e) }
     ensures ready_long { IfOk result (λ f. length f.ready.items ≡ length table.now.rows) }
-    ensures ready { IfOk result (λ f. (e : ℕ) → LedTo (leads table.now main.now out.now.tasks.now) never e → slice_get f.ready.items e ≡ Some (can_run_test main.now table.now out.now.tasks.now (task_at table.now (Some e)))) }
+    ensures ready { IfOk result (λ f. (e : ℕ) → LedTo (leads table.now main.now out.now.tasks.now) never e → slice_get f.ready.items e
+        ≡ Some (can_run_test main.now table.now out.now.tasks.now (task_at table.now (Some e)))) }
     ensures ready_only { IfOk result (λ f. (e : ℕ) → Flagged f.ready.items e → LedTo (leads table.now main.now out.now.tasks.now) never e) }
     ensures root { IfOk result (λ f. f.root ≡ can_run_test main.now table.now out.now.tasks.now TaskId.Show) }
 {

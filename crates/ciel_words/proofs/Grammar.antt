@@ -23,7 +23,8 @@ abbrev pub named : List Row → Option Rule → Option Text → (List Row → Op
 named R None v next later = None
 named R (Some a) v next later = if takes_values a then option_case R a v next (later a) else flag_case R a v next
 
-abbrev pub word_case : List Rule → Rule → List Row → Text → Option (Text × Option Text) → Option Text → (List Row → Option (List Row)) → (Rule → Option (List Row)) → Option (List Row)
+abbrev pub word_case : List Rule → Rule → List Row → Text → Option (Text × Option Text) → Option Text → (List Row → Option (List Row))
+    → (Rule → Option (List Row)) → Option (List Row)
 word_case c p R w (Some l) short next later = named R (arg_by_long c l.0) l.1 next later
 word_case c p R w None (Some flags) next later = None
 word_case c p R w None None next later = next (used p (w ∷ []) R)

@@ -1,5 +1,6 @@
 -- The command is one of options, flags and positional words: clap refuses words exactly where the grammar of rows does, and has its rows.
-use Rattle.std.proofs.Common.{◌≡◌, ◌≢◌, Bool, true, false, ◌||◌, cond, List, [], ◌∷◌, Option, Some, None, MatchOption, fold, codes, refl, sym, ap, subst, ◌∙◌, inl, inr, ◌⊎◌}
+use Rattle.std.proofs.Common.{◌≡◌, ◌≢◌, Bool, true, false, ◌||◌, cond, List, [], ◌∷◌, Option, Some, None, MatchOption, fold, codes, refl, sym, ap}
+use Rattle.std.proofs.Common.{subst, ◌∙◌, inl, inr, ◌⊎◌}
 use Rattle.std.specs.Str.{bytes_eq}
 use Rattle.std.proofs.lemmas.Slice.Eq.{bytes_eq-Decides}
 use Rattle.clap.specs.Kinds.{Kinds}
@@ -128,7 +129,8 @@ flags_of n true g hf hg = this_flag (codes "trace") n trace_is (hf refl)
 flags_of n false true hf hg = this_flag (codes "plain") n plain_is (hg refl)
 flags_of n false false hf hg = none refl refl refl
 
-picked : (n : Text) (a b c d e u : Bool) (o : Option Rule) → (a ≡ true → codes "workers" ≡ n) → (b ≡ true → codes "seed" ≡ n) → (c ≡ true → codes "lose" ≡ n)
+picked : (n : Text) (a b c d e u : Bool) (o : Option Rule) → (a ≡ true → codes "workers" ≡ n) → (b ≡ true → codes "seed" ≡ n)
+    → (c ≡ true → codes "lose" ≡ n)
     → (d ≡ true → codes "names" ≡ n) → (e ≡ true → codes "generate" ≡ n) → RuleOf n o false u
     → RuleOf n (first a (option (codes "workers")) (first b (option (codes "seed")) (first c (option (codes "lose")) (first d (option (codes "names"))
     (first e (option (codes "generate")) o))))) (a || (b || (c || (d || (e || false))))) u
@@ -146,7 +148,8 @@ is m n e = (bytes_eq-Decides m n).0 e
 pub rule_of_name : (n : Text) → RuleOf n (arg_by_long top.rules n) (is_valued n) (is_unvalued n)
 unfolding first
 rule_of_name n =
-    picked n (bytes_eq (codes "workers") n) (bytes_eq (codes "seed") n) (bytes_eq (codes "lose") n) (bytes_eq (codes "names") n) (bytes_eq (codes "generate") n)
+    picked n (bytes_eq (codes "workers") n) (bytes_eq (codes "seed") n) (bytes_eq (codes "lose") n) (bytes_eq (codes "names") n)
+    (bytes_eq (codes "generate") n)
     (is_unvalued n) _ (is _ n) (is _ n) (is _ n) (is _ n) (is _ n)
     (flags_of n (bytes_eq (codes "trace") n) (bytes_eq (codes "plain") n) (is _ n) (is _ n))
 
@@ -213,8 +216,11 @@ accepted ws f =
 accepts_only : (ws : List Text) → fault_of command ws ≡ [] → Fine top (W [] None idle false) ws
 accepts_only ws e =
     let whole = sym (level_is ws) ∙ e in
-    let walk_fine = first_empty (walk_fault top [] (W [] None idle false) ws) _ whole in
-    (walk_fine, first_empty (settle_fault top.rules top.args_override_self (end top (W [] None idle false) ws).held) _ (second_empty (walk_fault top [] (W [] None idle false) ws) _ walk_fine whole))
+    let walk_fine = first_empty (walk_fault top [] (W [] None idle false) ws) _ whole in (
+      walk_fine,
+      first_empty (settle_fault top.rules top.args_override_self (end top (W [] None idle false) ws).held) _
+          (second_empty (walk_fault top [] (W [] None idle false) ws) _ walk_fine whole),
+    )
 
 from_verdict : (ws : List Text) (o : Option (List Row)) → Verdict top (W [] None idle false) ws o
     → MatchOption o (fault_of command ws ≢ []) (λ R. (fault_of command ws ≡ []) × (rows ws ≡ fold with_default R top.rules))
@@ -223,5 +229,6 @@ from_verdict ws (Some R) v = (accepted ws v.0, ap (λ (r : List Row). fold with_
 
 -- clap refuses the words exactly where they are no line, and its rows are the line's
 pub reads_lines : (ws : List Text) → AreSpelled ws
-    → MatchOption (closed top.rules words [] ws) (fault_of command ws ≢ []) (λ R. (fault_of command ws ≡ []) × (rows ws ≡ fold with_default R top.rules))
+    → MatchOption (closed top.rules words [] ws) (fault_of command ws ≢ [])
+    (λ R. (fault_of command ws ≡ []) × (rows ws ≡ fold with_default R top.rules))
 reads_lines ws sp = from_verdict ws (closed top.rules words [] ws) (walk_is_line top words line_is ws sp)

@@ -6,7 +6,8 @@ use Rattle.std.specs.Str.{bytes_eq}
 use Rattle.std.proofs.lemmas.Bool.{eqb-true}
 use Rattle.clap.specs.Lexer.{long_of, short_of}
 use Rattle.clap.specs.Walk.{Row, Rule, Text, arg_by_long, has_row, used}
-use Rattle.ciel_words.specs.Parts.{Part, option, flag, word, dashes, is_positional, is_valued, is_unvalued, begins_with_two, name_in, value_in, before, option_parts}
+use Rattle.ciel_words.specs.Parts.{Part, option, flag, word, dashes, is_positional, is_valued, is_unvalued, begins_with_two, name_in, value_in}
+use Rattle.ciel_words.specs.Parts.{before, option_parts}
 use Rattle.ciel_words.proofs.Grammar.{closed, opened, fresh, named, rest_of}
 use Rattle.ciel_words.proofs.Instance.{top, words, RuleOf, an_option, a_flag, none, rule_of_name}
 use Rattle.ciel_words.proofs.Instance as own
@@ -61,7 +62,8 @@ kind_of (a ∷ rest) d = begun a rest d (a == 45) refl
 
 -- ---- clap's rows are those of the parts
 
-after_before : (R : List Row) (p : Part) (o : Option (List Part)) → option_and_then (added R) (before p o) ≡ option_and_then (λ ps. added R (p ∷ ps)) o
+after_before : (R : List Row) (p : Part) (o : Option (List Part)) → option_and_then (added R) (before p o)
+    ≡ option_and_then (λ ps. added R (p ∷ ps)) o
 after_before R p None = refl
 after_before R p (Some ps) = refl
 
@@ -69,7 +71,8 @@ none_either : {A : Type 0} (h : Bool) → cond {A = Option A} h None None ≡ No
 none_either true = refl
 none_either false = refl
 
-fresh_over : (R : List Row) (a : Rule) (f : List Part → Option (List Row)) (o : Option (List Part)) → fresh R a (option_and_then f o) ≡ option_and_then (λ ps. fresh R a (f ps)) o
+fresh_over : (R : List Row) (a : Rule) (f : List Part → Option (List Row)) (o : Option (List Part)) → fresh R a (option_and_then f o)
+    ≡ option_and_then (λ ps. fresh R a (f ps)) o
 fresh_over R a f None = none_either (has_row a.id R)
 fresh_over R a f (Some ps) = refl
 
@@ -83,17 +86,20 @@ Closed ws = (R : List Row) → closed top.rules words R ws ≡ option_and_then (
 abbrev pub Opened : List Text → Type 0
 Opened ws = (n : Text) (R : List Row) → opened top.rules words (own.option n) R ws ≡ option_and_then (added R) (loose_value n ws)
 
-long_step : (n : Text) (v : Option Text) (ws : List Text) → Closed ws → Opened ws → (R : List Row) → RuleOf n (arg_by_long top.rules n) (is_valued n) (is_unvalued n)
+long_step : (n : Text) (v : Option Text) (ws : List Text) → Closed ws → Opened ws → (R : List Row)
+    → RuleOf n (arg_by_long top.rules n) (is_valued n) (is_unvalued n)
     → named R (arg_by_long top.rules n) v (λ r. closed top.rules words r ws) (λ a. opened top.rules words a R ws)
     ≡ option_and_then (added R) (option_parts n v (loose ws) (loose_value n ws))
 long_step n (Some x) ws rec later R (an_option e is t) =
     let with_it = used (own.option n) (x ∷ []) R in
-    rw (e, t) (ap (fresh R (own.option n)) (rec with_it) ∙ fresh_over R (own.option n) (added with_it) (loose ws) ∙ sym (after_before R (option n x) (loose ws)))
+    rw (e, t) (ap (fresh R (own.option n)) (rec with_it) ∙ fresh_over R (own.option n) (added with_it) (loose ws)
+    ∙ sym (after_before R (option n x) (loose ws)))
 long_step n None ws rec later R (an_option e is t) = rw (e, t) (later n R)
 long_step n (Some x) ws rec later R (a_flag e is t u) = rw (e, t) refl
 long_step n None ws rec later R (a_flag e is t u) =
     let with_it = used (own.flag n) [] R in
-    rw (e, t, u) (ap (fresh R (own.flag n)) (rec with_it) ∙ fresh_over R (own.flag n) (added with_it) (loose ws) ∙ sym (after_before R (flag n) (loose ws)))
+    rw (e, t, u) (ap (fresh R (own.flag n)) (rec with_it) ∙ fresh_over R (own.flag n) (added with_it) (loose ws)
+    ∙ sym (after_before R (flag n) (loose ws)))
 long_step n (Some x) ws rec later R (none e t u) = rw (e, t) refl
 long_step n None ws rec later R (none e t u) = rw (e, t, u) refl
 
@@ -115,7 +121,8 @@ opened_kind : (n w : Text) (ws : List Text) → Closed ws → (R : List Row) →
 unfolding closed loose
 opened_kind n w ws rec R d (plain p l s) =
     let with_it = used (own.option n) (w ∷ []) R in
-    rw (d, p, l, s) (ap (fresh R (own.option n)) (rec with_it) ∙ fresh_over R (own.option n) (added with_it) (loose ws) ∙ sym (after_before R (option n w) (loose ws)))
+    rw (d, p, l, s) (ap (fresh R (own.option n)) (rec with_it) ∙ fresh_over R (own.option n) (added with_it) (loose ws)
+    ∙ sym (after_before R (option n w) (loose ws)))
 opened_kind n w ws rec R d (long p t l) = rw (d, p, l) refl
 opened_kind n w ws rec R d (short p t l flags s) = rw (d, p, l, s) refl
 

@@ -13,7 +13,8 @@ length_behind [] = refl
 length_behind (w ∷ ws) = ap suc (length_behind ws)
 
 pub inputs_behind : (ws : List (Bor (List ℕ)))
-    → (nat_le (length ws) most_inputs && (list_all (λ w. is_input w.now) ws && all_apart (map (λ w. key_in w.now) ws))) ≡ are_inputs (map (λ w. w.now) ws)
+    → (nat_le (length ws) most_inputs && (list_all (λ w. is_input w.now) ws && all_apart (map (λ w. key_in w.now) ws)))
+    ≡ are_inputs (map (λ w. w.now) ws)
 inputs_behind ws =
     ap₂ (λ n b. nat_le n most_inputs && b) (sym (length_behind ws))
     (ap₂ (λ a b. a && b) (sym (list_all-map is_input (λ w. w.now) ws)) (ap all_apart (sym (map_of_map (λ w. w.now) key_in ws))))

@@ -1,5 +1,6 @@
 -- What `parse` reads of a number.
-use Rattle.std.proofs.Common.{◌≡◌, ℕ, ◌<◌, ◌^◌, Bool, true, false, ◌&&◌, cond, nat_le, nat_lt, List, [], ◌∷◌, length, Some, None, Result, Ok, Err, refl, sym, ap, subst, ◌∙◌, arith, ⊎_elim}
+use Rattle.std.proofs.Common.{◌≡◌, ℕ, ◌<◌, ◌^◌, Bool, true, false, ◌&&◌, cond, nat_le, nat_lt, List, [], ◌∷◌, length, Some, None, Result, Ok, Err}
+use Rattle.std.proofs.Common.{refl, sym, ap, subst, ◌∙◌, arith, ⊎_elim}
 use Rattle.std.proofs.lemmas.Bool.{cases_Bool}
 use Rattle.std.proofs.lemmas.Bool.Decides.{nat_tests}
 use Rattle.std.proofs.lemmas.Str.Parse.{numerals_by_value, tells_all_ascii_digits, parse_digits}
@@ -19,7 +20,8 @@ last true true c e = e
 last true false c e = absurd (let bad : false ≡ true = e in cc)
 last false b c e = absurd (let bad : false ≡ true = e in cc)
 
-reads : {E : Type 0} (t : List ℕ) (r : Result ℕ E) → is_number t ≡ true → ParsesUnsigned 64 10 t r → OkIff r ((0 < length t) × (digits_value 10 t < 2 ^ 64)) (digits_value 10 t)
+reads : {E : Type 0} (t : List ℕ) (r : Result ℕ E) → is_number t ≡ true → ParsesUnsigned 64 10 t r
+    → OkIff r ((0 < length t) × (digits_value 10 t < 2 ^ 64)) (digits_value 10 t)
 reads t r e h =
     let digits : all_ascii_digits t ≡ true = sym (same_test t) ∙ last (nat_le 1 (length t)) (nat_le (length t) 20) (list_all is_ascii_digit t) e in
     parse_digits (numerals_by_value (λ ds. all_ascii_digits ds ≡ true) tells_all_ascii_digits) 64 t r h digits
@@ -43,7 +45,8 @@ beyond v high small none = ⊎_elim
     (cases_Bool (nat_lt v (2 ^ 64)))
 
 -- a number that has no 64 bits isn't within any bound that has
-pub not_parsed : {E : Type 0} (low high : ℕ) (t : List ℕ) (r : Result ℕ E) (x : E) → is_number t ≡ true → high < 2 ^ 64 → ParsesUnsigned 64 10 t r → r ≡ Err x
+pub not_parsed : {E : Type 0} (low high : ℕ) (t : List ℕ) (r : Result ℕ E) (x : E) → is_number t ≡ true → high < 2 ^ 64
+    → ParsesUnsigned 64 10 t r → r ≡ Err x
     → number_within low high t ≡ None
 not_parsed low high t r x e small h is =
     let none = subst (λ (y : Result ℕ _). OkIff y ((0 < length t) × (digits_value 10 t < 2 ^ 64)) (digits_value 10 t)) is (reads t r e h) in

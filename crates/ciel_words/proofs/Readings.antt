@@ -10,7 +10,8 @@ use Rattle.ciel_words.specs.Parts.{Part, option, flag, word, is_valued, value_of
 use Rattle.ciel_words.proofs.Instance.{top, words}
 use Rattle.ciel_words.proofs.Instance as own
 use Rattle.ciel_words.proofs.Loose.{added}
-use Rattle.ciel_words.proofs.Rows.{AllOk, all_words, at_none, default_row, differ, find_last, first_given, flag_row, has_is, is, look, looked, option_row, or_first, or_none, words_said}
+use Rattle.ciel_words.proofs.Rows.{AllOk, all_words, at_none, default_row, differ, find_last, first_given, flag_row, has_is, is, look, looked}
+use Rattle.ciel_words.proofs.Rows.{option_row, or_first, or_none, words_said}
 
 either_way : {A : Type 0} (h : Bool) (x : A) → cond h x x ≡ x
 either_way true x = refl
@@ -27,8 +28,10 @@ finished R =
     ∷ own.flag (codes "trace") ∷ own.flag (codes "plain") ∷ words ∷ [])) (none (codes "workers") R)
     ∙ ap (λ S. fold with_default S (own.option (codes "lose") ∷ own.option (codes "names") ∷ own.option (codes "generate")
     ∷ own.flag (codes "trace") ∷ own.flag (codes "plain") ∷ words ∷ [])) (none (codes "seed") R)
-    ∙ ap (λ S. fold with_default S (own.option (codes "names") ∷ own.option (codes "generate") ∷ own.flag (codes "trace") ∷ own.flag (codes "plain") ∷ words ∷ [])) (none (codes "lose") R)
-    ∙ ap (λ S. fold with_default S (own.option (codes "generate") ∷ own.flag (codes "trace") ∷ own.flag (codes "plain") ∷ words ∷ [])) (none (codes "names") R)
+    ∙ ap (λ S. fold with_default S (own.option (codes "names") ∷ own.option (codes "generate") ∷ own.flag (codes "trace")
+    ∷ own.flag (codes "plain") ∷ words ∷ [])) (none (codes "lose") R)
+    ∙ ap (λ S. fold with_default S (own.option (codes "generate") ∷ own.flag (codes "trace") ∷ own.flag (codes "plain") ∷ words ∷ []))
+    (none (codes "names") R)
     ∙ ap (λ S. fold with_default S (own.flag (codes "trace") ∷ own.flag (codes "plain") ∷ words ∷ [])) (none (codes "generate") R)
     ∙ none (codes "words") (with_flag (codes "plain") (with_flag (codes "trace") R))
 
@@ -36,10 +39,12 @@ held : {A : Type 0} (x y : Option A) → is_some x ≡ true → or_first x y ≡
 held None y e = absurd (let bad : false ≡ true = e in cc)
 held (Some a) y e = refl
 
-look_default : (n name : Text) (R : List Row) → look name (with_flag n R) ≡ or_first (look name R) (cond (bytes_eq n name) (Some (default_row n)) None)
+look_default : (n name : Text) (R : List Row) → look name (with_flag n R)
+    ≡ or_first (look name R) (cond (bytes_eq n name) (Some (default_row n)) None)
 look_default n name R = ⊎_elim
     (λ (h : has_row n R ≡ true). rw h (sym (⊎_elim
-    (λ (b : bytes_eq n name ≡ true). (let there : is_some (look name R) ≡ true = ap (λ m. is_some (look m R)) (sym (is n name b)) ∙ sym (has_is n R) ∙ h in held (look name R) _ there))
+    (λ (b : bytes_eq n name ≡ true). (let there : is_some (look name R) ≡ true = ap (λ m. is_some (look m R)) (sym (is n name b))
+    ∙ sym (has_is n R) ∙ h in held (look name R) _ there))
     (λ (b : bytes_eq n name ≡ false). rw b (or_none (look name R)))
     (cases_Bool (bytes_eq n name)))))
     (λ (h : has_row n R ≡ false). rw h (ap (look name) (at_none n (more_values DefaultValue (codes "false" ∷ [])) (default_row n ∷ []) R h)
@@ -80,7 +85,8 @@ flag_step : (n name : Text) (rest : Bool) (o : Option Row) → o ≡ cond rest (
 flag_step n name rest o e true h = ap (λ m. Some (flag_row m)) (is n name h)
 flag_step n name rest o e false h = e
 
-flag_given : (name : Text) → is_valued name ≡ false → (ps : List Part) → AllOk ps → first_given name ps ≡ cond (has_flag name ps) (Some (flag_row name)) None
+flag_given : (name : Text) → is_valued name ≡ false → (ps : List Part) → AllOk ps → first_given name ps
+    ≡ cond (has_flag name ps) (Some (flag_row name)) None
 flag_given name t [] ok = refl
 flag_given name t (option n v ∷ ps) ok =
     let other : bytes_eq n name ≡ false = differ is_valued n name true ok.0 t in
@@ -90,12 +96,14 @@ flag_given name t (word w ∷ ps) ok = flag_given name t ps ok
 
 -- ---- the three kinds of reading
 
-pub value_read : (name : Text) → bytes_eq (codes "words") name ≡ false → bytes_eq (codes "trace") name ≡ false → bytes_eq (codes "plain") name ≡ false → is_valued name ≡ true
+pub value_read : (name : Text) → bytes_eq (codes "words") name ≡ false → bytes_eq (codes "trace") name ≡ false → bytes_eq (codes "plain") name
+    ≡ false → is_valued name ≡ true
     → (ps : List Part) (S : List Row) → AllOk ps → added [] ps ≡ Some S → first_of name (fold with_default S top.rules) ≡ value_of name ps
 value_read name w t p v ps S ok a =
     let row : look name (fold with_default S top.rules) ≡ first_given name ps =
     row_of_name name w ps S a
-    ∙ ap (λ b. or_first (or_first (first_given name ps) (cond b (Some (default_row (codes "trace"))) None)) (cond (bytes_eq (codes "plain") name) (Some (default_row (codes "plain"))) None)) t
+    ∙ ap (λ b. or_first (or_first (first_given name ps) (cond b (Some (default_row (codes "trace"))) None))
+    (cond (bytes_eq (codes "plain") name) (Some (default_row (codes "plain"))) None)) t
     ∙ ap (λ b. or_first (or_first (first_given name ps) None) (cond b (Some (default_row (codes "plain"))) None)) p
     ∙ or_none (or_first (first_given name ps) None) ∙ or_none (first_given name ps) in
     ap first_text row ∙ value_given name v ps ok
@@ -114,14 +122,16 @@ plain_text : (h : Bool) (o : Option Row) → o ≡ cond h (Some (flag_row (codes
 plain_text true o e = rw e refl
 plain_text false o e = rw e refl
 
-pub trace_read : (ps : List Part) (S : List Row) → AllOk ps → added [] ps ≡ Some S → (b : Bool) → FlagSays (one_of (codes "trace") (fold with_default S top.rules)) b
+pub trace_read : (ps : List Part) (S : List Row) → AllOk ps → added [] ps ≡ Some S → (b : Bool)
+    → FlagSays (one_of (codes "trace") (fold with_default S top.rules)) b
     → b ≡ has_flag (codes "trace") ps
 trace_read ps S ok a b f =
     says _ (has_flag (codes "trace") ps) b
     (ap (λ o. option_and_then row_text o) (row_of_name (codes "trace") refl ps S a)
     ∙ trace_text (has_flag (codes "trace") ps) (first_given (codes "trace") ps) (flag_given (codes "trace") refl ps ok)) f
 
-pub plain_read : (ps : List Part) (S : List Row) → AllOk ps → added [] ps ≡ Some S → (b : Bool) → FlagSays (one_of (codes "plain") (fold with_default S top.rules)) b
+pub plain_read : (ps : List Part) (S : List Row) → AllOk ps → added [] ps ≡ Some S → (b : Bool)
+    → FlagSays (one_of (codes "plain") (fold with_default S top.rules)) b
     → b ≡ has_flag (codes "plain") ps
 plain_read ps S ok a b f =
     says _ (has_flag (codes "plain") ps) b
@@ -131,7 +141,8 @@ plain_read ps S ok a b f =
 words_default : (n : Text) (R : List Row) → bytes_eq n (codes "words") ≡ false → all_words (with_flag n R) ≡ all_words R
 words_default n R e =
     ap (λ (o : Option Row). unwrap_or (option_map (λ r. r.values) o) [])
-    (look_default n (codes "words") R ∙ ap (λ b. or_first (look (codes "words") R) (cond b (Some (default_row n)) None)) e ∙ or_none (look (codes "words") R))
+    (look_default n (codes "words") R ∙ ap (λ b. or_first (look (codes "words") R) (cond b (Some (default_row n)) None)) e
+    ∙ or_none (look (codes "words") R))
 
 pub words_read : (ps : List Part) (S : List Row) → AllOk ps → added [] ps ≡ Some S → all_words (fold with_default S top.rules) ≡ texts_of ps
 words_read ps S ok a =

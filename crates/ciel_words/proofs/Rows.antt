@@ -1,5 +1,6 @@
 -- What stands in the rows that parts make: for each option the first of the parts that has its name, and all positional words.
-use Rattle.std.proofs.Common.{◌≡◌, ◌++◌, Bool, true, false, ◌||◌, ◌&&◌, cond, List, [], ◌∷◌, Option, Some, None, codes, find, is_some, refl, sym, ap, ap₂, ◌∙◌, ⊎_elim, append_assoc}
+use Rattle.std.proofs.Common.{◌≡◌, ◌++◌, Bool, true, false, ◌||◌, ◌&&◌, cond, List, [], ◌∷◌, Option, Some, None, codes, find, is_some, refl, sym, ap}
+use Rattle.std.proofs.Common.{ap₂, ◌∙◌, ⊎_elim, append_assoc}
 use Rattle.std.specs.Prelude.{not, option_map, unwrap_or}
 use Rattle.std.specs.List.{list_all}
 use Rattle.std.specs.Str.{bytes_eq}
@@ -61,7 +62,8 @@ flag_used n R e =
     let gone : without n R ≡ R = at_none n (λ _. []) [] R e ∙ append-nil R in
     rw gone (at_none n (more_values CommandLine (codes "true" ∷ [])) (flag_row n ∷ []) R e)
 
-last_step : {A : Type 0} (h : Bool) (y : A) (o left more : Option A) → o ≡ or_first left more → cond h (Some y) o ≡ or_first (cond h (Some y) left) more
+last_step : {A : Type 0} (h : Bool) (y : A) (o left more : Option A) → o ≡ or_first left more → cond h (Some y) o
+    ≡ or_first (cond h (Some y) left) more
 last_step true y o left more e = refl
 last_step false y o left more e = e
 
@@ -123,14 +125,16 @@ some_is : (R S : List Row) → Some R ≡ Some S → R ≡ S
 some_is R S e = cc
 
 -- an option that was taken stood there for the first time
-taken : (R S : List Row) (a : Rule) (next : Option (List Row)) → fresh R a next ≡ Some S → (h : Bool) → has_row a.id R ≡ h → (has_row a.id R ≡ false) × (next ≡ Some S)
+taken : (R S : List Row) (a : Rule) (next : Option (List Row)) → fresh R a next ≡ Some S → (h : Bool) → has_row a.id R ≡ h
+    → (has_row a.id R ≡ false) × (next ≡ Some S)
 taken R S a next e true h = absurd (let bad : None ≡ Some S = rw h at e in cc)
 taken R S a next e false h = (h, rw h at e)
 
 behind : (name : Text) (R S : List Row) (row : Row) (later : Option Row) → look name S ≡ or_first (look name (R ++ row ∷ [])) later
     → look name S ≡ or_first (look name R) (or_first (cond (bytes_eq row.id name) (Some row) None) later)
 behind name R S row later e =
-    e ∙ ap (λ o. or_first o later) (find_last (λ r. bytes_eq r.id name) R row) ∙ or_both (look name R) (cond (bytes_eq row.id name) (Some row) None) later
+    e ∙ ap (λ o. or_first o later) (find_last (λ r. bytes_eq r.id name) R row)
+    ∙ or_both (look name R) (cond (bytes_eq row.id name) (Some row) None) later
 
 -- the row of a name is that of the first part that has it
 pub looked : (name : Text) → bytes_eq (codes "words") name ≡ false → (R : List Row) (ps : List Part) (S : List Row) → added R ps ≡ Some S
@@ -168,7 +172,8 @@ no_words_flag n e = differ is_unvalued n (codes "words") true e refl
 words_kept : (R : List Row) (row : Row) → bytes_eq row.id (codes "words") ≡ false → all_words (R ++ row ∷ []) ≡ all_words R
 words_kept R row e =
     let found : look (codes "words") (R ++ row ∷ []) ≡ look (codes "words") R =
-    find_last (λ r. bytes_eq r.id (codes "words")) R row ∙ ap (λ b. or_first (look (codes "words") R) (cond b (Some row) None)) e ∙ or_none (look (codes "words") R) in
+    find_last (λ r. bytes_eq r.id (codes "words")) R row ∙ ap (λ b. or_first (look (codes "words") R) (cond b (Some row) None)) e
+    ∙ or_none (look (codes "words") R) in
     ap (λ (o : Option Row). unwrap_or (option_map (λ r. r.values) o) []) found
 
 -- the positional words, in order
@@ -214,7 +219,8 @@ either_is n m ms = split (same_text n m) refl
 abbrev pub no_rows : List Row → List Text → Bool
 no_rows R ns = list_all (λ n. not (has_row n R)) ns
 
-apart_more : (n : Text) (R : List Row) (row : Row) → row.id ≡ n → (ms : List Text) → no_rows (R ++ row ∷ []) ms ≡ (no_rows R ms && not (is_one_of n ms))
+apart_more : (n : Text) (R : List Row) (row : Row) → row.id ≡ n → (ms : List Text) → no_rows (R ++ row ∷ []) ms
+    ≡ (no_rows R ms && not (is_one_of n ms))
 apart_more n R row e [] = refl
 apart_more n R row e (m ∷ ms) =
     ap₂ (λ a b. not a && b) (has_last m R row ∙ ap (λ i. has_row m R || bytes_eq i m) e) (apart_more n R row e ms)
@@ -223,7 +229,8 @@ apart_more n R row e (m ∷ ms) =
 
 flip : (n : Text) → bytes_eq n (codes "words") ≡ false → bytes_eq (codes "words") n ≡ false
 flip n e = ⊎_elim
-    (λ (h : bytes_eq (codes "words") n ≡ true). absurd (let bad : false ≡ true = sym e ∙ ap (λ m. bytes_eq m (codes "words")) (sym (is (codes "words") n h)) in cc))
+    (λ (h : bytes_eq (codes "words") n ≡ true). absurd
+    (let bad : false ≡ true = sym e ∙ ap (λ m. bytes_eq m (codes "words")) (sym (is (codes "words") n h)) in cc))
     (λ h. h)
     (cases_Bool (bytes_eq (codes "words") n))
 
@@ -247,7 +254,8 @@ once_more : (R : List Row) (ps : List Part) → AllOk ps → is_some (added R ps
 once_more R [] ok = refl
 once_more R (option n v ∷ ps) ok = step (has_row n R) refl (once_more (R ++ option_row n v ∷ []) ps ok.1)
   where
-    step : (h : Bool) → has_row n R ≡ h → is_some (added (R ++ option_row n v ∷ []) ps) ≡ (no_rows (R ++ option_row n v ∷ []) (names_of ps) && all_apart (names_of ps))
+    step : (h : Bool) → has_row n R ≡ h → is_some (added (R ++ option_row n v ∷ []) ps)
+        ≡ (no_rows (R ++ option_row n v ∷ []) (names_of ps) && all_apart (names_of ps))
         → is_some (added R (option n v ∷ ps)) ≡ (no_rows R (n ∷ names_of ps) && all_apart (n ∷ names_of ps))
     step true h rec = rw h refl
     step false h rec =
@@ -256,7 +264,8 @@ once_more R (option n v ∷ ps) ok = step (has_row n R) refl (once_more (R ++ op
         ∙ assoc (no_rows R (names_of ps)) (not (is_one_of n (names_of ps))) (all_apart (names_of ps)))
 once_more R (flag n ∷ ps) ok = step (has_row n R) refl (once_more (R ++ flag_row n ∷ []) ps ok.2)
   where
-    step : (h : Bool) → has_row n R ≡ h → is_some (added (R ++ flag_row n ∷ []) ps) ≡ (no_rows (R ++ flag_row n ∷ []) (names_of ps) && all_apart (names_of ps))
+    step : (h : Bool) → has_row n R ≡ h → is_some (added (R ++ flag_row n ∷ []) ps)
+        ≡ (no_rows (R ++ flag_row n ∷ []) (names_of ps) && all_apart (names_of ps))
         → is_some (added R (flag n ∷ ps)) ≡ (no_rows R (n ∷ names_of ps) && all_apart (n ∷ names_of ps))
     step true h rec = rw h refl
     step false h rec =

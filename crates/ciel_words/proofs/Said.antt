@@ -1,5 +1,6 @@
 -- What clap's matches say of words is what their line says, and where clap refuses them they are no line.
-use Rattle.std.proofs.Common.{◌≡◌, ◌≢◌, Bool, true, false, List, [], ◌∷◌, Option, Some, None, MatchOption, codes, fold, is_some, map, refl, sym, ap, subst, ◌∙◌, ⊎_elim}
+use Rattle.std.proofs.Common.{◌≡◌, ◌≢◌, Bool, true, false, List, [], ◌∷◌, Option, Some, None, MatchOption, codes, fold, is_some, map, refl, sym, ap}
+use Rattle.std.proofs.Common.{subst, ◌∙◌, ⊎_elim}
 use Rattle.std.specs.Prelude.{option_and_then, unwrap_or}
 use Rattle.std.specs.List.{AllByRecursion}
 use Rattle.std.specs.Str.{IsUtf8}
@@ -50,9 +51,12 @@ said_of ps S ok a w s l n g t p texts m =
     let trace : has_flag (codes "trace") ps ≡ t = sym (trace_read ps S ok a t m.trace_is) in
     let plain : has_flag (codes "plain") ps ≡ p = sym (plain_read ps S ok a p m.plain_is) in
     let said : texts_of ps ≡ texts = sym (m.texts_are ∙ words_read ps S ok a) in
-    ap (λ x. line_said x (value_of (codes "seed") ps) (value_of (codes "lose") ps) (value_of (codes "names") ps) (value_of (codes "generate") ps) (has_flag (codes "trace") ps) (has_flag (codes "plain") ps) (texts_of ps)) workers
-    ∙ ap (λ x. line_said w x (value_of (codes "lose") ps) (value_of (codes "names") ps) (value_of (codes "generate") ps) (has_flag (codes "trace") ps) (has_flag (codes "plain") ps) (texts_of ps)) seed
-    ∙ ap (λ x. line_said w s x (value_of (codes "names") ps) (value_of (codes "generate") ps) (has_flag (codes "trace") ps) (has_flag (codes "plain") ps) (texts_of ps)) lose
+    ap (λ x. line_said x (value_of (codes "seed") ps) (value_of (codes "lose") ps) (value_of (codes "names") ps) (value_of (codes "generate") ps)
+    (has_flag (codes "trace") ps) (has_flag (codes "plain") ps) (texts_of ps)) workers
+    ∙ ap (λ x. line_said w x (value_of (codes "lose") ps) (value_of (codes "names") ps) (value_of (codes "generate") ps)
+    (has_flag (codes "trace") ps) (has_flag (codes "plain") ps) (texts_of ps)) seed
+    ∙ ap (λ x. line_said w s x (value_of (codes "names") ps) (value_of (codes "generate") ps) (has_flag (codes "trace") ps)
+    (has_flag (codes "plain") ps) (texts_of ps)) lose
     ∙ ap (λ x. line_said w s l x (value_of (codes "generate") ps) (has_flag (codes "trace") ps) (has_flag (codes "plain") ps) (texts_of ps)) names
     ∙ ap (λ x. line_said w s l n x (has_flag (codes "trace") ps) (has_flag (codes "plain") ps) (texts_of ps)) generate
     ∙ ap (λ x. line_said w s l n g x (has_flag (codes "plain") ps) (texts_of ps)) trace
@@ -93,7 +97,8 @@ refused ws u f = split (closed top.rules words [] ws) refl (reads_lines ws (are_
     split None e r = none_there ws e
     split (Some S) e r = absurd (f r.0)
 
-pub said : (ws : List Text) → AllByRecursion IsUtf8 ws → fault_of command ws ≡ [] → (w s l n g : Option Text) (t p : Bool) (texts : List Text) → Matched (rows ws) w s l n g t p texts
+pub said : (ws : List Text) → AllByRecursion IsUtf8 ws → fault_of command ws ≡ [] → (w s l n g : Option Text) (t p : Bool) (texts : List Text)
+    → Matched (rows ws) w s l n g t p texts
     → line_of ws ≡ line_said w s l n g t p texts
 said ws u f w s l n g t p texts m = split (closed top.rules words [] ws) refl (reads_lines ws (are_spelled ws u))
   where
@@ -121,11 +126,13 @@ pub rows_are : (app : App) (m : ArgMatches) (ws : List Text) → app ≡ command
 rows_are app m ws e h =
     (h (ap is_simple e ∙ command_is_simple)).0 ∙ ap (λ a. matches_of a (map (λ t. t) ws)) e ∙ ap rows (same_words ws)
 
-pub no_fault : (app : App) (ws : List Text) → app ≡ command → (is_simple_and_free app ≡ true → fault_of app (map (λ t. t) ws) ≡ []) → fault_of command ws ≡ []
+pub no_fault : (app : App) (ws : List Text) → app ≡ command → (is_simple_and_free app ≡ true → fault_of app (map (λ t. t) ws) ≡ [])
+    → fault_of command ws ≡ []
 no_fault app ws e h =
     ap (fault_of command) (sym (same_words ws)) ∙ ap (λ a. fault_of a (map (λ t. t) ws)) (sym e) ∙ h (ap is_simple_and_free e ∙ command_is_free)
 
-pub some_fault : (app : App) (ws : List Text) (x : Error) → app ≡ command → (is_simple_and_free app ≡ true → HasKind (fault_of app (map (λ t. t) ws)) x) → kind_of x ≢ OutOfMemory
+pub some_fault : (app : App) (ws : List Text) (x : Error) → app ≡ command
+    → (is_simple_and_free app ≡ true → HasKind (fault_of app (map (λ t. t) ws)) x) → kind_of x ≢ OutOfMemory
     → fault_of command ws ≢ []
 some_fault app ws x e h k f =
     let none : fault_of app (map (λ t. t) ws) ≡ [] = ap (λ a. fault_of a (map (λ t. t) ws)) e ∙ ap (fault_of command) (same_words ws) ∙ f in

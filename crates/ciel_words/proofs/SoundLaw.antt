@@ -1,5 +1,6 @@
 -- The numbers of a line are within their limits.
-use Rattle.std.proofs.Common.{◌≡◌, ◌≢◌, ◌<◌, ◌≤◌, ◌-◌, ◌^◌, ℕ, suc, Bool, true, false, cond, List, [], ◌∷◌, Option, Some, None, codes, length, map, nat_le, nat_lt, refl, ap, subst, arith}
+use Rattle.std.proofs.Common.{◌≡◌, ◌≢◌, ◌<◌, ◌≤◌, ◌-◌, ◌^◌, ℕ, suc, Bool, true, false, cond, List, [], ◌∷◌, Option, Some, None, codes, length, map}
+use Rattle.std.proofs.Common.{nat_le, nat_lt, refl, ap, subst, arith}
 use Rattle.std.specs.Prelude.{◌&&◌, option_and_then, option_map}
 use Rattle.std.specs.List.{AllByRecursion, list_all}
 use Rattle.std.specs.Str.Parse.{digits_value}
@@ -8,7 +9,8 @@ use Rattle.ciel_words.specs.Inputs.{all_apart, are_inputs, input_in, is_input, k
 use Rattle.ciel_words.specs.Line.{files_in, line_said, line_with, lines_in, most_workers, with}
 use Rattle.ciel_words.specs.Parts.{Part, Text, has_flag, names_of, parts_of, texts_of, value_of}
 use Rattle.ciel_words.specs.Sound.{LineIsSound, LinesAreSound}
-use Rattle.ciel_words.specs.Values.{count_in, each_loss, is_number, loss_in, losses_in, most_losses, names_in, number_within, or_absent, pieces, worker_in}
+use Rattle.ciel_words.specs.Values.{count_in, each_loss, is_number, loss_in, losses_in, most_losses, names_in, number_within, or_absent, pieces}
+use Rattle.ciel_words.specs.Values.{worker_in}
 use Rattle.ciel_words.specs.declared.words.NameKind.{NameKind}
 use Rattle.ciel_words.specs.declared.words.Words.{Words}
 
@@ -58,7 +60,8 @@ loss_below workers h pair l e =
 abbrev pub LossesFit : (workers count : ℕ) → List (ℕ × ℕ) → Type 0
 LossesFit workers count ls = AllByRecursion (λ (l : ℕ × ℕ). l.1 < workers) ls × (length ls ≡ count)
 
-losses_step : (workers count : ℕ) (o : Option (ℕ × ℕ)) (more : Option (List (ℕ × ℕ))) (ls : List (ℕ × ℕ)) → option_and_then (λ l. option_map (λ m. l ∷ m) more) o ≡ Some ls
+losses_step : (workers count : ℕ) (o : Option (ℕ × ℕ)) (more : Option (List (ℕ × ℕ))) (ls : List (ℕ × ℕ))
+    → option_and_then (λ l. option_map (λ m. l ∷ m) more) o ≡ Some ls
     → ((l : ℕ × ℕ) → o ≡ Some l → l.1 < workers) → ((m : List (ℕ × ℕ)) → more ≡ Some m → LossesFit workers count m) → LossesFit workers (suc count) ls
 losses_step workers count None more ls e one rest = absurd (no_some ls e)
 losses_step workers count (Some l) None ls e one rest = absurd (no_some ls e)
@@ -66,9 +69,11 @@ losses_step workers count (Some l) (Some m) ls e one rest =
     let fit = rest m refl in
     subst (LossesFit workers (suc count)) (some_is (l ∷ m) ls e) ((one l refl, fit.0), ap suc fit.1)
 
-losses_fit : (workers : ℕ) → 0 < workers → (ps : List (List ℕ)) (ls : List (ℕ × ℕ)) → each_loss workers ps ≡ Some ls → LossesFit workers (length ps) ls
+losses_fit : (workers : ℕ) → 0 < workers → (ps : List (List ℕ)) (ls : List (ℕ × ℕ)) → each_loss workers ps ≡ Some ls
+    → LossesFit workers (length ps) ls
 losses_fit workers h [] ls e = subst (LossesFit workers 0) (some_is [] ls e) (tt, refl)
-losses_fit workers h (p ∷ ps) ls e = losses_step workers (length ps) (loss_in workers p) (each_loss workers ps) ls e (loss_below workers h p) (losses_fit workers h ps)
+losses_fit workers h (p ∷ ps) ls e = losses_step workers (length ps) (loss_in workers p) (each_loss workers ps) ls e (loss_below workers h p)
+    (losses_fit workers h ps)
 
 abbrev pub LossesSound : ℕ → List (ℕ × ℕ) → Type 0
 LossesSound workers ls = AllByRecursion (λ (l : ℕ × ℕ). l.1 < workers) ls × (length ls ≤ most_losses)
@@ -83,7 +88,8 @@ losses_within workers h t ls e = split (nat_le (length (pieces t)) most_losses) 
         (fit.0, omega (arith, fit.1, few))
     split false b f = absurd (no_some ls f)
 
-losses_sound : (workers : ℕ) → 0 < workers → (o : Option (List ℕ)) (ls : List (ℕ × ℕ)) → or_absent [] (losses_in workers) o ≡ Some ls → LossesSound workers ls
+losses_sound : (workers : ℕ) → 0 < workers → (o : Option (List ℕ)) (ls : List (ℕ × ℕ)) → or_absent [] (losses_in workers) o ≡ Some ls
+    → LossesSound workers ls
 losses_sound workers h None ls e = subst (LossesSound workers) (some_is [] ls e) (tt, omega arith)
 losses_sound workers h (Some t) ls e = losses_within workers h t ls e
 
@@ -109,7 +115,8 @@ files_sound None (w ∷ ws) f e = split (nat_lt 0 (length w) && are_inputs ws) r
     split : (b : Bool) → (nat_lt 0 (length w) && are_inputs ws) ≡ b → cond b (Some (Some w, map input_in ws)) None ≡ Some f → FilesSound None f
     split true b h =
         let test : nat_le (length ws) most_inputs ≡ true =
-        front (nat_le (length ws) most_inputs) (list_all is_input ws && all_apart (map key_in ws)) (first_two (nat_lt 0 (length w)) (are_inputs ws) b) in
+        front (nat_le (length ws) most_inputs) (list_all is_input ws && all_apart (map key_in ws))
+        (first_two (nat_lt 0 (length w)) (are_inputs ws) b) in
         let few : length ws ≤ most_inputs = grind (arith, nat_tests) in
         subst (FilesSound None) (some_is (Some w, map input_in ws) f h)
         (omega (arith, few, length_map input_in ws), λ none. absurd (let bad : Some w ≡ None = none in cc))
@@ -118,7 +125,8 @@ files_sound (Some n) [] f e =
     subst (FilesSound (Some n)) (some_is (None, []) f e) (omega arith, λ z none. (let bad : Some n ≡ None = none in cc))
 files_sound (Some n) (w ∷ ws) f e = absurd (no_some f e)
 
-said_sound : (workers seed lose names generate : Option Text) (trace plain : Bool) (texts : List Text) (w : Words) → line_said workers seed lose names generate trace plain texts ≡ Some w
+said_sound : (workers seed lose names generate : Option Text) (trace plain : Bool) (texts : List Text) (w : Words)
+    → line_said workers seed lose names generate trace plain texts ≡ Some w
     → LineIsSound w
 said_sound workers seed lose names generate trace plain texts w e =
     let one = given (or_absent 1 (number_within 1 most_workers) workers) _ w e in
@@ -147,6 +155,7 @@ lines_are_sound words w e =
   where
     split : (ps : List Part) (b : Bool) → cond b (line_with ps) None ≡ Some w → LineIsSound w
     split ps true h =
-        said_sound (value_of (codes "workers") ps) (value_of (codes "seed") ps) (value_of (codes "lose") ps) (value_of (codes "names") ps) (value_of (codes "generate") ps)
+        said_sound (value_of (codes "workers") ps) (value_of (codes "seed") ps) (value_of (codes "lose") ps) (value_of (codes "names") ps)
+        (value_of (codes "generate") ps)
         (has_flag (codes "trace") ps) (has_flag (codes "plain") ps) (texts_of ps) w h
     split ps false h = absurd (no_some w h)

@@ -35,7 +35,8 @@ one : encodes (45 ∷ []) ≡ 45 ∷ []
 unfolding encode_utf8
 one = refl
 
-some_char : (cs flags : List ℕ) → chars flags ≡ cs → chars (45 ∷ flags) ≡ 45 ∷ cs → IsUtf8 (45 ∷ flags) → 0 < length flags → (x : ℕ) × (slice_get (chars flags) 0 ≡ Some x)
+some_char : (cs flags : List ℕ) → chars flags ≡ cs → chars (45 ∷ flags) ≡ 45 ∷ cs → IsUtf8 (45 ∷ flags) → 0 < length flags → (x : ℕ)
+    × (slice_get (chars flags) 0 ≡ Some x)
 some_char [] flags e all u n =
     let back : encodes (45 ∷ []) ≡ 45 ∷ flags = ap encodes (sym all) ∙ encodes-chars (45 ∷ flags) u in
     absurd (let l = ap length (sym one ∙ back) in omega (arith, n, l))

@@ -1,12 +1,15 @@
--- The parts of a line, beside those where the value of an option may be `-` too: they differ only where some value is `-`, and then the words are no line.
-use Rattle.std.proofs.Common.{◌≡◌, ℕ, Bool, true, false, ◌||◌, cond, List, [], ◌∷◌, Option, Some, None, codes, map, refl, sym, ap, subst, ◌∙◌, inl, inr, ◌⊎◌, ⊎_elim}
+-- The parts of a line, beside those where the value of an option may be `-` too: they differ only where some value is `-`, and then the words are no
+-- line.
+use Rattle.std.proofs.Common.{◌≡◌, ℕ, Bool, true, false, ◌||◌, cond, List, [], ◌∷◌, Option, Some, None, codes, map, refl, sym, ap, subst, ◌∙◌, inl}
+use Rattle.std.proofs.Common.{inr, ◌⊎◌, ⊎_elim}
 use Rattle.std.specs.Prelude.{not, ◌&&◌, ◌^◌, ◌-◌}
 use Rattle.std.specs.Str.{bytes_eq}
 use Rattle.std.proofs.lemmas.Bool.{cases_Bool}
 use Rattle.sky_base.specs.Eval.{is_one_of}
 use Rattle.ciel_words.specs.Inputs.{all_apart}
 use Rattle.ciel_words.specs.Line.{with, line_with, line_of, most_workers}
-use Rattle.ciel_words.specs.Parts.{Text, Part, option, flag, word, dashes, before, begins_with_dash, begins_with_two, is_positional, is_valued, is_unvalued, name_in, names_of, option_parts, parts_of, value_in, value_of, with_value}
+use Rattle.ciel_words.specs.Parts.{Text, Part, option, flag, word, dashes, before, begins_with_dash, begins_with_two, is_positional, is_valued}
+use Rattle.ciel_words.specs.Parts.{is_unvalued, name_in, names_of, option_parts, parts_of, value_in, value_of, with_value}
 use Rattle.ciel_words.specs.Values.{losses_in, names_in, number_within, or_absent}
 use Rattle.ciel_words.specs.declared.words.NameKind.{NameKind}
 use Rattle.ciel_words.proofs.Loose.{loose, loose_value}
@@ -47,7 +50,8 @@ fits_dash : (n v : Text) → is_valued n ≡ true → v ≡ codes "-" → (o s :
 fits_dash n v e d None s f = refl
 fits_dash n v e d (Some ps) s f = ((e, f.0), inr (refl, inl d))
 
-parts_fit : (n : Text) (v : Option Text) (l s ln sn : Option (List Part)) → Fits l s → (is_valued n ≡ true → Fits ln sn) → Fits (option_parts n v l ln) (option_parts n v s sn)
+parts_fit : (n : Text) (v : Option Text) (l s ln sn : Option (List Part)) → Fits l s → (is_valued n ≡ true → Fits ln sn)
+    → Fits (option_parts n v l ln) (option_parts n v s sn)
 parts_fit n (Some x) l s ln sn f later = ⊎_elim
     (λ (t : is_valued n ≡ true). rw t (fits_before (option n x) t l s f))
     (λ (t : is_valued n ≡ false). rw t refl)
@@ -77,7 +81,9 @@ fit_word w ws here behind = ⊎_elim
     (λ (d : bytes_eq w dashes ≡ false). ⊎_elim
     (λ (p : is_positional w ≡ true). rw (d, p) (fits_before (word w) tt (loose ws) (parts_of ws) here))
     (λ (p : is_positional w ≡ false). ⊎_elim
-    (λ (t : begins_with_two w ≡ true). rw (d, p, t) (parts_fit (name_in w) (value_in w) (loose ws) (parts_of ws) (loose_value (name_in w) ws) (with_value (name_in w) ws) here (behind (name_in w))))
+    (λ (t : begins_with_two w ≡ true). rw (d, p, t)
+    (parts_fit (name_in w) (value_in w) (loose ws) (parts_of ws) (loose_value (name_in w) ws) (with_value (name_in w) ws) here
+    (behind (name_in w))))
     (λ (t : begins_with_two w ≡ false). rw (d, p, t) refl)
     (cases_Bool (begins_with_two w)))
     (cases_Bool (is_positional w)))
@@ -121,7 +127,8 @@ among m (option k x ∷ ps) v e n h =
     or_none_true true b z = absurd (let bad : true ≡ false = z in cc)
     or_none_true false b z = (refl, z)
 
-    step : (b : Bool) → bytes_eq k m ≡ b → cond b (Some x) (value_of m ps) ≡ Some v → bytes_eq n k ≡ false → (value_of m ps ≡ Some v → bytes_eq n m ≡ false) → bytes_eq n m ≡ false
+    step : (b : Bool) → bytes_eq k m ≡ b → cond b (Some x) (value_of m ps) ≡ Some v → bytes_eq n k ≡ false
+        → (value_of m ps ≡ Some v → bytes_eq n m ≡ false) → bytes_eq n m ≡ false
     step true b z apart later = subst (λ (t : Text). bytes_eq n t ≡ false) (is k m b) apart
     step false b z apart later = later z
 among m (flag k ∷ ps) v e n h =
@@ -165,12 +172,15 @@ pub all_none : {A B : Type 0} (o : Option A) (f : A → Option B) → ((a : A) �
 all_none None f h = refl
 all_none (Some a) f h = h a
 
-five : (n : Text) → is_valued n ≡ true → (P : Text → Type 0) → P (codes "workers") → P (codes "seed") → P (codes "lose") → P (codes "names") → P (codes "generate") → P n
+five : (n : Text) → is_valued n ≡ true → (P : Text → Type 0) → P (codes "workers") → P (codes "seed") → P (codes "lose") → P (codes "names")
+    → P (codes "generate") → P n
 five n e P w s l k g =
-    pick (bytes_eq (codes "workers") n) (bytes_eq (codes "seed") n) (bytes_eq (codes "lose") n) (bytes_eq (codes "names") n) (bytes_eq (codes "generate") n)
+    pick (bytes_eq (codes "workers") n) (bytes_eq (codes "seed") n) (bytes_eq (codes "lose") n) (bytes_eq (codes "names") n)
+    (bytes_eq (codes "generate") n)
     (is _ n) (is _ n) (is _ n) (is _ n) (is _ n) e
   where
-    pick : (a b c d x : Bool) → (a ≡ true → codes "workers" ≡ n) → (b ≡ true → codes "seed" ≡ n) → (c ≡ true → codes "lose" ≡ n) → (d ≡ true → codes "names" ≡ n)
+    pick : (a b c d x : Bool) → (a ≡ true → codes "workers" ≡ n) → (b ≡ true → codes "seed" ≡ n) → (c ≡ true → codes "lose" ≡ n)
+        → (d ≡ true → codes "names" ≡ n)
         → (x ≡ true → codes "generate" ≡ n) → (a || (b || (c || (d || (x || false))))) ≡ true → P n
     pick true b c d x ha hb hc hd hx z = subst P (ha refl) w
     pick false true c d x ha hb hc hd hx z = subst P (hb refl) s

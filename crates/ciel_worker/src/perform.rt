@@ -37,7 +37,8 @@ pub fn perform<K: Kit, N: Namer, G: Gate, R: Wait>(
     gate: &mut G,
     eye: &mut Eye,
 ) -> Result<Report, Memory>
-    requires sound { OrderSound (N.digest shop.now.namer) shop.now.shelves (job_view shop.now.job).script (length (job_view shop.now.job).inputs) order.now }
+    requires sound { OrderSound (N.digest shop.now.namer) shop.now.shelves (job_view shop.now.job).script (length (job_view shop.now.job).inputs)
+        order.now }
     requires inputs { InputsInOrder (job_view shop.now.job) }
     requires read { IsRead (job_view shop.now.job).script }
     requires eye { eye.old.of ≡ shop.now.shelves.of }
@@ -60,7 +61,8 @@ fn run<K: Kit, N: Namer, R: Wait>(
     shop: &Shop<K, N>,
     eye: &mut Eye,
 ) -> Result<Report, Memory>
-    requires sound { OrderSound (N.digest shop.now.namer) shop.now.shelves (job_view shop.now.job).script (length (job_view shop.now.job).inputs) order.now }
+    requires sound { OrderSound (N.digest shop.now.namer) shop.now.shelves (job_view shop.now.job).script (length (job_view shop.now.job).inputs)
+        order.now }
     requires inputs { InputsInOrder (job_view shop.now.job) }
     requires read { IsRead (job_view shop.now.job).script }
     requires eye { eye.old.of ≡ shop.now.shelves.of }

@@ -26,14 +26,18 @@ all_there : Each (λ d. In (held_name d) three) (known_of three)
 all_there = (inl refl, (inr (inl refl), (inr (inr (inl refl)), tt)))
 
 -- each reference of the arguments is brought along
-pub refs_there : (given : List (List ℕ)) (args : Value) → refs (view args) ≡ known_of three → given ≡ three → Each (λ d. In (held_name d) given) (refs (view args))
+pub refs_there : (given : List (List ℕ)) (args : Value) → refs (view args) ≡ known_of three → given ≡ three
+    → Each (λ d. In (held_name d) given) (refs (view args))
 refs_there given args are names =
     subst (λ ns. Each (λ d. In (held_name d) ns) (refs (view args))) (sym names) (subst (Each (λ d. In (held_name d) three)) (sym are) all_there)
 
 -- the executor's task goes by its description
-pub describes : (sc : Script) (given : List (List ℕ)) (x : List ℕ) (args : Value) (task : TaskId) → task ≡ TaskId.Of (digested (λ bytes. sha1 bytes) (first_output (desc_view (Desc1.Exec x args 1 0)))) → refs (view args) ≡ known_of three → Kept (view args) → given ≡ three → Describes (λ bytes. sha1 bytes) sc given task (Some (Desc1.Exec x args 1 0))
+pub describes : (sc : Script) (given : List (List ℕ)) (x : List ℕ) (args : Value) (task : TaskId) → task
+    ≡ TaskId.Of (digested (λ bytes. sha1 bytes) (first_output (desc_view (Desc1.Exec x args 1 0)))) → refs (view args) ≡ known_of three
+    → Kept (view args) → given ≡ three → Describes (λ bytes. sha1 bytes) sc given task (Some (Desc1.Exec x args 1 0))
 describes sc given x args task is are kept names =
-    subst (λ tk. Describes (λ bytes. sha1 bytes) sc given tk (Some (Desc1.Exec x args 1 0))) (sym is) (refl, (refl, kept, refs_there given args are names))
+    subst (λ tk. Describes (λ bytes. sha1 bytes) sc given tk (Some (Desc1.Exec x args 1 0))) (sym is)
+    (refl, (refl, kept, refs_there given args are names))
 
 -- the name of that task
 abbrev pub name_of : List ℕ → Value → List ℕ

@@ -1,4 +1,5 @@
-// The worked rows of frozen states and of the machine's forms that are saved. They stand in a crate of their own, since a crate with tests is proved twice.
+// The worked rows of frozen states and of the machine's forms that are saved. They stand in a crate of their own, since a crate with tests is proved
+// twice.
 #![tactic(auto)]
 
 #[cfg(test)]

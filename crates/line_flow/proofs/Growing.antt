@@ -1,7 +1,8 @@
 -- Inputs that grow by pieces, and their lines.
 use Rattle.std.proofs.lemmas.List.{take_more, take-append-drop}
 use Rattle.std.proofs.lemmas.Grind.{flat_map-append}
-use Rattle.std.proofs.Common.{◌≡◌, ℕ, zero, suc, ◌+◌, ◌-◌, ◌<◌, false, List, [], ◌∷◌, ◌++◌, length, take, drop, get_or, length-take, refl, sym, ap, ap₂, ◌∙◌, arith, append_assoc, append-nil}
+use Rattle.std.proofs.Common.{◌≡◌, ℕ, zero, suc, ◌+◌, ◌-◌, ◌<◌, false, List, [], ◌∷◌, ◌++◌, length, take, drop, get_or, length-take, refl, sym, ap}
+use Rattle.std.proofs.Common.{ap₂, ◌∙◌, arith, append_assoc, append-nil}
 use Rattle.std.specs.Prelude.{count_by, replicate}
 use Rattle.line_kit.specs.Lines.{is_feed, lines, all_lines, is_open}
 use Rattle.line_kit.specs.Gives.{input}
@@ -132,13 +133,15 @@ grow_past : (p : List ℕ) (xs ys : List (List ℕ)) → grow (length xs) p (xs 
 grow_past p [] ys = refl
 grow_past p (x ∷ xs) ys = ap (λ (zs : List (List ℕ)). x ∷ zs) (grow_past p xs ys)
 
-pub grow_next : (xs : List (List ℕ)) (k n : ℕ) (p d : List ℕ) → n ≡ length xs → k < n → p ≡ get_or xs k d → grow k p (take k xs ++ replicate (n - k) []) ≡ take (k + 1) xs ++ replicate (n - (k + 1)) []
+pub grow_next : (xs : List (List ℕ)) (k n : ℕ) (p d : List ℕ) → n ≡ length xs → k < n → p ≡ get_or xs k d
+    → grow k p (take k xs ++ replicate (n - k) []) ≡ take (k + 1) xs ++ replicate (n - (k + 1)) []
 grow_next xs k n p d count below item =
     let first : length (take k xs) ≡ k = omega (arith, length-take k xs, count, below) in
     let rest : n - k ≡ suc (n - (k + 1)) = omega (arith, below) in
     let put : grow (length (take k xs)) p (take k xs ++ replicate (suc (n - (k + 1))) []) ≡ take k xs ++ p ∷ replicate (n - (k + 1)) [] =
     grow_past p (take k xs) (replicate (suc (n - (k + 1))) []) in
-    ap (λ (i : ℕ). grow i p (take k xs ++ replicate (n - k) [])) (sym first) ∙ ap (λ (m : ℕ). grow (length (take k xs)) p (take k xs ++ replicate m [])) rest
+    ap (λ (i : ℕ). grow i p (take k xs ++ replicate (n - k) [])) (sym first)
+    ∙ ap (λ (m : ℕ). grow (length (take k xs)) p (take k xs ++ replicate m [])) rest
     ∙ put ∙ ap (λ (q : List ℕ). take k xs ++ q ∷ replicate (n - (k + 1)) []) item
     ∙ sym (append_assoc (take k xs) (get_or xs k d ∷ []) (replicate (n - (k + 1)) []))
     ∙ ap (λ (ys : List (List ℕ)). ys ++ replicate (n - (k + 1)) []) (sym (take_more xs k d (omega (arith, count, below))))
@@ -151,5 +154,7 @@ nothing_said (suc n) = nothing_said n
 pub all-parts : (m k : ℕ) (xs : List (List ℕ)) → all_lines xs ≡ all_lines (take k xs ++ replicate m []) ++ all_lines (drop k xs)
 all-parts m k xs =
     let none : all_lines (take k xs ++ replicate m []) ≡ all_lines (take k xs) =
-    flat_map-append lines (take k xs) (replicate m []) ∙ ap (λ (ls : List (List ℕ)). all_lines (take k xs) ++ ls) (nothing_said m) ∙ append-nil (all_lines (take k xs)) in
-    ap all_lines (sym (take-append-drop k xs)) ∙ flat_map-append lines (take k xs) (drop k xs) ∙ ap (λ (ls : List (List ℕ)). ls ++ all_lines (drop k xs)) (sym none)
+    flat_map-append lines (take k xs) (replicate m []) ∙ ap (λ (ls : List (List ℕ)). all_lines (take k xs) ++ ls) (nothing_said m)
+    ∙ append-nil (all_lines (take k xs)) in
+    ap all_lines (sym (take-append-drop k xs)) ∙ flat_map-append lines (take k xs) (drop k xs)
+    ∙ ap (λ (ls : List (List ℕ)). ls ++ all_lines (drop k xs)) (sym none)

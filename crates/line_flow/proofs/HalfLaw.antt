@@ -1,5 +1,6 @@
 -- Halves written one after the other.
-use Rattle.std.proofs.Common.{◌≡◌, ◌<◌, ℕ, ℤ, pos, int_div, Bool, true, false, cond, nat_lt, List, [], ◌∷◌, ◌++◌, length, Ok, Err, refl, sym, ap, ◌∙◌, arith, append-nil}
+use Rattle.std.proofs.Common.{◌≡◌, ◌<◌, ℕ, ℤ, pos, int_div, Bool, true, false, cond, nat_lt, List, [], ◌∷◌, ◌++◌, length, Ok, Err, refl, sym, ap, ◌∙◌}
+use Rattle.std.proofs.Common.{arith, append-nil}
 use Rattle.std.specs.Fmt.{signed_decimal}
 use Rattle.std.proofs.lemmas.List.{map-append}
 use Rattle.std.proofs.lemmas.Bool.Decides.{nat_tests}
@@ -9,7 +10,8 @@ use Rattle.line_kit.specs.Gives.{one, unless_large}
 use Rattle.line_kit.proofs.WrittenLaw.{joined-append}
 use Rattle.line_flow.specs.Kept.{half_lines}
 
-pub half_more : (zs : List ℤ) (z h : ℤ) → h ≡ int_div z (pos 2) → joined (half_lines zs) ++ ended (signed_decimal h) ≡ joined (half_lines (zs ++ z ∷ []))
+pub half_more : (zs : List ℤ) (z h : ℤ) → h ≡ int_div z (pos 2) → joined (half_lines zs) ++ ended (signed_decimal h)
+    ≡ joined (half_lines (zs ++ z ∷ []))
 half_more zs z h e =
     ap (λ (y : ℤ). joined (half_lines zs) ++ ended (signed_decimal y)) e
     ∙ ap (λ (xs : List ℕ). joined (half_lines zs) ++ xs) (sym (append-nil (ended (signed_decimal (int_div z (pos 2))))))

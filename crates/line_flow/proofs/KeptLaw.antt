@@ -1,5 +1,6 @@
 -- What is kept, where nothing is handed out before the end, and where nothing was settled.
-use Rattle.std.proofs.Common.{◌≡◌, ℕ, zero, suc, Bool, true, false, cond, List, [], ◌∷◌, ◌++◌, length, Ok, Err, Result, IfOk, Some, refl, sym, ap, subst, ◌∙◌, arith, append-nil}
+use Rattle.std.proofs.Common.{◌≡◌, ℕ, zero, suc, Bool, true, false, cond, List, [], ◌∷◌, ◌++◌, length, Ok, Err, Result, IfOk, Some, refl, sym, ap}
+use Rattle.std.proofs.Common.{subst, ◌∙◌, arith, append-nil}
 use Rattle.std.specs.Prelude.{Vec, replicate, nat_lt, ◌==◌}
 use Rattle.std.specs.List.{list_any}
 use Rattle.std.specs.declared.alloc.Global.{Global}
@@ -33,7 +34,8 @@ seen-nothing s i = λ j. record {
   second = (ap (λ (ls : List (List ℕ)). s.second ++ ls) (at_nothing i 1) ∙ append-nil s.second) j;
 }
 
-pub early_kept : (e : Executor) (args : Pairs (List ℕ)) (n : ℕ) (ls : List (List ℕ)) → keeps_all e ≡ true → early_by (Some e) args n ls ≡ replicate n []
+pub early_kept : (e : Executor) (args : Pairs (List ℕ)) (n : ℕ) (ls : List (List ℕ)) → keeps_all e ≡ true → early_by (Some e) args n ls
+    ≡ replicate n []
 early_kept Cat args n ls h = absurd (true≢false (sym h))
 early_kept Grep args n ls h = absurd (true≢false (sym h))
 early_kept Words args n ls h = absurd (true≢false (sym h))
@@ -60,18 +62,22 @@ follows_nothing n drained more d h = record {
 }
 
 -- nothing, behind nothing
-pub follows_none : (n : ℕ) (drained more outputs : List (List ℕ)) → drained ≡ replicate n [] → more ≡ replicate n [] → outputs ≡ replicate n [] → Follows drained more outputs
-follows_none n drained more outputs d m o = subst (Follows drained more) (m ∙ sym o) (follows_nothing n drained more d (ap length m ∙ length-replicate n []))
+pub follows_none : (n : ℕ) (drained more outputs : List (List ℕ)) → drained ≡ replicate n [] → more ≡ replicate n [] → outputs ≡ replicate n []
+    → Follows drained more outputs
+follows_none n drained more outputs d m o = subst (Follows drained more) (m ∙ sym o)
+    (follows_nothing n drained more d (ap length m ∙ length-replicate n []))
 
 -- a whole answer, behind nothing
-pub completes_whole : (n : ℕ) (drained : List (List ℕ)) (r : Result (Vec (List ℕ) Global) FaultKind) (answer : Answer) → drained ≡ replicate n [] → IfOk answer (λ outputs. length outputs ≡ n) → RunsSo r answer → Completes drained r answer
+pub completes_whole : (n : ℕ) (drained : List (List ℕ)) (r : Result (Vec (List ℕ) Global) FaultKind) (answer : Answer) → drained ≡ replicate n []
+    → IfOk answer (λ outputs. length outputs ≡ n) → RunsSo r answer → Completes drained r answer
 completes_whole n drained (Ok v) answer d counts runs =
     let count : length v.items ≡ n = subst (λ (a : Answer). IfOk a (λ outputs. length outputs ≡ n)) runs counts in
     (v.items, runs, follows_nothing n drained v.items d count)
 completes_whole n drained (Err k) answer d counts runs = runs
 
 -- what is kept whole gives by its lines alone
-pub row_kept : (e : Executor) (ps : Pairs (List ℕ)) (as_kept inputs : List (List ℕ)) (n : ℕ) → keeps_all e ≡ true → all_lines as_kept ≡ all_lines inputs → row e ps as_kept n ≡ row e ps inputs n
+pub row_kept : (e : Executor) (ps : Pairs (List ℕ)) (as_kept inputs : List (List ℕ)) (n : ℕ) → keeps_all e ≡ true → all_lines as_kept
+    ≡ all_lines inputs → row e ps as_kept n ≡ row e ps inputs n
 row_kept Cat ps as_kept inputs n h e = absurd (true≢false (sym h))
 row_kept Grep ps as_kept inputs n h e = absurd (true≢false (sym h))
 row_kept Words ps as_kept inputs n h e = absurd (true≢false (sym h))

@@ -1,5 +1,6 @@
 -- The lines of bytes in parts.
-use Rattle.std.proofs.Common.{◌≡◌, ℕ, zero, suc, ◌+◌, ◌<◌, Bool, true, false, cond, List, [], ◌∷◌, ◌++◌, length, take, drop, refl, sym, ap, ◌∙◌, arith, append-nil, nat_lt}
+use Rattle.std.proofs.Common.{◌≡◌, ℕ, zero, suc, ◌+◌, ◌<◌, Bool, true, false, cond, List, [], ◌∷◌, ◌++◌, length, take, drop, refl, sym, ap, ◌∙◌}
+use Rattle.std.proofs.Common.{arith, append-nil, nat_lt}
 use Rattle.std.specs.Prelude.{◌==◌, not, count_by}
 use Rattle.std.proofs.Math.Seq.{take-append_seam}
 use Rattle.std.proofs.lemmas.List.{take-append-drop, drop_all}
@@ -23,7 +24,8 @@ true_from_not true e = refl
 true_from_not false e = absurd (true≢false e)
 
 append-by : (x y : ℕ) (ys b : List ℕ) (t : Bool) → lines ((y ∷ ys) ++ b) ≡ lines (y ∷ ys) ++ lines b
-    → cond t ([] ∷ lines ((y ∷ ys) ++ b)) (with_byte x (lines ((y ∷ ys) ++ b))) ≡ cond t ([] ∷ lines (y ∷ ys)) (with_byte x (lines (y ∷ ys))) ++ lines b
+    → cond t ([] ∷ lines ((y ∷ ys) ++ b)) (with_byte x (lines ((y ∷ ys) ++ b))) ≡ cond t ([] ∷ lines (y ∷ ys)) (with_byte x (lines (y ∷ ys)))
+    ++ lines b
 append-by x y ys b true e = ap (λ (ls : List (List ℕ)). [] ∷ ls) e
 append-by x y ys b false e =
     let s = some_line y (y == 10) (lines ys) in
@@ -85,16 +87,19 @@ ended-append a b h none =
     ap (λ n. take n (lines (a ++ b))) (feeds ∙ same) ∙ ap (take (length (lines a))) (lines-append a b h) ∙ take-append_seam (lines a) (lines b)
 
 -- the lines of the first so many bytes, and those of the others
-split_by : (n : ℕ) (xs : List ℕ) → ((n < length xs → is_open (take n xs) ≡ false)) → (b : Bool) → nat_lt n (length xs) ≡ b → lines (take n xs ++ drop n xs) ≡ lines (take n xs) ++ lines (drop n xs)
+split_by : (n : ℕ) (xs : List ℕ) → ((n < length xs → is_open (take n xs) ≡ false)) → (b : Bool) → nat_lt n (length xs) ≡ b
+    → lines (take n xs ++ drop n xs) ≡ lines (take n xs) ++ lines (drop n xs)
 split_by n xs h true e = lines-append (take n xs) (drop n xs) (h (grind (arith, nat_tests)))
 split_by n xs h false e =
     let none : drop n xs ≡ [] = drop_all n xs (grind (arith, nat_tests)) in
-    ap (λ ys. lines (take n xs ++ ys)) none ∙ ap lines (append-nil (take n xs)) ∙ sym (ap (λ ys. lines (take n xs) ++ lines ys) none ∙ append-nil (lines (take n xs)))
+    ap (λ ys. lines (take n xs ++ ys)) none ∙ ap lines (append-nil (take n xs))
+    ∙ sym (ap (λ ys. lines (take n xs) ++ lines ys) none ∙ append-nil (lines (take n xs)))
 
 pub lines-split : (n : ℕ) (xs : List ℕ) → (n < length xs → is_open (take n xs) ≡ false) → lines xs ≡ lines (take n xs) ++ lines (drop n xs)
 lines-split n xs h = ap lines (sym (take-append-drop n xs)) ∙ split_by n xs h (nat_lt n (length xs)) refl
 
-pub first_cut : (n : ℕ) (xs l : List ℕ) → lines (take n xs) ≡ l ∷ [] → (n < length xs → is_open (take n xs) ≡ false) → lines xs ≡ l ∷ lines (drop n xs)
+pub first_cut : (n : ℕ) (xs l : List ℕ) → lines (take n xs) ≡ l ∷ [] → (n < length xs → is_open (take n xs) ≡ false) → lines xs ≡ l
+    ∷ lines (drop n xs)
 first_cut n xs l e h = lines-split n xs h ∙ ap (λ (ls : List (List ℕ)). ls ++ lines (drop n xs)) e
 
 pub closed-drop : (n : ℕ) (xs : List ℕ) → is_open xs ≡ false → is_open (drop n xs) ≡ false

@@ -1,5 +1,6 @@
 -- An output that is too large already stays so, whatever lines follow.
-use Rattle.std.proofs.Common.{◌≡◌, ℕ, zero, suc, ◌+◌, ◌-◌, ◌%◌, ◌<◌, ◌≤◌, Bool, true, false, cond, nat_lt, ◌||◌, List, [], ◌∷◌, ◌++◌, map, take, length, Err, refl, sym, ap, ◌∙◌, arith, length-append}
+use Rattle.std.proofs.Common.{◌≡◌, ℕ, zero, suc, ◌+◌, ◌-◌, ◌%◌, ◌<◌, ◌≤◌, Bool, true, false, cond, nat_lt, ◌||◌, List, [], ◌∷◌, ◌++◌, map, take}
+use Rattle.std.proofs.Common.{length, Err, refl, sym, ap, ◌∙◌, arith, length-append}
 use Rattle.std.specs.Prelude.{◌==◌}
 use Rattle.std.specs.List.{list_any, flat_map, range_with_len}
 use Rattle.std.proofs.lemmas.Bool.Decides.{nat_tests}
@@ -49,7 +50,8 @@ every-append : (n i p : ℕ) (ls more : List (List ℕ)) → every n i p (ls ++ 
 every-append n i p [] more = let same : p ≡ p + 0 = omega arith in ap (λ m. every n i m more) same
 every-append n i p (l ∷ ls) more =
     let next : (p + 1) + length ls ≡ p + suc (length ls) = omega arith in
-    ap (λ (xs : List (List ℕ)). cond (p % n == i) (l ∷ xs) xs) (every-append n i (p + 1) ls more ∙ ap (λ m. every n i (p + 1) ls ++ every n i m more) next)
+    ap (λ (xs : List (List ℕ)). cond (p % n == i) (l ∷ xs) xs)
+    (every-append n i (p + 1) ls more ∙ ap (λ m. every n i (p + 1) ls ++ every n i m more) next)
     ∙ every-by (p % n == i) l (every n i (p + 1) ls) (every n i (p + suc (length ls)) more)
 
 large-by : (a b : ℕ) → a ≤ b → nat_lt 67108864 a ≡ true → nat_lt 67108864 b ≡ true
@@ -60,16 +62,24 @@ or-by true b c d f g e = ap (λ x. x || d) (f refl)
 or-by false b true d f g e = refl
 or-by false b false d f g e = g e
 
-any-more : (f g : ℕ → List ℕ) (is : List ℕ) → ((i : ℕ) → length (f i) ≤ length (g i)) → list_any large (map f is) ≡ true → list_any large (map g is) ≡ true
+any-more : (f g : ℕ → List ℕ) (is : List ℕ) → ((i : ℕ) → length (f i) ≤ length (g i)) → list_any large (map f is) ≡ true
+    → list_any large (map g is) ≡ true
 any-more f g [] h e = e
 any-more f g (i ∷ is) h e =
-    or-by (large (f i)) (list_any large (map f is)) (large (g i)) (list_any large (map g is)) (large-by (length (f i)) (length (g i)) (h i)) (any-more f g is h) e
+    or-by (large (f i)) (list_any large (map f is)) (large (g i)) (list_any large (map g is)) (large-by (length (f i)) (length (g i)) (h i))
+    (any-more f g is h) e
 
-pub dealt_stays : (outs : List Stream) (n : ℕ) (drained ls more : List (List ℕ)) → list_any is_over outs ≡ true → AreStreams outs n drained ls → with_lines (dealt n (ls ++ more)) ≡ Err TooLarge
+pub dealt_stays : (outs : List Stream) (n : ℕ) (drained ls more : List (List ℕ)) → list_any is_over outs ≡ true → AreStreams outs n drained ls
+    → with_lines (dealt n (ls ++ more)) ≡ Err TooLarge
 dealt_stays outs n drained ls more over a =
     let now : list_any large (map (λ i. joined (every n i 0 ls)) (range_with_len 0 n)) ≡ true =
     ap (list_any large) (sym (dealt_is n ls)) ∙ sym (any_over outs n drained ls a) ∙ over in
     let longer : (i : ℕ) → length (joined (every n i 0 ls)) ≤ length (joined (every n i 0 (ls ++ more))) =
-    λ i. omega (arith, more_long (every n i 0 ls) (every n i (0 + length ls) more), ap (λ (xs : List (List ℕ)). length (joined xs)) (every-append n i 0 ls more)) in
+    λ i. omega (
+      arith,
+      more_long (every n i 0 ls) (every n i (0 + length ls) more),
+      ap (λ (xs : List (List ℕ)). length (joined xs)) (every-append n i 0 ls more),
+    ) in
     large_by true (map joined (dealt n (ls ++ more)))
-    (ap (list_any large) (dealt_is n (ls ++ more)) ∙ any-more (λ i. joined (every n i 0 ls)) (λ i. joined (every n i 0 (ls ++ more))) (range_with_len 0 n) longer now)
+    (ap (list_any large) (dealt_is n (ls ++ more))
+    ∙ any-more (λ i. joined (every n i 0 ls)) (λ i. joined (every n i 0 (ls ++ more))) (range_with_len 0 n) longer now)

@@ -1,5 +1,6 @@
 -- Two lists of lines, compared line by line.
-use Rattle.std.proofs.Common.{◌≡◌, ℕ, zero, suc, ◌<◌, ◌≤◌, Bool, true, false, List, [], ◌∷◌, ◌++◌, length, drop, ◌&&◌, nat_eq, cond, refl, sym, ap, ap₂, ◌∙◌, arith, append_assoc, append-nil, length-drop}
+use Rattle.std.proofs.Common.{◌≡◌, ℕ, zero, suc, ◌<◌, ◌≤◌, Bool, true, false, List, [], ◌∷◌, ◌++◌, length, drop, ◌&&◌, nat_eq, cond, refl, sym, ap}
+use Rattle.std.proofs.Common.{ap₂, ◌∙◌, arith, append_assoc, append-nil, length-drop}
 use Rattle.std.specs.Prelude.{◌==◌}
 use Rattle.std.specs.Str.{bytes_eq}
 use Rattle.std.proofs.lemmas.Bool.{true≢false, eqb-true, eq-eqb}
@@ -39,11 +40,13 @@ differ_longer first second l e more =
     ap₂ same_lines (e ∙ sym (append-nil second)) (append_assoc second (l ∷ []) more) ∙ same_rest second [] (l ∷ more)
 
 -- the next lines differ
-pub differ_next : (first second : List (List ℕ)) (own l : List ℕ) (rest : List (List ℕ)) → first ≡ second ++ own ∷ rest → bytes_eq own l ≡ false → Differ first (second ++ l ∷ [])
+pub differ_next : (first second : List (List ℕ)) (own l : List ℕ) (rest : List (List ℕ)) → first ≡ second ++ own ∷ rest → bytes_eq own l ≡ false
+    → Differ first (second ++ l ∷ [])
 differ_next first second own l rest e unlike more =
     ap₂ same_lines e (append_assoc second (l ∷ []) more) ∙ same_rest second (own ∷ rest) (l ∷ more) ∙ ap (λ b. b && same_lines rest more) unlike
 
-pub equal_next : (first second : List (List ℕ)) (own l : List ℕ) (rest : List (List ℕ)) → first ≡ second ++ own ∷ rest → bytes_eq own l ≡ true → first ≡ (second ++ l ∷ []) ++ rest
+pub equal_next : (first second : List (List ℕ)) (own l : List ℕ) (rest : List (List ℕ)) → first ≡ second ++ own ∷ rest → bytes_eq own l ≡ true
+    → first ≡ (second ++ l ∷ []) ++ rest
 equal_next first second own l rest e alike =
     e ∙ ap (λ (m : List ℕ). second ++ m ∷ rest) ((bytes_eq-Decides own l).0 alike) ∙ sym (append_assoc second (l ∷ []) rest)
 
@@ -58,7 +61,8 @@ some_left (x ∷ xs) first second h e =
     let s = some_line x (x == 10) (lines xs) in
     ap (λ (ls : List (List ℕ)). same_lines ls second) (e ∙ ap (λ (ls : List (List ℕ)). second ++ ls) s.2) ∙ same_shorter second s.0 s.1
 
-left_by : (at : ℕ) (xs : List ℕ) (first second : List (List ℕ)) (b : Bool) → nat_eq at (length xs) ≡ b → at ≤ length xs → first ≡ second ++ lines (drop at xs) → b ≡ same_lines first second
+left_by : (at : ℕ) (xs : List ℕ) (first second : List (List ℕ)) (b : Bool) → nat_eq at (length xs) ≡ b → at ≤ length xs → first ≡ second
+    ++ lines (drop at xs) → b ≡ same_lines first second
 left_by at xs first second true t h e =
     let none : drop at xs ≡ [] = drop_all at xs (omega (arith, eqb-true at (length xs) t)) in
     sym (ap (λ (ls : List (List ℕ)). same_lines ls second) (e ∙ ap (λ (ys : List ℕ). second ++ lines ys) none ∙ append-nil second) ∙ same_self second)
@@ -67,7 +71,8 @@ left_by at xs first second false t h e =
     sym (some_left (drop at xs) first second (omega (arith, length-drop at xs, less, h)) e)
 
 -- both have the same lines where nothing is left to compare with
-pub rest_decides : (at : ℕ) (xs : List ℕ) (first second : List (List ℕ)) → at ≤ length xs → first ≡ second ++ lines (drop at xs) → nat_eq at (length xs) ≡ same_lines first second
+pub rest_decides : (at : ℕ) (xs : List ℕ) (first second : List (List ℕ)) → at ≤ length xs → first ≡ second ++ lines (drop at xs)
+    → nat_eq at (length xs) ≡ same_lines first second
 rest_decides at xs first second h e = left_by at xs first second (nat_eq at (length xs)) refl h e
 
 -- ---- more of the first input
@@ -76,20 +81,25 @@ not_all_differ : (first second : List (List ℕ)) → second ≡ [] → Differ f
 not_all_differ first second e d =
     true≢false (sym (same_self first) ∙ sym (ap (λ (s : List (List ℕ)). same_lines first (s ++ first)) e) ∙ d first)
 
-more_by : (b : Bool) (at : ℕ) (xs ys block : List ℕ) (first second : List (List ℕ)) → second ≡ [] → ys ≡ xs ++ joined (lines block) → is_open xs ≡ false → at ≤ length xs
-    → MatchBool b (Differ first second) (first ≡ second ++ lines (drop at xs)) → MatchBool b (Differ (first ++ lines block) second) (first ++ lines block ≡ second ++ lines (drop at ys))
+more_by : (b : Bool) (at : ℕ) (xs ys block : List ℕ) (first second : List (List ℕ)) → second ≡ [] → ys ≡ xs ++ joined (lines block) → is_open xs
+    ≡ false → at ≤ length xs
+    → MatchBool b (Differ first second) (first ≡ second ++ lines (drop at xs))
+    → MatchBool b (Differ (first ++ lines block) second) (first ++ lines block ≡ second ++ lines (drop at ys))
 more_by true at xs ys block first second none put shut h d = absurd (not_all_differ first second none d)
 more_by false at xs ys block first second none put shut h e =
     ap (λ (ls : List (List ℕ)). ls ++ lines block) e ∙ append_assoc second (lines (drop at xs)) (lines block)
     ∙ ap (λ (ls : List (List ℕ)). second ++ ls)
     (
-    ap (λ (ls : List (List ℕ)). lines (drop at xs) ++ ls) (sym (lines-joined block)) ∙ sym (lines-append (drop at xs) (joined (lines block)) (closed-drop at xs shut))
+    ap (λ (ls : List (List ℕ)). lines (drop at xs) ++ ls) (sym (lines-joined block))
+    ∙ sym (lines-append (drop at xs) (joined (lines block)) (closed-drop at xs shut))
     ∙ ap lines (sym (drop-append-le at xs (joined (lines block)) h)) ∙ ap (λ (zs : List ℕ). lines (drop at zs)) (sym put)
     )
 
-pub first_more : (b : Bool) (at : ℕ) (xs ys block : List ℕ) (first second : List (List ℕ)) → second ≡ [] → ys ≡ xs ++ joined (lines block) → lines xs ≡ first → is_open xs ≡ false → at ≤ length xs
+pub first_more : (b : Bool) (at : ℕ) (xs ys block : List ℕ) (first second : List (List ℕ)) → second ≡ [] → ys ≡ xs ++ joined (lines block)
+    → lines xs ≡ first → is_open xs ≡ false → at ≤ length xs
     → MatchBool b (Differ first second) (first ≡ second ++ lines (drop at xs))
-    → (lines ys ≡ first ++ lines block) × (is_open ys ≡ false) × MatchBool b (Differ (first ++ lines block) second) (first ++ lines block ≡ second ++ lines (drop at ys))
+    → (lines ys ≡ first ++ lines block) × (is_open ys ≡ false)
+    × MatchBool b (Differ (first ++ lines block) second) (first ++ lines block ≡ second ++ lines (drop at ys))
 first_more b at xs ys block first second none put kept shut h c = (
   ap lines put ∙ lines-append xs (joined (lines block)) shut ∙ ap₂ (λ (x y : List (List ℕ)). x ++ y) kept (lines-joined block),
   ap is_open put ∙ closed-append xs (joined (lines block)) shut (joined-closed block),

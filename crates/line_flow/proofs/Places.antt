@@ -1,11 +1,13 @@
 -- Where lines end in bytes.
-use Rattle.std.proofs.Common.{◌≡◌, ◌≢◌, ℕ, zero, suc, ◌+◌, ◌<◌, Bool, true, false, cond, List, [], ◌∷◌, length, take, slice_index, refl, ap, ◌∙◌, arith}
+use Rattle.std.proofs.Common.{◌≡◌, ◌≢◌, ℕ, zero, suc, ◌+◌, ◌<◌, Bool, true, false, cond, List, [], ◌∷◌, length, take, slice_index, refl, ap, ◌∙◌}
+use Rattle.std.proofs.Common.{arith}
 use Rattle.std.specs.Prelude.{not, count_by}
 use Rattle.std.proofs.lemmas.Bool.{eq-eqb, ne_eqb}
 use Rattle.std.proofs.lemmas.List.Sums.{sum_by-cons}
 use Rattle.line_kit.specs.Lines.{is_feed, lines, with_byte, is_open}
 
-pub line_to_feed : (xs : List ℕ) (j : ℕ) → j < length xs → slice_index xs j ≡ 10 → ((k : ℕ) → k < j → slice_index xs k ≢ 10) → lines (take (suc j) xs) ≡ take j xs ∷ []
+pub line_to_feed : (xs : List ℕ) (j : ℕ) → j < length xs → slice_index xs j ≡ 10 → ((k : ℕ) → k < j → slice_index xs k ≢ 10)
+    → lines (take (suc j) xs) ≡ take j xs ∷ []
 line_to_feed [] j below here clean = absurd (omega arith)
 line_to_feed (x ∷ xs) zero below here clean = rw (eq-eqb x 10 here) refl
 line_to_feed (x ∷ xs) (suc j) below here clean =

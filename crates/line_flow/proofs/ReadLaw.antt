@@ -31,7 +31,8 @@ module _ {A : Type 0} (read : List ℕ → Option A) where
       ∙ ap (option_map (λ bs. s.0 ∷ bs)) (read-append ls ms s.1 s.3)
       ∙ behind-cons s.0 s.1 (read_each read ms) ∙ ap (λ bs. behind bs (read_each read ms)) (sym s.4)
 
-  pub read_more : (ls : List (List ℕ)) (l : List ℕ) (vs : List A) (a : A) → read_each read ls ≡ Some vs → read l ≡ Some a → read_each read (ls ++ l ∷ []) ≡ Some (vs ++ a ∷ [])
+  pub read_more : (ls : List (List ℕ)) (l : List ℕ) (vs : List A) (a : A) → read_each read ls ≡ Some vs → read l ≡ Some a
+      → read_each read (ls ++ l ∷ []) ≡ Some (vs ++ a ∷ [])
   read_more ls l vs a e f = read-append ls (l ∷ []) vs e ∙ ap (λ o. behind vs (option_and_then (λ x. option_map (λ more. x ∷ more) (Some [])) o)) f
 
   -- a line that can't be read, and whatever follows

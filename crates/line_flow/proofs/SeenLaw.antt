@@ -1,5 +1,6 @@
 -- A map of owned lines, seen as lists of bytes.
-use Rattle.std.proofs.Common.{◌≡◌, ℕ, ◌+◌, Bool, true, false, cond, List, [], ◌∷◌, map, Option, Some, None, unwrap_or, Ordering, Less, Equal, Greater, nat_lt, ◌||◌, refl, sym, ap, ◌∙◌, arith}
+use Rattle.std.proofs.Common.{◌≡◌, ℕ, ◌+◌, Bool, true, false, cond, List, [], ◌∷◌, map, Option, Some, None, unwrap_or, Ordering, Less, Equal, Greater}
+use Rattle.std.proofs.Common.{nat_lt, ◌||◌, refl, sym, ap, ◌∙◌, arith}
 use Rattle.std.specs.Prelude.{Vec}
 use Rattle.std.specs.declared.alloc.Global.{Global}
 use Rattle.std.specs.Ordering.{nat_cmp, match_ordering, is_eq}
@@ -34,7 +35,8 @@ lookup-seen : (es : List Entry) (line : List ℕ) → lookup (is_at (asks line))
 lookup-seen [] line = refl
 lookup-seen (e ∷ es) line = ap (cond (is_eq (cmp line e.0.items)) (Some e.1)) (lookup-seen es line)
 
-set-by : (b : Bool) (e : Entry) (w : ℕ) (es ds : List Entry) → map see (cond b ((e.0, w) ∷ es) (e ∷ ds)) ≡ cond b ((e.0.items, w) ∷ map see es) (see e ∷ map see ds)
+set-by : (b : Bool) (e : Entry) (w : ℕ) (es ds : List Entry) → map see (cond b ((e.0, w) ∷ es) (e ∷ ds))
+    ≡ cond b ((e.0.items, w) ∷ map see es) (see e ∷ map see ds)
 set-by true e w es ds = refl
 set-by false e w es ds = refl
 
@@ -47,7 +49,8 @@ set-seen (e ∷ es) line w =
 -- ---- where a line is found its value is set
 
 -- above a line that is above this one it isn't found
-none_above : (line : List ℕ) (x : Vec ℕ Global) (es : List Entry) → cmp line x.items ≡ Less → AllByRecursion (λ y. by_bytes x y ≡ Less) (keys_of es) → lookup (is_at (cmp line)) (map see es) ≡ None
+none_above : (line : List ℕ) (x : Vec ℕ Global) (es : List Entry) → cmp line x.items ≡ Less
+    → AllByRecursion (λ y. by_bytes x y ≡ Less) (keys_of es) → lookup (is_at (cmp line)) (map see es) ≡ None
 none_above line x [] h a = refl
 none_above line x (e ∷ es) h a =
     let less : cmp line e.0.items ≡ Less = nat_list_cmp_total.trans line x.items e.0.items h a.0 in
@@ -56,7 +59,8 @@ none_above line x (e ∷ es) h a =
 not_found : (v : ℕ) (o : Option ℕ) → o ≡ None → o ≡ Some v → ⊥
 not_found v o e f = let bad : None ≡ Some v = sym e ∙ f in (cc)
 
-found_by : (line : List ℕ) (e : Entry) (es : List Entry) (v w : ℕ) (o : Ordering) → cmp line e.0.items ≡ o → AllByRecursion (λ y. by_bytes e.0 y ≡ Less) (keys_of es)
+found_by : (line : List ℕ) (e : Entry) (es : List Entry) (v w : ℕ) (o : Ordering) → cmp line e.0.items ≡ o
+    → AllByRecursion (λ y. by_bytes e.0 y ≡ Less) (keys_of es)
     → cond (is_eq o) (Some e.1) (lookup (is_at (cmp line)) (map see es)) ≡ Some v
     → (lookup (is_at (cmp line)) (map see es) ≡ Some v → set_value (is_at (cmp line)) (map see es) w ≡ insert_entry cmp (map see es) line w)
     → cond (is_eq o) ((e.0.items, w) ∷ map see es) (see e ∷ set_value (is_at (cmp line)) (map see es) w)
@@ -80,12 +84,15 @@ more_there line es v n s f =
     set-seen es line (v + n) ∙ set-found line es v (v + n) s found ∙ ap (λ o. insert_entry cmp (map see es) line (unwrap_or o 0 + n)) (sym found)
 
 -- the first number at a line
-pub more_new : (line : List ℕ) (es : List Entry) (n : ℕ) → lookup (is_at (asks line)) es ≡ None → insert_entry cmp (map see es) line n ≡ with_more (map see es) line n
+pub more_new : (line : List ℕ) (es : List Entry) (n : ℕ) → lookup (is_at (asks line)) es ≡ None → insert_entry cmp (map see es) line n
+    ≡ with_more (map see es) line n
 unfolding sum_at with_more
 more_new line es n f =
     let zero_and : 0 + n ≡ n = omega arith in
-    ap (insert_entry cmp (map see es) line) (sym zero_and) ∙ ap (λ o. insert_entry cmp (map see es) line (unwrap_or o 0 + n)) (sym (sym (lookup-seen es line) ∙ f))
+    ap (insert_entry cmp (map see es) line) (sym zero_and)
+    ∙ ap (λ o. insert_entry cmp (map see es) line (unwrap_or o 0 + n)) (sym (sym (lookup-seen es line) ∙ f))
 
-pub values-above : (most : ℕ) (es : List Entry) → list_any (λ sum. nat_lt most sum) (map (λ e. e.1) es) ≡ list_any (λ (e : List ℕ × ℕ). nat_lt most e.1) (map see es)
+pub values-above : (most : ℕ) (es : List Entry) → list_any (λ sum. nat_lt most sum) (map (λ e. e.1) es)
+    ≡ list_any (λ (e : List ℕ × ℕ). nat_lt most e.1) (map see es)
 values-above most [] = refl
 values-above most (e ∷ es) = ap (λ b. nat_lt most e.1 || b) (values-above most es)

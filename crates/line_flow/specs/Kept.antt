@@ -1,5 +1,6 @@
 -- What the code keeps of the lines that it has settled, against these lines. Nothing above a flow needs it.
-use Rattle.std.specs.Prelude.{◌≡◌, ℕ, zero, suc, ◌+◌, ◌-◌, ◌^◌, ◌%◌, ◌<◌, ◌≤◌, nat_lt, min, Bool, true, false, ℤ, pos, int_div, List, [], ◌∷◌, ◌++◌, length, take, drop, map, replicate, slice_index_or, Vec, Option, Some, None}
+use Rattle.std.specs.Prelude.{◌≡◌, ℕ, zero, suc, ◌+◌, ◌-◌, ◌^◌, ◌%◌, ◌<◌, ◌≤◌, nat_lt, min, Bool, true, false, ℤ, pos, int_div, List, [], ◌∷◌, ◌++◌}
+use Rattle.std.specs.Prelude.{length, take, drop, map, replicate, slice_index_or, Vec, Option, Some, None}
 use Rattle.std.specs.declared.alloc.Global.{Global}
 use Rattle.std.specs.declared.cmp.Ordering.{Ordering}
 use Rattle.std.specs.Ordering.{nat_cmp}
@@ -166,7 +167,8 @@ KeptLined (Lined.Tally t) e args n drained ls = (e ≡ Tally) × (sums_in t ≡ 
 
 abbrev pub KeptBlocks : Blocks → Executor → Pairs (List ℕ) → ℕ → List (List ℕ) → Seen → Type 0
 KeptBlocks (Blocks.Cat s) e args n drained seen = (e ≡ Cat) × HasOne s drained (joined seen.all)
-KeptBlocks (Blocks.Grep t s) e args n drained seen = (e ≡ Grep) × (t.items ≡ text_of args) × HasOne s drained (joined (with_text (text_of args) seen.all))
+KeptBlocks (Blocks.Grep t s) e args n drained seen = (e ≡ Grep) × (t.items ≡ text_of args)
+    × HasOne s drained (joined (with_text (text_of args) seen.all))
 KeptBlocks (Blocks.Count c) e args n drained seen = (e ≡ Count) × (c ≡ length seen.all) × Undrained n drained
 KeptBlocks (Blocks.Same p) e args n drained seen = (e ≡ Same) × HasPair p seen.first seen.second × Undrained n drained
 KeptBlocks (Blocks.Kept k) e args n drained seen = (keeps_all e ≡ true) × (lines k.items ≡ seen.all) × (is_open k.items ≡ false) × Undrained n drained

@@ -74,7 +74,8 @@ impl Blocks {
     /// Whether an output has more bytes than an output may have, whatever lines follow. `sort` and `split` tell it at
     /// their end.
     pub(crate) fn is_over(&self) -> bool
-        ensures { result ≡ true → (e : _) (args : _) (n : ℕ) (drained : _) (seen : _) (inputs : _) (more : _) → KeptBlocks self.now e args n drained seen
+        ensures { result ≡ true → (e : _) (args : _) (n : ℕ) (drained : _) (seen : _) (inputs : _) (more : _)
+            → KeptBlocks self.now e args n drained seen
             → all_lines inputs ≡ seen.all ++ more → row e args inputs n ≡ Err TooLarge }
     {
         match self {

@@ -3,7 +3,8 @@ use Rattle.std.proofs.Common.{◌≡◌, ◌≢◌, ℕ, zero, suc, ◌<◌, fal
 use Rattle.std.proofs.lemmas.Bool.{eq-eqb, ne_eqb}
 use Rattle.line_kit.specs.Lines.{lines}
 
-pub lines_cut : (xs : List ℕ) (j : ℕ) → j < length xs → slice_index xs j ≡ 10 → ((k : ℕ) → k < j → slice_index xs k ≢ 10) → lines xs ≡ take j xs ∷ lines (drop (suc j) xs)
+pub lines_cut : (xs : List ℕ) (j : ℕ) → j < length xs → slice_index xs j ≡ 10 → ((k : ℕ) → k < j → slice_index xs k ≢ 10) → lines xs ≡ take j xs
+    ∷ lines (drop (suc j) xs)
 lines_cut [] j below here clean = absurd (omega arith)
 lines_cut (x ∷ xs) zero below here clean = rw (eq-eqb x 10 here)
 lines_cut (x ∷ xs) (suc j) below here clean =

@@ -1,5 +1,6 @@
 -- Numbers read digit by digit.
-use Rattle.std.proofs.Common.{◌≡◌, ℕ, zero, suc, ◌||◌, ◌&&◌, nat_lt, nat_le, Bool, true, false, cond, Some, None, ◌+◌, ◌-◌, ◌*◌, ◌<◌, ◌≤◌, List, [], ◌∷◌, length, take, drop, ◌^◌, get_or, refl, sym, ap, ◌∙◌, arith}
+use Rattle.std.proofs.Common.{◌≡◌, ℕ, zero, suc, ◌||◌, ◌&&◌, nat_lt, nat_le, Bool, true, false, cond, Some, None, ◌+◌, ◌-◌, ◌*◌, ◌<◌, ◌≤◌, List, []}
+use Rattle.std.proofs.Common.{◌∷◌, length, take, drop, ◌^◌, get_or, refl, sym, ap, ◌∙◌, arith}
 use Rattle.std.proofs.lemmas.List.{drop_more}
 use Rattle.std.proofs.lemmas.Str.{digit_value_digit}
 use Rattle.std.specs.Char.{is_ascii_digit, digit_value}
@@ -24,7 +25,8 @@ pub value_step : (n : ℕ) (digits : List ℕ) (i : ℕ) → is_digits digits �
     → digits_value_after 10 n (drop i digits) ≡ digits_value_after 10 (n * 10 + (get_or digits i 0 - 48)) (drop (i + 1) digits)
 value_step n digits i e h =
     let digit = all_at is_ascii_digit digits i 0 (and_both (not (length digits == 0)) (list_all is_ascii_digit digits) e).1 h in
-    ap (digits_value_after 10 n) (drop_more digits i 0 h) ∙ ap (λ d. digits_value_after 10 (n * 10 + d) (drop (i + 1) digits)) (digit_is (get_or digits i 0) digit)
+    ap (digits_value_after 10 n) (drop_more digits i 0 h)
+    ∙ ap (λ d. digits_value_after 10 (n * 10 + d) (drop (i + 1) digits)) (digit_is (get_or digits i 0) digit)
 
 pub value_grows : (n : ℕ) (digits : List ℕ) → n ≤ digits_value_after 10 n digits
 value_grows n [] = omega arith
@@ -53,7 +55,9 @@ counted_none line end e f =
     let past : list_any is_space line ≡ false = any_position is_space line ∙ grind (arith, nat_tests) in
     rw past refl
 
-pub counted_some : (line : List ℕ) (end n : ℕ) → end ≡ position_or_len is_space line → end < length line → number_up_to (2 ^ 63 - 1) (take end line) ≡ Some n → counted line ≡ Some (drop (end + 1) line, n)
+pub counted_some : (line : List ℕ) (end n : ℕ) → end ≡ position_or_len is_space line → end < length line
+    → number_up_to (2 ^ 63 - 1) (take end line) ≡ Some n → counted line ≡ Some (drop (end + 1) line, n)
 counted_some line end n e f read =
     let there : list_any is_space line ≡ true = any_position is_space line ∙ grind (arith, nat_tests) in
-    rw there (ap (λ i. option_map (λ m. (drop (i + 1) line, m)) (number_up_to (2 ^ 63 - 1) (take i line))) (sym e) ∙ ap (option_map (λ m. (drop (end + 1) line, m))) read)
+    rw there (ap (λ i. option_map (λ m. (drop (i + 1) line, m)) (number_up_to (2 ^ 63 - 1) (take i line))) (sym e)
+    ∙ ap (option_map (λ m. (drop (end + 1) line, m))) read)

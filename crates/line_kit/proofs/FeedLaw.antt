@@ -24,7 +24,8 @@ count_from : (a : ℕ) (hay : List ℕ) → length (places_from (is_byte a) hay 
 unfolding places_from
 count_from a [] = refl
 count_from a (x ∷ hay) =
-    counted (is_byte a x) (places_from (is_byte a) (x ∷ hay) 1 (length hay)) [] (count_by (λ b. b == a) hay) (behind (is_byte a) x hay 0 (length hay) ∙ count_from a hay)
+    counted (is_byte a x) (places_from (is_byte a) (x ∷ hay) 1 (length hay)) [] (count_by (λ b. b == a) hay)
+    (behind (is_byte a) x hay 0 (length hay) ∙ count_from a hay)
     ∙ sym (sum_by-cons (λ b. cond (b == a) 1 0) x hay)
 
 pub places_count : (a : ℕ) (hay : List ℕ) → length (places (is_byte a) hay) ≡ count_by (λ b. b == a) hay

@@ -1,6 +1,7 @@
 -- Lines with a text, by a search of all bytes: before the line around the first place of the text no line
 -- has it, and that line has it.
-use Rattle.std.proofs.Common.{◌≡◌, ◌≢◌, ℕ, zero, suc, ◌+◌, ◌<◌, ◌≤◌, Bool, true, false, ◌&&◌, ◌||◌, cond, List, [], ◌∷◌, ◌++◌, length, take, drop, slice_index, refl, sym, ap, ap₂, ◌∙◌, arith, length-take, length-drop}
+use Rattle.std.proofs.Common.{◌≡◌, ◌≢◌, ℕ, zero, suc, ◌+◌, ◌<◌, ◌≤◌, Bool, true, false, ◌&&◌, ◌||◌, cond, List, [], ◌∷◌, ◌++◌, length, take, drop}
+use Rattle.std.proofs.Common.{slice_index, refl, sym, ap, ap₂, ◌∙◌, arith, length-take, length-drop}
 use Rattle.std.specs.Prelude.{◌==◌, nat_eq}
 use Rattle.std.specs.List.{list_any}
 use Rattle.std.proofs.lemmas.Bool.{true≢false, eqb-true, eq-eqb, ne_eqb}
@@ -49,7 +50,8 @@ others [] = []
 others (l ∷ ls) = ls
 
 head_by : (x y : ℕ) (ys : List ℕ) (b : Bool) → with_byte y (lines ys) ≡ (y ∷ first_of ys) ∷ others (lines ys)
-    → with_byte x (cond b ([] ∷ lines ys) (with_byte y (lines ys))) ≡ (x ∷ cond b [] (y ∷ first_of ys)) ∷ others (cond b ([] ∷ lines ys) (with_byte y (lines ys)))
+    → with_byte x (cond b ([] ∷ lines ys) (with_byte y (lines ys))) ≡ (x ∷ cond b [] (y ∷ first_of ys))
+    ∷ others (cond b ([] ∷ lines ys) (with_byte y (lines ys)))
 head_by x y ys true h = refl
 head_by x y ys false h = ap (with_byte x) h ∙ ap (λ (ls : List (List ℕ)). (x ∷ y ∷ first_of ys) ∷ ls) (sym (ap others h))
 
@@ -57,7 +59,8 @@ with_byte-lines : (x : ℕ) (xs : List ℕ) → with_byte x (lines xs) ≡ (x �
 with_byte-lines x [] = refl
 with_byte-lines x (y ∷ ys) = head_by x y ys (y == 10) (with_byte-lines y ys)
 
-lines_by : (x : ℕ) (xs : List ℕ) (b : Bool) → cond b ([] ∷ lines xs) (with_byte x (lines xs)) ≡ cond b [] (x ∷ first_of xs) ∷ cond b (lines xs) (others (lines xs))
+lines_by : (x : ℕ) (xs : List ℕ) (b : Bool) → cond b ([] ∷ lines xs) (with_byte x (lines xs)) ≡ cond b [] (x ∷ first_of xs)
+    ∷ cond b (lines xs) (others (lines xs))
 lines_by x xs true = refl
 lines_by x xs false = with_byte-lines x xs
 
@@ -70,7 +73,8 @@ first_line_of (x ∷ xs) l ls e = same_first l (first_of (x ∷ xs)) ls (cond (x
 
 -- ---- no line has a text that the bytes don't have
 
-first_of_by : (m y : ℕ) (n ys : List ℕ) (b : Bool) → first_in (m ∷ n) (cond b [] (y ∷ first_of ys)) ≡ true → (first_in n (first_of ys) ≡ true → first_in n ys ≡ true)
+first_of_by : (m y : ℕ) (n ys : List ℕ) (b : Bool) → first_in (m ∷ n) (cond b [] (y ∷ first_of ys)) ≡ true
+    → (first_in n (first_of ys) ≡ true → first_in n ys ≡ true)
     → nat_eq y m && first_in n ys ≡ true
 first_of_by m y n ys true e h = absurd (true≢false (sym e))
 first_of_by m y n ys false e h = let both = and_both (nat_eq y m) (first_in n (first_of ys)) e in rw both.0 (h both.1)
@@ -88,7 +92,8 @@ not_longer x (m ∷ n) xs e =
     let whole : nat_eq x m && first_in n xs ≡ true = rw both.0 (first_in-first_of n xs both.1) in
     true≢false (sym whole ∙ e))
 
-first_none_by : (x : ℕ) (xs n : List ℕ) (b : Bool) → first_in n (x ∷ xs) ≡ false → contains (first_of xs) n ≡ false → contains (cond b [] (x ∷ first_of xs)) n ≡ false
+first_none_by : (x : ℕ) (xs n : List ℕ) (b : Bool) → first_in n (x ∷ xs) ≡ false → contains (first_of xs) n ≡ false
+    → contains (cond b [] (x ∷ first_of xs)) n ≡ false
 first_none_by x xs n true e h = contains-nothing n (first_in-nothing n (x ∷ xs) e)
 first_none_by x xs n false e h = ap₂ (λ p q. p || q) (begins-first_in (x ∷ first_of xs) n ∙ not_longer x n xs e) h
 
@@ -148,7 +153,8 @@ no_place : (xs n : List ℕ) (s : ℕ) → first_in n [] ≡ false → ((k : ℕ
 no_place xs n zero e h = contains-nothing n e
 no_place [] n (suc s) e h = contains-nothing n e
 no_place (x ∷ xs) n (suc s) e h =
-    let first : first_in n (x ∷ take s xs) ≡ false = not_true (first_in n (x ∷ take s xs)) (λ t. true≢false (sym (first_in-take n (x ∷ xs) (suc s) t) ∙ h 0 (omega arith))) in
+    let first : first_in n (x ∷ take s xs) ≡ false =
+    not_true (first_in n (x ∷ take s xs)) (λ t. true≢false (sym (first_in-take n (x ∷ xs) (suc s) t) ∙ h 0 (omega arith))) in
     ap₂ (λ p q. p || q) (begins-first_in (x ∷ take s xs) n ∙ first) (no_place xs n s e (λ k l. h (suc k) (omega arith)))
 
 abbrev pub NotBefore : List ℕ → List ℕ → ℕ → Type 0
@@ -166,7 +172,8 @@ some_text xs (m ∷ n) at h none = refl
 none_before : (xs n : List ℕ) (at p : ℕ) → at ≤ length xs → suc p ≤ at → NotBefore xs n at → with_text n (lines (take (suc p) xs)) ≡ []
 none_before xs n at p inside h none =
     none_with (take (suc p) xs) n
-    (no_place xs n (suc p) (some_text xs n at (omega arith) none) (λ k l. not_true (first_in n (drop k xs)) (λ t. none k (omega arith) (place_of_first xs n k (omega arith) t))))
+    (no_place xs n (suc p) (some_text xs n at (omega arith) none)
+    (λ k l. not_true (first_in n (drop k xs)) (λ t. none k (omega arith) (place_of_first xs n k (omega arith) t))))
 
 -- ---- the line with the first place
 
@@ -183,15 +190,18 @@ contains-first : (l n : List ℕ) → first_in n l ≡ true → contains l n ≡
 contains-first [] n t = begins-first_in [] n ∙ t
 contains-first (x ∷ l) n t = or_left (begins (x ∷ l) n) (contains l n) (begins-first_in (x ∷ l) n ∙ t)
 
-pub line_has : (ys n : List ℕ) (i : ℕ) → list_any is_feed n ≡ false → i ≤ length ys → ((k : ℕ) → k < i → slice_index ys k ≢ 10) → first_in n (drop i ys) ≡ true → contains (first_of ys) n ≡ true
+pub line_has : (ys n : List ℕ) (i : ℕ) → list_any is_feed n ≡ false → i ≤ length ys → ((k : ℕ) → k < i → slice_index ys k ≢ 10)
+    → first_in n (drop i ys) ≡ true → contains (first_of ys) n ≡ true
 line_has ys n zero e h clean t = contains-first (first_of ys) n (first_in-line n ys e t)
 line_has [] n (suc i) e h clean t = absurd (omega arith)
 line_has (y ∷ ys) n (suc i) e h clean t =
     let byte : (y == 10) ≡ false = ne_eqb y 10 (clean 0 (omega arith)) in
-    rw byte (or_right (begins (y ∷ first_of ys) n) (contains (first_of ys) n) (line_has ys n i e (omega arith) (λ k l. clean (suc k) (omega arith)) t))
+    rw byte (or_right (begins (y ∷ first_of ys) n) (contains (first_of ys) n)
+    (line_has ys n i e (omega arith) (λ k l. clean (suc k) (omega arith)) t))
 
 -- lines before a line feed in front of the first place count for nothing
-pub skipped : (xs n : List ℕ) (at s : ℕ) → at ≤ length xs → s ≤ at → NotBefore xs n at → ((p : ℕ) → s ≡ p + 1 → slice_index xs p ≡ 10) → with_text n (lines xs) ≡ with_text n (lines (drop s xs))
+pub skipped : (xs n : List ℕ) (at s : ℕ) → at ≤ length xs → s ≤ at → NotBefore xs n at → ((p : ℕ) → s ≡ p + 1 → slice_index xs p ≡ 10)
+    → with_text n (lines xs) ≡ with_text n (lines (drop s xs))
 skipped xs n at zero inside h none feed = refl
 skipped xs n at (suc p) inside h none feed =
     ap (with_text n) (lines_behind xs p (omega arith) (feed p (omega arith)))
@@ -200,7 +210,8 @@ skipped xs n at (suc p) inside h none feed =
 
 -- ---- a text with a line feed
 
-feed_by : (m y : ℕ) (n ys : List ℕ) (b : Bool) → (y == 10) ≡ b → is_feed m || list_any is_feed n ≡ true → (list_any is_feed n ≡ true → first_in n (first_of ys) ≡ false)
+feed_by : (m y : ℕ) (n ys : List ℕ) (b : Bool) → (y == 10) ≡ b → is_feed m || list_any is_feed n ≡ true
+    → (list_any is_feed n ≡ true → first_in n (first_of ys) ≡ false)
     → first_in (m ∷ n) (cond b [] (y ∷ first_of ys)) ≡ false
 feed_by m y n ys true t e h = refl
 feed_by m y n ys false t e h =
@@ -214,7 +225,8 @@ first_in-feed [] ys e = absurd (true≢false (sym e))
 first_in-feed (m ∷ n) [] e = refl
 first_in-feed (m ∷ n) (y ∷ ys) e = feed_by m y n ys (y == 10) refl e (first_in-feed n ys)
 
-contains_by : (y : ℕ) (n ys : List ℕ) (b : Bool) → first_in n (cond b [] (y ∷ first_of ys)) ≡ false → contains (first_of ys) n ≡ false → contains (cond b [] (y ∷ first_of ys)) n ≡ false
+contains_by : (y : ℕ) (n ys : List ℕ) (b : Bool) → first_in n (cond b [] (y ∷ first_of ys)) ≡ false → contains (first_of ys) n ≡ false
+    → contains (cond b [] (y ∷ first_of ys)) n ≡ false
 contains_by y n ys true e h = contains-nothing n e
 contains_by y n ys false e h = ap₂ (λ p q. p || q) (begins-first_in (y ∷ first_of ys) n ∙ e) h
 
@@ -224,9 +236,11 @@ contains-feed (y ∷ ys) n e = contains_by y n ys (y == 10) (first_in-feed n (y 
 
 none_with_feed : (xs n : List ℕ) → list_any is_feed n ≡ true → with_text n (lines xs) ≡ []
 none_with_feed [] n e = refl
-none_with_feed (x ∷ xs) n e = ap (with_text n) (lines_by x xs (x == 10)) ∙ none_by x xs n (x == 10) (contains-feed (x ∷ xs) n e) (none_with_feed xs n e)
+none_with_feed (x ∷ xs) n e = ap (with_text n) (lines_by x xs (x == 10))
+    ∙ none_by x xs n (x == 10) (contains-feed (x ∷ xs) n e) (none_with_feed xs n e)
 
 pub none_at_all : (inputs : List (List ℕ)) (n : List ℕ) → list_any is_feed n ≡ true → with_text n (all_lines inputs) ≡ []
 none_at_all [] n e = refl
 none_at_all (xs ∷ inputs) n e =
-    filter-append (λ line. contains line n) (lines xs) (all_lines inputs) ∙ ap₂ (λ (a b : List (List ℕ)). a ++ b) (none_with_feed xs n e) (none_at_all inputs n e)
+    filter-append (λ line. contains line n) (lines xs) (all_lines inputs)
+    ∙ ap₂ (λ (a b : List (List ℕ)). a ++ b) (none_with_feed xs n e) (none_at_all inputs n e)

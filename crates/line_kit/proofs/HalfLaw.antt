@@ -18,11 +18,14 @@ pub halves_start : (read : Option (List ℤ)) → with_halves (Some []) read ≡
 halves_start None = refl
 halves_start (Some zs) = ap Some (extended-start (joined (half_lines zs)))
 
-pub halves_more : (before after : Option (List ℕ)) (z : ℤ) (read : Option (List ℤ)) → after ≡ extended before (ended (signed_decimal (int_div z (pos 2))))
+pub halves_more : (before after : Option (List ℕ)) (z : ℤ) (read : Option (List ℤ)) → after
+    ≡ extended before (ended (signed_decimal (int_div z (pos 2))))
     → with_halves after read ≡ with_halves before (option_map (λ more. z ∷ more) read)
 halves_more before after z None e = refl
 halves_more before after z (Some zs) e =
-    ap Some (ap (λ o. extended o (joined (half_lines zs))) e ∙ extended-extended before (ended (signed_decimal (int_div z (pos 2)))) (joined (half_lines zs)))
+    ap Some (ap (λ o. extended o (joined (half_lines zs))) e
+    ∙ extended-extended before (ended (signed_decimal (int_div z (pos 2)))) (joined (half_lines zs)))
 
-pub read_first : {A : Type 0} (read : List ℕ → Option A) (l : List ℕ) (ls : List (List ℕ)) (a : A) → read l ≡ Some a → read_each read (l ∷ ls) ≡ option_map (λ more. a ∷ more) (read_each read ls)
+pub read_first : {A : Type 0} (read : List ℕ → Option A) (l : List ℕ) (ls : List (List ℕ)) (a : A) → read l ≡ Some a → read_each read (l ∷ ls)
+    ≡ option_map (λ more. a ∷ more) (read_each read ls)
 read_first read l ls a e = rw e refl

@@ -31,20 +31,23 @@ joined-one : (x : ℕ) (b : Bool) → (x == 10) ≡ b → joined (cond b ([] ∷
 joined-one x true e = ap (λ y. y ∷ []) (sym (eqb-true x 10 e))
 joined-one x false e = refl
 
-joined-more : (x y : ℕ) (ys : List ℕ) (b : Bool) → (x == 10) ≡ b → joined (cond b ([] ∷ lines (y ∷ ys)) (with_byte x (lines (y ∷ ys)))) ≡ x ∷ joined (lines (y ∷ ys))
+joined-more : (x y : ℕ) (ys : List ℕ) (b : Bool) → (x == 10) ≡ b → joined (cond b ([] ∷ lines (y ∷ ys)) (with_byte x (lines (y ∷ ys)))) ≡ x
+    ∷ joined (lines (y ∷ ys))
 joined-more x y ys true e = ap (λ z. z ∷ joined (lines (y ∷ ys))) (sym (eqb-true x 10 e))
 joined-more x y ys false e = let s = lines_some y ys in joined-with_byte x (lines (y ∷ ys)) s.0 s.1 s.2
 
 pub joined-lines : (xs : List ℕ) → joined (lines xs) ≡ cond (is_open xs) (xs ++ 10 ∷ []) xs
 joined-lines [] = refl
 joined-lines (x ∷ []) = joined-one x (x == 10) refl
-joined-lines (x ∷ y ∷ ys) = joined-more x y ys (x == 10) refl ∙ ap (λ (zs : List ℕ). x ∷ zs) (joined-lines (y ∷ ys)) ∙ whole-cons (is_open (y ∷ ys)) x (y ∷ ys)
+joined-lines (x ∷ y ∷ ys) = joined-more x y ys (x == 10) refl ∙ ap (λ (zs : List ℕ). x ∷ zs) (joined-lines (y ∷ ys))
+    ∙ whole-cons (is_open (y ∷ ys)) x (y ∷ ys)
 
 length-one : (x : ℕ) (b : Bool) → length (cond b ([] ∷ []) ((x ∷ []) ∷ [])) ≡ (cond b 1 0 + 0) + cond (not b) 1 0
 length-one x true = refl
 length-one x false = refl
 
-length-more : (x y : ℕ) (ys : List ℕ) (b : Bool) → length (cond b ([] ∷ lines (y ∷ ys)) (with_byte x (lines (y ∷ ys)))) ≡ cond b 1 0 + length (lines (y ∷ ys))
+length-more : (x y : ℕ) (ys : List ℕ) (b : Bool) → length (cond b ([] ∷ lines (y ∷ ys)) (with_byte x (lines (y ∷ ys))))
+    ≡ cond b 1 0 + length (lines (y ∷ ys))
 length-more x y ys true = omega arith
 length-more x y ys false = let s = lines_some y ys in length-with_byte x (lines (y ∷ ys)) s.0 s.1 s.2 ∙ omega arith
 
@@ -54,7 +57,8 @@ count_by-cons x xs = sum_by-cons (λ y. cond (is_feed y) 1 0) x xs
 pub length-lines : (xs : List ℕ) → length (lines xs) ≡ count_by is_feed xs + cond (is_open xs) 1 0
 length-lines [] = refl
 length-lines (x ∷ []) = length-one x (x == 10) ∙ sym (ap (λ n. n + cond (not (x == 10)) 1 0) (count_by-cons x []))
-length-lines (x ∷ y ∷ ys) = let e = length-lines (y ∷ ys) in let f = length-more x y ys (x == 10) in let g = count_by-cons x (y ∷ ys) in omega (arith, e, f, g)
+length-lines (x ∷ y ∷ ys) = let e = length-lines (y ∷ ys) in let f = length-more x y ys (x == 10) in let g = count_by-cons x (y ∷ ys) in
+    omega (arith, e, f, g)
 
 further : (x y : ℕ) (ys : List ℕ) → slice_get (y ∷ ys) (length ys) ≡ slice_get (x ∷ y ∷ ys) (length (x ∷ y ∷ ys) - 1)
 further x y ys = let e : length (x ∷ y ∷ ys) - 1 ≡ suc (length ys) = omega arith in sym (ap (slice_get (x ∷ y ∷ ys)) e)

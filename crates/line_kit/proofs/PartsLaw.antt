@@ -1,5 +1,6 @@
 -- Lines dealt out one after the other, and outputs made one after the other.
-use Rattle.std.proofs.Common.{◌≡◌, ◌≢◌, ℕ, ◌+◌, ◌%◌, ◌<◌, true, false, cond, List, [], ◌∷◌, map, length, get_or, set, ⊎_elim, subst, Option, None, refl, sym, ap, ap₂, ◌∙◌, arith}
+use Rattle.std.proofs.Common.{◌≡◌, ◌≢◌, ℕ, ◌+◌, ◌%◌, ◌<◌, true, false, cond, List, [], ◌∷◌, map, length, get_or, set, ⊎_elim, subst, Option, None}
+use Rattle.std.proofs.Common.{refl, sym, ap, ap₂, ◌∙◌, arith}
 use Rattle.std.specs.Prelude.{◌==◌}
 use Rattle.std.specs.List.{range_with_len}
 use Rattle.std.proofs.Math.Nat.{add-mod_left, mod-eq_of_lt}
@@ -39,7 +40,8 @@ deal_there n i turn before after line more h other e =
     ∙ ap (λ b. extended before (joined (cond b (line ∷ every n i (turn + 1) more) (every n i (turn + 1) more)))) (sym not_turn)
 
 -- outputs that are finished, each with its lines
-pub filled : (outputs : List (Option (List ℕ))) (f : ℕ → List (List ℕ)) (n : ℕ) → length outputs ≡ n → ((i : ℕ) → i < n → finished (get_or outputs i None) ≡ capped (joined (f i)))
+pub filled : (outputs : List (Option (List ℕ))) (f : ℕ → List (List ℕ)) (n : ℕ) → length outputs ≡ n
+    → ((i : ℕ) → i < n → finished (get_or outputs i None) ≡ capped (joined (f i)))
     → map finished outputs ≡ map (λ l. capped (joined l)) (map f (range_with_len 0 n))
 filled outputs f n count each =
     fill_by_all (λ i. capped (joined (f i))) (map finished outputs) n None (length-map outputs finished ∙ count)
@@ -47,16 +49,20 @@ filled outputs f n count each =
     ∙ sym (map-map (λ l. capped (joined l)) f (range_with_len 0 n))
 
 -- all outputs after one line more
-pub dealt_on : (n turn : ℕ) (all : List (Option (List ℕ))) (after : Option (List ℕ)) (line : List ℕ) (more : List (List ℕ)) (whole : ℕ → Option (List ℕ)) → length all ≡ n → turn < n
-    → after ≡ extended (get_or all turn None) (ended line) → ((i : ℕ) → i < n → extended (get_or all i None) (joined (every n i turn (line ∷ more))) ≡ whole i)
+pub dealt_on : (n turn : ℕ) (all : List (Option (List ℕ))) (after : Option (List ℕ)) (line : List ℕ) (more : List (List ℕ))
+    (whole : ℕ → Option (List ℕ)) → length all ≡ n → turn < n
+    → after ≡ extended (get_or all turn None) (ended line)
+    → ((i : ℕ) → i < n → extended (get_or all i None) (joined (every n i turn (line ∷ more))) ≡ whole i)
     → (i : ℕ) → i < n → extended (get_or (set all turn after) i None) (joined (every n i (turn + 1) more)) ≡ whole i
 dealt_on n turn all after line more whole count h e each i l =
     let at : extended (get_or (set all turn after) turn None) (dealt_to n turn (turn + 1) more) ≡ whole turn =
     ap (λ o. extended o (dealt_to n turn (turn + 1) more)) (get_or-set_same all turn after None (omega (arith, h, count)))
     ∙ deal_here n turn (get_or all turn None) after line more h e ∙ each turn h in
     ⊎_elim
-    (λ same. subst (λ (j : ℕ). extended (get_or (set all turn after) j None) (dealt_to n j (turn + 1) more) ≡ whole j) (sym (eqb-true i turn same)) at)
+    (λ same. subst (λ (j : ℕ). extended (get_or (set all turn after) j None) (dealt_to n j (turn + 1) more) ≡ whole j)
+    (sym (eqb-true i turn same)) at)
     (λ no.
     let apart : i ≢ turn = λ same. true≢false (sym (eq-eqb i turn same) ∙ no) in
-    deal_there n i turn (get_or all i None) (get_or (set all turn after) i None) line more h apart (get_or-set_other all turn i after None apart) ∙ each i l)
+    deal_there n i turn (get_or all i None) (get_or (set all turn after) i None) line more h apart (get_or-set_other all turn i after None apart)
+    ∙ each i l)
     (cases_Bool (i == turn))

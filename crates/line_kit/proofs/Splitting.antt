@@ -11,7 +11,8 @@ use Rattle.line_kit.specs.Words.{is_gap, begins_word, words}
 abbrev no_gap : ℕ → Bool
 no_gap b = not (is_gap b)
 
-behind_step : (x : ℕ) (xs : List ℕ) (b : Bool) → is_gap x ≡ b → words xs ≡ words (drop (prefix_len is_gap xs) xs) → words (x ∷ xs) ≡ words (drop (cond b (1 + prefix_len is_gap xs) 0) (x ∷ xs))
+behind_step : (x : ℕ) (xs : List ℕ) (b : Bool) → is_gap x ≡ b → words xs ≡ words (drop (prefix_len is_gap xs) xs) → words (x ∷ xs)
+    ≡ words (drop (cond b (1 + prefix_len is_gap xs) 0) (x ∷ xs))
 behind_step x xs true e h =
     let one : 1 + prefix_len is_gap xs ≡ suc (prefix_len is_gap xs) = omega arith in
     rw (e, one) h
@@ -22,7 +23,8 @@ pub words_behind : (xs : List ℕ) → words xs ≡ words (drop (prefix_len is_g
 words_behind [] = refl
 words_behind (x ∷ xs) = behind_step x xs (is_gap x) refl (words_behind xs)
 
-begins_step : (x : ℕ) (xs : List ℕ) (b : Bool) → is_gap x ≡ b → (0 < length (drop (prefix_len is_gap xs) xs) → begins_word (drop (prefix_len is_gap xs) xs) ≡ true)
+begins_step : (x : ℕ) (xs : List ℕ) (b : Bool) → is_gap x ≡ b
+    → (0 < length (drop (prefix_len is_gap xs) xs) → begins_word (drop (prefix_len is_gap xs) xs) ≡ true)
     → 0 < length (drop (cond b (1 + prefix_len is_gap xs) 0) (x ∷ xs)) → begins_word (drop (cond b (1 + prefix_len is_gap xs) 0) (x ∷ xs)) ≡ true
 begins_step x xs true e h some =
     let one : 1 + prefix_len is_gap xs ≡ suc (prefix_len is_gap xs) = omega arith in
@@ -38,7 +40,8 @@ none_begins : (xs : List ℕ) → begins_word xs ≡ false → prefix_len no_gap
 none_begins [] e = refl
 none_begins (x ∷ xs) e = rw e refl
 
-first_step : (x : ℕ) (xs : List ℕ) (b : Bool) → begins_word xs ≡ b → (begins_word xs ≡ true → words xs ≡ take (prefix_len no_gap xs) xs ∷ words (drop (prefix_len no_gap xs) xs))
+first_step : (x : ℕ) (xs : List ℕ) (b : Bool) → begins_word xs ≡ b
+    → (begins_word xs ≡ true → words xs ≡ take (prefix_len no_gap xs) xs ∷ words (drop (prefix_len no_gap xs) xs))
     → cond b (with_byte x (words xs)) ((x ∷ []) ∷ words xs) ≡ (x ∷ take (prefix_len no_gap xs) xs) ∷ words (drop (prefix_len no_gap xs) xs)
 first_step x xs true e h = ap (with_byte x) (h e)
 first_step x xs false e h = let none = none_begins xs e in rw none refl
@@ -52,7 +55,8 @@ words_first (x ∷ xs) h =
     rw (gap, one) (first_step x xs (begins_word xs) refl (words_first xs))
 
 -- the first word behind the gaps, and what follows it
-pub words_cut : (xs ys : List ℕ) → ys ≡ drop (prefix_len is_gap xs) xs → 0 < length ys → words xs ≡ take (prefix_len no_gap ys) ys ∷ words (drop (prefix_len no_gap ys) ys)
+pub words_cut : (xs ys : List ℕ) → ys ≡ drop (prefix_len is_gap xs) xs → 0 < length ys → words xs ≡ take (prefix_len no_gap ys) ys
+    ∷ words (drop (prefix_len no_gap ys) ys)
 words_cut xs ys e some =
     let begins : begins_word ys ≡ true = rw e (begins_behind xs (rw e at some)) in
     words_behind xs ∙ sym (ap words e) ∙ words_first ys begins

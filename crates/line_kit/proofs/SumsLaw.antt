@@ -1,5 +1,6 @@
 -- What `tally` and `sum` write, by their totals.
-use Rattle.std.proofs.Common.{◌≡◌, ℕ, suc, length-take, ◌+◌, ◌*◌, ◌<◌, ◌≤◌, ◌^◌, Bool, true, false, ◌||◌, cond, nat_lt, List, [], ◌∷◌, map, take, length, get_or, Bor, refl, sym, ap, ap₂, ◌∙◌, arith, Err, Some}
+use Rattle.std.proofs.Common.{◌≡◌, ℕ, suc, length-take, ◌+◌, ◌*◌, ◌<◌, ◌≤◌, ◌^◌, Bool, true, false, ◌||◌, cond, nat_lt, List, [], ◌∷◌, map, take}
+use Rattle.std.proofs.Common.{length, get_or, Bor, refl, sym, ap, ap₂, ◌∙◌, arith, Err, Some}
 use Rattle.std.specs.Prelude.{All}
 use Rattle.std.specs.List.{list_any, AllByRecursion}
 use Rattle.std.proofs.lemmas.List.Elements.{All-take}
@@ -16,7 +17,8 @@ use Rattle.line_kit.proofs.Seen.{Entry, see}
 
 -- ---- one entry more
 
-pub more_seen : {A : Type 0} (f : A → List ℕ × ℕ) (xs : List A) (i : ℕ) (d : A) (t : List (List ℕ × ℕ)) → i < length xs → t ≡ totals (map f (take i xs))
+pub more_seen : {A : Type 0} (f : A → List ℕ × ℕ) (xs : List A) (i : ℕ) (d : A) (t : List (List ℕ × ℕ)) → i < length xs → t
+    ≡ totals (map f (take i xs))
     → with_more t (f (get_or xs i d)).0 (f (get_or xs i d)).1 ≡ totals (map f (take (i + 1) xs))
 more_seen f xs i d t h e =
     let x = get_or xs i d in
@@ -47,7 +49,8 @@ ones_small (x ∷ xs) = (omega arith, ones_small xs)
 abbrev one_of : Bor (List ℕ) → List ℕ × ℕ
 one_of x = (x.now, 1)
 
-pub ones_bound : (q : List ℕ) (xs : List (Bor (List ℕ))) (i : ℕ) (t : List (List ℕ × ℕ)) → t ≡ totals (map (λ x. (x.now, 1)) (take i xs)) → sum_at t q ≤ i
+pub ones_bound : (q : List ℕ) (xs : List (Bor (List ℕ))) (i : ℕ) (t : List (List ℕ × ℕ)) → t ≡ totals (map (λ x. (x.now, 1)) (take i xs))
+    → sum_at t q ≤ i
 ones_bound q xs i t e =
     let es = map one_of (take i xs) in
     let at : sum_at t q ≡ total q es = ap (λ (us : List (List ℕ × ℕ)). sum_at us q) e ∙ sum_at-totals es q in
@@ -58,7 +61,8 @@ entries_small : (xs : List Entry) → All (λ e. e.1 < 2 ^ 63) xs → AllByRecur
 entries_small [] h = tt
 entries_small (x ∷ xs) h = (omega (arith, h 0 x (omega arith)), entries_small xs (λ k d l. h (suc k) d (omega arith)))
 
-pub entries_bound : (q : List ℕ) (xs : List Entry) (i : ℕ) (t : List (List ℕ × ℕ)) → All (λ e. e.1 < 2 ^ 63) xs → t ≡ totals (map see (take i xs)) → sum_at t q ≤ i * 2 ^ 63
+pub entries_bound : (q : List ℕ) (xs : List Entry) (i : ℕ) (t : List (List ℕ × ℕ)) → All (λ e. e.1 < 2 ^ 63) xs → t
+    ≡ totals (map see (take i xs)) → sum_at t q ≤ i * 2 ^ 63
 entries_bound q xs i t small e =
     let es = map see (take i xs) in
     let at : sum_at t q ≡ total q es = ap (λ (us : List (List ℕ × ℕ)). sum_at us q) e ∙ sum_at-totals es q in
@@ -86,7 +90,8 @@ map-same f g (x ∷ xs) h = ap₂ (λ a b. a ∷ b) (h x) (map-same f g xs h)
 abbrev pub count_lines : List (List ℕ × ℕ) → List (List ℕ)
 count_lines = map (λ e. count_line e.1 e.0)
 
-lines_of_totals : (es : List (List ℕ × ℕ)) (ks : List (List ℕ)) → count_lines (map (λ line. (line, total line es)) ks) ≡ map (λ line. count_line (total line es) line) ks
+lines_of_totals : (es : List (List ℕ × ℕ)) (ks : List (List ℕ)) → count_lines (map (λ line. (line, total line es)) ks)
+    ≡ map (λ line. count_line (total line es) line) ks
 lines_of_totals es [] = refl
 lines_of_totals es (k ∷ ks) = ap (λ (ys : List (List ℕ)). count_line (total k es) k ∷ ys) (lines_of_totals es ks)
 
@@ -96,15 +101,20 @@ tallied-totals xs =
     ∙ map-same _ _ (rests (map (λ l. (l, 1)) xs)) (λ line. ap (λ n. count_line n line) (total-ones line xs))
     ∙ ap (λ ks. map (λ line. count_line (times line xs) line) (distinct_in_order ks)) (keys-ones xs)
 
-any_of_totals : (es : List (List ℕ × ℕ)) (ks : List (List ℕ)) → list_any (λ (e : List ℕ × ℕ). nat_lt 9223372036854775807 e.1) (map (λ line. (line, total line es)) ks) ≡ list_any (λ rest. nat_lt 9223372036854775807 (total rest es)) ks
+any_of_totals : (es : List (List ℕ × ℕ)) (ks : List (List ℕ))
+    → list_any (λ (e : List ℕ × ℕ). nat_lt 9223372036854775807 e.1) (map (λ line. (line, total line es)) ks)
+    ≡ list_any (λ rest. nat_lt 9223372036854775807 (total rest es)) ks
 any_of_totals es [] = refl
 any_of_totals es (k ∷ ks) = ap (λ b. nat_lt 9223372036854775807 (total k es) || b) (any_of_totals es ks)
 
-pub above-totals : (es : List (List ℕ × ℕ)) → list_any (λ (e : List ℕ × ℕ). nat_lt 9223372036854775807 e.1) (totals es) ≡ list_any (λ rest. nat_lt 9223372036854775807 (total rest es)) (rests es)
+pub above-totals : (es : List (List ℕ × ℕ)) → list_any (λ (e : List ℕ × ℕ). nat_lt 9223372036854775807 e.1) (totals es)
+    ≡ list_any (λ rest. nat_lt 9223372036854775807 (total rest es)) (rests es)
 above-totals es = any_of_totals es (rests es)
 
-pub summed-over : (es : List (List ℕ × ℕ)) → list_any (λ (e : List ℕ × ℕ). nat_lt 9223372036854775807 e.1) (totals es) ≡ true → summed (Some es) ≡ Err Overflow
+pub summed-over : (es : List (List ℕ × ℕ)) → list_any (λ (e : List ℕ × ℕ). nat_lt 9223372036854775807 e.1) (totals es) ≡ true → summed (Some es)
+    ≡ Err Overflow
 summed-over es h = rw (sym (above-totals es) ∙ h) refl
 
-pub summed-lines : (es : List (List ℕ × ℕ)) → list_any (λ (e : List ℕ × ℕ). nat_lt 9223372036854775807 e.1) (totals es) ≡ false → summed (Some es) ≡ one (count_lines (totals es))
+pub summed-lines : (es : List (List ℕ × ℕ)) → list_any (λ (e : List ℕ × ℕ). nat_lt 9223372036854775807 e.1) (totals es) ≡ false
+    → summed (Some es) ≡ one (count_lines (totals es))
 summed-lines es h = rw (sym (above-totals es) ∙ h) (sym (ap one (lines_of_totals es (rests es))))

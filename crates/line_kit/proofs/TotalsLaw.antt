@@ -1,5 +1,6 @@
 -- Adding a number at a line makes the totals of one entry more.
-use Rattle.std.proofs.Common.{◌≡◌, ℕ, ◌+◌, Bool, true, false, ◌||◌, cond, List, [], ◌∷◌, ◌++◌, map, fold, Option, Some, unwrap_or, Ordering, Less, Equal, Greater, refl, sym, ap, ap₂, subst, ◌∙◌, arith}
+use Rattle.std.proofs.Common.{◌≡◌, ℕ, ◌+◌, Bool, true, false, ◌||◌, cond, List, [], ◌∷◌, ◌++◌, map, fold, Option, Some, unwrap_or, Ordering, Less}
+use Rattle.std.proofs.Common.{Equal, Greater, refl, sym, ap, ap₂, subst, ◌∙◌, arith}
 use Rattle.std.specs.List.{list_any}
 use Rattle.std.specs.Ordering.{nat_cmp, match_ordering, is_eq, ordering_reverse}
 use Rattle.std.specs.Cmp.Lexicographic.{slice_cmp}
@@ -95,19 +96,23 @@ insert_by f g k y v ys Less e at h r ih =
     ap₂ (λ (n : ℕ) (more : List (List ℕ × ℕ)). (k, n) ∷ more) (sym at) (pairs-above f g k (y ∷ ys) h (e, Above-under k y ys e r.0))
 insert_by f g k y v ys Equal e at h r ih =
     let same : k ≡ y = same_if_equal k y e in
-    ap₂ (λ (n : ℕ) (more : List (List ℕ × ℕ)). (y, n) ∷ more) (sym at ∙ ap g same) (pairs-above f g k ys h (subst (λ (z : List ℕ). Above z ys) (sym same) r.0))
+    ap₂ (λ (n : ℕ) (more : List (List ℕ × ℕ)). (y, n) ∷ more) (sym at ∙ ap g same)
+    (pairs-above f g k ys h (subst (λ (z : List ℕ). Above z ys) (sym same) r.0))
 insert_by f g k y v ys Greater e at h r ih =
     ap₂ (λ (n : ℕ) (more : List (List ℕ × ℕ)). (y, n) ∷ more) (sym (h y (other y k Less (turned k y Greater e) refl))) ih
 
-insert-pairs : (f g : List ℕ → ℕ) (k : List ℕ) (v : ℕ) (ks : List (List ℕ)) → g k ≡ v → Agree f g k → Rises ks → insert_entry cmp (pairs f ks) k v ≡ pairs g (put_key ks k)
+insert-pairs : (f g : List ℕ → ℕ) (k : List ℕ) (v : ℕ) (ks : List (List ℕ)) → g k ≡ v → Agree f g k → Rises ks
+    → insert_entry cmp (pairs f ks) k v ≡ pairs g (put_key ks k)
 insert-pairs f g k v [] at h r = ap (λ (n : ℕ). (k, n) ∷ []) (sym at)
 insert-pairs f g k v (y ∷ ys) at h r = insert_by f g k y v ys (cmp k y) refl at h r (insert-pairs f g k v ys at h r.1)
 
-lookup_by : (f : List ℕ → ℕ) (k y : List ℕ) (b : Bool) (found : Option ℕ) → bytes_eq k y ≡ b → (b ≡ false → unwrap_or found 0 ≡ f k) → unwrap_or (cond b (Some (f y)) found) 0 ≡ f k
+lookup_by : (f : List ℕ → ℕ) (k y : List ℕ) (b : Bool) (found : Option ℕ) → bytes_eq k y ≡ b → (b ≡ false → unwrap_or found 0 ≡ f k)
+    → unwrap_or (cond b (Some (f y)) found) 0 ≡ f k
 lookup_by f k y true found e h = ap f (sym ((bytes_eq-Decides k y).0 e))
 lookup_by f k y false found e h = h refl
 
-lookup-pairs : (f : List ℕ → ℕ) (k : List ℕ) (ks : List (List ℕ)) → (list_any (bytes_eq k) ks ≡ false → f k ≡ 0) → unwrap_or (lookup (is_at (cmp k)) (pairs f ks)) 0 ≡ f k
+lookup-pairs : (f : List ℕ → ℕ) (k : List ℕ) (ks : List (List ℕ)) → (list_any (bytes_eq k) ks ≡ false → f k ≡ 0)
+    → unwrap_or (lookup (is_at (cmp k)) (pairs f ks)) 0 ≡ f k
 lookup-pairs f k [] h = sym (h refl)
 lookup-pairs f k (y ∷ ys) h =
     lookup_by f k y (is_eq (cmp k y)) (lookup (is_at (cmp k)) (pairs f ys)) (sym (is_eq-slice_cmp k y))
@@ -135,7 +140,8 @@ or_zero : (a : Bool) → a || false ≡ a
 or_zero true = refl
 or_zero false = refl
 
-any_by : (q k y : List ℕ) (ys : List (List ℕ)) (o : Ordering) → cmp k y ≡ o → list_any (bytes_eq q) (put_key ys k) ≡ bytes_eq q k || list_any (bytes_eq q) ys
+any_by : (q k y : List ℕ) (ys : List (List ℕ)) (o : Ordering) → cmp k y ≡ o → list_any (bytes_eq q) (put_key ys k) ≡ bytes_eq q k
+    || list_any (bytes_eq q) ys
     → list_any (bytes_eq q) (match_ordering o (k ∷ y ∷ ys) (y ∷ ys) (y ∷ put_key ys k)) ≡ bytes_eq q k || (bytes_eq q y || list_any (bytes_eq q) ys)
 any_by q k y ys Less e ih = refl
 any_by q k y ys Equal e ih =
@@ -150,7 +156,8 @@ any-put q k (y ∷ ys) = any_by q k y ys (cmp k y) refl (any-put q k ys)
 any-fold : (q : List ℕ) (xs ks : List (List ℕ)) → list_any (bytes_eq q) (fold put_key ks xs) ≡ list_any (bytes_eq q) xs || list_any (bytes_eq q) ks
 any-fold q [] ks = refl
 any-fold q (x ∷ xs) ks =
-    any-fold q xs (put_key ks x) ∙ ap (λ b. list_any (bytes_eq q) xs || b) (any-put q x ks) ∙ or_turn (list_any (bytes_eq q) xs) (bytes_eq q x) (list_any (bytes_eq q) ks)
+    any-fold q xs (put_key ks x) ∙ ap (λ b. list_any (bytes_eq q) xs || b) (any-put q x ks)
+    ∙ or_turn (list_any (bytes_eq q) xs) (bytes_eq q x) (list_any (bytes_eq q) ks)
 
 total-none : (q : List ℕ) (es : List (List ℕ × ℕ)) → list_any (bytes_eq q) (map (λ e. e.0) es) ≡ false → total q es ≡ 0
 total-none q [] h = refl
@@ -180,7 +187,8 @@ with_more-totals es k n =
     total-push k es k n ∙ ap (λ b. total k es + cond b n 0) (same_self k) ∙ ap (λ m. m + n) (sym (sum_at-totals es k)) in
     let agree : Agree (λ l. total l es) (λ l. total l (es ++ (k, n) ∷ [])) k =
     λ l no. total-push l es k n ∙ ap (λ b. total l es + cond b n 0) no ∙ omega arith in
-    insert-pairs (λ l. total l es) (λ l. total l (es ++ (k, n) ∷ [])) k (sum_at (totals es) k + n) (rests es) at agree (Rises-fold (map (λ e. e.0) es) [] tt)
+    insert-pairs (λ l. total l es) (λ l. total l (es ++ (k, n) ∷ [])) k (sum_at (totals es) k + n) (rests es) at agree
+    (Rises-fold (map (λ e. e.0) es) [] tt)
     ∙ ap (pairs (λ l. total l (es ++ (k, n) ∷ []))) (sym (rests-push es k n))
 
 pub totals-none : totals [] ≡ []

@@ -1,5 +1,6 @@
 -- Writing in pieces is writing at once, and closing outputs that have lines gives those lines.
-use Rattle.std.proofs.Common.{◌≡◌, ℕ, ◌+◌, ◌<◌, ◌≤◌, Bool, true, false, ◌||◌, cond, List, [], ◌∷◌, ◌++◌, length, map, Option, Some, None, refl, sym, ap, ap₂, ◌∙◌, arith, ⊎_elim, append_assoc, append-nil, length-append, Ok, Err, nat_lt}
+use Rattle.std.proofs.Common.{◌≡◌, ℕ, ◌+◌, ◌<◌, ◌≤◌, Bool, true, false, ◌||◌, cond, List, [], ◌∷◌, ◌++◌, length, map, Option, Some, None, refl, sym}
+use Rattle.std.proofs.Common.{ap, ap₂, ◌∙◌, arith, ⊎_elim, append_assoc, append-nil, length-append, Ok, Err, nat_lt}
 use Rattle.std.proofs.lemmas.Bool.Decides.{nat_tests}
 use Rattle.std.specs.List.{list_any}
 use Rattle.sky_base.specs.declared.fault.FaultKind.TheVariants.{TooLarge}
@@ -50,7 +51,8 @@ extended-extended (Some x) a b =
 
 -- ---- closing
 
-unless_large-cons : (x : List ℕ) (xs : List (List ℕ)) (s t : Bool) → is_over x ≡ s → list_any is_over xs ≡ t → with_first (cond s None (Some x)) (cond t (Err TooLarge) (Ok xs)) ≡ cond (s || t) (Err TooLarge) (Ok (x ∷ xs))
+unless_large-cons : (x : List ℕ) (xs : List (List ℕ)) (s t : Bool) → is_over x ≡ s → list_any is_over xs ≡ t
+    → with_first (cond s None (Some x)) (cond t (Err TooLarge) (Ok xs)) ≡ cond (s || t) (Err TooLarge) (Ok (x ∷ xs))
 unless_large-cons x xs true t e f = refl
 unless_large-cons x xs false true e f = refl
 unless_large-cons x xs false false e f = refl
@@ -63,7 +65,8 @@ pub answered-capped : (ls : List (List (List ℕ))) → answered (map (λ l. cap
 answered-capped [] = refl
 answered-capped (l ∷ ls) = ap (with_first (capped (joined l))) (answered-capped ls) ∙ with_first-unless_large (joined l) (map joined ls)
 
-pub closed_with : (outputs : List (Option (List ℕ))) (ls : List (List (List ℕ))) → map finished outputs ≡ map (λ l. capped (joined l)) ls → closed outputs ≡ with_lines ls
+pub closed_with : (outputs : List (Option (List ℕ))) (ls : List (List (List ℕ))) → map finished outputs ≡ map (λ l. capped (joined l)) ls
+    → closed outputs ≡ with_lines ls
 closed_with outputs ls e = ap answered e ∙ answered-capped ls
 
 pub closed_one : (output : Option (List ℕ)) (ls : List (List ℕ)) → finished output ≡ capped (joined ls) → closed (output ∷ []) ≡ one ls
@@ -91,14 +94,16 @@ abbrev pub behind : List (List ℕ) → Answer → Answer
 behind done (Ok more) = Ok (done ++ more)
 behind done (Err kind) = Err kind
 
-behind-first : (done : List (List ℕ)) (bytes : List ℕ) (answer : Answer) → behind done (with_first (Some bytes) answer) ≡ behind (done ++ bytes ∷ []) answer
+behind-first : (done : List (List ℕ)) (bytes : List ℕ) (answer : Answer) → behind done (with_first (Some bytes) answer)
+    ≡ behind (done ++ bytes ∷ []) answer
 behind-first done bytes (Ok more) = ap Ok (sym (append_assoc done (bytes ∷ []) more))
 behind-first done bytes (Err kind) = refl
 
 pub closed-over : (done : List (List ℕ)) (more : List (Option (List ℕ))) → behind done (closed (None ∷ more)) ≡ Err TooLarge
 closed-over done more = ap (λ o. behind done (with_first o (closed more))) (extended-none [])
 
-pub closed-more : (done : List (List ℕ)) (bytes : List ℕ) (more : List (Option (List ℕ))) → length bytes ≤ 67108864 → behind done (closed (Some bytes ∷ more)) ≡ behind (done ++ bytes ∷ []) (closed more)
+pub closed-more : (done : List (List ℕ)) (bytes : List ℕ) (more : List (Option (List ℕ))) → length bytes ≤ 67108864
+    → behind done (closed (Some bytes ∷ more)) ≡ behind (done ++ bytes ∷ []) (closed more)
 closed-more done bytes more h =
     let whole : finished (Some bytes) ≡ Some bytes = extended-some bytes [] ∙ ap capped (append-nil bytes) ∙ capped-fits bytes h in
     ap (λ o. behind done (with_first o (closed more))) whole ∙ behind-first done bytes (closed more)

@@ -1,5 +1,6 @@
 -- What each executor gives: the table of the executors, row by row, and the order of their faults.
-use Rattle.std.specs.Prelude.{ℕ, nat_lt, Bool, ℤ, pos, List, [], ◌∷◌, length, take, map, slice_index_or, option_and_then, Option, Some, None, Result, Ok, Err, codes, decimal, int_div, if◌then◌else◌}
+use Rattle.std.specs.Prelude.{ℕ, nat_lt, Bool, ℤ, pos, List, [], ◌∷◌, length, take, map, slice_index_or, option_and_then, Option, Some, None, Result}
+use Rattle.std.specs.Prelude.{Ok, Err, codes, decimal, int_div, if◌then◌else◌}
 use Rattle.std.specs.Fmt.{signed_decimal}
 use Rattle.std.specs.List.{flat_map, list_any}
 use Rattle.std.specs.Option.{option_map}

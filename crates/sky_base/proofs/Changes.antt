@@ -1,5 +1,6 @@
 -- How a list and a dictionary change where a value is put into them.
-use Rattle.std.proofs.Common.{◌≡◌, ℕ, zero, suc, ◌+◌, ◌<◌, ◌≤◌, max, List, length, Option, Some, None, refl, ap, ◌∙◌, arith, Ok, Err, Bool, true, false, nat_lt}
+use Rattle.std.proofs.Common.{◌≡◌, ℕ, zero, suc, ◌+◌, ◌<◌, ◌≤◌, max, List, length, Option, Some, None, refl, ap, ◌∙◌, arith, Ok, Err, Bool, true}
+use Rattle.std.proofs.Common.{false, nat_lt}
 use Rattle.std.proofs.lemmas.Bool.Decides.{nat_tests}
 use Rattle.std.specs.Option.{option_map}
 use Rattle.std.specs.Ordering.{nat_cmp, match_ordering}
@@ -12,7 +13,8 @@ use Rattle.sky_base.specs.declared.fault.FaultKind.{FaultKind}
 use Rattle.sky_base.proofs.Values.{size_in, size_found}
 
 -- what is put beside a first value
-front : {P : Type 0} (v : Val (List ℕ)) (o : Option (Vals (List ℕ))) (ws : Vals (List ℕ)) → option_map (val v) o ≡ Some ws → ((us : Vals (List ℕ)) → o ≡ Some us → val v us ≡ ws → P) → P
+front : {P : Type 0} (v : Val (List ℕ)) (o : Option (Vals (List ℕ))) (ws : Vals (List ℕ)) → option_map (val v) o ≡ Some ws
+    → ((us : Vals (List ℕ)) → o ≡ Some us → val v us ≡ ws → P) → P
 front v None ws e f = absurd cc
 front v (Some us) ws e f = f us refl cc
 
@@ -22,7 +24,8 @@ pub record PlaceChange (vs ws : Vals (List ℕ)) (old new : Val (List ℕ)) : Ty
   pub most : depths ws ≤ max (depths vs) (depth new)
   pub least : depth new ≤ depths ws
 
-pub place_change : (vs : Vals (List ℕ)) (i : ℕ) (x e : Val (List ℕ)) (ws : Vals (List ℕ)) → val_at vs i ≡ Some x → put_val vs i e ≡ Some ws → PlaceChange vs ws x e
+pub place_change : (vs : Vals (List ℕ)) (i : ℕ) (x e : Val (List ℕ)) (ws : Vals (List ℕ)) → val_at vs i ≡ Some x → put_val vs i e ≡ Some ws
+    → PlaceChange vs ws x e
 place_change no_vals i x e ws a b = absurd cc
 place_change (val v vs) zero x e ws a b =
     let f : v ≡ x = cc in
@@ -94,7 +97,8 @@ set_deep vs i e h d =
     let c = place_change vs i x.0 e r.made x.1 r.is in
     ap limited_list r.is ∙ limited_deep (list r.made) (omega arith)
 
-pub set_large : (vs : Vals (List ℕ)) (i : ℕ) (e : Val (List ℕ)) → i < count vs → depths vs < 100 → depth e < 100 → ((ws : Vals (List ℕ)) → put_val vs i e ≡ Some ws → 262144 ≤ sizes ws) → limited_list (put_val vs i e) ≡ Err FaultKind.TooLarge
+pub set_large : (vs : Vals (List ℕ)) (i : ℕ) (e : Val (List ℕ)) → i < count vs → depths vs < 100 → depth e < 100
+    → ((ws : Vals (List ℕ)) → put_val vs i e ≡ Some ws → 262144 ≤ sizes ws) → limited_list (put_val vs i e) ≡ Err FaultKind.TooLarge
 set_large vs i e h d n l =
     let x = val_within vs i h in
     let r = put_within vs i e h in
@@ -102,7 +106,8 @@ set_large vs i e h d n l =
     let m = l r.made r.is in
     ap limited_list r.is ∙ limited_large (list r.made) (omega arith) (omega arith)
 
-pub set_kept : (vs : Vals (List ℕ)) (i : ℕ) (e : Val (List ℕ)) (ws : Vals (List ℕ)) → i < count vs → put_val vs i e ≡ Some ws → depths vs < 100 → depth e < 100 → sizes ws < 262144 → Kept (list ws)
+pub set_kept : (vs : Vals (List ℕ)) (i : ℕ) (e : Val (List ℕ)) (ws : Vals (List ℕ)) → i < count vs → put_val vs i e ≡ Some ws → depths vs < 100
+    → depth e < 100 → sizes ws < 262144 → Kept (list ws)
 set_kept vs i e ws h p d n l =
     let x = val_within vs i h in
     let c = place_change vs i x.0 e ws x.1 p in
@@ -123,25 +128,34 @@ pub key_depth : (k : List ℕ) (e : Val (List ℕ)) (ps : Pairs (List ℕ)) → 
 key_depth k e no_pairs = record { most = omega arith; least = omega arith }
 key_depth k e (pair l v ps) =
     let r = key_depth k e ps in
-    put_step (λ qs. KeyDepth (pair l v ps) qs e) (slice_cmp nat_cmp k l) _ _ _ (record { most = omega arith; least = omega arith }) (record { most = omega arith; least = omega arith }) (record { most = omega arith; least = omega arith })
+    put_step (λ qs. KeyDepth (pair l v ps) qs e) (slice_cmp nat_cmp k l) _ _ _ (record { most = omega arith; least = omega arith })
+    (record { most = omega arith; least = omega arith }) (record { most = omega arith; least = omega arith })
 
-size_step : (o : Ordering) (k l : List ℕ) (e v x : Val (List ℕ)) (ps : Pairs (List ℕ)) → match_ordering o None (Some v) (find k ps) ≡ Some x → (find k ps ≡ Some x → pair_sizes (put k e ps) + size x ≡ pair_sizes ps + size e) → pair_sizes (match_ordering o (pair k e (pair l v ps)) (pair l e ps) (pair l v (put k e ps))) + size x ≡ length l + size v + pair_sizes ps + size e
+size_step : (o : Ordering) (k l : List ℕ) (e v x : Val (List ℕ)) (ps : Pairs (List ℕ)) → match_ordering o None (Some v) (find k ps) ≡ Some x
+    → (find k ps ≡ Some x → pair_sizes (put k e ps) + size x ≡ pair_sizes ps + size e)
+    → pair_sizes (match_ordering o (pair k e (pair l v ps)) (pair l e ps) (pair l v (put k e ps))) + size x
+    ≡ length l + size v + pair_sizes ps + size e
 size_step Ordering.Less k l e v x ps h f = absurd cc
 size_step Ordering.Equal k l e v x ps h f = let g : v ≡ x = cc in rw (← g) (omega arith)
 size_step Ordering.Greater k l e v x ps h f = omega (arith, f h)
 
 -- the sizes where a key that was there has another value
-pub sizes-put_over : (k : List ℕ) (e x : Val (List ℕ)) (ps : Pairs (List ℕ)) → find k ps ≡ Some x → pair_sizes (put k e ps) + size x ≡ pair_sizes ps + size e
+pub sizes-put_over : (k : List ℕ) (e x : Val (List ℕ)) (ps : Pairs (List ℕ)) → find k ps ≡ Some x → pair_sizes (put k e ps) + size x
+    ≡ pair_sizes ps + size e
 sizes-put_over k e x no_pairs h = absurd cc
 sizes-put_over k e x (pair l v ps) h = size_step (slice_cmp nat_cmp k l) k l e v x ps h (sizes-put_over k e x ps)
 
-new_step : (o : Ordering) (k l : List ℕ) (e v : Val (List ℕ)) (ps : Pairs (List ℕ)) → match_ordering o None (Some v) (find k ps) ≡ None → (find k ps ≡ None → pair_sizes (put k e ps) ≡ pair_sizes ps + length k + size e) → pair_sizes (match_ordering o (pair k e (pair l v ps)) (pair l e ps) (pair l v (put k e ps))) ≡ length l + size v + pair_sizes ps + length k + size e
+new_step : (o : Ordering) (k l : List ℕ) (e v : Val (List ℕ)) (ps : Pairs (List ℕ)) → match_ordering o None (Some v) (find k ps) ≡ None
+    → (find k ps ≡ None → pair_sizes (put k e ps) ≡ pair_sizes ps + length k + size e)
+    → pair_sizes (match_ordering o (pair k e (pair l v ps)) (pair l e ps) (pair l v (put k e ps)))
+    ≡ length l + size v + pair_sizes ps + length k + size e
 new_step Ordering.Less k l e v ps h f = omega arith
 new_step Ordering.Equal k l e v ps h f = absurd cc
 new_step Ordering.Greater k l e v ps h f = omega (arith, f h)
 
 -- the sizes where a key is new
-pub sizes-put_new : (k : List ℕ) (e : Val (List ℕ)) (ps : Pairs (List ℕ)) → find k ps ≡ None → pair_sizes (put k e ps) ≡ pair_sizes ps + length k + size e
+pub sizes-put_new : (k : List ℕ) (e : Val (List ℕ)) (ps : Pairs (List ℕ)) → find k ps ≡ None → pair_sizes (put k e ps)
+    ≡ pair_sizes ps + length k + size e
 sizes-put_new k e no_pairs h = omega arith
 sizes-put_new k e (pair l v ps) h = new_step (slice_cmp nat_cmp k l) k l e v ps h (sizes-put_new k e ps)
 

@@ -1,7 +1,8 @@
 -- The test whether two values are equal: lists of different lengths are not, and of values without references
 -- it is the same whatever the test of references is.
 use Rattle.std.proofs.Common.{◌≡◌, ◌≢◌, ℕ, suc, List, [], ◌∷◌, length, Bool, false, true, ◌&&◌, refl, ap}
-use Rattle.sky_base.specs.Val.{Val, Vals, Pairs, null, truth, num, text, list, dict, fun, ref, no_vals, val, no_pairs, pair, is_plain, vals_plain, pairs_plain, same_val, same_vals, same_pairs, same_text}
+use Rattle.sky_base.specs.Val.{Val, Vals, Pairs, null, truth, num, text, list, dict, fun, ref, no_vals, val, no_pairs, pair, is_plain, vals_plain}
+use Rattle.sky_base.specs.Val.{pairs_plain, same_val, same_vals, same_pairs, same_text}
 use Rattle.sky_base.specs.View.{view, vals_of, pairs_of}
 use Rattle.sky_base.specs.declared.value.Value.{Value}
 use Rattle.sky_base.specs.declared.value.Pair.{Pair}

@@ -5,7 +5,9 @@ use Rattle.std.specs.Cmp.Lexicographic.{slice_cmp}
 use Rattle.std.specs.declared.cmp.Ordering.{Ordering}
 use Rattle.std.proofs.lemmas.Bool.Decides.{Decides-int_eq}
 use Rattle.std.proofs.lemmas.Cmp.{nat_list_cmp_total, tied_itself}
-use Rattle.sky_base.specs.Val.{Val, Vals, Pairs, Desc, null, truth, num, text, list, dict, fun, ref, no_vals, val, no_pairs, pair, call, out, input, known, same_text, same_bool, if_null, if_truth, if_num, if_text, if_list, if_dict, if_fun, if_ref, if_val, if_no_vals, if_pair, if_no_pairs, if_call, if_out, if_input, if_known, same_val, same_vals, same_pairs, same_desc}
+use Rattle.sky_base.specs.Val.{Val, Vals, Pairs, Desc, null, truth, num, text, list, dict, fun, ref, no_vals, val, no_pairs, pair, call, out, input}
+use Rattle.sky_base.specs.Val.{known, same_text, same_bool, if_null, if_truth, if_num, if_text, if_list, if_dict, if_fun, if_ref, if_val, if_no_vals}
+use Rattle.sky_base.specs.Val.{if_pair, if_no_pairs, if_call, if_out, if_input, if_known, same_val, same_vals, same_pairs, same_desc}
 use Rattle.sky_base.proofs.Keys.{same_key}
 
 pub both_first : (a b : Bool) → a && b ≡ true → a ≡ true
@@ -108,7 +110,8 @@ module _ {N : Type 0} where
   dict_true (fun f c) k e go = absurd cc
   dict_true (ref d) k e go = absurd cc
 
-  fun_true : {P : Type 0} (w : Val N) (k : List ℕ → Pairs N → Bool) → if_fun w k ≡ true → ((g : List ℕ) (qs : Pairs N) → w ≡ fun g qs → k g qs ≡ true → P) → P
+  fun_true : {P : Type 0} (w : Val N) (k : List ℕ → Pairs N → Bool) → if_fun w k ≡ true
+      → ((g : List ℕ) (qs : Pairs N) → w ≡ fun g qs → k g qs ≡ true → P) → P
   fun_true null k e go = absurd cc
   fun_true (truth b) k e go = absurd cc
   fun_true (num z) k e go = absurd cc
@@ -132,7 +135,8 @@ module _ {N : Type 0} where
   no_vals_true no_vals e = refl
   no_vals_true (val v vs) e = absurd cc
 
-  val_true : {P : Type 0} (ws : Vals N) (k : Val N → Vals N → Bool) → if_val ws k ≡ true → ((w : Val N) (us : Vals N) → ws ≡ val w us → k w us ≡ true → P) → P
+  val_true : {P : Type 0} (ws : Vals N) (k : Val N → Vals N → Bool) → if_val ws k ≡ true
+      → ((w : Val N) (us : Vals N) → ws ≡ val w us → k w us ≡ true → P) → P
   val_true no_vals k e go = absurd cc
   val_true (val w us) k e go = go w us refl e
 
@@ -140,17 +144,20 @@ module _ {N : Type 0} where
   no_pairs_true no_pairs e = refl
   no_pairs_true (pair k v ps) e = absurd cc
 
-  pair_true : {P : Type 0} (qs : Pairs N) (k : List ℕ → Val N → Pairs N → Bool) → if_pair qs k ≡ true → ((l : List ℕ) (w : Val N) (rs : Pairs N) → qs ≡ pair l w rs → k l w rs ≡ true → P) → P
+  pair_true : {P : Type 0} (qs : Pairs N) (k : List ℕ → Val N → Pairs N → Bool) → if_pair qs k ≡ true
+      → ((l : List ℕ) (w : Val N) (rs : Pairs N) → qs ≡ pair l w rs → k l w rs ≡ true → P) → P
   pair_true no_pairs k e go = absurd cc
   pair_true (pair l w rs) k e go = go l w rs refl e
 
-  call_true : {P : Type 0} (d : Desc N) (k : List ℕ → Pairs N → Vals N → Bool) → if_call d k ≡ true → ((g : List ℕ) (qs : Pairs N) (ws : Vals N) → d ≡ call g qs ws → k g qs ws ≡ true → P) → P
+  call_true : {P : Type 0} (d : Desc N) (k : List ℕ → Pairs N → Vals N → Bool) → if_call d k ≡ true
+      → ((g : List ℕ) (qs : Pairs N) (ws : Vals N) → d ≡ call g qs ws → k g qs ws ≡ true → P) → P
   call_true (call f c vs) k e go = go f c vs refl e
   call_true (out x v n i) k e go = absurd cc
   call_true (input l) k e go = absurd cc
   call_true (known b) k e go = absurd cc
 
-  out_true : {P : Type 0} (d : Desc N) (k : List ℕ → Val N → ℕ → ℕ → Bool) → if_out d k ≡ true → ((y : List ℕ) (w : Val N) (m j : ℕ) → d ≡ out y w m j → k y w m j ≡ true → P) → P
+  out_true : {P : Type 0} (d : Desc N) (k : List ℕ → Val N → ℕ → ℕ → Bool) → if_out d k ≡ true
+      → ((y : List ℕ) (w : Val N) (m j : ℕ) → d ≡ out y w m j → k y w m j ≡ true → P) → P
   out_true (call g c vs) k e go = absurd cc
   out_true (out x v n i) k e go = go x v n i refl e
   out_true (input l) k e go = absurd cc
@@ -189,15 +196,19 @@ module _ {N : Type 0} (same_known : N → N → Bool) (exact_known : (b c : N) �
     pub exact_pairs : (ps qs : Pairs N) → same_pairs same_known ps qs ≡ true → ps ≡ qs
     exact_pairs no_pairs qs e = sym (no_pairs_true qs e)
     exact_pairs (pair k v ps) qs e =
-        pair_true qs _ e (λ l w rs h g. (λ i. pair (exact_text k l (both_first _ _ g) i) (exact_val v w (both_first _ _ (both_second _ _ g)) i) (exact_pairs ps rs (both_second _ _ (both_second _ _ g)) i)) ∙ sym h)
+        pair_true qs _ e (λ l w rs h g. (λ i. pair (exact_text k l (both_first _ _ g) i) (exact_val v w (both_first _ _ (both_second _ _ g)) i)
+        (exact_pairs ps rs (both_second _ _ (both_second _ _ g)) i)) ∙ sym h)
 
     pub exact_desc : (d c : Desc N) → same_desc same_known d c ≡ true → d ≡ c
     exact_desc (call f ca vs) c e =
-        call_true c _ e (λ g qs ws h t. (λ i. call (exact_text f g (both_first _ _ t) i) (exact_pairs ca qs (both_first _ _ (both_second _ _ t)) i) (exact_vals vs ws (both_second _ _ (both_second _ _ t)) i)) ∙ sym h)
+        call_true c _ e (λ g qs ws h t. (λ i. call (exact_text f g (both_first _ _ t) i)
+        (exact_pairs ca qs (both_first _ _ (both_second _ _ t)) i) (exact_vals vs ws (both_second _ _ (both_second _ _ t)) i)) ∙ sym h)
     exact_desc (out x v n k) c e =
         out_true c _ e (λ y w m j h t.
         let numbers : nat_eq n m && nat_eq k j ≡ true = both_second (same_val same_known v w) _ (both_second (same_text x y) _ t) in
-        (λ i. out (exact_text x y (both_first _ (same_val same_known v w && (nat_eq n m && nat_eq k j)) t) i) (exact_val v w (both_first _ (nat_eq n m && nat_eq k j) (both_second (same_text x y) _ t)) i) (eqb-true n m (both_first _ (nat_eq k j) numbers) i) (eqb-true k j (both_second (nat_eq n m) _ numbers) i)) ∙ sym h)
+        (λ i. out (exact_text x y (both_first _ (same_val same_known v w && (nat_eq n m && nat_eq k j)) t) i)
+        (exact_val v w (both_first _ (nat_eq n m && nat_eq k j) (both_second (same_text x y) _ t)) i)
+        (eqb-true n m (both_first _ (nat_eq k j) numbers) i) (eqb-true k j (both_second (nat_eq n m) _ numbers) i)) ∙ sym h)
     exact_desc (input k) c e = input_true c _ e (λ l h t. ap input (exact_text k l t) ∙ sym h)
     exact_desc (known b) c e = known_true c _ e (λ a h t. ap known (exact_known b a t) ∙ sym h)
 

@@ -53,7 +53,8 @@ cond_or : (a b : Bool) → cond a true b ≡ a || b
 cond_or true b = refl
 cond_or false b = refl
 
-pub same_more : (seen more : BTreeSet (List ℕ)) (ns : List (List ℕ)) (k : List ℕ) → HasSame seen ns → Updates name_cmp seen more k true → HasSame more (ns ++ k ∷ [])
+pub same_more : (seen more : BTreeSet (List ℕ)) (ns : List (List ℕ)) (k : List ℕ) → HasSame seen ns → Updates name_cmp seen more k true
+    → HasSame more (ns ++ k ∷ [])
 same_more seen more ns k h u n =
     u.0 n
     ∙ cond_or (is_eq (name_cmp k n)) (contains name_cmp seen n)
@@ -61,12 +62,14 @@ same_more seen more ns k h u n =
     ∙ sym (among_push n k ns)
 
 -- a name that is new stands at the end
-pub found_new : (seen : BTreeSet (List ℕ)) (ns : List (List ℕ)) (k : List ℕ) → HasSame seen ns → true ≡ not (contains name_cmp seen k) → known_of (ns ++ k ∷ []) ≡ gathered (known_of ns) (known k ∷ [])
+pub found_new : (seen : BTreeSet (List ℕ)) (ns : List (List ℕ)) (k : List ℕ) → HasSame seen ns → true ≡ not (contains name_cmp seen k)
+    → known_of (ns ++ k ∷ []) ≡ gathered (known_of ns) (known k ∷ [])
 found_new seen ns k h e =
     known_of-push ns k
     ∙ ap (λ b. with_new b (known_of ns) (known k)) (sym (stands_in-known k ns ∙ sym (h k) ∙ not_true (contains name_cmp seen k) e))
 
 -- one that isn't changes nothing
-pub found_old : (seen : BTreeSet (List ℕ)) (ns : List (List ℕ)) (k : List ℕ) → HasSame seen ns → false ≡ not (contains name_cmp seen k) → known_of ns ≡ gathered (known_of ns) (known k ∷ [])
+pub found_old : (seen : BTreeSet (List ℕ)) (ns : List (List ℕ)) (k : List ℕ) → HasSame seen ns → false ≡ not (contains name_cmp seen k)
+    → known_of ns ≡ gathered (known_of ns) (known k ∷ [])
 found_old seen ns k h e =
     ap (λ b. with_new b (known_of ns) (known k)) (sym (stands_in-known k ns ∙ sym (h k) ∙ not_false (contains name_cmp seen k) e))

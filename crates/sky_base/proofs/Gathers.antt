@@ -26,12 +26,15 @@ swapped true false c = refl
 swapped false true c = refl
 swapped false false c = refl
 
-stands_in-push : (d e : Desc (List ℕ)) (ds : List (Desc (List ℕ))) → stands_in same_text d (ds ++ e ∷ []) ≡ same_desc same_text d e || stands_in same_text d ds
+stands_in-push : (d e : Desc (List ℕ)) (ds : List (Desc (List ℕ))) → stands_in same_text d (ds ++ e ∷ []) ≡ same_desc same_text d e
+    || stands_in same_text d ds
 stands_in-push d e [] = refl
 stands_in-push d e (f ∷ ds) =
-    ap (λ b. same_desc same_text d f || b) (stands_in-push d e ds) ∙ swapped (same_desc same_text d f) (same_desc same_text d e) (stands_in same_text d ds)
+    ap (λ b. same_desc same_text d f || b) (stands_in-push d e ds)
+    ∙ swapped (same_desc same_text d f) (same_desc same_text d e) (stands_in same_text d ds)
 
-or_step : (d e : Desc (List ℕ)) (ds : List (Desc (List ℕ))) (b : Bool) → same_desc same_text d e ≡ b → stands_in same_text e ds ≡ true → stands_in same_text d ds ≡ b || stands_in same_text d ds
+or_step : (d e : Desc (List ℕ)) (ds : List (Desc (List ℕ))) (b : Bool) → same_desc same_text d e ≡ b → stands_in same_text e ds ≡ true
+    → stands_in same_text d ds ≡ b || stands_in same_text d ds
 or_step d e ds true h t = ap (λ c. stands_in same_text c ds) (exact_desc same_text exact_text d e h) ∙ t
 or_step d e ds false h t = refl
 
@@ -45,7 +48,8 @@ alike_push ds before e a d = stands_in-push d e ds ∙ ap (λ b. same_desc same_
 abbrev IsGathered : List (Desc (List ℕ)) → Type 0
 IsGathered es = (ds before : List (Desc (List ℕ))) → Alike ds before → gathered ds es ≡ ds ++ distinct_from same_text before es
 
-gathered_step : (es ds before : List (Desc (List ℕ))) (e : Desc (List ℕ)) → IsGathered es → Alike ds before → (b : Bool) → stands_in same_text e ds ≡ b → gathered (with_new b ds e) es ≡ ds ++ unless_in same_text b e (distinct_from same_text (e ∷ before) es)
+gathered_step : (es ds before : List (Desc (List ℕ))) (e : Desc (List ℕ)) → IsGathered es → Alike ds before → (b : Bool)
+    → stands_in same_text e ds ≡ b → gathered (with_new b ds e) es ≡ ds ++ unless_in same_text b e (distinct_from same_text (e ∷ before) es)
 gathered_step es ds before e ih a true t = ih ds (e ∷ before) (alike_more ds before e a t)
 gathered_step es ds before e ih a false t =
     ih (ds ++ e ∷ []) (e ∷ before) (alike_push ds before e a)

@@ -91,7 +91,8 @@ depth_in no_vals i v e = absurd cc
 depth_in (val u vs) zero v e = let f : u ≡ v = cc in rw (← f) (omega arith)
 depth_in (val u vs) (suc i) v e = omega (arith, depth_in vs i v e)
 
-find_step : {P : Type 0} (o : Ordering) (u v : Val (List ℕ)) (r : Option (Val (List ℕ))) → match_ordering o None (Some u) r ≡ Some v → (u ≡ v → P) → (r ≡ Some v → P) → P
+find_step : {P : Type 0} (o : Ordering) (u v : Val (List ℕ)) (r : Option (Val (List ℕ))) → match_ordering o None (Some u) r ≡ Some v
+    → (u ≡ v → P) → (r ≡ Some v → P) → P
 find_step Ordering.Less u v r e f g = absurd cc
 find_step Ordering.Equal u v r e f g = f cc
 find_step Ordering.Greater u v r e f g = g e

@@ -3,7 +3,8 @@ use Rattle.std.specs.Prelude.{◌≡◌, ℕ, zero, suc, pos, negsuc, List, [], 
 use Rattle.std.proofs.Common.{sym, ap, ◌∙◌}
 use Rattle.std.specs.Coded.{Coded}
 use base.Stored.{Gv, gnil, gnum, gcons}
-use Rattle.sky_base.specs.Val.{Val, Vals, Pairs, Desc, null, truth, num, text, list, dict, fun, ref, no_vals, val, no_pairs, pair, call, out, input, known}
+use Rattle.sky_base.specs.Val.{Val, Vals, Pairs, Desc, null, truth, num, text, list, dict, fun, ref, no_vals, val, no_pairs, pair, call, out, input}
+use Rattle.sky_base.specs.Val.{known}
 
 abbrev pub bytes : List ℕ → Gv
 bytes [] = gnil
@@ -46,7 +47,8 @@ bytes_back gnil = []
 bytes_back (gnum n) = []
 bytes_back (gcons a b) = num_back a ∷ bytes_back b
 
-abbrev pub pick : ℕ → (Val (List ℕ)) → (Val (List ℕ)) → (Val (List ℕ)) → (Val (List ℕ)) → (Val (List ℕ)) → (Val (List ℕ)) → (Val (List ℕ)) → (Val (List ℕ))
+abbrev pub pick : ℕ → (Val (List ℕ)) → (Val (List ℕ)) → (Val (List ℕ)) → (Val (List ℕ)) → (Val (List ℕ)) → (Val (List ℕ)) → (Val (List ℕ))
+    → (Val (List ℕ))
 pick zero a b c d e f g = a
 pick (suc zero) a b c d e f g = b
 pick (suc (suc zero)) a b c d e f g = c
@@ -80,7 +82,8 @@ abbrev mutual
   back gnil = null
   back (gnum n) = truth (bit_back n)
   back (gcons t a) =
-      pick (num_back t) (num (pos (num_back a))) (num (negsuc (num_back a))) (text (bytes_back a)) (fun (bytes_back (head a)) (pairs_behind a)) (list (vals_back a)) (dict (pairs_back a)) (ref (desc_back a))
+      pick (num_back t) (num (pos (num_back a))) (num (negsuc (num_back a))) (text (bytes_back a)) (fun (bytes_back (head a)) (pairs_behind a))
+      (list (vals_back a)) (dict (pairs_back a)) (ref (desc_back a))
 
   pub vals_back : Gv → (Vals (List ℕ))
   vals_back gnil = no_vals
@@ -106,7 +109,9 @@ abbrev mutual
   desc_back (gcons (gnum n) r) = input []
   desc_back (gcons (gcons t f) gnil) = pick_desc (num_back t) (input []) (input []) (input (bytes_back f)) (known (bytes_back f))
   desc_back (gcons (gcons t f) (gnum n)) = input []
-  desc_back (gcons (gcons t f) (gcons v w)) = pick_desc (num_back t) (call (bytes_back f) (pairs_back v) (vals_back w)) (out (bytes_back f) (back v) (num_back (head w)) (num_back (tail w))) (input []) (input [])
+  desc_back (gcons (gcons t f) (gcons v w)) =
+      pick_desc (num_back t) (call (bytes_back f) (pairs_back v) (vals_back w))
+      (out (bytes_back f) (back v) (num_back (head w)) (num_back (tail w))) (input []) (input [])
 
 pub bytes_same : (bs : List ℕ) → bytes_back (bytes bs) ≡ bs
 bytes_same [] = refl

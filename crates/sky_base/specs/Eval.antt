@@ -1,9 +1,17 @@
 -- What a piece of script does.
-use Rattle.std.specs.Prelude.{ℕ, zero, suc, ◌+◌, List, [], ◌∷◌, ◌++◌, length, reverse, map, Bool, true, false, ◌&&◌, Option, Some, None, Ok, Err, nat_eq, nat_lt, pos, negsuc}
-use Rattle.sky_base.specs.Val.{Val, Vals, Pairs, Desc, null, truth, num, text, list, fun, ref, no_vals, val, no_pairs, pair, call, out, input, count, vals_of, refs_to, same_text}
-use Rattle.sky_base.specs.Op.{Answer, plus, minus, times, over, rest, compare, index, set_at, limited, find, put, negated, opposite, len, keys, has, range, grown, dict_from}
-use Rattle.sky_base.specs.Tree.{Place, nowhere, Lit, Oper, Junction, Sign, SignAt, Form, Exp, Exps, Links, Ands, Steps, Stm, Stms, Arms, Else, FunDef, Script, nodes, stm_nodes, block_nodes, arms_nodes}
-use Rattle.sky_base.specs.Res.{visits, Object, End, St, Entry, parens_in, part_at, chain_first, chain_more, logic_at, prefix_part, star_wait, postfix_first, index_at, arg_at, call_open, exec_wait, set_part, add_part, put_index, put_value, return_part, just_part, arm_test, while_test, while_body, repeat_body, repeat_test, for_list, for_body, block_at, Wait, one_of, all_of, Res, Fin, Tell, Ask, fault_at, then_do, on_got, on_goes, with_vars, on_body, fails, gives, visit, answer, tell_all}
+use Rattle.std.specs.Prelude.{ℕ, zero, suc, ◌+◌, List, [], ◌∷◌, ◌++◌, length, reverse, map, Bool, true, false, ◌&&◌, Option, Some, None, Ok, Err}
+use Rattle.std.specs.Prelude.{nat_eq, nat_lt, pos, negsuc}
+use Rattle.sky_base.specs.Val.{Val, Vals, Pairs, Desc, null, truth, num, text, list, fun, ref, no_vals, val, no_pairs, pair, call, out, input, count}
+use Rattle.sky_base.specs.Val.{vals_of, refs_to, same_text}
+use Rattle.sky_base.specs.Op.{Answer, plus, minus, times, over, rest, compare, index, set_at, limited, find, put, negated, opposite, len, keys, has}
+use Rattle.sky_base.specs.Op.{range, grown, dict_from}
+use Rattle.sky_base.specs.Tree.{Place, nowhere, Lit, Oper, Junction, Sign, SignAt, Form, Exp, Exps, Links, Ands, Steps, Stm, Stms, Arms, Else, FunDef}
+use Rattle.sky_base.specs.Tree.{Script, nodes, stm_nodes, block_nodes, arms_nodes}
+use Rattle.sky_base.specs.Res.{visits, Object, End, St, Entry, parens_in, part_at, chain_first, chain_more, logic_at, prefix_part, star_wait}
+use Rattle.sky_base.specs.Res.{postfix_first, index_at, arg_at, call_open, exec_wait, set_part, add_part, put_index, put_value, return_part}
+use Rattle.sky_base.specs.Res.{just_part, arm_test, while_test, while_body, repeat_body, repeat_test, for_list, for_body, block_at, Wait, one_of}
+use Rattle.sky_base.specs.Res.{all_of, Res, Fin, Tell, Ask, fault_at, then_do, on_got, on_goes, with_vars, on_body, fails, gives, visit, answer}
+use Rattle.sky_base.specs.Res.{tell_all}
 use Rattle.sky_base.specs.declared.fault.FaultKind.{FaultKind}
 
 -- what a script is run with: what a reference to a new description holds, and how bytes are read as data
@@ -157,12 +165,14 @@ module _ {N : Type 0} where
   abbrev pub turns : ℕ → (n block : ℕ) → Place → Exp → Stms → (St N → Res N) → (St N → Res N) → St N → Res N
   turns zero n m p e b test run st = fails FaultKind.TooLong p st
   turns (suc f) n m p e b test run st =
-      then_do (test st) (while_test n m p e b) (on_got (λ v s. decide v p s (λ t. then_do (run t) (while_body n m p e b) (on_goes (turns f n m p e b test run))) (λ t. Fin End.goes t)))
+      then_do (test st) (while_test n m p e b) (on_got
+      (λ v s. decide v p s (λ t. then_do (run t) (while_body n m p e b) (on_goes (turns f n m p e b test run))) (λ t. Fin End.goes t)))
 
   abbrev pub repeats : ℕ → (n test : ℕ) → Place → Stms → Exp → (St N → Res N) → (St N → Res N) → St N → Res N
   repeats zero n m p b e run test st = fails FaultKind.TooLong p st
   repeats (suc f) n m p b e run test st =
-      then_do (run st) (repeat_body n m p b e) (on_goes (λ s. then_do (test s) (repeat_test n m p b e) (on_got (λ v t. decide v p t (repeats f n m p b e run test) (λ u. Fin End.goes u)))))
+      then_do (run st) (repeat_body n m p b e) (on_goes
+      (λ s. then_do (test s) (repeat_test n m p b e) (on_got (λ v t. decide v p t (repeats f n m p b e run test) (λ u. Fin End.goes u)))))
 
   -- a turn for each element that is left, of which so many are taken
   abbrev pub each : Vals N → (n block taken : ℕ) → Place → List ℕ → Vals N → Stms → (St N → Res N) → St N → Res N
@@ -323,28 +333,33 @@ module _ {N : Type 0} (w : World N) where
       pub eval_links : Links → (n step next : ℕ) → Val N → St N → Res N
       eval_links Links.no_links n k m v st = gives v st
       eval_links (Links.link o p e ls) n k m v st =
-          then_do (eval e m st) (chain_more n k (m + nodes e) o p v ls) (on_got (λ x s. visit p s (λ t. answer (oper o v x) p t (λ y u. eval_links ls n (k + 1) (m + nodes e) y u))))
+          then_do (eval e m st) (chain_more n k (m + nodes e) o p v ls)
+          (on_got (λ x s. visit p s (λ t. answer (oper o v x) p t (λ y u. eval_links ls n (k + 1) (m + nodes e) y u))))
 
       -- the operators after an operand with this value, before which the operator at q stands
       pub eval_ands : Ands → (n step next : ℕ) → Junction → Place → Val N → St N → Res N
       eval_ands Ands.no_ands n k m j q v st = answer (truth_of v) q st gives
       eval_ands (Ands.and p e ls) n k m j q v st =
-          visit p st (λ s. joins j v p s (λ t. then_do (eval e m t) (logic_at n k (m + nodes e) j p ls) (on_got (λ x u. eval_ands ls n (k + 1) (m + nodes e) j p x u))))
+          visit p st (λ s. joins j v p s (λ t. then_do (eval e m t) (logic_at n k (m + nodes e) j p ls)
+          (on_got (λ x u. eval_ands ls n (k + 1) (m + nodes e) j p x u))))
 
       -- the indices and calls, with the value so far
       pub eval_steps : Steps → (n step next : ℕ) → Val N → St N → Res N
       eval_steps Steps.no_steps n k m v st = gives v st
       eval_steps (Steps.index e p ss) n k m v st =
-          then_do (eval e m st) (index_at n k (m + nodes e) p v ss) (on_got (λ x s. visit p s (λ t. answer (index v x) p t (λ y u. eval_steps ss n (k + 1) (m + nodes e) y u))))
+          then_do (eval e m st) (index_at n k (m + nodes e) p v ss)
+          (on_got (λ x s. visit p s (λ t. answer (index v x) p t (λ y u. eval_steps ss n (k + 1) (m + nodes e) y u))))
       eval_steps (Steps.call es p ss) n k m v st =
           eval_args es n k m p v [] ss (λ l i f c vs s. enter f c vs p n l i ss s (λ y u. eval_steps ss n (l + 1) i y u)) st
 
       -- the arguments from a step and a node, with those so far; then the call, at the step and the node that come next
-      pub eval_args : Exps → (n step next : ℕ) → Place → Val N → List (Val N) → Steps → (ℕ → ℕ → List ℕ → Pairs N → Vals N → St N → Res N) → St N → Res N
+      pub eval_args : Exps → (n step next : ℕ) → Place → Val N → List (Val N) → Steps → (ℕ → ℕ → List ℕ → Pairs N → Vals N → St N → Res N) → St N
+          → Res N
       eval_args Exps.no_exps n k m p g vs ss go st =
           visit p st (λ s. called g (vals_of vs) p s (λ f c. go k m f c (vals_of vs) s))
       eval_args (Exps.exp e es) n k m p g vs ss go st =
-          then_do (eval e m st) (arg_at n k (m + nodes e) p g vs es ss) (on_got (λ v s. eval_args es n (k + 1) (m + nodes e) p g (vs ++ v ∷ []) ss go s))
+          then_do (eval e m st) (arg_at n k (m + nodes e) p g vs es ss)
+          (on_got (λ v s. eval_args es n (k + 1) (m + nodes e) p g (vs ++ v ∷ []) ss go s))
 
     abbrev mutual
       -- a statement at its node
@@ -354,7 +369,8 @@ module _ {N : Type 0} (w : World N) where
       eval_stm (Stm.add x q p e) n st =
           visit p st (λ s. then_do (eval e (n + 1) s) (add_part n x q p) (on_got (λ v t. add_to (find x t.vars) x q p v t)))
       eval_stm (Stm.put x q p i e) n st =
-          visit p st (λ s. then_do (eval i (n + 1) s) (put_index n (n + 1 + nodes i) x q p e) (on_got (λ v t. then_do (eval e (n + 1 + nodes i) t) (put_value n x q p v) (on_got (λ y u. put_in (find x u.vars) x q p v y u)))))
+          visit p st (λ s. then_do (eval i (n + 1) s) (put_index n (n + 1 + nodes i) x q p e)
+          (on_got (λ v t. then_do (eval e (n + 1 + nodes i) t) (put_value n x q p v) (on_got (λ y u. put_in (find x u.vars) x q p v y u)))))
       eval_stm (Stm.return p e) n st =
           visit p st (λ s. then_do (eval e (n + 1) s) (return_part n) (on_got (λ v t. Fin (End.returned v) t)))
       eval_stm (Stm.leave p) n st = visit p st (λ s. Fin (End.returned null) s)
@@ -363,9 +379,11 @@ module _ {N : Type 0} (w : World N) where
       eval_stm (Stm.while p e b) n st =
           visit p st (λ s. turns (suc visits) n (n + 1 + nodes e) p e b (eval e (n + 1)) (eval_stms b (n + 1 + nodes e) 0 (n + 1 + nodes e + 1)) s)
       eval_stm (Stm.repeat p b e) n st =
-          visit p st (λ s. repeats (suc visits) n (n + 1 + block_nodes b) p b e (eval_stms b (n + 1) 0 (n + 1 + 1)) (eval e (n + 1 + block_nodes b)) s)
+          visit p st (λ s. repeats (suc visits) n (n + 1 + block_nodes b) p b e (eval_stms b (n + 1) 0 (n + 1 + 1))
+          (eval e (n + 1 + block_nodes b)) s)
       eval_stm (Stm.for p x e b) n st =
-          visit p st (λ s. then_do (eval e (n + 1) s) (for_list n (n + 1 + nodes e) p x b) (on_got (λ v t. each_of v n (n + 1 + nodes e) p x b (eval_stms b (n + 1 + nodes e) 0 (n + 1 + nodes e + 1)) t)))
+          visit p st (λ s. then_do (eval e (n + 1) s) (for_list n (n + 1 + nodes e) p x b)
+          (on_got (λ v t. each_of v n (n + 1 + nodes e) p x b (eval_stms b (n + 1 + nodes e) 0 (n + 1 + nodes e + 1)) t)))
       eval_stm (Stm.just p e) n st =
           visit p st (λ s. then_do (eval e (n + 1) s) (just_part n) (on_got (λ v t. Fin End.goes t)))
 
@@ -379,7 +397,9 @@ module _ {N : Type 0} (w : World N) where
       pub eval_arms : Arms → (n step next i : ℕ) → Else → (St N → Res N) → St N → Res N
       eval_arms Arms.no_arms n k m i els go st = go st
       eval_arms (Arms.arm p e b arms) n k m i els go st =
-          then_do (eval e m st) (arm_test n k (m + nodes e) i p b arms els) (on_got (λ v s. decide v p s (λ t. eval_stms b (m + nodes e) 0 (m + nodes e + 1) t) (λ t. eval_arms arms n (k + 1) (m + nodes e + block_nodes b) i els go t)))
+          then_do (eval e m st) (arm_test n k (m + nodes e) i p b arms els)
+          (on_got (λ v s. decide v p s (λ t. eval_stms b (m + nodes e) 0 (m + nodes e + 1) t)
+          (λ t. eval_arms arms n (k + 1) (m + nodes e + block_nodes b) i els go t)))
 
       pub eval_else : Else → ℕ → St N → Res N
       eval_else Else.no_else n st = Fin End.goes st
@@ -409,7 +429,8 @@ module _ {N : Type 0} (w : World N) where
     after (index_at n k m p v ss) =
         on_got (λ x s. visit p s (λ t. answer (index v x) p t (λ y u. eval_steps ss n (k + 1) m y u)))
     after (arg_at n k m p g vs es ss) =
-        on_got (λ v s. eval_args es n (k + 1) m p g (vs ++ v ∷ []) ss (λ l i f c us s. enter f c us p n l i ss s (λ y u. eval_steps ss n (l + 1) i y u)) s)
+        on_got (λ v s. eval_args es n (k + 1) m p g (vs ++ v ∷ []) ss
+        (λ l i f c us s. enter f c us p n l i ss s (λ y u. eval_steps ss n (l + 1) i y u)) s)
     after (call_open n k m f xs ss) = on_body xs (λ y u. eval_steps ss n (k + 1) m y u)
     after (exec_wait n ds) = on_got gives
     after (set_part n x) = on_got (λ v t. Fin End.goes (set_var x v t))

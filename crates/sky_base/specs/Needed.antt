@@ -1,5 +1,6 @@
 -- Which tasks a job needs, what each waits for, how each stands at a wait, and how much work that is.
-use Rattle.std.specs.Prelude.{◌≡◌, ℕ, zero, suc, ◌+◌, ◌≤◌, ◌<◌, List, [], ◌∷◌, Bool, true, false, Option, Some, None, ◌↔◌, nat_le, sum_by, Contains, slice_get}
+use Rattle.std.specs.Prelude.{◌≡◌, ℕ, zero, suc, ◌+◌, ◌≤◌, ◌<◌, List, [], ◌∷◌, Bool, true, false, Option, Some, None, ◌↔◌, nat_le, sum_by, Contains}
+use Rattle.std.specs.Prelude.{slice_get}
 use Rattle.sky_base.specs.Val.{call, out, input, known, refs, distinct}
 use Rattle.sky_base.specs.Eval.{Body, bind, body_of}
 use Rattle.sky_base.specs.Read.{Halt, Run, halt, refs_of, run_of_halt, segment_from}
@@ -44,7 +45,12 @@ pub data State : Type 0 where
 abbrev pub start_frame : List ℕ → Pairs → Vals → Option Body → Option State
 start_frame f c vs None = None
 start_frame f c vs (Some b) =
-    Some (State.run (record { frames = record { fun = f; vars = bind b.params vs c; stack = []; todo = record { node = b.node; step = 0 } ∷ [] } ∷ []; count = 0; waits = 0 }))
+    Some (State.run (record {
+      frames = record { fun = f; vars = bind b.params vs c; stack = []; todo = record { node = b.node; step = 0 } ∷ [] }
+          ∷ [];
+      count = 0;
+      waits = 0;
+    }))
 
 abbrev pub halt_state : List ℕ → ℕ → Option (Halt ⊥) → Option State
 halt_state f j None = None

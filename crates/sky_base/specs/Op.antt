@@ -1,10 +1,12 @@
 -- The operators on values.
-use Rattle.std.specs.Prelude.{ℕ, zero, suc, ◌^◌, ℤ, pos, negsuc, ◌+ℤ◌, ◌-ℤ◌, ◌*ℤ◌, List, [], ◌∷◌, ◌++◌, length, Bool, true, false, not, ◌&&◌, Result, Ok, Err, Option, Some, None, nat_lt, int_div, int_rem}
+use Rattle.std.specs.Prelude.{ℕ, zero, suc, ◌^◌, ℤ, pos, negsuc, ◌+ℤ◌, ◌-ℤ◌, ◌*ℤ◌, List, [], ◌∷◌, ◌++◌, length, Bool, true, false, not, ◌&&◌, Result}
+use Rattle.std.specs.Prelude.{Ok, Err, Option, Some, None, nat_lt, int_div, int_rem}
 use Rattle.std.specs.Option.{option_map}
 use Rattle.std.specs.Ordering.{nat_cmp, int_cmp, match_ordering, is_lt, is_le, is_gt, is_ge}
 use Rattle.std.specs.declared.cmp.Ordering.{Ordering}
 use Rattle.std.specs.Cmp.Lexicographic.{slice_cmp}
-use Rattle.sky_base.specs.Val.{Val, Vals, Pairs, truth, num, text, list, dict, no_vals, val, no_pairs, pair, size, depth, most_depth, most_size, count, pair_count, add_val, is_plain, same_val}
+use Rattle.sky_base.specs.Val.{Val, Vals, Pairs, truth, num, text, list, dict, no_vals, val, no_pairs, pair, size, depth, most_depth, most_size}
+use Rattle.sky_base.specs.Val.{count, pair_count, add_val, is_plain, same_val}
 use Rattle.sky_base.specs.declared.fault.FaultKind.{FaultKind}
 
 abbrev pub Answer : Type 0 → Type 0

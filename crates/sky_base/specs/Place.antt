@@ -11,4 +11,5 @@ Passed ps k i = (j : ℕ) (d : Pair) → j < i → slice_cmp nat_cmp k (slice_in
 
 abbrev pub IsPlace : Result ℕ ℕ → List Pair → List ℕ → Type 0
 IsPlace (Ok i) ps k = (i < length ps) × Passed ps k i × ((d : Pair) → slice_cmp nat_cmp k (slice_index_or ps i d).key ≡ Ordering.Equal)
-IsPlace (Err i) ps k = (i ≤ length ps) × Passed ps k i × ((d : Pair) → i < length ps → slice_cmp nat_cmp k (slice_index_or ps i d).key ≡ Ordering.Less)
+IsPlace (Err i) ps k = (i ≤ length ps) × Passed ps k i
+    × ((d : Pair) → i < length ps → slice_cmp nat_cmp k (slice_index_or ps i d).key ≡ Ordering.Less)

@@ -40,7 +40,8 @@ pub record St (N : Type 0) : Type 0 where
   pub vars : Pairs N
   pub count : ℕ
 
--- A form that is under way: its node, its step (where the form has more than one), the number of the node that comes next, what is still to come, and what it keeps.
+-- A form that is under way: its node, its step (where the form has more than one), the number of the node that comes next, what is still to come, and
+-- what it keeps.
 pub data Entry (N : Type 0) : Type 0 where
   parens_in : (n : ℕ) → Entry N
   part_at : (n step next : ℕ) → Form → Place → List (Val N) → Exps → Entry N

@@ -9,9 +9,11 @@ text_code = coded_list coded_ℕ
 
 abbrev pub fun_code : Coded FunDef
 fun_code =
-    code_by (List ℕ × (List (List ℕ) × (Stms × ((ℕ × ℕ) × List (List ℕ))))) (coded× text_code (coded× (coded_list text_code) (coded× stms_code (coded× (coded× coded_ℕ coded_ℕ) (coded_list text_code)))))
+    code_by (List ℕ × (List (List ℕ) × (Stms × ((ℕ × ℕ) × List (List ℕ)))))
+    (coded× text_code (coded× (coded_list text_code) (coded× stms_code (coded× (coded× coded_ℕ coded_ℕ) (coded_list text_code)))))
     (λ f. (f.name, (f.params, (f.body, ((f.place.line, f.place.col), f.uses)))))
-    (λ p. record { name = p.0; params = p.1.0; body = p.1.1.0; place = record { line = p.1.1.1.0.0; col = p.1.1.1.0.1 }; uses = p.1.1.1.1 }) (λ _. refl)
+    (λ p. record { name = p.0; params = p.1.0; body = p.1.1.0; place = record { line = p.1.1.1.0.0; col = p.1.1.1.0.1 }; uses = p.1.1.1.1 })
+    (λ _. refl)
 
 abbrev pub funs_code : Coded (List FunDef)
 funs_code = coded_list fun_code

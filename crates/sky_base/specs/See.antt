@@ -1,8 +1,10 @@
 -- What a description is seen as, and what a job answers.
 use Rattle.sky_base.specs.Val as v
-use Rattle.std.specs.Prelude.{◌≡◌, ◌≢◌, ℕ, zero, suc, ◌+◌, List, [], ◌∷◌, ◌++◌, length, Bool, true, false, Option, Some, None, Result, Ok, Err, nat_lt, replicate}
+use Rattle.std.specs.Prelude.{◌≡◌, ◌≢◌, ℕ, zero, suc, ◌+◌, List, [], ◌∷◌, ◌++◌, length, Bool, true, false, Option, Some, None, Result, Ok, Err}
+use Rattle.std.specs.Prelude.{nat_lt, replicate}
 use Rattle.std.specs.Str.{is_utf8}
-use Rattle.sky_base.specs.Val.{null, truth, num, text, list, dict, fun, ref, no_vals, val, no_pairs, pair, call, out, input, known, depth, size, most_depth, most_size, refs, same_text}
+use Rattle.sky_base.specs.Val.{null, truth, num, text, list, dict, fun, ref, no_vals, val, no_pairs, pair, call, out, input, known, depth, size}
+use Rattle.sky_base.specs.Val.{most_depth, most_size, refs, same_text}
 use Rattle.sky_base.specs.Op.{Answer}
 use Rattle.sky_base.specs.Name.{big_endian}
 use Rattle.sky_base.specs.Tree.{nowhere, Script}

@@ -65,7 +65,8 @@ oper_code (Oper.compare Order.gt) = gnum 9
 oper_code (Oper.compare Order.ge) = gnum 10
 
 abbrev pub oper_back : Gv → Oper
-oper_back g = nth (num_back g) (Oper.plus ∷ Oper.minus ∷ Oper.times ∷ Oper.over ∷ Oper.rest ∷ Oper.compare Order.eq ∷ Oper.compare Order.ne ∷ Oper.compare Order.lt ∷ Oper.compare Order.le ∷ Oper.compare Order.gt ∷ Oper.compare Order.ge ∷ []) Oper.plus
+oper_back g = nth (num_back g) (Oper.plus ∷ Oper.minus ∷ Oper.times ∷ Oper.over ∷ Oper.rest ∷ Oper.compare Order.eq ∷ Oper.compare Order.ne
+    ∷ Oper.compare Order.lt ∷ Oper.compare Order.le ∷ Oper.compare Order.gt ∷ Oper.compare Order.ge ∷ []) Oper.plus
 
 pub oper_same : (x : Oper) → oper_back (oper_code x) ≡ x
 oper_same Oper.plus = refl
@@ -104,7 +105,8 @@ form_code Form.has = gnum 8
 form_code Form.range = gnum 9
 
 abbrev pub form_back : Gv → Form
-form_back g = nth (num_back g) (Form.list ∷ Form.dict ∷ Form.spawn ∷ Form.spawn_exec ∷ Form.exec ∷ Form.ref ∷ Form.len ∷ Form.keys ∷ Form.has ∷ Form.range ∷ []) Form.list
+form_back g = nth (num_back g) (Form.list ∷ Form.dict ∷ Form.spawn ∷ Form.spawn_exec ∷ Form.exec ∷ Form.ref ∷ Form.len ∷ Form.keys ∷ Form.has
+    ∷ Form.range ∷ []) Form.list
 
 pub form_same : (x : Form) → form_back (form_code x) ≡ x
 form_same Form.list = refl
@@ -183,9 +185,14 @@ abbrev mutual
   exp_from (gcons t (gnum n)) = Exp.literal Lit.null no_place
   exp_from (gcons t (gcons x0 gnil)) = Exp.parens (exp_from x0)
   exp_from (gcons t (gcons x0 (gnum n))) = Exp.literal Lit.null no_place
-  exp_from (gcons t (gcons x0 (gcons x1 gnil))) = nth (num_back t) ((Exp.literal (lit_from x0) (place_back x1)) ∷ (Exp.name (bytes_back x0) (place_back x1)) ∷ (Exp.chain (exp_from x0) (links_from x1)) ∷ (Exp.prefix (signs_back x0) (exp_from x1)) ∷ (Exp.postfix (exp_from x0) (steps_from x1)) ∷ (Exp.func (bytes_back x0) (place_back x1)) ∷ []) (Exp.literal Lit.null no_place)
+  exp_from (gcons t (gcons x0 (gcons x1 gnil))) =
+      nth (num_back t) ((Exp.literal (lit_from x0) (place_back x1)) ∷ (Exp.name (bytes_back x0) (place_back x1))
+      ∷ (Exp.chain (exp_from x0) (links_from x1)) ∷ (Exp.prefix (signs_back x0) (exp_from x1)) ∷ (Exp.postfix (exp_from x0) (steps_from x1))
+      ∷ (Exp.func (bytes_back x0) (place_back x1)) ∷ []) (Exp.literal Lit.null no_place)
   exp_from (gcons t (gcons x0 (gcons x1 (gnum n)))) = Exp.literal Lit.null no_place
-  exp_from (gcons t (gcons x0 (gcons x1 (gcons x2 gnil)))) = nth (num_back t) ((Exp.parts (form_back x0) (place_back x1) (exps_from x2)) ∷ (Exp.logic (junction_back x0) (exp_from x1) (ands_from x2)) ∷ []) (Exp.literal Lit.null no_place)
+  exp_from (gcons t (gcons x0 (gcons x1 (gcons x2 gnil)))) =
+      nth (num_back t) ((Exp.parts (form_back x0) (place_back x1) (exps_from x2)) ∷ (Exp.logic (junction_back x0) (exp_from x1) (ands_from x2))
+      ∷ []) (Exp.literal Lit.null no_place)
   exp_from (gcons t (gcons x0 (gcons x1 (gcons x2 (gnum n))))) = Exp.literal Lit.null no_place
   exp_from (gcons t (gcons x0 (gcons x1 (gcons x2 (gcons y z))))) = Exp.literal Lit.null no_place
 
@@ -237,7 +244,9 @@ abbrev mutual
   steps_from (gcons t (gcons x0 (gnum n))) = Steps.no_steps
   steps_from (gcons t (gcons x0 (gcons x1 gnil))) = Steps.no_steps
   steps_from (gcons t (gcons x0 (gcons x1 (gnum n)))) = Steps.no_steps
-  steps_from (gcons t (gcons x0 (gcons x1 (gcons x2 gnil)))) = nth (num_back t) ((Steps.index (exp_from x0) (place_back x1) (steps_from x2)) ∷ (Steps.call (exps_from x0) (place_back x1) (steps_from x2)) ∷ []) (Steps.no_steps)
+  steps_from (gcons t (gcons x0 (gcons x1 (gcons x2 gnil)))) =
+      nth (num_back t) ((Steps.index (exp_from x0) (place_back x1) (steps_from x2)) ∷ (Steps.call (exps_from x0) (place_back x1) (steps_from x2))
+      ∷ []) (Steps.no_steps)
   steps_from (gcons t (gcons x0 (gcons x1 (gcons x2 (gnum n))))) = Steps.no_steps
   steps_from (gcons t (gcons x0 (gcons x1 (gcons x2 (gcons y z))))) = Steps.no_steps
 
@@ -289,7 +298,8 @@ abbrev mutual
   pub stm_to : Stm → Gv
   stm_to (Stm.set x0 x1 x2) = gcons (gnum 0) (gcons (bytes x0) (gcons (place_code x1) (gcons (exp_to x2) gnil)))
   stm_to (Stm.add x0 x1 x2 x3) = gcons (gnum 0) (gcons (bytes x0) (gcons (place_code x1) (gcons (place_code x2) (gcons (exp_to x3) gnil))))
-  stm_to (Stm.put x0 x1 x2 x3 x4) = gcons (gnum 0) (gcons (bytes x0) (gcons (place_code x1) (gcons (place_code x2) (gcons (exp_to x3) (gcons (exp_to x4) gnil)))))
+  stm_to (Stm.put x0 x1 x2 x3 x4) = gcons (gnum 0)
+      (gcons (bytes x0) (gcons (place_code x1) (gcons (place_code x2) (gcons (exp_to x3) (gcons (exp_to x4) gnil)))))
   stm_to (Stm.return x0 x1) = gcons (gnum 0) (gcons (place_code x0) (gcons (exp_to x1) gnil))
   stm_to (Stm.leave x0) = gcons (gnum 0) (gcons (place_code x0) gnil)
   stm_to (Stm.cases x0 x1 x2) = gcons (gnum 1) (gcons (place_code x0) (gcons (arms_to x1) (gcons (else_to x2) gnil)))
@@ -318,13 +328,20 @@ abbrev mutual
   stm_from (gcons t (gnum n)) = Stm.leave no_place
   stm_from (gcons t (gcons x0 gnil)) = Stm.leave (place_back x0)
   stm_from (gcons t (gcons x0 (gnum n))) = Stm.leave no_place
-  stm_from (gcons t (gcons x0 (gcons x1 gnil))) = nth (num_back t) ((Stm.return (place_back x0) (exp_from x1)) ∷ (Stm.just (place_back x0) (exp_from x1)) ∷ []) (Stm.leave no_place)
+  stm_from (gcons t (gcons x0 (gcons x1 gnil))) =
+      nth (num_back t) ((Stm.return (place_back x0) (exp_from x1)) ∷ (Stm.just (place_back x0) (exp_from x1)) ∷ []) (Stm.leave no_place)
   stm_from (gcons t (gcons x0 (gcons x1 (gnum n)))) = Stm.leave no_place
-  stm_from (gcons t (gcons x0 (gcons x1 (gcons x2 gnil)))) = nth (num_back t) ((Stm.set (bytes_back x0) (place_back x1) (exp_from x2)) ∷ (Stm.cases (place_back x0) (arms_from x1) (else_from x2)) ∷ (Stm.while (place_back x0) (exp_from x1) (stms_from x2)) ∷ (Stm.repeat (place_back x0) (stms_from x1) (exp_from x2)) ∷ []) (Stm.leave no_place)
+  stm_from (gcons t (gcons x0 (gcons x1 (gcons x2 gnil)))) =
+      nth (num_back t) ((Stm.set (bytes_back x0) (place_back x1) (exp_from x2)) ∷ (Stm.cases (place_back x0) (arms_from x1) (else_from x2))
+      ∷ (Stm.while (place_back x0) (exp_from x1) (stms_from x2)) ∷ (Stm.repeat (place_back x0) (stms_from x1) (exp_from x2)) ∷ [])
+      (Stm.leave no_place)
   stm_from (gcons t (gcons x0 (gcons x1 (gcons x2 (gnum n))))) = Stm.leave no_place
-  stm_from (gcons t (gcons x0 (gcons x1 (gcons x2 (gcons x3 gnil))))) = nth (num_back t) ((Stm.add (bytes_back x0) (place_back x1) (place_back x2) (exp_from x3)) ∷ (Stm.for (place_back x0) (bytes_back x1) (exp_from x2) (stms_from x3)) ∷ []) (Stm.leave no_place)
+  stm_from (gcons t (gcons x0 (gcons x1 (gcons x2 (gcons x3 gnil))))) =
+      nth (num_back t) ((Stm.add (bytes_back x0) (place_back x1) (place_back x2) (exp_from x3))
+      ∷ (Stm.for (place_back x0) (bytes_back x1) (exp_from x2) (stms_from x3)) ∷ []) (Stm.leave no_place)
   stm_from (gcons t (gcons x0 (gcons x1 (gcons x2 (gcons x3 (gnum n)))))) = Stm.leave no_place
-  stm_from (gcons t (gcons x0 (gcons x1 (gcons x2 (gcons x3 (gcons x4 gnil)))))) = Stm.put (bytes_back x0) (place_back x1) (place_back x2) (exp_from x3) (exp_from x4)
+  stm_from (gcons t (gcons x0 (gcons x1 (gcons x2 (gcons x3 (gcons x4 gnil)))))) =
+      Stm.put (bytes_back x0) (place_back x1) (place_back x2) (exp_from x3) (exp_from x4)
   stm_from (gcons t (gcons x0 (gcons x1 (gcons x2 (gcons x3 (gcons x4 (gnum n))))))) = Stm.leave no_place
   stm_from (gcons t (gcons x0 (gcons x1 (gcons x2 (gcons x3 (gcons x4 (gcons y z))))))) = Stm.leave no_place
 

@@ -134,7 +134,8 @@ impl Model for Pairs {
     ghost use Rattle.sky_base.specs.Totals.{Totals};
     ghost use Rattle.sky_base.specs.Val.{pair_sizes, pair_depths, Rising};
 
-    ghost invariant = { λ a. Rising (pairs_of (held a.items)) × Totals (pair_sizes (pairs_of (held a.items))) (pair_depths (pairs_of (held a.items))) a.totals };
+    ghost invariant = { λ a. Rising (pairs_of (held a.items))
+        × Totals (pair_sizes (pairs_of (held a.items))) (pair_depths (pairs_of (held a.items))) a.totals };
 
     ghost use Rattle.sky_base.specs.Val.{pairs_nodes};
 

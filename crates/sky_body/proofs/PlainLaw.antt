@@ -1,18 +1,25 @@
 -- What a run does is the walk of its meaning, for whatever names the descriptions that are held at its end.
-use Rattle.std.proofs.Common.{◌≡◌, ℕ, zero, suc, ◌+◌, List, [], ◌∷◌, ◌++◌, length, reverse, map, Bool, true, false, ◌&&◌, ◌||◌, Option, Some, None, Ok, Err, nat_eq, nat_lt, refl, sym, ap, ◌∙◌, subst, append-nil, append_assoc}
+use Rattle.std.proofs.Common.{◌≡◌, ℕ, zero, suc, ◌+◌, List, [], ◌∷◌, ◌++◌, length, reverse, map, Bool, true, false, ◌&&◌, ◌||◌, Option, Some, None}
+use Rattle.std.proofs.Common.{Ok, Err, nat_eq, nat_lt, refl, sym, ap, ◌∙◌, subst, append-nil, append_assoc}
 use Rattle.std.specs.Prelude.{pos, negsuc, slice_get}
-use Rattle.sky_base.specs.Val.{null, truth, num, text, list, dict, fun, ref, no_vals, val, no_pairs, call, input, known, count, vals_of, refs_to, add_val, same_text, same_desc, stands_in}
+use Rattle.sky_base.specs.Val.{null, truth, num, text, list, dict, fun, ref, no_vals, val, no_pairs, call, input, known, count, vals_of, refs_to}
+use Rattle.sky_base.specs.Val.{add_val, same_text, same_desc, stands_in}
 use Rattle.sky_base.specs.Op as op
 use Rattle.sky_base.specs.Op.{find}
-use Rattle.sky_base.specs.Tree.{Place, nowhere, Junction, Sign, SignAt, Form, Exp, Exps, Links, Ands, Steps, Stm, Stms, Arms, Else, FunDef, nodes, stm_nodes, block_nodes, arms_nodes}
-use Rattle.sky_base.specs.Res.{visits, Object, End, Entry, star_wait, exec_wait, one_of, all_of, Res, Fin, Tell, Ask, then_do, on_got, on_goes, on_body, with_vars, fails, gives, counted, visited, visit, answer, tell_all}
+use Rattle.sky_base.specs.Tree.{Place, nowhere, Junction, Sign, SignAt, Form, Exp, Exps, Links, Ands, Steps, Stm, Stms, Arms, Else, FunDef, nodes}
+use Rattle.sky_base.specs.Tree.{stm_nodes, block_nodes, arms_nodes}
+use Rattle.sky_base.specs.Res.{visits, Object, End, Entry, star_wait, exec_wait, one_of, all_of, Res, Fin, Tell, Ask, then_do, on_got, on_goes}
+use Rattle.sky_base.specs.Res.{on_body, with_vars, fails, gives, counted, visited, visit, answer, tell_all}
 use Rattle.sky_base.specs.Read.{refs_of}
 use Rattle.sky_base.specs.See.{slot}
 use Rattle.sky_base.specs.Eval as run
-use Rattle.sky_base.specs.Eval.{World, find_fun, Body, body_of, bind, set_var, is_one_of, named, closed, lit_val, oper, outputs, truth_of, wait_end, exec_end, eval, eval_parts, eval_links, eval_ands, eval_steps, eval_args, eval_stm, eval_stms, eval_arms, eval_else, turns, repeats, each, each_of, decide, joins, signs, signed, deref, formed, called, in_body, body_at}
+use Rattle.sky_base.specs.Eval.{World, find_fun, Body, body_of, bind, set_var, is_one_of, named, closed, lit_val, oper, outputs, truth_of, wait_end}
+use Rattle.sky_base.specs.Eval.{exec_end, eval, eval_parts, eval_links, eval_ands, eval_steps, eval_args, eval_stm, eval_stms, eval_arms, eval_else}
+use Rattle.sky_base.specs.Eval.{turns, repeats, each, each_of, decide, joins, signs, signed, deref, formed, called, in_body, body_at}
 use Rattle.sky_base.specs.declared.fault.FaultKind.{FaultKind}
 use Rattle.sky_base.proofs.Exact.{exact_desc, exact_text, self_desc, self_text}
-use Rattle.sky_rows.specs.Walk.{Row, Seen, Stop, Walked, stops, in_room, if_new, learn_to, is_held, on_learned, on_seen, seen_one, look, walk, known_of, Numbers}
+use Rattle.sky_rows.specs.Walk.{Row, Seen, Stop, Walked, stops, in_room, if_new, learn_to, is_held, on_learned, on_seen, seen_one, look, walk}
+use Rattle.sky_rows.specs.Walk.{known_of, Numbers}
 use Rattle.sky_rows.specs.Number.{index_if, index_of}
 use Rattle.sky_scope.specs.Plain as plain
 use Rattle.sky_scope.specs.Plain.{Val, Vals, Pairs, Vars, Answer, Ground, Cutoff, Out, value_of, on_listed, items, learned, learn, learn_all}
@@ -111,15 +118,19 @@ module _ (g : Ground) (make : Row → Row) where
 
   -- ---- going on
 
-  learned_then : (F : Out → Out) (f h : List Row → Walked) (o : Option (List Row)) (rows : List Row) (d : Row) → (F (Out.cut Cutoff.full rows) ≡ Out.cut Cutoff.full rows) → ((more : List Row) → told (f more) ≡ F (told (h more))) → told (on_learned o rows d f) ≡ F (told (on_learned o rows d h))
+  learned_then : (F : Out → Out) (f h : List Row → Walked) (o : Option (List Row)) (rows : List Row) (d : Row) → (F (Out.cut Cutoff.full rows) ≡ Out.cut Cutoff.full rows)
+      → ((more : List Row) → told (f more) ≡ F (told (h more))) → told (on_learned o rows d f) ≡ F (told (on_learned o rows d h))
   learned_then F f h None rows d c e = sym c
   learned_then F f h (Some more) rows d c e = e more
 
-  seen_then : (F : Out → Out) (f h : List Obj → Walked) (q : Seen) (rows : List Row) → ((c : Cutoff) → F (Out.cut c rows) ≡ Out.cut c rows) → ((os : List Obj) → told (f os) ≡ F (told (h os))) → told (on_seen q rows f) ≡ F (told (on_seen q rows h))
+  seen_then : (F : Out → Out) (f h : List Obj → Walked) (q : Seen) (rows : List Row) → ((c : Cutoff) → F (Out.cut c rows) ≡ Out.cut c rows) → ((os : List Obj) → told (f os) ≡ F (told (h os)))
+      → told (on_seen q rows f) ≡ F (told (on_seen q rows h))
   seen_then F f h (Seen.lacks d) rows c e = sym (c (Cutoff.waits d))
   seen_then F f h (Seen.all os) rows c e = e os
 
-  told_then : (r : Res (List ℕ)) (en : Entry (List ℕ)) (k : End (List ℕ) → Vars → Res (List ℕ)) (F : Out → Out) → ((c : Cutoff) (rows : List Row) → F (Out.cut c rows) ≡ Out.cut c rows) → ((e : End (List ℕ)) (st : Vars) (rows : List Row) → told (walk see rows (k e st)) ≡ F (told (stops rows (Stop.ended e st)))) → (rows : List Row) → told (walk see rows (then_do r en k)) ≡ F (told (walk see rows r))
+  told_then : (r : Res (List ℕ)) (en : Entry (List ℕ)) (k : End (List ℕ) → Vars → Res (List ℕ)) (F : Out → Out) → ((c : Cutoff) (rows : List Row) → F (Out.cut c rows) ≡ Out.cut c rows)
+      → ((e : End (List ℕ)) (st : Vars) (rows : List Row) → told (walk see rows (k e st)) ≡ F (told (stops rows (Stop.ended e st)))) → (rows : List Row) → told (walk see rows (then_do r en k))
+      ≡ F (told (walk see rows r))
   told_then (Fin e st) en k F c h rows = h e st rows
   told_then (Tell d r) en k F c h rows =
       learned_then F _ _ (learn_to rows d) rows d (c Cutoff.full rows) (λ more. told_then r en k F c h more)
@@ -177,7 +188,8 @@ module _ (g : Ground) (make : Row → Row) where
       body_back rows r (Out.listed vs more st) a n = a.back n
       body_back rows r (Out.cut c more) a n = a.back n
 
-      body_same : (rows : List Row) (r : Res (List ℕ)) (o : Out) → Agree rows r o → Numbers (held (plain.on_got (value_of xs o) f)) make → body_told (told (walk see rows r)) ≡ plain.on_got (value_of xs o) f
+      body_same : (rows : List Row) (r : Res (List ℕ)) (o : Out) → Agree rows r o → Numbers (held (plain.on_got (value_of xs o) f)) make → body_told (told (walk see rows r))
+          ≡ plain.on_got (value_of xs o) f
       body_same rows r (Out.goes more st) a n = ap body_told (a.same ((h null more (with_vars xs st)).back n)) ∙ (h null more (with_vars xs st)).same n
       body_same rows r (Out.got v more st) a n = ap body_told (a.same ((h v more (with_vars xs st)).back n)) ∙ (h v more (with_vars xs st)).same n
       body_same rows r (Out.returned v more st) a n = ap body_told (a.same ((h v more (with_vars xs st)).back n)) ∙ (h v more (with_vars xs st)).same n
@@ -229,18 +241,21 @@ module _ (g : Ground) (make : Row → Row) where
   agree_returned : (v : Val) (rows : List Row) (st : Vars) → Agree rows (Fin (End.returned v) st) (Out.returned v rows st)
   agree_returned v rows st = record { back = λ n. n; same = λ n. refl }
 
-  agree_visited : (b : Bool) (p : Place) (rows : List Row) (st : Vars) (k : Vars → Res (List ℕ)) (f : Vars → Out) → ((s : Vars) → Agree rows (k s) (f s)) → Agree rows (visited b p st k) (plain.visited b p rows st f)
+  agree_visited : (b : Bool) (p : Place) (rows : List Row) (st : Vars) (k : Vars → Res (List ℕ)) (f : Vars → Out) → ((s : Vars) → Agree rows (k s) (f s))
+      → Agree rows (visited b p st k) (plain.visited b p rows st f)
   agree_visited true p rows st k f h = h (counted st)
   agree_visited false p rows st k f h = agree_fails FaultKind.TooLong p rows st
 
   agree_visit : (p : Place) (rows : List Row) (st : Vars) (k : Vars → Res (List ℕ)) (f : Vars → Out) → ((s : Vars) → Agree rows (k s) (f s)) → Agree rows (visit p st k) (plain.visit p rows st f)
   agree_visit p rows st k f h = agree_visited (nat_lt st.count visits) p rows st k f h
 
-  agree_answer : (a : Answer) (p : Place) (rows : List Row) (st : Vars) (k : Val → Vars → Res (List ℕ)) (f : Val → Out) → ((v : Val) → Agree rows (k v st) (f v)) → Agree rows (answer a p st k) (plain.answer a p rows f)
+  agree_answer : (a : Answer) (p : Place) (rows : List Row) (st : Vars) (k : Val → Vars → Res (List ℕ)) (f : Val → Out) → ((v : Val) → Agree rows (k v st) (f v))
+      → Agree rows (answer a p st k) (plain.answer a p rows f)
   agree_answer (Ok v) p rows st k f h = h v
   agree_answer (Err e) p rows st k f h = agree_fails e p rows st
 
-  agree_decide : (v : Val) (p : Place) (rows : List Row) (st : Vars) (on off : Vars → Res (List ℕ)) (x y : Out) → Agree rows (on st) x → Agree rows (off st) y → Agree rows (decide v p st on off) (plain.decide v p rows x y)
+  agree_decide : (v : Val) (p : Place) (rows : List Row) (st : Vars) (on off : Vars → Res (List ℕ)) (x y : Out) → Agree rows (on st) x → Agree rows (off st) y
+      → Agree rows (decide v p st on off) (plain.decide v p rows x y)
   agree_decide (truth true) p rows st on off x y a b = a
   agree_decide (truth false) p rows st on off x y a b = b
   agree_decide null p rows st on off x y a b = agree_fails FaultKind.BadKind p rows st
@@ -251,7 +266,8 @@ module _ (g : Ground) (make : Row → Row) where
   agree_decide (fun s z) p rows st on off x y a b = agree_fails FaultKind.BadKind p rows st
   agree_decide (ref d) p rows st on off x y a b = agree_fails FaultKind.BadKind p rows st
 
-  agree_joins : (j : Junction) (v : Val) (p : Place) (rows : List Row) (st : Vars) (k : Vars → Res (List ℕ)) (x : Out) → Agree rows (k st) x → Agree rows (joins j v p st k) (plain.joins j v p rows st x)
+  agree_joins : (j : Junction) (v : Val) (p : Place) (rows : List Row) (st : Vars) (k : Vars → Res (List ℕ)) (x : Out) → Agree rows (k st) x
+      → Agree rows (joins j v p st k) (plain.joins j v p rows st x)
   agree_joins Junction.both v p rows st k x a = agree_decide v p rows st k (λ s. gives (truth false) s) x _ a (agree_gives (truth false) rows st)
   agree_joins Junction.either v p rows st k x a = agree_decide v p rows st (λ s. gives (truth true) s) k _ x (agree_gives (truth true) rows st) a
 
@@ -264,33 +280,43 @@ module _ (g : Ground) (make : Row → Row) where
   number_is d rows more e n = n (index_of d more) d (place_in d more (is_learned d rows more e).is_in)
 
   module _ (d : Row) (f : Row → List Row → Out) (rows : List Row) where
-    learned_back : (q : Option (List Row)) → ((more : List Row) → q ≡ Some more → learn_to rows d ≡ Some more) → ((m : Row) (more : List Row) → Numbers (held (f m more)) make → Numbers more make) → Numbers (held (learned q rows d f)) make → Numbers rows make
+    learned_back : (q : Option (List Row)) → ((more : List Row) → q ≡ Some more → learn_to rows d ≡ Some more) → ((m : Row) (more : List Row) → Numbers (held (f m more)) make → Numbers more make)
+        → Numbers (held (learned q rows d f)) make → Numbers rows make
     learned_back None e b n = n
     learned_back (Some more) e b n = numbers_back d rows more (e more refl) (b (known (slot (index_of d more))) more n)
 
-    learned_same : (q : Option (List Row)) (r : Res (List ℕ)) → ((more : List Row) → q ≡ Some more → learn_to rows d ≡ Some more) → ((m : Row) (more : List Row) → Numbers (held (f m more)) make → Numbers more make) → ((more : List Row) → Numbers (held (f (make d) more)) make → told (walk see more r) ≡ f (make d) more) → Numbers (held (learned q rows d f)) make → told (on_learned q rows d (λ more. walk see more r)) ≡ learned q rows d f
+    learned_same : (q : Option (List Row)) (r : Res (List ℕ)) → ((more : List Row) → q ≡ Some more → learn_to rows d ≡ Some more)
+        → ((m : Row) (more : List Row) → Numbers (held (f m more)) make → Numbers more make) → ((more : List Row) → Numbers (held (f (make d) more)) make → told (walk see more r) ≡ f (make d) more)
+        → Numbers (held (learned q rows d f)) make → told (on_learned q rows d (λ more. walk see more r)) ≡ learned q rows d f
     learned_same None r e b h n = refl
     learned_same (Some more) r e b h n =
         let c = number_is d rows more (e more refl) (b (known (slot (index_of d more))) more n) in
         h more (subst (λ m. Numbers (held (f m more)) make) (sym c) n) ∙ ap (λ m. f m more) c
 
-    agree_learn : (r : Res (List ℕ)) → ((m : Row) (more : List Row) → Numbers (held (f m more)) make → Numbers more make) → ((more : List Row) → Numbers (held (f (make d) more)) make → told (walk see more r) ≡ f (make d) more) → Agree rows (Tell d r) (learn d rows f)
+    agree_learn : (r : Res (List ℕ)) → ((m : Row) (more : List Row) → Numbers (held (f m more)) make → Numbers more make)
+        → ((more : List Row) → Numbers (held (f (make d) more)) make → told (walk see more r) ≡ f (make d) more) → Agree rows (Tell d r) (learn d rows f)
     agree_learn r b h = record { back = learned_back (learn_to rows d) (λ more e. e) b; same = learned_same (learn_to rows d) r (λ more e. e) b h }
 
   agree_make : (d : Row) (rows : List Row) (st : Vars) → Agree rows (run.make_one world d st) (plain.make_one d rows st)
   agree_make d rows st = agree_learn d (λ m more. Out.got (ref m) more st) rows (gives (ref (make d)) st) (λ m more n. n) (λ more n. refl)
 
-  all_back : (ds rows : List Row) (f : List Row → List Row → Out) → ((ms more : List Row) → Numbers (held (f ms more)) make → Numbers more make) → Numbers (held (learn_all ds rows f)) make → Numbers rows make
+  all_back : (ds rows : List Row) (f : List Row → List Row → Out) → ((ms more : List Row) → Numbers (held (f ms more)) make → Numbers more make) → Numbers (held (learn_all ds rows f)) make
+      → Numbers rows make
   all_back [] rows f b n = b [] rows n
   all_back (d ∷ ds) rows f b n =
-      learned_back d (λ m more. learn_all ds more (λ ms last. f (m ∷ ms) last)) rows (learn_to rows d) (λ more e. e) (λ m more. all_back ds more (λ ms last. f (m ∷ ms) last) (λ ms last. b (m ∷ ms) last)) n
+      learned_back d (λ m more. learn_all ds more (λ ms last. f (m ∷ ms) last)) rows (learn_to rows d) (λ more e. e)
+      (λ m more. all_back ds more (λ ms last. f (m ∷ ms) last) (λ ms last. b (m ∷ ms) last)) n
 
-  all_same : (ds rows : List Row) (f : List Row → List Row → Out) (r : Res (List ℕ)) → ((ms more : List Row) → Numbers (held (f ms more)) make → Numbers more make) → ((more : List Row) → Numbers (held (f (map make ds) more)) make → told (walk see more r) ≡ f (map make ds) more) → Numbers (held (learn_all ds rows f)) make → told (walk see rows (tell_all ds r)) ≡ learn_all ds rows f
+  all_same : (ds rows : List Row) (f : List Row → List Row → Out) (r : Res (List ℕ)) → ((ms more : List Row) → Numbers (held (f ms more)) make → Numbers more make)
+      → ((more : List Row) → Numbers (held (f (map make ds) more)) make → told (walk see more r) ≡ f (map make ds) more) → Numbers (held (learn_all ds rows f)) make
+      → told (walk see rows (tell_all ds r)) ≡ learn_all ds rows f
   all_same [] rows f r b h n = h rows n
   all_same (d ∷ ds) rows f r b h n =
-      learned_same d (λ m more. learn_all ds more (λ ms last. f (m ∷ ms) last)) rows (learn_to rows d) (tell_all ds r) (λ more e. e) (λ m more. all_back ds more (λ ms last. f (m ∷ ms) last) (λ ms last. b (m ∷ ms) last)) (λ more. all_same ds more (λ ms last. f (make d ∷ ms) last) r (λ ms last. b (make d ∷ ms) last) h) n
+      learned_same d (λ m more. learn_all ds more (λ ms last. f (m ∷ ms) last)) rows (learn_to rows d) (tell_all ds r) (λ more e. e)
+      (λ m more. all_back ds more (λ ms last. f (m ∷ ms) last) (λ ms last. b (m ∷ ms) last)) (λ more. all_same ds more (λ ms last. f (make d ∷ ms) last) r (λ ms last. b (make d ∷ ms) last) h) n
 
-  agree_all : (ds rows : List Row) (f : List Row → List Row → Out) (k : List Row → Res (List ℕ)) → ((ms more : List Row) → Agree more (k ms) (f ms more)) → Agree rows (tell_all ds (k (map make ds))) (learn_all ds rows f)
+  agree_all : (ds rows : List Row) (f : List Row → List Row → Out) (k : List Row → Res (List ℕ)) → ((ms more : List Row) → Agree more (k ms) (f ms more))
+      → Agree rows (tell_all ds (k (map make ds))) (learn_all ds rows f)
   agree_all ds rows f k h =
       record { back = all_back ds rows f (λ ms more. (h ms more).back); same = all_same ds rows f (k (map make ds)) (λ ms more. (h ms more).back) (λ more. (h (map make ds) more).same) }
 
@@ -300,7 +326,8 @@ module _ (g : Ground) (make : Row → Row) where
   agree_spawn_if true d p rows st = agree_make d rows st
   agree_spawn_if false d p rows st = agree_fails FaultKind.WrongCount p rows st
 
-  agree_spawn_fun : (q : Option FunDef) (f : List ℕ) (c : Pairs) (vs : Vals) (p : Place) (rows : List Row) (st : Vars) → Agree rows (run.spawn_fun world q f c vs p st) (plain.spawn_fun q f c vs p rows st)
+  agree_spawn_fun : (q : Option FunDef) (f : List ℕ) (c : Pairs) (vs : Vals) (p : Place) (rows : List Row) (st : Vars)
+      → Agree rows (run.spawn_fun world q f c vs p st) (plain.spawn_fun q f c vs p rows st)
   agree_spawn_fun None f c vs p rows st = agree_fails FaultKind.BadKind p rows st
   agree_spawn_fun (Some d) f c vs p rows st = agree_spawn_if (nat_eq (length d.params) (count vs)) (call f c vs) p rows st
 
@@ -366,7 +393,8 @@ module _ (g : Ground) (make : Row → Row) where
   exec_back (Seen.lacks d) ds rows st n = n
   exec_back (Seen.all os) ds rows st n = subst (λ r. Numbers r make) (exec_held ds os rows st) n
 
-  exec_same : (q : Seen) (m : ℕ) (ds rows : List Row) (st : Vars) → told (on_seen q rows (λ os. walk see rows (then_do (Fin (wait_end world (all_of ds) os) st) (exec_wait m ds) (on_got gives)))) ≡ plain.exec_seen q ds rows st
+  exec_same : (q : Seen) (m : ℕ) (ds rows : List Row) (st : Vars) → told (on_seen q rows (λ os. walk see rows (then_do (Fin (wait_end world (all_of ds) os) st) (exec_wait m ds) (on_got gives))))
+      ≡ plain.exec_seen q ds rows st
   exec_same (Seen.lacks d) m ds rows st = refl
   exec_same (Seen.all os) m ds rows st = ended_exec ds os rows st
 
@@ -388,18 +416,21 @@ module _ (g : Ground) (make : Row → Row) where
   agree_input (fun x z) p rows st = agree_fails FaultKind.BadKind p rows st
   agree_input (ref d) p rows st = agree_fails FaultKind.BadKind p rows st
 
-  agree_one : (vs : List Val) (p : Place) (rows : List Row) (st : Vars) (k : Val → Res (List ℕ)) (f : Val → Out) → ((a : Val) → Agree rows (k a) (f a)) → Agree rows (run.with_one vs p st k) (plain.with_one (vals_of vs) p rows f)
+  agree_one : (vs : List Val) (p : Place) (rows : List Row) (st : Vars) (k : Val → Res (List ℕ)) (f : Val → Out) → ((a : Val) → Agree rows (k a) (f a))
+      → Agree rows (run.with_one vs p st k) (plain.with_one (vals_of vs) p rows f)
   agree_one [] p rows st k f h = agree_fails FaultKind.BadKind p rows st
   agree_one (a ∷ []) p rows st k f h = h a
   agree_one (a ∷ b ∷ vs) p rows st k f h = agree_fails FaultKind.BadKind p rows st
 
-  agree_two : (vs : List Val) (p : Place) (rows : List Row) (st : Vars) (k : Val → Val → Res (List ℕ)) (f : Val → Val → Out) → ((a b : Val) → Agree rows (k a b) (f a b)) → Agree rows (run.with_two vs p st k) (plain.with_two (vals_of vs) p rows f)
+  agree_two : (vs : List Val) (p : Place) (rows : List Row) (st : Vars) (k : Val → Val → Res (List ℕ)) (f : Val → Val → Out) → ((a b : Val) → Agree rows (k a b) (f a b))
+      → Agree rows (run.with_two vs p st k) (plain.with_two (vals_of vs) p rows f)
   agree_two [] p rows st k f h = agree_fails FaultKind.BadKind p rows st
   agree_two (a ∷ []) p rows st k f h = agree_fails FaultKind.BadKind p rows st
   agree_two (a ∷ b ∷ []) p rows st k f h = h a b
   agree_two (a ∷ b ∷ c ∷ vs) p rows st k f h = agree_fails FaultKind.BadKind p rows st
 
-  agree_three : (vs : List Val) (p : Place) (rows : List Row) (st : Vars) (k : Val → Val → Val → Res (List ℕ)) (f : Val → Val → Val → Out) → ((a b c : Val) → Agree rows (k a b c) (f a b c)) → Agree rows (run.with_three vs p st k) (plain.with_three (vals_of vs) p rows f)
+  agree_three : (vs : List Val) (p : Place) (rows : List Row) (st : Vars) (k : Val → Val → Val → Res (List ℕ)) (f : Val → Val → Val → Out) → ((a b c : Val) → Agree rows (k a b c) (f a b c))
+      → Agree rows (run.with_three vs p st k) (plain.with_three (vals_of vs) p rows f)
   agree_three [] p rows st k f h = agree_fails FaultKind.BadKind p rows st
   agree_three (a ∷ []) p rows st k f h = agree_fails FaultKind.BadKind p rows st
   agree_three (a ∷ b ∷ []) p rows st k f h = agree_fails FaultKind.BadKind p rows st
@@ -418,7 +449,8 @@ module _ (g : Ground) (make : Row → Row) where
   agree_formed Form.dict vs m p rows st = rw (items_of vs) (agree_op (op.dict_from vs no_pairs) p rows st)
   agree_formed Form.spawn vs m p rows st = agree_two vs p rows st _ _ (λ f a. agree_spawned f a p rows st)
   agree_formed Form.spawn_exec vs m p rows st =
-      agree_three vs p rows st _ _ (λ x a c. agree_outputs_of p rows st (λ ds s. gives (list (refs_to ds)) s) (λ ds more. Out.got (list (refs_to ds)) more st) (λ ds more. agree_gives (list (refs_to ds)) more st) x a c)
+      agree_three vs p rows st _ _ (λ x a c. agree_outputs_of p rows st (λ ds s. gives (list (refs_to ds)) s) (λ ds more. Out.got (list (refs_to ds)) more st)
+      (λ ds more. agree_gives (list (refs_to ds)) more st) x a c)
   agree_formed Form.exec vs m p rows st =
       agree_three vs p rows st _ _ (λ x a c. agree_outputs_of p rows st (λ ds s. run.exec_ask world m ds s) (λ ds more. plain.exec_ask g ds more st) (λ ds more. agree_exec m ds more st) x a c)
   agree_formed Form.ref vs m p rows st = agree_one vs p rows st _ _ (λ k. agree_input k p rows st)
@@ -444,7 +476,8 @@ module _ (g : Ground) (make : Row → Row) where
     read_same (Ok v) n = (h v).same n
     read_same (Err e) n = refl
 
-    object_same : (q : Option Obj) → Numbers (held (plain.on_object g q d p rows f)) make → told (on_seen (seen_one q d (Seen.all [])) rows (λ os. walk see rows (then_do (Fin (wait_end world (one_of p d) os) st) en (on_got k)))) ≡ plain.on_object g q d p rows f
+    object_same : (q : Option Obj) → Numbers (held (plain.on_object g q d p rows f)) make
+        → told (on_seen (seen_one q d (Seen.all [])) rows (λ os. walk see rows (then_do (Fin (wait_end world (one_of p d) os) st) en (on_got k)))) ≡ plain.on_object g q d p rows f
     object_same None n = refl
     object_same (Some (Object.bytes b)) n = read_same (g.reads b) n
     object_same (Some (Object.data_of v)) n = (h v).same n
@@ -489,7 +522,8 @@ module _ (g : Ground) (make : Row → Row) where
 
   -- ---- calls
 
-  module _ (p : Place) (rows : List Row) (st : Vars) (k : List ℕ → Pairs → Res (List ℕ)) (f : List ℕ → Pairs → Out) (h : Val → List Row → Vars → Out) (a : (x : List ℕ) (c : Pairs) → Agree rows (k x c) (plain.on_got (f x c) h)) where
+  module _ (p : Place) (rows : List Row) (st : Vars) (k : List ℕ → Pairs → Res (List ℕ)) (f : List ℕ → Pairs → Out) (h : Val → List Row → Vars → Out)
+      (a : (x : List ℕ) (c : Pairs) → Agree rows (k x c) (plain.on_got (f x c) h)) where
     agree_call_if : (b : Bool) (x : List ℕ) (c : Pairs) → Agree rows (run.call_if world b p st (k x c)) (plain.on_got (plain.call_if g b p rows (f x c)) h)
     agree_call_if true x c = a x c
     agree_call_if false x c = agree_fails FaultKind.WrongCount p rows st
@@ -510,16 +544,19 @@ module _ (g : Ground) (make : Row → Row) where
 
   -- ---- loops
 
-  module _ (n m : ℕ) (p : Place) (e : Exp) (b : Stms) (test run : Vars → Res (List ℕ)) (tests runs : List Row → Vars → Out) (t : (rows : List Row) (st : Vars) → Agree rows (test st) (tests rows st)) (r : (rows : List Row) (st : Vars) → Agree rows (run st) (runs rows st)) where
+  module _ (n m : ℕ) (p : Place) (e : Exp) (b : Stms) (test run : Vars → Res (List ℕ)) (tests runs : List Row → Vars → Out) (t : (rows : List Row) (st : Vars) → Agree rows (test st) (tests rows st))
+      (r : (rows : List Row) (st : Vars) → Agree rows (run st) (runs rows st)) where
     agree_turns : (f : ℕ) (rows : List Row) (st : Vars) → Agree rows (turns f n m p e b test run st) (plain.turns f p tests runs rows st)
     agree_turns zero rows st = agree_fails FaultKind.TooLong p rows st
     agree_turns (suc f) rows st =
-        agree_got _ _ (λ v more s. agree_decide v p more s _ _ _ _ (agree_goes (turns f n m p e b test run) (plain.turns f p tests runs) (agree_turns f) more (run s) (runs more s) _ (r more s)) (agree_end more s)) rows (test st) (tests rows st) _ (t rows st)
+        agree_got _ _ (λ v more s. agree_decide v p more s _ _ _ _ (agree_goes (turns f n m p e b test run) (plain.turns f p tests runs) (agree_turns f) more (run s) (runs more s) _ (r more s))
+        (agree_end more s)) rows (test st) (tests rows st) _ (t rows st)
 
     agree_repeats : (f : ℕ) (rows : List Row) (st : Vars) → Agree rows (repeats f n m p b e run test st) (plain.repeats f p runs tests rows st)
     agree_repeats zero rows st = agree_fails FaultKind.TooLong p rows st
     agree_repeats (suc f) rows st =
-        agree_goes _ _ (λ more s. agree_got _ _ (λ v last u. agree_decide v p last u _ _ _ _ (agree_repeats f last u) (agree_end last u)) more (test s) (tests more s) _ (t more s)) rows (run st) (runs rows st) _ (r rows st)
+        agree_goes _ _ (λ more s. agree_got _ _ (λ v last u. agree_decide v p last u _ _ _ _ (agree_repeats f last u) (agree_end last u)) more (test s) (tests more s) _ (t more s)) rows (run st)
+        (runs rows st) _ (r rows st)
 
   module _ (n m : ℕ) (p : Place) (x : List ℕ) (b : Stms) (run : Vars → Res (List ℕ)) (runs : List Row → Vars → Out) (r : (rows : List Row) (st : Vars) → Agree rows (run st) (runs rows st)) where
     agree_each : (vs : Vals) (t : ℕ) (whole : Vals) (rows : List Row) (st : Vars) → Agree rows (each vs n m t p x whole b run st) (plain.each vs p x runs rows st)
@@ -559,7 +596,8 @@ module _ (g : Ground) (make : Row → Row) where
   agree_parens rows r o en a =
       record { back = a.back; same = λ n. told_got gives r en rows ∙ parens_told (walk see rows r).stop (walk see rows r).rows ∙ a.same n }
 
-  module _ (body : List ℕ → Pairs → Vals → Place → Vars → Res (List ℕ)) (bodies : List ℕ → Pairs → Vals → Place → List Row → ℕ → Out) (bs : (f : List ℕ) (c : Pairs) (vs : Vals) (p : Place) (rows : List Row) (st : Vars) → Agree rows (body f c vs p st) (bodies f c vs p rows st.count)) where
+  module _ (body : List ℕ → Pairs → Vals → Place → Vars → Res (List ℕ)) (bodies : List ℕ → Pairs → Vals → Place → List Row → ℕ → Out)
+      (bs : (f : List ℕ) (c : Pairs) (vs : Vals) (p : Place) (rows : List Row) (st : Vars) → Agree rows (body f c vs p st) (bodies f c vs p rows st.count)) where
     mutual
       pub agree_exp : (e : Exp) (n : ℕ) (rows : List Row) (st : Vars) → Agree rows (eval world body e n st) (plain.exp g bodies e rows st)
       agree_exp (Exp.literal v p) n rows st = agree_visit p rows st _ _ (λ s. agree_op (op.limited (lit_val v)) p rows s)
@@ -576,17 +614,21 @@ module _ (g : Ground) (make : Row → Row) where
       agree_exp (Exp.postfix e ss) n rows st =
           agree_got _ _ (λ v more s. agree_steps ss n 2 (n + 1 + nodes e) v more s) rows _ _ _ (agree_exp e (n + 1) rows st)
 
-      agree_parts : (es : Exps) (n k m : ℕ) (o : Form) (p : Place) (vs : List Val) (rows : List Row) (st : Vars) → Agree rows (eval_parts world body es n k m o p vs st) (on_listed (plain.values g bodies es (vals_of vs) rows st) (λ us more s. plain.visit p more s (λ t. plain.formed g o us p more t)))
+      agree_parts : (es : Exps) (n k m : ℕ) (o : Form) (p : Place) (vs : List Val) (rows : List Row) (st : Vars)
+          → Agree rows (eval_parts world body es n k m o p vs st) (on_listed (plain.values g bodies es (vals_of vs) rows st) (λ us more s. plain.visit p more s (λ t. plain.formed g o us p more t)))
       agree_parts Exps.no_exps n k m o p vs rows st = agree_visit p rows st _ _ (λ s. agree_formed o vs n p rows s)
       agree_parts (Exps.exp e es) n k m o p vs rows st =
-          agree_to rows _ _ _ (listed_got (plain.exp g bodies e rows st) (λ v more s. plain.values g bodies es (add_val (vals_of vs) v) more s) _) (agree_got _ _ (λ v more s. agree_to more _ _ _ (ap (λ us. on_listed (plain.values g bodies es us more s) (λ us last z. plain.visit p last z (λ t. plain.formed g o us p last t))) (vals_more vs v)) (agree_parts es n (k + 1) (m + nodes e) o p (vs ++ v ∷ []) more s)) rows _ _ _ (agree_exp e m rows st))
+          agree_to rows _ _ _ (listed_got (plain.exp g bodies e rows st) (λ v more s. plain.values g bodies es (add_val (vals_of vs) v) more s) _)
+          (agree_got _ _ (λ v more s. agree_to more _ _ _ (ap (λ us. on_listed (plain.values g bodies es us more s) (λ us last z. plain.visit p last z (λ t. plain.formed g o us p last t)))
+          (vals_more vs v)) (agree_parts es n (k + 1) (m + nodes e) o p (vs ++ v ∷ []) more s)) rows _ _ _ (agree_exp e m rows st))
 
       agree_links : (ls : Links) (n k m : ℕ) (v : Val) (rows : List Row) (st : Vars) → Agree rows (eval_links world body ls n k m v st) (plain.links g bodies ls v rows st)
       agree_links Links.no_links n k m v rows st = agree_gives v rows st
       agree_links (Links.link o p e ls) n k m v rows st =
           agree_got _ _ (λ x more s. agree_visit p more s _ _ (λ t. agree_answer (oper o v x) p more t _ _ (λ y. agree_links ls n (k + 1) (m + nodes e) y more t))) rows _ _ _ (agree_exp e m rows st)
 
-      agree_ands : (ls : Ands) (n k m : ℕ) (j : Junction) (q : Place) (v : Val) (rows : List Row) (st : Vars) → Agree rows (eval_ands world body ls n k m j q v st) (plain.ands g bodies ls j q v rows st)
+      agree_ands : (ls : Ands) (n k m : ℕ) (j : Junction) (q : Place) (v : Val) (rows : List Row) (st : Vars)
+          → Agree rows (eval_ands world body ls n k m j q v st) (plain.ands g bodies ls j q v rows st)
       agree_ands Ands.no_ands n k m j q v rows st = agree_op (truth_of v) q rows st
       agree_ands (Ands.and p e ls) n k m j q v rows st =
           agree_visit p rows st _ _ (λ s. agree_joins j v p rows s _ _ (agree_got _ _ (λ x more t. agree_ands ls n (k + 1) (m + nodes e) j p x more t) rows _ _ _ (agree_exp e m rows s)))
@@ -596,13 +638,21 @@ module _ (g : Ground) (make : Row → Row) where
       agree_steps (Steps.index e p ss) n k m v rows st =
           agree_got _ _ (λ x more s. agree_visit p more s _ _ (λ t. agree_answer (op.index v x) p more t _ _ (λ y. agree_steps ss n (k + 1) (m + nodes e) y more t))) rows _ _ _ (agree_exp e m rows st)
       agree_steps (Steps.call es p ss) n k m v rows st =
-          agree_args es n k m p v [] ss _ (λ y last u. plain.steps g bodies ss y last u) (λ l i f c vs more s. agree_body (λ y u. eval_steps world body ss n (l + 1) i y u) s.vars (λ y last u. plain.steps g bodies ss y last u) (λ y last u. agree_steps ss n (l + 1) i y last u) more _ _ _ (bs f c vs p more s)) rows st
+          agree_args es n k m p v [] ss _ (λ y last u. plain.steps g bodies ss y last u)
+          (λ l i f c vs more s. agree_body (λ y u. eval_steps world body ss n (l + 1) i y u) s.vars (λ y last u. plain.steps g bodies ss y last u) (λ y last u. agree_steps ss n (l + 1) i y last u)
+          more _ _ _ (bs f c vs p more s)) rows st
 
-      agree_args : (es : Exps) (n k m : ℕ) (p : Place) (v : Val) (vs : List Val) (ss : Steps) (go : ℕ → ℕ → List ℕ → Pairs → Vals → Vars → Res (List ℕ)) (h : Val → List Row → Vars → Out) → ((l i : ℕ) (f : List ℕ) (c : Pairs) (us : Vals) (more : List Row) (s : Vars) → Agree more (go l i f c us s) (plain.on_got (value_of s.vars (bodies f c us p more s.count)) h)) → (rows : List Row) (st : Vars) → Agree rows (eval_args world body es n k m p v vs ss go st) (on_listed (plain.values g bodies es (vals_of vs) rows st) (λ us more s. plain.visit p more s (λ t. plain.on_got (plain.opened g bodies v us p more t) h)))
+      agree_args : (es : Exps) (n k m : ℕ) (p : Place) (v : Val) (vs : List Val) (ss : Steps) (go : ℕ → ℕ → List ℕ → Pairs → Vals → Vars → Res (List ℕ)) (h : Val → List Row → Vars → Out)
+          → ((l i : ℕ) (f : List ℕ) (c : Pairs) (us : Vals) (more : List Row) (s : Vars) → Agree more (go l i f c us s) (plain.on_got (value_of s.vars (bodies f c us p more s.count)) h))
+          → (rows : List Row) (st : Vars) → Agree rows (eval_args world body es n k m p v vs ss go st)
+          (on_listed (plain.values g bodies es (vals_of vs) rows st) (λ us more s. plain.visit p more s (λ t. plain.on_got (plain.opened g bodies v us p more t) h)))
       agree_args Exps.no_exps n k m p v vs ss go h a rows st =
           agree_visit p rows st _ _ (λ s. agree_called p rows s _ _ h (λ f c. a k m f c (vals_of vs) rows s) v (vals_of vs))
       agree_args (Exps.exp e es) n k m p v vs ss go h a rows st =
-          agree_to rows _ _ _ (listed_got (plain.exp g bodies e rows st) (λ x more s. plain.values g bodies es (add_val (vals_of vs) x) more s) _) (agree_got _ _ (λ x more s. agree_to more _ _ _ (ap (λ us. on_listed (plain.values g bodies es us more s) (λ us last z. plain.visit p last z (λ t. plain.on_got (plain.opened g bodies v us p last t) h))) (vals_more vs x)) (agree_args es n (k + 1) (m + nodes e) p v (vs ++ x ∷ []) ss go h a more s)) rows _ _ _ (agree_exp e m rows st))
+          agree_to rows _ _ _ (listed_got (plain.exp g bodies e rows st) (λ x more s. plain.values g bodies es (add_val (vals_of vs) x) more s) _)
+          (agree_got _ _ (λ x more s. agree_to more _ _ _
+          (ap (λ us. on_listed (plain.values g bodies es us more s) (λ us last z. plain.visit p last z (λ t. plain.on_got (plain.opened g bodies v us p last t) h))) (vals_more vs x))
+          (agree_args es n (k + 1) (m + nodes e) p v (vs ++ x ∷ []) ss go h a more s)) rows _ _ _ (agree_exp e m rows st))
 
     mutual
       pub agree_stm : (a : Stm) (n : ℕ) (rows : List Row) (st : Vars) → Agree rows (eval_stm world body a n st) (plain.stm g bodies a rows st)
@@ -611,18 +661,22 @@ module _ (g : Ground) (make : Row → Row) where
       agree_stm (Stm.add x q p e) n rows st =
           agree_visit p rows st _ _ (λ s. agree_got _ _ (λ v more t. agree_add (find x t.vars) x q p v more t) rows _ _ _ (agree_exp e (n + 1) rows s))
       agree_stm (Stm.put x q p i e) n rows st =
-          agree_visit p rows st _ _ (λ s. agree_got _ _ (λ v more t. agree_got _ _ (λ y last u. agree_put (find x u.vars) x q p v y last u) more _ _ _ (agree_exp e (n + 1 + nodes i) more t)) rows _ _ _ (agree_exp i (n + 1) rows s))
+          agree_visit p rows st _ _ (λ s. agree_got _ _ (λ v more t. agree_got _ _ (λ y last u. agree_put (find x u.vars) x q p v y last u) more _ _ _ (agree_exp e (n + 1 + nodes i) more t)) rows _ _
+          _ (agree_exp i (n + 1) rows s))
       agree_stm (Stm.return p e) n rows st =
           agree_visit p rows st _ _ (λ s. agree_got _ _ (λ v more t. agree_returned v more t) rows _ _ _ (agree_exp e (n + 1) rows s))
       agree_stm (Stm.leave p) n rows st = agree_visit p rows st _ _ (λ s. agree_returned null rows s)
       agree_stm (Stm.cases p all els) n rows st =
           agree_visit p rows st _ _ (λ s. agree_arms all n 1 (n + 1) (n + 1 + arms_nodes all) els _ _ (λ more t. agree_other els (n + 1 + arms_nodes all) more t) rows s)
       agree_stm (Stm.while p e b) n rows st =
-          agree_visit p rows st _ _ (λ s. agree_turns n (n + 1 + nodes e) p e b (eval world body e (n + 1)) (eval_stms world body b (n + 1 + nodes e) 0 (n + 1 + nodes e + 1)) (plain.exp g bodies e) (plain.stms g bodies b) (agree_exp e (n + 1)) (agree_stms b (n + 1 + nodes e) 0 (n + 1 + nodes e + 1)) (suc visits) rows s)
+          agree_visit p rows st _ _ (λ s. agree_turns n (n + 1 + nodes e) p e b (eval world body e (n + 1)) (eval_stms world body b (n + 1 + nodes e) 0 (n + 1 + nodes e + 1)) (plain.exp g bodies e)
+          (plain.stms g bodies b) (agree_exp e (n + 1)) (agree_stms b (n + 1 + nodes e) 0 (n + 1 + nodes e + 1)) (suc visits) rows s)
       agree_stm (Stm.repeat p b e) n rows st =
-          agree_visit p rows st _ _ (λ s. agree_repeats n (n + 1 + block_nodes b) p e b (eval world body e (n + 1 + block_nodes b)) (eval_stms world body b (n + 1) 0 (n + 1 + 1)) (plain.exp g bodies e) (plain.stms g bodies b) (agree_exp e (n + 1 + block_nodes b)) (agree_stms b (n + 1) 0 (n + 1 + 1)) (suc visits) rows s)
+          agree_visit p rows st _ _ (λ s. agree_repeats n (n + 1 + block_nodes b) p e b (eval world body e (n + 1 + block_nodes b)) (eval_stms world body b (n + 1) 0 (n + 1 + 1))
+          (plain.exp g bodies e) (plain.stms g bodies b) (agree_exp e (n + 1 + block_nodes b)) (agree_stms b (n + 1) 0 (n + 1 + 1)) (suc visits) rows s)
       agree_stm (Stm.for p x e b) n rows st =
-          agree_visit p rows st _ _ (λ s. agree_got _ _ (λ v more t. agree_each_of n (n + 1 + nodes e) p x b (eval_stms world body b (n + 1 + nodes e) 0 (n + 1 + nodes e + 1)) (plain.stms g bodies b) (agree_stms b (n + 1 + nodes e) 0 (n + 1 + nodes e + 1)) v more t) rows _ _ _ (agree_exp e (n + 1) rows s))
+          agree_visit p rows st _ _ (λ s. agree_got _ _ (λ v more t. agree_each_of n (n + 1 + nodes e) p x b (eval_stms world body b (n + 1 + nodes e) 0 (n + 1 + nodes e + 1)) (plain.stms g bodies b)
+          (agree_stms b (n + 1 + nodes e) 0 (n + 1 + nodes e + 1)) v more t) rows _ _ _ (agree_exp e (n + 1) rows s))
       agree_stm (Stm.just p e) n rows st =
           agree_visit p rows st _ _ (λ s. agree_got _ _ (λ v more t. agree_end more t) rows _ _ _ (agree_exp e (n + 1) rows s))
 
@@ -631,16 +685,20 @@ module _ (g : Ground) (make : Row → Row) where
       agree_stms (Stms.stm a more) n k m rows st =
           agree_goes _ _ (λ last s. agree_stms more n (k + 1) (m + stm_nodes a) last s) rows _ _ _ (agree_stm a m rows st)
 
-      agree_arms : (all : Arms) (n k m i : ℕ) (els : Else) (go : Vars → Res (List ℕ)) (h : List Row → Vars → Out) → ((more : List Row) (t : Vars) → Agree more (go t) (h more t)) → (rows : List Row) (st : Vars) → Agree rows (eval_arms world body all n k m i els go st) (plain.arms g bodies all h rows st)
+      agree_arms : (all : Arms) (n k m i : ℕ) (els : Else) (go : Vars → Res (List ℕ)) (h : List Row → Vars → Out) → ((more : List Row) (t : Vars) → Agree more (go t) (h more t))
+          → (rows : List Row) (st : Vars) → Agree rows (eval_arms world body all n k m i els go st) (plain.arms g bodies all h rows st)
       agree_arms Arms.no_arms n k m i els go h a rows st = a rows st
       agree_arms (Arms.arm p e b all) n k m i els go h a rows st =
-          agree_got _ _ (λ v more s. agree_decide v p more s _ _ _ _ (agree_stms b (m + nodes e) 0 (m + nodes e + 1) more s) (agree_arms all n (k + 1) (m + nodes e + block_nodes b) i els go h a more s)) rows _ _ _ (agree_exp e m rows st)
+          agree_got _ _ (λ v more s. agree_decide v p more s _ _ _ _ (agree_stms b (m + nodes e) 0 (m + nodes e + 1) more s)
+          (agree_arms all n (k + 1) (m + nodes e + block_nodes b) i els go h a more s)) rows _ _ _ (agree_exp e m rows st)
 
       agree_other : (els : Else) (n : ℕ) (rows : List Row) (st : Vars) → Agree rows (eval_else world body els n st) (plain.other g bodies els rows st)
       agree_other Else.no_else n rows st = agree_end rows st
       agree_other (Else.otherwise b) n rows st = agree_stms b n 0 (n + 1) rows st
 
-  agree_in : (d : ℕ) → ((f : List ℕ) (c : Pairs) (vs : Vals) (p : Place) (rows : List Row) (st : Vars) → Agree rows (body_at world d f c vs p st) (plain.body_at g d f c vs p rows st.count)) → (q : Option Body) (c : Pairs) (vs : Vals) (p : Place) (rows : List Row) (st : Vars) → Agree rows (in_body world q c vs p st (λ b n s. run.eval_block world (body_at world d) b n s)) (plain.in_body g q c vs p rows st.count (plain.stms g (plain.body_at g d)))
+  agree_in : (d : ℕ) → ((f : List ℕ) (c : Pairs) (vs : Vals) (p : Place) (rows : List Row) (st : Vars) → Agree rows (body_at world d f c vs p st) (plain.body_at g d f c vs p rows st.count))
+      → (q : Option Body) (c : Pairs) (vs : Vals) (p : Place) (rows : List Row) (st : Vars)
+      → Agree rows (in_body world q c vs p st (λ b n s. run.eval_block world (body_at world d) b n s)) (plain.in_body g q c vs p rows st.count (plain.stms g (plain.body_at g d)))
   agree_in d h None c vs p rows st = agree_fails FaultKind.BadKind p rows st
   agree_in d h (Some b) c vs p rows st =
       agree_stms (body_at world d) (plain.body_at g d) h b.block b.node 0 (b.node + 1) rows (with_vars (bind b.params vs c) st)
@@ -655,7 +713,8 @@ world_is g w s r = λ i. record { make = w.make; reads = r i; script = s i }
 
 -- In each world of this script and this reading that gives the descriptions held at the end their numbers, the walk of
 -- a body comes to what the body does.
-pub plain_walk : (g : Ground) (w : World (List ℕ)) → w.script ≡ g.script → w.reads ≡ g.reads → (d : ℕ) (f : List ℕ) (c : Pairs) (vs : Vals) (p : Place) (rows : List Row) (st : Vars) → Numbers (held (plain.body_at g d f c vs p rows st.count)) w.make → told (walk (known_of g.objects) rows (body_at w d f c vs p st)) ≡ plain.body_at g d f c vs p rows st.count
+pub plain_walk : (g : Ground) (w : World (List ℕ)) → w.script ≡ g.script → w.reads ≡ g.reads → (d : ℕ) (f : List ℕ) (c : Pairs) (vs : Vals) (p : Place) (rows : List Row) (st : Vars)
+    → Numbers (held (plain.body_at g d f c vs p rows st.count)) w.make → told (walk (known_of g.objects) rows (body_at w d f c vs p st)) ≡ plain.body_at g d f c vs p rows st.count
 plain_walk g w s r d f c vs p rows st n =
     ap (λ x. told (walk (known_of g.objects) rows (body_at x d f c vs p st))) (world_is g w s r) ∙ (agree_call g w.make d f c vs p rows st).same n
 
@@ -681,7 +740,8 @@ new_begins : (b : Bool) (rows more : List Row) (d : Row) → if_new b rows d ≡
 new_begins true rows more d e = let f : rows ≡ more = cc in subst (λ r. Begins rows r) f (begins_same rows)
 new_begins false rows more d e = room_begins _ rows more d e
 
-learned_begins : (q : Option (List Row)) (rows : List Row) (d : Row) (f : List Row → Walked) → ((more : List Row) → q ≡ Some more → Begins rows more) → ((more : List Row) → Begins more (f more).rows) → Begins rows (on_learned q rows d f).rows
+learned_begins : (q : Option (List Row)) (rows : List Row) (d : Row) (f : List Row → Walked) → ((more : List Row) → q ≡ Some more → Begins rows more) → ((more : List Row) → Begins more (f more).rows)
+    → Begins rows (on_learned q rows d f).rows
 learned_begins None rows d f a b = begins_same rows
 learned_begins (Some more) rows d f a b = begins_on rows more (f more).rows (a more refl) (b more)
 
@@ -715,7 +775,8 @@ stop_is (Stop.waits d) rows = refl
 stop_is (Stop.full d) rows = (d, refl)
 
 -- the walk of a body stops as what the body does
-pub plain_ends : (g : Ground) (w : World (List ℕ)) → w.script ≡ g.script → w.reads ≡ g.reads → (d : ℕ) (f : List ℕ) (c : Pairs) (vs : Vals) (p : Place) (rows : List Row) (st : Vars) → Numbers (held (plain.body_at g d f c vs p rows st.count)) w.make → Ends (plain.body_at g d f c vs p rows st.count) (walk (known_of g.objects) rows (body_at w d f c vs p st))
+pub plain_ends : (g : Ground) (w : World (List ℕ)) → w.script ≡ g.script → w.reads ≡ g.reads → (d : ℕ) (f : List ℕ) (c : Pairs) (vs : Vals) (p : Place) (rows : List Row) (st : Vars)
+    → Numbers (held (plain.body_at g d f c vs p rows st.count)) w.make → Ends (plain.body_at g d f c vs p rows st.count) (walk (known_of g.objects) rows (body_at w d f c vs p st))
 plain_ends g w s r d f c vs p rows st n =
     let x = walk (known_of g.objects) rows (body_at w d f c vs p st) in
     subst (λ o. Ends o x) (plain_walk g w s r d f c vs p rows st n) (stop_is x.stop x.rows)

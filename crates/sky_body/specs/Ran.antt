@@ -14,7 +14,8 @@ use Rattle.sky_body.specs.declared.run.Ran.{Ran}
 abbrev pub Begins : List Row → List Row → Type 0
 Begins rows after = (more : List Row) × (after ≡ rows ++ more)
 
-abbrev pub RanSo : Script → (List ℕ → Answer (List ℕ)) → List (Option (Object (List ℕ))) → List Row → List ℕ → Pairs (List ℕ) → Vals (List ℕ) → List Row → Ran → Type 0
+abbrev pub RanSo : Script → (List ℕ → Answer (List ℕ)) → List (Option (Object (List ℕ))) → List Row → List ℕ → Pairs (List ℕ) → Vals (List ℕ)
+    → List Row → Ran → Type 0
 RanSo script reads objects rows f c vs after (Ran.Object o) = Runs script reads objects rows f c vs after (EndsAs (object_view o))
 RanSo script reads objects rows f c vs after (Ran.Waits n) = Runs script reads objects rows f c vs after (WaitsFor n)
 RanSo script reads objects rows f c vs after Ran.Full = Runs script reads objects rows f c vs after IsFull

@@ -16,9 +16,11 @@ end_object (End.returned v) = Object.data_of v
 end_object (End.failed f) = Object.fault f
 
 -- a call's run from these descriptions on ends with those, and stops as S says
-abbrev pub Runs : Script → (List ℕ → Answer (List ℕ)) → List (Option (Object (List ℕ))) → List Row → List ℕ → Pairs (List ℕ) → Vals (List ℕ) → List Row → (Stop → Type 0) → Type 0
+abbrev pub Runs : Script → (List ℕ → Answer (List ℕ)) → List (Option (Object (List ℕ))) → List Row → List ℕ → Pairs (List ℕ) → Vals (List ℕ)
+    → List Row → (Stop → Type 0) → Type 0
 Runs script reads objects rows f c vs after S =
-    (w : World (List ℕ)) → w.script ≡ script → w.reads ≡ reads → Numbers after w.make → (s : Stop) × (walk (known_of objects) rows (body_at w bodies f c vs nowhere start_st) ≡ stops after s) × S s
+    (w : World (List ℕ)) → w.script ≡ script → w.reads ≡ reads → Numbers after w.make → (s : Stop)
+    × (walk (known_of objects) rows (body_at w bodies f c vs nowhere start_st) ≡ stops after s) × S s
 
 -- it ends, and this is its object
 abbrev pub EndsAs : Object (List ℕ) → Stop → Type 0

@@ -59,7 +59,8 @@ pub fn body(
     >
         requires caught { KeptPairs caught.now }
         requires args { KeptVals args.now }
-        ensures answer { Flows result rows.new state.new (body_on ground.entry.now left name.now caught.now args.now (at line col) rows.old state.old.count) }
+        ensures answer { Flows result rows.new state.new
+            (body_on ground.entry.now left name.now caught.now args.now (at line col) rows.old state.old.count) }
         ensures kept { IfOk result KeptFlow }
     { body(ground, rows, state, left, name, caught, args, line, col) };
     block(ground, rows, state, left, &run, code.block)
@@ -197,7 +198,8 @@ fn set_of<F: Fn(&mut Rows, &mut State, &Txt, &Pairs, &Vals, u32, u32) -> Result<
 ) -> Result<Flow, Cut>
     requires can { CanRun (F.pre run.now) }
     requires runs { RunsBody (F.post run.now) ground.now bodies }
-    ensures answer { Flows result rows.new state.new (stm_on ground.now bodies (Stm.set name.now (place line col) (exp_view value.now)) rows.old state.old) }
+    ensures answer { Flows result rows.new state.new
+        (stm_on ground.now bodies (Stm.set name.now (place line col) (exp_view value.now)) rows.old state.old) }
     ensures kept { IfOk result KeptFlow }
 {
     state.visit(line, col)?;
@@ -223,7 +225,8 @@ fn add_of<F: Fn(&mut Rows, &mut State, &Txt, &Pairs, &Vals, u32, u32) -> Result<
 ) -> Result<Flow, Cut>
     requires can { CanRun (F.pre run.now) }
     requires runs { RunsBody (F.post run.now) ground.now bodies }
-    ensures answer { Flows result rows.new state.new (stm_on ground.now bodies (Stm.add name.now (place name_line name_col) (place line col) (exp_view value.now)) rows.old state.old) }
+    ensures answer { Flows result rows.new state.new
+        (stm_on ground.now bodies (Stm.add name.now (place name_line name_col) (place line col) (exp_view value.now)) rows.old state.old) }
     ensures kept { IfOk result KeptFlow }
 {
     state.visit(line, col)?;
@@ -250,7 +253,9 @@ fn put_of<F: Fn(&mut Rows, &mut State, &Txt, &Pairs, &Vals, u32, u32) -> Result<
 ) -> Result<Flow, Cut>
     requires can { CanRun (F.pre run.now) }
     requires runs { RunsBody (F.post run.now) ground.now bodies }
-    ensures answer { Flows result rows.new state.new (stm_on ground.now bodies (Stm.put name.now (place name_line name_col) (place line col) (exp_view at.now) (exp_view value.now)) rows.old state.old) }
+    ensures answer { Flows result rows.new state.new
+        (stm_on ground.now bodies (Stm.put name.now (place name_line name_col) (place line col) (exp_view at.now) (exp_view value.now)) rows.old
+        state.old) }
     ensures kept { IfOk result KeptFlow }
 {
     state.visit(line, col)?;
@@ -323,7 +328,8 @@ fn arms<F: Fn(&mut Rows, &mut State, &Txt, &Pairs, &Vals, u32, u32) -> Result<Fl
 ) -> Result<Flow, Cut>
     requires can { CanRun (F.pre run.now) }
     requires runs { RunsBody (F.post run.now) ground.now bodies }
-    ensures answer { Flows result rows.new state.new (arms_on ground.now bodies (arms_view of.now) (other_on ground.now bodies (else_view otherwise.now)) rows.old state.old) }
+    ensures answer { Flows result rows.new state.new
+        (arms_on ground.now bodies (arms_view of.now) (other_on ground.now bodies (else_view otherwise.now)) rows.old state.old) }
     ensures kept { IfOk result KeptFlow }
 {
     for arm in of {
@@ -354,7 +360,9 @@ fn while_loop<F: Fn(&mut Rows, &mut State, &Txt, &Pairs, &Vals, u32, u32) -> Res
 ) -> Result<Flow, Cut>
     requires can { CanRun (F.pre run.now) }
     requires runs { RunsBody (F.post run.now) ground.now bodies }
-    ensures answer { Flows result rows.new state.new (turns (suc visits) (at line col) (exp_on ground.now bodies (exp_view test.now)) (stms_on ground.now bodies body.now) rows.old state.old) }
+    ensures answer { Flows result rows.new state.new
+        (turns (suc visits) (at line col) (exp_on ground.now bodies (exp_view test.now)) (stms_on ground.now bodies body.now) rows.old
+        state.old) }
     ensures kept { IfOk result KeptFlow }
 {
     for _turn in 0..MOST_VISITS + 1 {
@@ -385,7 +393,9 @@ fn do_loop<F: Fn(&mut Rows, &mut State, &Txt, &Pairs, &Vals, u32, u32) -> Result
 ) -> Result<Flow, Cut>
     requires can { CanRun (F.pre run.now) }
     requires runs { RunsBody (F.post run.now) ground.now bodies }
-    ensures answer { Flows result rows.new state.new (repeats (suc visits) (at line col) (stms_on ground.now bodies body.now) (exp_on ground.now bodies (exp_view test.now)) rows.old state.old) }
+    ensures answer { Flows result rows.new state.new
+        (repeats (suc visits) (at line col) (stms_on ground.now bodies body.now) (exp_on ground.now bodies (exp_view test.now)) rows.old
+        state.old) }
     ensures kept { IfOk result KeptFlow }
 {
     for _turn in 0..MOST_VISITS + 1 {
@@ -418,7 +428,8 @@ fn for_loop<F: Fn(&mut Rows, &mut State, &Txt, &Pairs, &Vals, u32, u32) -> Resul
     requires can { CanRun (F.pre run.now) }
     requires runs { RunsBody (F.post run.now) ground.now bodies }
     requires kept { Kept (view list.now) }
-    ensures answer { Flows result rows.new state.new (each_of (view list.now) (at line col) name.now (stms_on ground.now bodies body.now) rows.old state.old) }
+    ensures answer { Flows result rows.new state.new
+        (each_of (view list.now) (at line col) name.now (stms_on ground.now bodies body.now) rows.old state.old) }
     ensures kept { IfOk result KeptFlow }
 {
     let Value::List(vs) = list else {

@@ -18,7 +18,8 @@ module _ (w : World (List ℕ)) (body : List ℕ → Pairs → Vals (List ℕ) �
 
   abbrev pub args_from : Arg → Vars → Run
   args_from a st =
-      eval_args w body (exps_view a.more.now) a.node a.step a.next (at a.line a.col) (view a.fun) (items a.args) (steps_view a.rest.now) (called_from (at a.line a.col) a.node (steps_view a.rest.now)) st
+      eval_args w body (exps_view a.more.now) a.node a.step a.next (at a.line a.col) (view a.fun) (items a.args) (steps_view a.rest.now)
+      (called_from (at a.line a.col) a.node (steps_view a.rest.now)) st
 
   abbrev pub steps_from : Postfix → Val → Vars → Run
   steps_from p v st = eval_steps w body (steps_view p.rest.now) p.node p.step p.next v st

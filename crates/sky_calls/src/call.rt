@@ -43,9 +43,11 @@ pub struct Callable<'a> {
 #[tactic(auto, using(sky_scope::proofs::Vars::calls))]
 fn callee<'a>(code: &Code, fun: &'a Value, args: &Vals) -> Result<Callable<'a>, FaultKind>
     requires { Kept (view fun.now) }
-    ensures ok { IfOk result (λ g. (w : World (List ℕ)) (p : Place) (st : Vars) (k : List ℕ → Pairs → Run) → w.script ≡ code.now → called w (view fun.now) args.now p st k ≡ k g.name.now g.caught.now) }
+    ensures ok { IfOk result (λ g. (w : World (List ℕ)) (p : Place) (st : Vars) (k : List ℕ → Pairs → Run) → w.script ≡ code.now
+        → called w (view fun.now) args.now p st k ≡ k g.name.now g.caught.now) }
     ensures kept { IfOk result (λ g. KeptPairs g.caught.now) }
-    ensures err { IfErr result (λ e. (w : World (List ℕ)) (p : Place) (st : Vars) (k : List ℕ → Pairs → Run) → w.script ≡ code.now → called w (view fun.now) args.now p st k ≡ fails e p st) }
+    ensures err { IfErr result (λ e. (w : World (List ℕ)) (p : Place) (st : Vars) (k : List ℕ → Pairs → Run) → w.script ≡ code.now
+        → called w (view fun.now) args.now p st k ≡ fails e p st) }
 {
     let Value::Fun { name, caught } = fun else {
         return Err(FaultKind::BadKind);
@@ -77,7 +79,8 @@ pub fn call<'a>(
     requires values { KeptVals call.args }
     requires fits { ArgsFit call.step (exps_view call.more.now) (steps_view call.rest.now) }
     requires done { exps_view call.more.now ≡ Exps.no_exps }
-    ensures same { IfOk result (λ c. (w : World (List ℕ)) → w.script ≡ code.now → config w entries.new.items c state.new ≡ rest_in w entries.old.items (args_from w (body_in w (forms entries.old.items)) call.entry state.old)) }
+    ensures same { IfOk result (λ c. (w : World (List ℕ)) → w.script ≡ code.now → config w entries.new.items c state.new
+        ≡ rest_in w entries.old.items (args_from w (body_in w (forms entries.old.items)) call.entry state.old)) }
     ensures ready { IfOk result (λ c. AllReady code.now entries.new.items) }
     ensures goes { IfOk result (λ c. Goes code.now c) }
     ensures room { IfOk result (λ c. opened (forms entries.new.items) + left.new ≡ others) }

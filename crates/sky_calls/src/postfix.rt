@@ -58,7 +58,9 @@ pub fn begin_postfix<'a>(
 ) -> Result<Control<'a>, Memory>
     requires ready { AllReady code.now entries.old.items }
     requires has { HasExp (λ i. node_at code.now i) (Exp.postfix first.now (steps_view rest.now)) node }
-    ensures same { IfOk result (λ c. (w : World (List ℕ)) (st : Vars) → config w entries.new.items c st ≡ rest_in w entries.old.items (eval w (body_in w (forms entries.old.items)) (Exp.postfix first.entry.now (steps_view rest.entry.now)) node st)) }
+    ensures same { IfOk result (λ c. (w : World (List ℕ)) (st : Vars) → config w entries.new.items c st
+        ≡ rest_in w entries.old.items (eval w (body_in w (forms entries.old.items)) (Exp.postfix first.entry.now (steps_view rest.entry.now))
+        node st)) }
     ensures ready { IfOk result (λ c. AllReady code.now entries.new.items) }
     ensures goes { IfOk result (λ c. Goes code.now c) }
     ensures opened { IfOk result (λ c. opened (forms entries.new.items) ≡ opened (forms entries.old.items)) }
@@ -93,7 +95,8 @@ pub fn next_arg<'a>(
     requires fun { Kept (view arg.fun) }
     requires values { KeptVals arg.args }
     requires fits { ArgsFit arg.step (exps_view arg.more.now) (steps_view arg.rest.now) }
-    ensures same { IfOk result (λ c. (w : World (List ℕ)) → w.script ≡ code.now → config w entries.new.items c state.new ≡ rest_in w entries.old.items (args_from w (body_in w (forms entries.old.items)) arg.entry state.old)) }
+    ensures same { IfOk result (λ c. (w : World (List ℕ)) → w.script ≡ code.now → config w entries.new.items c state.new
+        ≡ rest_in w entries.old.items (args_from w (body_in w (forms entries.old.items)) arg.entry state.old)) }
     ensures ready { IfOk result (λ c. AllReady code.now entries.new.items) }
     ensures goes { IfOk result (λ c. Goes code.now c) }
     ensures room { IfOk result (λ c. opened (forms entries.new.items) + left.new ≡ others) }
@@ -132,7 +135,8 @@ pub fn next_step<'a>(
     requires steps { HasSteps (λ i. node_at code.now i) (steps_view postfix.rest.now) postfix.next }
     requires kept { Kept (view v) }
     requires fits { StepsFit postfix.step (steps_view postfix.rest.now) }
-    ensures same { IfOk result (λ c. (w : World (List ℕ)) → w.script ≡ code.now → config w entries.new.items c state.new ≡ rest_in w entries.old.items (steps_from w (body_in w (forms entries.old.items)) postfix.entry (view v) state.old)) }
+    ensures same { IfOk result (λ c. (w : World (List ℕ)) → w.script ≡ code.now → config w entries.new.items c state.new
+        ≡ rest_in w entries.old.items (steps_from w (body_in w (forms entries.old.items)) postfix.entry (view v) state.old)) }
     ensures ready { IfOk result (λ c. AllReady code.now entries.new.items) }
     ensures goes { IfOk result (λ c. Goes code.now c) }
     ensures room { IfOk result (λ c. opened (forms entries.new.items) + left.new ≡ others) }
@@ -203,7 +207,9 @@ pub fn got_index<'a>(
     requires within { state.old.count ≤ visits }
     requires entry { Ready code.now (entry_of (Entry.Postfix (InPostfix.Index index))) }
     requires kept { Kept (view v) }
-    ensures same { IfOk result (λ c. (w : World (List ℕ)) → w.script ≡ code.now → config w entries.new.items c state.new ≡ rest_in w entries.old.items (goes_on w (forms entries.old.items) (entry_of (Entry.Postfix (InPostfix.Index index.entry))) (logic.End.got (view v)) state.old)) }
+    ensures same { IfOk result (λ c. (w : World (List ℕ)) → w.script ≡ code.now → config w entries.new.items c state.new
+        ≡ rest_in w entries.old.items (goes_on w (forms entries.old.items) (entry_of (Entry.Postfix (InPostfix.Index index.entry)))
+        (logic.End.got (view v)) state.old)) }
     ensures ready { IfOk result (λ c. AllReady code.now entries.new.items) }
     ensures goes { IfOk result (λ c. Goes code.now c) }
     ensures room { IfOk result (λ c. opened (forms entries.new.items) + left.new ≡ others) }
@@ -259,7 +265,9 @@ pub fn got_arg<'a>(
     requires within { state.old.count ≤ visits }
     requires entry { Ready code.now (entry_of (Entry.Postfix (InPostfix.Arg arg))) }
     requires kept { Kept (view v) }
-    ensures same { IfOk result (λ c. (w : World (List ℕ)) → w.script ≡ code.now → config w entries.new.items c state.new ≡ rest_in w entries.old.items (goes_on w (forms entries.old.items) (entry_of (Entry.Postfix (InPostfix.Arg arg.entry))) (logic.End.got (view v)) state.old)) }
+    ensures same { IfOk result (λ c. (w : World (List ℕ)) → w.script ≡ code.now → config w entries.new.items c state.new
+        ≡ rest_in w entries.old.items (goes_on w (forms entries.old.items) (entry_of (Entry.Postfix (InPostfix.Arg arg.entry)))
+        (logic.End.got (view v)) state.old)) }
     ensures ready { IfOk result (λ c. AllReady code.now entries.new.items) }
     ensures goes { IfOk result (λ c. Goes code.now c) }
     ensures room { IfOk result (λ c. opened (forms entries.new.items) + left.new ≡ others) }
@@ -288,7 +296,9 @@ pub fn close<'a>(
     requires within { state.old.count ≤ visits }
     requires entry { Ready code.now (entry_of (Entry.Postfix (InPostfix.Open call))) }
     requires kept { Kept (view v) }
-    ensures same { IfOk result (λ c. (w : World (List ℕ)) → w.script ≡ code.now → config w entries.new.items c state.new ≡ rest_in w entries.old.items (goes_on w (forms entries.old.items) (entry_of (Entry.Postfix (InPostfix.Open call.entry))) (logic.End.returned (view v)) state.old)) }
+    ensures same { IfOk result (λ c. (w : World (List ℕ)) → w.script ≡ code.now → config w entries.new.items c state.new
+        ≡ rest_in w entries.old.items (goes_on w (forms entries.old.items) (entry_of (Entry.Postfix (InPostfix.Open call.entry)))
+        (logic.End.returned (view v)) state.old)) }
     ensures ready { IfOk result (λ c. AllReady code.now entries.new.items) }
     ensures goes { IfOk result (λ c. Goes code.now c) }
     ensures room { IfOk result (λ c. opened (forms entries.new.items) + left.new ≡ others) }

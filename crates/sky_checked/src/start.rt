@@ -17,8 +17,10 @@ use std::alloc::Global;
 ///
 /// Answers `Memory` for want of memory.
 pub(crate) fn is_start(alloc: Global, fitting: &Fitting, run: &RunState) -> Result<bool, Memory>
-    ensures yes { IfOk result (λ b. IsTrue b → IsStart fitting.now (record { frames = run.now.frames; count = run.now.count; waits = run.now.waits })) }
-    ensures no { IfOk result (λ b. IsFalse b → IsStart fitting.now (record { frames = run.now.frames; count = run.now.count; waits = run.now.waits }) → ⊥) }
+    ensures yes { IfOk result (λ b. IsTrue b → IsStart fitting.now
+        (record { frames = run.now.frames; count = run.now.count; waits = run.now.waits })) }
+    ensures no { IfOk result (λ b. IsFalse b → IsStart fitting.now
+        (record { frames = run.now.frames; count = run.now.count; waits = run.now.waits }) → ⊥) }
 {
     if run.count != 0 || run.waits != 0 {
         return Ok(false);

@@ -48,8 +48,10 @@ pub fn state_fits(alloc: Global, fitting: &Fitting, state: &State) -> Result<boo
 
 // Whether a call's stack fits.
 fn run_fits(alloc: Global, fitting: &Fitting, run: &RunState) -> Result<bool, Memory>
-    ensures yes { IfOk result (λ b. IsTrue b → FitsRun fitting.now (record { frames = run.now.frames; count = run.now.count; waits = run.now.waits })) }
-    ensures no { IfOk result (λ b. IsFalse b → FitsRun fitting.now (record { frames = run.now.frames; count = run.now.count; waits = run.now.waits }) → ⊥) }
+    ensures yes { IfOk result (λ b. IsTrue b → FitsRun fitting.now
+        (record { frames = run.now.frames; count = run.now.count; waits = run.now.waits })) }
+    ensures no { IfOk result (λ b. IsFalse b → FitsRun fitting.now
+        (record { frames = run.now.frames; count = run.now.count; waits = run.now.waits }) → ⊥) }
 {
     if !are_few(run) {
         return Ok(false);

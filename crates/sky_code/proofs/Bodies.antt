@@ -1,5 +1,6 @@
 -- What stands at a number, and what a call runs.
-use Rattle.std.proofs.Common.{◌≡◌, ◌≢◌, ◌<◌, ◌≤◌, ℕ, zero, suc, ◌+◌, List, [], ◌∷◌, ◌-◌, length, Bool, true, false, Option, Some, None, slice_get, slice_index, slice_index_or, refl, sym, ap, ◌∙◌, subst, arith}
+use Rattle.std.proofs.Common.{◌≡◌, ◌≢◌, ◌<◌, ◌≤◌, ℕ, zero, suc, ◌+◌, List, [], ◌∷◌, ◌-◌, length, Bool, true, false, Option, Some, None, slice_get}
+use Rattle.std.proofs.Common.{slice_index, slice_index_or, refl, sym, ap, ◌∙◌, subst, arith}
 use Rattle.std.specs.List.Sorted.{IsNonDecreasing}
 use Rattle.std.proofs.lemmas.List.Sorted.{IsNonDecreasingBy-from_all_adjacent}
 use Rattle.sky_base.specs.Tree.{Exp, Stm, FunDef, Script, nodes, stm_nodes, block_nodes, funs_nodes, script_nodes}
@@ -35,21 +36,26 @@ find_none x (f ∷ fs) n e =
 abbrev body_from : FunDef → List ℕ → ℕ → Option Body
 body_from f ns k = Some (record { params = f.params; block = f.body; node = slice_index ns k })
 
-some_if : (b : Bool) (i : Option ℕ) (k n : ℕ) (f g : FunDef) (fs : List FunDef) (o : Option FunDef) (r : Option Body) → place_if b i ≡ Some k → find_fun_if b f o ≡ Some g → ((j : ℕ) → i ≡ Some j → o ≡ Some g → r ≡ body_from g (starts_from fs (n + block_nodes f.body)) j) → find_body_if b f n r ≡ body_from g (starts_from (f ∷ fs) n) k
+some_if : (b : Bool) (i : Option ℕ) (k n : ℕ) (f g : FunDef) (fs : List FunDef) (o : Option FunDef) (r : Option Body) → place_if b i ≡ Some k
+    → find_fun_if b f o ≡ Some g → ((j : ℕ) → i ≡ Some j → o ≡ Some g → r ≡ body_from g (starts_from fs (n + block_nodes f.body)) j)
+    → find_body_if b f n r ≡ body_from g (starts_from (f ∷ fs) n) k
 some_if true i k n f g fs o r e q h = let z : 0 ≡ k = cc in let y : f ≡ g = cc in rw (← z, ← y) refl
 some_if false None k n f g fs o r e q h = absurd cc
 some_if false (Some j) k n f g fs o r e q h = let z : suc j ≡ k = cc in rw (← z) (h j refl q)
 
-find_some : (x : List ℕ) (fs : List FunDef) (n k : ℕ) (g : FunDef) → fun_place x fs ≡ Some k → find_fun x fs ≡ Some g → find_body x fs n ≡ body_from g (starts_from fs n) k
+find_some : (x : List ℕ) (fs : List FunDef) (n k : ℕ) (g : FunDef) → fun_place x fs ≡ Some k → find_fun x fs ≡ Some g → find_body x fs n
+    ≡ body_from g (starts_from fs n) k
 find_some x [] n k g e q = absurd cc
 find_some x (f ∷ fs) n k g e q =
-    some_if (same_text x f.name) (fun_place x fs) k n f g fs (find_fun x fs) (find_body x fs (n + block_nodes f.body)) e q (λ j i o. find_some x fs (n + block_nodes f.body) j g i o)
+    some_if (same_text x f.name) (fun_place x fs) k n f g fs (find_fun x fs) (find_body x fs (n + block_nodes f.body)) e q
+    (λ j i o. find_some x fs (n + block_nodes f.body) j g i o)
 
 pub body_none : (x : List ℕ) (sc : Script) → x ≢ [] → fun_place x sc.funs ≡ None → body_of x sc ≡ None
 body_none [] sc h e = absurd (h refl)
 body_none (b ∷ bs) sc h e = find_none (b ∷ bs) sc.funs (block_nodes sc.main) e
 
-pub body_some : (x : List ℕ) (sc : Script) (k : ℕ) (g : FunDef) → x ≢ [] → fun_place x sc.funs ≡ Some k → find_fun x sc.funs ≡ Some g → body_of x sc ≡ Some (record { params = g.params; block = g.body; node = slice_index (starts_of sc) k })
+pub body_some : (x : List ℕ) (sc : Script) (k : ℕ) (g : FunDef) → x ≢ [] → fun_place x sc.funs ≡ Some k → find_fun x sc.funs ≡ Some g
+    → body_of x sc ≡ Some (record { params = g.params; block = g.body; node = slice_index (starts_of sc) k })
 body_some [] sc k g h e q = absurd (h refl)
 body_some (b ∷ bs) sc k g h e q = find_some (b ∷ bs) sc.funs (block_nodes sc.main) k g e q
 
@@ -135,7 +141,8 @@ pub main_holds : (sc : Script) (i : ℕ) → i < block_nodes sc.main → Holds s
 main_holds sc i h = ((has_script sc).0.0, (has_script sc).0.1, omega arith, omega (arith, h))
 
 -- a function's
-starts_rise : (fs : List FunDef) (n k d : ℕ) → k + 1 < length (starts_from fs n) → slice_index_or (starts_from fs n) k d ≤ slice_index_or (starts_from fs n) (k + 1) d
+starts_rise : (fs : List FunDef) (n k d : ℕ) → k + 1 < length (starts_from fs n)
+    → slice_index_or (starts_from fs n) k d ≤ slice_index_or (starts_from fs n) (k + 1) d
 starts_rise [] n k d h = absurd (omega (arith, h))
 starts_rise (f ∷ []) n k d h = absurd (omega (arith, h))
 starts_rise (f ∷ g ∷ fs) n zero d h = omega arith
@@ -152,7 +159,10 @@ starts_length (f ∷ fs) n = ap suc (starts_length fs (n + block_nodes f.body))
 
 -- between the start of a function's block and the next one
 module _ (at : ℕ → Option Node) where
-  pub fun_holds : (fs : List FunDef) (n i k : ℕ) (f : FunDef) → HasFuns at fs n → slice_get fs k ≡ Some f → slice_index (starts_from fs n) k ≤ i → (k + 1 < length fs → i < slice_index (starts_from fs n) (k + 1)) → i < n + funs_nodes fs → (at (slice_index (starts_from fs n) k) ≡ Some (block_node f.body)) × HasStms at f.body (slice_index (starts_from fs n) k + 1) × (i < slice_index (starts_from fs n) k + block_nodes f.body)
+  pub fun_holds : (fs : List FunDef) (n i k : ℕ) (f : FunDef) → HasFuns at fs n → slice_get fs k ≡ Some f → slice_index (starts_from fs n) k ≤ i
+      → (k + 1 < length fs → i < slice_index (starts_from fs n) (k + 1)) → i < n + funs_nodes fs
+      → (at (slice_index (starts_from fs n) k) ≡ Some (block_node f.body)) × HasStms at f.body (slice_index (starts_from fs n) k + 1)
+      × (i < slice_index (starts_from fs n) k + block_nodes f.body)
   fun_holds [] n i k f h e low high last = absurd cc
   fun_holds (g ∷ []) n i zero f h e low high last =
       let s : g ≡ f = cc in
@@ -162,11 +172,14 @@ module _ (at : ℕ → Option Node) where
       rw (← s) (h.0.0, h.0.1, high (omega arith))
   fun_holds (g ∷ fs) n i (suc k) f h e low high last =
       let one : suc k + 1 ≡ suc (k + 1) = omega arith in
-      fun_holds fs (n + block_nodes g.body) i k f h.1 e low (λ l. subst (λ m. i < slice_index (starts_from (g ∷ fs) n) m) one (high (omega (arith, l)))) (omega (arith, last))
+      fun_holds fs (n + block_nodes g.body) i k f h.1 e low
+      (λ l. subst (λ m. i < slice_index (starts_from (g ∷ fs) n) m) one (high (omega (arith, l)))) (omega (arith, last))
 
 -- so many starts are at most i, and the others are greater
-module _ (sc : Script) (starts : List ℕ) (are : starts ≡ starts_of sc) (i r : ℕ) (lo : block_nodes sc.main ≤ i) (hi : i < length (ends_of sc)) (others : (k : ℕ) → r ≤ k → k < length starts → i < slice_index starts k) where
-  first_start : (fs : List FunDef) (n : ℕ) → n ≤ i → i < n + funs_nodes fs → ((k : ℕ) → r ≤ k → k < length (starts_from fs n) → i < slice_index (starts_from fs n) k) → 1 ≤ r
+module _ (sc : Script) (starts : List ℕ) (are : starts ≡ starts_of sc) (i r : ℕ) (lo : block_nodes sc.main ≤ i) (hi : i < length (ends_of sc))
+    (others : (k : ℕ) → r ≤ k → k < length starts → i < slice_index starts k) where
+  first_start : (fs : List FunDef) (n : ℕ) → n ≤ i → i < n + funs_nodes fs
+      → ((k : ℕ) → r ≤ k → k < length (starts_from fs n) → i < slice_index (starts_from fs n) k) → 1 ≤ r
   first_start [] n from to h = absurd (omega (arith, from, to))
   first_start (f ∷ fs) n from to h = either r refl
     where
@@ -183,10 +196,13 @@ module _ (sc : Script) (starts : List ℕ) (are : starts ≡ starts_of sc) (i r 
   pub start_within : r ≤ length starts → r - 1 < length sc.funs
   start_within most = omega (arith, most, one_start, ap length are, starts_length sc.funs (block_nodes sc.main))
 
-  pub start_holds : ((k : ℕ) → k < r → slice_index starts k ≤ i) → (f : FunDef) (m : ℕ) → slice_get sc.funs (r - 1) ≡ Some f → m ≡ slice_index starts (r - 1) → Holds sc f.body m i
+  pub start_holds : ((k : ℕ) → k < r → slice_index starts k ≤ i) → (f : FunDef) (m : ℕ) → slice_get sc.funs (r - 1) ≡ Some f → m
+      ≡ slice_index starts (r - 1) → Holds sc f.body m i
   start_holds first f m e is =
       let k = r - 1 in
       let here : m ≡ slice_index (starts_of sc) k = is ∙ ap (λ xs. slice_index xs k) are in
       let low : slice_index (starts_of sc) k ≤ i = subst (λ xs. slice_index xs k ≤ i) are (first k (omega (arith, one_start))) in
-      let held = fun_holds (λ j. node_at sc j) sc.funs (block_nodes sc.main) i k f (has_script sc).1 e low (λ l. more_starts (k + 1) (omega arith) (omega (arith, l, starts_length sc.funs (block_nodes sc.main)))) (omega (arith, hi, ends_count sc)) in
+      let held = fun_holds (λ j. node_at sc j) sc.funs (block_nodes sc.main) i k f (has_script sc).1 e low
+      (λ l. more_starts (k + 1) (omega arith) (omega (arith, l, starts_length sc.funs (block_nodes sc.main))))
+      (omega (arith, hi, ends_count sc)) in
       subst (λ n. Holds sc f.body n i) (sym here) (held.0, held.1, low, held.2)

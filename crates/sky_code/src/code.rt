@@ -115,7 +115,8 @@ impl<'a> Code<'a> {
 
     /// What a call of the function of this name runs; the empty name is that of the main body.
     pub fn body(&self, name: &Txt) -> Option<Body<'a>>
-        ensures { MatchOption result (body_of name.now self.now ≡ None) (λ b. body_of name.now self.now ≡ Some (record { params = b.params.now; block = b.block.now; node = b.node })) }
+        ensures { MatchOption result (body_of name.now self.now ≡ None)
+            (λ b. body_of name.now self.now ≡ Some (record { params = b.params.now; block = b.block.now; node = b.node })) }
     {
         if name.is_empty() {
             return Some(self.main_body());

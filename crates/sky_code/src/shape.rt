@@ -249,7 +249,8 @@ fn parts<'a>(form: PartForm, line: u32, col: u32, parts: Rest<'a>) -> Shape<'a>
 
 /// The next of the parts that are left, if there is one.
 pub fn next_part<'a>(rest: Rest<'a>) -> Option<Next<'a>>
-    ensures { MatchOption result (rest_view rest.entry ≡ Exps.no_exps) (λ n. rest_view rest.entry ≡ Exps.exp (exp_view n.part.now) (rest_view n.rest)) }
+    ensures { MatchOption result (rest_view rest.entry ≡ Exps.no_exps)
+        (λ n. rest_view rest.entry ≡ Exps.exp (exp_view n.part.now) (rest_view n.rest)) }
 {
     match rest {
         Rest::Nothing => None,
@@ -277,7 +278,8 @@ pub fn next_part<'a>(rest: Rest<'a>) -> Option<Next<'a>>
 
 /// The next of the operators that are left, if there is one.
 pub fn next_operand<'a>(rest: Operands<'a>) -> Option<Operand<'a>>
-    ensures { MatchOption result (operands_view rest.entry ≡ Links.no_links) (λ n. operands_view rest.entry ≡ Links.link (op_view n.op) (at n.line n.col) (exp_view n.operand.now) (operands_view n.rest)) }
+    ensures { MatchOption result (operands_view rest.entry ≡ Links.no_links)
+        (λ n. operands_view rest.entry ≡ Links.link (op_view n.op) (at n.line n.col) (exp_view n.operand.now) (operands_view n.rest)) }
 {
     match rest {
         Operands::Nothing => None,

@@ -1,9 +1,11 @@
 -- A task all of whose waits are seen ends; so from a wait on it comes to its end or to a first wait for something else.
-use Rattle.std.proofs.Common.{◌≡◌, ◌≢◌, ℕ, zero, suc, ◌+◌, ◌≤◌, ◌<◌, List, [], ◌∷◌, Bool, true, false, Option, Some, None, is_some, slice_get, length, ◌⊎◌, inl, inr, refl, ap, sym, ◌∙◌, subst, arith}
+use Rattle.std.proofs.Common.{◌≡◌, ◌≢◌, ℕ, zero, suc, ◌+◌, ◌≤◌, ◌<◌, List, [], ◌∷◌, Bool, true, false, Option, Some, None, is_some, slice_get, length}
+use Rattle.std.proofs.Common.{◌⊎◌, inl, inr, refl, ap, sym, ◌∙◌, subst, arith}
 use Rattle.sky_base.specs.Val.{call, out, input, known, refs, no_pairs, no_vals, ref}
 use Rattle.sky_base.specs.Res.{Object, End}
 use Rattle.sky_base.specs.Read.{Outcome, no_fuel, outcome}
-use Rattle.sky_base.specs.See.{Val, Vals, Pairs, Desc, Job, Around, Answered, Gathered, not_yet, faulty, all, as_bytes, gather, executed_on, object_of, run_of, see, wave, round, job_answer, main_call}
+use Rattle.sky_base.specs.See.{Val, Vals, Pairs, Desc, Job, Around, Answered, Gathered, not_yet, faulty, all, as_bytes, gather, executed_on}
+use Rattle.sky_base.specs.See.{object_of, run_of, see, wave, round, job_answer, main_call}
 use Rattle.sky_base.specs.Needed.{Task, wait_at, WaitOf, distinct_refs}
 use Rattle.sky_law.specs.Tasks.{In, Each, acts_of, ended, is_answer, waits_in, NextEnd, NextWait, Passes}
 use Rattle.sky_law.proofs.Lists.{some_is, none_some, above_or}
@@ -48,7 +50,8 @@ object_there (Outcome.ended (End.returned u) st) h = refl
 object_there (Outcome.ended (End.failed f) st) h = refl
 object_there no_fuel h = absurd (h refl)
 
-executed_there : (around : Around) (x : List ℕ) (a : Val) (m i : ℕ) (g : Gathered (List ℕ)) → g ≢ not_yet → is_some (executed_on around x a m i g) ≡ true
+executed_there : (around : Around) (x : List ℕ) (a : Val) (m i : ℕ) (g : Gathered (List ℕ)) → g ≢ not_yet
+    → is_some (executed_on around x a m i g) ≡ true
 executed_there around x a m i not_yet h = absurd (h refl)
 executed_there around x a m i (faulty f) h = refl
 executed_there around x a m i (all bs) h = refl
@@ -67,11 +70,13 @@ module _ (job : Job) (around : Around) (n : ℕ) where
 
   -- ---- each kind of task ends
 
-  call_ends : (f : List ℕ) (c : Pairs) (vs : Vals) → outcome (see job around n) (run_of job around f c vs) ≢ no_fuel → is_some (see job around (suc n) (call f c vs)) ≡ true
+  call_ends : (f : List ℕ) (c : Pairs) (vs : Vals) → outcome (see job around n) (run_of job around f c vs) ≢ no_fuel
+      → is_some (see job around (suc n) (call f c vs)) ≡ true
   unfolding see
   call_ends f c vs h = object_there _ h
 
-  out_ends : (x : List ℕ) (a : Val) (m i : ℕ) → gather (see job around n) (as_bytes around) (refs a) ≢ not_yet → is_some (see job around (suc n) (out x a m i)) ≡ true
+  out_ends : (x : List ℕ) (a : Val) (m i : ℕ) → gather (see job around n) (as_bytes around) (refs a) ≢ not_yet
+      → is_some (see job around (suc n) (out x a m i)) ≡ true
   unfolding see
   out_ends x a m i h = executed_there around x a m i _ h
 
@@ -85,11 +90,14 @@ module _ (job : Job) (around : Around) (n : ℕ) where
 
   pub task_ends : (t : Task) → WaitsSeen job around n t → ended job around n t ≡ true
   task_ends Task.show h =
-      shown (answers job around n 100 0 (ref main_call) (wave_zero job around n) (h 0 (main_call ∷ []) refl) (λ i ds e. h (suc i) ds (sym (waits_at job around n Task.show i) ∙ e)))
+      shown (answers job around n 100 0 (ref main_call) (wave_zero job around n) (h 0 (main_call ∷ []) refl)
+      (λ i ds e. h (suc i) ds (sym (waits_at job around n Task.show i) ∙ e)))
   task_ends (Task.of (call f c vs)) h =
-      call_ends f c vs (run_ends (see job around n) (run_of job around f c vs) (λ i ds e. h (suc i) ds (sym (waits_at job around n (Task.of (call f c vs)) i) ∙ e)))
+      call_ends f c vs (run_ends (see job around n) (run_of job around f c vs)
+      (λ i ds e. h (suc i) ds (sym (waits_at job around n (Task.of (call f c vs)) i) ∙ e)))
   task_ends (Task.of (out x a m i)) h =
-      out_ends x a m i (gathered (as_bytes around) (see job around n) (refs a) (each_in Seen (refs a) (λ d k. in_each Seen (distinct_refs a) d (h 0 (distinct_refs a) refl) (in_distinct_refs a d k))))
+      out_ends x a m i (gathered (as_bytes around) (see job around n) (refs a)
+      (each_in Seen (refs a) (λ d k. in_each Seen (distinct_refs a) d (h 0 (distinct_refs a) refl) (in_distinct_refs a d k))))
   task_ends (Task.of (input k)) h = input_ends k
   task_ends (Task.of (known b)) h = absurd b
 
@@ -122,7 +130,8 @@ module _ (job : Job) (around : Around) (n : ℕ) where
     wait_of k es e = (n, sym (waits_at job around n t k) ∙ e)
 
     -- passed by number of the wait
-    passed_at : (i k : ℕ) (es : List Desc) (o : Option (List Desc)) → slice_get (waits t) k ≡ o → Passed i → j ≤ k → k < i → k < length (waits t) → WaitOf job around t (suc k) es → Each S es
+    passed_at : (i k : ℕ) (es : List Desc) (o : Option (List Desc)) → slice_get (waits t) k ≡ o → Passed i → j ≤ k → k < i → k < length (waits t)
+        → WaitOf job around t (suc k) es → Each S es
     passed_at i k es None e h a b lt w = absurd (lacks (waits t) k lt e)
     passed_at i k es (Some fs) e h a b lt w =
         subst (Each S) (wait_one job around t (suc k) fs es (wait_of k fs e) w) (h k fs a b e)
@@ -144,7 +153,8 @@ module _ (job : Job) (around : Around) (n : ℕ) where
           is_missing = o.2;
         }
 
-    later_seen : (i : ℕ) → length (waits t) ≤ i → Passed i → (k : ℕ) (es : List Desc) → j < k → wait_at job around n t k ≡ Some es → AllSeen job around n es
+    later_seen : (i : ℕ) → length (waits t) ≤ i → Passed i → (k : ℕ) (es : List Desc) → j < k → wait_at job around n t k ≡ Some es
+        → AllSeen job around n es
     later_seen i le h zero es lt q = absurd (omega (arith, lt))
     later_seen i le h (suc k) es lt q =
         let at : slice_get (waits t) k ≡ Some es = waits_at job around n t k ∙ q in
@@ -158,7 +168,8 @@ module _ (job : Job) (around : Around) (n : ℕ) where
         go (inl a) = before k es a e
         go (inr b) = later_seen i le h k es b e
 
-    later_passed : (i : ℕ) → length (waits t) ≤ i → Passed i → ended job around n t ≡ true → (k : ℕ) (es : List Desc) → j < k → WaitOf job around t k es → Each S es
+    later_passed : (i : ℕ) → length (waits t) ≤ i → Passed i → ended job around n t ≡ true → (k : ℕ) (es : List Desc) → j < k
+        → WaitOf job around t k es → Each S es
     later_passed i le h is zero es lt w = absurd (omega (arith, lt))
     later_passed i le h is (suc k) es lt w =
         let at : slice_get (waits t) k ≡ Some es = wait_ended job around n w.0 t k es is w.1 in
@@ -178,11 +189,13 @@ module _ (job : Job) (around : Around) (n : ℕ) where
         go (inr is) = subst (Each S) (some_is es fs (sym e ∙ sym (ap (slice_get (waits t)) is) ∙ q)) s
 
     -- at a wait: on, or here
-    at_wait : (i : ℕ) (es : List Desc) → j ≤ i → Passed i → slice_get (waits t) i ≡ Some es → Each S es ⊎ Other es → (Passed (suc i) → Next job around picks t j) → Next job around picks t j
+    at_wait : (i : ℕ) (es : List Desc) → j ≤ i → Passed i → slice_get (waits t) i ≡ Some es → Each S es ⊎ Other es
+        → (Passed (suc i) → Next job around picks t j) → Next job around picks t j
     at_wait i es from h e (inl s) rest = rest (next_passed i es e s h)
     at_wait i es from h e (inr o) rest = inr (suc i, found i es from h e o)
 
-    at_place : (i : ℕ) (o : Option (List Desc)) → slice_get (waits t) i ≡ o → j ≤ i → Passed i → (Passed (suc i) → Next job around picks t j) → Next job around picks t j
+    at_place : (i : ℕ) (o : Option (List Desc)) → slice_get (waits t) i ≡ o → j ≤ i → Passed i → (Passed (suc i) → Next job around picks t j)
+        → Next job around picks t j
     at_place i None e from h rest = inl (ends_here i (short (waits t) i e) h)
     at_place i (Some es) e from h rest = at_wait i es from h e (each_or es) rest
 

@@ -11,7 +11,8 @@ module _ {N : Type 0} (see : v.Desc N → Option (Object N)) where
   abbrev pub Seen : List (Act N) → Type 0
   Seen es = (i : ℕ) (ds : List (v.Desc N)) → slice_get (waits_in es) i ≡ Some ds → Each (λ d. see d ≢ None) ds
 
-  on_there : (x : Option (List (Object N))) (k : List (Object N) → Res N) → x ≢ None → Seen (acts_seen x (λ os. acts see (k os))) → ((os : List (Object N)) → Seen (acts see (k os)) → outcome see (k os) ≢ no_fuel) → on_seen x (λ os. outcome see (k os)) ≢ no_fuel
+  on_there : (x : Option (List (Object N))) (k : List (Object N) → Res N) → x ≢ None → Seen (acts_seen x (λ os. acts see (k os)))
+      → ((os : List (Object N)) → Seen (acts see (k os)) → outcome see (k os) ≢ no_fuel) → on_seen x (λ os. outcome see (k os)) ≢ no_fuel
   on_there None k ne h g = absurd (ne refl)
   on_there (Some os) k ne h g = g os h
 

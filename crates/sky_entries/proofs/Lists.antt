@@ -1,7 +1,9 @@
 -- One more form under way.
 use Rattle.std.proofs.Common.{◌≡◌, ℕ, ◌+◌, List, [], ◌∷◌, ◌++◌, refl, sym, ap, ◌∙◌, subst, arith}
 use Rattle.sky_base.specs.Tree.{Script}
-use Rattle.sky_base.specs.Res.{others, parens_in, part_at, chain_first, chain_more, logic_at, prefix_part, star_wait, postfix_first, index_at, arg_at, call_open, exec_wait, set_part, add_part, put_index, put_value, return_part, just_part, arm_test, while_test, while_body, repeat_body, repeat_test, for_list, for_body, block_at, then_do}
+use Rattle.sky_base.specs.Res.{others, parens_in, part_at, chain_first, chain_more, logic_at, prefix_part, star_wait, postfix_first, index_at, arg_at}
+use Rattle.sky_base.specs.Res.{call_open, exec_wait, set_part, add_part, put_index, put_value, return_part, just_part, arm_test, while_test}
+use Rattle.sky_base.specs.Res.{while_body, repeat_body, repeat_test, for_list, for_body, block_at, then_do}
 use Rattle.sky_base.specs.Eval.{World, inside, plug}
 use Rattle.sky_law.proofs.FormsLaw.{inner, plug_push}
 use Rattle.sky_law.specs.Nodes.{node_at}
@@ -19,7 +21,8 @@ module _ (w : World (List ℕ)) where
   inner_push [] d en = refl
   inner_push (f ∷ fr) d en = inner_push fr (inside w f d) en
 
-  pub rest_push : (es : List rust.Entry) (en : rust.Entry) (r : Run) → rest_in w (es ++ en ∷ []) r ≡ rest_in w es (then_do r (entry_of en) (goes_on w (forms es) (entry_of en)))
+  pub rest_push : (es : List rust.Entry) (en : rust.Entry) (r : Run) → rest_in w (es ++ en ∷ []) r
+      ≡ rest_in w es (then_do r (entry_of en) (goes_on w (forms es) (entry_of en)))
   rest_push es en r =
       ap (λ fr. plug w others fr r) (forms_push es en) ∙ plug_push w (forms es) others (entry_of en) r
 
@@ -59,11 +62,13 @@ pub opened_push : (es : List rust.Entry) (en : rust.Entry) → opened (forms (es
 opened_push es en = ap opened (forms_push es en) ∙ opened_more (forms es) (entry_of en)
 
 module _ (sc : Script) where
-  are_push : (fr : List Form) (en : Form) → AreReady (λ i. node_at sc i) fr → IsReady (λ i. node_at sc i) en → AreReady (λ i. node_at sc i) (fr ++ en ∷ [])
+  are_push : (fr : List Form) (en : Form) → AreReady (λ i. node_at sc i) fr → IsReady (λ i. node_at sc i) en
+      → AreReady (λ i. node_at sc i) (fr ++ en ∷ [])
   are_push [] en h i = (i, tt)
   are_push (f ∷ fr) en h i = (h.0, are_push fr en h.1 i)
 
-  are_pop : (fr : List Form) (en : Form) → AreReady (λ i. node_at sc i) (fr ++ en ∷ []) → AreReady (λ i. node_at sc i) fr × IsReady (λ i. node_at sc i) en
+  are_pop : (fr : List Form) (en : Form) → AreReady (λ i. node_at sc i) (fr ++ en ∷ []) → AreReady (λ i. node_at sc i) fr
+      × IsReady (λ i. node_at sc i) en
   are_pop [] en h = (tt, h.0)
   are_pop (f ∷ fr) en h = let r = are_pop fr en h.1 in ((h.0, r.0), r.1)
 

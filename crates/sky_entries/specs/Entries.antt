@@ -59,7 +59,8 @@ stmt_of (InStmt.Just p) = logic.just_part p.node
 
 abbrev pub block_of : InBlock → Form
 block_of (InBlock.Arm p) =
-    logic.arm_test p.node p.step p.block (p.block + block_nodes p.body.now + arms_nodes (arms_view p.arms.now)) (at p.line p.col) p.body.now (arms_view p.arms.now) (last_block p.otherwise)
+    logic.arm_test p.node p.step p.block (p.block + block_nodes p.body.now + arms_nodes (arms_view p.arms.now)) (at p.line p.col) p.body.now
+    (arms_view p.arms.now) (last_block p.otherwise)
 block_of (InBlock.WhileTest p) = logic.while_test p.node p.block (at p.line p.col) (exp_view p.test.now) p.body.now
 block_of (InBlock.WhileBody p) = logic.while_body p.node p.block (at p.line p.col) (exp_view p.test.now) p.body.now
 block_of (InBlock.RepeatBody p) = logic.repeat_body p.node p.test_at (at p.line p.col) p.body.now (exp_view p.test.now)

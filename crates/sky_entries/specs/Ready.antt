@@ -6,7 +6,9 @@ use Rattle.sky_base.specs.Tree.{Steps, Stms, Script, exps_nodes, block_nodes}
 use Rattle.sky_base.specs.TreeView.{exp_view}
 use Rattle.sky_base.specs.StmtView.{stm_view}
 use Rattle.sky_base.specs.Kept.{Kept}
-use Rattle.sky_base.specs.Res.{parens_in, part_at, chain_first, chain_more, logic_at, prefix_part, star_wait, postfix_first, index_at, arg_at, call_open, exec_wait, set_part, add_part, put_index, put_value, return_part, just_part, arm_test, while_test, while_body, repeat_body, repeat_test, for_list, for_body, block_at}
+use Rattle.sky_base.specs.Res.{parens_in, part_at, chain_first, chain_more, logic_at, prefix_part, star_wait, postfix_first, index_at, arg_at}
+use Rattle.sky_base.specs.Res.{call_open, exec_wait, set_part, add_part, put_index, put_value, return_part, just_part, arm_test, while_test}
+use Rattle.sky_base.specs.Res.{while_body, repeat_body, repeat_test, for_list, for_body, block_at}
 use Rattle.sky_base.specs.View.{view}
 use Rattle.sky_law.specs.Opened.{Node, block_node, HasExp, HasExps, HasLinks, HasAnds, HasSteps, HasStm, HasStms, HasArms, HasElse}
 use Rattle.sky_law.specs.Nodes.{node_at}

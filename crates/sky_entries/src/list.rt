@@ -14,10 +14,13 @@ use sky_base::text::Memory;
 
 /// One more form under way.
 pub fn push<'a>(entries: &mut Vec<Entry<'a>>, entry: Entry<'a>) -> Result<(), Memory>
-    ensures rest { IfOk result (λ _. (w : World (List ℕ)) (r : Run) → rest_in w entries.new.items r ≡ rest_in w entries.old.items (then_do r (entry_of entry.entry) (goes_on w (forms entries.old.items) (entry_of entry.entry)))) }
-    ensures room { IfOk result (λ _. (w : World (List ℕ)) → room w (forms entries.new.items) ≡ inside w (entry_of entry.entry) (room w (forms entries.old.items))) }
+    ensures rest { IfOk result (λ _. (w : World (List ℕ)) (r : Run) → rest_in w entries.new.items r
+        ≡ rest_in w entries.old.items (then_do r (entry_of entry.entry) (goes_on w (forms entries.old.items) (entry_of entry.entry)))) }
+    ensures room { IfOk result (λ _. (w : World (List ℕ)) → room w (forms entries.new.items)
+        ≡ inside w (entry_of entry.entry) (room w (forms entries.old.items))) }
     ensures opened { IfOk result (λ _. opened (forms entries.new.items) ≡ opened (forms entries.old.items) + opened (entry_of entry.entry ∷ [])) }
-    ensures ready { IfOk result (λ _. (sc : Script) → AllReady sc entries.old.items → Ready sc (entry_of entry.entry) → AllReady sc entries.new.items) }
+    ensures ready { IfOk result (λ _. (sc : Script) → AllReady sc entries.old.items → Ready sc (entry_of entry.entry)
+        → AllReady sc entries.new.items) }
     ensures longer { IfOk result (λ _. length entries.new.items ≡ length entries.old.items + 1) }
 {
     let Ok(()) = entries.reserve(1) else {

@@ -29,7 +29,8 @@ pub fn visit(state: &mut State, line: u32, col: u32) -> bool
     ensures rises { IsTrue result → state.new.count ≡ state.old.count + 1 }
     ensures stays { IsFalse result → state.new.count ≡ state.old.count }
     ensures more { IsTrue result → (k : Vars → Run) → logic.visit (at line col) state.old k ≡ k state.new }
-    ensures failed { IsFalse result → (k : Vars → Run) → logic.visit (at line col) state.old k ≡ Fin (logic.End.failed (fault_at FaultKind.TooLong (at line col))) state.new }
+    ensures failed { IsFalse result → (k : Vars → Run) → logic.visit (at line col) state.old k
+        ≡ Fin (logic.End.failed (fault_at FaultKind.TooLong (at line col))) state.new }
 {
     match state.visit(line, col) {
         Ok(()) => true,
@@ -70,7 +71,8 @@ pub fn given_exact(answer: Result<Value, FaultKind>, line: u32, col: u32) -> End
 /// By a truth value, or the fault BadKind at this place.
 pub fn decided(v: &Value, line: u32, col: u32) -> Result<bool, Fault>
     ensures ok { IfOk result (λ b. view v.now ≡ truth b) }
-    ensures err { IfErr result (λ f. (st : Vars) (on off : Vars → Run) → run.decide (view v.now) (at line col) st on off ≡ Fin (logic.End.failed f) st) }
+    ensures err { IfErr result (λ f. (st : Vars) (on off : Vars → Run) → run.decide (view v.now) (at line col) st on off
+        ≡ Fin (logic.End.failed f) st) }
 {
     match truth(v) {
         Ok(b) => Ok(b),

@@ -12,8 +12,13 @@ use Rattle.sky_scope.specs.declared.cut.Flow.{Flow}
 
 -- it may be run on what a function captured and on arguments within the limits
 abbrev pub CanRun : (MutBor (List Row) → MutBor Vars → Bor (List ℕ) → Bor Pairs → Bor Vals → ℕ → ℕ → Type 0) → Type 0
-CanRun pre = (rows : MutBor (List Row)) (state : MutBor Vars) (name : Bor (List ℕ)) (caught : Bor Pairs) (args : Bor Vals) (line col : ℕ) → KeptPairs caught.now → KeptVals args.now → pre rows state name caught args line col
+CanRun pre = (rows : MutBor (List Row)) (state : MutBor Vars) (name : Bor (List ℕ)) (caught : Bor Pairs) (args : Bor Vals) (line col : ℕ)
+    → KeptPairs caught.now → KeptVals args.now → pre rows state name caught args line col
 
 -- it runs a body where so many may still be opened
-abbrev pub RunsBody : (MutBor (List Row) → MutBor Vars → Bor (List ℕ) → Bor Pairs → Bor Vals → ℕ → ℕ → Result Flow Cut → MutBor (List Row) → MutBor Vars → Type 0) → Ground → ℕ → Type 0
-RunsBody post g bodies = (rows : MutBor (List Row)) (state : MutBor Vars) (name : Bor (List ℕ)) (caught : Bor Pairs) (args : Bor Vals) (line col : ℕ) (r : Result Flow Cut) (after : MutBor (List Row)) (last : MutBor Vars) → post rows state name caught args line col r after last → Flows r after.now last.now (body_on g bodies name.now caught.now args.now (at line col) rows.now state.now.count) × IfOk r KeptFlow
+abbrev pub RunsBody : (MutBor (List Row) → MutBor Vars → Bor (List ℕ) → Bor Pairs → Bor Vals → ℕ → ℕ → Result Flow Cut → MutBor (List Row)
+    → MutBor Vars → Type 0) → Ground → ℕ → Type 0
+RunsBody post g bodies = (rows : MutBor (List Row)) (state : MutBor Vars) (name : Bor (List ℕ)) (caught : Bor Pairs) (args : Bor Vals)
+    (line col : ℕ) (r : Result Flow Cut) (after : MutBor (List Row)) (last : MutBor Vars)
+    → post rows state name caught args line col r after last
+    → Flows r after.now last.now (body_on g bodies name.now caught.now args.now (at line col) rows.now state.now.count) × IfOk r KeptFlow

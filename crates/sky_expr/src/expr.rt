@@ -5,7 +5,8 @@ ghost use Rattle.std.specs.Prelude.{◌≡◌, ◌≤◌, IfOk};
 ghost use Rattle.sky_base.specs.Kept.{Kept};
 ghost use Rattle.sky_base.specs.Tree.{Exp, Oper, Form, nodes, exps_nodes, links_nodes, ands_nodes, steps_nodes, script_nodes};
 ghost use Rattle.sky_base.specs.Tree as tree;
-ghost use Rattle.sky_base.specs.TreeView.{at, one, two, three, order_view, signs_view, exp_view, links_view, ands_view, steps_view, step_view, step_nodes, arith_view};
+ghost use Rattle.sky_base.specs.TreeView.{at, one, two, three, order_view, signs_view, exp_view, links_view, ands_view, steps_view, step_view};
+ghost use Rattle.sky_base.specs.TreeView.{step_nodes, arith_view};
 ghost use Rattle.sky_base.specs.Val.{no_vals};
 ghost use Rattle.sky_base.specs.View.{view};
 ghost use Rattle.sky_forms.specs.GroundView.{exp_on, values_on, links_on, ands_on, steps_on, opened_on};
@@ -196,7 +197,9 @@ fn compare<F: Fn(&mut Rows, &mut State, &Txt, &Pairs, &Vals, u32, u32) -> Result
 ) -> Result<Value, Cut>
     requires can { CanRun (F.pre run.now) }
     requires runs { RunsBody (F.post run.now) ground.now bodies }
-    ensures answer { Comes result rows.new state.new (exp_on ground.now bodies (Exp.chain left.now (tree.link (Oper.compare (order_view how)) (at line col) right.now tree.no_links)) rows.old state.old) }
+    ensures answer { Comes result rows.new state.new
+        (exp_on ground.now bodies (Exp.chain left.now (tree.link (Oper.compare (order_view how)) (at line col) right.now tree.no_links)) rows.old
+        state.old) }
     ensures kept { IfOk result (λ v. Kept (view v)) }
 {
     let a = expr(ground, rows, state, bodies, run, left.get())?;
@@ -284,7 +287,8 @@ fn spawn_of<F: Fn(&mut Rows, &mut State, &Txt, &Pairs, &Vals, u32, u32) -> Resul
 ) -> Result<Value, Cut>
     requires can { CanRun (F.pre run.now) }
     requires runs { RunsBody (F.post run.now) ground.now bodies }
-    ensures answer { Comes result rows.new state.new (exp_on ground.now bodies (Exp.parts Form.spawn (at line col) (two fun.now args.now)) rows.old state.old) }
+    ensures answer { Comes result rows.new state.new
+        (exp_on ground.now bodies (Exp.parts Form.spawn (at line col) (two fun.now args.now)) rows.old state.old) }
     ensures kept { IfOk result (λ v. Kept (view v)) }
 {
     let f = expr(ground, rows, state, bodies, run, fun.get())?;
@@ -309,7 +313,8 @@ fn spawn_exec_of<F: Fn(&mut Rows, &mut State, &Txt, &Pairs, &Vals, u32, u32) -> 
 ) -> Result<Value, Cut>
     requires can { CanRun (F.pre run.now) }
     requires runs { RunsBody (F.post run.now) ground.now bodies }
-    ensures answer { Comes result rows.new state.new (exp_on ground.now bodies (Exp.parts Form.spawn_exec (at line col) (three executor.now args.now outputs.now)) rows.old state.old) }
+    ensures answer { Comes result rows.new state.new
+        (exp_on ground.now bodies (Exp.parts Form.spawn_exec (at line col) (three executor.now args.now outputs.now)) rows.old state.old) }
     ensures kept { IfOk result (λ v. Kept (view v)) }
 {
     let x = expr(ground, rows, state, bodies, run, executor.get())?;
@@ -335,7 +340,8 @@ fn exec_of<F: Fn(&mut Rows, &mut State, &Txt, &Pairs, &Vals, u32, u32) -> Result
 ) -> Result<Value, Cut>
     requires can { CanRun (F.pre run.now) }
     requires runs { RunsBody (F.post run.now) ground.now bodies }
-    ensures answer { Comes result rows.new state.new (exp_on ground.now bodies (Exp.parts Form.exec (at line col) (three executor.now args.now outputs.now)) rows.old state.old) }
+    ensures answer { Comes result rows.new state.new
+        (exp_on ground.now bodies (Exp.parts Form.exec (at line col) (three executor.now args.now outputs.now)) rows.old state.old) }
     ensures kept { IfOk result (λ v. Kept (view v)) }
 {
     let x = expr(ground, rows, state, bodies, run, executor.get())?;
@@ -426,7 +432,8 @@ fn has_of<F: Fn(&mut Rows, &mut State, &Txt, &Pairs, &Vals, u32, u32) -> Result<
 ) -> Result<Value, Cut>
     requires can { CanRun (F.pre run.now) }
     requires runs { RunsBody (F.post run.now) ground.now bodies }
-    ensures answer { Comes result rows.new state.new (exp_on ground.now bodies (Exp.parts Form.has (at line col) (two dict.now key.now)) rows.old state.old) }
+    ensures answer { Comes result rows.new state.new
+        (exp_on ground.now bodies (Exp.parts Form.has (at line col) (two dict.now key.now)) rows.old state.old) }
     ensures kept { IfOk result (λ v. Kept (view v)) }
 {
     let d = expr(ground, rows, state, bodies, run, dict.get())?;
@@ -450,7 +457,8 @@ fn range_of<F: Fn(&mut Rows, &mut State, &Txt, &Pairs, &Vals, u32, u32) -> Resul
 ) -> Result<Value, Cut>
     requires can { CanRun (F.pre run.now) }
     requires runs { RunsBody (F.post run.now) ground.now bodies }
-    ensures answer { Comes result rows.new state.new (exp_on ground.now bodies (Exp.parts Form.range (at line col) (two from.now to.now)) rows.old state.old) }
+    ensures answer { Comes result rows.new state.new
+        (exp_on ground.now bodies (Exp.parts Form.range (at line col) (two from.now to.now)) rows.old state.old) }
     ensures kept { IfOk result (λ v. Kept (view v)) }
 {
     let a = expr(ground, rows, state, bodies, run, from.get())?;
@@ -522,7 +530,9 @@ fn linked<F: Fn(&mut Rows, &mut State, &Txt, &Pairs, &Vals, u32, u32) -> Result<
     requires can { CanRun (F.pre run.now) }
     requires runs { RunsBody (F.post run.now) ground.now bodies }
     requires kept { Kept (view v.now) }
-    ensures answer { Comes result rows.new state.new (links_on ground.now bodies (tree.link (arith_view link.now.op) (at link.now.line link.now.col) (exp_view link.now.operand) tree.no_links) (view v.now) rows.old state.old) }
+    ensures answer { Comes result rows.new state.new
+        (links_on ground.now bodies (tree.link (arith_view link.now.op) (at link.now.line link.now.col) (exp_view link.now.operand)
+        tree.no_links) (view v.now) rows.old state.old) }
     ensures kept { IfOk result (λ v. Kept (view v)) }
 {
     let right = expr(ground, rows, state, bodies, run, &link.operand)?;
@@ -551,7 +561,8 @@ fn joins<F: Fn(&mut Rows, &mut State, &Txt, &Pairs, &Vals, u32, u32) -> Result<F
     requires can { CanRun (F.pre run.now) }
     requires runs { RunsBody (F.post run.now) ground.now bodies }
     requires kept { Kept (view first) }
-    ensures answer { Comes result rows.new state.new (ands_on ground.now bodies (ands_view rest.now) (junction stop) (at 0 0) (view first) rows.old state.old) }
+    ensures answer { Comes result rows.new state.new
+        (ands_on ground.now bodies (ands_view rest.now) (junction stop) (at 0 0) (view first) rows.old state.old) }
     ensures kept { IfOk result (λ v. Kept (view v)) }
 {
     let mut v = first;

@@ -1,5 +1,6 @@
 -- Signs, the last of them first.
-use Rattle.std.proofs.Common.{◌≡◌, ◌<◌, ◌≤◌, ◌+◌, ◌-◌, ◌⊎◌, inl, inr, ℕ, zero, suc, List, [], ◌∷◌, ◌++◌, length, take, reverse, Some, get_or, refl, sym, ap, ◌∙◌, arith}
+use Rattle.std.proofs.Common.{◌≡◌, ◌<◌, ◌≤◌, ◌+◌, ◌-◌, ◌⊎◌, inl, inr, ℕ, zero, suc, List, [], ◌∷◌, ◌++◌, length, take, reverse, Some, get_or, refl}
+use Rattle.std.proofs.Common.{sym, ap, ◌∙◌, arith}
 use Rattle.std.proofs.lemmas.List.{reverse-append, length-reverse}
 use Rattle.std.specs.Option.{option_and_then}
 use Rattle.sky_base.specs.Tree as logic
@@ -23,7 +24,8 @@ signs_less (suc i) ss h = go (times next_sign i ss) (signs_less i ss (omega (ari
 
 on_times : (i : ℕ) (ss : List logic.SignAt) → i ≤ length ss → on_by past_sign i ss ≡ Some (times next_sign i ss)
 on_times zero ss h = refl
-on_times (suc i) ss h = ap (option_and_then past_sign) (on_times i ss (omega (arith, h))) ∙ go (times next_sign i ss) (signs_less i ss (omega (arith, h)))
+on_times (suc i) ss h = ap (option_and_then past_sign) (on_times i ss (omega (arith, h)))
+    ∙ go (times next_sign i ss) (signs_less i ss (omega (arith, h)))
   where
     go : (xs : List logic.SignAt) → length xs + i ≡ length ss → past_sign xs ≡ Some (next_sign xs)
     go [] e = absurd (omega (arith, e, h))
@@ -46,7 +48,8 @@ none_left : (i : ℕ) (ss : List logic.SignAt) → length ss ≤ i → sign_row 
 none_left i ss h = go (whether i (length ss) h)
   where
     end : on_by past_sign (length ss) ss ≡ Some []
-    end = on_times (length ss) ss (omega arith) ∙ ap Some (all_gone (times next_sign (length ss) ss) (omega (arith, signs_less (length ss) ss (omega arith))))
+    end = on_times (length ss) ss (omega arith)
+        ∙ ap Some (all_gone (times next_sign (length ss) ss) (omega (arith, signs_less (length ss) ss (omega arith))))
 
     go : (length ss ≡ i) ⊎ (length ss < i) → sign_row (on_by past_sign i ss) ≡ no_step
     go (inl e) = ap (λ n. sign_row (on_by past_sign n ss)) (sym e) ∙ ap sign_row end
@@ -60,17 +63,21 @@ sign_end ss i h = none_left i (reverse (signs_view ss)) (omega (arith, h, length
 abbrev one_sign : SignAt → logic.SignAt
 one_sign s = record { sign = sign_view s.sign; place = at s.line s.col }
 
-signs_take : (ss : List SignAt) (j : ℕ) (s : SignAt) → s ≡ get_or ss j s → j < length ss → signs_view (take (j + 1) ss) ≡ signs_view (take j ss) ++ one_sign s ∷ []
+signs_take : (ss : List SignAt) (j : ℕ) (s : SignAt) → s ≡ get_or ss j s → j < length ss → signs_view (take (j + 1) ss) ≡ signs_view (take j ss)
+    ++ one_sign s ∷ []
 signs_take [] j s e h = absurd (omega (arith, h))
 signs_take (x ∷ ss) zero s e h = ap (λ y. one_sign y ∷ []) (sym e)
-signs_take (x ∷ ss) (suc j) s e h = let n : suc j + 1 ≡ suc (j + 1) = omega arith in rw n (ap (λ r. one_sign x ∷ r) (signs_take ss j s e (omega (arith, h))))
+signs_take (x ∷ ss) (suc j) s e h = let n : suc j + 1 ≡ suc (j + 1) = omega arith in
+    rw n (ap (λ r. one_sign x ∷ r) (signs_take ss j s e (omega (arith, h))))
 
-pub sign_got : (ss : List SignAt) (i : ℕ) (s : SignAt) → s ≡ get_or ss (length ss - 1 - i) s → i < length ss → sign_row (on_by past_sign i (reverse (signs_view ss))) ≡ sign_is (sign_view s.sign)
+pub sign_got : (ss : List SignAt) (i : ℕ) (s : SignAt) → s ≡ get_or ss (length ss - 1 - i) s → i < length ss
+    → sign_row (on_by past_sign i (reverse (signs_view ss))) ≡ sign_is (sign_view s.sign)
 sign_got ss i s e h =
     let all = signs_view ss in
     let j = length ss - 1 - i in
     let n : length ss - i ≡ j + 1 = omega (arith, h) in
-    let is : times next_sign i (reverse all) ≡ one_sign s ∷ reverse (signs_view (take j ss)) = sym (signs_but ss i (j + 1) (sym n)) ∙ ap reverse (signs_take ss j s e (omega (arith, h))) ∙ reverse-append (signs_view (take j ss)) (one_sign s ∷ []) in
+    let is : times next_sign i (reverse all) ≡ one_sign s ∷ reverse (signs_view (take j ss)) = sym (signs_but ss i (j + 1) (sym n))
+    ∙ ap reverse (signs_take ss j s e (omega (arith, h))) ∙ reverse-append (signs_view (take j ss)) (one_sign s ∷ []) in
     ap sign_row (on_times i (reverse all) (omega (arith, h, length-reverse all, view_length ss)) ∙ ap Some is)
 
 pub sign_other : (s : SignOp) → (s ≡ SignOp.Not) ⊎ (s ≡ SignOp.Minus) → sign_is (sign_view s) ≡ no_step

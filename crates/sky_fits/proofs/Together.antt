@@ -46,8 +46,16 @@ module _ (sc : Script) where
   one_by_one (t ∷ ts) vs h =
       let n = keeps (row_of sc t) in
       let next = parts_next t ts h.parts in
-      let more : kept_in_all sc (t ∷ ts) ≡ n + kept_in_all sc ts = kept_more sc t ts in
-      (record { step = h.steps.0; next = next.0; enough = omega (arith, h.as_many, more); kinds = h.kinds.0; taken = h.taken.0 }, one_by_one ts (drop n vs) (record { steps = h.steps.1; parts = next.1; as_many = omega (arith, length-drop n vs, h.as_many, more); kinds = h.kinds.1; taken = h.taken.1 }))
+      let more : kept_in_all sc (t ∷ ts) ≡ n + kept_in_all sc ts = kept_more sc t ts in (
+        record { step = h.steps.0; next = next.0; enough = omega (arith, h.as_many, more); kinds = h.kinds.0; taken = h.taken.0 },
+        one_by_one ts (drop n vs) (record {
+          steps = h.steps.1;
+          parts = next.1;
+          as_many = omega (arith, length-drop n vs, h.as_many, more);
+          kinds = h.kinds.1;
+          taken = h.taken.1;
+        }),
+      )
 
   -- ---- the last entry
 
@@ -66,12 +74,15 @@ module _ (sc : Script) where
   last_none P (t ∷ []) e h = none_some (row_of sc t) (sym e)
   last_none P (t ∷ u ∷ us) e h = last_none P (u ∷ us) e h
 
-  pub last_at : (ts : List code.Todo) (t : code.Todo) → Some t ≡ slice_get ts (length ts - 1) → last_row sc (todos_view ts) ≡ Some (row_of sc (todo_view t))
+  pub last_at : (ts : List code.Todo) (t : code.Todo) → Some t ≡ slice_get ts (length ts - 1) → last_row sc (todos_view ts)
+      ≡ Some (row_of sc (todo_view t))
   last_at [] t e = absurd cc
   last_at (u ∷ []) t e = let g : t ≡ u = cc in ap (λ (x : code.Todo). Some (row_of sc (todo_view x))) (sym g)
-  last_at (u ∷ v ∷ us) t e = let z : length (u ∷ v ∷ us) - 1 ≡ suc (length (v ∷ us) - 1) = omega arith in last_at (v ∷ us) t (e ∙ ap (λ n. slice_get (u ∷ v ∷ us) n) z)
+  last_at (u ∷ v ∷ us) t e = let z : length (u ∷ v ∷ us) - 1 ≡ suc (length (v ∷ us) - 1) = omega arith in
+      last_at (v ∷ us) t (e ∙ ap (λ n. slice_get (u ∷ v ∷ us) n) z)
 
   pub last_of_none : (ts : List code.Todo) → None ≡ slice_get ts (length ts - 1) → last_row sc (todos_view ts) ≡ None
   last_of_none [] e = refl
   last_of_none (u ∷ []) e = absurd cc
-  last_of_none (u ∷ v ∷ us) e = let z : length (u ∷ v ∷ us) - 1 ≡ suc (length (v ∷ us) - 1) = omega arith in last_of_none (v ∷ us) (e ∙ ap (λ n. slice_get (u ∷ v ∷ us) n) z)
+  last_of_none (u ∷ v ∷ us) e = let z : length (u ∷ v ∷ us) - 1 ≡ suc (length (v ∷ us) - 1) = omega arith in
+      last_of_none (v ∷ us) (e ∙ ap (λ n. slice_get (u ∷ v ∷ us) n) z)

@@ -1,5 +1,6 @@
 -- One step more of a walk, and a walk that goes no further.
-use Rattle.std.proofs.Common.{◌≡◌, ◌<◌, ◌≤◌, ◌+◌, ◌⊎◌, inl, inr, ℕ, zero, suc, List, [], ◌∷◌, length, Option, Some, None, refl, sym, ap, ◌∙◌, subst, arith, add-one}
+use Rattle.std.proofs.Common.{◌≡◌, ◌<◌, ◌≤◌, ◌+◌, ◌⊎◌, inl, inr, ℕ, zero, suc, List, [], ◌∷◌, length, Option, Some, None, refl, sym, ap, ◌∙◌, subst}
+use Rattle.std.proofs.Common.{arith, add-one}
 use Rattle.std.specs.Option.{option_and_then}
 use Rattle.sky_base.specs.Tree.{Place, Oper, Exp, Exps, Links, Ands, Steps, Stm, Stms, Arms, nodes, stm_nodes, block_nodes}
 use Rattle.sky_base.specs.TreeView.{ands_view}
@@ -59,13 +60,15 @@ none_stm m (x ∷ xs) e = absurd (omega (arith, e))
 pub one_part : (m next : ℕ) (e : Exp) (xs es : Exps) → xs ≡ Exps.exp e es → next ≡ m + nodes e → past_part (m, xs) ≡ Some (next, es)
 one_part m next e xs es g f = ap (λ r. past_part (m, r)) g ∙ ap (λ k. Some (k, es)) (sym f)
 
-pub one_link : (m next : ℕ) (o : Oper) (p : Place) (e : Exp) (xs ls : Links) → xs ≡ Links.link o p e ls → next ≡ m + nodes e → past_link (m, xs) ≡ Some (next, ls)
+pub one_link : (m next : ℕ) (o : Oper) (p : Place) (e : Exp) (xs ls : Links) → xs ≡ Links.link o p e ls → next ≡ m + nodes e → past_link (m, xs)
+    ≡ Some (next, ls)
 one_link m next o p e xs ls g f = ap (λ r. past_link (m, r)) g ∙ ap (λ k. Some (k, ls)) (sym f)
 
 pub one_and : (m next : ℕ) (p : Place) (e : Exp) (xs ls : Ands) → xs ≡ Ands.and p e ls → next ≡ m + nodes e → past_and (m, xs) ≡ Some (next, ls)
 one_and m next p e xs ls g f = ap (λ r. past_and (m, r)) g ∙ ap (λ k. Some (k, ls)) (sym f)
 
-pub one_arm : (m next : ℕ) (p : Place) (e : Exp) (b : Stms) (xs more : Arms) → xs ≡ Arms.arm p e b more → next ≡ m + nodes e + block_nodes b → past_arm (m, xs) ≡ Some (next, more)
+pub one_arm : (m next : ℕ) (p : Place) (e : Exp) (b : Stms) (xs more : Arms) → xs ≡ Arms.arm p e b more → next ≡ m + nodes e + block_nodes b
+    → past_arm (m, xs) ≡ Some (next, more)
 one_arm m next p e b xs more g f = ap (λ r. past_arm (m, r)) g ∙ ap (λ k. Some (k, more)) (sym f)
 
 pub one_stm : (m next : ℕ) (a : Stm) (xs more : Stms) → xs ≡ Stms.stm a more → next ≡ m + stm_nodes a → past_stm (m, xs) ≡ Some (next, more)
@@ -85,7 +88,8 @@ module _ (at : ℕ → Option Node) where
   past_has : (x y : Spot) → past_spot x ≡ Some y → HasSpot at x → HasSpot at y
   past_has finished y e h = absurd cc
   past_has (in_index m x p ss) y e h = subst (HasSpot at) (some_is (spot_of (m + nodes x) ss) y e) (spot_has (m + nodes x) ss h.1)
-  past_has (in_call m i Exps.no_exps p ss) y e h = subst (HasSpot at) (some_is (spot_of m ss) y e) (spot_has m ss (subst (HasSteps at ss) (omega arith) h.1))
+  past_has (in_call m i Exps.no_exps p ss) y e h =
+      subst (HasSpot at) (some_is (spot_of m ss) y e) (spot_has m ss (subst (HasSteps at ss) (omega arith) h.1))
   past_has (in_call m i (Exps.exp x es) p ss) y e h =
       subst (HasSpot at) (some_is (in_call (m + nodes x) (i + 1) es p ss) y e) (h.0.1, subst (HasSteps at ss) (omega arith) h.1)
 

@@ -68,7 +68,8 @@ pub fn ends_in_wait(code: &Code, nodes: &Nodes, todos: &[Todo]) -> bool
 // What the table says of the last entry, if there is one.
 fn last_row<'a>(code: &Code, nodes: &Nodes<'a>, todos: &[Todo]) -> Option<RowAt<'a>>
     requires { nodes.now ≡ code.now }
-    ensures { MatchOption result (last_row code.now (todos_view todos.now) ≡ None) (λ r. last_row code.now (todos_view todos.now) ≡ Some (row_view r)) }
+    ensures { MatchOption result (last_row code.now (todos_view todos.now) ≡ None)
+        (λ r. last_row code.now (todos_view todos.now) ≡ Some (row_view r)) }
 {
     let Some(last) = todos.last() else {
         return None;

@@ -56,8 +56,10 @@ fn statement_at(code: &Code, number: u32, stmt: &Stmt, node: u32) -> bool
 // One of the arms' blocks, or the last block; the test of the first arm stands at the node `first`.
 fn arm_at(code: &Code, first: u32, arms: &[Arm], otherwise: Option<&Block>, node: u32) -> bool
     requires { HasArms (λ i. node_at code.now i) (arms_view arms.now) first }
-    ensures yes { IsTrue result → In node (arm_blocks first (arms_view arms.now) ++ else_block (first + arms_nodes (arms_view arms.now)) (last_block otherwise.entry)) }
-    ensures no { IsFalse result → In node (arm_blocks first (arms_view arms.now) ++ else_block (first + arms_nodes (arms_view arms.now)) (last_block otherwise.entry)) → ⊥ }
+    ensures yes { IsTrue result → In node (arm_blocks first (arms_view arms.now)
+        ++ else_block (first + arms_nodes (arms_view arms.now)) (last_block otherwise.entry)) }
+    ensures no { IsFalse result → In node (arm_blocks first (arms_view arms.now)
+        ++ else_block (first + arms_nodes (arms_view arms.now)) (last_block otherwise.entry)) → ⊥ }
 {
     let mut at = first;
     let mut rest = arms;

@@ -24,7 +24,8 @@ pub struct PartsAt<'a> {
 /// After so many parts.
 pub fn parts_after<'a>(code: &Code, first: u32, parts: Rest<'a>, count: u32) -> Option<PartsAt<'a>>
     requires { HasExps (λ i. node_at code.now i) (rest_view parts) first }
-    ensures { MatchOption result (on_by past_part count (first, rest_view parts.entry) ≡ None) (λ p. on_by past_part count (first, rest_view parts.entry) ≡ Some (p.next, rest_view p.rest)) }
+    ensures { MatchOption result (on_by past_part count (first, rest_view parts.entry) ≡ None)
+        (λ p. on_by past_part count (first, rest_view parts.entry) ≡ Some (p.next, rest_view p.rest)) }
 {
     let mut next = first;
     let mut rest = parts;
@@ -53,7 +54,8 @@ pub fn operands_after<'a>(
     count: u32,
 ) -> Option<OperandsAt<'a>>
     requires { HasLinks (λ i. node_at code.now i) (operands_view operands) second }
-    ensures { MatchOption result (on_by past_link count (second, operands_view operands.entry) ≡ None) (λ p. on_by past_link count (second, operands_view operands.entry) ≡ Some (p.next, operands_view p.rest)) }
+    ensures { MatchOption result (on_by past_link count (second, operands_view operands.entry) ≡ None)
+        (λ p. on_by past_link count (second, operands_view operands.entry) ≡ Some (p.next, operands_view p.rest)) }
 {
     let mut next = second;
     let mut rest = operands;
@@ -82,7 +84,8 @@ pub fn joins_after<'a>(
     count: u32,
 ) -> Option<JoinsAt<'a>>
     requires { HasAnds (λ i. node_at code.now i) (ands_view joins.now) second }
-    ensures { MatchOption result (on_by past_and count (second, ands_view joins.now) ≡ None) (λ p. on_by past_and count (second, ands_view joins.now) ≡ Some (p.next, ands_view p.rest.now)) }
+    ensures { MatchOption result (on_by past_and count (second, ands_view joins.now) ≡ None)
+        (λ p. on_by past_and count (second, ands_view joins.now) ≡ Some (p.next, ands_view p.rest.now)) }
 {
     let mut next = second;
     let mut rest = joins;
@@ -106,7 +109,8 @@ pub struct ArmsAt<'a> {
 /// After so many arms.
 pub fn arms_after<'a>(code: &Code, first: u32, arms: &'a [Arm], count: u32) -> Option<ArmsAt<'a>>
     requires { HasArms (λ i. node_at code.now i) (arms_view arms.now) first }
-    ensures { MatchOption result (on_by past_arm count (first, arms_view arms.now) ≡ None) (λ p. on_by past_arm count (first, arms_view arms.now) ≡ Some (p.next, arms_view p.rest.now)) }
+    ensures { MatchOption result (on_by past_arm count (first, arms_view arms.now) ≡ None)
+        (λ p. on_by past_arm count (first, arms_view arms.now) ≡ Some (p.next, arms_view p.rest.now)) }
 {
     let mut next = first;
     let mut rest = arms;
@@ -135,7 +139,8 @@ pub fn stmts_after<'a>(
     count: u32,
 ) -> Option<StmtsAt<'a>>
     requires { HasStms (λ i. node_at code.now i) (stms_view stmts.now) first }
-    ensures place { MatchOption result (on_by past_stm count (first, stms_view stmts.now) ≡ None) (λ p. on_by past_stm count (first, stms_view stmts.now) ≡ Some (p.next, stms_view p.rest.now)) }
+    ensures place { MatchOption result (on_by past_stm count (first, stms_view stmts.now) ≡ None)
+        (λ p. on_by past_stm count (first, stms_view stmts.now) ≡ Some (p.next, stms_view p.rest.now)) }
     ensures has { IfSome result (λ p. HasStms (λ i. node_at code.now i) (stms_view p.rest.now) p.next) }
 {
     let mut next = first;
@@ -238,7 +243,8 @@ fn past<'a>(code: &Code, spot: Spot<'a>) -> Option<Spot<'a>>
 /// After so many places.
 pub fn spots_after<'a>(code: &Code, second: u32, steps: &'a [Step], count: u32) -> Option<Spot<'a>>
     requires { HasSteps (λ i. node_at code.now i) (steps_view steps.now) second }
-    ensures place { MatchOption result (on_by past_spot count (spot_of second (steps_view steps.now)) ≡ None) (λ s. on_by past_spot count (spot_of second (steps_view steps.now)) ≡ Some (spot_view s)) }
+    ensures place { MatchOption result (on_by past_spot count (spot_of second (steps_view steps.now)) ≡ None)
+        (λ s. on_by past_spot count (spot_of second (steps_view steps.now)) ≡ Some (spot_view s)) }
     ensures few { IfSome result (λ s. before s ≤ count) }
 {
     let mut spot = enter(second, steps);

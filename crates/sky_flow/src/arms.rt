@@ -45,7 +45,11 @@ pub fn next_arm<'a>(
     requires step { choice.step ≤ choice.next }
     requires arms { HasArms (λ i. node_at code.now i) (arms_view choice.arms.now) choice.next }
     requires other { HasElse (λ i. node_at code.now i) (last_block choice.otherwise) (choice.next + arms_nodes (arms_view choice.arms.now)) }
-    ensures same { IfOk result (λ c. (w : World (List ℕ)) (st : Vars) → config w entries.new.items c st ≡ rest_in w entries.old.items (eval_arms w (body_in w (forms entries.old.items)) (arms_view choice.entry.arms.now) choice.entry.node choice.entry.step choice.entry.next (choice.entry.next + arms_nodes (arms_view choice.entry.arms.now)) (last_block choice.entry.otherwise) (λ t. eval_else w (body_in w (forms entries.old.items)) (last_block choice.entry.otherwise) (choice.entry.next + arms_nodes (arms_view choice.entry.arms.now)) t) st)) }
+    ensures same { IfOk result (λ c. (w : World (List ℕ)) (st : Vars) → config w entries.new.items c st
+        ≡ rest_in w entries.old.items (eval_arms w (body_in w (forms entries.old.items)) (arms_view choice.entry.arms.now) choice.entry.node
+        choice.entry.step choice.entry.next (choice.entry.next + arms_nodes (arms_view choice.entry.arms.now))
+        (last_block choice.entry.otherwise) (λ t. eval_else w (body_in w (forms entries.old.items)) (last_block choice.entry.otherwise)
+        (choice.entry.next + arms_nodes (arms_view choice.entry.arms.now)) t) st)) }
     ensures ready { IfOk result (λ c. AllReady code.now entries.new.items) }
     ensures goes { IfOk result (λ c. Goes code.now c) }
     ensures opened { IfOk result (λ c. opened (forms entries.new.items) ≡ opened (forms entries.old.items)) }
@@ -95,7 +99,9 @@ pub fn got_arm<'a>(
 ) -> Result<Control<'a>, Memory>
     requires ready { AllReady code.now entries.old.items }
     requires entry { Ready code.now (entry_of (Entry.Block (InBlock.Arm arm))) }
-    ensures same { IfOk result (λ c. (w : World (List ℕ)) (st : Vars) → config w entries.new.items c st ≡ rest_in w entries.old.items (goes_on w (forms entries.old.items) (entry_of (Entry.Block (InBlock.Arm arm.entry))) (logic.End.got (view v)) st)) }
+    ensures same { IfOk result (λ c. (w : World (List ℕ)) (st : Vars) → config w entries.new.items c st
+        ≡ rest_in w entries.old.items (goes_on w (forms entries.old.items) (entry_of (Entry.Block (InBlock.Arm arm.entry)))
+        (logic.End.got (view v)) st)) }
     ensures ready { IfOk result (λ c. AllReady code.now entries.new.items) }
     ensures goes { IfOk result (λ c. Goes code.now c) }
     ensures opened { IfOk result (λ c. opened (forms entries.new.items) ≡ opened (forms entries.old.items)) }

@@ -44,7 +44,8 @@ fn set_end(
     value: &Simple,
 ) -> Result<End, Memory>
     requires { state.old.count ≤ visits }
-    ensures same { IfOk result (λ e. (w : World (List ℕ)) (body : List ℕ → Pairs → Vals (List ℕ) → Place → Vars → Run) → w.script ≡ code.now → eval_stm w body (Stm.set name.now (at line col) (simple_view value.now)) node state.old ≡ Fin (end_of e) state.new) }
+    ensures same { IfOk result (λ e. (w : World (List ℕ)) (body : List ℕ → Pairs → Vals (List ℕ) → Place → Vars → Run) → w.script ≡ code.now
+        → eval_stm w body (Stm.set name.now (at line col) (simple_view value.now)) node state.old ≡ Fin (end_of e) state.new) }
     ensures ready { IfOk result EndReady }
     ensures visited { IfOk result (Visited state.old.count state.new.count) }
     ensures more { IfOk result (λ e. state.old.count ≤ state.new.count) }
@@ -72,7 +73,9 @@ fn add_end(
     value: &Simple,
 ) -> Result<End, Memory>
     requires { state.old.count ≤ visits }
-    ensures same { IfOk result (λ e. (w : World (List ℕ)) (body : List ℕ → Pairs → Vals (List ℕ) → Place → Vars → Run) → w.script ≡ code.now → eval_stm w body (Stm.add to.entry.name.now (at to.entry.name_line to.entry.name_col) (at to.entry.line to.entry.col) (simple_view value.now)) to.entry.node state.old ≡ Fin (end_of e) state.new) }
+    ensures same { IfOk result (λ e. (w : World (List ℕ)) (body : List ℕ → Pairs → Vals (List ℕ) → Place → Vars → Run) → w.script ≡ code.now
+        → eval_stm w body (Stm.add to.entry.name.now (at to.entry.name_line to.entry.name_col) (at to.entry.line to.entry.col)
+        (simple_view value.now)) to.entry.node state.old ≡ Fin (end_of e) state.new) }
     ensures ready { IfOk result EndReady }
     ensures visited { IfOk result (Visited state.old.count state.new.count) }
     ensures more { IfOk result (λ e. state.old.count ≤ state.new.count) }
@@ -100,7 +103,8 @@ pub fn stmt_end(
     stmt: &Stmt,
 ) -> Result<Option<End>, Memory>
     requires { state.old.count ≤ visits }
-    ensures same { IfOk result (λ o. IfSome o (λ e. (w : World (List ℕ)) (body : List ℕ → Pairs → Vals (List ℕ) → Place → Vars → Run) → w.script ≡ code.now → eval_stm w body (stm_view stmt.now) node state.old ≡ Fin (end_of e) state.new)) }
+    ensures same { IfOk result (λ o. IfSome o (λ e. (w : World (List ℕ)) (body : List ℕ → Pairs → Vals (List ℕ) → Place → Vars → Run) → w.script
+        ≡ code.now → eval_stm w body (stm_view stmt.now) node state.old ≡ Fin (end_of e) state.new)) }
     ensures ready { IfOk result (λ o. IfSome o EndReady) }
     ensures visited { IfOk result (λ o. IfSome o (Visited state.old.count state.new.count)) }
     ensures still { IfOk result (λ o. IfNone o (state.new ≡ state.old)) }
@@ -165,7 +169,9 @@ pub fn stmts_ahead<'a>(
     requires step { block.step ≤ block.next }
     requires has { HasStms (λ i. node_at code.now i) (stms_view block.rest.now) block.next }
     requires within { state.old.count ≤ visits }
-    ensures same { IfOk result (λ a. (w : World (List ℕ)) (body : List ℕ → Pairs → Vals (List ℕ) → Place → Vars → Run) → w.script ≡ code.now → eval_stms w body (stms_view block.entry.rest.now) block.entry.node block.entry.step block.entry.next state.old ≡ left_of w body a state.new) }
+    ensures same { IfOk result (λ a. (w : World (List ℕ)) (body : List ℕ → Pairs → Vals (List ℕ) → Place → Vars → Run) → w.script ≡ code.now
+        → eval_stms w body (stms_view block.entry.rest.now) block.entry.node block.entry.step block.entry.next state.old
+        ≡ left_of w body a state.new) }
     ensures stands { IfOk result (λ a. StandsAt (λ i. node_at code.now i) a) }
     ensures more { IfOk result (λ a. state.old.count ≤ state.new.count) }
     ensures within { IfOk result (λ a. state.new.count ≤ visits) }
@@ -217,7 +223,9 @@ pub fn go_stmts<'a>(
     requires step { block.step ≤ block.next }
     requires has { HasStms (λ i. node_at code.now i) (stms_view block.rest.now) block.next }
     requires within { state.old.count ≤ visits }
-    ensures same { IfOk result (λ c. (w : World (List ℕ)) → w.script ≡ code.now → config w entries.new.items c state.new ≡ rest_in w entries.old.items (eval_stms w (body_in w (forms entries.old.items)) (stms_view block.entry.rest.now) block.entry.node block.entry.step block.entry.next state.old)) }
+    ensures same { IfOk result (λ c. (w : World (List ℕ)) → w.script ≡ code.now → config w entries.new.items c state.new
+        ≡ rest_in w entries.old.items (eval_stms w (body_in w (forms entries.old.items)) (stms_view block.entry.rest.now) block.entry.node
+        block.entry.step block.entry.next state.old)) }
     ensures ready { IfOk result (λ c. AllReady code.now entries.new.items) }
     ensures goes { IfOk result (λ c. Goes code.now c) }
     ensures opened { IfOk result (λ c. opened (forms entries.new.items) ≡ opened (forms entries.old.items)) }

@@ -27,7 +27,9 @@ pub fn next_stmt<'a>(
     requires ready { AllReady code.now entries.old.items }
     requires step { block.step ≤ block.next }
     requires has { HasStms (λ i. node_at code.now i) (stms_view block.rest.now) block.next }
-    ensures same { IfOk result (λ c. (w : World (List ℕ)) (st : Vars) → config w entries.new.items c st ≡ rest_in w entries.old.items (eval_stms w (body_in w (forms entries.old.items)) (stms_view block.entry.rest.now) block.entry.node block.entry.step block.entry.next st)) }
+    ensures same { IfOk result (λ c. (w : World (List ℕ)) (st : Vars) → config w entries.new.items c st
+        ≡ rest_in w entries.old.items (eval_stms w (body_in w (forms entries.old.items)) (stms_view block.entry.rest.now) block.entry.node
+        block.entry.step block.entry.next st)) }
     ensures ready { IfOk result (λ c. AllReady code.now entries.new.items) }
     ensures goes { IfOk result (λ c. Goes code.now c) }
     ensures opened { IfOk result (λ c. opened (forms entries.new.items) ≡ opened (forms entries.old.items)) }
@@ -66,7 +68,8 @@ pub fn open_block<'a>(
 ) -> Result<Control<'a>, Memory>
     requires ready { AllReady code.now entries.old.items }
     requires has { HasBlock (λ i. node_at code.now i) node block.now }
-    ensures same { IfOk result (λ c. (w : World (List ℕ)) (st : Vars) → config w entries.new.items c st ≡ rest_in w entries.old.items (eval_block w (body_in w (forms entries.old.items)) block.entry.now node st)) }
+    ensures same { IfOk result (λ c. (w : World (List ℕ)) (st : Vars) → config w entries.new.items c st
+        ≡ rest_in w entries.old.items (eval_block w (body_in w (forms entries.old.items)) block.entry.now node st)) }
     ensures ready { IfOk result (λ c. AllReady code.now entries.new.items) }
     ensures goes { IfOk result (λ c. Goes code.now c) }
     ensures opened { IfOk result (λ c. opened (forms entries.new.items) ≡ opened (forms entries.old.items)) }

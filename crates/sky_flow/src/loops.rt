@@ -33,7 +33,9 @@ pub fn turn<'a>(
 ) -> Result<Control<'a>, Memory>
     requires ready { AllReady code.now entries.old.items }
     requires entry { Ready code.now (entry_of (Entry.Block (InBlock.WhileTest turn))) }
-    ensures same { IfOk result (λ c. (w : World (List ℕ)) (st : Vars) → st.count ≤ visits → config w entries.new.items c st ≡ rest_in w entries.old.items (go_while w (body_in w (forms entries.old.items)) turn.entry.node turn.entry.block (at turn.entry.line turn.entry.col) (exp_view turn.entry.test.now) turn.entry.body.now st)) }
+    ensures same { IfOk result (λ c. (w : World (List ℕ)) (st : Vars) → st.count ≤ visits → config w entries.new.items c st
+        ≡ rest_in w entries.old.items (go_while w (body_in w (forms entries.old.items)) turn.entry.node turn.entry.block
+        (at turn.entry.line turn.entry.col) (exp_view turn.entry.test.now) turn.entry.body.now st)) }
     ensures ready { IfOk result (λ c. AllReady code.now entries.new.items) }
     ensures goes { IfOk result (λ c. Goes code.now c) }
     ensures opened { IfOk result (λ c. opened (forms entries.new.items) ≡ opened (forms entries.old.items)) }
@@ -54,7 +56,9 @@ pub fn got_while<'a>(
 ) -> Result<Control<'a>, Memory>
     requires ready { AllReady code.now entries.old.items }
     requires entry { Ready code.now (entry_of (Entry.Block (InBlock.WhileTest turn))) }
-    ensures same { IfOk result (λ c. (w : World (List ℕ)) (st : Vars) → config w entries.new.items c st ≡ rest_in w entries.old.items (goes_on w (forms entries.old.items) (entry_of (Entry.Block (InBlock.WhileTest turn.entry))) (logic.End.got (view v)) st)) }
+    ensures same { IfOk result (λ c. (w : World (List ℕ)) (st : Vars) → config w entries.new.items c st
+        ≡ rest_in w entries.old.items (goes_on w (forms entries.old.items) (entry_of (Entry.Block (InBlock.WhileTest turn.entry)))
+        (logic.End.got (view v)) st)) }
     ensures ready { IfOk result (λ c. AllReady code.now entries.new.items) }
     ensures goes { IfOk result (λ c. Goes code.now c) }
     ensures opened { IfOk result (λ c. opened (forms entries.new.items) ≡ opened (forms entries.old.items)) }
@@ -80,7 +84,9 @@ pub fn again<'a>(
 ) -> Result<Control<'a>, Memory>
     requires ready { AllReady code.now entries.old.items }
     requires entry { Ready code.now (entry_of (Entry.Block (InBlock.RepeatBody turn))) }
-    ensures same { IfOk result (λ c. (w : World (List ℕ)) (st : Vars) → st.count ≤ visits → config w entries.new.items c st ≡ rest_in w entries.old.items (go_repeat w (body_in w (forms entries.old.items)) turn.entry.node turn.entry.test_at (at turn.entry.line turn.entry.col) turn.entry.body.now (exp_view turn.entry.test.now) st)) }
+    ensures same { IfOk result (λ c. (w : World (List ℕ)) (st : Vars) → st.count ≤ visits → config w entries.new.items c st
+        ≡ rest_in w entries.old.items (go_repeat w (body_in w (forms entries.old.items)) turn.entry.node turn.entry.test_at
+        (at turn.entry.line turn.entry.col) turn.entry.body.now (exp_view turn.entry.test.now) st)) }
     ensures ready { IfOk result (λ c. AllReady code.now entries.new.items) }
     ensures goes { IfOk result (λ c. Goes code.now c) }
     ensures opened { IfOk result (λ c. opened (forms entries.new.items) ≡ opened (forms entries.old.items)) }
@@ -101,7 +107,9 @@ pub fn test_again<'a>(
 ) -> Result<Control<'a>, Memory>
     requires ready { AllReady code.now entries.old.items }
     requires entry { Ready code.now (entry_of (Entry.Block (InBlock.RepeatBody turn))) }
-    ensures same { IfOk result (λ c. (w : World (List ℕ)) (st : Vars) → config w entries.new.items c st ≡ rest_in w entries.old.items (goes_on w (forms entries.old.items) (entry_of (Entry.Block (InBlock.RepeatBody turn.entry))) logic.End.goes st)) }
+    ensures same { IfOk result (λ c. (w : World (List ℕ)) (st : Vars) → config w entries.new.items c st
+        ≡ rest_in w entries.old.items (goes_on w (forms entries.old.items) (entry_of (Entry.Block (InBlock.RepeatBody turn.entry)))
+        logic.End.goes st)) }
     ensures ready { IfOk result (λ c. AllReady code.now entries.new.items) }
     ensures goes { IfOk result (λ c. Goes code.now c) }
     ensures opened { IfOk result (λ c. opened (forms entries.new.items) ≡ opened (forms entries.old.items)) }
@@ -121,7 +129,9 @@ pub fn got_repeat<'a>(
 ) -> Result<Control<'a>, Memory>
     requires ready { AllReady code.now entries.old.items }
     requires entry { Ready code.now (entry_of (Entry.Block (InBlock.RepeatTest turn))) }
-    ensures same { IfOk result (λ c. (w : World (List ℕ)) (st : Vars) → st.count ≤ visits → config w entries.new.items c st ≡ rest_in w entries.old.items (goes_on w (forms entries.old.items) (entry_of (Entry.Block (InBlock.RepeatTest turn.entry))) (logic.End.got (view v)) st)) }
+    ensures same { IfOk result (λ c. (w : World (List ℕ)) (st : Vars) → st.count ≤ visits → config w entries.new.items c st
+        ≡ rest_in w entries.old.items (goes_on w (forms entries.old.items) (entry_of (Entry.Block (InBlock.RepeatTest turn.entry)))
+        (logic.End.got (view v)) st)) }
     ensures ready { IfOk result (λ c. AllReady code.now entries.new.items) }
     ensures goes { IfOk result (λ c. Goes code.now c) }
     ensures opened { IfOk result (λ c. opened (forms entries.new.items) ≡ opened (forms entries.old.items)) }
@@ -149,7 +159,9 @@ pub fn got_list<'a>(
     requires entry { Ready code.now (entry_of (Entry.Block (InBlock.ForList turn))) }
     requires kept { Kept (view v) }
     requires within { state.old.count ≤ visits }
-    ensures same { IfOk result (λ c. (w : World (List ℕ)) → config w entries.new.items c state.new ≡ rest_in w entries.old.items (goes_on w (forms entries.old.items) (entry_of (Entry.Block (InBlock.ForList turn.entry))) (logic.End.got (view v)) state.old)) }
+    ensures same { IfOk result (λ c. (w : World (List ℕ)) → config w entries.new.items c state.new
+        ≡ rest_in w entries.old.items (goes_on w (forms entries.old.items) (entry_of (Entry.Block (InBlock.ForList turn.entry)))
+        (logic.End.got (view v)) state.old)) }
     ensures ready { IfOk result (λ c. AllReady code.now entries.new.items) }
     ensures goes { IfOk result (λ c. Goes code.now c) }
     ensures opened { IfOk result (λ c. opened (forms entries.new.items) ≡ opened (forms entries.old.items)) }
@@ -186,7 +198,9 @@ pub fn each<'a>(
     requires ready { AllReady code.now entries.old.items }
     requires entry { Ready code.now (entry_of (Entry.Block (InBlock.ForBody turn))) }
     requires within { state.old.count ≤ visits }
-    ensures same { IfOk result (λ c. (w : World (List ℕ)) → config w entries.new.items c state.new ≡ rest_in w entries.old.items (goes_on w (forms entries.old.items) (entry_of (Entry.Block (InBlock.ForBody turn.entry))) logic.End.goes state.old)) }
+    ensures same { IfOk result (λ c. (w : World (List ℕ)) → config w entries.new.items c state.new
+        ≡ rest_in w entries.old.items (goes_on w (forms entries.old.items) (entry_of (Entry.Block (InBlock.ForBody turn.entry))) logic.End.goes
+        state.old)) }
     ensures ready { IfOk result (λ c. AllReady code.now entries.new.items) }
     ensures goes { IfOk result (λ c. Goes code.now c) }
     ensures opened { IfOk result (λ c. opened (forms entries.new.items) ≡ opened (forms entries.old.items)) }

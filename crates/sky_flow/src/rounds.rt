@@ -47,7 +47,9 @@ fn turn_ahead<'a>(
     requires test { simple_view test.now ≡ exp_view of.now.test.now }
     requires block { HasBlock (λ i. node_at code.now i) of.now.block of.now.body.now }
     requires within { state.old.count ≤ visits }
-    ensures same { IfOk result (λ t. (w : World (List ℕ)) (d : ℕ) → w.script ≡ code.now → go_while w (body_at w d) of.now.node of.now.block (at of.now.line of.now.col) (exp_view of.now.test.now) of.now.body.now state.old ≡ turned w (body_at w d) of.now t state.new) }
+    ensures same { IfOk result (λ t. (w : World (List ℕ)) (d : ℕ) → w.script ≡ code.now
+        → go_while w (body_at w d) of.now.node of.now.block (at of.now.line of.now.col) (exp_view of.now.test.now) of.now.body.now state.old
+        ≡ turned w (body_at w d) of.now t state.new) }
     ensures stands { IfOk result (TurnStandsAt (λ i. node_at code.now i)) }
     ensures more { IfOk result (λ t. HasTurned state.old.count state.new.count t) }
     ensures within { IfOk result (λ t. state.new.count ≤ visits) }
@@ -90,7 +92,9 @@ fn turns_ahead<'a>(
     requires test { simple_view test.now ≡ exp_view of.now.test.now }
     requires block { HasBlock (λ i. node_at code.now i) of.now.block of.now.body.now }
     requires within { state.old.count ≤ visits }
-    ensures same { IfOk result (λ s. (w : World (List ℕ)) (d : ℕ) → w.script ≡ code.now → go_while w (body_at w d) of.now.node of.now.block (at of.now.line of.now.col) (exp_view of.now.test.now) of.now.body.now state.old ≡ stopped w (body_at w d) of.now s state.new) }
+    ensures same { IfOk result (λ s. (w : World (List ℕ)) (d : ℕ) → w.script ≡ code.now
+        → go_while w (body_at w d) of.now.node of.now.block (at of.now.line of.now.col) (exp_view of.now.test.now) of.now.body.now state.old
+        ≡ stopped w (body_at w d) of.now s state.new) }
     ensures stands { IfOk result (StandsAt (λ i. node_at code.now i)) }
     ensures more { IfOk result (λ s. HasStopped state.old.count state.new.count s) }
     ensures within { IfOk result (λ s. state.new.count ≤ visits) }
@@ -115,7 +119,9 @@ pub fn turns<'a>(
     requires ready { AllReady code.now entries.old.items }
     requires entry { Ready code.now (entry_of (Entry.Block (InBlock.WhileTest of))) }
     requires within { state.old.count ≤ visits }
-    ensures same { IfOk result (λ c. (w : World (List ℕ)) → w.script ≡ code.now → config w entries.new.items c state.new ≡ rest_in w entries.old.items (go_while w (body_in w (forms entries.old.items)) of.entry.node of.entry.block (at of.entry.line of.entry.col) (exp_view of.entry.test.now) of.entry.body.now state.old)) }
+    ensures same { IfOk result (λ c. (w : World (List ℕ)) → w.script ≡ code.now → config w entries.new.items c state.new
+        ≡ rest_in w entries.old.items (go_while w (body_in w (forms entries.old.items)) of.entry.node of.entry.block
+        (at of.entry.line of.entry.col) (exp_view of.entry.test.now) of.entry.body.now state.old)) }
     ensures ready { IfOk result (λ c. AllReady code.now entries.new.items) }
     ensures goes { IfOk result (λ c. Goes code.now c) }
     ensures opened { IfOk result (λ c. opened (forms entries.new.items) ≡ opened (forms entries.old.items)) }

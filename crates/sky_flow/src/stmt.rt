@@ -48,7 +48,8 @@ pub fn perform<'a>(
     requires ready { AllReady code.now entries.old.items }
     requires has { HasStm (λ i. node_at code.now i) (stm_view stmt.now) node }
     requires within { state.old.count ≤ visits }
-    ensures same { IfOk result (λ c. (w : World (List ℕ)) → config w entries.new.items c state.new ≡ rest_in w entries.old.items (eval_stm w (body_in w (forms entries.old.items)) (stm_view stmt.entry.now) node state.old)) }
+    ensures same { IfOk result (λ c. (w : World (List ℕ)) → config w entries.new.items c state.new
+        ≡ rest_in w entries.old.items (eval_stm w (body_in w (forms entries.old.items)) (stm_view stmt.entry.now) node state.old)) }
     ensures ready { IfOk result (λ c. AllReady code.now entries.new.items) }
     ensures goes { IfOk result (λ c. Goes code.now c) }
     ensures opened { IfOk result (λ c. opened (forms entries.new.items) ≡ opened (forms entries.old.items)) }
@@ -169,7 +170,9 @@ fn begin_set<'a>(
     requires ready { AllReady code.now entries.old.items }
     requires has { HasStm (λ i. node_at code.now i) (Stm.set name.now (at line col) (exp_view value.now)) node }
     requires within { state.old.count ≤ visits }
-    ensures same { IfOk result (λ c. (w : World (List ℕ)) → config w entries.new.items c state.new ≡ rest_in w entries.old.items (eval_stm w (body_in w (forms entries.old.items)) (Stm.set name.entry.now (at line col) (exp_view value.entry.now)) node state.old)) }
+    ensures same { IfOk result (λ c. (w : World (List ℕ)) → config w entries.new.items c state.new
+        ≡ rest_in w entries.old.items (eval_stm w (body_in w (forms entries.old.items))
+        (Stm.set name.entry.now (at line col) (exp_view value.entry.now)) node state.old)) }
     ensures ready { IfOk result (λ c. AllReady code.now entries.new.items) }
     ensures goes { IfOk result (λ c. Goes code.now c) }
     ensures opened { IfOk result (λ c. opened (forms entries.new.items) ≡ opened (forms entries.old.items)) }
@@ -191,9 +194,13 @@ fn begin_add<'a>(
     value: &'a Expr,
 ) -> Result<Control<'a>, Memory>
     requires ready { AllReady code.now entries.old.items }
-    requires has { HasStm (λ i. node_at code.now i) (Stm.add add.name.now (at add.name_line add.name_col) (at add.line add.col) (exp_view value.now)) add.node }
+    requires has { HasStm (λ i. node_at code.now i)
+        (Stm.add add.name.now (at add.name_line add.name_col) (at add.line add.col) (exp_view value.now)) add.node }
     requires within { state.old.count ≤ visits }
-    ensures same { IfOk result (λ c. (w : World (List ℕ)) → config w entries.new.items c state.new ≡ rest_in w entries.old.items (eval_stm w (body_in w (forms entries.old.items)) (Stm.add add.entry.name.now (at add.entry.name_line add.entry.name_col) (at add.entry.line add.entry.col) (exp_view value.entry.now)) add.entry.node state.old)) }
+    ensures same { IfOk result (λ c. (w : World (List ℕ)) → config w entries.new.items c state.new
+        ≡ rest_in w entries.old.items (eval_stm w (body_in w (forms entries.old.items))
+        (Stm.add add.entry.name.now (at add.entry.name_line add.entry.name_col) (at add.entry.line add.entry.col) (exp_view value.entry.now))
+        add.entry.node state.old)) }
     ensures ready { IfOk result (λ c. AllReady code.now entries.new.items) }
     ensures goes { IfOk result (λ c. Goes code.now c) }
     ensures opened { IfOk result (λ c. opened (forms entries.new.items) ≡ opened (forms entries.old.items)) }
@@ -216,9 +223,13 @@ fn begin_put<'a>(
     index: &'a Expr,
 ) -> Result<Control<'a>, Memory>
     requires ready { AllReady code.now entries.old.items }
-    requires has { HasStm (λ i. node_at code.now i) (Stm.put put.name.now (at put.name_line put.name_col) (at put.line put.col) (exp_view index.now) (exp_view put.value.now)) put.node }
+    requires has { HasStm (λ i. node_at code.now i)
+        (Stm.put put.name.now (at put.name_line put.name_col) (at put.line put.col) (exp_view index.now) (exp_view put.value.now)) put.node }
     requires within { state.old.count ≤ visits }
-    ensures same { IfOk result (λ c. (w : World (List ℕ)) → config w entries.new.items c state.new ≡ rest_in w entries.old.items (eval_stm w (body_in w (forms entries.old.items)) (Stm.put put.entry.name.now (at put.entry.name_line put.entry.name_col) (at put.entry.line put.entry.col) (exp_view index.entry.now) (exp_view put.entry.value.now)) put.entry.node state.old)) }
+    ensures same { IfOk result (λ c. (w : World (List ℕ)) → config w entries.new.items c state.new
+        ≡ rest_in w entries.old.items (eval_stm w (body_in w (forms entries.old.items))
+        (Stm.put put.entry.name.now (at put.entry.name_line put.entry.name_col) (at put.entry.line put.entry.col) (exp_view index.entry.now)
+        (exp_view put.entry.value.now)) put.entry.node state.old)) }
     ensures ready { IfOk result (λ c. AllReady code.now entries.new.items) }
     ensures goes { IfOk result (λ c. Goes code.now c) }
     ensures opened { IfOk result (λ c. opened (forms entries.new.items) ≡ opened (forms entries.old.items)) }
@@ -247,7 +258,8 @@ fn begin_return<'a>(
     requires ready { AllReady code.now entries.old.items }
     requires has { HasStm (λ i. node_at code.now i) (returned value (at line col)) node }
     requires within { state.old.count ≤ visits }
-    ensures same { IfOk result (λ c. (w : World (List ℕ)) → config w entries.new.items c state.new ≡ rest_in w entries.old.items (eval_stm w (body_in w (forms entries.old.items)) (returned value.entry (at line col)) node state.old)) }
+    ensures same { IfOk result (λ c. (w : World (List ℕ)) → config w entries.new.items c state.new
+        ≡ rest_in w entries.old.items (eval_stm w (body_in w (forms entries.old.items)) (returned value.entry (at line col)) node state.old)) }
     ensures ready { IfOk result (λ c. AllReady code.now entries.new.items) }
     ensures goes { IfOk result (λ c. Goes code.now c) }
     ensures opened { IfOk result (λ c. opened (forms entries.new.items) ≡ opened (forms entries.old.items)) }
@@ -279,7 +291,9 @@ fn begin_if<'a>(
     requires ready { AllReady code.now entries.old.items }
     requires has { HasStm (λ i. node_at code.now i) (Stm.cases (at line col) arms.now (last_block otherwise)) node }
     requires within { state.old.count ≤ visits }
-    ensures same { IfOk result (λ c. (w : World (List ℕ)) → config w entries.new.items c state.new ≡ rest_in w entries.old.items (eval_stm w (body_in w (forms entries.old.items)) (Stm.cases (at line col) arms.entry.now (last_block otherwise.entry)) node state.old)) }
+    ensures same { IfOk result (λ c. (w : World (List ℕ)) → config w entries.new.items c state.new
+        ≡ rest_in w entries.old.items (eval_stm w (body_in w (forms entries.old.items))
+        (Stm.cases (at line col) arms.entry.now (last_block otherwise.entry)) node state.old)) }
     ensures ready { IfOk result (λ c. AllReady code.now entries.new.items) }
     ensures goes { IfOk result (λ c. Goes code.now c) }
     ensures opened { IfOk result (λ c. opened (forms entries.new.items) ≡ opened (forms entries.old.items)) }
@@ -316,7 +330,9 @@ fn begin_while<'a>(
     requires ready { AllReady code.now entries.old.items }
     requires has { HasStm (λ i. node_at code.now i) (Stm.while (at line col) (exp_view test.now) body.now) node }
     requires within { state.old.count ≤ visits }
-    ensures same { IfOk result (λ c. (w : World (List ℕ)) → config w entries.new.items c state.new ≡ rest_in w entries.old.items (eval_stm w (body_in w (forms entries.old.items)) (Stm.while (at line col) (exp_view test.entry.now) body.entry.now) node state.old)) }
+    ensures same { IfOk result (λ c. (w : World (List ℕ)) → config w entries.new.items c state.new
+        ≡ rest_in w entries.old.items (eval_stm w (body_in w (forms entries.old.items))
+        (Stm.while (at line col) (exp_view test.entry.now) body.entry.now) node state.old)) }
     ensures ready { IfOk result (λ c. AllReady code.now entries.new.items) }
     ensures goes { IfOk result (λ c. Goes code.now c) }
     ensures opened { IfOk result (λ c. opened (forms entries.new.items) ≡ opened (forms entries.old.items)) }
@@ -355,7 +371,9 @@ fn begin_do<'a>(
     requires ready { AllReady code.now entries.old.items }
     requires has { HasStm (λ i. node_at code.now i) (Stm.repeat (at line col) body.now (exp_view test.now)) node }
     requires within { state.old.count ≤ visits }
-    ensures same { IfOk result (λ c. (w : World (List ℕ)) → config w entries.new.items c state.new ≡ rest_in w entries.old.items (eval_stm w (body_in w (forms entries.old.items)) (Stm.repeat (at line col) body.entry.now (exp_view test.entry.now)) node state.old)) }
+    ensures same { IfOk result (λ c. (w : World (List ℕ)) → config w entries.new.items c state.new
+        ≡ rest_in w entries.old.items (eval_stm w (body_in w (forms entries.old.items))
+        (Stm.repeat (at line col) body.entry.now (exp_view test.entry.now)) node state.old)) }
     ensures ready { IfOk result (λ c. AllReady code.now entries.new.items) }
     ensures goes { IfOk result (λ c. Goes code.now c) }
     ensures opened { IfOk result (λ c. opened (forms entries.new.items) ≡ opened (forms entries.old.items)) }
@@ -395,7 +413,9 @@ fn begin_for<'a>(
     requires ready { AllReady code.now entries.old.items }
     requires has { HasStm (λ i. node_at code.now i) (Stm.for (at line col) name.now (exp_view list.now) body.now) node }
     requires within { state.old.count ≤ visits }
-    ensures same { IfOk result (λ c. (w : World (List ℕ)) → config w entries.new.items c state.new ≡ rest_in w entries.old.items (eval_stm w (body_in w (forms entries.old.items)) (Stm.for (at line col) name.entry.now (exp_view list.entry.now) body.entry.now) node state.old)) }
+    ensures same { IfOk result (λ c. (w : World (List ℕ)) → config w entries.new.items c state.new
+        ≡ rest_in w entries.old.items (eval_stm w (body_in w (forms entries.old.items))
+        (Stm.for (at line col) name.entry.now (exp_view list.entry.now) body.entry.now) node state.old)) }
     ensures ready { IfOk result (λ c. AllReady code.now entries.new.items) }
     ensures goes { IfOk result (λ c. Goes code.now c) }
     ensures opened { IfOk result (λ c. opened (forms entries.new.items) ≡ opened (forms entries.old.items)) }
@@ -433,7 +453,9 @@ fn begin_just<'a>(
     requires ready { AllReady code.now entries.old.items }
     requires has { HasStm (λ i. node_at code.now i) (Stm.just (at line col) (exp_view inner.now)) node }
     requires within { state.old.count ≤ visits }
-    ensures same { IfOk result (λ c. (w : World (List ℕ)) → config w entries.new.items c state.new ≡ rest_in w entries.old.items (eval_stm w (body_in w (forms entries.old.items)) (Stm.just (at line col) (exp_view inner.entry.now)) node state.old)) }
+    ensures same { IfOk result (λ c. (w : World (List ℕ)) → config w entries.new.items c state.new
+        ≡ rest_in w entries.old.items (eval_stm w (body_in w (forms entries.old.items)) (Stm.just (at line col) (exp_view inner.entry.now)) node
+        state.old)) }
     ensures ready { IfOk result (λ c. AllReady code.now entries.new.items) }
     ensures goes { IfOk result (λ c. Goes code.now c) }
     ensures opened { IfOk result (λ c. opened (forms entries.new.items) ≡ opened (forms entries.old.items)) }
@@ -449,7 +471,8 @@ fn begin_just<'a>(
 /// `x = e;` with the value.
 pub fn set(state: &mut State, set: Set, v: Value) -> Result<End, Memory>
     requires kept { Kept (view v) }
-    ensures same { IfOk result (λ e. (w : World (List ℕ)) (body : List ℕ → Pairs → Vals (List ℕ) → Place → Vars → Run) → after w body (entry_of (Entry.Stmt (InStmt.Set set.entry))) (logic.End.got (view v)) state.old ≡ Fin (end_of e) state.new) }
+    ensures same { IfOk result (λ e. (w : World (List ℕ)) (body : List ℕ → Pairs → Vals (List ℕ) → Place → Vars → Run)
+        → after w body (entry_of (Entry.Stmt (InStmt.Set set.entry))) (logic.End.got (view v)) state.old ≡ Fin (end_of e) state.new) }
     ensures ready { IfOk result EndReady }
     ensures count { IfOk result (λ e. state.new.count ≡ state.old.count) }
 {
@@ -460,7 +483,8 @@ pub fn set(state: &mut State, set: Set, v: Value) -> Result<End, Memory>
 /// `x += e;` with the value.
 pub fn add(alloc: Global, state: &mut State, add: Add, v: Value) -> Result<End, Memory>
     requires kept { Kept (view v) }
-    ensures same { IfOk result (λ e. (w : World (List ℕ)) (body : List ℕ → Pairs → Vals (List ℕ) → Place → Vars → Run) → after w body (entry_of (Entry.Stmt (InStmt.Add add.entry))) (logic.End.got (view v)) state.old ≡ Fin (end_of e) state.new) }
+    ensures same { IfOk result (λ e. (w : World (List ℕ)) (body : List ℕ → Pairs → Vals (List ℕ) → Place → Vars → Run)
+        → after w body (entry_of (Entry.Stmt (InStmt.Add add.entry))) (logic.End.got (view v)) state.old ≡ Fin (end_of e) state.new) }
     ensures ready { IfOk result EndReady }
     ensures count { IfOk result (λ e. state.new.count ≡ state.old.count) }
 {
@@ -489,7 +513,9 @@ pub fn put_index<'a>(
     requires ready { AllReady code.now entries.old.items }
     requires entry { Ready code.now (entry_of (Entry.Stmt (InStmt.PutIndex put))) }
     requires kept { Kept (view v) }
-    ensures same { IfOk result (λ c. (w : World (List ℕ)) (st : Vars) → config w entries.new.items c st ≡ rest_in w entries.old.items (goes_on w (forms entries.old.items) (entry_of (Entry.Stmt (InStmt.PutIndex put.entry))) (logic.End.got (view v)) st)) }
+    ensures same { IfOk result (λ c. (w : World (List ℕ)) (st : Vars) → config w entries.new.items c st
+        ≡ rest_in w entries.old.items (goes_on w (forms entries.old.items) (entry_of (Entry.Stmt (InStmt.PutIndex put.entry)))
+        (logic.End.got (view v)) st)) }
     ensures ready { IfOk result (λ c. AllReady code.now entries.new.items) }
     ensures goes { IfOk result (λ c. Goes code.now c) }
     ensures opened { IfOk result (λ c. opened (forms entries.new.items) ≡ opened (forms entries.old.items)) }
@@ -524,7 +550,8 @@ pub fn put_index<'a>(
 pub fn put_value(state: &mut State, put: PutValue, v: Value) -> Result<End, Memory>
     requires at { Kept (view put.at) }
     requires kept { Kept (view v) }
-    ensures same { IfOk result (λ e. (w : World (List ℕ)) (body : List ℕ → Pairs → Vals (List ℕ) → Place → Vars → Run) → after w body (entry_of (Entry.Stmt (InStmt.PutValue put.entry))) (logic.End.got (view v)) state.old ≡ Fin (end_of e) state.new) }
+    ensures same { IfOk result (λ e. (w : World (List ℕ)) (body : List ℕ → Pairs → Vals (List ℕ) → Place → Vars → Run)
+        → after w body (entry_of (Entry.Stmt (InStmt.PutValue put.entry))) (logic.End.got (view v)) state.old ≡ Fin (end_of e) state.new) }
     ensures ready { IfOk result EndReady }
     ensures count { IfOk result (λ e. state.new.count ≡ state.old.count) }
 {

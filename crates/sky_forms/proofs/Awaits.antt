@@ -13,7 +13,8 @@ seen_after f (Seen.lacks d) ds rows st = Out.cut (Cutoff.waits d) rows
 seen_after None (Seen.all os) ds rows st = exec_end ds os rows st
 seen_after (Some f) (Seen.all os) ds rows st = Out.cut (Cutoff.fault f) rows
 
-pub seen_step : (f : Option Fault) (o : Obj) (s : Seen) (ds rows : List Row) (st : Vars) → seen_after f (seen_more o s) ds rows st ≡ seen_after (fault_first f o) s ds rows st
+pub seen_step : (f : Option Fault) (o : Obj) (s : Seen) (ds rows : List Row) (st : Vars) → seen_after f (seen_more o s) ds rows st
+    ≡ seen_after (fault_first f o) s ds rows st
 seen_step None (Object.bytes b) (Seen.all os) ds rows st = refl
 seen_step None (Object.data_of v) (Seen.all os) ds rows st = refl
 seen_step None (Object.fault f) (Seen.all os) ds rows st = refl

@@ -15,7 +15,8 @@ ghost use Rattle.sky_rows.specs.Walk.{Row, look, known_of};
 ghost use Rattle.sky_scope.specs.Plain as plain;
 ghost use Rattle.sky_scope.specs.Plain.{Val, Pairs, Out, Answer, Vars, visit, formed, spawned, input_of, called, exec_seen, signed, outputs_of};
 ghost use Rattle.sky_forms.specs.GroundView.{ground_of};
-ghost use Rattle.sky_scope.specs.RunView.{Comes, given, KeptPairs, DecidesAt, Learns, LearnsAll, Wanted, WaitsForAll, GoesOn, SignsOn, three_vals, fault_first, cut_of};
+ghost use Rattle.sky_scope.specs.RunView.{Comes, given, KeptPairs, DecidesAt, Learns, LearnsAll, Wanted, WaitsForAll, GoesOn, SignsOn, three_vals};
+ghost use Rattle.sky_scope.specs.RunView.{fault_first, cut_of};
 
 use crate::ground::Ground;
 use sky_base::fault::{Fault, FaultKind};
@@ -75,7 +76,8 @@ pub fn give_exact(
 /// By a truth value; BadKind at its place.
 pub fn decide(v: &Value, line: u32, col: u32) -> Result<bool, Cut>
     ensures decides { DecidesAt result (view v.now) (at line col) }
-    ensures truth { IfErr result (λ c. (rows : List Row) (k : Val → Out) → plain.answer (run.truth_of (view v.now)) (at line col) rows k ≡ Out.cut (cut_of c) rows) }
+    ensures truth { IfErr result (λ c. (rows : List Row) (k : Val → Out) → plain.answer (run.truth_of (view v.now)) (at line col) rows k
+        ≡ Out.cut (cut_of c) rows) }
 {
     match truth(v) {
         Ok(b) => Ok(b),
@@ -91,7 +93,8 @@ pub fn named(
     line: u32,
     col: u32,
 ) -> Result<Value, Cut>
-    ensures answer { (rows : List Row) → Comes result rows state.new (given (run.named (op.find name.now state.old.vars) name.now (ground_of ground.now).script.funs) (at line col) rows state.old) }
+    ensures answer { (rows : List Row) → Comes result rows state.new
+        (given (run.named (op.find name.now state.old.vars) name.now (ground_of ground.now).script.funs) (at line col) rows state.old) }
     ensures kept { IfOk result (λ v. Kept (view v)) }
 {
     let answer = match state.find(name)? {
@@ -109,7 +112,8 @@ pub fn function(
     line: u32,
     col: u32,
 ) -> Result<Value, Cut>
-    ensures answer { (rows : List Row) → Comes result rows state.new (given (run.closed (run.find_fun name.now (ground_of ground.now).script.funs) name.now state.old.vars) (at line col) rows state.old) }
+    ensures answer { (rows : List Row) → Comes result rows state.new
+        (given (run.closed (run.find_fun name.now (ground_of ground.now).script.funs) name.now state.old.vars) (at line col) rows state.old) }
     ensures kept { IfOk result (λ v. Kept (view v)) }
 {
     let answer = closed(ground.alloc, ground.script, state, name);
@@ -136,7 +140,8 @@ pub fn spawn(
     line: u32,
     col: u32,
 ) -> Result<Value, Cut>
-    ensures answer { Comes result rows.new state.new (visit (at line col) rows.old state.old (λ s. spawned (ground_of ground.now) (view fun.now) (view args.now) (at line col) rows.old s)) }
+    ensures answer { Comes result rows.new state.new
+        (visit (at line col) rows.old state.old (λ s. spawned (ground_of ground.now) (view fun.now) (view args.now) (at line col) rows.old s)) }
     ensures kept { IfOk result (λ v. Kept (view v)) }
 {
     state.visit(line, col)?;
@@ -170,7 +175,8 @@ pub fn input(
     line: u32,
     col: u32,
 ) -> Result<Value, Cut>
-    ensures answer { Comes result rows.new state.new (visit (at line col) rows.old state.old (λ s. input_of (ground_of ground.now) (view key.now) (at line col) rows.old s)) }
+    ensures answer { Comes result rows.new state.new
+        (visit (at line col) rows.old state.old (λ s. input_of (ground_of ground.now) (view key.now) (at line col) rows.old s)) }
     ensures kept { IfOk result (λ v. Kept (view v)) }
 {
     state.visit(line, col)?;
@@ -257,7 +263,9 @@ pub fn spawn_exec(
     line: u32,
     col: u32,
 ) -> Result<Value, Cut>
-    ensures answer { Comes result rows.new state.new (visit (at line col) rows.old state.old (λ s. formed (ground_of ground.now) Form.spawn_exec (three_vals (view executor.now) (view args.now) (view count.now)) (at line col) rows.old s)) }
+    ensures answer { Comes result rows.new state.new
+        (visit (at line col) rows.old state.old (λ s. formed (ground_of ground.now) Form.spawn_exec
+        (three_vals (view executor.now) (view args.now) (view count.now)) (at line col) rows.old s)) }
     ensures kept { IfOk result (λ v. Kept (view v)) }
 {
     state.visit(line, col)?;
@@ -276,7 +284,9 @@ pub fn exec(
     line: u32,
     col: u32,
 ) -> Result<Value, Cut>
-    ensures answer { Comes result rows.new state.new (visit (at line col) rows.old state.old (λ s. formed (ground_of ground.now) Form.exec (three_vals (view executor.now) (view args.now) (view count.now)) (at line col) rows.old s)) }
+    ensures answer { Comes result rows.new state.new
+        (visit (at line col) rows.old state.old (λ s. formed (ground_of ground.now) Form.exec
+        (three_vals (view executor.now) (view args.now) (view count.now)) (at line col) rows.old s)) }
     ensures kept { IfOk result (λ v. Kept (view v)) }
 {
     state.visit(line, col)?;
@@ -290,7 +300,8 @@ pub fn exec(
 /// Whether all of these are known and none is a fault: stops at the first that isn't known, else at
 /// the first fault.
 fn wait_for_all(objects: &Objects, names: &Names) -> Result<(), Cut>
-    ensures { let ds = known_names names.now in (rows : List Row) (st : Vars) → WaitsForAll result ds rows st (exec_seen (look (known_of objects.now) ds) ds rows st) }
+    ensures { let ds = known_names names.now in (rows : List Row) (st : Vars)
+        → WaitsForAll result ds rows st (exec_seen (look (known_of objects.now) ds) ds rows st) }
 {
     let mut first = None;
     for name in names.as_slice() {
@@ -357,7 +368,8 @@ fn sign(ground: &Ground, sign: SignOp, v: &Value, line: u32, col: u32) -> Result
 
 /// What a sign makes of a value, which it visits.
 fn signed(ground: &Ground, state: &mut State, at: SignAt, v: &Value) -> Result<Value, Cut>
-    ensures answer { SignsOn result state.new (λ rows k. visit (place at.line at.col) rows state.old (λ s. signed (ground_of ground.now) (sign_view at.sign) (view v.now) (place at.line at.col) rows (k s))) }
+    ensures answer { SignsOn result state.new (λ rows k. visit (place at.line at.col) rows state.old
+        (λ s. signed (ground_of ground.now) (sign_view at.sign) (view v.now) (place at.line at.col) rows (k s))) }
     ensures kept { IfOk result (λ v. Kept (view v)) }
 {
     state.visit(at.line, at.col)?;
@@ -372,7 +384,8 @@ pub fn signs(
     first: Value,
 ) -> Result<Value, Cut>
     requires { Kept (view first) }
-    ensures answer { (rows : List Row) → Comes result rows state.new (plain.signs (ground_of ground.now) (reverse (signs_view signs.now)) (view first) rows state.old) }
+    ensures answer { (rows : List Row) → Comes result rows state.new
+        (plain.signs (ground_of ground.now) (reverse (signs_view signs.now)) (view first) rows state.old) }
     ensures kept { IfOk result (λ v. Kept (view v)) }
 {
     let mut v = first;
@@ -404,9 +417,11 @@ pub fn callee<'a>(
     col: u32,
 ) -> Result<Callable<'a>, Cut>
     requires { Kept (view f.now) }
-    ensures ok { IfOk result (λ g. (rows : List Row) (k : List ℕ → Pairs → Out) → called (ground_of ground.now) (view f.now) args.now (at line col) rows k ≡ k g.name.now g.caught.now) }
+    ensures ok { IfOk result (λ g. (rows : List Row) (k : List ℕ → Pairs → Out)
+        → called (ground_of ground.now) (view f.now) args.now (at line col) rows k ≡ k g.name.now g.caught.now) }
     ensures kept { IfOk result (λ g. KeptPairs g.caught.now) }
-    ensures cut { IfErr result (λ c. (rows : List Row) (k : List ℕ → Pairs → Out) → called (ground_of ground.now) (view f.now) args.now (at line col) rows k ≡ Out.cut (cut_of c) rows) }
+    ensures cut { IfErr result (λ c. (rows : List Row) (k : List ℕ → Pairs → Out)
+        → called (ground_of ground.now) (view f.now) args.now (at line col) rows k ≡ Out.cut (cut_of c) rows) }
 {
     let Value::Fun { name, caught } = f else {
         return Err(fault(FaultKind::BadKind, line, col));

@@ -22,7 +22,8 @@ use std::alloc::Global;
 
 /// A literal, visited.
 pub fn literal_given(state: &mut State, value: &Lit, line: u32, col: u32) -> Result<Value, Cut>
-    ensures answer { (rows : List Row) → Comes result rows state.new (given (op.limited (run.lit_val (lit_view value.now))) (at line col) rows state.old) }
+    ensures answer { (rows : List Row) → Comes result rows state.new
+        (given (op.limited (run.lit_val (lit_view value.now))) (at line col) rows state.old) }
     ensures kept { IfOk result (λ v. Kept (view v)) }
 {
     give(state, literal(value), line, col)
@@ -44,7 +45,8 @@ pub fn dict_given(
     line: u32,
     col: u32,
 ) -> Result<Value, Cut>
-    ensures answer { (rows : List Row) → Comes result rows state.new (given (op.dict_from (plain.items parts.now) no_pairs) (at line col) rows state.old) }
+    ensures answer { (rows : List Row) → Comes result rows state.new
+        (given (op.dict_from (plain.items parts.now) no_pairs) (at line col) rows state.old) }
     ensures kept { IfOk result (λ v. Kept (view v)) }
 {
     give(state, dictionary(alloc, parts), line, col)
@@ -59,7 +61,8 @@ pub fn compared_given(
     line: u32,
     col: u32,
 ) -> Result<Value, Cut>
-    ensures answer { (rows : List Row) → Comes result rows state.new (given (op.compare (order_view how) (view a.now) (view b.now)) (at line col) rows state.old) }
+    ensures answer { (rows : List Row) → Comes result rows state.new
+        (given (op.compare (order_view how) (view a.now) (view b.now)) (at line col) rows state.old) }
     ensures kept { IfOk result (λ v. Kept (view v)) }
 {
     give_exact(state, compared(how, a, b), line, col)

@@ -7,7 +7,8 @@ ghost use Rattle.sky_base.specs.Name.{bytes};
 ghost use Rattle.sky_base.specs.View.{view, pairs_of};
 ghost use Rattle.sky_frozen.specs.Bytes.{counted, todo_bytes, vars_bytes, frame_bytes, run_bytes, frozen_bytes};
 ghost use Rattle.sky_frozen.specs.Codes.{ReadAs, NoneAs, Counted};
-ghost use Rattle.sky_frozen.specs.Spelled.{TodoSpelled, EachKept, VarsSpelled, lists_bytes, ListsSpelled, FrameSpelled, RunSpelled, show_bytes, ShowSpelled, KindRead, NoKind, NoHead, StandSpelled, NoStand, IfBad};
+ghost use Rattle.sky_frozen.specs.Spelled.{TodoSpelled, EachKept, VarsSpelled, lists_bytes, ListsSpelled, FrameSpelled, RunSpelled, show_bytes};
+ghost use Rattle.sky_frozen.specs.Spelled.{ShowSpelled, KindRead, NoKind, NoHead, StandSpelled, NoStand, IfBad};
 ghost use Rattle.sky_state.specs.StandView.{todo_view, todos_view, stack_view, frame_view, frames_view};
 ghost use Rattle.sky_state.specs.StateView.{stand_of, spawned_of};
 
@@ -187,7 +188,8 @@ fn read_frames(alloc: Global, reader: &mut Reader) -> Result<Vec<Frame>, Decode>
 
 /// The run of a call, with nothing made.
 fn read_run(alloc: Global, reader: &mut Reader) -> Result<RunState, Decode>
-    ensures read { IfOk result (λ r. ReadAs run_bytes RunSpelled reader.old (record { frames = r.frames; count = r.count; waits = r.waits }) reader.new) }
+    ensures read { IfOk result (λ r. ReadAs run_bytes RunSpelled reader.old (record { frames = r.frames; count = r.count; waits = r.waits })
+        reader.new) }
     ensures spawned { IfOk result (λ r. r.spawned ≡ []) }
     ensures refused { IfErr result (λ e. Refuses e (NoneAs run_bytes RunSpelled reader.old)) }
 {

@@ -36,7 +36,8 @@ fn put_show(out: &mut Writer, value: &Value, wave: u32) -> Result<(), Memory>
 
 #[tactic(auto, using(ciel_name::proofs::Numbers::appends))]
 fn put_run(out: &mut Writer, run: &RunState) -> Result<(), Memory>
-    ensures { IfOk result (λ _. out.new ≡ out.old ++ frozen_bytes (Stand.run (record { frames = run.now.frames; count = run.now.count; waits = run.now.waits }))) }
+    ensures { IfOk result (λ _. out.new ≡ out.old
+        ++ frozen_bytes (Stand.run (record { frames = run.now.frames; count = run.now.count; waits = run.now.waits }))) }
 {
     out.raw(b"K\x01\x00")?;
     out.number(run.count)?;

@@ -3,7 +3,9 @@ use Rattle.std.proofs.Common.{◌≡◌, List, [], ◌∷◌, sym, ◌∙◌}
 use Rattle.sky_base.specs.Tree.{Place, Form, Junction, SignAt}
 use Rattle.sky_text.specs.declared.token.TokenKind.{TokenKind}
 use Rattle.sky_text.specs.declared.token.Token.{Token}
-use Rattle.sky_grammar.specs.Grammar.{Mark, Fun, started, spell, spell_signs, spell_exps, spell_others, spell_pairs, spell_value, spell_other_pairs, spell_links, spell_ands, spell_steps, spell_test, spell_stm, spell_stms, spell_arms, spell_other_arms, spell_else, spell_block, spell_other_params, spell_params, spell_fun, Fits, Follows}
+use Rattle.sky_grammar.specs.Grammar.{Mark, Fun, started, spell, spell_signs, spell_exps, spell_others, spell_pairs, spell_value, spell_other_pairs}
+use Rattle.sky_grammar.specs.Grammar.{spell_links, spell_ands, spell_steps, spell_test, spell_stm, spell_stms, spell_arms, spell_other_arms}
+use Rattle.sky_grammar.specs.Grammar.{spell_else, spell_block, spell_other_params, spell_params, spell_fun, Fits, Follows}
 use Rattle.sky_grammar.specs.Source.{Param}
 use Rattle.sky_grammar.specs.Machine.{kind}
 use Rattle.sky_grammar.proofs.Exact.{fits_kind}

@@ -1,5 +1,6 @@
 -- Where reading stops is the place of the first token with which the tokens begin no sentence.
-use Rattle.std.proofs.Common.{◌≡◌, ◌⊎◌, inl, inr, ℕ, suc, ◌+◌, ◌-◌, ◌≤◌, ◌<◌, Bool, true, false, cond, List, [], ◌∷◌, ◌++◌, length, take, drop, Option, Some, None, refl, sym, ap, subst, ◌∙◌, arith, append_assoc, length-append}
+use Rattle.std.proofs.Common.{◌≡◌, ◌⊎◌, inl, inr, ℕ, suc, ◌+◌, ◌-◌, ◌≤◌, ◌<◌, Bool, true, false, cond, List, [], ◌∷◌, ◌++◌, length, take, drop}
+use Rattle.std.proofs.Common.{Option, Some, None, refl, sym, ap, subst, ◌∙◌, arith, append_assoc, length-append}
 use Rattle.std.proofs.Math.Seq.{take-append_seam, take-append-add}
 use Rattle.std.proofs.lemmas.List.{take-take, take-append-drop}
 use Rattle.std.proofs.lemmas.Bool.{cases_order}
@@ -48,7 +49,9 @@ done_end : (b : Bool) (k : List Item) → (b ≡ true → Stack k []) → cond b
 done_end true k f e = f refl
 done_end false k f e = absurd cc
 
-done_step : (k : List Item) (t : Token) (us : List Token) (o : Option (List Item)) → goes o (λ l. run l (kinds us)) (Out.stuck (suc (length (kinds us)))) ≡ Out.done → ((l : List Item) → run l (kinds us) ≡ Out.done → Stack l us) → Leads o us (Stack k (t ∷ us)) → Stack k (t ∷ us)
+done_step : (k : List Item) (t : Token) (us : List Token) (o : Option (List Item))
+    → goes o (λ l. run l (kinds us)) (Out.stuck (suc (length (kinds us)))) ≡ Out.done
+    → ((l : List Item) → run l (kinds us) ≡ Out.done → Stack l us) → Leads o us (Stack k (t ∷ us)) → Stack k (t ∷ us)
 done_step k t us None e ih back = absurd cc
 done_step k t us (Some l) e ih back = back (ih l e)
 
@@ -61,7 +64,8 @@ pub spelled : (ts : List Token) → run (Item.tops ∷ []) (kinds ts) ≡ Out.do
 spelled ts e = spells_of ts (all_read (Item.tops ∷ []) ts e)
 
 abbrev Refused : List Item → List Token → ℕ → Type 0
-Refused k ts n = (front : List Token) × (rest : List Token) × (ts ≡ front ++ rest) × (length rest ≡ n) × ((more : List Token) × Stack k (front ++ more))
+Refused k ts n = (front : List Token) × (rest : List Token) × (ts ≡ front ++ rest) × (length rest ≡ n)
+    × ((more : List Token) × Stack k (front ++ more))
     × ((t : Token) (after : List Token) → rest ≡ t ∷ after → (more : List TokenKind) → run k (kinds front ++ t.kind ∷ more) ≡ Out.done → ⊥)
 
 refused_end : (b : Bool) (k : List Item) (n : ℕ) → cond b Out.done (Out.stuck 0) ≡ Out.stuck n → Refused k [] n
@@ -70,8 +74,10 @@ refused_end false k n e =
     let same : ◌≡◌ {A = ℕ} 0 n = cc in
     ([], [], refl, same, fill k, λ t after h more r. absurd cc)
 
-refused_step : (k : List Item) (t : Token) (us : List Token) (n : ℕ) (o : Option (List Item)) → step k t.kind ≡ o → goes o (λ l. run l (kinds us)) (Out.stuck (suc (length (kinds us)))) ≡ Out.stuck n
-    → ((l : List Item) → run l (kinds us) ≡ Out.stuck n → Refused l us n) → ((more : List Token) → Leads o more (Stack k (t ∷ more))) → Refused k (t ∷ us) n
+refused_step : (k : List Item) (t : Token) (us : List Token) (n : ℕ) (o : Option (List Item)) → step k t.kind ≡ o
+    → goes o (λ l. run l (kinds us)) (Out.stuck (suc (length (kinds us)))) ≡ Out.stuck n
+    → ((l : List Item) → run l (kinds us) ≡ Out.stuck n → Refused l us n) → ((more : List Token) → Leads o more (Stack k (t ∷ more)))
+    → Refused k (t ∷ us) n
 refused_step k t us n None e r ih back =
     let same : suc (length (kinds us)) ≡ n = cc in (
       [],
@@ -101,7 +107,8 @@ refused k [] n e = refused_end (ends k) k n e
 refused k (t ∷ us) n e = refused_step k t us n (step k t.kind) refl e (λ l r. refused l us n r) (λ more. back_step k t more)
 
 -- with the token at which reading stops, the tokens begin no sentence
-dead : (front rest : List Token) → ((t : Token) (after : List Token) → rest ≡ t ∷ after → (more : List TokenKind) → run (Item.tops ∷ []) (kinds front ++ t.kind ∷ more) ≡ Out.done → ⊥)
+dead : (front rest : List Token) → ((t : Token) (after : List Token) → rest ≡ t ∷ after → (more : List TokenKind)
+    → run (Item.tops ∷ []) (kinds front ++ t.kind ∷ more) ≡ Out.done → ⊥)
     → length front < length (front ++ rest) → Begins (take (length front + 1) (front ++ rest)) → ⊥
 dead front [] d h b = absurd (omega (arith, length-append front []))
 dead front (t ∷ after) d h b =
@@ -111,7 +118,8 @@ dead front (t ∷ after) d h b =
     d t after refl (kinds b.1) (sym (ap (run (Item.tops ∷ [])) all) ∙ accepted b.0 ((front ++ t ∷ []) ++ b.1) s)
 
 placed : (ts front rest : List Token) (n : ℕ) → ts ≡ front ++ rest → length rest ≡ n → Begins front
-    → ((t : Token) (after : List Token) → rest ≡ t ∷ after → (more : List TokenKind) → run (Item.tops ∷ []) (kinds front ++ t.kind ∷ more) ≡ Out.done → ⊥)
+    → ((t : Token) (after : List Token) → rest ≡ t ∷ after → (more : List TokenKind) → run (Item.tops ∷ []) (kinds front ++ t.kind ∷ more)
+    ≡ Out.done → ⊥)
     → ((tops : List Top) → Spells tops ts → ⊥) → IsRefused ts (length ts - n)
 placed ts front rest n e l b d none =
     let count : length ts - n ≡ length front = omega (arith, ap length e, length-append front rest, l) in
@@ -136,8 +144,10 @@ stuck_within ts n e = let x = refused (Item.tops ∷ []) ts n e in omega (arith,
 begins_less : (ts : List Token) (m n : ℕ) → m ≤ n → Begins (take n ts) → Begins (take m ts)
 begins_less ts m n h b =
     let front : take m (take n ts) ≡ take m ts = take-take m n ts h in
-    let split : take m ts ++ drop m (take n ts) ≡ take n ts = subst (λ (us : List Token). us ++ drop m (take n ts) ≡ take n ts) front (take-append-drop m (take n ts)) in
-    let all : take m ts ++ (drop m (take n ts) ++ b.1) ≡ take n ts ++ b.1 = sym (append_assoc (take m ts) (drop m (take n ts)) b.1) ∙ ap (λ (us : List Token). us ++ b.1) split in
+    let split : take m ts ++ drop m (take n ts) ≡ take n ts =
+    subst (λ (us : List Token). us ++ drop m (take n ts) ≡ take n ts) front (take-append-drop m (take n ts)) in
+    let all : take m ts ++ (drop m (take n ts) ++ b.1) ≡ take n ts ++ b.1 = sym (append_assoc (take m ts) (drop m (take n ts)) b.1)
+    ∙ ap (λ (us : List Token). us ++ b.1) split in
     (b.0, drop m (take n ts) ++ b.1, subst (λ (us : List Token). Spells b.0 us) (sym all) b.2)
 
 not_before : (ts : List Token) (m n : ℕ) → IsRefused ts m → IsRefused ts n → m < n → ⊥
@@ -151,7 +161,8 @@ one_place ts m n p q = one_of (cases_order m n)
     one_of (inr (inl h)) = absurd (not_before ts m n p q h)
     one_of (inr (inr h)) = absurd (not_before ts n m q p h)
 
-either_way : (ts : List Token) (o : Out) → run (Item.tops ∷ []) (kinds ts) ≡ o → ((tops : List Top) × Spells tops ts) ⊎ ((n : ℕ) × IsRefused ts n × ((m : ℕ) → IsRefused ts m → m ≡ n))
+either_way : (ts : List Token) (o : Out) → run (Item.tops ∷ []) (kinds ts) ≡ o → ((tops : List Top) × Spells tops ts)
+    ⊎ ((n : ℕ) × IsRefused ts n × ((m : ℕ) → IsRefused ts m → m ≡ n))
 either_way ts Out.done e = inl (spelled ts e)
 either_way ts (Out.stuck n) e = let x = exact ts n e in inr (length ts - n, x, λ m y. one_place ts m (length ts - n) y x)
 

@@ -49,7 +49,8 @@ no_tail Level.Product rest = (Links.no_links, tt, λ more f. f)
 no_tail Level.Prefix rest = refl
 
 -- so many parts, each behind a comma
-more_parts : (j : ℕ) (s : Sign) (rest : List Token) → (ts : List Token) × (es : Exps) × AreTrees es × (exps_count es ≡ j) × Spelled (λ more. spell_others es (sign s ∷ more)) ts rest
+more_parts : (j : ℕ) (s : Sign) (rest : List Token) → (ts : List Token) × (es : Exps) × AreTrees es × (exps_count es ≡ j)
+    × Spelled (λ more. spell_others es (sign s ∷ more)) ts rest
 unfolding a_name a_sign a_token
 more_parts zero s rest = (a_sign s ∷ rest, Exps.no_exps, tt, refl, λ more f. (refl, f))
 more_parts (suc j) s rest =
@@ -58,7 +59,10 @@ more_parts (suc j) s rest =
 
 some_pairs : (b : Bool) (rest : List Token) → (ts : List Token) × Pairs b ts rest
 unfolding a_name a_sign a_token
-some_pairs true rest = (a_sign Sign.Colon ∷ a_name ∷ a_sign Sign.CloseCurly ∷ rest, (Exps.exp (Exp.name [] (place a_name)) Exps.no_exps, (tt, tt), refl, λ more f. (refl, ((refl, refl), (refl, f)))))
+some_pairs true rest = (
+  a_sign Sign.Colon ∷ a_name ∷ a_sign Sign.CloseCurly ∷ rest,
+  (Exps.exp (Exp.name [] (place a_name)) Exps.no_exps, (tt, tt), refl, λ more f. (refl, ((refl, refl), (refl, f)))),
+)
 some_pairs false rest = (a_sign Sign.CloseCurly ∷ rest, (Exps.no_exps, tt, refl, λ more f. (refl, f)))
 
 some_others : (h : Shape) (n : ℕ) (rest : List Token) → (ts : List Token) × Others h n ts rest
@@ -70,7 +74,8 @@ some_others Shape.Pairs n rest = some_pairs (n % 2 == 1) rest
 some_parts : (h : Shape) (rest : List Token) → (ts : List Token) × Parts h ts rest
 unfolding a_name a_sign a_token
 some_parts (Shape.Many s) rest = (a_sign s ∷ rest, λ u. (Exps.no_exps, tt, tt, λ more f. (refl, f)))
-some_parts (Shape.Fixed m s) rest = let x = more_parts (m - 1) s rest in (a_name ∷ x.0, λ h. (Exps.exp (Exp.name [] (place a_name)) x.1, (tt, x.2), omega (arith, h, x.3), λ more f. ((refl, refl), x.4 more f)))
+some_parts (Shape.Fixed m s) rest = let x = more_parts (m - 1) s rest in
+    (a_name ∷ x.0, λ h. (Exps.exp (Exp.name [] (place a_name)) x.1, (tt, x.2), omega (arith, h, x.3), λ more f. ((refl, refl), x.4 more f)))
 some_parts Shape.Pairs rest = (a_sign Sign.CloseCurly ∷ rest, λ u. (Exps.no_exps, tt, refl, λ more f. (refl, f)))
 
 sample : (i : Item) (rest : List Token) → Stands i rest
@@ -85,22 +90,38 @@ sample (Item.others h n) rest = some_others h n rest
 sample (Item.sign s) rest = (a_sign s ∷ rest, λ more f. (refl, f))
 sample (Item.word w) rest = (a_token (TokenKind.Word w) ∷ rest, λ more f. (refl, f))
 sample Item.name rest = (a_name ∷ rest, ([], place a_name, λ more f. ((refl, refl), f)))
-sample Item.stmt rest = (a_token (TokenKind.Word Word.Return) ∷ a_sign Sign.Semicolon ∷ rest, (Stm.leave (place a_name), tt, λ more f. ((refl, refl), (refl, f))))
+sample Item.stmt rest = (
+  a_token (TokenKind.Word Word.Return) ∷ a_sign Sign.Semicolon ∷ rest,
+  (Stm.leave (place a_name), tt, λ more f. ((refl, refl), (refl, f))),
+)
 sample Item.stmts rest = (rest, (Stms.no_stms, tt, λ more f. f))
-sample Item.named rest = (a_sign Sign.Semicolon ∷ rest, λ x t e. (Stm.just (place t) (Exp.name x (place t)), tt, λ more f. ((refl, (e, refl)), (refl, f))))
+sample Item.named rest = (
+  a_sign Sign.Semicolon ∷ rest,
+  λ x t e. (Stm.just (place t) (Exp.name x (place t)), tt, λ more f. ((refl, (e, refl)), (refl, f))),
+)
 sample Item.indexed rest = (
   a_sign Sign.Semicolon ∷ rest,
-  λ x t from q i e ti si.
-      (Stm.just (place t) (Exp.postfix (Exp.name x (place t)) (Steps.index i q Steps.no_steps)), (tt, omega arith, (ti, tt), refl), λ more f. ((refl, (e, refl)), si (sign Sign.Semicolon ∷ more) (refl, f))),
+  λ x t from q i e ti si. (
+    Stm.just (place t) (Exp.postfix (Exp.name x (place t)) (Steps.index i q Steps.no_steps)),
+    (tt, omega arith, (ti, tt), refl),
+    λ more f. ((refl, (e, refl)), si (sign Sign.Semicolon ∷ more) (refl, f)),
+  ),
 )
 sample Item.back rest = (a_sign Sign.Semicolon ∷ rest, λ t e. (Stm.leave (place t), tt, λ more f. ((e, refl), (refl, f))))
 sample Item.block rest = (a_sign Sign.OpenCurly ∷ a_sign Sign.CloseCurly ∷ rest, (Stms.no_stms, tt, λ more f. (refl, (refl, f))))
 sample Item.arms rest = (rest, (Arms.no_arms, Else.no_else, tt, tt, λ more f. f))
-sample Item.after_else rest = (a_sign Sign.OpenCurly ∷ a_sign Sign.CloseCurly ∷ rest, λ t e. (Arms.no_arms, Else.otherwise Stms.no_stms, tt, tt, λ more f. (e, (refl, (refl, f)))))
+sample Item.after_else rest = (
+  a_sign Sign.OpenCurly ∷ a_sign Sign.CloseCurly ∷ rest,
+  λ t e. (Arms.no_arms, Else.otherwise Stms.no_stms, tt, tt, λ more f. (e, (refl, (refl, f)))),
+)
 sample Item.tops rest = (rest, ([], tt, λ more f. f))
 sample Item.after_function rest = (
   a_name ∷ a_sign Sign.OpenRound ∷ a_sign Sign.CloseRound ∷ a_sign Sign.OpenCurly ∷ a_sign Sign.CloseCurly ∷ rest,
-  λ t e. (Top.fun (record { name = []; place = place a_name; params = []; body = Stms.no_stms }) ∷ [], (tt, tt), λ more f. (e, ((refl, refl), (refl, (refl, (refl, (refl, f))))))),
+  λ t e. (
+    Top.fun (record { name = []; place = place a_name; params = []; body = Stms.no_stms }) ∷ [],
+    (tt, tt),
+    λ more f. (e, ((refl, refl), (refl, (refl, (refl, (refl, f)))))),
+  ),
 )
 sample Item.params rest = (a_sign Sign.CloseRound ∷ rest, ([], λ more f. (refl, f)))
 sample Item.other_params rest = (a_sign Sign.CloseRound ∷ rest, ([], λ more f. (refl, f)))

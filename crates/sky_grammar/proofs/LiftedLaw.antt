@@ -5,7 +5,9 @@ use Rattle.std.proofs.lemmas.Fmt.{decimal_is_IsNumeral}
 use Rattle.sky_base.specs.Name.{is_anonymous}
 use Rattle.sky_base.specs.Tree as run
 use Rattle.sky_grammar.specs.Source.{Exp, Exps, Links, Ands, Steps, Stm, Stms, Arms, Else}
-use Rattle.sky_grammar.specs.Lifted.{number_name, count, exps_count, links_count, ands_count, steps_count, stm_count, stms_count, arms_count, else_count, tree, exps_tree, links_tree, ands_tree, steps_tree, stm_tree, stms_tree, arms_tree, else_tree, made, exps_made, links_made, ands_made, steps_made, stm_made, stms_made, arms_made, else_made}
+use Rattle.sky_grammar.specs.Lifted.{number_name, count, exps_count, links_count, ands_count, steps_count, stm_count, stms_count, arms_count}
+use Rattle.sky_grammar.specs.Lifted.{else_count, tree, exps_tree, links_tree, ands_tree, steps_tree, stm_tree, stms_tree, arms_tree, else_tree, made}
+use Rattle.sky_grammar.specs.Lifted.{exps_made, links_made, ands_made, steps_made, stm_made, stms_made, arms_made, else_made}
 
 -- so many names from a number on
 abbrev pub numbered : ℕ → ℕ → List (List ℕ)
@@ -30,7 +32,8 @@ numbered_append n (suc k) m =
     let f : n + 1 + k ≡ n + suc k = omega arith in
     ap (numbered n) e ∙ ap (λ xs. number_name n ∷ xs) (numbered_append (n + 1) k m ∙ ap (λ i. numbered (n + 1) k ++ numbered i m) f)
 
-pub both : (n k m : ℕ) (fs gs : List run.FunDef) → fun_names fs ≡ numbered n k → fun_names gs ≡ numbered (n + k) m → fun_names (fs ++ gs) ≡ numbered n (k + m)
+pub both : (n k m : ℕ) (fs gs : List run.FunDef) → fun_names fs ≡ numbered n k → fun_names gs ≡ numbered (n + k) m → fun_names (fs ++ gs)
+    ≡ numbered n (k + m)
 both n k m fs gs e f = names_append fs gs ∙ (λ i. e i ++ f i) ∙ sym (numbered_append n k m)
 
 pub names_length : (fs : List run.FunDef) → length fs ≡ length (fun_names fs)
@@ -61,27 +64,35 @@ mutual
   in_order n (Exp.func p xs b) = ap (λ ys. number_name n ∷ ys) (stms_in_order (n + 1) b)
   in_order n (Exp.parens e) = in_order n e
   in_order n (Exp.parts o p es) = exps_in_order n es
-  in_order n (Exp.chain e ls) = both n (count e) (links_count ls) (made n e) (links_made (n + count e) ls) (in_order n e) (links_in_order (n + count e) ls)
-  in_order n (Exp.logic j e ls) = both n (count e) (ands_count ls) (made n e) (ands_made (n + count e) ls) (in_order n e) (ands_in_order (n + count e) ls)
+  in_order n (Exp.chain e ls) = both n (count e) (links_count ls) (made n e) (links_made (n + count e) ls) (in_order n e)
+      (links_in_order (n + count e) ls)
+  in_order n (Exp.logic j e ls) = both n (count e) (ands_count ls) (made n e) (ands_made (n + count e) ls) (in_order n e)
+      (ands_in_order (n + count e) ls)
   in_order n (Exp.prefix ss e) = in_order n e
-  in_order n (Exp.postfix e ss) = both n (count e) (steps_count ss) (made n e) (steps_made (n + count e) ss) (in_order n e) (steps_in_order (n + count e) ss)
+  in_order n (Exp.postfix e ss) = both n (count e) (steps_count ss) (made n e) (steps_made (n + count e) ss) (in_order n e)
+      (steps_in_order (n + count e) ss)
 
   pub exps_in_order : (n : ℕ) (x : Exps) → fun_names (exps_made n x) ≡ numbered n (exps_count x)
   exps_in_order n Exps.no_exps = refl
-  exps_in_order n (Exps.exp e es) = both n (count e) (exps_count es) (made n e) (exps_made (n + count e) es) (in_order n e) (exps_in_order (n + count e) es)
+  exps_in_order n (Exps.exp e es) = both n (count e) (exps_count es) (made n e) (exps_made (n + count e) es) (in_order n e)
+      (exps_in_order (n + count e) es)
 
   pub links_in_order : (n : ℕ) (x : Links) → fun_names (links_made n x) ≡ numbered n (links_count x)
   links_in_order n Links.no_links = refl
-  links_in_order n (Links.link o p e ls) = both n (count e) (links_count ls) (made n e) (links_made (n + count e) ls) (in_order n e) (links_in_order (n + count e) ls)
+  links_in_order n (Links.link o p e ls) = both n (count e) (links_count ls) (made n e) (links_made (n + count e) ls) (in_order n e)
+      (links_in_order (n + count e) ls)
 
   pub ands_in_order : (n : ℕ) (x : Ands) → fun_names (ands_made n x) ≡ numbered n (ands_count x)
   ands_in_order n Ands.no_ands = refl
-  ands_in_order n (Ands.and p e ls) = both n (count e) (ands_count ls) (made n e) (ands_made (n + count e) ls) (in_order n e) (ands_in_order (n + count e) ls)
+  ands_in_order n (Ands.and p e ls) = both n (count e) (ands_count ls) (made n e) (ands_made (n + count e) ls) (in_order n e)
+      (ands_in_order (n + count e) ls)
 
   pub steps_in_order : (n : ℕ) (x : Steps) → fun_names (steps_made n x) ≡ numbered n (steps_count x)
   steps_in_order n Steps.no_steps = refl
-  steps_in_order n (Steps.index e p ss) = both n (count e) (steps_count ss) (made n e) (steps_made (n + count e) ss) (in_order n e) (steps_in_order (n + count e) ss)
-  steps_in_order n (Steps.call es p ss) = both n (exps_count es) (steps_count ss) (exps_made n es) (steps_made (n + exps_count es) ss) (exps_in_order n es) (steps_in_order (n + exps_count es) ss)
+  steps_in_order n (Steps.index e p ss) = both n (count e) (steps_count ss) (made n e) (steps_made (n + count e) ss) (in_order n e)
+      (steps_in_order (n + count e) ss)
+  steps_in_order n (Steps.call es p ss) = both n (exps_count es) (steps_count ss) (exps_made n es) (steps_made (n + exps_count es) ss)
+      (exps_in_order n es) (steps_in_order (n + exps_count es) ss)
 
   pub stm_in_order : (n : ℕ) (x : Stm) → fun_names (stm_made n x) ≡ numbered n (stm_count x)
   stm_in_order n (Stm.set x p e) = in_order n e
@@ -89,19 +100,27 @@ mutual
   stm_in_order n (Stm.put x q p i e) = both n (count i) (count e) (made n i) (made (n + count i) e) (in_order n i) (in_order (n + count i) e)
   stm_in_order n (Stm.return p e) = in_order n e
   stm_in_order n (Stm.leave p) = refl
-  stm_in_order n (Stm.cases p arms els) = both n (arms_count arms) (else_count els) (arms_made n arms) (else_made (n + arms_count arms) els) (arms_in_order n arms) (else_in_order (n + arms_count arms) els)
-  stm_in_order n (Stm.while p e b) = both n (count e) (stms_count b) (made n e) (stms_made (n + count e) b) (in_order n e) (stms_in_order (n + count e) b)
-  stm_in_order n (Stm.repeat p b e) = both n (stms_count b) (count e) (stms_made n b) (made (n + stms_count b) e) (stms_in_order n b) (in_order (n + stms_count b) e)
-  stm_in_order n (Stm.for p x e b) = both n (count e) (stms_count b) (made n e) (stms_made (n + count e) b) (in_order n e) (stms_in_order (n + count e) b)
+  stm_in_order n (Stm.cases p arms els) = both n (arms_count arms) (else_count els) (arms_made n arms) (else_made (n + arms_count arms) els)
+      (arms_in_order n arms) (else_in_order (n + arms_count arms) els)
+  stm_in_order n (Stm.while p e b) = both n (count e) (stms_count b) (made n e) (stms_made (n + count e) b) (in_order n e)
+      (stms_in_order (n + count e) b)
+  stm_in_order n (Stm.repeat p b e) = both n (stms_count b) (count e) (stms_made n b) (made (n + stms_count b) e) (stms_in_order n b)
+      (in_order (n + stms_count b) e)
+  stm_in_order n (Stm.for p x e b) = both n (count e) (stms_count b) (made n e) (stms_made (n + count e) b) (in_order n e)
+      (stms_in_order (n + count e) b)
   stm_in_order n (Stm.just p e) = in_order n e
 
   pub stms_in_order : (n : ℕ) (x : Stms) → fun_names (stms_made n x) ≡ numbered n (stms_count x)
   stms_in_order n Stms.no_stms = refl
-  stms_in_order n (Stms.stm s ss) = both n (stm_count s) (stms_count ss) (stm_made n s) (stms_made (n + stm_count s) ss) (stm_in_order n s) (stms_in_order (n + stm_count s) ss)
+  stms_in_order n (Stms.stm s ss) = both n (stm_count s) (stms_count ss) (stm_made n s) (stms_made (n + stm_count s) ss) (stm_in_order n s)
+      (stms_in_order (n + stm_count s) ss)
 
   pub arms_in_order : (n : ℕ) (x : Arms) → fun_names (arms_made n x) ≡ numbered n (arms_count x)
   arms_in_order n Arms.no_arms = refl
-  arms_in_order n (Arms.arm p e b arms) = both n (count e) (stms_count b + (arms_count arms)) (made n e) (stms_made (n + count e) b ++ (arms_made (n + count e + stms_count b) arms)) (in_order n e) (both (n + count e) (stms_count b) (arms_count arms) (stms_made (n + count e) b) (arms_made (n + count e + stms_count b) arms) (stms_in_order (n + count e) b) (arms_in_order (n + count e + stms_count b) arms))
+  arms_in_order n (Arms.arm p e b arms) = both n (count e) (stms_count b + (arms_count arms)) (made n e)
+      (stms_made (n + count e) b ++ (arms_made (n + count e + stms_count b) arms)) (in_order n e)
+      (both (n + count e) (stms_count b) (arms_count arms) (stms_made (n + count e) b) (arms_made (n + count e + stms_count b) arms)
+      (stms_in_order (n + count e) b) (arms_in_order (n + count e + stms_count b) arms))
 
   pub else_in_order : (n : ℕ) (x : Else) → fun_names (else_made n x) ≡ numbered n (else_count x)
   else_in_order n Else.no_else = refl
@@ -175,27 +194,51 @@ mutual
   nodes_kept n (Exp.func p xs b) = omega (arith, stms_nodes_kept (n + 1) b)
   nodes_kept n (Exp.parens e) = omega (arith, nodes_kept n e)
   nodes_kept n (Exp.parts o p es) = omega (arith, exps_nodes_kept n es)
-  nodes_kept n (Exp.chain e ls) = omega (arith, nodes_kept n e, links_nodes_kept (n + count e) ls, funs_append (made n e) (links_made (n + count e) ls))
-  nodes_kept n (Exp.logic j e ls) = omega (arith, nodes_kept n e, ands_nodes_kept (n + count e) ls, funs_append (made n e) (ands_made (n + count e) ls))
+  nodes_kept n (Exp.chain e ls) = omega (
+    arith,
+    nodes_kept n e,
+    links_nodes_kept (n + count e) ls,
+    funs_append (made n e) (links_made (n + count e) ls),
+  )
+  nodes_kept n (Exp.logic j e ls) = omega (
+    arith,
+    nodes_kept n e,
+    ands_nodes_kept (n + count e) ls,
+    funs_append (made n e) (ands_made (n + count e) ls),
+  )
   nodes_kept n (Exp.prefix ss e) = omega (arith, nodes_kept n e)
-  nodes_kept n (Exp.postfix e ss) = omega (arith, nodes_kept n e, steps_nodes_kept (n + count e) ss, funs_append (made n e) (steps_made (n + count e) ss))
+  nodes_kept n (Exp.postfix e ss) = omega (
+    arith,
+    nodes_kept n e,
+    steps_nodes_kept (n + count e) ss,
+    funs_append (made n e) (steps_made (n + count e) ss),
+  )
 
   pub exps_nodes_kept : (n : ℕ) (x : Exps) → run.exps_nodes (exps_tree n x) + run.funs_nodes (exps_made n x) ≡ exps_all_nodes x
   exps_nodes_kept n Exps.no_exps = omega arith
-  exps_nodes_kept n (Exps.exp e es) = omega (arith, nodes_kept n e, exps_nodes_kept (n + count e) es, funs_append (made n e) (exps_made (n + count e) es))
+  exps_nodes_kept n (Exps.exp e es) = omega (
+    arith,
+    nodes_kept n e,
+    exps_nodes_kept (n + count e) es,
+    funs_append (made n e) (exps_made (n + count e) es),
+  )
 
   pub links_nodes_kept : (n : ℕ) (x : Links) → run.links_nodes (links_tree n x) + run.funs_nodes (links_made n x) ≡ links_all_nodes x
   links_nodes_kept n Links.no_links = omega arith
-  links_nodes_kept n (Links.link o p e ls) = omega (arith, nodes_kept n e, links_nodes_kept (n + count e) ls, funs_append (made n e) (links_made (n + count e) ls))
+  links_nodes_kept n (Links.link o p e ls) = omega
+      (arith, nodes_kept n e, links_nodes_kept (n + count e) ls, funs_append (made n e) (links_made (n + count e) ls))
 
   pub ands_nodes_kept : (n : ℕ) (x : Ands) → run.ands_nodes (ands_tree n x) + run.funs_nodes (ands_made n x) ≡ ands_all_nodes x
   ands_nodes_kept n Ands.no_ands = omega arith
-  ands_nodes_kept n (Ands.and p e ls) = omega (arith, nodes_kept n e, ands_nodes_kept (n + count e) ls, funs_append (made n e) (ands_made (n + count e) ls))
+  ands_nodes_kept n (Ands.and p e ls) = omega
+      (arith, nodes_kept n e, ands_nodes_kept (n + count e) ls, funs_append (made n e) (ands_made (n + count e) ls))
 
   pub steps_nodes_kept : (n : ℕ) (x : Steps) → run.steps_nodes (steps_tree n x) + run.funs_nodes (steps_made n x) ≡ steps_all_nodes x
   steps_nodes_kept n Steps.no_steps = omega arith
-  steps_nodes_kept n (Steps.index e p ss) = omega (arith, nodes_kept n e, steps_nodes_kept (n + count e) ss, funs_append (made n e) (steps_made (n + count e) ss))
-  steps_nodes_kept n (Steps.call es p ss) = omega (arith, exps_nodes_kept n es, steps_nodes_kept (n + exps_count es) ss, funs_append (exps_made n es) (steps_made (n + exps_count es) ss))
+  steps_nodes_kept n (Steps.index e p ss) = omega
+      (arith, nodes_kept n e, steps_nodes_kept (n + count e) ss, funs_append (made n e) (steps_made (n + count e) ss))
+  steps_nodes_kept n (Steps.call es p ss) = omega
+      (arith, exps_nodes_kept n es, steps_nodes_kept (n + exps_count es) ss, funs_append (exps_made n es) (steps_made (n + exps_count es) ss))
 
   pub stm_nodes_kept : (n : ℕ) (x : Stm) → run.stm_nodes (stm_tree n x) + run.funs_nodes (stm_made n x) ≡ stm_all_nodes x
   stm_nodes_kept n (Stm.set x p e) = omega (arith, nodes_kept n e)
@@ -203,19 +246,47 @@ mutual
   stm_nodes_kept n (Stm.put x q p i e) = omega (arith, nodes_kept n i, nodes_kept (n + count i) e, funs_append (made n i) (made (n + count i) e))
   stm_nodes_kept n (Stm.return p e) = omega (arith, nodes_kept n e)
   stm_nodes_kept n (Stm.leave p) = omega arith
-  stm_nodes_kept n (Stm.cases p arms els) = omega (arith, arms_nodes_kept n arms, else_nodes_kept (n + arms_count arms) els, funs_append (arms_made n arms) (else_made (n + arms_count arms) els))
-  stm_nodes_kept n (Stm.while p e b) = omega (arith, nodes_kept n e, stms_nodes_kept (n + count e) b, funs_append (made n e) (stms_made (n + count e) b))
-  stm_nodes_kept n (Stm.repeat p b e) = omega (arith, stms_nodes_kept n b, nodes_kept (n + stms_count b) e, funs_append (stms_made n b) (made (n + stms_count b) e))
-  stm_nodes_kept n (Stm.for p x e b) = omega (arith, nodes_kept n e, stms_nodes_kept (n + count e) b, funs_append (made n e) (stms_made (n + count e) b))
+  stm_nodes_kept n (Stm.cases p arms els) = omega (
+    arith,
+    arms_nodes_kept n arms,
+    else_nodes_kept (n + arms_count arms) els,
+    funs_append (arms_made n arms) (else_made (n + arms_count arms) els),
+  )
+  stm_nodes_kept n (Stm.while p e b) = omega (
+    arith,
+    nodes_kept n e,
+    stms_nodes_kept (n + count e) b,
+    funs_append (made n e) (stms_made (n + count e) b),
+  )
+  stm_nodes_kept n (Stm.repeat p b e) = omega
+      (arith, stms_nodes_kept n b, nodes_kept (n + stms_count b) e, funs_append (stms_made n b) (made (n + stms_count b) e))
+  stm_nodes_kept n (Stm.for p x e b) = omega (
+    arith,
+    nodes_kept n e,
+    stms_nodes_kept (n + count e) b,
+    funs_append (made n e) (stms_made (n + count e) b),
+  )
   stm_nodes_kept n (Stm.just p e) = omega (arith, nodes_kept n e)
 
   pub stms_nodes_kept : (n : ℕ) (x : Stms) → run.stms_nodes (stms_tree n x) + run.funs_nodes (stms_made n x) ≡ stms_all_nodes x
   stms_nodes_kept n Stms.no_stms = omega arith
-  stms_nodes_kept n (Stms.stm s ss) = omega (arith, stm_nodes_kept n s, stms_nodes_kept (n + stm_count s) ss, funs_append (stm_made n s) (stms_made (n + stm_count s) ss))
+  stms_nodes_kept n (Stms.stm s ss) = omega (
+    arith,
+    stm_nodes_kept n s,
+    stms_nodes_kept (n + stm_count s) ss,
+    funs_append (stm_made n s) (stms_made (n + stm_count s) ss),
+  )
 
   pub arms_nodes_kept : (n : ℕ) (x : Arms) → run.arms_nodes (arms_tree n x) + run.funs_nodes (arms_made n x) ≡ arms_all_nodes x
   arms_nodes_kept n Arms.no_arms = omega arith
-  arms_nodes_kept n (Arms.arm p e b arms) = omega (arith, nodes_kept n e, stms_nodes_kept (n + count e) b, arms_nodes_kept (n + count e + stms_count b) arms, funs_append (made n e) (stms_made (n + count e) b ++ (arms_made (n + count e + stms_count b) arms)), funs_append (stms_made (n + count e) b) (arms_made (n + count e + stms_count b) arms))
+  arms_nodes_kept n (Arms.arm p e b arms) = omega (
+    arith,
+    nodes_kept n e,
+    stms_nodes_kept (n + count e) b,
+    arms_nodes_kept (n + count e + stms_count b) arms,
+    funs_append (made n e) (stms_made (n + count e) b ++ (arms_made (n + count e + stms_count b) arms)),
+    funs_append (stms_made (n + count e) b) (arms_made (n + count e + stms_count b) arms),
+  )
 
   pub else_nodes_kept : (n : ℕ) (x : Else) → run.else_nodes (else_tree n x) + run.funs_nodes (else_made n x) ≡ else_all_nodes x
   else_nodes_kept n Else.no_else = omega arith

@@ -11,7 +11,10 @@ use Rattle.sky_grammar.specs.declared.level.Level.{Level}
 use Rattle.sky_grammar.specs.declared.parts.Shape.{Shape}
 use Rattle.sky_grammar.specs.Levels.{rank}
 use Rattle.sky_grammar.specs.Parts.{Has, spell_parts}
-use Rattle.sky_grammar.specs.Grammar.{started, Mark, sign, sign_at, word, name_at, prefix_sign, spell, spell_links, spell_ands, spell_steps, spell_exps, spell_others, spell_value, spell_other_pairs, spell_test, spell_block, spell_stm, spell_stms, spell_other_arms, spell_else, spell_params, spell_other_params, paired, valued, IsTree, AreTrees, AreLinks, AreAnds, AreSteps, IsStm, AreStms, AreArms, IsElse, place, Fits, Follows, Spelled}
+use Rattle.sky_grammar.specs.Grammar.{started, Mark, sign, sign_at, word, name_at, prefix_sign, spell, spell_links, spell_ands, spell_steps}
+use Rattle.sky_grammar.specs.Grammar.{spell_exps, spell_others, spell_value, spell_other_pairs, spell_test, spell_block, spell_stm, spell_stms}
+use Rattle.sky_grammar.specs.Grammar.{spell_other_arms, spell_else, spell_params, spell_other_params, paired, valued, IsTree, AreTrees, AreLinks}
+use Rattle.sky_grammar.specs.Grammar.{AreAnds, AreSteps, IsStm, AreStms, AreArms, IsElse, place, Fits, Follows, Spelled}
 use Rattle.sky_grammar.specs.Source.{Param}
 use Rattle.sky_grammar.specs.Tops.{Top, spell_tops, AreTops}
 use Rattle.sky_grammar.specs.Machine.{Item, tails}
@@ -87,7 +90,8 @@ Pairs false ts rest = (es : Exps) × AreTrees es × (paired es ≡ true) × Spel
 -- behind so many parts
 abbrev pub Others : Shape → ℕ → List Token → List Token → Type 0
 Others (Shape.Many s) n ts rest = (es : Exps) × AreTrees es × Spelled (λ more. spell_others es (sign s ∷ more)) ts rest
-Others (Shape.Fixed m s) n ts rest = n ≤ m → (es : Exps) × AreTrees es × (n + exps_count es ≡ m) × Spelled (λ more. spell_others es (sign s ∷ more)) ts rest
+Others (Shape.Fixed m s) n ts rest = n ≤ m → (es : Exps) × AreTrees es × (n + exps_count es ≡ m)
+    × Spelled (λ more. spell_others es (sign s ∷ more)) ts rest
 Others Shape.Pairs n ts rest = Pairs (n % 2 == 1) ts rest
 
 abbrev pub ASign : Sign → List Token → List Token → Type 0
@@ -123,13 +127,15 @@ Means Item.name ts rest = AName ts rest
 Means Item.stmt ts rest = AStm ts rest
 Means Item.stmts ts rest = (ss : Stms) × AreStms ss × Spelled (spell_stms ss) ts rest
 Means Item.named ts rest = (x : List ℕ) (t : Token) → t.kind ≡ TokenKind.Name x → AStm (t ∷ ts) rest
-Means Item.indexed ts rest = (x : List ℕ) (t : Token) (from : List Token) (q : Place) (i : Exp) → t.kind ≡ TokenKind.Name x → IsTree i → Spelled (λ more. sign_at Sign.OpenSquare q ∷ spell i (sign Sign.CloseSquare ∷ more)) from ts → AStm (t ∷ from) rest
+Means Item.indexed ts rest = (x : List ℕ) (t : Token) (from : List Token) (q : Place) (i : Exp) → t.kind ≡ TokenKind.Name x → IsTree i
+    → Spelled (λ more. sign_at Sign.OpenSquare q ∷ spell i (sign Sign.CloseSquare ∷ more)) from ts → AStm (t ∷ from) rest
 Means Item.back ts rest = (t : Token) → t.kind ≡ TokenKind.Word Word.Return → AStm (t ∷ ts) rest
 Means Item.block ts rest = Block ts rest
 Means Item.arms ts rest = OtherArms ts rest
 Means Item.after_else ts rest = (t : Token) → t.kind ≡ TokenKind.Word Word.Else → OtherArms (t ∷ ts) rest
 Means Item.tops ts rest = (tops : List Top) × AreTops tops × Spelled (spell_tops tops) ts rest
-Means Item.after_function ts rest = (t : Token) → t.kind ≡ TokenKind.Word Word.Function → (tops : List Top) × AreTops tops × Spelled (spell_tops tops) (t ∷ ts) rest
+Means Item.after_function ts rest = (t : Token) → t.kind ≡ TokenKind.Word Word.Function → (tops : List Top) × AreTops tops
+    × Spelled (spell_tops tops) (t ∷ ts) rest
 Means Item.params ts rest = (ps : List Param) × Spelled (λ more. spell_params ps (sign Sign.CloseRound ∷ more)) ts rest
 Means Item.other_params ts rest = (ps : List Param) × Spelled (λ more. spell_other_params ps (sign Sign.CloseRound ∷ more)) ts rest
 
@@ -143,12 +149,19 @@ lower m n a b h p = (p.0, p.1, omega (arith, h, p.2), p.3)
 
 pub with_steps : (a b c : List Token) → At 7 a b → StepsOf b c → At 6 a c
 with_steps a b c p (Steps.no_steps, h, s) = (p.0, p.1, omega (arith, p.2), λ more f. p.3 more (s more f))
-with_steps a b c p (Steps.index e q ss, h, s) = (Exp.postfix p.0 (Steps.index e q ss), (p.1, p.2, h, refl), omega arith, λ more f. p.3 (spell_steps (Steps.index e q ss) more) (s more f))
-with_steps a b c p (Steps.call es q ss, h, s) = (Exp.postfix p.0 (Steps.call es q ss), (p.1, p.2, h, refl), omega arith, λ more f. p.3 (spell_steps (Steps.call es q ss) more) (s more f))
+with_steps a b c p (Steps.index e q ss, h, s) =
+    (Exp.postfix p.0 (Steps.index e q ss), (p.1, p.2, h, refl), omega arith, λ more f. p.3 (spell_steps (Steps.index e q ss) more) (s more f))
+with_steps a b c p (Steps.call es q ss, h, s) =
+    (Exp.postfix p.0 (Steps.call es q ss), (p.1, p.2, h, refl), omega arith, λ more f. p.3 (spell_steps (Steps.call es q ss) more) (s more f))
 
 with_joins : (j : Junction) (a b c : List Token) → At (suc (junction_level j)) a b → Joins j b c → At (junction_level j) a c
 with_joins j a b c p (Ands.no_ands, h, s) = (p.0, p.1, omega (arith, p.2), λ more f. p.3 more (s more f))
-with_joins j a b c p (Ands.and q e ls, h, s) = (Exp.logic j p.0 (Ands.and q e ls), (p.1, omega (arith, p.2), h, refl), omega arith, λ more f. p.3 (spell_ands j (Ands.and q e ls) more) (s more f))
+with_joins j a b c p (Ands.and q e ls, h, s) = (
+  Exp.logic j p.0 (Ands.and q e ls),
+  (p.1, omega (arith, p.2), h, refl),
+  omega arith,
+  λ more f. p.3 (spell_ands j (Ands.and q e ls) more) (s more f),
+)
 
 enough : (o : Oper) (p : Place) (e : Exp) (ls : Links) → 3 ≤ oper_level o → links_enough (Links.link o p e ls) ≡ true
 enough Oper.plus p e ls h = refl
@@ -162,8 +175,12 @@ with_chain : (n : ℕ) (a b c : List Token) → 3 ≤ n → At (suc n) a b → C
 with_chain n a b c g p (Links.no_links, h, s) = (p.0, p.1, omega (arith, p.2), λ more f. p.3 more (s more f))
 with_chain n a b c g p (Links.link o q e ls, h, s) =
     let same = h.0 in
-    let links : AreLinks (oper_level o) (Links.link o q e ls) = subst (λ (m : ℕ). AreLinks m (Links.link o q e ls)) (sym same) h in
-    (Exp.chain p.0 (Links.link o q e ls), (p.1, omega (arith, p.2, same), links, enough o q e ls (omega (arith, g, same))), omega (arith, same), λ more f. p.3 (spell_links (Links.link o q e ls) more) (s more f))
+    let links : AreLinks (oper_level o) (Links.link o q e ls) = subst (λ (m : ℕ). AreLinks m (Links.link o q e ls)) (sym same) h in (
+      Exp.chain p.0 (Links.link o q e ls),
+      (p.1, omega (arith, p.2, same), links, enough o q e ls (omega (arith, g, same))),
+      omega (arith, same),
+      λ more f. p.3 (spell_links (Links.link o q e ls) more) (s more f),
+    )
 
 with_comparison : (a b c : List Token) → At 3 a b → Tail Level.Comparison b c → At 2 a c
 with_comparison a b c p (Links.no_links, h, one, s) = (p.0, p.1, omega (arith, p.2), λ more f. p.3 more (s more f))
@@ -173,8 +190,12 @@ with_comparison a b c p (Links.link Oper.minus q e Links.no_links, h, one, s) = 
 with_comparison a b c p (Links.link Oper.times q e Links.no_links, h, one, s) = absurd (omega (arith, h.0))
 with_comparison a b c p (Links.link Oper.over q e Links.no_links, h, one, s) = absurd (omega (arith, h.0))
 with_comparison a b c p (Links.link Oper.rest q e Links.no_links, h, one, s) = absurd (omega (arith, h.0))
-with_comparison a b c p (Links.link (Oper.compare o) q e Links.no_links, h, one, s) =
-    (Exp.chain p.0 (Links.link (Oper.compare o) q e Links.no_links), (p.1, omega (arith, p.2), h, refl), omega arith, λ more f. p.3 (spell_links (Links.link (Oper.compare o) q e Links.no_links) more) (s more f))
+with_comparison a b c p (Links.link (Oper.compare o) q e Links.no_links, h, one, s) = (
+  Exp.chain p.0 (Links.link (Oper.compare o) q e Links.no_links),
+  (p.1, omega (arith, p.2), h, refl),
+  omega arith,
+  λ more f. p.3 (spell_links (Links.link (Oper.compare o) q e Links.no_links) more) (s more f),
+)
 
 to_sum : (a b c : List Token) → At 5 a b → ToSum b c → At 3 a c
 to_sum a b c p x = with_chain 3 a x.0 c (omega arith) (with_chain 4 a b x.0 (omega arith) p x.1) x.2
@@ -227,7 +248,8 @@ pub junction_low : (j : Junction) → junction_level j ≤ 1
 junction_low Junction.both = omega arith
 junction_low Junction.either = omega arith
 
-one_sign : (s : SignAt) (t : Token) (ts rest : List Token) (e : Exp) → Fits (sign_at (prefix_sign s.sign) s.place) t → IsTree e → 6 ≤ level e → Spelled (spell e) ts rest → At 5 (t ∷ ts) rest
+one_sign : (s : SignAt) (t : Token) (ts rest : List Token) (e : Exp) → Fits (sign_at (prefix_sign s.sign) s.place) t → IsTree e → 6 ≤ level e
+    → Spelled (spell e) ts rest → At 5 (t ∷ ts) rest
 one_sign s t ts rest e fit h l g = (Exp.prefix (s ∷ []) e, (h, l, refl), omega arith, λ more f. (fit, g more f))
 
 -- a sign in front of an operand
@@ -246,7 +268,8 @@ with_sign s t ts rest fit (Exp.postfix e ss, h, l, g) = one_sign s t ts rest (Ex
 pub single : (s : Sign) (a b : List Token) → Parts (Shape.Fixed 1 s) a b → (e : Exp) × IsTree e × Spelled (λ more. spell e (sign s ∷ more)) a b
 single s a b p = single_of s a b (p (omega arith))
   where
-    single_of : (s : Sign) (a b : List Token) → (es : Exps) × AreTrees es × (exps_count es ≡ 1) × Spelled (λ more. spell_exps es (sign s ∷ more)) a b → (e : Exp) × IsTree e × Spelled (λ more. spell e (sign s ∷ more)) a b
+    single_of : (s : Sign) (a b : List Token) → (es : Exps) × AreTrees es × (exps_count es ≡ 1)
+        × Spelled (λ more. spell_exps es (sign s ∷ more)) a b → (e : Exp) × IsTree e × Spelled (λ more. spell e (sign s ∷ more)) a b
     single_of s a b (Exps.no_exps, h, n, g) = absurd (omega (arith, n))
     single_of s a b (Exps.exp e Exps.no_exps, h, n, g) = (e, h.0, g)
     single_of s a b (Exps.exp e (Exps.exp f es), h, n, g) = absurd (omega (arith, n))
@@ -260,12 +283,19 @@ test_of a b c d o e s = (e.0, e.1, λ more f. o (spell e.0 (sign Sign.CloseRound
 
 -- an expression and its semicolon are a statement
 pub just_of : (t : Token) (ts a rest : List Token) → At 0 (t ∷ ts) a → ASign Sign.Semicolon a rest → AStm (t ∷ ts) rest
-just_of t ts a rest e s = (Stm.just (place t) e.0, e.1, λ more f. start_fits (place t) (spell e.0 (sign Sign.Semicolon ∷ more)) t ts refl (e.3 (sign Sign.Semicolon ∷ more) (s more f)))
+just_of t ts a rest e s = (
+  Stm.just (place t) e.0,
+  e.1,
+  λ more f. start_fits (place t) (spell e.0 (sign Sign.Semicolon ∷ more)) t ts refl (e.3 (sign Sign.Semicolon ∷ more) (s more f)),
+)
 
 -- so they are where the expression begins with a name
-pub rest_of : (t : Token) (from a b c rest : List Token) → At 7 (t ∷ from) a → StepsOf a b → Chains Level.Either b c → ASign Sign.Semicolon c rest → AStm (t ∷ from) rest
-rest_of t from a b c rest p ss ls s = just_of t from c rest (gather Level.Either (t ∷ from) b c (lower 5 6 (t ∷ from) b (omega arith) (with_steps (t ∷ from) a b p ss)) ls) s
+pub rest_of : (t : Token) (from a b c rest : List Token) → At 7 (t ∷ from) a → StepsOf a b → Chains Level.Either b c
+    → ASign Sign.Semicolon c rest → AStm (t ∷ from) rest
+rest_of t from a b c rest p ss ls s = just_of t from c rest
+    (gather Level.Either (t ∷ from) b c (lower 5 6 (t ∷ from) b (omega arith) (with_steps (t ∷ from) a b p ss)) ls) s
 
-pub unplaced : (k : TokenKind) (p : Place) (more : List Mark) (ts : List Token) → Follows (Mark.placed k p ∷ more) ts → Follows (Mark.plain k ∷ more) ts
+pub unplaced : (k : TokenKind) (p : Place) (more : List Mark) (ts : List Token) → Follows (Mark.placed k p ∷ more) ts
+    → Follows (Mark.plain k ∷ more) ts
 unplaced k p more [] f = absurd f
 unplaced k p more (t ∷ ts) f = (f.0.0, f.1)

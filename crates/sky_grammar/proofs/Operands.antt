@@ -11,7 +11,8 @@ use Rattle.sky_grammar.specs.declared.level.Level.{Level}
 use Rattle.sky_grammar.specs.declared.parts.Shape.{Shape}
 use Rattle.sky_grammar.specs.Signs.{is}
 use Rattle.sky_grammar.specs.Levels.{rank, opens}
-use Rattle.sky_grammar.specs.Grammar.{Mark, sign, sign_at, prefix_sign, oper_sign, junction_sign, spell, spell_signs, spell_links, spell_ands, spell_steps, spell_others, spell_value, spell_other_pairs, valued, AreLinks, IsTree}
+use Rattle.sky_grammar.specs.Grammar.{Mark, sign, sign_at, prefix_sign, oper_sign, junction_sign, spell, spell_signs, spell_links, spell_ands}
+use Rattle.sky_grammar.specs.Grammar.{spell_steps, spell_others, spell_value, spell_other_pairs, valued, AreLinks, IsTree}
 use Rattle.sky_grammar.specs.Machine.{Item, Out, operand_of, again, tails, step, goes, run, kind, kinds_of}
 use Rattle.sky_grammar.specs.Source.{Exp, Exps, Links, Ands, level, links_enough, some_signs}
 
@@ -31,8 +32,10 @@ stops Level.Prefix ms = stops_steps ms
 stops Level.Product ms = stops_at Level.Product ms && stops_steps ms
 stops Level.Sum ms = stops_at Level.Sum ms && (stops_at Level.Product ms && stops_steps ms)
 stops Level.Comparison ms = stops_at Level.Comparison ms && (stops_at Level.Sum ms && (stops_at Level.Product ms && stops_steps ms))
-stops Level.Both ms = stops_at Level.Both ms && (stops_at Level.Comparison ms && (stops_at Level.Sum ms && (stops_at Level.Product ms && stops_steps ms)))
-stops Level.Either ms = stops_at Level.Either ms && (stops_at Level.Both ms && (stops_at Level.Comparison ms && (stops_at Level.Sum ms && (stops_at Level.Product ms && stops_steps ms))))
+stops Level.Both ms = stops_at Level.Both ms
+    && (stops_at Level.Comparison ms && (stops_at Level.Sum ms && (stops_at Level.Product ms && stops_steps ms)))
+stops Level.Either ms = stops_at Level.Either ms
+    && (stops_at Level.Both ms && (stops_at Level.Comparison ms && (stops_at Level.Sum ms && (stops_at Level.Product ms && stops_steps ms))))
 
 left : (a b : Bool) → (a && b) ≡ true → a ≡ true
 left true b e = refl
@@ -53,11 +56,14 @@ skip_one false x z e = refl
 
 pub skip_steps : (k : List Item) (more : List Mark) → stops_steps more ≡ true → run (Item.steps ∷ k) (kinds_of more) ≡ run k (kinds_of more)
 skip_steps k [] s = refl
-skip_steps k (m ∷ ms) s = ap (λ (o : Option (List Item)). goes o (λ l. run l (kinds_of ms)) (Out.stuck (suc (length (kinds_of ms))))) (skip_two (is Sign.OpenSquare (kind m)) (is Sign.OpenRound (kind m)) _ _ (step k (kind m)) s)
+skip_steps k (m ∷ ms) s = ap (λ (o : Option (List Item)). goes o (λ l. run l (kinds_of ms)) (Out.stuck (suc (length (kinds_of ms)))))
+    (skip_two (is Sign.OpenSquare (kind m)) (is Sign.OpenRound (kind m)) _ _ (step k (kind m)) s)
 
-pub skip_tail : (l : Level) (k : List Item) (more : List Mark) → stops_at l more ≡ true → run (Item.tail l ∷ k) (kinds_of more) ≡ run k (kinds_of more)
+pub skip_tail : (l : Level) (k : List Item) (more : List Mark) → stops_at l more ≡ true → run (Item.tail l ∷ k) (kinds_of more)
+    ≡ run k (kinds_of more)
 skip_tail l k [] s = refl
-skip_tail l k (m ∷ ms) s = ap (λ (o : Option (List Item)). goes o (λ l. run l (kinds_of ms)) (Out.stuck (suc (length (kinds_of ms))))) (skip_one (opens l (kind m)) _ (step k (kind m)) s)
+skip_tail l k (m ∷ ms) s = ap (λ (o : Option (List Item)). goes o (λ l. run l (kinds_of ms)) (Out.stuck (suc (length (kinds_of ms)))))
+    (skip_one (opens l (kind m)) _ (step k (kind m)) s)
 
 pub level_is : (l : Level) (k : List Item) (ts : List TokenKind) → run (Item.level l ∷ k) ts ≡ run (Item.level Level.Prefix ∷ tails l k) ts
 level_is l k [] = refl
@@ -69,7 +75,8 @@ Primary e = (k : List Item) (more : List Mark) → run (Item.level Level.Prefix 
 
 -- an expression that is read at a level, where nothing goes on it
 abbrev pub Read : Level → Exp → Type 0
-Read l e = (k : List Item) (more : List Mark) → stops l more ≡ true → run (Item.level Level.Prefix ∷ tails l k) (kinds_of (spell e more)) ≡ run k (kinds_of more)
+Read l e = (k : List Item) (more : List Mark) → stops l more ≡ true → run (Item.level Level.Prefix ∷ tails l k) (kinds_of (spell e more))
+    ≡ run k (kinds_of more)
 
 abbrev pub At : ℕ → Exp → Type 0
 At zero e = Read Level.Either e
@@ -88,19 +95,24 @@ from_primary : (e : Exp) → Primary e → Read Level.Prefix e
 from_primary e c = λ k more s. c k more ∙ skip_steps k more s
 
 from_prefix : (e : Exp) → Read Level.Prefix e → Read Level.Product e
-from_prefix e c = λ k more s. c (Item.tail Level.Product ∷ k) more (right (stops_at Level.Product more) (stops Level.Prefix more) s) ∙ skip_tail Level.Product k more (left (stops_at Level.Product more) (stops Level.Prefix more) s)
+from_prefix e c = λ k more s. c (Item.tail Level.Product ∷ k) more (right (stops_at Level.Product more) (stops Level.Prefix more) s)
+    ∙ skip_tail Level.Product k more (left (stops_at Level.Product more) (stops Level.Prefix more) s)
 
 from_product : (e : Exp) → Read Level.Product e → Read Level.Sum e
-from_product e c = λ k more s. c (Item.tail Level.Sum ∷ k) more (right (stops_at Level.Sum more) (stops Level.Product more) s) ∙ skip_tail Level.Sum k more (left (stops_at Level.Sum more) (stops Level.Product more) s)
+from_product e c = λ k more s. c (Item.tail Level.Sum ∷ k) more (right (stops_at Level.Sum more) (stops Level.Product more) s)
+    ∙ skip_tail Level.Sum k more (left (stops_at Level.Sum more) (stops Level.Product more) s)
 
 from_sum : (e : Exp) → Read Level.Sum e → Read Level.Comparison e
-from_sum e c = λ k more s. c (Item.tail Level.Comparison ∷ k) more (right (stops_at Level.Comparison more) (stops Level.Sum more) s) ∙ skip_tail Level.Comparison k more (left (stops_at Level.Comparison more) (stops Level.Sum more) s)
+from_sum e c = λ k more s. c (Item.tail Level.Comparison ∷ k) more (right (stops_at Level.Comparison more) (stops Level.Sum more) s)
+    ∙ skip_tail Level.Comparison k more (left (stops_at Level.Comparison more) (stops Level.Sum more) s)
 
 from_comparison : (e : Exp) → Read Level.Comparison e → Read Level.Both e
-from_comparison e c = λ k more s. c (Item.tail Level.Both ∷ k) more (right (stops_at Level.Both more) (stops Level.Comparison more) s) ∙ skip_tail Level.Both k more (left (stops_at Level.Both more) (stops Level.Comparison more) s)
+from_comparison e c = λ k more s. c (Item.tail Level.Both ∷ k) more (right (stops_at Level.Both more) (stops Level.Comparison more) s)
+    ∙ skip_tail Level.Both k more (left (stops_at Level.Both more) (stops Level.Comparison more) s)
 
 from_both : (e : Exp) → Read Level.Both e → Read Level.Either e
-from_both e c = λ k more s. c (Item.tail Level.Either ∷ k) more (right (stops_at Level.Either more) (stops Level.Both more) s) ∙ skip_tail Level.Either k more (left (stops_at Level.Either more) (stops Level.Both more) s)
+from_both e c = λ k more s. c (Item.tail Level.Either ∷ k) more (right (stops_at Level.Either more) (stops Level.Both more) s)
+    ∙ skip_tail Level.Either k more (left (stops_at Level.Either more) (stops Level.Both more) s)
 
 pub primary_at : (n : ℕ) (e : Exp) → 7 ≤ n → At n e → Primary e
 primary_at zero e h c = absurd (omega arith)
@@ -161,16 +173,19 @@ at_level Level.Sum n e h c = sum_at n e h c
 at_level Level.Product n e h c = product_at n e h c
 at_level Level.Prefix n e h c = prefix_at n e h c
 
-pub whole : (l : Level) (e : Exp) → rank l ≤ level e → Claim e → (k : List Item) (more : List Mark) → stops l more ≡ true → run (Item.level l ∷ k) (kinds_of (spell e more)) ≡ run k (kinds_of more)
+pub whole : (l : Level) (e : Exp) → rank l ≤ level e → Claim e → (k : List Item) (more : List Mark) → stops l more ≡ true
+    → run (Item.level l ∷ k) (kinds_of (spell e more)) ≡ run k (kinds_of more)
 whole l e h c k more s = level_is l k (kinds_of (spell e more)) ∙ at_level l (level e) e h c k more s
 
-sign_claim : (s : tree.Sign) (p : Place) (k : List Item) (more : List Mark) → run (Item.level Level.Prefix ∷ k) (kinds_of (sign_at (prefix_sign s) p ∷ more)) ≡ run (Item.level Level.Prefix ∷ k) (kinds_of more)
+sign_claim : (s : tree.Sign) (p : Place) (k : List Item) (more : List Mark)
+    → run (Item.level Level.Prefix ∷ k) (kinds_of (sign_at (prefix_sign s) p ∷ more)) ≡ run (Item.level Level.Prefix ∷ k) (kinds_of more)
 sign_claim tree.Sign.not p k more = refl
 sign_claim tree.Sign.minus p k more = refl
 sign_claim tree.Sign.star p k more = refl
 
 -- the signs of a prefix are read one by one
-pub signs_claim : (ss : List SignAt) (k : List Item) (more : List Mark) → run (Item.level Level.Prefix ∷ k) (kinds_of (spell_signs ss more)) ≡ run (Item.level Level.Prefix ∷ k) (kinds_of more)
+pub signs_claim : (ss : List SignAt) (k : List Item) (more : List Mark) → run (Item.level Level.Prefix ∷ k) (kinds_of (spell_signs ss more))
+    ≡ run (Item.level Level.Prefix ∷ k) (kinds_of more)
 signs_claim [] k more = refl
 signs_claim (s ∷ ss) k more = sign_claim s.sign s.place k (spell_signs ss more) ∙ signs_claim ss k more
 
@@ -210,7 +225,9 @@ oper_opens (Oper.compare Order.gt) = refl
 oper_opens (Oper.compare Order.ge) = refl
 
 -- an operator of a chain is read, and its operand is to come
-pub oper_read : (o : Oper) (p : Place) (k : List Item) (ms : List Mark) → run (Item.tail (level_of_oper o) ∷ k) (kinds_of (sign_at (oper_sign o) p ∷ ms)) ≡ run (Item.level (operand_of (level_of_oper o)) ∷ again (level_of_oper o) k) (kinds_of ms)
+pub oper_read : (o : Oper) (p : Place) (k : List Item) (ms : List Mark)
+    → run (Item.tail (level_of_oper o) ∷ k) (kinds_of (sign_at (oper_sign o) p ∷ ms))
+    ≡ run (Item.level (operand_of (level_of_oper o)) ∷ again (level_of_oper o) k) (kinds_of ms)
 oper_read o p k ms = rw (oper_opens o) refl
 
 -- Chains: what is said here of the operands is handed in, and holds of the smaller trees by induction.
@@ -277,25 +294,33 @@ stops_here Level.Prefix [] s = refl
 stops_here Level.Prefix (m ∷ ms) s = refl
 
 -- what stands behind an operand of a chain stops it
-pub links_stop : (l : Level) (ls : Links) (more : List Mark) → AreLinks (rank l) ls → stops l more ≡ true → stops (operand_of l) (spell_links ls more) ≡ true
+pub links_stop : (l : Level) (ls : Links) (more : List Mark) → AreLinks (rank l) ls → stops l more ≡ true
+    → stops (operand_of l) (spell_links ls more) ≡ true
 links_stop l Links.no_links more h s = tighter_stops l more s
-links_stop l (Links.link o p e ls) more h s = subst (λ (m : Level). stops (operand_of m) (sign_at (oper_sign o) p ∷ spell e (spell_links ls more)) ≡ true) (same_level o l h.0) (oper_stops o p (spell e (spell_links ls more)))
+links_stop l (Links.link o p e ls) more h s =
+    subst (λ (m : Level). stops (operand_of m) (sign_at (oper_sign o) p ∷ spell e (spell_links ls more)) ≡ true) (same_level o l h.0)
+    (oper_stops o p (spell e (spell_links ls more)))
 
 -- an operator of the level is read
-pub link_read : (l : Level) (o : Oper) (p : Place) (k : List Item) (ms : List Mark) → oper_level o ≡ rank l → run (Item.tail l ∷ k) (kinds_of (sign_at (oper_sign o) p ∷ ms)) ≡ run (Item.level (operand_of l) ∷ again l k) (kinds_of ms)
-link_read l o p k ms h = subst (λ (m : Level). run (Item.tail m ∷ k) (kinds_of (sign_at (oper_sign o) p ∷ ms)) ≡ run (Item.level (operand_of m) ∷ again m k) (kinds_of ms)) (same_level o l h) (oper_read o p k ms)
+pub link_read : (l : Level) (o : Oper) (p : Place) (k : List Item) (ms : List Mark) → oper_level o ≡ rank l
+    → run (Item.tail l ∷ k) (kinds_of (sign_at (oper_sign o) p ∷ ms)) ≡ run (Item.level (operand_of l) ∷ again l k) (kinds_of ms)
+link_read l o p k ms h = subst (λ (m : Level). run (Item.tail m ∷ k) (kinds_of (sign_at (oper_sign o) p ∷ ms))
+    ≡ run (Item.level (operand_of m) ∷ again m k) (kinds_of ms)) (same_level o l h) (oper_read o p k ms)
 
 abbrev pub level_of_junction : Junction → Level
 level_of_junction Junction.either = Level.Either
 level_of_junction Junction.both = Level.Both
 
-pub ands_stop : (j : Junction) (ls : Ands) (more : List Mark) → stops (level_of_junction j) more ≡ true → stops (operand_of (level_of_junction j)) (spell_ands j ls more) ≡ true
+pub ands_stop : (j : Junction) (ls : Ands) (more : List Mark) → stops (level_of_junction j) more ≡ true
+    → stops (operand_of (level_of_junction j)) (spell_ands j ls more) ≡ true
 ands_stop Junction.either Ands.no_ands more s = tighter_stops Level.Either more s
 ands_stop Junction.both Ands.no_ands more s = tighter_stops Level.Both more s
 ands_stop Junction.either (Ands.and p e ls) more s = refl
 ands_stop Junction.both (Ands.and p e ls) more s = refl
 
-pub and_read : (j : Junction) (p : Place) (k : List Item) (ms : List Mark) → run (Item.tail (level_of_junction j) ∷ k) (kinds_of (sign_at (junction_sign j) p ∷ ms)) ≡ run (Item.level (operand_of (level_of_junction j)) ∷ Item.tail (level_of_junction j) ∷ k) (kinds_of ms)
+pub and_read : (j : Junction) (p : Place) (k : List Item) (ms : List Mark)
+    → run (Item.tail (level_of_junction j) ∷ k) (kinds_of (sign_at (junction_sign j) p ∷ ms))
+    ≡ run (Item.level (operand_of (level_of_junction j)) ∷ Item.tail (level_of_junction j) ∷ k) (kinds_of ms)
 and_read Junction.either p k ms = refl
 and_read Junction.both p k ms = refl
 
@@ -367,53 +392,67 @@ first c (Exp.logic j e ls) t more = first c e t.0 (spell_ands j ls more)
 first c (Exp.prefix ss e) t more = signs_first c ss (spell e more) t.2
 first c (Exp.postfix e ss) t more = first c e t.0 (spell_steps ss more)
 
-pub begins_many : (s : Sign) (k : List Item) (ts : List TokenKind) → begins s ts ≡ false → run (Item.parts (Shape.Many s) ∷ k) ts ≡ run (Item.level Level.Either ∷ Item.others (Shape.Many s) 1 ∷ k) ts
+pub begins_many : (s : Sign) (k : List Item) (ts : List TokenKind) → begins s ts ≡ false → run (Item.parts (Shape.Many s) ∷ k) ts
+    ≡ run (Item.level Level.Either ∷ Item.others (Shape.Many s) 1 ∷ k) ts
 begins_many s k [] b = absurd cc
 begins_many s k (t ∷ ts) b = rw b refl
 
-pub begins_pairs : (k : List Item) (ts : List TokenKind) → begins Sign.CloseCurly ts ≡ false → run (Item.parts Shape.Pairs ∷ k) ts ≡ run (Item.level Level.Either ∷ Item.others Shape.Pairs 1 ∷ k) ts
+pub begins_pairs : (k : List Item) (ts : List TokenKind) → begins Sign.CloseCurly ts ≡ false → run (Item.parts Shape.Pairs ∷ k) ts
+    ≡ run (Item.level Level.Either ∷ Item.others Shape.Pairs 1 ∷ k) ts
 begins_pairs k [] b = absurd cc
 begins_pairs k (t ∷ ts) b = rw b refl
 
-pub fixed_is : (m : ℕ) (s : Sign) (k : List Item) (ts : List TokenKind) → run (Item.parts (Shape.Fixed m s) ∷ k) ts ≡ run (Item.level Level.Either ∷ Item.others (Shape.Fixed m s) 1 ∷ k) ts
+pub fixed_is : (m : ℕ) (s : Sign) (k : List Item) (ts : List TokenKind) → run (Item.parts (Shape.Fixed m s) ∷ k) ts
+    ≡ run (Item.level Level.Either ∷ Item.others (Shape.Fixed m s) 1 ∷ k) ts
 fixed_is m s k [] = refl
 fixed_is m s k (t ∷ ts) = refl
 
-pub none_inside : {s : Sign} → Closes s → (k : List Item) (more : List Mark) → run (Item.parts (Shape.Many s) ∷ k) (kinds_of (sign s ∷ more)) ≡ run k (kinds_of more)
+pub none_inside : {s : Sign} → Closes s → (k : List Item) (more : List Mark) → run (Item.parts (Shape.Many s) ∷ k) (kinds_of (sign s ∷ more))
+    ≡ run k (kinds_of more)
 none_inside round k more = refl
 none_inside square k more = refl
 none_inside curly k more = refl
 none_inside semicolon k more = refl
 
-pub many_ends : {s : Sign} → Closes s → (n : ℕ) (k : List Item) (more : List Mark) → run (Item.others (Shape.Many s) n ∷ k) (kinds_of (sign s ∷ more)) ≡ run k (kinds_of more)
+pub many_ends : {s : Sign} → Closes s → (n : ℕ) (k : List Item) (more : List Mark)
+    → run (Item.others (Shape.Many s) n ∷ k) (kinds_of (sign s ∷ more)) ≡ run k (kinds_of more)
 many_ends round n k more = refl
 many_ends square n k more = refl
 many_ends curly n k more = refl
 many_ends semicolon n k more = refl
 
-pub fixed_ends : {s : Sign} → Closes s → (m n : ℕ) (k : List Item) (more : List Mark) → (n == m) ≡ true → run (Item.others (Shape.Fixed m s) n ∷ k) (kinds_of (sign s ∷ more)) ≡ run k (kinds_of more)
+pub fixed_ends : {s : Sign} → Closes s → (m n : ℕ) (k : List Item) (more : List Mark) → (n == m) ≡ true
+    → run (Item.others (Shape.Fixed m s) n ∷ k) (kinds_of (sign s ∷ more)) ≡ run k (kinds_of more)
 fixed_ends round m n k more h = rw h refl
 fixed_ends square m n k more h = rw h refl
 fixed_ends curly m n k more h = rw h refl
 fixed_ends semicolon m n k more h = rw h refl
 
-pub fixed_goes : (s : Sign) (m n : ℕ) (k : List Item) (ms : List Mark) → (n == m) ≡ false → run (Item.others (Shape.Fixed m s) n ∷ k) (kinds_of (sign Sign.Comma ∷ ms)) ≡ run (Item.level Level.Either ∷ Item.others (Shape.Fixed m s) (suc n) ∷ k) (kinds_of ms)
+pub fixed_goes : (s : Sign) (m n : ℕ) (k : List Item) (ms : List Mark) → (n == m) ≡ false
+    → run (Item.others (Shape.Fixed m s) n ∷ k) (kinds_of (sign Sign.Comma ∷ ms))
+    ≡ run (Item.level Level.Either ∷ Item.others (Shape.Fixed m s) (suc n) ∷ k) (kinds_of ms)
 fixed_goes s m n k ms h = rw h refl
 
 pub others_stop : {s : Sign} → Closes s → (es : Exps) (more : List Mark) → stops Level.Either (spell_others es (sign s ∷ more)) ≡ true
 others_stop c Exps.no_exps more = closes_stop c more
 others_stop c (Exps.exp e es) more = refl
 
-pub value_goes : (n : ℕ) (k : List Item) (ms : List Mark) → (n % 2 == 1) ≡ true → run (Item.others Shape.Pairs n ∷ k) (kinds_of (sign Sign.Colon ∷ ms)) ≡ run (Item.level Level.Either ∷ Item.others Shape.Pairs (suc n) ∷ k) (kinds_of ms)
+pub value_goes : (n : ℕ) (k : List Item) (ms : List Mark) → (n % 2 == 1) ≡ true
+    → run (Item.others Shape.Pairs n ∷ k) (kinds_of (sign Sign.Colon ∷ ms))
+    ≡ run (Item.level Level.Either ∷ Item.others Shape.Pairs (suc n) ∷ k) (kinds_of ms)
 value_goes n k ms h = rw h refl
 
-pub pair_goes : (n : ℕ) (k : List Item) (ms : List Mark) → (n % 2 == 1) ≡ false → run (Item.others Shape.Pairs n ∷ k) (kinds_of (sign Sign.Comma ∷ ms)) ≡ run (Item.level Level.Either ∷ Item.others Shape.Pairs (suc n) ∷ k) (kinds_of ms)
+pub pair_goes : (n : ℕ) (k : List Item) (ms : List Mark) → (n % 2 == 1) ≡ false
+    → run (Item.others Shape.Pairs n ∷ k) (kinds_of (sign Sign.Comma ∷ ms))
+    ≡ run (Item.level Level.Either ∷ Item.others Shape.Pairs (suc n) ∷ k) (kinds_of ms)
 pair_goes n k ms h = rw h refl
 
-pub pairs_end : (n : ℕ) (k : List Item) (more : List Mark) → (n % 2 == 1) ≡ false → (n % 2 == 0) ≡ true → run (Item.others Shape.Pairs n ∷ k) (kinds_of (sign Sign.CloseCurly ∷ more)) ≡ run k (kinds_of more)
+pub pairs_end : (n : ℕ) (k : List Item) (more : List Mark) → (n % 2 == 1) ≡ false → (n % 2 == 0) ≡ true
+    → run (Item.others Shape.Pairs n ∷ k) (kinds_of (sign Sign.CloseCurly ∷ more)) ≡ run k (kinds_of more)
 pairs_end n k more h g = rw (h, g) refl
 
-pub many_goes : (s : Sign) (n : ℕ) (k : List Item) (ms : List Mark) → run (Item.others (Shape.Many s) n ∷ k) (kinds_of (sign Sign.Comma ∷ ms)) ≡ run (Item.level Level.Either ∷ Item.others (Shape.Many s) (suc n) ∷ k) (kinds_of ms)
+pub many_goes : (s : Sign) (n : ℕ) (k : List Item) (ms : List Mark) → run (Item.others (Shape.Many s) n ∷ k) (kinds_of (sign Sign.Comma ∷ ms))
+    ≡ run (Item.level Level.Either ∷ Item.others (Shape.Many s) (suc n) ∷ k) (kinds_of ms)
 many_goes s n k ms = refl
 
 pub value_stop : (es : Exps) (more : List Mark) → valued es ≡ true → stops Level.Either (spell_value es more) ≡ true
@@ -444,7 +483,8 @@ tails_oper Oper.over k = refl
 tails_oper Oper.rest k = refl
 tails_oper (Oper.compare o) k = refl
 
-pub tails_junction : (j : Junction) (k : List Item) → tails (level_of_junction j) k ≡ tails (operand_of (level_of_junction j)) (Item.tail (level_of_junction j) ∷ k)
+pub tails_junction : (j : Junction) (k : List Item) → tails (level_of_junction j) k
+    ≡ tails (operand_of (level_of_junction j)) (Item.tail (level_of_junction j) ∷ k)
 tails_junction Junction.either k = refl
 tails_junction Junction.both k = refl
 
@@ -456,7 +496,8 @@ junction_rank Junction.both = refl
 abbrev pub Goes : Level → Links → List Item → List Mark → Type 0
 Goes l ls k more = ((i : List Item) → again l i ≡ Item.tail l ∷ i) → run (Item.tail l ∷ k) (kinds_of (spell_links ls more)) ≡ run k (kinds_of more)
 
-pub rest_read : (o : Oper) (p : Place) (f : Exp) (ls : Links) (k : List Item) (more : List Mark) → links_enough (Links.link o p f ls) ≡ true → Goes (level_of_oper o) ls k more → run (again (level_of_oper o) k) (kinds_of (spell_links ls more)) ≡ run k (kinds_of more)
+pub rest_read : (o : Oper) (p : Place) (f : Exp) (ls : Links) (k : List Item) (more : List Mark) → links_enough (Links.link o p f ls) ≡ true
+    → Goes (level_of_oper o) ls k more → run (again (level_of_oper o) k) (kinds_of (spell_links ls more)) ≡ run k (kinds_of more)
 rest_read Oper.plus p f ls k more h c = c (λ i. refl)
 rest_read Oper.minus p f ls k more h c = c (λ i. refl)
 rest_read Oper.times p f ls k more h c = c (λ i. refl)

@@ -18,7 +18,8 @@ top_in_order n (Top.stmt s) = stm_in_order n s
 tops_in_order : (n : ℕ) (tops : List Top) → fun_names (made_of n tops) ≡ numbered n (tops_count tops)
 unfolding tops_count
 tops_in_order n [] = refl
-tops_in_order n (t ∷ ts) = both n (top_count t) (tops_count ts) (top_made n t) (made_of (n + top_count t) ts) (top_in_order n t) (tops_in_order (n + top_count t) ts)
+tops_in_order n (t ∷ ts) = both n (top_count t) (tops_count ts) (top_made n t) (made_of (n + top_count t) ts) (top_in_order n t)
+    (tops_in_order (n + top_count t) ts)
 
 -- the function with so many before it, where their names are the numbers from one on
 named : (fs : List FunDef) (n m k : ℕ) → fun_names fs ≡ numbered n m → IfSome (slice_get fs k) (λ f. f.name ≡ number_name (n + k))
@@ -36,4 +37,5 @@ named (f ∷ fs) n (suc m) (suc k) e =
 pub numbered_in_order : NumberedInOrder
 numbered_in_order = λ tops k.
     let at : 0 + k ≡ k = omega arith in
-    subst (λ (i : ℕ). IfSome (slice_get (made_of 0 tops) k) (λ f. f.name ≡ number_name i)) at (named (made_of 0 tops) 0 (tops_count tops) k (tops_in_order 0 tops))
+    subst (λ (i : ℕ). IfSome (slice_get (made_of 0 tops) k) (λ f. f.name ≡ number_name i)) at
+    (named (made_of 0 tops) 0 (tops_count tops) k (tops_in_order 0 tops))

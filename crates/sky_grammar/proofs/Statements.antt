@@ -12,7 +12,8 @@ use Rattle.sky_text.specs.declared.token.TokenKind.{TokenKind}
 use Rattle.sky_grammar.specs.declared.level.Level.{Level}
 use Rattle.sky_grammar.specs.declared.parts.Shape.{Shape}
 use Rattle.sky_grammar.specs.Signs.{is, is_word}
-use Rattle.sky_grammar.specs.Grammar.{Mark, sign, sign_at, prefix_sign, oper_sign, started, spell, spell_signs, spell_links, spell_ands, spell_steps, spell_stm, spell_stms, spell_params, spell_other_params, IsTree, AreSteps, IsStm, AreStms}
+use Rattle.sky_grammar.specs.Grammar.{Mark, sign, sign_at, prefix_sign, oper_sign, started, spell, spell_signs, spell_links, spell_ands, spell_steps}
+use Rattle.sky_grammar.specs.Grammar.{spell_stm, spell_stms, spell_params, spell_other_params, IsTree, AreSteps, IsStm, AreStms}
 use Rattle.sky_grammar.specs.Source.{Param}
 use Rattle.sky_grammar.specs.Machine.{Item, Out, tails, step, goes, run, kind, kinds_of}
 use Rattle.sky_grammar.proofs.Operands.{stops, begins, fixed_is}
@@ -100,31 +101,37 @@ at_square (m ∷ ms) = is Sign.OpenSquare (kind m)
 
 -- an expression is read whole where nothing that follows goes on it
 abbrev pub ReadWhole : Exp → Type 0
-ReadWhole e = (k : List Item) (more : List Mark) → stops Level.Either more ≡ true → run (Item.level Level.Either ∷ k) (kinds_of (spell e more)) ≡ run k (kinds_of more)
+ReadWhole e = (k : List Item) (more : List Mark) → stops Level.Either more ≡ true → run (Item.level Level.Either ∷ k) (kinds_of (spell e more))
+    ≡ run k (kinds_of more)
 
 -- what stands behind a name that begins an expression; an index there weighs no more than so much
 pub data Behind (n : ℕ) : List Mark → Type 0 where
   other : (ms : List Mark) → stops_assign ms ≡ true → at_square ms ≡ false → Behind n ms
-  index : (i : Exp) (q : Place) (ms : List Mark) → IsTree i → weight i ≤ n → ReadWhole i → stops_assign ms ≡ true → Behind n (sign_at Sign.OpenSquare q ∷ spell i (sign Sign.CloseSquare ∷ ms))
+  index : (i : Exp) (q : Place) (ms : List Mark) → IsTree i → weight i ≤ n → ReadWhole i → stops_assign ms ≡ true
+      → Behind n (sign_at Sign.OpenSquare q ∷ spell i (sign Sign.CloseSquare ∷ ms))
 
 pub behind_stops : (n : ℕ) {ms : List Mark} → Behind n ms → stops_assign ms ≡ true
 behind_stops n (Behind.other ms s o) = s
 behind_stops n (Behind.index i q ms t w c s) = refl
 
-indexed_rest : (k : List Item) (ms : List Mark) → stops_assign ms ≡ true → run (Item.indexed ∷ k) (kinds_of ms) ≡ run (Item.steps ∷ tails Level.Either (Item.sign Sign.Semicolon ∷ k)) (kinds_of ms)
+indexed_rest : (k : List Item) (ms : List Mark) → stops_assign ms ≡ true → run (Item.indexed ∷ k) (kinds_of ms)
+    ≡ run (Item.steps ∷ tails Level.Either (Item.sign Sign.Semicolon ∷ k)) (kinds_of ms)
 indexed_rest k [] s = refl
 indexed_rest k (m ∷ ms) s = let a = neither (is Sign.Assign (kind m)) (is Sign.AddAssign (kind m)) s in rw (a.0) refl
 
-named_rest : (k : List Item) (ms : List Mark) → stops_assign ms ≡ true → at_square ms ≡ false → run (Item.named ∷ k) (kinds_of ms) ≡ run (Item.steps ∷ tails Level.Either (Item.sign Sign.Semicolon ∷ k)) (kinds_of ms)
+named_rest : (k : List Item) (ms : List Mark) → stops_assign ms ≡ true → at_square ms ≡ false → run (Item.named ∷ k) (kinds_of ms)
+    ≡ run (Item.steps ∷ tails Level.Either (Item.sign Sign.Semicolon ∷ k)) (kinds_of ms)
 named_rest k [] s n = refl
 named_rest k (m ∷ ms) s n = let a = neither (is Sign.Assign (kind m)) (is Sign.AddAssign (kind m)) s in rw (a.0, a.1, n) refl
 
-pub behind_rest : (n : ℕ) (k : List Item) {ms : List Mark} → Behind n ms → run (Item.named ∷ k) (kinds_of ms) ≡ run (Item.steps ∷ tails Level.Either (Item.sign Sign.Semicolon ∷ k)) (kinds_of ms)
+pub behind_rest : (n : ℕ) (k : List Item) {ms : List Mark} → Behind n ms → run (Item.named ∷ k) (kinds_of ms)
+    ≡ run (Item.steps ∷ tails Level.Either (Item.sign Sign.Semicolon ∷ k)) (kinds_of ms)
 behind_rest n k (Behind.other ms s o) = named_rest k ms s o
 behind_rest n k (Behind.index i q ms t w c s) =
     let j = Item.steps ∷ tails Level.Either (Item.sign Sign.Semicolon ∷ k) in
     c (Item.sign Sign.CloseSquare ∷ Item.indexed ∷ k) (sign Sign.CloseSquare ∷ ms) refl ∙ indexed_rest k ms s
-    ∙ sym (fixed_is 1 Sign.CloseSquare j (kinds_of (spell i (sign Sign.CloseSquare ∷ ms))) ∙ c (Item.others (Shape.Fixed 1 Sign.CloseSquare) 1 ∷ j) (sign Sign.CloseSquare ∷ ms) refl)
+    ∙ sym (fixed_is 1 Sign.CloseSquare j (kinds_of (spell i (sign Sign.CloseSquare ∷ ms)))
+    ∙ c (Item.others (Shape.Fixed 1 Sign.CloseSquare) 1 ∷ j) (sign Sign.CloseSquare ∷ ms) refl)
 
 steps_assign : (ss : Steps) (more : List Mark) → stops_assign more ≡ true → stops_assign (spell_steps ss more) ≡ true
 steps_assign Steps.no_steps more s = s
@@ -137,9 +144,11 @@ IndexRead Steps.no_steps = Unit {0}
 IndexRead (Steps.index e p ss) = ReadWhole e
 IndexRead (Steps.call es p ss) = Unit {0}
 
-pub steps_behind : (n : ℕ) (ss : Steps) → AreSteps ss → steps_weight ss ≤ n → IndexRead ss → (more : List Mark) → Behind n more → Behind n (spell_steps ss more)
+pub steps_behind : (n : ℕ) (ss : Steps) → AreSteps ss → steps_weight ss ≤ n → IndexRead ss → (more : List Mark) → Behind n more
+    → Behind n (spell_steps ss more)
 steps_behind n Steps.no_steps t w c more b = b
-steps_behind n (Steps.index e p ss) t w c more b = Behind.index e p (spell_steps ss more) t.0 (omega (arith, w)) c (steps_assign ss more (behind_stops n b))
+steps_behind n (Steps.index e p ss) t w c more b =
+    Behind.index e p (spell_steps ss more) t.0 (omega (arith, w)) c (steps_assign ss more (behind_stops n b))
 steps_behind n (Steps.call es p ss) t w c more b = Behind.other (spell_steps (Steps.call es p ss) more) refl refl
 
 oper_behind : (n : ℕ) (o : Oper) (p : Place) (ms : List Mark) → Behind n (sign_at (oper_sign o) p ∷ ms)
@@ -176,7 +185,8 @@ pub signs_alike : (ss : List SignAt) (ms : List Mark) → some_signs ss ≡ true
 signs_alike [] ms h = absurd cc
 signs_alike (s ∷ ss) ms h = sign_alike s.sign s.place (spell_signs ss ms)
 
-pub begins_back : (k : List Item) (ts : List TokenKind) → begins Sign.Semicolon ts ≡ false → run (Item.back ∷ k) ts ≡ run (Item.level Level.Either ∷ Item.sign Sign.Semicolon ∷ k) ts
+pub begins_back : (k : List Item) (ts : List TokenKind) → begins Sign.Semicolon ts ≡ false → run (Item.back ∷ k) ts
+    ≡ run (Item.level Level.Either ∷ Item.sign Sign.Semicolon ∷ k) ts
 begins_back k [] b = absurd cc
 begins_back k (t ∷ ts) b = rw b refl
 
@@ -197,11 +207,13 @@ pub skip_arms : (k : List Item) (more : List Mark) → at_else more ≡ false �
 skip_arms k [] s = refl
 skip_arms k (m ∷ ms) s = rw s refl
 
-pub begins_stms : (k : List Item) (ms : List Mark) → begins_outer ms ≡ false → run (Item.stmts ∷ k) (kinds_of ms) ≡ run (Item.stmt ∷ Item.stmts ∷ k) (kinds_of ms)
+pub begins_stms : (k : List Item) (ms : List Mark) → begins_outer ms ≡ false → run (Item.stmts ∷ k) (kinds_of ms)
+    ≡ run (Item.stmt ∷ Item.stmts ∷ k) (kinds_of ms)
 begins_stms k [] b = absurd cc
 begins_stms k (m ∷ ms) b =
     let c = (or_parts (is Sign.CloseCurly (kind m)) (is_word Word.Else (kind m)) b).0 in
-    ap (λ (o : Option (List Item)). goes o (λ l. run l (kinds_of ms)) (Out.stuck (suc (length (kinds_of ms))))) (cond-false (is Sign.CloseCurly (kind m)) (step k (kind m)) (step (Item.stmt ∷ Item.stmts ∷ k) (kind m)) c)
+    ap (λ (o : Option (List Item)). goes o (λ l. run l (kinds_of ms)) (Out.stuck (suc (length (kinds_of ms)))))
+    (cond-false (is Sign.CloseCurly (kind m)) (step k (kind m)) (step (Item.stmt ∷ Item.stmts ∷ k) (kind m)) c)
 
 pub inner_not_else : (ms : List Mark) → begins_outer ms ≡ false → at_else ms ≡ false
 inner_not_else [] b = refl
@@ -280,23 +292,29 @@ stm_starts (Stm.for p x e b) t more = refl
 stm_starts (Stm.just p e) t more = started_starts p (spell e (sign Sign.Semicolon ∷ more)) ∙ exp_starts e t (sign Sign.Semicolon ∷ more)
 
 -- a statement at the top of a script is read as a statement
-top_function : (k : List Item) (ms : List Mark) → at_round ms ≡ true → run (Item.tops ∷ k) (TokenKind.Word Word.Function ∷ kinds_of ms) ≡ run (Item.stmt ∷ Item.tops ∷ k) (TokenKind.Word Word.Function ∷ kinds_of ms)
+top_function : (k : List Item) (ms : List Mark) → at_round ms ≡ true → run (Item.tops ∷ k) (TokenKind.Word Word.Function ∷ kinds_of ms)
+    ≡ run (Item.stmt ∷ Item.tops ∷ k) (TokenKind.Word Word.Function ∷ kinds_of ms)
 top_function k [] h = absurd cc
 top_function k (m ∷ ms) h = rw h refl
 
-pub begins_tops : (k : List Item) (ms : List Mark) → begins_outer ms ≡ false → starts_stmt ms ≡ true → run (Item.tops ∷ k) (kinds_of ms) ≡ run (Item.stmt ∷ Item.tops ∷ k) (kinds_of ms)
+pub begins_tops : (k : List Item) (ms : List Mark) → begins_outer ms ≡ false → starts_stmt ms ≡ true → run (Item.tops ∷ k) (kinds_of ms)
+    ≡ run (Item.stmt ∷ Item.tops ∷ k) (kinds_of ms)
 begins_tops k [] b h = absurd cc
 begins_tops k (m ∷ ms) b h = either (is_word Word.Function (kind m)) refl h
   where
-    either : (c : Bool) → is_word Word.Function (kind m) ≡ c → cond c (at_round ms) true ≡ true → run (Item.tops ∷ k) (kind m ∷ kinds_of ms) ≡ run (Item.stmt ∷ Item.tops ∷ k) (kind m ∷ kinds_of ms)
-    either true c r = subst (λ (d : TokenKind). run (Item.tops ∷ k) (d ∷ kinds_of ms) ≡ run (Item.stmt ∷ Item.tops ∷ k) (d ∷ kinds_of ms)) (sym (is_that_word Word.Function (kind m) c)) (top_function k ms r)
+    either : (c : Bool) → is_word Word.Function (kind m) ≡ c → cond c (at_round ms) true ≡ true → run (Item.tops ∷ k) (kind m ∷ kinds_of ms)
+        ≡ run (Item.stmt ∷ Item.tops ∷ k) (kind m ∷ kinds_of ms)
+    either true c r = subst (λ (d : TokenKind). run (Item.tops ∷ k) (d ∷ kinds_of ms) ≡ run (Item.stmt ∷ Item.tops ∷ k) (d ∷ kinds_of ms))
+        (sym (is_that_word Word.Function (kind m) c)) (top_function k ms r)
     either false c r = rw c refl
 
 -- parameters are read
-pub other_params_claim : (ps : List Param) (k : List Item) (more : List Mark) → run (Item.other_params ∷ k) (kinds_of (spell_other_params ps (sign Sign.CloseRound ∷ more))) ≡ run k (kinds_of more)
+pub other_params_claim : (ps : List Param) (k : List Item) (more : List Mark)
+    → run (Item.other_params ∷ k) (kinds_of (spell_other_params ps (sign Sign.CloseRound ∷ more))) ≡ run k (kinds_of more)
 other_params_claim [] k more = refl
 other_params_claim (p ∷ ps) k more = other_params_claim ps k more
 
-pub params_claim : (ps : List Param) (k : List Item) (more : List Mark) → run (Item.params ∷ k) (kinds_of (spell_params ps (sign Sign.CloseRound ∷ more))) ≡ run k (kinds_of more)
+pub params_claim : (ps : List Param) (k : List Item) (more : List Mark)
+    → run (Item.params ∷ k) (kinds_of (spell_params ps (sign Sign.CloseRound ∷ more))) ≡ run k (kinds_of more)
 params_claim [] k more = refl
 params_claim (p ∷ ps) k more = other_params_claim ps k more

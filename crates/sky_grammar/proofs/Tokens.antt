@@ -14,7 +14,9 @@ nth (suc n) (x ∷ xs) d = nth n xs d
 
 sign_decode : ℕ → Sign
 unfolding nth
-sign_decode n = nth n (Sign.OpenRound ∷ Sign.CloseRound ∷ Sign.OpenCurly ∷ Sign.CloseCurly ∷ Sign.OpenSquare ∷ Sign.CloseSquare ∷ Sign.Comma ∷ Sign.Semicolon ∷ Sign.Colon ∷ Sign.Assign ∷ Sign.AddAssign ∷ Sign.Plus ∷ Sign.Minus ∷ Sign.Star ∷ Sign.Slash ∷ Sign.Percent ∷ Sign.Not ∷ Sign.Equal ∷ Sign.NotEqual ∷ Sign.Less ∷ Sign.LessEqual ∷ Sign.Greater ∷ Sign.GreaterEqual ∷ Sign.And ∷ Sign.Or ∷ []) Sign.OpenRound
+sign_decode n = nth n (Sign.OpenRound ∷ Sign.CloseRound ∷ Sign.OpenCurly ∷ Sign.CloseCurly ∷ Sign.OpenSquare ∷ Sign.CloseSquare ∷ Sign.Comma
+    ∷ Sign.Semicolon ∷ Sign.Colon ∷ Sign.Assign ∷ Sign.AddAssign ∷ Sign.Plus ∷ Sign.Minus ∷ Sign.Star ∷ Sign.Slash ∷ Sign.Percent ∷ Sign.Not
+    ∷ Sign.Equal ∷ Sign.NotEqual ∷ Sign.Less ∷ Sign.LessEqual ∷ Sign.Greater ∷ Sign.GreaterEqual ∷ Sign.And ∷ Sign.Or ∷ []) Sign.OpenRound
 
 sign_decoded : (s : Sign) → sign_decode (sign_code s) ≡ s
 unfolding sign_decode nth
@@ -49,7 +51,8 @@ same_sign a b e = sym (sign_decoded a) ∙ ap sign_decode (eqb-true _ _ e) ∙ s
 
 word_decode : ℕ → Word
 unfolding nth
-word_decode n = nth n (Word.Function ∷ Word.Return ∷ Word.If ∷ Word.Else ∷ Word.While ∷ Word.Do ∷ Word.For ∷ Word.In ∷ Word.True ∷ Word.False ∷ Word.Null ∷ Word.Spawn ∷ Word.SpawnExec ∷ Word.Exec ∷ Word.Ref ∷ Word.Len ∷ Word.Keys ∷ Word.Has ∷ Word.Range ∷ []) Word.Function
+word_decode n = nth n (Word.Function ∷ Word.Return ∷ Word.If ∷ Word.Else ∷ Word.While ∷ Word.Do ∷ Word.For ∷ Word.In ∷ Word.True ∷ Word.False
+    ∷ Word.Null ∷ Word.Spawn ∷ Word.SpawnExec ∷ Word.Exec ∷ Word.Ref ∷ Word.Len ∷ Word.Keys ∷ Word.Has ∷ Word.Range ∷ []) Word.Function
 
 word_decoded : (s : Word) → word_decode (word_code s) ≡ s
 unfolding word_decode nth

@@ -10,9 +10,11 @@ use Rattle.sky_text.specs.declared.token.Sign.{Sign}
 use Rattle.sky_text.specs.declared.token.TokenKind.{TokenKind}
 use Rattle.sky_grammar.specs.declared.level.Level.{Level}
 use Rattle.sky_grammar.specs.Levels.{rank, opens}
-use Rattle.sky_grammar.specs.Grammar.{Mark, sign, sign_at, prefix_sign, oper_sign, junction_sign, spell, spell_signs, spell_links, spell_ands, spell_steps, spell_exps, AreLinks, AreAnds, AreSteps, IsTree}
+use Rattle.sky_grammar.specs.Grammar.{Mark, sign, sign_at, prefix_sign, oper_sign, junction_sign, spell, spell_signs, spell_links, spell_ands}
+use Rattle.sky_grammar.specs.Grammar.{spell_steps, spell_exps, AreLinks, AreAnds, AreSteps, IsTree}
 use Rattle.sky_grammar.specs.Machine.{is_prefix, kind, operand_of}
-use Rattle.sky_grammar.proofs.Operands.{stops, stops_steps, stops_here, links_stop, ands_stop, rank_step, same_level, oper_opens, level_of_junction, round}
+use Rattle.sky_grammar.proofs.Operands.{stops, stops_steps, stops_here, links_stop, ands_stop, rank_step, same_level, oper_opens, level_of_junction}
+use Rattle.sky_grammar.proofs.Operands.{round}
 use Rattle.sky_grammar.proofs.Means.{links_low, junction_low}
 use Rattle.sky_grammar.proofs.Aligned.{Both, swap, peel, same_kind, same_place, no_end, exp_peel, exps_peel}
 use Rattle.sky_grammar.proofs.UniqueExpressions.{UniqueAt, UniqueStms, unique_exps, unique_primary, both_via}
@@ -20,7 +22,8 @@ use Rattle.sky_grammar.specs.Source.{Exp, Exps, Links, Ands, Steps, weight, link
 
 -- the same of prefixes and postfixes, where no index and no call follows
 abbrev UniqueTo : ℕ → ℕ → Type 0
-UniqueTo n l = (e d : Exp) → IsTree e → IsTree d → l ≤ level e → l ≤ level d → weight e ≤ n → (a b : List Mark) → stops_steps a ≡ true → stops_steps b ≡ true → Both (spell e a) (spell d b) → e ≡ d
+UniqueTo n l = (e d : Exp) → IsTree e → IsTree d → l ≤ level e → l ≤ level d → weight e ≤ n → (a b : List Mark) → stops_steps a ≡ true
+    → stops_steps b ≡ true → Both (spell e a) (spell d b) → e ≡ d
 
 -- Steps.
 no_square : (a : List Mark) (p : Place) (b : List Mark) → stops_steps a ≡ true → Both a (sign_at Sign.OpenSquare p ∷ b) → ⊥
@@ -40,7 +43,8 @@ no_round (m ∷ a) p b s h = false≢true (sym (stopped (same_kind h)) ∙ s)
 not_both : {p q : Place} {a b : List Mark} → Both (sign_at Sign.OpenSquare p ∷ a) (sign_at Sign.OpenRound q ∷ b) → ⊥
 not_both h = let e = same_kind h in absurd cc
 
-unique_steps : (n : ℕ) → UniqueAt n Level.Either → (ss rs : Steps) → AreSteps ss → AreSteps rs → steps_weight ss ≤ n → (a b : List Mark) → stops_steps a ≡ true → stops_steps b ≡ true → Both (spell_steps ss a) (spell_steps rs b) → ss ≡ rs
+unique_steps : (n : ℕ) → UniqueAt n Level.Either → (ss rs : Steps) → AreSteps ss → AreSteps rs → steps_weight ss ≤ n → (a b : List Mark)
+    → stops_steps a ≡ true → stops_steps b ≡ true → Both (spell_steps ss a) (spell_steps rs b) → ss ≡ rs
 unique_steps n u Steps.no_steps Steps.no_steps t r w a b s z h = refl
 unique_steps n u Steps.no_steps (Steps.index d q rs) t r w a b s z h = absurd (no_square a q _ s h)
 unique_steps n u Steps.no_steps (Steps.call ds q rs) t r w a b s z h = absurd (no_round a q _ s h)
@@ -61,7 +65,9 @@ unique_steps n u (Steps.call es p ss) (Steps.call ds q rs) t r w a b s z h =
     let y = spell_steps rs b in
     let ep = same_place h in
     let same = unique_exps n u round es ds t.0 r.0 (omega (arith, w)) x y (peel h) in
-    let later : Both (sign Sign.CloseRound ∷ x) (sign Sign.CloseRound ∷ y) = exps_peel es (subst (λ (o : Exps). Both (spell_exps es (sign Sign.CloseRound ∷ x)) (spell_exps o (sign Sign.CloseRound ∷ y))) (sym same) (peel h)) in
+    let later : Both (sign Sign.CloseRound ∷ x) (sign Sign.CloseRound ∷ y) =
+    exps_peel es (subst (λ (o : Exps). Both (spell_exps es (sign Sign.CloseRound ∷ x)) (spell_exps o (sign Sign.CloseRound ∷ y))) (sym same)
+    (peel h)) in
     let rest = unique_steps n u ss rs t.1 r.1 (omega (arith, w)) a b s z (peel later) in
     λ i. Steps.call (same i) (ep i) (rest i)
 
@@ -72,7 +78,8 @@ stepped e (Steps.index i p ss) = Exp.postfix e (Steps.index i p ss)
 stepped e (Steps.call es p ss) = Exp.postfix e (Steps.call es p ss)
 
 abbrev Stepped : ℕ → Exp → Type 0
-Stepped n e = (f : Exp) × (ss : Steps) × IsTree f × (7 ≤ level f) × AreSteps ss × (e ≡ stepped f ss) × ((more : List Mark) → spell e more ≡ spell f (spell_steps ss more)) × (weight f ≤ suc n) × (steps_weight ss ≤ n)
+Stepped n e = (f : Exp) × (ss : Steps) × IsTree f × (7 ≤ level f) × AreSteps ss × (e ≡ stepped f ss)
+    × ((more : List Mark) → spell e more ≡ spell f (spell_steps ss more)) × (weight f ≤ suc n) × (steps_weight ss ≤ n)
 
 alone_stepped : (n : ℕ) (e : Exp) → IsTree e → 7 ≤ level e → weight e ≤ suc n → Stepped n e
 unfolding stepped
@@ -89,11 +96,14 @@ stepped_view n (Exp.chain e ls) t l w = absurd (omega (arith, l, links_low ls))
 stepped_view n (Exp.logic j e ls) t l w = absurd (omega (arith, l, junction_low j))
 stepped_view n (Exp.prefix ss e) t l w = absurd (omega arith)
 stepped_view n (Exp.postfix e Steps.no_steps) t l w = absurd (false≢true t.3)
-stepped_view n (Exp.postfix e (Steps.index i p ss)) t l w = (e, Steps.index i p ss, t.0, t.1, t.2, refl, (λ more. refl), omega (arith, w), omega (arith, w))
-stepped_view n (Exp.postfix e (Steps.call es p ss)) t l w = (e, Steps.call es p ss, t.0, t.1, t.2, refl, (λ more. refl), omega (arith, w), omega (arith, w))
+stepped_view n (Exp.postfix e (Steps.index i p ss)) t l w =
+    (e, Steps.index i p ss, t.0, t.1, t.2, refl, (λ more. refl), omega (arith, w), omega (arith, w))
+stepped_view n (Exp.postfix e (Steps.call es p ss)) t l w =
+    (e, Steps.call es p ss, t.0, t.1, t.2, refl, (λ more. refl), omega (arith, w), omega (arith, w))
 
 abbrev Stepwise : Exp → Type 0
-Stepwise d = (f : Exp) × (ss : Steps) × IsTree f × (7 ≤ level f) × AreSteps ss × (d ≡ stepped f ss) × ((more : List Mark) → spell d more ≡ spell f (spell_steps ss more))
+Stepwise d = (f : Exp) × (ss : Steps) × IsTree f × (7 ≤ level f) × AreSteps ss × (d ≡ stepped f ss)
+    × ((more : List Mark) → spell d more ≡ spell f (spell_steps ss more))
 
 stepwise : (d : Exp) → IsTree d → 6 ≤ level d → Stepwise d
 stepwise d r m = let x = stepped_view (weight d) d r m (omega arith) in (x.0, x.1, x.2, x.3, x.4, x.5, x.6)
@@ -157,7 +167,8 @@ sign_back tree.Sign.not = refl
 sign_back tree.Sign.minus = refl
 sign_back tree.Sign.star = refl
 
-unique_signs : (ss rs : List SignAt) (x y : List Mark) → plain_first x ≡ true → plain_first y ≡ true → Both (spell_signs ss x) (spell_signs rs y) → (ss ≡ rs) × Both x y
+unique_signs : (ss rs : List SignAt) (x y : List Mark) → plain_first x ≡ true → plain_first y ≡ true → Both (spell_signs ss x) (spell_signs rs y)
+    → (ss ≡ rs) × Both x y
 unique_signs [] [] x y g k h = (refl, h)
 unique_signs [] (r ∷ rs) x y g k h = absurd (no_sign x r.sign r.place _ g h)
 unique_signs (s ∷ ss) [] x y g k h = absurd (no_sign y s.sign s.place _ k (swap h))
@@ -173,7 +184,8 @@ prefixed [] e = e
 prefixed (s ∷ ss) e = Exp.prefix (s ∷ ss) e
 
 abbrev Prefixed : ℕ → Exp → Type 0
-Prefixed n e = (ss : List SignAt) × (f : Exp) × IsTree f × (6 ≤ level f) × (e ≡ prefixed ss f) × ((more : List Mark) → spell e more ≡ spell_signs ss (spell f more)) × (weight f ≤ n)
+Prefixed n e = (ss : List SignAt) × (f : Exp) × IsTree f × (6 ≤ level f) × (e ≡ prefixed ss f)
+    × ((more : List Mark) → spell e more ≡ spell_signs ss (spell f more)) × (weight f ≤ n)
 
 alone_prefixed : (n : ℕ) (e : Exp) → IsTree e → 6 ≤ level e → weight e ≤ n → Prefixed n e
 unfolding prefixed
@@ -244,17 +256,20 @@ oper_back (Oper.compare Order.ge) = refl
 opens_of : (l : Level) (o : Oper) → oper_level o ≡ rank l → opens l (TokenKind.Sign (oper_sign o)) ≡ true
 opens_of l o e = subst (λ (m : Level). opens m (TokenKind.Sign (oper_sign o)) ≡ true) (same_level o l e) (oper_opens o)
 
-unique_links : (l : Level) (n : ℕ) → UniqueAt n (operand_of l) → (ls ks : Links) → AreLinks (rank l) ls → AreLinks (rank l) ks → links_weight ls ≤ n → (a b : List Mark) → stops l a ≡ true → stops l b ≡ true → Both (spell_links ls a) (spell_links ks b) → ls ≡ ks
+unique_links : (l : Level) (n : ℕ) → UniqueAt n (operand_of l) → (ls ks : Links) → AreLinks (rank l) ls → AreLinks (rank l) ks
+    → links_weight ls ≤ n → (a b : List Mark) → stops l a ≡ true → stops l b ≡ true → Both (spell_links ls a) (spell_links ks b) → ls ≡ ks
 unique_links l n u Links.no_links Links.no_links t r w a b s z h = refl
 unique_links l n u Links.no_links (Links.link q c d ks) t r w a b s z h = absurd (no_oper l a (sign_at (oper_sign q) c) _ s (opens_of l q r.0) h)
-unique_links l n u (Links.link o p e ls) Links.no_links t r w a b s z h = absurd (no_oper l b (sign_at (oper_sign o) p) _ z (opens_of l o t.0) (swap h))
+unique_links l n u (Links.link o p e ls) Links.no_links t r w a b s z h =
+    absurd (no_oper l b (sign_at (oper_sign o) p) _ z (opens_of l o t.0) (swap h))
 unique_links l n u (Links.link o p e ls) (Links.link q c d ks) t r w a b s z h =
     let x = spell_links ls a in
     let y = spell_links ks b in
     let eo : o ≡ q = sym (oper_back o) ∙ ap kind_oper (same_kind h) ∙ oper_back q in
     let ep = same_place h in
     let up = rank_step l in
-    let same = u e d t.1 r.1 (omega (arith, up, t.2)) (omega (arith, up, r.2)) (omega (arith, w)) x y (links_stop l ls a t.3 s) (links_stop l ks b r.3 z) (peel h) in
+    let same = u e d t.1 r.1 (omega (arith, up, t.2)) (omega (arith, up, r.2)) (omega (arith, w)) x y (links_stop l ls a t.3 s)
+    (links_stop l ks b r.3 z) (peel h) in
     let later : Both x y = exp_peel e (subst (λ (f : Exp). Both (spell e x) (spell f y)) (sym same) (peel h)) in
     let rest = unique_links l n u ls ks t.3 r.3 (omega (arith, w)) a b s z later in
     λ i. Links.link (eo i) (ep i) (same i) (rest i)
@@ -265,7 +280,8 @@ chained e Links.no_links = e
 chained e (Links.link o p f ls) = Exp.chain e (Links.link o p f ls)
 
 abbrev Chained : Level → ℕ → Exp → Type 0
-Chained l n e = (f : Exp) × (ls : Links) × IsTree f × (rank (operand_of l) ≤ level f) × AreLinks (rank l) ls × (e ≡ chained f ls) × ((more : List Mark) → spell e more ≡ spell f (spell_links ls more)) × (weight f ≤ n) × (links_weight ls ≤ n)
+Chained l n e = (f : Exp) × (ls : Links) × IsTree f × (rank (operand_of l) ≤ level f) × AreLinks (rank l) ls × (e ≡ chained f ls)
+    × ((more : List Mark) → spell e more ≡ spell f (spell_links ls more)) × (weight f ≤ n) × (links_weight ls ≤ n)
 
 alone_chained : (l : Level) (n : ℕ) (e : Exp) → IsTree e → rank (operand_of l) ≤ level e → weight e ≤ n → Chained l n e
 unfolding chained
@@ -274,11 +290,22 @@ alone_chained l n e t g w = (e, Links.no_links, t, g, tt, refl, (λ more. refl),
 abbrev IsChain : Level → Type 0
 IsChain l = (2 ≤ rank l) × (rank l ≤ 4)
 
-chain_view : (l : Level) (n : ℕ) (f : Exp) (o : Oper) (p : Place) (g : Exp) (ls : Links) → IsTree (Exp.chain f (Links.link o p g ls)) → weight (Exp.chain f (Links.link o p g ls)) ≤ n → (oper_level o ≡ rank l) ⊎ (rank l < oper_level o) → Chained l n (Exp.chain f (Links.link o p g ls))
+chain_view : (l : Level) (n : ℕ) (f : Exp) (o : Oper) (p : Place) (g : Exp) (ls : Links) → IsTree (Exp.chain f (Links.link o p g ls))
+    → weight (Exp.chain f (Links.link o p g ls)) ≤ n → (oper_level o ≡ rank l) ⊎ (rank l < oper_level o)
+    → Chained l n (Exp.chain f (Links.link o p g ls))
 unfolding chained
 chain_view l n f o p g ls t w (inl e) =
-    let up = rank_step l in
-    (f, Links.link o p g ls, t.0, omega (arith, up, e, t.1), subst (λ (m : ℕ). AreLinks m (Links.link o p g ls)) e t.2, refl, (λ more. refl), omega (arith, w), omega (arith, w))
+    let up = rank_step l in (
+      f,
+      Links.link o p g ls,
+      t.0,
+      omega (arith, up, e, t.1),
+      subst (λ (m : ℕ). AreLinks m (Links.link o p g ls)) e t.2,
+      refl,
+      (λ more. refl),
+      omega (arith, w),
+      omega (arith, w),
+    )
 chain_view l n f o p g ls t w (inr e) = let up = rank_step l in alone_chained l n (Exp.chain f (Links.link o p g ls)) t (omega (arith, up, e)) w
 
 at_or_above : (m n : ℕ) → n ≤ m → (m ≡ n) ⊎ (n < m)
@@ -322,16 +349,21 @@ operand_rank : (j : Junction) → rank (operand_of (level_of_junction j)) ≡ su
 operand_rank Junction.both = refl
 operand_rank Junction.either = refl
 
-unique_ands : (j : Junction) (n : ℕ) → UniqueAt n (operand_of (level_of_junction j)) → (ls ks : Ands) → AreAnds (junction_level j) ls → AreAnds (junction_level j) ks → ands_weight ls ≤ n → (a b : List Mark) → stops (level_of_junction j) a ≡ true → stops (level_of_junction j) b ≡ true → Both (spell_ands j ls a) (spell_ands j ks b) → ls ≡ ks
+unique_ands : (j : Junction) (n : ℕ) → UniqueAt n (operand_of (level_of_junction j)) → (ls ks : Ands) → AreAnds (junction_level j) ls
+    → AreAnds (junction_level j) ks → ands_weight ls ≤ n → (a b : List Mark) → stops (level_of_junction j) a ≡ true
+    → stops (level_of_junction j) b ≡ true → Both (spell_ands j ls a) (spell_ands j ks b) → ls ≡ ks
 unique_ands j n u Ands.no_ands Ands.no_ands t r w a b s z h = refl
-unique_ands j n u Ands.no_ands (Ands.and c d ks) t r w a b s z h = absurd (no_oper (level_of_junction j) a (sign_at (junction_sign j) c) _ s (junction_opens j) h)
-unique_ands j n u (Ands.and p e ls) Ands.no_ands t r w a b s z h = absurd (no_oper (level_of_junction j) b (sign_at (junction_sign j) p) _ z (junction_opens j) (swap h))
+unique_ands j n u Ands.no_ands (Ands.and c d ks) t r w a b s z h =
+    absurd (no_oper (level_of_junction j) a (sign_at (junction_sign j) c) _ s (junction_opens j) h)
+unique_ands j n u (Ands.and p e ls) Ands.no_ands t r w a b s z h =
+    absurd (no_oper (level_of_junction j) b (sign_at (junction_sign j) p) _ z (junction_opens j) (swap h))
 unique_ands j n u (Ands.and p e ls) (Ands.and c d ks) t r w a b s z h =
     let x = spell_ands j ls a in
     let y = spell_ands j ks b in
     let ep = same_place h in
     let up = operand_rank j in
-    let same = u e d t.0 r.0 (omega (arith, up, t.1)) (omega (arith, up, r.1)) (omega (arith, w)) x y (ands_stop j ls a s) (ands_stop j ks b z) (peel h) in
+    let same = u e d t.0 r.0 (omega (arith, up, t.1)) (omega (arith, up, r.1)) (omega (arith, w)) x y (ands_stop j ls a s) (ands_stop j ks b z)
+    (peel h) in
     let later : Both x y = exp_peel e (subst (λ (f : Exp). Both (spell e x) (spell f y)) (sym same) (peel h)) in
     let rest = unique_ands j n u ls ks t.2 r.2 (omega (arith, w)) a b s z later in
     λ i. Ands.and (ep i) (same i) (rest i)
@@ -342,11 +374,13 @@ joined j e Ands.no_ands = e
 joined j e (Ands.and p f ls) = Exp.logic j e (Ands.and p f ls)
 
 abbrev Joined : Junction → ℕ → Exp → Type 0
-Joined j n e = (f : Exp) × (ls : Ands) × IsTree f × (rank (operand_of (level_of_junction j)) ≤ level f) × AreAnds (junction_level j) ls × (e ≡ joined j f ls) × ((more : List Mark) → spell e more ≡ spell f (spell_ands j ls more)) × (weight f ≤ n) × (ands_weight ls ≤ n)
+Joined j n e = (f : Exp) × (ls : Ands) × IsTree f × (rank (operand_of (level_of_junction j)) ≤ level f) × AreAnds (junction_level j) ls
+    × (e ≡ joined j f ls) × ((more : List Mark) → spell e more ≡ spell f (spell_ands j ls more)) × (weight f ≤ n) × (ands_weight ls ≤ n)
 
 alone_joined : (j : Junction) (n : ℕ) (e : Exp) → IsTree e → 2 ≤ level e → weight e ≤ n → Joined j n e
 unfolding joined
-alone_joined j n e t g w = let up = operand_rank j in let low = junction_low j in (e, Ands.no_ands, t, omega (arith, up, low, g), tt, refl, (λ more. refl), w, omega arith)
+alone_joined j n e t g w = let up = operand_rank j in let low = junction_low j in
+    (e, Ands.no_ands, t, omega (arith, up, low, g), tt, refl, (λ more. refl), w, omega arith)
 
 oper_high : (o : Oper) → 2 ≤ oper_level o
 oper_high Oper.plus = omega arith
@@ -365,15 +399,20 @@ joined_view j n (Exp.parens e) t g w = alone_joined j n (Exp.parens e) t (omega 
 joined_view j n (Exp.parts o p es) t g w = alone_joined j n (Exp.parts o p es) t (omega arith) w
 joined_view j n (Exp.chain e Links.no_links) t g w = absurd (false≢true t.3)
 joined_view j n (Exp.chain e (Links.link o p f ls)) t g w = alone_joined j n (Exp.chain e (Links.link o p f ls)) t (oper_high o) w
-joined_view Junction.either n (Exp.logic Junction.both e ls) t g w = (Exp.logic Junction.both e ls, Ands.no_ands, t, omega arith, tt, refl, (λ more. refl), w, omega arith)
+joined_view Junction.either n (Exp.logic Junction.both e ls) t g w =
+    (Exp.logic Junction.both e ls, Ands.no_ands, t, omega arith, tt, refl, (λ more. refl), w, omega arith)
 joined_view Junction.both n (Exp.logic Junction.either e ls) t g w = absurd (omega arith)
 joined_view j n (Exp.logic i e Ands.no_ands) t g w = absurd (false≢true t.3)
-joined_view Junction.both n (Exp.logic Junction.both e (Ands.and p f ls)) t g w = (e, Ands.and p f ls, t.0, omega (arith, t.1), t.2, refl, (λ more. refl), omega (arith, w), omega (arith, w))
-joined_view Junction.either n (Exp.logic Junction.either e (Ands.and p f ls)) t g w = (e, Ands.and p f ls, t.0, omega (arith, t.1), t.2, refl, (λ more. refl), omega (arith, w), omega (arith, w))
+joined_view Junction.both n (Exp.logic Junction.both e (Ands.and p f ls)) t g w =
+    (e, Ands.and p f ls, t.0, omega (arith, t.1), t.2, refl, (λ more. refl), omega (arith, w), omega (arith, w))
+joined_view Junction.either n (Exp.logic Junction.either e (Ands.and p f ls)) t g w =
+    (e, Ands.and p f ls, t.0, omega (arith, t.1), t.2, refl, (λ more. refl), omega (arith, w), omega (arith, w))
 joined_view j n (Exp.prefix ss e) t g w = alone_joined j n (Exp.prefix ss e) t (omega arith) w
 joined_view j n (Exp.postfix e ss) t g w = alone_joined j n (Exp.postfix e ss) t (omega arith) w
 
-unique_junction : (j : Junction) (n : ℕ) → UniqueAt n (operand_of (level_of_junction j)) → (e d : Exp) → IsTree e → IsTree d → junction_level j ≤ level e → junction_level j ≤ level d → weight e ≤ n → (a b : List Mark) → stops (level_of_junction j) a ≡ true → stops (level_of_junction j) b ≡ true → Both (spell e a) (spell d b) → e ≡ d
+unique_junction : (j : Junction) (n : ℕ) → UniqueAt n (operand_of (level_of_junction j)) → (e d : Exp) → IsTree e → IsTree d
+    → junction_level j ≤ level e → junction_level j ≤ level d → weight e ≤ n → (a b : List Mark) → stops (level_of_junction j) a ≡ true
+    → stops (level_of_junction j) b ≡ true → Both (spell e a) (spell d b) → e ≡ d
 unique_junction j n u e d t r g m w a b s z h =
     let x = joined_view j n e t g w in
     let y = joined_view j (weight d) d r m (omega arith) in

@@ -11,7 +11,8 @@ use Rattle.sky_grammar.specs.declared.parts.Head.{Head}
 use Rattle.sky_grammar.specs.Signs.{is, is_word}
 use Rattle.sky_grammar.specs.Levels.{rank}
 use Rattle.sky_grammar.specs.Parts.{Has, head_shape, spell_head, spell_parts}
-use Rattle.sky_grammar.specs.Grammar.{Mark, sign, sign_at, word_at, name_at, spell, spell_exps, spell_others, spell_params, spell_other_params, spell_block, spell_stms, AreStms, spell_pairs, spell_value, spell_other_pairs, paired, valued, AreTrees, IsTree}
+use Rattle.sky_grammar.specs.Grammar.{Mark, sign, sign_at, word_at, name_at, spell, spell_exps, spell_others, spell_params, spell_other_params}
+use Rattle.sky_grammar.specs.Grammar.{spell_block, spell_stms, AreStms, spell_pairs, spell_value, spell_other_pairs, paired, valued, AreTrees, IsTree}
 use Rattle.sky_grammar.specs.Machine.{is_literal, kind, kinds_of}
 use Rattle.sky_grammar.proofs.Operands.{stops, Closes, round, square, curly, semicolon, others_stop, value_stop, pairs_stop, begins, first}
 use Rattle.sky_grammar.proofs.Statements.{ends_block}
@@ -22,7 +23,8 @@ use Rattle.sky_grammar.specs.Source.{Param, Exp, Exps, Stms, weight, exps_weight
 -- Two trees of a level that spell the same tokens are one, if no more than so much weighs the first and nothing that
 -- follows them goes on them.
 abbrev pub UniqueAt : ℕ → Level → Type 0
-UniqueAt n l = (e d : Exp) → IsTree e → IsTree d → rank l ≤ level e → rank l ≤ level d → weight e ≤ n → (a b : List Mark) → stops l a ≡ true → stops l b ≡ true → Both (spell e a) (spell d b) → e ≡ d
+UniqueAt n l = (e d : Exp) → IsTree e → IsTree d → rank l ≤ level e → rank l ≤ level d → weight e ≤ n → (a b : List Mark) → stops l a ≡ true
+    → stops l b ≡ true → Both (spell e a) (spell d b) → e ≡ d
 
 -- the same of primaries, whatever follows them
 abbrev pub Unique : ℕ → ℕ → Type 0
@@ -43,24 +45,32 @@ not_comma square a b h = let e = same_kind h in absurd cc
 not_comma curly a b h = let e = same_kind h in absurd cc
 not_comma semicolon a b h = let e = same_kind h in absurd cc
 
-unique_others : (n : ℕ) → UniqueAt n Level.Either → {s : Sign} → Closes s → (es ds : Exps) → AreTrees es → AreTrees ds → exps_weight es ≤ n → (a b : List Mark) → Both (spell_others es (sign s ∷ a)) (spell_others ds (sign s ∷ b)) → es ≡ ds
+unique_others : (n : ℕ) → UniqueAt n Level.Either → {s : Sign} → Closes s → (es ds : Exps) → AreTrees es → AreTrees ds → exps_weight es ≤ n
+    → (a b : List Mark) → Both (spell_others es (sign s ∷ a)) (spell_others ds (sign s ∷ b)) → es ≡ ds
 unique_others n u c Exps.no_exps Exps.no_exps t r w a b h = refl
 unique_others n u c Exps.no_exps (Exps.exp d ds) t r w a b h = absurd (not_comma c a _ h)
 unique_others n u c (Exps.exp e es) Exps.no_exps t r w a b h = absurd (not_comma c b _ (swap h))
 unique_others n u {s = s} c (Exps.exp e es) (Exps.exp d ds) t r w a b h =
     let g = peel h in
-    let same = u e d t.0 r.0 (omega arith) (omega arith) (omega (arith, w)) (spell_others es (sign s ∷ a)) (spell_others ds (sign s ∷ b)) (others_stop c es a) (others_stop c ds b) g in
-    let later = exp_peel e (subst (λ (x : Exp). Both (spell e (spell_others es (sign s ∷ a))) (spell x (spell_others ds (sign s ∷ b)))) (sym same) g) in
+    let same = u e d t.0 r.0 (omega arith) (omega arith) (omega (arith, w)) (spell_others es (sign s ∷ a)) (spell_others ds (sign s ∷ b))
+    (others_stop c es a) (others_stop c ds b) g in
+    let later = exp_peel e (subst (λ (x : Exp). Both (spell e (spell_others es (sign s ∷ a))) (spell x (spell_others ds (sign s ∷ b))))
+    (sym same) g) in
     let rest = unique_others n u c es ds t.1 r.1 (omega (arith, w)) a b later in
     λ i. Exps.exp (same i) (rest i)
 
-pub unique_exps : (n : ℕ) → UniqueAt n Level.Either → {s : Sign} → Closes s → (es ds : Exps) → AreTrees es → AreTrees ds → exps_weight es ≤ n → (a b : List Mark) → Both (spell_exps es (sign s ∷ a)) (spell_exps ds (sign s ∷ b)) → es ≡ ds
+pub unique_exps : (n : ℕ) → UniqueAt n Level.Either → {s : Sign} → Closes s → (es ds : Exps) → AreTrees es → AreTrees ds → exps_weight es ≤ n
+    → (a b : List Mark) → Both (spell_exps es (sign s ∷ a)) (spell_exps ds (sign s ∷ b)) → es ≡ ds
 unique_exps n u c Exps.no_exps Exps.no_exps t r w a b h = refl
-unique_exps n u {s = s} c Exps.no_exps (Exps.exp d ds) t r w a b h = absurd (apart (spell d (spell_others ds (sign s ∷ b))) a (first c d r.0 (spell_others ds (sign s ∷ b))) (swap h))
-unique_exps n u {s = s} c (Exps.exp e es) Exps.no_exps t r w a b h = absurd (apart (spell e (spell_others es (sign s ∷ a))) b (first c e t.0 (spell_others es (sign s ∷ a))) h)
+unique_exps n u {s = s} c Exps.no_exps (Exps.exp d ds) t r w a b h =
+    absurd (apart (spell d (spell_others ds (sign s ∷ b))) a (first c d r.0 (spell_others ds (sign s ∷ b))) (swap h))
+unique_exps n u {s = s} c (Exps.exp e es) Exps.no_exps t r w a b h =
+    absurd (apart (spell e (spell_others es (sign s ∷ a))) b (first c e t.0 (spell_others es (sign s ∷ a))) h)
 unique_exps n u {s = s} c (Exps.exp e es) (Exps.exp d ds) t r w a b h =
-    let same = u e d t.0 r.0 (omega arith) (omega arith) (omega (arith, w)) (spell_others es (sign s ∷ a)) (spell_others ds (sign s ∷ b)) (others_stop c es a) (others_stop c ds b) h in
-    let later = exp_peel e (subst (λ (x : Exp). Both (spell e (spell_others es (sign s ∷ a))) (spell x (spell_others ds (sign s ∷ b)))) (sym same) h) in
+    let same = u e d t.0 r.0 (omega arith) (omega arith) (omega (arith, w)) (spell_others es (sign s ∷ a)) (spell_others ds (sign s ∷ b))
+    (others_stop c es a) (others_stop c ds b) h in
+    let later = exp_peel e (subst (λ (x : Exp). Both (spell e (spell_others es (sign s ∷ a))) (spell x (spell_others ds (sign s ∷ b))))
+    (sym same) h) in
     let rest = unique_others n u c es ds t.1 r.1 (omega (arith, w)) a b later in
     λ i. Exps.exp (same i) (rest i)
 
@@ -68,34 +78,45 @@ abbrev end_curly : List Mark → List Mark
 end_curly a = sign Sign.CloseCurly ∷ a
 
 mutual
-  unique_value : (n : ℕ) → UniqueAt n Level.Either → (es ds : Exps) → AreTrees es → AreTrees ds → valued es ≡ true → valued ds ≡ true → exps_weight es ≤ n → (a b : List Mark) → Both (spell_value es (end_curly a)) (spell_value ds (end_curly b)) → es ≡ ds
+  unique_value : (n : ℕ) → UniqueAt n Level.Either → (es ds : Exps) → AreTrees es → AreTrees ds → valued es ≡ true → valued ds ≡ true
+      → exps_weight es ≤ n → (a b : List Mark) → Both (spell_value es (end_curly a)) (spell_value ds (end_curly b)) → es ≡ ds
   unique_value n u Exps.no_exps ds t r v x w a b h = absurd (false≢true v)
   unique_value n u (Exps.exp e es) Exps.no_exps t r v x w a b h = absurd (false≢true x)
   unique_value n u (Exps.exp e es) (Exps.exp d ds) t r v x w a b h =
       let g = peel h in
-      let same = u e d t.0 r.0 (omega arith) (omega arith) (omega (arith, w)) (spell_other_pairs es (end_curly a)) (spell_other_pairs ds (end_curly b)) (pairs_stop es a) (pairs_stop ds b) g in
-      let later = exp_peel e (subst (λ (y : Exp). Both (spell e (spell_other_pairs es (end_curly a))) (spell y (spell_other_pairs ds (end_curly b)))) (sym same) g) in
+      let same = u e d t.0 r.0 (omega arith) (omega arith) (omega (arith, w)) (spell_other_pairs es (end_curly a))
+      (spell_other_pairs ds (end_curly b)) (pairs_stop es a) (pairs_stop ds b) g in
+      let later = exp_peel e (subst (λ (y : Exp). Both (spell e (spell_other_pairs es (end_curly a)))
+      (spell y (spell_other_pairs ds (end_curly b)))) (sym same) g) in
       let rest = unique_other_pairs n u es ds t.1 r.1 v x (omega (arith, w)) a b later in
       λ i. Exps.exp (same i) (rest i)
 
-  unique_other_pairs : (n : ℕ) → UniqueAt n Level.Either → (es ds : Exps) → AreTrees es → AreTrees ds → paired es ≡ true → paired ds ≡ true → exps_weight es ≤ n → (a b : List Mark) → Both (spell_other_pairs es (end_curly a)) (spell_other_pairs ds (end_curly b)) → es ≡ ds
+  unique_other_pairs : (n : ℕ) → UniqueAt n Level.Either → (es ds : Exps) → AreTrees es → AreTrees ds → paired es ≡ true → paired ds ≡ true
+      → exps_weight es ≤ n → (a b : List Mark) → Both (spell_other_pairs es (end_curly a)) (spell_other_pairs ds (end_curly b)) → es ≡ ds
   unique_other_pairs n u Exps.no_exps Exps.no_exps t r v x w a b h = refl
   unique_other_pairs n u Exps.no_exps (Exps.exp d ds) t r v x w a b h = absurd (not_comma curly a _ h)
   unique_other_pairs n u (Exps.exp e es) Exps.no_exps t r v x w a b h = absurd (not_comma curly b _ (swap h))
   unique_other_pairs n u (Exps.exp e es) (Exps.exp d ds) t r v x w a b h =
       let g = peel h in
-      let same = u e d t.0 r.0 (omega arith) (omega arith) (omega (arith, w)) (spell_value es (end_curly a)) (spell_value ds (end_curly b)) (value_stop es (end_curly a) v) (value_stop ds (end_curly b) x) g in
-      let later = exp_peel e (subst (λ (y : Exp). Both (spell e (spell_value es (end_curly a))) (spell y (spell_value ds (end_curly b)))) (sym same) g) in
+      let same = u e d t.0 r.0 (omega arith) (omega arith) (omega (arith, w)) (spell_value es (end_curly a)) (spell_value ds (end_curly b))
+      (value_stop es (end_curly a) v) (value_stop ds (end_curly b) x) g in
+      let later = exp_peel e (subst (λ (y : Exp). Both (spell e (spell_value es (end_curly a))) (spell y (spell_value ds (end_curly b))))
+      (sym same) g) in
       let rest = unique_value n u es ds t.1 r.1 v x (omega (arith, w)) a b later in
       λ i. Exps.exp (same i) (rest i)
 
-unique_pairs : (n : ℕ) → UniqueAt n Level.Either → (es ds : Exps) → AreTrees es → AreTrees ds → paired es ≡ true → paired ds ≡ true → exps_weight es ≤ n → (a b : List Mark) → Both (spell_pairs es (end_curly a)) (spell_pairs ds (end_curly b)) → es ≡ ds
+unique_pairs : (n : ℕ) → UniqueAt n Level.Either → (es ds : Exps) → AreTrees es → AreTrees ds → paired es ≡ true → paired ds ≡ true
+    → exps_weight es ≤ n → (a b : List Mark) → Both (spell_pairs es (end_curly a)) (spell_pairs ds (end_curly b)) → es ≡ ds
 unique_pairs n u Exps.no_exps Exps.no_exps t r v x w a b h = refl
-unique_pairs n u Exps.no_exps (Exps.exp d ds) t r v x w a b h = absurd (apart (spell d (spell_value ds (end_curly b))) a (first curly d r.0 (spell_value ds (end_curly b))) (swap h))
-unique_pairs n u (Exps.exp e es) Exps.no_exps t r v x w a b h = absurd (apart (spell e (spell_value es (end_curly a))) b (first curly e t.0 (spell_value es (end_curly a))) h)
+unique_pairs n u Exps.no_exps (Exps.exp d ds) t r v x w a b h =
+    absurd (apart (spell d (spell_value ds (end_curly b))) a (first curly d r.0 (spell_value ds (end_curly b))) (swap h))
+unique_pairs n u (Exps.exp e es) Exps.no_exps t r v x w a b h =
+    absurd (apart (spell e (spell_value es (end_curly a))) b (first curly e t.0 (spell_value es (end_curly a))) h)
 unique_pairs n u (Exps.exp e es) (Exps.exp d ds) t r v x w a b h =
-    let same = u e d t.0 r.0 (omega arith) (omega arith) (omega (arith, w)) (spell_value es (end_curly a)) (spell_value ds (end_curly b)) (value_stop es (end_curly a) v) (value_stop ds (end_curly b) x) h in
-    let later = exp_peel e (subst (λ (y : Exp). Both (spell e (spell_value es (end_curly a))) (spell y (spell_value ds (end_curly b)))) (sym same) h) in
+    let same = u e d t.0 r.0 (omega arith) (omega arith) (omega (arith, w)) (spell_value es (end_curly a)) (spell_value ds (end_curly b))
+    (value_stop es (end_curly a) v) (value_stop ds (end_curly b) x) h in
+    let later = exp_peel e (subst (λ (y : Exp). Both (spell e (spell_value es (end_curly a))) (spell y (spell_value ds (end_curly b))))
+    (sym same) h) in
     let rest = unique_value n u es ds t.1 r.1 v x (omega (arith, w)) a b later in
     λ i. Exps.exp (same i) (rest i)
 
@@ -104,7 +125,8 @@ ClosesShape (Shape.Many s) = Closes s
 ClosesShape (Shape.Fixed m s) = Closes s
 ClosesShape Shape.Pairs = Unit {0}
 
-unique_parts : (n : ℕ) → UniqueAt n Level.Either → (h : Shape) → ClosesShape h → (es ds : Exps) → AreTrees es → AreTrees ds → Has h es → Has h ds → exps_weight es ≤ n → (a b : List Mark) → Both (spell_parts h es a) (spell_parts h ds b) → es ≡ ds
+unique_parts : (n : ℕ) → UniqueAt n Level.Either → (h : Shape) → ClosesShape h → (es ds : Exps) → AreTrees es → AreTrees ds → Has h es → Has h ds
+    → exps_weight es ≤ n → (a b : List Mark) → Both (spell_parts h es a) (spell_parts h ds b) → es ≡ ds
 unique_parts n u (Shape.Many s) c es ds t r p q w a b h = unique_exps n u c es ds t r w a b h
 unique_parts n u (Shape.Fixed m s) c es ds t r p q w a b h = unique_exps n u c es ds t r w a b h
 unique_parts n u Shape.Pairs c es ds t r p q w a b h = unique_pairs n u es ds t r p q w a b h
@@ -150,12 +172,14 @@ abbrev Leaf : Exp → Type 0
 Leaf e = (k : TokenKind) × (p : Place) × (is_leaf k ≡ true) × (e ≡ leaf_of k p) × ((more : List Mark) → spell e more ≡ Mark.placed k p ∷ more)
 
 abbrev Opened : Exp → Type 0
-Opened e = (h : Head) × (p : Place) × (es : Exps) × AreTrees es × Has (head_shape h) es × (e ≡ made h p es) × (exps_weight es < weight e) × ((more : List Mark) → spell e more ≡ spell_head h p (spell_parts (head_shape h) es more))
+Opened e = (h : Head) × (p : Place) × (es : Exps) × AreTrees es × Has (head_shape h) es × (e ≡ made h p es) × (exps_weight es < weight e)
+    × ((more : List Mark) → spell e more ≡ spell_head h p (spell_parts (head_shape h) es more))
 
 -- an anonymous function
 abbrev Nested : Exp → Type 0
 Nested e = (p : Place) × (xs : List Param) × (b : Stms) × AreStms b × (e ≡ Exp.func p xs b) × (stms_weight b < weight e)
-    × ((more : List Mark) → spell e more ≡ word_at Word.Function p ∷ sign Sign.OpenRound ∷ spell_params xs (sign Sign.CloseRound ∷ spell_block b more))
+    × ((more : List Mark) → spell e more ≡ word_at Word.Function p ∷ sign Sign.OpenRound
+    ∷ spell_params xs (sign Sign.CloseRound ∷ spell_block b more))
 
 primary_view : (e : Exp) → IsTree e → 7 ≤ level e → Leaf e ⊎ (Opened e ⊎ Nested e)
 unfolding leaf_of word_leaf only
@@ -199,7 +223,8 @@ head_first Head.Keys p more = (word_at Word.Keys p, sign Sign.OpenRound ∷ more
 head_first Head.Has p more = (word_at Word.Has p, sign Sign.OpenRound ∷ more, refl, refl, refl)
 head_first Head.Range p more = (word_at Word.Range p, sign Sign.OpenRound ∷ more, refl, refl, refl)
 
-leaf_not_head : (k : TokenKind) (p q : Place) (h : Head) (a more : List Mark) → is_leaf k ≡ true → Both (Mark.placed k p ∷ a) (spell_head h q more) → ⊥
+leaf_not_head : (k : TokenKind) (p q : Place) (h : Head) (a more : List Mark) → is_leaf k ≡ true
+    → Both (Mark.placed k p ∷ a) (spell_head h q more) → ⊥
 leaf_not_head k p q h a more e b =
     let x = head_first h q more in
     let c = subst (λ (ms : List Mark). Both (Mark.placed k p ∷ a) ms) x.2 b in
@@ -253,7 +278,9 @@ same_heads (m ∷ a) (n ∷ b) h = ap kind_opens (same_kind h)
 abbrev Same : Head → Place → Place → List Mark → List Mark → Type 0
 Same h p q a b = ((es : Exps) → made h p es ≡ made h q es) × Both a b
 
-word_same : (w : Word) (o : Form) (p q : Place) (a b : List Mark) → Both (word_at w p ∷ sign Sign.OpenRound ∷ a) (word_at w q ∷ sign Sign.OpenRound ∷ b) → ((es : Exps) → Exp.parts o p es ≡ Exp.parts o q es) × Both a b
+word_same : (w : Word) (o : Form) (p q : Place) (a b : List Mark)
+    → Both (word_at w p ∷ sign Sign.OpenRound ∷ a) (word_at w q ∷ sign Sign.OpenRound ∷ b) → ((es : Exps) → Exp.parts o p es ≡ Exp.parts o q es)
+    × Both a b
 word_same w o p q a b h = let e = same_place h in ((λ es. ap (λ (r : Place). Exp.parts o r es) e), peel (peel h))
 
 open_same : (h : Head) (p q : Place) (a b : List Mark) → Both (spell_head h p a) (spell_head h q b) → Same h p q a b
@@ -285,12 +312,15 @@ head_closes Head.Range = round
 pub both_via : (e d : Exp) (a b x y : List Mark) → spell e a ≡ x → spell d b ≡ y → Both (spell e a) (spell d b) → Both x y
 both_via e d a b x y f g h = subst (λ (m : List Mark). Both m y) f (subst (λ (m : List Mark). Both (spell e a) m) g h)
 
-same_opened : (n : ℕ) → UniqueAt n Level.Either → (h g : Head) → h ≡ g → (p q : Place) (es ds : Exps) → AreTrees es → AreTrees ds → Has (head_shape h) es → Has (head_shape g) ds → exps_weight es ≤ n → (a b : List Mark)
+same_opened : (n : ℕ) → UniqueAt n Level.Either → (h g : Head) → h ≡ g → (p q : Place) (es ds : Exps) → AreTrees es → AreTrees ds
+    → Has (head_shape h) es → Has (head_shape g) ds → exps_weight es ≤ n → (a b : List Mark)
     → Both (spell_head h p (spell_parts (head_shape h) es a)) (spell_head g q (spell_parts (head_shape g) ds b)) → made h p es ≡ made g q ds
 same_opened n u h g same p q es ds t r x y w a b k =
     let back = sym same in
     let y2 : Has (head_shape h) ds = subst (λ (z : Head). Has (head_shape z) ds) back y in
-    let k2 : Both (spell_head h p (spell_parts (head_shape h) es a)) (spell_head h q (spell_parts (head_shape h) ds b)) = subst (λ (z : Head). Both (spell_head h p (spell_parts (head_shape h) es a)) (spell_head z q (spell_parts (head_shape z) ds b))) back k in
+    let k2 : Both (spell_head h p (spell_parts (head_shape h) es a)) (spell_head h q (spell_parts (head_shape h) ds b)) =
+    subst (λ (z : Head). Both (spell_head h p (spell_parts (head_shape h) es a)) (spell_head z q (spell_parts (head_shape z) ds b))) back
+    k in
     let o = open_same h p q (spell_parts (head_shape h) es a) (spell_parts (head_shape h) ds b) k2 in
     let parts = unique_parts n u (head_shape h) (head_closes h) es ds t r x y2 w a b o.1 in
     o.0 es ∙ ap (made h q) parts ∙ ap (λ (z : Head). made z q ds) same
@@ -299,7 +329,8 @@ same_opened n u h g same p q es ds t r x y w a b k =
 same_name : {x y : List ℕ} {p q : Place} {a b : List Mark} → Both (name_at x p ∷ a) (name_at y q ∷ b) → x ≡ y
 same_name h = let e = same_kind h in cc
 
-unique_other_params : (ps qs : List Param) (a b : List Mark) → Both (spell_other_params ps (sign Sign.CloseRound ∷ a)) (spell_other_params qs (sign Sign.CloseRound ∷ b)) → (ps ≡ qs) × Both a b
+unique_other_params : (ps qs : List Param) (a b : List Mark)
+    → Both (spell_other_params ps (sign Sign.CloseRound ∷ a)) (spell_other_params qs (sign Sign.CloseRound ∷ b)) → (ps ≡ qs) × Both a b
 unique_other_params [] [] a b h = (refl, peel h)
 unique_other_params [] (q ∷ qs) a b h = let k = same_kind h in absurd cc
 unique_other_params (p ∷ ps) [] a b h = let k = same_kind h in absurd cc
@@ -309,7 +340,8 @@ unique_other_params (p ∷ ps) (q ∷ qs) a b h =
     let rest = unique_other_params ps qs a b (peel (peel h)) in
     ((λ i. record { name = en i; place = ep i } ∷ rest.0 i), rest.1)
 
-pub unique_params : (ps qs : List Param) (a b : List Mark) → Both (spell_params ps (sign Sign.CloseRound ∷ a)) (spell_params qs (sign Sign.CloseRound ∷ b)) → (ps ≡ qs) × Both a b
+pub unique_params : (ps qs : List Param) (a b : List Mark)
+    → Both (spell_params ps (sign Sign.CloseRound ∷ a)) (spell_params qs (sign Sign.CloseRound ∷ b)) → (ps ≡ qs) × Both a b
 unique_params [] [] a b h = (refl, peel h)
 unique_params [] (q ∷ qs) a b h = let k = same_kind h in absurd cc
 unique_params (p ∷ ps) [] a b h = let k = same_kind h in absurd cc
@@ -321,9 +353,11 @@ unique_params (p ∷ ps) (q ∷ qs) a b h =
 
 -- the same of the statements of a block, where their block ends behind them
 abbrev pub UniqueStms : ℕ → Type 0
-UniqueStms n = (ss rs : Stms) → AreStms ss → AreStms rs → stms_weight ss ≤ n → (a b : List Mark) → ends_block a ≡ true → ends_block b ≡ true → Both (spell_stms ss a) (spell_stms rs b) → ss ≡ rs
+UniqueStms n = (ss rs : Stms) → AreStms ss → AreStms rs → stms_weight ss ≤ n → (a b : List Mark) → ends_block a ≡ true → ends_block b ≡ true
+    → Both (spell_stms ss a) (spell_stms rs b) → ss ≡ rs
 
-leaf_not_function : (k : TokenKind) (p q : Place) (a more : List Mark) → is_leaf k ≡ true → Both (Mark.placed k p ∷ a) (word_at Word.Function q ∷ more) → ⊥
+leaf_not_function : (k : TokenKind) (p q : Place) (a more : List Mark) → is_leaf k ≡ true
+    → Both (Mark.placed k p ∷ a) (word_at Word.Function q ∷ more) → ⊥
 leaf_not_function k p q a more e h = false≢true (ap is_leaf (sym (same_kind h)) ∙ e)
 
 head_not_function : (h : Head) (p q : Place) (a more : List Mark) → Both (spell_head h p a) (word_at Word.Function q ∷ more) → ⊥
@@ -333,14 +367,17 @@ head_not_function h p q a more b =
     false≢true (sym x.4 ∙ ap (is_word Word.Function) (same_kind c))
 
 same_nested : (n : ℕ) → UniqueStms n → (p q : Place) (xs ys : List Param) (b d : Stms) → AreStms b → AreStms d → stms_weight b ≤ n → (a c : List Mark)
-    → Both (word_at Word.Function p ∷ sign Sign.OpenRound ∷ spell_params xs (sign Sign.CloseRound ∷ spell_block b a)) (word_at Word.Function q ∷ sign Sign.OpenRound ∷ spell_params ys (sign Sign.CloseRound ∷ spell_block d c)) → Exp.func p xs b ≡ Exp.func q ys d
+    → Both (word_at Word.Function p ∷ sign Sign.OpenRound ∷ spell_params xs (sign Sign.CloseRound ∷ spell_block b a))
+    (word_at Word.Function q ∷ sign Sign.OpenRound ∷ spell_params ys (sign Sign.CloseRound ∷ spell_block d c)) → Exp.func p xs b
+    ≡ Exp.func q ys d
 same_nested n v p q xs ys b d t r w a c h =
     let ep = same_place h in
     let ps = unique_params xs ys (spell_block b a) (spell_block d c) (peel (peel h)) in
     let body = v b d t r w (sign Sign.CloseCurly ∷ a) (sign Sign.CloseCurly ∷ c) refl refl (peel ps.1) in
     λ i. Exp.func (ep i) (ps.0 i) (body i)
 
-same_primary : (n : ℕ) → UniqueAt n Level.Either → UniqueStms n → (e d : Exp) → weight e ≤ suc n → (a b : List Mark) → Leaf e ⊎ (Opened e ⊎ Nested e) → Leaf d ⊎ (Opened d ⊎ Nested d) → Both (spell e a) (spell d b) → e ≡ d
+same_primary : (n : ℕ) → UniqueAt n Level.Either → UniqueStms n → (e d : Exp) → weight e ≤ suc n → (a b : List Mark) → Leaf e
+    ⊎ (Opened e ⊎ Nested e) → Leaf d ⊎ (Opened d ⊎ Nested d) → Both (spell e a) (spell d b) → e ≡ d
 same_primary n u v e d w a b (inl x) (inl y) h =
     let k = both_via e d a b (Mark.placed x.0 x.1 ∷ a) (Mark.placed y.0 y.1 ∷ b) (x.4 a) (y.4 b) h in
     let ek = same_kind k in
@@ -356,22 +393,27 @@ same_primary n u v e d w a b (inr (inl x)) (inr (inl y)) h =
     let mx = spell_head x.0 x.1 (spell_parts (head_shape x.0) x.2 a) in
     let my = spell_head y.0 y.1 (spell_parts (head_shape y.0) y.2 b) in
     let k = both_via e d a b mx my (x.7 a) (y.7 b) h in
-    let same : x.0 ≡ y.0 = sym (head_back x.0 x.1 (spell_parts (head_shape x.0) x.2 a)) ∙ same_heads mx my k ∙ head_back y.0 y.1 (spell_parts (head_shape y.0) y.2 b) in
+    let same : x.0 ≡ y.0 = sym (head_back x.0 x.1 (spell_parts (head_shape x.0) x.2 a)) ∙ same_heads mx my k
+    ∙ head_back y.0 y.1 (spell_parts (head_shape y.0) y.2 b) in
     x.5 ∙ same_opened n u x.0 y.0 same x.1 y.1 x.2 y.2 x.3 y.3 x.4 y.4 (omega (arith, w, x.6)) a b k ∙ sym (y.5)
 same_primary n u v e d w a b (inl x) (inr (inr y)) h =
     let rest = sign Sign.OpenRound ∷ spell_params y.1 (sign Sign.CloseRound ∷ spell_block y.2 b) in
-    absurd (leaf_not_function x.0 x.1 y.0 a rest x.2 (both_via e d a b (Mark.placed x.0 x.1 ∷ a) (word_at Word.Function y.0 ∷ rest) (x.4 a) (y.6 b) h))
+    absurd (leaf_not_function x.0 x.1 y.0 a rest x.2
+    (both_via e d a b (Mark.placed x.0 x.1 ∷ a) (word_at Word.Function y.0 ∷ rest) (x.4 a) (y.6 b) h))
 same_primary n u v e d w a b (inr (inr x)) (inl y) h =
     let rest = sign Sign.OpenRound ∷ spell_params x.1 (sign Sign.CloseRound ∷ spell_block x.2 a) in
-    absurd (leaf_not_function y.0 y.1 x.0 b rest y.2 (swap (both_via e d a b (word_at Word.Function x.0 ∷ rest) (Mark.placed y.0 y.1 ∷ b) (x.6 a) (y.4 b) h)))
+    absurd (leaf_not_function y.0 y.1 x.0 b rest y.2
+    (swap (both_via e d a b (word_at Word.Function x.0 ∷ rest) (Mark.placed y.0 y.1 ∷ b) (x.6 a) (y.4 b) h)))
 same_primary n u v e d w a b (inr (inl x)) (inr (inr y)) h =
     let parts = spell_parts (head_shape x.0) x.2 a in
     let rest = sign Sign.OpenRound ∷ spell_params y.1 (sign Sign.CloseRound ∷ spell_block y.2 b) in
-    absurd (head_not_function x.0 x.1 y.0 parts rest (both_via e d a b (spell_head x.0 x.1 parts) (word_at Word.Function y.0 ∷ rest) (x.7 a) (y.6 b) h))
+    absurd (head_not_function x.0 x.1 y.0 parts rest
+    (both_via e d a b (spell_head x.0 x.1 parts) (word_at Word.Function y.0 ∷ rest) (x.7 a) (y.6 b) h))
 same_primary n u v e d w a b (inr (inr x)) (inr (inl y)) h =
     let parts = spell_parts (head_shape y.0) y.2 b in
     let rest = sign Sign.OpenRound ∷ spell_params x.1 (sign Sign.CloseRound ∷ spell_block x.2 a) in
-    absurd (head_not_function y.0 y.1 x.0 parts rest (swap (both_via e d a b (word_at Word.Function x.0 ∷ rest) (spell_head y.0 y.1 parts) (x.6 a) (y.7 b) h)))
+    absurd (head_not_function y.0 y.1 x.0 parts rest
+    (swap (both_via e d a b (word_at Word.Function x.0 ∷ rest) (spell_head y.0 y.1 parts) (x.6 a) (y.7 b) h)))
 same_primary n u v e d w a b (inr (inr x)) (inr (inr y)) h =
     let mx = word_at Word.Function x.0 ∷ sign Sign.OpenRound ∷ spell_params x.1 (sign Sign.CloseRound ∷ spell_block x.2 a) in
     let my = word_at Word.Function y.0 ∷ sign Sign.OpenRound ∷ spell_params y.1 (sign Sign.CloseRound ∷ spell_block y.2 b) in

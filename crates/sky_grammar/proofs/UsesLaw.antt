@@ -30,13 +30,16 @@ pub insert_has : (z x : List ℕ) (us : List (List ℕ)) → is_one_of z (insert
 insert_has z x [] = one_of z x []
 insert_has z x (y ∷ us) = go (slice_cmp nat_cmp x y) refl (insert_has z x us)
   where
-    go : (o : Ordering) → slice_cmp nat_cmp x y ≡ o → is_one_of z (insert_key text_cmp us x) ≡ same_text z x || is_one_of z us → is_one_of z (match_ordering o (x ∷ y ∷ us) (y ∷ us) (y ∷ insert_key text_cmp us x)) ≡ same_text z x || is_one_of z (y ∷ us)
+    go : (o : Ordering) → slice_cmp nat_cmp x y ≡ o → is_one_of z (insert_key text_cmp us x) ≡ same_text z x || is_one_of z us
+        → is_one_of z (match_ordering o (x ∷ y ∷ us) (y ∷ us) (y ∷ insert_key text_cmp us x)) ≡ same_text z x || is_one_of z (y ∷ us)
     go Ordering.Less e h = one_of z x (y ∷ us)
     go Ordering.Equal e h =
         let same : x ≡ y = exact_text x y (ap is_eq e) in
-        one_of z y us ∙ twice (same_text z y) (is_one_of z us) ∙ ap (λ t. same_text z t || (same_text z y || is_one_of z us)) (sym same) ∙ ap (λ b. same_text z x || b) (sym (one_of z y us))
+        one_of z y us ∙ twice (same_text z y) (is_one_of z us) ∙ ap (λ t. same_text z t || (same_text z y || is_one_of z us)) (sym same)
+        ∙ ap (λ b. same_text z x || b) (sym (one_of z y us))
     go Ordering.Greater e h =
-        one_of z y (insert_key text_cmp us x) ∙ ap (λ b. same_text z y || b) h ∙ swap (same_text z y) (same_text z x) (is_one_of z us) ∙ ap (λ b. same_text z x || b) (sym (one_of z y us))
+        one_of z y (insert_key text_cmp us x) ∙ ap (λ b. same_text z y || b) h ∙ swap (same_text z y) (same_text z x) (is_one_of z us)
+        ∙ ap (λ b. same_text z x || b) (sym (one_of z y us))
 
 -- what is used is what was, and the names that are no parameters
 uses_more : (z : List ℕ) (xs us ys : List (List ℕ)) → is_one_of z (uses_from xs us ys) ≡ is_one_of z us || (is_one_of z ys && not (is_one_of z xs))
@@ -45,13 +48,15 @@ uses_more z xs us [] = sym (or_false (is_one_of z us))
     or_false : (b : Bool) → b || false ≡ b
     or_false true = refl
     or_false false = refl
-uses_more z xs us (y ∷ ys) = uses_more z xs (use_unless (is_one_of y xs) us y) ys ∙ go (is_one_of y xs) refl (same_text z y) refl ∙ ap (λ b. is_one_of z us || (b && not (is_one_of z xs))) (sym (one_of z y ys))
+uses_more z xs us (y ∷ ys) = uses_more z xs (use_unless (is_one_of y xs) us y) ys ∙ go (is_one_of y xs) refl (same_text z y) refl
+    ∙ ap (λ b. is_one_of z us || (b && not (is_one_of z xs))) (sym (one_of z y ys))
   where
     none : (b : Bool) → b && false ≡ false
     none true = refl
     none false = refl
 
-    go : (b : Bool) → is_one_of y xs ≡ b → (s : Bool) → same_text z y ≡ s → is_one_of z (use_unless b us y) || (is_one_of z ys && not (is_one_of z xs)) ≡ is_one_of z us || ((s || is_one_of z ys) && not (is_one_of z xs))
+    go : (b : Bool) → is_one_of y xs ≡ b → (s : Bool) → same_text z y ≡ s → is_one_of z (use_unless b us y)
+        || (is_one_of z ys && not (is_one_of z xs)) ≡ is_one_of z us || ((s || is_one_of z ys) && not (is_one_of z xs))
     go true e true s =
         let in_xs : is_one_of z xs ≡ true = ap (λ t. is_one_of t xs) (exact_text z y s) ∙ e in
         rw in_xs (ap (λ b. is_one_of z us || b) (none (is_one_of z ys)))

@@ -9,7 +9,8 @@ use Rattle.sky_text.specs.declared.token.Sign.{Sign}
 use Rattle.sky_text.specs.declared.token.Word.{Word}
 use Rattle.sky_text.specs.declared.token.TokenKind.{TokenKind}
 use Rattle.sky_text.specs.declared.token.Token.{Token}
-use Rattle.sky_grammar.specs.Source.{Param, Exp, Exps, Links, Ands, Steps, Stm, Stms, Arms, Else, links_level, level, exps_count, links_enough, some_ands, some_signs, some_steps}
+use Rattle.sky_grammar.specs.Source.{Param, Exp, Exps, Links, Ands, Steps, Stm, Stms, Arms, Else, links_level, level, exps_count, links_enough}
+use Rattle.sky_grammar.specs.Source.{some_ands, some_signs, some_steps}
 
 -- A token of a tree. Where the tree has the token's place, that stands beside it.
 pub data Mark : Type 0 where
@@ -86,7 +87,8 @@ abbrev mutual
   pub spell : Exp → List Mark → List Mark
   spell (Exp.literal v p) more = Mark.placed (lit_kind v) p ∷ more
   spell (Exp.name x p) more = name_at x p ∷ more
-  spell (Exp.func p xs b) more = word_at Word.Function p ∷ sign Sign.OpenRound ∷ spell_params xs (sign Sign.CloseRound ∷ sign Sign.OpenCurly ∷ spell_stms b (sign Sign.CloseCurly ∷ more))
+  spell (Exp.func p xs b) more = word_at Word.Function p ∷ sign Sign.OpenRound
+      ∷ spell_params xs (sign Sign.CloseRound ∷ sign Sign.OpenCurly ∷ spell_stms b (sign Sign.CloseCurly ∷ more))
   spell (Exp.parens e) more = sign Sign.OpenRound ∷ spell e (sign Sign.CloseRound ∷ more)
   spell (Exp.parts Form.list p es) more = sign_at Sign.OpenSquare p ∷ spell_exps es (sign Sign.CloseSquare ∷ more)
   spell (Exp.parts Form.dict p es) more = sign_at Sign.OpenCurly p ∷ spell_pairs es (sign Sign.CloseCurly ∷ more)
@@ -143,13 +145,17 @@ abbrev mutual
   pub spell_stm : Stm → List Mark → List Mark
   spell_stm (Stm.set x p e) more = name_at x p ∷ sign Sign.Assign ∷ spell e (sign Sign.Semicolon ∷ more)
   spell_stm (Stm.add x q p e) more = name_at x q ∷ sign_at Sign.AddAssign p ∷ spell e (sign Sign.Semicolon ∷ more)
-  spell_stm (Stm.put x q p i e) more = name_at x q ∷ sign_at Sign.OpenSquare p ∷ spell i (sign Sign.CloseSquare ∷ sign Sign.Assign ∷ spell e (sign Sign.Semicolon ∷ more))
+  spell_stm (Stm.put x q p i e) more = name_at x q ∷ sign_at Sign.OpenSquare p
+      ∷ spell i (sign Sign.CloseSquare ∷ sign Sign.Assign ∷ spell e (sign Sign.Semicolon ∷ more))
   spell_stm (Stm.return p e) more = word_at Word.Return p ∷ spell e (sign Sign.Semicolon ∷ more)
   spell_stm (Stm.leave p) more = word_at Word.Return p ∷ sign Sign.Semicolon ∷ more
   spell_stm (Stm.cases p arms els) more = started p (spell_arms arms (spell_else els more))
-  spell_stm (Stm.while p e b) more = word_at Word.While p ∷ sign Sign.OpenRound ∷ spell e (sign Sign.CloseRound ∷ sign Sign.OpenCurly ∷ spell_stms b (sign Sign.CloseCurly ∷ more))
-  spell_stm (Stm.repeat p b e) more = word_at Word.Do p ∷ sign Sign.OpenCurly ∷ spell_stms b (sign Sign.CloseCurly ∷ word Word.While ∷ sign Sign.OpenRound ∷ spell e (sign Sign.CloseRound ∷ sign Sign.Semicolon ∷ more))
-  spell_stm (Stm.for p x e b) more = word_at Word.For p ∷ sign Sign.OpenRound ∷ Mark.plain (TokenKind.Name x) ∷ word Word.In ∷ spell e (sign Sign.CloseRound ∷ sign Sign.OpenCurly ∷ spell_stms b (sign Sign.CloseCurly ∷ more))
+  spell_stm (Stm.while p e b) more = word_at Word.While p ∷ sign Sign.OpenRound
+      ∷ spell e (sign Sign.CloseRound ∷ sign Sign.OpenCurly ∷ spell_stms b (sign Sign.CloseCurly ∷ more))
+  spell_stm (Stm.repeat p b e) more = word_at Word.Do p ∷ sign Sign.OpenCurly
+      ∷ spell_stms b (sign Sign.CloseCurly ∷ word Word.While ∷ sign Sign.OpenRound ∷ spell e (sign Sign.CloseRound ∷ sign Sign.Semicolon ∷ more))
+  spell_stm (Stm.for p x e b) more = word_at Word.For p ∷ sign Sign.OpenRound ∷ Mark.plain (TokenKind.Name x) ∷ word Word.In
+      ∷ spell e (sign Sign.CloseRound ∷ sign Sign.OpenCurly ∷ spell_stms b (sign Sign.CloseCurly ∷ more))
   spell_stm (Stm.just p e) more = started p (spell e (sign Sign.Semicolon ∷ more))
 
   pub spell_stms : Stms → List Mark → List Mark
@@ -159,12 +165,14 @@ abbrev mutual
   -- the arms of a choice
   pub spell_arms : Arms → List Mark → List Mark
   spell_arms Arms.no_arms more = more
-  spell_arms (Arms.arm p e b arms) more = word_at Word.If p ∷ sign Sign.OpenRound ∷ spell e (sign Sign.CloseRound ∷ sign Sign.OpenCurly ∷ spell_stms b (sign Sign.CloseCurly ∷ spell_other_arms arms more))
+  spell_arms (Arms.arm p e b arms) more = word_at Word.If p ∷ sign Sign.OpenRound
+      ∷ spell e (sign Sign.CloseRound ∷ sign Sign.OpenCurly ∷ spell_stms b (sign Sign.CloseCurly ∷ spell_other_arms arms more))
 
   -- each behind an `else`
   pub spell_other_arms : Arms → List Mark → List Mark
   spell_other_arms Arms.no_arms more = more
-  spell_other_arms (Arms.arm p e b arms) more = word Word.Else ∷ word_at Word.If p ∷ sign Sign.OpenRound ∷ spell e (sign Sign.CloseRound ∷ sign Sign.OpenCurly ∷ spell_stms b (sign Sign.CloseCurly ∷ spell_other_arms arms more))
+  spell_other_arms (Arms.arm p e b arms) more = word Word.Else ∷ word_at Word.If p ∷ sign Sign.OpenRound
+      ∷ spell e (sign Sign.CloseRound ∷ sign Sign.OpenCurly ∷ spell_stms b (sign Sign.CloseCurly ∷ spell_other_arms arms more))
 
   pub spell_else : Else → List Mark → List Mark
   spell_else Else.no_else more = more
@@ -185,7 +193,8 @@ pub record Fun : Type 0 where
   pub body : Stms
 
 abbrev pub spell_fun : Fun → List Mark → List Mark
-spell_fun f more = word Word.Function ∷ name_at f.name f.place ∷ sign Sign.OpenRound ∷ spell_params f.params (sign Sign.CloseRound ∷ spell_block f.body more)
+spell_fun f more = word Word.Function ∷ name_at f.name f.place ∷ sign Sign.OpenRound
+    ∷ spell_params f.params (sign Sign.CloseRound ∷ spell_block f.body more)
 
 -- whether each key has a value
 abbrev mutual

@@ -107,7 +107,8 @@ abbrev pub on_primary : List Item → TokenKind → Option (List Item)
 on_primary k (TokenKind.Name x) = Some k
 on_primary k (TokenKind.Number n) = Some k
 on_primary k (TokenKind.Text x) = Some k
-on_primary k (TokenKind.Word w) = if is_literal w then Some k else if is_function w then Some (Item.sign Sign.OpenRound ∷ Item.params ∷ Item.block ∷ k) else worded k (word_head w)
+on_primary k (TokenKind.Word w) = if is_literal w then Some k else if is_function w then Some
+    (Item.sign Sign.OpenRound ∷ Item.params ∷ Item.block ∷ k) else worded k (word_head w)
 on_primary k (TokenKind.Sign s) = opened k (sign_head s)
 
 abbrev pub on_stepped : List Item → TokenKind → Option (List Item)
@@ -151,7 +152,8 @@ on_stmt_word k Word.Return = Some (Item.back ∷ k)
 on_stmt_word k Word.If = Some (test_then (Item.block ∷ Item.arms ∷ k))
 on_stmt_word k Word.While = Some (test_then (Item.block ∷ k))
 on_stmt_word k Word.Do = Some (Item.block ∷ Item.word Word.While ∷ test_then (Item.sign Sign.Semicolon ∷ k))
-on_stmt_word k Word.For = Some (Item.sign Sign.OpenRound ∷ Item.name ∷ Item.word Word.In ∷ Item.level Level.Either ∷ Item.sign Sign.CloseRound ∷ Item.block ∷ k)
+on_stmt_word k Word.For = Some (Item.sign Sign.OpenRound ∷ Item.name ∷ Item.word Word.In ∷ Item.level Level.Either ∷ Item.sign Sign.CloseRound
+    ∷ Item.block ∷ k)
 on_stmt_word k w = on_exp (Item.sign Sign.Semicolon ∷ k) (TokenKind.Word w)
 
 abbrev pub on_stmt : List Item → TokenKind → Option (List Item)

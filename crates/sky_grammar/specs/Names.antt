@@ -77,5 +77,6 @@ abbrev mutual
 -- the place of the first name that stands twice, where functions of these names came before
 abbrev pub same_names : List (List ℕ) → List Top → Option Place
 same_names seen [] = None
-same_names seen (Top.fun f ∷ ts) = first_of (at_twice (is_one_of f.name seen) f.place) (first_of (same_params [] f.params) (first_of (stms_same f.body) (same_names (seen ++ f.name ∷ []) ts)))
+same_names seen (Top.fun f ∷ ts) = first_of (at_twice (is_one_of f.name seen) f.place)
+    (first_of (same_params [] f.params) (first_of (stms_same f.body) (same_names (seen ++ f.name ∷ []) ts)))
 same_names seen (Top.stmt s ∷ ts) = first_of (stm_same s) (same_names seen ts)

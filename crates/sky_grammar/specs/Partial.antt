@@ -38,7 +38,9 @@ abbrev mutual
   pub cut : Exp → (List Mark → Type 0) → List Mark → Type 0
   cut (Exp.literal v p) K = tok (Mark.placed (lit_kind v) p) K
   cut (Exp.name x p) K = tok (name_at x p) K
-  cut (Exp.func p xs b) K = tok (word_at Word.Function p) (tok (sign Sign.OpenRound) (cut_params xs (tok (sign Sign.CloseRound) (tok (sign Sign.OpenCurly) (cut_stms b (tok (sign Sign.CloseCurly) K))))))
+  cut (Exp.func p xs b) K = tok (word_at Word.Function p)
+      (tok (sign Sign.OpenRound) (cut_params xs (tok (sign Sign.CloseRound)
+      (tok (sign Sign.OpenCurly) (cut_stms b (tok (sign Sign.CloseCurly) K))))))
   cut (Exp.parens e) K = tok (sign Sign.OpenRound) (cut e (tok (sign Sign.CloseRound) K))
   cut (Exp.parts Form.list p es) K = tok (sign_at Sign.OpenSquare p) (cut_exps es (tok (sign Sign.CloseSquare) K))
   cut (Exp.parts Form.dict p es) K = tok (sign_at Sign.OpenCurly p) (cut_pairs es (tok (sign Sign.CloseCurly) K))
@@ -91,13 +93,19 @@ abbrev mutual
   pub cut_stm : Stm → (List Mark → Type 0) → List Mark → Type 0
   cut_stm (Stm.set x p e) K = tok (name_at x p) (tok (sign Sign.Assign) (cut e (tok (sign Sign.Semicolon) K)))
   cut_stm (Stm.add x q p e) K = tok (name_at x q) (tok (sign_at Sign.AddAssign p) (cut e (tok (sign Sign.Semicolon) K)))
-  cut_stm (Stm.put x q p i e) K = tok (name_at x q) (tok (sign_at Sign.OpenSquare p) (cut i (tok (sign Sign.CloseSquare) (tok (sign Sign.Assign) (cut e (tok (sign Sign.Semicolon) K))))))
+  cut_stm (Stm.put x q p i e) K = tok (name_at x q)
+      (tok (sign_at Sign.OpenSquare p) (cut i (tok (sign Sign.CloseSquare) (tok (sign Sign.Assign) (cut e (tok (sign Sign.Semicolon) K))))))
   cut_stm (Stm.return p e) K = tok (word_at Word.Return p) (cut e (tok (sign Sign.Semicolon) K))
   cut_stm (Stm.leave p) K = tok (word_at Word.Return p) (tok (sign Sign.Semicolon) K)
   cut_stm (Stm.cases p arms els) K = begun p (cut_arms arms (cut_else els K))
-  cut_stm (Stm.while p e b) K = tok (word_at Word.While p) (tok (sign Sign.OpenRound) (cut e (tok (sign Sign.CloseRound) (tok (sign Sign.OpenCurly) (cut_stms b (tok (sign Sign.CloseCurly) K))))))
-  cut_stm (Stm.repeat p b e) K = tok (word_at Word.Do p) (tok (sign Sign.OpenCurly) (cut_stms b (tok (sign Sign.CloseCurly) (tok (word Word.While) (tok (sign Sign.OpenRound) (cut e (tok (sign Sign.CloseRound) (tok (sign Sign.Semicolon) K))))))))
-  cut_stm (Stm.for p x e b) K = tok (word_at Word.For p) (tok (sign Sign.OpenRound) (tok (Mark.plain (TokenKind.Name x)) (tok (word Word.In) (cut e (tok (sign Sign.CloseRound) (tok (sign Sign.OpenCurly) (cut_stms b (tok (sign Sign.CloseCurly) K))))))))
+  cut_stm (Stm.while p e b) K = tok (word_at Word.While p)
+      (tok (sign Sign.OpenRound) (cut e (tok (sign Sign.CloseRound) (tok (sign Sign.OpenCurly) (cut_stms b (tok (sign Sign.CloseCurly) K))))))
+  cut_stm (Stm.repeat p b e) K = tok (word_at Word.Do p)
+      (tok (sign Sign.OpenCurly) (cut_stms b (tok (sign Sign.CloseCurly)
+      (tok (word Word.While) (tok (sign Sign.OpenRound) (cut e (tok (sign Sign.CloseRound) (tok (sign Sign.Semicolon) K))))))))
+  cut_stm (Stm.for p x e b) K = tok (word_at Word.For p)
+      (tok (sign Sign.OpenRound) (tok (Mark.plain (TokenKind.Name x))
+      (tok (word Word.In) (cut e (tok (sign Sign.CloseRound) (tok (sign Sign.OpenCurly) (cut_stms b (tok (sign Sign.CloseCurly) K))))))))
   cut_stm (Stm.just p e) K = begun p (cut e (tok (sign Sign.Semicolon) K))
 
   pub cut_stms : Stms → (List Mark → Type 0) → List Mark → Type 0
@@ -106,11 +114,15 @@ abbrev mutual
 
   pub cut_arms : Arms → (List Mark → Type 0) → List Mark → Type 0
   cut_arms Arms.no_arms K = K
-  cut_arms (Arms.arm p e b arms) K = tok (word_at Word.If p) (tok (sign Sign.OpenRound) (cut e (tok (sign Sign.CloseRound) (tok (sign Sign.OpenCurly) (cut_stms b (tok (sign Sign.CloseCurly) (cut_other_arms arms K)))))))
+  cut_arms (Arms.arm p e b arms) K = tok (word_at Word.If p)
+      (tok (sign Sign.OpenRound) (cut e (tok (sign Sign.CloseRound)
+      (tok (sign Sign.OpenCurly) (cut_stms b (tok (sign Sign.CloseCurly) (cut_other_arms arms K)))))))
 
   pub cut_other_arms : Arms → (List Mark → Type 0) → List Mark → Type 0
   cut_other_arms Arms.no_arms K = K
-  cut_other_arms (Arms.arm p e b arms) K = tok (word Word.Else) (tok (word_at Word.If p) (tok (sign Sign.OpenRound) (cut e (tok (sign Sign.CloseRound) (tok (sign Sign.OpenCurly) (cut_stms b (tok (sign Sign.CloseCurly) (cut_other_arms arms K))))))))
+  cut_other_arms (Arms.arm p e b arms) K = tok (word Word.Else)
+      (tok (word_at Word.If p) (tok (sign Sign.OpenRound)
+      (cut e (tok (sign Sign.CloseRound) (tok (sign Sign.OpenCurly) (cut_stms b (tok (sign Sign.CloseCurly) (cut_other_arms arms K))))))))
 
   pub cut_else : Else → (List Mark → Type 0) → List Mark → Type 0
   cut_else Else.no_else K = K
@@ -123,7 +135,8 @@ abbrev pub cut_block : Stms → (List Mark → Type 0) → List Mark → Type 0
 cut_block b K = tok (sign Sign.OpenCurly) (cut_stms b (tok (sign Sign.CloseCurly) K))
 
 abbrev pub cut_fun : Fun → (List Mark → Type 0) → List Mark → Type 0
-cut_fun f K = tok (word Word.Function) (tok (name_at f.name f.place) (tok (sign Sign.OpenRound) (cut_params f.params (tok (sign Sign.CloseRound) (cut_block f.body K)))))
+cut_fun f K = tok (word Word.Function) (tok (name_at f.name f.place)
+    (tok (sign Sign.OpenRound) (cut_params f.params (tok (sign Sign.CloseRound) (cut_block f.body K)))))
 
 abbrev pub cut_top : Top → (List Mark → Type 0) → List Mark → Type 0
 cut_top (Top.fun f) K = cut_fun f K

@@ -30,7 +30,8 @@ module _ (job : Job) (around : Around) where
   wave_apart true None ds e = absurd (none_some ds e)
   wave_apart true (Some a) ds e = unless_apart (distinct_refs a) ds (distinct_refs_apart a) e
 
-  halt_apart : (n : ℕ) (x : Option (Halt ⊥)) (ds : List Desc) → ApartAt (world_of job.script around) (see job around n) x → halt_refs x ≡ Some ds → Apart ds
+  halt_apart : (n : ℕ) (x : Option (Halt ⊥)) (ds : List Desc) → ApartAt (world_of job.script around) (see job around n) x → halt_refs x ≡ Some ds
+      → Apart ds
   halt_apart n None ds a e = absurd (none_some ds e)
   halt_apart n (Some h) ds a e = subst Apart (some_is _ ds e) a
 
@@ -39,7 +40,9 @@ module _ (job : Job) (around : Around) where
   waits_apart n Task.show (suc j) ds e = wave_apart (nat_le (suc j) 100) (wave job around n (suc j)) ds e
   waits_apart n (Task.of (call f c vs)) zero ds e = subst Apart (some_is _ ds e) tt
   waits_apart n (Task.of (call f c vs)) (suc j) ds e =
-      halt_apart n (halt (see job around n) j (run_of job around f c vs)) ds (apart_waits (world_of job.script around) (see job around n) makes_apart (run_of job around f c vs) 0 j [] (climbs_call (world_of job.script around) bodies f c vs nowhere 0 start_st begun)) e
+      halt_apart n (halt (see job around n) j (run_of job around f c vs)) ds
+      (apart_waits (world_of job.script around) (see job around n) makes_apart (run_of job around f c vs) 0 j []
+      (climbs_call (world_of job.script around) bodies f c vs nowhere 0 start_st begun)) e
     where
       begun : Within (world_of job.script around) 0 start_st
       begun = (omega arith, omega arith)

@@ -22,7 +22,8 @@ module _ (job : Job) (around : Around) (n : ℕ) where
   pub acts_batched : (t : Task) → Batched [] (acts_of job around n t)
   acts_batched Task.show = waves_batched most_waves 1
   acts_batched (Task.of (call f c vs)) =
-      batched (world_of job.script around) (see job around n) (run_of job around f c vs) 0 [] (climbs_call (world_of job.script around) bodies f c vs nowhere 0 start_st begun)
+      batched (world_of job.script around) (see job around n) (run_of job around f c vs) 0 []
+      (climbs_call (world_of job.script around) bodies f c vs nowhere 0 start_st begun)
     where
       begun : Within (world_of job.script around) 0 start_st
       begun = (omega arith, omega arith)

@@ -12,7 +12,8 @@ module _ (at : ℕ → Option Node) where
   HasBody None = Unit {0}
   HasBody (Some b) = (at b.node ≡ Some (block_node b.block)) × HasStms at b.block (b.node + 1)
 
-  has_found : (b : Bool) (f : FunDef) (i : ℕ) (o : Option Body) → (at i ≡ Some (block_node f.body)) × HasStms at f.body (i + 1) → HasBody o → HasBody (find_body_if b f i o)
+  has_found : (b : Bool) (f : FunDef) (i : ℕ) (o : Option Body) → (at i ≡ Some (block_node f.body)) × HasStms at f.body (i + 1) → HasBody o
+      → HasBody (find_body_if b f i o)
   has_found true f i o h g = h
   has_found false f i o h g = g
 

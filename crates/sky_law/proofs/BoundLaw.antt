@@ -15,22 +15,37 @@ use Rattle.sky_law.proofs.FineReads.{SeenOk, HaltOk, halt_fine, frames_left}
 use Rattle.sky_law.proofs.WrittenLaw.{any_lit, any_made, any_name, written_any}
 
 module _ {N : Type 0} (w : World N) (d : ℕ) (n m : ℕ) (p : Place) (e : Exp) (blk : Stms) (met : St N → Res N) where
-  turns_met : (f : ℕ) (st : St N) → st.count ≤ visits → visits < f + st.count → turns_or met f n m p e blk (eval w (body_at w d) e (n + 1)) (eval_block w (body_at w d) blk m) st ≡ turns f n m p e blk (eval w (body_at w d) e (n + 1)) (eval_block w (body_at w d) blk m) st
+  turns_met : (f : ℕ) (st : St N) → st.count ≤ visits → visits < f + st.count
+      → turns_or met f n m p e blk (eval w (body_at w d) e (n + 1)) (eval_block w (body_at w d) blk m) st
+      ≡ turns f n m p e blk (eval w (body_at w d) e (n + 1)) (eval_block w (body_at w d) blk m) st
   turns_met zero st h hf = absurd (omega arith)
   turns_met (suc f) st h hf =
-      alike w (eval w (body_at w d) e (n + 1) st) d (st.count + 1) (while_test n m p e blk) _ _ (got_alike w (st.count + 1) _ _ (λ v s i. decide_alike w v p s _ _ _ (alike w (eval_block w (body_at w d) blk m s) d s.count (while_body n m p e blk) _ _ (goes_alike w s.count _ _ (λ z x. turns_met f z (omega arith) (omega arith))) (good_block w d blk m s (omega arith))))) (good_eval w d (good_call w d) e (n + 1) st)
+      alike w (eval w (body_at w d) e (n + 1) st) d (st.count + 1) (while_test n m p e blk) _ _
+      (got_alike w (st.count + 1) _ _ (λ v s i. decide_alike w v p s _ _ _
+      (alike w (eval_block w (body_at w d) blk m s) d s.count (while_body n m p e blk) _ _
+      (goes_alike w s.count _ _ (λ z x. turns_met f z (omega arith) (omega arith))) (good_block w d blk m s (omega arith)))))
+      (good_eval w d (good_call w d) e (n + 1) st)
 
   -- whatever a `while` would do where its bound is met, it does the same
-  pub while_unmet : (st : St N) → st.count ≤ visits → turns_or met (suc visits) n m p e blk (eval w (body_at w d) e (n + 1)) (eval_block w (body_at w d) blk m) st ≡ go_while w (body_at w d) n m p e blk st
+  pub while_unmet : (st : St N) → st.count ≤ visits
+      → turns_or met (suc visits) n m p e blk (eval w (body_at w d) e (n + 1)) (eval_block w (body_at w d) blk m) st
+      ≡ go_while w (body_at w d) n m p e blk st
   while_unmet st h = turns_met (suc visits) st h (omega arith)
 
-  repeats_met : (f : ℕ) (st : St N) → st.count ≤ visits → visits < f + st.count → repeats_or met f n m p blk e (eval_block w (body_at w d) blk (n + 1)) (eval w (body_at w d) e m) st ≡ repeats f n m p blk e (eval_block w (body_at w d) blk (n + 1)) (eval w (body_at w d) e m) st
+  repeats_met : (f : ℕ) (st : St N) → st.count ≤ visits → visits < f + st.count
+      → repeats_or met f n m p blk e (eval_block w (body_at w d) blk (n + 1)) (eval w (body_at w d) e m) st
+      ≡ repeats f n m p blk e (eval_block w (body_at w d) blk (n + 1)) (eval w (body_at w d) e m) st
   repeats_met zero st h hf = absurd (omega arith)
   repeats_met (suc f) st h hf =
-      alike w (eval_block w (body_at w d) blk (n + 1) st) d st.count (repeat_body n m p blk e) _ _ (goes_alike w st.count _ _ (λ s i. alike w (eval w (body_at w d) e m s) d (s.count + 1) (repeat_test n m p blk e) _ _ (got_alike w (s.count + 1) _ _ (λ v z x. decide_alike w v p z _ _ _ (repeats_met f z (omega arith) (omega arith)))) (good_eval w d (good_call w d) e m s))) (good_block w d blk (n + 1) st h)
+      alike w (eval_block w (body_at w d) blk (n + 1) st) d st.count (repeat_body n m p blk e) _ _
+      (goes_alike w st.count _ _ (λ s i. alike w (eval w (body_at w d) e m s) d (s.count + 1) (repeat_test n m p blk e) _ _
+      (got_alike w (s.count + 1) _ _ (λ v z x. decide_alike w v p z _ _ _ (repeats_met f z (omega arith) (omega arith))))
+      (good_eval w d (good_call w d) e m s))) (good_block w d blk (n + 1) st h)
 
   -- whatever a `do` would do where its bound is met, it does the same
-  pub repeat_unmet : (st : St N) → st.count ≤ visits → repeats_or met (suc visits) n m p blk e (eval_block w (body_at w d) blk (n + 1)) (eval w (body_at w d) e m) st ≡ go_repeat w (body_at w d) n m p blk e st
+  pub repeat_unmet : (st : St N) → st.count ≤ visits
+      → repeats_or met (suc visits) n m p blk e (eval_block w (body_at w d) blk (n + 1)) (eval w (body_at w d) e m) st
+      ≡ go_repeat w (body_at w d) n m p blk e st
   repeat_unmet st h = repeats_met (suc visits) st h (omega arith)
 
 -- ---- open bodies
@@ -97,16 +112,20 @@ module _ {N : Type 0} (w : World N) where
   any_seen (Some (Object.fault f)) = tt
 
   -- what holds of every run at its waits
-  pub any_halt : (see : Desc N → Option (Object N)) (d j : ℕ) (f : List ℕ) (c : Pairs N) (vs : Vals N) (p : Place) (st : St N) (h : Halt N) → halt see j (body_at w (suc d) f c vs p st) ≡ Some h → HaltOk w Any Made Vars d (Some h)
+  pub any_halt : (see : Desc N → Option (Object N)) (d j : ℕ) (f : List ℕ) (c : Pairs N) (vs : Vals N) (p : Place) (st : St N) (h : Halt N)
+      → halt see j (body_at w (suc d) f c vs p st) ≡ Some h → HaltOk w Any Made Vars d (Some h)
   any_halt see d j f c vs p st h e =
-      subst (HaltOk w Any Made Vars d) e (halt_fine w Any Made Vars (λ d h. tt) see (λ x i. any_seen (see x)) j (body_at w (suc d) f c vs p st) d (fine_call w Any Made Vars any_made any_lit any_name any_closed (written_any w.script) d f c vs p st tt tt (any_vals vs)))
+      subst (HaltOk w Any Made Vars d) e (halt_fine w Any Made Vars (λ d h. tt) see (λ x i. any_seen (see x)) j (body_at w (suc d) f c vs p st) d
+      (fine_call w Any Made Vars any_made any_lit any_name any_closed (written_any w.script) d f c vs p st tt tt (any_vals vs)))
 
   -- at each wait the bodies that are open and those that may still be opened are as many as may be open: where none may
   -- be opened any more, and a call is TooDeep, all of them are open
-  pub open_left : (see : Desc N → Option (Object N)) (d j : ℕ) (f : List ℕ) (c : Pairs N) (vs : Vals N) (p : Place) (st : St N) (h : Halt N) → halt see j (body_at w (suc d) f c vs p st) ≡ Some h → length (frames_of h.forms f h.st.vars) + inner w h.forms d ≡ suc d
+  pub open_left : (see : Desc N → Option (Object N)) (d j : ℕ) (f : List ℕ) (c : Pairs N) (vs : Vals N) (p : Place) (st : St N) (h : Halt N)
+      → halt see j (body_at w (suc d) f c vs p st) ≡ Some h → length (frames_of h.forms f h.st.vars) + inner w h.forms d ≡ suc d
   open_left see d j f c vs p st h e = frames_left w Any Made Vars h.forms d f h.st.vars (any_halt see d j f c vs p st h e).1
 
 module _ (job : Job) (around : Around) where
   -- a task's stack has up to 64 frames, and as many further bodies may be opened as are missing to 64
-  pub task_open : (see : _) (j : ℕ) (f : List ℕ) (c : Pairs ⊥) (vs : Vals ⊥) (h : Halt ⊥) → halt see j (run_of job around f c vs) ≡ Some h → length (run_of_halt f (suc j) h).frames + inner (world_of job.script around) h.forms others ≡ bodies
+  pub task_open : (see : _) (j : ℕ) (f : List ℕ) (c : Pairs ⊥) (vs : Vals ⊥) (h : Halt ⊥) → halt see j (run_of job around f c vs) ≡ Some h
+      → length (run_of_halt f (suc j) h).frames + inner (world_of job.script around) h.forms others ≡ bodies
   task_open see j f c vs h e = open_left (world_of job.script around) see others j f c vs nowhere start_st h e

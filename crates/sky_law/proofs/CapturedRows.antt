@@ -1,5 +1,6 @@
 -- Worked rows of functions that capture and of references, computed.
-use Rattle.std.proofs.Common.{◌≡◌, ℕ, zero, suc, ◌+◌, ◌/◌, ◌%◌, List, [], ◌∷◌, ◌++◌, length, Option, Some, None, Result, Ok, Err, pos, refl, true, replicate}
+use Rattle.std.proofs.Common.{◌≡◌, ℕ, zero, suc, ◌+◌, ◌/◌, ◌%◌, List, [], ◌∷◌, ◌++◌, length, Option, Some, None, Result, Ok, Err, pos, refl, true}
+use Rattle.std.proofs.Common.{replicate}
 use Rattle.std.specs.Str.{is_utf8, chars}
 use lib.Utf8.{encode}
 use Rattle.sky_base.specs.Val.{null, num, text, list, fun, ref, no_vals, val, no_pairs, pair, call, input, known, vals_of, refs_to, size, depth, refs}
@@ -85,7 +86,9 @@ calls g c es = Exp.postfix (name g c) (Steps.call (exps es) (at (c + 1)) Steps.n
 abbrev captured_row : Job
 captured_row =
     job_of (lambda first 13 (x ∷ []) (k ∷ []) (Stm.return (at 27) (op (name x 34) Oper.plus 36 (name k 38)) ∷ []) ∷ [])
-    (Stm.set k (at 1) (n 10 5) ∷ Stm.set g (at 9) (Exp.func first (at 13)) ∷ Stm.set k (at 44) (n 20 48) ∷ Stm.return (at 52) (form Form.list 59 (calls g 60 (n 1 62 ∷ []) ∷ form Form.spawn 66 (name g 72 ∷ form Form.list 75 (n 1 76 ∷ []) ∷ []) ∷ [])) ∷ [])
+    (Stm.set k (at 1) (n 10 5) ∷ Stm.set g (at 9) (Exp.func first (at 13)) ∷ Stm.set k (at 44) (n 20 48)
+    ∷ Stm.return (at 52) (form Form.list 59 (calls g 60 (n 1 62 ∷ []) ∷ form Form.spawn 66 (name g 72 ∷ form Form.list 75 (n 1 76 ∷ []) ∷ [])
+    ∷ [])) ∷ [])
 
 -- the spawned call: it holds the 10 of the word, not the 20 of the spawn
 abbrev spawned : Desc
@@ -105,13 +108,25 @@ unfolding computing
 captured_row_answer = refl
 
 -- the call starts with what was captured and the parameter; the 16 nodes of `main` stand before its block
-captured_row_start : stands_at captured_row plain 1 (Task.of spawned) 0 ≡ Some (State.run (record { frames = record { fun = first; vars = pair k (num (pos 10)) (pair x (num (pos 1)) no_pairs); stack = []; todo = record { node = 16; step = 0 } ∷ [] } ∷ []; count = 0; waits = 0 }))
+captured_row_start : stands_at captured_row plain 1 (Task.of spawned) 0
+    ≡ Some (State.run (record {
+      frames = record {
+        fun = first;
+        vars = pair k (num (pos 10)) (pair x (num (pos 1)) no_pairs);
+        stack = [];
+        todo =
+            record { node = 16; step = 0 } ∷ [];
+      } ∷ [];
+      count = 0;
+      waits = 0;
+    }))
 unfolding computing
 captured_row_start = refl
 
 abbrev spawned_bytes : List ℕ
 spawned_bytes =
-    76 ∷ 0 ∷ 0 ∷ 0 ∷ 2 ∷ 35 ∷ 48 ∷ 0 ∷ 0 ∷ 0 ∷ 1 ∷ 0 ∷ 0 ∷ 0 ∷ 1 ∷ 107 ∷ 3 ∷ 0 ∷ 0 ∷ 0 ∷ 0 ∷ 0 ∷ 0 ∷ 0 ∷ 10 ∷ 0 ∷ 0 ∷ 0 ∷ 1 ∷ 3 ∷ 0 ∷ 0 ∷ 0 ∷ 0 ∷ 0 ∷ 0 ∷ 0 ∷ 1 ∷ []
+    76 ∷ 0 ∷ 0 ∷ 0 ∷ 2 ∷ 35 ∷ 48 ∷ 0 ∷ 0 ∷ 0 ∷ 1 ∷ 0 ∷ 0 ∷ 0 ∷ 1 ∷ 107 ∷ 3 ∷ 0 ∷ 0 ∷ 0 ∷ 0 ∷ 0 ∷ 0 ∷ 0 ∷ 10 ∷ 0 ∷ 0 ∷ 0 ∷ 1 ∷ 3 ∷ 0 ∷ 0 ∷ 0 ∷ 0
+    ∷ 0 ∷ 0 ∷ 0 ∷ 1 ∷ []
 
 captured_row_bytes : canon (low_desc (λ b. absurd b) (λ d. []) spawned) ≡ spawned_bytes
 captured_row_bytes = refl
@@ -135,22 +150,31 @@ unfolding computing
 named_row_call = refl
 
 -- `g = function() { return z; }; z = 1; return g();`: z isn't set at the word
-unset_row : ends (job_of (lambda first 5 [] (z ∷ []) (Stm.return (at 18) (name z 25) ∷ []) ∷ []) (Stm.set g (at 1) (Exp.func first (at 5)) ∷ Stm.set z (at 31) (n 1 35) ∷ Stm.return (at 38) (calls g 45 []) ∷ [])) 0 ≡ fails FaultKind.Unknown 25 9
+unset_row : ends (job_of (lambda first 5 [] (z ∷ []) (Stm.return (at 18) (name z 25) ∷ []) ∷ [])
+    (Stm.set g (at 1) (Exp.func first (at 5)) ∷ Stm.set z (at 31) (n 1 35) ∷ Stm.return (at 38) (calls g 45 []) ∷ [])) 0
+    ≡ fails FaultKind.Unknown 25 9
 unfolding computing
 unset_row = refl
 
 -- `k = 1; g = function() { k += 1; return k; }; return [g(), g(), k];`: each body has variables of its own
-own_variables_row : ends (job_of (lambda first 12 [] (k ∷ []) (Stm.add k (at 25) (at 27) (n 1 30) ∷ Stm.return (at 33) (name k 40) ∷ []) ∷ []) (Stm.set k (at 1) (n 1 5) ∷ Stm.set g (at 8) (Exp.func first (at 12)) ∷ Stm.return (at 46) (form Form.list 53 (calls g 54 [] ∷ calls g 59 [] ∷ name k 64 ∷ [])) ∷ [])) 0 ≡ returns (list (vals_of (num (pos 2) ∷ num (pos 2) ∷ num (pos 1) ∷ []))) 19
+own_variables_row : ends (job_of (lambda first 12 [] (k ∷ []) (Stm.add k (at 25) (at 27) (n 1 30) ∷ Stm.return (at 33) (name k 40) ∷ []) ∷ [])
+    (Stm.set k (at 1) (n 1 5) ∷ Stm.set g (at 8) (Exp.func first (at 12))
+    ∷ Stm.return (at 46) (form Form.list 53 (calls g 54 [] ∷ calls g 59 [] ∷ name k 64 ∷ [])) ∷ [])) 0
+    ≡ returns (list (vals_of (num (pos 2) ∷ num (pos 2) ∷ num (pos 1) ∷ []))) 19
 unfolding computing
 own_variables_row = refl
 
 -- `a = 1; f = function() { return a; }; g = function() { return f(); }; a = 2; return g();`: a captured function
-captured_function_row : ends (job_of (lambda first 12 [] (a ∷ []) (Stm.return (at 25) (name a 32) ∷ []) ∷ lambda second 42 [] (f ∷ []) (Stm.return (at 55) (calls f 62 []) ∷ []) ∷ []) (Stm.set a (at 1) (n 1 5) ∷ Stm.set f (at 8) (Exp.func first (at 12)) ∷ Stm.set g (at 38) (Exp.func second (at 42)) ∷ Stm.set a (at 70) (n 2 74) ∷ Stm.return (at 77) (calls g 84 []) ∷ [])) 0 ≡ returns (num (pos 1)) 16
+captured_function_row : ends (job_of (lambda first 12 [] (a ∷ []) (Stm.return (at 25) (name a 32) ∷ [])
+    ∷ lambda second 42 [] (f ∷ []) (Stm.return (at 55) (calls f 62 []) ∷ []) ∷ [])
+    (Stm.set a (at 1) (n 1 5) ∷ Stm.set f (at 8) (Exp.func first (at 12)) ∷ Stm.set g (at 38) (Exp.func second (at 42))
+    ∷ Stm.set a (at 70) (n 2 74) ∷ Stm.return (at 77) (calls g 84 []) ∷ [])) 0 ≡ returns (num (pos 1)) 16
 unfolding computing
 captured_function_row = refl
 
 -- `return function() { return 1; };`
-function_row_answer : job_answer (job_of (lambda first 8 [] [] (Stm.return (at 21) (n 1 28) ∷ []) ∷ []) (Stm.return (at 1) (Exp.func first (at 8)) ∷ [])) plain 1 ≡ Answered.fault (record { kind = FaultKind.NotText; line = 0; col = 0 })
+function_row_answer : job_answer (job_of (lambda first 8 [] [] (Stm.return (at 21) (n 1 28) ∷ []) ∷ [])
+    (Stm.return (at 1) (Exp.func first (at 8)) ∷ [])) plain 1 ≡ Answered.fault (record { kind = FaultKind.NotText; line = 0; col = 0 })
 unfolding computing
 function_row_answer = refl
 
@@ -159,11 +183,16 @@ function_row_answer = refl
 abbrev f_call : ℕ → Desc
 f_call k = call f no_pairs (val (num (pos k)) no_vals)
 
-captured_references_row : wait_at (job_of (lambda f 10 (x ∷ []) [] (Stm.return (at 17) (name x 24) ∷ []) ∷ lambda first 74 [] (y ∷ x ∷ []) (Stm.return (at 87) (form Form.list 94 (name y 95 ∷ name x 98 ∷ [])) ∷ []) ∷ []) (Stm.set y (at 29) (f_of 1 33) ∷ Stm.set x (at 48) (f_of 2 52) ∷ Stm.return (at 67) (Exp.func first (at 74)) ∷ [])) plain 1 Task.show 1 ≡ Some (f_call 2 ∷ f_call 1 ∷ [])
+captured_references_row : wait_at
+    (job_of (lambda f 10 (x ∷ []) [] (Stm.return (at 17) (name x 24) ∷ [])
+    ∷ lambda first 74 [] (y ∷ x ∷ []) (Stm.return (at 87) (form Form.list 94 (name y 95 ∷ name x 98 ∷ [])) ∷ []) ∷ [])
+    (Stm.set y (at 29) (f_of 1 33) ∷ Stm.set x (at 48) (f_of 2 52) ∷ Stm.return (at 67) (Exp.func first (at 74)) ∷ [])) plain 1 Task.show 1
+    ≡ Some (f_call 2 ∷ f_call 1 ∷ [])
 unfolding computing
 captured_references_row = refl
 
-captured_references : refs (list (vals_of (fun first (pair x (ref (f_call 2)) (pair y (ref (f_call 1)) no_pairs)) ∷ ref (f_call 3) ∷ []))) ≡ f_call 2 ∷ f_call 1 ∷ f_call 3 ∷ []
+captured_references : refs (list (vals_of (fun first (pair x (ref (f_call 2)) (pair y (ref (f_call 1)) no_pairs)) ∷ ref (f_call 3) ∷ [])))
+    ≡ f_call 2 ∷ f_call 1 ∷ f_call 3 ∷ []
 captured_references = refl
 
 -- ---- sizes and limits
@@ -216,7 +245,9 @@ unfolding closing nest
 closing_both = refl
 
 -- `f = null; while (true) { f = function() { return f; }; }`: one more function around it in each turn
-deeper_row : ends (job_of (lambda first 30 [] (f ∷ []) (Stm.return (at 43) (name f 50) ∷ []) ∷ []) (Stm.set f (at 1) (Exp.literal Lit.null (at 5)) ∷ Stm.while (at 11) (b true 18) (block (Stm.set f (at 26) (Exp.func first (at 30)) ∷ [])) ∷ [])) 0 ≡ fails FaultKind.TooDeep 30 303
+deeper_row : ends (job_of (lambda first 30 [] (f ∷ []) (Stm.return (at 43) (name f 50) ∷ []) ∷ [])
+    (Stm.set f (at 1) (Exp.literal Lit.null (at 5)) ∷ Stm.while (at 11) (b true 18) (block (Stm.set f (at 26) (Exp.func first (at 30)) ∷ []))
+    ∷ [])) 0 ≡ fails FaultKind.TooDeep 30 303
 unfolding computing
 deeper_row = refl
 
@@ -238,7 +269,8 @@ references_over = refl
 named_bytes : bytes (fun f no_pairs) ≡ 7 ∷ 0 ∷ 0 ∷ 0 ∷ 1 ∷ 102 ∷ []
 named_bytes = refl
 
-captured_bytes : bytes (fun first (pair k (num (pos 10)) no_pairs)) ≡ 10 ∷ 0 ∷ 0 ∷ 0 ∷ 2 ∷ 35 ∷ 48 ∷ 0 ∷ 0 ∷ 0 ∷ 1 ∷ 0 ∷ 0 ∷ 0 ∷ 1 ∷ 107 ∷ 3 ∷ 0 ∷ 0 ∷ 0 ∷ 0 ∷ 0 ∷ 0 ∷ 0 ∷ 10 ∷ []
+captured_bytes : bytes (fun first (pair k (num (pos 10)) no_pairs)) ≡ 10 ∷ 0 ∷ 0 ∷ 0 ∷ 2 ∷ 35 ∷ 48 ∷ 0 ∷ 0 ∷ 0 ∷ 1 ∷ 0 ∷ 0 ∷ 0 ∷ 1 ∷ 107 ∷ 3 ∷ 0
+    ∷ 0 ∷ 0 ∷ 0 ∷ 0 ∷ 0 ∷ 0 ∷ 10 ∷ []
 captured_bytes = refl
 
 empty_bytes : bytes (fun first no_pairs) ≡ 10 ∷ 0 ∷ 0 ∷ 0 ∷ 2 ∷ 35 ∷ 48 ∷ 0 ∷ 0 ∷ 0 ∷ 0 ∷ []
@@ -251,5 +283,6 @@ short_bytes = refl
 long_bytes : bytes (ref (known (replicate 32 1))) ≡ 9 ∷ replicate 32 1
 long_bytes = refl
 
-named_call_bytes : canon (call f no_pairs (val (num (pos 3)) no_vals)) ≡ 67 ∷ 0 ∷ 0 ∷ 0 ∷ 1 ∷ 102 ∷ 0 ∷ 0 ∷ 0 ∷ 1 ∷ 3 ∷ 0 ∷ 0 ∷ 0 ∷ 0 ∷ 0 ∷ 0 ∷ 0 ∷ 3 ∷ []
+named_call_bytes : canon (call f no_pairs (val (num (pos 3)) no_vals)) ≡ 67 ∷ 0 ∷ 0 ∷ 0 ∷ 1 ∷ 102 ∷ 0 ∷ 0 ∷ 0 ∷ 1 ∷ 3 ∷ 0 ∷ 0 ∷ 0 ∷ 0 ∷ 0 ∷ 0 ∷ 0
+    ∷ 3 ∷ []
 named_call_bytes = refl

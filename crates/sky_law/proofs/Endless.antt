@@ -2,7 +2,8 @@
 use Rattle.std.proofs.Common.{◌≡◌, ℕ, zero, suc, ◌+◌, ◌<◌, ◌≤◌, [], ◌∷◌, Bool, true, false, Some, nat_lt, refl, ap, arith, ltb-true, ltb-false}
 use Rattle.sky_base.specs.Val.{truth, no_vals, no_pairs}
 use Rattle.sky_base.specs.Tree.{Place, Lit, Exp, Stm, Stms}
-use Rattle.sky_base.specs.Res.{visits, others, Object, End, St, while_test, while_body, block_at, Res, Fin, fault_at, then_do, on_got, on_goes, gives, counted, visited}
+use Rattle.sky_base.specs.Res.{visits, others, Object, End, St, while_test, while_body, block_at, Res, Fin, fault_at, then_do, on_got, on_goes, gives}
+use Rattle.sky_base.specs.Res.{counted, visited}
 use Rattle.sky_base.specs.Eval.{World, decide, turns, eval, eval_stms, body_at}
 use Rattle.sky_base.specs.Read.{outcome}
 use Rattle.sky_base.specs.See.{Job, world_of, object_of, run_of, see, main_call, start_st}
@@ -28,7 +29,10 @@ module _ {N : Type 0} (w : World N) (d n m : ℕ) (p q : Place) where
   endless zero st h hf = absurd (omega arith)
   endless (suc f) st h hf = go (nat_lt st.count visits) refl (λ lt. endless f (counted st) (omega arith) (omega arith))
     where
-      go : (x : Bool) → nat_lt st.count visits ≡ x → (st.count < visits → loop f (counted st) ≡ over st) → then_do (visited x q st (λ s. gives (truth true) s)) (while_test n m p test Stms.no_stms) (on_got (λ v s. decide v p s (λ t. then_do (eval_stms w (body_at w d) Stms.no_stms m 0 (m + 1) t) (while_body n m p test Stms.no_stms) (on_goes (loop f))) (λ t. Fin End.goes t))) ≡ over st
+      go : (x : Bool) → nat_lt st.count visits ≡ x → (st.count < visits → loop f (counted st) ≡ over st)
+          → then_do (visited x q st (λ s. gives (truth true) s)) (while_test n m p test Stms.no_stms)
+          (on_got (λ v s. decide v p s (λ t. then_do (eval_stms w (body_at w d) Stms.no_stms m 0 (m + 1) t) (while_body n m p test Stms.no_stms)
+          (on_goes (loop f))) (λ t. Fin End.goes t))) ≡ over st
       go true e rest = rest (ltb-true st.count visits e)
       go false e rest =
           let le : visits ≤ st.count = ltb-false st.count visits e in
@@ -38,11 +42,17 @@ module _ {N : Type 0} (w : World N) (d n m : ℕ) (p q : Place) where
 abbrev endless_loop_row : Job
 endless_loop_row = main_of (Stm.while (at 1) (b true 8) (block []) ∷ [])
 
-endless_loop_row_run : run_of endless_loop_row plain [] no_pairs no_vals ≡ Fin (End.failed (fault_at FaultKind.TooLong (at 8))) (record { vars = no_pairs; count = visits })
+endless_loop_row_run : run_of endless_loop_row plain [] no_pairs no_vals
+    ≡ Fin (End.failed (fault_at FaultKind.TooLong (at 8))) (record { vars = no_pairs; count = visits })
 endless_loop_row_run = go (nat_lt 0 visits) refl
   where
-    go : (x : Bool) → nat_lt 0 visits ≡ x → then_do (visited x (at 1) start_st (λ s. loop (world_of endless_loop_row.script plain) others 1 3 (at 1) (at 8) (suc visits) s)) (block_at 0 1 4 Stms.no_stms) (on_goes (λ s. Fin End.goes s)) ≡ Fin (End.failed (fault_at FaultKind.TooLong (at 8))) (record { vars = no_pairs; count = visits })
-    go true e = ap (λ r. then_do r (block_at 0 1 4 Stms.no_stms) (on_goes (λ s. Fin End.goes s))) (endless (world_of endless_loop_row.script plain) others 1 3 (at 1) (at 8) (suc visits) (counted start_st) (omega (arith, some_visits)) (omega arith))
+    go : (x : Bool) → nat_lt 0 visits ≡ x → then_do
+        (visited x (at 1) start_st (λ s. loop (world_of endless_loop_row.script plain) others 1 3 (at 1) (at 8) (suc visits) s))
+        (block_at 0 1 4 Stms.no_stms) (on_goes (λ s. Fin End.goes s))
+        ≡ Fin (End.failed (fault_at FaultKind.TooLong (at 8))) (record { vars = no_pairs; count = visits })
+    go true e = ap (λ r. then_do r (block_at 0 1 4 Stms.no_stms) (on_goes (λ s. Fin End.goes s)))
+        (endless (world_of endless_loop_row.script plain) others 1 3 (at 1) (at 8) (suc visits) (counted start_st) (omega (arith, some_visits))
+        (omega arith))
     go false e = let le : visits ≤ 0 = ltb-false 0 visits e in absurd (omega (arith, some_visits))
 
 endless_loop_row_see : see endless_loop_row plain 1 main_call ≡ Some (Object.fault (fault_at FaultKind.TooLong (at 8)))

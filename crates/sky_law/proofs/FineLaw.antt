@@ -1,17 +1,30 @@
 -- What holds of the values that a run begins with, and is kept by each operator, holds of every value that it makes.
-use Rattle.std.proofs.Common.{◌≡◌, ℕ, zero, suc, ◌+◌, ◌<◌, ◌≤◌, Bool, true, false, List, [], ◌∷◌, ◌++◌, map, length, reverse, Option, Some, None, Ok, Err, nat_lt, nat_eq, is_some, ◌&&◌, pos, negsuc, refl, ap, arith, ltb-true, eqb-true}
+use Rattle.std.proofs.Common.{◌≡◌, ℕ, zero, suc, ◌+◌, ◌<◌, ◌≤◌, Bool, true, false, List, [], ◌∷◌, ◌++◌, map, length, reverse, Option, Some, None, Ok}
+use Rattle.std.proofs.Common.{Err, nat_lt, nat_eq, is_some, ◌&&◌, pos, negsuc, refl, ap, arith, ltb-true, eqb-true}
 use Rattle.std.specs.Ordering.{nat_cmp, match_ordering}
 use Rattle.std.specs.Cmp.Lexicographic.{slice_cmp}
 use Rattle.std.specs.declared.cmp.Ordering.{Ordering}
-use Rattle.sky_base.specs.Val.{Val, Vals, Pairs, Desc, null, truth, num, text, list, dict, fun, ref, no_vals, val, no_pairs, pair, call, out, input, count, vals_of, refs_to}
+use Rattle.sky_base.specs.Val.{Val, Vals, Pairs, Desc, null, truth, num, text, list, dict, fun, ref, no_vals, val, no_pairs, pair, call, out, input}
+use Rattle.sky_base.specs.Val.{count, vals_of, refs_to}
 use Rattle.sky_base.specs.Op.{Answer, index, find, put, negated, opposite, len, keys, has, range, limited, set_at, grown, dict_from}
-use Rattle.sky_base.specs.Tree.{Place, nowhere, Lit, Oper, Junction, Sign, SignAt, Form, Exp, Exps, Links, Ands, Steps, Stm, Stms, Arms, Else, FunDef, nodes, stm_nodes, block_nodes, arms_nodes}
-use Rattle.sky_base.specs.Res.{visits, Object, End, St, Entry, parens_in, part_at, chain_first, chain_more, logic_at, prefix_part, star_wait, postfix_first, index_at, arg_at, call_open, exec_wait, set_part, add_part, put_index, put_value, return_part, just_part, arm_test, while_test, while_body, repeat_body, repeat_test, for_list, for_body, block_at, Wait, one_of, all_of, Res, Fin, Tell, Ask, kept_of, opens, then_do, on_got, on_goes, with_vars, on_body, gives, counted, visited, visit, answer, tell_all}
-use Rattle.sky_base.specs.Eval.{World, find_fun, is_one_of, Body, body_of, bind, set_var, lit_val, fun_named, named, closed, caught_by, oper, exec_end, read_end, outputs, truth_of, decide, joins, add_to, put_in, turns, repeats, each, each_of, with_one, with_two, with_three, wait_end, ask, make_one, spawn_if, spawn_fun, spawn_list, spawned, outputs_if, outputs_count, outputs_of, exec_ask, input_if, input_of, formed, deref, signed, signs, call_if, call_fun, called, enter, eval, eval_parts, eval_links, eval_ands, eval_steps, eval_args, eval_stm, eval_stms, eval_arms, eval_else, in_body, body_at, inside}
+use Rattle.sky_base.specs.Tree.{Place, nowhere, Lit, Oper, Junction, Sign, SignAt, Form, Exp, Exps, Links, Ands, Steps, Stm, Stms, Arms, Else, FunDef}
+use Rattle.sky_base.specs.Tree.{nodes, stm_nodes, block_nodes, arms_nodes}
+use Rattle.sky_base.specs.Res.{visits, Object, End, St, Entry, parens_in, part_at, chain_first, chain_more, logic_at, prefix_part, star_wait}
+use Rattle.sky_base.specs.Res.{postfix_first, index_at, arg_at, call_open, exec_wait, set_part, add_part, put_index, put_value, return_part}
+use Rattle.sky_base.specs.Res.{just_part, arm_test, while_test, while_body, repeat_body, repeat_test, for_list, for_body, block_at, Wait, one_of}
+use Rattle.sky_base.specs.Res.{all_of, Res, Fin, Tell, Ask, kept_of, opens, then_do, on_got, on_goes, with_vars, on_body, gives, counted, visited}
+use Rattle.sky_base.specs.Res.{visit, answer, tell_all}
+use Rattle.sky_base.specs.Eval.{World, find_fun, is_one_of, Body, body_of, bind, set_var, lit_val, fun_named, named, closed, caught_by, oper}
+use Rattle.sky_base.specs.Eval.{exec_end, read_end, outputs, truth_of, decide, joins, add_to, put_in, turns, repeats, each, each_of, with_one}
+use Rattle.sky_base.specs.Eval.{with_two, with_three, wait_end, ask, make_one, spawn_if, spawn_fun, spawn_list, spawned, outputs_if, outputs_count}
+use Rattle.sky_base.specs.Eval.{outputs_of, exec_ask, input_if, input_of, formed, deref, signed, signs, call_if, call_fun, called, enter, eval}
+use Rattle.sky_base.specs.Eval.{eval_parts, eval_links, eval_ands, eval_steps, eval_args, eval_stm, eval_stms, eval_arms, eval_else, in_body, body_at}
+use Rattle.sky_base.specs.Eval.{inside}
 use Rattle.sky_base.specs.Read.{refs_of}
 use Rattle.sky_law.specs.Tasks.{Each}
 use Rattle.sky_law.specs.Sound.{IsFun}
-use Rattle.sky_law.specs.Written.{ExpWritten, ExpsWritten, LinksWritten, AndsWritten, StepsWritten, StmWritten, StmsWritten, ArmsWritten, ElseWritten, Written}
+use Rattle.sky_law.specs.Written.{ExpWritten, ExpsWritten, LinksWritten, AndsWritten, StepsWritten, StmWritten, StmsWritten, ArmsWritten, ElseWritten}
+use Rattle.sky_law.specs.Written.{Written}
 use Rattle.sky_law.proofs.WrittenLaw.{BodyWritten, body_written}
 
 -- w is what a run is run with, P what holds of values, and Q what holds of the descriptions that are made
@@ -109,13 +122,15 @@ module _ {N : Type 0} (w : World N) (P : Val N → Type 0) (Q : Desc N → Type 
       waits_more q en [] h = absurd h
       waits_more q en (e ∷ fr) h = h
 
-      pub fine_then : (r : Res N) (d : ℕ) (en : Entry N) (k : End N → St N → Res N) → EntryOk d en → Fine (inside w en d) r → ((e : End N) (st : St N) → EndOk e → V st.vars → Fine d (k e st)) → Fine d (then_do r en k)
+      pub fine_then : (r : Res N) (d : ℕ) (en : Entry N) (k : End N → St N → Res N) → EntryOk d en → Fine (inside w en d) r → ((e : End N) (st : St N) → EndOk e → V st.vars → Fine d (k e st))
+          → Fine d (then_do r en k)
       fine_then (Fin e st) d en k i g h = h e st g.0 g.1
       fine_then (Tell o r) d en k i g h = (g.0, λ m. fine_then r d en k i (g.1 m) h)
       fine_then (Ask q fr st p) d en k i g h =
           ((g.0.0, (i, g.0.1), g.0.2, waits_more q en fr g.0.3), λ os o. fine_then (p os) d en k i (g.1 os o) h)
 
-      pub fine_got : (r : Res N) (d : ℕ) (en : Entry N) (k : Val N → St N → Res N) → EntryOk d en → Fine (inside w en d) r → ((v : Val N) (st : St N) → P v → V st.vars → Fine d (k v st)) → Fine d (then_do r en (on_got k))
+      pub fine_got : (r : Res N) (d : ℕ) (en : Entry N) (k : Val N → St N → Res N) → EntryOk d en → Fine (inside w en d) r → ((v : Val N) (st : St N) → P v → V st.vars → Fine d (k v st))
+          → Fine d (then_do r en (on_got k))
       fine_got r d en k i g h = fine_then r d en (on_got k) i g pass
         where
           pass : (e : End N) (st : St N) → EndOk e → V st.vars → Fine d (on_got k e st)
@@ -124,7 +139,8 @@ module _ {N : Type 0} (w : World N) (P : Val N → Type 0) (Q : Desc N → Type 
           pass (End.returned v) st o l = (o, l)
           pass (End.failed f) st o l = (tt, l)
 
-      pub fine_wait : (q : Wait N) (d : ℕ) (en : Entry N) (st : St N) (go : Val N → St N → Res N) → EntryOk d en → kept_of en ≡ waiting q ∷ [] → Each (λ x. P (ref x)) (refs_of q) → V st.vars → ((os : List (Object N)) → Each ObjectOk os → EndOk (wait_end w q os)) → ((v : Val N) (t : St N) → P v → V t.vars → Fine d (go v t)) → Fine d (then_do (ask w q st) en (on_got go))
+      pub fine_wait : (q : Wait N) (d : ℕ) (en : Entry N) (st : St N) (go : Val N → St N → Res N) → EntryOk d en → kept_of en ≡ waiting q ∷ [] → Each (λ x. P (ref x)) (refs_of q) → V st.vars
+          → ((os : List (Object N)) → Each ObjectOk os → EndOk (wait_end w q os)) → ((v : Val N) (t : St N) → P v → V t.vars → Fine d (go v t)) → Fine d (then_do (ask w q st) en (on_got go))
       fine_wait q d en st go i e qs l ends h = ((qs, (i, tt), l, e), λ os o. pass (wait_end w q os) (ends os o))
         where
           pass : (x : End N) → EndOk x → Fine d (on_got go x st)
@@ -182,7 +198,8 @@ module _ {N : Type 0} (w : World N) (P : Val N → Type 0) (Q : Desc N → Type 
       fine_call_fun None vs p d st r l g = (tt, l)
       fine_call_fun (Some x) vs p d st r l g = fine_call_if (nat_eq (length x.params) (count vs)) p d st r l (g refl)
 
-      pub fine_called : (v : Val N) (vs : Vals N) (p : Place) (d : ℕ) (st : St N) (k : List ℕ → Pairs N → Res N) → V st.vars → P v → ((f : List ℕ) (ca : Pairs N) → IsFun w.script f → P (fun f ca) → Fine d (k f ca)) → Fine d (called w v vs p st k)
+      pub fine_called : (v : Val N) (vs : Vals N) (p : Place) (d : ℕ) (st : St N) (k : List ℕ → Pairs N → Res N) → V st.vars → P v
+          → ((f : List ℕ) (ca : Pairs N) → IsFun w.script f → P (fun f ca) → Fine d (k f ca)) → Fine d (called w v vs p st k)
       fine_called (fun f ca) vs p d st k l h g = fine_call_fun (find_fun f w.script.funs) vs p d st (k f ca) l (λ i. g f ca i h)
       fine_called null vs p d st k l h g = (tt, l)
       fine_called (truth b) vs p d st k l h g = (tt, l)
@@ -197,13 +214,15 @@ module _ {N : Type 0} (w : World N) (P : Val N → Type 0) (Q : Desc N → Type 
       fine_one (x ∷ []) p d st k l h g = g x h.0
       fine_one (x ∷ y ∷ vs) p d st k l h g = (tt, l)
 
-      pub fine_two : (vs : List (Val N)) (p : Place) (d : ℕ) (st : St N) (k : Val N → Val N → Res N) → V st.vars → Each P vs → ((x y : Val N) → P x → P y → Fine d (k x y)) → Fine d (with_two vs p st k)
+      pub fine_two : (vs : List (Val N)) (p : Place) (d : ℕ) (st : St N) (k : Val N → Val N → Res N) → V st.vars → Each P vs → ((x y : Val N) → P x → P y → Fine d (k x y))
+          → Fine d (with_two vs p st k)
       fine_two [] p d st k l h g = (tt, l)
       fine_two (x ∷ []) p d st k l h g = (tt, l)
       fine_two (x ∷ y ∷ []) p d st k l h g = g x y h.0 h.1.0
       fine_two (x ∷ y ∷ z ∷ vs) p d st k l h g = (tt, l)
 
-      pub fine_three : (vs : List (Val N)) (p : Place) (d : ℕ) (st : St N) (k : Val N → Val N → Val N → Res N) → V st.vars → Each P vs → ((x y z : Val N) → P x → P y → P z → Fine d (k x y z)) → Fine d (with_three vs p st k)
+      pub fine_three : (vs : List (Val N)) (p : Place) (d : ℕ) (st : St N) (k : Val N → Val N → Val N → Res N) → V st.vars → Each P vs → ((x y z : Val N) → P x → P y → P z → Fine d (k x y z))
+          → Fine d (with_three vs p st k)
       fine_three [] p d st k l h g = (tt, l)
       fine_three (x ∷ []) p d st k l h g = (tt, l)
       fine_three (x ∷ y ∷ []) p d st k l h g = (tt, l)
@@ -302,7 +321,8 @@ module _ {N : Type 0} (w : World N) (P : Val N → Type 0) (Q : Desc N → Type 
           fine_spawn_if false x p d st l q = (tt, l)
           fine_spawn_if true x p d st l q = fine_make x d st l (q refl)
 
-          pub fine_spawn_fun : (o : Option FunDef) (f : List ℕ) (ca : Pairs N) (vs : Vals N) (p : Place) (d : ℕ) (st : St N) → V st.vars → ((x : FunDef) → o ≡ Some x → length x.params ≡ count vs → Q (call f ca vs)) → Fine d (spawn_fun w o f ca vs p st)
+          pub fine_spawn_fun : (o : Option FunDef) (f : List ℕ) (ca : Pairs N) (vs : Vals N) (p : Place) (d : ℕ) (st : St N) → V st.vars
+              → ((x : FunDef) → o ≡ Some x → length x.params ≡ count vs → Q (call f ca vs)) → Fine d (spawn_fun w o f ca vs p st)
           fine_spawn_fun None f ca vs p d st l q = (tt, l)
           fine_spawn_fun (Some x) f ca vs p d st l q = fine_spawn_if (nat_eq (length x.params) (count vs)) (call f ca vs) p d st l (λ e. q x refl (eqb-true (length x.params) (count vs) e))
 
@@ -341,7 +361,8 @@ module _ {N : Type 0} (w : World N) (P : Val N → Type 0) (Q : Desc N → Type 
             fine_outputs_if true x a n p le hx ha =
                 let all : Each Q (outputs x a n 0 n) = outputs_ok x a n 0 n hx ha (le refl) (omega arith) in
                 let few : n ≤ 64 = le refl in
-                fine_tell (outputs x a n 0 n) _ d all (λ m. g (map w.make (outputs x a n 0 n)) (omega (arith, length_map w.make (outputs x a n 0 n), length_outputs x a n 0 n)) (made_ok (outputs x a n 0 n) all m))
+                fine_tell (outputs x a n 0 n) _ d all (λ m. g (map w.make (outputs x a n 0 n)) (omega (arith, length_map w.make (outputs x a n 0 n), length_outputs x a n 0 n))
+                (made_ok (outputs x a n 0 n) all m))
 
             up_to : (n : ℕ) → nat_lt 0 n && nat_lt n 65 ≡ true → n ≤ 64
             up_to n e = go (nat_lt 0 n) (nat_lt n 65) refl e
@@ -407,7 +428,8 @@ module _ {N : Type 0} (w : World N) (P : Val N → Type 0) (Q : Desc N → Type 
           fine_formed Form.has vs n p d st l h = fine_two vs p d st _ l h (λ x y i j. fine_gives (has x y) p d st l (c.has_ok x y))
           fine_formed Form.range vs n p d st l h = fine_two vs p d st _ l h (λ x y i j. fine_gives (range x y) p d st l (c.range_ok x y i j))
 
-          pub fine_deref : (v : Val N) (n k : ℕ) (ss : List SignAt) (p : Place) (d : ℕ) (st : St N) (go : Val N → St N → Res N) → V st.vars → P v → ((u : Val N) (t : St N) → P u → V t.vars → Fine d (go u t)) → Fine d (deref w v n k ss p st go)
+          pub fine_deref : (v : Val N) (n k : ℕ) (ss : List SignAt) (p : Place) (d : ℕ) (st : St N) (go : Val N → St N → Res N) → V st.vars → P v
+              → ((u : Val N) (t : St N) → P u → V t.vars → Fine d (go u t)) → Fine d (deref w v n k ss p st go)
           fine_deref (ref x) n k ss p d st go l h g =
               fine_wait (one_of p x) d (star_wait n k x ss) st go ((h, tt), tt) refl (h, tt) l (λ os o. end_one p x os o) g
           fine_deref null n k ss p d st go l h g = (tt, l)
@@ -418,7 +440,8 @@ module _ {N : Type 0} (w : World N) (P : Val N → Type 0) (Q : Desc N → Type 
           fine_deref (dict ps) n k ss p d st go l h g = (tt, l)
           fine_deref (fun f ca) n k ss p d st go l h g = (tt, l)
 
-          pub fine_signed : (s : Sign) (v : Val N) (n k : ℕ) (ss : List SignAt) (p : Place) (d : ℕ) (st : St N) (go : Val N → St N → Res N) → V st.vars → P v → ((u : Val N) (t : St N) → P u → V t.vars → Fine d (go u t)) → Fine d (signed w s v n k ss p st go)
+          pub fine_signed : (s : Sign) (v : Val N) (n k : ℕ) (ss : List SignAt) (p : Place) (d : ℕ) (st : St N) (go : Val N → St N → Res N) → V st.vars → P v
+              → ((u : Val N) (t : St N) → P u → V t.vars → Fine d (go u t)) → Fine d (signed w s v n k ss p st go)
           fine_signed Sign.not v n k ss p d st go l h g = fine_answer (opposite v) p d st go l (c.opposite_ok v) (λ u i. g u st i l)
           fine_signed Sign.minus v n k ss p d st go l h g = fine_answer (negated v) p d st go l (c.negated_ok v) (λ u i. g u st i l)
           fine_signed Sign.star v n k ss p d st go l h g = fine_deref v n k ss p d st go l h g
@@ -426,7 +449,8 @@ module _ {N : Type 0} (w : World N) (P : Val N → Type 0) (Q : Desc N → Type 
           pub fine_signs : (ss : List SignAt) (n k : ℕ) (v : Val N) (d : ℕ) (st : St N) → V st.vars → P v → Fine d (signs w ss n k v st)
           fine_signs [] n k v d st l h = (h, l)
           fine_signs (o ∷ ss) n k v d st l h =
-              fine_visit o.place d st (λ s. signed w o.sign v n k ss o.place s (λ u t. signs w ss n (k + 1) u t)) l (fine_signed o.sign v n k ss o.place d (counted st) _ l h (λ u t i m. fine_signs ss n (k + 1) u d t m i))
+              fine_visit o.place d st (λ s. signed w o.sign v n k ss o.place s (λ u t. signs w ss n (k + 1) u t)) l
+              (fine_signed o.sign v n k ss o.place d (counted st) _ l h (λ u t i m. fine_signs ss n (k + 1) u d t m i))
 
           pub fine_add : (o : Option (Val N)) (x : List ℕ) (q p : Place) (e : Val N) (d : ℕ) (st : St N) → K x → V st.vars → OptionOk o → P e → Fine d (add_to o x q p e st)
           fine_add None x q p e d st n l h i = (tt, l)
@@ -439,14 +463,18 @@ module _ {N : Type 0} (w : World N) (P : Val N → Type 0) (Q : Desc N → Type 
               fine_answer (set_at v k e) p d st _ l (c.set_ok v k e h g i) (λ u j. (tt, c.put_ok x u st.vars n j l))
 
           -- where d bodies may be opened, and a call of one of them is fine
-          module _ (d : ℕ) (body : List ℕ → Pairs N → Vals N → Place → St N → Res N) (enters : (f : List ℕ) (ca : Pairs N) (vs : Vals N) (p : Place) (n k m : ℕ) (ss : Steps) (st : St N) (go : Val N → St N → Res N) → IsFun w.script f → V st.vars → V ca → ValsOk vs → ((y : Val N) (u : St N) → P y → V u.vars → Fine d (go y u)) → Fine d (enter w body f ca vs p n k m ss st go)) where
+          module _ (d : ℕ) (body : List ℕ → Pairs N → Vals N → Place → St N → Res N)
+              (enters : (f : List ℕ) (ca : Pairs N) (vs : Vals N) (p : Place) (n k m : ℕ) (ss : Steps) (st : St N) (go : Val N → St N → Res N) → IsFun w.script f → V st.vars → V ca → ValsOk vs
+              → ((y : Val N) (u : St N) → P y → V u.vars → Fine d (go y u)) → Fine d (enter w body f ca vs p n k m ss st go)) where
             mutual
               pub fine_eval : (e : Exp) (n : ℕ) (st : St N) → ExpWritten L K e → V st.vars → Fine d (eval w body e n st)
               fine_eval (Exp.literal v p) n st o l = fine_visit p d st _ l (fine_gives (limited (lit_val v)) p d (counted st) l (c.lit_ok v o))
               fine_eval (Exp.name x p) n st o l =
-                  fine_visit p d st (λ s. answer (named (find x s.vars) x w.script.funs) p s gives) l (fine_gives (named (find x st.vars) x w.script.funs) p d (counted st) l (named_ok (find x st.vars) x o (c.find_ok x st.vars l)))
+                  fine_visit p d st (λ s. answer (named (find x s.vars) x w.script.funs) p s gives) l
+                  (fine_gives (named (find x st.vars) x w.script.funs) p d (counted st) l (named_ok (find x st.vars) x o (c.find_ok x st.vars l)))
               fine_eval (Exp.func x p) n st o l =
-                  fine_visit p d st (λ s. answer (closed (find_fun x w.script.funs) x s.vars) p s gives) l (fine_gives (closed (find_fun x w.script.funs) x st.vars) p d (counted st) l (closed_fine x st.vars o l))
+                  fine_visit p d st (λ s. answer (closed (find_fun x w.script.funs) x s.vars) p s gives) l
+                  (fine_gives (closed (find_fun x w.script.funs) x st.vars) p d (counted st) l (closed_fine x st.vars o l))
               fine_eval (Exp.parens e) n st o l = fine_got (eval w body e (n + 1) st) d (parens_in n) gives (tt, tt) (fine_eval e (n + 1) st o l) (λ v s i m. (i, m))
               fine_eval (Exp.parts o p es) n st q l = fine_parts es n 1 (n + 1) o p [] st q l tt
               fine_eval (Exp.chain e ls) n st o l =
@@ -458,7 +486,8 @@ module _ {N : Type 0} (w : World N) (P : Val N → Type 0) (Q : Desc N → Type 
               fine_eval (Exp.postfix e ss) n st o l =
                   fine_got _ d (postfix_first n (n + 1 + nodes e) ss) _ (tt, tt) (fine_eval e (n + 1) st o.0 l) (λ v s i m. fine_steps ss n 2 (n + 1 + nodes e) v s o.1 m i)
 
-              pub fine_parts : (es : Exps) (n k m : ℕ) (o : Form) (p : Place) (vs : List (Val N)) (st : St N) → ExpsWritten L K es → V st.vars → Each P vs → Fine d (eval_parts w body es n k m o p vs st)
+              pub fine_parts : (es : Exps) (n k m : ℕ) (o : Form) (p : Place) (vs : List (Val N)) (st : St N) → ExpsWritten L K es → V st.vars → Each P vs
+                  → Fine d (eval_parts w body es n k m o p vs st)
               fine_parts Exps.no_exps n k m o p vs st q l h = fine_visit p d st (λ s. formed w o vs n p s) l (fine_formed o vs n p d (counted st) l h)
               fine_parts (Exps.exp e es) n k m o p vs st q l h =
                   fine_got _ d (part_at n k (m + nodes e) o p vs es) _ (h, tt) (fine_eval e m st q.0 l) (λ v s i u. fine_parts es n (k + 1) (m + nodes e) o p (vs ++ v ∷ []) s q.1 u (more_ok vs v h i))
@@ -466,40 +495,51 @@ module _ {N : Type 0} (w : World N) (P : Val N → Type 0) (Q : Desc N → Type 
               pub fine_links : (ls : Links) (n k m : ℕ) (v : Val N) (st : St N) → LinksWritten L K ls → V st.vars → P v → Fine d (eval_links w body ls n k m v st)
               fine_links Links.no_links n k m v st q l h = (h, l)
               fine_links (Links.link o p e ls) n k m v st q l h =
-                  fine_got _ d (chain_more n k (m + nodes e) o p v ls) _ ((h, tt), tt) (fine_eval e m st q.0 l) (λ x s i u. fine_visit p d s _ u (fine_answer (oper o v x) p d (counted s) _ u (c.oper_ok o v x h i) (λ y j. fine_links ls n (k + 1) (m + nodes e) y (counted s) q.1 u j)))
+                  fine_got _ d (chain_more n k (m + nodes e) o p v ls) _ ((h, tt), tt) (fine_eval e m st q.0 l)
+                  (λ x s i u. fine_visit p d s _ u (fine_answer (oper o v x) p d (counted s) _ u (c.oper_ok o v x h i) (λ y j. fine_links ls n (k + 1) (m + nodes e) y (counted s) q.1 u j)))
 
               pub fine_ands : (ls : Ands) (n k m : ℕ) (j : Junction) (q : Place) (v : Val N) (st : St N) → AndsWritten L K ls → V st.vars → Fine d (eval_ands w body ls n k m j q v st)
               fine_ands Ands.no_ands n k m j q v st o l = fine_gives (truth_of v) q d st l (truth_of_ok v)
               fine_ands (Ands.and p e ls) n k m j q v st o l =
-                  fine_visit p d st _ l (fine_joins j v p d (counted st) _ l (fine_got _ d (logic_at n k (m + nodes e) j p ls) _ (tt, tt) (fine_eval e m (counted st) o.0 l) (λ x u i z. fine_ands ls n (k + 1) (m + nodes e) j p x u o.1 z)))
+                  fine_visit p d st _ l (fine_joins j v p d (counted st) _ l
+                  (fine_got _ d (logic_at n k (m + nodes e) j p ls) _ (tt, tt) (fine_eval e m (counted st) o.0 l) (λ x u i z. fine_ands ls n (k + 1) (m + nodes e) j p x u o.1 z)))
 
               pub fine_steps : (ss : Steps) (n k m : ℕ) (v : Val N) (st : St N) → StepsWritten L K ss → V st.vars → P v → Fine d (eval_steps w body ss n k m v st)
               fine_steps Steps.no_steps n k m v st o l h = (h, l)
               fine_steps (Steps.index e p ss) n k m v st o l h =
-                  fine_got _ d (index_at n k (m + nodes e) p v ss) _ ((h, tt), tt) (fine_eval e m st o.0 l) (λ x s i u. fine_visit p d s _ u (fine_answer (index v x) p d (counted s) _ u (c.index_ok v x h) (λ y j. fine_steps ss n (k + 1) (m + nodes e) y (counted s) o.1 u j)))
+                  fine_got _ d (index_at n k (m + nodes e) p v ss) _ ((h, tt), tt) (fine_eval e m st o.0 l)
+                  (λ x s i u. fine_visit p d s _ u (fine_answer (index v x) p d (counted s) _ u (c.index_ok v x h) (λ y j. fine_steps ss n (k + 1) (m + nodes e) y (counted s) o.1 u j)))
               fine_steps (Steps.call es p ss) n k m v st o l h = fine_args es n k m p v [] ss st o.0 l h tt (λ i j y u z q. fine_steps ss n i j y u o.1 q z)
 
-              pub fine_args : (es : Exps) (n k m : ℕ) (p : Place) (g : Val N) (vs : List (Val N)) (ss : Steps) (st : St N) → ExpsWritten L K es → V st.vars → P g → Each P vs → ((i j : ℕ) (y : Val N) (u : St N) → P y → V u.vars → Fine d (eval_steps w body ss n i j y u)) → Fine d (eval_args w body es n k m p g vs ss (λ i j f c us s. enter w body f c us p n i j ss s (λ y u. eval_steps w body ss n (i + 1) j y u)) st)
+              pub fine_args : (es : Exps) (n k m : ℕ) (p : Place) (g : Val N) (vs : List (Val N)) (ss : Steps) (st : St N) → ExpsWritten L K es → V st.vars → P g → Each P vs
+                  → ((i j : ℕ) (y : Val N) (u : St N) → P y → V u.vars → Fine d (eval_steps w body ss n i j y u))
+                  → Fine d (eval_args w body es n k m p g vs ss (λ i j f c us s. enter w body f c us p n i j ss s (λ y u. eval_steps w body ss n (i + 1) j y u)) st)
               fine_args Exps.no_exps n k m p g vs ss st o l hg h steps =
-                  fine_visit p d st _ l (fine_called g (vals_of vs) p d (counted st) _ l hg (λ f ca i z. enters f ca (vals_of vs) p n k m ss (counted st) _ i l (c.caught_ok f ca z) (vals_ok vs h) (λ y u i z. steps (k + 1) m y u i z)))
+                  fine_visit p d st _ l (fine_called g (vals_of vs) p d (counted st) _ l hg
+                  (λ f ca i z. enters f ca (vals_of vs) p n k m ss (counted st) _ i l (c.caught_ok f ca z) (vals_ok vs h) (λ y u i z. steps (k + 1) m y u i z)))
               fine_args (Exps.exp e es) n k m p g vs ss st o l hg h steps =
-                  fine_got _ d (arg_at n k (m + nodes e) p g vs es ss) _ ((hg, h), tt) (fine_eval e m st o.0 l) (λ v s i u. fine_args es n (k + 1) (m + nodes e) p g (vs ++ v ∷ []) ss s o.1 u hg (more_ok vs v h i) steps)
+                  fine_got _ d (arg_at n k (m + nodes e) p g vs es ss) _ ((hg, h), tt) (fine_eval e m st o.0 l)
+                  (λ v s i u. fine_args es n (k + 1) (m + nodes e) p g (vs ++ v ∷ []) ss s o.1 u hg (more_ok vs v h i) steps)
 
             module _ (n m : ℕ) (p : Place) (blk : Stms) (run : St N → Res N) (run_fine : (st : St N) → V st.vars → Fine d (run st)) where
               pub fine_turns : (f : ℕ) (e : Exp) (st : St N) → ExpWritten L K e → V st.vars → Fine d (turns f n m p e blk (eval w body e (n + 1)) run st)
               fine_turns zero e st o l = (tt, l)
               fine_turns (suc f) e st o l =
-                  fine_got _ d (while_test n m p e blk) _ (tt, tt) (fine_eval e (n + 1) st o l) (λ v s i u. fine_decide v p d s _ _ u (fine_goes (run s) d (while_body n m p e blk) _ (tt, tt) (run_fine s u) (λ z j. fine_turns f e z o j)) (tt, u))
+                  fine_got _ d (while_test n m p e blk) _ (tt, tt) (fine_eval e (n + 1) st o l)
+                  (λ v s i u. fine_decide v p d s _ _ u (fine_goes (run s) d (while_body n m p e blk) _ (tt, tt) (run_fine s u) (λ z j. fine_turns f e z o j)) (tt, u))
 
               pub fine_repeats : (f : ℕ) (e : Exp) (st : St N) → ExpWritten L K e → V st.vars → Fine d (repeats f n m p blk e run (eval w body e m) st)
               fine_repeats zero e st o l = (tt, l)
               fine_repeats (suc f) e st o l =
-                  fine_goes (run st) d (repeat_body n m p blk e) _ (tt, tt) (run_fine st l) (λ s u. fine_got _ d (repeat_test n m p blk e) _ (tt, tt) (fine_eval e m s o u) (λ v t i j. fine_decide v p d t _ _ j (fine_repeats f e t o j) (tt, j)))
+                  fine_goes (run st) d (repeat_body n m p blk e) _ (tt, tt) (run_fine st l)
+                  (λ s u. fine_got _ d (repeat_test n m p blk e) _ (tt, tt) (fine_eval e m s o u) (λ v t i j. fine_decide v p d t _ _ j (fine_repeats f e t o j) (tt, j)))
 
-              pub fine_each : (vs : Vals N) (t : ℕ) (x : List ℕ) (whole : Vals N) (st : St N) → K x → t + count vs ≡ count whole → V st.vars → ValsOk vs → P (list whole) → Fine d (each vs n m t p x whole blk run st)
+              pub fine_each : (vs : Vals N) (t : ℕ) (x : List ℕ) (whole : Vals N) (st : St N) → K x → t + count vs ≡ count whole → V st.vars → ValsOk vs → P (list whole)
+                  → Fine d (each vs n m t p x whole blk run st)
               fine_each no_vals t x whole st o g l h i = (tt, l)
               fine_each (val v vs) t x whole st o g l h i =
-                  fine_visit p d st _ l (fine_goes (run (set_var x v (counted st))) d (for_body n m (suc t) p x whole blk) _ ((i, (c.taken_ok (suc t) whole i (omega (arith, g)), tt)), tt) (run_fine (set_var x v (counted st)) (c.put_ok x v st.vars o h.0 l)) (λ z j. fine_each vs (suc t) x whole z o (omega (arith, g)) j h.1 i))
+                  fine_visit p d st _ l (fine_goes (run (set_var x v (counted st))) d (for_body n m (suc t) p x whole blk) _ ((i, (c.taken_ok (suc t) whole i (omega (arith, g)), tt)), tt)
+                  (run_fine (set_var x v (counted st)) (c.put_ok x v st.vars o h.0 l)) (λ z j. fine_each vs (suc t) x whole z o (omega (arith, g)) j h.1 i))
 
               pub fine_each_of : (v : Val N) (x : List ℕ) (st : St N) → K x → V st.vars → P v → Fine d (each_of v n m p x blk run st)
               fine_each_of (list vs) x st o l h = fine_each vs 0 x vs st o (omega arith) l (c.inside_ok vs h) h
@@ -516,9 +556,12 @@ module _ {N : Type 0} (w : World N) (P : Val N → Type 0) (Q : Desc N → Type 
               fine_stm (Stm.set x p e) n st o l =
                   fine_visit p d st _ l (fine_got _ d (set_part n x) _ (tt, tt) (fine_eval e (n + 1) (counted st) o.1 l) (λ v t i u. (tt, c.put_ok x v t.vars o.0 i u)))
               fine_stm (Stm.add x q p e) n st o l =
-                  fine_visit p d st _ l (fine_got _ d (add_part n x q p) (λ v t. add_to (find x t.vars) x q p v t) (tt, tt) (fine_eval e (n + 1) (counted st) o.1 l) (λ v t i u. fine_add (find x t.vars) x q p v d t o.0 u (c.find_ok x t.vars u) i))
+                  fine_visit p d st _ l (fine_got _ d (add_part n x q p) (λ v t. add_to (find x t.vars) x q p v t) (tt, tt) (fine_eval e (n + 1) (counted st) o.1 l)
+                  (λ v t i u. fine_add (find x t.vars) x q p v d t o.0 u (c.find_ok x t.vars u) i))
               fine_stm (Stm.put x q p k e) n st o l =
-                  fine_visit p d st _ l (fine_got _ d (put_index n (n + 1 + nodes k) x q p e) _ (tt, tt) (fine_eval k (n + 1) (counted st) o.1 l) (λ v t i u. fine_got _ d (put_value n x q p v) (λ y z. put_in (find x z.vars) x q p v y z) ((i, tt), tt) (fine_eval e (n + 1 + nodes k) t o.2 u) (λ y z j s. fine_put (find x z.vars) x q p v y d z o.0 s (c.find_ok x z.vars s) i j)))
+                  fine_visit p d st _ l (fine_got _ d (put_index n (n + 1 + nodes k) x q p e) _ (tt, tt) (fine_eval k (n + 1) (counted st) o.1 l)
+                  (λ v t i u. fine_got _ d (put_value n x q p v) (λ y z. put_in (find x z.vars) x q p v y z) ((i, tt), tt) (fine_eval e (n + 1 + nodes k) t o.2 u)
+                  (λ y z j s. fine_put (find x z.vars) x q p v y d z o.0 s (c.find_ok x z.vars s) i j)))
               fine_stm (Stm.return p e) n st o l =
                   fine_visit p d st _ l (fine_got _ d (return_part n) _ (tt, tt) (fine_eval e (n + 1) (counted st) o l) (λ v t i u. (i, u)))
               fine_stm (Stm.leave p) n st o l = fine_visit p d st _ l (c.null_ok, l)
@@ -529,7 +572,9 @@ module _ {N : Type 0} (w : World N) (P : Val N → Type 0) (Q : Desc N → Type 
               fine_stm (Stm.repeat p blk e) n st o l =
                   fine_visit p d st _ l (fine_repeats n (n + 1 + block_nodes blk) p blk _ (λ z j. fine_stms blk (n + 1) 0 (n + 1 + 1) z o.0 j) (suc visits) e (counted st) o.1 l)
               fine_stm (Stm.for p x e blk) n st o l =
-                  fine_visit p d st _ l (fine_got _ d (for_list n (n + 1 + nodes e) p x blk) _ (tt, tt) (fine_eval e (n + 1) (counted st) o.1 l) (λ v t i j. fine_each_of n (n + 1 + nodes e) p blk (eval_stms w body blk (n + 1 + nodes e) 0 (n + 1 + nodes e + 1)) (λ z k. fine_stms blk (n + 1 + nodes e) 0 (n + 1 + nodes e + 1) z o.2 k) v x t o.0 j i))
+                  fine_visit p d st _ l (fine_got _ d (for_list n (n + 1 + nodes e) p x blk) _ (tt, tt) (fine_eval e (n + 1) (counted st) o.1 l)
+                  (λ v t i j. fine_each_of n (n + 1 + nodes e) p blk (eval_stms w body blk (n + 1 + nodes e) 0 (n + 1 + nodes e + 1))
+                  (λ z k. fine_stms blk (n + 1 + nodes e) 0 (n + 1 + nodes e + 1) z o.2 k) v x t o.0 j i))
               fine_stm (Stm.just p e) n st o l =
                   fine_visit p d st _ l (fine_got _ d (just_part n) _ (tt, tt) (fine_eval e (n + 1) (counted st) o l) (λ v t i u. (tt, u)))
 
@@ -538,21 +583,25 @@ module _ {N : Type 0} (w : World N) (P : Val N → Type 0) (Q : Desc N → Type 
               fine_stms (Stms.stm a more) n k m st o l =
                   fine_goes _ d (block_at n (k + 1) (m + stm_nodes a) more) _ (tt, tt) (fine_stm a m st o.0 l) (λ s i. fine_stms more n (k + 1) (m + stm_nodes a) s o.1 i)
 
-              pub fine_arms : (arms : Arms) (n k m i : ℕ) (els : Else) (go : St N → Res N) (st : St N) → ArmsWritten L K arms → V st.vars → ((s : St N) → V s.vars → Fine d (go s)) → Fine d (eval_arms w body arms n k m i els go st)
+              pub fine_arms : (arms : Arms) (n k m i : ℕ) (els : Else) (go : St N → Res N) (st : St N) → ArmsWritten L K arms → V st.vars → ((s : St N) → V s.vars → Fine d (go s))
+                  → Fine d (eval_arms w body arms n k m i els go st)
               fine_arms Arms.no_arms n k m i els go st o l last = last st l
               fine_arms (Arms.arm p e blk arms) n k m i els go st o l last =
-                  fine_got _ d (arm_test n k (m + nodes e) i p blk arms els) _ (tt, tt) (fine_eval e m st o.0 l) (λ v s j u. fine_decide v p d s _ _ u (fine_stms blk (m + nodes e) 0 (m + nodes e + 1) s o.1 u) (fine_arms arms n (k + 1) (m + nodes e + block_nodes blk) i els go s o.2 u last))
+                  fine_got _ d (arm_test n k (m + nodes e) i p blk arms els) _ (tt, tt) (fine_eval e m st o.0 l)
+                  (λ v s j u. fine_decide v p d s _ _ u (fine_stms blk (m + nodes e) 0 (m + nodes e + 1) s o.1 u) (fine_arms arms n (k + 1) (m + nodes e + block_nodes blk) i els go s o.2 u last))
 
               pub fine_else : (els : Else) (n : ℕ) (st : St N) → ElseWritten L K els → V st.vars → Fine d (eval_else w body els n st)
               fine_else Else.no_else n st o l = (tt, l)
               fine_else (Else.otherwise blk) n st o l = fine_stms blk n 0 (n + 1) st o l
 
-          pub fine_in_body : (o : Option Body) (ca : Pairs N) (vs : Vals N) (p : Place) (d : ℕ) (st : St N) (run : Stms → ℕ → St N → Res N) → BodyWritten L K o → V st.vars → V ca → ValsOk vs → ((blk : Stms) (n : ℕ) (s : St N) → StmsWritten L K blk → V s.vars → Fine d (run blk n s)) → Fine d (in_body w o ca vs p st run)
+          pub fine_in_body : (o : Option Body) (ca : Pairs N) (vs : Vals N) (p : Place) (d : ℕ) (st : St N) (run : Stms → ℕ → St N → Res N) → BodyWritten L K o → V st.vars → V ca → ValsOk vs
+              → ((blk : Stms) (n : ℕ) (s : St N) → StmsWritten L K blk → V s.vars → Fine d (run blk n s)) → Fine d (in_body w o ca vs p st run)
           fine_in_body None ca vs p d st run b l z h g = (tt, l)
           fine_in_body (Some x) ca vs p d st run b l z h g =
               g x.block x.node (with_vars (bind x.params vs ca) st) b.1 (bind_ok x.params vs ca b.0 h z)
 
-          pub fine_body : (xs : Pairs N) (d : ℕ) (k : Val N → St N → Res N) → V xs → ((v : Val N) (st : St N) → P v → V st.vars → Fine d (k v st)) → (e : End N) (st : St N) → EndOk e → V st.vars → Fine d (on_body xs k e st)
+          pub fine_body : (xs : Pairs N) (d : ℕ) (k : Val N → St N → Res N) → V xs → ((v : Val N) (st : St N) → P v → V st.vars → Fine d (k v st)) → (e : End N) (st : St N) → EndOk e → V st.vars
+              → Fine d (on_body xs k e st)
           fine_body xs d k l g End.goes st o i = g null (with_vars xs st) c.null_ok l
           fine_body xs d k l g (End.got v) st o i = g v (with_vars xs st) o l
           fine_body xs d k l g (End.returned v) st o i = g v (with_vars xs st) o l
@@ -561,6 +610,10 @@ module _ {N : Type 0} (w : World N) (P : Val N → Type 0) (Q : Desc N → Type 
           -- every run of a body is fine, where d others may be opened
           pub fine_call : Written L K w.script → (d : ℕ) (f : List ℕ) (ca : Pairs N) (vs : Vals N) (p : Place) (st : St N) → V st.vars → V ca → ValsOk vs → Fine d (body_at w (suc d) f ca vs p st)
           fine_call s zero f ca vs p st l z h =
-              fine_in_body (body_of f w.script) ca vs p zero st _ (body_written L K w.script s f) l z h (λ blk n t o i. fine_stms zero (body_at w zero) (λ f' ca' vs' p' n' k' m' ss' st' go' i' l' z' h' g'. (tt, l')) blk n 0 (n + 1) t o i)
+              fine_in_body (body_of f w.script) ca vs p zero st _ (body_written L K w.script s f) l z h
+              (λ blk n t o i. fine_stms zero (body_at w zero) (λ f' ca' vs' p' n' k' m' ss' st' go' i' l' z' h' g'. (tt, l')) blk n 0 (n + 1) t o i)
           fine_call s (suc d) f ca vs p st l z h =
-              fine_in_body (body_of f w.script) ca vs p (suc d) st _ (body_written L K w.script s f) l z h (λ blk n t o i. fine_stms (suc d) (body_at w (suc d)) (λ f' ca' vs' p' n' k' m' ss' st' go' i' l' z' h' g'. fine_then (body_at w (suc d) f' ca' vs' p' st') (suc d) (call_open n' k' m' f' st'.vars ss') (on_body st'.vars go') (tt, (omega arith, i', l')) (fine_call s d f' ca' vs' p' st' l' z' h') (fine_body st'.vars (suc d) go' l' g')) blk n 0 (n + 1) t o i)
+              fine_in_body (body_of f w.script) ca vs p (suc d) st _ (body_written L K w.script s f) l z h
+              (λ blk n t o i. fine_stms (suc d) (body_at w (suc d)) (λ f' ca' vs' p' n' k' m' ss' st' go' i' l' z' h' g'. fine_then (body_at w (suc d) f' ca' vs' p' st') (suc d)
+              (call_open n' k' m' f' st'.vars ss') (on_body st'.vars go') (tt, (omega arith, i', l')) (fine_call s d f' ca' vs' p' st' l' z' h') (fine_body st'.vars (suc d) go' l' g')) blk n 0
+              (n + 1) t o i)

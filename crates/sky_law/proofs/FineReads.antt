@@ -1,9 +1,12 @@
 -- What is read from a run of which something is known of every value: how it ends, where it halts, what it does, its frames.
 use Rattle.sky_base.specs.Val as v
 use Rattle.std.proofs.Common.{◌≡◌, ℕ, zero, suc, ◌+◌, ◌<◌, List, [], ◌∷◌, ◌++◌, length, Option, Some, None, refl, ap, ◌∙◌, arith, ◌⊎◌, inr}
-use Rattle.sky_base.specs.Res.{Object, Entry, parens_in, part_at, chain_first, chain_more, logic_at, prefix_part, star_wait, postfix_first, index_at, arg_at, call_open, exec_wait, set_part, add_part, put_index, put_value, return_part, just_part, arm_test, while_test, while_body, repeat_body, repeat_test, for_list, for_body, block_at, Res, Fin, Tell, Ask, kept_of, opens}
+use Rattle.sky_base.specs.Res.{Object, Entry, parens_in, part_at, chain_first, chain_more, logic_at, prefix_part, star_wait, postfix_first, index_at}
+use Rattle.sky_base.specs.Res.{arg_at, call_open, exec_wait, set_part, add_part, put_index, put_value, return_part, just_part, arm_test, while_test}
+use Rattle.sky_base.specs.Res.{while_body, repeat_body, repeat_test, for_list, for_body, block_at, Res, Fin, Tell, Ask, kept_of, opens}
 use Rattle.sky_base.specs.Eval.{World, inside}
-use Rattle.sky_base.specs.Read.{Outcome, no_fuel, Act, made, waited, Halt, Todo, Frame, refs_of, joined, see_all, on_seen, acts_seen, halts_seen, outcome, acts, halt, todo_of, in_front, frame_of, frames_of}
+use Rattle.sky_base.specs.Read.{Outcome, no_fuel, Act, made, waited, Halt, Todo, Frame, refs_of, joined, see_all, on_seen, acts_seen, halts_seen}
+use Rattle.sky_base.specs.Read.{outcome, acts, halt, todo_of, in_front, frame_of, frames_of}
 use Rattle.sky_law.specs.Tasks.{Each}
 use Rattle.sky_law.specs.Sound.{IsFun}
 use Rattle.sky_law.proofs.FormsLaw.{inner}
@@ -46,7 +49,9 @@ module _ {N : Type 0} (w : World N) (P : v.Val N → Type 0) (Q : v.Desc N → T
       all_ok [] h = tt
       all_ok (d ∷ ds) h = join_ok (look d) (see_all look ds) (looks d h.0) (all_ok ds h.1)
 
-      outcome_on : (x : Option (List (Object N))) (k : List (Object N) → Res N) → AllOk x → ((os : List (Object N)) → Each (ObjectOk w P Q) os → OutcomeOk (outcome look (k os))) → OutcomeOk (on_seen x (λ os. outcome look (k os)))
+      outcome_on : (x : Option (List (Object N))) (k : List (Object N) → Res N) → AllOk x
+          → ((os : List (Object N)) → Each (ObjectOk w P Q) os → OutcomeOk (outcome look (k os)))
+          → OutcomeOk (on_seen x (λ os. outcome look (k os)))
       outcome_on None k h g = tt
       outcome_on (Some os) k h g = g os h
 
@@ -56,7 +61,9 @@ module _ {N : Type 0} (w : World N) (P : v.Val N → Type 0) (Q : v.Desc N → T
       outcome_fine (Ask q fr st k) d g =
           outcome_on (see_all look (refs_of q)) k (all_ok (refs_of q) (asked (refs_of q) g.0.0)) (λ os h. outcome_fine (k os) d (g.1 os h))
 
-      halt_on : (x : Option (List (Object N))) (k : List (Object N) → Res N) (j d : ℕ) → AllOk x → ((os : List (Object N)) → Each (ObjectOk w P Q) os → HaltOk d (halt look j (k os))) → HaltOk d (halts_seen x (λ os. halt look j (k os)))
+      halt_on : (x : Option (List (Object N))) (k : List (Object N) → Res N) (j d : ℕ) → AllOk x
+          → ((os : List (Object N)) → Each (ObjectOk w P Q) os → HaltOk d (halt look j (k os)))
+          → HaltOk d (halts_seen x (λ os. halt look j (k os)))
       halt_on None k j d h g = tt
       halt_on (Some os) k j d h g = g os h
 
@@ -67,15 +74,20 @@ module _ {N : Type 0} (w : World N) (P : v.Val N → Type 0) (Q : v.Desc N → T
       halt_fine (suc j) (Ask q fr st k) d g =
           halt_on (see_all look (refs_of q)) k j d (all_ok (refs_of q) (asked (refs_of q) g.0.0)) (λ os h. halt_fine j (k os) d (g.1 os h))
 
-      acts_on : (x : Option (List (Object N))) (k : List (Object N) → Res N) → AllOk x → ((os : List (Object N)) → Each (ObjectOk w P Q) os → Each ActOk (acts look (k os))) → Each ActOk (acts_seen x (λ os. acts look (k os)))
+      acts_on : (x : Option (List (Object N))) (k : List (Object N) → Res N) → AllOk x
+          → ((os : List (Object N)) → Each (ObjectOk w P Q) os → Each ActOk (acts look (k os)))
+          → Each ActOk (acts_seen x (λ os. acts look (k os)))
       acts_on None k h g = tt
       acts_on (Some os) k h g = g os h
 
       pub acts_fine : (r : Res N) (d : ℕ) → Fine w P Q V any_made d r → Each ActOk (acts look r)
       acts_fine (Fin e st) d g = tt
       acts_fine (Tell o r) d g = (g.0, acts_fine r d (g.1 tt))
-      acts_fine (Ask q fr st k) d g =
-          (asked (refs_of q) g.0.0, acts_on (see_all look (refs_of q)) k (all_ok (refs_of q) (asked (refs_of q) g.0.0)) (λ os h. acts_fine (k os) d (g.1 os h)))
+      acts_fine (Ask q fr st k) d g = (
+        asked (refs_of q) g.0.0,
+        acts_on (see_all look (refs_of q)) k (all_ok (refs_of q) (asked (refs_of q) g.0.0))
+            (λ os h. acts_fine (k os) d (g.1 os h)),
+      )
 
     -- ---- frames
 
@@ -90,14 +102,18 @@ module _ {N : Type 0} (w : World N) (P : v.Val N → Type 0) (Q : v.Desc N → T
     front_ok t vs [] h i = tt
     front_ok t vs (f ∷ fs) h i = ((i.0.0, both_ok vs f.stack h i.0.1, i.0.2), i.1)
 
-    frame_ok : (d : ℕ) (o : Option (List ℕ × v.Pairs N)) (f : List ℕ) (t : Todo) (vs : List (v.Val N)) (same : List (Frame N)) (above : List ℕ → List (Frame N)) → OpenOk w P Q V d o → (f ≡ []) ⊎ IsFun w.script f → Each P vs → Each FrameOk same → ((g : List ℕ) → IsFun w.script g → Each FrameOk (above g)) → Each FrameOk (frame_of o f t vs same above)
+    frame_ok : (d : ℕ) (o : Option (List ℕ × v.Pairs N)) (f : List ℕ) (t : Todo) (vs : List (v.Val N)) (same : List (Frame N))
+        (above : List ℕ → List (Frame N)) → OpenOk w P Q V d o → (f ≡ []) ⊎ IsFun w.script f → Each P vs → Each FrameOk same
+        → ((g : List ℕ) → IsFun w.script g → Each FrameOk (above g)) → Each FrameOk (frame_of o f t vs same above)
     frame_ok d None f t vs same above o z h i g = front_ok t vs same h i
     frame_ok d (Some c) f t vs same above o z h i g = ((o.2, h, z), g c.0 o.1)
 
-    pub frames_ok : (fr : List (Entry N)) (d : ℕ) (f : List ℕ) (xs : v.Pairs N) → FormsOk w P Q V d fr → (f ≡ []) ⊎ IsFun w.script f → V xs → Each FrameOk (frames_of fr f xs)
+    pub frames_ok : (fr : List (Entry N)) (d : ℕ) (f : List ℕ) (xs : v.Pairs N) → FormsOk w P Q V d fr → (f ≡ []) ⊎ IsFun w.script f → V xs
+        → Each FrameOk (frames_of fr f xs)
     frames_ok [] d f xs h z l = ((l, tt, z), tt)
     frames_ok (en ∷ fr) d f xs h z l =
-        frame_ok d (opens en) f (todo_of en) (kept_of en) (frames_of fr f xs) (λ g. frames_of fr g xs) h.0.1 z h.0.0 (frames_ok fr (inside w en d) f xs h.1 z l) (λ g i. frames_ok fr (inside w en d) g xs h.1 (inr i) l)
+        frame_ok d (opens en) f (todo_of en) (kept_of en) (frames_of fr f xs) (λ g. frames_of fr g xs) h.0.1 z h.0.0
+        (frames_ok fr (inside w en d) f xs h.1 z l) (λ g i. frames_ok fr (inside w en d) g xs h.1 (inr i) l)
 
     inside_closed : (en : Entry N) (d : ℕ) → opens en ≡ None → inside w en d ≡ d
     inside_closed (call_open n k m f xs ss) d is = absurd cc
@@ -161,13 +177,17 @@ module _ {N : Type 0} (w : World N) (P : v.Val N → Type 0) (Q : v.Desc N → T
     front_length t vs (f ∷ fs) = refl
 
     -- the frames and the bodies that may still be opened are as many as may be open
-    pub frames_left : (fr : List (Entry N)) (d : ℕ) (f : List ℕ) (xs : v.Pairs N) → FormsOk w P Q V d fr → length (frames_of fr f xs) + inner w fr d ≡ suc d
+    pub frames_left : (fr : List (Entry N)) (d : ℕ) (f : List ℕ) (xs : v.Pairs N) → FormsOk w P Q V d fr
+        → length (frames_of fr f xs) + inner w fr d ≡ suc d
     frames_left [] d f xs h = omega arith
     frames_left (en ∷ fr) d f xs h = go (opens en) refl h.0.1 (λ g. frames_left fr (inside w en d) g xs h.1)
       where
-        go : (o : Option (List ℕ × v.Pairs N)) → opens en ≡ o → OpenOk w P Q V d o → ((g : List ℕ) → length (frames_of fr g xs) + inner w fr (inside w en d) ≡ suc (inside w en d)) → length (frame_of o f (todo_of en) (kept_of en) (frames_of fr f xs) (λ g. frames_of fr g xs)) + inner w fr (inside w en d) ≡ suc d
+        go : (o : Option (List ℕ × v.Pairs N)) → opens en ≡ o → OpenOk w P Q V d o
+            → ((g : List ℕ) → length (frames_of fr g xs) + inner w fr (inside w en d) ≡ suc (inside w en d))
+            → length (frame_of o f (todo_of en) (kept_of en) (frames_of fr f xs) (λ g. frames_of fr g xs)) + inner w fr (inside w en d) ≡ suc d
         go None e o g =
-            ap (λ x. x + inner w fr (inside w en d)) (front_length (todo_of en) (kept_of en) (frames_of fr f xs)) ∙ g f ∙ ap suc (inside_closed en d e)
+            ap (λ x. x + inner w fr (inside w en d)) (front_length (todo_of en) (kept_of en) (frames_of fr f xs)) ∙ g f
+            ∙ ap suc (inside_closed en d e)
         go (Some c) e o g =
             let q : length (frames_of fr c.0 xs) + inner w fr (inside w en d) ≡ suc (inside w en d) = g c.0 in
             let s : suc (inside w en d) ≡ d = inside_opened en d c e o.0 in

@@ -82,7 +82,8 @@ abbrev first : Exp → ℕ → Exp
 first e c = Exp.postfix e (Steps.index (n 0 (c + 1)) (at c) Steps.no_steps)
 
 abbrev executes : List ℕ → ℕ → List Exp → Exp
-executes x c es = first (form Form.spawn_exec c (t x (c + 11) ∷ form Form.dict (c + 19) (t (105 ∷ 110 ∷ []) (c + 20) ∷ form Form.list (c + 26) es ∷ []) ∷ n 1 (c + 40) ∷ [])) (c + 42)
+executes x c es = first (form Form.spawn_exec c
+    (t x (c + 11) ∷ form Form.dict (c + 19) (t (105 ∷ 110 ∷ []) (c + 20) ∷ form Form.list (c + 26) es ∷ []) ∷ n 1 (c + 40) ∷ [])) (c + 42)
 
 abbrev curr : List ℕ
 curr = 99 ∷ []
@@ -94,15 +95,28 @@ computing : ℕ
 unfolding visits others see round wave job_answer is_utf8 chars encode
 computing = 0
 
--- `curr = ref("n"); do { prev = curr; curr = spawn_exec("half", {"in": [prev]}, 1)[0]; } while (!*spawn_exec("same", {"in": [prev, curr]}, 1)[0]); return curr;` with n = `5` LF: the values are 5, 2, 1, 0, 0
+-- `curr = ref("n"); do { prev = curr; curr = spawn_exec("half", {"in": [prev]}, 1)[0]; } while (!*spawn_exec("same", {"in": [prev, curr]}, 1)[0]);
+-- return curr;` with n = `5` LF: the values are 5, 2, 1, 0, 0
 fixed_point_row : Job
-fixed_point_row = record { script = record { funs = []; main = block (Stm.set curr (at 1) (form Form.ref 8 (t (110 ∷ []) 12 ∷ [])) ∷ Stm.repeat (at 20) (block (Stm.set prev (at 25) (name curr 30) ∷ Stm.set curr (at 35) (executes half_name 40 (name prev 66 ∷ [])) ∷ [])) (Exp.prefix (record { sign = Sign.not; place = at 100 } ∷ record { sign = Sign.star; place = at 101 } ∷ []) (executes same_name 102 (name prev 128 ∷ name curr 134 ∷ []))) ∷ Stm.return (at 160) (name curr 167) ∷ []); keys = (110 ∷ []) ∷ [] }; inputs = (110 ∷ [], 53 ∷ 10 ∷ []) ∷ [] }
+fixed_point_row = record {
+  script = record {
+    funs = [];
+    main =
+        block (Stm.set curr (at 1) (form Form.ref 8 (t (110 ∷ []) 12 ∷ []))
+        ∷ Stm.repeat (at 20) (block (Stm.set prev (at 25) (name curr 30) ∷ Stm.set curr (at 35) (executes half_name 40 (name prev 66 ∷ [])) ∷ []))
+        (Exp.prefix (record { sign = Sign.not; place = at 100 } ∷ record { sign = Sign.star; place = at 101 } ∷ [])
+        (executes same_name 102 (name prev 128 ∷ name curr 134 ∷ []))) ∷ Stm.return (at 160) (name curr 167) ∷ []);
+    keys = (110 ∷ []) ∷ [];
+  };
+  inputs = (110 ∷ [], 53 ∷ 10 ∷ []) ∷ [];
+}
 
 fixed_point_row_answer : job_answer fixed_point_row kit 8 ≡ Answered.bytes (48 ∷ 10 ∷ [])
 unfolding computing fixed_point_row
 fixed_point_row_answer = refl
 
--- `function p() { return 1 / 0; } function q() { return [][0]; } return spawn_exec("cat", {"in": [spawn(p, []), spawn(q, [])]}, 1)[0];`, and the two spawns exchanged
+-- `function p() { return 1 / 0; } function q() { return [][0]; } return spawn_exec("cat", {"in": [spawn(p, []), spawn(q, [])]}, 1)[0];`, and the two
+-- spawns exchanged
 abbrev spawns : List ℕ → ℕ → Exp
 spawns f c = form Form.spawn c (name f (c + 6) ∷ form Form.list (c + 9) [] ∷ [])
 
@@ -113,13 +127,31 @@ abbrev q : List ℕ
 q = 113 ∷ []
 
 two_faults_row : List Exp → Job
-two_faults_row es = record { script = record { funs = record { name = p; params = []; body = block (Stm.return (at 16) (Exp.chain (n 1 23) (Links.link Oper.over (at 25) (n 0 27) Links.no_links)) ∷ []); place = at 10; uses = [] } ∷ record { name = q; params = []; body = block (Stm.return (at 47) (first (form Form.list 54 []) 56) ∷ []); place = at 41; uses = [] } ∷ []; main = block (Stm.return (at 62) (executes (99 ∷ 97 ∷ 116 ∷ []) 69 es) ∷ []); keys = [] }; inputs = [] }
+two_faults_row es = record {
+  script = record {
+    funs =
+        record {
+          name = p;
+          params = [];
+          body = block
+              (Stm.return (at 16) (Exp.chain (n 1 23) (Links.link Oper.over (at 25) (n 0 27) Links.no_links)) ∷ []);
+          place = at 10;
+          uses = [];
+        }
+        ∷ record { name = q; params = []; body = block (Stm.return (at 47) (first (form Form.list 54 []) 56) ∷ []); place = at 41; uses = [] } ∷ [];
+    main = block (Stm.return (at 62) (executes (99 ∷ 97 ∷ 116 ∷ []) 69 es) ∷ []);
+    keys = [];
+  };
+  inputs = [];
+}
 
-two_faults_row_p : job_answer (two_faults_row (spawns p 100 ∷ spawns q 114 ∷ [])) kit 4 ≡ Answered.fault (record { kind = FaultKind.DivZero; line = 1; col = 25 })
+two_faults_row_p : job_answer (two_faults_row (spawns p 100 ∷ spawns q 114 ∷ [])) kit 4
+    ≡ Answered.fault (record { kind = FaultKind.DivZero; line = 1; col = 25 })
 unfolding computing two_faults_row
 two_faults_row_p = refl
 
-two_faults_row_q : job_answer (two_faults_row (spawns q 100 ∷ spawns p 114 ∷ [])) kit 4 ≡ Answered.fault (record { kind = FaultKind.NoIndex; line = 1; col = 56 })
+two_faults_row_q : job_answer (two_faults_row (spawns q 100 ∷ spawns p 114 ∷ [])) kit 4
+    ≡ Answered.fault (record { kind = FaultKind.NoIndex; line = 1; col = 56 })
 unfolding computing two_faults_row
 two_faults_row_q = refl
 

@@ -1,6 +1,7 @@
 -- What holds of the literals, the names and the data that a job begins with, and is kept by each operator, holds of all that
 -- the job makes, waits for, holds and answers with.
-use Rattle.std.proofs.Common.{◌≡◌, ℕ, zero, suc, ◌≤◌, List, [], ◌∷◌, Bool, true, false, Option, Some, None, Result, Ok, Err, nat_lt, nat_le, refl, subst, ltb-false, ◌⊎◌}
+use Rattle.std.proofs.Common.{◌≡◌, ℕ, zero, suc, ◌≤◌, List, [], ◌∷◌, Bool, true, false, Option, Some, None, Result, Ok, Err, nat_lt, nat_le, refl}
+use Rattle.std.proofs.Common.{subst, ltb-false, ◌⊎◌}
 use Rattle.std.specs.Str.{is_utf8}
 use Rattle.sky_base.specs.Val.{null, truth, num, text, list, dict, fun, ref, no_pairs, call, out, input, known, refs, size, depth}
 use Rattle.sky_base.specs.Op.{Answer}
@@ -9,8 +10,11 @@ use Rattle.sky_base.specs.Res.{others, Object, End}
 use Rattle.sky_base.specs.Eval.{Body, World, body_of}
 use Rattle.sky_base.specs.Kept.{Kept}
 use Rattle.sky_base.specs.Read.{Outcome, no_fuel, Act, made, waited, Halt, outcome, acts, halt}
-use Rattle.sky_base.specs.See.{Val, Vals, Pairs, Desc, Obj, Job, Around, Gathered, gather_on, gather_one, gather, as_value, read_or_text, text_if, val_of, replaced, run_output, output_at, executed_on, object_of, world_of, start_st, run_of, see, Turn, next_if, next_within, next_value, lone, turn_all, turn_refs, turn, wave_on, turn_of, wave, main_call}
-use Rattle.sky_base.specs.Needed.{Task, task_of, distinct_refs, unless_none, wave_refs, only_if, halt_refs, wait_at, WaitOf, State, start_frame, halt_state, wave_state, stands_at, StandsAt, Needed, root}
+use Rattle.sky_base.specs.See.{Val, Vals, Pairs, Desc, Obj, Job, Around, Gathered, gather_on, gather_one, gather, as_value, read_or_text, text_if}
+use Rattle.sky_base.specs.See.{val_of, replaced, run_output, output_at, executed_on, object_of, world_of, start_st, run_of, see, Turn, next_if}
+use Rattle.sky_base.specs.See.{next_within, next_value, lone, turn_all, turn_refs, turn, wave_on, turn_of, wave, main_call}
+use Rattle.sky_base.specs.Needed.{Task, task_of, distinct_refs, unless_none, wave_refs, only_if, halt_refs, wait_at, WaitOf, State, start_frame}
+use Rattle.sky_base.specs.Needed.{halt_state, wave_state, stands_at, StandsAt, Needed, root}
 use Rattle.sky_base.specs.declared.fault.Fault.{Fault}
 use Rattle.sky_law.specs.Tasks.{In, Each, wait_then, waves_from, acts_of, made_in}
 use Rattle.sky_law.specs.Sound.{IsFun}
@@ -78,17 +82,21 @@ module _ (job : Job) (around : Around) (P U : Val → Type 0) (Q : Desc → Type
     unfolding see
     see_ok zero d h = tt
     see_ok (suc n) (call f ca vs) h =
-        object_ok (outcome (λ d. see job around n d) (run_of job around f ca vs)) (outcome_fine w P Q V c.to_ok (λ d. see job around n d) (λ d i. see_ok n d i) (run_of job around f ca vs) others (run_fine f ca vs h))
+        object_ok (outcome (λ d. see job around n d) (run_of job around f ca vs))
+        (outcome_fine w P Q V c.to_ok (λ d. see job around n d) (λ d i. see_ok n d i) (run_of job around f ca vs) others
+        (run_fine f ca vs h))
     see_ok (suc n) (out x a m i) h = executed_ok x a m i _
     see_ok (suc n) (input k) h = tt
     see_ok (suc n) (known b) h = absurd b
 
     -- each description that a call makes or waits for
-    acts_ok : (n : ℕ) (f : List ℕ) (ca : Pairs) (vs : Vals) → Q (call f ca vs) → Each (ActOk w P Q) (acts (see job around n) (run_of job around f ca vs))
+    acts_ok : (n : ℕ) (f : List ℕ) (ca : Pairs) (vs : Vals) → Q (call f ca vs)
+        → Each (ActOk w P Q) (acts (see job around n) (run_of job around f ca vs))
     acts_ok n f ca vs h =
         acts_fine w P Q V c.to_ok (see job around n) (see_ok n) (run_of job around f ca vs) others (run_fine f ca vs h)
 
-    halt_ok : (n j : ℕ) (f : List ℕ) (ca : Pairs) (vs : Vals) → Q (call f ca vs) → HaltOk w P Q V others (halt (see job around n) j (run_of job around f ca vs))
+    halt_ok : (n j : ℕ) (f : List ℕ) (ca : Pairs) (vs : Vals) → Q (call f ca vs)
+        → HaltOk w P Q V others (halt (see job around n) j (run_of job around f ca vs))
     halt_ok n j f ca vs h =
         halt_fine w P Q V c.to_ok (see job around n) (see_ok n) j (run_of job around f ca vs) others (run_fine f ca vs h)
 
@@ -233,7 +241,8 @@ module _ (job : Job) (around : Around) (P U : Val → Type 0) (Q : Desc → Type
 
     waits_for : (n : ℕ) (t : Task) (j : ℕ) → TaskOk t → RefsList (wait_at job around n t j)
     waits_for n Task.show zero h = (main_made, tt)
-    waits_for n Task.show (suc j) h = only_ok (nat_le (suc j) 100) (wave_refs (wave job around n (suc j))) (wave_refs_ok (wave job around n (suc j)) (wave_good n (suc j)))
+    waits_for n Task.show (suc j) h = only_ok (nat_le (suc j) 100) (wave_refs (wave job around n (suc j)))
+        (wave_refs_ok (wave job around n (suc j)) (wave_good n (suc j)))
     waits_for n (Task.of (call f ca vs)) zero h = tt
     waits_for n (Task.of (call f ca vs)) (suc j) h = halt_refs_ok (halt (see job around n) j (run_of job around f ca vs)) (halt_ok n j f ca vs h)
     waits_for n (Task.of (out x a m i)) zero h = distinct_ok a (c.arguments_ok x a m i h)
@@ -279,7 +288,8 @@ module _ (job : Job) (around : Around) (P U : Val → Type 0) (Q : Desc → Type
     pub made_ok : (n : ℕ) (t : Task) (d : Desc) → TaskOk t → In d (made_in (acts_of job around n t)) → Q d
     made_ok n Task.show d h i = absurd (waves_none d n 100 1 i)
     made_ok n (Task.of (call f ca vs)) d h i =
-        in_each Q (made_in (acts (see job around n) (run_of job around f ca vs))) d (made_each (acts (see job around n) (run_of job around f ca vs)) (acts_ok n f ca vs h)) i
+        in_each Q (made_in (acts (see job around n) (run_of job around f ca vs))) d
+        (made_each (acts (see job around n) (run_of job around f ca vs)) (acts_ok n f ca vs h)) i
     made_ok n (Task.of (out x a m k)) d h i = absurd i
     made_ok n (Task.of (input k)) d h i = absurd i
     made_ok n (Task.of (known b)) d h i = absurd b
@@ -310,7 +320,8 @@ module _ (job : Job) (around : Around) (P U : Val → Type 0) (Q : Desc → Type
     stands_so : (n : ℕ) (t : Task) (j : ℕ) → TaskOk t → StandsOk (stands_at job around n t j)
     stands_so n Task.show j h = wave_state_ok j (wave job around n j) (wave_good n j)
     stands_so n (Task.of (call f ca vs)) zero h = start_frame_ok f ca vs (body_of f job.script) (body_written L K job.script c.written f) h
-    stands_so n (Task.of (call f ca vs)) (suc j) h = halt_state_ok f (suc j) (halt (see job around n) j (run_of job around f ca vs)) (c.named_ok f ca vs h) (halt_ok n j f ca vs h)
+    stands_so n (Task.of (call f ca vs)) (suc j) h =
+        halt_state_ok f (suc j) (halt (see job around n) j (run_of job around f ca vs)) (c.named_ok f ca vs h) (halt_ok n j f ca vs h)
     stands_so n (Task.of (out x a m i)) j h = tt
     stands_so n (Task.of (input k)) j h = tt
     stands_so n (Task.of (known b)) j h = absurd b

@@ -1,11 +1,19 @@
 -- An operator on lowered values gives the lowered answer.
-use Rattle.std.proofs.Common.{length, ◌≡◌, ℕ, zero, suc, ◌+◌, max, ℤ, pos, negsuc, ◌+ℤ◌, ◌-ℤ◌, ◌*ℤ◌, int_div, List, [], ◌∷◌, ◌++◌, map, Bool, true, false, not, ◌&&◌, Ok, Option, Some, None, nat_lt, refl, sym, ap, ap₂, ◌∙◌}
+use Rattle.std.proofs.Common.{length, ◌≡◌, ℕ, zero, suc, ◌+◌, max, ℤ, pos, negsuc, ◌+ℤ◌, ◌-ℤ◌, ◌*ℤ◌, int_div, List, [], ◌∷◌, ◌++◌, map, Bool, true}
+use Rattle.std.proofs.Common.{false, not, ◌&&◌, Ok, Option, Some, None, nat_lt, refl, sym, ap, ap₂, ◌∙◌}
 use Rattle.std.specs.Ordering.{nat_cmp, int_eq, match_ordering, is_lt, is_le, is_gt, is_ge}
 use Rattle.std.specs.Cmp.Lexicographic.{slice_cmp}
 use Rattle.std.specs.declared.cmp.Ordering.{Ordering}
 use Rattle.std.specs.Option.{option_map}
-use Rattle.sky_base.specs.Val.{Val, Vals, Pairs, Desc, null, truth, num, text, list, dict, fun, ref, no_vals, val, no_pairs, pair, call, out, input, known, size, sizes, pair_sizes, depth, depths, pair_depths, add_val, count, pair_count, vals_of, refs_to, is_plain, vals_plain, pairs_plain, same_bool, same_text, if_null, if_truth, if_num, if_text, if_list, if_dict, if_val, if_no_vals, if_pair, if_no_pairs, same_val, same_vals, same_pairs}
-use Rattle.sky_base.specs.Op.{Answer, checked, fits, if_fits, unless, limited, join, plus, plus_num, plus_text, plus_list, minus, minus_num, times, times_num, over, over_by, over_num, rest, rest_by, rest_num, index, index_list, index_dict, val_at, find, put, or_else, put_val, set_at, set_list, set_dict, limited_list, append, grown, Order, equal_if, equal, unequal, order_num, order_text, ordered, compare, negated, opposite, len, all_keys, keys, is_there, has_key, has, numbers, span, range_if, range_to, range, with_key, dict_from}
+use Rattle.sky_base.specs.Val.{Val, Vals, Pairs, Desc, null, truth, num, text, list, dict, fun, ref, no_vals, val, no_pairs, pair, call, out, input}
+use Rattle.sky_base.specs.Val.{known, size, sizes, pair_sizes, depth, depths, pair_depths, add_val, count, pair_count, vals_of, refs_to, is_plain}
+use Rattle.sky_base.specs.Val.{vals_plain, pairs_plain, same_bool, same_text, if_null, if_truth, if_num, if_text, if_list, if_dict, if_val}
+use Rattle.sky_base.specs.Val.{if_no_vals, if_pair, if_no_pairs, same_val, same_vals, same_pairs}
+use Rattle.sky_base.specs.Op.{Answer, checked, fits, if_fits, unless, limited, join, plus, plus_num, plus_text, plus_list, minus, minus_num, times}
+use Rattle.sky_base.specs.Op.{times_num, over, over_by, over_num, rest, rest_by, rest_num, index, index_list, index_dict, val_at, find, put, or_else}
+use Rattle.sky_base.specs.Op.{put_val, set_at, set_list, set_dict, limited_list, append, grown, Order, equal_if, equal, unequal, order_num}
+use Rattle.sky_base.specs.Op.{order_text, ordered, compare, negated, opposite, len, all_keys, keys, is_there, has_key, has, numbers, span, range_if}
+use Rattle.sky_base.specs.Op.{range_to, range, with_key, dict_from}
 use Rattle.sky_base.specs.Name.{name, low, low_vals, low_pairs, low_desc}
 use Rattle.sky_base.specs.Eval.{bind, left}
 use Rattle.sky_law.specs.Lower.{lower, low_ref}
@@ -116,7 +124,8 @@ module _ {N : Type 0} (spell : N → List ℕ) (tag : Desc (List ℕ) → List �
   val_at_low (val v vs) zero k = refl
   val_at_low (val v vs) (suc i) k = val_at_low vs i k
 
-  find_step : (o : Ordering) (v : Val N) (a : Option (Val (List ℕ))) (b : Option (Val N)) (k : FaultKind) → or_else a k ≡ lower spell tag (or_else b k) → or_else (match_ordering o None (Some (low spell tag v)) a) k ≡ lower spell tag (or_else (match_ordering o None (Some v) b) k)
+  find_step : (o : Ordering) (v : Val N) (a : Option (Val (List ℕ))) (b : Option (Val N)) (k : FaultKind) → or_else a k ≡ lower spell tag (or_else b k)
+      → or_else (match_ordering o None (Some (low spell tag v)) a) k ≡ lower spell tag (or_else (match_ordering o None (Some v) b) k)
   find_step Ordering.Less v a b k h = refl
   find_step Ordering.Equal v a b k h = refl
   find_step Ordering.Greater v a b k h = h
@@ -125,7 +134,8 @@ module _ {N : Type 0} (spell : N → List ℕ) (tag : Desc (List ℕ) → List �
   find_low key no_pairs k = refl
   find_low key (pair l v ps) k = find_step (slice_cmp nat_cmp key l) v _ _ k (find_low key ps k)
 
-  put_step : (o : Ordering) (a b c : Pairs N) (a' b' c' : Pairs (List ℕ)) → low_pairs spell tag a ≡ a' → low_pairs spell tag b ≡ b' → low_pairs spell tag c ≡ c' → low_pairs spell tag (match_ordering o a b c) ≡ match_ordering o a' b' c'
+  put_step : (o : Ordering) (a b c : Pairs N) (a' b' c' : Pairs (List ℕ)) → low_pairs spell tag a ≡ a' → low_pairs spell tag b ≡ b' → low_pairs spell tag c ≡ c'
+      → low_pairs spell tag (match_ordering o a b c) ≡ match_ordering o a' b' c'
   put_step Ordering.Less a b c a' b' c' e f g = e
   put_step Ordering.Equal a b c a' b' c' e f g = f
   put_step Ordering.Greater a b c a' b' c' e f g = g
@@ -402,11 +412,13 @@ module _ {N : Type 0} (spell : N → List ℕ) (tag : Desc (List ℕ) → List �
   if_no_pairs_low no_pairs = refl
   if_no_pairs_low (pair k v ps) = refl
 
-  if_val_low : (ws : Vals N) (k : Val (List ℕ) → Vals (List ℕ) → Bool) (h : Val N → Vals N → Bool) → ((u : Val N) (us : Vals N) → k (low spell tag u) (low_vals spell tag us) ≡ h u us) → if_val (low_vals spell tag ws) k ≡ if_val ws h
+  if_val_low : (ws : Vals N) (k : Val (List ℕ) → Vals (List ℕ) → Bool) (h : Val N → Vals N → Bool) → ((u : Val N) (us : Vals N) → k (low spell tag u) (low_vals spell tag us) ≡ h u us)
+      → if_val (low_vals spell tag ws) k ≡ if_val ws h
   if_val_low no_vals k h e = refl
   if_val_low (val v vs) k h e = e v vs
 
-  if_pair_low : (ws : Pairs N) (k : List ℕ → Val (List ℕ) → Pairs (List ℕ) → Bool) (h : List ℕ → Val N → Pairs N → Bool) → ((l : List ℕ) (u : Val N) (us : Pairs N) → k l (low spell tag u) (low_pairs spell tag us) ≡ h l u us) → if_pair (low_pairs spell tag ws) k ≡ if_pair ws h
+  if_pair_low : (ws : Pairs N) (k : List ℕ → Val (List ℕ) → Pairs (List ℕ) → Bool) (h : List ℕ → Val N → Pairs N → Bool)
+      → ((l : List ℕ) (u : Val N) (us : Pairs N) → k l (low spell tag u) (low_pairs spell tag us) ≡ h l u us) → if_pair (low_pairs spell tag ws) k ≡ if_pair ws h
   if_pair_low no_pairs k h e = refl
   if_pair_low (pair l v vs) k h e = e l v vs
 
@@ -429,7 +441,8 @@ module _ {N : Type 0} (spell : N → List ℕ) (tag : Desc (List ℕ) → List �
     same_pairs_low : (vs us : Pairs N) → pairs_plain vs ≡ true → same_pairs (λ x y. false) (low_pairs spell tag vs) (low_pairs spell tag us) ≡ same_pairs (λ x y. false) vs us
     same_pairs_low no_pairs us e = if_no_pairs_low us
     same_pairs_low (pair k v vs) us e =
-        if_pair_low us _ _ (λ l x xs. ap₂ (λ a b. same_text k l && (a && b)) (same_low v x (and_first (is_plain v) (pairs_plain vs) e)) (same_pairs_low vs xs (and_second (is_plain v) (pairs_plain vs) e)))
+        if_pair_low us _ _ (λ l x xs. ap₂ (λ a b. same_text k l && (a && b)) (same_low v x (and_first (is_plain v) (pairs_plain vs) e))
+        (same_pairs_low vs xs (and_second (is_plain v) (pairs_plain vs) e)))
 
   mutual
     plain_low : (v : Val N) → is_plain (low spell tag v) ≡ is_plain v
@@ -456,11 +469,13 @@ module _ {N : Type 0} (spell : N → List ℕ) (tag : Desc (List ℕ) → List �
 
   equal_low : (a b : Val N) → equal (low spell tag a) (low spell tag b) ≡ lower spell tag (equal a b)
   equal_low a b =
-      ap (λ p. equal_if p (same_val (λ x y. false) (low spell tag a) (low spell tag b))) (ap₂ (λ x y. x && y) (plain_low a) (plain_low b)) ∙ equal_if_low (is_plain a && is_plain b) _ _ (λ e. same_low a b (and_first (is_plain a) (is_plain b) e))
+      ap (λ p. equal_if p (same_val (λ x y. false) (low spell tag a) (low spell tag b))) (ap₂ (λ x y. x && y) (plain_low a) (plain_low b))
+      ∙ equal_if_low (is_plain a && is_plain b) _ _ (λ e. same_low a b (and_first (is_plain a) (is_plain b) e))
 
   unequal_low : (a b : Val N) → unequal (low spell tag a) (low spell tag b) ≡ lower spell tag (unequal a b)
   unequal_low a b =
-      ap (λ p. equal_if p (not (same_val (λ x y. false) (low spell tag a) (low spell tag b)))) (ap₂ (λ x y. x && y) (plain_low a) (plain_low b)) ∙ equal_if_low (is_plain a && is_plain b) _ _ (λ e. ap not (same_low a b (and_first (is_plain a) (is_plain b) e)))
+      ap (λ p. equal_if p (not (same_val (λ x y. false) (low spell tag a) (low spell tag b)))) (ap₂ (λ x y. x && y) (plain_low a) (plain_low b))
+      ∙ equal_if_low (is_plain a && is_plain b) _ _ (λ e. ap not (same_low a b (and_first (is_plain a) (is_plain b) e)))
 
   order_num_low : (t : Ordering → Bool) (a : ℤ) (b : Val N) → order_num t a (low spell tag b) ≡ lower spell tag (order_num t a b)
   order_num_low t a null = refl
@@ -552,7 +567,8 @@ module _ {N : Type 0} (spell : N → List ℕ) (tag : Desc (List ℕ) → List �
   keys_low (fun x c) = refl
   keys_low (ref x) = refl
 
-  found_step : (o : Ordering) (v : Val N) (a : Option (Val (List ℕ))) (b : Option (Val N)) → a ≡ option_map (low spell tag) b → match_ordering o None (Some (low spell tag v)) a ≡ option_map (low spell tag) (match_ordering o None (Some v) b)
+  found_step : (o : Ordering) (v : Val N) (a : Option (Val (List ℕ))) (b : Option (Val N)) → a ≡ option_map (low spell tag) b → match_ordering o None (Some (low spell tag v)) a
+      ≡ option_map (low spell tag) (match_ordering o None (Some v) b)
   found_step Ordering.Less v a b h = refl
   found_step Ordering.Equal v a b h = refl
   found_step Ordering.Greater v a b h = h
@@ -614,7 +630,8 @@ module _ {N : Type 0} (spell : N → List ℕ) (tag : Desc (List ℕ) → List �
   range_low (fun x c) b = refl
   range_low (ref x) b = refl
 
-  with_key_low : (k v : Val N) (ps : Pairs N) (go : Pairs (List ℕ) → Answer (List ℕ)) (to : Pairs N → Answer N) → ((qs : Pairs N) → go (low_pairs spell tag qs) ≡ lower spell tag (to qs)) → with_key (low spell tag k) (low spell tag v) (low_pairs spell tag ps) go ≡ lower spell tag (with_key k v ps to)
+  with_key_low : (k v : Val N) (ps : Pairs N) (go : Pairs (List ℕ) → Answer (List ℕ)) (to : Pairs N → Answer N) → ((qs : Pairs N) → go (low_pairs spell tag qs) ≡ lower spell tag (to qs))
+      → with_key (low spell tag k) (low spell tag v) (low_pairs spell tag ps) go ≡ lower spell tag (with_key k v ps to)
   with_key_low (text k) v ps go to e = ap go (sym (put_low k v ps)) ∙ e (put k v ps)
   with_key_low null v ps go to e = refl
   with_key_low (truth x) v ps go to e = refl

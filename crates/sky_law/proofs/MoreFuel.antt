@@ -1,5 +1,6 @@
 -- The laws of more fuel, from n to any m that isn't below it.
-use Rattle.std.proofs.Common.{◌≡◌, ◌≢◌, ℕ, zero, suc, ◌-◌, ◌≤◌, List, [], ◌++◌, true, Some, None, refl, sym, ap, ◌∙◌, subst, arith, append_assoc, append-nil}
+use Rattle.std.proofs.Common.{◌≡◌, ◌≢◌, ℕ, zero, suc, ◌-◌, ◌≤◌, List, [], ◌++◌, true, Some, None, refl, sym, ap, ◌∙◌, subst, arith, append_assoc}
+use Rattle.std.proofs.Common.{append-nil}
 use Rattle.sky_base.specs.See.{Desc, Obj, Job, Around, Answered, see, job_answer}
 use Rattle.sky_base.specs.Needed.{Task}
 use Rattle.sky_law.specs.Tasks.{acts_of, ended}
@@ -24,24 +25,30 @@ module _ (job : Job) (around : Around) where
   pub seen_stays : (n m : ℕ) (d : Desc) (o : Obj) → n ≤ m → see job around n d ≡ Some o → see job around m d ≡ Some o
   seen_stays n m d o l h =
       ap (λ k. see job around k d) (sym (on_to n m l))
-      ∙ kept_is None (see job around n d) (see job around (on (m - n) n) d) (Some o) (kept_on None (λ k. see job around k d) (λ k. see_kept job around k d) (m - n) n) h (some_not o)
+      ∙ kept_is None (see job around n d) (see job around (on (m - n) n) d) (Some o)
+      (kept_on None (λ k. see job around k d) (λ k. see_kept job around k d) (m - n) n) h (some_not o)
 
   pub answer_stays : (n m : ℕ) (a : Answered) → n ≤ m → job_answer job around n ≡ a → a ≢ Answered.not_yet → job_answer job around m ≡ a
   answer_stays n m a l h ne =
       ap (λ k. job_answer job around k) (sym (on_to n m l))
-      ∙ kept_is Answered.not_yet (job_answer job around n) (job_answer job around (on (m - n) n)) a (kept_on Answered.not_yet (λ k. job_answer job around k) (λ k. answer_kept job around k) (m - n) n) h ne
+      ∙ kept_is Answered.not_yet (job_answer job around n) (job_answer job around (on (m - n) n)) a
+      (kept_on Answered.not_yet (λ k. job_answer job around k) (λ k. answer_kept job around k) (m - n) n) h ne
 
   pub acts_grow_to : (n m : ℕ) (t : Task) → n ≤ m → Begins (acts_of job around n t) (acts_of job around m t)
   acts_grow_to n m t l =
-      subst (λ k. Begins (acts_of job around n t) (acts_of job around k t)) (on_to n m l) (begins_on (λ k. acts_of job around k t) (λ k. more job around k t) (m - n) n)
+      subst (λ k. Begins (acts_of job around n t) (acts_of job around k t)) (on_to n m l)
+      (begins_on (λ k. acts_of job around k t) (λ k. more job around k t) (m - n) n)
 
-  ended_on : (k n : ℕ) (t : Task) → ended job around n t ≡ true → (ended job around (on k n) t ≡ true) × (acts_of job around (on k n) t ≡ acts_of job around n t)
+  ended_on : (k n : ℕ) (t : Task) → ended job around n t ≡ true → (ended job around (on k n) t ≡ true)
+      × (acts_of job around (on k n) t ≡ acts_of job around n t)
   ended_on zero n t h = (h, refl)
   ended_on (suc k) n t h =
       let r : (ended job around (on k n) t ≡ true) × (acts_of job around (on k n) t ≡ acts_of job around n t) = ended_on k n t h in
-      let s : (acts_of job around (suc (on k n)) t ≡ acts_of job around (on k n) t) × (ended job around (suc (on k n)) t ≡ true) = kept job around (on k n) t r.0 in
+      let s : (acts_of job around (suc (on k n)) t ≡ acts_of job around (on k n) t) × (ended job around (suc (on k n)) t ≡ true) =
+      kept job around (on k n) t r.0 in
       (s.1, s.0 ∙ r.1)
 
-  pub ended_stays_to : (n m : ℕ) (t : Task) → n ≤ m → ended job around n t ≡ true → (ended job around m t ≡ true) × (acts_of job around m t ≡ acts_of job around n t)
+  pub ended_stays_to : (n m : ℕ) (t : Task) → n ≤ m → ended job around n t ≡ true → (ended job around m t ≡ true)
+      × (acts_of job around m t ≡ acts_of job around n t)
   ended_stays_to n m t l h =
       subst (λ k. (ended job around k t ≡ true) × (acts_of job around k t ≡ acts_of job around n t)) (on_to n m l) (ended_on (m - n) n t h)

@@ -11,7 +11,8 @@ use Rattle.sky_base.specs.See.{Val, Desc, Job, see, round, wave, job_answer, Ans
 use Rattle.sky_base.specs.Needed.{Task, wait_at}
 use Rattle.sky_law.specs.Tasks.{same, maker, outputs_of, first_of, waves_from, acts_of, ended, held_at, made_between, made_after}
 use Rattle.sky_base.specs.declared.fault.FaultKind.{FaultKind}
-use Rattle.sky_law.proofs.Rows.{plain, at, n, t, b, name, block, op, form, main_of, with_fun, ends, returns, fails, sum_row, squares_row, self_spawn_row, nested_row, waiting_exec_row, star, f_of, f, cat, cat_out, bad}
+use Rattle.sky_law.proofs.Rows.{plain, at, n, t, b, name, block, op, form, main_of, with_fun, ends, returns, fails, sum_row, squares_row}
+use Rattle.sky_law.proofs.Rows.{self_spawn_row, nested_row, waiting_exec_row, star, f_of, f, cat, cat_out, bad}
 
 -- all that tasks compute with
 computing : ℕ
@@ -29,7 +30,8 @@ sum_row_end = refl
 -- `function bad() { return 1 / 0; } x = spawn(bad, []); return 7;`: what is spawned and not waited for is not needed
 abbrev unread_fault_row : Job
 unread_fault_row =
-    with_fun bad [] (Stm.return (at 18) (op (n 1 25) Oper.over 27 (n 0 29)) ∷ []) (Stm.set (120 ∷ []) (at 34) (form Form.spawn 38 (name bad 44 ∷ form Form.list 49 [] ∷ [])) ∷ Stm.return (at 54) (n 7 61) ∷ [])
+    with_fun bad [] (Stm.return (at 18) (op (n 1 25) Oper.over 27 (n 0 29)) ∷ [])
+    (Stm.set (120 ∷ []) (at 34) (form Form.spawn 38 (name bad 44 ∷ form Form.list 49 [] ∷ [])) ∷ Stm.return (at 54) (n 7 61) ∷ [])
 
 unread_fault_row_answer : job_answer unread_fault_row plain 1 ≡ Answered.bytes (55 ∷ 10 ∷ [])
 unfolding computing
@@ -45,7 +47,9 @@ unread_fault_row_waits = refl
 
 -- `function f(x) { return x * x; } a = spawn(f, [3]); b = spawn(f, [3]); return *a + *b;`: one description, made and waited for twice
 abbrev spawned_twice_row : Job
-spawned_twice_row = with_fun (102 ∷ []) ((120 ∷ []) ∷ []) (Stm.return (at 17) (op (name (120 ∷ []) 24) Oper.times 26 (name (120 ∷ []) 28)) ∷ []) (Stm.set (97 ∷ []) (at 33) (f_of 3 37) ∷ Stm.set (98 ∷ []) (at 52) (f_of 3 56) ∷ Stm.return (at 71) (op (star 78 (name (97 ∷ []) 79)) Oper.plus 81 (star 83 (name (98 ∷ []) 84))) ∷ [])
+spawned_twice_row = with_fun (102 ∷ []) ((120 ∷ []) ∷ []) (Stm.return (at 17) (op (name (120 ∷ []) 24) Oper.times 26 (name (120 ∷ []) 28)) ∷ [])
+    (Stm.set (97 ∷ []) (at 33) (f_of 3 37) ∷ Stm.set (98 ∷ []) (at 52) (f_of 3 56)
+    ∷ Stm.return (at 71) (op (star 78 (name (97 ∷ []) 79)) Oper.plus 81 (star 83 (name (98 ∷ []) 84))) ∷ [])
 
 spawned_twice_row_end : ends spawned_twice_row 1 ≡ returns (num (pos 18)) 16
 unfolding computing
@@ -166,7 +170,9 @@ refs_row = refl
 -- `x = "ab"; while (true) { x = x + x; }`: the text of 262,144 bytes would be too large
 doubled_text_row : Job
 doubled_text_row =
-    main_of (Stm.set (120 ∷ []) (at 1) (t (97 ∷ 98 ∷ []) 5) ∷ Stm.while (at 11) (b true 18) (block (Stm.set (120 ∷ []) (at 26) (op (name (120 ∷ []) 30) Oper.plus 32 (name (120 ∷ []) 34)) ∷ [])) ∷ [])
+    main_of (Stm.set (120 ∷ []) (at 1) (t (97 ∷ 98 ∷ []) 5)
+    ∷ Stm.while (at 11) (b true 18) (block (Stm.set (120 ∷ []) (at 26) (op (name (120 ∷ []) 30) Oper.plus 32 (name (120 ∷ []) 34)) ∷ []))
+    ∷ [])
 
 doubled_text_row_end : ends doubled_text_row 0 ≡ fails FaultKind.TooLarge 32 88
 unfolding computing doubled_text_row

@@ -26,9 +26,12 @@ module _ (job : Job) (around : Around) where
   acts_on (suc k) n t h = (kept job around (on k n) t (ended_on k n t h)).0 ∙ acts_on k n t h
 
   -- a task that has ended has come to all its waits
-  pub wait_ended : (n m : ℕ) (t : Task) (j : ℕ) (ds : List Desc) → ended job around n t ≡ true → wait_at job around m t (suc j) ≡ Some ds → slice_get (waits_in (acts_of job around n t)) j ≡ Some ds
+  pub wait_ended : (n m : ℕ) (t : Task) (j : ℕ) (ds : List Desc) → ended job around n t ≡ true → wait_at job around m t (suc j) ≡ Some ds
+      → slice_get (waits_in (acts_of job around n t)) j ≡ Some ds
   wait_ended n m t j ds h e =
-      ap (λ x. slice_get (waits_in x) j) (sym (acts_on m n t h)) ∙ waits_at job around (on m n) t j ∙ ap (λ k. wait_at job around k t (suc j)) (on_either m n) ∙ kept_is None _ _ (Some ds) (kept_on None (λ k. wait_at job around k t (suc j)) (wait_kept job around t (suc j)) n m) e (some_none ds)
+      ap (λ x. slice_get (waits_in x) j) (sym (acts_on m n t h)) ∙ waits_at job around (on m n) t j
+      ∙ ap (λ k. wait_at job around k t (suc j)) (on_either m n)
+      ∙ kept_is None _ _ (Some ds) (kept_on None (λ k. wait_at job around k t (suc j)) (wait_kept job around t (suc j)) n m) e (some_none ds)
 
   pub first_is : (m : ℕ) (t : Task) (ds : List Desc) → wait_at job around m t 0 ≡ Some ds → first_of t ≡ ds
   first_is m Task.show ds e = some_is _ ds e
@@ -38,7 +41,8 @@ module _ (job : Job) (around : Around) where
   first_is m (Task.of (known b)) ds e = absurd b
 
   -- where a task has ended, all that it waits for is seen
-  pub waits_all_seen : (n : ℕ) (t : Task) (j : ℕ) (ds : List Desc) → ended job around n t ≡ true → WaitOf job around t j ds → Each (λ d. see job around n d ≢ None) ds
+  pub waits_all_seen : (n : ℕ) (t : Task) (j : ℕ) (ds : List Desc) → ended job around n t ≡ true → WaitOf job around t j ds
+      → Each (λ d. see job around n d ≢ None) ds
   waits_all_seen n t zero ds h (m, e) = subst (Each (λ d. see job around n d ≢ None)) (first_is m t ds e) (first_seen job around n t h)
   waits_all_seen n t (suc j) ds h (m, e) = later_seen job around n t j ds h (wait_ended n m t j ds h e)
 
@@ -61,7 +65,8 @@ module _ (job : Job) (around : Around) where
   -- a task that waits for another ends with more fuel than that one
   pub ends_before : (n : ℕ) (t u : Task) → ended job around n t ≡ true → WaitsFor job around t u → (m : ℕ) × (m < n) × (ended job around m u ≡ true)
   ends_before n t u h x =
-      seen_ends n x.what u x.is_made (in_each (λ d. see job around n d ≢ None) x.waits x.what (waits_all_seen n t x.wait x.waits h x.waited) x.is_waited)
+      seen_ends n x.what u x.is_made (in_each (λ d. see job around n d ≢ None) x.waits x.what (waits_all_seen n t x.wait x.waits h x.waited)
+      x.is_waited)
 
   from_ended : (t u : Task) → Ends job around t → WaitsFor job around t u → Ends job around u
   from_ended t u (n, h) x = go (ends_before n t u h x)
@@ -73,7 +78,8 @@ module _ (job : Job) (around : Around) where
   pub needed_ends : (t : Task) → Ends job around Task.show → Needed job around t → Ends job around t
   needed_ends Task.show ends root = ends
   needed_ends t ends (Needed.waited {t = u} need j ds d wait among is) =
-      from_ended u t (needed_ends u ends need) (record { wait = j; waits = ds; waited = wait; what = d; is_waited = in_contains d ds among; is_made = is })
+      from_ended u t (needed_ends u ends need)
+      (record { wait = j; waits = ds; waited = wait; what = d; is_waited = in_contains d ds among; is_made = is })
 
   -- the root task ends where the job means an answer
   pub means_ends : (a : Answered) → Means job around a → Ends job around Task.show
@@ -85,7 +91,9 @@ module _ (job : Job) (around : Around) where
   chain_before n t u h (last x) = ends_before n t u h x
   chain_before n t u h (link {s = s} x c) = go (ends_before n t s h x) (λ m e. chain_before m s u e c)
     where
-      go : (m : ℕ) × (m < n) × (ended job around m s ≡ true) → ((m : ℕ) → ended job around m s ≡ true → (k : ℕ) × (k < m) × (ended job around k u ≡ true)) → (m : ℕ) × (m < n) × (ended job around m u ≡ true)
+      go : (m : ℕ) × (m < n) × (ended job around m s ≡ true)
+          → ((m : ℕ) → ended job around m s ≡ true → (k : ℕ) × (k < m) × (ended job around k u ≡ true)) → (m : ℕ) × (m < n)
+          × (ended job around m u ≡ true)
       go (m, lt, e) f = let r : (k : ℕ) × (k < m) × (ended job around k u ≡ true) = f m e in (r.0, omega (arith, r.1), r.2)
 
   -- tasks that wait for each other in a circle never end

@@ -4,8 +4,10 @@ use Rattle.std.specs.Option.{option_map}
 use Rattle.std.specs.Ordering.{nat_cmp, match_ordering}
 use Rattle.std.specs.Cmp.Lexicographic.{slice_cmp}
 use Rattle.std.specs.declared.cmp.Ordering.{Ordering}
-use Rattle.sky_base.specs.Val.{Val, Vals, Pairs, Desc, null, truth, num, text, list, dict, fun, ref, no_vals, val, no_pairs, pair, add_val, vals_of, refs_to, size, depth}
-use Rattle.sky_base.specs.Op.{Answer, checked, unless, limited, join, plus, minus, times, over, rest, rest_num, val_at, find, put, or_else, index, put_val, limited_list, set_at, compare, len, all_keys, keys, numbers, range_if, range, span, grown, with_key, dict_from}
+use Rattle.sky_base.specs.Val.{Val, Vals, Pairs, Desc, null, truth, num, text, list, dict, fun, ref, no_vals, val, no_pairs, pair, add_val, vals_of}
+use Rattle.sky_base.specs.Val.{refs_to, size, depth}
+use Rattle.sky_base.specs.Op.{Answer, checked, unless, limited, join, plus, minus, times, over, rest, rest_num, val_at, find, put, or_else, index}
+use Rattle.sky_base.specs.Op.{put_val, limited_list, set_at, compare, len, all_keys, keys, numbers, range_if, range, span, grown, with_key, dict_from}
 use Rattle.sky_base.specs.Tree.{Lit, Oper}
 use Rattle.sky_base.specs.Eval.{is_one_of, caught_if, caught_by, lit_val, oper}
 use Rattle.sky_law.specs.Tasks.{Each}
@@ -317,7 +319,8 @@ module _ (N : Type 0) (D : Desc N → Type 0) where
   pub list_refers : (vs : List (Val N)) → Each (Refers D) vs → AnswerRefers (limited (list (vals_of vs)))
   list_refers vs h = limited_refers (list (vals_of vs)) (vals_refers vs h)
 
-  with_key_refers : (k v : Val N) (ps : Pairs N) (go : Pairs N → Answer N) → Refers D v → PairsRefer D ps → ((qs : Pairs N) → PairsRefer D qs → AnswerRefers (go qs)) → AnswerRefers (with_key k v ps go)
+  with_key_refers : (k v : Val N) (ps : Pairs N) (go : Pairs N → Answer N) → Refers D v → PairsRefer D ps
+      → ((qs : Pairs N) → PairsRefer D qs → AnswerRefers (go qs)) → AnswerRefers (with_key k v ps go)
   with_key_refers (text k) v ps go r h g = g (put k v ps) (put_refers k v ps r h)
   with_key_refers null v ps go r h g = tt
   with_key_refers (truth b) v ps go r h g = tt

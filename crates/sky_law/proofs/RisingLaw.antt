@@ -12,7 +12,9 @@ flipped : (k l : List ℕ) → slice_cmp nat_cmp k l ≡ Ordering.Greater → sl
 flipped k l h = nat_list_cmp_total.antisymm l k ∙ ap ordering_reverse h
 
 module _ {N : Type 0} where
-  from_step : (o : Ordering) (j k l : List ℕ) (v w : Val N) (ps rest : Pairs N) → slice_cmp nat_cmp k l ≡ o → slice_cmp nat_cmp j k ≡ Ordering.Less → RisingFrom j (pair l w ps) → (slice_cmp nat_cmp l k ≡ Ordering.Less → RisingFrom l rest) → RisingFrom j (match_ordering o (pair k v (pair l w ps)) (pair l v ps) (pair l w rest))
+  from_step : (o : Ordering) (j k l : List ℕ) (v w : Val N) (ps rest : Pairs N) → slice_cmp nat_cmp k l ≡ o → slice_cmp nat_cmp j k
+      ≡ Ordering.Less → RisingFrom j (pair l w ps) → (slice_cmp nat_cmp l k ≡ Ordering.Less → RisingFrom l rest)
+      → RisingFrom j (match_ordering o (pair k v (pair l w ps)) (pair l v ps) (pair l w rest))
   from_step Ordering.Less j k l v w ps rest e h r further = (h, (e, r.1))
   from_step Ordering.Equal j k l v w ps rest e h r further = r
   from_step Ordering.Greater j k l v w ps rest e h r further = (r.0, further (flipped k l e))
@@ -22,7 +24,9 @@ module _ {N : Type 0} where
   put_from j k v (pair l w ps) h r =
       from_step (slice_cmp nat_cmp k l) j k l v w ps (put k v ps) refl h r (λ g. put_from l k v ps g r.1)
 
-  top_step : (o : Ordering) (k l : List ℕ) (v w : Val N) (ps rest : Pairs N) → slice_cmp nat_cmp k l ≡ o → RisingFrom l ps → (slice_cmp nat_cmp l k ≡ Ordering.Less → RisingFrom l rest) → Rising (match_ordering o (pair k v (pair l w ps)) (pair l v ps) (pair l w rest))
+  top_step : (o : Ordering) (k l : List ℕ) (v w : Val N) (ps rest : Pairs N) → slice_cmp nat_cmp k l ≡ o → RisingFrom l ps
+      → (slice_cmp nat_cmp l k ≡ Ordering.Less → RisingFrom l rest)
+      → Rising (match_ordering o (pair k v (pair l w ps)) (pair l v ps) (pair l w rest))
   top_step Ordering.Less k l v w ps rest e r further = (e, r)
   top_step Ordering.Equal k l v w ps rest e r further = r
   top_step Ordering.Greater k l v w ps rest e r further = further (flipped k l e)

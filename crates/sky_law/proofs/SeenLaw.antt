@@ -1,10 +1,14 @@
 -- More fuel changes nothing that is seen, and adds to what is done.
 use Rattle.sky_base.specs.Val as v
-use Rattle.std.proofs.Common.{◌≡◌, ◌≢◌, ℕ, zero, suc, ◌+◌, List, [], ◌∷◌, ◌++◌, Option, Some, None, Result, Ok, Err, ◌⊎◌, inl, inr, refl, sym, ap, ap₂, ◌∙◌, subst, arith, Bool, true, false, nat_le}
+use Rattle.std.proofs.Common.{◌≡◌, ◌≢◌, ℕ, zero, suc, ◌+◌, List, [], ◌∷◌, ◌++◌, Option, Some, None, Result, Ok, Err, ◌⊎◌, inl, inr, refl, sym, ap}
+use Rattle.std.proofs.Common.{ap₂, ◌∙◌, subst, arith, Bool, true, false, nat_le}
 use Rattle.sky_base.specs.Val.{null, truth, num, text, list, dict, fun, ref, call, out, input, known, refs}
 use Rattle.sky_base.specs.Res.{Object, Res, Fin, Tell, Ask}
-use Rattle.sky_base.specs.Read.{joined, Outcome, no_fuel, Act, made, waited, Halt, refs_of, see_all, on_seen, acts_seen, halts_seen, outcome, acts, halt}
-use Rattle.sky_base.specs.See.{Val, Vals, Pairs, Desc, Obj, Job, Around, Gathered, not_yet, all, gather_on, gather_one, gather, as_bytes, as_value, executed_on, object_of, run_of, see, Answered, Turn, next_value, lone, turn_all, turn_refs, turn, on_turn, round, wave_on, turn_of, wave, job_answer, main_call, Means}
+use Rattle.sky_base.specs.Read.{joined, Outcome, no_fuel, Act, made, waited, Halt, refs_of, see_all, on_seen, acts_seen, halts_seen, outcome, acts}
+use Rattle.sky_base.specs.Read.{halt}
+use Rattle.sky_base.specs.See.{Val, Vals, Pairs, Desc, Obj, Job, Around, Gathered, not_yet, all, gather_on, gather_one, gather, as_bytes, as_value}
+use Rattle.sky_base.specs.See.{executed_on, object_of, run_of, see, Answered, Turn, next_value, lone, turn_all, turn_refs, turn, on_turn, round}
+use Rattle.sky_base.specs.See.{wave_on, turn_of, wave, job_answer, main_call, Means}
 use Rattle.sky_base.specs.Needed.{Task, wait_at, WaitOf, wave_refs, only_if, halt_refs, State, stands_at, StandsAt, wave_state, halt_state}
 use Rattle.sky_base.specs.declared.fault.Fault.{Fault}
 
@@ -73,7 +77,8 @@ module _ {N : Type 0} (few more : v.Desc N → Option (Object N)) (grows : (d : 
   all_kept [] = inr refl
   all_kept (d ∷ ds) = join_kept (few d) (more d) (see_all few ds) (see_all more ds) (grows d) (all_kept ds)
 
-  seen_kept : (x y : Option (List (Object N))) (k h : List (Object N) → Outcome N) → Kept None x y → ((os : List (Object N)) → Kept no_fuel (k os) (h os)) → Kept no_fuel (on_seen x k) (on_seen y h)
+  seen_kept : (x y : Option (List (Object N))) (k h : List (Object N) → Outcome N) → Kept None x y
+      → ((os : List (Object N)) → Kept no_fuel (k os) (h os)) → Kept no_fuel (on_seen x k) (on_seen y h)
   seen_kept x y k h (inl e) g = inl (ap (λ z. on_seen z k) e)
   seen_kept x y k h (inr e) g = subst (λ z. Kept no_fuel (on_seen x k) (on_seen z h)) e (same x)
     where
@@ -87,7 +92,8 @@ module _ {N : Type 0} (few more : v.Desc N → Option (Object N)) (grows : (d : 
   outcome_kept (Tell d r) = outcome_kept r
   outcome_kept (Ask w fr st k) = seen_kept (see_all few (refs_of w)) (see_all more (refs_of w)) _ _ (all_kept (refs_of w)) (λ os. outcome_kept (k os))
 
-  halts_kept : (x y : Option (List (Object N))) (k h : List (Object N) → Option (Halt N)) → Kept None x y → ((os : List (Object N)) → Kept None (k os) (h os)) → Kept None (halts_seen x k) (halts_seen y h)
+  halts_kept : (x y : Option (List (Object N))) (k h : List (Object N) → Option (Halt N)) → Kept None x y
+      → ((os : List (Object N)) → Kept None (k os) (h os)) → Kept None (halts_seen x k) (halts_seen y h)
   halts_kept x y k h (inl e) g = inl (ap (λ z. halts_seen z k) e)
   halts_kept x y k h (inr e) g = subst (λ z. Kept None (halts_seen x k) (halts_seen z h)) e (same x)
     where
@@ -100,9 +106,11 @@ module _ {N : Type 0} (few more : v.Desc N → Option (Object N)) (grows : (d : 
   halt_kept j (Fin e st) = inr refl
   halt_kept j (Tell d r) = halt_kept j r
   halt_kept zero (Ask w fr st k) = inr refl
-  halt_kept (suc j) (Ask w fr st k) = halts_kept (see_all few (refs_of w)) (see_all more (refs_of w)) _ _ (all_kept (refs_of w)) (λ os. halt_kept j (k os))
+  halt_kept (suc j) (Ask w fr st k) = halts_kept (see_all few (refs_of w)) (see_all more (refs_of w)) _ _ (all_kept (refs_of w))
+      (λ os. halt_kept j (k os))
 
-  acts_begin_on : (x y : Option (List (Object N))) (k h : List (Object N) → List (Act N)) → Kept None x y → ((os : List (Object N)) → Begins (k os) (h os)) → Begins (acts_seen x k) (acts_seen y h)
+  acts_begin_on : (x y : Option (List (Object N))) (k h : List (Object N) → List (Act N)) → Kept None x y
+      → ((os : List (Object N)) → Begins (k os) (h os)) → Begins (acts_seen x k) (acts_seen y h)
   acts_begin_on x y k h (inl e) g = (acts_seen y h, ap (λ z. acts_seen z k ++ acts_seen y h) (sym e))
   acts_begin_on x y k h (inr e) g = subst (λ z. Begins (acts_seen x k) (acts_seen z h)) e (same x)
     where
@@ -115,7 +123,8 @@ module _ {N : Type 0} (few more : v.Desc N → Option (Object N)) (grows : (d : 
   acts_begin (Fin e st) = ([], refl)
   acts_begin (Tell d r) = begins_cons (made d) (acts few r) (acts more r) (acts_begin r)
   acts_begin (Ask w fr st k) =
-      begins_cons (waited (refs_of w)) _ _ (acts_begin_on (see_all few (refs_of w)) (see_all more (refs_of w)) _ _ (all_kept (refs_of w)) (λ os. acts_begin (k os)))
+      begins_cons (waited (refs_of w)) _ _ (acts_begin_on (see_all few (refs_of w)) (see_all more (refs_of w)) _ _ (all_kept (refs_of w))
+      (λ os. acts_begin (k os)))
 
 -- ---- all that is seen
 
@@ -129,11 +138,14 @@ module _ {A : Type 0} (turn_to : Obj → Result A Fault) where
       none (Err f) = refl
   one_kept (Some o) r r' (inr e) = inr (ap (gather_on (turn_to o)) e)
 
-  pub gather_kept : (few more : Desc → Option Obj) → ((d : Desc) → Kept None (few d) (more d)) → (ds : List Desc) → Kept not_yet (gather few turn_to ds) (gather more turn_to ds)
+  pub gather_kept : (few more : Desc → Option Obj) → ((d : Desc) → Kept None (few d) (more d)) → (ds : List Desc)
+      → Kept not_yet (gather few turn_to ds) (gather more turn_to ds)
   gather_kept few more h [] = inr refl
   gather_kept few more h (d ∷ ds) = step (h d) (one_kept (few d) (gather few turn_to ds) (gather more turn_to ds) (gather_kept few more h ds))
     where
-      step : Kept None (few d) (more d) → Kept not_yet (gather_one (few d) turn_to (gather few turn_to ds)) (gather_one (few d) turn_to (gather more turn_to ds)) → Kept not_yet (gather_one (few d) turn_to (gather few turn_to ds)) (gather_one (more d) turn_to (gather more turn_to ds))
+      step : Kept None (few d) (more d) → Kept not_yet (gather_one (few d) turn_to (gather few turn_to ds))
+          (gather_one (few d) turn_to (gather more turn_to ds))
+          → Kept not_yet (gather_one (few d) turn_to (gather few turn_to ds)) (gather_one (more d) turn_to (gather more turn_to ds))
       step (inl e) g = inl (ap (λ x. gather_one x turn_to (gather few turn_to ds)) e)
       step (inr e) g =
           subst (λ x. Kept not_yet (gather_one (few d) turn_to (gather few turn_to ds)) (gather_one x turn_to (gather more turn_to ds))) e g
@@ -144,23 +156,28 @@ module _ (job : Job) (around : Around) where
   unfolding see
   see_kept zero d = inl refl
   see_kept (suc n) (call f c vs) =
-      kept_map no_fuel _ _ None object_of refl (outcome_kept (λ d. see job around n d) (λ d. see job around (suc n) d) (λ d. see_kept n d) (run_of job around f c vs))
+      kept_map no_fuel _ _ None object_of refl (outcome_kept (λ d. see job around n d) (λ d. see job around (suc n) d) (λ d. see_kept n d)
+      (run_of job around f c vs))
   see_kept (suc n) (out x a m i) =
-      kept_map not_yet _ _ None (executed_on around x a m i) refl (gather_kept (as_bytes around) (λ d. see job around n d) (λ d. see job around (suc n) d) (λ d. see_kept n d) (refs a))
+      kept_map not_yet _ _ None (executed_on around x a m i) refl
+      (gather_kept (as_bytes around) (λ d. see job around n d) (λ d. see job around (suc n) d) (λ d. see_kept n d) (refs a))
   see_kept (suc n) (input k) = inr refl
   see_kept (suc n) (known b) = absurd b
 
   -- what a task did stays, and grows
-  pub acts_grow : (n : ℕ) (f : List ℕ) (c : Pairs) (vs : Vals) → Begins (acts (see job around n) (run_of job around f c vs)) (acts (see job around (suc n)) (run_of job around f c vs))
+  pub acts_grow : (n : ℕ) (f : List ℕ) (c : Pairs) (vs : Vals)
+      → Begins (acts (see job around n) (run_of job around f c vs)) (acts (see job around (suc n)) (run_of job around f c vs))
   acts_grow n f c vs = acts_begin (see job around n) (see job around (suc n)) (see_kept n) (run_of job around f c vs)
 
   abbrev blind : Turn
   blind = Turn.ends Answered.not_yet
 
   all_turn_kept : (n : ℕ) (a : Val) → Kept blind (turn_all job around n a) (turn_all job around (suc n) a)
-  all_turn_kept n a = kept_map not_yet _ _ blind (λ g. next_value g a) refl (gather_kept (as_value around) (see job around n) (see job around (suc n)) (see_kept n) (refs a))
+  all_turn_kept n a = kept_map not_yet _ _ blind (λ g. next_value g a) refl
+      (gather_kept (as_value around) (see job around n) (see job around (suc n)) (see_kept n) (refs a))
 
-  lone_kept : (n : ℕ) (e : Desc) → Kept blind (lone (see job around n e) (turn_all job around n (ref e))) (lone (see job around (suc n) e) (turn_all job around (suc n) (ref e)))
+  lone_kept : (n : ℕ) (e : Desc) → Kept blind (lone (see job around n e) (turn_all job around n (ref e)))
+      (lone (see job around (suc n) e) (turn_all job around (suc n) (ref e)))
   lone_kept n e = cases (see_kept n e)
     where
       empty : see job around n e ≡ None → turn_all job around n (ref e) ≡ blind
@@ -172,10 +189,13 @@ module _ (job : Job) (around : Around) where
       same (Some (Object.data_of u)) = all_turn_kept n (ref e)
       same (Some (Object.fault f)) = all_turn_kept n (ref e)
 
-      cases : Kept None (see job around n e) (see job around (suc n) e) → Kept blind (lone (see job around n e) (turn_all job around n (ref e))) (lone (see job around (suc n) e) (turn_all job around (suc n) (ref e)))
+      cases : Kept None (see job around n e) (see job around (suc n) e)
+          → Kept blind (lone (see job around n e) (turn_all job around n (ref e)))
+          (lone (see job around (suc n) e) (turn_all job around (suc n) (ref e)))
       cases (inl q) = inl (ap (λ x. lone x (turn_all job around n (ref e))) q ∙ empty q)
       cases (inr q) =
-          subst (λ x. Kept blind (lone (see job around n e) (turn_all job around n (ref e))) (lone x (turn_all job around (suc n) (ref e)))) q (same (see job around n e))
+          subst (λ x. Kept blind (lone (see job around n e) (turn_all job around n (ref e))) (lone x (turn_all job around (suc n) (ref e)))) q
+          (same (see job around n e))
 
   refs_kept : (n : ℕ) (ds : List Desc) (a : Val) → Kept blind (turn_refs job around n ds a) (turn_refs job around (suc n) ds a)
   refs_kept n [] a = inr refl
@@ -191,7 +211,8 @@ module _ (job : Job) (around : Around) where
   pub turn_kept : (n : ℕ) (a : Val) → Kept blind (turn job around n a) (turn job around (suc n) a)
   turn_kept n a = refs_kept n (refs a) a
 
-  on_turn_kept : (n : ℕ) (t t' : Turn) (go go' : Val → Answered) → Kept blind t t' → ((u : Val) → Kept Answered.not_yet (go u) (go' u)) → Kept Answered.not_yet (on_turn job around n t go) (on_turn job around (suc n) t' go')
+  on_turn_kept : (n : ℕ) (t t' : Turn) (go go' : Val → Answered) → Kept blind t t' → ((u : Val) → Kept Answered.not_yet (go u) (go' u))
+      → Kept Answered.not_yet (on_turn job around n t go) (on_turn job around (suc n) t' go')
   on_turn_kept n t t' go go' (inl e) h = inl (ap (λ x. on_turn job around n x go) e)
   on_turn_kept n t t' go go' (inr e) h =
       subst (λ x. Kept Answered.not_yet (on_turn job around n t go) (on_turn job around (suc n) x go')) e (same t)
@@ -214,7 +235,8 @@ module _ (job : Job) (around : Around) where
   pub means_one : (a b : Answered) → Means job around a → Means job around b → a ≡ b
   means_one a b (n, e, na) (m, g, nb) = kept_one Answered.not_yet (job_answer job around) answer_kept n m a b e g na nb
 
-  wave_step : (n : ℕ) (x y : Option Val) → Kept None x y → Kept None (wave_on job around n (turn_of job around n x)) (wave_on job around (suc n) (turn_of job around (suc n) y))
+  wave_step : (n : ℕ) (x y : Option Val) → Kept None x y
+      → Kept None (wave_on job around n (turn_of job around n x)) (wave_on job around (suc n) (turn_of job around (suc n) y))
   wave_step n x y (inl e) = inl (ap (λ z. wave_on job around n (turn_of job around n z)) e)
   wave_step n x y (inr e) =
       subst (λ z. Kept None (wave_on job around n (turn_of job around n x)) (wave_on job around (suc n) (turn_of job around (suc n) z))) e (same x)
@@ -256,7 +278,8 @@ module _ (job : Job) (around : Around) where
   stands_kept Task.show j n = kept_map None _ _ None (wave_state j) refl (wave_kept n j)
   stands_kept (Task.of (call f c vs)) zero n = inr refl
   stands_kept (Task.of (call f c vs)) (suc j) n =
-      kept_map None _ _ None (halt_state f (suc j)) refl (halt_kept (see job around n) (see job around (suc n)) (see_kept n) j (run_of job around f c vs))
+      kept_map None _ _ None (halt_state f (suc j)) refl
+      (halt_kept (see job around n) (see job around (suc n)) (see_kept n) j (run_of job around f c vs))
   stands_kept (Task.of (out x a m i)) j n = inr refl
   stands_kept (Task.of (input k)) j n = inr refl
   stands_kept (Task.of (known b)) j n = absurd b

@@ -1,5 +1,6 @@
 -- Operators that give numbers of 64 bits and truth values, whatever they are given.
-use Rattle.std.proofs.Common.{◌≡◌, ℕ, ℤ, zero, suc, ◌^◌, Bool, true, false, not, ◌&&◌, List, Ok, Err, FitsSigned, pos, negsuc, ◌-ℤ◌, ◌*ℤ◌, int_div, refl, ltb-true}
+use Rattle.std.proofs.Common.{◌≡◌, ℕ, ℤ, zero, suc, ◌^◌, Bool, true, false, not, ◌&&◌, List, Ok, Err, FitsSigned, pos, negsuc, ◌-ℤ◌, ◌*ℤ◌, int_div}
+use Rattle.std.proofs.Common.{refl, ltb-true}
 use Rattle.std.specs.Int.{w64}
 use Rattle.std.specs.Ordering.{is_lt, is_le, is_gt, is_ge}
 use Rattle.std.specs.declared.cmp.Ordering.{Ordering}

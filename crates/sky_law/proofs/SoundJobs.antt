@@ -1,7 +1,8 @@
 -- Every value that a job makes keeps the limits; a task has at most 64 bodies open.
 use Rattle.sky_base.specs.Val as v
 use Rattle.std.proofs.Common.{IsSome, ◌≡◌, ℕ, ◌+◌, List, [], ◌∷◌, length, Option, Some, None, Ok, Err, refl, ap, subst, arith, lt-ltb, ◌⊎◌, inl, inr}
-use Rattle.sky_base.specs.Val.{null, truth, num, text, list, dict, fun, ref, no_vals, val, no_pairs, pair, call, out, input, known, refs, vals_refs, pairs_refs}
+use Rattle.sky_base.specs.Val.{null, truth, num, text, list, dict, fun, ref, no_vals, val, no_pairs, pair, call, out, input, known, refs, vals_refs}
+use Rattle.sky_base.specs.Val.{pairs_refs}
 use Rattle.sky_base.specs.Op.{Answer}
 use Rattle.sky_base.specs.Tree.{FunDef, Script}
 use Rattle.sky_base.specs.Res.{Object}
@@ -10,7 +11,8 @@ use Rattle.sky_base.specs.Read.{Frame}
 use Rattle.sky_base.specs.See.{Val, Vals, Pairs, Desc, Obj, Job, Around, replaced, vals_replaced, pairs_replaced, world_of, see, wave, main_call}
 use Rattle.sky_base.specs.Needed.{Task, task_of, only_if, WaitOf, State, StandsAt, Needed}
 use Rattle.sky_law.specs.Tasks.{In, Each, acts_of, made_in, maker}
-use Rattle.sky_law.specs.Sound.{AllUsed, TakesIf, CallsIf, IsMain, IsFun, RefsSound, ValsSound, PairsSound, SoundDesc, Sound, SoundObject, SoundVars, SoundFrame, SoundState, SoundTask, SoundRead, SoundReads}
+use Rattle.sky_law.specs.Sound.{AllUsed, TakesIf, CallsIf, IsMain, IsFun, RefsSound, ValsSound, PairsSound, SoundDesc, Sound, SoundObject, SoundVars}
+use Rattle.sky_law.specs.Sound.{SoundFrame, SoundState, SoundTask, SoundRead, SoundReads}
 use Rattle.sky_law.proofs.FineLaw.{Closed, PairsOk, ObjectOk}
 use Rattle.sky_law.proofs.FineReads.{SeenOk, FrameOk}
 use Rattle.sky_law.proofs.JobsLaw.{JobClosed, TaskOk, StateOk, see_ok, wave_ok, wait_ok, needed_ok, made_ok, stands_ok}
@@ -23,7 +25,9 @@ module _ (sc : Script) where
   sound_vars around no_pairs h = tt
   sound_vars around (pair k u ps) h = (h.0, sound_vars around ps h.1)
 
-  sound_frames : (around : Around) (fs : List (Frame ⊥)) → Each (FrameOk (world_of sc around) (Sound sc) (SoundDesc sc) (Vars ⊥ (λ b. Unit {0}) sc (world_of sc around))) fs → Each (SoundFrame sc) fs
+  sound_frames : (around : Around) (fs : List (Frame ⊥))
+      → Each (FrameOk (world_of sc around) (Sound sc) (SoundDesc sc) (Vars ⊥ (λ b. Unit {0}) sc (world_of sc around))) fs
+      → Each (SoundFrame sc) fs
   sound_frames around [] h = tt
   sound_frames around (f ∷ fs) h = ((sound_vars around f.vars h.0.0, h.0.1, h.0.2), sound_frames around fs h.1)
 
@@ -75,8 +79,16 @@ module _ (sc : Script) where
       replaced_pairs i (pair k a ps) r = (replaced_refs i a r.0, replaced_pairs (i + length (refs a)) ps r.1)
 
   main_sound : Sound sc (ref main_call)
-  main_sound =
-      (record { deep = omega arith; large = omega arith }, (record { deep = omega arith; large = omega arith }, record { deep = omega arith; large = omega arith }, tt, tt, inl (refl, refl, refl)))
+  main_sound = (
+    record { deep = omega arith; large = omega arith },
+    (
+      record { deep = omega arith; large = omega arith },
+      record { deep = omega arith; large = omega arith },
+      tt,
+      tt,
+      inl (refl, refl, refl),
+    ),
+  )
 
 has_fun : (o : Option FunDef) (c : Pairs) (vs : Vals) → CallsIf o c vs → IsSome o
 has_fun None c vs h = absurd h
@@ -100,7 +112,8 @@ module _ (job : Job) (around : Around) (reads : SoundReads job.script around) wh
   read_ok (Err k) h = tt
 
   closed : Closed (world_of job.script around) P Q V any_made any_lit any_name
-  closed = sound_closed ⊥ (λ b. Unit {0}) job.script (world_of job.script around) (λ f. refl) (λ k. refl) (λ b. read_ok (around.reads b) (reads b)) (λ d h. h)
+  closed = sound_closed ⊥ (λ b. Unit {0}) job.script (world_of job.script around) (λ f. refl) (λ k. refl)
+      (λ b. read_ok (around.reads b) (reads b)) (λ d h. h)
 
   named_or_main : (f : List ℕ) (c : Pairs) (vs : Vals) → IsMain f c vs ⊎ CallsIf (find_fun f job.script.funs) c vs → (f ≡ []) ⊎ IsFun job.script f
   named_or_main f c vs (inl e) = inl e.0

@@ -1,6 +1,7 @@
 -- A value that is sound is so with names in place of descriptions too.
 use Rattle.std.proofs.Common.{ℕ, ◌≤◌, List, [], ◌∷◌, map, Option, Some, None, sym, ap, ◌∙◌, subst, ◌⊎◌, inl, inr}
-use Rattle.sky_base.specs.Val.{Val, Vals, Pairs, Desc, null, truth, num, text, list, dict, fun, ref, no_vals, val, no_pairs, pair, call, out, input, known}
+use Rattle.sky_base.specs.Val.{Val, Vals, Pairs, Desc, null, truth, num, text, list, dict, fun, ref, no_vals, val, no_pairs, pair, call, out, input}
+use Rattle.sky_base.specs.Val.{known}
 use Rattle.sky_base.specs.Name.{low, low_vals, low_pairs, low_desc}
 use Rattle.sky_base.specs.Kept.{Kept}
 use Rattle.sky_base.specs.Tree.{FunDef, Script}
@@ -40,7 +41,11 @@ module _ {N : Type 0} (spell : N → List ℕ) (tag : Desc (List ℕ) → List �
 
     pub kept_low : (v : Val N) → Kept v → Kept (low spell tag v)
     kept_low v h =
-        record { deep = subst (λ n. n ≤ 100) (sym (depth_low spell tag v)) h.deep; large = subst (λ n. n ≤ 262144) (sym (size_low spell tag v)) h.large }
+        record {
+          deep = subst (λ n. n ≤ 100) (sym (depth_low spell tag v)) h.deep;
+          large =
+              subst (λ n. n ≤ 262144) (sym (size_low spell tag v)) h.large;
+        }
 
     pub sound_low : (v : Val N) → Sound sc v → Sound sc (low spell tag v)
     sound_low v h = (kept_low v h.0, refs_sound_low v h.1)
@@ -57,7 +62,8 @@ module _ {N : Type 0} (spell : N → List ℕ) (tag : Desc (List ℕ) → List �
     calls_low None c vs h = h
     calls_low (Some d) c vs h = (used_low d.uses c h.0, h.1 ∙ sym (count_low spell tag vs))
 
-    pub call_low : (f : List ℕ) (c : Pairs N) (vs : Vals N) → IsMain f c vs ⊎ CallsIf (find_fun f sc.funs) c vs → IsMain f (low_pairs spell tag c) (low_vals spell tag vs) ⊎ CallsIf (find_fun f sc.funs) (low_pairs spell tag c) (low_vals spell tag vs)
+    pub call_low : (f : List ℕ) (c : Pairs N) (vs : Vals N) → IsMain f c vs ⊎ CallsIf (find_fun f sc.funs) c vs
+        → IsMain f (low_pairs spell tag c) (low_vals spell tag vs) ⊎ CallsIf (find_fun f sc.funs) (low_pairs spell tag c) (low_vals spell tag vs)
     call_low f c vs (inl m) = inl (m.0, ap (low_pairs spell tag) m.1, ap (low_vals spell tag) m.2)
     call_low f c vs (inr h) = inr (calls_low (find_fun f sc.funs) c vs h)
 

@@ -1,18 +1,23 @@
 -- Each operator gives values within the limits from values within the limits, and refers to nothing else than these do.
-use Rattle.std.proofs.Common.{◌≡◌, ℕ, ℤ, zero, suc, ◌+◌, ◌*◌, ◌≤◌, Bool, true, false, List, [], ◌∷◌, ◌++◌, length, Option, Some, None, Ok, Err, nat_lt, pos, negsuc, ◌+ℤ◌, ◌-ℤ◌, int_rem, refl, ap, arith, ltb-false, inr, subst, sym, ◌∙◌, IsSome}
+use Rattle.std.proofs.Common.{◌≡◌, ℕ, ℤ, zero, suc, ◌+◌, ◌*◌, ◌≤◌, Bool, true, false, List, [], ◌∷◌, ◌++◌, length, Option, Some, None, Ok, Err}
+use Rattle.std.proofs.Common.{nat_lt, pos, negsuc, ◌+ℤ◌, ◌-ℤ◌, int_rem, refl, ap, arith, ltb-false, inr, subst, sym, ◌∙◌, IsSome}
 use Rattle.std.specs.Option.{option_map}
 use Rattle.std.specs.Ordering.{nat_cmp, match_ordering}
 use Rattle.std.specs.Cmp.Lexicographic.{slice_cmp}
 use Rattle.std.specs.declared.cmp.Ordering.{Ordering}
-use Rattle.sky_base.specs.Val.{Val, Vals, Pairs, Desc, null, truth, num, text, list, dict, fun, ref, no_vals, val, no_pairs, pair, add_val, vals_of, refs_to, size, sizes, depth, depths, pair_sizes, pair_depths, count}
-use Rattle.sky_base.specs.Op.{Answer, checked, unless, limited, join, plus, minus, times, over, rest, rest_num, val_at, find, put, or_else, index, put_val, limited_list, set_at, compare, negated, opposite, len, all_keys, keys, has, numbers, range_if, range, span, grown, with_key, dict_from}
+use Rattle.sky_base.specs.Val.{Val, Vals, Pairs, Desc, null, truth, num, text, list, dict, fun, ref, no_vals, val, no_pairs, pair, add_val, vals_of}
+use Rattle.sky_base.specs.Val.{refs_to, size, sizes, depth, depths, pair_sizes, pair_depths, count}
+use Rattle.sky_base.specs.Op.{Answer, checked, unless, limited, join, plus, minus, times, over, rest, rest_num, val_at, find, put, or_else, index}
+use Rattle.sky_base.specs.Op.{put_val, limited_list, set_at, compare, negated, opposite, len, all_keys, keys, has, numbers, range_if, range, span}
+use Rattle.sky_base.specs.Op.{grown, with_key, dict_from}
 use Rattle.sky_base.specs.Tree.{Lit, Oper, FunDef, Script}
 use Rattle.sky_base.specs.Eval.{World, find_fun, is_one_of, caught_if, caught_by, lit_val, oper}
 use Rattle.sky_law.specs.Sound.{AllUsed, TakesIf, CallsIf, RefsOver, ValsOver, PairsOver, DescOver, SoundOver}
 use Rattle.sky_law.specs.Tasks.{Each}
 use Rattle.sky_base.specs.Kept.{Kept}
 use Rattle.sky_law.proofs.FineLaw.{Closed, PairsOk, put_each, find_each}
-use Rattle.sky_law.proofs.SimpleOps.{Atom, Simple, checked_simple, minus_simple, times_simple, over_simple, compare_simple, negated_simple, opposite_simple, has_simple}
+use Rattle.sky_law.proofs.SimpleOps.{Atom, Simple, checked_simple, minus_simple, times_simple, over_simple, compare_simple, negated_simple}
+use Rattle.sky_law.proofs.SimpleOps.{opposite_simple, has_simple}
 use Rattle.sky_law.proofs.WrittenLaw.{any_lit, any_made, any_name}
 
 -- what a function captured keeps the limits as a dictionary does
@@ -162,7 +167,8 @@ module _ (N : Type 0) (K : N → Type 0) (sc : Script) where
   put_refs k v no_pairs h i = (h, tt)
   put_refs k v (pair l u ps) h i = go (slice_cmp nat_cmp k l) (put_refs k v ps h i.1)
     where
-      go : (o : Ordering) → PairsOver K sc (put k v ps) → PairsOver K sc (match_ordering o (pair k v (pair l u ps)) (pair l v ps) (pair l u (put k v ps)))
+      go : (o : Ordering) → PairsOver K sc (put k v ps)
+          → PairsOver K sc (match_ordering o (pair k v (pair l u ps)) (pair l v ps) (pair l u (put k v ps)))
       go Ordering.Less j = (h, i)
       go Ordering.Equal j = (h, i.1)
       go Ordering.Greater j = (i.0, j)
@@ -399,7 +405,8 @@ module _ (N : Type 0) (K : N → Type 0) (sc : Script) where
   list_sound : (vs : List (Val N)) → Each (SoundOver K sc) vs → SoundAnswer (limited (list (vals_of vs)))
   list_sound vs h = limited_ok (list (vals_of vs)) (parts_refs vs h)
 
-  with_key_ok : (k v : Val N) (ps : Pairs N) (go : Pairs N → Answer N) → PairsOver K sc ps → RefsOver K sc v → ((qs : Pairs N) → PairsOver K sc qs → SoundAnswer (go qs)) → SoundAnswer (with_key k v ps go)
+  with_key_ok : (k v : Val N) (ps : Pairs N) (go : Pairs N → Answer N) → PairsOver K sc ps → RefsOver K sc v
+      → ((qs : Pairs N) → PairsOver K sc qs → SoundAnswer (go qs)) → SoundAnswer (with_key k v ps go)
   with_key_ok (text k) v ps go h r g = g (put k v ps) (put_refs k v ps r h)
   with_key_ok null v ps go h r g = tt
   with_key_ok (truth b) v ps go h r g = tt
@@ -446,7 +453,10 @@ module _ (N : Type 0) (K : N → Type 0) (sc : Script) where
   Vars w ps = PairsOk w (SoundOver K sc) (DescOver K sc) ps
 
   -- what the operators give is sound, where what is read and what a reference holds is
-  pub sound_closed : (w : World N) → ((f : List ℕ) → find_fun f w.script.funs ≡ find_fun f sc.funs) → ((k : List ℕ) → is_one_of k w.script.keys ≡ is_one_of k sc.keys) → ((b : List ℕ) → SoundAnswer (w.reads b)) → ((d : Desc N) → DescOver K sc d → DescOver K sc (w.make d)) → Closed w (SoundOver K sc) (DescOver K sc) (Vars w) any_made any_lit any_name
+  pub sound_closed : (w : World N) → ((f : List ℕ) → find_fun f w.script.funs ≡ find_fun f sc.funs)
+      → ((k : List ℕ) → is_one_of k w.script.keys ≡ is_one_of k sc.keys) → ((b : List ℕ) → SoundAnswer (w.reads b))
+      → ((d : Desc N) → DescOver K sc d → DescOver K sc (w.make d))
+      → Closed w (SoundOver K sc) (DescOver K sc) (Vars w) any_made any_lit any_name
   sound_closed w same keys reads make =
       record {
         null_ok = sound_null;
@@ -456,7 +466,8 @@ module _ (N : Type 0) (K : N → Type 0) (sc : Script) where
         put_ok = λ x v ps n h l. put_each w (SoundOver K sc) (DescOver K sc) x v ps h l;
         find_ok = λ x ps l. find_each w (SoundOver K sc) (DescOver K sc) x ps l;
         fun_ok = λ x n i. limited_ok (fun x no_pairs) (takes_none (find_fun x sc.funs) (subst IsSome (same x) i), tt);
-        closed_ok = λ f x ps n e l. limited_ok (fun x (caught_by f.uses ps)) (takes_caught (find_fun x sc.funs) f ps (sym (same x) ∙ e), caught_refs f.uses ps l);
+        closed_ok = λ f x ps n e l. limited_ok (fun x (caught_by f.uses ps))
+            (takes_caught (find_fun x sc.funs) f ps (sym (same x) ∙ e), caught_refs f.uses ps l);
         caught_ok = λ f ps h. dict_inside ps (caught_kept f ps h.0, h.1.1);
         list_ok = list_sound;
         dict_ok = λ vs h. dict_sound vs no_pairs h tt;

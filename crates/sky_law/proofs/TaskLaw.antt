@@ -26,7 +26,8 @@ module _ (job : Job) (around : Around) where
   pub task_good : (f : List ℕ) (c : Pairs ⊥) (vs : Vals ⊥) → Good (world_of job.script around) others 0 (run_of job around f c vs)
   task_good f c vs = good_task (world_of job.script around) others f c vs nowhere start_st (omega arith)
 
-  module _ (see : Desc ⊥ → Option (Object ⊥)) (f : List ℕ) (c : Pairs ⊥) (vs : Vals ⊥) (j : ℕ) (h : Halt ⊥) (os : List (Object ⊥)) (at : halt see j (run_of job around f c vs) ≡ Some h) (seen : see_all see (refs_of h.wait) ≡ Some os) where
+  module _ (see : Desc ⊥ → Option (Object ⊥)) (f : List ℕ) (c : Pairs ⊥) (vs : Vals ⊥) (j : ℕ) (h : Halt ⊥) (os : List (Object ⊥))
+      (at : halt see j (run_of job around f c vs) ≡ Some h) (seen : see_all see (refs_of h.wait) ≡ Some os) where
     -- the rest of the task from its wait
     abbrev pub onward : Res ⊥
     onward = rest_of (world_of job.script around) others h os
@@ -41,7 +42,8 @@ module _ (job : Job) (around : Around) where
     pub task_makes : segment_from see (suc j) (run_of job around f c vs) ≡ segment onward
     task_makes = makes_on (world_of job.script around) others see (run_of job around f c vs) 0 j h os (task_good f c vs) at seen
 
-    module _ (tag : Desc (List ℕ) → List ℕ) (read : List ℕ → Answer (List ℕ)) (reads_alike : (b : List ℕ) → read b ≡ lower {N = ⊥} (λ n. absurd n) tag (around.reads b)) where
+    module _ (tag : Desc (List ℕ) → List ℕ) (read : List ℕ → Answer (List ℕ))
+        (reads_alike : (b : List ℕ) → read b ≡ lower {N = ⊥} (λ n. absurd n) tag (around.reads b)) where
       -- the rest of the task over names: from the lowered forms and the lowered objects
       abbrev pub onward_low : Res (List ℕ)
       onward_low =
@@ -49,7 +51,8 @@ module _ (job : Job) (around : Around) where
 
       pub rest_low : Rel (λ n. absurd n) tag onward onward_low
       rest_low =
-          rel_rest (λ n. absurd n) tag (world_of job.script around) (named_as tag) read (λ d. ap known (tag_low tag d)) reads_alike others h.wait h.forms h.st os
+          rel_rest (λ n. absurd n) tag (world_of job.script around) (named_as tag) read (λ d. ap known (tag_low tag d)) reads_alike others h.wait
+          h.forms h.st os
 
       -- what the step machine is to do where no names clash
       pub resume_halts : first_halt onward_low ≡ option_map (low_halt (λ n. absurd n) tag) (halt see (suc j) (run_of job around f c vs))

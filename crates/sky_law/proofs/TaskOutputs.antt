@@ -1,6 +1,7 @@
 -- Which task makes a description and what a task makes fit together; no description stands twice in a list of distinct ones.
 use Rattle.sky_base.specs.Val as v
-use Rattle.std.proofs.Common.{◌≡◌, ℕ, zero, suc, ◌+◌, ◌<◌, ◌≤◌, List, [], ◌∷◌, Some, None, Bool, true, false, ◌||◌, nat_lt, Contains, ◌⊎◌, inl, inr, refl, sym, ap, ◌∙◌, subst, arith, ltb-true, lt-ltb}
+use Rattle.std.proofs.Common.{◌≡◌, ℕ, zero, suc, ◌+◌, ◌<◌, ◌≤◌, List, [], ◌∷◌, Some, None, Bool, true, false, ◌||◌, nat_lt, Contains, ◌⊎◌, inl, inr}
+use Rattle.std.proofs.Common.{refl, sym, ap, ◌∙◌, subst, arith, ltb-true, lt-ltb}
 use Rattle.sky_base.specs.Val.{call, out, input, known, refs, same_desc, stands_in, unless_in, distinct_from, distinct}
 use Rattle.sky_base.specs.Eval.{outputs}
 use Rattle.sky_base.specs.See.{Val, Desc}
@@ -119,7 +120,8 @@ apart_outputs (Task.of (known b)) = absurd b
 
 -- ---- distinct descriptions
 
-module _ {N : Type 0} (same_known : N → N → Bool) (exact_known : (b c : N) → same_known b c ≡ true → b ≡ c) (self_known : (b : N) → same_known b b ≡ true) where
+module _ {N : Type 0} (same_known : N → N → Bool) (exact_known : (b c : N) → same_known b c ≡ true → b ≡ c)
+    (self_known : (b : N) → same_known b b ≡ true) where
   or_either : {P : Type 0} (a b : Bool) → a || b ≡ true → (a ≡ true → P) → (b ≡ true → P) → P
   or_either true b e f g = f refl
   or_either false b e f g = g e
@@ -136,7 +138,8 @@ module _ {N : Type 0} (same_known : N → N → Bool) (exact_known : (b c : N) �
   pub stands_exact : (d : v.Desc N) (ds : List (v.Desc N)) → stands_in same_known d ds ≡ true → In d ds
   stands_exact d [] h = absurd cc
   stands_exact d (e ∷ es) h =
-      or_either (same_desc same_known d e) (stands_in same_known d es) h (λ q. inl (exact_desc same_known exact_known d e q)) (λ q. inr (stands_exact d es q))
+      or_either (same_desc same_known d e) (stands_in same_known d es) h (λ q. inl (exact_desc same_known exact_known d e q))
+      (λ q. inr (stands_exact d es q))
 
   pub stands_true : (d : v.Desc N) (ds : List (v.Desc N)) → In d ds → stands_in same_known d ds ≡ true
   stands_true d [] h = absurd h
@@ -156,7 +159,8 @@ module _ {N : Type 0} (same_known : N → N → Bool) (exact_known : (b c : N) �
       less : In d es × (In d (e ∷ before) → ⊥) → In d (e ∷ es) × (In d before → ⊥)
       less (i, n) = (inr i, λ j. n (inr j))
 
-      go : (In d (distinct_from same_known (e ∷ before) es) → In d es × (In d (e ∷ before) → ⊥)) → (b : Bool) → stands_in same_known e before ≡ b → In d (unless_in same_known b e (distinct_from same_known (e ∷ before) es)) → In d (e ∷ es) × (In d before → ⊥)
+      go : (In d (distinct_from same_known (e ∷ before) es) → In d es × (In d (e ∷ before) → ⊥)) → (b : Bool) → stands_in same_known e before ≡ b
+          → In d (unless_in same_known b e (distinct_from same_known (e ∷ before) es)) → In d (e ∷ es) × (In d before → ⊥)
       go p true s i = less (p i)
       go p false s (inl q) = (inl q, λ j. both_answers (stands_in same_known e before) s (stands_true e before (subst (λ x. In x before) q j)))
       go p false s (inr i) = less (p i)
@@ -165,7 +169,8 @@ module _ {N : Type 0} (same_known : N → N → Bool) (exact_known : (b c : N) �
   in_kept before [] d h = absurd h
   in_kept before (e ∷ es) d h = go (λ i. in_kept (e ∷ before) es d i) (stands_in same_known e before) refl h
     where
-      go : (In d es → In d (e ∷ before) ⊎ In d (distinct_from same_known (e ∷ before) es)) → (b : Bool) → stands_in same_known e before ≡ b → In d (e ∷ es) → In d before ⊎ In d (unless_in same_known b e (distinct_from same_known (e ∷ before) es))
+      go : (In d es → In d (e ∷ before) ⊎ In d (distinct_from same_known (e ∷ before) es)) → (b : Bool) → stands_in same_known e before ≡ b
+          → In d (e ∷ es) → In d before ⊎ In d (unless_in same_known b e (distinct_from same_known (e ∷ before) es))
       go p true s (inl q) = inl (subst (λ x. In x before) (sym q) (stands_exact e before s))
       go p true s (inr i) = past (p i)
         where
@@ -176,7 +181,8 @@ module _ {N : Type 0} (same_known : N → N → Bool) (exact_known : (b c : N) �
       go p false s (inl q) = inr (inl q)
       go p false s (inr i) = past (p i)
         where
-          past : In d (e ∷ before) ⊎ In d (distinct_from same_known (e ∷ before) es) → In d before ⊎ In d (e ∷ distinct_from same_known (e ∷ before) es)
+          past : In d (e ∷ before) ⊎ In d (distinct_from same_known (e ∷ before) es) → In d before
+              ⊎ In d (e ∷ distinct_from same_known (e ∷ before) es)
           past (inl (inl q)) = inr (inl q)
           past (inl (inr j)) = inl j
           past (inr j) = inr (inr j)
@@ -202,7 +208,8 @@ module _ {N : Type 0} (same_known : N → N → Bool) (exact_known : (b c : N) �
       later d (inl q) i = a.0 (subst (λ x. In x es) q i)
       later d (inr j) i = new d j (inr i)
 
-      go : distinct_from same_known (e ∷ before) es ≡ es → (b : Bool) → stands_in same_known e before ≡ b → unless_in same_known b e (distinct_from same_known (e ∷ before) es) ≡ e ∷ es
+      go : distinct_from same_known (e ∷ before) es ≡ es → (b : Bool) → stands_in same_known e before ≡ b
+          → unless_in same_known b e (distinct_from same_known (e ∷ before) es) ≡ e ∷ es
       go q true s = absurd (new e (stands_exact e before s) (inl refl))
       go q false s = ap (λ xs. e ∷ xs) q
 

@@ -75,4 +75,5 @@ module _ (job : Job) (around : Around) where
     -- and so is each that it waits for
     pub waited_maker : (t : Task) (j : ℕ) (ds : List Desc) (d : Desc) → Needed job around t → WaitOf job around t j ds → In d ds → maker d ≡ task_of d
     waited_maker t j ds d need wait i =
-        sound_maker job.script d (in_each (SoundDesc job.script) ds d (wait_sound job around reads t j ds (needed_sound job around reads t need) wait) i)
+        sound_maker job.script d (in_each (SoundDesc job.script) ds d
+        (wait_sound job around reads t j ds (needed_sound job around reads t need) wait) i)

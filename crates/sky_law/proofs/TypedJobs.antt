@@ -1,7 +1,8 @@
 -- Every value that a job makes is typed, where its script and what is read as data are.
 use Rattle.std.proofs.Common.{◌≡◌, ℕ, ◌+◌, List, [], ◌∷◌, length, Option, Some, None, Ok, Err, IsUtf8, subst, sym, ◌⊎◌, inl, inr}
 use Rattle.std.proofs.lemmas.Str.{IsUtf8-from_is_utf8, IsUtf8-nil}
-use Rattle.sky_base.specs.Val.{null, truth, num, text, list, dict, fun, ref, no_vals, val, no_pairs, pair, refs, vals_refs, pairs_refs, vals_of, Rising, RisingFrom}
+use Rattle.sky_base.specs.Val.{null, truth, num, text, list, dict, fun, ref, no_vals, val, no_pairs, pair, refs, vals_refs, pairs_refs, vals_of}
+use Rattle.sky_base.specs.Val.{Rising, RisingFrom}
 use Rattle.sky_base.specs.Op.{Answer, find, index, set_at, grown, negated, opposite, len, keys, has, range, limited, dict_from}
 use Rattle.sky_base.specs.Res.{Object}
 use Rattle.sky_base.specs.Eval.{caught_by, lit_val, oper}
@@ -10,14 +11,17 @@ use Rattle.sky_base.specs.See.{Val, Vals, Pairs, Desc, Obj, Job, Around, replace
 use Rattle.sky_base.specs.Needed.{Task, WaitOf, State, StandsAt, Needed}
 use Rattle.sky_law.specs.Tasks.{In, Each, acts_of, made_in}
 use Rattle.sky_law.specs.Sound.{IsFun, RefsSound, SoundDesc, Sound}
-use Rattle.sky_law.specs.Typed.{ValsTyped, EachTyped, Typed, TypedDesc, TypedObject, TypedVars, TypedFrame, TypedState, TypedTask, TypedRead, TypedLit, TypedJob}
+use Rattle.sky_law.specs.Typed.{ValsTyped, EachTyped, Typed, TypedDesc, TypedObject, TypedVars, TypedFrame, TypedState, TypedTask, TypedRead}
+use Rattle.sky_law.specs.Typed.{TypedLit, TypedJob}
 use Rattle.sky_law.proofs.FineLaw.{Closed, AnswerOk, OptionOk, ValsOk, ObjectOk}
 use Rattle.sky_law.proofs.FineReads.{SeenOk, FrameOk}
 use Rattle.sky_law.proofs.JobsLaw.{JobClosed, TaskOk, StateOk, see_ok, wave_ok, wait_ok, needed_ok, made_ok, stands_ok}
 use Rattle.sky_law.proofs.SimpleOps.{negated_simple, opposite_simple, has_simple}
 use Rattle.sky_law.proofs.SoundJobs.{sound_job}
 use Rattle.sky_law.proofs.SoundOps.{Vars}
-use Rattle.sky_law.proofs.TypedOps.{TypedAnswer, TypedOption, simple_typed, limited_typed, put_typed, find_typed, caught_typed, oper_typed, index_typed, set_at_typed, grown_typed, taken_typed, len_typed, keys_typed, range_typed, list_typed, dict_typed, lit_typed, refs_typed}
+use Rattle.sky_law.proofs.TypedOps.{TypedAnswer, TypedOption, simple_typed, limited_typed, put_typed, find_typed, caught_typed, oper_typed}
+use Rattle.sky_law.proofs.TypedOps.{index_typed, set_at_typed, grown_typed, taken_typed, len_typed, keys_typed, range_typed, list_typed, dict_typed}
+use Rattle.sky_law.proofs.TypedOps.{lit_typed, refs_typed}
 use Rattle.sky_law.proofs.WrittenLaw.{any_lit, any_made, any_name, fun_name}
 use Rattle.sky_law.proofs.Lists.{some_is, each_both}
 
@@ -118,11 +122,13 @@ module _ (job : Job) (around : Around) (start : TypedJob job around) where
   both (Ok a) h i = (h, i)
   both (Err k) h i = tt
 
-  both_found : (o : Option Val) → OptionOk (world_of job.script around) (Sound job.script) (SoundDesc job.script) o → TypedOption ⊥ K o → OptionOk (world_of job.script around) P Q o
+  both_found : (o : Option Val) → OptionOk (world_of job.script around) (Sound job.script) (SoundDesc job.script) o → TypedOption ⊥ K o
+      → OptionOk (world_of job.script around) P Q o
   both_found (Some a) h i = (h, i)
   both_found None h i = tt
 
-  both_vals : (vs : Vals) → ValsOk (world_of job.script around) (Sound job.script) (SoundDesc job.script) vs → ValsTyped K vs → ValsOk (world_of job.script around) P Q vs
+  both_vals : (vs : Vals) → ValsOk (world_of job.script around) (Sound job.script) (SoundDesc job.script) vs → ValsTyped K vs
+      → ValsOk (world_of job.script around) P Q vs
   both_vals no_vals h i = tt
   both_vals (val a vs) h i = ((h.0, i.0), both_vals vs h.1 i.1)
 
@@ -147,8 +153,10 @@ module _ (job : Job) (around : Around) (start : TypedJob job around) where
         fun_ok = λ x k i. both (limited (fun x no_pairs)) (s.fun_ok x tt i) (limited_typed ⊥ K (fun x no_pairs) (k, tt, tt));
         closed_ok = λ f x ps k e l. both (limited (fun x (caught_by f.uses ps))) (s.closed_ok f x ps tt e l.0) (closure_typed x f.uses ps k l.1);
         caught_ok = λ f ca h. (s.caught_ok f ca h.0, (h.1.1, h.1.2));
-        list_ok = λ vs h. both (limited (list (vals_of vs))) (s.list_ok vs (firsts (Sound job.script) Typed vs h)) (list_typed ⊥ K vs (seconds (Sound job.script) Typed vs h));
-        dict_ok = λ vs h. both (dict_from vs no_pairs) (s.dict_ok vs (firsts (Sound job.script) Typed vs h)) (dict_typed ⊥ K vs no_pairs (seconds (Sound job.script) Typed vs h) (tt, tt));
+        list_ok = λ vs h. both (limited (list (vals_of vs))) (s.list_ok vs (firsts (Sound job.script) Typed vs h))
+            (list_typed ⊥ K vs (seconds (Sound job.script) Typed vs h));
+        dict_ok = λ vs h. both (dict_from vs no_pairs) (s.dict_ok vs (firsts (Sound job.script) Typed vs h))
+            (dict_typed ⊥ K vs no_pairs (seconds (Sound job.script) Typed vs h) (tt, tt));
         oper_ok = λ o a b h i. both (oper o a b) (s.oper_ok o a b h.0 i.0) (oper_typed ⊥ K o a b h.1 i.1);
         index_ok = λ a i h. both (index a i) (s.index_ok a i h.0) (index_typed ⊥ K a i h.1);
         set_ok = λ a i e h g r. both (set_at a i e) (s.set_ok a i e h.0 g.0 r.0) (set_at_typed ⊥ K a i e h.1 g.1 r.1);
@@ -162,7 +170,10 @@ module _ (job : Job) (around : Around) (start : TypedJob job around) where
         inside_ok = λ vs h. both_vals vs (s.inside_ok vs h.0) h.1;
         reads_ok = λ b. both (around.reads b) (s.reads_ok b) (read_typed (around.reads b) (start.reads b));
         ref_ok = λ d h m. (s.ref_ok d h.0 m, h.1);
-        refs_ok = λ ds le h. (s.refs_ok ds le (firsts (λ d. Sound job.script (ref d)) (λ d. Typed (ref d)) ds h), refs_typed ⊥ K ds (seconds (λ d. Sound job.script (ref d)) (λ d. Typed (ref d)) ds h));
+        refs_ok = λ ds le h. (
+          s.refs_ok ds le (firsts (λ d. Sound job.script (ref d)) (λ d. Typed (ref d)) ds h),
+          refs_typed ⊥ K ds (seconds (λ d. Sound job.script (ref d)) (λ d. Typed (ref d)) ds h),
+        );
         call_ok = λ f ca vs x e n z h. (s.call_ok f ca vs x e n z.0 h.0, (z.1.0, z.1.1, z.1.2, h.1));
         out_ok = λ x a n i t h lt le. (s.out_ok x a n i t.0 h.0 lt le, (t.1, h.1));
         input_ok = λ k t e. (s.input_ok k t.0 e, t.1);
@@ -221,7 +232,8 @@ module _ (job : Job) (around : Around) (start : TypedJob job around) where
   -- and so is each that it waits for
   pub waits_typed : (t : Task) (j : ℕ) (ds : List Desc) → Needed job around t → WaitOf job around t j ds → Each TypedDesc ds
   waits_typed t j ds need wait =
-      seconds (SoundDesc job.script) TypedDesc ds (wait_ok job around P U Q V TypedLit IsUtf8 typed_job t j ds (needed_ok job around P U Q V TypedLit IsUtf8 typed_job t need) wait)
+      seconds (SoundDesc job.script) TypedDesc ds
+      (wait_ok job around P U Q V TypedLit IsUtf8 typed_job t j ds (needed_ok job around P U Q V TypedLit IsUtf8 typed_job t need) wait)
 
   fun_utf8 : (f : List ℕ) → (f ≡ []) ⊎ IsFun job.script f → IsUtf8 f
   fun_utf8 f (inl e) = subst IsUtf8 (sym e) IsUtf8-nil

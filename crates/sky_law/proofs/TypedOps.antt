@@ -1,5 +1,6 @@
 -- Each operator gives typed values from typed values that keep the limits.
-use Rattle.std.proofs.Common.{◌≡◌, ℕ, ℤ, zero, suc, ◌+◌, ◌<◌, ◌≤◌, Bool, true, false, List, [], ◌∷◌, ◌++◌, length, FitsSigned, Option, Some, None, Ok, Err, IsUtf8, nat_lt, pos, negsuc, ◌+ℤ◌, ◌-ℤ◌, ◌≤ℤ◌, int_rem, refl, arith, subst, sym}
+use Rattle.std.proofs.Common.{◌≡◌, ℕ, ℤ, zero, suc, ◌+◌, ◌<◌, ◌≤◌, Bool, true, false, List, [], ◌∷◌, ◌++◌, length, FitsSigned, Option, Some, None, Ok}
+use Rattle.std.proofs.Common.{Err, IsUtf8, nat_lt, pos, negsuc, ◌+ℤ◌, ◌-ℤ◌, ◌≤ℤ◌, int_rem, refl, arith, subst, sym}
 use Rattle.std.proofs.lemmas.Int.{ints}
 use Rattle.std.proofs.lemmas.Str.{IsUtf8-append}
 use Rattle.std.specs.Int.{w64}
@@ -8,8 +9,10 @@ use Rattle.std.specs.Ordering.{nat_cmp, match_ordering}
 use Rattle.std.specs.Cmp.Lexicographic.{slice_cmp}
 use Rattle.std.specs.declared.cmp.Ordering.{Ordering}
 use lib.Signed.{mag_rem}
-use Rattle.sky_base.specs.Val.{Val, Vals, Pairs, Desc, null, truth, num, text, list, dict, fun, ref, no_vals, val, no_pairs, pair, add_val, count, pair_count, vals_of, refs_to, size, depth, sizes, pair_sizes, Rising}
-use Rattle.sky_base.specs.Op.{Answer, checked, unless, limited, join, plus, minus, times, over, rest, rest_num, val_at, find, put, or_else, index, put_val, limited_list, set_at, compare, len, all_keys, keys, numbers, range_if, range, span, grown, with_key, dict_from}
+use Rattle.sky_base.specs.Val.{Val, Vals, Pairs, Desc, null, truth, num, text, list, dict, fun, ref, no_vals, val, no_pairs, pair, add_val, count}
+use Rattle.sky_base.specs.Val.{pair_count, vals_of, refs_to, size, depth, sizes, pair_sizes, Rising}
+use Rattle.sky_base.specs.Op.{Answer, checked, unless, limited, join, plus, minus, times, over, rest, rest_num, val_at, find, put, or_else, index}
+use Rattle.sky_base.specs.Op.{put_val, limited_list, set_at, compare, len, all_keys, keys, numbers, range_if, range, span, grown, with_key, dict_from}
 use Rattle.sky_base.specs.Tree.{Lit, Oper}
 use Rattle.sky_base.specs.Eval.{is_one_of, caught_if, caught_by, lit_val, oper}
 use Rattle.sky_base.specs.Kept.{Kept}
@@ -390,7 +393,8 @@ module _ (N : Type 0) (K : N → Type 0) where
   pub list_typed : (vs : List (Val N)) → Each (TypedOver K) vs → TypedAnswer (limited (list (vals_of vs)))
   list_typed vs h = limited_typed (list (vals_of vs)) (vals_typed vs h)
 
-  with_key_typed : (k v : Val N) (ps : Pairs N) (go : Pairs N → Answer N) → TypedOver K k → TypedOver K v → PairsTyped ps → ((qs : Pairs N) → PairsTyped qs → TypedAnswer (go qs)) → TypedAnswer (with_key k v ps go)
+  with_key_typed : (k v : Val N) (ps : Pairs N) (go : Pairs N → Answer N) → TypedOver K k → TypedOver K v → PairsTyped ps
+      → ((qs : Pairs N) → PairsTyped qs → TypedAnswer (go qs)) → TypedAnswer (with_key k v ps go)
   with_key_typed (text k) v ps go u r h g = g (put k v ps) (put_typed k v ps u r h)
   with_key_typed null v ps go u r h g = tt
   with_key_typed (truth b) v ps go u r h g = tt

@@ -1,5 +1,6 @@
 -- Where a job means an answer, its needed tasks are finitely many, with finitely many waits each: it has an amount of work.
-use Rattle.std.proofs.Common.{◌≡◌, ◌≢◌, ℕ, zero, suc, ◌+◌, ◌<◌, ◌≤◌, List, [], ◌∷◌, ◌++◌, length, Option, Some, None, is_some, slice_get, sum_by, Bool, true, false, ◌↔◌, inl, inr, refl, sym, ap, ◌∙◌, subst, arith}
+use Rattle.std.proofs.Common.{◌≡◌, ◌≢◌, ℕ, zero, suc, ◌+◌, ◌<◌, ◌≤◌, List, [], ◌∷◌, ◌++◌, length, Option, Some, None, is_some, slice_get, sum_by}
+use Rattle.std.proofs.Common.{Bool, true, false, ◌↔◌, inl, inr, refl, sym, ap, ◌∙◌, subst, arith}
 use Rattle.sky_base.specs.Val.{call, out, input, known}
 use Rattle.sky_base.specs.See.{Desc, Job, Around, see, Answered, Means}
 use Rattle.sky_base.specs.Needed.{Task, task_of, wait_at, WaitOf, Needed, root, Waits, Work}
@@ -159,7 +160,8 @@ module _ (f : Task → ℕ) where
       (inl a, b ∙ ap f (sym a))
   counted_in t k (u ∷ ts) (inr h) = let r : In t ts × (k ≡ f t) = counted_in t k ts h in (inr r.0, r.1)
 
-  index_apart : (ts : List Task) (i j : ℕ) (t : Task) (a b : ℕ) → Apart ts → slice_get (counted ts) i ≡ Some (t, a) → slice_get (counted ts) j ≡ Some (t, b) → i ≡ j
+  index_apart : (ts : List Task) (i j : ℕ) (t : Task) (a b : ℕ) → Apart ts → slice_get (counted ts) i ≡ Some (t, a) → slice_get (counted ts) j
+      ≡ Some (t, b) → i ≡ j
   index_apart [] i j t a b h e g = absurd (none_some (t, a) e)
   index_apart (u ∷ ts) zero zero t a b h e g = refl
   index_apart (u ∷ ts) zero (suc j) t a b h e g =
@@ -184,7 +186,8 @@ in_tasks f (y ∷ ds) d u x (inl q) e i =
     in_left x (on_task f (task_of y)) (tasks_of f ds) (subst (λ o. In x (on_task f o)) (sym (ap task_of (sym q) ∙ e)) i)
 in_tasks f (y ∷ ds) d u x (inr h) e i = in_right x (on_task f (task_of y)) (tasks_of f ds) (in_tasks f ds d u x h e i)
 
-of_tasks : {P : Type 0} (f : Task → List Task) (ds : List Desc) (x : Task) → In x (tasks_of f ds) → ((d : Desc) (u : Task) → In d ds → task_of d ≡ Some u → In x (f u) → P) → P
+of_tasks : {P : Type 0} (f : Task → List Task) (ds : List Desc) (x : Task) → In x (tasks_of f ds)
+    → ((d : Desc) (u : Task) → In d ds → task_of d ≡ Some u → In x (f u) → P) → P
 of_tasks f [] x h g = absurd h
 of_tasks {P = P} f (y ∷ ds) x h g =
     in_either x (on_task f (task_of y)) (tasks_of f ds) h (λ i. go (task_of y) refl i) (λ i. of_tasks f ds x i (λ d u j e k. g d u (inr j) e k))
@@ -209,16 +212,21 @@ module _ (job : Job) (around : Around) where
 
   awaited_seen : (n : ℕ) (t : Task) (d : Desc) → ended job around n t ≡ true → In d (awaited n t) → see job around n d ≢ None
   awaited_seen n t d h i =
-      in_either d (first_of t) (all_of (waits_in (acts_of job around n t))) i (λ j. in_each (λ x. see job around n x ≢ None) (first_of t) d (first_seen job around n t h) j) (λ j. of_all d (waits_in (acts_of job around n t)) j (λ k ds e z. in_each (λ x. see job around n x ≢ None) ds d (later_seen job around n t k ds h e) z))
+      in_either d (first_of t) (all_of (waits_in (acts_of job around n t))) i
+      (λ j. in_each (λ x. see job around n x ≢ None) (first_of t) d (first_seen job around n t h) j)
+      (λ j. of_all d (waits_in (acts_of job around n t)) j
+      (λ k ds e z. in_each (λ x. see job around n x ≢ None) ds d (later_seen job around n t k ds h e) z))
 
   awaited_all : (n : ℕ) (t u : Task) → ended job around n t ≡ true → (x : WaitsFor job around t u) → In x.what (awaited n t)
   awaited_all n t u h x = go x.wait x.waits x.waited x.is_waited
     where
       go : (j : ℕ) (ds : List Desc) → WaitOf job around t j ds → In x.what ds → In x.what (awaited n t)
       go zero ds (m, e) i = in_left x.what (first_of t) _ (subst (In x.what) (sym (first_is job around m t ds e)) i)
-      go (suc j) ds (m, e) i = in_right x.what (first_of t) _ (in_all x.what (waits_in (acts_of job around n t)) j ds (wait_ended job around n m t j ds h e) i)
+      go (suc j) ds (m, e) i = in_right x.what (first_of t) _
+          (in_all x.what (waits_in (acts_of job around n t)) j ds (wait_ended job around n m t j ds h e) i)
 
-  task_ends : (n : ℕ) (t u : Task) (d : Desc) → ended job around (suc n) t ≡ true → In d (awaited (suc n) t) → task_of d ≡ Some u → ended job around n u ≡ true
+  task_ends : (n : ℕ) (t u : Task) (d : Desc) → ended job around (suc n) t ≡ true → In d (awaited (suc n) t) → task_of d ≡ Some u
+      → ended job around n u ≡ true
   task_ends n t u d h i e = sym (task_ended job around n d u e) ∙ there (see job around (suc n) d) (awaited_seen (suc n) t d h i)
 
   reach_ended : (n : ℕ) (t u : Task) → ended job around n t ≡ true → In u (reach n t) → ended job around n u ≡ true
@@ -230,14 +238,16 @@ module _ (job : Job) (around : Around) where
 
   reach_closed : (n : ℕ) (t u s : Task) → ended job around n t ≡ true → In u (reach n t) → WaitsFor job around u s → In s (reach n t)
   reach_closed zero t u s h (inl e) x =
-      let r : (m : ℕ) × (m < 0) × (ended job around m s ≡ true) = ends_before job around 0 u s (subst (λ y. ended job around 0 y ≡ true) (sym e) h) x in
+      let r : (m : ℕ) × (m < 0) × (ended job around m s ≡ true) =
+      ends_before job around 0 u s (subst (λ y. ended job around 0 y ≡ true) (sym e) h) x in
       absurd (omega (arith, r.1))
   reach_closed zero t u s h (inr i) x = absurd i
   reach_closed (suc n) t u s h (inl e) x =
       let y : WaitsFor job around t s = subst (λ z. WaitsFor job around z s) e x in
       inr (in_tasks (λ z. reach n z) (awaited (suc n) t) y.what s s (awaited_all (suc n) t s h y) y.is_made (self_reach n s))
   reach_closed (suc n) t u s h (inr i) x =
-      of_tasks (λ z. reach n z) (awaited (suc n) t) u i (λ d v j e k. inr (in_tasks (λ z. reach n z) (awaited (suc n) t) d v s j e (reach_closed n v u s (task_ends n t v d h j e) k x)))
+      of_tasks (λ z. reach n z) (awaited (suc n) t) u i
+      (λ d v j e k. inr (in_tasks (λ z. reach n z) (awaited (suc n) t) d v s j e (reach_closed n v u s (task_ends n t v d h j e) k x)))
 
   first_wait : (n : ℕ) (t : Task) (d : Desc) → In d (first_of t) → wait_at job around n t 0 ≡ Some (first_of t)
   first_wait n Task.show d i = refl
@@ -248,7 +258,10 @@ module _ (job : Job) (around : Around) where
 
   awaited_needed : (n : ℕ) (t u : Task) (d : Desc) → Needed job around t → In d (awaited n t) → task_of d ≡ Some u → Needed job around u
   awaited_needed n t u d need i e =
-      in_either d (first_of t) (all_of (waits_in (acts_of job around n t))) i (λ j. Needed.waited need 0 (first_of t) d (n, first_wait n t d j) (contains_in d (first_of t) j) e) (λ j. of_all d (waits_in (acts_of job around n t)) j (λ k ds q z. Needed.waited need (suc k) ds d (n, sym (waits_at job around n t k) ∙ q) (contains_in d ds z) e))
+      in_either d (first_of t) (all_of (waits_in (acts_of job around n t))) i
+      (λ j. Needed.waited need 0 (first_of t) d (n, first_wait n t d j) (contains_in d (first_of t) j) e)
+      (λ j. of_all d (waits_in (acts_of job around n t)) j
+      (λ k ds q z. Needed.waited need (suc k) ds d (n, sym (waits_at job around n t k) ∙ q) (contains_in d ds z) e))
 
   reach_needed : (n : ℕ) (t u : Task) → Needed job around t → In u (reach n t) → Needed job around u
   reach_needed zero t u need (inl e) = subst (Needed job around) (sym e) need
@@ -260,7 +273,8 @@ module _ (job : Job) (around : Around) where
   needed_reach : (n : ℕ) (t : Task) → ended job around n Task.show ≡ true → Needed job around t → In t (reach n Task.show)
   needed_reach n Task.show h root = self_reach n Task.show
   needed_reach n t h (Needed.waited {t = u} need j ds d wait among is) =
-      reach_closed n Task.show u t h (needed_reach n u h need) (record { wait = j; waits = ds; waited = wait; what = d; is_waited = in_contains d ds among; is_made = is })
+      reach_closed n Task.show u t h (needed_reach n u h need)
+      (record { wait = j; waits = ds; waited = wait; what = d; is_waited = in_contains d ds among; is_made = is })
 
   -- a task that has ended has so many waits
   pub waits_number : (n : ℕ) (t : Task) → ended job around n t ≡ true → Waits job around t (length (waits_in (acts_of job around n t)))
@@ -273,7 +287,8 @@ module _ (job : Job) (around : Around) where
       there_is : (j : ℕ) → 0 < j → j ≤ length (waits_in (acts_of job around n t)) → (ds : List Desc) × WaitOf job around t j ds
       there_is zero lt le = absurd (omega arith)
       there_is (suc j) lt le =
-          let r : (ds : List Desc) × (slice_get (waits_in (acts_of job around n t)) j ≡ Some ds) = slice_some (waits_in (acts_of job around n t)) j (omega arith) in
+          let r : (ds : List Desc) × (slice_get (waits_in (acts_of job around n t)) j ≡ Some ds) =
+          slice_some (waits_in (acts_of job around n t)) j (omega arith) in
           (r.0, (n, sym (waits_at job around n t j) ∙ r.1))
 
       go : (j : ℕ) → 0 < j → (j ≤ length (waits_in (acts_of job around n t))) ↔ ((ds : List Desc) × WaitOf job around t j ds)
@@ -281,7 +296,26 @@ module _ (job : Job) (around : Around) where
 
   -- where the job has an answer, it has an amount of work
   pub work_is : (n : ℕ) → ended job around n Task.show ≡ true → (m : ℕ) × Work job around m
-  work_is n h = (sum_by (λ p. 1 + p.1) list_of, record { tasks = list_of; apart = λ i j t a b e g. index_apart number (once (reach n Task.show)) i j t a b (apart_once (reach n Task.show)) e g; needed = λ t. (λ need. (number t, contains_in (t, number t) list_of (in_counted number t (once (reach n Task.show)) (in_once t (reach n Task.show) (needed_reach n t h need)))), λ p. reach_needed n Task.show t root (once_in t (reach n Task.show) (counted_in number t p.0 (once (reach n Task.show)) (in_contains (t, p.0) list_of p.1)).0)); waits = λ t k c. has t k (counted_in number t k (once (reach n Task.show)) (in_contains (t, k) list_of c)); total = refl })
+  work_is n h = (
+    sum_by (λ p. 1 + p.1) list_of,
+    record {
+      tasks = list_of;
+      apart = λ i j t a b e g. index_apart number (once (reach n Task.show)) i j t a b (apart_once (reach n Task.show))
+          e g;
+      needed = λ t. (
+        λ need. (
+          number t,
+          contains_in (t, number t) list_of
+              (in_counted number t (once (reach n Task.show)) (in_once t (reach n Task.show) (needed_reach n t h need))),
+        ),
+        λ p. reach_needed n Task.show t root (once_in t (reach n Task.show)
+            (counted_in number t p.0 (once (reach n Task.show)) (in_contains (t, p.0) list_of p.1)).0),
+      );
+      waits =
+          λ t k c. has t k (counted_in number t k (once (reach n Task.show)) (in_contains (t, k) list_of c));
+      total = refl;
+    },
+  )
     where
       number : Task → ℕ
       number t = length (waits_in (acts_of job around n t))

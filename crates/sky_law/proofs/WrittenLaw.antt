@@ -6,7 +6,8 @@ use Rattle.sky_base.specs.Eval.{Body, find_fun, find_fun_if, find_body, find_bod
 use Rattle.sky_base.proofs.Exact.{exact_text}
 use Rattle.sky_law.specs.Tasks.{Each}
 use Rattle.sky_law.specs.Sound.{IsFun}
-use Rattle.sky_law.specs.Written.{ExpWritten, ExpsWritten, LinksWritten, AndsWritten, StepsWritten, StmWritten, StmsWritten, ArmsWritten, ElseWritten, FunWritten, Written}
+use Rattle.sky_law.specs.Written.{ExpWritten, ExpsWritten, LinksWritten, AndsWritten, StepsWritten, StmWritten, StmsWritten, ArmsWritten, ElseWritten}
+use Rattle.sky_law.specs.Written.{FunWritten, Written}
 
 module _ (L : Lit → Type 0) (K : List ℕ → Type 0) where
   abbrev pub BodyWritten : Option Body → Type 0
@@ -17,7 +18,8 @@ module _ (L : Lit → Type 0) (K : List ℕ → Type 0) where
   find_written x [] i h = tt
   find_written x (f ∷ fs) i h = go (same_text x f.name) (find_written x fs (i + block_nodes f.body) h.1)
     where
-      go : (b : Bool) → BodyWritten (find_body x fs (i + block_nodes f.body)) → BodyWritten (find_body_if b f i (find_body x fs (i + block_nodes f.body)))
+      go : (b : Bool) → BodyWritten (find_body x fs (i + block_nodes f.body))
+          → BodyWritten (find_body_if b f i (find_body x fs (i + block_nodes f.body)))
       go true r = (h.0.params, h.0.body)
       go false r = r
 

@@ -49,7 +49,8 @@ ActsGrow =
 -- a task that has ended does nothing more
 abbrev pub EndedStays : Type 0
 EndedStays =
-    (job : Job) (around : Around) (n m : ℕ) (t : Task) → n ≤ m → ended job around n t ≡ true → (ended job around m t ≡ true) × (acts_of job around m t ≡ acts_of job around n t)
+    (job : Job) (around : Around) (n m : ℕ) (t : Task) → n ≤ m → ended job around n t ≡ true → (ended job around m t ≡ true)
+    × (acts_of job around m t ≡ acts_of job around n t)
 
 -- ---- what is made
 
@@ -62,7 +63,8 @@ MadeTogether = (job : Job) (around : Around) (n : ℕ) (t : Task) → Batched []
 -- a task that has ended has seen all that it waited for
 abbrev pub WaitedIsSeen : Type 0
 WaitedIsSeen =
-    (job : Job) (around : Around) (n : ℕ) (t : Task) (j : ℕ) (ds : List Desc) → ended job around n t ≡ true → WaitOf job around t j ds → Each (λ d. see job around n d ≢ None) ds
+    (job : Job) (around : Around) (n : ℕ) (t : Task) (j : ℕ) (ds : List Desc) → ended job around n t ≡ true → WaitOf job around t j ds
+    → Each (λ d. see job around n d ≢ None) ds
 
 -- no wait of a task is for a description twice
 abbrev pub WaitsApart : Type 0
@@ -98,7 +100,8 @@ RunsOn =
 -- what is seen of a sound description is sound
 abbrev pub SeenIsSound : Type 0
 SeenIsSound =
-    (job : Job) (around : Around) → SoundReads job.script around → (n : ℕ) (d : Desc) (o : Obj) → SoundDesc job.script d → see job around n d ≡ Some o → SoundObject job.script o
+    (job : Job) (around : Around) → SoundReads job.script around → (n : ℕ) (d : Desc) (o : Obj) → SoundDesc job.script d → see job around n d
+    ≡ Some o → SoundObject job.script o
 
 -- every task that is needed is sound
 abbrev pub NeededIsSound : Type 0
@@ -108,17 +111,20 @@ NeededIsSound =
 -- what a needed task makes is sound
 abbrev pub MadeIsSound : Type 0
 MadeIsSound =
-    (job : Job) (around : Around) → SoundReads job.script around → (n : ℕ) (t : Task) (d : Desc) → Needed job around t → In d (made_in (acts_of job around n t)) → SoundDesc job.script d
+    (job : Job) (around : Around) → SoundReads job.script around → (n : ℕ) (t : Task) (d : Desc) → Needed job around t
+    → In d (made_in (acts_of job around n t)) → SoundDesc job.script d
 
 -- what a needed task waits for is sound
 abbrev pub WaitedIsSound : Type 0
 WaitedIsSound =
-    (job : Job) (around : Around) → SoundReads job.script around → (t : Task) (j : ℕ) (ds : List Desc) → Needed job around t → WaitOf job around t j ds → Each (SoundDesc job.script) ds
+    (job : Job) (around : Around) → SoundReads job.script around → (t : Task) (j : ℕ) (ds : List Desc) → Needed job around t
+    → WaitOf job around t j ds → Each (SoundDesc job.script) ds
 
 -- the values of a needed task at its waits are sound
 abbrev pub StateIsSound : Type 0
 StateIsSound =
-    (job : Job) (around : Around) → SoundReads job.script around → (t : Task) (j : ℕ) (s : State) → Needed job around t → StandsAt job around t j s → SoundState job.script s
+    (job : Job) (around : Around) → SoundReads job.script around → (t : Task) (j : ℕ) (s : State) → Needed job around t
+    → StandsAt job around t j s → SoundState job.script s
 
 -- the value of the result at each wave is sound
 abbrev pub WaveIsSound : Type 0
@@ -130,7 +136,8 @@ WaveIsSound =
 -- what is seen of a sound and typed description is typed
 abbrev pub SeenIsTyped : Type 0
 SeenIsTyped =
-    (job : Job) (around : Around) → TypedJob job around → (n : ℕ) (d : Desc) (o : Obj) → SoundDesc job.script d → TypedDesc d → see job around n d ≡ Some o → TypedObject o
+    (job : Job) (around : Around) → TypedJob job around → (n : ℕ) (d : Desc) (o : Obj) → SoundDesc job.script d → TypedDesc d
+    → see job around n d ≡ Some o → TypedObject o
 
 -- every task that is needed is typed
 abbrev pub NeededIsTyped : Type 0
@@ -139,17 +146,20 @@ NeededIsTyped = (job : Job) (around : Around) → TypedJob job around → (t : T
 -- what a needed task makes is typed
 abbrev pub MadeIsTyped : Type 0
 MadeIsTyped =
-    (job : Job) (around : Around) → TypedJob job around → (n : ℕ) (t : Task) (d : Desc) → Needed job around t → In d (made_in (acts_of job around n t)) → TypedDesc d
+    (job : Job) (around : Around) → TypedJob job around → (n : ℕ) (t : Task) (d : Desc) → Needed job around t
+    → In d (made_in (acts_of job around n t)) → TypedDesc d
 
 -- what a needed task waits for is typed
 abbrev pub WaitedIsTyped : Type 0
 WaitedIsTyped =
-    (job : Job) (around : Around) → TypedJob job around → (t : Task) (j : ℕ) (ds : List Desc) → Needed job around t → WaitOf job around t j ds → Each TypedDesc ds
+    (job : Job) (around : Around) → TypedJob job around → (t : Task) (j : ℕ) (ds : List Desc) → Needed job around t → WaitOf job around t j ds
+    → Each TypedDesc ds
 
 -- the values of a needed task at its waits are typed
 abbrev pub StateIsTyped : Type 0
 StateIsTyped =
-    (job : Job) (around : Around) → TypedJob job around → (t : Task) (j : ℕ) (s : State) → Needed job around t → StandsAt job around t j s → TypedState s
+    (job : Job) (around : Around) → TypedJob job around → (t : Task) (j : ℕ) (s : State) → Needed job around t → StandsAt job around t j s
+    → TypedState s
 
 -- the value of the result at each wave is typed
 abbrev pub WaveIsTyped : Type 0

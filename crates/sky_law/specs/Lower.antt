@@ -3,7 +3,9 @@ use Rattle.std.specs.Prelude.{ℕ, List, map, Ok, Err}
 use Rattle.sky_base.specs.Val.{Desc, known}
 use Rattle.sky_base.specs.Name.{low, low_vals, low_pairs, name}
 use Rattle.sky_base.specs.Op.{Answer}
-use Rattle.sky_base.specs.Res.{Object, End, St, Entry, parens_in, part_at, chain_first, chain_more, logic_at, prefix_part, star_wait, postfix_first, index_at, arg_at, call_open, exec_wait, set_part, add_part, put_index, put_value, return_part, just_part, arm_test, while_test, while_body, repeat_body, repeat_test, for_list, for_body, block_at, Wait, one_of, all_of}
+use Rattle.sky_base.specs.Res.{Object, End, St, Entry, parens_in, part_at, chain_first, chain_more, logic_at, prefix_part, star_wait, postfix_first}
+use Rattle.sky_base.specs.Res.{index_at, arg_at, call_open, exec_wait, set_part, add_part, put_index, put_value, return_part, just_part, arm_test}
+use Rattle.sky_base.specs.Res.{while_test, while_body, repeat_body, repeat_test, for_list, for_body, block_at, Wait, one_of, all_of}
 use Rattle.sky_base.specs.Tree.{Script}
 use Rattle.sky_base.specs.Eval.{World}
 use Rattle.sky_base.specs.Read.{Halt, Frame, Run}

@@ -63,12 +63,16 @@ module _ (tag : v.Desc (List ℕ) → List ℕ) where
   -- a call over names runs as the call
   abbrev pub CallsAlike : Type 0
   CallsAlike =
-      (job : Job) (around : Around) (read : List ℕ → Answer (List ℕ)) → ReadsAlike around read → (f : List ℕ) (c : Pairs) (vs : Vals) → RunsAlike (run_of job around f c vs) (body_at (names_world tag job.script read) bodies f (low_pairs no_name tag c) (low_vals no_name tag vs) nowhere start_st)
+      (job : Job) (around : Around) (read : List ℕ → Answer (List ℕ)) → ReadsAlike around read → (f : List ℕ) (c : Pairs) (vs : Vals)
+      → RunsAlike (run_of job around f c vs) (body_at (names_world tag job.script read) bodies f (low_pairs no_name tag c)
+      (low_vals no_name tag vs) nowhere start_st)
 
   -- and goes on over names from a wait as it does
   abbrev pub RestsAlike : Type 0
   RestsAlike =
-      (job : Job) (around : Around) (read : List ℕ → Answer (List ℕ)) → ReadsAlike around read → (h : Halt ⊥) (os : List (Object ⊥)) → RunsAlike (rest_of (world_of job.script around) others h os) (rest_of (names_world tag job.script read) others (low_halt no_name tag h) (map (low_obj no_name tag) os))
+      (job : Job) (around : Around) (read : List ℕ → Answer (List ℕ)) → ReadsAlike around read → (h : Halt ⊥) (os : List (Object ⊥))
+      → RunsAlike (rest_of (world_of job.script around) others h os)
+      (rest_of (names_world tag job.script read) others (low_halt no_name tag h) (map (low_obj no_name tag) os))
 
   -- the stack at a named wait is the named stack at the wait
   abbrev pub StacksAlike : Type 0

@@ -2,8 +2,11 @@
 use Rattle.std.specs.Prelude.{◌≡◌, ℕ, zero, suc, ◌+◌, List, [], ◌∷◌, reverse, Option, Some, None, pos}
 use Rattle.std.specs.Option.{option_map}
 use Rattle.sky_base.specs.Val.{Val, Vals, Pairs, Desc, num, list, ref, no_vals, val}
-use Rattle.sky_base.specs.Tree.{Place, nowhere, Junction, SignAt, Form, Exp, Exps, Links, Ands, Steps, Stm, Stms, Arms, Else, FunDef, Script, nodes, exps_nodes, stm_nodes, block_nodes, arms_nodes}
-use Rattle.sky_base.specs.Res.{Entry, parens_in, part_at, chain_first, chain_more, logic_at, prefix_part, star_wait, postfix_first, index_at, arg_at, call_open, exec_wait, set_part, add_part, put_index, put_value, return_part, just_part, arm_test, while_test, while_body, repeat_body, repeat_test, for_list, for_body, block_at, node_of, step_of, kept_of, opens}
+use Rattle.sky_base.specs.Tree.{Place, nowhere, Junction, SignAt, Form, Exp, Exps, Links, Ands, Steps, Stm, Stms, Arms, Else, FunDef, Script, nodes}
+use Rattle.sky_base.specs.Tree.{exps_nodes, stm_nodes, block_nodes, arms_nodes}
+use Rattle.sky_base.specs.Res.{Entry, parens_in, part_at, chain_first, chain_more, logic_at, prefix_part, star_wait, postfix_first, index_at, arg_at}
+use Rattle.sky_base.specs.Res.{call_open, exec_wait, set_part, add_part, put_index, put_value, return_part, just_part, arm_test, while_test}
+use Rattle.sky_base.specs.Res.{while_body, repeat_body, repeat_test, for_list, for_body, block_at, node_of, step_of, kept_of, opens}
 
 pub data Node : Type 0 where
   exp_node : Exp → Node
@@ -228,9 +231,12 @@ module _ (at : ℕ → Option Node) where
     HasStm (Stm.return p e) n = (at n ≡ Some (stm_node (Stm.return p e))) × HasExp e (n + 1)
     HasStm (Stm.leave p) n = at n ≡ Some (stm_node (Stm.leave p))
     HasStm (Stm.cases p arms els) n = (at n ≡ Some (stm_node (Stm.cases p arms els))) × HasArms arms (n + 1) × HasElse els (n + 1 + arms_nodes arms)
-    HasStm (Stm.while p e b) n = (at n ≡ Some (stm_node (Stm.while p e b))) × HasExp e (n + 1) × (at (n + 1 + nodes e) ≡ Some (block_node b)) × HasStms b (n + 1 + nodes e + 1)
-    HasStm (Stm.repeat p b e) n = (at n ≡ Some (stm_node (Stm.repeat p b e))) × HasExp e (n + 1 + block_nodes b) × (at (n + 1) ≡ Some (block_node b)) × HasStms b (n + 1 + 1)
-    HasStm (Stm.for p x e b) n = (at n ≡ Some (stm_node (Stm.for p x e b))) × HasExp e (n + 1) × (at (n + 1 + nodes e) ≡ Some (block_node b)) × HasStms b (n + 1 + nodes e + 1)
+    HasStm (Stm.while p e b) n = (at n ≡ Some (stm_node (Stm.while p e b))) × HasExp e (n + 1) × (at (n + 1 + nodes e) ≡ Some (block_node b))
+        × HasStms b (n + 1 + nodes e + 1)
+    HasStm (Stm.repeat p b e) n = (at n ≡ Some (stm_node (Stm.repeat p b e))) × HasExp e (n + 1 + block_nodes b)
+        × (at (n + 1) ≡ Some (block_node b)) × HasStms b (n + 1 + 1)
+    HasStm (Stm.for p x e b) n = (at n ≡ Some (stm_node (Stm.for p x e b))) × HasExp e (n + 1) × (at (n + 1 + nodes e) ≡ Some (block_node b))
+        × HasStms b (n + 1 + nodes e + 1)
     HasStm (Stm.just p e) n = (at n ≡ Some (stm_node (Stm.just p e))) × HasExp e (n + 1)
 
     pub HasStms : Stms → ℕ → Type 0
@@ -239,7 +245,8 @@ module _ (at : ℕ → Option Node) where
 
     pub HasArms : Arms → ℕ → Type 0
     HasArms Arms.no_arms m = Unit {0}
-    HasArms (Arms.arm p e b arms) m = HasExp e m × (at (m + nodes e) ≡ Some (block_node b)) × HasStms b (m + nodes e + 1) × HasArms arms (m + nodes e + block_nodes b)
+    HasArms (Arms.arm p e b arms) m = HasExp e m × (at (m + nodes e) ≡ Some (block_node b)) × HasStms b (m + nodes e + 1)
+        × HasArms arms (m + nodes e + block_nodes b)
 
     pub HasElse : Else → ℕ → Type 0
     HasElse Else.no_else n = Unit {0}

@@ -1,7 +1,8 @@
 -- Values that keep the limits of depth and size and name functions of the script alone, with all that they refer to.
 use Rattle.sky_base.specs.See as see
 use Rattle.std.specs.Prelude.{◌≡◌, ℕ, ◌≤◌, ◌<◌, List, [], true, Option, Some, None, Ok, Err, IsSome, ◌⊎◌, length}
-use Rattle.sky_base.specs.Val.{Val, Vals, Pairs, Desc, null, truth, num, text, list, dict, fun, ref, no_vals, val, no_pairs, pair, call, out, input, known, count}
+use Rattle.sky_base.specs.Val.{Val, Vals, Pairs, Desc, null, truth, num, text, list, dict, fun, ref, no_vals, val, no_pairs, pair, call, out, input}
+use Rattle.sky_base.specs.Val.{known, count}
 use Rattle.sky_base.specs.Op.{Answer}
 use Rattle.sky_base.specs.Tree.{FunDef, Script}
 use Rattle.sky_base.specs.Eval.{find_fun, is_one_of, most_outputs}

@@ -1,6 +1,8 @@
 //! Laws of what a job means. Each is the contract of a function that does nothing.
 
-ghost use Rattle.sky_law.specs.Laws.{ActsGrow, AnswerStays, CircleNever, EndedStays, MadeIsSound, MadeIsTyped, MadeTogether, NeededIsSound, NeededIsTyped, OneAnswer, OneHeld, OneState, OneWait, RunsOn, SeenIsSound, SeenIsTyped, SeenStays, StateIsSound, StateIsTyped, WaitedIsSeen, WaitedIsSound, WaitedIsTyped, WaitsApart, WaveIsSound, WaveIsTyped, WorkIsFinite};
+ghost use Rattle.sky_law.specs.Laws.{ActsGrow, AnswerStays, CircleNever, EndedStays, MadeIsSound, MadeIsTyped, MadeTogether, NeededIsSound};
+ghost use Rattle.sky_law.specs.Laws.{NeededIsTyped, OneAnswer, OneHeld, OneState, OneWait, RunsOn, SeenIsSound, SeenIsTyped, SeenStays, StateIsSound};
+ghost use Rattle.sky_law.specs.Laws.{StateIsTyped, WaitedIsSeen, WaitedIsSound, WaitedIsTyped, WaitsApart, WaveIsSound, WaveIsTyped, WorkIsFinite};
 ghost use Rattle.sky_law.specs.NamesLaws.{CallsAlike, DistinctAlike, OperatorsAlike, RefsAlike, RestsAlike, StacksAlike, Tag};
 
 /// A job means at most one answer.

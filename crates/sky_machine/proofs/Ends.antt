@@ -13,11 +13,13 @@ use Rattle.sky_entries.specs.declared.entry.Entry as rust
 
 module _ (w : World (List ℕ)) where
   -- a wait shows all the forms under way
-  pub plug_ask : (fr : List Form) (d : ℕ) (q : Wait (List ℕ)) (st : Vars) (k : List (Object (List ℕ)) → Run) → plug w d fr (Ask q [] st k) ≡ Ask q fr st (λ os. plug w d fr (k os))
+  pub plug_ask : (fr : List Form) (d : ℕ) (q : Wait (List ℕ)) (st : Vars) (k : List (Object (List ℕ)) → Run) → plug w d fr (Ask q [] st k)
+      ≡ Ask q fr st (λ os. plug w d fr (k os))
   plug_ask [] d q st k = refl
   plug_ask (en ∷ fr) d q st k = ap (λ x. then_do x en (after w (body_at w d) en)) (plug_ask fr (inside w en d) q st k)
 
-  pub waits_so : (fr : List Form) (q : Wait (List ℕ)) (st : Vars) → first_halt (plug w others fr (ask w q st)) ≡ Some (record { wait = q; forms = fr; st = st })
+  pub waits_so : (fr : List Form) (q : Wait (List ℕ)) (st : Vars) → first_halt (plug w others fr (ask w q st))
+      ≡ Some (record { wait = q; forms = fr; st = st })
   waits_so fr q st = ap first_halt (plug_ask fr others q st (λ os. Fin (wait_end w q os) st))
 
   pub makes_none : (fr : List Form) (q : Wait (List ℕ)) (st : Vars) → segment (plug w others fr (ask w q st)) ≡ []

@@ -76,7 +76,9 @@ module _ (w : World (List ℕ)) (body : List ℕ → Pairs → Vals (List ℕ) �
   block_passes (InBlock.Block p) e st other undone = not_done _ e st undone
 
   -- a block that runs takes no value
-  pub block_got : (x : InBlock) (v : Val (List ℕ)) (st : Vars) → ((p : ArmTest) → x ≡ InBlock.Arm p → ⊥) → ((p : While) → x ≡ InBlock.WhileTest p → ⊥) → ((p : Repeat) → x ≡ InBlock.RepeatTest p → ⊥) → ((p : ForList) → x ≡ InBlock.ForList p → ⊥) → after w body (block_of x) (logic.End.got v) st ≡ Fin (logic.End.got v) st
+  pub block_got : (x : InBlock) (v : Val (List ℕ)) (st : Vars) → ((p : ArmTest) → x ≡ InBlock.Arm p → ⊥)
+      → ((p : While) → x ≡ InBlock.WhileTest p → ⊥) → ((p : Repeat) → x ≡ InBlock.RepeatTest p → ⊥) → ((p : ForList) → x ≡ InBlock.ForList p → ⊥)
+      → after w body (block_of x) (logic.End.got v) st ≡ Fin (logic.End.got v) st
   block_got (InBlock.Arm p) v st a b c d = absurd (a p refl)
   block_got (InBlock.WhileTest p) v st a b c d = absurd (b p refl)
   block_got (InBlock.WhileBody p) v st a b c d = refl
@@ -87,7 +89,9 @@ module _ (w : World (List ℕ)) (body : List ℕ → Pairs → Vals (List ℕ) �
   block_got (InBlock.Block p) v st a b c d = refl
 
   -- an expression of a statement doesn't end as a block does
-  pub block_goes : (x : InBlock) (st : Vars) → ((p : While) → x ≡ InBlock.WhileBody p → ⊥) → ((p : Repeat) → x ≡ InBlock.RepeatBody p → ⊥) → ((p : ForBody) → x ≡ InBlock.ForBody p → ⊥) → ((p : BlockAt) → x ≡ InBlock.Block p → ⊥) → after w body (block_of x) logic.End.goes st ≡ Fin logic.End.goes st
+  pub block_goes : (x : InBlock) (st : Vars) → ((p : While) → x ≡ InBlock.WhileBody p → ⊥) → ((p : Repeat) → x ≡ InBlock.RepeatBody p → ⊥)
+      → ((p : ForBody) → x ≡ InBlock.ForBody p → ⊥) → ((p : BlockAt) → x ≡ InBlock.Block p → ⊥) → after w body (block_of x) logic.End.goes st
+      ≡ Fin logic.End.goes st
   block_goes (InBlock.Arm p) st a b c d = refl
   block_goes (InBlock.WhileTest p) st a b c d = refl
   block_goes (InBlock.WhileBody p) st a b c d = absurd (a p refl)
@@ -97,19 +101,22 @@ module _ (w : World (List ℕ)) (body : List ℕ → Pairs → Vals (List ℕ) �
   block_goes (InBlock.ForBody p) st a b c d = absurd (c p refl)
   block_goes (InBlock.Block p) st a b c d = absurd (d p refl)
 
-  pub postfix_goes : (x : InPostfix) (st : Vars) → ((p : Open) → x ≡ InPostfix.Open p → ⊥) → after w body (postfix_of x) logic.End.goes st ≡ Fin logic.End.goes st
+  pub postfix_goes : (x : InPostfix) (st : Vars) → ((p : Open) → x ≡ InPostfix.Open p → ⊥) → after w body (postfix_of x) logic.End.goes st
+      ≡ Fin logic.End.goes st
   postfix_goes (InPostfix.First p) st other = refl
   postfix_goes (InPostfix.Index p) st other = refl
   postfix_goes (InPostfix.Arg p) st other = refl
   postfix_goes (InPostfix.Open p) st other = absurd (other p refl)
 
-  pub postfix_returned : (x : InPostfix) (v : Val (List ℕ)) (st : Vars) → ((p : Open) → x ≡ InPostfix.Open p → ⊥) → after w body (postfix_of x) (logic.End.returned v) st ≡ Fin (logic.End.returned v) st
+  pub postfix_returned : (x : InPostfix) (v : Val (List ℕ)) (st : Vars) → ((p : Open) → x ≡ InPostfix.Open p → ⊥)
+      → after w body (postfix_of x) (logic.End.returned v) st ≡ Fin (logic.End.returned v) st
   postfix_returned (InPostfix.First p) v st other = refl
   postfix_returned (InPostfix.Index p) v st other = refl
   postfix_returned (InPostfix.Arg p) v st other = refl
   postfix_returned (InPostfix.Open p) v st other = absurd (other p refl)
 
-  pub postfix_failed : (x : InPostfix) (f : Fault) (st : Vars) → ((p : Open) → x ≡ InPostfix.Open p → ⊥) → after w body (postfix_of x) (logic.End.failed f) st ≡ Fin (logic.End.failed f) st
+  pub postfix_failed : (x : InPostfix) (f : Fault) (st : Vars) → ((p : Open) → x ≡ InPostfix.Open p → ⊥)
+      → after w body (postfix_of x) (logic.End.failed f) st ≡ Fin (logic.End.failed f) st
   postfix_failed (InPostfix.First p) f st other = refl
   postfix_failed (InPostfix.Index p) f st other = refl
   postfix_failed (InPostfix.Arg p) f st other = refl
@@ -159,11 +166,13 @@ weigh_few (End.Failed f) = omega arith
 
 -- ---- it falls where a form ends
 
-pub value_out : (v : Value) (old new : ℕ) (es : List rust.Entry) (e : End) → new ≡ old → old ≤ visits → GoesOut (End.Got v) old es new es (Control.End e)
+pub value_out : (v : Value) (old new : ℕ) (es : List rust.Entry) (e : End) → new ≡ old → old ≤ visits
+    → GoesOut (End.Got v) old es new es (Control.End e)
 value_out v old new es e is within =
     let few = weigh_few e in (omega arith, omega arith, omega arith, omega arith)
 
-pub fault_out : (f : Fault) (old new : ℕ) (es : List rust.Entry) → new ≡ old → old ≤ visits → GoesOut (End.Failed f) old es new es (Control.End (End.Failed f))
+pub fault_out : (f : Fault) (old new : ℕ) (es : List rust.Entry) → new ≡ old → old ≤ visits
+    → GoesOut (End.Failed f) old es new es (Control.End (End.Failed f))
 fault_out f old new es is within = (omega arith, omega arith, omega arith, omega arith)
 
 pub same_out : (e : End) (old : ℕ) (es : List rust.Entry) → old ≤ visits → GoesOut e old es old es (Control.End e)

@@ -15,14 +15,17 @@ use Rattle.sky_entries.specs.declared.control.End.{End}
 use Rattle.sky_entries.specs.declared.control.Control.{Control}
 use Rattle.sky_entries.specs.declared.entry.Entry as rust
 
-pub popped : (w : World (List ℕ)) (es mid : List rust.Entry) (en : rust.Entry) (e : End) (st : Vars) → es ≡ mid ++ en ∷ [] → rest_in w mid (goes_on w (forms mid) (entry_of en) (end_of e) st) ≡ config w es (Control.End e) st
+pub popped : (w : World (List ℕ)) (es mid : List rust.Entry) (en : rust.Entry) (e : End) (st : Vars) → es ≡ mid ++ en ∷ []
+    → rest_in w mid (goes_on w (forms mid) (entry_of en) (end_of e) st) ≡ config w es (Control.End e) st
 popped w es mid en e st is =
     sym (ap (λ xs. rest_in w xs (Fin (end_of e) st)) is ∙ rest_push w mid en (Fin (end_of e) st))
 
-pub popped_ready : (sc : Script) (es mid : List rust.Entry) (en : rust.Entry) → es ≡ mid ++ en ∷ [] → AllReady sc es → AllReady sc mid × Ready sc (entry_of en)
+pub popped_ready : (sc : Script) (es mid : List rust.Entry) (en : rust.Entry) → es ≡ mid ++ en ∷ [] → AllReady sc es → AllReady sc mid
+    × Ready sc (entry_of en)
 popped_ready sc es mid en is h = ready_pop sc mid en (subst (AllReady sc) is h)
 
-pub popped_room : (es mid : List rust.Entry) (en : rust.Entry) (left : ℕ) → es ≡ mid ++ en ∷ [] → opened (forms es) + left ≡ others → opened (forms mid) + (opened (entry_of en ∷ []) + left) ≡ others
+pub popped_room : (es mid : List rust.Entry) (en : rust.Entry) (left : ℕ) → es ≡ mid ++ en ∷ [] → opened (forms es) + left ≡ others
+    → opened (forms mid) + (opened (entry_of en ∷ []) + left) ≡ others
 popped_room es mid en left is h =
     let both = ap (λ xs. opened (forms xs)) is ∙ opened_push mid en in omega (arith, both, h)
 

@@ -22,6 +22,7 @@ module _ (digest : List ℕ → List ℕ) (old new : List Named) (x r : Run) (sa
   pub grew_so : segment x ≡ [] → Grew digest old new r
   grew_so none =
       record {
-        descs = sym (append-nil (descs new)) ∙ ap (λ ds. descs new ++ ds) (sym none) ∙ sym (segment_told (descs new) x) ∙ ap (λ p. segment p.0) same ∙ segment_told (descs old) r;
+        descs = sym (append-nil (descs new)) ∙ ap (λ ds. descs new ++ ds) (sym none) ∙ sym (segment_told (descs new) x)
+            ∙ ap (λ p. segment p.0) same ∙ segment_told (descs old) r;
         names = sym (append-nil (names new)) ∙ ap (λ ds. names new ++ map (digested digest) ds) (sym none) ∙ ap (λ p. p.1) same;
       }

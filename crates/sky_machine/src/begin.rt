@@ -43,7 +43,10 @@ pub fn begin<'a, 'b, N: Namer>(
     requires ready { AllReady ground.now.code.now entries.old.items }
     requires has { HasExp (λ i. node_at ground.now.code.now i) (exp_view e.now) node }
     requires within { state.old.count ≤ visits }
-    ensures same { IfOk result (λ c. (w : World (List ℕ)) → RunsOn w ground.now.code.now (N.digest ground.now.namer.now) → whole (N.digest ground.now.namer.now) made.new.items (config w entries.new.items c state.new) ≡ whole (N.digest ground.now.namer.now) made.old.items (rest_in w entries.old.items (eval w (body_in w (forms entries.old.items)) (exp_view e.entry.now) node state.old))) }
+    ensures same { IfOk result (λ c. (w : World (List ℕ)) → RunsOn w ground.now.code.now (N.digest ground.now.namer.now)
+        → whole (N.digest ground.now.namer.now) made.new.items (config w entries.new.items c state.new)
+        ≡ whole (N.digest ground.now.namer.now) made.old.items
+        (rest_in w entries.old.items (eval w (body_in w (forms entries.old.items)) (exp_view e.entry.now) node state.old))) }
     ensures ready { IfOk result (λ c. AllReady ground.now.code.now entries.new.items) }
     ensures goes { IfOk result (λ c. Goes ground.now.code.now c) }
     ensures opened { IfOk result (λ c. opened (forms entries.new.items) ≡ opened (forms entries.old.items)) }

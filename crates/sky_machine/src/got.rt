@@ -57,7 +57,11 @@ fn got_form<'a, 'b, N: Namer>(
     requires entry { Ready ground.now.code.now (entry_of (Entry.Form form)) }
     requires kept { Kept (view v) }
     requires within { state.old.count ≤ visits }
-    ensures same { IfOk result (λ c. (w : World (List ℕ)) → RunsOn w ground.now.code.now (N.digest ground.now.namer.now) → whole (N.digest ground.now.namer.now) made.new.items (config w entries.new.items c state.new) ≡ whole (N.digest ground.now.namer.now) made.old.items (rest_in w entries.old.items (goes_on w (forms entries.old.items) (entry_of (Entry.Form form.entry)) (logic.End.got (view v)) state.old))) }
+    ensures same { IfOk result (λ c. (w : World (List ℕ)) → RunsOn w ground.now.code.now (N.digest ground.now.namer.now)
+        → whole (N.digest ground.now.namer.now) made.new.items (config w entries.new.items c state.new)
+        ≡ whole (N.digest ground.now.namer.now) made.old.items
+        (rest_in w entries.old.items (goes_on w (forms entries.old.items) (entry_of (Entry.Form form.entry)) (logic.End.got (view v))
+        state.old))) }
     ensures ready { IfOk result (λ c. AllReady ground.now.code.now entries.new.items) }
     ensures goes { IfOk result (λ c. Goes ground.now.code.now c) }
     ensures opened { IfOk result (λ c. opened (forms entries.new.items) ≡ opened (forms entries.old.items)) }
@@ -127,7 +131,9 @@ fn got_postfix<'a, 'b, N: Namer>(
     requires room { opened (forms entries.old.items) + (opened (entry_of (Entry.Postfix postfix) ∷ []) + left.old) ≡ others }
     requires kept { Kept (view v) }
     requires within { state.old.count ≤ visits }
-    ensures same { IfOk result (λ c. (w : World (List ℕ)) → w.script ≡ ground.now.code.now → config w entries.new.items c state.new ≡ rest_in w entries.old.items (goes_on w (forms entries.old.items) (entry_of (Entry.Postfix postfix.entry)) (logic.End.got (view v)) state.old)) }
+    ensures same { IfOk result (λ c. (w : World (List ℕ)) → w.script ≡ ground.now.code.now → config w entries.new.items c state.new
+        ≡ rest_in w entries.old.items (goes_on w (forms entries.old.items) (entry_of (Entry.Postfix postfix.entry)) (logic.End.got (view v))
+        state.old)) }
     ensures ready { IfOk result (λ c. AllReady ground.now.code.now entries.new.items) }
     ensures goes { IfOk result (λ c. Goes ground.now.code.now c) }
     ensures room { IfOk result (λ c. opened (forms entries.new.items) + left.new ≡ others) }
@@ -179,7 +185,9 @@ fn got_stmt<'a, 'b, N: Namer>(
     requires entry { Ready ground.now.code.now (entry_of (Entry.Stmt stmt)) }
     requires kept { Kept (view v) }
     requires within { state.old.count ≤ visits }
-    ensures same { IfOk result (λ c. (w : World (List ℕ)) → w.script ≡ ground.now.code.now → config w entries.new.items c state.new ≡ rest_in w entries.old.items (goes_on w (forms entries.old.items) (entry_of (Entry.Stmt stmt.entry)) (logic.End.got (view v)) state.old)) }
+    ensures same { IfOk result (λ c. (w : World (List ℕ)) → w.script ≡ ground.now.code.now → config w entries.new.items c state.new
+        ≡ rest_in w entries.old.items (goes_on w (forms entries.old.items) (entry_of (Entry.Stmt stmt.entry)) (logic.End.got (view v))
+        state.old)) }
     ensures ready { IfOk result (λ c. AllReady ground.now.code.now entries.new.items) }
     ensures goes { IfOk result (λ c. Goes ground.now.code.now c) }
     ensures opened { IfOk result (λ c. opened (forms entries.new.items) ≡ opened (forms entries.old.items)) }
@@ -210,7 +218,9 @@ fn got_block<'a, 'b, N: Namer>(
     requires entry { Ready ground.now.code.now (entry_of (Entry.Block block)) }
     requires kept { Kept (view v) }
     requires within { state.old.count ≤ visits }
-    ensures same { IfOk result (λ c. (w : World (List ℕ)) → w.script ≡ ground.now.code.now → config w entries.new.items c state.new ≡ rest_in w entries.old.items (goes_on w (forms entries.old.items) (entry_of (Entry.Block block.entry)) (logic.End.got (view v)) state.old)) }
+    ensures same { IfOk result (λ c. (w : World (List ℕ)) → w.script ≡ ground.now.code.now → config w entries.new.items c state.new
+        ≡ rest_in w entries.old.items (goes_on w (forms entries.old.items) (entry_of (Entry.Block block.entry)) (logic.End.got (view v))
+        state.old)) }
     ensures ready { IfOk result (λ c. AllReady ground.now.code.now entries.new.items) }
     ensures goes { IfOk result (λ c. Goes ground.now.code.now c) }
     ensures opened { IfOk result (λ c. opened (forms entries.new.items) ≡ opened (forms entries.old.items)) }
@@ -250,7 +260,8 @@ fn goes_postfix<'a, 'b, N: Namer>(
     requires entry { Ready ground.now.code.now (entry_of (Entry.Postfix postfix)) }
     requires room { opened (forms entries.old.items) + (opened (entry_of (Entry.Postfix postfix) ∷ []) + left.old) ≡ others }
     requires within { state.old.count ≤ visits }
-    ensures same { IfOk result (λ c. (w : World (List ℕ)) → w.script ≡ ground.now.code.now → config w entries.new.items c state.new ≡ rest_in w entries.old.items (goes_on w (forms entries.old.items) (entry_of (Entry.Postfix postfix.entry)) logic.End.goes state.old)) }
+    ensures same { IfOk result (λ c. (w : World (List ℕ)) → w.script ≡ ground.now.code.now → config w entries.new.items c state.new
+        ≡ rest_in w entries.old.items (goes_on w (forms entries.old.items) (entry_of (Entry.Postfix postfix.entry)) logic.End.goes state.old)) }
     ensures ready { IfOk result (λ c. AllReady ground.now.code.now entries.new.items) }
     ensures goes { IfOk result (λ c. Goes ground.now.code.now c) }
     ensures room { IfOk result (λ c. opened (forms entries.new.items) + left.new ≡ others) }
@@ -280,7 +291,9 @@ fn returned_postfix<'a, 'b, N: Namer>(
     requires room { opened (forms entries.old.items) + (opened (entry_of (Entry.Postfix postfix) ∷ []) + left.old) ≡ others }
     requires kept { Kept (view v) }
     requires within { state.old.count ≤ visits }
-    ensures same { IfOk result (λ c. (w : World (List ℕ)) → w.script ≡ ground.now.code.now → config w entries.new.items c state.new ≡ rest_in w entries.old.items (goes_on w (forms entries.old.items) (entry_of (Entry.Postfix postfix.entry)) (logic.End.returned (view v)) state.old)) }
+    ensures same { IfOk result (λ c. (w : World (List ℕ)) → w.script ≡ ground.now.code.now → config w entries.new.items c state.new
+        ≡ rest_in w entries.old.items (goes_on w (forms entries.old.items) (entry_of (Entry.Postfix postfix.entry)) (logic.End.returned (view v))
+        state.old)) }
     ensures ready { IfOk result (λ c. AllReady ground.now.code.now entries.new.items) }
     ensures goes { IfOk result (λ c. Goes ground.now.code.now c) }
     ensures room { IfOk result (λ c. opened (forms entries.new.items) + left.new ≡ others) }
@@ -299,7 +312,8 @@ fn returned_postfix<'a, 'b, N: Namer>(
 /// Indices and calls where a part failed: they fail too, and a call has its caller's variables again.
 fn leave<'a>(state: &mut State, left: &mut u32, postfix: InPostfix<'a>)
     requires room { opened (entry_of (Entry.Postfix postfix) ∷ []) + left.old ≤ others }
-    ensures same { (w : World (List ℕ)) (fr : List Form) (f : Fault) → Fin (logic.End.failed f) state.new ≡ goes_on w fr (entry_of (Entry.Postfix postfix.entry)) (logic.End.failed f) state.old }
+    ensures same { (w : World (List ℕ)) (fr : List Form) (f : Fault) → Fin (logic.End.failed f) state.new
+        ≡ goes_on w fr (entry_of (Entry.Postfix postfix.entry)) (logic.End.failed f) state.old }
     ensures room { left.new ≡ opened (entry_of (Entry.Postfix postfix.entry) ∷ []) + left.old }
     ensures count { state.new.count ≡ state.old.count }
 {
@@ -327,7 +341,8 @@ fn finish_postfix<'a, 'b, N: Namer>(
     requires room { opened (forms entries.old.items) + (opened (entry_of (Entry.Postfix postfix) ∷ []) + left.old) ≡ others }
     requires end { EndReady end }
     requires within { state.old.count ≤ visits }
-    ensures same { IfOk result (λ c. (w : World (List ℕ)) → w.script ≡ ground.now.code.now → config w entries.new.items c state.new ≡ rest_in w entries.old.items (goes_on w (forms entries.old.items) (entry_of (Entry.Postfix postfix.entry)) (end_of end) state.old)) }
+    ensures same { IfOk result (λ c. (w : World (List ℕ)) → w.script ≡ ground.now.code.now → config w entries.new.items c state.new
+        ≡ rest_in w entries.old.items (goes_on w (forms entries.old.items) (entry_of (Entry.Postfix postfix.entry)) (end_of end) state.old)) }
     ensures ready { IfOk result (λ c. AllReady ground.now.code.now entries.new.items) }
     ensures goes { IfOk result (λ c. Goes ground.now.code.now c) }
     ensures room { IfOk result (λ c. opened (forms entries.new.items) + left.new ≡ others) }
@@ -366,7 +381,10 @@ fn finish_form<'a, 'b, N: Namer>(
     requires entry { Ready ground.now.code.now (entry_of (Entry.Form form)) }
     requires end { EndReady end }
     requires within { state.old.count ≤ visits }
-    ensures same { IfOk result (λ c. (w : World (List ℕ)) → RunsOn w ground.now.code.now (N.digest ground.now.namer.now) → whole (N.digest ground.now.namer.now) made.new.items (config w entries.new.items c state.new) ≡ whole (N.digest ground.now.namer.now) made.old.items (rest_in w entries.old.items (goes_on w (forms entries.old.items) (entry_of (Entry.Form form.entry)) (end_of end) state.old))) }
+    ensures same { IfOk result (λ c. (w : World (List ℕ)) → RunsOn w ground.now.code.now (N.digest ground.now.namer.now)
+        → whole (N.digest ground.now.namer.now) made.new.items (config w entries.new.items c state.new)
+        ≡ whole (N.digest ground.now.namer.now) made.old.items
+        (rest_in w entries.old.items (goes_on w (forms entries.old.items) (entry_of (Entry.Form form.entry)) (end_of end) state.old))) }
     ensures ready { IfOk result (λ c. AllReady ground.now.code.now entries.new.items) }
     ensures goes { IfOk result (λ c. Goes ground.now.code.now c) }
     ensures opened { IfOk result (λ c. opened (forms entries.new.items) ≡ opened (forms entries.old.items)) }
@@ -393,7 +411,8 @@ fn finish_stmt<'a, 'b, N: Namer>(
     requires entry { Ready ground.now.code.now (entry_of (Entry.Stmt stmt)) }
     requires end { EndReady end }
     requires within { state.old.count ≤ visits }
-    ensures same { IfOk result (λ c. (w : World (List ℕ)) → w.script ≡ ground.now.code.now → config w entries.new.items c state.new ≡ rest_in w entries.old.items (goes_on w (forms entries.old.items) (entry_of (Entry.Stmt stmt.entry)) (end_of end) state.old)) }
+    ensures same { IfOk result (λ c. (w : World (List ℕ)) → w.script ≡ ground.now.code.now → config w entries.new.items c state.new
+        ≡ rest_in w entries.old.items (goes_on w (forms entries.old.items) (entry_of (Entry.Stmt stmt.entry)) (end_of end) state.old)) }
     ensures ready { IfOk result (λ c. AllReady ground.now.code.now entries.new.items) }
     ensures goes { IfOk result (λ c. Goes ground.now.code.now c) }
     ensures opened { IfOk result (λ c. opened (forms entries.new.items) ≡ opened (forms entries.old.items)) }
@@ -418,7 +437,8 @@ fn goes_block<'a, 'b, N: Namer>(
     requires ready { AllReady ground.now.code.now entries.old.items }
     requires entry { Ready ground.now.code.now (entry_of (Entry.Block block)) }
     requires within { state.old.count ≤ visits }
-    ensures same { IfOk result (λ c. (w : World (List ℕ)) → w.script ≡ ground.now.code.now → config w entries.new.items c state.new ≡ rest_in w entries.old.items (goes_on w (forms entries.old.items) (entry_of (Entry.Block block.entry)) logic.End.goes state.old)) }
+    ensures same { IfOk result (λ c. (w : World (List ℕ)) → w.script ≡ ground.now.code.now → config w entries.new.items c state.new
+        ≡ rest_in w entries.old.items (goes_on w (forms entries.old.items) (entry_of (Entry.Block block.entry)) logic.End.goes state.old)) }
     ensures ready { IfOk result (λ c. AllReady ground.now.code.now entries.new.items) }
     ensures goes { IfOk result (λ c. Goes ground.now.code.now c) }
     ensures opened { IfOk result (λ c. opened (forms entries.new.items) ≡ opened (forms entries.old.items)) }
@@ -458,7 +478,8 @@ fn finish_block<'a, 'b, N: Namer>(
     requires entry { Ready ground.now.code.now (entry_of (Entry.Block block)) }
     requires end { EndReady end }
     requires within { state.old.count ≤ visits }
-    ensures same { IfOk result (λ c. (w : World (List ℕ)) → w.script ≡ ground.now.code.now → config w entries.new.items c state.new ≡ rest_in w entries.old.items (goes_on w (forms entries.old.items) (entry_of (Entry.Block block.entry)) (end_of end) state.old)) }
+    ensures same { IfOk result (λ c. (w : World (List ℕ)) → w.script ≡ ground.now.code.now → config w entries.new.items c state.new
+        ≡ rest_in w entries.old.items (goes_on w (forms entries.old.items) (entry_of (Entry.Block block.entry)) (end_of end) state.old)) }
     ensures ready { IfOk result (λ c. AllReady ground.now.code.now entries.new.items) }
     ensures goes { IfOk result (λ c. Goes ground.now.code.now c) }
     ensures opened { IfOk result (λ c. opened (forms entries.new.items) ≡ opened (forms entries.old.items)) }
@@ -492,7 +513,10 @@ pub fn finish<'a, 'b, N: Namer>(
     requires room { opened (forms entries.old.items) + (opened (entry_of entry ∷ []) + left.old) ≡ others }
     requires end { EndReady end }
     requires within { state.old.count ≤ visits }
-    ensures same { IfOk result (λ c. (w : World (List ℕ)) → RunsOn w ground.now.code.now (N.digest ground.now.namer.now) → whole (N.digest ground.now.namer.now) made.new.items (config w entries.new.items c state.new) ≡ whole (N.digest ground.now.namer.now) made.old.items (rest_in w entries.old.items (goes_on w (forms entries.old.items) (entry_of entry.entry) (end_of end) state.old))) }
+    ensures same { IfOk result (λ c. (w : World (List ℕ)) → RunsOn w ground.now.code.now (N.digest ground.now.namer.now)
+        → whole (N.digest ground.now.namer.now) made.new.items (config w entries.new.items c state.new)
+        ≡ whole (N.digest ground.now.namer.now) made.old.items
+        (rest_in w entries.old.items (goes_on w (forms entries.old.items) (entry_of entry.entry) (end_of end) state.old))) }
     ensures ready { IfOk result (λ c. AllReady ground.now.code.now entries.new.items) }
     ensures goes { IfOk result (λ c. Goes ground.now.code.now c) }
     ensures room { IfOk result (λ c. opened (forms entries.new.items) + left.new ≡ others) }

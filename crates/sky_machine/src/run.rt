@@ -53,12 +53,15 @@ fn begun<'a, 'b, N: Namer>(
     requires ready { AllReady ground.now.code.now entries.old.items }
     requires goes { Goes ground.now.code.now (Control.Begin node e) }
     requires within { state.old.count ≤ visits }
-    ensures same { IfOk result (λ c. (w : World (List ℕ)) → RunsOn w ground.now.code.now (N.digest ground.now.namer.now) → whole (N.digest ground.now.namer.now) made.new.items (config w entries.new.items c state.new) ≡ whole (N.digest ground.now.namer.now) made.old.items (config w entries.old.items (Control.Begin node e.entry) state.old)) }
+    ensures same { IfOk result (λ c. (w : World (List ℕ)) → RunsOn w ground.now.code.now (N.digest ground.now.namer.now)
+        → whole (N.digest ground.now.namer.now) made.new.items (config w entries.new.items c state.new)
+        ≡ whole (N.digest ground.now.namer.now) made.old.items (config w entries.old.items (Control.Begin node e.entry) state.old)) }
     ensures ready { IfOk result (λ c. AllReady ground.now.code.now entries.new.items) }
     ensures goes { IfOk result (λ c. Goes ground.now.code.now c) }
     ensures opened { IfOk result (λ c. opened (forms entries.new.items) ≡ opened (forms entries.old.items)) }
     ensures within { IfOk result (λ c. state.new.count ≤ visits) }
-    ensures falls { IfOk result (λ c. work (length (pre_script ground.now.code.now)) entries.new.items c state.new.count < work (length (pre_script ground.now.code.now)) entries.old.items (Control.Begin node e.entry) state.old.count) }
+    ensures falls { IfOk result (λ c. work (length (pre_script ground.now.code.now)) entries.new.items c state.new.count < work
+        (length (pre_script ground.now.code.now)) entries.old.items (Control.Begin node e.entry) state.old.count) }
 {
     let next = begin(ground, state, made, entries, node, e)?;
     Ok(next)
@@ -76,12 +79,14 @@ fn done<'a>(
     requires ready { AllReady code.now entries.old.items }
     requires goes { Goes code.now (Control.Do node stmt) }
     requires within { state.old.count ≤ visits }
-    ensures same { IfOk result (λ c. (w : World (List ℕ)) → w.script ≡ code.now → config w entries.new.items c state.new ≡ config w entries.old.items (Control.Do node stmt.entry) state.old) }
+    ensures same { IfOk result (λ c. (w : World (List ℕ)) → w.script ≡ code.now → config w entries.new.items c state.new
+        ≡ config w entries.old.items (Control.Do node stmt.entry) state.old) }
     ensures ready { IfOk result (λ c. AllReady code.now entries.new.items) }
     ensures goes { IfOk result (λ c. Goes code.now c) }
     ensures opened { IfOk result (λ c. opened (forms entries.new.items) ≡ opened (forms entries.old.items)) }
     ensures within { IfOk result (λ c. state.new.count ≤ visits) }
-    ensures falls { IfOk result (λ c. work (length (pre_script code.now)) entries.new.items c state.new.count < work (length (pre_script code.now)) entries.old.items (Control.Do node stmt.entry) state.old.count) }
+    ensures falls { IfOk result (λ c. work (length (pre_script code.now)) entries.new.items c state.new.count < work
+        (length (pre_script code.now)) entries.old.items (Control.Do node stmt.entry) state.old.count) }
 {
     match stmt_end(alloc, code, state, node, stmt)? {
         Some(end) => Ok(Control::End(end)),
@@ -106,12 +111,15 @@ fn ended<'a, 'b, N: Namer>(
     requires goes { Goes ground.now.code.now (Control.End end) }
     requires room { opened (forms entries.old.items) + left.old ≡ others }
     requires within { state.old.count ≤ visits }
-    ensures same { IfOk result (λ c. (w : World (List ℕ)) → RunsOn w ground.now.code.now (N.digest ground.now.namer.now) → whole (N.digest ground.now.namer.now) made.new.items (config w entries.new.items c state.new) ≡ whole (N.digest ground.now.namer.now) made.old.items (config w entries.old.items (Control.End end) state.old)) }
+    ensures same { IfOk result (λ c. (w : World (List ℕ)) → RunsOn w ground.now.code.now (N.digest ground.now.namer.now)
+        → whole (N.digest ground.now.namer.now) made.new.items (config w entries.new.items c state.new)
+        ≡ whole (N.digest ground.now.namer.now) made.old.items (config w entries.old.items (Control.End end) state.old)) }
     ensures ready { IfOk result (λ c. AllReady ground.now.code.now entries.new.items) }
     ensures goes { IfOk result (λ c. Goes ground.now.code.now c) }
     ensures room { IfOk result (λ c. opened (forms entries.new.items) + left.new ≡ others) }
     ensures within { IfOk result (λ c. state.new.count ≤ visits) }
-    ensures falls { IfOk result (λ c. work (length (pre_script ground.now.code.now)) entries.new.items c state.new.count < work (length (pre_script ground.now.code.now)) entries.old.items (Control.End end) state.old.count) }
+    ensures falls { IfOk result (λ c. work (length (pre_script ground.now.code.now)) entries.new.items c state.new.count < work
+        (length (pre_script ground.now.code.now)) entries.old.items (Control.End end) state.old.count) }
 {
     match pop(entries) {
         None => Ok(Control::End(end)),
@@ -135,8 +143,10 @@ pub fn run_on<'a, 'b, N: Namer>(
     requires goes { Goes ground.now.code.now control }
     requires room { opened (forms entries.old.items) + left.old ≡ others }
     requires within { state.old.count ≤ visits }
-    ensures reaches { IfOk result (λ s. (w : World (List ℕ)) → RunsOn w ground.now.code.now (N.digest ground.now.namer.now) → Reaches (config w entries.old.items control.entry state.old) s (forms entries.new.items) state.new) }
-    ensures made { IfOk result (λ s. (w : World (List ℕ)) → RunsOn w ground.now.code.now (N.digest ground.now.namer.now) → Grew (N.digest ground.now.namer.now) made.old.items made.new.items (config w entries.old.items control.entry state.old)) }
+    ensures reaches { IfOk result (λ s. (w : World (List ℕ)) → RunsOn w ground.now.code.now (N.digest ground.now.namer.now)
+        → Reaches (config w entries.old.items control.entry state.old) s (forms entries.new.items) state.new) }
+    ensures made { IfOk result (λ s. (w : World (List ℕ)) → RunsOn w ground.now.code.now (N.digest ground.now.namer.now)
+        → Grew (N.digest ground.now.namer.now) made.old.items made.new.items (config w entries.old.items control.entry state.old)) }
     ensures ready { IfOk result (λ s. AllReady ground.now.code.now entries.new.items) }
     ensures kept { IfOk result StopReady }
     ensures room { IfOk result (λ s. opened (forms entries.new.items) + left.new ≡ others) }

@@ -44,7 +44,8 @@ pub fn start<'a>(
     requires none { entries.old.items ≡ [] }
     requires caught { KeptPairs caught.now }
     requires args { KeptVals args.now }
-    ensures same { IfOk result (λ c. (w : World (List ℕ)) → w.script ≡ code.now → config w entries.new.items c state.new ≡ body_at w bodies fun.now caught.now args.now nowhere start_st) }
+    ensures same { IfOk result (λ c. (w : World (List ℕ)) → w.script ≡ code.now → config w entries.new.items c state.new
+        ≡ body_at w bodies fun.now caught.now args.now nowhere start_st) }
     ensures ready { IfOk result (λ c. AllReady code.now entries.new.items) }
     ensures goes { IfOk result (λ c. Goes code.now c) }
     ensures opened { IfOk result (λ c. opened (forms entries.new.items) ≡ 0) }
@@ -73,8 +74,10 @@ pub fn run_call<'a, 'b, N: Namer>(
     requires none { entries.old.items ≡ [] }
     requires caught { KeptPairs caught.now }
     requires args { KeptVals args.now }
-    ensures reaches { IfOk result (λ s. (w : World (List ℕ)) → RunsOn w ground.now.code.now (N.digest ground.now.namer.now) → Reaches (body_at w bodies fun.now caught.now args.now nowhere start_st) s (forms entries.new.items) state.new) }
-    ensures made { IfOk result (λ s. (w : World (List ℕ)) → RunsOn w ground.now.code.now (N.digest ground.now.namer.now) → Grew (N.digest ground.now.namer.now) made.old.items made.new.items (body_at w bodies fun.now caught.now args.now nowhere start_st)) }
+    ensures reaches { IfOk result (λ s. (w : World (List ℕ)) → RunsOn w ground.now.code.now (N.digest ground.now.namer.now)
+        → Reaches (body_at w bodies fun.now caught.now args.now nowhere start_st) s (forms entries.new.items) state.new) }
+    ensures made { IfOk result (λ s. (w : World (List ℕ)) → RunsOn w ground.now.code.now (N.digest ground.now.namer.now)
+        → Grew (N.digest ground.now.namer.now) made.old.items made.new.items (body_at w bodies fun.now caught.now args.now nowhere start_st)) }
     ensures ready { IfOk result (λ s. AllReady ground.now.code.now entries.new.items) }
     ensures kept { IfOk result StopReady }
     ensures within { IfOk result (λ s. state.new.count ≤ visits) }

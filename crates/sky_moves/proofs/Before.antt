@@ -1,10 +1,12 @@
 -- What a task waited for before it came to a wait is seen.
-use Rattle.std.proofs.Common.{◌⊎◌, inl, inr, ◌≡◌, ◌≢◌, ℕ, zero, suc, ◌<◌, ◌≤◌, List, [], ◌∷◌, Bool, true, false, nat_le, Option, Some, None, Result, slice_get, refl, sym, ap, ◌∙◌, subst, arith}
+use Rattle.std.proofs.Common.{◌⊎◌, inl, inr, ◌≡◌, ◌≢◌, ℕ, zero, suc, ◌<◌, ◌≤◌, List, [], ◌∷◌, Bool, true, false, nat_le, Option, Some, None, Result}
+use Rattle.std.proofs.Common.{slice_get, refl, sym, ap, ◌∙◌, subst, arith}
 use Rattle.sky_base.specs.Val as v
 use Rattle.sky_base.specs.Val.{null, truth, num, text, list, dict, fun, ref, call, out, input, known, refs, vals_refs, pairs_refs}
 use Rattle.sky_base.specs.Res.{Object, Res, Fin, Tell, Ask}
 use Rattle.sky_base.specs.Read.{Halt, refs_of, joined, see_all, halts_seen, acts_seen, acts, halt}
-use Rattle.sky_base.specs.See.{Val, Desc, Obj, Job, Around, Answered, not_yet, gather_one, gather, as_value, see, Turn, next_value, lone, turn_all, turn_refs, turn, wave_on, turn_of, wave, run_of, main_call}
+use Rattle.sky_base.specs.See.{Val, Desc, Obj, Job, Around, Answered, not_yet, gather_one, gather, as_value, see, Turn, next_value, lone, turn_all}
+use Rattle.sky_base.specs.See.{turn_refs, turn, wave_on, turn_of, wave, run_of, main_call}
 use Rattle.sky_base.specs.Needed.{Task, State, halt_state, wave_state, wave_refs, only_if, unless_none, distinct_refs, stands_at, wait_at}
 use Rattle.sky_base.specs.declared.fault.Fault.{Fault}
 use Rattle.sky_law.specs.Tasks.{Each, waits_in}
@@ -24,15 +26,19 @@ module _ {N : Type 0} (see : v.Desc N → Option (Object N)) where
       (λ e. ne (ap (λ x. joined x (see_all see ds)) e), all_seen ds (λ e. ne (ap (joined (see d)) e ∙ join_none (see d))))
 
   -- of a run that comes to a wait
-  seen_on : {P : Type 0} (x : Option (List (Object N))) (k : List (Object N) → Res N) (j i : ℕ) (h : Halt N) (ds : List (v.Desc N)) → halts_seen x (λ os. halt see j (k os)) ≡ Some h → slice_get (waits_in (acts_seen x (λ os. acts see (k os)))) i ≡ Some ds → ((os : List (Object N)) → x ≡ Some os → halt see j (k os) ≡ Some h → slice_get (waits_in (acts see (k os))) i ≡ Some ds → P) → P
+  seen_on : {P : Type 0} (x : Option (List (Object N))) (k : List (Object N) → Res N) (j i : ℕ) (h : Halt N) (ds : List (v.Desc N))
+      → halts_seen x (λ os. halt see j (k os)) ≡ Some h → slice_get (waits_in (acts_seen x (λ os. acts see (k os)))) i ≡ Some ds
+      → ((os : List (Object N)) → x ≡ Some os → halt see j (k os) ≡ Some h → slice_get (waits_in (acts see (k os))) i ≡ Some ds → P) → P
   seen_on None k j i h ds e at g = absurd (none_some h e)
   seen_on (Some os) k j i h ds e at g = g os refl e at
 
-  came : (x : Option (List (Object N))) (k : List (Object N) → Res N) (j : ℕ) (h : Halt N) → halts_seen x (λ os. halt see j (k os)) ≡ Some h → x ≢ None
+  came : (x : Option (List (Object N))) (k : List (Object N) → Res N) (j : ℕ) (h : Halt N) → halts_seen x (λ os. halt see j (k os)) ≡ Some h
+      → x ≢ None
   came None k j h e = absurd (none_some h e)
   came (Some os) k j h e = λ q. cc
 
-  pub halt_seen : (r : Res N) (j i : ℕ) (h : Halt N) (ds : List (v.Desc N)) → i < j → halt see j r ≡ Some h → slice_get (waits_in (acts see r)) i ≡ Some ds → Each (λ d. see d ≢ None) ds
+  pub halt_seen : (r : Res N) (j i : ℕ) (h : Halt N) (ds : List (v.Desc N)) → i < j → halt see j r ≡ Some h → slice_get (waits_in (acts see r)) i
+      ≡ Some ds → Each (λ d. see d ≢ None) ds
   halt_seen (Fin e st) j i h ds lt s at = absurd (none_some h s)
   halt_seen (Tell d r) j i h ds lt s at = halt_seen r j i h ds lt s at
   halt_seen (Ask q fr st k) zero i h ds lt s at = absurd (omega (arith, lt))
@@ -46,8 +52,10 @@ module _ {N : Type 0} (see : v.Desc N → Option (Object N)) where
 module _ {A : Type 0} (turn_to : Obj → Result A Fault) (look : Desc → Option Obj) where
   gather_seen : (ds : List Desc) → gather look turn_to ds ≢ not_yet → Each (λ d. look d ≢ None) ds
   gather_seen [] ne = tt
-  gather_seen (d ∷ ds) ne =
-      (λ e. ne (ap (λ x. gather_one x turn_to (gather look turn_to ds)) e), gather_seen ds (λ e. ne (ap (gather_one (look d) turn_to) e ∙ one_none turn_to look (look d))))
+  gather_seen (d ∷ ds) ne = (
+    λ e. ne (ap (λ x. gather_one x turn_to (gather look turn_to ds)) e),
+    gather_seen ds (λ e. ne (ap (gather_one (look d) turn_to) e ∙ one_none turn_to look (look d))),
+  )
 
 module _ (job : Job) (around : Around) (n : ℕ) where
   all_turn : (a u : Val) → turn_all job around n a ≡ Turn.next u → AllSeen job around n (refs a)
@@ -82,10 +90,12 @@ module _ (job : Job) (around : Around) (n : ℕ) where
   unfolding wave
   next_is j = refl
 
-  before_one : (j : ℕ) (o : Option Val) (a u : Val) → wave job around n j ≡ o → o ≡ Some a → wave job around n (suc j) ≡ Some u → AllSeen job around n (refs a)
+  before_one : (j : ℕ) (o : Option Val) (a u : Val) → wave job around n j ≡ o → o ≡ Some a → wave job around n (suc j) ≡ Some u
+      → AllSeen job around n (refs a)
   before_one j None a u e q g = absurd (none_some a q)
   before_one j (Some x) a u e q g =
-      subst (λ y. AllSeen job around n (refs y)) (some_is x a q) (wave_seen (turn job around n x) x u refl (sym (ap (λ o. wave_on job around n (turn_of job around n o)) e) ∙ sym (next_is j) ∙ g))
+      subst (λ y. AllSeen job around n (refs y)) (some_is x a q)
+      (wave_seen (turn job around n x) x u refl (sym (ap (λ o. wave_on job around n (turn_of job around n o)) e) ∙ sym (next_is j) ∙ g))
 
   has_before : (j : ℕ) (u : Val) → wave job around n (suc j) ≡ Some u → (a : Val) × (wave job around n j ≡ Some a)
   has_before j u e = go (wave job around n j) refl
@@ -104,7 +114,8 @@ module _ (job : Job) (around : Around) (n : ℕ) where
       step (inl h) = inl (omega (arith, h))
       step (inr q) = inr (ap suc q)
 
-  at_or_before : (j i : ℕ) (a u : Val) → (i < j) ⊎ (i ≡ j) → wave job around n (suc j) ≡ Some u → wave job around n i ≡ Some a → (i < j → AllSeen job around n (refs a)) → AllSeen job around n (refs a)
+  at_or_before : (j i : ℕ) (a u : Val) → (i < j) ⊎ (i ≡ j) → wave job around n (suc j) ≡ Some u → wave job around n i ≡ Some a
+      → (i < j → AllSeen job around n (refs a)) → AllSeen job around n (refs a)
   at_or_before j i a u (inl h) e g rest = rest h
   at_or_before j i a u (inr s) e g rest = before_one j (wave job around n j) a u refl (ap (wave job around n) (sym s) ∙ g) e
 
@@ -132,13 +143,15 @@ module _ (job : Job) (around : Around) (n : ℕ) where
   wave_listed true None ds e = absurd (none_some ds e)
   wave_listed true (Some a) ds e = (a, refl, listed (distinct_refs a) ds e)
 
-  show_seen : (j i : ℕ) (u : Val) (ds : List Desc) → i < j → wave job around n j ≡ Some u → wait_at job around n Task.show i ≡ Some ds → AllSeen job around n ds
+  show_seen : (j i : ℕ) (u : Val) (ds : List Desc) → i < j → wave job around n j ≡ Some u → wait_at job around n Task.show i ≡ Some ds
+      → AllSeen job around n ds
   show_seen j zero u ds lt e w =
       subst (AllSeen job around n) (some_is (main_call ∷ []) ds w) (waves_seen j 0 (ref main_call) u lt e wave_zero)
   show_seen j (suc i) u ds lt e w =
       let f = wave_listed (nat_le (suc i) 100) (wave job around n (suc i)) ds w in
       let all = waves_seen j (suc i) f.0 u lt e f.1 in
-      subst (AllSeen job around n) f.2 (each_in (λ d. see job around n d ≢ None) (distinct_refs f.0) (λ d k. in_each (λ d. see job around n d ≢ None) (refs f.0) d all (distinct_refs_in f.0 d k)))
+      subst (AllSeen job around n) f.2 (each_in (λ d. see job around n d ≢ None) (distinct_refs f.0)
+      (λ d k. in_each (λ d. see job around n d ≢ None) (refs f.0) d all (distinct_refs_in f.0 d k)))
 
   -- ---- any task
 
@@ -151,7 +164,8 @@ module _ (job : Job) (around : Around) (n : ℕ) where
   state_wave j (Some u) a e = (u, refl)
 
   -- what it waited for before it came to its wait j
-  pub seen_before : (t : Task) (j : ℕ) (a : State) → stands_at job around n t j ≡ Some a → (i : ℕ) (ds : List Desc) → i < j → wait_at job around n t i ≡ Some ds → AllSeen job around n ds
+  pub seen_before : (t : Task) (j : ℕ) (a : State) → stands_at job around n t j ≡ Some a → (i : ℕ) (ds : List Desc) → i < j
+      → wait_at job around n t i ≡ Some ds → AllSeen job around n ds
   seen_before Task.show j a e i ds lt w = let u = state_wave j (wave job around n j) a e in show_seen j i u.0 ds lt u.1 w
   seen_before (Task.of (call f c vs)) zero a e i ds lt w = absurd (omega (arith, lt))
   seen_before (Task.of (call f c vs)) (suc j) a e zero ds lt w = subst (AllSeen job around n) (some_is [] ds w) tt

@@ -48,13 +48,15 @@ module _ {N : Type 0} where
   none_behind (suc j) (waited ds ∷ done) e = none_behind j done e
 
 module _ (job : Job) (around : Around) where
-  pub between_two : (n : ℕ) (t : Task) (j k i : ℕ) → j ≤ k → k ≤ i → made_between job around n t j i ≡ made_between job around n t j k ++ made_between job around n t k i
+  pub between_two : (n : ℕ) (t : Task) (j k i : ℕ) → j ≤ k → k ≤ i → made_between job around n t j i ≡ made_between job around n t j k
+      ++ made_between job around n t k i
   between_two n t j k i le lk =
       let done = acts_of job around n t in
       made_two (i - j) (k - j) (i - k) (after_wait j done) (omega (arith, le, lk))
       ∙ ap (λ x. made_before (k - j) (after_wait j done) ++ made_before (i - k) x) (after_two k j (k - j) done (omega (arith, le)))
 
-  pub after_between : (n : ℕ) (t : Task) (j k : ℕ) → j ≤ k → made_after job around n t j ≡ made_between job around n t j k ++ made_after job around n t k
+  pub after_between : (n : ℕ) (t : Task) (j k : ℕ) → j ≤ k → made_after job around n t j ≡ made_between job around n t j k
+      ++ made_after job around n t k
   after_between n t j k le =
       let done = acts_of job around n t in
       made_all (k - j) (after_wait j done)
@@ -78,19 +80,24 @@ module _ (job : Job) (around : Around) where
   pub wait_to : (n m : ℕ) (t : Task) (j : ℕ) (ds : List Desc) → n ≤ m → wait_at job around n t j ≡ Some ds → wait_at job around m t j ≡ Some ds
   wait_to n m t j ds l e =
       ap (λ k. wait_at job around k t j) (sym (on_to n m l))
-      ∙ kept_is None (wait_at job around n t j) (wait_at job around (on (m - n) n) t j) (Some ds) (kept_on None (λ k. wait_at job around k t j) (λ k. wait_kept job around t j k) (m - n) n) e (some_not ds)
+      ∙ kept_is None (wait_at job around n t j) (wait_at job around (on (m - n) n) t j) (Some ds)
+      (kept_on None (λ k. wait_at job around k t j) (λ k. wait_kept job around t j k) (m - n) n) e (some_not ds)
 
   pub stands_to : (n m : ℕ) (t : Task) (j : ℕ) (a : State) → n ≤ m → stands_at job around n t j ≡ Some a → stands_at job around m t j ≡ Some a
   stands_to n m t j a l e =
       ap (λ k. stands_at job around k t j) (sym (on_to n m l))
-      ∙ kept_is None (stands_at job around n t j) (stands_at job around (on (m - n) n) t j) (Some a) (kept_on None (λ k. stands_at job around k t j) (λ k. stands_kept job around t j k) (m - n) n) e (some_not a)
+      ∙ kept_is None (stands_at job around n t j) (stands_at job around (on (m - n) n) t j) (Some a)
+      (kept_on None (λ k. stands_at job around k t j) (λ k. stands_kept job around t j k) (m - n) n) e (some_not a)
 
   pub see_to : (n m : ℕ) (d : Desc) (x : Obj) → n ≤ m → see job around n d ≡ Some x → see job around m d ≡ Some x
   see_to n m d x l e =
       ap (λ k. see job around k d) (sym (on_to n m l))
-      ∙ kept_is None (see job around n d) (see job around (on (m - n) n) d) (Some x) (kept_on None (λ k. see job around k d) (λ k. see_kept job around k d) (m - n) n) e (some_not x)
+      ∙ kept_is None (see job around n d) (see job around (on (m - n) n) d) (Some x)
+      (kept_on None (λ k. see job around k d) (λ k. see_kept job around k d) (m - n) n) e (some_not x)
 
   pub all_to : (n m : ℕ) (ds : List Desc) (os : List Obj) → n ≤ m → see_all (see job around n) ds ≡ Some os → see_all (see job around m) ds ≡ Some os
   all_to n m ds os l e =
       ap (λ k. see_all (see job around k) ds) (sym (on_to n m l))
-      ∙ kept_is None (see_all (see job around n) ds) (see_all (see job around (on (m - n) n)) ds) (Some os) (kept_on None (λ k. see_all (see job around k) ds) (λ k. all_kept (see job around k) (see job around (suc k)) (λ d. see_kept job around k d) ds) (m - n) n) e (some_not os)
+      ∙ kept_is None (see_all (see job around n) ds) (see_all (see job around (on (m - n) n)) ds) (Some os)
+      (kept_on None (λ k. see_all (see job around k) ds)
+      (λ k. all_kept (see job around k) (see job around (suc k)) (λ d. see_kept job around k d) ds) (m - n) n) e (some_not os)

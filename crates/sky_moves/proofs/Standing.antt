@@ -21,7 +21,9 @@ module _ (job : Job) (around : Around) where
   held_at_is t j a st = (st.0, held_as t st.0 j a st.1)
 
   -- what is waited for is held
-  pub held_there : (t : Task) (j : ℕ) (ds : List Desc) (a : State) (d : Desc) → WaitOf job around t j ds → StandsAt job around t j a → In d ds → In d (held a)
+  pub held_there : (t : Task) (j : ℕ) (ds : List Desc) (a : State) (d : Desc) → WaitOf job around t j ds → StandsAt job around t j a → In d ds
+      → In d (held a)
   held_there t j ds a d wt st i =
       let k = wt.0 + st.0 in
-      waits_held d job around k t j ds (held a) (wait_to job around wt.0 k t j ds (omega arith) wt.1) (held_as t k j a (stands_to job around st.0 k t j a (omega arith) st.1)) i
+      waits_held d job around k t j ds (held a) (wait_to job around wt.0 k t j ds (omega arith) wt.1)
+      (held_as t k j a (stands_to job around st.0 k t j a (omega arith) st.1)) i

@@ -13,5 +13,7 @@ SeenBefore =
 
 -- what is made from the wait j to the wait i, or to the end, by way of the wait k
 pub record MadeInParts : Type 0 where
-  pub between : (job : Job) (around : Around) (n : ℕ) (t : Task) (j k i : ℕ) → j ≤ k → k ≤ i → made_between job around n t j i ≡ made_between job around n t j k ++ made_between job around n t k i
-  pub after : (job : Job) (around : Around) (n : ℕ) (t : Task) (j k : ℕ) → j ≤ k → made_after job around n t j ≡ made_between job around n t j k ++ made_after job around n t k
+  pub between : (job : Job) (around : Around) (n : ℕ) (t : Task) (j k i : ℕ) → j ≤ k → k ≤ i → made_between job around n t j i
+      ≡ made_between job around n t j k ++ made_between job around n t k i
+  pub after : (job : Job) (around : Around) (n : ℕ) (t : Task) (j k : ℕ) → j ≤ k → made_after job around n t j ≡ made_between job around n t j k
+      ++ made_after job around n t k

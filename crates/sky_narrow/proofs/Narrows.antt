@@ -96,6 +96,7 @@ script_narrow source keys script (ts, tops, found, valid, is) small n t at =
     let as_parts : length source ≡ length (joined law.0) = (λ i. length (law.2 i)) in
     let enough : length (spell_tops tops []) ≤ length source = omega (arith, marks, as_tokens, as_parts, few_tokens source 0 law.0 law.1) in
     let few : length source < 2147483648 = small in
-    let wide : width t ≤ length source = wide_script (length source) keys tops valid.0.0 enough n t (subst (λ (sc : Script). node_at sc n ≡ Some t) is at) in
+    let wide : width t ≤ length source = wide_script (length source) keys tops valid.0.0 enough n t
+    (subst (λ (sc : Script). node_at sc n ≡ Some t) is at) in
     let fits : width t + 2 < 4294967296 = omega (arith, wide, few) in
     fits

@@ -1,12 +1,16 @@
 -- Forms that follow each other in a script with narrow nodes can be saved.
-use Rattle.std.proofs.Common.{◌≡◌, ◌≤◌, ◌<◌, ◌+◌, ◌^◌, ℕ, List, [], ◌∷◌, Bool, true, false, Option, Some, None, pos, refl, subst, sym, arith, ◌⊎◌, inl, inr}
+use Rattle.std.proofs.Common.{◌≡◌, ◌≤◌, ◌<◌, ◌+◌, ◌^◌, ℕ, List, [], ◌∷◌, Bool, true, false, Option, Some, None, pos, refl, subst, sym, arith, ◌⊎◌}
+use Rattle.std.proofs.Common.{inl, inr}
 use Rattle.sky_base.specs.Val.{Val, Vals, Pairs, list, num, count, sizes}
 use Rattle.sky_base.specs.Tree.{Script}
 use Rattle.sky_base.specs.Tree as tree
 use Rattle.sky_base.specs.Kept.{Kept}
-use Rattle.sky_base.specs.Res.{parens_in, part_at, chain_first, chain_more, logic_at, prefix_part, star_wait, postfix_first, index_at, arg_at, call_open, exec_wait, set_part, add_part, put_index, put_value, return_part, just_part, arm_test, while_test, while_body, repeat_body, repeat_test, for_list, for_body, block_at, node_of, step_of, kept_of, opens}
+use Rattle.sky_base.specs.Res.{parens_in, part_at, chain_first, chain_more, logic_at, prefix_part, star_wait, postfix_first, index_at, arg_at}
+use Rattle.sky_base.specs.Res.{call_open, exec_wait, set_part, add_part, put_index, put_value, return_part, just_part, arm_test, while_test}
+use Rattle.sky_base.specs.Res.{while_body, repeat_body, repeat_test, for_list, for_body, block_at, node_of, step_of, kept_of, opens}
 use Rattle.sky_base.specs.Tree.{Place, SignAt, Exp, Exps, Links, Ands, Arms, Stm, Stms, nodes, block_nodes, arms_nodes}
-use Rattle.sky_law.specs.Opened.{Node, exp_node, stm_node, block_node, Pos, finished, in_index, in_args, enter_pos, next_part, next_link, next_and, next_pos, next_arm, times, part_open, exec_open, link_open, and_open, pos_open, arm_open, opened, opened_exp, Opened}
+use Rattle.sky_law.specs.Opened.{Node, exp_node, stm_node, block_node, Pos, finished, in_index, in_args, enter_pos, next_part, next_link, next_and}
+use Rattle.sky_law.specs.Opened.{next_pos, next_arm, times, part_open, exec_open, link_open, and_open, pos_open, arm_open, opened, opened_exp, Opened}
 use Rattle.sky_law.specs.Nodes.{node_at}
 use Rattle.sky_law.proofs.TypedOps.{count_small}
 use Rattle.sky_state.specs.Table.{Row, part, turn, star, outputs, open_call, no_step, row, IsStep}
@@ -93,7 +97,8 @@ module _ (us : Vals (List ℕ)) (t : ℕ) where
   for_taken (stm_node (Stm.return p e)) n en f o h = absurd (for_not None en f tt o)
   for_taken (stm_node (Stm.leave p)) n en f o h = absurd (for_not None en f tt o)
   for_taken (stm_node (Stm.cases p arms els)) n en f o h =
-      absurd (for_not (arm_open (times next_arm 1 (n + 1, arms)) n 2 (n + 1 + arms_nodes arms) els) en f (arm_not (times next_arm 1 (n + 1, arms)) n 2 (n + 1 + arms_nodes arms) els) o)
+      absurd (for_not (arm_open (times next_arm 1 (n + 1, arms)) n 2 (n + 1 + arms_nodes arms) els) en f
+      (arm_not (times next_arm 1 (n + 1, arms)) n 2 (n + 1 + arms_nodes arms) els) o)
   for_taken (stm_node (Stm.while p e b)) n en f o h = absurd (for_not None en f tt o)
   for_taken (stm_node (Stm.repeat p b e)) n en f o h = absurd (for_not None en f tt o)
   for_taken (stm_node (Stm.just p e)) n en f o h = absurd (for_not None en f tt o)
@@ -114,7 +119,8 @@ module _ (sc : Script) (narrow : Narrow sc) where
 
   step_fits : (t : Option Node) (n k : ℕ) → node_at sc n ≡ t → IsStep (row t n k) → k < 2 ^ 32
   step_fits None n k e h = absurd h
-  step_fits (Some t) n k e h = let small : width t + 2 < 4294967296 = narrow n t e in let le : k ≤ width t + 2 = step_within t n k h in let lt : k < 4294967296 = omega (arith, small, le) in lt
+  step_fits (Some t) n k e h = let small : width t + 2 < 4294967296 = narrow n t e in let le : k ≤ width t + 2 = step_within t n k h in
+      let lt : k < 4294967296 = omega (arith, small, le) in lt
 
   -- a list that keeps the limits has fewer members than a number of the language can count
   few_taken : (t : ℕ) (us : Vals (List ℕ)) → t ≤ count us → Kept (list us) → t < 2 ^ 63
@@ -124,7 +130,8 @@ module _ (sc : Script) (narrow : Narrow sc) where
 
   taken_fits : (en : Form) → Opened at en → KeptBy sc at (row_at sc at en) (kept_of en) → IsReady at en → TakenFits en
   taken_fits (for_body n m t p x us b) (d, e, o) kept ready =
-      few_taken t us (for_taken us t d n (for_body n m t p x us b) refl o (subst (λ (s : Option Node). TakenFrom (row s n 2) (two us t)) e kept.taken)) ready.1
+      few_taken t us (for_taken us t d n (for_body n m t p x us b) refl o
+      (subst (λ (s : Option Node). TakenFrom (row s n 2) (two us t)) e kept.taken)) ready.1
   taken_fits (parens_in n) o k r = tt
   taken_fits (part_at n k m o p vs es) d e r = tt
   taken_fits (chain_first n m ls) o k r = tt
@@ -151,12 +158,14 @@ module _ (sc : Script) (narrow : Narrow sc) where
   taken_fits (for_list n m p x b) o k r = tt
   taken_fits (block_at n k m b) d e r = tt
 
-  can_save : (en : Form) (X : Type 0) (M : List ℕ → Type 0) → KeptBy sc at (row_at sc at en) (kept_of en) → Above sc at (row_at sc at en) (opens en) X M → Opened at en → IsReady at en → CanSave en
+  can_save : (en : Form) (X : Type 0) (M : List ℕ → Type 0) → KeptBy sc at (row_at sc at en) (kept_of en)
+      → Above sc at (row_at sc at en) (opens en) X M → Opened at en → IsReady at en → CanSave en
   can_save en X M kept above o r =
       (step_fits (at (node_of en)) (node_of en) (step_of en) refl (above_step (row_at sc at en) (opens en) X M above), taken_fits en o kept r)
 
   -- what stands above goes on
-  above_more : (r : Row) (o : Option (List ℕ × Pairs (List ℕ))) (fr : List Form) → Above sc at r o (fr ≡ []) (λ ms. Chained sc at ms fr) → (fr ≡ []) ⊎ ((ms : List ℕ) × Chained sc at ms fr)
+  above_more : (r : Row) (o : Option (List ℕ × Pairs (List ℕ))) (fr : List Form) → Above sc at r o (fr ≡ []) (λ ms. Chained sc at ms fr)
+      → (fr ≡ []) ⊎ ((ms : List ℕ) × Chained sc at ms fr)
   above_more (part k ms) None fr h = inr (ms, h)
   above_more (turn m) None fr h = inr (m ∷ [], h)
   above_more star None fr h = inl h
@@ -175,8 +184,10 @@ module _ (sc : Script) (narrow : Narrow sc) where
 
   pub all_can_save : (ps : List ℕ) (fr : List Form) → Chained sc at ps fr → AllOpened at fr → AreReady at fr → AllCanSave fr
   all_can_save ps [] c o r = absurd c
-  all_can_save ps (en ∷ fr) c o r =
-      (can_save en (fr ≡ []) (λ ms. Chained sc at ms fr) c.1 c.2 o.0 r.0, rest (above_more (row_at sc at en) (opens en) fr c.2) (λ ms h. all_can_save ms fr h o.1 r.1))
+  all_can_save ps (en ∷ fr) c o r = (
+    can_save en (fr ≡ []) (λ ms. Chained sc at ms fr) c.1 c.2 o.0 r.0,
+    rest (above_more (row_at sc at en) (opens en) fr c.2) (λ ms h. all_can_save ms fr h o.1 r.1),
+  )
     where
       rest : (fr ≡ []) ⊎ ((ms : List ℕ) × Chained sc at ms fr) → ((ms : List ℕ) → Chained sc at ms fr → AllCanSave fr) → AllCanSave fr
       rest (inl e) go = subst AllCanSave (sym e) tt

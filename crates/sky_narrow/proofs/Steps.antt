@@ -3,11 +3,14 @@ use Rattle.std.proofs.Common.{◌≡◌, ◌≤◌, ◌+◌, ℕ, zero, suc, Lis
 use Rattle.std.proofs.lemmas.List.{length-reverse}
 use Rattle.sky_base.specs.Tree.{SignAt, Form, Exp, Exps, Links, Ands, Steps, Stm, Stms, Arms, nodes, stm_nodes, block_nodes}
 use Rattle.sky_law.specs.Opened.{Node, exp_node, stm_node, block_node}
-use Rattle.sky_state.specs.Table.{on_by, past_part, past_link, past_and, past_arm, past_stm, past_sign, Spot, finished, in_index, in_call, spot_of, past_spot, part_row, link_row, and_row, sign_row, spot_row, exp_row, arm_row, stm_row, ran_row, block_row, row, IsStep}
+use Rattle.sky_state.specs.Table.{on_by, past_part, past_link, past_and, past_arm, past_stm, past_sign, Spot, finished, in_index, in_call, spot_of}
+use Rattle.sky_state.specs.Table.{past_spot, part_row, link_row, and_row, sign_row, spot_row, exp_row, arm_row, stm_row, ran_row, block_row, row}
+use Rattle.sky_state.specs.Table.{IsStep}
 use Rattle.sky_narrow.specs.Width.{exps_width, links_width, ands_width, steps_width, arms_width, stms_width, width}
 
 -- where each step makes a number less, so many steps make it less by as many
-on_less : {A : Type 0} (f : A → Option A) (w : A → ℕ) → ((y r : A) → f y ≡ Some r → suc (w r) ≤ w y) → (i : ℕ) (x r : A) → on_by f i x ≡ Some r → i + w r ≤ w x
+on_less : {A : Type 0} (f : A → Option A) (w : A → ℕ) → ((y r : A) → f y ≡ Some r → suc (w r) ≤ w y) → (i : ℕ) (x r : A) → on_by f i x ≡ Some r
+    → i + w r ≤ w x
 on_less f w less zero x r e = let same : x ≡ r = cc in let left : w x ≡ w r = (λ j. w (same j)) in omega (arith, left)
 on_less {A = A} f w less (suc i) x r e = go (on_by f i x) e (λ y k. on_less f w less i x y k) refl
   where
@@ -20,35 +23,40 @@ parts_left p = exps_width p.1
 
 part_less : (y r : ℕ × Exps) → past_part y ≡ Some r → suc (parts_left r) ≤ parts_left y
 part_less (m, Exps.no_exps) r e = absurd cc
-part_less (m, Exps.exp x es) r e = let same : (m + nodes x, es) ≡ r = cc in let left : exps_width es ≡ exps_width r.1 = (λ j. exps_width (same j).1) in omega (arith, left)
+part_less (m, Exps.exp x es) r e = let same : (m + nodes x, es) ≡ r = cc in let left : exps_width es ≡ exps_width r.1 =
+    (λ j. exps_width (same j).1) in omega (arith, left)
 
 abbrev links_left : ℕ × Links → ℕ
 links_left p = links_width p.1
 
 link_less : (y r : ℕ × Links) → past_link y ≡ Some r → suc (links_left r) ≤ links_left y
 link_less (m, Links.no_links) r e = absurd cc
-link_less (m, Links.link o p x ls) r e = let same : (m + nodes x, ls) ≡ r = cc in let left : links_width ls ≡ links_width r.1 = (λ j. links_width (same j).1) in omega (arith, left)
+link_less (m, Links.link o p x ls) r e = let same : (m + nodes x, ls) ≡ r = cc in let left : links_width ls ≡ links_width r.1 =
+    (λ j. links_width (same j).1) in omega (arith, left)
 
 abbrev ands_left : ℕ × Ands → ℕ
 ands_left p = ands_width p.1
 
 and_less : (y r : ℕ × Ands) → past_and y ≡ Some r → suc (ands_left r) ≤ ands_left y
 and_less (m, Ands.no_ands) r e = absurd cc
-and_less (m, Ands.and p x ls) r e = let same : (m + nodes x, ls) ≡ r = cc in let left : ands_width ls ≡ ands_width r.1 = (λ j. ands_width (same j).1) in omega (arith, left)
+and_less (m, Ands.and p x ls) r e = let same : (m + nodes x, ls) ≡ r = cc in let left : ands_width ls ≡ ands_width r.1 =
+    (λ j. ands_width (same j).1) in omega (arith, left)
 
 abbrev arms_left : ℕ × Arms → ℕ
 arms_left p = arms_width p.1
 
 arm_less : (y r : ℕ × Arms) → past_arm y ≡ Some r → suc (arms_left r) ≤ arms_left y
 arm_less (m, Arms.no_arms) r e = absurd cc
-arm_less (m, Arms.arm p x b arms) r e = let same : (m + nodes x + block_nodes b, arms) ≡ r = cc in let left : arms_width arms ≡ arms_width r.1 = (λ j. arms_width (same j).1) in omega (arith, left)
+arm_less (m, Arms.arm p x b arms) r e = let same : (m + nodes x + block_nodes b, arms) ≡ r = cc in let left : arms_width arms ≡ arms_width r.1 =
+    (λ j. arms_width (same j).1) in omega (arith, left)
 
 abbrev stms_left : ℕ × Stms → ℕ
 stms_left p = stms_width p.1
 
 stm_less : (y r : ℕ × Stms) → past_stm y ≡ Some r → suc (stms_left r) ≤ stms_left y
 stm_less (m, Stms.no_stms) r e = absurd cc
-stm_less (m, Stms.stm a more) r e = let same : (m + stm_nodes a, more) ≡ r = cc in let left : stms_width more ≡ stms_width r.1 = (λ j. stms_width (same j).1) in omega (arith, left)
+stm_less (m, Stms.stm a more) r e = let same : (m + stm_nodes a, more) ≡ r = cc in let left : stms_width more ≡ stms_width r.1 =
+    (λ j. stms_width (same j).1) in omega (arith, left)
 
 abbrev signs_left : List SignAt → ℕ
 signs_left ss = length ss
@@ -69,9 +77,12 @@ spot_left m (Steps.call es p ss) = refl
 
 spot_less : (y r : Spot) → past_spot y ≡ Some r → suc (spots_left r) ≤ spots_left y
 spot_less finished r e = absurd cc
-spot_less (in_index m x p ss) r e = let same : spot_of (m + nodes x) ss ≡ r = cc in let left : spots_left (spot_of (m + nodes x) ss) ≡ spots_left r = (λ j. spots_left (same j)) in omega (arith, left, spot_left (m + nodes x) ss)
-spot_less (in_call m i Exps.no_exps p ss) r e = let same : spot_of m ss ≡ r = cc in let left : spots_left (spot_of m ss) ≡ spots_left r = (λ j. spots_left (same j)) in omega (arith, left, spot_left m ss)
-spot_less (in_call m i (Exps.exp x es) p ss) r e = let same : in_call (m + nodes x) (i + 1) es p ss ≡ r = cc in let left : spots_left (in_call (m + nodes x) (i + 1) es p ss) ≡ spots_left r = (λ j. spots_left (same j)) in omega (arith, left)
+spot_less (in_index m x p ss) r e = let same : spot_of (m + nodes x) ss ≡ r = cc in let left : spots_left (spot_of (m + nodes x) ss)
+    ≡ spots_left r = (λ j. spots_left (same j)) in omega (arith, left, spot_left (m + nodes x) ss)
+spot_less (in_call m i Exps.no_exps p ss) r e = let same : spot_of m ss ≡ r = cc in let left : spots_left (spot_of m ss) ≡ spots_left r =
+    (λ j. spots_left (same j)) in omega (arith, left, spot_left m ss)
+spot_less (in_call m i (Exps.exp x es) p ss) r e = let same : in_call (m + nodes x) (i + 1) es p ss ≡ r = cc in
+    let left : spots_left (in_call (m + nodes x) (i + 1) es p ss) ≡ spots_left r = (λ j. spots_left (same j)) in omega (arith, left)
 
 -- ---- what a row says of how far it is
 
@@ -130,7 +141,12 @@ exp_within (Exp.prefix ss e) n (suc zero) h = omega arith
 exp_within (Exp.prefix ss e) n (suc (suc i)) h = omega (arith, length-reverse ss, sign_far i (reverse ss) (on_by past_sign i (reverse ss)) refl h)
 exp_within (Exp.postfix e ss) n zero h = absurd h
 exp_within (Exp.postfix e ss) n (suc zero) h = omega arith
-exp_within (Exp.postfix e ss) n (suc (suc i)) h = omega (arith, spot_left (n + 1 + nodes e) ss, spot_far i (spot_of (n + 1 + nodes e) ss) (on_by past_spot i (spot_of (n + 1 + nodes e) ss)) refl h)
+exp_within (Exp.postfix e ss) n (suc (suc i)) h =
+    omega (
+      arith,
+      spot_left (n + 1 + nodes e) ss,
+      spot_far i (spot_of (n + 1 + nodes e) ss) (on_by past_spot i (spot_of (n + 1 + nodes e) ss)) refl h,
+    )
 
 stm_within : (a : Stm) (n k : ℕ) → IsStep (stm_row a n k) → k ≤ width (stm_node a) + 2
 stm_within (Stm.cases p arms els) n zero h = absurd h

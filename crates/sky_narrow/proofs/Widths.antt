@@ -2,18 +2,24 @@
 use Rattle.std.proofs.Common.{◌≡◌, ◌≤◌, ◌+◌, ℕ, zero, suc, List, [], ◌∷◌, ◌++◌, length, Some, slice_get, arith}
 use Rattle.sky_base.specs.Tree.{Form, FunDef, Junction}
 use Rattle.sky_law.specs.Opened.{Node}
-use Rattle.sky_law.specs.Nodes.{pre_exp, pre_exps, pre_links, pre_ands, pre_steps, pre_stm, pre_stms, pre_arms, pre_else, pre_block, pre_funs, pre_script}
+use Rattle.sky_law.specs.Nodes.{pre_exp, pre_exps, pre_links, pre_ands, pre_steps, pre_stm, pre_stms, pre_arms, pre_else, pre_block, pre_funs}
+use Rattle.sky_law.specs.Nodes.{pre_script}
 use Rattle.sky_law.specs.Tasks.{Each}
 use Rattle.sky_law.proofs.Lists.{each_both}
 use Rattle.sky_text.specs.declared.token.Sign.{Sign}
 use Rattle.sky_text.specs.declared.token.Word.{Word}
 use Rattle.sky_grammar.specs.Levels.{junction_level}
-use Rattle.sky_grammar.specs.Grammar.{Mark, sign, word, IsTree, AreTrees, AreLinks, AreAnds, AreSteps, IsStm, AreStms, AreArms, IsElse, spell, spell_exps, spell_others, spell_pairs, spell_value, spell_other_pairs, spell_links, spell_ands, spell_steps, spell_stm, spell_stms, spell_arms, spell_other_arms, spell_else}
-use Rattle.sky_grammar.specs.Lifted.{count, exps_count, stm_count, stms_count, arms_count, tree, exps_tree, links_tree, ands_tree, steps_tree, stm_tree, stms_tree, arms_tree, else_tree, made, exps_made, links_made, ands_made, steps_made, stm_made, stms_made, arms_made, else_made}
+use Rattle.sky_grammar.specs.Grammar.{Mark, sign, word, IsTree, AreTrees, AreLinks, AreAnds, AreSteps, IsStm, AreStms, AreArms, IsElse, spell}
+use Rattle.sky_grammar.specs.Grammar.{spell_exps, spell_others, spell_pairs, spell_value, spell_other_pairs, spell_links, spell_ands, spell_steps}
+use Rattle.sky_grammar.specs.Grammar.{spell_stm, spell_stms, spell_arms, spell_other_arms, spell_else}
+use Rattle.sky_grammar.specs.Lifted.{count, exps_count, stm_count, stms_count, arms_count, tree, exps_tree, links_tree, ands_tree, steps_tree}
+use Rattle.sky_grammar.specs.Lifted.{stm_tree, stms_tree, arms_tree, else_tree, made, exps_made, links_made, ands_made, steps_made, stm_made}
+use Rattle.sky_grammar.specs.Lifted.{stms_made, arms_made, else_made}
 use Rattle.sky_grammar.specs.Source.{Exp, Exps, Links, Ands, Steps, Stm, Stms, Arms, Else, links_level}
 use Rattle.sky_grammar.specs.Tops.{Top, AreTops, defs_of, main_of, made_of, script_of, spell_tops, top_count}
 use Rattle.sky_narrow.specs.Width.{width, stms_width}
-use Rattle.sky_narrow.proofs.Lengths.{started_length, signs_long, params_long, exp_long, exps_long, pairs_long, links_long, ands_long, steps_long, stm_long, stms_long, arms_long}
+use Rattle.sky_narrow.proofs.Lengths.{started_length, signs_long, params_long, exp_long, exps_long, pairs_long, links_long, ands_long, steps_long}
+use Rattle.sky_narrow.proofs.Lengths.{stm_long, stms_long, arms_long}
 
 -- the marks behind a part: a closing bracket or a semicolon, and more
 abbrev round : List Mark → List Mark
@@ -119,41 +125,52 @@ module _ (most : ℕ) where
     wide_exps : (es : Exps) (n : ℕ) (more : List Mark) → AreTrees es → Few (spell_exps es more) → Bounded (pre_exps (exps_tree n es)) (exps_made n es)
     wide_exps Exps.no_exps n more h le = none
     wide_exps (Exps.exp e es) n more h le =
-        two (wide e n (spell_others es more) h.0 le) (wide_others es (n + count e) more h.1 (omega (arith, exp_long e (spell_others es more) h.0, le)))
+        two (wide e n (spell_others es more) h.0 le)
+        (wide_others es (n + count e) more h.1 (omega (arith, exp_long e (spell_others es more) h.0, le)))
 
-    wide_others : (es : Exps) (n : ℕ) (more : List Mark) → AreTrees es → Few (spell_others es more) → Bounded (pre_exps (exps_tree n es)) (exps_made n es)
+    wide_others : (es : Exps) (n : ℕ) (more : List Mark) → AreTrees es → Few (spell_others es more)
+        → Bounded (pre_exps (exps_tree n es)) (exps_made n es)
     wide_others Exps.no_exps n more h le = none
     wide_others (Exps.exp e es) n more h le =
-        two (wide e n (spell_others es more) h.0 (omega (arith, le))) (wide_others es (n + count e) more h.1 (omega (arith, exp_long e (spell_others es more) h.0, le)))
+        two (wide e n (spell_others es more) h.0 (omega (arith, le)))
+        (wide_others es (n + count e) more h.1 (omega (arith, exp_long e (spell_others es more) h.0, le)))
 
-    wide_pairs : (es : Exps) (n : ℕ) (more : List Mark) → AreTrees es → Few (spell_pairs es more) → Bounded (pre_exps (exps_tree n es)) (exps_made n es)
+    wide_pairs : (es : Exps) (n : ℕ) (more : List Mark) → AreTrees es → Few (spell_pairs es more)
+        → Bounded (pre_exps (exps_tree n es)) (exps_made n es)
     wide_pairs Exps.no_exps n more h le = none
     wide_pairs (Exps.exp e es) n more h le =
         two (wide e n (spell_value es more) h.0 le) (wide_value es (n + count e) more h.1 (omega (arith, exp_long e (spell_value es more) h.0, le)))
 
-    wide_value : (es : Exps) (n : ℕ) (more : List Mark) → AreTrees es → Few (spell_value es more) → Bounded (pre_exps (exps_tree n es)) (exps_made n es)
+    wide_value : (es : Exps) (n : ℕ) (more : List Mark) → AreTrees es → Few (spell_value es more)
+        → Bounded (pre_exps (exps_tree n es)) (exps_made n es)
     wide_value Exps.no_exps n more h le = none
     wide_value (Exps.exp e es) n more h le =
-        two (wide e n (spell_other_pairs es more) h.0 (omega (arith, le))) (wide_other_pairs es (n + count e) more h.1 (omega (arith, exp_long e (spell_other_pairs es more) h.0, le)))
+        two (wide e n (spell_other_pairs es more) h.0 (omega (arith, le)))
+        (wide_other_pairs es (n + count e) more h.1 (omega (arith, exp_long e (spell_other_pairs es more) h.0, le)))
 
-    wide_other_pairs : (es : Exps) (n : ℕ) (more : List Mark) → AreTrees es → Few (spell_other_pairs es more) → Bounded (pre_exps (exps_tree n es)) (exps_made n es)
+    wide_other_pairs : (es : Exps) (n : ℕ) (more : List Mark) → AreTrees es → Few (spell_other_pairs es more)
+        → Bounded (pre_exps (exps_tree n es)) (exps_made n es)
     wide_other_pairs Exps.no_exps n more h le = none
     wide_other_pairs (Exps.exp e es) n more h le =
-        two (wide e n (spell_value es more) h.0 (omega (arith, le))) (wide_value es (n + count e) more h.1 (omega (arith, exp_long e (spell_value es more) h.0, le)))
+        two (wide e n (spell_value es more) h.0 (omega (arith, le)))
+        (wide_value es (n + count e) more h.1 (omega (arith, exp_long e (spell_value es more) h.0, le)))
 
-    wide_links : (l : ℕ) (ls : Links) (n : ℕ) (more : List Mark) → AreLinks l ls → Few (spell_links ls more) → Bounded (pre_links (links_tree n ls)) (links_made n ls)
+    wide_links : (l : ℕ) (ls : Links) (n : ℕ) (more : List Mark) → AreLinks l ls → Few (spell_links ls more)
+        → Bounded (pre_links (links_tree n ls)) (links_made n ls)
     wide_links l Links.no_links n more h le = none
     wide_links l (Links.link o p e ls) n more h le =
         two (wide e n (spell_links ls more) h.1 (omega (arith, le)))
         (wide_links l ls (n + count e) more h.3 (omega (arith, exp_long e (spell_links ls more) h.1, le)))
 
-    wide_ands : (l : ℕ) (j : Junction) (ls : Ands) (n : ℕ) (more : List Mark) → AreAnds l ls → Few (spell_ands j ls more) → Bounded (pre_ands (ands_tree n ls)) (ands_made n ls)
+    wide_ands : (l : ℕ) (j : Junction) (ls : Ands) (n : ℕ) (more : List Mark) → AreAnds l ls → Few (spell_ands j ls more)
+        → Bounded (pre_ands (ands_tree n ls)) (ands_made n ls)
     wide_ands l j Ands.no_ands n more h le = none
     wide_ands l j (Ands.and p e ls) n more h le =
         two (wide e n (spell_ands j ls more) h.0 (omega (arith, le)))
         (wide_ands l j ls (n + count e) more h.2 (omega (arith, exp_long e (spell_ands j ls more) h.0, le)))
 
-    wide_steps : (ss : Steps) (n : ℕ) (more : List Mark) → AreSteps ss → Few (spell_steps ss more) → Bounded (pre_steps (steps_tree n ss)) (steps_made n ss)
+    wide_steps : (ss : Steps) (n : ℕ) (more : List Mark) → AreSteps ss → Few (spell_steps ss more)
+        → Bounded (pre_steps (steps_tree n ss)) (steps_made n ss)
     wide_steps Steps.no_steps n more h le = none
     wide_steps (Steps.index e p ss) n more h le =
         two (wide e n (square (spell_steps ss more)) h.0 (omega (arith, le)))
@@ -180,17 +197,20 @@ module _ (most : ℕ) where
         let all : Few (spell e (then_block b more)) = omega (arith, le) in
         let block : Few (spell_stms b (curly more)) = omega (arith, exp_long e (then_block b more) h.0, all) in
         top (omega arith)
-        (two (wide e n (then_block b more) h.0 all) (blocked b (n + count e) (curly more) h.1 block (wide_stms b (n + count e) (curly more) h.1 block)))
+        (two (wide e n (then_block b more) h.0 all)
+        (blocked b (n + count e) (curly more) h.1 block (wide_stms b (n + count e) (curly more) h.1 block)))
     wide_stm (Stm.repeat p b e) n more h le =
         let all : Few (spell_stms b (then_test e more)) = omega (arith, le) in
         let test : Few (spell e (round (ended more))) = omega (arith, stms_long b n (then_test e more) h.0, all) in
         top (omega arith)
-        (two (blocked b n (then_test e more) h.0 all (wide_stms b n (then_test e more) h.0 all)) (wide e (n + stms_count b) (round (ended more)) h.1 test))
+        (two (blocked b n (then_test e more) h.0 all (wide_stms b n (then_test e more) h.0 all))
+        (wide e (n + stms_count b) (round (ended more)) h.1 test))
     wide_stm (Stm.for p x e b) n more h le =
         let all : Few (spell e (then_block b more)) = omega (arith, le) in
         let block : Few (spell_stms b (curly more)) = omega (arith, exp_long e (then_block b more) h.0, all) in
         top (omega arith)
-        (two (wide e n (then_block b more) h.0 all) (blocked b (n + count e) (curly more) h.1 block (wide_stms b (n + count e) (curly more) h.1 block)))
+        (two (wide e n (then_block b more) h.0 all)
+        (blocked b (n + count e) (curly more) h.1 block (wide_stms b (n + count e) (curly more) h.1 block)))
     wide_stm (Stm.just p e) n more h le =
         top (omega arith) (wide e n (ended more) h (omega (arith, started_length p (spell e (ended more)), le)))
 
@@ -200,7 +220,8 @@ module _ (most : ℕ) where
         two (wide_stm s n (spell_stms ss more) h.0 le)
         (wide_stms ss (n + stm_count s) more h.1 (omega (arith, stm_long s (spell_stms ss more) h.0, le)))
 
-    wide_arms : (arms : Arms) (n : ℕ) (more : List Mark) → AreArms arms → Few (spell_arms arms more) → Bounded (pre_arms (arms_tree n arms)) (arms_made n arms)
+    wide_arms : (arms : Arms) (n : ℕ) (more : List Mark) → AreArms arms → Few (spell_arms arms more)
+        → Bounded (pre_arms (arms_tree n arms)) (arms_made n arms)
     wide_arms Arms.no_arms n more h le = none
     wide_arms (Arms.arm p e b arms) n more h le =
         let others : List Mark = curly (spell_other_arms arms more) in
@@ -208,9 +229,11 @@ module _ (most : ℕ) where
         let block : Few (spell_stms b others) = omega (arith, exp_long e (then_block b (spell_other_arms arms more)) h.0, all) in
         let rest : Few (spell_other_arms arms more) = omega (arith, stms_long b (n + count e) others h.1, block) in
         two (wide e n (then_block b (spell_other_arms arms more)) h.0 all)
-        (two (blocked b (n + count e) others h.1 block (wide_stms b (n + count e) others h.1 block)) (wide_other_arms arms (n + count e + stms_count b) more h.2 rest))
+        (two (blocked b (n + count e) others h.1 block (wide_stms b (n + count e) others h.1 block))
+        (wide_other_arms arms (n + count e + stms_count b) more h.2 rest))
 
-    wide_other_arms : (arms : Arms) (n : ℕ) (more : List Mark) → AreArms arms → Few (spell_other_arms arms more) → Bounded (pre_arms (arms_tree n arms)) (arms_made n arms)
+    wide_other_arms : (arms : Arms) (n : ℕ) (more : List Mark) → AreArms arms → Few (spell_other_arms arms more)
+        → Bounded (pre_arms (arms_tree n arms)) (arms_made n arms)
     wide_other_arms Arms.no_arms n more h le = none
     wide_other_arms (Arms.arm p e b arms) n more h le =
         let others : List Mark = curly (spell_other_arms arms more) in
@@ -218,9 +241,11 @@ module _ (most : ℕ) where
         let block : Few (spell_stms b others) = omega (arith, exp_long e (then_block b (spell_other_arms arms more)) h.0, all) in
         let rest : Few (spell_other_arms arms more) = omega (arith, stms_long b (n + count e) others h.1, block) in
         two (wide e n (then_block b (spell_other_arms arms more)) h.0 all)
-        (two (blocked b (n + count e) others h.1 block (wide_stms b (n + count e) others h.1 block)) (wide_other_arms arms (n + count e + stms_count b) more h.2 rest))
+        (two (blocked b (n + count e) others h.1 block (wide_stms b (n + count e) others h.1 block))
+        (wide_other_arms arms (n + count e + stms_count b) more h.2 rest))
 
-    wide_else : (els : Else) (n : ℕ) (more : List Mark) → IsElse els → Few (spell_else els more) → Bounded (pre_else (else_tree n els)) (else_made n els)
+    wide_else : (els : Else) (n : ℕ) (more : List Mark) → IsElse els → Few (spell_else els more)
+        → Bounded (pre_else (else_tree n els)) (else_made n els)
     wide_else Else.no_else n more h le = none
     wide_else (Else.otherwise b) n more h le =
         let block : Few (spell_stms b (curly more)) = omega (arith, le) in
@@ -240,7 +265,8 @@ module _ (most : ℕ) where
   wide_tops (Top.fun f ∷ ts) n h le =
       let others : List Mark = spell_tops ts [] in
       let body : Few (spell_stms f.body (curly others)) = omega (arith, params_long f.params (then_block f.body others), le) in
-      let less : length others ≤ length (spell_tops (Top.fun f ∷ ts) []) = omega (arith, params_long f.params (then_block f.body others), stms_long f.body n (curly others) h.0) in
+      let less : length others ≤ length (spell_tops (Top.fun f ∷ ts) []) =
+      omega (arith, params_long f.params (then_block f.body others), stms_long f.body n (curly others) h.0) in
       let more = wide_tops ts (n + top_count (Top.fun f)) h.1 (omega (arith, less, le)) in
       let block = blocked f.body n (curly others) h.0 body (wide_stms f.body n (curly others) h.0 body) in
       record {

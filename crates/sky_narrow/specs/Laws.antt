@@ -18,7 +18,8 @@ StepsAreWithin = (t : Node) (n k : ℕ) → IsStep (row (Some t) n k) → k ≤ 
 -- forms under way that follow each other in a script with narrow nodes, each opened by what is saved of it, can be saved
 abbrev pub ChainedCanBeSaved : Type 0
 ChainedCanBeSaved =
-    (sc : Script) → Narrow sc → (ps : List ℕ) (fr : List Form) → Chained sc (λ i. node_at sc i) ps fr → AllOpened (λ i. node_at sc i) fr → AreReady (λ i. node_at sc i) fr → AllCanSave fr
+    (sc : Script) → Narrow sc → (ps : List ℕ) (fr : List Form) → Chained sc (λ i. node_at sc i) ps fr → AllOpened (λ i. node_at sc i) fr
+    → AreReady (λ i. node_at sc i) fr → AllCanSave fr
 
 -- a script that bytes are has narrow nodes
 abbrev pub ScriptsAreNarrow : Type 0

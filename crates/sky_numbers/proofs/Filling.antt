@@ -1,5 +1,6 @@
 -- The table of a script's nodes, as it grows.
-use Rattle.std.proofs.Common.{◌≡◌, ◌<◌, ◌≤◌, ◌+◌, ◌^◌, ℕ, suc, List, [], ◌∷◌, ◌++◌, length, length-append, append-nil, append_assoc, set, refl, sym, ap, ◌∙◌, subst, arith}
+use Rattle.std.proofs.Common.{◌≡◌, ◌<◌, ◌≤◌, ◌+◌, ◌^◌, ℕ, suc, List, [], ◌∷◌, ◌++◌, length, length-append, append-nil, append_assoc, set, refl, sym}
+use Rattle.std.proofs.Common.{ap, ◌∙◌, subst, arith}
 use Rattle.sky_base.specs.Tree.{Exp, Stm, Stms, FunDef, Script, nodes, stm_nodes, block_nodes, script_nodes}
 use Rattle.sky_base.specs.TreeView.{exp_view, steps_view}
 use Rattle.sky_base.specs.StmtView.{arms_view}
@@ -35,7 +36,8 @@ pub filled_both : (a b c : List ℕ) (xs ys : List Node) → Filled a b xs → F
 filled_both a b c xs ys h g =
     let n = length a in
     record {
-      ends = g.ends ∙ ap (λ m. b ++ ends_from ys m) (filled_length a b xs h) ∙ ap (λ zs. zs ++ ends_from ys (n + length xs)) h.ends ∙ append_assoc a (ends_from xs n) (ends_from ys (n + length xs)) ∙ ap (λ zs. a ++ zs) (sym (ends_append xs ys n));
+      ends = g.ends ∙ ap (λ m. b ++ ends_from ys m) (filled_length a b xs h) ∙ ap (λ zs. zs ++ ends_from ys (n + length xs)) h.ends
+          ∙ append_assoc a (ends_from xs n) (ends_from ys (n + length xs)) ∙ ap (λ zs. a ++ zs) (sym (ends_append xs ys n));
     }
 
 pub fits_first : (old : List ℕ) (xs ys : List Node) → Fits old (xs ++ ys) → Fits old xs
@@ -50,17 +52,21 @@ set_first : (old more : List ℕ) (x y : ℕ) → set (old ++ x ∷ more) (lengt
 set_first [] more x y = refl
 set_first (o ∷ old) more x y = ap (λ zs. o ∷ zs) (set_first old more x y)
 
-node_filled : (old mid : List ℕ) (t : Node) (ts : List Node) → node_size t ≡ 1 + length ts → Filled (begun old) mid ts → Filled old (ended mid (length old)) (t ∷ ts)
+node_filled : (old mid : List ℕ) (t : Node) (ts : List Node) → node_size t ≡ 1 + length ts → Filled (begun old) mid ts
+    → Filled old (ended mid (length old)) (t ∷ ts)
 node_filled old mid t ts size h =
     let n = length old in
     let one : length (old ++ 0 ∷ []) ≡ n + 1 = length-append old (0 ∷ []) in
-    let is : mid ≡ old ++ 0 ∷ ends_from ts (n + 1) = h.ends ∙ ap (λ m. (old ++ 0 ∷ []) ++ ends_from ts m) one ∙ append_assoc old (0 ∷ []) (ends_from ts (n + 1)) in
+    let is : mid ≡ old ++ 0 ∷ ends_from ts (n + 1) = h.ends ∙ ap (λ m. (old ++ 0 ∷ []) ++ ends_from ts m) one
+    ∙ append_assoc old (0 ∷ []) (ends_from ts (n + 1)) in
     let last : length mid ≡ n + node_size t = omega (arith, filled_length (begun old) mid ts h, one, size) in
     record {
-      ends = ap (λ zs. set zs n (length mid)) is ∙ set_first old (ends_from ts (n + 1)) 0 (length mid) ∙ ap (λ k. old ++ k ∷ ends_from ts (n + 1)) last;
+      ends = ap (λ zs. set zs n (length mid)) is ∙ set_first old (ends_from ts (n + 1)) 0 (length mid)
+          ∙ ap (λ k. old ++ k ∷ ends_from ts (n + 1)) last;
     }
 
-node_end : (old mid : List ℕ) (t : Node) (ts : List Node) → Fits old (t ∷ ts) → Filled (begun old) mid ts → (length old < length mid) × (length mid < 2 ^ 32)
+node_end : (old mid : List ℕ) (t : Node) (ts : List Node) → Fits old (t ∷ ts) → Filled (begun old) mid ts → (length old < length mid)
+    × (length mid < 2 ^ 32)
 node_end old mid t ts h f =
     let n = filled_length (begun old) mid ts f in
     let one = length-append old (0 ∷ []) in (omega (arith, n, one), omega (arith, n, one, h))
@@ -114,7 +120,8 @@ pub left_fits : (first now : List ℕ) (all left xs ys : List Node) → left ≡
 left_fits first now all left xs ys e h =
     (fits_first now xs ys (subst (Fits now) e h.fits), omega (arith, h.most, ap length e, length-append xs ys))
 
-pub left_next : (first now mid : List ℕ) (all left xs ys : List Node) → left ≡ xs ++ ys → Filled now mid xs → Left first now all left → Left first mid all ys
+pub left_next : (first now mid : List ℕ) (all left xs ys : List Node) → left ≡ xs ++ ys → Filled now mid xs → Left first now all left
+    → Left first mid all ys
 left_next first now mid all left xs ys e f h =
     record {
       fits = fits_more now mid xs ys f (subst (Fits now) e h.fits);
@@ -134,9 +141,11 @@ module _ (old start : List ℕ) (t : Node) (ts all : List Node) (are : all ≡ t
       let both = node_end old mid t ts (subst (Fits old) are h) (subst (λ r. Filled r mid ts) one f) in
       (omega (arith, e, both.0), both.1)
 
-  pub node_ended : (mid new : List ℕ) (at : ℕ) → at ≡ length old → node_size t ≡ 1 + length ts → Filled start mid ts → new ≡ ended mid at → Filled old new all
+  pub node_ended : (mid new : List ℕ) (at : ℕ) → at ≡ length old → node_size t ≡ 1 + length ts → Filled start mid ts → new ≡ ended mid at
+      → Filled old new all
   node_ended mid new at e size f g =
-      subst (Filled old new) (sym are) (subst (λ r. Filled old r (t ∷ ts)) (sym (g ∙ ap (ended mid) e)) (node_filled old mid t ts size (subst (λ r. Filled r mid ts) one f)))
+      subst (Filled old new) (sym are) (subst (λ r. Filled old r (t ∷ ts)) (sym (g ∙ ap (ended mid) e))
+      (node_filled old mid t ts size (subst (λ r. Filled r mid ts) one f)))
 
 pub no_more : {A : Type 0} (xs : List A) → length xs ≡ 0 → xs ≡ []
 no_more [] e = refl
@@ -148,16 +157,19 @@ pub steps_first : (s : Step) (ss : List Step) → pre_steps (steps_view (s ∷ s
 steps_first (Step.Index e l c) ss = refl
 steps_first (Step.Call es l c) ss = refl
 
-pub arms_first : (a : Arm) (more : List Arm) → pre_arms (arms_view (a ∷ more)) ≡ (pre_exp (exp_view a.test) ++ pre_block a.body) ++ pre_arms (arms_view more)
+pub arms_first : (a : Arm) (more : List Arm) → pre_arms (arms_view (a ∷ more)) ≡ (pre_exp (exp_view a.test) ++ pre_block a.body)
+    ++ pre_arms (arms_view more)
 arms_first a more = sym (append_assoc (pre_exp (exp_view a.test)) (pre_block a.body) (pre_arms (arms_view more)))
 
 -- ---- the blocks of functions, and the whole script
 
-pub starts_next : (starts new : List ℕ) (now mid : List ℕ) (f : FunDef) (fs : List FunDef) → new ≡ starts ++ length now ∷ [] → Filled now mid (pre_block f.body) → new ++ starts_from fs (length mid) ≡ starts ++ starts_from (f ∷ fs) (length now)
+pub starts_next : (starts new : List ℕ) (now mid : List ℕ) (f : FunDef) (fs : List FunDef) → new ≡ starts ++ length now ∷ []
+    → Filled now mid (pre_block f.body) → new ++ starts_from fs (length mid) ≡ starts ++ starts_from (f ∷ fs) (length now)
 starts_next starts new now mid f fs e h =
     let n = length now in
     let next : length mid ≡ n + block_nodes f.body = omega (arith, filled_length now mid (pre_block f.body) h, block_count f.body) in
-    ap (λ zs. zs ++ starts_from fs (length mid)) e ∙ append_assoc starts (n ∷ []) (starts_from fs (length mid)) ∙ ap (λ k. starts ++ (n ∷ starts_from fs k)) next
+    ap (λ zs. zs ++ starts_from fs (length mid)) e ∙ append_assoc starts (n ∷ []) (starts_from fs (length mid))
+    ∙ ap (λ k. starts ++ (n ∷ starts_from fs k)) next
 
 module _ (sc : Script) (few : script_nodes sc < 2 ^ 32) where
   pub script_fits : Fits [] (pre_script sc)

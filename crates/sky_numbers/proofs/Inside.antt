@@ -1,7 +1,10 @@
 -- At each number of a script stands a node with all that is in it.
-use Rattle.std.proofs.Common.{◌≡◌, ◌<◌, ◌≤◌, ◌+◌, ◌⊎◌, inl, inr, ℕ, zero, suc, List, [], ◌∷◌, length, Option, Some, slice_get, refl, sym, ap, ◌∙◌, subst, arith}
-use Rattle.sky_base.specs.Tree.{Exp, Exps, Links, Ands, Steps, Stm, Stms, Arms, Else, FunDef, Script, nodes, exps_nodes, links_nodes, ands_nodes, steps_nodes, stm_nodes, stms_nodes, arms_nodes, else_nodes, block_nodes, funs_nodes, script_nodes}
-use Rattle.sky_law.specs.Opened.{Node, exp_node, stm_node, block_node, HasExp, HasExps, HasLinks, HasAnds, HasSteps, HasStm, HasStms, HasArms, HasElse, HasFuns}
+use Rattle.std.proofs.Common.{◌≡◌, ◌<◌, ◌≤◌, ◌+◌, ◌⊎◌, inl, inr, ℕ, zero, suc, List, [], ◌∷◌, length, Option, Some, slice_get, refl, sym, ap, ◌∙◌}
+use Rattle.std.proofs.Common.{subst, arith}
+use Rattle.sky_base.specs.Tree.{Exp, Exps, Links, Ands, Steps, Stm, Stms, Arms, Else, FunDef, Script, nodes, exps_nodes, links_nodes, ands_nodes}
+use Rattle.sky_base.specs.Tree.{steps_nodes, stm_nodes, stms_nodes, arms_nodes, else_nodes, block_nodes, funs_nodes, script_nodes}
+use Rattle.sky_law.specs.Opened.{Node, exp_node, stm_node, block_node, HasExp, HasExps, HasLinks, HasAnds, HasSteps, HasStm, HasStms, HasArms}
+use Rattle.sky_law.specs.Opened.{HasElse, HasFuns}
 use Rattle.sky_law.specs.Nodes.{pre_script, node_at}
 use Rattle.sky_law.proofs.NodesLaw.{has_script}
 use Rattle.sky_numbers.specs.Standing.{HasNode}
@@ -59,13 +62,19 @@ module _ (at : ℕ → Option Node) where
     in_exp (Exp.parts o p es) n i h lo hi =
         either (first_or i n lo) (here i n (exp_node (Exp.parts o p es)) h.0 h) (λ g. in_exps es (n + 1) i h.1 g (omega (arith, hi)))
     in_exp (Exp.chain e ls) n i h lo hi =
-        either (first_or i n lo) (here i n (exp_node (Exp.chain e ls)) h.0 h) (λ g. either (less_or i (n + 1 + nodes e)) (λ l. in_exp e (n + 1) i h.1 g l) (λ m. in_links ls (n + 1 + nodes e) i h.2 m (omega (arith, hi))))
+        either (first_or i n lo) (here i n (exp_node (Exp.chain e ls)) h.0 h)
+        (λ g. either (less_or i (n + 1 + nodes e)) (λ l. in_exp e (n + 1) i h.1 g l)
+        (λ m. in_links ls (n + 1 + nodes e) i h.2 m (omega (arith, hi))))
     in_exp (Exp.logic j e ls) n i h lo hi =
-        either (first_or i n lo) (here i n (exp_node (Exp.logic j e ls)) h.0 h) (λ g. either (less_or i (n + 1 + nodes e)) (λ l. in_exp e (n + 1) i h.1 g l) (λ m. in_ands ls (n + 1 + nodes e) i h.2 m (omega (arith, hi))))
+        either (first_or i n lo) (here i n (exp_node (Exp.logic j e ls)) h.0 h)
+        (λ g. either (less_or i (n + 1 + nodes e)) (λ l. in_exp e (n + 1) i h.1 g l)
+        (λ m. in_ands ls (n + 1 + nodes e) i h.2 m (omega (arith, hi))))
     in_exp (Exp.prefix ss e) n i h lo hi =
         either (first_or i n lo) (here i n (exp_node (Exp.prefix ss e)) h.0 h) (λ g. in_exp e (n + 1) i h.1 g (omega (arith, hi)))
     in_exp (Exp.postfix e ss) n i h lo hi =
-        either (first_or i n lo) (here i n (exp_node (Exp.postfix e ss)) h.0 h) (λ g. either (less_or i (n + 1 + nodes e)) (λ l. in_exp e (n + 1) i h.1 g l) (λ m. in_steps ss (n + 1 + nodes e) i h.2 m (omega (arith, hi))))
+        either (first_or i n lo) (here i n (exp_node (Exp.postfix e ss)) h.0 h)
+        (λ g. either (less_or i (n + 1 + nodes e)) (λ l. in_exp e (n + 1) i h.1 g l)
+        (λ m. in_steps ss (n + 1 + nodes e) i h.2 m (omega (arith, hi))))
 
     in_exps : (es : Exps) (n i : ℕ) → HasExps at es n → n ≤ i → i < n + exps_nodes es → Stands i
     in_exps Exps.no_exps n i h lo hi = absurd (omega (arith, lo, hi))
@@ -100,18 +109,29 @@ module _ (at : ℕ → Option Node) where
     in_stm (Stm.add x q p e) n i h lo hi =
         either (first_or i n lo) (here i n (stm_node (Stm.add x q p e)) h.0 h) (λ g. in_exp e (n + 1) i h.1 g (omega (arith, hi)))
     in_stm (Stm.put x q p k e) n i h lo hi =
-        either (first_or i n lo) (here i n (stm_node (Stm.put x q p k e)) h.0 h) (λ g. either (less_or i (n + 1 + nodes k)) (λ l. in_exp k (n + 1) i h.1 g l) (λ m. in_exp e (n + 1 + nodes k) i h.2 m (omega (arith, hi))))
+        either (first_or i n lo) (here i n (stm_node (Stm.put x q p k e)) h.0 h)
+        (λ g. either (less_or i (n + 1 + nodes k)) (λ l. in_exp k (n + 1) i h.1 g l)
+        (λ m. in_exp e (n + 1 + nodes k) i h.2 m (omega (arith, hi))))
     in_stm (Stm.return p e) n i h lo hi =
         either (first_or i n lo) (here i n (stm_node (Stm.return p e)) h.0 h) (λ g. in_exp e (n + 1) i h.1 g (omega (arith, hi)))
     in_stm (Stm.leave p) n i h lo hi = here i n (stm_node (Stm.leave p)) h h (omega (arith, lo, hi))
     in_stm (Stm.cases p arms els) n i h lo hi =
-        either (first_or i n lo) (here i n (stm_node (Stm.cases p arms els)) h.0 h) (λ g. either (less_or i (n + 1 + arms_nodes arms)) (λ l. in_arms arms (n + 1) i h.1 g l) (λ m. in_else els (n + 1 + arms_nodes arms) i h.2 m (omega (arith, hi))))
+        either (first_or i n lo) (here i n (stm_node (Stm.cases p arms els)) h.0 h)
+        (λ g. either (less_or i (n + 1 + arms_nodes arms)) (λ l. in_arms arms (n + 1) i h.1 g l)
+        (λ m. in_else els (n + 1 + arms_nodes arms) i h.2 m (omega (arith, hi))))
     in_stm (Stm.while p e b) n i h lo hi =
-        either (first_or i n lo) (here i n (stm_node (Stm.while p e b)) h.0 h) (λ g. either (less_or i (n + 1 + nodes e)) (λ l. in_exp e (n + 1) i h.1 g l) (λ m. first_block b (n + 1 + nodes e) i h.2 h.3 m (λ k. in_stms b (n + 1 + nodes e + 1) i h.3 k (omega (arith, hi)))))
+        either (first_or i n lo) (here i n (stm_node (Stm.while p e b)) h.0 h)
+        (λ g. either (less_or i (n + 1 + nodes e)) (λ l. in_exp e (n + 1) i h.1 g l)
+        (λ m. first_block b (n + 1 + nodes e) i h.2 h.3 m (λ k. in_stms b (n + 1 + nodes e + 1) i h.3 k (omega (arith, hi)))))
     in_stm (Stm.repeat p b e) n i h lo hi =
-        either (first_or i n lo) (here i n (stm_node (Stm.repeat p b e)) h.0 h) (λ g. either (less_or i (n + 1 + block_nodes b)) (λ l. first_block b (n + 1) i h.2 h.3 g (λ k. in_stms b (n + 1 + 1) i h.3 k (omega (arith, l)))) (λ m. in_exp e (n + 1 + block_nodes b) i h.1 m (omega (arith, hi))))
+        either (first_or i n lo) (here i n (stm_node (Stm.repeat p b e)) h.0 h)
+        (λ g. either (less_or i (n + 1 + block_nodes b))
+        (λ l. first_block b (n + 1) i h.2 h.3 g (λ k. in_stms b (n + 1 + 1) i h.3 k (omega (arith, l))))
+        (λ m. in_exp e (n + 1 + block_nodes b) i h.1 m (omega (arith, hi))))
     in_stm (Stm.for p x e b) n i h lo hi =
-        either (first_or i n lo) (here i n (stm_node (Stm.for p x e b)) h.0 h) (λ g. either (less_or i (n + 1 + nodes e)) (λ l. in_exp e (n + 1) i h.1 g l) (λ m. first_block b (n + 1 + nodes e) i h.2 h.3 m (λ k. in_stms b (n + 1 + nodes e + 1) i h.3 k (omega (arith, hi)))))
+        either (first_or i n lo) (here i n (stm_node (Stm.for p x e b)) h.0 h)
+        (λ g. either (less_or i (n + 1 + nodes e)) (λ l. in_exp e (n + 1) i h.1 g l)
+        (λ m. first_block b (n + 1 + nodes e) i h.2 h.3 m (λ k. in_stms b (n + 1 + nodes e + 1) i h.3 k (omega (arith, hi)))))
     in_stm (Stm.just p e) n i h lo hi =
         either (first_or i n lo) (here i n (stm_node (Stm.just p e)) h.0 h) (λ g. in_exp e (n + 1) i h.1 g (omega (arith, hi)))
 
@@ -123,7 +143,10 @@ module _ (at : ℕ → Option Node) where
     in_arms : (arms : Arms) (n i : ℕ) → HasArms at arms n → n ≤ i → i < n + arms_nodes arms → Stands i
     in_arms Arms.no_arms n i h lo hi = absurd (omega (arith, lo, hi))
     in_arms (Arms.arm p e b arms) n i h lo hi =
-        either (less_or i (n + nodes e)) (λ l. in_exp e n i h.0 lo l) (λ m. either (less_or i (n + nodes e + block_nodes b)) (λ l. first_block b (n + nodes e) i h.1 h.2 m (λ k. in_stms b (n + nodes e + 1) i h.2 k (omega (arith, l)))) (λ k. in_arms arms (n + nodes e + block_nodes b) i h.3 k (omega (arith, hi))))
+        either (less_or i (n + nodes e)) (λ l. in_exp e n i h.0 lo l)
+        (λ m. either (less_or i (n + nodes e + block_nodes b))
+        (λ l. first_block b (n + nodes e) i h.1 h.2 m (λ k. in_stms b (n + nodes e + 1) i h.2 k (omega (arith, l))))
+        (λ k. in_arms arms (n + nodes e + block_nodes b) i h.3 k (omega (arith, hi))))
 
     in_else : (els : Else) (n i : ℕ) → HasElse at els n → n ≤ i → i < n + else_nodes els → Stands i
     in_else Else.no_else n i h lo hi = absurd (omega (arith, lo, hi))
@@ -135,7 +158,8 @@ module _ (at : ℕ → Option Node) where
   in_funs : (fs : List FunDef) (n i : ℕ) → HasFuns at fs n → n ≤ i → i < n + funs_nodes fs → Stands i
   in_funs [] n i h lo hi = absurd (omega (arith, lo, hi))
   in_funs (f ∷ fs) n i h lo hi =
-      either (less_or i (n + block_nodes f.body)) (λ l. in_block f.body n i h.0.0 h.0.1 lo l) (λ m. in_funs fs (n + block_nodes f.body) i h.1 m (omega (arith, hi)))
+      either (less_or i (n + block_nodes f.body)) (λ l. in_block f.body n i h.0.0 h.0.1 lo l)
+      (λ m. in_funs fs (n + block_nodes f.body) i h.1 m (omega (arith, hi)))
 
 -- at each number of a script
 pub stands : (sc : Script) (i : ℕ) (t : Node) → node_at sc i ≡ Some t → HasNode (λ k. node_at sc k) t i
@@ -144,4 +168,5 @@ stands sc i t e =
     let at = λ (k : ℕ). node_at sc k in
     let has = has_script sc in
     let few : i < script_nodes sc = omega (arith, place_in (pre_script sc) i t e, script_count sc) in
-    either (less_or i (block_nodes sc.main)) (λ l. in_block at sc.main 0 i has.0.0 has.0.1 (omega arith) (omega (arith, l))) (λ m. in_funs at sc.funs (block_nodes sc.main) i has.1 m (omega (arith, few))) t e
+    either (less_or i (block_nodes sc.main)) (λ l. in_block at sc.main 0 i has.0.0 has.0.1 (omega arith) (omega (arith, l)))
+    (λ m. in_funs at sc.funs (block_nodes sc.main) i has.1 m (omega (arith, few))) t e

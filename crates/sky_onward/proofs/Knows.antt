@@ -1,5 +1,6 @@
 -- What a call that goes on refers to was there before, came with an answer, or was made.
-use Rattle.std.proofs.Common.{◌≡◌, ◌≤◌, ◌<◌, ℕ, zero, suc, List, [], ◌∷◌, ◌++◌, map, flat_map, length, Option, Some, None, Ok, Err, refl, sym, ap, ◌∙◌, subst, ◌⊎◌, inl, inr, arith}
+use Rattle.std.proofs.Common.{◌≡◌, ◌≤◌, ◌<◌, ℕ, zero, suc, List, [], ◌∷◌, ◌++◌, map, flat_map, length, Option, Some, None, Ok, Err, refl, sym, ap}
+use Rattle.std.proofs.Common.{◌∙◌, subst, ◌⊎◌, inl, inr, arith}
 use Rattle.sky_base.specs.Val.{Val, Vals, Pairs, Desc, known, list, ref, refs, refs_to, no_vals, no_pairs, pairs_refs}
 use Rattle.sky_base.specs.Name.{digested, low}
 use Rattle.sky_base.specs.Op.{Answer}
@@ -44,7 +45,8 @@ use Rattle.sky_onward.specs.Rest.{IsRest}
 use Rattle.sky_onward.specs.Steps.{Spawned, step_of}
 use Rattle.sky_onward.proofs.Starts.{is_start, start_calls}
 use Rattle.sky_onward.proofs.Waiting.{stack_left}
-use Rattle.sky_onward.proofs.Refs.{left, right, refs_each, pairs_each, each_refs, each_vals, each_pairs, Inside, inside_each, P, Q, V, M, read_so, closed}
+use Rattle.sky_onward.proofs.Refs.{left, right, refs_each, pairs_each, each_refs, each_vals, each_pairs, Inside, inside_each, P, Q, V, M, read_so}
+use Rattle.sky_onward.proofs.Refs.{closed}
 
 -- ---- along a run
 
@@ -53,7 +55,8 @@ module _ (w : World (List ℕ)) (plain : (b : List ℕ) (v : Val (List ℕ)) →
   Good d r = Fine w (P w plain D) (Q w plain D) (V w plain D) (M w plain D) d r
 
   -- what stands inside a description that is made, where what was made before it is known
-  made_at : (r : Res (List ℕ)) (d : ℕ) (before after : List (Desc (List ℕ))) (m : Desc (List ℕ)) → Good d r → segment r ≡ before ++ m ∷ after → Each (M w plain D) before → Inside D m
+  made_at : (r : Res (List ℕ)) (d : ℕ) (before after : List (Desc (List ℕ))) (m : Desc (List ℕ)) → Good d r → segment r ≡ before ++ m ∷ after
+      → Each (M w plain D) before → Inside D m
   made_at (Fin e st) d [] after m g q h = absurd cc
   made_at (Fin e st) d (b ∷ bs) after m g q h = absurd cc
   made_at (Tell o r) d [] after m g q h = let is : o ≡ m = cc in subst (Inside D) is g.0
@@ -77,13 +80,19 @@ module _ (w : World (List ℕ)) (plain : (b : List ℕ) (v : Val (List ℕ)) →
   frames_each : (fs : List (Frame (List ℕ))) → Each (FrameOk w (P w plain D) (Q w plain D) (V w plain D)) fs → Each D (frames_refs fs)
   frames_each [] h = tt
   frames_each (f ∷ fs) h =
-      each_both D (pairs_refs f.vars ++ stack_refs f.stack) (frames_refs fs) (each_both D (pairs_refs f.vars) (stack_refs f.stack) (pairs_each D f.vars h.0.0) (stack_each f.stack h.0.1)) (frames_each fs h.1)
+      each_both D (pairs_refs f.vars ++ stack_refs f.stack) (frames_refs fs)
+      (each_both D (pairs_refs f.vars) (stack_refs f.stack) (pairs_each D f.vars h.0.0) (stack_each f.stack h.0.1)) (frames_each fs h.1)
 
   each_frames : (fs : List (Frame (List ℕ))) → Each D (frames_refs fs) → Each (Keeps w (P w plain D) (Q w plain D) (V w plain D)) fs
   each_frames [] h = tt
   each_frames (f ∷ fs) h =
-      let here = left D (pairs_refs f.vars ++ stack_refs f.stack) (frames_refs fs) h in
-      ((each_pairs D f.vars (left D (pairs_refs f.vars) (stack_refs f.stack) here), each_stack f.stack (right D (pairs_refs f.vars) (stack_refs f.stack) here)), each_frames fs (right D (pairs_refs f.vars ++ stack_refs f.stack) (frames_refs fs) h))
+      let here = left D (pairs_refs f.vars ++ stack_refs f.stack) (frames_refs fs) h in (
+        (
+          each_pairs D f.vars (left D (pairs_refs f.vars) (stack_refs f.stack) here),
+          each_stack f.stack (right D (pairs_refs f.vars) (stack_refs f.stack) here),
+        ),
+        each_frames fs (right D (pairs_refs f.vars ++ stack_refs f.stack) (frames_refs fs) h),
+      )
 
   -- ---- ends of waits
 
@@ -94,19 +103,22 @@ module _ (w : World (List ℕ)) (plain : (b : List ℕ) (v : Val (List ℕ)) →
   read_ends (Ok v) b p e = read_so w plain D (Ok v) b e
   read_ends (Err k) b p e = tt
 
-  one_ends : (p : Place) (d : Desc (List ℕ)) (os : List (Object (List ℕ))) → Each (λ o. Each D (object_refs o)) os → EndOk w (P w plain D) (Q w plain D) (wait_end w (one_of p d) os)
+  one_ends : (p : Place) (d : Desc (List ℕ)) (os : List (Object (List ℕ))) → Each (λ o. Each D (object_refs o)) os
+      → EndOk w (P w plain D) (Q w plain D) (wait_end w (one_of p d) os)
   one_ends p d [] h = tt
   one_ends p d (Object.bytes b ∷ os) h = read_ends (w.reads b) b p refl
   one_ends p d (Object.data_of v ∷ os) h = each_refs D v h.0
   one_ends p d (Object.fault f ∷ os) h = tt
 
-  exec_ends : (ds : List (Desc (List ℕ))) (os : List (Object (List ℕ))) → P w plain D (list (refs_to ds)) → EndOk w (P w plain D) (Q w plain D) (exec_end ds os)
+  exec_ends : (ds : List (Desc (List ℕ))) (os : List (Object (List ℕ))) → P w plain D (list (refs_to ds))
+      → EndOk w (P w plain D) (Q w plain D) (exec_end ds os)
   exec_ends ds [] h = h
   exec_ends ds (Object.bytes b ∷ os) h = exec_ends ds os h
   exec_ends ds (Object.data_of v ∷ os) h = exec_ends ds os h
   exec_ends ds (Object.fault f ∷ os) h = tt
 
-  wait_ends : (q : Wait (List ℕ)) (os : List (Object (List ℕ))) → P w plain D (asked q) → Each (λ o. Each D (object_refs o)) os → EndOk w (P w plain D) (Q w plain D) (wait_end w q os)
+  wait_ends : (q : Wait (List ℕ)) (os : List (Object (List ℕ))) → P w plain D (asked q) → Each (λ o. Each D (object_refs o)) os
+      → EndOk w (P w plain D) (Q w plain D) (wait_end w q os)
   wait_ends (one_of p d) os s h = one_ends p d os h
   wait_ends (all_of ds) os s h = exec_ends ds os s
 
@@ -145,7 +157,8 @@ in_flat g (z ∷ xs) x y (inr i) j = in_second (g z) (flat_map g xs) y (in_flat 
 
 -- ---- a call
 
-module _ (digest : List ℕ → List ℕ) (sc : Script) (plain : (b : List ℕ) (v : Val (List ℕ)) → (over_names digest sc).reads b ≡ Ok v → refs v ≡ []) (stack : Run (List ℕ)) (os : List (Object (List ℕ))) where
+module _ (digest : List ℕ → List ℕ) (sc : Script) (plain : (b : List ℕ) (v : Val (List ℕ)) → (over_names digest sc).reads b ≡ Ok v → refs v ≡ [])
+    (stack : Run (List ℕ)) (os : List (Object (List ℕ))) where
   abbrev W : World (List ℕ)
   W = over_names digest sc
 
@@ -157,7 +170,8 @@ module _ (digest : List ℕ → List ℕ) (sc : Script) (plain : (b : List ℕ) 
 
   objects_known : (made : List (Desc (List ℕ))) → Each (λ o. Each (K made) (object_refs o)) os
   objects_known made =
-      from_each (λ o. Each (K made) (object_refs o)) os (λ o i. from_each (K made) (object_refs o) (λ d j. inl (inr (in_flat object_refs os o d i j))))
+      from_each (λ o. Each (K made) (object_refs o)) os
+      (λ o i. from_each (K made) (object_refs o) (λ d j. inl (inr (in_flat object_refs os o d i j))))
 
   made_known : (made : List (Desc (List ℕ))) → Each (M W plain (K made)) made
   made_known made =
@@ -167,26 +181,35 @@ module _ (digest : List ℕ → List ℕ) (sc : Script) (plain : (b : List ℕ) 
   plain_known made = tt
 
   -- what a run that is good for whatever was made comes to
-  module _ (f : List ℕ) (r : Res (List ℕ)) (is_fun : (f ≡ []) ⊎ IsFun sc f) (good : (made : List (Desc (List ℕ))) → Good W plain (K made) others r) where
+  module _ (f : List ℕ) (r : Res (List ℕ)) (is_fun : (f ≡ []) ⊎ IsFun sc f)
+      (good : (made : List (Desc (List ℕ))) → Good W plain (K made) others r) where
     within : (earlier later : List (Desc (List ℕ))) (m : Desc (List ℕ)) → segment r ≡ earlier ++ m ∷ later → Each (K earlier) (inside_refs m)
     within earlier later m e = inside_each (K earlier) m (made_at W plain (K earlier) r others earlier later m (good earlier) e (made_known earlier))
 
     ends_known : (e : End (List ℕ) × St (List ℕ)) → first_end r ≡ Some e → Each (K (segment r)) (object_refs (object_at e.0))
     ends_known e is =
         let ms = segment r in
-        end_each W plain (K ms) e.0 (subst (FirstEndOk W (P W plain (K ms)) (Q W plain (K ms)) (V W plain (K ms)) (M W plain (K ms)) (closed W plain (K ms))) is (end_fine W (P W plain (K ms)) (Q W plain (K ms)) (V W plain (K ms)) (M W plain (K ms)) (closed W plain (K ms)) r others (good ms) (made_known ms)))
+        end_each W plain (K ms) e.0 (subst (FirstEndOk W (P W plain (K ms)) (Q W plain (K ms)) (V W plain (K ms)) (M W plain (K ms))
+        (closed W plain (K ms))) is (end_fine W (P W plain (K ms)) (Q W plain (K ms)) (V W plain (K ms)) (M W plain (K ms))
+        (closed W plain (K ms)) r others (good ms) (made_known ms)))
 
     halts_known : (j : ℕ) (h : Halt (List ℕ)) → first_halt r ≡ Some h → Each (K (segment r)) (frames_refs (run_of_halt f j h).frames)
     halts_known j h is =
         let ms = segment r in
-        let ok = subst (FirstHaltOk W (P W plain (K ms)) (Q W plain (K ms)) (V W plain (K ms)) (M W plain (K ms)) (closed W plain (K ms)) others) is (halt_fine W (P W plain (K ms)) (Q W plain (K ms)) (V W plain (K ms)) (M W plain (K ms)) (closed W plain (K ms)) r others (good ms) (made_known ms)) in
-        frames_each W plain (K ms) (frames_of h.forms f h.st.vars) (frames_ok W (P W plain (K ms)) (Q W plain (K ms)) (V W plain (K ms)) h.forms others f h.st.vars ok.0 is_fun ok.1)
+        let ok = subst (FirstHaltOk W (P W plain (K ms)) (Q W plain (K ms)) (V W plain (K ms)) (M W plain (K ms)) (closed W plain (K ms)) others)
+        is (halt_fine W (P W plain (K ms)) (Q W plain (K ms)) (V W plain (K ms)) (M W plain (K ms)) (closed W plain (K ms)) r others
+        (good ms) (made_known ms)) in
+        frames_each W plain (K ms) (frames_of h.forms f h.st.vars)
+        (frames_ok W (P W plain (K ms)) (Q W plain (K ms)) (V W plain (K ms)) h.forms others f h.st.vars ok.0 is_fun ok.1)
 
-    pub leaves : (came : Came) (j : ℕ) (new : Run (List ℕ)) → Comes f j r came new → LeavesKnown digest (CameWith (Stand.run stack) os) (segment r) (step_of came) (Stand.run new)
+    pub leaves : (came : Came) (j : ℕ) (new : Run (List ℕ)) → Comes f j r came new
+        → LeavesKnown digest (CameWith (Stand.run stack) os) (segment r) (step_of came) (Stand.run new)
     leaves (Came.Ended o) j new (e, is, object) = subst (λ x. Each (K (segment r)) (object_refs x)) (sym object) (ends_known e is)
-    leaves Came.Waits j new (h, is, same) = subst (λ (x : Run (List ℕ)). Each (K (segment r)) (frames_refs x.frames)) (sym same) (halts_known (suc j) h is)
+    leaves Came.Waits j new (h, is, same) = subst (λ (x : Run (List ℕ)). Each (K (segment r)) (frames_refs x.frames)) (sym same)
+        (halts_known (suc j) h is)
 
-    pub names_known : (came : Came) (j : ℕ) (new : Run (List ℕ)) (before after : Spawned) → Comes f j r came new → after ≡ before ++ map (with_name digest) (segment r) → KnowsNames digest (CameWith (Stand.run stack) os) (step_of came) (Stand.run new) before after
+    pub names_known : (came : Came) (j : ℕ) (new : Run (List ℕ)) (before after : Spawned) → Comes f j r came new → after ≡ before
+        ++ map (with_name digest) (segment r) → KnowsNames digest (CameWith (Stand.run stack) os) (step_of came) (Stand.run new) before after
     names_known came j new before after comes grew =
         record { made = segment r; grew = grew; within = within; leaves = leaves came j new comes }
 
@@ -194,22 +217,32 @@ module _ (digest : List ℕ → List ℕ) (sc : Script) (plain : (b : List ℕ) 
   module _ (f : List ℕ) (xs : Pairs (List ℕ)) (known_vars : (made : List (Desc (List ℕ))) → PairsRefer (K made) xs) where
     pub start_good : (made : List (Desc (List ℕ))) → Good W plain (K made) others (body_at W bodies f xs no_vals nowhere start_st)
     start_good made =
-        fine_call W (P W plain (K made)) (Q W plain (K made)) (V W plain (K made)) (M W plain (K made)) any_lit any_name (closed W plain (K made)) (written_any sc) others f xs no_vals nowhere start_st tt (known_vars made) tt
+        fine_call W (P W plain (K made)) (Q W plain (K made)) (V W plain (K made)) (M W plain (K made)) any_lit any_name
+        (closed W plain (K made)) (written_any sc) others f xs no_vals nowhere start_st tt (known_vars made) tt
 
   -- from a wait
   module _ (fits : FitsRun sc stack) (f : List ℕ) (h : Halt (List ℕ)) (l : LeftAt sc f h stack) where
-    left_forms : (made : List (Desc (List ℕ))) → FormsOk W (P W plain (K made)) (Q W plain (K made)) (V W plain (K made)) others h.forms × PairsRefer (K made) h.st.vars
+    left_forms : (made : List (Desc (List ℕ))) → FormsOk W (P W plain (K made)) (Q W plain (K made)) (V W plain (K made)) others h.forms
+        × PairsRefer (K made) h.st.vars
     left_forms made =
-        forms_back W (P W plain (K made)) (Q W plain (K made)) (V W plain (K made)) h.forms others f h.st.vars (inr (body_places (body_of f sc), l.follow)) (subst (Each (Keeps W (P W plain (K made)) (Q W plain (K made)) (V W plain (K made)))) (sym l.frames) (each_frames W plain (K made) stack.frames (state_known made))) (subst (λ (fs : List (Frame (List ℕ))). length fs ≤ bodies) (sym l.frames) fits.few_frames)
+        forms_back W (P W plain (K made)) (Q W plain (K made)) (V W plain (K made)) h.forms others f h.st.vars
+        (inr (body_places (body_of f sc), l.follow))
+        (subst (Each (Keeps W (P W plain (K made)) (Q W plain (K made)) (V W plain (K made)))) (sym l.frames)
+        (each_frames W plain (K made) stack.frames (state_known made)))
+        (subst (λ (fs : List (Frame (List ℕ))). length fs ≤ bodies) (sym l.frames) fits.few_frames)
 
     pub left_good : (made : List (Desc (List ℕ))) → Good W plain (K made) others (rest_of W others h os)
     left_good made =
         let back = left_forms made in
-        plug_fine W (P W plain (K made)) (Q W plain (K made)) (V W plain (K made)) (M W plain (K made)) (closed W plain (K made)) h.forms others (wait_end W h.wait os) h.st back.0 (fit_taken sc h.forms (body_places (body_of f sc)) l.follow l.opened) (wait_ends W plain (K made) h.wait os (forms_asked W (P W plain (K made)) (Q W plain (K made)) (V W plain (K made)) h.forms others h.wait back.0 l.wait) (objects_known made)) back.1
+        plug_fine W (P W plain (K made)) (Q W plain (K made)) (V W plain (K made)) (M W plain (K made)) (closed W plain (K made)) h.forms others
+        (wait_end W h.wait os) h.st back.0 (fit_taken sc h.forms (body_places (body_of f sc)) l.follow l.opened)
+        (wait_ends W plain (K made) h.wait os (forms_asked W (P W plain (K made)) (Q W plain (K made)) (V W plain (K made)) h.forms others
+        h.wait back.0 l.wait) (objects_known made)) back.1
 
     pub left_fun : (f ≡ []) ⊎ IsFun sc f
     left_fun =
-        bottom_fun W (P W plain (K [])) (Q W plain (K [])) (V W plain (K [])) (λ x. (x ≡ []) ⊎ IsFun sc x) h.forms f h.st.vars (λ g gs is. (subst (FunsOf sc) (sym l.frames ∙ is) fits.functions).0)
+        bottom_fun W (P W plain (K [])) (Q W plain (K [])) (V W plain (K [])) (λ x. (x ≡ []) ⊎ IsFun sc x) h.forms f h.st.vars
+        (λ g gs is. (subst (FunsOf sc) (sym l.frames ∙ is) fits.functions).0)
 
 -- ---- data over names refers to nothing
 
@@ -228,7 +261,8 @@ data_plain digest sc b v e = go (reads {N = ⊥} b) refl
 
 -- ---- any stack that fits
 
-bottom_known : (digest : List ℕ → List ℕ) (sc : Script) (D : Desc (List ℕ) → Type 0) (fs : List (Frame (List ℕ))) → Each D (frames_refs fs) → PairsRefer D (bottom_vars fs)
+bottom_known : (digest : List ℕ → List ℕ) (sc : Script) (D : Desc (List ℕ) → Type 0) (fs : List (Frame (List ℕ))) → Each D (frames_refs fs)
+    → PairsRefer D (bottom_vars fs)
 bottom_known digest sc D [] h = tt
 bottom_known digest sc D (f ∷ fs) h =
     (each_frames (over_names digest sc) (data_plain digest sc) D (f ∷ fs) h).0.0
@@ -241,7 +275,9 @@ vars_are : (o : Option Body) (f : List ℕ) (xs : Pairs (List ℕ)) (r : Run (Li
 vars_are None f xs r h = absurd h
 vars_are (Some b) f xs r h = start_vars b f xs no_vals r h ∙ bind_none b.params xs
 
-pub call_knows : (digest : List ℕ → List ℕ) (sc : Script) (old new : Run (List ℕ)) (answers : List rust.Object) (came : Came) (before after : Spawned) → FitsRun sc old → ComesOf digest sc old answers came new → MakesOf digest sc old answers before after → KnowsNames digest (CameWith (Stand.run old) (map object_view answers)) (step_of came) (Stand.run new) before after
+pub call_knows : (digest : List ℕ → List ℕ) (sc : Script) (old new : Run (List ℕ)) (answers : List rust.Object) (came : Came)
+    (before after : Spawned) → FitsRun sc old → ComesOf digest sc old answers came new → MakesOf digest sc old answers before after
+    → KnowsNames digest (CameWith (Stand.run old) (map object_view answers)) (step_of came) (Stand.run new) before after
 call_knows digest sc old new answers came before after fits came_to makes = go old.waits refl
   where
     go : (k : ℕ) → old.waits ≡ k → KnowsNames digest (CameWith (Stand.run old) (map object_view answers)) (step_of came) (Stand.run new) before after
@@ -252,12 +288,20 @@ call_knows digest sc old new answers came before after fits came_to makes = go o
         let fun : comes.bottom_fun old.frames ≡ s.0 = start_fun (body_of s.0 sc) s.0 s.1 no_vals old s.2 in
         let vars : bottom_vars old.frames ≡ s.1 = vars_are (body_of s.0 sc) s.0 s.1 old s.2 in
         let plain = data_plain digest sc in
-        let known_vars = λ (made : List (Desc (List ℕ))). subst (PairsRefer (Known digest (CameWith (Stand.run old) (map object_view answers)) made)) vars (bottom_known digest sc (Known digest (CameWith (Stand.run old) (map object_view answers)) made) old.frames (state_known digest sc plain old (map object_view answers) made)) in
-        names_known digest sc plain old (map object_view answers) s.0 r (subst (λ f. (f ≡ []) ⊎ IsFun sc f) fun (bottom_is sc old.frames fits.functions)) (start_good digest sc plain old (map object_view answers) s.0 s.1 known_vars) came old.waits new before after (came_to s.0 r rest) (makes s.0 r rest)
+        let known_vars = λ (made : List (Desc (List ℕ))).
+        subst (PairsRefer (Known digest (CameWith (Stand.run old) (map object_view answers)) made)) vars
+        (bottom_known digest sc (Known digest (CameWith (Stand.run old) (map object_view answers)) made) old.frames
+        (state_known digest sc plain old (map object_view answers) made)) in
+        names_known digest sc plain old (map object_view answers) s.0 r
+        (subst (λ f. (f ≡ []) ⊎ IsFun sc f) fun (bottom_is sc old.frames fits.functions))
+        (start_good digest sc plain old (map object_view answers) s.0 s.1 known_vars) came old.waits new before after (came_to s.0 r rest)
+        (makes s.0 r rest)
     go (suc k) e =
         let some : 0 < old.waits = omega (arith, e) in
         let l = stack_left sc old fits some in
         let r = rest_of (over_names digest sc) others l.1 (map object_view answers) in
         let rest : IsRest digest sc old (map object_view answers) l.0 r = inr (record { waits = some; halt = l.1; left = l.2; is = refl }) in
         let plain = data_plain digest sc in
-        names_known digest sc plain old (map object_view answers) l.0 r (left_fun digest sc plain old (map object_view answers) fits l.0 l.1 l.2) (left_good digest sc plain old (map object_view answers) fits l.0 l.1 l.2) came old.waits new before after (came_to l.0 r rest) (makes l.0 r rest)
+        names_known digest sc plain old (map object_view answers) l.0 r (left_fun digest sc plain old (map object_view answers) fits l.0 l.1 l.2)
+        (left_good digest sc plain old (map object_view answers) fits l.0 l.1 l.2) came old.waits new before after (came_to l.0 r rest)
+        (makes l.0 r rest)

@@ -48,7 +48,8 @@ module _ (digest : List ℕ → List ℕ) (sc : Script) where
       saved : Saved (over_names digest sc) f r.waits h
       saved = record { waits = a.waits; fits = subst (FitsRun sc) (sym same) a.fits; follow = l.follow; all_opened = l.opened }
 
-      both : Each (SoundDesc sc) (segment (rest_of (over_names digest sc) others h os)) × EndsSound sc (first_end (rest_of (over_names digest sc) others h os))
+      both : Each (SoundDesc sc) (segment (rest_of (over_names digest sc) others h os))
+          × EndsSound sc (first_end (rest_of (over_names digest sc) others h os))
       both = makes_answered (over_names digest sc) sound_world f r.waits h saved os l.wait a.objects
 
       pub makes_next : Each (SoundDesc sc) (segment (rest_of (over_names digest sc) others h os))

@@ -1,13 +1,16 @@
 -- References in values and one by one; and the closed properties of runs over names that they are.
 use Rattle.std.proofs.Common.{◌≡◌, ℕ, List, [], ◌∷◌, ◌++◌, map, Option, Some, None, Ok, Err, refl, sym, subst}
-use Rattle.sky_base.specs.Val.{Val, Vals, Pairs, Desc, null, truth, num, text, list, dict, fun, ref, no_vals, val, no_pairs, pair, call, out, input, known, refs, vals_refs, pairs_refs, vals_of}
+use Rattle.sky_base.specs.Val.{Val, Vals, Pairs, Desc, null, truth, num, text, list, dict, fun, ref, no_vals, val, no_pairs, pair, call, out, input}
+use Rattle.sky_base.specs.Val.{known, refs, vals_refs, pairs_refs, vals_of}
 use Rattle.sky_base.specs.Op.{Answer, limited, dict_from, index, keys, has, len, negated, opposite}
 use Rattle.sky_base.specs.Eval.{World, caught_by, oper, lit_val}
 use Rattle.sky_law.specs.Tasks.{Each}
 use Rattle.sky_law.specs.Refers.{Refers, ValsRefer, PairsRefer}
 use Rattle.sky_law.proofs.FineLaw.{Closed, AnswerOk, OptionOk, ValsOk}
 use Rattle.sky_law.proofs.Lists.{each_both}
-use Rattle.sky_law.proofs.RefersOps.{AnswerRefers, OptionRefers, simple_refers, limited_refers, put_refers, find_refers, caught_refers, oper_refers, index_refers, set_at_refers, grown_refers, len_refers, keys_refers, range_refers, list_refers, dict_refers, lit_refers, refs_refers}
+use Rattle.sky_law.proofs.RefersOps.{AnswerRefers, OptionRefers, simple_refers, limited_refers, put_refers, find_refers, caught_refers, oper_refers}
+use Rattle.sky_law.proofs.RefersOps.{index_refers, set_at_refers, grown_refers, len_refers, keys_refers, range_refers, list_refers, dict_refers}
+use Rattle.sky_law.proofs.RefersOps.{lit_refers, refs_refers}
 use Rattle.sky_law.proofs.SimpleOps.{negated_simple, opposite_simple, has_simple}
 use Rattle.sky_law.proofs.WrittenLaw.{any_lit, any_name}
 use Rattle.sky_onward.specs.Knows.{inside_refs}
@@ -115,7 +118,8 @@ module _ (w : World (List ℕ)) (plain : (b : List ℕ) (v : Val (List ℕ)) →
         put_ok = λ x a ps k h l. put_refers (List ℕ) D x a ps h l;
         find_ok = λ x ps l. found _ (find_refers (List ℕ) D x ps l);
         fun_ok = λ x k i. answered (limited (fun x no_pairs)) (limited_refers (List ℕ) D (fun x no_pairs) tt);
-        closed_ok = λ f x ps k e l. answered (limited (fun x (caught_by f.uses ps))) (limited_refers (List ℕ) D (fun x (caught_by f.uses ps)) (caught_refers (List ℕ) D f.uses ps l));
+        closed_ok = λ f x ps k e l. answered (limited (fun x (caught_by f.uses ps)))
+            (limited_refers (List ℕ) D (fun x (caught_by f.uses ps)) (caught_refers (List ℕ) D f.uses ps l));
         caught_ok = λ f ca h. h;
         list_ok = λ vs h. answered (limited (list (vals_of vs))) (list_refers (List ℕ) D vs h);
         dict_ok = λ vs h. answered (dict_from vs no_pairs) (dict_refers (List ℕ) D vs no_pairs h tt);

@@ -16,11 +16,13 @@ use Rattle.sky_onward.proofs.Rests.{has_rest}
 use Rattle.sky_onward.specs.Steps.{step_of}
 
 module _ (digest : List ℕ → List ℕ) (sc : Script) (old new : Run (List ℕ)) (answers : List rust.Object) where
-  pub call_exactly : (came : Came) → ComesOf digest sc old answers came new → Exactly digest sc (map object_view answers) (Stand.run old) (Stand.run new) (step_of came)
+  pub call_exactly : (came : Came) → ComesOf digest sc old answers came new
+      → Exactly digest sc (map object_view answers) (Stand.run old) (Stand.run new) (step_of came)
   call_exactly (Came.Ended o) comes = λ f r h. comes f r h
   call_exactly Came.Waits comes = λ f r h. let c = comes f r h in (c.0, c.1, ap Stand.run c.2)
 
-  pub call_further : (came : Came) → FitsRun sc old → ComesOf digest sc old answers came new → OneFurther (Stand.run old) (Stand.run new) (step_of came)
+  pub call_further : (came : Came) → FitsRun sc old → ComesOf digest sc old answers came new
+      → OneFurther (Stand.run old) (Stand.run new) (step_of came)
   call_further (Came.Ended o) fits comes = tt
   call_further Came.Waits fits comes =
       let rest = has_rest digest sc old (map object_view answers) fits in

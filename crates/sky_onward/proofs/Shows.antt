@@ -1,5 +1,6 @@
 -- What the root task comes to, as a step of a task.
-use Rattle.std.proofs.Common.{◌≡◌, ◌≢◌, ◌++◌, ℕ, zero, suc, List, [], ◌∷◌, map, Bool, true, false, Option, Some, None, nat_le, refl, sym, ap, ◌∙◌, subst, append-nil, inl, inr}
+use Rattle.std.proofs.Common.{◌≡◌, ◌≢◌, ◌++◌, ℕ, zero, suc, List, [], ◌∷◌, map, Bool, true, false, Option, Some, None, nat_le, refl, sym, ap, ◌∙◌}
+use Rattle.std.proofs.Common.{subst, append-nil, inl, inr}
 use Rattle.sky_base.specs.Val as v
 use Rattle.sky_base.specs.Val.{call, out, input, known, refs, stands_in, unless_in, distinct_from, distinct}
 use Rattle.sky_base.specs.Name.{digested, low_desc}
@@ -76,11 +77,13 @@ not_run : (tag : Tag) (r : Run ⊥) (a : State) (s : Stand (List ℕ)) → State
 unfolding IsShow
 not_run tag r a s e low h = subst IsShow (low ∙ ap (low_state tag) (sym e)) h
 
-not_started : (tag : Tag) (f : List ℕ) (c : Pairs) (vs : Vals) (o : Option Body) (a : State) (s : Stand (List ℕ)) → start_frame f c vs o ≡ Some a → s ≡ low_state tag a → IsShow s → ⊥
+not_started : (tag : Tag) (f : List ℕ) (c : Pairs) (vs : Vals) (o : Option Body) (a : State) (s : Stand (List ℕ)) → start_frame f c vs o ≡ Some a
+    → s ≡ low_state tag a → IsShow s → ⊥
 not_started tag f c vs None a s e low h = none_some a e
 not_started tag f c vs (Some b) a s e low h = not_run tag _ a s (some_is _ a e) low h
 
-not_halted : (tag : Tag) (f : List ℕ) (j : ℕ) (x : Option (Halt ⊥)) (a : State) (s : Stand (List ℕ)) → halt_state f j x ≡ Some a → s ≡ low_state tag a → IsShow s → ⊥
+not_halted : (tag : Tag) (f : List ℕ) (j : ℕ) (x : Option (Halt ⊥)) (a : State) (s : Stand (List ℕ)) → halt_state f j x ≡ Some a → s
+    ≡ low_state tag a → IsShow s → ⊥
 not_halted tag f j None a s e low h = none_some a e
 not_halted tag f j (Some x) a s e low h = not_run tag _ a s (some_is _ a e) low h
 
@@ -98,40 +101,56 @@ abbrev pub shows_next : v.Val (List ℕ) → ℕ → shows.Came → Stand (List 
 shows_next u w (shows.Came.Shown s) = Stand.show_at u w
 shows_next u w (shows.Came.Next x) = Stand.show_at (view x) (suc w)
 
-module _ (digest : List ℕ → List ℕ) (sc : Script) (u : v.Val (List ℕ)) (w : ℕ) (os : List (Object (List ℕ))) (came : shows.Came) (goes : shown.GoesOnShown u w os came) where
+module _ (digest : List ℕ → List ℕ) (sc : Script) (u : v.Val (List ℕ)) (w : ℕ) (os : List (Object (List ℕ))) (came : shows.Came)
+    (goes : shown.GoesOnShown u w os came) where
   abbrev tag : Tag
   tag = digested digest
 
   module _ (job : Job) (around : Around) (alike : ReadsAlike (digested digest) around data_of) (writes : WritesAlike (digested digest) around) where
-    at_wave : (n j : ℕ) (o : shows.Came) → shown.ShownOrStands tag job around n j w o → moves.StepsTo tag job around Task.show j (stop_of (shows_step o) (shows_next u w o))
+    at_wave : (n j : ℕ) (o : shows.Came) → shown.ShownOrStands tag job around n j w o
+        → moves.StepsTo tag job around Task.show j (stop_of (shows_step o) (shows_next u w o))
     at_wave n j (shows.Came.Shown s) (is, ne, none) =
         ((n, is, ne), no_later tag job around n Task.show j (ap is_answer is ∙ is_told (shown_view s) ne) none)
     at_wave n j (shows.Came.Next x) (stands, ds, wait) = (stands, (ds, (n, wait)))
 
-    at_show : (j n : ℕ) → Stands job around tag (Stand.show_at u w) Task.show j → moves.Answers tag job around Task.show n j os → moves.StepsTo tag job around Task.show j (stop_of (shows_step came) (shows_next u w came))
+    at_show : (j n : ℕ) → Stands job around tag (Stand.show_at u w) Task.show j → moves.Answers tag job around Task.show n j os
+        → moves.StepsTo tag job around Task.show j (stop_of (shows_step came) (shows_next u w came))
     at_show j n s a =
         let once = show_once job around n j a.waited a.is_wait in
         let all : see_all (see job around n) a.waited ≡ Some a.objects = ap (see_all (see job around n)) (sym once) ∙ a.seen in
         at_wave n j came (goes tag job around n j a.waited a.objects alike writes s a.is_wait all a.are a.apart)
 
-    steps : (t : Task) (j n : ℕ) → Stands job around tag (Stand.show_at u w) t j → moves.Answers tag job around t n j os → moves.StepsTo tag job around t j (stop_of (shows_step came) (shows_next u w came))
+    steps : (t : Task) (j n : ℕ) → Stands job around tag (Stand.show_at u w) t j → moves.Answers tag job around t n j os
+        → moves.StepsTo tag job around t j (stop_of (shows_step came) (shows_next u w came))
     unfolding IsShow
     steps Task.show j n s a = at_show j n s a
     steps (Task.of (call f c vs)) zero n (x, (m, at), low) a = absurd (not_started tag f c vs (body_of f job.script) x (Stand.show_at u w) at low tt)
-    steps (Task.of (call f c vs)) (suc j) n (x, (m, at), low) a = absurd (not_halted tag f (suc j) (halt (see job around m) j (run_of job around f c vs)) x (Stand.show_at u w) at low tt)
+    steps (Task.of (call f c vs)) (suc j) n (x, (m, at), low) a =
+        absurd (not_halted tag f (suc j) (halt (see job around m) j (run_of job around f c vs)) x (Stand.show_at u w) at low tt)
     steps (Task.of (out x y m i)) j n (b, (k, at), low) a = absurd (none_some b at)
     steps (Task.of (input k)) j n (b, (m, at), low) a = absurd (none_some b at)
     steps (Task.of (known b)) j n s a = absurd b
 
-    makes : (t : Task) (j n : ℕ) → Stands job around tag (Stand.show_at u w) t j → moves.Answers tag job around t n j os → [] ≡ map (low_desc no_name tag) (made_between job around n t j (suc j))
+    makes : (t : Task) (j n : ℕ) → Stands job around tag (Stand.show_at u w) t j → moves.Answers tag job around t n j os → []
+        ≡ map (low_desc no_name tag) (made_between job around n t j (suc j))
     unfolding IsShow
     makes Task.show j n s a = sym (ap (map (low_desc no_name tag)) (show_makes job around n j))
     makes (Task.of (call f c vs)) zero n (x, (m, at), low) a = absurd (not_started tag f c vs (body_of f job.script) x (Stand.show_at u w) at low tt)
-    makes (Task.of (call f c vs)) (suc j) n (x, (m, at), low) a = absurd (not_halted tag f (suc j) (halt (see job around m) j (run_of job around f c vs)) x (Stand.show_at u w) at low tt)
+    makes (Task.of (call f c vs)) (suc j) n (x, (m, at), low) a =
+        absurd (not_halted tag f (suc j) (halt (see job around m) j (run_of job around f c vs)) x (Stand.show_at u w) at low tt)
     makes (Task.of (out x y m i)) j n (b, (k, at), low) a = absurd (none_some b at)
     makes (Task.of (input k)) j n (b, (m, at), low) a = absurd (none_some b at)
     makes (Task.of (known b)) j n s a = absurd b
 
   pub show_resumed : Resumed digest sc (Stand.show_at u w) (shows_next u w came) os (shows_step came) [] []
   show_resumed =
-      record { made = []; grew = refl; moves = λ job around t is alike writes. record { steps = λ j n s a. steps job around alike writes t j n s a; makes = λ j n s a. makes job around alike writes t j n s a } }
+      record {
+        made = [];
+        grew = refl;
+        moves = λ job around t is alike
+            writes. record {
+              steps = λ j n s a. steps job around alike writes t j n s a;
+              makes =
+                  λ j n s a. makes job around alike writes t j n s a;
+            };
+      }

@@ -1,7 +1,9 @@
 -- What the next value of the root task refers to came with the objects.
-use Rattle.std.proofs.Common.{◌≡◌, ◌++◌, ℕ, suc, List, [], ◌∷◌, Bool, true, false, cond, flat_map, nat_lt, Option, Some, None, Result, Ok, Err, refl, sym, ap, ◌∙◌, subst, inl, inr}
+use Rattle.std.proofs.Common.{◌≡◌, ◌++◌, ℕ, suc, List, [], ◌∷◌, Bool, true, false, cond, flat_map, nat_lt, Option, Some, None, Result, Ok, Err, refl}
+use Rattle.std.proofs.Common.{sym, ap, ◌∙◌, subst, inl, inr}
 use Rattle.std.specs.Str.{is_utf8}
-use Rattle.sky_base.specs.Val.{Val, Vals, Pairs, Desc, null, truth, num, text, list, dict, fun, ref, no_vals, val, no_pairs, pair, refs, depth, size, distinct, same_text, same_desc}
+use Rattle.sky_base.specs.Val.{Val, Vals, Pairs, Desc, null, truth, num, text, list, dict, fun, ref, no_vals, val, no_pairs, pair, refs, depth, size}
+use Rattle.sky_base.specs.Val.{distinct, same_text, same_desc}
 use Rattle.sky_base.specs.Op.{Answer}
 use Rattle.sky_base.specs.Tree.{Stms, Script}
 use Rattle.sky_base.specs.Res.{Object, object_refs}
@@ -13,7 +15,8 @@ use Rattle.sky_rows.specs.Data.{data_of}
 use Rattle.sky_state.specs.Pending.{all_refs}
 use Rattle.sky_state.specs.Stand.{Stand}
 use Rattle.ciel_json.specs.Text.{text_of as writes}
-use Rattle.sky_waves.specs.Wave.{Turned, text_if, data_or_text, value_of, value_seen, on_list, on_dict, on_fun, on_val, on_pair, fill, fill_vals, fill_pairs, next_if, next_of as next_turn, lone, turn_all, turn_refs, turn_at}
+use Rattle.sky_waves.specs.Wave.{Turned, text_if, data_or_text, value_of, value_seen, on_list, on_dict, on_fun, on_val, on_pair, fill, fill_vals}
+use Rattle.sky_waves.specs.Wave.{fill_pairs, next_if, next_of as next_turn, lone, turn_all, turn_refs, turn_at}
 use Rattle.sky_shown.specs.Given.{given_for}
 use Rattle.sky_shown.specs.Shows.{Next, waits_if, wave_if, after_turn, next_of}
 use Rattle.sky_onward.specs.Exactly.{Exactly}
@@ -37,24 +40,30 @@ waits_is a b e = cc
 module _ (D : Desc (List ℕ) → Type 0) where
   -- ---- what stands in the place of references
 
-  on_list_so : (r : Result (Vals (List ℕ)) Fault) (w : Val (List ℕ)) → ((us : Vals (List ℕ)) → r ≡ Ok us → ValsRefer D us) → on_list r ≡ Ok w → Refers D w
+  on_list_so : (r : Result (Vals (List ℕ)) Fault) (w : Val (List ℕ)) → ((us : Vals (List ℕ)) → r ≡ Ok us → ValsRefer D us) → on_list r ≡ Ok w
+      → Refers D w
   on_list_so (Ok us) w f e = subst (Refers D) (ok_is (list us) w e) (f us refl)
   on_list_so (Err q) w f e = absurd cc
 
-  on_dict_so : (r : Result (Pairs (List ℕ)) Fault) (w : Val (List ℕ)) → ((us : Pairs (List ℕ)) → r ≡ Ok us → PairsRefer D us) → on_dict r ≡ Ok w → Refers D w
+  on_dict_so : (r : Result (Pairs (List ℕ)) Fault) (w : Val (List ℕ)) → ((us : Pairs (List ℕ)) → r ≡ Ok us → PairsRefer D us) → on_dict r ≡ Ok w
+      → Refers D w
   on_dict_so (Ok us) w f e = subst (Refers D) (ok_is (dict us) w e) (f us refl)
   on_dict_so (Err q) w f e = absurd cc
 
-  on_fun_so : (f : List ℕ) (r : Result (Pairs (List ℕ)) Fault) (w : Val (List ℕ)) → ((us : Pairs (List ℕ)) → r ≡ Ok us → PairsRefer D us) → on_fun f r ≡ Ok w → Refers D w
+  on_fun_so : (f : List ℕ) (r : Result (Pairs (List ℕ)) Fault) (w : Val (List ℕ)) → ((us : Pairs (List ℕ)) → r ≡ Ok us → PairsRefer D us)
+      → on_fun f r ≡ Ok w → Refers D w
   on_fun_so f (Ok us) w g e = subst (Refers D) (ok_is (fun f us) w e) (g us refl)
   on_fun_so f (Err q) w g e = absurd cc
 
-  on_val_so : (r : Result (Val (List ℕ)) Fault) (s : Result (Vals (List ℕ)) Fault) (ws : Vals (List ℕ)) → ((u : Val (List ℕ)) → r ≡ Ok u → Refers D u) → ((us : Vals (List ℕ)) → s ≡ Ok us → ValsRefer D us) → on_val r s ≡ Ok ws → ValsRefer D ws
+  on_val_so : (r : Result (Val (List ℕ)) Fault) (s : Result (Vals (List ℕ)) Fault) (ws : Vals (List ℕ))
+      → ((u : Val (List ℕ)) → r ≡ Ok u → Refers D u) → ((us : Vals (List ℕ)) → s ≡ Ok us → ValsRefer D us) → on_val r s ≡ Ok ws → ValsRefer D ws
   on_val_so (Err q) s ws f g e = absurd cc
   on_val_so (Ok u) (Err q) ws f g e = absurd cc
   on_val_so (Ok u) (Ok us) ws f g e = subst (ValsRefer D) (ok_is (val u us) ws e) (f u refl, g us refl)
 
-  on_pair_so : (k : List ℕ) (r : Result (Val (List ℕ)) Fault) (s : Result (Pairs (List ℕ)) Fault) (ws : Pairs (List ℕ)) → ((u : Val (List ℕ)) → r ≡ Ok u → Refers D u) → ((us : Pairs (List ℕ)) → s ≡ Ok us → PairsRefer D us) → on_pair k r s ≡ Ok ws → PairsRefer D ws
+  on_pair_so : (k : List ℕ) (r : Result (Val (List ℕ)) Fault) (s : Result (Pairs (List ℕ)) Fault) (ws : Pairs (List ℕ))
+      → ((u : Val (List ℕ)) → r ≡ Ok u → Refers D u) → ((us : Pairs (List ℕ)) → s ≡ Ok us → PairsRefer D us) → on_pair k r s ≡ Ok ws
+      → PairsRefer D ws
   on_pair_so k (Err q) s ws f g e = absurd cc
   on_pair_so k (Ok u) (Err q) ws f g e = absurd cc
   on_pair_so k (Ok u) (Ok us) ws f g e = subst (PairsRefer D) (ok_is (pair k u us) ws e) (f u refl, g us refl)
@@ -83,7 +92,8 @@ module _ (D : Desc (List ℕ) → Type 0) where
 
   -- ---- a wave
 
-  module _ (knows : Desc (List ℕ) → Option (Object (List ℕ))) (so : (d : Desc (List ℕ)) (o : Object (List ℕ)) → knows d ≡ Some o → Each D (object_refs o)) where
+  module _ (knows : Desc (List ℕ) → Option (Object (List ℕ)))
+      (so : (d : Desc (List ℕ)) (o : Object (List ℕ)) → knows d ≡ Some o → Each D (object_refs o)) where
     bytes_so : (b : List ℕ) (v : Val (List ℕ)) → value_of data_of (Object.bytes b) ≡ Ok v → Refers D v
     bytes_so b v e = go (data_of b) refl e
       where
@@ -92,7 +102,8 @@ module _ (D : Desc (List ℕ) → Type 0) where
         text_so false e = absurd cc
 
         go : (a : Answer (List ℕ)) → data_of b ≡ a → data_or_text a b ≡ Ok v → Refers D v
-        go (Ok u) q e = subst (Refers D) (ok_is u v e) (each_refs D u (subst (Each D) (sym (data_plain (λ x. x) (record { funs = []; main = Stms.no_stms; keys = [] }) b u q)) tt))
+        go (Ok u) q e = subst (Refers D) (ok_is u v e)
+            (each_refs D u (subst (Each D) (sym (data_plain (λ x. x) (record { funs = []; main = Stms.no_stms; keys = [] }) b u q)) tt))
         go (Err k) q e = text_so (is_utf8 b) e
 
     seen_so : (d : Desc (List ℕ)) (v : Val (List ℕ)) → value_seen data_of (knows d) ≡ Ok v → Refers D v
@@ -171,11 +182,19 @@ module _ (digest : List ℕ → List ℕ) (sc : Script) (os : List (Object (List
   next_known : (u : Val (List ℕ)) → next_of os v w ≡ Next.waits u → Each K (refs u)
   next_known u e =
       let knows = given_for (distinct same_text (refs v)) os in
-      refs_each K u (refs_so K knows (λ d o at. object_known o (given_in (distinct same_text (refs v)) os d o at)) (refs v) v u (turned_next (turn_at data_of writes knows v) (suc w) u e))
+      refs_each K u (refs_so K knows (λ d o at. object_known o (given_in (distinct same_text (refs v)) os d o at)) (refs v) v u
+      (turned_next (turn_at data_of writes knows v) (suc w) u e))
 
-  pub root_knows : (new : Stand (List ℕ)) (s : Step) → Exactly digest sc os (Stand.show_at v w) new s → KnowsNames digest (CameWith (Stand.show_at v w) os) s new [] []
+  pub root_knows : (new : Stand (List ℕ)) (s : Step) → Exactly digest sc os (Stand.show_at v w) new s
+      → KnowsNames digest (CameWith (Stand.show_at v w) os) s new [] []
   root_knows new (Step.Ended o) h = absurd h
   root_knows new Step.Waits (u, e, is) =
-      record { made = []; grew = refl; within = λ earlier later m q. absurd (none_made earlier later m q); leaves = subst (λ (x : Stand (List ℕ)). Each K (all_refs x)) (sym is) (next_known u e) }
+      record {
+        made = [];
+        grew = refl;
+        within = λ earlier later m q. absurd (none_made earlier later m q);
+        leaves =
+            subst (λ (x : Stand (List ℕ)). Each K (all_refs x)) (sym is) (next_known u e);
+      }
   root_knows new (Step.Shown a) h =
       record { made = []; grew = refl; within = λ earlier later m q. absurd (none_made earlier later m q); leaves = tt }

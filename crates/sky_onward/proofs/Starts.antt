@@ -57,9 +57,16 @@ module _ (sc : Script) where
       λ i. record { node = (h ∙ ap (λ (y : Body). y.node) same) i; step = a i } ∷ []
   one_todo (t ∷ u ∷ us) o b e h a = absurd a
 
-  frame_is : (f : Frame (List ℕ)) (b : Body) → body_of f.fun sc ≡ Some b → StartFrame sc f → f ≡ record { fun = f.fun; vars = bind b.params no_vals f.vars; stack = []; todo = record { node = b.node; step = 0 } ∷ [] }
+  frame_is : (f : Frame (List ℕ)) (b : Body) → body_of f.fun sc ≡ Some b → StartFrame sc f → f
+      ≡ record { fun = f.fun; vars = bind b.params no_vals f.vars; stack = []; todo = record { node = b.node; step = 0 } ∷ [] }
   frame_is f b e s =
-      λ i. record { fun = f.fun; vars = sym (bind_none b.params f.vars) i; stack = s.stack i; todo = one_todo f.todo (body_of f.fun sc) b e s.bottom s.at_start i }
+      λ i. record {
+        fun = f.fun;
+        vars = sym (bind_none b.params f.vars) i;
+        stack = s.stack i;
+        todo =
+            one_todo f.todo (body_of f.fun sc) b e s.bottom s.at_start i;
+      }
 
   no_body : (o : Option Body) (ts : List Todo) → o ≡ None → OnBody sc o ts → ⊥
   no_body None ts e h = h
@@ -69,12 +76,14 @@ module _ (sc : Script) where
   pub start_calls : (r : Run (List ℕ)) → IsStart sc r → (f : List ℕ) × (xs : Pairs (List ℕ)) × StartsCall sc f xs no_vals (Stand.run r)
   start_calls r s = go r.frames refl s.frame
     where
-      here : (f : Frame (List ℕ)) → r.frames ≡ f ∷ [] → StartFrame sc f → (o : Option Body) → body_of f.fun sc ≡ o → StartsIn o f.fun f.vars no_vals (Stand.run r)
+      here : (f : Frame (List ℕ)) → r.frames ≡ f ∷ [] → StartFrame sc f → (o : Option Body) → body_of f.fun sc ≡ o
+          → StartsIn o f.fun f.vars no_vals (Stand.run r)
       here f e h None is = no_body (body_of f.fun sc) f.todo is h.bottom
       here f e h (Some b) is =
           λ i. Stand.run (record { frames = (e ∙ ap (λ g. g ∷ []) (frame_is f b is h)) i; count = s.count i; waits = s.waits i })
 
-      go : (fs : List (Frame (List ℕ))) → r.frames ≡ fs → OneFrame sc fs → (f : List ℕ) × (xs : Pairs (List ℕ)) × StartsCall sc f xs no_vals (Stand.run r)
+      go : (fs : List (Frame (List ℕ))) → r.frames ≡ fs → OneFrame sc fs → (f : List ℕ) × (xs : Pairs (List ℕ))
+          × StartsCall sc f xs no_vals (Stand.run r)
       go [] e h = absurd h
       go (f ∷ []) e h = (f.fun, f.vars, here f e h (body_of f.fun sc) refl)
       go (f ∷ g ∷ gs) e h = absurd h

@@ -45,7 +45,8 @@ halt_has : (f : List ℕ) (j : ℕ) (x : Option (Halt ⊥)) (a : State) → halt
 halt_has f j None a e = absurd (none_some a e)
 halt_has f j (Some h) a e = (_, refl)
 
-pub call_waits : (tag : Tag) (job : Job) (around : Around) (s : Stand (List ℕ)) (f : List ℕ) (c : Pairs) (vs : Vals) (j : ℕ) → Stands job around tag s (Task.of (call f c vs)) (suc j) → HasWait tag job around (Task.of (call f c vs)) (suc j)
+pub call_waits : (tag : Tag) (job : Job) (around : Around) (s : Stand (List ℕ)) (f : List ℕ) (c : Pairs) (vs : Vals) (j : ℕ)
+    → Stands job around tag s (Task.of (call f c vs)) (suc j) → HasWait tag job around (Task.of (call f c vs)) (suc j)
 call_waits tag job around s f c vs j (a, (n, is), low) =
     let w = halt_has f (suc j) (halt (see job around n) j (run_of job around f c vs)) a is in
     (w.0, (n, w.1))
@@ -56,39 +57,53 @@ firsts_of : (digest : List ℕ → List ℕ) (xs : List (v.Desc (List ℕ))) →
 firsts_of digest [] = refl
 firsts_of digest (x ∷ xs) = ap (λ ys. x ∷ ys) (firsts_of digest xs)
 
-pub same_made : (digest : List ℕ → List ℕ) (before after : Spawned) (xs ys : List (v.Desc (List ℕ))) → after ≡ before ++ map (with_name digest) xs → after ≡ before ++ map (with_name digest) ys → xs ≡ ys
+pub same_made : (digest : List ℕ → List ℕ) (before after : Spawned) (xs ys : List (v.Desc (List ℕ))) → after ≡ before
+    ++ map (with_name digest) xs → after ≡ before ++ map (with_name digest) ys → xs ≡ ys
 same_made digest before after xs ys e g =
-    sym (firsts_of digest xs) ∙ ap (map (λ (p : List ℕ × v.Desc (List ℕ)). p.1)) (append_cancel_left before (map (with_name digest) xs) (map (with_name digest) ys) (sym e ∙ g)) ∙ firsts_of digest ys
+    sym (firsts_of digest xs) ∙ ap (map (λ (p : List ℕ × v.Desc (List ℕ)). p.1))
+    (append_cancel_left before (map (with_name digest) xs) (map (with_name digest) ys) (sym e ∙ g)) ∙ firsts_of digest ys
 
 -- ---- a call's step
 
-module _ (digest : List ℕ → List ℕ) (sc : Script) (old new : Run (List ℕ)) (answers : List rust.Object) (came : Came) (before after : Spawned) (ms : List (v.Desc (List ℕ))) (grew : after ≡ before ++ map (with_name digest) ms) (stands : (j : ℕ) → GoesOnAs digest j sc old answers came new) (makes : (j : ℕ) → MakesAs digest j sc old answers before after) where
+module _ (digest : List ℕ → List ℕ) (sc : Script) (old new : Run (List ℕ)) (answers : List rust.Object) (came : Came) (before after : Spawned)
+    (ms : List (v.Desc (List ℕ))) (grew : after ≡ before ++ map (with_name digest) ms)
+    (stands : (j : ℕ) → GoesOnAs digest j sc old answers came new) (makes : (j : ℕ) → MakesAs digest j sc old answers before after) where
   abbrev tag : Tag
   tag = digested digest
 
   module _ (job : Job) (around : Around) (is : job.script ≡ sc) (alike : ReadsAlike (digested digest) around data_of) where
-    given : (n : ℕ) (t : Task) (j : ℕ) → moves.Answers tag job around t n j (map object_view answers) → AnsweredBy digest job around n t j (map object_view answers)
+    given : (n : ℕ) (t : Task) (j : ℕ) → moves.Answers tag job around t n j (map object_view answers)
+        → AnsweredBy digest job around n t j (map object_view answers)
     given n t j a = (a.waited, a.objects, a.is_wait, a.seen, a.are)
 
-    on_step : (f : List ℕ) (c : Pairs) (vs : Vals) (j : ℕ) (o : Came) → StandsOn digest job around (call f c vs) j o new → moves.StepsTo tag job around (Task.of (call f c vs)) j (stop_of (step_of o) (Stand.run new))
+    on_step : (f : List ℕ) (c : Pairs) (vs : Vals) (j : ℕ) (o : Came) → StandsOn digest job around (call f c vs) j o new
+        → moves.StepsTo tag job around (Task.of (call f c vs)) j (stop_of (step_of o) (Stand.run new))
     on_step f c vs j (Came.Ended o) h = h
     on_step f c vs j Came.Waits h = (h, call_waits tag job around (Stand.run new) f c vs j h)
 
-    steps : (t : Task) (j n : ℕ) → Stands job around tag (Stand.run old) t j → moves.Answers tag job around t n j (map object_view answers) → moves.StepsTo tag job around t j (stop_of (step_of came) (Stand.run new))
+    steps : (t : Task) (j n : ℕ) → Stands job around tag (Stand.run old) t j → moves.Answers tag job around t n j (map object_view answers)
+        → moves.StepsTo tag job around t j (stop_of (step_of came) (Stand.run new))
     steps Task.show j n (a, (m, at), low) ans = absurd (not_shown tag j (wave job around m j) a old at low)
     steps (Task.of (call f c vs)) j n s ans = on_step f c vs j came (stands j job around f c vs n is alike s (given n (Task.of (call f c vs)) j ans))
     steps (Task.of (out x u m i)) j n (a, (k, at), low) ans = absurd (none_some a at)
     steps (Task.of (input k)) j n (a, (m, at), low) ans = absurd (none_some a at)
     steps (Task.of (known b)) j n s ans = absurd b
 
-    made : (t : Task) (j n : ℕ) → Stands job around tag (Stand.run old) t j → moves.Answers tag job around t n j (map object_view answers) → ms ≡ map (low_desc no_name tag) (made_between job around n t j (suc j))
+    made : (t : Task) (j n : ℕ) → Stands job around tag (Stand.run old) t j → moves.Answers tag job around t n j (map object_view answers) → ms
+        ≡ map (low_desc no_name tag) (made_between job around n t j (suc j))
     made Task.show j n (a, (m, at), low) ans = absurd (not_shown tag j (wave job around m j) a old at low)
     made (Task.of (call f c vs)) j n s ans =
-        same_made digest before after ms (map (low_desc no_name tag) (made_between job around n (Task.of (call f c vs)) j (suc j))) grew (makes j job around f c vs n is alike s (given n (Task.of (call f c vs)) j ans))
+        same_made digest before after ms (map (low_desc no_name tag) (made_between job around n (Task.of (call f c vs)) j (suc j))) grew
+        (makes j job around f c vs n is alike s (given n (Task.of (call f c vs)) j ans))
     made (Task.of (out x u m i)) j n (a, (k, at), low) ans = absurd (none_some a at)
     made (Task.of (input k)) j n (a, (m, at), low) ans = absurd (none_some a at)
     made (Task.of (known b)) j n s ans = absurd b
 
   pub call_resumed : Resumed digest sc (Stand.run old) (Stand.run new) (map object_view answers) (step_of came) before after
   call_resumed =
-      record { made = ms; grew = grew; moves = λ job around t is alike writes. record { steps = λ j n s a. steps job around is alike t j n s a; makes = λ j n s a. made job around is alike t j n s a } }
+      record {
+        made = ms;
+        grew = grew;
+        moves = λ job around t is alike
+            writes. record { steps = λ j n s a. steps job around is alike t j n s a; makes = λ j n s a. made job around is alike t j n s a };
+      }

@@ -24,9 +24,11 @@ module _ (digest : List ℕ → List ℕ) (sc : Script) (os : List (Object (List
   -- comes to what its wave does: the answer, or the value of the next wave
   abbrev pub Exactly : (old new : Stand (List ℕ)) → Step → Type 0
   Exactly (Stand.run old) new (Step.Ended o) =
-      (f : List ℕ) (r : Res (List ℕ)) → IsRest digest sc old os f r → (s : End (List ℕ) × St (List ℕ)) × (first_end r ≡ Some s) × (object_view o ≡ object_at s.0)
+      (f : List ℕ) (r : Res (List ℕ)) → IsRest digest sc old os f r → (s : End (List ℕ) × St (List ℕ)) × (first_end r ≡ Some s)
+      × (object_view o ≡ object_at s.0)
   Exactly (Stand.run old) new Step.Waits =
-      (f : List ℕ) (r : Res (List ℕ)) → IsRest digest sc old os f r → (h : Halt (List ℕ)) × (first_halt r ≡ Some h) × (new ≡ Stand.run (run_of_halt f (suc old.waits) h))
+      (f : List ℕ) (r : Res (List ℕ)) → IsRest digest sc old os f r → (h : Halt (List ℕ)) × (first_halt r ≡ Some h)
+      × (new ≡ Stand.run (run_of_halt f (suc old.waits) h))
   Exactly (Stand.show_at v w) new (Step.Shown s) = next_of os v w ≡ Next.answers (shown_view s)
   Exactly (Stand.show_at v w) new Step.Waits = (u : Val (List ℕ)) × (next_of os v w ≡ Next.waits u) × (new ≡ Stand.show_at u (suc w))
   Exactly _ new _ = ⊥

@@ -39,9 +39,11 @@ Stays sc Came.Waits new = FitsRun sc new
 
 abbrev pub CallsStaySound : Type 0
 CallsStaySound =
-    (digest : List ℕ → List ℕ) (sc : Script) (r new : Run (List ℕ)) (os : List (Object (List ℕ))) (came : Came) → Answered sc r os → CameTo digest sc r os came new → Stays sc came new
+    (digest : List ℕ → List ℕ) (sc : Script) (r new : Run (List ℕ)) (os : List (Object (List ℕ))) (came : Came) → Answered sc r os
+    → CameTo digest sc r os came new → Stays sc came new
 
 -- what the call makes up to there is sound
 abbrev pub CallsMakeSound : Type 0
 CallsMakeSound =
-    (digest : List ℕ → List ℕ) (sc : Script) (f : List ℕ) (h : Halt (List ℕ)) (r : Run (List ℕ)) (os : List (Object (List ℕ))) → Answered sc r os → LeftAt sc f h r → Each (SoundDesc sc) (segment (rest_of (over_names digest sc) others h os))
+    (digest : List ℕ → List ℕ) (sc : Script) (f : List ℕ) (h : Halt (List ℕ)) (r : Run (List ℕ)) (os : List (Object (List ℕ))) → Answered sc r os
+    → LeftAt sc f h r → Each (SoundDesc sc) (segment (rest_of (over_names digest sc) others h os))

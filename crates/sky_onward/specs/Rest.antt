@@ -33,4 +33,5 @@ module _ (digest : List ℕ → List ℕ) (sc : Script) (stack : Run (List ℕ))
 -- each stack that fits has a rest, whatever answers
 abbrev pub StacksHaveARest : Type 0
 StacksHaveARest =
-    (digest : List ℕ → List ℕ) (sc : Script) (stack : Run (List ℕ)) (os : List (Object (List ℕ))) → FitsRun sc stack → (f : List ℕ) × (r : Res (List ℕ)) × IsRest digest sc stack os f r
+    (digest : List ℕ → List ℕ) (sc : Script) (stack : Run (List ℕ)) (os : List (Object (List ℕ))) → FitsRun sc stack → (f : List ℕ)
+    × (r : Res (List ℕ)) × IsRest digest sc stack os f r

@@ -36,7 +36,8 @@ stop_of (Step.Shown s) new = Stop.shown (shown_view s)
 -- what was spawned grew by what was made, each with its name; and whatever task of whatever job with this script the old state stands
 -- for at a wait, 0 being its start: where the objects are those of what it waits for there, it came to what the step says, and this is
 -- what it makes up to there
-pub record Resumed (digest : List ℕ → List ℕ) (sc : Script) (old new : Stand (List ℕ)) (os : List (Object (List ℕ))) (s : Step) (before after : Spawned) : Type 0 where
+pub record Resumed (digest : List ℕ → List ℕ) (sc : Script) (old new : Stand (List ℕ)) (os : List (Object (List ℕ))) (s : Step)
+    (before after : Spawned) : Type 0 where
   pub made : List (v.Desc (List ℕ))
   pub grew : after ≡ before ++ map (with_name digest) made
   pub moves : (job : Job) (around : Around) (t : Task)

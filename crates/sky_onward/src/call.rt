@@ -35,7 +35,8 @@ pub fn advance<'a, 'b, N: Namer>(
     ensures comes { IfOk result (λ c. ComesOf (N.digest namer.now) script.now.code (run_of run.old) answers.now c (run_of run.new)) }
     ensures made { IfOk result (λ c. MakesOf (N.digest namer.now) script.now.code (run_of run.old) answers.now run.old.spawned run.new.spawned) }
     ensures stands { IfOk result (λ c. (j : ℕ) → GoesOnAs (N.digest namer.now) j script.now.code (run_of run.old) answers.now c (run_of run.new)) }
-    ensures makes { IfOk result (λ c. (j : ℕ) → MakesAs (N.digest namer.now) j script.now.code (run_of run.old) answers.now run.old.spawned run.new.spawned) }
+    ensures makes { IfOk result (λ c. (j : ℕ) → MakesAs (N.digest namer.now) j script.now.code (run_of run.old) answers.now run.old.spawned
+        run.new.spawned) }
     ensures fits { IfOk result (λ c. Stays script.now.code c (run_of run.new)) }
     ensures sound { IfOk result (λ c. GrewSoundly (N.digest namer.now) script.now.code run.old.spawned run.new.spawned) }
 {
@@ -62,7 +63,8 @@ fn from_start<'a, 'b, N: Namer>(
     ensures comes { IfOk result (λ c. ComesOf (N.digest namer.now) script.now.code (run_of run.old) answers.now c (run_of run.new)) }
     ensures made { IfOk result (λ c. MakesOf (N.digest namer.now) script.now.code (run_of run.old) answers.now run.old.spawned run.new.spawned) }
     ensures stands { IfOk result (λ c. (j : ℕ) → GoesOnAs (N.digest namer.now) j script.now.code (run_of run.old) answers.now c (run_of run.new)) }
-    ensures makes { IfOk result (λ c. (j : ℕ) → MakesAs (N.digest namer.now) j script.now.code (run_of run.old) answers.now run.old.spawned run.new.spawned) }
+    ensures makes { IfOk result (λ c. (j : ℕ) → MakesAs (N.digest namer.now) j script.now.code (run_of run.old) answers.now run.old.spawned
+        run.new.spawned) }
     ensures fits { IfOk result (λ c. Stays script.now.code c (run_of run.new)) }
     ensures sound { IfOk result (λ c. GrewSoundly (N.digest namer.now) script.now.code run.old.spawned run.new.spawned) }
 {
@@ -86,7 +88,8 @@ fn from_wait<'a, 'b, N: Namer>(
     ensures comes { IfOk result (λ c. ComesOf (N.digest namer.now) script.now.code (run_of run.old) answers.now c (run_of run.new)) }
     ensures made { IfOk result (λ c. MakesOf (N.digest namer.now) script.now.code (run_of run.old) answers.now run.old.spawned run.new.spawned) }
     ensures stands { IfOk result (λ c. (j : ℕ) → GoesOnAs (N.digest namer.now) j script.now.code (run_of run.old) answers.now c (run_of run.new)) }
-    ensures makes { IfOk result (λ c. (j : ℕ) → MakesAs (N.digest namer.now) j script.now.code (run_of run.old) answers.now run.old.spawned run.new.spawned) }
+    ensures makes { IfOk result (λ c. (j : ℕ) → MakesAs (N.digest namer.now) j script.now.code (run_of run.old) answers.now run.old.spawned
+        run.new.spawned) }
     ensures fits { IfOk result (λ c. Stays script.now.code c (run_of run.new)) }
     ensures sound { IfOk result (λ c. GrewSoundly (N.digest namer.now) script.now.code run.old.spawned run.new.spawned) }
 {

@@ -44,13 +44,17 @@ pub fn resume<'a, 'b, N: Namer>(
     requires read { IsRead script.now.code }
     requires fits { Fits script.now.code (stand_of state.old) }
     requires answers { AnswersSound script.now.code answers.now }
-    ensures comes { IfOk result (λ s. Exactly (N.digest namer.now) script.now.code (map object_view answers.now) (stand_of state.old) (stand_of state.new) s) }
-    ensures made { IfOk result (λ s. MakesExactly (N.digest namer.now) script.now.code (map object_view answers.now) (stand_of state.old) (spawned_of state.old) (spawned_of state.new)) }
-    ensures resumed { IfOk result (λ s. Resumed (N.digest namer.now) script.now.code (stand_of state.old) (stand_of state.new) (map object_view answers.now) s (spawned_of state.old) (spawned_of state.new)) }
+    ensures comes { IfOk result (λ s. Exactly (N.digest namer.now) script.now.code (map object_view answers.now) (stand_of state.old)
+        (stand_of state.new) s) }
+    ensures made { IfOk result (λ s. MakesExactly (N.digest namer.now) script.now.code (map object_view answers.now) (stand_of state.old)
+        (spawned_of state.old) (spawned_of state.new)) }
+    ensures resumed { IfOk result (λ s. Resumed (N.digest namer.now) script.now.code (stand_of state.old) (stand_of state.new)
+        (map object_view answers.now) s (spawned_of state.old) (spawned_of state.new)) }
     ensures fits { IfOk result (λ s. FitsAfter script.now.code (stand_of state.new) s) }
     ensures further { IfOk result (λ s. OneFurther (stand_of state.old) (stand_of state.new) s) }
     ensures sound { IfOk result (λ s. GrewSoundly (N.digest namer.now) script.now.code (spawned_of state.old) (spawned_of state.new)) }
-    ensures known { IfOk result (λ s. KnowsNames (N.digest namer.now) (CameWith (stand_of state.old) (map object_view answers.now)) s (stand_of state.new) (spawned_of state.old) (spawned_of state.new)) }
+    ensures known { IfOk result (λ s. KnowsNames (N.digest namer.now) (CameWith (stand_of state.old) (map object_view answers.now)) s
+        (stand_of state.new) (spawned_of state.old) (spawned_of state.new)) }
 {
     match state {
         State::Run(run) => {
@@ -76,13 +80,17 @@ fn of_call<'a, 'b, N: Namer>(
     requires read { IsRead script.now.code }
     requires fits { FitsRun script.now.code (run_of run.old) }
     requires answers { AnswersSound script.now.code answers.now }
-    ensures comes { IfOk result (λ s. Exactly (N.digest namer.now) script.now.code (map object_view answers.now) (Stand.run (run_of run.old)) (Stand.run (run_of run.new)) s) }
-    ensures made { IfOk result (λ s. MakesExactly (N.digest namer.now) script.now.code (map object_view answers.now) (Stand.run (run_of run.old)) run.old.spawned run.new.spawned) }
-    ensures resumed { IfOk result (λ s. Resumed (N.digest namer.now) script.now.code (Stand.run (run_of run.old)) (Stand.run (run_of run.new)) (map object_view answers.now) s run.old.spawned run.new.spawned) }
+    ensures comes { IfOk result (λ s. Exactly (N.digest namer.now) script.now.code (map object_view answers.now) (Stand.run (run_of run.old))
+        (Stand.run (run_of run.new)) s) }
+    ensures made { IfOk result (λ s. MakesExactly (N.digest namer.now) script.now.code (map object_view answers.now) (Stand.run (run_of run.old))
+        run.old.spawned run.new.spawned) }
+    ensures resumed { IfOk result (λ s. Resumed (N.digest namer.now) script.now.code (Stand.run (run_of run.old)) (Stand.run (run_of run.new))
+        (map object_view answers.now) s run.old.spawned run.new.spawned) }
     ensures fits { IfOk result (λ s. FitsAfter script.now.code (Stand.run (run_of run.new)) s) }
     ensures further { IfOk result (λ s. OneFurther (Stand.run (run_of run.old)) (Stand.run (run_of run.new)) s) }
     ensures sound { IfOk result (λ s. GrewSoundly (N.digest namer.now) script.now.code run.old.spawned run.new.spawned) }
-    ensures known { IfOk result (λ s. KnowsNames (N.digest namer.now) (CameWith (Stand.run (run_of run.old)) (map object_view answers.now)) s (Stand.run (run_of run.new)) run.old.spawned run.new.spawned) }
+    ensures known { IfOk result (λ s. KnowsNames (N.digest namer.now) (CameWith (Stand.run (run_of run.old)) (map object_view answers.now)) s
+        (Stand.run (run_of run.new)) run.old.spawned run.new.spawned) }
 {
     let came = advance(alloc, script, run, answers, namer)?;
     Ok(step(came))
@@ -108,9 +116,14 @@ fn of_root(
     requires kept { Kept (view value.old) }
     requires wave { wave.old ≤ most_waves }
     requires answers { AnswersKept answers.now }
-    ensures comes { IfOk result (λ s. (digest : List ℕ → List ℕ) (sc : Script) → Exactly digest sc (map object_view answers.now) (Stand.show_at (view value.old) wave.old) (Stand.show_at (view value.new) wave.new) s) }
-    ensures resumed { IfOk result (λ s. (digest : List ℕ → List ℕ) (sc : Script) → Resumed digest sc (Stand.show_at (view value.old) wave.old) (Stand.show_at (view value.new) wave.new) (map object_view answers.now) s [] []) }
-    ensures fits { IfOk result (λ s. (sc : Script) → FitsShow sc (view value.old) wave.old → AnswersSound sc answers.now → FitsAfter sc (Stand.show_at (view value.new) wave.new) s) }
+    ensures comes { IfOk result (λ s. (digest : List ℕ → List ℕ) (sc : Script)
+        → Exactly digest sc (map object_view answers.now) (Stand.show_at (view value.old) wave.old) (Stand.show_at (view value.new) wave.new)
+        s) }
+    ensures resumed { IfOk result (λ s. (digest : List ℕ → List ℕ) (sc : Script)
+        → Resumed digest sc (Stand.show_at (view value.old) wave.old) (Stand.show_at (view value.new) wave.new) (map object_view answers.now) s
+        [] []) }
+    ensures fits { IfOk result (λ s. (sc : Script) → FitsShow sc (view value.old) wave.old → AnswersSound sc answers.now
+        → FitsAfter sc (Stand.show_at (view value.new) wave.new) s) }
     ensures further { IfOk result (λ s. OneFurther (Stand.show_at (view value.old) wave.old) (Stand.show_at (view value.new) wave.new) s) }
 {
     match show::go_on(alloc, value, *wave, answers)? {

@@ -40,7 +40,8 @@ module _ {A : Type 0} where
   -- where the list falls in two, the second of which has so many
   back_two : (xs ys : List A) (i : ℕ) → length ys ≡ i → drop i (reverse (xs ++ ys)) ≡ reverse xs
   back_two xs ys i e =
-      ap (λ zs. drop i zs) (reverse-append xs ys) ∙ ap (λ k. drop k (reverse ys ++ reverse xs)) (sym (length-reverse ys ∙ e)) ∙ drop-append_seam (reverse ys) (reverse xs)
+      ap (λ zs. drop i zs) (reverse-append xs ys) ∙ ap (λ k. drop k (reverse ys ++ reverse xs)) (sym (length-reverse ys ∙ e))
+      ∙ drop-append_seam (reverse ys) (reverse xs)
 
   back : (xs : List A) (i : ℕ) → (i ≤ length xs) ⊎ (length xs ≤ i) → drop i (reverse xs) ≡ reverse (take (length xs - i) xs)
   back xs i (inl h) =
@@ -54,9 +55,11 @@ module _ {A : Type 0} where
 pub signs_but : (ss : List SignAt) (i n : ℕ) → n ≡ length ss - i → reverse (signs_view (take n ss)) ≡ times next_sign i (reverse (signs_view ss))
 signs_but ss i n e =
     let all = signs_view ss in
-    ap reverse (view_take n ss) ∙ ap (λ k. reverse (take k all)) (e ∙ ap (λ k. k - i) (sym (view_length ss))) ∙ sym (back all i (which i (length all))) ∙ sym (times_drop i (reverse all))
+    ap reverse (view_take n ss) ∙ ap (λ k. reverse (take k all)) (e ∙ ap (λ k. k - i) (sym (view_length ss)))
+    ∙ sym (back all i (which i (length all))) ∙ sym (times_drop i (reverse all))
 
-pub prefix_two : (ss : List logic.SignAt) (n k : ℕ) (vs : List (Val (List ℕ))) → 2 ≤ k → sign_open (times next_sign (k - 1) (reverse ss)) n k vs ≡ prefix_open ss n k vs
+pub prefix_two : (ss : List logic.SignAt) (n k : ℕ) (vs : List (Val (List ℕ))) → 2 ≤ k → sign_open (times next_sign (k - 1) (reverse ss)) n k vs
+    ≡ prefix_open ss n k vs
 prefix_two ss n zero vs h = absurd (omega (arith, h))
 prefix_two ss n (suc zero) vs h = absurd (omega (arith, h))
 prefix_two ss n (suc (suc i)) vs h = let g : suc (suc i) - 1 ≡ suc i = omega arith in rw g refl

@@ -17,6 +17,7 @@ pub stack_push : (vs : List Value) (v : Value) → stack_view (vs ++ v ∷ []) �
 stack_push [] v = refl
 stack_push (u ∷ vs) v = ap (λ xs. view u ∷ xs) (stack_push vs v)
 
-pub refs_step : (ns : List (List ℕ)) (n : List ℕ) (o : Option (List (Desc (List ℕ)))) → option_map (λ ds. known_of ns ++ ds) (option_map (λ ds. known n ∷ ds) o) ≡ option_map (λ ds. known_of (ns ++ n ∷ []) ++ ds) o
+pub refs_step : (ns : List (List ℕ)) (n : List ℕ) (o : Option (List (Desc (List ℕ))))
+    → option_map (λ ds. known_of ns ++ ds) (option_map (λ ds. known n ∷ ds) o) ≡ option_map (λ ds. known_of (ns ++ n ∷ []) ++ ds) o
 refs_step ns n None = refl
 refs_step ns n (Some ds) = ap Some (sym (append_assoc (known_of ns) (known n ∷ []) ds) ∙ ap (λ xs. xs ++ ds) (sym (known_of-push ns n)))

@@ -84,7 +84,8 @@ fn open_operand<'a>(
 ) -> Result<Option<Entry<'a>>, Memory>
     requires step { 2 ≤ step }
     requires has { HasLinks (λ i. node_at code.now i) (operands_view operands) second }
-    ensures { IfOk result (λ o. option_map entry_of o ≡ link_open (times saved.next_link (step - 2) (second, operands_view operands.entry)) node step (stack_view kept.now)) }
+    ensures { IfOk result (λ o. option_map entry_of o
+        ≡ link_open (times saved.next_link (step - 2) (second, operands_view operands.entry)) node step (stack_view kept.now)) }
 {
     let place = skip_operands(code, second, operands, step - 2);
     let Some(operand) = next_operand(place.rest) else {
@@ -173,7 +174,8 @@ fn open_join<'a>(
 ) -> Option<Entry<'a>>
     requires step { 2 ≤ step }
     requires has { HasAnds (λ i. node_at code.now i) (ands_view joins.now) second }
-    ensures { option_map entry_of result ≡ and_open (times saved.next_and (step - 2) (second, ands_view joins.now)) node step (stops_at stop) (stack_view kept.now) }
+    ensures { option_map entry_of result ≡ and_open (times saved.next_and (step - 2) (second, ands_view joins.now)) node step (stops_at stop)
+        (stack_view kept.now) }
 {
     let place = skip_joins(code, second, joins, step - 2);
     let Some((join, more)) = place.rest.split_first() else {

@@ -63,7 +63,8 @@ pub fn open_parts<'a>(
     kept: &[Value],
 ) -> Result<Option<Entry<'a>>, Memory>
     requires { HasExp (λ i. node_at code.now i) (Exp.parts (form_view form) (at line col) (rest_view parts)) node }
-    ensures { IfOk result (λ o. option_map entry_of o ≡ form_open (form_view form) (at line col) (rest_view parts.entry) node step (stack_view kept.now)) }
+    ensures { IfOk result (λ o. option_map entry_of o
+        ≡ form_open (form_view form) (at line col) (rest_view parts.entry) node step (stack_view kept.now)) }
 {
     if step == 0 {
         return Ok(None);

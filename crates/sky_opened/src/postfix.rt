@@ -144,7 +144,8 @@ pub fn open_postfix<'a>(
 ) -> Result<Option<Entry<'a>>, Memory>
     requires has { HasExp (λ i. node_at code.now i) (Exp.postfix first.now (steps_view rest.now)) node }
     requires caller { IfSome call (λ c. KeptPairs c.vars.now) }
-    ensures { IfOk result (λ o. option_map entry_of o ≡ postfix_open first.now (steps_view rest.now) node step (stack_view kept.now) (call_of call.entry)) }
+    ensures { IfOk result (λ o. option_map entry_of o
+        ≡ postfix_open first.now (steps_view rest.now) node step (stack_view kept.now) (call_of call.entry)) }
 {
     let second = code.after_exp(code.inside(node), first.get());
     match step {
@@ -239,7 +240,8 @@ fn open_call<'a>(
     call: Option<Caller>,
 ) -> Result<Option<Entry<'a>>, Memory>
     requires { IfSome call (λ c. KeptPairs c.vars.now) }
-    ensures { IfOk result (λ o. option_map entry_of o ≡ option_map (λ c. call_open node step next c.0 c.1 (steps_view rest.now)) (call_of call.entry)) }
+    ensures { IfOk result (λ o. option_map entry_of o
+        ≡ option_map (λ c. call_open node step next c.0 c.1 (steps_view rest.now)) (call_of call.entry)) }
 {
     let Some(caller) = call else {
         return Ok(None);

@@ -138,7 +138,8 @@ fn open_put<'a>(
     step: u32,
     kept: &[Value],
 ) -> Result<Option<Entry<'a>>, Memory>
-    ensures { IfOk result (λ o. option_map entry_of o ≡ put_at step node next name.now (at name_line name_col) (at line col) (exp_view value.now) (stack_view kept.now)) }
+    ensures { IfOk result (λ o. option_map entry_of o
+        ≡ put_at step node next name.now (at name_line name_col) (at line col) (exp_view value.now) (stack_view kept.now)) }
 {
     match kept {
         [] => if step == 1 {

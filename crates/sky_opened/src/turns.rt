@@ -27,7 +27,9 @@ pub fn open_while<'a>(
     step: u32,
     kept: &[Value],
 ) -> Option<Entry<'a>>
-    ensures { option_map entry_of result ≡ saved.at_two step (stack_view kept.now) (logic.while_test node block (at line col) (exp_view test.now) body.now) (logic.while_body node block (at line col) (exp_view test.now) body.now) }
+    ensures { option_map entry_of result ≡ saved.at_two step (stack_view kept.now)
+        (logic.while_test node block (at line col) (exp_view test.now) body.now)
+        (logic.while_body node block (at line col) (exp_view test.now) body.now) }
 {
     let first = Entry::Block(InBlock::WhileTest(While {
         node,
@@ -59,7 +61,9 @@ pub fn open_repeat<'a>(
     step: u32,
     kept: &[Value],
 ) -> Option<Entry<'a>>
-    ensures { option_map entry_of result ≡ saved.at_two step (stack_view kept.now) (logic.repeat_body node test_at (at line col) body.now (exp_view test.now)) (logic.repeat_test node test_at (at line col) body.now (exp_view test.now)) }
+    ensures { option_map entry_of result ≡ saved.at_two step (stack_view kept.now)
+        (logic.repeat_body node test_at (at line col) body.now (exp_view test.now))
+        (logic.repeat_test node test_at (at line col) body.now (exp_view test.now)) }
 {
     let first = Entry::Block(InBlock::RepeatBody(Repeat {
         node,

@@ -1,18 +1,22 @@
 -- Each name of a script has at least one byte: its tokens do, and so do the marks that these are.
-use Rattle.std.proofs.Common.{◌≡◌, ℕ, zero, suc, ◌+◌, ◌-◌, List, [], ◌∷◌, Bool, true, false, ◌||◌, Option, Some, None, Result, Ok, Err, nat_lt, ◌==◌, if◌then◌else◌, cond, length, refl, sym, subst}
+use Rattle.std.proofs.Common.{◌≡◌, ℕ, zero, suc, ◌+◌, ◌-◌, List, [], ◌∷◌, Bool, true, false, ◌||◌, Option, Some, None, Result, Ok, Err, nat_lt, ◌==◌}
+use Rattle.std.proofs.Common.{if◌then◌else◌, cond, length, refl, sym, subst}
 use Rattle.std.specs.Char.{is_ascii_digit}
 use Rattle.std.specs.List.{take_while}
 use Rattle.std.proofs.lemmas.List.Sums.{take_while-cons}
 use Rattle.std.specs.Str.Lossy.{utf8_valid_len}
 use Rattle.sky_base.specs.Tree.{Place, SignAt, Form, Junction}
-use Rattle.sky_text.specs.Lexing.{and_then, begins_name, gap_len, goes_on_name, long_or_short, named, number, number_of, short_or_bad, sign_at as lex_sign, text_from, token_at, tokens_from, tokens_of, word_or_name}
+use Rattle.sky_text.specs.Lexing.{and_then, begins_name, gap_len, goes_on_name, long_or_short, named, number, number_of, short_or_bad}
+use Rattle.sky_text.specs.Lexing.{sign_at as lex_sign, text_from, token_at, tokens_from, tokens_of, word_or_name}
 use Rattle.sky_text.specs.Words.{long_sign, short_sign, word_of}
 use Rattle.sky_text.specs.declared.lex.LexRefusal.{LexRefusal}
 use Rattle.sky_text.specs.declared.token.Sign.{Sign}
 use Rattle.sky_text.specs.declared.token.Token.{Token}
 use Rattle.sky_text.specs.declared.token.TokenKind.{TokenKind}
 use Rattle.sky_text.specs.declared.token.Word.{Word}
-use Rattle.sky_grammar.specs.Grammar.{Mark, sign, word, started, Fits, Follows, spell, spell_block, spell_signs, spell_exps, spell_others, spell_pairs, spell_value, spell_other_pairs, spell_links, spell_ands, spell_steps, spell_stm, spell_stms, spell_arms, spell_other_arms, spell_else, spell_params, spell_other_params}
+use Rattle.sky_grammar.specs.Grammar.{Mark, sign, word, started, Fits, Follows, spell, spell_block, spell_signs, spell_exps, spell_others}
+use Rattle.sky_grammar.specs.Grammar.{spell_pairs, spell_value, spell_other_pairs, spell_links, spell_ands, spell_steps, spell_stm, spell_stms}
+use Rattle.sky_grammar.specs.Grammar.{spell_arms, spell_other_arms, spell_else, spell_params, spell_other_params}
 use Rattle.sky_grammar.specs.Source.{Param, Exp, Exps, Links, Ands, Steps, Stm, Stms, Arms, Else}
 use Rattle.sky_grammar.specs.Tops.{Top, spell_tops}
 use Rattle.sky_law.specs.Tasks.{Each}
@@ -46,7 +50,8 @@ err_ok : {P A : Type 0} (x : LexRefusal) (a : A) → the (Result A LexRefusal) (
 err_ok x a e = absurd cc
 
 -- where one answer and then another is there, both are
-both_ok : {P A B : Type 0} (r : Result A LexRefusal) (next : A → Result B LexRefusal) (b : B) → and_then r next ≡ Ok b → ((a : A) → r ≡ Ok a → next a ≡ Ok b → P) → P
+both_ok : {P A B : Type 0} (r : Result A LexRefusal) (next : A → Result B LexRefusal) (b : B) → and_then r next ≡ Ok b
+    → ((a : A) → r ≡ Ok a → next a ≡ Ok b → P) → P
 both_ok (Ok a) next b e f = f a refl e
 both_ok (Err x) next b e f = err_ok x b e
 
@@ -56,7 +61,8 @@ word_named None b x = tt
 
 -- a name's first byte is taken
 first_taken : (b : ℕ) (r : List ℕ) → begins_name b ≡ true → KindNamed (named (take_while goes_on_name (b ∷ r)))
-first_taken b r e = subst (λ xs. KindNamed (named xs)) (sym (take_while-cons goes_on_name b r)) (go (goes_on_name b) (or_first (begins_name b) (is_ascii_digit b) e))
+first_taken b r e = subst (λ xs. KindNamed (named xs)) (sym (take_while-cons goes_on_name b r))
+    (go (goes_on_name b) (or_first (begins_name b) (is_ascii_digit b) e))
   where
     or_first : (x y : Bool) → x ≡ true → x || y ≡ true
     or_first true y q = refl
@@ -88,13 +94,22 @@ sign_named at b (c ∷ r) found e = long_named at (long_sign b c) (short_sign b)
 
 token_named : (at b : ℕ) (r : List ℕ) (found : TokenKind × ℕ) → token_at at b r ≡ Ok found → KindNamed found.0
 token_named at b r found e =
-    if_case (begins_name b) _ _ (Ok found) e (λ t q. subst (λ (x : TokenKind × ℕ). KindNamed x.0) (ok_is _ found q) (first_taken b r t)) (λ t q. if_case (is_ascii_digit b) _ _ (Ok found) q (λ u p. both_ok (number at (number_of (take_while is_ascii_digit (b ∷ r)))) _ found p (λ k n o. subst (λ (x : TokenKind × ℕ). KindNamed x.0) (ok_is _ found o) (number_named at _ k n))) (λ u p. if_case (b == 34) _ _ (Ok found) p (λ v o. both_ok (text_from at (at + 1) r) _ found o (λ x n m. subst (λ (y : TokenKind × ℕ). KindNamed y.0) (ok_is _ found m) tt)) (λ v o. sign_named at b r found o)))
+    if_case (begins_name b) _ _ (Ok found) e (λ t q. subst (λ (x : TokenKind × ℕ). KindNamed x.0) (ok_is _ found q) (first_taken b r t))
+    (λ t q. if_case (is_ascii_digit b) _ _ (Ok found) q
+    (λ u p. both_ok (number at (number_of (take_while is_ascii_digit (b ∷ r)))) _ found p
+    (λ k n o. subst (λ (x : TokenKind × ℕ). KindNamed x.0) (ok_is _ found o) (number_named at _ k n)))
+    (λ u p. if_case (b == 34) _ _ (Ok found) p
+    (λ v o. both_ok (text_from at (at + 1) r) _ found o (λ x n m. subst (λ (y : TokenKind × ℕ). KindNamed y.0) (ok_is _ found m) tt))
+    (λ v o. sign_named at b r found o)))
 
 tokens_named : (bytes : List ℕ) (at read : ℕ) (rest : List ℕ) (ts : List Token) → tokens_from bytes at read rest ≡ Ok ts → Each TokenNamed ts
 tokens_named bytes at read [] ts e = subst (Each TokenNamed) (ok_is [] ts e) tt
 tokens_named bytes at (suc read) (b ∷ r) ts e = tokens_named bytes (at + 1) read r ts e
 tokens_named bytes at zero (b ∷ r) ts e =
-    if_case (nat_lt 0 (gap_len b r)) _ _ (Ok ts) e (λ t q. tokens_named bytes (at + 1) (gap_len b r - 1) r ts q) (λ t q. both_ok (token_at at b r) _ ts q (λ found n p. both_ok (tokens_from bytes (at + 1) (found.1 - (at + 1)) r) _ ts p (λ more m o. subst (Each TokenNamed) (ok_is _ ts o) (token_named at b r found n, tokens_named bytes (at + 1) (found.1 - (at + 1)) r more m))))
+    if_case (nat_lt 0 (gap_len b r)) _ _ (Ok ts) e (λ t q. tokens_named bytes (at + 1) (gap_len b r - 1) r ts q)
+    (λ t q. both_ok (token_at at b r) _ ts q (λ found n p. both_ok (tokens_from bytes (at + 1) (found.1 - (at + 1)) r) _ ts p
+    (λ more m o. subst (Each TokenNamed) (ok_is _ ts o)
+    (token_named at b r found n, tokens_named bytes (at + 1) (found.1 - (at + 1)) r more m))))
 
 script_named : (source : List ℕ) (ts : List Token) → tokens_of source ≡ Ok ts → Each TokenNamed ts
 unfolding tokens_of
@@ -135,7 +150,9 @@ mutual
   past : (x : Exp) (more : List Mark) → Each IsNamed (spell x more) → Each IsNamed more
   past (Exp.literal v p) more h = h.1
   past (Exp.name x p) more h = h.1
-  past (Exp.func p xs b) more h = (past_stms b (sign Sign.CloseCurly ∷ more) ((past_params xs (sign Sign.CloseRound ∷ sign Sign.OpenCurly ∷ spell_stms b (sign Sign.CloseCurly ∷ more)) h.1.1).1.1)).1
+  past (Exp.func p xs b) more h =
+      (past_stms b (sign Sign.CloseCurly ∷ more)
+      ((past_params xs (sign Sign.CloseRound ∷ sign Sign.OpenCurly ∷ spell_stms b (sign Sign.CloseCurly ∷ more)) h.1.1).1.1)).1
   past (Exp.parens e) more h = (past e (sign Sign.CloseRound ∷ more) h.1).1
   past (Exp.parts Form.list p es) more h = (past_exps es (sign Sign.CloseSquare ∷ more) h.1).1
   past (Exp.parts Form.dict p es) more h = (past_pairs es (sign Sign.CloseCurly ∷ more) h.1).1
@@ -188,13 +205,23 @@ mutual
   past_stm : (x : Stm) (more : List Mark) → Each IsNamed (spell_stm x more) → Each IsNamed more
   past_stm (Stm.set x p e) more h = (past e (sign Sign.Semicolon ∷ more) h.1.1).1
   past_stm (Stm.add x q p e) more h = (past e (sign Sign.Semicolon ∷ more) h.1.1).1
-  past_stm (Stm.put x q p i e) more h = (past e (sign Sign.Semicolon ∷ more) ((past i (sign Sign.CloseSquare ∷ sign Sign.Assign ∷ spell e (sign Sign.Semicolon ∷ more)) h.1.1).1.1)).1
+  past_stm (Stm.put x q p i e) more h =
+      (past e (sign Sign.Semicolon ∷ more)
+      ((past i (sign Sign.CloseSquare ∷ sign Sign.Assign ∷ spell e (sign Sign.Semicolon ∷ more)) h.1.1).1.1)).1
   past_stm (Stm.return p e) more h = (past e (sign Sign.Semicolon ∷ more) h.1).1
   past_stm (Stm.leave p) more h = h.1.1
-  past_stm (Stm.cases p arms els) more h = past_else els more (past_arms arms (spell_else els more) (unstarted p (spell_arms arms (spell_else els more)) h))
-  past_stm (Stm.while p e b) more h = (past_stms b (sign Sign.CloseCurly ∷ more) ((past e (sign Sign.CloseRound ∷ sign Sign.OpenCurly ∷ spell_stms b (sign Sign.CloseCurly ∷ more)) h.1.1).1.1)).1
-  past_stm (Stm.repeat p b e) more h = (past e (sign Sign.CloseRound ∷ sign Sign.Semicolon ∷ more) ((past_stms b (sign Sign.CloseCurly ∷ word Word.While ∷ sign Sign.OpenRound ∷ spell e (sign Sign.CloseRound ∷ sign Sign.Semicolon ∷ more)) h.1.1).1.1.1)).1.1
-  past_stm (Stm.for p x e b) more h = (past_stms b (sign Sign.CloseCurly ∷ more) ((past e (sign Sign.CloseRound ∷ sign Sign.OpenCurly ∷ spell_stms b (sign Sign.CloseCurly ∷ more)) h.1.1.1.1).1.1)).1
+  past_stm (Stm.cases p arms els) more h = past_else els more
+      (past_arms arms (spell_else els more) (unstarted p (spell_arms arms (spell_else els more)) h))
+  past_stm (Stm.while p e b) more h =
+      (past_stms b (sign Sign.CloseCurly ∷ more)
+      ((past e (sign Sign.CloseRound ∷ sign Sign.OpenCurly ∷ spell_stms b (sign Sign.CloseCurly ∷ more)) h.1.1).1.1)).1
+  past_stm (Stm.repeat p b e) more h =
+      (past e (sign Sign.CloseRound ∷ sign Sign.Semicolon ∷ more)
+      ((past_stms b (sign Sign.CloseCurly ∷ word Word.While ∷ sign Sign.OpenRound ∷ spell e (sign Sign.CloseRound ∷ sign Sign.Semicolon ∷ more))
+      h.1.1).1.1.1)).1.1
+  past_stm (Stm.for p x e b) more h =
+      (past_stms b (sign Sign.CloseCurly ∷ more)
+      ((past e (sign Sign.CloseRound ∷ sign Sign.OpenCurly ∷ spell_stms b (sign Sign.CloseCurly ∷ more)) h.1.1.1.1).1.1)).1
   past_stm (Stm.just p e) more h = (past e (sign Sign.Semicolon ∷ more) (unstarted p (spell e (sign Sign.Semicolon ∷ more)) h)).1
 
   past_stms : (x : Stms) (more : List Mark) → Each IsNamed (spell_stms x more) → Each IsNamed more
@@ -203,11 +230,15 @@ mutual
 
   past_arms : (x : Arms) (more : List Mark) → Each IsNamed (spell_arms x more) → Each IsNamed more
   past_arms Arms.no_arms more h = h
-  past_arms (Arms.arm p e b arms) more h = past_other_arms arms more ((past_stms b (sign Sign.CloseCurly ∷ spell_other_arms arms more) ((past e (sign Sign.CloseRound ∷ sign Sign.OpenCurly ∷ spell_stms b (sign Sign.CloseCurly ∷ spell_other_arms arms more)) h.1.1).1.1)).1)
+  past_arms (Arms.arm p e b arms) more h = past_other_arms arms more
+      ((past_stms b (sign Sign.CloseCurly ∷ spell_other_arms arms more)
+      ((past e (sign Sign.CloseRound ∷ sign Sign.OpenCurly ∷ spell_stms b (sign Sign.CloseCurly ∷ spell_other_arms arms more)) h.1.1).1.1)).1)
 
   past_other_arms : (x : Arms) (more : List Mark) → Each IsNamed (spell_other_arms x more) → Each IsNamed more
   past_other_arms Arms.no_arms more h = h
-  past_other_arms (Arms.arm p e b arms) more h = past_other_arms arms more ((past_stms b (sign Sign.CloseCurly ∷ spell_other_arms arms more) ((past e (sign Sign.CloseRound ∷ sign Sign.OpenCurly ∷ spell_stms b (sign Sign.CloseCurly ∷ spell_other_arms arms more)) h.1.1.1).1.1)).1)
+  past_other_arms (Arms.arm p e b arms) more h =
+      past_other_arms arms more ((past_stms b (sign Sign.CloseCurly ∷ spell_other_arms arms more)
+      ((past e (sign Sign.CloseRound ∷ sign Sign.OpenCurly ∷ spell_stms b (sign Sign.CloseCurly ∷ spell_other_arms arms more)) h.1.1.1).1.1)).1)
 
   past_else : (x : Else) (more : List Mark) → Each IsNamed (spell_else x more) → Each IsNamed more
   past_else Else.no_else more h = h
@@ -227,5 +258,6 @@ tops_marked (Top.fun f ∷ tops) more h =
     (h.1.0, tops_marked tops more (past_stms f.body (sign Sign.CloseCurly ∷ spell_tops tops more) behind.1.1).1)
 tops_marked (Top.stmt s ∷ tops) more h = (tt, tops_marked tops more (past_stm s (spell_tops tops more) h))
 
-pub tops_named : (source : List ℕ) (ts : List Token) (tops : List Top) → tokens_of source ≡ Ok ts → Follows (spell_tops tops []) ts → Each TopNamed tops
+pub tops_named : (source : List ℕ) (ts : List Token) (tops : List Top) → tokens_of source ≡ Ok ts → Follows (spell_tops tops []) ts
+    → Each TopNamed tops
 tops_named source ts tops e f = tops_marked tops [] (marks_named (spell_tops tops []) ts f (script_named source ts e))

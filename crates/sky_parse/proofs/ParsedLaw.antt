@@ -25,16 +25,19 @@ funs_append [] ys = refl
 funs_append (x ∷ xs) ys = ap (λ fs. fun_view x ∷ fs) (funs_append xs ys)
 
 -- the parts of the script that was read
-pub whole_script : (r : Read) (tops : List Top) (keys : List (List ℕ)) (all made : List Def) (funs : List FunDef) (main : run.Stms) → IsRead r tops → funs_view made ≡ r.made.funs → all ≡ r.funs.items ++ made → funs ≡ funs_view all → main ≡ stms_view r.main.items
+pub whole_script : (r : Read) (tops : List Top) (keys : List (List ℕ)) (all made : List Def) (funs : List FunDef) (main : run.Stms)
+    → IsRead r tops → funs_view made ≡ r.made.funs → all ≡ r.funs.items ++ made → funs ≡ funs_view all → main ≡ stms_view r.main.items
     → (let s : Script = record { funs = funs; main = main; keys = keys } in s) ≡ script_of keys tops
 whole_script r tops keys all made funs main h em ea ef es =
     let both = ef ∙ ap funs_view ea ∙ funs_append r.funs.items made ∙ (λ i. h.0 i ++ (em ∙ h.2) i) in
     λ i. record { funs = both i; main = (es ∙ h.1) i; keys = keys }
 
-pub made_twice : (o : Option Place) (keys : List (List ℕ)) (tops : List Top) (l c : ℕ) → o ≡ Some (at l c) → made_if o keys tops (Err (ParseRefusal.SameName l c))
+pub made_twice : (o : Option Place) (keys : List (List ℕ)) (tops : List Top) (l c : ℕ) → o ≡ Some (at l c)
+    → made_if o keys tops (Err (ParseRefusal.SameName l c))
 made_twice o keys tops l c e = subst (λ p. made_if p keys tops (Err (ParseRefusal.SameName l c))) (sym e) refl
 
-pub made_script : (o : Option Place) (keys : List (List ℕ)) (tops : List Top) (s : Script) → o ≡ None → s ≡ script_of keys tops → made_if o keys tops (Ok s)
+pub made_script : (o : Option Place) (keys : List (List ℕ)) (tops : List Top) (s : Script) → o ≡ None → s ≡ script_of keys tops
+    → made_if o keys tops (Ok s)
 made_script o keys tops s e h = subst (λ p. made_if p keys tops (Ok s)) (sym e) h
 
 pub made_memory : (o : Option Place) (keys : List (List ℕ)) (tops : List Top) → made_if o keys tops (Err ParseRefusal.Memory)
@@ -65,11 +68,13 @@ module _ (keys : List (List ℕ)) (ts : List Token) (tops : List Top) (spells : 
   is_named (Err ParseRefusal.Memory) m = tt
   is_named (Err (ParseRefusal.SameName l c)) m = go (same_names [] tops) refl m
     where
-      go : (o : Option Place) → same_names [] tops ≡ o → made_if o keys tops (Err (ParseRefusal.SameName l c)) → Named ts (Err (ParseRefusal.SameName l c))
+      go : (o : Option Place) → same_names [] tops ≡ o → made_if o keys tops (Err (ParseRefusal.SameName l c))
+          → Named ts (Err (ParseRefusal.SameName l c))
       go (Some p) e h = (tops, spells, e ∙ ap Some (sym h))
       go None e h = absurd h
 
-  pub is_twice : (r : Result Script ParseRefusal) → made_if (same_names [] tops) keys tops r → (us : List Top) (p : Place) → Spells us ts → same_names [] us ≡ Some p → IsTwice p r
+  pub is_twice : (r : Result Script ParseRefusal) → made_if (same_names [] tops) keys tops r → (us : List Top) (p : Place) → Spells us ts
+      → same_names [] us ≡ Some p → IsTwice p r
   is_twice r m us p s e =
       let same = one_script us tops ts s spells in
       subst (λ o. made_if o keys tops r) (ap (same_names []) (sym same) ∙ e) m
@@ -81,7 +86,8 @@ module _ (keys : List (List ℕ)) (ts : List Token) (tops : List Top) (spells : 
   is_refused end (Err ParseRefusal.Memory) m = tt
   is_refused end (Err (ParseRefusal.NoSentence l c)) m = go (same_names [] tops) m
     where
-      go : (o : Option Place) → made_if o keys tops (Err (ParseRefusal.NoSentence l c)) → Refused {X = Script} ts end (Err (ParseRefusal.NoSentence l c))
+      go : (o : Option Place) → made_if o keys tops (Err (ParseRefusal.NoSentence l c))
+          → Refused {X = Script} ts end (Err (ParseRefusal.NoSentence l c))
       go (Some p) h = absurd h
       go None h = absurd h
 
@@ -98,5 +104,6 @@ module _ (keys : List (List ℕ)) (ts : List Token) (tops : List Top) (spells : 
 
 -- ---- where none were
 
-pub refused_at : (ts : List Token) (end p : Place) (n : ℕ) → machine.run (Item.tops ∷ []) (kinds ts) ≡ Out.stuck n → p ≡ place_at ts (length ts - n) end → RefusedAt ts end p
+pub refused_at : (ts : List Token) (end p : Place) (n : ℕ) → machine.run (Item.tops ∷ []) (kinds ts) ≡ Out.stuck n → p
+    ≡ place_at ts (length ts - n) end → RefusedAt ts end p
 refused_at ts end p n e h = (length ts - n, exact ts n e, h)

@@ -21,13 +21,18 @@ pub record ReadsFun (d : run.FunDef) (known : List (List ℕ)) (old new : Held) 
   pub text : Fun
   pub well : AreStms text.body
   pub runs : d ≡ def_of (length old.funs) text
-  pub adds : new ≡ after (seen_twice (same_params [] text.params) (seen_twice (at_twice (is_one_of text.name known) text.place) old)) (stms_part text.body)
-  pub spelled : Spelled (λ more. name_at text.name text.place ∷ sign Sign.OpenRound ∷ spell_params text.params (sign Sign.CloseRound ∷ spell_block text.body more)) ts rest
+  pub adds : new ≡ after (seen_twice (same_params [] text.params) (seen_twice (at_twice (is_one_of text.name known) text.place) old))
+      (stms_part text.body)
+  pub spelled : Spelled (λ more. name_at text.name text.place ∷ sign Sign.OpenRound
+      ∷ spell_params text.params (sign Sign.CloseRound ∷ spell_block text.body more)) ts rest
 
 -- the functions and statements of a script, behind those that were read: with these the script is of those that were read and these
 abbrev pub Goes : List (List ℕ) → Read → List Token → List Token → Type 0
-Goes seen r ts rest = (us : List Top) (fs : List Def) (ms : List Stmt) → AreTops us → Spelled (spell_tops us) rest [] → funs_view fs ≡ defs_of (length r.made.funs) us → stms_view ms ≡ main_of (length r.made.funs) us
-    → (tops : List Top) × AreTops tops × Spelled (spell_tops tops) ts [] × (defs_of 0 tops ≡ funs_view (r.funs.items ++ fs)) × (main_of 0 tops ≡ stms_view (r.main.items ++ ms)) × (made_of 0 tops ≡ r.made.funs ++ made_of (length r.made.funs) us) × (same_names [] tops ≡ first_of r.made.same (same_names seen us))
+Goes seen r ts rest = (us : List Top) (fs : List Def) (ms : List Stmt) → AreTops us → Spelled (spell_tops us) rest [] → funs_view fs
+    ≡ defs_of (length r.made.funs) us → stms_view ms ≡ main_of (length r.made.funs) us
+    → (tops : List Top) × AreTops tops × Spelled (spell_tops tops) ts [] × (defs_of 0 tops ≡ funs_view (r.funs.items ++ fs))
+    × (main_of 0 tops ≡ stms_view (r.main.items ++ ms)) × (made_of 0 tops ≡ r.made.funs ++ made_of (length r.made.funs) us)
+    × (same_names [] tops ≡ first_of r.made.same (same_names seen us))
 
 -- so far this was read; the names of functions that stood are known
 pub record SoFar (r : Read) (ts rest : List Token) : Type 0 where
@@ -37,7 +42,8 @@ pub record SoFar (r : Read) (ts rest : List Token) : Type 0 where
 
 -- all was read
 abbrev pub IsRead : Read → List Top → Type 0
-IsRead r tops = (funs_view r.funs.items ≡ defs_of 0 tops) × (stms_view r.main.items ≡ main_of 0 tops) × (r.made.funs ≡ made_of 0 tops) × (r.made.same ≡ same_names [] tops)
+IsRead r tops = (funs_view r.funs.items ≡ defs_of 0 tops) × (stms_view r.main.items ≡ main_of 0 tops) × (r.made.funs ≡ made_of 0 tops)
+    × (r.made.same ≡ same_names [] tops)
 
 -- no named function stands first: a word `function` has a bracket behind it
 abbrev pub no_function : List Token → Bool

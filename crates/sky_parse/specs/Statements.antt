@@ -7,7 +7,8 @@ use Rattle.sky_text.specs.declared.token.TokenKind.{TokenKind}
 use Rattle.sky_text.specs.declared.token.Token.{Token}
 use Rattle.sky_grammar.specs.Source.{Exp, Stms, Arms, Else}
 use Rattle.sky_grammar.specs.Lifted.{tree, stm_tree, stms_tree, arms_tree, else_tree, arms_count, count}
-use Rattle.sky_grammar.specs.Grammar.{Mark, sign, word, spell, spell_stm, spell_stms, spell_block, spell_test, spell_other_arms, spell_else, IsTree, IsStm, AreStms, AreArms, IsElse}
+use Rattle.sky_grammar.specs.Grammar.{Mark, sign, word, spell, spell_stm, spell_stms, spell_block, spell_test, spell_other_arms, spell_else, IsTree}
+use Rattle.sky_grammar.specs.Grammar.{IsStm, AreStms, AreArms, IsElse}
 use Rattle.sky_parse_expr.specs.Held.{Held, both, named_first, exp_part, stm_part, stms_part, arms_part, else_part}
 use Rattle.sky_parse_expr.specs.Reads.{Reads}
 
@@ -27,7 +28,8 @@ ReadsStms = Reads AreStms stms_tree stms_part spell_stms
 
 -- what stands in the parentheses of a `for`: the name, and the list behind it
 abbrev pub ReadsEach : List ℕ → run.Exp → Held → Held → List Token → List Token → Type 0
-ReadsEach x e old new = Reads IsTree tree (λ s. named_first x (exp_part s)) (λ s more. sign Sign.OpenRound ∷ Mark.plain (TokenKind.Name x) ∷ word Word.In ∷ spell s (sign Sign.CloseRound ∷ more)) e old new
+ReadsEach x e old new = Reads IsTree tree (λ s. named_first x (exp_part s))
+    (λ s more. sign Sign.OpenRound ∷ Mark.plain (TokenKind.Name x) ∷ word Word.In ∷ spell s (sign Sign.CloseRound ∷ more)) e old new
 
 -- a test and a block behind it
 pub record Arm : Type 0 where
@@ -42,7 +44,8 @@ abbrev pub arm_tree : ℕ → Arm → ArmRun
 arm_tree n x = record { test = tree n x.test; body = stms_tree (n + count x.test) x.body }
 
 abbrev pub ReadsArm : run.Exp → run.Stms → Held → Held → List Token → List Token → Type 0
-ReadsArm e b = Reads (λ (x : Arm). IsTree x.test × AreStms x.body) arm_tree (λ x. both (exp_part x.test) (stms_part x.body)) (λ x more. spell_test x.test (spell_block x.body more)) (record { test = e; body = b })
+ReadsArm e b = Reads (λ (x : Arm). IsTree x.test × AreStms x.body) arm_tree (λ x. both (exp_part x.test) (stms_part x.body))
+    (λ x more. spell_test x.test (spell_block x.body more)) (record { test = e; body = b })
 
 -- the arms behind the first and the last block of a choice
 pub record Rest : Type 0 where
@@ -57,4 +60,5 @@ abbrev pub rest_tree : ℕ → Rest → RestRun
 rest_tree n x = record { arms = arms_tree n x.arms; last = else_tree (n + arms_count x.arms) x.last }
 
 abbrev pub ReadsRest : RestRun → Held → Held → List Token → List Token → Type 0
-ReadsRest = Reads (λ (x : Rest). AreArms x.arms × IsElse x.last) rest_tree (λ x. both (arms_part x.arms) (else_part x.last)) (λ x more. spell_other_arms x.arms (spell_else x.last more))
+ReadsRest = Reads (λ (x : Rest). AreArms x.arms × IsElse x.last) rest_tree (λ x. both (arms_part x.arms) (else_part x.last))
+    (λ x more. spell_other_arms x.arms (spell_else x.last more))

@@ -91,7 +91,8 @@ fn named_function<'a>(
 /// The word of a named function, if one stands first, and what follows: behind the word of an anonymous
 /// function, which begins a statement, stands a bracket.
 fn begin_named(ts: &[Token]) -> Option<&[Token]>
-    ensures some { IfSome result (λ x. (t : Token) × (ts.now ≡ t ∷ x.now) × (is_word Word.Function t.kind ≡ true) × (at_sign Sign.OpenRound x.now ≡ false)) }
+    ensures some { IfSome result (λ x. (t : Token) × (ts.now ≡ t ∷ x.now) × (is_word Word.Function t.kind ≡ true)
+        × (at_sign Sign.OpenRound x.now ≡ false)) }
     ensures none { IfNone result (no_function ts.now ≡ true) }
 {
     let (_, after) = eat_word(ts, Word::Function)?;
@@ -190,7 +191,8 @@ pub fn parse(
     // A name that stands twice is refused where functions and statements spell the tokens, exactly there.
     ensures named { Named tokens.now result }
     // Where they do, no bracket is one too many and a name stands twice, that is the answer, but for want of memory.
-    ensures twice { (tops : List Top) (p : Place) → Spells tops tokens.now → too_nested 0 tokens.now ≡ None → same_names [] tops ≡ Some p → IsTwice p result }
+    ensures twice { (tops : List Top) (p : Place) → Spells tops tokens.now → too_nested 0 tokens.now ≡ None → same_names [] tops ≡ Some p
+        → IsTwice p result }
     // Where no sentence goes on, no script spells the tokens, and the place is that of the first token with
     // which they begin none, or else the end.
     ensures refused { Refused tokens.now (at end.0 end.1) result }

@@ -71,7 +71,9 @@ fn each_of<'a, F: for<'b> Fn(&mut Made, &'b [Token]) -> Result<(Block, &'b [Toke
 ) -> Result<((Txt, Expr), &'a [Token]), Fail>
     requires can { CanRead (F.pre body.now) (length ts.now) }
     requires bodies { ReadsBodies (F.post body.now) }
-    ensures read { Runs (λ x. x.1.now) (λ k. run (Item.sign Sign.OpenRound ∷ Item.name ∷ Item.word Word.In ∷ Item.level Level.Either ∷ Item.sign Sign.CloseRound ∷ k) (kinds ts.now)) result }
+    ensures read { Runs (λ x. x.1.now) (λ k. run
+        (Item.sign Sign.OpenRound ∷ Item.name ∷ Item.word Word.In ∷ Item.level Level.Either ∷ Item.sign Sign.CloseRound ∷ k) (kinds ts.now))
+        result }
     ensures tree { IfOk result (λ x. ReadsEach x.0.0 (exp_view x.0.1) made.old made.new ts.now x.1.now) }
     ensures less { IfOk result (λ x. length x.1.now < length ts.now) }
 {
@@ -220,7 +222,8 @@ fn back<'a, F: for<'b> Fn(&mut Made, &'b [Token]) -> Result<(Block, &'b [Token])
     requires can { CanRead (F.pre body.now) (length ts.now) }
     requires bodies { ReadsBodies (F.post body.now) }
     ensures read { Runs (λ x. x.1.now) (λ k. run (Item.back ∷ k) (kinds ts.now)) result }
-    ensures tree { IfOk result (λ x. (t : Token) → Fits (word_at Word.Return (at line col)) t → ReadsStm (stm_view x.0) made.old made.new (t ∷ ts.now) x.1.now) }
+    ensures tree { IfOk result (λ x. (t : Token) → Fits (word_at Word.Return (at line col)) t
+        → ReadsStm (stm_view x.0) made.old made.new (t ∷ ts.now) x.1.now) }
     ensures less { IfOk result (λ x. length x.1.now < length ts.now) }
 {
     if let Some((_, rest)) = eat(ts, Sign::Semicolon) {
@@ -300,7 +303,8 @@ fn choice<'a, F: for<'b> Fn(&mut Made, &'b [Token]) -> Result<(Block, &'b [Token
     requires can { CanRead (F.pre body.now) (length ts.now) }
     requires bodies { ReadsBodies (F.post body.now) }
     ensures read { Runs (λ x. x.1.now) (λ k. run (test_then (Item.block ∷ Item.arms ∷ k)) (kinds ts.now)) result }
-    ensures tree { IfOk result (λ x. (t : Token) → Fits (word_at Word.If (at line col)) t → ReadsStm (stm_view x.0) made.old made.new (t ∷ ts.now) x.1.now) }
+    ensures tree { IfOk result (λ x. (t : Token) → Fits (word_at Word.If (at line col)) t
+        → ReadsStm (stm_view x.0) made.old made.new (t ∷ ts.now) x.1.now) }
     ensures less { IfOk result (λ x. length x.1.now < length ts.now) }
 {
     let mut items = Vec::new(alloc);
@@ -385,7 +389,8 @@ fn while_loop<'a, F: for<'b> Fn(&mut Made, &'b [Token]) -> Result<(Block, &'b [T
     requires can { CanRead (F.pre body.now) (length ts.now) }
     requires bodies { ReadsBodies (F.post body.now) }
     ensures read { Runs (λ x. x.1.now) (λ k. run (test_then (Item.block ∷ k)) (kinds ts.now)) result }
-    ensures tree { IfOk result (λ x. (t : Token) → Fits (word_at Word.While (at line col)) t → ReadsStm (stm_view x.0) made.old made.new (t ∷ ts.now) x.1.now) }
+    ensures tree { IfOk result (λ x. (t : Token) → Fits (word_at Word.While (at line col)) t
+        → ReadsStm (stm_view x.0) made.old made.new (t ∷ ts.now) x.1.now) }
     ensures less { IfOk result (λ x. length x.1.now < length ts.now) }
 {
     let (test, rest) = test(alloc, body, made, ts)?;
@@ -413,8 +418,10 @@ fn do_loop<'a, F: for<'b> Fn(&mut Made, &'b [Token]) -> Result<(Block, &'b [Toke
 ) -> Result<(Stmt, &'a [Token]), Fail>
     requires can { CanRead (F.pre body.now) (length ts.now) }
     requires bodies { ReadsBodies (F.post body.now) }
-    ensures read { Runs (λ x. x.1.now) (λ k. run (Item.block ∷ Item.word Word.While ∷ test_then (Item.sign Sign.Semicolon ∷ k)) (kinds ts.now)) result }
-    ensures tree { IfOk result (λ x. (t : Token) → Fits (word_at Word.Do (at line col)) t → ReadsStm (stm_view x.0) made.old made.new (t ∷ ts.now) x.1.now) }
+    ensures read { Runs (λ x. x.1.now) (λ k. run (Item.block ∷ Item.word Word.While ∷ test_then (Item.sign Sign.Semicolon ∷ k)) (kinds ts.now))
+        result }
+    ensures tree { IfOk result (λ x. (t : Token) → Fits (word_at Word.Do (at line col)) t
+        → ReadsStm (stm_view x.0) made.old made.new (t ∷ ts.now) x.1.now) }
     ensures less { IfOk result (λ x. length x.1.now < length ts.now) }
 {
     let (block, rest) = block(alloc, body, made, ts)?;
@@ -444,8 +451,11 @@ fn for_loop<'a, F: for<'b> Fn(&mut Made, &'b [Token]) -> Result<(Block, &'b [Tok
 ) -> Result<(Stmt, &'a [Token]), Fail>
     requires can { CanRead (F.pre body.now) (length ts.now) }
     requires bodies { ReadsBodies (F.post body.now) }
-    ensures read { Runs (λ x. x.1.now) (λ k. run (Item.sign Sign.OpenRound ∷ Item.name ∷ Item.word Word.In ∷ Item.level Level.Either ∷ Item.sign Sign.CloseRound ∷ Item.block ∷ k) (kinds ts.now)) result }
-    ensures tree { IfOk result (λ x. (t : Token) → Fits (word_at Word.For (at line col)) t → ReadsStm (stm_view x.0) made.old made.new (t ∷ ts.now) x.1.now) }
+    ensures read { Runs (λ x. x.1.now) (λ k. run
+        (Item.sign Sign.OpenRound ∷ Item.name ∷ Item.word Word.In ∷ Item.level Level.Either ∷ Item.sign Sign.CloseRound ∷ Item.block ∷ k)
+        (kinds ts.now)) result }
+    ensures tree { IfOk result (λ x. (t : Token) → Fits (word_at Word.For (at line col)) t
+        → ReadsStm (stm_view x.0) made.old made.new (t ∷ ts.now) x.1.now) }
     ensures less { IfOk result (λ x. length x.1.now < length ts.now) }
 {
     let ((name, list), rest) = each_of(alloc, body, made, ts)?;
@@ -472,7 +482,8 @@ fn stmts<'a, F: for<'b> Fn(&mut Made, &'b [Token]) -> Result<(Block, &'b [Token]
 ) -> Result<(Block, &'a [Token]), Fail>
     requires can { CanRead (F.pre body.now) (length ts.now) }
     requires bodies { ReadsBodies (F.post body.now) }
-    ensures read { Goes (λ x k. run (Item.sign Sign.CloseCurly ∷ k) (kinds x.1.now)) (λ k. run (Item.stmts ∷ Item.sign Sign.CloseCurly ∷ k) (kinds ts.now)) result }
+    ensures read { Goes (λ x k. run (Item.sign Sign.CloseCurly ∷ k) (kinds x.1.now))
+        (λ k. run (Item.stmts ∷ Item.sign Sign.CloseCurly ∷ k) (kinds ts.now)) result }
     ensures tree { IfOk result (λ x. ReadsStms x.0 made.old made.new ts.now x.1.now) }
     ensures less { IfOk result (λ x. length x.1.now ≤ length ts.now) }
 {

@@ -1,12 +1,16 @@
 -- What is held behind one part and then another is what is held behind both.
-use Rattle.std.proofs.Common.{◌≡◌, ℕ, ◌+◌, List, [], ◌∷◌, ◌++◌, length, length-append, append_assoc, append-nil, add-zero, zero-add, add_assoc, arith, Option, Some, None, refl, sym, ap, ◌∙◌}
+use Rattle.std.proofs.Common.{◌≡◌, ℕ, ◌+◌, List, [], ◌∷◌, ◌++◌, length, length-append, append_assoc, append-nil, add-zero, zero-add, add_assoc, arith}
+use Rattle.std.proofs.Common.{Option, Some, None, refl, sym, ap, ◌∙◌}
 use Rattle.sky_base.specs.Tree as run
 use Rattle.sky_base.specs.Tree.{Place}
 use Rattle.sky_grammar.specs.Source.{Exp, Exps, Links, Ands, Steps, Stm, Stms, Arms}
-use Rattle.sky_grammar.specs.Lifted.{count, exps_count, links_count, ands_count, steps_count, stm_count, stms_count, arms_count, made, exps_made, links_made, ands_made, steps_made, stm_made, stms_made, arms_made}
+use Rattle.sky_grammar.specs.Lifted.{count, exps_count, links_count, ands_count, steps_count, stm_count, stms_count, arms_count, made, exps_made}
+use Rattle.sky_grammar.specs.Lifted.{links_made, ands_made, steps_made, stm_made, stms_made, arms_made}
 use Rattle.sky_grammar.specs.Names.{first_of}
-use Rattle.sky_grammar.proofs.LiftedLaw.{fun_names, numbered, names_length, numbered_length, in_order, exps_in_order, links_in_order, ands_in_order, steps_in_order, stm_in_order, stms_in_order, arms_in_order}
-use Rattle.sky_parse_expr.specs.Held.{Held, Part, after, nothing, both, named_first, seen_name, exp_part, exps_part, links_part, ands_part, steps_part, stm_part, stms_part, arms_part}
+use Rattle.sky_grammar.proofs.LiftedLaw.{fun_names, numbered, names_length, numbered_length, in_order, exps_in_order, links_in_order, ands_in_order}
+use Rattle.sky_grammar.proofs.LiftedLaw.{steps_in_order, stm_in_order, stms_in_order, arms_in_order}
+use Rattle.sky_parse_expr.specs.Held.{Held, Part, after, nothing, both, named_first, seen_name, exp_part, exps_part, links_part, ands_part}
+use Rattle.sky_parse_expr.specs.Held.{steps_part, stm_part, stms_part, arms_part}
 
 pub first_assoc : (a b c : Option Place) → first_of (first_of a b) c ≡ first_of a (first_of b c)
 first_assoc (Some p) b c = refl
@@ -25,7 +29,8 @@ after_both h p q s =
     let fs = h.funs in
     let a = p.made (length fs) in
     let n : length (fs ++ a) ≡ length fs + p.count = length-append fs a ∙ ap (λ m. length fs + m) (s (length fs)) in
-    let funs : (fs ++ a) ++ q.made (length (fs ++ a)) ≡ fs ++ (a ++ q.made (length fs + p.count)) = ap (λ m. (fs ++ a) ++ q.made m) n ∙ append_assoc fs a (q.made (length fs + p.count)) in
+    let funs : (fs ++ a) ++ q.made (length (fs ++ a)) ≡ fs ++ (a ++ q.made (length fs + p.count)) = ap (λ m. (fs ++ a) ++ q.made m) n
+    ∙ append_assoc fs a (q.made (length fs + p.count)) in
     λ i. record { funs = funs i; names = append_assoc h.names p.names q.names i; same = first_assoc h.same p.same q.same i }
 
 pub join : (a : Held) {b c : Held} (p q : Part) → Sized p → b ≡ after a p → c ≡ after b q → c ≡ after a (both p q)
@@ -38,13 +43,20 @@ pub after_nothing : (h : Held) → h ≡ after h nothing
 after_nothing h = sym (λ i. record { funs = append-nil h.funs i; names = append-nil h.names i; same = first_none h.same i })
 
 pub both_nothing : (p : Part) → both p nothing ≡ p
-both_nothing p = λ i. record { count = add-zero p.count i; made = λ n. append-nil (p.made n) i; names = append-nil p.names i; same = first_none p.same i }
+both_nothing p = λ i. record {
+  count = add-zero p.count i;
+  made = λ n. append-nil (p.made n) i;
+  names = append-nil p.names i;
+  same =
+      first_none p.same i;
+}
 
 pub after_name : (x : List ℕ) (h : Held) → seen_name x h ≡ after h (named_first x nothing)
 after_name x h = λ i. record { funs = sym (append-nil h.funs) i; names = h.names ++ x ∷ []; same = sym (first_none h.same) i }
 
 pub named_then : (a : Held) {b c : Held} (x : List ℕ) (p : Part) → b ≡ seen_name x a → c ≡ after b p → c ≡ after a (named_first x p)
-named_then a x p e f = f ∙ ap (λ h. after h p) e ∙ (λ i. record { funs = a.funs ++ p.made (length a.funs); names = append_assoc a.names (x ∷ []) p.names i; same = first_of a.same p.same })
+named_then a x p e f = f ∙ ap (λ h. after h p) e
+    ∙ (λ i. record { funs = a.funs ++ p.made (length a.funs); names = append_assoc a.names (x ∷ []) p.names i; same = first_of a.same p.same })
 
 sized_by : (fs : List run.FunDef) (n k : ℕ) → fun_names fs ≡ numbered n k → length fs ≡ k
 sized_by fs n k e = names_length fs ∙ ap length e ∙ numbered_length n k
@@ -81,7 +93,8 @@ both_assoc p q r =
     let n : (m : ℕ) → m + (p.count + q.count) ≡ m + p.count + q.count = λ m. omega arith in
     λ i. record {
       count = add_assoc p.count q.count r.count i;
-      made = λ m. ((λ j. (p.made m ++ q.made (m + p.count)) ++ r.made (n m j)) ∙ append_assoc (p.made m) (q.made (m + p.count)) (r.made (m + p.count + q.count))) i;
+      made = λ m. ((λ j. (p.made m ++ q.made (m + p.count)) ++ r.made (n m j))
+          ∙ append_assoc (p.made m) (q.made (m + p.count)) (r.made (m + p.count + q.count))) i;
       names = append_assoc p.names q.names r.names i;
       same = first_assoc p.same q.same r.same i;
     }

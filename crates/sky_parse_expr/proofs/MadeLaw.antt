@@ -1,5 +1,6 @@
 -- The functions of the code as the list that they stand for.
-use Rattle.std.proofs.Common.{◌≡◌, ◌<◌, ◌∙◌, ℕ, zero, suc, List, [], ◌∷◌, ◌++◌, length, length-drop, slice_set, get_or, take, take_all, drop, ◌-◌, Option, refl, sym, ap, arith}
+use Rattle.std.proofs.Common.{◌≡◌, ◌<◌, ◌∙◌, ℕ, zero, suc, List, [], ◌∷◌, ◌++◌, length, length-drop, slice_set, get_or, take, take_all, drop, ◌-◌}
+use Rattle.std.proofs.Common.{Option, refl, sym, ap, arith}
 use Rattle.sky_base.specs.Tree as run
 use Rattle.sky_base.specs.ScriptView.{fun_view, funs_view}
 use Rattle.sky_base.specs.declared.script.FunDef.{FunDef}
@@ -22,11 +23,14 @@ abbrev record_of : List run.FunDef → List (List ℕ) → Option Place → Held
 record_of fs ns o = record { funs = fs; names = ns; same = o }
 
 -- the function of a number with its body and what this uses
-pub body_set : (fs : List FunDef) (n : ℕ) (f d : FunDef) (b : run.Stms) (us ys : List (List ℕ)) → n < length fs → f ≡ get_or fs n d → us ≡ uses_of f.params ys
-    → funs_view (slice_set fs n (record { name = f.name; params = f.params; body = b; line = f.line; col = f.col; uses = us })) ≡ closed_at n b ys (funs_view fs)
+pub body_set : (fs : List FunDef) (n : ℕ) (f d : FunDef) (b : run.Stms) (us ys : List (List ℕ)) → n < length fs → f ≡ get_or fs n d → us
+    ≡ uses_of f.params ys
+    → funs_view (slice_set fs n (record { name = f.name; params = f.params; body = b; line = f.line; col = f.col; uses = us }))
+    ≡ closed_at n b ys (funs_view fs)
 body_set [] n f d b us ys h e u = absurd (omega (arith, h))
 body_set (g ∷ fs) zero f d b us ys h e u =
-    (λ i. record { name = f.name; params = f.params; body = b; place = record { line = f.line; col = f.col }; uses = u i } ∷ funs_view fs) ∙ ap (λ k. with_body b ys (fun_view k) ∷ funs_view fs) e
+    (λ i. record { name = f.name; params = f.params; body = b; place = record { line = f.line; col = f.col }; uses = u i } ∷ funs_view fs)
+    ∙ ap (λ k. with_body b ys (fun_view k) ∷ funs_view fs) e
 body_set (g ∷ fs) (suc n) f d b us ys h e u = ap (λ gs. fun_view g ∷ gs) (body_set fs n f d b us ys (omega (arith, h)) e u)
 
 -- what is read twice at one place is the same

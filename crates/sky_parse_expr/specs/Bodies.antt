@@ -16,5 +16,7 @@ CanRead pre n = (made : MutBor Held) (ts : Bor (List Token)) → length ts.now <
 
 -- it reads a block
 abbrev pub ReadsBodies : (MutBor Held → Bor (List Token) → Result (run.Stms × Bor (List Token)) Fail → MutBor Held → Type 0) → Type 0
-ReadsBodies post = (made : MutBor Held) (ts : Bor (List Token)) (r : Result (run.Stms × Bor (List Token)) Fail) (after : MutBor Held) → post made ts r after
-    → Runs (λ x. x.1.now) (λ k. machine.run (Item.block ∷ k) (kinds ts.now)) r × IfOk r (λ x. ReadsBlock x.0 made.now after.now ts.now x.1.now) × IfOk r (λ x. length x.1.now < length ts.now)
+ReadsBodies post = (made : MutBor Held) (ts : Bor (List Token)) (r : Result (run.Stms × Bor (List Token)) Fail) (after : MutBor Held)
+    → post made ts r after
+    → Runs (λ x. x.1.now) (λ k. machine.run (Item.block ∷ k) (kinds ts.now)) r × IfOk r (λ x. ReadsBlock x.0 made.now after.now ts.now x.1.now)
+    × IfOk r (λ x. length x.1.now < length ts.now)

@@ -5,7 +5,9 @@ use Rattle.sky_base.specs.Tree as run
 use Rattle.sky_base.specs.Tree.{Place}
 use Rattle.sky_base.specs.ScriptCode.{text_code, funs_code}
 use Rattle.sky_grammar.specs.Source.{Exp, Exps, Links, Ands, Steps, Stm, Stms, Arms, Else}
-use Rattle.sky_grammar.specs.Lifted.{names, exps_names, links_names, ands_names, steps_names, stm_names, stms_names, arms_names, else_names, count, exps_count, links_count, ands_count, steps_count, stm_count, stms_count, arms_count, else_count, made, exps_made, links_made, ands_made, steps_made, stm_made, stms_made, arms_made, else_made}
+use Rattle.sky_grammar.specs.Lifted.{names, exps_names, links_names, ands_names, steps_names, stm_names, stms_names, arms_names, else_names, count}
+use Rattle.sky_grammar.specs.Lifted.{exps_count, links_count, ands_count, steps_count, stm_count, stms_count, arms_count, else_count, made, exps_made}
+use Rattle.sky_grammar.specs.Lifted.{links_made, ands_made, steps_made, stm_made, stms_made, arms_made, else_made}
 use Rattle.sky_grammar.specs.Names.{first_of, same, exps_same, links_same, ands_same, steps_same, stm_same, stms_same, arms_same, else_same}
 
 -- the anonymous functions so far, the names that stood, and the place of the first name that stands twice
@@ -41,7 +43,13 @@ nothing = record { count = 0; made = λ n. []; names = []; same = None }
 
 -- one part and then another
 abbrev pub both : Part → Part → Part
-both p q = record { count = p.count + q.count; made = λ n. p.made n ++ q.made (n + p.count); names = p.names ++ q.names; same = first_of p.same q.same }
+both p q = record {
+  count = p.count + q.count;
+  made = λ n. p.made n ++ q.made (n + p.count);
+  names = p.names ++ q.names;
+  same =
+      first_of p.same q.same;
+}
 
 -- a name, and then a part
 abbrev pub named_first : List ℕ → Part → Part

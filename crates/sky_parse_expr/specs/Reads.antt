@@ -10,13 +10,18 @@ use Rattle.sky_text.specs.declared.token.TokenKind.{TokenKind}
 use Rattle.sky_text.specs.declared.token.Token.{Token}
 use Rattle.sky_grammar.specs.declared.parts.Shape.{Shape}
 use Rattle.sky_grammar.specs.Source.{Exp, Exps, Stms, Arms, Else, level, exps_count}
-use Rattle.sky_grammar.specs.Lifted.{number_name, uses_of, tree, exps_tree, links_tree, ands_tree, steps_tree, stm_tree, stms_tree, arms_tree, else_tree, arms_count, count}
-use Rattle.sky_grammar.specs.Grammar.{Mark, sign, word, spell, spell_links, spell_ands, spell_steps, spell_stm, spell_stms, spell_block, spell_test, spell_others, spell_value, spell_other_pairs, spell_other_arms, spell_else, IsTree, AreTrees, AreLinks, AreAnds, AreSteps, IsStm, AreStms, AreArms, IsElse, paired, valued, Spelled}
+use Rattle.sky_grammar.specs.Lifted.{number_name, uses_of, tree, exps_tree, links_tree, ands_tree, steps_tree, stm_tree, stms_tree, arms_tree}
+use Rattle.sky_grammar.specs.Lifted.{else_tree, arms_count, count}
+use Rattle.sky_grammar.specs.Grammar.{Mark, sign, word, spell, spell_links, spell_ands, spell_steps, spell_stm, spell_stms, spell_block, spell_test}
+use Rattle.sky_grammar.specs.Grammar.{spell_others, spell_value, spell_other_pairs, spell_other_arms, spell_else, IsTree, AreTrees, AreLinks, AreAnds}
+use Rattle.sky_grammar.specs.Grammar.{AreSteps, IsStm, AreStms, AreArms, IsElse, paired, valued, Spelled}
 use Rattle.sky_grammar.specs.Parts.{Has, spell_parts}
-use Rattle.sky_parse_expr.specs.Held.{Held, Part, after, both, named_first, exp_part, exps_part, links_part, ands_part, steps_part, stm_part, stms_part, arms_part, else_part}
+use Rattle.sky_parse_expr.specs.Held.{Held, Part, after, both, named_first, exp_part, exps_part, links_part, ands_part, steps_part, stm_part}
+use Rattle.sky_parse_expr.specs.Held.{stms_part, arms_part, else_part}
 
 -- A tree of one kind was read: what makes it a tree of the grammar, what runs in its place, what it adds and how it is spelled.
-pub record Reads {S R : Type 0} (good : S → Type 0) (tree : ℕ → S → R) (part : S → Part) (spell : S → List Mark → List Mark) (r : R) (old new : Held) (ts rest : List Token) : Type 0 where
+pub record Reads {S R : Type 0} (good : S → Type 0) (tree : ℕ → S → R) (part : S → Part) (spell : S → List Mark → List Mark) (r : R)
+    (old new : Held) (ts rest : List Token) : Type 0 where
   pub text : S
   pub well : good text
   pub runs : r ≡ tree (length old.funs) text
@@ -49,7 +54,8 @@ HasMore Shape.Pairs n es = (if n % 2 == 1 then valued es else paired es) ≡ tru
 abbrev pub spell_more : Shape → ℕ → Exps → List Mark → List Mark
 spell_more (Shape.Many s) n es more = spell_others es (sign s ∷ more)
 spell_more (Shape.Fixed m s) n es more = spell_others es (sign s ∷ more)
-spell_more Shape.Pairs n es more = if n % 2 == 1 then spell_value es (sign Sign.CloseCurly ∷ more) else spell_other_pairs es (sign Sign.CloseCurly ∷ more)
+spell_more Shape.Pairs n es more = if n % 2 == 1 then spell_value es (sign Sign.CloseCurly ∷ more) else spell_other_pairs es
+    (sign Sign.CloseCurly ∷ more)
 
 abbrev pub ReadsMore : Shape → ℕ → run.Exps → Held → Held → List Token → List Token → Type 0
 ReadsMore h n = Reads (λ es. AreTrees es × HasMore h n es) exps_tree exps_part (spell_more h n)

@@ -209,7 +209,8 @@ fn joins<'a, F: for<'b> Fn(&mut Made, &'b [Token]) -> Result<(Block, &'b [Token]
 
 /// A sign of a prefix, if one stands first, and what follows.
 fn sign_op(ts: &[Token]) -> Option<(SignAt, &[Token])>
-    ensures read { Takes (λ x k. run (Item.level Level.Prefix ∷ k) (kinds x.1.now)) (λ k. run (Item.stepped ∷ k) (kinds ts.now)) (λ k. run (Item.level Level.Prefix ∷ k) (kinds ts.now)) result }
+    ensures read { Takes (λ x k. run (Item.level Level.Prefix ∷ k) (kinds x.1.now)) (λ k. run (Item.stepped ∷ k) (kinds ts.now))
+        (λ k. run (Item.level Level.Prefix ∷ k) (kinds ts.now)) result }
     ensures some { IfSome result (λ x. (length x.1.now < length ts.now) × Spelled (spell_signs (signs_view (x.0 ∷ []))) ts.now x.1.now) }
 {
     if let Some((at, rest)) = eat(ts, Sign::Not) {

@@ -59,7 +59,8 @@ pub fn function<'a, F: for<'b> Fn(&mut Made, &'b [Token]) -> Result<(Block, &'b 
     requires can { CanRead (F.pre body.now) (length ts.now) }
     requires bodies { ReadsBodies (F.post body.now) }
     ensures read { Runs (λ x. x.1.now) (λ k. run (Item.sign Sign.OpenRound ∷ Item.params ∷ Item.block ∷ k) (kinds ts.now)) result }
-    ensures tree { IfOk result (λ x. (t : Token) → Fits (word_at Word.Function (at line col)) t → ReadsExp 7 (func x.0 (at line col)) made.old made.new (t ∷ ts.now) x.1.now) }
+    ensures tree { IfOk result (λ x. (t : Token) → Fits (word_at Word.Function (at line col)) t
+        → ReadsExp 7 (func x.0 (at line col)) made.old made.new (t ∷ ts.now) x.1.now) }
     ensures less { IfOk result (λ x. length x.1.now < length ts.now) }
 {
     let rest = want(ts, Sign::OpenRound)?;

@@ -15,7 +15,8 @@ use sky_text::token::{Sign, Token};
 
 /// An operator of a product, if one stands first, and what follows.
 fn product_op(ts: &[Token]) -> Option<(ArithOp, &Token, &[Token])>
-    ensures some { IfSome result (λ x. (ts.now ≡ x.1.now ∷ x.2.now) × (is (oper_sign (arith_view x.0)) x.1.now.kind ≡ true) × (oper_level (arith_view x.0) ≡ 4)) }
+    ensures some { IfSome result (λ x. (ts.now ≡ x.1.now ∷ x.2.now) × (is (oper_sign (arith_view x.0)) x.1.now.kind ≡ true)
+        × (oper_level (arith_view x.0) ≡ 4)) }
     ensures none { IfNone result (at_oper Level.Product ts.now ≡ false) }
 {
     if let Some((sign, rest)) = eat(ts, Sign::Star) {
@@ -30,7 +31,8 @@ fn product_op(ts: &[Token]) -> Option<(ArithOp, &Token, &[Token])>
 
 /// An operator of a sum, if one stands first, and what follows.
 fn sum_op(ts: &[Token]) -> Option<(ArithOp, &Token, &[Token])>
-    ensures some { IfSome result (λ x. (ts.now ≡ x.1.now ∷ x.2.now) × (is (oper_sign (arith_view x.0)) x.1.now.kind ≡ true) × (oper_level (arith_view x.0) ≡ 3)) }
+    ensures some { IfSome result (λ x. (ts.now ≡ x.1.now ∷ x.2.now) × (is (oper_sign (arith_view x.0)) x.1.now.kind ≡ true)
+        × (oper_level (arith_view x.0) ≡ 3)) }
     ensures none { IfNone result (at_oper Level.Sum ts.now ≡ false) }
 {
     if let Some((sign, rest)) = eat(ts, Sign::Plus) {
@@ -43,7 +45,8 @@ fn sum_op(ts: &[Token]) -> Option<(ArithOp, &Token, &[Token])>
 /// An operator of a sum or of a product, if one stands first, and what follows.
 pub fn arith_op(ts: &[Token], level: Level) -> Option<(ArithOp, &Token, &[Token])>
     requires { (3 ≤ rank level) × (rank level ≤ 4) }
-    ensures some { IfSome result (λ x. (ts.now ≡ x.1.now ∷ x.2.now) × (is (oper_sign (arith_view x.0)) x.1.now.kind ≡ true) × (oper_level (arith_view x.0) ≡ rank level)) }
+    ensures some { IfSome result (λ x. (ts.now ≡ x.1.now ∷ x.2.now) × (is (oper_sign (arith_view x.0)) x.1.now.kind ≡ true)
+        × (oper_level (arith_view x.0) ≡ rank level)) }
     ensures none { IfNone result (at_oper level ts.now ≡ false) }
 {
     match level {

@@ -97,8 +97,10 @@ impl Made {
         col: u32,
         params: &[Parameter],
     ) -> Result<(usize, usize, Txt), Memory>
-        ensures number { IfOk result (λ x. (x.0 ≡ length self.old.funs) × (x.1 ≡ length self.old.names) × (x.2 ≡ number_name (length self.old.funs))) }
-        ensures held { IfOk result (λ x. self.new ≡ seen_twice (same_params [] (params_view params.now)) (open_in (at line col) (param_names (params_view params.now)) self.old)) }
+        ensures number { IfOk result (λ x. (x.0 ≡ length self.old.funs) × (x.1 ≡ length self.old.names)
+            × (x.2 ≡ number_name (length self.old.funs))) }
+        ensures held { IfOk result (λ x. self.new ≡ seen_twice (same_params [] (params_view params.now))
+            (open_in (at line col) (param_names (params_view params.now)) self.old)) }
     {
         let number = self.funs.len();
         let from = self.names.len();

@@ -17,7 +17,8 @@ use sky_text::token::{Sign, Token};
 /// What follows the brackets, if they may be empty and are.
 #[tactic(auto, using(crate::proofs::Moves::shapes))]
 pub fn empty(shape: Shape, ts: &[Token]) -> Option<&[Token]>
-    ensures read { Takes (λ x k. run k (kinds x.now)) (λ k. run (Item.level Level.Either ∷ Item.others shape 1 ∷ k) (kinds ts.now)) (λ k. run (Item.parts shape ∷ k) (kinds ts.now)) result }
+    ensures read { Takes (λ x k. run k (kinds x.now)) (λ k. run (Item.level Level.Either ∷ Item.others shape 1 ∷ k) (kinds ts.now))
+        (λ k. run (Item.parts shape ∷ k) (kinds ts.now)) result }
     ensures some { IfSome result (λ x. Has shape Exps.no_exps × Spelled (spell_parts shape Exps.no_exps) ts.now x.now) }
     ensures less { IfSome result (λ x. length x.now < length ts.now) }
 {
@@ -38,7 +39,8 @@ pub fn empty(shape: Shape, ts: &[Token]) -> Option<&[Token]>
 #[tactic(auto, using(crate::proofs::Moves::shapes, crate::proofs::Moves::others_goes))]
 pub fn again(shape: Shape, count: usize, ts: &[Token]) -> Option<(&Token, &[Token])>
     ensures some { IfSome result (λ x. (ts.now ≡ x.0.now ∷ x.1.now) × (is (separator shape count) x.0.now.kind ≡ true)) }
-    ensures read { IfSome result (λ x. (k : List Item) → run (Item.others shape count ∷ k) (kinds ts.now) ≡ run (Item.level Level.Either ∷ Item.others shape (suc count) ∷ k) (kinds x.1.now)) }
+    ensures read { IfSome result (λ x. (k : List Item) → run (Item.others shape count ∷ k) (kinds ts.now)
+        ≡ run (Item.level Level.Either ∷ Item.others shape (suc count) ∷ k) (kinds x.1.now)) }
     ensures none { IfNone result (at_next shape count ts.now ≡ false) }
 {
     if shape.full(count) {

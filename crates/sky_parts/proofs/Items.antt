@@ -41,7 +41,8 @@ two_items (val u no_vals) a b h e g = absurd (omega arith)
 two_items (val u (val t no_vals)) a b h e g = let f : u ≡ a = cc in let k : t ≡ b = cc in ap₂ (λ x y. x ∷ y ∷ []) f k
 two_items (val u (val t (val s vs))) a b h e g = absurd (omega arith)
 
-pub three_items : (vs : Vs) (a b c : V) → count vs ≡ 3 → val_at vs 0 ≡ Some a → val_at vs 1 ≡ Some b → val_at vs 2 ≡ Some c → items vs ≡ a ∷ b ∷ c ∷ []
+pub three_items : (vs : Vs) (a b c : V) → count vs ≡ 3 → val_at vs 0 ≡ Some a → val_at vs 1 ≡ Some b → val_at vs 2 ≡ Some c → items vs ≡ a ∷ b
+    ∷ c ∷ []
 three_items no_vals a b c h e g i = absurd cc
 three_items (val u no_vals) a b c h e g i = absurd (omega arith)
 three_items (val u (val t no_vals)) a b c h e g i = absurd (omega arith)

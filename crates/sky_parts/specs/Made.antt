@@ -33,6 +33,7 @@ pub record RunsOn (w : World (List ℕ)) (sc : Script) (digest : List ℕ → Li
 -- the outputs of an executor task that were made inside of these forms, or the fault in their place
 abbrev pub OutputsSo : (List ℕ → List ℕ) → Script → (old new : List Named) → Val → Val → Val → Result (List (List ℕ)) FaultKind → Type 0
 OutputsSo digest sc old new x a n (Ok ns) =
-    (w : World (List ℕ)) (es : List Entry) (p : Place) (st : Vars) (k : List (Desc (List ℕ)) → Vars → Run) → RunsOn w sc digest → whole digest new (rest_in w es (k (known_of ns) st)) ≡ whole digest old (rest_in w es (outputs_of w x a n p st k))
+    (w : World (List ℕ)) (es : List Entry) (p : Place) (st : Vars) (k : List (Desc (List ℕ)) → Vars → Run) → RunsOn w sc digest
+    → whole digest new (rest_in w es (k (known_of ns) st)) ≡ whole digest old (rest_in w es (outputs_of w x a n p st k))
 OutputsSo digest sc old new x a n (Err e) =
     (new ≡ old) × ((w : World (List ℕ)) (p : Place) (st : Vars) (k : List (Desc (List ℕ)) → Vars → Run) → fails e p st ≡ outputs_of w x a n p st k)

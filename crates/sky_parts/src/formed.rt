@@ -59,7 +59,8 @@ fn one_part<'a>(values: &'a Vals) -> Option<&'a Value>
     requires { KeptVals values.now }
     ensures some { IfSome result (λ v. items values.entry.now ≡ view v.now ∷ []) }
     ensures kept { IfSome result (λ v. Kept (view v.now)) }
-    ensures none { IfNone result ((p : Place) (st : Vars) (k : Val → Run) → run.with_one (items values.entry.now) p st k ≡ fails FaultKind.BadKind p st) }
+    ensures none { IfNone result ((p : Place) (st : Vars) (k : Val → Run) → run.with_one (items values.entry.now) p st k
+        ≡ fails FaultKind.BadKind p st) }
 {
     if values.len() != 1 {
         return None;
@@ -76,7 +77,8 @@ fn two_parts<'a>(values: &'a Vals) -> Option<Two<'a>>
     requires { KeptVals values.now }
     ensures some { IfSome result (λ t. items values.entry.now ≡ view t.first.now ∷ view t.second.now ∷ []) }
     ensures kept { IfSome result (λ t. Kept (view t.first.now) × Kept (view t.second.now)) }
-    ensures none { IfNone result ((p : Place) (st : Vars) (k : Val → Val → Run) → run.with_two (items values.entry.now) p st k ≡ fails FaultKind.BadKind p st) }
+    ensures none { IfNone result ((p : Place) (st : Vars) (k : Val → Val → Run) → run.with_two (items values.entry.now) p st k
+        ≡ fails FaultKind.BadKind p st) }
 {
     if values.len() != 2 {
         return None;
@@ -95,7 +97,8 @@ fn two_parts<'a>(values: &'a Vals) -> Option<Two<'a>>
 fn three_parts<'a>(values: &'a Vals) -> Option<Three<'a>>
     requires { KeptVals values.now }
     ensures some { IfSome result (λ t. items values.entry.now ≡ view t.first.now ∷ view t.second.now ∷ view t.third.now ∷ []) }
-    ensures none { IfNone result ((p : Place) (st : Vars) (k : Val → Val → Val → Run) → run.with_three (items values.entry.now) p st k ≡ fails FaultKind.BadKind p st) }
+    ensures none { IfNone result ((p : Place) (st : Vars) (k : Val → Val → Val → Run) → run.with_three (items values.entry.now) p st k
+        ≡ fails FaultKind.BadKind p st) }
 {
     if values.len() != 3 {
         return None;
@@ -128,7 +131,8 @@ fn list_of(values: Vals, line: u32, col: u32) -> End
 /// A dictionary.
 fn dict_of(alloc: Global, values: &Vals, line: u32, col: u32) -> Result<End, Memory>
     requires { KeptVals values.now }
-    ensures same { IfOk result (λ e. (w : World (List ℕ)) (n : ℕ) (st : Vars) → run.formed w Form.dict (items values.now) n (at line col) st ≡ Fin (end_of e) st) }
+    ensures same { IfOk result (λ e. (w : World (List ℕ)) (n : ℕ) (st : Vars) → run.formed w Form.dict (items values.now) n (at line col) st
+        ≡ Fin (end_of e) st) }
     ensures ready { IfOk result EndReady }
 {
     let end = given(dictionary(alloc, values), line, col)?;
@@ -138,7 +142,8 @@ fn dict_of(alloc: Global, values: &Vals, line: u32, col: u32) -> Result<End, Mem
 /// `len`.
 fn len_of(values: &Vals, line: u32, col: u32) -> Result<End, Memory>
     requires { KeptVals values.now }
-    ensures same { IfOk result (λ e. (w : World (List ℕ)) (n : ℕ) (st : Vars) → run.formed w Form.len (items values.now) n (at line col) st ≡ Fin (end_of e) st) }
+    ensures same { IfOk result (λ e. (w : World (List ℕ)) (n : ℕ) (st : Vars) → run.formed w Form.len (items values.now) n (at line col) st
+        ≡ Fin (end_of e) st) }
     ensures ready { IfOk result EndReady }
 {
     match one_part(values) {
@@ -150,7 +155,8 @@ fn len_of(values: &Vals, line: u32, col: u32) -> Result<End, Memory>
 /// `keys`.
 fn keys_of(alloc: Global, values: &Vals, line: u32, col: u32) -> Result<End, Memory>
     requires { KeptVals values.now }
-    ensures same { IfOk result (λ e. (w : World (List ℕ)) (n : ℕ) (st : Vars) → run.formed w Form.keys (items values.now) n (at line col) st ≡ Fin (end_of e) st) }
+    ensures same { IfOk result (λ e. (w : World (List ℕ)) (n : ℕ) (st : Vars) → run.formed w Form.keys (items values.now) n (at line col) st
+        ≡ Fin (end_of e) st) }
     ensures ready { IfOk result EndReady }
 {
     match one_part(values) {
@@ -162,7 +168,8 @@ fn keys_of(alloc: Global, values: &Vals, line: u32, col: u32) -> Result<End, Mem
 /// `has`.
 fn has_of(values: &Vals, line: u32, col: u32) -> Result<End, Memory>
     requires { KeptVals values.now }
-    ensures same { IfOk result (λ e. (w : World (List ℕ)) (n : ℕ) (st : Vars) → run.formed w Form.has (items values.now) n (at line col) st ≡ Fin (end_of e) st) }
+    ensures same { IfOk result (λ e. (w : World (List ℕ)) (n : ℕ) (st : Vars) → run.formed w Form.has (items values.now) n (at line col) st
+        ≡ Fin (end_of e) st) }
     ensures ready { IfOk result EndReady }
 {
     match two_parts(values) {
@@ -174,7 +181,8 @@ fn has_of(values: &Vals, line: u32, col: u32) -> Result<End, Memory>
 /// `range`.
 fn range_of(alloc: Global, values: &Vals, line: u32, col: u32) -> Result<End, Memory>
     requires { KeptVals values.now }
-    ensures same { IfOk result (λ e. (w : World (List ℕ)) (n : ℕ) (st : Vars) → run.formed w Form.range (items values.now) n (at line col) st ≡ Fin (end_of e) st) }
+    ensures same { IfOk result (λ e. (w : World (List ℕ)) (n : ℕ) (st : Vars) → run.formed w Form.range (items values.now) n (at line col) st
+        ≡ Fin (end_of e) st) }
     ensures ready { IfOk result EndReady }
 {
     match two_parts(values) {
@@ -192,7 +200,10 @@ fn spawn_of<N: Namer>(
     col: u32,
 ) -> Result<End, Memory>
     requires { KeptVals values.now }
-    ensures same { IfOk result (λ e. (w : World (List ℕ)) (es : List rust.Entry) (n : ℕ) (st : Vars) → RunsOn w ground.now.code.now (N.digest ground.now.namer.now) → whole (N.digest ground.now.namer.now) made.new.items (rest_in w es (Fin (end_of e) st)) ≡ whole (N.digest ground.now.namer.now) made.old.items (rest_in w es (run.formed w Form.spawn (items values.now) n (at line col) st))) }
+    ensures same { IfOk result (λ e. (w : World (List ℕ)) (es : List rust.Entry) (n : ℕ) (st : Vars)
+        → RunsOn w ground.now.code.now (N.digest ground.now.namer.now)
+        → whole (N.digest ground.now.namer.now) made.new.items (rest_in w es (Fin (end_of e) st))
+        ≡ whole (N.digest ground.now.namer.now) made.old.items (rest_in w es (run.formed w Form.spawn (items values.now) n (at line col) st))) }
     ensures ready { IfOk result EndReady }
 {
     match two_parts(values) {
@@ -213,7 +224,10 @@ fn ref_of<N: Namer>(
     col: u32,
 ) -> Result<End, Memory>
     requires { KeptVals values.now }
-    ensures same { IfOk result (λ e. (w : World (List ℕ)) (es : List rust.Entry) (n : ℕ) (st : Vars) → RunsOn w ground.now.code.now (N.digest ground.now.namer.now) → whole (N.digest ground.now.namer.now) made.new.items (rest_in w es (Fin (end_of e) st)) ≡ whole (N.digest ground.now.namer.now) made.old.items (rest_in w es (run.formed w Form.ref (items values.now) n (at line col) st))) }
+    ensures same { IfOk result (λ e. (w : World (List ℕ)) (es : List rust.Entry) (n : ℕ) (st : Vars)
+        → RunsOn w ground.now.code.now (N.digest ground.now.namer.now)
+        → whole (N.digest ground.now.namer.now) made.new.items (rest_in w es (Fin (end_of e) st))
+        ≡ whole (N.digest ground.now.namer.now) made.old.items (rest_in w es (run.formed w Form.ref (items values.now) n (at line col) st))) }
     ensures ready { IfOk result EndReady }
 {
     match one_part(values) {
@@ -234,7 +248,11 @@ fn spawn_exec_of<N: Namer>(
     col: u32,
 ) -> Result<End, Memory>
     requires { KeptVals values.now }
-    ensures same { IfOk result (λ e. (w : World (List ℕ)) (es : List rust.Entry) (n : ℕ) (st : Vars) → RunsOn w ground.now.code.now (N.digest ground.now.namer.now) → whole (N.digest ground.now.namer.now) made.new.items (rest_in w es (Fin (end_of e) st)) ≡ whole (N.digest ground.now.namer.now) made.old.items (rest_in w es (run.formed w Form.spawn_exec (items values.now) n (at line col) st))) }
+    ensures same { IfOk result (λ e. (w : World (List ℕ)) (es : List rust.Entry) (n : ℕ) (st : Vars)
+        → RunsOn w ground.now.code.now (N.digest ground.now.namer.now)
+        → whole (N.digest ground.now.namer.now) made.new.items (rest_in w es (Fin (end_of e) st))
+        ≡ whole (N.digest ground.now.namer.now) made.old.items
+        (rest_in w es (run.formed w Form.spawn_exec (items values.now) n (at line col) st))) }
     ensures ready { IfOk result EndReady }
 {
     match three_parts(values) {
@@ -264,7 +282,8 @@ fn wait_for<'a>(
     names: Names,
 ) -> Result<Control<'a>, Memory>
     requires { AllReady code.now entries.old.items }
-    ensures same { IfOk result (λ c. (w : World (List ℕ)) (st : Vars) → config w entries.new.items c st ≡ rest_in w entries.old.items (run.exec_ask w node (known_of names) st)) }
+    ensures same { IfOk result (λ c. (w : World (List ℕ)) (st : Vars) → config w entries.new.items c st
+        ≡ rest_in w entries.old.items (run.exec_ask w node (known_of names) st)) }
     ensures ready { IfOk result (λ c. AllReady code.now entries.new.items) }
     ensures goes { IfOk result (λ c. Goes code.now c) }
     ensures opened { IfOk result (λ c. opened (forms entries.new.items) ≡ opened (forms entries.old.items)) }
@@ -293,7 +312,10 @@ fn exec_of<'a, N: Namer>(
 ) -> Result<Control<'a>, Memory>
     requires ready { AllReady ground.now.code.now entries.old.items }
     requires kept { KeptVals values.now }
-    ensures same { IfOk result (λ c. (w : World (List ℕ)) (st : Vars) → RunsOn w ground.now.code.now (N.digest ground.now.namer.now) → whole (N.digest ground.now.namer.now) made.new.items (config w entries.new.items c st) ≡ whole (N.digest ground.now.namer.now) made.old.items (rest_in w entries.old.items (run.formed w Form.exec (items values.now) node (at line col) st))) }
+    ensures same { IfOk result (λ c. (w : World (List ℕ)) (st : Vars) → RunsOn w ground.now.code.now (N.digest ground.now.namer.now)
+        → whole (N.digest ground.now.namer.now) made.new.items (config w entries.new.items c st)
+        ≡ whole (N.digest ground.now.namer.now) made.old.items
+        (rest_in w entries.old.items (run.formed w Form.exec (items values.now) node (at line col) st))) }
     ensures ready { IfOk result (λ c. AllReady ground.now.code.now entries.new.items) }
     ensures goes { IfOk result (λ c. Goes ground.now.code.now c) }
     ensures opened { IfOk result (λ c. opened (forms entries.new.items) ≡ opened (forms entries.old.items)) }
@@ -330,7 +352,10 @@ pub fn formed<'a, N: Namer>(
 ) -> Result<Control<'a>, Memory>
     requires ready { AllReady ground.now.code.now entries.old.items }
     requires kept { KeptVals values }
-    ensures same { IfOk result (λ c. (w : World (List ℕ)) (st : Vars) → RunsOn w ground.now.code.now (N.digest ground.now.namer.now) → whole (N.digest ground.now.namer.now) made.new.items (config w entries.new.items c st) ≡ whole (N.digest ground.now.namer.now) made.old.items (rest_in w entries.old.items (run.formed w (form_view form) (items values) node (at line col) st))) }
+    ensures same { IfOk result (λ c. (w : World (List ℕ)) (st : Vars) → RunsOn w ground.now.code.now (N.digest ground.now.namer.now)
+        → whole (N.digest ground.now.namer.now) made.new.items (config w entries.new.items c st)
+        ≡ whole (N.digest ground.now.namer.now) made.old.items
+        (rest_in w entries.old.items (run.formed w (form_view form) (items values) node (at line col) st))) }
     ensures ready { IfOk result (λ c. AllReady ground.now.code.now entries.new.items) }
     ensures goes { IfOk result (λ c. Goes ground.now.code.now c) }
     ensures opened { IfOk result (λ c. opened (forms entries.new.items) ≡ opened (forms entries.old.items)) }

@@ -58,7 +58,8 @@ pub fn make<N: Namer>(
     desc: Desc1,
 ) -> Result<Name, Memory>
     ensures name { IfOk result (λ n. n ≡ digested (N.digest ground.now.namer.now) (desc_view desc)) }
-    ensures whole { IfOk result (λ n. (r : Run) → whole (N.digest ground.now.namer.now) made.new.items r ≡ whole (N.digest ground.now.namer.now) made.old.items (Tell (desc_view desc) r)) }
+    ensures whole { IfOk result (λ n. (r : Run) → whole (N.digest ground.now.namer.now) made.new.items r
+        ≡ whole (N.digest ground.now.namer.now) made.old.items (Tell (desc_view desc) r)) }
 {
     let name = name_of(ground, &desc)?;
     let Ok(()) = made.reserve(1) else {
@@ -74,7 +75,10 @@ fn reference_to<N: Namer>(
     made: &mut Vec<Named>,
     desc: Desc1,
 ) -> Result<End, Memory>
-    ensures same { IfOk result (λ e. (w : World (List ℕ)) (es : List Entry) (st : Vars) → RunsOn w ground.now.code.now (N.digest ground.now.namer.now) → whole (N.digest ground.now.namer.now) made.new.items (rest_in w es (Fin (end_of e) st)) ≡ whole (N.digest ground.now.namer.now) made.old.items (rest_in w es (make_one w (desc_view desc) st))) }
+    ensures same { IfOk result (λ e. (w : World (List ℕ)) (es : List Entry) (st : Vars)
+        → RunsOn w ground.now.code.now (N.digest ground.now.namer.now)
+        → whole (N.digest ground.now.namer.now) made.new.items (rest_in w es (Fin (end_of e) st))
+        ≡ whole (N.digest ground.now.namer.now) made.old.items (rest_in w es (make_one w (desc_view desc) st))) }
     ensures ready { IfOk result EndReady }
 {
     let name = make(ground, made, desc)?;
@@ -120,7 +124,10 @@ pub fn spawn<N: Namer>(
     line: u32,
     col: u32,
 ) -> Result<End, Memory>
-    ensures same { IfOk result (λ e. (w : World (List ℕ)) (es : List Entry) (st : Vars) → RunsOn w ground.now.code.now (N.digest ground.now.namer.now) → whole (N.digest ground.now.namer.now) made.new.items (rest_in w es (Fin (end_of e) st)) ≡ whole (N.digest ground.now.namer.now) made.old.items (rest_in w es (spawned w (view fun.now) (view args.now) (at line col) st))) }
+    ensures same { IfOk result (λ e. (w : World (List ℕ)) (es : List Entry) (st : Vars)
+        → RunsOn w ground.now.code.now (N.digest ground.now.namer.now)
+        → whole (N.digest ground.now.namer.now) made.new.items (rest_in w es (Fin (end_of e) st))
+        ≡ whole (N.digest ground.now.namer.now) made.old.items (rest_in w es (spawned w (view fun.now) (view args.now) (at line col) st))) }
     ensures ready { IfOk result EndReady }
 {
     let Value::Fun { name, caught } = fun else {
@@ -148,7 +155,10 @@ pub fn input<N: Namer>(
     line: u32,
     col: u32,
 ) -> Result<End, Memory>
-    ensures same { IfOk result (λ e. (w : World (List ℕ)) (es : List Entry) (st : Vars) → RunsOn w ground.now.code.now (N.digest ground.now.namer.now) → whole (N.digest ground.now.namer.now) made.new.items (rest_in w es (Fin (end_of e) st)) ≡ whole (N.digest ground.now.namer.now) made.old.items (rest_in w es (input_of w (view key.now) (at line col) st))) }
+    ensures same { IfOk result (λ e. (w : World (List ℕ)) (es : List Entry) (st : Vars)
+        → RunsOn w ground.now.code.now (N.digest ground.now.namer.now)
+        → whole (N.digest ground.now.namer.now) made.new.items (rest_in w es (Fin (end_of e) st))
+        ≡ whole (N.digest ground.now.namer.now) made.old.items (rest_in w es (input_of w (view key.now) (at line col) st))) }
     ensures ready { IfOk result EndReady }
 {
     let Value::Text(key) = key else {
@@ -165,7 +175,8 @@ pub fn input<N: Namer>(
 /// How many outputs an executor task is asked for, from 1 to 64, or the fault.
 fn wanted(outputs: &Value) -> Result<u32, FaultKind>
     ensures ok { IfOk result (λ n. (view outputs.now ≡ num (pos n)) × (n ≤ 64) × (nat_lt 0 n && nat_lt n 65 ≡ true)) }
-    ensures err { IfErr result (λ e. (w : World (List ℕ)) (x : List ℕ) (a : Val) (p : Place) (st : Vars) (k : List (value.Desc (List ℕ)) → Vars → Run) → fails e p st ≡ outputs_count w x a (view outputs.now) p st k) }
+    ensures err { IfErr result (λ e. (w : World (List ℕ)) (x : List ℕ) (a : Val) (p : Place) (st : Vars)
+        (k : List (value.Desc (List ℕ)) → Vars → Run) → fails e p st ≡ outputs_count w x a (view outputs.now) p st k) }
 {
     let Value::Int(n) = outputs else {
         return Err(FaultKind::BadKind);
@@ -186,8 +197,10 @@ fn make_output<N: Namer>(
     outputs: u32,
     index: u32,
 ) -> Result<(), Memory>
-    ensures whole { IfOk result (λ _. (r : Run) → whole (N.digest ground.now.namer.now) made.new.items r ≡ whole (N.digest ground.now.namer.now) made.old.items (Tell (value.out executor.now (view args.now) outputs index) r)) }
-    ensures names { IfOk result (λ _. names.new ≡ names.old ++ digested (N.digest ground.now.namer.now) (value.out executor.now (view args.now) outputs index) ∷ []) }
+    ensures whole { IfOk result (λ _. (r : Run) → whole (N.digest ground.now.namer.now) made.new.items r
+        ≡ whole (N.digest ground.now.namer.now) made.old.items (Tell (value.out executor.now (view args.now) outputs index) r)) }
+    ensures names { IfOk result (λ _. names.new ≡ names.old
+        ++ digested (N.digest ground.now.namer.now) (value.out executor.now (view args.now) outputs index) ∷ []) }
 {
     let desc = output_of(executor, args, outputs, index)?;
     let name = make(ground, made, desc)?;
@@ -203,7 +216,8 @@ pub fn make_outputs<N: Namer>(
     args: &Value,
     count: &Value,
 ) -> Result<Result<Names, FaultKind>, Memory>
-    ensures same { IfOk result (OutputsSo (N.digest ground.now.namer.now) ground.now.code.now made.old.items made.new.items (view executor.now) (view args.now) (view count.now)) }
+    ensures same { IfOk result (OutputsSo (N.digest ground.now.namer.now) ground.now.code.now made.old.items made.new.items (view executor.now)
+        (view args.now) (view count.now)) }
     ensures few { IfOk result (λ r. IfOk r (λ ns. length ns ≤ 64)) }
 {
     let Value::Text(executor) = executor else {

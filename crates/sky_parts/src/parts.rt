@@ -49,7 +49,11 @@ pub fn begin_parts<'a, N: Namer>(
     requires ready { AllReady ground.now.code.now entries.old.items }
     requires has { HasExp (λ i. node_at ground.now.code.now i) (Exp.parts (form_view form) (at line col) (rest_view parts)) node }
     requires within { state.old.count ≤ visits }
-    ensures same { IfOk result (λ c. (w : World (List ℕ)) → RunsOn w ground.now.code.now (N.digest ground.now.namer.now) → whole (N.digest ground.now.namer.now) made.new.items (config w entries.new.items c state.new) ≡ whole (N.digest ground.now.namer.now) made.old.items (rest_in w entries.old.items (eval w (body_in w (forms entries.old.items)) (Exp.parts (form_view form) (at line col) (rest_view parts.entry)) node state.old))) }
+    ensures same { IfOk result (λ c. (w : World (List ℕ)) → RunsOn w ground.now.code.now (N.digest ground.now.namer.now)
+        → whole (N.digest ground.now.namer.now) made.new.items (config w entries.new.items c state.new)
+        ≡ whole (N.digest ground.now.namer.now) made.old.items
+        (rest_in w entries.old.items (eval w (body_in w (forms entries.old.items))
+        (Exp.parts (form_view form) (at line col) (rest_view parts.entry)) node state.old))) }
     ensures ready { IfOk result (λ c. AllReady ground.now.code.now entries.new.items) }
     ensures goes { IfOk result (λ c. Goes ground.now.code.now c) }
     ensures opened { IfOk result (λ c. opened (forms entries.new.items) ≡ opened (forms entries.old.items)) }
@@ -89,12 +93,17 @@ pub fn more_parts<'a, N: Namer>(
     requires has { HasExps (λ i. node_at ground.now.code.now i) (rest_view part.rest) part.next }
     requires kept { KeptVals part.values }
     requires within { state.old.count ≤ visits }
-    ensures same { IfOk result (λ c. (w : World (List ℕ)) → RunsOn w ground.now.code.now (N.digest ground.now.namer.now) → whole (N.digest ground.now.namer.now) made.new.items (config w entries.new.items c state.new) ≡ whole (N.digest ground.now.namer.now) made.old.items (rest_in w entries.old.items (eval_parts w (body_in w (forms entries.old.items)) (rest_view part.entry.rest) part.entry.node part.entry.step part.entry.next (form_view part.entry.form) (at part.entry.line part.entry.col) (items part.entry.values) state.old))) }
+    ensures same { IfOk result (λ c. (w : World (List ℕ)) → RunsOn w ground.now.code.now (N.digest ground.now.namer.now)
+        → whole (N.digest ground.now.namer.now) made.new.items (config w entries.new.items c state.new)
+        ≡ whole (N.digest ground.now.namer.now) made.old.items
+        (rest_in w entries.old.items (eval_parts w (body_in w (forms entries.old.items)) (rest_view part.entry.rest) part.entry.node
+        part.entry.step part.entry.next (form_view part.entry.form) (at part.entry.line part.entry.col) (items part.entry.values) state.old))) }
     ensures ready { IfOk result (λ c. AllReady ground.now.code.now entries.new.items) }
     ensures goes { IfOk result (λ c. Goes ground.now.code.now c) }
     ensures opened { IfOk result (λ c. opened (forms entries.new.items) ≡ opened (forms entries.old.items)) }
     ensures falls { IfOk result (λ c. GoesOut End.Goes state.old.count entries.old.items state.new.count entries.new.items c) }
-    ensures goes_in { part.entry.node < part.entry.next → IfOk result (λ c. GoesIn part.entry.node state.old.count entries.old.items state.new.count entries.new.items c) }
+    ensures goes_in { part.entry.node < part.entry.next
+        → IfOk result (λ c. GoesIn part.entry.node state.old.count entries.old.items state.new.count entries.new.items c) }
 {
     let Part {
         node,
@@ -147,7 +156,11 @@ pub fn got_part<'a, N: Namer>(
     requires entry { Ready ground.now.code.now (entry_of (Entry.Form (InForm.Part part))) }
     requires kept { Kept (view v) }
     requires within { state.old.count ≤ visits }
-    ensures same { IfOk result (λ c. (w : World (List ℕ)) → RunsOn w ground.now.code.now (N.digest ground.now.namer.now) → whole (N.digest ground.now.namer.now) made.new.items (config w entries.new.items c state.new) ≡ whole (N.digest ground.now.namer.now) made.old.items (rest_in w entries.old.items (goes_on w (forms entries.old.items) (entry_of (Entry.Form (InForm.Part part.entry))) (logic.End.got (view v)) state.old))) }
+    ensures same { IfOk result (λ c. (w : World (List ℕ)) → RunsOn w ground.now.code.now (N.digest ground.now.namer.now)
+        → whole (N.digest ground.now.namer.now) made.new.items (config w entries.new.items c state.new)
+        ≡ whole (N.digest ground.now.namer.now) made.old.items
+        (rest_in w entries.old.items (goes_on w (forms entries.old.items) (entry_of (Entry.Form (InForm.Part part.entry)))
+        (logic.End.got (view v)) state.old))) }
     ensures ready { IfOk result (λ c. AllReady ground.now.code.now entries.new.items) }
     ensures goes { IfOk result (λ c. Goes ground.now.code.now c) }
     ensures opened { IfOk result (λ c. opened (forms entries.new.items) ≡ opened (forms entries.old.items)) }

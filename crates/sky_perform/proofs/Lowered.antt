@@ -6,7 +6,8 @@ use Rattle.sky_base.specs.Val.{null, truth, num, text, list, dict, fun, ref, no_
 use Rattle.sky_base.specs.Name.{low, low_vals, low_pairs}
 use Rattle.sky_base.specs.Res.{Object}
 use Rattle.sky_base.specs.See as m
-use Rattle.sky_base.specs.See.{Val, Vals, Desc, Obj, Job, Around, Gathered, gather, gather_on, gather_one, as_bytes, written, executed_on, replaced, vals_replaced, pairs_replaced, see}
+use Rattle.sky_base.specs.See.{Val, Vals, Desc, Obj, Job, Around, Gathered, gather, gather_on, gather_one, as_bytes, written, executed_on, replaced}
+use Rattle.sky_base.specs.See.{vals_replaced, pairs_replaced, see}
 use Rattle.sky_base.specs.declared.fault.FaultKind.{FaultKind}
 use Rattle.sky_base.specs.declared.fault.Fault.{Fault}
 use Rattle.sky_law.specs.Lower.{low_ref, low_obj}
@@ -36,12 +37,14 @@ module _ (tag : Tag) where
     vals_slots_low : (i : ℕ) (vs : Vals) → vals_replaced in_slot i (low_vals no_name tag vs) ≡ vals_replaced in_slot i vs
     vals_slots_low i no_vals = refl
     vals_slots_low i (val a vs) =
-        ap₂ val (slots_low i a) (ap (λ n. vals_replaced in_slot (i + n) (low_vals no_name tag vs)) (same_refs a) ∙ vals_slots_low (i + length (refs a)) vs)
+        ap₂ val (slots_low i a) (ap (λ n. vals_replaced in_slot (i + n) (low_vals no_name tag vs)) (same_refs a)
+        ∙ vals_slots_low (i + length (refs a)) vs)
 
     pairs_slots_low : (i : ℕ) (ps : v.Pairs ⊥) → pairs_replaced in_slot i (low_pairs no_name tag ps) ≡ pairs_replaced in_slot i ps
     pairs_slots_low i no_pairs = refl
     pairs_slots_low i (pair k a ps) =
-        ap₂ (pair k) (slots_low i a) (ap (λ n. pairs_replaced in_slot (i + n) (low_pairs no_name tag ps)) (same_refs a) ∙ pairs_slots_low (i + length (refs a)) ps)
+        ap₂ (pair k) (slots_low i a) (ap (λ n. pairs_replaced in_slot (i + n) (low_pairs no_name tag ps)) (same_refs a)
+        ∙ pairs_slots_low (i + length (refs a)) ps)
 
   output_low : (bs : List (List ℕ)) (i : ℕ) → low_obj no_name tag (m.output_at bs i) ≡ output_at bs i
   output_low [] i = refl
@@ -62,37 +65,57 @@ gathered_more (Err f) (Ok bs) = refl
 gathered_more (Ok b) (Err e) = refl
 gathered_more (Ok b) (Ok bs) = refl
 
-module _ (job : Job) (around : Around) (writes : v.Val (List ℕ) → Option (List ℕ)) (tag : Tag) (writes_alike : (a : Val) → writes (low no_name tag a) ≡ around.writes a) where
+module _ (job : Job) (around : Around) (writes : v.Val (List ℕ) → Option (List ℕ)) (tag : Tag)
+    (writes_alike : (a : Val) → writes (low no_name tag a) ≡ around.writes a) where
   bytes_low : (o : Obj) → bytes_of writes (low_obj no_name tag o) ≡ as_bytes around o
   bytes_low (Object.bytes b) = refl
   bytes_low (Object.data_of a) = ap written (writes_alike a)
   bytes_low (Object.fault f) = refl
 
   module _ (n : ℕ) (knows : Row → Option (Object (List ℕ))) where
-    gather_is : (ds : List Desc) → SeenAsKnown job around tag n knows ds → gather (see job around n) (as_bytes around) ds ≡ gathered (all_bytes writes knows (map (low_ref no_name tag) ds))
+    gather_is : (ds : List Desc) → SeenAsKnown job around tag n knows ds → gather (see job around n) (as_bytes around) ds
+        ≡ gathered (all_bytes writes knows (map (low_ref no_name tag) ds))
     gather_is [] s = refl
     gather_is (d ∷ ds) s = go (s d (inl refl)) (gather_is ds (λ c i. s c (inr i)))
       where
         rest : Result (List (List ℕ)) Fault
         rest = all_bytes writes knows (map (low_ref no_name tag) ds)
 
-        go : (o : Object (List ℕ)) × (knows (low_ref no_name tag d) ≡ Some o) × Sees job around tag n d o → gather (see job around n) (as_bytes around) ds ≡ gathered rest → gather (see job around n) (as_bytes around) (d ∷ ds) ≡ gathered (one_more (bytes_seen writes (knows (low_ref no_name tag d))) rest)
+        go : (o : Object (List ℕ)) × (knows (low_ref no_name tag d) ≡ Some o) × Sees job around tag n d o
+            → gather (see job around n) (as_bytes around) ds ≡ gathered rest → gather (see job around n) (as_bytes around) (d ∷ ds)
+            ≡ gathered (one_more (bytes_seen writes (knows (low_ref no_name tag d))) rest)
         go (o, k, (p, e, l)) h =
-            ap₂ (λ x r. gather_one x (as_bytes around) r) e h ∙ ap (λ x. gather_on x (gathered rest)) (sym (bytes_low p)) ∙ gathered_more (bytes_of writes (low_obj no_name tag p)) rest ∙ ap (λ x. gathered (one_more x rest)) (ap (bytes_of writes) l ∙ ap (bytes_seen writes) (sym k))
+            ap₂ (λ x r. gather_one x (as_bytes around) r) e h ∙ ap (λ x. gather_on x (gathered rest)) (sym (bytes_low p))
+            ∙ gathered_more (bytes_of writes (low_obj no_name tag p)) rest
+            ∙ ap (λ x. gathered (one_more x rest)) (ap (bytes_of writes) l ∙ ap (bytes_seen writes) (sym k))
 
-    executed_is : (x : List ℕ) (a : Val) (c i : ℕ) (r : Result (List (List ℕ)) Fault) → (p : Obj) × (executed_on around x a c i (gathered r) ≡ Some p) × (low_obj no_name tag p ≡ output_of (made_of around.runs x (low no_name tag a) c r) i)
+    executed_is : (x : List ℕ) (a : Val) (c i : ℕ) (r : Result (List (List ℕ)) Fault) → (p : Obj)
+        × (executed_on around x a c i (gathered r) ≡ Some p)
+        × (low_obj no_name tag p ≡ output_of (made_of around.runs x (low no_name tag a) c r) i)
     executed_is x a c i (Err f) = (Object.fault f, refl, refl)
-    executed_is x a c i (Ok bs) =
-        (m.run_output (around.runs x (replaced in_slot 0 a) bs c) i, refl, run_output_low tag (around.runs x (replaced in_slot 0 a) bs c) i ∙ ap (λ s. output_of (without_place (around.runs x s bs c)) i) (sym (slots_low tag 0 a)))
+    executed_is x a c i (Ok bs) = (
+      m.run_output (around.runs x (replaced in_slot 0 a) bs c) i,
+      refl,
+      run_output_low tag (around.runs x (replaced in_slot 0 a) bs c) i
+          ∙ ap (λ s. output_of (without_place (around.runs x s bs c)) i) (sym (slots_low tag 0 a)),
+    )
 
     -- so each output is seen one step later as what the task makes
-    pub sees_out : (x : List ℕ) (a : Val) (c i : ℕ) → SeenAsKnown job around tag n knows (refs a) → Sees job around tag (suc n) (out x a c i) (output_of (made around.runs writes knows x (low no_name tag a) c) i)
+    pub sees_out : (x : List ℕ) (a : Val) (c i : ℕ) → SeenAsKnown job around tag n knows (refs a)
+        → Sees job around tag (suc n) (out x a c i) (output_of (made around.runs writes knows x (low no_name tag a) c) i)
     unfolding see
     sees_out x a c i s = go (executed_is x a c i collected)
       where
         collected : Result (List (List ℕ)) Fault
         collected = all_bytes writes knows (map (low_ref no_name tag) (refs a))
 
-        go : (p : Obj) × (executed_on around x a c i (gathered collected) ≡ Some p) × (low_obj no_name tag p ≡ output_of (made_of around.runs x (low no_name tag a) c collected) i) → Sees job around tag (suc n) (out x a c i) (output_of (made around.runs writes knows x (low no_name tag a) c) i)
-        go (p, e, l) =
-            (p, ap (executed_on around x a c i) (gather_is (refs a) s) ∙ e, l ∙ ap (λ ds. output_of (made_of around.runs x (low no_name tag a) c (all_bytes writes knows ds)) i) (sym (refs_low no_name tag a)))
+        go : (p : Obj) × (executed_on around x a c i (gathered collected) ≡ Some p)
+            × (low_obj no_name tag p ≡ output_of (made_of around.runs x (low no_name tag a) c collected) i)
+            → Sees job around tag (suc n) (out x a c i) (output_of (made around.runs writes knows x (low no_name tag a) c) i)
+        go (p, e, l) = (
+          p,
+          ap (executed_on around x a c i) (gather_is (refs a) s) ∙ e,
+          l
+              ∙ ap (λ ds. output_of (made_of around.runs x (low no_name tag a) c (all_bytes writes knows ds)) i)
+              (sym (refs_low no_name tag a)),
+        )

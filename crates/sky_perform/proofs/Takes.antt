@@ -51,28 +51,43 @@ behind_faulty front (Ok us) r f e = absurd cc
 -- ---- the i-th of several comes next
 
 -- a function of what is left, where x is the i-th
-pub at_next : {A B : Type 0} (F : List A → B) (xs : List A) (i : ℕ) (x : A) → i < length xs → x ≡ slice_index_or xs i x → F (drop i xs) ≡ F (x ∷ drop (i + 1) xs)
+pub at_next : {A B : Type 0} (F : List A → B) (xs : List A) (i : ℕ) (x : A) → i < length xs → x ≡ slice_index_or xs i x → F (drop i xs)
+    ≡ F (x ∷ drop (i + 1) xs)
 at_next F xs i x h e = at_drop_more F xs i x h ∙ ap (λ y. F (y ∷ drop (i + 1) xs)) (sym e)
 
 module _ (g : Grabs) (front : List (List ℕ)) where
-  pub values_more : (more : List (List ℕ)) (xs : List Value) (i : ℕ) (x : Value) → i < length xs → x ≡ slice_index_or xs i x → behind front (collect g (refs (view x))) ≡ Ok more → behind front (collect g (vals_refs (vals_of (drop i xs)))) ≡ behind more (collect g (vals_refs (vals_of (drop (i + 1) xs))))
+  pub values_more : (more : List (List ℕ)) (xs : List Value) (i : ℕ) (x : Value) → i < length xs → x ≡ slice_index_or xs i x
+      → behind front (collect g (refs (view x))) ≡ Ok more → behind front (collect g (vals_refs (vals_of (drop i xs))))
+      ≡ behind more (collect g (vals_refs (vals_of (drop (i + 1) xs))))
   values_more more xs i x h e q =
-      at_next (λ ys. behind front (collect g (vals_refs (vals_of ys)))) xs i x h e ∙ ap (behind front) (collect_both g (refs (view x)) (vals_refs (vals_of (drop (i + 1) xs)))) ∙ behind_both front more (collect g (refs (view x))) (collect g (vals_refs (vals_of (drop (i + 1) xs)))) q
+      at_next (λ ys. behind front (collect g (vals_refs (vals_of ys)))) xs i x h e
+      ∙ ap (behind front) (collect_both g (refs (view x)) (vals_refs (vals_of (drop (i + 1) xs))))
+      ∙ behind_both front more (collect g (refs (view x))) (collect g (vals_refs (vals_of (drop (i + 1) xs)))) q
 
-  pub values_fault : (f : Fault) (xs : List Value) (i : ℕ) (x : Value) → i < length xs → x ≡ slice_index_or xs i x → behind front (collect g (refs (view x))) ≡ Err f → behind front (collect g (vals_refs (vals_of (drop i xs)))) ≡ Err f
+  pub values_fault : (f : Fault) (xs : List Value) (i : ℕ) (x : Value) → i < length xs → x ≡ slice_index_or xs i x
+      → behind front (collect g (refs (view x))) ≡ Err f → behind front (collect g (vals_refs (vals_of (drop i xs)))) ≡ Err f
   values_fault f xs i x h e q =
-      at_next (λ ys. behind front (collect g (vals_refs (vals_of ys)))) xs i x h e ∙ ap (behind front) (collect_both g (refs (view x)) (vals_refs (vals_of (drop (i + 1) xs)))) ∙ behind_faulty front (collect g (refs (view x))) (collect g (vals_refs (vals_of (drop (i + 1) xs)))) f q
+      at_next (λ ys. behind front (collect g (vals_refs (vals_of ys)))) xs i x h e
+      ∙ ap (behind front) (collect_both g (refs (view x)) (vals_refs (vals_of (drop (i + 1) xs))))
+      ∙ behind_faulty front (collect g (refs (view x))) (collect g (vals_refs (vals_of (drop (i + 1) xs)))) f q
 
   pub values_done : (xs : List Value) (i : ℕ) → length xs ≤ i → behind front (collect g (vals_refs (vals_of (drop i xs)))) ≡ Ok front
   values_done xs i h = at_drop_all (λ ys. behind front (collect g (vals_refs (vals_of ys)))) xs i h ∙ ap Ok (append-nil front)
 
-  pub pairs_more : (more : List (List ℕ)) (xs : List Pair) (i : ℕ) (x : Pair) → i < length xs → x ≡ slice_index_or xs i x → behind front (collect g (refs (view x.value))) ≡ Ok more → behind front (collect g (pairs_refs (pairs_of (drop i xs)))) ≡ behind more (collect g (pairs_refs (pairs_of (drop (i + 1) xs))))
+  pub pairs_more : (more : List (List ℕ)) (xs : List Pair) (i : ℕ) (x : Pair) → i < length xs → x ≡ slice_index_or xs i x
+      → behind front (collect g (refs (view x.value))) ≡ Ok more → behind front (collect g (pairs_refs (pairs_of (drop i xs))))
+      ≡ behind more (collect g (pairs_refs (pairs_of (drop (i + 1) xs))))
   pairs_more more xs i x h e q =
-      at_next (λ ys. behind front (collect g (pairs_refs (pairs_of ys)))) xs i x h e ∙ ap (behind front) (collect_both g (refs (view x.value)) (pairs_refs (pairs_of (drop (i + 1) xs)))) ∙ behind_both front more (collect g (refs (view x.value))) (collect g (pairs_refs (pairs_of (drop (i + 1) xs)))) q
+      at_next (λ ys. behind front (collect g (pairs_refs (pairs_of ys)))) xs i x h e
+      ∙ ap (behind front) (collect_both g (refs (view x.value)) (pairs_refs (pairs_of (drop (i + 1) xs))))
+      ∙ behind_both front more (collect g (refs (view x.value))) (collect g (pairs_refs (pairs_of (drop (i + 1) xs)))) q
 
-  pub pairs_fault : (f : Fault) (xs : List Pair) (i : ℕ) (x : Pair) → i < length xs → x ≡ slice_index_or xs i x → behind front (collect g (refs (view x.value))) ≡ Err f → behind front (collect g (pairs_refs (pairs_of (drop i xs)))) ≡ Err f
+  pub pairs_fault : (f : Fault) (xs : List Pair) (i : ℕ) (x : Pair) → i < length xs → x ≡ slice_index_or xs i x
+      → behind front (collect g (refs (view x.value))) ≡ Err f → behind front (collect g (pairs_refs (pairs_of (drop i xs)))) ≡ Err f
   pairs_fault f xs i x h e q =
-      at_next (λ ys. behind front (collect g (pairs_refs (pairs_of ys)))) xs i x h e ∙ ap (behind front) (collect_both g (refs (view x.value)) (pairs_refs (pairs_of (drop (i + 1) xs)))) ∙ behind_faulty front (collect g (refs (view x.value))) (collect g (pairs_refs (pairs_of (drop (i + 1) xs)))) f q
+      at_next (λ ys. behind front (collect g (pairs_refs (pairs_of ys)))) xs i x h e
+      ∙ ap (behind front) (collect_both g (refs (view x.value)) (pairs_refs (pairs_of (drop (i + 1) xs))))
+      ∙ behind_faulty front (collect g (refs (view x.value))) (collect g (pairs_refs (pairs_of (drop (i + 1) xs)))) f q
 
   pub pairs_done : (xs : List Pair) (i : ℕ) → length xs ≤ i → behind front (collect g (pairs_refs (pairs_of (drop i xs)))) ≡ Ok front
   pairs_done xs i h = at_drop_all (λ ys. behind front (collect g (pairs_refs (pairs_of ys)))) xs i h ∙ ap Ok (append-nil front)

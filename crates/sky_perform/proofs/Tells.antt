@@ -1,5 +1,6 @@
 -- Outputs that become known one after the other.
-use Rattle.std.proofs.Common.{◌≡◌, ◌≤◌, ◌<◌, ℕ, zero, suc, ◌+◌, List, [], ◌∷◌, length, Bool, true, false, Option, Some, Result, slice_get, slice_index_or, ◌⊎◌, inl, inr, refl, sym, ap, ◌∙◌, arith}
+use Rattle.std.proofs.Common.{◌≡◌, ◌≤◌, ◌<◌, ℕ, zero, suc, ◌+◌, List, [], ◌∷◌, length, Bool, true, false, Option, Some, Result, slice_get}
+use Rattle.std.proofs.Common.{slice_index_or, ◌⊎◌, inl, inr, refl, sym, ap, ◌∙◌, arith}
 use Rattle.sky_base.specs.Res.{Object}
 use Rattle.sky_base.specs.Val.{Val, out}
 use Rattle.sky_base.specs.declared.fault.Fault.{Fault}
@@ -45,7 +46,8 @@ known-none rows d os e k at = absurd (no_true (is_held d rows) e (in_held d rows
 same_place : (rows : List Row) (d : Row) (k j : ℕ) → Apart rows → slice_get rows k ≡ Some d → slice_get rows j ≡ Some d → j ≡ k
 same_place rows d k j apart e f = sym (index_at rows j d apart f) ∙ index_at rows k d apart e
 
-pub known-here : (rows : List Row) (d : Row) (k : ℕ) (os : List (Option Obj)) → Apart rows → slice_get rows k ≡ Some d → is_known (object_at os k) ≡ true → KnownOf rows d os
+pub known-here : (rows : List Row) (d : Row) (k : ℕ) (os : List (Option Obj)) → Apart rows → slice_get rows k ≡ Some d
+    → is_known (object_at os k) ≡ true → KnownOf rows d os
 known-here rows d k os apart at has j e = ap (λ i. is_known (object_at os i)) (same_place rows d k j apart at e) ∙ has
 
 -- ---- one more object
@@ -57,7 +59,8 @@ keeps-with k u os isnt j o e = go (nat_same j k)
     go (inl q) = absurd (no_true (is_known (object_at os k)) isnt (ap is_known (ap (object_at os) (sym q) ∙ e)))
     go (inr n) = with_there k j u os n ∙ e
 
-pub only-with : (rows : List Row) (d : Row) (k : ℕ) (u : Obj) (os : List (Option Obj)) → slice_get rows k ≡ Some d → OnlyOf rows d u os (with_object k u os)
+pub only-with : (rows : List Row) (d : Row) (k : ℕ) (u : Obj) (os : List (Option Obj)) → slice_get rows k ≡ Some d
+    → OnlyOf rows d u os (with_object k u os)
 only-with rows d k u os at j o e = go (nat_same j k)
   where
     go : (j ≡ k) ⊎ (j ≡ k → ⊥) → (object_at os j ≡ Some o) ⊎ ((slice_get rows j ≡ Some d) × (o ≡ u))
@@ -65,10 +68,12 @@ only-with rows d k u os at j o e = go (nat_same j k)
         inr (ap (slice_get rows) q ∙ at, some_is o u (sym e ∙ ap (object_at (with_object k u os)) q ∙ with_here k u os))
     go (inr n) = inl (sym (with_there k j u os n) ∙ e)
 
-pub known-with : (rows : List Row) (d : Row) (k : ℕ) (u : Obj) (os : List (Option Obj)) → Apart rows → slice_get rows k ≡ Some d → KnownOf rows d (with_object k u os)
+pub known-with : (rows : List Row) (d : Row) (k : ℕ) (u : Obj) (os : List (Option Obj)) → Apart rows → slice_get rows k ≡ Some d
+    → KnownOf rows d (with_object k u os)
 known-with rows d k u os apart at = known-here rows d k (with_object k u os) apart at (ap is_known (with_here k u os))
 
-pub room-with : (rows : List Row) (d : Row) (k : ℕ) (u : Obj) (os : List (Option Obj)) → slice_get rows k ≡ Some d → InRoom rows os (with_object k u os)
+pub room-with : (rows : List Row) (d : Row) (k : ℕ) (u : Obj) (os : List (Option Obj)) → slice_get rows k ≡ Some d
+    → InRoom rows os (with_object k u os)
 room-with rows d k u os at m a b =
     let h : k < length rows = got_below rows k d at in length_with k m u os (omega (arith, h, b)) a
 
@@ -84,7 +89,8 @@ module _ (rows : List Row) (x : List ℕ) (v : Val (List ℕ)) (n : ℕ) where
   pub no-outputs : (os : List (Option Obj)) → KnownOutputs rows x v n 0 os
   no-outputs os i h = absurd (omega (arith, h))
 
-  pub known-more : (m : ℕ) (a b : List (Option Obj)) → KnownOutputs rows x v n m a → Keeps a b → KnownOf rows (out x v n m) b → KnownOutputs rows x v n (m + 1) b
+  pub known-more : (m : ℕ) (a b : List (Option Obj)) → KnownOutputs rows x v n m a → Keeps a b → KnownOf rows (out x v n m) b
+      → KnownOutputs rows x v n (m + 1) b
   known-more m a b all keeps here i h k at = go (nat_same i m)
     where
       of_some : (o : Obj) × (object_at a k ≡ Some o) → is_known (object_at b k) ≡ true
@@ -107,14 +113,17 @@ module _ (rows : List Row) (x : List ℕ) (v : Val (List ℕ)) (n : ℕ) where
     pub only-less : (m l : ℕ) (a b : List (Option Obj)) → m ≤ l → OnlyOutputs rows x v n made m a b → OnlyOutputs rows x v n made l a b
     only-less m l a b le only k o e = go (only k o e)
       where
-        go : (object_at a k ≡ Some o) ⊎ ((i : ℕ) × (i < m) × (slice_get rows k ≡ Some (out x v n i)) × (o ≡ output_of made i)) → (object_at a k ≡ Some o) ⊎ ((i : ℕ) × (i < l) × (slice_get rows k ≡ Some (out x v n i)) × (o ≡ output_of made i))
+        go : (object_at a k ≡ Some o) ⊎ ((i : ℕ) × (i < m) × (slice_get rows k ≡ Some (out x v n i)) × (o ≡ output_of made i))
+            → (object_at a k ≡ Some o) ⊎ ((i : ℕ) × (i < l) × (slice_get rows k ≡ Some (out x v n i)) × (o ≡ output_of made i))
         go (inl h) = inl h
         go (inr (i, h, at, is)) = inr (i, omega (arith, h, le), at, is)
 
-    pub only-more : (m : ℕ) (a b c : List (Option Obj)) → OnlyOutputs rows x v n made m a b → OnlyOf rows (out x v n m) (output_of made m) b c → OnlyOutputs rows x v n made (m + 1) a c
+    pub only-more : (m : ℕ) (a b c : List (Option Obj)) → OnlyOutputs rows x v n made m a b → OnlyOf rows (out x v n m) (output_of made m) b c
+        → OnlyOutputs rows x v n made (m + 1) a c
     only-more m a b c only one k o e = go (one k o e)
       where
-        go : (object_at b k ≡ Some o) ⊎ ((slice_get rows k ≡ Some (out x v n m)) × (o ≡ output_of made m)) → (object_at a k ≡ Some o) ⊎ ((i : ℕ) × (i < m + 1) × (slice_get rows k ≡ Some (out x v n i)) × (o ≡ output_of made i))
+        go : (object_at b k ≡ Some o) ⊎ ((slice_get rows k ≡ Some (out x v n m)) × (o ≡ output_of made m)) → (object_at a k ≡ Some o)
+            ⊎ ((i : ℕ) × (i < m + 1) × (slice_get rows k ≡ Some (out x v n i)) × (o ≡ output_of made i))
         go (inl h) = only-less m (m + 1) a b (omega arith) only k o h
         go (inr (at, is)) = inr (m, omega arith, at, is)
 

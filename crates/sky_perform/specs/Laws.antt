@@ -14,4 +14,6 @@ use Rattle.sky_perform.specs.Perform.{made, output_of}
 -- makes over names is, output by output, what the description is seen as
 abbrev pub OutputsAreSeen : Type 0
 OutputsAreSeen =
-    (job : Job) (around : Around) (tag : Tag) (n : ℕ) (knows : Row → Option (Object (List ℕ))) (x : List ℕ) (a : Val) (c i : ℕ) → WritesAlike tag around → SeenAsKnown job around tag n knows (refs a) → Sees job around tag (suc n) (out x a c i) (output_of (made around.runs writes knows x (low no_name tag a) c) i)
+    (job : Job) (around : Around) (tag : Tag) (n : ℕ) (knows : Row → Option (Object (List ℕ))) (x : List ℕ) (a : Val) (c i : ℕ)
+    → WritesAlike tag around → SeenAsKnown job around tag n knows (refs a)
+    → Sees job around tag (suc n) (out x a c i) (output_of (made around.runs writes knows x (low no_name tag a) c) i)

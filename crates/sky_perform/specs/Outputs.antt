@@ -15,7 +15,8 @@ InRoom rows before after = (m : ℕ) → length before ≤ m → length rows ≤
 
 -- what is known besides is this object of this description
 abbrev pub OnlyOf : List Row → Row → Obj → List (Option Obj) → List (Option Obj) → Type 0
-OnlyOf rows d u before after = (k : ℕ) (o : Obj) → object_at after k ≡ Some o → (object_at before k ≡ Some o) ⊎ ((slice_get rows k ≡ Some d) × (o ≡ u))
+OnlyOf rows d u before after = (k : ℕ) (o : Obj) → object_at after k ≡ Some o → (object_at before k ≡ Some o)
+    ⊎ ((slice_get rows k ≡ Some d) × (o ≡ u))
 
 -- the object of this description is known, where it is held
 abbrev pub KnownOf : List Row → Row → List (Option Obj) → Type 0
@@ -25,7 +26,8 @@ KnownOf rows d after = (k : ℕ) → slice_get rows k ≡ Some d → is_known (o
 module _ (rows : List Row) (x : List ℕ) (v : Val (List ℕ)) (n : ℕ) where
   -- what is known besides is one of its first m outputs, and its object what the task makes there
   abbrev pub OnlyOutputs : Result (List (List ℕ)) Fault → ℕ → List (Option Obj) → List (Option Obj) → Type 0
-  OnlyOutputs made m before after = (k : ℕ) (o : Obj) → object_at after k ≡ Some o → (object_at before k ≡ Some o) ⊎ ((i : ℕ) × (i < m) × (slice_get rows k ≡ Some (out x v n i)) × (o ≡ output_of made i))
+  OnlyOutputs made m before after = (k : ℕ) (o : Obj) → object_at after k ≡ Some o → (object_at before k ≡ Some o)
+      ⊎ ((i : ℕ) × (i < m) × (slice_get rows k ≡ Some (out x v n i)) × (o ≡ output_of made i))
 
   -- its first m outputs are known, those that are held
   abbrev pub KnownOutputs : ℕ → List (Option Obj) → Type 0

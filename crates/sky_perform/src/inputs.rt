@@ -54,7 +54,8 @@ fn put_all<K: Known>(
     objects: &K,
     inputs: &mut Vec<Bytes>,
 ) -> Result<Option<Fault>, Memory>
-    ensures { IfOk result (λ o. PutsSo o inputs.new.items (behind inputs.old.items (all_bytes writes (K.knows objects.now) (refs (view value.now))))) }
+    ensures { IfOk result (λ o. PutsSo o inputs.new.items
+        (behind inputs.old.items (all_bytes writes (K.knows objects.now) (refs (view value.now))))) }
 {
     match value {
         Value::List(values) => put_values(alloc, values.as_slice(), objects, inputs),
@@ -94,7 +95,8 @@ fn put_values<K: Known>(
     objects: &K,
     inputs: &mut Vec<Bytes>,
 ) -> Result<Option<Fault>, Memory>
-    ensures { IfOk result (λ o. PutsSo o inputs.new.items (behind inputs.old.items (all_bytes writes (K.knows objects.now) (vals_refs (vals_of values.now))))) }
+    ensures { IfOk result (λ o. PutsSo o inputs.new.items
+        (behind inputs.old.items (all_bytes writes (K.knows objects.now) (vals_refs (vals_of values.now))))) }
 {
     for value in values {
         if let Some(fault) = put_all(alloc, value, objects, inputs)? {
@@ -112,7 +114,8 @@ fn put_pairs<K: Known>(
     objects: &K,
     inputs: &mut Vec<Bytes>,
 ) -> Result<Option<Fault>, Memory>
-    ensures { IfOk result (λ o. PutsSo o inputs.new.items (behind inputs.old.items (all_bytes writes (K.knows objects.now) (pairs_refs (pairs_of pairs.now))))) }
+    ensures { IfOk result (λ o. PutsSo o inputs.new.items
+        (behind inputs.old.items (all_bytes writes (K.knows objects.now) (pairs_refs (pairs_of pairs.now))))) }
 {
     for pair in pairs {
         if let Some(fault) = put_all(alloc, &pair.value, objects, inputs)? {

@@ -1,6 +1,7 @@
 -- What a run over numbers refers to is held.
 use Rattle.std.proofs.Common.{◌≡◌, ℕ, List, [], ◌∷◌, Option, Some, None, ◌⊎◌, inl, inr, refl, sym, subst}
-use Rattle.sky_base.specs.Val.{Val, Vals, Pairs, Desc, null, truth, num, text, list, dict, fun, ref, no_vals, val, no_pairs, pair, call, out, input, known}
+use Rattle.sky_base.specs.Val.{Val, Vals, Pairs, Desc, null, truth, num, text, list, dict, fun, ref, no_vals, val, no_pairs, pair, call, out, input}
+use Rattle.sky_base.specs.Val.{known}
 use Rattle.sky_base.specs.Tree.{Script}
 use Rattle.sky_base.specs.Res.{Object, Res, Fin, Tell, Ask}
 use Rattle.sky_base.specs.Eval.{World}
@@ -45,7 +46,8 @@ module _ {N : Type 0} (sc : Script) (K L : N → Type 0) (more : (b : N) → K b
 
 -- ---- what a run comes to
 
-module _ (w : World (List ℕ)) (P : Val (List ℕ) → Type 0) (Q : Row → Type 0) (V : Pairs (List ℕ) → Type 0) (knows : Row → Option (Object (List ℕ))) (known_ok : (d : Row) (o : Object (List ℕ)) → Q d → knows d ≡ Some o → ObjectOk w P Q o) where
+module _ (w : World (List ℕ)) (P : Val (List ℕ) → Type 0) (Q : Row → Type 0) (V : Pairs (List ℕ) → Type 0)
+    (knows : Row → Option (Object (List ℕ))) (known_ok : (d : Row) (o : Object (List ℕ)) → Q d → knows d ≡ Some o → ObjectOk w P Q o) where
   abbrev pub StopOk : Stop → Type 0
   StopOk (Stop.ended e st) = EndOk w P Q e
   StopOk (Stop.waits e) = Q e
@@ -68,7 +70,8 @@ module _ (w : World (List ℕ)) (P : Val (List ℕ) → Type 0) (Q : Row → Typ
   look_ok [] h = tt
   look_ok (d ∷ ds) h = seen_one_ok d (knows d) (look knows ds) h.0 refl (look_ok ds h.1)
 
-  told_ok : (rows : List Row) (d : Row) (h : Res (List ℕ)) (x : Option (List Row)) → Q d → ((more : List Row) → WalkOk more (walk knows more h)) → Learned rows d x → WalkOk rows (on_learned x rows d (λ more. walk knows more h))
+  told_ok : (rows : List Row) (d : Row) (h : Res (List ℕ)) (x : Option (List Row)) → Q d → ((more : List Row) → WalkOk more (walk knows more h))
+      → Learned rows d x → WalkOk rows (on_learned x rows d (λ more. walk knows more h))
   told_ok rows d h None q next from = record { rows_ok = λ e i. inl i; stop_ok = q }
   told_ok rows d h (Some more) q next from =
       record { rows_ok = λ e i. go e ((next more).rows_ok e i); stop_ok = (next more).stop_ok }
@@ -81,7 +84,9 @@ module _ (w : World (List ℕ)) (P : Val (List ℕ) → Type 0) (Q : Row → Typ
       go e (inl i) = either e (from e i)
       go e (inr m) = inr m
 
-  asked_ok : (rows : List Row) (k : List (Object (List ℕ)) → Res (List ℕ)) (s : Seen) → ((os : List (Object (List ℕ))) → Each (ObjectOk w P Q) os → WalkOk rows (walk knows rows (k os))) → SeenOk s → WalkOk rows (on_seen s rows (λ os. walk knows rows (k os)))
+  asked_ok : (rows : List Row) (k : List (Object (List ℕ)) → Res (List ℕ)) (s : Seen)
+      → ((os : List (Object (List ℕ))) → Each (ObjectOk w P Q) os → WalkOk rows (walk knows rows (k os))) → SeenOk s
+      → WalkOk rows (on_seen s rows (λ os. walk knows rows (k os)))
   asked_ok rows k (Seen.all os) next h = next os h
   asked_ok rows k (Seen.lacks e) next h = record { rows_ok = λ c i. inl i; stop_ok = h }
 
@@ -89,7 +94,8 @@ module _ (w : World (List ℕ)) (P : Val (List ℕ) → Type 0) (Q : Row → Typ
   asked to [] h = tt
   asked to (d ∷ ds) h = (to d h.0, asked to ds h.1)
 
-  pub walk_ok : ((d : Row) → P (ref d) → Q d) → (q : Res (List ℕ)) (d : ℕ) (rows : List Row) → Fine w P Q V any_made d q → WalkOk rows (walk knows rows q)
+  pub walk_ok : ((d : Row) → P (ref d) → Q d) → (q : Res (List ℕ)) (d : ℕ) (rows : List Row) → Fine w P Q V any_made d q
+      → WalkOk rows (walk knows rows q)
   walk_ok to (Fin e st) d rows h = record { rows_ok = λ c i. inl i; stop_ok = h.0 }
   walk_ok to (Tell o r) d rows h =
       told_ok rows o r (learn_to rows o) h.0 (λ more. walk_ok to r d more (h.1 tt)) (learned_new (is_held o rows) rows o)

@@ -9,14 +9,16 @@ abbrev pub FullAt : Walked → Type 0
 FullAt done = (e : Row) → done.stop ≡ Stop.full e → learn_to done.rows e ≡ None
 
 module _ (knows : Row → Option (Object (List ℕ))) where
-  told_full : (rows : List Row) (d : Row) (h : Res (List ℕ)) (x : Option (List Row)) → learn_to rows d ≡ x → ((more : List Row) → FullAt (walk knows more h)) → FullAt (on_learned x rows d (λ more. walk knows more h))
+  told_full : (rows : List Row) (d : Row) (h : Res (List ℕ)) (x : Option (List Row)) → learn_to rows d ≡ x
+      → ((more : List Row) → FullAt (walk knows more h)) → FullAt (on_learned x rows d (λ more. walk knows more h))
   told_full rows d h None e next c q = ap (learn_to rows) (sym full_is) ∙ e
     where
       full_is : d ≡ c
       full_is = cc
   told_full rows d h (Some more) e next c q = next more c q
 
-  asked_full : (rows : List Row) (k : List (Object (List ℕ)) → Res (List ℕ)) (s : Seen) → ((os : List (Object (List ℕ))) → FullAt (walk knows rows (k os))) → FullAt (w.on_seen s rows (λ os. walk knows rows (k os)))
+  asked_full : (rows : List Row) (k : List (Object (List ℕ)) → Res (List ℕ)) (s : Seen)
+      → ((os : List (Object (List ℕ))) → FullAt (walk knows rows (k os))) → FullAt (w.on_seen s rows (λ os. walk knows rows (k os)))
   asked_full rows k (Seen.all os) next c q = next os c q
   asked_full rows k (Seen.lacks d) next c q = absurd cc
 
@@ -44,11 +46,14 @@ module _ (knows : Row → Option (Object (List ℕ))) where
   lacking [] = tt
   lacking (d ∷ ds) = lacking_one d (knows d) (look knows ds) refl (lacking ds)
 
-  told_waits : (rows : List Row) (d : Row) (h : Res (List ℕ)) (x : Option (List Row)) → ((more : List Row) → WaitsAt knows (walk knows more h)) → WaitsAt knows (on_learned x rows d (λ more. walk knows more h))
+  told_waits : (rows : List Row) (d : Row) (h : Res (List ℕ)) (x : Option (List Row)) → ((more : List Row) → WaitsAt knows (walk knows more h))
+      → WaitsAt knows (on_learned x rows d (λ more. walk knows more h))
   told_waits rows d h None next c q = absurd cc
   told_waits rows d h (Some more) next c q = next more c q
 
-  asked_waits : (rows : List Row) (k : List (Object (List ℕ)) → Res (List ℕ)) (s : Seen) → Lacking s → ((os : List (Object (List ℕ))) → WaitsAt knows (walk knows rows (k os))) → WaitsAt knows (w.on_seen s rows (λ os. walk knows rows (k os)))
+  asked_waits : (rows : List Row) (k : List (Object (List ℕ)) → Res (List ℕ)) (s : Seen) → Lacking s
+      → ((os : List (Object (List ℕ))) → WaitsAt knows (walk knows rows (k os)))
+      → WaitsAt knows (w.on_seen s rows (λ os. walk knows rows (k os)))
   asked_waits rows k (Seen.all os) l next c q = next os c q
   asked_waits rows k (Seen.lacks d) l next c q = ap knows (sym waits_is) ∙ l
     where

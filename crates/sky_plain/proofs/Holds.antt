@@ -1,5 +1,6 @@
 -- After a run, what is referred to is held still.
-use Rattle.std.proofs.Common.{◌≡◌, ◌≤◌, ◌<◌, ℕ, zero, ◌+◌, List, ◌++◌, length, Bool, true, false, Option, Some, Ok, Err, ◌⊎◌, inl, inr, nat_lt, refl, sym, ap, subst, ◌∙◌, arith, nat_eq, eqb-true, eq-eqb, ltb-true, lt-ltb}
+use Rattle.std.proofs.Common.{◌≡◌, ◌≤◌, ◌<◌, ℕ, zero, ◌+◌, List, ◌++◌, length, Bool, true, false, Option, Some, Ok, Err, ◌⊎◌, inl, inr, nat_lt, refl}
+use Rattle.std.proofs.Common.{sym, ap, subst, ◌∙◌, arith, nat_eq, eqb-true, eq-eqb, ltb-true, lt-ltb}
 use Rattle.std.proofs.lemmas.List.{length-append}
 use Rattle.sky_base.specs.Val.{Val, Vals, Pairs, call, known}
 use Rattle.sky_base.specs.Op.{Answer}
@@ -58,7 +59,8 @@ module _ (sc : Script) (reads : List ℕ → Answer (List ℕ)) (read_fits : (b 
   read_answer n (Ok v) h = sound_over sc (λ b. ⊥) (Below n) (λ b x. absurd x) v h
   read_answer n (Err k) h = tt
 
-  module _ (rows more after : List Row) (objects : List (Option (Object (List ℕ)))) (fits : Fits sc rows objects) (begins : after ≡ rows ++ more) (apart : Apart after) (room : length after ≤ most_rows) (some : 0 < length after) where
+  module _ (rows more after : List Row) (objects : List (Option (Object (List ℕ)))) (fits : Fits sc rows objects) (begins : after ≡ rows ++ more)
+      (apart : Apart after) (room : length after ≤ most_rows) (some : 0 < length after) where
     abbrev K : List ℕ → Type 0
     K = Below (length after)
 
@@ -116,7 +118,8 @@ module _ (sc : Script) (reads : List ℕ → Answer (List ℕ)) (read_fits : (b 
     abbrev Fit : Stop → Type 0
     Fit s = ((d : Row) → In d after → RowFits sc (length after) d) × StopFits sc (length after) s
 
-    ran_fits : (f : List ℕ) (ca : Pairs (List ℕ)) (us : Vals (List ℕ)) (S : Stop → Type 0) → In (call f ca us) rows → Runs sc reads objects rows f ca us after S → (s : Stop) × Fit s × S s
+    ran_fits : (f : List ℕ) (ca : Pairs (List ℕ)) (us : Vals (List ℕ)) (S : Stop → Type 0) → In (call f ca us) rows
+        → Runs sc reads objects rows f ca us after S → (s : Stop) × Fit s × S s
     ran_fits f ca us S i run = go (run safe_world refl refl (safe_numbers after apart))
       where
         args : RowFits sc (length after) (call f ca us)
@@ -126,12 +129,16 @@ module _ (sc : Script) (reads : List ℕ → Answer (List ℕ)) (read_fits : (b 
         either d (inl j) = before_fits d j
         either d (inr h) = h
 
-        go : (s : Stop) × (walk (known_of objects) rows (body_at safe_world bodies f ca us nowhere start_st) ≡ stops after s) × S s → (s : Stop) × Fit s × S s
+        go : (s : Stop) × (walk (known_of objects) rows (body_at safe_world bodies f ca us nowhere start_st) ≡ stops after s) × S s → (s : Stop)
+            × Fit s × S s
         go (s, e, is) = (s, fit, is)
           where
             ok : WalkOk safe_world P Q V (known_of objects) known_ok rows (stops after s)
             ok =
-                subst (WalkOk safe_world P Q V (known_of objects) known_ok rows) e (walk_ok safe_world P Q V (known_of objects) known_ok (λ d h. h.1) (body_at safe_world bodies f ca us nowhere start_st) others rows (fine_call safe_world P Q V any_made any_lit any_name closed (written_any sc) others f ca us nowhere start_st tt (dict_inside (List ℕ) K sc ca (caught_kept f ca args.1, args.3)) (closed.inside_ok us (args.0, args.2))))
+                subst (WalkOk safe_world P Q V (known_of objects) known_ok rows) e
+                (walk_ok safe_world P Q V (known_of objects) known_ok (λ d h. h.1) (body_at safe_world bodies f ca us nowhere start_st)
+                others rows (fine_call safe_world P Q V any_made any_lit any_name closed (written_any sc) others f ca us nowhere start_st tt
+                (dict_inside (List ℕ) K sc ca (caught_kept f ca args.1, args.3)) (closed.inside_ok us (args.0, args.2))))
 
             fit : Fit s
             fit = (λ d j. either d (ok.rows_ok d j), stop_fits s ok.stop_ok)
@@ -140,7 +147,8 @@ module _ (sc : Script) (reads : List ℕ → Answer (List ℕ)) (read_fits : (b 
     same_objects k o e = object_more sc (length rows) (length after) o longer (fits.objects_fit k o e)
 
     -- where a run waits, what it waits for is held
-    pub fits_waiting : (f : List ℕ) (ca : Pairs (List ℕ)) (us : Vals (List ℕ)) (n : List ℕ) → In (call f ca us) rows → Runs sc reads objects rows f ca us after (WaitsFor n) → Fits sc after objects × (number_of n < length after)
+    pub fits_waiting : (f : List ℕ) (ca : Pairs (List ℕ)) (us : Vals (List ℕ)) (n : List ℕ) → In (call f ca us) rows
+        → Runs sc reads objects rows f ca us after (WaitsFor n) → Fits sc after objects × (number_of n < length after)
     fits_waiting f ca us n i run = go (ran_fits f ca us (WaitsFor n) i run)
       where
         go : (s : Stop) × Fit s × WaitsFor n s → Fits sc after objects × (number_of n < length after)
@@ -150,7 +158,9 @@ module _ (sc : Script) (reads : List ℕ → Answer (List ℕ)) (read_fits : (b 
             below = subst (StopFits sc (length after)) is h.1
 
     -- where it ends, its object may be kept
-    pub fits_learning : (objects' : List (Option (Object (List ℕ)))) (k : ℕ) (f : List ℕ) (ca : Pairs (List ℕ)) (us : Vals (List ℕ)) (o : Object (List ℕ)) → In (call f ca us) rows → Runs sc reads objects rows f ca us after (EndsAs o) → Puts objects k o objects' → Fits sc after objects'
+    pub fits_learning : (objects' : List (Option (Object (List ℕ)))) (k : ℕ) (f : List ℕ) (ca : Pairs (List ℕ)) (us : Vals (List ℕ))
+        (o : Object (List ℕ)) → In (call f ca us) rows → Runs sc reads objects rows f ca us after (EndsAs o) → Puts objects k o objects'
+        → Fits sc after objects'
     fits_learning objects' k f ca us o i run puts = go (ran_fits f ca us (EndsAs o) i run)
       where
         some_is : (a b : Object (List ℕ)) → Some a ≡ Some b → a ≡ b
@@ -169,7 +179,8 @@ module _ (sc : Script) (reads : List ℕ → Answer (List ℕ)) (read_fits : (b 
               where
                 test : (b : Bool) → nat_eq j k ≡ b → ObjectFits sc (length after) u
                 test true t =
-                    subst (ObjectFits sc (length after)) (some_is o u (sym puts.here ∙ ap (object_at objects') (sym (eqb-true j k t)) ∙ q)) (object_fits s h.1 is)
+                    subst (ObjectFits sc (length after)) (some_is o u (sym puts.here ∙ ap (object_at objects') (sym (eqb-true j k t)) ∙ q))
+                    (object_fits s h.1 is)
                 test false t = same_objects j u (sym (puts.there j (λ same. differ same)) ∙ q)
                   where
                     false_true : false ≡ true → ⊥

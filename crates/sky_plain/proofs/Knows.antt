@@ -1,5 +1,6 @@
 -- What a sequential run learns is what the meaning sees.
-use Rattle.std.proofs.Common.{◌≡◌, ◌≤◌, ◌<◌, ℕ, suc, ◌+◌, List, ◌++◌, length, Option, Some, None, slice_get, ◌⊎◌, inl, inr, refl, sym, ap, subst, ◌∙◌, arith}
+use Rattle.std.proofs.Common.{◌≡◌, ◌≤◌, ◌<◌, ℕ, suc, ◌+◌, List, ◌++◌, length, Option, Some, None, slice_get, ◌⊎◌, inl, inr, refl, sym, ap, subst, ◌∙◌}
+use Rattle.std.proofs.Common.{arith}
 use Rattle.std.proofs.lemmas.List.{append_assoc, length-append}
 use Rattle.sky_base.specs.Val.{Vals, Pairs, call, out, input, known}
 use Rattle.sky_base.specs.Name.{low_vals, low_pairs, low_desc}
@@ -71,13 +72,22 @@ name_tag tag (input k) = refl
 name_tag tag (known b) = absurd b
 
 -- what is known of a described reference is the object under its number
-pub object_is : (objects : List (Option (Object (List ℕ)))) (later : List Row) (d : Desc) → length later ≤ most_rows → known_of objects (low_ref spell (tag_of later) d) ≡ object_at objects (index_of (low_desc spell (tag_of later) d) later)
+pub object_is : (objects : List (Option (Object (List ℕ)))) (later : List Row) (d : Desc) → length later ≤ most_rows
+    → known_of objects (low_ref spell (tag_of later) d) ≡ object_at objects (index_of (low_desc spell (tag_of later) d) later)
 object_is objects later d room =
-    ap (known_of objects) (name_tag (tag_of later) d) ∙ ap (object_at objects) (number_slot (index_of (low_desc spell (tag_of later) d) later) (index_most (low_desc spell (tag_of later) d) later room))
+    ap (known_of objects) (name_tag (tag_of later) d)
+    ∙ ap (object_at objects) (number_slot (index_of (low_desc spell (tag_of later) d) later)
+    (index_most (low_desc spell (tag_of later) d) later room))
 
-pub from_call : (d : Desc) (tag : Row → List ℕ) (f : List ℕ) (ca : Pairs (List ℕ)) (us : Vals (List ℕ)) → low_desc spell tag d ≡ call f ca us → (cs : Pairs ⊥) × (vs : Vals ⊥) × (d ≡ call f cs vs) × (low_pairs spell tag cs ≡ ca) × (low_vals spell tag vs ≡ us)
-from_call (call g cs vs) tag f ca us e =
-    (cs, vs, ap (λ x. call x cs vs) (fun_is g f (low_pairs spell tag cs) ca (low_vals spell tag vs) us e), caught_are g f (low_pairs spell tag cs) ca (low_vals spell tag vs) us e, args_are g f (low_pairs spell tag cs) ca (low_vals spell tag vs) us e)
+pub from_call : (d : Desc) (tag : Row → List ℕ) (f : List ℕ) (ca : Pairs (List ℕ)) (us : Vals (List ℕ)) → low_desc spell tag d ≡ call f ca us
+    → (cs : Pairs ⊥) × (vs : Vals ⊥) × (d ≡ call f cs vs) × (low_pairs spell tag cs ≡ ca) × (low_vals spell tag vs ≡ us)
+from_call (call g cs vs) tag f ca us e = (
+  cs,
+  vs,
+  ap (λ x. call x cs vs) (fun_is g f (low_pairs spell tag cs) ca (low_vals spell tag vs) us e),
+  caught_are g f (low_pairs spell tag cs) ca (low_vals spell tag vs) us e,
+  args_are g f (low_pairs spell tag cs) ca (low_vals spell tag vs) us e,
+)
   where
     fun_is : (g f : List ℕ) (p q : Pairs (List ℕ)) (a b : Vals (List ℕ)) → call g p a ≡ call f q b → g ≡ f
     fun_is g f p q a b e = cc
@@ -103,22 +113,42 @@ end_seen (End.got v) y = refl
 end_seen (End.returned v) y = refl
 end_seen (End.failed f) y = refl
 
-module _ (job : Job) (around : Around) (reads : List ℕ → Answer (List ℕ)) (alike : (tag : Row → List ℕ) (b : List ℕ) → reads b ≡ lower {N = ⊥} spell tag (around.reads b)) where
-  task_rel : (rows : List Row) (f : List ℕ) (cs : Pairs ⊥) (vs : Vals ⊥) → Rel spell (tag_of rows) (run_of job around f cs vs) (body_at (numbered rows reads job.script) bodies f (low_pairs spell (tag_of rows) cs) (low_vals spell (tag_of rows) vs) nowhere start_st)
+module _ (job : Job) (around : Around) (reads : List ℕ → Answer (List ℕ))
+    (alike : (tag : Row → List ℕ) (b : List ℕ) → reads b ≡ lower {N = ⊥} spell tag (around.reads b)) where
+  task_rel : (rows : List Row) (f : List ℕ) (cs : Pairs ⊥) (vs : Vals ⊥)
+      → Rel spell (tag_of rows) (run_of job around f cs vs)
+      (body_at (numbered rows reads job.script) bodies f (low_pairs spell (tag_of rows) cs) (low_vals spell (tag_of rows) vs) nowhere start_st)
   task_rel rows f cs vs =
-      rel_call spell (tag_of rows) (world_of job.script around) (λ d. known (tag_of rows d)) reads (λ d. sym (name_tag (tag_of rows) d)) (alike (tag_of rows)) bodies f cs vs nowhere start_st
+      rel_call spell (tag_of rows) (world_of job.script around) (λ d. known (tag_of rows d)) reads (λ d. sym (name_tag (tag_of rows) d))
+      (alike (tag_of rows)) bodies f cs vs nowhere start_st
 
   -- a run over numbers shows the run of each description that stands for it
-  pub ran : (rows after later : List Row) (objects : List (Option (Object (List ℕ)))) (n : ℕ) (f : List ℕ) (cs : Pairs ⊥) (vs : Vals ⊥) (S : Stop → Type 0) → Grown after later → KnownAt job around later objects n → Runs job.script reads objects rows f (low_pairs spell (tag_of later) cs) (low_vals spell (tag_of later) vs) after S → (s : Stop) × Sim job around (tag_of later) n (run_of job around f cs vs) rows (stops after s) × FullAt (stops after s) × S s
+  pub ran : (rows after later : List Row) (objects : List (Option (Object (List ℕ)))) (n : ℕ) (f : List ℕ) (cs : Pairs ⊥) (vs : Vals ⊥)
+      (S : Stop → Type 0) → Grown after later → KnownAt job around later objects n
+      → Runs job.script reads objects rows f (low_pairs spell (tag_of later) cs) (low_vals spell (tag_of later) vs) after S → (s : Stop)
+      × Sim job around (tag_of later) n (run_of job around f cs vs) rows (stops after s) × FullAt (stops after s) × S s
   ran rows after later objects n f cs vs S g kn run = go (run (numbered later reads job.script) refl refl numbers)
     where
       numbers : Numbers after (λ d. known (tag_of later d))
       numbers =
-          numbers_front after g.more (λ d. known (tag_of later d)) (subst (λ x. Numbers x (λ d. known (tag_of later d))) g.begins (numbers_hold later g.apart))
+          numbers_front after g.more (λ d. known (tag_of later d))
+          (subst (λ x. Numbers x (λ d. known (tag_of later d))) g.begins (numbers_hold later g.apart))
 
-      go : (s : Stop) × (walk (known_of objects) rows (body_at (numbered later reads job.script) bodies f (low_pairs spell (tag_of later) cs) (low_vals spell (tag_of later) vs) nowhere start_st) ≡ stops after s) × S s → (s : Stop) × Sim job around (tag_of later) n (run_of job around f cs vs) rows (stops after s) × FullAt (stops after s) × S s
-      go (s, e, is) =
-          (s, subst (Sim job around (tag_of later) n (run_of job around f cs vs) rows) e (sim job around (tag_of later) n (known_of objects) kn (run_of job around f cs vs) (body_at (numbered later reads job.script) bodies f (low_pairs spell (tag_of later) cs) (low_vals spell (tag_of later) vs) nowhere start_st) rows (task_rel later f cs vs)), subst FullAt e (walk_full (known_of objects) (body_at (numbered later reads job.script) bodies f (low_pairs spell (tag_of later) cs) (low_vals spell (tag_of later) vs) nowhere start_st) rows), is)
+      go : (s : Stop) × (walk (known_of objects) rows
+          (body_at (numbered later reads job.script) bodies f (low_pairs spell (tag_of later) cs) (low_vals spell (tag_of later) vs) nowhere
+          start_st) ≡ stops after s) × S s → (s : Stop) × Sim job around (tag_of later) n (run_of job around f cs vs) rows (stops after s)
+          × FullAt (stops after s) × S s
+      go (s, e, is) = (
+        s,
+        subst (Sim job around (tag_of later) n (run_of job around f cs vs) rows) e
+            (sim job around (tag_of later) n (known_of objects) kn (run_of job around f cs vs)
+            (body_at (numbered later reads job.script) bodies f (low_pairs spell (tag_of later) cs) (low_vals spell (tag_of later) vs) nowhere
+            start_st) rows (task_rel later f cs vs)),
+        subst FullAt e (walk_full (known_of objects)
+            (body_at (numbered later reads job.script) bodies f (low_pairs spell (tag_of later) cs) (low_vals spell (tag_of later) vs) nowhere
+            start_st) rows),
+        is,
+      )
 
   sees_more : (tag : Row → List ℕ) (n : ℕ) (d : Desc) (o : Object (List ℕ)) → Sees job around tag n d o → Sees job around tag (suc n) d o
   sees_more tag n d o (p, e, l) = (p, go (see_kept job around n d), l)
@@ -127,7 +157,8 @@ module _ (job : Job) (around : Around) (reads : List ℕ → Answer (List ℕ)) 
       go (inl h) = absurd cc
       go (inr h) = sym h ∙ e
 
-  sees_call : (tag : Row → List ℕ) (n : ℕ) (d : Desc) (f : List ℕ) (cs : Pairs ⊥) (vs : Vals ⊥) (x : End ⊥) (y : St ⊥) → d ≡ call f cs vs → outcome (see job around n) (run_of job around f cs vs) ≡ ended x y → see job around (suc n) d ≡ Some (end_object x)
+  sees_call : (tag : Row → List ℕ) (n : ℕ) (d : Desc) (f : List ℕ) (cs : Pairs ⊥) (vs : Vals ⊥) (x : End ⊥) (y : St ⊥) → d ≡ call f cs vs
+      → outcome (see job around n) (run_of job around f cs vs) ≡ ended x y → see job around (suc n) d ≡ Some (end_object x)
   unfolding see
   sees_call tag n d f cs vs x y e o = ap (see job around (suc n)) e ∙ (ap object_of o ∙ end_seen x y)
 
@@ -135,20 +166,24 @@ module _ (job : Job) (around : Around) (reads : List ℕ → Answer (List ℕ)) 
 
   -- what is seen of each description that a row stands for, once all that is known is seen at n
   abbrev pub SeenNext : List Row → List (Option (Object (List ℕ))) → Row → Object (List ℕ) → Type 0
-  SeenNext later objects r o = (n : ℕ) → KnownAt job around later objects n → (d : Desc) → low_desc spell (tag_of later) d ≡ r → Sees job around (tag_of later) (suc n) d o
+  SeenNext later objects r o = (n : ℕ) → KnownAt job around later objects n → (d : Desc) → low_desc spell (tag_of later) d ≡ r
+      → Sees job around (tag_of later) (suc n) d o
 
   -- this object under number k is what is seen of its description
   abbrev pub SeenAt : List Row → List (Option (Object (List ℕ))) → ℕ → Object (List ℕ) → Type 0
   SeenAt rows objects k u = (r : Row) × (slice_get rows k ≡ Some r) × ((later : List Row) → Grown rows later → SeenNext later objects r u)
 
   -- whatever is known besides is what is seen
-  pub learns : (rows more after : List Row) (objects objects' : List (Option (Object (List ℕ)))) → Knows job around rows objects → after ≡ rows ++ more → ((k : ℕ) (u : Object (List ℕ)) → object_at objects' k ≡ Some u → (object_at objects k ≡ Some u) ⊎ SeenAt after objects k u) → Knows job around after objects'
+  pub learns : (rows more after : List Row) (objects objects' : List (Option (Object (List ℕ)))) → Knows job around rows objects → after ≡ rows
+      ++ more → ((k : ℕ) (u : Object (List ℕ)) → object_at objects' k ≡ Some u → (object_at objects k ≡ Some u) ⊎ SeenAt after objects k u)
+      → Knows job around after objects'
   learns rows more after objects objects' knows begins from later g = go (knows later (grown_back rows more after later begins g))
     where
       tag : Row → List ℕ
       tag = tag_of later
 
-      each : (n : ℕ) → KnownAt job around later objects n → (d : Desc) (u : Object (List ℕ)) → known_of objects' (low_ref spell tag d) ≡ Some u → Sees job around tag (suc n) d u
+      each : (n : ℕ) → KnownAt job around later objects n → (d : Desc) (u : Object (List ℕ)) → known_of objects' (low_ref spell tag d) ≡ Some u
+          → Sees job around tag (suc n) d u
       each n kn d u h = of_from (from i u (sym (object_is objects' later d g.room) ∙ h))
         where
           i : ℕ
@@ -160,12 +195,15 @@ module _ (job : Job) (around : Around) (reads : List ℕ → Answer (List ℕ)) 
           of_from : (object_at objects i ≡ Some u) ⊎ SeenAt after objects i u → Sees job around tag (suc n) d u
           of_from (inl e) = sees_more tag n d u (kn d u (object_is objects later d g.room ∙ e))
           of_from (inr (r, at, seen)) =
-              seen later g n kn d (some_is (low_desc spell tag d) r (sym (held_at after later (low_desc spell tag d) i g refl (got_below after i r at)) ∙ at))
+              seen later g n kn d (some_is (low_desc spell tag d) r
+              (sym (held_at after later (low_desc spell tag d) i g refl (got_below after i r at)) ∙ at))
 
       go : (n : ℕ) × KnownAt job around later objects n → (n : ℕ) × KnownAt job around later objects' n
       go (n, kn) = (suc n, each n kn)
 
-  pub learns_one : (rows more after : List Row) (objects objects' : List (Option (Object (List ℕ)))) (k : ℕ) (r : Row) (o : Object (List ℕ)) → Knows job around rows objects → after ≡ rows ++ more → slice_get after k ≡ Some r → ((later : List Row) → Grown after later → SeenNext later objects r o) → Puts objects k o objects' → Knows job around after objects'
+  pub learns_one : (rows more after : List Row) (objects objects' : List (Option (Object (List ℕ)))) (k : ℕ) (r : Row) (o : Object (List ℕ))
+      → Knows job around rows objects → after ≡ rows ++ more → slice_get after k ≡ Some r
+      → ((later : List Row) → Grown after later → SeenNext later objects r o) → Puts objects k o objects' → Knows job around after objects'
   learns_one rows more after objects objects' k r o knows begins at seen puts = learns rows more after objects objects' knows begins from
     where
       some_is : (a b : Object (List ℕ)) → Some a ≡ Some b → a ≡ b
@@ -176,25 +214,38 @@ module _ (job : Job) (around : Around) (reads : List ℕ → Answer (List ℕ)) 
         where
           test : (j ≡ k) ⊎ (j ≡ k → ⊥) → (object_at objects j ≡ Some u) ⊎ SeenAt after objects j u
           test (inl q) =
-              inr (r, ap (slice_get after) q ∙ at, subst (λ z. (later : List Row) → Grown after later → SeenNext later objects r z) (some_is o u (sym puts.here ∙ ap (object_at objects') (sym q) ∙ e)) seen)
+              inr (
+                r,
+                ap (slice_get after) q ∙ at,
+                subst (λ z. (later : List Row) → Grown after later → SeenNext later objects r z)
+                    (some_is o u (sym puts.here ∙ ap (object_at objects') (sym q) ∙ e)) seen,
+              )
           test (inr n) = inl (sym (puts.there j n) ∙ e)
 
   -- the end of a call's run is what is seen of it
-  pub learns_call : (rows more after : List Row) (objects objects' : List (Option (Object (List ℕ)))) (k : ℕ) (f : List ℕ) (ca : Pairs (List ℕ)) (us : Vals (List ℕ)) (o : Object (List ℕ)) → Knows job around rows objects → after ≡ rows ++ more → slice_get after k ≡ Some (call f ca us) → Runs job.script reads objects rows f ca us after (EndsAs o) → Puts objects k o objects' → Knows job around after objects'
+  pub learns_call : (rows more after : List Row) (objects objects' : List (Option (Object (List ℕ)))) (k : ℕ) (f : List ℕ) (ca : Pairs (List ℕ))
+      (us : Vals (List ℕ)) (o : Object (List ℕ)) → Knows job around rows objects → after ≡ rows ++ more → slice_get after k ≡ Some (call f ca us)
+      → Runs job.script reads objects rows f ca us after (EndsAs o) → Puts objects k o objects' → Knows job around after objects'
   learns_call rows more after objects objects' k f ca us o knows begins at run puts =
       learns_one rows more after objects objects' k (call f ca us) o knows begins at seen puts
     where
       seen : (later : List Row) → Grown after later → SeenNext later objects (call f ca us) o
       seen later g n kn d row = of_call (from_call d (tag_of later) f ca us row)
         where
-          of_end : (cs : Pairs ⊥) (vs : Vals ⊥) (s : Stop) → d ≡ call f cs vs → StopIs job around (tag_of later) n (run_of job around f cs vs) s → EndsAs o s → Sees job around (tag_of later) (suc n) d o
+          of_end : (cs : Pairs ⊥) (vs : Vals ⊥) (s : Stop) → d ≡ call f cs vs → StopIs job around (tag_of later) n (run_of job around f cs vs) s
+              → EndsAs o s → Sees job around (tag_of later) (suc n) d o
           of_end cs vs (Stop.ended e st) is (x, y, out_is, end_is, st_is) q =
               (end_object x, sees_call (tag_of later) n d f cs vs x y is out_is, end_low (tag_of later) x ∙ ap end_object end_is ∙ q)
           of_end cs vs (Stop.waits e) is h q = absurd q
           of_end cs vs (Stop.full e) is h q = absurd q
 
-          of_call : (cs : Pairs ⊥) × (vs : Vals ⊥) × (d ≡ call f cs vs) × (low_pairs spell (tag_of later) cs ≡ ca) × (low_vals spell (tag_of later) vs ≡ us) → Sees job around (tag_of later) (suc n) d o
-          of_call (cs, vs, is, caught, low) = of_run (ran rows after later objects n f cs vs (EndsAs o) g kn (subst (λ us. Runs job.script reads objects rows f (low_pairs spell (tag_of later) cs) us after (EndsAs o)) (sym low) (subst (λ ca. Runs job.script reads objects rows f ca us after (EndsAs o)) (sym caught) run)))
+          of_call : (cs : Pairs ⊥) × (vs : Vals ⊥) × (d ≡ call f cs vs) × (low_pairs spell (tag_of later) cs ≡ ca)
+              × (low_vals spell (tag_of later) vs ≡ us) → Sees job around (tag_of later) (suc n) d o
+          of_call (cs, vs, is, caught, low) = of_run
+              (ran rows after later objects n f cs vs (EndsAs o) g kn
+              (subst (λ us. Runs job.script reads objects rows f (low_pairs spell (tag_of later) cs) us after (EndsAs o)) (sym low)
+              (subst (λ ca. Runs job.script reads objects rows f ca us after (EndsAs o)) (sym caught) run)))
             where
-              of_run : (s : Stop) × Sim job around (tag_of later) n (run_of job around f cs vs) rows (stops after s) × FullAt (stops after s) × EndsAs o s → Sees job around (tag_of later) (suc n) d o
+              of_run : (s : Stop) × Sim job around (tag_of later) n (run_of job around f cs vs) rows (stops after s) × FullAt (stops after s)
+                  × EndsAs o s → Sees job around (tag_of later) (suc n) d o
               of_run (s, sim, full, q) = of_end cs vs s is sim.stop_is q

@@ -38,18 +38,28 @@ module _ (job : Job) (around : Around) (tag : Row → List ℕ) where
   map_length [] = refl
   map_length (d ∷ ds) = ap suc (map_length ds)
 
-  one_more : (rows : List Row) (e : Row) (c : Chosen rows) → Apart rows → (In e rows → ⊥) → (d : Desc) × Makes job around d × (low_desc spell tag d ≡ e) → MakesMany job around (suc (length rows))
-  one_more rows e c apart new (d, m, l) =
-      (d ∷ c.ds, ap suc (sym (map_length c.ds) ∙ ap length c.are), (λ i. new (subst (In e) c.are (subst (λ x. In x (map (low_desc spell tag) c.ds)) l (low_in d c.ds i))), apart_back c.ds (subst Apart (sym c.are) apart)), (m, c.made))
+  one_more : (rows : List Row) (e : Row) (c : Chosen rows) → Apart rows → (In e rows → ⊥) → (d : Desc) × Makes job around d
+      × (low_desc spell tag d ≡ e) → MakesMany job around (suc (length rows))
+  one_more rows e c apart new (d, m, l) = (
+    d ∷ c.ds,
+    ap suc (sym (map_length c.ds) ∙ ap length c.are),
+    (
+      λ i. new (subst (In e) c.are (subst (λ x. In x (map (low_desc spell tag) c.ds)) l (low_in d c.ds i))),
+      apart_back c.ds (subst Apart (sym c.are) apart),
+    ),
+    (m, c.made),
+  )
 
 module _ (job : Job) (around : Around) where
   pub itself : (rows : List Row) → Apart rows → length rows ≤ most_rows → Grown rows rows
   itself rows apart room =
       record { more = []; begins = sym (append-nil rows); apart = apart; room = room }
 
-  pub makes_many : (rows : List Row) (e : Row) → Apart rows → length rows ≤ most_rows → learn_to rows e ≡ None → Made job around rows → (d : Desc) × Makes job around d × (low_desc spell (tag_of rows) d ≡ e) → MakesMany job around 65537
+  pub makes_many : (rows : List Row) (e : Row) → Apart rows → length rows ≤ most_rows → learn_to rows e ≡ None → Made job around rows
+      → (d : Desc) × Makes job around d × (low_desc spell (tag_of rows) d ≡ e) → MakesMany job around 65537
   makes_many rows e apart room none made last =
-      subst (MakesMany job around) so_many (one_more job around (tag_of rows) rows e (chosen job around (tag_of rows) rows (made rows (itself rows apart room))) apart (full_means rows e none).0 last)
+      subst (MakesMany job around) so_many (one_more job around (tag_of rows) rows e
+      (chosen job around (tag_of rows) rows (made rows (itself rows apart room))) apart (full_means rows e none).0 last)
     where
       so_many : suc (length rows) ≡ 65537
       so_many =

@@ -1,5 +1,6 @@
 -- The open work: what stays true of it, and that it comes to an end.
-use Rattle.std.proofs.Common.{◌≡◌, ◌≤◌, ◌<◌, ℕ, suc, ◌+◌, ◌-◌, ◌*◌, List, [], ◌∷◌, ◌++◌, length, Bool, true, false, Option, Some, None, slice_get, ◌⊎◌, inl, inr, refl, sym, ap, subst, ◌∙◌, arith}
+use Rattle.std.proofs.Common.{◌≡◌, ◌≤◌, ◌<◌, ℕ, suc, ◌+◌, ◌-◌, ◌*◌, List, [], ◌∷◌, ◌++◌, length, Bool, true, false, Option, Some, None, slice_get}
+use Rattle.std.proofs.Common.{◌⊎◌, inl, inr, refl, sym, ap, subst, ◌∙◌, arith}
 use Rattle.std.proofs.lemmas.List.{append_assoc, append-nil}
 use Rattle.sky_base.specs.See.{Desc, Job, Around}
 use Rattle.sky_law.specs.Tasks.{Apart}
@@ -80,47 +81,58 @@ pop_falls objects k [] e =
     let h : height (is_known (object_at objects k)) 1 ≡ 4098 = ap (λ b. height b 1) e in
     omega (arith, h)
 pop_falls objects k (l ∷ ks) e =
-    let h : height (is_known (object_at objects k)) (suc (suc (length ks))) ≡ suc (suc (length ks)) + 4097 = ap (λ b. height b (suc (suc (length ks)))) e in
+    let h : height (is_known (object_at objects k)) (suc (suc (length ks))) ≡ suc (suc (length ks)) + 4097 =
+    ap (λ b. height b (suc (suc (length ks)))) e in
     rest (is_known (object_at objects l)) h
   where
     C : ℕ
     C = (65536 - count objects) * 8194
 
-    rest : (b : Bool) → height (is_known (object_at objects k)) (suc (suc (length ks))) ≡ suc (suc (length ks)) + 4097 → (65536 - count objects) * 8194 + height b (suc (length ks)) < (65536 - count objects) * 8194 + height (is_known (object_at objects k)) (suc (suc (length ks)))
+    rest : (b : Bool) → height (is_known (object_at objects k)) (suc (suc (length ks))) ≡ suc (suc (length ks)) + 4097
+        → (65536 - count objects) * 8194 + height b (suc (length ks)) < (65536 - count objects) * 8194 + height (is_known (object_at objects k))
+        (suc (suc (length ks)))
     rest true h = omega (arith, h)
     rest false h = omega (arith, h)
 
 -- what becomes known
-pub known_falls : (objects after : List (Option Obj)) (k : ℕ) (ks : List ℕ) → Stays objects after → is_known (object_at after k) ≡ true → length after ≤ 65536 → suc (length ks) ≤ 4096 → is_known (object_at objects k) ≡ false → rank after (k ∷ ks) < rank objects (k ∷ ks)
+pub known_falls : (objects after : List (Option Obj)) (k : ℕ) (ks : List ℕ) → Stays objects after → is_known (object_at after k) ≡ true
+    → length after ≤ 65536 → suc (length ks) ≤ 4096 → is_known (object_at objects k) ≡ false → rank after (k ∷ ks) < rank objects (k ∷ ks)
 known_falls objects after k ks stays has small le e =
     let more : count objects < count after = count_less k objects after stays (unknown_is (object_at objects k) e) has in
     let most : count after ≤ length after = count_most after in
-    let high : height (is_known (object_at after k)) (suc (length ks)) ≤ suc (length ks) + 4097 = height_most (is_known (object_at after k)) (suc (length ks)) le in
+    let high : height (is_known (object_at after k)) (suc (length ks)) ≤ suc (length ks) + 4097 =
+    height_most (is_known (object_at after k)) (suc (length ks)) le in
     omega (arith, more, most, high, small, le)
 
 -- one more is open
-pub push_falls : (objects : List (Option Obj)) (j k : ℕ) (ks : List ℕ) → suc (length ks) < 4096 → is_known (object_at objects j) ≡ false → is_known (object_at objects k) ≡ false → rank objects (j ∷ k ∷ ks) < rank objects (k ∷ ks)
+pub push_falls : (objects : List (Option Obj)) (j k : ℕ) (ks : List ℕ) → suc (length ks) < 4096 → is_known (object_at objects j) ≡ false
+    → is_known (object_at objects k) ≡ false → rank objects (j ∷ k ∷ ks) < rank objects (k ∷ ks)
 push_falls objects j k ks le e f =
-    let a : height (is_known (object_at objects j)) (suc (suc (length ks))) ≡ 4096 - suc (suc (length ks)) = ap (λ b. height b (suc (suc (length ks)))) e in
+    let a : height (is_known (object_at objects j)) (suc (suc (length ks))) ≡ 4096 - suc (suc (length ks)) =
+    ap (λ b. height b (suc (suc (length ks)))) e in
     let b : height (is_known (object_at objects k)) (suc (length ks)) ≡ 4096 - suc (length ks) = ap (λ b. height b (suc (length ks))) f in
     omega (arith, a, b, le)
 
 -- ---- what stays true
 
 module _ (job : Job) (around : Around) where
-  pub open_popped : (rows : List Row) (objects : List (Option Obj)) (first k : ℕ) (ks : List ℕ) → is_known (object_at objects k) ≡ true → Open job around rows objects first (k ∷ ks) → Open job around rows objects first ks
+  pub open_popped : (rows : List Row) (objects : List (Option Obj)) (first k : ℕ) (ks : List ℕ) → is_known (object_at objects k) ≡ true
+      → Open job around rows objects first (k ∷ ks) → Open job around rows objects first ks
   open_popped rows objects first k [] e (opens, bottom) = ap (λ i. is_known (object_at objects i)) (sym bottom) ∙ e
   open_popped rows objects first k (l ∷ ks) e (opens, bottom) = (opens_rest job around rows k l ks opens, bottom)
 
-  pub open_known : (rows after : List Row) (objects objects' : List (Option Obj)) (first k : ℕ) (ks : List ℕ) → Begins rows after → Open job around rows objects first (k ∷ ks) → Open job around after objects' first (k ∷ ks)
+  pub open_known : (rows after : List Row) (objects objects' : List (Option Obj)) (first k : ℕ) (ks : List ℕ) → Begins rows after
+      → Open job around rows objects first (k ∷ ks) → Open job around after objects' first (k ∷ ks)
   open_known rows after objects objects' first k ks (more, e) (opens, bottom) =
       (opens_grow job around rows more after (k ∷ ks) e opens, bottom)
 
-  pub open_more : (rows after : List Row) (objects objects' : List (Option Obj)) (first j k : ℕ) (ks : List ℕ) → Opens job around after (j ∷ k ∷ ks) → Open job around rows objects first (k ∷ ks) → Open job around after objects' first (j ∷ k ∷ ks)
+  pub open_more : (rows after : List Row) (objects objects' : List (Option Obj)) (first j k : ℕ) (ks : List ℕ)
+      → Opens job around after (j ∷ k ∷ ks) → Open job around rows objects first (k ∷ ks) → Open job around after objects' first (j ∷ k ∷ ks)
   open_more rows after objects objects' first j k ks opens (old, bottom) = (opens, bottom)
 
   -- what is open is held
-  pub open_held : (rows : List Row) (objects : List (Option Obj)) (first k : ℕ) (ks : List ℕ) → Apart rows → length rows ≤ most_rows → Open job around rows objects first (k ∷ ks) → k < length rows
+  pub open_held : (rows : List Row) (objects : List (Option Obj)) (first k : ℕ) (ks : List ℕ) → Apart rows → length rows ≤ most_rows
+      → Open job around rows objects first (k ∷ ks) → k < length rows
   open_held rows objects first k ks apart room (opens, bottom) = go (opens rows (itself job around rows apart room))
     where
       go : (d : Desc) × Opened job around rows (k ∷ ks) d → k < length rows
@@ -135,7 +147,8 @@ module _ (job : Job) (around : Around) where
       (fit.0, caught_kept f c fit.1)
 
   -- 4,096 descriptions are open
-  pub open_deep : (rows : List Row) (objects : List (Option Obj)) (first k : ℕ) (ks : List ℕ) → Apart rows → length rows ≤ most_rows → length (k ∷ ks) ≡ most_open → Open job around rows objects first (k ∷ ks) → (d : Desc) × Chain job around most_open d
+  pub open_deep : (rows : List Row) (objects : List (Option Obj)) (first k : ℕ) (ks : List ℕ) → Apart rows → length rows ≤ most_rows
+      → length (k ∷ ks) ≡ most_open → Open job around rows objects first (k ∷ ks) → (d : Desc) × Chain job around most_open d
   open_deep rows objects first k ks apart room le (opens, bottom) =
       subst (λ n. (d : Desc) × Chain job around n d) le (opens_chain job around rows (k ∷ ks) apart room opens)
 

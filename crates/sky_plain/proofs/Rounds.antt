@@ -41,12 +41,14 @@ module _ (sc : Script) (rows : List Row) (objects : List (Option Obj)) (fits : F
   known_fine (input k) v e = absurd cc
 
   -- the value at the next wave keeps the limits and refers to what is held
-  pub next_fine : (a b : Val (List ℕ)) → SoundOver (Below (length rows)) sc a → turn_at data_of Writes (known_of objects) a ≡ Turned.next b → SoundOver (Below (length rows)) sc b
+  pub next_fine : (a b : Val (List ℕ)) → SoundOver (Below (length rows)) sc a → turn_at data_of Writes (known_of objects) a ≡ Turned.next b
+      → SoundOver (Below (length rows)) sc b
   next_fine a b h e =
       next_sound (Below (length rows)) sc data_of Writes (known_of objects) read_fine known_fine a b h e
 
 -- it does so where more is held
-pub fine_more : (sc : Script) (rows after : List Row) (a : Val (List ℕ)) → Begins rows after → SoundOver (Below (length rows)) sc a → SoundOver (Below (length after)) sc a
+pub fine_more : (sc : Script) (rows after : List Row) (a : Val (List ℕ)) → Begins rows after → SoundOver (Below (length rows)) sc a
+    → SoundOver (Below (length after)) sc a
 fine_more sc rows after a (more, e) h =
     sound_over sc (Below (length rows)) (Below (length after)) (λ n l. longer n l) a h
   where
@@ -63,12 +65,14 @@ start_fine sc rows h = (record { deep = omega arith; large = omega arith }, h)
 
 module _ (job : Job) (gives : Gives) where
   -- each reference of the value at a wave may be the first of a chain
-  pub opens_all : (rows : List Row) (j k : ℕ) (a : Val (List ℕ)) → j ≤ 100 → Stage job (json_around gives) rows j k a → SoundOver (Below (length rows)) job.script a → OpensAll job (json_around gives) rows (refs a)
+  pub opens_all : (rows : List Row) (j k : ℕ) (a : Val (List ℕ)) → j ≤ 100 → Stage job (json_around gives) rows j k a
+      → SoundOver (Below (length rows)) job.script a → OpensAll job (json_around gives) rows (refs a)
   opens_all rows j k a le st fine n is =
       let below : number_of n < length rows = in_val job.script (length rows) n a fine.1 is in
       (below, opens_first job (json_around gives) rows j k n a le st is below)
 
-  pub opens_all_grow : (rows after : List Row) (ds : List Row) → Begins rows after → OpensAll job (json_around gives) rows ds → OpensAll job (json_around gives) after ds
+  pub opens_all_grow : (rows after : List Row) (ds : List Row) → Begins rows after → OpensAll job (json_around gives) rows ds
+      → OpensAll job (json_around gives) after ds
   opens_all_grow rows after ds (more, e) opens n is =
       let at = opens n is in
       (longer at.0, opens_grow job (json_around gives) rows more after (number_of n ∷ []) e at.1)
@@ -82,24 +86,35 @@ module _ (job : Job) (gives : Gives) where
   left_is : (j : ℕ) → j ≤ 100 → 101 - j ≡ suc (100 - j)
   left_is j h = omega (arith, h)
 
-  module _ (rows : List Row) (objects : List (Option Obj)) (j : ℕ) (le : j ≤ 100) (a : Val (List ℕ)) (st : Stage job (json_around gives) rows j (101 - j) a) (standing : Standing job (json_around gives) rows objects) (all : AllKnown objects (refs a)) where
+  module _ (rows : List Row) (objects : List (Option Obj)) (j : ℕ) (le : j ≤ 100) (a : Val (List ℕ))
+      (st : Stage job (json_around gives) rows j (101 - j) a) (standing : Standing job (json_around gives) rows objects)
+      (all : AllKnown objects (refs a)) where
     stage_suc : Stage job (json_around gives) rows j (suc (100 - j)) a
     stage_suc = subst (λ k. Stage job (json_around gives) rows j k a) (left_is j le) st
 
-    pub wave_next : (b : Val (List ℕ)) → turn_at data_of Writes (known_of objects) a ≡ Turned.next b → Stage job (json_around gives) rows (j + 1) (101 - (j + 1)) b
+    pub wave_next : (b : Val (List ℕ)) → turn_at data_of Writes (known_of objects) a ≡ Turned.next b
+        → Stage job (json_around gives) rows (j + 1) (101 - (j + 1)) b
     wave_next b e =
         let more : suc j ≡ j + 1 = omega arith in
         let fewer : 100 - j ≡ 101 - (j + 1) = omega (arith, le) in
-        subst (λ i. Stage job (json_around gives) rows i (101 - (j + 1)) b) more (subst (λ k. Stage job (json_around gives) rows (suc j) k b) fewer (stage_next job (json_around gives) data_of Writes (λ tag b. reads_named tag b) (λ tag a. text_named tag a) rows j (100 - j) a b objects stage_suc standing.knows all e))
+        subst (λ i. Stage job (json_around gives) rows i (101 - (j + 1)) b) more
+        (subst (λ k. Stage job (json_around gives) rows (suc j) k b) fewer
+        (stage_next job (json_around gives) data_of Writes (λ tag b. reads_named tag b) (λ tag a. text_named tag a) rows j (100 - j) a b
+        objects stage_suc standing.knows all e))
 
-    pub wave_ends : (x : Answered) → Apart rows → length rows ≤ most_rows → x ≢ Answered.not_yet → turn_at data_of Writes (known_of objects) a ≡ Turned.ends x → Means job (json_around gives) x
+    pub wave_ends : (x : Answered) → Apart rows → length rows ≤ most_rows → x ≢ Answered.not_yet → turn_at data_of Writes (known_of objects) a
+        ≡ Turned.ends x → Means job (json_around gives) x
     wave_ends x apart room ne e =
-        stage_end job (json_around gives) data_of Writes (λ tag b. reads_named tag b) (λ tag a. text_named tag a) rows j (100 - j) a x objects (itself job (json_around gives) rows apart room) ne stage_suc standing.knows all e
+        stage_end job (json_around gives) data_of Writes (λ tag b. reads_named tag b) (λ tag a. text_named tag a) rows j (100 - j) a x objects
+        (itself job (json_around gives) rows apart room) ne stage_suc standing.knows all e
 
-  pub wave_last : (rows : List Row) (j : ℕ) (a : Val (List ℕ)) (x : Answered) → 100 < j → j ≤ 101 → Stage job (json_around gives) rows j (101 - j) a → Apart rows → length rows ≤ most_rows → x ≢ Answered.not_yet → last_at (refs a) (Writes a) ≡ x → Means job (json_around gives) x
+  pub wave_last : (rows : List Row) (j : ℕ) (a : Val (List ℕ)) (x : Answered) → 100 < j → j ≤ 101
+      → Stage job (json_around gives) rows j (101 - j) a → Apart rows → length rows ≤ most_rows → x ≢ Answered.not_yet
+      → last_at (refs a) (Writes a) ≡ x → Means job (json_around gives) x
   wave_last rows j a x h l st apart room ne e =
       let none : 101 - j ≡ 0 = omega (arith, h, l) in
-      stage_last job (json_around gives) data_of Writes (λ tag b. reads_named tag b) (λ tag a. text_named tag a) rows j a x (itself job (json_around gives) rows apart room) ne (subst (λ k. Stage job (json_around gives) rows j k a) none st) e
+      stage_last job (json_around gives) data_of Writes (λ tag b. reads_named tag b) (λ tag a. text_named tag a) rows j a x
+      (itself job (json_around gives) rows apart room) ne (subst (λ k. Stage job (json_around gives) rows j k a) none st) e
 
 pub bytes_some : (b : List ℕ) → Answered.bytes b ≢ Answered.not_yet
 bytes_some b e = absurd cc
@@ -116,9 +131,12 @@ start_row = refl
 rows_is : (a b : List Row) → Some a ≡ Some b → a ≡ b
 rows_is a b e = cc
 
-pub main_learned : (rows after : List Row) (f : List ℕ) (ca : Pairs (List ℕ)) (us : Vals (List ℕ)) → rows ≡ [] → f ≡ [] → ca ≡ no_pairs → us ≡ no_vals → learn_to rows (call f ca us) ≡ Some after → after ≡ call [] no_pairs no_vals ∷ []
+pub main_learned : (rows after : List Row) (f : List ℕ) (ca : Pairs (List ℕ)) (us : Vals (List ℕ)) → rows ≡ [] → f ≡ [] → ca ≡ no_pairs → us
+    ≡ no_vals → learn_to rows (call f ca us) ≡ Some after → after ≡ call [] no_pairs no_vals ∷ []
 main_learned rows after f ca us p q t r e =
-    rows_is after (call [] no_pairs no_vals ∷ []) (sym e ∙ ap (λ x. learn_to x (call f ca us)) p ∙ ap (λ x. learn_to [] (call x ca us)) q ∙ ap (λ x. learn_to [] (call [] x us)) t ∙ ap (λ x. learn_to [] (call [] no_pairs x)) r ∙ start_row)
+    rows_is after (call [] no_pairs no_vals ∷ [])
+    (sym e ∙ ap (λ x. learn_to x (call f ca us)) p ∙ ap (λ x. learn_to [] (call x ca us)) q ∙ ap (λ x. learn_to [] (call [] x us)) t
+    ∙ ap (λ x. learn_to [] (call [] no_pairs x)) r ∙ start_row)
 
 pub never_full : (rows : List Row) (d : Row) → rows ≡ [] → learn_to rows d ≡ None → ⊥
 never_full rows d p e =

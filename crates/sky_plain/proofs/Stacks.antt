@@ -7,6 +7,7 @@ reverse_end xs x = reverse-append xs (x ∷ [])
 
 pub reverse_length : (xs : List ℕ) → length (reverse xs) ≡ length xs
 reverse_length [] = refl
-reverse_length (x ∷ xs) = ap length (reverse-append (x ∷ []) xs) ∙ length-append (reverse xs) (x ∷ []) ∙ (let h : length (reverse xs) ≡ length xs = reverse_length xs in omega (arith, h))
+reverse_length (x ∷ xs) = ap length (reverse-append (x ∷ []) xs) ∙ length-append (reverse xs) (x ∷ [])
+    ∙ (let h : length (reverse xs) ≡ length xs = reverse_length xs in omega (arith, h))
 
 pub ruleset stacks = (reverse_end, reverse_length)

@@ -48,7 +48,8 @@ Stays before objects = (k : ℕ) → is_known (object_at before k) ≡ true → 
 module _ (job : Job) (around : Around) where
   abbrev pub Stepped : List ℕ → ℕ → List Row → List (Option Obj) → List (Option Obj) → Step → Type 0
   Stepped ks k rows before objects Step.Known =
-      Standing job around rows objects × (is_known (object_at objects k) ≡ true) × Stays before objects × (length before ≤ 65536 → length objects ≤ 65536)
+      Standing job around rows objects × (is_known (object_at objects k) ≡ true) × Stays before objects
+      × (length before ≤ 65536 → length objects ≤ 65536)
   Stepped ks k rows before objects (Step.Waits j) =
       Standing job around rows objects × (objects ≡ before) × (j < length rows) × (object_at objects j ≡ None) × Opens job around rows (j ∷ k ∷ ks)
   Stepped ks k rows before objects Step.Full = MakesMany job around 65537

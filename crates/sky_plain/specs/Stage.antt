@@ -19,7 +19,8 @@ module _ (job : Job) (around : Around) where
 
   -- v is the value of wave j
   abbrev pub Stage : List Row → ℕ → ℕ → v.Val (List ℕ) → Type 0
-  Stage rows j k a = (later : List Row) → Grown rows later → (n : ℕ) × (u : Val) × (low spell (tag_of later) u ≡ a) × ((m : ℕ) → Reached (on m n) j k u)
+  Stage rows j k a = (later : List Row) → Grown rows later → (n : ℕ) × (u : Val) × (low spell (tag_of later) u ≡ a)
+      × ((m : ℕ) → Reached (on m n) j k u)
 
 -- each reference of a value is known
 abbrev pub AllKnown : List (Option (Object (List ℕ))) → List Row → Type 0

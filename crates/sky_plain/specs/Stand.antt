@@ -56,7 +56,8 @@ ReadFits sc (Err k) = Unit {0}
 
 module _ (job : Job) (around : Around) where
   abbrev pub KnownAt : List Row → List (Option (Object (List ℕ))) → ℕ → Type 0
-  KnownAt rows objects n = (d : Desc) (o : Object (List ℕ)) → known_of objects (low_ref spell (tag_of rows) d) ≡ Some o → Sees job around (tag_of rows) n d o
+  KnownAt rows objects n = (d : Desc) (o : Object (List ℕ)) → known_of objects (low_ref spell (tag_of rows) d) ≡ Some o
+      → Sees job around (tag_of rows) n d o
 
   -- however many descriptions are held later, what is known of one is what is seen of it
   abbrev pub Knows : List Row → List (Option (Object (List ℕ))) → Type 0

@@ -106,7 +106,8 @@ fn gather<K: Kit>(
     requires standing { Standing (job_view job.now) (json_around (K.gives kit.now)) rows.old objects.old }
     requires opens { OpensAll (job_view job.now) (json_around (K.gives kit.now)) rows.old (refs (view value.now)) }
     ensures grows { IfOk result (λ _. Begins rows.old rows.new) }
-    ensures gathered { IfOk result (λ s. GatheredSo (job_view job.now) (json_around (K.gives kit.now)) (refs (view value.now)) rows.new objects.new s) }
+    ensures gathered { IfOk result (λ s. GatheredSo (job_view job.now) (json_around (K.gives kit.now)) (refs (view value.now)) rows.new
+        objects.new s) }
 {
     while let Some(name) = unknown(alloc, value, objects)? {
         let _held = rows.len();

@@ -77,7 +77,8 @@ fn called<K: Kit>(
 /// The first name in the value whose object isn't known.
 #[tactic(auto, using(crate::proofs::Lacks::lacks))]
 pub fn unknown(alloc: Global, value: &Value, objects: &Objects) -> Result<Option<Name>, Memory>
-    ensures { IfOk result (λ o. MatchOption o (AllKnown objects.now (refs (view value.now))) (λ n. In (known n) (refs (view value.now)) × (known_of objects.now (known n) ≡ None))) }
+    ensures { IfOk result (λ o. MatchOption o (AllKnown objects.now (refs (view value.now)))
+        (λ n. In (known n) (refs (view value.now)) × (known_of objects.now (known n) ≡ None))) }
 {
     let names = value.refs(alloc)?;
     for name in names.as_slice() {
@@ -102,7 +103,8 @@ fn executed<K: Kit>(
     outputs: u32,
 ) -> Result<Step, Memory>
     requires kept { Kept (view args.now) }
-    ensures step { IfOk result (λ s. (i : _) → slice_get rows.now number ≡ Some (out executor.now (view args.now) outputs i) → Steps (job_view job.now) (json_around (K.gives kit.now)) number rows.now rows.now objects.old objects.new s) }
+    ensures step { IfOk result (λ s. (i : _) → slice_get rows.now number ≡ Some (out executor.now (view args.now) outputs i)
+        → Steps (job_view job.now) (json_around (K.gives kit.now)) number rows.now rows.now objects.old objects.new s) }
 {
     let _held = rows.len();
     if let Some(name) = unknown(alloc, args, objects)? {

@@ -56,13 +56,15 @@ module _ (w : World (List ℕ)) (sound : SoundWorld w) where
   exec_ends ds (Object.data_of v ∷ os) h = exec_ends ds os h
   exec_ends ds (Object.fault f ∷ os) h = tt
 
-  one_ends : (p : Place) (d : Desc (List ℕ)) (os : List (Object (List ℕ))) → Each (SoundObject w.script) os → SoundEnd w.script (wait_end w (one_of p d) os)
+  one_ends : (p : Place) (d : Desc (List ℕ)) (os : List (Object (List ℕ))) → Each (SoundObject w.script) os
+      → SoundEnd w.script (wait_end w (one_of p d) os)
   one_ends p d [] h = closed.null_ok
   one_ends p d (Object.bytes b ∷ os) h = read_ends (w.reads b) p (read_sound b)
   one_ends p d (Object.data_of v ∷ os) h = h.0
   one_ends p d (Object.fault f ∷ os) h = tt
 
-  pub wait_ends : (q : Wait (List ℕ)) (os : List (Object (List ℕ))) → Sound w.script (asked q) → Each (SoundObject w.script) os → SoundEnd w.script (wait_end w q os)
+  pub wait_ends : (q : Wait (List ℕ)) (os : List (Object (List ℕ))) → Sound w.script (asked q) → Each (SoundObject w.script) os
+      → SoundEnd w.script (wait_end w q os)
   wait_ends (one_of p d) os s h = one_ends p d os h
   wait_ends (all_of ds) os s h = exec_ends ds os s
 
@@ -101,14 +103,16 @@ module _ (w : World (List ℕ)) (sound : SoundWorld w) where
 
     back : FormsOk w (P w) (Q w) (V w) others h.forms × V w h.st.vars
     back =
-        forms_back w (P w) (Q w) (V w) h.forms others f h.st.vars (inr (body_places (body_of f w.script), saved.follow)) (keeps (frames_of h.forms f h.st.vars) saved.fits.frames) few
+        forms_back w (P w) (Q w) (V w) h.forms others f h.st.vars (inr (body_places (body_of f w.script), saved.follow))
+        (keeps (frames_of h.forms f h.st.vars) saved.fits.frames) few
 
     taken : AllTaken h.forms
     taken = fit_taken w.script h.forms (body_places (body_of f w.script)) saved.follow saved.all_opened
 
     is_fun : (f ≡ []) ⊎ IsFun w.script f
     is_fun =
-        bottom_fun w (P w) (Q w) (V w) (λ x. (x ≡ []) ⊎ IsFun w.script x) h.forms f h.st.vars (λ g gs is. (subst (FunsOf w.script) is saved.fits.functions).0)
+        bottom_fun w (P w) (Q w) (V w) (λ x. (x ≡ []) ⊎ IsFun w.script x) h.forms f h.st.vars
+        (λ g gs is. (subst (FunsOf w.script) is saved.fits.functions).0)
 
     module _ (e : End (List ℕ)) (ends : SoundEnd w.script e) where
       fine : Fine w (P w) (Q w) (V w) any_made others (plug w others h.forms (Fin e h.st))
@@ -122,16 +126,23 @@ module _ (w : World (List ℕ)) (sound : SoundWorld w) where
 
       pub ends_sound : EndsSound w.script (first_end (plug w others h.forms (Fin e h.st)))
       ends_sound =
-          ok_end (first_end (plug w others h.forms (Fin e h.st))) (end_fine w (P w) (Q w) (V w) any_made closed (plug w others h.forms (Fin e h.st)) others fine (any_all _))
+          ok_end (first_end (plug w others h.forms (Fin e h.st)))
+          (end_fine w (P w) (Q w) (V w) any_made closed (plug w others h.forms (Fin e h.st)) others fine (any_all _))
 
       pub fits_again : (g : Halt (List ℕ)) → first_halt (plug w others h.forms (Fin e h.st)) ≡ Some g → FitsRun w.script (run_of_halt f (suc j) g)
       fits_again g is =
-          let ok : FirstHaltOk w (P w) (Q w) (V w) any_made closed others (Some g) = subst (FirstHaltOk w (P w) (Q w) (V w) any_made closed others) is (halt_fine w (P w) (Q w) (V w) any_made closed (plug w others h.forms (Fin e h.st)) others fine (any_all _)) in
-          let higher : Higher w h.st.count (Some g) = subst (Higher w h.st.count) is (first_higher w (plug w others h.forms (Fin e h.st)) h.st.count [] climbs) in
-          let left : length (frames_of g.forms f g.st.vars) + inner w g.forms others ≡ suc others = frames_left w (P w) (Q w) (V w) g.forms others f g.st.vars ok.0 in
+          let ok : FirstHaltOk w (P w) (Q w) (V w) any_made closed others (Some g) =
+          subst (FirstHaltOk w (P w) (Q w) (V w) any_made closed others) is
+          (halt_fine w (P w) (Q w) (V w) any_made closed (plug w others h.forms (Fin e h.st)) others fine (any_all _)) in
+          let higher : Higher w h.st.count (Some g) =
+          subst (Higher w h.st.count) is (first_higher w (plug w others h.forms (Fin e h.st)) h.st.count [] climbs) in
+          let left : length (frames_of g.forms f g.st.vars) + inner w g.forms others ≡ suc others =
+          frames_left w (P w) (Q w) (V w) g.forms others f g.st.vars ok.0 in
           let before : j ≤ h.st.count = saved.fits.waits in
-          let sounds : Each (SoundFrame w.script) (frames_of g.forms f g.st.vars) = frames_sound (frames_of g.forms f g.st.vars) (frames_ok w (P w) (Q w) (V w) g.forms others f g.st.vars ok.0 is_fun ok.1) in
-          saved_fits w.script f (suc j) g (rest_chained w others f h.forms e h.st g saved.follow saved.all_opened is) sounds (omega (arith, left)) higher.1 (omega arith) (omega (arith, before, higher.0))
+          let sounds : Each (SoundFrame w.script) (frames_of g.forms f g.st.vars) =
+          frames_sound (frames_of g.forms f g.st.vars) (frames_ok w (P w) (Q w) (V w) g.forms others f g.st.vars ok.0 is_fun ok.1) in
+          saved_fits w.script f (suc j) g (rest_chained w others f h.forms e h.st g saved.follow saved.all_opened is) sounds
+          (omega (arith, left)) higher.1 (omega arith) (omega (arith, before, higher.0))
 
     -- ---- where objects answer
 

@@ -1,7 +1,9 @@
 -- The values of a stack whose forms follow each other are those that the forms keep.
 use Rattle.std.proofs.Common.{◌≡◌, ℕ, zero, suc, ◌<◌, ◌≤◌, List, [], ◌∷◌, ◌++◌, length, Option, Some, None, refl, sym, subst, arith, ◌⊎◌, inl, inr}
 use Rattle.sky_base.specs.Val.{Val, Pairs, Desc, no_pairs, pair}
-use Rattle.sky_base.specs.Res.{Entry, parens_in, part_at, chain_first, chain_more, logic_at, prefix_part, star_wait, postfix_first, index_at, arg_at, call_open, exec_wait, set_part, add_part, put_index, put_value, return_part, just_part, arm_test, while_test, while_body, repeat_body, repeat_test, for_list, for_body, block_at, kept_of, opens}
+use Rattle.sky_base.specs.Res.{Entry, parens_in, part_at, chain_first, chain_more, logic_at, prefix_part, star_wait, postfix_first, index_at, arg_at}
+use Rattle.sky_base.specs.Res.{call_open, exec_wait, set_part, add_part, put_index, put_value, return_part, just_part, arm_test, while_test}
+use Rattle.sky_base.specs.Res.{while_body, repeat_body, repeat_test, for_list, for_body, block_at, kept_of, opens}
 use Rattle.sky_base.specs.Eval.{World, body_of, inside}
 use Rattle.sky_base.specs.Read.{Todo, Frame, todo_of, in_front, frame_of, frames_of}
 use Rattle.sky_law.specs.Nodes.{node_at}
@@ -89,15 +91,27 @@ module _ {N : Type 0} (w : World N) (P : Val N → Type 0) (Q : Desc N → Type 
   front_begins t vs f [] b = let none : [] ≡ b.first ∷ b.others = b.are in absurd cc
   front_begins t vs f (g ∷ gs) b =
       let same : g ≡ b.first = (let are : g ∷ gs ≡ b.first ∷ b.others = b.are in cc) in
-      record { first = record { fun = g.fun; vars = g.vars; stack = vs ++ g.stack; todo = t ∷ g.todo }; others = gs; are = refl; fun = subst (λ (x : Frame N). x.fun ≡ f) (sym same) b.fun }
+      record {
+        first = record { fun = g.fun; vars = g.vars; stack = vs ++ g.stack; todo = t ∷ g.todo };
+        others = gs;
+        are = refl;
+        fun =
+            subst (λ (x : Frame N). x.fun ≡ f) (sym same) b.fun;
+      }
 
   frames_begin : (fr : List (Entry N)) (f : List ℕ) (xs : Pairs N) → Begins f (frames_of fr f xs)
   frames_begin [] f xs = record { first = record { fun = f; vars = xs; stack = []; todo = [] }; others = []; are = refl; fun = refl }
   frames_begin (en ∷ fr) f xs = go (opens en) (frames_begin fr f xs)
     where
-      go : (o : Option (List ℕ × Pairs N)) → Begins f (frames_of fr f xs) → Begins f (frame_of o f (todo_of en) (kept_of en) (frames_of fr f xs) (λ g. frames_of fr g xs))
+      go : (o : Option (List ℕ × Pairs N)) → Begins f (frames_of fr f xs)
+          → Begins f (frame_of o f (todo_of en) (kept_of en) (frames_of fr f xs) (λ g. frames_of fr g xs))
       go None b = front_begins (todo_of en) (kept_of en) f (frames_of fr f xs) b
-      go (Some c) b = record { first = record { fun = f; vars = c.1; stack = kept_of en; todo = todo_of en ∷ [] }; others = frames_of fr c.0 xs; are = refl; fun = refl }
+      go (Some c) b = record {
+        first = record { fun = f; vars = c.1; stack = kept_of en; todo = todo_of en ∷ [] };
+        others = frames_of fr c.0 xs;
+        are = refl;
+        fun = refl;
+      }
 
   some_frames : (fr : List (Entry N)) (f : List ℕ) (xs : Pairs N) → 1 ≤ length (frames_of fr f xs)
   some_frames fr f xs =
@@ -106,7 +120,8 @@ module _ {N : Type 0} (w : World N) (P : Val N → Type 0) (Q : Desc N → Type 
       omega (arith, same)
 
   -- the function of the bottom frame
-  pub bottom_fun : (R : List ℕ → Type 0) (fr : List (Entry N)) (f : List ℕ) (xs : Pairs N) → ((g : Frame N) (gs : List (Frame N)) → frames_of fr f xs ≡ g ∷ gs → R g.fun) → R f
+  pub bottom_fun : (R : List ℕ → Type 0) (fr : List (Entry N)) (f : List ℕ) (xs : Pairs N)
+      → ((g : Frame N) (gs : List (Frame N)) → frames_of fr f xs ≡ g ∷ gs → R g.fun) → R f
   bottom_fun R fr f xs h = let b = frames_begin fr f xs in subst R b.fun (h b.first b.others b.are)
 
   split : (xs ys : List (Val N)) → Each P (xs ++ ys) → Each P xs × Each P ys
@@ -137,7 +152,8 @@ module _ {N : Type 0} (w : World N) (P : Val N → Type 0) (Q : Desc N → Type 
   above_fun outputs c X M h = absurd h
   above_fun no_step c X M h = absurd h
 
-  above_further : (r : Row) (o : Option (List ℕ × Pairs N)) (fr : List (Entry N)) → Above w.script at r o (fr ≡ []) (λ ms. Chained w.script at ms fr) → Further fr
+  above_further : (r : Row) (o : Option (List ℕ × Pairs N)) (fr : List (Entry N))
+      → Above w.script at r o (fr ≡ []) (λ ms. Chained w.script at ms fr) → Further fr
   above_further (part k ms) None fr h = inr (ms, h)
   above_further (turn m) None fr h = inr (m ∷ [], h)
   above_further star None fr h = inl h
@@ -156,13 +172,21 @@ module _ {N : Type 0} (w : World N) (P : Val N → Type 0) (Q : Desc N → Type 
 
   -- of a stack that is no higher than bodies may be open, and whose forms follow each other, P holds of the values: so it does of
   -- those that the forms keep, and V of the variables of the innermost body
-  pub forms_back : (fr : List (Entry N)) (d : ℕ) (f : List ℕ) (xs : Pairs N) → Further fr → Each Keeps (frames_of fr f xs) → length (frames_of fr f xs) ≤ suc d → FormsOk w P Q V d fr × V xs
+  pub forms_back : (fr : List (Entry N)) (d : ℕ) (f : List ℕ) (xs : Pairs N) → Further fr → Each Keeps (frames_of fr f xs)
+      → length (frames_of fr f xs) ≤ suc d → FormsOk w P Q V d fr × V xs
   forms_back [] d f xs link h le = (tt, h.0.0)
   forms_back (en ∷ fr) d f xs (inl e) h le = absurd (empty_not en fr e)
   forms_back (en ∷ fr) d f xs (inr (ms, c)) h le =
-      go (opens en) refl c.2 h le (λ k l. forms_back fr d f xs (above_further (row_at w.script at en) (opens en) fr c.2) k l) (λ g k l. forms_back fr (inside w en d) g xs (above_further (row_at w.script at en) (opens en) fr c.2) k l)
+      go (opens en) refl c.2 h le (λ k l. forms_back fr d f xs (above_further (row_at w.script at en) (opens en) fr c.2) k l)
+      (λ g k l. forms_back fr (inside w en d) g xs (above_further (row_at w.script at en) (opens en) fr c.2) k l)
     where
-      go : (o : Option (List ℕ × Pairs N)) → opens en ≡ o → Above w.script at (row_at w.script at en) o (fr ≡ []) (λ ms. Chained w.script at ms fr) → Each Keeps (frame_of o f (todo_of en) (kept_of en) (frames_of fr f xs) (λ g. frames_of fr g xs)) → length (frame_of o f (todo_of en) (kept_of en) (frames_of fr f xs) (λ g. frames_of fr g xs)) ≤ suc d → (Each Keeps (frames_of fr f xs) → length (frames_of fr f xs) ≤ suc d → FormsOk w P Q V d fr × V xs) → ((g : List ℕ) → Each Keeps (frames_of fr g xs) → length (frames_of fr g xs) ≤ suc (inside w en d) → FormsOk w P Q V (inside w en d) fr × V xs) → FormsOk w P Q V d (en ∷ fr) × V xs
+      go : (o : Option (List ℕ × Pairs N)) → opens en ≡ o
+          → Above w.script at (row_at w.script at en) o (fr ≡ []) (λ ms. Chained w.script at ms fr)
+          → Each Keeps (frame_of o f (todo_of en) (kept_of en) (frames_of fr f xs) (λ g. frames_of fr g xs))
+          → length (frame_of o f (todo_of en) (kept_of en) (frames_of fr f xs) (λ g. frames_of fr g xs)) ≤ suc d
+          → (Each Keeps (frames_of fr f xs) → length (frames_of fr f xs) ≤ suc d → FormsOk w P Q V d fr × V xs)
+          → ((g : List ℕ) → Each Keeps (frames_of fr g xs) → length (frames_of fr g xs) ≤ suc (inside w en d)
+          → FormsOk w P Q V (inside w en d) fr × V xs) → FormsOk w P Q V d (en ∷ fr) × V xs
       go None e a k l same above =
           let off = off_front (todo_of en) (kept_of en) (frames_of fr f xs) (some_frames fr f xs) k in
           let more = same off.1 (omega (arith, front_length (todo_of en) (kept_of en) (frames_of fr f xs), l)) in
@@ -171,5 +195,14 @@ module _ {N : Type 0} (w : World N) (P : Val N → Type 0) (Q : Desc N → Type 
           let some : 1 ≤ length (frames_of fr o.0 xs) = some_frames fr o.0 xs in
           let room : 0 < d = omega (arith, l, some) in
           let less : suc (inside w en d) ≡ d = inside_less en d o e room in
-          let more = above o.0 k.1 (omega (arith, l, less)) in
-          (((k.0.1, subst (λ x. OpenOk w P Q V d x) (sym e) (room, above_fun (row_at w.script at en) o (fr ≡ []) (λ ms. Chained w.script at ms fr) a, k.0.0)), more.0), more.1)
+          let more = above o.0 k.1 (omega (arith, l, less)) in (
+            (
+              (
+                k.0.1,
+                subst (λ x. OpenOk w P Q V d x) (sym e)
+                    (room, above_fun (row_at w.script at en) o (fr ≡ []) (λ ms. Chained w.script at ms fr) a, k.0.0),
+              ),
+              more.0,
+            ),
+            more.1,
+          )

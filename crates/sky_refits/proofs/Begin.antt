@@ -36,14 +36,17 @@ pub bind_none : (xs : List (List ℕ)) (ps : Pairs (List ℕ)) → bind xs no_va
 bind_none [] ps = refl
 bind_none (x ∷ xs) ps = refl
 
-body_bound : (w : World (List ℕ)) (o : Option Body) (b : Body) (c : Pairs (List ℕ)) (vs : Vals (List ℕ)) (p : Place) (st : St (List ℕ)) (run : Stms → ℕ → St (List ℕ) → Res (List ℕ)) → o ≡ Some b → in_body w o (bind b.params vs c) no_vals p st run ≡ in_body w o c vs p st run
+body_bound : (w : World (List ℕ)) (o : Option Body) (b : Body) (c : Pairs (List ℕ)) (vs : Vals (List ℕ)) (p : Place) (st : St (List ℕ))
+    (run : Stms → ℕ → St (List ℕ) → Res (List ℕ)) → o ≡ Some b → in_body w o (bind b.params vs c) no_vals p st run ≡ in_body w o c vs p st run
 body_bound w None b c vs p st run e = absurd cc
 body_bound w (Some x) b c vs p st run e =
     let same : b ≡ x = cc in
-    ap (λ (y : Body). in_body w (Some x) (bind y.params vs c) no_vals p st run) same ∙ ap (λ xs. run x.block x.node (record { vars = xs; count = st.count })) (bind_none x.params (bind x.params vs c))
+    ap (λ (y : Body). in_body w (Some x) (bind y.params vs c) no_vals p st run) same
+    ∙ ap (λ xs. run x.block x.node (record { vars = xs; count = st.count })) (bind_none x.params (bind x.params vs c))
 
 -- a call of a function with this body runs as one that captured all its variables and has no arguments
-bound_call : (w : World (List ℕ)) (b : Body) (f : List ℕ) (c : Pairs (List ℕ)) (vs : Vals (List ℕ)) → body_of f w.script ≡ Some b → body_at w bodies f (bind b.params vs c) no_vals nowhere start_st ≡ body_at w bodies f c vs nowhere start_st
+bound_call : (w : World (List ℕ)) (b : Body) (f : List ℕ) (c : Pairs (List ℕ)) (vs : Vals (List ℕ)) → body_of f w.script ≡ Some b
+    → body_at w bodies f (bind b.params vs c) no_vals nowhere start_st ≡ body_at w bodies f c vs nowhere start_st
 bound_call w b f c vs is = body_bound w (body_of f w.script) b c vs nowhere start_st _ is
 
 same_run : (r s : Run (List ℕ)) → Stand.run r ≡ Stand.run s → r ≡ s
@@ -52,9 +55,15 @@ same_run r s e = cc
 -- ---- the start of a body
 
 abbrev pub started : List ℕ → Pairs (List ℕ) → Vals (List ℕ) → Body → Run (List ℕ)
-started f c vs b = record { frames = record { fun = f; vars = bind b.params vs c; stack = []; todo = record { node = b.node; step = 0 } ∷ [] } ∷ []; count = 0; waits = 0 }
+started f c vs b = record {
+  frames = record { fun = f; vars = bind b.params vs c; stack = []; todo = record { node = b.node; step = 0 } ∷ [] }
+      ∷ [];
+  count = 0;
+  waits = 0;
+}
 
-module _ (w : World (List ℕ)) (sound : SoundWorld w) (f : List ℕ) (xs : Pairs (List ℕ)) (vars : SoundVars w.script xs) (is_fun : (f ≡ []) ⊎ IsFun w.script f) where
+module _ (w : World (List ℕ)) (sound : SoundWorld w) (f : List ℕ) (xs : Pairs (List ℕ)) (vars : SoundVars w.script xs)
+    (is_fun : (f ≡ []) ⊎ IsFun w.script f) where
   abbrev At : ℕ → Option Node
   At i = node_at w.script i
 
@@ -62,7 +71,8 @@ module _ (w : World (List ℕ)) (sound : SoundWorld w) (f : List ℕ) (xs : Pair
   whole = body_at w bodies f xs no_vals nowhere start_st
 
   fine : Fine w (P w) (Q w) (V w) any_made others whole
-  fine = fine_call w (P w) (Q w) (V w) any_made any_lit any_name (closed w sound) (written_any w.script) others f xs no_vals nowhere start_st tt (vars_in w xs vars) tt
+  fine = fine_call w (P w) (Q w) (V w) any_made any_lit any_name (closed w sound) (written_any w.script) others f xs no_vals nowhere start_st tt
+      (vars_in w xs vars) tt
 
   within : Within w 0 start_st
   within = (omega arith, omega arith)
@@ -71,24 +81,33 @@ module _ (w : World (List ℕ)) (sound : SoundWorld w) (f : List ℕ) (xs : Pair
   climbs = climbs_call w bodies f xs no_vals nowhere 0 start_st within
 
   makes : Each (SoundDesc w.script) (segment whole) × EndsSound w.script (first_end whole)
-  makes =
-      (made_fine w (P w) (Q w) (V w) any_made (closed w sound) whole others fine (any_all (segment whole)), ok_end w sound (first_end whole) (end_fine w (P w) (Q w) (V w) any_made (closed w sound) whole others fine (any_all (segment whole))))
+  makes = (
+    made_fine w (P w) (Q w) (V w) any_made (closed w sound) whole others fine (any_all (segment whole)),
+    ok_end w sound (first_end whole) (end_fine w (P w) (Q w) (V w) any_made (closed w sound) whole others fine (any_all (segment whole))),
+  )
 
   chained : (g : Halt (List ℕ)) → first_halt whole ≡ Some g → Chained w.script At (body_places (body_of f w.script)) g.forms
   chained g is =
-      subst (ChainedHalt w At (λ d. None) (body_places (body_of f w.script))) (halt_is (λ d. None) whole ∙ is) (chained_halt w At (λ d. None) (body_places (body_of f w.script)) whole 0 (linked_call w At bodies f xs no_vals nowhere start_st (has_script w.script)))
+      subst (ChainedHalt w At (λ d. None) (body_places (body_of f w.script))) (halt_is (λ d. None) whole ∙ is)
+      (chained_halt w At (λ d. None) (body_places (body_of f w.script)) whole 0
+      (linked_call w At bodies f xs no_vals nowhere start_st (has_script w.script)))
 
   fits : (g : Halt (List ℕ)) → first_halt whole ≡ Some g → FitsRun w.script (run_of_halt f 1 g)
   fits g is =
-      let ok : FirstHaltOk w (P w) (Q w) (V w) any_made (closed w sound) others (Some g) = subst (FirstHaltOk w (P w) (Q w) (V w) any_made (closed w sound) others) is (halt_fine w (P w) (Q w) (V w) any_made (closed w sound) whole others fine (any_all (segment whole))) in
+      let ok : FirstHaltOk w (P w) (Q w) (V w) any_made (closed w sound) others (Some g) =
+      subst (FirstHaltOk w (P w) (Q w) (V w) any_made (closed w sound) others) is
+      (halt_fine w (P w) (Q w) (V w) any_made (closed w sound) whole others fine (any_all (segment whole))) in
       let higher : Higher w 0 (Some g) = subst (Higher w 0) is (first_higher w whole 0 [] climbs) in
-      let left : length (frames_of g.forms f g.st.vars) + inner w g.forms others ≡ bodies = frames_left w (P w) (Q w) (V w) g.forms others f g.st.vars ok.0 in
-      let sounds : Each (SoundFrame w.script) (frames_of g.forms f g.st.vars) = frames_sound w sound (frames_of g.forms f g.st.vars) (frames_ok w (P w) (Q w) (V w) g.forms others f g.st.vars ok.0 is_fun ok.1) in
+      let left : length (frames_of g.forms f g.st.vars) + inner w g.forms others ≡ bodies =
+      frames_left w (P w) (Q w) (V w) g.forms others f g.st.vars ok.0 in
+      let sounds : Each (SoundFrame w.script) (frames_of g.forms f g.st.vars) =
+      frames_sound w sound (frames_of g.forms f g.st.vars) (frames_ok w (P w) (Q w) (V w) g.forms others f g.st.vars ok.0 is_fun ok.1) in
       saved_fits w.script f 1 g (chained g is) sounds (omega (arith, left)) higher.1 (omega arith) (omega (arith, higher.0))
 
 -- ---- a state that fits and is the start of a call
 
-module _ (w : World (List ℕ)) (sound : SoundWorld w) (r : Run (List ℕ)) (fit : FitsRun w.script r) (f : List ℕ) (c : Pairs (List ℕ)) (vs : Vals (List ℕ)) where
+module _ (w : World (List ℕ)) (sound : SoundWorld w) (r : Run (List ℕ)) (fit : FitsRun w.script r) (f : List ℕ) (c : Pairs (List ℕ))
+    (vs : Vals (List ℕ)) where
   module _ (b : Body) (is : body_of f w.script ≡ Some b) (start : Stand.run r ≡ Stand.run (started f c vs b)) where
     here : r ≡ started f c vs b
     here = same_run r (started f c vs b) start
@@ -102,20 +121,27 @@ module _ (w : World (List ℕ)) (sound : SoundWorld w) (r : Run (List ℕ)) (fit
     fits_body : (g : Halt (List ℕ)) → first_halt (body_at w bodies f c vs nowhere start_st) ≡ Some g → FitsRun w.script (run_of_halt f 1 g)
     fits_body g e = fits w sound f (bind b.params vs c) vars is_fun g (ap first_halt (bound_call w b f c vs is) ∙ e)
 
-    makes_body : Each (SoundDesc w.script) (segment (body_at w bodies f c vs nowhere start_st)) × EndsSound w.script (first_end (body_at w bodies f c vs nowhere start_st))
+    makes_body : Each (SoundDesc w.script) (segment (body_at w bodies f c vs nowhere start_st))
+        × EndsSound w.script (first_end (body_at w bodies f c vs nowhere start_st))
     makes_body =
-        subst (λ q. Each (SoundDesc w.script) (segment q) × EndsSound w.script (first_end q)) (bound_call w b f c vs is) (makes w sound f (bind b.params vs c) vars is_fun)
+        subst (λ q. Each (SoundDesc w.script) (segment q) × EndsSound w.script (first_end q)) (bound_call w b f c vs is)
+        (makes w sound f (bind b.params vs c) vars is_fun)
 
-  pub start_fits : StartsCall w.script f c vs (Stand.run r) → (g : Halt (List ℕ)) → first_halt (body_at w bodies f c vs nowhere start_st) ≡ Some g → FitsRun w.script (run_of_halt f 1 g)
+  pub start_fits : StartsCall w.script f c vs (Stand.run r) → (g : Halt (List ℕ)) → first_halt (body_at w bodies f c vs nowhere start_st)
+      ≡ Some g → FitsRun w.script (run_of_halt f 1 g)
   start_fits s = go (body_of f w.script) refl s
     where
-      go : (o : Option Body) → body_of f w.script ≡ o → StartsIn o f c vs (Stand.run r) → (g : Halt (List ℕ)) → first_halt (body_at w bodies f c vs nowhere start_st) ≡ Some g → FitsRun w.script (run_of_halt f 1 g)
+      go : (o : Option Body) → body_of f w.script ≡ o → StartsIn o f c vs (Stand.run r) → (g : Halt (List ℕ))
+          → first_halt (body_at w bodies f c vs nowhere start_st) ≡ Some g → FitsRun w.script (run_of_halt f 1 g)
       go None e h g is = absurd h
       go (Some b) e h g is = fits_body b e h g is
 
-  pub start_makes : StartsCall w.script f c vs (Stand.run r) → Each (SoundDesc w.script) (segment (body_at w bodies f c vs nowhere start_st)) × EndsSound w.script (first_end (body_at w bodies f c vs nowhere start_st))
+  pub start_makes : StartsCall w.script f c vs (Stand.run r) → Each (SoundDesc w.script) (segment (body_at w bodies f c vs nowhere start_st))
+      × EndsSound w.script (first_end (body_at w bodies f c vs nowhere start_st))
   start_makes s = go (body_of f w.script) refl s
     where
-      go : (o : Option Body) → body_of f w.script ≡ o → StartsIn o f c vs (Stand.run r) → Each (SoundDesc w.script) (segment (body_at w bodies f c vs nowhere start_st)) × EndsSound w.script (first_end (body_at w bodies f c vs nowhere start_st))
+      go : (o : Option Body) → body_of f w.script ≡ o → StartsIn o f c vs (Stand.run r)
+          → Each (SoundDesc w.script) (segment (body_at w bodies f c vs nowhere start_st))
+          × EndsSound w.script (first_end (body_at w bodies f c vs nowhere start_st))
       go None e h = absurd h
       go (Some b) e h = makes_body b e h

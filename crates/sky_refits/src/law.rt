@@ -1,6 +1,7 @@
 //! Laws of stacks that go on. Each is the contract of a function that does nothing.
 
-ghost use Rattle.sky_refits.specs.Laws.{AnsweredFitsAgain, AnsweredMakesSound, AnswersAreSound, StackFitsAgain, StackMakesSound, StartFitsAgain, StartMakesSound};
+ghost use Rattle.sky_refits.specs.Laws.{AnsweredFitsAgain, AnsweredMakesSound, AnswersAreSound, StackFitsAgain, StackMakesSound, StartFitsAgain};
+ghost use Rattle.sky_refits.specs.Laws.{StartMakesSound};
 
 /// Where what is read as data is sound, sound objects in answer to a wait give it a sound end.
 pub fn answers_are_sound()

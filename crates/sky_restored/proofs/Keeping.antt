@@ -1,5 +1,6 @@
 -- How many values a saved entry keeps.
-use Rattle.std.proofs.Common.{◌≡◌, ◌≢◌, ◌<◌, ◌≤◌, ◌+◌, ◌-◌, ℕ, zero, suc, List, [], ◌∷◌, length, reverse, Option, Some, None, refl, sym, ap, ◌∙◌, subst, arith}
+use Rattle.std.proofs.Common.{◌≡◌, ◌≢◌, ◌<◌, ◌≤◌, ◌+◌, ◌-◌, ℕ, zero, suc, List, [], ◌∷◌, length, reverse, Option, Some, None, refl, sym, ap, ◌∙◌}
+use Rattle.std.proofs.Common.{subst, arith}
 use Rattle.std.specs.Option.{option_and_then}
 use Rattle.sky_base.specs.Tree.{Place, Junction, Sign, SignAt, Form, Exp, Exps, Links, Ands, Steps, Stm, Stms, Arms, nodes}
 use Rattle.sky_base.specs.TreeView.{at, exp_view, exps_view, steps_view}
@@ -7,7 +8,9 @@ use Rattle.sky_base.specs.declared.tree.Expr.{Expr}
 use Rattle.sky_base.specs.declared.tree.Step.{Step}
 use Rattle.sky_law.specs.Opened.{next_part, times}
 use Rattle.sky_law.proofs.Lists.{some_is, none_some}
-use Rattle.sky_state.specs.Table.{keeps, on_by, past_part, past_link, past_and, past_arm, past_stm, past_sign, finished, in_index, in_call, spot_of, past_spot, part_row, link_row, and_row, sign_is, sign_row, spot_row, arm_row, ran_row, block_row, stm_row, exp_row, IsStep}
+use Rattle.sky_state.specs.Table.{keeps, on_by, past_part, past_link, past_and, past_arm, past_stm, past_sign, finished, in_index, in_call, spot_of}
+use Rattle.sky_state.specs.Table.{past_spot, part_row, link_row, and_row, sign_is, sign_row, spot_row, arm_row, ran_row, block_row, stm_row, exp_row}
+use Rattle.sky_state.specs.Table.{IsStep}
 use Rattle.sky_restored.specs.Kept.{kept_in_call, kept_after}
 
 -- ---- parts
@@ -20,15 +23,19 @@ times_on : (i : ℕ) (x y : ℕ × Exps) → on_by past_part i x ≡ Some y → 
 times_on zero x y e = some_is x y e
 times_on (suc i) x y e = go (on_by past_part i x) e (λ z d. times_on i x z d) refl
   where
-    go : (o : Option (ℕ × Exps)) → option_and_then past_part o ≡ Some y → ((z : ℕ × Exps) → on_by past_part i x ≡ Some z → times next_part i x ≡ z) → on_by past_part i x ≡ o → next_part (times next_part i x) ≡ y
+    go : (o : Option (ℕ × Exps)) → option_and_then past_part o ≡ Some y
+        → ((z : ℕ × Exps) → on_by past_part i x ≡ Some z → times next_part i x ≡ z) → on_by past_part i x ≡ o → next_part (times next_part i x)
+        ≡ y
     go None h k d = absurd (none_some y h)
     go (Some z) h k d = ap next_part (k z d) ∙ past_next z y h
 
 -- the place after i parts, where it is a step
-there : (o : Form) (i : ℕ) (x : ℕ × Exps) → IsStep (part_row o i (on_by past_part i x)) → part_row o i (on_by past_part i x) ≡ part_row o i (Some (times next_part i x))
+there : (o : Form) (i : ℕ) (x : ℕ × Exps) → IsStep (part_row o i (on_by past_part i x)) → part_row o i (on_by past_part i x)
+    ≡ part_row o i (Some (times next_part i x))
 there o i x s = go (on_by past_part i x) s (λ y d. times_on i x y d) refl
   where
-    go : (r : Option (ℕ × Exps)) → IsStep (part_row o i r) → ((y : ℕ × Exps) → on_by past_part i x ≡ Some y → times next_part i x ≡ y) → on_by past_part i x ≡ r → part_row o i r ≡ part_row o i (Some (times next_part i x))
+    go : (r : Option (ℕ × Exps)) → IsStep (part_row o i r) → ((y : ℕ × Exps) → on_by past_part i x ≡ Some y → times next_part i x ≡ y)
+        → on_by past_part i x ≡ r → part_row o i r ≡ part_row o i (Some (times next_part i x))
     go None h k d = absurd h
     go (Some y) h k d = ap (λ z. part_row o i (Some z)) (sym (k y d))
 
@@ -49,19 +56,24 @@ waits_one Form.has i m s = absurd s
 waits_one Form.range i m s = absurd s
 
 module _ (o : Form) (p : Place) (es : Exps) (n m r : ℕ) (xs : Exps) where
-  pub part_keeps : (k : ℕ) (e : Exp) (ys : Exps) → m ≡ n + 1 → times next_part (k - 1) (m, es) ≡ (r, xs) → xs ≡ Exps.exp e ys → 1 ≤ k → IsStep (exp_row (Exp.parts o p es) n k) → k - 1 ≡ keeps (exp_row (Exp.parts o p es) n k)
+  pub part_keeps : (k : ℕ) (e : Exp) (ys : Exps) → m ≡ n + 1 → times next_part (k - 1) (m, es) ≡ (r, xs) → xs ≡ Exps.exp e ys → 1 ≤ k
+      → IsStep (exp_row (Exp.parts o p es) n k) → k - 1 ≡ keeps (exp_row (Exp.parts o p es) n k)
   part_keeps zero e ys f t g h s = absurd s
   part_keeps (suc i) e ys f t g h s =
       let j : suc i - 1 ≡ i = omega arith in
-      let place : times next_part i (n + 1, es) ≡ (r, Exps.exp e ys) = ap (λ z. times next_part i (z, es)) (sym f) ∙ ap (λ z. times next_part z (m, es)) (sym j) ∙ t ∙ ap (λ z. (r, z)) g in
+      let place : times next_part i (n + 1, es) ≡ (r, Exps.exp e ys) = ap (λ z. times next_part i (z, es)) (sym f)
+      ∙ ap (λ z. times next_part z (m, es)) (sym j) ∙ t ∙ ap (λ z. (r, z)) g in
       j ∙ sym (ap keeps (there o i (n + 1, es) s) ∙ ap (λ z. keeps (part_row o i (Some z))) place)
 
-  pub all_keep : (k : ℕ) → m ≡ n + 1 → times next_part (k - 1) (m, es) ≡ (r, xs) → xs ≡ Exps.no_exps → 1 ≤ k → IsStep (exp_row (Exp.parts o p es) n k) → 1 ≡ keeps (exp_row (Exp.parts o p es) n k)
+  pub all_keep : (k : ℕ) → m ≡ n + 1 → times next_part (k - 1) (m, es) ≡ (r, xs) → xs ≡ Exps.no_exps → 1 ≤ k
+      → IsStep (exp_row (Exp.parts o p es) n k) → 1 ≡ keeps (exp_row (Exp.parts o p es) n k)
   all_keep zero f t g h s = absurd s
   all_keep (suc i) f t g h s =
       let j : suc i - 1 ≡ i = omega arith in
-      let place : times next_part i (n + 1, es) ≡ (r, Exps.no_exps) = ap (λ z. times next_part i (z, es)) (sym f) ∙ ap (λ z. times next_part z (m, es)) (sym j) ∙ t ∙ ap (λ z. (r, z)) g in
-      let row : part_row o i (on_by past_part i (n + 1, es)) ≡ part_row o i (Some (r, Exps.no_exps)) = there o i (n + 1, es) s ∙ ap (λ z. part_row o i (Some z)) place in
+      let place : times next_part i (n + 1, es) ≡ (r, Exps.no_exps) = ap (λ z. times next_part i (z, es)) (sym f)
+      ∙ ap (λ z. times next_part z (m, es)) (sym j) ∙ t ∙ ap (λ z. (r, z)) g in
+      let row : part_row o i (on_by past_part i (n + 1, es)) ≡ part_row o i (Some (r, Exps.no_exps)) = there o i (n + 1, es) s
+      ∙ ap (λ z. part_row o i (Some z)) place in
       sym (ap keeps row ∙ waits_one o i r (subst IsStep row s))
 
 -- ---- chains and signs
@@ -132,7 +144,9 @@ none_keeps : (i : ℕ) → keeps (spot_row (on_by past_spot i finished)) ≡ 0
 none_keeps zero = refl
 none_keeps (suc i) = ap (λ x. keeps (spot_row x)) (on_first past_spot i finished)
 
-call_keeps : (es : Exps) (m before i : ℕ) (p : Place) (ss : Steps) → ((r j : ℕ) → keeps (spot_row (on_by past_spot j (spot_of r ss))) ≡ kept_after ss j) → keeps (spot_row (on_by past_spot i (in_call m before es p ss))) ≡ kept_in_call before es i (λ j. kept_after ss j)
+call_keeps : (es : Exps) (m before i : ℕ) (p : Place) (ss : Steps)
+    → ((r j : ℕ) → keeps (spot_row (on_by past_spot j (spot_of r ss))) ≡ kept_after ss j)
+    → keeps (spot_row (on_by past_spot i (in_call m before es p ss))) ≡ kept_in_call before es i (λ j. kept_after ss j)
 call_keeps Exps.no_exps m b zero p ss more = refl
 call_keeps Exps.no_exps m b (suc i) p ss more = ap (λ x. keeps (spot_row x)) (on_first past_spot i (in_call m b Exps.no_exps p ss)) ∙ more m i
 call_keeps (Exps.exp e es) m b zero p ss more = refl
@@ -258,9 +272,11 @@ others_keep (Stm.repeat p b e) n (suc (suc (suc k))) h = refl
 
 -- ---- the first of some indices and calls
 
-pub at_index : (x : Step) (e : Expr) (l c : ℕ) (rest : List Step) (i : ℕ) → x ≡ Step.Index e l c → kept_after (steps_view (x ∷ rest)) i ≡ kept_after (Steps.index (exp_view e) (at l c) (steps_view rest)) i
+pub at_index : (x : Step) (e : Expr) (l c : ℕ) (rest : List Step) (i : ℕ) → x ≡ Step.Index e l c → kept_after (steps_view (x ∷ rest)) i
+    ≡ kept_after (Steps.index (exp_view e) (at l c) (steps_view rest)) i
 at_index x e l c rest i f = ap (λ y. kept_after (steps_view (y ∷ rest)) i) f
 
-pub at_call : (x : Step) (args : Exps) (es : List Expr) (l c : ℕ) (rest : List Step) (i : ℕ) → x ≡ Step.Call args l c → exps_view es ≡ args → kept_after (steps_view (x ∷ rest)) i ≡ kept_after (Steps.call (exps_view es) (at l c) (steps_view rest)) i
+pub at_call : (x : Step) (args : Exps) (es : List Expr) (l c : ℕ) (rest : List Step) (i : ℕ) → x ≡ Step.Call args l c → exps_view es ≡ args
+    → kept_after (steps_view (x ∷ rest)) i ≡ kept_after (Steps.call (exps_view es) (at l c) (steps_view rest)) i
 at_call x args es l c rest i f g =
     ap (λ y. kept_after (steps_view (y ∷ rest)) i) f ∙ ap (λ y. kept_after (Steps.call y (at l c) (steps_view rest)) i) (sym g)

@@ -1,12 +1,18 @@
 -- A form that is opened from what was saved of it is ready to go on.
-use Rattle.std.proofs.Common.{◌≡◌, ◌<◌, ◌≤◌, ◌+◌, ◌^◌, ℕ, zero, suc, List, [], ◌∷◌, length, reverse, Option, Some, None, pos, negsuc, refl, sym, ap, ◌∙◌, subst, arith}
+use Rattle.std.proofs.Common.{◌≡◌, ◌<◌, ◌≤◌, ◌+◌, ◌^◌, ℕ, zero, suc, List, [], ◌∷◌, length, reverse, Option, Some, None, pos, negsuc, refl, sym, ap}
+use Rattle.std.proofs.Common.{◌∙◌, subst, arith}
 use Rattle.std.proofs.lemmas.List.{length-reverse}
 use Rattle.std.specs.Option.{option_map, option_and_then}
 use Rattle.sky_base.specs.Val.{Val, Desc, null, truth, num, text, list, dict, fun, ref, vals_of}
-use Rattle.sky_base.specs.Tree.{Place, Junction, SignAt, Form, Exp, Exps, Links, Ands, Steps, Stm, Stms, Arms, Else, nodes, exps_nodes, stm_nodes, arms_nodes}
+use Rattle.sky_base.specs.Tree.{Place, Junction, SignAt, Form, Exp, Exps, Links, Ands, Steps, Stm, Stms, Arms, Else, nodes, exps_nodes, stm_nodes}
+use Rattle.sky_base.specs.Tree.{arms_nodes}
 use Rattle.sky_base.specs.Kept.{Kept}
-use Rattle.sky_base.specs.Res.{Entry, exec_wait, part_at, chain_more, logic_at, star_wait, index_at, arg_at, call_open, put_index, put_value, arm_test, for_list, for_body, block_at}
-use Rattle.sky_law.specs.Opened.{Node, exp_node, stm_node, block_node, Pos, finished, in_index, in_args, HasExp, HasExps, HasLinks, HasAnds, HasSteps, HasStm, HasStms, HasArms, HasElse, next_part, next_link, next_and, next_arm, next_stm, next_sign, enter_pos, next_pos, times, at_first, at_two, descs_of, exec_open, part_open, link_open, and_open, sign_open, pos_open, put_open, arm_open, each_open, for_open, opened_exp, opened_stm, opened}
+use Rattle.sky_base.specs.Res.{Entry, exec_wait, part_at, chain_more, logic_at, star_wait, index_at, arg_at, call_open, put_index, put_value}
+use Rattle.sky_base.specs.Res.{arm_test, for_list, for_body, block_at}
+use Rattle.sky_law.specs.Opened.{Node, exp_node, stm_node, block_node, Pos, finished, in_index, in_args, HasExp, HasExps, HasLinks, HasAnds, HasSteps}
+use Rattle.sky_law.specs.Opened.{HasStm, HasStms, HasArms, HasElse, next_part, next_link, next_and, next_arm, next_stm, next_sign, enter_pos}
+use Rattle.sky_law.specs.Opened.{next_pos, times, at_first, at_two, descs_of, exec_open, part_open, link_open, and_open, sign_open, pos_open}
+use Rattle.sky_law.specs.Opened.{put_open, arm_open, each_open, for_open, opened_exp, opened_stm, opened}
 use Rattle.sky_law.specs.Tasks.{Each}
 use Rattle.sky_law.proofs.Lists.{some_is, none_some}
 use Rattle.sky_numbers.specs.Standing.{HasNode}
@@ -68,7 +74,8 @@ module _ (at : ℕ → Option Node) where
 
   parts_ok : (i b : ℕ) (x : ℕ × Exps) → PartsOk b x → PartsOk (b + i) (times next_part i x)
   parts_ok zero b x h = subst (λ n. PartsOk n x) (omega arith) h
-  parts_ok (suc i) b x h = subst (λ n. PartsOk n (next_part (times next_part i x))) (omega arith) (part_ok (b + i) (times next_part i x) (parts_ok i b x h))
+  parts_ok (suc i) b x h = subst (λ n. PartsOk n (next_part (times next_part i x))) (omega arith)
+      (part_ok (b + i) (times next_part i x) (parts_ok i b x h))
 
   parts_start : (m : ℕ) (es : Exps) → HasExps at es m → PartsOk m (m, es)
   parts_start m Exps.no_exps h = tt
@@ -85,7 +92,8 @@ module _ (at : ℕ → Option Node) where
 
   links_ok : (i b : ℕ) (x : ℕ × Links) → LinksOk b x → LinksOk (b + i) (times next_link i x)
   links_ok zero b x h = subst (λ n. LinksOk n x) (omega arith) h
-  links_ok (suc i) b x h = subst (λ n. LinksOk n (next_link (times next_link i x))) (omega arith) (link_ok (b + i) (times next_link i x) (links_ok i b x h))
+  links_ok (suc i) b x h = subst (λ n. LinksOk n (next_link (times next_link i x))) (omega arith)
+      (link_ok (b + i) (times next_link i x) (links_ok i b x h))
 
   links_start : (m : ℕ) (ls : Links) → HasLinks at ls m → LinksOk m (m, ls)
   links_start m Links.no_links h = tt
@@ -126,14 +134,18 @@ module _ (at : ℕ → Option Node) where
   arms_start m (Arms.arm p e s arms) h = (omega arith, h)
 
   -- statements, as far as there are some
-  stms_ok : (i m r : ℕ) (b : Stms) (s : Stm) (more : Stms) → HasStms at b m → on_by past_stm i (m, b) ≡ Some (r, Stms.stm s more) → (m + i ≤ r) × HasStms at (Stms.stm s more) r × (times next_stm i (m, b) ≡ (r, Stms.stm s more))
+  stms_ok : (i m r : ℕ) (b : Stms) (s : Stm) (more : Stms) → HasStms at b m → on_by past_stm i (m, b) ≡ Some (r, Stms.stm s more) → (m + i ≤ r)
+      × HasStms at (Stms.stm s more) r × (times next_stm i (m, b) ≡ (r, Stms.stm s more))
   stms_ok zero m r b s more h e =
       let f : (m, b) ≡ (r, Stms.stm s more) = some_is (m, b) (r, Stms.stm s more) e in
       let g : m ≡ r = ap (λ (x : ℕ × Stms). x.0) f in
       (omega (arith, g), subst (λ (x : ℕ × Stms). HasStms at x.1 x.0) f h, f)
   stms_ok (suc i) m r b s more h e = go (on_by past_stm i (m, b)) refl e (λ n x xs d. stms_ok i m n b x xs h d)
     where
-      go : (o : Option (ℕ × Stms)) → on_by past_stm i (m, b) ≡ o → option_and_then past_stm o ≡ Some (r, Stms.stm s more) → ((n : ℕ) (x : Stm) (xs : Stms) → on_by past_stm i (m, b) ≡ Some (n, Stms.stm x xs) → (m + i ≤ n) × HasStms at (Stms.stm x xs) n × (times next_stm i (m, b) ≡ (n, Stms.stm x xs))) → (m + suc i ≤ r) × HasStms at (Stms.stm s more) r × (times next_stm (suc i) (m, b) ≡ (r, Stms.stm s more))
+      go : (o : Option (ℕ × Stms)) → on_by past_stm i (m, b) ≡ o → option_and_then past_stm o ≡ Some (r, Stms.stm s more)
+          → ((n : ℕ) (x : Stm) (xs : Stms) → on_by past_stm i (m, b) ≡ Some (n, Stms.stm x xs) → (m + i ≤ n) × HasStms at (Stms.stm x xs) n
+          × (times next_stm i (m, b) ≡ (n, Stms.stm x xs))) → (m + suc i ≤ r) × HasStms at (Stms.stm s more) r
+          × (times next_stm (suc i) (m, b) ≡ (r, Stms.stm s more))
       go None d q again = absurd (none_some (r, Stms.stm s more) q)
       go (Some (n, Stms.no_stms)) d q again = absurd (none_some (r, Stms.stm s more) q)
       go (Some (n, Stms.stm x xs)) d q again =
@@ -169,7 +181,8 @@ module _ (at : ℕ → Option Node) where
   exec_ready Form.has n vs en e = absurd (none_some en e)
   exec_ready Form.range n vs en e = absurd (none_some en e)
 
-  part_ready : (x : ℕ × Exps) (n k : ℕ) (o : Form) (p : Place) (vs : List Value) (en : En) → Each (Kept {N = List ℕ}) vs → PartsOk k x → part_open x n k o p vs ≡ Some en → R en
+  part_ready : (x : ℕ × Exps) (n k : ℕ) (o : Form) (p : Place) (vs : List Value) (en : En) → Each (Kept {N = List ℕ}) vs → PartsOk k x
+      → part_open x n k o p vs ≡ Some en → R en
   part_ready (m, Exps.no_exps) n k o p vs en v h e = exec_ready o n vs en e
   part_ready (m, Exps.exp y ys) n k o p vs en v h e =
       is_ready (part_at n k (m + nodes y) o p vs ys) en e (omega (arith, h.0, nodes_pos y), h.1.1, kept_vals vs v)
@@ -234,7 +247,8 @@ module _ (at : ℕ → Option Node) where
       let up = poses_ok i b x h in
       (next_has at (times next_pos i x) up.0, omega (arith, up.1, next_left (times next_pos i x)))
 
-  pos_ready : (x : Pos) (n k : ℕ) (vs : List Value) (c : Call (List ℕ)) (en : En) → k < 2 ^ 32 → PosOk (2 ^ 65) x → Each (Kept {N = List ℕ}) vs → KeptCall c → pos_open x n k vs c ≡ Some en → R en
+  pos_ready : (x : Pos) (n k : ℕ) (vs : List Value) (c : Call (List ℕ)) (en : En) → k < 2 ^ 32 → PosOk (2 ^ 65) x → Each (Kept {N = List ℕ}) vs
+      → KeptCall c → pos_open x n k vs c ≡ Some en → R en
   pos_ready finished n k vs c en b h v w e = absurd (none_some en e)
   pos_ready (in_index m y p ss) n k [] c en b h v w e = absurd (none_some en e)
   pos_ready (in_index m y p ss) n k (u ∷ []) c en b h v w e =
@@ -245,16 +259,19 @@ module _ (at : ℕ → Option Node) where
       is_ready (call_open n k m f xs ss) en e (subst (HasSteps at ss) (omega arith) h.0.1, w, omega (arith, b, h.1))
   pos_ready (in_args m (Exps.exp y ys) p ss) n k [] c en b h v w e = absurd (none_some en e)
   pos_ready (in_args m (Exps.exp y ys) p ss) n k (f ∷ vs) c en b h v w e =
-      is_ready (arg_at n k (m + nodes y) p f vs ys ss) en e (h.0.0.1, subst (HasSteps at ss) (omega arith) h.0.1, v.0, kept_vals vs v.1, omega (arith, b, h.1, nodes_pos y))
+      is_ready (arg_at n k (m + nodes y) p f vs ys ss) en e
+      (h.0.0.1, subst (HasSteps at ss) (omega arith) h.0.1, v.0, kept_vals vs v.1, omega (arith, b, h.1, nodes_pos y))
 
-  exp_ready : (x : Exp) (n k : ℕ) (vs : List Value) (c : Call (List ℕ)) (en : En) → HasExp at x n → FewSteps x → k < 2 ^ 32 → Each (Kept {N = List ℕ}) vs → KeptCall c → opened_exp x n k vs c ≡ Some en → R en
+  exp_ready : (x : Exp) (n k : ℕ) (vs : List Value) (c : Call (List ℕ)) (en : En) → HasExp at x n → FewSteps x → k < 2 ^ 32
+      → Each (Kept {N = List ℕ}) vs → KeptCall c → opened_exp x n k vs c ≡ Some en → R en
   exp_ready (Exp.literal l p) n k vs c en h f b v w e = absurd (none_some en e)
   exp_ready (Exp.name x p) n k vs c en h f b v w e = absurd (none_some en e)
   exp_ready (Exp.func x p) n k vs c en h f b v w e = absurd (none_some en e)
   exp_ready (Exp.parens x) n k vs c en h f b v w e = first_ready k vs _ en e tt
   exp_ready (Exp.parts o p es) n zero vs c en h f b v w e = absurd (none_some en e)
   exp_ready (Exp.parts o p es) n (suc i) vs c en h f b v w e =
-      part_ready (times next_part i (n + 1, es)) n (suc i) o p vs en v (parts_most i n (times next_part i (n + 1, es)) (parts_ok i (n + 1) (n + 1, es) (parts_start (n + 1) es h.1))) e
+      part_ready (times next_part i (n + 1, es)) n (suc i) o p vs en v
+      (parts_most i n (times next_part i (n + 1, es)) (parts_ok i (n + 1) (n + 1, es) (parts_start (n + 1) es h.1))) e
     where
       parts_most : (i n : ℕ) (x : ℕ × Exps) → PartsOk (n + 1 + i) x → PartsOk (suc i) x
       parts_most i n (m, Exps.no_exps) h = tt
@@ -262,7 +279,9 @@ module _ (at : ℕ → Option Node) where
   exp_ready (Exp.chain x ls) n zero vs c en h f b v w e = absurd (none_some en e)
   exp_ready (Exp.chain x ls) n (suc zero) vs c en h f b v w e = is_ready _ en e (omega (arith, nodes_pos x), h.2)
   exp_ready (Exp.chain x ls) n (suc (suc i)) vs c en h f b v w e =
-      link_ready (times next_link i (n + 1 + nodes x, ls)) n (suc (suc i)) vs en v (links_most (times next_link i (n + 1 + nodes x, ls)) (links_ok i (n + 1 + nodes x) (n + 1 + nodes x, ls) (links_start (n + 1 + nodes x) ls h.2))) e
+      link_ready (times next_link i (n + 1 + nodes x, ls)) n (suc (suc i)) vs en v
+      (links_most (times next_link i (n + 1 + nodes x, ls))
+      (links_ok i (n + 1 + nodes x) (n + 1 + nodes x, ls) (links_start (n + 1 + nodes x) ls h.2))) e
     where
       links_most : (z : ℕ × Links) → LinksOk (n + 1 + nodes x + i) z → LinksOk (suc (suc i)) z
       links_most (m, Links.no_links) h = tt
@@ -270,7 +289,9 @@ module _ (at : ℕ → Option Node) where
   exp_ready (Exp.logic j x ls) n zero vs c en h f b v w e = absurd (none_some en e)
   exp_ready (Exp.logic j x ls) n (suc zero) vs c en h f b v w e = is_ready _ en e (omega (arith, nodes_pos x), h.2)
   exp_ready (Exp.logic j x ls) n (suc (suc i)) vs c en h f b v w e =
-      and_ready (times next_and i (n + 1 + nodes x, ls)) n (suc (suc i)) j vs en (ands_most (times next_and i (n + 1 + nodes x, ls)) (ands_ok i (n + 1 + nodes x) (n + 1 + nodes x, ls) (ands_start (n + 1 + nodes x) ls h.2))) e
+      and_ready (times next_and i (n + 1 + nodes x, ls)) n (suc (suc i)) j vs en
+      (ands_most (times next_and i (n + 1 + nodes x, ls))
+      (ands_ok i (n + 1 + nodes x) (n + 1 + nodes x, ls) (ands_start (n + 1 + nodes x) ls h.2))) e
     where
       ands_most : (z : ℕ × Ands) → AndsOk (n + 1 + nodes x + i) z → AndsOk (suc (suc i)) z
       ands_most (m, Ands.no_ands) h = tt
@@ -278,16 +299,19 @@ module _ (at : ℕ → Option Node) where
   exp_ready (Exp.prefix ss x) n zero vs c en h f b v w e = absurd (none_some en e)
   exp_ready (Exp.prefix ss x) n (suc zero) vs c en h f b v w e = is_ready _ en e tt
   exp_ready (Exp.prefix ss x) n (suc (suc i)) vs c en h f b v w e =
-      sign_ready (times next_sign (suc i) (reverse ss)) n (suc (suc i)) vs en b (omega (arith, f, signs_fewer (suc i) (reverse ss), length-reverse ss)) e
+      sign_ready (times next_sign (suc i) (reverse ss)) n (suc (suc i)) vs en b
+      (omega (arith, f, signs_fewer (suc i) (reverse ss), length-reverse ss)) e
   exp_ready (Exp.postfix x ss) n zero vs c en h f b v w e = absurd (none_some en e)
   exp_ready (Exp.postfix x ss) n (suc zero) vs c en h f b v w e = is_ready _ en e (h.2, omega (arith, f))
   exp_ready (Exp.postfix x ss) n (suc (suc i)) vs c en h f b v w e =
       let m = n + 1 + nodes x in
-      pos_ready (times next_pos i (enter_pos m ss)) n (suc (suc i)) vs c en b (poses_ok i (2 ^ 65) (enter_pos m ss) (enter_has at m ss h.2, omega (arith, f, enter_left m ss))) v w e
+      pos_ready (times next_pos i (enter_pos m ss)) n (suc (suc i)) vs c en b
+      (poses_ok i (2 ^ 65) (enter_pos m ss) (enter_has at m ss h.2, omega (arith, f, enter_left m ss))) v w e
 
   -- ---- statements and blocks
 
-  put_ready : (x : List ℕ) (q p : Place) (i y : Exp) (n k : ℕ) (vs : List Value) (en : En) → HasExp at y (n + 1 + nodes i) → Each (Kept {N = List ℕ}) vs → put_open x q p i y n k vs ≡ Some en → R en
+  put_ready : (x : List ℕ) (q p : Place) (i y : Exp) (n k : ℕ) (vs : List Value) (en : En) → HasExp at y (n + 1 + nodes i)
+      → Each (Kept {N = List ℕ}) vs → put_open x q p i y n k vs ≡ Some en → R en
   put_ready x q p i y n zero vs en h v e = absurd (none_some en e)
   put_ready x q p i y n (suc zero) [] en h v e = is_ready (put_index n (n + 1 + nodes i) x q p y) en e h
   put_ready x q p i y n (suc zero) (u ∷ vs) en h v e = absurd (none_some en e)
@@ -301,7 +325,8 @@ module _ (at : ℕ → Option Node) where
   arm_ready (m, Arms.arm p y b more) n k i els en h g e =
       is_ready (arm_test n k (m + nodes y) i p b more els) en e (omega (arith, h.0, nodes_pos y), (h.1.1, h.1.2), h.1.3, g)
 
-  each_ready : (n m : ℕ) (p : Place) (x : List ℕ) (b : Stms) (vs : List Value) (en : En) → HasBlock at m b → Each (Kept {N = List ℕ}) vs → each_open n m p x b vs ≡ Some en → R en
+  each_ready : (n m : ℕ) (p : Place) (x : List ℕ) (b : Stms) (vs : List Value) (en : En) → HasBlock at m b → Each (Kept {N = List ℕ}) vs
+      → each_open n m p x b vs ≡ Some en → R en
   each_ready n m p x b (list us ∷ num (pos t) ∷ []) en h v e = is_ready (for_body n m t p x us b) en e (h, v.0)
   each_ready n m p x b [] en h v e = absurd (none_some en e)
   each_ready n m p x b (list us ∷ []) en h v e = absurd (none_some en e)
@@ -322,7 +347,8 @@ module _ (at : ℕ → Option Node) where
   each_ready n m p x b (fun f c ∷ vs) en h v e = absurd (none_some en e)
   each_ready n m p x b (ref d ∷ vs) en h v e = absurd (none_some en e)
 
-  for_ready : (p : Place) (x : List ℕ) (y : Exp) (b : Stms) (n k : ℕ) (vs : List Value) (en : En) → HasBlock at (n + 1 + nodes y) b → Each (Kept {N = List ℕ}) vs → for_open p x y b n k vs ≡ Some en → R en
+  for_ready : (p : Place) (x : List ℕ) (y : Exp) (b : Stms) (n k : ℕ) (vs : List Value) (en : En) → HasBlock at (n + 1 + nodes y) b
+      → Each (Kept {N = List ℕ}) vs → for_open p x y b n k vs ≡ Some en → R en
   for_ready p x y b n zero vs en h v e = absurd (none_some en e)
   for_ready p x y b n (suc zero) vs en h v e = is_ready (for_list n (n + 1 + nodes y) p x b) en e h
   for_ready p x y b n (suc (suc zero)) vs en h v e = each_ready n (n + 1 + nodes y) p x b vs en h v e
@@ -336,7 +362,8 @@ module _ (at : ℕ → Option Node) where
   stm_ready (Stm.leave p) n k vs en h v e = absurd (none_some en e)
   stm_ready (Stm.cases p arms els) n zero vs en h v e = absurd (none_some en e)
   stm_ready (Stm.cases p arms els) n (suc i) vs en h v e =
-      arm_ready (times next_arm i (n + 1, arms)) n (suc i) (n + 1 + arms_nodes arms) els en (arms_most (times next_arm i (n + 1, arms)) (arms_ok i (n + 1) (n + 1, arms) (arms_start (n + 1) arms h.1))) h.2 e
+      arm_ready (times next_arm i (n + 1, arms)) n (suc i) (n + 1 + arms_nodes arms) els en
+      (arms_most (times next_arm i (n + 1, arms)) (arms_ok i (n + 1) (n + 1, arms) (arms_start (n + 1) arms h.1))) h.2 e
     where
       arms_most : (z : ℕ × Arms) → ArmsOk (n + 1 + i) z → ArmsOk (suc i) z
       arms_most (m, Arms.no_arms) h = tt
@@ -346,7 +373,8 @@ module _ (at : ℕ → Option Node) where
   stm_ready (Stm.for p x y b) n k vs en h v e = for_ready p x y b n k vs en (h.2, h.3) v e
   stm_ready (Stm.just p y) n k vs en h v e = first_ready k vs _ en e tt
 
-  block_ready : (b : Stms) (n k : ℕ) (vs : List Value) (c : Call (List ℕ)) (en : En) → HasStms at b (n + 1) → IsStep (row (Some (block_node b)) n k) → opened (block_node b) n k vs c ≡ Some en → R en
+  block_ready : (b : Stms) (n k : ℕ) (vs : List Value) (c : Call (List ℕ)) (en : En) → HasStms at b (n + 1)
+      → IsStep (row (Some (block_node b)) n k) → opened (block_node b) n k vs c ≡ Some en → R en
   block_ready b n zero vs c en h s e = is_ready (block_at n 0 (n + 1) b) en e (omega arith, h)
   block_ready b n (suc i) vs c en h s e = go (on_by past_stm i (n + 1, b)) refl s
     where
@@ -356,11 +384,13 @@ module _ (at : ℕ → Option Node) where
       go (Some (m, Stms.stm x xs)) d g =
           let up = stms_ok i (n + 1) m b x xs h d in
           let is : times next_stm (suc i) (n + 1, b) ≡ (m + stm_nodes x, xs) = ap next_stm up.2 in
-          is_ready (block_at n (suc i) (m + stm_nodes x) xs) en (ap (λ (z : ℕ × Stms). Some (block_at n (suc i) z.0 z.1)) (sym is) ∙ e) (omega (arith, up.0), up.1.1)
+          is_ready (block_at n (suc i) (m + stm_nodes x) xs) en (ap (λ (z : ℕ × Stms). Some (block_at n (suc i) z.0 z.1)) (sym is) ∙ e)
+          (omega (arith, up.0), up.1.1)
 
   -- a form that is opened at a step which the table has is ready, where the values that it keeps, and the caller's variables, keep
   -- the limits
-  pub node_ready : (t : Node) (n k : ℕ) (vs : List Value) (c : Call (List ℕ)) (en : En) → HasNode at t n → Few t → k < 2 ^ 32 → Each (Kept {N = List ℕ}) vs → KeptCall c → IsStep (row (Some t) n k) → opened t n k vs c ≡ Some en → R en
+  pub node_ready : (t : Node) (n k : ℕ) (vs : List Value) (c : Call (List ℕ)) (en : En) → HasNode at t n → Few t → k < 2 ^ 32
+      → Each (Kept {N = List ℕ}) vs → KeptCall c → IsStep (row (Some t) n k) → opened t n k vs c ≡ Some en → R en
   node_ready (exp_node x) n k vs c en h f b v w s e = exp_ready x n k vs c en h f b v w e
   node_ready (stm_node x) n k vs c en h f b v w s e = stm_ready x n k vs en h v e
   node_ready (block_node x) n k vs c en h f b v w s e = block_ready x n k vs c en h.1 s e

@@ -4,7 +4,9 @@ use Rattle.std.proofs.Math.Seq.{drop-append_seam}
 use Rattle.std.specs.Option.{option_and_then}
 use Rattle.sky_base.specs.Val.{Val, Pairs}
 use Rattle.sky_base.specs.Tree.{Script}
-use Rattle.sky_base.specs.Res.{Entry, parens_in, part_at, chain_first, chain_more, logic_at, prefix_part, star_wait, postfix_first, index_at, arg_at, call_open, exec_wait, set_part, add_part, put_index, put_value, return_part, just_part, arm_test, while_test, while_body, repeat_body, repeat_test, for_list, for_body, block_at, node_of, step_of, kept_of, opens}
+use Rattle.sky_base.specs.Res.{Entry, parens_in, part_at, chain_first, chain_more, logic_at, prefix_part, star_wait, postfix_first, index_at, arg_at}
+use Rattle.sky_base.specs.Res.{call_open, exec_wait, set_part, add_part, put_index, put_value, return_part, just_part, arm_test, while_test}
+use Rattle.sky_base.specs.Res.{while_body, repeat_body, repeat_test, for_list, for_body, block_at, node_of, step_of, kept_of, opens}
 use Rattle.sky_base.specs.Eval.{body_of}
 use Rattle.sky_base.specs.Read.{Todo, Frame, joined, todo_of, in_front, frame_of, frames_of}
 use Rattle.sky_law.specs.Opened.{Node, opened, Opened}
@@ -33,7 +35,8 @@ module _ {N : Type 0} (sc : Script) where
   abbrev AllKeep : List (Entry N) → Type 0
   AllKeep fr = Each (λ en. length (kept_of en) ≡ keeps (row_at sc (At sc) en)) fr
 
-  above_keep : (r : Row) (o : Call N) (fr : List (Entry N)) → Above {N = N} sc (At sc) r o (fr ≡ []) (λ ms. Chained sc (At sc) ms fr) → ((ms : List ℕ) → Chained sc (At sc) ms fr → AllKeep fr) → AllKeep fr
+  above_keep : (r : Row) (o : Call N) (fr : List (Entry N)) → Above {N = N} sc (At sc) r o (fr ≡ []) (λ ms. Chained sc (At sc) ms fr)
+      → ((ms : List ℕ) → Chained sc (At sc) ms fr → AllKeep fr) → AllKeep fr
   above_keep (part k ms) None fr h again = again ms h
   above_keep (part k ms) (Some c) fr h again = absurd h
   above_keep (turn m) None fr h again = again (m ∷ []) h
@@ -62,7 +65,8 @@ module _ {N : Type 0} (sc : Script) where
   above_is [] f xs ys = refl
   above_is (en ∷ fr) f xs ys = go (opens en) (above_is fr f xs ys)
     where
-      go : (c : Call N) → call_above ys (frames_of fr f xs) ≡ Some (f, ys) → call_above ys (frame_of c f (todo_of en) (kept_of en) (frames_of fr f xs) (λ g. frames_of fr g xs)) ≡ Some (f, ys)
+      go : (c : Call N) → call_above ys (frames_of fr f xs) ≡ Some (f, ys)
+          → call_above ys (frame_of c f (todo_of en) (kept_of en) (frames_of fr f xs) (λ g. frames_of fr g xs)) ≡ Some (f, ys)
       go None h = front_call ys (todo_of en) (kept_of en) (frames_of fr f xs) ∙ h
       go (Some c) h = refl
 
@@ -95,29 +99,37 @@ module _ {N : Type 0} (sc : Script) where
   form_is en o = ap (option_and_then (λ n. opened n (node_of en) (step_of en) (kept_of en) (opens en))) o.1 ∙ o.2
 
   -- a form in front of the others of its frame
-  front_formed : (en : Entry N) (fr : List (Entry N)) (fs : List (Frame N)) → opens en ≡ None → Opened (At sc) en → length (kept_of en) ≡ keeps (row_at sc (At sc) en) → Closed fs → frames_forms sc fs ≡ Some fr → frames_forms sc (in_front (todo_of en) (kept_of en) fs) ≡ Some (en ∷ fr)
+  front_formed : (en : Entry N) (fr : List (Entry N)) (fs : List (Frame N)) → opens en ≡ None → Opened (At sc) en → length (kept_of en)
+      ≡ keeps (row_at sc (At sc) en) → Closed fs → frames_forms sc fs ≡ Some fr → frames_forms sc (in_front (todo_of en) (kept_of en) fs)
+      ≡ Some (en ∷ fr)
   front_formed en fr [] e o k c h = absurd c
   front_formed en fr (g ∷ gs) e o k c h =
       let t = todo_of en in
       let vs = kept_of en in
       let up = call_above g.vars gs in
-      let one : form_at sc t (own sc t (vs ++ g.stack)) (call_last up g.todo) ≡ Some en = ap (λ ws. form_at sc t ws (call_last up g.todo)) (own_is t vs g.stack k) ∙ ap (form_at sc t vs) (c ∙ sym e) ∙ form_is en o in
-      ap (λ x. joined x (todo_forms sc up g.todo (others sc t (vs ++ g.stack)) (frames_forms sc gs))) one ∙ ap (λ ws. joined (Some en) (todo_forms sc up g.todo ws (frames_forms sc gs))) (others_are t vs g.stack k) ∙ ap (joined (Some en)) h
+      let one : form_at sc t (own sc t (vs ++ g.stack)) (call_last up g.todo) ≡ Some en =
+      ap (λ ws. form_at sc t ws (call_last up g.todo)) (own_is t vs g.stack k) ∙ ap (form_at sc t vs) (c ∙ sym e) ∙ form_is en o in
+      ap (λ x. joined x (todo_forms sc up g.todo (others sc t (vs ++ g.stack)) (frames_forms sc gs))) one
+      ∙ ap (λ ws. joined (Some en) (todo_forms sc up g.todo ws (frames_forms sc gs))) (others_are t vs g.stack k) ∙ ap (joined (Some en)) h
 
   -- a call, under the frames of its body
-  call_formed : (en : Entry N) (f : List ℕ) (c : List ℕ × Pairs N) (fr : List (Entry N)) (fs : List (Frame N)) → opens en ≡ Some c → Opened (At sc) en → length (kept_of en) ≡ keeps (row_at sc (At sc) en) → call_above c.1 fs ≡ Some c → frames_forms sc fs ≡ Some fr → frames_forms sc (record { fun = f; vars = c.1; stack = kept_of en; todo = todo_of en ∷ [] } ∷ fs) ≡ Some (en ∷ fr)
+  call_formed : (en : Entry N) (f : List ℕ) (c : List ℕ × Pairs N) (fr : List (Entry N)) (fs : List (Frame N)) → opens en ≡ Some c
+      → Opened (At sc) en → length (kept_of en) ≡ keeps (row_at sc (At sc) en) → call_above c.1 fs ≡ Some c → frames_forms sc fs ≡ Some fr
+      → frames_forms sc (record { fun = f; vars = c.1; stack = kept_of en; todo = todo_of en ∷ [] } ∷ fs) ≡ Some (en ∷ fr)
   call_formed en f c fr fs e o k up h =
       let t = todo_of en in
       let vs = kept_of en in
       let all : own sc t vs ≡ vs = ap (own sc t) (sym (append-nil vs)) ∙ own_is t vs [] k in
-      let one : form_at sc t (own sc t vs) (call_above c.1 fs) ≡ Some en = ap (λ ws. form_at sc t ws (call_above c.1 fs)) all ∙ ap (form_at sc t vs) (up ∙ sym e) ∙ form_is en o in
+      let one : form_at sc t (own sc t vs) (call_above c.1 fs) ≡ Some en = ap (λ ws. form_at sc t ws (call_above c.1 fs)) all
+      ∙ ap (form_at sc t vs) (up ∙ sym e) ∙ form_is en o in
       ap (λ x. joined x (frames_forms sc fs)) one ∙ ap (joined (Some en)) h
 
   restored : (fr : List (Entry N)) (f : List ℕ) (xs : Pairs N) → AllOpened (At sc) fr → AllKeep fr → frames_forms sc (frames_of fr f xs) ≡ Some fr
   restored [] f xs o k = refl
   restored (en ∷ fr) f xs o k = go (opens en) refl (λ g. restored fr g xs o.1 k.1)
     where
-      go : (c : Call N) → opens en ≡ c → ((g : List ℕ) → frames_forms sc (frames_of fr g xs) ≡ Some fr) → frames_forms sc (frame_of c f (todo_of en) (kept_of en) (frames_of fr f xs) (λ g. frames_of fr g xs)) ≡ Some (en ∷ fr)
+      go : (c : Call N) → opens en ≡ c → ((g : List ℕ) → frames_forms sc (frames_of fr g xs) ≡ Some fr)
+          → frames_forms sc (frame_of c f (todo_of en) (kept_of en) (frames_of fr f xs) (λ g. frames_of fr g xs)) ≡ Some (en ∷ fr)
       go None e again = front_formed en fr (frames_of fr f xs) e o.0 k.0 (closed fr f xs) (again f)
       go (Some c) e again = call_formed en f c fr (frames_of fr c.0 xs) e o.0 k.0 (above_is fr c.0 xs c.1) (again c.0)
 
@@ -140,7 +152,8 @@ module _ {N : Type 0} (sc : Script) where
   top_is [] f xs = refl
   top_is (en ∷ fr) f xs = go (opens en) (λ g. top_is fr g xs)
     where
-      go : (c : Call N) → ((g : List ℕ) → top_vars (frames_of fr g xs) ≡ Some xs) → top_vars (frame_of c f (todo_of en) (kept_of en) (frames_of fr f xs) (λ g. frames_of fr g xs)) ≡ Some xs
+      go : (c : Call N) → ((g : List ℕ) → top_vars (frames_of fr g xs) ≡ Some xs)
+          → top_vars (frame_of c f (todo_of en) (kept_of en) (frames_of fr f xs) (λ g. frames_of fr g xs)) ≡ Some xs
       go None again = front_vars (todo_of en) (kept_of en) (frames_of fr f xs) ∙ again f
       go (Some c) again = more_vars (record { fun = f; vars = c.1; stack = kept_of en; todo = todo_of en ∷ [] }) (frames_of fr c.0 xs) xs (again c.0)
 
@@ -186,9 +199,11 @@ frames_many : (fr : List (Entry (List ℕ))) (f : List ℕ) (xs : Pairs (List �
 frames_many [] f xs = refl
 frames_many (en ∷ fr) f xs = go (opens en) (λ g. frames_many fr g xs) ∙ ap suc (sym (open_one en fr))
   where
-    go : (c : Call (List ℕ)) → ((g : List ℕ) → length (frames_of fr g xs) ≡ suc (config.opened fr)) → length (frame_of c f (todo_of en) (kept_of en) (frames_of fr f xs) (λ g. frames_of fr g xs)) ≡ suc (more_open c (config.opened fr))
+    go : (c : Call (List ℕ)) → ((g : List ℕ) → length (frames_of fr g xs) ≡ suc (config.opened fr))
+        → length (frame_of c f (todo_of en) (kept_of en) (frames_of fr f xs) (λ g. frames_of fr g xs)) ≡ suc (more_open c (config.opened fr))
     go None again = front_length (todo_of en) (kept_of en) (frames_of fr f xs) ∙ again f
     go (Some c) again = ap suc (again c.0)
 
-pub formed_opened : (sc : Script) (ps f : List ℕ) (xs : Pairs (List ℕ)) (fs : List (Frame (List ℕ))) (g : Formed sc ps f xs fs) → length fs ≡ suc (config.opened g.forms)
+pub formed_opened : (sc : Script) (ps f : List ℕ) (xs : Pairs (List ℕ)) (fs : List (Frame (List ℕ))) (g : Formed sc ps f xs fs) → length fs
+    ≡ suc (config.opened g.forms)
 formed_opened sc ps f xs fs g = ap length (sym g.frames) ∙ frames_many g.forms f xs

@@ -1,5 +1,6 @@
 -- One entry more, and one frame more.
-use Rattle.std.proofs.Common.{◌≡◌, ◌≤◌, ◌-◌, ℕ, zero, suc, ◌+◌, List, [], ◌∷◌, ◌++◌, length, take, drop, Option, Some, None, IsSome, IfSome, slice_get, refl, sym, ap, ◌∙◌, subst, arith, append-nil, append_assoc}
+use Rattle.std.proofs.Common.{◌≡◌, ◌≤◌, ◌-◌, ℕ, zero, suc, ◌+◌, List, [], ◌∷◌, ◌++◌, length, take, drop, Option, Some, None, IsSome, IfSome}
+use Rattle.std.proofs.Common.{slice_get, refl, sym, ap, ◌∙◌, subst, arith, append-nil, append_assoc}
 use Rattle.std.proofs.lemmas.List.{length-drop}
 use Rattle.std.specs.Option.{option_map, option_and_then}
 use Rattle.sky_base.specs.Val.{Val, Pairs, no_pairs, pair}
@@ -31,7 +32,8 @@ both_some None r h = absurd cc
 both_some (Some x) None h = absurd cc
 both_some (Some x) (Some xs) h = (refl, refl)
 
-pub one_more : (old new : List Form) (o : Option Form) (r : Option (List Form)) → option_map (λ en. old ++ en ∷ []) o ≡ Some new → after_these old (joined o r) ≡ after_these new r
+pub one_more : (old new : List Form) (o : Option Form) (r : Option (List Form)) → option_map (λ en. old ++ en ∷ []) o ≡ Some new
+    → after_these old (joined o r) ≡ after_these new r
 one_more old new None r h = absurd cc
 one_more old new (Some en) None h = refl
 one_more old new (Some en) (Some fr) h =
@@ -46,11 +48,13 @@ none_behind es all e = sym e ∙ ap Some (append-nil es)
 
 module _ (sc : Script) where
   -- the forms of a frame are there where those with more behind them are
-  pub frame_some : (c : Call (List ℕ)) (ts : List Todo) (vs : List (Val (List ℕ))) (more : Option (List Form)) → IsSome (todo_forms sc c ts vs more) → IsSome (todo_forms sc c ts vs (Some []))
+  pub frame_some : (c : Call (List ℕ)) (ts : List Todo) (vs : List (Val (List ℕ))) (more : Option (List Form))
+      → IsSome (todo_forms sc c ts vs more) → IsSome (todo_forms sc c ts vs (Some []))
   frame_some c [] vs more h = refl
   frame_some c (t ∷ ts) vs more h =
       let both = both_some (form_at sc t (own sc t vs) (call_last c ts)) (todo_forms sc c ts (others sc t vs) more) h in
-      go (form_at sc t (own sc t vs) (call_last c ts)) both.0 (todo_forms sc c ts (others sc t vs) (Some [])) (frame_some c ts (others sc t vs) more both.1)
+      go (form_at sc t (own sc t vs) (call_last c ts)) both.0 (todo_forms sc c ts (others sc t vs) (Some []))
+      (frame_some c ts (others sc t vs) more both.1)
     where
       go : (o : Option Form) → IsSome o → (r : Option (List Form)) → IsSome r → IsSome (joined o r)
       go None h r g = absurd cc
@@ -92,7 +96,8 @@ stack_drop (suc n) [] = refl
 stack_drop (suc n) (v ∷ vs) = stack_drop n vs
 
 -- the first entry's values are there, and the others are as many as the further entries keep
-pub enough : (sc : Script) (t : Todo) (ts : List Todo) (vs us : List Value) → length vs ≡ kept_in_all sc (t ∷ ts) → stack_view us ≡ others sc t (stack_view vs) → (keeps (row_of sc t) ≤ length vs) × (length us ≡ kept_in_all sc ts)
+pub enough : (sc : Script) (t : Todo) (ts : List Todo) (vs us : List Value) → length vs ≡ kept_in_all sc (t ∷ ts) → stack_view us
+    ≡ others sc t (stack_view vs) → (keeps (row_of sc t) ≤ length vs) × (length us ≡ kept_in_all sc ts)
 enough sc t ts vs us e f =
     let n = keeps (row_of sc t) in
     let more : kept_in_all sc (t ∷ ts) ≡ n + kept_in_all sc ts = kept_more sc t ts in
@@ -107,7 +112,8 @@ top_at (g ∷ []) f e = let h : f ≡ g = cc in ap (λ (x : code.Frame). Some x.
 top_at (g ∷ h ∷ fs) f e =
     let z : length (g ∷ h ∷ fs) - 1 ≡ suc (length (h ∷ fs) - 1) = omega arith in top_at (h ∷ fs) f (e ∙ ap (λ n. slice_get (g ∷ h ∷ fs) n) z)
 
-pub top_kept : (sc : Script) (fs : List code.Frame) (xs : Pairs (List ℕ)) → Each (FitsFrame sc) (frames_view fs) → top_vars (frames_view fs) ≡ Some xs → KeptPairs xs
+pub top_kept : (sc : Script) (fs : List code.Frame) (xs : Pairs (List ℕ)) → Each (FitsFrame sc) (frames_view fs) → top_vars (frames_view fs)
+    ≡ Some xs → KeptPairs xs
 top_kept sc [] xs h e = absurd cc
 top_kept sc (f ∷ []) xs h e = let g : f.vars ≡ xs = cc in subst KeptPairs g (vars_kept sc f.vars h.0.vars)
 top_kept sc (f ∷ g ∷ fs) xs h e = top_kept sc (g ∷ fs) xs h.1 e
@@ -121,22 +127,26 @@ module _ (sc : Script) (t : Todo) (x : Node) (here : node_at sc t.node ≡ Some 
   pub step_is : IsStep (row_of sc t) → IsStep (row (Some x) t.node t.step)
   step_is s = subst IsStep row_is s
 
-  pub count_is : (k : ℕ) → IsStep (row_of sc t) → (IsStep (row (Some x) t.node t.step) → k ≡ keeps (row (Some x) t.node t.step)) → k ≡ keeps (row_of sc t)
+  pub count_is : (k : ℕ) → IsStep (row_of sc t) → (IsStep (row (Some x) t.node t.step) → k ≡ keeps (row (Some x) t.node t.step)) → k
+      ≡ keeps (row_of sc t)
   count_is k s h = h (step_is s) ∙ ap keeps (sym row_is)
 
   pub form_is : (vs us : List (Val (List ℕ))) (c : Call (List ℕ)) → us ≡ vs → form_at sc t vs c ≡ opened x t.node t.step us c
   form_is vs us c e = ap (option_and_then (λ n. opened n t.node t.step vs c)) here ∙ ap (λ ws. opened x t.node t.step ws c) (sym e)
 
-pub own_are : (sc : Script) (t : Todo) (k : ℕ) (vs us : List Value) → us ≡ take k vs → k ≡ keeps (row_of sc t) → stack_view us ≡ own sc t (stack_view vs)
+pub own_are : (sc : Script) (t : Todo) (k : ℕ) (vs us : List Value) → us ≡ take k vs → k ≡ keeps (row_of sc t) → stack_view us
+    ≡ own sc t (stack_view vs)
 own_are sc t k vs us e h = ap stack_view e ∙ stack_take k vs ∙ ap (λ n. take n (stack_view vs)) h
 
-pub others_are : (sc : Script) (t : Todo) (k : ℕ) (vs us : List Value) → us ≡ drop k vs → k ≡ keeps (row_of sc t) → stack_view us ≡ others sc t (stack_view vs)
+pub others_are : (sc : Script) (t : Todo) (k : ℕ) (vs us : List Value) → us ≡ drop k vs → k ≡ keeps (row_of sc t) → stack_view us
+    ≡ others sc t (stack_view vs)
 others_are sc t k vs us e h = ap stack_view e ∙ stack_drop k vs ∙ ap (λ n. drop n (stack_view vs)) h
 
 pub own_kept : (sc : Script) (t : Todo) (vs us : List (Val (List ℕ))) → us ≡ own sc t vs → Each (Kept {N = List ℕ}) vs → Each (Kept {N = List ℕ}) us
 own_kept sc t vs us e h = subst (Each (Kept {N = List ℕ})) (sym e) (each_take (Kept {N = List ℕ}) (keeps (row_of sc t)) vs h)
 
-pub others_kept : (sc : Script) (t : Todo) (vs us : List (Val (List ℕ))) → us ≡ others sc t vs → Each (Kept {N = List ℕ}) vs → Each (Kept {N = List ℕ}) us
+pub others_kept : (sc : Script) (t : Todo) (vs us : List (Val (List ℕ))) → us ≡ others sc t vs → Each (Kept {N = List ℕ}) vs
+    → Each (Kept {N = List ℕ}) us
 others_kept sc t vs us e h = subst (Each (Kept {N = List ℕ})) (sym e) (each_drop (Kept {N = List ℕ}) (keeps (row_of sc t)) vs h)
 
 pub caller_kept : (o : Option Caller) → IfSome o (λ c. KeptPairs c.vars.now) → KeptCall (call_of o)

@@ -67,7 +67,8 @@ fn parts_keep(
     step: u32,
 ) -> usize
     requires { HasExp (λ i. node_at code.now i) (Exp.parts (form_view form) (at line col) (rest_view parts)) number }
-    ensures { IsStep (exp_row (Exp.parts (form_view form) (at line col) (rest_view parts.entry)) number step) → result ≡ table.keeps (exp_row (Exp.parts (form_view form) (at line col) (rest_view parts.entry)) number step) }
+    ensures { IsStep (exp_row (Exp.parts (form_view form) (at line col) (rest_view parts.entry)) number step) → result
+        ≡ table.keeps (exp_row (Exp.parts (form_view form) (at line col) (rest_view parts.entry)) number step) }
 {
     if step == 0 {
         return 0;

@@ -58,7 +58,8 @@ pub fn restore<'a>(
     requires nodes { nodes.now ≡ code.now }
     requires fits { FitsRun code.now (record { frames = run.now.frames; count = run.now.count; waits = run.now.waits }) }
     requires waits { 0 < run.now.waits }
-    ensures forms { IfOk result (λ r. (ps : List ℕ) (f : List ℕ) (xs : Pairs) (g : Formed code.now ps f xs run.now.frames) → forms r.entries.items ≡ g.forms) }
+    ensures forms { IfOk result (λ r. (ps : List ℕ) (f : List ℕ) (xs : Pairs) (g : Formed code.now ps f xs run.now.frames)
+        → forms r.entries.items ≡ g.forms) }
     ensures vars { IfOk result (λ r. (ps : List ℕ) (f : List ℕ) (xs : Pairs) → Formed code.now ps f xs run.now.frames → r.state.vars ≡ xs) }
     ensures count { IfOk result (λ r. r.state.count ≡ run.now.count) }
     ensures ready { IfOk result (λ r. AllReady code.now r.entries.items) }
@@ -108,7 +109,9 @@ fn open_frame<'a>(
     requires ready { AllReady code.now entries.old.items }
     requires fits { FitsFrame code.now (frame_view frame.now) }
     requires opens { IsSome (todo_forms code.now (call_above frame.now.vars (frames_view above.now)) frame.now.todo frame.now.stack (Some [])) }
-    ensures forms { IfOk result (λ _. (more : Option (List Form)) → after_these (forms entries.old.items) (todo_forms code.now (call_above frame.now.vars (frames_view above.now)) frame.now.todo frame.now.stack more) ≡ after_these (forms entries.new.items) more) }
+    ensures forms { IfOk result (λ _. (more : Option (List Form))
+        → after_these (forms entries.old.items) (todo_forms code.now (call_above frame.now.vars (frames_view above.now)) frame.now.todo
+        frame.now.stack more) ≡ after_these (forms entries.new.items) more) }
     ensures ready { IfOk result (λ _. AllReady code.now entries.new.items) }
 {
     let mut values = frame.stack.as_slice();
@@ -156,7 +159,9 @@ fn open_todo<'a, 'b>(
     requires kept { Each Kept (stack_view values.now) }
     requires caller { IfSome call (λ c. KeptPairs c.vars.now) }
     requires opens { IsSome (form_at code.now (todo_view todo.now) (own code.now (todo_view todo.now) (stack_view values.now)) (call_of call)) }
-    ensures form { IfOk result (λ _. option_map (λ en. forms entries.old.items ++ en ∷ []) (form_at code.now (todo_view todo.now) (own code.now (todo_view todo.now) (stack_view values.now)) (call_of call.entry)) ≡ Some (forms entries.new.items)) }
+    ensures form { IfOk result (λ _. option_map (λ en. forms entries.old.items ++ en ∷ [])
+        (form_at code.now (todo_view todo.now) (own code.now (todo_view todo.now) (stack_view values.now)) (call_of call.entry))
+        ≡ Some (forms entries.new.items)) }
     ensures rest { IfOk result (λ vs. stack_view vs.now ≡ others code.now (todo_view todo.now) (stack_view values.now)) }
     ensures ready { IfOk result (λ _. AllReady code.now entries.new.items) }
 {

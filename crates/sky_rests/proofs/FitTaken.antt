@@ -2,9 +2,12 @@
 use Rattle.std.proofs.Common.{◌≡◌, ℕ, ◌+◌, List, [], ◌∷◌, Option, Some, None, pos, subst}
 use Rattle.sky_base.specs.Val.{Val, Vals, Pairs, list, num}
 use Rattle.sky_base.specs.Tree.{Place, Form, Exp, Exps, Links, Ands, Stm, Stms, Arms, Else, Script, nodes, arms_nodes}
-use Rattle.sky_base.specs.Res.{Entry, parens_in, part_at, chain_first, chain_more, logic_at, prefix_part, star_wait, postfix_first, index_at, arg_at, call_open, exec_wait, set_part, add_part, put_index, put_value, return_part, just_part, arm_test, while_test, while_body, repeat_body, repeat_test, for_list, for_body, block_at, kept_of, opens}
+use Rattle.sky_base.specs.Res.{Entry, parens_in, part_at, chain_first, chain_more, logic_at, prefix_part, star_wait, postfix_first, index_at, arg_at}
+use Rattle.sky_base.specs.Res.{call_open, exec_wait, set_part, add_part, put_index, put_value, return_part, just_part, arm_test, while_test}
+use Rattle.sky_base.specs.Res.{while_body, repeat_body, repeat_test, for_list, for_body, block_at, kept_of, opens}
 use Rattle.sky_base.specs.Eval.{body_of}
-use Rattle.sky_law.specs.Opened.{Node, exp_node, stm_node, block_node, next_part, next_arm, Pos, finished, in_index, in_args, enter_pos, times, exec_open, part_open, link_open, and_open, pos_open, arm_open, opened, Opened}
+use Rattle.sky_law.specs.Opened.{Node, exp_node, stm_node, block_node, next_part, next_arm, Pos, finished, in_index, in_args, enter_pos, times}
+use Rattle.sky_law.specs.Opened.{exec_open, part_open, link_open, and_open, pos_open, arm_open, opened, Opened}
 use Rattle.sky_law.specs.Nodes.{node_at}
 use Rattle.sky_state.specs.Table.{Row, part, turn, star, outputs, open_call, no_step, row}
 use Rattle.sky_state.specs.Chained.{body_places, row_at, KeptBy, Above, Chained, AllOpened}
@@ -113,7 +116,8 @@ module _ {N : Type 0} (sc : Script) where
   fit_taken (en ∷ []) ps c o = (taken_in en o.0 c.1, tt)
   fit_taken (en ∷ x ∷ fr) ps c o = (taken_in en o.0 c.1, go (row_at sc (AtIn sc) en) (opens en) c.2 (λ ms k. fit_taken (x ∷ fr) ms k o.1))
     where
-      go : (r : Row) (y : Option (List ℕ × Pairs N)) → Above sc (AtIn sc) r y ((x ∷ fr) ≡ []) (λ ms. Chained sc (AtIn sc) ms (x ∷ fr)) → ((ms : List ℕ) → Chained sc (AtIn sc) ms (x ∷ fr) → AllTaken (x ∷ fr)) → AllTaken (x ∷ fr)
+      go : (r : Row) (y : Option (List ℕ × Pairs N)) → Above sc (AtIn sc) r y ((x ∷ fr) ≡ []) (λ ms. Chained sc (AtIn sc) ms (x ∷ fr))
+          → ((ms : List ℕ) → Chained sc (AtIn sc) ms (x ∷ fr) → AllTaken (x ∷ fr)) → AllTaken (x ∷ fr)
       go (part k ms) None h up = up ms h
       go (part k ms) (Some c) h up = absurd h
       go (turn m) None h up = up (m ∷ []) h

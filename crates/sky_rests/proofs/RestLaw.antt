@@ -1,6 +1,7 @@
 -- From forms under way that follow each other as a saved stack does, each opened by what is saved of it, a run goes on with such
 -- forms at each of its waits.
-use Rattle.std.proofs.Common.{◌≡◌, ℕ, zero, suc, ◌+◌, inl, inr, ◌⊎◌, ⊎_elim, List, [], ◌∷◌, ◌++◌, reverse, Option, Some, None, refl, sym, ap, ◌∙◌, subst}
+use Rattle.std.proofs.Common.{◌≡◌, ℕ, zero, suc, ◌+◌, inl, inr, ◌⊎◌, ⊎_elim, List, [], ◌∷◌, ◌++◌, reverse, Option, Some, None, refl, sym, ap, ◌∙◌}
+use Rattle.std.proofs.Common.{subst}
 use Rattle.sky_base.specs.Val.{Pairs}
 use Rattle.sky_base.specs.Tree.{Place, Sign, SignAt, Form, Exp, Exps, Links, Ands, Stm, Stms, Arms, Else, nodes, block_nodes, arms_nodes}
 use Rattle.sky_base.specs.Res.{End, St, Entry, Res, Fin, Tell, Ask, node_of, step_of, kept_of, opens}
@@ -12,10 +13,14 @@ use Rattle.sky_law.specs.Tasks.{In}
 use Rattle.sky_code.proofs.Bodies.{own_exp}
 use Rattle.sky_numbers.specs.Standing.{HasNode}
 use Rattle.sky_numbers.proofs.Inside.{stands}
-use Rattle.sky_state.specs.Table.{Row, part, turn, star, outputs, open_call, no_step, on_by, past_part, past_link, past_and, past_arm, past_stm, past_sign, Spot, finished, in_index, in_call, spot_of, past_spot, parts_row, part_row, link_row, and_row, sign_is, sign_row, spot_row, exp_row, arm_row, arm_blocks, else_block, stm_row, stm_places, ran_row, block_row, row, places, IsStep}
+use Rattle.sky_state.specs.Table.{Row, part, turn, star, outputs, open_call, no_step, on_by, past_part, past_link, past_and, past_arm, past_stm}
+use Rattle.sky_state.specs.Table.{past_sign, Spot, finished, in_index, in_call, spot_of, past_spot, parts_row, part_row, link_row, and_row, sign_is}
+use Rattle.sky_state.specs.Table.{sign_row, spot_row, exp_row, arm_row, arm_blocks, else_block, stm_row, stm_places, ran_row, block_row, row, places}
+use Rattle.sky_state.specs.Table.{IsStep}
 use Rattle.sky_state.specs.Chained.{body_places, row_at, KeptBy, Above, Chained, AllOpened}
 use Rattle.sky_state.proofs.LinkLaw.{block_of_body, Linked, linked_then}
-use Rattle.sky_rests.proofs.AfterLaw.{PartsAt, LinksAt, AndsAt, ArmsAt, StmsAt, SpotAt, part_has, link_has, and_has, arm_has, stm_has, spot_at, spot_has, past_has, HoldsArms, AfterLinked, form_goes}
+use Rattle.sky_rests.proofs.AfterLaw.{PartsAt, LinksAt, AndsAt, ArmsAt, StmsAt, SpotAt, part_has, link_has, and_has, arm_has, stm_has, spot_at}
+use Rattle.sky_rests.proofs.AfterLaw.{spot_has, past_has, HoldsArms, AfterLinked, form_goes}
 
 -- ---- the nodes on which a form stands hold the blocks of each `if` among them
 
@@ -27,7 +32,8 @@ module _ (at : ℕ → Option Node) where
   none_holds n p arms els i here x j = absurd i
 
   one_holds : (m : ℕ) → NoStm m → HoldsArms at (m ∷ [])
-  one_holds m apart n p arms els (inl e) here x j = absurd (apart (Stm.cases p arms els) (subst (λ i. at i ≡ Some (stm_node (Stm.cases p arms els))) e here))
+  one_holds m apart n p arms els (inl e) here x j =
+      absurd (apart (Stm.cases p arms els) (subst (λ i. at i ≡ Some (stm_node (Stm.cases p arms els))) e here))
   one_holds m apart n p arms els (inr i) here x j = absurd i
 
   exp_no : (e : Exp) (m : ℕ) → HasExp at e m → NoStm m
@@ -60,7 +66,8 @@ module _ (at : ℕ → Option Node) where
   parts_hold Form.has i = none_holds
   parts_hold Form.range i = none_holds
 
-  part_holds : (o : Form) (i : ℕ) (x y : ℕ × Exps) (z : Option (ℕ × Exps)) → on_by past_part i x ≡ z → PartsAt at x → HoldsArms at (places (part_row o i z))
+  part_holds : (o : Form) (i : ℕ) (x y : ℕ × Exps) (z : Option (ℕ × Exps)) → on_by past_part i x ≡ z → PartsAt at x
+      → HoldsArms at (places (part_row o i z))
   part_holds o i x y None e h = none_holds
   part_holds o i x y (Some (m, Exps.no_exps)) e h = parts_hold o i
   part_holds o i x y (Some (m, Exps.exp a es)) e h =
@@ -177,19 +184,26 @@ module _ (at : ℕ → Option Node) where
   in_either x (z ∷ xs) ys (inl e) = inl (inl e)
   in_either x (z ∷ xs) ys (inr i) = ⊎_elim (λ j. inl (inr j)) (λ j. inr j) (in_either x xs ys i)
 
-  cases_hold : (q : Place) (arms : Arms) (els : Else) (m : ℕ) → HasStm at (Stm.cases q arms els) m → HoldsArms at (stm_places m (Stm.cases q arms els))
+  cases_hold : (q : Place) (arms : Arms) (els : Else) (m : ℕ) → HasStm at (Stm.cases q arms els) m
+      → HoldsArms at (stm_places m (Stm.cases q arms els))
   cases_hold q arms els m h n p arms' els' (inl is) here x j = inr (blocks (same (sym (sym (ap at is) ∙ here) ∙ h.0)) j)
     where
       same : Some (stm_node (Stm.cases p arms' els')) ≡ Some (stm_node (Stm.cases q arms els)) → (arms' ≡ arms) × (els' ≡ els)
       same e = (cc, cc)
 
-      blocks : (arms' ≡ arms) × (els' ≡ els) → In x (arm_blocks (n + 1) arms' ++ else_block (n + 1 + arms_nodes arms') els') → In x (arm_blocks (m + 1) arms ++ else_block (m + 1 + arms_nodes arms) els)
+      blocks : (arms' ≡ arms) × (els' ≡ els) → In x (arm_blocks (n + 1) arms' ++ else_block (n + 1 + arms_nodes arms') els')
+          → In x (arm_blocks (m + 1) arms ++ else_block (m + 1 + arms_nodes arms) els)
       blocks s i =
-          subst (λ k. In x (arm_blocks (k + 1) arms ++ else_block (k + 1 + arms_nodes arms) els)) is (subst (λ e. In x (arm_blocks (n + 1) arms ++ else_block (n + 1 + arms_nodes arms) e)) s.1 (subst (λ a. In x (arm_blocks (n + 1) a ++ else_block (n + 1 + arms_nodes a) els')) s.0 i))
+          subst (λ k. In x (arm_blocks (k + 1) arms ++ else_block (k + 1 + arms_nodes arms) els)) is
+          (subst (λ e. In x (arm_blocks (n + 1) arms ++ else_block (n + 1 + arms_nodes arms) e)) s.1
+          (subst (λ a. In x (arm_blocks (n + 1) a ++ else_block (n + 1 + arms_nodes a) els')) s.0 i))
   cases_hold q arms els m h n p arms' els' (inr i) here x j =
-      absurd (⊎_elim (λ k. arms_no (m + 1) arms h.1 n k (Stm.cases p arms' els') here) (λ k. else_no (m + 1 + arms_nodes arms) els h.2 n k (Stm.cases p arms' els') here) (in_either n (arm_blocks (m + 1) arms) (else_block (m + 1 + arms_nodes arms) els) i))
+      absurd (⊎_elim (λ k. arms_no (m + 1) arms h.1 n k (Stm.cases p arms' els') here)
+      (λ k. else_no (m + 1 + arms_nodes arms) els h.2 n k (Stm.cases p arms' els') here)
+      (in_either n (arm_blocks (m + 1) arms) (else_block (m + 1 + arms_nodes arms) els) i))
 
-  alone : (a : Stm) (m : ℕ) → at m ≡ Some (stm_node a) → ((p : Place) (arms : Arms) (els : Else) → a ≡ Stm.cases p arms els → ⊥) → HoldsArms at (m ∷ [])
+  alone : (a : Stm) (m : ℕ) → at m ≡ Some (stm_node a) → ((p : Place) (arms : Arms) (els : Else) → a ≡ Stm.cases p arms els → ⊥)
+      → HoldsArms at (m ∷ [])
   alone a m h other n p arms els (inl is) here x j = absurd (other p arms els (same (sym h ∙ sym (ap at is) ∙ here)))
     where
       same : Some (stm_node a) ≡ Some (stm_node (Stm.cases p arms els)) → a ≡ Stm.cases p arms els
@@ -246,7 +260,8 @@ module _ {N : Type 0} (w : World N) where
     pub chained : Chain nodes fr
     pub other : (gr : List (Entry N)) → Chain nodes gr → Above w.script At r o (gr ≡ []) (λ ms. Chain ms gr)
 
-  further : (r : Row) (o : Option (List ℕ × Pairs N)) (fr : List (Entry N)) → HoldsArms At (places r) → (fr ≡ [] → ⊥) → Above w.script At r o (fr ≡ []) (λ ms. Chain ms fr) → Further r o fr
+  further : (r : Row) (o : Option (List ℕ × Pairs N)) (fr : List (Entry N)) → HoldsArms At (places r) → (fr ≡ [] → ⊥)
+      → Above w.script At r o (fr ≡ []) (λ ms. Chain ms fr) → Further r o fr
   further (part k ms) None fr hold some h = record { nodes = ms; hold = hold; chained = h; other = λ gr g. g }
   further (part k ms) (Some c) fr hold some h = absurd h
   further (turn m) None fr hold some h = record { nodes = m ∷ []; hold = hold; chained = h; other = λ gr g. g }
@@ -273,21 +288,26 @@ module _ {N : Type 0} (w : World N) where
   -- a form goes on linked, whatever end its part has
   goes : (d : ℕ) (en : Entry N) (fr : List (Entry N)) (ps : List ℕ) → HoldsArms At ps → Chain ps (en ∷ fr) → Opened At en → AfterLinked w d ps en
   goes d en fr ps hold c (t, here, is) =
-      form_goes w d (opens en) t (node_of en) (step_of en) here (kept_of en) (subst (λ x. IsStep (row x (node_of en) (step_of en))) here (is_step (row_at w.script At en) (opens en) fr c.2)) (subst (λ x. KeptBy w.script At (row x (node_of en) (step_of en)) (kept_of en)) here c.1) en is ps c.0 hold
+      form_goes w d (opens en) t (node_of en) (step_of en) here (kept_of en)
+      (subst (λ x. IsStep (row x (node_of en) (step_of en))) here (is_step (row_at w.script At en) (opens en) fr c.2))
+      (subst (λ x. KeptBy w.script At (row x (node_of en) (step_of en)) (kept_of en)) here c.1) en is ps c.0 hold
 
   holds_at : (en : Entry N) → Opened At en → HoldsArms At (places (row_at w.script At en))
   holds_at en (t, here, is) =
-      subst (λ x. HoldsArms At (places (row x (node_of en) (step_of en)))) (sym here) (row_holds At t (node_of en) (step_of en) (stands w.script (node_of en) t here))
+      subst (λ x. HoldsArms At (places (row x (node_of en) (step_of en)))) (sym here)
+      (row_holds At t (node_of en) (step_of en) (stands w.script (node_of en) t here))
 
   some_more : (x : Entry N) (fr : List (Entry N)) → (x ∷ fr) ≡ [] → ⊥
   some_more x fr e = cc
 
-  rest_linked : (d : ℕ) (fr : List (Entry N)) (ps : List ℕ) → HoldsArms At ps → Chain ps fr → AllOpened At fr → (e : End N) (st : St N) → Linked w At ps (plug w d fr (Fin e st))
+  rest_linked : (d : ℕ) (fr : List (Entry N)) (ps : List ℕ) → HoldsArms At ps → Chain ps fr → AllOpened At fr → (e : End N) (st : St N)
+      → Linked w At ps (plug w d fr (Fin e st))
   rest_linked d [] ps hold c o e st = absurd c
   rest_linked d (en ∷ []) ps hold c o e st = goes d en [] ps hold c o.0 e st
   rest_linked d (en ∷ x ∷ fr) ps hold c o e st =
       let up = further (row_at w.script At en) (opens en) (x ∷ fr) (holds_at en o.0) (some_more x fr) c.2 in
-      linked_then w At ps up.nodes (plug w (inside w en d) (x ∷ fr) (Fin e st)) en (after w (body_at w d) en) (λ gr g. (c.0, c.1, up.other gr g)) (rest_linked (inside w en d) (x ∷ fr) up.nodes up.hold up.chained o.1 e st) (goes d en (x ∷ fr) ps hold c o.0)
+      linked_then w At ps up.nodes (plug w (inside w en d) (x ∷ fr) (Fin e st)) en (after w (body_at w d) en) (λ gr g. (c.0, c.1, up.other gr g))
+      (rest_linked (inside w en d) (x ∷ fr) up.nodes up.hold up.chained o.1 e st) (goes d en (x ∷ fr) ps hold c o.0)
 
   at_halt : (ps : List ℕ) (r : Res N) (h : Halt N) → Linked w At ps r → first_halt r ≡ Some h → Chain ps h.forms
   at_halt ps (Fin e st) h l is = absurd cc
@@ -295,6 +315,9 @@ module _ {N : Type 0} (w : World N) where
   at_halt ps (Ask q fr st k) h l is = let same : fr ≡ h.forms = cc in subst (Chain ps) same l.0
 
   -- from the block of a body on
-  pub rest_chained : (d : ℕ) (f : List ℕ) (fr : List (Entry N)) (e : End N) (st : St N) (h : Halt N) → Chain (body_places (body_of f w.script)) fr → AllOpened At fr → first_halt (plug w d fr (Fin e st)) ≡ Some h → Chain (body_places (body_of f w.script)) h.forms
+  pub rest_chained : (d : ℕ) (f : List ℕ) (fr : List (Entry N)) (e : End N) (st : St N) (h : Halt N)
+      → Chain (body_places (body_of f w.script)) fr → AllOpened At fr → first_halt (plug w d fr (Fin e st)) ≡ Some h
+      → Chain (body_places (body_of f w.script)) h.forms
   rest_chained d f fr e st h c o is =
-      at_halt (body_places (body_of f w.script)) (plug w d fr (Fin e st)) h (rest_linked d fr (body_places (body_of f w.script)) (body_holds f) c o e st) is
+      at_halt (body_places (body_of f w.script)) (plug w d fr (Fin e st)) h
+      (rest_linked d fr (body_places (body_of f w.script)) (body_holds f) c o e st) is

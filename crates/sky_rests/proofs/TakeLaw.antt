@@ -1,10 +1,20 @@
 -- At each wait of a run, and of what is left of one, a `for` under way has taken no more elements than its list has.
-use Rattle.std.proofs.Common.{◌≡◌, ℕ, zero, suc, ◌+◌, ◌≤◌, Bool, true, false, List, [], ◌∷◌, ◌++◌, map, length, reverse, Option, Some, None, Ok, Err, nat_lt, nat_eq, ◌&&◌, pos, negsuc, subst, arith}
+use Rattle.std.proofs.Common.{◌≡◌, ℕ, zero, suc, ◌+◌, ◌≤◌, Bool, true, false, List, [], ◌∷◌, ◌++◌, map, length, reverse, Option, Some, None, Ok, Err}
+use Rattle.std.proofs.Common.{nat_lt, nat_eq, ◌&&◌, pos, negsuc, subst, arith}
 use Rattle.sky_base.specs.Val.{Val, Vals, Pairs, Desc, null, truth, num, text, list, dict, fun, ref, no_vals, val, no_pairs, count, vals_of, refs_to}
 use Rattle.sky_base.specs.Op.{Answer, index, find, negated, opposite, len, keys, has, range, limited, set_at, grown, dict_from}
-use Rattle.sky_base.specs.Tree.{Place, nowhere, Junction, Sign, SignAt, Form, Exp, Exps, Links, Ands, Steps, Stm, Stms, Arms, Else, FunDef, nodes, stm_nodes, block_nodes, arms_nodes}
-use Rattle.sky_base.specs.Res.{visits, Object, End, St, Entry, parens_in, part_at, chain_first, chain_more, logic_at, prefix_part, star_wait, postfix_first, index_at, arg_at, call_open, exec_wait, set_part, add_part, put_index, put_value, return_part, just_part, arm_test, while_test, while_body, repeat_body, repeat_test, for_list, for_body, block_at, Wait, one_of, all_of, Res, Fin, Tell, Ask, then_do, on_got, on_goes, with_vars, on_body, gives, counted, visited, visit, answer, tell_all}
-use Rattle.sky_base.specs.Eval.{left, go_while, go_repeat, eval_block, after, inside, plug, World, find_fun, is_one_of, Body, body_of, bind, set_var, lit_val, named, closed, oper, outputs, truth_of, decide, joins, add_to, put_in, turns, repeats, each, each_of, with_one, with_two, with_three, ask, wait_end, spawn_if, spawn_fun, spawn_list, spawned, outputs_if, outputs_count, outputs_of, exec_ask, input_if, input_of, formed, deref, signed, signs, call_if, call_fun, called, enter, eval, eval_parts, eval_links, eval_ands, eval_steps, eval_args, eval_stm, eval_stms, eval_arms, eval_else, in_body, body_at}
+use Rattle.sky_base.specs.Tree.{Place, nowhere, Junction, Sign, SignAt, Form, Exp, Exps, Links, Ands, Steps, Stm, Stms, Arms, Else, FunDef, nodes}
+use Rattle.sky_base.specs.Tree.{stm_nodes, block_nodes, arms_nodes}
+use Rattle.sky_base.specs.Res.{visits, Object, End, St, Entry, parens_in, part_at, chain_first, chain_more, logic_at, prefix_part, star_wait}
+use Rattle.sky_base.specs.Res.{postfix_first, index_at, arg_at, call_open, exec_wait, set_part, add_part, put_index, put_value, return_part}
+use Rattle.sky_base.specs.Res.{just_part, arm_test, while_test, while_body, repeat_body, repeat_test, for_list, for_body, block_at, Wait, one_of}
+use Rattle.sky_base.specs.Res.{all_of, Res, Fin, Tell, Ask, then_do, on_got, on_goes, with_vars, on_body, gives, counted, visited, visit, answer}
+use Rattle.sky_base.specs.Res.{tell_all}
+use Rattle.sky_base.specs.Eval.{left, go_while, go_repeat, eval_block, after, inside, plug, World, find_fun, is_one_of, Body, body_of, bind, set_var}
+use Rattle.sky_base.specs.Eval.{lit_val, named, closed, oper, outputs, truth_of, decide, joins, add_to, put_in, turns, repeats, each, each_of}
+use Rattle.sky_base.specs.Eval.{with_one, with_two, with_three, ask, wait_end, spawn_if, spawn_fun, spawn_list, spawned, outputs_if, outputs_count}
+use Rattle.sky_base.specs.Eval.{outputs_of, exec_ask, input_if, input_of, formed, deref, signed, signs, call_if, call_fun, called, enter, eval}
+use Rattle.sky_base.specs.Eval.{eval_parts, eval_links, eval_ands, eval_steps, eval_args, eval_stm, eval_stms, eval_arms, eval_else, in_body, body_at}
 use Rattle.sky_base.specs.Read.{Halt, first_halt}
 use Rattle.sky_rests.specs.Taken.{TakenIn, AllTaken}
 
@@ -14,7 +24,8 @@ module _ {N : Type 0} (w : World N) where
   Takes (Tell d r) = Unit {0} × Takes r
   Takes (Ask q fr st k) = AllTaken fr × ((os : List (Object N)) → Takes (k os))
 
-  takes_then : (r : Res N) (en : Entry N) (k : End N → St N → Res N) → TakenIn en → Takes r → ((e : End N) (st : St N) → Takes (k e st)) → Takes (then_do r en k)
+  takes_then : (r : Res N) (en : Entry N) (k : End N → St N → Res N) → TakenIn en → Takes r → ((e : End N) (st : St N) → Takes (k e st))
+      → Takes (then_do r en k)
   takes_then (Fin e st) en k i g h = h e st
   takes_then (Tell d r) en k i g h = (tt, takes_then r en k i g.1 h)
   takes_then (Ask q fr st p) en k i g h = ((i, g.0), λ os. takes_then (p os) en k i (g.1 os) h)
@@ -31,16 +42,19 @@ module _ {N : Type 0} (w : World N) where
   goes_each k h (End.returned v) st = tt
   goes_each k h (End.failed f) st = tt
 
-  takes_got : (r : Res N) (en : Entry N) (k : Val N → St N → Res N) → TakenIn en → Takes r → ((v : Val N) (st : St N) → Takes (k v st)) → Takes (then_do r en (on_got k))
+  takes_got : (r : Res N) (en : Entry N) (k : Val N → St N → Res N) → TakenIn en → Takes r → ((v : Val N) (st : St N) → Takes (k v st))
+      → Takes (then_do r en (on_got k))
   takes_got r en k i g h = takes_then r en (on_got k) i g (got_each k h)
 
   takes_goes : (r : Res N) (en : Entry N) (k : St N → Res N) → TakenIn en → Takes r → ((st : St N) → Takes (k st)) → Takes (then_do r en (on_goes k))
   takes_goes r en k i g h = takes_then r en (on_goes k) i g (goes_each k h)
 
-  takes_ask : (q : Wait N) (en : Entry N) (st : St N) (k : Val N → St N → Res N) → TakenIn en → ((v : Val N) (s : St N) → Takes (k v s)) → Takes (then_do (ask w q st) en (on_got k))
+  takes_ask : (q : Wait N) (en : Entry N) (st : St N) (k : Val N → St N → Res N) → TakenIn en → ((v : Val N) (s : St N) → Takes (k v s))
+      → Takes (then_do (ask w q st) en (on_got k))
   takes_ask q en st k i h = ((i, tt), λ os. got_each k h (wait_end w q os) st)
 
-  takes_body : (xs : Pairs N) (k : Val N → St N → Res N) → ((v : Val N) (st : St N) → Takes (k v st)) → (e : End N) (st : St N) → Takes (on_body xs k e st)
+  takes_body : (xs : Pairs N) (k : Val N → St N → Res N) → ((v : Val N) (st : St N) → Takes (k v st)) → (e : End N) (st : St N)
+      → Takes (on_body xs k e st)
   takes_body xs k h End.goes st = h null (with_vars xs st)
   takes_body xs k h (End.got v) st = h v (with_vars xs st)
   takes_body xs k h (End.returned v) st = h v (with_vars xs st)
@@ -165,7 +179,8 @@ module _ {N : Type 0} (w : World N) where
   takes_two (x ∷ y ∷ []) p st k g = g x y
   takes_two (x ∷ y ∷ z ∷ vs) p st k g = tt
 
-  takes_three : (vs : List (Val N)) (p : Place) (st : St N) (k : Val N → Val N → Val N → Res N) → ((x y z : Val N) → Takes (k x y z)) → Takes (with_three vs p st k)
+  takes_three : (vs : List (Val N)) (p : Place) (st : St N) (k : Val N → Val N → Val N → Res N) → ((x y z : Val N) → Takes (k x y z))
+      → Takes (with_three vs p st k)
   takes_three [] p st k g = tt
   takes_three (x ∷ []) p st k g = tt
   takes_three (x ∷ y ∷ []) p st k g = tt
@@ -192,7 +207,8 @@ module _ {N : Type 0} (w : World N) where
 
   -- ---- signs
 
-  takes_deref : (v : Val N) (n k : ℕ) (ss : List SignAt) (p : Place) (st : St N) (go : Val N → St N → Res N) → ((u : Val N) (t : St N) → Takes (go u t)) → Takes (deref w v n k ss p st go)
+  takes_deref : (v : Val N) (n k : ℕ) (ss : List SignAt) (p : Place) (st : St N) (go : Val N → St N → Res N)
+      → ((u : Val N) (t : St N) → Takes (go u t)) → Takes (deref w v n k ss p st go)
   takes_deref (ref d) n k ss p st go g = takes_ask (one_of p d) (star_wait n k d ss) st go tt g
   takes_deref null n k ss p st go g = tt
   takes_deref (truth y) n k ss p st go g = tt
@@ -202,7 +218,8 @@ module _ {N : Type 0} (w : World N) where
   takes_deref (dict ps) n k ss p st go g = tt
   takes_deref (fun h c) n k ss p st go g = tt
 
-  takes_signed : (s : Sign) (v : Val N) (n k : ℕ) (ss : List SignAt) (p : Place) (st : St N) (go : Val N → St N → Res N) → ((u : Val N) (t : St N) → Takes (go u t)) → Takes (signed w s v n k ss p st go)
+  takes_signed : (s : Sign) (v : Val N) (n k : ℕ) (ss : List SignAt) (p : Place) (st : St N) (go : Val N → St N → Res N)
+      → ((u : Val N) (t : St N) → Takes (go u t)) → Takes (signed w s v n k ss p st go)
   takes_signed Sign.not v n k ss p st go g = takes_answer (opposite v) p st go (λ u. g u st)
   takes_signed Sign.minus v n k ss p st go g = takes_answer (negated v) p st go (λ u. g u st)
   takes_signed Sign.star v n k ss p st go g = takes_deref v n k ss p st go g
@@ -210,7 +227,8 @@ module _ {N : Type 0} (w : World N) where
   takes_signs : (ss : List SignAt) (n k : ℕ) (v : Val N) (st : St N) → Takes (signs w ss n k v st)
   takes_signs [] n k v st = tt
   takes_signs (o ∷ ss) n k v st =
-      takes_visit o.place st (λ s. signed w o.sign v n k ss o.place s (λ u t. signs w ss n (k + 1) u t)) (λ s. takes_signed o.sign v n k ss o.place s _ (λ u t. takes_signs ss n (k + 1) u t))
+      takes_visit o.place st (λ s. signed w o.sign v n k ss o.place s (λ u t. signs w ss n (k + 1) u t))
+      (λ s. takes_signed o.sign v n k ss o.place s _ (λ u t. takes_signs ss n (k + 1) u t))
 
   -- ---- calls
 
@@ -222,7 +240,8 @@ module _ {N : Type 0} (w : World N) where
   takes_call_fun None vs p st r g = tt
   takes_call_fun (Some x) vs p st r g = takes_call_if (nat_eq (length x.params) (count vs)) p st r g
 
-  takes_called : (v : Val N) (vs : Vals N) (p : Place) (st : St N) (k : List ℕ → Pairs N → Res N) → ((f : List ℕ) (c : Pairs N) → Takes (k f c)) → Takes (called w v vs p st k)
+  takes_called : (v : Val N) (vs : Vals N) (p : Place) (st : St N) (k : List ℕ → Pairs N → Res N) → ((f : List ℕ) (c : Pairs N) → Takes (k f c))
+      → Takes (called w v vs p st k)
   takes_called (fun f c) vs p st k g = takes_call_fun (find_fun f w.script.funs) vs p st (k f c) (g f c)
   takes_called null vs p st k g = tt
   takes_called (truth y) vs p st k g = tt
@@ -232,18 +251,22 @@ module _ {N : Type 0} (w : World N) where
   takes_called (dict ps) vs p st k g = tt
   takes_called (ref e) vs p st k g = tt
 
-  module _ (body : List ℕ → Pairs N → Vals N → Place → St N → Res N) (bodies_take : (f : List ℕ) (c : Pairs N) (vs : Vals N) (p : Place) (st : St N) → Takes (body f c vs p st)) where
+  module _ (body : List ℕ → Pairs N → Vals N → Place → St N → Res N)
+      (bodies_take : (f : List ℕ) (c : Pairs N) (vs : Vals N) (p : Place) (st : St N) → Takes (body f c vs p st)) where
     mutual
       takes_eval : (e : Exp) (n : ℕ) (st : St N) → Takes (eval w body e n st)
       takes_eval (Exp.literal v p) n st = takes_visit p st _ (λ s. takes_answer (limited (lit_val v)) p s gives (λ x. tt))
-      takes_eval (Exp.name x p) n st = takes_visit p st (λ s. answer (named (find x s.vars) x w.script.funs) p s gives) (λ s. takes_answer (named (find x s.vars) x w.script.funs) p s gives (λ y. tt))
-      takes_eval (Exp.func x p) n st = takes_visit p st (λ s. answer (closed (find_fun x w.script.funs) x s.vars) p s gives) (λ s. takes_answer (closed (find_fun x w.script.funs) x s.vars) p s gives (λ y. tt))
+      takes_eval (Exp.name x p) n st = takes_visit p st (λ s. answer (named (find x s.vars) x w.script.funs) p s gives)
+          (λ s. takes_answer (named (find x s.vars) x w.script.funs) p s gives (λ y. tt))
+      takes_eval (Exp.func x p) n st = takes_visit p st (λ s. answer (closed (find_fun x w.script.funs) x s.vars) p s gives)
+          (λ s. takes_answer (closed (find_fun x w.script.funs) x s.vars) p s gives (λ y. tt))
       takes_eval (Exp.parens e) n st = takes_got (eval w body e (n + 1) st) (parens_in n) gives tt (takes_eval e (n + 1) st) (λ v s. tt)
       takes_eval (Exp.parts o p es) n st = takes_parts es n 1 (n + 1) o p [] st
       takes_eval (Exp.chain e ls) n st =
           takes_got _ (chain_first n (n + 1 + nodes e) ls) _ tt (takes_eval e (n + 1) st) (λ v s. takes_links ls n 2 (n + 1 + nodes e) v s)
       takes_eval (Exp.logic j e ls) n st =
-          takes_got _ (logic_at n 1 (n + 1 + nodes e) j nowhere ls) _ tt (takes_eval e (n + 1) st) (λ v s. takes_ands ls n 2 (n + 1 + nodes e) j nowhere v s)
+          takes_got _ (logic_at n 1 (n + 1 + nodes e) j nowhere ls) _ tt (takes_eval e (n + 1) st)
+          (λ v s. takes_ands ls n 2 (n + 1 + nodes e) j nowhere v s)
       takes_eval (Exp.prefix ss e) n st =
           takes_got _ (prefix_part n (reverse ss)) _ tt (takes_eval e (n + 1) st) (λ v s. takes_signs (reverse ss) n 2 v s)
       takes_eval (Exp.postfix e ss) n st =
@@ -252,30 +275,41 @@ module _ {N : Type 0} (w : World N) where
       takes_parts : (es : Exps) (n k m : ℕ) (o : Form) (p : Place) (vs : List (Val N)) (st : St N) → Takes (eval_parts w body es n k m o p vs st)
       takes_parts Exps.no_exps n k m o p vs st = takes_visit p st (λ s. formed w o vs n p s) (λ s. takes_formed o vs n p s)
       takes_parts (Exps.exp e es) n k m o p vs st =
-          takes_got _ (part_at n k (m + nodes e) o p vs es) _ tt (takes_eval e m st) (λ v s. takes_parts es n (k + 1) (m + nodes e) o p (vs ++ v ∷ []) s)
+          takes_got _ (part_at n k (m + nodes e) o p vs es) _ tt (takes_eval e m st)
+          (λ v s. takes_parts es n (k + 1) (m + nodes e) o p (vs ++ v ∷ []) s)
 
       takes_links : (ls : Links) (n k m : ℕ) (v : Val N) (st : St N) → Takes (eval_links w body ls n k m v st)
       takes_links Links.no_links n k m v st = tt
       takes_links (Links.link o p e ls) n k m v st =
-          takes_got _ (chain_more n k (m + nodes e) o p v ls) _ tt (takes_eval e m st) (λ x s. takes_visit p s _ (λ t. takes_answer (oper o v x) p t _ (λ y. takes_links ls n (k + 1) (m + nodes e) y t)))
+          takes_got _ (chain_more n k (m + nodes e) o p v ls) _ tt (takes_eval e m st)
+          (λ x s. takes_visit p s _ (λ t. takes_answer (oper o v x) p t _ (λ y. takes_links ls n (k + 1) (m + nodes e) y t)))
 
       takes_ands : (ls : Ands) (n k m : ℕ) (j : Junction) (q : Place) (v : Val N) (st : St N) → Takes (eval_ands w body ls n k m j q v st)
       takes_ands Ands.no_ands n k m j q v st = takes_answer (truth_of v) q st gives (λ x. tt)
       takes_ands (Ands.and p e ls) n k m j q v st =
-          takes_visit p st _ (λ s. takes_joins j v p s _ (takes_got _ (logic_at n k (m + nodes e) j p ls) _ tt (takes_eval e m s) (λ x u. takes_ands ls n (k + 1) (m + nodes e) j p x u)))
+          takes_visit p st _ (λ s. takes_joins j v p s _
+          (takes_got _ (logic_at n k (m + nodes e) j p ls) _ tt (takes_eval e m s) (λ x u. takes_ands ls n (k + 1) (m + nodes e) j p x u)))
 
       takes_steps : (ss : Steps) (n k m : ℕ) (v : Val N) (st : St N) → Takes (eval_steps w body ss n k m v st)
       takes_steps Steps.no_steps n k m v st = tt
       takes_steps (Steps.index e p ss) n k m v st =
-          takes_got _ (index_at n k (m + nodes e) p v ss) _ tt (takes_eval e m st) (λ x s. takes_visit p s _ (λ t. takes_answer (index v x) p t _ (λ y. takes_steps ss n (k + 1) (m + nodes e) y t)))
+          takes_got _ (index_at n k (m + nodes e) p v ss) _ tt (takes_eval e m st)
+          (λ x s. takes_visit p s _ (λ t. takes_answer (index v x) p t _ (λ y. takes_steps ss n (k + 1) (m + nodes e) y t)))
       takes_steps (Steps.call es p ss) n k m v st =
           takes_args es n k m p v [] ss st (λ l i y u. takes_steps ss n l i y u)
 
-      takes_args : (es : Exps) (n k m : ℕ) (p : Place) (g : Val N) (vs : List (Val N)) (ss : Steps) (st : St N) → ((l i : ℕ) (y : Val N) (u : St N) → Takes (eval_steps w body ss n l i y u)) → Takes (eval_args w body es n k m p g vs ss (λ l i f c us s. enter w body f c us p n l i ss s (λ y u. eval_steps w body ss n (l + 1) i y u)) st)
+      takes_args : (es : Exps) (n k m : ℕ) (p : Place) (g : Val N) (vs : List (Val N)) (ss : Steps) (st : St N)
+          → ((l i : ℕ) (y : Val N) (u : St N) → Takes (eval_steps w body ss n l i y u))
+          → Takes (eval_args w body es n k m p g vs ss
+          (λ l i f c us s. enter w body f c us p n l i ss s (λ y u. eval_steps w body ss n (l + 1) i y u)) st)
       takes_args Exps.no_exps n k m p g vs ss st steps =
-          takes_visit p st _ (λ s. takes_called g (vals_of vs) p s _ (λ x c. takes_then (body x c (vals_of vs) p s) (call_open n k m x s.vars ss) (on_body s.vars (λ y u. eval_steps w body ss n (k + 1) m y u)) tt (bodies_take x c (vals_of vs) p s) (takes_body s.vars _ (λ y u. steps (k + 1) m y u))))
+          takes_visit p st _ (λ s. takes_called g (vals_of vs) p s _
+          (λ x c. takes_then (body x c (vals_of vs) p s) (call_open n k m x s.vars ss)
+          (on_body s.vars (λ y u. eval_steps w body ss n (k + 1) m y u)) tt (bodies_take x c (vals_of vs) p s)
+          (takes_body s.vars _ (λ y u. steps (k + 1) m y u))))
       takes_args (Exps.exp e es) n k m p g vs ss st steps =
-          takes_got _ (arg_at n k (m + nodes e) p g vs es ss) _ tt (takes_eval e m st) (λ v s. takes_args es n (k + 1) (m + nodes e) p g (vs ++ v ∷ []) ss s steps)
+          takes_got _ (arg_at n k (m + nodes e) p g vs es ss) _ tt (takes_eval e m st)
+          (λ v s. takes_args es n (k + 1) (m + nodes e) p g (vs ++ v ∷ []) ss s steps)
 
     -- ---- loops
 
@@ -283,17 +317,21 @@ module _ {N : Type 0} (w : World N) where
       takes_turns : (f : ℕ) (e : Exp) (st : St N) → Takes (turns f n m p e blk (eval w body e (n + 1)) run st)
       takes_turns zero e st = tt
       takes_turns (suc f) e st =
-          takes_got _ (while_test n m p e blk) _ tt (takes_eval e (n + 1) st) (λ v s. takes_decide v p s _ _ (takes_goes (run s) (while_body n m p e blk) _ tt (run_takes s) (λ z. takes_turns f e z)) tt)
+          takes_got _ (while_test n m p e blk) _ tt (takes_eval e (n + 1) st)
+          (λ v s. takes_decide v p s _ _ (takes_goes (run s) (while_body n m p e blk) _ tt (run_takes s) (λ z. takes_turns f e z)) tt)
 
       takes_repeats : (f : ℕ) (e : Exp) (st : St N) → Takes (repeats f n m p blk e run (eval w body e m) st)
       takes_repeats zero e st = tt
       takes_repeats (suc f) e st =
-          takes_goes (run st) (repeat_body n m p blk e) _ tt (run_takes st) (λ s. takes_got _ (repeat_test n m p blk e) _ tt (takes_eval e m s) (λ v t. takes_decide v p t _ _ (takes_repeats f e t) tt))
+          takes_goes (run st) (repeat_body n m p blk e) _ tt (run_takes st)
+          (λ s. takes_got _ (repeat_test n m p blk e) _ tt (takes_eval e m s) (λ v t. takes_decide v p t _ _ (takes_repeats f e t) tt))
 
-      takes_each : (vs : Vals N) (t : ℕ) (x : List ℕ) (whole : Vals N) (st : St N) → count vs + t ≡ count whole → Takes (each vs n m t p x whole blk run st)
+      takes_each : (vs : Vals N) (t : ℕ) (x : List ℕ) (whole : Vals N) (st : St N) → count vs + t ≡ count whole
+          → Takes (each vs n m t p x whole blk run st)
       takes_each no_vals t x whole st sum = tt
       takes_each (val v vs) t x whole st sum =
-          takes_visit p st _ (λ s. takes_goes (run (set_var x v s)) (for_body n m (suc t) p x whole blk) _ (omega (arith, sum)) (run_takes (set_var x v s)) (λ z. takes_each vs (suc t) x whole z (omega (arith, sum))))
+          takes_visit p st _ (λ s. takes_goes (run (set_var x v s)) (for_body n m (suc t) p x whole blk) _ (omega (arith, sum))
+          (run_takes (set_var x v s)) (λ z. takes_each vs (suc t) x whole z (omega (arith, sum))))
 
       takes_each_of : (v : Val N) (x : List ℕ) (st : St N) → Takes (each_of v n m p x blk run st)
       takes_each_of (list vs) x st = takes_each vs 0 x vs st (omega arith)
@@ -310,20 +348,27 @@ module _ {N : Type 0} (w : World N) where
       takes_stm (Stm.set x p e) n st =
           takes_visit p st _ (λ s. takes_got _ (set_part n x) _ tt (takes_eval e (n + 1) s) (λ v t. tt))
       takes_stm (Stm.add x q p e) n st =
-          takes_visit p st _ (λ s. takes_got _ (add_part n x q p) (λ v t. add_to (find x t.vars) x q p v t) tt (takes_eval e (n + 1) s) (λ v t. takes_add (find x t.vars) x q p v t))
+          takes_visit p st _ (λ s. takes_got _ (add_part n x q p) (λ v t. add_to (find x t.vars) x q p v t) tt (takes_eval e (n + 1) s)
+          (λ v t. takes_add (find x t.vars) x q p v t))
       takes_stm (Stm.put x q p i e) n st =
-          takes_visit p st _ (λ s. takes_got _ (put_index n (n + 1 + nodes i) x q p e) _ tt (takes_eval i (n + 1) s) (λ v t. takes_got _ (put_value n x q p v) (λ y u. put_in (find x u.vars) x q p v y u) tt (takes_eval e (n + 1 + nodes i) t) (λ y u. takes_put (find x u.vars) x q p v y u)))
+          takes_visit p st _ (λ s. takes_got _ (put_index n (n + 1 + nodes i) x q p e) _ tt (takes_eval i (n + 1) s)
+          (λ v t. takes_got _ (put_value n x q p v) (λ y u. put_in (find x u.vars) x q p v y u) tt (takes_eval e (n + 1 + nodes i) t)
+          (λ y u. takes_put (find x u.vars) x q p v y u)))
       takes_stm (Stm.return p e) n st =
           takes_visit p st _ (λ s. takes_got _ (return_part n) _ tt (takes_eval e (n + 1) s) (λ v t. tt))
       takes_stm (Stm.leave p) n st = takes_visit p st _ (λ s. tt)
       takes_stm (Stm.cases p arms els) n st =
-          takes_visit p st _ (λ s. takes_arms arms n 1 (n + 1) (n + 1 + arms_nodes arms) els (λ t. eval_else w body els (n + 1 + arms_nodes arms) t) s (λ t. takes_else els (n + 1 + arms_nodes arms) t))
+          takes_visit p st _ (λ s. takes_arms arms n 1 (n + 1) (n + 1 + arms_nodes arms) els
+          (λ t. eval_else w body els (n + 1 + arms_nodes arms) t) s (λ t. takes_else els (n + 1 + arms_nodes arms) t))
       takes_stm (Stm.while p e b) n st =
-          takes_visit p st _ (λ s. takes_turns n (n + 1 + nodes e) p b _ (λ z. takes_stms b (n + 1 + nodes e) 0 (n + 1 + nodes e + 1) z) (suc visits) e s)
+          takes_visit p st _ (λ s. takes_turns n (n + 1 + nodes e) p b _ (λ z. takes_stms b (n + 1 + nodes e) 0 (n + 1 + nodes e + 1) z)
+          (suc visits) e s)
       takes_stm (Stm.repeat p b e) n st =
           takes_visit p st _ (λ s. takes_repeats n (n + 1 + block_nodes b) p b _ (λ z. takes_stms b (n + 1) 0 (n + 1 + 1) z) (suc visits) e s)
       takes_stm (Stm.for p x e b) n st =
-          takes_visit p st _ (λ s. takes_got _ (for_list n (n + 1 + nodes e) p x b) _ tt (takes_eval e (n + 1) s) (λ v t. takes_each_of n (n + 1 + nodes e) p b (eval_stms w body b (n + 1 + nodes e) 0 (n + 1 + nodes e + 1)) (λ z. takes_stms b (n + 1 + nodes e) 0 (n + 1 + nodes e + 1) z) v x t))
+          takes_visit p st _ (λ s. takes_got _ (for_list n (n + 1 + nodes e) p x b) _ tt (takes_eval e (n + 1) s)
+          (λ v t. takes_each_of n (n + 1 + nodes e) p b (eval_stms w body b (n + 1 + nodes e) 0 (n + 1 + nodes e + 1))
+          (λ z. takes_stms b (n + 1 + nodes e) 0 (n + 1 + nodes e + 1) z) v x t))
       takes_stm (Stm.just p e) n st =
           takes_visit p st _ (λ s. takes_got _ (just_part n) _ tt (takes_eval e (n + 1) s) (λ v t. tt))
 
@@ -332,10 +377,13 @@ module _ {N : Type 0} (w : World N) where
       takes_stms (Stms.stm a more) n k m st =
           takes_goes _ (block_at n (k + 1) (m + stm_nodes a) more) _ tt (takes_stm a m st) (λ s. takes_stms more n (k + 1) (m + stm_nodes a) s)
 
-      takes_arms : (arms : Arms) (n k m i : ℕ) (els : Else) (go : St N → Res N) (st : St N) → ((s : St N) → Takes (go s)) → Takes (eval_arms w body arms n k m i els go st)
+      takes_arms : (arms : Arms) (n k m i : ℕ) (els : Else) (go : St N → Res N) (st : St N) → ((s : St N) → Takes (go s))
+          → Takes (eval_arms w body arms n k m i els go st)
       takes_arms Arms.no_arms n k m i els go st last = last st
       takes_arms (Arms.arm p e b arms) n k m i els go st last =
-          takes_got _ (arm_test n k (m + nodes e) i p b arms els) _ tt (takes_eval e m st) (λ v s. takes_decide v p s _ _ (takes_stms b (m + nodes e) 0 (m + nodes e + 1) s) (takes_arms arms n (k + 1) (m + nodes e + block_nodes b) i els go s last))
+          takes_got _ (arm_test n k (m + nodes e) i p b arms els) _ tt (takes_eval e m st)
+          (λ v s. takes_decide v p s _ _ (takes_stms b (m + nodes e) 0 (m + nodes e + 1) s)
+          (takes_arms arms n (k + 1) (m + nodes e + block_nodes b) i els go s last))
 
       takes_else : (els : Else) (n : ℕ) (st : St N) → Takes (eval_else w body els n st)
       takes_else Else.no_else n st = tt
@@ -343,7 +391,8 @@ module _ {N : Type 0} (w : World N) where
 
   -- ---- bodies
 
-  takes_in_body : (o : Option Body) (c : Pairs N) (vs : Vals N) (p : Place) (st : St N) (run : Stms → ℕ → St N → Res N) → ((b : Stms) (n : ℕ) (s : St N) → Takes (run b n s)) → Takes (in_body w o c vs p st run)
+  takes_in_body : (o : Option Body) (c : Pairs N) (vs : Vals N) (p : Place) (st : St N) (run : Stms → ℕ → St N → Res N)
+      → ((b : Stms) (n : ℕ) (s : St N) → Takes (run b n s)) → Takes (in_body w o c vs p st run)
   takes_in_body None c vs p st run g = tt
   takes_in_body (Some x) c vs p st run g = g x.block x.node (with_vars (bind x.params vs c) st)
 
@@ -377,7 +426,8 @@ module _ {N : Type 0} (w : World N) where
     after_takes (part_at n k m o p vs es) i = got_each _ (λ v s. takes_parts (body_at w d) (takes_call d) es n (k + 1) m o p (vs ++ v ∷ []) s)
     after_takes (chain_first n m ls) i = got_each _ (λ v s. takes_links (body_at w d) (takes_call d) ls n 2 m v s)
     after_takes (chain_more n k m o p v ls) i =
-        got_each _ (λ x s. takes_visit p s _ (λ t. takes_answer (oper o v x) p t _ (λ y. takes_links (body_at w d) (takes_call d) ls n (k + 1) m y t)))
+        got_each _ (λ x s. takes_visit p s _ (λ t. takes_answer (oper o v x) p t _
+        (λ y. takes_links (body_at w d) (takes_call d) ls n (k + 1) m y t)))
     after_takes (logic_at n k m j q ls) i = got_each _ (λ v s. takes_ands (body_at w d) (takes_call d) ls n (k + 1) m j q v s)
     after_takes (prefix_part n ss) i = got_each _ (λ v s. takes_signs ss n 2 v s)
     after_takes (star_wait n k x ss) i = got_each _ (λ u t. takes_signs ss n (k + 1) u t)
@@ -385,23 +435,28 @@ module _ {N : Type 0} (w : World N) where
     after_takes (index_at n k m p v ss) i =
         got_each _ (λ x s. takes_visit p s _ (λ t. takes_answer (index v x) p t _ (λ y. takes_steps (body_at w d) (takes_call d) ss n (k + 1) m y t)))
     after_takes (arg_at n k m p g vs es ss) i =
-        got_each _ (λ v s. takes_args (body_at w d) (takes_call d) es n (k + 1) m p g (vs ++ v ∷ []) ss s (λ l i y u. takes_steps (body_at w d) (takes_call d) ss n l i y u))
+        got_each _ (λ v s. takes_args (body_at w d) (takes_call d) es n (k + 1) m p g (vs ++ v ∷ []) ss s
+        (λ l i y u. takes_steps (body_at w d) (takes_call d) ss n l i y u))
     after_takes (call_open n k m f xs ss) i = takes_body xs _ (λ y u. takes_steps (body_at w d) (takes_call d) ss n (k + 1) m y u)
     after_takes (exec_wait n ds) i = got_each gives (λ v s. tt)
     after_takes (set_part n x) i = got_each _ (λ v t. tt)
     after_takes (add_part n x q p) i = got_each (λ v t. add_to (find x t.vars) x q p v t) (λ v t. takes_add (find x t.vars) x q p v t)
     after_takes (put_index n m x q p e) i =
-        got_each _ (λ v t. takes_got _ (put_value n x q p v) (λ y u. put_in (find x u.vars) x q p v y u) tt (takes_eval (body_at w d) (takes_call d) e m t) (λ y u. takes_put (find x u.vars) x q p v y u))
+        got_each _ (λ v t. takes_got _ (put_value n x q p v) (λ y u. put_in (find x u.vars) x q p v y u) tt
+        (takes_eval (body_at w d) (takes_call d) e m t) (λ y u. takes_put (find x u.vars) x q p v y u))
     after_takes (put_value n x q p v) i = got_each (λ y u. put_in (find x u.vars) x q p v y u) (λ y u. takes_put (find x u.vars) x q p v y u)
     after_takes (return_part n) i = got_each _ (λ v t. tt)
     after_takes (just_part n) i = got_each _ (λ v t. tt)
     after_takes (arm_test n k m j p b arms els) i =
-        got_each _ (λ v s. takes_decide v p s _ _ (block b m s) (takes_arms (body_at w d) (takes_call d) arms n (k + 1) (m + block_nodes b) j els _ s (λ u. takes_else (body_at w d) (takes_call d) els j u)))
+        got_each _ (λ v s. takes_decide v p s _ _ (block b m s)
+        (takes_arms (body_at w d) (takes_call d) arms n (k + 1) (m + block_nodes b) j els _ s
+        (λ u. takes_else (body_at w d) (takes_call d) els j u)))
     after_takes (while_test n m p e b) i =
         got_each _ (λ v s. takes_decide v p s _ _ (takes_goes _ (while_body n m p e b) _ tt (block b m s) (λ z. on_while n m p e b z)) tt)
     after_takes (while_body n m p e b) i = goes_each _ (λ z. on_while n m p e b z)
     after_takes (repeat_body n m p b e) i =
-        goes_each _ (λ s. takes_got _ (repeat_test n m p b e) _ tt (takes_eval (body_at w d) (takes_call d) e m s) (λ v t. takes_decide v p t _ _ (on_repeat n m p b e t) tt))
+        goes_each _ (λ s. takes_got _ (repeat_test n m p b e) _ tt (takes_eval (body_at w d) (takes_call d) e m s)
+        (λ v t. takes_decide v p t _ _ (on_repeat n m p b e t) tt))
     after_takes (repeat_test n m p b e) i = got_each _ (λ v t. takes_decide v p t _ _ (on_repeat n m p b e t) tt)
     after_takes (for_list n m p x b) i = got_each _ (λ v t. takes_each_of (body_at w d) (takes_call d) n m p b _ (block b m) v x t)
     after_takes (for_body n m t p x vs b) i =
@@ -418,5 +473,6 @@ module _ {N : Type 0} (w : World N) where
   at_halt (Tell d r) h l is = at_halt r h l.1 is
   at_halt (Ask q fr st k) h l is = let same : fr ≡ h.forms = cc in subst AllTaken same l.0
 
-  pub rest_taken : (d : ℕ) (fr : List (Entry N)) (e : End N) (st : St N) (h : Halt N) → AllTaken fr → first_halt (plug w d fr (Fin e st)) ≡ Some h → AllTaken h.forms
+  pub rest_taken : (d : ℕ) (fr : List (Entry N)) (e : End N) (st : St N) (h : Halt N) → AllTaken fr → first_halt (plug w d fr (Fin e st))
+      ≡ Some h → AllTaken h.forms
   rest_taken d fr e st h taken is = at_halt (plug w d fr (Fin e st)) h (takes_rest d fr (Fin e st) taken tt) is

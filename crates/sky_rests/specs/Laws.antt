@@ -16,9 +16,11 @@ module _ (w : World (List ℕ)) where
 -- each other so too
 abbrev pub RestFollows : Type 0
 RestFollows =
-    (w : World (List ℕ)) (d : ℕ) (f : List ℕ) (fr : List (Entry (List ℕ))) (e : End (List ℕ)) (st : St (List ℕ)) (h : Halt (List ℕ)) → Follow w f fr → AllOpened (λ i. node_at w.script i) fr → first_halt (plug w d fr (Fin e st)) ≡ Some h → Follow w f h.forms
+    (w : World (List ℕ)) (d : ℕ) (f : List ℕ) (fr : List (Entry (List ℕ))) (e : End (List ℕ)) (st : St (List ℕ)) (h : Halt (List ℕ))
+    → Follow w f fr → AllOpened (λ i. node_at w.script i) fr → first_halt (plug w d fr (Fin e st)) ≡ Some h → Follow w f h.forms
 
 -- where such forms go on, no `for` of theirs and none at the next wait has taken more elements than its list has
 abbrev pub RestTakes : Type 0
 RestTakes =
-    (w : World (List ℕ)) (d : ℕ) (f : List ℕ) (fr : List (Entry (List ℕ))) (e : End (List ℕ)) (st : St (List ℕ)) (h : Halt (List ℕ)) → Follow w f fr → AllOpened (λ i. node_at w.script i) fr → first_halt (plug w d fr (Fin e st)) ≡ Some h → AllTaken fr × AllTaken h.forms
+    (w : World (List ℕ)) (d : ℕ) (f : List ℕ) (fr : List (Entry (List ℕ))) (e : End (List ℕ)) (st : St (List ℕ)) (h : Halt (List ℕ))
+    → Follow w f fr → AllOpened (λ i. node_at w.script i) fr → first_halt (plug w d fr (Fin e st)) ≡ Some h → AllTaken fr × AllTaken h.forms

@@ -43,7 +43,8 @@ module _ (digest : List ℕ → List ℕ) (job : Job) (around : Around) (f : Lis
       go : (o : Option Body) → body_of f job.script ≡ o → start_frame f c vs o ≡ Some a → StartsIn o f caught args s
       go None e g = absurd (none_some a g)
       go (Some b) e g =
-          let begun : StartsCall job.script f caught args (start_in f caught args b) = subst (λ o. StartsIn o f caught args (start_in f caught args b)) (sym e) refl in
+          let begun : StartsCall job.script f caught args (start_in f caught args b) =
+          subst (λ o. StartsIn o f caught args (start_in f caught args b)) (sym e) refl in
           let other = start_of_call (digested digest) job around f c vs (start_in f caught args b) begun in
           low ∙ ap (low_state (digested digest)) (stands_one job around (Task.of (call f c vs)) 0 a other.0 (n, is) other.1) ∙ sym other.2
 
@@ -60,28 +61,46 @@ module _ (digest : List ℕ → List ℕ) (job : Job) (around : Around) (f : Lis
         let run = run_of job around f c vs in
         let over = mapped (low_stop no_name (digested digest)) (first_end run) e (sym is ∙ first_end_low no_name (digested digest) run whole low) in
         let x = end_object digest over.0.0 over.0.1 in
-        let out : see job around 1 (call f c vs) ≡ Some x.0 = ap object_of (end_outcome (see job around 0) run over.0 over.1) ∙ x.1 in
-        ((1, x.0, out, object ∙ ap (λ (y : End (List ℕ) × St (List ℕ)). object_at y.0) over.2 ∙ x.2), no_later (digested digest) job around 0 (Task.of (call f c vs)) 0 (ap is_some out) (ap halt_refs (end_no_halt run over.0 over.1 (see job around 0) 0)))
+        let out : see job around 1 (call f c vs) ≡ Some x.0 = ap object_of (end_outcome (see job around 0) run over.0 over.1) ∙ x.1 in (
+          (1, x.0, out, object ∙ ap (λ (y : End (List ℕ) × St (List ℕ)). object_at y.0) over.2 ∙ x.2),
+          no_later (digested digest) job around 0 (Task.of (call f c vs)) 0 (ap is_some out)
+              (ap halt_refs (end_no_halt run over.0 over.1 (see job around 0) 0)),
+        )
     begins_on Came.Waits new (h, is, stack) =
-        let next = mapped (low_halt no_name (digested digest)) (first_halt (run_of job around f c vs)) h (sym is ∙ first_halt_low no_name (digested digest) (run_of job around f c vs) whole low) in
-        let run : new ≡ low_run no_name (digested digest) (run_of_halt f 1 next.0) = stack ∙ ap (λ x. run_of_halt f 1 x) next.2 ∙ stack_low no_name (digested digest) f 1 next.0 in
-        (State.run (run_of_halt f 1 next.0), (0, ap (halt_state f 1) (halt_is (see job around 0) (run_of job around f c vs) ∙ next.1)), ap Stand.run run)
+        let next = mapped (low_halt no_name (digested digest)) (first_halt (run_of job around f c vs)) h
+        (sym is ∙ first_halt_low no_name (digested digest) (run_of job around f c vs) whole low) in
+        let run : new ≡ low_run no_name (digested digest) (run_of_halt f 1 next.0) = stack ∙ ap (λ x. run_of_halt f 1 x) next.2
+        ∙ stack_low no_name (digested digest) f 1 next.0 in (
+          State.run (run_of_halt f 1 next.0),
+          (0, ap (halt_state f 1) (halt_is (see job around 0) (run_of job around f c vs) ∙ next.1)),
+          ap Stand.run run,
+        )
 
     pub begin_makes : (n : ℕ) → segment whole ≡ map (low_desc no_name (digested digest)) (made_between job around n (Task.of (call f c vs)) 0 1)
     begin_makes n =
-        segment_low no_name (digested digest) (run_of job around f c vs) whole low ∙ ap (map (low_desc no_name (digested digest))) (sym (made_one job around n f c vs 0))
+        segment_low no_name (digested digest) (run_of job around f c vs) whole low
+        ∙ ap (map (low_desc no_name (digested digest))) (sym (made_one job around n f c vs 0))
 
 -- ---- what is said of all jobs
 
-pub begins_as : (digest : List ℕ → List ℕ) (sc : Script) (old new : Run (List ℕ)) (came : Came) → ((f : List ℕ) (c : v.Pairs (List ℕ)) (vs : v.Vals (List ℕ)) → StartsCall sc f c vs (Stand.run old) → Comes f 0 (body_at (over_names digest sc) bodies f c vs nowhere start_st) came new) → GoesOnAs digest 0 sc old [] came new
+pub begins_as : (digest : List ℕ → List ℕ) (sc : Script) (old new : Run (List ℕ)) (came : Came)
+    → ((f : List ℕ) (c : v.Pairs (List ℕ)) (vs : v.Vals (List ℕ)) → StartsCall sc f c vs (Stand.run old)
+    → Comes f 0 (body_at (over_names digest sc) bodies f c vs nowhere start_st) came new) → GoesOnAs digest 0 sc old [] came new
 begins_as digest sc old new came comes = λ job around f c vs n is alike s a.
     let tag = digested digest in
     let start = starts digest job around f c vs (Stand.run old) s in
-    begins_on digest job around f c vs alike came new (subst (λ x. StartsCall x f (low_pairs no_name tag c) (low_vals no_name tag vs) (Stand.run old) → Comes f 0 (body_at (over_names digest x) bodies f (low_pairs no_name tag c) (low_vals no_name tag vs) nowhere start_st) came new) (sym is) (comes f (low_pairs no_name tag c) (low_vals no_name tag vs)) start)
+    begins_on digest job around f c vs alike came new
+    (subst (λ x. StartsCall x f (low_pairs no_name tag c) (low_vals no_name tag vs) (Stand.run old)
+    → Comes f 0 (body_at (over_names digest x) bodies f (low_pairs no_name tag c) (low_vals no_name tag vs) nowhere start_st) came new)
+    (sym is) (comes f (low_pairs no_name tag c) (low_vals no_name tag vs)) start)
 
-pub begin_makes_as : (digest : List ℕ → List ℕ) (sc : Script) (stack : Run (List ℕ)) (old new : List (List ℕ × v.Desc (List ℕ))) → ((f : List ℕ) (c : v.Pairs (List ℕ)) (vs : v.Vals (List ℕ)) → StartsCall sc f c vs (Stand.run stack) → new ≡ old ++ map (with_name digest) (segment (body_at (over_names digest sc) bodies f c vs nowhere start_st))) → MakesAs digest 0 sc stack [] old new
+pub begin_makes_as : (digest : List ℕ → List ℕ) (sc : Script) (stack : Run (List ℕ)) (old new : List (List ℕ × v.Desc (List ℕ)))
+    → ((f : List ℕ) (c : v.Pairs (List ℕ)) (vs : v.Vals (List ℕ)) → StartsCall sc f c vs (Stand.run stack) → new ≡ old
+    ++ map (with_name digest) (segment (body_at (over_names digest sc) bodies f c vs nowhere start_st))) → MakesAs digest 0 sc stack [] old new
 begin_makes_as digest sc stack old new made = λ job around f c vs n is alike s a.
     let tag = digested digest in
     let start = starts digest job around f c vs (Stand.run stack) s in
-    subst (λ x. StartsCall x f (low_pairs no_name tag c) (low_vals no_name tag vs) (Stand.run stack) → new ≡ old ++ map (with_name digest) (segment (body_at (over_names digest x) bodies f (low_pairs no_name tag c) (low_vals no_name tag vs) nowhere start_st))) (sym is) (made f (low_pairs no_name tag c) (low_vals no_name tag vs)) start
+    subst (λ x. StartsCall x f (low_pairs no_name tag c) (low_vals no_name tag vs) (Stand.run stack) → new ≡ old
+    ++ map (with_name digest) (segment (body_at (over_names digest x) bodies f (low_pairs no_name tag c) (low_vals no_name tag vs) nowhere
+    start_st))) (sym is) (made f (low_pairs no_name tag c) (low_vals no_name tag vs)) start
     ∙ ap (λ ds. old ++ map (with_name digest) ds) (begin_makes digest job around f c vs alike n)

@@ -33,7 +33,8 @@ pub runs_on : (digest : List ℕ → List ℕ) (sc : Script) → RunsOn (over_na
 runs_on digest sc = record { script = refl; make = λ d. refl }
 
 -- what is made, each with its name
-pub grew_named : (digest : List ℕ → List ℕ) (old new : List Named) (ds : List (Desc (List ℕ))) → descs new ≡ descs old ++ ds → names new ≡ names old ++ map (digested digest) ds → spawned_view new ≡ spawned_view old ++ map (with_name digest) ds
+pub grew_named : (digest : List ℕ → List ℕ) (old new : List Named) (ds : List (Desc (List ℕ))) → descs new ≡ descs old ++ ds → names new
+    ≡ names old ++ map (digested digest) ds → spawned_view new ≡ spawned_view old ++ map (with_name digest) ds
 grew_named digest [] [] [] e g = refl
 grew_named digest [] [] (d ∷ ds) e g = cc
 grew_named digest [] (n ∷ ns) [] e g = cc
@@ -58,21 +59,31 @@ grew_named digest (o ∷ os) (n ∷ ns) ds e g =
     head_of e = cc
 
 -- what the machine's state means is the rest of the run from its wait on
-pub rest_is : (w : World (List ℕ)) (es : List held.Entry) (e : rust.End) (st : Vars) (h : Halt (List ℕ)) (os : List (Object (List ℕ))) → forms es ≡ h.forms → end_of e ≡ wait_end w h.wait os → st.vars ≡ h.st.vars → st.count ≡ h.st.count → config w es (Control.End e) st ≡ rest_of w others h os
+pub rest_is : (w : World (List ℕ)) (es : List held.Entry) (e : rust.End) (st : Vars) (h : Halt (List ℕ)) (os : List (Object (List ℕ))) → forms es
+    ≡ h.forms → end_of e ≡ wait_end w h.wait os → st.vars ≡ h.st.vars → st.count ≡ h.st.count → config w es (Control.End e) st
+    ≡ rest_of w others h os
 rest_is w es e st h os fr is vars count =
     (λ i. plug w others (fr i) (Fin (is i) (record { vars = vars i; count = count i })))
 
-abbrev pub formed_of : (sc : Script) (f : List ℕ) (h : Halt (List ℕ)) (r : Run (List ℕ)) → LeftAt sc f h r → Formed sc (body_places (body_of f sc)) f h.st.vars r.frames
+abbrev pub formed_of : (sc : Script) (f : List ℕ) (h : Halt (List ℕ)) (r : Run (List ℕ)) → LeftAt sc f h r
+    → Formed sc (body_places (body_of f sc)) f h.st.vars r.frames
 formed_of sc f h r l = record { forms = h.forms; chained = l.follow; all_opened = l.opened; frames = l.frames }
 
 pub fun_of : (sc : Script) (f : List ℕ) (h : Halt (List ℕ)) (r : Run (List ℕ)) → LeftAt sc f h r → bottom_fun r.frames ≡ f
 fun_of sc f h r l = ap bottom_fun (sym l.frames) ∙ bottom_of h.forms f h.st.vars
 
 -- the forms at the next wait can be saved
-pub saves : (digest : List ℕ → List ℕ) (sc : Script) (r : Run (List ℕ)) (es : List held.Entry) (e : rust.End) (st : Vars) → StepsFit sc → FitsRun sc r → 0 < r.waits → ((f : List ℕ) (xs : Pairs (List ℕ)) (g : Formed sc (body_places (body_of f sc)) f xs r.frames) → forms es ≡ g.forms) → (h : Halt (List ℕ)) → first_halt (config (over_names digest sc) es (Control.End e) st) ≡ Some h → AreReady (λ i. node_at sc i) h.forms → AllCanSave h.forms
+pub saves : (digest : List ℕ → List ℕ) (sc : Script) (r : Run (List ℕ)) (es : List held.Entry) (e : rust.End) (st : Vars) → StepsFit sc
+    → FitsRun sc r → 0 < r.waits → ((f : List ℕ) (xs : Pairs (List ℕ)) (g : Formed sc (body_places (body_of f sc)) f xs r.frames) → forms es
+    ≡ g.forms) → (h : Halt (List ℕ)) → first_halt (config (over_names digest sc) es (Control.End e) st) ≡ Some h
+    → AreReady (λ i. node_at sc i) h.forms → AllCanSave h.forms
 saves digest sc r es e st steps fits waits same h is ready =
     let w = over_names digest sc in
     let o = run_formed sc r fits waits in
     let fr : forms es ≡ o.2.forms = same o.0 o.1 o.2 in
-    let there : first_halt (plug w others o.2.forms (Fin (end_of e) st)) ≡ Some h = subst (λ xs. first_halt (plug w others xs (Fin (end_of e) st)) ≡ Some h) fr is in
-    can_save sc steps h.forms (body_places (body_of o.0 sc)) (rest_chained w others o.0 o.2.forms (end_of e) st h o.2.chained o.2.all_opened there) (rest_taken w others o.2.forms (end_of e) st h (fit_taken sc o.2.forms (body_places (body_of o.0 sc)) o.2.chained o.2.all_opened) there) ready
+    let there : first_halt (plug w others o.2.forms (Fin (end_of e) st)) ≡ Some h =
+    subst (λ xs. first_halt (plug w others xs (Fin (end_of e) st)) ≡ Some h) fr is in
+    can_save sc steps h.forms (body_places (body_of o.0 sc))
+    (rest_chained w others o.0 o.2.forms (end_of e) st h o.2.chained o.2.all_opened there)
+    (rest_taken w others o.2.forms (end_of e) st h (fit_taken sc o.2.forms (body_places (body_of o.0 sc)) o.2.chained o.2.all_opened) there)
+    ready

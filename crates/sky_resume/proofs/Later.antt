@@ -1,5 +1,6 @@
 -- Behind its end a task has no wait.
-use Rattle.std.proofs.Common.{◌≡◌, ◌≢◌, ℕ, zero, suc, ◌+◌, ◌-◌, ◌<◌, ◌≤◌, true, List, [], ◌∷◌, Option, Some, None, slice_get, refl, sym, ap, ◌∙◌, subst, arith}
+use Rattle.std.proofs.Common.{◌≡◌, ◌≢◌, ℕ, zero, suc, ◌+◌, ◌-◌, ◌<◌, ◌≤◌, true, List, [], ◌∷◌, Option, Some, None, slice_get, refl, sym, ap, ◌∙◌}
+use Rattle.std.proofs.Common.{subst, arith}
 use Rattle.sky_base.specs.See.{Desc, Job, Around}
 use Rattle.sky_base.specs.Needed.{Task, wait_at}
 use Rattle.sky_law.specs.NamesLaws.{Tag}
@@ -25,6 +26,8 @@ module _ (tag : Tag) (job : Job) (around : Around) where
   no_later n t j e none zero ds lt w = absurd (omega (arith, lt))
   no_later n t j e none (suc i) ds lt (m, at) =
       let same : acts_of job around (m + n) t ≡ acts_of job around n t = (ended_stays_to job around n (m + n) t (omega arith) e).1 in
-      let there : slice_get (waits_in (acts_of job around (m + n) t)) i ≡ Some ds = waits_at job around (m + n) t i ∙ wait_to job around m (m + n) t (suc i) ds (omega arith) at in
-      let gone : slice_get (waits_in (acts_of job around n t)) i ≡ None = none_on (waits_in (acts_of job around n t)) j i (omega (arith, lt)) (waits_at job around n t j ∙ none) in
+      let there : slice_get (waits_in (acts_of job around (m + n) t)) i ≡ Some ds = waits_at job around (m + n) t i
+      ∙ wait_to job around m (m + n) t (suc i) ds (omega arith) at in
+      let gone : slice_get (waits_in (acts_of job around n t)) i ≡ None =
+      none_on (waits_in (acts_of job around n t)) j i (omega (arith, lt)) (waits_at job around n t j ∙ none) in
       some_not ds (sym there ∙ ap (λ x. slice_get (waits_in x) i) same ∙ gone)

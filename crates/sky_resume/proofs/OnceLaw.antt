@@ -58,13 +58,16 @@ module _ (look : Desc → Option Obj) where
   blame_once before [] h = refl
   blame_once before (d ∷ ds) h = known (λ g. blame_once (d ∷ before) ds (g, h)) (stands_in (λ a b. true) d before) refl
     where
-      fresh : (Blameless d → blame (distinct_from (λ a b. true) (d ∷ before) ds) ≡ blame ds) → (o : Option Obj) → look d ≡ o → blame_one (look d) (blame (distinct_from (λ a b. true) (d ∷ before) ds)) ≡ blame_one (look d) (blame ds)
+      fresh : (Blameless d → blame (distinct_from (λ a b. true) (d ∷ before) ds) ≡ blame ds) → (o : Option Obj) → look d ≡ o
+          → blame_one (look d) (blame (distinct_from (λ a b. true) (d ∷ before) ds)) ≡ blame_one (look d) (blame ds)
       fresh later None e = ap (blame_one (look d)) (later (λ rest. ap (λ o. blame_one o rest) e))
       fresh later (Some (Object.bytes b)) e = ap (blame_one (look d)) (later (λ rest. ap (λ o. blame_one o rest) e))
       fresh later (Some (Object.data_of x)) e = ap (blame_one (look d)) (later (λ rest. ap (λ o. blame_one o rest) e))
-      fresh later (Some (Object.fault f)) e = ap (λ o. blame_one o (blame (distinct_from (λ a b. true) (d ∷ before) ds))) e ∙ sym (ap (λ o. blame_one o (blame ds)) e)
+      fresh later (Some (Object.fault f)) e = ap (λ o. blame_one o (blame (distinct_from (λ a b. true) (d ∷ before) ds))) e
+          ∙ sym (ap (λ o. blame_one o (blame ds)) e)
 
-      known : (Blameless d → blame (distinct_from (λ a b. true) (d ∷ before) ds) ≡ blame ds) → (b : Bool) → stands_in (λ a b. true) d before ≡ b → blame (unless_in (λ a b. true) b d (distinct_from (λ a b. true) (d ∷ before) ds)) ≡ blame (d ∷ ds)
+      known : (Blameless d → blame (distinct_from (λ a b. true) (d ∷ before) ds) ≡ blame ds) → (b : Bool) → stands_in (λ a b. true) d before ≡ b
+          → blame (unless_in (λ a b. true) b d (distinct_from (λ a b. true) (d ∷ before) ds)) ≡ blame (d ∷ ds)
       known later true e =
           let good : Blameless d = in_each Blameless before d h (stands_exact (λ a b. true) (λ a b c. absurd a) (λ a. absurd a) d before e) in
           later good ∙ sym (good (blame ds))
@@ -74,7 +77,8 @@ module _ (look : Desc → Option Obj) where
   seen_blame [] os e = ap fault_in (sym (some_is [] os e))
   seen_blame (d ∷ ds) os e = go (λ xs j. seen_blame ds xs j) (look d) refl (see_all look ds) refl e
     where
-      go : ((xs : List Obj) → see_all look ds ≡ Some xs → fault_in xs ≡ blame ds) → (x : Option Obj) → look d ≡ x → (y : Option (List Obj)) → see_all look ds ≡ y → joined x y ≡ Some os → fault_in os ≡ blame_one (look d) (blame ds)
+      go : ((xs : List Obj) → see_all look ds ≡ Some xs → fault_in xs ≡ blame ds) → (x : Option Obj) → look d ≡ x → (y : Option (List Obj))
+          → see_all look ds ≡ y → joined x y ≡ Some os → fault_in os ≡ blame_one (look d) (blame ds)
       go more None i y j k = absurd (none_some os k)
       go more (Some o) i None j k = absurd (none_some os k)
       go more (Some o) i (Some xs) j k =
@@ -94,7 +98,8 @@ module _ (look : Desc → Option Obj) where
   seen_each [] os e = tt
   seen_each (d ∷ ds) os e = go (λ xs j. seen_each ds xs j) (look d) refl (see_all look ds) refl e
     where
-      go : ((xs : List Obj) → see_all look ds ≡ Some xs → Each Seen ds) → (x : Option Obj) → look d ≡ x → (y : Option (List Obj)) → see_all look ds ≡ y → joined x y ≡ Some os → Seen d × Each Seen ds
+      go : ((xs : List Obj) → see_all look ds ≡ Some xs → Each Seen ds) → (x : Option Obj) → look d ≡ x → (y : Option (List Obj))
+          → see_all look ds ≡ y → joined x y ≡ Some os → Seen d × Each Seen ds
       go more None i y j k = absurd (none_some os k)
       go more (Some o) i None j k = absurd (none_some os k)
       go more (Some o) i (Some xs) j k = ((o, i), more xs j)
@@ -109,15 +114,20 @@ module _ (look : Desc → Option Obj) where
   from_each P [] h = tt
   from_each P (d ∷ ds) h = (h d (inl refl), from_each P ds (λ e i. h e (inr i)))
 
-  pub see_whole : (ds : List Desc) (os : List Obj) → see_all look (distinct (λ a b. true) ds) ≡ Some os → (xs : List Obj) × (see_all look ds ≡ Some xs)
+  pub see_whole : (ds : List Desc) (os : List Obj) → see_all look (distinct (λ a b. true) ds) ≡ Some os → (xs : List Obj)
+      × (see_all look ds ≡ Some xs)
   see_whole ds os e =
-      each_seen ds (from_each Seen ds (λ d i. in_each Seen (distinct (λ a b. true) ds) d (seen_each (distinct (λ a b. true) ds) os e) (in_distinct (λ a b. true) (λ a b c. absurd a) (λ a. absurd a) ds d i)))
+      each_seen ds (from_each Seen ds (λ d i. in_each Seen (distinct (λ a b. true) ds) d (seen_each (distinct (λ a b. true) ds) os e)
+      (in_distinct (λ a b. true) (λ a b c. absurd a) (λ a. absurd a) ds d i)))
 
-  pub ends_once : (w : World (List ℕ)) (tag : Tag) (q : Wait ⊥) (os xs : List Obj) → see_all look (distinct (λ a b. true) (refs_of q)) ≡ Some os → see_all look (refs_of q) ≡ Some xs → wait_end w (low_wait no_name tag q) (map (low_obj no_name tag) os) ≡ wait_end w (low_wait no_name tag q) (map (low_obj no_name tag) xs)
+  pub ends_once : (w : World (List ℕ)) (tag : Tag) (q : Wait ⊥) (os xs : List Obj) → see_all look (distinct (λ a b. true) (refs_of q)) ≡ Some os
+      → see_all look (refs_of q) ≡ Some xs → wait_end w (low_wait no_name tag q) (map (low_obj no_name tag) os)
+      ≡ wait_end w (low_wait no_name tag q) (map (low_obj no_name tag) xs)
   ends_once w tag (one_of p d) os xs e g =
       ap (λ ys. wait_end w (low_wait no_name tag (one_of p d)) (map (low_obj no_name tag) ys)) (some_is os xs (sym e ∙ g))
   ends_once w tag (all_of ds) os xs e g =
       let low = map (low_ref no_name tag) ds in
       exec_by low (map (low_obj no_name tag) os)
-      ∙ ap (end_by low) (fault_low tag os ∙ seen_blame (distinct (λ a b. true) ds) os e ∙ blame_once [] ds tt ∙ sym (seen_blame ds xs g) ∙ sym (fault_low tag xs))
+      ∙ ap (end_by low) (fault_low tag os ∙ seen_blame (distinct (λ a b. true) ds) os e ∙ blame_once [] ds tt ∙ sym (seen_blame ds xs g)
+      ∙ sym (fault_low tag xs))
       ∙ sym (exec_by low (map (low_obj no_name tag) xs))

@@ -2,7 +2,9 @@
 use Rattle.std.proofs.Common.{◌≡◌, ◌≤◌, ◌<◌, ◌^◌, ℕ, List, [], ◌∷◌, Option, Some, None, refl, arith}
 use Rattle.sky_base.specs.Val.{Pairs, sizes}
 use Rattle.sky_base.specs.Tree.{Script}
-use Rattle.sky_base.specs.Res.{Entry, parens_in, part_at, chain_first, chain_more, logic_at, prefix_part, star_wait, postfix_first, index_at, arg_at, call_open, exec_wait, set_part, add_part, put_index, put_value, return_part, just_part, arm_test, while_test, while_body, repeat_body, repeat_test, for_list, for_body, block_at, node_of, step_of, opens}
+use Rattle.sky_base.specs.Res.{Entry, parens_in, part_at, chain_first, chain_more, logic_at, prefix_part, star_wait, postfix_first, index_at, arg_at}
+use Rattle.sky_base.specs.Res.{call_open, exec_wait, set_part, add_part, put_index, put_value, return_part, just_part, arm_test, while_test}
+use Rattle.sky_base.specs.Res.{while_body, repeat_body, repeat_test, for_list, for_body, block_at, node_of, step_of, opens}
 use Rattle.sky_base.specs.Eval.{body_of}
 use Rattle.sky_law.specs.Opened.{Node}
 use Rattle.sky_law.specs.Nodes.{node_at}
@@ -52,7 +54,8 @@ module _ (sc : Script) (fits : StepsFit sc) where
   abbrev Chain : List ℕ → List (Entry (List ℕ)) → Type 0
   Chain ps fr = Chained sc (AtIn sc) ps fr
 
-  is_step : (r : Row) (o : Option (List ℕ × Pairs (List ℕ))) (fr : List (Entry (List ℕ))) → Above sc (AtIn sc) r o (fr ≡ []) (λ ms. Chain ms fr) → IsStep r
+  is_step : (r : Row) (o : Option (List ℕ × Pairs (List ℕ))) (fr : List (Entry (List ℕ))) → Above sc (AtIn sc) r o (fr ≡ []) (λ ms. Chain ms fr)
+      → IsStep r
   is_step (part k ms) o fr h = tt
   is_step (turn m) o fr h = tt
   is_step star o fr h = tt
@@ -68,7 +71,8 @@ module _ (sc : Script) (fits : StepsFit sc) where
       go None e s = absurd s
       go (Some t) e s = fits t n k s e
 
-  above_more : (r : Row) (o : Option (List ℕ × Pairs (List ℕ))) (x : Entry (List ℕ)) (fr : List (Entry (List ℕ))) → Above sc (AtIn sc) r o ((x ∷ fr) ≡ []) (λ ms. Chain ms (x ∷ fr)) → (ms : List ℕ) × Chain ms (x ∷ fr)
+  above_more : (r : Row) (o : Option (List ℕ × Pairs (List ℕ))) (x : Entry (List ℕ)) (fr : List (Entry (List ℕ)))
+      → Above sc (AtIn sc) r o ((x ∷ fr) ≡ []) (λ ms. Chain ms (x ∷ fr)) → (ms : List ℕ) × Chain ms (x ∷ fr)
   above_more (part k ms) None x fr h = (ms, h)
   above_more (part k ms) (Some c) x fr h = absurd h
   above_more (turn m) None x fr h = (m ∷ [], h)

@@ -3,7 +3,9 @@ use Rattle.std.proofs.Common.{◌≡◌, ℕ, List, [], ◌∷◌, ◌++◌, Opt
 use Rattle.sky_base.specs.Val.{Val, Pairs, Desc, list, refs_to}
 use Rattle.sky_base.specs.Kept.{Kept}
 use Rattle.sky_base.specs.Tree.{Script, SignAt}
-use Rattle.sky_base.specs.Res.{Entry, parens_in, part_at, chain_first, chain_more, logic_at, prefix_part, star_wait, postfix_first, index_at, arg_at, call_open, exec_wait, set_part, add_part, put_index, put_value, return_part, just_part, arm_test, while_test, while_body, repeat_body, repeat_test, for_list, for_body, block_at, node_of, kept_of, opens, all_of}
+use Rattle.sky_base.specs.Res.{Entry, parens_in, part_at, chain_first, chain_more, logic_at, prefix_part, star_wait, postfix_first, index_at, arg_at}
+use Rattle.sky_base.specs.Res.{call_open, exec_wait, set_part, add_part, put_index, put_value, return_part, just_part, arm_test, while_test}
+use Rattle.sky_base.specs.Res.{while_body, repeat_body, repeat_test, for_list, for_body, block_at, node_of, kept_of, opens, all_of}
 use Rattle.sky_base.specs.Read.{Todo, Frame, Run, todo_of, in_front, frame_of, frames_of}
 use Rattle.sky_law.specs.Opened.{Node}
 use Rattle.sky_law.specs.Nodes.{node_at}
@@ -21,11 +23,13 @@ module _ (P : Val (List ℕ) → Type 0) where
   left_each [] us h = (tt, h)
   left_each (v ∷ vs) us h = let more = left_each vs us h.1 in ((h.0, more.0), more.1)
 
-  front_kept : (t : Todo) (vs : List (Val (List ℕ))) (fs : List (Frame (List ℕ))) → (fs ≡ [] → ⊥) → Stacked (in_front t vs fs) → Each P vs × Stacked fs
+  front_kept : (t : Todo) (vs : List (Val (List ℕ))) (fs : List (Frame (List ℕ))) → (fs ≡ [] → ⊥) → Stacked (in_front t vs fs) → Each P vs
+      × Stacked fs
   front_kept t vs [] some h = absurd (some refl)
   front_kept t vs (f ∷ fs) some h = let parts = left_each vs f.stack h.0 in (parts.0, (parts.1, h.1))
 
-  some_frame : (o : Option (List ℕ × Pairs (List ℕ))) (f : List ℕ) (t : Todo) (vs : List (Val (List ℕ))) (same : List (Frame (List ℕ))) (above : List ℕ → List (Frame (List ℕ))) → (same ≡ [] → ⊥) → frame_of o f t vs same above ≡ [] → ⊥
+  some_frame : (o : Option (List ℕ × Pairs (List ℕ))) (f : List ℕ) (t : Todo) (vs : List (Val (List ℕ))) (same : List (Frame (List ℕ)))
+      (above : List ℕ → List (Frame (List ℕ))) → (same ≡ [] → ⊥) → frame_of o f t vs same above ≡ [] → ⊥
   some_frame None f t vs [] above some e = some refl
   some_frame None f t vs (g ∷ gs) above some e = cc
   some_frame (Some c) f t vs same above some e = cc
@@ -35,7 +39,9 @@ module _ (P : Val (List ℕ) → Type 0) where
   frames_some (en ∷ fr) f xs e =
       some_frame (opens en) f (todo_of en) (kept_of en) (frames_of fr f xs) (λ g. frames_of fr g xs) (frames_some fr f xs) e
 
-  parts_kept : (o : Option (List ℕ × Pairs (List ℕ))) (f : List ℕ) (t : Todo) (vs : List (Val (List ℕ))) (same : List (Frame (List ℕ))) (above : List ℕ → List (Frame (List ℕ))) (Q : Type 0) → (same ≡ [] → ⊥) → (Stacked same → Q) → ((g : List ℕ) → Stacked (above g) → Q) → Stacked (frame_of o f t vs same above) → Each P vs × Q
+  parts_kept : (o : Option (List ℕ × Pairs (List ℕ))) (f : List ℕ) (t : Todo) (vs : List (Val (List ℕ))) (same : List (Frame (List ℕ)))
+      (above : List ℕ → List (Frame (List ℕ))) (Q : Type 0) → (same ≡ [] → ⊥) → (Stacked same → Q) → ((g : List ℕ) → Stacked (above g) → Q)
+      → Stacked (frame_of o f t vs same above) → Each P vs × Q
   parts_kept None f t vs same above Q some i j h = let parts = front_kept t vs same some h in (parts.0, i parts.1)
   parts_kept (Some c) f t vs same above Q some i j h = (h.0, j c.0 h.1)
 
@@ -43,13 +49,15 @@ module _ (P : Val (List ℕ) → Type 0) where
   pub forms_kept : (fr : List (Entry (List ℕ))) (f : List ℕ) (xs : Pairs (List ℕ)) → Stacked (frames_of fr f xs) → Each (λ en. Each P (kept_of en)) fr
   forms_kept [] f xs h = tt
   forms_kept (en ∷ fr) f xs h =
-      parts_kept (opens en) f (todo_of en) (kept_of en) (frames_of fr f xs) (λ g. frames_of fr g xs) (Each (λ e. Each P (kept_of e)) fr) (frames_some fr f xs) (λ k. forms_kept fr f xs k) (λ g k. forms_kept fr g xs k) h
+      parts_kept (opens en) f (todo_of en) (kept_of en) (frames_of fr f xs) (λ g. frames_of fr g xs) (Each (λ e. Each P (kept_of e)) fr)
+      (frames_some fr f xs) (λ k. forms_kept fr f xs k) (λ g k. forms_kept fr g xs k) h
 
   no_star : (s : Option SignAt) (d : Desc (List ℕ)) (ds : List (Desc (List ℕ))) → star_at s d ≡ Some (all_of ds) → ⊥
   no_star None d ds e = cc
   no_star (Some s) d ds e = cc
 
-  one_waits : (t : Option Node) (en : Entry (List ℕ)) (ds : List (Desc (List ℕ))) → waits_for t en ≡ Some (all_of ds) → Each P (kept_of en) → P (list (refs_to ds))
+  one_waits : (t : Option Node) (en : Entry (List ℕ)) (ds : List (Desc (List ℕ))) → waits_for t en ≡ Some (all_of ds) → Each P (kept_of en)
+      → P (list (refs_to ds))
   one_waits t (star_wait n k d ss) ds e h = absurd (no_star (sign_at (signs_of t) k) d ds e)
   one_waits t (exec_wait n es) ds e h = let same : es ≡ ds = cc in subst (λ xs. P (list (refs_to xs))) same h.0
   one_waits t (parens_in n) ds e h = absurd cc
@@ -77,7 +85,8 @@ module _ (P : Val (List ℕ) → Type 0) where
   one_waits t (for_body n m i p x vs b) ds e h = absurd cc
   one_waits t (block_at n k m b) ds e h = absurd cc
 
-  all_wait : (at : ℕ → Option Node) (fr : List (Entry (List ℕ))) (ds : List (Desc (List ℕ))) → wait_at at fr ≡ Some (all_of ds) → Each (λ en. Each P (kept_of en)) fr → P (list (refs_to ds))
+  all_wait : (at : ℕ → Option Node) (fr : List (Entry (List ℕ))) (ds : List (Desc (List ℕ))) → wait_at at fr ≡ Some (all_of ds)
+      → Each (λ en. Each P (kept_of en)) fr → P (list (refs_to ds))
   all_wait at [] ds e h = absurd cc
   all_wait at (en ∷ []) ds e h = one_waits (at (node_of en)) en ds e h.0
   all_wait at (en ∷ x ∷ fr) ds e h = all_wait at (x ∷ fr) ds e h.1
@@ -91,9 +100,12 @@ stacks_sound sc (f ∷ fs) h = (kept f.stack h.0.values, stacks_sound sc fs h.1)
     kept (v ∷ vs) h = (h.0.0, kept vs h.1)
 
 -- the list of the references that an `exec` waits for keeps the limits
-pub list_kept : (sc : Script) (r : Run (List ℕ)) (fr : List (Entry (List ℕ))) (f : List ℕ) (xs : Pairs (List ℕ)) (ds : List (Desc (List ℕ))) → FitsRun sc r → frames_of fr f xs ≡ r.frames → wait_in sc fr ≡ Some (all_of ds) → Kept (list (refs_to ds))
+pub list_kept : (sc : Script) (r : Run (List ℕ)) (fr : List (Entry (List ℕ))) (f : List ℕ) (xs : Pairs (List ℕ)) (ds : List (Desc (List ℕ)))
+    → FitsRun sc r → frames_of fr f xs ≡ r.frames → wait_in sc fr ≡ Some (all_of ds) → Kept (list (refs_to ds))
 list_kept sc r fr f xs ds fits is e =
-    all_wait (λ v. Kept v) (λ i. node_at sc i) fr ds e (forms_kept (λ v. Kept v) fr f xs (subst (λ fs. Each (λ g. Each (λ v. Kept v) g.stack) fs) (sym is) (stacks_sound sc r.frames fits.frames)))
+    all_wait (λ v. Kept v) (λ i. node_at sc i) fr ds e
+    (forms_kept (λ v. Kept v) fr f xs (subst (λ fs. Each (λ g. Each (λ v. Kept v) g.stack) fs) (sym is)
+    (stacks_sound sc r.frames fits.frames)))
 
 -- ---- the function of the bottom frame
 
@@ -101,7 +113,8 @@ front_fun : (t : Todo) (vs : List (Val (List ℕ))) (fs : List (Frame (List ℕ)
 front_fun t vs [] = refl
 front_fun t vs (f ∷ fs) = refl
 
-frame_fun : (o : Option (List ℕ × Pairs (List ℕ))) (f : List ℕ) (t : Todo) (vs : List (Val (List ℕ))) (same : List (Frame (List ℕ))) (above : List ℕ → List (Frame (List ℕ))) → bottom_fun same ≡ f → bottom_fun (frame_of o f t vs same above) ≡ f
+frame_fun : (o : Option (List ℕ × Pairs (List ℕ))) (f : List ℕ) (t : Todo) (vs : List (Val (List ℕ))) (same : List (Frame (List ℕ)))
+    (above : List ℕ → List (Frame (List ℕ))) → bottom_fun same ≡ f → bottom_fun (frame_of o f t vs same above) ≡ f
 frame_fun None f t vs same above e = front_fun t vs same ∙ e
 frame_fun (Some c) f t vs same above e = refl
 

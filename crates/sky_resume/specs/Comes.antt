@@ -61,7 +61,8 @@ module _ {N : Type 0} where
   object_at (End.returned v) = logic.Object.data_of v
   object_at (End.failed f) = logic.Object.fault f
 
--- the call of f, which stood at its wait j, ends with the object that the run has; or it waits next, one wait further, with the stack of the run's next wait
+-- the call of f, which stood at its wait j, ends with the object that the run has; or it waits next, one wait further, with the stack of the run's
+-- next wait
 abbrev pub Comes : List ℕ → ℕ → logic.Res (List ℕ) → Came → Run (List ℕ) → Type 0
 Comes f j r (Came.Ended o) new = (s : End (List ℕ) × St (List ℕ)) × (first_end r ≡ Some s) × (object_view o ≡ object_at s.0)
 Comes f j r Came.Waits new = (h : Halt (List ℕ)) × (first_halt r ≡ Some h) × (new ≡ run_of_halt f (suc j) h)

@@ -25,7 +25,8 @@ module _ (digest : List ℕ → List ℕ) where
   -- replaced by its name
   abbrev pub AnsweredBy : Job → Around → (n : ℕ) → Task → (j : ℕ) → List (Object (List ℕ)) → Type 0
   AnsweredBy job around n t j given =
-      (ds : List Desc) × (os : List Obj) × (wait_at job around n t j ≡ Some ds) × (see_all (see job around n) (distinct (λ a b. true) ds) ≡ Some os) × (given ≡ map (low_obj no_name (digested digest)) os)
+      (ds : List Desc) × (os : List Obj) × (wait_at job around n t j ≡ Some ds)
+      × (see_all (see job around n) (distinct (λ a b. true) ds) ≡ Some os) × (given ≡ map (low_obj no_name (digested digest)) os)
 
   -- the call ended, with no wait after this one, with the object that it is seen as, or the stack stands for it at its next wait
   abbrev pub StandsOn : Job → Around → Desc → (j : ℕ) → Came → Run (List ℕ) → Type 0

@@ -67,7 +67,8 @@ fn end_of_wait(
 ) -> Result<End, Memory>
     requires list { (ds : List (Desc (List ℕ))) → wait_in nodes.now (forms entries.now) ≡ Some (all_of ds) → Kept (list (refs_to ds)) }
     requires objects { AnswersKept answers.now }
-    ensures end { IfOk result (λ e. (w : World (List ℕ)) (q : logic.Wait (List ℕ)) → ReadsData w → wait_in nodes.now (forms entries.now) ≡ Some q → end_of e ≡ wait_end w q (map object_view answers.now)) }
+    ensures end { IfOk result (λ e. (w : World (List ℕ)) (q : logic.Wait (List ℕ)) → ReadsData w → wait_in nodes.now (forms entries.now) ≡ Some q
+        → end_of e ≡ wait_end w q (map object_view answers.now)) }
     ensures ready { IfOk result EndReady }
 {
     match waiting(alloc, nodes, entries)? {
@@ -94,9 +95,14 @@ pub(crate) fn run_from<'a, 'b, N: Namer>(
     requires room { opened (forms entries.old.items) + left.old ≡ others }
     requires within { state.old.count ≤ visits }
     requires waits { run.old.waits < 2 ^ 32 - 1 }
-    requires saves { (h : Halt (List ℕ)) → first_halt (config (over_names (N.digest ground.now.namer.now) ground.now.code.now) entries.old.items control state.old) ≡ Some h → AreReady (λ i. node_at ground.now.code.now i) h.forms → AllCanSave h.forms }
-    ensures comes { IfOk result (λ c. Comes fun.now run.old.waits (config (over_names (N.digest ground.now.namer.now) ground.now.code.now) entries.old.items control.entry state.old) c (run_of run.new)) }
-    ensures made { IfOk result (λ c. run.new.spawned ≡ run.old.spawned ++ map (with_name (N.digest ground.now.namer.now)) (segment (config (over_names (N.digest ground.now.namer.now) ground.now.code.now) entries.old.items control.entry state.old))) }
+    requires saves { (h : Halt (List ℕ)) → first_halt
+        (config (over_names (N.digest ground.now.namer.now) ground.now.code.now) entries.old.items control state.old) ≡ Some h
+        → AreReady (λ i. node_at ground.now.code.now i) h.forms → AllCanSave h.forms }
+    ensures comes { IfOk result (λ c. Comes fun.now run.old.waits
+        (config (over_names (N.digest ground.now.namer.now) ground.now.code.now) entries.old.items control.entry state.old) c (run_of run.new)) }
+    ensures made { IfOk result (λ c. run.new.spawned ≡ run.old.spawned
+        ++ map (with_name (N.digest ground.now.namer.now))
+        (segment (config (over_names (N.digest ground.now.namer.now) ground.now.code.now) entries.old.items control.entry state.old))) }
 {
     let alloc = ground.alloc;
     let mut made = mem::replace(&mut run.spawned, Spawned::new(alloc)).into_vec();
@@ -129,10 +135,16 @@ pub fn go_on<'a, 'b, N: Namer>(
     requires fits { FitsRun script.now.code (run_of run.old) }
     requires waits { 0 < run.old.waits }
     requires answers { AnswersKept answers.now }
-    ensures comes { IfOk result (λ c. (f : List ℕ) (h : Halt (List ℕ)) → LeftAt script.now.code f h (run_of run.old) → Comes f run.old.waits (rest_of (over_names (N.digest namer.now) script.now.code) others h (map object_view answers.now)) c (run_of run.new)) }
-    ensures made { IfOk result (λ c. (f : List ℕ) (h : Halt (List ℕ)) → LeftAt script.now.code f h (run_of run.old) → run.new.spawned ≡ run.old.spawned ++ map (with_name (N.digest namer.now)) (segment (rest_of (over_names (N.digest namer.now) script.now.code) others h (map object_view answers.now)))) }
-    ensures stands { IfOk result (λ c. (j : ℕ) → GoesOnAs (N.digest namer.now) (suc j) script.now.code (run_of run.old) answers.now c (run_of run.new)) }
-    ensures makes { IfOk result (λ c. (j : ℕ) → MakesAs (N.digest namer.now) (suc j) script.now.code (run_of run.old) answers.now run.old.spawned run.new.spawned) }
+    ensures comes { IfOk result (λ c. (f : List ℕ) (h : Halt (List ℕ)) → LeftAt script.now.code f h (run_of run.old)
+        → Comes f run.old.waits (rest_of (over_names (N.digest namer.now) script.now.code) others h (map object_view answers.now)) c
+        (run_of run.new)) }
+    ensures made { IfOk result (λ c. (f : List ℕ) (h : Halt (List ℕ)) → LeftAt script.now.code f h (run_of run.old) → run.new.spawned
+        ≡ run.old.spawned ++ map (with_name (N.digest namer.now))
+        (segment (rest_of (over_names (N.digest namer.now) script.now.code) others h (map object_view answers.now)))) }
+    ensures stands { IfOk result (λ c. (j : ℕ) → GoesOnAs (N.digest namer.now) (suc j) script.now.code (run_of run.old) answers.now c
+        (run_of run.new)) }
+    ensures makes { IfOk result (λ c. (j : ℕ) → MakesAs (N.digest namer.now) (suc j) script.now.code (run_of run.old) answers.now run.old.spawned
+        run.new.spawned) }
 {
     let came = from_wait(alloc, script, run, answers, namer)?;
     Ok(came)
@@ -151,8 +163,12 @@ fn from_wait<'a, 'b, N: Namer>(
     requires fits { FitsRun script.now.code (run_of run.old) }
     requires waits { 0 < run.old.waits }
     requires answers { AnswersKept answers.now }
-    ensures comes { IfOk result (λ c. (f : List ℕ) (h : Halt (List ℕ)) → LeftAt script.now.code f h (run_of run.old) → Comes f run.old.waits (rest_of (over_names (N.digest namer.now) script.now.code) others h (map object_view answers.now)) c (run_of run.new)) }
-    ensures made { IfOk result (λ c. (f : List ℕ) (h : Halt (List ℕ)) → LeftAt script.now.code f h (run_of run.old) → run.new.spawned ≡ run.old.spawned ++ map (with_name (N.digest namer.now)) (segment (rest_of (over_names (N.digest namer.now) script.now.code) others h (map object_view answers.now)))) }
+    ensures comes { IfOk result (λ c. (f : List ℕ) (h : Halt (List ℕ)) → LeftAt script.now.code f h (run_of run.old)
+        → Comes f run.old.waits (rest_of (over_names (N.digest namer.now) script.now.code) others h (map object_view answers.now)) c
+        (run_of run.new)) }
+    ensures made { IfOk result (λ c. (f : List ℕ) (h : Halt (List ℕ)) → LeftAt script.now.code f h (run_of run.old) → run.new.spawned
+        ≡ run.old.spawned ++ map (with_name (N.digest namer.now))
+        (segment (rest_of (over_names (N.digest namer.now) script.now.code) others h (map object_view answers.now)))) }
 {
     let fun = bottom(alloc, run)?;
     let mut left = 64 - run.frames.as_slice().len() as u32;

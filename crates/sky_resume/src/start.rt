@@ -39,8 +39,13 @@ pub fn begin<'a, 'b, N: Namer>(
     requires steps { StepsFit script.now.code }
     requires fits { FitsRun script.now.code (run_of run.old) }
     requires start { run.old.waits ≡ 0 }
-    ensures comes { IfOk result (λ came. (f : List ℕ) (c : logic.Pairs (List ℕ)) (vs : logic.Vals (List ℕ)) → StartsCall script.now.code f c vs (Stand.run (run_of run.old)) → Comes f 0 (body_at (over_names (N.digest namer.now) script.now.code) bodies f c vs nowhere start_st) came (run_of run.new)) }
-    ensures made { IfOk result (λ came. (f : List ℕ) (c : logic.Pairs (List ℕ)) (vs : logic.Vals (List ℕ)) → StartsCall script.now.code f c vs (Stand.run (run_of run.old)) → run.new.spawned ≡ run.old.spawned ++ map (with_name (N.digest namer.now)) (segment (body_at (over_names (N.digest namer.now) script.now.code) bodies f c vs nowhere start_st))) }
+    ensures comes { IfOk result (λ came. (f : List ℕ) (c : logic.Pairs (List ℕ)) (vs : logic.Vals (List ℕ))
+        → StartsCall script.now.code f c vs (Stand.run (run_of run.old))
+        → Comes f 0 (body_at (over_names (N.digest namer.now) script.now.code) bodies f c vs nowhere start_st) came (run_of run.new)) }
+    ensures made { IfOk result (λ came. (f : List ℕ) (c : logic.Pairs (List ℕ)) (vs : logic.Vals (List ℕ))
+        → StartsCall script.now.code f c vs (Stand.run (run_of run.old)) → run.new.spawned ≡ run.old.spawned
+        ++ map (with_name (N.digest namer.now)) (segment
+        (body_at (over_names (N.digest namer.now) script.now.code) bodies f c vs nowhere start_st))) }
     ensures stands { IfOk result (λ came. GoesOnAs (N.digest namer.now) 0 script.now.code (run_of run.old) [] came (run_of run.new)) }
     ensures makes { IfOk result (λ came. MakesAs (N.digest namer.now) 0 script.now.code (run_of run.old) [] run.old.spawned run.new.spawned) }
 {
@@ -59,8 +64,13 @@ fn from_start<'a, 'b, N: Namer>(
     requires steps { StepsFit script.now.code }
     requires fits { FitsRun script.now.code (run_of run.old) }
     requires start { run.old.waits ≡ 0 }
-    ensures comes { IfOk result (λ came. (f : List ℕ) (c : logic.Pairs (List ℕ)) (vs : logic.Vals (List ℕ)) → StartsCall script.now.code f c vs (Stand.run (run_of run.old)) → Comes f 0 (body_at (over_names (N.digest namer.now) script.now.code) bodies f c vs nowhere start_st) came (run_of run.new)) }
-    ensures made { IfOk result (λ came. (f : List ℕ) (c : logic.Pairs (List ℕ)) (vs : logic.Vals (List ℕ)) → StartsCall script.now.code f c vs (Stand.run (run_of run.old)) → run.new.spawned ≡ run.old.spawned ++ map (with_name (N.digest namer.now)) (segment (body_at (over_names (N.digest namer.now) script.now.code) bodies f c vs nowhere start_st))) }
+    ensures comes { IfOk result (λ came. (f : List ℕ) (c : logic.Pairs (List ℕ)) (vs : logic.Vals (List ℕ))
+        → StartsCall script.now.code f c vs (Stand.run (run_of run.old))
+        → Comes f 0 (body_at (over_names (N.digest namer.now) script.now.code) bodies f c vs nowhere start_st) came (run_of run.new)) }
+    ensures made { IfOk result (λ came. (f : List ℕ) (c : logic.Pairs (List ℕ)) (vs : logic.Vals (List ℕ))
+        → StartsCall script.now.code f c vs (Stand.run (run_of run.old)) → run.new.spawned ≡ run.old.spawned
+        ++ map (with_name (N.digest namer.now)) (segment
+        (body_at (over_names (N.digest namer.now) script.now.code) bodies f c vs nowhere start_st))) }
 {
     let fun = bottom(alloc, run)?;
     let mut state = State::of(variables(alloc, run)?, 0);

@@ -1,5 +1,6 @@
 -- What is held once one more description is made.
-use Rattle.std.proofs.Common.{◌≡◌, ◌≤◌, List, [], ◌∷◌, ◌++◌, length, Bool, true, false, ◌||◌, Option, Some, None, ◌⊎◌, inl, inr, nat_lt, refl, sym, ap, subst, ◌∙◌, ltb-false}
+use Rattle.std.proofs.Common.{◌≡◌, ◌≤◌, List, [], ◌∷◌, ◌++◌, length, Bool, true, false, ◌||◌, Option, Some, None, ◌⊎◌, inl, inr, nat_lt, refl, sym}
+use Rattle.std.proofs.Common.{ap, subst, ◌∙◌, ltb-false}
 use Rattle.sky_base.specs.Val.{same_text, same_desc, stands_in}
 use Rattle.sky_law.specs.Tasks.{In}
 use Rattle.sky_base.proofs.Exact.{self_text, self_desc}

@@ -1,5 +1,6 @@
 -- The numbers of descriptions that are held.
-use Rattle.std.proofs.Common.{◌≡◌, ◌<◌, ℕ, zero, suc, List, [], ◌∷◌, ◌++◌, length, Bool, true, false, Some, slice_get, ◌⊎◌, inl, inr, refl, sym, ap, subst, ◌∙◌, arith}
+use Rattle.std.proofs.Common.{◌≡◌, ◌<◌, ℕ, zero, suc, List, [], ◌∷◌, ◌++◌, length, Bool, true, false, Some, slice_get, ◌⊎◌, inl, inr, refl, sym, ap}
+use Rattle.std.proofs.Common.{subst, ◌∙◌, arith}
 use Rattle.sky_base.specs.Val.{known, same_text, same_desc}
 use Rattle.sky_base.specs.See.{slot}
 use Rattle.sky_law.specs.Tasks.{In, Apart}
@@ -19,7 +20,8 @@ pub index_found : (d : Row) (rows : List Row) → (slice_get rows (index_of d ro
 index_found d [] = inr refl
 index_found d (r ∷ rs) = go (same_desc same_text d r) refl (index_found d rs)
   where
-    go : (b : Bool) → same_desc same_text d r ≡ b → (slice_get rs (index_of d rs) ≡ Some d) ⊎ (index_of d rs ≡ length rs) → (slice_get (r ∷ rs) (index_if b (index_of d rs)) ≡ Some d) ⊎ (index_if b (index_of d rs) ≡ suc (length rs))
+    go : (b : Bool) → same_desc same_text d r ≡ b → (slice_get rs (index_of d rs) ≡ Some d) ⊎ (index_of d rs ≡ length rs)
+        → (slice_get (r ∷ rs) (index_if b (index_of d rs)) ≡ Some d) ⊎ (index_if b (index_of d rs) ≡ suc (length rs))
     go true e h = inl (ap Some (sym (same_is d r e)))
     go false e (inl h) = inl h
     go false e (inr h) = inr (ap suc h)

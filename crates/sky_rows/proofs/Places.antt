@@ -1,5 +1,6 @@
 -- Descriptions in their places.
-use Rattle.std.proofs.Common.{◌≡◌, ◌≤◌, ◌<◌, ℕ, List, [], ◌∷◌, ◌++◌, length, true, false, Some, None, slice_get, refl, sym, ap, subst, ◌⊎◌, inl, inr, ◌∙◌, lt-ltb, le-ltb}
+use Rattle.std.proofs.Common.{◌≡◌, ◌≤◌, ◌<◌, ℕ, List, [], ◌∷◌, ◌++◌, length, true, false, Some, None, slice_get, refl, sym, ap, subst, ◌⊎◌, inl, inr}
+use Rattle.std.proofs.Common.{◌∙◌, lt-ltb, le-ltb}
 use Rattle.std.proofs.lemmas.Option.{slice_get-map}
 use Rattle.std.proofs.lemmas.List.{length-map, map-append}
 use Rattle.sky_base.specs.Val.{same_text, same_desc}
@@ -62,4 +63,17 @@ learn-full rows d h l =
 pub index-end : (rows : List Row) (d : Row) → Apart rows → is_held d rows ≡ false → index_of d (rows ++ d ∷ []) ≡ length rows
 index-end rows d a h = index_at (rows ++ d ∷ []) (length rows) d (apart-end rows d a h) (get-end rows d)
 
-pub ruleset places = (index_at, index-end, rows-more, get-end, apart-end, learn-held, learn-new, learn-full, slice_get-map, same_is, length-rows, most_is)
+pub ruleset places = (
+  index_at,
+  index-end,
+  rows-more,
+  get-end,
+  apart-end,
+  learn-held,
+  learn-new,
+  learn-full,
+  slice_get-map,
+  same_is,
+  length-rows,
+  most_is,
+)

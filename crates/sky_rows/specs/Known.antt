@@ -52,7 +52,9 @@ kind_code FaultKind.WrongCount = 14
 
 abbrev pub kinds : List FaultKind
 kinds =
-    FaultKind.Unknown ∷ FaultKind.BadKind ∷ FaultKind.Overflow ∷ FaultKind.DivZero ∷ FaultKind.NoIndex ∷ FaultKind.NoKey ∷ FaultKind.TooLarge ∷ FaultKind.TooDeep ∷ FaultKind.TooLong ∷ FaultKind.NotData ∷ FaultKind.NotText ∷ FaultKind.BadCount ∷ FaultKind.BadExec ∷ FaultKind.BadLine ∷ []
+    FaultKind.Unknown ∷ FaultKind.BadKind ∷ FaultKind.Overflow ∷ FaultKind.DivZero ∷ FaultKind.NoIndex ∷ FaultKind.NoKey ∷ FaultKind.TooLarge
+    ∷ FaultKind.TooDeep ∷ FaultKind.TooLong ∷ FaultKind.NotData ∷ FaultKind.NotText ∷ FaultKind.BadCount ∷ FaultKind.BadExec
+    ∷ FaultKind.BadLine ∷ []
 
 pub kind_same : (k : FaultKind) → nth (kind_code k) kinds FaultKind.WrongCount ≡ k
 kind_same FaultKind.Unknown = refl
@@ -81,7 +83,12 @@ object_back gnil = Object.bytes []
 object_back (gnum n) = Object.bytes []
 object_back (gcons t a) =
     nth (num_back t) (Object.bytes (bytes_back a) ∷ Object.data_of (back a) ∷ [])
-    (Object.fault (record { kind = nth (num_back (head a)) kinds FaultKind.WrongCount; line = num_back (head (tail a)); col = num_back (tail (tail a)) }))
+    (Object.fault (record {
+      kind = nth (num_back (head a)) kinds FaultKind.WrongCount;
+      line = num_back (head (tail a));
+      col =
+          num_back (tail (tail a));
+    }))
 
 pub object_same : (o : Obj) → object_back (object_code o) ≡ o
 object_same (Object.bytes b) = ap Object.bytes (bytes_same b)

@@ -51,7 +51,8 @@ impl Objects {
     /// The object under the number that a name ends with, if it is known.
     #[tactic(auto, using(crate::proofs::KnownAt::knowns))]
     pub fn known(&self, name: &Name) -> Option<&Object>
-        ensures value { MatchOption result (known_of self.now (known name.now) ≡ None) (λ o. known_of self.now (known name.now) ≡ Some (object_view o.now)) }
+        ensures value { MatchOption result (known_of self.now (known name.now) ≡ None)
+            (λ o. known_of self.now (known name.now) ≡ Some (object_view o.now)) }
         ensures kept { IfSome result (λ o. KeptObject (object_view o.now)) }
     {
         let at = number(name) as usize;
@@ -99,8 +100,10 @@ impl Objects {
 // Puts places at the end, with no object in them, until there are so many. Each number keeps its object.
 fn pad(items: &mut Vec<Option<Object>>, count: usize) -> Result<(), Memory>
     ensures long { IfOk result (λ _. count ≤ length items.new.items) }
-    ensures same { IfOk result (λ _. (k : ℕ) (o : Obj) → k + 1 ≡ count → with_object k o (map (option_map object_view) items.new.items) ≡ with_object k o (map (option_map object_view) items.old.items)) }
-    ensures places { (k : ℕ) → object_at (map (option_map object_view) items.new.items) k ≡ object_at (map (option_map object_view) items.old.items) k }
+    ensures same { IfOk result (λ _. (k : ℕ) (o : Obj) → k + 1 ≡ count → with_object k o (map (option_map object_view) items.new.items)
+        ≡ with_object k o (map (option_map object_view) items.old.items)) }
+    ensures places { (k : ℕ) → object_at (map (option_map object_view) items.new.items) k
+        ≡ object_at (map (option_map object_view) items.old.items) k }
     ensures kept { KeptObjects (map (option_map object_view) items.old.items) → KeptObjects (map (option_map object_view) items.new.items) }
 {
     while items.len() < count {

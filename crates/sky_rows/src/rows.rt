@@ -44,7 +44,8 @@ impl Model for Rows {
 }
 
 impl Rows {
-    ghost use Rattle.std.specs.Prelude.{◌≡◌, Option, Some, None, IfOk, IfErr, IfSome, IfNone, MatchOption, slice_get, false, [], ◌∷◌, ◌++◌, ◌<◌, ◌≤◌, length};
+    ghost use Rattle.std.specs.Prelude.{◌≡◌, Option, Some, None, IfOk, IfErr, IfSome, IfNone, MatchOption, slice_get, false, [], ◌∷◌, ◌++◌, ◌<◌, ◌≤◌};
+    ghost use Rattle.std.specs.Prelude.{length};
     ghost use Rattle.sky_law.specs.Tasks.{Apart};
     ghost use Rattle.sky_base.specs.ObjectView.{desc_view};
     ghost use Rattle.sky_rows.specs.Walk.{learn_to, is_held, most_rows};

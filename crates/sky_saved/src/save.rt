@@ -57,7 +57,8 @@ fn begin(alloc: Global, fun: &Txt) -> Result<Saving, Memory>
 /// Saves one form more.
 fn put(alloc: Global, saving: &mut Saving, entry: &Entry) -> Result<(), Memory>
     requires { CanSave (entry_of entry.now) }
-    ensures { IfOk result (λ _. (fr : List Form) (xs : Pairs) → with_rest (part_of saving.old) (entry_of entry.now ∷ fr) xs ≡ with_rest (part_of saving.new) fr xs) }
+    ensures { IfOk result (λ _. (fr : List Form) (xs : Pairs) → with_rest (part_of saving.old) (entry_of entry.now ∷ fr) xs
+        ≡ with_rest (part_of saving.new) fr xs) }
 {
     add(alloc, saving, entry)?;
     match opening(entry) {

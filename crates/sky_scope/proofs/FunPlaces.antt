@@ -1,5 +1,6 @@
 -- Functions are found at their places.
-use Rattle.std.proofs.Common.{◌≡◌, ◌≤◌, ◌<◌, ℕ, zero, suc, ◌+◌, List, [], ◌∷◌, length, take, Bool, true, false, cond, is_some, Option, Some, None, slice_get, get_or, refl, sym, ap, ◌∙◌, arith}
+use Rattle.std.proofs.Common.{◌≡◌, ◌≤◌, ◌<◌, ℕ, zero, suc, ◌+◌, List, [], ◌∷◌, length, take, Bool, true, false, cond, is_some, Option, Some, None}
+use Rattle.std.proofs.Common.{slice_get, get_or, refl, sym, ap, ◌∙◌, arith}
 use Rattle.std.specs.BTreeMap.{BTreeMap, Updates}
 use Rattle.std.specs.Ordering.{nat_cmp, is_eq, ordering_reverse}
 use Rattle.std.specs.Cmp.Lexicographic.{slice_cmp}
@@ -24,7 +25,8 @@ last_if false None false n = refl
 last_if false (Some i) c n = refl
 
 -- the place of a function among those up to one and this one
-pub place_more : (x : List ℕ) (fs : List FunDef) (i : ℕ) (f : FunDef) → i < length fs → f ≡ get_or fs i f → fun_place x (funs_view (take (i + 1) fs)) ≡ or_here (fun_place x (funs_view (take i fs))) (same_text x f.name) i
+pub place_more : (x : List ℕ) (fs : List FunDef) (i : ℕ) (f : FunDef) → i < length fs → f ≡ get_or fs i f
+    → fun_place x (funs_view (take (i + 1) fs)) ≡ or_here (fun_place x (funs_view (take i fs))) (same_text x f.name) i
 place_more x [] i f h e = absurd (omega (arith, h))
 place_more x (g ∷ fs) zero f h e = rw (← e) (first (same_text x f.name))
   where
@@ -33,7 +35,8 @@ place_more x (g ∷ fs) zero f h e = rw (← e) (first (same_text x f.name))
     first false = refl
 place_more x (g ∷ fs) (suc i) f h e =
     let n : suc i + 1 ≡ suc (i + 1) = omega arith in
-    rw n (ap (place_if (same_text x g.name)) (place_more x fs i f (omega (arith, h)) e) ∙ last_if (same_text x g.name) (fun_place x (funs_view (take i fs))) (same_text x f.name) i)
+    rw n (ap (place_if (same_text x g.name)) (place_more x fs i f (omega (arith, h)) e)
+    ∙ last_if (same_text x g.name) (fun_place x (funs_view (take i fs))) (same_text x f.name) i)
 
 pub place_all : (x : List ℕ) (fs : List FunDef) (i : ℕ) → length fs ≤ i → fun_place x (funs_view (take i fs)) ≡ fun_place x (funs_view fs)
 place_all x [] zero h = refl
@@ -43,7 +46,8 @@ place_all x (f ∷ fs) (suc i) h = ap (place_if (same_text x f.name)) (place_all
 
 -- ---- what a place says
 
-none_if : (b : Bool) (i : Option ℕ) (f : logic.FunDef) (r : Option logic.FunDef) → place_if b i ≡ None → (i ≡ None → r ≡ None) → find_fun_if b f r ≡ None
+none_if : (b : Bool) (i : Option ℕ) (f : logic.FunDef) (r : Option logic.FunDef) → place_if b i ≡ None → (i ≡ None → r ≡ None)
+    → find_fun_if b f r ≡ None
 none_if true i f r e h = absurd cc
 none_if false None f r e h = h refl
 none_if false (Some i) f r e h = absurd cc
@@ -52,7 +56,8 @@ pub place_none : (x : List ℕ) (fs : List logic.FunDef) → fun_place x fs ≡ 
 place_none x [] e = refl
 place_none x (f ∷ fs) e = none_if (same_text x f.name) (fun_place x fs) f (find_fun x fs) e (place_none x fs)
 
-some_if : (b : Bool) (i : Option ℕ) (k : ℕ) (f : logic.FunDef) (fs : List logic.FunDef) (r : Option logic.FunDef) → place_if b i ≡ Some k → ((j : ℕ) → i ≡ Some j → r ≡ slice_get fs j) → find_fun_if b f r ≡ slice_get (f ∷ fs) k
+some_if : (b : Bool) (i : Option ℕ) (k : ℕ) (f : logic.FunDef) (fs : List logic.FunDef) (r : Option logic.FunDef) → place_if b i ≡ Some k
+    → ((j : ℕ) → i ≡ Some j → r ≡ slice_get fs j) → find_fun_if b f r ≡ slice_get (f ∷ fs) k
 some_if true i k f fs r e h = let q : 0 ≡ k = cc in rw (← q) refl
 some_if false None k f fs r e h = absurd cc
 some_if false (Some j) k f fs r e h = let q : suc j ≡ k = cc in rw (← q) (h j refl)
@@ -96,15 +101,19 @@ there_if b (Some j) i h = refl
 there_if true None i h = let q : false ≡ true = h refl in absurd cc
 there_if false None i h = refl
 
-pub added : (old new : BTreeMap (List ℕ) ℕ) (n x : List ℕ) (i : ℕ) → Updates (slice_cmp nat_cmp) old new n (Some i) → is_some (place_at old.entries n) ≡ false → place_at new.entries x ≡ or_here (place_at old.entries x) (same_text x n) i
+pub added : (old new : BTreeMap (List ℕ) ℕ) (n x : List ℕ) (i : ℕ) → Updates (slice_cmp nat_cmp) old new n (Some i)
+    → is_some (place_at old.entries n) ≡ false → place_at new.entries x ≡ or_here (place_at old.entries x) (same_text x n) i
 added old new n x i u h =
-    u.0 x ∙ ap (λ b. cond b (Some i) (place_at old.entries x)) (same_flip x n) ∙ added_if (same_text x n) (place_at old.entries x) i (λ e. none (place_at old.entries x) (ap (λ z. is_some (place_at old.entries z)) (exact_text x n e) ∙ h))
+    u.0 x ∙ ap (λ b. cond b (Some i) (place_at old.entries x)) (same_flip x n)
+    ∙ added_if (same_text x n) (place_at old.entries x) i
+    (λ e. none (place_at old.entries x) (ap (λ z. is_some (place_at old.entries z)) (exact_text x n e) ∙ h))
   where
     none : (o : Option ℕ) → is_some o ≡ false → o ≡ None
     none None q = refl
     none (Some j) q = absurd cc
 
-pub stands_there : (places : List (List ℕ × ℕ)) (n x : List ℕ) (i : ℕ) → is_some (place_at places n) ≡ true → place_at places x ≡ or_here (place_at places x) (same_text x n) i
+pub stands_there : (places : List (List ℕ × ℕ)) (n x : List ℕ) (i : ℕ) → is_some (place_at places n) ≡ true → place_at places x
+    ≡ or_here (place_at places x) (same_text x n) i
 stands_there places n x i h =
     there_if (same_text x n) (place_at places x) i (λ e. ap (λ z. is_some (place_at places z)) (exact_text x n e) ∙ h)
 
@@ -116,7 +125,8 @@ get_view (g ∷ fs) (suc k) f h e = get_view fs k f (omega (arith, h)) e
 pub found_within : (x : List ℕ) (fs : List FunDef) (k : ℕ) → fun_place x (funs_view fs) ≡ Some k → k < length fs
 found_within x fs k e = omega (arith, place_within x (funs_view fs) k e, view_length fs)
 
-pub found_at : (x : List ℕ) (fs : List FunDef) (k : ℕ) (f : FunDef) → fun_place x (funs_view fs) ≡ Some k → f ≡ get_or fs k f → find_fun x (funs_view fs) ≡ Some (fun_view f)
+pub found_at : (x : List ℕ) (fs : List FunDef) (k : ℕ) (f : FunDef) → fun_place x (funs_view fs) ≡ Some k → f ≡ get_or fs k f
+    → find_fun x (funs_view fs) ≡ Some (fun_view f)
 found_at x fs k f e q = place_some x (funs_view fs) k e ∙ get_view fs k f (found_within x fs k e) q
 
 pub ruleset fun_places = (place_none)

@@ -1,8 +1,10 @@
 -- Counts, bodies of functions, lists that grow, dictionaries by twos and numbers in a row.
-use Rattle.std.proofs.Common.{◌≡◌, ℕ, zero, suc, ◌+◌, ◌<◌, ◌≤◌, List, [], ◌∷◌, length, drop, Bool, true, false, Option, Some, None, refl, sym, ap, ◌∙◌, arith, get_or, ℤ, pos, negsuc, ◌+ℤ◌, ◌-ℤ◌, ◌≤ℤ◌, ◌<ℤ◌, nat_lt}
+use Rattle.std.proofs.Common.{◌≡◌, ℕ, zero, suc, ◌+◌, ◌<◌, ◌≤◌, List, [], ◌∷◌, length, drop, Bool, true, false, Option, Some, None, refl, sym, ap}
+use Rattle.std.proofs.Common.{◌∙◌, arith, get_or, ℤ, pos, negsuc, ◌+ℤ◌, ◌-ℤ◌, ◌≤ℤ◌, ◌<ℤ◌, nat_lt}
 use Rattle.std.proofs.lemmas.Int.{ints, to_z-of_z}
 use Rattle.std.proofs.lemmas.Bool.{lt-ltb, le-ltb}
-use Rattle.sky_base.specs.Val.{Val, Vals, Pairs, no_vals, val, no_pairs, pair, size, sizes, pair_sizes, count, pair_count, null, truth, num, text, list, dict, fun, ref}
+use Rattle.sky_base.specs.Val.{Val, Vals, Pairs, no_vals, val, no_pairs, pair, size, sizes, pair_sizes, count, pair_count, null, truth, num, text}
+use Rattle.sky_base.specs.Val.{list, dict, fun, ref}
 use Rattle.sky_base.specs.Op.{join, put, dict_from, span, numbers}
 use Rattle.sky_base.specs.Val.{add_val, same_text, depths}
 use Rattle.sky_base.specs.View.{view, vals_of, pairs_of}
@@ -38,21 +40,26 @@ pub ruleset counts = (count_least, pair_count_least)
 
 pub body_found : (x : List ℕ) (fs : List FunDef) (i : ℕ) (d : FunDef) → find_fun x fs ≡ Some d → code_of (find_body x fs i) ≡ Some (d.params, d.body)
 body_found x [] i d e = absurd cc
-body_found x (f ∷ fs) i d e = found_if (same_text x f.name) f d i (find_fun x fs) (find_body x fs (i + block_nodes f.body)) e (body_found x fs (i + block_nodes f.body) d)
+body_found x (f ∷ fs) i d e = found_if (same_text x f.name) f d i (find_fun x fs) (find_body x fs (i + block_nodes f.body)) e
+    (body_found x fs (i + block_nodes f.body) d)
   where
-    found_if : (b : Bool) (f d : FunDef) (i : ℕ) (r : Option FunDef) (q : Option Body) → find_fun_if b f r ≡ Some d → (r ≡ Some d → code_of q ≡ Some (d.params, d.body)) → code_of (find_body_if b f i q) ≡ Some (d.params, d.body)
+    found_if : (b : Bool) (f d : FunDef) (i : ℕ) (r : Option FunDef) (q : Option Body) → find_fun_if b f r ≡ Some d
+        → (r ≡ Some d → code_of q ≡ Some (d.params, d.body)) → code_of (find_body_if b f i q) ≡ Some (d.params, d.body)
     found_if true f d i r q e h = let g : f ≡ d = cc in rw (← g) refl
     found_if false f d i r q e h = h e
 
 pub body_missing : (x : List ℕ) (fs : List FunDef) (i : ℕ) → find_fun x fs ≡ None → code_of (find_body x fs i) ≡ None
 body_missing x [] i e = refl
-body_missing x (f ∷ fs) i e = missing_if (same_text x f.name) f i (find_fun x fs) (find_body x fs (i + block_nodes f.body)) e (body_missing x fs (i + block_nodes f.body))
+body_missing x (f ∷ fs) i e = missing_if (same_text x f.name) f i (find_fun x fs) (find_body x fs (i + block_nodes f.body)) e
+    (body_missing x fs (i + block_nodes f.body))
   where
-    missing_if : (b : Bool) (f : FunDef) (i : ℕ) (r : Option FunDef) (q : Option Body) → find_fun_if b f r ≡ None → (r ≡ None → code_of q ≡ None) → code_of (find_body_if b f i q) ≡ None
+    missing_if : (b : Bool) (f : FunDef) (i : ℕ) (r : Option FunDef) (q : Option Body) → find_fun_if b f r ≡ None → (r ≡ None → code_of q ≡ None)
+        → code_of (find_body_if b f i q) ≡ None
     missing_if true f i r q e h = absurd cc
     missing_if false f i r q e h = h e
 
-pub found_body : (x : List ℕ) (sc : Script) (d : FunDef) → (x ≡ [] → ⊥) → find_fun x sc.funs ≡ Some d → code_of (body_of x sc) ≡ Some (d.params, d.body)
+pub found_body : (x : List ℕ) (sc : Script) (d : FunDef) → (x ≡ [] → ⊥) → find_fun x sc.funs ≡ Some d → code_of (body_of x sc)
+    ≡ Some (d.params, d.body)
 found_body [] sc d n e = absurd (n refl)
 found_body (b ∷ bs) sc d n e = body_found (b ∷ bs) sc.funs (block_nodes sc.main) d e
 
@@ -84,11 +91,14 @@ pairs_end (p ∷ ps) (suc i) h = pairs_end ps i (omega arith)
 pub ruleset joined = (join_step, join_end, pairs_end)
 
 -- two parts of a dictionary
-pub dict_two : (vs : List Value) (i : ℕ) (k : List ℕ) (x y : Value) (ps : Pairs (List ℕ)) → i + 1 < length vs → x ≡ get_or vs i x → y ≡ get_or vs (i + 1) y → view x ≡ text k → dict_from (items (vals_of (drop i vs))) ps ≡ dict_from (items (vals_of (drop (i + 2) vs))) (put k (view y) ps)
+pub dict_two : (vs : List Value) (i : ℕ) (k : List ℕ) (x y : Value) (ps : Pairs (List ℕ)) → i + 1 < length vs → x ≡ get_or vs i x → y
+    ≡ get_or vs (i + 1) y → view x ≡ text k → dict_from (items (vals_of (drop i vs))) ps
+    ≡ dict_from (items (vals_of (drop (i + 2) vs))) (put k (view y) ps)
 dict_two [] i k x y ps h a b t = absurd (omega arith)
 dict_two (u ∷ []) zero k x y ps h a b t = absurd (omega arith)
 dict_two (u ∷ w ∷ vs) zero k x y ps h a b t = rw (← a, ← b, t) refl
-dict_two (u ∷ vs) (suc i) k x y ps h a b t = let n : suc i + 1 ≡ suc (i + 1) = omega arith in let m : suc i + 2 ≡ suc (i + 2) = omega arith in rw m (dict_two vs i k x y ps (omega arith) a (rw n at b) t)
+dict_two (u ∷ vs) (suc i) k x y ps h a b t = let n : suc i + 1 ≡ suc (i + 1) = omega arith in let m : suc i + 2 ≡ suc (i + 2) = omega arith in
+    rw m (dict_two vs i k x y ps (omega arith) a (rw n at b) t)
 
 pub ruleset twos = (dict_two, dict_two)
 
@@ -118,7 +128,8 @@ pub span_under : (d : ℤ) → d ≤ℤ pos 262143 → nat_lt 262143 (span d) �
 span_under (pos n) h = le-ltb 262143 n (omega (arith, ints))
 span_under (negsuc n) h = refl
 
-pub numbers_step : (vs : Vals (List ℕ)) (a b : ℤ) → a <ℤ b → join (add_val vs (num a)) (numbers (span (b -ℤ (a +ℤ pos 1))) (a +ℤ pos 1)) ≡ join vs (numbers (span (b -ℤ a)) a)
+pub numbers_step : (vs : Vals (List ℕ)) (a b : ℤ) → a <ℤ b → join (add_val vs (num a)) (numbers (span (b -ℤ (a +ℤ pos 1))) (a +ℤ pos 1))
+    ≡ join vs (numbers (span (b -ℤ a)) a)
 numbers_step vs a b h =
     join_step vs (numbers (span (b -ℤ (a +ℤ pos 1))) (a +ℤ pos 1)) (num a) ∙ ap (λ n. join vs (numbers n a)) (sym (span_step a b h))
 

@@ -1,5 +1,6 @@
 -- Variables within the limits.
-use Rattle.std.proofs.Common.{◌≡◌, ℕ, zero, suc, ◌≤◌, List, Option, Some, None, refl, sym, ap, ◌∙◌, subst, arith, ◌+◌, [], ◌∷◌, true, false, drop, length}
+use Rattle.std.proofs.Common.{◌≡◌, ℕ, zero, suc, ◌≤◌, List, Option, Some, None, refl, sym, ap, ◌∙◌, subst, arith, ◌+◌, [], ◌∷◌, true, false, drop}
+use Rattle.std.proofs.Common.{length}
 use Rattle.std.specs.Ordering.{nat_cmp, match_ordering}
 use Rattle.std.specs.Cmp.Lexicographic.{slice_cmp}
 use Rattle.std.specs.declared.cmp.Ordering.{Ordering}
@@ -24,7 +25,8 @@ kept_found k no_pairs v e h = absurd cc
 kept_found k (pair l u ps) v e h =
     found_step (slice_cmp nat_cmp k l) u v (find k ps) e (λ f. subst (λ x. Kept x) f h.0) (λ f. kept_found k ps v f h.1)
 
-put_step : (o : Ordering) (k l : List ℕ) (v w : Val) (ps qs : Pairs) → Kept v → Kept w → KeptPairs ps → KeptPairs qs → KeptPairs (match_ordering o (pair k v (pair l w ps)) (pair l v ps) (pair l w qs))
+put_step : (o : Ordering) (k l : List ℕ) (v w : Val) (ps qs : Pairs) → Kept v → Kept w → KeptPairs ps → KeptPairs qs
+    → KeptPairs (match_ordering o (pair k v (pair l w ps)) (pair l v ps) (pair l w qs))
 put_step Ordering.Less k l v w ps qs a b c d = (a, (b, c))
 put_step Ordering.Equal k l v w ps qs a b c d = (a, c)
 put_step Ordering.Greater k l v w ps qs a b c d = (b, d)
@@ -34,19 +36,24 @@ kept_put k v no_pairs a h = (a, tt)
 kept_put k v (pair l w ps) a h =
     put_step (slice_cmp nat_cmp k l) k l v w ps (put k v ps) a h.0 h.1 (kept_put k v ps a h.1)
 
-again_step : (o : Ordering) (k l : List ℕ) (u v w : Val) (ps qs rs : Pairs) → slice_cmp nat_cmp k l ≡ o → put k v qs ≡ rs → put k v (match_ordering o (pair k u (pair l w ps)) (pair l u ps) (pair l w qs)) ≡ match_ordering o (pair k v (pair l w ps)) (pair l v ps) (pair l w rs)
+again_step : (o : Ordering) (k l : List ℕ) (u v w : Val) (ps qs rs : Pairs) → slice_cmp nat_cmp k l ≡ o → put k v qs ≡ rs
+    → put k v (match_ordering o (pair k u (pair l w ps)) (pair l u ps) (pair l w qs))
+    ≡ match_ordering o (pair k v (pair l w ps)) (pair l v ps) (pair l w rs)
 again_step Ordering.Less k l u v w ps qs rs e f =
-    ap (λ o. match_ordering o (pair k v (pair k u (pair l w ps))) (pair k v (pair l w ps)) (pair k u (put k v (pair l w ps)))) (tied_itself nat_list_cmp_total k)
+    ap (λ o. match_ordering o (pair k v (pair k u (pair l w ps))) (pair k v (pair l w ps)) (pair k u (put k v (pair l w ps))))
+    (tied_itself nat_list_cmp_total k)
 again_step Ordering.Equal k l u v w ps qs rs e f = ap (λ o. match_ordering o (pair k v (pair l u ps)) (pair l v ps) (pair l u (put k v ps))) e
 again_step Ordering.Greater k l u v w ps qs rs e f =
     ap (λ o. match_ordering o (pair k v (pair l w qs)) (pair l v qs) (pair l w (put k v qs))) e ∙ ap (pair l w) f
 
 -- what is put last at a key stands
 pub put_again : (k : List ℕ) (u v : Val) (ps : Pairs) → put k v (put k u ps) ≡ put k v ps
-put_again k u v no_pairs = ap (λ o. match_ordering o (pair k v (pair k u no_pairs)) (pair k v no_pairs) (pair k u (put k v no_pairs))) (tied_itself nat_list_cmp_total k)
+put_again k u v no_pairs = ap (λ o. match_ordering o (pair k v (pair k u no_pairs)) (pair k v no_pairs) (pair k u (put k v no_pairs)))
+    (tied_itself nat_list_cmp_total k)
 put_again k u v (pair l w ps) = again_step (slice_cmp nat_cmp k l) k l u v w ps (put k u ps) (put k v ps) refl (put_again k u v ps)
 
-same_step : (o : Ordering) (k l : List ℕ) (u v : Val) (ps qs : Pairs) (r : Option Val) → match_ordering o None (Some u) r ≡ Some v → (r ≡ Some v → qs ≡ ps) → match_ordering o (pair k v (pair l u ps)) (pair l v ps) (pair l u qs) ≡ pair l u ps
+same_step : (o : Ordering) (k l : List ℕ) (u v : Val) (ps qs : Pairs) (r : Option Val) → match_ordering o None (Some u) r ≡ Some v
+    → (r ≡ Some v → qs ≡ ps) → match_ordering o (pair k v (pair l u ps)) (pair l v ps) (pair l u qs) ≡ pair l u ps
 same_step Ordering.Less k l u v ps qs r e h = absurd cc
 same_step Ordering.Equal k l u v ps qs r e h = let f : u ≡ v = cc in ap (λ x. pair l x ps) (sym f)
 same_step Ordering.Greater k l u v ps qs r e h = ap (λ xs. pair l u xs) (h e)
@@ -64,13 +71,17 @@ kept_at (val u vs) (suc i) v e h = kept_at vs i v e h.1
 
 pub kept_parts : (vs : Vals) → Kept (list vs) → KeptVals vs
 kept_parts no_vals h = tt
-kept_parts (val v vs) h =
-    (record { deep = omega (arith, h.deep); large = omega (arith, h.large) }, kept_parts vs (record { deep = omega (arith, h.deep); large = omega (arith, h.large) }))
+kept_parts (val v vs) h = (
+  record { deep = omega (arith, h.deep); large = omega (arith, h.large) },
+  kept_parts vs (record { deep = omega (arith, h.deep); large = omega (arith, h.large) }),
+)
 
 pub kept_pairs : (ps : Pairs) → Kept (dict ps) → KeptPairs ps
 kept_pairs no_pairs h = tt
-kept_pairs (pair k v ps) h =
-    (record { deep = omega (arith, h.deep); large = omega (arith, h.large) }, kept_pairs ps (record { deep = omega (arith, h.deep); large = omega (arith, h.large) }))
+kept_pairs (pair k v ps) h = (
+  record { deep = omega (arith, h.deep); large = omega (arith, h.large) },
+  kept_pairs ps (record { deep = omega (arith, h.deep); large = omega (arith, h.large) }),
+)
 
 -- what a function captured
 pub kept_caught : (f : List ℕ) (ps : Pairs) → Kept (fun f ps) → KeptPairs ps
@@ -107,7 +118,8 @@ drop_past (x ∷ xs) (suc i) h = drop_past xs i (omega arith)
 pub bind_none : (vs : Vals) (ps : Pairs) → bind [] vs ps ≡ ps
 bind_none vs ps = refl
 
-pub bind_here : (x : List ℕ) (xs : List (List ℕ)) (vs : Vals) (i : ℕ) (v : Val) (ps : Pairs) → val_at vs i ≡ Some v → bind (x ∷ xs) (left i vs) ps ≡ bind xs (left (i + 1) vs) (put x v ps)
+pub bind_here : (x : List ℕ) (xs : List (List ℕ)) (vs : Vals) (i : ℕ) (v : Val) (ps : Pairs) → val_at vs i ≡ Some v
+    → bind (x ∷ xs) (left i vs) ps ≡ bind xs (left (i + 1) vs) (put x v ps)
 bind_here x xs vs i v ps e = ap (λ us. bind (x ∷ xs) us ps) (left_here vs i v e)
 
 pub ruleset binds = (left_here, left_past, bind_past)

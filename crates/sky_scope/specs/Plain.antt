@@ -1,6 +1,7 @@
 -- What a run does where the objects of some descriptions are known. It is the walk of its meaning, told
 -- without the numbers of nodes, and with the number of a description in each reference to it.
-use Rattle.std.specs.Prelude.{ℕ, zero, suc, List, [], ◌∷◌, length, reverse, Bool, true, false, ◌&&◌, Option, Some, None, Ok, Err, nat_eq, nat_lt, pos, negsuc}
+use Rattle.std.specs.Prelude.{ℕ, zero, suc, List, [], ◌∷◌, length, reverse, Bool, true, false, ◌&&◌, Option, Some, None, Ok, Err, nat_eq, nat_lt, pos}
+use Rattle.std.specs.Prelude.{negsuc}
 use Rattle.sky_base.specs.Val as logic
 use Rattle.sky_base.specs.Val.{null, truth, num, text, list, fun, ref, no_vals, val, no_pairs, add_val, call, input, known, count, refs_to}
 use Rattle.sky_base.specs.Op as op

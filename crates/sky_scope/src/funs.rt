@@ -72,7 +72,8 @@ pub struct Code<'a> {
 /// What a call of the function of this name runs; the empty name is that of the main body.
 #[tactic(auto, using(crate::proofs::OpLaw::found_bodies))]
 pub fn code_of<'a>(script: &'a Program, name: &Txt) -> Option<Code<'a>>
-    ensures { MatchOption result (code_of (body_of name.now script.now) ≡ None) (λ c. code_of (body_of name.now script.now) ≡ Some (c.params.now, c.block.now)) }
+    ensures { MatchOption result (code_of (body_of name.now script.now) ≡ None)
+        (λ c. code_of (body_of name.now script.now) ≡ Some (c.params.now, c.block.now)) }
 {
     if name.is_empty() {
         return Some(Code {

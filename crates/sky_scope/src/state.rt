@@ -151,7 +151,8 @@ impl State {
     #[tactic(auto, using(crate::proofs::Vars::vars))]
     fn take(&mut self, name: &Txt) -> Result<Option<Value>, Memory>
         ensures none { IfOk result (λ o. o ≡ None → find name.now self.old.vars ≡ None) }
-        ensures some { IfOk result (λ o. IfSome o (λ v. (find name.now self.old.vars ≡ Some (view v)) × (self.new ≡ set_var name.now null self.old) × Kept (view v))) }
+        ensures some { IfOk result (λ o. IfSome o (λ v. (find name.now self.old.vars ≡ Some (view v))
+            × (self.new ≡ set_var name.now null self.old) × Kept (view v))) }
         ensures still { IfOk result (λ o. o ≡ None → self.new ≡ self.old) }
     {
         let Some(v) = self.find(name)? else {
@@ -175,7 +176,8 @@ impl State {
         e: Value,
     ) -> Result<(), Cut>
         requires { Kept (view e) }
-        ensures changes { (rows : List Row) → Changes result rows self.new (add_to (find name.now self.old.vars) name.now (at name_line name_col) (at line col) (view e) rows self.old) }
+        ensures changes { (rows : List Row) → Changes result rows self.new
+            (add_to (find name.now self.old.vars) name.now (at name_line name_col) (at line col) (view e) rows self.old) }
         ensures still { IfErr result (λ c. c ≢ Cut.Memory → self.new ≡ self.old) }
     {
         let Some(mut v) = self.take(name)? else {
@@ -207,7 +209,8 @@ impl State {
     ) -> Result<(), Cut>
         requires i { Kept (view i.now) }
         requires e { Kept (view e) }
-        ensures changes { (rows : List Row) → Changes result rows self.new (put_in (find name.now self.old.vars) name.now (at name_line name_col) (at line col) (view i.now) (view e) rows self.old) }
+        ensures changes { (rows : List Row) → Changes result rows self.new
+            (put_in (find name.now self.old.vars) name.now (at name_line name_col) (at line col) (view i.now) (view e) rows self.old) }
         ensures still { IfErr result (λ c. c ≢ Cut.Memory → self.new ≡ self.old) }
     {
         let Some(mut v) = self.take(name)? else {

@@ -1,5 +1,6 @@
 -- What follows from what a turn comes to.
-use Rattle.std.proofs.Common.{◌≡◌, ◌≤◌, ◌<◌, ℕ, suc, List, [], ◌∷◌, length, Bool, true, false, cond, nat_lt, ltb-true, ltb-false, Some, refl, sym, ap, subst, ◌∙◌, arith}
+use Rattle.std.proofs.Common.{◌≡◌, ◌≤◌, ◌<◌, ℕ, suc, List, [], ◌∷◌, length, Bool, true, false, cond, nat_lt, ltb-true, ltb-false, Some, refl, sym, ap}
+use Rattle.std.proofs.Common.{subst, ◌∙◌, arith}
 use Rattle.sky_base.specs.Val.{Val, distinct, refs, same_desc, same_text}
 use Rattle.sky_base.specs.Names.{known_of}
 use Rattle.sky_base.specs.Res.{Object}
@@ -25,12 +26,14 @@ use Rattle.sky_shown.specs.declared.show.Came.{Came}
 abbrev pub turn_over : List Row → List Obj → Val (List ℕ) → Turned
 turn_over ds os v = turn_at data_of (λ u. writes u) (given_for ds os) v
 
-pub next_over : (ds : List Row) (os : List Obj) (v : Val (List ℕ)) (w : ℕ) (t : Turned) → ds ≡ distinct same_text (refs v) → turn_over ds os v ≡ t → next_of os v w ≡ after_turn t (suc w)
+pub next_over : (ds : List Row) (os : List Obj) (v : Val (List ℕ)) (w : ℕ) (t : Turned) → ds ≡ distinct same_text (refs v) → turn_over ds os v
+    ≡ t → next_of os v w ≡ after_turn t (suc w)
 next_over ds os v w t e q =
     ap (λ es. after_turn (turn_over es os v) (suc w)) (sym e) ∙ ap (λ x. after_turn x (suc w)) q
 
 -- the same, where the code was handed these
-pub next_turned : (g : List Row × List Obj) (ns : List (List ℕ)) (os : List Obj) (v : Val (List ℕ)) (w : ℕ) (t : Turned) → g ≡ (known_of ns, os) → known_of ns ≡ distinct same_text (refs v) → turn_over g.0 g.1 v ≡ t → next_of os v w ≡ after_turn t (suc w)
+pub next_turned : (g : List Row × List Obj) (ns : List (List ℕ)) (os : List Obj) (v : Val (List ℕ)) (w : ℕ) (t : Turned) → g ≡ (known_of ns, os)
+    → known_of ns ≡ distinct same_text (refs v) → turn_over g.0 g.1 v ≡ t → next_of os v w ≡ after_turn t (suc w)
 next_turned g ns os v w t e f q =
     next_over (known_of ns) os v w t f (ap (λ x. turn_over x.0 x.1 v) (sym e) ∙ q)
 
@@ -73,22 +76,26 @@ abbrev any : List ℕ → Type 0
 any n = Unit {0}
 
 module _ (sc : Script) where
-  given_sound : (ds : List Row) (os : List Obj) → Each (SoundObject sc) os → (d : Row) (v : Val (List ℕ)) → given_for ds os d ≡ Some (Object.data_of v) → RefsOver any sc v
+  given_sound : (ds : List Row) (os : List Obj) → Each (SoundObject sc) os → (d : Row) (v : Val (List ℕ)) → given_for ds os d
+      ≡ Some (Object.data_of v) → RefsOver any sc v
   given_sound [] os h d v e = absurd cc
   given_sound (c ∷ ds) [] h d v e = absurd cc
   given_sound (c ∷ ds) (o ∷ os) h d v e = go (same_desc same_text d c) e (given_sound ds os h.1 d v)
     where
-      go : (b : Bool) → cond b (Some o) (given_for ds os d) ≡ Some (Object.data_of v) → (given_for ds os d ≡ Some (Object.data_of v) → RefsOver any sc v) → RefsOver any sc v
+      go : (b : Bool) → cond b (Some o) (given_for ds os d) ≡ Some (Object.data_of v)
+          → (given_for ds os d ≡ Some (Object.data_of v) → RefsOver any sc v) → RefsOver any sc v
       go true e later = (subst (SoundObject sc) (some_is o (Object.data_of v) e) h.0).1
       go false e later = later e
 
-  pub fits_next : (os : List Obj) (v : Val (List ℕ)) (w : ℕ) (u : Val (List ℕ)) → next_of os v w ≡ Next.waits u → FitsShow sc v w → Each (SoundObject sc) os → FitsShow sc u (suc w)
+  pub fits_next : (os : List Obj) (v : Val (List ℕ)) (w : ℕ) (u : Val (List ℕ)) → next_of os v w ≡ Next.waits u → FitsShow sc v w
+      → Each (SoundObject sc) os → FitsShow sc u (suc w)
   fits_next os v w u e fits sound =
       let ds : List Row = distinct same_text (refs v) in
       let is : IsNext (turn_over ds os v) (suc w) u = next_waits (turn_over ds os v) (suc w) u e in
       record {
         wave = is.1;
-        value = next_sound any sc data_of (λ x. writes x) (given_for ds os) (λ b x q. (reads_sound any sc b x q).1) (given_sound ds os sound) v u fits.value is.0;
+        value = next_sound any sc data_of (λ x. writes x) (given_for ds os) (λ b x q. (reads_sound any sc b x q).1) (given_sound ds os sound) v u
+            fits.value is.0;
         refers = is.2;
       }
 

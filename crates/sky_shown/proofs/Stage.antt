@@ -1,11 +1,13 @@
 -- From a wave of a job's result on: the answer of the job, or its next wave.
-use Rattle.std.proofs.Common.{◌≡◌, ◌≢◌, ◌≤◌, ◌<◌, ℕ, zero, suc, ◌+◌, ◌-◌, List, [], ◌∷◌, length, map, Bool, true, false, cond, nat_le, nat_lt, Option, Some, None, inl, inr, ltb-true, leb-true, le-leb, refl, sym, ap, ap₂, subst, ◌∙◌, arith}
+use Rattle.std.proofs.Common.{◌≡◌, ◌≢◌, ◌≤◌, ◌<◌, ℕ, zero, suc, ◌+◌, ◌-◌, List, [], ◌∷◌, length, map, Bool, true, false, cond, nat_le, nat_lt, Option}
+use Rattle.std.proofs.Common.{Some, None, inl, inr, ltb-true, leb-true, le-leb, refl, sym, ap, ap₂, subst, ◌∙◌, arith}
 use Rattle.std.proofs.lemmas.List.{length-map}
 use Rattle.sky_base.specs.Val as v
 use Rattle.sky_base.specs.Val.{distinct, ref, refs, same_text}
 use Rattle.sky_base.specs.Name.{low, name}
 use Rattle.sky_base.specs.Read.{joined, see_all}
-use Rattle.sky_base.specs.See.{Val, Desc, Obj, Job, Around, Answered, Turn, turn, turn_refs, turn_of, wave_on, on_turn, last_turn, round, wave, job_answer, main_call, most_waves, see, text_of}
+use Rattle.sky_base.specs.See.{Val, Desc, Obj, Job, Around, Answered, Turn, turn, turn_refs, turn_of, wave_on, on_turn, last_turn, round, wave}
+use Rattle.sky_base.specs.See.{job_answer, main_call, most_waves, see, text_of}
 use Rattle.sky_base.specs.Needed.{Task, State, wait_at, wave_state, wave_refs, unless_none, only_if, distinct_refs}
 use Rattle.sky_base.specs.Res.{Object}
 use Rattle.sky_base.specs.View.{view}
@@ -50,7 +52,8 @@ module _ (tag : Tag) (sees : Desc → Option Obj) where
   abbrev L : Obj → Object (List ℕ)
   L o = low_obj no_name tag o
 
-  joined_is : (x : Option Obj) (y : Option (List Obj)) (os : List Obj) → joined x y ≡ Some os → (o : Obj) × (rest : List Obj) × (x ≡ Some o) × (y ≡ Some rest) × (os ≡ o ∷ rest)
+  joined_is : (x : Option Obj) (y : Option (List Obj)) (os : List Obj) → joined x y ≡ Some os → (o : Obj) × (rest : List Obj) × (x ≡ Some o)
+      × (y ≡ Some rest) × (os ≡ o ∷ rest)
   joined_is None y os e = absurd (none_some os e)
   joined_is (Some o) None os e = absurd (none_some os e)
   joined_is (Some o) (Some rest) os e = (o, rest, refl, refl, sym (some_is (o ∷ rest) os e))
@@ -63,11 +66,13 @@ module _ (tag : Tag) (sees : Desc → Option Obj) where
   given_at (c ∷ ds) os apart e d i =
       first (λ rest more j. given_at ds rest (λ a b k l n. apart a b (inr k) (inr l) n) more d j) (joined_is (sees c) (see_all sees ds) os e)
     where
-      first : ((rest : List Obj) → see_all sees ds ≡ Some rest → In d ds → Found ds rest d) → (o : Obj) × (rest : List Obj) × (sees c ≡ Some o) × (see_all sees ds ≡ Some rest) × (os ≡ o ∷ rest) → Found (c ∷ ds) os d
+      first : ((rest : List Obj) → see_all sees ds ≡ Some rest → In d ds → Found ds rest d) → (o : Obj) × (rest : List Obj) × (sees c ≡ Some o)
+          × (see_all sees ds ≡ Some rest) × (os ≡ o ∷ rest) → Found (c ∷ ds) os d
       first again (o, rest, one, more, is) = subst (λ x. Found (c ∷ ds) x d) (sym is) (go (same_text (name no_name tag d) (name no_name tag c)) refl)
         where
           later : In d (c ∷ ds) → same_text (name no_name tag d) (name no_name tag c) ≡ false → In d ds
-          later (inl q) f = let t = ap (λ x. same_text (name no_name tag x) (name no_name tag c)) q ∙ self_text (name no_name tag c) in absurd (true_false (sym t ∙ f))
+          later (inl q) f = let t = ap (λ x. same_text (name no_name tag x) (name no_name tag c)) q ∙ self_text (name no_name tag c) in
+              absurd (true_false (sym t ∙ f))
             where
               true_false : true ≡ false → ⊥
               true_false z = cc
@@ -110,11 +115,13 @@ module _ (job : Job) (around : Around) where
   answer_from n (suc j) k p s e =
       go (let more : suc k + j ≡ 101 = omega (arith, s) in λ q w. answer_from n j (suc k) q more w) (wave_back n j p e)
     where
-      go : ((q : Val) → wave job around n j ≡ Some q → job_answer job around n ≡ round job around n (suc k) q) → Before n j p → job_answer job around n ≡ round job around n k p
+      go : ((q : Val) → wave job around n j ≡ Some q → job_answer job around n ≡ round job around n (suc k) q) → Before n j p
+          → job_answer job around n ≡ round job around n k p
       go again (q, w, t) =
           again q w ∙ ap (λ x. on_turn job around n x (λ u. round job around n k u)) t
 
-  answer_ends : (n j k : ℕ) (p : Val) (a : Answered) → suc k + j ≡ 101 → wave job around n j ≡ Some p → turn job around n p ≡ Turn.ends a → job_answer job around n ≡ a
+  answer_ends : (n j k : ℕ) (p : Val) (a : Answered) → suc k + j ≡ 101 → wave job around n j ≡ Some p → turn job around n p ≡ Turn.ends a
+      → job_answer job around n ≡ a
   unfolding round
   answer_ends n j k p a s e t =
       answer_from n j (suc k) p s e ∙ ap (λ x. on_turn job around n x (λ u. round job around n k u)) t
@@ -156,7 +163,8 @@ module _ (job : Job) (around : Around) where
 
   no_refs : (n j : ℕ) (q : Val) → wave job around n (suc j) ≡ Some q → refs q ≡ [] → wait_at job around n Task.show (suc j) ≡ None
   no_refs n j q e r =
-      ap (λ o. only_if (nat_le (suc j) 100) (wave_refs o)) e ∙ ap (λ ds. only_if (nat_le (suc j) 100) (unless_none (distinct (λ a b. true) ds))) r ∙ nothing (nat_le (suc j) 100)
+      ap (λ o. only_if (nat_le (suc j) 100) (wave_refs o)) e
+      ∙ ap (λ ds. only_if (nat_le (suc j) 100) (unless_none (distinct (λ a b. true) ds))) r ∙ nothing (nat_le (suc j) 100)
 
   no_more : (n j : ℕ) → 100 < suc j → wait_at job around n Task.show (suc j) ≡ None
   no_more n j l = ap (λ b. only_if b (wave_refs (wave job around n (suc j)))) (above (nat_le (suc j) 100) refl)
@@ -181,11 +189,14 @@ module _ (tag : Tag) (job : Job) (around : Around) (n : ℕ) where
   show_is a b w j e = (cc, cc)
 
   -- a state that stands for the root task is that of its wave
-  stood : (a : v.Val (List ℕ)) (w j : ℕ) (p : Val) → Stands job around tag (Stand.show_at a w) Task.show j → wave job around n j ≡ Some p → (a ≡ low no_name tag p) × (w ≡ j)
+  stood : (a : v.Val (List ℕ)) (w j : ℕ) (p : Val) → Stands job around tag (Stand.show_at a w) Task.show j → wave job around n j ≡ Some p
+      → (a ≡ low no_name tag p) × (w ≡ j)
   stood a w j p (st, at, is) h =
-      show_is a (low no_name tag p) w j (is ∙ ap (low_state tag) (stands_one job around Task.show j st (State.show_at p j) at (n, ap (wave_state j) h)))
+      show_is a (low no_name tag p) w j (is ∙ ap (low_state tag)
+      (stands_one job around Task.show j st (State.show_at p j) at (n, ap (wave_state j) h)))
 
-  module _ (a : v.Val (List ℕ)) (w j : ℕ) (ds : List Desc) (os : List Obj) (given : List (Object (List ℕ))) (seen : see_all (see job around n) ds ≡ Some os) (are : given ≡ map (low_obj no_name tag) os) (apart : NoClash tag ds) where
+  module _ (a : v.Val (List ℕ)) (w j : ℕ) (ds : List Desc) (os : List Obj) (given : List (Object (List ℕ)))
+      (seen : see_all (see job around n) ds ≡ Some os) (are : given ≡ map (low_obj no_name tag) os) (apart : NoClash tag ds) where
     here : Stands job around tag (Stand.show_at a w) Task.show j → AtWait job around n j ds → Here a w j given
     here st (p, h, waits, le) =
         record {
@@ -199,9 +210,13 @@ module _ (tag : Tag) (job : Job) (around : Around) (n : ℕ) where
       where
         names : distinct same_text (refs a) ≡ map (low_ref no_name tag) ds
         names =
-            ap (λ x. distinct same_text (refs x)) (stood a w j p st h).0 ∙ distinct_refs_low no_name tag (λ a b. true) (λ a b c. absurd a) (λ a. absurd a) p (λ d e k l q. apart d e (subst (In d) (sym waits) (in_distinct_refs p d k)) (subst (In e) (sym waits) (in_distinct_refs p e l)) q) ∙ ap (map (low_ref no_name tag)) (sym waits)
+            ap (λ x. distinct same_text (refs x)) (stood a w j p st h).0
+            ∙ distinct_refs_low no_name tag (λ a b. true) (λ a b c. absurd a) (λ a. absurd a) p
+            (λ d e k l q. apart d e (subst (In d) (sym waits) (in_distinct_refs p d k)) (subst (In e) (sym waits) (in_distinct_refs p e l))
+            q) ∙ ap (map (low_ref no_name tag)) (sym waits)
 
-        of_found : (d : Desc) → Found tag (see job around n) ds os d → (o : Object (List ℕ)) × (given_for (distinct same_text (refs a)) given (low_ref no_name tag d) ≡ Some o) × Sees job around tag n d o
+        of_found : (d : Desc) → Found tag (see job around n) ds os d → (o : Object (List ℕ))
+            × (given_for (distinct same_text (refs a)) given (low_ref no_name tag d) ≡ Some o) × Sees job around tag n d o
         of_found d (x, s, g) =
             (low_obj no_name tag x, (λ i. given_for (names i) (are i) (low_ref no_name tag d)) ∙ g, (x, s, refl))
 
@@ -217,10 +232,12 @@ module _ (tag : Tag) (job : Job) (around : Around) (n : ℕ) where
   no_refs_low [] e = refl
   no_refs_low (d ∷ ds) e = absurd cc
 
-  module _ (reads_alike : ReadsAlike tag around data_of) (writes_alike : WritesAlike tag around) (a : v.Val (List ℕ)) (w j : ℕ) (given : List (Object (List ℕ))) (h : Here a w j given) where
+  module _ (reads_alike : ReadsAlike tag around data_of) (writes_alike : WritesAlike tag around) (a : v.Val (List ℕ)) (w j : ℕ)
+      (given : List (Object (List ℕ))) (h : Here a w j given) where
     turned : low_turn tag (turn job around n h.p) ≡ turn_over (distinct same_text (refs a)) given a
     turned =
-        turn_low job around data_of (λ u. writes u) tag reads_alike writes_alike n (λ d. given_for (distinct same_text (refs a)) given d) h.p h.sees ∙ ap (λ x. turn_over (distinct same_text (refs a)) given x) (sym h.is)
+        turn_low job around data_of (λ u. writes u) tag reads_alike writes_alike n (λ d. given_for (distinct same_text (refs a)) given d) h.p
+        h.sees ∙ ap (λ x. turn_over (distinct same_text (refs a)) given x) (sym h.is)
 
     -- what follows a turn of the job
     comes : (t : Turn) → turn job around n h.p ≡ t → next_of given a w ≡ after_turn (low_turn tag t) (suc j)
@@ -250,24 +267,35 @@ module _ (tag : Tag) (job : Job) (around : Around) (n : ℕ) where
         last_low q [] = refl
         last_low q (d ∷ ds) = refl
 
-        past : (q : Val) → turn job around n h.p ≡ Turn.next q → 100 < suc j → last_at (refs (low no_name tag q)) (writes (low no_name tag q)) ≡ x → Ends x
+        past : (q : Val) → turn job around n h.p ≡ Turn.next q → 100 < suc j → last_at (refs (low no_name tag q)) (writes (low no_name tag q))
+            ≡ x → Ends x
         past q t l r =
-            let none : 100 - j ≡ 0 = omega (arith, l) in
-            (answer_from job around n (suc j) (100 - j) q after (next_wave q t) ∙ ap (λ k. round job around n k q) none ∙ round_last job around n q ∙ last_low q (refs q) ∙ ap₂ last_at (sym (refs_next q)) (sym (writes_alike q)) ∙ r, no_more job around n j l)
+            let none : 100 - j ≡ 0 = omega (arith, l) in (
+              answer_from job around n (suc j) (100 - j) q after (next_wave q t) ∙ ap (λ k. round job around n k q) none
+                  ∙ round_last job around n q ∙ last_low q (refs q) ∙ ap₂ last_at (sym (refs_next q)) (sym (writes_alike q)) ∙ r,
+              no_more job around n j l,
+            )
 
-        plain : (q : Val) → turn job around n h.p ≡ Turn.next q → (ds : List Row) → refs (low no_name tag q) ≡ ds → waits_if ds (low no_name tag q) ≡ Next.answers x → Ends x
+        plain : (q : Val) → turn job around n h.p ≡ Turn.next q → (ds : List Row) → refs (low no_name tag q) ≡ ds
+            → waits_if ds (low no_name tag q) ≡ Next.answers x → Ends x
         plain q t [] r z =
-            let none : refs q ≡ [] = no_refs_low (refs q) (sym (refs_next q) ∙ r) in
-            (answer_from job around n (suc j) (100 - j) q after (next_wave q t) ∙ round_plain job around n (100 - j) q none ∙ ap text_of (sym (writes_alike q)) ∙ answer_is (text_of (writes (low no_name tag q))) x z, no_refs job around n j q (next_wave q t) none)
+            let none : refs q ≡ [] = no_refs_low (refs q) (sym (refs_next q) ∙ r) in (
+              answer_from job around n (suc j) (100 - j) q after (next_wave q t) ∙ round_plain job around n (100 - j) q none
+                  ∙ ap text_of (sym (writes_alike q)) ∙ answer_is (text_of (writes (low no_name tag q))) x z,
+              no_refs job around n j q (next_wave q t) none,
+            )
         plain q t (d ∷ ds) r z = absurd cc
 
-        on_next : (q : Val) → turn job around n h.p ≡ Turn.next q → (b : Bool) → nat_lt most_waves (suc j) ≡ b → wave_if b (low no_name tag q) ≡ Next.answers x → Ends x
+        on_next : (q : Val) → turn job around n h.p ≡ Turn.next q → (b : Bool) → nat_lt most_waves (suc j) ≡ b → wave_if b (low no_name tag q)
+            ≡ Next.answers x → Ends x
         on_next q t true l z = past q t (ltb-true 100 (suc j) l) (answer_is (last_at (refs (low no_name tag q)) (writes (low no_name tag q))) x z)
         on_next q t false l z = plain q t (refs (low no_name tag q)) refl z
 
         go : (t : Turn) → turn job around n h.p ≡ t → Ends x
-        go (Turn.ends y) t =
-            (answer_ends job around n j (100 - j) h.p y left h.wave_is t ∙ answer_is y x (sym (comes (Turn.ends y) t) ∙ e), no_wave job around n j (wave_next job around n j h.p (Turn.ends y) h.wave_is t))
+        go (Turn.ends y) t = (
+          answer_ends job around n j (100 - j) h.p y left h.wave_is t ∙ answer_is y x (sym (comes (Turn.ends y) t) ∙ e),
+          no_wave job around n j (wave_next job around n j h.p (Turn.ends y) h.wave_is t),
+        )
         go (Turn.next q) t = on_next q t (nat_lt most_waves (suc j)) refl (sym (comes (Turn.next q) t) ∙ e)
 
     abbrev Goes : v.Val (List ℕ) → Type 0
@@ -292,8 +320,13 @@ module _ (tag : Tag) (job : Job) (around : Around) (n : ℕ) where
         of_next : (q : Val) → turn job around n h.p ≡ Turn.next q → IsNext (Turned.next (low no_name tag q)) (suc j) u → Goes u
         of_next q t (is, le, more) =
             let same : low no_name tag q ≡ u = next_is (low no_name tag q) u is in
-            let refers : 0 < length (refs q) = subst (λ k. 0 < k) (length-map (refs q) (low_ref no_name tag)) (subst (λ xs. 0 < length xs) (refs_next q) (subst (λ x. 0 < length (refs x)) (sym same) more)) in
-            ((State.show_at q (suc j), (n, ap (wave_state (suc j)) (next_wave q t)), (λ i. Stand.show_at (sym same i) (suc (h.at i)))), distinct_refs q, ap₂ only_if (le-leb (suc j) 100 le) (ap wave_refs (next_wave q t) ∙ wait q (distinct_refs q) refl (some q refers)))
+            let refers : 0 < length (refs q) = subst (λ k. 0 < k) (length-map (refs q) (low_ref no_name tag))
+            (subst (λ xs. 0 < length xs) (refs_next q) (subst (λ x. 0 < length (refs x)) (sym same) more)) in (
+              (State.show_at q (suc j), (n, ap (wave_state (suc j)) (next_wave q t)), (λ i. Stand.show_at (sym same i) (suc (h.at i)))),
+              distinct_refs q,
+              ap₂ only_if (le-leb (suc j) 100 le)
+                  (ap wave_refs (next_wave q t) ∙ wait q (distinct_refs q) refl (some q refers)),
+            )
 
         go : (t : Turn) → turn job around n h.p ≡ t → Goes u
         go (Turn.ends y) t = absurd (ends_not y (sym (comes (Turn.ends y) t) ∙ e))

@@ -32,7 +32,9 @@ module _ (tag : Tag) (job : Job) (around : Around) (n j : ℕ) where
 -- task waits for there, with each description replaced by its name, no two of which are the same
 abbrev pub GoesOnShown : Val (List ℕ) → ℕ → List (Object (List ℕ)) → Came → Type 0
 GoesOnShown v w given came =
-    (tag : Tag) (job : Job) (around : Around) (n j : ℕ) (ds : List Desc) (os : List Obj) → ReadsAlike tag around data_of → WritesAlike tag around → Stands job around tag (Stand.show_at v w) Task.show j → wait_at job around n Task.show j ≡ Some ds → see_all (see job around n) ds ≡ Some os → given ≡ map (low_obj no_name tag) os → NoClash tag ds → ShownOrStands tag job around n j w came
+    (tag : Tag) (job : Job) (around : Around) (n j : ℕ) (ds : List Desc) (os : List Obj) → ReadsAlike tag around data_of → WritesAlike tag around
+    → Stands job around tag (Stand.show_at v w) Task.show j → wait_at job around n Task.show j ≡ Some ds → see_all (see job around n) ds
+    ≡ Some os → given ≡ map (low_obj no_name tag) os → NoClash tag ds → ShownOrStands tag job around n j w came
 
 -- where the value fitted a script at wave w, and the objects are sound, the next value fits the script at the wave after
 abbrev pub FitsOn : Val (List ℕ) → ℕ → List (Object (List ℕ)) → Came → Type 0

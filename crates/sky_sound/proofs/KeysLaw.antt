@@ -1,5 +1,6 @@
 -- Names found among keys are names of the list.
-use Rattle.std.proofs.Common.{◌≡◌, ◌<◌, ◌+◌, ◌⊎◌, inl, inr, ℕ, zero, suc, List, [], ◌∷◌, ◌++◌, length, take, Bool, true, false, ◌||◌, Option, Some, None, is_some, slice_get, get_or, refl, sym, ap, ◌∙◌, subst, arith}
+use Rattle.std.proofs.Common.{◌≡◌, ◌<◌, ◌+◌, ◌⊎◌, inl, inr, ℕ, zero, suc, List, [], ◌∷◌, ◌++◌, length, take, Bool, true, false, ◌||◌, Option, Some}
+use Rattle.std.proofs.Common.{None, is_some, slice_get, get_or, refl, sym, ap, ◌∙◌, subst, arith}
 use Rattle.std.specs.Ordering.{nat_cmp, match_ordering, ordering_reverse, is_eq}
 use Rattle.std.specs.Cmp.Lexicographic.{slice_cmp}
 use Rattle.std.proofs.lemmas.Cmp.{nat_list_cmp_total}
@@ -49,7 +50,8 @@ used_names (Some f) keys e = e
 
 -- ---- a name of a list
 
-first_or : (o : Ordering) (b : Bool) (k x : List ℕ) (xs : List (List ℕ)) → cmp k x ≡ o → is_eq o || b ≡ true → (b ≡ true → In k xs) → (k ≡ x) ⊎ In k xs
+first_or : (o : Ordering) (b : Bool) (k x : List ℕ) (xs : List (List ℕ)) → cmp k x ≡ o → is_eq o || b ≡ true → (b ≡ true → In k xs) → (k ≡ x)
+    ⊎ In k xs
 first_or Ordering.Less b k x xs e h more = inr (more h)
 first_or Ordering.Equal b k x xs e h more = inl (same_key k x e)
 first_or Ordering.Greater b k x xs e h more = inr (more h)
@@ -90,7 +92,8 @@ module _ (xs us : List (List ℕ)) (own uses : P) (e : KeysAre own xs) (g : Keys
   from_keys no_pairs h = tt
   from_keys (pair k v ps) h = (from_key k h.0, from_keys ps h.1)
 
-found_step : (o : Ordering) (x l : List ℕ) (v : Val (List ℕ)) (ps : P) → cmp x l ≡ o → is_some (match_ordering o None (Some v) (find x ps)) ≡ true → (HasValue ps x → HasKey ps x) → (x ≡ l) ⊎ HasKey ps x
+found_step : (o : Ordering) (x l : List ℕ) (v : Val (List ℕ)) (ps : P) → cmp x l ≡ o → is_some (match_ordering o None (Some v) (find x ps))
+    ≡ true → (HasValue ps x → HasKey ps x) → (x ≡ l) ⊎ HasKey ps x
 found_step Ordering.Less x l v ps e h more = absurd cc
 found_step Ordering.Equal x l v ps e h more = inl (same_key x l e)
 found_step Ordering.Greater x l v ps e h more = inr (more h)
@@ -134,14 +137,16 @@ no_names o keys e g k = ap (λ ps. is_some (find k ps)) g ∙ ap (λ p. is_one_o
 
 -- ---- the names that functions use
 
-pub uses_more : (index : List P) (fs : List FunDef) (i : ℕ) (f : FunDef) (keys : P) → i < length fs → f ≡ get_or fs i f → KeysAre keys f.uses → AreUses index (funs_view (take i fs)) → AreUses (index ++ keys ∷ []) (funs_view (take (i + 1) fs))
+pub uses_more : (index : List P) (fs : List FunDef) (i : ℕ) (f : FunDef) (keys : P) → i < length fs → f ≡ get_or fs i f → KeysAre keys f.uses
+    → AreUses index (funs_view (take i fs)) → AreUses (index ++ keys ∷ []) (funs_view (take (i + 1) fs))
 uses_more index [] i f keys h e new so_far = absurd (omega (arith, h))
 uses_more [] (g ∷ fs) zero f keys h e new so_far = (subst (λ (x : FunDef). KeysAre keys x.uses) e new, tt)
 uses_more (p ∷ index) (g ∷ fs) zero f keys h e new so_far = absurd so_far
 uses_more [] (g ∷ fs) (suc i) f keys h e new so_far = absurd so_far
 uses_more (p ∷ index) (g ∷ fs) (suc i) f keys h e new so_far =
     let n : suc i + 1 ≡ suc (i + 1) = omega arith in
-    subst (λ m. AreUses (p ∷ (index ++ keys ∷ [])) (funs_view (take m (g ∷ fs)))) (sym n) (so_far.0, uses_more index fs i f keys (omega (arith, h)) e new so_far.1)
+    subst (λ m. AreUses (p ∷ (index ++ keys ∷ [])) (funs_view (take m (g ∷ fs)))) (sym n)
+    (so_far.0, uses_more index fs i f keys (omega (arith, h)) e new so_far.1)
 
 pub uses_length : (index : List P) (fs : List logic.FunDef) → AreUses index fs → length index ≡ length fs
 uses_length [] [] h = refl
@@ -149,7 +154,8 @@ uses_length [] (f ∷ fs) h = absurd h
 uses_length (p ∷ index) [] h = absurd h
 uses_length (p ∷ index) (f ∷ fs) h = ap suc (uses_length index fs h.1)
 
-pub uses_at : (index : List P) (fs : List logic.FunDef) (i : ℕ) (keys : P) → AreUses index fs → i < length index → keys ≡ get_or index i keys → UsesAre keys (slice_get fs i)
+pub uses_at : (index : List P) (fs : List logic.FunDef) (i : ℕ) (keys : P) → AreUses index fs → i < length index → keys ≡ get_or index i keys
+    → UsesAre keys (slice_get fs i)
 uses_at [] fs i keys h l e = absurd (omega (arith, l))
 uses_at (p ∷ index) [] i keys h l e = absurd h
 uses_at (p ∷ index) (f ∷ fs) zero keys h l e = subst (λ x. KeysAre x f.uses) (sym e) h.0

@@ -25,7 +25,8 @@ pub fn are_bound(
 ) -> Result<bool, Memory>
     ensures keys { IfOk result (λ b. IsTrue b → KeysFrom params.now (uses_of (find_fun fun.now captures.now.funs)) vars.now) }
     ensures params { IfOk result (λ b. IsTrue b → Each (HasKey vars.now) params.now) }
-    ensures no { IfOk result (λ b. IsFalse b → KeysFrom params.now (uses_of (find_fun fun.now captures.now.funs)) vars.now → Each (HasKey vars.now) params.now → ⊥) }
+    ensures no { IfOk result (λ b. IsFalse b → KeysFrom params.now (uses_of (find_fun fun.now captures.now.funs)) vars.now
+        → Each (HasKey vars.now) params.now → ⊥) }
 {
     let own = keys_of(alloc, params)?;
     match captures.uses(fun) {

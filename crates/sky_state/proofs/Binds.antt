@@ -25,5 +25,6 @@ drop_past [] (suc i) h = refl
 drop_past (x ∷ xs) zero h = absurd (omega arith)
 drop_past (x ∷ xs) (suc i) h = drop_past xs i (omega arith)
 
-pub bind_here : (x : List ℕ) (xs : List (List ℕ)) (vs : Vals (List ℕ)) (i : ℕ) (v : Val (List ℕ)) (ps : Pairs (List ℕ)) → val_at vs i ≡ Some v → bind (x ∷ xs) (left i vs) ps ≡ bind xs (left (i + 1) vs) (put x v ps)
+pub bind_here : (x : List ℕ) (xs : List (List ℕ)) (vs : Vals (List ℕ)) (i : ℕ) (v : Val (List ℕ)) (ps : Pairs (List ℕ)) → val_at vs i ≡ Some v
+    → bind (x ∷ xs) (left i vs) ps ≡ bind xs (left (i + 1) vs) (put x v ps)
 bind_here x xs vs i v ps e = ap (λ us. bind (x ∷ xs) us ps) (left_here vs i v e)

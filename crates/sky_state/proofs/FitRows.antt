@@ -30,14 +30,17 @@ abbrev squares : Script
 squares = squares_row.script
 
 -- the rows of its nodes
-squares_block : map (row_of squares) (todo 0 0 ∷ todo 0 1 ∷ todo 0 2 ∷ todo 0 3 ∷ todo 0 4 ∷ []) ≡ part 0 [] ∷ pending 0 1 ∷ pending 0 6 ∷ pending 0 11 ∷ no_step ∷ []
+squares_block : map (row_of squares) (todo 0 0 ∷ todo 0 1 ∷ todo 0 2 ∷ todo 0 3 ∷ todo 0 4 ∷ []) ≡ part 0 [] ∷ pending 0 1 ∷ pending 0 6
+    ∷ pending 0 11 ∷ no_step ∷ []
 squares_block = refl
 
 squares_statements : map (row_of squares) (todo 1 0 ∷ todo 1 1 ∷ todo 1 2 ∷ todo 11 1 ∷ []) ≡ no_step ∷ pending 0 2 ∷ no_step ∷ pending 0 12 ∷ []
 squares_statements = refl
 
 -- `spawn(f, [3])`, a name, the sum and `*a`
-squares_parts : map (row_of squares) (todo 2 1 ∷ todo 2 2 ∷ todo 2 3 ∷ todo 3 1 ∷ todo 12 1 ∷ todo 12 2 ∷ todo 12 3 ∷ todo 13 1 ∷ todo 13 2 ∷ todo 13 3 ∷ []) ≡ pending 0 3 ∷ pending 1 4 ∷ no_step ∷ no_step ∷ pending 0 13 ∷ pending 1 15 ∷ no_step ∷ pending 0 14 ∷ table.star ∷ no_step ∷ []
+squares_parts : map (row_of squares) (todo 2 1 ∷ todo 2 2 ∷ todo 2 3 ∷ todo 3 1 ∷ todo 12 1 ∷ todo 12 2 ∷ todo 12 3 ∷ todo 13 1 ∷ todo 13 2
+    ∷ todo 13 3 ∷ []) ≡ pending 0 3 ∷ pending 1 4 ∷ no_step ∷ no_step ∷ pending 0 13 ∷ pending 1 15 ∷ no_step ∷ pending 0 14 ∷ table.star
+    ∷ no_step ∷ []
 squares_parts = refl
 
 abbrev f : List ℕ
@@ -73,33 +76,88 @@ after_wait sc r h = (λ _ s. absurd (omega (arith, s.waits, h)), λ _. h)
 
 -- its first wait, for `*a`
 abbrev squares_one_frame0 : Frame (List ℕ)
-squares_one_frame0 = record { fun = []; vars = (pair (97 ∷ []) (at_name 65) (pair (98 ∷ []) (at_name 66) no_pairs)); stack = at_name 65 ∷ []; todo = todo 0 3 ∷ todo 11 1 ∷ todo 12 1 ∷ todo 13 2 ∷ [] }
+squares_one_frame0 = record {
+  fun = [];
+  vars = (pair (97 ∷ []) (at_name 65) (pair (98 ∷ []) (at_name 66) no_pairs));
+  stack = at_name 65 ∷ [];
+  todo = todo 0 3 ∷ todo 11 1 ∷ todo 12 1 ∷ todo 13 2 ∷ [];
+}
 
 abbrev squares_one : Run (List ℕ)
 squares_one = record { frames = squares_one_frame0 ∷ []; count = 13; waits = 1 }
 
 squares_one_fits0 : FitsFrame squares squares_one_frame0
 squares_one_fits0 =
-    record { bottom = refl; steps = (tt, (tt, (tt, (tt, tt)))); parts = (inl refl, (inl refl, (inl refl, tt))); as_many = refl; kinds = (tt, (tt, (tt, (tt, tt)))); taken = (tt, (tt, (tt, (tt, tt)))); vars = ((name_ok squares 65), ((name_ok squares 66), tt)); values = ((name_ok squares 65), tt) }
+    record {
+      bottom = refl;
+      steps = (tt, (tt, (tt, (tt, tt))));
+      parts = (inl refl, (inl refl, (inl refl, tt)));
+      as_many = refl;
+      kinds =
+          (tt, (tt, (tt, (tt, tt))));
+      taken = (tt, (tt, (tt, (tt, tt))));
+      vars = ((name_ok squares 65), ((name_ok squares 66), tt));
+      values =
+          ((name_ok squares 65), tt);
+    }
 
 squares_one_fits : FitsRun squares squares_one
 squares_one_fits =
-    record { some_frame = omega arith; few_frames = below_bodies (omega arith); count = below_visits (omega arith); waits = omega arith; functions = (inl refl, tt); frames = (squares_one_fits0, tt); calls = tt; top = inl tt; started = after_wait squares squares_one (omega arith) }
+    record {
+      some_frame = omega arith;
+      few_frames = below_bodies (omega arith);
+      count = below_visits (omega arith);
+      waits = omega arith;
+      functions = (inl refl, tt);
+      frames = (squares_one_fits0, tt);
+      calls = tt;
+      top = inl tt;
+      started =
+          after_wait squares squares_one (omega arith);
+    }
 
 -- its second wait, for `*b`: the sum keeps 9
 abbrev squares_two_frame0 : Frame (List ℕ)
-squares_two_frame0 = record { fun = []; vars = (pair (97 ∷ []) (at_name 65) (pair (98 ∷ []) (at_name 66) no_pairs)); stack = (num (pos 9)) ∷ at_name 66 ∷ []; todo = todo 0 3 ∷ todo 11 1 ∷ todo 12 2 ∷ todo 15 2 ∷ [] }
+squares_two_frame0 = record {
+  fun = [];
+  vars = (pair (97 ∷ []) (at_name 65) (pair (98 ∷ []) (at_name 66) no_pairs));
+  stack = (num (pos 9))
+      ∷ at_name 66 ∷ [];
+  todo = todo 0 3 ∷ todo 11 1 ∷ todo 12 2 ∷ todo 15 2 ∷ [];
+}
 
 abbrev squares_two : Run (List ℕ)
 squares_two = record { frames = squares_two_frame0 ∷ []; count = 15; waits = 2 }
 
 squares_two_fits0 : FitsFrame squares squares_two_frame0
 squares_two_fits0 =
-    record { bottom = refl; steps = (tt, (tt, (tt, (tt, tt)))); parts = (inl refl, (inl refl, (inl refl, tt))); as_many = refl; kinds = (tt, (tt, (tt, (tt, tt)))); taken = (tt, (tt, (tt, (tt, tt)))); vars = ((name_ok squares 65), ((name_ok squares 66), tt)); values = ((num_ok squares 9), ((name_ok squares 66), tt)) }
+    record {
+      bottom = refl;
+      steps = (tt, (tt, (tt, (tt, tt))));
+      parts = (inl refl, (inl refl, (inl refl, tt)));
+      as_many = refl;
+      kinds =
+          (tt, (tt, (tt, (tt, tt))));
+      taken = (tt, (tt, (tt, (tt, tt))));
+      vars = ((name_ok squares 65), ((name_ok squares 66), tt));
+      values =
+          ((num_ok squares 9), ((name_ok squares 66), tt));
+    }
 
 squares_two_fits : FitsRun squares squares_two
 squares_two_fits =
-    record { some_frame = omega arith; few_frames = below_bodies (omega arith); count = below_visits (omega arith); waits = omega arith; functions = (inl refl, tt); frames = (squares_two_fits0, tt); calls = tt; top = inl tt; started = after_wait squares squares_two (omega arith) }
+    record {
+      some_frame = omega arith;
+      few_frames = below_bodies (omega arith);
+      count = below_visits (omega arith);
+      waits = omega arith;
+      functions = (inl refl, tt);
+      frames = (squares_two_fits0, tt);
+      calls = tt;
+      top = inl tt;
+      started =
+          after_wait squares squares_two (omega arith);
+    }
 
 -- `function f(x) { return *x + 1; } return f(spawn(f, [2]));`
 abbrev calls : Exp → ℕ → Exp
@@ -107,29 +165,67 @@ calls e c = Exp.postfix (name f c) (Steps.call (Exps.exp e Exps.no_exps) (at (c 
 
 abbrev two_frames : Script
 two_frames =
-    (with_fun f (x ∷ []) (Stm.return (at 17) (op (star 24 (name x 25)) Oper.plus 27 (n 1 29)) ∷ []) (Stm.return (at 34) (calls (form Form.spawn 43 (name f 49 ∷ form Form.list 52 (n 2 53 ∷ []) ∷ [])) 41) ∷ [])).script
+    (with_fun f (x ∷ []) (Stm.return (at 17) (op (star 24 (name x 25)) Oper.plus 27 (n 1 29)) ∷ [])
+    (Stm.return (at 34) (calls (form Form.spawn 43 (name f 49 ∷ form Form.list 52 (n 2 53 ∷ []) ∷ [])) 41) ∷ [])).script
 
 -- inside the call
 abbrev called_frame0 : Frame (List ℕ)
 called_frame0 = record { fun = []; vars = no_pairs; stack = []; todo = todo 0 1 ∷ todo 1 1 ∷ todo 2 3 ∷ [] }
 
 abbrev called_frame1 : Frame (List ℕ)
-called_frame1 = record { fun = f; vars = (pair (120 ∷ []) (at_name 65) no_pairs); stack = at_name 65 ∷ []; todo = todo 8 1 ∷ todo 9 1 ∷ todo 10 1 ∷ todo 11 2 ∷ [] }
+called_frame1 = record {
+  fun = f;
+  vars = (pair (120 ∷ []) (at_name 65) no_pairs);
+  stack = at_name 65 ∷ [];
+  todo = todo 8 1 ∷ todo 9 1 ∷ todo 10 1
+      ∷ todo 11 2 ∷ [];
+}
 
 abbrev called : Run (List ℕ)
 called = record { frames = called_frame0 ∷ called_frame1 ∷ []; count = 10; waits = 1 }
 
 called_fits0 : FitsFrame two_frames called_frame0
 called_fits0 =
-    record { bottom = refl; steps = (tt, (tt, (tt, tt))); parts = (inl refl, (inl refl, tt)); as_many = refl; kinds = (tt, (tt, (tt, tt))); taken = (tt, (tt, (tt, tt))); vars = tt; values = tt }
+    record {
+      bottom = refl;
+      steps = (tt, (tt, (tt, tt)));
+      parts = (inl refl, (inl refl, tt));
+      as_many = refl;
+      kinds = (tt, (tt, (tt, tt)));
+      taken = (tt, (tt, (tt, tt)));
+      vars = tt;
+      values = tt;
+    }
 
 called_fits1 : FitsFrame two_frames called_frame1
 called_fits1 =
-    record { bottom = refl; steps = (tt, (tt, (tt, (tt, tt)))); parts = (inl refl, (inl refl, (inl refl, tt))); as_many = refl; kinds = (tt, (tt, (tt, (tt, tt)))); taken = (tt, (tt, (tt, (tt, tt)))); vars = ((name_ok two_frames 65), tt); values = ((name_ok two_frames 65), tt) }
+    record {
+      bottom = refl;
+      steps = (tt, (tt, (tt, (tt, tt))));
+      parts = (inl refl, (inl refl, (inl refl, tt)));
+      as_many = refl;
+      kinds =
+          (tt, (tt, (tt, (tt, tt))));
+      taken = (tt, (tt, (tt, (tt, tt))));
+      vars = ((name_ok two_frames 65), tt);
+      values =
+          ((name_ok two_frames 65), tt);
+    }
 
 called_fits : FitsRun two_frames called
 called_fits =
-    record { some_frame = omega arith; few_frames = below_bodies (omega arith); count = below_visits (omega arith); waits = omega arith; functions = (inl refl, (refl, tt)); frames = (called_fits0, (called_fits1, tt)); calls = (tt, tt); top = inl tt; started = after_wait two_frames called (omega arith) }
+    record {
+      some_frame = omega arith;
+      few_frames = below_bodies (omega arith);
+      count = below_visits (omega arith);
+      waits = omega arith;
+      functions = (inl refl, (refl, tt));
+      frames = (called_fits0, (called_fits1, tt));
+      calls = (tt, tt);
+      top = inl tt;
+      started =
+          after_wait two_frames called (omega arith);
+    }
 
 -- `for (x in [1, 2]) { y = *ref("t"); }`
 abbrev of_t : ℕ → Exp
@@ -144,23 +240,50 @@ over_list =
 
 -- in the first turn
 abbrev in_turn_frame0 : Frame (List ℕ)
-in_turn_frame0 = record { fun = []; vars = (pair (120 ∷ []) (num (pos 1)) no_pairs); stack = one_two ∷ (num (pos 1)) ∷ at_name 65 ∷ []; todo = todo 0 1 ∷ todo 1 2 ∷ todo 5 1 ∷ todo 6 1 ∷ todo 7 2 ∷ [] }
+in_turn_frame0 = record {
+  fun = [];
+  vars = (pair (120 ∷ []) (num (pos 1)) no_pairs);
+  stack = one_two ∷ (num (pos 1)) ∷ at_name 65 ∷ [];
+  todo =
+      todo 0 1 ∷ todo 1 2 ∷ todo 5 1 ∷ todo 6 1 ∷ todo 7 2 ∷ [];
+}
 
 abbrev in_turn : Run (List ℕ)
 in_turn = record { frames = in_turn_frame0 ∷ []; count = 9; waits = 1 }
 
 in_turn_fits0 : FitsFrame over_list in_turn_frame0
 in_turn_fits0 =
-    record { bottom = refl; steps = (tt, (tt, (tt, (tt, (tt, tt))))); parts = (inl refl, (inl refl, (inl refl, (inl refl, tt)))); as_many = refl; kinds = (tt, ((tt, tt), (tt, (tt, (tt, tt))))); taken = (tt, (omega arith, (tt, (tt, (tt, tt))))); vars = ((num_ok over_list 1), tt); values = ((nums_ok over_list), ((num_ok over_list 1), ((name_ok over_list 65), tt))) }
+    record {
+      bottom = refl;
+      steps = (tt, (tt, (tt, (tt, (tt, tt)))));
+      parts = (inl refl, (inl refl, (inl refl, (inl refl, tt))));
+      as_many = refl;
+      kinds = (tt, ((tt, tt), (tt, (tt, (tt, tt)))));
+      taken = (tt, (omega arith, (tt, (tt, (tt, tt)))));
+      vars = ((num_ok over_list 1), tt);
+      values = ((nums_ok over_list), ((num_ok over_list 1), ((name_ok over_list 65), tt)));
+    }
 
 in_turn_fits : FitsRun over_list in_turn
 in_turn_fits =
-    record { some_frame = omega arith; few_frames = below_bodies (omega arith); count = below_visits (omega arith); waits = omega arith; functions = (inl refl, tt); frames = (in_turn_fits0, tt); calls = tt; top = inl tt; started = after_wait over_list in_turn (omega arith) }
+    record {
+      some_frame = omega arith;
+      few_frames = below_bodies (omega arith);
+      count = below_visits (omega arith);
+      waits = omega arith;
+      functions = (inl refl, tt);
+      frames = (in_turn_fits0, tt);
+      calls = tt;
+      top = inl tt;
+      started =
+          after_wait over_list in_turn (omega arith);
+    }
 
 -- `return -*ref("t");`
 abbrev minus_star : Script
 minus_star =
-    with_t (Stm.return (at 1) (Exp.prefix (record { sign = Sign.minus; place = at 8 } ∷ record { sign = Sign.star; place = at 9 } ∷ []) (of_t 10)) ∷ [])
+    with_t (Stm.return (at 1) (Exp.prefix (record { sign = Sign.minus; place = at 8 } ∷ record { sign = Sign.star; place = at 9 } ∷ [])
+    (of_t 10)) ∷ [])
 
 -- under the minus
 abbrev under_minus_frame0 : Frame (List ℕ)
@@ -171,11 +294,31 @@ under_minus = record { frames = under_minus_frame0 ∷ []; count = 4; waits = 1 
 
 under_minus_fits0 : FitsFrame minus_star under_minus_frame0
 under_minus_fits0 =
-    record { bottom = refl; steps = (tt, (tt, (tt, tt))); parts = (inl refl, (inl refl, tt)); as_many = refl; kinds = (tt, (tt, (tt, tt))); taken = (tt, (tt, (tt, tt))); vars = tt; values = ((name_ok minus_star 65), tt) }
+    record {
+      bottom = refl;
+      steps = (tt, (tt, (tt, tt)));
+      parts = (inl refl, (inl refl, tt));
+      as_many = refl;
+      kinds = (tt, (tt, (tt, tt)));
+      taken = (tt, (tt, (tt, tt)));
+      vars = tt;
+      values = ((name_ok minus_star 65), tt);
+    }
 
 under_minus_fits : FitsRun minus_star under_minus
 under_minus_fits =
-    record { some_frame = omega arith; few_frames = below_bodies (omega arith); count = below_visits (omega arith); waits = omega arith; functions = (inl refl, tt); frames = (under_minus_fits0, tt); calls = tt; top = inl tt; started = after_wait minus_star under_minus (omega arith) }
+    record {
+      some_frame = omega arith;
+      few_frames = below_bodies (omega arith);
+      count = below_visits (omega arith);
+      waits = omega arith;
+      functions = (inl refl, tt);
+      frames = (under_minus_fits0, tt);
+      calls = tt;
+      top = inl tt;
+      started =
+          after_wait minus_star under_minus (omega arith);
+    }
 
 -- `x = exec("cat", {"in": ref("t")}, 1); return x[0];`
 abbrev executing : Script
@@ -190,16 +333,37 @@ in_exec = record { frames = in_exec_frame0 ∷ []; count = 8; waits = 1 }
 
 in_exec_fits0 : FitsFrame executing in_exec_frame0
 in_exec_fits0 =
-    record { bottom = refl; steps = (tt, (tt, (tt, tt))); parts = (inl refl, (inl refl, tt)); as_many = refl; kinds = (tt, (tt, ((tt, tt), tt))); taken = (tt, (tt, (tt, tt))); vars = tt; values = ((refs_ok executing 65), tt) }
+    record {
+      bottom = refl;
+      steps = (tt, (tt, (tt, tt)));
+      parts = (inl refl, (inl refl, tt));
+      as_many = refl;
+      kinds = (tt, (tt, ((tt, tt), tt)));
+      taken = (tt, (tt, (tt, tt)));
+      vars = tt;
+      values = ((refs_ok executing 65), tt);
+    }
 
 in_exec_fits : FitsRun executing in_exec
 in_exec_fits =
-    record { some_frame = omega arith; few_frames = below_bodies (omega arith); count = below_visits (omega arith); waits = omega arith; functions = (inl refl, tt); frames = (in_exec_fits0, tt); calls = tt; top = inl tt; started = after_wait executing in_exec (omega arith) }
+    record {
+      some_frame = omega arith;
+      few_frames = below_bodies (omega arith);
+      count = below_visits (omega arith);
+      waits = omega arith;
+      functions = (inl refl, tt);
+      frames = (in_exec_fits0, tt);
+      calls = tt;
+      top = inl tt;
+      started =
+          after_wait executing in_exec (omega arith);
+    }
 
 -- `if (false) { } else if (true) { return *ref("t"); } else { }`
 abbrev choosing : Script
 choosing =
-    with_t (Stm.cases (at 1) (Arms.arm (at 1) (b false 5) (block []) (Arms.arm (at 18) (b true 22) (block (Stm.return (at 30) (star 37 (of_t 38)) ∷ [])) Arms.no_arms)) (Else.otherwise (block [])) ∷ [])
+    with_t (Stm.cases (at 1) (Arms.arm (at 1) (b false 5) (block [])
+    (Arms.arm (at 18) (b true 22) (block (Stm.return (at 30) (star 37 (of_t 38)) ∷ [])) Arms.no_arms)) (Else.otherwise (block [])) ∷ [])
 
 -- in the second arm, whose `if` is no longer under way
 abbrev in_arm_frame0 : Frame (List ℕ)
@@ -210,11 +374,30 @@ in_arm = record { frames = in_arm_frame0 ∷ []; count = 5; waits = 1 }
 
 in_arm_fits0 : FitsFrame choosing in_arm_frame0
 in_arm_fits0 =
-    record { bottom = refl; steps = (tt, (tt, (tt, (tt, tt)))); parts = (inr (inr (inl refl)), (inl refl, (inl refl, tt))); as_many = refl; kinds = (tt, (tt, (tt, (tt, tt)))); taken = (tt, (tt, (tt, (tt, tt)))); vars = tt; values = ((name_ok choosing 65), tt) }
+    record {
+      bottom = refl;
+      steps = (tt, (tt, (tt, (tt, tt))));
+      parts = (inr (inr (inl refl)), (inl refl, (inl refl, tt)));
+      as_many = refl;
+      kinds = (tt, (tt, (tt, (tt, tt))));
+      taken = (tt, (tt, (tt, (tt, tt))));
+      vars = tt;
+      values = ((name_ok choosing 65), tt);
+    }
 
 in_arm_fits : FitsRun choosing in_arm
 in_arm_fits =
-    record { some_frame = omega arith; few_frames = below_bodies (omega arith); count = below_visits (omega arith); waits = omega arith; functions = (inl refl, tt); frames = (in_arm_fits0, tt); calls = tt; top = inl tt; started = after_wait choosing in_arm (omega arith) }
+    record {
+      some_frame = omega arith;
+      few_frames = below_bodies (omega arith);
+      count = below_visits (omega arith);
+      waits = omega arith;
+      functions = (inl refl, tt);
+      frames = (in_arm_fits0, tt);
+      calls = tt;
+      top = inl tt;
+      started = after_wait choosing in_arm (omega arith);
+    }
 
 -- ---- starts, and the result
 
@@ -233,15 +416,39 @@ start_of_f = started f seven
 
 is_start : IsStart squares start_of_f
 is_start =
-    record { frame = record { bottom = refl; at_start = refl; stack = refl; vars = ((inl (inl refl), tt), (inl refl, tt)) }; count = refl; waits = refl }
+    record {
+      frame = record { bottom = refl; at_start = refl; stack = refl; vars = ((inl (inl refl), tt), (inl refl, tt)) };
+      count = refl;
+      waits = refl;
+    }
 
 start_fits : FitsRun squares start_of_f
 start_fits =
-    record { some_frame = omega arith; few_frames = below_bodies (omega arith); count = below_visits (omega arith); waits = omega arith; functions = (inr refl, tt); frames = (body, tt); calls = tt; top = inr is_start; started = (λ h. absurd (omega (arith, h)), λ h. absurd (h is_start)) }
+    record {
+      some_frame = omega arith;
+      few_frames = below_bodies (omega arith);
+      count = below_visits (omega arith);
+      waits = omega arith;
+      functions = (inr refl, tt);
+      frames = (body, tt);
+      calls = tt;
+      top = inr is_start;
+      started =
+          (λ h. absurd (omega (arith, h)), λ h. absurd (h is_start));
+    }
   where
     body : FitsFrame squares (starts f seven)
     body =
-        record { bottom = refl; steps = (tt, tt); parts = tt; as_many = refl; kinds = (tt, tt); taken = (tt, tt); vars = (num_ok squares 7, tt); values = tt }
+        record {
+          bottom = refl;
+          steps = (tt, tt);
+          parts = tt;
+          as_many = refl;
+          kinds = (tt, tt);
+          taken = (tt, tt);
+          vars = (num_ok squares 7, tt);
+          values = tt;
+        }
 
 show_fits : Fits squares (Stand.show_at (at_name 65) 100)
 show_fits = record { wave = omega arith; value = name_ok squares 65; refers = omega arith }
@@ -286,7 +493,8 @@ no_block h = omega (arith, h.frames.0.bottom)
 no_wait : FitsRun squares (squares_with (todo 0 3 ∷ todo 11 1 ∷ []) [] 1) → ⊥
 no_wait h = go h.top
   where
-    go : Last (λ g. Last (λ t. IsWaiting (row_of squares t)) g.todo) (squares_with (todo 0 3 ∷ todo 11 1 ∷ []) [] 1).frames ⊎ IsStart squares (squares_with (todo 0 3 ∷ todo 11 1 ∷ []) [] 1) → ⊥
+    go : Last (λ g. Last (λ t. IsWaiting (row_of squares t)) g.todo) (squares_with (todo 0 3 ∷ todo 11 1 ∷ []) [] 1).frames
+        ⊎ IsStart squares (squares_with (todo 0 3 ∷ todo 11 1 ∷ []) [] 1) → ⊥
     go (inl e) = e
     go (inr s) = omega (arith, s.waits)
 
@@ -315,11 +523,24 @@ no_function : FitsRun squares (started (103 ∷ []) no_pairs) → ⊥
 no_function h = h.frames.0.bottom
 
 -- more elements taken than the list has
-no_third : FitsFrame over_list (record { fun = []; vars = no_pairs; stack = one_two ∷ num (pos 3) ∷ at_name 65 ∷ []; todo = todo 0 1 ∷ todo 1 2 ∷ todo 5 1 ∷ todo 6 1 ∷ todo 7 2 ∷ [] }) → ⊥
+no_third : FitsFrame over_list
+    (record {
+      fun = [];
+      vars = no_pairs;
+      stack = one_two ∷ num (pos 3) ∷ at_name 65 ∷ [];
+      todo = todo 0 1 ∷ todo 1 2 ∷ todo 5 1 ∷ todo 6 1
+          ∷ todo 7 2 ∷ [];
+    }) → ⊥
 no_third h = omega (arith, h.taken.1.0)
 
 -- a frame below the top one without an open call
-no_open_call : FitsRun two_frames (record { frames = record { fun = []; vars = no_pairs; stack = []; todo = todo 0 1 ∷ todo 1 1 ∷ todo 2 1 ∷ [] } ∷ called_frame1 ∷ []; count = 10; waits = 1 }) → ⊥
+no_open_call : FitsRun two_frames
+    (record {
+      frames = record { fun = []; vars = no_pairs; stack = []; todo = todo 0 1 ∷ todo 1 1 ∷ todo 2 1 ∷ [] } ∷ called_frame1 ∷ [];
+      count =
+          10;
+      waits = 1;
+    }) → ⊥
 no_open_call h = h.calls.0
 
 -- a value without a reference, and a wave too late

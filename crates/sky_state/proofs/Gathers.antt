@@ -1,5 +1,6 @@
 -- The references of lists of values and of frames, one at a time.
-use Rattle.std.proofs.Common.{◌≡◌, ℕ, suc, ◌-◌, List, [], ◌∷◌, ◌++◌, length, slice_get, Some, None, refl, sym, ap, ◌∙◌, append_assoc, append-nil, arith}
+use Rattle.std.proofs.Common.{◌≡◌, ℕ, suc, ◌-◌, List, [], ◌∷◌, ◌++◌, length, slice_get, Some, None, refl, sym, ap, ◌∙◌, append_assoc, append-nil}
+use Rattle.std.proofs.Common.{arith}
 use Rattle.std.proofs.lemmas.List.{map-append}
 use Rattle.std.proofs.lemmas.Grind.{flat_map-append}
 use Rattle.sky_base.specs.Val.{Val, Vals, no_vals, val, add_val, refs, vals_refs, pairs_refs}
@@ -22,7 +23,8 @@ stack_push vs v =
     ∙ flat_map-append refs (stack_view vs) (view v ∷ [])
     ∙ ap (λ ds. stack_refs (stack_view vs) ++ ds) (append-nil (refs (view v)))
 
-pub frames_push : (fs : List Frame) (f : Frame) → frames_refs (frames_view (fs ++ f ∷ [])) ≡ frames_refs (frames_view fs) ++ (pairs_refs f.vars ++ stack_refs f.stack)
+pub frames_push : (fs : List Frame) (f : Frame) → frames_refs (frames_view (fs ++ f ∷ [])) ≡ frames_refs (frames_view fs)
+    ++ (pairs_refs f.vars ++ stack_refs f.stack)
 frames_push fs f =
     ap frames_refs (map-append frame_view fs (f ∷ []))
     ∙ flat_map-append (λ g. pairs_refs g.vars ++ stack_refs g.stack) (frames_view fs) (frame_view f ∷ [])

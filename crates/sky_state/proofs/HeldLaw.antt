@@ -1,5 +1,6 @@
 -- What a state over names waits for and holds.
-use Rattle.std.proofs.Common.{◌≡◌, ℕ, zero, suc, inl, inr, Bool, true, false, List, [], ◌∷◌, ◌++◌, map, Option, Some, None, nat_le, refl, sym, ap, ◌∙◌, subst, append_assoc}
+use Rattle.std.proofs.Common.{◌≡◌, ℕ, zero, suc, inl, inr, Bool, true, false, List, [], ◌∷◌, ◌++◌, map, Option, Some, None, nat_le, refl, sym, ap}
+use Rattle.std.proofs.Common.{◌∙◌, subst, append_assoc}
 use Rattle.std.specs.Option.{option_map}
 use Rattle.std.proofs.lemmas.List.{map-append}
 use Rattle.sky_base.specs.Val as v
@@ -10,7 +11,8 @@ use Rattle.sky_base.specs.Res.{others, Entry, Wait, one_of, all_of, kept_of, ope
 use Rattle.sky_base.specs.Eval.{World, Body, body_of}
 use Rattle.sky_base.specs.Read.{Halt, Todo, Frame, refs_of, halt, todo_of, in_front, frame_of, frames_of}
 use Rattle.sky_base.specs.See.{Val, Vals, Pairs, Desc, Job, Around, see, run_of, world_of, start_st, wave, main_call}
-use Rattle.sky_base.specs.Needed.{Task, State, StandsAt, WaitOf, halt_state, halt_refs, start_frame, wave_state, distinct_refs, wave_refs, unless_none, only_if}
+use Rattle.sky_base.specs.Needed.{Task, State, StandsAt, WaitOf, halt_state, halt_refs, start_frame, wave_state, distinct_refs, wave_refs}
+use Rattle.sky_base.specs.Needed.{unless_none, only_if}
 use Rattle.sky_law.specs.Lower.{low_ref, low_frame}
 use Rattle.sky_law.specs.NamesLaws.{Tag, no_name, NoClash}
 use Rattle.sky_law.specs.Opened.{Node}
@@ -49,7 +51,8 @@ module _ (tag : Tag) where
   frames_low (f ∷ fs) =
       (λ i. (pairs_refs_low no_name tag f.vars i ++ stack_low f.stack i) ++ frames_low fs i)
       ∙ append_assoc (map R (pairs_refs f.vars)) (map R (vals_held f.stack)) (map R (frames_held fs))
-      ∙ sym (map-append R (pairs_refs f.vars) (vals_held f.stack ++ frames_held fs) ∙ ap (λ ds. map R (pairs_refs f.vars) ++ ds) (map-append R (vals_held f.stack) (frames_held fs)))
+      ∙ sym (map-append R (pairs_refs f.vars) (vals_held f.stack ++ frames_held fs)
+      ∙ ap (λ ds. map R (pairs_refs f.vars) ++ ds) (map-append R (vals_held f.stack) (frames_held fs)))
 
   last_low : (vs : List Val) → last_refs (map (low no_name tag) vs) ≡ map R (last_refs vs)
   last_low [] = refl
@@ -67,7 +70,8 @@ module _ (tag : Tag) where
 
   apart_names : (ds es : List Desc) → distinct (λ a b. true) ds ≡ es → NoClash tag es → NoClash tag ds
   apart_names ds es e h a b i j n =
-      h a b (subst (In a) e (in_distinct (λ a b. true) (λ a b c. absurd a) (λ a. absurd a) ds a i)) (subst (In b) e (in_distinct (λ a b. true) (λ a b c. absurd a) (λ a. absurd a) ds b j)) n
+      h a b (subst (In a) e (in_distinct (λ a b. true) (λ a b c. absurd a) (λ a. absurd a) ds a i))
+      (subst (In b) e (in_distinct (λ a b. true) (λ a b c. absurd a) (λ a. absurd a) ds b j)) n
 
 once_again : (ds : List Desc) → distinct (λ a b. true) (distinct (λ a b. true) ds) ≡ distinct (λ a b. true) ds
 once_again ds = apart_refs (distinct (λ a b. true) ds) (distinct_apart (λ a b. true) (λ a b c. absurd a) (λ a. absurd a) ds)
@@ -103,13 +107,15 @@ module _ (x : Val) where
   over_ends f [] h = absurd h
   over_ends f (g ∷ gs) h = h
 
-  more_ends : (o : Option (List ℕ × Pairs)) (f : List ℕ) (t : Todo) (vs : List Val) (same : List (Frame ⊥)) (above : List ℕ → List (Frame ⊥)) → EndsIn same → ((g : List ℕ) → EndsIn (above g)) → EndsIn (frame_of o f t vs same above)
+  more_ends : (o : Option (List ℕ × Pairs)) (f : List ℕ) (t : Todo) (vs : List Val) (same : List (Frame ⊥)) (above : List ℕ → List (Frame ⊥))
+      → EndsIn same → ((g : List ℕ) → EndsIn (above g)) → EndsIn (frame_of o f t vs same above)
   more_ends None f t vs same above h g = front_ends t vs same h
   more_ends (Some c) f t vs same above h g = over_ends (record { fun = f; vars = c.1; stack = vs; todo = t ∷ [] }) (above c.0) (g c.0)
 
 module _ (w : World ⊥) (at : ℕ → Option Node) where
   -- the last form opens no call, since there is no body above
-  no_call : (r : Row) (c : List ℕ × Pairs) (nothing : Type 0) → Above {N = ⊥} w.script at r (Some c) nothing (λ ms. Chained {N = ⊥} w.script at ms []) → ⊥
+  no_call : (r : Row) (c : List ℕ × Pairs) (nothing : Type 0)
+      → Above {N = ⊥} w.script at r (Some c) nothing (λ ms. Chained {N = ⊥} w.script at ms []) → ⊥
   no_call (part k ms) c n h = h
   no_call (turn m) c n h = h
   no_call star c n h = h
@@ -120,11 +126,14 @@ module _ (w : World ⊥) (at : ℕ → Option Node) where
   abbrev Q : Wait ⊥ → Val
   Q q = waiting w (Any w) (Made w) q
 
-  one_ends : (q : Wait ⊥) (en : Entry ⊥) (f : List ℕ) (xs : Pairs) (o : Option (List ℕ × Pairs)) (nothing : Type 0) → Above w.script at (row_at w.script at en) o nothing (λ ms. Chained {N = ⊥} w.script at ms []) → kept_of en ≡ Q q ∷ [] → EndsIn (Q q) (frame_of o f (todo_of en) (kept_of en) (frames_of [] f xs) (λ g. frames_of [] g xs))
+  one_ends : (q : Wait ⊥) (en : Entry ⊥) (f : List ℕ) (xs : Pairs) (o : Option (List ℕ × Pairs)) (nothing : Type 0)
+      → Above w.script at (row_at w.script at en) o nothing (λ ms. Chained {N = ⊥} w.script at ms []) → kept_of en ≡ Q q ∷ []
+      → EndsIn (Q q) (frame_of o f (todo_of en) (kept_of en) (frames_of [] f xs) (λ g. frames_of [] g xs))
   one_ends q en f xs None n h e = subst (λ vs. Last (λ u. u ≡ Q q) (vs ++ [])) (sym e) refl
   one_ends q en f xs (Some c) n h e = absurd (no_call (row_at w.script at en) c n h)
 
-  above_more : (r : Row) (o : Option (List ℕ × Pairs)) (q : Wait ⊥) (e : Entry ⊥) (fr : List (Entry ⊥)) → Above w.script at r o ((e ∷ fr) ≡ []) (λ ms. Chained w.script at ms (e ∷ fr)) → (ms : List ℕ) × Chained w.script at ms (e ∷ fr)
+  above_more : (r : Row) (o : Option (List ℕ × Pairs)) (q : Wait ⊥) (e : Entry ⊥) (fr : List (Entry ⊥))
+      → Above w.script at r o ((e ∷ fr) ≡ []) (λ ms. Chained w.script at ms (e ∷ fr)) → (ms : List ℕ) × Chained w.script at ms (e ∷ fr)
   above_more (part k ms) None q e fr h = (ms, h)
   above_more (part k ms) (Some c) q e fr h = absurd h
   above_more (turn m) None q e fr h = (m ∷ [], h)
@@ -139,12 +148,14 @@ module _ (w : World ⊥) (at : ℕ → Option Node) where
   above_more no_step (Some c) q e fr h = absurd h
 
   -- the last value of the top frame is what is waited for
-  ends : (q : Wait ⊥) (fr : List (Entry ⊥)) (ps f : List ℕ) (xs : Pairs) → Chained w.script at ps fr → Waits w (Any w) (Made w) q fr → EndsIn (Q q) (frames_of fr f xs)
+  ends : (q : Wait ⊥) (fr : List (Entry ⊥)) (ps f : List ℕ) (xs : Pairs) → Chained w.script at ps fr → Waits w (Any w) (Made w) q fr
+      → EndsIn (Q q) (frames_of fr f xs)
   ends q [] ps f xs c h = absurd h
   ends q (en ∷ []) ps f xs c h = one_ends q en f xs (opens en) _ c.2 h
   ends q (en ∷ e ∷ fr) ps f xs c h =
       let up = above_more (row_at w.script at en) (opens en) q e fr c.2 in
-      more_ends (Q q) (opens en) f (todo_of en) (kept_of en) (frames_of (e ∷ fr) f xs) (λ g. frames_of (e ∷ fr) g xs) (ends q (e ∷ fr) up.0 f xs up.1 h) (λ g. ends q (e ∷ fr) up.0 g xs up.1 h)
+      more_ends (Q q) (opens en) f (todo_of en) (kept_of en) (frames_of (e ∷ fr) f xs) (λ g. frames_of (e ∷ fr) g xs)
+      (ends q (e ∷ fr) up.0 f xs up.1 h) (λ g. ends q (e ∷ fr) up.0 g xs up.1 h)
 
   refs_back : (ds : List Desc) → vals_refs (refs_to ds) ≡ ds
   refs_back [] = refl
@@ -160,57 +171,74 @@ module _ (tag : Tag) (job : Job) (around : Around) where
   abbrev Named : List Desc → List (v.Desc (List ℕ))
   Named ds = map (R tag) (distinct (λ a b. true) ds)
 
-  top_waits : (n i : ℕ) (f : List ℕ) (c : Pairs) (vs : Vals) (h : Halt ⊥) → halt (see job around n) i (run_of job around f c vs) ≡ Some h → top_refs (frames_of h.forms f h.st.vars) ≡ refs_of h.wait
+  top_waits : (n i : ℕ) (f : List ℕ) (c : Pairs) (vs : Vals) (h : Halt ⊥) → halt (see job around n) i (run_of job around f c vs) ≡ Some h
+      → top_refs (frames_of h.forms f h.st.vars) ≡ refs_of h.wait
   top_waits n i f c vs h e =
       let w = world_of job.script around in
       let at = λ (k : ℕ). node_at job.script k in
       let ps = body_places (body_of f job.script) in
-      let chain : Chained job.script at ps h.forms = subst (ChainedHalt w at (see job around n) ps) e (chained_halt w at (see job around n) ps (run_of job around f c vs) i (linked_call w at (suc others) f c vs nowhere start_st (has_script job.script))) in
-      top_of (Q w at h.wait) (frames_of h.forms f h.st.vars) (ends w at h.wait h.forms ps f h.st.vars chain (any_halt w (see job around n) others i f c vs nowhere start_st h e).3) ∙ waited_are w at h.wait
+      let chain : Chained job.script at ps h.forms =
+      subst (ChainedHalt w at (see job around n) ps) e
+      (chained_halt w at (see job around n) ps (run_of job around f c vs) i
+      (linked_call w at (suc others) f c vs nowhere start_st (has_script job.script))) in
+      top_of (Q w at h.wait) (frames_of h.forms f h.st.vars)
+      (ends w at h.wait h.forms ps f h.st.vars chain (any_halt w (see job around n) others i f c vs nowhere start_st h e).3)
+      ∙ waited_are w at h.wait
 
-  call_pending : (n i : ℕ) (f : List ℕ) (c : Pairs) (vs : Vals) (x : Option (Halt ⊥)) (a : State) (ds : List Desc) → halt (see job around n) i (run_of job around f c vs) ≡ x → halt_state f (suc i) x ≡ Some a → WaitOf job around (Task.of (call f c vs)) (suc i) ds → NoClash tag ds → pending_in same_text (low_state tag a) ≡ Named ds
+  call_pending : (n i : ℕ) (f : List ℕ) (c : Pairs) (vs : Vals) (x : Option (Halt ⊥)) (a : State) (ds : List Desc)
+      → halt (see job around n) i (run_of job around f c vs) ≡ x → halt_state f (suc i) x ≡ Some a
+      → WaitOf job around (Task.of (call f c vs)) (suc i) ds → NoClash tag ds → pending_in same_text (low_state tag a) ≡ Named ds
   call_pending n i f c vs None a ds e g w h = absurd (none_some a g)
   call_pending n i f c vs (Some x) a ds e g w h =
       let waits : refs_of x.wait ≡ ds = wait_one job around (Task.of (call f c vs)) (suc i) (refs_of x.wait) ds (n, ap halt_refs e) w in
       let top : top_refs (frames_of x.forms f x.st.vars) ≡ ds = top_waits n i f c vs x e ∙ waits in
-      ap (λ b. pending_in same_text (low_state tag b)) (sym (some_is _ a g)) ∙ ap (distinct same_text) (top_low tag (frames_of x.forms f x.st.vars) ∙ ap (map (R tag)) top) ∙ once_low tag ds h
+      ap (λ b. pending_in same_text (low_state tag b)) (sym (some_is _ a g))
+      ∙ ap (distinct same_text) (top_low tag (frames_of x.forms f x.st.vars) ∙ ap (map (R tag)) top) ∙ once_low tag ds h
 
-  start_pending : (f : List ℕ) (c : Pairs) (vs : Vals) (o : Option Body) (a : State) → start_frame f c vs o ≡ Some a → pending_in same_text (low_state tag a) ≡ []
+  start_pending : (f : List ℕ) (c : Pairs) (vs : Vals) (o : Option Body) (a : State) → start_frame f c vs o ≡ Some a
+      → pending_in same_text (low_state tag a) ≡ []
   start_pending f c vs None a e = absurd (none_some a e)
   start_pending f c vs (Some b) a e = ap (λ s. pending_in same_text (low_state tag s)) (sym (some_is _ a e))
 
-  value_pending : (u : Val) (ds : List Desc) → unless_none (distinct_refs u) ≡ Some ds → NoClash tag ds → distinct same_text (refs (low no_name tag u)) ≡ Named ds
+  value_pending : (u : Val) (ds : List Desc) → unless_none (distinct_refs u) ≡ Some ds → NoClash tag ds
+      → distinct same_text (refs (low no_name tag u)) ≡ Named ds
   value_pending u ds e h = go (distinct_refs u) refl e
     where
       go : (xs : List Desc) → distinct_refs u ≡ xs → unless_none xs ≡ Some ds → distinct same_text (refs (low no_name tag u)) ≡ Named ds
       go [] i g = absurd (none_some ds g)
       go (y ∷ ys) i g =
           let is : distinct_refs u ≡ ds = i ∙ some_is _ ds g in
-          ap (distinct same_text) (refs_low no_name tag u) ∙ once_low tag (refs u) (apart_names tag (refs u) ds is h) ∙ ap (map (R tag)) (sym (once_again (refs u)) ∙ ap (distinct (λ a b. true)) is)
+          ap (distinct same_text) (refs_low no_name tag u) ∙ once_low tag (refs u) (apart_names tag (refs u) ds is h)
+          ∙ ap (map (R tag)) (sym (once_again (refs u)) ∙ ap (distinct (λ a b. true)) is)
 
-  show_pending : (m j : ℕ) (b : Bool) (x : Option Val) (a : State) (ds : List Desc) → wave job around m (suc j) ≡ x → only_if b (wave_refs x) ≡ Some ds → StandsAt job around Task.show (suc j) a → NoClash tag ds → pending_in same_text (low_state tag a) ≡ Named ds
+  show_pending : (m j : ℕ) (b : Bool) (x : Option Val) (a : State) (ds : List Desc) → wave job around m (suc j) ≡ x → only_if b (wave_refs x)
+      ≡ Some ds → StandsAt job around Task.show (suc j) a → NoClash tag ds → pending_in same_text (low_state tag a) ≡ Named ds
   show_pending m j false x a ds e g s h = absurd (none_some ds g)
   show_pending m j true None a ds e g s h = absurd (none_some ds g)
   show_pending m j true (Some u) a ds e g s h =
       let is : State.show_at u (suc j) ≡ a = stands_one job around Task.show (suc j) (State.show_at u (suc j)) a (m, ap (wave_state (suc j)) e) s in
       ap (λ b. pending_in same_text (low_state tag b)) (sym is) ∙ value_pending u ds g h
 
-  first_pending : (n : ℕ) (a : State) (ds : List Desc) → wave_state 0 (wave job around n 0) ≡ Some a → Some (main_call ∷ []) ≡ Some ds → pending_in same_text (low_state tag a) ≡ Named ds
+  first_pending : (n : ℕ) (a : State) (ds : List Desc) → wave_state 0 (wave job around n 0) ≡ Some a → Some (main_call ∷ []) ≡ Some ds
+      → pending_in same_text (low_state tag a) ≡ Named ds
   unfolding wave
   first_pending n a ds e g =
       ap (λ b. pending_in same_text (low_state tag b)) (sym (some_is _ a e)) ∙ ap Named (some_is _ ds g)
 
-  pending_is : (t : Task) (j : ℕ) (a : State) (ds : List Desc) → StandsAt job around t j a → WaitOf job around t j ds → NoClash tag ds → pending_in same_text (low_state tag a) ≡ Named ds
+  pending_is : (t : Task) (j : ℕ) (a : State) (ds : List Desc) → StandsAt job around t j a → WaitOf job around t j ds → NoClash tag ds
+      → pending_in same_text (low_state tag a) ≡ Named ds
   pending_is Task.show zero a ds s g h = first_pending s.0 a ds s.1 g.1
   pending_is Task.show (suc j) a ds s g h = show_pending g.0 j (nat_le (suc j) 100) (wave job around g.0 (suc j)) a ds refl g.1 s h
   pending_is (Task.of (call f c vs)) zero a ds s g h =
       start_pending f c vs (body_of f job.script) a s.1 ∙ ap Named (some_is _ ds g.1)
-  pending_is (Task.of (call f c vs)) (suc i) a ds s g h = call_pending s.0 i f c vs (halt (see job around s.0) i (run_of job around f c vs)) a ds refl s.1 g h
+  pending_is (Task.of (call f c vs)) (suc i) a ds s g h =
+      call_pending s.0 i f c vs (halt (see job around s.0) i (run_of job around f c vs)) a ds refl s.1 g h
   pending_is (Task.of (out x u m k)) j a ds s g h = absurd (none_some a s.1)
   pending_is (Task.of (input k)) j a ds s g h = absurd (none_some a s.1)
   pending_is (Task.of (known b)) j a ds s g h = absurd b
 
-  pub stands_pending : (s : Stand (List ℕ)) (t : Task) (j : ℕ) (ds : List Desc) → Stands job around tag s t j → WaitOf job around t j ds → NoClash tag ds → pending_in same_text s ≡ Named ds
+  pub stands_pending : (s : Stand (List ℕ)) (t : Task) (j : ℕ) (ds : List Desc) → Stands job around tag s t j → WaitOf job around t j ds
+      → NoClash tag ds → pending_in same_text s ≡ Named ds
   stands_pending s t j ds h w n = ap (pending_in same_text) h.2 ∙ pending_is t j h.0 ds h.1 w n
 
   -- each description that is waited for stands there by its name
@@ -224,14 +252,19 @@ module _ (tag : Tag) (job : Job) (around : Around) where
   named_in xs ds d e i =
       in_distinct same_text exact_text self_text xs (R tag d) (subst (In (R tag d)) (sym e) (mapped_in d ds i))
 
-  call_waits : (n i : ℕ) (f : List ℕ) (c : Pairs) (vs : Vals) (x : Option (Halt ⊥)) (a : State) (ds : List Desc) (d : Desc) → halt (see job around n) i (run_of job around f c vs) ≡ x → halt_state f (suc i) x ≡ Some a → WaitOf job around (Task.of (call f c vs)) (suc i) ds → In d ds → In (R tag d) (pending_in same_text (low_state tag a))
+  call_waits : (n i : ℕ) (f : List ℕ) (c : Pairs) (vs : Vals) (x : Option (Halt ⊥)) (a : State) (ds : List Desc) (d : Desc)
+      → halt (see job around n) i (run_of job around f c vs) ≡ x → halt_state f (suc i) x ≡ Some a
+      → WaitOf job around (Task.of (call f c vs)) (suc i) ds → In d ds → In (R tag d) (pending_in same_text (low_state tag a))
   call_waits n i f c vs None a ds d e g w k = absurd (none_some a g)
   call_waits n i f c vs (Some x) a ds d e g w k =
       let waits : refs_of x.wait ≡ ds = wait_one job around (Task.of (call f c vs)) (suc i) (refs_of x.wait) ds (n, ap halt_refs e) w in
       let top : top_refs (frames_of x.forms f x.st.vars) ≡ ds = top_waits n i f c vs x e ∙ waits in
-      subst (λ b. In (R tag d) (pending_in same_text (low_state tag b))) (some_is _ a g) (named_in (top_refs (map (low_frame no_name tag) (frames_of x.forms f x.st.vars))) ds d (top_low tag (frames_of x.forms f x.st.vars) ∙ ap (map (R tag)) top) k)
+      subst (λ b. In (R tag d) (pending_in same_text (low_state tag b))) (some_is _ a g)
+      (named_in (top_refs (map (low_frame no_name tag) (frames_of x.forms f x.st.vars))) ds d
+      (top_low tag (frames_of x.forms f x.st.vars) ∙ ap (map (R tag)) top) k)
 
-  value_waits : (u : Val) (ds : List Desc) (d : Desc) → unless_none (distinct_refs u) ≡ Some ds → In d ds → In (R tag d) (distinct same_text (refs (low no_name tag u)))
+  value_waits : (u : Val) (ds : List Desc) (d : Desc) → unless_none (distinct_refs u) ≡ Some ds → In d ds
+      → In (R tag d) (distinct same_text (refs (low no_name tag u)))
   value_waits u ds d e i = go (distinct_refs u) refl e
     where
       go : (xs : List Desc) → distinct_refs u ≡ xs → unless_none xs ≡ Some ds → In (R tag d) (distinct same_text (refs (low no_name tag u)))
@@ -239,28 +272,35 @@ module _ (tag : Tag) (job : Job) (around : Around) where
       go (y ∷ ys) q g =
           named_in (refs (low no_name tag u)) (refs u) d (refs_low no_name tag u) (distinct_refs_in u d (subst (In d) (sym (q ∙ some_is _ ds g)) i))
 
-  show_waits : (m j : ℕ) (b : Bool) (x : Option Val) (a : State) (ds : List Desc) (d : Desc) → wave job around m (suc j) ≡ x → only_if b (wave_refs x) ≡ Some ds → StandsAt job around Task.show (suc j) a → In d ds → In (R tag d) (pending_in same_text (low_state tag a))
+  show_waits : (m j : ℕ) (b : Bool) (x : Option Val) (a : State) (ds : List Desc) (d : Desc) → wave job around m (suc j) ≡ x
+      → only_if b (wave_refs x) ≡ Some ds → StandsAt job around Task.show (suc j) a → In d ds
+      → In (R tag d) (pending_in same_text (low_state tag a))
   show_waits m j false x a ds d e g s i = absurd (none_some ds g)
   show_waits m j true None a ds d e g s i = absurd (none_some ds g)
   show_waits m j true (Some u) a ds d e g s i =
       let is : State.show_at u (suc j) ≡ a = stands_one job around Task.show (suc j) (State.show_at u (suc j)) a (m, ap (wave_state (suc j)) e) s in
       subst (λ b. In (R tag d) (pending_in same_text (low_state tag b))) is (value_waits u ds d g i)
 
-  first_one : (n : ℕ) (a : State) (ds : List Desc) (d : Desc) → wave_state 0 (wave job around n 0) ≡ Some a → Some (main_call ∷ []) ≡ Some ds → In d ds → In (R tag d) (pending_in same_text (low_state tag a))
+  first_one : (n : ℕ) (a : State) (ds : List Desc) (d : Desc) → wave_state 0 (wave job around n 0) ≡ Some a → Some (main_call ∷ []) ≡ Some ds
+      → In d ds → In (R tag d) (pending_in same_text (low_state tag a))
   unfolding wave
   first_one n a ds d e g i =
-      subst (λ b. In (R tag d) (pending_in same_text (low_state tag b))) (some_is _ a e) (named_in (R tag main_call ∷ []) (main_call ∷ []) d refl (subst (In d) (sym (some_is _ ds g)) i))
+      subst (λ b. In (R tag d) (pending_in same_text (low_state tag b))) (some_is _ a e)
+      (named_in (R tag main_call ∷ []) (main_call ∷ []) d refl (subst (In d) (sym (some_is _ ds g)) i))
 
-  waits_in : (t : Task) (j : ℕ) (a : State) (ds : List Desc) (d : Desc) → StandsAt job around t j a → WaitOf job around t j ds → In d ds → In (R tag d) (pending_in same_text (low_state tag a))
+  waits_in : (t : Task) (j : ℕ) (a : State) (ds : List Desc) (d : Desc) → StandsAt job around t j a → WaitOf job around t j ds → In d ds
+      → In (R tag d) (pending_in same_text (low_state tag a))
   waits_in Task.show zero a ds d s g i = first_one s.0 a ds d s.1 g.1 i
   waits_in Task.show (suc j) a ds d s g i = show_waits g.0 j (nat_le (suc j) 100) (wave job around g.0 (suc j)) a ds d refl g.1 s i
   waits_in (Task.of (call f c vs)) zero a ds d s g i = absurd (subst (In d) (sym (some_is [] ds g.1)) i)
-  waits_in (Task.of (call f c vs)) (suc k) a ds d s g i = call_waits s.0 k f c vs (halt (see job around s.0) k (run_of job around f c vs)) a ds d refl s.1 g i
+  waits_in (Task.of (call f c vs)) (suc k) a ds d s g i =
+      call_waits s.0 k f c vs (halt (see job around s.0) k (run_of job around f c vs)) a ds d refl s.1 g i
   waits_in (Task.of (out x u m k)) j a ds d s g i = absurd (none_some a s.1)
   waits_in (Task.of (input k)) j a ds d s g i = absurd (none_some a s.1)
   waits_in (Task.of (known b)) j a ds d s g i = absurd b
 
-  pub stands_waits : (s : Stand (List ℕ)) (t : Task) (j : ℕ) (ds : List Desc) (d : Desc) → Stands job around tag s t j → WaitOf job around t j ds → In d ds → In (R tag d) (pending_in same_text s)
+  pub stands_waits : (s : Stand (List ℕ)) (t : Task) (j : ℕ) (ds : List Desc) (d : Desc) → Stands job around tag s t j → WaitOf job around t j ds
+      → In d ds → In (R tag d) (pending_in same_text s)
   stands_waits s t j ds d h w i =
       subst (λ x. In (R tag d) (pending_in same_text x)) (sym h.2) (waits_in t j h.0 ds d h.1 w i)
 
@@ -283,5 +323,6 @@ module _ (tag : Tag) (job : Job) (around : Around) where
   held_is (Task.of (input k)) j a ds s g = absurd (none_some a s.1)
   held_is (Task.of (known b)) j a ds s g = absurd b
 
-  pub stands_holds : (s : Stand (List ℕ)) (t : Task) (j : ℕ) (ds : List Desc) → Stands job around tag s t j → HeldAt job around t j ds → NoClash tag ds → held_in same_text s ≡ map (R tag) ds
+  pub stands_holds : (s : Stand (List ℕ)) (t : Task) (j : ℕ) (ds : List Desc) → Stands job around tag s t j → HeldAt job around t j ds
+      → NoClash tag ds → held_in same_text s ≡ map (R tag) ds
   stands_holds s t j ds h g n = ap (held_in same_text) h.2 ∙ held_low h.0 ds (held_is t j h.0 ds h.1 g) n

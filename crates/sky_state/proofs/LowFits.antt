@@ -6,7 +6,8 @@ use Rattle.sky_base.specs.Name.{low, low_vals}
 use Rattle.sky_law.specs.Tasks.{Each}
 use Rattle.sky_law.proofs.Low.{count_low}
 use Rattle.sky_state.specs.Table.{Row, part, turn, star, outputs, open_call, no_step, keeps}
-use Rattle.sky_state.specs.Fits.{IsList, IsNumber, IsReference, AllReferences, IsListOfReferences, One, Two, OfKinds, UpTo, UpToLength, TakenFrom, shares}
+use Rattle.sky_state.specs.Fits.{IsList, IsNumber, IsReference, AllReferences, IsListOfReferences, One, Two, OfKinds, UpTo, UpToLength, TakenFrom}
+use Rattle.sky_state.specs.Fits.{shares}
 
 module _ {N : Type 0} (spell : N → List ℕ) (tag : Desc (List ℕ) → List ℕ) where
   -- ---- kinds
@@ -76,12 +77,14 @@ module _ {N : Type 0} (spell : N → List ℕ) (tag : Desc (List ℕ) → List �
   up_to_length_low (fun f c) u h = absurd h
   up_to_length_low (ref d) u h = absurd h
 
-  one_low : (P : Val N → Type 0) (Q : Val (List ℕ) → Type 0) → ((v : Val N) → P v → Q (low spell tag v)) → (vs : List (Val N)) → One P vs → One Q (map (low spell tag) vs)
+  one_low : (P : Val N → Type 0) (Q : Val (List ℕ) → Type 0) → ((v : Val N) → P v → Q (low spell tag v)) → (vs : List (Val N)) → One P vs
+      → One Q (map (low spell tag) vs)
   one_low P Q f [] h = absurd h
   one_low P Q f (v ∷ []) h = f v h
   one_low P Q f (v ∷ u ∷ vs) h = absurd h
 
-  two_low : (P : Val N → Val N → Type 0) (Q : Val (List ℕ) → Val (List ℕ) → Type 0) → ((v u : Val N) → P v u → Q (low spell tag v) (low spell tag u)) → (vs : List (Val N)) → Two P vs → Two Q (map (low spell tag) vs)
+  two_low : (P : Val N → Val N → Type 0) (Q : Val (List ℕ) → Val (List ℕ) → Type 0)
+      → ((v u : Val N) → P v u → Q (low spell tag v) (low spell tag u)) → (vs : List (Val N)) → Two P vs → Two Q (map (low spell tag) vs)
   two_low P Q f [] h = absurd h
   two_low P Q f (v ∷ []) h = absurd h
   two_low P Q f (v ∷ u ∷ []) h = f v u h
@@ -104,12 +107,20 @@ module _ {N : Type 0} (spell : N → List ℕ) (tag : Desc (List ℕ) → List �
   taken_low open_call vs h = tt
   taken_low no_step vs h = tt
 
-  pub shares_kinds_low : (rs : List Row) (vs : List (Val N)) → Each (λ s. OfKinds s.0 s.1) (shares rs vs) → Each (λ s. OfKinds s.0 s.1) (shares rs (map (low spell tag) vs))
+  pub shares_kinds_low : (rs : List Row) (vs : List (Val N)) → Each (λ s. OfKinds s.0 s.1) (shares rs vs)
+      → Each (λ s. OfKinds s.0 s.1) (shares rs (map (low spell tag) vs))
   shares_kinds_low [] vs h = tt
-  shares_kinds_low (r ∷ rs) vs h =
-      (subst (OfKinds r) (sym (take-map (low spell tag) (keeps r) vs)) (kinds_low r (take (keeps r) vs) h.0), subst (λ ws. Each (λ s. OfKinds s.0 s.1) (shares rs ws)) (sym (drop-map (low spell tag) (keeps r) vs)) (shares_kinds_low rs (drop (keeps r) vs) h.1))
+  shares_kinds_low (r ∷ rs) vs h = (
+    subst (OfKinds r) (sym (take-map (low spell tag) (keeps r) vs)) (kinds_low r (take (keeps r) vs) h.0),
+    subst (λ ws. Each (λ s. OfKinds s.0 s.1) (shares rs ws)) (sym (drop-map (low spell tag) (keeps r) vs))
+        (shares_kinds_low rs (drop (keeps r) vs) h.1),
+  )
 
-  pub shares_taken_low : (rs : List Row) (vs : List (Val N)) → Each (λ s. TakenFrom s.0 s.1) (shares rs vs) → Each (λ s. TakenFrom s.0 s.1) (shares rs (map (low spell tag) vs))
+  pub shares_taken_low : (rs : List Row) (vs : List (Val N)) → Each (λ s. TakenFrom s.0 s.1) (shares rs vs)
+      → Each (λ s. TakenFrom s.0 s.1) (shares rs (map (low spell tag) vs))
   shares_taken_low [] vs h = tt
-  shares_taken_low (r ∷ rs) vs h =
-      (subst (TakenFrom r) (sym (take-map (low spell tag) (keeps r) vs)) (taken_low r (take (keeps r) vs) h.0), subst (λ ws. Each (λ s. TakenFrom s.0 s.1) (shares rs ws)) (sym (drop-map (low spell tag) (keeps r) vs)) (shares_taken_low rs (drop (keeps r) vs) h.1))
+  shares_taken_low (r ∷ rs) vs h = (
+    subst (TakenFrom r) (sym (take-map (low spell tag) (keeps r) vs)) (taken_low r (take (keeps r) vs) h.0),
+    subst (λ ws. Each (λ s. TakenFrom s.0 s.1) (shares rs ws)) (sym (drop-map (low spell tag) (keeps r) vs))
+        (shares_taken_low rs (drop (keeps r) vs) h.1),
+  )

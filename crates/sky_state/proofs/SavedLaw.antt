@@ -21,7 +21,16 @@ use Rattle.sky_state.proofs.StackLaw.{FirstIn, Laid, Called, LaidAll, Stacked, s
 module _ {N : Type 0} (sc : Script) where
   frame_fits : (ps : List ℕ) (f : Frame N) → ps ≡ body_places (body_of f.fun sc) → Laid sc ps f → SoundFrame sc f → FitsFrame sc f
   frame_fits ps f e l s =
-      record { bottom = on_body sc (body_of f.fun sc) f.todo (subst (λ qs. FirstIn sc qs f.todo) e l.first); steps = l.steps; parts = l.parts; as_many = l.as_many; kinds = l.kinds; taken = l.taken; vars = s.0; values = s.1 }
+      record {
+        bottom = on_body sc (body_of f.fun sc) f.todo (subst (λ qs. FirstIn sc qs f.todo) e l.first);
+        steps = l.steps;
+        parts = l.parts;
+        as_many = l.as_many;
+        kinds = l.kinds;
+        taken = l.taken;
+        vars = s.0;
+        values = s.1;
+      }
 
   called_fit : (fs : List (Frame N)) → Each (Called sc) fs → Each (SoundFrame sc) fs → Each (FitsFrame sc) fs
   called_fit [] h s = tt
@@ -44,13 +53,28 @@ module _ {N : Type 0} (sc : Script) where
   some_frame f [] h = absurd h
   some_frame f (g ∷ gs) h = omega arith
 
-  run_fits : (f : List ℕ) (r : Run N) → Stacked sc f (body_places (body_of f sc)) r.frames → Each (SoundFrame sc) r.frames → length r.frames ≤ bodies → r.count ≤ visits → 0 < r.waits → r.waits ≤ r.count → FitsRun sc r
+  run_fits : (f : List ℕ) (r : Run N) → Stacked sc f (body_places (body_of f sc)) r.frames → Each (SoundFrame sc) r.frames
+      → length r.frames ≤ bodies → r.count ≤ visits → 0 < r.waits → r.waits ≤ r.count → FitsRun sc r
   run_fits f r h s few most some waits =
-      record { some_frame = some_frame f r.frames h.frames; few_frames = few; count = most; waits = waits; functions = funs_of f r.frames h.frames s; frames = frames_fit f r.frames h.frames s; calls = h.calls; top = inl h.top; started = (λ _ i. absurd (omega (arith, i.waits, some)), λ _. some) }
+      record {
+        some_frame = some_frame f r.frames h.frames;
+        few_frames = few;
+        count = most;
+        waits = waits;
+        functions =
+            funs_of f r.frames h.frames s;
+        frames = frames_fit f r.frames h.frames s;
+        calls = h.calls;
+        top = inl h.top;
+        started =
+            (λ _ i. absurd (omega (arith, i.waits, some)), λ _. some);
+      }
 
   -- the stack at a wait whose forms follow each other from the body of a function on, with up to 64 frames, no more visits than are allowed, and
   -- no more waits than visits
-  pub saved_fits : (f : List ℕ) (j : ℕ) (h : Halt N) → Chained sc (λ i. node_at sc i) (body_places (body_of f sc)) h.forms → Each (SoundFrame sc) (run_of_halt f j h).frames → length (run_of_halt f j h).frames ≤ bodies → h.st.count ≤ visits → 0 < j → j ≤ h.st.count → FitsRun sc (run_of_halt f j h)
+  pub saved_fits : (f : List ℕ) (j : ℕ) (h : Halt N) → Chained sc (λ i. node_at sc i) (body_places (body_of f sc)) h.forms
+      → Each (SoundFrame sc) (run_of_halt f j h).frames → length (run_of_halt f j h).frames ≤ bodies → h.st.count ≤ visits → 0 < j
+      → j ≤ h.st.count → FitsRun sc (run_of_halt f j h)
   saved_fits f j h c s few most some waits =
       run_fits f (run_of_halt f j h) (stacked sc h.forms (body_places (body_of f sc)) f h.st.vars c) s few most some waits
 
@@ -62,9 +86,22 @@ module _ {N : Type 0} (spell : N → List ℕ) (tag : Desc (List ℕ) → List �
 
   frame_low : (f : Frame N) → FitsFrame sc f → FitsFrame sc (Lowered f)
   frame_low f h =
-      record { bottom = h.bottom; steps = h.steps; parts = h.parts; as_many = length-map f.stack (low spell tag) ∙ h.as_many; kinds = shares_kinds_low spell tag (map (row_of sc) f.todo) f.stack h.kinds; taken = shares_taken_low spell tag (map (row_of sc) f.todo) f.stack h.taken; vars = vars_low spell tag sc f.vars h.vars; values = stack_low spell tag sc f.stack h.values }
+      record {
+        bottom = h.bottom;
+        steps = h.steps;
+        parts = h.parts;
+        as_many = length-map f.stack (low spell tag) ∙ h.as_many;
+        kinds =
+            shares_kinds_low spell tag (map (row_of sc) f.todo) f.stack h.kinds;
+        taken =
+            shares_taken_low spell tag (map (row_of sc) f.todo) f.stack h.taken;
+        vars = vars_low spell tag sc f.vars h.vars;
+        values =
+            stack_low spell tag sc f.stack h.values;
+      }
 
-  each_low : (P : Frame N → Type 0) (Q : Frame (List ℕ) → Type 0) → ((f : Frame N) → P f → Q (Lowered f)) → (fs : List (Frame N)) → Each P fs → Each Q (map Lowered fs)
+  each_low : (P : Frame N → Type 0) (Q : Frame (List ℕ) → Type 0) → ((f : Frame N) → P f → Q (Lowered f)) → (fs : List (Frame N)) → Each P fs
+      → Each Q (map Lowered fs)
   each_low P Q g [] h = tt
   each_low P Q g (f ∷ fs) h = (g f h.0, each_low P Q g fs h.1)
 
@@ -86,8 +123,23 @@ module _ {N : Type 0} (spell : N → List ℕ) (tag : Desc (List ℕ) → List �
   -- a state that waits and fits
   pub fits_low : (r : Run N) → FitsRun sc r → 0 < r.waits → FitsRun sc (low_run spell tag r)
   fits_low r h w =
-      record { some_frame = subst (λ n. 0 < n) (sym (length-map r.frames Lowered)) h.some_frame; few_frames = subst (λ n. n ≤ bodies) (sym (length-map r.frames Lowered)) h.few_frames; count = h.count; waits = h.waits; functions = funs_low r.frames h.functions; frames = each_low (FitsFrame sc) (FitsFrame sc) frame_low r.frames h.frames; calls = before_low (λ g. Last (λ t. IsOpenCall (row_of sc t)) g.todo) r.frames h.calls; top = go h.top; started = (λ _ i. absurd (omega (arith, i.waits, w)), λ _. w) }
+      record {
+        some_frame = subst (λ n. 0 < n) (sym (length-map r.frames Lowered)) h.some_frame;
+        few_frames =
+            subst (λ n. n ≤ bodies) (sym (length-map r.frames Lowered)) h.few_frames;
+        count = h.count;
+        waits = h.waits;
+        functions =
+            funs_low r.frames h.functions;
+        frames = each_low (FitsFrame sc) (FitsFrame sc) frame_low r.frames h.frames;
+        calls =
+            before_low (λ g. Last (λ t. IsOpenCall (row_of sc t)) g.todo) r.frames h.calls;
+        top = go h.top;
+        started =
+            (λ _ i. absurd (omega (arith, i.waits, w)), λ _. w);
+      }
     where
-      go : Last (λ g. Last (λ t. IsWaiting (row_of sc t)) g.todo) r.frames ⊎ IsStart sc r → Last (λ g. Last (λ t. IsWaiting (row_of sc t)) g.todo) (map Lowered r.frames) ⊎ IsStart sc (low_run spell tag r)
+      go : Last (λ g. Last (λ t. IsWaiting (row_of sc t)) g.todo) r.frames ⊎ IsStart sc r
+          → Last (λ g. Last (λ t. IsWaiting (row_of sc t)) g.todo) (map Lowered r.frames) ⊎ IsStart sc (low_run spell tag r)
       go (inl l) = inl (last_low (λ g. Last (λ t. IsWaiting (row_of sc t)) g.todo) r.frames l)
       go (inr s) = absurd (omega (arith, s.waits, w))

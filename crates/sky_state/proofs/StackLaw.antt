@@ -1,5 +1,6 @@
 -- The frames of forms that follow each other: each begins with its body's block, and its entries and values are as the table says.
-use Rattle.std.proofs.Common.{◌≡◌, ℕ, ◌+◌, inl, inr, List, [], ◌∷◌, ◌++◌, map, length, take, drop, Option, Some, None, refl, sym, ap, ◌∙◌, subst, arith, append-nil}
+use Rattle.std.proofs.Common.{◌≡◌, ℕ, ◌+◌, inl, inr, List, [], ◌∷◌, ◌++◌, map, length, take, drop, Option, Some, None, refl, sym, ap, ◌∙◌, subst}
+use Rattle.std.proofs.Common.{arith, append-nil}
 use Rattle.std.proofs.lemmas.List.{take_at, drop_at}
 use Rattle.std.proofs.lemmas.List.Sums.{sum_by-cons}
 use Rattle.sky_base.specs.Val.{Val, Pairs}
@@ -75,47 +76,111 @@ module _ {N : Type 0} (sc : Script) where
   front_many n k m (v ∷ vs) ws e f g = omega (arith, e, f, g, front_many (length vs) (length vs + m) m vs ws refl f refl)
 
   -- an entry that stands below the others of its frame
-  laid_front : (ps ms : List ℕ) (t : Todo) (vs : List (Val N)) (f : Frame N) → In t.node ps → IsStep (row_of sc t) → places (row_of sc t) ≡ ms → Keeps (row_of sc t) vs → Laid ms f → Laid ps (record { fun = f.fun; vars = f.vars; stack = vs ++ f.stack; todo = t ∷ f.todo })
+  laid_front : (ps ms : List ℕ) (t : Todo) (vs : List (Val N)) (f : Frame N) → In t.node ps → IsStep (row_of sc t) → places (row_of sc t) ≡ ms
+      → Keeps (row_of sc t) vs → Laid ms f → Laid ps (record { fun = f.fun; vars = f.vars; stack = vs ++ f.stack; todo = t ∷ f.todo })
   laid_front ps ms t vs f i s e k l =
       let here : take (keeps (row_of sc t)) (vs ++ f.stack) ≡ vs = take_at vs f.stack (keeps (row_of sc t)) k.as_many in
       let rest : drop (keeps (row_of sc t)) (vs ++ f.stack) ≡ f.stack = drop_at vs f.stack (keeps (row_of sc t)) k.as_many in
-      record { first = i; steps = (s, l.steps); parts = parts_first sc t ms f.todo e l.first l.parts; as_many = front_many (keeps (row_of sc t)) (kept_in_all sc (t ∷ f.todo)) (kept_in_all sc f.todo) vs f.stack k.as_many l.as_many (kept_more sc t f.todo); kinds = (subst (OfKinds (row_of sc t)) (sym here) k.kinds, subst (λ ws. Each (λ s. OfKinds s.0 s.1) (shares (map (row_of sc) f.todo) ws)) (sym rest) l.kinds); taken = (subst (TakenFrom (row_of sc t)) (sym here) k.taken, subst (λ ws. Each (λ s. TakenFrom s.0 s.1) (shares (map (row_of sc) f.todo) ws)) (sym rest) l.taken) }
+      record {
+        first = i;
+        steps = (s, l.steps);
+        parts = parts_first sc t ms f.todo e l.first l.parts;
+        as_many =
+            front_many (keeps (row_of sc t)) (kept_in_all sc (t ∷ f.todo)) (kept_in_all sc f.todo) vs f.stack k.as_many l.as_many
+            (kept_more sc t f.todo);
+        kinds = (
+          subst (OfKinds (row_of sc t)) (sym here) k.kinds,
+          subst (λ ws. Each (λ s. OfKinds s.0 s.1) (shares (map (row_of sc) f.todo) ws)) (sym rest) l.kinds,
+        );
+        taken = (
+          subst (TakenFrom (row_of sc t)) (sym here) k.taken,
+          subst (λ ws. Each (λ s. TakenFrom s.0 s.1) (shares (map (row_of sc) f.todo) ws)) (sym rest) l.taken,
+        );
+      }
 
-  front_stacked : (f ps ms : List ℕ) (t : Todo) (vs : List (Val N)) (fs : List (Frame N)) → In t.node ps → IsStep (row_of sc t) → places (row_of sc t) ≡ ms → Keeps (row_of sc t) vs → Stacked f ms fs → Stacked f ps (in_front t vs fs)
+  front_stacked : (f ps ms : List ℕ) (t : Todo) (vs : List (Val N)) (fs : List (Frame N)) → In t.node ps → IsStep (row_of sc t)
+      → places (row_of sc t) ≡ ms → Keeps (row_of sc t) vs → Stacked f ms fs → Stacked f ps (in_front t vs fs)
   front_stacked f ps ms t vs [] i s e k h = absurd h.frames
   front_stacked f ps ms t vs (g ∷ []) i s e k h =
-      record { frames = (h.frames.0, laid_front ps ms t vs g i s e k h.frames.1, h.frames.2); calls = tt; top = last_front sc (λ u. IsWaiting (row_of sc u)) ms t g.todo h.frames.1.first h.top }
+      record {
+        frames = (h.frames.0, laid_front ps ms t vs g i s e k h.frames.1, h.frames.2);
+        calls = tt;
+        top =
+            last_front sc (λ u. IsWaiting (row_of sc u)) ms t g.todo h.frames.1.first h.top;
+      }
   front_stacked f ps ms t vs (g ∷ x ∷ xs) i s e k h =
-      record { frames = (h.frames.0, laid_front ps ms t vs g i s e k h.frames.1, h.frames.2); calls = (last_front sc (λ u. IsOpenCall (row_of sc u)) ms t g.todo h.frames.1.first h.calls.0, h.calls.1); top = h.top }
+      record {
+        frames = (h.frames.0, laid_front ps ms t vs g i s e k h.frames.1, h.frames.2);
+        calls =
+            (last_front sc (λ u. IsOpenCall (row_of sc u)) ms t g.todo h.frames.1.first h.calls.0, h.calls.1);
+        top = h.top;
+      }
 
   -- one entry alone
-  alone : (ps : List ℕ) (f : List ℕ) (t : Todo) (vs : List (Val N)) (xs : Pairs N) → In t.node ps → IsStep (row_of sc t) → Keeps (row_of sc t) vs → Laid ps (record { fun = f; vars = xs; stack = vs; todo = t ∷ [] })
+  alone : (ps : List ℕ) (f : List ℕ) (t : Todo) (vs : List (Val N)) (xs : Pairs N) → In t.node ps → IsStep (row_of sc t) → Keeps (row_of sc t) vs
+      → Laid ps (record { fun = f; vars = xs; stack = vs; todo = t ∷ [] })
   alone ps f t vs xs i s k =
-      let here : take (keeps (row_of sc t)) vs ≡ vs = ap (take (keeps (row_of sc t))) (sym (append-nil vs)) ∙ take_at vs [] (keeps (row_of sc t)) k.as_many in
-      record { first = i; steps = (s, tt); parts = tt; as_many = k.as_many ∙ omega arith ∙ sym (kept_more sc t []); kinds = (subst (OfKinds (row_of sc t)) (sym here) k.kinds, tt); taken = (subst (TakenFrom (row_of sc t)) (sym here) k.taken, tt) }
+      let here : take (keeps (row_of sc t)) vs ≡ vs = ap (take (keeps (row_of sc t))) (sym (append-nil vs))
+      ∙ take_at vs [] (keeps (row_of sc t)) k.as_many in
+      record {
+        first = i;
+        steps = (s, tt);
+        parts = tt;
+        as_many = k.as_many ∙ omega arith ∙ sym (kept_more sc t []);
+        kinds =
+            (subst (OfKinds (row_of sc t)) (sym here) k.kinds, tt);
+        taken = (subst (TakenFrom (row_of sc t)) (sym here) k.taken, tt);
+      }
 
-  waits_alone : (ps : List ℕ) (f : List ℕ) (t : Todo) (vs : List (Val N)) (xs : Pairs N) → In t.node ps → IsStep (row_of sc t) → IsWaiting (row_of sc t) → Keeps (row_of sc t) vs → Stacked f ps (in_front t vs (record { fun = f; vars = xs; stack = []; todo = [] } ∷ []))
+  waits_alone : (ps : List ℕ) (f : List ℕ) (t : Todo) (vs : List (Val N)) (xs : Pairs N) → In t.node ps → IsStep (row_of sc t)
+      → IsWaiting (row_of sc t) → Keeps (row_of sc t) vs
+      → Stacked f ps (in_front t vs (record { fun = f; vars = xs; stack = []; todo = [] } ∷ []))
   waits_alone ps f t vs xs i s wait k =
-      record { frames = (refl, subst (λ ws. Laid ps (record { fun = f; vars = xs; stack = ws; todo = t ∷ [] })) (sym (append-nil vs)) (alone ps f t vs xs i s k), tt); calls = tt; top = wait }
+      record {
+        frames = (
+          refl,
+          subst (λ ws. Laid ps (record { fun = f; vars = xs; stack = ws; todo = t ∷ [] })) (sym (append-nil vs))
+              (alone ps f t vs xs i s k),
+          tt,
+        );
+        calls = tt;
+        top = wait;
+      }
 
   -- a call above
-  call_stacked : (ps : List ℕ) (f g : List ℕ) (t : Todo) (xs : Pairs N) (fs : List (Frame N)) → In t.node ps → IsStep (row_of sc t) → IsOpenCall (row_of sc t) → Keeps (row_of sc t) [] → IsFun sc g → Stacked g (body_places (body_of g sc)) fs → Stacked f ps (record { fun = f; vars = xs; stack = []; todo = t ∷ [] } ∷ fs)
+  call_stacked : (ps : List ℕ) (f g : List ℕ) (t : Todo) (xs : Pairs N) (fs : List (Frame N)) → In t.node ps → IsStep (row_of sc t)
+      → IsOpenCall (row_of sc t) → Keeps (row_of sc t) [] → IsFun sc g → Stacked g (body_places (body_of g sc)) fs
+      → Stacked f ps (record { fun = f; vars = xs; stack = []; todo = t ∷ [] } ∷ fs)
   call_stacked ps f g t xs [] i s c k is h = absurd h.frames
   call_stacked ps f g t xs (x ∷ fs) i s c k is h =
-      record { frames = (refl, alone ps f t [] xs i s k, ((subst (IsFun sc) (sym h.frames.0) is, subst (λ y. Laid (body_places (body_of y sc)) x) (sym h.frames.0) h.frames.1), h.frames.2)); calls = (c, h.calls); top = h.top }
+      record {
+        frames = (
+          refl,
+          alone ps f t [] xs i s k,
+          ((subst (IsFun sc) (sym h.frames.0) is, subst (λ y. Laid (body_places (body_of y sc)) x) (sym h.frames.0) h.frames.1), h.frames.2),
+        );
+        calls = (c, h.calls);
+        top = h.top;
+      }
 
   kept_nothing : (vs : List (Val N)) → length vs ≡ 0 → vs ≡ []
   kept_nothing [] e = refl
   kept_nothing (v ∷ vs) e = absurd (omega (arith, e))
 
-  nothing_above : (fr : List (Entry N)) (f : List ℕ) (xs : Pairs N) → fr ≡ [] → frames_of fr f xs ≡ record { fun = f; vars = xs; stack = []; todo = [] } ∷ []
+  nothing_above : (fr : List (Entry N)) (f : List ℕ) (xs : Pairs N) → fr ≡ [] → frames_of fr f xs
+      ≡ record { fun = f; vars = xs; stack = []; todo = [] } ∷ []
   nothing_above fr f xs e = ap (λ (es : List (Entry N)). frames_of es f xs) e
 
   -- by the row of the entry, and the call that it opens
-  stacked_on : (ps f : List ℕ) (t : Todo) (vs : List (Val N)) (fr : List (Entry N)) (xs : Pairs N) (r : Row) (o : Option (List ℕ × Pairs N)) → row_of sc t ≡ r → In t.node ps → Keeps r vs → Above sc (λ i. node_at sc i) r o (fr ≡ []) (λ ms. Chain ms fr) → ((ms g : List ℕ) → Chain ms fr → Stacked g ms (frames_of fr g xs)) → Stacked f ps (frame_of o f t vs (frames_of fr f xs) (λ g. frames_of fr g xs))
-  stacked_on ps f t vs fr xs (part k ms) None e i h a go = front_stacked f ps ms t vs (frames_of fr f xs) i (rw e tt) (ap places e) (rw e h) (go ms f a)
+  stacked_on : (ps f : List ℕ) (t : Todo) (vs : List (Val N)) (fr : List (Entry N)) (xs : Pairs N) (r : Row) (o : Option (List ℕ × Pairs N))
+      → row_of sc t ≡ r → In t.node ps → Keeps r vs → Above sc (λ i. node_at sc i) r o (fr ≡ []) (λ ms. Chain ms fr)
+      → ((ms g : List ℕ) → Chain ms fr → Stacked g ms (frames_of fr g xs))
+      → Stacked f ps (frame_of o f t vs (frames_of fr f xs) (λ g. frames_of fr g xs))
+  stacked_on ps f t vs fr xs (part k ms) None e i h a go =
+      front_stacked f ps ms t vs (frames_of fr f xs) i (rw e tt) (ap places e) (rw e h) (go ms f a)
   stacked_on ps f t vs fr xs (part k ms) (Some c) e i h a go = absurd a
-  stacked_on ps f t vs fr xs (turn m) None e i h a go = front_stacked f ps (m ∷ []) t vs (frames_of fr f xs) i (rw e tt) (ap places e) (rw e h) (go (m ∷ []) f a)
+  stacked_on ps f t vs fr xs (turn m) None e i h a go =
+      front_stacked f ps (m ∷ []) t vs (frames_of fr f xs) i (rw e tt) (ap places e) (rw e h) (go (m ∷ []) f a)
   stacked_on ps f t vs fr xs (turn m) (Some c) e i h a go = absurd a
   stacked_on ps f t vs fr xs star None e i h a go =
       subst (λ fs. Stacked f ps (in_front t vs fs)) (sym (nothing_above fr f xs a)) (waits_alone ps f t vs xs i (rw e tt) (rw e tt) (rw e h))
@@ -125,7 +190,9 @@ module _ {N : Type 0} (sc : Script) where
   stacked_on ps f t vs fr xs outputs (Some c) e i h a go = absurd a
   stacked_on ps f t vs fr xs open_call None e i h a go = absurd a
   stacked_on ps f t vs fr xs open_call (Some c) e i h a go =
-      subst (λ ws. Stacked f ps (record { fun = f; vars = c.1; stack = ws; todo = t ∷ [] } ∷ frames_of fr c.0 xs)) (sym (kept_nothing vs h.as_many)) (call_stacked ps f c.0 t c.1 (frames_of fr c.0 xs) i (rw e tt) (rw e tt) (rw e (record { as_many = refl; kinds = tt; taken = tt })) a.0 (go (body_places (body_of c.0 sc)) c.0 a.1))
+      subst (λ ws. Stacked f ps (record { fun = f; vars = c.1; stack = ws; todo = t ∷ [] } ∷ frames_of fr c.0 xs))
+      (sym (kept_nothing vs h.as_many)) (call_stacked ps f c.0 t c.1 (frames_of fr c.0 xs) i (rw e tt) (rw e tt)
+      (rw e (record { as_many = refl; kinds = tt; taken = tt })) a.0 (go (body_places (body_of c.0 sc)) c.0 a.1))
   stacked_on ps f t vs fr xs no_step None e i h a go = absurd a
   stacked_on ps f t vs fr xs no_step (Some c) e i h a go = absurd a
 

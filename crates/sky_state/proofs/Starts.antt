@@ -13,14 +13,16 @@ use Rattle.sky_state.specs.declared.start.Body as code
 use Rattle.sky_state.proofs.StartLaw.{start_fits}
 
 -- a function of the script has a body
-body_if : (t : Bool) (g : FunDef) (i : ℕ) (o : Option Body) (p : Option FunDef) (d : FunDef) → find_fun_if t g p ≡ Some d → find_body_if t g i o ≡ None → (p ≡ Some d → o ≡ None → ⊥) → ⊥
+body_if : (t : Bool) (g : FunDef) (i : ℕ) (o : Option Body) (p : Option FunDef) (d : FunDef) → find_fun_if t g p ≡ Some d → find_body_if t g i o
+    ≡ None → (p ≡ Some d → o ≡ None → ⊥) → ⊥
 body_if true g i o p d h e k = cc
 body_if false g i o p d h e k = k h e
 
 found_body : (x : List ℕ) (fs : List FunDef) (i : ℕ) (d : FunDef) → find_fun x fs ≡ Some d → find_body x fs i ≡ None → ⊥
 found_body x [] i d h e = cc
 found_body x (g ∷ fs) i d h e =
-    body_if (same_text x g.name) g i (find_body x fs (i + block_nodes g.body)) (find_fun x fs) d h e (λ p q. found_body x fs (i + block_nodes g.body) d p q)
+    body_if (same_text x g.name) g i (find_body x fs (i + block_nodes g.body)) (find_fun x fs) d h e
+    (λ p q. found_body x fs (i + block_nodes g.body) d p q)
 
 module _ (sc : Script) where
   main_body : (f : List ℕ) → f ≡ [] → body_of f sc ≡ None → ⊥
@@ -48,12 +50,23 @@ module _ {N : Type 0} (sc : Script) where
 -- the code's body, its parameters bound
 abbrev pub begun : List ℕ → Pairs (List ℕ) → Vals (List ℕ) → code.Body → Run (List ℕ)
 begun f c vs b =
-    record { frames = record { fun = f; vars = bind b.params.now vs c; stack = []; todo = record { node = b.node; step = 0 } ∷ [] } ∷ []; count = 0; waits = 0 }
+    record {
+      frames = record { fun = f; vars = bind b.params.now vs c; stack = []; todo = record { node = b.node; step = 0 } ∷ [] } ∷ [];
+      count =
+          0;
+      waits = 0;
+    }
 
-pub starts_call : (sc : Script) (f : List ℕ) (c : Pairs (List ℕ)) (vs : Vals (List ℕ)) (b : code.Body) → CanStart sc f c vs → IsBody b (body_of f sc) → StartsCall sc f c vs (Stand.run (begun f c vs b))
+pub starts_call : (sc : Script) (f : List ℕ) (c : Pairs (List ℕ)) (vs : Vals (List ℕ)) (b : code.Body) → CanStart sc f c vs
+    → IsBody b (body_of f sc) → StartsCall sc f c vs (Stand.run (begun f c vs b))
 starts_call sc f c vs b can h = go (body_of f sc) refl h
   where
     go : (o : Option Body) → body_of f sc ≡ o → IsBody b o → StartsIn o f c vs (Stand.run (begun f c vs b))
     go None e i = absurd (body_there sc f c vs can.call e)
     go (Some x) e i =
-        λ k. Stand.run (record { frames = record { fun = f; vars = bind (i.0 k) vs c; stack = []; todo = record { node = i.1 k; step = 0 } ∷ [] } ∷ []; count = 0; waits = 0 })
+        λ k. Stand.run (record {
+          frames = record { fun = f; vars = bind (i.0 k) vs c; stack = []; todo = record { node = i.1 k; step = 0 } ∷ [] }
+              ∷ [];
+          count = 0;
+          waits = 0;
+        })

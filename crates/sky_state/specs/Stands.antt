@@ -25,7 +25,8 @@ module _ (job : Job) (around : Around) where
 -- that call at its start
 abbrev pub StandsForCall : Script → List ℕ → v.Pairs (List ℕ) → v.Vals (List ℕ) → Stand (List ℕ) → Type 0
 StandsForCall sc f caught args s =
-    (tag : Tag) (job : Job) (around : Around) (c : Pairs) (vs : Vals) → job.script ≡ sc → caught ≡ low_pairs no_name tag c → args ≡ low_vals no_name tag vs → Stands job around tag s (Task.of (call f c vs)) 0
+    (tag : Tag) (job : Job) (around : Around) (c : Pairs) (vs : Vals) → job.script ≡ sc → caught ≡ low_pairs no_name tag c → args
+    ≡ low_vals no_name tag vs → Stands job around tag s (Task.of (call f c vs)) 0
 
 -- whatever gives the names: where this is the name of the main call, the state stands for the root task at its start
 abbrev pub StandsForShow : List ℕ → Stand (List ℕ) → Type 0

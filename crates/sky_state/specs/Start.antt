@@ -10,7 +10,12 @@ module _ {N : Type 0} where
   -- one frame, one entry at step 0 of the body's block, an empty stack, the captured pairs and the parameters as variables
   abbrev pub start_in : List ℕ → Pairs N → Vals N → Body → Stand N
   start_in f c vs b =
-      Stand.run (record { frames = record { fun = f; vars = bind b.params vs c; stack = []; todo = record { node = b.node; step = 0 } ∷ [] } ∷ []; count = 0; waits = 0 })
+      Stand.run (record {
+        frames = record { fun = f; vars = bind b.params vs c; stack = []; todo = record { node = b.node; step = 0 } ∷ [] }
+            ∷ [];
+        count = 0;
+        waits = 0;
+      })
 
   -- the state is the start of this body, if there is one
   abbrev pub StartsIn : Option Body → List ℕ → Pairs N → Vals N → Stand N → Type 0

@@ -1,7 +1,8 @@
 -- The table of saved forms: which part of a form is pending or running at a step, and what the form keeps there.
 use Rattle.std.specs.Prelude.{ℕ, zero, suc, ◌+◌, List, [], ◌∷◌, ◌++◌, reverse, Option, Some, None}
 use Rattle.std.specs.Option.{option_and_then}
-use Rattle.sky_base.specs.Tree.{Place, Sign, SignAt, Form, Exp, Exps, Links, Ands, Steps, Stm, Stms, Arms, Else, nodes, stm_nodes, block_nodes, arms_nodes}
+use Rattle.sky_base.specs.Tree.{Place, Sign, SignAt, Form, Exp, Exps, Links, Ands, Steps, Stm, Stms, Arms, Else, nodes, stm_nodes, block_nodes}
+use Rattle.sky_base.specs.Tree.{arms_nodes}
 use Rattle.sky_law.specs.Opened.{Node, exp_node, stm_node, block_node}
 
 pub data Row : Type 0 where

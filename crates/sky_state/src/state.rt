@@ -77,10 +77,13 @@ impl State {
         caught: &Pairs,
         args: &Vals,
     ) -> Result<State, Memory>
-        ensures start { IfOk result (λ s. (script : tree.Script) → CanStart script fun.now caught.now args.now → IsBody body.entry (body_of fun.now script) → StartsCall script fun.now caught.now args.now (stand_of s)) }
+        ensures start { IfOk result (λ s. (script : tree.Script) → CanStart script fun.now caught.now args.now
+            → IsBody body.entry (body_of fun.now script) → StartsCall script fun.now caught.now args.now (stand_of s)) }
         ensures spawned { IfOk result (λ s. spawned_of s ≡ []) }
-        ensures fits { IfOk result (λ s. (script : tree.Script) → CanStart script fun.now caught.now args.now → IsBody body.entry (body_of fun.now script) → Fits script (stand_of s)) }
-        ensures stands { IfOk result (λ s. (script : tree.Script) → CanStart script fun.now caught.now args.now → IsBody body.entry (body_of fun.now script) → StandsForCall script fun.now caught.now args.now (stand_of s)) }
+        ensures fits { IfOk result (λ s. (script : tree.Script) → CanStart script fun.now caught.now args.now
+            → IsBody body.entry (body_of fun.now script) → Fits script (stand_of s)) }
+        ensures stands { IfOk result (λ s. (script : tree.Script) → CanStart script fun.now caught.now args.now
+            → IsBody body.entry (body_of fun.now script) → StandsForCall script fun.now caught.now args.now (stand_of s)) }
     {
         let vars = bound(caught, body.params, args)?;
         let run = at_start(alloc, fun, vars, body.node)?;
@@ -141,7 +144,8 @@ impl State {
 
 // The run of a body, of which the first statement is next.
 fn at_start(alloc: Global, fun: &Txt, vars: Pairs, node: u32) -> Result<RunState, Memory>
-    ensures frames { IfOk result (λ r. r.frames ≡ record { fun = fun.now; vars = vars; stack = []; todo = record { node = node; step = 0 } ∷ [] } ∷ []) }
+    ensures frames { IfOk result (λ r. r.frames ≡ record { fun = fun.now; vars = vars; stack = []; todo = record { node = node; step = 0 } ∷ [] }
+        ∷ []) }
     ensures count { IfOk result (λ r. r.count ≡ 0) }
     ensures waits { IfOk result (λ r. r.waits ≡ 0) }
     ensures spawned { IfOk result (λ r. r.spawned ≡ []) }
@@ -170,7 +174,8 @@ fn at_start(alloc: Global, fun: &Txt, vars: Pairs, node: u32) -> Result<RunState
 
 // The names in the last value on the stack of the top frame.
 fn last_refs(alloc: Global, frames: &[Frame]) -> Result<Names, Memory>
-    ensures { IfOk result (λ names. known_of names ≡ pending_in same_text (Stand.run (record { frames = frames_view frames.now; count = 0; waits = 0 }))) }
+    ensures { IfOk result (λ names. known_of names
+        ≡ pending_in same_text (Stand.run (record { frames = frames_view frames.now; count = 0; waits = 0 }))) }
 {
     let Some(top) = frames.last() else {
         return Ok(Names::new(alloc));

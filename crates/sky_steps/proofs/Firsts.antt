@@ -8,7 +8,8 @@ use Rattle.sky_scope.specs.Plain.{Vars}
 use Rattle.sky_code.proofs.Bodies.{own_exp}
 use Rattle.sky_entries.specs.Config.{Run}
 
-pub first_begun : (w : World (List ℕ)) (d d' : ℕ) (e e' : Exp) (m part : ℕ) (st : Vars) (en : Entry (List ℕ)) (k : End (List ℕ) → Vars → Run) → d' ≡ d → e' ≡ e → part ≡ m → then_do (eval w (body_at w d') e' part st) en k ≡ then_do (eval w (body_at w d) e m st) en k
+pub first_begun : (w : World (List ℕ)) (d d' : ℕ) (e e' : Exp) (m part : ℕ) (st : Vars) (en : Entry (List ℕ)) (k : End (List ℕ) → Vars → Run)
+    → d' ≡ d → e' ≡ e → part ≡ m → then_do (eval w (body_at w d') e' part st) en k ≡ then_do (eval w (body_at w d) e m st) en k
 first_begun w d d' e e' m part st en k same is f = rw (same, is, f) refl
 
 module _ (at : ℕ → Option Node) where

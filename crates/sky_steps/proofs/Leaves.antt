@@ -28,9 +28,11 @@ module _ (w : World (List ℕ)) (body : List ℕ → Pairs → Vals (List ℕ) �
   link_on o p e ls n k m v x s =
       visit p s (λ t. answer (oper o v x) p t (λ y u. eval_links w body ls n (k + 1) (m + nodes e) y u))
 
-  pub link_else : (o : Oper) (p : Place) (e : Exp) (ls : Links) (n k m : ℕ) (v : Val (List ℕ)) (x : End) (st t : Vars) → eval w body e m st ≡ Fin (end_of x) t → ((u : Value) → x ≡ End.Got u → ⊥) → eval_links w body (Links.link o p e ls) n k m v st ≡ Fin (end_of x) t
+  pub link_else : (o : Oper) (p : Place) (e : Exp) (ls : Links) (n k m : ℕ) (v : Val (List ℕ)) (x : End) (st t : Vars) → eval w body e m st
+      ≡ Fin (end_of x) t → ((u : Value) → x ≡ End.Got u → ⊥) → eval_links w body (Links.link o p e ls) n k m v st ≡ Fin (end_of x) t
   link_else o p e ls n k m v x st t is other =
-      ap (λ r. then_do r (chain_more n k (m + nodes e) o p v ls) (on_got (link_on o p e ls n k m v))) is ∙ not_got (link_on o p e ls n k m v) x t other
+      ap (λ r. then_do r (chain_more n k (m + nodes e) o p v ls) (on_got (link_on o p e ls n k m v))) is
+      ∙ not_got (link_on o p e ls n k m v) x t other
 
 -- ---- visits
 

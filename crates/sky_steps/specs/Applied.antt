@@ -23,7 +23,9 @@ MadeSo Applied.Star a = ⊥
 -- a `*` makes nothing at once; another sign goes on with its value, or ends with its fault
 abbrev pub AppliedSo : Applied → SignOp → Val → Type 0
 AppliedSo (Applied.Made u) o v =
-    Kept (view u) × ((w : World (List ℕ)) (n k : ℕ) (ss : List tree.SignAt) (p : Place) (st : Vars) (go : Val → Vars → Run) → signed w (sign_view o) v n k ss p st go ≡ go (view u) st)
+    Kept (view u) × ((w : World (List ℕ)) (n k : ℕ) (ss : List tree.SignAt) (p : Place) (st : Vars) (go : Val → Vars → Run)
+    → signed w (sign_view o) v n k ss p st go ≡ go (view u) st)
 AppliedSo (Applied.Failed e) o v =
-    (w : World (List ℕ)) (n k : ℕ) (ss : List tree.SignAt) (p : Place) (st : Vars) (go : Val → Vars → Run) → signed w (sign_view o) v n k ss p st go ≡ fails e p st
+    (w : World (List ℕ)) (n k : ℕ) (ss : List tree.SignAt) (p : Place) (st : Vars) (go : Val → Vars → Run)
+    → signed w (sign_view o) v n k ss p st go ≡ fails e p st
 AppliedSo Applied.Star o v = o ≡ SignOp.Star

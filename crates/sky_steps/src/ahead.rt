@@ -48,7 +48,8 @@ pub enum Ahead<'a> {
 /// How a literal or a name ends; of any other expression nothing is done.
 pub fn leaf(alloc: Global, code: &Code, state: &mut State, e: &Expr) -> Result<Option<End>, Memory>
     requires { state.old.count ≤ visits }
-    ensures same { IfOk result (λ o. IfSome o (λ end. (w : World (List ℕ)) (body : List ℕ → Pairs → Vals (List ℕ) → Place → Vars → Run) (n : ℕ) → w.script ≡ code.now → eval w body (exp_view e.now) n state.old ≡ Fin (end_of end) state.new)) }
+    ensures same { IfOk result (λ o. IfSome o (λ end. (w : World (List ℕ)) (body : List ℕ → Pairs → Vals (List ℕ) → Place → Vars → Run) (n : ℕ)
+        → w.script ≡ code.now → eval w body (exp_view e.now) n state.old ≡ Fin (end_of end) state.new)) }
     ensures ready { IfOk result (λ o. IfSome o EndReady) }
     ensures still { IfOk result (λ o. IfNone o (state.new ≡ state.old)) }
     ensures visited { IfOk result (λ o. IfSome o (Visited state.old.count state.new.count)) }
@@ -84,7 +85,11 @@ fn link(
 ) -> Result<Linked, Memory>
     requires kept { Kept (view value.now) }
     requires within { state.old.count ≤ visits }
-    ensures same { IfOk result (λ l. (w : World (List ℕ)) (body : List ℕ → Pairs → Vals (List ℕ) → Place → Vars → Run) (ls : Links) (n k m : ℕ) → w.script ≡ code.now → eval_links w body (Links.link (op_view operand.now.op) (at operand.now.line operand.now.col) (exp_view operand.now.operand.now) ls) n k m (view value.now) state.old ≡ linked w body (op_view operand.now.op) (at operand.now.line operand.now.col) (exp_view operand.now.operand.now) ls n k m (view value.now) l state.new) }
+    ensures same { IfOk result (λ l. (w : World (List ℕ)) (body : List ℕ → Pairs → Vals (List ℕ) → Place → Vars → Run) (ls : Links) (n k m : ℕ)
+        → w.script ≡ code.now → eval_links w body (Links.link (op_view operand.now.op) (at operand.now.line operand.now.col)
+        (exp_view operand.now.operand.now) ls) n k m (view value.now) state.old
+        ≡ linked w body (op_view operand.now.op) (at operand.now.line operand.now.col) (exp_view operand.now.operand.now) ls n k m
+        (view value.now) l state.new) }
     ensures ready { IfOk result LinkReady }
     ensures more { IfOk result (λ l. state.old.count ≤ state.new.count) }
     ensures within { IfOk result (λ l. state.new.count ≤ visits) }
@@ -117,7 +122,9 @@ pub fn links_ahead<'a>(
     requires links { HasLinks (λ i. node_at code.now i) (operands_view chain.rest) chain.next }
     requires kept { Kept (view chain.value) }
     requires within { state.old.count ≤ visits }
-    ensures same { IfOk result (λ a. (w : World (List ℕ)) (body : List ℕ → Pairs → Vals (List ℕ) → Place → Vars → Run) → w.script ≡ code.now → eval_links w body (operands_view chain.entry.rest) chain.entry.node chain.entry.step chain.entry.next (view chain.entry.value) state.old ≡ left_of w body a state.new) }
+    ensures same { IfOk result (λ a. (w : World (List ℕ)) (body : List ℕ → Pairs → Vals (List ℕ) → Place → Vars → Run) → w.script ≡ code.now
+        → eval_links w body (operands_view chain.entry.rest) chain.entry.node chain.entry.step chain.entry.next (view chain.entry.value)
+        state.old ≡ left_of w body a state.new) }
     ensures ready { IfOk result (λ a. IsReady (λ i. node_at code.now i) a) }
     ensures more { IfOk result (λ a. state.old.count ≤ state.new.count) }
     ensures within { IfOk result (λ a. state.new.count ≤ visits) }
@@ -169,7 +176,8 @@ pub fn chain_ahead<'a>(
 ) -> Result<Option<Ahead<'a>>, Memory>
     requires has { HasExp (λ i. node_at code.now i) (Exp.chain first.now (operands_view rest)) node }
     requires within { state.old.count ≤ visits }
-    ensures same { IfOk result (λ o. IfSome o (λ a. (w : World (List ℕ)) (body : List ℕ → Pairs → Vals (List ℕ) → Place → Vars → Run) → w.script ≡ code.now → eval w body (Exp.chain first.entry.now (operands_view rest.entry)) node state.old ≡ left_of w body a state.new)) }
+    ensures same { IfOk result (λ o. IfSome o (λ a. (w : World (List ℕ)) (body : List ℕ → Pairs → Vals (List ℕ) → Place → Vars → Run) → w.script
+        ≡ code.now → eval w body (Exp.chain first.entry.now (operands_view rest.entry)) node state.old ≡ left_of w body a state.new)) }
     ensures ready { IfOk result (λ o. IfSome o (λ a. IsReady (λ i. node_at code.now i) a)) }
     ensures still { IfOk result (λ o. IfNone o (state.new ≡ state.old)) }
     ensures visited { IfOk result (λ o. IfSome o (HasVisited state.old.count state.new.count)) }
@@ -209,11 +217,13 @@ pub fn go<'a>(
 ) -> Result<Control<'a>, Memory>
     requires ready { AllReady code.now entries.old.items }
     requires left { IsReady (λ i. node_at code.now i) ahead }
-    ensures same { IfOk result (λ c. (w : World (List ℕ)) (st : Vars) → config w entries.new.items c st ≡ rest_in w entries.old.items (left_of w (body_in w (forms entries.old.items)) ahead.entry st)) }
+    ensures same { IfOk result (λ c. (w : World (List ℕ)) (st : Vars) → config w entries.new.items c st
+        ≡ rest_in w entries.old.items (left_of w (body_in w (forms entries.old.items)) ahead.entry st)) }
     ensures ready { IfOk result (λ c. AllReady code.now entries.new.items) }
     ensures goes { IfOk result (λ c. Goes code.now c) }
     ensures opened { IfOk result (λ c. opened (forms entries.new.items) ≡ opened (forms entries.old.items)) }
-    ensures falls { IfOk result (λ c. (n old new : ℕ) → HasVisited old new ahead.entry → new ≤ visits → GoesIn n old entries.old.items new entries.new.items c) }
+    ensures falls { IfOk result (λ c. (n old new : ℕ) → HasVisited old new ahead.entry → new ≤ visits
+        → GoesIn n old entries.old.items new entries.new.items c) }
 {
     match ahead {
         Ahead::Ended(end) => Ok(Control::End(end)),
@@ -238,7 +248,9 @@ pub fn begin_links<'a>(
     requires ready { AllReady code.now entries.old.items }
     requires has { HasExp (λ i. node_at code.now i) (Exp.chain first.now (operands_view rest)) node }
     requires within { state.old.count ≤ visits }
-    ensures same { IfOk result (λ c. (w : World (List ℕ)) → w.script ≡ code.now → config w entries.new.items c state.new ≡ rest_in w entries.old.items (eval w (body_in w (forms entries.old.items)) (Exp.chain first.entry.now (operands_view rest.entry)) node state.old)) }
+    ensures same { IfOk result (λ c. (w : World (List ℕ)) → w.script ≡ code.now → config w entries.new.items c state.new
+        ≡ rest_in w entries.old.items (eval w (body_in w (forms entries.old.items)) (Exp.chain first.entry.now (operands_view rest.entry)) node
+        state.old)) }
     ensures ready { IfOk result (λ c. AllReady code.now entries.new.items) }
     ensures goes { IfOk result (λ c. Goes code.now c) }
     ensures opened { IfOk result (λ c. opened (forms entries.new.items) ≡ opened (forms entries.old.items)) }

@@ -97,7 +97,8 @@ pub fn as_simple<'a>(e: &'a Expr) -> Option<Simple<'a>>
 /// How a literal or a name ends.
 pub fn leaf_end(alloc: Global, code: &Code, state: &mut State, leaf: &Leaf) -> Result<End, Memory>
     requires { state.old.count ≤ visits }
-    ensures same { IfOk result (λ e. (w : World (List ℕ)) (body : List ℕ → Pairs → Vals (List ℕ) → Place → Vars → Run) (n : ℕ) → w.script ≡ code.now → eval w body (leaf_view leaf.now) n state.old ≡ Fin (end_of e) state.new) }
+    ensures same { IfOk result (λ e. (w : World (List ℕ)) (body : List ℕ → Pairs → Vals (List ℕ) → Place → Vars → Run) (n : ℕ) → w.script
+        ≡ code.now → eval w body (leaf_view leaf.now) n state.old ≡ Fin (end_of e) state.new) }
     ensures ready { IfOk result EndReady }
     ensures visited { IfOk result (Visited state.old.count state.new.count) }
     ensures more { IfOk result (λ e. state.old.count ≤ state.new.count) }
@@ -133,7 +134,9 @@ fn link_end(
 ) -> Result<End, Memory>
     requires kept { Kept (view value.now) }
     requires within { state.old.count ≤ visits }
-    ensures same { IfOk result (λ e. (w : World (List ℕ)) (body : List ℕ → Pairs → Vals (List ℕ) → Place → Vars → Run) (n k m : ℕ) → w.script ≡ code.now → eval_links w body (Links.link (op_view op) (at line col) (leaf_view second.now) Links.no_links) n k m (view value.now) state.old ≡ Fin (end_of e) state.new) }
+    ensures same { IfOk result (λ e. (w : World (List ℕ)) (body : List ℕ → Pairs → Vals (List ℕ) → Place → Vars → Run) (n k m : ℕ) → w.script
+        ≡ code.now → eval_links w body (Links.link (op_view op) (at line col) (leaf_view second.now) Links.no_links) n k m (view value.now)
+        state.old ≡ Fin (end_of e) state.new) }
     ensures ready { IfOk result EndReady }
     ensures more { IfOk result (λ e. state.old.count ≤ state.new.count) }
     ensures within { IfOk result (λ e. state.new.count ≤ visits) }
@@ -161,7 +164,8 @@ pub fn simple_end(
     simple: &Simple,
 ) -> Result<End, Memory>
     requires { state.old.count ≤ visits }
-    ensures same { IfOk result (λ e. (w : World (List ℕ)) (body : List ℕ → Pairs → Vals (List ℕ) → Place → Vars → Run) (n : ℕ) → w.script ≡ code.now → eval w body (simple_view simple.now) n state.old ≡ Fin (end_of e) state.new) }
+    ensures same { IfOk result (λ e. (w : World (List ℕ)) (body : List ℕ → Pairs → Vals (List ℕ) → Place → Vars → Run) (n : ℕ) → w.script
+        ≡ code.now → eval w body (simple_view simple.now) n state.old ≡ Fin (end_of e) state.new) }
     ensures ready { IfOk result EndReady }
     ensures visited { IfOk result (Visited state.old.count state.new.count) }
     ensures more { IfOk result (λ e. state.old.count ≤ state.new.count) }

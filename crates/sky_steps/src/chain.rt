@@ -53,7 +53,9 @@ pub fn next_link<'a>(
     requires step { chain.step ≤ chain.next }
     requires links { HasLinks (λ i. node_at code.now i) (operands_view chain.rest) chain.next }
     requires kept { Kept (view chain.value) }
-    ensures same { IfOk result (λ c. (w : World (List ℕ)) (st : Vars) → config w entries.new.items c st ≡ rest_in w entries.old.items (eval_links w (body_in w (forms entries.old.items)) (operands_view chain.entry.rest) chain.entry.node chain.entry.step chain.entry.next (view chain.entry.value) st)) }
+    ensures same { IfOk result (λ c. (w : World (List ℕ)) (st : Vars) → config w entries.new.items c st
+        ≡ rest_in w entries.old.items (eval_links w (body_in w (forms entries.old.items)) (operands_view chain.entry.rest) chain.entry.node
+        chain.entry.step chain.entry.next (view chain.entry.value) st)) }
     ensures ready { IfOk result (λ c. AllReady code.now entries.new.items) }
     ensures goes { IfOk result (λ c. Goes code.now c) }
     ensures opened { IfOk result (λ c. opened (forms entries.new.items) ≡ opened (forms entries.old.items)) }
@@ -123,7 +125,9 @@ pub fn got_link<'a>(
     requires entry { Ready code.now (entry_of (Entry.Form (InForm.ChainMore chain))) }
     requires kept { Kept (view v) }
     requires within { state.old.count ≤ visits }
-    ensures same { IfOk result (λ c. (w : World (List ℕ)) → config w entries.new.items c state.new ≡ rest_in w entries.old.items (goes_on w (forms entries.old.items) (entry_of (Entry.Form (InForm.ChainMore chain.entry))) (logic.End.got (view v)) state.old)) }
+    ensures same { IfOk result (λ c. (w : World (List ℕ)) → config w entries.new.items c state.new
+        ≡ rest_in w entries.old.items (goes_on w (forms entries.old.items) (entry_of (Entry.Form (InForm.ChainMore chain.entry)))
+        (logic.End.got (view v)) state.old)) }
     ensures ready { IfOk result (λ c. AllReady code.now entries.new.items) }
     ensures goes { IfOk result (λ c. Goes code.now c) }
     ensures opened { IfOk result (λ c. opened (forms entries.new.items) ≡ opened (forms entries.old.items)) }

@@ -31,7 +31,8 @@ pub fn begin_parens<'a>(
 ) -> Result<Control<'a>, Memory>
     requires ready { AllReady code.now entries.old.items }
     requires has { HasExp (λ i. node_at code.now i) (Exp.parens inner.now) node }
-    ensures same { IfOk result (λ c. (w : World (List ℕ)) (st : Vars) → config w entries.new.items c st ≡ rest_in w entries.old.items (eval w (body_in w (forms entries.old.items)) (Exp.parens inner.entry.now) node st)) }
+    ensures same { IfOk result (λ c. (w : World (List ℕ)) (st : Vars) → config w entries.new.items c st
+        ≡ rest_in w entries.old.items (eval w (body_in w (forms entries.old.items)) (Exp.parens inner.entry.now) node st)) }
     ensures ready { IfOk result (λ c. AllReady code.now entries.new.items) }
     ensures goes { IfOk result (λ c. Goes code.now c) }
     ensures opened { IfOk result (λ c. opened (forms entries.new.items) ≡ opened (forms entries.old.items)) }
@@ -51,7 +52,9 @@ pub fn begin_chain<'a>(
 ) -> Result<Control<'a>, Memory>
     requires ready { AllReady code.now entries.old.items }
     requires has { HasExp (λ i. node_at code.now i) (Exp.chain first.now (operands_view rest)) node }
-    ensures same { IfOk result (λ c. (w : World (List ℕ)) (st : Vars) → config w entries.new.items c st ≡ rest_in w entries.old.items (eval w (body_in w (forms entries.old.items)) (Exp.chain first.entry.now (operands_view rest.entry)) node st)) }
+    ensures same { IfOk result (λ c. (w : World (List ℕ)) (st : Vars) → config w entries.new.items c st
+        ≡ rest_in w entries.old.items (eval w (body_in w (forms entries.old.items)) (Exp.chain first.entry.now (operands_view rest.entry)) node
+        st)) }
     ensures ready { IfOk result (λ c. AllReady code.now entries.new.items) }
     ensures goes { IfOk result (λ c. Goes code.now c) }
     ensures opened { IfOk result (λ c. opened (forms entries.new.items) ≡ opened (forms entries.old.items)) }
@@ -78,7 +81,9 @@ pub fn begin_logic<'a>(
 ) -> Result<Control<'a>, Memory>
     requires ready { AllReady code.now entries.old.items }
     requires has { HasExp (λ i. node_at code.now i) (Exp.logic (stops_at stop) first.now (ands_view rest.now)) node }
-    ensures same { IfOk result (λ c. (w : World (List ℕ)) (st : Vars) → config w entries.new.items c st ≡ rest_in w entries.old.items (eval w (body_in w (forms entries.old.items)) (Exp.logic (stops_at stop) first.entry.now (ands_view rest.entry.now)) node st)) }
+    ensures same { IfOk result (λ c. (w : World (List ℕ)) (st : Vars) → config w entries.new.items c st
+        ≡ rest_in w entries.old.items (eval w (body_in w (forms entries.old.items))
+        (Exp.logic (stops_at stop) first.entry.now (ands_view rest.entry.now)) node st)) }
     ensures ready { IfOk result (λ c. AllReady code.now entries.new.items) }
     ensures goes { IfOk result (λ c. Goes code.now c) }
     ensures opened { IfOk result (λ c. opened (forms entries.new.items) ≡ opened (forms entries.old.items)) }
@@ -112,7 +117,9 @@ pub fn begin_prefix<'a>(
 ) -> Result<Control<'a>, Memory>
     requires ready { AllReady code.now entries.old.items }
     requires has { HasExp (λ i. node_at code.now i) (Exp.prefix (signs_view signs.now) operand.now) node }
-    ensures same { IfOk result (λ c. (w : World (List ℕ)) (st : Vars) → config w entries.new.items c st ≡ rest_in w entries.old.items (eval w (body_in w (forms entries.old.items)) (Exp.prefix (signs_view signs.entry.now) operand.entry.now) node st)) }
+    ensures same { IfOk result (λ c. (w : World (List ℕ)) (st : Vars) → config w entries.new.items c st
+        ≡ rest_in w entries.old.items (eval w (body_in w (forms entries.old.items)) (Exp.prefix (signs_view signs.entry.now) operand.entry.now)
+        node st)) }
     ensures ready { IfOk result (λ c. AllReady code.now entries.new.items) }
     ensures goes { IfOk result (λ c. Goes code.now c) }
     ensures opened { IfOk result (λ c. opened (forms entries.new.items) ≡ opened (forms entries.old.items)) }

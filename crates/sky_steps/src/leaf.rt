@@ -31,7 +31,8 @@ use std::alloc::Global;
 /// A literal.
 pub fn literal(state: &mut State, value: &Lit, line: u32, col: u32) -> Result<End, Memory>
     requires { state.old.count ≤ visits }
-    ensures same { IfOk result (λ e. (w : World (List ℕ)) (body : List ℕ → Pairs → Vals (List ℕ) → Place → Vars → Run) (n : ℕ) → eval w body (Exp.literal (lit_view value.now) (at line col)) n state.old ≡ Fin (end_of e) state.new) }
+    ensures same { IfOk result (λ e. (w : World (List ℕ)) (body : List ℕ → Pairs → Vals (List ℕ) → Place → Vars → Run) (n : ℕ)
+        → eval w body (Exp.literal (lit_view value.now) (at line col)) n state.old ≡ Fin (end_of e) state.new) }
     ensures ready { IfOk result EndReady }
     ensures falls { IfOk result (λ e. (n : ℕ) (es : List Entry) → GoesIn n state.old.count es state.new.count es (Control.End e)) }
 {
@@ -56,7 +57,8 @@ pub fn name(
     col: u32,
 ) -> Result<End, Memory>
     requires { state.old.count ≤ visits }
-    ensures same { IfOk result (λ e. (w : World (List ℕ)) (body : List ℕ → Pairs → Vals (List ℕ) → Place → Vars → Run) (n : ℕ) → w.script ≡ code.now → eval w body (Exp.name name.now (at line col)) n state.old ≡ Fin (end_of e) state.new) }
+    ensures same { IfOk result (λ e. (w : World (List ℕ)) (body : List ℕ → Pairs → Vals (List ℕ) → Place → Vars → Run) (n : ℕ) → w.script
+        ≡ code.now → eval w body (Exp.name name.now (at line col)) n state.old ≡ Fin (end_of e) state.new) }
     ensures ready { IfOk result EndReady }
     ensures falls { IfOk result (λ e. (n : ℕ) (es : List Entry) → GoesIn n state.old.count es state.new.count es (Control.End e)) }
 {
@@ -81,7 +83,8 @@ pub fn function(
     col: u32,
 ) -> Result<End, Memory>
     requires { state.old.count ≤ visits }
-    ensures same { IfOk result (λ e. (w : World (List ℕ)) (body : List ℕ → Pairs → Vals (List ℕ) → Place → Vars → Run) (n : ℕ) → w.script ≡ code.now → eval w body (Exp.func name.now (at line col)) n state.old ≡ Fin (end_of e) state.new) }
+    ensures same { IfOk result (λ e. (w : World (List ℕ)) (body : List ℕ → Pairs → Vals (List ℕ) → Place → Vars → Run) (n : ℕ) → w.script
+        ≡ code.now → eval w body (Exp.func name.now (at line col)) n state.old ≡ Fin (end_of e) state.new) }
     ensures ready { IfOk result EndReady }
     ensures falls { IfOk result (λ e. (n : ℕ) (es : List Entry) → GoesIn n state.old.count es state.new.count es (Control.End e)) }
 {

@@ -35,7 +35,9 @@ pub fn got_and<'a>(
     requires entry { Ready code.now (entry_of (Entry.Form (InForm.Logic chain))) }
     requires kept { Kept (view v) }
     requires within { state.old.count ≤ visits }
-    ensures same { IfOk result (λ c. (w : World (List ℕ)) → config w entries.new.items c state.new ≡ rest_in w entries.old.items (goes_on w (forms entries.old.items) (entry_of (Entry.Form (InForm.Logic chain.entry))) (logic.End.got (view v)) state.old)) }
+    ensures same { IfOk result (λ c. (w : World (List ℕ)) → config w entries.new.items c state.new
+        ≡ rest_in w entries.old.items (goes_on w (forms entries.old.items) (entry_of (Entry.Form (InForm.Logic chain.entry)))
+        (logic.End.got (view v)) state.old)) }
     ensures ready { IfOk result (λ c. AllReady code.now entries.new.items) }
     ensures goes { IfOk result (λ c. Goes code.now c) }
     ensures opened { IfOk result (λ c. opened (forms entries.new.items) ≡ opened (forms entries.old.items)) }

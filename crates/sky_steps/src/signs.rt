@@ -68,7 +68,9 @@ fn star<'a>(
 ) -> Result<Control<'a>, Memory>
     requires ready { AllReady code.now entries.old.items }
     requires fits { step + 1 + length signs.now < 2 ^ 128 }
-    ensures same { IfOk result (λ c. (w : World (List ℕ)) (st : Vars) → config w entries.new.items c st ≡ rest_in w entries.old.items (run.deref w (view v.now) node step (reverse (signs_view signs.entry.now)) (at line col) st (λ u t. run.signs w (reverse (signs_view signs.entry.now)) node (step + 1) u t))) }
+    ensures same { IfOk result (λ c. (w : World (List ℕ)) (st : Vars) → config w entries.new.items c st
+        ≡ rest_in w entries.old.items (run.deref w (view v.now) node step (reverse (signs_view signs.entry.now)) (at line col) st
+        (λ u t. run.signs w (reverse (signs_view signs.entry.now)) node (step + 1) u t))) }
     ensures ready { IfOk result (λ c. AllReady code.now entries.new.items) }
     ensures goes { IfOk result (λ c. Goes code.now c) }
     ensures opened { IfOk result (λ c. opened (forms entries.new.items) ≡ opened (forms entries.old.items)) }
@@ -104,7 +106,8 @@ pub fn next_signs<'a>(
     requires fits { step + length signs.now < 2 ^ 128 }
     requires kept { Kept (view v) }
     requires within { state.old.count ≤ visits }
-    ensures same { IfOk result (λ c. (w : World (List ℕ)) → config w entries.new.items c state.new ≡ rest_in w entries.old.items (run.signs w (reverse (signs_view signs.entry.now)) node step (view v) state.old)) }
+    ensures same { IfOk result (λ c. (w : World (List ℕ)) → config w entries.new.items c state.new
+        ≡ rest_in w entries.old.items (run.signs w (reverse (signs_view signs.entry.now)) node step (view v) state.old)) }
     ensures ready { IfOk result (λ c. AllReady code.now entries.new.items) }
     ensures goes { IfOk result (λ c. Goes code.now c) }
     ensures opened { IfOk result (λ c. opened (forms entries.new.items) ≡ opened (forms entries.old.items)) }

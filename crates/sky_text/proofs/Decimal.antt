@@ -23,7 +23,8 @@ eqb_positive n h = grind (arith, nat_tests)
 
 shown_digits : (ds : List ℕ) → AllBelowBase 10 ds → list_all is_ascii_digit (map (λ d. d + 48) ds) ≡ true
 shown_digits [] h = refl
-shown_digits (d ∷ ds) h = let digit : is_ascii_digit (d + 48) ≡ true = let small = h.0 in grind (arith, nat_tests) in rw (digit, shown_digits ds h.1) refl
+shown_digits (d ∷ ds) h = let digit : is_ascii_digit (d + 48) ≡ true = let small = h.0 in grind (arith, nat_tests) in
+    rw (digit, shown_digits ds h.1) refl
 
 read_digits : (ds : List ℕ) → map (λ d. d - 48) (map (λ d. d + 48) ds) ≡ ds
 read_digits [] = refl
@@ -34,10 +35,12 @@ length_shown [] = refl
 length_shown (d ∷ ds) = ap suc (length_shown ds)
 
 pub decimal_digits : (n : ℕ) → list_all is_ascii_digit (decimal n) ≡ true
-decimal_digits n = cond_both (n == 0) (48 ∷ []) (map (λ d. d + 48) (digits_of 10 n)) (λ x. list_all is_ascii_digit x ≡ true) (λ _. refl) (λ _. shown_digits (digits_of 10 n) (all_below_base_digits_of 10 n (omega arith)))
+decimal_digits n = cond_both (n == 0) (48 ∷ []) (map (λ d. d + 48) (digits_of 10 n)) (λ x. list_all is_ascii_digit x ≡ true) (λ _. refl)
+    (λ _. shown_digits (digits_of 10 n) (all_below_base_digits_of 10 n (omega arith)))
 
 pub decimal_value : (n : ℕ) → number_of (decimal n) ≡ n
-decimal_value n = cond_both (n == 0) (48 ∷ []) (map (λ d. d + 48) (digits_of 10 n)) (λ x. number_of x ≡ n) (λ t. sym (eqb-true n 0 t)) (λ _. ap (number_from_digits 10) (read_digits (digits_of 10 n)) ∙ number_digits_of 10 n (omega arith))
+decimal_value n = cond_both (n == 0) (48 ∷ []) (map (λ d. d + 48) (digits_of 10 n)) (λ x. number_of x ≡ n) (λ t. sym (eqb-true n 0 t))
+    (λ _. ap (number_from_digits 10) (read_digits (digits_of 10 n)) ∙ number_digits_of 10 n (omega arith))
 
 pub decimal_some : (n : ℕ) → 1 ≤ length (decimal n)
 decimal_some n = cond_both (n == 0) (48 ∷ []) (map (λ d. d + 48) (digits_of 10 n)) (λ x. 1 ≤ length x) (λ _. omega arith)

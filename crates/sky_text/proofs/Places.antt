@@ -1,6 +1,7 @@
 -- How a place moves on: over bytes with no line feed by as many columns, over a line feed to the next
 -- line.
-use Rattle.std.proofs.Common.{◌≡◌, ℕ, suc, ◌+◌, ◌-◌, ◌≤◌, ◌<◌, Bool, cond, not, count_by, List, [], ◌∷◌, ◌++◌, length, take, drop, refl, sym, ap, ◌∙◌, subst, arith, append_assoc}
+use Rattle.std.proofs.Common.{◌≡◌, ℕ, suc, ◌+◌, ◌-◌, ◌≤◌, ◌<◌, Bool, cond, not, count_by, List, [], ◌∷◌, ◌++◌, length, take, drop, refl, sym, ap, ◌∙◌}
+use Rattle.std.proofs.Common.{subst, arith, append_assoc}
 use Rattle.std.specs.List.{prefix_len, suffix_len}
 use Rattle.std.proofs.lemmas.List.{append-nil, length-take-le, reverse-append}
 use Rattle.std.proofs.lemmas.List.Sums.{sum_by-append, sum_by-cons, sum_by_push}
@@ -26,7 +27,8 @@ since_past xs (y ∷ ys) h =
 
 no_feeds : (ys : List ℕ) → NoFeed ys → count_by is_line_feed ys ≡ 0
 no_feeds [] h = refl
-no_feeds (y ∷ ys) h = sum_by-cons (λ x. cond (is_line_feed x) 1 0) y ys ∙ ap (λ (x : Bool). cond x 1 0 + count_by is_line_feed ys) h.0 ∙ omega (arith, no_feeds ys h.1)
+no_feeds (y ∷ ys) h = sum_by-cons (λ x. cond (is_line_feed x) 1 0) y ys ∙ ap (λ (x : Bool). cond x 1 0 + count_by is_line_feed ys) h.0
+    ∙ omega (arith, no_feeds ys h.1)
 
 -- over bytes with no line feed
 pub same_line : (bytes rest : List ℕ) (at n : ℕ) → rest ≡ drop at bytes → n ≤ length rest → NoFeed (take n rest)
@@ -34,25 +36,34 @@ pub same_line : (bytes rest : List ℕ) (at n : ℕ) → rest ≡ drop at bytes 
 same_line bytes rest at n e h g =
     let front : take (at + n) bytes ≡ take at bytes ++ take n rest = take-add at n bytes ∙ ap (λ (x : List ℕ). take at bytes ++ take n x) (sym e) in
     let long : length (take n rest) ≡ n = length-take-le n rest h in (
-      ap (λ (x : List ℕ). count_by is_line_feed x + 1) front ∙ ap (λ (x : ℕ). x + 1) (sum_by-append (λ x. cond (is_line_feed x) 1 0) (take at bytes) (take n rest)) ∙ omega (arith, no_feeds (take n rest) g),
+      ap (λ (x : List ℕ). count_by is_line_feed x + 1) front
+          ∙ ap (λ (x : ℕ). x + 1) (sum_by-append (λ x. cond (is_line_feed x) 1 0) (take at bytes) (take n rest))
+          ∙ omega (arith, no_feeds (take n rest) g),
       ap (λ (x : List ℕ). since x + 1) front ∙ omega (arith, since_past (take at bytes) (take n rest) g, long),
     )
 
 -- over a line feed
-pub next_line : (bytes rest r : List ℕ) (at : ℕ) → rest ≡ drop at bytes → rest ≡ 10 ∷ r → (line_of bytes (at + 1) ≡ line_of bytes at + 1) × (column_of bytes (at + 1) ≡ 1)
+pub next_line : (bytes rest r : List ℕ) (at : ℕ) → rest ≡ drop at bytes → rest ≡ 10 ∷ r → (line_of bytes (at + 1) ≡ line_of bytes at + 1)
+    × (column_of bytes (at + 1) ≡ 1)
 next_line bytes rest r at e h =
     let front : take (at + 1) bytes ≡ take at bytes ++ 10 ∷ [] = take-add at 1 bytes ∙ ap (λ (x : List ℕ). take at bytes ++ take 1 x) (sym e ∙ h) in (
-      ap (λ (x : List ℕ). count_by is_line_feed x + 1) front ∙ ap (λ (x : ℕ). x + 1) (sum_by_push (λ x. cond (is_line_feed x) 1 0) (take at bytes) 10),
+      ap (λ (x : List ℕ). count_by is_line_feed x + 1) front
+          ∙ ap (λ (x : ℕ). x + 1) (sum_by_push (λ x. cond (is_line_feed x) 1 0) (take at bytes) 10),
       ap (λ (x : List ℕ). since x + 1) front ∙ ap (λ (x : ℕ). x + 1) (since_push (take at bytes) 10),
     )
 
 -- behind a gap
-pub past_gap : (bytes rest : List ℕ) (at b : ℕ) (r : List ℕ) (line col : ℕ) (place : ℕ × ℕ) → rest ≡ drop at bytes → rest ≡ b ∷ r → 0 < gap_len b r → gap_len b r ≤ suc (length r)
-    → line ≡ line_of bytes at → col ≡ column_of bytes at → line ≤ at + 1 → col ≤ at + 1 → place ≡ cond (b == 10) (line + 1, 1) (line, col + gap_len b r)
-    → (place.0 ≡ line_of bytes (at + gap_len b r)) × (place.1 ≡ column_of bytes (at + gap_len b r)) × (place.0 ≤ at + gap_len b r + 1) × (place.1 ≤ at + gap_len b r + 1)
+pub past_gap : (bytes rest : List ℕ) (at b : ℕ) (r : List ℕ) (line col : ℕ) (place : ℕ × ℕ) → rest ≡ drop at bytes → rest ≡ b ∷ r
+    → 0 < gap_len b r → gap_len b r ≤ suc (length r)
+    → line ≡ line_of bytes at → col ≡ column_of bytes at → line ≤ at + 1 → col ≤ at + 1 → place
+    ≡ cond (b == 10) (line + 1, 1) (line, col + gap_len b r)
+    → (place.0 ≡ line_of bytes (at + gap_len b r)) × (place.1 ≡ column_of bytes (at + gap_len b r)) × (place.0 ≤ at + gap_len b r + 1)
+    × (place.1 ≤ at + gap_len b r + 1)
 past_gap bytes rest at b r line col place e h some within is_line is_col few_lines few_columns is_place =
     let n = gap_len b r in
-    cond_both (b == 10) (line + 1, 1) (line, col + n) (λ (p : ℕ × ℕ). place ≡ p → (place.0 ≡ line_of bytes (at + n)) × (place.1 ≡ column_of bytes (at + n)) × (place.0 ≤ at + n + 1) × (place.1 ≤ at + n + 1))
+    cond_both (b == 10) (line + 1, 1) (line, col + n)
+    (λ (p : ℕ × ℕ). place ≡ p → (place.0 ≡ line_of bytes (at + n)) × (place.1 ≡ column_of bytes (at + n)) × (place.0 ≤ at + n + 1)
+    × (place.1 ≤ at + n + 1))
     (λ t p. let feed : b ≡ 10 = eqb-true b 10 t in
     let one : n ≡ 1 = ap (λ (x : ℕ). gap_len x r) feed ∙ gap_feed r in
     let next = next_line bytes rest r at e (h ∙ ap (λ (x : ℕ). x ∷ r) feed) in

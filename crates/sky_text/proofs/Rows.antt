@@ -16,7 +16,9 @@ abbrev token : TokenKind → ℕ → ℕ → ℕ → ℕ → Token
 token kind from to line col = record { kind = kind; from = from; to = to; line = line; col = col }
 
 -- an assignment has four tokens
-assignment : tokens_of (codes "x = 1;") ≡ Ok (token (TokenKind.Name (codes "x")) 0 1 1 1 ∷ token (TokenKind.Sign Sign.Assign) 2 3 1 3 ∷ token (TokenKind.Number (pos 1)) 4 5 1 5 ∷ token (TokenKind.Sign Sign.Semicolon) 5 6 1 6 ∷ [])
+assignment : tokens_of (codes "x = 1;") ≡ Ok
+    (token (TokenKind.Name (codes "x")) 0 1 1 1 ∷ token (TokenKind.Sign Sign.Assign) 2 3 1 3 ∷ token (TokenKind.Number (pos 1)) 4 5 1 5
+    ∷ token (TokenKind.Sign Sign.Semicolon) 5 6 1 6 ∷ [])
 unfolding tokens_of utf8_valid_len is_utf8 chars encode
 assignment = refl
 
@@ -51,17 +53,20 @@ unfolding tokens_of utf8_valid_len is_utf8 chars encode
 no_escape = refl
 
 -- the five escapes
-five_escapes : tokens_of (34 ∷ 92 ∷ 110 ∷ 92 ∷ 116 ∷ 92 ∷ 114 ∷ 92 ∷ 34 ∷ 92 ∷ 92 ∷ 34 ∷ []) ≡ Ok (token (TokenKind.Text (10 ∷ 9 ∷ 13 ∷ 34 ∷ 92 ∷ [])) 0 12 1 1 ∷ [])
+five_escapes : tokens_of (34 ∷ 92 ∷ 110 ∷ 92 ∷ 116 ∷ 92 ∷ 114 ∷ 92 ∷ 34 ∷ 92 ∷ 92 ∷ 34 ∷ [])
+    ≡ Ok (token (TokenKind.Text (10 ∷ 9 ∷ 13 ∷ 34 ∷ 92 ∷ [])) 0 12 1 1 ∷ [])
 unfolding tokens_of utf8_valid_len is_utf8 chars encode
 five_escapes = refl
 
 -- a comment ends before the line feed
-comment : tokens_of (97 ∷ 47 ∷ 47 ∷ 98 ∷ 10 ∷ 99 ∷ []) ≡ Ok (token (TokenKind.Name (codes "a")) 0 1 1 1 ∷ token (TokenKind.Name (codes "c")) 5 6 2 1 ∷ [])
+comment : tokens_of (97 ∷ 47 ∷ 47 ∷ 98 ∷ 10 ∷ 99 ∷ [])
+    ≡ Ok (token (TokenKind.Name (codes "a")) 0 1 1 1 ∷ token (TokenKind.Name (codes "c")) 5 6 2 1 ∷ [])
 unfolding tokens_of utf8_valid_len is_utf8 chars encode
 comment = refl
 
 -- one slash is a sign
-quotient : tokens_of (codes "a/b") ≡ Ok (token (TokenKind.Name (codes "a")) 0 1 1 1 ∷ token (TokenKind.Sign Sign.Slash) 1 2 1 2 ∷ token (TokenKind.Name (codes "b")) 2 3 1 3 ∷ [])
+quotient : tokens_of (codes "a/b") ≡ Ok (token (TokenKind.Name (codes "a")) 0 1 1 1 ∷ token (TokenKind.Sign Sign.Slash) 1 2 1 2
+    ∷ token (TokenKind.Name (codes "b")) 2 3 1 3 ∷ [])
 unfolding tokens_of utf8_valid_len is_utf8 chars encode
 quotient = refl
 
@@ -71,12 +76,15 @@ unfolding tokens_of utf8_valid_len is_utf8 chars encode
 one_ampersand = refl
 
 -- the longest sign that fits
-longest_sign : tokens_of (codes "<== + =") ≡ Ok (token (TokenKind.Sign Sign.LessEqual) 0 2 1 1 ∷ token (TokenKind.Sign Sign.Assign) 2 3 1 3 ∷ token (TokenKind.Sign Sign.Plus) 4 5 1 5 ∷ token (TokenKind.Sign Sign.Assign) 6 7 1 7 ∷ [])
+longest_sign : tokens_of (codes "<== + =") ≡ Ok
+    (token (TokenKind.Sign Sign.LessEqual) 0 2 1 1 ∷ token (TokenKind.Sign Sign.Assign) 2 3 1 3 ∷ token (TokenKind.Sign Sign.Plus) 4 5 1 5
+    ∷ token (TokenKind.Sign Sign.Assign) 6 7 1 7 ∷ [])
 unfolding tokens_of utf8_valid_len is_utf8 chars encode
 longest_sign = refl
 
 -- a word, and a name that a word begins
-word_and_name : tokens_of (codes "spawn_exec spawn_exec2") ≡ Ok (token (TokenKind.Word Word.SpawnExec) 0 10 1 1 ∷ token (TokenKind.Name (codes "spawn_exec2")) 11 22 1 12 ∷ [])
+word_and_name : tokens_of (codes "spawn_exec spawn_exec2")
+    ≡ Ok (token (TokenKind.Word Word.SpawnExec) 0 10 1 1 ∷ token (TokenKind.Name (codes "spawn_exec2")) 11 22 1 12 ∷ [])
 unfolding tokens_of utf8_valid_len is_utf8 chars encode
 word_and_name = refl
 

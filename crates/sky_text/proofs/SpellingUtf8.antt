@@ -22,13 +22,16 @@ two_ascii b c h g = IsUtf8-append (b ∷ []) (c ∷ []) (ascii_utf8 b h) (ascii_
 
 -- an escape in place of the byte that it stands for
 escaped : (xs : List ℕ) (b c d : ℕ) (r : List ℕ) → b < 128 → c < 128 → d < 128 → IsUtf8 (xs ++ b ∷ r) → IsUtf8 ((xs ++ c ∷ d ∷ []) ++ r)
-escaped xs b c d r h g k u = IsUtf8-append (xs ++ c ∷ d ∷ []) r (IsUtf8-append xs (c ∷ d ∷ []) (before_ascii xs b r u h) (two_ascii c d g k)) (after_ascii xs b r u h)
+escaped xs b c d r h g k u = IsUtf8-append (xs ++ c ∷ d ∷ []) r (IsUtf8-append xs (c ∷ d ∷ []) (before_ascii xs b r u h) (two_ascii c d g k))
+    (after_ascii xs b r u h)
 
 pub quoted_utf8 : (xs content : List ℕ) → IsUtf8 (xs ++ content) → IsUtf8 (xs ++ quoted content)
 quoted_utf8 xs [] u = u
 quoted_utf8 xs (b ∷ r) u =
     let Goal : List ℕ → Type 0 = λ q. IsUtf8 (xs ++ q) in
-    let one : (c : ℕ) → b < 128 → c < 128 → IsUtf8 (xs ++ 92 ∷ c ∷ quoted r) = λ c h g. subst IsUtf8 (append_assoc xs (92 ∷ c ∷ []) (quoted r)) (quoted_utf8 (xs ++ 92 ∷ c ∷ []) r (escaped xs b 92 c r h (omega arith) g u)) in
+    let one : (c : ℕ) → b < 128 → c < 128 → IsUtf8 (xs ++ 92 ∷ c ∷ quoted r) =
+    λ c h g. subst IsUtf8 (append_assoc xs (92 ∷ c ∷ []) (quoted r))
+    (quoted_utf8 (xs ++ 92 ∷ c ∷ []) r (escaped xs b 92 c r h (omega arith) g u)) in
     cond_both (b == 34) _ _ Goal (λ t. let e : b ≡ 34 = eqb-true b 34 t in one 34 (omega arith) (omega arith)) (λ _.
     cond_both (b == 92) _ _ Goal (λ t. let e : b ≡ 92 = eqb-true b 92 t in one 92 (omega arith) (omega arith)) (λ _.
     cond_both (b == 10) _ _ Goal (λ t. let e : b ≡ 10 = eqb-true b 10 t in one 110 (omega arith) (omega arith)) (λ _.
@@ -105,11 +108,13 @@ kind_utf8 : (kind : TokenKind) → IsKind kind → IsUtf8 (spell kind)
 kind_utf8 (TokenKind.Name name) h = name_utf8 name h
 kind_utf8 (TokenKind.Number (pos n)) h = utf8_while is_ascii_digit digit_ascii (decimal n) (decimal_digits n)
 kind_utf8 (TokenKind.Number (negsuc n)) h = absurd h
-kind_utf8 (TokenKind.Text content) h = IsUtf8-append (34 ∷ []) (quoted content ++ 34 ∷ []) (ascii_utf8 34 (omega arith)) (IsUtf8-append (quoted content) (34 ∷ []) (quoted_utf8 [] content h) (ascii_utf8 34 (omega arith)))
+kind_utf8 (TokenKind.Text content) h = IsUtf8-append (34 ∷ []) (quoted content ++ 34 ∷ []) (ascii_utf8 34 (omega arith))
+    (IsUtf8-append (quoted content) (34 ∷ []) (quoted_utf8 [] content h) (ascii_utf8 34 (omega arith)))
 kind_utf8 (TokenKind.Word w) h = word_utf8 w
 kind_utf8 (TokenKind.Sign s) h = sign_utf8 s
 
 pub spelled_utf8 : (ks : List TokenKind) → AreKinds ks → IsUtf8 (spelled_out ks)
 spelled_utf8 [] h = IsUtf8-nil
 spelled_utf8 (k ∷ []) h = kind_utf8 k h.0
-spelled_utf8 (k ∷ k2 ∷ ks) h = IsUtf8-append (spell k) (32 ∷ spelled_out (k2 ∷ ks)) (kind_utf8 k h.0) (IsUtf8-append (32 ∷ []) (spelled_out (k2 ∷ ks)) (ascii_utf8 32 (omega arith)) (spelled_utf8 (k2 ∷ ks) h.1))
+spelled_utf8 (k ∷ k2 ∷ ks) h = IsUtf8-append (spell k) (32 ∷ spelled_out (k2 ∷ ks)) (kind_utf8 k h.0)
+    (IsUtf8-append (32 ∷ []) (spelled_out (k2 ∷ ks)) (ascii_utf8 32 (omega arith)) (spelled_utf8 (k2 ∷ ks) h.1))

@@ -68,4 +68,5 @@ tokens_in bytes at (token s kind ∷ more) = token_of bytes at kind (at + length
 -- the bytes of a script that has tokens are gaps and tokens, in order and none twice, and these are its
 -- tokens
 abbrev pub GapsAndTokens : Type 0
-GapsAndTokens = (bytes : List ℕ) (ts : List Token) → tokens_of bytes ≡ Ok ts → (parts : List Part) × AreParts parts × (bytes ≡ joined parts) × (ts ≡ tokens_in bytes 0 parts)
+GapsAndTokens = (bytes : List ℕ) (ts : List Token) → tokens_of bytes ≡ Ok ts → (parts : List Part) × AreParts parts × (bytes ≡ joined parts)
+    × (ts ≡ tokens_in bytes 0 parts)

@@ -6,9 +6,12 @@ use Rattle.sky_text.specs.declared.token.Sign.{Sign}
 
 abbrev pub words : List (List ℕ × Word)
 words =
-    (codes "function", Word.Function) ∷ (codes "return", Word.Return) ∷ (codes "if", Word.If) ∷ (codes "else", Word.Else) ∷ (codes "while", Word.While)
-    ∷ (codes "do", Word.Do) ∷ (codes "for", Word.For) ∷ (codes "in", Word.In) ∷ (codes "true", Word.True) ∷ (codes "false", Word.False) ∷ (codes "null", Word.Null)
-    ∷ (codes "spawn", Word.Spawn) ∷ (codes "spawn_exec", Word.SpawnExec) ∷ (codes "exec", Word.Exec) ∷ (codes "ref", Word.Ref) ∷ (codes "len", Word.Len)
+    (codes "function", Word.Function) ∷ (codes "return", Word.Return) ∷ (codes "if", Word.If) ∷ (codes "else", Word.Else)
+    ∷ (codes "while", Word.While)
+    ∷ (codes "do", Word.Do) ∷ (codes "for", Word.For) ∷ (codes "in", Word.In) ∷ (codes "true", Word.True) ∷ (codes "false", Word.False)
+    ∷ (codes "null", Word.Null)
+    ∷ (codes "spawn", Word.Spawn) ∷ (codes "spawn_exec", Word.SpawnExec) ∷ (codes "exec", Word.Exec) ∷ (codes "ref", Word.Ref)
+    ∷ (codes "len", Word.Len)
     ∷ (codes "keys", Word.Keys) ∷ (codes "has", Word.Has) ∷ (codes "range", Word.Range) ∷ []
 
 -- what a table has at some text

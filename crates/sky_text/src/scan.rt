@@ -6,7 +6,8 @@ ghost use Rattle.std.specs.Char.{is_ascii_digit};
 ghost use Rattle.std.specs.List.{AllPass, prefix_len};
 ghost use Rattle.sky_text.specs.Place.{is_line_feed};
 ghost use Rattle.std.specs.Str.{IsUtf8};
-ghost use Rattle.sky_text.specs.Lexing.{is_blank, begins_with, gap_len, begins_name, goes_on_name, named, number, number_of, is_escape, unescaped, text_from, text_at, sign_at, token_at, and_then};
+ghost use Rattle.sky_text.specs.Lexing.{is_blank, begins_with, gap_len, begins_name, goes_on_name, named, number, number_of, is_escape, unescaped};
+ghost use Rattle.sky_text.specs.Lexing.{text_from, text_at, sign_at, token_at, and_then};
 ghost use Rattle.sky_text.specs.Words.{word_of, short_sign, long_sign};
 
 use crate::lex::LexRefusal;

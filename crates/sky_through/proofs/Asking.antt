@@ -15,7 +15,8 @@ pub asks_none : (before : List ℕ → Type 0) (ds : List (Desc (List ℕ))) →
 asks_none before ds n h = inl h
 
 -- asked for these, and then for one of them more
-pub asks_more : (before mid after : List ℕ → Type 0) (ds : List (Desc (List ℕ))) (n : List ℕ) → In (known n) ds → AsksFor before mid ds → AsksFor mid after (known n ∷ []) → AsksFor before after ds
+pub asks_more : (before mid after : List ℕ → Type 0) (ds : List (Desc (List ℕ))) (n : List ℕ) → In (known n) ds → AsksFor before mid ds
+    → AsksFor mid after (known n ∷ []) → AsksFor before after ds
 asks_more before mid after ds n i f g m h = go (g m h)
   where
     go : mid m ⊎ In (known m) (known n ∷ []) → before m ⊎ In (known m) ds
@@ -27,17 +28,21 @@ module _ (finds : Desc (List ℕ) → Option (Object (List ℕ))) (digest : List
   -- what went through waits up to here goes on as whatever goes through from here, and for nothing more was asked than what is waited for
   -- at states from which it went on
   pub record Before (asked now_asked : List ℕ → Type 0) (old mid : Stand (List ℕ)) (before between : Spawned) : Type 0 where
-    pub goes : (new : Stand (List ℕ)) (s : Step) (after : Spawned) → Through finds digest sc mid new s between after → Through finds digest sc old new s before after
+    pub goes : (new : Stand (List ℕ)) (s : Step) (after : Spawned) → Through finds digest sc mid new s between after
+        → Through finds digest sc old new s before after
     pub passes : (new : Stand (List ℕ)) (s : Step) (after : Spawned) (th : Through finds digest sc mid new s between after) (q : Stand (List ℕ))
         → PassedAt finds digest sc mid new s between after th q → PassedAt finds digest sc old new s before after (goes new s after th) q
     pub asks : (n : List ℕ) → now_asked n
-        → asked n ⊎ ((q : Stand (List ℕ)) × In (known n) (pending_in same_text q) × ((new : Stand (List ℕ)) (s : Step) (after : Spawned) (th : Through finds digest sc mid new s between after) → PassedAt finds digest sc old new s before after (goes new s after th) q))
+        → asked n ⊎ ((q : Stand (List ℕ)) × In (known n) (pending_in same_text q)
+        × ((new : Stand (List ℕ)) (s : Step) (after : Spawned) (th : Through finds digest sc mid new s between after)
+        → PassedAt finds digest sc old new s before after (goes new s after th) q))
 
   pub before_none : (asked : List ℕ → Type 0) (old : Stand (List ℕ)) (before : Spawned) → Before asked asked old old before before
   before_none asked old before = record { goes = λ new s after th. th; passes = λ new s after th q p. p; asks = λ n h. inl h }
 
   -- one turn more
-  pub before_more : (asked mid_asked now_asked : List ℕ → Type 0) (old mid now : Stand (List ℕ)) (before between later : Spawned) (os : List (Object (List ℕ)))
+  pub before_more : (asked mid_asked now_asked : List ℕ → Type 0) (old mid now : Stand (List ℕ)) (before between later : Spawned)
+      (os : List (Object (List ℕ)))
       → AreFound finds mid os → Resumed digest sc mid now os Step.Waits between later → AsksFor mid_asked now_asked (pending_in same_text mid)
       → Before asked mid_asked old mid before between → Before asked now_asked old now before later
   before_more asked mid_asked now_asked old mid now before between later os found r asks b =
@@ -48,9 +53,13 @@ module _ (finds : Desc (List ℕ) → Option (Object (List ℕ))) (digest : List
       }
     where
       Told : List ℕ → Type 0
-      Told n = asked n ⊎ ((q : Stand (List ℕ)) × In (known n) (pending_in same_text q) × ((new : Stand (List ℕ)) (s : Step) (after : Spawned) (th : Through finds digest sc now new s later after) → PassedAt finds digest sc old new s before after (b.goes new s after (more os found r th)) q))
+      Told n = asked n ⊎ ((q : Stand (List ℕ)) × In (known n) (pending_in same_text q)
+          × ((new : Stand (List ℕ)) (s : Step) (after : Spawned) (th : Through finds digest sc now new s later after)
+          → PassedAt finds digest sc old new s before after (b.goes new s after (more os found r th)) q))
 
-      earlier : (n : List ℕ) → asked n ⊎ ((q : Stand (List ℕ)) × In (known n) (pending_in same_text q) × ((new : Stand (List ℕ)) (s : Step) (after : Spawned) (th : Through finds digest sc mid new s between after) → PassedAt finds digest sc old new s before after (b.goes new s after th) q)) → Told n
+      earlier : (n : List ℕ) → asked n ⊎ ((q : Stand (List ℕ)) × In (known n) (pending_in same_text q)
+          × ((new : Stand (List ℕ)) (s : Step) (after : Spawned) (th : Through finds digest sc mid new s between after)
+          → PassedAt finds digest sc old new s before after (b.goes new s after th) q)) → Told n
       earlier n (inl h) = inl h
       earlier n (inr (q, i, f)) = inr (q, i, λ new s after th. f new s after (more os found r th))
 
@@ -59,16 +68,21 @@ module _ (finds : Desc (List ℕ) → Option (Object (List ℕ))) (digest : List
       turn n (inr i) = inr (mid, i, λ new s after th. b.passes new s after (more os found r th) mid (inl refl))
 
   -- the last turn
-  pub before_last : (asked mid_asked now_asked : List ℕ → Type 0) (old mid new : Stand (List ℕ)) (s : Step) (before between after : Spawned) (os : List (Object (List ℕ)))
-      → AreFound finds mid os → Resumed digest sc mid new os s between after → StopsAt finds s new → AsksFor mid_asked now_asked (pending_in same_text mid)
+  pub before_last : (asked mid_asked now_asked : List ℕ → Type 0) (old mid new : Stand (List ℕ)) (s : Step) (before between after : Spawned)
+      (os : List (Object (List ℕ)))
+      → AreFound finds mid os → Resumed digest sc mid new os s between after → StopsAt finds s new
+      → AsksFor mid_asked now_asked (pending_in same_text mid)
       → Before asked mid_asked old mid before between → GoesAsking finds digest sc asked now_asked old new s before after
   before_last asked mid_asked now_asked old mid new s before between after os found r stop asks b =
       record { through = b.goes new s after (last os found r stop); asks = λ n h. turn n (asks n h) }
     where
       Told : List ℕ → Type 0
-      Told n = asked n ⊎ ((q : Stand (List ℕ)) × PassedAt finds digest sc old new s before after (b.goes new s after (last os found r stop)) q × In (known n) (pending_in same_text q))
+      Told n = asked n ⊎ ((q : Stand (List ℕ)) × PassedAt finds digest sc old new s before after (b.goes new s after (last os found r stop)) q
+          × In (known n) (pending_in same_text q))
 
-      earlier : (n : List ℕ) → asked n ⊎ ((q : Stand (List ℕ)) × In (known n) (pending_in same_text q) × ((new : Stand (List ℕ)) (s : Step) (after : Spawned) (th : Through finds digest sc mid new s between after) → PassedAt finds digest sc old new s before after (b.goes new s after th) q)) → Told n
+      earlier : (n : List ℕ) → asked n ⊎ ((q : Stand (List ℕ)) × In (known n) (pending_in same_text q)
+          × ((new : Stand (List ℕ)) (s : Step) (after : Spawned) (th : Through finds digest sc mid new s between after)
+          → PassedAt finds digest sc old new s before after (b.goes new s after th) q)) → Told n
       earlier n (inl h) = inl h
       earlier n (inr (q, i, f)) = inr (q, f new s after (last os found r stop), i)
 

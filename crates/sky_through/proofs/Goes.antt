@@ -1,5 +1,6 @@
 -- Going through the waits whose objects are found is going on so, where what is found is true.
-use Rattle.std.proofs.Common.{◌≡◌, ◌≢◌, ◌≤◌, ◌<◌, ◌+◌, ◌++◌, ℕ, suc, List, [], ◌∷◌, map, true, Option, Some, None, is_some, Bool, false, nat_lt, ltb-true, ltb-false, inl, inr, refl, sym, ap, ◌∙◌, subst, arith, append_assoc, append-nil}
+use Rattle.std.proofs.Common.{◌≡◌, ◌≢◌, ◌≤◌, ◌<◌, ◌+◌, ◌++◌, ℕ, suc, List, [], ◌∷◌, map, true, Option, Some, None, is_some, Bool, false, nat_lt}
+use Rattle.std.proofs.Common.{ltb-true, ltb-false, inl, inr, refl, sym, ap, ◌∙◌, subst, arith, append_assoc, append-nil}
 use Rattle.std.proofs.lemmas.List.{map-append}
 use Rattle.sky_base.specs.Val as v
 use Rattle.sky_base.specs.Val.{distinct, same_text}
@@ -51,7 +52,8 @@ module _ (digest : List ℕ → List ℕ) where
   pub both_named : (ds es : List Desc) (xs ys zs : Spawned) → ys ≡ xs ++ named_all ds → zs ≡ ys ++ named_all es → zs ≡ xs ++ named_all (ds ++ es)
   both_named ds es xs ys zs e g =
       g ∙ ap (λ q. q ++ named_all es) e ∙ append_assoc xs (named_all ds) (named_all es)
-      ∙ ap (λ q. xs ++ q) (sym (ap (map (with_name digest)) (map-append (low_desc no_name (digested digest)) ds es) ∙ map-append (with_name digest) (map (low_desc no_name (digested digest)) ds) (map (low_desc no_name (digested digest)) es)))
+      ∙ ap (λ q. xs ++ q) (sym (ap (map (with_name digest)) (map-append (low_desc no_name (digested digest)) ds es)
+      ∙ map-append (with_name digest) (map (low_desc no_name (digested digest)) ds) (map (low_desc no_name (digested digest)) es)))
 
   module _ (finds : v.Desc (List ℕ) → Option (Object (List ℕ))) (job : Job) (around : Around) where
     abbrev R : Desc → v.Desc (List ℕ)
@@ -80,7 +82,8 @@ module _ (digest : List ℕ → List ℕ) where
     tail_is : {A : Type 0} (x y : A) (xs ys : List A) → x ∷ xs ≡ y ∷ ys → xs ≡ ys
     tail_is x y xs ys e = cc
 
-    pub collect : (ds : List Desc) (os : List (Object (List ℕ))) → map finds (map R ds) ≡ map Some os → ((d : Desc) (o : Object (List ℕ)) → In d ds → finds (R d) ≡ Some o → SeenAs (digested digest) job around d o) → Collected ds os
+    pub collect : (ds : List Desc) (os : List (Object (List ℕ))) → map finds (map R ds) ≡ map Some os
+        → ((d : Desc) (o : Object (List ℕ)) → In d ds → finds (R d) ≡ Some o → SeenAs (digested digest) job around d o) → Collected ds os
     collect [] [] e h = record { n = 0; objects = []; seen = refl; are = refl }
     collect [] (o ∷ os) e h = absurd (none_cons _ _ e)
     collect (d ∷ ds) [] e h = absurd (none_cons _ _ (sym e))
@@ -116,7 +119,8 @@ module _ (digest : List ℕ → List ℕ) where
     module _ (t : Task) where
       -- ---- at a wait
 
-      module _ (s : Stand (List ℕ)) (j : ℕ) (ds : List Desc) (stands : Stands job around (digested digest) s t j) (waits : WaitOf job around t j ds) (truly : Truly digest finds job around ds) where
+      module _ (s : Stand (List ℕ)) (j : ℕ) (ds : List Desc) (stands : Stands job around (digested digest) s t j)
+          (waits : WaitOf job around t j ds) (truly : Truly digest finds job around ds) where
         pub pending : pending_in same_text s ≡ map R (once ds)
         pending = stands_pending (digested digest) job around s t j ds stands waits truly.apart
 
@@ -132,13 +136,25 @@ module _ (digest : List ℕ → List ℕ) where
 
           pub each_found : Each (IsFound digest finds job around) ds
           each_found =
-              from_each (IsFound digest finds job around) ds (λ d i. in_each (IsFound digest finds job around) (once ds) d (all_found (once ds) os found_names) (in_once d i))
+              from_each (IsFound digest finds job around) ds
+              (λ d i. in_each (IsFound digest finds job around) (once ds) d (all_found (once ds) os found_names) (in_once d i))
 
           -- they are the objects of what it waits for, as far as any number from some on tells
           pub answers : (n₀ : ℕ) × ((m : ℕ) → n₀ ≤ m → Answers (digested digest) job around t m j os)
           answers =
-              let c = collect (once ds) os found_names (λ d o i g. truly.seen d o (once_in d i) g) in
-              (waits.0 + c.n, λ m l. record { waited = ds; objects = c.objects; is_wait = wait_to job around waits.0 m t j ds (omega (arith, l)) waits.1; apart = truly.apart; seen = all_to job around c.n m (once ds) c.objects (omega (arith, l)) c.seen; are = c.are })
+              let c = collect (once ds) os found_names (λ d o i g. truly.seen d o (once_in d i) g) in (
+                waits.0 + c.n,
+                λ m l. record {
+                  waited = ds;
+                  objects = c.objects;
+                  is_wait =
+                      wait_to job around waits.0 m t j ds (omega (arith, l)) waits.1;
+                  apart = truly.apart;
+                  seen =
+                      all_to job around c.n m (once ds) c.objects (omega (arith, l)) c.seen;
+                  are = c.are;
+                },
+              )
 
         -- something lacks
         pub missing : Lacks finds s → (d : Desc) × In d ds × (IsFound digest finds job around d → ⊥)
@@ -160,43 +176,71 @@ module _ (digest : List ℕ → List ℕ) where
 
       pub end_makes : (j n : ℕ) → WaitsNoMore (digested digest) job around t j → made_after job around n t j ≡ made_between job around n t j (suc j)
       end_makes j n h =
-          after_between job around n t j (suc j) (omega arith) ∙ ap (λ ds. made_between job around n t j (suc j) ++ ds) (after_last job around n t j (no_wait j n h)) ∙ append-nil (made_between job around n t j (suc j))
+          after_between job around n t j (suc j) (omega arith)
+          ∙ ap (λ ds. made_between job around n t j (suc j) ++ ds) (after_last job around n t j (no_wait j n h))
+          ∙ append-nil (made_between job around n t j (suc j))
 
       -- ---- what is made
 
-      module _ (j n : ℕ) (before after : Spawned) (makes : (m : ℕ) → n ≤ m → after ≡ before ++ named_all (made_between job around m t j (suc j))) where
-        pub made_at_end : Ends job around t → WaitsNoMore (digested digest) job around t j → (ds : List Desc) × MadeAfter job around t j ds × GrewBy digest finds job around ds before after
+      module _ (j n : ℕ) (before after : Spawned)
+          (makes : (m : ℕ) → n ≤ m → after ≡ before ++ named_all (made_between job around m t j (suc j))) where
+        pub made_at_end : Ends job around t → WaitsNoMore (digested digest) job around t j → (ds : List Desc) × MadeAfter job around t j ds
+            × GrewBy digest finds job around ds before after
         made_at_end (k, e) none =
-            let m = n + k in
-            (made_after job around m t j, (m, (ended_stays_to job around k m t (omega arith) e).0, refl), makes m (omega arith) ∙ ap (λ ds. before ++ named_all ds) (sym (end_makes j m none)))
+            let m = n + k in (
+              made_after job around m t j,
+              (m, (ended_stays_to job around k m t (omega arith) e).0, refl),
+              makes m (omega arith)
+                  ∙ ap (λ ds. before ++ named_all ds) (sym (end_makes j m none)),
+            )
 
-        pub made_at_wait : (es : List Desc) → WaitOf job around t (suc j) es → (ds : List Desc) × MadeBetween job around t j (suc j) ds × GrewBy digest finds job around ds before after
+        pub made_at_wait : (es : List Desc) → WaitOf job around t (suc j) es → (ds : List Desc) × MadeBetween job around t j (suc j) ds
+            × GrewBy digest finds job around ds before after
         made_at_wait es (k, e) =
             let m = n + k in
             (made_between job around m t j (suc j), (m, (es, wait_to job around k m t (suc j) es (omega arith) e), refl), makes m (omega arith))
 
-        pub made_to_end : (later : Spawned) (es : List Desc) → MadeAfter job around t (suc j) es → GrewBy digest finds job around es after later → (ds : List Desc) × MadeAfter job around t j ds × GrewBy digest finds job around ds before later
+        pub made_to_end : (later : Spawned) (es : List Desc) → MadeAfter job around t (suc j) es → GrewBy digest finds job around es after later
+            → (ds : List Desc) × MadeAfter job around t j ds × GrewBy digest finds job around ds before later
         made_to_end later es (k, e, is) grew =
             let m = n + k in
             let over : ended job around m t ≡ true = (ended_stays_to job around k m t (omega arith) e).0 in
-            let same : made_after job around m t (suc j) ≡ es = after_one job around t (suc j) (made_after job around m t (suc j)) es (m, over, refl) (k, e, is) in
-            (made_between job around m t j (suc j) ++ es, (m, over, after_between job around m t j (suc j) (omega arith) ∙ ap (λ ds. made_between job around m t j (suc j) ++ ds) same), both_named (made_between job around m t j (suc j)) es before after later (makes m (omega arith)) grew)
+            let same : made_after job around m t (suc j) ≡ es =
+            after_one job around t (suc j) (made_after job around m t (suc j)) es (m, over, refl) (k, e, is) in (
+              made_between job around m t j (suc j) ++ es,
+              (m, over, after_between job around m t j (suc j) (omega arith) ∙ ap (λ ds. made_between job around m t j (suc j) ++ ds) same),
+              both_named (made_between job around m t j (suc j)) es before after later (makes m (omega arith)) grew,
+            )
 
-        pub made_to_wait : (later : Spawned) (i : ℕ) (es : List Desc) → suc j < i → MadeBetween job around t (suc j) i es → GrewBy digest finds job around es after later → (ds : List Desc) × MadeBetween job around t j i ds × GrewBy digest finds job around ds before later
+        pub made_to_wait : (later : Spawned) (i : ℕ) (es : List Desc) → suc j < i → MadeBetween job around t (suc j) i es
+            → GrewBy digest finds job around es after later → (ds : List Desc) × MadeBetween job around t j i ds
+            × GrewBy digest finds job around ds before later
         made_to_wait later i es lt (k, (ws, e), is) grew =
             let m = n + k in
             let wait : wait_at job around m t i ≡ Some ws = wait_to job around k m t i ws (omega arith) e in
-            let same : made_between job around m t (suc j) i ≡ es = between_one job around t (suc j) i (made_between job around m t (suc j) i) es lt (m, (ws, wait), refl) (k, (ws, e), is) in
-            (made_between job around m t j (suc j) ++ es, (m, (ws, wait), between_two job around m t j (suc j) i (omega arith) (omega (arith, lt)) ∙ ap (λ ds. made_between job around m t j (suc j) ++ ds) same), both_named (made_between job around m t j (suc j)) es before after later (makes m (omega arith)) grew)
+            let same : made_between job around m t (suc j) i ≡ es =
+            between_one job around t (suc j) i (made_between job around m t (suc j) i) es lt (m, (ws, wait), refl) (k, (ws, e), is) in (
+              made_between job around m t j (suc j) ++ es,
+              (
+                m,
+                (ws, wait),
+                between_two job around m t j (suc j) i (omega arith) (omega (arith, lt))
+                    ∙ ap (λ ds. made_between job around m t j (suc j) ++ ds) same,
+              ),
+              both_named (made_between job around m t j (suc j)) es before after later (makes m (omega arith)) grew,
+            )
 
       -- ---- the steps together
 
-      pub first_found : (sc : Script) (old new : Stand (List ℕ)) (s : Step) (before after : Spawned) → Through finds digest sc old new s before after → (os : List (Object (List ℕ))) × AreFound finds old os
+      pub first_found : (sc : Script) (old new : Stand (List ℕ)) (s : Step) (before after : Spawned)
+          → Through finds digest sc old new s before after → (os : List (Object (List ℕ))) × AreFound finds old os
       first_found sc old new s before after (last os found r stop) = (os, found)
       first_found sc old new s before after (more os found r rest) = (os, found)
 
       -- no wait from the next one on, and no wait between, is for anything that isn't found
-      pub past_one : (j i : ℕ) → ((es : List Desc) → WaitOf job around t (suc j) es → Each (IsFound digest finds job around) es) → ((k : ℕ) (es : List Desc) → suc j < k → k < i → WaitOf job around t k es → Each (IsFound digest finds job around) es) → (k : ℕ) (es : List Desc) → j < k → k < i → WaitOf job around t k es → Each (IsFound digest finds job around) es
+      pub past_one : (j i : ℕ) → ((es : List Desc) → WaitOf job around t (suc j) es → Each (IsFound digest finds job around) es)
+          → ((k : ℕ) (es : List Desc) → suc j < k → k < i → WaitOf job around t k es → Each (IsFound digest finds job around) es)
+          → (k : ℕ) (es : List Desc) → j < k → k < i → WaitOf job around t k es → Each (IsFound digest finds job around) es
       past_one j i first later k es l m w = go (nat_lt (suc j) k) refl
         where
           go : (b : Bool) → nat_lt (suc j) k ≡ b → Each (IsFound digest finds job around) es
@@ -207,37 +251,76 @@ module _ (digest : List ℕ → List ℕ) where
               first es (subst (λ x. WaitOf job around t x es) here w)
 
       -- the last step
-      pub at_last : (j n : ℕ) (s : Step) (new : Stand (List ℕ)) (before after : Spawned) → TrulyFrom digest finds job around t j → StepsTo (digested digest) job around t j (stop_of s new) → StopsAt finds s new → ((m : ℕ) → n ≤ m → after ≡ before ++ named_all (made_between job around m t j (suc j))) → WentOn digest finds job around t j s new before after
+      pub at_last : (j n : ℕ) (s : Step) (new : Stand (List ℕ)) (before after : Spawned) → TrulyFrom digest finds job around t j
+          → StepsTo (digested digest) job around t j (stop_of s new) → StopsAt finds s new
+          → ((m : ℕ) → n ≤ m → after ≡ before ++ named_all (made_between job around m t j (suc j)))
+          → WentOn digest finds job around t j s new before after
       at_last j n (Step.Ended o) new before after truly (ends, none) stop makes =
           (passes_end j none, ends, made_at_end j n before after makes (ends_of t (object_view o) ends) none)
       at_last j n (Step.Shown a) new before after truly (shows, none) stop makes =
           (passes_end j none, shows, made_at_end j n before after makes (shows_of t (shown_view a) shows) none)
       at_last j n Step.Waits new before after truly (stands, (ws, w)) stop makes =
-          let lacks = missing new (suc j) ws stands w (truly (suc j) ws (omega arith) w) stop in
-          (suc j, record { above = omega arith; passes = λ k es l m v. absurd (omega (arith, l, m)); waits = ws; waited = w; missing = lacks.0; is_waited = lacks.1; is_missing = lacks.2 }, stands, made_at_wait j n before after makes ws w)
+          let lacks = missing new (suc j) ws stands w (truly (suc j) ws (omega arith) w) stop in (
+            suc j,
+            record {
+              above = omega arith;
+              passes = λ k es l m v. absurd (omega (arith, l, m));
+              waits = ws;
+              waited = w;
+              missing = lacks.0;
+              is_waited = lacks.1;
+              is_missing = lacks.2;
+            },
+            stands,
+            made_at_wait j n before after makes ws w,
+          )
 
       -- a step and what comes after it
-      pub with_rest : (j n : ℕ) (s : Step) (new : Stand (List ℕ)) (before between after : Spawned) → ((es : List Desc) → WaitOf job around t (suc j) es → Each (IsFound digest finds job around) es) → ((m : ℕ) → n ≤ m → between ≡ before ++ named_all (made_between job around m t j (suc j))) → WentOn digest finds job around t (suc j) s new between after → WentOn digest finds job around t j s new before after
+      pub with_rest : (j n : ℕ) (s : Step) (new : Stand (List ℕ)) (before between after : Spawned)
+          → ((es : List Desc) → WaitOf job around t (suc j) es → Each (IsFound digest finds job around) es)
+          → ((m : ℕ) → n ≤ m → between ≡ before ++ named_all (made_between job around m t j (suc j)))
+          → WentOn digest finds job around t (suc j) s new between after → WentOn digest finds job around t j s new before after
       with_rest j n (Step.Ended o) new before between after first makes (passes, ends, (es, made, grew)) =
           (λ i. past_one j i first (passes i), ends, made_to_end j n before between makes after es made grew)
       with_rest j n (Step.Shown a) new before between after first makes (passes, shows, (es, made, grew)) =
           (λ i. past_one j i first (passes i), shows, made_to_end j n before between makes after es made grew)
-      with_rest j n Step.Waits new before between after first makes (i, next, stands, (es, made, grew)) =
-          (i, record { above = omega (arith, next.above); passes = past_one j i first next.passes; waits = next.waits; waited = next.waited; missing = next.missing; is_waited = next.is_waited; is_missing = next.is_missing }, stands, made_to_wait j n before between makes after i es next.above made grew)
+      with_rest j n Step.Waits new before between after first makes (i, next, stands, (es, made, grew)) = (
+        i,
+        record {
+          above = omega (arith, next.above);
+          passes = past_one j i first next.passes;
+          waits = next.waits;
+          waited = next.waited;
+          missing = next.missing;
+          is_waited = next.is_waited;
+          is_missing = next.is_missing;
+        },
+        stands,
+        made_to_wait j n before between makes after i es next.above made grew,
+      )
 
-      module _ (sc : Script) (is : job.script ≡ sc) (alike : ReadsAlike (digested digest) around data_of) (writes : WritesAlike (digested digest) around) where
-        pub went : (j : ℕ) (old new : Stand (List ℕ)) (s : Step) (before after : Spawned) (ds : List Desc) → Stands job around (digested digest) old t j → WaitOf job around t j ds → TrulyFrom digest finds job around t j → Through finds digest sc old new s before after → WentOn digest finds job around t j s new before after
+      module _ (sc : Script) (is : job.script ≡ sc) (alike : ReadsAlike (digested digest) around data_of)
+          (writes : WritesAlike (digested digest) around) where
+        pub went : (j : ℕ) (old new : Stand (List ℕ)) (s : Step) (before after : Spawned) (ds : List Desc)
+            → Stands job around (digested digest) old t j → WaitOf job around t j ds → TrulyFrom digest finds job around t j
+            → Through finds digest sc old new s before after → WentOn digest finds job around t j s new before after
         went j old new s before after ds stands w truly (last os found r stop) =
             let ans = answers old j ds stands w (truly j ds (omega arith) w) os found in
-            at_last j ans.0 s new before after truly ((r.moves job around t is alike writes).steps j ans.0 stands (ans.1 ans.0 (omega arith))) stop (λ m l. r.grew ∙ ap (λ ms. before ++ map (with_name digest) ms) ((r.moves job around t is alike writes).makes j m stands (ans.1 m l)))
+            at_last j ans.0 s new before after truly ((r.moves job around t is alike writes).steps j ans.0 stands (ans.1 ans.0 (omega arith)))
+            stop (λ m l. r.grew ∙ ap (λ ms. before ++ map (with_name digest) ms)
+            ((r.moves job around t is alike writes).makes j m stands (ans.1 m l)))
         went j old new s before after ds stands w truly (more os found r rest) =
             let ans = answers old j ds stands w (truly j ds (omega arith) w) os found in
             let step = (r.moves job around t is alike writes).steps j ans.0 stands (ans.1 ans.0 (omega arith)) in
             let next = first_found sc _ new s _ after rest in
-            let first = λ (es : List Desc) (v : WaitOf job around t (suc j) es). each_found _ (suc j) es step.0 v (truly (suc j) es (omega arith) v) next.0 next.1 in
+            let first = λ (es : List Desc) (v : WaitOf job around t (suc j) es). each_found _ (suc j) es step.0 v
+            (truly (suc j) es (omega arith) v) next.0 next.1 in
             let later = went (suc j) _ new s _ after step.1.0 step.0 step.1.1 (λ k es l v. truly k es (omega (arith, l)) v) rest in
-            with_rest j ans.0 s new before _ after first (λ m l. r.grew ∙ ap (λ ms. before ++ map (with_name digest) ms) ((r.moves job around t is alike writes).makes j m stands (ans.1 m l))) later
+            with_rest j ans.0 s new before _ after first
+            (λ m l. r.grew ∙ ap (λ ms. before ++ map (with_name digest) ms)
+            ((r.moves job around t is alike writes).makes j m stands (ans.1 m l))) later
 
-pub goes_through : (digest : List ℕ → List ℕ) (sc : Script) (finds : v.Desc (List ℕ) → Option (Object (List ℕ))) (old new : Stand (List ℕ)) (s : Step) (before after : Spawned) → Through finds digest sc old new s before after → GoesThrough digest sc finds old new s before after
+pub goes_through : (digest : List ℕ → List ℕ) (sc : Script) (finds : v.Desc (List ℕ) → Option (Object (List ℕ))) (old new : Stand (List ℕ))
+    (s : Step) (before after : Spawned) → Through finds digest sc old new s before after → GoesThrough digest sc finds old new s before after
 goes_through digest sc finds old new s before after th = λ job around t j is alike writes stands waits truly.
     went digest finds job around t sc is alike writes j old new s before after waits.0 stands waits.1 truly th

@@ -1,5 +1,6 @@
 -- What is known after one turn and another.
-use Rattle.std.proofs.Common.{◌≡◌, ◌++◌, ℕ, List, [], ◌∷◌, map, flat_map, Option, Some, refl, sym, ap, ◌∙◌, subst, ◌⊎◌, inl, inr, append_assoc, append-nil}
+use Rattle.std.proofs.Common.{◌≡◌, ◌++◌, ℕ, List, [], ◌∷◌, map, flat_map, Option, Some, refl, sym, ap, ◌∙◌, subst, ◌⊎◌, inl, inr, append_assoc}
+use Rattle.std.proofs.Common.{append-nil}
 use Rattle.std.proofs.lemmas.List.{map-append}
 use Rattle.sky_base.specs.Val.{Desc, known, same_text}
 use Rattle.sky_base.specs.Name.{digested}
@@ -64,14 +65,17 @@ module _ {A : Type 0} where
 
 module _ (finds : Desc (List ℕ) → Option (Object (List ℕ))) where
   -- an object that answers is found
-  found_of : (ds : List (Desc (List ℕ))) (os : List (Object (List ℕ))) (o : Object (List ℕ)) → map finds ds ≡ map Some os → In o os → (e : Desc (List ℕ)) × (finds e ≡ Some o)
+  found_of : (ds : List (Desc (List ℕ))) (os : List (Object (List ℕ))) (o : Object (List ℕ)) → map finds ds ≡ map Some os → In o os
+      → (e : Desc (List ℕ)) × (finds e ≡ Some o)
   found_of [] [] o e i = absurd i
   found_of [] (x ∷ os) o e i = absurd cc
   found_of (d ∷ ds) [] o e i = absurd i
   found_of (d ∷ ds) (x ∷ os) o e (inl q) = (d, let h : finds d ≡ Some x = cc in h ∙ ap Some (sym q))
   found_of (d ∷ ds) (x ∷ os) o e (inr i) = found_of ds os o (let t : map finds ds ≡ map Some os = cc in t) i
 
-  module _ (digest : List ℕ → List ℕ) (old mid new : Stand (List ℕ)) (s : Step) (before between after : Spawned) (os : List (Object (List ℕ))) (found : AreFound finds mid os) (a : KnowsNames digest (CameFrom finds old) Step.Waits mid before between) (b : KnowsNames digest (CameWith mid os) s new between after) where
+  module _ (digest : List ℕ → List ℕ) (old mid new : Stand (List ℕ)) (s : Step) (before between after : Spawned) (os : List (Object (List ℕ)))
+      (found : AreFound finds mid os) (a : KnowsNames digest (CameFrom finds old) Step.Waits mid before between)
+      (b : KnowsNames digest (CameWith mid os) s new between after) where
     abbrev named : List (Desc (List ℕ)) → List (Desc (List ℕ))
     named ms = map (λ m. known (digested digest m)) ms
 
@@ -91,15 +95,20 @@ module _ (finds : Desc (List ℕ) → Option (Object (List ℕ))) where
     pub known_both : KnowsNames digest (CameFrom finds old) s new before after
     known_both = record {
       made = a.made ++ b.made;
-      grew = b.grew ∙ ap (λ q. q ++ map (with_name digest) b.made) a.grew ∙ append_assoc before (map (with_name digest) a.made) (map (with_name digest) b.made) ∙ ap (λ q. before ++ q) (sym (map-append (with_name digest) a.made b.made));
+      grew = b.grew ∙ ap (λ q. q ++ map (with_name digest) b.made) a.grew
+          ∙ append_assoc before (map (with_name digest) a.made) (map (with_name digest) b.made)
+          ∙ ap (λ q. before ++ q) (sym (map-append (with_name digest) a.made b.made));
       within = λ earlier later m e. inside earlier later m (split a.made b.made earlier later m e);
       leaves = left s b.leaves;
     }
       where
-        inside : (earlier later : List (Desc (List ℕ))) (m : Desc (List ℕ)) → Split a.made b.made earlier later m → Each (Known digest (CameFrom finds old) earlier) (inside_refs m)
+        inside : (earlier later : List (Desc (List ℕ))) (m : Desc (List ℕ)) → Split a.made b.made earlier later m
+            → Each (Known digest (CameFrom finds old) earlier) (inside_refs m)
         inside earlier later m (in_one more e) = a.within earlier more m e
         inside earlier later m (in_two first e g) =
-            subst (λ xs. Each (Known digest (CameFrom finds old) xs) (inside_refs m)) (sym e) (each_to (Known digest (CameWith mid os) first) (Known digest (CameFrom finds old) (a.made ++ first)) (inside_refs m) (lift first) (b.within first later m g))
+            subst (λ xs. Each (Known digest (CameFrom finds old) xs) (inside_refs m)) (sym e)
+            (each_to (Known digest (CameWith mid os) first) (Known digest (CameFrom finds old) (a.made ++ first)) (inside_refs m)
+            (lift first) (b.within first later m g))
 
         left : (t : Step) → LeavesKnown digest (CameWith mid os) b.made t new → LeavesKnown digest (CameFrom finds old) (a.made ++ b.made) t new
         left (Step.Ended o) h = each_to _ _ (object_refs (object_view o)) (lift b.made) h
@@ -111,6 +120,13 @@ none_made : (earlier later : List (Desc (List ℕ))) (m : Desc (List ℕ)) → [
 none_made [] later m e = cc
 none_made (x ∷ xs) later m e = cc
 
-pub known_self : (finds : Desc (List ℕ) → Option (Object (List ℕ))) (digest : List ℕ → List ℕ) (s : Stand (List ℕ)) (spawned : Spawned) → KnowsNames digest (CameFrom finds s) Step.Waits s spawned spawned
+pub known_self : (finds : Desc (List ℕ) → Option (Object (List ℕ))) (digest : List ℕ → List ℕ) (s : Stand (List ℕ)) (spawned : Spawned)
+    → KnowsNames digest (CameFrom finds s) Step.Waits s spawned spawned
 known_self finds digest s spawned =
-    record { made = []; grew = sym (append-nil spawned); within = λ earlier later m e. absurd (none_made earlier later m e); leaves = from_each (Known digest (CameFrom finds s) []) (all_refs s) (λ d i. inl (inl i)) }
+    record {
+      made = [];
+      grew = sym (append-nil spawned);
+      within = λ earlier later m e. absurd (none_made earlier later m e);
+      leaves =
+          from_each (Known digest (CameFrom finds s) []) (all_refs s) (λ d i. inl (inl i));
+    }

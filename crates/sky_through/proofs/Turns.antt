@@ -1,5 +1,6 @@
 -- Turns, one after the other.
-use Rattle.std.proofs.Common.{◌≡◌, ◌<◌, ◌≤◌, ◌+◌, ◌++◌, ℕ, suc, List, [], ◌∷◌, map, Bool, true, false, Option, Some, None, is_some, IsSome, refl, sym, ap, ◌∙◌, subst, arith, append_assoc, append-nil, Result, Ok, Err, IfOk, inl, inr}
+use Rattle.std.proofs.Common.{◌≡◌, ◌<◌, ◌≤◌, ◌+◌, ◌++◌, ℕ, suc, List, [], ◌∷◌, map, Bool, true, false, Option, Some, None, is_some, IsSome, refl, sym}
+use Rattle.std.proofs.Common.{ap, ◌∙◌, subst, arith, append_assoc, append-nil, Result, Ok, Err, IfOk, inl, inr}
 use Rattle.std.proofs.lemmas.List.{map-append}
 use Rattle.sky_base.specs.Names.{known_of}
 use Rattle.sky_base.specs.Val.{Desc, known}
@@ -24,7 +25,8 @@ use Rattle.sky_through.specs.Found.{AllFound, FoundIf, FindsSound, Further, Same
 -- ---- what is found
 
 module _ (finds : Desc (List ℕ) → Option (Object (List ℕ))) where
-  pub found_sound : (sc : Script) (ds : List (Desc (List ℕ))) (os : List rust.Object) → FindsSound finds sc → map finds ds ≡ map Some (map object_view os) → AnswersSound sc os
+  pub found_sound : (sc : Script) (ds : List (Desc (List ℕ))) (os : List rust.Object) → FindsSound finds sc → map finds ds
+      ≡ map Some (map object_view os) → AnswersSound sc os
   found_sound sc [] [] sound e = tt
   found_sound sc [] (o ∷ os) sound e = absurd cc
   found_sound sc (d ∷ ds) [] sound e = absurd cc
@@ -54,22 +56,28 @@ module _ (finds : Desc (List ℕ) → Option (Object (List ℕ))) where
   none_of (Some o) e = absurd cc
 
   -- one more is found
-  pub found_more : (d : Desc (List ℕ)) (ds : List (Desc (List ℕ))) (xs : List (Option (Object (List ℕ)))) (os : List rust.Object) (o : rust.Object) → finds d ≡ Some (object_view o) → xs ≡ map Some (map object_view os) ++ map finds (d ∷ ds) → xs ≡ map Some (map object_view (os ++ o ∷ [])) ++ map finds ds
+  pub found_more : (d : Desc (List ℕ)) (ds : List (Desc (List ℕ))) (xs : List (Option (Object (List ℕ)))) (os : List rust.Object)
+      (o : rust.Object) → finds d ≡ Some (object_view o) → xs ≡ map Some (map object_view os) ++ map finds (d ∷ ds) → xs
+      ≡ map Some (map object_view (os ++ o ∷ [])) ++ map finds ds
   found_more d ds xs os o e g =
       g
       ∙ ap (λ x. map Some (map object_view os) ++ x ∷ map finds ds) e
       ∙ sym (append_assoc (map Some (map object_view os)) (Some (object_view o) ∷ []) (map finds ds))
-      ∙ ap (λ ys. ys ++ map finds ds) (sym (ap (map Some) (map-append object_view os (o ∷ [])) ∙ map-append Some (map object_view os) (object_view o ∷ [])))
+      ∙ ap (λ ys. ys ++ map finds ds)
+      (sym (ap (map Some) (map-append object_view os (o ∷ [])) ∙ map-append Some (map object_view os) (object_view o ∷ [])))
 
 -- ---- what was made
 
 pub grew_none : (digest : List ℕ → List ℕ) (sc : Script) (xs : Spawned) → GrewSoundly digest sc xs xs
 grew_none digest sc xs = record { made = []; grew = sym (append-nil xs); sound = tt }
 
-pub grew_both : (digest : List ℕ → List ℕ) (sc : Script) (xs ys zs : Spawned) → GrewSoundly digest sc xs ys → GrewSoundly digest sc ys zs → GrewSoundly digest sc xs zs
+pub grew_both : (digest : List ℕ → List ℕ) (sc : Script) (xs ys zs : Spawned) → GrewSoundly digest sc xs ys → GrewSoundly digest sc ys zs
+    → GrewSoundly digest sc xs zs
 grew_both digest sc xs ys zs a b = record {
   made = a.made ++ b.made;
-  grew = b.grew ∙ ap (λ q. q ++ map (with_name digest) b.made) a.grew ∙ append_assoc xs (map (with_name digest) a.made) (map (with_name digest) b.made) ∙ ap (λ q. xs ++ q) (sym (map-append (with_name digest) a.made b.made));
+  grew = b.grew ∙ ap (λ q. q ++ map (with_name digest) b.made) a.grew
+      ∙ append_assoc xs (map (with_name digest) a.made) (map (with_name digest) b.made)
+      ∙ ap (λ q. xs ++ q) (sym (map-append (with_name digest) a.made b.made));
   sound = each_both (SoundDesc sc) a.made b.made a.sound b.sound;
 }
 
@@ -115,7 +123,8 @@ kind_both (Stand.show_at v w) (Stand.show_at u i) (Stand.run p) Step.Waits h g =
 kind_both (Stand.show_at v w) (Stand.show_at u i) (Stand.show_at x j) Step.Waits h g = tt
 kind_both (Stand.show_at v w) (Stand.show_at u i) new (Step.Shown a) h g = tt
 
-pub kind_of : (digest : List ℕ → List ℕ) (sc : Script) (os : List (Object (List ℕ))) (old new : Stand (List ℕ)) (s : Step) → Fits sc old → Exactly digest sc os old new s → SameKind old s new
+pub kind_of : (digest : List ℕ → List ℕ) (sc : Script) (os : List (Object (List ℕ))) (old new : Stand (List ℕ)) (s : Step) → Fits sc old
+    → Exactly digest sc os old new s → SameKind old s new
 kind_of digest sc os (Stand.run r) new (Step.Ended o) fits e = tt
 kind_of digest sc os (Stand.run r) new Step.Waits fits e =
     let rest = has_rest digest sc r os fits in

@@ -1,5 +1,6 @@
 -- The outputs of an executor's task are spawned together.
-use Rattle.std.proofs.Common.{◌≡◌, ◌≤◌, ◌<◌, ◌+◌, ◌++◌, ℕ, zero, suc, List, [], ◌∷◌, map, append_assoc, append-nil, refl, sym, ap, ◌∙◌, subst, arith, ◌⊎◌, inl, inr}
+use Rattle.std.proofs.Common.{◌≡◌, ◌≤◌, ◌<◌, ◌+◌, ◌++◌, ℕ, zero, suc, List, [], ◌∷◌, map, append_assoc, append-nil, refl, sym, ap, ◌∙◌, subst, arith}
+use Rattle.std.proofs.Common.{◌⊎◌, inl, inr}
 use Rattle.std.proofs.lemmas.List.{map-append}
 use Rattle.sky_base.specs.Val.{Desc, Val, call, out, input, known}
 use Rattle.sky_base.specs.Tree.{Script, nowhere}
@@ -84,12 +85,15 @@ batch_whole ds (inl (d, lone, is)) x a n i h k l = go (subst (In (out x a n i)) 
     go (inr j) = absurd j
 batch_whole ds (inr (y, b, m, is)) x a n i h k l =
     let same = outputs_are x y a b n m i 0 m (subst (In (out x a n i)) is h) in
-    subst (In (out x a n k)) (sym is) (subst (λ z. In (out z a n k) (outputs y b m 0 m)) (sym same.0) (subst (λ z. In (out y z n k) (outputs y b m 0 m)) (sym same.1) (subst (λ z. In (out y b z k) (outputs y b m 0 m)) (sym same.2) (outputs_have y b m 0 m k (omega arith) (omega (arith, same.2, l))))))
+    subst (In (out x a n k)) (sym is) (subst (λ z. In (out z a n k) (outputs y b m 0 m)) (sym same.0)
+    (subst (λ z. In (out y z n k) (outputs y b m 0 m)) (sym same.1)
+    (subst (λ z. In (out y b z k) (outputs y b m 0 m)) (sym same.2) (outputs_have y b m 0 m k (omega arith) (omega (arith, same.2, l))))))
 
 -- ---- what a run makes up to its first wait
 
 module _ (w : World (List ℕ)) where
-  segment_whole : (r : Res (List ℕ)) (b : ℕ) (xs : List (Desc (List ℕ))) → Climbs w b xs r → (rest : List (Desc (List ℕ))) × (segment r ≡ xs ++ rest) × HasAllOutputs rest
+  segment_whole : (r : Res (List ℕ)) (b : ℕ) (xs : List (Desc (List ℕ))) → Climbs w b xs r → (rest : List (Desc (List ℕ)))
+      × (segment r ≡ xs ++ rest) × HasAllOutputs rest
   segment_whole (Fin e st) b [] g = ([], refl, whole_nothing)
   segment_whole (Fin e st) b (x ∷ xs) g = absurd g
   segment_whole (Ask q fr st k) b [] g = ([], refl, whole_nothing)
@@ -107,15 +111,19 @@ module _ (w : World (List ℕ)) where
   late (End.returned v) st h = (omega arith, h)
   late (End.failed f) st h = tt
 
-rest_whole : (digest : List ℕ → List ℕ) (sc : Script) (stack : Run (List ℕ)) (os : List (Object (List ℕ))) (f : List ℕ) (r : Res (List ℕ)) → FitsRun sc stack → IsRest digest sc stack os f r → HasAllOutputs (segment r)
+rest_whole : (digest : List ℕ → List ℕ) (sc : Script) (stack : Run (List ℕ)) (os : List (Object (List ℕ))) (f : List ℕ) (r : Res (List ℕ))
+    → FitsRun sc stack → IsRest digest sc stack os f r → HasAllOutputs (segment r)
 rest_whole digest sc stack os f r fits (inl h) =
     let begun : Within (over_names digest sc) 0 start_st = (omega arith, omega arith) in
-    let all = segment_whole (over_names digest sc) (body_at (over_names digest sc) bodies f h.caught h.args nowhere start_st) 0 [] (climbs_call (over_names digest sc) bodies f h.caught h.args nowhere 0 start_st begun) in
+    let all = segment_whole (over_names digest sc) (body_at (over_names digest sc) bodies f h.caught h.args nowhere start_st) 0 []
+    (climbs_call (over_names digest sc) bodies f h.caught h.args nowhere 0 start_st begun) in
     subst (λ z. HasAllOutputs (segment z)) (sym h.is) (subst HasAllOutputs (sym all.1) all.2)
 rest_whole digest sc stack os f r fits (inr h) =
     let few : h.halt.st.count ≤ visits = subst (λ z. z ≤ visits) (sym h.left.count) fits.count in
     let e = wait_end (over_names digest sc) h.halt.wait os in
-    let all = segment_whole (over_names digest sc) r 0 [] (subst (λ z. Climbs (over_names digest sc) 0 [] z) (sym h.is) (plug_climbs (over_names digest sc) h.halt.forms others 0 e h.halt.st (late (over_names digest sc) e h.halt.st few))) in
+    let all = segment_whole (over_names digest sc) r 0 []
+    (subst (λ z. Climbs (over_names digest sc) 0 [] z) (sym h.is)
+    (plug_climbs (over_names digest sc) h.halt.forms others 0 e h.halt.st (late (over_names digest sc) e h.halt.st few))) in
     subst HasAllOutputs (sym all.1) all.2
 
 -- ---- what was spawned
@@ -126,11 +134,14 @@ grew_whole_none digest xs = record { made = []; grew = sym (append-nil xs); whol
 pub grew_whole_both : (digest : List ℕ → List ℕ) (xs ys zs : Spawned) → GrewWhole digest xs ys → GrewWhole digest ys zs → GrewWhole digest xs zs
 grew_whole_both digest xs ys zs a b = record {
   made = a.made ++ b.made;
-  grew = b.grew ∙ ap (λ q. q ++ map (with_name digest) b.made) a.grew ∙ append_assoc xs (map (with_name digest) a.made) (map (with_name digest) b.made) ∙ ap (λ q. xs ++ q) (sym (map-append (with_name digest) a.made b.made));
+  grew = b.grew ∙ ap (λ q. q ++ map (with_name digest) b.made) a.grew
+      ∙ append_assoc xs (map (with_name digest) a.made) (map (with_name digest) b.made)
+      ∙ ap (λ q. xs ++ q) (sym (map-append (with_name digest) a.made b.made));
   whole = whole_append a.made b.made a.whole b.whole;
 }
 
-pub grew_whole : (digest : List ℕ → List ℕ) (sc : Script) (os : List (Object (List ℕ))) (old : Stand (List ℕ)) (before after : Spawned) → Fits sc old → MakesExactly digest sc os old before after → GrewWhole digest before after
+pub grew_whole : (digest : List ℕ → List ℕ) (sc : Script) (os : List (Object (List ℕ))) (old : Stand (List ℕ)) (before after : Spawned)
+    → Fits sc old → MakesExactly digest sc os old before after → GrewWhole digest before after
 grew_whole digest sc os (Stand.run r) before after fits made =
     let rest = has_rest digest sc r os fits in
     record { made = segment rest.1; grew = made rest.0 rest.1 rest.2; whole = rest_whole digest sc r os rest.0 rest.1 fits rest.2 }

@@ -29,14 +29,18 @@ module _ (finds : Desc (List ℕ) → Option (Object (List ℕ))) where
     last : {old new : Stand (List ℕ)} {s : Step} {before after : Spawned} (os : List (Object (List ℕ)))
         → AreFound old os → Resumed digest sc old new os s before after → StopsAt s new → Through digest sc old new s before after
     more : {old mid new : Stand (List ℕ)} {s : Step} {before between after : Spawned} (os : List (Object (List ℕ)))
-        → AreFound old os → Resumed digest sc old mid os Step.Waits before between → Through digest sc mid new s between after → Through digest sc old new s before after
+        → AreFound old os → Resumed digest sc old mid os Step.Waits before between → Through digest sc mid new s between after
+        → Through digest sc old new s before after
 
   -- one of the states from which it goes on
-  abbrev pub PassedAt : (digest : List ℕ → List ℕ) (sc : Script) (old new : Stand (List ℕ)) (s : Step) (before after : Spawned) → Through digest sc old new s before after → Stand (List ℕ) → Type 0
+  abbrev pub PassedAt : (digest : List ℕ → List ℕ) (sc : Script) (old new : Stand (List ℕ)) (s : Step) (before after : Spawned)
+      → Through digest sc old new s before after → Stand (List ℕ) → Type 0
   PassedAt digest sc old new s before after (last os found r stop) q = q ≡ old
   PassedAt digest sc old new s before after (more os found r rest) q = (q ≡ old) ⊎ PassedAt digest sc _ new s _ after rest q
 
   -- it goes through so, and for nothing more is asked than what is waited for at the states from which it goes on
-  pub record GoesAsking (digest : List ℕ → List ℕ) (sc : Script) (asked after_asked : List ℕ → Type 0) (old new : Stand (List ℕ)) (s : Step) (before after : Spawned) : Type 0 where
+  pub record GoesAsking (digest : List ℕ → List ℕ) (sc : Script) (asked after_asked : List ℕ → Type 0) (old new : Stand (List ℕ)) (s : Step)
+      (before after : Spawned) : Type 0 where
     pub through : Through digest sc old new s before after
-    pub asks : (n : List ℕ) → after_asked n → asked n ⊎ ((q : Stand (List ℕ)) × PassedAt digest sc old new s before after through q × In (known n) (pending_in same_text q))
+    pub asks : (n : List ℕ) → after_asked n → asked n
+        ⊎ ((q : Stand (List ℕ)) × PassedAt digest sc old new s before after through q × In (known n) (pending_in same_text q))

@@ -29,7 +29,8 @@ module _ (digest : List ℕ → List ℕ) (finds : v.Desc (List ℕ) → Option 
   -- no two of these descriptions have one name, and what is found by a name of theirs is what the description is seen as
   pub record Truly (ds : List Desc) : Type 0 where
     pub apart : NoClash (digested digest) ds
-    pub seen : (d : Desc) (o : Object (List ℕ)) → In d ds → finds (low_ref no_name (digested digest) d) ≡ Some o → SeenAs (digested digest) job around d o
+    pub seen : (d : Desc) (o : Object (List ℕ)) → In d ds → finds (low_ref no_name (digested digest) d) ≡ Some o
+        → SeenAs (digested digest) job around d o
 
   -- so it is at each wait of the task from j on
   abbrev pub TrulyFrom : Task → ℕ → Type 0
@@ -53,7 +54,8 @@ module _ (digest : List ℕ → List ℕ) (finds : v.Desc (List ℕ) → Option 
       × ((ds : List Desc) × MadeAfter job around t j ds × GrewBy ds before after)
 
 -- whatever task of whatever job with this script the old state stands for at a wait, where from that wait on what is found is true
-abbrev pub GoesThrough : (digest : List ℕ → List ℕ) (sc : Script) (finds : v.Desc (List ℕ) → Option (Object (List ℕ))) (old new : Stand (List ℕ)) (s : Step) (before after : Spawned) → Type 0
+abbrev pub GoesThrough : (digest : List ℕ → List ℕ) (sc : Script) (finds : v.Desc (List ℕ) → Option (Object (List ℕ))) (old new : Stand (List ℕ))
+    (s : Step) (before after : Spawned) → Type 0
 GoesThrough digest sc finds old new s before after =
     (job : Job) (around : Around) (t : Task) (j : ℕ)
     → job.script ≡ sc → ReadsAlike (digested digest) around data_of → WritesAlike (digested digest) around
@@ -63,5 +65,6 @@ GoesThrough digest sc finds old new s before after =
 -- the law: going through is going on so
 abbrev pub ThroughGoesOn : Type 0
 ThroughGoesOn =
-    (digest : List ℕ → List ℕ) (sc : Script) (finds : v.Desc (List ℕ) → Option (Object (List ℕ))) (old new : Stand (List ℕ)) (s : Step) (before after : Spawned)
+    (digest : List ℕ → List ℕ) (sc : Script) (finds : v.Desc (List ℕ) → Option (Object (List ℕ))) (old new : Stand (List ℕ)) (s : Step)
+    (before after : Spawned)
     → Through finds digest sc old new s before after → GoesThrough digest sc finds old new s before after

@@ -44,14 +44,17 @@ pub fn run_through<'a, 'b, F: Finds, N: Namer>(
     requires sound { FindsSound (F.finds finder.old) script.now.code }
     requires found { HasAll (F.finds finder.old) (stand_of state.old) }
     requires finder { F.ready finder.old }
-    ensures through { IfOk result (λ r. IfOk r (λ s. GoesAsking (F.finds finder.old) (N.digest namer.now) script.now.code (F.asked finder.old) (F.asked finder.new) (stand_of state.old) (stand_of state.new) s (spawned_of state.old) (spawned_of state.new))) }
-    ensures goes { IfOk result (λ r. IfOk r (λ s. GoesThrough (N.digest namer.now) script.now.code (F.finds finder.old) (stand_of state.old) (stand_of state.new) s (spawned_of state.old) (spawned_of state.new))) }
+    ensures through { IfOk result (λ r. IfOk r (λ s. GoesAsking (F.finds finder.old) (N.digest namer.now) script.now.code (F.asked finder.old)
+        (F.asked finder.new) (stand_of state.old) (stand_of state.new) s (spawned_of state.old) (spawned_of state.new))) }
+    ensures goes { IfOk result (λ r. IfOk r (λ s. GoesThrough (N.digest namer.now) script.now.code (F.finds finder.old) (stand_of state.old)
+        (stand_of state.new) s (spawned_of state.old) (spawned_of state.new))) }
     ensures fits { IfOk result (λ r. IfOk r (λ s. FitsAfter script.now.code (stand_of state.new) s)) }
     ensures kind { IfOk result (λ r. IfOk r (λ s. SameKind (stand_of state.old) s (stand_of state.new))) }
     ensures further { IfOk result (λ r. IfOk r (λ s. Further (stand_of state.old) s (stand_of state.new))) }
     ensures made { IfOk result (λ r. IfOk r (λ s. GrewSoundly (N.digest namer.now) script.now.code (spawned_of state.old) (spawned_of state.new))) }
     ensures whole { IfOk result (λ r. IfOk r (λ s. GrewWhole (N.digest namer.now) (spawned_of state.old) (spawned_of state.new))) }
-    ensures known { IfOk result (λ r. IfOk r (λ s. KnowsNames (N.digest namer.now) (CameFrom (F.finds finder.old) (stand_of state.old)) s (stand_of state.new) (spawned_of state.old) (spawned_of state.new))) }
+    ensures known { IfOk result (λ r. IfOk r (λ s. KnowsNames (N.digest namer.now) (CameFrom (F.finds finder.old) (stand_of state.old)) s
+        (stand_of state.new) (spawned_of state.old) (spawned_of state.new))) }
     ensures finder { F.finds finder.new ≡ F.finds finder.old }
     ensures ready { IfOk result (λ _. F.ready finder.new) }
     ensures stays { F.stays finder.new ≡ F.stays finder.old }
@@ -75,13 +78,15 @@ fn loop_through<'a, 'b, F: Finds, N: Namer>(
     requires sound { FindsSound (F.finds finder.old) script.now.code }
     requires found { HasAll (F.finds finder.old) (stand_of state.old) }
     requires finder { F.ready finder.old }
-    ensures through { IfOk result (λ r. IfOk r (λ s. GoesAsking (F.finds finder.old) (N.digest namer.now) script.now.code (F.asked finder.old) (F.asked finder.new) (stand_of state.old) (stand_of state.new) s (spawned_of state.old) (spawned_of state.new))) }
+    ensures through { IfOk result (λ r. IfOk r (λ s. GoesAsking (F.finds finder.old) (N.digest namer.now) script.now.code (F.asked finder.old)
+        (F.asked finder.new) (stand_of state.old) (stand_of state.new) s (spawned_of state.old) (spawned_of state.new))) }
     ensures fits { IfOk result (λ r. IfOk r (λ s. FitsAfter script.now.code (stand_of state.new) s)) }
     ensures kind { IfOk result (λ r. IfOk r (λ s. SameKind (stand_of state.old) s (stand_of state.new))) }
     ensures further { IfOk result (λ r. IfOk r (λ s. Further (stand_of state.old) s (stand_of state.new))) }
     ensures made { IfOk result (λ r. IfOk r (λ s. GrewSoundly (N.digest namer.now) script.now.code (spawned_of state.old) (spawned_of state.new))) }
     ensures whole { IfOk result (λ r. IfOk r (λ s. GrewWhole (N.digest namer.now) (spawned_of state.old) (spawned_of state.new))) }
-    ensures known { IfOk result (λ r. IfOk r (λ s. KnowsNames (N.digest namer.now) (CameFrom (F.finds finder.old) (stand_of state.old)) s (stand_of state.new) (spawned_of state.old) (spawned_of state.new))) }
+    ensures known { IfOk result (λ r. IfOk r (λ s. KnowsNames (N.digest namer.now) (CameFrom (F.finds finder.old) (stand_of state.old)) s
+        (stand_of state.new) (spawned_of state.old) (spawned_of state.new))) }
     ensures finder { F.finds finder.new ≡ F.finds finder.old }
     ensures ready { IfOk result (λ _. F.ready finder.new) }
     ensures stays { F.stays finder.new ≡ F.stays finder.old }
@@ -110,11 +115,14 @@ fn turn<'a, 'b, F: Finds, N: Namer>(
     requires sound { FindsSound (F.finds finder.old) script.now.code }
     requires found { HasAll (F.finds finder.old) (stand_of state.old) }
     requires finder { F.ready finder.old }
-    ensures turns { IfOk result (λ r. IfOk r (λ o. Turns (F.finds finder.old) (N.digest namer.now) script.now.code o (stand_of state.old) (stand_of state.new) (spawned_of state.old) (spawned_of state.new))) }
-    ensures fits { IfOk result (λ r. IfOk r (λ o. MatchOption o (Fits script.now.code (stand_of state.new)) (FitsAfter script.now.code (stand_of state.new)))) }
+    ensures turns { IfOk result (λ r. IfOk r (λ o. Turns (F.finds finder.old) (N.digest namer.now) script.now.code o (stand_of state.old)
+        (stand_of state.new) (spawned_of state.old) (spawned_of state.new))) }
+    ensures fits { IfOk result (λ r. IfOk r (λ o. MatchOption o (Fits script.now.code (stand_of state.new))
+        (FitsAfter script.now.code (stand_of state.new)))) }
     ensures kind { IfOk result (λ r. IfOk r (λ o. SameKind (stand_of state.old) (step_or o) (stand_of state.new))) }
     ensures further { IfOk result (λ r. IfOk r (λ o. Further (stand_of state.old) (step_or o) (stand_of state.new))) }
-    ensures falls { IfOk result (λ r. IfOk r (λ o. MatchOption o (gone_of (stand_of state.new) ≡ suc (gone_of (stand_of state.old))) (λ s. Unit {0}))) }
+    ensures falls { IfOk result (λ r. IfOk r (λ o. MatchOption o (gone_of (stand_of state.new) ≡ suc (gone_of (stand_of state.old)))
+        (λ s. Unit {0}))) }
     ensures asked { IfOk result (λ r. IfOk r (λ o. AsksFor (F.asked finder.old) (F.asked finder.new) (pending_in same_text (stand_of state.old)))) }
     ensures whole { IfOk result (λ r. IfOk r (λ o. GrewWhole (N.digest namer.now) (spawned_of state.old) (spawned_of state.new))) }
     ensures made { IfOk result (λ r. IfOk r (λ o. GrewSoundly (N.digest namer.now) script.now.code (spawned_of state.old) (spawned_of state.new))) }

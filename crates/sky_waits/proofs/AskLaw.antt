@@ -1,11 +1,22 @@
 -- At each wait of a run its innermost form waits for what the run waits for.
-use Rattle.std.proofs.Common.{◌≡◌, ℕ, zero, suc, ◌+◌, Bool, true, false, List, [], ◌∷◌, ◌++◌, map, length, reverse, Option, Some, None, Ok, Err, nat_lt, nat_eq, ◌&&◌, pos, negsuc, slice_get, refl, sym, ap, ◌∙◌, subst, arith}
+use Rattle.std.proofs.Common.{◌≡◌, ℕ, zero, suc, ◌+◌, Bool, true, false, List, [], ◌∷◌, ◌++◌, map, length, reverse, Option, Some, None, Ok, Err}
+use Rattle.std.proofs.Common.{nat_lt, nat_eq, ◌&&◌, pos, negsuc, slice_get, refl, sym, ap, ◌∙◌, subst, arith}
 use Rattle.sky_base.specs.Val.{Val, Vals, Pairs, Desc, null, truth, num, text, list, dict, fun, ref, no_vals, val, no_pairs, count, vals_of, refs_to}
 use Rattle.sky_base.specs.Op.{Answer, index, find, negated, opposite, len, keys, has, range, limited, set_at, grown, dict_from}
-use Rattle.sky_base.specs.Tree.{Place, nowhere, Junction, Sign, SignAt, Form, Exp, Exps, Links, Ands, Steps, Stm, Stms, Arms, Else, FunDef, nodes, exps_nodes, stm_nodes, block_nodes, arms_nodes}
-use Rattle.sky_base.specs.Res.{visits, Object, End, St, Entry, parens_in, part_at, chain_first, chain_more, logic_at, prefix_part, star_wait, postfix_first, index_at, arg_at, call_open, exec_wait, set_part, add_part, put_index, put_value, return_part, just_part, arm_test, while_test, while_body, repeat_body, repeat_test, for_list, for_body, block_at, node_of, Wait, one_of, all_of, Res, Fin, Tell, Ask, then_do, on_got, on_goes, with_vars, on_body, gives, counted, visited, visit, answer, tell_all}
-use Rattle.sky_base.specs.Eval.{World, find_fun, is_one_of, Body, body_of, bind, set_var, lit_val, named, closed, oper, outputs, truth_of, decide, joins, add_to, put_in, turns, repeats, each, each_of, with_one, with_two, with_three, ask, wait_end, spawn_if, spawn_fun, spawn_list, spawned, outputs_if, outputs_count, outputs_of, exec_ask, input_if, input_of, formed, deref, signed, signs, call_if, call_fun, called, enter, eval, eval_parts, eval_links, eval_ands, eval_steps, eval_args, eval_stm, eval_stms, eval_arms, eval_else, in_body, body_at}
-use Rattle.sky_law.specs.Opened.{Node, exp_node, times, next_sign, HasExp, HasExps, HasLinks, HasAnds, HasSteps, HasStm, HasStms, HasArms, HasElse, HasScript}
+use Rattle.sky_base.specs.Tree.{Place, nowhere, Junction, Sign, SignAt, Form, Exp, Exps, Links, Ands, Steps, Stm, Stms, Arms, Else, FunDef, nodes}
+use Rattle.sky_base.specs.Tree.{exps_nodes, stm_nodes, block_nodes, arms_nodes}
+use Rattle.sky_base.specs.Res.{visits, Object, End, St, Entry, parens_in, part_at, chain_first, chain_more, logic_at, prefix_part, star_wait}
+use Rattle.sky_base.specs.Res.{postfix_first, index_at, arg_at, call_open, exec_wait, set_part, add_part, put_index, put_value, return_part}
+use Rattle.sky_base.specs.Res.{just_part, arm_test, while_test, while_body, repeat_body, repeat_test, for_list, for_body, block_at, node_of, Wait}
+use Rattle.sky_base.specs.Res.{one_of, all_of, Res, Fin, Tell, Ask, then_do, on_got, on_goes, with_vars, on_body, gives, counted, visited, visit}
+use Rattle.sky_base.specs.Res.{answer, tell_all}
+use Rattle.sky_base.specs.Eval.{World, find_fun, is_one_of, Body, body_of, bind, set_var, lit_val, named, closed, oper, outputs, truth_of, decide}
+use Rattle.sky_base.specs.Eval.{joins, add_to, put_in, turns, repeats, each, each_of, with_one, with_two, with_three, ask, wait_end, spawn_if}
+use Rattle.sky_base.specs.Eval.{spawn_fun, spawn_list, spawned, outputs_if, outputs_count, outputs_of, exec_ask, input_if, input_of, formed, deref}
+use Rattle.sky_base.specs.Eval.{signed, signs, call_if, call_fun, called, enter, eval, eval_parts, eval_links, eval_ands, eval_steps, eval_args}
+use Rattle.sky_base.specs.Eval.{eval_stm, eval_stms, eval_arms, eval_else, in_body, body_at}
+use Rattle.sky_law.specs.Opened.{Node, exp_node, times, next_sign, HasExp, HasExps, HasLinks, HasAnds, HasSteps, HasStm, HasStms, HasArms, HasElse}
+use Rattle.sky_law.specs.Opened.{HasScript}
 use Rattle.sky_law.proofs.BodiesLaw.{HasBody, has_body}
 use Rattle.sky_waits.specs.Waits.{signs_of, sign_at, star_at, waits_for, wait_at}
 
@@ -57,7 +68,8 @@ module _ {N : Type 0} (w : World N) (at : ℕ → Option Node) where
   got_each k h (End.returned v) st = tt
   got_each k h (End.failed f) st = tt
 
-  asks_got : (r : Res N) (en : Entry N) (k : Val N → St N → Res N) → Asks r → ((v : Val N) (st : St N) → Asks (k v st)) → Asks (then_do r en (on_got k))
+  asks_got : (r : Res N) (en : Entry N) (k : Val N → St N → Res N) → Asks r → ((v : Val N) (st : St N) → Asks (k v st))
+      → Asks (then_do r en (on_got k))
   asks_got r en k g h = asks_then r en (on_got k) g (got_each k h)
 
   asks_goes : (r : Res N) (en : Entry N) (k : St N → Res N) → Asks r → ((st : St N) → Asks (k st)) → Asks (then_do r en (on_goes k))
@@ -70,10 +82,12 @@ module _ {N : Type 0} (w : World N) (at : ℕ → Option Node) where
       each (End.failed f) st = tt
 
   -- the form that waits
-  asks_ask : (q : Wait N) (en : Entry N) (st : St N) (k : Val N → St N → Res N) → waits_for (at (node_of en)) en ≡ Some q → ((v : Val N) (s : St N) → Asks (k v s)) → Asks (then_do (ask w q st) en (on_got k))
+  asks_ask : (q : Wait N) (en : Entry N) (st : St N) (k : Val N → St N → Res N) → waits_for (at (node_of en)) en ≡ Some q
+      → ((v : Val N) (s : St N) → Asks (k v s)) → Asks (then_do (ask w q st) en (on_got k))
   asks_ask q en st k is h = (is, λ os. got_each k h (wait_end w q os) st)
 
-  asks_body : (xs : Pairs N) (k : Val N → St N → Res N) → ((v : Val N) (st : St N) → Asks (k v st)) → (e : End N) (st : St N) → Asks (on_body xs k e st)
+  asks_body : (xs : Pairs N) (k : Val N → St N → Res N) → ((v : Val N) (st : St N) → Asks (k v st)) → (e : End N) (st : St N)
+      → Asks (on_body xs k e st)
   asks_body xs k h End.goes st = h null (with_vars xs st)
   asks_body xs k h (End.got v) st = h v (with_vars xs st)
   asks_body xs k h (End.returned v) st = h v (with_vars xs st)
@@ -198,7 +212,8 @@ module _ {N : Type 0} (w : World N) (at : ℕ → Option Node) where
   asks_two (x ∷ y ∷ []) p st k g = g x y
   asks_two (x ∷ y ∷ z ∷ vs) p st k g = tt
 
-  asks_three : (vs : List (Val N)) (p : Place) (st : St N) (k : Val N → Val N → Val N → Res N) → ((x y z : Val N) → Asks (k x y z)) → Asks (with_three vs p st k)
+  asks_three : (vs : List (Val N)) (p : Place) (st : St N) (k : Val N → Val N → Val N → Res N) → ((x y z : Val N) → Asks (k x y z))
+      → Asks (with_three vs p st k)
   asks_three [] p st k g = tt
   asks_three (x ∷ []) p st k g = tt
   asks_three (x ∷ y ∷ []) p st k g = tt
@@ -226,11 +241,15 @@ module _ {N : Type 0} (w : World N) (at : ℕ → Option Node) where
   -- ---- signs
 
   -- a `*` waits at its own place
-  at_its_sign : (n k i : ℕ) (d : Desc N) (o : SignAt) (ss all : List SignAt) (f : Exp) → at n ≡ Some (exp_node (Exp.prefix all f)) → times next_sign i (reverse all) ≡ o ∷ ss → k ≡ suc (suc i) → waits_for (at n) (star_wait n k d ss) ≡ Some (one_of o.place d)
+  at_its_sign : (n k i : ℕ) (d : Desc N) (o : SignAt) (ss all : List SignAt) (f : Exp) → at n ≡ Some (exp_node (Exp.prefix all f))
+      → times next_sign i (reverse all) ≡ o ∷ ss → k ≡ suc (suc i) → waits_for (at n) (star_wait n k d ss) ≡ Some (one_of o.place d)
   at_its_sign n k i d o ss all f here rest is =
-      ap (λ t. star_at (sign_at (signs_of t) k) d) here ∙ ap (λ x. star_at (sign_at all x) d) is ∙ ap (λ s. star_at s d) (numbered i (reverse all) ss o rest)
+      ap (λ t. star_at (sign_at (signs_of t) k) d) here ∙ ap (λ x. star_at (sign_at all x) d) is
+      ∙ ap (λ s. star_at s d) (numbered i (reverse all) ss o rest)
 
-  asks_deref : (v : Val N) (n k i : ℕ) (o : SignAt) (ss all : List SignAt) (f : Exp) (st : St N) (go : Val N → St N → Res N) → at n ≡ Some (exp_node (Exp.prefix all f)) → times next_sign i (reverse all) ≡ o ∷ ss → k ≡ suc (suc i) → ((u : Val N) (t : St N) → Asks (go u t)) → Asks (deref w v n k ss o.place st go)
+  asks_deref : (v : Val N) (n k i : ℕ) (o : SignAt) (ss all : List SignAt) (f : Exp) (st : St N) (go : Val N → St N → Res N) → at n
+      ≡ Some (exp_node (Exp.prefix all f)) → times next_sign i (reverse all) ≡ o ∷ ss → k ≡ suc (suc i)
+      → ((u : Val N) (t : St N) → Asks (go u t)) → Asks (deref w v n k ss o.place st go)
   asks_deref (ref d) n k i o ss all f st go here rest is g =
       asks_ask (one_of o.place d) (star_wait n k d ss) st go (at_its_sign n k i d o ss all f here rest is) g
   asks_deref null n k i o ss all f st go here rest is g = tt
@@ -241,15 +260,20 @@ module _ {N : Type 0} (w : World N) (at : ℕ → Option Node) where
   asks_deref (dict ps) n k i o ss all f st go here rest is g = tt
   asks_deref (fun h c) n k i o ss all f st go here rest is g = tt
 
-  asks_signed : (s : Sign) (v : Val N) (n k i : ℕ) (o : SignAt) (ss all : List SignAt) (f : Exp) (st : St N) (go : Val N → St N → Res N) → at n ≡ Some (exp_node (Exp.prefix all f)) → times next_sign i (reverse all) ≡ o ∷ ss → k ≡ suc (suc i) → ((u : Val N) (t : St N) → Asks (go u t)) → Asks (signed w s v n k ss o.place st go)
+  asks_signed : (s : Sign) (v : Val N) (n k i : ℕ) (o : SignAt) (ss all : List SignAt) (f : Exp) (st : St N) (go : Val N → St N → Res N) → at n
+      ≡ Some (exp_node (Exp.prefix all f)) → times next_sign i (reverse all) ≡ o ∷ ss → k ≡ suc (suc i)
+      → ((u : Val N) (t : St N) → Asks (go u t)) → Asks (signed w s v n k ss o.place st go)
   asks_signed Sign.not v n k i o ss all f st go here rest is g = asks_answer (opposite v) o.place st go (λ u. g u st)
   asks_signed Sign.minus v n k i o ss all f st go here rest is g = asks_answer (negated v) o.place st go (λ u. g u st)
   asks_signed Sign.star v n k i o ss all f st go here rest is g = asks_deref v n k i o ss all f st go here rest is g
 
-  asks_signs : (ss : List SignAt) (n k i : ℕ) (v : Val N) (all : List SignAt) (f : Exp) (st : St N) → at n ≡ Some (exp_node (Exp.prefix all f)) → times next_sign i (reverse all) ≡ ss → k ≡ suc (suc i) → Asks (signs w ss n k v st)
+  asks_signs : (ss : List SignAt) (n k i : ℕ) (v : Val N) (all : List SignAt) (f : Exp) (st : St N) → at n ≡ Some (exp_node (Exp.prefix all f))
+      → times next_sign i (reverse all) ≡ ss → k ≡ suc (suc i) → Asks (signs w ss n k v st)
   asks_signs [] n k i v all f st here rest is = tt
   asks_signs (o ∷ ss) n k i v all f st here rest is =
-      asks_visit o.place st (λ s. signed w o.sign v n k ss o.place s (λ u t. signs w ss n (k + 1) u t)) (λ s. asks_signed o.sign v n k i o ss all f s _ here rest is (λ u t. asks_signs ss n (k + 1) (suc i) u all f t here (ap next_sign rest) (up_two k i is)))
+      asks_visit o.place st (λ s. signed w o.sign v n k ss o.place s (λ u t. signs w ss n (k + 1) u t))
+      (λ s. asks_signed o.sign v n k i o ss all f s _ here rest is
+      (λ u t. asks_signs ss n (k + 1) (suc i) u all f t here (ap next_sign rest) (up_two k i is)))
 
   -- ---- calls
 
@@ -261,7 +285,8 @@ module _ {N : Type 0} (w : World N) (at : ℕ → Option Node) where
   asks_call_fun None vs p st r g = tt
   asks_call_fun (Some x) vs p st r g = asks_call_if (nat_eq (length x.params) (count vs)) p st r g
 
-  asks_called : (v : Val N) (vs : Vals N) (p : Place) (st : St N) (k : List ℕ → Pairs N → Res N) → ((f : List ℕ) (c : Pairs N) → Asks (k f c)) → Asks (called w v vs p st k)
+  asks_called : (v : Val N) (vs : Vals N) (p : Place) (st : St N) (k : List ℕ → Pairs N → Res N) → ((f : List ℕ) (c : Pairs N) → Asks (k f c))
+      → Asks (called w v vs p st k)
   asks_called (fun f c) vs p st k g = asks_call_fun (find_fun f w.script.funs) vs p st (k f c) (g f c)
   asks_called null vs p st k g = tt
   asks_called (truth y) vs p st k g = tt
@@ -271,50 +296,68 @@ module _ {N : Type 0} (w : World N) (at : ℕ → Option Node) where
   asks_called (dict ps) vs p st k g = tt
   asks_called (ref e) vs p st k g = tt
 
-  module _ (body : List ℕ → Pairs N → Vals N → Place → St N → Res N) (bodies_ask : (f : List ℕ) (c : Pairs N) (vs : Vals N) (p : Place) (st : St N) → Asks (body f c vs p st)) where
+  module _ (body : List ℕ → Pairs N → Vals N → Place → St N → Res N)
+      (bodies_ask : (f : List ℕ) (c : Pairs N) (vs : Vals N) (p : Place) (st : St N) → Asks (body f c vs p st)) where
     mutual
       asks_eval : (e : Exp) (n : ℕ) (st : St N) → HasExp at e n → Asks (eval w body e n st)
       asks_eval (Exp.literal v p) n st h = asks_visit p st _ (λ s. asks_answer (limited (lit_val v)) p s gives (λ x. tt))
-      asks_eval (Exp.name x p) n st h = asks_visit p st (λ s. answer (named (find x s.vars) x w.script.funs) p s gives) (λ s. asks_answer (named (find x s.vars) x w.script.funs) p s gives (λ y. tt))
-      asks_eval (Exp.func x p) n st h = asks_visit p st (λ s. answer (closed (find_fun x w.script.funs) x s.vars) p s gives) (λ s. asks_answer (closed (find_fun x w.script.funs) x s.vars) p s gives (λ y. tt))
+      asks_eval (Exp.name x p) n st h = asks_visit p st (λ s. answer (named (find x s.vars) x w.script.funs) p s gives)
+          (λ s. asks_answer (named (find x s.vars) x w.script.funs) p s gives (λ y. tt))
+      asks_eval (Exp.func x p) n st h = asks_visit p st (λ s. answer (closed (find_fun x w.script.funs) x s.vars) p s gives)
+          (λ s. asks_answer (closed (find_fun x w.script.funs) x s.vars) p s gives (λ y. tt))
       asks_eval (Exp.parens e) n st h = asks_got (eval w body e (n + 1) st) (parens_in n) gives (asks_eval e (n + 1) st h.1) (λ v s. tt)
       asks_eval (Exp.parts o p es) n st h = asks_parts es n 1 (n + 1) o p [] st h.1
       asks_eval (Exp.chain e ls) n st h =
           asks_got _ (chain_first n (n + 1 + nodes e) ls) _ (asks_eval e (n + 1) st h.1) (λ v s. asks_links ls n 2 (n + 1 + nodes e) v s h.2)
       asks_eval (Exp.logic j e ls) n st h =
-          asks_got _ (logic_at n 1 (n + 1 + nodes e) j nowhere ls) _ (asks_eval e (n + 1) st h.1) (λ v s. asks_ands ls n 2 (n + 1 + nodes e) j nowhere v s h.2)
+          asks_got _ (logic_at n 1 (n + 1 + nodes e) j nowhere ls) _ (asks_eval e (n + 1) st h.1)
+          (λ v s. asks_ands ls n 2 (n + 1 + nodes e) j nowhere v s h.2)
       asks_eval (Exp.prefix ss e) n st h =
           asks_got _ (prefix_part n (reverse ss)) _ (asks_eval e (n + 1) st h.1) (λ v s. asks_signs (reverse ss) n 2 0 v ss e s h.0 refl refl)
       asks_eval (Exp.postfix e ss) n st h =
           asks_got _ (postfix_first n (n + 1 + nodes e) ss) _ (asks_eval e (n + 1) st h.1) (λ v s. asks_steps ss n 2 (n + 1 + nodes e) v s h.2)
 
-      asks_parts : (es : Exps) (n k m : ℕ) (o : Form) (p : Place) (vs : List (Val N)) (st : St N) → HasExps at es m → Asks (eval_parts w body es n k m o p vs st)
+      asks_parts : (es : Exps) (n k m : ℕ) (o : Form) (p : Place) (vs : List (Val N)) (st : St N) → HasExps at es m
+          → Asks (eval_parts w body es n k m o p vs st)
       asks_parts Exps.no_exps n k m o p vs st h = asks_visit p st (λ s. formed w o vs n p s) (λ s. asks_formed o vs n p s)
       asks_parts (Exps.exp e es) n k m o p vs st h =
-          asks_got _ (part_at n k (m + nodes e) o p vs es) _ (asks_eval e m st h.0) (λ v s. asks_parts es n (k + 1) (m + nodes e) o p (vs ++ v ∷ []) s h.1)
+          asks_got _ (part_at n k (m + nodes e) o p vs es) _ (asks_eval e m st h.0)
+          (λ v s. asks_parts es n (k + 1) (m + nodes e) o p (vs ++ v ∷ []) s h.1)
 
       asks_links : (ls : Links) (n k m : ℕ) (v : Val N) (st : St N) → HasLinks at ls m → Asks (eval_links w body ls n k m v st)
       asks_links Links.no_links n k m v st h = tt
       asks_links (Links.link o p e ls) n k m v st h =
-          asks_got _ (chain_more n k (m + nodes e) o p v ls) _ (asks_eval e m st h.0) (λ x s. asks_visit p s _ (λ t. asks_answer (oper o v x) p t _ (λ y. asks_links ls n (k + 1) (m + nodes e) y t h.1)))
+          asks_got _ (chain_more n k (m + nodes e) o p v ls) _ (asks_eval e m st h.0)
+          (λ x s. asks_visit p s _ (λ t. asks_answer (oper o v x) p t _ (λ y. asks_links ls n (k + 1) (m + nodes e) y t h.1)))
 
-      asks_ands : (ls : Ands) (n k m : ℕ) (j : Junction) (q : Place) (v : Val N) (st : St N) → HasAnds at ls m → Asks (eval_ands w body ls n k m j q v st)
+      asks_ands : (ls : Ands) (n k m : ℕ) (j : Junction) (q : Place) (v : Val N) (st : St N) → HasAnds at ls m
+          → Asks (eval_ands w body ls n k m j q v st)
       asks_ands Ands.no_ands n k m j q v st h = asks_answer (truth_of v) q st gives (λ x. tt)
       asks_ands (Ands.and p e ls) n k m j q v st h =
-          asks_visit p st _ (λ s. asks_joins j v p s _ (asks_got _ (logic_at n k (m + nodes e) j p ls) _ (asks_eval e m s h.0) (λ x u. asks_ands ls n (k + 1) (m + nodes e) j p x u h.1)))
+          asks_visit p st _ (λ s. asks_joins j v p s _
+          (asks_got _ (logic_at n k (m + nodes e) j p ls) _ (asks_eval e m s h.0) (λ x u. asks_ands ls n (k + 1) (m + nodes e) j p x u h.1)))
 
       asks_steps : (ss : Steps) (n k m : ℕ) (v : Val N) (st : St N) → HasSteps at ss m → Asks (eval_steps w body ss n k m v st)
       asks_steps Steps.no_steps n k m v st h = tt
       asks_steps (Steps.index e p ss) n k m v st h =
-          asks_got _ (index_at n k (m + nodes e) p v ss) _ (asks_eval e m st h.0) (λ x s. asks_visit p s _ (λ t. asks_answer (index v x) p t _ (λ y. asks_steps ss n (k + 1) (m + nodes e) y t h.1)))
+          asks_got _ (index_at n k (m + nodes e) p v ss) _ (asks_eval e m st h.0)
+          (λ x s. asks_visit p s _ (λ t. asks_answer (index v x) p t _ (λ y. asks_steps ss n (k + 1) (m + nodes e) y t h.1)))
       asks_steps (Steps.call es p ss) n k m v st h =
-          asks_args es n k m p v [] ss st h.0 (m + exps_nodes es) refl (λ l i y u is_next. asks_steps ss n l i y u (subst (HasSteps at ss) (sym is_next) h.1))
+          asks_args es n k m p v [] ss st h.0 (m + exps_nodes es) refl
+          (λ l i y u is_next. asks_steps ss n l i y u (subst (HasSteps at ss) (sym is_next) h.1))
 
-      asks_args : (es : Exps) (n k m : ℕ) (p : Place) (g : Val N) (vs : List (Val N)) (ss : Steps) (st : St N) → HasExps at es m → (end : ℕ) → m + exps_nodes es ≡ end → ((l i : ℕ) (y : Val N) (u : St N) → i ≡ end → Asks (eval_steps w body ss n l i y u)) → Asks (eval_args w body es n k m p g vs ss (λ l i f c us s. enter w body f c us p n l i ss s (λ y u. eval_steps w body ss n (l + 1) i y u)) st)
+      asks_args : (es : Exps) (n k m : ℕ) (p : Place) (g : Val N) (vs : List (Val N)) (ss : Steps) (st : St N) → HasExps at es m → (end : ℕ)
+          → m + exps_nodes es ≡ end → ((l i : ℕ) (y : Val N) (u : St N) → i ≡ end → Asks (eval_steps w body ss n l i y u))
+          → Asks (eval_args w body es n k m p g vs ss
+          (λ l i f c us s. enter w body f c us p n l i ss s (λ y u. eval_steps w body ss n (l + 1) i y u)) st)
       asks_args Exps.no_exps n k m p g vs ss st h end reach steps =
-          asks_visit p st _ (λ s. asks_called g (vals_of vs) p s _ (λ x c. asks_then (body x c (vals_of vs) p s) (call_open n k m x s.vars ss) (on_body s.vars (λ y u. eval_steps w body ss n (k + 1) m y u)) (bodies_ask x c (vals_of vs) p s) (asks_body s.vars _ (λ y u. steps (k + 1) m y u (omega (arith, reach))))))
+          asks_visit p st _ (λ s. asks_called g (vals_of vs) p s _
+          (λ x c. asks_then (body x c (vals_of vs) p s) (call_open n k m x s.vars ss)
+          (on_body s.vars (λ y u. eval_steps w body ss n (k + 1) m y u)) (bodies_ask x c (vals_of vs) p s)
+          (asks_body s.vars _ (λ y u. steps (k + 1) m y u (omega (arith, reach))))))
       asks_args (Exps.exp e es) n k m p g vs ss st h end reach steps =
-          asks_got _ (arg_at n k (m + nodes e) p g vs es ss) _ (asks_eval e m st h.0) (λ v s. asks_args es n (k + 1) (m + nodes e) p g (vs ++ v ∷ []) ss s h.1 end (omega (arith, reach)) steps)
+          asks_got _ (arg_at n k (m + nodes e) p g vs es ss) _ (asks_eval e m st h.0)
+          (λ v s. asks_args es n (k + 1) (m + nodes e) p g (vs ++ v ∷ []) ss s h.1 end (omega (arith, reach)) steps)
 
     -- ---- loops
 
@@ -322,17 +365,20 @@ module _ {N : Type 0} (w : World N) (at : ℕ → Option Node) where
       asks_turns : (f : ℕ) (e : Exp) (st : St N) → HasExp at e (n + 1) → Asks (turns f n m p e blk (eval w body e (n + 1)) run st)
       asks_turns zero e st h = tt
       asks_turns (suc f) e st h =
-          asks_got _ (while_test n m p e blk) _ (asks_eval e (n + 1) st h) (λ v s. asks_decide v p s _ _ (asks_goes (run s) (while_body n m p e blk) _ (run_asks s) (λ z. asks_turns f e z h)) tt)
+          asks_got _ (while_test n m p e blk) _ (asks_eval e (n + 1) st h)
+          (λ v s. asks_decide v p s _ _ (asks_goes (run s) (while_body n m p e blk) _ (run_asks s) (λ z. asks_turns f e z h)) tt)
 
       asks_repeats : (f : ℕ) (e : Exp) (st : St N) → HasExp at e m → Asks (repeats f n m p blk e run (eval w body e m) st)
       asks_repeats zero e st h = tt
       asks_repeats (suc f) e st h =
-          asks_goes (run st) (repeat_body n m p blk e) _ (run_asks st) (λ s. asks_got _ (repeat_test n m p blk e) _ (asks_eval e m s h) (λ v t. asks_decide v p t _ _ (asks_repeats f e t h) tt))
+          asks_goes (run st) (repeat_body n m p blk e) _ (run_asks st)
+          (λ s. asks_got _ (repeat_test n m p blk e) _ (asks_eval e m s h) (λ v t. asks_decide v p t _ _ (asks_repeats f e t h) tt))
 
       asks_each : (vs : Vals N) (t : ℕ) (x : List ℕ) (whole : Vals N) (st : St N) → Asks (each vs n m t p x whole blk run st)
       asks_each no_vals t x whole st = tt
       asks_each (val v vs) t x whole st =
-          asks_visit p st _ (λ s. asks_goes (run (set_var x v s)) (for_body n m (suc t) p x whole blk) _ (run_asks (set_var x v s)) (λ z. asks_each vs (suc t) x whole z))
+          asks_visit p st _ (λ s. asks_goes (run (set_var x v s)) (for_body n m (suc t) p x whole blk) _ (run_asks (set_var x v s))
+          (λ z. asks_each vs (suc t) x whole z))
 
       asks_each_of : (v : Val N) (x : List ℕ) (st : St N) → Asks (each_of v n m p x blk run st)
       asks_each_of (list vs) x st = asks_each vs 0 x vs st
@@ -349,20 +395,27 @@ module _ {N : Type 0} (w : World N) (at : ℕ → Option Node) where
       asks_stm (Stm.set x p e) n st h =
           asks_visit p st _ (λ s. asks_got _ (set_part n x) _ (asks_eval e (n + 1) s h.1) (λ v t. tt))
       asks_stm (Stm.add x q p e) n st h =
-          asks_visit p st _ (λ s. asks_got _ (add_part n x q p) (λ v t. add_to (find x t.vars) x q p v t) (asks_eval e (n + 1) s h.1) (λ v t. asks_add (find x t.vars) x q p v t))
+          asks_visit p st _ (λ s. asks_got _ (add_part n x q p) (λ v t. add_to (find x t.vars) x q p v t) (asks_eval e (n + 1) s h.1)
+          (λ v t. asks_add (find x t.vars) x q p v t))
       asks_stm (Stm.put x q p i e) n st h =
-          asks_visit p st _ (λ s. asks_got _ (put_index n (n + 1 + nodes i) x q p e) _ (asks_eval i (n + 1) s h.1) (λ v t. asks_got _ (put_value n x q p v) (λ y u. put_in (find x u.vars) x q p v y u) (asks_eval e (n + 1 + nodes i) t h.2) (λ y u. asks_put (find x u.vars) x q p v y u)))
+          asks_visit p st _ (λ s. asks_got _ (put_index n (n + 1 + nodes i) x q p e) _ (asks_eval i (n + 1) s h.1)
+          (λ v t. asks_got _ (put_value n x q p v) (λ y u. put_in (find x u.vars) x q p v y u) (asks_eval e (n + 1 + nodes i) t h.2)
+          (λ y u. asks_put (find x u.vars) x q p v y u)))
       asks_stm (Stm.return p e) n st h =
           asks_visit p st _ (λ s. asks_got _ (return_part n) _ (asks_eval e (n + 1) s h.1) (λ v t. tt))
       asks_stm (Stm.leave p) n st h = asks_visit p st _ (λ s. tt)
       asks_stm (Stm.cases p arms els) n st h =
-          asks_visit p st _ (λ s. asks_arms arms n 1 (n + 1) (n + 1 + arms_nodes arms) els (λ t. eval_else w body els (n + 1 + arms_nodes arms) t) s h.1 (λ t. asks_else els (n + 1 + arms_nodes arms) t h.2))
+          asks_visit p st _ (λ s. asks_arms arms n 1 (n + 1) (n + 1 + arms_nodes arms) els
+          (λ t. eval_else w body els (n + 1 + arms_nodes arms) t) s h.1 (λ t. asks_else els (n + 1 + arms_nodes arms) t h.2))
       asks_stm (Stm.while p e b) n st h =
-          asks_visit p st _ (λ s. asks_turns n (n + 1 + nodes e) p b _ (λ z. asks_stms b (n + 1 + nodes e) 0 (n + 1 + nodes e + 1) z h.3) (suc visits) e s h.1)
+          asks_visit p st _ (λ s. asks_turns n (n + 1 + nodes e) p b _ (λ z. asks_stms b (n + 1 + nodes e) 0 (n + 1 + nodes e + 1) z h.3)
+          (suc visits) e s h.1)
       asks_stm (Stm.repeat p b e) n st h =
           asks_visit p st _ (λ s. asks_repeats n (n + 1 + block_nodes b) p b _ (λ z. asks_stms b (n + 1) 0 (n + 1 + 1) z h.3) (suc visits) e s h.1)
       asks_stm (Stm.for p x e b) n st h =
-          asks_visit p st _ (λ s. asks_got _ (for_list n (n + 1 + nodes e) p x b) _ (asks_eval e (n + 1) s h.1) (λ v t. asks_each_of n (n + 1 + nodes e) p b (eval_stms w body b (n + 1 + nodes e) 0 (n + 1 + nodes e + 1)) (λ z. asks_stms b (n + 1 + nodes e) 0 (n + 1 + nodes e + 1) z h.3) v x t))
+          asks_visit p st _ (λ s. asks_got _ (for_list n (n + 1 + nodes e) p x b) _ (asks_eval e (n + 1) s h.1)
+          (λ v t. asks_each_of n (n + 1 + nodes e) p b (eval_stms w body b (n + 1 + nodes e) 0 (n + 1 + nodes e + 1))
+          (λ z. asks_stms b (n + 1 + nodes e) 0 (n + 1 + nodes e + 1) z h.3) v x t))
       asks_stm (Stm.just p e) n st h =
           asks_visit p st _ (λ s. asks_got _ (just_part n) _ (asks_eval e (n + 1) s h.1) (λ v t. tt))
 
@@ -371,10 +424,13 @@ module _ {N : Type 0} (w : World N) (at : ℕ → Option Node) where
       asks_stms (Stms.stm a more) n k m st h =
           asks_goes _ (block_at n (k + 1) (m + stm_nodes a) more) _ (asks_stm a m st h.0) (λ s. asks_stms more n (k + 1) (m + stm_nodes a) s h.1)
 
-      asks_arms : (arms : Arms) (n k m i : ℕ) (els : Else) (go : St N → Res N) (st : St N) → HasArms at arms m → ((s : St N) → Asks (go s)) → Asks (eval_arms w body arms n k m i els go st)
+      asks_arms : (arms : Arms) (n k m i : ℕ) (els : Else) (go : St N → Res N) (st : St N) → HasArms at arms m → ((s : St N) → Asks (go s))
+          → Asks (eval_arms w body arms n k m i els go st)
       asks_arms Arms.no_arms n k m i els go st h last = last st
       asks_arms (Arms.arm p e b arms) n k m i els go st h last =
-          asks_got _ (arm_test n k (m + nodes e) i p b arms els) _ (asks_eval e m st h.0) (λ v s. asks_decide v p s _ _ (asks_stms b (m + nodes e) 0 (m + nodes e + 1) s h.2) (asks_arms arms n (k + 1) (m + nodes e + block_nodes b) i els go s h.3 last))
+          asks_got _ (arm_test n k (m + nodes e) i p b arms els) _ (asks_eval e m st h.0)
+          (λ v s. asks_decide v p s _ _ (asks_stms b (m + nodes e) 0 (m + nodes e + 1) s h.2)
+          (asks_arms arms n (k + 1) (m + nodes e + block_nodes b) i els go s h.3 last))
 
       asks_else : (els : Else) (n : ℕ) (st : St N) → HasElse at els n → Asks (eval_else w body els n st)
       asks_else Else.no_else n st h = tt
@@ -382,7 +438,8 @@ module _ {N : Type 0} (w : World N) (at : ℕ → Option Node) where
 
   -- ---- bodies
 
-  asks_in_body : (o : Option Body) (c : Pairs N) (vs : Vals N) (p : Place) (st : St N) (run : Stms → ℕ → St N → Res N) → HasBody at o → ((b : Stms) (n : ℕ) (s : St N) → HasStms at b (n + 1) → Asks (run b n s)) → Asks (in_body w o c vs p st run)
+  asks_in_body : (o : Option Body) (c : Pairs N) (vs : Vals N) (p : Place) (st : St N) (run : Stms → ℕ → St N → Res N) → HasBody at o
+      → ((b : Stms) (n : ℕ) (s : St N) → HasStms at b (n + 1) → Asks (run b n s)) → Asks (in_body w o c vs p st run)
   asks_in_body None c vs p st run h g = tt
   asks_in_body (Some x) c vs p st run h g = g x.block x.node (with_vars (bind x.params vs c) st) h.1
 
@@ -390,4 +447,5 @@ module _ {N : Type 0} (w : World N) (at : ℕ → Option Node) where
   pub asks_call : (d : ℕ) (f : List ℕ) (c : Pairs N) (vs : Vals N) (p : Place) (st : St N) → HasScript at w.script → Asks (body_at w d f c vs p st)
   asks_call zero f c vs p st h = tt
   asks_call (suc d) f c vs p st h =
-      asks_in_body (body_of f w.script) c vs p st _ (has_body at f w.script h) (λ b n s g. asks_stms (body_at w d) (λ f' c' vs' p' st'. asks_call d f' c' vs' p' st' h) b n 0 (n + 1) s g)
+      asks_in_body (body_of f w.script) c vs p st _ (has_body at f w.script h)
+      (λ b n s g. asks_stms (body_at w d) (λ f' c' vs' p' st'. asks_call d f' c' vs' p' st' h) b n 0 (n + 1) s g)

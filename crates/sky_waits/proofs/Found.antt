@@ -3,7 +3,9 @@ use Rattle.std.proofs.Common.{◌≡◌, ℕ, zero, suc, List, [], ◌∷◌, ma
 use Rattle.std.specs.Option.{option_map}
 use Rattle.sky_base.specs.Val.{Vals, Pairs, Desc}
 use Rattle.sky_base.specs.Tree.{nowhere, SignAt}
-use Rattle.sky_base.specs.Res.{bodies, Object, Entry, parens_in, part_at, chain_first, chain_more, logic_at, prefix_part, star_wait, postfix_first, index_at, arg_at, call_open, exec_wait, set_part, add_part, put_index, put_value, return_part, just_part, arm_test, while_test, while_body, repeat_body, repeat_test, for_list, for_body, block_at, node_of, Wait, Res, Fin, Tell, Ask}
+use Rattle.sky_base.specs.Res.{bodies, Object, Entry, parens_in, part_at, chain_first, chain_more, logic_at, prefix_part, star_wait, postfix_first}
+use Rattle.sky_base.specs.Res.{index_at, arg_at, call_open, exec_wait, set_part, add_part, put_index, put_value, return_part, just_part, arm_test}
+use Rattle.sky_base.specs.Res.{while_test, while_body, repeat_body, repeat_test, for_list, for_body, block_at, node_of, Wait, Res, Fin, Tell, Ask}
 use Rattle.sky_base.specs.Read.{Halt, refs_of, see_all, halt, halts_seen}
 use Rattle.sky_base.specs.See.{Job, Around, run_of, world_of, start_st}
 use Rattle.sky_law.specs.Lower.{low_entry, low_wait, low_ref}
@@ -18,7 +20,8 @@ module _ (job : Job) (around : Around) (see : Desc ⊥ → Option (Object ⊥)) 
   abbrev At : ℕ → Option Node
   At i = node_at job.script i
 
-  at_seen : (x : Option (List (Object ⊥))) (k : List (Object ⊥) → Option (Halt ⊥)) (h : Halt ⊥) → ((os : List (Object ⊥)) → k os ≡ Some h → wait_at At h.forms ≡ Some h.wait) → halts_seen x k ≡ Some h → wait_at At h.forms ≡ Some h.wait
+  at_seen : (x : Option (List (Object ⊥))) (k : List (Object ⊥) → Option (Halt ⊥)) (h : Halt ⊥)
+      → ((os : List (Object ⊥)) → k os ≡ Some h → wait_at At h.forms ≡ Some h.wait) → halts_seen x k ≡ Some h → wait_at At h.forms ≡ Some h.wait
   at_seen None k h g e = absurd cc
   at_seen (Some os) k h g e = g os e
 
@@ -31,7 +34,8 @@ module _ (job : Job) (around : Around) (see : Desc ⊥ → Option (Object ⊥)) 
       here = cc
   at_wait (suc j) (Ask q fr st k) h g is = at_seen (see_all see (refs_of q)) (λ os. halt see j (k os)) h (λ os e. at_wait j (k os) h (g.1 os) e) is
 
-  pub found : (f : List ℕ) (c : Pairs ⊥) (vs : Vals ⊥) (j : ℕ) (h : Halt ⊥) → halt see j (run_of job around f c vs) ≡ Some h → wait_at At h.forms ≡ Some h.wait
+  pub found : (f : List ℕ) (c : Pairs ⊥) (vs : Vals ⊥) (j : ℕ) (h : Halt ⊥) → halt see j (run_of job around f c vs) ≡ Some h → wait_at At h.forms
+      ≡ Some h.wait
   found f c vs j h is =
       at_wait j (run_of job around f c vs) h (asks_call (world_of job.script around) At bodies f c vs nowhere start_st (has_script job.script)) is
 
@@ -98,7 +102,8 @@ module _ (tag : Tag) (at : ℕ → Option Node) where
   form_low t (for_body n m i p x vs b) = refl
   form_low t (block_at n k m b) = refl
 
-  pub found_low : (fr : List (Entry ⊥)) (q : Wait ⊥) → wait_at at fr ≡ Some q → wait_at at (map (low_entry no_name tag) fr) ≡ Some (low_wait no_name tag q)
+  pub found_low : (fr : List (Entry ⊥)) (q : Wait ⊥) → wait_at at fr ≡ Some q → wait_at at (map (low_entry no_name tag) fr)
+      ≡ Some (low_wait no_name tag q)
   found_low [] q is = absurd cc
   found_low (en ∷ []) q is =
       ap (λ n. waits_for (at n) (low_entry no_name tag en)) (node_low en) ∙ form_low (at (node_of en)) en ∙ ap (option_map (low_wait no_name tag)) is

@@ -1,5 +1,6 @@
 -- The sign of a step, by its place in the code's list.
-use Rattle.std.proofs.Common.{◌≡◌, ◌≤◌, ◌<◌, ◌+◌, ◌-◌, ℕ, zero, suc, List, [], ◌∷◌, length, reverse, Some, None, slice_get, get_or, refl, sym, ap, ◌∙◌, arith}
+use Rattle.std.proofs.Common.{◌≡◌, ◌≤◌, ◌<◌, ◌+◌, ◌-◌, ℕ, zero, suc, List, [], ◌∷◌, length, reverse, Some, None, slice_get, get_or, refl, sym, ap}
+use Rattle.std.proofs.Common.{◌∙◌, arith}
 use Rattle.std.proofs.lemmas.List.{get_or-reverse, length-reverse}
 use Rattle.std.proofs.lemmas.Option.{slice_get-get_or, get_or_from_slice_get, slice_get_past}
 use Rattle.sky_base.specs.Tree.{SignAt}
@@ -19,16 +20,19 @@ sign_there (x ∷ ss) zero s e = some_sign x s e
     some_sign x s e = cc
 sign_there (x ∷ ss) (suc j) s e = sign_there ss j s e
 
-behind_it : (xs : List SignAt) (i j : ℕ) (x : SignAt) → i < length xs → j ≡ length xs - 1 - i → slice_get xs j ≡ Some x → slice_get (reverse xs) i ≡ Some x
+behind_it : (xs : List SignAt) (i j : ℕ) (x : SignAt) → i < length xs → j ≡ length xs - 1 - i → slice_get xs j ≡ Some x
+    → slice_get (reverse xs) i ≡ Some x
 behind_it xs i j x within is e =
     slice_get-get_or (reverse xs) i x (omega (arith, length-reverse xs, within))
     ∙ ap Some (get_or-reverse xs i x within ∙ ap (λ k. get_or xs k x) (sym is) ∙ get_or_from_slice_get xs j x x e)
 
-pub nth_sign : (ss : List rust.SignAt) (k j : ℕ) (d : rust.SignAt) → 2 ≤ k → k ≤ length ss + 1 → j ≡ length ss + 1 - k → sign_at (signs_view ss) k ≡ Some (sign_of (get_or ss j d))
+pub nth_sign : (ss : List rust.SignAt) (k j : ℕ) (d : rust.SignAt) → 2 ≤ k → k ≤ length ss + 1 → j ≡ length ss + 1 - k
+    → sign_at (signs_view ss) k ≡ Some (sign_of (get_or ss j d))
 nth_sign ss zero j d low high is = absurd (omega (arith, low))
 nth_sign ss (suc zero) j d low high is = absurd (omega (arith, low))
 nth_sign ss (suc (suc i)) j d low high is =
-    behind_it (signs_view ss) i j (sign_of (get_or ss j d)) (omega (arith, many_signs ss, high)) (omega (arith, many_signs ss, is)) (sign_there ss j (get_or ss j d) (slice_get-get_or ss j d (omega (arith, high, low, is))))
+    behind_it (signs_view ss) i j (sign_of (get_or ss j d)) (omega (arith, many_signs ss, high)) (omega (arith, many_signs ss, is))
+    (sign_there ss j (get_or ss j d) (slice_get-get_or ss j d (omega (arith, high, low, is))))
 
 pub no_sign_below : (ss : List rust.SignAt) (k : ℕ) → k < 2 → sign_at (signs_view ss) k ≡ None
 no_sign_below ss zero low = refl

@@ -11,12 +11,14 @@ module _ (job : Job) (around : Around) (see : Desc → Option (Object ⊥)) wher
   -- for whole descriptions, whatever is seen
   abbrev pub WaitIsFound : Type 0
   WaitIsFound =
-      (f : List ℕ) (c : Pairs) (vs : Vals) (j : ℕ) (h : Halt ⊥) → halt see j (run_of job around f c vs) ≡ Some h → wait_in job.script h.forms ≡ Some h.wait
+      (f : List ℕ) (c : Pairs) (vs : Vals) (j : ℕ) (h : Halt ⊥) → halt see j (run_of job around f c vs) ≡ Some h → wait_in job.script h.forms
+      ≡ Some h.wait
 
   -- and over names, whatever gives them
   abbrev pub NamedWaitIsFound : Tag → Type 0
   NamedWaitIsFound tag =
-      (f : List ℕ) (c : Pairs) (vs : Vals) (j : ℕ) (h : Halt ⊥) → halt see j (run_of job around f c vs) ≡ Some h → wait_in job.script (low_halt no_name tag h).forms ≡ Some (low_halt no_name tag h).wait
+      (f : List ℕ) (c : Pairs) (vs : Vals) (j : ℕ) (h : Halt ⊥) → halt see j (run_of job around f c vs) ≡ Some h
+      → wait_in job.script (low_halt no_name tag h).forms ≡ Some (low_halt no_name tag h).wait
 
 abbrev pub WaitsAreFound : Type 0
 WaitsAreFound = (job : Job) (around : Around) (see : Desc → Option (Object ⊥)) → WaitIsFound job around see

@@ -49,7 +49,8 @@ pub fn answered(alloc: Global, wait: &Wait, answers: &[Object]) -> Result<End, M
 /// The value of an object; bytes are read as data, at the place of the `*`.
 fn value_of(alloc: Global, object: &Object, line: u32, col: u32) -> Result<End, Memory>
     requires { KeptObject (object_view object.now) }
-    ensures end { IfOk result (λ e. (w : World (List ℕ)) → ReadsData w → (d : Desc (List ℕ)) → end_of e ≡ wait_end w (one_of (at line col) d) (object_view object.now ∷ [])) }
+    ensures end { IfOk result (λ e. (w : World (List ℕ)) → ReadsData w → (d : Desc (List ℕ)) → end_of e
+        ≡ wait_end w (one_of (at line col) d) (object_view object.now ∷ [])) }
     ensures ready { IfOk result EndReady }
 {
     match object {
@@ -64,7 +65,8 @@ fn value_of(alloc: Global, object: &Object, line: u32, col: u32) -> Result<End, 
 
 /// The first of these that is a fault, if one is.
 fn first_fault(answers: &[Object]) -> Option<Fault>
-    ensures { (ds : List (Desc (List ℕ))) → MatchOption result (exec_end ds (map object_view answers.now) ≡ logic.End.got (list (refs_to ds))) (λ f. exec_end ds (map object_view answers.now) ≡ logic.End.failed f) }
+    ensures { (ds : List (Desc (List ℕ))) → MatchOption result (exec_end ds (map object_view answers.now) ≡ logic.End.got (list (refs_to ds)))
+        (λ f. exec_end ds (map object_view answers.now) ≡ logic.End.failed f) }
 {
     for object in answers {
         if let Object::Fault(fault) = object {

@@ -21,7 +21,8 @@ use std::alloc::Global;
 ///
 /// Answers `Memory` for want of memory.
 pub fn waiting(alloc: Global, nodes: &Nodes, entries: &[Entry]) -> Result<Option<Wait>, Memory>
-    ensures { IfOk result (λ o. MatchOption o (wait_in nodes.now (forms entries.now) ≡ None) (λ q. wait_in nodes.now (forms entries.now) ≡ Some (wait_of q))) }
+    ensures { IfOk result (λ o. MatchOption o (wait_in nodes.now (forms entries.now) ≡ None)
+        (λ q. wait_in nodes.now (forms entries.now) ≡ Some (wait_of q))) }
 {
     match entries.last() {
         Some(entry) => {
@@ -34,7 +35,8 @@ pub fn waiting(alloc: Global, nodes: &Nodes, entries: &[Entry]) -> Result<Option
 
 /// What a form waits for.
 fn wait_at(alloc: Global, nodes: &Nodes, entry: &Entry) -> Result<Option<Wait>, Memory>
-    ensures { IfOk result (λ o. MatchOption o (wait_in nodes.now (entry_of entry.now ∷ []) ≡ None) (λ q. wait_in nodes.now (entry_of entry.now ∷ []) ≡ Some (wait_of q))) }
+    ensures { IfOk result (λ o. MatchOption o (wait_in nodes.now (entry_of entry.now ∷ []) ≡ None)
+        (λ q. wait_in nodes.now (entry_of entry.now ∷ []) ≡ Some (wait_of q))) }
 {
     match entry {
         Entry::Form(InForm::Star(star)) => Ok(wait_of_star(nodes, star)),
@@ -45,7 +47,8 @@ fn wait_at(alloc: Global, nodes: &Nodes, entry: &Entry) -> Result<Option<Wait>, 
 
 /// A `*` waits for the object of its reference, at its place.
 fn wait_of_star(nodes: &Nodes, star: &Star) -> Option<Wait>
-    ensures { MatchOption result (wait_in nodes.now (form_of (InForm.Star star.now) ∷ []) ≡ None) (λ q. wait_in nodes.now (form_of (InForm.Star star.now) ∷ []) ≡ Some (wait_of q)) }
+    ensures { MatchOption result (wait_in nodes.now (form_of (InForm.Star star.now) ∷ []) ≡ None)
+        (λ q. wait_in nodes.now (form_of (InForm.Star star.now) ∷ []) ≡ Some (wait_of q)) }
 {
     let signs = match nodes.at(star.node) {
         Some(NodeRef::Exp(e)) => signs_in(e),

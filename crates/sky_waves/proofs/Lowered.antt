@@ -1,5 +1,6 @@
 -- A wave over names is the wave over whole descriptions, lowered.
-use Rattle.std.proofs.Common.{◌≡◌, ℕ, ◌+◌, List, [], ◌∷◌, ◌++◌, length, map, Bool, true, false, Option, Some, Result, Ok, Err, inl, inr, nat_lt, refl, sym, ap, ap₂, subst, ◌∙◌}
+use Rattle.std.proofs.Common.{◌≡◌, ℕ, ◌+◌, List, [], ◌∷◌, ◌++◌, length, map, Bool, true, false, Option, Some, Result, Ok, Err, inl, inr, nat_lt, refl}
+use Rattle.std.proofs.Common.{sym, ap, ap₂, subst, ◌∙◌}
 use Rattle.std.proofs.lemmas.List.{append_assoc, append-nil, length-append}
 use Rattle.std.specs.Str.{is_utf8}
 use Rattle.sky_base.specs.Val as v
@@ -9,7 +10,8 @@ use Rattle.sky_base.specs.Op.{Answer}
 use Rattle.sky_base.specs.Res.{Object}
 use Rattle.sky_law.specs.Lower.{lower, low_ref, low_obj}
 use Rattle.sky_base.specs.See as m
-use Rattle.sky_base.specs.See.{Val, Vals, Desc, Obj, Job, Around, Answered, Gathered, gather, gather_on, gather_one, as_value, val_of, replaced, vals_replaced, pairs_replaced, Turn, turn, next_value, next_within, see}
+use Rattle.sky_base.specs.See.{Val, Vals, Desc, Obj, Job, Around, Answered, Gathered, gather, gather_on, gather_one, as_value, val_of, replaced}
+use Rattle.sky_base.specs.See.{vals_replaced, pairs_replaced, Turn, turn, next_value, next_within, see}
 use Rattle.sky_law.specs.Tasks.{In}
 use Rattle.sky_law.proofs.Low.{size_low, depth_low}
 use Rattle.sky_law.proofs.RefsLow.{refs_low}
@@ -18,7 +20,8 @@ use Rattle.sky_rows.specs.Walk.{Row}
 use Rattle.sky_law.specs.NamesLaws.{no_name}
 use Rattle.sky_waves.specs.Seen.{Sees, SeenAsKnown}
 use Rattle.sky_waves.specs.Wave as wave
-use Rattle.sky_waves.specs.Wave.{value_of, value_seen, data_or_text, on_list, on_dict, on_fun, on_val, on_pair, fill, fill_vals, fill_pairs, Turned, next_of, turn_all, turn_refs, turn_at}
+use Rattle.sky_waves.specs.Wave.{value_of, value_seen, data_or_text, on_list, on_dict, on_fun, on_val, on_pair, fill, fill_vals, fill_pairs, Turned}
+use Rattle.sky_waves.specs.Wave.{next_of, turn_all, turn_refs, turn_at}
 
 -- ---- what is gathered in order, against what is filled in
 
@@ -63,15 +66,21 @@ module _ (g : Desc → Result Val Fault) where
   at_end [] u back = refl
   at_end (x ∷ front) u back = at_end front u back
 
-  list_filled : (vs : Vals) (rs : Result (List Val) Fault) (s : Result Vals Fault) → Filled (λ h i. vals_replaced h i vs) (length (vals_refs vs)) rs s → Filled (λ h i. replaced h i (list vs)) (length (vals_refs vs)) rs (on_list s)
+  list_filled : (vs : Vals) (rs : Result (List Val) Fault) (s : Result Vals Fault)
+      → Filled (λ h i. vals_replaced h i vs) (length (vals_refs vs)) rs s
+      → Filled (λ h i. replaced h i (list vs)) (length (vals_refs vs)) rs (on_list s)
   list_filled vs (Err f) s e = ap on_list e
   list_filled vs (Ok us) s (n, e) = (n, λ front back. ap on_list (e front back))
 
-  dict_filled : (ps : v.Pairs ⊥) (rs : Result (List Val) Fault) (s : Result (v.Pairs ⊥) Fault) → Filled (λ h i. pairs_replaced h i ps) (length (pairs_refs ps)) rs s → Filled (λ h i. replaced h i (dict ps)) (length (pairs_refs ps)) rs (on_dict s)
+  dict_filled : (ps : v.Pairs ⊥) (rs : Result (List Val) Fault) (s : Result (v.Pairs ⊥) Fault)
+      → Filled (λ h i. pairs_replaced h i ps) (length (pairs_refs ps)) rs s
+      → Filled (λ h i. replaced h i (dict ps)) (length (pairs_refs ps)) rs (on_dict s)
   dict_filled ps (Err f) s e = ap on_dict e
   dict_filled ps (Ok us) s (n, e) = (n, λ front back. ap on_dict (e front back))
 
-  fun_filled : (f : List ℕ) (ps : v.Pairs ⊥) (rs : Result (List Val) Fault) (s : Result (v.Pairs ⊥) Fault) → Filled (λ h i. pairs_replaced h i ps) (length (pairs_refs ps)) rs s → Filled (λ h i. replaced h i (fun f ps)) (length (pairs_refs ps)) rs (on_fun f s)
+  fun_filled : (f : List ℕ) (ps : v.Pairs ⊥) (rs : Result (List Val) Fault) (s : Result (v.Pairs ⊥) Fault)
+      → Filled (λ h i. pairs_replaced h i ps) (length (pairs_refs ps)) rs s
+      → Filled (λ h i. replaced h i (fun f ps)) (length (pairs_refs ps)) rs (on_fun f s)
   fun_filled f ps (Err q) s e = ap (on_fun f) e
   fun_filled f ps (Ok us) s (n, e) = (n, λ front back. ap (on_fun f) (e front back))
 
@@ -82,8 +91,12 @@ module _ (g : Desc → Result Val Fault) where
   list_two : (front us ws back : List Val) → front ++ us ++ ws ++ back ≡ front ++ (us ++ ws) ++ back
   list_two front us ws back = ap (λ x. x ++ back) (append_assoc front us ws)
 
-  module _ {A B C : Type 0} (r : (ℕ → Desc → Val) → ℕ → A) (q : (ℕ → Desc → Val) → ℕ → B) (join : A → B → C) (on_both : Result A Fault → Result B Fault → Result C Fault) (first_err : (f : Fault) (t : Result B Fault) → on_both (Err f) t ≡ Err f) (then_err : (a : A) (f : Fault) → on_both (Ok a) (Err f) ≡ Err f) (both_ok : (a : A) (b : B) → on_both (Ok a) (Ok b) ≡ Ok (join a b)) (n m : ℕ) where
-    joined_filled : (rs ss : Result (List Val) Fault) (s : Result A Fault) (t : Result B Fault) → Filled r n rs s → Filled q m ss t → Filled (λ h i. join (r h i) (q h (i + n))) (n + m) (both rs ss) (on_both s t)
+  module _ {A B C : Type 0} (r : (ℕ → Desc → Val) → ℕ → A) (q : (ℕ → Desc → Val) → ℕ → B) (join : A → B → C)
+      (on_both : Result A Fault → Result B Fault → Result C Fault) (first_err : (f : Fault) (t : Result B Fault) → on_both (Err f) t ≡ Err f)
+      (then_err : (a : A) (f : Fault) → on_both (Ok a) (Err f) ≡ Err f) (both_ok : (a : A) (b : B) → on_both (Ok a) (Ok b) ≡ Ok (join a b))
+      (n m : ℕ) where
+    joined_filled : (rs ss : Result (List Val) Fault) (s : Result A Fault) (t : Result B Fault) → Filled r n rs s → Filled q m ss t
+        → Filled (λ h i. join (r h i) (q h (i + n))) (n + m) (both rs ss) (on_both s t)
     joined_filled (Err f) ss s t e k = ap (λ x. on_both x t) e ∙ first_err f t
     joined_filled (Ok us) (Err f) s t (l, e) k = ap₂ on_both (e [] []) k ∙ then_err _ f
     joined_filled (Ok us) (Ok ws) s t (l, e) (j, k) = (sizes, each)
@@ -91,10 +104,13 @@ module _ (g : Desc → Result Val Fault) where
         sizes : length (us ++ ws) ≡ n + m
         sizes = length-append us ws ∙ (λ i. l i + j i)
 
-        each : (front back : List Val) → on_both s t ≡ Ok (join (r (λ i d. val_of (front ++ (us ++ ws) ++ back) i) (length front)) (q (λ i d. val_of (front ++ (us ++ ws) ++ back) i) (length front + n)))
+        each : (front back : List Val) → on_both s t
+            ≡ Ok (join (r (λ i d. val_of (front ++ (us ++ ws) ++ back) i) (length front))
+            (q (λ i d. val_of (front ++ (us ++ ws) ++ back) i) (length front + n)))
         each front back =
             let at : length (front ++ us) ≡ length front + n = length-append front us ∙ ap (λ x. length front + x) l in
-            ap₂ on_both (e front (ws ++ back) ∙ ap (λ x. Ok (r (λ i d. val_of x i) (length front))) (list_one front us ws back)) (k (front ++ us) back ∙ ap₂ (λ x y. Ok (q (λ i d. val_of x i) y)) (list_two front us ws back) at) ∙ both_ok _ _
+            ap₂ on_both (e front (ws ++ back) ∙ ap (λ x. Ok (r (λ i d. val_of x i) (length front))) (list_one front us ws back))
+            (k (front ++ us) back ∙ ap₂ (λ x y. Ok (q (λ i d. val_of x i) y)) (list_two front us ws back) at) ∙ both_ok _ _
 
   nothing_filled : (a : Val) → ((h : ℕ → Desc → Val) (i : ℕ) → replaced h i a ≡ a) → Filled (λ h i. replaced h i a) 0 (Ok []) (Ok a)
   nothing_filled a e = (refl, λ front back. ap Ok (sym (e (λ k d. val_of (front ++ [] ++ back) k) (length front))))
@@ -117,12 +133,24 @@ module _ (g : Desc → Result Val Fault) where
     vals_filled : (vs : Vals) → Filled (λ h i. vals_replaced h i vs) (length (vals_refs vs)) (results (vals_refs vs)) (fill_vals g vs)
     vals_filled no_vals = (refl, λ front back. refl)
     vals_filled (val a vs) =
-        subst (λ x. Filled (λ h i. vals_replaced h i (val a vs)) x (results (refs a ++ vals_refs vs)) (on_val (fill g a) (fill_vals g vs))) (sym (length-append (refs a) (vals_refs vs))) (subst (λ x. Filled (λ h i. vals_replaced h i (val a vs)) (length (refs a) + length (vals_refs vs)) x (on_val (fill g a) (fill_vals g vs))) (sym (results_both (refs a) (vals_refs vs))) (joined_filled (λ h i. replaced h i a) (λ h i. vals_replaced h i vs) val on_val (λ f t. refl) (λ b f. refl) (λ b bs. refl) (length (refs a)) (length (vals_refs vs)) (results (refs a)) (results (vals_refs vs)) (fill g a) (fill_vals g vs) (filled a) (vals_filled vs)))
+        subst (λ x. Filled (λ h i. vals_replaced h i (val a vs)) x (results (refs a ++ vals_refs vs)) (on_val (fill g a) (fill_vals g vs)))
+        (sym (length-append (refs a) (vals_refs vs)))
+        (subst (λ x. Filled (λ h i. vals_replaced h i (val a vs)) (length (refs a) + length (vals_refs vs)) x
+        (on_val (fill g a) (fill_vals g vs))) (sym (results_both (refs a) (vals_refs vs)))
+        (joined_filled (λ h i. replaced h i a) (λ h i. vals_replaced h i vs) val on_val (λ f t. refl) (λ b f. refl) (λ b bs. refl)
+        (length (refs a)) (length (vals_refs vs)) (results (refs a)) (results (vals_refs vs)) (fill g a) (fill_vals g vs) (filled a)
+        (vals_filled vs)))
 
     pairs_filled : (ps : v.Pairs ⊥) → Filled (λ h i. pairs_replaced h i ps) (length (pairs_refs ps)) (results (pairs_refs ps)) (fill_pairs g ps)
     pairs_filled no_pairs = (refl, λ front back. refl)
     pairs_filled (pair k a ps) =
-        subst (λ x. Filled (λ h i. pairs_replaced h i (pair k a ps)) x (results (refs a ++ pairs_refs ps)) (on_pair k (fill g a) (fill_pairs g ps))) (sym (length-append (refs a) (pairs_refs ps))) (subst (λ x. Filled (λ h i. pairs_replaced h i (pair k a ps)) (length (refs a) + length (pairs_refs ps)) x (on_pair k (fill g a) (fill_pairs g ps))) (sym (results_both (refs a) (pairs_refs ps))) (joined_filled (λ h i. replaced h i a) (λ h i. pairs_replaced h i ps) (pair k) (on_pair k) (λ f t. refl) (λ b f. refl) (λ b bs. refl) (length (refs a)) (length (pairs_refs ps)) (results (refs a)) (results (pairs_refs ps)) (fill g a) (fill_pairs g ps) (filled a) (pairs_filled ps)))
+        subst (λ x. Filled (λ h i. pairs_replaced h i (pair k a ps)) x (results (refs a ++ pairs_refs ps))
+        (on_pair k (fill g a) (fill_pairs g ps))) (sym (length-append (refs a) (pairs_refs ps)))
+        (subst (λ x. Filled (λ h i. pairs_replaced h i (pair k a ps)) (length (refs a) + length (pairs_refs ps)) x
+        (on_pair k (fill g a) (fill_pairs g ps))) (sym (results_both (refs a) (pairs_refs ps)))
+        (joined_filled (λ h i. replaced h i a) (λ h i. pairs_replaced h i ps) (pair k) (on_pair k) (λ f t. refl) (λ b f. refl) (λ b bs. refl)
+        (length (refs a)) (length (pairs_refs ps)) (results (refs a)) (results (pairs_refs ps)) (fill g a) (fill_pairs g ps) (filled a)
+        (pairs_filled ps)))
 
 -- ---- a wave, lowered
 
@@ -169,7 +197,8 @@ module _ (tag : Row → List ℕ) where
   val_low (Ok a) (Err f) = refl
   val_low (Ok a) (Ok vs) = refl
 
-  pair_low : (k : List ℕ) (a : Result Val Fault) (r : Result (v.Pairs ⊥) Fault) → on_pair k (low_result a) (low_entries r) ≡ low_entries (on_pair k a r)
+  pair_low : (k : List ℕ) (a : Result Val Fault) (r : Result (v.Pairs ⊥) Fault) → on_pair k (low_result a) (low_entries r)
+      ≡ low_entries (on_pair k a r)
   pair_low k (Err f) r = refl
   pair_low k (Ok a) (Err f) = refl
   pair_low k (Ok a) (Ok vs) = refl
@@ -192,12 +221,14 @@ module _ (tag : Row → List ℕ) where
       fill_vals_low : (vs : Vals) → Alike (vals_refs vs) → fill_vals h (low_vals no_name tag vs) ≡ low_results (fill_vals g vs)
       fill_vals_low no_vals e = refl
       fill_vals_low (val a vs) e =
-          ap₂ on_val (fill_low a (λ d i. e d (in_left d (refs a) (vals_refs vs) i))) (fill_vals_low vs (λ d i. e d (in_right d (refs a) (vals_refs vs) i))) ∙ val_low (fill g a) (fill_vals g vs)
+          ap₂ on_val (fill_low a (λ d i. e d (in_left d (refs a) (vals_refs vs) i)))
+          (fill_vals_low vs (λ d i. e d (in_right d (refs a) (vals_refs vs) i))) ∙ val_low (fill g a) (fill_vals g vs)
 
       fill_pairs_low : (ps : v.Pairs ⊥) → Alike (pairs_refs ps) → fill_pairs h (low_pairs no_name tag ps) ≡ low_entries (fill_pairs g ps)
       fill_pairs_low no_pairs e = refl
       fill_pairs_low (pair k a ps) e =
-          ap₂ (on_pair k) (fill_low a (λ d i. e d (in_left d (refs a) (pairs_refs ps) i))) (fill_pairs_low ps (λ d i. e d (in_right d (refs a) (pairs_refs ps) i))) ∙ pair_low k (fill g a) (fill_pairs g ps)
+          ap₂ (on_pair k) (fill_low a (λ d i. e d (in_left d (refs a) (pairs_refs ps) i)))
+          (fill_pairs_low ps (λ d i. e d (in_right d (refs a) (pairs_refs ps) i))) ∙ pair_low k (fill g a) (fill_pairs g ps)
 
   abbrev turn_of : Result Val Fault → Turn
   turn_of (Err f) = Turn.ends (Answered.fault f)
@@ -211,13 +242,16 @@ module _ (tag : Row → List ℕ) where
   turn_of_low : (r : Result Val Fault) → low_turn (turn_of r) ≡ next_of (low_result r)
   turn_of_low (Err f) = refl
   turn_of_low (Ok u) =
-      next_low (nat_lt 100 (depth u)) (nat_lt 262144 (size u)) u ∙ (λ i. wave.next_if (nat_lt 100 (sym (depth_low no_name tag u) i)) (nat_lt 262144 (sym (size_low no_name tag u) i)) (low no_name tag u))
+      next_low (nat_lt 100 (depth u)) (nat_lt 262144 (size u)) u
+      ∙ (λ i. wave.next_if (nat_lt 100 (sym (depth_low no_name tag u) i)) (nat_lt 262144 (sym (size_low no_name tag u) i))
+      (low no_name tag u))
 
 abbrev gathered : Result (List Val) Fault → Gathered Val
 gathered (Ok us) = Gathered.all us
 gathered (Err f) = Gathered.faulty f
 
-gathered_more : (r : Result Val Fault) (rest : Result (List Val) Fault) (g : Desc → Result Val Fault) → gather_on r (gathered rest) ≡ gathered (more_of g r rest)
+gathered_more : (r : Result Val Fault) (rest : Result (List Val) Fault) (g : Desc → Result Val Fault) → gather_on r (gathered rest)
+    ≡ gathered (more_of g r rest)
 gathered_more (Err f) (Err e) g = refl
 gathered_more (Err f) (Ok us) g = refl
 gathered_more (Ok a) (Err e) g = refl
@@ -227,11 +261,14 @@ all_in : (us : List Val) (a : Val) → next_within (replaced (λ k d. val_of ([]
 all_in us a = ap (λ x. next_within (replaced (λ k d. val_of x k) 0 a)) (append-nil us)
 
 -- what is gathered gives the turn of what is filled in
-turn_filled : (tag : Row → List ℕ) (g : Desc → Result Val Fault) (a : Val) (rs : Result (List Val) Fault) → Filled g (λ h i. replaced h i a) (length (refs a)) rs (fill g a) → next_value (gathered rs) a ≡ turn_of tag (fill g a)
+turn_filled : (tag : Row → List ℕ) (g : Desc → Result Val Fault) (a : Val) (rs : Result (List Val) Fault)
+    → Filled g (λ h i. replaced h i a) (length (refs a)) rs (fill g a) → next_value (gathered rs) a ≡ turn_of tag (fill g a)
 turn_filled tag g a (Err f) e = ap (turn_of tag) (sym e)
 turn_filled tag g a (Ok us) (l, e) = sym (all_in us a) ∙ ap (turn_of tag) (sym (e [] []))
 
-module _ (job : Job) (around : Around) (reads : List ℕ → Answer (List ℕ)) (writes : v.Val (List ℕ) → Option (List ℕ)) (tag : Row → List ℕ) (reads_alike : (b : List ℕ) → reads b ≡ lower {N = ⊥} no_name tag (around.reads b)) (writes_alike : (a : Val) → writes (low no_name tag a) ≡ around.writes a) (n : ℕ) (knows : Row → Option (Object (List ℕ))) where
+module _ (job : Job) (around : Around) (reads : List ℕ → Answer (List ℕ)) (writes : v.Val (List ℕ) → Option (List ℕ)) (tag : Row → List ℕ)
+    (reads_alike : (b : List ℕ) → reads b ≡ lower {N = ⊥} no_name tag (around.reads b))
+    (writes_alike : (a : Val) → writes (low no_name tag a) ≡ around.writes a) (n : ℕ) (knows : Row → Option (Object (List ℕ))) where
   as_value_is : (o : Obj) → as_value around o ≡ value_of around.reads o
   as_value_is (Object.bytes b) = read_is (around.reads b) b
     where
@@ -267,7 +304,8 @@ module _ (job : Job) (around : Around) (reads : List ℕ → Answer (List ℕ)) 
   down_up : (ds : List Desc) → SeenAsKnown job around tag n knows ds → Alike tag up down ds
   down_up ds s d i = go (s d i)
     where
-      go : (o : Object (List ℕ)) × (knows (low_ref no_name tag d) ≡ Some o) × Sees job around tag n d o → down (low_ref no_name tag d) ≡ low_result tag (up d)
+      go : (o : Object (List ℕ)) × (knows (low_ref no_name tag d) ≡ Some o) × Sees job around tag n d o → down (low_ref no_name tag d)
+          ≡ low_result tag (up d)
       go (o, k, (p, e, l)) =
           ap (value_seen reads) k ∙ ap (value_of reads) (sym l) ∙ value_low p ∙ ap (λ x. low_result tag (value_seen around.reads x)) (sym e)
 
@@ -275,26 +313,38 @@ module _ (job : Job) (around : Around) (reads : List ℕ → Answer (List ℕ)) 
   gather_is [] s = refl
   gather_is (d ∷ ds) s = go (s d (inl refl)) (gather_is ds (λ c i. s c (inr i)))
     where
-      go : (o : Object (List ℕ)) × (knows (low_ref no_name tag d) ≡ Some o) × Sees job around tag n d o → gather (see job around n) (as_value around) ds ≡ gathered (results up ds) → gather (see job around n) (as_value around) (d ∷ ds) ≡ gathered (results up (d ∷ ds))
+      go : (o : Object (List ℕ)) × (knows (low_ref no_name tag d) ≡ Some o) × Sees job around tag n d o
+          → gather (see job around n) (as_value around) ds ≡ gathered (results up ds) → gather (see job around n) (as_value around) (d ∷ ds)
+          ≡ gathered (results up (d ∷ ds))
       go (o, k, (p, e, l)) rest =
-          ap₂ (λ x r. gather_one x (as_value around) r) e rest ∙ ap (λ x. gather_on x (gathered (results up ds))) (as_value_is p) ∙ gathered_more (value_of around.reads p) (results up ds) up ∙ ap (λ x. gathered (more_of up (value_seen around.reads x) (results up ds))) (sym e)
+          ap₂ (λ x r. gather_one x (as_value around) r) e rest ∙ ap (λ x. gather_on x (gathered (results up ds))) (as_value_is p)
+          ∙ gathered_more (value_of around.reads p) (results up ds) up
+          ∙ ap (λ x. gathered (more_of up (value_seen around.reads x) (results up ds))) (sym e)
 
-  all_low : (a : Val) → SeenAsKnown job around tag n knows (refs a) → low_turn tag (m.turn_all job around n a) ≡ turn_all reads writes knows (low no_name tag a)
+  all_low : (a : Val) → SeenAsKnown job around tag n knows (refs a) → low_turn tag (m.turn_all job around n a)
+      ≡ turn_all reads writes knows (low no_name tag a)
   all_low a s =
-      ap (λ x. low_turn tag (next_value x a)) (gather_is (refs a) s) ∙ ap (low_turn tag) (turn_filled tag up a (results up (refs a)) (filled up a)) ∙ turn_of_low tag (fill up a) ∙ ap next_of (sym (fill_low tag up down a (down_up (refs a) s)))
+      ap (λ x. low_turn tag (next_value x a)) (gather_is (refs a) s)
+      ∙ ap (low_turn tag) (turn_filled tag up a (results up (refs a)) (filled up a)) ∙ turn_of_low tag (fill up a)
+      ∙ ap next_of (sym (fill_low tag up down a (down_up (refs a) s)))
 
   lone_low : (p : Obj) (t : Turn) (u : Turned) → low_turn tag t ≡ u → low_turn tag (m.lone (Some p) t) ≡ wave.lone (Some (low_obj no_name tag p)) u
   lone_low (Object.bytes b) t u e = refl
   lone_low (Object.data_of a) t u e = e
   lone_low (Object.fault f) t u e = e
 
-  turn_refs_low : (ds : List Desc) (a : Val) → SeenAsKnown job around tag n knows (refs a) → low_turn tag (m.turn_refs job around n ds a) ≡ turn_refs reads writes knows (map (low_ref no_name tag) ds) (low no_name tag a)
+  turn_refs_low : (ds : List Desc) (a : Val) → SeenAsKnown job around tag n knows (refs a) → low_turn tag (m.turn_refs job around n ds a)
+      ≡ turn_refs reads writes knows (map (low_ref no_name tag) ds) (low no_name tag a)
   turn_refs_low [] a s = ap (λ x. Turned.ends (m.text_of x)) (sym (writes_alike a))
   turn_refs_low (d ∷ ds) (ref e) s = go (s e (inl refl))
     where
-      go : (o : Object (List ℕ)) × (knows (low_ref no_name tag e) ≡ Some o) × Sees job around tag n e o → low_turn tag (m.lone (see job around n e) (m.turn_all job around n (ref e))) ≡ wave.lone (knows (low_ref no_name tag e)) (turn_all reads writes knows (low no_name tag (ref e)))
+      go : (o : Object (List ℕ)) × (knows (low_ref no_name tag e) ≡ Some o) × Sees job around tag n e o
+          → low_turn tag (m.lone (see job around n e) (m.turn_all job around n (ref e)))
+          ≡ wave.lone (knows (low_ref no_name tag e)) (turn_all reads writes knows (low no_name tag (ref e)))
       go (o, k, (p, f, l)) =
-          ap (λ x. low_turn tag (m.lone x (m.turn_all job around n (ref e)))) f ∙ lone_low p (m.turn_all job around n (ref e)) (turn_all reads writes knows (low no_name tag (ref e))) (all_low (ref e) s) ∙ ap (λ x. wave.lone x (turn_all reads writes knows (low no_name tag (ref e)))) (ap Some l ∙ sym k)
+          ap (λ x. low_turn tag (m.lone x (m.turn_all job around n (ref e)))) f
+          ∙ lone_low p (m.turn_all job around n (ref e)) (turn_all reads writes knows (low no_name tag (ref e))) (all_low (ref e) s)
+          ∙ ap (λ x. wave.lone x (turn_all reads writes knows (low no_name tag (ref e)))) (ap Some l ∙ sym k)
   turn_refs_low (d ∷ ds) null s = all_low null s
   turn_refs_low (d ∷ ds) (truth b) s = all_low (truth b) s
   turn_refs_low (d ∷ ds) (num z) s = all_low (num z) s
@@ -303,6 +353,7 @@ module _ (job : Job) (around : Around) (reads : List ℕ → Answer (List ℕ)) 
   turn_refs_low (d ∷ ds) (dict ps) s = all_low (dict ps) s
   turn_refs_low (d ∷ ds) (fun f c) s = all_low (fun f c) s
 
-  pub turn_low : (a : Val) → SeenAsKnown job around tag n knows (refs a) → low_turn tag (turn job around n a) ≡ turn_at reads writes knows (low no_name tag a)
+  pub turn_low : (a : Val) → SeenAsKnown job around tag n knows (refs a) → low_turn tag (turn job around n a)
+      ≡ turn_at reads writes knows (low no_name tag a)
   turn_low a s =
       turn_refs_low (refs a) a s ∙ ap (λ ds. turn_refs reads writes knows ds (low no_name tag a)) (sym (refs_low no_name tag a))

@@ -21,11 +21,13 @@ module _ (reads : List ℕ → Answer (List ℕ)) (writes : Val (List ℕ) → O
   dict_turn [] ps h = absurd (h refl)
   dict_turn (d ∷ ds) ps h = refl
 
-  fun_turn : (ds : List Row) (f : List ℕ) (ps : _) → (ds ≡ [] → ⊥) → turn_refs reads writes knows ds (fun f ps) ≡ turn_all reads writes knows (fun f ps)
+  fun_turn : (ds : List Row) (f : List ℕ) (ps : _) → (ds ≡ [] → ⊥) → turn_refs reads writes knows ds (fun f ps)
+      ≡ turn_all reads writes knows (fun f ps)
   fun_turn [] f ps h = absurd (h refl)
   fun_turn (d ∷ ds) f ps h = refl
 
-  pub other_turn : (v : Value) → ((n : List ℕ) → v ≡ Value.Ref n → ⊥) → (refs (view v) ≡ [] → ⊥) → turn_at reads writes knows (view v) ≡ turn_all reads writes knows (view v)
+  pub other_turn : (v : Value) → ((n : List ℕ) → v ≡ Value.Ref n → ⊥) → (refs (view v) ≡ [] → ⊥) → turn_at reads writes knows (view v)
+      ≡ turn_all reads writes knows (view v)
   other_turn Value.Null isnt h = absurd (h refl)
   other_turn (Value.Bool b) isnt h = absurd (h refl)
   other_turn (Value.Int z) isnt h = absurd (h refl)

@@ -18,7 +18,8 @@ pub trait Known {
 
     /// The object of the description of this name, if it is known.
     fn object(&self, name: &Name) -> Option<&Object>
-        ensures value { MatchOption result (knows self.now (known name.now) ≡ None) (λ o. knows self.now (known name.now) ≡ Some (object_view o.now)) }
+        ensures value { MatchOption result (knows self.now (known name.now) ≡ None)
+            (λ o. knows self.now (known name.now) ≡ Some (object_view o.now)) }
         ensures kept { IfSome result (λ o. KeptObject (object_view o.now)) };
 }
 

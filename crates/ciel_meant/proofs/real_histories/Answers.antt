@@ -18,17 +18,21 @@ returns-clause-endless c job around name mark frozen sound plain p h l ds k = ci
 
 pub returns-clause-listed : goal.returns-clause-listed
 returns-clause-listed c job around name mark frozen sound plain p h l none us ks =
-    listed_or_circle (the job around name mark frozen) (laws job around name mark frozen) (real_inner job around) (knows job around name mark frozen plain) p h l none us ks
+    listed_or_circle (the job around name mark frozen) (laws job around name mark frozen) (real_inner job around)
+    (knows job around name mark frozen plain) p h l none us ks
 
 pub returns-clause-starts : goal.returns-clause-starts
 returns-clause-starts c job around name mark frozen sound plain p h l one going u r w i =
-    ready_starts (the job around name mark frozen) (laws job around name mark frozen) (real_inner job around) (knows job around name mark frozen plain) p h one l going u r w i
+    ready_starts (the job around name mark frozen) (laws job around name mark frozen) (real_inner job around)
+    (knows job around name mark frozen plain) p h one l going u r w i
 
 pub returns-clause-made : goal.returns-clause-made
-returns-clause-made c job around name mark frozen sound plain p h l k made copied spawned d m i j = made_seen job around name mark frozen p h l k made copied spawned d m i j
+returns-clause-made c job around name mark frozen sound plain p h l k made copied spawned d m i j =
+    made_seen job around name mark frozen p h l k made copied spawned d m i j
 
 pub returns-clause-saved : goal.returns-clause-saved
-returns-clause-saved c job around name mark frozen sound plain p h l k w u from st j m refs holds spawned i = saved_stands job around name mark frozen p h l k w u from st j m refs holds spawned i
+returns-clause-saved c job around name mark frozen sound plain p h l k w u from st j m refs holds spawned i =
+    saved_stands job around name mark frozen p h l k w u from st j m refs holds spawned i
 
 pub returns-clause-book : goal.returns-clause-book
 returns-clause-book c job around name mark frozen sound plain p h l d i = book_made job around name mark frozen p h l d i

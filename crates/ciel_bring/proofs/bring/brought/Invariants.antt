@@ -6,4 +6,5 @@ use Rattle.ciel_bring.proofs.bring.brought.Given as goal
 
 abbrev pub invariant-loop-i : goal.invariant-loop-i
 invariant-loop-i l =
-    map brought_view l.inputs.items ++ brought worker_of l.keys l.worker l.table (drop l.i l.names) ≡ brought worker_of l.keys l.worker l.table l.names
+    map brought_view l.inputs.items ++ brought worker_of l.keys l.worker l.table (drop l.i l.names)
+    ≡ brought worker_of l.keys l.worker l.table l.names

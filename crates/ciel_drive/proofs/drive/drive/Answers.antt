@@ -13,7 +13,14 @@ pub run-preserved : goal.run-preserved
 run-preserved g c =
     let v = c.run.invariant in
     let n = c.in-Ok.ensures in
-    record { kept = n.kept; plan = n.plan ∙ v.plan; shop = n.shop ∙ v.shop; told = tells_both c.args.master.now.board.journal c.run.master.board.journal c.turn.new.master.board.journal (g.C.Crew.told c.args.crew.now) (g.C.Crew.told c.run.crew) (g.C.Crew.told c.turn.new.crew) v.told n.told }
+    record {
+      kept = n.kept;
+      plan = n.plan ∙ v.plan;
+      shop = n.shop ∙ v.shop;
+      told =
+          tells_both c.args.master.now.board.journal c.run.master.board.journal c.turn.new.master.board.journal (g.C.Crew.told c.args.crew.now)
+          (g.C.Crew.told c.run.crew) (g.C.Crew.told c.turn.new.crew) v.told n.told;
+    }
 
 pub run-smaller : goal.run-smaller
 run-smaller g c = c.in-Ok.ensures.less
@@ -26,4 +33,5 @@ returns-in-Err-clause-end g c =
 pub returns-in-Err-clause-told : goal.returns-in-Err-clause-told
 returns-in-Err-clause-told g c n =
     let v = c.run.invariant in
-    tells_both c.args.master.now.board.journal c.run.master.board.journal c.turn.new.master.board.journal (g.C.Crew.told c.args.crew.now) (g.C.Crew.told c.run.crew) (g.C.Crew.told c.turn.new.crew) v.told (c.in-Err.ensures.last n)
+    tells_both c.args.master.now.board.journal c.run.master.board.journal c.turn.new.master.board.journal (g.C.Crew.told c.args.crew.now)
+    (g.C.Crew.told c.run.crew) (g.C.Crew.told c.turn.new.crew) v.told (c.in-Err.ensures.last n)

@@ -18,7 +18,8 @@ start-requires-clause-runnable g c =
     let b = c.args.master.now.board in
     let x = c.in_ok-task.task in
     let at = c.in_ok-task.ensures.task in
-    subst (λ (m : MasterSeen _). Runnable (board_graph m.board) x) (sym c.nth.ensures.same) (picked_has (Runnable (board_graph b)) (tasks_in_order b.table) at.0 at.1 x (got_in at.0 c.args.place x at.2))
+    subst (λ (m : MasterSeen _). Runnable (board_graph m.board) x) (sym c.nth.ensures.same)
+    (picked_has (Runnable (board_graph b)) (tasks_in_order b.table) at.0 at.1 x (got_in at.0 c.args.place x at.2))
 
 pub start-requires-clause-idle : goal.start-requires-clause-idle
 start-requires-clause-idle g c =
@@ -50,4 +51,5 @@ returns-clause-started g c =
     let same = c.nth.ensures.same in
     let task_is : order.task ≡ x = ap (λ (z : Order P). z.out.task) c.in_ok-order.ensures.order in
     c.in_ok-order.ensures.started
-    ∙ (ap (λ (z : MasterSeen _). record z { board = started worker_of z.board x c.args.worker }) same ∙ ap (λ t. record m { board = started worker_of m.board t c.args.worker }) (sym task_is))
+    ∙ (ap (λ (z : MasterSeen _). record z { board = started worker_of z.board x c.args.worker }) same
+    ∙ ap (λ t. record m { board = started worker_of m.board t c.args.worker }) (sym task_is))

@@ -17,4 +17,5 @@ take_one-requires-clause-some_out g c =
 pub returns-then-is_at_rest-clause-last : goal.returns-then-is_at_rest-clause-last
 returns-then-is_at_rest-clause-last g c _ =
     let told = g.C.Crew.told c.args.crew.now in
-    tells_none c.args.master.now.board.journal c.count.new.self.board.journal told told (ap (λ (m : MasterSeen _). m.board.journal) c.count.ensures.same) (none_fades told)
+    tells_none c.args.master.now.board.journal c.count.new.self.board.journal told told
+    (ap (λ (m : MasterSeen _). m.board.journal) c.count.ensures.same) (none_fades told)

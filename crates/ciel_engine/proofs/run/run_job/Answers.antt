@@ -13,21 +13,28 @@ run_opened-ran-requires-clause-read g c κs within = subst (λ j. IsRead (job_vi
 
 pub returns-clause-told : goal.returns-clause-told
 returns-clause-told g c = λ ends.
-    told_now g.G.Gate.entered c.args.plan.workers c.args.gates.now.items c.replace-own.result.items c.in-Ok-set_aside.others.items c.run_opened-ran.result.1.items c.put_back-ran.result.1.items
-    (ap (λ v. v.items) c.replace-own.ensures.value ∙ c.in-Ok-set_aside.ensures.first) c.in-Ok-set_aside.ensures.others c.requires.gates (c.put_back-ran.ensures.gates ends)
+    told_now g.G.Gate.entered c.args.plan.workers c.args.gates.now.items c.replace-own.result.items c.in-Ok-set_aside.others.items
+    c.run_opened-ran.result.1.items c.put_back-ran.result.1.items
+    (ap (λ v. v.items) c.replace-own.ensures.value ∙ c.in-Ok-set_aside.ensures.first) c.in-Ok-set_aside.ensures.others c.requires.gates
+    (c.put_back-ran.ensures.gates ends)
     (c.run_opened-ran.ensures.all (still c.put_back-ran.result.0.end c.run_opened-ran.result.0.end c.put_back-ran.ensures.end ends))
     (map entry_view c.put_back-ran.result.0.journal.items)
-    (subst (λ j. ToldBy (map entry_view j.items) (map g.G.Gate.entered c.replace-own.result.items) (map g.G.Gate.entered c.run_opened-ran.result.1.items)) (sym c.put_back-ran.ensures.journal)
+    (subst (λ j. ToldBy (map entry_view j.items) (map g.G.Gate.entered c.replace-own.result.items)
+    (map g.G.Gate.entered c.run_opened-ran.result.1.items)) (sym c.put_back-ran.ensures.journal)
     (c.run_opened-ran.ensures.told (still c.put_back-ran.result.0.end c.run_opened-ran.result.0.end c.put_back-ran.ensures.end ends)))
 
 pub returns-clause-others : goal.returns-clause-others
 returns-clause-others g c = λ ends.
-    others_now g.G.Gate.entered c.args.plan.workers c.args.gates.now.items c.replace-own.result.items c.in-Ok-set_aside.others.items c.run_opened-ran.result.1.items c.put_back-ran.result.1.items
-    (ap (λ v. v.items) c.replace-own.ensures.value ∙ c.in-Ok-set_aside.ensures.first) c.in-Ok-set_aside.ensures.others c.requires.gates (c.put_back-ran.ensures.gates ends)
+    others_now g.G.Gate.entered c.args.plan.workers c.args.gates.now.items c.replace-own.result.items c.in-Ok-set_aside.others.items
+    c.run_opened-ran.result.1.items c.put_back-ran.result.1.items
+    (ap (λ v. v.items) c.replace-own.ensures.value ∙ c.in-Ok-set_aside.ensures.first) c.in-Ok-set_aside.ensures.others c.requires.gates
+    (c.put_back-ran.ensures.gates ends)
     (c.run_opened-ran.ensures.all (still c.put_back-ran.result.0.end c.run_opened-ran.result.0.end c.put_back-ran.ensures.end ends))
 
 pub returns-clause-all : goal.returns-clause-all
 returns-clause-all g c = λ ends.
-    all_now g.G.Gate.entered c.args.plan.workers c.args.gates.now.items c.replace-own.result.items c.in-Ok-set_aside.others.items c.run_opened-ran.result.1.items c.put_back-ran.result.1.items
-    (ap (λ v. v.items) c.replace-own.ensures.value ∙ c.in-Ok-set_aside.ensures.first) c.in-Ok-set_aside.ensures.others c.requires.gates (c.put_back-ran.ensures.gates ends)
+    all_now g.G.Gate.entered c.args.plan.workers c.args.gates.now.items c.replace-own.result.items c.in-Ok-set_aside.others.items
+    c.run_opened-ran.result.1.items c.put_back-ran.result.1.items
+    (ap (λ v. v.items) c.replace-own.ensures.value ∙ c.in-Ok-set_aside.ensures.first) c.in-Ok-set_aside.ensures.others c.requires.gates
+    (c.put_back-ran.ensures.gates ends)
     (c.run_opened-ran.ensures.all (still c.put_back-ran.result.0.end c.run_opened-ran.result.0.end c.put_back-ran.ensures.end ends))

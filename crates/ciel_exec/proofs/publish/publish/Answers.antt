@@ -16,5 +16,8 @@ loop-index-preserved g c =
     let at : 0 + length before ≡ i = omega (arith, c.loop-index.invariant.many) in
     record {
       many = ap length c.in-Ok.ensures.items ∙ length_push before c.in_ok-one.one i c.loop-index.invariant.many ∙ now;
-      so = subst (OutputsFrom digest c.args.shelves.now c.args.worker c.args.executor.now (view c.args.args.now) c.args.outputs (listed c.args.made.now) 0) (sym {A = List Made} c.in-Ok.ensures.items) (outputs_push digest c.args.shelves.now c.args.worker c.args.executor.now (view c.args.args.now) c.args.outputs (listed c.args.made.now) 0 i before c.in_ok-one.one c.loop-index.invariant.so at c.in_ok-one.ensures);
+      so = subst (OutputsFrom digest c.args.shelves.now c.args.worker c.args.executor.now (view c.args.args.now) c.args.outputs
+          (listed c.args.made.now) 0) (sym {A = List Made} c.in-Ok.ensures.items)
+          (outputs_push digest c.args.shelves.now c.args.worker c.args.executor.now (view c.args.args.now) c.args.outputs
+          (listed c.args.made.now) 0 i before c.in_ok-one.one c.loop-index.invariant.so at c.in_ok-one.ensures);
     }

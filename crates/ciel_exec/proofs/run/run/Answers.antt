@@ -13,17 +13,25 @@ use Rattle.ciel_exec.proofs.run.run.Goals as goal
 
 pub gather-requires-clause-names : goal.gather-requires-clause-names
 gather-requires-clause-names g c =
-    names_there c.as_slice.result.now (refs (view c.args.args.now)) (ap known_of c.as_slice.ensures ∙ c.in_ok-names.ensures) (names_in c.args.held.now) c.requires.names
+    names_there c.as_slice.result.now (refs (view c.args.args.now)) (ap known_of c.as_slice.ensures ∙ c.in_ok-names.ensures)
+    (names_in c.args.held.now) c.requires.names
 
 pub returns-in-Lost-clause-ran : goal.returns-in-Lost-clause-ran
 returns-in-Lost-clause-ran g c =
-    let lost = subst (GatheredSo (job_view c.args.shop.now.job).inputs c.args.held.now c.as_slice.result.now) c.in-Lost.is c.in_ok-gathered.ensures.gathered in
-    (names_refer c.as_slice.result.now (refs (view c.args.args.now)) (ap known_of c.as_slice.ensures ∙ c.in_ok-names.ensures) c.in-Lost.name lost.0, lost.1, lost.2, lost.3)
+    let lost = subst (GatheredSo (job_view c.args.shop.now.job).inputs c.args.held.now c.as_slice.result.now) c.in-Lost.is
+    c.in_ok-gathered.ensures.gathered in (
+      names_refer c.as_slice.result.now (refs (view c.args.args.now)) (ap known_of c.as_slice.ensures ∙ c.in_ok-names.ensures) c.in-Lost.name
+          lost.0,
+      lost.1,
+      lost.2,
+      lost.3,
+    )
 
 pub make-requires-clause-objects : goal.make-requires-clause-objects
 make-requires-clause-objects g c =
     let sc = (job_view c.args.shop.now.job).script in
-    objects_kept sc c.as_slice-in-All-2.result.now c.in-All.objects.items c.as_slice-in-All-2.ensures.value (subst (AllSound sc) c.in-All.is c.in_ok-gathered.ensures.sound)
+    objects_kept sc c.as_slice-in-All-2.result.now c.in-All.objects.items c.as_slice-in-All-2.ensures.value
+    (subst (AllSound sc) c.in-All.is c.in_ok-gathered.ensures.sound)
 
 pub returns-clause-ran : goal.returns-clause-ran
 returns-clause-ran g c =
@@ -37,9 +45,12 @@ returns-clause-ran g c =
     let n = c.args.outputs in
     let all = subst (GatheredSo ins held c.as_slice.result.now) c.in-All.is c.in_ok-gathered.ensures.gathered in
     let same = c.as_slice-in-All.ensures ∙ sym c.as_slice.ensures in
-    let so : map (lies ins held) ns ≡ map (seen_of ins held) os = ap (map (lies ins held)) same ∙ all ∙ ap (map (seen_of ins held)) (sym c.as_slice-in-All-2.ensures.value) in
+    let so : map (lies ins held) ns ≡ map (seen_of ins held) os = ap (map (lies ins held)) same ∙ all
+    ∙ ap (map (seen_of ins held)) (sym c.as_slice-in-All-2.ensures.value) in
     let are = ap known_of c.as_slice-in-All.ensures ∙ c.in_ok-names.ensures in
-    subst (λ r. AreOutputs (g.N.Namer.digest c.args.shop.now.namer) c.args.shop.now.shelves c.args.worker x a n r c.in_ok-outputs-in-All.outputs.items) (c.in_ok-made-in-All.ensures.made ∙ made_lies ins held gives x a n ns os are so) c.in_ok-outputs-in-All.ensures
+    subst (λ r. AreOutputs (g.N.Namer.digest c.args.shop.now.namer) c.args.shop.now.shelves c.args.worker x a n r
+    c.in_ok-outputs-in-All.outputs.items) (c.in_ok-made-in-All.ensures.made ∙ made_lies ins held gives x a n ns os are so)
+    c.in_ok-outputs-in-All.ensures
 
 pub returns-clause-copied : goal.returns-clause-copied
 returns-clause-copied g c =
@@ -49,4 +60,6 @@ returns-clause-copied g c =
     let ns = c.as_slice.result.now in
     let old = c.new-copied.result.items in
     let new = c.gather.new.copied.items in
-    copied_refs shelves c.args.worker ins held ns (refs (view c.args.args.now)) (ap known_of c.as_slice.ensures ∙ c.in_ok-names.ensures) old new c.new-copied.ensures.items (subst (λ y. CopiedUpTo shelves c.args.worker ins held ns y old new) c.in-All.is c.in_ok-gathered.ensures.copied)
+    copied_refs shelves c.args.worker ins held ns (refs (view c.args.args.now)) (ap known_of c.as_slice.ensures ∙ c.in_ok-names.ensures) old new
+    c.new-copied.ensures.items (subst (λ y. CopiedUpTo shelves c.args.worker ins held ns y old new) c.in-All.is
+    c.in_ok-gathered.ensures.copied)

@@ -8,4 +8,5 @@ returns-then-contains_key c =
 
 pub returns-in-Ok : goal.returns-in-Ok
 returns-in-Ok c =
-    added_new c.args.index.now c.insert.new.self c.args.name.now c.args.place c.in-Ok.ensures.updates (sym c.contains_key.ensures ∙ c.if-contains_key.false)
+    added_new c.args.index.now c.insert.new.self c.args.name.now c.args.place c.in-Ok.ensures.updates
+    (sym c.contains_key.ensures ∙ c.if-contains_key.false)

@@ -16,7 +16,8 @@ pub returns-clause-open : goal.returns-clause-open
 returns-clause-open g c job laws inner knows p h l o i d k = open_booked job laws inner knows p h l o i d k
 
 pub returns-clause-new : goal.returns-clause-new
-returns-clause-new g c job laws inner knows p h l e a d i = (informed_step job laws inner knows p (standing job h) e (informed job laws inner knows p h l) a).whole d i
+returns-clause-new g c job laws inner knows p h l e a d i =
+    (informed_step job laws inner knows p (standing job h) e (informed job laws inner knows p h l) a).whole d i
 
 pub returns-clause-heads : goal.returns-clause-heads
 returns-clause-heads g c job laws inner knows p h l = (informed job laws inner knows p h l).heads

@@ -38,4 +38,5 @@ pub returns-clause-stood : goal.returns-clause-stood
 returns-clause-stood g c job h o i = let m = began job h o i in record { before = m.before; rest = m.rest; whole = m.whole; stood = m.stood }
 
 pub returns-clause-once : goal.returns-clause-once
-returns-clause-once g c job laws p h l = subst (Once []) (sym (book_told job laws p h l)) (once_learned job laws (job.main ∷ []) (spawned_of h) (λ i. i, tt))
+returns-clause-once g c job laws p h l = subst (Once []) (sym (book_told job laws p h l))
+    (once_learned job laws (job.main ∷ []) (spawned_of h) (λ i. i, tt))

@@ -8,4 +8,5 @@ pub returns-clause-one_mark : goal.returns-clause-one_mark
 returns-clause-one_mark g c job laws p h l k m made more x y name a b i j s t = one_mark job laws p h l k m made more x y name a b i j s t
 
 pub returns-clause-one_state : goal.returns-clause-one_state
-returns-clause-one_state g c job laws p h l k m w u t from i s e j a b r x q y z v n o = one_state job laws p h l k m w u t from i s e j a b r x q y z v n o
+returns-clause-one_state g c job laws p h l k m w u t from i s e j a b r x q y z v n o =
+    one_state job laws p h l k m w u t from i s e j a b r x q y z v n o

@@ -14,6 +14,9 @@ loop-worker-preserved c =
     let xs : List ℕ = c.loop-worker.idle.items in
     let rest : List ℕ = idle_from gone busy (w0 + 1) (n - (w0 + 1)) in
     elim c.if-is_idle.branch [
-      | then-is_idle+in_ok-push w ↦ ap (λ (v : common.Vec ℕ common.Global). v.items ++ rest) w.idle-is ∙ (ap (λ ys. ys ++ rest) w.in_ok-push.ensures.items ∙ (idle_taken gone busy xs w0 n c.loop-worker-test.true (sym c.is_idle.ensures.idle ∙ w.if-is_idle.true) ∙ c.loop-worker.invariant))
-      | else-is_idle w ↦ ap (λ (v : common.Vec ℕ common.Global). v.items ++ rest) w.idle-is ∙ (idle_passed gone busy xs w0 n c.loop-worker-test.true (sym c.is_idle.ensures.idle ∙ w.if-is_idle.false) ∙ c.loop-worker.invariant)
+      | then-is_idle+in_ok-push w ↦ ap (λ (v : common.Vec ℕ common.Global). v.items ++ rest) w.idle-is
+          ∙ (ap (λ ys. ys ++ rest) w.in_ok-push.ensures.items
+          ∙ (idle_taken gone busy xs w0 n c.loop-worker-test.true (sym c.is_idle.ensures.idle ∙ w.if-is_idle.true) ∙ c.loop-worker.invariant))
+      | else-is_idle w ↦ ap (λ (v : common.Vec ℕ common.Global). v.items ++ rest) w.idle-is
+          ∙ (idle_passed gone busy xs w0 n c.loop-worker-test.true (sym c.is_idle.ensures.idle ∙ w.if-is_idle.false) ∙ c.loop-worker.invariant)
     ]

@@ -13,4 +13,8 @@ returns-in-Ok-clause-value c =
 
 pub returns-else-is_memory-clause-not_data : goal.returns-else-is_memory-clause-not_data
 returns-else-is_memory-clause-not_data c =
-    inr (refl, value_read-none c.args.bytes.now (λ u. ap (option_and_then value_of) (c.in-Err.ensures.err (λ m. false≢true (sym c.if-is_memory.false ∙ c.is_memory.ensures.1 m)) u)))
+    inr (
+      refl,
+      value_read-none c.args.bytes.now
+          (λ u. ap (option_and_then value_of) (c.in-Err.ensures.err (λ m. false≢true (sym c.if-is_memory.false ∙ c.is_memory.ensures.1 m)) u)),
+    )

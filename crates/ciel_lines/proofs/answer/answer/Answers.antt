@@ -13,5 +13,6 @@ pub returns-clause-answers : goal.returns-clause-answers
 returns-clause-answers g c =
     subst (λ r. AnswersSo c.args.line.now (map entry_view c.run-end.result.journal.items) (job_view c.args.job) r) (sym c.end_of.ensures)
     (run_answers c.args.line.now (job_view c.args.job) (map entry_view c.run-end.result.journal.items) c.if-line.false c.run-end.result.end
-    (subst (λ p. EndsSo (digest_of c.args.line.now.names) (job_view c.args.job) gives p (map entry_view c.run-end.result.journal.items) c.run-end.result.end)
+    (subst (λ p. EndsSo (digest_of c.args.line.now.names) (job_view c.args.job) gives p (map entry_view c.run-end.result.journal.items)
+    c.run-end.result.end)
     c.in-Ok.ensures.plan c.run-end.ensures.end))

@@ -11,10 +11,12 @@ use Rattle.ciel_lines.proofs.answer.run.Goals as goal
 
 pub returns-in-Sha1-clause-end : goal.returns-in-Sha1-clause-end
 returns-in-Sha1-clause-end g c =
-    subst (λ (n : NameKind). EndsSo (digest_of n) (job_view c.args.job) gives (plan_view c.args.plan) (map entry_view c.run_job.result.journal.items) c.run_job.result.end)
+    subst (λ (n : NameKind). EndsSo (digest_of n) (job_view c.args.job) gives (plan_view c.args.plan)
+    (map entry_view c.run_job.result.journal.items) c.run_job.result.end)
     (sym c.in-Sha1.is) c.run_job.ensures.end
 
 pub returns-in-Sha256-clause-end : goal.returns-in-Sha256-clause-end
 returns-in-Sha256-clause-end g c =
-    subst (λ (n : NameKind). EndsSo (digest_of n) (job_view c.args.job) gives (plan_view c.args.plan) (map entry_view c.run_job-in-Sha256.result.journal.items) c.run_job-in-Sha256.result.end)
+    subst (λ (n : NameKind). EndsSo (digest_of n) (job_view c.args.job) gives (plan_view c.args.plan)
+    (map entry_view c.run_job-in-Sha256.result.journal.items) c.run_job-in-Sha256.result.end)
     (sym c.in-Sha256.is) c.run_job-in-Sha256.ensures.end

@@ -8,5 +8,6 @@ use Rattle.ciel_lines.proofs.lines.job_of.Goals as goal
 pub returns-in-Ok-clause-job : goal.returns-in-Ok-clause-job
 returns-in-Ok-clause-job g c =
     loaded_of (g.F.Files.content c.args.files.now) c.args.line.now c.in-Some.path (job_view c.in-Ok.job) c.in-Some.is
-    (subst (λ (is : List (List ℕ × List ℕ)). IsLoaded (g.F.Files.content c.args.files.now) (record { script = c.in-Some.path; inputs = is }) (job_view c.in-Ok.job))
+    (subst (λ (is : List (List ℕ × List ℕ)). IsLoaded (g.F.Files.content c.args.files.now) (record { script = c.in-Some.path; inputs = is })
+    (job_view c.in-Ok.job))
     c.as_slice.ensures c.in-Ok.ensures.job)

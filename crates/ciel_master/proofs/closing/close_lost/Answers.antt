@@ -12,12 +12,15 @@ returns-in-Some-clause-ready c =
     let r = c.args.ready.now in
     let x = kept_view c.in-Some.order in
     let os = map kept_view c.args.orders.now.items in
-    let found : worker_order c.args.worker os ≡ Some x = ap (λ xs. worker_order c.args.worker (map kept_view xs)) (sym c.deref.ensures.value) ∙ (sym c.find_at.ensures ∙ ap (option_map kept_view) c.in-Some.is) in
+    let found : worker_order c.args.worker os ≡ Some x = ap (λ xs. worker_order c.args.worker (map kept_view xs)) (sym c.deref.ensures.value)
+    ∙ (sym c.find_at.ensures ∙ ap (option_map kept_view) c.in-Some.is) in
     let at = worker_in c.args.worker os x found in
     c.close.ensures.closed
-    ∙ ap (λ ts. record r { out = ts }) (ap (filter (λ z. not (same_id x.task z))) c.requires.out ∙ (lost_tasks os c.requires.one x at.0 c.args.worker at.1 ∙ ap tasks_out (sym c.close_at.ensures)))
+    ∙ ap (λ ts. record r { out = ts }) (ap (filter (λ z. not (same_id x.task z))) c.requires.out
+    ∙ (lost_tasks os c.requires.one x at.0 c.args.worker at.1 ∙ ap tasks_out (sym c.close_at.ensures)))
 
 pub returns-in_default-clause-orders : goal.returns-in_default-clause-orders
 returns-in_default-clause-orders c =
     let os = map kept_view c.args.orders.now.items in
-    sym (none_lost c.args.worker os (ap (λ xs. worker_order c.args.worker (map kept_view xs)) (sym c.deref.ensures.value) ∙ (sym c.find_at.ensures ∙ ap (option_map kept_view) c.in_default.is)))
+    sym (none_lost c.args.worker os (ap (λ xs. worker_order c.args.worker (map kept_view xs)) (sym c.deref.ensures.value)
+    ∙ (sym c.find_at.ensures ∙ ap (option_map kept_view) c.in_default.is)))

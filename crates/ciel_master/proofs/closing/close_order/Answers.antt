@@ -11,4 +11,5 @@ returns-clause-ready c =
     let x = kept_view c.args.order.now in
     let os = map kept_view c.args.orders.now.items in
     c.close-2.ensures.closed
-    ∙ ap (λ ts. record r { out = ts }) (ap (filter (λ z. not (same_id x.task z))) c.requires.out ∙ (closed_tasks os c.requires.one x c.requires.here ∙ ap tasks_out (sym c.close.ensures)))
+    ∙ ap (λ ts. record r { out = ts }) (ap (filter (λ z. not (same_id x.task z))) c.requires.out
+    ∙ (closed_tasks os c.requires.one x c.requires.here ∙ ap tasks_out (sym c.close.ensures)))

@@ -17,7 +17,9 @@ returns-in_err-learn-clause-refused g c =
     let rest = drop (l.i + 1) ns in
     let e = c.in_err-learn.field-0.0 in
     let here : drop l.i ns ≡ n ∷ rest = drop_more ns l.i n c.loop-i-test.true ∙ ap (λ y. y ∷ rest) (sym c.index-spawned-i.is) in
-    refused_so (FirstStops d ns c.args.ready.now.table) c.from_residual.result e c.from_residual.ensures.1 (l.invariant.stops e (subst (λ xs. FirstStops d xs l.ready.table e) (sym here) (stops_here d n rest l.ready.table e c.in_err-learn.ensures.refused)))
+    refused_so (FirstStops d ns c.args.ready.now.table) c.from_residual.result e c.from_residual.ensures.1
+    (l.invariant.stops e (subst (λ xs. FirstStops d xs l.ready.table e) (sym here)
+    (stops_here d n rest l.ready.table e c.in_err-learn.ensures.refused)))
 
 pub loop-i-preserved : goal.loop-i-preserved
 loop-i-preserved g c =
@@ -30,7 +32,10 @@ loop-i-preserved g c =
     let is = c.in_ok-learn.ensures.learned in
     let answer = c.in_ok-learn.ensures.answer in
     record {
-      learned = ap (λ (r : ReadySeen P). with_table r (learned_all d rest r.table)) is ∙ (ap (λ xs. with_table l.ready (learned_all d xs l.ready.table)) (sym here) ∙ l.invariant.learned);
-      all = λ a. l.invariant.all (subst (λ xs. AllLearned d xs l.ready.table) (sym here) (answer, subst (λ (r : ReadySeen P). AllLearned d rest r.table) is a));
-      stops = λ e s. l.invariant.stops e (subst (λ xs. FirstStops d xs l.ready.table e) (sym here) (stops_later d n rest l.ready.table answer.0 answer.1 e (subst (λ (r : ReadySeen P). FirstStops d rest r.table e) is s)));
+      learned = ap (λ (r : ReadySeen P). with_table r (learned_all d rest r.table)) is
+          ∙ (ap (λ xs. with_table l.ready (learned_all d xs l.ready.table)) (sym here) ∙ l.invariant.learned);
+      all = λ a. l.invariant.all (subst (λ xs. AllLearned d xs l.ready.table) (sym here)
+          (answer, subst (λ (r : ReadySeen P). AllLearned d rest r.table) is a));
+      stops = λ e s. l.invariant.stops e (subst (λ xs. FirstStops d xs l.ready.table e) (sym here)
+          (stops_later d n rest l.ready.table answer.0 answer.1 e (subst (λ (r : ReadySeen P). FirstStops d rest r.table e) is s)));
     }

@@ -8,7 +8,10 @@ use Rattle.ciel_master.proofs.learning.learn_all.Given as goal
 abbrev pub invariant-loop-i : goal.invariant-loop-i
 invariant-loop-i g l =
     record {
-      learned : with_table l.ready (learned_all (g.N.Namer.digest l.namer) (drop l.i l.spawned) l.ready.table) ≡ with_table l.fn.ready (learned_all (g.N.Namer.digest l.namer) l.spawned l.fn.ready.table);
-      all : AllLearned (g.N.Namer.digest l.namer) (drop l.i l.spawned) l.ready.table → AllLearned (g.N.Namer.digest l.namer) l.spawned l.fn.ready.table;
-      stops : (e : Stop) → FirstStops (g.N.Namer.digest l.namer) (drop l.i l.spawned) l.ready.table e → FirstStops (g.N.Namer.digest l.namer) l.spawned l.fn.ready.table e;
+      learned : with_table l.ready (learned_all (g.N.Namer.digest l.namer) (drop l.i l.spawned) l.ready.table)
+          ≡ with_table l.fn.ready (learned_all (g.N.Namer.digest l.namer) l.spawned l.fn.ready.table);
+      all : AllLearned (g.N.Namer.digest l.namer) (drop l.i l.spawned) l.ready.table
+          → AllLearned (g.N.Namer.digest l.namer) l.spawned l.fn.ready.table;
+      stops : (e : Stop) → FirstStops (g.N.Namer.digest l.namer) (drop l.i l.spawned) l.ready.table e
+          → FirstStops (g.N.Namer.digest l.namer) l.spawned l.fn.ready.table e;
     }

@@ -7,5 +7,6 @@ use Rattle.ciel_master.proofs.orders.close.Goals as goal
 
 pub returns : goal.returns
 returns c =
-    ap (map kept_view) (filter_same _ (λ (x : OrderOut). not (nat_eq c.args.number x.number)) _ (λ x b f k. search rules) _ _ c.retain.ensures.filtered)
+    ap (map kept_view) (filter_same _ (λ (x : OrderOut). not (nat_eq c.args.number x.number)) _ (λ x b f k. search rules) _ _
+    c.retain.ensures.filtered)
     ∙ without_map c.args.number c.args.orders.now.items

@@ -28,6 +28,10 @@ loop-i-preserved c =
     let Can = CanPlace (λ (x : Copy P). x.name) (λ (x : Copy P). x.place) in
     let is = c.in_ok-place_copy.ensures.placed in
     record {
-      placed = ap (λ (r : ReadySeen P). with_table r (with_copies (copies_view rest) r.table)) is ∙ (ap (with_table l.ready) (after_copy h rest l.ready.table) ∙ (ap (λ xs. with_table l.ready (with_copies (copies_view xs) l.ready.table)) (sym here) ∙ l.invariant.placed));
-      known = subst (λ (r : ReadySeen P). Each (Can r.table) (copies_view rest)) (sym is) (can_after (λ (x : Copy P). x.name) (λ (x : Copy P). x.place) (copies_view (h ∷ [])) l.ready.table (copies_view rest) (later_copies h rest (Can l.ready.table) (subst (λ xs. Each (Can l.ready.table) (copies_view xs)) here l.invariant.known)));
+      placed = ap (λ (r : ReadySeen P). with_table r (with_copies (copies_view rest) r.table)) is
+          ∙ (ap (with_table l.ready) (after_copy h rest l.ready.table)
+          ∙ (ap (λ xs. with_table l.ready (with_copies (copies_view xs) l.ready.table)) (sym here) ∙ l.invariant.placed));
+      known = subst (λ (r : ReadySeen P). Each (Can r.table) (copies_view rest)) (sym is)
+          (can_after (λ (x : Copy P). x.name) (λ (x : Copy P). x.place) (copies_view (h ∷ [])) l.ready.table (copies_view rest)
+          (later_copies h rest (Can l.ready.table) (subst (λ xs. Each (Can l.ready.table) (copies_view xs)) here l.invariant.known)));
     }

@@ -12,6 +12,7 @@ use Rattle.ciel_master.proofs.placing.place_copies.Given as goal
 abbrev pub invariant-loop-i : goal.invariant-loop-i
 invariant-loop-i l =
     record {
-      placed : with_table l.ready (with_copies (copies_view (drop l.i l.copied)) l.ready.table) ≡ with_table l.fn.ready (with_copies (copies_view l.copied) l.fn.ready.table);
+      placed : with_table l.ready (with_copies (copies_view (drop l.i l.copied)) l.ready.table)
+          ≡ with_table l.fn.ready (with_copies (copies_view l.copied) l.fn.ready.table);
       known : Each (λ (c : Copy P). Known l.ready.table c.name × Here l.ready.table.gone (worker_of c.place)) (copies_view (drop l.i l.copied));
     }

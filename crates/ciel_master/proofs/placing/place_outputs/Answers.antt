@@ -16,9 +16,13 @@ loop-i-preserved c =
     let m = c.index-made-i.result in
     let rest = drop (l.i + 1) ms in
     let here : drop l.i ms ≡ m ∷ rest = drop_more ms l.i m c.loop-i-test.true ∙ ap (λ y. y ∷ rest) (sym c.index-made-i.is) in
-    let is : c.add_place.new.self ≡ with_table l.ready (placed m.name m.place l.ready.table) = c.in_ok-add_place.ensures.placed ∙ ap (λ p. with_table l.ready (placed m.name p l.ready.table)) c.share.ensures.same in
+    let is : c.add_place.new.self ≡ with_table l.ready (placed m.name m.place l.ready.table) = c.in_ok-add_place.ensures.placed
+    ∙ ap (λ p. with_table l.ready (placed m.name p l.ready.table)) c.share.ensures.same in
     let Can = CanPlace (λ (x : Made). x.name) (λ (x : Made). x.place) in
     record {
-      placed = ap (λ (r : ReadySeen P). with_table r (with_outputs (map output_view rest) r.table)) is ∙ (ap (λ xs. with_table l.ready (with_outputs (map output_view xs) l.ready.table)) (sym here) ∙ l.invariant.placed);
-      known = subst (λ (r : ReadySeen P). Each (Can r.table) rest) (sym is) (can_still (λ (x : Made). x.name) (λ (x : Made). x.place) m.name m.place l.ready.table rest (subst (Each (Can l.ready.table)) here l.invariant.known).1);
+      placed = ap (λ (r : ReadySeen P). with_table r (with_outputs (map output_view rest) r.table)) is
+          ∙ (ap (λ xs. with_table l.ready (with_outputs (map output_view xs) l.ready.table)) (sym here) ∙ l.invariant.placed);
+      known = subst (λ (r : ReadySeen P). Each (Can r.table) rest) (sym is)
+          (can_still (λ (x : Made). x.name) (λ (x : Made). x.place) m.name m.place l.ready.table rest
+          (subst (Each (Can l.ready.table)) here l.invariant.known).1);
     }

@@ -12,6 +12,7 @@ use Rattle.ciel_master.proofs.placing.place_outputs.Given as goal
 abbrev pub invariant-loop-i : goal.invariant-loop-i
 invariant-loop-i l =
     record {
-      placed : with_table l.ready (with_outputs (map output_view (drop l.i l.made)) l.ready.table) ≡ with_table l.fn.ready (with_outputs (map output_view l.made) l.fn.ready.table);
+      placed : with_table l.ready (with_outputs (map output_view (drop l.i l.made)) l.ready.table)
+          ≡ with_table l.fn.ready (with_outputs (map output_view l.made) l.fn.ready.table);
       known : Each (λ (m : Made). Known l.ready.table m.name × Here l.ready.table.gone (worker_of m.place)) (drop l.i l.made);
     }

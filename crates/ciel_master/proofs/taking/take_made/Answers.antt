@@ -9,4 +9,8 @@ use Rattle.ciel_master.proofs.taking.take_made.Goals as goal
 pub place_copies-requires : goal.place_copies-requires
 place_copies-requires c =
     let t = c.args.ready.now.table in
-    record { known = subst (λ (r : ReadySeen P). CopiesPlace r.table c.args.copied.now) (sym c.in_ok-place_outputs.ensures.placed) (can_beside (λ (x : Copy P). x.name) (λ (x : Copy P). x.place) (map output_view c.args.made.now) t (copies_view c.args.copied.now) c.requires.copied) }
+    record {
+      known = subst (λ (r : ReadySeen P). CopiesPlace r.table c.args.copied.now) (sym c.in_ok-place_outputs.ensures.placed)
+          (can_beside (λ (x : Copy P). x.name) (λ (x : Copy P). x.place) (map output_view c.args.made.now) t (copies_view c.args.copied.now)
+          c.requires.copied);
+    }

@@ -18,5 +18,6 @@ returns-then-not-is_empty-clause-refused c =
 
 pub returns-then-is_too_large-clause-refused : goal.returns-then-is_too_large-clause-refused
 returns-then-is_too_large-clause-refused c =
-    let large : most_size < size (view c.in-Ok.value) = ltb-true most_size (size (view c.in-Ok.value)) (sym c.is_too_large.ensures ∙ c.if-is_too_large.true) in
+    let large : most_size < size (view c.in-Ok.value) =
+    ltb-true most_size (size (view c.in-Ok.value)) (sym c.is_too_large.ensures ∙ c.if-is_too_large.true) in
     subst NoData c.new-reader.ensures (data_large c.new-reader.result (view c.in-Ok.value) c.read_value.new.reader c.in-Ok.ensures.value large)

@@ -5,8 +5,12 @@ use Rattle.ciel_perform.proofs.task.run_task.Goals as goal
 
 pub returns-clause-performs : goal.returns-clause-performs
 returns-clause-performs g c =
-    performs (g.N.Namer.digest c.args.shop.now.namer) (job_view c.args.shop.now.job) (g.K.Kit.gives c.args.shop.now.kit) c.requires.inputs c.args.order.now c.args.shop.now.shelves c.requires.sound c.requires.state c.requires.read c.in_ok-report.report c.run.new.eye c.in_ok-report.ensures.ran
+    performs (g.N.Namer.digest c.args.shop.now.namer) (job_view c.args.shop.now.job) (g.K.Kit.gives c.args.shop.now.kit) c.requires.inputs
+    c.args.order.now c.args.shop.now.shelves c.requires.sound c.requires.state c.requires.read c.in_ok-report.report c.run.new.eye
+    c.in_ok-report.ensures.ran
 
 pub returns-clause-places : goal.returns-clause-places
 returns-clause-places g c =
-    places (g.N.Namer.digest c.args.shop.now.namer) (job_view c.args.shop.now.job) (g.K.Kit.gives c.args.shop.now.kit) c.requires.inputs c.args.order.now c.args.shop.now.shelves c.requires.sound c.requires.state c.requires.read c.in_ok-report.report c.run.new.eye (c.run.ensures.of ∙ c.requires.eye) c.in_ok-report.ensures.ran
+    places (g.N.Namer.digest c.args.shop.now.namer) (job_view c.args.shop.now.job) (g.K.Kit.gives c.args.shop.now.kit) c.requires.inputs
+    c.args.order.now c.args.shop.now.shelves c.requires.sound c.requires.state c.requires.read c.in_ok-report.report c.run.new.eye
+    (c.run.ensures.of ∙ c.requires.eye) c.in_ok-report.ensures.ran

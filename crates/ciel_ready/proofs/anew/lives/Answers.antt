@@ -8,7 +8,8 @@ pub loop-row-preserved : goal.loop-row-preserved
 loop-row-preserved g c =
     let t = c.args.table.now in
     let old = c.loop-row.flags.items in
-    map_step is_live_row t.rows c.loop-row.row c.row.result.now old c.push.new.items.items (map is_live_row t.rows) c.row.ensures.row c.loop-row.invariant (c.in_ok-push.ensures ∙ ap (λ x. old ++ x ∷ []) c.is_live.ensures.live)
+    map_step is_live_row t.rows c.loop-row.row c.row.result.now old c.push.new.items.items (map is_live_row t.rows) c.row.ensures.row
+    c.loop-row.invariant (c.in_ok-push.ensures ∙ ap (λ x. old ++ x ∷ []) c.is_live.ensures.live)
 
 pub returns-clause-few : goal.returns-clause-few
 returns-clause-few g c =

@@ -11,4 +11,6 @@ loop-row-preserved g c =
     let t = c.args.table.now in
     let tasks = c.args.tasks.now in
     let old = c.loop-row.flags.items in
-    map_step (λ (r : Row g.row.P.Denot). is_in tasks (TaskId.Of r.name)) t.rows c.loop-row.row c.row.result.now old c.push-in-loop-row.new.items.items (outs t tasks) c.row.ensures.row c.loop-row.invariant (c.in_ok-push-2.ensures ∙ ap (λ x. old ++ x ∷ []) c.has-in-loop-row.ensures)
+    map_step (λ (r : Row g.row.P.Denot). is_in tasks (TaskId.Of r.name)) t.rows c.loop-row.row c.row.result.now old
+    c.push-in-loop-row.new.items.items (outs t tasks) c.row.ensures.row c.loop-row.invariant
+    (c.in_ok-push-2.ensures ∙ ap (λ x. old ++ x ∷ []) c.has-in-loop-row.ensures)

@@ -6,4 +6,5 @@ use Rattle.ciel_ready.specs.Fits.{outs}
 use Rattle.ciel_ready.proofs.anew.outs.Given as goal
 
 abbrev pub invariant-loop-row : goal.invariant-loop-row
-invariant-loop-row g l = l.flags.items ++ map (λ (r : Row g.row.P.Denot). is_in l.tasks (TaskId.Of r.name)) (drop l.row l.table.rows) ≡ outs l.table l.tasks
+invariant-loop-row g l = l.flags.items ++ map (λ (r : Row g.row.P.Denot). is_in l.tasks (TaskId.Of r.name)) (drop l.row l.table.rows)
+    ≡ outs l.table l.tasks

@@ -15,4 +15,5 @@ search-requires-clause-makers g c =
 pub search-requires-clause-stands : goal.search-requires-clause-stands
 search-requires-clause-stands g c =
     let f = subst (λ o. IfSome o (λ m. Fits c.args.main.now c.args.table.now m)) c.in_ok-marks.was c.requires.fits in
-    c.in-Ok-true.ensures.stands c.in-Ok-true.field-0-test (needs_by c.args.main.now c.args.table.now) (sym c.is_out.ensures.out ∙ c.if-not-is_out.false) f.right
+    c.in-Ok-true.ensures.stands c.in-Ok-true.field-0-test (needs_by c.args.main.now c.args.table.now)
+    (sym c.is_out.ensures.out ∙ c.if-not-is_out.false) f.right

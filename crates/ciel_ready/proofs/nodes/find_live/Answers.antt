@@ -16,4 +16,5 @@ returns-in-Some-clause-live g c =
 
 pub returns-in-None-clause-live : goal.returns-in-None-clause-live
 returns-in-None-clause-live g c =
-    ap (λ o. option_map_or is_live_row o false) (sym (found_none row_name c.args.name.now c.args.table.now.rows (sym c.find_near.ensures ∙ c.in-None.is)))
+    ap (λ o. option_map_or is_live_row o false)
+    (sym (found_none row_name c.args.name.now c.args.table.now.rows (sym c.find_near.ensures ∙ c.in-None.is)))

@@ -17,7 +17,8 @@ run-requires-clause-line g c κs within = c.lines_are_sound.ensures c.args.words
 
 pub returns-clause-driven : goal.returns-clause-driven
 returns-clause-driven g c =
-    over_line c.args.words.now c.in-Ok.line (λ w. OfLine (g.F.Files.content c.args.files.now) w (λ source inputs. IsDriven w source inputs (map entry_view c.run.result.journal.items))) c.in-Ok.ensures.line c.run.ensures.driven
+    over_line c.args.words.now c.in-Ok.line (λ w. OfLine (g.F.Files.content c.args.files.now) w
+    (λ source inputs. IsDriven w source inputs (map entry_view c.run.result.journal.items))) c.in-Ok.ensures.line c.run.ensures.driven
 
 pub returns-clause-needed : goal.returns-clause-needed
 returns-clause-needed g c = λ w f source inputs st. needed w source inputs (map entry_view c.run.result.journal.items)
@@ -47,41 +48,57 @@ pub returns-in-Err-Memory-clause-needed : goal.returns-in-Err-Memory-clause-need
 returns-in-Err-Memory-clause-needed g c = λ w f source inputs st. needed w source inputs (map entry_view c.refused-in-Err-Memory.result.journal.items)
 
 pub returns-in-Err-Memory-clause-missing : goal.returns-in-Err-Memory-clause-missing
-returns-in-Err-Memory-clause-missing g c = λ w f source inputs st. missing w source inputs (map entry_view c.refused-in-Err-Memory.result.journal.items)
+returns-in-Err-Memory-clause-missing g c = λ w f source inputs st. missing w source inputs
+    (map entry_view c.refused-in-Err-Memory.result.journal.items)
 
 pub returns-in-Err-Memory-clause-few : goal.returns-in-Err-Memory-clause-few
 returns-in-Err-Memory-clause-few g c = λ w f source inputs st. few w source inputs (map entry_view c.refused-in-Err-Memory.result.journal.items)
 
 pub returns-in-Err-Memory-clause-one_value : goal.returns-in-Err-Memory-clause-one_value
-returns-in-Err-Memory-clause-one_value g c = λ w f source inputs st. one_value w source inputs (map entry_view c.refused-in-Err-Memory.result.journal.items)
+returns-in-Err-Memory-clause-one_value g c =
+    λ w f source inputs st. one_value w source inputs (map entry_view c.refused-in-Err-Memory.result.journal.items)
 
 pub returns-clause-too_deep : goal.returns-clause-too_deep
-returns-clause-too_deep g c = too_deep (g.F.Files.content c.args.files.now) c.args.words.now c.in-Ok.line c.in-Ok.ensures.line (HasRisen (g.F.Files.faults c.args.files.now) (g.F.Files.faults c.run.new.files)) (map entry_view c.run.result.journal.items) c.run.result.why c.run.ensures.cause
+returns-clause-too_deep g c = too_deep (g.F.Files.content c.args.files.now) c.args.words.now c.in-Ok.line c.in-Ok.ensures.line
+    (HasRisen (g.F.Files.faults c.args.files.now) (g.F.Files.faults c.run.new.files)) (map entry_view c.run.result.journal.items)
+    c.run.result.why c.run.ensures.cause
 
 pub returns-clause-read_fault : goal.returns-clause-read_fault
-returns-clause-read_fault g c = read_fault (g.F.Files.content c.args.files.now) c.args.words.now c.in-Ok.line c.in-Ok.ensures.line (HasRisen (g.F.Files.faults c.args.files.now) (g.F.Files.faults c.run.new.files)) (map entry_view c.run.result.journal.items) c.run.result.why c.run.ensures.cause
+returns-clause-read_fault g c = read_fault (g.F.Files.content c.args.files.now) c.args.words.now c.in-Ok.line c.in-Ok.ensures.line
+    (HasRisen (g.F.Files.faults c.args.files.now) (g.F.Files.faults c.run.new.files)) (map entry_view c.run.result.journal.items)
+    c.run.result.why c.run.ensures.cause
 
 pub returns-clause-complete : goal.returns-clause-complete
 returns-clause-complete g c = λ quiet still silent.
-    over_line c.args.words.now c.in-Ok.line (λ w. OfLine (g.F.Files.content c.args.files.now) w (λ source inputs. IsExpected w source inputs c.run.result.why)) c.in-Ok.ensures.line
-    (expected (g.F.Files.content c.args.files.now) c.in-Ok.line (HasRisen (g.F.Files.faults c.args.files.now) (g.F.Files.faults c.run.new.files)) (map entry_view c.run.result.journal.items) c.run.result.why (g.O.Sink.written c.args.out.now) (g.O.Sink.written c.run.new.out) c.run.ensures.cause c.run.ensures.done quiet
+    over_line c.args.words.now c.in-Ok.line (λ w. OfLine (g.F.Files.content c.args.files.now) w
+    (λ source inputs. IsExpected w source inputs c.run.result.why)) c.in-Ok.ensures.line
+    (expected (g.F.Files.content c.args.files.now) c.in-Ok.line (HasRisen (g.F.Files.faults c.args.files.now) (g.F.Files.faults c.run.new.files))
+    (map entry_view c.run.result.journal.items) c.run.result.why (g.O.Sink.written c.args.out.now) (g.O.Sink.written c.run.new.out)
+    c.run.ensures.cause c.run.ensures.done quiet
     (λ failed. no_write _ _ _ (c.run.ensures.write_fault failed) still silent))
 
 pub returns-clause-answers : goal.returns-clause-answers
 returns-clause-answers g c = λ quiet still silent.
-    over_line c.args.words.now c.in-Ok.line (λ w. OfLine (g.F.Files.content c.args.files.now) w (λ source inputs. Answers w source inputs c.run.result.why)) c.in-Ok.ensures.line
-    (answers (g.F.Files.content c.args.files.now) c.in-Ok.line (HasRisen (g.F.Files.faults c.args.files.now) (g.F.Files.faults c.run.new.files)) (map entry_view c.run.result.journal.items) c.modest_runs_answer.ensures c.functions_are_orderly.ensures.orderly c.run.result.why c.run.ensures.cause quiet
+    over_line c.args.words.now c.in-Ok.line (λ w. OfLine (g.F.Files.content c.args.files.now) w
+    (λ source inputs. Answers w source inputs c.run.result.why)) c.in-Ok.ensures.line
+    (answers (g.F.Files.content c.args.files.now) c.in-Ok.line (HasRisen (g.F.Files.faults c.args.files.now) (g.F.Files.faults c.run.new.files))
+    (map entry_view c.run.result.journal.items) c.modest_runs_answer.ensures c.functions_are_orderly.ensures.orderly c.run.result.why
+    c.run.ensures.cause quiet
     (λ failed. no_write _ _ _ (c.run.ensures.write_fault failed) still silent) c.run.ensures.driven)
 
 pub returns-clause-message : goal.returns-clause-message
 returns-clause-message g c = λ nl.
-    at_line c.args.words.now c.in-Ok.line (λ o. Tells (g.J.Sink.written c.args.log.now) (g.J.Sink.written c.run.new.log) (trace_of (is_traced o) c.run.result.journal.items ++ message_of c.run.result.why)) c.in-Ok.ensures.line
+    at_line c.args.words.now c.in-Ok.line (λ o. Tells (g.J.Sink.written c.args.log.now) (g.J.Sink.written c.run.new.log)
+    (trace_of (is_traced o) c.run.result.journal.items ++ message_of c.run.result.why)) c.in-Ok.ensures.line
     (c.run.ensures.message nl)
 
 pub returns-clause-message_part : goal.returns-clause-message_part
 returns-clause-message_part g c =
-    at_line c.args.words.now c.in-Ok.line (λ o. TellsParts (g.J.Sink.written c.args.log.now) (g.J.Sink.written c.run.new.log) (trace_of (is_traced o) c.run.result.journal.items) (message_of c.run.result.why)) c.in-Ok.ensures.line
+    at_line c.args.words.now c.in-Ok.line (λ o. TellsParts (g.J.Sink.written c.args.log.now) (g.J.Sink.written c.run.new.log)
+    (trace_of (is_traced o) c.run.result.journal.items) (message_of c.run.result.why)) c.in-Ok.ensures.line
     c.run.ensures.message_part
 
 pub returns-clause-usage : goal.returns-clause-usage
-returns-clause-usage g c = λ u. absurd (not_usage (g.F.Files.content c.args.files.now) c.args.words.now c.in-Ok.line c.in-Ok.ensures.line (HasRisen (g.F.Files.faults c.args.files.now) (g.F.Files.faults c.run.new.files)) (map entry_view c.run.result.journal.items) c.run.result.why c.run.ensures.cause u)
+returns-clause-usage g c = λ u. absurd (not_usage (g.F.Files.content c.args.files.now) c.args.words.now c.in-Ok.line c.in-Ok.ensures.line
+    (HasRisen (g.F.Files.faults c.args.files.now) (g.F.Files.faults c.run.new.files)) (map entry_view c.run.result.journal.items)
+    c.run.result.why c.run.ensures.cause u)

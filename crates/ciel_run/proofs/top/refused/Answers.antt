@@ -5,4 +5,5 @@ use Rattle.ciel_run.proofs.top.refused.Goals as goal
 
 pub returns-clause-message_part : goal.returns-clause-message_part
 returns-clause-message_part g c =
-    part_of c.put_message.result (g.J.Sink.written c.args.log.now) (g.J.Sink.written c.put_message.new.log) (message_of c.args.why) c.put_message.ensures.written c.put_message.ensures.part
+    part_of c.put_message.result (g.J.Sink.written c.args.log.now) (g.J.Sink.written c.put_message.new.log) (message_of c.args.why)
+    c.put_message.ensures.written c.put_message.ensures.part

@@ -7,4 +7,5 @@ returns-in-Ok-clause-message_part g c = parts_whole _ _ _ c.in-Ok.ensures.writte
 
 pub returns-in-Err-clause-message_part : goal.returns-in-Err-clause-message_part
 returns-in-Err-clause-message_part g c =
-    both_parts _ _ _ _ _ c.put_trace.result c.put_message.result c.put_trace.ensures.written c.put_trace.ensures.part c.put_message.ensures.written c.put_message.ensures.part
+    both_parts _ _ _ _ _ c.put_trace.result c.put_message.result c.put_trace.ensures.written c.put_trace.ensures.part
+    c.put_message.ensures.written c.put_message.ensures.part

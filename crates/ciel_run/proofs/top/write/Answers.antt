@@ -7,5 +7,6 @@ use Rattle.ciel_run.proofs.top.write.Goals as goal
 
 pub returns-in-Ok-clause-part : goal.returns-in-Ok-clause-part
 returns-in-Ok-clause-part g c = λ failed.
-    subst (λ (a : List ℕ). TellsPart (g.O.Sink.written c.args.out.now) (g.O.Sink.written c.put_answer.new.out) (output_of c.args.line.now.generate a)) c.as_slice.ensures
+    subst (λ (a : List ℕ). TellsPart (g.O.Sink.written c.args.out.now) (g.O.Sink.written c.put_answer.new.out)
+    (output_of c.args.line.now.generate a)) c.as_slice.ensures
     (part_whole _ _ _ c.in-Ok.ensures.written)

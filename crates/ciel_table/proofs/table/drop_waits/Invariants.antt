@@ -5,4 +5,8 @@ use Rattle.ciel_table.proofs.table.drop_waits.Given as goal
 
 abbrev pub invariant-loop-i : goal.invariant-loop-i
 invariant-loop-i g l =
-    record { same : length l.saves.items ≡ length l.fn.saves.items; done : l.saves.items ≡ partly (saves_without g.P.At.at l.worker) l.i l.fn.saves.items }
+    record {
+      same : length l.saves.items ≡ length l.fn.saves.items;
+      done : l.saves.items
+          ≡ partly (saves_without g.P.At.at l.worker) l.i l.fn.saves.items;
+    }

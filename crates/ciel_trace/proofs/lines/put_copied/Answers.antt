@@ -8,7 +8,8 @@ use Rattle.ciel_trace.proofs.lines.put_copied.Goals as goal
 
 pub returns-in_err-put-clause-part : goal.returns-in_err-put-clause-part
 returns-in_err-put-clause-part g c =
-    on_err c.from_residual.result (part_first _ _ (copied_text c.args.name.now) (codes " +") (encode_lower c.args.name.now ++ []) refl c.in_err-put.ensures.part)
+    on_err c.from_residual.result (part_first _ _ (copied_text c.args.name.now) (codes " +") (encode_lower c.args.name.now ++ []) refl
+    c.in_err-put.ensures.part)
 
 pub returns-clause-part : goal.returns-clause-part
 returns-clause-part g c =

@@ -12,4 +12,5 @@ returns-in_err-put_copied-clause-part g c =
     let x = c.name-item.result in
     let below : i < length xs = omega arith in
     on_err c.from_residual.result
-    (part_at _ _ _ _ (copied_texts (take i xs)) (copied_text x) (copied_texts (drop (i + 1) xs)) (text_parts copied_text xs i x below c.name-item.is) c.loop-name.invariant.written c.in_err-put_copied.ensures.part)
+    (part_at _ _ _ _ (copied_texts (take i xs)) (copied_text x) (copied_texts (drop (i + 1) xs))
+    (text_parts copied_text xs i x below c.name-item.is) c.loop-name.invariant.written c.in_err-put_copied.ensures.part)

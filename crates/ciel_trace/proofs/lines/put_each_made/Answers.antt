@@ -12,4 +12,5 @@ returns-in_err-put_made-clause-part g c =
     let x = c.output-item.result in
     let below : i < length xs = omega arith in
     on_err c.from_residual.result
-    (part_at _ _ _ _ (made_texts (take i xs)) (made_text x) (made_texts (drop (i + 1) xs)) (text_parts made_text xs i x below c.output-item.is) c.loop-output.invariant.written c.in_err-put_made.ensures.part)
+    (part_at _ _ _ _ (made_texts (take i xs)) (made_text x) (made_texts (drop (i + 1) xs)) (text_parts made_text xs i x below c.output-item.is)
+    c.loop-output.invariant.written c.in_err-put_made.ensures.part)

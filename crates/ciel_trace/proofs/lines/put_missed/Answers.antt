@@ -22,7 +22,8 @@ returns-in_err-put_hex-clause-part g c =
     let back = number_back c.format-lost.result.now in
     let whole = missed_cut c.args.number c.args.name.now c.args.lost _ _ c.format-number.ensures.text c.format-lost.ensures.text
     ∙ ap (λ t. front ++ (encode_lower t ++ back)) (sym c.bytes.ensures.bytes) in
-    on_err c.from_residual-in_err-put_hex.result (part_at _ _ _ _ front digits back whole c.in_ok-put_all.ensures.written c.in_err-put_hex.ensures.part)
+    on_err c.from_residual-in_err-put_hex.result
+    (part_at _ _ _ _ front digits back whole c.in_ok-put_all.ensures.written c.in_err-put_hex.ensures.part)
 
 pub returns-clause-part : goal.returns-clause-part
 returns-clause-part g c =

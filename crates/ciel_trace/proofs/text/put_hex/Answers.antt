@@ -13,7 +13,8 @@ returns-in_err-put_digits-clause-part g c =
     let so_far = c.loop-rest.invariant.written in
     let piece = c.split_at.result.0.now in
     let more = c.split_at.result.1.now in
-    let cut : c.loop-rest.rest.now ≡ piece ++ more = sym (ap₂ (λ x y. x ++ y) c.split_at.ensures.front c.split_at.ensures.back ∙ take-append-drop _ _) in
+    let cut : c.loop-rest.rest.now ≡ piece ++ more =
+    sym (ap₂ (λ x y. x ++ y) c.split_at.ensures.front c.split_at.ensures.back ∙ take-append-drop _ _) in
     let whole : encode_lower c.args.bytes.now ≡ so_far.0 ++ (encode_lower piece ++ encode_lower more) =
     so_far.1 ∙ ap (λ t. so_far.0 ++ t) (ap encode_lower cut ∙ digits_of_parts piece more) in
     on_err c.from_residual.result (part_at _ _ _ _ so_far.0 (encode_lower piece) (encode_lower more) whole so_far.2 c.in_err-put_digits.ensures.part)
@@ -23,9 +24,11 @@ loop-rest-preserved g c =
     let so_far = c.loop-rest.invariant.written in
     let piece = c.split_at.result.0.now in
     let more = c.split_at.result.1.now in
-    let cut : c.loop-rest.rest.now ≡ piece ++ more = sym (ap₂ (λ x y. x ++ y) c.split_at.ensures.front c.split_at.ensures.back ∙ take-append-drop _ _) in
+    let cut : c.loop-rest.rest.now ≡ piece ++ more =
+    sym (ap₂ (λ x y. x ++ y) c.split_at.ensures.front c.split_at.ensures.back ∙ take-append-drop _ _) in
     let whole : encode_lower c.args.bytes.now ≡ (so_far.0 ++ encode_lower piece) ++ encode_lower more =
-    so_far.1 ∙ ap (λ t. so_far.0 ++ t) (ap encode_lower cut ∙ digits_of_parts piece more) ∙ sym (append_assoc so_far.0 (encode_lower piece) (encode_lower more)) in
+    so_far.1 ∙ ap (λ t. so_far.0 ++ t) (ap encode_lower cut ∙ digits_of_parts piece more)
+    ∙ sym (append_assoc so_far.0 (encode_lower piece) (encode_lower more)) in
     record {
       written = (so_far.0 ++ encode_lower piece, whole, tells_more _ _ _ so_far.0 (encode_lower piece) so_far.2 c.in_ok-put_digits.ensures.written);
       never_falls = omega (arith, c.loop-rest.invariant.never_falls, c.in_ok-put_digits.ensures.never_falls);

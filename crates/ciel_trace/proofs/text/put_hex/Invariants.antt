@@ -6,7 +6,8 @@ use Rattle.ciel_trace.proofs.text.put_hex.Given as goal
 
 abbrev pub invariant-loop-rest : goal.invariant-loop-rest
 invariant-loop-rest g l = record {
-  written : (done : List ℕ) × (encode_lower l.bytes ≡ done ++ encode_lower l.rest) × Tells (g.J.Sink.written l.initial.sink) (g.J.Sink.written l.sink) done;
+  written : (done : List ℕ) × (encode_lower l.bytes ≡ done ++ encode_lower l.rest)
+      × Tells (g.J.Sink.written l.initial.sink) (g.J.Sink.written l.sink) done;
   never_falls : g.J.Sink.faults l.initial.sink ≤ g.J.Sink.faults l.sink;
 }
 

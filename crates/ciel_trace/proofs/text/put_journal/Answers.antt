@@ -12,4 +12,5 @@ returns-in_err-put_entry-clause-part g c =
     let x = c.entry-item.result in
     let below : i < length xs = omega arith in
     on_err c.from_residual.result
-    (part_at _ _ _ _ (journal_text (take i xs)) (entry_text x) (journal_text (drop (i + 1) xs)) (text_parts entry_text xs i x below c.entry-item.is) c.loop-entry.invariant.written c.in_err-put_entry.ensures.part)
+    (part_at _ _ _ _ (journal_text (take i xs)) (entry_text x) (journal_text (drop (i + 1) xs))
+    (text_parts entry_text xs i x below c.entry-item.is) c.loop-entry.invariant.written c.in_err-put_entry.ensures.part)

@@ -3,4 +3,7 @@ use Rattle.ciel_walks.proofs.law.missing_says.Goals as goal
 
 pub returns : goal.returns
 returns c =
-    record { says = λ tag mark frozen job around plain o finds r name loss b answered. missing_one tag mark frozen job around plain o finds r b answered name loss }
+    record {
+      says = λ tag mark frozen job around plain o finds r name loss b answered. missing_one tag mark frozen job around plain o finds r b
+          answered name loss;
+    }

@@ -16,10 +16,12 @@ pub returns-in-Some-clause-set : goal.returns-in-Some-clause-set
 returns-in-Some-clause-set g c =
     let t = c.args.table.now in
     let rows = c.args.rows.now.items in
-    λ e l. subst (λ k. IsSet (same_id (task_at t (Some e)) k) (slice_get rows e) (slice_get (set rows c.in-Some.row true) e)) (sym c.in-Of.is) (flag_some t c.requires.once c.in-Of.name c.in-Some.row e rows (sym c.find.ensures.row ∙ c.in-Some.is) c.requires.long l)
+    λ e l. subst (λ k. IsSet (same_id (task_at t (Some e)) k) (slice_get rows e) (slice_get (set rows c.in-Some.row true) e)) (sym c.in-Of.is)
+    (flag_some t c.requires.once c.in-Of.name c.in-Some.row e rows (sym c.find.ensures.row ∙ c.in-Some.is) c.requires.long l)
 
 pub returns-in-None-clause-set : goal.returns-in-None-clause-set
 returns-in-None-clause-set g c =
     let t = c.args.table.now in
     let rows = c.args.rows.now.items in
-    λ e l. subst (λ k. IsSet (same_id (task_at t (Some e)) k) (slice_get rows e) (slice_get rows e)) (sym c.in-Of.is) (flag_none t c.requires.once c.in-Of.name e (slice_get rows e) (sym c.find.ensures.row ∙ c.in-None.is) l)
+    λ e l. subst (λ k. IsSet (same_id (task_at t (Some e)) k) (slice_get rows e) (slice_get rows e)) (sym c.in-Of.is)
+    (flag_none t c.requires.once c.in-Of.name e (slice_get rows e) (sym c.find.ensures.row ∙ c.in-None.is) l)

@@ -1,4 +1,5 @@
-use Rattle.std.proofs.Common.{◌≡◌, ◌<◌, ◌++◌, ◌∷◌, [], ◌+◌, ◌∙◌, ap, sym, subst, arith, length, length-append, length-set, drop, false, true, List, ℕ, Some, Option, nat_eq, refl, replicate, set, slice_get}
+use Rattle.std.proofs.Common.{◌≡◌, ◌<◌, ◌++◌, ◌∷◌, [], ◌+◌, ◌∙◌, ap, sym, subst, arith, length, length-append, length-set, drop, false, true, List, ℕ}
+use Rattle.std.proofs.Common.{Some, Option, nat_eq, refl, replicate, set, slice_get}
 use Rattle.std.specs.List.{list_any}
 use Rattle.std.specs.Option.{option_map_or}
 use Rattle.std.proofs.lemmas.List.{length-replicate}
@@ -19,8 +20,10 @@ walk-init g c =
     let n = length t.rows in
     let r : c.in_ok-flags.flags.items ≡ replicate n false = c.in_ok-flags.ensures ∙ ap (λ k. replicate k false) c.len.ensures.number in
     record {
-      walking = walk_start (row_leads c.args.main.now t) (live_at t) n c.new-trail.result.items c.in_ok-next.next c.new-trail.ensures.items c.in_ok-next.ensures;
-      marked = subst (λ fs. Marked fs c.new-trail.result.items) (sym r) (subst (Marked (replicate n false)) (sym c.new-trail.ensures.items) (none_marked n));
+      walking = walk_start (row_leads c.args.main.now t) (live_at t) n c.new-trail.result.items c.in_ok-next.next c.new-trail.ensures.items
+          c.in_ok-next.ensures;
+      marked = subst (λ fs. Marked fs c.new-trail.result.items) (sym r)
+          (subst (Marked (replicate n false)) (sym c.new-trail.ensures.items) (none_marked n));
       below = subst (AllBelow n) (sym c.new-trail.ensures.items) tt;
       long = ap length r ∙ length-replicate n false;
     }
@@ -43,7 +46,8 @@ names_from-requires-clause-there g c =
     let l = next_below c.args.main.now c.args.table.now v.walking.at row (sym c.in-Some.is ∙ v.walking.is_next) in
     let n = v.long in
     let k : row < length c.walk.flags.items = omega (arith, l, n) in
-    subst (Among row) (sym c.deref.ensures.value) (sym (flag_is c.walk.flags.items c.walk.trail.items row c.index.result.now v.marked k) ∙ (sym c.index.ensures ∙ c.if-index.true))
+    subst (Among row) (sym c.deref.ensures.value)
+    (sym (flag_is c.walk.flags.items c.walk.trail.items row c.index.result.now v.marked k) ∙ (sym c.index.ensures ∙ c.if-index.true))
 
 pub returns-then-index-clause-circle : goal.returns-then-index-clause-circle
 returns-then-index-clause-circle g c =
@@ -52,8 +56,10 @@ returns-then-index-clause-circle g c =
     let live = live_at t in
     let trail : List ℕ = c.deref.result.now in
     let e = c.in_ok-names.ensures in
-    let v : Walking needs' live (length t.rows) c.walk.trail.items (Some c.in-Some.row) = subst (Walking needs' live (length t.rows) c.walk.trail.items) c.in-Some.is c.walk.invariant.walking in
-    let u : Walking needs' live (length t.rows) trail (Some c.in-Some.row) = subst (λ xs. Walking needs' live (length t.rows) xs (Some c.in-Some.row)) (sym c.deref.ensures.value) v in
+    let v : Walking needs' live (length t.rows) c.walk.trail.items (Some c.in-Some.row) =
+    subst (Walking needs' live (length t.rows) c.walk.trail.items) c.in-Some.is c.walk.invariant.walking in
+    let u : Walking needs' live (length t.rows) trail (Some c.in-Some.row) =
+    subst (λ xs. Walking needs' live (length t.rows) xs (Some c.in-Some.row)) (sym c.deref.ensures.value) v in
     (drop e.0 trail, walk_circle needs' live (length t.rows) trail c.in-Some.row e.0 u e.1, e.2)
 
 pub index_mut-requires : goal.index_mut-requires
@@ -78,13 +84,18 @@ walk-preserved g c =
     let l = next_below c.args.main.now t v.walking.at row (sym c.in-Some.is ∙ v.walking.is_next) in
     let n = v.long in
     let k : row < length c.walk.flags.items = omega (arith, l, n) in
-    let new : list_any (nat_eq row) c.walk.trail.items ≡ false = sym (flag_is c.walk.flags.items c.walk.trail.items row c.index.result.now v.marked k) ∙ (sym c.index.ensures ∙ c.if-index.false) in
+    let new : list_any (nat_eq row) c.walk.trail.items ≡ false =
+    sym (flag_is c.walk.flags.items c.walk.trail.items row c.index.result.now v.marked k) ∙ (sym c.index.ensures ∙ c.if-index.false) in
     let next : c.in_ok-next-2.next ≡ slice_get (unmet needs' live (Some row)) 0 = c.in_ok-next-2.ensures
-    ∙ ap (λ (o : Option (Row g.row.P.Denot)). first_unmet t (needs c.args.main.now t (option_map_or (λ (r : Row g.row.P.Denot). r.task) o TaskId.Show))) (sym c.row.ensures.row) in
-    let s = walk_step needs' live (length t.rows) c.walk.trail.items row c.in_ok-next-2.next (ring_within c.args.main.now t) (subst (Walking needs' live (length t.rows) c.walk.trail.items) c.in-Some.is v.walking) new next in
+    ∙ ap (λ (o : Option (Row g.row.P.Denot)). first_unmet t
+    (needs c.args.main.now t (option_map_or (λ (r : Row g.row.P.Denot). r.task) o TaskId.Show))) (sym c.row.ensures.row) in
+    let s = walk_step needs' live (length t.rows) c.walk.trail.items row c.in_ok-next-2.next (ring_within c.args.main.now t)
+    (subst (Walking needs' live (length t.rows) c.walk.trail.items) c.in-Some.is v.walking) new next in
     record {
       walking = subst (λ xs. Walking needs' live (length t.rows) xs c.in_ok-next-2.next) (sym c.in_ok-push.ensures) s;
-      marked = subst (Marked (set c.walk.flags.items row true)) (sym c.in_ok-push.ensures) (marked_more c.walk.flags.items (set c.walk.flags.items row true) c.walk.trail.items row v.marked k refl (length-set c.walk.flags.items row true));
+      marked = subst (Marked (set c.walk.flags.items row true)) (sym c.in_ok-push.ensures)
+          (marked_more c.walk.flags.items (set c.walk.flags.items row true) c.walk.trail.items row v.marked k refl
+          (length-set c.walk.flags.items row true));
       below = subst (AllBelow (length t.rows)) (sym c.in_ok-push.ensures) (below_push (length t.rows) c.walk.trail.items row v.below l);
       long = length-set c.walk.flags.items row true ∙ v.long;
     }
@@ -99,10 +110,13 @@ walk-smaller g c =
     let l = next_below c.args.main.now t v.walking.at row (sym c.in-Some.is ∙ v.walking.is_next) in
     let n = v.long in
     let k : row < length c.walk.flags.items = omega (arith, l, n) in
-    let new : list_any (nat_eq row) c.walk.trail.items ≡ false = sym (flag_is c.walk.flags.items c.walk.trail.items row c.index.result.now v.marked k) ∙ (sym c.index.ensures ∙ c.if-index.false) in
+    let new : list_any (nat_eq row) c.walk.trail.items ≡ false =
+    sym (flag_is c.walk.flags.items c.walk.trail.items row c.index.result.now v.marked k) ∙ (sym c.index.ensures ∙ c.if-index.false) in
     let next : c.in_ok-next-2.next ≡ slice_get (unmet needs' live (Some row)) 0 = c.in_ok-next-2.ensures
-    ∙ ap (λ (o : Option (Row g.row.P.Denot)). first_unmet t (needs c.args.main.now t (option_map_or (λ (r : Row g.row.P.Denot). r.task) o TaskId.Show))) (sym c.row.ensures.row) in
-    let s = walk_step needs' live (length t.rows) c.walk.trail.items row c.in_ok-next-2.next (ring_within c.args.main.now t) (subst (Walking needs' live (length t.rows) c.walk.trail.items) c.in-Some.is v.walking) new next in
+    ∙ ap (λ (o : Option (Row g.row.P.Denot)). first_unmet t
+    (needs c.args.main.now t (option_map_or (λ (r : Row g.row.P.Denot). r.task) o TaskId.Show))) (sym c.row.ensures.row) in
+    let s = walk_step needs' live (length t.rows) c.walk.trail.items row c.in_ok-next-2.next (ring_within c.args.main.now t)
+    (subst (Walking needs' live (length t.rows) c.walk.trail.items) c.in-Some.is v.walking) new next in
     let few = s.few in
     let a : length (c.walk.trail.items ++ row ∷ []) ≡ length c.walk.trail.items + 1 = length-append c.walk.trail.items (row ∷ []) in
     let b : length c.push.new.rows.items ≡ length (c.walk.trail.items ++ row ∷ []) = ap length c.in_ok-push.ensures in
@@ -111,4 +125,5 @@ walk-smaller g c =
 pub returns-clause-met : goal.returns-clause-met
 returns-clause-met g c =
     let t = c.args.table.now in
-    walk_met (row_leads c.args.main.now t) (live_at t) (length t.rows) c.walk.trail.items (subst (Walking (row_leads c.args.main.now t) (live_at t) (length t.rows) c.walk.trail.items) c.in_default.is c.walk.invariant.walking)
+    walk_met (row_leads c.args.main.now t) (live_at t) (length t.rows) c.walk.trail.items
+    (subst (Walking (row_leads c.args.main.now t) (live_at t) (length t.rows) c.walk.trail.items) c.in_default.is c.walk.invariant.walking)

@@ -12,7 +12,8 @@ returns-in_ok-rows-in-Some g c =
     let t = c.args.table.now in
     let r = c.row.result.now in
     let there = c.row.ensures.row in
-    let name : option_map_or row_name (slice_get t.rows c.in-Some.row) [] ≡ r.name = ap (λ (o : Option (Row g.row.P.Denot)). option_map_or row_name o []) there in
+    let name : option_map_or row_name (slice_get t.rows c.in-Some.row) [] ≡ r.name =
+    ap (λ (o : Option (Row g.row.P.Denot)). option_map_or row_name o []) there in
     let found : row_named r.name t ≡ Some r = own_found row_name t.rows c.in-Some.row r c.row.ensures.sound.once there in
     let refs = ap (λ n. row_named n t) name ∙ found in
     c.in_ok-rows-in-Some.ensures

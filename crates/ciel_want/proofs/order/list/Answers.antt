@@ -10,14 +10,16 @@ use Rattle.ciel_want.proofs.order.list.Goals as goal
 pub index-is_new-requires : goal.index-is_new-requires
 index-is_new-requires g c =
     let t = c.args.table.now in
-    let l = subst (λ o. IfSome o (λ e. e < length t.rows)) (sym c.own_row.ensures ∙ c.in-Some.is) (task_row_within t (maker_at t (Some c.args.row))) in
+    let l = subst (λ o. IfSome o (λ e. e < length t.rows)) (sym c.own_row.ensures ∙ c.in-Some.is)
+    (task_row_within t (maker_at t (Some c.args.row))) in
     let n = c.requires.long in
     omega (arith, l, n, c.args.flags.now.ok.0)
 
 pub index_mut-requires : goal.index_mut-requires
 index_mut-requires g c =
     let t = c.args.table.now in
-    let l = subst (λ o. IfSome o (λ e. e < length t.rows)) (sym c.own_row.ensures ∙ c.in-Some.is) (task_row_within t (maker_at t (Some c.args.row))) in
+    let l = subst (λ o. IfSome o (λ e. e < length t.rows)) (sym c.own_row.ensures ∙ c.in-Some.is)
+    (task_row_within t (maker_at t (Some c.args.row))) in
     let n = c.requires.long in
     omega (arith, l, n, c.args.flags.now.ok.0)
 

@@ -8,4 +8,6 @@ pub returns-clause-marked : goal.returns-clause-marked
 returns-clause-marked c =
     let flags : List Bool = c.args.flags.now.items in
     let grew : c.push.new.rows.items ≡ c.args.seen.now.items ++ c.args.row ∷ [] = grind (arith, common_steps) in
-    subst (Marked (set flags c.args.row true)) (sym grew) (marked_more flags (set flags c.args.row true) c.args.seen.now.items c.args.row c.requires.marked c.requires.below refl (length-set flags c.args.row true))
+    subst (Marked (set flags c.args.row true)) (sym grew)
+    (marked_more flags (set flags c.args.row true) c.args.seen.now.items c.args.row c.requires.marked c.requires.below refl
+    (length-set flags c.args.row true))

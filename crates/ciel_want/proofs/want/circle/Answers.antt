@@ -15,7 +15,8 @@ pub returns-then-is_empty-clause-stuck : goal.returns-then-is_empty-clause-stuck
 returns-then-is_empty-clause-stuck g c =
     let ready = c.in_ok-ready.ready in
     let v : vec_len ready ≡ 0 = eqb-true (vec_len ready) 0 (sym c.is_empty.ensures ∙ c.if-is_empty.true) in
-    none_runs c.args.main.now c.args.table.now c.requires.whole ready.items (omega (arith, v, ready.ok.0)) c.in_ok-ready.ensures.runnable c.in_ok-names.names
+    none_runs c.args.main.now c.args.table.now c.requires.whole ready.items (omega (arith, v, ready.ok.0)) c.in_ok-ready.ensures.runnable
+    c.in_ok-names.names
 
 pub returns-then-is_empty-clause-none : goal.returns-then-is_empty-clause-none
 returns-then-is_empty-clause-none g c =

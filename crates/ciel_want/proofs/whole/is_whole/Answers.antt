@@ -7,4 +7,7 @@ returns-then-not-branch g c =
 
 pub returns : goal.returns
 returns g c =
-    record { whole = root_goes c.args.main.now c.args.table.now c.in_ok-needs_known.field-0 c.in_ok-whole.whole c.in_ok-needs_known.ensures c.if-not-branch.false c.in_ok-whole.ensures }
+    record {
+      whole = root_goes c.args.main.now c.args.table.now c.in_ok-needs_known.field-0 c.in_ok-whole.whole c.in_ok-needs_known.ensures
+          c.if-not-branch.false c.in_ok-whole.ensures;
+    }

@@ -13,4 +13,5 @@ returns-in_err-put_name-clause-part g c =
     let x = c.name-item.result in
     let below : i < length xs = omega arith in
     on_err c.from_residual.result
-    (part_at _ _ _ _ (flat_map spaced (take i xs)) (spaced x) (flat_map spaced (drop (i + 1) xs)) (text_parts spaced xs i x below c.name-item.is) c.loop-name.invariant.written c.in_err-put_name.ensures.part)
+    (part_at _ _ _ _ (flat_map spaced (take i xs)) (spaced x) (flat_map spaced (drop (i + 1) xs)) (text_parts spaced xs i x below c.name-item.is)
+    c.loop-name.invariant.written c.in_err-put_name.ensures.part)

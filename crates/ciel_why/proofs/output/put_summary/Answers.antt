@@ -13,26 +13,30 @@ use Rattle.ciel_why.proofs.output.put_summary.Goals as goal
 abbrev front : (count kinds : List ℕ) → List ℕ
 front count kinds = concat (codes "lines " ∷ count ∷ codes " kinds " ∷ kinds ∷ codes " mark " ∷ [])
 
-cut : (count : ℕ) (a c k m : List ℕ) (n : ℕ) → c ≡ decimal count → k ≡ decimal n → n ≡ length (lines a) → m ≡ sha1 a → summary count a ≡ front c k ++ (encode_lower m ++ codes "\n")
+cut : (count : ℕ) (a c k m : List ℕ) (n : ℕ) → c ≡ decimal count → k ≡ decimal n → n ≡ length (lines a) → m ≡ sha1 a → summary count a
+    ≡ front c k ++ (encode_lower m ++ codes "\n")
 cut count a c k m n x y z u = λ i. front (sym x i) (sym (y ∙ ap decimal z) i) ++ (encode_lower (sym u i) ++ codes "\n")
 
 pub returns-in_err-put_all-clause-part : goal.returns-in_err-put_all-clause-part
 returns-in_err-put_all-clause-part g c =
     on_err c.from_residual.result
     (part_first _ _ _ (front c.format-count.result.now c.format-kinds.result.now) (encode_lower (sha1 c.args.answer.now) ++ codes "\n")
-    (cut c.args.count c.args.answer.now _ _ _ c.lines_in.result c.format-count.ensures.text c.format-kinds.ensures.text c.lines_in.ensures.value (λ i. sha1 c.args.answer.now))
+    (cut c.args.count c.args.answer.now _ _ _ c.lines_in.result c.format-count.ensures.text c.format-kinds.ensures.text c.lines_in.ensures.value
+    (λ i. sha1 c.args.answer.now))
     c.in_err-put_all.ensures.part)
 
 pub returns-in_err-put_hex-clause-part : goal.returns-in_err-put_hex-clause-part
 returns-in_err-put_hex-clause-part g c =
     on_err c.from_residual-in_err-put_hex.result
     (part_at _ _ _ _ (front c.format-count.result.now c.format-kinds.result.now) (encode_lower c.mark.result) (codes "\n")
-    (cut c.args.count c.args.answer.now _ _ _ c.lines_in.result c.format-count.ensures.text c.format-kinds.ensures.text c.lines_in.ensures.value c.mark.ensures.mark)
+    (cut c.args.count c.args.answer.now _ _ _ c.lines_in.result c.format-count.ensures.text c.format-kinds.ensures.text c.lines_in.ensures.value
+    c.mark.ensures.mark)
     c.in_ok-put_all.ensures.written c.in_err-put_hex.ensures.part)
 
 pub returns-in_err-put-clause-part : goal.returns-in_err-put-clause-part
 returns-in_err-put-clause-part g c =
-    let whole = cut c.args.count c.args.answer.now _ _ _ c.lines_in.result c.format-count.ensures.text c.format-kinds.ensures.text c.lines_in.ensures.value c.mark.ensures.mark in
+    let whole = cut c.args.count c.args.answer.now _ _ _ c.lines_in.result c.format-count.ensures.text c.format-kinds.ensures.text
+    c.lines_in.ensures.value c.mark.ensures.mark in
     let before = front c.format-count.result.now c.format-kinds.result.now in
     let digits = encode_lower c.mark.result in
     on_err c.from_residual-in_err-put.result

@@ -11,10 +11,13 @@ returns-in-Ok-gather-clause-raw c =
     let ws = c.args.words.now in
     let raw = c.in-Ok-gather.raw in
     let told = c.in-Ok-gather.ensures in
-    let same = rows_are (app_of c.in-Ok.command) c.in-Ok-try_get_matches_from.matches ws c.in-Ok.ensures c.in-Ok-try_get_matches_from.ensures.matches in
+    let same = rows_are (app_of c.in-Ok.command) c.in-Ok-try_get_matches_from.matches ws c.in-Ok.ensures
+    c.in-Ok-try_get_matches_from.ensures.matches in
     let fine = no_fault (app_of c.in-Ok.command) ws c.in-Ok.ensures c.in-Ok-try_get_matches_from.ensures.kinds in
-    said ws c.are_texts.ensures fine (text_of raw.workers) (text_of raw.seed) (text_of raw.lose) (text_of raw.names) (text_of raw.generate) raw.trace raw.plain (map (λ w. w.now) raw.words.items)
-    (subst (λ (R : List Row). Matched R (text_of raw.workers) (text_of raw.seed) (text_of raw.lose) (text_of raw.names) (text_of raw.generate) raw.trace raw.plain (map (λ w. w.now) raw.words.items)) same
+    said ws c.are_texts.ensures fine (text_of raw.workers) (text_of raw.seed) (text_of raw.lose) (text_of raw.names) (text_of raw.generate)
+    raw.trace raw.plain (map (λ w. w.now) raw.words.items)
+    (subst (λ (R : List Row). Matched R (text_of raw.workers) (text_of raw.seed) (text_of raw.lose) (text_of raw.names) (text_of raw.generate)
+    raw.trace raw.plain (map (λ w. w.now) raw.words.items)) same
     (record {
       workers_is = told.workers;
       seed_is = told.seed;
@@ -30,4 +33,5 @@ pub returns-clause-usage : goal.returns-clause-usage
 returns-clause-usage c e =
     let ws = c.args.words.now in
     let usage : c.refusal_of.result ≡ WordsRefusal.Usage = cc in
-    refused ws c.are_texts.ensures (some_fault (app_of c.in-Ok.command) ws c.in-Err.error c.in-Ok.ensures c.in-Err.ensures.kinds (c.refusal_of.ensures usage))
+    refused ws c.are_texts.ensures (some_fault (app_of c.in-Ok.command) ws c.in-Err.error c.in-Ok.ensures c.in-Err.ensures.kinds
+    (c.refusal_of.ensures usage))

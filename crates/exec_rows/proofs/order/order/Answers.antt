@@ -21,7 +21,8 @@ returns c =
     } in
     record {
       worker = omega (arith, c.requires.small.workers);
-      describes = describes shop.job.script (names_in c.args.held.items) x c.args.args c.in_ok-task.task c.in_ok-task.ensures.task c.requires.refs c.requires.kept c.requires.names;
+      describes = describes shop.job.script (names_in c.args.held.items) x c.args.args c.in_ok-task.task c.in_ok-task.ensures.task
+          c.requires.refs c.requires.kept c.requires.names;
       saved = (refl, no_main order c.in_ok-task.task (name_of x c.args.args) c.in_ok-task.ensures.task);
       spots = c.requires.spots;
       distinct = names_apart (names_in c.args.held.items) c.requires.names;

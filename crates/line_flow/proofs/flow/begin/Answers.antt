@@ -21,5 +21,6 @@ returns c right inputs =
       last = refl;
       fed = sym (grow-nothing 0 all) ∙ ap (λ (ys : List ℕ). grow 0 ys all) (sym c.new.ensures.items);
       ends = ends-start inputs;
-      keeps = subst (Keeps c.in_ok-nothing.field-0 c.args.kind (pairs_of c.args.pairs.now) c.args.outputs (replicate c.args.outputs [])) (sym (seen-start inputs)) c.in_ok-nothing.ensures;
+      keeps = subst (Keeps c.in_ok-nothing.field-0 c.args.kind (pairs_of c.args.pairs.now) c.args.outputs (replicate c.args.outputs []))
+          (sym (seen-start inputs)) c.in_ok-nothing.ensures;
     }

@@ -11,7 +11,8 @@ loop-rest-preserved c t s can =
     let input = c.args.input in
     let piece = c.split_at.result.0.now in
     let more = c.split_at.result.1.now in
-    let whole : piece ++ more ≡ c.loop-rest.rest.now = ap₂ (λ (a b : List ℕ). a ++ b) c.split_at.ensures.front c.split_at.ensures.back ∙ take-append-drop 65536 c.loop-rest.rest.now in (
+    let whole : piece ++ more ≡ c.loop-rest.rest.now = ap₂ (λ (a b : List ℕ). a ++ b) c.split_at.ensures.front c.split_at.ensures.back
+    ∙ take-append-drop 65536 c.loop-rest.rest.now in (
       fed_more i.0 input piece,
       c.in_ok-feed.ensures.fed i.0 i.1 i.2,
       (omega arith, omega (arith, i.2.1, length-grow input piece i.0.fed)),

@@ -35,7 +35,8 @@ returns-in-Some-clause-last c zero =
     let next : from + (feed + 1 + k) ≡ from + feed + 1 + k = omega arith in
     let same : slice_index (take (length xs - from) (drop from xs)) (feed + 1 + k) ≡ slice_index (drop (from + feed + 1) xs) k =
     place_in from (feed + 1 + k) xs ∙ ap (slice_index xs) next ∙ sym (get_or-drop (from + feed + 1) xs k 0) in
-    c.in-Some.ensures.0.after (feed + 1 + k) (omega arith) (omega (arith, l, ap length all, length-drop from xs, length-drop (from + feed + 1) xs)) (ap is_feed same ∙ e))
+    c.in-Some.ensures.0.after (feed + 1 + k) (omega arith)
+    (omega (arith, l, ap length all, length-drop from xs, length-drop (from + feed + 1) xs)) (ap is_feed same ∙ e))
 
 pub returns-in-None-clause-last : goal.returns-in-None-clause-last
 returns-in-None-clause-last c zero =

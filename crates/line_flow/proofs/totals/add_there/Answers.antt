@@ -15,7 +15,8 @@ returns-in-Some-checked_add-clause-added c e =
     let found : lookup (is_at (asks line)) entries ≡ Some sum = sym c.in-Some.ensures.value in
     let put : (c.get_mut.follows.lender more).entries ≡ set_value (is_at (asks line)) entries more = search rules in
     let total : more ≡ sum + c.args.number = c.in-Some-checked_add.ensures.1 ∙ ap (λ (n : ℕ). sum + n) c.from.ensures in
-    ap (map see) put ∙ ap (λ (n : ℕ). map see (set_value (is_at (asks line)) entries n)) total ∙ more_there line entries sum c.args.number c.get_mut.ensures.ordered found
+    ap (map see) put ∙ ap (λ (n : ℕ). map see (set_value (is_at (asks line)) entries n)) total
+    ∙ more_there line entries sum c.args.number c.get_mut.ensures.ordered found
 
 pub returns-in-None-checked_add-clause-full : goal.returns-in-None-checked_add-clause-full
 returns-in-None-checked_add-clause-full c e =

@@ -7,6 +7,7 @@ invariant-loop-i l = record {
   count : length l.outs.items ≡ length l.fn.outs.items;
   emptied : (k : ℕ) (d : Stream) → k < l.i → (slice_index_or l.outs.items k d).bytes.items ≡ [];
   gone : (k : ℕ) (d : Stream) → k < l.i → k < length l.fn.outs.items
-      → (slice_index_or l.outs.items k d).gone ≡ min ((slice_index_or l.fn.outs.items k d).gone + length (slice_index_or l.fn.outs.items k d).bytes.items) (2 ^ 64 - 1);
+      → (slice_index_or l.outs.items k d).gone ≡ min
+      ((slice_index_or l.fn.outs.items k d).gone + length (slice_index_or l.fn.outs.items k d).bytes.items) (2 ^ 64 - 1);
   later : (k : ℕ) (d : Stream) → l.i ≤ k → slice_index_or l.outs.items k d ≡ slice_index_or l.fn.outs.items k d;
 }

@@ -24,6 +24,7 @@ returns-else-is_empty-clause-cut c =
     let below : end < length xs = omega (arith, c.split_at.ensures.back_len) in
     let same : end + 1 ≡ suc end = omega arith in
     let rest : take (length back - 1) (drop 1 back) ≡ drop (suc end) xs =
-    take_all _ (drop 1 back) (omega (arith, length-drop 1 back)) ∙ ap (drop 1) c.split_at.ensures.back ∙ drop-drop 1 end xs ∙ ap (λ n. drop n xs) same in
+    take_all _ (drop 1 back) (omega (arith, length-drop 1 back)) ∙ ap (drop 1) c.split_at.ensures.back ∙ drop-drop 1 end xs
+    ∙ ap (λ n. drop n xs) same in
     lines_cut xs end below (c.place_of-end.ensures.stops below) c.place_of-end.ensures.clean
     ∙ sym (ap₂ (λ a b. a ∷ lines b) c.split_at.ensures.front rest)

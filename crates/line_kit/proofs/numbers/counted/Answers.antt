@@ -15,5 +15,7 @@ returns-clause-value c =
     let end = c.number_end-end.result in
     let near : end ≤ length line = omega (arith, prefix_len-le-length (λ b. not (is_space b)) line, c.number_end-end.ensures) in
     let below : end < length line = omega (arith, near, c.if-end-line.false) in
-    let all : take (length line - (end + 1)) (drop (end + 1) line) ≡ drop (end + 1) line = take_all _ (drop (end + 1) line) (omega (arith, length-drop (end + 1) line)) in
-    ap (λ (rest : List ℕ). Some (rest, c.in_ok-number.number)) all ∙ sym (counted_some line end c.in_ok-number.number c.number_end-end.ensures below (search rules))
+    let all : take (length line - (end + 1)) (drop (end + 1) line) ≡ drop (end + 1) line =
+    take_all _ (drop (end + 1) line) (omega (arith, length-drop (end + 1) line)) in
+    ap (λ (rest : List ℕ). Some (rest, c.in_ok-number.number)) all
+    ∙ sym (counted_some line end c.in_ok-number.number c.number_end-end.ensures below (search rules))

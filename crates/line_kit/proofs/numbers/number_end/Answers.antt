@@ -8,4 +8,5 @@ pub returns : goal.returns
 returns c =
     let line = c.args.line.now in
     let end = c.place_of.result in
-    sym (position_or_len_is is_space line end 0 c.place_of.ensures.bound (λ k l. ne_eqb _ 32 (c.place_of.ensures.clean k l)) (λ l. eq-eqb _ 32 (c.place_of.ensures.stops l)))
+    sym (position_or_len_is is_space line end 0 c.place_of.ensures.bound (λ k l. ne_eqb _ 32 (c.place_of.ensures.clean k l))
+    (λ l. eq-eqb _ 32 (c.place_of.ensures.stops l)))

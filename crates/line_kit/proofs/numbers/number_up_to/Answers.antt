@@ -12,7 +12,13 @@ returns-then-more-from c =
     let more = c.loop-digit.value * 10 + (get_or digits i 0 - 48) in
     let all : is_digits digits ≡ true = search rules in
     let big : c.args.most < more = omega (arith, c.if-more-from.true, c.from.ensures, c.from-in-loop-digit.ensures, c.from-in-loop-digit-2.ensures) in
-    let grown : more ≤ digits_value 10 digits = omega (arith, value_grows more (drop (i + 1) digits), sym (value_step c.loop-digit.value digits i all c.loop-digit-test.true) ∙ c.loop-digit.invariant.left) in
+    let grown : more ≤ digits_value 10 digits =
+    omega (
+      arith,
+      value_grows more (drop (i + 1) digits),
+      sym (value_step c.loop-digit.value digits i all c.loop-digit-test.true)
+          ∙ c.loop-digit.invariant.left,
+    ) in
     sym (number_none c.args.most digits (omega (arith, big, grown)))
 
 pub loop-digit-preserved : goal.loop-digit-preserved

@@ -7,4 +7,5 @@ use Rattle.line_kit.proofs.output.one_line.Goals as goal
 pub returns : goal.returns
 returns c =
     let line = c.args.line.now in
-    c.alone.ensures (line ∷ []) (put_one c.put_line.new.self line (c.in_ok-put_line.ensures ∙ ap (λ (o : Option (List ℕ)). extended o (ended line)) c.new-out.ensures))
+    c.alone.ensures (line ∷ []) (put_one c.put_line.new.self line
+    (c.in_ok-put_line.ensures ∙ ap (λ (o : Option (List ℕ)). extended o (ended line)) c.new-out.ensures))

@@ -10,7 +10,8 @@ use Rattle.line_kit.proofs.search.grep.Goals as goal
 pub returns-then-has_line_feed : goal.returns-then-has_line_feed
 returns-then-has_line_feed c =
     let text = c.args.text.now in
-    let none : with_text text (all_lines c.args.inputs.now) ≡ [] = none_at_all c.args.inputs.now text (sym c.has_line_feed.ensures ∙ c.if-has_line_feed.true) in
+    let none : with_text text (all_lines c.args.inputs.now) ≡ [] =
+    none_at_all c.args.inputs.now text (sym c.has_line_feed.ensures ∙ c.if-has_line_feed.true) in
     c.alone.ensures (with_text text (all_lines c.args.inputs.now))
     (ap finished c.new-out.ensures ∙ extended-start [] ∙ ap (λ (ls : List (List ℕ)). capped (joined ls)) (sym none))
 
@@ -29,5 +30,6 @@ loop-input-preserved c =
     ∙ ap (λ (n : List ℕ). extended out (joined (with_text n (lines x)))) c.new-finder.ensures in
     further c.put_found.new.out out (joined (with_text text (lines x))) (joined more) put
     ∙ ap (extended out) (sym (joined-append (with_text text (lines x)) more))
-    ∙ ap (λ (ls : List (List ℕ)). extended out (joined ls)) (sym (filter-append (λ line. contains line text) (lines x) (all_lines (drop (i + 1) inputs))))
+    ∙ ap (λ (ls : List (List ℕ)). extended out (joined ls))
+    (sym (filter-append (λ line. contains line text) (lines x) (all_lines (drop (i + 1) inputs))))
     ∙ ap (λ (xs : List (List ℕ)). extended out (joined (with_text text (all_lines xs)))) (sym first) ∙ c.loop-input.invariant

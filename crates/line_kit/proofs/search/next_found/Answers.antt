@@ -1,5 +1,6 @@
 -- The line around the first place of the text is the first line that has it.
-use Rattle.std.proofs.Common.{◌≡◌, ◌≢◌, ℕ, ◌+◌, ◌-◌, ◌<◌, ◌≤◌, List, ◌∷◌, true, length, take, drop, slice_index, None, sym, ap, ◌∙◌, arith, length-take, length-drop}
+use Rattle.std.proofs.Common.{◌≡◌, ◌≢◌, ℕ, ◌+◌, ◌-◌, ◌<◌, ◌≤◌, List, ◌∷◌, true, length, take, drop, slice_index, None, sym, ap, ◌∙◌, arith}
+use Rattle.std.proofs.Common.{length-take, length-drop}
 use Rattle.std.proofs.lemmas.List.{take_all, drop-drop, get_or-drop}
 use Rattle.std.proofs.lemmas.Slice.Eq.{bytes_eq-Decides}
 use Rattle.memchr.proofs.lemmas.MatchLemmas.{OccursAt-part}
@@ -28,10 +29,12 @@ returns-in-Some c =
     let place : drop (at - s) (drop s xs) ≡ drop at xs =
     drop-drop (at - s) s xs ∙ ap (λ (m : ℕ). drop m xs) (omega (arith, c.line_start.ensures.bound)) in
     let there : first_in n (drop (at - s) (drop s xs)) ≡ true =
-    ap (first_in n) place ∙ sym (begins-first_in (drop at xs) n) ∙ (bytes_eq-Decides (take (length n) (drop at xs)) n).1 (OccursAt-part xs n at c.in-Some.ensures.1) in
+    ap (first_in n) place ∙ sym (begins-first_in (drop at xs) n)
+    ∙ (bytes_eq-Decides (take (length n) (drop at xs)) n).1 (OccursAt-part xs n at c.in-Some.ensures.1) in
     let has : contains line n ≡ true =
     ap (λ (l : List ℕ). contains l n) (first_line_of (drop s xs) line (lines after) cut)
     ∙ line_has (drop s xs) n (at - s) c.requires (omega (arith, length-drop s xs, inside)) clean there in (
-      skipped xs n at s inside c.line_start.ensures.bound none c.line_start.ensures.behind_feed ∙ ap (with_text n) cut ∙ keep_first n line (lines after) has,
+      skipped xs n at s inside c.line_start.ensures.bound none c.line_start.ensures.behind_feed ∙ ap (with_text n) cut
+          ∙ keep_first n line (lines after) has,
       omega (arith, c.first_line.ensures.shorter, length-take (length xs - s) (drop s xs), length-drop s xs),
     )

@@ -7,4 +7,6 @@ use Rattle.shown_rows.proofs.made.objects.Goals as goal
 
 pub loop-one-preserved : goal.loop-one-preserved
 loop-one-preserved c =
-    subst (Each (λ o. KeptObject (object_view o))) (sym c.in_ok-push.ensures.items) (each_both (λ o. KeptObject (object_view o)) c.loop-one.objects.items (c.in_ok-object.object ∷ []) c.loop-one.invariant (c.in_ok-object.ensures, tt))
+    subst (Each (λ o. KeptObject (object_view o))) (sym c.in_ok-push.ensures.items)
+    (each_both (λ o. KeptObject (object_view o)) c.loop-one.objects.items (c.in_ok-object.object ∷ []) c.loop-one.invariant
+    (c.in_ok-object.ensures, tt))

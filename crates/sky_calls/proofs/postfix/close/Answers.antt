@@ -12,4 +12,7 @@ pub returns-clause-same : goal.returns-clause-same
 returns-clause-same c = λ w h.
     let k = c.args.call in
     let old = c.args.entries.now.items in
-    c.in_ok-control.ensures.same w h ∙ ap (λ st. rest_in w old (eval_steps w (body_in w (forms old)) (steps_view k.rest.now) k.node (k.step + 1) k.next (view c.args.v) st)) (c.resume.ensures ∙ ap (λ (s : Vars). with_vars s.vars c.replace-inner.result) c.replace-inner.ensures.after ∙ ap (with_vars k.caller.vars) c.replace-inner.ensures.value)
+    c.in_ok-control.ensures.same w h
+    ∙ ap (λ st. rest_in w old (eval_steps w (body_in w (forms old)) (steps_view k.rest.now) k.node (k.step + 1) k.next (view c.args.v) st))
+    (c.resume.ensures ∙ ap (λ (s : Vars). with_vars s.vars c.replace-inner.result) c.replace-inner.ensures.after
+    ∙ ap (with_vars k.caller.vars) c.replace-inner.ensures.value)

@@ -7,4 +7,5 @@ use Rattle.sky_checked.proofs.frames.all_end_in_calls.Given as goal
 
 abbrev pub invariant-loop-frame : goal.invariant-loop-frame
 invariant-loop-frame l =
-    (Each (EndsInCall l.fitting) (frames_view (drop l.frame-index l.frames)) → Each (EndsInCall l.fitting) (frames_view l.frames)) × (Each (EndsInCall l.fitting) (frames_view l.frames) → Each (EndsInCall l.fitting) (frames_view (drop l.frame-index l.frames)))
+    (Each (EndsInCall l.fitting) (frames_view (drop l.frame-index l.frames)) → Each (EndsInCall l.fitting) (frames_view l.frames))
+    × (Each (EndsInCall l.fitting) (frames_view l.frames) → Each (EndsInCall l.fitting) (frames_view (drop l.frame-index l.frames)))

@@ -7,4 +7,6 @@ use Rattle.sky_checked.proofs.frames.are_functions.Given as goal
 
 abbrev pub invariant-loop-frame : goal.invariant-loop-frame
 invariant-loop-frame l =
-    (Each (λ f. IsFun l.fitting f.fun) (frames_view (drop l.frame-index l.frames)) → Each (λ f. IsFun l.fitting f.fun) (frames_view l.frames)) × (Each (λ f. IsFun l.fitting f.fun) (frames_view l.frames) → Each (λ f. IsFun l.fitting f.fun) (frames_view (drop l.frame-index l.frames)))
+    (Each (λ f. IsFun l.fitting f.fun) (frames_view (drop l.frame-index l.frames)) → Each (λ f. IsFun l.fitting f.fun) (frames_view l.frames))
+    × (Each (λ f. IsFun l.fitting f.fun) (frames_view l.frames)
+    → Each (λ f. IsFun l.fitting f.fun) (frames_view (drop l.frame-index l.frames)))

@@ -7,4 +7,5 @@ use Rattle.sky_checked.proofs.frames.frames_fit.Given as goal
 
 abbrev pub invariant-loop-frame : goal.invariant-loop-frame
 invariant-loop-frame l =
-    (Each (FitsFrame l.fitting) (frames_view (drop l.frame-index l.frames)) → Each (FitsFrame l.fitting) (frames_view l.frames)) × (Each (FitsFrame l.fitting) (frames_view l.frames) → Each (FitsFrame l.fitting) (frames_view (drop l.frame-index l.frames)))
+    (Each (FitsFrame l.fitting) (frames_view (drop l.frame-index l.frames)) → Each (FitsFrame l.fitting) (frames_view l.frames))
+    × (Each (FitsFrame l.fitting) (frames_view l.frames) → Each (FitsFrame l.fitting) (frames_view (drop l.frame-index l.frames)))

@@ -11,7 +11,8 @@ returns-in-Some-clause-yes c = λ t.
     let P = EndsInCall c.args.fitting.now in
     let below = c.in-Some.below.now in
     let top = c.in-Some.field-0-0.now in
-    let split : frames_view c.args.frames.now ≡ frames_view below ++ frame_view top ∷ [] = ap frames_view c.in-Some.ensures.cases.0 ∙ map-append frame_view below (top ∷ []) in
+    let split : frames_view c.args.frames.now ≡ frames_view below ++ frame_view top ∷ [] = ap frames_view c.in-Some.ensures.cases.0
+    ∙ map-append frame_view below (top ∷ []) in
     subst (Before P) (sym split) (each_before P (frames_view below) (frame_view top) (c.all_end_in_calls.ensures.yes t))
 
 pub returns-in-Some-clause-no : goal.returns-in-Some-clause-no
@@ -19,5 +20,6 @@ returns-in-Some-clause-no c = λ t h.
     let P = EndsInCall c.args.fitting.now in
     let below = c.in-Some.below.now in
     let top = c.in-Some.field-0-0.now in
-    let split : frames_view c.args.frames.now ≡ frames_view below ++ frame_view top ∷ [] = ap frames_view c.in-Some.ensures.cases.0 ∙ map-append frame_view below (top ∷ []) in
+    let split : frames_view c.args.frames.now ≡ frames_view below ++ frame_view top ∷ [] = ap frames_view c.in-Some.ensures.cases.0
+    ∙ map-append frame_view below (top ∷ []) in
     c.all_end_in_calls.ensures.no t (before_each P (frames_view below) (frame_view top) (subst (Before P) split h))

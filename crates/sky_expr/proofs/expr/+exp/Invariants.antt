@@ -78,23 +78,28 @@ decreases-range_of g l = 8 * (nodes l.from.now + nodes l.to.now) + 2
 abbrev pub invariant-values-loop-e : goal.invariant-values-loop-e
 invariant-values-loop-e g l = record {
   kept : KeptVals l.vs;
-  same : values (ground_of l.ground) (body_at (ground_of l.ground) l.bodies) (exps_view l.e-items) no_vals l.fn.rows l.fn.state ≡ values (ground_of l.ground) (body_at (ground_of l.ground) l.bodies) (exps_view (drop l.e-index l.e-items)) l.vs l.rows l.state;
+  same : values (ground_of l.ground) (body_at (ground_of l.ground) l.bodies) (exps_view l.e-items) no_vals l.fn.rows l.fn.state
+      ≡ values (ground_of l.ground) (body_at (ground_of l.ground) l.bodies) (exps_view (drop l.e-index l.e-items)) l.vs l.rows l.state;
 }
 
 abbrev pub invariant-links-loop-link : goal.invariant-links-loop-link
 invariant-links-loop-link g l = record {
   kept : Kept (view l.v);
-  same : links (ground_of l.ground) (body_at (ground_of l.ground) l.bodies) (links_view l.rest) (view l.fn.first) l.fn.rows l.fn.state ≡ links (ground_of l.ground) (body_at (ground_of l.ground) l.bodies) (links_view (drop l.link-index l.rest)) (view l.v) l.rows l.state;
+  same : links (ground_of l.ground) (body_at (ground_of l.ground) l.bodies) (links_view l.rest) (view l.fn.first) l.fn.rows l.fn.state
+      ≡ links (ground_of l.ground) (body_at (ground_of l.ground) l.bodies) (links_view (drop l.link-index l.rest)) (view l.v) l.rows l.state;
 }
 
 abbrev pub invariant-joins-loop-join : goal.invariant-joins-loop-join
 invariant-joins-loop-join g l = record {
   kept : Kept (view l.v);
-  same : ands (ground_of l.ground) (body_at (ground_of l.ground) l.bodies) (ands_view l.rest) (junction l.stop) (at 0 0) (view l.fn.first) l.fn.rows l.fn.state ≡ ands (ground_of l.ground) (body_at (ground_of l.ground) l.bodies) (ands_view (drop l.join-index l.rest)) (junction l.stop) (at l.line l.col) (view l.v) l.rows l.state;
+  same : ands (ground_of l.ground) (body_at (ground_of l.ground) l.bodies) (ands_view l.rest) (junction l.stop) (at 0 0) (view l.fn.first)
+      l.fn.rows l.fn.state ≡ ands (ground_of l.ground) (body_at (ground_of l.ground) l.bodies) (ands_view (drop l.join-index l.rest))
+      (junction l.stop) (at l.line l.col) (view l.v) l.rows l.state;
 }
 
 abbrev pub invariant-steps-loop-step : goal.invariant-steps-loop-step
 invariant-steps-loop-step g l = record {
   kept : Kept (view l.v);
-  same : steps (ground_of l.ground) (body_at (ground_of l.ground) l.bodies) (steps_view l.rest) (view l.fn.first) l.fn.rows l.fn.state ≡ steps (ground_of l.ground) (body_at (ground_of l.ground) l.bodies) (steps_view (drop l.step-index l.rest)) (view l.v) l.rows l.state;
+  same : steps (ground_of l.ground) (body_at (ground_of l.ground) l.bodies) (steps_view l.rest) (view l.fn.first) l.fn.rows l.fn.state
+      ≡ steps (ground_of l.ground) (body_at (ground_of l.ground) l.bodies) (steps_view (drop l.step-index l.rest)) (view l.v) l.rows l.state;
 }

@@ -16,7 +16,8 @@ loop-todo-preserved c =
     let ts = todos_view c.in-Some.further.now in
     let vs = stack_view l.left.now in
     let is : todos_view l.rest.now ≡ t ∷ ts = ap todos_view c.in-Some.ensures.cases.0 in
-    let rest = others_are sc t c.in-Some-first_fits.own l.left.now c.split_at.result.1.now c.split_at.ensures.back c.in-Some-first_fits.ensures.some in
+    let rest = others_are sc t c.in-Some-first_fits.own l.left.now c.split_at.result.1.now c.split_at.ensures.back
+    c.in-Some-first_fits.ensures.some in
     record {
       all = λ h. l.invariant.all (subst (λ x. Entered sc x vs) (sym is) (c.in-Some-first_fits.ensures.fits, subst (Entered sc ts) rest h));
       left = λ h. subst (Entered sc ts) (sym rest) (subst (λ x. Entered sc x vs) is (l.invariant.left h)).1;

@@ -11,11 +11,13 @@ pub after_exp-second-requires : goal.after_exp-second-requires
 after_exp-second-requires c =
     let e = c.args.first.now in
     let here = c.inside-in_default.ensures.here (exp_node (Exp.logic (stops_at c.args.stop) e (ands_view c.args.rest.now))) c.requires.0 in
-    exp_in (λ i. node_at c.args.code.now i) e (exp_view c.get.result.now) (c.args.number + 1) c.inside-in_default.result c.get.ensures here c.requires.1
+    exp_in (λ i. node_at c.args.code.now i) e (exp_view c.get.result.now) (c.args.number + 1) c.inside-in_default.result c.get.ensures here
+    c.requires.1
 
 pub join_row-requires-clause-has : goal.join_row-requires-clause-has
 join_row-requires-clause-has c =
     let e = c.args.first.now in
     let here = c.inside-in_default.ensures.here (exp_node (Exp.logic (stops_at c.args.stop) e (ands_view c.args.rest.now))) c.requires.0 in
-    let second = second_is e (exp_view c.get.result.now) c.args.number c.inside-in_default.result c.after_exp-second.result c.get.ensures here c.after_exp-second.ensures in
+    let second = second_is e (exp_view c.get.result.now) c.args.number c.inside-in_default.result c.after_exp-second.result c.get.ensures here
+    c.after_exp-second.ensures in
     subst (HasAnds (λ i. node_at c.args.code.now i) (ands_view c.args.rest.now)) (sym second) c.requires.2

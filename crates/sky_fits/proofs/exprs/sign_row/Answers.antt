@@ -9,10 +9,12 @@ returns-then-count-signs-clause-row c = sym (sign_end c.args.signs.now (c.args.s
 
 pub returns-in-Star-clause-row : goal.returns-in-Star-clause-row
 returns-in-Star-clause-row c =
-    sym (sign_got c.args.signs.now (c.args.step - 2) c.in-Some.sign.now c.in-Some.ensures.lookup.1 c.if-count-signs.false ∙ ap (λ s. sign_is (sign_view s)) c.in-Star.is)
+    sym (sign_got c.args.signs.now (c.args.step - 2) c.in-Some.sign.now c.in-Some.ensures.lookup.1 c.if-count-signs.false
+    ∙ ap (λ s. sign_is (sign_view s)) c.in-Star.is)
 
 pub returns-in-Not : goal.returns-in-Not
 returns-in-Not c = record {
-  row = sym (sign_got c.args.signs.now (c.args.step - 2) c.in-Some.sign.now c.in-Some.ensures.lookup.1 c.if-count-signs.false ∙ sign_other c.in-Some.sign.now.sign c.in-Not.is);
+  row = sym (sign_got c.args.signs.now (c.args.step - 2) c.in-Some.sign.now c.in-Some.ensures.lookup.1 c.if-count-signs.false
+      ∙ sign_other c.in-Some.sign.now.sign c.in-Not.is);
   has = λ at. tt;
 }

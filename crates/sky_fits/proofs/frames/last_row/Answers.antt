@@ -19,5 +19,7 @@ returns-in-None c =
 pub returns-in-Some-at : goal.returns-in-Some-at
 returns-in-Some-at c =
     let t = c.in-Some.last.now in
-    let here : node_at c.args.code.now t.node ≡ Some (node_view c.in-Some-at.node) = subst (λ s. node_at s t.node ≡ Some (node_view c.in-Some-at.node)) c.requires c.in-Some-at.ensures.node in
-    last_at c.args.code.now c.args.todos.now t c.in-Some.ensures.value ∙ ap (λ o. Some (row o t.node t.step)) here ∙ ap Some (sym c.row_at.ensures.row)
+    let here : node_at c.args.code.now t.node ≡ Some (node_view c.in-Some-at.node) =
+    subst (λ s. node_at s t.node ≡ Some (node_view c.in-Some-at.node)) c.requires c.in-Some-at.ensures.node in
+    last_at c.args.code.now c.args.todos.now t c.in-Some.ensures.value ∙ ap (λ o. Some (row o t.node t.step)) here
+    ∙ ap Some (sym c.row_at.ensures.row)

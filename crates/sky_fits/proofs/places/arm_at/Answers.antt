@@ -19,8 +19,10 @@ loop-arm-preserved c =
     let blk = c.after_exp-block.result in
     let next = c.after_block-at.result in
     let is = ap arms_view c.in-Some.ensures.cases.0 in
-    let end : next ≡ l.at + nodes e + block_nodes arm.body = c.after_block-at.ensures ∙ ap (λ k. k + block_nodes arm.body) c.after_exp-block.ensures in
-    let one = arms_one l.at blk next p e arm.body (arms_view l.rest.now) more (last_block c.args.otherwise) is c.after_exp-block.ensures c.after_block-at.ensures in
+    let end : next ≡ l.at + nodes e + block_nodes arm.body = c.after_block-at.ensures
+    ∙ ap (λ k. k + block_nodes arm.body) c.after_exp-block.ensures in
+    let one = arms_one l.at blk next p e arm.body (arms_view l.rest.now) more (last_block c.args.otherwise) is c.after_exp-block.ensures
+    c.after_block-at.ensures in
     record {
       has = arms_left (λ i. node_at c.args.code.now i) l.at next p e arm.body (arms_view l.rest.now) more is end l.invariant.has;
       all = λ h. l.invariant.all (subst (In c.args.node) (sym one) (inr h));

@@ -12,8 +12,10 @@ use Rattle.sky_fits.proofs.places.arm_at.Given as goal
 abbrev pub invariant-loop-arm : goal.invariant-loop-arm
 invariant-loop-arm l = record {
   has : HasArms (λ i. node_at l.code i) (arms_view l.rest) l.at;
-  all : In l.node (arm_blocks l.at (arms_view l.rest) ++ else_block (l.at + arms_nodes (arms_view l.rest)) (last_block l.otherwise)) → In l.node (arm_blocks l.first (arms_view l.arms) ++ else_block (l.first + arms_nodes (arms_view l.arms)) (last_block l.otherwise));
-  left : In l.node (arm_blocks l.first (arms_view l.arms) ++ else_block (l.first + arms_nodes (arms_view l.arms)) (last_block l.otherwise)) → In l.node (arm_blocks l.at (arms_view l.rest) ++ else_block (l.at + arms_nodes (arms_view l.rest)) (last_block l.otherwise));
+  all : In l.node (arm_blocks l.at (arms_view l.rest) ++ else_block (l.at + arms_nodes (arms_view l.rest)) (last_block l.otherwise))
+      → In l.node (arm_blocks l.first (arms_view l.arms) ++ else_block (l.first + arms_nodes (arms_view l.arms)) (last_block l.otherwise));
+  left : In l.node (arm_blocks l.first (arms_view l.arms) ++ else_block (l.first + arms_nodes (arms_view l.arms)) (last_block l.otherwise))
+      → In l.node (arm_blocks l.at (arms_view l.rest) ++ else_block (l.at + arms_nodes (arms_view l.rest)) (last_block l.otherwise));
 }
 
 abbrev pub decreases-loop-arm : goal.decreases-loop-arm

@@ -6,4 +6,5 @@ use Rattle.sky_fits.proofs.stmts.block_row.Goals as goal
 pub stmts_after-requires : goal.stmts_after-requires
 stmts_after-requires c =
     let here = c.inside.ensures.here (block_node c.args.block.now) c.requires.here in
-    subst (λ b. HasStms (λ i. node_at c.args.code.now i) b c.inside.result) (sym c.as_slice.ensures) (subst (HasStms (λ i. node_at c.args.code.now i) c.args.block.now) (sym here) c.requires.has)
+    subst (λ b. HasStms (λ i. node_at c.args.code.now i) b c.inside.result) (sym c.as_slice.ensures)
+    (subst (HasStms (λ i. node_at c.args.code.now i) c.args.block.now) (sym here) c.requires.has)

@@ -9,7 +9,8 @@ use Rattle.sky_fits.proofs.walk.joins_after.Goals as goal
 pub returns-in_default : goal.returns-in_default
 returns-in_default c =
     let l = c.loop-passed in
-    on_none past_and l._passed c.args.count (c.args.second, ands_view c.args.joins.now) (l.next, ands_view l.rest.now) l.invariant.place (none_and l.next l.rest.now c.in_default.ensures.cases) c.loop-passed-test.true
+    on_none past_and l._passed c.args.count (c.args.second, ands_view c.args.joins.now) (l.next, ands_view l.rest.now) l.invariant.place
+    (none_and l.next l.rest.now c.in_default.ensures.cases) c.loop-passed-test.true
 
 pub loop-passed-preserved : goal.loop-passed-preserved
 loop-passed-preserved c =
@@ -20,6 +21,9 @@ loop-passed-preserved c =
     let more = ands_view c.in-Some.more.now in
     let is = ap ands_view c.in-Some.ensures.cases.0 in
     record {
-      place = on_more past_and l._passed (c.args.second, ands_view c.args.joins.now) (l.next, ands_view l.rest.now) (c.after_exp-next.result, more) l.invariant.place (one_and l.next c.after_exp-next.result p e (ands_view l.rest.now) more is c.after_exp-next.ensures);
-      has = ands_left (λ i. node_at c.args.code.now i) l.next c.after_exp-next.result p e (ands_view l.rest.now) more is c.after_exp-next.ensures l.invariant.has;
+      place = on_more past_and l._passed (c.args.second, ands_view c.args.joins.now) (l.next, ands_view l.rest.now)
+          (c.after_exp-next.result, more) l.invariant.place
+          (one_and l.next c.after_exp-next.result p e (ands_view l.rest.now) more is c.after_exp-next.ensures);
+      has = ands_left (λ i. node_at c.args.code.now i) l.next c.after_exp-next.result p e (ands_view l.rest.now) more is c.after_exp-next.ensures
+          l.invariant.has;
     }

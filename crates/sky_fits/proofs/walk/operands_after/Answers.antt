@@ -9,7 +9,8 @@ use Rattle.sky_fits.proofs.walk.operands_after.Goals as goal
 pub returns-in_default : goal.returns-in_default
 returns-in_default c =
     let l = c.loop-passed in
-    on_none past_link l._passed c.args.count (c.args.second, operands_view c.args.operands) (l.next, operands_view l.rest) l.invariant.place (none_link l.next (operands_view l.rest) c.in_default.ensures) c.loop-passed-test.true
+    on_none past_link l._passed c.args.count (c.args.second, operands_view c.args.operands) (l.next, operands_view l.rest) l.invariant.place
+    (none_link l.next (operands_view l.rest) c.in_default.ensures) c.loop-passed-test.true
 
 pub loop-passed-preserved : goal.loop-passed-preserved
 loop-passed-preserved c =
@@ -18,6 +19,10 @@ loop-passed-preserved c =
     let p = at o.line o.col in
     let e = exp_view o.operand.now in
     record {
-      place = on_more past_link l._passed (c.args.second, operands_view c.args.operands) (l.next, operands_view l.rest) (c.after_exp-next.result, operands_view o.rest) l.invariant.place (one_link l.next c.after_exp-next.result (op_view o.op) p e (operands_view l.rest) (operands_view o.rest) c.in-Some.ensures c.after_exp-next.ensures);
-      has = links_left (λ i. node_at c.args.code.now i) l.next c.after_exp-next.result (op_view o.op) p e (operands_view l.rest) (operands_view o.rest) c.in-Some.ensures c.after_exp-next.ensures l.invariant.has;
+      place = on_more past_link l._passed (c.args.second, operands_view c.args.operands) (l.next, operands_view l.rest)
+          (c.after_exp-next.result, operands_view o.rest) l.invariant.place
+          (one_link l.next c.after_exp-next.result (op_view o.op) p e (operands_view l.rest) (operands_view o.rest) c.in-Some.ensures
+          c.after_exp-next.ensures);
+      has = links_left (λ i. node_at c.args.code.now i) l.next c.after_exp-next.result (op_view o.op) p e (operands_view l.rest)
+          (operands_view o.rest) c.in-Some.ensures c.after_exp-next.ensures l.invariant.has;
     }

@@ -9,20 +9,23 @@ use Rattle.sky_fits.proofs.walk.spots_after.Goals as goal
 pub loop-passed-init : goal.loop-passed-init
 loop-passed-init c = record {
   place = ap Some (sym c.enter-spot.ensures.place);
-  has = first_has (λ i. node_at c.args.code.now i) c.args.second (steps_view c.args.steps.now) (spot_view c.enter-spot.result) c.enter-spot.ensures.place c.requires;
+  has = first_has (λ i. node_at c.args.code.now i) c.args.second (steps_view c.args.steps.now) (spot_view c.enter-spot.result)
+      c.enter-spot.ensures.place c.requires;
   few = omega (arith, c.enter-spot.ensures.none);
 }
 
 pub returns-in_default-clause-place : goal.returns-in_default-clause-place
 returns-in_default-clause-place c =
     let l = c.loop-passed in
-    on_none past_spot l._passed c.args.count (spot_of c.args.second (steps_view c.args.steps.now)) (spot_view l.spot) l.invariant.place c.in_default.ensures.place c.loop-passed-test.true
+    on_none past_spot l._passed c.args.count (spot_of c.args.second (steps_view c.args.steps.now)) (spot_view l.spot) l.invariant.place
+    c.in_default.ensures.place c.loop-passed-test.true
 
 pub loop-passed-preserved : goal.loop-passed-preserved
 loop-passed-preserved c =
     let l = c.loop-passed in
     record {
-      place = on_more past_spot l._passed (spot_of c.args.second (steps_view c.args.steps.now)) (spot_view l.spot) (spot_view c.in-Some.next) l.invariant.place c.in-Some.ensures.place;
+      place = on_more past_spot l._passed (spot_of c.args.second (steps_view c.args.steps.now)) (spot_view l.spot) (spot_view c.in-Some.next)
+          l.invariant.place c.in-Some.ensures.place;
       has = spot_left (λ i. node_at c.args.code.now i) (spot_view l.spot) (spot_view c.in-Some.next) c.in-Some.ensures.place l.invariant.has;
       few = omega (arith, l.invariant.few, c.in-Some.ensures.one);
     }

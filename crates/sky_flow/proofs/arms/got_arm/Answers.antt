@@ -12,4 +12,5 @@ next_arm-requires-clause-arms c =
 
 pub next_arm-requires-clause-other : goal.next_arm-requires-clause-other
 next_arm-requires-clause-other c =
-    subst (λ m. HasElse (λ i. node_at c.args.code.now i) (last_block c.args.arm.otherwise) (m + arms_nodes (arms_view c.args.arm.arms.now))) (sym c.after_block-next.ensures) c.requires.entry.3
+    subst (λ m. HasElse (λ i. node_at c.args.code.now i) (last_block c.args.arm.otherwise) (m + arms_nodes (arms_view c.args.arm.arms.now)))
+    (sym c.after_block-next.ensures) c.requires.entry.3

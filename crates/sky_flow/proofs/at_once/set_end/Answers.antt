@@ -12,4 +12,6 @@ returns-in_ok-end-in-Got-clause-same c = λ w body h.
     let n = c.args.node in
     let en = set_part c.args.node c.args.name.now in
     let got = rw c.in-Got.is at (c.in_ok-end.ensures.same w body (n + 1) h) in
-    c.visit.ensures.more c.if-not-visit.false _ ∙ part_ended w body e e (n + 1) c.visit.new.state c.simple_end.new.state (End.got (view c.in-Got.v)) en (after w body en) refl got ∙ c.in_ok-end-in-Got.ensures.same w body
+    c.visit.ensures.more c.if-not-visit.false _
+    ∙ part_ended w body e e (n + 1) c.visit.new.state c.simple_end.new.state (End.got (view c.in-Got.v)) en (after w body en) refl got
+    ∙ c.in_ok-end-in-Got.ensures.same w body

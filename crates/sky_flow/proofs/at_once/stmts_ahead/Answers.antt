@@ -7,7 +7,8 @@ use Rattle.sky_flow.proofs.at_once.stmts_ahead.Goals as goal
 
 pub after_stmt-next-requires : goal.after_stmt-next-requires
 after_stmt-next-requires c =
-    stm_has (λ i. node_at c.args.code.now i) c.stmts.next (stm_view c.in-Some.first.now) (stms_view c.in-Some.more.now) (stms_view c.stmts.rest.now) (ap stms_view c.in-Some.ensures.cases.0) c.stmts.invariant.has
+    stm_has (λ i. node_at c.args.code.now i) c.stmts.next (stm_view c.in-Some.first.now) (stms_view c.in-Some.more.now)
+    (stms_view c.stmts.rest.now) (ap stms_view c.in-Some.ensures.cases.0) c.stmts.invariant.has
 
 pub stmts-preserved : goal.stmts-preserved
 stmts-preserved c =
@@ -24,5 +25,7 @@ stmts-preserved c =
       has = left.1;
       within = done.within;
       more = omega (arith, l.invariant.more, done.more);
-      same = λ w body h. l.invariant.same w body h ∙ stms_next w body a more xs c.args.block.node l.step l.next c.after_stmt-next.result l.state c.stmt_end.new.state next is (rw c.in-Goes.is at ((rw c.in-Some-end.is at done.same) w body h));
+      same = λ w body h. l.invariant.same w body h
+          ∙ stms_next w body a more xs c.args.block.node l.step l.next c.after_stmt-next.result l.state c.stmt_end.new.state next is
+          (rw c.in-Goes.is at ((rw c.in-Some-end.is at done.same) w body h));
     }

@@ -16,7 +16,9 @@ invariant-stmts l = record {
   has : HasStms (λ i. node_at l.code i) (stms_view l.rest) l.next;
   within : l.state.count ≤ visits;
   more : l.fn.state.count ≤ l.state.count;
-  same : (w : World (List ℕ)) (body : List ℕ → Pairs → Vals (List ℕ) → Place → Vars → Run) → w.script ≡ l.code → eval_stms w body (stms_view l.fn.block.rest.now) l.fn.block.node l.fn.block.step l.fn.block.next l.fn.state ≡ eval_stms w body (stms_view l.rest) l.fn.block.node l.step l.next l.state;
+  same : (w : World (List ℕ)) (body : List ℕ → Pairs → Vals (List ℕ) → Place → Vars → Run) → w.script ≡ l.code
+      → eval_stms w body (stms_view l.fn.block.rest.now) l.fn.block.node l.fn.block.step l.fn.block.next l.fn.state
+      ≡ eval_stms w body (stms_view l.rest) l.fn.block.node l.step l.next l.state;
 }
 
 abbrev pub decreases-stmts : goal.decreases-stmts

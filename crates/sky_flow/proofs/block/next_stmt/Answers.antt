@@ -14,9 +14,15 @@ returns-in_ok-push-in-Some-clause-same c = λ w st.
     let old = c.args.entries.now.items in
     let now = room w (forms old) in
     let inside = room w (forms c.push.new.entries.items) in
-    c.in_ok-push-in-Some.ensures.rest w (eval_stm w (body_at w inside) a b.next st) ∙ ap (rest_in w old) (stm_begun w now inside (c.in_ok-push-in-Some.ensures.room w) b.node b.step (b.step + 1) b.next c.after_stmt-after.result a (stms_view c.in-Some.rest.now) (stms_view b.rest.now) st refl c.after_stmt-after.ensures (ap stms_view c.in-Some.ensures.cases.0))
+    c.in_ok-push-in-Some.ensures.rest w (eval_stm w (body_at w inside) a b.next st)
+    ∙ ap (rest_in w old) (stm_begun w now inside (c.in_ok-push-in-Some.ensures.room w) b.node b.step (b.step + 1) b.next
+    c.after_stmt-after.result a (stms_view c.in-Some.rest.now) (stms_view b.rest.now) st refl c.after_stmt-after.ensures
+    (ap stms_view c.in-Some.ensures.cases.0))
 
 pub returns-in_ok-push-in-Some-clause-ready : goal.returns-in_ok-push-in-Some-clause-ready
 returns-in_ok-push-in-Some-clause-ready c =
     let b = c.args.block in
-    c.in_ok-push-in-Some.ensures.ready c.args.code.now c.requires.ready (stm_ready (λ i. node_at c.args.code.now i) b.step b.next c.after_stmt-after.result (stm_view c.in-Some.first.now) (stms_view c.in-Some.rest.now) (stms_view b.rest.now) (ap stms_view c.in-Some.ensures.cases.0) c.requires.has c.after_stmt-after.ensures c.requires.step)
+    c.in_ok-push-in-Some.ensures.ready c.args.code.now c.requires.ready
+    (stm_ready (λ i. node_at c.args.code.now i) b.step b.next c.after_stmt-after.result (stm_view c.in-Some.first.now)
+    (stms_view c.in-Some.rest.now) (stms_view b.rest.now) (ap stms_view c.in-Some.ensures.cases.0) c.requires.has c.after_stmt-after.ensures
+    c.requires.step)

@@ -27,4 +27,7 @@ returns-clause-same c = λ w st h.
     let now = room w (forms old) in
     let inside = room w (forms c.push.new.entries.items) in
     let is = c.inside-block.ensures.some (block_node b) c.requires.entry.1.0 in
-    c.in_ok-control.ensures.same w st ∙ c.in_ok-push.ensures.rest w (eval_block w (body_at w inside) b c.inside-block.result st) ∙ ap (rest_in w old) (block_begun w now inside (c.in_ok-push.ensures.room w) b (t.node + 1) c.inside-block.result st (repeat_body t.node t.test_at p b e) (after w (body_at w now) (repeat_body t.node t.test_at p b e)) is ∙ repeat_turn w now t.node t.test_at p e b st h)
+    c.in_ok-control.ensures.same w st ∙ c.in_ok-push.ensures.rest w (eval_block w (body_at w inside) b c.inside-block.result st)
+    ∙ ap (rest_in w old) (block_begun w now inside (c.in_ok-push.ensures.room w) b (t.node + 1) c.inside-block.result st
+    (repeat_body t.node t.test_at p b e) (after w (body_at w now) (repeat_body t.node t.test_at p b e)) is
+    ∙ repeat_turn w now t.node t.test_at p e b st h)

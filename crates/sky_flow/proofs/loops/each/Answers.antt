@@ -12,17 +12,23 @@ pub returns-in-None-clause-same : goal.returns-in-None-clause-same
 returns-in-None-clause-same c = λ w.
     let t = c.args.turn in
     let old = c.args.entries.now.items in
-    ap (rest_in w old) (ap (λ us. each us t.node t.block t.taken (at t.line t.col) t.name.now t.list t.body.now (eval_block w (body_in w (forms old)) t.body.now t.block) c.args.state.now) (sym (left_past t.list t.taken c.in-None.ensures)))
+    ap (rest_in w old) (ap (λ us. each us t.node t.block t.taken (at t.line t.col) t.name.now t.list t.body.now
+    (eval_block w (body_in w (forms old)) t.body.now t.block) c.args.state.now) (sym (left_past t.list t.taken c.in-None.ensures)))
 
 pub returns-then-not-visit-clause-same : goal.returns-then-not-visit-clause-same
 returns-then-not-visit-clause-same c = λ w.
     let t = c.args.turn in
     let old = c.args.entries.now.items in
-    ap (λ x. config w old x c.visit.new.state) c.fail.ensures ∙ ap (rest_in w old) (sym (c.visit.ensures.failed c.if-not-visit.true _) ∙ ap (λ us. each us t.node t.block t.taken (at t.line t.col) t.name.now t.list t.body.now (eval_block w (body_in w (forms old)) t.body.now t.block) c.args.state.now) (sym (left_here t.list t.taken (view c.in-Some.v.now) c.in-Some.ensures)))
+    ap (λ x. config w old x c.visit.new.state) c.fail.ensures
+    ∙ ap (rest_in w old) (sym (c.visit.ensures.failed c.if-not-visit.true _)
+    ∙ ap (λ us. each us t.node t.block t.taken (at t.line t.col) t.name.now t.list t.body.now
+    (eval_block w (body_in w (forms old)) t.body.now t.block) c.args.state.now)
+    (sym (left_here t.list t.taken (view c.in-Some.v.now) c.in-Some.ensures)))
 
 pub set-requires : goal.set-requires
 set-requires c =
-    rw c.in_ok-v-in-Some.ensures (kept_at c.args.turn.list c.args.turn.taken (view c.in-Some.v.now) c.in-Some.ensures (kept_parts c.args.turn.list c.requires.entry.1))
+    rw c.in_ok-v-in-Some.ensures (kept_at c.args.turn.list c.args.turn.taken (view c.in-Some.v.now) c.in-Some.ensures
+    (kept_parts c.args.turn.list c.requires.entry.1))
 
 pub overflow_add-turn : goal.overflow_add-turn
 overflow_add-turn c =
@@ -38,4 +44,7 @@ returns-clause-same c = λ w.
     let now = room w (forms old) in
     let inside = room w (forms c.push.new.entries.items) in
     let set = c.in_ok-set.ensures ∙ ap (λ u. set_var t.name.now (view u) c.visit.new.state) c.in_ok-v-in-Some.ensures in
-    c.in_ok-control.ensures.same w st ∙ c.in_ok-push.ensures.rest w (eval_block w (body_at w inside) t.body.now t.block st) ∙ ap (rest_in w old) (each_begun w now inside (c.in_ok-push.ensures.room w) t.node t.block t.taken (t.taken + 1) p t.name.now t.list (left t.taken t.list) v t.body.now c.args.state.now c.visit.new.state st refl (left_here t.list t.taken v c.in-Some.ensures) (c.visit.ensures.more c.if-not-visit.false) set)
+    c.in_ok-control.ensures.same w st ∙ c.in_ok-push.ensures.rest w (eval_block w (body_at w inside) t.body.now t.block st)
+    ∙ ap (rest_in w old) (each_begun w now inside (c.in_ok-push.ensures.room w) t.node t.block t.taken (t.taken + 1) p t.name.now t.list
+    (left t.taken t.list) v t.body.now c.args.state.now c.visit.new.state st refl (left_here t.list t.taken v c.in-Some.ensures)
+    (c.visit.ensures.more c.if-not-visit.false) set)

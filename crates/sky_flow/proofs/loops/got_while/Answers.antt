@@ -18,4 +18,6 @@ returns-clause-same c = λ w st.
     let now = room w (forms old) in
     let inside = room w (forms c.push.new.entries.items) in
     let on : c.in-Ok-true.field-0 ≡ true = search rules in
-    c.in_ok-control-in-Ok-true.ensures.same w st ∙ c.in_ok-push-in-Ok-true.ensures.rest w (eval_block w (body_at w inside) b t.block st) ∙ ap (rest_in w old) (while_body_begun w now inside (c.in_ok-push-in-Ok-true.ensures.room w) t.node t.block p e b (view c.args.v) st (c.in-Ok-true.ensures.ok ∙ ap truth on))
+    c.in_ok-control-in-Ok-true.ensures.same w st ∙ c.in_ok-push-in-Ok-true.ensures.rest w (eval_block w (body_at w inside) b t.block st)
+    ∙ ap (rest_in w old) (while_body_begun w now inside (c.in_ok-push-in-Ok-true.ensures.room w) t.node t.block p e b (view c.args.v) st
+    (c.in-Ok-true.ensures.ok ∙ ap truth on))

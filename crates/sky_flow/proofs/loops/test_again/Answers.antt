@@ -16,4 +16,6 @@ returns-clause-same c = λ w st.
     let old = c.args.entries.now.items in
     let now = room w (forms old) in
     let inside = room w (forms c.push.new.entries.items) in
-    c.in_ok-push.ensures.rest w (eval w (body_at w inside) e t.test_at st) ∙ ap (rest_in w old) (part_begun w now inside (c.in_ok-push.ensures.room w) e t.test_at t.test_at st (repeat_test t.node t.test_at p b e) (after w (body_at w now) (repeat_test t.node t.test_at p b e)) refl)
+    c.in_ok-push.ensures.rest w (eval w (body_at w inside) e t.test_at st)
+    ∙ ap (rest_in w old) (part_begun w now inside (c.in_ok-push.ensures.room w) e t.test_at t.test_at st (repeat_test t.node t.test_at p b e)
+    (after w (body_at w now) (repeat_test t.node t.test_at p b e)) refl)

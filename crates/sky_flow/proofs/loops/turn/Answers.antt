@@ -19,4 +19,7 @@ returns-clause-same c = λ w st h.
     let now = room w (forms old) in
     let inside = room w (forms c.push.new.entries.items) in
     let is = exp_inside (λ i. node_at c.args.code.now i) e t.node c.inside-part.result c.inside-part.ensures.some c.requires.entry.0 in
-    c.in_ok-push.ensures.rest w (eval w (body_at w inside) e c.inside-part.result st) ∙ ap (rest_in w old) (part_begun w now inside (c.in_ok-push.ensures.room w) e (t.node + 1) c.inside-part.result st (while_test t.node t.block p e b) (after w (body_at w now) (while_test t.node t.block p e b)) is ∙ while_turn w now t.node t.block p e b st h)
+    c.in_ok-push.ensures.rest w (eval w (body_at w inside) e c.inside-part.result st)
+    ∙ ap (rest_in w old) (part_begun w now inside (c.in_ok-push.ensures.room w) e (t.node + 1) c.inside-part.result st
+    (while_test t.node t.block p e b) (after w (body_at w now) (while_test t.node t.block p e b)) is
+    ∙ while_turn w now t.node t.block p e b st h)

@@ -22,4 +22,7 @@ returns-in_ok-control-in-Stands-clause-same c = λ w h.
     let now = room w (forms old) in
     let inside = room w (forms c.push.new.entries.items) in
     let en = while_body o.node o.block (at o.line o.col) (exp_view o.test.now) o.body.now in
-    c.in_ok-control-in-Stands.ensures.same w st ∙ c.in_ok-push-in-Stands.ensures.rest w (eval_stms w (body_at w inside) xs f.node f.step f.next st) ∙ ap (rest_in w old) (ap (λ j. then_do (eval_stms w (body_at w j) xs f.node f.step f.next st) en (after w (body_at w now) en)) (c.in_ok-push-in-Stands.ensures.room w) ∙ sym (rw c.in-Stands.is at (c.in_ok-stop-in-Some.ensures.same w now h)))
+    c.in_ok-control-in-Stands.ensures.same w st
+    ∙ c.in_ok-push-in-Stands.ensures.rest w (eval_stms w (body_at w inside) xs f.node f.step f.next st)
+    ∙ ap (rest_in w old) (ap (λ j. then_do (eval_stms w (body_at w j) xs f.node f.step f.next st) en (after w (body_at w now) en))
+    (c.in_ok-push-in-Stands.ensures.room w) ∙ sym (rw c.in-Stands.is at (c.in_ok-stop-in-Some.ensures.same w now h)))

@@ -8,7 +8,9 @@ abbrev pub invariant-turns : goal.invariant-turns
 invariant-turns l = record {
   within : l.state.count ≤ visits;
   more : l.fn.state.count ≤ l.state.count;
-  same : (w : World (List ℕ)) (d : ℕ) → w.script ≡ l.code → go_while w (body_at w d) l.of.node l.of.block (at l.of.line l.of.col) (exp_view l.of.test.now) l.of.body.now l.fn.state ≡ go_while w (body_at w d) l.of.node l.of.block (at l.of.line l.of.col) (exp_view l.of.test.now) l.of.body.now l.state;
+  same : (w : World (List ℕ)) (d : ℕ) → w.script ≡ l.code
+      → go_while w (body_at w d) l.of.node l.of.block (at l.of.line l.of.col) (exp_view l.of.test.now) l.of.body.now l.fn.state
+      ≡ go_while w (body_at w d) l.of.node l.of.block (at l.of.line l.of.col) (exp_view l.of.test.now) l.of.body.now l.state;
 }
 
 abbrev pub decreases-turns : goal.decreases-turns

@@ -28,4 +28,6 @@ returns-clause-same c = λ w.
     let old = c.args.entries.now.items in
     let is = c.inside.ensures.some (block_node c.args.body.now) c.requires.has.2 in
     let next = c.after_block-test_at.ensures ∙ ap (λ m. m + block_nodes c.args.body.now) is in
-    c.in_ok-control.ensures.same w st c.visit.ensures.within ∙ ap (rest_in w old) (ap (λ m. go_repeat w (body_in w (forms old)) n m p c.args.body.now e st) next ∙ sym (c.visit.ensures.more c.if-not-visit.false _))
+    c.in_ok-control.ensures.same w st c.visit.ensures.within
+    ∙ ap (rest_in w old) (ap (λ m. go_repeat w (body_in w (forms old)) n m p c.args.body.now e st) next
+    ∙ sym (c.visit.ensures.more c.if-not-visit.false _))

@@ -12,7 +12,8 @@ use Rattle.sky_flow.proofs.stmt.begin_put.Goals as goal
 
 pub after_exp-requires : goal.after_exp-requires
 after_exp-requires c =
-    exp_inside_has (λ i. node_at c.args.code.now i) (exp_view c.args.index.now) c.args.put.node c.inside-part.result c.inside-part.ensures.some c.requires.has.1
+    exp_inside_has (λ i. node_at c.args.code.now i) (exp_view c.args.index.now) c.args.put.node c.inside-part.result c.inside-part.ensures.some
+    c.requires.has.1
 
 pub returns-clause-same : goal.returns-clause-same
 returns-clause-same c = λ w.
@@ -26,7 +27,11 @@ returns-clause-same c = λ w.
     let inside = room w (forms c.push.new.entries.items) in
     let is = exp_inside (λ k. node_at c.args.code.now k) i p.node c.inside-part.result c.inside-part.ensures.some c.requires.has.1 in
     let next = c.after_exp.ensures ∙ ap (λ m. m + nodes i) is in
-    c.in_ok-push.ensures.rest w (eval w (body_at w inside) i c.inside-part.result st) ∙ ap (rest_in w old) (part_begun w now inside (c.in_ok-push.ensures.room w) i (p.node + 1) c.inside-part.result st (en c.after_exp.result) (after w (body_at w now) (en c.after_exp.result)) is ∙ ap (λ m. then_do (eval w (body_at w now) i (p.node + 1) st) (en m) (after w (body_at w now) (en m))) next ∙ sym (c.visit.ensures.more c.if-not-visit.false _))
+    c.in_ok-push.ensures.rest w (eval w (body_at w inside) i c.inside-part.result st)
+    ∙ ap (rest_in w old) (part_begun w now inside (c.in_ok-push.ensures.room w) i (p.node + 1) c.inside-part.result st
+    (en c.after_exp.result) (after w (body_at w now) (en c.after_exp.result)) is
+    ∙ ap (λ m. then_do (eval w (body_at w now) i (p.node + 1) st) (en m) (after w (body_at w now) (en m))) next
+    ∙ sym (c.visit.ensures.more c.if-not-visit.false _))
 
 pub returns-clause-ready : goal.returns-clause-ready
 returns-clause-ready c =
@@ -34,8 +39,10 @@ returns-clause-ready c =
     let i = exp_view c.args.index.now in
     let is = exp_inside (λ k. node_at c.args.code.now k) i p.node c.inside-part.result c.inside-part.ensures.some c.requires.has.1 in
     let next = c.after_exp.ensures ∙ ap (λ m. m + nodes i) is in
-    c.in_ok-push.ensures.ready c.args.code.now c.requires.ready (subst (HasExp (λ k. node_at c.args.code.now k) (exp_view p.value.now)) (sym next) c.requires.has.2)
+    c.in_ok-push.ensures.ready c.args.code.now c.requires.ready
+    (subst (HasExp (λ k. node_at c.args.code.now k) (exp_view p.value.now)) (sym next) c.requires.has.2)
 
 pub returns-clause-goes : goal.returns-clause-goes
 returns-clause-goes c =
-    exp_inside_has (λ i. node_at c.args.code.now i) (exp_view c.args.index.now) c.args.put.node c.inside-part.result c.inside-part.ensures.some c.requires.has.1
+    exp_inside_has (λ i. node_at c.args.code.now i) (exp_view c.args.index.now) c.args.put.node c.inside-part.result c.inside-part.ensures.some
+    c.requires.has.1

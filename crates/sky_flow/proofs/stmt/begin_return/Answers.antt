@@ -18,11 +18,16 @@ returns-in_ok-push-in-Some-clause-same c = λ w.
     let now = room w (forms old) in
     let inside = room w (forms c.push.new.entries.items) in
     let is = exp_inside (λ i. node_at c.args.code.now i) e c.args.node c.inside.result c.inside.ensures.some (rw c.in-Some.is at c.requires.has).1 in
-    c.in_ok-push-in-Some.ensures.rest w (eval w (body_at w inside) e c.inside.result st) ∙ ap (rest_in w old) (part_begun w now inside (c.in_ok-push-in-Some.ensures.room w) e (c.args.node + 1) c.inside.result st en (after w (body_at w now) en) is ∙ sym (c.visit.ensures.more c.if-not-visit.false _)) ∙ ap (λ o. rest_in w old (eval_stm w (body_in w (forms old)) (returned o (at c.args.line c.args.col)) c.args.node c.args.state.now)) (sym c.in-Some.is)
+    c.in_ok-push-in-Some.ensures.rest w (eval w (body_at w inside) e c.inside.result st)
+    ∙ ap (rest_in w old) (part_begun w now inside (c.in_ok-push-in-Some.ensures.room w) e (c.args.node + 1) c.inside.result st en
+    (after w (body_at w now) en) is ∙ sym (c.visit.ensures.more c.if-not-visit.false _))
+    ∙ ap (λ o. rest_in w old (eval_stm w (body_in w (forms old)) (returned o (at c.args.line c.args.col)) c.args.node c.args.state.now))
+    (sym c.in-Some.is)
 
 pub returns-in_ok-push-in-Some-clause-goes : goal.returns-in_ok-push-in-Some-clause-goes
 returns-in_ok-push-in-Some-clause-goes c =
-    exp_inside_has (λ i. node_at c.args.code.now i) (exp_view c.in-Some.value.now) c.args.node c.inside.result c.inside.ensures.some (rw c.in-Some.is at c.requires.has).1
+    exp_inside_has (λ i. node_at c.args.code.now i) (exp_view c.in-Some.value.now) c.args.node c.inside.result c.inside.ensures.some
+    (rw c.in-Some.is at c.requires.has).1
 
 pub returns-in_ok-push-in-Some-clause-ready : goal.returns-in_ok-push-in-Some-clause-ready
 returns-in_ok-push-in-Some-clause-ready c = c.in_ok-push-in-Some.ensures.ready c.args.code.now c.requires.ready tt

@@ -17,7 +17,9 @@ returns-clause-same c = λ w.
     let now = room w (forms old) in
     let inside = room w (forms c.push.new.entries.items) in
     let is = exp_inside (λ i. node_at c.args.code.now i) e c.args.node c.inside.result c.inside.ensures.some c.requires.has.1 in
-    c.in_ok-push.ensures.rest w (eval w (body_at w inside) e c.inside.result st) ∙ ap (rest_in w old) (part_begun w now inside (c.in_ok-push.ensures.room w) e (c.args.node + 1) c.inside.result st en (after w (body_at w now) en) is ∙ sym (c.visit.ensures.more c.if-not-visit.false _))
+    c.in_ok-push.ensures.rest w (eval w (body_at w inside) e c.inside.result st)
+    ∙ ap (rest_in w old) (part_begun w now inside (c.in_ok-push.ensures.room w) e (c.args.node + 1) c.inside.result st en
+    (after w (body_at w now) en) is ∙ sym (c.visit.ensures.more c.if-not-visit.false _))
 
 pub returns-clause-goes : goal.returns-clause-goes
 returns-clause-goes c =

@@ -29,4 +29,6 @@ returns-clause-same c = λ w.
     let old = c.args.entries.now.items in
     let is = exp_inside (λ k. node_at c.args.code.now k) e n c.inside.result c.inside.ensures.some c.requires.has.1 in
     let next = c.after_exp-block.ensures ∙ ap (λ m. m + nodes e) is in
-    c.in_ok-control.ensures.same w st c.visit.ensures.within ∙ ap (rest_in w old) (ap (λ m. go_while w (body_in w (forms old)) n m p e c.args.body.now st) next ∙ sym (c.visit.ensures.more c.if-not-visit.false _))
+    c.in_ok-control.ensures.same w st c.visit.ensures.within
+    ∙ ap (rest_in w old) (ap (λ m. go_while w (body_in w (forms old)) n m p e c.args.body.now st) next
+    ∙ sym (c.visit.ensures.more c.if-not-visit.false _))

@@ -16,7 +16,8 @@ returns-clause-same c = λ w st.
     let old = c.args.entries.now.items in
     let now = room w (forms old) in
     let inside = room w (forms c.push.new.entries.items) in
-    c.in_ok-push.ensures.rest w (eval w (body_at w inside) e p.next st) ∙ ap (rest_in w old) (part_begun w now inside (c.in_ok-push.ensures.room w) e p.next p.next st en (after w (body_at w now) en) refl)
+    c.in_ok-push.ensures.rest w (eval w (body_at w inside) e p.next st)
+    ∙ ap (rest_in w old) (part_begun w now inside (c.in_ok-push.ensures.room w) e p.next p.next st en (after w (body_at w now) en) refl)
 
 pub returns-clause-ready : goal.returns-clause-ready
 returns-clause-ready c = c.in_ok-push.ensures.ready c.args.code.now c.requires.ready c.requires.kept

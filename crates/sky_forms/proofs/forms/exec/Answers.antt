@@ -14,10 +14,15 @@ returns-in-Ok-clause-answer c =
     let more = c.outputs.new.rows in
     let st = c.args.state.now in
     let names = c.in_ok-names.names in
-    rw (c.in_ok-visit.ensures.ok.1, c.in_ok-references-in-Ok.ensures.value) (exec_is (ground_of c.args.ground.now) (at c.args.line c.args.col) c.args.rows.now more st (view c.args.executor.now) (view c.args.args.now) (view c.args.count.now) c.in_ok-visit.ensures.ok.0 names (Out.got (list (refs_to (known_of names))) more (counted st)) c.in_ok-names.ensures.answer (c.in-Ok.ensures more (counted st)))
+    rw (c.in_ok-visit.ensures.ok.1, c.in_ok-references-in-Ok.ensures.value)
+    (exec_is (ground_of c.args.ground.now) (at c.args.line c.args.col) c.args.rows.now more st (view c.args.executor.now)
+    (view c.args.args.now) (view c.args.count.now) c.in_ok-visit.ensures.ok.0 names
+    (Out.got (list (refs_to (known_of names))) more (counted st)) c.in_ok-names.ensures.answer (c.in-Ok.ensures more (counted st)))
 
 pub returns-clause-answer : goal.returns-clause-answer
 returns-clause-answer c = λ ne.
     let more = c.outputs.new.rows in
     let st = c.args.state.now in
-    exec_is (ground_of c.args.ground.now) (at c.args.line c.args.col) c.args.rows.now more st (view c.args.executor.now) (view c.args.args.now) (view c.args.count.now) c.in_ok-visit.ensures.ok.0 c.in_ok-names.names (Out.cut (cut_of c.in-Err.cut) more) c.in_ok-names.ensures.answer (c.in-Err.ensures more (counted st))
+    exec_is (ground_of c.args.ground.now) (at c.args.line c.args.col) c.args.rows.now more st (view c.args.executor.now) (view c.args.args.now)
+    (view c.args.count.now) c.in_ok-visit.ensures.ok.0 c.in_ok-names.names (Out.cut (cut_of c.in-Err.cut) more) c.in_ok-names.ensures.answer
+    (c.in-Err.ensures more (counted st))

@@ -6,4 +6,6 @@ use Rattle.sky_forms.proofs.forms.references.Goals as goal
 
 pub returns-clause-kept : goal.returns-clause-kept
 returns-clause-kept c =
-    refs_kept c.args.names.now (list c.loop-name.refs) c.requires (ap list (sym (refs_end c.loop-name.refs c.as_slice-name-items.result.now c.loop-name.name-index (omega arith)) ∙ c.loop-name.invariant ∙ ap (λ ns. refs_to (known_of ns)) c.as_slice-name-items.ensures))
+    refs_kept c.args.names.now (list c.loop-name.refs) c.requires
+    (ap list (sym (refs_end c.loop-name.refs c.as_slice-name-items.result.now c.loop-name.name-index (omega arith)) ∙ c.loop-name.invariant
+    ∙ ap (λ ns. refs_to (known_of ns)) c.as_slice-name-items.ensures))

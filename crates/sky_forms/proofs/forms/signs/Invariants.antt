@@ -11,7 +11,8 @@ abbrev pub invariant-loop-left : goal.invariant-loop-left
 invariant-loop-left l = record {
   within : l.left ≤ length l.signs;
   kept : Kept (view l.v);
-  same : (rows : List Row) → signs (ground_of l.ground) (reverse (signs_view l.signs)) (view l.fn.first) rows l.fn.state ≡ signs (ground_of l.ground) (reverse (signs_view (take l.left l.signs))) (view l.v) rows l.state;
+  same : (rows : List Row) → signs (ground_of l.ground) (reverse (signs_view l.signs)) (view l.fn.first) rows l.fn.state
+      ≡ signs (ground_of l.ground) (reverse (signs_view (take l.left l.signs))) (view l.v) rows l.state;
 }
 
 abbrev pub decreases-loop-left : goal.decreases-loop-left

@@ -7,4 +7,5 @@ use Rattle.sky_forms.proofs.forms.wait_for_all.Given as goal
 
 abbrev pub invariant-loop-name : goal.invariant-loop-name
 invariant-loop-name l =
-    (ds rows : List Row) (st : Vars) → exec_seen (look (known_of l.objects) (known_names l.name-items)) ds rows st ≡ seen_after l.first (look (known_of l.objects) (known_names (drop l.name-index l.name-items))) ds rows st
+    (ds rows : List Row) (st : Vars) → exec_seen (look (known_of l.objects) (known_names l.name-items)) ds rows st
+    ≡ seen_after l.first (look (known_of l.objects) (known_names (drop l.name-index l.name-items))) ds rows st

@@ -6,4 +6,5 @@ use Rattle.sky_frozen.proofs.read.are_kept.Given as goal
 
 abbrev pub invariant-loop-pair : goal.invariant-loop-pair
 invariant-loop-pair l =
-    (EachKept (pairs_of (drop l.pair-index l.pairs)) → EachKept (pairs_of l.pairs)) × (EachKept (pairs_of l.pairs) → EachKept (pairs_of (drop l.pair-index l.pairs)))
+    (EachKept (pairs_of (drop l.pair-index l.pairs)) → EachKept (pairs_of l.pairs))
+    × (EachKept (pairs_of l.pairs) → EachKept (pairs_of (drop l.pair-index l.pairs)))

@@ -7,4 +7,5 @@ use Rattle.sky_frozen.proofs.read.read_data.Goals as goal
 pub returns-then-is_too_large-clause-refused : goal.returns-then-is_too_large-clause-refused
 returns-then-is_too_large-clause-refused c =
     let v = view c.in-Ok.value in
-    value_large c.args.reader.now v c.read_value.new.reader c.in-Ok.ensures.value (ltb-true most_size (size v) (sym c.is_too_large.ensures ∙ c.if-is_too_large.true))
+    value_large c.args.reader.now v c.read_value.new.reader c.in-Ok.ensures.value
+    (ltb-true most_size (size v) (sym c.is_too_large.ensures ∙ c.if-is_too_large.true))

@@ -10,4 +10,6 @@ use Rattle.sky_frozen.proofs.read.read_frames.Goals as goal
 pub returns-in-Err-clause-refused : goal.returns-in-Err-clause-refused
 returns-in-Err-clause-refused c =
     let l = c.loop-frame in
-    refuses_more c.in-Err.refusal (λ none. no_items frame_bytes FrameSpelled c.args.reader.now c.in-Some.count c.number.new.self c.in-Some.ensures (omega arith) (list_none frame_bytes FrameSpelled frames_free l._frame c.in-Some.count c.number.new.self (frames_view l.frames.items) l.reader l.invariant (omega arith) none)) c.in-Err.ensures.refused
+    refuses_more c.in-Err.refusal (λ none. no_items frame_bytes FrameSpelled c.args.reader.now c.in-Some.count c.number.new.self
+    c.in-Some.ensures (omega arith) (list_none frame_bytes FrameSpelled frames_free l._frame c.in-Some.count c.number.new.self
+    (frames_view l.frames.items) l.reader l.invariant (omega arith) none)) c.in-Err.ensures.refused

@@ -10,4 +10,6 @@ use Rattle.sky_frozen.proofs.read.read_todos.Goals as goal
 pub returns-in-Err-clause-refused : goal.returns-in-Err-clause-refused
 returns-in-Err-clause-refused c =
     let l = c.loop-todo in
-    refuses_more c.in-Err.refusal (λ none. no_items todo_bytes TodoSpelled c.args.reader.now c.in-Some.count c.number.new.self c.in-Some.ensures (omega arith) (list_none todo_bytes TodoSpelled todos_free l._todo c.in-Some.count c.number.new.self (todos_view l.todos.items) l.reader l.invariant (omega arith) none)) c.in-Err.ensures.refused
+    refuses_more c.in-Err.refusal (λ none. no_items todo_bytes TodoSpelled c.args.reader.now c.in-Some.count c.number.new.self c.in-Some.ensures
+    (omega arith) (list_none todo_bytes TodoSpelled todos_free l._todo c.in-Some.count c.number.new.self (todos_view l.todos.items) l.reader
+    l.invariant (omega arith) none)) c.in-Err.ensures.refused

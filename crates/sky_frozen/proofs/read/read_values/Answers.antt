@@ -10,4 +10,6 @@ use Rattle.sky_frozen.proofs.read.read_values.Goals as goal
 pub returns-in-Err-clause-refused : goal.returns-in-Err-clause-refused
 returns-in-Err-clause-refused c =
     let l = c.loop-value in
-    refuses_more c.in-Err.refusal (λ none. no_items bytes IsData c.args.reader.now c.in-Some.count c.number.new.self c.in-Some.ensures (omega arith) (list_none bytes IsData data_free l._value c.in-Some.count c.number.new.self (stack_view l.values.items) l.reader l.invariant (omega arith) none)) c.in-Err.ensures.refused
+    refuses_more c.in-Err.refusal (λ none. no_items bytes IsData c.args.reader.now c.in-Some.count c.number.new.self c.in-Some.ensures
+    (omega arith) (list_none bytes IsData data_free l._value c.in-Some.count c.number.new.self (stack_view l.values.items) l.reader
+    l.invariant (omega arith) none)) c.in-Err.ensures.refused

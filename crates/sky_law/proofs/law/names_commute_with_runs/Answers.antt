@@ -18,7 +18,8 @@ returns-clause-call c tag job around read reads f ca vs = alike tag _ _ (job_low
 
 pub returns-clause-rest : goal.returns-clause-rest
 returns-clause-rest c tag job around read reads h os =
-    alike tag _ _ (rel_rest no_name tag (world_of job.script around) (named_as tag) read (λ d. ap known (tag_low tag d)) reads others h.wait h.forms h.st os)
+    alike tag _ _ (rel_rest no_name tag (world_of job.script around) (named_as tag) read (λ d. ap known (tag_low tag d)) reads others h.wait
+    h.forms h.st os)
 
 pub returns-clause-stack : goal.returns-clause-stack
 returns-clause-stack c tag f j h = stack_low no_name tag f j h

@@ -6,7 +6,19 @@ use Rattle.sky_law.proofs.law.names_commute_with_values.Goals as goal
 
 pub returns-clause-operators : goal.returns-clause-operators
 returns-clause-operators c tag =
-    record { plus = plus_low no_name tag; minus = minus_low no_name tag; times = times_low no_name tag; over = over_low no_name tag; rest = rest_low no_name tag; compare = compare_low no_name tag; index = index_low no_name tag; set_at = set_at_low no_name tag; append = append_low no_name tag }
+    record {
+      plus = plus_low no_name tag;
+      minus = minus_low no_name tag;
+      times = times_low no_name tag;
+      over = over_low no_name tag;
+      rest =
+          rest_low no_name tag;
+      compare = compare_low no_name tag;
+      index = index_low no_name tag;
+      set_at = set_at_low no_name tag;
+      append =
+          append_low no_name tag;
+    }
 
 pub returns-clause-refs : goal.returns-clause-refs
 returns-clause-refs c tag a = refs_low no_name tag a

@@ -3,4 +3,12 @@ use Rattle.sky_law.proofs.law.runs_go_on.Goals as goal
 
 pub returns : goal.returns
 returns c =
-    record { rest = λ job around seen f ca vs j h os at is. record { ends = task_ends job around seen f ca vs j h os at is; makes = task_makes job around seen f ca vs j h os at is; waits = task_halts job around seen f ca vs j h os at is } }
+    record {
+      rest = λ job around seen f ca vs j h os at
+          is. record {
+            ends = task_ends job around seen f ca vs j h os at is;
+            makes = task_makes job around seen f ca vs j h os at is;
+            waits =
+                task_halts job around seen f ca vs j h os at is;
+          };
+    }

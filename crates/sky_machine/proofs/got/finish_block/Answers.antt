@@ -12,7 +12,9 @@ returns-in-Goes-clause-same g c = λ w h. rw c.in-Goes.is (c.in_ok-control-in-Go
 
 pub returns-clause-same : goal.returns-clause-same
 returns-clause-same g c = λ w h.
-    ap (rest_in w c.args.entries.now.items) (sym (block_passes w (body_in w (forms c.args.entries.now.items)) c.args.block c.args.end c.args.state.now c.in_default.not-Got c.in_default.not-Goes))
+    ap (rest_in w c.args.entries.now.items) (sym
+    (block_passes w (body_in w (forms c.args.entries.now.items)) c.args.block c.args.end c.args.state.now c.in_default.not-Got
+    c.in_default.not-Goes))
 
 pub returns-clause-falls : goal.returns-clause-falls
 returns-clause-falls g c = same_out c.args.end _ c.args.entries.now.items c.requires.within

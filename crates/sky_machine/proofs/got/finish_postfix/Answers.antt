@@ -17,10 +17,12 @@ pub leave-requires : goal.leave-requires
 leave-requires g c = omega (arith, c.requires.room)
 
 pub returns-in-Failed-clause-same : goal.returns-in-Failed-clause-same
-returns-in-Failed-clause-same g c = λ w h. rw c.in-Failed.is (ap (rest_in w c.args.entries.now.items) (c.leave.ensures.same w (forms c.args.entries.now.items) c.in-Failed.fault))
+returns-in-Failed-clause-same g c = λ w h. rw c.in-Failed.is
+    (ap (rest_in w c.args.entries.now.items) (c.leave.ensures.same w (forms c.args.entries.now.items) c.in-Failed.fault))
 
 pub returns-in-Failed-clause-room : goal.returns-in-Failed-clause-room
 returns-in-Failed-clause-room g c = omega (arith, c.leave.ensures.room, c.requires.room)
 
 pub returns-in-Failed-clause-falls : goal.returns-in-Failed-clause-falls
-returns-in-Failed-clause-falls g c = rw c.in-Failed.is (fault_out c.in-Failed.fault _ _ c.args.entries.now.items c.leave.ensures.count c.requires.within)
+returns-in-Failed-clause-falls g c = rw c.in-Failed.is
+    (fault_out c.in-Failed.fault _ _ c.args.entries.now.items c.leave.ensures.count c.requires.within)

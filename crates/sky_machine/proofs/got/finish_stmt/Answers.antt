@@ -9,7 +9,8 @@ returns-in-Got-clause-same g c = λ w h. rw c.in-Got.is (c.in_ok-control-in-Got.
 
 pub returns-clause-same : goal.returns-clause-same
 returns-clause-same g c = λ w h.
-    ap (rest_in w c.args.entries.now.items) (sym (stmt_passes w (body_in w (forms c.args.entries.now.items)) c.args.stmt c.args.end c.args.state.now c.in_default.not-Got))
+    ap (rest_in w c.args.entries.now.items) (sym
+    (stmt_passes w (body_in w (forms c.args.entries.now.items)) c.args.stmt c.args.end c.args.state.now c.in_default.not-Got))
 
 pub returns-clause-falls : goal.returns-clause-falls
 returns-clause-falls g c = same_out c.args.end _ c.args.entries.now.items c.requires.within

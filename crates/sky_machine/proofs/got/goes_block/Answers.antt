@@ -33,4 +33,6 @@ returns-in_ok-control-in-Block-clause-same g c = λ w h. rw c.in-Block.is (c.in_
 
 pub returns-in_default-clause-same : goal.returns-in_default-clause-same
 returns-in_default-clause-same g c = λ w h.
-    ap (rest_in w c.args.entries.now.items) (sym (block_goes w (body_in w (forms c.args.entries.now.items)) c.args.block c.args.state.now c.in_default.not-WhileBody c.in_default.not-RepeatBody c.in_default.not-ForBody c.in_default.not-Block))
+    ap (rest_in w c.args.entries.now.items) (sym
+    (block_goes w (body_in w (forms c.args.entries.now.items)) c.args.block c.args.state.now c.in_default.not-WhileBody
+    c.in_default.not-RepeatBody c.in_default.not-ForBody c.in_default.not-Block))

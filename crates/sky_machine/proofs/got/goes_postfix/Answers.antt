@@ -19,7 +19,8 @@ returns-in_ok-control-in-Open-clause-same g c = λ w h. rw c.in-Open.is (c.in_ok
 
 pub returns-in_default-clause-same : goal.returns-in_default-clause-same
 returns-in_default-clause-same g c = λ w h.
-    ap (rest_in w c.args.entries.now.items) (sym (postfix_goes w (body_in w (forms c.args.entries.now.items)) c.args.postfix c.args.state.now c.in_default.not-Open))
+    ap (rest_in w c.args.entries.now.items) (sym
+    (postfix_goes w (body_in w (forms c.args.entries.now.items)) c.args.postfix c.args.state.now c.in_default.not-Open))
 
 pub returns-in_default-clause-room : goal.returns-in_default-clause-room
 returns-in_default-clause-room g c = omega (arith, postfix_open c.args.postfix c.in_default.not-Open, c.requires.room)

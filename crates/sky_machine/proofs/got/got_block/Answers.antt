@@ -21,7 +21,8 @@ pub got_repeat-requires-clause-entry : goal.got_repeat-requires-clause-entry
 got_repeat-requires-clause-entry g c = rw c.in-RepeatTest.is at c.requires.entry
 
 pub returns-in_ok-control-in-RepeatTest-clause-same : goal.returns-in_ok-control-in-RepeatTest-clause-same
-returns-in_ok-control-in-RepeatTest-clause-same g c = λ w h. rw c.in-RepeatTest.is (c.in_ok-control-in-RepeatTest.ensures.same w c.args.state.now c.requires.within)
+returns-in_ok-control-in-RepeatTest-clause-same g c =
+    λ w h. rw c.in-RepeatTest.is (c.in_ok-control-in-RepeatTest.ensures.same w c.args.state.now c.requires.within)
 
 pub got_list-requires-clause-entry : goal.got_list-requires-clause-entry
 got_list-requires-clause-entry g c = rw c.in-ForList.is at c.requires.entry
@@ -31,4 +32,6 @@ returns-in_ok-control-in-ForList-clause-same g c = λ w h. rw c.in-ForList.is (c
 
 pub returns-in_default-clause-same : goal.returns-in_default-clause-same
 returns-in_default-clause-same g c = λ w h.
-    ap (rest_in w c.args.entries.now.items) (sym (block_got w (body_in w (forms c.args.entries.now.items)) c.args.block (view c.args.v) c.args.state.now c.in_default.not-Arm c.in_default.not-WhileTest c.in_default.not-RepeatTest c.in_default.not-ForList))
+    ap (rest_in w c.args.entries.now.items) (sym
+    (block_got w (body_in w (forms c.args.entries.now.items)) c.args.block (view c.args.v) c.args.state.now c.in_default.not-Arm
+    c.in_default.not-WhileTest c.in_default.not-RepeatTest c.in_default.not-ForList))

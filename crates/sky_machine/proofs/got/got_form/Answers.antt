@@ -20,14 +20,16 @@ next_link-requires-clause-links g c = (rw c.in-ChainFirst.is at c.requires.entry
 
 pub returns-in-ChainFirst-clause-same : goal.returns-in-ChainFirst-clause-same
 returns-in-ChainFirst-clause-same g c = λ w h.
-    rw c.in-ChainFirst.is (ap (whole (g.N.Namer.digest c.args.ground.now.namer.now) c.args.made.now.items) (c.in_ok-control-in-ChainFirst.ensures.same w c.args.state.now))
+    rw c.in-ChainFirst.is (ap (whole (g.N.Namer.digest c.args.ground.now.namer.now) c.args.made.now.items)
+    (c.in_ok-control-in-ChainFirst.ensures.same w c.args.state.now))
 
 pub got_link-requires-clause-entry : goal.got_link-requires-clause-entry
 got_link-requires-clause-entry g c = rw c.in-ChainMore.is at c.requires.entry
 
 pub returns-in-ChainMore-clause-same : goal.returns-in-ChainMore-clause-same
 returns-in-ChainMore-clause-same g c = λ w h.
-    rw c.in-ChainMore.is (ap (whole (g.N.Namer.digest c.args.ground.now.namer.now) c.args.made.now.items) (c.in_ok-control-in-ChainMore.ensures.same w))
+    rw c.in-ChainMore.is (ap (whole (g.N.Namer.digest c.args.ground.now.namer.now) c.args.made.now.items)
+    (c.in_ok-control-in-ChainMore.ensures.same w))
 
 pub got_and-requires-clause-entry : goal.got_and-requires-clause-entry
 got_and-requires-clause-entry g c = rw c.in-Logic.is at c.requires.entry

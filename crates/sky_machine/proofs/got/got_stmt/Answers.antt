@@ -29,10 +29,12 @@ put_value-requires-clause-at g c = rw c.in-PutValue.is at c.requires.entry
 
 pub returns-in_ok-put_value-in-PutValue-clause-same : goal.returns-in_ok-put_value-in-PutValue-clause-same
 returns-in_ok-put_value-in-PutValue-clause-same g c = λ w h.
-    rw c.in-PutValue.is (ap (rest_in w c.args.entries.now.items) (sym (c.in_ok-put_value-in-PutValue.ensures.same w (body_in w (forms c.args.entries.now.items)))))
+    rw c.in-PutValue.is (ap (rest_in w c.args.entries.now.items)
+    (sym (c.in_ok-put_value-in-PutValue.ensures.same w (body_in w (forms c.args.entries.now.items)))))
 
 pub returns-in_ok-put_value-in-PutValue-clause-falls : goal.returns-in_ok-put_value-in-PutValue-clause-falls
-returns-in_ok-put_value-in-PutValue-clause-falls g c = value_out c.args.v _ _ c.args.entries.now.items _ c.in_ok-put_value-in-PutValue.ensures.count c.requires.within
+returns-in_ok-put_value-in-PutValue-clause-falls g c =
+    value_out c.args.v _ _ c.args.entries.now.items _ c.in_ok-put_value-in-PutValue.ensures.count c.requires.within
 
 pub returns-in-Return-clause-same : goal.returns-in-Return-clause-same
 returns-in-Return-clause-same g c = λ w h. rw c.in-Return.is refl

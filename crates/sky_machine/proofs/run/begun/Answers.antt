@@ -10,4 +10,5 @@ returns-clause-same g c = λ w h. c.in_ok-next.ensures.same w h
 
 pub returns-clause-falls : goal.returns-clause-falls
 returns-clause-falls g c =
-    begun (length (pre_script c.args.ground.now.code.now)) c.args.node _ _ _ _ _ (exp_within c.args.ground.now.code.now (exp_view c.args.e.now) c.args.node c.requires.goes) c.in_ok-next.ensures.falls
+    begun (length (pre_script c.args.ground.now.code.now)) c.args.node _ _ _ _ _
+    (exp_within c.args.ground.now.code.now (exp_view c.args.e.now) c.args.node c.requires.goes) c.in_ok-next.ensures.falls

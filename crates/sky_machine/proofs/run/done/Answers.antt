@@ -30,4 +30,5 @@ returns-in_ok-next-in-None-clause-falls c =
     let sc = c.args.code.now in
     let n = c.args.node in
     let still = rw c.in-None.is at c.in_ok-end.ensures.still in
-    rw (← still) (begun (length (pre_script sc)) n _ _ _ _ _ (stm_within sc (stm_view c.args.stmt.now) n c.requires.goes) c.in_ok-next-in-None.ensures.falls)
+    rw (← still) (begun (length (pre_script sc)) n _ _ _ _ _ (stm_within sc (stm_view c.args.stmt.now) n c.requires.goes)
+    c.in_ok-next-in-None.ensures.falls)

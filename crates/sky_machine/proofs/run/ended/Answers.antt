@@ -22,8 +22,10 @@ returns-in-None g c = absurd (omega (arith, c.requires.left_to_do, ap length c.i
 
 pub returns-in_ok-next-in-Some-clause-same : goal.returns-in_ok-next-in-Some-clause-same
 returns-in_ok-next-in-Some-clause-same g c = λ w h.
-    c.in_ok-next-in-Some.ensures.same w h ∙ ap (whole (g.N.Namer.digest c.args.ground.now.namer.now) c.args.made.now.items) (popped w c.args.entries.now.items _ c.in-Some.entry c.args.end c.args.state.now c.in-Some.ensures.some)
+    c.in_ok-next-in-Some.ensures.same w h ∙ ap (whole (g.N.Namer.digest c.args.ground.now.namer.now) c.args.made.now.items)
+    (popped w c.args.entries.now.items _ c.in-Some.entry c.args.end c.args.state.now c.in-Some.ensures.some)
 
 pub returns-in_ok-next-in-Some-clause-falls : goal.returns-in_ok-next-in-Some-clause-falls
 returns-in_ok-next-in-Some-clause-falls g c =
-    ended (length (pre_script c.args.ground.now.code.now)) c.args.end _ _ _ _ _ c.in-Some.entry _ c.in-Some.ensures.some c.in_ok-next-in-Some.ensures.falls
+    ended (length (pre_script c.args.ground.now.code.now)) c.args.end _ _ _ _ _ c.in-Some.entry _ c.in-Some.ensures.some
+    c.in_ok-next-in-Some.ensures.falls

@@ -11,7 +11,9 @@ use Rattle.sky_machine.proofs.run.run_on.Given as goal
 
 abbrev pub invariant-steps : goal.invariant-steps
 invariant-steps g l = record {
-  same : (w : World (List ℕ)) → RunsOn w l.ground.code.now (g.N.Namer.digest l.ground.namer.now) → whole (g.N.Namer.digest l.ground.namer.now) l.made.items (config w l.entries.items l.control l.state) ≡ whole (g.N.Namer.digest l.ground.namer.now) l.fn.made.items (config w l.fn.entries.items l.fn.control l.fn.state);
+  same : (w : World (List ℕ)) → RunsOn w l.ground.code.now (g.N.Namer.digest l.ground.namer.now)
+      → whole (g.N.Namer.digest l.ground.namer.now) l.made.items (config w l.entries.items l.control l.state)
+      ≡ whole (g.N.Namer.digest l.ground.namer.now) l.fn.made.items (config w l.fn.entries.items l.fn.control l.fn.state);
   ready : AllReady l.ground.code.now l.entries.items;
   goes : Goes l.ground.code.now l.control;
   room : opened (forms l.entries.items) + l.left ≡ others;

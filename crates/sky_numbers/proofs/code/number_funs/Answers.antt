@@ -16,11 +16,15 @@ loop-fun-preserved c =
     let many : vec_len l.ends ≡ length now = omega (arith, l.ends.ok.0) in
     let pushed = c.in-Ok.ensures.items ∙ ap (λ k. l.starts.items ++ k ∷ []) (c.len.ensures ∙ many) in
     record {
-      left = left_next c.args.ends.now.items now mid (pre_funs (funs_view c.args.funs.now)) (pre_funs (funs_view l.rest.now)) (pre_block f.body) (pre_funs (funs_view more)) (ap (λ fs. pre_funs (funs_view fs)) c.in-Some.ensures.cases.0) c.in_ok-number_block.ensures l.invariant.left;
-      starts = starts_next l.starts.items c.push.new.self.items now mid (fun_view f) (funs_view more) pushed c.in_ok-number_block.ensures ∙ ap (λ fs. l.starts.items ++ starts_from (funs_view fs) (length now)) (sym c.in-Some.ensures.cases.0) ∙ l.invariant.starts;
+      left = left_next c.args.ends.now.items now mid (pre_funs (funs_view c.args.funs.now)) (pre_funs (funs_view l.rest.now)) (pre_block f.body)
+          (pre_funs (funs_view more)) (ap (λ fs. pre_funs (funs_view fs)) c.in-Some.ensures.cases.0) c.in_ok-number_block.ensures
+          l.invariant.left;
+      starts = starts_next l.starts.items c.push.new.self.items now mid (fun_view f) (funs_view more) pushed c.in_ok-number_block.ensures
+          ∙ ap (λ fs. l.starts.items ++ starts_from (funs_view fs) (length now)) (sym c.in-Some.ensures.cases.0) ∙ l.invariant.starts;
     }
 
 pub returns-clause-ends : goal.returns-clause-ends
 returns-clause-ends c =
     let l = c.loop-fun in
-    left_done c.args.ends.now.items l.ends.items (pre_funs (funs_view c.args.funs.now)) (pre_funs (funs_view l.rest.now)) (ap (λ fs. pre_funs (funs_view fs)) (no_more l.rest.now c.in_default.ensures.cases)) l.invariant.left
+    left_done c.args.ends.now.items l.ends.items (pre_funs (funs_view c.args.funs.now)) (pre_funs (funs_view l.rest.now))
+    (ap (λ fs. pre_funs (funs_view fs)) (no_more l.rest.now c.in_default.ensures.cases)) l.invariant.left

@@ -8,7 +8,8 @@ use Rattle.sky_numbers.proofs.code.number_funs.Given as goal
 abbrev pub invariant-loop-fun : goal.invariant-loop-fun
 invariant-loop-fun l = record {
   left : Left l.fn.ends.items l.ends.items (pre_funs (funs_view l.funs)) (pre_funs (funs_view l.rest));
-  starts : l.starts.items ++ starts_from (funs_view l.rest) (length l.ends.items) ≡ l.fn.starts.items ++ starts_from (funs_view l.funs) (length l.fn.ends.items);
+  starts : l.starts.items ++ starts_from (funs_view l.rest) (length l.ends.items) ≡ l.fn.starts.items
+      ++ starts_from (funs_view l.funs) (length l.fn.ends.items);
 }
 
 abbrev pub decreases-loop-fun : goal.decreases-loop-fun

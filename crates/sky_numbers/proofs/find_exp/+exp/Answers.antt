@@ -82,8 +82,13 @@ node_in_shape-node_in_operands-requires t c =
     let at = λ (i : ℕ). node_at c.args.code.now i in
     let is = ap shape_view c.in-Chain.is in
     let has = subst (λ e. HasExp at e n) is c.requires.has in
-    let after = c.after_exp-after.ensures ∙ ap (λ e. n + 1 + nodes e) c.get-in-Chain.ensures in
-    (omega (arith, ap nodes is), (subst (HasLinks at (operands_view c.in-Chain.rest)) (sym after) has.2, (omega (arith, c.if-number-after.false), omega (arith, c.requires.to, ap nodes is, after))))
+    let after = c.after_exp-after.ensures ∙ ap (λ e. n + 1 + nodes e) c.get-in-Chain.ensures in (
+      omega (arith, ap nodes is),
+      (
+        subst (HasLinks at (operands_view c.in-Chain.rest)) (sym after) has.2,
+        (omega (arith, c.if-number-after.false), omega (arith, c.requires.to, ap nodes is, after)),
+      ),
+    )
 
 pub node_in_shape-node_in_joins-requires : goal.node_in_shape-node_in_joins-requires
 node_in_shape-node_in_joins-requires t c =
@@ -91,8 +96,13 @@ node_in_shape-node_in_joins-requires t c =
     let at = λ (i : ℕ). node_at c.args.code.now i in
     let is = ap shape_view c.in-Logic.is in
     let has = subst (λ e. HasExp at e n) is c.requires.has in
-    let after = c.after_exp-after-in-Logic.ensures ∙ ap (λ e. n + 1 + nodes e) c.get-in-Logic.ensures in
-    (omega (arith, ap nodes is), (subst (HasAnds at (ands_view c.in-Logic.rest.now)) (sym after) has.2, (omega (arith, c.if-number-after-2.false), omega (arith, c.requires.to, ap nodes is, after))))
+    let after = c.after_exp-after-in-Logic.ensures ∙ ap (λ e. n + 1 + nodes e) c.get-in-Logic.ensures in (
+      omega (arith, ap nodes is),
+      (
+        subst (HasAnds at (ands_view c.in-Logic.rest.now)) (sym after) has.2,
+        (omega (arith, c.if-number-after-2.false), omega (arith, c.requires.to, ap nodes is, after)),
+      ),
+    )
 
 pub node_in_shape-node_in_steps-requires : goal.node_in_shape-node_in_steps-requires
 node_in_shape-node_in_steps-requires t c =
@@ -100,8 +110,13 @@ node_in_shape-node_in_steps-requires t c =
     let at = λ (i : ℕ). node_at c.args.code.now i in
     let is = ap shape_view c.in-Postfix.is in
     let has = subst (λ e. HasExp at e n) is c.requires.has in
-    let after = c.after_exp-after-in-Postfix.ensures ∙ ap (λ e. n + 1 + nodes e) c.get-in-Postfix.ensures in
-    (omega (arith, ap nodes is, nodes_pos c.in-Postfix.first.now), (subst (HasSteps at (steps_view c.in-Postfix.rest.now)) (sym after) has.2, (omega (arith, c.if-number-after-3.false), omega (arith, c.requires.to, ap nodes is, after))))
+    let after = c.after_exp-after-in-Postfix.ensures ∙ ap (λ e. n + 1 + nodes e) c.get-in-Postfix.ensures in (
+      omega (arith, ap nodes is, nodes_pos c.in-Postfix.first.now),
+      (
+        subst (HasSteps at (steps_view c.in-Postfix.rest.now)) (sym after) has.2,
+        (omega (arith, c.if-number-after-3.false), omega (arith, c.requires.to, ap nodes is, after)),
+      ),
+    )
 
 pub node_in_step-node_in_parts-requires : goal.node_in_step-node_in_parts-requires
 node_in_step-node_in_parts-requires t c =
@@ -109,5 +124,10 @@ node_in_step-node_in_parts-requires t c =
     let at = λ (i : ℕ). node_at c.args.code.now i in
     let has = subst (λ s. HasStep at s n) c.in-Call.is c.requires.has in
     let size = ap step_nodes c.in-Call.is in
-    let args = ap exps_nodes c.as_slice.ensures in
-    (omega (arith, size, args), (subst (λ es. HasExps at es n) (sym c.as_slice.ensures) has, (omega (arith, c.requires.from), omega (arith, c.requires.to, size, args))))
+    let args = ap exps_nodes c.as_slice.ensures in (
+      omega (arith, size, args),
+      (
+        subst (λ es. HasExps at es n) (sym c.as_slice.ensures) has,
+        (omega (arith, c.requires.from), omega (arith, c.requires.to, size, args)),
+      ),
+    )

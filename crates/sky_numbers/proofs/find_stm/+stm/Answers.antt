@@ -9,8 +9,13 @@ use Rattle.sky_numbers.proofs.find_stm.+stm.Goals as goal
 pub node_in_block-node_in_stmts-requires : goal.node_in_block-node_in_stmts-requires
 node_in_block-node_in_stmts-requires t c =
     let at = λ (i : ℕ). node_at c.args.code.now i in
-    let size = ap stms_nodes c.as_slice.ensures in
-    (omega (arith, size), (subst (λ b. HasStms at b (c.args.node + 1)) (sym c.as_slice.ensures) c.requires.has, (omega (arith, c.requires.from, c.if-number-node.false), omega (arith, c.requires.to, size))))
+    let size = ap stms_nodes c.as_slice.ensures in (
+      omega (arith, size),
+      (
+        subst (λ b. HasStms at b (c.args.node + 1)) (sym c.as_slice.ensures) c.requires.has,
+        (omega (arith, c.requires.from, c.if-number-node.false), omega (arith, c.requires.to, size)),
+      ),
+    )
 
 pub node_in_stmts-loop-stmt-preserved : goal.node_in_stmts-loop-stmt-preserved
 node_in_stmts-loop-stmt-preserved t c =
@@ -44,8 +49,16 @@ pub node_in_both-node_in_block-requires : goal.node_in_both-node_in_block-requir
 node_in_both-node_in_block-requires t c =
     let at = λ (i : ℕ). node_at c.args.code.now i in
     let b = c.args.block.now in
-    let after = c.after_exp-after.ensures in
-    (omega arith, (subst (λ m. at m ≡ Some (block_node b)) (sym after) c.requires.here, (subst (λ m. HasStms at b (m + 1)) (sym after) c.requires.has, (omega (arith, c.if-number-after.false), omega (arith, c.requires.to, after)))))
+    let after = c.after_exp-after.ensures in (
+      omega arith,
+      (
+        subst (λ m. at m ≡ Some (block_node b)) (sym after) c.requires.here,
+        (
+          subst (λ m. HasStms at b (m + 1)) (sym after) c.requires.has,
+          (omega (arith, c.if-number-after.false), omega (arith, c.requires.to, after)),
+        ),
+      ),
+    )
 
 pub node_inside-node_in_exp-requires-else-number-after-clause-has : goal.node_inside-node_in_exp-requires-else-number-after-clause-has
 node_inside-node_in_exp-requires-else-number-after-clause-has t c =
@@ -67,8 +80,13 @@ node_inside-node_in_arms-requires t c =
     let is = ap stm_view c.in-If.is in
     let has = subst (λ a. HasStm at a c.args.node) is c.requires.has in
     let size = ap arms_nodes c.as_slice-then-number-after-2.ensures in
-    let after = c.after_arms-after.ensures ∙ ap (λ arms. c.args.node + 1 + arms_nodes arms) c.as_slice.ensures in
-    (omega (arith, ap stm_nodes is, size), (subst (λ arms. HasArms at arms (c.args.node + 1)) (sym c.as_slice-then-number-after-2.ensures) has.1, (omega (arith, c.requires.from), omega (arith, c.if-number-after-2.true, after, size))))
+    let after = c.after_arms-after.ensures ∙ ap (λ arms. c.args.node + 1 + arms_nodes arms) c.as_slice.ensures in (
+      omega (arith, ap stm_nodes is, size),
+      (
+        subst (λ arms. HasArms at arms (c.args.node + 1)) (sym c.as_slice-then-number-after-2.ensures) has.1,
+        (omega (arith, c.requires.from), omega (arith, c.if-number-after-2.true, after, size)),
+      ),
+    )
 
 pub node_inside-node_in_block-requires : goal.node_inside-node_in_block-requires
 node_inside-node_in_block-requires t c =
@@ -78,7 +96,8 @@ node_inside-node_in_block-requires t c =
     let b = c.in-Some.block in
     let has = subst (λ s. HasStm at (stm_view s) n) c.in-If.is c.requires.has in
     let after = c.after_arms-after.ensures ∙ ap (λ xs. n + 1 + arms_nodes xs) c.as_slice.ensures in
-    let els = subst (HasElse at (Else.otherwise b)) (sym after) (subst (λ o. HasElse at (else_view o) (n + 1 + arms_nodes arms)) c.in-Some.is has.2) in
+    let els = subst (HasElse at (Else.otherwise b)) (sym after)
+    (subst (λ o. HasElse at (else_view o) (n + 1 + arms_nodes arms)) c.in-Some.is has.2) in
     let size = ap (λ s. stm_nodes (stm_view s)) c.in-If.is in
     let rest = ap (λ o. else_nodes (else_view o)) c.in-Some.is in
     (omega (arith, size, rest), (els.0, (els.1, (omega (arith, c.if-number-after-2.false), omega (arith, c.requires.to, size, rest, after)))))
@@ -101,8 +120,10 @@ pub node_inside-node_in_block-requires-then-number-after-3 : goal.node_inside-no
 node_inside-node_in_block-requires-then-number-after-3 t c =
     let at = λ (i : ℕ). node_at c.args.code.now i in
     let is = ap stm_view c.in-Do.is in
-    let has = subst (λ a. HasStm at a c.args.node) is c.requires.has in
-    (omega (arith, ap stm_nodes is), (has.2, (has.3, (omega (arith, c.requires.from), omega (arith, c.if-number-after-3.true, c.after_block-after.ensures)))))
+    let has = subst (λ a. HasStm at a c.args.node) is c.requires.has in (
+      omega (arith, ap stm_nodes is),
+      (has.2, (has.3, (omega (arith, c.requires.from), omega (arith, c.if-number-after-3.true, c.after_block-after.ensures)))),
+    )
 
 pub node_inside-node_in_exp-requires-else-number-after-3-clause-has : goal.node_inside-node_in_exp-requires-else-number-after-3-clause-has
 node_inside-node_in_exp-requires-else-number-after-3-clause-has t c =

@@ -7,24 +7,30 @@ begin-requires-clause-steps g c = read_fits c.args.script.now.code c.requires.re
 
 pub returns-clause-comes : goal.returns-clause-comes
 returns-clause-comes g c =
-    begun_comes (g.N.Namer.digest c.args.namer.now) c.args.script.now.code (run_of c.args.run.now) (run_of c.begin.new.run) c.requires.start c.args.answers.now c.in_ok-came.came c.in_ok-came.ensures.comes
+    begun_comes (g.N.Namer.digest c.args.namer.now) c.args.script.now.code (run_of c.args.run.now) (run_of c.begin.new.run) c.requires.start
+    c.args.answers.now c.in_ok-came.came c.in_ok-came.ensures.comes
 
 pub returns-clause-made : goal.returns-clause-made
 returns-clause-made g c =
-    begun_makes (g.N.Namer.digest c.args.namer.now) c.args.script.now.code (run_of c.args.run.now) (run_of c.begin.new.run) c.requires.start c.args.answers.now c.args.run.now.spawned c.begin.new.run.spawned c.in_ok-came.ensures.made
+    begun_makes (g.N.Namer.digest c.args.namer.now) c.args.script.now.code (run_of c.args.run.now) (run_of c.begin.new.run) c.requires.start
+    c.args.answers.now c.args.run.now.spawned c.begin.new.run.spawned c.in_ok-came.ensures.made
 
 pub returns-clause-stands : goal.returns-clause-stands
 returns-clause-stands g c =
-    begun_stands (g.N.Namer.digest c.args.namer.now) c.args.script.now.code (run_of c.args.run.now) (run_of c.begin.new.run) c.requires.start c.args.answers.now c.in_ok-came.came c.in_ok-came.ensures.stands
+    begun_stands (g.N.Namer.digest c.args.namer.now) c.args.script.now.code (run_of c.args.run.now) (run_of c.begin.new.run) c.requires.start
+    c.args.answers.now c.in_ok-came.came c.in_ok-came.ensures.stands
 
 pub returns-clause-makes : goal.returns-clause-makes
 returns-clause-makes g c =
-    begun_makes_as (g.N.Namer.digest c.args.namer.now) c.args.script.now.code (run_of c.args.run.now) (run_of c.begin.new.run) c.requires.start c.args.answers.now c.args.run.now.spawned c.begin.new.run.spawned c.in_ok-came.ensures.makes
+    begun_makes_as (g.N.Namer.digest c.args.namer.now) c.args.script.now.code (run_of c.args.run.now) (run_of c.begin.new.run) c.requires.start
+    c.args.answers.now c.args.run.now.spawned c.begin.new.run.spawned c.in_ok-came.ensures.makes
 
 pub returns-clause-fits : goal.returns-clause-fits
 returns-clause-fits g c =
-    begun_stays (g.N.Namer.digest c.args.namer.now) c.args.script.now.code (run_of c.args.run.now) (run_of c.begin.new.run) c.requires.start c.args.answers.now c.in_ok-came.came c.requires.fits c.in_ok-came.ensures.comes
+    begun_stays (g.N.Namer.digest c.args.namer.now) c.args.script.now.code (run_of c.args.run.now) (run_of c.begin.new.run) c.requires.start
+    c.args.answers.now c.in_ok-came.came c.requires.fits c.in_ok-came.ensures.comes
 
 pub returns-clause-sound : goal.returns-clause-sound
 returns-clause-sound g c =
-    begun_sound (g.N.Namer.digest c.args.namer.now) c.args.script.now.code (run_of c.args.run.now) (run_of c.begin.new.run) c.requires.start c.args.answers.now c.args.run.now.spawned c.begin.new.run.spawned c.requires.fits c.in_ok-came.ensures.made
+    begun_sound (g.N.Namer.digest c.args.namer.now) c.args.script.now.code (run_of c.args.run.now) (run_of c.begin.new.run) c.requires.start
+    c.args.answers.now c.args.run.now.spawned c.begin.new.run.spawned c.requires.fits c.in_ok-came.ensures.made

@@ -10,24 +10,30 @@ go_on-requires-clause-answers g c = sound_kept c.args.script.now.code c.args.ans
 
 pub returns-clause-comes : goal.returns-clause-comes
 returns-clause-comes g c =
-    left_comes (g.N.Namer.digest c.args.namer.now) c.args.script.now.code (run_of c.args.run.now) (run_of c.go_on.new.run) c.requires.waits c.args.answers.now c.in_ok-came.came c.in_ok-came.ensures.comes
+    left_comes (g.N.Namer.digest c.args.namer.now) c.args.script.now.code (run_of c.args.run.now) (run_of c.go_on.new.run) c.requires.waits
+    c.args.answers.now c.in_ok-came.came c.in_ok-came.ensures.comes
 
 pub returns-clause-made : goal.returns-clause-made
 returns-clause-made g c =
-    left_makes (g.N.Namer.digest c.args.namer.now) c.args.script.now.code (run_of c.args.run.now) (run_of c.go_on.new.run) c.requires.waits c.args.answers.now c.args.run.now.spawned c.go_on.new.run.spawned c.in_ok-came.ensures.made
+    left_makes (g.N.Namer.digest c.args.namer.now) c.args.script.now.code (run_of c.args.run.now) (run_of c.go_on.new.run) c.requires.waits
+    c.args.answers.now c.args.run.now.spawned c.go_on.new.run.spawned c.in_ok-came.ensures.made
 
 pub returns-clause-stands : goal.returns-clause-stands
 returns-clause-stands g c =
-    left_stands (g.N.Namer.digest c.args.namer.now) c.args.script.now.code (run_of c.args.run.now) (run_of c.go_on.new.run) c.requires.waits c.args.answers.now c.in_ok-came.came c.in_ok-came.ensures.stands
+    left_stands (g.N.Namer.digest c.args.namer.now) c.args.script.now.code (run_of c.args.run.now) (run_of c.go_on.new.run) c.requires.waits
+    c.args.answers.now c.in_ok-came.came c.in_ok-came.ensures.stands
 
 pub returns-clause-makes : goal.returns-clause-makes
 returns-clause-makes g c =
-    left_makes_as (g.N.Namer.digest c.args.namer.now) c.args.script.now.code (run_of c.args.run.now) (run_of c.go_on.new.run) c.requires.waits c.args.answers.now c.args.run.now.spawned c.go_on.new.run.spawned c.in_ok-came.ensures.makes
+    left_makes_as (g.N.Namer.digest c.args.namer.now) c.args.script.now.code (run_of c.args.run.now) (run_of c.go_on.new.run) c.requires.waits
+    c.args.answers.now c.args.run.now.spawned c.go_on.new.run.spawned c.in_ok-came.ensures.makes
 
 pub returns-clause-fits : goal.returns-clause-fits
 returns-clause-fits g c =
-    left_stays (g.N.Namer.digest c.args.namer.now) c.args.script.now.code (run_of c.args.run.now) (run_of c.go_on.new.run) c.requires.waits c.args.answers.now c.requires.fits c.requires.answers c.in_ok-came.came c.in_ok-came.ensures.comes
+    left_stays (g.N.Namer.digest c.args.namer.now) c.args.script.now.code (run_of c.args.run.now) (run_of c.go_on.new.run) c.requires.waits
+    c.args.answers.now c.requires.fits c.requires.answers c.in_ok-came.came c.in_ok-came.ensures.comes
 
 pub returns-clause-sound : goal.returns-clause-sound
 returns-clause-sound g c =
-    left_sound (g.N.Namer.digest c.args.namer.now) c.args.script.now.code (run_of c.args.run.now) (run_of c.go_on.new.run) c.requires.waits c.args.answers.now c.requires.fits c.requires.answers c.args.run.now.spawned c.go_on.new.run.spawned c.in_ok-came.ensures.made
+    left_sound (g.N.Namer.digest c.args.namer.now) c.args.script.now.code (run_of c.args.run.now) (run_of c.go_on.new.run) c.requires.waits
+    c.args.answers.now c.requires.fits c.requires.answers c.args.run.now.spawned c.go_on.new.run.spawned c.in_ok-came.ensures.made

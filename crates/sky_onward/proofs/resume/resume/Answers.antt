@@ -16,13 +16,15 @@ of_root-requires-clause-answers g c = sound_kept c.args.script.now.code c.args.a
 pub returns-in_ok-step-in-Run-clause-made : goal.returns-in_ok-step-in-Run-clause-made
 returns-in_ok-step-in-Run-clause-made g c =
     let digest = g.N.Namer.digest c.args.namer.now in
-    subst (λ s. MakesExactly digest c.args.script.now.code (map object_view c.args.answers.now) (stand_of s) (spawned_of s) c.of_call.new.run.spawned) (sym c.in-Run.is) c.in_ok-step-in-Run.ensures.made
+    subst (λ s. MakesExactly digest c.args.script.now.code (map object_view c.args.answers.now) (stand_of s) (spawned_of s)
+    c.of_call.new.run.spawned) (sym c.in-Run.is) c.in_ok-step-in-Run.ensures.made
 
 pub returns-in_ok-step-in-Show-clause-comes : goal.returns-in_ok-step-in-Show-clause-comes
 returns-in_ok-step-in-Show-clause-comes g c =
     let digest = g.N.Namer.digest c.args.namer.now in
     let sc = c.args.script.now.code in
-    subst (λ s. Exactly digest sc (map object_view c.args.answers.now) (stand_of s) (Stand.show_at (view c.of_root.new.value) c.of_root.new.wave) c.in_ok-step-in-Show.step) (sym c.in-Show.is) (c.in_ok-step-in-Show.ensures.comes digest sc)
+    subst (λ s. Exactly digest sc (map object_view c.args.answers.now) (stand_of s) (Stand.show_at (view c.of_root.new.value) c.of_root.new.wave)
+    c.in_ok-step-in-Show.step) (sym c.in-Show.is) (c.in_ok-step-in-Show.ensures.comes digest sc)
 
 pub returns-in_ok-step-in-Show-clause-fits : goal.returns-in_ok-step-in-Show-clause-fits
 returns-in_ok-step-in-Show-clause-fits g c =
@@ -32,11 +34,14 @@ returns-in_ok-step-in-Show-clause-fits g c =
 pub returns-in_ok-step-in-Run-clause-known : goal.returns-in_ok-step-in-Run-clause-known
 returns-in_ok-step-in-Run-clause-known g c =
     let digest = g.N.Namer.digest c.args.namer.now in
-    subst (λ s. KnowsNames digest (CameWith (stand_of s) (map object_view c.args.answers.now)) c.in_ok-step-in-Run.step (Stand.run (run_of c.of_call.new.run)) (spawned_of s) c.of_call.new.run.spawned) (sym c.in-Run.is) c.in_ok-step-in-Run.ensures.known
+    subst (λ s. KnowsNames digest (CameWith (stand_of s) (map object_view c.args.answers.now)) c.in_ok-step-in-Run.step
+    (Stand.run (run_of c.of_call.new.run)) (spawned_of s) c.of_call.new.run.spawned) (sym c.in-Run.is) c.in_ok-step-in-Run.ensures.known
 
 pub returns-in_ok-step-in-Show-clause-known : goal.returns-in_ok-step-in-Show-clause-known
 returns-in_ok-step-in-Show-clause-known g c =
     let digest = g.N.Namer.digest c.args.namer.now in
     let sc = c.args.script.now.code in
     let new = Stand.show_at (view c.of_root.new.value) c.of_root.new.wave in
-    subst (λ s. KnowsNames digest (CameWith (stand_of s) (map object_view c.args.answers.now)) c.in_ok-step-in-Show.step new (spawned_of s) []) (sym c.in-Show.is) (root_knows digest sc (map object_view c.args.answers.now) (view c.in-Show.value) c.in-Show.wave new c.in_ok-step-in-Show.step (c.in_ok-step-in-Show.ensures.comes digest sc))
+    subst (λ s. KnowsNames digest (CameWith (stand_of s) (map object_view c.args.answers.now)) c.in_ok-step-in-Show.step new (spawned_of s) [])
+    (sym c.in-Show.is) (root_knows digest sc (map object_view c.args.answers.now) (view c.in-Show.value) c.in-Show.wave new
+    c.in_ok-step-in-Show.step (c.in_ok-step-in-Show.ensures.comes digest sc))

@@ -17,5 +17,6 @@ pub open_operand-requires-clause-has : goal.open_operand-requires-clause-has
 open_operand-requires-clause-has c =
     let e = c.args.first.now in
     let here = c.inside.ensures.here (exp_node (Exp.chain e (operands_view c.args.rest))) c.requires.0 in
-    let second = second_is e (exp_view c.get.result.now) c.args.node c.inside.result c.after_exp-second.result c.get.ensures here c.after_exp-second.ensures in
+    let second = second_is e (exp_view c.get.result.now) c.args.node c.inside.result c.after_exp-second.result c.get.ensures here
+    c.after_exp-second.ensures in
     subst (HasLinks (λ i. node_at c.args.code.now i) (operands_view c.args.rest)) (sym second) c.requires.2

@@ -17,5 +17,6 @@ pub open_join-requires-clause-has : goal.open_join-requires-clause-has
 open_join-requires-clause-has c =
     let e = c.args.first.now in
     let here = c.inside.ensures.here (exp_node (Exp.logic (stops_at c.args.stop) e (ands_view c.args.rest.now))) c.requires.0 in
-    let second = second_is e (exp_view c.get.result.now) c.args.node c.inside.result c.after_exp-second.result c.get.ensures here c.after_exp-second.ensures in
+    let second = second_is e (exp_view c.get.result.now) c.args.node c.inside.result c.after_exp-second.result c.get.ensures here
+    c.after_exp-second.ensures in
     subst (HasAnds (λ i. node_at c.args.code.now i) (ands_view c.args.rest.now)) (sym second) c.requires.2

@@ -12,5 +12,9 @@ loop-value-preserved c =
     let xs = c.args.kept.now in
     let i = l.value-index in
     let x = c.value-item.result in
-    let more : take (i + 1) xs ≡ take i xs ++ x ∷ [] = rw (add-one i) (take-suc xs i x (omega arith) ∙ ap (λ y. take i xs ++ y ∷ []) (sym c.value-item.is)) in
-    ap items c.in_ok-push.ensures.ok ∙ items_push l.values (view c.in_ok-copy.field-0) ∙ ap (λ ys. ys ++ view c.in_ok-copy.field-0 ∷ []) l.invariant ∙ ap (λ (v : Value). stack_view (take i xs) ++ view v ∷ []) c.in_ok-copy.ensures ∙ sym (stack_push (take i xs) x) ∙ ap stack_view (sym more)
+    let more : take (i + 1) xs ≡ take i xs ++ x ∷ [] =
+    rw (add-one i) (take-suc xs i x (omega arith) ∙ ap (λ y. take i xs ++ y ∷ []) (sym c.value-item.is)) in
+    ap items c.in_ok-push.ensures.ok ∙ items_push l.values (view c.in_ok-copy.field-0)
+    ∙ ap (λ ys. ys ++ view c.in_ok-copy.field-0 ∷ []) l.invariant
+    ∙ ap (λ (v : Value). stack_view (take i xs) ++ view v ∷ []) c.in_ok-copy.ensures ∙ sym (stack_push (take i xs) x)
+    ∙ ap stack_view (sym more)

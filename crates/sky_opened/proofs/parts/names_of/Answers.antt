@@ -14,5 +14,8 @@ loop-value-preserved c =
     let i = l.value-index in
     let x = c.value-item.result in
     let rest = drop (i + 1) xs in
-    let more : drop i xs ≡ x ∷ drop (i + 1) xs = rw (add-one i) (drop-cons xs i x (omega arith) ∙ ap (λ y. y ∷ drop (suc i) xs) (sym c.value-item.is)) in
-    l.invariant ∙ ap (λ ys. option_map (λ ds. known_of l.names ++ ds) (descs_of (vals_of ys))) (more ∙ ap (λ (y : Value). y ∷ rest) c.in-Ref.is) ∙ refs_step l.names c.in-Ref.name (descs_of (vals_of rest)) ∙ ap (λ ns. option_map (λ ds. known_of ns ++ ds) (descs_of (vals_of rest))) (sym c.in_ok-push.ensures.ok)
+    let more : drop i xs ≡ x ∷ drop (i + 1) xs =
+    rw (add-one i) (drop-cons xs i x (omega arith) ∙ ap (λ y. y ∷ drop (suc i) xs) (sym c.value-item.is)) in
+    l.invariant ∙ ap (λ ys. option_map (λ ds. known_of l.names ++ ds) (descs_of (vals_of ys))) (more ∙ ap (λ (y : Value). y ∷ rest) c.in-Ref.is)
+    ∙ refs_step l.names c.in-Ref.name (descs_of (vals_of rest))
+    ∙ ap (λ ns. option_map (λ ds. known_of ns ++ ds) (descs_of (vals_of rest))) (sym c.in_ok-push.ensures.ok)

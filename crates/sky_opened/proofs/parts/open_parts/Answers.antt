@@ -8,5 +8,6 @@ use Rattle.sky_opened.proofs.parts.open_parts.Goals as goal
 
 pub skip_parts-place-requires : goal.skip_parts-place-requires
 skip_parts-place-requires c =
-    let here = c.inside.ensures.here (exp_node (Exp.parts (form_view c.args.form) (at c.args.line c.args.col) (rest_view c.args.parts))) c.requires.0 in
+    let here = c.inside.ensures.here (exp_node (Exp.parts (form_view c.args.form) (at c.args.line c.args.col) (rest_view c.args.parts)))
+    c.requires.0 in
     subst (HasExps (λ i. node_at c.args.code.now i) (rest_view c.args.parts)) (sym here) c.requires.1

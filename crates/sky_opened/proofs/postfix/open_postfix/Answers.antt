@@ -16,5 +16,6 @@ pub skip_spots-spot-requires : goal.skip_spots-spot-requires
 skip_spots-spot-requires c =
     let e = c.args.first.now in
     let here = c.inside.ensures.here (exp_node (Exp.postfix e (steps_view c.args.rest.now))) c.requires.has.0 in
-    let second = second_is e (exp_view c.get.result.now) c.args.node c.inside.result c.after_exp-second.result c.get.ensures here c.after_exp-second.ensures in
+    let second = second_is e (exp_view c.get.result.now) c.args.node c.inside.result c.after_exp-second.result c.get.ensures here
+    c.after_exp-second.ensures in
     subst (HasSteps (λ i. node_at c.args.code.now i) (steps_view c.args.rest.now)) (sym second) c.requires.has.2

@@ -7,4 +7,7 @@ use Rattle.sky_params.proofs.Ordered.{script_orderly}
 use Rattle.sky_params.proofs.law.functions_are_orderly.Goals as goal
 
 pub returns : goal.returns
-returns c = record { orderly = λ source keys script is. subst (λ (s : Script). Each Orderly s.funs) (sym is.4) (script_orderly keys is.1 (tops_named source is.0 is.1 is.2 is.3.0.1) is.3.2) }
+returns c = record {
+  orderly = λ source keys script is. subst (λ (s : Script). Each Orderly s.funs) (sym is.4)
+      (script_orderly keys is.1 (tops_named source is.0 is.1 is.2 is.3.0.1) is.3.2);
+}

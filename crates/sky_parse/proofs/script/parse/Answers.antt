@@ -33,4 +33,5 @@ returns-clause-twice c =
 pub returns-clause-refused : goal.returns-clause-refused
 returns-clause-refused c =
     let read = rw c.in-Err-Stuck.field-0-is at c.in-Err-Stuck.ensures.read in
-    refused_at c.args.tokens.now (at c.args.end.0 c.args.end.1) (at c.place-line.result.0 c.place-line.result.1) c.in-Err-Stuck.left (read []) c.place-line.ensures
+    refused_at c.args.tokens.now (at c.args.end.0 c.args.end.1) (at c.place-line.result.0 c.place-line.result.1) c.in-Err-Stuck.left (read [])
+    c.place-line.ensures

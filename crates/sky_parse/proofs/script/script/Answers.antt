@@ -9,9 +9,11 @@ pub new-requires : goal.new-requires
 new-requires c =
     let t = c.requires in
     subst (λ s. script_nodes s < 4294967296)
-    (sym (whole_script c.args.read t.0 c.args.keys c.append.new.self.items c.into_parts-anonymous.result.0.items c.of.result c.of-in-Ok.result t.1 c.into_parts-anonymous.ensures.funs c.in-Ok.ensures.items c.of.ensures c.of-in-Ok.ensures)) t.2
+    (sym (whole_script c.args.read t.0 c.args.keys c.append.new.self.items c.into_parts-anonymous.result.0.items c.of.result c.of-in-Ok.result
+    t.1 c.into_parts-anonymous.ensures.funs c.in-Ok.ensures.items c.of.ensures c.of-in-Ok.ensures)) t.2
 
 pub returns-in-Ok : goal.returns-in-Ok
 returns-in-Ok c = λ tops h.
     made_script (same_names [] tops) c.args.keys tops c.new.result (sym h.3 ∙ sym c.into_parts-anonymous.ensures.same ∙ ap place_of c.in_default.is)
-    (c.new.ensures ∙ whole_script c.args.read tops c.args.keys c.append.new.self.items c.into_parts-anonymous.result.0.items c.of.result c.of-in-Ok.result h c.into_parts-anonymous.ensures.funs c.in-Ok.ensures.items c.of.ensures c.of-in-Ok.ensures)
+    (c.new.ensures ∙ whole_script c.args.read tops c.args.keys c.append.new.self.items c.into_parts-anonymous.result.0.items c.of.result
+    c.of-in-Ok.result h c.into_parts-anonymous.ensures.funs c.in-Ok.ensures.items c.of.ensures c.of-in-Ok.ensures)

@@ -22,4 +22,6 @@ pub returns-clause-read : goal.returns-clause-read
 returns-clause-read c = λ k. c.loop-rest.invariant.read k ∙ tops_end k c.loop-rest.rest.now (sym c.is_empty.ensures ∙ c.loop-rest-test.false)
 
 pub returns-clause-tree : goal.returns-clause-tree
-returns-clause-tree c = so_all c.loop-rest.read c.args.ts.now (subst (λ (rest : List Token). SoFar c.loop-rest.read c.args.ts.now rest) (emptied c.loop-rest.rest.now (sym c.is_empty.ensures ∙ c.loop-rest-test.false)) c.loop-rest.invariant.tree)
+returns-clause-tree c = so_all c.loop-rest.read c.args.ts.now
+    (subst (λ (rest : List Token). SoFar c.loop-rest.read c.args.ts.now rest)
+    (emptied c.loop-rest.rest.now (sym c.is_empty.ensures ∙ c.loop-rest-test.false)) c.loop-rest.invariant.tree)

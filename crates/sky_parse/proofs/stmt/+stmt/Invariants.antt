@@ -35,7 +35,8 @@ decreases-stmts g l = 4 * length l.ts.now + 1
 
 abbrev pub invariant-stmts-loop-alloc : goal.invariant-stmts-loop-alloc
 invariant-stmts-loop-alloc g l = record {
-  read : (k : List Item) → run (Item.stmts ∷ Item.sign Sign.CloseCurly ∷ k) (kinds l.ts) ≡ run (Item.stmts ∷ Item.sign Sign.CloseCurly ∷ k) (kinds l.rest);
+  read : (k : List Item) → run (Item.stmts ∷ Item.sign Sign.CloseCurly ∷ k) (kinds l.ts)
+      ≡ run (Item.stmts ∷ Item.sign Sign.CloseCurly ∷ k) (kinds l.rest);
   tree : Onto {X = Stmt} (λ ys. ReadsStms (stms_view ys)) l.items.items l.initial.made l.made l.ts l.rest;
   less : length l.rest ≤ length l.ts;
 }

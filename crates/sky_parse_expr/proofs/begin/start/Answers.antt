@@ -6,12 +6,15 @@ use Rattle.sky_parse_expr.proofs.ExpLaw.{leaf_literal, leaf_name}
 use Rattle.sky_parse_expr.proofs.begin.start.Goals as goal
 
 pub returns-in-Ok-clause-tree : goal.returns-in-Ok-clause-tree
-returns-in-Ok-clause-tree c = leaf_name c.in-Ok.name c.in-Name.name c.args.made.now c.seen.new.self c.args.ts.now c.in-Some.rest.now c.in-Some.first.now c.in-Some.ensures.cases.0 c.in-Name.is c.in-Ok.ensures.0 c.in-Ok.ensures.1
+returns-in-Ok-clause-tree c = leaf_name c.in-Ok.name c.in-Name.name c.args.made.now c.seen.new.self c.args.ts.now c.in-Some.rest.now
+    c.in-Some.first.now c.in-Some.ensures.cases.0 c.in-Name.is c.in-Ok.ensures.0 c.in-Ok.ensures.1
 
 pub returns-in-Number-clause-tree : goal.returns-in-Number-clause-tree
 returns-in-Number-clause-tree c =
     let same = to_z-of_z w64 c.in-Number.value (search rules) in
-    rw same (leaf_literal (Lit.num c.in-Number.value) c.args.made.now c.args.ts.now c.in-Some.rest.now c.in-Some.first.now c.in-Some.ensures.cases.0 c.in-Number.is)
+    rw same (leaf_literal (Lit.num c.in-Number.value) c.args.made.now c.args.ts.now c.in-Some.rest.now c.in-Some.first.now
+    c.in-Some.ensures.cases.0 c.in-Number.is)
 
 pub returns-in-Ok-share-clause-tree : goal.returns-in-Ok-share-clause-tree
-returns-in-Ok-share-clause-tree c = leaf_literal (Lit.text c.in-Ok-share.text) c.args.made.now c.args.ts.now c.in-Some.rest.now c.in-Some.first.now c.in-Some.ensures.cases.0 (c.in-Text.is ∙ ap TokenKind.Text (sym c.in-Ok-share.ensures))
+returns-in-Ok-share-clause-tree c = leaf_literal (Lit.text c.in-Ok-share.text) c.args.made.now c.args.ts.now c.in-Some.rest.now
+    c.in-Some.first.now c.in-Some.ensures.cases.0 (c.in-Text.is ∙ ap TokenKind.Text (sym c.in-Ok-share.ensures))

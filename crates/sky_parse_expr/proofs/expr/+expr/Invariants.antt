@@ -62,7 +62,8 @@ decreases-joins-loop-sign g l = length l.rest
 abbrev pub invariant-steps-loop-kind : goal.invariant-steps-loop-kind
 invariant-steps-loop-kind g l = record {
   read : (k : List Item) → run (Item.steps ∷ k) (kinds l.ts) ≡ run (Item.steps ∷ k) (kinds l.rest);
-  tree : (h : Held) (from : List Token) → Onto {X = Step} (λ ys. ReadsSteps (steps_view ys)) l.initial.items.items h l.initial.made from l.ts → Onto {X = Step} (λ ys. ReadsSteps (steps_view ys)) l.items.items h l.made from l.rest;
+  tree : (h : Held) (from : List Token) → Onto {X = Step} (λ ys. ReadsSteps (steps_view ys)) l.initial.items.items h l.initial.made from l.ts
+      → Onto {X = Step} (λ ys. ReadsSteps (steps_view ys)) l.items.items h l.made from l.rest;
   less : length l.rest ≤ length l.ts;
 }
 
@@ -72,7 +73,8 @@ decreases-steps-loop-kind g l = length l.rest
 abbrev pub invariant-parts-loop-after : goal.invariant-parts-loop-after
 invariant-parts-loop-after g l = record {
   read : (k : List Item) → run (Item.parts l.shape ∷ k) (kinds l.ts) ≡ run (Item.others l.shape (length l.items.items) ∷ k) (kinds l.rest);
-  tree : (ys : List Expr) (c : Held) (end : List Token) → ReadsMore l.shape (length l.items.items) (exps_view ys) l.made c l.rest end → ReadsParts l.shape (exps_view (l.items.items ++ ys)) l.fn.made c l.ts end;
+  tree : (ys : List Expr) (c : Held) (end : List Token) → ReadsMore l.shape (length l.items.items) (exps_view ys) l.made c l.rest end
+      → ReadsParts l.shape (exps_view (l.items.items ++ ys)) l.fn.made c l.ts end;
   less : length l.rest < length l.ts;
 }
 

@@ -7,7 +7,8 @@ loop-sign-preserved c =
     let some = c.in-Some.ensures.some in
     record {
       read = λ k. c.loop-sign.invariant.read k ∙ c.in-Some.ensures.read k;
-      spelled = rw c.in-Ok.ensures.items (signs_spelled c.args.ts.now c.loop-sign.rest.now c.in-Some.after.now c.loop-sign.items.items c.in-Some.sign c.loop-sign.invariant.spelled some.1);
+      spelled = rw c.in-Ok.ensures.items (signs_spelled c.args.ts.now c.loop-sign.rest.now c.in-Some.after.now c.loop-sign.items.items
+          c.in-Some.sign c.loop-sign.invariant.spelled some.1);
       less = omega (arith, c.loop-sign.invariant.less, some.0);
     }
 

@@ -10,17 +10,27 @@ pub loop-after-preserved : goal.loop-after-preserved
 loop-after-preserved c =
     let some = c.in-Some-eat.ensures.some in
     record {
-      read = λ k. c.loop-after.invariant.read k ∙ params_go k c.loop-after.rest.now c.in-Some-eat.after.now c.in-Some-eat.field-0-0.now some.0 some.1 ∙ c.in_ok-name-2.ensures.read (Item.other_params ∷ k);
-      spelled = rw c.in-Ok-push.ensures.items (params_spelled c.args.ts.now c.loop-after.rest.now c.in-Some-eat.after.now c.in_ok-name-2.after.now c.in-Some-eat.field-0-0.now c.loop-after.items.items
-          (record { name = c.in_ok-name-2.name; line = c.in_ok-name-2.line; col = c.in_ok-name-2.col }) c.loop-after.invariant.some c.loop-after.invariant.spelled some.0 some.1 c.in_ok-name-2.ensures.spelled);
-      some = rw c.in-Ok-push.ensures.items (omega (arith, length-append c.loop-after.items.items (record { name = c.in_ok-name-2.name; line = c.in_ok-name-2.line; col = c.in_ok-name-2.col } ∷ [])));
+      read = λ k. c.loop-after.invariant.read k ∙ params_go k c.loop-after.rest.now c.in-Some-eat.after.now c.in-Some-eat.field-0-0.now some.0
+          some.1 ∙ c.in_ok-name-2.ensures.read (Item.other_params ∷ k);
+      spelled = rw c.in-Ok-push.ensures.items (params_spelled c.args.ts.now c.loop-after.rest.now c.in-Some-eat.after.now
+          c.in_ok-name-2.after.now c.in-Some-eat.field-0-0.now c.loop-after.items.items
+          (record { name = c.in_ok-name-2.name; line = c.in_ok-name-2.line; col = c.in_ok-name-2.col }) c.loop-after.invariant.some
+          c.loop-after.invariant.spelled some.0 some.1 c.in_ok-name-2.ensures.spelled);
+      some = rw c.in-Ok-push.ensures.items (omega (
+        arith,
+        length-append c.loop-after.items.items
+            (record { name = c.in_ok-name-2.name; line = c.in_ok-name-2.line; col = c.in_ok-name-2.col } ∷ []),
+      ));
       less = omega (arith, c.loop-after.invariant.less, ap length some.0, c.in_ok-name-2.ensures.less);
     }
 
 pub returns-in_err-name-clause-read : goal.returns-in_err-name-clause-read
-returns-in_err-name-clause-read c = exit c.from_residual.result c.in_err-name.field-0.0 (λ x k. run k (kinds x.1.now)) (λ k. run (Item.params ∷ k) (kinds c.args.ts.now)) (λ k. run (Item.name ∷ k) (kinds c.args.ts.now))
+returns-in_err-name-clause-read c = exit c.from_residual.result c.in_err-name.field-0.0 (λ x k. run k (kinds x.1.now))
+    (λ k. run (Item.params ∷ k) (kinds c.args.ts.now)) (λ k. run (Item.name ∷ k) (kinds c.args.ts.now))
     (λ k. Item.other_params ∷ k) c.from_residual.ensures.1 (λ k. params_first k c.args.ts.now c.in_default.ensures.none) c.in_err-name.ensures.read
 
 pub returns-in_err-rest-clause-read : goal.returns-in_err-rest-clause-read
-returns-in_err-rest-clause-read c = exit c.from_residual-in_err-rest.result c.in_err-rest.field-0.0 (λ x k. run k (kinds x.1.now)) (λ k. run (Item.params ∷ k) (kinds c.args.ts.now)) (λ k. run (Item.sign Sign.CloseRound ∷ k) (kinds c.loop-after.rest.now))
-    (λ k. k) c.from_residual-in_err-rest.ensures.1 (λ k. c.loop-after.invariant.read k ∙ params_end k c.loop-after.rest.now c.in_default-eat.ensures.none) c.in_err-rest.ensures.read
+returns-in_err-rest-clause-read c = exit c.from_residual-in_err-rest.result c.in_err-rest.field-0.0 (λ x k. run k (kinds x.1.now))
+    (λ k. run (Item.params ∷ k) (kinds c.args.ts.now)) (λ k. run (Item.sign Sign.CloseRound ∷ k) (kinds c.loop-after.rest.now))
+    (λ k. k) c.from_residual-in_err-rest.ensures.1
+    (λ k. c.loop-after.invariant.read k ∙ params_end k c.loop-after.rest.now c.in_default-eat.ensures.none) c.in_err-rest.ensures.read

@@ -8,4 +8,5 @@ use Rattle.sky_parts.proofs.formed.list_of.Goals as goal
 
 pub returns-clause-same : goal.returns-clause-same
 returns-clause-same c = λ w n st.
-    ap (λ vs. answer (limited (list vs)) (at c.args.line c.args.col) st gives) (items_vals c.args.values) ∙ c.given_exact.ensures.same (limited (list c.args.values)) c.limited.ensures.answer st
+    ap (λ vs. answer (limited (list vs)) (at c.args.line c.args.col) st gives) (items_vals c.args.values)
+    ∙ c.given_exact.ensures.same (limited (list c.args.values)) c.limited.ensures.answer st

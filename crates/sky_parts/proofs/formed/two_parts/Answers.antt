@@ -4,5 +4,7 @@ use Rattle.sky_parts.proofs.formed.two_parts.Goals as goal
 
 pub returns-clause-kept : goal.returns-clause-kept
 returns-clause-kept c =
-    let vs = c.args.values.now in
-    (kept_at vs 0 (view c.in-Some.first.now) c.in-Some.ensures c.requires, kept_at vs 1 (view c.in-Some-get.second.now) c.in-Some-get.ensures c.requires)
+    let vs = c.args.values.now in (
+      kept_at vs 0 (view c.in-Some.first.now) c.in-Some.ensures c.requires,
+      kept_at vs 1 (view c.in-Some-get.second.now) c.in-Some-get.ensures c.requires,
+    )

@@ -21,8 +21,10 @@ loop-index-preserved g c =
     let one = c.in_ok-make_output.ensures in
     record {
       count = omega (arith, ap length one.names, length-append l.names (digested digest (out x a n i) ∷ []), l.invariant.count);
-      told = λ r. one.whole (tell_all (outputs x a n (i + 1) (n - (i + 1))) r) ∙ ap (λ ds. whole digest l.made.items (tell_all ds r)) (sym (outputs_next x a n i c.loop-index-test.true)) ∙ l.invariant.told r;
-      refs = ap (λ ns. known_of ns ++ map (named_by digest) (outputs x a n (i + 1) (n - (i + 1)))) one.names ∙ outputs_step digest x a n i l.names (digested digest (out x a n i)) c.loop-index-test.true refl ∙ l.invariant.refs;
+      told = λ r. one.whole (tell_all (outputs x a n (i + 1) (n - (i + 1))) r)
+          ∙ ap (λ ds. whole digest l.made.items (tell_all ds r)) (sym (outputs_next x a n i c.loop-index-test.true)) ∙ l.invariant.told r;
+      refs = ap (λ ns. known_of ns ++ map (named_by digest) (outputs x a n (i + 1) (n - (i + 1)))) one.names
+          ∙ outputs_step digest x a n i l.names (digested digest (out x a n i)) c.loop-index-test.true refl ∙ l.invariant.refs;
     }
 
 pub returns-clause-same : goal.returns-clause-same
@@ -38,4 +40,5 @@ returns-clause-same g c = λ w es p st k h.
     let named = sym (outputs_done digest x a n l.index l.names last) ∙ l.invariant.refs in
     let told = ap (λ ds. whole digest l.made.items (tell_all ds rest)) (sym (outputs_last x a n l.index last)) ∙ l.invariant.told rest in
     let made = outputs_made w c.args.ground.now.code.now digest x a (view c.args.count.now) n p st k h c.in-Ok.ensures.ok.0 c.in-Ok.ensures.ok.2 in
-    rw c.in-Text.is (ap (λ ds. whole digest l.made.items (rest_in w es (k ds st))) named ∙ told ∙ ap (whole digest c.args.made.now.items) (sym (rest_tells w es all (k (map (named_by digest) all) st)) ∙ ap (rest_in w es) made))
+    rw c.in-Text.is (ap (λ ds. whole digest l.made.items (rest_in w es (k ds st))) named ∙ told
+    ∙ ap (whole digest c.args.made.now.items) (sym (rest_tells w es all (k (map (named_by digest) all) st)) ∙ ap (rest_in w es) made))

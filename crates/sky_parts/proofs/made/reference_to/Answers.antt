@@ -12,4 +12,6 @@ pub returns-clause-same : goal.returns-clause-same
 returns-clause-same g c = λ w es st h.
     let digest = g.N.Namer.digest c.args.ground.now.namer.now in
     let n = c.in_ok-name.name in
-    c.in_ok-name.ensures.whole (rest_in w es (Fin (logic.End.got (ref (known n))) st)) ∙ ap (whole digest c.args.made.now.items) (made_in w c.args.ground.now.code.now digest es (desc_view c.args.desc) n st h c.in_ok-name.ensures.name)
+    c.in_ok-name.ensures.whole (rest_in w es (Fin (logic.End.got (ref (known n))) st))
+    ∙ ap (whole digest c.args.made.now.items) (made_in w c.args.ground.now.code.now digest es (desc_view c.args.desc) n st h
+    c.in_ok-name.ensures.name)

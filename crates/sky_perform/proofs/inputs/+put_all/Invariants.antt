@@ -8,12 +8,14 @@ use Rattle.sky_perform.proofs.inputs.+put_all.Given as goal
 
 abbrev pub invariant-put_values-loop-value : goal.invariant-put_values-loop-value
 invariant-put_values-loop-value g l = record {
-  rest : behind l.fn.inputs.items (all_bytes writes (g.K.Known.knows l.objects) (vals_refs (vals_of l.values))) ≡ behind l.inputs.items (all_bytes writes (g.K.Known.knows l.objects) (vals_refs (vals_of (drop l.value-index l.values))));
+  rest : behind l.fn.inputs.items (all_bytes writes (g.K.Known.knows l.objects) (vals_refs (vals_of l.values)))
+      ≡ behind l.inputs.items (all_bytes writes (g.K.Known.knows l.objects) (vals_refs (vals_of (drop l.value-index l.values))));
 }
 
 abbrev pub invariant-put_pairs-loop-pair : goal.invariant-put_pairs-loop-pair
 invariant-put_pairs-loop-pair g l = record {
-  rest : behind l.fn.inputs.items (all_bytes writes (g.K.Known.knows l.objects) (pairs_refs (pairs_of l.pairs))) ≡ behind l.inputs.items (all_bytes writes (g.K.Known.knows l.objects) (pairs_refs (pairs_of (drop l.pair-index l.pairs))));
+  rest : behind l.fn.inputs.items (all_bytes writes (g.K.Known.knows l.objects) (pairs_refs (pairs_of l.pairs)))
+      ≡ behind l.inputs.items (all_bytes writes (g.K.Known.knows l.objects) (pairs_refs (pairs_of (drop l.pair-index l.pairs))));
 }
 
 abbrev pub decreases-put_all : goal.decreases-put_all

@@ -8,5 +8,8 @@ use Rattle.sky_perform.proofs.outputs.put.Goals as goal
 
 pub returns-clause-room : goal.returns-clause-room
 returns-clause-room c =
-    let at : slice_get c.args.rows.now c.in-Some.number ≡ Some (desc_view c.args.desc.now) = subst (λ o. MatchOption o (is_held (desc_view c.args.desc.now) c.args.rows.now ≡ false) (λ k. slice_get c.args.rows.now k ≡ Some (desc_view c.args.desc.now))) c.in-Some.is c.find.ensures in
-    subst (InRoom c.args.rows.now c.args.objects.now) (sym c.in_ok-set.ensures.put) (room-with c.args.rows.now (desc_view c.args.desc.now) c.in-Some.number (object_view c.args.object) c.args.objects.now at)
+    let at : slice_get c.args.rows.now c.in-Some.number ≡ Some (desc_view c.args.desc.now) =
+    subst (λ o. MatchOption o (is_held (desc_view c.args.desc.now) c.args.rows.now ≡ false)
+    (λ k. slice_get c.args.rows.now k ≡ Some (desc_view c.args.desc.now))) c.in-Some.is c.find.ensures in
+    subst (InRoom c.args.rows.now c.args.objects.now) (sym c.in_ok-set.ensures.put)
+    (room-with c.args.rows.now (desc_view c.args.desc.now) c.in-Some.number (object_view c.args.object) c.args.objects.now at)

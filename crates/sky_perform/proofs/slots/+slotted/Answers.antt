@@ -27,7 +27,9 @@ slotted_values-loop-value-preserved t c =
     let next = c.in_ok-slotted.ensures.next in
     record {
       left = omega (arith, left, all, next);
-      rest = c.loop-value.invariant.rest ∙ vals_step c.loop-value.all c.loop-value.next xs i x c.loop-value-test.true c.value-item.is ∙ ap₂ (λ front n. join front (vals_replaced in_slot n (vals_of (drop (i + 1) xs)))) (ap (add_val c.loop-value.all) (sym c.in_ok-slotted.ensures.value) ∙ sym c.in_ok-push.ensures.ok) (sym next);
+      rest = c.loop-value.invariant.rest ∙ vals_step c.loop-value.all c.loop-value.next xs i x c.loop-value-test.true c.value-item.is
+          ∙ ap₂ (λ front n. join front (vals_replaced in_slot n (vals_of (drop (i + 1) xs))))
+          (ap (add_val c.loop-value.all) (sym c.in_ok-slotted.ensures.value) ∙ sym c.in_ok-push.ensures.ok) (sym next);
     }
 
 pub slotted_pairs-slotted-requires : goal.slotted_pairs-slotted-requires
@@ -46,9 +48,14 @@ slotted_pairs-loop-pair-preserved t c =
     let left = pairs_left xs i x c.loop-pair-test.true c.pair-item.is in
     let all = c.loop-pair.invariant.left in
     let next = c.in_ok-value.ensures.next in
-    let is_put : c.insert.new.self ≡ put x.key (replaced in_slot c.loop-pair.next (view x.value)) c.loop-pair.all = c.in_ok-insert.ensures.ok ∙ ap₂ (λ k v. put k v c.loop-pair.all) c.in_ok-share.ensures c.in_ok-value.ensures.value in
+    let is_put : c.insert.new.self ≡ put x.key (replaced in_slot c.loop-pair.next (view x.value)) c.loop-pair.all = c.in_ok-insert.ensures.ok
+    ∙ ap₂ (λ k v. put k v c.loop-pair.all) c.in_ok-share.ensures c.in_ok-value.ensures.value in
     record {
       left = omega (arith, left, all, next);
-      meets = subst (λ q. Meets q (pairs_of (drop (i + 1) xs))) (sym is_put) (meets_step c.loop-pair.all xs i x (replaced in_slot c.loop-pair.next (view x.value)) c.loop-pair-test.true c.pair-item.is c.loop-pair.invariant.meets);
-      rest = c.loop-pair.invariant.rest ∙ pairs_step c.loop-pair.all c.loop-pair.next xs i x c.loop-pair-test.true c.pair-item.is c.loop-pair.invariant.meets ∙ ap₂ (λ front n. joined front (pairs_replaced in_slot n (pairs_of (drop (i + 1) xs)))) (sym is_put) (sym next);
+      meets = subst (λ q. Meets q (pairs_of (drop (i + 1) xs))) (sym is_put)
+          (meets_step c.loop-pair.all xs i x (replaced in_slot c.loop-pair.next (view x.value)) c.loop-pair-test.true c.pair-item.is
+          c.loop-pair.invariant.meets);
+      rest = c.loop-pair.invariant.rest ∙ pairs_step c.loop-pair.all c.loop-pair.next xs i x c.loop-pair-test.true c.pair-item.is
+          c.loop-pair.invariant.meets ∙ ap₂ (λ front n. joined front (pairs_replaced in_slot n (pairs_of (drop (i + 1) xs)))) (sym is_put)
+          (sym next);
     }

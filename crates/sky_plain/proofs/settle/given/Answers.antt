@@ -15,6 +15,18 @@ pub returns : goal.returns
 returns g c =
     record {
       step = λ ks standing opens.
-          let is : c.set.new.self ≡ with_object c.args.number (Object.bytes (input_bytes c.args.key.now c.args.job.now.inputs)) c.args.objects.now = c.in_ok-set.ensures.put ∙ ap (λ b. with_object c.args.number (Object.bytes b) c.args.objects.now) c.in_ok-bytes.ensures in
-          (subst (Standing (job_view c.args.job.now) (json_around (g.K.Kit.gives c.args._kit.now)) c.args.rows.now) (sym is) (inputs_known (job_view c.args.job.now) (g.K.Kit.gives c.args._kit.now) c.args.rows.now c.args.objects.now c.args.number standing c.args.key.now c.requires.at), known_with c.args.number (Object.bytes (input_bytes c.args.key.now c.args.job.now.inputs)) c.args.objects.now c.set.new.self is, stays_put c.args.number (Object.bytes (input_bytes c.args.key.now c.args.job.now.inputs)) c.args.objects.now c.set.new.self is, small_with c.args.number (Object.bytes (input_bytes c.args.key.now c.args.job.now.inputs)) c.args.objects.now c.set.new.self is c.args.rows.now (got_below c.args.rows.now c.args.number (input c.args.key.now) c.requires.at) c.len-held.ensures.room);
+          let is : c.set.new.self ≡ with_object c.args.number (Object.bytes (input_bytes c.args.key.now c.args.job.now.inputs))
+          c.args.objects.now = c.in_ok-set.ensures.put
+          ∙ ap (λ b. with_object c.args.number (Object.bytes b) c.args.objects.now) c.in_ok-bytes.ensures in (
+            subst (Standing (job_view c.args.job.now) (json_around (g.K.Kit.gives c.args._kit.now)) c.args.rows.now) (sym is)
+                (inputs_known (job_view c.args.job.now) (g.K.Kit.gives c.args._kit.now) c.args.rows.now c.args.objects.now c.args.number standing
+                c.args.key.now c.requires.at),
+            known_with c.args.number (Object.bytes (input_bytes c.args.key.now c.args.job.now.inputs))
+                c.args.objects.now c.set.new.self is,
+            stays_put c.args.number (Object.bytes (input_bytes c.args.key.now c.args.job.now.inputs))
+                c.args.objects.now c.set.new.self is,
+            small_with c.args.number (Object.bytes (input_bytes c.args.key.now c.args.job.now.inputs))
+                c.args.objects.now c.set.new.self is c.args.rows.now (got_below c.args.rows.now c.args.number (input c.args.key.now) c.requires.at)
+                c.len-held.ensures.room,
+          );
     }

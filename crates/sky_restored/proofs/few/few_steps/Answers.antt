@@ -9,7 +9,8 @@ use Rattle.sky_restored.proofs.few.few_steps.Goals as goal
 
 pub returns-in-Prefix : goal.returns-in-Prefix
 returns-in-Prefix c =
-    let many : length c.in-Prefix.signs.items < 2 ^ 64 = omega (arith, c.how_many_signs-signs.ensures, c.how_many_signs-signs.type_inv, ap length c.as_slice.ensures.value) in
+    let many : length c.in-Prefix.signs.items < 2 ^ 64 =
+    omega (arith, c.how_many_signs-signs.ensures, c.how_many_signs-signs.type_inv, ap length c.as_slice.ensures.value) in
     rw c.in-Prefix.is (omega (arith, many, view_length c.in-Prefix.signs.items))
 
 pub returns-in-Postfix : goal.returns-in-Postfix
@@ -19,5 +20,14 @@ returns-in-Postfix c =
     let e = c.in-Postfix.first in
     let has = rw c.in-Postfix.is at c.requires in
     let end = c.after-end.ensures (exp_node (Exp.postfix e ss)) has.0 in
-    let few : steps_left (steps_view xs) < 2 ^ 65 = omega (arith, end, c.after-end.type_inv, ap steps_nodes c.as_slice-in-Postfix.ensures, c.how_many_steps-steps.ensures, c.how_many_steps-steps.type_inv, steps_few xs) in
+    let few : steps_left (steps_view xs) < 2 ^ 65 =
+    omega (
+      arith,
+      end,
+      c.after-end.type_inv,
+      ap steps_nodes c.as_slice-in-Postfix.ensures,
+      c.how_many_steps-steps.ensures,
+      c.how_many_steps-steps.type_inv,
+      steps_few xs,
+    ) in
     rw c.in-Postfix.is (subst (λ ys. steps_left ys < 2 ^ 65) c.as_slice-in-Postfix.ensures few)

@@ -11,4 +11,5 @@ returns-else-step-lt2 c =
     let e = c.in-Postfix.first.now in
     let ss = steps_view c.in-Postfix.rest.now in
     let is : Exp.postfix e ss ≡ exp_view c.args.e.now = ap shape_view (sym c.in-Postfix.is) ∙ c.shape_of.ensures in
-    λ s. subst (λ x. c.spot_keeps.result ≡ keeps (exp_row x c.args.number c.args.step)) is (postfix_keeps e ss c.args.number c.args.step c.spot_keeps.result c.if-step-lt2.false c.spot_keeps.ensures)
+    λ s. subst (λ x. c.spot_keeps.result ≡ keeps (exp_row x c.args.number c.args.step)) is
+    (postfix_keeps e ss c.args.number c.args.step c.spot_keeps.result c.if-step-lt2.false c.spot_keeps.ensures)

@@ -9,7 +9,8 @@ use Rattle.sky_restored.proofs.keeps.parts_keep.Goals as goal
 
 pub skip_parts-place-requires : goal.skip_parts-place-requires
 skip_parts-place-requires c =
-    let here = c.inside.ensures.here (exp_node (Exp.parts (form_view c.args.form) (at c.args.line c.args.col) (rest_view c.args.parts))) c.requires.0 in
+    let here = c.inside.ensures.here (exp_node (Exp.parts (form_view c.args.form) (at c.args.line c.args.col) (rest_view c.args.parts)))
+    c.requires.0 in
     subst (HasExps (λ i. node_at c.args.code.now i) (rest_view c.args.parts)) (sym here) c.requires.1
 
 pub returns-in-Some : goal.returns-in-Some
@@ -18,7 +19,9 @@ returns-in-Some c =
     let here = c.inside.ensures.here (exp_node (Exp.parts (form_view c.args.form) p (rest_view c.args.parts))) c.requires.0 in
     let place = c.skip_parts-place.result in
     let some : 1 ≤ c.args.step = omega (arith, c.if-step-eq0.false) in
-    λ s. part_keeps (form_view c.args.form) p (rest_view c.args.parts) c.args.number c.inside.result place.next (rest_view place.rest) c.args.step (exp_view c.in-Some.field-0.part.now) (rest_view c.in-Some.field-0.rest) here c.skip_parts-place.ensures.place c.in-Some.ensures some s
+    λ s. part_keeps (form_view c.args.form) p (rest_view c.args.parts) c.args.number c.inside.result place.next (rest_view place.rest)
+    c.args.step (exp_view c.in-Some.field-0.part.now) (rest_view c.in-Some.field-0.rest) here c.skip_parts-place.ensures.place
+    c.in-Some.ensures some s
 
 pub returns-in-None : goal.returns-in-None
 returns-in-None c =
@@ -26,4 +29,5 @@ returns-in-None c =
     let here = c.inside.ensures.here (exp_node (Exp.parts (form_view c.args.form) p (rest_view c.args.parts))) c.requires.0 in
     let place = c.skip_parts-place.result in
     let some : 1 ≤ c.args.step = omega (arith, c.if-step-eq0.false) in
-    λ s. all_keep (form_view c.args.form) p (rest_view c.args.parts) c.args.number c.inside.result place.next (rest_view place.rest) c.args.step here c.skip_parts-place.ensures.place c.in-None.ensures some s
+    λ s. all_keep (form_view c.args.form) p (rest_view c.args.parts) c.args.number c.inside.result place.next (rest_view place.rest) c.args.step
+    here c.skip_parts-place.ensures.place c.in-None.ensures some s

@@ -32,6 +32,10 @@ loop-todo-preserved c =
       as_many = (enough sc t ts l.values.now c.in_ok-others.others.now many rest).1;
       kept = others_kept sc t vs us rest l.invariant.kept;
       opens = subst (λ x. IsSome (todo_forms sc up ts x (Some []))) (sym rest) both.1;
-      same = λ more. l.invariant.same more ∙ ap (λ x. after_these (forms l.entries.items) (todo_forms sc up x vs more)) is ∙ one_more (forms l.entries.items) (forms c.open_todo.new.entries.items) (form_at sc t (own sc t vs) (call_last up ts)) (todo_forms sc up ts (others sc t vs) more) (ap (λ x. option_map (λ en. forms l.entries.items ++ en ∷ []) (form_at sc t (own sc t vs) x)) (sym c.caller-call.ensures.call) ∙ c.in_ok-others.ensures.form) ∙ ap (λ x. after_these (forms c.open_todo.new.entries.items) (todo_forms sc up ts x more)) (sym rest);
+      same = λ more. l.invariant.same more ∙ ap (λ x. after_these (forms l.entries.items) (todo_forms sc up x vs more)) is
+          ∙ one_more (forms l.entries.items) (forms c.open_todo.new.entries.items) (form_at sc t (own sc t vs) (call_last up ts))
+          (todo_forms sc up ts (others sc t vs) more)
+          (ap (λ x. option_map (λ en. forms l.entries.items ++ en ∷ []) (form_at sc t (own sc t vs) x)) (sym c.caller-call.ensures.call)
+          ∙ c.in_ok-others.ensures.form) ∙ ap (λ x. after_these (forms c.open_todo.new.entries.items) (todo_forms sc up ts x more)) (sym rest);
       ready = c.in_ok-others.ensures.ready;
     }

@@ -16,7 +16,10 @@ invariant-loop-todo l = record {
   as_many : length l.values ≡ kept_in_all l.code (todos_view l.rest);
   kept : Each Kept (stack_view l.values);
   opens : IsSome (todo_forms l.code (call_above l.frame.vars (frames_view l.above)) (todos_view l.rest) (stack_view l.values) (Some []));
-  same : (more : Option (List Form)) → after_these (forms l.fn.entries.items) (todo_forms l.code (call_above l.frame.vars (frames_view l.above)) l.frame.todo l.frame.stack more) ≡ after_these (forms l.entries.items) (todo_forms l.code (call_above l.frame.vars (frames_view l.above)) (todos_view l.rest) (stack_view l.values) more);
+  same : (more : Option (List Form)) → after_these (forms l.fn.entries.items)
+      (todo_forms l.code (call_above l.frame.vars (frames_view l.above)) l.frame.todo l.frame.stack more)
+      ≡ after_these (forms l.entries.items) (todo_forms l.code (call_above l.frame.vars (frames_view l.above)) (todos_view l.rest)
+      (stack_view l.values) more);
   ready : AllReady l.code l.entries.items;
 }
 

@@ -12,5 +12,6 @@ open_frame-requires-clause-opens c =
     let f = frame_view c.in-Some.frame.now in
     let fs = frames_view c.in-Some.above.now in
     let is : frames_view l.rest.now ≡ f ∷ fs = ap frames_view c.in-Some.ensures.cases.0 in
-    let some = some_behind (forms l.entries.items) (frames_forms sc (frames_view l.rest.now)) (frames_forms sc (frames_view c.args.frames.now)) l.invariant.same c.requires.opens in
+    let some = some_behind (forms l.entries.items) (frames_forms sc (frames_view l.rest.now)) (frames_forms sc (frames_view c.args.frames.now))
+    l.invariant.same c.requires.opens in
     frame_some sc (call_above f.vars fs) f.todo f.stack (frames_forms sc fs) (subst (λ x. IsSome (frames_forms sc x)) is some)

@@ -14,13 +14,15 @@ use Rattle.sky_restored.proofs.Walk.{count_is, step_is, form_is, own_are, others
 use Rattle.sky_restored.proofs.restore.open_todo.Goals as goal
 
 pub keeps-own-requires : goal.keeps-own-requires
-keeps-own-requires c = subst (λ s. HasNode (λ i. node_at s i) (node_view c.in-Some.node) c.args.todo.now.node) c.requires.nodes c.in-Some.ensures.whole
+keeps-own-requires c = subst (λ s. HasNode (λ i. node_at s i) (node_view c.in-Some.node) c.args.todo.now.node) c.requires.nodes
+    c.in-Some.ensures.whole
 
 pub few-requires : goal.few-requires
 few-requires c = subst (λ s. HasNode (λ i. node_at s i) (node_view c.in-Some.node) c.args.todo.now.node) c.requires.nodes c.in-Some.ensures.whole
 
 pub open_entry-requires-clause-has : goal.open_entry-requires-clause-has
-open_entry-requires-clause-has c = subst (λ s. HasNode (λ i. node_at s i) (node_view c.in-Some.node) c.args.todo.now.node) c.requires.nodes c.in-Some.ensures.whole
+open_entry-requires-clause-has c = subst (λ s. HasNode (λ i. node_at s i) (node_view c.in-Some.node) c.args.todo.now.node) c.requires.nodes
+    c.in-Some.ensures.whole
 
 pub open_entry-requires-clause-opens : goal.open_entry-requires-clause-opens
 open_entry-requires-clause-opens c =
@@ -30,7 +32,8 @@ open_entry-requires-clause-opens c =
     let here : node_at sc t.node ≡ Some x = subst (λ s. node_at s t.node ≡ Some x) c.requires.nodes c.in-Some.ensures.node in
     let many = count_is sc t x here c.keeps-own.result c.requires.step c.keeps-own.ensures in
     let mine = own_are sc t c.keeps-own.result c.args.values.now c.split_at.result.0.now c.split_at.ensures.front many in
-    subst IsSome (form_is sc t x here (own sc t (stack_view c.args.values.now)) (stack_view c.split_at.result.0.now) (call_of c.args.call) mine) c.requires.opens
+    subst IsSome (form_is sc t x here (own sc t (stack_view c.args.values.now)) (stack_view c.split_at.result.0.now) (call_of c.args.call) mine)
+    c.requires.opens
 
 pub returns-clause-form : goal.returns-clause-form
 returns-clause-form c =
@@ -41,7 +44,8 @@ returns-clause-form c =
     let many = count_is sc t x here c.keeps-own.result c.requires.step c.keeps-own.ensures in
     let mine = own_are sc t c.keeps-own.result c.args.values.now c.split_at.result.0.now c.split_at.ensures.front many in
     let old = c.args.entries.now.items in
-    let is = form_is sc t x here (own sc t (stack_view c.args.values.now)) (stack_view c.split_at.result.0.now) (call_of c.args.call) mine ∙ c.in_ok-entry.ensures in
+    let is = form_is sc t x here (own sc t (stack_view c.args.values.now)) (stack_view c.split_at.result.0.now) (call_of c.args.call) mine
+    ∙ c.in_ok-entry.ensures in
     ap (λ o. option_map (λ en. forms old ++ en ∷ []) o) is ∙ ap Some (sym (ap forms c.in-Ok.ensures.items ∙ forms_push old c.in_ok-entry.entry))
 
 pub returns-clause-rest : goal.returns-clause-rest
@@ -66,5 +70,7 @@ returns-clause-ready c =
     let old = c.args.entries.now.items in
     let en = c.in_ok-entry.entry in
     let small : c.args.todo.now.step < 2 ^ 32 = omega arith in
-    let ready = node_ready (λ i. node_at sc i) x t.node t.step vs (call_of c.args.call) (entry_of en) has c.few.ensures small (own_kept sc t (stack_view c.args.values.now) vs mine c.requires.kept) (caller_kept c.args.call c.requires.caller) (step_is sc t x here c.requires.step) c.in_ok-entry.ensures in
+    let ready = node_ready (λ i. node_at sc i) x t.node t.step vs (call_of c.args.call) (entry_of en) has c.few.ensures small
+    (own_kept sc t (stack_view c.args.values.now) vs mine c.requires.kept) (caller_kept c.args.call c.requires.caller)
+    (step_is sc t x here c.requires.step) c.in_ok-entry.ensures in
     subst (AllReady sc) (sym c.in-Ok.ensures.items) (ready_push sc old en c.requires.ready ready)

@@ -7,4 +7,5 @@ returns-clause-vars c = top_at c.args.frames.now c.in-Some.top.now c.in-Some.ens
 
 pub returns-clause-kept : goal.returns-clause-kept
 returns-clause-kept c =
-    top_kept c.args.code.now c.args.frames.now c.in_ok-vars.vars c.requires.fits (top_at c.args.frames.now c.in-Some.top.now c.in-Some.ensures.value ∙ ap Some (sym c.in_ok-vars.ensures))
+    top_kept c.args.code.now c.args.frames.now c.in_ok-vars.vars c.requires.fits
+    (top_at c.args.frames.now c.in-Some.top.now c.in-Some.ensures.value ∙ ap Some (sym c.in_ok-vars.ensures))

@@ -37,11 +37,14 @@ returns-clause-comes g c = λ f ps vs start.
     let b : Body = record { params = c.in-Some.body.params.now; block = c.in-Some.body.block.now; node = c.in-Some.body.node } in
     let block = c.in_ok-control.ensures.same w st ∙ begun w c.new-entries.result.items b st c.new-entries.ensures.items in
     let r = run_of c.args.run.now in
-    let vars : st ≡ record { vars = bottom_vars r.frames; count = 0 } = c.of-state.ensures ∙ (λ i. record { vars = c.in_ok-variables.ensures i; count = 0 }) in
+    let vars : st ≡ record { vars = bottom_vars r.frames; count = 0 } = c.of-state.ensures
+    ∙ (λ i. record { vars = c.in_ok-variables.ensures i; count = 0 }) in
     let whole = block ∙ starts_so w b c.in_ok-fun.fun f ps vs r st (sym c.in_ok-fun.ensures) vars c.in-Some.ensures start in
     let fun : c.in_ok-fun.fun ≡ f = c.in_ok-fun.ensures ∙ start_fun (body_of f sc) f ps vs r start in
-    let here = subst (λ j. Comes c.in_ok-fun.fun j (config w c.open_block.new.entries.items c.in_ok-control.control st) c.in_ok-came.came (run_of c.run_from.new.run)) c.requires.start c.in_ok-came.ensures.comes in
-    subst (λ x. Comes x 0 (body_at w bodies f ps vs nowhere start_st) c.in_ok-came.came (run_of c.run_from.new.run)) fun (subst (λ x. Comes c.in_ok-fun.fun 0 x c.in_ok-came.came (run_of c.run_from.new.run)) whole here)
+    let here = subst (λ j. Comes c.in_ok-fun.fun j (config w c.open_block.new.entries.items c.in_ok-control.control st) c.in_ok-came.came
+    (run_of c.run_from.new.run)) c.requires.start c.in_ok-came.ensures.comes in
+    subst (λ x. Comes x 0 (body_at w bodies f ps vs nowhere start_st) c.in_ok-came.came (run_of c.run_from.new.run)) fun
+    (subst (λ x. Comes c.in_ok-fun.fun 0 x c.in_ok-came.came (run_of c.run_from.new.run)) whole here)
 
 pub returns-clause-made : goal.returns-clause-made
 returns-clause-made g c = λ f ps vs start.
@@ -52,6 +55,7 @@ returns-clause-made g c = λ f ps vs start.
     let b : Body = record { params = c.in-Some.body.params.now; block = c.in-Some.body.block.now; node = c.in-Some.body.node } in
     let block = c.in_ok-control.ensures.same w st ∙ begun w c.new-entries.result.items b st c.new-entries.ensures.items in
     let r = run_of c.args.run.now in
-    let vars : st ≡ record { vars = bottom_vars r.frames; count = 0 } = c.of-state.ensures ∙ (λ i. record { vars = c.in_ok-variables.ensures i; count = 0 }) in
+    let vars : st ≡ record { vars = bottom_vars r.frames; count = 0 } = c.of-state.ensures
+    ∙ (λ i. record { vars = c.in_ok-variables.ensures i; count = 0 }) in
     let whole = block ∙ starts_so w b c.in_ok-fun.fun f ps vs r st (sym c.in_ok-fun.ensures) vars c.in-Some.ensures start in
     c.in_ok-came.ensures.made ∙ ap (λ x. c.args.run.now.spawned ++ map (with_name digest) (segment x)) whole

@@ -8,7 +8,8 @@ use Rattle.sky_rows.proofs.objects.pad.Given as goal
 
 abbrev pub invariant-loop-items : goal.invariant-loop-items
 invariant-loop-items l = record {
-  same : (k : ℕ) (o : Obj) → k + 1 ≡ l.count → with_object k o (map (option_map object_view) l.items.items) ≡ with_object k o (map (option_map object_view) l.initial.items.items);
+  same : (k : ℕ) (o : Obj) → k + 1 ≡ l.count → with_object k o (map (option_map object_view) l.items.items)
+      ≡ with_object k o (map (option_map object_view) l.initial.items.items);
   places : (k : ℕ) → object_at (map (option_map object_view) l.items.items) k ≡ object_at (map (option_map object_view) l.initial.items.items) k;
   kept : KeptObjects (map (option_map object_view) l.initial.items.items) → KeptObjects (map (option_map object_view) l.items.items);
 }

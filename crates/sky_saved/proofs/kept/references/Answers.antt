@@ -9,7 +9,8 @@ loop-name-preserved c =
     let xs = c.as_slice-name-items.result.now in
     let i = c.loop-name.name-index in
     let x = c.name-item.result in
-    let more : take (i + 1) xs ≡ take i xs ++ x ∷ [] = rw (add-one i) (take-suc xs i x (omega arith) ∙ ap (λ y. take i xs ++ y ∷ []) (sym c.name-item.is)) in
+    let more : take (i + 1) xs ≡ take i xs ++ x ∷ [] =
+    rw (add-one i) (take-suc xs i x (omega arith) ∙ ap (λ y. take i xs ++ y ∷ []) (sym c.name-item.is)) in
     c.in_ok-push.ensures.ok
     ∙ ap (λ vs. add_val vs (ref (known x))) c.loop-name.invariant
     ∙ sym (refs_push (take i xs) x)

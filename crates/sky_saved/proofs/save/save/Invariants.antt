@@ -8,4 +8,5 @@ use Rattle.sky_saved.proofs.save.save.Given as goal
 
 abbrev pub invariant-loop-entry : goal.invariant-loop-entry
 invariant-loop-entry l =
-    AllCanSave (forms (drop l.entry-index l.entries)) × ((xs : Pairs) → with_rest (part_of l.saving) (forms (drop l.entry-index l.entries)) xs ≡ frames_of (forms l.entries) l.fn.fun xs)
+    AllCanSave (forms (drop l.entry-index l.entries))
+    × ((xs : Pairs) → with_rest (part_of l.saving) (forms (drop l.entry-index l.entries)) xs ≡ frames_of (forms l.entries) l.fn.fun xs)

@@ -11,5 +11,6 @@ returns-then-contains_key c = λ x.
 pub returns : goal.returns
 returns c = λ x.
     let same = c.in_ok-name.ensures in
-    added c.args.map.now c.insert.new.self c.in_ok-name.name x c.args.place c.in-Ok.ensures.updates (ap (λ n. is_some (place_at c.args.map.now.entries n)) same ∙ sym c.contains_key.ensures ∙ c.if-contains_key.false)
+    added c.args.map.now c.insert.new.self c.in_ok-name.name x c.args.place c.in-Ok.ensures.updates
+    (ap (λ n. is_some (place_at c.args.map.now.entries n)) same ∙ sym c.contains_key.ensures ∙ c.if-contains_key.false)
     ∙ ap (λ n. or_here (place_at c.args.map.now.entries x) (same_text x n) c.args.place) same

@@ -8,4 +8,5 @@ returns-then-contains_key c = λ x.
 
 pub returns-in-Ok : goal.returns-in-Ok
 returns-in-Ok c = λ x.
-    added c.args.places.now c.insert.new.self c.args.name.now x c.args.place c.in-Ok.ensures.updates (sym c.contains_key.ensures ∙ c.if-contains_key.false)
+    added c.args.places.now c.insert.new.self c.args.name.now x c.args.place c.in-Ok.ensures.updates
+    (sym c.contains_key.ensures ∙ c.if-contains_key.false)

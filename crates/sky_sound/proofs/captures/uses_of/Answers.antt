@@ -11,4 +11,5 @@ loop-fun-preserved c =
     let f = c.fun-item.result in
     let keys = c.in_ok-keys.keys in
     let new = subst (KeysAre keys) c.as_slice.ensures c.in_ok-keys.ensures in
-    subst (λ index. AreUses index (funs_view (take (i + 1) fs))) (sym c.in-Ok.ensures.items) (uses_more c.loop-fun.index.items fs i f keys (omega arith) c.fun-item.is new c.loop-fun.invariant)
+    subst (λ index. AreUses index (funs_view (take (i + 1) fs))) (sym c.in-Ok.ensures.items)
+    (uses_more c.loop-fun.index.items fs i f keys (omega arith) c.fun-item.is new c.loop-fun.invariant)

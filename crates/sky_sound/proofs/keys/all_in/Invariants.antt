@@ -6,4 +6,5 @@ use Rattle.sky_sound.proofs.keys.all_in.Given as goal
 
 abbrev pub invariant-loop-pair : goal.invariant-loop-pair
 invariant-loop-pair l =
-    (AllIn l.keys (pairs_of (drop l.pair-index l.pairs)) → AllIn l.keys (pairs_of l.pairs)) × (AllIn l.keys (pairs_of l.pairs) → AllIn l.keys (pairs_of (drop l.pair-index l.pairs)))
+    (AllIn l.keys (pairs_of (drop l.pair-index l.pairs)) → AllIn l.keys (pairs_of l.pairs))
+    × (AllIn l.keys (pairs_of l.pairs) → AllIn l.keys (pairs_of (drop l.pair-index l.pairs)))

@@ -6,4 +6,5 @@ use Rattle.sky_sound.proofs.keys.all_in_either.Given as goal
 
 abbrev pub invariant-loop-pair : goal.invariant-loop-pair
 invariant-loop-pair l =
-    (AllInEither l.own l.uses (pairs_of (drop l.pair-index l.pairs)) → AllInEither l.own l.uses (pairs_of l.pairs)) × (AllInEither l.own l.uses (pairs_of l.pairs) → AllInEither l.own l.uses (pairs_of (drop l.pair-index l.pairs)))
+    (AllInEither l.own l.uses (pairs_of (drop l.pair-index l.pairs)) → AllInEither l.own l.uses (pairs_of l.pairs))
+    × (AllInEither l.own l.uses (pairs_of l.pairs) → AllInEither l.own l.uses (pairs_of (drop l.pair-index l.pairs)))

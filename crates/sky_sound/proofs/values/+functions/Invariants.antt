@@ -7,11 +7,13 @@ use Rattle.sky_sound.proofs.values.+functions.Given as goal
 
 abbrev pub invariant-all_functions_fit-loop-value : goal.invariant-all_functions_fit-loop-value
 invariant-all_functions_fit-loop-value l =
-    (ValsSound l.captures (vals_of (drop l.value-index l.values)) → ValsSound l.captures (vals_of l.values)) × (ValsSound l.captures (vals_of l.values) → ValsSound l.captures (vals_of (drop l.value-index l.values)))
+    (ValsSound l.captures (vals_of (drop l.value-index l.values)) → ValsSound l.captures (vals_of l.values))
+    × (ValsSound l.captures (vals_of l.values) → ValsSound l.captures (vals_of (drop l.value-index l.values)))
 
 abbrev pub invariant-functions_in_fit-loop-pair : goal.invariant-functions_in_fit-loop-pair
 invariant-functions_in_fit-loop-pair l =
-    (PairsSound l.captures (pairs_of (drop l.pair-index l.pairs)) → PairsSound l.captures (pairs_of l.pairs)) × (PairsSound l.captures (pairs_of l.pairs) → PairsSound l.captures (pairs_of (drop l.pair-index l.pairs)))
+    (PairsSound l.captures (pairs_of (drop l.pair-index l.pairs)) → PairsSound l.captures (pairs_of l.pairs))
+    × (PairsSound l.captures (pairs_of l.pairs) → PairsSound l.captures (pairs_of (drop l.pair-index l.pairs)))
 
 abbrev pub decreases-functions_fit : goal.decreases-functions_fit
 decreases-functions_fit l = val_nodes (view l.value.now)

@@ -7,4 +7,5 @@ use Rattle.sky_sound.proofs.values.values_are_sound.Given as goal
 
 abbrev pub invariant-loop-value : goal.invariant-loop-value
 invariant-loop-value l =
-    (Each (Sound l.captures) (stack_view (drop l.value-index l.values)) → Each (Sound l.captures) (stack_view l.values)) × (Each (Sound l.captures) (stack_view l.values) → Each (Sound l.captures) (stack_view (drop l.value-index l.values)))
+    (Each (Sound l.captures) (stack_view (drop l.value-index l.values)) → Each (Sound l.captures) (stack_view l.values))
+    × (Each (Sound l.captures) (stack_view l.values) → Each (Sound l.captures) (stack_view (drop l.value-index l.values)))

@@ -6,4 +6,5 @@ use Rattle.sky_sound.proofs.values.vars_are_sound.Given as goal
 
 abbrev pub invariant-loop-var : goal.invariant-loop-var
 invariant-loop-var l =
-    (SoundVars l.captures (pairs_of (drop l.var-index l.vars)) → SoundVars l.captures (pairs_of l.vars)) × (SoundVars l.captures (pairs_of l.vars) → SoundVars l.captures (pairs_of (drop l.var-index l.vars)))
+    (SoundVars l.captures (pairs_of (drop l.var-index l.vars)) → SoundVars l.captures (pairs_of l.vars))
+    × (SoundVars l.captures (pairs_of l.vars) → SoundVars l.captures (pairs_of (drop l.var-index l.vars)))

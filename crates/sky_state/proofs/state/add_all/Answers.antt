@@ -12,7 +12,8 @@ loop-value-preserved c =
     let xs = c.args.stack.now in
     let i = c.loop-value.value-index in
     let x = c.value-item.result in
-    let more : take (i + 1) xs ≡ take i xs ++ x ∷ [] = rw (add-one i) (take-suc xs i x (omega arith) ∙ ap (λ y. take i xs ++ y ∷ []) (sym c.value-item.is)) in
+    let more : take (i + 1) xs ≡ take i xs ++ x ∷ [] =
+    rw (add-one i) (take-suc xs i x (omega arith) ∙ ap (λ y. take i xs ++ y ∷ []) (sym c.value-item.is)) in
     c.in_ok-add.ensures
     ∙ ap (λ ds. ds ++ refs (view x)) c.loop-value.invariant
     ∙ append_assoc (vals_refs c.args.values.now) (stack_refs (stack_view (take i xs))) (refs (view x))
@@ -21,4 +22,5 @@ loop-value-preserved c =
 
 pub returns : goal.returns
 returns c =
-    c.loop-value.invariant ∙ ap (λ ys. vals_refs c.args.values.now ++ stack_refs (stack_view ys)) (take_all c.loop-value.value-index c.args.stack.now (omega arith))
+    c.loop-value.invariant ∙ ap (λ ys. vals_refs c.args.values.now ++ stack_refs (stack_view ys))
+    (take_all c.loop-value.value-index c.args.stack.now (omega arith))

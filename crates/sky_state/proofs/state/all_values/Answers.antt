@@ -10,7 +10,8 @@ loop-frame-preserved c =
     let xs = c.args.frames.now in
     let i = c.loop-frame.frame-index in
     let x = c.frame-item.result in
-    let more : take (i + 1) xs ≡ take i xs ++ x ∷ [] = rw (add-one i) (take-suc xs i x (omega arith) ∙ ap (λ y. take i xs ++ y ∷ []) (sym c.frame-item.is)) in
+    let more : take (i + 1) xs ≡ take i xs ++ x ∷ [] =
+    rw (add-one i) (take-suc xs i x (omega arith) ∙ ap (λ y. take i xs ++ y ∷ []) (sym c.frame-item.is)) in
     c.in_ok-add_all.ensures
     ∙ ap (λ ds. ds ++ stack_refs (stack_view c.as_slice.result.now)) c.in_ok-add_variables.ensures
     ∙ ap (λ vs. (vals_refs c.loop-frame.values ++ pairs_refs x.vars) ++ stack_refs vs) c.as_slice.ensures

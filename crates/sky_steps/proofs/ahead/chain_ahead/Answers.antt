@@ -9,7 +9,8 @@ use Rattle.sky_steps.proofs.ahead.chain_ahead.Goals as goal
 
 pub after_exp-next-requires : goal.after_exp-next-requires
 after_exp-next-requires c =
-    first_has (λ i. node_at c.args.code.now i) c.args.first.now (exp_view c.get-e.result.now) c.args.node c.inside-part.result c.get-e.ensures c.inside-part.ensures.some c.requires.has.1
+    first_has (λ i. node_at c.args.code.now i) c.args.first.now (exp_view c.get-e.result.now) c.args.node c.inside-part.result c.get-e.ensures
+    c.inside-part.ensures.some c.requires.has.1
 
 pub links_ahead-requires-clause-links : goal.links_ahead-requires-clause-links
 links_ahead-requires-clause-links c =

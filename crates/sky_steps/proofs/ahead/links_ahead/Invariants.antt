@@ -19,7 +19,9 @@ invariant-links l = record {
   kept : Kept (view l.value);
   within : l.state.count ≤ visits;
   more : l.fn.state.count ≤ l.state.count;
-  same : (w : World (List ℕ)) (body : List ℕ → Pairs → Vals (List ℕ) → Place → Vars → Run) → w.script ≡ l.code → eval_links w body (operands_view l.fn.chain.rest) l.fn.chain.node l.fn.chain.step l.fn.chain.next (view l.fn.chain.value) l.fn.state ≡ eval_links w body (operands_view l.rest) l.fn.chain.node l.step l.next (view l.value) l.state;
+  same : (w : World (List ℕ)) (body : List ℕ → Pairs → Vals (List ℕ) → Place → Vars → Run) → w.script ≡ l.code
+      → eval_links w body (operands_view l.fn.chain.rest) l.fn.chain.node l.fn.chain.step l.fn.chain.next (view l.fn.chain.value) l.fn.state
+      ≡ eval_links w body (operands_view l.rest) l.fn.chain.node l.step l.next (view l.value) l.state;
 }
 
 abbrev pub decreases-links : goal.decreases-links

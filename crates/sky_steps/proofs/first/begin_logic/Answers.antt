@@ -14,7 +14,8 @@ use Rattle.sky_steps.proofs.first.begin_logic.Goals as goal
 
 pub after_exp-next-requires : goal.after_exp-next-requires
 after_exp-next-requires c =
-    first_has (λ i. node_at c.args.code.now i) c.args.first.now (exp_view c.get-e.result.now) c.args.node c.inside-part.result c.get-e.ensures c.inside-part.ensures.some c.requires.has.1
+    first_has (λ i. node_at c.args.code.now i) c.args.first.now (exp_view c.get-e.result.now) c.args.node c.inside-part.result c.get-e.ensures
+    c.inside-part.ensures.some c.requires.has.1
 
 pub returns-clause-same : goal.returns-clause-same
 returns-clause-same c = λ w st.
@@ -27,7 +28,10 @@ returns-clause-same c = λ w st.
     let inside = room w (forms c.push.new.entries.items) in
     let is = first_at (λ i. node_at c.args.code.now i) e n c.inside-part.result c.inside-part.ensures.some c.requires.has.1 in
     let next = c.after_exp-next.ensures ∙ ap (λ m. m + nodes e') is ∙ ap (λ x. n + 1 + nodes x) c.get-e.ensures in
-    c.in_ok-push.ensures.rest w (eval w (body_at w inside) e' c.inside-part.result st) ∙ ap (rest_in w old) (first_begun w now inside e e' (n + 1) c.inside-part.result st (en c.after_exp-next.result) (after w (body_at w now) (en c.after_exp-next.result)) (c.in_ok-push.ensures.room w) c.get-e.ensures is ∙ ap (λ m. then_do (eval w (body_at w now) e (n + 1) st) (en m) (after w (body_at w now) (en m))) next)
+    c.in_ok-push.ensures.rest w (eval w (body_at w inside) e' c.inside-part.result st)
+    ∙ ap (rest_in w old) (first_begun w now inside e e' (n + 1) c.inside-part.result st (en c.after_exp-next.result)
+    (after w (body_at w now) (en c.after_exp-next.result)) (c.in_ok-push.ensures.room w) c.get-e.ensures is
+    ∙ ap (λ m. then_do (eval w (body_at w now) e (n + 1) st) (en m) (after w (body_at w now) (en m))) next)
 
 pub returns-clause-ready : goal.returns-clause-ready
 returns-clause-ready c =
@@ -37,8 +41,10 @@ returns-clause-ready c =
     let is = first_at (λ i. node_at c.args.code.now i) e n c.inside-part.result c.inside-part.ensures.some c.requires.has.1 in
     let next = c.after_exp-next.ensures ∙ ap (λ m. m + nodes e') is ∙ ap (λ x. n + 1 + nodes x) c.get-e.ensures in
     let far : 1 < c.after_exp-next.result = omega (arith, next, nodes_pos e) in
-    c.in_ok-push.ensures.ready c.args.code.now c.requires.ready (far, subst (HasAnds (λ i. node_at c.args.code.now i) (ands_view c.args.rest.now)) (sym next) c.requires.has.2)
+    c.in_ok-push.ensures.ready c.args.code.now c.requires.ready
+    (far, subst (HasAnds (λ i. node_at c.args.code.now i) (ands_view c.args.rest.now)) (sym next) c.requires.has.2)
 
 pub returns-clause-goes : goal.returns-clause-goes
 returns-clause-goes c =
-    first_has (λ i. node_at c.args.code.now i) c.args.first.now (exp_view c.get-e.result.now) c.args.node c.inside-part.result c.get-e.ensures c.inside-part.ensures.some c.requires.has.1
+    first_has (λ i. node_at c.args.code.now i) c.args.first.now (exp_view c.get-e.result.now) c.args.node c.inside-part.result c.get-e.ensures
+    c.inside-part.ensures.some c.requires.has.1

@@ -16,7 +16,9 @@ returns-in-None-clause-same c = λ w.
     let st = c.args.state.now in
     let p = at k.line k.col in
     let old = c.args.entries.now.items in
-    ap (rest_in w old) (sym (c.in-Err.ensures.err st (gives (truth true)) (gives (truth false))) ∙ truth_decides (view c.args.v) p st ∙ ap (λ xs. eval_ands w (body_in w (forms old)) xs k.node (k.step + 1) k.next (stops_at k.stop) p (view c.args.v) st) (sym (ands_none k.rest.now c.in-None.ensures.cases)))
+    ap (rest_in w old) (sym (c.in-Err.ensures.err st (gives (truth true)) (gives (truth false))) ∙ truth_decides (view c.args.v) p st
+    ∙ ap (λ xs. eval_ands w (body_in w (forms old)) xs k.node (k.step + 1) k.next (stops_at k.stop) p (view c.args.v) st)
+    (sym (ands_none k.rest.now c.in-None.ensures.cases)))
 
 pub returns-clause-same : goal.returns-clause-same
 returns-clause-same c = λ w.
@@ -29,4 +31,8 @@ returns-clause-same c = λ w.
     let differ : c.in-Ok-decided.b ≢ k.stop = search rules in
     let st = c.args.state.now in
     let after_visit = c.visit.new.state in
-    c.in_ok-push-in-Ok-decided.ensures.rest w (eval w (body_at w inside) (exp_view j.operand) k.next after_visit) ∙ ap (rest_in w old) (and_next w now inside k.node (k.step + 1) k.next c.after_exp-after.result k.stop c.in-Ok-decided.b (at k.line k.col) (at j.line j.col) (view c.args.v) (exp_view j.operand) (ands_view c.in-Some.rest.now) (ands_view k.rest.now) st after_visit (c.in_ok-push-in-Ok-decided.ensures.room w) c.after_exp-after.ensures (ap ands_view c.in-Some.ensures.cases.0) c.in-Ok-decided.ensures.ok differ (c.visit.ensures.more c.if-not-visit.false))
+    c.in_ok-push-in-Ok-decided.ensures.rest w (eval w (body_at w inside) (exp_view j.operand) k.next after_visit)
+    ∙ ap (rest_in w old) (and_next w now inside k.node (k.step + 1) k.next c.after_exp-after.result k.stop c.in-Ok-decided.b
+    (at k.line k.col) (at j.line j.col) (view c.args.v) (exp_view j.operand) (ands_view c.in-Some.rest.now) (ands_view k.rest.now) st
+    after_visit (c.in_ok-push-in-Ok-decided.ensures.room w) c.after_exp-after.ensures (ap ands_view c.in-Some.ensures.cases.0)
+    c.in-Ok-decided.ensures.ok differ (c.visit.ensures.more c.if-not-visit.false))

@@ -14,7 +14,8 @@ invariant-loop-left l = record {
   more : l.fn.state.count ≤ l.state.count;
   steps : l.step + l.left ≡ l.fn.step + length l.signs;
   still : l.entries.items ≡ l.fn.entries.items;
-  same : (w : World (List ℕ)) → signs w (reverse (signs_view (take l.left l.signs))) l.node l.step (view l.v) l.state ≡ signs w (reverse (signs_view l.signs)) l.node l.fn.step (view l.fn.v) l.fn.state;
+  same : (w : World (List ℕ)) → signs w (reverse (signs_view (take l.left l.signs))) l.node l.step (view l.v) l.state
+      ≡ signs w (reverse (signs_view l.signs)) l.node l.fn.step (view l.fn.v) l.fn.state;
 }
 
 abbrev pub decreases-loop-left : goal.decreases-loop-left

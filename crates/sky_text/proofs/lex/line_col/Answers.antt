@@ -6,7 +6,17 @@ use Rattle.sky_text.specs.Place.{is_line_feed}
 use Rattle.sky_text.proofs.lex.line_col.Goals as goal
 
 pub overflow_cast-col : goal.overflow_cast-col
-overflow_cast-col c = omega (arith, suffix_len-le-length (λ b. not (is_line_feed b)) (take c.args.at c.args.bytes.now), length-take c.args.at c.args.bytes.now, c.last_line_len.ensures)
+overflow_cast-col c = omega (
+  arith,
+  suffix_len-le-length (λ b. not (is_line_feed b)) (take c.args.at c.args.bytes.now),
+  length-take c.args.at c.args.bytes.now,
+  c.last_line_len.ensures,
+)
 
 pub overflow_add-col : goal.overflow_add-col
-overflow_add-col c = omega (arith, suffix_len-le-length (λ b. not (is_line_feed b)) (take c.args.at c.args.bytes.now), length-take c.args.at c.args.bytes.now, c.last_line_len.ensures)
+overflow_add-col c = omega (
+  arith,
+  suffix_len-le-length (λ b. not (is_line_feed b)) (take c.args.at c.args.bytes.now),
+  length-take c.args.at c.args.bytes.now,
+  c.last_line_len.ensures,
+)

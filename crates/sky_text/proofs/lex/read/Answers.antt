@@ -25,11 +25,14 @@ loop-first-preserved-then-gap-gt0 c =
     let some : 0 < gap_len first after = omega (arith, c.if-gap-gt0.true, gap) in
     let within : gap_len first after ≤ length after + 1 = omega (arith, c.gap_len-gap.ensures.within, gap) in
     let split_len : length rest ≡ length after + 1 = ap length split ∙ omega arith in
-    let place = past_gap bytes rest at first after c.loop-first.line c.loop-first.col c.past_gap.result c.loop-first.invariant.rest split some (omega arith) c.loop-first.invariant.line c.loop-first.invariant.column c.loop-first.invariant.few_lines c.loop-first.invariant.few_columns
+    let place = past_gap bytes rest at first after c.loop-first.line c.loop-first.col c.past_gap.result c.loop-first.invariant.rest split some
+    (omega arith) c.loop-first.invariant.line c.loop-first.invariant.column c.loop-first.invariant.few_lines
+    c.loop-first.invariant.few_columns
     (c.past_gap.ensures ∙ ap (λ (n : ℕ). cond (first == 10) (c.loop-first.line + 1, 1) (c.loop-first.line, c.loop-first.col + n)) gap) in
     let behind : c.split_at.result.1.now ≡ drop (gap_len first after) rest = c.split_at.ensures.back ∙ ap (λ (n : ℕ). drop n rest) gap in
     rw (gap, behind) (record {
-      left = keeps_gap bytes rest c.loop-first.tokens.items at first after (tokens_from bytes 0 0 bytes) split some (omega arith) c.loop-first.invariant.left;
+      left = keeps_gap bytes rest c.loop-first.tokens.items at first after (tokens_from bytes 0 0 bytes) split some (omega arith)
+          c.loop-first.invariant.left;
       rest = ap (drop (gap_len first after)) c.loop-first.invariant.rest ∙ drop-drop (gap_len first after) at bytes;
       count = omega (arith, c.loop-first.invariant.count, split_len, length-drop (gap_len first after) rest);
       line = place.0;
@@ -59,7 +62,9 @@ returns-in_err-kind-clause-refused c =
     let none : gap_len first after ≤ 0 = omega (arith, c.if-gap-gt0.false, c.gap_len-gap.ensures.value) in
     rw (p.1, p.2) (elim c.in_err-kind.ensures.refused [
       | inl memory ↦ inl memory
-      | inr wrong ↦ inr (of_utf8 bytes c.requires.utf8 ∙ keeps_refusal bytes c.loop-first.rest.now c.loop-first.tokens.items c.loop-first.at first after c.in_err-kind.field-0.0 (tokens_from bytes 0 0 bytes) c.in-Some.ensures.cases.0 none wrong c.loop-first.invariant.left)
+      | inr wrong ↦ inr (of_utf8 bytes c.requires.utf8
+          ∙ keeps_refusal bytes c.loop-first.rest.now c.loop-first.tokens.items c.loop-first.at first after c.in_err-kind.field-0.0
+          (tokens_from bytes 0 0 bytes) c.in-Some.ensures.cases.0 none wrong c.loop-first.invariant.left)
     ])
 
 pub loop-first-preserved : goal.loop-first-preserved
@@ -78,7 +83,9 @@ loop-first-preserved c =
     let places : at + (to - at) ≡ to = omega (arith, span.1) in
     let line : c.loop-first.line ≡ line_of bytes to = c.loop-first.invariant.line ∙ sym place.0 in
     rw (behind, c.in-Ok.ensures.items) (record {
-      left = keeps_token bytes rest c.loop-first.tokens.items at first after (c.in_ok-kind.kind, to) (record { kind = c.in_ok-kind.kind; from = at; to = to; line = c.loop-first.line; col = c.loop-first.col }) (tokens_from bytes 0 0 bytes) split none c.in_ok-kind.ensures.found
+      left = keeps_token bytes rest c.loop-first.tokens.items at first after (c.in_ok-kind.kind, to)
+          (record { kind = c.in_ok-kind.kind; from = at; to = to; line = c.loop-first.line; col = c.loop-first.col })
+          (tokens_from bytes 0 0 bytes) split none c.in_ok-kind.ensures.found
           (rw (c.loop-first.invariant.line, c.loop-first.invariant.column) refl) c.loop-first.invariant.left;
       rest = ap (drop (to - at)) c.loop-first.invariant.rest ∙ drop-drop (to - at) at bytes ∙ ap (λ (n : ℕ). drop n bytes) places;
       count = omega (arith, c.loop-first.invariant.count, length-drop (to - at) rest, span.1, span.2, ap length split);
@@ -89,4 +96,7 @@ loop-first-preserved c =
     })
 
 pub returns-clause-tokens : goal.returns-clause-tokens
-returns-clause-tokens c = of_utf8 c.args.bytes.now c.requires.utf8 ∙ keeps_end c.args.bytes.now c.loop-first.rest.now c.loop-first.tokens.items c.loop-first.at (tokens_from c.args.bytes.now 0 0 c.args.bytes.now) (nil_from_length c.loop-first.rest.now c.in_default.ensures.cases) c.loop-first.invariant.left
+returns-clause-tokens c = of_utf8 c.args.bytes.now c.requires.utf8
+    ∙ keeps_end c.args.bytes.now c.loop-first.rest.now c.loop-first.tokens.items c.loop-first.at
+    (tokens_from c.args.bytes.now 0 0 c.args.bytes.now) (nil_from_length c.loop-first.rest.now c.in_default.ensures.cases)
+    c.loop-first.invariant.left

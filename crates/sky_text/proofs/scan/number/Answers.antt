@@ -10,4 +10,5 @@ returns-then-more-gt9223372036854775807 c =
     let i = c.loop-digit.digit-index in
     let more = c.loop-digit.value * 10 + (get_or digits i 0 - 48) in
     let big : 9223372036854775807 < more = omega (arith, c.if-more-gt9223372036854775807.true, c.from.ensures, c.from-in-loop-digit.ensures) in
-    sym (number_too_big c.args.at more (drop (i + 1) digits) (number_of digits) (sym (number_step c.loop-digit.value digits i c.loop-digit-test.true) ∙ c.loop-digit.invariant.left) big)
+    sym (number_too_big c.args.at more (drop (i + 1) digits) (number_of digits)
+    (sym (number_step c.loop-digit.value digits i c.loop-digit-test.true) ∙ c.loop-digit.invariant.left) big)

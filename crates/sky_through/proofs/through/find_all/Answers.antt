@@ -14,14 +14,20 @@ names-preserved g c =
     let n = c.in-Some.name.now in
     let rest = c.in-Some.ensures.cases.0 in
     let found = subst (λ ns. AllFound finds (known_of ns)) rest c.names.invariant.found in
-    let object = subst (λ f. f (known n) ≡ Some (object_view c.in-Ok.object)) c.names.invariant.finder (rw c.in-Ok.is at c.in_ok-object.ensures.object) in
-    let before = subst (λ ns. map finds (known_of c.args.names.now) ≡ map Some (map object_view c.names.objects.items) ++ map finds (known_of ns)) rest c.names.invariant.objects in
+    let object = subst (λ f. f (known n) ≡ Some (object_view c.in-Ok.object)) c.names.invariant.finder
+    (rw c.in-Ok.is at c.in_ok-object.ensures.object) in
+    let before = subst (λ ns. map finds (known_of c.args.names.now) ≡ map Some (map object_view c.names.objects.items)
+    ++ map finds (known_of ns)) rest c.names.invariant.objects in
     record {
       found = found.1;
       finder = c.in_ok-object.ensures.same ∙ c.names.invariant.finder;
       ready = c.in_ok-object.ensures.ready;
       stays = c.in_ok-object.ensures.stays ∙ c.names.invariant.stays;
       within = λ d i. c.names.invariant.within d (subst (λ ns. In d (known_of ns)) (sym rest) (inr i));
-      asked = asks_more (g.F.Finds.asked c.args.finder.now) (g.F.Finds.asked c.names.finder) (g.F.Finds.asked c.find.new.self) (known_of c.args.names.now) n (c.names.invariant.within (known n) (subst (λ ns. In (known n) (known_of ns)) (sym rest) (inl refl))) c.names.invariant.asked c.in_ok-object.ensures.asked;
-      objects = subst (λ os. map finds (known_of c.args.names.now) ≡ map Some (map object_view os) ++ map finds (known_of c.in-Some.more.now)) (sym c.in-Ok-push.ensures.items) (found_more finds (known n) (known_of c.in-Some.more.now) (map finds (known_of c.args.names.now)) c.names.objects.items c.in-Ok.object object before);
+      asked = asks_more (g.F.Finds.asked c.args.finder.now) (g.F.Finds.asked c.names.finder) (g.F.Finds.asked c.find.new.self)
+          (known_of c.args.names.now) n (c.names.invariant.within (known n) (subst (λ ns. In (known n) (known_of ns)) (sym rest) (inl refl)))
+          c.names.invariant.asked c.in_ok-object.ensures.asked;
+      objects = subst (λ os. map finds (known_of c.args.names.now) ≡ map Some (map object_view os) ++ map finds (known_of c.in-Some.more.now))
+          (sym c.in-Ok-push.ensures.items) (found_more finds (known n) (known_of c.in-Some.more.now) (map finds (known_of c.args.names.now))
+          c.names.objects.items c.in-Ok.object object before);
     }

@@ -15,7 +15,8 @@ invariant-names g l = record {
   stays : g.F.Finds.stays l.finder ≡ g.F.Finds.stays l.fn.finder;
   within : (d : Desc (List ℕ)) → In d (known_of l.rest) → In d (known_of l.names);
   asked : AsksFor (g.F.Finds.asked l.fn.finder) (g.F.Finds.asked l.finder) (known_of l.names);
-  objects : map (g.F.Finds.finds l.fn.finder) (known_of l.names) ≡ map Some (map object_view l.objects.items) ++ map (g.F.Finds.finds l.fn.finder) (known_of l.rest);
+  objects : map (g.F.Finds.finds l.fn.finder) (known_of l.names) ≡ map Some (map object_view l.objects.items)
+      ++ map (g.F.Finds.finds l.fn.finder) (known_of l.rest);
 }
 
 abbrev pub decreases-names : goal.decreases-names

@@ -34,7 +34,8 @@ turns-preserved g c =
     let sc = c.args.script.now.code in
     let l = c.turns in
     let went = rw c.in-Ok-None.field-0-is at (rw c.in-Ok-None.is at c.in_ok-turn.ensures.turns) in
-    let turned = subst (λ f. Turns f digest sc None (stand_of l.state) (stand_of c.turn.new.state) (spawned_of l.state) (spawned_of c.turn.new.state)) l.invariant.finder went in
+    let turned = subst (λ f. Turns f digest sc None (stand_of l.state) (stand_of c.turn.new.state) (spawned_of l.state)
+    (spawned_of c.turn.new.state)) l.invariant.finder went in
     let fits = rw c.in-Ok-None.field-0-is at (rw c.in-Ok-None.is at c.in_ok-turn.ensures.fits) in
     let made = rw c.in-Ok-None.is at c.in_ok-turn.ensures.made in
     let kind = rw c.in-Ok-None.field-0-is at (rw c.in-Ok-None.is at c.in_ok-turn.ensures.kind) in
@@ -44,11 +45,16 @@ turns-preserved g c =
       finder = c.in_ok-turn.ensures.finder ∙ l.invariant.finder;
       ready = rw c.in-Ok-None.is at c.in_ok-turn.ensures.ready;
       stays = c.in_ok-turn.ensures.stays ∙ l.invariant.stays;
-      whole = grew_whole_both digest (spawned_of c.args.state.now) (spawned_of l.state) (spawned_of c.turn.new.state) l.invariant.whole (rw c.in-Ok-None.is at c.in_ok-turn.ensures.whole);
+      whole = grew_whole_both digest (spawned_of c.args.state.now) (spawned_of l.state) (spawned_of c.turn.new.state) l.invariant.whole
+          (rw c.in-Ok-None.is at c.in_ok-turn.ensures.whole);
       kind = kind_both (stand_of c.args.state.now) (stand_of l.state) (stand_of c.turn.new.state) Step.Waits l.invariant.kind kind;
-      through = before_more finds digest sc (g.F.Finds.asked c.args.finder.now) (g.F.Finds.asked l.finder) (g.F.Finds.asked c.turn.new.finder) (stand_of c.args.state.now) (stand_of l.state) (stand_of c.turn.new.state) (spawned_of c.args.state.now) (spawned_of l.state) (spawned_of c.turn.new.state) turned.0 turned.1 turned.2 (rw c.in-Ok-None.is at c.in_ok-turn.ensures.asked) l.invariant.through;
-      further = let falls = rw c.in-Ok-None.field-0-is at (rw c.in-Ok-None.is at c.in_ok-turn.ensures.falls) in let so = l.invariant.further in omega (arith, falls, so);
-      known = known_both finds digest (stand_of c.args.state.now) (stand_of l.state) (stand_of c.turn.new.state) Step.Waits (spawned_of c.args.state.now) (spawned_of l.state) (spawned_of c.turn.new.state) turned.0 turned.1 l.invariant.known turned.4;
+      through = before_more finds digest sc (g.F.Finds.asked c.args.finder.now) (g.F.Finds.asked l.finder) (g.F.Finds.asked c.turn.new.finder)
+          (stand_of c.args.state.now) (stand_of l.state) (stand_of c.turn.new.state) (spawned_of c.args.state.now) (spawned_of l.state)
+          (spawned_of c.turn.new.state) turned.0 turned.1 turned.2 (rw c.in-Ok-None.is at c.in_ok-turn.ensures.asked) l.invariant.through;
+      further = let falls = rw c.in-Ok-None.field-0-is at (rw c.in-Ok-None.is at c.in_ok-turn.ensures.falls) in let so = l.invariant.further in
+          omega (arith, falls, so);
+      known = known_both finds digest (stand_of c.args.state.now) (stand_of l.state) (stand_of c.turn.new.state) Step.Waits
+          (spawned_of c.args.state.now) (spawned_of l.state) (spawned_of c.turn.new.state) turned.0 turned.1 l.invariant.known turned.4;
       made = grew_both digest sc (spawned_of c.args.state.now) (spawned_of l.state) (spawned_of c.turn.new.state) l.invariant.made made;
     }
 
@@ -60,13 +66,17 @@ returns-in-Ok-Some-clause-through g c =
     let l = c.turns in
     let step = c.in-Ok-Some.step in
     let went = rw c.in-Ok-Some.field-0-is at (rw c.in-Ok-Some.is at c.in_ok-turn.ensures.turns) in
-    let turned = subst (λ f. Turns f digest sc (Some step) (stand_of l.state) (stand_of c.turn.new.state) (spawned_of l.state) (spawned_of c.turn.new.state)) l.invariant.finder went in
-    before_last finds digest sc (g.F.Finds.asked c.args.finder.now) (g.F.Finds.asked l.finder) (g.F.Finds.asked c.turn.new.finder) (stand_of c.args.state.now) (stand_of l.state) (stand_of c.turn.new.state) step (spawned_of c.args.state.now) (spawned_of l.state) (spawned_of c.turn.new.state) turned.0 turned.1 turned.2 turned.3 (rw c.in-Ok-Some.is at c.in_ok-turn.ensures.asked) l.invariant.through
+    let turned = subst (λ f. Turns f digest sc (Some step) (stand_of l.state) (stand_of c.turn.new.state) (spawned_of l.state)
+    (spawned_of c.turn.new.state)) l.invariant.finder went in
+    before_last finds digest sc (g.F.Finds.asked c.args.finder.now) (g.F.Finds.asked l.finder) (g.F.Finds.asked c.turn.new.finder)
+    (stand_of c.args.state.now) (stand_of l.state) (stand_of c.turn.new.state) step (spawned_of c.args.state.now) (spawned_of l.state)
+    (spawned_of c.turn.new.state) turned.0 turned.1 turned.2 turned.3 (rw c.in-Ok-Some.is at c.in_ok-turn.ensures.asked) l.invariant.through
 
 pub returns-in-Ok-Some-clause-made : goal.returns-in-Ok-Some-clause-made
 returns-in-Ok-Some-clause-made g c =
     let made = rw c.in-Ok-Some.is at c.in_ok-turn.ensures.made in
-    grew_both (g.N.Namer.digest c.args.namer.now) c.args.script.now.code (spawned_of c.args.state.now) (spawned_of c.turns.state) (spawned_of c.turn.new.state) c.turns.invariant.made made
+    grew_both (g.N.Namer.digest c.args.namer.now) c.args.script.now.code (spawned_of c.args.state.now) (spawned_of c.turns.state)
+    (spawned_of c.turn.new.state) c.turns.invariant.made made
 
 pub returns-in-Ok-Some-clause-kind : goal.returns-in-Ok-Some-clause-kind
 returns-in-Ok-Some-clause-kind g c =
@@ -81,13 +91,16 @@ returns-in-Ok-Some-clause-known g c =
     let l = c.turns in
     let step = c.in-Ok-Some.step in
     let went = rw c.in-Ok-Some.field-0-is at (rw c.in-Ok-Some.is at c.in_ok-turn.ensures.turns) in
-    let turned = subst (λ f. Turns f digest sc (Some step) (stand_of l.state) (stand_of c.turn.new.state) (spawned_of l.state) (spawned_of c.turn.new.state)) l.invariant.finder went in
-    known_both finds digest (stand_of c.args.state.now) (stand_of l.state) (stand_of c.turn.new.state) step (spawned_of c.args.state.now) (spawned_of l.state) (spawned_of c.turn.new.state) turned.0 turned.1 l.invariant.known turned.4
+    let turned = subst (λ f. Turns f digest sc (Some step) (stand_of l.state) (stand_of c.turn.new.state) (spawned_of l.state)
+    (spawned_of c.turn.new.state)) l.invariant.finder went in
+    known_both finds digest (stand_of c.args.state.now) (stand_of l.state) (stand_of c.turn.new.state) step (spawned_of c.args.state.now)
+    (spawned_of l.state) (spawned_of c.turn.new.state) turned.0 turned.1 l.invariant.known turned.4
 
 pub returns-in-Ok-Some-clause-whole : goal.returns-in-Ok-Some-clause-whole
 returns-in-Ok-Some-clause-whole g c =
     let whole = rw c.in-Ok-Some.is at c.in_ok-turn.ensures.whole in
-    grew_whole_both (g.N.Namer.digest c.args.namer.now) (spawned_of c.args.state.now) (spawned_of c.turns.state) (spawned_of c.turn.new.state) c.turns.invariant.whole whole
+    grew_whole_both (g.N.Namer.digest c.args.namer.now) (spawned_of c.args.state.now) (spawned_of c.turns.state) (spawned_of c.turn.new.state)
+    c.turns.invariant.whole whole
 
 pub returns-in-Ok-Some-clause-further : goal.returns-in-Ok-Some-clause-further
 returns-in-Ok-Some-clause-further g c =

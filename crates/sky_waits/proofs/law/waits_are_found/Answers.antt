@@ -6,4 +6,5 @@ pub returns-clause-wait : goal.returns-clause-wait
 returns-clause-wait c job around see f args vs j h is = found job around see f args vs j h is
 
 pub returns-clause-named : goal.returns-clause-named
-returns-clause-named c tag job around see f args vs j h is = found_low tag (λ i. node_at job.script i) h.forms h.wait (found job around see f args vs j h is)
+returns-clause-named c tag job around see f args vs j h is =
+    found_low tag (λ i. node_at job.script i) h.forms h.wait (found job around see f args vs j h is)

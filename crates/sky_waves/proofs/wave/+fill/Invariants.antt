@@ -8,13 +8,15 @@ use Rattle.sky_waves.proofs.wave.+fill.Given as goal
 
 abbrev pub invariant-fill_vals-loop-value : goal.invariant-fill_vals-loop-value
 invariant-fill_vals-loop-value g l = record {
-  rest : fill_vals (λ d. value_seen data_of (g.K.Known.knows l.objects d)) (vals_of l.values) ≡ behind l.filled (fill_vals (λ d. value_seen data_of (g.K.Known.knows l.objects d)) (vals_of (drop l.value-index l.values)));
+  rest : fill_vals (λ d. value_seen data_of (g.K.Known.knows l.objects d)) (vals_of l.values)
+      ≡ behind l.filled (fill_vals (λ d. value_seen data_of (g.K.Known.knows l.objects d)) (vals_of (drop l.value-index l.values)));
 }
 
 abbrev pub invariant-fill_pairs-loop-pair : goal.invariant-fill_pairs-loop-pair
 invariant-fill_pairs-loop-pair g l = record {
   meets : Meets l.filled (pairs_of (drop l.pair-index l.pairs));
-  rest : fill_pairs (λ d. value_seen data_of (g.K.Known.knows l.objects d)) (pairs_of l.pairs) ≡ behind_pairs l.filled (fill_pairs (λ d. value_seen data_of (g.K.Known.knows l.objects d)) (pairs_of (drop l.pair-index l.pairs)));
+  rest : fill_pairs (λ d. value_seen data_of (g.K.Known.knows l.objects d)) (pairs_of l.pairs)
+      ≡ behind_pairs l.filled (fill_pairs (λ d. value_seen data_of (g.K.Known.knows l.objects d)) (pairs_of (drop l.pair-index l.pairs)));
 }
 
 abbrev pub decreases-fill : goal.decreases-fill

@@ -22,7 +22,8 @@ returns-in_ok-new-in-Ok-from_utf8 c =
     let read : reads bytes ≡ Err c.in-Err.field-0 = subst (λ r. Exactly r (reads bytes)) c.in-Err.is (c.in_ok-value-in-Bytes.ensures).answer in
     let slice : c.as_slice.result.now ≡ bytes = c.as_slice.ensures in
     let utf8 : is_utf8 bytes ≡ true = is_utf8-from_IsUtf8 bytes (subst IsUtf8 slice (c.in-Ok-from_utf8.ensures).cases.1) in
-    ap (λ o. value_of reads (object_view o)) c.in-Bytes.is ∙ ap (λ r. data_or_text r bytes) read ∙ ap (λ t. text_if t bytes) utf8 ∙ ap (λ z. Ok (text z)) (sym slice ∙ sym (c.in-Ok-from_utf8.ensures).cases.0 ∙ sym (c.in_ok-new-in-Ok-from_utf8.ensures))
+    ap (λ o. value_of reads (object_view o)) c.in-Bytes.is ∙ ap (λ r. data_or_text r bytes) read ∙ ap (λ t. text_if t bytes) utf8
+    ∙ ap (λ z. Ok (text z)) (sym slice ∙ sym (c.in-Ok-from_utf8.ensures).cases.0 ∙ sym (c.in_ok-new-in-Ok-from_utf8.ensures))
 
 pub returns-in-Err-from_utf8 : goal.returns-in-Err-from_utf8
 returns-in-Err-from_utf8 c =
@@ -31,4 +32,5 @@ returns-in-Err-from_utf8 c =
     let read : reads bytes ≡ Err c.in-Err.field-0 = subst (λ r. Exactly r (reads bytes)) c.in-Err.is (c.in_ok-value-in-Bytes.ensures).answer in
     let slice : c.as_slice.result.now ≡ bytes = c.as_slice.ensures in
     let utf8 : is_utf8 bytes ≡ false = not_utf8 bytes (λ u. (c.in-Err-from_utf8.ensures).cases.0 (subst IsUtf8 (sym slice) u)) in
-    ap (λ o. value_of reads (object_view o)) c.in-Bytes.is ∙ ap (λ r. data_or_text r bytes) read ∙ ap (λ t. text_if t bytes) utf8 ∙ ap Err (sym c.no_place.ensures)
+    ap (λ o. value_of reads (object_view o)) c.in-Bytes.is ∙ ap (λ r. data_or_text r bytes) read ∙ ap (λ t. text_if t bytes) utf8
+    ∙ ap Err (sym c.no_place.ensures)

@@ -8,4 +8,6 @@ use Rattle.sky_waves.proofs.wave.last_turn.Goals as goal
 
 pub returns : goal.returns
 returns c =
-    last_some (refs (view c.args.value.now)) (writes {N = List ℕ} (view c.args.value.now)) (some_refs c.in_ok-refs.field-0 (refs (view c.args.value.now)) c.in_ok-refs.ensures (λ q. c.if-len-eq0.false (c.len-2.ensures ∙ q))) ∙ ap Answered.fault (sym c.no_place.ensures)
+    last_some (refs (view c.args.value.now)) (writes {N = List ℕ} (view c.args.value.now))
+    (some_refs c.in_ok-refs.field-0 (refs (view c.args.value.now)) c.in_ok-refs.ensures (λ q. c.if-len-eq0.false (c.len-2.ensures ∙ q)))
+    ∙ ap Answered.fault (sym c.no_place.ensures)

@@ -10,4 +10,7 @@ use Rattle.sky_waves.proofs.wave.turn.Goals as goal
 
 pub returns-in_default : goal.returns-in_default
 returns-in_default g c =
-    subst (λ x. IfOk c.turn_all-in_default.result (λ t. TurnsSo t x)) (sym (other_turn (reads {N = List ℕ}) (writes {N = List ℕ}) (g.K.Known.knows c.args.objects.now) c.args.value.now c.in_default.not-Ref (some_refs c.in_ok-refs.field-0 (refs (view c.args.value.now)) c.in_ok-refs.ensures (λ q. c.if-len-eq0.false (c.len-2.ensures ∙ q))))) c.turn_all-in_default.ensures
+    subst (λ x. IfOk c.turn_all-in_default.result (λ t. TurnsSo t x))
+    (sym (other_turn (reads {N = List ℕ}) (writes {N = List ℕ}) (g.K.Known.knows c.args.objects.now) c.args.value.now c.in_default.not-Ref
+    (some_refs c.in_ok-refs.field-0 (refs (view c.args.value.now)) c.in_ok-refs.ensures (λ q. c.if-len-eq0.false (c.len-2.ensures ∙ q)))))
+    c.turn_all-in_default.ensures

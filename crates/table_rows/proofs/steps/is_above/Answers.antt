@@ -5,7 +5,8 @@ use Rattle.table_rows.proofs.steps.is_above.Goals as goal
 
 pub returns-in-Some : goal.returns-in-Some
 returns-in-Some c h =
-    above_latest c.args.j (waits_of c.args.task.now c.args.table.now) c.in-Some.wait.now c.in-Some.ensures.last (ltb-true c.in-Some.wait.now.j c.args.j h)
+    above_latest c.args.j (waits_of c.args.task.now c.args.table.now) c.in-Some.wait.now c.in-Some.ensures.last
+    (ltb-true c.in-Some.wait.now.j c.args.j h)
 
 pub returns-in-None : goal.returns-in-None
 returns-in-None c h =

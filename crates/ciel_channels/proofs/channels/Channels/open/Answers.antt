@@ -11,13 +11,17 @@ pub invariant_of-result : goal.invariant_of-result
 invariant_of-result g c =
     let gates = c.args.gates.items in
     let many : length c.in-Ok-open.lanes ≡ length gates = omega (arith, c.in-Ok-open.ensures.opened.0, c.len-workers.ensures, c.args.gates.ok.0) in
-    opened_stands (arc_value c.args.shop) c.in-Ok-open.lanes gates c.args.eyes.items c.equipped.result.items c.in-Ok-room_for.room.items (vec_capacity c.in-Ok-room_for.room) c.requires.read c.requires.inputs c.in-Ok-open.ensures.opened.1 many c.requires.eyes c.requires.look c.equipped.ensures.tools c.in-Ok-room_for.ensures.empty (omega (arith, c.in-Ok-room_for.ensures.room, c.len-2.ensures, c.args.gates.ok.0))
+    opened_stands (arc_value c.args.shop) c.in-Ok-open.lanes gates c.args.eyes.items c.equipped.result.items c.in-Ok-room_for.room.items
+    (vec_capacity c.in-Ok-room_for.room) c.requires.read c.requires.inputs c.in-Ok-open.ensures.opened.1 many c.requires.eyes c.requires.look
+    c.equipped.ensures.tools c.in-Ok-room_for.ensures.empty
+    (omega (arith, c.in-Ok-room_for.ensures.room, c.len-2.ensures, c.args.gates.ok.0))
 
 pub returns-clause-opened : goal.returns-clause-opened
 returns-clause-opened g c =
     let gates = c.args.gates.items in
     let many : length c.in-Ok-open.lanes ≡ length gates = omega (arith, c.in-Ok-open.ensures.opened.0, c.len-workers.ensures, c.args.gates.ok.0) in
-    opened_as (arc_value c.args.shop) g.G.Gate.entered c.in-Ok-open.lanes gates c.args.eyes.items c.equipped.result.items c.in-Ok-open.ensures.opened.1 many c.requires.eyes c.equipped.ensures.tools
+    opened_as (arc_value c.args.shop) g.G.Gate.entered c.in-Ok-open.lanes gates c.args.eyes.items c.equipped.result.items
+    c.in-Ok-open.ensures.opened.1 many c.requires.eyes c.equipped.ensures.tools
 
 pub open-requires-send-W-In : goal.open-requires-send-W-In
 open-requires-send-W-In g c κs =

@@ -6,4 +6,5 @@ use Rattle.ciel_finds.proofs.brought.BroughtFinds.has.Goals as goal
 pub returns : goal.returns
 returns g c =
     let b = c.args.self.now in
-    c.is_some.ensures ∙ has_so b.shelves.now (job_view b.job.now).script (job_view b.job.now).inputs b.held.now c.requires.spots (λ h. h.now) c.args.name.now c.find.result c.find.ensures.found
+    c.is_some.ensures ∙ has_so b.shelves.now (job_view b.job.now).script (job_view b.job.now).inputs b.held.now c.requires.spots (λ h. h.now)
+    c.args.name.now c.find.result c.find.ensures.found

@@ -6,4 +6,5 @@ use Rattle.ciel_inline.proofs.inline.Inline.open.Goals as goal
 pub returns-in-Ok-clause-opened : goal.returns-in-Ok-clause-opened
 returns-in-Ok-clause-opened g c =
     let gates = c.args.gates.items in
-    opened_as (arc_value c.args.shop) (map g.G.Gate.entered gates) c.in-Ok.kept.items c.len.result (length gates) c.in-Ok.ensures (omega (arith, c.len.ensures, c.args.gates.ok.0))
+    opened_as (arc_value c.args.shop) (map g.G.Gate.entered gates) c.in-Ok.kept.items c.len.result (length gates) c.in-Ok.ensures
+    (omega (arith, c.len.ensures, c.args.gates.ok.0))

@@ -21,7 +21,10 @@ loop-row-preserved c =
     let test = sym c.is_unmade.ensures ∙ c.if-is_unmade.false in
     let l = ap length c.in_ok-marks.ensures.live_is in
     record {
-      filing = subst (λ i. Filing live makers c.args.out.items i c.file_under.new.self) (sym (add-one row)) (files_one live makers c.args.out.items c.requires.graph row m c.file_under.new.self c.maker-maker.result f maker (λ e. ap (λ fs. flag fs row) (sym f.live_is) ∙ made_or_live (entry m.makers row) (flag m.live row) test (sym c.maker-maker.ensures ∙ e)) c.in_ok-file_under.ensures);
+      filing = subst (λ i. Filing live makers c.args.out.items i c.file_under.new.self) (sym (add-one row))
+          (files_one live makers c.args.out.items c.requires.graph row m c.file_under.new.self c.maker-maker.result f maker
+          (λ e. ap (λ fs. flag fs row) (sym f.live_is)
+          ∙ made_or_live (entry m.makers row) (flag m.live row) test (sym c.maker-maker.ensures ∙ e)) c.in_ok-file_under.ensures);
       within = omega (arith, c.loop-row-test.true, c.rows-many.ensures, l);
     }
 
@@ -41,9 +44,11 @@ returns-then-is_unmade-clause-none c =
 pub returns-clause-graph : goal.returns-clause-graph
 returns-clause-graph c =
     let l = ap length c.in_ok-marks.ensures.live_is in
-    (files_all c.args.live.items c.args.makers.items c.args.out.items c.requires.graph c.loop-row.row c.loop-row.marks (omega (arith, c.loop-row-test.false, c.rows-many.ensures, l)) c.loop-row.invariant.within c.loop-row.invariant.filing).0
+    (files_all c.args.live.items c.args.makers.items c.args.out.items c.requires.graph c.loop-row.row c.loop-row.marks
+    (omega (arith, c.loop-row-test.false, c.rows-many.ensures, l)) c.loop-row.invariant.within c.loop-row.invariant.filing).0
 
 pub returns-clause-stands : goal.returns-clause-stands
 returns-clause-stands c =
     let l = ap length c.in_ok-marks.ensures.live_is in
-    (files_all c.args.live.items c.args.makers.items c.args.out.items c.requires.graph c.loop-row.row c.loop-row.marks (omega (arith, c.loop-row-test.false, c.rows-many.ensures, l)) c.loop-row.invariant.within c.loop-row.invariant.filing).1
+    (files_all c.args.live.items c.args.makers.items c.args.out.items c.requires.graph c.loop-row.row c.loop-row.marks
+    (omega (arith, c.loop-row-test.false, c.rows-many.ensures, l)) c.loop-row.invariant.within c.loop-row.invariant.filing).1

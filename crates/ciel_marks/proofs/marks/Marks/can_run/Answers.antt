@@ -11,5 +11,6 @@ returns-then-not-flag c =
     let u = c.args.node in
     let was = ap (λ (x : MarksSeen). x.out) c.self.view_is in (
       ap (λ fs. flag fs u) (sym was) ∙ (ap (λ fs. flag fs u) (sym c.deref.ensures.value) ∙ (sym c.flag.ensures ∙ c.if-not-flag.true)),
-      can_run_node m u c.in-Some.row (λ e. absurd (omega (arith, c.if-node-eq0.false, e))) (sym c.least.ensures ∙ c.in-Some.is) (subst (In c.in-Some.row) (ap (λ (x : MarksSeen). x.list) c.self.view_is) (c.has.ensures h)),
+      can_run_node m u c.in-Some.row (λ e. absurd (omega (arith, c.if-node-eq0.false, e))) (sym c.least.ensures ∙ c.in-Some.is)
+          (subst (In c.in-Some.row) (ap (λ (x : MarksSeen). x.list) c.self.view_is) (c.has.ensures h)),
     )

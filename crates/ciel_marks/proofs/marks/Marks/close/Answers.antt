@@ -27,6 +27,8 @@ returns-clause-stands c =
     λ e needs was r. let m = c.args.self.now in
     let u = c.args.node in
     let z = sym c.goes_on.ensures ∙ c.if-goes_on.false in
-    let p = c.forget.ensures ∙ ap (λ (x : MarksSeen). record x { wanted = set x.wanted u false; touched = set x.touched u false }) c.set_out.ensures in
-    let all = subst (λ (x : MarksSeen). (r : ℕ) → In r (at x.makes u) → flag x.live r ≡ true) c.set_out.ensures (c.all_live.ensures c.if-not-all_live.false) in
+    let p = c.forget.ensures ∙ ap (λ (x : MarksSeen). record x { wanted = set x.wanted u false; touched = set x.touched u false })
+    c.set_out.ensures in
+    let all = subst (λ (x : MarksSeen). (r : ℕ) → In r (at x.makes u) → flag x.live r ≡ true) c.set_out.ensures
+    (c.all_live.ensures c.if-not-all_live.false) in
     subst (λ x. Stands x needs [] []) (sym p) (closes_ended m u needs r was (not_open u (flag c.set_out.new.self.touched u) z) all)

@@ -16,7 +16,10 @@ waiting-init c =
         makers = ap (λ (x : MarksSeen). x.makers) e;
         out = ap (λ (x : MarksSeen). x.out) e;
       };
-      stands = λ needs f r. subst (λ ws. Stands c.set_live-waiting.new.self needs [] ws) (sym c.set_live-waiting.ensures.waiting) (subst (λ x. Stands x needs [] (at m.watchers c.args.row)) (sym e) (placed_stands m c.args.row v needs r f (sym c.maker.ensures ∙ c.in-Some.is) (not_active m v (sym c.is_active.ensures ∙ c.if-is_active.false))));
+      stands = λ needs f r. subst (λ ws. Stands c.set_live-waiting.new.self needs [] ws) (sym c.set_live-waiting.ensures.waiting)
+          (subst (λ x. Stands x needs [] (at m.watchers c.args.row)) (sym e)
+          (placed_stands m c.args.row v needs r f (sym c.maker.ensures ∙ c.in-Some.is)
+          (not_active m v (sym c.is_active.ensures ∙ c.if-is_active.false))));
       none = λ needs r. ap (λ (x : MarksSeen). x.todo) e ∙ r.1;
     }
 
@@ -25,7 +28,8 @@ waiting-preserved c =
     let i = c.waiting.invariant in
     record {
       placed = placed_more c.args.self.now c.waiting.self c.go_on.new.self c.args.row i.placed c.in_ok-go_on.ensures.same;
-      stands = λ needs f r. goes_next c.waiting.self c.go_on.new.self c.in-Some-pop.node c.waiting.waiting c.pop.new.self c.in-Some-pop.ensures needs (i.none needs r) c.in_ok-go_on.ensures.stands (i.stands needs f r);
+      stands = λ needs f r. goes_next c.waiting.self c.go_on.new.self c.in-Some-pop.node c.waiting.waiting c.pop.new.self c.in-Some-pop.ensures
+          needs (i.none needs r) c.in_ok-go_on.ensures.stands (i.stands needs f r);
       none = λ needs r. c.in_ok-go_on.ensures.todo ∙ i.none needs r;
     }
 

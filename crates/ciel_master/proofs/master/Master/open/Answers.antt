@@ -15,5 +15,19 @@ invariant_of-result g c =
     let d = g.N.Namer.digest (arc_value c.args.shop).namer in
     let keys = (arc_value c.args.shop).job.script.keys in
     let ready = c.in_ok-ready.ready in
-    λ going.
-    (open_going d c.args.plan keys c.args.main ready.table c.new.result.items c.in_ok-journal.journal.items (ap (λ (r : ReadySeen P). r.table) c.in_ok-ready.ensures ∙ ap (λ s. learned (g.N.Namer.digest s.namer) c.args.main (empty most_descriptions)) c.deref.ensures) c.new.ensures.items c.in_ok-journal.ensures.empty c.requires.keys c.requires.named c.requires.main, open_gone d c.args.main ready.table c.in_ok-lost.lost.items (ap (λ (r : ReadySeen P). r.table) c.in_ok-ready.ensures ∙ ap (λ s. learned (g.N.Namer.digest s.namer) c.args.main (empty most_descriptions)) c.deref.ensures) c.in_ok-lost.ensures.empty, open_room c.args.plan.losses c.in_ok-lost.lost.items c.in_ok-journal.journal.items c.len-losses.result (vec_capacity c.in_ok-journal.journal) (vec_capacity c.in_ok-lost.lost) c.in_ok-lost.ensures.empty c.in_ok-journal.ensures.empty c.len-losses.ensures.len c.in_ok-journal.ensures.room c.in_ok-lost.ensures.room, open_marked c.args.plan.losses c.in_ok-lost.lost.items (arc_value c.args.shop).shelves c.args.marker c.args.plan.workers c.requires.of c.requires.unmarked c.in_ok-lost.ensures.empty c.requires.workers c.requires.losses, open_ready c.args.main c.args.plan keys _ c.new.result.items c.in_ok-journal.journal.items ready c.in_ok-ready.ensures c.new.ensures.items)
+    λ going. (
+      open_going d c.args.plan keys c.args.main ready.table c.new.result.items c.in_ok-journal.journal.items
+          (ap (λ (r : ReadySeen P). r.table) c.in_ok-ready.ensures
+          ∙ ap (λ s. learned (g.N.Namer.digest s.namer) c.args.main (empty most_descriptions)) c.deref.ensures) c.new.ensures.items
+          c.in_ok-journal.ensures.empty c.requires.keys c.requires.named c.requires.main,
+      open_gone d c.args.main ready.table c.in_ok-lost.lost.items
+          (ap (λ (r : ReadySeen P). r.table) c.in_ok-ready.ensures
+          ∙ ap (λ s. learned (g.N.Namer.digest s.namer) c.args.main (empty most_descriptions)) c.deref.ensures) c.in_ok-lost.ensures.empty,
+      open_room c.args.plan.losses c.in_ok-lost.lost.items c.in_ok-journal.journal.items c.len-losses.result
+          (vec_capacity c.in_ok-journal.journal) (vec_capacity c.in_ok-lost.lost) c.in_ok-lost.ensures.empty c.in_ok-journal.ensures.empty
+          c.len-losses.ensures.len c.in_ok-journal.ensures.room c.in_ok-lost.ensures.room,
+      open_marked c.args.plan.losses c.in_ok-lost.lost.items (arc_value c.args.shop).shelves c.args.marker c.args.plan.workers c.requires.of
+          c.requires.unmarked c.in_ok-lost.ensures.empty c.requires.workers c.requires.losses,
+      open_ready c.args.main c.args.plan keys _ c.new.result.items c.in_ok-journal.journal.items ready c.in_ok-ready.ensures
+          c.new.ensures.items,
+    )

@@ -12,4 +12,7 @@ invariant_of-self g c =
     let out = c.self.inside.out.items in
     let res = c.placed.result in
     let known = subst (λ (x : ReadySeen g.row.P.Denot). Known x.table c.args.name.now) (sym c.self.view_is) c.requires.known in
-    subst (λ x. IfSome res (λ m. FitsOut main x out m)) (sym c.in-Ok.ensures.placed) (placed_fits main t out c.self.inside.marks c.self.invariant c.take-marks.result c.take-marks.ensures.value res c.args.name.now c.args.place c.find_live-row.result.1 c.find_live-row.result.0 known c.find_live-row.ensures.live c.find_live-row.ensures.row c.placed.ensures)
+    subst (λ x. IfSome res (λ m. FitsOut main x out m)) (sym c.in-Ok.ensures.placed)
+    (placed_fits main t out c.self.inside.marks c.self.invariant c.take-marks.result c.take-marks.ensures.value res c.args.name.now
+    c.args.place c.find_live-row.result.1 c.find_live-row.result.0 known c.find_live-row.ensures.live c.find_live-row.ensures.row
+    c.placed.ensures)

@@ -20,5 +20,10 @@ invariant_of-self g c =
     let d = c.args.named.now in
     let eq = c.in-Ok.ensures.learned in
     let res = c.learned.result in
-    let from = subst (λ o. IfSome res (λ k. LearnedFrom new o c.take-marks.result c.len-held.result c.in-Ok.row k)) c.as_slice.ensures.value c.learned.ensures in
-    subst (λ x. IfSome res (λ m. FitsOut main x out m)) (sym eq) (learned_fits main t out c.self.inside.marks c.self.invariant c.take-marks.result c.take-marks.ensures.value digest d res c.len-held.result c.in-Ok.row c.len-held.ensures.sound.once c.len-held.ensures.number (subst (λ x. find d.name x ≡ Some c.in-Ok.row) eq c.in-Ok.ensures.found) (subst (λ x. IfSome res (λ k. LearnedFrom x out c.take-marks.result c.len-held.result c.in-Ok.row k)) eq from))
+    let from = subst (λ o. IfSome res (λ k. LearnedFrom new o c.take-marks.result c.len-held.result c.in-Ok.row k)) c.as_slice.ensures.value
+    c.learned.ensures in
+    subst (λ x. IfSome res (λ m. FitsOut main x out m)) (sym eq)
+    (learned_fits main t out c.self.inside.marks c.self.invariant c.take-marks.result c.take-marks.ensures.value digest d res
+    c.len-held.result c.in-Ok.row c.len-held.ensures.sound.once c.len-held.ensures.number
+    (subst (λ x. find d.name x ≡ Some c.in-Ok.row) eq c.in-Ok.ensures.found)
+    (subst (λ x. IfSome res (λ k. LearnedFrom x out c.take-marks.result c.len-held.result c.in-Ok.row k)) eq from))

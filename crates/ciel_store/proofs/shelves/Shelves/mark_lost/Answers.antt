@@ -16,7 +16,8 @@ compare_exchange-requires g c =
 pub returns : goal.returns
 returns g c =
     let h = c.compare_exchange.ensures in
-    let own = marked_is c.args.loss.worker c.from.result c.marker.inside.seat.me.0 c.compare_exchange.new.seat.me.0 c.compare_exchange.result c.args.loss refl c.from.ensures h.2.0 in
+    let own = marked_is c.args.loss.worker c.from.result c.marker.inside.seat.me.0 c.compare_exchange.new.seat.me.0 c.compare_exchange.result
+    c.args.loss refl c.from.ensures h.2.0 in
     let now = c.marker.view_is in
     λ k. record {
       of = (h.0 ∙ ap (λ x. x.of) now) k;

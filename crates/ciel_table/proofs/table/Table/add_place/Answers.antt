@@ -20,11 +20,14 @@ invariant_of-self g c =
     let t : TableSeen g.row.P.Denot = seen_of f.limit f.rows.items f.shown f.saves.items f.dropped.workers in
     let e = ap (find c.args.name.now) c.self.view_is ∙ (sym c.find.ensures.row ∙ c.in-Some.is) in
     let h = subst (λ (s : TableSeen g.row.P.Denot). Here s.gone (g.P.At.at c.args.place)) (sym c.self.view_is) c.requires.here in
-    placed_maybe g.P.At.at t f.row_of f.saves_of c.args.name.now c.args.place c.in-Some.id c.index_mut-row.result.now c.add.new.self c.add.result c.self.invariant e c.index_mut-row.ensures.value h c.add.ensures.ok c.add.ensures.err
+    placed_maybe g.P.At.at t f.row_of f.saves_of c.args.name.now c.args.place c.in-Some.id c.index_mut-row.result.now c.add.new.self c.add.result
+    c.self.invariant e c.index_mut-row.ensures.value h c.add.ensures.ok c.add.ensures.err
 
 pub returns-clause-placed : goal.returns-clause-placed
 returns-clause-placed g c =
     let f = c.self.inside in
     let t : TableSeen g.row.P.Denot = seen_of f.limit f.rows.items f.shown f.saves.items f.dropped.workers in
     let e = ap (find c.args.name.now) c.self.view_is ∙ (sym c.find.ensures.row ∙ c.in-Some.is) in
-    on_ok c.add.result (λ k. ap (λ rs. seen_of f.limit rs f.shown f.saves.items f.dropped.workers) (placed_rows g.P.At.at t c.args.name.now c.args.place c.in-Some.id c.index_mut-row.result.now c.add.new.self e c.index_mut-row.ensures.value k) ∙ ap (placed c.args.name.now c.args.place) c.self.view_is) c.add.ensures.ok
+    on_ok c.add.result (λ k. ap (λ rs. seen_of f.limit rs f.shown f.saves.items f.dropped.workers)
+    (placed_rows g.P.At.at t c.args.name.now c.args.place c.in-Some.id c.index_mut-row.result.now c.add.new.self e
+    c.index_mut-row.ensures.value k) ∙ ap (placed c.args.name.now c.args.place) c.self.view_is) c.add.ensures.ok

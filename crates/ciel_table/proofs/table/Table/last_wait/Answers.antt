@@ -19,7 +19,8 @@ pub latest-requires-in-Some : goal.latest-requires-in-Some
 latest-requires-in-Some g c =
     let e = sym (c.self.invariant.saves c.in-Of.name) ∙ (sym c.get.ensures.value ∙ (sym c.copied.ensures ∙ c.in-Some.is)) in
     let l = place_within saves_name c.in-Of.name c.self.inside.saves.items c.in-Some.at e in
-    let s = all_at (λ (s : Saves g.row.P.Denot). WaitsSound g.P.At.at c.self.inside.dropped.workers s.waits) c.self.inside.saves.items c.in-Some.at c.index.result.now c.self.invariant.sound.saved l in
+    let s = all_at (λ (s : Saves g.row.P.Denot). WaitsSound g.P.At.at c.self.inside.dropped.workers s.waits) c.self.inside.saves.items
+    c.in-Some.at c.index.result.now c.self.invariant.sound.saved l in
     record { rising = subst (λ (s : Saves g.row.P.Denot). Rising s.waits) (sym c.index.ensures) s.rising }
 
 pub returns-in-Some : goal.returns-in-Some
@@ -32,7 +33,8 @@ returns-in-Some g c =
     ∙ (ap (λ (o : Option (Saves g.row.P.Denot)). latest (option_map_or (λ (s : Saves g.row.P.Denot). s.waits) o [])) f.1
     ∙ ap (λ (s : Saves g.row.P.Denot). latest s.waits) (sym c.index.ensures))) in
     record {
-      last = subst (λ (o : Option (Wait g.row.P.Denot)). MatchOption c.latest-in-Some.result (o ≡ None) (λ w. o ≡ Some w.now)) (sym same) c.latest-in-Some.ensures;
+      last = subst (λ (o : Option (Wait g.row.P.Denot)). MatchOption c.latest-in-Some.result (o ≡ None) (λ w. o ≡ Some w.now)) (sym same)
+          c.latest-in-Some.ensures;
     }
 
 pub returns-in-None : goal.returns-in-None

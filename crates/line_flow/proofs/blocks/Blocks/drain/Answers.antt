@@ -45,8 +45,10 @@ returns-in-Count-clause-ok c =
     on_ok c.empties.result
     (λ v made e args drained seen h.
     let k = subst (λ (b : Blocks). KeptBlocks b e args n drained seen) c.in-Count.is h in
-    let early : early_by (Some e) args n seen.all ≡ replicate n [] = ap (λ (x : Executor). early_by (Some x) args n seen.all) k.0 in
-    (follows_none n drained v.items (early_by (Some e) args n seen.all) k.2 made early, subst (λ (b : Blocks). KeptBlocks b e args n (early_by (Some e) args n seen.all) seen) (sym c.in-Count.is) (k.0, k.1, early)))
+    let early : early_by (Some e) args n seen.all ≡ replicate n [] = ap (λ (x : Executor). early_by (Some x) args n seen.all) k.0 in (
+      follows_none n drained v.items (early_by (Some e) args n seen.all) k.2 made early,
+      subst (λ (b : Blocks). KeptBlocks b e args n (early_by (Some e) args n seen.all) seen) (sym c.in-Count.is) (k.0, k.1, early),
+    ))
     c.empties.ensures
 
 pub returns-in-Same-clause-ok : goal.returns-in-Same-clause-ok
@@ -55,8 +57,10 @@ returns-in-Same-clause-ok c =
     on_ok c.empties-in-Same.result
     (λ v made e args drained seen h.
     let k = subst (λ (b : Blocks). KeptBlocks b e args n drained seen) c.in-Same.is h in
-    let early : early_by (Some e) args n seen.all ≡ replicate n [] = ap (λ (x : Executor). early_by (Some x) args n seen.all) k.0 in
-    (follows_none n drained v.items (early_by (Some e) args n seen.all) k.2 made early, subst (λ (b : Blocks). KeptBlocks b e args n (early_by (Some e) args n seen.all) seen) (sym c.in-Same.is) (k.0, k.1, early)))
+    let early : early_by (Some e) args n seen.all ≡ replicate n [] = ap (λ (x : Executor). early_by (Some x) args n seen.all) k.0 in (
+      follows_none n drained v.items (early_by (Some e) args n seen.all) k.2 made early,
+      subst (λ (b : Blocks). KeptBlocks b e args n (early_by (Some e) args n seen.all) seen) (sym c.in-Same.is) (k.0, k.1, early),
+    ))
     c.empties-in-Same.ensures
 
 pub returns-in-Kept-clause-ok : goal.returns-in-Kept-clause-ok
@@ -65,6 +69,8 @@ returns-in-Kept-clause-ok c =
     on_ok c.empties-in-Kept.result
     (λ v made e args drained seen h.
     let k = subst (λ (b : Blocks). KeptBlocks b e args n drained seen) c.in-Kept.is h in
-    let early : early_by (Some e) args n seen.all ≡ replicate n [] = early_kept e args n seen.all k.0 in
-    (follows_none n drained v.items (early_by (Some e) args n seen.all) k.3 made early, subst (λ (b : Blocks). KeptBlocks b e args n (early_by (Some e) args n seen.all) seen) (sym c.in-Kept.is) (k.0, k.1, k.2, early)))
+    let early : early_by (Some e) args n seen.all ≡ replicate n [] = early_kept e args n seen.all k.0 in (
+      follows_none n drained v.items (early_by (Some e) args n seen.all) k.3 made early,
+      subst (λ (b : Blocks). KeptBlocks b e args n (early_by (Some e) args n seen.all) seen) (sym c.in-Kept.is) (k.0, k.1, k.2, early),
+    ))
     c.empties-in-Kept.ensures

@@ -13,7 +13,8 @@ returns-in-Kept-clause-ok c =
     (λ x put e args n drained seen none h.
     let k = subst (λ (b : Blocks). KeptBlocks b e args n drained seen) c.in-Kept.is h in (
       k.0,
-      ap lines put ∙ lines-append c.in-Kept.kept.items (joined (lines block)) k.2 ∙ ap₂ (λ (xs ys : List (List ℕ)). xs ++ ys) k.1 (lines-joined block),
+      ap lines put ∙ lines-append c.in-Kept.kept.items (joined (lines block)) k.2
+          ∙ ap₂ (λ (xs ys : List (List ℕ)). xs ++ ys) k.1 (lines-joined block),
       ap is_open put ∙ closed-append c.in-Kept.kept.items (joined (lines block)) k.2 (joined-closed block),
       k.3,
     ))

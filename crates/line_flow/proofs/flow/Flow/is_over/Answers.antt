@@ -8,7 +8,8 @@ use Rattle.line_flow.proofs.flow.Flow.is_over.Goals as goal
 pub returns : goal.returns
 returns c over t inputs more s same =
     let rest = c.args.self.now.rest.items in
-    let fed : all_lines t.fed ≡ all_lines s.settled ++ lines rest = sym (all-more t.fed) ∙ ap all_lines s.fed ∙ all-grow t.last rest s.settled s.ends in
+    let fed : all_lines t.fed ≡ all_lines s.settled ++ lines rest = sym (all-more t.fed) ∙ ap all_lines s.fed
+    ∙ all-grow t.last rest s.settled s.ends in
     let all : all_lines inputs ≡ all_lines s.settled ++ (lines rest ++ more) =
     same ∙ ap (λ (ls : List (List ℕ)). ls ++ more) fed ∙ append_assoc (all_lines s.settled) (lines rest) more in
     gives_right t.executor t.args t.outputs s.kind s.pairs inputs s.right

@@ -12,4 +12,5 @@ returns-clause-some c unlike t s =
 pub returns-clause-all : goal.returns-clause-all
 returns-clause-all c same t s =
     let f = c.args.self.now in
-    whole_took f c.take.new.self t c.take.result c.take.ensures.took (omega (arith, eqb-true c.take.result c.len-end.result same, c.len-end.ensures)) s
+    whole_took f c.take.new.self t c.take.result c.take.ensures.took
+    (omega (arith, eqb-true c.take.result c.len-end.result same, c.len-end.ensures)) s

@@ -11,4 +11,5 @@ returns-clause-ok c t s later some =
     let input = c.args.input in
     let next : Flow = record f { last = input; rest = c.in-Ok.rest } in
     let whole = c.settle_all.ensures.all (search rules) t s in
-    c.settle.ensures.stands (fed_more t input piece) (stands_later f next t input piece refl refl refl refl c.in-Ok.ensures.items refl later some whole)
+    c.settle.ensures.stands (fed_more t input piece)
+    (stands_later f next t input piece refl refl refl refl c.in-Ok.ensures.items refl later some whole)

@@ -48,10 +48,13 @@ returns-in-Deal-clause-ok c =
     (λ v made handed e args drained ls h.
     let k = subst (λ (b : Lined). KeptLined b e args n drained ls) c.in-Deal.is h in
     let early : early_by (Some e) args n ls ≡ map joined (dealt n ls) = ap (λ (x : Executor). early_by (Some x) args n ls) k.0 in
-    let follows : Follows drained v.items (map joined (dealt n ls)) = subst (λ (more : List (List ℕ)). Follows drained more (map joined (dealt n ls))) (sym made) (streams_follow c.in-Deal.turns.outs.items n drained ls k.1.outs) in
+    let follows : Follows drained v.items (map joined (dealt n ls)) =
+    subst (λ (more : List (List ℕ)). Follows drained more (map joined (dealt n ls))) (sym made)
+    (streams_follow c.in-Deal.turns.outs.items n drained ls k.1.outs) in
     let outs = streams_drained c.in-Deal.turns.outs.items c.drain_all.new.outs.items n drained ls k.1.outs handed in (
       subst (Follows drained v.items) (sym early) follows,
-      subst (λ (ds : List (List ℕ)). KeptLined (Lined.Deal record { outs = c.drain_all.new.outs; turn = c.in-Deal.turns.turn }) e args n ds ls) (sym early)
+      subst (λ (ds : List (List ℕ)). KeptLined (Lined.Deal record { outs = c.drain_all.new.outs; turn = c.in-Deal.turns.turn }) e args n ds ls)
+          (sym early)
           (k.0, record { outs = outs; below = k.1.below; turn = k.1.turn }),
     ))
     c.drain_all.ensures.ok c.drain_all.ensures.streams

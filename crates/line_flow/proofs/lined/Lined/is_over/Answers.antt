@@ -20,6 +20,7 @@ returns-in-Head c over e args n drained ls inputs more h same =
 pub returns-in-Deal : goal.returns-in-Deal
 returns-in-Deal c over e args n drained ls inputs more h same =
     let k = subst (λ (l : Lined). KeptLined l e args n drained ls) c.in-Deal.is h in
-    let now : list_any is_over c.in-Deal.turns.outs.items ≡ true = ap (list_any is_over) (sym c.as_slice.ensures.value) ∙ sym c.is_any_over.ensures ∙ over in
+    let now : list_any is_over c.in-Deal.turns.outs.items ≡ true = ap (list_any is_over) (sym c.as_slice.ensures.value)
+    ∙ sym c.is_any_over.ensures ∙ over in
     ap (λ (x : Executor). row x args inputs n) k.0 ∙ ap (λ (xs : List (List ℕ)). with_lines (dealt n xs)) same
     ∙ dealt_stays c.in-Deal.turns.outs.items n drained ls more now k.1.outs

@@ -48,7 +48,8 @@ returns-in-Tally-clause-ok c =
     let k = subst (λ (l : Lined). KeptLined l e args n drained ls) c.in-Tally.is h in
     let ones = map (λ (l : List ℕ). (l, 1)) ls in (
       k.0,
-      add ∙ ap (λ (es : List (List ℕ × ℕ)). with_more es line 1) k.1 ∙ with_more-totals ones line 1 ∙ ap totals (sym (map-append (λ (l : List ℕ). (l, 1)) ls (line ∷ []))),
+      add ∙ ap (λ (es : List (List ℕ × ℕ)). with_more es line 1) k.1 ∙ with_more-totals ones line 1
+          ∙ ap totals (sym (map-append (λ (l : List ℕ). (l, 1)) ls (line ∷ []))),
       k.2,
     ))
     c.add.ensures.ok

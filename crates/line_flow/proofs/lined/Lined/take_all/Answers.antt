@@ -1,4 +1,5 @@
-use Rattle.std.proofs.Common.{◌≡◌, ◌+◌, ◌-◌, ◌<◌, ℕ, List, [], ◌∷◌, ◌++◌, false, length, take, drop, sym, ap, subst, ◌∙◌, arith, length-drop, append_assoc}
+use Rattle.std.proofs.Common.{◌≡◌, ◌+◌, ◌-◌, ◌<◌, ℕ, List, [], ◌∷◌, ◌++◌, false, length, take, drop, sym, ap, subst, ◌∙◌, arith, length-drop}
+use Rattle.std.proofs.Common.{append_assoc}
 use Rattle.std.proofs.Math.Seq.{take-add}
 use Rattle.std.proofs.lemmas.List.{take_rest}
 use Rattle.line_kit.specs.Lines.{lines, is_open}
@@ -23,9 +24,12 @@ loop-taken-preserved c =
       bound = omega (arith, c.first_line-size.ensures.bound, ap length all, length-drop taken block, i.bound);
       closed = λ below.
           let fits : size < length (take (length block - taken) rest) = omega (arith, below, ap length all, length-drop taken block) in
-          ap is_open next ∙ closed-append first (take size rest) shut (ap (λ (ys : List ℕ). is_open (take size ys)) (sym all) ∙ c.first_line-size.ensures.closed fits);
+          ap is_open next ∙ closed-append first (take size rest) shut
+          (ap (λ (ys : List ℕ). is_open (take size ys)) (sym all) ∙ c.first_line-size.ensures.closed fits);
       keeps = λ e args n drained ls some h.
           subst (KeptLined c.take.new.self e args n drained)
-          (append_assoc ls (lines first) (line ∷ []) ∙ ap (λ (ms : List (List ℕ)). ls ++ ms) (sym (ap lines next ∙ lines-append first (take size rest) shut ∙ ap (λ (ms : List (List ℕ)). lines first ++ ms) one)))
+          (append_assoc ls (lines first) (line ∷ [])
+          ∙ ap (λ (ms : List (List ℕ)). ls ++ ms) (sym
+          (ap lines next ∙ lines-append first (take size rest) shut ∙ ap (λ (ms : List (List ℕ)). lines first ++ ms) one)))
           (c.in-Ok.ensures.ok e args n drained (ls ++ lines first) some (i.keeps e args n drained ls some h));
     }

@@ -9,7 +9,8 @@ abbrev pub invariant-loop-taken : goal.invariant-loop-taken
 invariant-loop-taken l = record {
   bound : l.taken ≤ length l.block;
   closed : l.taken < length l.block → is_open (take l.taken l.block) ≡ false;
-  keeps : (e : Executor) (args : Pairs (List ℕ)) (n : ℕ) (drained : List (List ℕ)) (ls : List (List ℕ)) → 0 < n → KeptLined l.fn.self e args n drained ls
+  keeps : (e : Executor) (args : Pairs (List ℕ)) (n : ℕ) (drained : List (List ℕ)) (ls : List (List ℕ)) → 0 < n
+      → KeptLined l.fn.self e args n drained ls
       → KeptLined l.self e args n drained (ls ++ lines (take l.taken l.block));
 }
 

@@ -1,4 +1,5 @@
-use Rattle.std.proofs.Common.{◌≡◌, ◌+◌, ◌-◌, ◌<◌, ◌≤◌, ℕ, Bool, true, false, List, [], ◌∷◌, ◌++◌, length, take, drop, sym, ap, ◌∙◌, arith, append-nil, length-drop, drop-drop}
+use Rattle.std.proofs.Common.{◌≡◌, ◌+◌, ◌-◌, ◌<◌, ◌≤◌, ℕ, Bool, true, false, List, [], ◌∷◌, ◌++◌, length, take, drop, sym, ap, ◌∙◌, arith, append-nil}
+use Rattle.std.proofs.Common.{length-drop, drop-drop}
 use Rattle.std.specs.Str.{bytes_eq}
 use Rattle.std.specs.Bool.{MatchBool}
 use Rattle.std.proofs.lemmas.List.{drop_all, take_all}
@@ -33,7 +34,8 @@ next_line : (at size : ℕ) (xs ys l : List ℕ) → ys ≡ xs → at ≤ length
     → (size < length (take (length ys - at) (drop at ys)) → is_open (take size (take (length ys - at) (drop at ys))) ≡ false)
     → lines (drop at xs) ≡ l ∷ lines (drop (at + size) xs)
 next_line at size xs ys l same h e closed =
-    let all : take (length ys - at) (drop at ys) ≡ drop at xs = take_all (length ys - at) (drop at ys) (omega (arith, length-drop at ys)) ∙ ap (drop at) same in
+    let all : take (length ys - at) (drop at ys) ≡ drop at xs = take_all (length ys - at) (drop at ys) (omega (arith, length-drop at ys))
+    ∙ ap (drop at) same in
     sym (ap lines all) ∙ first_cut size (take (length ys - at) (drop at ys)) l e closed
     ∙ ap (λ (zs : List ℕ). l ∷ lines (drop size zs)) all ∙ ap (λ (zs : List ℕ). l ∷ lines zs) (drop-drop size at xs)
 
@@ -43,7 +45,8 @@ returns-then-eq c first second h =
     let xs = p.first.items in
     let own = c.first_line-size.result.0.now in
     let size = c.first_line-size.result.1 in
-    let next = next_line p.at size xs c.deref.result.now own c.deref.ensures.value h.within c.first_line-size.ensures.line c.first_line-size.ensures.closed in
+    let next = next_line p.at size xs c.deref.result.now own c.deref.ensures.value h.within c.first_line-size.ensures.line
+    c.first_line-size.ensures.closed in
     let alike : bytes_eq own c.args.line.now ≡ true = sym c.if-eq.ensures in
     record {
       kept = h.kept;
@@ -51,7 +54,8 @@ returns-then-eq c first second h =
       within = omega (arith, h.within, c.first_line-size.ensures.bound, c.deref.ensures.len, length-drop p.at c.deref.result.now);
       compared =
           map_match p.differs (differ_more first second c.args.line.now)
-          (λ e. equal_next first second own c.args.line.now (lines (drop (p.at + size) xs)) (e ∙ ap (λ (ls : List (List ℕ)). second ++ ls) next) alike) h.compared;
+          (λ e. equal_next first second own c.args.line.now (lines (drop (p.at + size) xs)) (e ∙ ap (λ (ls : List (List ℕ)). second ++ ls) next)
+          alike) h.compared;
     }
 
 pub returns-else-eq : goal.returns-else-eq
@@ -60,7 +64,8 @@ returns-else-eq c first second h =
     let xs = p.first.items in
     let own = c.first_line-size.result.0.now in
     let size = c.first_line-size.result.1 in
-    let next = next_line p.at size xs c.deref.result.now own c.deref.ensures.value h.within c.first_line-size.ensures.line c.first_line-size.ensures.closed in
+    let next = next_line p.at size xs c.deref.result.now own c.deref.ensures.value h.within c.first_line-size.ensures.line
+    c.first_line-size.ensures.closed in
     let unlike : bytes_eq own c.args.line.now ≡ false = sym c.if-eq.ensures in
     record {
       kept = h.kept;
@@ -68,5 +73,6 @@ returns-else-eq c first second h =
       within = h.within;
       compared =
           now_differ p.differs first second c.args.line.now (drop p.at xs)
-          (λ e. differ_next first second own c.args.line.now (lines (drop (p.at + size) xs)) (e ∙ ap (λ (ls : List (List ℕ)). second ++ ls) next) unlike) h.compared;
+          (λ e. differ_next first second own c.args.line.now (lines (drop (p.at + size) xs)) (e ∙ ap (λ (ls : List (List ℕ)). second ++ ls) next)
+          unlike) h.compared;
     }

@@ -12,7 +12,10 @@ loop-rest-preserved c =
     let size = c.first_line-size.result.1 in
     let line = c.first_line-size.result.0.now in (
       i.0 ++ line ∷ [],
-      i.1 ∙ ap (λ (ls : List (List ℕ)). i.0 ++ ls) (first_cut size xs line c.first_line-size.ensures.line c.first_line-size.ensures.closed ∙ ap (λ (ys : List ℕ). line ∷ lines ys) (sym (take_rest xs size)))
+      i.1 ∙ ap (λ (ls : List (List ℕ)). i.0 ++ ls)
+          (first_cut size xs line c.first_line-size.ensures.line c.first_line-size.ensures.closed
+          ∙ ap (λ (ys : List ℕ). line ∷ lines ys) (sym (take_rest xs size)))
           ∙ sym (append_assoc i.0 (line ∷ []) _),
-      λ first second h. subst (HasPair c.compare.new.self first) (append_assoc second i.0 (line ∷ [])) (c.compare.ensures first (second ++ i.0) (i.2 first second h)),
+      λ first second h. subst (HasPair c.compare.new.self first) (append_assoc second i.0 (line ∷ []))
+          (c.compare.ensures first (second ++ i.0) (i.2 first second h)),
     )

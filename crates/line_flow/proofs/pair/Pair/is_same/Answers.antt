@@ -9,7 +9,8 @@ pub returns-then-not-self : goal.returns-then-not-self
 returns-then-not-self c first second h =
     let p = c.args.self.now in
     let same = when_false _ p.differs c.if-not-self.true h.compared in
-    ap (λ (n : ℕ). nat_eq p.at n) (let n : c.len.result ≡ length p.first.items = omega (arith, c.len.ensures) in n) ∙ rest_decides p.at p.first.items first second h.within same
+    ap (λ (n : ℕ). nat_eq p.at n) (let n : c.len.result ≡ length p.first.items = omega (arith, c.len.ensures) in n)
+    ∙ rest_decides p.at p.first.items first second h.within same
 
 pub returns-else-not-self : goal.returns-else-not-self
 returns-else-not-self c first second h =

@@ -13,7 +13,8 @@ returns-then-input-eq0-clause-ok c =
     let zero : c.args.input ≡ 0 = c.if-input-eq0.true in
     on_ok c.put_lines.result
     (λ a put first second none h.
-    let more = first_more p.differs p.at p.first.items c.put_lines.new.bytes.items block first second (none zero) put h.kept h.closed h.within h.compared in
+    let more = first_more p.differs p.at p.first.items c.put_lines.new.bytes.items block first second (none zero) put h.kept h.closed h.within
+    h.compared in
     let q : Pair = record { first = c.put_lines.new.bytes; at = p.at; differs = p.differs } in
     let whole : HasPair q (first ++ lines block) second = record {
       kept = more.0;
@@ -31,5 +32,6 @@ returns-else-input-eq1-clause-ok c first second none h =
     let p = c.args.self.now in
     let zeroth : at_input c.args.input 0 (lines block) ≡ [] = at_none c.args.input 0 (lines block) (λ e. c.if-input-eq0.false e) in
     let other : at_input c.args.input 1 (lines block) ≡ [] = at_none c.args.input 1 (lines block) (λ e. c.if-input-eq1.false e) in
-    subst (λ (ls : List (List ℕ)). HasPair p ls (second ++ at_input c.args.input 1 (lines block))) (sym (ap (λ (ls : List (List ℕ)). first ++ ls) zeroth ∙ append-nil first))
+    subst (λ (ls : List (List ℕ)). HasPair p ls (second ++ at_input c.args.input 1 (lines block)))
+    (sym (ap (λ (ls : List (List ℕ)). first ++ ls) zeroth ∙ append-nil first))
     (subst (HasPair p first) (sym (ap (λ (ls : List (List ℕ)). second ++ ls) other ∙ append-nil second)) h)

@@ -13,5 +13,6 @@ returns-in-None-clause-ok c =
     let line = c.args.line.now in
     let n = c.args.number in
     on_ok c.begin.result
-    (λ a h. h ∙ ap (λ (es : List Entry). insert_entry (slice_cmp nat_cmp) (seen_sums es) line n) (c.in-None.ensures.same refl) ∙ more_new line entries n (c.in-None.ensures.absent refl))
+    (λ a h. h ∙ ap (λ (es : List Entry). insert_entry (slice_cmp nat_cmp) (seen_sums es) line n) (c.in-None.ensures.same refl)
+    ∙ more_new line entries n (c.in-None.ensures.absent refl))
     c.begin.ensures.ok

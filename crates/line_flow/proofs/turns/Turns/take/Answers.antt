@@ -10,7 +10,8 @@ returns-then-self-len-2-clause-ok c n drained ls some h =
     let after : Stream = record { bytes = c.put_line.new.bytes; gone = before.gone } in
     let round : t.turn + 1 ≡ n = omega (arith, c.if-self-len-2.true, c.len-2.ensures, h.outs.count) in
     record {
-      outs = streams_on n t.turn t.outs.items drained ls c.args.line.now before after h.below h.turn h.outs (sym c.index_mut.ensures.value) c.in_ok-put_line.ensures.ok refl;
+      outs = streams_on n t.turn t.outs.items drained ls c.args.line.now before after h.below h.turn h.outs (sym c.index_mut.ensures.value)
+          c.in_ok-put_line.ensures.ok refl;
       below = some;
       turn = turn_round n t.turn ls c.args.line.now round h.turn;
     }
@@ -21,7 +22,8 @@ returns-else-self-len-2-clause-ok c n drained ls some h =
     let before = c.index_mut.result.now in
     let after : Stream = record { bytes = c.put_line.new.bytes; gone = before.gone } in
     record {
-      outs = streams_on n t.turn t.outs.items drained ls c.args.line.now before after h.below h.turn h.outs (sym c.index_mut.ensures.value) c.in_ok-put_line.ensures.ok refl;
+      outs = streams_on n t.turn t.outs.items drained ls c.args.line.now before after h.below h.turn h.outs (sym c.index_mut.ensures.value)
+          c.in_ok-put_line.ensures.ok refl;
       below = omega (arith, c.if-self-len-2.false, c.len-2.ensures, h.outs.count, h.below);
       turn = turn_on n t.turn ls c.args.line.now h.turn;
     }

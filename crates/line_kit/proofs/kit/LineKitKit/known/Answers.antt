@@ -12,4 +12,6 @@ none_there (Some x) e = absurd cc
 pub returns-clause-unknown : goal.returns-clause-unknown
 unfolding gives
 returns-clause-unknown c off args inputs n =
-    ap (λ o. with_executor o args inputs n) (none_there (executor_of c.args.executor.now) (ap (λ (t : List ℕ). is_some (executor_of t)) (sym c.as_str.ensures.value) ∙ ap is_some (sym c.executor_of.ensures) ∙ sym c.is_some.ensures ∙ off))
+    ap (λ o. with_executor o args inputs n) (none_there (executor_of c.args.executor.now)
+    (ap (λ (t : List ℕ). is_some (executor_of t)) (sym c.as_str.ensures.value) ∙ ap is_some (sym c.executor_of.ensures)
+    ∙ sym c.is_some.ensures ∙ off))

@@ -15,7 +15,14 @@ invariant_of-self-in-Err c =
     let p = subst (λ l. IsPlace (Err c.in-Err.at) l c.args.key) c.as_slice.ensures c.in-Err.ensures in
     let pr : Pair = record { key = c.args.key; value = c.args.value } in
     let putted = put_insert ps c.in-Err.at pr p.1 p.2 p.0 in
-    rw c.in_ok-insert-in-Err.ensures.ok (subst Rising (sym putted) (Rising-put c.args.key (view c.args.value) (pairs_of ps) c.self.invariant.0), record { size_is = omega (arith, pair_sizes-insert ps c.in-Err.at pr p.0, c.self.invariant.1); depth_is = omega (arith, pair_depths-insert ps c.in-Err.at pr p.0, c.self.invariant.1) })
+    rw c.in_ok-insert-in-Err.ensures.ok (
+      subst Rising (sym putted) (Rising-put c.args.key (view c.args.value) (pairs_of ps) c.self.invariant.0),
+      record {
+        size_is = omega (arith, pair_sizes-insert ps c.in-Err.at pr p.0, c.self.invariant.1);
+        depth_is =
+            omega (arith, pair_depths-insert ps c.in-Err.at pr p.0, c.self.invariant.1);
+      },
+    )
 
 pub returns-in-Err-clause-ok : goal.returns-in-Err-clause-ok
 returns-in-Err-clause-ok c =
@@ -32,7 +39,11 @@ invariant_of-self-in-Some c =
     let x = c.index-as_slice-at.result in
     let is = subst (λ ys. x ≡ get_or ys c.in-Ok.at x) c.as_slice-2.ensures c.index-as_slice-at.is in
     let putted = put_set ps c.in-Ok.at pr p.0 p.1 p.2 in
-    rw c.in_ok-set.ensures.ok (subst Rising (sym putted) (Rising-put c.args.key (view c.args.value) (pairs_of ps) c.self.invariant.0), pairs_replaced ps c.in-Ok.at pr x c.self.inside.totals c.totals.result c.totals-added.result c.in-Some.totals p.0 is c.self.invariant.1 c.totals.ensures c.totals-added.ensures c.in-Some.ensures.size c.in-Some.ensures.depth)
+    rw c.in_ok-set.ensures.ok (
+      subst Rising (sym putted) (Rising-put c.args.key (view c.args.value) (pairs_of ps) c.self.invariant.0),
+      pairs_replaced ps c.in-Ok.at pr x c.self.inside.totals c.totals.result c.totals-added.result c.in-Some.totals p.0 is c.self.invariant.1
+          c.totals.ensures c.totals-added.ensures c.in-Some.ensures.size c.in-Some.ensures.depth,
+    )
 
 pub returns-in-Some-clause-ok : goal.returns-in-Some-clause-ok
 returns-in-Some-clause-ok c =

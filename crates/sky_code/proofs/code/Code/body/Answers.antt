@@ -14,7 +14,11 @@ returns-in_default c =
 pub returns-in_default-get : goal.returns-in_default-get
 returns-in_default-get c =
     let at = ap (fun_place c.args.name.now) c.funs.ensures ∙ sym c.place.ensures ∙ c.in-Some.is in
-    absurd (omega (arith, ltb-false c.in-Some.place (length c.funs.result.now) (sym c.in_default-get.ensures.lookup.0), found_within c.args.name.now c.funs.result.now c.in-Some.place at))
+    absurd (omega (
+      arith,
+      ltb-false c.in-Some.place (length c.funs.result.now) (sym c.in_default-get.ensures.lookup.0),
+      found_within c.args.name.now c.funs.result.now c.in-Some.place at,
+    ))
 
 pub returns : goal.returns
 returns c =
@@ -23,6 +27,9 @@ returns c =
     let sc = c.self.inside.program in
     let f = c.in-Some-get.fun.now in
     let at = ap (fun_place x) c.funs.ensures ∙ sym c.place.ensures ∙ c.in-Some.is in
-    let found : find_fun x sc.funs ≡ Some (fun_view f) = ap (find_fun x) (sym c.funs.ensures) ∙ found_at x c.funs.result.now c.in-Some.place f at c.in-Some-get.ensures.lookup.1 in
+    let found : find_fun x sc.funs ≡ Some (fun_view f) = ap (find_fun x) (sym c.funs.ensures)
+    ∙ found_at x c.funs.result.now c.in-Some.place f at c.in-Some-get.ensures.lookup.1 in
     let node = c.number_at.ensures ∙ ap (λ ns. slice_index ns c.in-Some.place) c.self.invariant.1 in
-    ap (body_of x) (sym c.self.view_is) ∙ body_some x sc c.in-Some.place (fun_view f) there (sym c.place.ensures ∙ c.in-Some.is) found ∙ ap (λ n. Some (record { params = f.params; block = f.body; node = n })) (sym node) ∙ ap (λ ps. Some (record { params = ps; block = f.body; node = c.number_at.result })) (sym c.as_slice.ensures)
+    ap (body_of x) (sym c.self.view_is) ∙ body_some x sc c.in-Some.place (fun_view f) there (sym c.place.ensures ∙ c.in-Some.is) found
+    ∙ ap (λ n. Some (record { params = f.params; block = f.body; node = n })) (sym node)
+    ∙ ap (λ ps. Some (record { params = ps; block = f.body; node = c.number_at.result })) (sym c.as_slice.ensures)

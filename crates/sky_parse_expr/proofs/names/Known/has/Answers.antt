@@ -4,4 +4,5 @@ use Rattle.sky_parse_expr.proofs.NamesLaw.{contains_is}
 use Rattle.sky_parse_expr.proofs.names.Known.has.Goals as goal
 
 pub returns : goal.returns
-returns c = c.contains.ensures ∙ contains_is c.in_ok-share.field-0 c.self.inside.keys.keys ∙ (λ i. is_one_of (c.in_ok-share.ensures i) (c.self.view_is i))
+returns c = c.contains.ensures ∙ contains_is c.in_ok-share.field-0 c.self.inside.keys.keys
+    ∙ (λ i. is_one_of (c.in_ok-share.ensures i) (c.self.view_is i))

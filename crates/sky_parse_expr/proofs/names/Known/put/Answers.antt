@@ -4,4 +4,5 @@ use Rattle.sky_parse_expr.proofs.NamesLaw.{contains_is, was_there}
 use Rattle.sky_parse_expr.proofs.names.Known.put.Goals as goal
 
 pub returns-clause-was : goal.returns-clause-was
-returns-clause-was c = was_there _ _ c.in-Ok.ensures.added ∙ contains_is c.in_ok-share.field-0 c.self.inside.keys.keys ∙ (λ i. is_one_of (c.in_ok-share.ensures i) (c.self.view_is i))
+returns-clause-was c = was_there _ _ c.in-Ok.ensures.added ∙ contains_is c.in_ok-share.field-0 c.self.inside.keys.keys
+    ∙ (λ i. is_one_of (c.in_ok-share.ensures i) (c.self.view_is i))

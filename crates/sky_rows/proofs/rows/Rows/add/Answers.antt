@@ -16,7 +16,12 @@ invariant_of-self-in-Ok-insert c =
     let new : is_held (row_of h) (rows_of hs) ≡ false = rw c.self.view_is c.requires.new in
     let room : length (hs ++ h ∷ []) ≤ most_rows = omega (arith, most_is, length-rows hs, ap length c.self.view_is, ap length e) in
     let number : c.len-number.result ≡ length hs = omega (arith, c.self.inside.items.ok.0) in
-    rw e (apart-more hs h c.self.invariant.0 new, room, finds-more c.self.inside.latest c.insert.new.self hs h c.sum-sum.result c.len-number.result c.self.invariant.2 c.sum-sum.ensures (c.copied-earlier.ensures ∙ c.get.ensures.value) number c.in-Ok-insert.ensures.updates)
+    rw e (
+      apart-more hs h c.self.invariant.0 new,
+      room,
+      finds-more c.self.inside.latest c.insert.new.self hs h c.sum-sum.result c.len-number.result c.self.invariant.2 c.sum-sum.ensures
+          (c.copied-earlier.ensures ∙ c.get.ensures.value) number c.in-Ok-insert.ensures.updates,
+    )
 
 pub invariant_of-self-in_default-insert : goal.invariant_of-self-in_default-insert
 invariant_of-self-in_default-insert c =
@@ -26,4 +31,8 @@ invariant_of-self-in_default-insert c =
     let rest : c.pop.new.self.items ≡ take (vec_len c.push.new.self - 1) c.push.new.self.items = c.pop.ensures.rest in
     let long : length c.push.new.self.items ≡ vec_len c.push.new.self = omega (arith, c.push.new.self.ok.0) in
     let same : c.pop.new.self.items ≡ hs = popped hs c.push.new.self.items c.pop.new.self.items h (vec_len c.push.new.self) e long rest in
-    rw same (c.self.invariant.0, c.self.invariant.1, finds-still c.self.inside.latest c.insert.new.self hs c.in_default-insert.ensures.err c.self.invariant.2)
+    rw same (
+      c.self.invariant.0,
+      c.self.invariant.1,
+      finds-still c.self.inside.latest c.insert.new.self hs c.in_default-insert.ensures.err c.self.invariant.2,
+    )

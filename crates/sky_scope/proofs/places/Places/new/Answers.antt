@@ -8,4 +8,5 @@ pub loop-place-preserved : goal.loop-place-preserved
 loop-place-preserved c = λ x.
     let i = c.loop-place.place in
     let f = c.index-funs-place.result in
-    c.in_ok-add.ensures x ∙ ap (λ o. or_here o (same_text x f.name) i) (c.loop-place.invariant x) ∙ sym (place_more x c.as_slice-funs.result.now i f c.loop-place-test.true c.index-funs-place.is)
+    c.in_ok-add.ensures x ∙ ap (λ o. or_here o (same_text x f.name) i) (c.loop-place.invariant x)
+    ∙ sym (place_more x c.as_slice-funs.result.now i f c.loop-place-test.true c.index-funs-place.is)

@@ -12,7 +12,8 @@ returns-in-Some-get c =
     let k = c.in-Some.place in
     let same = c.as_slice.ensures ∙ c.funs.ensures in
     let e : fun_place x (funs_view fs) ≡ Some k = ap (fun_place x) same ∙ sym (c.self.invariant x) ∙ sym c.in-Some.ensures in
-    ap (λ sc. find_fun x sc.funs) (sym c.self.view_is) ∙ ap (find_fun x) (sym same) ∙ found_at x fs k c.in-Some-get.fun.now e c.in-Some-get.ensures.lookup.1
+    ap (λ sc. find_fun x sc.funs) (sym c.self.view_is) ∙ ap (find_fun x) (sym same)
+    ∙ found_at x fs k c.in-Some-get.fun.now e c.in-Some-get.ensures.lookup.1
 
 pub returns-in-None-get : goal.returns-in-None-get
 returns-in-None-get c =

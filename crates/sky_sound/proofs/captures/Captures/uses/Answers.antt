@@ -21,7 +21,8 @@ returns-in-Some-get c =
     let found : find_fun x c.args.self.now.funs ≡ slice_get fs k = ap (λ sc. find_fun x sc.funs) (sym c.self.view_is) ∙ place_some x fs k at in
     let index = c.self.inside.uses.items in
     let here : keys ≡ get_or index k keys = c.in-Some-get.ensures.lookup.1 ∙ ap (λ xs. get_or xs k keys) c.deref.ensures.value in
-    subst (UsesAre keys) (sym found) (uses_at index fs k keys c.self.invariant (omega (arith, place_within x fs k at, uses_length index fs c.self.invariant)) here)
+    subst (UsesAre keys) (sym found) (uses_at index fs k keys c.self.invariant
+    (omega (arith, place_within x fs k at, uses_length index fs c.self.invariant)) here)
 
 pub returns-in-None : goal.returns-in-None
 returns-in-None c =
@@ -30,4 +31,10 @@ returns-in-None c =
     let k = c.in-Some.place in
     let at : fun_place x fs ≡ Some k = sym c.place.ensures ∙ c.in-Some.is in
     let same = ap length c.deref.ensures.value in
-    absurd (omega (arith, ltb-false k (length c.deref.result.now) (sym c.in-None.ensures.lookup.0), same, place_within x fs k at, uses_length c.self.inside.uses.items fs c.self.invariant))
+    absurd (omega (
+      arith,
+      ltb-false k (length c.deref.result.now) (sym c.in-None.ensures.lookup.0),
+      same,
+      place_within x fs k at,
+      uses_length c.self.inside.uses.items fs c.self.invariant,
+    ))

@@ -11,8 +11,17 @@ returns-clause-start c = λ script can body.
     let b = c.args.body in
     let f = c.args.fun.now in
     let vars : c.in_ok-vars.vars ≡ bind b.params.now c.args.args.now c.args.caught.now = c.in_ok-vars.ensures in
-    let is : begun f c.args.caught.now c.args.args.now b ≡ record { frames = c.in_ok-run.run'.frames; count = c.in_ok-run.run'.count; waits = c.in_ok-run.run'.waits } = sym (λ i. record { frames = (c.in_ok-run.ensures.frames ∙ ap (λ xs. record { fun = f; vars = xs; stack = []; todo = record { node = b.node; step = 0 } ∷ [] } ∷ []) vars) i; count = c.in_ok-run.ensures.count i; waits = c.in_ok-run.ensures.waits i }) in
-    subst (λ r. StartsCall script f c.args.caught.now c.args.args.now (Stand.run r)) is (starts_call script f c.args.caught.now c.args.args.now b can body)
+    let is : begun f c.args.caught.now c.args.args.now b
+    ≡ record { frames = c.in_ok-run.run'.frames; count = c.in_ok-run.run'.count; waits = c.in_ok-run.run'.waits } =
+    sym (λ i. record {
+      frames = (c.in_ok-run.ensures.frames
+          ∙ ap (λ xs. record { fun = f; vars = xs; stack = []; todo = record { node = b.node; step = 0 } ∷ [] } ∷ []) vars) i;
+      count =
+          c.in_ok-run.ensures.count i;
+      waits = c.in_ok-run.ensures.waits i;
+    }) in
+    subst (λ r. StartsCall script f c.args.caught.now c.args.args.now (Stand.run r)) is
+    (starts_call script f c.args.caught.now c.args.args.now b can body)
 
 pub returns-clause-fits : goal.returns-clause-fits
 returns-clause-fits c = λ script can body.
