@@ -29,6 +29,10 @@ told_then es before x after t f = (
 pub told_whole : (J : List Entry) (before after : List Told) → ToldOn [] J before after → ToldBy J before after
 told_whole J before after t = subst (λ es. ToldBy es before after) (sym t.1) t.2
 
+-- what a crew was told at first is what its gates told when it was opened
+pub told_first : (es : List Entry) (crew first after : List Told) → crew ≡ first → ToldBy es crew after → ToldBy es first after
+told_first es crew first after e t = subst (λ x. ToldBy es x after) e t
+
 -- ---- the first so many of a list, and the others
 
 pub take_append : {A : Type 0} (n : ℕ) (xs ys : List A) → length xs ≡ n → take n (xs ++ ys) ≡ xs
@@ -94,3 +98,20 @@ module _ {G : Type 0} (entered : G → Told) (w : ℕ) (old own others back new 
       split zero xs = omega arith
       split (suc n) [] = refl
       split (suc n) (x ∷ xs) = let r = split n xs in omega (arith, r)
+
+-- of all gates, what a run says of those of its workers, after the others were put behind these again
+module _ {G : Type 0} (entered : G → Told) (w : ℕ) (old own others back new : List G) (own_is : own ≡ take w old)
+    (others_is : others ≡ drop w old) (enough : w ≤ length old) (ran after : RunEnd) (end : (after ≡ ran) ⊎ (after ≡ RunEnd.Memory))
+    (put : after ≢ RunEnd.Memory → new ≡ back ++ others) (all : ran ≢ RunEnd.Memory → length back ≡ length own) where
+  pub told_back : (es fs : List Entry) → fs ≡ es → (ran ≢ RunEnd.Memory → ToldBy es (map entered own) (map entered back)) → after ≢ RunEnd.Memory
+      → ToldBy fs (told_of entered w old) (told_of entered w new)
+  told_back es fs same told n =
+      let m = still after ran end n in
+      told_now entered w old own others back new own_is others_is enough (put n) (all m) fs
+      (subst (λ x. ToldBy x (map entered own) (map entered back)) (sym same) (told m))
+
+  pub others_back : after ≢ RunEnd.Memory → drop w new ≡ drop w old
+  others_back n = others_now entered w old own others back new own_is others_is enough (put n) (all (still after ran end n))
+
+  pub all_back : after ≢ RunEnd.Memory → length new ≡ length old
+  all_back n = all_now entered w old own others back new own_is others_is enough (put n) (all (still after ran end n))

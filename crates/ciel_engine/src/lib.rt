@@ -1,7 +1,7 @@
 //! A job on the engine: a shop, a master and a crew are opened over it, and the run is driven to its end.
 //!
-//! What executes is a crew of threads (`ciel_channels`). Nothing that is said here speaks of it: the end, the journal and what the gates tell
-//! are those that driving promises of any crew.
+//! What executes is a crew of threads (`ciel_channels`), or with one worker the crew in one thread (`ciel_inline`). Nothing that is said here
+//! speaks of either: the end, the journal and what the gates tell are those that driving promises of any crew.
 #![tactic(auto)]
 
 mod gates;

@@ -6,7 +6,7 @@ ghost use Rattle.ciel_lanes.specs.Seen.{LaneSeen, IsOut, HasTaken, Closes, lane_
 
 use crate::bells::{Listener, Ringer, bells};
 use crate::desk::Desk;
-use crate::lane::{Bell, Hands, Lane, Post, hire, own_hands};
+use crate::lane::{Bell, Hands, Lane, Post, hire};
 use crate::work::Work;
 use std::alloc::{AllocError, Global};
 use std::marker::Model;
@@ -102,11 +102,9 @@ fn places_of<W: Work>(
     Ok(all)
 }
 
-// A lane at work. One that is alone gets no thread: its master could only wait for it.
 fn staffed<W: Work, R: Threads + Wait + Copy + Send + Drop + 'static>(
     rt: R,
     place: Place<W>,
-    is_alone: bool,
 ) -> Lane<W>
 where
     W: Send + 'static,
@@ -119,11 +117,7 @@ where
         mut bell,
         post,
     } = place;
-    let hands = if is_alone {
-        own_hands(post)
-    } else {
-        hire(rt, &mut bell, post)
-    };
+    let hands = hire(rt, &mut bell, post);
     Lane {
         desk,
         bell,
@@ -138,8 +132,7 @@ where
     W::In: Send + 'static,
     W::Out: Send + 'static,
 {
-    /// So many lanes, with nothing out, and the room that `close` needs. Each has a thread where one can be had, but for
-    /// a lane that is alone, whose jobs are worked by whoever takes their outputs.
+    /// So many lanes, with nothing out, each with a thread where one can be had, and the room that `close` needs.
     pub fn open(rt: R, alloc: Global, lanes: u32) -> Result<Lanes<W, R>, AllocError>
         requires some { 0 < lanes }
         ensures opened { IfOk result (λ l. (length l ≡ lanes) × All (λ x. x ≡ record { put = []; out = None }) l) }
@@ -149,7 +142,7 @@ where
         let done = Vec::with_capacity(alloc, lanes as usize)?;
         let mut all = Vec::with_capacity(alloc, lanes as usize)?;
         for place in places {
-            all.push_reserved(staffed(rt, place, lanes == 1));
+            all.push_reserved(staffed(rt, place));
         }
         Ok(Lanes {
             rt,

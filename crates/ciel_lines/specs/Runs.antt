@@ -6,7 +6,7 @@ use Rattle.sky_base.specs.See as s
 use Rattle.ciel_board.specs.Setting.{Setting}
 use Rattle.ciel_ends.specs.Ends.{IsModest}
 use Rattle.ciel_journal.specs.Entries.{Entry, journal_of}
-use Rattle.ciel_journal.specs.History.{Event, Plan, done, start}
+use Rattle.ciel_journal.specs.History.{Event, Plan, done, saved, start}
 use Rattle.ciel_journal.specs.Job.{Digest, In, Job, Task, show}
 use Rattle.ciel_journal.specs.Journals.{DrivenJournal}
 use Rattle.ciel_journal.specs.Laws.{Publishes, ShowDone}
@@ -86,6 +86,13 @@ module _ (w : Words) (source : List ℕ) (inputs : List Input) (J : List Entry) 
   NamesHaveOne =
       EachRun (λ job h. (k : ℕ) (made : List (s.Desc × Digest)) (copied spawned : List s.Desc) (d : s.Desc) (mark : Digest)
       → In (done k made copied spawned) h → In (d, mark) made → Publishes (told_of w job) h d mark)
+
+  -- no wait of a task was saved with two marks
+  abbrev pub WaitsHaveOne : Type 0
+  WaitsHaveOne =
+      EachRun (λ job h. (k l worker other : ℕ) (t : Task s.Desc) (from since : ℕ) → In (start k worker t from) h → In (start l other t since) h
+      → (j : ℕ) (a b : Digest) (refs holds spawned more keeps makes : List s.Desc) → In (saved k j a refs holds spawned) h
+      → In (saved l j b more keeps makes) h → a ≡ b)
 
 -- the job means an answer, and its needed tasks make no more descriptions than there may be, no two of which share a name
 abbrev pub IsModestFor : Words → List ℕ → List Input → Type 0

@@ -1,5 +1,5 @@
 -- What a loop over a report does at each turn.
-use Rattle.std.proofs.Common.{◌≡◌, ℕ, List, [], ◌∷◌, Result, Ok, Err, refl, ap, sym, subst}
+use Rattle.std.proofs.Common.{◌≡◌, ℕ, List, [], ◌∷◌, Result, Ok, Err, cond, is_ok, refl, ap, sym, subst}
 use Rattle.std.specs.Result.{IfErr, IsErrAnd}
 use Rattle.sky_base.specs.declared.object.Named.{Named}
 use Rattle.ciel_board.specs.Moves.{with_copies, with_outputs}
@@ -11,11 +11,12 @@ use Rattle.ciel_table.specs.Changes.{placed, row_with}
 use Rattle.ciel_table.specs.Learning.{learn_answer, learned}
 use Rattle.ciel_table.specs.Seen.{Known, TableSeen, row_name}
 use Rattle.ciel_table.specs.Sound.{Here}
+use Rattle.ciel_table.specs.declared.refusal.Learn.{Learn}
 use Rattle.ciel_table.proofs.ByName.{names_changed}
 use Rattle.ciel_task.specs.Views.{P, copies_view, copy_at}
 use Rattle.ciel_task.specs.declared.block.Held.{Held}
 use Rattle.ciel_task.specs.declared.block.Spot.{Spot}
-use Rattle.ciel_master.specs.Refusals.{FirstStops, StopsAt}
+use Rattle.ciel_master.specs.Refusals.{FirstStops, StopsAt, UnlessMemory, learned_before}
 use Rattle.ciel_bring.specs.Brings.{worker_of}
 use Rattle.ciel_master.specs.declared.stop.Stop.{Stop}
 
@@ -52,6 +53,24 @@ module _ {Q : Type 0} (digest : List ℕ → List ℕ) (n : Named) (ns : List Na
     s.2,
   )
   stops_later id a Stop.Memory s = tt
+
+  abbrev where_learned : Result ℕ Learn → TableSeen Q
+  where_learned r = cond (is_ok r) (learned_before digest ns (learned digest n t)) t
+
+  -- nothing comes before it
+  pub none_before : (e : Stop) → StopsAt n t e → UnlessMemory e (learned_before digest (n ∷ ns) t ≡ t)
+  none_before (Stop.NameClash kept given) s = ap where_learned s
+  none_before (Stop.TooMany held given) s = ap where_learned s.0
+  none_before Stop.Memory s = tt
+
+  -- what is learned comes before what is refused of the rest
+  pub more_before : (id : ℕ) → learn_answer n t ≡ Ok id → learned_before digest (n ∷ ns) t ≡ learned_before digest ns (learned digest n t)
+  more_before id a = ap where_learned a
+
+pub unless_more : {A B : Type 0} (e : Stop) → (A → B) → UnlessMemory e A → UnlessMemory e B
+unless_more (Stop.NameClash kept given) f a = f a
+unless_more (Stop.TooMany held given) f a = f a
+unless_more Stop.Memory f a = tt
 
 -- the refusal that a function returns is the one that it had
 pub refused_so : {A E : Type 0} (Q : E → Type 0) (r : Result A E) (e : E) → IsErrAnd r (λ x. x ≡ e) → Q e → IfErr r Q

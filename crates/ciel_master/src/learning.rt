@@ -2,7 +2,7 @@
 
 ghost use Rattle.std.specs.Prelude.{◌≡◌, ℕ, Ok, IfErr, OnErr, OnOk};
 ghost use Rattle.ciel_board.specs.Reports.{AllLearned, learned_all};
-ghost use Rattle.ciel_master.specs.Refusals.{FirstStops, Stops, StopsAt};
+ghost use Rattle.ciel_master.specs.Refusals.{FirstStops, Stops, StopsAt, UnlessMemory, learned_before};
 ghost use Rattle.ciel_master.specs.Taking.{LearnedFor, learned_for};
 ghost use Rattle.ciel_ready.specs.Seen.{with_table};
 ghost use Rattle.ciel_table.specs.Learning.{learn_answer, learned};
@@ -52,6 +52,8 @@ fn learn_all<N: Namer>(
     ensures learned { OnOk result (ready.new ≡ with_table ready.old (learned_all (N.digest namer.now) spawned.now ready.old.table)) }
     ensures all { OnOk result (AllLearned (N.digest namer.now) spawned.now ready.old.table) }
     ensures refused { IfErr result (λ e. FirstStops (N.digest namer.now) spawned.now ready.old.table e) }
+    ensures before { IfErr result (λ e. UnlessMemory e
+        (ready.new ≡ with_table ready.old (learned_before (N.digest namer.now) spawned.now ready.old.table))) }
 {
     for i in 0..spawned.len() {
         learn(ready, namer, &spawned[i])?;
@@ -69,6 +71,8 @@ pub(crate) fn learn_for<N: Namer>(
     ensures learned { OnOk result (ready.new ≡ with_table ready.old (learned_for (N.digest namer.now) end.now spawned.now ready.old.table)) }
     ensures all { OnOk result (LearnedFor (N.digest namer.now) end.now spawned.now ready.old.table) }
     ensures refused { IfErr result (λ e. FirstStops (N.digest namer.now) spawned.now ready.old.table e) }
+    ensures before { IfErr result (λ e. UnlessMemory e
+        (ready.new ≡ with_table ready.old (learned_before (N.digest namer.now) spawned.now ready.old.table))) }
 {
     match end {
         End::Missing { .. } => Ok(()),

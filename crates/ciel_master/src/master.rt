@@ -19,7 +19,7 @@ ghost use Rattle.ciel_ready.specs.Seen.{CanRunAt, CanRunMany};
 ghost use Rattle.ciel_task.specs.Views.{P, order_view, report_end};
 ghost use Rattle.ciel_master.specs.Orders.{ready_of};
 ghost use Rattle.ciel_master.specs.Marked.{FitsUnlessMissing, IsCarriedOut, SeenOf};
-ghost use Rattle.ciel_master.specs.Refusals.{FirstStops};
+ghost use Rattle.ciel_master.specs.Refusals.{FirstStops, UnlessMemory, refused_at};
 ghost use Rattle.ciel_master.specs.Seen.{MasterSeen, most_descriptions, plan_view};
 ghost use Rattle.ciel_master.specs.Taking.{LearnedFor, now_of};
 ghost use Rattle.ciel_bring.specs.Brings.{worker_of};
@@ -257,7 +257,8 @@ impl<K: Drop, N: Namer + Drop> Master<K, N> {
     /// report's eye has seen it, is one that was carried out.
     ///
     /// Answers what refuses the first description that isn't learned, and `Memory` for want of memory. The journal is then as it
-    /// was, and the run has stopped.
+    /// was, and the run has stopped. After a refusal of learning what comes before that description is learned and nothing is placed;
+    /// after `Memory` a part of the report may be learned and placed. Of a master that has stopped only the journal may be asked.
     pub fn accept(&mut self, report: Report) -> Result<Now, Stop>
         requires going { self.old.board.stopped ≡ false }
         requires fits { (x : b.Order P) × (find_order report.number self.old.board.orders ≡ Some x.out)
@@ -273,6 +274,9 @@ impl<K: Drop, N: Namer + Drop> Master<K, N> {
         ensures journal { OnErr result (self.new.board.journal ≡ self.old.board.journal) }
         ensures stopped { OnErr result (self.new.board.stopped ≡ true) }
         ensures refused { IfErr result (λ e. FirstStops (N.digest self.old.namer) report.spawned.items self.old.board.table e) }
+        ensures unplaced { IfErr result (λ e. UnlessMemory e (self.new ≡ record self.old {
+          board = refused_at (N.digest self.old.namer) self.old.board report.spawned.items;
+        })) }
     {
         let report = confirm(&self.shop.shelves, &mut self.marker, report);
         let now = self.take(report)?;
@@ -399,6 +403,9 @@ impl<K: Drop, N: Namer + Drop> Master<K, N> {
         ensures journal { OnErr result (self.new.board.journal ≡ self.old.board.journal) }
         ensures stopped { OnErr result (self.new.board.stopped ≡ true) }
         ensures refused { IfErr result (λ e. FirstStops (N.digest self.old.namer) report.spawned.items self.old.board.table e) }
+        ensures unplaced { IfErr result (λ e. UnlessMemory e (self.new ≡ record self.old {
+          board = refused_at (N.digest self.old.namer) self.old.board report.spawned.items;
+        })) }
     {
         self.stopped = true;
         let Report {

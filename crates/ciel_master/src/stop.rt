@@ -17,7 +17,8 @@ pub enum Now {
     Fault(Fault),
 }
 
-/// Why a report isn't taken. Nothing that it made is placed then, the journal is as it was, and only the journal may be asked.
+/// Why a report isn't taken. The journal is then as it was, and only the journal may be asked. But for want of memory nothing that the
+/// report made is placed; after `Memory` a part of it may be.
 #[derive(Drop)]
 pub enum Stop {
     /// The first spawned description that isn't learned has the name of another one: the canonical bytes that are kept, and

@@ -1,6 +1,6 @@
-// The rows of the program that need files, sinks or gates in memory: reads, writes and logs that fail at a given call, what gates are told, the
-// message of each end, and parts of the sequential interpreter. All other rows of the program stand in rows/, and the built program runs
-// them. A crate of their own, since a crate with tests is proved twice.
+// The rows of the program that need files, sinks or gates in memory: reads, writes and logs that fail at a given call, what
+// gates are told, and the message of each end. All other rows of the program stand in rows/, and the built program runs them. A
+// crate of their own, since a crate with tests is proved twice.
 #![tactic(auto)]
 
 #[cfg(test)]
@@ -11,5 +11,3 @@ mod failing;
 mod gates;
 #[cfg(test)]
 mod messages;
-#[cfg(test)]
-mod plain_rows;

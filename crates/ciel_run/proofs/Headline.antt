@@ -1,4 +1,4 @@
--- What each driven history is: tasks are needed, none is started whose outputs are live, they are few, and names have one value.
+-- What each driven history is: tasks are needed, none is started whose outputs are live, they are few, and names and waits have one value.
 use Rattle.std.proofs.Common.{◌≡◌, ◌≤◌, ◌+◌, ◌*◌, ℕ, List, [], ◌∷◌, ◌++◌, sym, subst}
 use Rattle.sky_base.specs.See as s
 use Rattle.sky_base.specs.Needed as n
@@ -7,7 +7,7 @@ use Rattle.ciel_journal.specs.History.{Event, Standing, after, before_all, start
 use Rattle.ciel_journal.specs.Job.{IsJob}
 use Rattle.ciel_journal.specs.Lawful.{Lawful, LawfulFrom}
 use Rattle.ciel_journal.specs.Turns.{Driven, DrivenFrom}
-use Rattle.ciel_journal.proofs.Published.{publishes}
+use Rattle.ciel_journal.proofs.Published.{one_state, publishes}
 use Rattle.ciel_journal.proofs.Started.{started}
 use Rattle.ciel_json.proofs.ReadLaw.{json_reads_sound}
 use Rattle.ciel_load.specs.Line.{Input}
@@ -16,7 +16,7 @@ use Rattle.ciel_meant.proofs.RealLaw.{real_laws}
 use Rattle.ciel_task.specs.Named.{frozen_mark, mark_of, name_of}
 use Rattle.ciel_words.specs.declared.words.Words.{Words}
 use Rattle.line_kit.specs.Gives.{gives}
-use Rattle.ciel_lines.specs.Runs.{NamesHaveOne, StartsFew, StartsMissing, StartsNeeded, digest_of, plan_of, told_of}
+use Rattle.ciel_lines.specs.Runs.{NamesHaveOne, StartsFew, StartsMissing, StartsNeeded, WaitsHaveOne, digest_of, plan_of, told_of}
 use Rattle.ciel_lines.specs.Source.{job_of, over_lines}
 
 module _ (w : Words) (source : List ℕ) (inputs : List Input) (J : List Entry) where
@@ -54,3 +54,8 @@ module _ (w : Words) (source : List ℕ) (inputs : List Input) (J : List Entry) 
   one_value script is h d e k made copied spawned x mark i j =
       let job = job_of script inputs in
       publishes (told_of w job) (laws job) (plan_of w) h (lawful job h d) k made copied spawned x mark i j
+
+  pub one_wait : WaitsHaveOne w source inputs J
+  one_wait script is h d e k l worker other t from since i u j a b refs holds spawned more keeps makes x y =
+      let job = job_of script inputs in
+      one_state (told_of w job) (laws job) (plan_of w) h (lawful job h d) k l worker other t from since i u j a b refs holds spawned more keeps makes x y

@@ -19,7 +19,8 @@ ghost use Rattle.ciel_why.specs.Status.{status_of};
 ghost use Rattle.ciel_run.specs.Ending.{Answers, EndCause, IsExpected, TellsParts, Writes, WritesAnswer, WritesPart, trace_of};
 ghost use Rattle.ciel_lines.specs.Line.{OfLine, OverFiles, OverLine, OverScript, files_of, is_plain, is_traced, paths, paths_in, workers_of};
 ghost use Rattle.ciel_why.specs.Message.{message_of};
-ghost use Rattle.ciel_lines.specs.Runs.{EndsShown, IsDriven, NamesHaveOne, StartsFew, StartsMissing, StartsNeeded, plan_of};
+ghost use Rattle.ciel_lines.specs.Runs.{EndsShown, IsDriven, NamesHaveOne, StartsFew, StartsMissing, StartsNeeded, WaitsHaveOne};
+ghost use Rattle.ciel_lines.specs.Runs.{plan_of};
 ghost use Rattle.ciel_lines.specs.Source.{IsAnswer, OfJob};
 ghost use Rattle.ciel_why.specs.Summary.{output_of};
 ghost use Rattle.ciel_why.specs.declared.why.Why.{Why};
@@ -69,7 +70,7 @@ where
         (λ w source inputs. WritesAnswer w source inputs (O.written out.old) (O.written out.new)) }
 
     // What the journal says: it is that of a driven history, and where there is an answer it ends with the root task. Each task started was
-    // needed, none was started whose outputs were all live, they are few, and no name was made with two values.
+    // needed, none was started whose outputs were all live, they are few, no name was made with two values, and no wait was saved with two.
     ensures driven { OverFiles (F.content files.old) words.now (λ w source inputs. IsDriven w source inputs (map entry_view result.journal.items)) }
     ensures root { is_plain (line_of words.now) ≡ false → ShowsEnd result.why
         → OverFiles (F.content files.old) words.now (λ w source inputs. EndsShown w source inputs (map entry_view result.journal.items)) }
@@ -80,6 +81,8 @@ where
     ensures few { OverFiles (F.content files.old) words.now (λ w source inputs. StartsFew w source inputs (map entry_view result.journal.items)) }
     ensures one_value { OverFiles (F.content files.old) words.now
         (λ w source inputs. NamesHaveOne w source inputs (map entry_view result.journal.items)) }
+    ensures one_wait { OverFiles (F.content files.old) words.now
+        (λ w source inputs. WaitsHaveOne w source inputs (map entry_view result.journal.items)) }
     ensures empty { NoRun (is_plain (line_of words.now)) result.why → map entry_view result.journal.items ≡ [] }
 
     // What the gates tell.
@@ -137,6 +140,8 @@ where
         (trace_of (is_traced (line_of words.now)) result.journal.items ++ message_of result.why) }
     ensures message_part { TellsParts (J.written log.old) (J.written log.new) (trace_of (is_traced (line_of words.now)) result.journal.items)
         (message_of result.why) }
+    ensures logged { result.why ≡ Why.Done
+        → Tells (J.written log.old) (J.written log.new) (trace_of (is_traced (line_of words.now)) result.journal.items) }
 
     ensures status { result.status ≡ status_of result.why }
 {
@@ -209,6 +214,7 @@ where
     ensures message { ¬ HasRisen (J.faults log.old) (J.faults log.new)
         → Tells (J.written log.old) (J.written log.new) (trace_of line.now.trace result.journal.items ++ message_of result.why) }
     ensures message_part { TellsParts (J.written log.old) (J.written log.new) (trace_of line.now.trace result.journal.items) (message_of result.why) }
+    ensures logged { result.why ≡ Why.Done → Tells (J.written log.old) (J.written log.new) (trace_of line.now.trace result.journal.items) }
     ensures status { result.status ≡ status_of result.why }
 {
     let Answered { result, journal } = answer_line(rt, alloc, line, files, gates);
@@ -240,6 +246,7 @@ fn write<O: Sink, J: Sink>(
     ensures message { ¬ HasRisen (J.faults log.old) (J.faults log.new)
         → Tells (J.written log.old) (J.written log.new) (trace_of line.now.trace journal.now ++ message_of result) }
     ensures message_part { TellsParts (J.written log.old) (J.written log.new) (trace_of line.now.trace journal.now) (message_of result) }
+    ensures logged { result ≡ Why.Done → Tells (J.written log.old) (J.written log.new) (trace_of line.now.trace journal.now) }
 {
     match put_answer(line.generate, answer.as_slice(), out) {
         Ok(()) => trace(line.trace, journal, log),
@@ -257,6 +264,7 @@ fn trace<J: Sink>(traced: bool, journal: &[Entry], log: &mut J) -> Why
     ensures message { ¬ HasRisen (J.faults log.old) (J.faults log.new)
         → Tells (J.written log.old) (J.written log.new) (trace_of traced journal.now ++ message_of result) }
     ensures message_part { TellsParts (J.written log.old) (J.written log.new) (trace_of traced journal.now) (message_of result) }
+    ensures logged { result ≡ Why.Done → Tells (J.written log.old) (J.written log.new) (trace_of traced journal.now) }
 {
     match put_trace(traced, journal, log) {
         Ok(()) => Why::Done,

@@ -2,13 +2,13 @@
 
 ghost use Rattle.std.specs.Prelude.{◌≡◌, IfOk, length};
 
-use crate::script::script;
 use ciel_engine::run::{Ran, run_job};
 use ciel_gate::open::Open;
 use ciel_master::plan::{Losses, RunPlan};
 use ciel_master::stop::RunEnd;
 use ciel_name::name::WeakNamer;
 use line_kit::kit::LineKit;
+use row_scripts::script::script_over;
 use sky_base::job::{Inputs, Job};
 use sky_base::script::Texts;
 use std::alloc::Global;
@@ -32,7 +32,7 @@ fn ran<R: Threads + Wait + Copy + Send + Drop + 'static>(
     alloc: Global,
     text: &str,
 ) -> Result<Ran, Fail> {
-    let script = script(alloc, text, Texts::of(Vec::new(alloc)))?;
+    let script = script_over(alloc, text, Texts::of(Vec::new(alloc)))?;
     let mut gates = gates(alloc)?;
     let job = Job {
         script,

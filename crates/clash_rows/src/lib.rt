@@ -1,12 +1,8 @@
-// Rows of whole runs with namers and gates of their own: names that clash, two tasks that are performed at the same time, and an object
-// that is lost on the way to it. They stand in a crate of their own, since a crate with tests is proved twice.
+// Rows of whole runs with namers and gates of their own: names that clash, and an object that is lost on the way to it. They stand
+// in a crate of their own, since a crate with tests is proved twice.
 #![tactic(auto)]
 
 #[cfg(test)]
 mod clashes;
 #[cfg(test)]
-mod meetings;
-#[cfg(test)]
 mod missing;
-#[cfg(test)]
-mod script;

@@ -2,7 +2,6 @@
 
 ghost use Rattle.std.specs.Prelude.{◌≡◌, ◌∷◌, [], IfOk, None, length};
 
-use crate::script::script;
 use ciel_engine::run::{Ran, run_job};
 use ciel_gate::gate::Gate;
 use ciel_master::entry::Entry;
@@ -10,6 +9,7 @@ use ciel_master::plan::{Losses, RunPlan};
 use ciel_master::stop::RunEnd;
 use ciel_name::name::Sha1Namer;
 use line_kit::kit::LineKit;
+use row_scripts::script::script_over;
 use sky_base::job::{Inputs, Job};
 use sky_base::name::Name;
 use sky_base::object::TaskId;
@@ -79,7 +79,7 @@ fn ran<R: Threads + Wait + Clock + Copy + Send + Drop + 'static>(
         "function f(x) { return x; } function h(r) { return *r + 1; } ",
         "a = spawn(f, [3]); x = *a; return [spawn(h, [a]), spawn(f, [5])];",
     );
-    let script = script(alloc, text, Texts::of(Vec::new(alloc)))?;
+    let script = script_over(alloc, text, Texts::of(Vec::new(alloc)))?;
     let job = Job {
         script,
         inputs: Inputs::of(Vec::new(alloc)),

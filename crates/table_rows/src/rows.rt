@@ -41,6 +41,9 @@ const MAIN_WAITS: Step = Step::Save {
     refs: SQUARE,
 };
 
+/// What a run begins with.
+const OPENED: &[Step] = &[LEARN_MAIN];
+
 /// The main call waits for the call of `f`.
 const WAITS: &[Step] = &[LEARN_MAIN, LEARN_SQUARE, MAIN_WAITS];
 
@@ -116,7 +119,17 @@ const PLACED: &[Step] = &[
     },
 ];
 
-static ROWS: [Row; 9] = [
+static ROWS: [Row; 10] = [
+    Row {
+        steps: OPENED,
+        gone: None,
+        live: (false, false),
+        lasts: [0, 0, 0],
+        wanted: &[MAIN, SHOW],
+        out: &[],
+        runs: &[MAIN],
+        circle: false,
+    },
     Row {
         steps: WAITS,
         gone: None,

@@ -7,7 +7,7 @@ use Rattle.ciel_lines.specs.Line.{OfLine, is_traced}
 use Rattle.ciel_lines.specs.Runs.{IsDriven}
 use Rattle.ciel_run.specs.Ending.{Answers, IsExpected, TellsParts, trace_of}
 use Rattle.ciel_why.specs.Message.{message_of}
-use Rattle.ciel_run.proofs.Headline.{few, missing, needed, one_value}
+use Rattle.ciel_run.proofs.Headline.{few, missing, needed, one_value, one_wait}
 use Rattle.ciel_run.proofs.Modest.{answers}
 use Rattle.ciel_run.proofs.Over.{at_line, expected, no_write, not_usage, over_line, read_fault, too_deep}
 use Rattle.ciel_run.proofs.top.ciel_main.Goals as goal
@@ -32,6 +32,9 @@ returns-clause-few g c = λ w f source inputs st. few w source inputs (map entry
 pub returns-clause-one_value : goal.returns-clause-one_value
 returns-clause-one_value g c = λ w f source inputs st. one_value w source inputs (map entry_view c.run.result.journal.items)
 
+pub returns-clause-one_wait : goal.returns-clause-one_wait
+returns-clause-one_wait g c = λ w f source inputs st. one_wait w source inputs (map entry_view c.run.result.journal.items)
+
 pub returns-in-Err-Usage-clause-needed : goal.returns-in-Err-Usage-clause-needed
 returns-in-Err-Usage-clause-needed g c = λ w f source inputs st. needed w source inputs (map entry_view c.refused.result.journal.items)
 
@@ -43,6 +46,9 @@ returns-in-Err-Usage-clause-few g c = λ w f source inputs st. few w source inpu
 
 pub returns-in-Err-Usage-clause-one_value : goal.returns-in-Err-Usage-clause-one_value
 returns-in-Err-Usage-clause-one_value g c = λ w f source inputs st. one_value w source inputs (map entry_view c.refused.result.journal.items)
+
+pub returns-in-Err-Usage-clause-one_wait : goal.returns-in-Err-Usage-clause-one_wait
+returns-in-Err-Usage-clause-one_wait g c = λ w f source inputs st. one_wait w source inputs (map entry_view c.refused.result.journal.items)
 
 pub returns-in-Err-Memory-clause-needed : goal.returns-in-Err-Memory-clause-needed
 returns-in-Err-Memory-clause-needed g c = λ w f source inputs st. needed w source inputs (map entry_view c.refused-in-Err-Memory.result.journal.items)
@@ -57,6 +63,9 @@ returns-in-Err-Memory-clause-few g c = λ w f source inputs st. few w source inp
 pub returns-in-Err-Memory-clause-one_value : goal.returns-in-Err-Memory-clause-one_value
 returns-in-Err-Memory-clause-one_value g c =
     λ w f source inputs st. one_value w source inputs (map entry_view c.refused-in-Err-Memory.result.journal.items)
+
+pub returns-in-Err-Memory-clause-one_wait : goal.returns-in-Err-Memory-clause-one_wait
+returns-in-Err-Memory-clause-one_wait g c = λ w f source inputs st. one_wait w source inputs (map entry_view c.refused-in-Err-Memory.result.journal.items)
 
 pub returns-clause-too_deep : goal.returns-clause-too_deep
 returns-clause-too_deep g c = too_deep (g.F.Files.content c.args.files.now) c.args.words.now c.in-Ok.line c.in-Ok.ensures.line
@@ -97,6 +106,11 @@ returns-clause-message_part g c =
     at_line c.args.words.now c.in-Ok.line (λ o. TellsParts (g.J.Sink.written c.args.log.now) (g.J.Sink.written c.run.new.log)
     (trace_of (is_traced o) c.run.result.journal.items) (message_of c.run.result.why)) c.in-Ok.ensures.line
     c.run.ensures.message_part
+
+pub returns-clause-logged : goal.returns-clause-logged
+returns-clause-logged g c = λ done.
+    at_line c.args.words.now c.in-Ok.line (λ o. Tells (g.J.Sink.written c.args.log.now) (g.J.Sink.written c.run.new.log)
+    (trace_of (is_traced o) c.run.result.journal.items)) c.in-Ok.ensures.line (c.run.ensures.logged done)
 
 pub returns-clause-usage : goal.returns-clause-usage
 returns-clause-usage g c = λ u. absurd (not_usage (g.F.Files.content c.args.files.now) c.args.words.now c.in-Ok.line c.in-Ok.ensures.line

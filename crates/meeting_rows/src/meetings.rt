@@ -1,15 +1,19 @@
-// Two tasks that are performed at the same time: each worker's gate waits until the other's task was entered. With one worker they
-// are not.
+// Two tasks that are performed at the same time: each worker's gate waits until the other's task was entered. With one worker, and
+// in one thread, they are not: the gate that is first waits in vain.
 
-ghost use Rattle.std.specs.Prelude.{◌≡◌, ◌<◌, ◌≤◌, ℕ, IfOk, List, length, map};
+ghost use Rattle.std.specs.Prelude.{◌≡◌, ◌<◌, ◌≤◌, ◌^◌, ℕ, [], IfOk, List, length, map};
+ghost use Rattle.sky_base.specs.JobView.{job_view};
+ghost use Rattle.ciel_engine.specs.Onward.{IsRead};
+ghost use Rattle.ciel_task.specs.Shop.{InputsInOrder};
 
-use crate::script::script;
-use ciel_engine::run::{Ran, run_job};
+use ciel_engine::run::{Ran, run_inline, run_job};
 use ciel_gate::meeting::Meeting;
+use ciel_master::entry::Entry;
 use ciel_master::plan::{Losses, RunPlan};
 use ciel_master::stop::RunEnd;
 use ciel_name::name::Sha1Namer;
 use line_kit::kit::LineKit;
+use row_scripts::script::script_over;
 use sky_base::job::{Inputs, Job};
 use sky_base::name::Name;
 use sky_base::object::TaskId;
@@ -67,7 +71,34 @@ fn inputs(alloc: Global) -> Result<(Texts, Inputs), Fail>
     Ok((Texts::of(keys), Inputs::of(items)))
 }
 
-// The run of the word count in two parts on so many workers with these gates.
+// The word count in two parts.
+fn job(alloc: Global) -> Result<Job, Fail>
+    ensures read { IfOk result (λ job. IsRead (job_view job).script) }
+    ensures inputs { IfOk result (λ job. InputsInOrder (job_view job)) }
+    ensures keys { IfOk result (λ job. length job.script.keys < 2 ^ 32) }
+{
+    let text = concat!(
+        "ps = spawn_exec(\"split\", {\"in\": ref(\"t\")}, 2); ts = []; for (p in ps) ",
+        "{ ts += spawn_exec(\"tally\", {\"in\": p}, 1)[0]; } ",
+        "return spawn_exec(\"sum\", {\"in\": ts}, 1)[0];",
+    );
+    let (keys, inputs) = inputs(alloc)?;
+    let script = script_over(alloc, text, keys)?;
+    Ok(Job { script, inputs })
+}
+
+// So many workers, and no losses.
+fn plan(alloc: Global, workers: u32) -> RunPlan
+    ensures { (result.workers ≡ workers) × (result.losses ≡ []) }
+{
+    RunPlan {
+        workers,
+        seed: 0,
+        losses: Losses::of(Vec::new(alloc)),
+    }
+}
+
+// The run of the word count on so many workers with these gates.
 fn ran<R: Threads + Wait + Copy + Send + Drop + 'static>(
     rt: R,
     alloc: Global,
@@ -77,20 +108,18 @@ fn ran<R: Threads + Wait + Copy + Send + Drop + 'static>(
     requires gates { length gates.old.items ≡ 2 }
     requires workers { (0 < workers) × (workers ≤ 2) }
 {
-    let text = concat!(
-        "ps = spawn_exec(\"split\", {\"in\": ref(\"t\")}, 2); ts = []; for (p in ps) ",
-        "{ ts += spawn_exec(\"tally\", {\"in\": p}, 1)[0]; } ",
-        "return spawn_exec(\"sum\", {\"in\": ts}, 1)[0];",
-    );
-    let (keys, inputs) = inputs(alloc)?;
-    let script = script(alloc, text, keys)?;
-    let job = Job { script, inputs };
-    let plan = RunPlan {
-        workers,
-        seed: 0,
-        losses: Losses::of(Vec::new(alloc)),
-    };
+    let job = job(alloc)?;
+    let plan = plan(alloc, workers);
     Ok(run_job(rt, alloc, job, LineKit, Sha1Namer, gates, plan))
+}
+
+// The same on two workers in this thread.
+fn ran_inline<R: Wait + Drop>(rt: R, alloc: Global, gates: &mut Vec<Meeting>) -> Result<Ran, Fail>
+    requires gates { length gates.old.items ≡ 2 }
+{
+    let job = job(alloc)?;
+    let plan = plan(alloc, 2);
+    Ok(run_inline(rt, alloc, job, LineKit, Sha1Namer, gates, plan))
 }
 
 // How many of the gates have met.
@@ -125,6 +154,40 @@ fn one_worker_performs_one_task_after_the_other(rt: HostRuntime) -> Result<(), F
     let mut gates = gates(rt.alloc(), FEW)?;
     let ran = ran(rt, rt.alloc(), 1, &mut gates)?;
     assert!(&rt; answers(&ran.end));
+    assert_eq!(&rt; met(gates.as_slice()), 1);
+    Ok(())
+}
+
+// The worker that was the first to start one of the two tasks.
+fn first_worker(journal: &[Entry]) -> Option<u32> {
+    for entry in journal {
+        if let Entry::Start { worker, task, .. } = entry
+            && (*task == TaskId::Of(Name::short(FIRST))
+                || *task == TaskId::Of(Name::short(SECOND)))
+        {
+            return Some(*worker);
+        }
+    }
+    None
+}
+
+// Whether the gate of this worker has met the other.
+fn has_met(gates: &[Meeting], worker: usize) -> bool {
+    match gates.get(worker) {
+        Some(gate) => gate.met(),
+        None => false,
+    }
+}
+
+#[test]
+fn in_one_thread_the_first_gate_meets_none(rt: HostRuntime) -> Result<(), Fail> {
+    let mut gates = gates(rt.alloc(), FEW)?;
+    let ran = ran_inline(rt, rt.alloc(), &mut gates)?;
+    assert!(&rt; answers(&ran.end));
+    let Some(first) = first_worker(ran.journal.as_slice()) else {
+        return Err(Fail::from("none was started"));
+    };
+    assert!(&rt; !has_met(gates.as_slice(), first as usize));
     assert_eq!(&rt; met(gates.as_slice()), 1);
     Ok(())
 }

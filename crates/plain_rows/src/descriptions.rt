@@ -1,15 +1,12 @@
-// The parts of the sequential interpreter: descriptions under numbers, waves of the result, bytes as data.
+// Descriptions under numbers: each is held once, and found under its number, which names hold.
 
-use sky_base::fault::FaultKind;
 use sky_base::name::Name;
 use sky_base::object::Desc1;
-use sky_base::text::{Bytes, Txt};
+use sky_base::text::Txt;
 use sky_base::value::{Pairs, Vals, Value};
-use sky_rows::data::read;
-use sky_rows::objects::{Objects, number_of, slot};
+use sky_rows::objects::{number_of, slot};
 use sky_rows::rows::Rows;
 use sky_rows::sum::sum;
-use sky_waves::wave::{Turned, last_turn, turn};
 use std::alloc::Global;
 use std::rt::HostRuntime;
 use std::test::Fail;
@@ -84,20 +81,6 @@ fn one_sum_is_not_enough(rt: HostRuntime) -> Result<(), Fail> {
 }
 
 #[test]
-fn the_ends_of_waves(rt: HostRuntime) -> Result<(), Fail> {
-    let alloc = rt.alloc();
-    match &turn(alloc, &Value::Int(-3), &Objects::new(alloc))? {
-        Turned::Text(bytes) => assert!(&rt; bytes.as_slice() == b"-3\n".as_slice()),
-        _ => return Err(Fail::from("no text")),
-    }
-    match &last_turn(alloc, &Value::Ref(slot(3)))? {
-        Turned::Fault(fault) => assert!(&rt; fault.kind == FaultKind::TooDeep),
-        _ => return Err(Fail::from("no fault")),
-    }
-    Ok(())
-}
-
-#[test]
 fn names_hold_numbers(rt: HostRuntime) {
     for number in [0, 1, 255, 256, 65_536, 4_294_967_295] {
         assert_eq!(&rt; number_of(&slot(number)), number);
@@ -105,14 +88,4 @@ fn names_hold_numbers(rt: HostRuntime) {
     assert!(&rt;
         slot(258) == Name::short([0, 0, 0, 0, 0, 0, 0, 0, 0, 0, 0, 0, 0, 0, 0, 0, 0, 0, 1, 2])
     );
-}
-
-#[test]
-fn data_is_read(rt: HostRuntime) -> Result<(), Fail> {
-    let alloc = rt.alloc();
-    let bytes = Bytes::new(alloc, Vec::from_slice(alloc, b"[1]")?)?;
-    assert!(&rt; matches!(&read(alloc, &bytes)?, Ok(Value::List(_))));
-    let bytes = Bytes::new(alloc, Vec::from_slice(alloc, b"[1")?)?;
-    assert!(&rt; matches!(&read(alloc, &bytes)?, Err(FaultKind::NotData)));
-    Ok(())
 }
