@@ -8,6 +8,7 @@ use crate::text::{Memory, Txt};
 use std::alloc::Global;
 use std::marker::Model;
 
+/// An operator of a chain: `+`, `-`, `*`, `/` or `%`, in this order.
 #[derive(Clone, Copy, PartialEq, Eq, Debug)]
 pub enum ArithOp {
     Plus,
@@ -17,6 +18,7 @@ pub enum ArithOp {
     Rest,
 }
 
+/// An operator that compares: `==`, `!=`, `<`, `<=`, `>` or `>=`, in this order.
 #[derive(Clone, Copy, PartialEq, Eq, Debug)]
 pub enum Cmp {
     Eq,
@@ -27,6 +29,7 @@ pub enum Cmp {
     Ge,
 }
 
+/// An operator in front of an operand: `!` of a truth value, `-` of a number, `*` of a reference.
 #[derive(Clone, Copy, PartialEq, Eq, Debug)]
 pub enum SignOp {
     Not,
@@ -486,6 +489,7 @@ impl Sub {
         &self.node
     }
 
+    /// How many nodes the expression has, itself included.
     #[cycle(nodes)]
     pub fn nodes(&self) -> u64
         requires { nodes self.now < 2 ^ 32 }
@@ -510,6 +514,7 @@ impl Exprs {
         self.items.as_slice()
     }
 
+    /// How many nodes the expressions have together.
     #[cycle(nodes)]
     pub fn nodes(&self) -> u64
         requires { exps_nodes self.now < 2 ^ 32 }
@@ -531,12 +536,14 @@ impl Links {
         Links { items }
     }
 
+    /// The operators and operands themselves.
     pub fn as_slice(&self) -> &[Link]
         ensures { links_view result.now ≡ self.now }
     {
         self.items.as_slice()
     }
 
+    /// How many nodes the operands have together.
     #[cycle(nodes)]
     pub fn nodes(&self) -> u64
         requires { links_nodes self.now < 2 ^ 32 }
@@ -558,12 +565,14 @@ impl Joins {
         Joins { items }
     }
 
+    /// The operands themselves.
     pub fn as_slice(&self) -> &[Join]
         ensures { ands_view result.now ≡ self.now }
     {
         self.items.as_slice()
     }
 
+    /// How many nodes the operands have together.
     #[cycle(nodes)]
     pub fn nodes(&self) -> u64
         requires { ands_nodes self.now < 2 ^ 32 }
@@ -592,6 +601,7 @@ impl Steps {
         self.items.as_slice()
     }
 
+    /// How many nodes the steps have together.
     #[cycle(nodes)]
     pub fn nodes(&self) -> u64
         requires { steps_nodes self.now < 2 ^ 32 }
