@@ -1,13 +1,13 @@
 -- One row more.
 use Rattle.std.proofs.Common.{◌≡◌, ◌≤◌, ◌+◌, ℕ, zero, suc, ◌<◌, List, [], ◌∷◌, ◌++◌, length, length-set, length-append, Bool, true, false, not, ◌||◌}
-use Rattle.std.proofs.Common.{◌&&◌, set, slice_get, refl, ap, sym, ◌∙◌, subst, arith, ◌⊎◌, inl, inr, Option, Some, None, is_some}
+use Rattle.std.proofs.Common.{◌&&◌, set, slice_get, refl, ap, sym, ◌∙◌, subst, arith, ◌⊎◌, ◌↔◌, inl, inr, Option, Some, None, is_some}
 use Rattle.std.specs.Option.{option_map_or, option_and_then}
 use Rattle.ciel_journal.specs.Graph.{Led, root, through}
 use Rattle.ciel_journal.specs.Job.{In}
 use Rattle.ciel_marks.specs.Lists.{at, entry, flag}
 use Rattle.ciel_marks.specs.Marks.{Active, Counted, Filed, Justified, LacksIt, Least, Listed, MarksSeen, Needs, Right, Stands, Watches, is_live}
 use Rattle.ciel_marks.specs.Marks.{maker, net}
-use Rattle.ciel_marks.specs.Moves.{Added, IsNode, SameNeeds, filed, grown}
+use Rattle.ciel_marks.specs.Moves.{Added, IsNode, NotAdded, SameNeeds, filed, grown}
 use Rattle.ciel_marks.proofs.Slots.{at_here, at_more, at_other, entry_within, flag_more, flag_within, get_before, get_last, in_last, in_left, in_push}
 use Rattle.ciel_marks.proofs.Slots.{nat_cases, not_both, set_last}
 use Rattle.ciel_marks.proofs.Keeping.{all_counted, counted_still, lack_made, least_in, led_wanted}
@@ -383,3 +383,22 @@ module _ (m : MarksSeen) (is : Bool) (by : Option ℕ) where
       kept (Some v) u f =
           at_other (m.makes ++ [] ∷ []) v u (at (m.makes ++ [] ∷ []) v ++ length m.live ∷ []) (λ e. f (ap (λ x. Some x) (sym e)))
           ∙ at_more m.makes u
+
+-- ---- where none is added
+
+pub not_added : (m : MarksSeen) (is : Bool) (by : Option ℕ) → (m.orphans || (not is && not (is_some by)) ≡ true) ↔ NotAdded is by m
+not_added m is by = turn m.orphans is by
+  where
+    turn : (o is : Bool) (by : Option ℕ) → (o || (not is && not (is_some by)) ≡ true) ↔ ((o ≡ true) ⊎ ((is ≡ false) × (by ≡ None)))
+    turn true is by = (λ e. inl refl, λ q. refl)
+    turn false true by = (λ e. cc, λ q. none q)
+      where
+        none : ((false ≡ true) ⊎ ((true ≡ false) × (by ≡ None))) → false ≡ true
+        none (inl e) = e
+        none (inr q) = let e = q.0 in cc
+    turn false false None = (λ e. inr (refl, refl), λ q. refl)
+    turn false false (Some u) = (λ e. cc, λ q. none q)
+      where
+        none : ((false ≡ true) ⊎ ((false ≡ false) × (Some u ≡ None))) → false ≡ true
+        none (inl e) = e
+        none (inr q) = let e = q.1 in cc

@@ -1,13 +1,15 @@
 -- A node is out no longer.
 use Rattle.std.proofs.Common.{◌≡◌, ℕ, zero, suc, ◌<◌, List, [], ◌∷◌, ◌++◌, length, length-set, Bool, true, false, not, ◌||◌, nat_eq, eqb-true, eq-eqb}
-use Rattle.std.proofs.Common.{set, refl, ap, sym, ◌∙◌, subst, arith, ◌⊎◌, inl, inr, Option, Some}
+use Rattle.std.proofs.Common.{get_or, set, refl, ap, sym, ◌∙◌, subst, arith, ◌⊎◌, inl, inr, Option, Some}
 use Rattle.ciel_journal.specs.Graph.{Led, root, through}
 use Rattle.ciel_journal.specs.Job.{In}
-use Rattle.ciel_journal.proofs.Members.{bool_cases}
+use Rattle.ciel_journal.proofs.Members.{bool_cases, or_true}
 use Rattle.ciel_marks.specs.Lists.{at, entry, flag}
 use Rattle.ciel_marks.specs.Marks.{Active, Counted, Justified, LacksIt, Listed, MarksSeen, Needs, Right, Stands, is_live, net}
+use Rattle.ciel_marks.specs.Moves.{MakesDead}
 use Rattle.ciel_marks.proofs.Slots.{entry_within, flag_here, flag_off, flag_other, flag_within, in_last, nat_cases, not_both, not_true}
 use Rattle.ciel_marks.proofs.Keeping.{all_counted, counted_still}
+use Rattle.ciel_marks.proofs.Rises.{got_in}
 
 module _ (m : MarksSeen) (u : ℕ) (needs : Needs) (right : Right m needs) (was : flag m.out u ≡ true) where
   s : Stands m needs [] []
@@ -194,3 +196,20 @@ open_why u b e = turn (bool_cases (nat_eq u 0))
 
 pub not_open : (u : ℕ) (b : Bool) → nat_eq u 0 || not b ≡ false → u ≡ 0 → ⊥
 not_open u b e z = not_both (nat_eq u 0 || not b) (ap (λ c. c || not b) (eq-eqb u 0 z)) e
+
+-- ---- where a node ended in part
+
+pub open_not : (u : ℕ) (b : Bool) → (nat_eq u 0 || not b ≡ true) → (u ≡ 0 → ⊥) → b ≡ true → ⊥
+open_not u b e f t = turn (open_why u b e)
+  where
+    turn : ((u ≡ 0) ⊎ (b ≡ false)) → ⊥
+    turn (inl z) = f z
+    turn (inr o) = not_both b t o
+
+pub not_open_touched : (u : ℕ) (b : Bool) → nat_eq u 0 || not b ≡ false → b ≡ true
+not_open_touched u true e = refl
+not_open_touched u false e = not_both (nat_eq u 0 || true) (or_true (nat_eq u 0) true refl) e
+
+pub makes_dead : (m : MarksSeen) (u : ℕ) (rows : List ℕ) (i : ℕ) → rows ≡ at m.makes u → i < length rows
+    → flag m.live (get_or rows i 0) ≡ false → MakesDead u m
+makes_dead m u rows i e l f = (get_or rows i 0, subst (In (get_or rows i 0)) e (got_in rows i l), f)

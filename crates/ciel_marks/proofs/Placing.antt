@@ -6,7 +6,7 @@ use Rattle.ciel_journal.specs.Job.{In}
 use Rattle.ciel_journal.proofs.Members.{bool_cases}
 use Rattle.ciel_marks.specs.Lists.{at, entry, flag}
 use Rattle.ciel_marks.specs.Marks.{Active, Counted, Filed, Justified, Listed, MarksSeen, Needs, Right, Stands, Watches, is_live, maker, net}
-use Rattle.ciel_marks.specs.Moves.{Placed, SameGraph, made_live}
+use Rattle.ciel_marks.specs.Moves.{NotPlaced, Placed, SameGraph, made_live}
 use Rattle.ciel_marks.proofs.Slots.{at_other, flag_here, flag_kept, flag_other, in_push, nat_cases}
 use Rattle.ciel_marks.proofs.Keeping.{all_counted, counted_still, led_wanted, stands_late}
 
@@ -126,3 +126,11 @@ module _ (m n : MarksSeen) (u : ℕ) (waiting rest : List ℕ) (last : waiting �
 pub placed_more : (l m n : MarksSeen) (r : ℕ) → Placed r l m → SameGraph m n → Placed r l n
 placed_more l m n r p g =
     record { live = g.live ∙ p.live; makers = g.makers ∙ p.makers; out = g.out ∙ p.out }
+
+-- a row is placed where the node that makes it isn't wanted, or is out
+pub placed_why : (m : MarksSeen) (r v : ℕ) → entry m.makers r ≡ Some v → (Active m v → ⊥) → NotPlaced r m → ⊥
+placed_why m r v e f (inl n) = let p : Some v ≡ None = sym e ∙ n in cc
+placed_why m r v e f (inr q) =
+    let p : Some q.0 ≡ Some v = sym q.1 ∙ e in
+    let s : q.0 ≡ v = cc in
+    f (subst (Active m) s q.2)

@@ -1,6 +1,6 @@
 -- Rising lists: what is put in and taken out.
 use Rattle.std.proofs.Common.{◌≡◌, ◌≤◌, ℕ, zero, suc, ◌<◌, List, [], ◌∷◌, ◌++◌, Bool, true, false, cond, is_ok, Result, Ok, Err, OnOk, length, get_or}
-use Rattle.std.proofs.Common.{take, drop, refl, sym, ◌∙◌, subst, arith, ◌⊎◌, inl, inr}
+use Rattle.std.proofs.Common.{take, drop, refl, sym, ◌∙◌, subst, arith, ◌⊎◌, inl, inr, ◌↔◌}
 use Rattle.std.specs.List.{AllByRecursion}
 use Rattle.std.specs.List.Sorted.{IsBinarySearchResult}
 use Rattle.std.specs.Ordering.{nat_cmp}
@@ -21,7 +21,7 @@ of_all P (x ∷ xs) f = (f x (inl refl), of_all P xs (λ y h. f y (inr h)))
 pub above : (x : ℕ) (xs : List ℕ) → Rising (x ∷ xs) → (y : ℕ) → In y xs → x < y
 above x xs r y h = all_of (λ z. x < z) xs y r.0 h
 
-got_in : (xs : List ℕ) (i : ℕ) → i < length xs → In (get_or xs i 0) xs
+pub got_in : (xs : List ℕ) (i : ℕ) → i < length xs → In (get_or xs i 0) xs
 got_in [] i l = absurd (omega (arith, l))
 got_in (x ∷ xs) zero l = inl refl
 got_in (x ∷ xs) (suc i) l = inr (got_in xs i (omega (arith, l)))
@@ -152,9 +152,11 @@ searched_there : (xs : List ℕ) (x : ℕ) (r : Result ℕ ℕ) → Rising xs �
     → MatchResult r (λ i. (i < length xs) × (get_or xs i 0 ≡ x)) (λ i. Fits i xs x)
 searched_there xs x r s h = searched xs x r h (in_order xs s)
 
-pub search_found : (xs : List ℕ) (x : ℕ) (r : Result ℕ ℕ) → Rising xs → IsBinarySearchResult (λ y. nat_cmp y x) xs r → is_ok r ≡ true → In x xs
-search_found xs x (Ok i) s h e = got xs i x (searched_there xs x (Ok i) s h)
-search_found xs x (Err i) s h e = cc
+pub search_found : (xs : List ℕ) (x : ℕ) (r : Result ℕ ℕ) → Rising xs → IsBinarySearchResult (λ y. nat_cmp y x) xs r
+    → (is_ok r ≡ true) ↔ In x xs
+search_found xs x (Ok i) s h = (λ e. got xs i x (searched_there xs x (Ok i) s h), λ k. refl)
+search_found xs x (Err i) s h =
+    (λ e. cc, λ k. absurd (fits_none i xs x (searched_there xs x (Err i) s h) k))
 
 pub search_at : (xs : List ℕ) (x : ℕ) (r : Result ℕ ℕ) (i : ℕ) → Rising xs → IsBinarySearchResult (λ y. nat_cmp y x) xs r → r ≡ Ok i
     → (i < length xs) × (get_or xs i 0 ≡ x)

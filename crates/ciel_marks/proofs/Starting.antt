@@ -1,17 +1,38 @@
 -- A node that can run is out.
-use Rattle.std.proofs.Common.{◌≡◌, ℕ, zero, suc, ◌<◌, List, [], length, length-set, true, false, set, slice_get, refl, ap, sym, ◌∙◌, subst, arith}
-use Rattle.std.proofs.Common.{◌⊎◌, inl, inr, Option, Some, None}
+use Rattle.std.proofs.Common.{◌≡◌, ℕ, zero, suc, ◌<◌, List, [], ◌∷◌, length, length-set, true, false, set, slice_get, refl, ap, sym, ◌∙◌, subst}
+use Rattle.std.proofs.Common.{arith, ◌⊎◌, inl, inr, Option, Some, None, Bool, not, ◌&&◌, ◌↔◌}
 use Rattle.ciel_journal.specs.Graph.{Led, root, through}
 use Rattle.ciel_journal.specs.Job.{In}
 use Rattle.ciel_marks.specs.Lists.{at, flag}
 use Rattle.ciel_marks.specs.Marks.{Active, Justified, LacksIt, Least, Listed, MarksSeen, Needs, Ready, Right, Stands, is_live, net}
-use Rattle.ciel_marks.specs.Moves.{CanRun, HasNot, UnlistedAt}
+use Rattle.ciel_marks.specs.Moves.{CanGoOut, CanRun, HasNot, UnlistedAt, is_none}
 use Rattle.ciel_marks.proofs.Slots.{flag_here, flag_kept, flag_other, flag_within, not_both}
 use Rattle.ciel_marks.proofs.Keeping.{all_counted, counted_still, least_in}
 
-pub can_run_node : (m : MarksSeen) (u r : ℕ) → (u ≡ 0 → ⊥) → Least m.makes u r → In r m.list → CanRun m u
-can_run_node m zero r f l h = absurd (f refl)
-can_run_node m (suc e) r f l h = (r, l, h)
+-- ---- which nodes can run
+
+pub root_can_run : (out : Bool) (lacks : List ℕ) → (not out && is_none lacks ≡ true) ↔ ((out ≡ false) × (lacks ≡ []))
+root_can_run true lacks = (λ e. cc, λ q. let e = q.0 in cc)
+root_can_run false [] = (λ e. (refl, refl), λ q. refl)
+root_can_run false (x ∷ xs) = (λ e. cc, λ q. let e = q.1 in cc)
+
+pub root_can_go_out : (m : MarksSeen) (u : ℕ) (b : Bool) → u ≡ 0 → b ≡ not (flag m.out 0) && is_none (at m.lacks 0) → (b ≡ true) ↔ CanGoOut u m
+root_can_go_out m zero b z e =
+    let q = root_can_run (flag m.out 0) (at m.lacks 0) in (λ t. q.0 (sym e ∙ t), λ c. e ∙ q.1 c)
+root_can_go_out m (suc v) b z e = cc
+
+pub node_can_run : (m : MarksSeen) (u r : ℕ) → (u ≡ 0 → ⊥) → Least m.makes u r → CanRun m u ↔ In r m.list
+node_can_run m zero r f l = absurd (f refl)
+node_can_run m (suc v) r f l = (λ c. subst (λ x. In x m.list) (same c.0 c.1) c.2, λ h. (r, l, h))
+  where
+    same : (x : ℕ) → Least m.makes (suc v) x → x ≡ r
+    same x k = let p : Some x ≡ Some r = sym k ∙ l in cc
+
+pub makes_none : (m : MarksSeen) (u : ℕ) → (u ≡ 0 → ⊥) → slice_get (at m.makes u) 0 ≡ None → CanRun m u → ⊥
+makes_none m zero f e c = f refl
+makes_none m (suc v) f e c = let p : None ≡ Some c.0 = sym e ∙ c.1 in cc
+
+-- ---- one that can run is out
 
 module _ (m : MarksSeen) (u : ℕ) (list : List ℕ) where
   -- it is out, and the list is this one

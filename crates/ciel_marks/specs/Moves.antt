@@ -169,6 +169,28 @@ pub record HasGraph (live : List Bool) (makers : List (Option ℕ)) (out : List 
 abbrev pub IsUnmade : List Bool → List (Option ℕ) → Type 0
 IsUnmade live makers = (r : ℕ) × (r < length live) × (entry makers r ≡ None) × (flag live r ≡ false)
 
+-- ---- why calls answer false
+
+-- a row is made by no node, or by one that is wanted and not out
+abbrev pub NotPlaced : ℕ → MarksSeen → Type 0
+NotPlaced r m = (entry m.makers r ≡ None) ⊎ ((u : ℕ) × (entry m.makers r ≡ Some u) × Active m u)
+
+-- a node isn't out, and can run as far as it is kept
+abbrev pub CanGoOut : ℕ → MarksSeen → Type 0
+CanGoOut u m = (flag m.out u ≡ false) × CanRun m u
+
+-- a node makes a row that isn't live
+abbrev pub MakesDead : ℕ → MarksSeen → Type 0
+MakesDead u m = (r : ℕ) × In r (at m.makes u) × (flag m.live r ≡ false)
+
+-- a node other than the root is wanted, and some row that it makes became live meanwhile, but another one isn't
+abbrev pub EndsPartly : ℕ → MarksSeen → Type 0
+EndsPartly u m = (flag m.wanted u ≡ true) × (u ≡ 0 → ⊥) × (flag m.touched u ≡ true) × MakesDead u m
+
+-- some row is made by no node, or the new one is and isn't live
+abbrev pub NotAdded : Bool → Option ℕ → MarksSeen → Type 0
+NotAdded is by m = (m.orphans ≡ true) ⊎ ((is ≡ false) × (by ≡ None))
+
 -- ---- what calls promise, whatever the needs are
 
 abbrev pub KeepsRight : MarksSeen → MarksSeen → Type 0

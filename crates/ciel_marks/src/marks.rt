@@ -1,11 +1,12 @@
 //! The marks: which nodes are wanted, which wait for which rows, and which can run.
 
-ghost use Rattle.std.specs.Prelude.{◌^◌, ◌&&◌, ◌||◌, nat_eq, not, ◌≡◌, ◌<◌, ◌+◌, ◌++◌, ◌∷◌, [], ℕ, true, false, IfOk, IfSome, MatchOption, None, Ok};
-ghost use Rattle.std.specs.Prelude.{OnOk, Option, Some, length, slice_get, slice_set, is_some};
+ghost use Rattle.std.specs.Prelude.{◌^◌, ◌&&◌, ◌||◌, nat_eq, not, ◌≡◌, ◌↔◌, ◌≤◌, ◌<◌, ◌+◌, ◌++◌, ◌∷◌, [], ℕ, true, false};
+ghost use Rattle.std.specs.Prelude.{IfOk, IfSome, MatchOption, None, Ok, OnOk, Option, Some, length, slice_get, slice_set, is_some};
 ghost use Rattle.ciel_journal.specs.Job.{In};
 ghost use Rattle.ciel_marks.specs.Lists.{Rising, at, entry, flag};
 ghost use Rattle.ciel_marks.specs.Marks.{Active, MarksSeen};
-ghost use Rattle.ciel_marks.specs.Moves.{AddsRight, CanRun, ClosesRight, GoesOn, KeepsRight, ListedAt, LooksAt, Opens, Placed, PlacesRight};
+ghost use Rattle.ciel_marks.specs.Moves.{AddsRight, CanGoOut, ClosesRight, EndsPartly, GoesOn, KeepsRight, ListedAt, LooksAt};
+ghost use Rattle.ciel_marks.specs.Moves.{MakesDead, NotAdded, NotPlaced, Opens, Placed, PlacesRight};
 ghost use Rattle.ciel_marks.specs.Moves.{SameGraph, SettledAt, UnlistedAt, filed, filed_under, grown, is_none, lacking, left_of, made_live, wants};
 ghost use Rattle.ciel_marks.specs.Moves.{wants_makers, wants_some, watched};
 
@@ -92,6 +93,7 @@ impl Marks {
     /// Whether there are so many rows that no other may be added.
     pub fn is_long(&self) -> bool
         ensures long { result ≡ false → length self.now.live < 2 ^ 32 }
+        ensures exact { (result ≡ true) ↔ 2 ^ 32 ≤ length self.now.live + 1 }
     {
         self.live.len() >= u32::MAX as usize
     }
@@ -223,7 +225,7 @@ impl Marks {
 
     /// Looks at the needs of a node that is wanted and not out. `rows` are those of the names that it waits for and aren't live.
     ///
-    /// Answers `Memory` for want of memory.
+    /// Answers `Memory` for want of memory. The node is neither listed nor waits for a row then: the marks may be wrong.
     pub fn count(&mut self, node: u32, rows: Numbers) -> Result<(), Memory>
         ensures same { OnOk result (SameGraph self.old self.new) }
         ensures stands { OnOk result (LooksAt node rows self.old self.new) }
@@ -264,12 +266,15 @@ impl Marks {
         self.todo.pop()
     }
 
-    /// A row became live. False where its maker isn't out and is wanted: the marks may be wrong then.
+    /// A row became live. False exactly where it has no maker, or its maker is wanted and not out: the marks stay as they were, which may
+    /// be wrong then.
     ///
-    /// Answers `Memory` for want of memory.
+    /// Answers `Memory` for want of memory. Some nodes that wait for the row may be left out then: the marks may be wrong.
     pub fn place(&mut self, row: u32) -> Result<bool, Memory>
         ensures placed { IfOk result (λ fits. fits ≡ true → Placed row self.old self.new) }
         ensures right { IfOk result (λ fits. fits ≡ true → PlacesRight row self.old self.new) }
+        ensures cause { IfOk result (λ fits. (fits ≡ false) ↔ NotPlaced row self.old) }
+        ensures same { IfOk result (λ fits. fits ≡ false → self.new ≡ self.old) }
     {
         let Some(maker) = self.maker(row) else {
             return Ok(false);
@@ -296,7 +301,7 @@ impl Marks {
 
     // Whether the node can run, as far as it is kept.
     fn can_run(&self, node: u32) -> bool
-        ensures { result ≡ true → (flag self.now.out node ≡ false) × CanRun self.now node }
+        ensures { (result ≡ true) ↔ CanGoOut node self.now }
     {
         if node == 0 {
             return self.root_runs();
@@ -307,11 +312,14 @@ impl Marks {
         }
     }
 
-    /// A node is out from now on. False where it can't run: the marks may be wrong then.
+    /// A node is out from now on. False exactly where it is out already, or can't run as far as it is kept: the marks stay as they were,
+    /// which may be wrong then.
     pub fn start(&mut self, node: u32) -> bool
         ensures out { result ≡ true → self.new.out ≡ slice_set self.old.out node true }
         ensures graph { result ≡ true → (self.new.live ≡ self.old.live) × (self.new.makers ≡ self.old.makers) }
         ensures right { result ≡ true → KeepsRight self.old self.new }
+        ensures cause { (result ≡ true) ↔ CanGoOut node self.old }
+        ensures same { result ≡ false → self.new ≡ self.old }
     {
         if !self.can_run(node) {
             return false;
@@ -339,7 +347,8 @@ impl Marks {
 
     // Whether each row that a node makes is live.
     fn all_live(&self, node: u32) -> bool
-        ensures { result ≡ true → (r : ℕ) → In r (at self.now.makes node) → flag self.now.live r ≡ true }
+        ensures all { result ≡ true → (r : ℕ) → In r (at self.now.makes node) → flag self.now.live r ≡ true }
+        ensures dead { result ≡ false → MakesDead node self.now }
     {
         let rows = list_at(&self.makes, node);
         for i in 0..rows.len() {
@@ -350,14 +359,15 @@ impl Marks {
         true
     }
 
-    /// A node is out no longer. What it waits for is still to be looked at then, if it isn't at its end: that is a search. False where
-    /// some row that it makes became live, and another one isn't: the marks may be wrong then.
+    /// A node is out no longer. What it waits for is still to be looked at then, if it isn't at its end: that is a search. False exactly
+    /// where it is wanted and isn't the root, and some row that it makes became live, and another one isn't: the marks may be wrong then.
     ///
-    /// Answers `Memory` for want of memory.
+    /// Answers `Memory` for want of memory. The node is out no longer then, and isn't looked at: the marks may be wrong.
     pub fn close(&mut self, node: u32) -> Result<bool, Memory>
         ensures out { OnOk result (self.new.out ≡ slice_set self.old.out node false) }
         ensures graph { OnOk result ((self.new.live ≡ self.old.live) × (self.new.makers ≡ self.old.makers)) }
         ensures stands { IfOk result (λ fits. fits ≡ true → ClosesRight node self.old self.new) }
+        ensures cause { IfOk result (λ fits. (fits ≡ false) ↔ EndsPartly node self.old) }
     {
         self.set_out(node, false);
         if !self.is_wanted(node) {
@@ -427,13 +437,15 @@ impl Marks {
         }
     }
 
-    /// One row more, at the end, which nobody waits for yet. False where it is made by no node and isn't live, or another row is made by
-    /// no node: the marks may be wrong then.
+    /// One row more, at the end, which nobody waits for yet. False exactly where it is made by no node and isn't live, or another row is
+    /// made by no node: the marks stay as they were, which may be wrong then.
     ///
-    /// Answers `Memory` for want of memory.
+    /// Answers `Memory` for want of memory. Only some of the lists may have the row then: the marks are of no use.
     pub fn add(&mut self, live: bool, maker: Option<u32>) -> Result<bool, Memory>
         requires few { length self.old.live < 2 ^ 32 }
         ensures right { IfOk result (λ fits. fits ≡ true → AddsRight live maker self.old self.new) }
+        ensures cause { IfOk result (λ fits. (fits ≡ false) ↔ NotAdded live maker self.old) }
+        ensures same { IfOk result (λ fits. fits ≡ false → self.new ≡ self.old) }
     {
         if self.is_full(live, maker) {
             return Ok(false);

@@ -1,7 +1,7 @@
 //! Rising lists of numbers. What is looked for is found by halves; what is put in or taken out moves what is behind it, which are
 //! 65,536 numbers at most.
 
-ghost use Rattle.std.specs.Prelude.{◌≡◌, ◌≤◌, ◌<◌, [], OnOk, cond, is_ok, length, true};
+ghost use Rattle.std.specs.Prelude.{◌≡◌, ◌↔◌, ◌≤◌, ◌<◌, [], OnOk, cond, is_ok, length, true};
 ghost use Rattle.std.specs.List.{insert};
 ghost use Rattle.ciel_journal.specs.Job.{In};
 ghost use Rattle.ciel_marks.specs.Lists.{HasAlso, HasBut, Rising};
@@ -58,7 +58,7 @@ impl RisingNumbers {
 
     /// Whether a number is in the list.
     pub(crate) fn has(&self, number: u32) -> bool
-        ensures { result ≡ true → In number self.now }
+        ensures { (result ≡ true) ↔ In number self.now }
     {
         self.items.as_slice().binary_search(&number).is_ok()
     }

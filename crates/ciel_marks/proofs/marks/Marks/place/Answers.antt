@@ -1,8 +1,8 @@
-use Rattle.std.proofs.Common.{◌∙◌, ap, sym, subst, []}
+use Rattle.std.proofs.Common.{◌∙◌, ap, sym, subst, refl, [], inl, inr}
 use Rattle.ciel_marks.specs.Lists.{at}
 use Rattle.ciel_marks.specs.Marks.{MarksSeen, Stands}
-use Rattle.ciel_marks.proofs.Placing.{goes_next, placed_more, placed_stands}
-use Rattle.ciel_marks.proofs.Going.{not_active}
+use Rattle.ciel_marks.proofs.Placing.{goes_next, placed_more, placed_stands, placed_why}
+use Rattle.ciel_marks.proofs.Going.{is_active, not_active}
 use Rattle.ciel_marks.proofs.marks.Marks.place.Goals as goal
 
 pub waiting-init : goal.waiting-init
@@ -37,3 +37,22 @@ pub returns-clause-right : goal.returns-clause-right
 returns-clause-right c =
     let i = c.waiting.invariant in
     λ e needs f r. (subst (λ ws. Stands c.waiting.self needs [] ws) c.in_default-pop.ensures.0 (i.stands needs f r), i.none needs r)
+
+pub returns-clause-cause : goal.returns-clause-cause
+returns-clause-cause c =
+    let m = c.args.self.now in
+    let v = c.in-Some.maker in (
+      λ e. cc,
+      λ q. absurd (placed_why m c.args.row v (sym c.maker.ensures ∙ c.in-Some.is)
+          (not_active m v (sym c.is_active.ensures ∙ c.if-is_active.false)) q),
+    )
+
+pub returns-then-is_active-clause-cause : goal.returns-then-is_active-clause-cause
+returns-then-is_active-clause-cause c =
+    let m = c.args.self.now in
+    let v = c.in-Some.maker in
+    (λ e. inr (v, sym c.maker.ensures ∙ c.in-Some.is, is_active m v (sym c.is_active.ensures ∙ c.if-is_active.true)), λ q. refl)
+
+pub returns-in_default-clause-cause : goal.returns-in_default-clause-cause
+returns-in_default-clause-cause c =
+    (λ e. inl (sym c.maker.ensures ∙ c.in_default.is), λ q. refl)

@@ -6,6 +6,8 @@ use Rattle.ciel_marks.proofs.rising.RisingNumbers.has.Goals as goal
 
 pub returns : goal.returns
 returns c =
-    λ e. subst (In c.args.number) (c.as_slice.ensures.value ∙ c.self.view_is)
-    (search_found c.as_slice.result.now c.args.number c.binary_search.result (subst Rising (sym c.as_slice.ensures.value) c.self.invariant)
-    c.binary_search.ensures.position (sym c.is_ok.ensures.value ∙ e))
+    let n = c.args.number in
+    let s = c.as_slice.ensures.value ∙ c.self.view_is in
+    let q = search_found c.as_slice.result.now n c.binary_search.result (subst Rising (sym c.as_slice.ensures.value) c.self.invariant)
+    c.binary_search.ensures.position in
+    (λ e. subst (In n) s (q.0 (sym c.is_ok.ensures.value ∙ e)), λ h. c.is_ok.ensures.value ∙ q.1 (subst (In n) (sym s) h))
