@@ -27,7 +27,7 @@ use Rattle.sky_parse_expr.specs.Built as built
 use Rattle.sky_parse_expr.specs.Held.{Held, after, both, seen_name, exp_part, exps_part, links_part, ands_part, steps_part}
 use Rattle.sky_parse_expr.specs.Reads.{Reads, ReadsExp, ReadsLinks, ReadsAnds, ReadsSteps, ReadsParts, ReadsMore}
 use Rattle.sky_parse_expr.proofs.HeldLaw.{exp_sized, exps_sized, both_nothing, after_nothing, after_name}
-use Rattle.sky_parse_expr.proofs.ReadsLaw.{at_front, behind, before, one, two}
+use Rattle.sky_parse_expr.proofs.ReadsLaw.{at_front, name_placed, behind, before, one, two}
 
 -- ---- leaves
 
@@ -48,7 +48,7 @@ leaf_literal v h ts rest t e k = read_literal v (place t) h ts rest
 pub leaf_name : (x y : List ℕ) (a b : Held) (ts rest : List Token) (t : Token) → ts ≡ t ∷ rest → t.kind ≡ TokenKind.Name y → x ≡ y → b
     ≡ seen_name y a → ReadsExp 7 (run.Exp.name x (place t)) a b ts rest
 leaf_name x y a b ts rest t e k n s = read_name x (place t) a b ts rest (s ∙ ap (λ z. seen_name z a) (sym n))
-    (λ more f. subst (λ us. Follows (name_at x (place t) ∷ more) us) (sym e) ((k ∙ ap TokenKind.Name (sym n), refl), f))
+    (name_placed x ts rest t e (k ∙ ap TokenKind.Name (sym n)))
 
 pub as_is : {l : ℕ} {x y : run.Exp} {a b : Held} {ts rest : List Token} → x ≡ y → ReadsExp l y a b ts rest → ReadsExp l x a b ts rest
 as_is {l = l} {a = a} {b = b} {ts = ts} {rest = rest} e h = subst (λ z. ReadsExp l z a b ts rest) (sym e) h

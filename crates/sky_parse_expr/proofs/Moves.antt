@@ -2,10 +2,11 @@
 use Rattle.std.proofs.Common.{◌≡◌, ℕ, zero, suc, ◌+◌, ◌≤◌, Bool, true, false, cond, List, [], ◌∷◌, length, Option, Some, None, refl, sym, ap, subst}
 use Rattle.std.proofs.Common.{◌∙◌, arith}
 use Rattle.std.specs.Prelude.{◌&&◌, if◌then◌else◌, Result, Ok, Err, IsErrAnd}
-use Rattle.sky_base.specs.TreeView.{arith_view, order_view}
+use Rattle.sky_base.specs.TreeView.{arith_view, order_view, sign_view}
 use Rattle.sky_grammar.specs.Levels.{oper_level}
 use Rattle.sky_base.specs.declared.tree.ArithOp.{ArithOp}
 use Rattle.sky_base.specs.declared.tree.Cmp.{Cmp}
+use Rattle.sky_base.specs.declared.tree.SignOp.{SignOp}
 use Rattle.sky_text.specs.declared.token.Sign.{Sign}
 use Rattle.sky_text.specs.declared.token.Word.{Word}
 use Rattle.sky_text.specs.declared.token.TokenKind.{TokenKind}
@@ -18,7 +19,7 @@ use Rattle.sky_parse_expr.specs.declared.look.Fail.{Fail}
 use Rattle.sky_grammar.specs.Signs.{is, is_word, at_sign, at_word}
 use Rattle.sky_grammar.specs.Levels.{rank, tighter, join_sign, opens, at_oper}
 use Rattle.sky_grammar.specs.Parts.{separator, full, ready, closing, step_sign, step_shape, head_shape}
-use Rattle.sky_grammar.specs.Grammar.{oper_sign, order_sign}
+use Rattle.sky_grammar.specs.Grammar.{oper_sign, order_sign, prefix_sign}
 use Rattle.sky_grammar.specs.Machine.{Item, Out, operand_of, again, tails, is_literal, is_function, word_head, sign_head, is_prefix, step, goes, run}
 use Rattle.sky_grammar.specs.Machine.{kinds}
 use Rattle.sky_parse_expr.specs.Runs.{Stops, Goes, at_next}
@@ -204,9 +205,14 @@ close_none h n k (t ∷ ts) e r =
 pub ruleset shapes = (many_empty, many_first, pairs_empty, pairs_first, fixed_first, full_ends, none_next, close_goes, close_none)
 
 -- Signs of a prefix.
-pub prefix_goes : (s : Sign) (k : List Item) (ts rest : List Token) (t : Token) → is_prefix (TokenKind.Sign s) ≡ true → ts ≡ t ∷ rest
-    → is s t.kind ≡ true → run (Item.level Level.Prefix ∷ k) (kinds ts) ≡ run (Item.level Level.Prefix ∷ k) (kinds rest)
-prefix_goes s k ts rest t p r h = let d = is_sign s t.kind h in rw (r, d, p) refl
+prefix_opens : (o : SignOp) → is_prefix (TokenKind.Sign (prefix_sign (sign_view o))) ≡ true
+prefix_opens SignOp.Not = refl
+prefix_opens SignOp.Minus = refl
+prefix_opens SignOp.Star = refl
+
+pub prefix_goes : (o : SignOp) (k : List Item) (ts rest : List Token) (t : Token) → ts ≡ t ∷ rest → is (prefix_sign (sign_view o)) t.kind ≡ true
+    → run (Item.level Level.Prefix ∷ k) (kinds ts) ≡ run (Item.level Level.Prefix ∷ k) (kinds rest)
+prefix_goes o k ts rest t r h = let d = is_sign (prefix_sign (sign_view o)) t.kind h in let p = prefix_opens o in rw (r, d, p) refl
 
 pub prefix_ends : (k : List Item) (ts : List Token) → at_sign Sign.Not ts ≡ false → at_sign Sign.Minus ts ≡ false → at_sign Sign.Star ts ≡ false
     → run (Item.level Level.Prefix ∷ k) (kinds ts) ≡ run (Item.stepped ∷ k) (kinds ts)

@@ -3,9 +3,10 @@ use Rattle.std.proofs.Common.{◌≡◌, ℕ, ◌+◌, List, [], ◌∷◌, ◌+
 use Rattle.std.specs.Prelude.{Result, Ok, Err, IfOk}
 use Rattle.sky_text.specs.declared.token.Sign.{Sign}
 use Rattle.sky_text.specs.declared.token.Word.{Word}
+use Rattle.sky_text.specs.declared.token.TokenKind.{TokenKind}
 use Rattle.sky_text.specs.declared.token.Token.{Token}
 use Rattle.sky_grammar.specs.Signs.{is, is_word}
-use Rattle.sky_grammar.specs.Grammar.{Mark, sign, sign_at, word, word_at, place, Fits, Follows, Spelled}
+use Rattle.sky_grammar.specs.Grammar.{Mark, sign, sign_at, word, word_at, name_at, place, Fits, Follows, Spelled}
 use Rattle.sky_grammar.proofs.Tokens.{is_sign, is_that_word}
 use Rattle.sky_parse_expr.specs.Held.{Held, Part, after, both, named_first, seen_name}
 use Rattle.sky_parse_expr.specs.Reads.{Reads, Onto}
@@ -30,6 +31,14 @@ word_front w ts rest t e h = λ more f. subst (λ us. Follows (word w ∷ more) 
 pub word_placed : (w : Word) (ts rest : List Token) (t : Token) → ts ≡ t ∷ rest → is_word w t.kind ≡ true
     → Spelled (λ more. word_at w (place t) ∷ more) ts rest
 word_placed w ts rest t e h = λ more f. subst (λ us. Follows (word_at w (place t) ∷ more) us) (sym e) ((is_that_word w t.kind h, refl), f)
+
+pub name_front : (x : List ℕ) (ts rest : List Token) (t : Token) → ts ≡ t ∷ rest → t.kind ≡ TokenKind.Name x
+    → Spelled (λ more. Mark.plain (TokenKind.Name x) ∷ more) ts rest
+name_front x ts rest t e k = λ more f. subst (λ us. Follows (Mark.plain (TokenKind.Name x) ∷ more) us) (sym e) (k, f)
+
+pub name_placed : (x : List ℕ) (ts rest : List Token) (t : Token) → ts ≡ t ∷ rest → t.kind ≡ TokenKind.Name x
+    → Spelled (λ more. name_at x (place t) ∷ more) ts rest
+name_placed x ts rest t e k = λ more f. subst (λ us. Follows (name_at x (place t) ∷ more) us) (sym e) ((k, refl), f)
 
 -- ---- one reading with tokens beside it
 

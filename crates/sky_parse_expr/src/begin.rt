@@ -89,8 +89,7 @@ fn word_head(word: Word) -> Option<Head>
 
 /// The form that begins with a sign.
 fn sign_head(sign: Sign) -> Option<Head>
-    ensures exact { result ≡ sign_head sign }
-    ensures some { IfSome result (λ h. (t : Token) (p : Place) (ts : List Token) → Fits (g.sign_at sign p) t → Spelled (spell_head h p) (t ∷ ts) ts) }
+    ensures { result ≡ sign_head sign }
 {
     match sign {
         Sign::OpenRound => Some(Head::Parens),

@@ -2,17 +2,18 @@
 // parts are read in loops. So the depth of the stack is bounded by the brackets. The body of an anonymous
 // function is a block, which stands a layer above: what reads it is handed in.
 
-ghost use Rattle.std.specs.Prelude.{◌≡◌, ◌<◌, ◌≤◌, ◌+◌, ◌∷◌, [], List, true, length, IfOk, IfSome};
-ghost use Rattle.sky_base.specs.TreeView.{exp_view, exps_view, links_view, ands_view, steps_view, signs_view};
+ghost use Rattle.std.specs.Prelude.{◌≡◌, ◌<◌, ◌≤◌, ◌+◌, ◌∷◌, List, true, false, length, IfOk, IfSome, IfNone};
+ghost use Rattle.sky_base.specs.TreeView.{exp_view, exps_view, links_view, ands_view, steps_view, signs_view, sign_view};
+ghost use Rattle.sky_grammar.specs.Signs.{is, at_sign};
 ghost use Rattle.sky_grammar.specs.Levels.{rank, junction};
 ghost use Rattle.sky_grammar.specs.Parts.{ready};
 ghost use Rattle.sky_grammar.specs.Machine.{Item, tails, run, kinds};
-ghost use Rattle.sky_grammar.specs.Grammar.{Spelled, spell_signs};
+ghost use Rattle.sky_grammar.specs.Grammar.{Spelled, spell_signs, prefix_sign};
 ghost use Rattle.sky_grammar.specs.declared.level.Level.{Level};
 ghost use Rattle.sky_parse_expr.specs.Held.{Held};
 ghost use Rattle.sky_parse_expr.specs.Reads.{Onto, Onward, ReadsAnds, ReadsExp, ReadsLinks, ReadsParts, ReadsSteps};
 ghost use Rattle.sky_parse_expr.specs.Bodies.{CanRead, ReadsBodies};
-ghost use Rattle.sky_parse_expr.specs.Runs.{Runs, Goes, Takes};
+ghost use Rattle.sky_parse_expr.specs.Runs.{Runs, Goes};
 ghost use Rattle.sky_text.specs.declared.token.Token.{Token};
 
 use crate::begin::{Opening, begin_step, start};
@@ -208,40 +209,18 @@ fn joins<'a, F: for<'b> Fn(&mut Made, &'b [Token]) -> Result<(Block, &'b [Token]
 }
 
 /// A sign of a prefix, if one stands first, and what follows.
-fn sign_op(ts: &[Token]) -> Option<(SignAt, &[Token])>
-    ensures read { Takes (λ x k. run (Item.level Level.Prefix ∷ k) (kinds x.1.now)) (λ k. run (Item.stepped ∷ k) (kinds ts.now))
-        (λ k. run (Item.level Level.Prefix ∷ k) (kinds ts.now)) result }
-    ensures some { IfSome result (λ x. (length x.1.now < length ts.now) × Spelled (spell_signs (signs_view (x.0 ∷ []))) ts.now x.1.now) }
+fn sign_op(ts: &[Token]) -> Option<(SignOp, &Token, &[Token])>
+    ensures some { IfSome result (λ x. (ts.now ≡ x.1.now ∷ x.2.now) × (is (prefix_sign (sign_view x.0)) x.1.now.kind ≡ true)) }
+    ensures none { IfNone result ((at_sign Sign.Not ts.now ≡ false) × (at_sign Sign.Minus ts.now ≡ false) × (at_sign Sign.Star ts.now ≡ false)) }
 {
-    if let Some((at, rest)) = eat(ts, Sign::Not) {
-        return Some((
-            SignAt {
-                sign: SignOp::Not,
-                line: at.line,
-                col: at.col,
-            },
-            rest,
-        ));
+    if let Some((sign, rest)) = eat(ts, Sign::Not) {
+        return Some((SignOp::Not, sign, rest));
     }
-    if let Some((at, rest)) = eat(ts, Sign::Minus) {
-        return Some((
-            SignAt {
-                sign: SignOp::Minus,
-                line: at.line,
-                col: at.col,
-            },
-            rest,
-        ));
+    if let Some((sign, rest)) = eat(ts, Sign::Minus) {
+        return Some((SignOp::Minus, sign, rest));
     }
-    let (at, rest) = eat(ts, Sign::Star)?;
-    Some((
-        SignAt {
-            sign: SignOp::Star,
-            line: at.line,
-            col: at.col,
-        },
-        rest,
-    ))
+    let (sign, rest) = eat(ts, Sign::Star)?;
+    Some((SignOp::Star, sign, rest))
 }
 
 /// The signs of a prefix.
@@ -252,8 +231,12 @@ fn signs(alloc: Global, ts: &[Token]) -> Result<(Vec<SignAt>, &[Token]), Fail>
 {
     let mut items = Vec::new(alloc);
     let mut rest = ts;
-    while let Some((sign, after)) = sign_op(rest) {
-        let Ok(()) = items.push(sign) else {
+    while let Some((op, sign, after)) = sign_op(rest) {
+        let Ok(()) = items.push(SignAt {
+            sign: op,
+            line: sign.line,
+            col: sign.col,
+        }) else {
             return Err(Fail::Memory)
         };
         rest = after;

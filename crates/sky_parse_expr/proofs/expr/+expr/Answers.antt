@@ -7,8 +7,8 @@ use Rattle.sky_base.specs.TreeView.{at, arith_view, order_view, exps_view, links
 use Rattle.sky_base.specs.Tree as tree
 use Rattle.sky_text.specs.declared.token.Sign.{Sign}
 use Rattle.sky_text.specs.declared.token.Token.{Token}
-use Rattle.sky_grammar.specs.Signs.{is}
-use Rattle.sky_grammar.specs.Levels.{rank, junction, join_sign}
+use Rattle.sky_grammar.specs.Signs.{is, at_sign}
+use Rattle.sky_grammar.specs.Levels.{rank, junction, join_sign, at_oper}
 use Rattle.sky_grammar.specs.declared.level.Level.{Level}
 use Rattle.sky_grammar.specs.declared.parts.Shape.{Shape}
 use Rattle.sky_grammar.specs.Machine.{Item, tails, run, kinds}
@@ -24,7 +24,8 @@ use Rattle.sky_parse_expr.proofs.ReadsLaw.{sign_front, sign_placed, onto_none, o
 use Rattle.sky_parse_expr.proofs.ExpLaw.{as_is, lower, read_chained, read_link, read_no_links, read_compared, read_joined, read_and, read_no_ands}
 use Rattle.sky_parse_expr.proofs.ExpLaw.{read_prefixed, read_stepped, read_no_steps, read_formed, read_step, parts_begun, parts_next, parts_done}
 use Rattle.sky_parse_expr.proofs.LevelsLaw.{join_is, junction_rank, sum_high, truth_low}
-use Rattle.sky_parse_expr.proofs.Moves.{exit, passed, link_goes, join_goes, step_goes, tails_on, stepped_is}
+use Rattle.sky_parse_expr.proofs.Moves.{exit, passed, link_goes, join_goes, join_ends, compare_goes, step_goes, steps_end, tail_ends, prefix_tail}
+use Rattle.sky_parse_expr.proofs.Moves.{tails_on, tails_end, stepped_is}
 use Rattle.sky_parse_expr.proofs.expr.+expr.Goals as goal
 
 -- what is read of lists of links, of joins and of steps
@@ -58,6 +59,21 @@ links-loop-op-preserved f t c =
       less = omega (arith, l.invariant.less, ap length some.0, c.in_ok-operand.ensures.less);
     }
 
+pub links-returns-in_err-operand-clause-read : goal.links-returns-in_err-operand-clause-read
+links-returns-in_err-operand-clause-read f t c =
+    let l = c.loop-op in
+    let some = c.in-Some.ensures.some in
+    let sign = c.in-Some.sign.now in
+    let after = c.in-Some.after.now in
+    exit c.from_residual.result c.in_err-operand.field-0.0 (λ x k. run k (kinds x.1.now))
+    (λ k. run (Item.tail c.args.level ∷ k) (kinds c.args.ts.now)) (λ k. run (Item.level c.args.inner ∷ k) (kinds after))
+    (λ k. Item.tail c.args.level ∷ k) c.from_residual.ensures.1
+    (λ k. l.invariant.read k ∙ link_goes c.args.level c.args.inner c.in-Some.op k l.rest.now after sign c.requires.tighter
+    c.requires.arithmetic.0 c.requires.arithmetic.1 some.0 some.1 some.2) c.in_err-operand.ensures.read
+
+pub links-returns-clause-read : goal.links-returns-clause-read
+links-returns-clause-read f t c = λ k. c.loop-op.invariant.read k ∙ tail_ends c.args.level k c.loop-op.rest.now c.in_default.ensures.none
+
 pub links-returns-clause-tree : goal.links-returns-clause-tree
 links-returns-clause-tree f t c = onto_end (LinksV c.args.level) c.loop-op.items.items c.args.made.now c.loop-op.made c.args.ts.now
     c.loop-op.rest.now c.loop-op.invariant.tree (read_no_links (rank c.args.level) c.loop-op.made c.loop-op.rest.now)
@@ -84,6 +100,25 @@ joins-loop-sign-preserved f t c =
           (lower (omega (arith, c.requires.tighter, junction_rank c.args.level c.requires.of_truth)) c.in_ok-operand.ensures.tree) h));
       less = omega (arith, l.invariant.less, ap length some.0, c.in_ok-operand.ensures.less);
     }
+
+pub joins-returns-in_err-operand-clause-read : goal.joins-returns-in_err-operand-clause-read
+joins-returns-in_err-operand-clause-read f t c =
+    let l = c.loop-sign in
+    let some = c.in-Some.ensures.some in
+    let sign = c.in-Some.sign.now in
+    let after = c.in-Some.after.now in
+    let joint : is (join_sign c.args.level) sign.kind ≡ true = subst (λ (s : Sign). is s sign.kind ≡ true) c.join_sign.ensures some.1 in
+    exit c.from_residual.result c.in_err-operand.field-0.0 (λ x k. run k (kinds x.1.now))
+    (λ k. run (Item.tail c.args.level ∷ k) (kinds c.args.ts.now)) (λ k. run (Item.level c.args.inner ∷ k) (kinds after))
+    (λ k. Item.tail c.args.level ∷ k) c.from_residual.ensures.1
+    (λ k. l.invariant.read k ∙ join_goes c.args.level c.args.inner k l.rest.now after sign c.requires.tighter c.requires.of_truth some.0 joint)
+    c.in_err-operand.ensures.read
+
+pub joins-returns-clause-read : goal.joins-returns-clause-read
+joins-returns-clause-read f t c =
+    let rest = c.loop-sign.rest.now in
+    let none = subst (λ (s : Sign). at_sign s rest ≡ false) c.join_sign.ensures c.in_default.ensures.none in
+    λ k. c.loop-sign.invariant.read k ∙ join_ends c.args.level k rest c.requires.of_truth none
 
 pub joins-returns-clause-tree : goal.joins-returns-clause-tree
 joins-returns-clause-tree f t c = onto_end (AndsV c.args.level) c.loop-sign.items.items c.args.made.now c.loop-sign.made c.args.ts.now
@@ -113,6 +148,22 @@ steps-loop-kind-preserved f t c =
           (read_step kind (place sign) (sign_placed (step_sign kind) l.rest.now c.in-Some.after.now sign some.0 some.1) parts r)));
       less = omega (arith, l.invariant.less, ap length some.0, c.in_ok-found.ensures.less);
     }
+
+pub steps-returns-in_err-found-clause-read : goal.steps-returns-in_err-found-clause-read
+steps-returns-in_err-found-clause-read f t c =
+    let l = c.loop-kind in
+    let some = c.in-Some.ensures.some in
+    let after = c.in-Some.after.now in
+    exit c.from_residual.result c.in_err-found.field-0.0 (λ x k. run k (kinds x.1.now))
+    (λ k. run (Item.steps ∷ k) (kinds c.args.ts.now)) (λ k. run (Item.parts c.shape.result ∷ k) (kinds after))
+    (λ k. Item.steps ∷ k) c.from_residual.ensures.1
+    (λ k. l.invariant.read k ∙ step_goes c.in-Some.kind k l.rest.now after c.in-Some.sign.now some.0 some.1
+    ∙ ap (λ (sh : Shape). run (Item.parts sh ∷ Item.steps ∷ k) (kinds after)) (sym c.shape.ensures)) c.in_err-found.ensures.read
+
+pub steps-returns-clause-read : goal.steps-returns-clause-read
+steps-returns-clause-read f t c =
+    let none = c.in_default.ensures.none in
+    λ k. c.loop-kind.invariant.read k ∙ steps_end k c.loop-kind.rest.now none.0 none.1
 
 pub parts-loop-after-init : goal.parts-loop-after-init
 parts-loop-after-init f t c =
@@ -206,6 +257,10 @@ at_level-returns-clause-read f t c = passed c.onward.result (λ x k. run k (kind
     (λ k. run (Item.level c.args.level ∷ k) (kinds c.args.ts.now)) (λ k. run (tails c.args.level k) (kinds c.in_ok-first.rest.now))
     (λ k. level_is c.args.level k (kinds c.args.ts.now) ∙ c.in_ok-first.ensures.read (tails c.args.level k)) c.onward.ensures.read
 
+pub onward-returns-in_default-clause-read : goal.onward-returns-in_default-clause-read
+onward-returns-in_default-clause-read f t c = λ k. ap (λ (i : List Item). run i (kinds c.args.ts.now))
+    (tails_end c.args.level k (sym c.in_default.ensures))
+
 pub onward-returns-in_err-first-clause-read : goal.onward-returns-in_err-first-clause-read
 onward-returns-in_err-first-clause-read f t c =
     exit c.from_residual.result c.in_err-first.field-0.0 (λ x k. run k (kinds x.1.now)) (λ k. run (tails c.args.level k) (kinds c.args.ts.now))
@@ -284,6 +339,22 @@ tail-returns-in-Ok-logic-clause-tree f t c = λ h from x.
     let level = junction_rank c.args.level (truth_low c.args.level c.in-Either.is) in
     as_is c.in-Ok-logic.ensures (lower (omega (arith, level))
     (read_joined (junction c.args.level) (lower (omega (arith, level, c.requires.tighter)) x) c.in_ok-joins-in-Either.ensures.tree))
+
+pub tail-returns-in-Prefix-clause-read : goal.tail-returns-in-Prefix-clause-read
+tail-returns-in-Prefix-clause-read f t c = λ k. prefix_tail c.args.level k c.args.ts.now c.in-Prefix.is
+
+pub tail-returns-in_default-clause-read : goal.tail-returns-in_default-clause-read
+tail-returns-in_default-clause-read f t c =
+    let none = subst (λ (l : Level). at_oper l c.args.ts.now ≡ false) (sym c.in-Comparison.is) c.in_default.ensures.none in
+    λ k. tail_ends c.args.level k c.args.ts.now none
+
+pub tail-returns-in-Ok-compare-clause-read : goal.tail-returns-in-Ok-compare-clause-read
+tail-returns-in-Ok-compare-clause-read f t c =
+    let three : rank c.args.inner ≡ 3 = omega (arith, c.requires.tighter, ap rank c.in-Comparison.is) in
+    let some = c.in-Some.ensures.some in
+    λ k. ap (λ (l : Level). run (Item.tail l ∷ k) (kinds c.args.ts.now)) c.in-Comparison.is
+    ∙ compare_goes c.args.inner c.in-Some.how k c.args.ts.now c.in-Some.rest.now c.in-Some.sign.now three some.0 some.1
+    ∙ c.in_ok-right-in-Comparison.ensures.read k
 
 pub tail-returns-in-Ok-compare-clause-tree : goal.tail-returns-in-Ok-compare-clause-tree
 tail-returns-in-Ok-compare-clause-tree f t c = λ h from x.

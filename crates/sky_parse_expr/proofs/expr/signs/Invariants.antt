@@ -5,12 +5,12 @@ use Rattle.sky_grammar.specs.Machine.{Item, run, kinds}
 use Rattle.sky_grammar.specs.Grammar.{Spelled, spell_signs}
 use Rattle.sky_parse_expr.proofs.expr.signs.Given as goal
 
-abbrev pub invariant-loop-sign : goal.invariant-loop-sign
-invariant-loop-sign l = record {
+abbrev pub invariant-loop-op : goal.invariant-loop-op
+invariant-loop-op l = record {
   read : (k : List Item) → run (Item.level Level.Prefix ∷ k) (kinds l.ts) ≡ run (Item.level Level.Prefix ∷ k) (kinds l.rest);
   spelled : Spelled (spell_signs (signs_view l.items.items)) l.ts l.rest;
   less : length l.rest ≤ length l.ts;
 }
 
-abbrev pub decreases-loop-sign : goal.decreases-loop-sign
-decreases-loop-sign l = length l.rest
+abbrev pub decreases-loop-op : goal.decreases-loop-op
+decreases-loop-op l = length l.rest
