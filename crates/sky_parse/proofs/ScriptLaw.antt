@@ -19,12 +19,12 @@ use Rattle.sky_grammar.specs.Signs.{is_word}
 use Rattle.sky_grammar.specs.Grammar.{sign, name_at, spell_params, spell_block, Follows, Spelled}
 use Rattle.sky_grammar.proofs.Tokens.{is_that_word}
 use Rattle.sky_parse.specs.declared.script.Read.{Read}
-use Rattle.sky_parse_expr.specs.Held.{Held, after, seen_twice, stm_part, stms_part, nothing_held}
+use Rattle.sky_held.specs.Held.{Held, after, seen_twice, stm_part, stms_part, nothing_held}
 use Rattle.sky_parse_expr.specs.Reads.{ReadsBlock}
 use Rattle.sky_parse.specs.Statements.{ReadsStm}
 use Rattle.sky_parse.specs.Scripts.{ReadsFun, SoFar, IsRead}
-use Rattle.sky_parse_expr.proofs.HeldLaw.{first_assoc, first_none, number, stm_sized, stms_sized}
-use Rattle.sky_parse_expr.proofs.NamesLaw.{known_more}
+use Rattle.sky_held.proofs.HeldLaw.{first_assoc, first_none, number, stm_sized, stms_sized}
+use Rattle.sky_held.proofs.NamesLaw.{known_more}
 
 -- ---- named functions
 

@@ -14,10 +14,10 @@ use Rattle.sky_grammar.specs.Lifted.{tree, stms_tree, arms_tree, else_tree}
 use Rattle.sky_grammar.specs.Lifted as lifted
 use Rattle.sky_grammar.specs.Grammar.{Mark, sign, sign_at, word, word_at, name_at, place, spell, Fits, Spelled}
 use Rattle.sky_grammar.proofs.Means.{start_fits}
-use Rattle.sky_parse_expr.specs.Held.{Held, Part, both, seen_name, exp_part, stms_part, arms_part, else_part}
+use Rattle.sky_held.specs.Held.{Held, Part, both, seen_name, exp_part, stms_part, arms_part, else_part}
 use Rattle.sky_parse_expr.specs.Reads.{ReadsExp, ReadsBlock}
 use Rattle.sky_parse.specs.Statements.{ReadsEnded, ReadsTest, ReadsEach, ReadsStm, ReadsStms, ReadsArm, ReadsRest, Arm, ArmRun, Rest, RestRun}
-use Rattle.sky_parse_expr.proofs.HeldLaw.{Sized, exp_sized, stm_sized, stms_sized, both_sized, both_assoc, nothing_both, after_nothing}
+use Rattle.sky_held.proofs.HeldLaw.{Sized, exp_sized, stm_sized, stms_sized, both_sized, both_assoc, nothing_both, after_nothing}
 use Rattle.sky_parse_expr.proofs.ReadsLaw.{at_front, behind, before, named, one, two}
 
 pub read_ended : {e : run.Exp} {a b : Held} {ts mid rest : List Token} → ReadsExp 0 e a b ts mid

@@ -13,7 +13,7 @@ use Rattle.sky_grammar.specs.Signs.{at_sign, is_word}
 use Rattle.sky_grammar.specs.Grammar.{Fun, sign, name_at, spell_params, spell_block, AreStms, Spelled}
 use Rattle.sky_grammar.specs.Names.{first_of, at_twice, same_params, same_names}
 use Rattle.sky_grammar.specs.Tops.{Top, spell_tops, AreTops, def_of, defs_of, main_of, made_of}
-use Rattle.sky_parse_expr.specs.Held.{Held, after, seen_twice, stms_part}
+use Rattle.sky_held.specs.Held.{Held, after, seen_twice, stms_part}
 use Rattle.sky_parse.specs.declared.script.Read.{Read}
 
 -- a named function was read behind its word, where functions of these names came before

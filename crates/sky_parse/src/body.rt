@@ -11,8 +11,8 @@ ghost use Rattle.sky_parse_expr.specs.Runs.{Runs};
 
 use crate::stmt::{block, stmt};
 use sky_base::stmt::{Block, Stmt};
+use sky_held::made::Made;
 use sky_parse_expr::look::Fail;
-use sky_parse_expr::made::Made;
 use sky_text::token::Token;
 use std::alloc::Global;
 

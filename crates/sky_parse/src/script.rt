@@ -20,10 +20,10 @@ use crate::body::{top_stmt, whole_block};
 use crate::brackets::too_nested;
 use sky_base::script::{FunDef, FunDefs, Script, Texts};
 use sky_base::stmt::{Block, Stmt};
+use sky_held::made::Made;
+use sky_held::names::{Known, noted, parameters};
 use sky_parse_expr::function::params;
 use sky_parse_expr::look::{Fail, eat_word, stands, want, want_name};
-use sky_parse_expr::made::Made;
-use sky_parse_expr::names::{Known, noted, parameters};
 use sky_text::token::{Sign, Token, Word};
 use std::alloc::Global;
 

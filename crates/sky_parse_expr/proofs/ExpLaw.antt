@@ -24,9 +24,9 @@ use Rattle.sky_grammar.specs.Grammar.{spell_other_pairs, spell_links, spell_ands
 use Rattle.sky_grammar.specs.Grammar.{AreSteps, paired, valued, place, Fits, Follows, Spelled}
 use Rattle.sky_grammar.specs.Parts.{Has, separator, ready, closing, spell_head, spell_parts, head_shape, step_shape, step_sign}
 use Rattle.sky_parse_expr.specs.Built as built
-use Rattle.sky_parse_expr.specs.Held.{Held, after, both, seen_name, exp_part, exps_part, links_part, ands_part, steps_part}
+use Rattle.sky_held.specs.Held.{Held, after, both, seen_name, exp_part, exps_part, links_part, ands_part, steps_part}
 use Rattle.sky_parse_expr.specs.Reads.{Reads, ReadsExp, ReadsLinks, ReadsAnds, ReadsSteps, ReadsParts, ReadsMore}
-use Rattle.sky_parse_expr.proofs.HeldLaw.{exp_sized, exps_sized, both_nothing, after_nothing, after_name}
+use Rattle.sky_held.proofs.HeldLaw.{exp_sized, exps_sized, both_nothing, after_nothing, after_name}
 use Rattle.sky_parse_expr.proofs.ReadsLaw.{at_front, name_placed, behind, before, one, two}
 
 -- ---- leaves

@@ -1,11 +1,8 @@
 pub mod Builds
 pub mod Wholes
 pub mod Moves
-pub mod HeldLaw
 pub mod ReadsLaw
 pub mod ExpLaw
-pub mod NamesLaw
 pub mod ParamsLaw
-pub mod MadeLaw
 pub mod FunctionLaw
 pub mod LevelsLaw

@@ -6,7 +6,7 @@ use Rattle.sky_text.specs.declared.token.Token.{Token}
 use Rattle.sky_grammar.specs.Grammar.{Fits, Spelled, word_at}
 use Rattle.sky_grammar.specs.Parts.{spell_head}
 use Rattle.sky_parse_expr.specs.declared.begin.Opening.{Opening}
-use Rattle.sky_parse_expr.specs.Held.{Held}
+use Rattle.sky_held.specs.Held.{Held}
 use Rattle.sky_parse_expr.specs.Reads.{ReadsExp}
 
 abbrev pub Begun : Opening → Held → Held → List Token → List Token → Type 0

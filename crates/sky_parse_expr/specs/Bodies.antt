@@ -6,7 +6,7 @@ use Rattle.sky_text.specs.declared.token.Token.{Token}
 use Rattle.sky_grammar.specs.Machine.{Item, kinds}
 use Rattle.sky_grammar.specs.Machine as machine
 use Rattle.sky_parse_expr.specs.declared.look.Fail.{Fail}
-use Rattle.sky_parse_expr.specs.Held.{Held}
+use Rattle.sky_held.specs.Held.{Held}
 use Rattle.sky_parse_expr.specs.Reads.{ReadsBlock}
 use Rattle.sky_parse_expr.specs.Runs.{Runs}
 

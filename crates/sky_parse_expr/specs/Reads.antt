@@ -1,8 +1,8 @@
 -- What the functions of the parser say of what they read: a tree of the text that spells the tokens, the tree that is
 -- run in its place, and what is held behind it.
-use Rattle.std.specs.Prelude.{◌≡◌, ℕ, zero, suc, ◌+◌, ◌%◌, ◌==◌, ◌≤◌, if◌then◌else◌, List, [], ◌∷◌, ◌++◌, length, drop, true}
+use Rattle.std.specs.Prelude.{◌≡◌, ℕ, ◌+◌, ◌%◌, ◌==◌, ◌≤◌, if◌then◌else◌, List, ◌∷◌, ◌++◌, length, true}
 use Rattle.sky_base.specs.Tree as run
-use Rattle.sky_base.specs.Tree.{Place, Junction}
+use Rattle.sky_base.specs.Tree.{Junction}
 use Rattle.sky_grammar.specs.Levels.{junction_level}
 use Rattle.sky_text.specs.declared.token.Sign.{Sign}
 use Rattle.sky_text.specs.declared.token.Word.{Word}
@@ -10,14 +10,14 @@ use Rattle.sky_text.specs.declared.token.TokenKind.{TokenKind}
 use Rattle.sky_text.specs.declared.token.Token.{Token}
 use Rattle.sky_grammar.specs.declared.parts.Shape.{Shape}
 use Rattle.sky_grammar.specs.Source.{Exp, Exps, Stms, Arms, Else, level, exps_count}
-use Rattle.sky_grammar.specs.Lifted.{number_name, uses_of, tree, exps_tree, links_tree, ands_tree, steps_tree, stm_tree, stms_tree, arms_tree}
-use Rattle.sky_grammar.specs.Lifted.{else_tree, arms_count, count}
+use Rattle.sky_grammar.specs.Lifted.{tree, exps_tree, links_tree, ands_tree, steps_tree, stm_tree, stms_tree, arms_tree}
+use Rattle.sky_grammar.specs.Lifted.{else_tree, arms_count}
 use Rattle.sky_grammar.specs.Grammar.{Mark, sign, word, spell, spell_links, spell_ands, spell_steps, spell_stm, spell_stms, spell_block, spell_test}
 use Rattle.sky_grammar.specs.Grammar.{spell_others, spell_value, spell_other_pairs, spell_other_arms, spell_else, IsTree, AreTrees, AreLinks, AreAnds}
 use Rattle.sky_grammar.specs.Grammar.{AreSteps, IsStm, AreStms, AreArms, IsElse, paired, valued, Spelled}
 use Rattle.sky_grammar.specs.Parts.{Has, spell_parts}
-use Rattle.sky_parse_expr.specs.Held.{Held, Part, after, both, named_first, exp_part, exps_part, links_part, ands_part, steps_part, stm_part}
-use Rattle.sky_parse_expr.specs.Held.{stms_part, arms_part, else_part}
+use Rattle.sky_held.specs.Held.{Held, Part, after, both, named_first, exp_part, exps_part, links_part, ands_part, steps_part, stm_part}
+use Rattle.sky_held.specs.Held.{stms_part, arms_part, else_part}
 
 -- A tree of one kind was read: what makes it a tree of the grammar, what runs in its place, what it adds and how it is spelled.
 pub record Reads {S R : Type 0} (good : S → Type 0) (tree : ℕ → S → R) (part : S → Part) (spell : S → List Mark → List Mark) (r : R)
@@ -70,23 +70,3 @@ Onward m l first all old new ts rest = (h : Held) (from : List Token) → ReadsE
 -- Items of a list were read: with those that are read behind them they make the list.
 abbrev pub Onto : {X : Type 0} → (List X → Held → Held → List Token → List Token → Type 0) → List X → Held → Held → List Token → List Token → Type 0
 Onto V xs a b ts rest = (ys : List _) (c : Held) (end : List Token) → V ys b c rest end → V (xs ++ ys) a c ts end
-
--- ---- anonymous functions, while their bodies are read
-
-abbrev pub opened : ℕ → Place → List (List ℕ) → run.FunDef
-opened n p xs = record { name = number_name n; params = xs; body = run.Stms.no_stms; place = p; uses = [] }
-
-abbrev pub with_body : run.Stms → List (List ℕ) → run.FunDef → run.FunDef
-with_body b ys f = record { name = f.name; params = f.params; body = b; place = f.place; uses = uses_of f.params ys }
-
--- the list in which the function of this number has this body, in which these names stand
-abbrev pub closed_at : ℕ → run.Stms → List (List ℕ) → List run.FunDef → List run.FunDef
-closed_at n b ys [] = []
-closed_at zero b ys (f ∷ fs) = with_body b ys f ∷ fs
-closed_at (suc n) b ys (f ∷ fs) = f ∷ closed_at n b ys fs
-
-abbrev pub open_in : Place → List (List ℕ) → Held → Held
-open_in p xs h = record { funs = h.funs ++ opened (length h.funs) p xs ∷ []; names = h.names; same = h.same }
-
-abbrev pub close_in : ℕ → ℕ → run.Stms → Held → Held
-close_in n from b h = record { funs = closed_at n b (drop from h.names) h.funs; names = h.names; same = h.same }

@@ -11,7 +11,7 @@ use Rattle.sky_text.specs.declared.token.Token.{Token}
 use Rattle.sky_grammar.specs.declared.level.Level.{Level}
 use Rattle.sky_grammar.specs.Grammar.{place}
 use Rattle.sky_grammar.specs.Machine.{Item, test_then, run, kinds}
-use Rattle.sky_parse_expr.specs.Held.{Held}
+use Rattle.sky_held.specs.Held.{Held}
 use Rattle.sky_parse_expr.specs.Reads.{Onto}
 use Rattle.sky_parse.specs.Statements.{ReadsEnded, ReadsStm, ReadsStms}
 use Rattle.sky_parse_expr.proofs.Moves.{exit}

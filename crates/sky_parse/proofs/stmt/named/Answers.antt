@@ -8,7 +8,7 @@ use Rattle.sky_grammar.specs.declared.level.Level.{Level}
 use Rattle.sky_grammar.specs.Grammar.{place}
 use Rattle.sky_grammar.specs.Machine.{Item, tails, run, kinds}
 use Rattle.sky_grammar.proofs.Tokens.{is_sign}
-use Rattle.sky_parse_expr.specs.Held.{Held}
+use Rattle.sky_held.specs.Held.{Held}
 use Rattle.sky_parse_expr.specs.Reads.{Onto, ReadsSteps}
 use Rattle.sky_parse.specs.Statements.{ReadsStm}
 use Rattle.sky_parse_expr.proofs.Moves.{passed}

@@ -18,7 +18,7 @@ use Rattle.sky_grammar.specs.Grammar.{place, oper_sign, order_sign, Spelled}
 use Rattle.sky_grammar.proofs.Operands.{level_is}
 use Rattle.sky_parse_expr.specs.Runs.{at_next}
 use Rattle.sky_parse_expr.specs.Begun.{Begun}
-use Rattle.sky_parse_expr.specs.Held.{Held}
+use Rattle.sky_held.specs.Held.{Held}
 use Rattle.sky_parse_expr.specs.Reads.{Onto, ReadsExp, ReadsLinks, ReadsAnds, ReadsSteps, ReadsParts}
 use Rattle.sky_parse_expr.proofs.ReadsLaw.{sign_front, sign_placed, onto_none, onto_one, onto_end}
 use Rattle.sky_parse_expr.proofs.ExpLaw.{as_is, lower, read_chained, read_link, read_no_links, read_compared, read_joined, read_and, read_no_ands}

@@ -1,7 +1,7 @@
 use Rattle.std.proofs.Common.{◌≡◌, ◌∙◌, ◌∷◌, refl, subst, List}
 use Rattle.sky_base.specs.TreeView.{at}
-use Rattle.sky_parse_expr.specs.declared.made.Parameter.{Parameter}
-use Rattle.sky_parse_expr.specs.Params.{params_view}
+use Rattle.sky_held.specs.declared.made.Parameter.{Parameter}
+use Rattle.sky_held.specs.Params.{params_view}
 use Rattle.sky_text.specs.declared.token.Sign.{Sign}
 use Rattle.sky_grammar.specs.Machine.{Item, run, kinds}
 use Rattle.sky_parse_expr.proofs.FunctionLaw.{inside, read_function}

@@ -9,8 +9,8 @@ use Rattle.sky_grammar.specs.Lifted.{links_made, ands_made, steps_made, stm_made
 use Rattle.sky_grammar.specs.Names.{first_of}
 use Rattle.sky_grammar.proofs.LiftedLaw.{fun_names, numbered, names_length, numbered_length, in_order, exps_in_order, links_in_order, ands_in_order}
 use Rattle.sky_grammar.proofs.LiftedLaw.{steps_in_order, stm_in_order, stms_in_order, arms_in_order}
-use Rattle.sky_parse_expr.specs.Held.{Held, Part, after, nothing, both, named_first, seen_name, exp_part, exps_part, links_part, ands_part}
-use Rattle.sky_parse_expr.specs.Held.{steps_part, stm_part, stms_part, arms_part}
+use Rattle.sky_held.specs.Held.{Held, Part, after, nothing, both, named_first, seen_name, exp_part, exps_part, links_part, ands_part}
+use Rattle.sky_held.specs.Held.{steps_part, stm_part, stms_part, arms_part}
 
 pub first_assoc : (a b c : Option Place) → first_of (first_of a b) c ≡ first_of a (first_of b c)
 first_assoc (Some p) b c = refl

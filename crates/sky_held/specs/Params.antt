@@ -2,7 +2,7 @@
 use Rattle.std.specs.Prelude.{List, [], ◌∷◌}
 use Rattle.sky_base.specs.TreeView.{at}
 use Rattle.sky_grammar.specs.Source.{Param}
-use Rattle.sky_parse_expr.specs.declared.made.Parameter.{Parameter}
+use Rattle.sky_held.specs.declared.made.Parameter.{Parameter}
 
 abbrev pub params_view : List Parameter → List Param
 params_view [] = []

@@ -8,9 +8,8 @@ ghost use Rattle.sky_grammar.specs.Lifted.{number_name, param_names};
 ghost use Rattle.sky_base.specs.ScriptView.{funs_view};
 ghost use Rattle.sky_grammar.specs.Names.{first_of, same_params};
 ghost use Rattle.sky_grammar.specs.Nesting.{place_of};
-ghost use Rattle.sky_parse_expr.specs.Held.{nothing_held, seen_name, seen_twice};
-ghost use Rattle.sky_parse_expr.specs.Reads.{open_in, close_in};
-ghost use Rattle.sky_parse_expr.specs.Params.{params_view};
+ghost use Rattle.sky_held.specs.Held.{nothing_held, seen_name, seen_twice, open_in, close_in};
+ghost use Rattle.sky_held.specs.Params.{params_view};
 
 use crate::names::{parameters, uses};
 use sky_base::script::{FunDef, Texts};
@@ -36,7 +35,7 @@ pub struct Made {
 }
 
 impl Model for Made {
-    ghost use Rattle.sky_parse_expr.specs.Held.{Held, held_code};
+    ghost use Rattle.sky_held.specs.Held.{Held, held_code};
     ghost use Rattle.sky_base.specs.ScriptView.{funs_view};
     ghost use Rattle.sky_grammar.specs.Nesting.{place_of};
 

@@ -1,5 +1,5 @@
 use Rattle.std.proofs.Common.{◌≡◌, ◌++◌, length}
-use Rattle.sky_parse_expr.proofs.names.Known.into_texts.Given as goal
+use Rattle.sky_held.proofs.names.Known.into_texts.Given as goal
 
 abbrev pub invariant-loop-key : goal.invariant-loop-key
 invariant-loop-key l = l.items.items ++ l.keys.keys ≡ l.initial.keys.keys

@@ -3,8 +3,8 @@ use Rattle.sky_base.specs.Eval.{is_one_of}
 use Rattle.sky_grammar.specs.Nesting.{place_of}
 use Rattle.sky_grammar.specs.Lifted.{param_names}
 use Rattle.sky_grammar.specs.Names.{first_of, same_params}
-use Rattle.sky_parse_expr.specs.Params.{params_view}
-use Rattle.sky_parse_expr.proofs.names.parameters.Given as goal
+use Rattle.sky_held.specs.Params.{params_view}
+use Rattle.sky_held.proofs.names.parameters.Given as goal
 
 abbrev pub invariant-loop-param : goal.invariant-loop-param
 invariant-loop-param l = record {

@@ -1,5 +1,5 @@
 -- What is held of the text while it is read, and what a tree adds to it.
-use Rattle.std.specs.Prelude.{ℕ, ◌+◌, List, [], ◌∷◌, ◌++◌, length, Option, None, refl}
+use Rattle.std.specs.Prelude.{ℕ, zero, suc, ◌+◌, List, [], ◌∷◌, ◌++◌, drop, length, Option, None, refl}
 use Rattle.std.specs.Coded.{Coded, code_by, coded×, coded_ℕ, coded_list, coded_option}
 use Rattle.sky_base.specs.Tree as run
 use Rattle.sky_base.specs.Tree.{Place}
@@ -7,7 +7,7 @@ use Rattle.sky_base.specs.ScriptCode.{text_code, funs_code}
 use Rattle.sky_grammar.specs.Source.{Exp, Exps, Links, Ands, Steps, Stm, Stms, Arms, Else}
 use Rattle.sky_grammar.specs.Lifted.{names, exps_names, links_names, ands_names, steps_names, stm_names, stms_names, arms_names, else_names, count}
 use Rattle.sky_grammar.specs.Lifted.{exps_count, links_count, ands_count, steps_count, stm_count, stms_count, arms_count, else_count, made, exps_made}
-use Rattle.sky_grammar.specs.Lifted.{links_made, ands_made, steps_made, stm_made, stms_made, arms_made, else_made}
+use Rattle.sky_grammar.specs.Lifted.{links_made, ands_made, steps_made, stm_made, stms_made, arms_made, else_made, number_name, uses_of}
 use Rattle.sky_grammar.specs.Names.{first_of, same, exps_same, links_same, ands_same, steps_same, stm_same, stms_same, arms_same, else_same}
 
 -- the anonymous functions so far, the names that stood, and the place of the first name that stands twice
@@ -87,3 +87,23 @@ arms_part arms = record { count = arms_count arms; made = λ n. arms_made n arms
 
 abbrev pub else_part : Else → Part
 else_part el = record { count = else_count el; made = λ n. else_made n el; names = else_names el; same = else_same el }
+
+-- ---- anonymous functions, while their bodies are read
+
+abbrev pub opened : ℕ → Place → List (List ℕ) → run.FunDef
+opened n p xs = record { name = number_name n; params = xs; body = run.Stms.no_stms; place = p; uses = [] }
+
+abbrev pub with_body : run.Stms → List (List ℕ) → run.FunDef → run.FunDef
+with_body b ys f = record { name = f.name; params = f.params; body = b; place = f.place; uses = uses_of f.params ys }
+
+-- the list in which the function of this number has this body, in which these names stand
+abbrev pub closed_at : ℕ → run.Stms → List (List ℕ) → List run.FunDef → List run.FunDef
+closed_at n b ys [] = []
+closed_at zero b ys (f ∷ fs) = with_body b ys f ∷ fs
+closed_at (suc n) b ys (f ∷ fs) = f ∷ closed_at n b ys fs
+
+abbrev pub open_in : Place → List (List ℕ) → Held → Held
+open_in p xs h = record { funs = h.funs ++ opened (length h.funs) p xs ∷ []; names = h.names; same = h.same }
+
+abbrev pub close_in : ℕ → ℕ → run.Stms → Held → Held
+close_in n from b h = record { funs = closed_at n b (drop from h.names) h.funs; names = h.names; same = h.same }

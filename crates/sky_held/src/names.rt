@@ -12,7 +12,7 @@ ghost use Rattle.sky_base.specs.TreeView.{at};
 ghost use Rattle.sky_grammar.specs.Lifted.{text_cmp, param_names, uses_of};
 ghost use Rattle.sky_grammar.specs.Names.{at_twice, first_of, same_params};
 ghost use Rattle.sky_grammar.specs.Nesting.{place_of};
-ghost use Rattle.sky_parse_expr.specs.Params.{params_view};
+ghost use Rattle.sky_held.specs.Params.{params_view};
 
 use crate::made::Parameter;
 use sky_base::script::Texts;

@@ -1,8 +1,8 @@
 use Rattle.std.proofs.Common.{◌∙◌, ap, drop, ◌+◌, sym, List, ℕ, arith}
 use Rattle.std.specs.Prelude.{◌||◌}
 use Rattle.sky_base.specs.Eval.{is_one_of}
-use Rattle.sky_parse_expr.proofs.NamesLaw.{known_next, item_at}
-use Rattle.sky_parse_expr.proofs.names.all_of.Goals as goal
+use Rattle.sky_held.proofs.NamesLaw.{known_next, item_at}
+use Rattle.sky_held.proofs.names.all_of.Goals as goal
 
 pub loop-name-preserved : goal.loop-name-preserved
 loop-name-preserved c = λ x.

@@ -1,10 +1,9 @@
 use Rattle.std.proofs.Common.{◌≡◌, ◌<◌, ◌-◌, ℕ, List, take, drop, ap, ◌∙◌, arith, length}
 use Rattle.sky_base.specs.declared.script.FunDef.{FunDef}
 use Rattle.sky_grammar.specs.Lifted.{uses_of}
-use Rattle.sky_parse_expr.specs.Held.{Held}
-use Rattle.sky_parse_expr.specs.Reads.{close_in}
-use Rattle.sky_parse_expr.proofs.MadeLaw.{body_set, funs_length, held_funs, read_twice, take_rest}
-use Rattle.sky_parse_expr.proofs.made.Made.close.Goals as goal
+use Rattle.sky_held.specs.Held.{Held, close_in}
+use Rattle.sky_held.proofs.MadeLaw.{body_set, funs_length, held_funs, read_twice, take_rest}
+use Rattle.sky_held.proofs.made.Made.close.Goals as goal
 
 pub index-requires : goal.index-requires
 index-requires c = omega (

@@ -3,9 +3,9 @@ use Rattle.sky_base.specs.TreeView.{at}
 use Rattle.sky_base.specs.Eval.{is_one_of}
 use Rattle.sky_grammar.specs.Source.{Param}
 use Rattle.sky_grammar.specs.Nesting.{place_of}
-use Rattle.sky_parse_expr.specs.Params.{params_view}
-use Rattle.sky_parse_expr.proofs.NamesLaw.{known_more, param_at, names_read, same_read}
-use Rattle.sky_parse_expr.proofs.names.parameters.Goals as goal
+use Rattle.sky_held.specs.Params.{params_view}
+use Rattle.sky_held.proofs.NamesLaw.{known_more, param_at, names_read, same_read}
+use Rattle.sky_held.proofs.names.parameters.Goals as goal
 
 pub loop-param-preserved : goal.loop-param-preserved
 loop-param-preserved c =

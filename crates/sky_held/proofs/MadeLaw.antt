@@ -6,8 +6,7 @@ use Rattle.sky_base.specs.ScriptView.{fun_view, funs_view}
 use Rattle.sky_base.specs.declared.script.FunDef.{FunDef}
 use Rattle.sky_grammar.specs.Lifted.{uses_of}
 use Rattle.sky_base.specs.Tree.{Place}
-use Rattle.sky_parse_expr.specs.Held.{Held}
-use Rattle.sky_parse_expr.specs.Reads.{closed_at, with_body}
+use Rattle.sky_held.specs.Held.{Held, closed_at, with_body}
 
 pub funs_length : (fs : List FunDef) → length (funs_view fs) ≡ length fs
 funs_length [] = refl

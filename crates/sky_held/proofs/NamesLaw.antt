@@ -5,9 +5,9 @@ use Rattle.sky_base.specs.Tree.{Place}
 use Rattle.sky_base.specs.TreeView.{at}
 use Rattle.sky_grammar.specs.Source.{Param}
 use Rattle.sky_grammar.specs.Names.{first_of, at_twice, same_params}
-use Rattle.sky_parse_expr.specs.Params.{params_view}
-use Rattle.sky_parse_expr.specs.declared.made.Parameter.{Parameter}
-use Rattle.sky_parse_expr.proofs.HeldLaw.{first_assoc}
+use Rattle.sky_held.specs.Params.{params_view}
+use Rattle.sky_held.specs.declared.made.Parameter.{Parameter}
+use Rattle.sky_held.proofs.HeldLaw.{first_assoc}
 use Rattle.std.specs.Prelude.{◌||◌}
 use Rattle.std.specs.List.{list_any}
 use Rattle.std.specs.BTreeMap.{is_at}

@@ -1,0 +1,3 @@
+pub mod HeldLaw
+pub mod NamesLaw
+pub mod MadeLaw
