@@ -1,3 +1,4 @@
 pub mod Finding
 pub mod Bringing
 pub mod Copying
+pub mod Fetching

@@ -1,3 +1,4 @@
 pub mod Brought
 pub mod Copies
 pub mod Laws
+pub mod Fetched

@@ -134,6 +134,16 @@ impl<K: Kit + Drop, N: Namer + Drop, G: Gate, R: Threads + Wait + Copy + Drop> C
 
     ghost is_sound = { λ c. c.sound };
 
+    ghost Stays = { Unit {0} };
+
+    ghost stays = { λ c. tt };
+
+    ghost Record = { Unit {0} };
+
+    ghost record_of = { λ c. tt };
+
+    ghost goes = { λ before call after. Unit {0} };
+
     fn send(&mut self, order: Order) -> Result<(), Memory> {
         self.broken = true;
         let Ok(shop) = Arc::try_clone(&self.shop) else {

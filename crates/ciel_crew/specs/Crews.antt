@@ -3,6 +3,7 @@ use Rattle.std.specs.Prelude.{◌≡◌, ℕ, ◌<◌, List, [], ◌∷◌, ◌+
 use Rattle.sky_base.specs.JobView.{job_view}
 use Rattle.sky_base.specs.KitView.{Gives}
 use Rattle.sky_base.specs.declared.object.TaskId.{TaskId}
+use Rattle.ciel_safe.specs.Performs.{PerformsSafely}
 use Rattle.ciel_task.specs.Orders.{OrderSound}
 use Rattle.ciel_task.specs.Performs.{Performs}
 use Rattle.ciel_task.specs.Places.{PlacesSound}
@@ -54,6 +55,7 @@ module _ {K N : Type 0} (gives : K → Gives) (digest : N → List ℕ → List 
   pub record Answers (shop : Shop K N) (order : Order) (report : Report) : Type 0 where
     pub performs : Performs (digest shop.namer) (job_view shop.job) (gives shop.kit) order report
     pub places : PlacesSound shop.shelves order.worker (job_view shop.job).script report
+    pub safely : PerformsSafely (digest shop.namer) shop.shelves (job_view shop.job).script order report
 
   -- it is a report of an order that was out, which is out no longer
   abbrev pub Reports : Shop K N → (before after : List (Option Order)) → Report → Type 0

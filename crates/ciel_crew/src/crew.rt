@@ -4,6 +4,7 @@ ghost use Rattle.std.specs.Prelude.{◌≡◌, ◌<◌, ℕ, Bool, true, List, O
 ghost use Rattle.sky_base.specs.declared.object.TaskId.{TaskId};
 ghost use Rattle.ciel_task.specs.declared.order.Order.{Order as OrderSeen};
 ghost use Rattle.ciel_task.specs.declared.shop.Shop.{Shop};
+ghost use Rattle.ciel_crew.specs.Calls.{Call, next_call, send_call};
 ghost use Rattle.ciel_crew.specs.Crews.{FadesEach, IsOut, Reports, Takes, TellsTask, order_at};
 
 use ciel_gate::gate::Gate;
@@ -11,6 +12,7 @@ use ciel_name::name::Namer;
 use ciel_task::order::Order;
 use ciel_task::report::Report;
 use sky_base::kit::Kit;
+use sky_base::object::Desc1;
 use sky_base::text::Memory;
 
 /// The workers of a shop, each with its gate, numbered from 0. A worker has one order at a time.
@@ -33,6 +35,18 @@ pub trait Crew {
     /// No call has failed. After one that has, the crew can only be closed.
     ghost is_sound: { Self → Bool };
 
+    /// What stays through each call, also where it fails.
+    ghost Stays: { Type 0 };
+
+    ghost stays: { Self → Stays };
+
+    /// What it tells of the calls that it was asked, and what a call makes of that.
+    ghost Record: { Type 0 };
+
+    ghost record_of: { Self → Record };
+
+    ghost goes: { Record → Call → Record → Type 0 };
+
     /// Sends an order to its worker, which has none.
     ///
     /// Answers `Memory` for want of memory.
@@ -45,7 +59,27 @@ pub trait Crew {
         ensures sound { OnOk result (is_sound self.new ≡ true) }
         ensures out { OnOk result (out self.new ≡ slice_set (out self.old) order.worker (Some order)) }
         ensures told { OnOk result (TellsTask order (told self.old) (told self.new)) }
-        ensures gates { length (told self.new) ≡ length (told self.old) };
+        ensures gates { length (told self.new) ≡ length (told self.old) }
+        ensures stays { stays self.new ≡ stays self.old }
+        ensures goes { goes (record_of self.old) (send_call order result) (record_of self.new) };
+
+    /// Says that the order, which is sent next, makes what this executor's task reads. It changes nothing that is promised, and does
+    /// nothing where a crew has no use for it.
+    ///
+    /// Answers `Memory` for want of memory.
+    fn hint(&mut self, order: &Order, consumer: &Desc1) -> Result<(), Memory>
+        requires sound { is_sound self.old ≡ true }
+        ensures shop { shop self.new ≡ shop self.old }
+        ensures sound { OnOk result (is_sound self.new ≡ true) }
+        ensures out { out self.new ≡ out self.old }
+        ensures told { told self.new ≡ told self.old }
+        ensures stays { stays self.new ≡ stays self.old }
+        ensures recorded { record_of self.new ≡ record_of self.old }
+    {
+        let _ = order;
+        let _ = consumer;
+        Ok(())
+    }
 
     /// The report of an order that is out. That of each order is given once.
     ///
@@ -57,6 +91,8 @@ pub trait Crew {
         ensures sound { OnOk result (is_sound self.new ≡ true) }
         ensures told { OnOk result (FadesEach (told self.old) (told self.new)) }
         ensures gates { length (told self.new) ≡ length (told self.old) }
+        ensures stays { stays self.new ≡ stays self.old }
+        ensures goes { goes (record_of self.old) (next_call result) (record_of self.new) }
         ensures report { IfOk result (Reports Self.K.gives Self.N.digest (shop self.old) (out self.old) (out self.new)) };
 
     /// All gates, in order of workers. Each has entered the tasks of the orders that were sent to its worker, in order, unless a call

@@ -4,3 +4,5 @@ mod Turns
 mod Reports
 mod Over
 mod Modest
+mod Names
+mod Moving

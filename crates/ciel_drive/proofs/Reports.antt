@@ -121,7 +121,7 @@ module _ (shelves : ShelvesSeen) (w : ℕ) (sc : Script) where
   end_places task copied (End.Saved p j refs holds mark) k c = k.here
   end_places task copied (End.Missing name loss seen) k c = tt
 
-same_order : (x y : OrderOut) → Some x ≡ Some y → x ≡ y
+pub same_order : (x y : OrderOut) → Some x ≡ Some y → x ≡ y
 same_order x y e = cc
 
 pub none_of : (o : Option OrderOut) {t : Bool} → t ≡ is_some o → t ≡ false → o ≡ None
@@ -138,13 +138,13 @@ nothing (n ∷ ns) e = cc
 
 -- ---- what the end's eye has seen
 
-seen_at : (shelves : ShelvesSeen) (w : ℕ) (sc : Script) (task : TaskId) (e : End) → places.EndAt shelves w sc task e → SeenOf shelves e
+pub seen_at : (shelves : ShelvesSeen) (w : ℕ) (sc : Script) (task : TaskId) (e : End) → places.EndAt shelves w sc task e → SeenOf shelves e
 seen_at shelves w sc task (End.Made ms) k = tt
 seen_at shelves w sc task (End.Saved p j refs holds mark) k = tt
 seen_at shelves w sc task (End.Shown shown) k = tt
 seen_at shelves w sc task (End.Missing name loss seen) k = k
 
-learned_cases : (digest : List ℕ → List ℕ) (ns : List Named) (t : TableSeen P) (e : End) → LearnedFor digest e ns t → (IsMissing e → ⊥)
+pub learned_cases : (digest : List ℕ → List ℕ) (ns : List Named) (t : TableSeen P) (e : End) → LearnedFor digest e ns t → (IsMissing e → ⊥)
     → AllLearned digest ns t
 learned_cases digest ns t (End.Made ms) l none = l
 learned_cases digest ns t (End.Saved p j refs holds mark) l none = l
@@ -154,7 +154,7 @@ learned_cases digest ns t (End.Missing name loss seen) l none = absurd (none tt)
 -- ---- what a report leaves as it was
 
 module _ (digest : List ℕ → List ℕ) (b : Board P) (x : OrderOut) (spawned : List Named) where
-  plan_same : (e : rep.End P) → (accepted digest b x spawned e).plan ≡ b.plan
+  pub plan_same : (e : rep.End P) → (accepted digest b x spawned e).plan ≡ b.plan
   plan_same (rep.made ms cs) = refl
   plan_same (rep.saved q) = refl
   plan_same (rep.missing name loss) = refl
@@ -171,12 +171,12 @@ module _ (digest : List ℕ → List ℕ) (b : Board P) (x : OrderOut) (spawned 
   gone_same (rep.saved q) = (grown digest spawned b.table).gone
   gone_same (rep.missing name loss) = refl
 
-  journal_next : (e : rep.End P) → (accepted digest b x spawned e).journal ≡ b.journal ++ entry_for x.number e ∷ []
+  pub journal_next : (e : rep.End P) → (accepted digest b x spawned e).journal ≡ b.journal ++ entry_for x.number e ∷ []
   journal_next (rep.made ms cs) = refl
   journal_next (rep.saved q) = refl
   journal_next (rep.missing name loss) = refl
 
-quiet_for : (k : ℕ) (e : rep.End P) → IsQuiet (entry_for k e)
+pub quiet_for : (k : ℕ) (e : rep.End P) → IsQuiet (entry_for k e)
 quiet_for k (rep.made ms cs) = tt
 quiet_for k (rep.saved q) = tt
 quiet_for k (rep.missing name loss) = tt
@@ -310,19 +310,6 @@ module _ {K N : Type 0} {gives : K → Gives} {digest : N → List ℕ → List 
           pick (End.Made ms) q i says = absurd i
           pick (End.Shown shown) q i says = absurd i
           pick (End.Saved p j refs holds mark) q i says = absurd i
-
-      -- it fits, unless something was missing
-      fits_so : FitsUnlessMissing D b (order_view order) r.spawned.items r.copied.items r.end
-      fits_so none = a.performs.fits b at.sound out_is.found rows_now none
-
-      pub fits_now : (x : board.Order P) × (find_order r.number b.orders ≡ Some x.out)
-          × FitsUnlessMissing (digest m.namer) b x r.spawned.items r.copied.items r.end
-      fits_now = (
-        order_view order,
-        found_is,
-        subst (λ n. FitsUnlessMissing (digest n) b (order_view order) r.spawned.items r.copied.items r.end)
-            (sym k.namer) fits_so,
-      )
 
       pub seen_here : SeenOf m.shelves r.end
       seen_here =

@@ -1,3 +1,5 @@
 pub mod Kept
 pub mod Ended
 pub mod Told
+pub mod Working
+pub mod Moved

@@ -3,7 +3,9 @@
 ghost use Rattle.std.specs.Prelude.{◌≡◌, ◌≢◌, true};
 ghost use Rattle.ciel_drive.specs.Ended.{Ended};
 ghost use Rattle.ciel_drive.specs.Kept.{Kept};
+ghost use Rattle.ciel_drive.specs.Moved.{Ends};
 ghost use Rattle.ciel_drive.specs.Told.{ToldOn};
+ghost use Rattle.ciel_drive.specs.Working.{Working};
 ghost use Rattle.ciel_master.specs.declared.stop.RunEnd.{RunEnd as End};
 
 use crate::turn::turn;
@@ -23,11 +25,15 @@ pub fn drive<K: Kit + Drop, N: Namer + Drop, C: Crew<K = K, N = N>>(
     crew: &mut C,
     seed: u64,
 ) -> RunEnd
-    requires kept { Kept K.gives N.digest (C.shop crew.old) (C.is_sound crew.old) master.old (C.out crew.old) seed }
+    requires working { Working K.gives N.digest (C.shop crew.old) (C.is_sound crew.old) master.old (C.out crew.old) }
     ensures shop { C.shop crew.new ≡ C.shop crew.old }
-    ensures end { Ended K.gives N.digest (C.shop crew.old) master.old.board.plan master.new.board.journal result }
+    ensures stays { C.stays crew.new ≡ C.stays crew.old }
+    ensures end { Kept K.gives N.digest (C.shop crew.old) (C.is_sound crew.old) master.old (C.out crew.old) seed
+        → Ended K.gives N.digest (C.shop crew.old) master.old.board.plan master.new.board.journal result }
     ensures sound { result ≢ End.Memory → C.is_sound crew.new ≡ true }
     ensures told { result ≢ End.Memory → ToldOn master.old.board.journal master.new.board.journal (C.told crew.old) (C.told crew.new) }
+    ensures calls { result ≢ End.Memory → Ends (N.digest (C.shop crew.old).namer) C.goes (C.record_of crew.old) master.old.board
+        (C.record_of crew.new) master.new.board.journal }
 {
     let mut state = seed;
     'run: loop {

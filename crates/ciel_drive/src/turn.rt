@@ -7,7 +7,9 @@ ghost use Rattle.ciel_board.specs.Moves.{order_for, started};
 ghost use Rattle.ciel_ends.specs.Ends.{worker_of};
 ghost use Rattle.ciel_drive.specs.Ended.{Ended};
 ghost use Rattle.ciel_drive.specs.Kept.{Kept, left};
+ghost use Rattle.ciel_drive.specs.Moved.{Does, Ends};
 ghost use Rattle.ciel_drive.specs.Told.{ToldOn};
+ghost use Rattle.ciel_drive.specs.Working.{Working};
 ghost use Rattle.ciel_journal.specs.Job.{In};
 ghost use Rattle.ciel_journal.specs.Turns.{FirstDue};
 ghost use Rattle.ciel_task.specs.Views.{order_view};
@@ -21,6 +23,7 @@ use ciel_master::master::Master;
 use ciel_master::stop::{Now, RunEnd, Stop};
 use ciel_name::name::Namer;
 use ciel_orders::{orders_are_sound, places_stay, rows_stay};
+use ciel_safe::{orders_are_safe, tasks_stay, turns_come_to_an_end};
 use ciel_task::order::Order;
 use sky_base::kit::Kit;
 use sky_base::text::Memory;
@@ -32,15 +35,19 @@ fn lose_one<K: Kit + Drop, N: Namer + Drop, C: Crew<K = K, N = N>>(
     state: u64,
     loss: u32,
 )
-    requires kept { Kept K.gives N.digest (C.shop crew.now) (C.is_sound crew.now) master.old (C.out crew.now) state }
+    requires working { Working K.gives N.digest (C.shop crew.now) (C.is_sound crew.now) master.old (C.out crew.now) }
     requires due { (worker : ℕ) × FirstDue master.old.board.plan.losses master.old.board.closes master.old.board.table.gone loss worker }
-    ensures kept { Kept K.gives N.digest (C.shop crew.now) (C.is_sound crew.now) master.new (C.out crew.now) state }
+    ensures working { Working K.gives N.digest (C.shop crew.now) (C.is_sound crew.now) master.new (C.out crew.now) }
+    ensures model { Kept K.gives N.digest (C.shop crew.now) (C.is_sound crew.now) master.old (C.out crew.now) state → Kept K.gives N.digest (C.shop crew.now) (C.is_sound crew.now) master.new (C.out crew.now) state }
     ensures less { left master.new (C.out crew.now) < left master.old (C.out crew.now) }
     ensures plan { master.new.board.plan ≡ master.old.board.plan }
     ensures told { ToldOn master.old.board.journal master.new.board.journal (C.told crew.now) (C.told crew.now) }
+    ensures does { Does (N.digest (C.shop crew.now).namer) C.goes (C.record_of crew.now) master.old.board (C.record_of crew.now) master.new.board }
 {
     places_stay();
     rows_stay();
+    turns_come_to_an_end();
+    tasks_stay();
     master.lose(loss);
 }
 
@@ -71,22 +78,28 @@ fn start_one<K: Kit + Drop, N: Namer + Drop, C: Crew<K = K, N = N>>(
     count: usize,
     idle: &[u32],
 ) -> Result<(), RunEnd>
-    requires kept { Kept K.gives N.digest (C.shop crew.old) (C.is_sound crew.old) master.old (C.out crew.old) state.old }
+    requires working { Working K.gives N.digest (C.shop crew.old) (C.is_sound crew.old) master.old (C.out crew.old) }
     requires quiet { Quiet master.old.board }
     requires count { CanRunMany (ready_of master.old.board) count }
     requires some_task { 0 < count }
     requires idle { idle.now ≡ idle_of master.old.board }
     requires some_worker { 0 < length idle.now }
-    ensures kept { OnOk result (Kept K.gives N.digest (C.shop crew.new) (C.is_sound crew.new) master.new (C.out crew.new) state.new) }
+    ensures working { OnOk result (Working K.gives N.digest (C.shop crew.new) (C.is_sound crew.new) master.new (C.out crew.new)) }
+    ensures model { OnOk result (Kept K.gives N.digest (C.shop crew.old) (C.is_sound crew.old) master.old (C.out crew.old) state.old → Kept K.gives N.digest (C.shop crew.new) (C.is_sound crew.new) master.new (C.out crew.new) state.new) }
     ensures less { OnOk result (left master.new (C.out crew.new) < left master.old (C.out crew.old)) }
     ensures plan { OnOk result (master.new.board.plan ≡ master.old.board.plan) }
     ensures told { OnOk result (ToldOn master.old.board.journal master.new.board.journal (C.told crew.old) (C.told crew.new)) }
+    ensures does { OnOk result (Does (N.digest (C.shop crew.old).namer) C.goes (C.record_of crew.old) master.old.board
+        (C.record_of crew.new) master.new.board) }
     ensures shop { C.shop crew.new ≡ C.shop crew.old }
+    ensures stays { C.stays crew.new ≡ C.stays crew.old }
     ensures memory { IfErr result (λ e. e ≡ End.Memory) }
-    ensures end { IfErr result (λ e. Ended K.gives N.digest (C.shop crew.old) master.old.board.plan master.new.board.journal e) }
+    ensures end { IfErr result (λ e. Kept K.gives N.digest (C.shop crew.old) (C.is_sound crew.old) master.old (C.out crew.old) state.old → Ended K.gives N.digest (C.shop crew.old) master.old.board.plan master.new.board.journal e) }
 {
     orders_are_sound();
     rows_stay();
+    orders_are_safe();
+    turns_come_to_an_end();
     let place = pick(state, count);
     let worker = pick(state, idle.len());
     let order = match start_at(master, place, idle[worker]) {
@@ -105,20 +118,28 @@ fn take_one<K: Kit + Drop, N: Namer + Drop, C: Crew<K = K, N = N>>(
     crew: &mut C,
     state: u64,
 ) -> Result<(), RunEnd>
-    requires kept { Kept K.gives N.digest (C.shop crew.old) (C.is_sound crew.old) master.old (C.out crew.old) state }
+    requires working { Working K.gives N.digest (C.shop crew.old) (C.is_sound crew.old) master.old (C.out crew.old) }
     requires rests { RestsNow master.old.board }
     requires some_out { 0 < length master.old.board.orders }
-    ensures kept { OnOk result (Kept K.gives N.digest (C.shop crew.new) (C.is_sound crew.new) master.new (C.out crew.new) state) }
+    ensures working { OnOk result (Working K.gives N.digest (C.shop crew.new) (C.is_sound crew.new) master.new (C.out crew.new)) }
+    ensures model { OnOk result (Kept K.gives N.digest (C.shop crew.old) (C.is_sound crew.old) master.old (C.out crew.old) state → Kept K.gives N.digest (C.shop crew.new) (C.is_sound crew.new) master.new (C.out crew.new) state) }
     ensures less { OnOk result (left master.new (C.out crew.new) < left master.old (C.out crew.old)) }
     ensures plan { OnOk result (master.new.board.plan ≡ master.old.board.plan) }
     ensures told { OnOk result (ToldOn master.old.board.journal master.new.board.journal (C.told crew.old) (C.told crew.new)) }
+    ensures does { OnOk result (Does (N.digest (C.shop crew.old).namer) C.goes (C.record_of crew.old) master.old.board
+        (C.record_of crew.new) master.new.board) }
     ensures shop { C.shop crew.new ≡ C.shop crew.old }
-    ensures end { IfErr result (λ e. Ended K.gives N.digest (C.shop crew.old) master.old.board.plan master.new.board.journal e) }
+    ensures stays { C.stays crew.new ≡ C.stays crew.old }
+    ensures end { IfErr result (λ e. Kept K.gives N.digest (C.shop crew.old) (C.is_sound crew.old) master.old (C.out crew.old) state → Ended K.gives N.digest (C.shop crew.old) master.old.board.plan master.new.board.journal e) }
     ensures sound { IfErr result (λ e. e ≢ End.Memory → C.is_sound crew.new ≡ true) }
     ensures last { IfErr result (λ e. e ≢ End.Memory → ToldOn master.old.board.journal master.new.board.journal (C.told crew.old) (C.told crew.new)) }
+    ensures ends { IfErr result (λ e. e ≢ End.Memory → Ends (N.digest (C.shop crew.old).namer) C.goes (C.record_of crew.old) master.old.board
+        (C.record_of crew.new) master.new.board.journal) }
 {
     places_stay();
     rows_stay();
+    turns_come_to_an_end();
+    tasks_stay();
     let report = match crew.next() {
         Ok(report) => report,
         Err(_) => return Err(RunEnd::Memory),
@@ -142,10 +163,10 @@ fn come_round<K: Kit + Drop, N: Namer + Drop, C: Crew<K = K, N = N>>(
     crew: &C,
     state: u64,
 ) -> RunEnd
-    requires kept { Kept K.gives N.digest (C.shop crew.now) (C.is_sound crew.now) master.now (C.out crew.now) state }
+    requires working { Working K.gives N.digest (C.shop crew.now) (C.is_sound crew.now) master.now (C.out crew.now) }
     requires none_out { master.now.board.orders ≡ [] }
     requires none_runs { CanRun master.now.board [] }
-    ensures end { Ended K.gives N.digest (C.shop crew.now) master.now.board.plan master.now.board.journal result }
+    ensures end { Kept K.gives N.digest (C.shop crew.now) (C.is_sound crew.now) master.now (C.out crew.now) state → Ended K.gives N.digest (C.shop crew.now) master.now.board.plan master.now.board.journal result }
 {
     match master.circle() {
         Ok(Some(names)) => RunEnd::Endless(names),
@@ -160,15 +181,21 @@ pub(crate) fn turn<K: Kit + Drop, N: Namer + Drop, C: Crew<K = K, N = N>>(
     crew: &mut C,
     state: &mut u64,
 ) -> Result<(), RunEnd>
-    requires kept { Kept K.gives N.digest (C.shop crew.old) (C.is_sound crew.old) master.old (C.out crew.old) state.old }
-    ensures kept { OnOk result (Kept K.gives N.digest (C.shop crew.new) (C.is_sound crew.new) master.new (C.out crew.new) state.new) }
+    requires working { Working K.gives N.digest (C.shop crew.old) (C.is_sound crew.old) master.old (C.out crew.old) }
+    ensures working { OnOk result (Working K.gives N.digest (C.shop crew.new) (C.is_sound crew.new) master.new (C.out crew.new)) }
+    ensures model { OnOk result (Kept K.gives N.digest (C.shop crew.old) (C.is_sound crew.old) master.old (C.out crew.old) state.old → Kept K.gives N.digest (C.shop crew.new) (C.is_sound crew.new) master.new (C.out crew.new) state.new) }
     ensures less { OnOk result (left master.new (C.out crew.new) < left master.old (C.out crew.old)) }
     ensures plan { OnOk result (master.new.board.plan ≡ master.old.board.plan) }
     ensures told { OnOk result (ToldOn master.old.board.journal master.new.board.journal (C.told crew.old) (C.told crew.new)) }
+    ensures does { OnOk result (Does (N.digest (C.shop crew.old).namer) C.goes (C.record_of crew.old) master.old.board
+        (C.record_of crew.new) master.new.board) }
     ensures shop { C.shop crew.new ≡ C.shop crew.old }
-    ensures end { IfErr result (λ e. Ended K.gives N.digest (C.shop crew.old) master.old.board.plan master.new.board.journal e) }
+    ensures stays { C.stays crew.new ≡ C.stays crew.old }
+    ensures end { IfErr result (λ e. Kept K.gives N.digest (C.shop crew.old) (C.is_sound crew.old) master.old (C.out crew.old) state.old → Ended K.gives N.digest (C.shop crew.old) master.old.board.plan master.new.board.journal e) }
     ensures sound { IfErr result (λ e. e ≢ End.Memory → C.is_sound crew.new ≡ true) }
     ensures last { IfErr result (λ e. e ≢ End.Memory → ToldOn master.old.board.journal master.new.board.journal (C.told crew.old) (C.told crew.new)) }
+    ensures ends { IfErr result (λ e. e ≢ End.Memory → Ends (N.digest (C.shop crew.old).namer) C.goes (C.record_of crew.old) master.old.board
+        (C.record_of crew.new) master.new.board.journal) }
 {
     if let Some(loss) = master.due() {
         lose_one(master, crew, *state, loss);

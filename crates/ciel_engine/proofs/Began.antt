@@ -32,6 +32,12 @@ use Rattle.ciel_turns.specs.AtWork.{AtWork}
 use Rattle.ciel_turns.specs.Left.{Slots}
 use Rattle.ciel_turns.proofs.Turning.{opened_works}
 use Rattle.ciel_engine.specs.Opened.{IsOpened}
+use Rattle.std.proofs.lemmas.List.{length-map}
+use Rattle.ciel_drive.specs.Working.{Working}
+use Rattle.ciel_safe.specs.Safe.{Safe}
+use Rattle.ciel_safe.specs.Turns.{Handed}
+use Rattle.ciel_safe.proofs.Keeping.{opened_safe}
+use Rattle.ciel_turns.proofs.Handing.{opened_handed}
 
 -- workers without an order, as the turns see them
 pub none_out : (n : ℕ) → slots_of (replicate n None) ≡ replicate n None
@@ -86,6 +92,38 @@ module _ {K N : Type 0} (gives : K → Gives) (digest : N → List ℕ → List 
       keeps = keeps;
       draws = refl;
     })
+
+    -- whatever is reported
+    safe : Safe D shop.shelves J.script (length J.inputs) first
+    safe =
+        let l : length J.script.keys ≡ length J.inputs = sym (ap length inputs) ∙ length-map J.inputs (λ (i : List ℕ × List ℕ). i.0) in
+        subst (λ n. Safe D shop.shelves J.script n first) l
+        (opened_safe D shop.shelves J.script (plan_view plan) o.main (omega arith) o.named o.is_main (let w = o.wide in omega (arith, w)))
+
+    handed : Handed first (slots_of (replicate plan.workers None))
+    handed =
+        let k = opened_handed (the_shop D J G) [] first refl in
+        subst (Handed first) (sym (none_out plan.workers))
+        (record { each = k.each; own = k.own; still = k.still; sent = k.sent; given = k.given; apart = k.apart })
+
+    pub working_at_first : Working gives digest shop true m (replicate plan.workers None)
+    working_at_first = subst (λ z. Working gives digest shop true z (replicate plan.workers None)) (sym o.master) (record {
+      namer = refl;
+      shelves = refl;
+      script = refl;
+      sound = refl;
+      work = record { going = refl; safe = safe; handed = handed };
+      rows = λ w order e. absurd (none_at plan.workers w order e);
+      mains = λ w order e. absurd (none_at plan.workers w order e);
+      goes = λ w order e. absurd (none_at plan.workers w order e);
+    })
+
+    pub working_of : (workers : ℕ) (told : List (Option (List TaskId))) (crew : CrewSeen K N) → crew
+        ≡ record { shop = shop; out = replicate workers None; told = told; sound = true }
+        → workers ≡ plan.workers → Working gives digest crew.shop crew.sound m crew.out
+    working_of workers told crew is many =
+        subst (λ (c : CrewSeen K N). Working gives digest c.shop c.sound m c.out) (sym is)
+        (subst (λ (x : List (Option Order)). Working gives digest shop true m x) (ap (λ n. replicate n None) (sym many)) working_at_first)
 
     -- a crew of this shop that has no order
     pub kept_of : (workers seed : ℕ) (told : List (Option (List TaskId))) (crew : CrewSeen K N) → crew

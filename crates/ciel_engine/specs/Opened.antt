@@ -29,6 +29,7 @@ pub record IsOpened {K N : Type 0} (digest : N → List ℕ → List ℕ) (plan 
   pub master : m ≡ record {
     namer = shop.namer;
     shelves = shop.shelves;
+    script = shop.job.script;
     board =
         opened (digest shop.namer) (plan_view plan) shop.job.script.keys main;
   }

@@ -5,6 +5,7 @@ ghost use Rattle.std.specs.Arc.{arc_value};
 ghost use Rattle.sky_base.specs.JobView.{job_view};
 ghost use Rattle.ciel_channels.specs.Onward.{IsRead};
 ghost use Rattle.ciel_journal.specs.Job.{Each};
+ghost use Rattle.ciel_drive.specs.Working.{Working};
 ghost use Rattle.ciel_drive.specs.Ended.{EndsSo};
 ghost use Rattle.ciel_drive.specs.Kept.{Kept};
 ghost use Rattle.ciel_master.specs.Seen.{plan_view};
@@ -289,6 +290,7 @@ fn run_over<K: Kit + Drop, N: Namer + Drop, C: Crew<K = K, N = N>>(
     seed: u64,
 ) -> (Ran, Vec<C::Gate>)
     requires kept { Kept K.gives N.digest (C.shop crew) (C.is_sound crew) master (C.out crew) seed }
+    requires working { Working K.gives N.digest (C.shop crew) (C.is_sound crew) master (C.out crew) }
     requires first { master.board.journal ≡ [] }
     ensures end { EndsSo (N.digest (C.shop crew).namer) (job_view (C.shop crew).job) (K.gives (C.shop crew).kit) master.board.plan
         (map entry_view result.0.journal.items) result.0.end }

@@ -14,6 +14,8 @@ use Rattle.ciel_task.specs.declared.block.Held.{Held}
 use Rattle.ciel_inputs.specs.Gathers.{CopiedFor, none, one}
 use Rattle.ciel_inputs.specs.Lies.{CopiedIf, CopiedSo, is_elsewhere}
 use Rattle.ciel_brought.specs.Copies.{Copies, IsCopy}
+use Rattle.ciel_brought.specs.Fetched.{fetched, fetched_after, told_next}
+use Rattle.ciel_brought.proofs.Fetching.{fetched_both, stands_not, told_copied}
 use Rattle.ciel_brought.proofs.Copying.{copies_more}
 use Rattle.ciel_brought.proofs.Finding.{found_named}
 use Rattle.sky_law.proofs.Lists.{each_both}
@@ -129,6 +131,22 @@ module _ (shelves : ShelvesSeen) (w : ℕ) (inputs : List (List ℕ × List ℕ)
         among_one (is_elsewhere w h.at) n h o _ _ new (found_named n held h f) so rest.1,
       )
 
+  known_push : (ns : List (List ℕ)) (n : List ℕ) → known_of (ns ++ n ∷ []) ≡ known_of ns ++ known n ∷ []
+  known_push [] n = refl
+  known_push (m ∷ ns) n = ap (λ ds. known m ∷ ds) (known_push ns n)
+
+  -- and just what was fetched, in order
+  pub fetched_for : (ns : List (List ℕ)) (new : List Held) → CopiedFor shelves w inputs held [] ns new → IsDistinct same_text ns
+      → names_in new ≡ fetched w held (known_of ns)
+  fetched_for ns new none d = refl
+  fetched_for ns new (one {ns = before_it} {mid = mid} n h o before f at so) d =
+      let d' = fewer before_it n d in
+      let rest = copied_for before_it mid before d'.0 in
+      let same = found_named n held h f in
+      told_copied w held shelves n h o mid new f same so (stands_not n (names_in mid) (λ i. d'.1 (among_names mid before_it n rest.1 i)))
+      ∙ (ap (λ ms. told_next w held ms n) (fetched_for before_it mid before d'.0)
+      ∙ (sym (fetched_both w held [] (known_of before_it) (known n ∷ [])) ∙ ap (fetched w held) (sym (known_push before_it n))))
+
   among_refs : (ns : List (List ℕ)) (ds : List (Desc (List ℕ))) → ((n : List ℕ) → In n ns → In (known n) ds) → (cs : List Held) → Among ns cs
       → Each (λ (c : Held). In (known c.name) ds) cs
   among_refs ns ds f [] a = tt
@@ -137,6 +155,11 @@ module _ (shelves : ShelvesSeen) (w : ℕ) (inputs : List (List ℕ × List ℕ)
   -- of the names of these references, each once
   pub copied_refs : (ns : List (List ℕ)) (ds : List (Desc (List ℕ))) → known_of ns ≡ distinct same_text ds → (old new : List Held) → old ≡ []
       → CopiedFor shelves w inputs held old ns new → Copies shelves w inputs held new × Each (λ (c : Held). In (known c.name) ds) new
+      × (names_in new ≡ fetched w held (distinct same_text ds))
   copied_refs ns ds are old new none_yet c =
-      let all = copied_for ns new (subst (λ os. CopiedFor shelves w inputs held os ns new) none_yet c) (names_distinct ns ds are) in
-      (all.0, among_refs ns ds (λ n i. names_refer ns ds are n i) new all.1)
+      let c' = subst (λ os. CopiedFor shelves w inputs held os ns new) none_yet c in
+      let all = copied_for ns new c' (names_distinct ns ds are) in (
+        all.0,
+        among_refs ns ds (λ n i. names_refer ns ds are n i) new all.1,
+        fetched_for ns new c' (names_distinct ns ds are) ∙ ap (fetched w held) are,
+      )

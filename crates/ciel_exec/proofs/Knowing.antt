@@ -23,7 +23,7 @@ use Rattle.sky_rows.specs.Known.{KeptObject}
 use Rattle.sky_rows.specs.Walk.{Row}
 use Rattle.sky_waves.specs.Seen.{Sees}
 use Rattle.sky_shown.specs.Given.{given_for}
-use Rattle.sky_perform.specs.Perform.{bytes_seen, collect, made, made_of, one_more, output_of}
+use Rattle.sky_perform.specs.Perform.{all_bytes, bytes_seen, collect, one_more, output_of}
 use Rattle.sky_perform.proofs.Lowered.{sees_out}
 use Rattle.ciel_store.specs.Seen.{ShelvesSeen}
 use Rattle.ciel_task.specs.declared.block.Held.{Held}
@@ -81,19 +81,18 @@ module _ (inputs : List (List ℕ × List ℕ)) (held : List Held) where
       go (n, j, q) =
           ap (given_for (known_of ns) (map object_view os)) q ∙ given_lies ns os so n j ∙ ap (lies_known inputs held) (sym q)
 
-  -- so the task makes the same
   collect_alike : (g h : Row → Result (List ℕ) Fault) (ds : List Row) → ((d : Row) → In d ds → g d ≡ h d) → collect g ds ≡ collect h ds
   collect_alike g h [] e = refl
   collect_alike g h (d ∷ ds) e = ap₂ one_more (e d (inl refl)) (collect_alike g h ds (λ c i. e c (inr i)))
 
-  pub made_lies : (gives : Gives) (x : List ℕ) (a : Val (List ℕ)) (n : ℕ) (ns : List (List ℕ)) (os : List Object) → known_of ns
-      ≡ distinct same_text (refs a) → map (lies inputs held) ns ≡ map (seen_of inputs held) os
-      → made gives (λ v. writes v) (given_for (known_of ns) (map object_view os)) x a n
-      ≡ made gives (λ v. writes v) (lies_known inputs held) x a n
-  made_lies gives x a n ns os e so =
-      ap (made_of gives x a n) (collect_alike (λ d. bytes_seen (λ v. writes v) (given_for (known_of ns) (map object_view os) d))
+  -- so the inputs are the same
+  pub bytes_lie : (a : Val (List ℕ)) (ns : List (List ℕ)) (os : List Object) → known_of ns ≡ distinct same_text (refs a)
+      → map (lies inputs held) ns ≡ map (seen_of inputs held) os
+      → all_bytes (λ v. writes v) (given_for (known_of ns) (map object_view os)) (refs a) ≡ all_bytes (λ v. writes v) (lies_known inputs held) (refs a)
+  bytes_lie a ns os e so =
+      collect_alike (λ d. bytes_seen (λ v. writes v) (given_for (known_of ns) (map object_view os) d))
       (λ d. bytes_seen (λ v. writes v) (lies_known inputs held d)) (refs a)
-      (λ d i. ap (bytes_seen (λ v. writes v)) (given_known ns os (refs a) e so d i)))
+      (λ d i. ap (bytes_seen (λ v. writes v)) (given_known ns os (refs a) e so d i))
 
 -- ---- what was made for an output
 

@@ -4,3 +4,4 @@ pub mod Going
 pub mod Saying
 pub mod Lying
 pub mod Reporting
+mod Safing

@@ -49,12 +49,10 @@ use Rattle.ciel_brought.specs.Copies.{Copies}
 use Rattle.ciel_brought.proofs.Copying.{copies_fit, copies_named, copies_sound, sound_there}
 use Rattle.ciel_brought.proofs.Finding.{spot_at, spot_found}
 use Rattle.ciel_exec.specs.Outputs.{AreOutputs, OutputsFrom}
-use Rattle.ciel_exec.specs.Runs.{CopiedAlong, RanSo}
-use Rattle.ciel_exec.specs.declared.run.Ran.{Ran}
 use Rattle.ciel_exec.proofs.Saying.{says_made, says_missing}
 use Rattle.ciel_exec.proofs.Lying.{made_lies}
 
-output_sound : (sc : Script) (r : Result (List (List ℕ)) Fault) (i : ℕ) → SoundObject sc (output_of r i)
+pub output_sound : (sc : Script) (r : Result (List (List ℕ)) Fault) (i : ℕ) → SoundObject sc (output_of r i)
 output_sound sc (Err f) i = tt
 output_sound sc (Ok bs) i = at bs i
   where
@@ -222,28 +220,3 @@ module _ (digest : List ℕ → List ℕ) (shelves : ShelvesSeen) (job : s.Job) 
         end = subst (EndAt shelves order.worker job.script r.task) (sym end) of;
         copied = subst (t.Each (λ (h : Held). CopyAt shelves order.worker job.script h.at)) (sym copied) tt;
       }
-
-  -- ---- what the run came to
-
-  -- where these are the inputs of the order
-  pub of_made : (hs : List Held) (ran : Ran) (ms : Vec Made Global) (cs : Vec Held Global) → hs ≡ held → ran ≡ Ran.Made ms cs
-      → RanSo shelves order.worker job.inputs hs (view args) digest gives x n ran
-      → CopiedAlong shelves order.worker job.inputs hs (view args) ran
-      → AreOutputs digest shelves order.worker x (view args) n made_here ms.items × Copies shelves order.worker job.inputs held cs.items
-      × t.Each (λ (c : Held). t.In (known c.name) (refs (view args))) cs.items
-  of_made hs ran ms cs same is so copied =
-      let along = subst (λ h. CopiedAlong shelves order.worker job.inputs h (view args) (Ran.Made ms cs)) same
-      (subst (CopiedAlong shelves order.worker job.inputs hs (view args)) is copied) in (
-        subst (λ h. RanSo shelves order.worker job.inputs h (view args) digest gives x n (Ran.Made ms cs)) same
-            (subst (RanSo shelves order.worker job.inputs hs (view args) digest gives x n) is so),
-        along.0,
-        along.1,
-      )
-
-  pub of_lost : (hs : List Held) (ran : Ran) (nm : Digest) (l : Loss) → hs ≡ held → ran ≡ Ran.Lost nm l
-      → RanSo shelves order.worker job.inputs hs (view args) digest gives x n ran → (h : Held) × (found held_name nm held ≡ Some h)
-      × LostAt l h.at
-  of_lost hs ran nm l same is so =
-      let lost = subst (λ h. RanSo shelves order.worker job.inputs h (view args) digest gives x n (Ran.Lost nm l)) same
-      (subst (RanSo shelves order.worker job.inputs hs (view args) digest gives x n) is so) in
-      (lost.1, lost.2, lost.3)

@@ -34,8 +34,3 @@ module _ (digest : List ℕ → List ℕ) (shelves : ShelvesSeen) (w : ℕ) wher
   -- all outputs, in order
   abbrev pub AreOutputs : List ℕ → Val (List ℕ) → ℕ → Result (List (List ℕ)) Fault → List Made → Type 0
   AreOutputs x a n made ms = (length ms ≡ n) × OutputsFrom x a n made 0 ms
-
--- what the kit makes of these objects, which are given for the names
-abbrev pub MadeSo : Gives → List (List ℕ) → List rust.Object → List ℕ → Val (List ℕ) → ℕ → Result (List (List ℕ)) Fault → Type 0
-MadeSo gives ns os x a n r =
-    r ≡ made gives writes (given_for (known_of ns) (map object_view os)) x a n

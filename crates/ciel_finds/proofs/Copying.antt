@@ -1,6 +1,6 @@
 -- One more is copied.
 use Rattle.std.proofs.Common.{◌≡◌, ◌<◌, ℕ, suc, List, [], ◌∷◌, ◌++◌, length, Bool, true, false, Option, Some, None, is_some, cond, nat_lt, Result, Ok}
-use Rattle.std.proofs.Common.{Err, MatchResult, ltb-true, ltb-false, inl, inr, ◌⊎◌, refl, sym, ap, subst, ◌∙◌, arith}
+use Rattle.std.proofs.Common.{Err, IfOk, MatchResult, ltb-true, ltb-false, inl, inr, ◌⊎◌, refl, sym, ap, subst, ◌∙◌, arith}
 use Rattle.std.specs.BTreeMap.{BTreeMap, Updates, get}
 use Rattle.std.specs.Option.{option_map}
 use Rattle.ciel_brought.specs.Copies.{Copies}
@@ -23,6 +23,8 @@ use Rattle.ciel_task.specs.declared.block.Held.{Held}
 use Rattle.ciel_task.specs.declared.block.Spot.{Spot}
 use Rattle.ciel_inputs.specs.Lies.{CopiedIf, CopiedSo, LostAt, held_name, is_elsewhere, lies_at}
 use Rattle.ciel_brought.proofs.Copying.{copies_more}
+use Rattle.ciel_brought.proofs.Fetching.{stands_place, told_copied, told_there}
+use Rattle.ciel_brought.specs.Fetched.{told_next}
 use Rattle.ciel_brought.proofs.Finding.{found_named}
 use Rattle.ciel_finds.specs.Finds.{CopiesStand, Noted, NotedIf, WasCopied}
 use Rattle.ciel_finds.specs.declared.copied.Copied.{Copied}
@@ -150,6 +152,24 @@ module _ (shelves : ShelvesSeen) (w : ℕ) (inputs : List (List ℕ × List ℕ)
       → new.items.items ≡ items → AsksFor (WasCopied old) (WasCopied new) (known n ∷ [])
   asks_after n h (Ok o) old new items f so is m i = asks_one n h (object_view o) old.items.items items f so m (subst (λ xs. In m (names_in xs)) is i)
   asks_after n h (Err gone) old new items f same is m i = inl (subst (λ xs. In m (names_in xs)) (is ∙ same) i)
+
+  -- and what is told is what comes of its name
+  pub told_after : (n : List ℕ) (h : Held) (r : Result rust.Object Gone) (old new : Copied) (items : List Held)
+      → place_of held_name n old.items.items ≡ None → found held_name n held ≡ Some h
+      → MatchResult r (λ o. CopiedSo shelves w h (object_view o) old.items.items items) (λ _. items ≡ old.items.items)
+      → new.items.items ≡ items → IfOk r (λ _. names_in new.items.items ≡ told_next w held (names_in old.items.items) n)
+  told_after n h (Ok o) old new items fresh f so is =
+      ap names_in is
+      ∙ told_copied w held shelves n h (object_view o) old.items.items items f (found_named n held h f) so
+      (stands_place n old.items.items ∙ ap is_some fresh)
+  told_after n h (Err gone) old new items fresh f so is = tt
+
+-- what the map has was told
+pub told_place : (w : ℕ) (held : List Held) (c : BTreeMap (List ℕ) ℕ) (cs : List Held) (n : List ℕ) → IsIndex held_name c cs
+    → is_some (get name_cmp c n) ≡ true → (r : Result rust.Object Gone) → IfOk r (λ _. names_in cs ≡ told_next w held (names_in cs) n)
+told_place w held c cs n index e (Err gone) = tt
+told_place w held c cs n index e (Ok o) =
+    sym (told_there w held (names_in cs) n (stands_place n cs ∙ (ap is_some (sym (index n)) ∙ e)))
 
 -- what the map hasn't has no place
 pub fresh_place : (c : BTreeMap (List ℕ) ℕ) (cs : List Held) (n : List ℕ) → IsIndex held_name c cs → is_some (get name_cmp c n) ≡ false

@@ -3,7 +3,8 @@
 ghost use Rattle.sky_base.specs.JobView.{job_view};
 ghost use Rattle.ciel_brought.specs.Brought.{lies_known};
 ghost use Rattle.ciel_finds.specs.Finds.{CanBring, IsLost, WasCopied};
-ghost use Rattle.ciel_finds.specs.Stays.{Stays};
+ghost use Rattle.ciel_task.specs.Orders.{names_in};
+ghost use Rattle.ciel_finds.specs.Stays.{Stays, Tells, tells_next};
 
 use crate::copied::{Copied, bring_once};
 use ciel_inputs::index::find;
@@ -63,6 +64,12 @@ impl<'a, R: Wait> Finds for Brought<'a, R> {
     } };
 
     ghost asked = { λ b. WasCopied b.copied.now };
+
+    ghost Told = { Tells };
+
+    ghost told = { λ b. record { worker = b.worker; held = b.held.now; names = names_in b.copied.now.items.items } };
+
+    ghost notes = { tells_next };
 
     ghost refuses = { λ b r. IsLost b.held.now r.name r.loss b.eye.now };
 

@@ -8,7 +8,8 @@ ghost use Rattle.sky_law.specs.Tasks.{Each};
 ghost use Rattle.sky_through.specs.Asked.{AsksFor};
 ghost use Rattle.ciel_table.specs.Inside.{IsIndex};
 ghost use Rattle.ciel_table.specs.Named.{found, place_of};
-ghost use Rattle.ciel_task.specs.Orders.{SpotSound};
+ghost use Rattle.ciel_task.specs.Orders.{SpotSound, names_in};
+ghost use Rattle.ciel_brought.specs.Fetched.{told_next};
 ghost use Rattle.ciel_inputs.specs.Gathers.{lies_of};
 ghost use Rattle.ciel_inputs.specs.Lies.{LostAt, held_name, lies_at};
 ghost use Rattle.ciel_finds.specs.Finds.{CopiesStand, IsLost, Noted, WasCopied};
@@ -72,6 +73,8 @@ pub fn bring_once<R: Wait>(
     ensures object { IfOk result (λ r. MatchResult r (λ o. lies_of (job_view job.now).inputs held.now name.now ≡ Some (object_view o))
         (λ gone. IsLost held.now name.now gone.loss eye.new)) }
     ensures copied { IfOk result (λ _. CopiesStand shelves.now worker (job_view job.now).inputs held.now copied.new) }
+    ensures told { IfOk result (λ r. IfOk r (λ _. names_in copied.new.items.items
+        ≡ told_next worker held.now (names_in copied.old.items.items) name.now)) }
     ensures asked { IfOk result (λ _. AsksFor (WasCopied copied.old) (WasCopied copied.new) (known name.now ∷ [])) }
 {
     let Some(one) = find(held, places, name) else {

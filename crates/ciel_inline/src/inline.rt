@@ -124,6 +124,16 @@ impl<K: Kit + Drop, N: Namer + Drop, G: Gate, R: Wait + Drop> Crew for Inline<K,
 
     ghost is_sound = { λ c. c.sound };
 
+    ghost Stays = { Unit {0} };
+
+    ghost stays = { λ c. tt };
+
+    ghost Record = { Unit {0} };
+
+    ghost record_of = { λ c. tt };
+
+    ghost goes = { λ before call after. Unit {0} };
+
     fn send(&mut self, order: Order) -> Result<(), Memory> {
         self.broken = true;
         let worker = order.worker as usize;

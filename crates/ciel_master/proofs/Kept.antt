@@ -7,7 +7,7 @@ use Rattle.sky_base.specs.declared.object.Named.{Named}
 use Rattle.sky_base.specs.declared.object.TaskId.{TaskId}
 use Rattle.ciel_board.specs.Board.{Board, Order, board_graph, find_order, idle_of, task_key, tasks_out, wait_number}
 use Rattle.ciel_board.specs.Board as board
-use Rattle.ciel_board.specs.Moves.{accepted, closed, empty, lost_at, started, with_copies, with_outputs, without}
+use Rattle.ciel_board.specs.Moves.{accepted, closed, empty, lost_at, order_for, started, with_copies, with_outputs, without}
 use Rattle.ciel_board.specs.Reports as r
 use Rattle.ciel_board.specs.Reports.{Copy, IsNamed, learned_all}
 use Rattle.ciel_board.specs.Sound.{CopyFits, OrderSound, OutputFits, Sound}
@@ -28,7 +28,7 @@ use Rattle.ciel_table.specs.declared.wait.Wait.{Wait}
 use Rattle.ciel_table.proofs.Lists.{all_more}
 use Rattle.std.specs.List.{AllByRecursion, list_any}
 use Rattle.std.proofs.lemmas.List.{length-map}
-use Rattle.ciel_task.specs.Views.{P, copies_view, how_view, output_view}
+use Rattle.ciel_task.specs.Views.{P, copies_view, how_view, order_view, output_view}
 use Rattle.ciel_task.specs.declared.block.Held.{Held}
 use Rattle.ciel_task.specs.declared.report.End.{End}
 use Rattle.ciel_task.specs.declared.report.Made.{Made}
@@ -36,7 +36,12 @@ use Rattle.ciel_want.specs.Waited.{Whole}
 use Rattle.ciel_store.specs.Seen.{SeatSeen, ShelvesSeen, marked}
 use Rattle.ciel_ready.specs.Seen.{ReadySeen, with_out, with_table}
 use Rattle.ciel_master.specs.Orders.{OneEach, ready_of}
-use Rattle.ciel_master.specs.Marked.{FitsUnlessMissing, IsCarriedOut, Marked, WasMarked}
+use Rattle.ciel_master.specs.Marked.{FitsUnlessMissing, IsCarriedOut, Marked, WasMarked, unseen}
+use Rattle.sky_base.specs.Tree.{Script}
+use Rattle.ciel_safe.specs.Laws.{OrderIsGood, SafeOrders}
+use Rattle.ciel_safe.specs.Safe.{Safe}
+use Rattle.ciel_safe.proofs.Keeping.{loss_safe, opened_safe, report_safe, start_safe}
+use Rattle.ciel_task.specs.declared.order.Order as rust
 use Rattle.ciel_master.specs.Seen.{Going, HasRoom, MasterSeen, MasterStands, board_of, most_descriptions, plan_view}
 use Rattle.ciel_master.specs.Taking.{CanTake, CopiesPlace, LearnedFor, OutputsPlace, entry_for, is_last, learned_for, table_after}
 use Rattle.ciel_turns.specs.Left.{losses_left}
@@ -49,16 +54,19 @@ use Rattle.ciel_master.specs.declared.entry.Entry.{Entry}
 use Rattle.ciel_master.specs.declared.orders.OrderOut.{OrderOut}
 use Rattle.ciel_master.specs.declared.plan.RunPlan.{RunPlan}
 
-module _ (digest : List ℕ → List ℕ) (p : RunPlan) (keys : List (List ℕ)) where
+module _ (digest : List ℕ → List ℕ) (shelves : ShelvesSeen) (sc : Script) (p : RunPlan) where
+  abbrev keys : List (List ℕ)
+  keys = sc.keys
+
   pub open_going : (main : Named) (t : TableSeen P) (os : List OrderOut) (es : List Entry) → t ≡ learned digest main (empty most_descriptions)
-      → os ≡ [] → es ≡ [] → length keys < 2 ^ 32 → IsNamed digest main → main.desc ≡ Desc1.Call [] no_pairs no_vals
-      → Going digest (board_of p keys main.name t os 0 0 es false)
-  open_going main t os es is none nothing few named call =
-      let first : Going digest (board_of p keys main.name (learned digest main (empty most_descriptions)) [] 0 0 [] false) =
-      record { sound = opened_sound digest worker_of (plan_view p) keys main (omega arith) named call; counted = omega arith; few = few } in
-      subst (λ u. Going digest (board_of p keys main.name u os 0 0 es false)) (sym is)
-      (subst (λ xs. Going digest (board_of p keys main.name (learned digest main (empty most_descriptions)) xs 0 0 es false)) (sym none)
-      (subst (λ xs. Going digest (board_of p keys main.name (learned digest main (empty most_descriptions)) [] 0 0 xs false)) (sym nothing)
+      → os ≡ [] → es ≡ [] → length keys < 2 ^ 32 → p.workers ≤ length shelves.rows → IsNamed digest main → main.desc ≡ Desc1.Call [] no_pairs no_vals
+      → Going digest shelves sc (board_of p keys main.name t os 0 0 es false)
+  open_going main t os es is none nothing few wide named call =
+      let first : Going digest shelves sc (board_of p keys main.name (learned digest main (empty most_descriptions)) [] 0 0 [] false) =
+      record { safe = opened_safe digest shelves sc (plan_view p) main (omega arith) named call wide; counted = omega arith; few = few } in
+      subst (λ u. Going digest shelves sc (board_of p keys main.name u os 0 0 es false)) (sym is)
+      (subst (λ xs. Going digest shelves sc (board_of p keys main.name (learned digest main (empty most_descriptions)) xs 0 0 es false)) (sym none)
+      (subst (λ xs. Going digest shelves sc (board_of p keys main.name (learned digest main (empty most_descriptions)) [] 0 0 xs false)) (sym nothing)
       first))
 
 some_same : {A : Type 0} (x y : A) → Some x ≡ Some y → x ≡ y
@@ -68,12 +76,12 @@ some_same x y e = cc
 more_written : (es : List j.Entry) (e : j.Entry) → length (es ++ e ∷ []) ≡ length es + 1
 more_written es e = length-append es (e ∷ [])
 
-module _ (digest : List ℕ → List ℕ) (b : Board P) (g : Going digest b) where
-  pub started_going : (x : TaskId) (w : ℕ) → Runnable (board_graph b) x → In w (idle_of b) → Going digest (started worker_of b x w)
+module _ (digest : List ℕ → List ℕ) (shelves : ShelvesSeen) (sc : Script) (b : Board P) (g : Going digest shelves sc b) where
+  pub started_going : (x : TaskId) (w : ℕ) → Runnable (board_graph b) x → In w (idle_of b) → Going digest shelves sc (started worker_of b x w)
   started_going x w r i =
       let long = more_written b.journal (j.Entry.Start b.starts w (task_key x) (wait_number (last_wait x b.table))) in
       let counted = g.counted in
-      record { sound = started_sound digest worker_of b g.sound x w r i; counted = omega (arith, long, counted); few = g.few }
+      record { safe = start_safe digest shelves sc (length sc.keys) b g.safe x w r i; counted = omega (arith, long, counted); few = g.few }
 
   -- the same by the parts of the end
   abbrev pub taken : board.OrderOut → List Named → List Held → End → Board P
@@ -91,27 +99,44 @@ module _ (digest : List ℕ → List ℕ) (b : Board P) (g : Going digest b) whe
       ap (λ z. record (taken x spawned copied (End.Missing name loss seen)) { stopped = z }) (sym e)
 
   module _ (x : Order P) (k : ℕ) (out : find_order k b.orders ≡ Some x.out) (spawned : List Named) (copied : List Held) where
-    accepted_is_sound : (end : End) → FitsUnlessMissing digest b x spawned copied end → LearnedFor digest end spawned b.table
+    accepted_is_sound : (end : End) → FitsUnlessMissing digest shelves sc b x spawned copied end → LearnedFor digest end spawned b.table
         → Sound digest worker_of (accepted digest b x.out spawned (how_view copied end))
     accepted_is_sound (End.Made ms) fits all =
-        accepted_sound digest worker_of b g.sound x k out spawned (how_view copied (End.Made ms)) (fits (λ z. z)) all
+        accepted_sound digest worker_of b g.safe.sound x k out spawned (how_view copied (End.Made ms)) (fits (λ z. z)).fits all
     accepted_is_sound (End.Saved p n refs holds mark) fits all =
-        accepted_sound digest worker_of b g.sound x k out spawned (how_view copied (End.Saved p n refs holds mark)) (fits (λ z. z)) all
+        accepted_sound digest worker_of b g.safe.sound x k out spawned (how_view copied (End.Saved p n refs holds mark)) (fits (λ z. z)).fits all
     accepted_is_sound (End.Shown s) fits all =
-        accepted_sound digest worker_of b g.sound x k out spawned (how_view copied (End.Shown s)) (fits (λ z. z)) all
+        accepted_sound digest worker_of b g.safe.sound x k out spawned (how_view copied (End.Shown s)) (fits (λ z. z)).fits all
     accepted_is_sound (End.Missing name loss seen) fits all =
-        let s = g.sound in
+        let s = g.safe.sound in
         closed_sound digest worker_of b s (λ (q : board.OrderOut). not (nat_eq x.out.number q.number)) b.table
         (b.journal ++ j.Entry.Missed x.out.number name loss.number ∷ []) (b.closes + 1) b.stopped (λ n i. i)
         (record { rows = s.rows; shown = s.shown; saved = s.saved }) s.room refl (λ y i q. (q.here, q.last))
 
-    pub taken_going : (end : End) → FitsUnlessMissing digest b x spawned copied end → LearnedFor digest end spawned b.table → b.stopped ≡ false
-        → Going digest (taken x.out spawned copied end)
+    accepted_is_safe : (end : End) → FitsUnlessMissing digest shelves sc b x spawned copied end → LearnedFor digest end spawned b.table
+        → Safe digest shelves sc (length sc.keys) (accepted digest b x.out spawned (how_view copied end))
+    accepted_is_safe (End.Made ms) fits all =
+        report_safe digest shelves sc (length sc.keys) b g.safe x k out spawned (how_view copied (End.Made ms)) (fits (λ z. z)) all
+    accepted_is_safe (End.Saved p n refs holds mark) fits all =
+        report_safe digest shelves sc (length sc.keys) b g.safe x k out spawned (how_view copied (End.Saved p n refs holds mark)) (fits (λ z. z)) all
+    accepted_is_safe (End.Shown s) fits all =
+        report_safe digest shelves sc (length sc.keys) b g.safe x k out spawned (how_view copied (End.Shown s)) (fits (λ z. z)) all
+    accepted_is_safe (End.Missing name loss seen) fits all =
+        record {
+          sound = accepted_is_sound (End.Missing name loss seen) fits all;
+          table = g.safe.table;
+          keys = g.safe.keys;
+          few = g.safe.few;
+          wide = g.safe.wide;
+        }
+
+    pub taken_going : (end : End) → FitsUnlessMissing digest shelves sc b x spawned copied end → LearnedFor digest end spawned b.table → b.stopped ≡ false
+        → Going digest shelves sc (taken x.out spawned copied end)
     taken_going end fits all e =
         let long = more_written b.journal (entry_for x.out.number (how_view copied end)) in
         let counted = g.counted in
         record {
-          sound = subst (Sound digest worker_of) (sym (taken_is x.out spawned copied end e)) (accepted_is_sound end fits all);
+          safe = subst (Safe digest shelves sc (length sc.keys)) (sym (taken_is x.out spawned copied end e)) (accepted_is_safe end fits all);
           counted = omega (arith, long, counted);
           few = g.few;
         }
@@ -127,7 +152,7 @@ module _ (digest : List ℕ → List ℕ) (t : TableSeen P) (x : Order P) (h : H
       each_more (CopyFits digest worker_of t x) (λ (c : Copy P). Known t c.name × Here t.gone (worker_of c.place))
       (λ c f. (f.known, subst (Here t.gone) (sym f.here) h)) (copies_view copied) e
 
-module _ (digest : List ℕ → List ℕ) (b : Board P) (s : Sound digest worker_of b) (x : Order P) (k : ℕ) (out : find_order k b.orders ≡ Some x.out)
+module _ (digest : List ℕ → List ℕ) (shelves : ShelvesSeen) (sc : Script) (b : Board P) (s : Sound digest worker_of b) (x : Order P) (k : ℕ) (out : find_order k b.orders ≡ Some x.out)
     (spawned : List Named) where
   abbrev then : TableSeen P
   then = learned_all digest spawned b.table
@@ -145,15 +170,15 @@ module _ (digest : List ℕ → List ℕ) (b : Board P) (s : Sound digest worker
       (all_more (λ (w : Wait P). w.j ≤ x.out.from) (λ (w : Wait P). w.j < n) (λ w m. omega (arith, m, l)) (waits_of x.out.task b.table)
       is_sound.last)
 
-  pub can_take : (copied : List Held) (end : End) → FitsUnlessMissing digest b x spawned copied end → LearnedFor digest end spawned b.table
+  pub can_take : (copied : List Held) (end : End) → FitsUnlessMissing digest shelves sc b x spawned copied end → LearnedFor digest end spawned b.table
       → CanTake x.out.task (learned_for digest end spawned b.table) copied end
   can_take copied (End.Made ms) f all =
-      let e = ((f (λ z. z)).learned all).end in
+      let e = ((f (λ z. z)).fits.learned all).end in
       (outputs_can digest then x is_here ms.items e.0, copies_can digest then x is_here copied e.1)
   can_take copied (End.Saved q n refs holds mark) f all =
-      let e = ((f (λ z. z)).learned all).end in (is_above n e.later, subst (Here then.gone) (sym e.here) is_here)
+      let e = ((f (λ z. z)).fits.learned all).end in (is_above n e.later, subst (Here then.gone) (sym e.here) is_here)
   can_take copied (End.Shown q) f all =
-      let e = ((f (λ z. z)).learned all).end in copies_can digest then x is_here copied e.1
+      let e = ((f (λ z. z)).fits.learned all).end in copies_can digest then x is_here copied e.1
   can_take copied (End.Missing name loss seen) f all = tt
 
 -- the lost workers stay
@@ -227,15 +252,33 @@ open_ready main p keys t os es new is none =
     parts new main.name (tasks_out (map kept_view os)) (ap (λ (r : ReadySeen P). r.main) is)
     (ap (λ (r : ReadySeen P). r.out) is ∙ ap (λ xs. tasks_out (map kept_view xs)) (sym none))
 
+-- it fits without what the eye had seen
+pub unseen_fits : (digest : List ℕ → List ℕ) (shelves : ShelvesSeen) (sc : Script) (b : Board P) (x : Order P) (spawned : List Named)
+    (copied : List Held) (end : End) → FitsUnlessMissing digest shelves sc b x spawned copied end
+    → FitsUnlessMissing digest shelves sc b x spawned copied (unseen end)
+unseen_fits digest shelves sc b x spawned copied (End.Made ms) f = f
+unseen_fits digest shelves sc b x spawned copied (End.Saved p k refs holds mark) f = f
+unseen_fits digest shelves sc b x spawned copied (End.Shown s) f = f
+unseen_fits digest shelves sc b x spawned copied (End.Missing name loss seen) f = λ none. absurd (none tt)
+
 -- a master in its state, which goes on
-module _ {N : Type 0} (dig : N → (List ℕ → List ℕ)) (m : MasterSeen N) (n : N) (shelves : ShelvesSeen) (b : Board P)
-    (e : record { namer = n; shelves = shelves; board = b } ≡ m) (lost : List ℕ) (entries workers : ℕ) (marker : SeatSeen) (ready : ReadySeen P)
-    (stands : MasterStands (dig n) b lost entries workers shelves marker ready) (run : m.board.stopped ≡ false) where
+module _ {N : Type 0} (dig : N → (List ℕ → List ℕ)) (m : MasterSeen N) (n : N) (shelves : ShelvesSeen) (sc : Script) (b : Board P)
+    (e : record { namer = n; shelves = shelves; script = sc; board = b } ≡ m) (lost : List ℕ) (entries workers : ℕ) (marker : SeatSeen) (ready : ReadySeen P)
+    (stands : MasterStands (dig n) b lost entries workers shelves sc marker ready) (run : m.board.stopped ≡ false) where
   goes : b.stopped ≡ false
   goes = subst (λ (z : MasterSeen N). z.board.stopped ≡ false) (sym e) run
 
-  going : Going (dig n) b
+  going : Going (dig n) shelves sc b
   going = (stands goes).0
+
+  -- an order of it is sound for the shop
+  pub good_now : SafeOrders → (x : TaskId) (w : ℕ) → Runnable (board_graph m.board) x → In w (idle_of m.board) → (y : rust.Order)
+      → order_view y ≡ order_for worker_of m.board x w → OrderIsGood (dig m.namer) m.shelves m.script (length m.script.keys) m.board y
+  good_now law x w r i y v =
+      subst (λ (z : MasterSeen N). OrderIsGood (dig z.namer) z.shelves z.script (length z.script.keys) z.board y) e
+      (law (dig n) shelves sc (length sc.keys) b going.safe x w (subst (λ (z : MasterSeen N). Runnable (board_graph z.board) x) (sym e) r)
+      (subst (λ (z : MasterSeen N). In w (idle_of z.board)) (sym e) i) y
+      (subst (λ (z : MasterSeen N). order_view y ≡ order_for worker_of z.board x w) (sym e) v))
 
   pub gone_now : b.table.gone ≡ lost
   gone_now = (stands goes).1
@@ -265,7 +308,7 @@ module _ {N : Type 0} (dig : N → (List ℕ → List ℕ)) (m : MasterSeen N) (
       (subst (λ (s : SeatSeen). WasMarked s.losses end) same k))
 
   pub whole_now : Whole b.main b.table
-  whole_now = sound_whole (dig n) worker_of b going.sound
+  whole_now = sound_whole (dig n) worker_of b going.safe.sound
 
   pub ready_now : ready ≡ ready_of b
   ready_now = (stands goes).4
@@ -281,7 +324,7 @@ module _ {N : Type 0} (dig : N → (List ℕ → List ℕ)) (m : MasterSeen N) (
 
   pub one_each : OneEach b.orders
   one_each =
-      let s = going.sound in
+      let s = going.safe.sound in
       record { numbers = s.numbers; tasks = s.tasks; workers = s.workers }
 
   -- after a start
@@ -304,7 +347,7 @@ module _ {N : Type 0} (dig : N → (List ℕ → List ℕ)) (m : MasterSeen N) (
     pub gone_started : new.table.gone ≡ lost
     gone_started = ap (λ (t : TableSeen P). t.gone) same_table ∙ gone_now
 
-    pub going_started : Going (dig n) now_started
+    pub going_started : Going (dig n) shelves sc now_started
     going_started =
         let er = subst (λ (z : MasterSeen N). Runnable (board_graph z.board) x) (sym e) r in
         let ei = subst (λ (z : MasterSeen N). In w (idle_of z.board)) (sym e) i in
@@ -314,7 +357,7 @@ module _ {N : Type 0} (dig : N → (List ℕ → List ℕ)) (m : MasterSeen N) (
         ap (λ z. record b { table = z; orders = os; starts = b.starts + 1; journal = js }) same_table
         ∙ (ap (λ z. record b { orders = z; starts = b.starts + 1; journal = js }) os_so
         ∙ ap (λ z. record (started worker_of b x w) { journal = z }) js_so) in
-        subst (Going (dig n)) (sym so) (started_going (dig n) b going x w er ei)
+        subst (Going (dig n) shelves sc) (sym so) (started_going (dig n) shelves sc b going x w er ei)
 
   -- where the table alone has changed
   pub changed_out : (now : ReadySeen P) (t : TableSeen P) → now ≡ with_table ready t → now.out ≡ tasks_out b.orders
@@ -350,7 +393,7 @@ module _ {N : Type 0} (dig : N → (List ℕ → List ℕ)) (m : MasterSeen N) (
     gone_lost more is =
         ap (λ (z : TableSeen P). z.gone) is_u ∙ (ap (λ gs. gs ++ w ∷ []) gone_now ∙ sym is)
 
-    pub going_lost : Going (dig n) (record b { table = u; orders = os; journal = js })
+    pub going_lost : Going (dig n) shelves sc (record b { table = u; orders = os; journal = js })
     going_lost =
         let so : record b { table = u; orders = os; journal = js } ≡ lost_at worker_of w b =
         ap (λ z. record b { table = z; orders = os; journal = js }) is_u
@@ -358,8 +401,8 @@ module _ {N : Type 0} (dig : N → (List ℕ → List ℕ)) (m : MasterSeen N) (
         ∙ ap (λ z. record (lost_at worker_of w b) { journal = z }) is_js) in
         let long = more_written b.journal (j.Entry.Lost w b.closes) in
         let counted = going.counted in
-        subst (Going (dig n)) (sym so)
-        (record { sound = lost_sound (dig n) worker_of b going.sound w; counted = omega (arith, long, counted); few = going.few })
+        subst (Going (dig n) shelves sc) (sym so)
+        (record { safe = loss_safe (dig n) shelves sc (length sc.keys) b going.safe w; counted = omega (arith, long, counted); few = going.few })
 
   -- the loss that comes next
   module _ (number : ℕ) (due : (w : ℕ) × FirstDue m.board.plan.losses m.board.closes m.board.table.gone number w) (losses : List (ℕ × ℕ))
@@ -412,7 +455,7 @@ module _ {N : Type 0} (dig : N → (List ℕ → List ℕ)) (m : MasterSeen N) (
         (is_os : os ≡ filter (λ (x : board.OrderOut). not (nat_eq the_worker x.worker)) b.orders)
         (is_js : js ≡ b.journal ++ j.Entry.Lost the_worker b.closes ∷ []) where
       pub lost_stands : (more : List ℕ) → more ≡ lost ++ the_worker ∷ [] → (lines places : ℕ) → lines ≡ entries → places ≡ workers
-          → Going (dig n) (record b { table = u; orders = os; journal = js }) × (u.gone ≡ more)
+          → Going (dig n) shelves sc (record b { table = u; orders = os; journal = js }) × (u.gone ≡ more)
           × HasRoom b.plan.losses more (length js) lines places
       lost_stands more is lines places same also =
           let r = room_lost the_worker u os js is_u is_os is_js due_now.count number planned_now here_now more is in (
@@ -430,25 +473,25 @@ module _ {N : Type 0} (dig : N → (List ℕ → List ℕ)) (m : MasterSeen N) (
           here_now more is seat so
 
       pub lost_so : (w : ℕ) → FirstDue m.board.plan.losses m.board.closes m.board.table.gone number w
-          → record { namer = n; shelves = shelves; board = record b { table = u; orders = os; journal = js } }
+          → record { namer = n; shelves = shelves; script = sc; board = record b { table = u; orders = os; journal = js } }
           ≡ record m { board = lost_at worker_of w m.board }
       lost_so w d =
           let so : record b { table = u; orders = os; journal = js } ≡ lost_at worker_of the_worker b =
           ap (λ z. record b { table = z; orders = os; journal = js }) is_u
           ∙ (ap (λ z. record b { table = dropped worker_of the_worker b.table; orders = z; journal = js }) is_os
           ∙ ap (λ z. record (lost_at worker_of the_worker b) { journal = z }) is_js) in
-          ap (λ z. record { namer = n; shelves = shelves; board = z }) (so ∙ ap (λ z. lost_at worker_of z b) (worker_is w d))
+          ap (λ z. record { namer = n; shelves = shelves; script = sc; board = z }) (so ∙ ap (λ z. lost_at worker_of z b) (worker_is w d))
           ∙ ap (λ (z : MasterSeen N). record z { board = lost_at worker_of w z.board }) e
 
   -- after a report
   module _ (number : ℕ) (spawned : List Named) (copied : List Held) (end : End)
-      (fits : (x : Order P) × (find_order number m.board.orders ≡ Some x.out) × FitsUnlessMissing (dig m.namer) m.board x spawned copied end)
+      (fits : (x : Order P) × (find_order number m.board.orders ≡ Some x.out) × FitsUnlessMissing (dig m.namer) m.shelves m.script m.board x spawned copied end)
       (o : board.OrderOut) (found : find_order number b.orders ≡ Some o) (k : N) (is_k : k ≡ n) (ns : List Named) (is_ns : ns ≡ spawned)
       (cs : List Held) (is_cs : cs ≡ copied) (t : TableSeen P) (is_t : t ≡ learned_for (dig k) end ns b.table) where
-    fits_now : (x : Order P) × (find_order number b.orders ≡ Some x.out) × FitsUnlessMissing (dig n) b x spawned copied end
+    fits_now : (x : Order P) × (find_order number b.orders ≡ Some x.out) × FitsUnlessMissing (dig n) shelves sc b x spawned copied end
     fits_now =
         subst (λ (z : MasterSeen N). (x : Order P) × (find_order number z.board.orders ≡ Some x.out)
-        × FitsUnlessMissing (dig z.namer) z.board x spawned copied end) (sym e) fits
+        × FitsUnlessMissing (dig z.namer) z.shelves z.script z.board x spawned copied end) (sym e) fits
 
     is_then : t ≡ learned_for (dig n) end spawned b.table
     is_then = is_t ∙ (ap (λ z. learned_for (dig z) end ns b.table) is_k ∙ ap (λ z. learned_for (dig n) end z b.table) is_ns)
@@ -467,7 +510,7 @@ module _ {N : Type 0} (dig : N → (List ℕ → List ℕ)) (m : MasterSeen N) (
       pub takes_now : CanTake o.task t cs end
       takes_now =
           let x = fits_now.0 in
-          let can = can_take (dig n) b going.sound x number fits_now.1 spawned copied end fits_now.2 all_now in
+          let can = can_take (dig n) shelves sc b going.safe.sound x number fits_now.1 spawned copied end fits_now.2 all_now in
           subst (λ (z : board.OrderOut). CanTake z.task t cs end) same_order
           (subst (λ u. CanTake x.out.task u cs end) (sym is_then)
           (subst (λ ds. CanTake x.out.task (learned_for (dig n) end spawned b.table) ds end) (sym is_cs) can))
@@ -484,29 +527,29 @@ module _ {N : Type 0} (dig : N → (List ℕ → List ℕ)) (m : MasterSeen N) (
       abbrev now : Board P
       now = record b { table = u; orders = os; closes = b.closes + 1; journal = js; stopped = last }
 
-      now_is : now ≡ taken (dig n) b going o spawned copied end
+      now_is : now ≡ taken (dig n) shelves sc b going o spawned copied end
       now_is =
           let u_so = is_u ∙ (ap (λ z. table_after o.task (how_view z end) t) is_cs ∙ ap (table_after o.task (how_view copied end)) is_then) in
           let js_so = is_js ∙ ap (λ z. b.journal ++ entry_for o.number (how_view z end) ∷ []) is_cs in
           let last_so = is_last_so ∙ ap (λ z. is_last o.task (how_view z end)) is_ds in
           ap (λ z. record now { table = z }) u_so
           ∙ (ap (λ z. record now { table = table_after o.task (how_view copied end) (learned_for (dig n) end spawned b.table); orders = z }) is_os
-          ∙ (ap (λ z. record (taken (dig n) b going o spawned copied end) { journal = z; stopped = last }) js_so
-          ∙ ap (λ z. record (taken (dig n) b going o spawned copied end) { stopped = z }) last_so))
+          ∙ (ap (λ z. record (taken (dig n) shelves sc b going o spawned copied end) { journal = z; stopped = last }) js_so
+          ∙ ap (λ z. record (taken (dig n) shelves sc b going o spawned copied end) { stopped = z }) last_so))
 
-      pub going_accepted : Going (dig n) now
+      pub going_accepted : Going (dig n) shelves sc now
       going_accepted =
-          subst (Going (dig n)) (sym now_is) (subst (λ (z : board.OrderOut). Going (dig n) (taken (dig n) b going z spawned copied end))
-          same_order (taken_going (dig n) b going fits_now.0 number fits_now.1 spawned copied end fits_now.2 (all_now all) goes))
+          subst (Going (dig n) shelves sc) (sym now_is) (subst (λ (z : board.OrderOut). Going (dig n) shelves sc (taken (dig n) shelves sc b going z spawned copied end))
+          same_order (taken_going (dig n) shelves sc b going fits_now.0 number fits_now.1 spawned copied end fits_now.2 (all_now all) goes))
 
       pub accepted_so : (x : board.OrderOut) × (find_order number m.board.orders ≡ Some x)
-          × (record { namer = n; shelves = shelves; board = now }
+          × (record { namer = n; shelves = shelves; script = sc; board = now }
           ≡ record m { board = accepted (dig m.namer) m.board x spawned (how_view copied end) })
       accepted_so =
-          let so = now_is ∙ taken_is (dig n) b going o spawned copied end goes in (
+          let so = now_is ∙ taken_is (dig n) shelves sc b going o spawned copied end goes in (
             o,
             subst (λ (z : MasterSeen N). find_order number z.board.orders ≡ Some o) e found,
-            subst (λ (z : MasterSeen N). record { namer = n; shelves = shelves; board = now }
+            subst (λ (z : MasterSeen N). record { namer = n; shelves = shelves; script = sc; board = now }
                 ≡ record z { board = accepted (dig z.namer) z.board o spawned (how_view copied end) }) e
-                (ap (λ z. record { namer = n; shelves = shelves; board = z }) so),
+                (ap (λ z. record { namer = n; shelves = shelves; script = sc; board = z }) so),
           )

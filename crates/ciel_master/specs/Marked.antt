@@ -1,13 +1,17 @@
 -- Losses that were carried out, as the seat that marks them at the words of the shelves has them.
-use Rattle.std.specs.Prelude.{◌≡◌, ℕ, ◌<◌, List, true, Some, None, length, map, nat_eq, slice_get}
+use Rattle.std.specs.Prelude.{◌⊎◌, Option, ◌≡◌, ℕ, ◌<◌, List, true, Some, None, length, map, nat_eq, slice_get}
 use Rattle.std.specs.List.{list_any}
-use Rattle.ciel_board.specs.Board.{Board}
-use Rattle.ciel_board.specs.Sound.{Fits}
+use Rattle.ciel_board.specs.Board.{Board, shelf, spot_of}
+use Rattle.ciel_board.specs.Sound.{own_name}
+use Rattle.ciel_journal.specs.Job.{Digest}
+use Rattle.ciel_task.specs.declared.report.Report.{Report}
+use Rattle.sky_base.specs.Tree.{Script}
+use Rattle.ciel_safe.specs.Reports.{FitsSafely}
 use Rattle.ciel_board.specs.Board as b
 use Rattle.ciel_journal.specs.Job.{Each, In}
 use Rattle.ciel_store.specs.Seen.{SeatSeen, ShelvesSeen}
 use Rattle.ciel_store.specs.declared.loss.Loss.{Loss}
-use Rattle.ciel_task.specs.Performs.{HasSeen, IsMissing}
+use Rattle.ciel_task.specs.Performs.{HasSeen, IsMissing, OfTask}
 use Rattle.ciel_task.specs.Places.{SeenAt}
 use Rattle.ciel_task.specs.Views.{P, how_view}
 use Rattle.ciel_task.specs.declared.block.Held.{Held}
@@ -58,5 +62,23 @@ unseen (End.Shown s) = End.Shown s
 unseen (End.Missing name loss seen) = End.Missing name loss None
 
 -- the report fits its order, unless something was missing
-abbrev pub FitsUnlessMissing : (List ℕ → List ℕ) → Board P → b.Order P → List Named → List Held → End → Type 0
-FitsUnlessMissing digest b x spawned copied end = (IsMissing end → ⊥) → Fits digest worker_of b x spawned (how_view copied end)
+abbrev pub FitsUnlessMissing : (List ℕ → List ℕ) → ShelvesSeen → Script → Board P → b.Order P → List Named → List Held → End → Type 0
+FitsUnlessMissing digest shelves sc b x spawned copied end = (IsMissing end → ⊥) → FitsSafely digest shelves sc b x spawned (how_view copied end)
+
+-- the report is of this order, and its end of the task's kind
+pub record IsOf (x : b.OrderOut) (report : Report) : Type 0 where
+  pub worker : report.worker ≡ x.worker
+  pub task : report.task ≡ x.task
+  pub kind : OfTask x.task report.end
+
+-- the place that the order gives for the name, or for its stack, is at the loss's worker; and the eye had seen that loss, or it is one of
+-- the plan that was carried out
+pub record MissedOf (digest : List ℕ → List ℕ) (c : Board P) (x : b.Order P) (name : Digest) (loss : Loss) (seen : Option SeatSeen) : Type 0 where
+  pub place : P
+  pub given : (spot_of name x.inputs ≡ Some (shelf place)) ⊎ ((x.stack ≡ Some place) × (name ≡ own_name digest worker_of c.main x.out.task))
+  pub worker : place.worker ≡ loss.worker
+  pub known : HasSeen seen loss ⊎ (IsPlanned c.plan.losses loss × (list_any (nat_eq loss.worker) c.table.gone ≡ true))
+
+abbrev pub IsMissedOf : (List ℕ → List ℕ) → Board P → b.Order P → End → Type 0
+IsMissedOf digest c x (End.Missing name loss seen) = MissedOf digest c x name loss seen
+IsMissedOf digest c x _ = Unit {0}

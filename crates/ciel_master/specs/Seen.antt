@@ -1,13 +1,14 @@
 -- What contracts see of a master.
 use Rattle.std.specs.Prelude.{◌≡◌, ℕ, ◌+◌, ◌≤◌, ◌<◌, ◌^◌, List, Bool, false, length, map}
+use Rattle.sky_base.specs.Tree.{Script}
 use Rattle.ciel_board.specs.Board.{Board}
-use Rattle.ciel_board.specs.Sound.{Sound}
 use Rattle.ciel_journal.specs.History.{Plan}
 use Rattle.ciel_journal.specs.Job.{Digest}
 use Rattle.ciel_store.specs.Seen.{SeatSeen, ShelvesSeen}
 use Rattle.ciel_table.specs.Seen.{TableSeen}
 use Rattle.ciel_turns.specs.Left.{losses_left}
 use Rattle.ciel_ready.specs.Seen.{ReadySeen}
+use Rattle.ciel_safe.specs.Safe.{Safe}
 use Rattle.ciel_master.specs.Orders.{ready_of}
 use Rattle.ciel_master.specs.Marked.{Marked}
 use Rattle.ciel_bring.specs.Brings.{worker_of}
@@ -17,10 +18,11 @@ use Rattle.ciel_master.specs.declared.entry.Entry.{Entry}
 use Rattle.ciel_master.specs.declared.orders.OrderOut.{OrderOut}
 use Rattle.ciel_master.specs.declared.plan.RunPlan.{RunPlan}
 
--- what gives the names, the shelves, and the state by names
+-- what gives the names, the shelves, the script, and the state by names
 pub record MasterSeen (N : Type 0) : Type 0 where
   pub namer : N
   pub shelves : ShelvesSeen
+  pub script : Script
   pub board : Board P
 
 -- how many descriptions a run may know
@@ -45,9 +47,9 @@ board_of plan keys main table orders starts closes journal stopped =
       stopped = stopped;
     }
 
--- until the run stops: it is sound, each Start and each close has an entry, and inputs have numbers of 32 bits
-pub record Going (digest : List ℕ → List ℕ) (b : Board P) : Type 0 where
-  pub sound : Sound digest worker_of b
+-- until the run stops: it is safe, each Start and each close has an entry, and inputs have numbers of 32 bits
+pub record Going (digest : List ℕ → List ℕ) (shelves : ShelvesSeen) (sc : Script) (b : Board P) : Type 0 where
+  pub safe : Safe digest shelves sc (length sc.keys) b
   pub counted : b.starts + b.closes ≤ length b.journal
   pub few : length b.keys < 2 ^ 32
 
@@ -58,7 +60,7 @@ pub record HasRoom (losses : List (ℕ × ℕ)) (lost : List ℕ) (entries entry
 
 -- besides, these are the lost workers, there is room for the losses that are left, those that were carried out are marked, and what is
 -- kept of the tasks that can run is the state's
-abbrev pub MasterStands : (List ℕ → List ℕ) → Board P → (lost : List ℕ) → (entry_room lost_room : ℕ) → ShelvesSeen → SeatSeen → ReadySeen P → Type 0
-MasterStands digest b lost entry_room lost_room shelves marker ready =
-    b.stopped ≡ false → Going digest b × (b.table.gone ≡ lost) × HasRoom b.plan.losses lost (length b.journal) entry_room lost_room
+abbrev pub MasterStands : (List ℕ → List ℕ) → Board P → (lost : List ℕ) → (entry_room lost_room : ℕ) → ShelvesSeen → Script → SeatSeen → ReadySeen P → Type 0
+MasterStands digest b lost entry_room lost_room shelves sc marker ready =
+    b.stopped ≡ false → Going digest shelves sc b × (b.table.gone ≡ lost) × HasRoom b.plan.losses lost (length b.journal) entry_room lost_room
     × Marked b.plan.losses lost shelves marker × (ready ≡ ready_of b)

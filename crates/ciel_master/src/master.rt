@@ -17,8 +17,9 @@ ghost use Rattle.ciel_journal.specs.Turns.{FirstDue, NothingDue, is_idle};
 ghost use Rattle.ciel_table.specs.Learning.{learned};
 ghost use Rattle.ciel_ready.specs.Seen.{CanRunAt, CanRunMany};
 ghost use Rattle.ciel_task.specs.Views.{P, order_view, report_end};
+ghost use Rattle.ciel_safe.specs.Laws.{OrderIsGood};
 ghost use Rattle.ciel_master.specs.Orders.{ready_of};
-ghost use Rattle.ciel_master.specs.Marked.{FitsUnlessMissing, IsCarriedOut, SeenOf};
+ghost use Rattle.ciel_master.specs.Marked.{FitsUnlessMissing, IsCarriedOut, IsMissedOf, IsOf, SeenOf};
 ghost use Rattle.ciel_master.specs.Refusals.{FirstStops, UnlessMemory, refused_at};
 ghost use Rattle.ciel_master.specs.Seen.{MasterSeen, most_descriptions, plan_view};
 ghost use Rattle.ciel_master.specs.Taking.{LearnedFor, now_of};
@@ -37,6 +38,7 @@ use ciel_bring::bring::order_at;
 use ciel_journal::turn::{first_due, idle};
 use ciel_name::name::Namer;
 use ciel_ready::ready::Ready;
+use ciel_safe::orders_are_safe;
 use ciel_store::loss::Loss;
 use ciel_store::seats::Marker;
 use ciel_store::shelves::Place;
@@ -76,23 +78,25 @@ impl<K, N: Namer> Model for Master<K, N> {
     ghost use Rattle.std.specs.Coded.{codes};
     ghost use Rattle.std.specs.Prelude.{vec_capacity};
     ghost use Rattle.sky_base.specs.Code.{pairs_code, val_code, vals_code};
+    ghost use Rattle.sky_base.specs.ScriptCode.{script_code};
     ghost use Rattle.sky_frozen.specs.FrozenCode.{stand_code};
     ghost use Rattle.ciel_master.specs.Seen.{MasterSeen, MasterStands, board_of};
 
     ghost Value = { MasterSeen N };
 
-    ghost coded = { Prim.hlevel (codes, val_code, vals_code, pairs_code, stand_code) };
+    ghost coded = { Prim.hlevel (codes, val_code, vals_code, pairs_code, stand_code, script_code) };
 
     ghost view = { λ m. record {
       namer = (arc_value m.shop).namer;
       shelves = (arc_value m.shop).shelves;
+      script = (arc_value m.shop).job.script;
       board =
           board_of m.plan (arc_value m.shop).job.script.keys m.main m.ready.table m.orders.items m.starts m.closes m.journal.items m.stopped;
     } };
 
     ghost invariant = { λ m. MasterStands (N.digest (arc_value m.shop).namer)
         (board_of m.plan (arc_value m.shop).job.script.keys m.main m.ready.table m.orders.items m.starts m.closes m.journal.items m.stopped)
-        m.lost.items (vec_capacity m.journal) (vec_capacity m.lost) (arc_value m.shop).shelves m.marker m.ready };
+        m.lost.items (vec_capacity m.journal) (vec_capacity m.lost) (arc_value m.shop).shelves (arc_value m.shop).job.script m.marker m.ready };
 }
 
 /// A table that knows the main call alone, with nothing out.
@@ -148,6 +152,7 @@ impl<K: Drop, N: Namer + Drop> Master<K, N> {
         ensures opened { IfOk result (λ m. m ≡ record {
           namer = (arc_value shop).namer;
           shelves = (arc_value shop).shelves;
+          script = (arc_value shop).job.script;
           board =
               opened (N.digest (arc_value shop).namer) (plan_view plan) (arc_value shop).job.script.keys main;
         }) }
@@ -220,9 +225,11 @@ impl<K: Drop, N: Namer + Drop> Master<K, N> {
         requires runnable { Runnable (board_graph self.old.board) task.now }
         requires idle { In worker (idle_of self.old.board) }
         ensures order { IfOk result (λ o. order_view o ≡ order_for worker_of self.old.board task.now worker) }
+        ensures good { IfOk result (OrderIsGood (N.digest self.old.namer) self.old.shelves self.old.script (length self.old.script.keys) self.old.board) }
         ensures started { OnOk result (self.new ≡ record self.old { board = started worker_of self.old.board task.now worker }) }
         ensures kept { OnErr result (self.new ≡ self.old) }
     {
+        orders_are_safe();
         let number = self.starts;
         let keys = self.shop.job.script().keys().as_slice();
         let order = order_at(
@@ -262,7 +269,9 @@ impl<K: Drop, N: Namer + Drop> Master<K, N> {
     pub fn accept(&mut self, report: Report) -> Result<Now, Stop>
         requires going { self.old.board.stopped ≡ false }
         requires fits { (x : b.Order P) × (find_order report.number self.old.board.orders ≡ Some x.out)
-            × FitsUnlessMissing (N.digest self.old.namer) self.old.board x report.spawned.items report.copied.items report.end }
+            × FitsUnlessMissing (N.digest self.old.namer) self.old.shelves self.old.script self.old.board x report.spawned.items report.copied.items report.end }
+        requires of { (x : b.Order P) × (find_order report.number self.old.board.orders ≡ Some x.out) × IsOf x.out report
+            × IsMissedOf (N.digest self.old.namer) self.old.board x report.end }
         requires seen { SeenOf self.old.shelves report.end }
         ensures accepted { OnOk result ((x : b.OrderOut) × (find_order report.number self.old.board.orders ≡ Some x)
             × (self.new ≡ record self.old {
@@ -393,7 +402,7 @@ impl<K: Drop, N: Namer + Drop> Master<K, N> {
     fn take(&mut self, report: Report) -> Result<Now, Stop>
         requires going { self.old.board.stopped ≡ false }
         requires fits { (x : b.Order P) × (find_order report.number self.old.board.orders ≡ Some x.out)
-            × FitsUnlessMissing (N.digest self.old.namer) self.old.board x report.spawned.items report.copied.items report.end }
+            × FitsUnlessMissing (N.digest self.old.namer) self.old.shelves self.old.script self.old.board x report.spawned.items report.copied.items report.end }
         ensures accepted { OnOk result ((x : b.OrderOut) × (find_order report.number self.old.board.orders ≡ Some x)
             × (self.new ≡ record self.old {
               board = accepted (N.digest self.old.namer) self.old.board x report.spawned.items (report_end report);

@@ -96,6 +96,9 @@ module _ (t : TableSeen P) where
   map_known [] f = tt
   map_known (d ∷ ds) f = (f d (inl refl), map_known ds (λ e i. f e (inr i)))
 
+pub grown_known : (digest : List ℕ → List ℕ) (ns : List Named) (t : TableSeen P) (ms : List (List ℕ)) → AllKnown t ms → AllKnown (learned_all digest ns t) ms
+grown_known digest ns t ms a = all_more (Known t) (Known (learned_all digest ns t)) (all_keeps digest ns t) ms a
+
 -- one that is learned has a row then
 last_place : (rs : List (Row P)) (r : Row P) → IsSome (place_of row_name r.name (rs ++ r ∷ []))
 last_place [] r = go (same_text r.name r.name) (self_text r.name)
@@ -251,7 +254,7 @@ module _ (digest : List ℕ → List ℕ) (shelves : ShelvesSeen) (sc : Script) 
   known_made = same_made digest items w.knows.made w.knows.grew
 
   -- what is known by its name has a row
-  knows_known : (earlier : List (Desc (List ℕ))) → ((m : Desc (List ℕ)) → In m earlier → In m views) → (d : Desc (List ℕ))
+  pub knows_known : (earlier : List (Desc (List ℕ))) → ((m : Desc (List ℕ)) → In m earlier → In m views) → (d : Desc (List ℕ))
       → Knows digest (CameFrom (brings digest shelves sc inputs order) x) earlier d → Known t (held_name d)
   knows_known earlier sub d (inl h) = more (held_name d) (base_known d h)
   knows_known earlier sub d (inr i) = go earlier sub i
@@ -359,7 +362,7 @@ module _ (digest : List ℕ → List ℕ) (shelves : ShelvesSeen) (sc : Script) 
   held_all : (d : Desc (List ℕ)) (s : Stand (List ℕ)) → In d (held_in same_text s) → In d (all_refs s)
   held_all d s i = distinct_in same_text exact_text self_text (all_refs s) d i
 
-  made_views : (m : Desc (List ℕ)) → In m w.knows.made → In m views
+  pub made_views : (m : Desc (List ℕ)) → In m w.knows.made → In m views
   made_views m i = subst (In m) (sym known_made) i
 
   -- what the state after it refers to has rows

@@ -1,7 +1,7 @@
 -- What a run came to, as a report tells it.
-use Rattle.std.proofs.Common.{◌≡◌, ℕ, List, [], sym, subst}
+use Rattle.std.proofs.Common.{◌≡◌, ℕ, List, [], sym, ap, subst, ◌∙◌}
 use Rattle.sky_base.specs.Tree.{Script}
-use Rattle.sky_base.specs.Val.{known, same_text}
+use Rattle.sky_base.specs.Val.{Desc, known, same_text}
 use Rattle.sky_base.specs.declared.object.TaskId.{TaskId}
 use Rattle.sky_law.specs.Tasks.{In}
 use Rattle.ciel_through.specs.Steps.{Spawned}
@@ -9,7 +9,7 @@ use Rattle.ciel_through.specs.Step.{Step}
 use Rattle.sky_state.specs.Pending.{pending_in}
 use Rattle.sky_state.specs.Stand.{Stand}
 use Rattle.ciel_through.specs.Found.{SameKind}
-use Rattle.ciel_through.specs.Through.{PassedAt}
+use Rattle.ciel_through.specs.Through.{PassedAt, asked_in}
 use Rattle.ciel_journal.proofs.Members.{distinct_none}
 use Rattle.ciel_board.specs.Sound.{own_name}
 use Rattle.ciel_store.specs.Seen.{SeatSeen, ShelvesSeen}
@@ -18,11 +18,13 @@ use Rattle.ciel_task.specs.Orders.{OfKind, names_in}
 use Rattle.ciel_task.specs.Views.{P}
 use Rattle.ciel_task.specs.declared.block.Held.{Held}
 use Rattle.ciel_task.specs.declared.order.Order.{Order}
+use Rattle.ciel_task.specs.declared.report.End.{End}
 use Rattle.ciel_task.specs.declared.report.Report.{Report}
 use Rattle.ciel_brought.specs.Copies.{Copies}
+use Rattle.ciel_brought.specs.Fetched.{TellsFetched, fetched}
 use Rattle.ciel_finds.specs.Finds.{IsLost}
 use Rattle.ciel_perform.specs.Begins.{BeginsAt, StackIsLost}
-use Rattle.ciel_perform.specs.Ends.{CameSo, StepOf, TellsMissing, told_copies}
+use Rattle.ciel_perform.specs.Ends.{CameSo, EndIs, StepOf, TellsMissing, told_copies}
 use Rattle.ciel_perform.specs.Runs.{CameThrough, CopiesAt, Ran, Went, brings, lost, spawned_in, stack}
 
 -- a call comes to an object, the root task to an answer
@@ -68,6 +70,23 @@ module _ (digest : List ℕ → List ℕ) (shelves : ShelvesSeen) (sc : Script) 
         none = tt;
       }
 
+  -- it is just what was fetched
+  fetched_told : (task : TaskId) (step : Step) (e : End) (ds : List (Desc (List ℕ))) (cs ks : List Held) → EndIs shelves order.worker task step new e
+      → ks ≡ told_copies step cs → names_in cs ≡ fetched order.worker order.inputs.items ds → TellsFetched order.worker order.inputs.items ds e ks
+  fetched_told task (Step.Ended o) (End.Made ms) ds cs ks is e f = ap names_in e ∙ f
+  fetched_told task Step.Waits (End.Saved p j refs holds mark) ds cs ks is e f = e
+  fetched_told TaskId.Show (Step.Shown a) (End.Shown b) ds cs ks is e f = ap names_in e ∙ f
+  fetched_told (TaskId.Of n) (Step.Shown a) (End.Shown b) ds cs ks is e f = ap names_in e ∙ f
+  fetched_told task (Step.Ended o) (End.Saved p j refs holds mark) ds cs ks is e f = absurd is
+  fetched_told task (Step.Ended o) (End.Shown b) ds cs ks is e f = absurd is
+  fetched_told task (Step.Ended o) (End.Missing n l s) ds cs ks is e f = absurd is
+  fetched_told task Step.Waits (End.Made ms) ds cs ks is e f = absurd is
+  fetched_told task Step.Waits (End.Shown b) ds cs ks is e f = absurd is
+  fetched_told task Step.Waits (End.Missing n l s) ds cs ks is e f = absurd is
+  fetched_told task (Step.Shown a) (End.Made ms) ds cs ks is e f = absurd is
+  fetched_told task (Step.Shown a) (End.Saved p j refs holds mark) ds cs ks is e f = absurd is
+  fetched_told task (Step.Shown a) (End.Missing n l s) ds cs ks is e f = absurd is
+
   pub went_of : (step : Step) (spawned : Spawned) (cs : List Held) → CameThrough digest shelves sc inputs order x new spawned step cs
       → CameSo shelves order step new spawned cs r → Went digest shelves sc inputs order x r
   went_of step spawned cs came so = go (subst (λ z. CameThrough digest shelves sc inputs order x new z step cs) (sym so.spawned) came)
@@ -94,6 +113,9 @@ module _ (digest : List ℕ → List ℕ) (shelves : ShelvesSeen) (sc : Script) 
             copies = z.copies;
             asked = z.asked;
             none = z.none;
+            tells = fetched_told order.task step r.end
+                (asked_in (brings digest shelves sc inputs order) digest sc x new step [] (spawned_in digest shelves sc inputs order r) c.through)
+                cs r.copied.items so.end so.copied c.fetches;
           }
 
 -- ---- something was lost

@@ -9,3 +9,4 @@ pub mod Going
 pub mod Binding
 pub mod Fitting
 pub mod Performing
+mod Safing

@@ -1,9 +1,9 @@
 -- What the run of an order came to, by what its finder says.
-use Rattle.std.proofs.Common.{◌≡◌, ◌<◌, ℕ, List, [], length, Result, Ok, Err, IfErr, IfOk, ◌⊎◌, inl, inr, sym, subst}
+use Rattle.std.proofs.Common.{◌≡◌, ◌<◌, ℕ, List, [], ◌∷◌, length, Result, Ok, Err, IfErr, IfOk, ◌⊎◌, inl, inr, refl, sym, ap, subst, ◌∙◌}
 use Rattle.std.specs.BTreeMap.{BTreeMap}
-use Rattle.sky_base.specs.Name.{held_name}
+use Rattle.sky_base.specs.Name.{held_name, held_name as name_of_desc}
 use Rattle.sky_base.specs.Tree.{Script}
-use Rattle.sky_base.specs.Val.{known, same_text}
+use Rattle.sky_base.specs.Val.{Desc, known, same_text}
 use Rattle.sky_law.specs.Tasks.{Each, In}
 use Rattle.sky_law.proofs.TaskOutputs.{in_each}
 use Rattle.ciel_through.specs.Exactly.{FitsAfter}
@@ -14,7 +14,8 @@ use Rattle.ciel_through.specs.Step.{Step}
 use Rattle.sky_state.specs.Pending.{pending_in}
 use Rattle.sky_state.specs.Stand.{Stand}
 use Rattle.ciel_through.specs.Found.{CameFrom, FindsSound, Further, GrewWhole, HasAll, SameKind}
-use Rattle.ciel_through.specs.Through.{GoesAsking, PassedAt}
+use Rattle.ciel_through.specs.Asked.{told_after}
+use Rattle.ciel_through.specs.Through.{GoesAsking, PassedAt, asked_in}
 use Rattle.ciel_journal.proofs.Members.{distinct_none}
 use Rattle.ciel_store.specs.Seen.{SeatSeen, ShelvesSeen}
 use Rattle.ciel_table.specs.Inside.{IsIndex}
@@ -23,8 +24,9 @@ use Rattle.ciel_task.specs.declared.block.Held.{Held}
 use Rattle.ciel_task.specs.declared.order.Order.{Order}
 use Rattle.ciel_brought.specs.Brought.{lies_known}
 use Rattle.ciel_brought.specs.Copies.{Copies}
+use Rattle.ciel_brought.specs.Fetched.{fetched, fetched_after}
 use Rattle.ciel_finds.specs.Finds.{CanBring, IsLost}
-use Rattle.ciel_finds.specs.Stays.{Stays}
+use Rattle.ciel_finds.specs.Stays.{Stays, Tells, tells_next}
 use Rattle.ciel_finds.specs.declared.brought.Lost.{Lost}
 use Rattle.ciel_finds.specs.declared.copied.Copied.{Copied}
 use Rattle.ciel_finds.proofs.Finding.{known_sound, named_there}
@@ -63,11 +65,23 @@ module _ (shelves : ShelvesSeen) (sc : Script) (inputs : List (List ℕ × List 
     };
   }
 
+-- what such a finder tells
+abbrev pub tells : ℕ → List Held → List Held → Tells
+tells w held cs = record { worker = w; held = held; names = names_in cs }
+
+-- after some are asked for it tells the names of what was fetched
+fetches : (t : Tells) (ds : List (Desc (List ℕ))) → (told_after tells_next t ds).names ≡ fetched_after t.worker t.held t.names ds
+fetches t [] = refl
+fetches t (d ∷ ds) = fetches (tells_next t (name_of_desc d)) ds
+
 module _ (digest : List ℕ → List ℕ) (x new : Stand (List ℕ)) (step : Step) (spawned : Spawned) where
   -- the run through what this finder has, for this script, on these shelves
   pub record Gone (sc : Script) (inputs : List (List ℕ × List ℕ)) (held : List Held) (shelves : ShelvesSeen) (w : ℕ) (before : Spawned)
       (was is : List Held) : Type 0 where
-    pub asks : GoesAsking (lies_known inputs held) digest sc (λ n. In n (names_in was)) (λ n. In n (names_in is)) x new step before spawned
+    pub last : Tells
+    pub named : last.names ≡ names_in is
+    pub asks : GoesAsking (lies_known inputs held) digest sc (λ n. In n (names_in was)) (λ n. In n (names_in is)) tells_next (tells w held was)
+        last x new step before spawned
     pub fits : FitsAfter sc new step
     pub kind : SameKind x step new
     pub further : Further x step new
@@ -89,6 +103,9 @@ module _ (digest : List ℕ → List ℕ) (x new : Stand (List ℕ)) (step : Ste
     knows = g.knows;
     copies = g.copies;
     asked = λ n i. late n (g.asks.asks n i);
+    fetches = sym g.named ∙ (ap (λ (t : Tells). t.names) g.asks.tells
+        ∙ fetches (tells order.worker order.inputs.items [])
+        (asked_in (brings digest shelves sc inputs order) digest sc x new step [] spawned g.asks.through));
   }
     where
       late : (n : List ℕ) → (In n (names_in []) ⊎ ((q : Stand (List ℕ))
@@ -115,7 +132,8 @@ module _ (digest : List ℕ → List ℕ) (shelves : ShelvesSeen) (sc : Script) 
       → (s t : Stays) → s ≡ t → t.shelves ≡ shelves → t.worker ≡ order.worker → t.inputs ≡ inputs → t.held ≡ held
       → Copies s.shelves s.worker s.inputs s.held is
       → IfErr r (λ l. IsLost s.held l.name l.loss eye)
-      → IfOk r (λ p. GoesAsking (lies_known inputs held) digest code (λ n. In n (names_in was)) (λ n. In n (names_in is)) x new p before spawned)
+      → IfOk r (λ p. GoesAsking (lies_known inputs held) digest code (λ n. In n (names_in was)) (λ n. In n (names_in is)) tells_next
+      (tells order.worker held was) (tells s.worker s.held is) x new p before spawned)
       → IfOk r (λ p. FitsAfter code new p) → IfOk r (λ p. SameKind x p new) → IfOk r (λ p. Further x p new)
       → IfOk r (λ p. GrewSoundly digest code before spawned) → IfOk r (λ p. GrewWhole digest before spawned)
       → IfOk r (λ p. KnowsNames digest (CameFrom (lies_known inputs held) x) p new before spawned)
@@ -128,7 +146,7 @@ module _ (digest : List ℕ → List ℕ) (shelves : ShelvesSeen) (sc : Script) 
       (subst (λ z. Copies z t.worker t.inputs t.held is) sh
       (subst (λ (z : Stays). Copies z.shelves z.worker z.inputs z.held is) e copies)))) in
       let gone : Gone digest x new p spawned code inputs held shelves order.worker before was is =
-      record { asks = asks; fits = fits; kind = kind; further = further; sound = sound; whole = whole; knows = knows; copies = copied } in
+      record { last = tells s.worker s.held is; named = refl; asks = asks; fits = fits; kind = kind; further = further; sound = sound; whole = whole; knows = knows; copies = copied } in
       came_through digest x new p spawned sc inputs shelves order is
       (subst (λ z. Gone digest x new p spawned z inputs order.inputs.items shelves order.worker [] [] is) c
       (subst (λ z. Gone digest x new p spawned code inputs z shelves order.worker [] [] is) h

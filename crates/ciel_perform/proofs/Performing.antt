@@ -131,7 +131,7 @@ end_kind shelves w (TaskId.Of n) (Stand.show_at u i) new (Step.Shown a) (rust_en
 end_kind shelves w task x new (Step.Shown a) (rust_end.End.Missing nm loss seen) k sk e = absurd e
 
 -- the state at a wait is of the task's kind
-kept_kind : (task : TaskId) (x new : Stand (List ℕ)) → OfKind task x → SameKind x Step.Waits new → OfKind task new
+pub kept_kind : (task : TaskId) (x new : Stand (List ℕ)) → OfKind task x → SameKind x Step.Waits new → OfKind task new
 kept_kind TaskId.Show (Stand.run q) new k s = absurd k
 kept_kind TaskId.Show (Stand.show_at u i) (Stand.run q) k s = absurd s
 kept_kind TaskId.Show (Stand.show_at u i) (Stand.show_at y j) k s = tt

@@ -1,6 +1,7 @@
 -- What a report tells of the end of a run.
 use Rattle.std.specs.Prelude.{◌≡◌, ℕ, List, [], ◌∷◌, Some}
 use Rattle.sha1.specs.Sha1.{sha1}
+use Rattle.sky_base.specs.Names.{known_of}
 use Rattle.sky_base.specs.ObjectView.{object_view}
 use Rattle.sky_base.specs.Val.{same_text}
 use Rattle.sky_base.specs.declared.object.Named.{Named}
@@ -62,6 +63,8 @@ module _ (shelves : ShelvesSeen) (w : ℕ) where
     pub refs : waited ≡ names_of (pending_in same_text s)
     pub holds : kept ≡ names_of (held_in same_text s)
     pub mark : m ≡ sha1 (frozen_bytes s)
+    pub waits : known_of waited ≡ pending_in same_text s
+    pub keeps : known_of kept ≡ held_in same_text s
 
   abbrev pub SavedSo : Stand (List ℕ) → End → Type 0
   SavedSo s (End.Saved p j refs holds mark) = IsSaved s p j refs holds mark

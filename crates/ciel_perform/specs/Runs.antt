@@ -16,7 +16,7 @@ use Rattle.sky_state.specs.Pending.{pending_in}
 use Rattle.sky_state.specs.Stand.{Stand}
 use Rattle.sky_state.specs.StandView.{spawned_view}
 use Rattle.ciel_through.specs.Found.{CameFrom, Further, GrewWhole, SameKind}
-use Rattle.ciel_through.specs.Through.{PassedAt, Through}
+use Rattle.ciel_through.specs.Through.{PassedAt, Through, asked_in}
 use Rattle.ciel_board.specs.Sound.{own_name}
 use Rattle.ciel_store.specs.Seen.{SeatSeen, ShelvesSeen}
 use Rattle.ciel_store.specs.declared.loss.Loss.{Loss}
@@ -27,6 +27,7 @@ use Rattle.ciel_task.specs.declared.order.Order.{Order}
 use Rattle.ciel_task.specs.declared.report.Report.{Report}
 use Rattle.ciel_brought.specs.Brought.{lies_known}
 use Rattle.ciel_brought.specs.Copies.{Copies}
+use Rattle.ciel_brought.specs.Fetched.{TellsFetched, fetched}
 use Rattle.ciel_finds.specs.Finds.{IsLost}
 use Rattle.ciel_finds.specs.declared.brought.Lost.{Lost}
 use Rattle.ciel_perform.specs.Begins.{BeginsAt, StackIsLost}
@@ -57,6 +58,7 @@ module _ (digest : List ℕ → List ℕ) (shelves : ShelvesSeen) (sc : Script) 
     pub copies : Copies shelves order.worker inputs order.inputs.items copied
     pub asked : (n : List ℕ) → In n (names_in copied) → (q : Stand (List ℕ)) × PassedAt brings digest sc s new step [] spawned through q
         × In (known n) (pending_in same_text q)
+    pub fetches : names_in copied ≡ fetched order.worker order.inputs.items (asked_in brings digest sc s new step [] spawned through)
 
   -- or an object was lost
   abbrev pub WentThrough : (s new : Stand (List ℕ)) → Spawned → SeatSeen → Result Step Lost → (copied : List Held) → Type 0
@@ -82,6 +84,8 @@ module _ (digest : List ℕ → List ℕ) (shelves : ShelvesSeen) (sc : Script) 
     pub asked : (n : List ℕ) → In n (names_in r.copied.items) → (q : Stand (List ℕ))
         × PassedAt brings digest sc s new step [] (spawned_in r) through q × In (known n) (pending_in same_text q)
     pub none : CopiesAt step r.copied.items
+    -- just what was fetched from other workers' shelves of what was asked for on the way is told, each once, in order; none at a wait
+    pub tells : TellsFetched order.worker order.inputs.items (asked_in brings digest sc s new step [] (spawned_in r) through) r.end r.copied.items
 
   -- it went so from the state from which the order's task goes on, or something was lost: what the order has of a name, or the stack
   pub data Ran (eye : SeatSeen) (r : Report) : Type 0 where

@@ -10,6 +10,7 @@ ghost use Rattle.ciel_task.specs.Performs.{Performs};
 ghost use Rattle.ciel_task.specs.Places.{PlacesSound};
 ghost use Rattle.ciel_task.specs.Shop.{InputsInOrder};
 ghost use Rattle.ciel_inputs.specs.Lies.{held_name};
+ghost use Rattle.ciel_safe.specs.Performs.{PerformsSafely};
 ghost use Rattle.ciel_perform.specs.Begins.{BeginsAt, HasState};
 ghost use Rattle.ciel_perform.specs.Ends.{CameSo, StepOf, told_copies};
 ghost use Rattle.ciel_perform.specs.Runs.{Ran, WentThrough};
@@ -57,6 +58,9 @@ pub fn run_task<K: Kit, N: Namer, R: Wait>(
     ensures of { eye.new.of ≡ eye.old.of }
     ensures performs { IfOk result (Performs (N.digest shop.now.namer) (job_view shop.now.job) (K.gives shop.now.kit) order.now) }
     ensures places { IfOk result (PlacesSound shop.now.shelves order.now.worker (job_view shop.now.job).script) }
+    ensures safely { IfOk result (PerformsSafely (N.digest shop.now.namer) shop.now.shelves (job_view shop.now.job).script order.now) }
+    ensures ran { IfOk result (Ran (N.digest shop.now.namer) shop.now.shelves (job_view shop.now.job).script (job_view shop.now.job).inputs
+        order.now eye.new) }
 {
     let report = run(rt, alloc, shop, order, eye)?;
     Ok(report)

@@ -1,4 +1,5 @@
 pub use Rattle.sky_through.specs.Comes
+pub use Rattle.sky_through.specs.Asked
 pub use Rattle.sky_through.specs.Through
 pub use Rattle.sky_through.specs.Found
 pub use Rattle.sky_through.specs.Step

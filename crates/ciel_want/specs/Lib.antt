@@ -3,3 +3,4 @@ pub mod Waited
 pub mod Marked
 pub mod Board
 pub mod History
+pub mod Followers

@@ -1,1 +1,2 @@
 pub use Rattle.ciel_perform.specs.Onward
+pub mod Told

@@ -4,10 +4,12 @@ ghost use Rattle.std.specs.Prelude.{◌≡◌, IfOk, length};
 ghost use Rattle.sky_base.specs.JobView.{job_view};
 ghost use Rattle.ciel_perform.specs.Onward.{IsRead};
 ghost use Rattle.ciel_gate.specs.Entered.{IsEntered};
+ghost use Rattle.ciel_safe.specs.Performs.{PerformsSafely};
 ghost use Rattle.ciel_task.specs.Orders.{OrderSound};
 ghost use Rattle.ciel_task.specs.Performs.{Performs};
 ghost use Rattle.ciel_task.specs.Places.{PlacesSound};
 ghost use Rattle.ciel_task.specs.Shop.{InputsInOrder};
+ghost use Rattle.ciel_worker.specs.Told.{Tells};
 
 use ciel_exec::order::run_order;
 use ciel_gate::gate::Gate;
@@ -46,6 +48,9 @@ pub fn perform<K: Kit, N: Namer, G: Gate, R: Wait>(
     ensures of { eye.new.of ≡ eye.old.of }
     ensures performs { IfOk result (Performs (N.digest shop.now.namer) (job_view shop.now.job) (K.gives shop.now.kit) order.now) }
     ensures places { IfOk result (PlacesSound shop.now.shelves order.now.worker (job_view shop.now.job).script) }
+    ensures safely { IfOk result (PerformsSafely (N.digest shop.now.namer) shop.now.shelves (job_view shop.now.job).script order.now) }
+    ensures tells { IfOk result (Tells (N.digest shop.now.namer) shop.now.shelves (job_view shop.now.job).script (job_view shop.now.job).inputs
+        order.now eye.new) }
 {
     gate.enter(&order.task);
     let report = run(rt, alloc, order, shop, eye);
@@ -69,6 +74,9 @@ fn run<K: Kit, N: Namer, R: Wait>(
     ensures of { eye.new.of ≡ eye.old.of }
     ensures performs { IfOk result (Performs (N.digest shop.now.namer) (job_view shop.now.job) (K.gives shop.now.kit) order.now) }
     ensures places { IfOk result (PlacesSound shop.now.shelves order.now.worker (job_view shop.now.job).script) }
+    ensures safely { IfOk result (PerformsSafely (N.digest shop.now.namer) shop.now.shelves (job_view shop.now.job).script order.now) }
+    ensures tells { IfOk result (Tells (N.digest shop.now.namer) shop.now.shelves (job_view shop.now.job).script (job_view shop.now.job).inputs
+        order.now eye.new) }
 {
     match &order.desc {
         Some(

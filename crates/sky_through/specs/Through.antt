@@ -1,5 +1,5 @@
 -- How a task goes on over the waits whose objects are found by their names.
-use Rattle.std.specs.Prelude.{◌≡◌, ℕ, List, map, Option, Some, None, ◌⊎◌}
+use Rattle.std.specs.Prelude.{◌≡◌, ◌++◌, ℕ, List, map, Option, Some, None, ◌⊎◌}
 use Rattle.sky_base.specs.Val.{Desc, known, same_text}
 use Rattle.sky_base.specs.Tree.{Script}
 use Rattle.sky_base.specs.Res.{Object}
@@ -8,6 +8,7 @@ use Rattle.sky_state.specs.Pending.{pending_in}
 use Rattle.sky_state.specs.Stand.{Stand}
 use Rattle.sky_onward.specs.Steps.{Spawned, Resumed}
 use Rattle.sky_onward.specs.declared.step.Step.{Step}
+use Rattle.sky_through.specs.Asked.{told_after}
 
 module _ (finds : Desc (List ℕ) → Option (Object (List ℕ))) where
   -- these objects are found for what the state waits for, in order
@@ -38,9 +39,17 @@ module _ (finds : Desc (List ℕ) → Option (Object (List ℕ))) where
   PassedAt digest sc old new s before after (last os found r stop) q = q ≡ old
   PassedAt digest sc old new s before after (more os found r rest) q = (q ≡ old) ⊎ PassedAt digest sc _ new s _ after rest q
 
-  -- it goes through so, and for nothing more is asked than what is waited for at the states from which it goes on
-  pub record GoesAsking (digest : List ℕ → List ℕ) (sc : Script) (asked after_asked : List ℕ → Type 0) (old new : Stand (List ℕ)) (s : Step)
-      (before after : Spawned) : Type 0 where
+  -- what is waited for at the states from which it goes on, in order
+  abbrev pub asked_in : (digest : List ℕ → List ℕ) (sc : Script) (old new : Stand (List ℕ)) (s : Step) (before after : Spawned)
+      → Through digest sc old new s before after → List (Desc (List ℕ))
+  asked_in digest sc old new s before after (last os found r stop) = pending_in same_text old
+  asked_in digest sc old new s before after (more os found r rest) = pending_in same_text old ++ asked_in digest sc _ new s _ after rest
+
+  -- it goes through so, and for nothing more is asked than what is waited for at the states from which it goes on;
+  -- what is told is what comes of the names of all that, in order
+  pub record GoesAsking {T : Type 0} (digest : List ℕ → List ℕ) (sc : Script) (asked after_asked : List ℕ → Type 0) (notes : T → List ℕ → T)
+      (told after_told : T) (old new : Stand (List ℕ)) (s : Step) (before after : Spawned) : Type 0 where
     pub through : Through digest sc old new s before after
     pub asks : (n : List ℕ) → after_asked n → asked n
         ⊎ ((q : Stand (List ℕ)) × PassedAt digest sc old new s before after through q × In (known n) (pending_in same_text q))
+    pub tells : after_told ≡ told_after notes told (asked_in digest sc old new s before after through)

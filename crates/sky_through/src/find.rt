@@ -30,6 +30,13 @@ pub trait Finds {
     /// The names that it was asked for, as far as it tells them.
     ghost asked: { Self → List ℕ → Type 0 };
 
+    /// What it tells of the names that it was asked for, and what one name more makes of that.
+    ghost Told: { Type 0 };
+
+    ghost told: { Self → Told };
+
+    ghost notes: { Told → List ℕ → Told };
+
     /// What a refusal tells.
     ghost refuses: { Self → Self.Refusal → Type 0 };
 
@@ -47,6 +54,7 @@ pub trait Finds {
         ensures object { IfOk result (λ r. IfOk r (λ o. finds self.old (known name.now) ≡ Some (object_view o))) }
         ensures refusal { IfOk result (λ r. IfErr r (refuses self.new)) }
         ensures asked { IfOk result (λ _. AsksFor (asked self.old) (asked self.new) (known name.now ∷ [])) }
+        ensures noted { IfOk result (λ r. IfOk r (λ _. told self.new ≡ notes (told self.old) name.now)) }
         ensures ready { IfOk result (λ _. ready self.new) }
         ensures stays { stays self.new ≡ stays self.old }
         ensures same { finds self.new ≡ finds self.old };

@@ -36,6 +36,12 @@ impl Finds for Shelf {
 
     ghost asked = { λ s n. ⊥ };
 
+    ghost Told = { Unit {0} };
+
+    ghost told = { λ s. tt };
+
+    ghost notes = { λ t n. t };
+
     ghost refuses = { λ s r. s.refuses ≡ true };
 
     fn has(&self, name: &Name) -> bool {

@@ -1,18 +1,25 @@
-use Rattle.std.proofs.Common.{subst}
+use Rattle.std.proofs.Common.{ap, subst}
+use Rattle.ciel_board.specs.Board.{board_graph, idle_of}
+use Rattle.ciel_board.proofs.Searching.{picked_has}
+use Rattle.ciel_journal.specs.Graph.{Runnable}
+use Rattle.ciel_want.specs.Waited.{tasks_in_order}
 use Rattle.sky_base.specs.JobView.{job_view}
 use Rattle.ciel_board.proofs.Driving.{got_in}
 use Rattle.ciel_journal.specs.Job.{In}
 use Rattle.ciel_drive.proofs.Slots.{got_index}
-use Rattle.ciel_drive.proofs.Turns.{draws_after, picked, send_free, send_takes, send_worker, start_ends, start_kept, start_less, start_told}
+use Rattle.ciel_drive.proofs.Names as names
+use Rattle.ciel_drive.proofs.Turns.{draws_after, picked, start_ends, start_kept}
+use Rattle.ciel_master.specs.Seen.{MasterSeen}
+use Rattle.ciel_drive.proofs.Moving.{does_start}
 use Rattle.ciel_drive.proofs.turn.start_one.Goals as goal
 
 pub start_at-requires : goal.start_at-requires
 start_at-requires g c =
-    let k = c.requires.kept in
+    let k = c.requires.working in
     let one = c.pick-place.ensures in
     let two = c.pick-worker.ensures in
     record {
-      going = k.keeps.at_work.going;
+      going = k.work.going;
       within = (c.args.count, c.requires.count, one.below);
       idle = subst (In _) c.requires.idle (got_in c.args.idle.now c.pick-worker.result _
           (got_index c.args.idle.now c.pick-worker.result 0 two.below));
@@ -20,33 +27,51 @@ start_at-requires g c =
 
 pub send-requires-clause-worker : goal.send-requires-clause-worker
 send-requires-clause-worker g c =
-    let k = c.requires.kept in
-    let one = c.pick-place.ensures in
+    let b = c.args.master.now.board in
+    let at = c.in-Ok.ensures.task in
+    let run = picked_has (Runnable (board_graph b)) (tasks_in_order b.table) at.0 at.1 c.in-Ok.order.task
+    (got_in at.0 c.pick-place.result c.in-Ok.order.task at.2) in
     let two = c.pick-worker.ensures in
-    let p = picked k one.state two.state c.requires.count c.requires.quiet c.in-Ok.ensures.task c.requires.idle one.pick two.pick two.below in
-    send_worker k p c.in-Ok.order c.in-Ok.ensures.order
+    let idle = subst (In _) c.requires.idle (got_in c.args.idle.now c.pick-worker.result _ (got_index c.args.idle.now c.pick-worker.result 0 two.below)) in
+    let law = c.turns_come_to_an_end.ensures.start in
+    names.send_worker c.requires.working run idle c.in-Ok.order c.in-Ok.ensures.order law
 
 pub send-requires-clause-free : goal.send-requires-clause-free
 send-requires-clause-free g c =
-    let k = c.requires.kept in
-    let one = c.pick-place.ensures in
+    let b = c.args.master.now.board in
+    let at = c.in-Ok.ensures.task in
+    let run = picked_has (Runnable (board_graph b)) (tasks_in_order b.table) at.0 at.1 c.in-Ok.order.task
+    (got_in at.0 c.pick-place.result c.in-Ok.order.task at.2) in
     let two = c.pick-worker.ensures in
-    let p = picked k one.state two.state c.requires.count c.requires.quiet c.in-Ok.ensures.task c.requires.idle one.pick two.pick two.below in
-    send_free k p c.in-Ok.order c.in-Ok.ensures.order
+    let idle = subst (In _) c.requires.idle (got_in c.args.idle.now c.pick-worker.result _ (got_index c.args.idle.now c.pick-worker.result 0 two.below)) in
+    let law = c.turns_come_to_an_end.ensures.start in
+    names.send_free c.requires.working run idle c.in-Ok.order c.in-Ok.ensures.order law
 
 pub send-requires-clause-takes : goal.send-requires-clause-takes
 send-requires-clause-takes g c =
-    let k = c.requires.kept in
-    let one = c.pick-place.ensures in
+    let b = c.args.master.now.board in
+    let at = c.in-Ok.ensures.task in
+    let run = picked_has (Runnable (board_graph b)) (tasks_in_order b.table) at.0 at.1 c.in-Ok.order.task
+    (got_in at.0 c.pick-place.result c.in-Ok.order.task at.2) in
     let two = c.pick-worker.ensures in
-    let p = picked k one.state two.state c.requires.count c.requires.quiet c.in-Ok.ensures.task c.requires.idle one.pick two.pick two.below in
-    let shop = g.C.Crew.shop c.args.crew.now in
-    send_takes k p c.in-Ok.order c.in-Ok.ensures.order
-    (c.orders_are_sound.ensures.sound (g.N.Namer.digest shop.namer) (job_view shop.job) (g.K.Kit.gives shop.kit))
+    let idle = subst (In _) c.requires.idle (got_in c.args.idle.now c.pick-worker.result _ (got_index c.args.idle.now c.pick-worker.result 0 two.below)) in
+    let law = c.turns_come_to_an_end.ensures.start in
+    names.send_takes c.requires.working run idle c.in-Ok.order c.in-Ok.ensures.order law c.orders_are_safe.ensures.orders
 
-pub returns-in-Ok-send-clause-kept : goal.returns-in-Ok-send-clause-kept
-returns-in-Ok-send-clause-kept g c =
-    let k = c.requires.kept in
+pub returns-in-Ok-send-clause-working : goal.returns-in-Ok-send-clause-working
+returns-in-Ok-send-clause-working g c =
+    let b = c.args.master.now.board in
+    let at = c.in-Ok.ensures.task in
+    let run = picked_has (Runnable (board_graph b)) (tasks_in_order b.table) at.0 at.1 c.in-Ok.order.task
+    (got_in at.0 c.pick-place.result c.in-Ok.order.task at.2) in
+    let two = c.pick-worker.ensures in
+    let idle = subst (In _) c.requires.idle (got_in c.args.idle.now c.pick-worker.result _ (got_index c.args.idle.now c.pick-worker.result 0 two.below)) in
+    let law = c.turns_come_to_an_end.ensures.start in
+    names.start_kept c.requires.working run idle c.in-Ok.order c.in-Ok.ensures.order law c.in-Ok.ensures.started c.in-Ok-send.ensures.out
+    c.orders_are_safe.ensures.orders c.send.ensures.shop c.in-Ok-send.ensures.sound
+
+pub returns-in-Ok-send-clause-model : goal.returns-in-Ok-send-clause-model
+returns-in-Ok-send-clause-model g c k =
     let one = c.pick-place.ensures in
     let two = c.pick-worker.ensures in
     let p = picked k one.state two.state c.requires.count c.requires.quiet c.in-Ok.ensures.task c.requires.idle one.pick two.pick two.below in
@@ -57,25 +82,36 @@ returns-in-Ok-send-clause-kept g c =
 
 pub returns-in-Ok-send-clause-less : goal.returns-in-Ok-send-clause-less
 returns-in-Ok-send-clause-less g c =
-    let k = c.requires.kept in
-    let one = c.pick-place.ensures in
+    let b = c.args.master.now.board in
+    let at = c.in-Ok.ensures.task in
+    let run = picked_has (Runnable (board_graph b)) (tasks_in_order b.table) at.0 at.1 c.in-Ok.order.task
+    (got_in at.0 c.pick-place.result c.in-Ok.order.task at.2) in
     let two = c.pick-worker.ensures in
-    let p = picked k one.state two.state c.requires.count c.requires.quiet c.in-Ok.ensures.task c.requires.idle one.pick two.pick two.below in
-    start_less k p c.in-Ok.order c.in-Ok.ensures.order c.in-Ok.ensures.started c.in-Ok-send.ensures.out
+    let idle = subst (In _) c.requires.idle (got_in c.args.idle.now c.pick-worker.result _ (got_index c.args.idle.now c.pick-worker.result 0 two.below)) in
+    let law = c.turns_come_to_an_end.ensures.start in
+    names.start_less c.requires.working run idle c.in-Ok.order c.in-Ok.ensures.order law c.in-Ok.ensures.started c.in-Ok-send.ensures.out
 
 pub returns-in-Ok-send-clause-told : goal.returns-in-Ok-send-clause-told
 returns-in-Ok-send-clause-told g c =
-    let k = c.requires.kept in
-    let one = c.pick-place.ensures in
+    let b = c.args.master.now.board in
+    let at = c.in-Ok.ensures.task in
+    let run = picked_has (Runnable (board_graph b)) (tasks_in_order b.table) at.0 at.1 c.in-Ok.order.task
+    (got_in at.0 c.pick-place.result c.in-Ok.order.task at.2) in
     let two = c.pick-worker.ensures in
-    let p = picked k one.state two.state c.requires.count c.requires.quiet c.in-Ok.ensures.task c.requires.idle one.pick two.pick two.below in
-    start_told k p c.in-Ok.order c.in-Ok.ensures.order c.in-Ok.ensures.started (g.C.Crew.told c.args.crew.now) (g.C.Crew.told c.send.new.self)
-    c.in-Ok-send.ensures.told
+    let idle = subst (In _) c.requires.idle (got_in c.args.idle.now c.pick-worker.result _ (got_index c.args.idle.now c.pick-worker.result 0 two.below)) in
+    let law = c.turns_come_to_an_end.ensures.start in
+    names.start_told c.requires.working run idle c.in-Ok.order c.in-Ok.ensures.order law c.in-Ok.ensures.started (g.C.Crew.told c.args.crew.now)
+    (g.C.Crew.told c.send.new.self) c.in-Ok-send.ensures.told
 
 pub returns-in-Err-send-clause-end : goal.returns-in-Err-send-clause-end
-returns-in-Err-send-clause-end g c =
-    let k = c.requires.kept in
+returns-in-Err-send-clause-end g c k =
     let one = c.pick-place.ensures in
     let two = c.pick-worker.ensures in
     let p = picked k one.state two.state c.requires.count c.requires.quiet c.in-Ok.ensures.task c.requires.idle one.pick two.pick two.below in
     start_ends k p c.in-Ok.order c.in-Ok.ensures.order c.in-Ok.ensures.started
+
+pub returns-in-Ok-send-clause-does : goal.returns-in-Ok-send-clause-does
+returns-in-Ok-send-clause-does g c =
+    does_start (g.N.Namer.digest (g.C.Crew.shop c.args.crew.now).namer) g.C.Crew.goes (g.C.Crew.record_of c.args.crew.now)
+    (g.C.Crew.record_of c.send.new.self) c.args.master.now.board c.in-Ok.order.task _ c.in-Ok.order c.start_at.new.master.board
+    c.in-Ok.ensures.order (ap (λ (m : MasterSeen _). m.board) c.in-Ok.ensures.started) c.in-Ok-send.ensures.goes

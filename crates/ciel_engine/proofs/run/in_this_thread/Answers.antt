@@ -2,7 +2,7 @@
 use Rattle.std.proofs.Common.{map, ap}
 use Rattle.std.specs.Arc.{arc_value}
 use Rattle.ciel_master.specs.Views.{entry_view}
-use Rattle.ciel_engine.proofs.Began.{kept_of}
+use Rattle.ciel_engine.proofs.Began.{kept_of, working_of}
 use Rattle.ciel_engine.proofs.Lent.{many_after, told_first}
 use Rattle.ciel_engine.proofs.run.in_this_thread.Goals as goal
 
@@ -11,6 +11,12 @@ run_over-requires-clause-kept g c =
     kept_of g.K.Kit.gives g.N.Namer.digest (arc_value c.args.opened.shop) c.args.plan.value c.args.opened.master
     c.args.opened.eyes.items c.requires.opened c.requires.read c.requires.inputs c.places_stay.ensures
     c.functions_are_orderly.ensures.orderly _ c.args.seed _ c.in-Ok.crew c.in-Ok.ensures.opened c.requires.gates c.requires.seed
+
+pub run_over-requires-clause-working : goal.run_over-requires-clause-working
+run_over-requires-clause-working g c =
+    working_of g.K.Kit.gives g.N.Namer.digest (arc_value c.args.opened.shop) c.args.plan.value c.args.opened.master
+    c.args.opened.eyes.items c.requires.opened c.requires.read c.requires.inputs c.places_stay.ensures
+    c.functions_are_orderly.ensures.orderly _ _ c.in-Ok.crew c.in-Ok.ensures.opened c.requires.gates
 
 pub run_over-requires-clause-first : goal.run_over-requires-clause-first
 run_over-requires-clause-first g c = ap (λ m. m.board.journal) c.requires.opened.master

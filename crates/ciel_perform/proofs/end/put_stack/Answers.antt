@@ -13,5 +13,7 @@ returns g c = record {
   wait = c.wait.ensures;
   refs = sym (names_known c.in_ok-refs.refs) ∙ ap names_of c.in_ok-refs.ensures;
   holds = sym (names_known c.in_ok-holds.holds) ∙ ap names_of c.in_ok-holds.ensures;
+  waits = c.in_ok-refs.ensures;
+  keeps = c.in_ok-holds.ensures;
   mark = c.mark-mark.ensures.mark ∙ ap sha1 (c.bytes.ensures ∙ ap frozen_bytes c.in_ok-stack.ensures);
 }

@@ -3,6 +3,7 @@ use Rattle.sky_base.specs.Names.{known_of}
 use Rattle.sky_base.specs.ObjectView.{object_view}
 use Rattle.sky_base.specs.Val.{known}
 use Rattle.sky_law.specs.Tasks.{In}
+use Rattle.sky_through.specs.Asked.{told_after}
 use Rattle.sky_through.specs.Found.{AllFound}
 use Rattle.sky_through.proofs.Asking.{asks_more}
 use Rattle.sky_through.proofs.Turns.{found_more}
@@ -27,6 +28,11 @@ names-preserved g c =
       asked = asks_more (g.F.Finds.asked c.args.finder.now) (g.F.Finds.asked c.names.finder) (g.F.Finds.asked c.find.new.self)
           (known_of c.args.names.now) n (c.names.invariant.within (known n) (subst (λ ns. In (known n) (known_of ns)) (sym rest) (inl refl)))
           c.names.invariant.asked c.in_ok-object.ensures.asked;
+      noted = subst (λ t. told_after g.F.Finds.notes t (known_of c.in-Some.more.now)
+          ≡ told_after g.F.Finds.notes (g.F.Finds.told c.args.finder.now) (known_of c.args.names.now))
+          (sym (rw c.in-Ok.is at c.in_ok-object.ensures.noted))
+          (subst (λ ns. told_after g.F.Finds.notes (g.F.Finds.told c.names.finder) (known_of ns)
+          ≡ told_after g.F.Finds.notes (g.F.Finds.told c.args.finder.now) (known_of c.args.names.now)) rest c.names.invariant.noted);
       objects = subst (λ os. map finds (known_of c.args.names.now) ≡ map Some (map object_view os) ++ map finds (known_of c.in-Some.more.now))
           (sym c.in-Ok-push.ensures.items) (found_more finds (known n) (known_of c.in-Some.more.now) (map finds (known_of c.args.names.now))
           c.names.objects.items c.in-Ok.object object before);

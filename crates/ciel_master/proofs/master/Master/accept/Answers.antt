@@ -1,7 +1,13 @@
-use Rattle.std.proofs.Common.{vec_capacity}
+use Rattle.std.proofs.Common.{◌≡◌, Some, sym, subst, vec_capacity}
 use Rattle.std.specs.Arc.{arc_value}
 use Rattle.ciel_master.specs.Seen.{board_of}
 use Rattle.ciel_master.proofs.Kept.{carried_now}
+use Rattle.ciel_board.specs.Board.{Order, find_order}
+use Rattle.ciel_master.specs.Marked.{FitsUnlessMissing, unseen}
+use Rattle.ciel_master.specs.Seen.{MasterSeen}
+use Rattle.ciel_master.proofs.Kept.{unseen_fits}
+use Rattle.ciel_task.specs.Views.{P}
+use Rattle.ciel_task.specs.declared.report.Report.{Report}
 use Rattle.ciel_master.proofs.master.Master.accept.Goals as goal
 
 pub returns-in_err-now-clause-carried : goal.returns-in_err-now-clause-carried
@@ -9,7 +15,7 @@ returns-in_err-now-clause-carried g c =
     let i = c.self.inside in
     let n = (arc_value i.shop).namer in
     let b = board_of i.plan (arc_value i.shop).job.script.keys i.main i.ready.table i.orders.items i.starts i.closes i.journal.items i.stopped in
-    carried_now g.N.Namer.digest c.args.self.now n (arc_value i.shop).shelves b c.self.view_is i.lost.items (vec_capacity i.journal)
+    carried_now g.N.Namer.digest c.args.self.now n (arc_value i.shop).shelves (arc_value i.shop).job.script b c.self.view_is i.lost.items (vec_capacity i.journal)
     (vec_capacity i.lost) i.marker i.ready c.self.invariant c.requires.going c.confirm-report.new.marker c.confirm-report.ensures.same
     c.args.report.end c.confirm-report.ensures.marked
 
@@ -18,6 +24,21 @@ returns-clause-carried g c =
     let i = c.self.inside in
     let n = (arc_value i.shop).namer in
     let b = board_of i.plan (arc_value i.shop).job.script.keys i.main i.ready.table i.orders.items i.starts i.closes i.journal.items i.stopped in
-    carried_now g.N.Namer.digest c.args.self.now n (arc_value i.shop).shelves b c.self.view_is i.lost.items (vec_capacity i.journal)
+    carried_now g.N.Namer.digest c.args.self.now n (arc_value i.shop).shelves (arc_value i.shop).job.script b c.self.view_is i.lost.items (vec_capacity i.journal)
     (vec_capacity i.lost) i.marker i.ready c.self.invariant c.requires.going c.confirm-report.new.marker c.confirm-report.ensures.same
     c.args.report.end c.confirm-report.ensures.marked
+
+pub take-requires-clause-fits : goal.take-requires-clause-fits
+take-requires-clause-fits g c =
+    let i = c.self.inside in
+    let n = (arc_value i.shop).namer in
+    let sh = (arc_value i.shop).shelves in
+    let sc = (arc_value i.shop).job.script in
+    let b = board_of i.plan (arc_value i.shop).job.script.keys i.main i.ready.table i.orders.items i.starts i.closes i.journal.items i.stopped in
+    let r = c.args.report in
+    let fits = subst (λ (z : MasterSeen _). (x : Order P) × (find_order r.number z.board.orders ≡ Some x.out)
+    × FitsUnlessMissing (g.N.Namer.digest z.namer) z.shelves z.script z.board x r.spawned.items r.copied.items r.end) (sym c.self.view_is)
+    c.requires.fits in
+    subst (λ (z : Report). (x : Order P) × (find_order z.number b.orders ≡ Some x.out)
+    × FitsUnlessMissing (g.N.Namer.digest n) sh sc b x z.spawned.items z.copied.items z.end) (sym c.confirm-report.ensures.rest)
+    (fits.0, fits.1, unseen_fits (g.N.Namer.digest n) sh sc b fits.0 r.spawned.items r.copied.items r.end fits.2)

@@ -10,7 +10,7 @@ circle-requires g c =
     let n = (arc_value i.shop).namer in
     let b = board_of i.plan (arc_value i.shop).job.script.keys i.main i.ready.table i.orders.items i.starts i.closes i.journal.items i.stopped in
     record {
-      whole = table_whole g.N.Namer.digest c.args.self.now n (arc_value i.shop).shelves b c.self.view_is i.lost.items
+      whole = table_whole g.N.Namer.digest c.args.self.now n (arc_value i.shop).shelves (arc_value i.shop).job.script b c.self.view_is i.lost.items
           (vec_capacity i.journal) (vec_capacity i.lost) i.marker i.ready c.self.invariant c.requires.going c.table.result.now
           c.table.ensures.table;
     }

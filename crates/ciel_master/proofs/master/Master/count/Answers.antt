@@ -12,7 +12,7 @@ count-requires g c =
     let n = (arc_value i.shop).namer in
     let b = board_of i.plan (arc_value i.shop).job.script.keys i.main i.ready.table i.orders.items i.starts i.closes i.journal.items i.stopped in
     record {
-      whole = ready_whole g.N.Namer.digest c.args.self.now n (arc_value i.shop).shelves b c.self.view_is i.lost.items
+      whole = ready_whole g.N.Namer.digest c.args.self.now n (arc_value i.shop).shelves (arc_value i.shop).job.script b c.self.view_is i.lost.items
           (vec_capacity i.journal) (vec_capacity i.lost) i.marker i.ready c.self.invariant c.requires.going;
     }
 
@@ -21,7 +21,7 @@ invariant_of-self g c =
     let i = c.self.inside in
     subst (λ (r : ReadySeen P). MasterStands (g.N.Namer.digest (arc_value i.shop).namer)
     (board_of i.plan (arc_value i.shop).job.script.keys i.main r.table i.orders.items i.starts i.closes i.journal.items i.stopped)
-    i.lost.items (vec_capacity i.journal) (vec_capacity i.lost) (arc_value i.shop).shelves i.marker r) (sym c.count.ensures.same)
+    i.lost.items (vec_capacity i.journal) (vec_capacity i.lost) (arc_value i.shop).shelves (arc_value i.shop).job.script i.marker r) (sym c.count.ensures.same)
     c.self.invariant
 
 pub returns-clause-count : goal.returns-clause-count
@@ -30,5 +30,5 @@ returns-clause-count g c =
     let n = (arc_value i.shop).namer in
     let b = board_of i.plan (arc_value i.shop).job.script.keys i.main i.ready.table i.orders.items i.starts i.closes i.journal.items i.stopped in
     subst (λ (r : ReadySeen P). CanRunMany r c.in_ok-count.count)
-    (ready_is g.N.Namer.digest c.args.self.now n (arc_value i.shop).shelves b c.self.view_is i.lost.items (vec_capacity i.journal)
+    (ready_is g.N.Namer.digest c.args.self.now n (arc_value i.shop).shelves (arc_value i.shop).job.script b c.self.view_is i.lost.items (vec_capacity i.journal)
     (vec_capacity i.lost) i.marker i.ready c.self.invariant c.requires.going) c.in_ok-count.ensures.count

@@ -11,7 +11,7 @@ note_loss-requires-clause-place g c =
     let i = c.self.inside in
     let n = (arc_value i.shop).namer in
     let b = board_of i.plan (arc_value i.shop).job.script.keys i.main i.ready.table i.orders.items i.starts i.closes i.journal.items i.stopped in
-    place_now g.N.Namer.digest c.args.self.now n (arc_value i.shop).shelves b c.self.view_is i.lost.items (vec_capacity i.journal)
+    place_now g.N.Namer.digest c.args.self.now n (arc_value i.shop).shelves (arc_value i.shop).job.script b c.self.view_is i.lost.items (vec_capacity i.journal)
     (vec_capacity i.lost) i.marker i.ready c.self.invariant c.requires.going c.args.number c.requires.due c.as_slice-losses.result.now
     c.as_slice-losses.ensures.losses
 
@@ -20,7 +20,7 @@ note_loss-requires-clause-line g c =
     let i = c.self.inside in
     let n = (arc_value i.shop).namer in
     let b = board_of i.plan (arc_value i.shop).job.script.keys i.main i.ready.table i.orders.items i.starts i.closes i.journal.items i.stopped in
-    line_now g.N.Namer.digest c.args.self.now n (arc_value i.shop).shelves b c.self.view_is i.lost.items (vec_capacity i.journal)
+    line_now g.N.Namer.digest c.args.self.now n (arc_value i.shop).shelves (arc_value i.shop).job.script b c.self.view_is i.lost.items (vec_capacity i.journal)
     (vec_capacity i.lost) i.marker i.ready c.self.invariant c.requires.going c.args.number c.requires.due c.as_slice-losses.result.now
     c.as_slice-losses.ensures.losses i.journal.items refl
 
@@ -35,18 +35,18 @@ invariant_of-self g c =
     let then = c.drop_worker.new.self in
     let last = c.close_lost.new.ready in
     let os = map kept_view c.close_lost.new.orders.items in
-    let table = closed_table g.N.Namer.digest c.args.self.now n (arc_value i.shop).shelves b c.self.view_is i.lost.items (vec_capacity i.journal)
+    let table = closed_table g.N.Namer.digest c.args.self.now n (arc_value i.shop).shelves (arc_value i.shop).job.script b c.self.view_is i.lost.items (vec_capacity i.journal)
     (vec_capacity i.lost) i.marker i.ready c.self.invariant c.requires.going then last _ os c.drop_worker.ensures.dropped
     c.close_lost.ensures.ready in
-    let kept = closed_ready g.N.Namer.digest c.args.self.now n (arc_value i.shop).shelves b c.self.view_is i.lost.items (vec_capacity i.journal)
+    let kept = closed_ready g.N.Namer.digest c.args.self.now n (arc_value i.shop).shelves (arc_value i.shop).job.script b c.self.view_is i.lost.items (vec_capacity i.journal)
     (vec_capacity i.lost) i.marker i.ready c.self.invariant c.requires.going then last _ os c.drop_worker.ensures.dropped
     c.close_lost.ensures.ready in
-    λ run. five (lost_stands g.N.Namer.digest c.args.self.now n (arc_value i.shop).shelves b c.self.view_is i.lost.items (vec_capacity i.journal)
+    λ run. five (lost_stands g.N.Namer.digest c.args.self.now n (arc_value i.shop).shelves (arc_value i.shop).job.script b c.self.view_is i.lost.items (vec_capacity i.journal)
     (vec_capacity i.lost) i.marker i.ready c.self.invariant c.requires.going c.args.number c.requires.due c.as_slice-losses.result.now
     c.as_slice-losses.ensures.losses last.table os (map entry_view c.note_loss.new.journal.items) table c.close_lost.ensures.orders
     c.note_loss.ensures.written c.note_loss.new.lost.items c.note_loss.ensures.lost (vec_capacity c.note_loss.new.journal)
     (vec_capacity c.note_loss.new.lost) c.note_loss.ensures.lines c.note_loss.ensures.places)
-    (marked_lost g.N.Namer.digest c.args.self.now n (arc_value i.shop).shelves b c.self.view_is i.lost.items (vec_capacity i.journal)
+    (marked_lost g.N.Namer.digest c.args.self.now n (arc_value i.shop).shelves (arc_value i.shop).job.script b c.self.view_is i.lost.items (vec_capacity i.journal)
     (vec_capacity i.lost) i.marker i.ready c.self.invariant c.requires.going c.args.number c.requires.due c.as_slice-losses.result.now
     c.as_slice-losses.ensures.losses last.table os (map entry_view c.note_loss.new.journal.items) table c.close_lost.ensures.orders
     c.note_loss.ensures.written c.note_loss.new.lost.items c.note_loss.ensures.lost c.mark_lost.new.marker c.mark_lost.ensures) kept
@@ -59,11 +59,11 @@ returns g c =
     let then = c.drop_worker.new.self in
     let last = c.close_lost.new.ready in
     let os = map kept_view c.close_lost.new.orders.items in
-    let table = closed_table g.N.Namer.digest c.args.self.now n (arc_value i.shop).shelves b c.self.view_is i.lost.items (vec_capacity i.journal)
+    let table = closed_table g.N.Namer.digest c.args.self.now n (arc_value i.shop).shelves (arc_value i.shop).job.script b c.self.view_is i.lost.items (vec_capacity i.journal)
     (vec_capacity i.lost) i.marker i.ready c.self.invariant c.requires.going then last _ os c.drop_worker.ensures.dropped
     c.close_lost.ensures.ready in
     record {
-      lost = λ w d. lost_so g.N.Namer.digest c.args.self.now n (arc_value i.shop).shelves b c.self.view_is i.lost.items
+      lost = λ w d. lost_so g.N.Namer.digest c.args.self.now n (arc_value i.shop).shelves (arc_value i.shop).job.script b c.self.view_is i.lost.items
           (vec_capacity i.journal) (vec_capacity i.lost) i.marker i.ready c.self.invariant c.requires.going c.args.number c.requires.due
           c.as_slice-losses.result.now c.as_slice-losses.ensures.losses last.table os (map entry_view c.note_loss.new.journal.items) table
           c.close_lost.ensures.orders c.note_loss.ensures.written w d;
@@ -74,7 +74,7 @@ mark_lost-requires-clause-of g c =
     let i = c.self.inside in
     let n = (arc_value i.shop).namer in
     let b = board_of i.plan (arc_value i.shop).job.script.keys i.main i.ready.table i.orders.items i.starts i.closes i.journal.items i.stopped in
-    of_now g.N.Namer.digest c.args.self.now n (arc_value i.shop).shelves b c.self.view_is i.lost.items (vec_capacity i.journal)
+    of_now g.N.Namer.digest c.args.self.now n (arc_value i.shop).shelves (arc_value i.shop).job.script b c.self.view_is i.lost.items (vec_capacity i.journal)
     (vec_capacity i.lost) i.marker i.ready c.self.invariant c.requires.going c.args.number c.requires.due c.as_slice-losses.result.now
     c.as_slice-losses.ensures.losses ∙ sym (ap (λ s. s.shelves.of) c.deref.ensures)
 
@@ -84,7 +84,7 @@ mark_lost-requires-clause-worker g c =
     let n = (arc_value i.shop).namer in
     let b = board_of i.plan (arc_value i.shop).job.script.keys i.main i.ready.table i.orders.items i.starts i.closes i.journal.items i.stopped in
     let r = ap (λ s. length s.shelves.rows) c.deref.ensures in
-    let l = shelf_now g.N.Namer.digest c.args.self.now n (arc_value i.shop).shelves b c.self.view_is i.lost.items (vec_capacity i.journal)
+    let l = shelf_now g.N.Namer.digest c.args.self.now n (arc_value i.shop).shelves (arc_value i.shop).job.script b c.self.view_is i.lost.items (vec_capacity i.journal)
     (vec_capacity i.lost) i.marker i.ready c.self.invariant c.requires.going c.args.number c.requires.due c.as_slice-losses.result.now
     c.as_slice-losses.ensures.losses in
     omega (arith, r, l)
@@ -95,8 +95,8 @@ close_lost-requires g c =
     let n = (arc_value i.shop).namer in
     let b = board_of i.plan (arc_value i.shop).job.script.keys i.main i.ready.table i.orders.items i.starts i.closes i.journal.items i.stopped in
     record {
-      out = changed_out g.N.Namer.digest c.args.self.now n (arc_value i.shop).shelves b c.self.view_is i.lost.items (vec_capacity i.journal)
+      out = changed_out g.N.Namer.digest c.args.self.now n (arc_value i.shop).shelves (arc_value i.shop).job.script b c.self.view_is i.lost.items (vec_capacity i.journal)
           (vec_capacity i.lost) i.marker i.ready c.self.invariant c.requires.going c.drop_worker.new.self _ c.drop_worker.ensures.dropped;
-      one = one_each g.N.Namer.digest c.args.self.now n (arc_value i.shop).shelves b c.self.view_is i.lost.items (vec_capacity i.journal)
+      one = one_each g.N.Namer.digest c.args.self.now n (arc_value i.shop).shelves (arc_value i.shop).job.script b c.self.view_is i.lost.items (vec_capacity i.journal)
           (vec_capacity i.lost) i.marker i.ready c.self.invariant c.requires.going;
     }

@@ -1,5 +1,5 @@
 -- A master that knows the main call alone is sound.
-use Rattle.std.proofs.Common.{◌∙◌, ap, vec_capacity}
+use Rattle.std.proofs.Common.{◌≡◌, ◌≤◌, ℕ, ◌∙◌, ap, arith, vec_capacity}
 use Rattle.std.specs.Arc.{arc_value}
 use Rattle.ciel_board.specs.Moves.{empty}
 use Rattle.ciel_ready.specs.Seen.{ReadySeen}
@@ -10,16 +10,19 @@ use Rattle.ciel_master.proofs.Kept.{open_going, open_gone, open_ready, open_room
 use Rattle.ciel_master.proofs.Marking.{open_marked}
 use Rattle.ciel_master.proofs.master.Master.open.Goals as goal
 
+wide_of : {m n : ℕ} → m ≡ n → m ≤ n
+wide_of e = omega (arith, e)
+
 pub invariant_of-result : goal.invariant_of-result
 invariant_of-result g c =
     let d = g.N.Namer.digest (arc_value c.args.shop).namer in
     let keys = (arc_value c.args.shop).job.script.keys in
     let ready = c.in_ok-ready.ready in
     λ going. (
-      open_going d c.args.plan keys c.args.main ready.table c.new.result.items c.in_ok-journal.journal.items
+      open_going d (arc_value c.args.shop).shelves (arc_value c.args.shop).job.script c.args.plan c.args.main ready.table c.new.result.items c.in_ok-journal.journal.items
           (ap (λ (r : ReadySeen P). r.table) c.in_ok-ready.ensures
           ∙ ap (λ s. learned (g.N.Namer.digest s.namer) c.args.main (empty most_descriptions)) c.deref.ensures) c.new.ensures.items
-          c.in_ok-journal.ensures.empty c.requires.keys c.requires.named c.requires.main,
+          c.in_ok-journal.ensures.empty c.requires.keys (wide_of c.requires.workers) c.requires.named c.requires.main,
       open_gone d c.args.main ready.table c.in_ok-lost.lost.items
           (ap (λ (r : ReadySeen P). r.table) c.in_ok-ready.ensures
           ∙ ap (λ s. learned (g.N.Namer.digest s.namer) c.args.main (empty most_descriptions)) c.deref.ensures) c.in_ok-lost.ensures.empty,

@@ -27,7 +27,7 @@ take_end-requires g c =
     record {
       few = c.len-room.ensures.few;
       can =
-          takes_now g.N.Namer.digest c.args.self.now n (arc_value i.shop).shelves b c.self.view_is i.lost.items (vec_capacity i.journal)
+          takes_now g.N.Namer.digest c.args.self.now n (arc_value i.shop).shelves (arc_value i.shop).job.script b c.self.view_is i.lost.items (vec_capacity i.journal)
           (vec_capacity i.lost) i.marker i.ready c.self.invariant c.requires.going c.args.report.number c.args.report.spawned.items
           c.args.report.copied.items c.args.report.end c.requires.fits o found k is_k c.as_slice-2.result.now c.as_slice-2.ensures.value
           c.as_slice-3.result.now c.as_slice-3.ensures.value c.learn_for.new.ready.table is_t c.in_ok-learn_for.ensures.all;
@@ -51,29 +51,29 @@ invariant_of-self-2 g c =
     let is_then = c.in_ok-now.ensures.ready
     ∙ ap (λ (r : ReadySeen P). with_table r (table_after o.task (how_view c.as_slice-3.result.now c.args.report.end)
     c.learn_for.new.ready.table)) c.in_ok-learn_for.ensures.learned in
-    let is_u = closed_table g.N.Namer.digest c.args.self.now n (arc_value i.shop).shelves b c.self.view_is i.lost.items (vec_capacity i.journal)
+    let is_u = closed_table g.N.Namer.digest c.args.self.now n (arc_value i.shop).shelves (arc_value i.shop).job.script b c.self.view_is i.lost.items (vec_capacity i.journal)
     (vec_capacity i.lost) i.marker i.ready c.self.invariant c.requires.going then last_ready _ os is_then c.close_order.ensures.ready in
     λ last. (
-      going_accepted g.N.Namer.digest c.args.self.now n (arc_value i.shop).shelves b c.self.view_is i.lost.items (vec_capacity i.journal)
+      going_accepted g.N.Namer.digest c.args.self.now n (arc_value i.shop).shelves (arc_value i.shop).job.script b c.self.view_is i.lost.items (vec_capacity i.journal)
           (vec_capacity i.lost) i.marker i.ready c.self.invariant c.requires.going c.args.report.number c.args.report.spawned.items
           c.args.report.copied.items c.args.report.end c.requires.fits o found k is_k c.as_slice-2.result.now c.as_slice-2.ensures.value
           c.as_slice-3.result.now c.as_slice-3.ensures.value c.learn_for.new.ready.table is_t c.in_ok-learn_for.ensures.all
           c.close_order.new.ready.table (map kept_view c.close_order.new.orders.items) (map entry_view c.take_end.new.journal.items)
           c.is_last-last.result is_u c.close_order.ensures.orders c.in_ok-now.ensures.journal c.as_slice.result.now c.as_slice.ensures.value
           c.is_last-last.ensures,
-      gone_after g.N.Namer.digest c.args.self.now n (arc_value i.shop).shelves b c.self.view_is i.lost.items
+      gone_after g.N.Namer.digest c.args.self.now n (arc_value i.shop).shelves (arc_value i.shop).job.script b c.self.view_is i.lost.items
           (vec_capacity i.journal) (vec_capacity i.lost) i.marker i.ready c.self.invariant c.requires.going c.args.report.number
           c.args.report.spawned.items c.args.report.copied.items c.args.report.end c.requires.fits o found k is_k c.as_slice-2.result.now
           c.as_slice-2.ensures.value c.as_slice-3.result.now c.as_slice-3.ensures.value c.learn_for.new.ready.table is_t
           c.in_ok-learn_for.ensures.all c.close_order.new.ready.table (map kept_view c.close_order.new.orders.items)
           (map entry_view c.take_end.new.journal.items) c.is_last-last.result is_u c.close_order.ensures.orders c.in_ok-now.ensures.journal
           c.as_slice.result.now c.as_slice.ensures.value c.is_last-last.ensures,
-      room_written g.N.Namer.digest c.args.self.now n (arc_value i.shop).shelves b c.self.view_is i.lost.items (vec_capacity i.journal)
+      room_written g.N.Namer.digest c.args.self.now n (arc_value i.shop).shelves (arc_value i.shop).job.script b c.self.view_is i.lost.items (vec_capacity i.journal)
           (vec_capacity i.lost) i.marker i.ready c.self.invariant c.requires.going c.take_end.new.journal.items c.len-room.result
           (vec_capacity c.take_end.new.journal) c.len-room.ensures.len c.in_ok-now.ensures.room,
-      marked_now g.N.Namer.digest c.args.self.now n (arc_value i.shop).shelves b c.self.view_is i.lost.items (vec_capacity i.journal)
+      marked_now g.N.Namer.digest c.args.self.now n (arc_value i.shop).shelves (arc_value i.shop).job.script b c.self.view_is i.lost.items (vec_capacity i.journal)
           (vec_capacity i.lost) i.marker i.ready c.self.invariant c.requires.going,
-      closed_ready g.N.Namer.digest c.args.self.now n (arc_value i.shop).shelves b c.self.view_is i.lost.items (vec_capacity i.journal)
+      closed_ready g.N.Namer.digest c.args.self.now n (arc_value i.shop).shelves (arc_value i.shop).job.script b c.self.view_is i.lost.items (vec_capacity i.journal)
           (vec_capacity i.lost) i.marker i.ready c.self.invariant c.requires.going then last_ready _ os is_then c.close_order.ensures.ready,
     )
 
@@ -95,9 +95,9 @@ returns-clause-accepted g c =
     let is_then = c.in_ok-now.ensures.ready
     ∙ ap (λ (r : ReadySeen P). with_table r (table_after o.task (how_view c.as_slice-3.result.now c.args.report.end)
     c.learn_for.new.ready.table)) c.in_ok-learn_for.ensures.learned in
-    let is_u = closed_table g.N.Namer.digest c.args.self.now n (arc_value i.shop).shelves b c.self.view_is i.lost.items (vec_capacity i.journal)
+    let is_u = closed_table g.N.Namer.digest c.args.self.now n (arc_value i.shop).shelves (arc_value i.shop).job.script b c.self.view_is i.lost.items (vec_capacity i.journal)
     (vec_capacity i.lost) i.marker i.ready c.self.invariant c.requires.going then last_ready _ os is_then c.close_order.ensures.ready in
-    accepted_so g.N.Namer.digest c.args.self.now n (arc_value i.shop).shelves b c.self.view_is i.lost.items (vec_capacity i.journal)
+    accepted_so g.N.Namer.digest c.args.self.now n (arc_value i.shop).shelves (arc_value i.shop).job.script b c.self.view_is i.lost.items (vec_capacity i.journal)
     (vec_capacity i.lost) i.marker i.ready c.self.invariant c.requires.going c.args.report.number c.args.report.spawned.items
     c.args.report.copied.items c.args.report.end c.requires.fits o found k is_k c.as_slice-2.result.now c.as_slice-2.ensures.value
     c.as_slice-3.result.now c.as_slice-3.ensures.value c.learn_for.new.ready.table is_t c.in_ok-learn_for.ensures.all
@@ -117,7 +117,7 @@ returns-clause-learned g c =
     let k = c.deref-2.result.now.namer in
     let is_k : k ≡ n = ap (λ s. s.namer) c.deref-2.ensures in
     let is_t = ap (λ (r : ReadySeen P). r.table) c.in_ok-learn_for.ensures.learned in
-    learned_so g.N.Namer.digest c.args.self.now n (arc_value i.shop).shelves b c.self.view_is i.lost.items (vec_capacity i.journal)
+    learned_so g.N.Namer.digest c.args.self.now n (arc_value i.shop).shelves (arc_value i.shop).job.script b c.self.view_is i.lost.items (vec_capacity i.journal)
     (vec_capacity i.lost) i.marker i.ready c.self.invariant c.requires.going c.args.report.number c.args.report.spawned.items
     c.args.report.copied.items c.args.report.end c.requires.fits o found k is_k c.as_slice-2.result.now c.as_slice-2.ensures.value
     c.as_slice-3.result.now c.as_slice-3.ensures.value c.learn_for.new.ready.table is_t c.in_ok-learn_for.ensures.all
@@ -135,9 +135,9 @@ close_order-requires g c =
     ∙ ap (λ (r : ReadySeen P). with_table r (table_after o.task (how_view c.as_slice-3.result.now c.args.report.end)
     c.learn_for.new.ready.table)) c.in_ok-learn_for.ensures.learned in
     record {
-      out = changed_out g.N.Namer.digest c.args.self.now n (arc_value i.shop).shelves b c.self.view_is i.lost.items (vec_capacity i.journal)
+      out = changed_out g.N.Namer.digest c.args.self.now n (arc_value i.shop).shelves (arc_value i.shop).job.script b c.self.view_is i.lost.items (vec_capacity i.journal)
           (vec_capacity i.lost) i.marker i.ready c.self.invariant c.requires.going c.take_end.new.ready _ is_then;
-      one = one_each g.N.Namer.digest c.args.self.now n (arc_value i.shop).shelves b c.self.view_is i.lost.items (vec_capacity i.journal)
+      one = one_each g.N.Namer.digest c.args.self.now n (arc_value i.shop).shelves (arc_value i.shop).job.script b c.self.view_is i.lost.items (vec_capacity i.journal)
           (vec_capacity i.lost) i.marker i.ready c.self.invariant c.requires.going;
       here = order_in c.args.report.number (map kept_view i.orders.items) o found;
     }
