@@ -38,7 +38,8 @@ use Rattle.ciel_json.specs.Around.{json_around}
 use Rattle.ciel_table.specs.Seen.{TableSeen}
 use Rattle.ciel_journal.specs.Job.{Digest, Each, In}
 use Rattle.ciel_journal.specs.Journals.{DrivenJournal}
-use Rattle.ciel_master.specs.Marked.{FitsUnlessMissing, IsCarriedOut, SeenOf}
+use Rattle.ciel_master.specs.Fitting.{FitsUnlessMissing}
+use Rattle.ciel_master.specs.Marked.{IsCarriedOut, SeenOf}
 use Rattle.ciel_master.specs.Refusals.{FirstStops}
 use Rattle.ciel_master.specs.Seen.{MasterSeen}
 use Rattle.ciel_master.specs.Taking.{LearnedFor, entry_for, now_of}
