@@ -1,9 +1,8 @@
 use Rattle.std.proofs.Common.{ap, subst}
-use Rattle.ciel_board.specs.Board.{board_graph, idle_of}
+use Rattle.ciel_board.specs.Board.{board_graph}
 use Rattle.ciel_board.proofs.Searching.{picked_has}
 use Rattle.ciel_journal.specs.Graph.{Runnable}
 use Rattle.ciel_want.specs.Waited.{tasks_in_order}
-use Rattle.sky_base.specs.JobView.{job_view}
 use Rattle.ciel_board.proofs.Driving.{got_in}
 use Rattle.ciel_journal.specs.Job.{In}
 use Rattle.ciel_drive.proofs.Slots.{got_index}
@@ -75,10 +74,8 @@ returns-in-Ok-send-clause-model g c k =
     let one = c.pick-place.ensures in
     let two = c.pick-worker.ensures in
     let p = picked k one.state two.state c.requires.count c.requires.quiet c.in-Ok.ensures.task c.requires.idle one.pick two.pick two.below in
-    let shop = g.C.Crew.shop c.args.crew.now in
-    let rows = c.orders_are_sound.ensures.rows (g.N.Namer.digest shop.namer) (job_view shop.job) (g.K.Kit.gives shop.kit) in
-    start_kept k p c.in-Ok.order c.in-Ok.ensures.order c.in-Ok.ensures.started c.in-Ok-send.ensures.out rows c.send.ensures.shop
-    c.in-Ok-send.ensures.sound (draws_after k one.state two.state)
+    start_kept c.requires.working k p c.in-Ok.ensures.started c.in-Ok.order c.in-Ok.ensures.order c.in-Ok-send.ensures.out c.send.ensures.shop
+    (draws_after k one.state two.state)
 
 pub returns-in-Ok-send-clause-less : goal.returns-in-Ok-send-clause-less
 returns-in-Ok-send-clause-less g c =
@@ -108,7 +105,7 @@ returns-in-Err-send-clause-end g c k =
     let one = c.pick-place.ensures in
     let two = c.pick-worker.ensures in
     let p = picked k one.state two.state c.requires.count c.requires.quiet c.in-Ok.ensures.task c.requires.idle one.pick two.pick two.below in
-    start_ends k p c.in-Ok.order c.in-Ok.ensures.order c.in-Ok.ensures.started
+    start_ends c.requires.working k p c.in-Ok.ensures.started
 
 pub returns-in-Ok-send-clause-does : goal.returns-in-Ok-send-clause-does
 returns-in-Ok-send-clause-does g c =
