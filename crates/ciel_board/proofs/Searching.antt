@@ -1,7 +1,7 @@
 -- What is found in the table is found after the history.
 use Rattle.std.proofs.Common.{◌≡◌, List, [], ◌∷◌, Bool, true, false, cond, map, ◌⊎◌, inl, inr, refl, sym, ◌∙◌, subst}
 use Rattle.sky_base.specs.declared.object.TaskId.{TaskId}
-use Rattle.ciel_journal.specs.Graph.{Circle, Picks, Runnable}
+use Rattle.ciel_journal.specs.Graph.{Circle, Led, Picks, Runnable}
 use Rattle.ciel_journal.specs.History.{Event, OpenStart, Standing, live, needs as needs_after, standing}
 use Rattle.ciel_journal.specs.Job.{Digest, Each, In, Never, Task, of}
 use Rattle.ciel_journal.specs.Journals.{CircleOf}
@@ -105,6 +105,9 @@ module _ {D P B : Type 0} (s : Setting D P B) (is : IsSetting s) (h : List (Even
       each_named [] g e = tt
       each_named (d ∷ ds) g e =
           ((table_holds s is h b sound f).lives d (g d (inl refl)) ∙ e.0, each_named ds (λ x j. g x (inr j)) e.1)
+
+  pub led_reached : (x : TaskId) → Led (board_graph b) x → (u : Task D) × (task_id s.job u ≡ x) × Reached s.job v u
+  led_reached x l = (agrees s is h b sound f).only x l
 
   pub runnable_ready : (ts : List TaskId) → Picks (Runnable (board_graph b)) (tasks_in_order b.table) ts → (us : List (Task D))
       × IsReadyList s.job v us × (ts ≡ map (task_id s.job) us)

@@ -13,6 +13,7 @@ use Rattle.ciel_table.specs.Named.{place_of}
 use Rattle.ciel_table.specs.Seen.{TableSeen, last_wait, row_named}
 use Rattle.ciel_table.specs.declared.row.Row.{Row}
 use Rattle.ciel_table.specs.declared.wait.Wait.{Wait}
+use Rattle.ciel_want.specs.Followers.{FollowerIs}
 use Rattle.ciel_want.specs.Waited.{first_refs, graph, names_of}
 
 -- where an object is fetched from: a place, or the job's input of this number
@@ -92,6 +93,10 @@ module _ {P : Type 0} where
   -- what its tasks wait for
   abbrev pub board_graph : Board P → Graph TaskId Digest
   board_graph b = graph b.main b.table (tasks_out b.orders)
+
+  -- the executor's task that follows another one, if one does, by its first output
+  abbrev pub FollowerOf : Board P → TaskId → Option Desc1 → Type 0
+  FollowerOf b task o = FollowerIs b.main b.table (tasks_out b.orders) task o
 
   -- ---- where a task goes on
 

@@ -6,7 +6,7 @@ use Rattle.sky_base.specs.Val.{no_pairs, no_vals}
 use Rattle.sky_base.specs.declared.object.Desc1.{Desc1}
 use Rattle.sky_base.specs.declared.object.Named.{Named}
 use Rattle.sky_base.specs.declared.object.TaskId.{TaskId}
-use Rattle.ciel_journal.specs.Graph.{Circle, Picks, Runnable}
+use Rattle.ciel_journal.specs.Graph.{Circle, Led, Picks, Runnable}
 use Rattle.ciel_journal.specs.History.{Event, OpenStart, Plan, after, find_open, lost, missed, order_of, standing, start}
 use Rattle.ciel_journal.specs.Job.{Digest, Each, In, Never, Task}
 use Rattle.ciel_journal.specs.Journals.{CircleOf}
@@ -181,6 +181,11 @@ module _ (D P B : Type 0) where
   RunnableIsReady =
       OfFollowed (λ s h b. (ts : List TaskId) → Picks (Runnable (board_graph b)) (tasks_in_order b.table) ts
       → (us : List (Task D)) × IsReadyList s.job (standing s.job h) us × (ts ≡ map (task_id s.job) us))
+
+  -- what is reached is reached after the history, so a task that follows another one is
+  abbrev pub LedIsReached : Type 0
+  LedIsReached =
+      OfFollowed (λ s h b. (x : TaskId) → Led (board_graph b) x → (u : Task D) × (task_id s.job u ≡ x) × Reached s.job (standing s.job h) u)
 
   -- where nothing is out, a circle of the table is one of the journal, which means that the job has no answer
   abbrev pub CircleFollows : Type 0

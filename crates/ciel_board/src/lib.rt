@@ -9,7 +9,7 @@
 ghost use Rattle.ciel_board.specs.Laws.{LossIsSound, OpenedIsSound, ReportIsSound, SoundIsWhole, StartIsSound};
 ghost use Rattle.ciel_board.specs.Laws.{OpenedFollows, StartFollows, TableHolds};
 ghost use Rattle.ciel_board.specs.Laws.{ClashFollows, LostFollows, OverflowFollows, ReportFollows};
-ghost use Rattle.ciel_board.specs.Laws.{CircleFollows, MissedFollows, RunnableIsReady};
+ghost use Rattle.ciel_board.specs.Laws.{CircleFollows, LedIsReached, MissedFollows, RunnableIsReady};
 ghost use Rattle.ciel_board.specs.Driving.{LossRuns, MissedRuns, ReportRuns, StartRuns};
 
 /// What holds of the master's state by names holds at the beginning, and stays after a start, after a report that fits its order
@@ -45,9 +45,10 @@ pub fn missing_follows<D, P, B>()
     ensures missed { MissedFollows D P B }
 {}
 
-/// The tasks that can run are the ready ones of the history, in their order. Where nothing is out, a circle of the table is one
-/// of the journal, and means that the job has no answer.
+/// What is reached is reached after the history, and the tasks that can run are its ready ones, in their order. Where nothing is out, a
+/// circle of the table is one of the journal, and means that the job has no answer.
 pub fn searches_follow<D, P, B>()
+    ensures reached { LedIsReached D P B }
     ensures runnable { RunnableIsReady D P B }
     ensures circle { CircleFollows D P B }
 {}

@@ -6,6 +6,7 @@ ghost use Rattle.ciel_task.specs.declared.order.Order.{Order as OrderSeen};
 ghost use Rattle.ciel_task.specs.declared.shop.Shop.{Shop};
 ghost use Rattle.ciel_crew.specs.Calls.{Call, next_call, send_call};
 ghost use Rattle.ciel_crew.specs.Crews.{FadesEach, IsOut, Reports, Takes, TellsTask, order_at};
+ghost use Rattle.ciel_crew.specs.Hints.{LeadsTo};
 
 use ciel_gate::gate::Gate;
 use ciel_name::name::Namer;
@@ -63,12 +64,13 @@ pub trait Crew {
         ensures stays { stays self.new ≡ stays self.old }
         ensures goes { goes (record_of self.old) (send_call order result) (record_of self.new) };
 
-    /// Says that the order, which is sent next, makes what this executor's task reads. It changes nothing that is promised, and does
-    /// nothing where a crew has no use for it.
+    /// Says that the order, which is sent next, makes what this executor's task reads, so that a crew may begin on it meanwhile. It
+    /// changes nothing that is promised, and does nothing where a crew has no use for it.
     ///
     /// Answers `Memory` for want of memory.
     fn hint(&mut self, order: &Order, consumer: &Desc1) -> Result<(), Memory>
         requires sound { is_sound self.old ≡ true }
+        requires reach { LeadsTo Self.N.digest (shop self.old) order.now consumer.now }
         ensures shop { shop self.new ≡ shop self.old }
         ensures sound { OnOk result (is_sound self.new ≡ true) }
         ensures out { out self.new ≡ out self.old }

@@ -23,7 +23,9 @@ use Rattle.ciel_journal.specs.Entries.{Entry}
 use Rattle.ciel_journal.specs.Graph.{Runnable}
 use Rattle.ciel_journal.specs.Job.{Digest, In}
 use Rattle.ciel_journal.specs.Turns.{FirstDue}
-use Rattle.ciel_master.specs.Marked.{FitsUnlessMissing, IsCarriedOut, IsMissedOf, IsOf, SeenOf}
+use Rattle.ciel_journal.proofs.Near.{in_right}
+use Rattle.ciel_master.specs.Fitting.{FitsOneOut, FitsOrder, IsMissedOf}
+use Rattle.ciel_master.specs.Marked.{IsCarriedOut, SeenOf}
 use Rattle.ciel_master.specs.Seen.{MasterSeen}
 use Rattle.ciel_master.specs.Taking.{LearnedFor, entry_for, now_of}
 use Rattle.ciel_master.specs.declared.stop.Now.{Now}
@@ -32,7 +34,7 @@ use Rattle.ciel_store.specs.declared.loss.Loss.{Loss}
 use Rattle.ciel_table.specs.Seen.{TableSeen, last_wait}
 use Rattle.ciel_task.specs.Places as places
 use Rattle.ciel_task.specs.Performs.{HasRows, IsMissing, Missed, OfTask}
-use Rattle.ciel_task.specs.Views.{P, copies_view, how_view, order_view, output_view, report_end}
+use Rattle.ciel_task.specs.Views.{P, copies_view, how_view, order_view, out_view, output_view, report_end}
 use Rattle.ciel_task.specs.declared.order.Order.{Order}
 use Rattle.ciel_task.specs.declared.report.End.{End}
 use Rattle.ciel_task.specs.declared.report.Report.{Report}
@@ -52,7 +54,7 @@ use Rattle.ciel_safe.specs.Turns.{AtWork, Turned, most_waits}
 use Rattle.ciel_safe.proofs.Turning.{plan_same}
 use Rattle.ciel_drive.specs.Kept.{left, slots_of}
 use Rattle.ciel_drive.specs.Told.{ToldOn}
-use Rattle.ciel_drive.specs.Working.{Working}
+use Rattle.ciel_drive.specs.Working.{IsSentOf, Working}
 use Rattle.ciel_drive.proofs.Slots.{at_slots, below_slots, free_at, set_at, slots_at, slots_sent, slots_set}
 use Rattle.ciel_drive.proofs.Telling.{IsQuiet, none_fades, tells_quiet, tells_start}
 
@@ -179,6 +181,15 @@ module _ {K N : Type 0} {gives : K → Gives} {digest : N → List ℕ → List 
 
     pub send_takes : SafeOrders → Takes gives digest shop_ order
     send_takes law = (law D shop_.shelves J.script (length J.inputs) b k.work.safe x w run idle order view).sound
+
+    -- the order is out then, in a state that is safe
+    pub sent_of : {c : MasterSeen N} → c ≡ record m { board = started worker_of m.board x w } → IsSentOf digest shop_ c.board order
+    sent_of {c} new =
+        subst (λ (z : MasterSeen N). IsSentOf digest shop_ z.board order) (sym new)
+        (begun.1.at_work.safe, in_right (out_view order) b.orders ((order_for worker_of b x w).out ∷ []) (inl (ap (λ z. z.out) view)))
+
+    pub going_still : {c : MasterSeen N} → c ≡ record m { board = started worker_of m.board x w } → c.board.stopped ≡ false
+    going_still new = ap (λ (z : MasterSeen N). z.board.stopped) new ∙ k.work.going
 
     pub start_told : {c : MasterSeen N} → c ≡ record m { board = started worker_of m.board x w } → (told then : List (Option (List TaskId)))
         → TellsTask order told then → ToldOn m.board.journal c.board.journal told then
@@ -371,27 +382,8 @@ module _ {K N : Type 0} {gives : K → Gives} {digest : N → List ℕ → List 
             safe = a.safely b k.work.safe.keys rows_now (goes_desc b.main b.table order.task order.desc (k.goes r.worker order e)) none;
           }
 
-      pub fits_now : (x : board.Order P) × (find_order r.number b.orders ≡ Some x.out)
-          × FitsUnlessMissing (digest m.namer) m.shelves m.script b x r.spawned.items r.copied.items r.end
-      fits_now = (
-        order_view order,
-        found_is,
-        subst (λ n. FitsUnlessMissing (digest n) m.shelves m.script b (order_view order) r.spawned.items r.copied.items r.end) (sym k.namer)
-            (subst (λ z. FitsUnlessMissing D z m.script b (order_view order) r.spawned.items r.copied.items r.end) (sym k.shelves)
-            (subst (λ z. FitsUnlessMissing D shop_.shelves z b (order_view order) r.spawned.items r.copied.items r.end) (sym k.script) fits_safely)),
-      )
-
-      pub seen_here : SeenOf m.shelves r.end
-      seen_here =
-          subst (λ z. SeenOf z r.end) (sym k.shelves) (seen_at shop_.shelves order.worker J.script r.task r.end a.places.end)
-
-      pub of_now : (x : board.Order P) × (find_order r.number b.orders ≡ Some x.out) × IsOf x.out r × IsMissedOf (digest m.namer) b x r.end
-      of_now = (
-        order_view order,
-        found_is,
-        record { worker = a.performs.worker; task = a.performs.task; kind = a.performs.kind },
-        subst (λ n. IsMissedOf (digest n) b (order_view order) r.end) (sym k.namer) (missed r.end a.performs.missed),
-      )
+      missed_of : IsMissedOf D b (order_view order) r.end
+      missed_of = missed r.end a.performs.missed
         where
           missed : (q : End) → Missed D order q → IsMissedOf D b (order_view order) q
           missed (End.Made ms) h = tt
@@ -406,6 +398,21 @@ module _ {K N : Type 0} {gives : K → Gives} {digest : N → List ℕ → List 
                   ⊎ ((order.saved ≡ Some h.place) × (name ≡ own_name D (λ (p : P). p.worker) b.main order.task))
               given (inl z) = inl z
               given (inr z) = inr (z.0, subst (λ n. name ≡ own_name D (λ (p : P). p.worker) n order.task) (k.mains r.worker order e) z.1)
+
+      fits_order : FitsOrder D shop_.shelves J.script b (order_view order) r
+      fits_order =
+          record {
+            of = record { worker = a.performs.worker; task = a.performs.task; kind = a.performs.kind };
+            whole = fits_safely;
+            missed = missed_of;
+            seen = seen_at shop_.shelves order.worker J.script r.task r.end a.places.end;
+          }
+
+      pub fits_now : FitsOneOut (digest m.namer) m.shelves m.script b r
+      fits_now =
+          subst (λ n. FitsOneOut (digest n) m.shelves m.script b r) (sym k.namer)
+          (subst (λ z. FitsOneOut D z m.script b r) (sym k.shelves)
+          (subst (λ z. FitsOneOut D shop_.shelves z b r) (sym k.script) (order_view order, found_is, fits_order)))
 
       pub missing_is : (name : Digest) (loss : Loss) (seen : Option SeatSeen) → r.end ≡ End.Missing name loss seen → IsCarriedOut b r.end
           → MissingFits D worker_of b (order_view order) name loss.number

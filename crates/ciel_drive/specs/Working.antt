@@ -4,9 +4,12 @@ use Rattle.sky_base.specs.JobView.{job_view}
 use Rattle.sky_base.specs.KitView.{Gives}
 use Rattle.ciel_crew.specs.Crews.{order_at}
 use Rattle.ciel_master.specs.Seen.{MasterSeen}
-use Rattle.ciel_safe.specs.Safe.{GoesBy}
+use Rattle.ciel_board.specs.Board.{Board}
+use Rattle.ciel_journal.specs.Job.{In}
+use Rattle.ciel_safe.specs.Safe.{GoesBy, Safe}
 use Rattle.ciel_safe.specs.Turns.{AtWork}
 use Rattle.ciel_task.specs.Performs.{HasRows}
+use Rattle.ciel_task.specs.Views.{P, out_view}
 use Rattle.ciel_task.specs.declared.order.Order.{Order}
 use Rattle.ciel_task.specs.declared.shop.Shop.{Shop}
 use Rattle.ciel_drive.specs.Kept.{slots_of}
@@ -24,3 +27,8 @@ module _ {K N : Type 0} (gives : K → Gives) (digest : N → List ℕ → List 
     pub rows : (w : ℕ) (order : Order) → order_at out w ≡ Some order → HasRows (digest shop.namer) m.board.table order
     pub mains : (w : ℕ) (order : Order) → order_at out w ≡ Some order → order.main ≡ m.board.main
     pub goes : (w : ℕ) (order : Order) → order_at out w ≡ Some order → GoesBy m.board.table order.task order.desc
+
+-- the order is out in a master's state that is safe for the shop
+abbrev pub IsSentOf : {K N : Type 0} → (N → List ℕ → List ℕ) → Shop K N → Board P → Order → Type 0
+IsSentOf digest shop b order =
+    Safe (digest shop.namer) shop.shelves (job_view shop.job).script (length (job_view shop.job).inputs) b × In (out_view order) b.orders

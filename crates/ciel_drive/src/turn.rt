@@ -1,15 +1,17 @@
 //! The turns of a run: a loss, a start, a report, or the end.
 
-ghost use Rattle.std.specs.Prelude.{◌≡◌, ◌≢◌, ◌<◌, ℕ, [], IfErr, IfOk, OnErr, OnOk, false, length, true};
+ghost use Rattle.std.specs.Prelude.{◌≡◌, ◌≢◌, ◌<◌, ℕ, [], IfErr, IfOk, None, OnErr, OnOk, Some, false, length, slice_set, true};
 ghost use Rattle.ciel_board.specs.Board.{idle_of};
 ghost use Rattle.ciel_board.specs.Driving.{CanRun, Quiet, RestsNow};
 ghost use Rattle.ciel_board.specs.Moves.{order_for, started};
+ghost use Rattle.ciel_crew.specs.Calls.{sent};
+ghost use Rattle.ciel_crew.specs.Crews.{Takes, TellsTask, order_at};
 ghost use Rattle.ciel_ends.specs.Ends.{worker_of};
 ghost use Rattle.ciel_drive.specs.Ended.{Ended};
 ghost use Rattle.ciel_drive.specs.Kept.{Kept, left};
 ghost use Rattle.ciel_drive.specs.Moved.{Does, Ends};
 ghost use Rattle.ciel_drive.specs.Told.{ToldOn};
-ghost use Rattle.ciel_drive.specs.Working.{Working};
+ghost use Rattle.ciel_drive.specs.Working.{IsSentOf, Working};
 ghost use Rattle.ciel_journal.specs.Job.{In};
 ghost use Rattle.ciel_journal.specs.Turns.{FirstDue};
 ghost use Rattle.ciel_task.specs.Views.{order_view};
@@ -25,6 +27,7 @@ use ciel_name::name::Namer;
 use ciel_safe::{orders_are_safe, rows_stay, tasks_stay, turns_come_to_an_end};
 use ciel_task::order::Order;
 use sky_base::kit::Kit;
+use sky_base::object::Desc1;
 use sky_base::text::Memory;
 
 /// Carries out a loss.
@@ -68,6 +71,56 @@ fn start_at<K: Drop, N: Namer + Drop>(
     Ok(order)
 }
 
+/// Tells the crew which task follows that of an order that is out, if one does.
+fn hint_at<K: Kit + Drop, N: Namer + Drop, C: Crew<K = K, N = N>>(
+    master: &mut Master<K, N>,
+    crew: &mut C,
+    order: &Order,
+) -> Result<(), Memory>
+    requires going { master.old.board.stopped ≡ false }
+    requires sound { C.is_sound crew.old ≡ true }
+    requires out { IsSentOf N.digest (C.shop crew.old) master.old.board order.now }
+    ensures master { master.new ≡ master.old }
+    ensures shop { C.shop crew.new ≡ C.shop crew.old }
+    ensures sound { OnOk result (C.is_sound crew.new ≡ true) }
+    ensures out { C.out crew.new ≡ C.out crew.old }
+    ensures told { C.told crew.new ≡ C.told crew.old }
+    ensures stays { C.stays crew.new ≡ C.stays crew.old }
+    ensures recorded { C.record_of crew.new ≡ C.record_of crew.old }
+{
+    match master.follower(order)? {
+        Some(consumer) => crew.hint(order, &consumer),
+        None => Ok(()),
+    }
+}
+
+/// Sends the order of a start, with a hint before where it is an executor's and a task follows.
+fn send_order<K: Kit + Drop, N: Namer + Drop, C: Crew<K = K, N = N>>(
+    master: &mut Master<K, N>,
+    crew: &mut C,
+    order: Order,
+) -> Result<(), Memory>
+    requires going { master.old.board.stopped ≡ false }
+    requires out { IsSentOf N.digest (C.shop crew.old) master.old.board order }
+    requires sound { C.is_sound crew.old ≡ true }
+    requires worker { order.worker < length (C.out crew.old) }
+    requires free { order_at (C.out crew.old) order.worker ≡ None }
+    requires takes { Takes K.gives N.digest (C.shop crew.old) order }
+    ensures master { master.new ≡ master.old }
+    ensures shop { C.shop crew.new ≡ C.shop crew.old }
+    ensures sound { OnOk result (C.is_sound crew.new ≡ true) }
+    ensures out { OnOk result (C.out crew.new ≡ slice_set (C.out crew.old) order.worker (Some order)) }
+    ensures told { OnOk result (TellsTask order (C.told crew.old) (C.told crew.new)) }
+    ensures stays { C.stays crew.new ≡ C.stays crew.old }
+    ensures goes { OnOk result (C.goes (C.record_of crew.old) (sent order) (C.record_of crew.new)) }
+{
+    if let Some(Desc1::Exec { .. }) = &order.desc {
+        hint_at(master, crew, &order)?;
+    }
+    crew.send(order)?;
+    Ok(())
+}
+
 /// Starts the task that one draw picks at the worker that the next picks, and sends its order.
 fn start_one<K: Kit + Drop, N: Namer + Drop, C: Crew<K = K, N = N>>(
     master: &mut Master<K, N>,
@@ -102,7 +155,7 @@ fn start_one<K: Kit + Drop, N: Namer + Drop, C: Crew<K = K, N = N>>(
         Ok(order) => order,
         Err(_) => return Err(RunEnd::Memory),
     };
-    match crew.send(order) {
+    match send_order(master, crew, order) {
         Ok(()) => Ok(()),
         Err(_) => Err(RunEnd::Memory),
     }

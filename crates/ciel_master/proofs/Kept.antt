@@ -36,7 +36,8 @@ use Rattle.ciel_want.specs.Waited.{Whole}
 use Rattle.ciel_store.specs.Seen.{SeatSeen, ShelvesSeen, marked}
 use Rattle.ciel_ready.specs.Seen.{ReadySeen, with_out, with_table}
 use Rattle.ciel_master.specs.Orders.{OneEach, ready_of}
-use Rattle.ciel_master.specs.Marked.{FitsUnlessMissing, IsCarriedOut, Marked, WasMarked, unseen}
+use Rattle.ciel_master.specs.Fitting.{FitsUnlessMissing}
+use Rattle.ciel_master.specs.Marked.{IsCarriedOut, Marked, WasMarked, unseen}
 use Rattle.sky_base.specs.Tree.{Script}
 use Rattle.ciel_safe.specs.Laws.{OrderIsGood, SafeOrders}
 use Rattle.ciel_safe.specs.Safe.{Safe}

@@ -1,5 +1,5 @@
 mod Lists
 mod Steps
-mod Marking
+pub mod Marking
 mod Stays
 mod Kept

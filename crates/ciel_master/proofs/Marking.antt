@@ -4,7 +4,9 @@ use Rattle.std.proofs.Common.{map, nat_eq, slice_get, eqb-true, eq-eqb, refl, ap
 use Rattle.std.specs.List.{list_any}
 use mathlib.Core.Option.{some}
 use lib.ListN.{get_elem?}
-use Rattle.ciel_board.specs.Board.{Board}
+use Rattle.ciel_board.specs.Board.{Board, Order}
+use Rattle.ciel_board.specs.Sound.{MissFits}
+use Rattle.ciel_bring.specs.Brings.{worker_of}
 use Rattle.ciel_journal.specs.Job.{Each, In}
 use Rattle.ciel_journal.proofs.Booked.{each_more}
 use Rattle.ciel_journal.proofs.Members.{bool_cases, each_of, in_any}
@@ -12,8 +14,10 @@ use Rattle.ciel_store.specs.Seen.{SeatSeen, ShelvesSeen, is_lost, marked}
 use Rattle.ciel_store.specs.Words.{AllIn, Has}
 use Rattle.ciel_store.specs.declared.loss.Loss.{Loss}
 use Rattle.ciel_task.specs.Performs.{HasSeen}
-use Rattle.ciel_task.specs.Views.{P}
+use Rattle.ciel_task.specs.Views.{P, how_view}
+use Rattle.ciel_task.specs.declared.block.Held.{Held}
 use Rattle.ciel_task.specs.declared.report.End.{End}
+use Rattle.ciel_master.specs.Fitting.{IsMissedOf}
 use Rattle.ciel_master.specs.Marked.{HasShelf, IsCarriedOut, IsPlanned, Marked, WasMarked, worker_lost}
 
 -- ---- two ways to say that it is in a list
@@ -111,6 +115,28 @@ module _ (losses : List (ℕ × ℕ)) (lost : List ℕ) (shelves : ShelvesSeen) 
         subst (λ xs. IsPlanned xs loss) (sym plan) (each_of (IsPlanned losses) loss marker.losses i m.planned),
         subst (λ ws. list_any (nat_eq loss.worker) ws ≡ true) (m.workers ∙ sym gone) (member_lost marker.losses loss i),
       )
+
+-- what is missing is so: its loss is one of the plan's, and was carried out
+pub miss_fits : (digest : List ℕ → List ℕ) (b : Board P) (x : Order P) (copied : List Held) (end : End) → IsCarriedOut b end
+    → IsMissedOf digest b x end → MissFits digest worker_of b x (how_view copied end)
+miss_fits digest b x copied (End.Made ms) k m = tt
+miss_fits digest b x copied (End.Saved p n refs holds mark) k m = tt
+miss_fits digest b x copied (End.Shown s) k m = tt
+miss_fits digest b x copied (End.Missing name loss seen) k m =
+    let known = pick m.known in
+    record {
+      place = m.place;
+      given = m.given;
+      planned = (known.0.0, subst (λ w. slice_get b.plan.losses loss.number ≡ Some (known.0.0, w)) (sym m.worker) known.0.1);
+      lost = subst (λ w. list_any (nat_eq w) b.table.gone ≡ true) (sym m.worker) known.1;
+    }
+  where
+    Known : Type 0
+    Known = IsPlanned b.plan.losses loss × (list_any (nat_eq loss.worker) b.table.gone ≡ true)
+
+    pick : HasSeen seen loss ⊎ Known → Known
+    pick (inl s) = k s
+    pick (inr q) = q
 
 -- at the beginning
 pub open_marked : (losses : List (ℕ × ℕ)) (lost : List ℕ) (shelves : ShelvesSeen) (marker : SeatSeen) (workers : ℕ) → marker.of ≡ shelves.of

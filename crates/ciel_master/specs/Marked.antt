@@ -60,25 +60,3 @@ unseen (End.Made ms) = End.Made ms
 unseen (End.Saved p k refs holds mark) = End.Saved p k refs holds mark
 unseen (End.Shown s) = End.Shown s
 unseen (End.Missing name loss seen) = End.Missing name loss None
-
--- the report fits its order, unless something was missing
-abbrev pub FitsUnlessMissing : (List ℕ → List ℕ) → ShelvesSeen → Script → Board P → b.Order P → List Named → List Held → End → Type 0
-FitsUnlessMissing digest shelves sc b x spawned copied end = (IsMissing end → ⊥) → FitsSafely digest shelves sc b x spawned (how_view copied end)
-
--- the report is of this order, and its end of the task's kind
-pub record IsOf (x : b.OrderOut) (report : Report) : Type 0 where
-  pub worker : report.worker ≡ x.worker
-  pub task : report.task ≡ x.task
-  pub kind : OfTask x.task report.end
-
--- the place that the order gives for the name, or for its stack, is at the loss's worker; and the eye had seen that loss, or it is one of
--- the plan that was carried out
-pub record MissedOf (digest : List ℕ → List ℕ) (c : Board P) (x : b.Order P) (name : Digest) (loss : Loss) (seen : Option SeatSeen) : Type 0 where
-  pub place : P
-  pub given : (spot_of name x.inputs ≡ Some (shelf place)) ⊎ ((x.stack ≡ Some place) × (name ≡ own_name digest worker_of c.main x.out.task))
-  pub worker : place.worker ≡ loss.worker
-  pub known : HasSeen seen loss ⊎ (IsPlanned c.plan.losses loss × (list_any (nat_eq loss.worker) c.table.gone ≡ true))
-
-abbrev pub IsMissedOf : (List ℕ → List ℕ) → Board P → b.Order P → End → Type 0
-IsMissedOf digest c x (End.Missing name loss seen) = MissedOf digest c x name loss seen
-IsMissedOf digest c x _ = Unit {0}

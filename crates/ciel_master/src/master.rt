@@ -8,9 +8,10 @@ ghost use Rattle.sky_base.specs.Val.{no_pairs, no_vals, same_text};
 ghost use Rattle.sky_base.specs.declared.object.Desc1.{Desc1};
 ghost use Rattle.sky_base.specs.declared.object.TaskId.{TaskId};
 ghost use Rattle.ciel_board.specs.Board as b;
-ghost use Rattle.ciel_board.specs.Board.{board_graph, find_order, idle_of, workers_out};
+ghost use Rattle.ciel_board.specs.Board.{FollowerOf, board_graph, find_order, idle_of, workers_out};
 ghost use Rattle.ciel_board.specs.Moves.{accepted, empty, lost_at, opened, order_for, started};
 ghost use Rattle.ciel_board.specs.Reports.{IsNamed};
+ghost use Rattle.ciel_board.specs.Sound.{MissFits};
 ghost use Rattle.ciel_journal.specs.Graph.{Circle, Runnable};
 ghost use Rattle.ciel_journal.specs.Job.{Each, In};
 ghost use Rattle.ciel_journal.specs.Turns.{FirstDue, NothingDue, is_idle};
@@ -19,7 +20,8 @@ ghost use Rattle.ciel_ready.specs.Seen.{CanRunAt, CanRunMany};
 ghost use Rattle.ciel_task.specs.Views.{P, order_view, report_end};
 ghost use Rattle.ciel_safe.specs.Laws.{OrderIsGood};
 ghost use Rattle.ciel_master.specs.Orders.{ready_of};
-ghost use Rattle.ciel_master.specs.Marked.{FitsUnlessMissing, IsCarriedOut, IsMissedOf, IsOf, SeenOf};
+ghost use Rattle.ciel_master.specs.Fitting.{FitsOneOut, FitsUnlessMissing, IsMissedOf};
+ghost use Rattle.ciel_master.specs.Marked.{IsCarriedOut};
 ghost use Rattle.ciel_master.specs.Refusals.{FirstStops, UnlessMemory, refused_at};
 ghost use Rattle.ciel_master.specs.Seen.{MasterSeen, most_descriptions, plan_view};
 ghost use Rattle.ciel_master.specs.Taking.{LearnedFor, now_of};
@@ -49,7 +51,7 @@ use ciel_task::shop::Shop;
 use ciel_want::want::circle;
 use sky_base::name::Name;
 use sky_base::names::Names;
-use sky_base::object::{Named, TaskId};
+use sky_base::object::{Desc1, Named, TaskId};
 use sky_base::text::Memory;
 use std::alloc::Global;
 use std::marker::Model;
@@ -202,6 +204,19 @@ impl<K: Drop, N: Namer + Drop> Master<K, N> {
         Ok(task)
     }
 
+    /// The executor's task that follows that of an order, by its first output: the first that is reached and isn't out, and that reads
+    /// one thing, once, which the order's task makes. `None` where none does. It can begin on that while the order is out.
+    ///
+    /// Answers `Memory` for want of memory.
+    pub fn follower(&mut self, order: &Order) -> Result<Option<Desc1>, Memory>
+        requires going { self.old.board.stopped ≡ false }
+        ensures follower { IfOk result (λ o. FollowerOf self.old.board order.now.task o) }
+        ensures same { self.new ≡ self.old }
+    {
+        let follower = self.ready.follower(&order.task)?;
+        Ok(follower)
+    }
+
     /// A circle of waits, where nothing is out. `None` exactly where a task can run.
     ///
     /// Answers `Memory` for want of memory.
@@ -259,26 +274,24 @@ impl<K: Drop, N: Namer + Drop> Master<K, N> {
         Ok(order)
     }
 
-    /// Takes what a worker reports of an order that is out: learns what it spawned, places what it made, and writes it into the
-    /// journal. Where something was missing the order is closed, and nothing else changes; the loss with which it is missing, where the
-    /// report's eye has seen it, is one that was carried out.
+    /// Takes what a worker reports of an order that is out, which it fits: learns what it spawned, places what it made, and writes it
+    /// into the journal. Where something was missing the order is closed, and nothing else changes; the loss with which it is missing is
+    /// one of the plan's that was carried out.
     ///
     /// Answers what refuses the first description that isn't learned, and `Memory` for want of memory. The journal is then as it
     /// was, and the run has stopped. After a refusal of learning what comes before that description is learned and nothing is placed;
     /// after `Memory` a part of the report may be learned and placed. Of a master that has stopped only the journal may be asked.
     pub fn accept(&mut self, report: Report) -> Result<Now, Stop>
         requires going { self.old.board.stopped ≡ false }
-        requires fits { (x : b.Order P) × (find_order report.number self.old.board.orders ≡ Some x.out)
-            × FitsUnlessMissing (N.digest self.old.namer) self.old.shelves self.old.script self.old.board x report.spawned.items report.copied.items report.end }
-        requires of { (x : b.Order P) × (find_order report.number self.old.board.orders ≡ Some x.out) × IsOf x.out report
-            × IsMissedOf (N.digest self.old.namer) self.old.board x report.end }
-        requires seen { SeenOf self.old.shelves report.end }
+        requires fits { FitsOneOut (N.digest self.old.namer) self.old.shelves self.old.script self.old.board report }
         ensures accepted { OnOk result ((x : b.OrderOut) × (find_order report.number self.old.board.orders ≡ Some x)
             × (self.new ≡ record self.old {
               board = accepted (N.digest self.old.namer) self.old.board x report.spawned.items (report_end report);
             })) }
         ensures learned { OnOk result (LearnedFor (N.digest self.old.namer) report.end report.spawned.items self.old.board.table) }
         ensures carried { IsCarriedOut self.old.board report.end }
+        ensures missing { (x : b.Order P) → IsMissedOf (N.digest self.old.namer) self.old.board x report.end
+            → MissFits (N.digest self.old.namer) worker_of self.old.board x (report_end report) }
         ensures now { IfOk result (λ now. now ≡ now_of report.end) }
         ensures journal { OnErr result (self.new.board.journal ≡ self.old.board.journal) }
         ensures stopped { OnErr result (self.new.board.stopped ≡ true) }

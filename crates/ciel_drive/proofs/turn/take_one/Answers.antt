@@ -46,14 +46,6 @@ accept-requires-clause-fits g c =
     let there = some_of (find_order c.in-Ok.report.number c.args.master.now.board.orders) c.is_out.ensures c.if-not-is_out.false in
     names.fits_now k c.in-Ok.report then report there
 
-pub accept-requires-clause-seen : goal.accept-requires-clause-seen
-accept-requires-clause-seen g c =
-    let k = c.requires.working in
-    let report = c.in-Ok.ensures.report in
-    let then = g.C.Crew.out c.next.new.self in
-    let there = some_of (find_order c.in-Ok.report.number c.args.master.now.board.orders) c.is_out.ensures c.if-not-is_out.false in
-    names.seen_here k c.in-Ok.report then report there
-
 pub returns-in-Ok-Goes-clause-model : goal.returns-in-Ok-Goes-clause-model
 returns-in-Ok-Goes-clause-model g c k =
     let report = c.in-Ok.ensures.report in
@@ -157,14 +149,6 @@ pub returns-in-Err-TooMany-clause-last : goal.returns-in-Err-TooMany-clause-last
 returns-in-Err-TooMany-clause-last g c =
     λ _. tells_none c.args.master.now.board.journal c.accept.new.self.board.journal (g.C.Crew.told c.args.crew.now)
     (g.C.Crew.told c.next.new.self) c.in-Err-TooMany.ensures.journal c.in-Ok.ensures.told
-
-pub accept-requires-clause-of : goal.accept-requires-clause-of
-accept-requires-clause-of g c =
-    let k = c.requires.working in
-    let report = c.in-Ok.ensures.report in
-    let then = g.C.Crew.out c.next.new.self in
-    let there = some_of (find_order c.in-Ok.report.number c.args.master.now.board.orders) c.is_out.ensures c.if-not-is_out.false in
-    names.of_now k c.in-Ok.report then report there
 
 pub returns-then-not-is_out-clause-does : goal.returns-then-not-is_out-clause-does
 returns-then-not-is_out-clause-does g c =

@@ -3,7 +3,10 @@ use Rattle.std.specs.Arc.{arc_value}
 use Rattle.ciel_master.specs.Seen.{board_of}
 use Rattle.ciel_master.proofs.Kept.{carried_now}
 use Rattle.ciel_board.specs.Board.{Order, find_order}
-use Rattle.ciel_master.specs.Marked.{FitsUnlessMissing, unseen}
+use Rattle.ciel_master.specs.Fitting.{FitsOneOut, FitsUnlessMissing, IsMissedOf}
+use Rattle.ciel_master.specs.Marked.{SeenOf, unseen}
+use Rattle.ciel_master.proofs.Marking.{miss_fits}
+use Rattle.ciel_store.specs.Seen.{ShelvesSeen}
 use Rattle.ciel_master.specs.Seen.{MasterSeen}
 use Rattle.ciel_master.proofs.Kept.{unseen_fits}
 use Rattle.ciel_task.specs.Views.{P}
@@ -28,6 +31,22 @@ returns-clause-carried g c =
     (vec_capacity i.lost) i.marker i.ready c.self.invariant c.requires.going c.confirm-report.new.marker c.confirm-report.ensures.same
     c.args.report.end c.confirm-report.ensures.marked
 
+-- what is asked of the report, of the master's parts
+fits_of : {N : Type 0} (dig : N → List ℕ → List ℕ) (n : N) (sh : ShelvesSeen) (sc : Script) (b : Board P) (m : MasterSeen N)
+    → record { namer = n; shelves = sh; script = sc; board = b } ≡ m → (r : Report)
+    → FitsOneOut (dig m.namer) m.shelves m.script m.board r → FitsOneOut (dig n) sh sc b r
+fits_of dig n sh sc b m e r fits =
+    subst (λ (z : MasterSeen _). FitsOneOut (dig z.namer) z.shelves z.script z.board r) (sym e) fits
+
+pub confirm-requires-clause-seen : goal.confirm-requires-clause-seen
+confirm-requires-clause-seen g c =
+    let i = c.self.inside in
+    let n = (arc_value i.shop).namer in
+    let sh = (arc_value i.shop).shelves in
+    let sc = (arc_value i.shop).job.script in
+    let b = board_of i.plan (arc_value i.shop).job.script.keys i.main i.ready.table i.orders.items i.starts i.closes i.journal.items i.stopped in
+    (fits_of g.N.Namer.digest n sh sc b c.args.self.now c.self.view_is c.args.report c.requires.fits).2.seen
+
 pub take-requires-clause-fits : goal.take-requires-clause-fits
 take-requires-clause-fits g c =
     let i = c.self.inside in
@@ -36,9 +55,17 @@ take-requires-clause-fits g c =
     let sc = (arc_value i.shop).job.script in
     let b = board_of i.plan (arc_value i.shop).job.script.keys i.main i.ready.table i.orders.items i.starts i.closes i.journal.items i.stopped in
     let r = c.args.report in
-    let fits = subst (λ (z : MasterSeen _). (x : Order P) × (find_order r.number z.board.orders ≡ Some x.out)
-    × FitsUnlessMissing (g.N.Namer.digest z.namer) z.shelves z.script z.board x r.spawned.items r.copied.items r.end) (sym c.self.view_is)
-    c.requires.fits in
+    let fits = fits_of g.N.Namer.digest n sh sc b c.args.self.now c.self.view_is r c.requires.fits in
     subst (λ (z : Report). (x : Order P) × (find_order z.number b.orders ≡ Some x.out)
     × FitsUnlessMissing (g.N.Namer.digest n) sh sc b x z.spawned.items z.copied.items z.end) (sym c.confirm-report.ensures.rest)
-    (fits.0, fits.1, unseen_fits (g.N.Namer.digest n) sh sc b fits.0 r.spawned.items r.copied.items r.end fits.2)
+    (fits.0, fits.1, unseen_fits (g.N.Namer.digest n) sh sc b fits.0 r.spawned.items r.copied.items r.end fits.2.whole)
+
+pub returns-in_err-now-clause-missing : goal.returns-in_err-now-clause-missing
+returns-in_err-now-clause-missing g c x =
+    miss_fits (g.N.Namer.digest c.args.self.now.namer) c.args.self.now.board x c.args.report.copied.items c.args.report.end
+    (returns-in_err-now-clause-carried g c)
+
+pub returns-clause-missing : goal.returns-clause-missing
+returns-clause-missing g c x =
+    miss_fits (g.N.Namer.digest c.args.self.now.namer) c.args.self.now.board x c.args.report.copied.items c.args.report.end
+    (returns-clause-carried g c)

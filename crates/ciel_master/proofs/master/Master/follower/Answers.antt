@@ -1,0 +1,35 @@
+use Rattle.std.proofs.Common.{sym, subst, vec_capacity}
+use Rattle.std.specs.Arc.{arc_value}
+use Rattle.ciel_ready.specs.Seen.{ReadySeen}
+use Rattle.ciel_task.specs.Views.{P}
+use Rattle.ciel_want.specs.Followers.{FollowerIs}
+use Rattle.ciel_master.specs.Seen.{MasterStands, board_of}
+use Rattle.ciel_master.proofs.Kept.{ready_is, ready_whole}
+use Rattle.ciel_master.proofs.master.Master.follower.Goals as goal
+
+pub follower-requires : goal.follower-requires
+follower-requires g c =
+    let i = c.self.inside in
+    let n = (arc_value i.shop).namer in
+    let b = board_of i.plan (arc_value i.shop).job.script.keys i.main i.ready.table i.orders.items i.starts i.closes i.journal.items i.stopped in
+    record {
+      whole = ready_whole g.N.Namer.digest c.args.self.now n (arc_value i.shop).shelves (arc_value i.shop).job.script b c.self.view_is i.lost.items
+          (vec_capacity i.journal) (vec_capacity i.lost) i.marker i.ready c.self.invariant c.requires.going;
+    }
+
+pub invariant_of-self : goal.invariant_of-self
+invariant_of-self g c =
+    let i = c.self.inside in
+    subst (λ (r : ReadySeen P). MasterStands (g.N.Namer.digest (arc_value i.shop).namer)
+    (board_of i.plan (arc_value i.shop).job.script.keys i.main r.table i.orders.items i.starts i.closes i.journal.items i.stopped)
+    i.lost.items (vec_capacity i.journal) (vec_capacity i.lost) (arc_value i.shop).shelves (arc_value i.shop).job.script i.marker r)
+    (sym c.follower.ensures.same) c.self.invariant
+
+pub returns-clause-follower : goal.returns-clause-follower
+returns-clause-follower g c =
+    let i = c.self.inside in
+    let n = (arc_value i.shop).namer in
+    let b = board_of i.plan (arc_value i.shop).job.script.keys i.main i.ready.table i.orders.items i.starts i.closes i.journal.items i.stopped in
+    subst (λ (r : ReadySeen P). FollowerIs r.main r.table r.out c.args.order.now.task c.in_ok-follower.follower)
+    (ready_is g.N.Namer.digest c.args.self.now n (arc_value i.shop).shelves (arc_value i.shop).job.script b c.self.view_is i.lost.items
+    (vec_capacity i.journal) (vec_capacity i.lost) i.marker i.ready c.self.invariant c.requires.going) c.in_ok-follower.ensures.follower
