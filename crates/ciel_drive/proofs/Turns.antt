@@ -121,7 +121,7 @@ module _ {K N : Type 0} {gives : K → Gives} {digest : N → List ℕ → List 
           orderly = k.orderly;
           history = k.history ++ begun.event ∷ [];
           runs = begun.runs;
-          orders = subst (OrdersOf S (k.history ++ begun.event ∷ [])) 
+          orders = subst (OrdersOf S (k.history ++ begun.event ∷ []))
               (sym (slots_sent out order w (order_for worker_of m.board x w) (ap (λ z. z.out.worker) view) view sent)) begun.orders;
           draws = is_last;
         }))
