@@ -1,8 +1,8 @@
 mod Slots
 mod Telling
+mod Names
 mod Turns
 mod Reports
 mod Over
 mod Modest
-mod Names
 mod Moving

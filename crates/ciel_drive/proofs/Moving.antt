@@ -1,5 +1,5 @@
 -- Calls after calls.
-use Rattle.std.proofs.Common.{◌≡◌, ℕ, List, [], ◌∷◌, ◌++◌, Option, Some, None, refl, sym, ap, subst, ◌∙◌}
+use Rattle.std.proofs.Common.{◌≡◌, ℕ, List, [], ◌∷◌, ◌++◌, Some, None, refl, sym, ap, subst}
 use Rattle.ciel_board.specs.Board.{Board, OrderOut, find_order}
 use Rattle.ciel_board.specs.Moves.{accepted, lost_at, order_for, started}
 use Rattle.ciel_crew.specs.Calls.{Call, Went, given, sent}

@@ -1,5 +1,5 @@
 -- What holds between two turns, whatever was reported before, is kept by each turn.
-use Rattle.std.proofs.Common.{◌≡◌, ℕ, ◌≤◌, ◌<◌, List, [], ◌∷◌, ◌++◌, length, map, Bool, true, false, Option, Some, None, is_some, ◌⊎◌, inl, inr}
+use Rattle.std.proofs.Common.{◌≡◌, ℕ, ◌<◌, List, [], ◌∷◌, ◌++◌, length, map, Bool, true, false, Option, Some, None, is_some, ◌⊎◌, inl, inr}
 use Rattle.std.proofs.Common.{refl, ap, sym, ◌∙◌, subst, arith, slice_get, slice_set, nat_eq}
 use Rattle.std.specs.List.{list_any}
 use Rattle.sky_base.specs.JobView.{job_view}
@@ -16,27 +16,23 @@ use Rattle.ciel_board.specs.Moves.{accepted, is_root, lost_at, order_for, starte
 use Rattle.ciel_board.specs.Reports as rep
 use Rattle.ciel_board.specs.Reports.{AllLearned}
 use Rattle.ciel_board.specs.Sound.{MissingFits, own_name}
-use Rattle.ciel_board.proofs.Driving.{got_in}
-use Rattle.ciel_board.proofs.Searching.{picked_has}
 use Rattle.ciel_crew.specs.Crews.{Answers, FadesEach, IsOut as IsOutOf, Reports, Takes, TellsTask, order_at}
 use Rattle.ciel_ends.specs.Ends.{worker_of}
+use Rattle.ciel_ends.proofs.Meaning.{missed_fits}
 use Rattle.ciel_journal.specs.Entries.{Entry}
 use Rattle.ciel_journal.specs.Graph.{Runnable}
 use Rattle.ciel_journal.specs.Job.{Digest, In}
 use Rattle.ciel_journal.specs.Turns.{FirstDue}
 use Rattle.ciel_journal.proofs.Near.{in_right}
 use Rattle.ciel_master.specs.Fitting.{FitsOneOut, FitsOrder, IsMissedOf}
-use Rattle.ciel_master.specs.Marked.{IsCarriedOut}
-use Rattle.ciel_master.proofs.Marking.{miss_fits}
-use Rattle.ciel_master.specs.Orders.{ready_of}
+use Rattle.ciel_master.specs.Marked.{IsCarriedOut, SeenOf}
 use Rattle.ciel_master.specs.Seen.{MasterSeen}
 use Rattle.ciel_master.specs.Taking.{LearnedFor, entry_for, now_of}
 use Rattle.ciel_master.specs.declared.stop.Now.{Now}
-use Rattle.ciel_orders.specs.Laws.{GrowsTo, RowsStay}
-use Rattle.ciel_ready.specs.Seen.{CanRunAt}
-use Rattle.ciel_store.specs.Seen.{SeatSeen}
+use Rattle.ciel_store.specs.Seen.{SeatSeen, ShelvesSeen}
 use Rattle.ciel_store.specs.declared.loss.Loss.{Loss}
 use Rattle.ciel_table.specs.Seen.{TableSeen, last_wait}
+use Rattle.ciel_task.specs.Places as places
 use Rattle.ciel_task.specs.Performs.{HasRows, IsMissing, Missed, OfTask}
 use Rattle.ciel_task.specs.Views.{P, copies_view, how_view, order_view, out_view, output_view, report_end}
 use Rattle.ciel_task.specs.declared.order.Order.{Order}
@@ -45,22 +41,52 @@ use Rattle.ciel_task.specs.declared.report.Report.{Report}
 use Rattle.ciel_task.specs.declared.shop.Shop.{Shop}
 use Rattle.ciel_turns.specs.Laws as laws
 use Rattle.ciel_turns.specs.Left.{Has, work}
+use Rattle.ciel_turns.proofs.Handing.{had_out}
 use Rattle.ciel_turns.proofs.Idling.{none_can_run, some_is_idle}
-use Rattle.ciel_want.specs.Waited.{tasks_in_order}
-use Rattle.ciel_safe.specs.Laws.{GoesStay, SafeOrders}
+use Rattle.ciel_safe.specs.Laws.{GoesStay, GrowsTo, RowsStay, SafeOrders}
 use Rattle.ciel_safe.specs.Safe.{GoesBy}
 use Rattle.std.specs.Option.{option_map}
 use Rattle.sky_base.specs.declared.object.Desc1.{Desc1}
 use Rattle.ciel_table.specs.declared.row.Row.{Row}
 use Rattle.ciel_safe.specs.Reports.{FitsSafely}
 use Rattle.ciel_safe.specs.Turns as names
-use Rattle.ciel_safe.specs.Turns.{AtWork, Turned}
-use Rattle.ciel_drive.specs.Kept.{left, most_waits, slots_of}
+use Rattle.ciel_safe.specs.Turns.{AtWork, Turned, most_waits}
+use Rattle.ciel_safe.proofs.Turning.{plan_same}
+use Rattle.ciel_drive.specs.Kept.{left, slots_of}
 use Rattle.ciel_drive.specs.Told.{ToldOn}
 use Rattle.ciel_drive.specs.Working.{IsSentOf, Working}
-use Rattle.ciel_drive.proofs.Reports.{journal_next, learned_cases, plan_same, quiet_for, same_order, seen_at}
-use Rattle.ciel_drive.proofs.Slots.{at_slots, below_slots, free_at, set_at, slots_at, slots_set}
-use Rattle.ciel_drive.proofs.Telling.{none_fades, tells_quiet, tells_start}
+use Rattle.ciel_drive.proofs.Slots.{at_slots, below_slots, free_at, set_at, slots_at, slots_sent, slots_set}
+use Rattle.ciel_drive.proofs.Telling.{IsQuiet, none_fades, tells_quiet, tells_start}
+
+-- ---- small things
+
+same_order : (x y : OrderOut) → Some x ≡ Some y → x ≡ y
+same_order x y e = cc
+
+pub none_of : (o : Option OrderOut) {t : Bool} → t ≡ is_some o → t ≡ false → o ≡ None
+none_of None e f = refl
+none_of (Some y) e f = let bad : true ≡ false = sym e ∙ f in cc
+
+pub some_of : (o : Option OrderOut) {t : Bool} → t ≡ is_some o → t ≡ true → (y : OrderOut) × (o ≡ Some y)
+some_of None e f = let bad : false ≡ true = sym e ∙ f in cc
+some_of (Some y) e f = (y, refl)
+
+-- ---- what the end's eye has seen
+
+seen_at : (shelves : ShelvesSeen) (w : ℕ) (sc : Script) (task : TaskId) (e : End) → places.EndAt shelves w sc task e → SeenOf shelves e
+seen_at shelves w sc task (End.Made ms) k = tt
+seen_at shelves w sc task (End.Saved p j refs holds mark) k = tt
+seen_at shelves w sc task (End.Shown shown) k = tt
+seen_at shelves w sc task (End.Missing name loss seen) k = k
+
+learned_cases : (digest : List ℕ → List ℕ) (ns : List Named) (t : TableSeen P) (e : End) → LearnedFor digest e ns t → (IsMissing e → ⊥)
+    → AllLearned digest ns t
+learned_cases digest ns t (End.Made ms) l none = l
+learned_cases digest ns t (End.Saved p j refs holds mark) l none = l
+learned_cases digest ns t (End.Shown shown) l none = l
+learned_cases digest ns t (End.Missing name loss seen) l none = absurd (none tt)
+
+-- ---- what a report leaves as it was
 
 main_same : (digest : List ℕ → List ℕ) (b : Board P) (x : OrderOut) (spawned : List Named) (e : rep.End P)
     → (accepted digest b x spawned e).main ≡ b.main
@@ -68,21 +94,24 @@ main_same digest b x spawned (rep.made ms cs) = refl
 main_same digest b x spawned (rep.saved q) = refl
 main_same digest b x spawned (rep.missing name loss) = refl
 
+journal_next : (digest : List ℕ → List ℕ) (b : Board P) (x : OrderOut) (spawned : List Named) (e : rep.End P)
+    → (accepted digest b x spawned e).journal ≡ b.journal ++ entry_for x.number e ∷ []
+journal_next digest b x spawned (rep.made ms cs) = refl
+journal_next digest b x spawned (rep.saved q) = refl
+journal_next digest b x spawned (rep.missing name loss) = refl
+
+quiet_for : (k : ℕ) (e : rep.End P) → IsQuiet (entry_for k e)
+quiet_for k (rep.made ms cs) = tt
+quiet_for k (rep.saved q) = tt
+quiet_for k (rep.missing name loss) = tt
+
+-- ---- what holds
+
 goes_desc : (main : Digest) (t : TableSeen P) (task : TaskId) (d : Option Desc1) → GoesBy t task d → d ≡ board.task_desc main t task
 goes_desc main t TaskId.Show None h = refl
 goes_desc main t TaskId.Show (Some d) h = absurd h
 goes_desc main t (TaskId.Of n) None h = absurd h
 goes_desc main t (TaskId.Of n) (Some d) h = sym (ap (option_map (λ (r : Row P). r.desc)) h.1 ∙ ap (λ z. Some z) h.2)
-
--- the laws of turns
-pub record Laws : Type 0 where
-  pub loss : names.LossTurns
-  pub start : names.StartTurns
-  pub out : names.HadIsOut
-  pub none : names.NoneIsOut
-  pub thrown : names.ThrownTurns
-  pub report : names.ReportTurns
-  pub missed : names.MissedTurns
 
 module _ {K N : Type 0} {gives : K → Gives} {digest : N → List ℕ → List ℕ} {shop_ : Shop K N} {unbroken : Bool} {m : MasterSeen N}
     {out : List (Option Order)} (k : Working gives digest shop_ unbroken m out) where
@@ -179,9 +208,7 @@ module _ {K N : Type 0} {gives : K → Gives} {digest : N → List ℕ → List 
     module _ {c : MasterSeen N} (new : c ≡ record m { board = started worker_of m.board x w }) {then : List (Option Order)}
         (sent : then ≡ slice_set out order.worker (Some order)) where
       slots_then : slots_of then ≡ slice_set (slots_of out) w (Some (order_for worker_of b x w))
-      slots_then =
-          ap slots_of sent ∙ (slots_set out order.worker (Some order)
-          ∙ (ap (λ n. slice_set (slots_of out) n (Some (order_view order))) worker_is ∙ ap (λ z. slice_set (slots_of out) w (Some z)) view))
+      slots_then = slots_sent out order w (order_for worker_of b x w) worker_is view sent
 
       pub start_kept : SafeOrders → {again : Shop K N} → again ≡ shop_ → {still : Bool} → still ≡ true → Working gives digest again still c then
       start_kept law {again} same {still} ok =
@@ -261,25 +288,25 @@ module _ {K N : Type 0} {gives : K → Gives} {digest : N → List ℕ → List 
   -- ---- a report
 
   module _ (r : Report) (then : List (Option Order)) (reports : Reports gives digest shop_ out then r) where
-    abbrev order : Order
+    abbrev pub order : Order
     order = reports.0
 
-    e : order_at out r.worker ≡ Some order
+    pub e : order_at out r.worker ≡ Some order
     e = reports.1
 
     came : then ≡ slice_set out r.worker None
     came = reports.2
 
-    a : Answers gives digest shop_ order r
+    pub a : Answers gives digest shop_ order r
     a = reports.3
 
-    has : Has (slots_of out) r.worker (order_view order)
+    pub has : Has (slots_of out) r.worker (order_view order)
     has = slots_at out r.worker order e
 
-    number : order.number ≡ r.number
+    pub number : order.number ≡ r.number
     number = sym a.performs.number
 
-    taken_slots : slots_of then ≡ slice_set (slots_of out) r.worker None
+    pub taken_slots : slots_of then ≡ slice_set (slots_of out) r.worker None
     taken_slots = ap slots_of came ∙ slots_set out r.worker None
 
     rows_then : (c : Board P) → GrowsTo b.table c.table → RowsStay → (u : ℕ) (o : Order) → order_at then u ≡ Some o → HasRows D c.table o
@@ -333,19 +360,19 @@ module _ {K N : Type 0} {gives : K → Gives} {digest : N → List ℕ → List 
 
     -- ---- taken
 
-    module _ (there : (y : OrderOut) × (find_order r.number b.orders ≡ Some y)) (had : names.HadIsOut) where
+    module _ (there : (y : OrderOut) × (find_order r.number b.orders ≡ Some y)) where
       out_is : (order_view order).out ≡ there.0
       out_is =
-          had D shop_.shelves J.script (length J.inputs) b (slots_of out) k.work r.worker (order_view order) there.0 has
+          had_out b (slots_of out) k.work.handed r.worker (order_view order) there.0 has
           (subst (λ n. find_order n b.orders ≡ Some there.0) (sym number) there.1)
 
-      found_is : find_order r.number b.orders ≡ Some (order_view order).out
+      pub found_is : find_order r.number b.orders ≡ Some (order_view order).out
       found_is = there.1 ∙ ap (λ z. Some z) (sym out_is)
 
-      found_own : find_order order.number b.orders ≡ Some (order_view order).out
+      pub found_own : find_order order.number b.orders ≡ Some (order_view order).out
       found_own = subst (λ n. find_order n b.orders ≡ Some (order_view order).out) (sym number) found_is
 
-      rows_now : HasRows D b.table order
+      pub rows_now : HasRows D b.table order
       rows_now = k.rows r.worker order e
 
       fits_safely : (IsMissing r.end → ⊥) → FitsSafely D shop_.shelves J.script b (order_view order) r.spawned.items (report_end r)
@@ -387,11 +414,12 @@ module _ {K N : Type 0} {gives : K → Gives} {digest : N → List ℕ → List 
           (subst (λ z. FitsOneOut D z m.script b r) (sym k.shelves)
           (subst (λ z. FitsOneOut D shop_.shelves z b r) (sym k.script) (order_view order, found_is, fits_order)))
 
-      missing_is : (name : Digest) (loss : Loss) (seen : Option SeatSeen) → r.end ≡ End.Missing name loss seen → IsCarriedOut b r.end
+      pub missing_is : (name : Digest) (loss : Loss) (seen : Option SeatSeen) → r.end ≡ End.Missing name loss seen → IsCarriedOut b r.end
           → MissingFits D worker_of b (order_view order) name loss.number
       missing_is name loss seen q carried =
-          miss_fits D b (order_view order) r.copied.items (End.Missing name loss seen) (subst (IsCarriedOut b) q carried)
-          (subst (IsMissedOf D b (order_view order)) q missed_of)
+          let miss = subst (Missed D order) q a.performs.missed in
+          let c = subst (IsCarriedOut b) q carried miss.seen in
+          missed_fits D b order (k.mains r.worker order e) name loss seen miss c.0.0 c.0.1 c.1
 
       -- ---- accepted
 
@@ -407,12 +435,12 @@ module _ {K N : Type 0} {gives : K → Gives} {digest : N → List ℕ → List 
         abbrev next : Board P
         next = accepted D b (order_view order).out r.spawned.items (report_end r)
 
-        new_is : m2 ≡ record m { board = next }
+        pub new_is : m2 ≡ record m { board = next }
         new_is =
             new ∙ ap (λ z. record m { board = accepted D b z r.spawned.items (report_end r) })
             (same_order took.0 (order_view order).out (sym took.1 ∙ found_is))
 
-        all : (IsMissing r.end → ⊥) → AllLearned D r.spawned.items b.table
+        pub all : (IsMissing r.end → ⊥) → AllLearned D r.spawned.items b.table
         all none = learned_cases D r.spawned.items b.table r.end law none
 
         pub taken_plan : m2.board.plan ≡ m.board.plan

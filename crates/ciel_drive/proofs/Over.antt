@@ -1,18 +1,15 @@
 -- How a run ends where no report is taken.
-use Rattle.std.proofs.Common.{◌≡◌, ℕ, ◌<◌, List, [], ◌∷◌, length, Option, Bool, true, false, nat_eq, refl, sym, ◌∙◌, subst, arith}
+use Rattle.std.proofs.Common.{◌≡◌, ℕ, ◌<◌, List, [], Option, Bool, true, nat_eq, sym, subst}
 use Rattle.std.specs.List.{list_any}
 use Rattle.sky_base.specs.JobView.{job_view}
 use Rattle.sky_base.specs.KitView.{Gives}
 use Rattle.sky_base.specs.See as s
-use Rattle.sky_base.specs.declared.object.TaskId.{TaskId}
-use Rattle.ciel_board.specs.Board.{Board, OrderOut, board_graph, idle_of}
-use Rattle.ciel_board.specs.Driving.{CanRun}
+use Rattle.ciel_board.specs.Board.{Board, board_graph}
 use Rattle.ciel_board.specs.Setting.{Setting}
 use Rattle.ciel_board.proofs.Searching.{circle_follows}
-use Rattle.ciel_ends.specs.Ends.{worker_of}
 use Rattle.ciel_ends.proofs.Meaning.{circle_never, shop_is}
 use Rattle.ciel_journal.specs.Entries.{Entry}
-use Rattle.ciel_journal.specs.Graph.{Circle, Runnable}
+use Rattle.ciel_journal.specs.Graph.{Circle}
 use Rattle.ciel_journal.specs.History.{Plan}
 use Rattle.ciel_journal.specs.Job.{Digest}
 use Rattle.ciel_journal.specs.Journals.{DrivenJournal}
@@ -24,9 +21,9 @@ use Rattle.ciel_task.specs.Views.{P}
 use Rattle.ciel_task.specs.declared.order.Order.{Order}
 use Rattle.ciel_task.specs.declared.shop.Shop.{Shop}
 use Rattle.ciel_turns.proofs.Ending.{lost_ends}
-use Rattle.ciel_turns.proofs.Idling.{none_can_run, some_is_idle}
 use Rattle.ciel_drive.specs.Ended.{Ended}
 use Rattle.ciel_drive.specs.Kept.{Kept}
+use Rattle.ciel_drive.specs.Working.{Working}
 
 module _ {K N : Type 0} {gives : K → Gives} {digest : N → List ℕ → List ℕ} {shop_ : Shop K N} {unbroken : Bool} {m : MasterSeen N}
     {out : List (Option Order)} {draw : ℕ} (k : Kept gives digest shop_ unbroken m out draw) where
@@ -46,7 +43,7 @@ module _ {K N : Type 0} {gives : K → Gives} {digest : N → List ℕ → List 
   b = m.board
 
   driven : DrivenJournal S.job b.plan b.journal
-  driven = (k.history, k.keeps.at_work.runs.driven, sym k.keeps.at_work.runs.follows.journal)
+  driven = (k.history, k.runs.driven, sym k.runs.follows.journal)
 
   -- for want of memory
   pub stops : Ended gives digest shop_ b.plan b.journal RunEnd.Memory
@@ -58,26 +55,11 @@ module _ {K N : Type 0} {gives : K → Gives} {digest : N → List ℕ → List 
       record { driven = driven; cause = lost_ends S (shop_is D J G k.orderly) k.history b k.keeps.at_work.runs all }
 
   -- where tasks wait for each other
-  pub comes_round : b.orders ≡ [] → (names : List Digest) → Circle (board_graph b) names
+  pub comes_round : Working gives digest shop_ unbroken m out → b.orders ≡ [] → (names : List Digest) → Circle (board_graph b) names
       → Ended gives digest shop_ b.plan b.journal (RunEnd.Endless names)
-  comes_round none names circle =
-      let at = k.keeps.at_work in
-      let c = (circle_follows S (shop_is D J G k.orderly) k.history b at.sound at.runs.follows none names circle).0 in
+  comes_round at none names circle =
+      let c = (circle_follows S (shop_is D J G k.orderly) k.history b at.work.safe.sound k.runs.follows none names circle).0 in
       record { driven = driven; cause = (c, circle_never D J G k.orderly b.plan b.journal names c) }
-
-  -- there is a circle where none can run
-  pub none_runs : CanRun b [] → (task : TaskId) × Runnable (board_graph b) task → ⊥
-  none_runs none x = none_can_run D worker_of b k.keeps.at_work.sound none x.0 x.1
-
-  -- where no worker is idle, and one isn't lost, something is out
-  pub some_busy : ((w : ℕ) × (w < b.plan.workers) × (list_any (nat_eq w) b.table.gone ≡ false)) → {idle : List ℕ} → idle ≡ idle_of b → idle ≡ []
-      → 0 < length b.orders
-  some_busy here is e = go b.orders refl
-    where
-      go : (os : List OrderOut) → b.orders ≡ os → 0 < length os
-      go [] none =
-          absurd (some_is_idle b none here.0 here.1 (λ t. let bad : true ≡ false = sym t ∙ here.2 in cc) (sym is ∙ e))
-      go (y ∷ ys) q = omega arith
 
 -- an end later in the run is one of the run
 pub ended_on : {K N : Type 0} (gives : K → Gives) (digest : N → List ℕ → List ℕ) {shop shop_ : Shop K N} {p q : Plan} (journal : List Entry)

@@ -1,5 +1,5 @@
 -- The orders that workers have, and the slots that the turns see.
-use Rattle.std.proofs.Common.{◌≡◌, ℕ, zero, suc, ◌<◌, List, [], ◌∷◌, length, Option, Some, None, ◌⊎◌, inl, inr, refl, ap, arith, slice_get}
+use Rattle.std.proofs.Common.{◌≡◌, ℕ, zero, suc, ◌<◌, List, [], ◌∷◌, length, Option, Some, None, ◌⊎◌, inl, inr, refl, ap, ◌∙◌, arith, slice_get}
 use Rattle.std.proofs.Common.{slice_index_or, slice_set}
 use Rattle.std.specs.Option.{option_map}
 use Rattle.ciel_board.specs.Board as board
@@ -37,6 +37,13 @@ pub slots_set : (out : List (Option Order)) (w : ℕ) (o : Option Order) → slo
 slots_set [] w o = refl
 slots_set (x ∷ xs) zero o = refl
 slots_set (x ∷ xs) (suc w) o = ap (λ z. option_map order_view x ∷ z) (slots_set xs w o)
+
+-- with an order more, at its worker
+pub slots_sent : (out : List (Option Order)) (order : Order) (w : ℕ) (x : board.Order P) → order.worker ≡ w → order_view order ≡ x
+    → {then : List (Option Order)} → then ≡ slice_set out order.worker (Some order) → slots_of then ≡ slice_set (slots_of out) w (Some x)
+slots_sent out order w x at view sent =
+    ap slots_of sent ∙ (slots_set out order.worker (Some order)
+    ∙ (ap (λ n. slice_set (slots_of out) n (Some (order_view order))) at ∙ ap (λ z. slice_set (slots_of out) w (Some z)) view))
 
 pub set_at : (out : List (Option Order)) (w u : ℕ) (o : Option Order) (order : Order) → order_at (slice_set out w o) u ≡ Some order
     → ((u ≡ w) × (o ≡ Some order)) ⊎ (order_at out u ≡ Some order)

@@ -1,5 +1,5 @@
 -- What the calls of a crew make of a master's state in a run.
-use Rattle.std.specs.Prelude.{◌≡◌, ℕ, List, [], ◌∷◌, ◌++◌, Some, None}
+use Rattle.std.specs.Prelude.{◌≡◌, ℕ, List, [], ◌∷◌, Some, None}
 use Rattle.sky_base.specs.declared.object.TaskId.{TaskId}
 use Rattle.ciel_board.specs.Board.{Board, OrderOut, find_order}
 use Rattle.ciel_board.specs.Moves.{accepted, lost_at, order_for, started}

@@ -24,8 +24,7 @@ use ciel_crew::crew::Crew;
 use ciel_master::master::Master;
 use ciel_master::stop::{Now, RunEnd, Stop};
 use ciel_name::name::Namer;
-use ciel_orders::{orders_are_sound, places_stay, rows_stay};
-use ciel_safe::{orders_are_safe, tasks_stay, turns_come_to_an_end};
+use ciel_safe::{orders_are_safe, rows_stay, tasks_stay, turns_come_to_an_end};
 use ciel_task::order::Order;
 use sky_base::kit::Kit;
 use sky_base::object::Desc1;
@@ -47,7 +46,6 @@ fn lose_one<K: Kit + Drop, N: Namer + Drop, C: Crew<K = K, N = N>>(
     ensures told { ToldOn master.old.board.journal master.new.board.journal (C.told crew.now) (C.told crew.now) }
     ensures does { Does (N.digest (C.shop crew.now).namer) C.goes (C.record_of crew.now) master.old.board (C.record_of crew.now) master.new.board }
 {
-    places_stay();
     rows_stay();
     turns_come_to_an_end();
     tasks_stay();
@@ -149,8 +147,6 @@ fn start_one<K: Kit + Drop, N: Namer + Drop, C: Crew<K = K, N = N>>(
     ensures memory { IfErr result (λ e. e ≡ End.Memory) }
     ensures end { IfErr result (λ e. Kept K.gives N.digest (C.shop crew.old) (C.is_sound crew.old) master.old (C.out crew.old) state.old → Ended K.gives N.digest (C.shop crew.old) master.old.board.plan master.new.board.journal e) }
 {
-    orders_are_sound();
-    rows_stay();
     orders_are_safe();
     turns_come_to_an_end();
     let place = pick(state, count);
@@ -189,7 +185,6 @@ fn take_one<K: Kit + Drop, N: Namer + Drop, C: Crew<K = K, N = N>>(
     ensures ends { IfErr result (λ e. e ≢ End.Memory → Ends (N.digest (C.shop crew.old).namer) C.goes (C.record_of crew.old) master.old.board
         (C.record_of crew.new) master.new.board.journal) }
 {
-    places_stay();
     rows_stay();
     turns_come_to_an_end();
     tasks_stay();

@@ -1,5 +1,5 @@
 -- The laws of turns, of the job of a shop.
-use Rattle.std.proofs.Common.{◌≡◌, ℕ, List, [], ◌∷◌, true, nat_eq, slice_get, Some, ◌⊎◌, inl, inr, ap, sym, ◌∙◌, subst}
+use Rattle.std.proofs.Common.{◌≡◌, ℕ, List, [], ◌∷◌, true, nat_eq, slice_get, Some, ◌⊎◌, inl, inr, ap, sym, subst}
 use Rattle.std.specs.List.{list_any}
 use Rattle.sky_base.specs.KitView.{Gives}
 use Rattle.sky_base.specs.Name.{digested}
@@ -21,7 +21,6 @@ use Rattle.ciel_reports.proofs.Filled.{real_exact}
 use Rattle.ciel_board.specs.Board.{shelf, spot_of}
 use Rattle.ciel_board.specs.Moves.{accepted}
 use Rattle.ciel_board.specs.Reports as rep
-use Rattle.ciel_board.specs.Reports.{AllLearned}
 use Rattle.ciel_board.specs.Setting.{IsMade, IsSetting, Setting}
 use Rattle.ciel_board.specs.Sound.{own_name}
 use Rattle.ciel_setting.proofs.Binds.{all_bind}
@@ -30,9 +29,25 @@ use Rattle.ciel_task.specs.Named.{frozen_mark, mark_of, name_of}
 use Rattle.ciel_task.specs.Performs.{AnswerIs, IsMissing, the_shop}
 use Rattle.ciel_task.specs.Shop as shop
 use Rattle.ciel_task.specs.Views.{P, copies_view, how_view, order_view, report_end}
-use Rattle.ciel_turns.specs.Laws.{EndWithin, Promised, RunEnded}
+use Rattle.ciel_turns.specs.Laws.{Promised, RunEnded}
 use Rattle.ciel_turns.proofs.Turning.{shown_ends}
 use Rattle.ciel_ends.specs.Ends.{CircleIsNever, MadeBy, MissedFits, ModestAlike, PerformsPromises, ShopIsSetting, ShownIsMeant, worker_of}
+
+pub missed_fits : (digest : List ℕ → List ℕ) → MissedFits digest
+missed_fits digest b order main name loss seen m count planned lost =
+    record {
+      place = m.place;
+      given = given m.given;
+      planned = (count, subst (λ w. slice_get b.plan.losses loss.number ≡ Some (count, w)) (sym m.worker) planned);
+      lost = subst (λ w. list_any (nat_eq w) b.table.gone ≡ true) (sym m.worker) lost;
+    }
+  where
+    given : ((spot_of name (order_view order).inputs ≡ Some (shelf m.place))
+        ⊎ ((order.saved ≡ Some m.place) × (name ≡ own_name digest worker_of order.main order.task)))
+        → (spot_of name (order_view order).inputs ≡ Some (shelf m.place))
+        ⊎ ((order.saved ≡ Some m.place) × (name ≡ own_name digest worker_of b.main order.task))
+    given (inl e) = inl e
+    given (inr e) = inr (e.0, subst (λ z. name ≡ own_name digest worker_of z order.task) main e.1)
 
 module _ (digest : List ℕ → List ℕ) (job : s.Job) (gives : Gives) where
   abbrev S : Setting s.Desc P shop.Block
@@ -52,37 +67,17 @@ module _ (digest : List ℕ → List ℕ) (job : s.Job) (gives : Gives) where
       }
 
   pub performs_promises : PerformsPromises digest job gives
-  performs_promises orderly most h b slots a w order has out rows r p none within =
+  performs_promises orderly h b going sound runs order out rows r p none =
       record {
-        fits = p.fits b a.sound out.found rows none;
-        within = within;
+        fits = p.fits b sound out.found rows none;
         says = λ o is apart. p.says o is apart;
-        lies = λ o found is. p.lies h b.plan o a.runs.follows.lawful found is;
+        lies = λ o found is. p.lies h b.plan o runs.follows.lawful found is;
       }
-
-  pub missed_fits : MissedFits digest job gives
-  missed_fits orderly most h b slots a w order has out rows name loss seen m count planned lost =
-      record {
-        place = m.place;
-        given = given m.given;
-        planned = (count, subst (λ w. slice_get b.plan.losses loss.number ≡ Some (count, w)) (sym m.worker) planned);
-        lost = subst (λ w. list_any (nat_eq w) b.table.gone ≡ true) (sym m.worker) lost;
-      }
-    where
-      main : order.main ≡ b.main
-      main = out.order.main ∙ sym a.runs.follows.stands.main
-
-      given : ((spot_of name (order_view order).inputs ≡ Some (shelf m.place))
-          ⊎ ((order.saved ≡ Some m.place) × (name ≡ own_name digest worker_of order.main order.task)))
-          → (spot_of name (order_view order).inputs ≡ Some (shelf m.place))
-          ⊎ ((order.saved ≡ Some m.place) × (name ≡ own_name digest worker_of b.main order.task))
-      given (inl e) = inl e
-      given (inr e) = inr (e.0, subst (λ z. name ≡ own_name digest worker_of z order.task) main e.1)
 
   -- ---- what is shown
 
   pub shown_meant : ShownIsMeant digest job gives
-  shown_meant orderly most h b slots a w order has out rows rest root r p shown is_shown all =
+  shown_meant orderly h b going sound runs order out rows rest root r p shown is_shown all =
       (means, ended)
     where
       is : IsSetting S
@@ -94,15 +89,14 @@ module _ (digest : List ℕ → List ℕ) (job : s.Job) (gives : Gives) where
       none : IsMissing r.end → ⊥
       none m = subst IsMissing is_shown m
 
-      promised : Promised S most h b (order_view order) r.spawned.items (rep.made [] (copies_view r.copied.items))
+      promised : Promised S h b (order_view order) r.spawned.items (rep.made [] (copies_view r.copied.items))
       promised =
-          subst (Promised S most h b (order_view order) r.spawned.items) end_is
-          (performs_promises orderly most h b slots a w order has out rows r p none (subst (EndWithin most) (sym end_is) tt))
+          subst (Promised S h b (order_view order) r.spawned.items) end_is (performs_promises orderly h b going sound runs order out rows r p none)
 
       ended : RunEnded S h (order_view order) r.spawned.items (report_end r) (accepted digest b (order_view order).out r.spawned.items (report_end r))
       ended =
           subst (λ e. RunEnded S h (order_view order) r.spawned.items e (accepted digest b (order_view order).out r.spawned.items e))
-          (sym end_is) (shown_ends S is most h b slots a w (order_view order) has out rest root r.spawned.items (copies_view r.copied.items)
+          (sym end_is) (shown_ends S is h b going sound runs (order_view order) out rest root r.spawned.items (copies_view r.copied.items)
           promised all)
 
       step : Step S.job (accepted digest b (order_view order).out r.spawned.items (report_end r)).plan (standing S.job h) ended.event
@@ -115,7 +109,7 @@ module _ (digest : List ℕ → List ℕ) (job : s.Job) (gives : Gives) where
 
       answer : AnswerIs digest job gives r.end
       answer =
-          p.answers h b.plan out.start a.runs.follows.lawful out.is_open out.order ended.event ended.tells
+          p.answers h b.plan out.start runs.follows.lawful out.is_open out.order ended.event ended.tells
           (subst (λ q. Allowed S.job q (standing S.job h) ended.event) same_plan step.allowed) step.apart
 
       means : s.Means job around (shown_view shown)

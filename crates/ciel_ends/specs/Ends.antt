@@ -1,5 +1,5 @@
 -- What the turns and the ends of a shop's run say of the job that its script means.
-use Rattle.std.specs.Prelude.{◌≡◌, ℕ, ◌≤◌, List, length, true, Option, Some, nat_eq, slice_get, ◌⊎◌}
+use Rattle.std.specs.Prelude.{◌≡◌, ℕ, ◌≤◌, List, length, false, true, Option, Some, nat_eq, slice_get, ◌⊎◌}
 use Rattle.std.specs.List.{list_any}
 use Rattle.sky_base.specs.KitView.{Gives}
 use Rattle.sky_base.specs.Needed as n
@@ -15,11 +15,11 @@ use Rattle.ciel_journal.specs.Job.{Digest, In}
 use Rattle.ciel_journal.specs.Journals.{CircleOf}
 use Rattle.ciel_json.specs.Around.{json_around}
 use Rattle.ciel_board.specs.Board.{Board}
-use Rattle.ciel_board.specs.Driving.{RestsNow}
+use Rattle.ciel_board.specs.Driving.{RestsNow, Runs}
 use Rattle.ciel_board.specs.Moves.{accepted}
 use Rattle.ciel_board.specs.Reports.{AllLearned}
 use Rattle.ciel_board.specs.Setting.{IsSetting}
-use Rattle.ciel_board.specs.Sound.{MissingFits}
+use Rattle.ciel_board.specs.Sound.{MissingFits, Sound}
 use Rattle.ciel_store.specs.Seen.{SeatSeen}
 use Rattle.ciel_store.specs.declared.loss.Loss.{Loss}
 use Rattle.ciel_task.specs.Named.{name_of}
@@ -28,14 +28,19 @@ use Rattle.ciel_task.specs.Views.{P, order_view, report_end}
 use Rattle.ciel_task.specs.declared.order.Order.{Order}
 use Rattle.ciel_task.specs.declared.report.End.{End}
 use Rattle.ciel_task.specs.declared.report.Report.{Report}
-use Rattle.ciel_turns.specs.AtWork.{AtWork}
 use Rattle.ciel_turns.specs.Ends.{Modest}
-use Rattle.ciel_turns.specs.Laws.{EndWithin, IsOut, Promised, RunEnded}
-use Rattle.ciel_turns.specs.Left.{Has, Slots}
+use Rattle.ciel_turns.specs.Laws.{IsOut, Promised, RunEnded}
 
 -- the worker of a place
 abbrev pub worker_of : P → ℕ
 worker_of p = p.worker
+
+-- something is missing, whatever was reported before, where the plan has that loss and its worker is lost
+abbrev pub MissedFits : (List ℕ → List ℕ) → Type 0
+MissedFits digest =
+    (b : Board P) (order : Order) → order.main ≡ b.main → (name : Digest) (loss : Loss) (seen : Option SeatSeen)
+    → IsMissed digest order name loss seen → (count : ℕ) → slice_get b.plan.losses loss.number ≡ Some (count, loss.worker)
+    → list_any (nat_eq loss.worker) b.table.gone ≡ true → MissingFits digest worker_of b (order_view order) name loss.number
 
 module _ (digest : List ℕ → List ℕ) (job : s.Job) (gives : Gives) where
   -- the functions of the job's script are orderly
@@ -64,25 +69,17 @@ module _ (digest : List ℕ → List ℕ) (job : s.Job) (gives : Gives) where
   abbrev pub ShopIsSetting : Type 0
   ShopIsSetting = IsOrderly → IsSetting (the_shop digest job gives)
 
-  -- said of each master of it that is at work, and of each order that a worker has and that is out
-  abbrev pub OfOrder : (ℕ → List (Event s.Desc) → Board P → Order → Type 0) → Type 0
+  -- said of each run of it, of each sound state after it that hasn't stopped, and of each order that is out and whose rows it has
+  abbrev pub OfOrder : (List (Event s.Desc) → Board P → Order → Type 0) → Type 0
   OfOrder Q =
-      IsOrderly → (most : ℕ) (h : List (Event s.Desc)) (b : Board P) (slots : Slots P) → AtWork (the_shop digest job gives) most h b slots
-      → (w : ℕ) (order : Order) → Has slots w (order_view order) → IsOut (the_shop digest job gives) h b (order_view order)
-      → HasRows digest b.table order → Q most h b order
+      IsOrderly → (h : List (Event s.Desc)) (b : Board P) → b.stopped ≡ false → Sound digest worker_of b → Runs (the_shop digest job gives) h b
+      → (order : Order) → IsOut (the_shop digest job gives) h b (order_view order) → HasRows digest b.table order → Q h b order
 
   -- what a worker promises of its report is what is asked of a report that comes to the master
   abbrev pub PerformsPromises : Type 0
   PerformsPromises =
-      OfOrder (λ most h b order. (r : Report) → Performs digest job gives order r → (IsMissing r.end → ⊥) → EndWithin most (report_end r)
-      → Promised (the_shop digest job gives) most h b (order_view order) r.spawned.items (report_end r))
-
-  -- something is missing, where the plan has that loss and its worker is lost
-  abbrev pub MissedFits : Type 0
-  MissedFits =
-      OfOrder (λ most h b order. (name : Digest) (loss : Loss) (seen : Option SeatSeen) → IsMissed digest order name loss seen
-      → (count : ℕ) → slice_get b.plan.losses loss.number ≡ Some (count, loss.worker) → list_any (nat_eq loss.worker) b.table.gone ≡ true
-      → MissingFits digest worker_of b (order_view order) name loss.number)
+      OfOrder (λ h b order. (r : Report) → Performs digest job gives order r → (IsMissing r.end → ⊥)
+      → Promised (the_shop digest job gives) h b (order_view order) r.spawned.items (report_end r))
 
   -- the run ends with this report
   abbrev pub EndsWith : List (Event s.Desc) → Board P → Order → Report → Type 0
@@ -93,7 +90,7 @@ module _ (digest : List ℕ → List ℕ) (job : s.Job) (gives : Gives) where
   -- with what is shown the run ends, and the job means it
   abbrev pub ShownIsMeant : Type 0
   ShownIsMeant =
-      OfOrder (λ most h b order. RestsNow b → order.task ≡ TaskId.Show → (r : Report) → Performs digest job gives order r
+      OfOrder (λ h b order. RestsNow b → order.task ≡ TaskId.Show → (r : Report) → Performs digest job gives order r
       → (shown : Shown) → r.end ≡ End.Shown shown → AllLearned digest r.spawned.items b.table
       → s.Means job (json_around gives) (shown_view shown) × EndsWith h b order r)
 

@@ -14,7 +14,7 @@ ghost use Rattle.ciel_ends.specs.Ends.{CircleIsNever, MissedFits, ModestAlike, P
 pub fn reports_are_promised()
     ensures setting { (digest : List ℕ → List ℕ) (job : s.Job) (gives : Gives) → ShopIsSetting digest job gives }
     ensures performs { (digest : List ℕ → List ℕ) (job : s.Job) (gives : Gives) → PerformsPromises digest job gives }
-    ensures missed { (digest : List ℕ → List ℕ) (job : s.Job) (gives : Gives) → MissedFits digest job gives }
+    ensures missed { (digest : List ℕ → List ℕ) → MissedFits digest }
 {}
 
 /// With what is shown the run ends, and the job means it. A circle means that the job has no answer. And a job that means an

@@ -28,7 +28,6 @@ use ciel_master::master::Master;
 use ciel_master::plan::RunPlan;
 use ciel_master::stop::RunEnd;
 use ciel_name::name::Namer;
-use ciel_orders::places_stay;
 use sky_base::job::Job;
 use sky_base::kit::Kit;
 use sky_base::text::Memory;
@@ -240,7 +239,6 @@ where
     ensures all { result.0.end ≢ RunEnd.Memory → length result.1.items ≡ length gates.items }
 {
     functions_are_orderly();
-    places_stay();
     let Opened { shop, master, eyes } = opened;
     match Channels::open(rt, alloc, shop, gates, eyes) {
         Ok(crew) => run_over(master, crew, seed),
@@ -275,7 +273,6 @@ where
     ensures all { result.0.end ≢ RunEnd.Memory → length result.1.items ≡ length gates.items }
 {
     functions_are_orderly();
-    places_stay();
     let Opened { shop, master, eyes } = opened;
     match Inline::open(rt, alloc, shop, gates, eyes) {
         Ok(crew) => run_over(master, crew, seed),

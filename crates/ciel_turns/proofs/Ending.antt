@@ -31,11 +31,11 @@ use Rattle.ciel_board.specs.Board.{Board, Order}
 use Rattle.ciel_board.specs.Driving.{Runs}
 use Rattle.ciel_board.specs.Reports.{End, FirstRefused, learned_all}
 use Rattle.ciel_board.specs.Setting.{IsSetting, Setting}
+use Rattle.ciel_board.specs.Sound.{Sound}
 use Rattle.ciel_board.proofs.Telling.{clash_follows, overflow_follows}
-use Rattle.ciel_turns.specs.AtWork.{AtWork, IsLost}
+use Rattle.ciel_turns.specs.Handed.{IsLost}
 use Rattle.ciel_turns.specs.Ends.{AllAreLost, ClashOf, Modest, OverflowOf}
 use Rattle.ciel_turns.specs.Laws.{IsOut, Promised}
-use Rattle.ciel_turns.specs.Left.{Has, Slots}
 use Rattle.ciel_turns.proofs.Turning.{promised_taken}
 
 -- bytes that clash differ
@@ -66,17 +66,17 @@ drive_law job p v [] d = tt
 drive_law job p v (e ∷ es) d = (d.0, drive_law job p (after job v e) es d.2)
 
 module _ {D P B : Type 0} (s : Setting D P B) (is : IsSetting s) where
-  module _ (most : ℕ) (h : List (Event D)) (b : Board P) (slots : Slots P) (a : AtWork s most h b slots) (w : ℕ) (x : Order P)
-      (i : Has slots w x) (out : IsOut s h b x) (spawned : List Named) (end : End P) (p : Promised s most h b x spawned end) where
+  module _ (h : List (Event D)) (b : Board P) (sound : Sound s.digest s.at b) (runs : Runs s h b) (x : Order P) (out : IsOut s h b x)
+      (spawned : List Named) (end : End P) (p : Promised s h b x spawned end) where
     pub clash_ends : (n : Named) (kept given : List ℕ) → FirstRefused s.digest spawned b.table n (Learn.Clash kept given)
         → ClashOf s b.plan b.journal kept given
     clash_ends n kept given r =
-        let c = clash_follows s is h b a.sound a.runs.follows x out.start x.out.number spawned end
-        (promised_taken s is most h b slots a w x i out spawned end p) n kept given r in
+        let c = clash_follows s is h b sound runs.follows x out.start x.out.number spawned end
+        (promised_taken s h b x out spawned end p) n kept given r in
         record {
           history = h;
-          driven = a.runs.driven;
-          journal = sym a.runs.follows.journal;
+          driven = runs.driven;
+          journal = sym runs.follows.journal;
           clash = c;
           differ = clash_differ n (learned_all s.digest r.before b.table) kept given r.refused;
           digest = ap s.digest (sym c.is_kept) ∙ (is.exact.own c.first ∙ (c.clashes.named ∙ (sym (is.exact.own c.second) ∙ ap s.digest c.is_given)));
@@ -84,15 +84,15 @@ module _ {D P B : Type 0} (s : Setting D P B) (is : IsSetting s) where
 
     pub overflow_ends : (n : Named) (held : ℕ) → FirstRefused s.digest spawned b.table n (Learn.Full held) → OverflowOf s b.plan b.journal held n
     overflow_ends n held r =
-        let c = overflow_follows s is h b a.sound a.runs.follows x out.start x.out.number spawned end
-        (promised_taken s is most h b slots a w x i out spawned end p) n held r in
+        let c = overflow_follows s is h b sound runs.follows x out.start x.out.number spawned end
+        (promised_taken s h b x out spawned end p) n held r in
         record {
           history = h;
-          driven = a.runs.driven;
-          journal = sym a.runs.follows.journal;
+          driven = runs.driven;
+          journal = sym runs.follows.journal;
           overflow = c.1;
           full = c.0;
-          once = once_learned s.job is.laws (standing s.job h).book c.1.overflows.before (once_book h b.plan a.runs.follows.lawful);
+          once = once_learned s.job is.laws (standing s.job h).book c.1.overflows.before (once_book h b.plan runs.follows.lawful);
         }
       where
         once_book : (g : List (Event D)) (q : Plan) → Lawful s.job q g → Once [] (standing s.job g).book

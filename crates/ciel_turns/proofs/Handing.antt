@@ -1,4 +1,4 @@
--- What workers have, as the run goes on.
+-- What workers have, as the run goes on, and of what history.
 use Rattle.std.proofs.Common.{◌≡◌, ℕ, ◌+◌, ◌<◌, List, [], ◌∷◌, ◌++◌, replicate, Bool, true, false, not, cond, ◌&&◌, nat_eq, eqb-true, eq-eqb, filter}
 use Rattle.std.proofs.Common.{slice_get, slice_set, Option, Some, None, ◌⊎◌, inl, inr, refl, ap, sym, ◌∙◌, subst, arith}
 use Rattle.std.specs.List.{list_any}
@@ -12,10 +12,9 @@ use Rattle.ciel_board.specs.Board.{Board, Order, OrderOut, find_order, idle_of, 
 use Rattle.ciel_board.specs.Follows.{OneByOne, OrderIs, OutIs}
 use Rattle.ciel_board.specs.Moves.{order_for, started, without}
 use Rattle.ciel_board.specs.Setting.{Setting}
-use Rattle.ciel_board.specs.Sound.{Sound}
 use Rattle.ciel_board.proofs.Accepting.{found_number}
 use Rattle.ciel_board.proofs.Sounding.{idle_in, order_in}
-use Rattle.ciel_turns.specs.AtWork.{Handed, IsLost}
+use Rattle.ciel_turns.specs.Handed.{Handed, IsLost, OrdersOf}
 use Rattle.ciel_turns.specs.Left.{Has, Slots, busy}
 use Rattle.ciel_turns.proofs.Counting.{differ_nat, got_at, got_same, long_replicate, none_busy, set_cases, set_has, set_keeps, set_long}
 
@@ -55,32 +54,10 @@ not_found k (y ∷ ys) e x i s = pick (bool_cases (nat_eq k y.number)) i (λ f j
         cc
     pick (inr f) (inr j) r = r (sym (ap (λ b. cond b (Some y) (find_order k ys)) f) ∙ e) j
 
-module _ {D P B : Type 0} (s : Setting D P B) where
-  -- the open Start of an order
-  pub open_of : (k : ℕ) (os : List (OpenStart D)) (xs : List OrderOut) → OneByOne (OutIs s) os xs → (x : OrderOut) → find_order k xs ≡ Some x
-      → (o : OpenStart D) × (find_open s.job k os ≡ Some o) × OutIs s o x
-  open_of k [] [] h x e = cc
-  open_of k [] (y ∷ ys) h x e = absurd h
-  open_of k (q ∷ qs) [] h x e = absurd h
-  open_of k (q ∷ qs) (y ∷ ys) h x e = pick (bool_cases (nat_eq k q.number)) (open_of k qs ys h.1 x)
-    where
-      Out : List (OpenStart D) → Type 0
-      Out zs = (o : OpenStart D) × (find_open s.job k zs ≡ Some o) × OutIs s o x
-
-      pick : ((nat_eq k q.number ≡ true) ⊎ (nat_eq k q.number ≡ false)) → (find_order k ys ≡ Some x → Out qs) → Out (q ∷ qs)
-      pick (inl t) r =
-          let u : nat_eq k y.number ≡ true = ap (nat_eq k) h.0.number ∙ t in
-          let c : Some y ≡ Some x = sym (ap (λ b. cond b (Some y) (find_order k ys)) u) ∙ e in
-          let same : y ≡ x = cc in
-          (q, ap (λ b. cond b (Some q) (find_open s.job k qs)) t, subst (OutIs s q) same h.0)
-      pick (inr f) r =
-          let u : nat_eq k y.number ≡ false = ap (nat_eq k) h.0.number ∙ f in
-          let z = r (sym (ap (λ b. cond b (Some y) (find_order k ys)) u) ∙ e) in
-          (z.0, ap (λ b. cond b (Some q) (find_open s.job k qs)) f ∙ z.1, z.2)
-
+module _ {P : Type 0} where
   -- at the beginning nobody has an order
-  pub opened_handed : (h : List (Event D)) (b : Board P) → b.orders ≡ [] → Handed s h b (replicate b.plan.workers None)
-  opened_handed h b none =
+  pub opened_handed : (b : Board P) → b.orders ≡ [] → Handed b (replicate b.plan.workers None)
+  opened_handed b none =
       record {
         each = long_replicate b.plan.workers None;
         own = λ w x i. absurd (nobody w x i);
@@ -88,14 +65,13 @@ module _ {D P B : Type 0} (s : Setting D P B) where
         sent = λ y i. absurd (subst (In y) none i);
         given = λ w x i. absurd (nobody w x i);
         apart = λ w u x y i j e. absurd (nobody w x i);
-        is = λ w x o i j e. absurd (nobody w x i);
       }
     where
       nobody : (w : ℕ) (x : Order P) → Has (replicate b.plan.workers None) w x → ⊥
       nobody w x i =
           let q : None ≡ Some x = got_same b.plan.workers None w (Some x) i in cc
 
-  module _ (h : List (Event D)) (b : Board P) (slots : Slots P) (k : Handed s h b slots) where
+  module _ (b : Board P) (slots : Slots P) (k : Handed b slots) where
     -- where no worker has an order, none is out
     pub none_out : busy slots ≡ 0 → b.orders ≡ []
     none_out e = pick b.orders refl
@@ -117,10 +93,9 @@ module _ {D P B : Type 0} (s : Setting D P B) where
 
     -- ---- a loss
 
-    module _ (g : List (Event D)) (c : Board P) (w : ℕ) (plan : c.plan ≡ b.plan) (starts : c.starts ≡ b.starts)
-        (gone : c.table.gone ≡ b.table.gone ++ w ∷ []) (orders : c.orders ≡ filter (λ (x : OrderOut). not (nat_eq w x.worker)) b.orders)
-        (opens : (o : OpenStart D) → In o (standing s.job g).orders → In o (standing s.job h).orders) where
-      pub lost_handed : Handed s g c slots
+    module _ (c : Board P) (w : ℕ) (plan : c.plan ≡ b.plan) (starts : c.starts ≡ b.starts)
+        (gone : c.table.gone ≡ b.table.gone ++ w ∷ []) (orders : c.orders ≡ filter (λ (x : OrderOut). not (nat_eq w x.worker)) b.orders) where
+      pub lost_handed : Handed c slots
       lost_handed =
           record {
             each = k.each ∙ ap (λ (p : Plan). p.workers) (sym plan);
@@ -129,7 +104,6 @@ module _ {D P B : Type 0} (s : Setting D P B) where
             sent = λ y i. k.sent y (in_filter (λ (x : OrderOut). not (nat_eq w x.worker)) y b.orders (subst (In y) orders i));
             given = λ u x i. subst (λ n. x.out.number < n) (sym starts) (k.given u x i);
             apart = k.apart;
-            is = λ u x o i j e. k.is u x o i (opens o j) e;
           }
         where
           still : (u : ℕ) (x : Order P) → Has slots u x → In x.out c.orders ⊎ IsLost c.table.gone u
@@ -147,7 +121,7 @@ module _ {D P B : Type 0} (s : Setting D P B) where
 
     -- ---- an order that comes back
 
-    module _ (sound : Sound s.digest s.at b) (w : ℕ) (x : Order P) (has : Has slots w x) where
+    module _ (w : ℕ) (x : Order P) (has : Has slots w x) where
       -- what another worker has is another order
       other : (u : ℕ) (y : Order P) → (u ≡ w → ⊥) → Has slots u y → x.out.number ≡ y.out.number → ⊥
       other u y d i e = d (k.apart u w y x i has (sym e))
@@ -163,10 +137,9 @@ module _ {D P B : Type 0} (s : Setting D P B) where
           pick (inr q) = q
 
       -- it is closed
-      pub closed_handed : (g : List (Event D)) (c : Board P) → c.plan ≡ b.plan → c.starts ≡ b.starts → c.table.gone ≡ b.table.gone
-          → In x.out b.orders → c.orders ≡ without x.out.number b.orders
-          → ((o : OpenStart D) → In o (standing s.job g).orders → In o (standing s.job h).orders) → Handed s g c taken
-      closed_handed g c plan starts gone there orders opens =
+      pub closed_handed : (c : Board P) → c.plan ≡ b.plan → c.starts ≡ b.starts → c.table.gone ≡ b.table.gone → In x.out b.orders
+          → c.orders ≡ without x.out.number b.orders → Handed c taken
+      closed_handed c plan starts gone there orders =
           record {
             each = set_long slots w None ∙ (k.each ∙ ap (λ (p : Plan). p.workers) (sym plan));
             own = λ u y i. k.own u y (left u y i).1;
@@ -174,7 +147,6 @@ module _ {D P B : Type 0} (s : Setting D P B) where
             sent = sent;
             given = λ u y i. subst (λ n. y.out.number < n) (sym starts) (k.given u y (left u y i).1);
             apart = λ u v y z i j e. k.apart u v y z (left u y i).1 (left v z j).1 e;
-            is = λ u y o i j e. k.is u y o (left u y i).1 (opens o j) e;
           }
         where
           still : (u : ℕ) (y : Order P) → (u ≡ w → ⊥) → Has slots u y → In y.out c.orders ⊎ IsLost c.table.gone u
@@ -204,7 +176,7 @@ module _ {D P B : Type 0} (s : Setting D P B) where
                   differs x.out.number y.number t (ap (λ (o : Order P). o.out.number) (sym one) ∙ ap (λ (o : OrderOut). o.number) q)
 
       -- or its number isn't out any more
-      pub thrown_handed : find_order x.out.number b.orders ≡ None → Handed s h b taken
+      pub thrown_handed : find_order x.out.number b.orders ≡ None → Handed b taken
       thrown_handed none =
           record {
             each = set_long slots w None ∙ k.each;
@@ -213,7 +185,6 @@ module _ {D P B : Type 0} (s : Setting D P B) where
             sent = sent;
             given = λ u y i. k.given u y (left u y i).1;
             apart = λ u v y z i j e. k.apart u v y z (left u y i).1 (left v z j).1 e;
-            is = λ u y o i j e. k.is u y o (left u y i).1 j e;
           }
         where
           sent : (y : OrderOut) → In y b.orders → (z : Order P) × Has taken y.worker z × (z.out ≡ y)
@@ -229,7 +200,7 @@ module _ {D P B : Type 0} (s : Setting D P B) where
 
     -- ---- a start
 
-    module _ (sound : Sound s.digest s.at b) (x : TaskId) (w : ℕ) (idle : In w (idle_of b)) where
+    module _ (at : P → ℕ) (x : TaskId) (w : ℕ) (idle : In w (idle_of b)) where
       is_free : (w < b.plan.workers) × (list_any (nat_eq w) b.table.gone ≡ false) × (list_any (nat_eq w) (workers_out b.orders) ≡ false)
       is_free =
           let q = idle_in b.table.gone (workers_out b.orders) 0 b.plan.workers w idle in
@@ -271,12 +242,12 @@ module _ {D P B : Type 0} (s : Setting D P B) where
           pick (Some y, e) = absurd (not_with y e)
 
       abbrev new : Order P
-      new = order_for s.at b x w
+      new = order_for at b x w
 
       abbrev sending : Slots P
       sending = slice_set slots w (Some new)
 
-      which : (u : ℕ) (y : Order P) → Has sending u y → ((u ≡ w) × (y ≡ new)) ⊎ ((u ≡ w → ⊥) × Has slots u y)
+      pub which : (u : ℕ) (y : Order P) → Has sending u y → ((u ≡ w) × (y ≡ new)) ⊎ ((u ≡ w → ⊥) × Has slots u y)
       which u y i = pick (set_cases slots w u (Some new) (Some y) i)
         where
           pick : ((u ≡ w) × (Some y ≡ Some new)) ⊎ ((u ≡ w → ⊥) × (slice_get slots u ≡ Some (Some y))) → ((u ≡ w) × (y ≡ new))
@@ -286,10 +257,8 @@ module _ {D P B : Type 0} (s : Setting D P B) where
               let z : y ≡ new = cc in inl (q.0, z)
           pick (inr q) = inr q
 
-      pub start_handed : (g : List (Event D)) → ((o : OpenStart D) → In o (standing s.job h).orders → o.number < b.starts)
-          → ((o : OpenStart D) → In o (standing s.job g).orders → In o (standing s.job h).orders ⊎ ((o.number ≡ b.starts) × OrderIs s o new))
-          → Handed s g (started s.at b x w) sending
-      start_handed g below opens =
+      pub start_handed : Handed (started at b x w) sending
+      start_handed =
           record {
             each = set_long slots w (Some new) ∙ k.each;
             own = own;
@@ -297,7 +266,6 @@ module _ {D P B : Type 0} (s : Setting D P B) where
             sent = sent;
             given = given;
             apart = apart;
-            is = is;
           }
         where
           own : (u : ℕ) (y : Order P) → Has sending u y → y.out.worker ≡ u
@@ -307,19 +275,19 @@ module _ {D P B : Type 0} (s : Setting D P B) where
               pick (inl q) = ap (λ (o : Order P). o.out.worker) q.1 ∙ sym q.0
               pick (inr q) = k.own u y q.1
 
-          still : (u : ℕ) (y : Order P) → Has sending u y → In y.out (started s.at b x w).orders ⊎ IsLost b.table.gone u
+          still : (u : ℕ) (y : Order P) → Has sending u y → In y.out (started at b x w).orders ⊎ IsLost b.table.gone u
           still u y i = pick (which u y i)
             where
-              more : (In y.out b.orders ⊎ IsLost b.table.gone u) → In y.out (started s.at b x w).orders ⊎ IsLost b.table.gone u
+              more : (In y.out b.orders ⊎ IsLost b.table.gone u) → In y.out (started at b x w).orders ⊎ IsLost b.table.gone u
               more (inl j) = inl (in_left y.out b.orders (new.out ∷ []) j)
               more (inr l) = inr l
 
-              pick : ((u ≡ w) × (y ≡ new)) ⊎ ((u ≡ w → ⊥) × Has slots u y) → In y.out (started s.at b x w).orders ⊎ IsLost b.table.gone u
+              pick : ((u ≡ w) × (y ≡ new)) ⊎ ((u ≡ w → ⊥) × Has slots u y) → In y.out (started at b x w).orders ⊎ IsLost b.table.gone u
               pick (inl q) =
-                  inl (subst (λ (o : Order P). In o.out (started s.at b x w).orders) (sym q.1) (last_in b.orders new.out))
+                  inl (subst (λ (o : Order P). In o.out (started at b x w).orders) (sym q.1) (last_in b.orders new.out))
               pick (inr q) = more (k.still u y q.1)
 
-          sent : (y : OrderOut) → In y (started s.at b x w).orders → (z : Order P) × Has sending y.worker z × (z.out ≡ y)
+          sent : (y : OrderOut) → In y (started at b x w).orders → (z : Order P) × Has sending y.worker z × (z.out ≡ y)
           sent y i = pick (in_last y b.orders new.out i)
             where
               pick : (In y b.orders ⊎ (y ≡ new.out)) → (z : Order P) × Has sending y.worker z × (z.out ≡ y)
@@ -350,20 +318,63 @@ module _ {D P B : Type 0} (s : Setting D P B) where
               pick (inr p) (inl q) = absurd (older u y p.1 (e ∙ ap (λ (o : Order P). o.out.number) q.1))
               pick (inr p) (inr q) = k.apart u v y z p.1 q.1 e
 
-          is : (u : ℕ) (y : Order P) (o : OpenStart D) → Has sending u y → In o (standing s.job g).orders → o.number ≡ y.out.number → OrderIs s o y
-          is u y o i j e = pick (which u y i) (opens o j)
-            where
-              pick : ((u ≡ w) × (y ≡ new)) ⊎ ((u ≡ w → ⊥) × Has slots u y)
-                  → (In o (standing s.job h).orders ⊎ ((o.number ≡ b.starts) × OrderIs s o new)) → OrderIs s o y
-              pick (inl p) (inr q) = subst (OrderIs s o) (sym p.1) q.1
-              pick (inr p) (inl q) = k.is u y o p.1 q e
-              pick (inr p) (inr q) =
-                  let l = k.given u y p.1 in
-                  let a = q.0 in absurd (omega (arith, l, a, e))
-              pick (inl p) (inl q) = absurd (older p.1 q)
-                where
-                  older : y ≡ new → In o (standing s.job h).orders → ⊥
-                  older r m =
-                      let a : o.number ≡ b.starts = e ∙ ap (λ (z : Order P). z.out.number) r in
-                      let l = below o m in
-                      absurd (omega (arith, l, a))
+-- ---- of what history
+
+module _ {D P B : Type 0} (s : Setting D P B) where
+  -- the open Start of an order
+  pub open_of : (k : ℕ) (os : List (OpenStart D)) (xs : List OrderOut) → OneByOne (OutIs s) os xs → (x : OrderOut) → find_order k xs ≡ Some x
+      → (o : OpenStart D) × (find_open s.job k os ≡ Some o) × OutIs s o x
+  open_of k [] [] h x e = cc
+  open_of k [] (y ∷ ys) h x e = absurd h
+  open_of k (q ∷ qs) [] h x e = absurd h
+  open_of k (q ∷ qs) (y ∷ ys) h x e = pick (bool_cases (nat_eq k q.number)) (open_of k qs ys h.1 x)
+    where
+      Out : List (OpenStart D) → Type 0
+      Out zs = (o : OpenStart D) × (find_open s.job k zs ≡ Some o) × OutIs s o x
+
+      pick : ((nat_eq k q.number ≡ true) ⊎ (nat_eq k q.number ≡ false)) → (find_order k ys ≡ Some x → Out qs) → Out (q ∷ qs)
+      pick (inl t) r =
+          let u : nat_eq k y.number ≡ true = ap (nat_eq k) h.0.number ∙ t in
+          let c : Some y ≡ Some x = sym (ap (λ b. cond b (Some y) (find_order k ys)) u) ∙ e in
+          let same : y ≡ x = cc in
+          (q, ap (λ b. cond b (Some q) (find_open s.job k qs)) t, subst (OutIs s q) same h.0)
+      pick (inr f) r =
+          let u : nat_eq k y.number ≡ false = ap (nat_eq k) h.0.number ∙ f in
+          let z = r (sym (ap (λ b. cond b (Some y) (find_order k ys)) u) ∙ e) in
+          (z.0, ap (λ b. cond b (Some q) (find_open s.job k qs)) f ∙ z.1, z.2)
+
+  module _ (h g : List (Event D)) (slots : Slots P) (k : OrdersOf s h slots)
+      (opens : (o : OpenStart D) → In o (standing s.job g).orders → In o (standing s.job h).orders) where
+    pub orders_of : OrdersOf s g slots
+    orders_of u y o i j e = k u y o i (opens o j) e
+
+    -- with a slot less
+    pub fewer_orders : (w : ℕ) → OrdersOf s g (slice_set slots w None)
+    fewer_orders w u y o i j e = pick (set_cases slots w u None (Some y) i)
+      where
+        pick : ((u ≡ w) × (Some y ≡ None)) ⊎ ((u ≡ w → ⊥) × Has slots u y) → OrderIs s o y
+        pick (inl q) = let bad : Some y ≡ None = q.1 in cc
+        pick (inr q) = k u y o q.1 (opens o j) e
+
+  -- and a new one
+  module _ (h g : List (Event D)) (b : Board P) (slots : Slots P) (a : Handed b slots) (k : OrdersOf s h slots) (x : TaskId) (w : ℕ)
+      (idle : In w (idle_of b)) (below : (o : OpenStart D) → In o (standing s.job h).orders → o.number < b.starts)
+      (opens : (o : OpenStart D) → In o (standing s.job g).orders → In o (standing s.job h).orders
+      ⊎ ((o.number ≡ b.starts) × OrderIs s o (order_for s.at b x w))) where
+    pub more_orders : OrdersOf s g (slice_set slots w (Some (order_for s.at b x w)))
+    more_orders u y o i j e = pick (which b slots a s.at x w idle u y i) (opens o j)
+      where
+        older : y ≡ order_for s.at b x w → In o (standing s.job h).orders → ⊥
+        older r m =
+            let n : o.number ≡ b.starts = e ∙ ap (λ (z : Order P). z.out.number) r in
+            let l = below o m in
+            absurd (omega (arith, l, n))
+
+        pick : ((u ≡ w) × (y ≡ order_for s.at b x w)) ⊎ ((u ≡ w → ⊥) × Has slots u y)
+            → (In o (standing s.job h).orders ⊎ ((o.number ≡ b.starts) × OrderIs s o (order_for s.at b x w))) → OrderIs s o y
+        pick (inl p) (inr q) = subst (OrderIs s o) (sym p.1) q.1
+        pick (inr p) (inl q) = k u y o p.1 q e
+        pick (inr p) (inr q) =
+            let l = a.given u y p.1 in
+            let n = q.0 in absurd (omega (arith, l, n, e))
+        pick (inl p) (inl q) = absurd (older p.1 q)

@@ -28,7 +28,7 @@ use Rattle.ciel_board.proofs.Pairs.{long}
 use Rattle.ciel_board.proofs.Placing.{SameBut, copies_same, outputs_same}
 use Rattle.ciel_board.proofs.Saving.{more_waits, same_waits}
 use Rattle.ciel_board.proofs.Sounding.{last_greatest, same_self}
-use Rattle.ciel_turns.specs.Left.{Early, Within, all_left, row_left, rows_left, starts_left}
+use Rattle.ciel_turns.specs.Left.{all_left, row_left, rows_left, starts_left}
 use Rattle.ciel_turns.proofs.Summing.{Lighter, all_lighter, rows_drop}
 
 cut : (c : Bool) (m n : ℕ) → m ≤ n → cond c 0 m ≤ n
@@ -38,6 +38,15 @@ cut false m n l = l
 -- ---- the last saved wait
 
 module _ {P : Type 0} where
+  -- no wait has a greater number
+  abbrev pub Early : ℕ → List (Wait P) → Type 0
+  Early most ws = AllByRecursion (λ (w : Wait P). w.j ≤ most) ws
+
+  -- no saved wait of a table has
+  pub record Within (most : ℕ) (t : TableSeen P) : Type 0 where
+    pub shown : Early most t.shown
+    pub saved : AllByRecursion (λ (s : Saves P). Early most s.waits) t.saved
+
   abbrev waits_or : Option (Saves P) → List (Wait P)
   waits_or o = option_map_or (λ (q : Saves P). q.waits) o []
 

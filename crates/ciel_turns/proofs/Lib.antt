@@ -1,11 +1,8 @@
 pub mod Counting
 pub mod Summing
 pub mod Lessening
-pub mod Keeping
 pub mod Working
 pub mod Idling
 pub mod Handing
-pub mod Making
-pub mod Fresh
 pub mod Turning
 pub mod Ending

@@ -15,9 +15,8 @@ use Rattle.ciel_board.specs.Laws.{ClashIs, OverflowIs}
 use Rattle.ciel_board.specs.Moves.{accepted}
 use Rattle.ciel_board.specs.Reports.{AllLearned, Copy, End, FirstRefused, made}
 use Rattle.ciel_board.specs.Setting.{IsMade, IsSetting, Setting}
-use Rattle.ciel_turns.specs.AtWork.{IsLost}
-use Rattle.ciel_turns.specs.Laws.{IsOut, OfWork, Promised, RunEnded}
-use Rattle.ciel_turns.specs.Left.{Has}
+use Rattle.ciel_turns.specs.Handed.{IsLost}
+use Rattle.ciel_turns.specs.Laws.{IsOut, OfRun, Promised, RunEnded}
 
 module _ {D P B : Type 0} (s : Setting D P B) where
   -- A driven history has this journal. These are canonical bytes that differ and have one digest: the first of a description
@@ -59,23 +58,21 @@ module _ (D P B : Type 0) where
   -- the end of the root task
   abbrev pub ShownEnds : Type 0
   ShownEnds =
-      OfWork D P B (λ s most h b slots. RestsNow b → (w : ℕ) (x : Order P) → Has slots w x → IsOut s h b x → x.out.task ≡ TaskId.Show
-      → (spawned : List Named) (cs : List (Copy P)) → Promised s most h b x spawned (made [] cs)
+      OfRun D P B (λ s h b. RestsNow b → (x : Order P) → IsOut s h b x → x.out.task ≡ TaskId.Show
+      → (spawned : List Named) (cs : List (Copy P)) → Promised s h b x spawned (made [] cs)
       → AllLearned s.digest spawned b.table → RunEnded s h x spawned (made [] cs) (accepted s.digest b x.out spawned (made [] cs)))
 
   -- a description that is refused for its name
   abbrev pub ClashEnds : Type 0
   ClashEnds =
-      OfWork D P B (λ s most h b slots. (w : ℕ) (x : Order P) → Has slots w x → IsOut s h b x
-      → (spawned : List Named) (end : End P) → Promised s most h b x spawned end
+      OfRun D P B (λ s h b. (x : Order P) → IsOut s h b x → (spawned : List Named) (end : End P) → Promised s h b x spawned end
       → (n : Named) (kept given : List ℕ) → FirstRefused s.digest spawned b.table n (Learn.Clash kept given)
       → ClashOf s b.plan b.journal kept given)
 
   -- and one for which there is no room
   abbrev pub OverflowEnds : Type 0
   OverflowEnds =
-      OfWork D P B (λ s most h b slots. (w : ℕ) (x : Order P) → Has slots w x → IsOut s h b x
-      → (spawned : List Named) (end : End P) → Promised s most h b x spawned end
+      OfRun D P B (λ s h b. (x : Order P) → IsOut s h b x → (spawned : List Named) (end : End P) → Promised s h b x spawned end
       → (n : Named) (held : ℕ) → FirstRefused s.digest spawned b.table n (Learn.Full held)
       → OverflowOf s b.plan b.journal held n)
 

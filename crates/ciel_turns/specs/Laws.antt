@@ -1,7 +1,5 @@
--- The laws of turns: each leaves the master and its workers at work, with less to do, or ends the run.
-use Rattle.std.specs.Prelude.{◌≡◌, ℕ, ◌≤◌, ◌<◌, List, [], ◌∷◌, ◌++◌, replicate, true, false, Some, None, nat_lt, slice_get, slice_set, ◌&&◌, ◌↔◌}
-use Rattle.sky_base.specs.Val.{no_pairs, no_vals}
-use Rattle.sky_base.specs.declared.object.Desc1.{Desc1}
+-- The laws of turns: each is an event of the run's history, or ends the run.
+use Rattle.std.specs.Prelude.{◌≡◌, ℕ, ◌<◌, List, [], ◌∷◌, ◌++◌, true, false, Some, None, nat_lt, slice_set, ◌&&◌, ◌↔◌}
 use Rattle.sky_base.specs.declared.object.Named.{Named}
 use Rattle.sky_base.specs.declared.object.TaskId.{TaskId}
 use Rattle.ciel_journal.specs.Graph.{Runnable}
@@ -18,16 +16,10 @@ use Rattle.ciel_board.specs.Moves.{accepted, lost_at, missed_at, opened, order_f
 use Rattle.ciel_board.specs.Reports.{AllLearned, End, IsNamed, made, missing, named_view, report_view, saved}
 use Rattle.ciel_board.specs.Setting.{IsSetting, Setting}
 use Rattle.ciel_board.specs.Sound.{Fits, MissingFits, Sound}
-use Rattle.ciel_turns.specs.AtWork.{AtWork, IsLost, Turned}
-use Rattle.ciel_turns.specs.Left.{Has, Slots, busy, work}
+use Rattle.ciel_turns.specs.Handed.{Handed, IsLost, OneEventMore, OrdersOf}
+use Rattle.ciel_turns.specs.Left.{Has, Slots, busy}
 
 -- ---- what a worker promises
-
--- no wait that is saved has a greater number
-abbrev pub EndWithin : {P : Type 0} → ℕ → End P → Type 0
-EndWithin most (made ms cs) = Unit {0}
-EndWithin most (saved q) = q.j ≤ most
-EndWithin most (missing name loss) = Unit {0}
 
 abbrev pub IsMissing : {P : Type 0} → End P → Type 0
 IsMissing (made ms cs) = ⊥
@@ -37,9 +29,8 @@ IsMissing (missing name loss) = Unit {0}
 module _ {D P B : Type 0} (s : Setting D P B) where
   -- of the report of an order that is out after this history: it fits, it says what the job does, and what the job has is at its
   -- places
-  pub record Promised (most : ℕ) (h : List (Event D)) (b : Board P) (x : Order P) (spawned : List Named) (end : End P) : Type 0 where
+  pub record Promised (h : List (Event D)) (b : Board P) (x : Order P) (spawned : List Named) (end : End P) : Type 0 where
     pub fits : Fits s.digest s.at b x spawned end
-    pub within : EndWithin most end
     pub says : (o : OpenStart D) → OrderIs s o x → r.FirstApart s.job s.inner o
         → r.Says s.job s.inner s.lower o (report_view x.out.number spawned end)
     pub lies : (o : OpenStart D) → find_open s.job x.out.number (standing s.job h).orders ≡ Some o → OrderIs s o x
@@ -53,13 +44,12 @@ module _ {D P B : Type 0} (s : Setting D P B) where
     pub order : OrderIs s start x
     pub apart : r.FirstApart s.job s.inner start
 
-  -- the worker has nothing; the order is that of a new open Start; and the turn
-  pub record StartTurned (most : ℕ) (h : List (Event D)) (b : Board P) (slots : Slots P) (x : TaskId) (w : ℕ) : Type 0 where
-    pub free : slice_get slots w ≡ Some None
+  -- the order is that of a new open Start, which is one event more
+  pub record StartTurned (h : List (Event D)) (b : Board P) (slots : Slots P) (x : TaskId) (w : ℕ) : Type 0 where
     pub start : OpenStart D
     pub order : OrderIs s start (order_for s.at b x w)
     pub apart : r.FirstApart s.job s.inner start
-    pub turned : Turned s most h b slots (started s.at b x w) (slice_set slots w (Some (order_for s.at b x w)))
+    pub more : OneEventMore s h (started s.at b x w) (slice_set slots w (Some (order_for s.at b x w)))
 
   -- the run ends with the event that the report tells, the Done of the root task, which comes to its end
   pub record RunEnded (h : List (Event D)) (x : Order P) (spawned : List Named) (end : End P) (c : Board P) : Type 0 where
@@ -91,66 +81,70 @@ module _ (P : Type 0) where
   abbrev pub PickedCanStart : Type 0
   PickedCanStart = (b : Board P) (x : TaskId) (w : ℕ) → Picked b x w → Runnable (board_graph b) x × In w (idle_of b)
 
-module _ (D P B : Type 0) where
-  -- said of each setting, and of each master at work
-  abbrev pub OfWork : ((s : Setting D P B) → ℕ → List (Event D) → Board P → Slots P → Type 0) → Type 0
-  OfWork Q =
-      (s : Setting D P B) → IsSetting s → (most : ℕ) (h : List (Event D)) (b : Board P) (slots : Slots P)
-      → AtWork s most h b slots → Q s most h b slots
-
-  -- ---- turns
-
-  -- at the beginning nobody has an order
-  abbrev pub OpenedIsAtWork : Type 0
-  OpenedIsAtWork =
-      (s : Setting D P B) → IsSetting s → (most : ℕ) (p : Plan) (main : Named)
-      → 1 ≤ p.limit → IsNamed s.digest main → main.desc ≡ Desc1.Call [] no_pairs no_vals → s.lower s.job.main ≡ named_view main
-      → AtWork s most [] (opened s.digest p s.keys main) (replicate p.workers None)
-
-  -- the loss that is due first
-  abbrev pub LossTurns : Type 0
-  LossTurns =
-      OfWork (λ s most h b slots. (loss w : ℕ) → FirstDue b.plan.losses b.closes b.table.gone loss w
-      → Turned s most h b slots (lost_at s.at w b) slots)
-
-  -- the start that the draws pick
-  abbrev pub StartTurns : Type 0
-  StartTurns = OfWork (λ s most h b slots. (x : TaskId) (w : ℕ) → Picked b x w → StartTurned s most h b slots x w)
-
-  -- where no worker has an order, none is out
-  abbrev pub NoneIsOut : Type 0
-  NoneIsOut = OfWork (λ s most h b slots. busy slots ≡ 0 → b.orders ≡ [])
+  -- ---- what workers have, whatever was reported
 
   -- an order that a worker has and whose number is out is out itself
   abbrev pub HadIsOut : Type 0
   HadIsOut =
-      OfWork (λ s most h b slots. (w : ℕ) (x : Order P) (y : OrderOut) → Has slots w x → find_order x.out.number b.orders ≡ Some y
-      → IsOut s h b x)
+      (b : Board P) (slots : Slots P) → Handed b slots → (w : ℕ) (x : Order P) (y : OrderOut) → Has slots w x
+      → find_order x.out.number b.orders ≡ Some y → x.out ≡ y
 
-  -- a report whose order isn't out any more is thrown away
+  -- where no worker has an order, none is out
+  abbrev pub NoneIsOut : Type 0
+  NoneIsOut = (b : Board P) (slots : Slots P) → Handed b slots → busy slots ≡ 0 → b.orders ≡ []
+
+module _ (D P B : Type 0) where
+  -- said of each setting, of each run, and of each sound state after it that hasn't stopped
+  abbrev pub OfRun : ((s : Setting D P B) → List (Event D) → Board P → Type 0) → Type 0
+  OfRun Q =
+      (s : Setting D P B) → IsSetting s → (h : List (Event D)) (b : Board P) → b.stopped ≡ false → Sound s.digest s.at b → Runs s h b → Q s h b
+
+  -- ---- turns
+
+  -- at the beginning nothing has happened
+  abbrev pub OpenedRuns : Type 0
+  OpenedRuns =
+      (s : Setting D P B) → IsSetting s → (p : Plan) (main : Named) → IsNamed s.digest main → s.lower s.job.main ≡ named_view main
+      → Runs s [] (opened s.digest p s.keys main)
+
+  -- the loss that is due first
+  abbrev pub LossTurns : Type 0
+  LossTurns =
+      OfRun (λ s h b. (slots : Slots P) → OrdersOf s h slots → (loss w : ℕ) → FirstDue b.plan.losses b.closes b.table.gone loss w
+      → OneEventMore s h (lost_at s.at w b) slots)
+
+  -- the start that the draws pick
+  abbrev pub StartTurns : Type 0
+  StartTurns =
+      OfRun (λ s h b. (slots : Slots P) → Handed b slots → OrdersOf s h slots → (x : TaskId) (w : ℕ) → Picked b x w → StartTurned s h b slots x w)
+
+  -- an order that a worker has and that is out is that of an open Start
+  abbrev pub OutIsOpen : Type 0
+  OutIsOpen =
+      OfRun (λ s h b. (slots : Slots P) → OrdersOf s h slots → (w : ℕ) (x : Order P) → Has slots w x
+      → find_order x.out.number b.orders ≡ Some x.out → IsOut s h b x)
+
+  -- a report that is thrown away is no event
   abbrev pub ThrownTurns : Type 0
   ThrownTurns =
-      OfWork (λ s most h b slots. (w : ℕ) (x : Order P) → Has slots w x → find_order x.out.number b.orders ≡ None
-      → AtWork s most h b (slice_set slots w None) × (work s.at most b (slice_set slots w None) < work s.at most b slots))
+      (s : Setting D P B) (h : List (Event D)) (slots : Slots P) (w : ℕ) → OrdersOf s h slots → OrdersOf s h (slice_set slots w None)
 
-  -- a report that is taken, of another task than the root task or before its end
+  -- a report that is taken, the end of the root task too
   abbrev pub ReportTurns : Type 0
   ReportTurns =
-      OfWork (λ s most h b slots. RestsNow b → (w : ℕ) (x : Order P) → Has slots w x → IsOut s h b x
-      → (spawned : List Named) (end : End P) → Promised s most h b x spawned end → (IsMissing end → ⊥)
-      → AllLearned s.digest spawned b.table → (accepted s.digest b x.out spawned end).stopped ≡ false
-      → Turned s most h b slots (accepted s.digest b x.out spawned end) (slice_set slots w None))
+      OfRun (λ s h b. RestsNow b → (slots : Slots P) → OrdersOf s h slots → (w : ℕ) (x : Order P) → IsOut s h b x
+      → (spawned : List Named) (end : End P) → Promised s h b x spawned end → (IsMissing end → ⊥) → AllLearned s.digest spawned b.table
+      → OneEventMore s h (accepted s.digest b x.out spawned end) (slice_set slots w None))
 
   -- one that something is missing
   abbrev pub MissedTurns : Type 0
   MissedTurns =
-      OfWork (λ s most h b slots. RestsNow b → (w : ℕ) (x : Order P) → Has slots w x → IsOut s h b x
+      OfRun (λ s h b. RestsNow b → (slots : Slots P) → OrdersOf s h slots → (w : ℕ) (x : Order P) → IsOut s h b x
       → (name : Digest) (loss : ℕ) → MissingFits s.digest s.at b x name loss
-      → Turned s most h b slots (missed_at s.digest b x.out name loss) (slice_set slots w None))
+      → OneEventMore s h (missed_at s.digest b x.out name loss) (slice_set slots w None))
 
   -- a report that is refused is one of a run all the same
   abbrev pub PromisedIsTaken : Type 0
   PromisedIsTaken =
-      OfWork (λ s most h b slots. (w : ℕ) (x : Order P) → Has slots w x → (out : IsOut s h b x)
-      → (spawned : List Named) (end : End P) → Promised s most h b x spawned end
-      → Taken s h b x out.start x.out.number spawned end)
+      (s : Setting D P B) (h : List (Event D)) (b : Board P) (x : Order P) (out : IsOut s h b x) (spawned : List Named) (end : End P)
+      → Promised s h b x spawned end → Taken s h b x out.start x.out.number spawned end

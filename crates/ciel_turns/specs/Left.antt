@@ -1,13 +1,11 @@
 -- How much a run has left to do: a number that falls with each turn, so that the run comes to an end.
-use Rattle.std.specs.Prelude.{◌≡◌, ℕ, suc, ◌+◌, ◌-◌, ◌*◌, ◌≤◌, List, [], ◌∷◌, length, Bool, true, false, cond, not, ◌||◌, filter, Option, Some}
+use Rattle.std.specs.Prelude.{◌≡◌, ℕ, suc, ◌+◌, ◌-◌, ◌*◌, List, [], ◌∷◌, length, Bool, true, false, cond, not, ◌||◌, filter, Option, Some}
 use Rattle.std.specs.Prelude.{nat_eq, slice_get}
-use Rattle.std.specs.List.{AllByRecursion, list_any}
+use Rattle.std.specs.List.{list_any}
 use Rattle.std.specs.Option.{option_map_or}
 use Rattle.sky_base.specs.declared.object.TaskId.{TaskId}
-use Rattle.ciel_table.specs.Seen.{TableSeen, is_live_row, last_wait}
+use Rattle.ciel_table.specs.Seen.{is_live_row, last_wait}
 use Rattle.ciel_table.specs.declared.row.Row.{Row}
-use Rattle.ciel_table.specs.declared.wait.Saves.{Saves}
-use Rattle.ciel_table.specs.declared.wait.Wait.{Wait}
 use Rattle.ciel_want.specs.Waited.{is_in}
 use Rattle.ciel_board.specs.Board.{Board, Brought, Order, Spot, input, shelf, tasks_out, wait_number}
 
@@ -60,14 +58,6 @@ abbrev pub enough : (most limit workers : ℕ) → ℕ
 enough most limit workers = suc (2 * (suc limit * suc most) + workers)
 
 module _ {P : Type 0} where
-  -- no wait has a greater number
-  abbrev pub Early : ℕ → List (Wait P) → Type 0
-  Early most ws = AllByRecursion (λ (w : Wait P). w.j ≤ most) ws
-
-  pub record Within (most : ℕ) (t : TableSeen P) : Type 0 where
-    pub shown : Early most t.shown
-    pub saved : AllByRecursion (λ (s : Saves P). Early most s.waits) t.saved
-
   module _ (most : ℕ) (b : Board P) where
     -- how often a task may still be started: from its last saved wait and from each further one; where it is out, from each
     -- further one

@@ -1,4 +1,4 @@
 pub mod Left
-pub mod AtWork
+pub mod Handed
 pub mod Laws
 pub mod Ends

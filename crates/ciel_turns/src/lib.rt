@@ -1,10 +1,11 @@
-//! The turns of a run: each leaves less to do, so a run comes to an end.
+//! The turns of a run: each is an event of its history, so a run comes to an end of its job.
 //!
-//! `specs/Left` has the number that falls, `specs/AtWork` what holds of a master and its workers between two turns, and
-//! `specs/Laws` the turns, as laws over the master's state by names, and `specs/Ends` the ends. They are contracts of functions that do nothing.
+//! `specs/Left` has the number that falls with each turn (`ciel_safe` has the law), `specs/Handed` what workers have between two turns,
+//! `specs/Laws` the turns, as laws over the master's state by names and the history of the run, and `specs/Ends` the ends. They are
+//! contracts of functions that do nothing.
 #![tactic(auto)]
 
-ghost use Rattle.ciel_turns.specs.Laws.{HadIsOut, IdleIsListed, LossTurns, MissedTurns, NoneCanRun, NoneIsOut, OpenedIsAtWork};
+ghost use Rattle.ciel_turns.specs.Laws.{HadIsOut, IdleIsListed, LossTurns, MissedTurns, NoneCanRun, NoneIsOut, OpenedRuns, OutIsOpen};
 ghost use Rattle.ciel_turns.specs.Laws.{PickedCanStart, PromisedIsTaken, ReportTurns, SomeIsIdle, StartTurns, ThrownTurns};
 ghost use Rattle.ciel_turns.specs.Ends.{ClashEnds, JournalIsDriven, LostEnds, NoneCircles, NoneClashes, NoneOverflows, OverflowEnds, ShownEnds};
 
@@ -17,10 +18,10 @@ pub fn workers_are_idle<P>()
     ensures none { NoneCanRun P }
 {}
 
-/// At the beginning a master is at work and no worker has an order. It stays so with each turn, and there is less to do after
-/// each: a loss that is due, a start, a report that is taken or thrown away.
-pub fn turns_leave_less<D, P, B>()
-    ensures opened { OpenedIsAtWork D P B }
+/// At the beginning nothing has happened. Each turn is an event of the run, and what workers have are orders of its history: a loss
+/// that is due, a start, a report that is taken. One that is thrown away is none.
+pub fn turns_are_events<D, P, B>()
+    ensures opened { OpenedRuns D P B }
     ensures loss { LossTurns D P B }
     ensures start { StartTurns D P B }
     ensures report { ReportTurns D P B }
@@ -28,11 +29,13 @@ pub fn turns_leave_less<D, P, B>()
     ensures thrown { ThrownTurns D P B }
 {}
 
-/// An order that a worker has and whose number is out is that of an open Start; where no worker has an order, none is out.
+/// An order that a worker has and whose number is out is out itself, and that of an open Start; where no worker has an order, none is
+/// out.
 pub fn orders_are_kept<D, P, B>()
-    ensures out { HadIsOut D P B }
+    ensures out { HadIsOut P }
+    ensures is_open { OutIsOpen D P B }
     ensures taken { PromisedIsTaken D P B }
-    ensures none { NoneIsOut D P B }
+    ensures none { NoneIsOut P }
 {}
 
 /// With the end of the root task the run ends, and the job means an answer. What is refused of a report is a clash of the

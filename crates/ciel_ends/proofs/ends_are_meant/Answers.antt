@@ -4,8 +4,8 @@ use Rattle.ciel_ends.proofs.ends_are_meant.Goals as goal
 pub returns : goal.returns
 returns c =
     record {
-      shown = λ digest job gives orderly most h b slots a w order has out rows rest root r p shown is all. shown_meant digest job gives orderly
-          most h b slots a w order has out rows rest root r p shown is all;
+      shown = λ digest job gives orderly h b going sound runs order out rows rest root r p shown is all. shown_meant digest job gives orderly h b
+          going sound runs order out rows rest root r p shown is all;
       circle = λ digest job gives orderly p J names k. circle_never digest job gives orderly p J names k;
       modest = λ digest job gives orderly limit m. modest_alike digest job gives orderly limit m;
     }

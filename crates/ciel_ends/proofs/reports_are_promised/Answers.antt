@@ -5,8 +5,7 @@ pub returns : goal.returns
 returns c =
     record {
       setting = λ digest job gives orderly. shop_is digest job gives orderly;
-      performs = λ digest job gives orderly most h b slots a w order has out rows r p none within. performs_promises digest job gives orderly
-          most h b slots a w order has out rows r p none within;
-      missed = λ digest job gives orderly most h b slots a w order has out rows name loss seen m count planned lost. missed_fits digest job gives
-          orderly most h b slots a w order has out rows name loss seen m count planned lost;
+      performs = λ digest job gives orderly h b going sound runs order out rows r p none. performs_promises digest job gives orderly h b going sound
+          runs order out rows r p none;
+      missed = λ digest b order main name loss seen m count planned lost. missed_fits digest b order main name loss seen m count planned lost;
     }

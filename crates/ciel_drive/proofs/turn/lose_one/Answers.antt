@@ -14,7 +14,7 @@ returns-clause-working g c =
 pub returns-clause-model : goal.returns-clause-model
 returns-clause-model g c k =
     let due = c.requires.due in
-    lost_kept k due.1 (c.lose.ensures.lost due.0 due.1) c.places_stay.ensures c.rows_stay.ensures
+    lost_kept c.requires.working k due.1 (c.lose.ensures.lost due.0 due.1)
 
 pub returns-clause-less : goal.returns-clause-less
 returns-clause-less g c =

@@ -1,9 +1,8 @@
-use Rattle.std.proofs.Common.{ap, subst}
-use Rattle.ciel_board.specs.Board.{board_graph, idle_of}
+use Rattle.std.proofs.Common.{ap, subst, ◌∙◌}
+use Rattle.ciel_board.specs.Board.{board_graph}
 use Rattle.ciel_board.proofs.Searching.{picked_has}
 use Rattle.ciel_journal.specs.Graph.{Runnable}
 use Rattle.ciel_want.specs.Waited.{tasks_in_order}
-use Rattle.sky_base.specs.JobView.{job_view}
 use Rattle.ciel_board.proofs.Driving.{got_in}
 use Rattle.ciel_journal.specs.Job.{In}
 use Rattle.ciel_drive.proofs.Slots.{got_index}
@@ -97,10 +96,8 @@ returns-in-Ok-send_order-clause-model g c k =
     let one = c.pick-place.ensures in
     let two = c.pick-worker.ensures in
     let p = picked k one.state two.state c.requires.count c.requires.quiet c.in-Ok.ensures.task c.requires.idle one.pick two.pick two.below in
-    let shop = g.C.Crew.shop c.args.crew.now in
-    let rows = c.orders_are_sound.ensures.rows (g.N.Namer.digest shop.namer) (job_view shop.job) (g.K.Kit.gives shop.kit) in
-    start_kept k p c.in-Ok.order c.in-Ok.ensures.order (c.send_order.ensures.master ∙ c.in-Ok.ensures.started) c.in-Ok-send_order.ensures.out rows c.send_order.ensures.shop
-    c.in-Ok-send_order.ensures.sound (draws_after k one.state two.state)
+    start_kept c.requires.working k p (c.send_order.ensures.master ∙ c.in-Ok.ensures.started) c.in-Ok.order c.in-Ok.ensures.order
+    c.in-Ok-send_order.ensures.out c.send_order.ensures.shop (draws_after k one.state two.state)
 
 pub returns-in-Ok-send_order-clause-less : goal.returns-in-Ok-send_order-clause-less
 returns-in-Ok-send_order-clause-less g c =
@@ -131,7 +128,7 @@ returns-in-Err-send_order-clause-end g c k =
     let one = c.pick-place.ensures in
     let two = c.pick-worker.ensures in
     let p = picked k one.state two.state c.requires.count c.requires.quiet c.in-Ok.ensures.task c.requires.idle one.pick two.pick two.below in
-    start_ends k p c.in-Ok.order c.in-Ok.ensures.order (c.send_order.ensures.master ∙ c.in-Ok.ensures.started)
+    start_ends c.requires.working k p (c.send_order.ensures.master ∙ c.in-Ok.ensures.started)
 
 pub returns-in-Ok-send_order-clause-does : goal.returns-in-Ok-send_order-clause-does
 returns-in-Ok-send_order-clause-does g c =

@@ -1,7 +1,8 @@
 use Rattle.std.proofs.Common.{refl, sym, ◌∙◌}
 use Rattle.ciel_board.specs.Board.{find_order}
 use Rattle.ciel_drive.proofs.Names as names
-use Rattle.ciel_drive.proofs.Reports.{answer_ended, clash_ended, fault_ended, none_of, overflow_ended, some_of, taken_kept, thrown_kept}
+use Rattle.ciel_drive.proofs.Names.{none_of, some_of}
+use Rattle.ciel_drive.proofs.Reports.{answer_ended, clash_ended, fault_ended, overflow_ended, taken_kept, thrown_kept}
 use Rattle.ciel_drive.proofs.Telling.{tells_none}
 use Rattle.ciel_drive.specs.Moved.{over, refused}
 use Rattle.ciel_drive.proofs.Moving.{does_accept, does_none, does_throw}
@@ -14,8 +15,7 @@ pub returns-then-not-is_out-clause-model : goal.returns-then-not-is_out-clause-m
 returns-then-not-is_out-clause-model g c k =
     let report = c.in-Ok.ensures.report in
     let then = g.C.Crew.out c.next.new.self in
-    let none = none_of (find_order c.in-Ok.report.number c.args.master.now.board.orders) c.is_out.ensures c.if-not-is_out.true in
-    thrown_kept k c.in-Ok.report then report none c.rows_stay.ensures c.next.ensures.shop c.in-Ok.ensures.sound
+    thrown_kept c.requires.working k c.in-Ok.report then report c.next.ensures.shop
 
 pub returns-then-not-is_out-clause-working : goal.returns-then-not-is_out-clause-working
 returns-then-not-is_out-clause-working g c =
@@ -44,16 +44,15 @@ accept-requires-clause-fits g c =
     let report = c.in-Ok.ensures.report in
     let then = g.C.Crew.out c.next.new.self in
     let there = some_of (find_order c.in-Ok.report.number c.args.master.now.board.orders) c.is_out.ensures c.if-not-is_out.false in
-    names.fits_now k c.in-Ok.report then report there c.turns_come_to_an_end.ensures.out
+    names.fits_now k c.in-Ok.report then report there
 
 pub returns-in-Ok-Goes-clause-model : goal.returns-in-Ok-Goes-clause-model
 returns-in-Ok-Goes-clause-model g c k =
     let report = c.in-Ok.ensures.report in
     let then = g.C.Crew.out c.next.new.self in
     let there = some_of (find_order c.in-Ok.report.number c.args.master.now.board.orders) c.is_out.ensures c.if-not-is_out.false in
-    taken_kept k c.in-Ok.report then report there c.requires.rests c.accept.ensures.carried c.in-Ok-Goes.ensures.learned
-    c.in-Ok-Goes.ensures.accepted (sym c.in-Ok-Goes.field-0-is ∙ c.in-Ok-Goes.ensures.now) c.places_stay.ensures c.rows_stay.ensures
-    c.next.ensures.shop c.in-Ok.ensures.sound
+    taken_kept c.requires.working k c.in-Ok.report then report there c.requires.rests c.accept.ensures.carried c.in-Ok-Goes.ensures.learned
+    c.in-Ok-Goes.ensures.accepted c.next.ensures.shop
 
 pub returns-in-Ok-Goes-clause-working : goal.returns-in-Ok-Goes-clause-working
 returns-in-Ok-Goes-clause-working g c =
@@ -61,7 +60,7 @@ returns-in-Ok-Goes-clause-working g c =
     let report = c.in-Ok.ensures.report in
     let then = g.C.Crew.out c.next.new.self in
     let there = some_of (find_order c.in-Ok.report.number c.args.master.now.board.orders) c.is_out.ensures c.if-not-is_out.false in
-    names.taken_kept k c.in-Ok.report then report there c.turns_come_to_an_end.ensures.out c.accept.ensures.carried c.in-Ok-Goes.ensures.learned
+    names.taken_kept k c.in-Ok.report then report there c.accept.ensures.carried c.in-Ok-Goes.ensures.learned
     c.in-Ok-Goes.ensures.accepted c.turns_come_to_an_end.ensures.report c.turns_come_to_an_end.ensures.missed (sym c.in-Ok-Goes.field-0-is ∙ c.in-Ok-Goes.ensures.now) c.rows_stay.ensures c.tasks_stay.ensures
     c.next.ensures.shop c.in-Ok.ensures.sound
 
@@ -71,7 +70,7 @@ returns-in-Ok-Goes-clause-less g c =
     let report = c.in-Ok.ensures.report in
     let then = g.C.Crew.out c.next.new.self in
     let there = some_of (find_order c.in-Ok.report.number c.args.master.now.board.orders) c.is_out.ensures c.if-not-is_out.false in
-    names.taken_less k c.in-Ok.report then report there c.turns_come_to_an_end.ensures.out c.accept.ensures.carried c.in-Ok-Goes.ensures.learned
+    names.taken_less k c.in-Ok.report then report there c.accept.ensures.carried c.in-Ok-Goes.ensures.learned
     c.in-Ok-Goes.ensures.accepted c.turns_come_to_an_end.ensures.report c.turns_come_to_an_end.ensures.missed (sym c.in-Ok-Goes.field-0-is ∙ c.in-Ok-Goes.ensures.now)
 
 pub returns-in-Ok-Goes-clause-plan : goal.returns-in-Ok-Goes-clause-plan
@@ -80,7 +79,7 @@ returns-in-Ok-Goes-clause-plan g c =
     let report = c.in-Ok.ensures.report in
     let then = g.C.Crew.out c.next.new.self in
     let there = some_of (find_order c.in-Ok.report.number c.args.master.now.board.orders) c.is_out.ensures c.if-not-is_out.false in
-    names.taken_plan k c.in-Ok.report then report there c.turns_come_to_an_end.ensures.out c.accept.ensures.carried c.in-Ok-Goes.ensures.learned c.in-Ok-Goes.ensures.accepted
+    names.taken_plan k c.in-Ok.report then report there c.accept.ensures.carried c.in-Ok-Goes.ensures.learned c.in-Ok-Goes.ensures.accepted
 
 pub returns-in-Ok-Goes-clause-told : goal.returns-in-Ok-Goes-clause-told
 returns-in-Ok-Goes-clause-told g c =
@@ -88,7 +87,7 @@ returns-in-Ok-Goes-clause-told g c =
     let report = c.in-Ok.ensures.report in
     let then = g.C.Crew.out c.next.new.self in
     let there = some_of (find_order c.in-Ok.report.number c.args.master.now.board.orders) c.is_out.ensures c.if-not-is_out.false in
-    names.taken_told k c.in-Ok.report then report there c.turns_come_to_an_end.ensures.out c.accept.ensures.carried c.in-Ok-Goes.ensures.learned
+    names.taken_told k c.in-Ok.report then report there c.accept.ensures.carried c.in-Ok-Goes.ensures.learned
     c.in-Ok-Goes.ensures.accepted (g.C.Crew.told c.args.crew.now) (g.C.Crew.told c.next.new.self) c.in-Ok.ensures.told
 
 pub returns-in-Ok-Answer-clause-end : goal.returns-in-Ok-Answer-clause-end
@@ -96,7 +95,7 @@ returns-in-Ok-Answer-clause-end g c k =
     let report = c.in-Ok.ensures.report in
     let then = g.C.Crew.out c.next.new.self in
     let there = some_of (find_order c.in-Ok.report.number c.args.master.now.board.orders) c.is_out.ensures c.if-not-is_out.false in
-    answer_ended k c.in-Ok.report then report there c.requires.rests c.accept.ensures.carried c.in-Ok-Answer.ensures.learned
+    answer_ended c.requires.working k c.in-Ok.report then report there c.requires.rests c.accept.ensures.carried c.in-Ok-Answer.ensures.learned
     c.in-Ok-Answer.ensures.accepted (sym c.in-Ok-Answer.field-0-is ∙ c.in-Ok-Answer.ensures.now)
 
 pub returns-in-Ok-Answer-clause-last : goal.returns-in-Ok-Answer-clause-last
@@ -105,7 +104,7 @@ returns-in-Ok-Answer-clause-last g c =
     let report = c.in-Ok.ensures.report in
     let then = g.C.Crew.out c.next.new.self in
     let there = some_of (find_order c.in-Ok.report.number c.args.master.now.board.orders) c.is_out.ensures c.if-not-is_out.false in
-    λ _. names.taken_told k c.in-Ok.report then report there c.turns_come_to_an_end.ensures.out c.accept.ensures.carried c.in-Ok-Answer.ensures.learned
+    λ _. names.taken_told k c.in-Ok.report then report there c.accept.ensures.carried c.in-Ok-Answer.ensures.learned
     c.in-Ok-Answer.ensures.accepted (g.C.Crew.told c.args.crew.now) (g.C.Crew.told c.next.new.self) c.in-Ok.ensures.told
 
 pub returns-in-Ok-Fault-clause-end : goal.returns-in-Ok-Fault-clause-end
@@ -113,7 +112,7 @@ returns-in-Ok-Fault-clause-end g c k =
     let report = c.in-Ok.ensures.report in
     let then = g.C.Crew.out c.next.new.self in
     let there = some_of (find_order c.in-Ok.report.number c.args.master.now.board.orders) c.is_out.ensures c.if-not-is_out.false in
-    fault_ended k c.in-Ok.report then report there c.requires.rests c.accept.ensures.carried c.in-Ok-Fault.ensures.learned
+    fault_ended c.requires.working k c.in-Ok.report then report there c.requires.rests c.accept.ensures.carried c.in-Ok-Fault.ensures.learned
     c.in-Ok-Fault.ensures.accepted (sym c.in-Ok-Fault.field-0-is ∙ c.in-Ok-Fault.ensures.now)
 
 pub returns-in-Ok-Fault-clause-last : goal.returns-in-Ok-Fault-clause-last
@@ -122,7 +121,7 @@ returns-in-Ok-Fault-clause-last g c =
     let report = c.in-Ok.ensures.report in
     let then = g.C.Crew.out c.next.new.self in
     let there = some_of (find_order c.in-Ok.report.number c.args.master.now.board.orders) c.is_out.ensures c.if-not-is_out.false in
-    λ _. names.taken_told k c.in-Ok.report then report there c.turns_come_to_an_end.ensures.out c.accept.ensures.carried c.in-Ok-Fault.ensures.learned
+    λ _. names.taken_told k c.in-Ok.report then report there c.accept.ensures.carried c.in-Ok-Fault.ensures.learned
     c.in-Ok-Fault.ensures.accepted (g.C.Crew.told c.args.crew.now) (g.C.Crew.told c.next.new.self) c.in-Ok.ensures.told
 
 pub returns-in-Err-NameClash-clause-end : goal.returns-in-Err-NameClash-clause-end
@@ -130,7 +129,7 @@ returns-in-Err-NameClash-clause-end g c k =
     let report = c.in-Ok.ensures.report in
     let then = g.C.Crew.out c.next.new.self in
     let there = some_of (find_order c.in-Ok.report.number c.args.master.now.board.orders) c.is_out.ensures c.if-not-is_out.false in
-    clash_ended k c.in-Ok.report then report there c.in-Err-NameClash.ensures.journal c.in-Err-NameClash.kept c.in-Err-NameClash.given
+    clash_ended c.requires.working k c.in-Ok.report then report there c.in-Err-NameClash.ensures.journal c.in-Err-NameClash.kept c.in-Err-NameClash.given
     (rw c.in-Err-NameClash.field-0-is at c.in-Err-NameClash.ensures.refused)
 
 pub returns-in-Err-NameClash-clause-last : goal.returns-in-Err-NameClash-clause-last
@@ -143,7 +142,7 @@ returns-in-Err-TooMany-clause-end g c k =
     let report = c.in-Ok.ensures.report in
     let then = g.C.Crew.out c.next.new.self in
     let there = some_of (find_order c.in-Ok.report.number c.args.master.now.board.orders) c.is_out.ensures c.if-not-is_out.false in
-    overflow_ended k c.in-Ok.report then report there c.in-Err-TooMany.ensures.journal c.in-Err-TooMany.held c.in-Err-TooMany.given
+    overflow_ended c.requires.working k c.in-Ok.report then report there c.in-Err-TooMany.ensures.journal c.in-Err-TooMany.held c.in-Err-TooMany.given
     (rw c.in-Err-TooMany.field-0-is at c.in-Err-TooMany.ensures.refused)
 
 pub returns-in-Err-TooMany-clause-last : goal.returns-in-Err-TooMany-clause-last

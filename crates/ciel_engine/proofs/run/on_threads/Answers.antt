@@ -9,13 +9,13 @@ use Rattle.ciel_engine.proofs.run.on_threads.Goals as goal
 pub run_over-requires-clause-kept : goal.run_over-requires-clause-kept
 run_over-requires-clause-kept g c =
     kept_of g.K.Kit.gives g.N.Namer.digest (arc_value c.args.opened.shop) c.args.plan.value c.args.opened.master
-    c.args.opened.eyes.items c.requires.opened c.requires.read c.requires.inputs c.places_stay.ensures
+    c.args.opened.eyes.items c.requires.opened c.requires.read c.requires.inputs
     c.functions_are_orderly.ensures.orderly _ c.args.seed _ c.in-Ok.crew c.in-Ok.ensures.opened c.requires.gates c.requires.seed
 
 pub run_over-requires-clause-working : goal.run_over-requires-clause-working
 run_over-requires-clause-working g c =
     working_of g.K.Kit.gives g.N.Namer.digest (arc_value c.args.opened.shop) c.args.plan.value c.args.opened.master
-    c.args.opened.eyes.items c.requires.opened c.requires.read c.requires.inputs c.places_stay.ensures
+    c.args.opened.eyes.items c.requires.opened c.requires.read c.requires.inputs
     c.functions_are_orderly.ensures.orderly _ _ c.in-Ok.crew c.in-Ok.ensures.opened c.requires.gates
 
 pub run_over-requires-clause-first : goal.run_over-requires-clause-first

@@ -1,8 +1,0 @@
-mod Places
-mod Spots
-mod Growing
-mod Base
-mod Saves
-mod Sent
-mod Rows
-mod Sending
