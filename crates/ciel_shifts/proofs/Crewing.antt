@@ -17,10 +17,10 @@ use Rattle.ciel_task.specs.declared.report.Report.{Report}
 use Rattle.ciel_task.specs.declared.shop.Shop.{Shop}
 use Rattle.ciel_crew.specs.Crews.{Answers, Fades, FadesEach, Reports, Takes, TellsTask, extended, order_at}
 use Rattle.ciel_inline.proofs.Keeping.{fades_one}
-use Rattle.ciel_channels.specs.Crewed.{CanBeDone, IsDoneOf, Keeps, KeepsAt, Stands, gathered, lane_told, lanes_told, order_in, orders_of}
-use Rattle.ciel_channels.specs.declared.performing.Done.{Done}
-use Rattle.ciel_channels.specs.declared.performing.Job.{Job}
-use Rattle.ciel_channels.specs.declared.performing.Tools.{Tools}
+use Rattle.ciel_shifts.specs.Crewed.{CanBeDone, IsDoneOf, Keeps, KeepsAt, Stands, gathered, lane_told, lanes_told, order_in, orders_of}
+use Rattle.ciel_shifts.specs.declared.performing.Done.{Done}
+use Rattle.ciel_shifts.specs.declared.performing.Job.{Job}
+use Rattle.ciel_shifts.specs.declared.performing.Tools.{Tools}
 
 any_default : {A : Type 0} (l : List A) (i : ℕ) (a b : A) → i < length l → get_or l i a ≡ get_or l i b
 any_default [] i a b lt = absurd (omega arith)

@@ -12,9 +12,9 @@ use Rattle.ciel_task.specs.Shop.{InputsInOrder}
 use Rattle.ciel_task.specs.declared.order.Order.{Order}
 use Rattle.ciel_task.specs.declared.shop.Shop.{Shop}
 use Rattle.ciel_crew.specs.Crews.{Answers, Takes, extended}
-use Rattle.ciel_channels.specs.declared.performing.Done.{Done}
-use Rattle.ciel_channels.specs.declared.performing.Job.{Job}
-use Rattle.ciel_channels.specs.declared.performing.Tools.{Tools}
+use Rattle.ciel_shifts.specs.declared.performing.Done.{Done}
+use Rattle.ciel_shifts.specs.declared.performing.Job.{Job}
+use Rattle.ciel_shifts.specs.declared.performing.Tools.{Tools}
 
 -- ---- one order
 

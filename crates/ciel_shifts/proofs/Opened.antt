@@ -11,9 +11,9 @@ use Rattle.ciel_task.specs.Shop.{InputsInOrder}
 use Rattle.ciel_task.specs.declared.order.Order.{Order}
 use Rattle.ciel_task.specs.declared.shop.Shop.{Shop}
 use Rattle.ciel_inline.specs.Kept.{AllLook, CrewSeen}
-use Rattle.ciel_channels.specs.Crewed.{Keeps, KeepsAt, Stands, lanes_told, orders_of, tools_of}
-use Rattle.ciel_channels.specs.declared.performing.Job.{Job}
-use Rattle.ciel_channels.specs.declared.performing.Tools.{Tools}
+use Rattle.ciel_shifts.specs.Crewed.{Keeps, KeepsAt, Stands, lanes_told, orders_of, tools_of}
+use Rattle.ciel_shifts.specs.declared.performing.Job.{Job}
+use Rattle.ciel_shifts.specs.declared.performing.Tools.{Tools}
 
 pub tools_many : {G : Type 0} (gates : List G) (eyes : List SeatSeen) → length eyes ≡ length gates → length (tools_of gates eyes) ≡ length gates
 tools_many [] eyes e = refl

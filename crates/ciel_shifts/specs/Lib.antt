@@ -1,0 +1,3 @@
+pub use Rattle.ciel_inline.specs.Kept
+pub use Rattle.ciel_inline.specs.Onward
+pub mod Crewed
