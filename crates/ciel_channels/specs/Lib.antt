@@ -1,2 +1,1 @@
-pub use Rattle.ciel_shifts.specs.Kept
 pub use Rattle.ciel_shifts.specs.Onward

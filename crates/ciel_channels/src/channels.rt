@@ -3,9 +3,9 @@
 ghost use Rattle.std.specs.Prelude.{◌≡◌, ◌<◌, ◌^◌, true, None, IfErr, IfOk, length, map, replicate};
 ghost use Rattle.std.specs.Arc.{arc_value};
 ghost use Rattle.sky_base.specs.JobView.{job_view};
-ghost use Rattle.ciel_inline.specs.Onward.{IsRead};
+ghost use Rattle.ciel_shifts.specs.Onward.{IsRead};
 ghost use Rattle.ciel_task.specs.Shop.{InputsInOrder};
-ghost use Rattle.ciel_inline.specs.Kept.{AllLook};
+ghost use Rattle.ciel_crew.specs.Seen.{AllLook};
 
 use ciel_crew::crew::Crew;
 use ciel_gate::gate::Gate;
@@ -45,7 +45,7 @@ impl<K: Kit + Drop, N: Namer + Drop, G: Gate, R: Wait + Drop> Model for Channels
     ghost use Rattle.sky_base.specs.Code.{pairs_code, val_code, vals_code};
     ghost use Rattle.sky_base.specs.ScriptCode.{script_code};
     ghost use Rattle.sky_frozen.specs.FrozenCode.{stand_code};
-    ghost use Rattle.ciel_inline.specs.Kept.{CrewSeen};
+    ghost use Rattle.ciel_crew.specs.Seen.{CrewSeen};
     ghost use Rattle.ciel_shifts.specs.Crewed.{Stands, lanes_told, orders_of};
 
     ghost Value = { CrewSeen K N };

@@ -4,7 +4,7 @@ use Rattle.std.specs.Arc.{arc_value}
 use Rattle.sky_base.specs.JobView.{job_view}
 use Rattle.sky_base.specs.KitView.{Gives}
 use Rattle.sky_base.specs.declared.object.TaskId.{TaskId}
-use Rattle.ciel_inline.specs.Onward.{IsRead}
+use Rattle.ciel_worker.specs.Onward.{IsRead}
 use Rattle.ciel_gate.specs.Entered.{IsEntered}
 use Rattle.ciel_lanes.specs.Seen.{LaneSeen, lane_at}
 use Rattle.ciel_store.specs.Seen.{SeatSeen}

@@ -1,3 +1,2 @@
-pub use Rattle.ciel_inline.specs.Kept
-pub use Rattle.ciel_inline.specs.Onward
+pub use Rattle.ciel_worker.specs.Onward
 pub mod Crewed

@@ -2,19 +2,19 @@
 
 ghost use Rattle.std.specs.Prelude.{◌≡◌, IfOk};
 ghost use Rattle.sky_base.specs.JobView.{job_view};
-ghost use Rattle.ciel_inline.specs.Onward.{IsRead};
+ghost use Rattle.ciel_worker.specs.Onward.{IsRead};
 ghost use Rattle.ciel_gate.specs.Entered.{IsEntered};
 ghost use Rattle.ciel_task.specs.Shop.{InputsInOrder};
 ghost use Rattle.ciel_crew.specs.Crews.{Answers, Takes};
 
 use ciel_gate::gate::Gate;
-use ciel_inline::perform::perform;
 use ciel_lanes::work::Work;
 use ciel_name::name::Namer;
 use ciel_store::seats::Eye;
 use ciel_task::order::Order;
 use ciel_task::report::Report;
 use ciel_task::shop::Shop;
+use ciel_worker::perform::perform;
 use sky_base::kit::Kit;
 use sky_base::text::Memory;
 use std::alloc::Global;
