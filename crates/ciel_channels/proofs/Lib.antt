@@ -1,4 +1,0 @@
-pub mod Crewing
-pub mod Crossing
-pub mod Gathered
-pub mod Opened

@@ -1,3 +1,1 @@
-pub use Rattle.ciel_inline.specs.Kept
-pub use Rattle.ciel_inline.specs.Onward
-pub mod Crewed
+pub use Rattle.ciel_shifts.specs.Onward

@@ -3,17 +3,17 @@
 ghost use Rattle.std.specs.Prelude.{◌≡◌, ◌<◌, ◌^◌, true, None, IfErr, IfOk, length, map, replicate};
 ghost use Rattle.std.specs.Arc.{arc_value};
 ghost use Rattle.sky_base.specs.JobView.{job_view};
-ghost use Rattle.ciel_inline.specs.Onward.{IsRead};
+ghost use Rattle.ciel_shifts.specs.Onward.{IsRead};
 ghost use Rattle.ciel_task.specs.Shop.{InputsInOrder};
-ghost use Rattle.ciel_inline.specs.Kept.{AllLook};
+ghost use Rattle.ciel_crew.specs.Seen.{AllLook};
 
-use crate::closing::gather;
-use crate::opening::{equipped, room_for};
-use crate::performing::{Done, Job, Performing, Tools};
 use ciel_crew::crew::Crew;
 use ciel_gate::gate::Gate;
 use ciel_lanes::lanes::Lanes;
 use ciel_name::name::Namer;
+use ciel_shifts::closing::gather;
+use ciel_shifts::opening::{equipped, room_for};
+use ciel_shifts::performing::{Done, Job, Performing, Tools};
 use ciel_store::seats::Eye;
 use ciel_task::order::Order;
 use ciel_task::report::Report;
@@ -45,8 +45,8 @@ impl<K: Kit + Drop, N: Namer + Drop, G: Gate, R: Wait + Drop> Model for Channels
     ghost use Rattle.sky_base.specs.Code.{pairs_code, val_code, vals_code};
     ghost use Rattle.sky_base.specs.ScriptCode.{script_code};
     ghost use Rattle.sky_frozen.specs.FrozenCode.{stand_code};
-    ghost use Rattle.ciel_inline.specs.Kept.{CrewSeen};
-    ghost use Rattle.ciel_channels.specs.Crewed.{Stands, lanes_told, orders_of};
+    ghost use Rattle.ciel_crew.specs.Seen.{CrewSeen};
+    ghost use Rattle.ciel_shifts.specs.Crewed.{Stands, lanes_told, orders_of};
 
     ghost Value = { CrewSeen K N };
 

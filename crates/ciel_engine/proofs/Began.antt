@@ -14,7 +14,7 @@ use Rattle.ciel_crew.specs.Crews.{order_at}
 use Rattle.ciel_drive.specs.Kept.{Kept, slots_of}
 use Rattle.ciel_ends.specs.Ends.{IsOrderly}
 use Rattle.ciel_ends.proofs.Meaning.{shop_is}
-use Rattle.ciel_channels.specs.Kept.{CrewSeen}
+use Rattle.ciel_crew.specs.Seen.{CrewSeen}
 use Rattle.ciel_master.specs.Seen.{MasterSeen, plan_view}
 use Rattle.ciel_master.specs.declared.plan.RunPlan.{RunPlan}
 use Rattle.ciel_store.specs.Seen.{SeatSeen}

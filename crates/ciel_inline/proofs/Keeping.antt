@@ -1,5 +1,5 @@
 -- What a crew keeps where an order is performed, and where a report is handed out.
-use Rattle.std.proofs.Common.{◌≡◌, ◌≢◌, ℕ, zero, suc, ◌<◌, List, [], ◌∷◌, length, map, get_or, set, replicate, true, Option, Some, None, ◌⊎◌, inl}
+use Rattle.std.proofs.Common.{◌≡◌, ◌≢◌, ℕ, zero, suc, ◌<◌, List, [], ◌∷◌, length, map, get_or, set, replicate, Option, Some, None, ◌⊎◌, inl}
 use Rattle.std.proofs.Common.{inr, refl, sym, ap, subst, ◌∙◌, arith}
 use Rattle.std.proofs.lemmas.Bool.{cases_eq}
 use Rattle.std.proofs.lemmas.List.{get_or_default, get_or-map, get_or-set_other, get_or-set_same, length-map, length-set, map-set}
@@ -10,7 +10,9 @@ use Rattle.ciel_task.specs.declared.order.Order.{Order}
 use Rattle.ciel_task.specs.declared.shop.Shop.{Shop}
 use Rattle.ciel_store.specs.Seen.{SeatSeen}
 use Rattle.ciel_crew.specs.Crews.{Answers, Fades, FadesEach, IsOut, Reports, extended, order_at, told_at}
-use Rattle.ciel_inline.specs.Kept.{AllLook, CrewSeen, KeptAt, KeptSo, Stands, order_of}
+use Rattle.ciel_crew.specs.Seen.{AllLook}
+use Rattle.ciel_crew.proofs.Telling.{fades_one, seen_as}
+use Rattle.ciel_inline.specs.Kept.{KeptAt, KeptSo, Stands, order_of}
 use Rattle.ciel_inline.specs.declared.seats.Kept.{Kept}
 
 -- ---- orders
@@ -29,9 +31,6 @@ out_set kept w x o e = map-set order_of kept w x ∙ ap (set (map order_of kept)
 pub nothing_out : (n : ℕ) → map order_of (replicate n None) ≡ replicate n None
 nothing_out zero = refl
 nothing_out (suc n) = ap (λ os. None ∷ os) (nothing_out n)
-
-abbrev seen_as : {K N : Type 0} → Shop K N → List (Option (List TaskId)) → List (Option Order) → CrewSeen K N
-seen_as shop told out = record { shop = shop; out = out; told = told; sound = true }
 
 pub opened_as : {K N : Type 0} (shop : Shop K N) (told : List (Option (List TaskId))) (kept : List (Option Kept)) (workers many : ℕ) → kept
     ≡ replicate workers None → workers ≡ many → seen_as shop told (map order_of kept) ≡ seen_as shop told (replicate many None)
@@ -134,12 +133,6 @@ none_out kept seen out e same none_kept (w, order, is) =
     some_none q = cc
 
 -- ---- gates
-
--- a list with one task more, where it is still told
-pub fades_one : (task : TaskId) (before after : Option (List TaskId)) → IsEntered before task after → Fades (extended before task) after
-fades_one task before None e = inl refl
-fades_one task before (Some ts) (was, b, a) =
-    inr (ap Some a ∙ sym (ap (λ x. extended x task) b))
 
 module _ {G : Type 0} (entered : G → Option (List TaskId)) where
   told_one : (gates : List G) (k : ℕ) (d : G) → k < length gates → told_at (map entered gates) k ≡ entered (get_or gates k d)

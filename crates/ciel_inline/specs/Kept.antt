@@ -1,31 +1,20 @@
 -- What a crew keeps that performs orders where they are sent.
-use Rattle.std.specs.Prelude.{◌≡◌, ℕ, ◌<◌, List, Bool, length, slice_index_or, Option, Some, None}
+use Rattle.std.specs.Prelude.{◌≡◌, ℕ, List, length, slice_index_or, Option, Some, None}
 use Rattle.sky_base.specs.JobView.{job_view}
 use Rattle.sky_base.specs.KitView.{Gives}
-use Rattle.sky_base.specs.declared.object.TaskId.{TaskId}
 use Rattle.ciel_worker.specs.Onward.{IsRead}
 use Rattle.ciel_store.specs.Seen.{SeatSeen}
 use Rattle.ciel_task.specs.Shop.{InputsInOrder}
 use Rattle.ciel_task.specs.declared.order.Order.{Order}
 use Rattle.ciel_task.specs.declared.shop.Shop.{Shop}
 use Rattle.ciel_crew.specs.Crews.{Answers}
+use Rattle.ciel_crew.specs.Seen.{AllLook}
 use Rattle.ciel_inline.specs.declared.seats.Kept.{Kept}
-
--- the shop; the order of each worker whose report is kept; what each gate tells; and whether no call has failed
-pub record CrewSeen (K N : Type 0) : Type 0 where
-  pub shop : Shop K N
-  pub out : List (Option Order)
-  pub told : List (Option (List TaskId))
-  pub sound : Bool
 
 -- the order of a report that is kept
 abbrev pub order_of : Option Kept → Option Order
 order_of None = None
 order_of (Some x) = Some x.of.value
-
--- all look at the shop's shelves
-abbrev pub AllLook : {K N : Type 0} → Shop K N → List SeatSeen → Type 0
-AllLook shop eyes = (worker : ℕ) (none : SeatSeen) → worker < length eyes → (slice_index_or eyes worker none).of ≡ shop.shelves.of
 
 -- for each kit what it gives, and for each namer its digest
 module _ {K N : Type 0} (gives : K → Gives) (digest : N → List ℕ → List ℕ) (shop : Shop K N) where

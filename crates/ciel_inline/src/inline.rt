@@ -5,7 +5,7 @@ ghost use Rattle.std.specs.Arc.{arc_value};
 ghost use Rattle.sky_base.specs.JobView.{job_view};
 ghost use Rattle.ciel_worker.specs.Onward.{IsRead};
 ghost use Rattle.ciel_task.specs.Shop.{InputsInOrder};
-ghost use Rattle.ciel_inline.specs.Kept.{AllLook};
+ghost use Rattle.ciel_crew.specs.Seen.{AllLook};
 
 use crate::seats::{Kept, first_kept, perform_one};
 use ciel_crew::crew::Crew;
@@ -41,7 +41,8 @@ impl<K: Kit, N: Namer, G: Gate, R> Model for Inline<K, N, G, R> {
     ghost use Rattle.sky_base.specs.Code.{pairs_code, val_code, vals_code};
     ghost use Rattle.sky_base.specs.ScriptCode.{script_code};
     ghost use Rattle.sky_frozen.specs.FrozenCode.{stand_code};
-    ghost use Rattle.ciel_inline.specs.Kept.{CrewSeen, Stands, order_of};
+    ghost use Rattle.ciel_crew.specs.Seen.{CrewSeen};
+    ghost use Rattle.ciel_inline.specs.Kept.{Stands, order_of};
 
     ghost Value = { CrewSeen K N };
 

@@ -3,8 +3,8 @@ use Rattle.std.proofs.Common.{◌≡◌, arith, length}
 use Rattle.std.proofs.Crossing as std_crossing
 use Rattle.std.specs.Arc.{arc_value}
 use Rattle.std.specs.Vec.{vec_capacity}
-use Rattle.ciel_channels.proofs.Crossing.{done_send, work_send}
-use Rattle.ciel_channels.proofs.Opened.{opened_as, opened_stands}
+use Rattle.ciel_shifts.proofs.Crossing.{done_send, work_send}
+use Rattle.ciel_shifts.proofs.Opened.{opened_as, opened_stands}
 use Rattle.ciel_channels.proofs.channels.Channels.open.Goals as goal
 
 pub invariant_of-result : goal.invariant_of-result

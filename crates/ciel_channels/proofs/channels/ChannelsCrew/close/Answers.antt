@@ -1,8 +1,8 @@
 use Rattle.std.proofs.Common.{List, ap, ◌∙◌, length, map, subst, sym}
 use Rattle.std.proofs.lemmas.List.{length-map}
 use Rattle.ciel_crew.specs.Crews.{FadesEach}
-use Rattle.ciel_inline.specs.Kept.{CrewSeen}
-use Rattle.ciel_channels.proofs.Crewing.{all_gates}
+use Rattle.ciel_crew.specs.Seen.{CrewSeen}
+use Rattle.ciel_shifts.proofs.Crewing.{all_gates}
 use Rattle.ciel_channels.proofs.channels.ChannelsCrew.close.Goals as goal
 
 pub returns-clause-all : goal.returns-clause-all

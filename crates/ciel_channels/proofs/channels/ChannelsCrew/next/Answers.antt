@@ -3,9 +3,9 @@ use Rattle.std.specs.Prelude.{IfOk}
 use Rattle.std.specs.Arc.{arc_value}
 use Rattle.std.specs.Vec.{vec_capacity}
 use Rattle.ciel_crew.specs.Crews.{Answers, Reports}
-use Rattle.ciel_inline.specs.Kept.{CrewSeen}
-use Rattle.ciel_channels.specs.Crewed.{orders_of}
-use Rattle.ciel_channels.proofs.Crewing.{out_at, stands_taken, takes_report, takes_told, told_many}
+use Rattle.ciel_crew.specs.Seen.{CrewSeen}
+use Rattle.ciel_shifts.specs.Crewed.{orders_of}
+use Rattle.ciel_shifts.proofs.Crewing.{out_at, stands_taken, takes_report, takes_told, told_many}
 use Rattle.ciel_channels.proofs.channels.ChannelsCrew.next.Goals as goal
 
 pub take-worker-requires : goal.take-worker-requires

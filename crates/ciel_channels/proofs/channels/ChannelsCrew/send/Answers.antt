@@ -2,9 +2,9 @@ use Rattle.std.proofs.Common.{ap, refl, subst, sym}
 use Rattle.std.specs.Arc.{arc_value}
 use Rattle.std.specs.Vec.{vec_capacity}
 use Rattle.ciel_crew.specs.Crews.{Takes}
-use Rattle.ciel_inline.specs.Kept.{CrewSeen}
-use Rattle.ciel_channels.specs.declared.performing.Job.{Job}
-use Rattle.ciel_channels.proofs.Crewing.{can_be_done, looks_there, none_there, orders_put, sent_told, stands_put, told_many, tools_there}
+use Rattle.ciel_crew.specs.Seen.{CrewSeen}
+use Rattle.ciel_shifts.specs.declared.performing.Job.{Job}
+use Rattle.ciel_shifts.proofs.Crewing.{can_be_done, looks_there, none_there, orders_put, sent_told, stands_put, told_many, tools_there}
 use Rattle.ciel_channels.proofs.channels.ChannelsCrew.send.Goals as goal
 
 pub put-requires-clause-takes : goal.put-requires-clause-takes

@@ -1,7 +1,8 @@
 use Rattle.std.proofs.Common.{◌<◌, length, map, slice_set, subst, ap}
 use Rattle.std.specs.Arc.{arc_value}
 use Rattle.ciel_crew.specs.Crews.{Reports}
-use Rattle.ciel_inline.specs.Kept.{CrewSeen, order_of}
+use Rattle.ciel_crew.specs.Seen.{CrewSeen}
+use Rattle.ciel_inline.specs.Kept.{order_of}
 use Rattle.ciel_inline.proofs.Keeping.{handed, none_out, stands_handed, taken_is}
 use Rattle.ciel_inline.proofs.inline.InlineCrew.next.Goals as goal
 

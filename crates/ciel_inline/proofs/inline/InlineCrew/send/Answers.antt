@@ -2,7 +2,7 @@ use Rattle.std.proofs.Common.{◌<◌, Some, length, map, slice_set, refl, subst
 use Rattle.std.proofs.lemmas.List.{length-set}
 use Rattle.std.specs.Arc.{arc_value}
 use Rattle.ciel_crew.specs.Crews.{Answers, TellsTask}
-use Rattle.ciel_inline.specs.Kept.{CrewSeen}
+use Rattle.ciel_crew.specs.Seen.{CrewSeen}
 use Rattle.ciel_inline.proofs.Keeping.{enters, kept_at, kept_set, looks_there, out_set, stands_after, within}
 use Rattle.ciel_inline.proofs.inline.InlineCrew.send.Goals as goal
 

@@ -2,19 +2,19 @@
 
 ghost use Rattle.std.specs.Prelude.{◌≡◌, IfOk};
 ghost use Rattle.sky_base.specs.JobView.{job_view};
-ghost use Rattle.ciel_inline.specs.Onward.{IsRead};
+ghost use Rattle.ciel_worker.specs.Onward.{IsRead};
 ghost use Rattle.ciel_gate.specs.Entered.{IsEntered};
 ghost use Rattle.ciel_task.specs.Shop.{InputsInOrder};
 ghost use Rattle.ciel_crew.specs.Crews.{Answers, Takes};
 
 use ciel_gate::gate::Gate;
-use ciel_inline::perform::perform;
 use ciel_lanes::work::Work;
 use ciel_name::name::Namer;
 use ciel_store::seats::Eye;
 use ciel_task::order::Order;
 use ciel_task::report::Report;
 use ciel_task::shop::Shop;
+use ciel_worker::perform::perform;
 use sky_base::kit::Kit;
 use sky_base::text::Memory;
 use std::alloc::Global;
@@ -23,14 +23,14 @@ use std::sync::{Arc, Wait};
 
 /// A worker's gate and eye.
 #[derive(Drop)]
-pub(crate) struct Tools<G> {
+pub struct Tools<G> {
     pub gate: G,
     pub eye: Eye,
 }
 
 /// An order, with its worker's gate and eye and the shop.
 #[derive(Drop)]
-pub(crate) struct Job<K, N, G, R> {
+pub struct Job<K, N, G, R> {
     pub rt: R,
     pub alloc: Global,
     pub shop: Arc<Shop<K, N>, Global>,
@@ -40,13 +40,13 @@ pub(crate) struct Job<K, N, G, R> {
 
 /// The report, or want of memory, with the gate and the eye.
 #[derive(Drop)]
-pub(crate) struct Done<G> {
+pub struct Done<G> {
     pub report: Result<Report, Memory>,
     pub tools: Tools<G>,
 }
 
 /// The work of a lane: it performs an order.
-pub(crate) struct Performing<K, N, G, R> {
+pub struct Performing<K, N, G, R> {
     of: PhantomData<(K, N, G, R)>,
 }
 
@@ -55,7 +55,7 @@ impl<K: Kit + Drop, N: Namer + Drop, G: Gate, R: Wait + Drop> Work for Performin
 
     type Out = Done<G>;
 
-    ghost use Rattle.ciel_channels.specs.Crewed.{CanBeDone, IsDoneOf};
+    ghost use Rattle.ciel_shifts.specs.Crewed.{CanBeDone, IsDoneOf};
 
     ghost takes = { λ job. CanBeDone K.gives N.digest job };
 
@@ -74,8 +74,10 @@ impl<K: Kit + Drop, N: Namer + Drop, G: Gate, R: Wait + Drop> Work for Performin
     }
 }
 
-// Performs an order with its worker's gate and eye.
-fn performed<K: Kit, N: Namer, G: Gate, R: Wait>(
+/// Performs an order with its worker's gate and eye.
+///
+/// Answers `Memory` for want of memory.
+pub fn performed<K: Kit, N: Namer, G: Gate, R: Wait>(
     rt: &R,
     alloc: Global,
     shop: &Shop<K, N>,

@@ -1,19 +1,19 @@
 -- The crew at the opening.
-use Rattle.std.proofs.Common.{◌≡◌, ℕ, zero, suc, ◌<◌, ◌≤◌, List, [], ◌∷◌, length, get_or, map, replicate, true, Option, Some, None, refl, sym, ap}
+use Rattle.std.proofs.Common.{◌≡◌, ℕ, zero, suc, ◌<◌, ◌≤◌, List, [], ◌∷◌, length, get_or, map, replicate, Option, Some, None, refl, sym, ap}
 use Rattle.std.proofs.Common.{subst, ◌∙◌, arith}
 use Rattle.std.specs.Prelude.{All}
 use Rattle.sky_base.specs.JobView.{job_view}
 use Rattle.sky_base.specs.declared.object.TaskId.{TaskId}
-use Rattle.ciel_inline.specs.Onward.{IsRead}
+use Rattle.ciel_worker.specs.Onward.{IsRead}
 use Rattle.ciel_lanes.specs.Seen.{LaneSeen, lane_at}
 use Rattle.ciel_store.specs.Seen.{SeatSeen}
 use Rattle.ciel_task.specs.Shop.{InputsInOrder}
-use Rattle.ciel_task.specs.declared.order.Order.{Order}
 use Rattle.ciel_task.specs.declared.shop.Shop.{Shop}
-use Rattle.ciel_inline.specs.Kept.{AllLook, CrewSeen}
-use Rattle.ciel_channels.specs.Crewed.{Keeps, KeepsAt, Stands, lanes_told, orders_of, tools_of}
-use Rattle.ciel_channels.specs.declared.performing.Job.{Job}
-use Rattle.ciel_channels.specs.declared.performing.Tools.{Tools}
+use Rattle.ciel_crew.specs.Seen.{AllLook}
+use Rattle.ciel_crew.proofs.Telling.{seen_as}
+use Rattle.ciel_shifts.specs.Crewed.{Keeps, KeepsAt, Stands, lanes_told, orders_of, tools_of}
+use Rattle.ciel_shifts.specs.declared.performing.Job.{Job}
+use Rattle.ciel_shifts.specs.declared.performing.Tools.{Tools}
 
 pub tools_many : {G : Type 0} (gates : List G) (eyes : List SeatSeen) → length eyes ≡ length gates → length (tools_of gates eyes) ≡ length gates
 tools_many [] eyes e = refl
@@ -21,9 +21,6 @@ tools_many (g ∷ gates) [] e = absurd (omega (arith, e))
 tools_many (g ∷ gates) (x ∷ eyes) e =
     let rest : length eyes ≡ length gates = omega (arith, e) in
     ap suc (tools_many gates eyes rest)
-
-abbrev seen_as : {K N : Type 0} → Shop K N → List (Option (List TaskId)) → List (Option Order) → CrewSeen K N
-seen_as shop told out = record { shop = shop; out = out; told = told; sound = true }
 
 module _ {K N G R : Type 0} where
   -- a lane that nothing was put on

@@ -1,6 +1,6 @@
 use Rattle.std.proofs.Common.{◌≡◌, ◌+◌, ◌≤◌, ◌++◌, length, vec_capacity}
-use Rattle.ciel_channels.specs.Crewed.{gathered}
-use Rattle.ciel_channels.proofs.closing.gather.Given as goal
+use Rattle.ciel_shifts.specs.Crewed.{gathered}
+use Rattle.ciel_shifts.proofs.closing.gather.Given as goal
 
 abbrev pub invariant-loop-tools : goal.invariant-loop-tools
 invariant-loop-tools g l =

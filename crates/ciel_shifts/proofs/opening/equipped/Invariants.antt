@@ -1,6 +1,6 @@
 use Rattle.std.proofs.Common.{◌≡◌, ◌+◌, ◌≤◌, ◌++◌, length, vec_capacity}
-use Rattle.ciel_channels.specs.Crewed.{tools_of}
-use Rattle.ciel_channels.proofs.opening.equipped.Given as goal
+use Rattle.ciel_shifts.specs.Crewed.{tools_of}
+use Rattle.ciel_shifts.proofs.opening.equipped.Given as goal
 
 abbrev pub invariant-loop-gate : goal.invariant-loop-gate
 invariant-loop-gate g l =

@@ -47,9 +47,9 @@ use Rattle.ciel_task.specs.contracts.block.Block as spot_row
 use Rattle.ciel_store.proofs.shelves.Shelves.TheSendSync as shelves
 use Rattle.ciel_store.proofs.seats.Eye.TheSendSync as eye
 use Rattle.ciel_task.specs.contracts.shop.Shop as shop_row
-use Rattle.ciel_channels.specs.contracts.performing.Tools as tools_row
-use Rattle.ciel_channels.specs.contracts.performing.Job as work_row
-use Rattle.ciel_channels.specs.contracts.performing.Done as done_row
+use Rattle.ciel_shifts.specs.contracts.performing.Tools as tools_row
+use Rattle.ciel_shifts.specs.contracts.performing.Job as work_row
+use Rattle.ciel_shifts.specs.contracts.performing.Done as done_row
 
 pub body_sync : IsSync block_row.the_row
 body_sync = search (

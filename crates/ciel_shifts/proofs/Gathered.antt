@@ -3,9 +3,9 @@ use Rattle.std.proofs.Common.{◌≡◌, ℕ, ◌+◌, ◌≤◌, List, [], ◌�
 use Rattle.std.proofs.Common.{Some, None}
 use Rattle.std.specs.Prelude.{MatchOption, option_to_list}
 use Rattle.std.proofs.lemmas.List.{append-nil}
-use Rattle.ciel_channels.specs.Crewed.{gathered}
-use Rattle.ciel_channels.specs.declared.performing.Done.{Done}
-use Rattle.ciel_channels.specs.declared.performing.Tools.{Tools}
+use Rattle.ciel_shifts.specs.Crewed.{gathered}
+use Rattle.ciel_shifts.specs.declared.performing.Done.{Done}
+use Rattle.ciel_shifts.specs.declared.performing.Tools.{Tools}
 
 pub room_grows : {G : Type 0} (room room' : List G) (kept : Option G) (cap left : ℕ) → room' ≡ room ++ option_to_list kept
     → length room + (left + 1) ≤ cap → length room' + left ≤ cap

@@ -4,7 +4,7 @@ use Rattle.std.specs.Arc.{arc_value}
 use Rattle.sky_base.specs.JobView.{job_view}
 use Rattle.sky_base.specs.KitView.{Gives}
 use Rattle.sky_base.specs.declared.object.TaskId.{TaskId}
-use Rattle.ciel_inline.specs.Onward.{IsRead}
+use Rattle.ciel_worker.specs.Onward.{IsRead}
 use Rattle.ciel_gate.specs.Entered.{IsEntered}
 use Rattle.ciel_lanes.specs.Seen.{LaneSeen, lane_at}
 use Rattle.ciel_store.specs.Seen.{SeatSeen}
@@ -12,9 +12,9 @@ use Rattle.ciel_task.specs.Shop.{InputsInOrder}
 use Rattle.ciel_task.specs.declared.order.Order.{Order}
 use Rattle.ciel_task.specs.declared.shop.Shop.{Shop}
 use Rattle.ciel_crew.specs.Crews.{Answers, Takes, extended}
-use Rattle.ciel_channels.specs.declared.performing.Done.{Done}
-use Rattle.ciel_channels.specs.declared.performing.Job.{Job}
-use Rattle.ciel_channels.specs.declared.performing.Tools.{Tools}
+use Rattle.ciel_shifts.specs.declared.performing.Done.{Done}
+use Rattle.ciel_shifts.specs.declared.performing.Job.{Job}
+use Rattle.ciel_shifts.specs.declared.performing.Tools.{Tools}
 
 -- ---- one order
 

@@ -9,18 +9,18 @@ use Rattle.ciel_lanes.specs.Seen.{LaneSeen, lane_at, Closes}
 use Rattle.sky_base.specs.JobView.{job_view}
 use Rattle.sky_base.specs.KitView.{Gives}
 use Rattle.sky_base.specs.declared.object.TaskId.{TaskId}
-use Rattle.ciel_inline.specs.Onward.{IsRead}
+use Rattle.ciel_worker.specs.Onward.{IsRead}
 use Rattle.ciel_gate.specs.Entered.{IsEntered}
 use Rattle.ciel_task.specs.Shop.{InputsInOrder}
 use Rattle.ciel_task.specs.declared.order.Order.{Order}
 use Rattle.ciel_task.specs.declared.report.Report.{Report}
 use Rattle.ciel_task.specs.declared.shop.Shop.{Shop}
 use Rattle.ciel_crew.specs.Crews.{Answers, Fades, FadesEach, Reports, Takes, TellsTask, extended, order_at}
-use Rattle.ciel_inline.proofs.Keeping.{fades_one}
-use Rattle.ciel_channels.specs.Crewed.{CanBeDone, IsDoneOf, Keeps, KeepsAt, Stands, gathered, lane_told, lanes_told, order_in, orders_of}
-use Rattle.ciel_channels.specs.declared.performing.Done.{Done}
-use Rattle.ciel_channels.specs.declared.performing.Job.{Job}
-use Rattle.ciel_channels.specs.declared.performing.Tools.{Tools}
+use Rattle.ciel_crew.proofs.Telling.{fades_one}
+use Rattle.ciel_shifts.specs.Crewed.{CanBeDone, IsDoneOf, Keeps, KeepsAt, Stands, gathered, lane_told, lanes_told, order_in, orders_of}
+use Rattle.ciel_shifts.specs.declared.performing.Done.{Done}
+use Rattle.ciel_shifts.specs.declared.performing.Job.{Job}
+use Rattle.ciel_shifts.specs.declared.performing.Tools.{Tools}
 
 any_default : {A : Type 0} (l : List A) (i : ℕ) (a b : A) → i < length l → get_or l i a ≡ get_or l i b
 any_default [] i a b lt = absurd (omega arith)

@@ -1,7 +1,7 @@
 //! What a crew begins with: room, and each gate with its eye.
 
 ghost use Rattle.std.specs.Prelude.{◌≡◌, ◌≤◌, [], IfOk, length, vec_capacity};
-ghost use Rattle.ciel_channels.specs.Crewed.{tools_of};
+ghost use Rattle.ciel_shifts.specs.Crewed.{tools_of};
 
 use crate::performing::Tools;
 use ciel_gate::gate::Gate;
@@ -12,7 +12,7 @@ use std::alloc::Global;
 /// Room for so many of them.
 ///
 /// Answers `Memory` for want of memory.
-pub(crate) fn room_for<T>(alloc: Global, many: usize) -> Result<Vec<T>, Memory>
+pub fn room_for<T>(alloc: Global, many: usize) -> Result<Vec<T>, Memory>
     ensures empty { IfOk result (λ room. room.items ≡ []) }
     ensures room { IfOk result (λ room. many ≤ vec_capacity room) }
 {
@@ -23,7 +23,7 @@ pub(crate) fn room_for<T>(alloc: Global, many: usize) -> Result<Vec<T>, Memory>
 }
 
 /// Each gate with its eye, in the room made for them.
-pub(crate) fn equipped<G: Gate>(
+pub fn equipped<G: Gate>(
     room: Vec<Option<Tools<G>>>,
     gates: Vec<G>,
     eyes: Vec<Eye>,

@@ -1,10 +1,10 @@
 use Rattle.std.proofs.Common.{List, Option, Some, ◌≡◌, ◌+◌, ◌≤◌, ◌++◌, ◌∷◌, ◌∙◌, ap, arith, length, subst, sym}
 use Rattle.std.specs.Prelude.{option_to_list}
-use Rattle.ciel_channels.specs.Crewed.{gathered}
-use Rattle.ciel_channels.specs.declared.performing.Tools.{Tools}
-use Rattle.ciel_channels.proofs.Gathered.{all_there, keeps_first, none_left, none_one, room_grows, some_one}
-use Rattle.ciel_channels.proofs.closing.gather.Goals as goal
-use Rattle.ciel_channels.proofs.closing.gather.Goals.{in-None-tools, in-Some-tools}
+use Rattle.ciel_shifts.specs.Crewed.{gathered}
+use Rattle.ciel_shifts.specs.declared.performing.Tools.{Tools}
+use Rattle.ciel_shifts.proofs.Gathered.{all_there, keeps_first, none_left, none_one, room_grows, some_one}
+use Rattle.ciel_shifts.proofs.closing.gather.Goals as goal
+use Rattle.ciel_shifts.proofs.closing.gather.Goals.{in-None-tools, in-Some-tools}
 
 pub loop-tools-preserved : goal.loop-tools-preserved
 loop-tools-preserved g c =

@@ -1,13 +1,13 @@
 //! The gates at the end: those of idle workers, and between them those that come back with an output.
 
 ghost use Rattle.std.specs.Prelude.{◌≡◌, ◌<◌, ◌≤◌, ◌++◌, [], None, Some, MatchOption, length, option_to_list, vec_capacity};
-ghost use Rattle.ciel_channels.specs.Crewed.{gathered};
+ghost use Rattle.ciel_shifts.specs.Crewed.{gathered};
 
 use crate::performing::{Done, Tools};
 use ciel_gate::gate::Gate;
 
 /// The gates in order of workers, in the room made for them.
-pub(crate) fn gather<G: Gate>(
+pub fn gather<G: Gate>(
     idle: Vec<Option<Tools<G>>>,
     done: Vec<(u32, Done<G>)>,
     room: Vec<G>,
@@ -28,14 +28,16 @@ pub(crate) fn gather<G: Gate>(
     gates
 }
 
-fn gate_of<G: Gate>(tools: Tools<G>) -> G
+/// The gate, without the eye.
+pub fn gate_of<G: Gate>(tools: Tools<G>) -> G
     ensures gate { result ≡ tools.gate }
 {
     let Tools { gate, .. } = tools;
     gate
 }
 
-fn last_gate<G: Gate>(out: Option<(u32, Done<G>)>) -> Option<G>
+/// The gate that comes back with this output, if there is one.
+pub fn last_gate<G: Gate>(out: Option<(u32, Done<G>)>) -> Option<G>
     ensures gate { MatchOption out (result ≡ None) (λ d. result ≡ Some d.1.tools.gate) }
 {
     let (_, done) = out?;
@@ -43,7 +45,8 @@ fn last_gate<G: Gate>(out: Option<(u32, Done<G>)>) -> Option<G>
     Some(gate_of(tools))
 }
 
-fn keep<G: Gate>(gates: &mut Vec<G>, gate: Option<G>)
+/// Puts a gate behind the others, if there is one, in the room made for it.
+pub fn keep<G: Gate>(gates: &mut Vec<G>, gate: Option<G>)
     requires room { length gates.old.items < vec_capacity gates.old }
     ensures capacity { vec_capacity gates.new ≡ vec_capacity gates.old }
     ensures items { gates.new.items ≡ gates.old.items ++ option_to_list gate }

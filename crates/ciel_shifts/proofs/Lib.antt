@@ -1,0 +1,4 @@
+pub mod Crewing
+pub mod Crossing
+pub mod Gathered
+pub mod Opened

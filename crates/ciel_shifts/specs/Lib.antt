@@ -1,0 +1,2 @@
+pub use Rattle.ciel_worker.specs.Onward
+pub mod Crewed
