@@ -1,18 +1,21 @@
--- What is told where one more is asked for.
-use Rattle.std.proofs.Common.{◌≡◌, ℕ, suc, List, [], ◌∷◌, ◌++◌, Bool, true, false, cond, Option, Some, None, is_some, inl, inr, refl, sym, ap, subst, ◌∙◌}
+-- What is told where one more is asked for; and what is told was asked for.
+use Rattle.std.proofs.Common.{◌≡◌, ℕ, suc, List, [], ◌∷◌, ◌++◌, Bool, true, false, cond, Option, Some, None, is_some, ◌⊎◌, inl, inr, refl, sym, ap, subst}
+use Rattle.std.proofs.Common.{◌∙◌}
 use Rattle.std.specs.Option.{option_map}
 use Rattle.sky_base.specs.Name.{held_name}
 use Rattle.sky_base.specs.Res.{Object}
 use Rattle.sky_base.specs.Val.{Desc, same_text}
 use Rattle.sky_base.proofs.Exact.{exact_text}
 use Rattle.sky_law.specs.Tasks.{In}
+use Rattle.ciel_journal.proofs.Numbers.{in_last}
 use Rattle.ciel_store.specs.Seen.{ShelvesSeen}
 use Rattle.ciel_table.specs.Named.{found, place_of}
 use Rattle.ciel_task.specs.Orders.{names_in}
 use Rattle.ciel_task.specs.declared.block.Held.{Held}
 use Rattle.ciel_task.specs.declared.block.Spot.{Spot}
+use Rattle.ciel_task.specs.declared.report.End.{End}
 use Rattle.ciel_inputs.specs.Lies.{CopiedIf, CopiedSo, held_name as name_of_held, is_elsewhere}
-use Rattle.ciel_brought.specs.Fetched.{fetched_after, lies_elsewhere, stands_in, told_next}
+use Rattle.ciel_brought.specs.Fetched.{TellsFetched, fetched, fetched_after, lies_elsewhere, stands_in, told_next}
 
 -- ---- a name among others
 
@@ -62,3 +65,45 @@ module _ (w : ℕ) (held : List Held) where
       → fetched_after w held ns (xs ++ ys) ≡ fetched_after w held (fetched_after w held ns xs) ys
   fetched_both ns [] ys = refl
   fetched_both ns (x ∷ xs) ys = fetched_both (told_next w held ns (held_name x)) xs ys
+
+  -- ---- what was told was asked for
+
+  -- the name of one of these
+  abbrev Asked : List (Desc (List ℕ)) → List ℕ → Type 0
+  Asked ds n = (d : Desc (List ℕ)) × In d ds × (n ≡ held_name d)
+
+  one_told : (ns : List (List ℕ)) (m n : List ℕ) → In n (told_next w held ns m) → In n ns ⊎ (n ≡ m)
+  one_told ns m n i = go (stands_in m ns) (lies_elsewhere w (found name_of_held m held)) i
+    where
+      go : (a b : Bool) → In n (cond a ns (cond b (ns ++ m ∷ []) ns)) → In n ns ⊎ (n ≡ m)
+      go true b j = inl j
+      go false true j = in_last n ns m j
+      go false false j = inl j
+
+  all_told : (ns : List (List ℕ)) (ds : List (Desc (List ℕ))) (n : List ℕ) → In n (fetched_after w held ns ds) → In n ns ⊎ Asked ds n
+  all_told ns [] n i = inl i
+  all_told ns (d ∷ ds) n i = go (all_told (told_next w held ns (held_name d)) ds n i)
+    where
+      here : In n ns ⊎ (n ≡ held_name d) → In n ns ⊎ Asked (d ∷ ds) n
+      here (inl j) = inl j
+      here (inr e) = inr (d, inl refl, e)
+
+      go : In n (told_next w held ns (held_name d)) ⊎ Asked ds n → In n ns ⊎ Asked (d ∷ ds) n
+      go (inl j) = here (one_told ns (held_name d) n j)
+      go (inr (e, j, is)) = inr (e, inr j, is)
+
+  -- a name that was fetched is of one that was asked for
+  pub fetched_of : (ds : List (Desc (List ℕ))) (n : List ℕ) → In n (fetched w held ds) → Asked ds n
+  fetched_of ds n i = go (all_told [] ds n i)
+    where
+      go : In n [] ⊎ Asked ds n → Asked ds n
+      go (inl j) = absurd j
+      go (inr is) = is
+
+  -- and so is one that a report tells
+  pub tells_of : (ds : List (Desc (List ℕ))) (e : End) (cs : List Held) → TellsFetched w held ds e cs → (n : List ℕ) → In n (names_in cs)
+      → Asked ds n
+  tells_of ds (End.Made ms) cs f n i = fetched_of ds n (subst (In n) f i)
+  tells_of ds (End.Shown s) cs f n i = fetched_of ds n (subst (In n) f i)
+  tells_of ds (End.Saved p j refs holds mark) cs f n i = absurd (subst (λ ks. In n (names_in ks)) f i)
+  tells_of ds (End.Missing name loss seen) cs f n i = absurd (subst (λ ks. In n (names_in ks)) f i)

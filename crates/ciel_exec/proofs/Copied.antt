@@ -3,7 +3,6 @@ use Rattle.std.proofs.Common.{◌≡◌, ℕ, List, [], ◌∷◌, ◌++◌, Boo
 use Rattle.std.specs.List.{AllByRecursion, IsDistinct}
 use Rattle.sky_base.specs.Name.{held_name}
 use Rattle.sky_base.specs.Names.{known_of}
-use Rattle.sky_base.specs.Res as logic
 use Rattle.sky_base.specs.Val.{Desc, distinct, known, same_text}
 use Rattle.sky_base.proofs.Exact.{exact_text, self_text}
 use Rattle.sky_law.specs.Tasks.{Apart, Each, In}
@@ -12,13 +11,11 @@ use Rattle.ciel_store.specs.Seen.{ShelvesSeen}
 use Rattle.ciel_task.specs.Orders.{names_in}
 use Rattle.ciel_task.specs.declared.block.Held.{Held}
 use Rattle.ciel_inputs.specs.Gathers.{CopiedFor, none, one}
-use Rattle.ciel_inputs.specs.Lies.{CopiedIf, CopiedSo, is_elsewhere}
-use Rattle.ciel_brought.specs.Copies.{Copies, IsCopy}
-use Rattle.ciel_brought.specs.Fetched.{fetched, fetched_after, told_next}
-use Rattle.ciel_brought.proofs.Fetching.{fetched_both, stands_not, told_copied}
+use Rattle.ciel_brought.specs.Copies.{Copies}
+use Rattle.ciel_brought.specs.Fetched.{fetched, told_next}
+use Rattle.ciel_brought.proofs.Fetching.{fetched_both, fetched_of, stands_not, told_copied}
 use Rattle.ciel_brought.proofs.Copying.{copies_more}
 use Rattle.ciel_brought.proofs.Finding.{found_named}
-use Rattle.sky_law.proofs.Lists.{each_both}
 
 -- ---- the names
 
@@ -87,79 +84,42 @@ module _ (shelves : ShelvesSeen) (w : ℕ) (inputs : List (List ℕ × List ℕ)
           new (inl e) = true_false (sym (ap (same_text n) e ∙ self_text n) ∙ first.1)
           new (inr i) = rest.1 i
 
-  -- each of what was copied has one of these names
-  abbrev Among : List (List ℕ) → List Held → Type 0
-  Among ns cs = Each (λ (c : Held). In c.name ns) cs
-
-  in_more : (n m : List ℕ) (ns : List (List ℕ)) → In n ns → In n (ns ++ m ∷ [])
-  in_more n m [] i = absurd i
-  in_more n m (k ∷ ns) (inl e) = inl e
-  in_more n m (k ∷ ns) (inr i) = inr (in_more n m ns i)
-
-  in_last : (n : List ℕ) (ns : List (List ℕ)) → In n (ns ++ n ∷ [])
-  in_last n [] = inl refl
-  in_last n (k ∷ ns) = inr (in_last n ns)
-
-  among_more : (cs : List Held) (m : List ℕ) (ns : List (List ℕ)) → Among ns cs → Among (ns ++ m ∷ []) cs
-  among_more [] m ns a = tt
-  among_more (c ∷ cs) m ns a = (in_more c.name m ns a.0, among_more cs m ns a.1)
-
-  among_names : (cs : List Held) (ns : List (List ℕ)) (n : List ℕ) → Among ns cs → In n (names_in cs) → In n ns
-  among_names [] ns n a i = absurd i
-  among_names (c ∷ cs) ns n a (inl e) = subst (λ m. In m ns) (sym e) a.0
-  among_names (c ∷ cs) ns n a (inr i) = among_names cs ns n a.1 i
-
-  -- what was brought of one name more
-  among_one : (b : Bool) (n : List ℕ) (h : Held) (o : logic.Object (List ℕ)) (ns : List (List ℕ)) (old new : List Held) → n ≡ h.name
-      → CopiedIf b shelves w h.name o old new → Among ns old → Among (ns ++ n ∷ []) new
-  among_one false n h o ns old new e so a = subst (Among (ns ++ n ∷ [])) (sym so) (among_more old n ns a)
-  among_one true n h o ns old new e (p, grew, here, worker, same) a =
-      subst (Among (ns ++ n ∷ [])) (sym grew)
-      (each_both (λ (c : Held). In c.name (ns ++ n ∷ [])) old _ (among_more old n ns a) (subst (λ m. In m (ns ++ n ∷ [])) e (in_last n ns), tt))
-
   nothing_twice : IsDistinct same_text []
   unfolding IsDistinct
   nothing_twice = tt
-
-  pub copied_for : (ns : List (List ℕ)) (new : List Held) → CopiedFor shelves w inputs held [] ns new → IsDistinct same_text ns
-      → Copies shelves w inputs held new × Among ns new
-  copied_for ns new none d = ((tt, nothing_twice), tt)
-  copied_for ns new (one n h o before f at so) d =
-      let d' = fewer _ n d in
-      let rest = copied_for _ _ before d'.0 in (
-        copies_more shelves w inputs held n h o _ new rest.0 f at so (λ i. d'.1 (among_names _ _ n rest.1 i)),
-        among_one (is_elsewhere w h.at) n h o _ _ new (found_named n held h f) so rest.1,
-      )
 
   known_push : (ns : List (List ℕ)) (n : List ℕ) → known_of (ns ++ n ∷ []) ≡ known_of ns ++ known n ∷ []
   known_push [] n = refl
   known_push (m ∷ ns) n = ap (λ ds. known m ∷ ds) (known_push ns n)
 
-  -- and just what was fetched, in order
-  pub fetched_for : (ns : List (List ℕ)) (new : List Held) → CopiedFor shelves w inputs held [] ns new → IsDistinct same_text ns
-      → names_in new ≡ fetched w held (known_of ns)
-  fetched_for ns new none d = refl
-  fetched_for ns new (one {ns = before_it} {mid = mid} n h o before f at so) d =
+  of_known : (ns : List (List ℕ)) (d : Desc (List ℕ)) → In d (known_of ns) → In (held_name d) ns
+  of_known [] d i = absurd i
+  of_known (n ∷ ns) d (inl e) = inl (ap held_name e)
+  of_known (n ∷ ns) d (inr i) = inr (of_known ns d i)
+
+  -- what was fetched of these has their names
+  fetched_names : (ns : List (List ℕ)) (n : List ℕ) → In n (fetched w held (known_of ns)) → In n ns
+  fetched_names ns n i =
+      let d = fetched_of w held (known_of ns) n i in
+      subst (λ m. In m ns) (sym d.2) (of_known ns d.0 d.1)
+
+  -- it is just what was fetched, in order
+  pub copied_for : (ns : List (List ℕ)) (new : List Held) → CopiedFor shelves w inputs held [] ns new → IsDistinct same_text ns
+      → Copies shelves w inputs held new × (names_in new ≡ fetched w held (known_of ns))
+  copied_for ns new none d = ((tt, nothing_twice), refl)
+  copied_for ns new (one {ns = before_it} {mid = mid} n h o before f at so) d =
       let d' = fewer before_it n d in
       let rest = copied_for before_it mid before d'.0 in
-      let same = found_named n held h f in
-      told_copied w held shelves n h o mid new f same so (stands_not n (names_in mid) (λ i. d'.1 (among_names mid before_it n rest.1 i)))
-      ∙ (ap (λ ms. told_next w held ms n) (fetched_for before_it mid before d'.0)
-      ∙ (sym (fetched_both w held [] (known_of before_it) (known n ∷ [])) ∙ ap (fetched w held) (sym (known_push before_it n))))
-
-  among_refs : (ns : List (List ℕ)) (ds : List (Desc (List ℕ))) → ((n : List ℕ) → In n ns → In (known n) ds) → (cs : List Held) → Among ns cs
-      → Each (λ (c : Held). In (known c.name) ds) cs
-  among_refs ns ds f [] a = tt
-  among_refs ns ds f (c ∷ cs) a = (f c.name a.0, among_refs ns ds f cs a.1)
+      let fresh = λ (i : In n (names_in mid)). d'.1 (fetched_names before_it n (subst (In n) rest.1 i)) in (
+        copies_more shelves w inputs held n h o mid new rest.0 f at so fresh,
+        told_copied w held shelves n h o mid new f (found_named n held h f) so (stands_not n (names_in mid) fresh)
+            ∙ (ap (λ ms. told_next w held ms n) rest.1
+            ∙ (sym (fetched_both w held [] (known_of before_it) (known n ∷ [])) ∙ ap (fetched w held) (sym (known_push before_it n)))),
+      )
 
   -- of the names of these references, each once
   pub copied_refs : (ns : List (List ℕ)) (ds : List (Desc (List ℕ))) → known_of ns ≡ distinct same_text ds → (old new : List Held) → old ≡ []
-      → CopiedFor shelves w inputs held old ns new → Copies shelves w inputs held new × Each (λ (c : Held). In (known c.name) ds) new
-      × (names_in new ≡ fetched w held (distinct same_text ds))
+      → CopiedFor shelves w inputs held old ns new → Copies shelves w inputs held new × (names_in new ≡ fetched w held (distinct same_text ds))
   copied_refs ns ds are old new none_yet c =
-      let c' = subst (λ os. CopiedFor shelves w inputs held os ns new) none_yet c in
-      let all = copied_for ns new c' (names_distinct ns ds are) in (
-        all.0,
-        among_refs ns ds (λ n i. names_refer ns ds are n i) new all.1,
-        fetched_for ns new c' (names_distinct ns ds are) ∙ ap (fetched w held) are,
-      )
+      let all = copied_for ns new (subst (λ os. CopiedFor shelves w inputs held os ns new) none_yet c) (names_distinct ns ds are) in
+      (all.0, all.1 ∙ ap (fetched w held) are)

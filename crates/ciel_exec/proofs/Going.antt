@@ -174,12 +174,10 @@ module _ (digest : List ℕ → List ℕ) (shelves : ShelvesSeen) (sc : Script) 
     pub given : (d : s.Desc) → t.In d (refs b) → Given S.job o d
     given d i = named_given digest job gives keyed o order is d (held_there d i) (there d i)
 
-    -- a name in the arguments is of one of them
-    pub of_name : (m : List ℕ) → t.In (known m) (refs (view args)) → (d : s.Desc) × t.In d (refs b) × (m ≡ S.job.name d)
-    of_name m i = go (from_map (low_ref no_name tag) (refs b) (known m) (subst (t.In (known m)) low_refs i))
-      where
-        go : (d : s.Desc) × t.In d (refs b) × (known m ≡ low_ref no_name tag d) → (d : s.Desc) × t.In d (refs b) × (m ≡ S.job.name d)
-        go (d, k, e) = (d, k, cc)
+    -- a reference of the arguments has the name of one of them
+    pub of_ref : (r : v.Desc (List ℕ)) → t.In r (refs (view args)) → (d : s.Desc) × t.In d (refs b) × (held_name r ≡ S.job.name d)
+    of_ref r i = let back = from_map (low_ref no_name tag) (refs b) r (subst (t.In r) low_refs i) in
+        (back.0, back.1, ap held_name back.2)
 
     -- ---- what it sees
 

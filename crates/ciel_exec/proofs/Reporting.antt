@@ -8,7 +8,7 @@ use Rattle.sky_base.specs.Name.{digested}
 use Rattle.sky_base.specs.Res as logic
 use Rattle.sky_base.specs.See as s
 use Rattle.sky_base.specs.Tree.{Script}
-use Rattle.sky_base.specs.Val.{known, out, refs, same_text}
+use Rattle.sky_base.specs.Val.{distinct, out, refs, same_text}
 use Rattle.sky_base.specs.View.{view}
 use Rattle.sky_base.specs.declared.fault.Fault.{Fault}
 use Rattle.sky_base.specs.declared.object.Desc1.{Desc1}
@@ -46,6 +46,7 @@ use Rattle.ciel_task.specs.declared.report.Made.{Made}
 use Rattle.ciel_task.specs.declared.report.Report.{Report}
 use Rattle.ciel_brought.specs.Brought.{lies_known}
 use Rattle.ciel_brought.specs.Copies.{Copies}
+use Rattle.ciel_brought.specs.Fetched.{fetched}
 use Rattle.ciel_brought.proofs.Copying.{copies_fit, copies_named, copies_sound, sound_there}
 use Rattle.ciel_brought.proofs.Finding.{spot_at, spot_found}
 use Rattle.ciel_exec.specs.Outputs.{AreOutputs, OutputsFrom}
@@ -132,8 +133,8 @@ module _ (digest : List ℕ → List ℕ) (shelves : ShelvesSeen) (job : s.Job) 
 
     pub performs_made : (ms : Vec Made Global) (cs : Vec Held Global) → r.copied ≡ cs → r.end ≡ rust.End.Made ms
         → AreOutputs digest shelves order.worker x (view args) n made_here ms.items → Copies shelves order.worker job.inputs held cs.items
-        → t.Each (λ (c : Held). t.In (known c.name) (refs (view args))) cs.items → Performs digest job gives order r
-    performs_made ms cs copied end are copies among =
+        → names_in cs.items ≡ fetched order.worker held (distinct same_text (refs (view args))) → Performs digest job gives order r
+    performs_made ms cs copied end are copies tells =
         record {
           number = number;
           worker = worker;
@@ -143,7 +144,7 @@ module _ (digest : List ℕ → List ℕ) (shelves : ShelvesSeen) (job : s.Job) 
           missed = subst (Missed digest order) (sym end) tt;
           says = λ o is apart. moved (λ sp e. Says S.job S.inner S.lower o (report_view order.number sp e)) the_end end_is
               (says_made digest shelves job.script (length job.inputs) order sound x args n by job gives keyed o is ms.items cs.items are copies
-              among);
+              tells);
           lies = λ h p o lawful is_open is. moved (λ sp e. LiesUnlessClash S h p o order.number sp e) the_end end_is
               (made_lies digest shelves job.script (length job.inputs) order sound x args n by job gives keyed o is ms.items cs.items are
               copies.0 h p lawful is_open);

@@ -4,18 +4,19 @@ use Rattle.std.proofs.Common.{subst, ◌∙◌, arith}
 use Rattle.std.specs.List.{AllByRecursion, IsDistinct}
 use Rattle.sky_base.specs.Eval.{outputs}
 use Rattle.sky_base.specs.KitView.{Gives}
-use Rattle.sky_base.specs.Name.{digested}
+use Rattle.sky_base.specs.Name.{digested, held_name}
 use Rattle.sky_base.specs.Needed.{distinct_refs}
 use Rattle.sky_base.specs.See as s
 use Rattle.sky_base.specs.Tree.{Script}
-use Rattle.sky_base.specs.Val.{known, out, refs, same_text}
+use Rattle.sky_base.specs.Val as v
+use Rattle.sky_base.specs.Val.{distinct, out, refs, same_text}
 use Rattle.sky_base.specs.View.{view}
 use Rattle.sky_base.specs.declared.fault.Fault.{Fault}
 use Rattle.sky_base.specs.declared.object.Desc1.{Desc1}
 use Rattle.sky_base.specs.declared.value.Value.{Value}
-use Rattle.sky_base.proofs.Exact.{self_text}
+use Rattle.sky_base.proofs.Exact.{exact_text, self_text}
 use Rattle.sky_law.specs.Tasks as t
-use Rattle.sky_law.proofs.TaskOutputs.{in_distinct_refs, same_exact}
+use Rattle.sky_law.proofs.TaskOutputs.{distinct_in, in_distinct_refs, same_exact}
 use Rattle.sky_perform.specs.Perform.{output_of}
 use Rattle.sky_waves.specs.Seen.{Sees}
 use Rattle.ciel_board.specs.Follows.{OrderIs}
@@ -41,7 +42,9 @@ use Rattle.ciel_task.specs.declared.block.Held.{Held}
 use Rattle.ciel_task.specs.declared.order.Order.{Order}
 use Rattle.ciel_task.specs.declared.report.Made.{Made}
 use Rattle.ciel_brought.specs.Copies.{Copies, IsCopy}
+use Rattle.ciel_brought.specs.Fetched.{fetched}
 use Rattle.ciel_brought.proofs.Copying.{copies_named, copy_fetched}
+use Rattle.ciel_brought.proofs.Fetching.{fetched_of}
 use Rattle.ciel_exec.specs.Outputs.{AreOutputs, OutputsFrom}
 use Rattle.ciel_exec.proofs.Going as going
 use Rattle.sha1.specs.Sha1.{sha1}
@@ -123,27 +126,38 @@ module _ (digest : List ℕ → List ℕ) (shelves : ShelvesSeen) (sc : Script) 
           no true q =
               absurd (true_false (sym (self_text (S.job.name d)) ∙ ap (λ y. same_text (S.job.name d) (S.job.name y)) (same_exact d e q) ∙ g.0))
 
+  -- what was fetched of the references of the arguments
+  abbrev fetches : List (List ℕ)
+  fetches = fetched order.worker order.inputs.items (distinct same_text (refs (view args)))
+
   -- what a copy is of
-  copy_of : (c : Held) → IsCopy shelves order.worker job.inputs order.inputs.items c → t.In (known c.name) (refs (view args)) → (d : s.Desc)
+  copy_of : (c : Held) → IsCopy shelves order.worker job.inputs order.inputs.items c → t.In c.name fetches → (d : s.Desc)
       × Copied S.job o d × (S.job.name d ≡ c.name)
-  copy_of c copy i = go (going.of_name digest shelves sc count order sound x args n by job gives keyed o is c.name i)
+  copy_of c copy i = (
+    back.0,
+    (
+      (0, distinct_refs b, omega (arith, from_is), sym (ap S.job.first task_is), in_to back.0 (distinct_refs b) (in_distinct_refs b back.0 back.1)),
+      (copy_fetched digest job gives o order is shelves c copy back.0
+          (going.held_there digest shelves sc count order sound x args n by job gives keyed o is back.0 back.1) named).0,
+    ),
+    sym named,
+  )
     where
-      go : (d : s.Desc) × t.In d (refs b) × (c.name ≡ S.job.name d) → (d : s.Desc) × Copied S.job o d × (S.job.name d ≡ c.name)
-      go (d, k, e) =
-          let at = going.held_there digest shelves sc count order sound x args n by job gives keyed o is d k in (
-            d,
-            (
-              (0, distinct_refs b, omega (arith, from_is), sym (ap S.job.first task_is), in_to d (distinct_refs b) (in_distinct_refs b d k)),
-              (copy_fetched digest job gives o order is shelves c copy d at e).0,
-            ),
-            sym e,
-          )
+      asked : (r : v.Desc (List ℕ)) × t.In r (distinct same_text (refs (view args))) × (c.name ≡ held_name r)
+      asked = fetched_of order.worker order.inputs.items (distinct same_text (refs (view args))) c.name i
+
+      back : (d : s.Desc) × t.In d (refs b) × (held_name asked.0 ≡ S.job.name d)
+      back = going.of_ref digest shelves sc count order sound x args n by job gives keyed o is asked.0
+          (distinct_in same_text exact_text self_text (refs (view args)) asked.0 asked.1)
+
+      named : c.name ≡ S.job.name back.0
+      named = asked.2 ∙ back.2
 
   copies_of : (cs : List Held) → t.Each (IsCopy shelves order.worker job.inputs order.inputs.items) cs
-      → t.Each (λ (c : Held). t.In (known c.name) (refs (view args))) cs → (ds : List s.Desc) × j.Each (Copied S.job o) ds
+      → ((m : List ℕ) → t.In m (names_in cs) → t.In m fetches) → (ds : List s.Desc) × j.Each (Copied S.job o) ds
       × (low_names S.job ds ≡ names_in cs)
-  copies_of [] h i = ([], tt, refl)
-  copies_of (c ∷ cs) h i = join (copy_of c h.0 i.0) (copies_of cs h.1 i.1)
+  copies_of [] h f = ([], tt, refl)
+  copies_of (c ∷ cs) h f = join (copy_of c h.0 (f c.name (inl refl))) (copies_of cs h.1 (λ m i. f m (inr i)))
     where
       join : (d : s.Desc) × Copied S.job o d × (S.job.name d ≡ c.name) → (ds : List s.Desc) × j.Each (Copied S.job o) ds
           × (low_names S.job ds ≡ names_in cs) → (ds : List s.Desc) × j.Each (Copied S.job o) ds × (low_names S.job ds ≡ names_in (c ∷ cs))
@@ -160,19 +174,19 @@ module _ (digest : List ℕ → List ℕ) (shelves : ShelvesSeen) (sc : Script) 
       (going.spawned digest shelves sc count order sound x args n by job gives keyed o is) refl (λ c. tt)
 
   pub says_made : (ms : List Made) (cs : List Held) → AreOutputs digest shelves order.worker x (view args) n result ms
-      → Copies shelves order.worker job.inputs order.inputs.items cs → t.Each (λ (c : Held). t.In (known c.name) (refs (view args))) cs
+      → Copies shelves order.worker job.inputs order.inputs.items cs → names_in cs ≡ fetches
       → Said (end_view (made (map output_view ms) (copies_view cs)))
-  says_made ms cs are copies among =
+  says_made ms cs are copies tells =
       at_end [] (going.next_end digest shelves sc count order sound x args n by job gives keyed o is)
-      (going.spawned digest shelves sc count order sound x args n by job gives keyed o is) refl (λ c. is_made (copies_of cs copies.0 among))
+      (going.spawned digest shelves sc count order sound x args n by job gives keyed o is) refl (λ c. is_made (copies_of cs copies.0 (λ m i. subst (t.In m) tells i)))
     where
       is_made : (ds : List s.Desc) × j.Each (Copied S.job o) ds × (low_names S.job ds ≡ names_in cs)
           → MadeIs S.job S.inner S.lower o (end_view (made (map output_view ms) (copies_view cs)))
-      is_made (ds, fetched, names) = (
+      is_made (ds, from, names) = (
         paired 0 ms,
         ds,
         subst (λ es. Marked S.job es (paired 0 ms)) (sym (ap S.job.outputs task_is)) (marked_from n 0 ms are.0 are.1),
-        fetched,
+        from,
         distinct_descs ds (subst (IsDistinct same_text) (sym names) copies.1),
         keys_from 0 ms are.1,
         copies_named digest shelves job.inputs order cs copies.0 ∙ sym names,

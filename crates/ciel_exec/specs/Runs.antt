@@ -1,7 +1,7 @@
 -- What an executor's order reads.
 use Rattle.std.specs.Prelude.{◌≡◌, ℕ, List, [], ◌∷◌, ◌++◌, Some}
 use Rattle.sky_base.specs.Val.{Val, distinct, known, refs, same_text}
-use Rattle.sky_law.specs.Tasks.{Each, In}
+use Rattle.sky_law.specs.Tasks.{In}
 use Rattle.sky_perform.specs.Perform.{all_bytes, listed}
 use Rattle.ciel_json.specs.Text.{text_of as writes}
 use Rattle.ciel_store.specs.Seen.{SeatSeen, ShelvesSeen}
@@ -22,11 +22,10 @@ abbrev pub FoundSo : List (List ℕ × List ℕ) → List Held → Val (List ℕ
 FoundSo inputs held a (Found.All bytes cs) = listed bytes ≡ all_bytes writes (lies_known inputs held) (refs a)
 FoundSo inputs held a (Found.Lost nm l) = In (known nm) (refs a) × (h : Held) × (found held_name nm held ≡ Some h) × LostAt l h.at
 
--- what was copied are names in the arguments: just those that lie on another worker's shelf, each once, in order
+-- what was copied are those names in the arguments that lie on another worker's shelf, each once, in order
 abbrev pub CopiedAlong : ShelvesSeen → ℕ → List (List ℕ × List ℕ) → List Held → Val (List ℕ) → Found → Type 0
 CopiedAlong shelves w inputs held a (Found.All bytes cs) =
-    Copies shelves w inputs held cs.items × Each (λ (c : Held). In (known c.name) (refs a)) cs.items
-    × (names_in cs.items ≡ fetched w held (distinct same_text (refs a)))
+    Copies shelves w inputs held cs.items × (names_in cs.items ≡ fetched w held (distinct same_text (refs a)))
 CopiedAlong shelves w inputs held a (Found.Lost nm l) = Unit {0}
 
 -- the eye saw that loss, and nothing else

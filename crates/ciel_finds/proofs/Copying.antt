@@ -12,7 +12,6 @@ use Rattle.sky_base.specs.Val.{known, same_text}
 use Rattle.sky_base.proofs.Exact.{self_text}
 use Rattle.sky_law.specs.Tasks.{In}
 use Rattle.ciel_journal.specs.Job as j
-use Rattle.sky_through.specs.Asked.{AsksFor}
 use Rattle.ciel_store.specs.Seen.{ShelvesSeen}
 use Rattle.ciel_store.specs.declared.shelves.Gone.{Gone}
 use Rattle.ciel_table.specs.Inside.{IsIndex}
@@ -26,7 +25,7 @@ use Rattle.ciel_brought.proofs.Copying.{copies_more}
 use Rattle.ciel_brought.proofs.Fetching.{stands_place, told_copied, told_there}
 use Rattle.ciel_brought.specs.Fetched.{told_next}
 use Rattle.ciel_brought.proofs.Finding.{found_named}
-use Rattle.ciel_finds.specs.Finds.{CopiesStand, Noted, NotedIf, WasCopied}
+use Rattle.ciel_finds.specs.Finds.{CopiesStand, Noted, NotedIf}
 use Rattle.ciel_finds.specs.declared.copied.Copied.{Copied}
 
 -- ---- names
@@ -48,16 +47,6 @@ no_place n (c ∷ cs) e i = go (same_text n c.name) refl (place_of held_name n c
     go false t (Some k) q z h later = some_not z
     go false t None q z (inl same) later = let f : same_text n c.name ≡ true = subst (λ m. same_text n m ≡ true) same (self_text n) in no (sym f ∙ t)
     go false t None q z (inr h) later = later q h
-
-in_last : (n : List ℕ) (cs : List Held) (c : Held) → In n (names_in (cs ++ c ∷ [])) → In n (names_in cs) ⊎ (n ≡ c.name)
-in_last n [] c (inl e) = inr e
-in_last n [] c (inr h) = absurd h
-in_last n (x ∷ cs) c (inl e) = inl (inl e)
-in_last n (x ∷ cs) c (inr h) = go (in_last n cs c h)
-  where
-    go : In n (names_in cs) ⊎ (n ≡ c.name) → In n (names_in (x ∷ cs)) ⊎ (n ≡ c.name)
-    go (inl i) = inl (inr i)
-    go (inr e) = inr e
 
 longer : (cs : List Held) (c : Held) → length cs < length (cs ++ c ∷ [])
 longer [] c = omega arith
@@ -109,21 +98,6 @@ module _ (shelves : ShelvesSeen) (w : ℕ) (inputs : List (List ℕ × List ℕ)
           (index_more held_name old.places places old.items.items one n (length old.items.items) (sym (found_named n held h f)) refl c.places
           fresh updates)
 
-  -- and nothing else was asked for
-  pub asks_one : (n : List ℕ) (h : Held) (o : Object (List ℕ)) (old items : List Held) → found held_name n held ≡ Some h
-      → CopiedSo shelves w h o old items → AsksFor (λ m. In m (names_in old)) (λ m. In m (names_in items)) (known n ∷ [])
-  asks_one n h o old items f so = go (is_elsewhere w h.at) so
-    where
-      go : (b : Bool) → CopiedIf b shelves w h.name o old items → (m : List ℕ) → In m (names_in items) → In m (names_in old)
-          ⊎ In (known m) (known n ∷ [])
-      go false same m i = inl (subst (λ xs. In m (names_in xs)) same i)
-      go true (p, grew, here, at, lies) m i = last
-          (in_last m old (record { name = h.name; at = Spot.Shelf p }) (subst (λ xs. In m (names_in xs)) grew i))
-        where
-          last : In m (names_in old) ⊎ (m ≡ h.name) → In m (names_in old) ⊎ In (known m) (known n ∷ [])
-          last (inl k) = inl k
-          last (inr e) = inr (inl (ap known (e ∙ sym (found_named n held h f))))
-
   -- ---- one that is brought, or isn't
 
   none_noted : (n : List ℕ) (old : Copied) (places : BTreeMap (List ℕ) ℕ) → Noted n (length old.items.items) old.items.items old.places places
@@ -147,27 +121,23 @@ module _ (shelves : ShelvesSeen) (w : ℕ) (inputs : List (List ℕ × List ℕ)
             (subst (IsIndex held_name old.places) (sym there) c.places);
       }
 
-  pub asks_after : (n : List ℕ) (h : Held) (r : Result rust.Object Gone) (old new : Copied) (items : List Held) → found held_name n held ≡ Some h
-      → MatchResult r (λ o. CopiedSo shelves w h (object_view o) old.items.items items) (λ _. items ≡ old.items.items)
-      → new.items.items ≡ items → AsksFor (WasCopied old) (WasCopied new) (known n ∷ [])
-  asks_after n h (Ok o) old new items f so is m i = asks_one n h (object_view o) old.items.items items f so m (subst (λ xs. In m (names_in xs)) is i)
-  asks_after n h (Err gone) old new items f same is m i = inl (subst (λ xs. In m (names_in xs)) (is ∙ same) i)
-
-  -- and what is told is what comes of its name
-  pub told_after : (n : List ℕ) (h : Held) (r : Result rust.Object Gone) (old new : Copied) (items : List Held)
+  -- and what is told is what comes of its name, or what was told before
+  pub names_after : (n : List ℕ) (h : Held) (r : Result rust.Object Gone) (old new : Copied) (items : List Held)
       → place_of held_name n old.items.items ≡ None → found held_name n held ≡ Some h
       → MatchResult r (λ o. CopiedSo shelves w h (object_view o) old.items.items items) (λ _. items ≡ old.items.items)
-      → new.items.items ≡ items → IfOk r (λ _. names_in new.items.items ≡ told_next w held (names_in old.items.items) n)
-  told_after n h (Ok o) old new items fresh f so is =
+      → new.items.items ≡ items → MatchResult r (λ _. names_in new.items.items ≡ told_next w held (names_in old.items.items) n)
+      (λ _. names_in new.items.items ≡ names_in old.items.items)
+  names_after n h (Ok o) old new items fresh f so is =
       ap names_in is
       ∙ told_copied w held shelves n h (object_view o) old.items.items items f (found_named n held h f) so
       (stands_place n old.items.items ∙ ap is_some fresh)
-  told_after n h (Err gone) old new items fresh f so is = tt
+  names_after n h (Err gone) old new items fresh f same is = ap names_in (is ∙ same)
 
 -- what the map has was told
 pub told_place : (w : ℕ) (held : List Held) (c : BTreeMap (List ℕ) ℕ) (cs : List Held) (n : List ℕ) → IsIndex held_name c cs
-    → is_some (get name_cmp c n) ≡ true → (r : Result rust.Object Gone) → IfOk r (λ _. names_in cs ≡ told_next w held (names_in cs) n)
-told_place w held c cs n index e (Err gone) = tt
+    → is_some (get name_cmp c n) ≡ true → (r : Result rust.Object Gone)
+    → MatchResult r (λ _. names_in cs ≡ told_next w held (names_in cs) n) (λ _. names_in cs ≡ names_in cs)
+told_place w held c cs n index e (Err gone) = refl
 told_place w held c cs n index e (Ok o) =
     sym (told_there w held (names_in cs) n (stands_place n cs ∙ (ap is_some (sym (index n)) ∙ e)))
 

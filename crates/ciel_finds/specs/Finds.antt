@@ -8,15 +8,11 @@ use Rattle.ciel_store.specs.Seen.{SeatSeen, ShelvesSeen}
 use Rattle.ciel_store.specs.declared.loss.Loss.{Loss}
 use Rattle.ciel_table.specs.Inside.{IsIndex}
 use Rattle.ciel_table.specs.Named.{found}
-use Rattle.ciel_task.specs.Orders.{SpotSound, names_in}
+use Rattle.ciel_task.specs.Orders.{SpotSound}
 use Rattle.ciel_task.specs.declared.block.Held.{Held}
 use Rattle.ciel_inputs.specs.Lies.{LostAt, held_name}
 use Rattle.ciel_brought.specs.Copies.{Copies}
 use Rattle.ciel_finds.specs.declared.copied.Copied.{Copied}
-
--- these names were copied
-abbrev pub WasCopied : Copied → List ℕ → Type 0
-WasCopied c n = In n (names_in c.items.items)
 
 -- what the order has of this name lay at a worker whose loss the eye has seen
 pub record IsLost (held : List Held) (name : List ℕ) (loss : Loss) (eye : SeatSeen) : Type 0 where

@@ -2,7 +2,7 @@
 
 ghost use Rattle.sky_base.specs.JobView.{job_view};
 ghost use Rattle.ciel_brought.specs.Brought.{lies_known};
-ghost use Rattle.ciel_finds.specs.Finds.{CanBring, IsLost, WasCopied};
+ghost use Rattle.ciel_finds.specs.Finds.{CanBring, IsLost};
 ghost use Rattle.ciel_task.specs.Orders.{names_in};
 ghost use Rattle.ciel_finds.specs.Stays.{Stays, Tells, tells_next};
 
@@ -62,8 +62,6 @@ impl<'a, R: Wait> Finds for Brought<'a, R> {
       inputs = (job_view b.job.now).inputs;
       held = b.held.now;
     } };
-
-    ghost asked = { λ b. WasCopied b.copied.now };
 
     ghost Told = { Tells };
 

@@ -1,18 +1,16 @@
 //! What a worker copied to its own shelf, each name once.
 
-ghost use Rattle.std.specs.Prelude.{◌≡◌, ◌<◌, [], ◌∷◌, None, Some, IfOk, IsSome, MatchResult, length};
+ghost use Rattle.std.specs.Prelude.{◌≡◌, ◌<◌, [], None, Some, IfOk, IsSome, MatchResult, length};
 ghost use Rattle.sky_base.specs.JobView.{job_view};
 ghost use Rattle.sky_base.specs.ObjectView.{object_view};
-ghost use Rattle.sky_base.specs.Val.{known};
 ghost use Rattle.sky_law.specs.Tasks.{Each};
-ghost use Rattle.sky_through.specs.Asked.{AsksFor};
 ghost use Rattle.ciel_table.specs.Inside.{IsIndex};
 ghost use Rattle.ciel_table.specs.Named.{found, place_of};
 ghost use Rattle.ciel_task.specs.Orders.{SpotSound, names_in};
 ghost use Rattle.ciel_brought.specs.Fetched.{told_next};
 ghost use Rattle.ciel_inputs.specs.Gathers.{lies_of};
 ghost use Rattle.ciel_inputs.specs.Lies.{LostAt, held_name, lies_at};
-ghost use Rattle.ciel_finds.specs.Finds.{CopiesStand, IsLost, Noted, WasCopied};
+ghost use Rattle.ciel_finds.specs.Finds.{CopiesStand, IsLost, Noted};
 
 use ciel_inputs::bring::bring;
 use ciel_inputs::fetch::fetch;
@@ -49,7 +47,7 @@ impl Copied {
 }
 
 /// The object that an order has of this name, for a worker. Where it lies on another worker's shelf and wasn't copied yet it is put on
-/// the own one too, and named at the end of what was copied.
+/// the own one too, and named at the end of what was copied. Where it is lost nothing is named.
 ///
 /// Answers `Memory` for want of memory.
 pub fn bring_once<R: Wait>(
@@ -73,9 +71,9 @@ pub fn bring_once<R: Wait>(
     ensures object { IfOk result (λ r. MatchResult r (λ o. lies_of (job_view job.now).inputs held.now name.now ≡ Some (object_view o))
         (λ gone. IsLost held.now name.now gone.loss eye.new)) }
     ensures copied { IfOk result (λ _. CopiesStand shelves.now worker (job_view job.now).inputs held.now copied.new) }
-    ensures told { IfOk result (λ r. IfOk r (λ _. names_in copied.new.items.items
-        ≡ told_next worker held.now (names_in copied.old.items.items) name.now)) }
-    ensures asked { IfOk result (λ _. AsksFor (WasCopied copied.old) (WasCopied copied.new) (known name.now ∷ [])) }
+    ensures told { IfOk result (λ r. MatchResult r
+        (λ _. names_in copied.new.items.items ≡ told_next worker held.now (names_in copied.old.items.items) name.now)
+        (λ _. names_in copied.new.items.items ≡ names_in copied.old.items.items)) }
 {
     let Some(one) = find(held, places, name) else {
         unreachable!()

@@ -1,15 +1,13 @@
 -- What a run came to, as a report tells it.
 use Rattle.std.proofs.Common.{◌≡◌, ℕ, List, [], sym, ap, subst, ◌∙◌}
 use Rattle.sky_base.specs.Tree.{Script}
-use Rattle.sky_base.specs.Val.{Desc, known, same_text}
+use Rattle.sky_base.specs.Val.{Desc, same_text}
 use Rattle.sky_base.specs.declared.object.TaskId.{TaskId}
-use Rattle.sky_law.specs.Tasks.{In}
 use Rattle.ciel_through.specs.Steps.{Spawned}
 use Rattle.ciel_through.specs.Step.{Step}
-use Rattle.sky_state.specs.Pending.{pending_in}
 use Rattle.sky_state.specs.Stand.{Stand}
 use Rattle.ciel_through.specs.Found.{SameKind}
-use Rattle.ciel_through.specs.Through.{PassedAt, asked_in}
+use Rattle.ciel_through.specs.Through.{asked_in}
 use Rattle.ciel_journal.proofs.Members.{distinct_none}
 use Rattle.ciel_board.specs.Sound.{own_name}
 use Rattle.ciel_store.specs.Seen.{SeatSeen, ShelvesSeen}
@@ -25,7 +23,7 @@ use Rattle.ciel_brought.specs.Fetched.{TellsFetched, fetched}
 use Rattle.ciel_finds.specs.Finds.{IsLost}
 use Rattle.ciel_perform.specs.Begins.{BeginsAt, StackIsLost}
 use Rattle.ciel_perform.specs.Ends.{CameSo, EndIs, StepOf, TellsMissing, told_copies}
-use Rattle.ciel_perform.specs.Runs.{CameThrough, CopiesAt, Ran, Went, brings, lost, spawned_in, stack}
+use Rattle.ciel_perform.specs.Runs.{CameThrough, Ran, Went, brings, lost, spawned_in, stack}
 
 -- a call comes to an object, the root task to an answer
 pub step_kind : (task : TaskId) (x new : Stand (List ℕ)) (step : Step) → OfKind task x → SameKind x step new → StepOf task step
@@ -40,35 +38,12 @@ step_kind (TaskId.Of n) (Stand.run q) new Step.Waits k s = tt
 
 module _ (digest : List ℕ → List ℕ) (shelves : ShelvesSeen) (sc : Script) (inputs : List (List ℕ × List ℕ)) (order : Order)
     (x new : Stand (List ℕ)) (r : Report) where
-  -- what is told of what was copied
-  record Told (step : Step) (came : (n : List ℕ) → Type 0) : Type 0 where
-    copies : Copies shelves order.worker inputs order.inputs.items r.copied.items
-    asked : (n : List ℕ) → In n (names_in r.copied.items) → came n
-    none : CopiesAt step r.copied.items
-
-  told : (step : Step) (cs : List Held) (came : (n : List ℕ) → Type 0) → r.copied.items ≡ told_copies step cs
-      → Copies shelves order.worker inputs order.inputs.items cs → ((n : List ℕ) → In n (names_in cs) → came n) → Told step came
-  told (Step.Ended o) cs came e c f =
-      record {
-        copies = subst (Copies shelves order.worker inputs order.inputs.items) (sym e) c;
-        asked =
-            λ n i. f n (subst (λ z. In n (names_in z)) e i);
-        none = tt;
-      }
-  told Step.Waits cs came e c f =
-      record {
-        copies = subst (Copies shelves order.worker inputs order.inputs.items) (sym e) (tt, distinct_none same_text);
-        asked =
-            λ n i. absurd (subst (λ z. In n (names_in z)) e i);
-        none = e;
-      }
-  told (Step.Shown a) cs came e c f =
-      record {
-        copies = subst (Copies shelves order.worker inputs order.inputs.items) (sym e) c;
-        asked =
-            λ n i. f n (subst (λ z. In n (names_in z)) e i);
-        none = tt;
-      }
+  -- what is told of what was copied lies on the own shelf too
+  told : (step : Step) (cs : List Held) → Copies shelves order.worker inputs order.inputs.items cs
+      → Copies shelves order.worker inputs order.inputs.items (told_copies step cs)
+  told (Step.Ended o) cs c = c
+  told Step.Waits cs c = (tt, distinct_none same_text)
+  told (Step.Shown a) cs c = c
 
   -- it is just what was fetched
   fetched_told : (task : TaskId) (step : Step) (e : End) (ds : List (Desc (List ℕ))) (cs ks : List Held) → EndIs shelves order.worker task step new e
@@ -94,9 +69,6 @@ module _ (digest : List ℕ → List ℕ) (shelves : ShelvesSeen) (sc : Script) 
       go : CameThrough digest shelves sc inputs order x new (spawned_in digest shelves sc inputs order r) step cs
           → Went digest shelves sc inputs order x r
       go c =
-          let z = told step cs (λ n. (q : Stand (List ℕ))
-          × PassedAt (brings digest shelves sc inputs order) digest sc x new step [] (spawned_in digest shelves sc inputs order r) c.through
-          q × In (known n) (pending_in same_text q)) so.copied c.copies c.asked in
           record {
             step = step;
             new = new;
@@ -110,9 +82,7 @@ module _ (digest : List ℕ → List ℕ) (shelves : ShelvesSeen) (sc : Script) 
             further = c.further;
             typed = so.typed;
             end = so.end;
-            copies = z.copies;
-            asked = z.asked;
-            none = z.none;
+            copies = subst (Copies shelves order.worker inputs order.inputs.items) (sym so.copied) (told step cs c.copies);
             tells = fetched_told order.task step r.end
                 (asked_in (brings digest shelves sc inputs order) digest sc x new step [] (spawned_in digest shelves sc inputs order r) c.through)
                 cs r.copied.items so.end so.copied c.fetches;

@@ -1,5 +1,5 @@
 -- What the run of an order came to, by what its finder says.
-use Rattle.std.proofs.Common.{◌≡◌, ◌<◌, ℕ, List, [], ◌∷◌, length, Result, Ok, Err, IfErr, IfOk, ◌⊎◌, inl, inr, refl, sym, ap, subst, ◌∙◌}
+use Rattle.std.proofs.Common.{◌≡◌, ◌<◌, ℕ, List, [], ◌∷◌, length, Result, Ok, Err, IfErr, IfOk, refl, sym, ap, subst, ◌∙◌}
 use Rattle.std.specs.BTreeMap.{BTreeMap}
 use Rattle.sky_base.specs.Name.{held_name, held_name as name_of_desc}
 use Rattle.sky_base.specs.Tree.{Script}
@@ -15,7 +15,7 @@ use Rattle.sky_state.specs.Pending.{pending_in}
 use Rattle.sky_state.specs.Stand.{Stand}
 use Rattle.ciel_through.specs.Found.{CameFrom, FindsSound, Further, GrewWhole, HasAll, SameKind}
 use Rattle.ciel_through.specs.Asked.{told_after}
-use Rattle.ciel_through.specs.Through.{GoesAsking, PassedAt, asked_in}
+use Rattle.ciel_through.specs.Through.{GoesAsking, asked_in}
 use Rattle.ciel_journal.proofs.Members.{distinct_none}
 use Rattle.ciel_store.specs.Seen.{SeatSeen, ShelvesSeen}
 use Rattle.ciel_table.specs.Inside.{IsIndex}
@@ -80,8 +80,7 @@ module _ (digest : List ℕ → List ℕ) (x new : Stand (List ℕ)) (step : Ste
       (was is : List Held) : Type 0 where
     pub last : Tells
     pub named : last.names ≡ names_in is
-    pub asks : GoesAsking (lies_known inputs held) digest sc (λ n. In n (names_in was)) (λ n. In n (names_in is)) tells_next (tells w held was)
-        last x new step before spawned
+    pub asks : GoesAsking (lies_known inputs held) digest sc tells_next (tells w held was) last x new step before spawned
     pub fits : FitsAfter sc new step
     pub kind : SameKind x step new
     pub further : Further x step new
@@ -102,19 +101,10 @@ module _ (digest : List ℕ → List ℕ) (x new : Stand (List ℕ)) (step : Ste
     whole = g.whole;
     knows = g.knows;
     copies = g.copies;
-    asked = λ n i. late n (g.asks.asks n i);
     fetches = sym g.named ∙ (ap (λ (t : Tells). t.names) g.asks.tells
         ∙ fetches (tells order.worker order.inputs.items [])
         (asked_in (brings digest shelves sc inputs order) digest sc x new step [] spawned g.asks.through));
   }
-    where
-      late : (n : List ℕ) → (In n (names_in []) ⊎ ((q : Stand (List ℕ))
-          × PassedAt (brings digest shelves sc inputs order) digest sc x new step [] spawned g.asks.through q
-          × In (known n) (pending_in same_text q))) → (q : Stand (List ℕ))
-          × PassedAt (brings digest shelves sc inputs order) digest sc x new step [] spawned g.asks.through q
-          × In (known n) (pending_in same_text q)
-      late n (inl i) = absurd i
-      late n (inr p) = p
 
 -- of the same eye, with the same copied
 pub went_same : (digest : List ℕ → List ℕ) (shelves : ShelvesSeen) (sc : Script) (inputs : List (List ℕ × List ℕ)) (order : Order)
@@ -132,8 +122,8 @@ module _ (digest : List ℕ → List ℕ) (shelves : ShelvesSeen) (sc : Script) 
       → (s t : Stays) → s ≡ t → t.shelves ≡ shelves → t.worker ≡ order.worker → t.inputs ≡ inputs → t.held ≡ held
       → Copies s.shelves s.worker s.inputs s.held is
       → IfErr r (λ l. IsLost s.held l.name l.loss eye)
-      → IfOk r (λ p. GoesAsking (lies_known inputs held) digest code (λ n. In n (names_in was)) (λ n. In n (names_in is)) tells_next
-      (tells order.worker held was) (tells s.worker s.held is) x new p before spawned)
+      → IfOk r (λ p. GoesAsking (lies_known inputs held) digest code tells_next (tells order.worker held was) (tells s.worker s.held is) x new p
+      before spawned)
       → IfOk r (λ p. FitsAfter code new p) → IfOk r (λ p. SameKind x p new) → IfOk r (λ p. Further x p new)
       → IfOk r (λ p. GrewSoundly digest code before spawned) → IfOk r (λ p. GrewWhole digest before spawned)
       → IfOk r (λ p. KnowsNames digest (CameFrom (lies_known inputs held) x) p new before spawned)

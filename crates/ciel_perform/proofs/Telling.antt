@@ -3,7 +3,7 @@ use Rattle.std.proofs.Common.{◌≡◌, ℕ, List, [], ◌∷◌, map, Bool, tr
 use Rattle.std.specs.List.{AllByRecursion, IsDistinct}
 use Rattle.sha1.specs.Sha1.{sha1}
 use Rattle.sky_base.specs.KitView.{Gives}
-use Rattle.sky_base.specs.Name.{digested, name}
+use Rattle.sky_base.specs.Name.{digested, held_name}
 use Rattle.sky_base.specs.Needed as n
 use Rattle.sky_base.specs.ObjectView.{object_view}
 use Rattle.sky_base.specs.Res.{Object}
@@ -26,7 +26,8 @@ use Rattle.sky_state.proofs.HeldLaw.{stands_pending}
 use Rattle.sky_waves.specs.Seen.{WritesAlike}
 use Rattle.ciel_through.specs.Steps.{stop_of}
 use Rattle.ciel_through.specs.Step.{Step}
-use Rattle.ciel_through.specs.Through.{PassedAt}
+use Rattle.ciel_through.specs.Through.{PassedAt, asked_in}
+use Rattle.ciel_through.proofs.Asking.{asked_passed}
 use Rattle.ciel_board.specs.Follows.{OrderIs}
 use Rattle.ciel_board.specs.Reports.{copy_names, end_view, made_keys, report_view}
 use Rattle.ciel_board.specs.Setting.{Setting}
@@ -65,6 +66,7 @@ use Rattle.ciel_walks.proofs.Right.{haves_apart}
 use Rattle.ciel_brought.specs.Brought.{lies_known}
 use Rattle.ciel_brought.specs.Copies.{IsCopy}
 use Rattle.ciel_brought.proofs.Copying.{copies_named, copy_fetched}
+use Rattle.ciel_brought.proofs.Fetching.{tells_of}
 use Rattle.sky_frozen.specs.Bytes.{frozen_bytes}
 use Rattle.ciel_perform.specs.Begins.{BeginsAt}
 use Rattle.ciel_perform.specs.Ends.{EndIs, IsMade}
@@ -186,6 +188,10 @@ module _ (digest : List ℕ → List ℕ) (job : s.Job) (gives : Gives) (keyed :
     Passed = (q : Stand (List ℕ)) → PassedAt brought digest job.script x w.new w.step []
         (spawned_in digest shelves job.script job.inputs order r) w.through q → WaitsAt tag mark frozen job around o q
 
+    -- what was asked for on the way
+    abbrev asked_for : List (v.Desc (List ℕ))
+    asked_for = asked_in brought digest job.script x w.new w.step [] (spawned_in digest shelves job.script job.inputs order r) w.through
+
     -- ---- what was copied is what the task waited for
 
     module _ (passed : Passed) where
@@ -207,9 +213,13 @@ module _ (digest : List ℕ → List ℕ) (job : s.Job) (gives : Gives) (keyed :
         named,
       )
         where
+          told : (d : v.Desc (List ℕ)) × t.In d asked_for × (c.name ≡ held_name d)
+          told = tells_of order.worker order.inputs.items asked_for r.end r.copied.items w.tells c.name i
+
           asked : (q : Stand (List ℕ)) × PassedAt brought digest job.script x w.new w.step []
-              (spawned_in digest shelves job.script job.inputs order r) w.through q × t.In (known c.name) (pending_in same_text q)
-          asked = w.asked c.name i
+              (spawned_in digest shelves job.script job.inputs order r) w.through q × t.In told.0 (pending_in same_text q)
+          asked = asked_passed brought digest job.script x w.new w.step [] (spawned_in digest shelves job.script job.inputs order r) w.through
+              told.0 told.1
 
           at : WaitsAt tag mark frozen job around o asked.0
           at = passed asked.0 asked.1
@@ -220,8 +230,8 @@ module _ (digest : List ℕ → List ℕ) (job : s.Job) (gives : Gives) (keyed :
           pending : pending_in same_text asked.0 ≡ map (low_ref no_name tag) (distinct (λ (y z : ⊥). true) at.ds)
           pending = stands_pending tag job around asked.0 (back o.task) at.j at.ds at.stands at.waits no_clash
 
-          back_to : (d : s.Desc) × t.In d (distinct (λ (y z : ⊥). true) at.ds) × (known c.name ≡ low_ref no_name tag d)
-          back_to = in_mapped (low_ref no_name tag) (distinct (λ (y z : ⊥). true) at.ds) (known c.name) (subst (t.In (known c.name)) pending asked.2)
+          back_to : (d : s.Desc) × t.In d (distinct (λ (y z : ⊥). true) at.ds) × (told.0 ≡ low_ref no_name tag d)
+          back_to = in_mapped (low_ref no_name tag) (distinct (λ (y z : ⊥). true) at.ds) told.0 (subst (t.In told.0) pending asked.2)
 
           there : t.In back_to.0 at.ds
           there = distinct_in (λ (y z : ⊥). true) (λ y z q. absurd y) (λ y. absurd y) at.ds back_to.0 back_to.1
@@ -234,11 +244,8 @@ module _ (digest : List ℕ → List ℕ) (job : s.Job) (gives : Gives) (keyed :
               t_each (d ∷ ds) h (inl e) = subst (Given J o) (sym e) h.0
               t_each (d ∷ ds) h (inr k) = t_each ds h.1 k
 
-          name_is : (y z : List ℕ) → known y ≡ known z → y ≡ z
-          name_is y z e = cc
-
           named : c.name ≡ J.name back_to.0
-          named = name_is c.name (name no_name tag back_to.0) back_to.2
+          named = told.2 ∙ ap held_name back_to.2
 
       copies_of : (cs : List Held) → t.Each (IsCopy shelves order.worker job.inputs order.inputs.items) cs
           → ((c : Held) → t.In c.name (names_in cs) → t.In c.name (names_in r.copied.items)) → (ds : List s.Desc) × j.Each (Copied J o) ds

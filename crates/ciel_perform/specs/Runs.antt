@@ -2,9 +2,9 @@
 use Rattle.std.specs.Prelude.{◌≡◌, ℕ, List, [], Option, Result, Ok, Err}
 use Rattle.sky_base.specs.Res.{Object}
 use Rattle.sky_base.specs.Tree.{Script}
-use Rattle.sky_base.specs.Val.{Desc, known, same_text}
+use Rattle.sky_base.specs.Val.{Desc}
 use Rattle.sky_base.specs.declared.object.Named.{Named}
-use Rattle.sky_law.specs.Tasks.{Each, In}
+use Rattle.sky_law.specs.Tasks.{Each}
 use Rattle.sky_typed.specs.Told.{DescTold}
 use Rattle.ciel_board.specs.Reports.{named_view}
 use Rattle.ciel_through.specs.Exactly.{FitsAfter}
@@ -12,11 +12,10 @@ use Rattle.ciel_through.specs.Knows.{KnowsNames}
 use Rattle.ciel_through.specs.Onward.{GrewSoundly}
 use Rattle.ciel_through.specs.Steps.{Spawned}
 use Rattle.ciel_through.specs.Step.{Step}
-use Rattle.sky_state.specs.Pending.{pending_in}
 use Rattle.sky_state.specs.Stand.{Stand}
 use Rattle.sky_state.specs.StandView.{spawned_view}
 use Rattle.ciel_through.specs.Found.{CameFrom, Further, GrewWhole, SameKind}
-use Rattle.ciel_through.specs.Through.{PassedAt, Through, asked_in}
+use Rattle.ciel_through.specs.Through.{Through, asked_in}
 use Rattle.ciel_board.specs.Sound.{own_name}
 use Rattle.ciel_store.specs.Seen.{SeatSeen, ShelvesSeen}
 use Rattle.ciel_store.specs.declared.loss.Loss.{Loss}
@@ -32,11 +31,6 @@ use Rattle.ciel_finds.specs.Finds.{IsLost}
 use Rattle.ciel_finds.specs.declared.brought.Lost.{Lost}
 use Rattle.ciel_perform.specs.Begins.{BeginsAt, StackIsLost}
 use Rattle.ciel_perform.specs.Ends.{EndIs, IsOf, TellsMissing}
-
--- where it waits nothing was copied
-abbrev pub CopiesAt : Step → List Held → Type 0
-CopiesAt Step.Waits cs = cs ≡ []
-CopiesAt _ cs = Unit {0}
 
 module _ (digest : List ℕ → List ℕ) (shelves : ShelvesSeen) (sc : Script) (inputs : List (List ℕ × List ℕ)) (order : Order) where
   -- what the order brings along, by names
@@ -56,8 +50,6 @@ module _ (digest : List ℕ → List ℕ) (shelves : ShelvesSeen) (sc : Script) 
     pub whole : GrewWhole digest [] spawned
     pub knows : KnowsNames digest (CameFrom brings s) step new [] spawned
     pub copies : Copies shelves order.worker inputs order.inputs.items copied
-    pub asked : (n : List ℕ) → In n (names_in copied) → (q : Stand (List ℕ)) × PassedAt brings digest sc s new step [] spawned through q
-        × In (known n) (pending_in same_text q)
     pub fetches : names_in copied ≡ fetched order.worker order.inputs.items (asked_in brings digest sc s new step [] spawned through)
 
   -- or an object was lost
@@ -79,11 +71,8 @@ module _ (digest : List ℕ → List ℕ) (shelves : ShelvesSeen) (sc : Script) 
     pub further : Further s step new
     pub typed : Each (λ (n : Named). DescTold (named_view n)) r.spawned.items
     pub end : EndIs shelves order.worker order.task step new r.end
-    -- what was copied is what it waited for
+    -- what was copied lies on the own shelf too
     pub copies : Copies shelves order.worker inputs order.inputs.items r.copied.items
-    pub asked : (n : List ℕ) → In n (names_in r.copied.items) → (q : Stand (List ℕ))
-        × PassedAt brings digest sc s new step [] (spawned_in r) through q × In (known n) (pending_in same_text q)
-    pub none : CopiesAt step r.copied.items
     -- just what was fetched from other workers' shelves of what was asked for on the way is told, each once, in order; none at a wait
     pub tells : TellsFetched order.worker order.inputs.items (asked_in brings digest sc s new step [] (spawned_in r) through) r.end r.copied.items
 

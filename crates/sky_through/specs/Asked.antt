@@ -1,12 +1,7 @@
--- What a finder of objects was asked for.
-use Rattle.std.specs.Prelude.{ℕ, List, [], ◌∷◌, ◌⊎◌}
+-- What a finder of objects tells of what it was asked for.
+use Rattle.std.specs.Prelude.{ℕ, List, [], ◌∷◌}
 use Rattle.sky_base.specs.Name.{held_name}
-use Rattle.sky_base.specs.Val.{Desc, known}
-use Rattle.sky_law.specs.Tasks.{In}
-
--- it was asked for nothing more than the names of these descriptions
-abbrev pub AsksFor : (before after : List ℕ → Type 0) → List (Desc (List ℕ)) → Type 0
-AsksFor before after ds = (n : List ℕ) → after n → before n ⊎ In (known n) ds
+use Rattle.sky_base.specs.Val.{Desc}
 
 -- what it tells after the names of these were asked for, one after another, where this is what one name more makes of what it tells
 abbrev pub told_after : {T : Type 0} → (T → List ℕ → T) → T → List (Desc (List ℕ)) → T

@@ -1,6 +1,6 @@
 -- How a task goes on over the waits whose objects are found by their names.
 use Rattle.std.specs.Prelude.{◌≡◌, ◌++◌, ℕ, List, map, Option, Some, None, ◌⊎◌}
-use Rattle.sky_base.specs.Val.{Desc, known, same_text}
+use Rattle.sky_base.specs.Val.{Desc, same_text}
 use Rattle.sky_base.specs.Tree.{Script}
 use Rattle.sky_base.specs.Res.{Object}
 use Rattle.sky_law.specs.Tasks.{In}
@@ -45,11 +45,8 @@ module _ (finds : Desc (List ℕ) → Option (Object (List ℕ))) where
   asked_in digest sc old new s before after (last os found r stop) = pending_in same_text old
   asked_in digest sc old new s before after (more os found r rest) = pending_in same_text old ++ asked_in digest sc _ new s _ after rest
 
-  -- it goes through so, and for nothing more is asked than what is waited for at the states from which it goes on;
-  -- what is told is what comes of the names of all that, in order
-  pub record GoesAsking {T : Type 0} (digest : List ℕ → List ℕ) (sc : Script) (asked after_asked : List ℕ → Type 0) (notes : T → List ℕ → T)
-      (told after_told : T) (old new : Stand (List ℕ)) (s : Step) (before after : Spawned) : Type 0 where
+  -- it goes through so, and what is told is what comes of the names of all that is waited for at the states from which it goes on, in order
+  pub record GoesAsking {T : Type 0} (digest : List ℕ → List ℕ) (sc : Script) (notes : T → List ℕ → T) (told after_told : T)
+      (old new : Stand (List ℕ)) (s : Step) (before after : Spawned) : Type 0 where
     pub through : Through digest sc old new s before after
-    pub asks : (n : List ℕ) → after_asked n → asked n
-        ⊎ ((q : Stand (List ℕ)) × PassedAt digest sc old new s before after through q × In (known n) (pending_in same_text q))
     pub tells : after_told ≡ told_after notes told (asked_in digest sc old new s before after through)

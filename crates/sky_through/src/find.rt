@@ -1,7 +1,6 @@
 //! Where objects are found by the names of their descriptions.
 
-ghost use Rattle.std.specs.Prelude.{◌≡◌, [], ◌∷◌, ℕ, List, Option, Some, IfErr, IfOk, IsSome, is_some};
-ghost use Rattle.sky_through.specs.Asked.{AsksFor};
+ghost use Rattle.std.specs.Prelude.{◌≡◌, ℕ, List, MatchResult, Option, Some, IfErr, IfOk, IsSome, is_some};
 ghost use Rattle.sky_base.specs.ObjectView.{object_view};
 ghost use Rattle.sky_base.specs.Res as logic;
 ghost use Rattle.sky_base.specs.Val.{Desc, known};
@@ -27,10 +26,7 @@ pub trait Finds {
 
     ghost stays: { Self → Stays };
 
-    /// The names that it was asked for, as far as it tells them.
-    ghost asked: { Self → List ℕ → Type 0 };
-
-    /// What it tells of the names that it was asked for, and what one name more makes of that.
+    /// What it tells of the names that it was asked for, and what one name more makes of that. A refusal leaves it as it is.
     ghost Told: { Type 0 };
 
     ghost told: { Self → Told };
@@ -53,8 +49,8 @@ pub trait Finds {
         requires there { IsSome (finds self.old (known name.now)) }
         ensures object { IfOk result (λ r. IfOk r (λ o. finds self.old (known name.now) ≡ Some (object_view o))) }
         ensures refusal { IfOk result (λ r. IfErr r (refuses self.new)) }
-        ensures asked { IfOk result (λ _. AsksFor (asked self.old) (asked self.new) (known name.now ∷ [])) }
-        ensures noted { IfOk result (λ r. IfOk r (λ _. told self.new ≡ notes (told self.old) name.now)) }
+        ensures noted { IfOk result (λ r. MatchResult r (λ _. told self.new ≡ notes (told self.old) name.now)
+            (λ _. told self.new ≡ told self.old)) }
         ensures ready { IfOk result (λ _. ready self.new) }
         ensures stays { stays self.new ≡ stays self.old }
         ensures same { finds self.new ≡ finds self.old };

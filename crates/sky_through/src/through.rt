@@ -10,7 +10,7 @@ ghost use Rattle.sky_state.specs.StateView.{stand_of, spawned_of};
 ghost use Rattle.sky_onward.specs.Exactly.{FitsAfter, gone_of};
 ghost use Rattle.sky_onward.specs.Knows.{KnowsNames};
 ghost use Rattle.sky_onward.specs.Onward.{IsRead, GrewSoundly};
-ghost use Rattle.sky_through.specs.Asked.{AsksFor, told_after};
+ghost use Rattle.sky_through.specs.Asked.{told_after};
 ghost use Rattle.sky_through.specs.Found.{AllFound, CameFrom, FoundIf, FindsSound, Further, GrewWhole, HasAll, SameKind, Turns, step_or};
 ghost use Rattle.sky_through.specs.Through.{GoesAsking};
 ghost use Rattle.sky_through.specs.Went.{GoesThrough};
@@ -44,8 +44,8 @@ pub fn run_through<'a, 'b, F: Finds, N: Namer>(
     requires sound { FindsSound (F.finds finder.old) script.now.code }
     requires found { HasAll (F.finds finder.old) (stand_of state.old) }
     requires finder { F.ready finder.old }
-    ensures through { IfOk result (λ r. IfOk r (λ s. GoesAsking (F.finds finder.old) (N.digest namer.now) script.now.code (F.asked finder.old)
-        (F.asked finder.new) F.notes (F.told finder.old) (F.told finder.new) (stand_of state.old) (stand_of state.new) s (spawned_of state.old) (spawned_of state.new))) }
+    ensures through { IfOk result (λ r. IfOk r (λ s. GoesAsking (F.finds finder.old) (N.digest namer.now) script.now.code F.notes
+        (F.told finder.old) (F.told finder.new) (stand_of state.old) (stand_of state.new) s (spawned_of state.old) (spawned_of state.new))) }
     ensures goes { IfOk result (λ r. IfOk r (λ s. GoesThrough (N.digest namer.now) script.now.code (F.finds finder.old) (stand_of state.old)
         (stand_of state.new) s (spawned_of state.old) (spawned_of state.new))) }
     ensures fits { IfOk result (λ r. IfOk r (λ s. FitsAfter script.now.code (stand_of state.new) s)) }
@@ -78,8 +78,8 @@ fn loop_through<'a, 'b, F: Finds, N: Namer>(
     requires sound { FindsSound (F.finds finder.old) script.now.code }
     requires found { HasAll (F.finds finder.old) (stand_of state.old) }
     requires finder { F.ready finder.old }
-    ensures through { IfOk result (λ r. IfOk r (λ s. GoesAsking (F.finds finder.old) (N.digest namer.now) script.now.code (F.asked finder.old)
-        (F.asked finder.new) F.notes (F.told finder.old) (F.told finder.new) (stand_of state.old) (stand_of state.new) s (spawned_of state.old) (spawned_of state.new))) }
+    ensures through { IfOk result (λ r. IfOk r (λ s. GoesAsking (F.finds finder.old) (N.digest namer.now) script.now.code F.notes
+        (F.told finder.old) (F.told finder.new) (stand_of state.old) (stand_of state.new) s (spawned_of state.old) (spawned_of state.new))) }
     ensures fits { IfOk result (λ r. IfOk r (λ s. FitsAfter script.now.code (stand_of state.new) s)) }
     ensures kind { IfOk result (λ r. IfOk r (λ s. SameKind (stand_of state.old) s (stand_of state.new))) }
     ensures further { IfOk result (λ r. IfOk r (λ s. Further (stand_of state.old) s (stand_of state.new))) }
@@ -123,7 +123,6 @@ fn turn<'a, 'b, F: Finds, N: Namer>(
     ensures further { IfOk result (λ r. IfOk r (λ o. Further (stand_of state.old) (step_or o) (stand_of state.new))) }
     ensures falls { IfOk result (λ r. IfOk r (λ o. MatchOption o (gone_of (stand_of state.new) ≡ suc (gone_of (stand_of state.old)))
         (λ s. Unit {0}))) }
-    ensures asked { IfOk result (λ r. IfOk r (λ o. AsksFor (F.asked finder.old) (F.asked finder.new) (pending_in same_text (stand_of state.old)))) }
     ensures noted { IfOk result (λ r. IfOk r (λ o. F.told finder.new ≡ told_after F.notes (F.told finder.old)
         (pending_in same_text (stand_of state.old)))) }
     ensures whole { IfOk result (λ r. IfOk r (λ o. GrewWhole (N.digest namer.now) (spawned_of state.old) (spawned_of state.new))) }
@@ -159,7 +158,6 @@ fn find_all<F: Finds>(
 ) -> Result<Result<Vec<Object>, F::Refusal>, Memory>
     requires found { AllFound (F.finds finder.old) (known_of names.now) }
     requires finder { F.ready finder.old }
-    ensures asked { IfOk result (λ r. IfOk r (λ os. AsksFor (F.asked finder.old) (F.asked finder.new) (known_of names.now))) }
     ensures noted { IfOk result (λ r. IfOk r (λ os. F.told finder.new ≡ told_after F.notes (F.told finder.old) (known_of names.now))) }
     ensures objects { IfOk result (λ r. IfOk r (λ os. map (F.finds finder.old) (known_of names.now) ≡ map Some (map object_view os.items))) }
     ensures finder { F.finds finder.new ≡ F.finds finder.old }

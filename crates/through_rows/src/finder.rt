@@ -34,8 +34,6 @@ impl Finds for Shelf {
 
     ghost stays = { λ s. tt };
 
-    ghost asked = { λ s n. ⊥ };
-
     ghost Told = { Unit {0} };
 
     ghost told = { λ s. tt };

@@ -53,7 +53,7 @@ returns-clause-tells g c =
     let order = c.args.order.now in
     let ds = distinct same_text (refs (view c.args.args.now)) in
     subst (λ e. TellsFetched order.worker order.inputs.items ds e c.report.result.copied.items) (sym c.report.ensures.end)
-    (ap (λ (v : Vec Held Global). names_in v.items) c.report.ensures.copied ∙ c.requires.copied.2)
+    (ap (λ (v : Vec Held Global). names_in v.items) c.report.ensures.copied ∙ c.requires.copied.1)
 
 pub returns-clause-seen : goal.returns-clause-seen
 returns-clause-seen g c e = subst (SeenBy e) (sym c.report.ensures.end) tt

@@ -1,7 +1,7 @@
 use Rattle.std.proofs.Common.{◌≡◌, IfOk, length, subst, sym, ap, ◌∙◌, arith}
 use Rattle.sky_base.specs.JobView.{job_view}
 use Rattle.ciel_finds.specs.Finds.{Noted}
-use Rattle.ciel_finds.proofs.Copying.{asks_after, fresh_place, stands_after, told_after, told_place}
+use Rattle.ciel_finds.proofs.Copying.{fresh_place, names_after, stands_after, told_place}
 use Rattle.ciel_finds.proofs.Finding.{fetched_so, spot_of}
 use Rattle.ciel_finds.proofs.copied.bring_once.Goals as goal
 
@@ -38,12 +38,6 @@ returns-clause-copied g c =
     c.in-Some.ensures.found c.in_ok-brought.ensures.object c.in_ok-brought.ensures.copied noted
     (ap (λ z. z.items) c.in_ok-note.ensures.items)
 
-pub returns-clause-asked : goal.returns-clause-asked
-returns-clause-asked g c =
-    asks_after c.args.shelves.now c.args.worker (job_view c.args.job.now).inputs c.args.held.now c.args.name.now c.in-Some.one.now
-    c.in_ok-brought.brought c.args.copied.now c.note.new.copied c.bring.new.copied.items c.in-Some.ensures.found
-    c.in_ok-brought.ensures.copied (ap (λ z. z.items) c.in_ok-note.ensures.items)
-
 pub returns-then-contains_key-clause-told : goal.returns-then-contains_key-clause-told
 returns-then-contains_key-clause-told g c =
     told_place c.args.worker c.args.held.now c.args.copied.now.places c.args.copied.now.items.items c.args.name.now c.requires.copied.places
@@ -51,7 +45,7 @@ returns-then-contains_key-clause-told g c =
 
 pub returns-clause-told : goal.returns-clause-told
 returns-clause-told g c =
-    told_after c.args.shelves.now c.args.worker (job_view c.args.job.now).inputs c.args.held.now c.args.name.now c.in-Some.one.now
+    names_after c.args.shelves.now c.args.worker (job_view c.args.job.now).inputs c.args.held.now c.args.name.now c.in-Some.one.now
     c.in_ok-brought.brought c.args.copied.now c.note.new.copied c.bring.new.copied.items
     (fresh_place c.args.copied.now.places c.args.copied.now.items.items c.args.name.now c.requires.copied.places
     (sym c.contains_key.ensures ∙ c.if-contains_key.false))

@@ -1,11 +1,9 @@
-use Rattle.std.proofs.Common.{◌≡◌, ◌++◌, Some, map, sym, subst, inl, inr, refl, ◌∙◌}
+use Rattle.std.proofs.Common.{◌≡◌, ◌++◌, Some, map, sym, subst, ◌∙◌}
 use Rattle.sky_base.specs.Names.{known_of}
 use Rattle.sky_base.specs.ObjectView.{object_view}
 use Rattle.sky_base.specs.Val.{known}
-use Rattle.sky_law.specs.Tasks.{In}
 use Rattle.sky_through.specs.Asked.{told_after}
 use Rattle.sky_through.specs.Found.{AllFound}
-use Rattle.sky_through.proofs.Asking.{asks_more}
 use Rattle.sky_through.proofs.Turns.{found_more}
 use Rattle.sky_through.proofs.through.find_all.Goals as goal
 
@@ -24,10 +22,6 @@ names-preserved g c =
       finder = c.in_ok-object.ensures.same ∙ c.names.invariant.finder;
       ready = c.in_ok-object.ensures.ready;
       stays = c.in_ok-object.ensures.stays ∙ c.names.invariant.stays;
-      within = λ d i. c.names.invariant.within d (subst (λ ns. In d (known_of ns)) (sym rest) (inr i));
-      asked = asks_more (g.F.Finds.asked c.args.finder.now) (g.F.Finds.asked c.names.finder) (g.F.Finds.asked c.find.new.self)
-          (known_of c.args.names.now) n (c.names.invariant.within (known n) (subst (λ ns. In (known n) (known_of ns)) (sym rest) (inl refl)))
-          c.names.invariant.asked c.in_ok-object.ensures.asked;
       noted = subst (λ t. told_after g.F.Finds.notes t (known_of c.in-Some.more.now)
           ≡ told_after g.F.Finds.notes (g.F.Finds.told c.args.finder.now) (known_of c.args.names.now))
           (sym (rw c.in-Ok.is at c.in_ok-object.ensures.noted))

@@ -1,9 +1,7 @@
-use Rattle.std.proofs.Common.{◌≡◌, ◌++◌, ℕ, List, map, Some, length}
+use Rattle.std.proofs.Common.{◌≡◌, ◌++◌, map, Some, length}
 use Rattle.sky_base.specs.Names.{known_of}
 use Rattle.sky_base.specs.ObjectView.{object_view}
-use Rattle.sky_law.specs.Tasks.{In}
-use Rattle.sky_base.specs.Val.{Desc}
-use Rattle.sky_through.specs.Asked.{AsksFor, told_after}
+use Rattle.sky_through.specs.Asked.{told_after}
 use Rattle.sky_through.specs.Found.{AllFound}
 use Rattle.sky_through.proofs.through.find_all.Given as goal
 
@@ -13,8 +11,6 @@ invariant-names g l = record {
   finder : g.F.Finds.finds l.finder ≡ g.F.Finds.finds l.fn.finder;
   ready : g.F.Finds.ready l.finder;
   stays : g.F.Finds.stays l.finder ≡ g.F.Finds.stays l.fn.finder;
-  within : (d : Desc (List ℕ)) → In d (known_of l.rest) → In d (known_of l.names);
-  asked : AsksFor (g.F.Finds.asked l.fn.finder) (g.F.Finds.asked l.finder) (known_of l.names);
   noted : told_after g.F.Finds.notes (g.F.Finds.told l.finder) (known_of l.rest)
       ≡ told_after g.F.Finds.notes (g.F.Finds.told l.fn.finder) (known_of l.names);
   objects : map (g.F.Finds.finds l.fn.finder) (known_of l.names) ≡ map Some (map object_view l.objects.items)

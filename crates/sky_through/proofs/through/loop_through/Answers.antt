@@ -20,8 +20,7 @@ turns-init g c =
       ready = c.requires.finder;
       kind = kind_self (stand_of s);
       stays = refl;
-      through = before_none finds digest c.args.script.now.code (g.F.Finds.asked c.args.finder.now) g.F.Finds.notes
-          (g.F.Finds.told c.args.finder.now) (stand_of s) (spawned_of s);
+      through = before_none finds digest c.args.script.now.code g.F.Finds.notes (g.F.Finds.told c.args.finder.now) (stand_of s) (spawned_of s);
       further = omega arith;
       whole = grew_whole_none digest (spawned_of s);
       known = known_self finds digest (stand_of s) (spawned_of s);
@@ -49,9 +48,9 @@ turns-preserved g c =
       whole = grew_whole_both digest (spawned_of c.args.state.now) (spawned_of l.state) (spawned_of c.turn.new.state) l.invariant.whole
           (rw c.in-Ok-None.is at c.in_ok-turn.ensures.whole);
       kind = kind_both (stand_of c.args.state.now) (stand_of l.state) (stand_of c.turn.new.state) Step.Waits l.invariant.kind kind;
-      through = before_more finds digest sc (g.F.Finds.asked c.args.finder.now) (g.F.Finds.asked l.finder) (g.F.Finds.asked c.turn.new.finder)
-          g.F.Finds.notes (g.F.Finds.told c.args.finder.now) (g.F.Finds.told l.finder) (g.F.Finds.told c.turn.new.finder) (stand_of c.args.state.now) (stand_of l.state) (stand_of c.turn.new.state) (spawned_of c.args.state.now) (spawned_of l.state)
-          (spawned_of c.turn.new.state) turned.0 turned.1 turned.2 (rw c.in-Ok-None.is at c.in_ok-turn.ensures.asked)
+      through = before_more finds digest sc g.F.Finds.notes (g.F.Finds.told c.args.finder.now) (g.F.Finds.told l.finder)
+          (g.F.Finds.told c.turn.new.finder) (stand_of c.args.state.now) (stand_of l.state) (stand_of c.turn.new.state)
+          (spawned_of c.args.state.now) (spawned_of l.state) (spawned_of c.turn.new.state) turned.0 turned.1 turned.2
           (rw c.in-Ok-None.is at c.in_ok-turn.ensures.noted) l.invariant.through;
       further = let falls = rw c.in-Ok-None.field-0-is at (rw c.in-Ok-None.is at c.in_ok-turn.ensures.falls) in let so = l.invariant.further in
           omega (arith, falls, so);
@@ -70,10 +69,9 @@ returns-in-Ok-Some-clause-through g c =
     let went = rw c.in-Ok-Some.field-0-is at (rw c.in-Ok-Some.is at c.in_ok-turn.ensures.turns) in
     let turned = subst (λ f. Turns f digest sc (Some step) (stand_of l.state) (stand_of c.turn.new.state) (spawned_of l.state)
     (spawned_of c.turn.new.state)) l.invariant.finder went in
-    before_last finds digest sc (g.F.Finds.asked c.args.finder.now) (g.F.Finds.asked l.finder) (g.F.Finds.asked c.turn.new.finder)
-    g.F.Finds.notes (g.F.Finds.told c.args.finder.now) (g.F.Finds.told l.finder) (g.F.Finds.told c.turn.new.finder) (stand_of c.args.state.now) (stand_of l.state) (stand_of c.turn.new.state) step (spawned_of c.args.state.now) (spawned_of l.state)
-    (spawned_of c.turn.new.state) turned.0 turned.1 turned.2 turned.3 (rw c.in-Ok-Some.is at c.in_ok-turn.ensures.asked)
-    (rw c.in-Ok-Some.is at c.in_ok-turn.ensures.noted) l.invariant.through
+    before_last finds digest sc g.F.Finds.notes (g.F.Finds.told c.args.finder.now) (g.F.Finds.told l.finder) (g.F.Finds.told c.turn.new.finder)
+    (stand_of c.args.state.now) (stand_of l.state) (stand_of c.turn.new.state) step (spawned_of c.args.state.now) (spawned_of l.state)
+    (spawned_of c.turn.new.state) turned.0 turned.1 turned.2 turned.3 (rw c.in-Ok-Some.is at c.in_ok-turn.ensures.noted) l.invariant.through
 
 pub returns-in-Ok-Some-clause-made : goal.returns-in-Ok-Some-clause-made
 returns-in-Ok-Some-clause-made g c =

@@ -17,8 +17,8 @@ invariant-turns g l = record {
   ready : g.F.Finds.ready l.finder;
   kind : SameKind (stand_of l.fn.state) Step.Waits (stand_of l.state);
   stays : g.F.Finds.stays l.finder ≡ g.F.Finds.stays l.fn.finder;
-  through : Before (g.F.Finds.finds l.fn.finder) (g.N.Namer.digest l.namer) l.script.code (g.F.Finds.asked l.fn.finder)
-      (g.F.Finds.asked l.finder) g.F.Finds.notes (g.F.Finds.told l.fn.finder) (g.F.Finds.told l.finder) (stand_of l.fn.state) (stand_of l.state) (spawned_of l.fn.state) (spawned_of l.state);
+  through : Before (g.F.Finds.finds l.fn.finder) (g.N.Namer.digest l.namer) l.script.code g.F.Finds.notes (g.F.Finds.told l.fn.finder)
+      (g.F.Finds.told l.finder) (stand_of l.fn.state) (stand_of l.state) (spawned_of l.fn.state) (spawned_of l.state);
   further : gone_of (stand_of l.fn.state) ≤ gone_of (stand_of l.state);
   whole : GrewWhole (g.N.Namer.digest l.namer) (spawned_of l.fn.state) (spawned_of l.state);
   known : KnowsNames (g.N.Namer.digest l.namer) (CameFrom (g.F.Finds.finds l.fn.finder) (stand_of l.fn.state)) Step.Waits (stand_of l.state)
