@@ -104,9 +104,11 @@ fn what_fails_is_told(rt: HostRuntime) -> Result<(), Fail> {
 }
 
 /// A script, which write of its journal fails, the status, and what is written.
-static JOURNALS: [(&str, u32, u8, &str); 5] = [
+static JOURNALS: [(&str, u32, u8, &str); 7] = [
     (SUM, 1, 9, "3\n"),
+    (SUM, 2, 9, "3\n"),
     (SUM, 12, 9, "3\n"),
+    (SUM, 23, 9, "3\n"),
     (SUM, 60, 0, "3\n"),
     ("return 1 / 0;", 1, 3, ""),
     ("return 1 / 0;", 12, 3, ""),

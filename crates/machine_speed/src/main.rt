@@ -43,6 +43,7 @@ fn number(stop: &Stop) -> i64 {
     }
 }
 
+// The number that the main call returns, with no form under way and no description made; else a number below 0.
 fn run_ground(ground: &Ground<Sha1Namer>) -> i64 {
     let alloc = ground.alloc;
     let mut state = State::new(alloc, 0);
@@ -60,7 +61,8 @@ fn run_ground(ground: &Ground<Sha1Namer>) -> i64 {
         &caught,
         &args,
     ) {
-        Ok(stop) => number(&stop),
+        Ok(stop) if entries.is_empty() && made.is_empty() => number(&stop),
+        Ok(_) => -6,
         Err(_) => -4,
     }
 }

@@ -1,4 +1,4 @@
-// A text read as a script, and texts made of pieces.
+// A text read as a script.
 
 ghost use Rattle.std.specs.Prelude.{◌≤◌, length};
 
@@ -7,7 +7,6 @@ use sky_parse::script::{ParseRefusal, parse};
 use sky_text::lex::{lex, line_col};
 use sky_text::token::Token;
 use std::alloc::Global;
-use std::process::Abort;
 use std::test::Fail;
 
 /// What the tokens of a text are read as, with no inputs.
@@ -38,30 +37,10 @@ pub fn refusal(alloc: Global, text: &[u8]) -> Option<ParseRefusal> {
     }
 }
 
-/// A text, and why it is no script.
-pub type Row = (&'static str, Option<ParseRefusal>);
-
-/// Each text is refused so.
-pub fn refused(rt: &impl Abort, alloc: Global, rows: &[Row]) -> Result<(), Fail> {
-    for (text, want) in rows {
-        assert!(rt; refusal(alloc, text.as_bytes()) == *want, "not {text}");
-    }
-    Ok(())
-}
-
 /// Puts a piece behind a text, so many times.
 pub fn repeat(text: &mut Vec<u8>, piece: &str, count: u32) -> Result<(), Fail> {
     for _ in 0..count {
         text.extend_from_slice(piece.as_bytes())?;
     }
     Ok(())
-}
-
-/// Pieces, each so many times.
-pub fn pieces(alloc: Global, parts: &[(&'static str, u32)]) -> Result<Vec<u8>, Fail> {
-    let mut text = Vec::new(alloc);
-    for (piece, count) in parts {
-        repeat(&mut text, piece, *count)?;
-    }
-    Ok(text)
 }

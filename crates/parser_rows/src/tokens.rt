@@ -1,6 +1,6 @@
-// The tokens of worked scripts, and where a script is first refused.
+// The tokens of worked scripts, and the places of bytes.
 
-use sky_text::lex::{LexRefusal, lex, line_col};
+use sky_text::lex::{lex, line_col};
 use sky_text::token::{Token, TokenKind};
 use std::alloc::{AllocError, Global};
 use std::process::Abort;
@@ -77,40 +77,6 @@ fn scripts_have_their_tokens(rt: HostRuntime) -> Result<(), Fail> {
     for (source, want) in rows {
         let tokens = shown(&rt, rt.alloc(), source)?;
         assert_eq!(&rt; tokens.as_str(), want, "the tokens of {source:?}");
-    }
-    Ok(())
-}
-
-#[test]
-fn scripts_are_refused_at_their_first_wrong_byte(rt: HostRuntime) -> Result<(), Fail> {
-    let rows = [
-        (b"9223372036854775808".as_slice(), LexRefusal::BigNumber(0)),
-        (
-            b" 99999999999999999999x".as_slice(),
-            LexRefusal::BigNumber(1),
-        ),
-        (b"\"a".as_slice(), LexRefusal::OpenText(0)),
-        (b"x\"a\n\"".as_slice(), LexRefusal::OpenText(1)),
-        (b"\"a\\".as_slice(), LexRefusal::OpenText(0)),
-        (b"\"a\\\n\"".as_slice(), LexRefusal::OpenText(0)),
-        (b"\"\\x\"".as_slice(), LexRefusal::BadEscape(1)),
-        (b"\"\\x".as_slice(), LexRefusal::BadEscape(1)),
-        (b"&".as_slice(), LexRefusal::BadByte(0)),
-        (b"a | b".as_slice(), LexRefusal::BadByte(2)),
-        (b"&&&".as_slice(), LexRefusal::BadByte(2)),
-        (b"#".as_slice(), LexRefusal::BadByte(0)),
-        (b"'".as_slice(), LexRefusal::BadByte(0)),
-        (b"\0".as_slice(), LexRefusal::BadByte(0)),
-        (b"# \x80".as_slice(), LexRefusal::BadByte(2)),
-        (b"\"a\xc3".as_slice(), LexRefusal::BadByte(2)),
-        (b"a\xc3\xa9".as_slice(), LexRefusal::BadByte(1)),
-    ];
-    for (source, want) in rows {
-        assert!(&rt; source.len() <= 1048576);
-        match lex(rt.alloc(), source) {
-            Ok(_) => assert!(&rt; false, "{source:?} is not refused"),
-            Err(refusal) => assert_eq!(&rt; refusal, want, "of {source:?}"),
-        }
     }
     Ok(())
 }

@@ -45,7 +45,7 @@ struct Row {
     end: Ended,
 }
 
-static ROWS: [Row; 4] = [
+static ROWS: [Row; 6] = [
     Row {
         text: "return 1 + 2;",
         stops: &[],
@@ -121,6 +121,36 @@ static ROWS: [Row; 4] = [
             given: &[Given::Bytes(b"6")],
         }],
         end: Ended::Int(24),
+    },
+    Row {
+        text: "return -*spawn(function() { return 1; }, []);",
+        stops: &[Stop {
+            at: At {
+                waits: 1,
+                count: 5,
+                made: 1,
+                first: 0,
+                pending: 1,
+                holds: 1,
+            },
+            given: &[Given::Bytes(b"1")],
+        }],
+        end: Ended::Int(-1),
+    },
+    Row {
+        text: "function g() { return 1; } function f() { return *spawn(g, []); } for (x in [1]) { y = f(); }",
+        stops: &[Stop {
+            at: At {
+                waits: 1,
+                count: 12,
+                made: 1,
+                first: 0,
+                pending: 1,
+                holds: 1,
+            },
+            given: &[Given::Bytes(b"1")],
+        }],
+        end: Ended::Null,
     },
 ];
 

@@ -1,4 +1,5 @@
-// Rows of words of the command line. They stand in a crate of their own, since a crate with tests is proved twice.
+// Rows of what the words of a line say. What is no line stands in rows/words.toml. A crate of their own, since a crate with tests is
+// proved twice.
 #![tactic(auto)]
 
 #[cfg(test)]

@@ -5,12 +5,9 @@ use sky_base::text::Txt;
 use std::alloc::Global;
 use std::test::Fail;
 
-/// The words of a row: a bar stands between two words, and the text `none` for no word at all.
+/// The words of a row: a bar stands between two words.
 pub(crate) fn words_of(alloc: Global, row: &str) -> Result<Vec<Txt>, Fail> {
     let mut words = Vec::new(alloc);
-    if row == "none" {
-        return Ok(words);
-    }
     for word in row.split('|') {
         words.push(Txt::new(alloc, word)?)?;
     }

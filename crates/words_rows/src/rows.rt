@@ -4,7 +4,7 @@ use crate::pictures::{picture_of, words_of};
 use std::alloc::Global;
 use std::test::Fail;
 
-// Words, and what they say: a bar stands between two words, and `none` for no word at all.
+// Words, and what they say: a bar stands between two words.
 static LINES: [(&str, &str); 15] = [
     ("s", "s w1 s0 sha1"),
     ("--workers=2|s|--|a=x", "s a=x w2 s0 sha1"),
@@ -35,56 +35,6 @@ static LINES: [(&str, &str); 15] = [
     ),
 ];
 
-// Words that are no line: options.
-static NO_OPTIONS: [&str; 22] = [
-    "none",
-    "s|--workers|0",
-    "s|--workers|65",
-    "s|--workers|-",
-    "s|--workers=",
-    "s|--workers",
-    "s|--workers|--|2",
-    "s|--workers=2|--workers=2",
-    "s|--trace|--trace",
-    "s|--trace=",
-    "s|--plain=yes",
-    "s|--seed|-1",
-    "s|--seed=+1",
-    "s|--seed|18446744073709551616",
-    "s|--seed|000000000000000000001",
-    "s|--names|md5",
-    "s|--names=",
-    "s|--work=1",
-    "s|--help",
-    "s|-x",
-    "s|---",
-    "s|--=x",
-];
-
-// Words that are no line: losses, a generated job, inputs.
-static NO_LINES: [&str; 20] = [
-    "s|--lose|0:1",
-    "s|--lose|0:0,",
-    "s|--lose=",
-    "s|--lose|0",
-    "s|--lose|0:0:0",
-    "s|--lose|4294967296:0",
-    "s|--workers|2|--lose|0:2",
-    "s|--generate|3",
-    "--generate|0",
-    "--generate|1000001",
-    "--generate",
-    "--",
-    "",
-    "s|a=x|a=y",
-    "s|a",
-    "s|a=",
-    "s|=x",
-    "s|.a=x",
-    "s|--|-a=x",
-    "s|a b=x",
-];
-
 // Whether the words of a row say what stands beside them.
 fn says(alloc: Global, row: &str, want: &str) -> Result<bool, Fail> {
     let words = words_of(alloc, row)?;
@@ -97,24 +47,6 @@ fn lines_say_what_stands_in_them(rt: HostRuntime) -> Result<(), Fail> {
     for (row, want) in &LINES {
         let said = says(rt.alloc(), row, want)?;
         assert!(&rt; said);
-    }
-    Ok(())
-}
-
-#[test]
-fn faulty_options_are_no_line(rt: HostRuntime) -> Result<(), Fail> {
-    for row in &NO_OPTIONS {
-        let refused = says(rt.alloc(), row, "no line")?;
-        assert!(&rt; refused);
-    }
-    Ok(())
-}
-
-#[test]
-fn faulty_losses_jobs_and_inputs_are_no_line(rt: HostRuntime) -> Result<(), Fail> {
-    for row in &NO_LINES {
-        let refused = says(rt.alloc(), row, "no line")?;
-        assert!(&rt; refused);
     }
     Ok(())
 }

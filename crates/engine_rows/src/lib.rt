@@ -1,0 +1,20 @@
+// Rows of whole runs that no program shows: ends that a message doesn't tell whole, namers and gates of their own (names that clash, a
+// description too many, an object that is lost on the way to it, two tasks that wait for each other), and runs in one thread beside the
+// same on threads. They stand in one crate of their own, since a crate with tests is proved twice, and each that stands on the engine loads
+// it.
+#![tactic(auto)]
+
+#[cfg(test)]
+mod clashes;
+#[cfg(test)]
+mod job;
+#[cfg(test)]
+mod journal;
+#[cfg(test)]
+mod meetings;
+#[cfg(test)]
+mod missing;
+#[cfg(test)]
+mod squares;
+#[cfg(test)]
+mod too_many;
