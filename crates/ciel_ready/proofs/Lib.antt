@@ -4,3 +4,6 @@ pub mod Alike
 pub mod Changing
 pub mod Searching
 pub mod Holding
+pub mod Reading
+pub mod Looking
+pub mod Following

@@ -1,5 +1,5 @@
 -- The task that follows another one, as far as the marks and the rows tell.
-use Rattle.std.specs.Prelude.{◌≡◌, ◌≤◌, ℕ, List, Bool, true, false, Option, Some, None, IfSome, slice_get, ◌⊎◌}
+use Rattle.std.specs.Prelude.{◌≡◌, ◌≤◌, ℕ, List, Bool, true, false, Option, Some, None, IfSome, min, slice_get, ◌⊎◌}
 use Rattle.std.specs.Option.{option_map}
 use Rattle.sky_base.specs.declared.object.Desc1.{Desc1}
 use Rattle.sky_base.specs.declared.object.TaskId.{TaskId}
@@ -37,6 +37,11 @@ module _ {P : Type 0} (t : TableSeen P) where
 abbrev pub Behind : Option ℕ → ℕ → Type 0
 Behind None z = ⊥
 Behind (Some y) z = y ≤ z
+
+-- the lesser of what is held and a number
+abbrev pub lesser : Option ℕ → ℕ → Option ℕ
+lesser None z = Some z
+lesser (Some y) z = Some (min y z)
 
 -- the nodes that wait for a row that isn't live
 abbrev pub Waits : MarksSeen → ℕ → ℕ → Type 0

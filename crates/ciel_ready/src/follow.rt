@@ -3,14 +3,14 @@
 ghost use Rattle.std.specs.Prelude.{◌≡◌, ◌↔◌, ◌<◌, ℕ, IfOk, IfSome, None, Some, length, true, false};
 ghost use Rattle.ciel_journal.specs.Job.{In};
 ghost use Rattle.ciel_marks.specs.Lists.{at, entry, flag};
-ghost use Rattle.ciel_ready.specs.Following.{Better, MayFollow, Near, NodeFollows, RowReads, Runs, Waits, row_desc, task_desc};
+ghost use Rattle.ciel_ready.specs.Following.{Better, MayFollow, Near, NodeFollows, RowReads, Runs, Waits, lesser, row_desc, task_desc};
 ghost use Rattle.ciel_table.specs.Seen.{is_input};
 ghost use Rattle.ciel_want.specs.Followers.{ReadsOne};
 ghost use Rattle.ciel_want.specs.Waited.{maker};
 
 use crate::anew::is_same;
 use crate::nodes::{node_of, row_of};
-use crate::reads::{Reads, reads};
+use crate::reads::{Reads, what_is_read};
 use ciel_marks::marks::Marks;
 use ciel_table::table::Table;
 use sky_base::at::At;
@@ -42,7 +42,7 @@ fn reads_one<P: At + Drop>(table: &Table<P>, task: &TaskId, desc: &Desc1) -> boo
     ensures { (result ≡ true) ↔ ReadsOne table.now task.now desc.now }
 {
     match desc {
-        Desc1::Exec { args, .. } => match reads(args) {
+        Desc1::Exec { args, .. } => match what_is_read(args) {
             Reads::One(name) => makes(table, task, &name),
             _ => false,
         },
@@ -71,11 +71,14 @@ fn follows<P: At + Drop>(table: &Table<P>, marks: &Marks, task: &TaskId, node: u
     }
 }
 
-// The lesser of two rows, if one is held.
-fn lesser(held: u32, row: u32) -> u32
-    ensures { result ≡ min held row }
+// The lesser of a row that is held, if there is one, and this one.
+fn lesser(best: Option<u32>, row: u32) -> Option<u32>
+    ensures { result ≡ lesser best row }
 {
-    if held <= row { held } else { row }
+    match best {
+        Some(held) => Some(held.min(row)),
+        None => Some(row),
+    }
 }
 
 // A node is looked at.

@@ -19,19 +19,19 @@ pub enum Reads {
 }
 
 impl Reads {
-    // And one thing more.
-    fn and(self, name: Name) -> Reads
-        ensures { result ≡ and_one self name }
+    // One thing more.
+    fn add(&mut self, name: &Name)
+        ensures { self.new ≡ and_one self.old name.now }
     {
         match self {
-            Reads::Nothing => Reads::One(name),
-            _ => Reads::More,
+            Reads::Nothing => *self = Reads::One(*name),
+            _ => *self = Reads::More,
         }
     }
 
     // Whether it is more than one thing once.
-    fn is_more(self) -> bool
-        ensures { result ≡ is_more self }
+    fn is_more(&self) -> bool
+        ensures { result ≡ is_more self.now }
     {
         match self {
             Reads::More => true,
@@ -41,52 +41,50 @@ impl Reads {
 }
 
 /// What a value refers to.
-pub(crate) fn reads(value: &Value) -> Reads
+pub(crate) fn what_is_read(value: &Value) -> Reads
     ensures { result ≡ and_all Reads.Nothing (refs (view value.now)) }
 {
-    reads_also(value, Reads::Nothing)
+    let mut found = Reads::Nothing;
+    add_all(value, &mut found);
+    found
 }
 
-// What a value refers to, behind what was found before.
-#[cycle(reads_also)]
-fn reads_also(value: &Value, found: Reads) -> Reads
-    ensures { result ≡ and_all found (refs (view value.now)) }
+// Adds what a value refers to, up to the second.
+#[cycle(add_all)]
+fn add_all(value: &Value, found: &mut Reads)
+    ensures { found.new ≡ and_all found.old (refs (view value.now)) }
 {
     match value {
-        Value::List(values) => reads_values(values.as_slice(), found),
-        Value::Dict(pairs) => reads_pairs(pairs.as_slice(), found),
-        Value::Fun { caught, .. } => reads_pairs(caught.as_slice(), found),
-        Value::Ref(name) => found.and(*name),
-        _ => found,
+        Value::List(values) => add_values(values.as_slice(), found),
+        Value::Dict(pairs) => add_pairs(pairs.as_slice(), found),
+        Value::Fun { caught, .. } => add_pairs(caught.as_slice(), found),
+        Value::Ref(name) => found.add(name),
+        _ => {}
     }
 }
 
-#[cycle(reads_also)]
+#[cycle(add_all)]
 #[tactic(auto, using(sky_base::proofs::Values::inside))]
-fn reads_values(values: &[Value], found: Reads) -> Reads
-    ensures { result ≡ and_all found (vals_refs (vals_of values.now)) }
+fn add_values(values: &[Value], found: &mut Reads)
+    ensures { found.new ≡ and_all found.old (vals_refs (vals_of values.now)) }
 {
-    let mut all = found;
     for value in values {
-        if all.is_more() {
-            return Reads::More;
+        if found.is_more() {
+            return;
         }
-        all = reads_also(value, all);
+        add_all(value, found);
     }
-    all
 }
 
-#[cycle(reads_also)]
+#[cycle(add_all)]
 #[tactic(auto, using(sky_base::proofs::Values::inside))]
-fn reads_pairs(pairs: &[Pair], found: Reads) -> Reads
-    ensures { result ≡ and_all found (pairs_refs (pairs_of pairs.now)) }
+fn add_pairs(pairs: &[Pair], found: &mut Reads)
+    ensures { found.new ≡ and_all found.old (pairs_refs (pairs_of pairs.now)) }
 {
-    let mut all = found;
     for pair in pairs {
-        if all.is_more() {
-            return Reads::More;
+        if found.is_more() {
+            return;
         }
-        all = reads_also(&pair.value, all);
+        add_all(&pair.value, found);
     }
-    all
 }
