@@ -5,5 +5,6 @@ pub mod Changing
 pub mod Searching
 pub mod Holding
 pub mod Reading
+pub mod Telling
 pub mod Looking
 pub mod Following

@@ -1,11 +1,12 @@
 -- Nodes are looked at one after the other, and the least row of those that follow a task is held.
-use Rattle.std.proofs.Common.{◌≡◌, ◌≤◌, ◌<◌, ◌+◌, ℕ, suc, List, [], ◌∷◌, length, drop, drop-cons, add-one, get_or, min, refl, ap, sym, ◌∙◌, subst, arith}
+use Rattle.std.proofs.Common.{◌≡◌, ◌≤◌, ◌<◌, ◌+◌, ℕ, suc, true, List, [], ◌∷◌, length, drop, drop-cons, add-one, get_or, min, refl, ap, sym, ◌∙◌, subst, arith}
 use Rattle.std.proofs.Common.{◌⊎◌, inl, inr, Option, Some, None, IfSome, slice_get}
 use Rattle.sky_base.specs.declared.object.TaskId.{TaskId}
 use Rattle.ciel_journal.specs.Job.{In}
-use Rattle.ciel_marks.specs.Lists.{at}
+use Rattle.ciel_marks.specs.Lists.{at, flag}
 use Rattle.ciel_marks.specs.Marks.{Least, MarksSeen}
-use Rattle.ciel_ready.specs.Following.{Behind, Better, LeastFollows, NodeFollows, lesser}
+use Rattle.ciel_ready.specs.Fits.{node_of}
+use Rattle.ciel_ready.specs.Following.{Behind, Better, LeastFollows, MayFollow, Near, NodeFollows, Runs, Waits, lesser}
 use Rattle.ciel_table.specs.Seen.{TableSeen}
 use Rattle.ciel_want.proofs.Listing.{drop_end}
 
@@ -30,7 +31,33 @@ some_lesser Q (Some x) y h q = turn (min_cases x y)
     turn (inl e) = subst Q (sym e) h
     turn (inr e) = subst Q (sym e) q
 
+-- ---- what waits for a row of a node, or can run where one is live
+
+module _ (m : MarksSeen) (u : ℕ) (rows : List ℕ) (e : rows ≡ at m.makes u) where
+  pub near_some : (v : ℕ) → Near m u v → ((r : ℕ) × In r rows × Waits m r v) ⊎ Runs m v
+  near_some v q = turn q.2
+    where
+      turn : Waits m q.0 v ⊎ ((flag m.live q.0 ≡ true) × Runs m v) → ((r : ℕ) × In r rows × Waits m r v) ⊎ Runs m v
+      turn (inl w) = inl (q.0, subst (In q.0) (sym e) q.1, w)
+      turn (inr l) = inr l.1
+
+  pub near_waits : ((r : ℕ) → In r rows → flag m.live r ≡ true → ⊥) → (v : ℕ) → Near m u v → (r : ℕ) × In r rows × Waits m r v
+  near_waits none v q = turn q.2
+    where
+      i : In q.0 rows
+      i = subst (In q.0) (sym e) q.1
+
+      turn : Waits m q.0 v ⊎ ((flag m.live q.0 ≡ true) × Runs m v) → (r : ℕ) × In r rows × Waits m r v
+      turn (inl w) = (q.0, i, w)
+      turn (inr l) = absurd (none q.0 i l.0)
+
 module _ {P : Type 0} (t : TableSeen P) (task : TaskId) (m : MarksSeen) where
+  pub may_near : (u : ℕ) → node_of t task ≡ Some u → (v : ℕ) → MayFollow t task m v → Near m u v
+  may_near u e v q =
+      let s : Some q.0 ≡ Some u = sym q.1 ∙ e in
+      let p : q.0 ≡ u = cc in
+      subst (λ x. Near m x v) p q.2
+
   -- ---- one node
 
   pub better_fewer : (few many : ℕ → Type 0) (o n : Option ℕ) → ((v : ℕ) → few v → many v) → Better t task m many o n → Better t task m few o n

@@ -9,7 +9,7 @@ pub all_append : (r : Reads) (ds es : List (Desc (List ℕ))) → and_all r (ds 
 all_append r [] es = refl
 all_append r (d ∷ ds) es = all_append (and_one r (held_name d)) ds es
 
-all_more : (ds : List (Desc (List ℕ))) → and_all Reads.More ds ≡ Reads.More
+pub all_more : (ds : List (Desc (List ℕ))) → and_all Reads.More ds ≡ Reads.More
 all_more [] = refl
 all_more (d ∷ ds) = all_more ds
 

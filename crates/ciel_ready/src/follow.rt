@@ -64,9 +64,7 @@ fn follows<P: At + Drop>(table: &Table<P>, marks: &Marks, task: &TaskId, node: u
     ensures { (result ≡ true) ↔ NodeFollows table.now task.now marks.now node }
 {
     match row_of(node) {
-        Some(row) => {
-            row < table.len() && marks.is_active(node) && row_reads(table, task, row)
-        }
+        Some(row) => { row < table.len() && marks.is_active(node) && row_reads(table, task, row) }
         None => false,
     }
 }
@@ -183,12 +181,7 @@ fn some_live(marks: &Marks, rows: &[u32]) -> bool
 }
 
 // The least row of those that follow a task, which this node stands for.
-fn first_of<P: At + Drop>(
-    table: &Table<P>,
-    marks: &Marks,
-    task: &TaskId,
-    node: u32,
-) -> Option<u32>
+fn first_of<P: At + Drop>(table: &Table<P>, marks: &Marks, task: &TaskId, node: u32) -> Option<u32>
     ensures { Better table.now task.now marks.now (λ v. Near marks.now node v) None result }
 {
     let rows = marks.makes(node);
