@@ -20,7 +20,6 @@ use std::alloc::Global;
 use std::marker::Model;
 
 /// The marks of a graph of tasks. Contracts see them as lists by number.
-#[derive(Drop)]
 pub struct Marks {
     pub(crate) alloc: Global,
     pub(crate) live: Vec<bool>,
@@ -34,6 +33,26 @@ pub struct Marks {
     pub(crate) list: RisingNumbers,
     pub(crate) todo: Numbers,
     pub(crate) orphans: bool,
+}
+
+// Written by hand, so that marks that are let go of are one call and not a list of fields.
+impl Drop for Marks {
+    fn drop(self) {
+        let Marks {
+            alloc: _,
+            live: _,
+            makers: _,
+            watchers: _,
+            wanted: _,
+            out: _,
+            touched: _,
+            makes: _,
+            lacks: _,
+            list: _,
+            todo: _,
+            orphans: _,
+        } = self;
+    }
 }
 
 impl Model for Marks {
@@ -120,9 +139,9 @@ impl Marks {
         !flag(&self.out, 0) && list_at(&self.lacks, 0).is_empty()
     }
 
-    // The node that makes a row.
-    pub(crate) fn maker(&self, row: u32) -> Option<u32>
-        ensures { result ≡ entry self.now.makers row }
+    /// The node that makes a row, if one does.
+    pub fn maker(&self, row: u32) -> Option<u32>
+        ensures maker { result ≡ entry self.now.makers row }
     {
         entry_at(&self.makers, row)
     }
@@ -134,16 +153,30 @@ impl Marks {
         self.maker(row).is_none() && !self.is_live(row)
     }
 
-    // The least row of a node.
-    fn least(&self, node: u32) -> Option<u32>
-        ensures { result ≡ slice_get (at self.now.makes node) 0 }
+    /// The rows that a node makes, the least one first.
+    pub fn makes(&self, node: u32) -> &[u32]
+        ensures makes { result.now ≡ at self.now.makes node }
+    {
+        list_at(&self.makes, node)
+    }
+
+    /// Nodes that waited for a row when they were looked at last. Some may stand twice, and some may not wait for it any more.
+    pub fn watchers(&self, row: u32) -> &[u32]
+        ensures watchers { result.now ≡ at self.now.watchers row }
+    {
+        list_at(&self.watchers, row)
+    }
+
+    /// The least row of a node, if it makes one.
+    pub fn least(&self, node: u32) -> Option<u32>
+        ensures least { result ≡ slice_get (at self.now.makes node) 0 }
     {
         first_of(list_at(&self.makes, node))
     }
 
-    // Wanted and not out.
-    fn is_active(&self, node: u32) -> bool
-        ensures { result ≡ flag self.now.wanted node && not (flag self.now.out node) }
+    /// Whether a node is wanted and not out.
+    pub fn is_active(&self, node: u32) -> bool
+        ensures active { result ≡ flag self.now.wanted node && not (flag self.now.out node) }
     {
         flag(&self.wanted, node) && !flag(&self.out, node)
     }

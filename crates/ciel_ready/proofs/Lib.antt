@@ -4,3 +4,7 @@ pub mod Alike
 pub mod Changing
 pub mod Searching
 pub mod Holding
+pub mod Reading
+pub mod Telling
+pub mod Looking
+pub mod Following

@@ -72,7 +72,7 @@ module _ {P : Type 0} (main : List ℕ) (t : TableSeen P) (out : List TaskId) (m
       let b = long main t m f in
       omega (arith, l, a, b)
 
-  led_of : (u : ℕ) → Active m u → Led (net (needs_by main t) m.live m.makers m.out) u
+  pub led_of : (u : ℕ) → Active m u → Led (net (needs_by main t) m.live m.makers m.out) u
   led_of u a = turn (st.justified u a.0)
     where
       turn : Justified m (needs_by main t) u → Led (net (needs_by main t) m.live m.makers m.out) u

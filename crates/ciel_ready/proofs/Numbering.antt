@@ -60,7 +60,7 @@ module _ {P : Type 0} (main : List ℕ) (t : TableSeen P) (m : MarksSeen) where
     long = ap length f.live ∙ length_map is_live_row t.rows
 
     -- a task with a node
-    node_known : (task : TaskId) (u : ℕ) → node_of t task ≡ Some u → (n : List ℕ) × (e : ℕ) × (task ≡ TaskId.Of n) × (find n t ≡ Some e) × (suc e ≡ u)
+    pub node_known : (task : TaskId) (u : ℕ) → node_of t task ≡ Some u → (n : List ℕ) × (e : ℕ) × (task ≡ TaskId.Of n) × (find n t ≡ Some e) × (suc e ≡ u)
     node_known TaskId.Show u e = cc
     node_known (TaskId.Of n) u e = turn (find n t) refl e
       where

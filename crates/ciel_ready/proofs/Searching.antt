@@ -25,7 +25,7 @@ or_false : (a b : Bool) → a || b ≡ false → a ≡ false
 or_false true b e = cc
 or_false false b e = refl
 
-all_get : {X : Type 0} (Q : X → Type 0) (xs : List X) (i : ℕ) (x : X) → AllByRecursion Q xs → slice_get xs i ≡ Some x → Q x
+pub all_get : {X : Type 0} (Q : X → Type 0) (xs : List X) (i : ℕ) (x : X) → AllByRecursion Q xs → slice_get xs i ≡ Some x → Q x
 all_get Q [] i x a e = cc
 all_get Q (y ∷ ys) zero x a e = let s : y ≡ x = cc in subst Q s a.0
 all_get Q (y ∷ ys) (suc i) x a e = all_get Q ys i x a.1 e

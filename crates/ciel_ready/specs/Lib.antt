@@ -1,3 +1,5 @@
 pub mod Seen
 pub mod Fits
 pub mod Changed
+pub mod Reading
+pub mod Following

@@ -5,7 +5,9 @@
 
 mod anew;
 mod change;
+mod follow;
 mod needs;
 mod nodes;
+mod reads;
 pub mod ready;
 mod search;

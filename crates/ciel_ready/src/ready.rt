@@ -3,15 +3,18 @@
 ghost use Rattle.std.specs.Prelude.{◌≡◌, ◌<◌, [], ℕ, filter, not, IfErr, IfOk, None, OnErr, OnOk, Ok, Err, length, Some, slice_get};
 ghost use Rattle.ciel_marks.specs.Lists.{Rising};
 ghost use Rattle.ciel_ready.specs.Fits.{FitsOut, many_of, runs_at};
+ghost use Rattle.ciel_ready.specs.Following.{ExecsAtStart};
 ghost use Rattle.ciel_ready.specs.Seen.{CanRunAt, CanRunMany, with_out, with_table, without};
 ghost use Rattle.ciel_table.specs.Changes.{dropped, placed, saved};
 ghost use Rattle.ciel_table.specs.Learning.{Refuses, learn_answer, learned};
 ghost use Rattle.ciel_table.specs.Seen.{Known, find, waits_of};
 ghost use Rattle.ciel_table.specs.Sound.{Here, IsAbove};
+ghost use Rattle.ciel_want.specs.Followers.{FollowerIs};
 ghost use Rattle.ciel_want.specs.Waited.{Whole, same_id};
 
 use crate::anew::{anew, is_same};
 use crate::change;
+use crate::follow::{first_row, row_desc};
 use crate::nodes::{find_live, node_for};
 use ciel_marks::marks::Marks;
 use ciel_name::name::Namer;
@@ -21,13 +24,12 @@ use ciel_table::table::Table;
 use ciel_table::wait::Wait;
 use sky_base::at::At;
 use sky_base::name::Name;
-use sky_base::object::{Named, TaskId};
+use sky_base::object::{Desc1, Named, TaskId};
 use sky_base::text::Memory;
 use std::alloc::Global;
 use std::marker::Model;
 
 /// A table, the name of the main call, the tasks that are out, and what is kept of those that can run. Contracts see `ReadySeen`.
-#[derive(Drop)]
 pub struct Ready<P: At> {
     alloc: Global,
     table: Table<P>,
@@ -37,6 +39,20 @@ pub struct Ready<P: At> {
     marks: Option<Marks>,
     // The row that was looked for last.
     near: RowId,
+}
+
+// Written by hand, so that a table that is let go of is one call and not a list of fields.
+impl<P: At + Drop> Drop for Ready<P> {
+    fn drop(self) {
+        let Ready {
+            alloc: _,
+            table: _,
+            main: _,
+            out: _,
+            marks: _,
+            near: _,
+        } = self;
+    }
 }
 
 impl<P: At> Model for Ready<P> {
@@ -216,6 +232,22 @@ impl<P: At + Drop> Ready<P> {
         let task = task_at(&self.table, &mut self.near, &marks, k);
         self.marks = Some(marks);
         Ok(task)
+    }
+
+    /// The executor's task that follows a task: the first, in the order of least rows, that is reached and isn't out and reads one thing
+    /// once, which the task makes. By the description of its first output; `None` where there is none. It costs as much as there are
+    /// tasks that wait for what the task makes, and, where some of that is live already, as there are tasks that can run.
+    ///
+    /// Answers `Memory` for want of memory.
+    pub fn follower(&mut self, task: &TaskId) -> Result<Option<Desc1>, Memory>
+        requires whole { Whole self.old.main self.old.table }
+        ensures follower { IfOk result (λ o. ExecsAtStart self.old.table → FollowerIs self.old.main self.old.table self.old.out task.now o) }
+        ensures same { self.new ≡ self.old }
+    {
+        let marks = self.take_marks()?;
+        let row = first_row(&self.table, &marks, self.near, task);
+        self.marks = Some(marks);
+        row_desc(&self.table, row)
     }
 
     // The marks, made anew where they don't tell all.

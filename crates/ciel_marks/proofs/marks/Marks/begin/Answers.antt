@@ -17,14 +17,14 @@ loop-row-preserved c =
     let row = c.loop-row.row in
     let m = c.loop-row.marks in
     let f = c.loop-row.invariant.filing in
-    let maker = ap (λ es. entry es row) (sym f.makers_is) ∙ sym c.maker-maker.ensures in
+    let maker = ap (λ es. entry es row) (sym f.makers_is) ∙ sym c.maker-maker.ensures.maker in
     let test = sym c.is_unmade.ensures ∙ c.if-is_unmade.false in
     let l = ap length c.in_ok-marks.ensures.live_is in
     record {
       filing = subst (λ i. Filing live makers c.args.out.items i c.file_under.new.self) (sym (add-one row))
           (files_one live makers c.args.out.items c.requires.graph row m c.file_under.new.self c.maker-maker.result f maker
           (λ e. ap (λ fs. flag fs row) (sym f.live_is)
-          ∙ made_or_live (entry m.makers row) (flag m.live row) test (sym c.maker-maker.ensures ∙ e)) c.in_ok-file_under.ensures);
+          ∙ made_or_live (entry m.makers row) (flag m.live row) test (sym c.maker-maker.ensures.maker ∙ e)) c.in_ok-file_under.ensures);
       within = omega (arith, c.loop-row-test.true, c.rows-many.ensures, l);
     }
 

@@ -18,7 +18,7 @@ returns-then-not-flag c =
     let out = ap (λ (x : MarksSeen). x.out) c.self.view_is in
     let list = ap (λ (x : MarksSeen). x.list) c.self.view_is in
     let off = ap (λ fs. flag fs u) (sym out) ∙ (ap (λ fs. flag fs u) (sym c.deref.ensures.value) ∙ (sym c.flag.ensures ∙ c.if-not-flag.true)) in
-    let q = node_can_run m u row (λ e. absurd (omega (arith, c.if-node-eq0.false, e))) (sym c.least.ensures ∙ c.in-Some.is) in
+    let q = node_can_run m u row (λ e. absurd (omega (arith, c.if-node-eq0.false, e))) (sym c.least.ensures.least ∙ c.in-Some.is) in
     (λ h. (off, q.1 (subst (In row) list (c.has.ensures.0 h))), λ a. c.has.ensures.1 (subst (In row) (sym list) (q.0 a.1)))
 
 pub returns-else-not-flag : goal.returns-else-not-flag
@@ -33,5 +33,5 @@ returns-in-None c =
     let m = c.args.self.now in
     let u = c.args.node in (
       λ h. cc,
-      λ a. absurd (makes_none m u (λ e. absurd (omega (arith, c.if-node-eq0.false, e))) (sym c.least.ensures ∙ c.in-None.is) a.1),
+      λ a. absurd (makes_none m u (λ e. absurd (omega (arith, c.if-node-eq0.false, e))) (sym c.least.ensures.least ∙ c.in-None.is) a.1),
     )

@@ -8,7 +8,7 @@ use Rattle.ciel_marks.proofs.marks.Marks.list_it.Goals as goal
 pub returns-in-Some : goal.returns-in-Some
 returns-in-Some c =
     let new = c.insert.new.self in
-    let e = sym c.least.ensures ∙ c.in-Some.is in
+    let e = sym c.least.ensures.least ∙ c.in-Some.is in
     let was = ap (λ (x : MarksSeen). x.list) c.self.view_is in
     on_ok c.insert.result (λ h. (
       new,
@@ -19,4 +19,4 @@ returns-in-Some c =
 pub returns-in-None : goal.returns-in-None
 returns-in-None c =
     let list = c.args.self.now.list in
-    (list, refl, subst (λ o. HasSome o list list) (sym (sym c.least.ensures ∙ c.in-None.is)) refl)
+    (list, refl, subst (λ o. HasSome o list list) (sym (sym c.least.ensures.least ∙ c.in-None.is)) refl)

@@ -15,7 +15,7 @@ search-preserved c =
       left = pops_fewer c.args.self.now c.search.self c.pop.new.self c.in-Some.node c.in-Some.ensures.last c.search.invariant.left;
       stands = λ needs s. opens_not c.search.self c.pop.new.self needs c.pop.ensures.same c.in-Some.node c.in-Some.ensures.last
           (was_idle c.search.self c.pop.new.self c.in-Some.node c.pop.ensures.same
-          (not_active c.pop.new.self c.in-Some.node (sym c.is_active.ensures ∙ c.if-is_active.false))) (c.search.invariant.stands needs s);
+          (not_active c.pop.new.self c.in-Some.node (sym c.is_active.ensures.active ∙ c.if-is_active.false))) (c.search.invariant.stands needs s);
     }
 
 pub returns-clause-stands : goal.returns-clause-stands

@@ -18,8 +18,8 @@ waiting-init c =
       };
       stands = λ needs f r. subst (λ ws. Stands c.set_live-waiting.new.self needs [] ws) (sym c.set_live-waiting.ensures.waiting)
           (subst (λ x. Stands x needs [] (at m.watchers c.args.row)) (sym e)
-          (placed_stands m c.args.row v needs r f (sym c.maker.ensures ∙ c.in-Some.is)
-          (not_active m v (sym c.is_active.ensures ∙ c.if-is_active.false))));
+          (placed_stands m c.args.row v needs r f (sym c.maker.ensures.maker ∙ c.in-Some.is)
+          (not_active m v (sym c.is_active.ensures.active ∙ c.if-is_active.false))));
       none = λ needs r. ap (λ (x : MarksSeen). x.todo) e ∙ r.1;
     }
 
@@ -43,16 +43,16 @@ returns-clause-cause c =
     let m = c.args.self.now in
     let v = c.in-Some.maker in (
       λ e. cc,
-      λ q. absurd (placed_why m c.args.row v (sym c.maker.ensures ∙ c.in-Some.is)
-          (not_active m v (sym c.is_active.ensures ∙ c.if-is_active.false)) q),
+      λ q. absurd (placed_why m c.args.row v (sym c.maker.ensures.maker ∙ c.in-Some.is)
+          (not_active m v (sym c.is_active.ensures.active ∙ c.if-is_active.false)) q),
     )
 
 pub returns-then-is_active-clause-cause : goal.returns-then-is_active-clause-cause
 returns-then-is_active-clause-cause c =
     let m = c.args.self.now in
     let v = c.in-Some.maker in
-    (λ e. inr (v, sym c.maker.ensures ∙ c.in-Some.is, is_active m v (sym c.is_active.ensures ∙ c.if-is_active.true)), λ q. refl)
+    (λ e. inr (v, sym c.maker.ensures.maker ∙ c.in-Some.is, is_active m v (sym c.is_active.ensures.active ∙ c.if-is_active.true)), λ q. refl)
 
 pub returns-in_default-clause-cause : goal.returns-in_default-clause-cause
 returns-in_default-clause-cause c =
-    (λ e. inl (sym c.maker.ensures ∙ c.in_default.is), λ q. refl)
+    (λ e. inl (sym c.maker.ensures.maker ∙ c.in_default.is), λ q. refl)

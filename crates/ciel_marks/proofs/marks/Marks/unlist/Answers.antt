@@ -7,7 +7,7 @@ use Rattle.ciel_marks.proofs.marks.Marks.unlist.Goals as goal
 pub returns-in-Some : goal.returns-in-Some
 returns-in-Some c =
     let new = c.remove.new.self in
-    let e = sym c.least.ensures ∙ c.in-Some.is in
+    let e = sym c.least.ensures.least ∙ c.in-Some.is in
     let was = ap (λ (x : MarksSeen). x.list) c.self.view_is in (
       new,
       ap (λ (x : MarksSeen). record x { list = new }) c.self.view_is,
@@ -17,4 +17,4 @@ returns-in-Some c =
 pub returns-in_default : goal.returns-in_default
 returns-in_default c =
     let list = c.args.self.now.list in
-    (list, refl, subst (λ o. HasNot o list list) (sym (sym c.least.ensures ∙ c.in_default.is)) refl)
+    (list, refl, subst (λ o. HasNot o list list) (sym (sym c.least.ensures.least ∙ c.in_default.is)) refl)
