@@ -1,6 +1,6 @@
 -- A task that follows another one is among those that wait for what that makes, or among those that can run.
 use Rattle.std.proofs.Common.{◌≡◌, ◌≤◌, ◌<◌, ℕ, zero, suc, List, [], ◌∷◌, Bool, true, false, cond, slice_get, refl, ap, sym, ◌∙◌, subst, arith, ◌⊎◌, inl, inr}
-use Rattle.std.proofs.Common.{Option, Some, None, IfSome, IsSome, length}
+use Rattle.std.proofs.Common.{Option, Some, None, Result, Ok, Err, IfOk, IfSome, IsSome, length}
 use Rattle.std.specs.Option.{option_and_then, option_map, option_map_or}
 use Rattle.sky_base.specs.Name.{held_name}
 use Rattle.sky_base.specs.Val.{Desc, distinct, refs, same_text}
@@ -194,7 +194,7 @@ module _ {P : Type 0} (main : List ℕ) (t : TableSeen P) (out : List TaskId) (m
       let q = made_of t task n h in
       let whole = subst (λ b. RowWhole main t b q.row) q.input
       (all_get (λ (r : Row P). RowWhole main t (is_input r.desc) r) t.rows q.place q.row w.rows q.there) in
-      let u = node_some t q.row.task whole.0 in
+      let u = node_some t task q.row.task whole.0 in
       let is : node_of t task ≡ Some u.0 = ap (node_of t) (sym q.is) ∙ u.1 in
       let l = q.within in
       let b = long main t m f in
@@ -248,6 +248,19 @@ module _ {P : Type 0} (main : List ℕ) (t : TableSeen P) (out : List TaskId) (m
           let b = st.shape.makers in
           some_least (at m.makes (suc e)) r (st.filed.makes_it r (suc e) (omega (arith, l, b)) q)
 
+  -- ---- the least row of those that were looked at
+
+  abbrev Found : Option ℕ → Type 0
+  Found o = Better t task m (λ v. MayFollow t task m v) None o
+
+  pub row_within : (o : Option ℕ) → Found o → IfSome o (λ e. e < length t.rows)
+  row_within None b = tt
+  row_within (Some y) b =
+      let q = b.some tt in
+      let l = (st.filed.made y q.0 (least_in m (needs_by main t) (at m.makes q.0) y q.2)).0 in
+      let g = long main t m f in
+      omega (arith, l, g)
+
   module _ (fresh : (x : TaskId) (d : Desc1) → Follows main t out task x d → last_wait x t ≡ None) where
     -- it is among those that are looked at
     record Looked (x : TaskId) (d : Desc1) : Type 0 where
@@ -283,11 +296,6 @@ module _ {P : Type 0} (main : List ℕ) (t : TableSeen P) (out : List TaskId) (m
           may = (own.node, own.is, near_of p.place own.made.place own.node p.active nd own.in_makes);
         }
 
-    -- ---- the least row of those that were looked at
-
-    abbrev Found : Option ℕ → Type 0
-    Found o = Better t task m (λ v. MayFollow t task m v) None o
-
     least_first : (o : Option ℕ) → Found o → (x : TaskId) (d : Desc1) → Follows main t out task x d → (k : ℕ) → entry m.makers k ≡ node_of t x
         → (k < length t.rows) → (z : ℕ) × (z ≤ k) × Behind o z
     least_first o b x d h k e l =
@@ -298,14 +306,6 @@ module _ {P : Type 0} (main : List ℕ) (t : TableSeen P) (out : List TaskId) (m
           st.filed.least z.0 k (suc q.place) z.1 (st.filed.makes_it k (suc q.place) (omega (arith, l, g)) (e ∙ q.node_at)),
           b.all (suc q.place) z.0 q.may q.follows z.1,
         )
-
-    pub row_within : (o : Option ℕ) → Found o → IfSome o (λ e. e < length t.rows)
-    row_within None b = tt
-    row_within (Some y) b =
-        let q = b.some tt in
-        let l = (st.filed.made y q.0 (least_in m (needs_by main t) (at m.makes q.0) y q.2)).0 in
-        let g = long main t m f in
-        omega (arith, l, g)
 
     pub follower_is : (o : Option ℕ) → Found o → FollowerIs main t out task (row_desc t o)
     follower_is None b = λ x d h.
@@ -329,15 +329,15 @@ module _ {P : Type 0} (main : List ℕ) (t : TableSeen P) (out : List TaskId) (m
         let rows : Some item.item ≡ Some r = sym item.there ∙ (ap (slice_get t.rows) same ∙ n.reads.there) in
         let row : item.item ≡ r = cc in
         let is : v.0.task ≡ TaskId.Of r.name = c.2 ∙ ap (λ z. TaskId.Of z) (sym item.named ∙ ap row_name row) in
-        let f = follows_of n.place r a n.reads.there n.reads.reads in
+        let found = (names_of_node n.place r a n.reads.there).found in
         let desc : row_desc t (Some y) ≡ Some r.desc = ap (λ (o : Option (Row P)). task_desc t (option_map_or (λ (x : Row P). x.task) o TaskId.Show)) v.1
-        ∙ (ap (task_desc t) is ∙ ap (option_map (λ (x : Row P). x.desc)) f.found) in
+        ∙ (ap (task_desc t) is ∙ ap (option_map (λ (x : Row P). x.desc)) found) in
         subst (FollowerIs main t out task) (sym desc) (
           y,
           record {
             row = v.0;
             there = v.1;
-            follows = subst (λ x. Follows main t out task x r.desc) (sym is) f;
+            follows = subst (λ x. Follows main t out task x r.desc) (sym is) (follows_of n.place r a n.reads.there n.reads.reads);
             least = λ k x d l there h. before k x d l there h i;
           },
         )
@@ -353,3 +353,8 @@ module _ {P : Type 0} (main : List ℕ) (t : TableSeen P) (out : List TaskId) (m
   pub at_start : ExecsAtStart t → (x : TaskId) (d : Desc1) → Follows main t out task x d → last_wait x t ≡ None
   at_start s x d h =
       ap (λ y. last_wait y t) h.is ∙ s h.name h.row h.found (subst IsExec (sym h.desc) (first_one t task d h.reads).3)
+
+  pub answered : {E : Type 0} (o : Option ℕ) (res : Result (Option Desc1) E) → Found o → IfOk res (λ d. d ≡ row_desc t o)
+      → IfOk res (λ d. ExecsAtStart t → FollowerIs main t out task d)
+  answered o (Err e) b h = tt
+  answered o (Ok d) b h = λ s. subst (FollowerIs main t out task) (sym h) (follower_is (at_start s) o b)
