@@ -34,13 +34,15 @@ use Rattle.ciel_task.specs.declared.report.End.{End}
 use Rattle.ciel_task.specs.declared.report.Made.{Made}
 use Rattle.ciel_want.specs.Waited.{Whole}
 use Rattle.ciel_store.specs.Seen.{SeatSeen, ShelvesSeen, marked}
+use Rattle.ciel_ready.specs.Following.{ExecsAtStart, IsExec}
 use Rattle.ciel_ready.specs.Seen.{ReadySeen, with_out, with_table}
 use Rattle.ciel_master.specs.Orders.{OneEach, ready_of}
 use Rattle.ciel_master.specs.Fitting.{FitsUnlessMissing}
 use Rattle.ciel_master.specs.Marked.{IsCarriedOut, Marked, WasMarked, unseen}
 use Rattle.sky_base.specs.Tree.{Script}
 use Rattle.ciel_safe.specs.Laws.{OrderIsGood, SafeOrders}
-use Rattle.ciel_safe.specs.Safe.{Safe}
+use Rattle.ciel_safe.specs.Safe.{IsCall, Safe}
+use Rattle.ciel_safe.proofs.Sending.{waits_of_calls}
 use Rattle.ciel_safe.proofs.Keeping.{loss_safe, opened_safe, report_safe, start_safe}
 use Rattle.ciel_task.specs.declared.order.Order as rust
 use Rattle.ciel_master.specs.Seen.{Going, HasRoom, MasterSeen, MasterStands, board_of, most_descriptions, plan_view}
@@ -322,6 +324,17 @@ module _ {N : Type 0} (dig : N → (List ℕ → List ℕ)) (m : MasterSeen N) (
 
   pub ready_is : ready ≡ ready_of m.board
   ready_is = ready_now ∙ ap (λ (z : MasterSeen N). ready_of z.board) e
+
+  -- no executor's task has a saved wait
+  pub execs_start : ExecsAtStart ready.table
+  execs_start =
+      subst (λ (r : ReadySeen P). ExecsAtStart r.table) (sym ready_now)
+      (λ k r f exec. waits_of_calls (dig n) shelves sc (length sc.keys) b going.safe k r f (no_call r.desc exec))
+    where
+      no_call : (d : Desc1) → IsExec d → IsCall d → ⊥
+      no_call (Desc1.Call f c vs) x i = x
+      no_call (Desc1.Exec e a n i) x k = k
+      no_call (Desc1.Input k) x i = x
 
   pub one_each : OneEach b.orders
   one_each =

@@ -4,7 +4,7 @@ use Rattle.ciel_ready.specs.Seen.{ReadySeen}
 use Rattle.ciel_task.specs.Views.{P}
 use Rattle.ciel_want.specs.Followers.{FollowerIs}
 use Rattle.ciel_master.specs.Seen.{MasterStands, board_of}
-use Rattle.ciel_master.proofs.Kept.{ready_is, ready_whole}
+use Rattle.ciel_master.proofs.Kept.{execs_start, ready_is, ready_whole}
 use Rattle.ciel_master.proofs.master.Master.follower.Goals as goal
 
 pub follower-requires : goal.follower-requires
@@ -32,4 +32,6 @@ returns-clause-follower g c =
     let b = board_of i.plan (arc_value i.shop).job.script.keys i.main i.ready.table i.orders.items i.starts i.closes i.journal.items i.stopped in
     subst (λ (r : ReadySeen P). FollowerIs r.main r.table r.out c.args.order.now.task c.in_ok-follower.follower)
     (ready_is g.N.Namer.digest c.args.self.now n (arc_value i.shop).shelves (arc_value i.shop).job.script b c.self.view_is i.lost.items
-    (vec_capacity i.journal) (vec_capacity i.lost) i.marker i.ready c.self.invariant c.requires.going) c.in_ok-follower.ensures.follower
+    (vec_capacity i.journal) (vec_capacity i.lost) i.marker i.ready c.self.invariant c.requires.going)
+    (c.in_ok-follower.ensures.follower (execs_start g.N.Namer.digest c.args.self.now n (arc_value i.shop).shelves (arc_value i.shop).job.script b
+    c.self.view_is i.lost.items (vec_capacity i.journal) (vec_capacity i.lost) i.marker i.ready c.self.invariant c.requires.going))
