@@ -3,6 +3,7 @@
 ghost use Rattle.std.specs.Prelude.{◌≡◌, ◌<◌, ◌≤◌, ◌*◌, ◌/◌, ◌^◌, length, IfOk, IfErr};
 ghost use Rattle.ciel_lanes.specs.Seen.{LaneSeen};
 
+use ciel_lanes::bells::bells;
 use ciel_lanes::desk::Desk;
 use ciel_lanes::lanes::Lanes;
 use ciel_lanes::work::Work;
@@ -44,6 +45,17 @@ fn a_job_taken_back_is_still_out(rt: HostRuntime) -> Result<(), Fail> {
     let none = desk.take(&rt);
     assert_eq!(rt; none, None);
     assert!(rt; chair.work_one(&rt));
+    Ok(())
+}
+
+#[test]
+fn bells_of_two_ringers_are_heard(rt: HostRuntime) -> Result<(), Fail> {
+    let (mut ringer, mut listener) = bells::<u32>(rt.alloc(), 2)?;
+    let mut other = ringer.again()?;
+    ringer.ring(&rt, 7);
+    other.ring(&rt, 8);
+    assert_eq!(rt; listener.hear(&rt), 7);
+    assert_eq!(rt; listener.hear(&rt), 8);
     Ok(())
 }
 
