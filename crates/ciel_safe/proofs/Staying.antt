@@ -37,15 +37,15 @@ placed_grows n p t =
     pick m r (inl e) = (r, e, refl)
     pick m r (inr e) = (c.row_with p r, e, refl)
 
-pub outputs_placed : (ms : List (Output P)) (t : TableSeen P) → Grows t (with_outputs ms t)
-outputs_placed [] t = grows_self t
-outputs_placed (m ∷ ms) t =
-    grows_join t (c.placed m.name m.place t) (with_outputs (m ∷ ms) t) (placed_grows m.name m.place t) (outputs_placed ms (c.placed m.name m.place t))
+pub with_outputs_grows : (ms : List (Output P)) (t : TableSeen P) → Grows t (with_outputs ms t)
+with_outputs_grows [] t = grows_self t
+with_outputs_grows (m ∷ ms) t =
+    grows_join t (c.placed m.name m.place t) (with_outputs (m ∷ ms) t) (placed_grows m.name m.place t) (with_outputs_grows ms (c.placed m.name m.place t))
 
-pub copies_placed : (ms : List (Copy P)) (t : TableSeen P) → Grows t (with_copies ms t)
-copies_placed [] t = grows_self t
-copies_placed (m ∷ ms) t =
-    grows_join t (c.placed m.name m.place t) (with_copies (m ∷ ms) t) (placed_grows m.name m.place t) (copies_placed ms (c.placed m.name m.place t))
+pub with_copies_grows : (ms : List (Copy P)) (t : TableSeen P) → Grows t (with_copies ms t)
+with_copies_grows [] t = grows_self t
+with_copies_grows (m ∷ ms) t =
+    grows_join t (c.placed m.name m.place t) (with_copies (m ∷ ms) t) (placed_grows m.name m.place t) (with_copies_grows ms (c.placed m.name m.place t))
 
 rows_grow : (t u : TableSeen P) → u.rows ≡ t.rows → Grows t u
 rows_grow t u e =
@@ -66,7 +66,7 @@ accepted_grows : (digest : List ℕ → List ℕ) (b : Board P) (x : OrderOut) (
 accepted_grows digest b x spawned (rep.made ms cs) =
     let t = learned_all digest spawned b.table in
     grows_join b.table (with_outputs ms t) (with_copies cs (with_outputs ms t))
-    (grows_join b.table t (with_outputs ms t) (all_grow digest spawned b.table) (outputs_placed ms t)) (copies_placed cs (with_outputs ms t))
+    (grows_join b.table t (with_outputs ms t) (all_grow digest spawned b.table) (with_outputs_grows ms t)) (with_copies_grows cs (with_outputs ms t))
 accepted_grows digest b x spawned (rep.saved q) =
     let t = learned_all digest spawned b.table in
     grows_join b.table t (c.saved x.task (wait_of q) t) (all_grow digest spawned b.table) (rows_grow t (c.saved x.task (wait_of q) t) refl)
