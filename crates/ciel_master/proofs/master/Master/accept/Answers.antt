@@ -1,8 +1,9 @@
-use Rattle.std.proofs.Common.{◌≡◌, Some, sym, subst, vec_capacity}
+use Rattle.std.proofs.Common.{◌≡◌, ℕ, List, Some, sym, subst, vec_capacity}
 use Rattle.std.specs.Arc.{arc_value}
 use Rattle.ciel_master.specs.Seen.{board_of}
 use Rattle.ciel_master.proofs.Kept.{carried_now}
-use Rattle.ciel_board.specs.Board.{Order, find_order}
+use Rattle.ciel_board.specs.Board.{Board, Order, find_order}
+use Rattle.sky_base.specs.Tree.{Script}
 use Rattle.ciel_master.specs.Fitting.{FitsOneOut, FitsUnlessMissing, IsMissedOf}
 use Rattle.ciel_master.specs.Marked.{SeenOf, unseen}
 use Rattle.ciel_master.proofs.Marking.{miss_fits}
@@ -37,15 +38,6 @@ fits_of : {N : Type 0} (dig : N → List ℕ → List ℕ) (n : N) (sh : Shelves
     → FitsOneOut (dig m.namer) m.shelves m.script m.board r → FitsOneOut (dig n) sh sc b r
 fits_of dig n sh sc b m e r fits =
     subst (λ (z : MasterSeen _). FitsOneOut (dig z.namer) z.shelves z.script z.board r) (sym e) fits
-
-pub confirm-requires-clause-seen : goal.confirm-requires-clause-seen
-confirm-requires-clause-seen g c =
-    let i = c.self.inside in
-    let n = (arc_value i.shop).namer in
-    let sh = (arc_value i.shop).shelves in
-    let sc = (arc_value i.shop).job.script in
-    let b = board_of i.plan (arc_value i.shop).job.script.keys i.main i.ready.table i.orders.items i.starts i.closes i.journal.items i.stopped in
-    (fits_of g.N.Namer.digest n sh sc b c.args.self.now c.self.view_is c.args.report c.requires.fits).2.seen
 
 pub take-requires-clause-fits : goal.take-requires-clause-fits
 take-requires-clause-fits g c =
