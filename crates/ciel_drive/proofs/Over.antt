@@ -52,7 +52,7 @@ module _ {K N : Type 0} {gives : K → Gives} {digest : N → List ℕ → List 
   -- where each worker is lost
   pub all_lost : ((w : ℕ) → w < b.plan.workers → list_any (nat_eq w) b.table.gone ≡ true) → Ended gives digest shop_ b.plan b.journal RunEnd.AllLost
   all_lost all =
-      record { driven = driven; cause = lost_ends S (shop_is D J G k.orderly) k.history b k.keeps.at_work.runs all }
+      record { driven = driven; cause = lost_ends S (shop_is D J G k.orderly) k.history b k.runs all }
 
   -- where tasks wait for each other
   pub comes_round : Working gives digest shop_ unbroken m out → b.orders ≡ [] → (names : List Digest) → Circle (board_graph b) names
