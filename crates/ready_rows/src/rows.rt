@@ -2,12 +2,9 @@
 
 ghost use Rattle.std.specs.Prelude.{◌≡◌, [], IfOk};
 
-use crate::steps::{
-    Spot, Two, close, exec, is_next, learn, lose, make_two, open, place, save, turn,
-};
+use crate::steps::{Spot, Two, close, learn, lose, make_two, open, place, save, turn};
 use ciel_ready::ready::Ready;
 use sky_base::object::{Named, TaskId};
-use sky_base::value::{Vals, Value};
 use std::alloc::Global;
 use std::test::Fail;
 
@@ -90,40 +87,6 @@ fn loses(alloc: Global, two: &Two) -> Result<bool, Fail> {
     let waits = spawns(alloc, &mut ready, two)?;
     let again = begins_again(alloc, &mut ready, two)?;
     Ok(waits && again)
-}
-
-// Of the two tasks that read what the first makes one reads it twice, and what the other makes besides: the main call waits for that one.
-fn follows(alloc: Global, main: &Named) -> Result<bool, Fail> {
-    let first = exec(alloc, Value::Null)?;
-    let other = exec(alloc, Value::Ref(first.name))?;
-    let mut args = Vals::new(alloc);
-    for name in [first.name, first.name, other.name] {
-        args.push(Value::Ref(name))?;
-    }
-    let twice = exec(alloc, Value::List(args))?;
-    let mut ready = open(alloc, &main.name)?;
-    for named in [main, &first, &twice, &other] {
-        learn(&mut ready, named)?;
-    }
-    let task = turn(alloc, &mut ready, &main.name)?;
-    save(alloc, &mut ready, &task, &twice.name)?;
-    close(&mut ready, &task);
-    let next = is_next(
-        alloc,
-        &mut ready,
-        &main.name,
-        &TaskId::Of(first.name),
-        Some(&other),
-    )?;
-    let none = is_next(alloc, &mut ready, &main.name, &TaskId::Of(other.name), None)?;
-    Ok(next && none)
-}
-
-#[test]
-fn the_other_one_follows(rt: HostRuntime) -> Result<(), Fail> {
-    let two = make_two(rt.alloc())?;
-    assert!(rt; follows(rt.alloc(), &two.main)?);
-    Ok(())
 }
 
 #[test]
