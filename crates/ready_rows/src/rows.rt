@@ -2,9 +2,12 @@
 
 ghost use Rattle.std.specs.Prelude.{◌≡◌, [], IfOk};
 
-use crate::steps::{Spot, Two, close, learn, lose, make_two, open, place, save, turn};
+use crate::steps::{
+    Spot, Two, close, exec, is_next, learn, lose, make_two, open, place, save, turn,
+};
 use ciel_ready::ready::Ready;
 use sky_base::object::{Named, TaskId};
+use sky_base::value::{Vals, Value};
 use std::alloc::Global;
 use std::test::Fail;
 
@@ -87,6 +90,51 @@ fn loses(alloc: Global, two: &Two) -> Result<bool, Fail> {
     let waits = spawns(alloc, &mut ready, two)?;
     let again = begins_again(alloc, &mut ready, two)?;
     Ok(waits && again)
+}
+
+// The references to the first one, twice, and to the other one.
+fn three(alloc: Global, first: &Named, other: &Named) -> Result<Value, Fail> {
+    let mut args = Vals::new(alloc);
+    args.push(Value::Ref(first.name))?;
+    args.push(Value::Ref(first.name))?;
+    args.push(Value::Ref(other.name))?;
+    Ok(Value::List(args))
+}
+
+// Of the two tasks that read what the first makes one reads it twice, and what the other makes besides: the main call waits for that one.
+fn follows(alloc: Global, two: &Two) -> Result<bool, Fail> {
+    let first = exec(alloc, Value::Null)?;
+    let other = exec(alloc, Value::Ref(first.name))?;
+    let twice = exec(alloc, three(alloc, &first, &other)?)?;
+    let mut ready = begun(alloc, two)?;
+    learn(&mut ready, &first)?;
+    learn(&mut ready, &twice)?;
+    learn(&mut ready, &other)?;
+    let task = turn(alloc, &mut ready, &two.main.name)?;
+    save(alloc, &mut ready, &task, &twice.name)?;
+    close(&mut ready, &task);
+    let next = is_next(
+        alloc,
+        &mut ready,
+        &two.main.name,
+        &TaskId::Of(first.name),
+        Some(&other),
+    )?;
+    let none = is_next(
+        alloc,
+        &mut ready,
+        &two.main.name,
+        &TaskId::Of(other.name),
+        None,
+    )?;
+    Ok(next && none)
+}
+
+#[test]
+fn the_other_one_follows(rt: HostRuntime) -> Result<(), Fail> {
+    let two = make_two(rt.alloc())?;
+    assert!(rt; follows(rt.alloc(), &two)?);
+    Ok(())
 }
 
 #[test]

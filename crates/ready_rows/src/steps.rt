@@ -64,6 +64,20 @@ fn three(alloc: Global) -> Result<Vals, Memory> {
     Ok(args)
 }
 
+/// An executor's task with one output.
+pub fn exec(alloc: Global, args: Value) -> Result<Named, Memory> {
+    let executor = Txt::new(alloc, "sort")?;
+    named(
+        alloc,
+        Desc1::Exec {
+            executor,
+            args,
+            outputs: 1,
+            index: 0,
+        },
+    )
+}
+
 /// The two.
 pub fn make_two(alloc: Global) -> Result<Two, Memory> {
     let main = call(alloc, "", Vals::new(alloc))?;
@@ -166,6 +180,31 @@ pub fn turn(alloc: Global, ready: &mut Ready<Spot>, main: &Name) -> Result<TaskI
     let task = first(ready)?;
     ready.start(&task)?;
     Ok(task)
+}
+
+/// Whether this is the one that follows a task.
+pub fn is_next(
+    alloc: Global,
+    ready: &mut Ready<Spot>,
+    main: &Name,
+    task: &TaskId,
+    next: Option<&Named>,
+) -> Result<bool, Fail>
+    requires main { ready.old.main ≡ main.now }
+    ensures main { ready.new.main ≡ ready.old.main }
+{
+    if !is_whole(alloc, ready.table(), main)? {
+        return Err(Fail::from("a name without a row"));
+    }
+    let follower = ready.follower(task)?;
+    match (follower, next) {
+        (Some(desc), Some(named)) => {
+            let (is, as_named) = (canon(alloc, &desc)?, canon(alloc, &named.desc)?);
+            Ok(is.as_slice() == as_named.as_slice())
+        }
+        (None, None) => Ok(true),
+        _ => Ok(false),
+    }
 }
 
 /// A worker is lost: what is searched anew begins with the first again.
