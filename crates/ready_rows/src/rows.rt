@@ -92,37 +92,48 @@ fn loses(alloc: Global, two: &Two) -> Result<bool, Fail> {
     Ok(waits && again)
 }
 
+// The references to the first one, twice, and to the other one.
+fn three(alloc: Global, first: &Named, other: &Named) -> Result<Value, Fail> {
+    let mut args = Vals::new(alloc);
+    args.push(Value::Ref(first.name))?;
+    args.push(Value::Ref(first.name))?;
+    args.push(Value::Ref(other.name))?;
+    Ok(Value::List(args))
+}
+
 // Of the two tasks that read what the first makes one reads it twice, and what the other makes besides: the main call waits for that one.
-fn follows(alloc: Global, main: &Named) -> Result<bool, Fail> {
+fn follows(alloc: Global, two: &Two) -> Result<bool, Fail> {
     let first = exec(alloc, Value::Null)?;
     let other = exec(alloc, Value::Ref(first.name))?;
-    let mut args = Vals::new(alloc);
-    for name in [first.name, first.name, other.name] {
-        args.push(Value::Ref(name))?;
-    }
-    let twice = exec(alloc, Value::List(args))?;
-    let mut ready = open(alloc, &main.name)?;
-    for named in [main, &first, &twice, &other] {
-        learn(&mut ready, named)?;
-    }
-    let task = turn(alloc, &mut ready, &main.name)?;
+    let twice = exec(alloc, three(alloc, &first, &other)?)?;
+    let mut ready = begun(alloc, two)?;
+    learn(&mut ready, &first)?;
+    learn(&mut ready, &twice)?;
+    learn(&mut ready, &other)?;
+    let task = turn(alloc, &mut ready, &two.main.name)?;
     save(alloc, &mut ready, &task, &twice.name)?;
     close(&mut ready, &task);
     let next = is_next(
         alloc,
         &mut ready,
-        &main.name,
+        &two.main.name,
         &TaskId::Of(first.name),
         Some(&other),
     )?;
-    let none = is_next(alloc, &mut ready, &main.name, &TaskId::Of(other.name), None)?;
+    let none = is_next(
+        alloc,
+        &mut ready,
+        &two.main.name,
+        &TaskId::Of(other.name),
+        None,
+    )?;
     Ok(next && none)
 }
 
 #[test]
 fn the_other_one_follows(rt: HostRuntime) -> Result<(), Fail> {
     let two = make_two(rt.alloc())?;
-    assert!(rt; follows(rt.alloc(), &two.main)?);
+    assert!(rt; follows(rt.alloc(), &two)?);
     Ok(())
 }
 

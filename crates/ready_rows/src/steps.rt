@@ -191,6 +191,7 @@ pub fn is_next(
     next: Option<&Named>,
 ) -> Result<bool, Fail>
     requires main { ready.old.main ≡ main.now }
+    ensures main { ready.new.main ≡ ready.old.main }
 {
     if !is_whole(alloc, ready.table(), main)? {
         return Err(Fail::from("a name without a row"));
