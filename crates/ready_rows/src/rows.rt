@@ -101,39 +101,71 @@ fn three(alloc: Global, first: &Named, other: &Named) -> Result<Value, Fail> {
     Ok(Value::List(args))
 }
 
-// Of the two tasks that read what the first makes one reads it twice, and what the other makes besides: the main call waits for that one.
-fn follows(alloc: Global, two: &Two) -> Result<bool, Fail> {
+// Three tasks: two read what the first makes, and one of these what the other makes besides.
+#[derive(Drop)]
+struct Readers {
+    first: Named,
+    other: Named,
+    twice: Named,
+}
+
+fn make_readers(alloc: Global) -> Result<Readers, Fail> {
     let first = exec(alloc, Value::Null)?;
     let other = exec(alloc, Value::Ref(first.name))?;
     let twice = exec(alloc, three(alloc, &first, &other)?)?;
+    Ok(Readers {
+        first,
+        other,
+        twice,
+    })
+}
+
+// A table that knows the main call and the three.
+fn knows(alloc: Global, two: &Two, readers: &Readers) -> Result<Ready<Spot>, Fail>
+    ensures gone { IfOk result (λ r. r.table.gone ≡ []) }
+    ensures main { IfOk result (λ r. r.main ≡ two.now.main.name) }
+{
     let mut ready = begun(alloc, two)?;
-    learn(&mut ready, &first)?;
-    learn(&mut ready, &twice)?;
-    learn(&mut ready, &other)?;
-    let task = turn(alloc, &mut ready, &two.main.name)?;
-    save(alloc, &mut ready, &task, &twice.name)?;
-    close(&mut ready, &task);
+    learn(&mut ready, &readers.first)?;
+    learn(&mut ready, &readers.twice)?;
+    learn(&mut ready, &readers.other)?;
+    Ok(ready)
+}
+
+// The main call waits for this.
+fn waits(alloc: Global, ready: &mut Ready<Spot>, two: &Two, named: &Named) -> Result<(), Fail>
+    requires gone { ready.old.table.gone ≡ [] }
+    requires main { ready.old.main ≡ two.now.main.name }
+    ensures main { ready.new.main ≡ ready.old.main }
+{
+    let task = turn(alloc, ready, &two.main.name)?;
+    save(alloc, ready, &task, &named.name)?;
+    close(ready, &task);
+    Ok(())
+}
+
+// The one that reads what the first one makes, and nothing else, follows it; the one that reads twice follows none.
+fn follows(alloc: Global, two: &Two, readers: &Readers) -> Result<bool, Fail> {
+    let mut ready = knows(alloc, two, readers)?;
+    waits(alloc, &mut ready, two, &readers.twice)?;
+    let first = TaskId::Of(readers.first.name);
+    let other = TaskId::Of(readers.other.name);
     let next = is_next(
         alloc,
         &mut ready,
         &two.main.name,
-        &TaskId::Of(first.name),
-        Some(&other),
+        &first,
+        Some(&readers.other),
     )?;
-    let none = is_next(
-        alloc,
-        &mut ready,
-        &two.main.name,
-        &TaskId::Of(other.name),
-        None,
-    )?;
+    let none = is_next(alloc, &mut ready, &two.main.name, &other, None)?;
     Ok(next && none)
 }
 
 #[test]
 fn the_other_one_follows(rt: HostRuntime) -> Result<(), Fail> {
     let two = make_two(rt.alloc())?;
-    assert!(rt; follows(rt.alloc(), &two)?);
+    let three = make_readers(rt.alloc())?;
+    assert!(rt; follows(rt.alloc(), &two, &three)?);
     Ok(())
 }
 

@@ -182,6 +182,18 @@ pub fn turn(alloc: Global, ready: &mut Ready<Spot>, main: &Name) -> Result<TaskI
     Ok(task)
 }
 
+// Whether this is the description, by its bytes.
+fn is_desc(alloc: Global, desc: &Desc1, next: Option<&Named>) -> Result<bool, Memory> {
+    match next {
+        Some(named) => {
+            let is = canon(alloc, desc)?;
+            let meant = canon(alloc, &named.desc)?;
+            Ok(is.as_slice() == meant.as_slice())
+        }
+        None => Ok(false),
+    }
+}
+
 /// Whether this is the one that follows a task.
 pub fn is_next(
     alloc: Global,
@@ -197,13 +209,12 @@ pub fn is_next(
         return Err(Fail::from("a name without a row"));
     }
     let follower = ready.follower(task)?;
-    match (follower, next) {
-        (Some(desc), Some(named)) => {
-            let (is, as_named) = (canon(alloc, &desc)?, canon(alloc, &named.desc)?);
-            Ok(is.as_slice() == as_named.as_slice())
+    match follower {
+        Some(desc) => {
+            let is = is_desc(alloc, &desc, next)?;
+            Ok(is)
         }
-        (None, None) => Ok(true),
-        _ => Ok(false),
+        None => Ok(next.is_none()),
     }
 }
 
