@@ -5,14 +5,14 @@
 
 ghost use Rattle.std.specs.Prelude.{◌≡◌, ◌≢◌, IfErr};
 ghost use Rattle.ciel.specs.Refused.{IsUsageOrMemory};
-ghost use Rattle.ciel_why.specs.Status.{status_of};
-ghost use Rattle.ciel_why.specs.declared.why.Why.{Why};
+ghost use Rattle.ciel_run_log.specs.Status.{status_of};
+ghost use Rattle.ciel_run_log.specs.declared.why.Why.{Why};
 
 use ciel_gate::open::Open;
 use ciel_io::host::{HostErr, HostFiles, HostOut};
 use ciel_run::top::ciel_main;
-use ciel_why::message::put_message;
-use ciel_why::why::Why;
+use ciel_run_log::message::put_message;
+use ciel_run_log::why::Why;
 use sky_base::text::Txt;
 use std::alloc::Global;
 use std::process::ExitCode;

@@ -1,4 +1,1 @@
-pub mod Calls
-pub mod Crews
-pub mod Hints
-pub mod Seen
+pub use Rattle.ciel_crew_work.specs.Onward

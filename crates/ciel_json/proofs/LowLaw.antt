@@ -11,9 +11,9 @@ use Rattle.sky_base.specs.Val.{Val, Vals, Pairs, Desc, null, truth, num, text, l
 use Rattle.sky_base.specs.Val.{vals_plain, pairs_plain}
 use Rattle.sky_base.specs.Op as op
 use Rattle.sky_base.specs.Name.{low, low_vals, low_pairs}
-use Rattle.sky_law.specs.Lower.{lower}
+use Rattle.sky_base_law.specs.Lower.{lower}
 use Rattle.sky_base.specs.declared.fault.FaultKind.{FaultKind}
-use Rattle.sky_law.proofs.Low.{limited_low, put_low}
+use Rattle.sky_base_law.proofs.Low.{limited_low, put_low}
 use Rattle.ciel_json.specs.Read.{value_of, values_of, pairs_onto, value_read, within_limits, nests_too_deep, reads}
 use Rattle.ciel_json.specs.Text.{json_of, items_of, members_of, text_of}
 

@@ -12,9 +12,9 @@ use Rattle.sky_base.specs.Val.{Val, Vals, Pairs, Desc, null, truth, num, text, l
 use Rattle.sky_base.specs.Val.{vals_refs, pairs_refs}
 use Rattle.sky_base.specs.Op.{Answer, limited, unless, put}
 use Rattle.sky_base.specs.Tree.{Script}
-use Rattle.sky_law.specs.Refers.{PlainReads, Refers, ValsRefer, PairsRefer}
-use Rattle.sky_law.proofs.RefersOps.{put_refers}
-use Rattle.sky_law.specs.Sound.{RefsOver, ValsOver, PairsOver, SoundOver, SoundRead, SoundReads}
+use Rattle.sky_base_law.specs.Refers.{PlainReads, Refers, ValsRefer, PairsRefer}
+use Rattle.sky_base_law.proofs.RefersOps.{put_refers}
+use Rattle.sky_base_law.specs.Sound.{RefsOver, ValsOver, PairsOver, SoundOver, SoundRead, SoundReads}
 use Rattle.sky_base.specs.KitView.{Gives}
 use Rattle.sky_base.specs.declared.fault.FaultKind.{FaultKind}
 use Rattle.ciel_json.specs.Read.{value_of, values_of, pairs_onto, value_read, within_limits, nests_too_deep, reads}

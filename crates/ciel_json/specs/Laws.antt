@@ -1,8 +1,8 @@
 -- What is asked of the reading of data, wherever values are made from it.
 use Rattle.sky_base.specs.KitView.{Gives}
 use Rattle.sky_base.specs.Tree.{Script}
-use Rattle.sky_law.specs.Refers.{PlainReads}
-use Rattle.sky_law.specs.Sound.{SoundReads}
+use Rattle.sky_base_law.specs.Refers.{PlainReads}
+use Rattle.sky_base_law.specs.Sound.{SoundReads}
 use Rattle.ciel_json.specs.Around.{json_around}
 
 -- data that is read keeps the limits and names functions of the script alone, since it names none

@@ -5,15 +5,15 @@ use Rattle.sky_base.specs.Val.{no_pairs, no_vals}
 use Rattle.sky_base.specs.declared.object.Desc1.{Desc1}
 use Rattle.sky_base.specs.declared.object.Named.{Named}
 use Rattle.sky_base.specs.declared.object.TaskId.{TaskId}
-use Rattle.ciel_board.specs.Board.{Board, Order, board_graph, find_order, idle_of, task_key, tasks_out, wait_number}
-use Rattle.ciel_board.specs.Board as board
-use Rattle.ciel_board.specs.Moves.{accepted, closed, empty, lost_at, order_for, started, with_copies, with_outputs, without}
-use Rattle.ciel_board.specs.Reports as r
-use Rattle.ciel_board.specs.Reports.{Copy, IsNamed, learned_all}
-use Rattle.ciel_board.specs.Sound.{CopyFits, OrderSound, OutputFits, Sound}
-use Rattle.ciel_board.proofs.Learning.{grown}
-use Rattle.ciel_board.proofs.Saving.{same_waits}
-use Rattle.ciel_board.proofs.Sounding.{accepted_sound, closed_sound, lost_sound, opened_sound, order_in, sound_whole, started_sound}
+use Rattle.ciel_master_board.specs.Board.{Board, Order, board_graph, find_order, idle_of, task_key, tasks_out, wait_number}
+use Rattle.ciel_master_board.specs.Board as board
+use Rattle.ciel_master_board.specs.Moves.{accepted, closed, empty, lost_at, order_for, started, with_copies, with_outputs, without}
+use Rattle.ciel_master_board.specs.Reports as r
+use Rattle.ciel_master_board.specs.Reports.{Copy, IsNamed, learned_all}
+use Rattle.ciel_master_board.specs.Sound.{CopyFits, OrderSound, OutputFits, Sound}
+use Rattle.ciel_master_board.proofs.Learning.{grown}
+use Rattle.ciel_master_board.proofs.Saving.{same_waits}
+use Rattle.ciel_master_board.proofs.Sounding.{accepted_sound, closed_sound, lost_sound, opened_sound, order_in, sound_whole, started_sound}
 use Rattle.ciel_journal.specs.Entries as j
 use Rattle.ciel_journal.specs.Graph.{Runnable}
 use Rattle.ciel_journal.specs.Job.{Each, In}
@@ -28,30 +28,30 @@ use Rattle.ciel_table.specs.declared.wait.Wait.{Wait}
 use Rattle.ciel_table.proofs.Lists.{all_more}
 use Rattle.std.specs.List.{AllByRecursion, list_any}
 use Rattle.std.proofs.lemmas.List.{length-map}
-use Rattle.ciel_task.specs.Views.{P, copies_view, how_view, order_view, output_view}
-use Rattle.ciel_task.specs.declared.block.Held.{Held}
-use Rattle.ciel_task.specs.declared.report.End.{End}
-use Rattle.ciel_task.specs.declared.report.Made.{Made}
+use Rattle.ciel_task_order.specs.Views.{P, copies_view, how_view, order_view, output_view}
+use Rattle.ciel_task_order.specs.declared.block.Held.{Held}
+use Rattle.ciel_task_order.specs.declared.report.End.{End}
+use Rattle.ciel_task_order.specs.declared.report.Made.{Made}
 use Rattle.ciel_want.specs.Waited.{Whole}
 use Rattle.ciel_store.specs.Seen.{SeatSeen, ShelvesSeen, marked}
-use Rattle.ciel_ready.specs.Following.{ExecsAtStart, IsExec}
-use Rattle.ciel_ready.specs.Seen.{ReadySeen, with_out, with_table}
+use Rattle.ciel_want_ready.specs.Following.{ExecsAtStart, IsExec}
+use Rattle.ciel_want_ready.specs.Seen.{ReadySeen, with_out, with_table}
 use Rattle.ciel_master.specs.Orders.{OneEach, ready_of}
 use Rattle.ciel_master.specs.Fitting.{FitsUnlessMissing}
 use Rattle.ciel_master.specs.Marked.{IsCarriedOut, Marked, WasMarked, unseen}
 use Rattle.sky_base.specs.Tree.{Script}
-use Rattle.ciel_safe.specs.Laws.{OrderIsGood, SafeOrders}
-use Rattle.ciel_safe.specs.Safe.{IsCall, Safe}
-use Rattle.ciel_safe.proofs.Sending.{waits_of_calls}
-use Rattle.ciel_safe.proofs.Keeping.{loss_safe, opened_safe, report_safe, start_safe}
-use Rattle.ciel_task.specs.declared.order.Order as rust
+use Rattle.ciel_master_safe.specs.Laws.{OrderIsGood, SafeOrders}
+use Rattle.ciel_master_safe.specs.Safe.{IsCall, Safe}
+use Rattle.ciel_master_safe.proofs.Sending.{waits_of_calls}
+use Rattle.ciel_master_safe.proofs.Keeping.{loss_safe, opened_safe, report_safe, start_safe}
+use Rattle.ciel_task_order.specs.declared.order.Order as rust
 use Rattle.ciel_master.specs.Seen.{Going, HasRoom, MasterSeen, MasterStands, board_of, most_descriptions, plan_view}
 use Rattle.ciel_master.specs.Taking.{CanTake, CopiesPlace, LearnedFor, OutputsPlace, entry_for, is_last, learned_for, table_after}
-use Rattle.ciel_turns.specs.Left.{losses_left}
-use Rattle.ciel_turns.proofs.Working.{fewer_losses}
+use Rattle.ciel_master_board.specs.Left.{losses_left}
+use Rattle.ciel_master_board.proofs.Working.{fewer_losses}
 use Rattle.ciel_master.proofs.Stays.{tasks_join}
 use Rattle.ciel_master.proofs.Marking.{carried_out, has_shelf, marked_more}
-use Rattle.ciel_bring.specs.Brings.{worker_of}
+use Rattle.ciel_master_bring.specs.Brings.{worker_of}
 use Rattle.ciel_master.specs.Views.{entry_view, kept_view}
 use Rattle.ciel_master.specs.declared.entry.Entry.{Entry}
 use Rattle.ciel_master.specs.declared.orders.OrderOut.{OrderOut}

@@ -1,7 +1,7 @@
 -- Lists of orders that are out, by what they stand for.
 use Rattle.std.proofs.Common.{◌≡◌, ℕ, List, [], ◌∷◌, Bool, true, false, cond, map, filter, not, nat_eq, refl, ap}
-use Rattle.ciel_board.specs.Board as board
-use Rattle.ciel_board.specs.Moves.{without}
+use Rattle.ciel_master_board.specs.Board as board
+use Rattle.ciel_master_board.specs.Moves.{without}
 use Rattle.ciel_master.specs.Views.{kept_view}
 use Rattle.ciel_master.specs.declared.orders.OrderOut.{OrderOut}
 

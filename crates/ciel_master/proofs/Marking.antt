@@ -4,19 +4,19 @@ use Rattle.std.proofs.Common.{map, nat_eq, slice_get, eqb-true, eq-eqb, refl, ap
 use Rattle.std.specs.List.{list_any}
 use mathlib.Core.Option.{some}
 use lib.ListN.{get_elem?}
-use Rattle.ciel_board.specs.Board.{Board, Order}
-use Rattle.ciel_board.specs.Sound.{MissFits}
-use Rattle.ciel_bring.specs.Brings.{worker_of}
+use Rattle.ciel_master_board.specs.Board.{Board, Order}
+use Rattle.ciel_master_board.specs.Sound.{MissFits}
+use Rattle.ciel_master_bring.specs.Brings.{worker_of}
 use Rattle.ciel_journal.specs.Job.{Each, In}
 use Rattle.ciel_journal.proofs.Booked.{each_more}
 use Rattle.ciel_journal.proofs.Members.{bool_cases, each_of, in_any}
 use Rattle.ciel_store.specs.Seen.{SeatSeen, ShelvesSeen, is_lost, marked}
 use Rattle.ciel_store.specs.Words.{AllIn, Has}
 use Rattle.ciel_store.specs.declared.loss.Loss.{Loss}
-use Rattle.ciel_task.specs.Performs.{HasSeen}
-use Rattle.ciel_task.specs.Views.{P, how_view}
-use Rattle.ciel_task.specs.declared.block.Held.{Held}
-use Rattle.ciel_task.specs.declared.report.End.{End}
+use Rattle.ciel_task_order.specs.Performs.{HasSeen}
+use Rattle.ciel_task_order.specs.Views.{P, how_view}
+use Rattle.ciel_task_order.specs.declared.block.Held.{Held}
+use Rattle.ciel_task_order.specs.declared.report.End.{End}
 use Rattle.ciel_master.specs.Fitting.{IsMissedOf}
 use Rattle.ciel_master.specs.Marked.{HasShelf, IsCarriedOut, IsPlanned, Marked, WasMarked, worker_lost}
 

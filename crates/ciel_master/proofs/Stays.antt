@@ -2,9 +2,9 @@
 use Rattle.std.proofs.Common.{◌≡◌, ℕ, List, [], ◌∷◌, ◌++◌, Bool, true, false, not, cond, filter, nat_eq, eq-eqb, eqb-true, Some, None, ◌⊎◌, inl, inr}
 use Rattle.std.proofs.Common.{refl, ap, sym, ◌∙◌, subst}
 use Rattle.sky_base.specs.declared.object.TaskId.{TaskId}
-use Rattle.ciel_board.specs.Board.{OrderOut, tasks_out}
-use Rattle.ciel_board.specs.Moves.{without}
-use Rattle.ciel_board.proofs.Sounding.{same_self}
+use Rattle.ciel_master_board.specs.Board.{OrderOut, tasks_out}
+use Rattle.ciel_master_board.specs.Moves.{without}
+use Rattle.ciel_master_board.proofs.Sounding.{same_self}
 use Rattle.ciel_journal.specs.Job.{In}
 use Rattle.ciel_journal.proofs.Members.{agree, bool_cases}
 use Rattle.ciel_want.specs.Waited.{same_id}

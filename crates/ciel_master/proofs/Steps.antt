@@ -2,9 +2,9 @@
 use Rattle.std.proofs.Common.{◌≡◌, ℕ, List, [], ◌∷◌, Result, Ok, Err, cond, is_ok, refl, ap, sym, subst}
 use Rattle.std.specs.Result.{IfErr, IsErrAnd}
 use Rattle.sky_base.specs.declared.object.Named.{Named}
-use Rattle.ciel_board.specs.Moves.{with_copies, with_outputs}
-use Rattle.ciel_board.specs.Reports.{Copy, Output}
-use Rattle.ciel_board.proofs.Sounding.{same_names}
+use Rattle.ciel_master_board.specs.Moves.{with_copies, with_outputs}
+use Rattle.ciel_master_board.specs.Reports.{Copy, Output}
+use Rattle.ciel_master_board.proofs.Sounding.{same_names}
 use Rattle.ciel_journal.specs.Job.{Digest, Each}
 use Rattle.ciel_journal.proofs.Booked.{each_more}
 use Rattle.ciel_table.specs.Changes.{placed, row_with}
@@ -13,11 +13,11 @@ use Rattle.ciel_table.specs.Seen.{Known, TableSeen, row_name}
 use Rattle.ciel_table.specs.Sound.{Here}
 use Rattle.ciel_table.specs.declared.refusal.Learn.{Learn}
 use Rattle.ciel_table.proofs.ByName.{names_changed}
-use Rattle.ciel_task.specs.Views.{P, copies_view, copy_at}
-use Rattle.ciel_task.specs.declared.block.Held.{Held}
-use Rattle.ciel_task.specs.declared.block.Spot.{Spot}
+use Rattle.ciel_task_order.specs.Views.{P, copies_view, copy_at}
+use Rattle.ciel_task_order.specs.declared.block.Held.{Held}
+use Rattle.ciel_task_order.specs.declared.block.Spot.{Spot}
 use Rattle.ciel_master.specs.Refusals.{FirstStops, StopsAt, UnlessMemory, learned_before}
-use Rattle.ciel_bring.specs.Brings.{worker_of}
+use Rattle.ciel_master_bring.specs.Brings.{worker_of}
 use Rattle.ciel_master.specs.declared.stop.Stop.{Stop}
 
 -- ---- what is refused

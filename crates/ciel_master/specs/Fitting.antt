@@ -3,19 +3,19 @@ use Rattle.std.specs.Prelude.{◌≡◌, ◌⊎◌, ℕ, List, Option, Some, tru
 use Rattle.std.specs.List.{list_any}
 use Rattle.sky_base.specs.Tree.{Script}
 use Rattle.sky_base.specs.declared.object.Named.{Named}
-use Rattle.ciel_board.specs.Board as b
-use Rattle.ciel_board.specs.Board.{Board, find_order, shelf, spot_of}
-use Rattle.ciel_board.specs.Sound.{own_name}
-use Rattle.ciel_bring.specs.Brings.{worker_of}
+use Rattle.ciel_master_board.specs.Board as b
+use Rattle.ciel_master_board.specs.Board.{Board, find_order, shelf, spot_of}
+use Rattle.ciel_master_board.specs.Sound.{own_name}
+use Rattle.ciel_master_bring.specs.Brings.{worker_of}
 use Rattle.ciel_journal.specs.Job.{Digest}
-use Rattle.ciel_safe.specs.Reports.{FitsSafely}
+use Rattle.ciel_master_safe.specs.Reports.{FitsSafely}
 use Rattle.ciel_store.specs.Seen.{SeatSeen, ShelvesSeen}
 use Rattle.ciel_store.specs.declared.loss.Loss.{Loss}
-use Rattle.ciel_task.specs.Performs.{HasSeen, IsMissing, OfTask}
-use Rattle.ciel_task.specs.Views.{P, how_view}
-use Rattle.ciel_task.specs.declared.block.Held.{Held}
-use Rattle.ciel_task.specs.declared.report.End.{End}
-use Rattle.ciel_task.specs.declared.report.Report.{Report}
+use Rattle.ciel_task_order.specs.Performs.{HasSeen, IsMissing, OfTask}
+use Rattle.ciel_task_order.specs.Views.{P, how_view}
+use Rattle.ciel_task_order.specs.declared.block.Held.{Held}
+use Rattle.ciel_task_order.specs.declared.report.End.{End}
+use Rattle.ciel_task_order.specs.declared.report.Report.{Report}
 use Rattle.ciel_master.specs.Marked.{IsPlanned, SeenOf}
 
 -- it is of this order, and its end of the task's kind

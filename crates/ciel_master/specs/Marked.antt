@@ -1,22 +1,22 @@
 -- Losses that were carried out, as the seat that marks them at the words of the shelves has them.
 use Rattle.std.specs.Prelude.{◌⊎◌, Option, ◌≡◌, ℕ, ◌<◌, List, true, Some, None, length, map, nat_eq, slice_get}
 use Rattle.std.specs.List.{list_any}
-use Rattle.ciel_board.specs.Board.{Board, shelf, spot_of}
-use Rattle.ciel_board.specs.Sound.{own_name}
+use Rattle.ciel_master_board.specs.Board.{Board, shelf, spot_of}
+use Rattle.ciel_master_board.specs.Sound.{own_name}
 use Rattle.ciel_journal.specs.Job.{Digest}
-use Rattle.ciel_task.specs.declared.report.Report.{Report}
+use Rattle.ciel_task_order.specs.declared.report.Report.{Report}
 use Rattle.sky_base.specs.Tree.{Script}
-use Rattle.ciel_safe.specs.Reports.{FitsSafely}
-use Rattle.ciel_board.specs.Board as b
+use Rattle.ciel_master_safe.specs.Reports.{FitsSafely}
+use Rattle.ciel_master_board.specs.Board as b
 use Rattle.ciel_journal.specs.Job.{Each, In}
 use Rattle.ciel_store.specs.Seen.{SeatSeen, ShelvesSeen}
 use Rattle.ciel_store.specs.declared.loss.Loss.{Loss}
-use Rattle.ciel_task.specs.Performs.{HasSeen, IsMissing, OfTask}
-use Rattle.ciel_task.specs.Places.{SeenAt}
-use Rattle.ciel_task.specs.Views.{P, how_view}
-use Rattle.ciel_task.specs.declared.block.Held.{Held}
-use Rattle.ciel_task.specs.declared.report.End.{End}
-use Rattle.ciel_bring.specs.Brings.{worker_of}
+use Rattle.ciel_task_order.specs.Performs.{HasSeen, IsMissing, OfTask}
+use Rattle.ciel_task_order.specs.Places.{SeenAt}
+use Rattle.ciel_task_order.specs.Views.{P, how_view}
+use Rattle.ciel_task_order.specs.declared.block.Held.{Held}
+use Rattle.ciel_task_order.specs.declared.report.End.{End}
+use Rattle.ciel_master_bring.specs.Brings.{worker_of}
 use Rattle.sky_base.specs.declared.object.Named.{Named}
 
 abbrev pub worker_lost : Loss → ℕ

@@ -1,9 +1,9 @@
 -- Orders that are out, and what is kept of the tasks that can run, beside the state by names.
 use Rattle.std.specs.Prelude.{◌≡◌, ℕ, List, [], ◌∷◌, cond, Option, Some, None, nat_eq}
-use Rattle.ciel_board.specs.Board as b
-use Rattle.ciel_board.specs.Board.{Board, tasks_out}
+use Rattle.ciel_master_board.specs.Board as b
+use Rattle.ciel_master_board.specs.Board.{Board, tasks_out}
 use Rattle.ciel_journal.specs.Job.{In}
-use Rattle.ciel_ready.specs.Seen.{ReadySeen}
+use Rattle.ciel_want_ready.specs.Seen.{ReadySeen}
 
 -- the table of a state, its main call's name, and the tasks of its orders as out
 abbrev pub ready_of : {P : Type 0} → Board P → ReadySeen P

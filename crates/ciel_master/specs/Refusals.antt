@@ -1,8 +1,8 @@
 -- Why a report isn't taken, by what learning refuses, and what the state is then.
 use Rattle.std.specs.Prelude.{◌≡◌, ℕ, List, [], ◌∷◌, Err, cond, is_ok, true}
 use Rattle.sky_base.specs.declared.object.Named.{Named}
-use Rattle.ciel_board.specs.Board.{Board}
-use Rattle.ciel_board.specs.Reports.{FirstRefused}
+use Rattle.ciel_master_board.specs.Board.{Board}
+use Rattle.ciel_master_board.specs.Reports.{FirstRefused}
 use Rattle.ciel_table.specs.Learning.{learn_answer, learned}
 use Rattle.ciel_table.specs.Seen.{TableSeen}
 use Rattle.ciel_table.specs.declared.refusal.Learn.{Learn}

@@ -1,19 +1,19 @@
 -- What contracts see of a master.
 use Rattle.std.specs.Prelude.{◌≡◌, ℕ, ◌+◌, ◌≤◌, ◌<◌, ◌^◌, List, Bool, false, length, map}
 use Rattle.sky_base.specs.Tree.{Script}
-use Rattle.ciel_board.specs.Board.{Board}
+use Rattle.ciel_master_board.specs.Board.{Board}
 use Rattle.ciel_journal.specs.History.{Plan}
 use Rattle.ciel_journal.specs.Job.{Digest}
 use Rattle.ciel_store.specs.Seen.{SeatSeen, ShelvesSeen}
 use Rattle.ciel_table.specs.Seen.{TableSeen}
-use Rattle.ciel_turns.specs.Left.{losses_left}
-use Rattle.ciel_ready.specs.Seen.{ReadySeen}
-use Rattle.ciel_safe.specs.Safe.{Safe}
+use Rattle.ciel_master_board.specs.Left.{losses_left}
+use Rattle.ciel_want_ready.specs.Seen.{ReadySeen}
+use Rattle.ciel_master_safe.specs.Safe.{Safe}
 use Rattle.ciel_master.specs.Orders.{ready_of}
 use Rattle.ciel_master.specs.Marked.{Marked}
-use Rattle.ciel_bring.specs.Brings.{worker_of}
+use Rattle.ciel_master_bring.specs.Brings.{worker_of}
 use Rattle.ciel_master.specs.Views.{entry_view, kept_view}
-use Rattle.ciel_task.specs.Views.{P}
+use Rattle.ciel_task_order.specs.Views.{P}
 use Rattle.ciel_master.specs.declared.entry.Entry.{Entry}
 use Rattle.ciel_master.specs.declared.orders.OrderOut.{OrderOut}
 use Rattle.ciel_master.specs.declared.plan.RunPlan.{RunPlan}

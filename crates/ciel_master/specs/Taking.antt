@@ -2,20 +2,20 @@
 use Rattle.std.specs.Prelude.{ℕ, List, Bool, false}
 use Rattle.sky_base.specs.declared.object.Named.{Named}
 use Rattle.sky_base.specs.declared.object.TaskId.{TaskId}
-use Rattle.ciel_board.specs.Moves.{is_root, with_copies, with_outputs, wait_of}
-use Rattle.ciel_board.specs.Reports as r
-use Rattle.ciel_board.specs.Reports.{AllLearned, Copy, copy_names, learned_all, made_keys}
+use Rattle.ciel_master_board.specs.Moves.{is_root, with_copies, with_outputs, wait_of}
+use Rattle.ciel_master_board.specs.Reports as r
+use Rattle.ciel_master_board.specs.Reports.{AllLearned, Copy, copy_names, learned_all, made_keys}
 use Rattle.ciel_journal.specs.Entries as j
 use Rattle.ciel_journal.specs.Job.{Each}
 use Rattle.ciel_table.specs.Changes.{saved}
 use Rattle.ciel_table.specs.Seen.{Known, TableSeen, waits_of}
 use Rattle.ciel_table.specs.Sound.{Here, IsAbove}
-use Rattle.ciel_task.specs.Views.{P, copies_view}
-use Rattle.ciel_task.specs.declared.block.Held.{Held}
-use Rattle.ciel_task.specs.declared.report.End.{End}
-use Rattle.ciel_task.specs.declared.report.Made.{Made}
+use Rattle.ciel_task_order.specs.Views.{P, copies_view}
+use Rattle.ciel_task_order.specs.declared.block.Held.{Held}
+use Rattle.ciel_task_order.specs.declared.report.End.{End}
+use Rattle.ciel_task_order.specs.declared.report.Made.{Made}
 use Rattle.sky_state.specs.declared.shown.Shown.{Shown}
-use Rattle.ciel_bring.specs.Brings.{worker_of}
+use Rattle.ciel_master_bring.specs.Brings.{worker_of}
 use Rattle.ciel_master.specs.declared.stop.Now.{Now}
 
 -- the table after it

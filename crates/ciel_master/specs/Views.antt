@@ -1,5 +1,5 @@
 -- What the master's data stand for.
-use Rattle.ciel_board.specs.Board as b
+use Rattle.ciel_master_board.specs.Board as b
 use Rattle.ciel_journal.specs.Entries as j
 use Rattle.ciel_master.specs.declared.entry.Entry.{Entry}
 use Rattle.ciel_master.specs.declared.orders.OrderOut.{OrderOut}

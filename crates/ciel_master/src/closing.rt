@@ -1,17 +1,17 @@
 //! Orders that are closed, and their tasks with them: what is kept of the tasks that can run has the tasks of the orders as out.
 
 ghost use Rattle.std.specs.Prelude.{◌≡◌, filter, map, nat_eq, not};
-ghost use Rattle.ciel_board.specs.Board as b;
-ghost use Rattle.ciel_board.specs.Board.{tasks_out};
-ghost use Rattle.ciel_board.specs.Moves.{without};
+ghost use Rattle.ciel_master_board.specs.Board as b;
+ghost use Rattle.ciel_master_board.specs.Board.{tasks_out};
+ghost use Rattle.ciel_master_board.specs.Moves.{without};
 ghost use Rattle.ciel_journal.specs.Job.{In};
 ghost use Rattle.ciel_master.specs.Orders.{OneEach};
 ghost use Rattle.ciel_master.specs.Views.{kept_view};
 
 use crate::orders::{OrderOut, close, close_at, find_at};
-use ciel_ready::ready::Ready;
 use ciel_store::shelves::Place;
-use ciel_task::block::Block;
+use ciel_task_order::block::Block;
+use ciel_want_ready::ready::Ready;
 
 /// An order that is out is closed, and its task with it.
 pub(crate) fn close_order(

@@ -1,19 +1,19 @@
 //! A report's spawned list, learned in order.
 
 ghost use Rattle.std.specs.Prelude.{◌≡◌, ℕ, Ok, IfErr, OnErr, OnOk};
-ghost use Rattle.ciel_board.specs.Reports.{AllLearned, learned_all};
+ghost use Rattle.ciel_master_board.specs.Reports.{AllLearned, learned_all};
 ghost use Rattle.ciel_master.specs.Refusals.{FirstStops, Stops, StopsAt, UnlessMemory, learned_before};
 ghost use Rattle.ciel_master.specs.Taking.{LearnedFor, learned_for};
-ghost use Rattle.ciel_ready.specs.Seen.{with_table};
+ghost use Rattle.ciel_want_ready.specs.Seen.{with_table};
 ghost use Rattle.ciel_table.specs.Learning.{learn_answer, learned};
 
 use crate::stop::Stop;
 use ciel_name::name::Namer;
-use ciel_ready::ready::Ready;
 use ciel_store::shelves::Place;
 use ciel_table::refusal::Learn;
-use ciel_task::block::Block;
-use ciel_task::report::End;
+use ciel_task_order::block::Block;
+use ciel_task_order::report::End;
+use ciel_want_ready::ready::Ready;
 use sky_base::object::Named;
 
 /// Why a description isn't learned.

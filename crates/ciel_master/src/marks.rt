@@ -3,14 +3,14 @@
 ghost use Rattle.std.specs.Prelude.{◌≡◌};
 ghost use Rattle.ciel_journal.specs.Job.{In};
 ghost use Rattle.ciel_store.specs.declared.loss.Loss.{Loss};
-ghost use Rattle.ciel_task.specs.Performs.{HasSeen};
-ghost use Rattle.ciel_task.specs.Places.{SeenAt};
+ghost use Rattle.ciel_task_order.specs.Performs.{HasSeen};
+ghost use Rattle.ciel_task_order.specs.Places.{SeenAt};
 ghost use Rattle.ciel_master.specs.Marked.{SeenOf, WasMarked, unseen};
 
 use ciel_store::seats::{Marker, Seen};
 use ciel_store::shelves::Shelves;
-use ciel_task::block::Block;
-use ciel_task::report::{End, Report};
+use ciel_task_order::block::Block;
+use ciel_task_order::report::{End, Report};
 
 /// Hands what an eye had seen to the marker; each loss there is one that was marked.
 fn confirm_seen(shelves: &Shelves<Block>, marker: &mut Marker, seen: Option<Seen>)

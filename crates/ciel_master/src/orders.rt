@@ -3,10 +3,10 @@
 ghost use Rattle.std.specs.Prelude.{◌≡◌, ◌<◌, ℕ, false, filter, map, not, nat_eq, true, IfOk};
 ghost use Rattle.std.specs.Option.{option_map};
 ghost use Rattle.std.specs.List.{list_any};
-ghost use Rattle.ciel_board.specs.Board as b;
-ghost use Rattle.ciel_board.specs.Board.{find_order, workers_out};
+ghost use Rattle.ciel_master_board.specs.Board as b;
+ghost use Rattle.ciel_master_board.specs.Board.{find_order, workers_out};
 ghost use Rattle.ciel_journal.specs.Turns.{is_idle};
-ghost use Rattle.ciel_board.specs.Moves.{without};
+ghost use Rattle.ciel_master_board.specs.Moves.{without};
 ghost use Rattle.ciel_master.specs.Orders.{worker_order};
 ghost use Rattle.ciel_master.specs.Views.{kept_view};
 

@@ -1,20 +1,20 @@
 //! Places of what was made and copied.
 
 ghost use Rattle.std.specs.Prelude.{◌≡◌, ◌++◌, ◌∷◌, [], IfOk, OnErr, OnOk, map};
-ghost use Rattle.ciel_board.specs.Moves.{with_copies, with_outputs};
-ghost use Rattle.ciel_board.specs.Reports.{copy_names, made_keys};
+ghost use Rattle.ciel_master_board.specs.Moves.{with_copies, with_outputs};
+ghost use Rattle.ciel_master_board.specs.Reports.{copy_names, made_keys};
 ghost use Rattle.ciel_journal.specs.Job.{Each};
-ghost use Rattle.ciel_bring.specs.Brings.{worker_of};
-ghost use Rattle.ciel_task.specs.Views.{copies_view, output_view};
-ghost use Rattle.ciel_ready.specs.Seen.{with_table};
+ghost use Rattle.ciel_master_bring.specs.Brings.{worker_of};
+ghost use Rattle.ciel_task_order.specs.Views.{copies_view, output_view};
+ghost use Rattle.ciel_want_ready.specs.Seen.{with_table};
 ghost use Rattle.ciel_table.specs.Changes.{placed};
 ghost use Rattle.ciel_table.specs.Seen.{Known};
 ghost use Rattle.ciel_table.specs.Sound.{Here};
 
-use ciel_ready::ready::Ready;
 use ciel_store::shelves::Place;
-use ciel_task::block::{Block, Held, Spot};
-use ciel_task::report::Made;
+use ciel_task_order::block::{Block, Held, Spot};
+use ciel_task_order::report::Made;
+use ciel_want_ready::ready::Ready;
 use sky_base::name::Name;
 use sky_base::names::Names;
 use sky_base::text::Memory;

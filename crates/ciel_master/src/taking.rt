@@ -1,15 +1,15 @@
 //! What a start and the end of a report change.
 
 ghost use Rattle.std.specs.Prelude.{◌≡◌, ◌+◌, ◌≤◌, ◌<◌, ◌^◌, ◌++◌, ◌∷◌, [], IfOk, OnErr, OnOk, length, map, vec_capacity};
-ghost use Rattle.ciel_board.specs.Moves.{with_copies, with_outputs};
-ghost use Rattle.ciel_board.specs.Reports.{copy_names, made_keys};
+ghost use Rattle.ciel_master_board.specs.Moves.{with_copies, with_outputs};
+ghost use Rattle.ciel_master_board.specs.Reports.{copy_names, made_keys};
 ghost use Rattle.ciel_journal.specs.Entries as j;
-ghost use Rattle.ciel_task.specs.declared.report.End.{End};
+ghost use Rattle.ciel_task_order.specs.declared.report.End.{End};
 ghost use Rattle.ciel_master.specs.Taking.{CanTake, CopiesPlace, OutputsPlace, entry_for, is_last, now_of, table_after};
-ghost use Rattle.ciel_bring.specs.Brings.{worker_of};
+ghost use Rattle.ciel_master_bring.specs.Brings.{worker_of};
 ghost use Rattle.ciel_master.specs.Views.{entry_view, kept_view};
-ghost use Rattle.ciel_ready.specs.Seen.{with_out, with_table};
-ghost use Rattle.ciel_task.specs.Views.{copies_view, how_view, output_view};
+ghost use Rattle.ciel_want_ready.specs.Seen.{with_out, with_table};
+ghost use Rattle.ciel_task_order.specs.Views.{copies_view, how_view, output_view};
 ghost use Rattle.ciel_table.specs.Changes.{saved};
 ghost use Rattle.ciel_table.specs.Seen.{waits_of};
 ghost use Rattle.ciel_table.specs.Sound.{Here, IsAbove};
@@ -18,11 +18,11 @@ use crate::entry::Entry;
 use crate::orders::OrderOut;
 use crate::placing::{keys_of, names_of, place_copies, place_outputs};
 use crate::stop::Now;
-use ciel_ready::ready::Ready;
 use ciel_store::shelves::Place;
 use ciel_table::wait::Wait;
-use ciel_task::block::{Block, Held};
-use ciel_task::report::{End, Made};
+use ciel_task_order::block::{Block, Held};
+use ciel_task_order::report::{End, Made};
+use ciel_want_ready::ready::Ready;
 use sky_base::object::TaskId;
 use sky_base::text::Memory;
 use sky_state::shown::Shown;

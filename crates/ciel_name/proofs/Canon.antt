@@ -7,9 +7,9 @@ use Rattle.sky_base.specs.See as see
 use Rattle.sky_base.specs.Name.{bytes, vals_bytes, pairs_bytes, bytes_of_text, big_endian, is_anonymous, call_bytes, canon, low, low_vals, low_pairs}
 use Rattle.sky_base.specs.Name.{low_desc, name, digested}
 use Rattle.sky_base.proofs.Exact.{exact_text, self_text}
-use Rattle.sky_law.specs.Tasks.{In}
-use Rattle.sky_law.proofs.WorkLaw.{in_left, in_right}
-use Rattle.sky_law.specs.NamesLaws.{Tag, NoClash, no_name}
+use Rattle.sky_base_law.specs.Tasks.{In}
+use Rattle.sky_base_law.proofs.WorkLaw.{in_left, in_right}
+use Rattle.sky_base_law.specs.NamesLaws.{Tag, NoClash, no_name}
 use Rattle.ciel_name.specs.Spelled.{IsText, CapturesSo, Spelled, AllSpelled, PairsSpelled}
 use Rattle.ciel_name.specs.Laws.{OneSpelling, OneCanon, SpelledDesc, inner, canon_of, ApartInSet, ApartByInner}
 use Rattle.ciel_name.proofs.Spelling.{four_free, text_free, val_free, vals_free, pairs_free}

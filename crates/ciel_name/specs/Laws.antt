@@ -4,8 +4,8 @@ use Rattle.sky_base.specs.Val.{call, out, input, known, count, refs, vals_refs, 
 use Rattle.sky_base.specs.Val as v
 use Rattle.sky_base.specs.See.{Desc}
 use Rattle.sky_base.specs.Name.{bytes, canon, low_desc, digested, is_anonymous}
-use Rattle.sky_law.specs.Tasks.{In}
-use Rattle.sky_law.specs.NamesLaws.{Tag, NoClash, no_name}
+use Rattle.sky_base_law.specs.Tasks.{In}
+use Rattle.sky_base_law.specs.NamesLaws.{Tag, NoClash, no_name}
 use Rattle.ciel_name.specs.Spelled.{IsText, CapturesSo, Spelled, AllSpelled, PairsSpelled}
 
 -- two values with the same bytes are one

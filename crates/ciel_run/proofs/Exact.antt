@@ -10,27 +10,27 @@ use Rattle.sky_text.specs.Lexing.{tokens_of}
 use Rattle.sky_text.specs.Place.{place_of}
 use Rattle.sky_text.specs.declared.lex.LexRefusal.{LexRefusal}
 use Rattle.sky_text.specs.declared.token.Token.{Token}
-use Rattle.sky_grammar.specs.Names.{same_names}
-use Rattle.sky_grammar.specs.Nesting.{too_nested}
+use Rattle.sky_parse_grammar.specs.Names.{same_names}
+use Rattle.sky_parse_grammar.specs.Nesting.{too_nested}
 use Rattle.sky_parse.specs.Parsed.{RefusedAt, IsValid, place_at}
-use Rattle.sky_grammar.specs.Reading.{IsRefused}
-use Rattle.sky_grammar.specs.Tops.{Top, Spells, script_of}
-use Rattle.sky_grammar.proofs.Exact.{spelled_or_refused}
-use Rattle.sky_grammar.proofs.UniqueScripts.{one_script}
+use Rattle.sky_parse_grammar.specs.Reading.{IsRefused}
+use Rattle.sky_parse_grammar.specs.Tops.{Top, Spells, script_of}
+use Rattle.sky_parse_grammar.proofs.Exact.{spelled_or_refused}
+use Rattle.sky_parse_grammar.proofs.UniqueScripts.{one_script}
 use Rattle.sky_plain.specs.Needs.{Chain, MakesMany}
-use Rattle.sky_law.proofs.SeenLaw.{means_one}
+use Rattle.sky_base_law.proofs.SeenLaw.{means_one}
 use Rattle.sky_parse.specs.Source.{IsScript, end_of}
-use Rattle.ciel_load.specs.Line as files
-use Rattle.ciel_load.specs.Line.{Input, keys_of}
+use Rattle.ciel_run_load.specs.Line as files
+use Rattle.ciel_run_load.specs.Line.{Input, keys_of}
 use Rattle.ciel_words.specs.declared.words.Words.{Words}
-use Rattle.ciel_lines.specs.Line.{FitsIn, SourceFits, files_of}
-use Rattle.ciel_lines.specs.Source.{IsAnswer, IsSource, OfJob, job_of, over_lines}
-use Rattle.ciel_load.specs.Syntax.{IsSyntaxFault}
-use Rattle.ciel_load.specs.Found.{AllWithin, Fits, IsFirstOver, IsTooLong, input_limit, limit}
+use Rattle.ciel_run_line.specs.Line.{FitsIn, SourceFits, files_of}
+use Rattle.ciel_run_line.specs.Source.{IsAnswer, IsSource, OfJob, job_of, over_lines}
+use Rattle.ciel_run_load.specs.Syntax.{IsSyntaxFault}
+use Rattle.ciel_run_load.specs.Found.{AllWithin, Fits, IsFirstOver, IsTooLong, input_limit, limit}
 use Rattle.ciel_run.specs.Ending.{IsExpected, MayEnd, TooLongIn}
 use Rattle.ciel_run.specs.Laws.{EndsSo, NoScriptIsRefused, EndsScript, ScriptIsRun, TooLongIsRefused, TooLongInputIsRefused, MeansOneAnswer}
-use Rattle.ciel_load.specs.declared.script.SyntaxKind.{SyntaxKind}
-use Rattle.ciel_why.specs.declared.why.Why.{Why}
+use Rattle.ciel_run_load.specs.declared.script.SyntaxKind.{SyntaxKind}
+use Rattle.ciel_run_log.specs.declared.why.Why.{Why}
 
 -- ---- what the bytes come to, stage by stage: the end that refuses them, or none for a script
 

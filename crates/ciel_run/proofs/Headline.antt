@@ -10,14 +10,14 @@ use Rattle.ciel_journal.specs.Turns.{Driven, DrivenFrom}
 use Rattle.ciel_journal.proofs.Published.{one_state, publishes}
 use Rattle.ciel_journal.proofs.Started.{started}
 use Rattle.ciel_json.proofs.ReadLaw.{json_reads_sound}
-use Rattle.ciel_load.specs.Line.{Input}
-use Rattle.ciel_meant.proofs.HistoriesLaw.{starts_few, starts_needed}
-use Rattle.ciel_meant.proofs.RealLaw.{real_laws}
-use Rattle.ciel_task.specs.Named.{frozen_mark, mark_of, name_of}
+use Rattle.ciel_run_load.specs.Line.{Input}
+use Rattle.ciel_journal_job.proofs.HistoriesLaw.{starts_few, starts_needed}
+use Rattle.ciel_journal_job.proofs.RealLaw.{real_laws}
+use Rattle.ciel_task_order.specs.Named.{frozen_mark, mark_of, name_of}
 use Rattle.ciel_words.specs.declared.words.Words.{Words}
 use Rattle.line_kit.specs.Gives.{gives}
-use Rattle.ciel_lines.specs.Runs.{NamesHaveOne, StartsFew, StartsMissing, StartsNeeded, WaitsHaveOne, digest_of, plan_of, told_of}
-use Rattle.ciel_lines.specs.Source.{job_of, over_lines}
+use Rattle.ciel_run_line.specs.Runs.{NamesHaveOne, StartsFew, StartsMissing, StartsNeeded, WaitsHaveOne, digest_of, plan_of, told_of}
+use Rattle.ciel_run_line.specs.Source.{job_of, over_lines}
 
 module _ (w : Words) (source : List ℕ) (inputs : List Input) (J : List Entry) where
   abbrev D : List ℕ → List ℕ

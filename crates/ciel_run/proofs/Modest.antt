@@ -3,27 +3,27 @@ use Rattle.std.proofs.Common.{◌≡◌, ◌≢◌, ◌≤◌, ◌<◌, ◌⊎�
 use Rattle.std.proofs.Common.{subst, ◌∙◌, arith}
 use Rattle.sky_base.specs.See as s
 use Rattle.sky_base.specs.See.{Answered}
-use Rattle.sky_law.specs.Tasks as t
-use Rattle.sky_params.specs.Orderly.{FunctionsAreOrderly}
+use Rattle.sky_base_law.specs.Tasks as t
+use Rattle.sky_parse_law.specs.Orderly.{FunctionsAreOrderly}
 use Rattle.sky_plain.specs.Needs as p
-use Rattle.ciel_lines.specs.Ended.{EndsSo, HasAnswer, ModestRunsAnswer, SomeStays}
-use Rattle.ciel_ends.specs.Ends.{IsModest, IsOrderly}
+use Rattle.ciel_run_line.specs.Ended.{EndsSo, HasAnswer, ModestRunsAnswer, SomeStays}
+use Rattle.ciel_master_law.specs.Ends.{IsModest, IsOrderly}
 use Rattle.ciel_journal.specs.Entries.{Entry}
 use Rattle.ciel_journal.specs.Journals.{DrivenJournal}
-use Rattle.ciel_load.specs.Line.{Input, keys_of}
-use Rattle.ciel_load.specs.declared.script.SyntaxKind.{SyntaxKind}
+use Rattle.ciel_run_load.specs.Line.{Input, keys_of}
+use Rattle.ciel_run_load.specs.declared.script.SyntaxKind.{SyntaxKind}
 use Rattle.ciel_master.specs.Seen.{most_descriptions}
 use Rattle.ciel_master.specs.declared.stop.RunEnd.{RunEnd}
 use Rattle.ciel_words.specs.declared.words.Words.{Words}
 use Rattle.line_kit.specs.Gives.{gives}
 use Rattle.sky_parse.specs.Source.{IsScript}
 use Rattle.sky_base.specs.Tree.{Script}
-use Rattle.ciel_lines.specs.Causes.{CauseOf, JobCause}
+use Rattle.ciel_run_line.specs.Causes.{CauseOf, JobCause}
 use Rattle.ciel_run.specs.Ending.{Answers, EndCause, IsAnswered}
-use Rattle.ciel_lines.specs.Line.{FitsIn, OfLine, StandsIn, files_of}
-use Rattle.ciel_lines.specs.Runs.{IsDriven, IsModestFor, digest_of, plan_of, told_of}
-use Rattle.ciel_lines.specs.Source.{OfJob, job_of, over_lines}
-use Rattle.ciel_why.specs.declared.why.Why.{Why}
+use Rattle.ciel_run_line.specs.Line.{FitsIn, OfLine, StandsIn, files_of}
+use Rattle.ciel_run_line.specs.Runs.{IsDriven, IsModestFor, digest_of, plan_of, told_of}
+use Rattle.ciel_run_line.specs.Source.{OfJob, job_of, over_lines}
+use Rattle.ciel_run_log.specs.declared.why.Why.{Why}
 use Rattle.ciel_run.proofs.Exact.{same_script, script_is_run}
 use Rattle.ciel_run.proofs.Over.{source_of, too_long_in}
 

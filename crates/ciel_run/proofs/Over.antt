@@ -4,33 +4,33 @@ use Rattle.std.proofs.Common.{Err, OnErr, OnOk, Contains, length, take, refl, sy
 use Rattle.std.proofs.lemmas.List.{append-nil, take_all}
 use Rattle.sky_base.specs.See as s
 use Rattle.sky_base.specs.See.{Answered}
-use Rattle.sky_law.specs.Tasks as t
-use Rattle.sky_params.specs.Orderly.{FunctionsAreOrderly}
+use Rattle.sky_base_law.specs.Tasks as t
+use Rattle.sky_parse_law.specs.Orderly.{FunctionsAreOrderly}
 use Rattle.sky_plain.specs.Needs as p
-use Rattle.ciel_lines.specs.Ended.{EndsSo, HasAnswer, ModestRunsAnswer, SomeStays}
-use Rattle.ciel_ends.specs.Ends.{IsModest, IsOrderly, MadeBy}
+use Rattle.ciel_run_line.specs.Ended.{EndsSo, HasAnswer, ModestRunsAnswer, SomeStays}
+use Rattle.ciel_master_law.specs.Ends.{IsModest, IsOrderly, MadeBy}
 use Rattle.ciel_io.specs.Faults.{HasRisen}
 use Rattle.ciel_io.specs.Tells.{Tells, TellsPart}
 use Rattle.ciel_io.proofs.Joined.{part_whole, tells_more, tells_none}
 use Rattle.ciel_journal.specs.Entries.{Entry}
 use Rattle.ciel_journal.specs.Journals.{DrivenJournal}
-use Rattle.ciel_load.specs.Found.{Holds}
-use Rattle.ciel_load.specs.Line as files
-use Rattle.ciel_load.specs.Line.{Input, keys_of}
-use Rattle.ciel_load.specs.Syntax.{IsSyntaxFault}
-use Rattle.ciel_load.specs.declared.script.SyntaxKind.{SyntaxKind}
+use Rattle.ciel_run_load.specs.Found.{Holds}
+use Rattle.ciel_run_load.specs.Line as files
+use Rattle.ciel_run_load.specs.Line.{Input, keys_of}
+use Rattle.ciel_run_load.specs.Syntax.{IsSyntaxFault}
+use Rattle.ciel_run_load.specs.declared.script.SyntaxKind.{SyntaxKind}
 use Rattle.ciel_master.specs.Seen.{most_descriptions}
 use Rattle.ciel_master.specs.declared.stop.RunEnd.{RunEnd}
 use Rattle.ciel_words.specs.Line.{line_of}
 use Rattle.ciel_words.specs.declared.words.Words.{Words}
 use Rattle.line_kit.specs.Gives.{gives}
-use Rattle.ciel_lines.specs.Causes.{CauseOf, IsTooDeep, JobCause, OfRun, TooLongOf}
+use Rattle.ciel_run_line.specs.Causes.{CauseOf, IsTooDeep, JobCause, OfRun, TooLongOf}
 use Rattle.ciel_run.specs.Ending.{Answers, EndCause, IfReadFault, IfTooDeep, IsAnswered, IsExpected, MayEnd, TellsParts, TooLongIn, Writes}
 use Rattle.ciel_run.specs.Ending.{WritesAnswer, WritesPart}
-use Rattle.ciel_lines.specs.Line.{FitsIn, OfLine, OfSource, OverFiles, SourceFits, SourceIn, StandsIn, files_of, paths}
-use Rattle.ciel_lines.specs.Runs.{IsDriven, IsModestFor, digest_of, plan_of, told_of}
-use Rattle.ciel_lines.specs.Source.{IsAnswer, OfJob, job_of, over_lines}
-use Rattle.ciel_why.specs.declared.why.Why.{Why}
+use Rattle.ciel_run_line.specs.Line.{FitsIn, OfLine, OfSource, OverFiles, SourceFits, SourceIn, StandsIn, files_of, paths}
+use Rattle.ciel_run_line.specs.Runs.{IsDriven, IsModestFor, digest_of, plan_of, told_of}
+use Rattle.ciel_run_line.specs.Source.{IsAnswer, OfJob, job_of, over_lines}
+use Rattle.ciel_run_log.specs.declared.why.Why.{Why}
 use Rattle.ciel_run.proofs.Exact.{same_script}
 
 -- ---- the line that the words are

@@ -7,22 +7,22 @@ use Rattle.ciel_io.specs.Tells.{Tells, TellsPart}
 use Rattle.ciel_journal.specs.Entries.{Entry}
 use Rattle.ciel_journal.specs.History.{Plan}
 use Rattle.ciel_journal.specs.Job.{Digest}
-use Rattle.ciel_load.specs.Found.{IsTooLong}
-use Rattle.ciel_load.specs.Line as files
-use Rattle.ciel_load.specs.Line.{Input}
-use Rattle.ciel_load.specs.Reading.{AsksUpTo}
-use Rattle.ciel_load.specs.Syntax.{IsSyntaxFault}
-use Rattle.ciel_load.specs.declared.script.SyntaxKind.{SyntaxKind}
+use Rattle.ciel_run_load.specs.Found.{IsTooLong}
+use Rattle.ciel_run_load.specs.Line as files
+use Rattle.ciel_run_load.specs.Line.{Input}
+use Rattle.ciel_run_load.specs.Reading.{AsksUpTo}
+use Rattle.ciel_run_load.specs.Syntax.{IsSyntaxFault}
+use Rattle.ciel_run_load.specs.declared.script.SyntaxKind.{SyntaxKind}
 use Rattle.ciel_master.specs.declared.entry.Entry.{Entry as Line}
-use Rattle.ciel_trace.specs.Text.{journal_text}
+use Rattle.ciel_run_log.specs.Text.{journal_text}
 use Rattle.ciel_words.specs.declared.words.Words.{Words}
-use Rattle.ciel_lines.specs.Line.{FitsIn, OfLine, SourceFits, files_of}
-use Rattle.ciel_lines.specs.Causes.{CauseOf}
-use Rattle.ciel_lines.specs.Ended.{SomeStays}
-use Rattle.ciel_lines.specs.Runs.{IsModestFor, plan_of}
-use Rattle.ciel_lines.specs.Source.{HasChain, HasNone, IsAnswer, IsSource, Makes}
-use Rattle.ciel_why.specs.Summary.{output_of}
-use Rattle.ciel_why.specs.declared.why.Why.{Why}
+use Rattle.ciel_run_line.specs.Line.{FitsIn, OfLine, SourceFits, files_of}
+use Rattle.ciel_run_line.specs.Causes.{CauseOf}
+use Rattle.ciel_run_line.specs.Ended.{SomeStays}
+use Rattle.ciel_run_line.specs.Runs.{IsModestFor, plan_of}
+use Rattle.ciel_run_line.specs.Source.{HasChain, HasNone, IsAnswer, IsSource, Makes}
+use Rattle.ciel_run_log.specs.Summary.{output_of}
+use Rattle.ciel_run_log.specs.declared.why.Why.{Why}
 
 -- ---- the fact, of what an end tells
 

@@ -5,16 +5,16 @@ use Rattle.sky_base.specs.See.{Answered, Desc, Means, Never}
 use Rattle.sky_base.specs.Tree.{Script}
 use Rattle.sky_parse.specs.Source.{IsScript}
 use Rattle.sky_plain.specs.Needs.{Chain, MakesMany}
-use Rattle.ciel_load.specs.Found.{Fits, IsFirstOver, input_limit, limit}
-use Rattle.ciel_load.specs.Line as files
-use Rattle.ciel_load.specs.Line.{Input, keys_of}
-use Rattle.ciel_load.specs.Syntax.{IsSyntaxFault}
-use Rattle.ciel_load.specs.declared.script.SyntaxKind.{SyntaxKind}
+use Rattle.ciel_run_load.specs.Found.{Fits, IsFirstOver, input_limit, limit}
+use Rattle.ciel_run_load.specs.Line as files
+use Rattle.ciel_run_load.specs.Line.{Input, keys_of}
+use Rattle.ciel_run_load.specs.Syntax.{IsSyntaxFault}
+use Rattle.ciel_run_load.specs.declared.script.SyntaxKind.{SyntaxKind}
 use Rattle.ciel_words.specs.declared.words.Words.{Words}
 use Rattle.ciel_run.specs.Ending.{IsExpected}
-use Rattle.ciel_lines.specs.Line.{FitsIn, SourceFits, files_of}
-use Rattle.ciel_lines.specs.Source.{IsAnswer, job_of, over_lines}
-use Rattle.ciel_why.specs.declared.why.Why.{Why}
+use Rattle.ciel_run_line.specs.Line.{FitsIn, SourceFits, files_of}
+use Rattle.ciel_run_line.specs.Source.{IsAnswer, job_of, over_lines}
+use Rattle.ciel_run_log.specs.declared.why.Why.{Why}
 
 -- a call over a script with this source and these inputs ends so, or for want of memory, and in no other way
 abbrev pub EndsSo : Words → List ℕ → List Input → Why → Type 0

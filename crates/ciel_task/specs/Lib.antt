@@ -1,6 +1,2 @@
-pub mod Named
-pub mod Orders
-pub mod Shop
-pub mod Views
-pub mod Places
-pub mod Performs
+pub use Rattle.ciel_task_call.specs.Onward
+pub mod Told

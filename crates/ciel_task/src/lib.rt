@@ -1,9 +1,4 @@
-//! Orders and reports: what the master asks of a worker, and what the worker tells of it. Neither evaluates anything; a block on
-//! a shelf is an object or a stack that stands still.
+//! A worker: what it does with any order, between its gate's entrance and exit.
 #![tactic(auto)]
 
-pub mod block;
-pub mod order;
-pub mod ready;
-pub mod report;
-pub mod shop;
+pub mod perform;

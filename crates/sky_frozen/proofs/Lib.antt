@@ -1,2 +1,4 @@
-pub mod Codes
-pub mod Parts
+pub mod Ends
+pub mod Whole
+pub mod UsesLaw
+pub mod KeysLaw

@@ -1,4 +1,3 @@
-pub mod Bytes
-pub mod FrozenCode
-pub mod Codes
-pub mod Spelled
+pub mod Ends
+pub mod Checked
+pub mod Keys

@@ -1,10 +1,16 @@
-//! Stacks as bytes. What stands of a task is written so that each state has one spelling: then its digest marks it, and
-//! whoever holds the bytes holds the state.
+//! Whether a state fits a script, tested exactly, and bytes from outside that become a frozen state only where a state that fits
+//! the script has them.
+//!
+//! Whether values are sound, tested exactly: whether each keeps the limits, and each function in it is one of the script and
+//! captured only what it uses; and whether variables are those with which a body begins.
 #![tactic(auto)]
 
-mod copies;
-pub mod frozen;
-pub mod law;
+pub mod captures;
+pub mod fitting;
+mod frames;
+mod keys;
 pub mod read;
-pub mod refusal;
-mod write;
+mod start;
+pub mod starts;
+pub mod state;
+pub mod values;

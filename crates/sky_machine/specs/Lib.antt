@@ -1,2 +1,9 @@
-pub mod Stops
+pub use Rattle.sky_machine_resume.specs.Comes
 pub mod Laws
+pub mod Rest
+pub mod Onward
+pub mod Steps
+pub mod Exactly
+pub mod Knows
+pub mod Width
+pub mod NarrowLaws

@@ -8,13 +8,13 @@ use Rattle.sky_base.specs.StmtView.{stms_view}
 use Rattle.sky_base.specs.ScriptView.{fun_view, funs_view}
 use Rattle.sky_base.specs.declared.script.FunDef.{FunDef as Def}
 use Rattle.sky_text.specs.declared.token.Token.{Token}
-use Rattle.sky_grammar.specs.Machine.{Item, Out, kinds}
-use Rattle.sky_grammar.specs.Machine as machine
-use Rattle.sky_grammar.specs.Names.{same_names}
-use Rattle.sky_grammar.specs.Nesting.{too_nested}
-use Rattle.sky_grammar.specs.Tops.{Top, Spells, script_of}
-use Rattle.sky_grammar.proofs.Exact.{exact}
-use Rattle.sky_grammar.proofs.UniqueScripts.{one_script}
+use Rattle.sky_parse_grammar.specs.Machine.{Item, Out, kinds}
+use Rattle.sky_parse_grammar.specs.Machine as machine
+use Rattle.sky_parse_grammar.specs.Names.{same_names}
+use Rattle.sky_parse_grammar.specs.Nesting.{too_nested}
+use Rattle.sky_parse_grammar.specs.Tops.{Top, Spells, script_of}
+use Rattle.sky_parse_grammar.proofs.Exact.{exact}
+use Rattle.sky_parse_grammar.proofs.UniqueScripts.{one_script}
 use Rattle.sky_parse.specs.Parsed.{IsSpelled, IsValid, Gives, IsTwice, Named, Nested, Refused, RefusedAt, made_if, place_at}
 use Rattle.sky_parse.specs.Scripts.{IsRead}
 use Rattle.sky_parse.specs.declared.script.Read.{Read}

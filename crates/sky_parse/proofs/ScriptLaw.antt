@@ -11,20 +11,20 @@ use Rattle.sky_base.specs.declared.script.FunDef.{FunDef as Def}
 use Rattle.sky_text.specs.declared.token.Sign.{Sign}
 use Rattle.sky_text.specs.declared.token.Word.{Word}
 use Rattle.sky_text.specs.declared.token.Token.{Token}
-use Rattle.sky_grammar.specs.Source.{Param}
-use Rattle.sky_grammar.specs.Lifted.{text_cmp, param_names, stms_tree, stm_count, stms_count, stm_made, stms_made}
-use Rattle.sky_grammar.specs.Names.{first_of, at_twice, same_params, stm_same, stms_same, same_names}
-use Rattle.sky_grammar.specs.Tops.{Top, Spells, spell_tops, defs_of, main_of, made_of}
-use Rattle.sky_grammar.specs.Signs.{is_word}
-use Rattle.sky_grammar.specs.Grammar.{sign, name_at, spell_params, spell_block, Follows, Spelled}
-use Rattle.sky_grammar.proofs.Tokens.{is_that_word}
+use Rattle.sky_parse_grammar.specs.Source.{Param}
+use Rattle.sky_parse_grammar.specs.Lifted.{text_cmp, param_names, stms_tree, stm_count, stms_count, stm_made, stms_made}
+use Rattle.sky_parse_grammar.specs.Names.{first_of, at_twice, same_params, stm_same, stms_same, same_names}
+use Rattle.sky_parse_grammar.specs.Tops.{Top, Spells, spell_tops, defs_of, main_of, made_of}
+use Rattle.sky_parse_grammar.specs.Signs.{is_word}
+use Rattle.sky_parse_grammar.specs.Grammar.{sign, name_at, spell_params, spell_block, Follows, Spelled}
+use Rattle.sky_parse_grammar.proofs.Tokens.{is_that_word}
 use Rattle.sky_parse.specs.declared.script.Read.{Read}
-use Rattle.sky_held.specs.Held.{Held, after, seen_twice, stm_part, stms_part, nothing_held}
+use Rattle.sky_parse_held.specs.Held.{Held, after, seen_twice, stm_part, stms_part, nothing_held}
 use Rattle.sky_parse_expr.specs.Reads.{ReadsBlock}
 use Rattle.sky_parse.specs.Statements.{ReadsStm}
 use Rattle.sky_parse.specs.Scripts.{ReadsFun, SoFar, IsRead}
-use Rattle.sky_held.proofs.HeldLaw.{first_assoc, first_none, number, stm_sized, stms_sized}
-use Rattle.sky_held.proofs.NamesLaw.{known_more}
+use Rattle.sky_parse_held.proofs.HeldLaw.{first_assoc, first_none, number, stm_sized, stms_sized}
+use Rattle.sky_parse_held.proofs.NamesLaw.{known_more}
 
 -- ---- named functions
 

@@ -9,15 +9,15 @@ use Rattle.sky_text.specs.declared.token.Sign.{Sign}
 use Rattle.sky_text.specs.declared.token.Word.{Word}
 use Rattle.sky_text.specs.declared.token.TokenKind.{TokenKind}
 use Rattle.sky_text.specs.declared.token.Token.{Token}
-use Rattle.sky_grammar.specs.Source.{Stm, Stms, Arms, Else}
-use Rattle.sky_grammar.specs.Lifted.{tree, stms_tree, arms_tree, else_tree}
-use Rattle.sky_grammar.specs.Lifted as lifted
-use Rattle.sky_grammar.specs.Grammar.{Mark, sign, sign_at, word, word_at, name_at, place, spell, Fits, Spelled}
-use Rattle.sky_grammar.proofs.Means.{start_fits}
-use Rattle.sky_held.specs.Held.{Held, Part, both, seen_name, exp_part, stms_part, arms_part, else_part}
+use Rattle.sky_parse_grammar.specs.Source.{Stm, Stms, Arms, Else}
+use Rattle.sky_parse_grammar.specs.Lifted.{tree, stms_tree, arms_tree, else_tree}
+use Rattle.sky_parse_grammar.specs.Lifted as lifted
+use Rattle.sky_parse_grammar.specs.Grammar.{Mark, sign, sign_at, word, word_at, name_at, place, spell, Fits, Spelled}
+use Rattle.sky_parse_grammar.proofs.Means.{start_fits}
+use Rattle.sky_parse_held.specs.Held.{Held, Part, both, seen_name, exp_part, stms_part, arms_part, else_part}
 use Rattle.sky_parse_expr.specs.Reads.{ReadsExp, ReadsBlock}
 use Rattle.sky_parse.specs.Statements.{ReadsEnded, ReadsTest, ReadsEach, ReadsStm, ReadsStms, ReadsArm, ReadsRest, Arm, ArmRun, Rest, RestRun}
-use Rattle.sky_held.proofs.HeldLaw.{Sized, exp_sized, stm_sized, stms_sized, both_sized, both_assoc, nothing_both, after_nothing}
+use Rattle.sky_parse_held.proofs.HeldLaw.{Sized, exp_sized, stm_sized, stms_sized, both_sized, both_assoc, nothing_both, after_nothing}
 use Rattle.sky_parse_expr.proofs.ReadsLaw.{at_front, behind, before, named, one, two}
 
 pub read_ended : {e : run.Exp} {a b : Held} {ts mid rest : List Token} → ReadsExp 0 e a b ts mid

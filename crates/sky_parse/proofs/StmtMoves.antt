@@ -6,11 +6,11 @@ use Rattle.sky_text.specs.declared.token.Sign.{Sign}
 use Rattle.sky_text.specs.declared.token.Word.{Word}
 use Rattle.sky_text.specs.declared.token.TokenKind.{TokenKind}
 use Rattle.sky_text.specs.declared.token.Token.{Token}
-use Rattle.sky_grammar.specs.declared.level.Level.{Level}
-use Rattle.sky_grammar.specs.Signs.{is, is_word, at_sign, at_word}
-use Rattle.sky_grammar.specs.Machine.{Item, tails, test_then, run, kinds}
+use Rattle.sky_parse_grammar.specs.declared.level.Level.{Level}
+use Rattle.sky_parse_grammar.specs.Signs.{is, is_word, at_sign, at_word}
+use Rattle.sky_parse_grammar.specs.Machine.{Item, tails, test_then, run, kinds}
 use Rattle.sky_parse.specs.Scripts.{no_function}
-use Rattle.sky_grammar.proofs.Tokens.{is_sign, is_that_word}
+use Rattle.sky_parse_grammar.proofs.Tokens.{is_sign, is_that_word}
 
 -- Behind a name that begins a statement.
 pub set_goes : (k : List Item) (ts rest : List Token) (t : Token) → ts ≡ t ∷ rest → is Sign.Assign t.kind ≡ true

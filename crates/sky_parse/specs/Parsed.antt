@@ -3,11 +3,11 @@ use Rattle.std.specs.Prelude.{◌≡◌, ℕ, List, [], Some, None, Result, Ok, 
 use Rattle.sky_base.specs.Tree.{Place, Script}
 use Rattle.sky_base.specs.TreeView.{at}
 use Rattle.sky_text.specs.declared.token.Token.{Token}
-use Rattle.sky_grammar.specs.Grammar.{place}
-use Rattle.sky_grammar.specs.Nesting.{too_nested}
-use Rattle.sky_grammar.specs.Tops.{Top, Spells, script_of}
-use Rattle.sky_grammar.specs.Reading.{IsRefused}
-use Rattle.sky_grammar.specs.Names.{same_names}
+use Rattle.sky_parse_grammar.specs.Grammar.{place}
+use Rattle.sky_parse_grammar.specs.Nesting.{too_nested}
+use Rattle.sky_parse_grammar.specs.Tops.{Top, Spells, script_of}
+use Rattle.sky_parse_grammar.specs.Reading.{IsRefused}
+use Rattle.sky_parse_grammar.specs.Names.{same_names}
 use Rattle.sky_parse.specs.declared.script.ParseRefusal.{ParseRefusal}
 
 -- The script is that of functions and statements that spell the tokens, and no name stands twice.

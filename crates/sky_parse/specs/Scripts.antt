@@ -9,11 +9,11 @@ use Rattle.sky_base.specs.declared.script.FunDef.{FunDef as Def}
 use Rattle.sky_text.specs.declared.token.Sign.{Sign}
 use Rattle.sky_text.specs.declared.token.Word.{Word}
 use Rattle.sky_text.specs.declared.token.Token.{Token}
-use Rattle.sky_grammar.specs.Signs.{at_sign, is_word}
-use Rattle.sky_grammar.specs.Grammar.{Fun, sign, name_at, spell_params, spell_block, AreStms, Spelled}
-use Rattle.sky_grammar.specs.Names.{first_of, at_twice, same_params, same_names}
-use Rattle.sky_grammar.specs.Tops.{Top, spell_tops, AreTops, def_of, defs_of, main_of, made_of}
-use Rattle.sky_held.specs.Held.{Held, after, seen_twice, stms_part}
+use Rattle.sky_parse_grammar.specs.Signs.{at_sign, is_word}
+use Rattle.sky_parse_grammar.specs.Grammar.{Fun, sign, name_at, spell_params, spell_block, AreStms, Spelled}
+use Rattle.sky_parse_grammar.specs.Names.{first_of, at_twice, same_params, same_names}
+use Rattle.sky_parse_grammar.specs.Tops.{Top, spell_tops, AreTops, def_of, defs_of, main_of, made_of}
+use Rattle.sky_parse_held.specs.Held.{Held, after, seen_twice, stms_part}
 use Rattle.sky_parse.specs.declared.script.Read.{Read}
 
 -- a named function was read behind its word, where functions of these names came before

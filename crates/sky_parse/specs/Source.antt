@@ -6,7 +6,7 @@ use Rattle.sky_text.specs.Lexing.{tokens_of}
 use Rattle.sky_text.specs.Place.{place_of}
 use Rattle.sky_text.specs.declared.lex.LexRefusal.{LexRefusal}
 use Rattle.sky_text.specs.declared.token.Token.{Token}
-use Rattle.sky_grammar.specs.Tops.{Top, script_of}
+use Rattle.sky_parse_grammar.specs.Tops.{Top, script_of}
 use Rattle.sky_parse.specs.Parsed.{IsValid}
 
 -- the bytes are a script that may name inputs by these keys: they have tokens, and these are those of functions and

@@ -5,11 +5,11 @@ use Rattle.sky_text.specs.declared.token.Sign.{Sign}
 use Rattle.sky_text.specs.declared.token.Word.{Word}
 use Rattle.sky_text.specs.declared.token.TokenKind.{TokenKind}
 use Rattle.sky_text.specs.declared.token.Token.{Token}
-use Rattle.sky_grammar.specs.Source.{Exp, Stms, Arms, Else}
-use Rattle.sky_grammar.specs.Lifted.{tree, stm_tree, stms_tree, arms_tree, else_tree, arms_count, count}
-use Rattle.sky_grammar.specs.Grammar.{Mark, sign, word, spell, spell_stm, spell_stms, spell_block, spell_test, spell_other_arms, spell_else, IsTree}
-use Rattle.sky_grammar.specs.Grammar.{IsStm, AreStms, AreArms, IsElse}
-use Rattle.sky_held.specs.Held.{Held, both, named_first, exp_part, stm_part, stms_part, arms_part, else_part}
+use Rattle.sky_parse_grammar.specs.Source.{Exp, Stms, Arms, Else}
+use Rattle.sky_parse_grammar.specs.Lifted.{tree, stm_tree, stms_tree, arms_tree, else_tree, arms_count, count}
+use Rattle.sky_parse_grammar.specs.Grammar.{Mark, sign, word, spell, spell_stm, spell_stms, spell_block, spell_test, spell_other_arms, spell_else, IsTree}
+use Rattle.sky_parse_grammar.specs.Grammar.{IsStm, AreStms, AreArms, IsElse}
+use Rattle.sky_parse_held.specs.Held.{Held, both, named_first, exp_part, stm_part, stms_part, arms_part, else_part}
 use Rattle.sky_parse_expr.specs.Reads.{Reads}
 
 -- an expression and the semicolon behind it

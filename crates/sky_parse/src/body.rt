@@ -3,7 +3,7 @@
 
 ghost use Rattle.std.specs.Prelude.{◌≡◌, ◌<◌, ◌∷◌, List, length, IfOk};
 ghost use Rattle.sky_base.specs.StmtView.{stm_view};
-ghost use Rattle.sky_grammar.specs.Machine.{Item, run, kinds};
+ghost use Rattle.sky_parse_grammar.specs.Machine.{Item, run, kinds};
 ghost use Rattle.sky_parse_expr.specs.Reads.{ReadsBlock};
 ghost use Rattle.sky_parse.specs.Statements.{ReadsStm};
 ghost use Rattle.sky_parse_expr.specs.Bodies.{CanRead, ReadsBodies};
@@ -11,8 +11,8 @@ ghost use Rattle.sky_parse_expr.specs.Runs.{Runs};
 
 use crate::stmt::{block, stmt};
 use sky_base::stmt::{Block, Stmt};
-use sky_held::made::Made;
 use sky_parse_expr::look::Fail;
+use sky_parse_held::made::Made;
 use sky_text::token::Token;
 use std::alloc::Global;
 

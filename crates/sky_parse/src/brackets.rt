@@ -2,7 +2,7 @@
 // recursion, which goes down only at brackets, is bounded.
 
 ghost use Rattle.std.specs.Prelude.{◌≡◌, ◌≤◌, IfSome};
-ghost use Rattle.sky_grammar.specs.Nesting.{opening, closing, open_after, too_nested, place_of};
+ghost use Rattle.sky_parse_grammar.specs.Nesting.{opening, closing, open_after, too_nested, place_of};
 
 use sky_parse_expr::look::is_sign;
 use sky_text::token::{Sign, Token, TokenKind};

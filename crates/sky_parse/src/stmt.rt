@@ -4,10 +4,10 @@
 ghost use Rattle.std.specs.Prelude.{◌≡◌, ◌<◌, ◌≤◌, ◌∷◌, ◌++◌, [], List, true, length, IfOk, IfSome};
 ghost use Rattle.sky_base.specs.TreeView.{at, exp_view, steps_view};
 ghost use Rattle.sky_base.specs.StmtView.{stm_view, arms_view};
-ghost use Rattle.sky_grammar.specs.Machine.{Item, tails, test_then, run, kinds};
-ghost use Rattle.sky_grammar.specs.Grammar.{Fits, Spelled, name_at, word_at, sign_at};
-ghost use Rattle.sky_grammar.specs.Grammar as g;
-ghost use Rattle.sky_held.specs.Held.{Held, seen_name};
+ghost use Rattle.sky_parse_grammar.specs.Machine.{Item, tails, test_then, run, kinds};
+ghost use Rattle.sky_parse_grammar.specs.Grammar.{Fits, Spelled, name_at, word_at, sign_at};
+ghost use Rattle.sky_parse_grammar.specs.Grammar as g;
+ghost use Rattle.sky_parse_held.specs.Held.{Held, seen_name};
 ghost use Rattle.sky_parse_expr.specs.Reads.{Onto, ReadsBlock, ReadsSteps};
 ghost use Rattle.sky_parse.specs.Statements.{ReadsArm, ReadsEach, ReadsEnded, ReadsStm, ReadsStms, ReadsTest};
 ghost use Rattle.sky_parse_expr.specs.Bodies.{CanRead, ReadsBodies};
@@ -17,11 +17,11 @@ ghost use Rattle.sky_text.specs.declared.token.Token.{Token};
 use sky_base::stmt::{Arm, Arms, Block, Stmt};
 use sky_base::text::Txt;
 use sky_base::tree::{Expr, Step};
-use sky_grammar::level::Level;
-use sky_held::made::Made;
 use sky_parse_expr::build::postfix;
 use sky_parse_expr::expr::{expr, onward, steps};
 use sky_parse_expr::look::{Fail, eat, eat_word, is_word, stands, want, want_name, want_word};
+use sky_parse_grammar::level::Level;
+use sky_parse_held::made::Made;
 use sky_text::token::{Sign, Token, TokenKind, Word};
 use std::alloc::Global;
 

@@ -9,24 +9,24 @@ use Rattle.sky_base.specs.Tree.{Place, Lit, Oper, Junction, SignAt, Form, nowher
 use Rattle.sky_base.specs.TreeView.{exp_view, exps_view, signs_view}
 use Rattle.sky_base.specs.declared.tree.Expr.{Expr}
 use Rattle.sky_base.specs.declared.tree.SignAt.{SignAt as CodeSign}
-use Rattle.sky_grammar.specs.Levels.{oper_level, junction_level}
+use Rattle.sky_parse_grammar.specs.Levels.{oper_level, junction_level}
 use Rattle.sky_text.specs.declared.token.Sign.{Sign}
 use Rattle.sky_text.specs.declared.token.TokenKind.{TokenKind}
 use Rattle.sky_text.specs.declared.token.Token.{Token}
-use Rattle.sky_grammar.specs.declared.parts.Shape.{Shape}
-use Rattle.sky_grammar.specs.declared.parts.Head.{Head}
-use Rattle.sky_grammar.specs.declared.parts.StepHead.{StepHead}
-use Rattle.sky_grammar.specs.Source.{Exp, Exps, Links, Ands, Steps, level, exps_count, links_enough}
-use Rattle.sky_grammar.specs.Lifted.{tree, exps_tree, links_tree, ands_tree, steps_tree}
-use Rattle.sky_grammar.specs.Lifted as lifted
-use Rattle.sky_grammar.specs.Grammar.{Mark, sign, sign_at, oper_sign, order_sign, junction_sign, lit_kind, name_at, spell, spell_exps, spell_value}
-use Rattle.sky_grammar.specs.Grammar.{spell_other_pairs, spell_links, spell_ands, spell_steps, spell_signs, IsTree, AreTrees, AreLinks, AreAnds}
-use Rattle.sky_grammar.specs.Grammar.{AreSteps, paired, valued, place, Fits, Follows, Spelled}
-use Rattle.sky_grammar.specs.Parts.{Has, separator, ready, closing, spell_head, spell_parts, head_shape, step_shape, step_sign}
+use Rattle.sky_parse_grammar.specs.declared.parts.Shape.{Shape}
+use Rattle.sky_parse_grammar.specs.declared.parts.Head.{Head}
+use Rattle.sky_parse_grammar.specs.declared.parts.StepHead.{StepHead}
+use Rattle.sky_parse_grammar.specs.Source.{Exp, Exps, Links, Ands, Steps, level, exps_count, links_enough}
+use Rattle.sky_parse_grammar.specs.Lifted.{tree, exps_tree, links_tree, ands_tree, steps_tree}
+use Rattle.sky_parse_grammar.specs.Lifted as lifted
+use Rattle.sky_parse_grammar.specs.Grammar.{Mark, sign, sign_at, oper_sign, order_sign, junction_sign, lit_kind, name_at, spell, spell_exps, spell_value}
+use Rattle.sky_parse_grammar.specs.Grammar.{spell_other_pairs, spell_links, spell_ands, spell_steps, spell_signs, IsTree, AreTrees, AreLinks, AreAnds}
+use Rattle.sky_parse_grammar.specs.Grammar.{AreSteps, paired, valued, place, Fits, Follows, Spelled}
+use Rattle.sky_parse_grammar.specs.Parts.{Has, separator, ready, closing, spell_head, spell_parts, head_shape, step_shape, step_sign}
 use Rattle.sky_parse_expr.specs.Built as built
-use Rattle.sky_held.specs.Held.{Held, after, both, seen_name, exp_part, exps_part, links_part, ands_part, steps_part}
+use Rattle.sky_parse_held.specs.Held.{Held, after, both, seen_name, exp_part, exps_part, links_part, ands_part, steps_part}
 use Rattle.sky_parse_expr.specs.Reads.{Reads, ReadsExp, ReadsLinks, ReadsAnds, ReadsSteps, ReadsParts, ReadsMore}
-use Rattle.sky_held.proofs.HeldLaw.{exp_sized, exps_sized, both_nothing, after_nothing, after_name}
+use Rattle.sky_parse_held.proofs.HeldLaw.{exp_sized, exps_sized, both_nothing, after_nothing, after_name}
 use Rattle.sky_parse_expr.proofs.ReadsLaw.{at_front, name_placed, behind, before, one, two}
 
 -- ---- leaves

@@ -6,13 +6,13 @@ use Rattle.sky_base.specs.Tree.{Place}
 use Rattle.sky_text.specs.declared.token.Sign.{Sign}
 use Rattle.sky_text.specs.declared.token.Word.{Word}
 use Rattle.sky_text.specs.declared.token.Token.{Token}
-use Rattle.sky_grammar.specs.Source.{Param, Exp, Stms}
-use Rattle.sky_grammar.specs.Lifted.{number_name, param_names, closure, stms_names, stms_tree, stms_made}
-use Rattle.sky_grammar.specs.Grammar.{sign, word_at, spell_params, spell_block, Fits, Spelled}
-use Rattle.sky_grammar.specs.Names.{same_params, stms_same}
-use Rattle.sky_held.specs.Held.{Held, after, seen_twice, exp_part, stms_part, opened, with_body, closed_at, open_in, close_in}
+use Rattle.sky_parse_grammar.specs.Source.{Param, Exp, Stms}
+use Rattle.sky_parse_grammar.specs.Lifted.{number_name, param_names, closure, stms_names, stms_tree, stms_made}
+use Rattle.sky_parse_grammar.specs.Grammar.{sign, word_at, spell_params, spell_block, Fits, Spelled}
+use Rattle.sky_parse_grammar.specs.Names.{same_params, stms_same}
+use Rattle.sky_parse_held.specs.Held.{Held, after, seen_twice, exp_part, stms_part, opened, with_body, closed_at, open_in, close_in}
 use Rattle.sky_parse_expr.specs.Reads.{ReadsExp, ReadsBlock}
-use Rattle.sky_held.proofs.HeldLaw.{first_assoc}
+use Rattle.sky_parse_held.proofs.HeldLaw.{first_assoc}
 
 -- a function behind others gets its body
 closed_last : (fs : List run.FunDef) (f : run.FunDef) (gs : List run.FunDef) (b : run.Stms) (ys : List (List ℕ))

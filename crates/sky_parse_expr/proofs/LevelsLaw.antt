@@ -1,9 +1,9 @@
 -- The levels of chains by their ranks.
 use Rattle.std.proofs.Common.{◌≡◌, ◌⊎◌, inl, inr, ℕ, suc, ◌≤◌, Option, Some, None, refl, sym, ap, ◌∙◌, arith}
-use Rattle.sky_grammar.specs.Levels.{junction_level}
-use Rattle.sky_grammar.specs.declared.level.Level.{Level}
-use Rattle.sky_grammar.specs.Levels.{rank, tighter, junction, join_sign}
-use Rattle.sky_grammar.specs.Grammar.{junction_sign}
+use Rattle.sky_parse_grammar.specs.Levels.{junction_level}
+use Rattle.sky_parse_grammar.specs.declared.level.Level.{Level}
+use Rattle.sky_parse_grammar.specs.Levels.{rank, tighter, junction, join_sign}
+use Rattle.sky_parse_grammar.specs.Grammar.{junction_sign}
 
 above : Option Level → ℕ
 above None = 6

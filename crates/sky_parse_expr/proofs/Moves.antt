@@ -3,7 +3,7 @@ use Rattle.std.proofs.Common.{◌≡◌, ℕ, zero, suc, ◌+◌, ◌≤◌, Boo
 use Rattle.std.proofs.Common.{◌∙◌, arith}
 use Rattle.std.specs.Prelude.{◌&&◌, if◌then◌else◌, Result, Ok, Err, IsErrAnd}
 use Rattle.sky_base.specs.TreeView.{arith_view, order_view, sign_view}
-use Rattle.sky_grammar.specs.Levels.{oper_level}
+use Rattle.sky_parse_grammar.specs.Levels.{oper_level}
 use Rattle.sky_base.specs.declared.tree.ArithOp.{ArithOp}
 use Rattle.sky_base.specs.declared.tree.Cmp.{Cmp}
 use Rattle.sky_base.specs.declared.tree.SignOp.{SignOp}
@@ -11,19 +11,19 @@ use Rattle.sky_text.specs.declared.token.Sign.{Sign}
 use Rattle.sky_text.specs.declared.token.Word.{Word}
 use Rattle.sky_text.specs.declared.token.TokenKind.{TokenKind}
 use Rattle.sky_text.specs.declared.token.Token.{Token}
-use Rattle.sky_grammar.specs.declared.level.Level.{Level}
-use Rattle.sky_grammar.specs.declared.parts.Shape.{Shape}
-use Rattle.sky_grammar.specs.declared.parts.Head.{Head}
-use Rattle.sky_grammar.specs.declared.parts.StepHead.{StepHead}
+use Rattle.sky_parse_grammar.specs.declared.level.Level.{Level}
+use Rattle.sky_parse_grammar.specs.declared.parts.Shape.{Shape}
+use Rattle.sky_parse_grammar.specs.declared.parts.Head.{Head}
+use Rattle.sky_parse_grammar.specs.declared.parts.StepHead.{StepHead}
 use Rattle.sky_parse_expr.specs.declared.look.Fail.{Fail}
-use Rattle.sky_grammar.specs.Signs.{is, is_word, at_sign, at_word}
-use Rattle.sky_grammar.specs.Levels.{rank, tighter, join_sign, opens, at_oper}
-use Rattle.sky_grammar.specs.Parts.{separator, full, ready, closing, step_sign, step_shape, head_shape}
-use Rattle.sky_grammar.specs.Grammar.{oper_sign, order_sign, prefix_sign}
-use Rattle.sky_grammar.specs.Machine.{Item, Out, operand_of, again, tails, is_literal, is_function, word_head, sign_head, is_prefix, step, goes, run}
-use Rattle.sky_grammar.specs.Machine.{kinds}
+use Rattle.sky_parse_grammar.specs.Signs.{is, is_word, at_sign, at_word}
+use Rattle.sky_parse_grammar.specs.Levels.{rank, tighter, join_sign, opens, at_oper}
+use Rattle.sky_parse_grammar.specs.Parts.{separator, full, ready, closing, step_sign, step_shape, head_shape}
+use Rattle.sky_parse_grammar.specs.Grammar.{oper_sign, order_sign, prefix_sign}
+use Rattle.sky_parse_grammar.specs.Machine.{Item, Out, operand_of, again, tails, is_literal, is_function, word_head, sign_head, is_prefix, step, goes, run}
+use Rattle.sky_parse_grammar.specs.Machine.{kinds}
 use Rattle.sky_parse_expr.specs.Runs.{Stops, Goes, at_next}
-use Rattle.sky_grammar.proofs.Tokens.{is_sign}
+use Rattle.sky_parse_grammar.proofs.Tokens.{is_sign}
 
 pub length_kinds : (ts : List Token) → length (kinds ts) ≡ length ts
 length_kinds [] = refl

@@ -3,12 +3,12 @@ use Rattle.std.proofs.Common.{◌≡◌, ℕ, ◌<◌, true, false, List, [], �
 use Rattle.sky_base.specs.TreeView.{at}
 use Rattle.sky_text.specs.declared.token.Sign.{Sign}
 use Rattle.sky_text.specs.declared.token.Token.{Token}
-use Rattle.sky_grammar.specs.Signs.{is, at_sign}
-use Rattle.sky_grammar.specs.Machine.{Item, run, kinds}
-use Rattle.sky_grammar.specs.Grammar.{Mark, sign, name_at, spell_params, spell_other_params, Follows, Spelled}
-use Rattle.sky_grammar.proofs.Tokens.{is_sign}
-use Rattle.sky_held.specs.declared.made.Parameter.{Parameter}
-use Rattle.sky_held.specs.Params.{params_view}
+use Rattle.sky_parse_grammar.specs.Signs.{is, at_sign}
+use Rattle.sky_parse_grammar.specs.Machine.{Item, run, kinds}
+use Rattle.sky_parse_grammar.specs.Grammar.{Mark, sign, name_at, spell_params, spell_other_params, Follows, Spelled}
+use Rattle.sky_parse_grammar.proofs.Tokens.{is_sign}
+use Rattle.sky_parse_held.specs.declared.made.Parameter.{Parameter}
+use Rattle.sky_parse_held.specs.Params.{params_view}
 
 pub params_empty : (k : List Item) (ts rest : List Token) (t : Token) → ts ≡ t ∷ rest → is Sign.CloseRound t.kind ≡ true
     → run (Item.params ∷ k) (kinds ts) ≡ run (k) (kinds rest)

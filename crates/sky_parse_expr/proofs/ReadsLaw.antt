@@ -5,13 +5,13 @@ use Rattle.sky_text.specs.declared.token.Sign.{Sign}
 use Rattle.sky_text.specs.declared.token.Word.{Word}
 use Rattle.sky_text.specs.declared.token.TokenKind.{TokenKind}
 use Rattle.sky_text.specs.declared.token.Token.{Token}
-use Rattle.sky_grammar.specs.Signs.{is, is_word}
-use Rattle.sky_grammar.specs.Grammar.{Mark, sign, sign_at, word, word_at, name_at, place, Fits, Follows, Spelled}
-use Rattle.sky_grammar.proofs.Tokens.{is_sign, is_that_word}
-use Rattle.sky_held.specs.Held.{Held, Part, after, both, named_first, seen_name}
+use Rattle.sky_parse_grammar.specs.Signs.{is, is_word}
+use Rattle.sky_parse_grammar.specs.Grammar.{Mark, sign, sign_at, word, word_at, name_at, place, Fits, Follows, Spelled}
+use Rattle.sky_parse_grammar.proofs.Tokens.{is_sign, is_that_word}
+use Rattle.sky_parse_held.specs.Held.{Held, Part, after, both, named_first, seen_name}
 use Rattle.sky_parse_expr.specs.Reads.{Reads, Onto}
 use Rattle.sky_parse_expr.specs.declared.look.Fail.{Fail}
-use Rattle.sky_held.proofs.HeldLaw.{Sized, join, number, named_then}
+use Rattle.sky_parse_held.proofs.HeldLaw.{Sized, join, number, named_then}
 
 -- ---- tokens alone
 

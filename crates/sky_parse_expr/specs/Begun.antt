@@ -3,10 +3,10 @@ use Rattle.std.specs.Prelude.{◌≡◌, List, ◌∷◌}
 use Rattle.sky_base.specs.TreeView.{at, exp_view}
 use Rattle.sky_text.specs.declared.token.Word.{Word}
 use Rattle.sky_text.specs.declared.token.Token.{Token}
-use Rattle.sky_grammar.specs.Grammar.{Fits, Spelled, word_at}
-use Rattle.sky_grammar.specs.Parts.{spell_head}
+use Rattle.sky_parse_grammar.specs.Grammar.{Fits, Spelled, word_at}
+use Rattle.sky_parse_grammar.specs.Parts.{spell_head}
 use Rattle.sky_parse_expr.specs.declared.begin.Opening.{Opening}
-use Rattle.sky_held.specs.Held.{Held}
+use Rattle.sky_parse_held.specs.Held.{Held}
 use Rattle.sky_parse_expr.specs.Reads.{ReadsExp}
 
 abbrev pub Begun : Opening → Held → Held → List Token → List Token → Type 0

@@ -3,10 +3,10 @@ use Rattle.std.specs.Prelude.{ℕ, ◌<◌, List, ◌∷◌, length, Result, IfO
 use Rattle.std.specs.Borrow.{Bor, MutBor}
 use Rattle.sky_base.specs.Tree as run
 use Rattle.sky_text.specs.declared.token.Token.{Token}
-use Rattle.sky_grammar.specs.Machine.{Item, kinds}
-use Rattle.sky_grammar.specs.Machine as machine
+use Rattle.sky_parse_grammar.specs.Machine.{Item, kinds}
+use Rattle.sky_parse_grammar.specs.Machine as machine
 use Rattle.sky_parse_expr.specs.declared.look.Fail.{Fail}
-use Rattle.sky_held.specs.Held.{Held}
+use Rattle.sky_parse_held.specs.Held.{Held}
 use Rattle.sky_parse_expr.specs.Reads.{ReadsBlock}
 use Rattle.sky_parse_expr.specs.Runs.{Runs}
 

@@ -2,8 +2,8 @@
 use Rattle.std.specs.Prelude.{List, [], ◌∷◌}
 use Rattle.sky_base.specs.Op.{Order}
 use Rattle.sky_base.specs.Tree.{Place, Oper, Junction, SignAt, Form, Exp, Exps, Links, Ands, Steps, nowhere}
-use Rattle.sky_grammar.specs.declared.parts.Head.{Head}
-use Rattle.sky_grammar.specs.declared.parts.StepHead.{StepHead}
+use Rattle.sky_parse_grammar.specs.declared.parts.Head.{Head}
+use Rattle.sky_parse_grammar.specs.declared.parts.StepHead.{StepHead}
 
 abbrev pub chained : Exp → Links → Exp
 chained e Links.no_links = e

@@ -3,21 +3,21 @@
 use Rattle.std.specs.Prelude.{◌≡◌, ℕ, ◌+◌, ◌%◌, ◌==◌, ◌≤◌, if◌then◌else◌, List, ◌∷◌, ◌++◌, length, true}
 use Rattle.sky_base.specs.Tree as run
 use Rattle.sky_base.specs.Tree.{Junction}
-use Rattle.sky_grammar.specs.Levels.{junction_level}
+use Rattle.sky_parse_grammar.specs.Levels.{junction_level}
 use Rattle.sky_text.specs.declared.token.Sign.{Sign}
 use Rattle.sky_text.specs.declared.token.Word.{Word}
 use Rattle.sky_text.specs.declared.token.TokenKind.{TokenKind}
 use Rattle.sky_text.specs.declared.token.Token.{Token}
-use Rattle.sky_grammar.specs.declared.parts.Shape.{Shape}
-use Rattle.sky_grammar.specs.Source.{Exp, Exps, Stms, Arms, Else, level, exps_count}
-use Rattle.sky_grammar.specs.Lifted.{tree, exps_tree, links_tree, ands_tree, steps_tree, stm_tree, stms_tree, arms_tree}
-use Rattle.sky_grammar.specs.Lifted.{else_tree, arms_count}
-use Rattle.sky_grammar.specs.Grammar.{Mark, sign, word, spell, spell_links, spell_ands, spell_steps, spell_stm, spell_stms, spell_block, spell_test}
-use Rattle.sky_grammar.specs.Grammar.{spell_others, spell_value, spell_other_pairs, spell_other_arms, spell_else, IsTree, AreTrees, AreLinks, AreAnds}
-use Rattle.sky_grammar.specs.Grammar.{AreSteps, IsStm, AreStms, AreArms, IsElse, paired, valued, Spelled}
-use Rattle.sky_grammar.specs.Parts.{Has, spell_parts}
-use Rattle.sky_held.specs.Held.{Held, Part, after, both, named_first, exp_part, exps_part, links_part, ands_part, steps_part, stm_part}
-use Rattle.sky_held.specs.Held.{stms_part, arms_part, else_part}
+use Rattle.sky_parse_grammar.specs.declared.parts.Shape.{Shape}
+use Rattle.sky_parse_grammar.specs.Source.{Exp, Exps, Stms, Arms, Else, level, exps_count}
+use Rattle.sky_parse_grammar.specs.Lifted.{tree, exps_tree, links_tree, ands_tree, steps_tree, stm_tree, stms_tree, arms_tree}
+use Rattle.sky_parse_grammar.specs.Lifted.{else_tree, arms_count}
+use Rattle.sky_parse_grammar.specs.Grammar.{Mark, sign, word, spell, spell_links, spell_ands, spell_steps, spell_stm, spell_stms, spell_block, spell_test}
+use Rattle.sky_parse_grammar.specs.Grammar.{spell_others, spell_value, spell_other_pairs, spell_other_arms, spell_else, IsTree, AreTrees, AreLinks, AreAnds}
+use Rattle.sky_parse_grammar.specs.Grammar.{AreSteps, IsStm, AreStms, AreArms, IsElse, paired, valued, Spelled}
+use Rattle.sky_parse_grammar.specs.Parts.{Has, spell_parts}
+use Rattle.sky_parse_held.specs.Held.{Held, Part, after, both, named_first, exp_part, exps_part, links_part, ands_part, steps_part, stm_part}
+use Rattle.sky_parse_held.specs.Held.{stms_part, arms_part, else_part}
 
 -- A tree of one kind was read: what makes it a tree of the grammar, what runs in its place, what it adds and how it is spelled.
 pub record Reads {S R : Type 0} (good : S → Type 0) (tree : ℕ → S → R) (part : S → Part) (spell : S → List Mark → List Mark) (r : R)

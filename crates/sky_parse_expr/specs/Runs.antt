@@ -4,10 +4,10 @@ use Rattle.sky_text.specs.declared.token.Sign.{Sign}
 use Rattle.sky_text.specs.declared.token.Token.{Token}
 use Rattle.sky_parse_expr.specs.declared.look.Fail.{Fail}
 use Rattle.sky_parse_expr.specs.declared.begin.Opening.{Opening}
-use Rattle.sky_grammar.specs.declared.parts.Shape.{Shape}
-use Rattle.sky_grammar.specs.Signs.{at_sign}
-use Rattle.sky_grammar.specs.Parts.{head_shape, separator, full}
-use Rattle.sky_grammar.specs.Machine.{Item, Out, run, kinds}
+use Rattle.sky_parse_grammar.specs.declared.parts.Shape.{Shape}
+use Rattle.sky_parse_grammar.specs.Signs.{at_sign}
+use Rattle.sky_parse_grammar.specs.Parts.{head_shape, separator, full}
+use Rattle.sky_parse_grammar.specs.Machine.{Item, Out, run, kinds}
 
 -- The machine stops with so many tokens left, or there is no memory.
 abbrev pub Stops : (List Item → Out) → Fail → Type 0

@@ -3,21 +3,21 @@
 ghost use Rattle.std.specs.Prelude.{◌≡◌, ◌<◌, ◌≤◌, ◌∷◌, [], List, true, false, length, IfOk, IfSome, IfNone};
 ghost use Rattle.sky_base.specs.Tree.{Place};
 ghost use Rattle.sky_base.specs.TreeView.{at, exp_view, lit_view};
-ghost use Rattle.sky_grammar.specs.Signs.{is, at_sign};
-ghost use Rattle.sky_grammar.specs.Machine.{Item, run, kinds, is_literal, word_head, sign_head};
+ghost use Rattle.sky_parse_grammar.specs.Signs.{is, at_sign};
+ghost use Rattle.sky_parse_grammar.specs.Machine.{Item, run, kinds, is_literal, word_head, sign_head};
 ghost use Rattle.sky_parse_expr.specs.Runs.{Goes, behind};
-ghost use Rattle.sky_grammar.specs.Parts.{spell_head, step_sign};
-ghost use Rattle.sky_held.specs.Held.{Held};
+ghost use Rattle.sky_parse_grammar.specs.Parts.{spell_head, step_sign};
+ghost use Rattle.sky_parse_held.specs.Held.{Held};
 ghost use Rattle.sky_parse_expr.specs.Begun.{Begun};
-ghost use Rattle.sky_grammar.specs.Grammar.{Mark, Fits, Spelled, lit_kind};
-ghost use Rattle.sky_grammar.specs.Grammar as g;
+ghost use Rattle.sky_parse_grammar.specs.Grammar.{Mark, Fits, Spelled, lit_kind};
+ghost use Rattle.sky_parse_grammar.specs.Grammar as g;
 ghost use Rattle.sky_text.specs.declared.token.Token.{Token};
 ghost use Rattle.sky_text.specs.declared.token.TokenKind.{TokenKind};
 
 use crate::look::{Fail, eat, want};
 use sky_base::tree::{Expr, Lit};
-use sky_grammar::parts::{Head, StepHead};
-use sky_held::made::Made;
+use sky_parse_grammar::parts::{Head, StepHead};
+use sky_parse_held::made::Made;
 use sky_text::token::{Sign, Token, TokenKind, Word};
 
 /// How a primary begins.

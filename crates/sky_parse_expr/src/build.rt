@@ -2,12 +2,12 @@
 
 ghost use Rattle.std.specs.Prelude.{◌≡◌, IfOk};
 ghost use Rattle.sky_base.specs.TreeView.{at, exp_view, links_view, ands_view, steps_view, signs_view, order_view};
-ghost use Rattle.sky_grammar.specs.Levels.{junction};
+ghost use Rattle.sky_parse_grammar.specs.Levels.{junction};
 ghost use Rattle.sky_parse_expr.specs.Built.{chained, compared, joined, prefixed, stepped};
 
 use sky_base::text::Memory;
 use sky_base::tree::{Cmp, Expr, Join, Joins, Link, Links, SignAt, Step, Steps, Sub};
-use sky_grammar::level::Level;
+use sky_parse_grammar::level::Level;
 use std::alloc::Global;
 
 /// A sum or a product.

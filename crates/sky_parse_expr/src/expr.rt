@@ -4,13 +4,13 @@
 
 ghost use Rattle.std.specs.Prelude.{◌≡◌, ◌<◌, ◌≤◌, ◌+◌, ◌∷◌, List, true, false, length, IfOk, IfSome, IfNone};
 ghost use Rattle.sky_base.specs.TreeView.{exp_view, exps_view, links_view, ands_view, steps_view, signs_view, sign_view};
-ghost use Rattle.sky_grammar.specs.Signs.{is, at_sign};
-ghost use Rattle.sky_grammar.specs.Levels.{rank, junction};
-ghost use Rattle.sky_grammar.specs.Parts.{ready};
-ghost use Rattle.sky_grammar.specs.Machine.{Item, tails, run, kinds};
-ghost use Rattle.sky_grammar.specs.Grammar.{Spelled, spell_signs, prefix_sign};
-ghost use Rattle.sky_grammar.specs.declared.level.Level.{Level};
-ghost use Rattle.sky_held.specs.Held.{Held};
+ghost use Rattle.sky_parse_grammar.specs.Signs.{is, at_sign};
+ghost use Rattle.sky_parse_grammar.specs.Levels.{rank, junction};
+ghost use Rattle.sky_parse_grammar.specs.Parts.{ready};
+ghost use Rattle.sky_parse_grammar.specs.Machine.{Item, tails, run, kinds};
+ghost use Rattle.sky_parse_grammar.specs.Grammar.{Spelled, spell_signs, prefix_sign};
+ghost use Rattle.sky_parse_grammar.specs.declared.level.Level.{Level};
+ghost use Rattle.sky_parse_held.specs.Held.{Held};
 ghost use Rattle.sky_parse_expr.specs.Reads.{Onto, Onward, ReadsAnds, ReadsExp, ReadsLinks, ReadsParts, ReadsSteps};
 ghost use Rattle.sky_parse_expr.specs.Bodies.{CanRead, ReadsBodies};
 ghost use Rattle.sky_parse_expr.specs.Runs.{Runs, Goes};
@@ -25,9 +25,9 @@ use crate::parts::{again, close, empty};
 use crate::whole::{step_of, whole};
 use sky_base::stmt::Block;
 use sky_base::tree::{Expr, Join, Link, SignAt, SignOp, Step};
-use sky_grammar::level::Level;
-use sky_grammar::parts::Shape;
-use sky_held::made::Made;
+use sky_parse_grammar::level::Level;
+use sky_parse_grammar::parts::Shape;
+use sky_parse_held::made::Made;
 use sky_text::token::{Sign, Token};
 use std::alloc::Global;
 

@@ -3,21 +3,21 @@
 ghost use Rattle.std.specs.Prelude.{◌≡◌, ◌<◌, ◌∷◌, [], List, length, IfOk};
 ghost use Rattle.sky_base.specs.Tree.{func};
 ghost use Rattle.sky_base.specs.TreeView.{at};
-ghost use Rattle.sky_grammar.specs.Grammar.{Fits, Spelled, spell_params, word_at};
-ghost use Rattle.sky_grammar.specs.Grammar as g;
-ghost use Rattle.sky_grammar.specs.Machine.{Item, run, kinds};
-ghost use Rattle.sky_held.specs.Held.{Held};
+ghost use Rattle.sky_parse_grammar.specs.Grammar.{Fits, Spelled, spell_params, word_at};
+ghost use Rattle.sky_parse_grammar.specs.Grammar as g;
+ghost use Rattle.sky_parse_grammar.specs.Machine.{Item, run, kinds};
+ghost use Rattle.sky_parse_held.specs.Held.{Held};
 ghost use Rattle.sky_parse_expr.specs.Reads.{ReadsExp};
 ghost use Rattle.sky_parse_expr.specs.Bodies.{CanRead, ReadsBodies};
 ghost use Rattle.sky_parse_expr.specs.Runs.{Runs};
-ghost use Rattle.sky_held.specs.Params.{params_view};
+ghost use Rattle.sky_parse_held.specs.Params.{params_view};
 ghost use Rattle.sky_text.specs.declared.token.Token.{Token};
 ghost use Rattle.sky_text.specs.declared.token.Word.{Word};
 
 use crate::look::{Fail, eat, want, want_name};
 use sky_base::stmt::Block;
 use sky_base::text::Txt;
-use sky_held::made::{Made, Parameter};
+use sky_parse_held::made::{Made, Parameter};
 use sky_text::token::{Sign, Token};
 use std::alloc::Global;
 

@@ -1,16 +1,16 @@
 // The operators of chains, each with the level of its chain.
 
 ghost use Rattle.std.specs.Prelude.{◌≡◌, ◌∷◌, ◌≤◌, IfSome, IfNone, true, false};
-ghost use Rattle.sky_grammar.specs.Levels.{oper_level};
+ghost use Rattle.sky_parse_grammar.specs.Levels.{oper_level};
 ghost use Rattle.sky_base.specs.TreeView.{arith_view, order_view};
-ghost use Rattle.sky_grammar.specs.Signs.{is};
-ghost use Rattle.sky_grammar.specs.Grammar.{oper_sign, order_sign};
-ghost use Rattle.sky_grammar.specs.Levels.{rank, at_oper, at_order};
-ghost use Rattle.sky_grammar.specs.declared.level.Level.{Level};
+ghost use Rattle.sky_parse_grammar.specs.Signs.{is};
+ghost use Rattle.sky_parse_grammar.specs.Grammar.{oper_sign, order_sign};
+ghost use Rattle.sky_parse_grammar.specs.Levels.{rank, at_oper, at_order};
+ghost use Rattle.sky_parse_grammar.specs.declared.level.Level.{Level};
 
 use crate::look::eat;
 use sky_base::tree::{ArithOp, Cmp};
-use sky_grammar::level::Level;
+use sky_parse_grammar::level::Level;
 use sky_text::token::{Sign, Token};
 
 /// An operator of a product, if one stands first, and what follows.

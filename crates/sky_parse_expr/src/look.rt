@@ -2,12 +2,12 @@
 // a reference, and what is taken of it is a reference too.
 
 ghost use Rattle.std.specs.Prelude.{◌≡◌, ◌∷◌, ◌<◌, List, length, IfOk, IfSome, IfNone, true, false};
-ghost use Rattle.sky_grammar.specs.Signs.{sign_code, word_code, is, is_word, at_sign, at_word};
+ghost use Rattle.sky_parse_grammar.specs.Signs.{sign_code, word_code, is, is_word, at_sign, at_word};
 ghost use Rattle.sky_base.specs.TreeView.{at};
-ghost use Rattle.sky_grammar.specs.Grammar.{Spelled};
-ghost use Rattle.sky_grammar.specs.Machine.{Item, run, kinds};
+ghost use Rattle.sky_parse_grammar.specs.Grammar.{Spelled};
+ghost use Rattle.sky_parse_grammar.specs.Machine.{Item, run, kinds};
 ghost use Rattle.sky_parse_expr.specs.Runs.{Runs};
-ghost use Rattle.sky_grammar.specs.Grammar as g;
+ghost use Rattle.sky_parse_grammar.specs.Grammar as g;
 ghost use Rattle.sky_text.specs.declared.token.TokenKind.{TokenKind};
 
 use sky_base::text::Txt;
@@ -137,7 +137,7 @@ pub fn eat_word(ts: &[Token], word: Word) -> Option<(&Token, &[Token])>
 }
 
 /// What follows the sign, which has to stand first.
-#[tactic(auto, using(sky_grammar::proofs::Tokens::tokens, crate::proofs::Moves::signs))]
+#[tactic(auto, using(sky_parse_grammar::proofs::Tokens::tokens, crate::proofs::Moves::signs))]
 pub fn want(ts: &[Token], sign: Sign) -> Result<&[Token], Fail>
     ensures read { Runs (λ x. x.now) (λ k. run (Item.sign sign ∷ k) (kinds ts.now)) result }
     ensures spelled { IfOk result (λ x. Spelled (λ more. g.sign sign ∷ more) ts.now x.now) }
@@ -150,7 +150,7 @@ pub fn want(ts: &[Token], sign: Sign) -> Result<&[Token], Fail>
 }
 
 /// What follows the word, which has to stand first.
-#[tactic(auto, using(sky_grammar::proofs::Tokens::tokens, crate::proofs::Moves::signs))]
+#[tactic(auto, using(sky_parse_grammar::proofs::Tokens::tokens, crate::proofs::Moves::signs))]
 pub fn want_word(ts: &[Token], word: Word) -> Result<&[Token], Fail>
     ensures read { Runs (λ x. x.now) (λ k. run (Item.word word ∷ k) (kinds ts.now)) result }
     ensures spelled { IfOk result (λ x. Spelled (λ more. g.word word ∷ more) ts.now x.now) }

@@ -1,17 +1,17 @@
 // The parts of a form with brackets, up to the sign that closes them.
 
 ghost use Rattle.std.specs.Prelude.{◌≡◌, ◌<◌, ◌∷◌, suc, List, length, true, false, IfOk, IfSome, IfNone};
-ghost use Rattle.sky_grammar.specs.Source.{Exps};
-ghost use Rattle.sky_grammar.specs.Signs.{is};
-ghost use Rattle.sky_grammar.specs.Parts.{Has, spell_parts, separator, ready, closing};
-ghost use Rattle.sky_grammar.specs.Grammar.{Spelled};
-ghost use Rattle.sky_grammar.specs.Machine.{Item, run, kinds};
+ghost use Rattle.sky_parse_grammar.specs.Source.{Exps};
+ghost use Rattle.sky_parse_grammar.specs.Signs.{is};
+ghost use Rattle.sky_parse_grammar.specs.Parts.{Has, spell_parts, separator, ready, closing};
+ghost use Rattle.sky_parse_grammar.specs.Grammar.{Spelled};
+ghost use Rattle.sky_parse_grammar.specs.Machine.{Item, run, kinds};
 ghost use Rattle.sky_parse_expr.specs.Runs.{Runs, Takes, at_next};
-ghost use Rattle.sky_grammar.specs.declared.level.Level.{Level};
-ghost use Rattle.sky_grammar.specs.Grammar as g;
+ghost use Rattle.sky_parse_grammar.specs.declared.level.Level.{Level};
+ghost use Rattle.sky_parse_grammar.specs.Grammar as g;
 
 use crate::look::{Fail, eat, want};
-use sky_grammar::parts::Shape;
+use sky_parse_grammar::parts::Shape;
 use sky_text::token::{Sign, Token};
 
 /// What follows the brackets, if they may be empty and are.

@@ -3,12 +3,12 @@
 ghost use Rattle.std.specs.Prelude.{◌≡◌, ◌≤◌, ◌∷◌, ◌++◌, [], true, length, List, IfOk};
 ghost use Rattle.sky_base.specs.Tree.{Steps};
 ghost use Rattle.sky_base.specs.TreeView.{at, exp_view, exps_view, step_view, one, two, three};
-ghost use Rattle.sky_grammar.specs.Parts.{ready, head_shape, step_shape};
+ghost use Rattle.sky_parse_grammar.specs.Parts.{ready, head_shape, step_shape};
 ghost use Rattle.sky_parse_expr.specs.Built.{formed, step_formed};
 
 use sky_base::text::Memory;
 use sky_base::tree::{Expr, Exprs, Step, Sub};
-use sky_grammar::parts::{Head, StepHead};
+use sky_parse_grammar::parts::{Head, StepHead};
 use std::alloc::Global;
 
 /// The last of some expressions.

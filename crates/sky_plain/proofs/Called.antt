@@ -9,26 +9,26 @@ use Rattle.sky_base.specs.Tree.{nowhere, Script}
 use Rattle.sky_base.specs.Res.{bodies, Object}
 use Rattle.sky_base.specs.Eval.{body_at}
 use Rattle.sky_base.specs.See.{Job, start_st, input_bytes}
-use Rattle.sky_law.specs.Sound.{RefsOver, ValsOver, PairsOver, DescOver}
-use Rattle.sky_law.specs.Tasks.{In, Apart}
+use Rattle.sky_base_law.specs.Sound.{RefsOver, ValsOver, PairsOver, DescOver}
+use Rattle.sky_base_law.specs.Tasks.{In, Apart}
 use Rattle.ciel_json.specs.Around.{json_around}
-use Rattle.sky_rows.specs.Data.{data_of}
+use Rattle.sky_base_known.specs.Data.{data_of}
 use Rattle.ciel_json.specs.Text.{text_of}
 use Rattle.ciel_json.proofs.LowLaw.{reads_named, text_named}
 use Rattle.ciel_json.proofs.ReadLaw.{reads_sound}
-use Rattle.sky_rows.specs.Walk.{Row, Stop, stops, walk, known_of, number_of, object_at, is_known, most_rows}
-use Rattle.sky_rows.specs.Known.{with_object}
+use Rattle.sky_base_known.specs.Walk.{Row, Stop, stops, walk, known_of, number_of, object_at, is_known, most_rows}
+use Rattle.sky_base_known.specs.Known.{with_object}
 use Rattle.sky_plain.specs.Needs.{MakesMany}
-use Rattle.sky_rows.specs.Number.{numbered}
-use Rattle.sky_body.specs.Ran.{Begins}
+use Rattle.sky_base_known.specs.Number.{numbered}
+use Rattle.sky_plain_body.specs.Ran.{Begins}
 use Rattle.sky_plain.specs.Stand.{Below, Fits, ReadFits, Opens, Standing}
-use Rattle.sky_body.specs.Stops.{Runs, EndsAs, WaitsFor, IsFull}
+use Rattle.sky_plain_body.specs.Stops.{Runs, EndsAs, WaitsFor, IsFull}
 use Rattle.sky_plain.specs.Stage.{AllKnown}
-use Rattle.sky_perform.specs.Perform.{made}
-use Rattle.sky_perform.specs.Outputs.{OnlyOutputs, KnownOutputs}
+use Rattle.sky_base_exec.specs.Perform.{made}
+use Rattle.sky_base_exec.specs.Outputs.{OnlyOutputs, KnownOutputs}
 use Rattle.sky_plain.proofs.Counts.{puts_with}
 use Rattle.sky_plain.proofs.Full.{WaitsAt, walk_waits}
-use Rattle.sky_rows.proofs.Numbers.{numbers_hold, got_in}
+use Rattle.sky_base_known.proofs.Numbers.{numbers_hold, got_in}
 use Rattle.sky_plain.proofs.Performs.{opens_out}
 use Rattle.sky_plain.proofs.Steps.{standing_ends, standing_waits, standing_many, standing_outputs, standing_input}
 

@@ -5,19 +5,19 @@ use Rattle.sky_base.specs.Name.{low_vals, low_pairs, low_desc}
 use Rattle.sky_base.specs.Op.{Answer}
 use Rattle.sky_base.specs.Res.{Object}
 use Rattle.sky_base.specs.Read.{refs_of}
-use Rattle.sky_law.specs.Lower.{lower, low_ref}
+use Rattle.sky_base_law.specs.Lower.{lower, low_ref}
 use Rattle.sky_base.specs.See.{Desc, Job, Around, run_of, slot}
 use Rattle.sky_base.specs.Needed.{Task, task_of, halt_refs, Needed}
-use Rattle.sky_law.specs.Tasks.{In}
-use Rattle.sky_law.proofs.TaskOutputs.{contains_in}
-use Rattle.sky_rows.specs.Walk.{Row, Stop, stops, number_of, learn_to}
-use Rattle.sky_rows.specs.Number.{index_of, tag_of, Grown}
+use Rattle.sky_base_law.specs.Tasks.{In}
+use Rattle.sky_base_law.proofs.TaskOutputs.{contains_in}
+use Rattle.sky_base_known.specs.Walk.{Row, Stop, stops, number_of, learn_to}
+use Rattle.sky_base_known.specs.Number.{index_of, tag_of, Grown}
 use Rattle.sky_plain.specs.Needs.{Waits, Chain, Makes}
 use Rattle.sky_plain.specs.Stand.{spell, KnownAt, Knows, Holds, Opened, Opens, Made}
-use Rattle.sky_body.specs.Stops.{Runs, WaitsFor, IsFull}
+use Rattle.sky_plain_body.specs.Stops.{Runs, WaitsFor, IsFull}
 use Rattle.sky_plain.proofs.Full.{FullAt}
 use Rattle.sky_plain.proofs.Sim.{Sim, StopIs, MadeBy}
-use Rattle.sky_rows.proofs.Numbers.{got_more, number_slot}
+use Rattle.sky_base_known.proofs.Numbers.{got_more, number_slot}
 use Rattle.sky_plain.proofs.Knows.{name_tag, index_most, held_at, grown_back, from_call, ran}
 
 some_is : {A : Type 0} (a b : A) → Some a ≡ Some b → a ≡ b

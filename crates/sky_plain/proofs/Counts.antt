@@ -1,8 +1,8 @@
 -- How many objects are known, as more become known.
 use Rattle.std.proofs.Common.{◌≡◌, ◌≤◌, ◌<◌, ℕ, zero, suc, List, [], ◌∷◌, length, true, false, Option, Some, None, refl, arith}
-use Rattle.sky_rows.specs.Walk.{Obj, object_at, is_known}
-use Rattle.sky_rows.specs.Known.{with_object}
-use Rattle.sky_perform.proofs.Withs.{with_here, with_there}
+use Rattle.sky_base_known.specs.Walk.{Obj, object_at, is_known}
+use Rattle.sky_base_known.specs.Known.{with_object}
+use Rattle.sky_base_exec.proofs.Withs.{with_here, with_there}
 use Rattle.sky_plain.specs.Stand.{Puts}
 use Rattle.sky_plain.specs.Settle.{count, Stays}
 

@@ -6,12 +6,12 @@ use Rattle.sky_base.specs.Tree.{Script}
 use Rattle.sky_base.specs.Res.{Object, Res, Fin, Tell, Ask}
 use Rattle.sky_base.specs.Eval.{World}
 use Rattle.sky_base.specs.Read.{refs_of}
-use Rattle.sky_law.specs.Tasks.{In, Each}
-use Rattle.sky_law.specs.Sound.{RefsOver, ValsOver, PairsOver, DescOver, SoundOver}
-use Rattle.sky_law.proofs.FineLaw.{Fine, ObjectOk, EndOk}
-use Rattle.sky_law.proofs.WrittenLaw.{any_made}
-use Rattle.sky_rows.proofs.Learn.{Learned, learned_new}
-use Rattle.sky_rows.specs.Walk.{Row, is_held, Seen, seen_one, Stop, Walked, learn_to, on_learned, on_seen, look, walk}
+use Rattle.sky_base_law.specs.Tasks.{In, Each}
+use Rattle.sky_base_law.specs.Sound.{RefsOver, ValsOver, PairsOver, DescOver, SoundOver}
+use Rattle.sky_base_law.proofs.FineLaw.{Fine, ObjectOk, EndOk}
+use Rattle.sky_base_law.proofs.WrittenLaw.{any_made}
+use Rattle.sky_base_known.proofs.Learn.{Learned, learned_new}
+use Rattle.sky_base_known.specs.Walk.{Row, is_held, Seen, seen_one, Stop, Walked, learn_to, on_learned, on_seen, look, walk}
 
 -- ---- more names may stand inside
 

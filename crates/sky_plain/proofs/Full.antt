@@ -2,8 +2,8 @@
 use Rattle.std.proofs.Common.{◌≡◌, List, [], ◌∷◌, ℕ, Option, Some, None, refl, sym, ap, ◌∙◌}
 use Rattle.sky_base.specs.Res.{Object, Res, Fin, Tell, Ask}
 use Rattle.sky_base.specs.Read.{refs_of}
-use Rattle.sky_rows.specs.Walk as w
-use Rattle.sky_rows.specs.Walk.{Row, Seen, seen_one, Stop, Walked, learn_to, on_learned, look, walk}
+use Rattle.sky_base_known.specs.Walk as w
+use Rattle.sky_base_known.specs.Walk.{Row, Seen, seen_one, Stop, Walked, learn_to, on_learned, look, walk}
 
 abbrev pub FullAt : Walked → Type 0
 FullAt done = (e : Row) → done.stop ≡ Stop.full e → learn_to done.rows e ≡ None

@@ -8,17 +8,17 @@ use Rattle.sky_base.specs.Tree.{nowhere, Script}
 use Rattle.sky_base.specs.Res.{others, bodies, Object, End}
 use Rattle.sky_base.specs.Eval.{World, body_at}
 use Rattle.sky_base.specs.See.{slot, start_st}
-use Rattle.sky_law.specs.Tasks.{In, Apart}
-use Rattle.sky_law.specs.Sound.{DescOver, SoundOver}
-use Rattle.sky_law.proofs.FineLaw.{Closed, ObjectOk, fine_call}
-use Rattle.sky_law.proofs.SoundOps.{SoundAnswer, Vars, sound_closed, caught_kept, dict_inside}
-use Rattle.sky_law.proofs.WrittenLaw.{any_lit, any_made, any_name, written_any}
-use Rattle.sky_rows.specs.Walk.{Row, Stop, stops, walk, known_of, object_at, number_of, Numbers, most_rows}
-use Rattle.sky_rows.specs.Number.{index_of}
+use Rattle.sky_base_law.specs.Tasks.{In, Apart}
+use Rattle.sky_base_law.specs.Sound.{DescOver, SoundOver}
+use Rattle.sky_base_law.proofs.FineLaw.{Closed, ObjectOk, fine_call}
+use Rattle.sky_base_law.proofs.SoundOps.{SoundAnswer, Vars, sound_closed, caught_kept, dict_inside}
+use Rattle.sky_base_law.proofs.WrittenLaw.{any_lit, any_made, any_name, written_any}
+use Rattle.sky_base_known.specs.Walk.{Row, Stop, stops, walk, known_of, object_at, number_of, Numbers, most_rows}
+use Rattle.sky_base_known.specs.Number.{index_of}
 use Rattle.sky_plain.specs.Stand.{Puts, Below, RowFits, ObjectFits, Fits, StopFits, ReadFits}
-use Rattle.sky_body.specs.Stops.{Runs, EndsAs, WaitsFor}
-use Rattle.sky_rows.proofs.Numbers.{got_below, index_at, number_slot}
-use Rattle.sky_rows.proofs.Learn.{most_is}
+use Rattle.sky_plain_body.specs.Stops.{Runs, EndsAs, WaitsFor}
+use Rattle.sky_base_known.proofs.Numbers.{got_below, index_at, number_slot}
+use Rattle.sky_base_known.proofs.Learn.{most_is}
 use Rattle.sky_plain.proofs.Fits.{desc_over, sound_over, StopOk, WalkOk, walk_ok}
 
 -- a number that is held in any case

@@ -9,20 +9,20 @@ use Rattle.sky_base.specs.Tree.{nowhere}
 use Rattle.sky_base.specs.Res.{bodies, Object, End, St}
 use Rattle.sky_base.specs.Eval.{body_at}
 use Rattle.sky_base.specs.Read.{ended, outcome}
-use Rattle.sky_law.specs.Lower.{lower, low_ref, low_obj, low_end}
+use Rattle.sky_base_law.specs.Lower.{lower, low_ref, low_obj, low_end}
 use Rattle.sky_base.specs.See.{Desc, Job, Around, see, run_of, object_of, world_of, start_st}
-use Rattle.sky_law.proofs.LowLaw.{Rel, rel_call}
-use Rattle.sky_law.proofs.SeenLaw.{see_kept}
-use Rattle.sky_rows.specs.Walk.{Row, Stop, stops, walk, known_of, object_at, Numbers, most_rows}
-use Rattle.sky_rows.specs.Number.{index_of, tag_of, numbered, Grown}
-use Rattle.sky_rows.proofs.Learn.{most_is}
+use Rattle.sky_base_law.proofs.LowLaw.{Rel, rel_call}
+use Rattle.sky_base_law.proofs.SeenLaw.{see_kept}
+use Rattle.sky_base_known.specs.Walk.{Row, Stop, stops, walk, known_of, object_at, Numbers, most_rows}
+use Rattle.sky_base_known.specs.Number.{index_of, tag_of, numbered, Grown}
+use Rattle.sky_base_known.proofs.Learn.{most_is}
 use Rattle.sky_plain.specs.Stand.{spell, Puts, KnownAt, Knows}
-use Rattle.sky_waves.specs.Seen.{Sees}
-use Rattle.sky_body.specs.Stops.{end_object, Runs, EndsAs}
-use Rattle.sky_perform.proofs.Withs.{nat_same}
+use Rattle.sky_base_waves.specs.Seen.{Sees}
+use Rattle.sky_plain_body.specs.Stops.{end_object, Runs, EndsAs}
+use Rattle.sky_base_exec.proofs.Withs.{nat_same}
 use Rattle.sky_plain.proofs.Full.{FullAt, walk_full}
 use Rattle.sky_plain.proofs.Sim.{Sim, StopIs, sim}
-use Rattle.sky_rows.proofs.Numbers.{index_found, got_below, got_front, numbers_hold, numbers_front, number_slot}
+use Rattle.sky_base_known.proofs.Numbers.{index_found, got_below, got_front, numbers_hold, numbers_front, number_slot}
 
 -- a description's number is that of its place, or past the end
 abbrev Later : List Row → List Row → ℕ → Type 0

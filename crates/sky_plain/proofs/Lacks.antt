@@ -4,10 +4,10 @@ use Rattle.std.proofs.Common.{arith}
 use Rattle.sky_base.specs.Val.{known, distinct, same_text}
 use Rattle.sky_base.specs.Names as names
 use Rattle.sky_base.specs.Res.{Object}
-use Rattle.sky_law.specs.Tasks.{In}
+use Rattle.sky_base_law.specs.Tasks.{In}
 use Rattle.sky_base.proofs.Exact.{exact_text, self_text}
-use Rattle.sky_law.proofs.TaskOutputs.{in_distinct, distinct_in}
-use Rattle.sky_rows.specs.Walk.{Row, known_of}
+use Rattle.sky_base_law.proofs.TaskOutputs.{in_distinct, distinct_in}
+use Rattle.sky_base_known.specs.Walk.{Row, known_of}
 use Rattle.sky_plain.specs.Stage.{AllKnown}
 
 -- ---- names that are known, from the front

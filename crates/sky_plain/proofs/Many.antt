@@ -3,12 +3,12 @@ use Rattle.std.proofs.Common.{◌≡◌, ◌≤◌, ℕ, suc, List, [], ◌∷�
 use Rattle.std.proofs.lemmas.List.{append-nil}
 use Rattle.sky_base.specs.Name.{low_desc}
 use Rattle.sky_base.specs.See.{Desc, Job, Around}
-use Rattle.sky_law.specs.Tasks.{In, Each, Apart}
-use Rattle.sky_rows.specs.Walk.{Row, learn_to, most_rows}
-use Rattle.sky_rows.specs.Number.{tag_of, Grown}
+use Rattle.sky_base_law.specs.Tasks.{In, Each, Apart}
+use Rattle.sky_base_known.specs.Walk.{Row, learn_to, most_rows}
+use Rattle.sky_base_known.specs.Number.{tag_of, Grown}
 use Rattle.sky_plain.specs.Needs.{Makes, MakesMany}
 use Rattle.sky_plain.specs.Stand.{spell, Made}
-use Rattle.sky_rows.proofs.Learn.{most_is, full_means}
+use Rattle.sky_base_known.proofs.Learn.{most_is, full_means}
 
 -- ---- so many distinct descriptions are made
 

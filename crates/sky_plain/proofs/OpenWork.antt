@@ -3,22 +3,22 @@ use Rattle.std.proofs.Common.{◌≡◌, ◌≤◌, ◌<◌, ℕ, suc, ◌+◌, 
 use Rattle.std.proofs.Common.{◌⊎◌, inl, inr, refl, sym, ap, subst, ◌∙◌, arith}
 use Rattle.std.proofs.lemmas.List.{append_assoc, append-nil}
 use Rattle.sky_base.specs.See.{Desc, Job, Around}
-use Rattle.sky_law.specs.Tasks.{Apart}
-use Rattle.sky_law.proofs.SoundOps.{caught_kept}
+use Rattle.sky_base_law.specs.Tasks.{Apart}
+use Rattle.sky_base_law.proofs.SoundOps.{caught_kept}
 use Rattle.sky_base.specs.Val.{call, out}
-use Rattle.sky_rows.specs.Walk.{Obj}
-use Rattle.sky_rows.specs.Walk.{Row, object_at, is_known, most_rows}
-use Rattle.sky_rows.specs.Known.{with_object}
+use Rattle.sky_base_known.specs.Walk.{Obj}
+use Rattle.sky_base_known.specs.Walk.{Row, object_at, is_known, most_rows}
+use Rattle.sky_base_known.specs.Known.{with_object}
 use Rattle.sky_plain.specs.Needs.{Chain}
-use Rattle.sky_body.specs.Ran.{Begins}
+use Rattle.sky_plain_body.specs.Ran.{Begins}
 use Rattle.sky_plain.specs.Stand.{Opened, Opens, Standing}
-use Rattle.sky_rows.proofs.Learn.{most_is}
-use Rattle.sky_rows.proofs.Numbers.{got_below, got_in, got_more}
+use Rattle.sky_base_known.proofs.Learn.{most_is}
+use Rattle.sky_base_known.proofs.Numbers.{got_below, got_in, got_more}
 use Rattle.sky_plain.proofs.Chains.{opened_at}
 use Rattle.sky_plain.proofs.Many.{itself}
 use Rattle.sky_plain.specs.Settle.{ArgsKept, CallsKept, count, height, rank, most_open, Stays, Open}
-use Rattle.sky_perform.specs.Outputs.{Keeps}
-use Rattle.sky_perform.proofs.Withs.{nat_same, length_with, with_here, with_there, known_some}
+use Rattle.sky_base_exec.specs.Outputs.{Keeps}
+use Rattle.sky_base_exec.proofs.Withs.{nat_same, length_with, with_here, with_there, known_some}
 use Rattle.sky_plain.proofs.Counts.{count_most, count_less}
 use Rattle.sky_plain.proofs.Steps.{opens_grow, opens_rest, opens_chain}
 

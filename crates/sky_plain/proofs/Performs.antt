@@ -6,24 +6,24 @@ use Rattle.sky_base.specs.Val.{call, out, input, known, refs}
 use Rattle.sky_base.specs.Name.{low, low_desc}
 use Rattle.sky_base.specs.Res.{Object}
 use Rattle.sky_base.specs.Op.{Answer}
-use Rattle.sky_law.specs.Lower.{lower, low_ref}
+use Rattle.sky_base_law.specs.Lower.{lower, low_ref}
 use Rattle.sky_base.specs.See as m
 use Rattle.sky_base.specs.See.{Val, Desc, Job, Around, input_bytes, see}
 use Rattle.sky_base.specs.Needed.{Task, task_of, distinct_refs}
-use Rattle.sky_law.specs.Tasks.{In}
-use Rattle.sky_law.proofs.RefsLow.{refs_low}
-use Rattle.sky_law.proofs.TaskOutputs.{in_distinct_refs}
-use Rattle.sky_rows.specs.Walk.{Row, known_of, number_of, object_at}
-use Rattle.sky_rows.specs.Number.{tag_of, Grown}
+use Rattle.sky_base_law.specs.Tasks.{In}
+use Rattle.sky_base_law.proofs.RefsLow.{refs_low}
+use Rattle.sky_base_law.proofs.TaskOutputs.{in_distinct_refs}
+use Rattle.sky_base_known.specs.Walk.{Row, known_of, number_of, object_at}
+use Rattle.sky_base_known.specs.Number.{tag_of, Grown}
 use Rattle.sky_plain.specs.Stand.{spell, Knows, Puts, Opened, Opens}
-use Rattle.sky_waves.specs.Seen.{Sees, SeenAsKnown}
-use Rattle.sky_perform.proofs.Lowered.{sees_out}
+use Rattle.sky_base_waves.specs.Seen.{Sees, SeenAsKnown}
+use Rattle.sky_base_exec.proofs.Lowered.{sees_out}
 use Rattle.sky_plain.specs.Stage.{AllKnown}
-use Rattle.sky_perform.specs.Perform.{output_of, made}
-use Rattle.sky_perform.specs.Outputs.{OnlyOutputs}
+use Rattle.sky_base_exec.specs.Perform.{output_of, made}
+use Rattle.sky_base_exec.specs.Outputs.{OnlyOutputs}
 use Rattle.sky_plain.proofs.Knows.{SeenNext, SeenAt, learns, learns_one}
 use Rattle.sky_plain.proofs.Chains.{held_ref, opened_at}
-use Rattle.sky_rows.proofs.Numbers.{got_more}
+use Rattle.sky_base_known.proofs.Numbers.{got_more}
 use Rattle.sky_plain.proofs.Stages.{in_map, map_in}
 
 -- ---- rows of executor tasks and of inputs

@@ -6,24 +6,24 @@ use Rattle.sky_base.specs.KitView.{Gives}
 use Rattle.sky_base.specs.Tree.{Script}
 use Rattle.sky_base.specs.Res.{Object}
 use Rattle.sky_base.specs.See.{Job, Answered, Means, slot}
-use Rattle.sky_law.specs.Sound.{RefsOver, SoundOver}
+use Rattle.sky_base_law.specs.Sound.{RefsOver, SoundOver}
 use Rattle.sky_base.specs.declared.fault.Fault.{Fault}
-use Rattle.sky_law.specs.Tasks.{Apart}
+use Rattle.sky_base_law.specs.Tasks.{Apart}
 use Rattle.ciel_json.specs.Around.{json_around}
 use Rattle.ciel_json.proofs.LowLaw.{reads_named, text_named}
 use Rattle.ciel_json.proofs.ReadLaw.{reads_sound}
-use Rattle.sky_rows.specs.Data.{data_of}
-use Rattle.sky_rows.specs.Walk.{Obj}
-use Rattle.sky_rows.specs.Walk.{Row, known_of, number_of, most_rows, learn_to}
-use Rattle.sky_waves.specs.Wave.{Turned, turn_at, last_at}
-use Rattle.sky_waves.proofs.Sounds.{next_sound}
-use Rattle.sky_body.specs.Ran.{Begins}
+use Rattle.sky_base_known.specs.Data.{data_of}
+use Rattle.sky_base_known.specs.Walk.{Obj}
+use Rattle.sky_base_known.specs.Walk.{Row, known_of, number_of, most_rows, learn_to}
+use Rattle.sky_base_waves.specs.Wave.{Turned, turn_at, last_at}
+use Rattle.sky_base_waves.proofs.Sounds.{next_sound}
+use Rattle.sky_plain_body.specs.Ran.{Begins}
 use Rattle.sky_plain.specs.Stand.{Below, Fits, Standing}
 use Rattle.sky_plain.specs.Stage.{Stage, AllKnown}
 use Rattle.sky_plain.specs.Whole.{OpensAll}
 use Rattle.sky_plain.proofs.Fits.{sound_over}
 use Rattle.sky_plain.proofs.Many.{itself}
-use Rattle.sky_rows.proofs.Learn.{full_means}
+use Rattle.sky_base_known.proofs.Learn.{full_means}
 use Rattle.sky_plain.proofs.Stages.{stage_next, stage_end, stage_last, opens_first}
 use Rattle.sky_plain.proofs.Steps.{opens_grow}
 use Rattle.sky_plain.proofs.Called.{Writes, in_val}

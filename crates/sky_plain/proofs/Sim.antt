@@ -3,15 +3,15 @@ use Rattle.std.proofs.Common.{◌≡◌, ℕ, zero, suc, List, [], ◌∷◌, ma
 use Rattle.sky_base.specs.Name.{low_desc}
 use Rattle.sky_base.specs.Res.{Object, End, St, Wait, one_of, all_of, Res, Fin, Tell, Ask}
 use Rattle.sky_base.specs.Read.{ended, Halt, refs_of, see_all, joined, on_seen, halts_seen, acts_seen, outcome, halt, acts}
-use Rattle.sky_law.specs.Lower.{low_ref, low_obj, low_end, low_st, low_wait}
+use Rattle.sky_base_law.specs.Lower.{low_ref, low_obj, low_end, low_st, low_wait}
 use Rattle.sky_base.specs.See.{Desc, Obj, Job, Around, see}
-use Rattle.sky_law.specs.Tasks.{In, made_in}
-use Rattle.sky_law.proofs.LowLaw.{Rel}
+use Rattle.sky_base_law.specs.Tasks.{In, made_in}
+use Rattle.sky_base_law.proofs.LowLaw.{Rel}
 use Rattle.sky_plain.specs.Stand.{spell}
-use Rattle.sky_waves.specs.Seen.{Sees}
-use Rattle.sky_rows.proofs.Learn.{Learned, learned_new}
-use Rattle.sky_rows.specs.Walk as w
-use Rattle.sky_rows.specs.Walk.{Row, is_held, Seen, seen_one, Stop, Walked, learn_to, on_learned, look, walk}
+use Rattle.sky_base_waves.specs.Seen.{Sees}
+use Rattle.sky_base_known.proofs.Learn.{Learned, learned_new}
+use Rattle.sky_base_known.specs.Walk as w
+use Rattle.sky_base_known.specs.Walk.{Row, is_held, Seen, seen_one, Stop, Walked, learn_to, on_learned, look, walk}
 
 module _ (job : Job) (around : Around) (tag : Row → List ℕ) (n : ℕ) where
   -- the run makes what is lowered to this

@@ -6,26 +6,26 @@ use Rattle.sky_base.specs.Val.{ref, refs, call, known, no_pairs, no_vals}
 use Rattle.sky_base.specs.Name.{low}
 use Rattle.sky_base.specs.Op.{Answer}
 use Rattle.sky_base.specs.Res.{Object}
-use Rattle.sky_law.specs.Lower.{lower, low_ref}
+use Rattle.sky_base_law.specs.Lower.{lower, low_ref}
 use Rattle.sky_base.specs.See as m
 use Rattle.sky_base.specs.See.{Val, Desc, Job, Around, Answered, Means, Turn, turn, on_turn, last_turn, round, wave, job_answer, main_call, see, slot}
 use Rattle.sky_base.specs.Needed.{Task, wave_refs, unless_none, only_if, distinct_refs}
-use Rattle.sky_law.specs.Tasks.{In}
-use Rattle.sky_law.proofs.RefsLow.{refs_low}
-use Rattle.sky_law.proofs.SeenLaw.{on, on_either, kept_on, kept_is, see_kept, turn_kept}
-use Rattle.sky_law.proofs.TaskOutputs.{in_distinct_refs}
-use Rattle.sky_rows.specs.Walk.{Row, known_of, number_of}
-use Rattle.sky_rows.specs.Number.{tag_of, Grown}
+use Rattle.sky_base_law.specs.Tasks.{In}
+use Rattle.sky_base_law.proofs.RefsLow.{refs_low}
+use Rattle.sky_base_law.proofs.SeenLaw.{on, on_either, kept_on, kept_is, see_kept, turn_kept}
+use Rattle.sky_base_law.proofs.TaskOutputs.{in_distinct_refs}
+use Rattle.sky_base_known.specs.Walk.{Row, known_of, number_of}
+use Rattle.sky_base_known.specs.Number.{tag_of, Grown}
 use Rattle.sky_plain.specs.Needs.{Waits}
 use Rattle.sky_plain.specs.Stand.{spell, KnownAt, Knows, Opened, Opens}
-use Rattle.sky_waves.specs.Seen.{Sees, SeenAsKnown}
-use Rattle.sky_waves.specs.Wave as wave
-use Rattle.sky_waves.specs.Wave.{Turned, turn_at}
+use Rattle.sky_base_waves.specs.Seen.{Sees, SeenAsKnown}
+use Rattle.sky_base_waves.specs.Wave as wave
+use Rattle.sky_base_waves.specs.Wave.{Turned, turn_at}
 use Rattle.sky_plain.specs.Stage.{Reached, Stage, AllKnown}
-use Rattle.sky_rows.proofs.Numbers.{index_at, got_more}
+use Rattle.sky_base_known.proofs.Numbers.{index_at, got_more}
 use Rattle.sky_plain.proofs.Knows.{grown_back}
 use Rattle.sky_plain.proofs.Chains.{held_ref}
-use Rattle.sky_waves.proofs.Lowered.{low_turn, turn_low}
+use Rattle.sky_base_waves.proofs.Lowered.{low_turn, turn_low}
 
 abbrev blind : Turn
 blind = Turn.ends Answered.not_yet

@@ -7,20 +7,20 @@ use Rattle.sky_base.specs.Val.{Vals, Pairs, no_vals, no_pairs, call, out, input,
 use Rattle.sky_base.specs.Name.{low, low_desc}
 use Rattle.sky_base.specs.Op.{Answer}
 use Rattle.sky_base.specs.Res.{Object}
-use Rattle.sky_law.specs.Lower.{lower, low_ref}
+use Rattle.sky_base_law.specs.Lower.{lower, low_ref}
 use Rattle.sky_base.specs.See.{Val, Desc, Job, Around, main_call, input_bytes}
-use Rattle.sky_law.specs.Tasks.{In, Apart}
-use Rattle.sky_rows.specs.Walk.{Row, known_of, number_of, object_at, learn_to, most_rows}
-use Rattle.sky_rows.specs.Number.{tag_of}
+use Rattle.sky_base_law.specs.Tasks.{In, Apart}
+use Rattle.sky_base_known.specs.Walk.{Row, known_of, number_of, object_at, learn_to, most_rows}
+use Rattle.sky_base_known.specs.Number.{tag_of}
 use Rattle.sky_plain.specs.Needs.{Makes, MakesMany, Chain}
 use Rattle.sky_plain.specs.Stand.{spell, Puts, ReadFits, RowFits, ObjectFits, Fits, Knows, Opened, Opens, Made, Standing}
-use Rattle.sky_body.specs.Stops.{Runs, EndsAs, WaitsFor, IsFull}
+use Rattle.sky_plain_body.specs.Stops.{Runs, EndsAs, WaitsFor, IsFull}
 use Rattle.sky_plain.specs.Stage.{AllKnown}
-use Rattle.sky_perform.specs.Perform.{output_at, output_of, made}
-use Rattle.sky_perform.specs.Outputs.{OnlyOutputs}
-use Rattle.sky_perform.proofs.Withs.{nat_same}
+use Rattle.sky_base_exec.specs.Perform.{output_at, output_of, made}
+use Rattle.sky_base_exec.specs.Outputs.{OnlyOutputs}
+use Rattle.sky_base_exec.proofs.Withs.{nat_same}
 use Rattle.sky_base.specs.declared.fault.Fault.{Fault}
-use Rattle.sky_rows.proofs.Numbers.{got_in, got_more}
+use Rattle.sky_base_known.proofs.Numbers.{got_in, got_more}
 use Rattle.sky_plain.proofs.Knows.{learns_call, grown_back}
 use Rattle.sky_plain.proofs.Holds.{fits_waiting, fits_learning}
 use Rattle.sky_plain.proofs.Chains.{chain_of, opens_more, made_more, made_last}

@@ -2,7 +2,7 @@
 use Rattle.std.specs.Prelude.{◌≡◌, ℕ, zero, suc, List, length, Some, ◌⊎◌}
 use Rattle.sky_base.specs.See.{Desc, Job, Around, main_call}
 use Rattle.sky_base.specs.Needed.{Task, task_of, WaitOf, Needed}
-use Rattle.sky_law.specs.Tasks.{In, Each, Apart, made_in, acts_of}
+use Rattle.sky_base_law.specs.Tasks.{In, Each, Apart, made_in, acts_of}
 
 module _ (job : Job) (around : Around) where
   -- this stands in a wait of the task

@@ -3,9 +3,9 @@ use Rattle.std.specs.Prelude.{◌≡◌, ℕ, suc, ◌+◌, ◌-◌, ◌*◌, �
 use Rattle.sky_base.specs.See.{Desc, Job, Around}
 use Rattle.sky_base.specs.Kept.{Kept}
 use Rattle.sky_base.specs.Val.{Val, list, dict, call, out}
-use Rattle.sky_scope.specs.Plain.{Pairs, Vals}
-use Rattle.sky_rows.specs.Walk.{Obj}
-use Rattle.sky_rows.specs.Walk.{Row, object_at, is_known}
+use Rattle.sky_base_scope.specs.Plain.{Pairs, Vals}
+use Rattle.sky_base_known.specs.Walk.{Obj}
+use Rattle.sky_base_known.specs.Walk.{Row, object_at, is_known}
 use Rattle.sky_plain.specs.Needs.{Chain, MakesMany}
 use Rattle.sky_plain.specs.Stand.{Opens, Standing}
 use Rattle.sky_plain.specs.declared.settle.Step.{Step}

@@ -4,11 +4,11 @@ use Rattle.sky_base.specs.Val as v
 use Rattle.sky_base.specs.Name.{low}
 use Rattle.sky_base.specs.See.{Val, Job, Around, wave, round, job_answer}
 use Rattle.sky_base.specs.Res.{Object}
-use Rattle.sky_law.specs.Tasks.{In}
-use Rattle.sky_law.proofs.SeenLaw.{on}
+use Rattle.sky_base_law.specs.Tasks.{In}
+use Rattle.sky_base_law.proofs.SeenLaw.{on}
 use Rattle.std.specs.Prelude.{Option}
-use Rattle.sky_rows.specs.Walk.{Row, known_of}
-use Rattle.sky_rows.specs.Number.{tag_of, Grown}
+use Rattle.sky_base_known.specs.Walk.{Row, known_of}
+use Rattle.sky_base_known.specs.Number.{tag_of, Grown}
 use Rattle.sky_plain.specs.Stand.{spell}
 
 module _ (job : Job) (around : Around) where

@@ -4,17 +4,17 @@ use Rattle.sky_base.specs.Val.{no_vals, no_pairs, call}
 use Rattle.sky_base.specs.Tree.{Script}
 use Rattle.sky_base.specs.Op.{Answer}
 use Rattle.sky_base.specs.Res.{Object}
-use Rattle.sky_law.specs.Lower.{low_ref}
+use Rattle.sky_base_law.specs.Lower.{low_ref}
 use Rattle.sky_base.specs.See.{Desc, Job, Around}
-use Rattle.sky_law.specs.Sound.{DescOver, SoundOver}
-use Rattle.sky_law.specs.Tasks.{In}
+use Rattle.sky_base_law.specs.Sound.{DescOver, SoundOver}
+use Rattle.sky_base_law.specs.Tasks.{In}
 use Rattle.sky_base.specs.Name.{low_desc}
 use Rattle.sky_base.specs.Needed.{Task, task_of}
-use Rattle.sky_body.specs.Stops.{end_object}
+use Rattle.sky_plain_body.specs.Stops.{end_object}
 use Rattle.sky_plain.specs.Needs.{Waits, Makes}
-use Rattle.sky_rows.specs.Walk.{Row, Stop, known_of, object_at, number_of}
-use Rattle.sky_rows.specs.Number.{tag_of, Grown}
-use Rattle.sky_waves.specs.Seen.{Sees}
+use Rattle.sky_base_known.specs.Walk.{Row, Stop, known_of, object_at, number_of}
+use Rattle.sky_base_known.specs.Number.{tag_of, Grown}
+use Rattle.sky_base_waves.specs.Seen.{Sees}
 
 -- no name stands inside a described value, so nothing needs spelling
 abbrev pub spell : ⊥ → List ℕ

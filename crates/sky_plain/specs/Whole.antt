@@ -2,9 +2,9 @@
 use Rattle.std.specs.Prelude.{◌≡◌, ◌<◌, ◌≤◌, ℕ, List, [], ◌∷◌, length, Option}
 use Rattle.sky_base.specs.Val.{known}
 use Rattle.sky_base.specs.See.{Desc, Job, Around, Answered, Means}
-use Rattle.sky_law.specs.Tasks.{In}
-use Rattle.sky_rows.specs.Walk.{Obj}
-use Rattle.sky_rows.specs.Walk.{Row, number_of, most_rows}
+use Rattle.sky_base_law.specs.Tasks.{In}
+use Rattle.sky_base_known.specs.Walk.{Obj}
+use Rattle.sky_base_known.specs.Walk.{Row, number_of, most_rows}
 use Rattle.sky_plain.specs.Needs.{Chain, MakesMany}
 use Rattle.sky_plain.specs.Stand.{Opens, Standing}
 use Rattle.sky_plain.specs.Stage.{AllKnown}

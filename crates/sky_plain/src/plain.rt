@@ -6,7 +6,7 @@ ghost use Rattle.sky_base.specs.Val.{refs};
 ghost use Rattle.sky_base.specs.View.{view};
 ghost use Rattle.ciel_json.specs.Around.{json_around};
 ghost use Rattle.sky_plain.specs.Stand.{Standing};
-ghost use Rattle.sky_body.specs.Ran.{Begins};
+ghost use Rattle.sky_plain_body.specs.Ran.{Begins};
 ghost use Rattle.sky_plain.specs.Whole.{OpensAll, GatheredSo, AnswersSo};
 
 use crate::settle::{Settled, settle, unknown};
@@ -16,11 +16,11 @@ use sky_base::kit::Kit;
 use sky_base::object::Desc1;
 use sky_base::text::{Bytes, Memory, Txt};
 use sky_base::value::{Pairs, Vals, Value};
-use sky_rows::objects::{Objects, number_of, slot};
-use sky_rows::rows::Rows;
-use sky_scope::places::Places;
-use sky_scope::program::Program;
-use sky_waves::wave::{Turned, last_turn, turn};
+use sky_base_known::objects::{Objects, number_of, slot};
+use sky_base_known::rows::Rows;
+use sky_base_scope::places::Places;
+use sky_base_scope::program::Program;
+use sky_base_waves::wave::{Turned, last_turn, turn};
 use std::alloc::Global;
 
 /// How a sequential run of a job ends.

@@ -7,13 +7,13 @@ ghost use Rattle.sky_base.specs.JobView.{job_view};
 ghost use Rattle.sky_base.specs.See.{input_bytes};
 ghost use Rattle.ciel_json.specs.Around.{json_around};
 ghost use Rattle.sky_plain.specs.Stand.{Opens, Standing};
-ghost use Rattle.sky_body.specs.Ran.{Begins};
+ghost use Rattle.sky_plain_body.specs.Ran.{Begins};
 ghost use Rattle.sky_plain.specs.Settle.{ArgsKept, CallsKept, Steps, SettledSo};
 ghost use Rattle.sky_base.specs.Kept.{Kept};
 ghost use Rattle.sky_base.specs.Val.{list, dict, call, out, input, known, refs};
 ghost use Rattle.sky_base.specs.View.{view};
-ghost use Rattle.sky_law.specs.Tasks.{In};
-ghost use Rattle.sky_rows.specs.Walk.{known_of};
+ghost use Rattle.sky_base_law.specs.Tasks.{In};
+ghost use Rattle.sky_base_known.specs.Walk.{known_of};
 ghost use Rattle.sky_plain.specs.Stage.{AllKnown};
 
 use crate::stack::Stack;
@@ -23,12 +23,12 @@ use sky_base::name::Name;
 use sky_base::object::{Desc1, Object};
 use sky_base::text::{Bytes, Memory, Txt};
 use sky_base::value::{Pairs, Vals, Value};
-use sky_body::run::{Ran, run_call};
-use sky_perform::outputs::tell;
-use sky_perform::task::perform;
-use sky_rows::objects::{Objects, number_of};
-use sky_rows::rows::Rows;
-use sky_scope::program::Program;
+use sky_base_exec::outputs::tell;
+use sky_base_exec::task::perform;
+use sky_base_known::objects::{Objects, number_of};
+use sky_base_known::rows::Rows;
+use sky_base_scope::program::Program;
+use sky_plain_body::run::{Ran, run_call};
 use std::alloc::Global;
 
 /// What a step comes to.

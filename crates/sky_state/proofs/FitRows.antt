@@ -4,9 +4,9 @@ use Rattle.sky_base.specs.Val.{Val, Pairs, null, num, list, ref, no_vals, val, n
 use Rattle.sky_base.specs.Tree.{Oper, Sign, Form, Exp, Exps, Steps, Stm, Arms, Else, Script}
 use Rattle.sky_base.specs.Res.{visits, others, bodies}
 use Rattle.sky_base.specs.Read.{Todo, Frame, Run}
-use Rattle.sky_law.specs.Sound.{Sound}
-use Rattle.sky_law.specs.Tasks.{In}
-use Rattle.sky_law.proofs.Rows.{at, n, t, b, name, block, form, op, with_fun, star, squares_row, waiting_exec_row}
+use Rattle.sky_base_law.specs.Sound.{Sound}
+use Rattle.sky_base_law.specs.Tasks.{In}
+use Rattle.sky_base_law.proofs.Rows.{at, n, t, b, name, block, form, op, with_fun, star, squares_row, waiting_exec_row}
 use Rattle.sky_state.specs.Table.{part, pending, no_step, IsWaiting}
 use Rattle.sky_state.specs.Table as table
 use Rattle.sky_state.specs.Fits.{row_of, FitsFrame, FitsRun, IsStart, Last, Fits}

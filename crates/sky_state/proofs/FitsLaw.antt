@@ -12,28 +12,28 @@ use Rattle.sky_base.specs.Eval.{World, Body, bind, body_of}
 use Rattle.sky_base.specs.Read.{Halt, see_all, refs_of, halts_seen, halt, frames_of, run_of_halt}
 use Rattle.sky_base.specs.See.{Val, Vals, Pairs, Desc, Job, Around, see, run_of, world_of, start_st, wave, main_call}
 use Rattle.sky_base.specs.Needed.{Task, State, StandsAt, WaitOf, halt_state, start_frame, wave_state, distinct_refs, wave_refs, unless_none, only_if}
-use Rattle.sky_law.specs.Lower.{low_ref, low_run}
-use Rattle.sky_law.specs.NamesLaws.{Tag, no_name}
-use Rattle.sky_law.specs.Opened.{Node}
-use Rattle.sky_law.specs.Nodes.{node_at}
-use Rattle.sky_law.specs.Sound.{ValsSound, PairsSound, SoundDesc, Sound, SoundVars, SoundState, SoundReads, SoundTask}
-use Rattle.sky_law.proofs.BoundLaw.{task_open}
-use Rattle.sky_law.proofs.CountLaw.{climbs_call, Enough, enough}
-use Rattle.sky_law.proofs.NodesLaw.{has_script}
-use Rattle.sky_law.proofs.FormsLaw.{Within, inner}
-use Rattle.sky_law.proofs.Low.{bind_low}
-use Rattle.sky_law.proofs.RefsLow.{refs_low}
-use Rattle.sky_law.proofs.SeenLaw.{stands_one}
-use Rattle.sky_law.proofs.SoundJobs.{stands_sound, wave_sound}
+use Rattle.sky_base_law.specs.Lower.{low_ref, low_run}
+use Rattle.sky_base_law.specs.NamesLaws.{Tag, no_name}
+use Rattle.sky_base_law.specs.Opened.{Node}
+use Rattle.sky_base_law.specs.Nodes.{node_at}
+use Rattle.sky_base_law.specs.Sound.{ValsSound, PairsSound, SoundDesc, Sound, SoundVars, SoundState, SoundReads, SoundTask}
+use Rattle.sky_base_law.proofs.BoundLaw.{task_open}
+use Rattle.sky_base_law.proofs.CountLaw.{climbs_call, Enough, enough}
+use Rattle.sky_base_law.proofs.NodesLaw.{has_script}
+use Rattle.sky_base_law.proofs.FormsLaw.{Within, inner}
+use Rattle.sky_base_law.proofs.Low.{bind_low}
+use Rattle.sky_base_law.proofs.RefsLow.{refs_low}
+use Rattle.sky_base_law.proofs.SeenLaw.{stands_one}
+use Rattle.sky_base_law.proofs.SoundJobs.{stands_sound, wave_sound}
 use Rattle.sky_state.specs.Stand.{Stand, low_state}
 use Rattle.sky_state.specs.Fits.{FitsRun, FitsShow, Fits}
 use Rattle.sky_state.specs.Start.{StartsIn, StartsCall, SoundVals, CanStart}
 use Rattle.sky_state.specs.Stands.{Stands, StandsForCall, StandsForShow}
 use Rattle.sky_state.specs.Chained.{body_places, Chained}
 use Rattle.sky_state.proofs.LinkLaw.{Linked, linked_call}
-use Rattle.sky_law.proofs.SoundLow.{sound_low, vars_low, call_low}
-use Rattle.sky_law.proofs.SoundOps.{caught_kept}
-use Rattle.sky_law.proofs.Lists.{some_is, none_some}
+use Rattle.sky_base_law.proofs.SoundLow.{sound_low, vars_low, call_low}
+use Rattle.sky_base_law.proofs.SoundOps.{caught_kept}
+use Rattle.sky_base_law.proofs.Lists.{some_is, none_some}
 use Rattle.sky_state.proofs.Starts.{starts_fit}
 use Rattle.sky_state.proofs.SavedLaw.{saved_fits, fits_low}
 

@@ -13,20 +13,20 @@ use Rattle.sky_base.specs.Read.{Halt, Todo, Frame, refs_of, halt, todo_of, in_fr
 use Rattle.sky_base.specs.See.{Val, Vals, Pairs, Desc, Job, Around, see, run_of, world_of, start_st, wave, main_call}
 use Rattle.sky_base.specs.Needed.{Task, State, StandsAt, WaitOf, halt_state, halt_refs, start_frame, wave_state, distinct_refs, wave_refs}
 use Rattle.sky_base.specs.Needed.{unless_none, only_if}
-use Rattle.sky_law.specs.Lower.{low_ref, low_frame}
-use Rattle.sky_law.specs.NamesLaws.{Tag, no_name, NoClash}
-use Rattle.sky_law.specs.Opened.{Node}
-use Rattle.sky_law.specs.Nodes.{node_at}
-use Rattle.sky_law.specs.Tasks.{In, Apart, vals_held, frames_held, held, HeldAt}
-use Rattle.sky_law.proofs.BoundLaw.{Any, Made, any_halt}
-use Rattle.sky_law.proofs.FineLaw.{waiting, Waits}
-use Rattle.sky_law.proofs.NodesLaw.{has_script}
-use Rattle.sky_law.proofs.RefsLow.{refs_low, pairs_refs_low, distinct_low}
-use Rattle.sky_law.proofs.SeenLaw.{stands_one, wait_one}
-use Rattle.sky_law.proofs.TaskFuel.{held_one}
-use Rattle.sky_law.proofs.TaskOutputs.{apart_refs, distinct_apart, distinct_refs_in, in_distinct}
+use Rattle.sky_base_law.specs.Lower.{low_ref, low_frame}
+use Rattle.sky_base_law.specs.NamesLaws.{Tag, no_name, NoClash}
+use Rattle.sky_base_law.specs.Opened.{Node}
+use Rattle.sky_base_law.specs.Nodes.{node_at}
+use Rattle.sky_base_law.specs.Tasks.{In, Apart, vals_held, frames_held, held, HeldAt}
+use Rattle.sky_base_law.proofs.BoundLaw.{Any, Made, any_halt}
+use Rattle.sky_base_law.proofs.FineLaw.{waiting, Waits}
+use Rattle.sky_base_law.proofs.NodesLaw.{has_script}
+use Rattle.sky_base_law.proofs.RefsLow.{refs_low, pairs_refs_low, distinct_low}
+use Rattle.sky_base_law.proofs.SeenLaw.{stands_one, wait_one}
+use Rattle.sky_base_law.proofs.TaskFuel.{held_one}
+use Rattle.sky_base_law.proofs.TaskOutputs.{apart_refs, distinct_apart, distinct_refs_in, in_distinct}
 use Rattle.sky_base.proofs.Exact.{exact_text, self_text}
-use Rattle.sky_law.proofs.Lists.{some_is, none_some}
+use Rattle.sky_base_law.proofs.Lists.{some_is, none_some}
 use Rattle.sky_state.specs.Stand.{Stand, low_state}
 use Rattle.sky_state.specs.Stands.{Stands}
 use Rattle.sky_state.specs.Table.{Row, part, turn, star, outputs, open_call, no_step}

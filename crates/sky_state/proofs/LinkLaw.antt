@@ -16,13 +16,13 @@ use Rattle.sky_base.specs.Eval.{joins, add_to, put_in, turns, repeats, each, eac
 use Rattle.sky_base.specs.Eval.{spawn_fun, spawn_list, spawned, outputs_if, outputs_count, outputs_of, exec_ask, input_if, input_of, formed, deref}
 use Rattle.sky_base.specs.Eval.{signed, signs, call_if, call_fun, called, enter, eval, eval_parts, eval_links, eval_ands, eval_steps, eval_args}
 use Rattle.sky_base.specs.Eval.{eval_stm, eval_stms, eval_arms, eval_else, in_body, body_at}
-use Rattle.sky_law.specs.Opened.{Node, exp_node, stm_node, block_node, HasExp, HasExps, HasLinks, HasAnds, HasSteps, HasStm, HasStms, HasArms}
-use Rattle.sky_law.specs.Opened.{HasElse, HasScript}
-use Rattle.sky_law.specs.Nodes.{node_at}
-use Rattle.sky_law.specs.Tasks.{In}
-use Rattle.sky_law.proofs.BodiesLaw.{HasBody, has_body, body_stands}
-use Rattle.sky_law.specs.Sound.{IsFun}
-use Rattle.sky_law.proofs.Lists.{length_push, up_two}
+use Rattle.sky_base_law.specs.Opened.{Node, exp_node, stm_node, block_node, HasExp, HasExps, HasLinks, HasAnds, HasSteps, HasStm, HasStms, HasArms}
+use Rattle.sky_base_law.specs.Opened.{HasElse, HasScript}
+use Rattle.sky_base_law.specs.Nodes.{node_at}
+use Rattle.sky_base_law.specs.Tasks.{In}
+use Rattle.sky_base_law.proofs.BodiesLaw.{HasBody, has_body, body_stands}
+use Rattle.sky_base_law.specs.Sound.{IsFun}
+use Rattle.sky_base_law.proofs.Lists.{length_push, up_two}
 use Rattle.sky_state.specs.Table.{Row, part, pending, turn, open_call, on_by, past_part, past_link, past_and, past_arm, past_stm, past_sign, Spot}
 use Rattle.sky_state.specs.Table.{in_index, in_call, spot_of, past_spot, part_row, link_row, and_row, sign_row, spot_row, exp_row, arm_row}
 use Rattle.sky_state.specs.Table.{arm_blocks, else_block, stm_row, stm_places, ran_row, block_row, row}

@@ -3,8 +3,8 @@ use Rattle.std.proofs.Common.{ℕ, List, [], ◌∷◌, map, take, drop, sym, su
 use Rattle.std.proofs.lemmas.List.{take-map, drop-map}
 use Rattle.sky_base.specs.Val.{Val, Vals, Desc, null, truth, num, text, list, dict, fun, ref, no_vals, val, count}
 use Rattle.sky_base.specs.Name.{low, low_vals}
-use Rattle.sky_law.specs.Tasks.{Each}
-use Rattle.sky_law.proofs.Low.{count_low}
+use Rattle.sky_base_law.specs.Tasks.{Each}
+use Rattle.sky_base_law.proofs.Low.{count_low}
 use Rattle.sky_state.specs.Table.{Row, part, turn, star, outputs, open_call, no_step, keeps}
 use Rattle.sky_state.specs.Fits.{IsList, IsNumber, IsReference, AllReferences, IsListOfReferences, One, Two, OfKinds, UpTo, UpToLength, TakenFrom}
 use Rattle.sky_state.specs.Fits.{shares}

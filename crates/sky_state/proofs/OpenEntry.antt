@@ -8,10 +8,10 @@ use Rattle.sky_base.specs.Tree.{block_nodes, arms_nodes}
 use Rattle.sky_base.specs.Res.{Entry, parens_in, part_at, chain_first, chain_more, logic_at, prefix_part, star_wait, postfix_first, index_at, arg_at}
 use Rattle.sky_base.specs.Res.{call_open, exec_wait, set_part, add_part, put_index, put_value, return_part, just_part, arm_test, while_test}
 use Rattle.sky_base.specs.Res.{while_body, repeat_body, repeat_test, for_list, for_body, block_at, node_of, step_of, kept_of, opens}
-use Rattle.sky_law.specs.Opened.{Node, exp_node, stm_node, block_node, next_part, next_link, next_and, next_arm, next_stm, Pos, enter_pos, next_pos}
-use Rattle.sky_law.specs.Opened.{times, next_sign, descs_of, part_open, link_open, and_open, sign_open, pos_open, arm_open, stms_open, opened}
-use Rattle.sky_law.specs.Opened as place
-use Rattle.sky_law.proofs.Lists.{some_is, none_some}
+use Rattle.sky_base_law.specs.Opened.{Node, exp_node, stm_node, block_node, next_part, next_link, next_and, next_arm, next_stm, Pos, enter_pos, next_pos}
+use Rattle.sky_base_law.specs.Opened.{times, next_sign, descs_of, part_open, link_open, and_open, sign_open, pos_open, arm_open, stms_open, opened}
+use Rattle.sky_base_law.specs.Opened as place
+use Rattle.sky_base_law.proofs.Lists.{some_is, none_some}
 use Rattle.sky_state.specs.Table.{Row, part, pending, turn, star, outputs, open_call, no_step, on_by, past_part, past_link, past_and, past_arm}
 use Rattle.sky_state.specs.Table.{past_stm, past_sign, Spot, finished, in_index, in_call, spot_of, past_spot, part_row, link_row, and_row, sign_is}
 use Rattle.sky_state.specs.Table.{sign_row, spot_row, exp_row, arm_row, stm_row, ran_row, block_row, row, IsStep}

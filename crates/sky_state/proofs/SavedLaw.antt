@@ -7,14 +7,14 @@ use Rattle.sky_base.specs.Tree.{Script}
 use Rattle.sky_base.specs.Res.{bodies, visits}
 use Rattle.sky_base.specs.Eval.{body_of}
 use Rattle.sky_base.specs.Read.{Halt, Frame, Run, run_of_halt}
-use Rattle.sky_law.specs.Lower.{low_frame, low_run}
-use Rattle.sky_law.specs.Nodes.{node_at}
-use Rattle.sky_law.specs.Sound.{IsFun, SoundFrame}
-use Rattle.sky_law.specs.Tasks.{Each}
+use Rattle.sky_base_law.specs.Lower.{low_frame, low_run}
+use Rattle.sky_base_law.specs.Nodes.{node_at}
+use Rattle.sky_base_law.specs.Sound.{IsFun, SoundFrame}
+use Rattle.sky_base_law.specs.Tasks.{Each}
 use Rattle.sky_state.specs.Fits.{Last, Before, row_of, FitsFrame, FunsOf, IsStart, FitsRun}
 use Rattle.sky_state.specs.Table.{IsOpenCall, IsWaiting}
 use Rattle.sky_state.specs.Chained.{body_places, Chained}
-use Rattle.sky_law.proofs.SoundLow.{vars_low, stack_low}
+use Rattle.sky_base_law.proofs.SoundLow.{vars_low, stack_low}
 use Rattle.sky_state.proofs.LowFits.{shares_kinds_low, shares_taken_low}
 use Rattle.sky_state.proofs.StackLaw.{FirstIn, Laid, Called, LaidAll, Stacked, stacked, on_body}
 

@@ -8,9 +8,9 @@ use Rattle.sky_base.specs.Tree.{Script}
 use Rattle.sky_base.specs.Res.{Entry, kept_of, opens}
 use Rattle.sky_base.specs.Eval.{Body, body_of}
 use Rattle.sky_base.specs.Read.{Todo, Frame, todo_of, in_front, frame_of, frames_of}
-use Rattle.sky_law.specs.Nodes.{node_at}
-use Rattle.sky_law.specs.Tasks.{In, Each}
-use Rattle.sky_law.specs.Sound.{IsFun}
+use Rattle.sky_base_law.specs.Nodes.{node_at}
+use Rattle.sky_base_law.specs.Tasks.{In, Each}
+use Rattle.sky_base_law.specs.Sound.{IsFun}
 use Rattle.sky_state.specs.Table.{Row, part, turn, star, outputs, open_call, no_step, keeps, places, IsStep, IsOpenCall, IsWaiting}
 use Rattle.sky_state.specs.Fits.{OfKinds, TakenFrom, shares, Last, Before, row_of, OnBody, Parts, kept_in_all}
 use Rattle.sky_state.specs.Chained.{body_places, KeptBy, Above, Chained}

@@ -10,9 +10,9 @@ use Rattle.sky_base.specs.Tree.{FunDef, Script, block_nodes}
 use Rattle.sky_base.specs.Eval.{find_fun, find_fun_if, Body, find_body, find_body_if, body_of, bind}
 use Rattle.sky_base.specs.Read.{Frame, Run}
 use Rattle.sky_base.proofs.Keys.{same_key}
-use Rattle.sky_law.specs.Tasks.{In, Each}
-use Rattle.sky_law.specs.Sound.{IsFun, AllUsed, IsMain, CallsIf, Sound, SoundVars}
-use Rattle.sky_law.proofs.Lists.{some_is}
+use Rattle.sky_base_law.specs.Tasks.{In, Each}
+use Rattle.sky_base_law.specs.Sound.{IsFun, AllUsed, IsMain, CallsIf, Sound, SoundVars}
+use Rattle.sky_base_law.proofs.Lists.{some_is}
 use Rattle.sky_state.specs.Table.{part, row, keeps, IsStep}
 use Rattle.sky_state.specs.Fits.{row_of, OnBody, OfKinds, TakenFrom, kept_in_all, uses_of, KeysFrom, HasKey, StartVars, IsStart, FitsFrame, FitsRun}
 use Rattle.sky_state.specs.Start.{SoundVals, CanStart}

@@ -4,7 +4,7 @@ use Rattle.sky_base.specs.Val.{Vals, Pairs, same_text}
 use Rattle.sky_base.specs.Tree.{FunDef, Script, block_nodes}
 use Rattle.sky_base.specs.Eval.{find_fun, find_fun_if, Body, find_body, find_body_if, body_of, bind}
 use Rattle.sky_base.specs.Read.{Run}
-use Rattle.sky_law.specs.Sound.{IsMain, CallsIf}
+use Rattle.sky_base_law.specs.Sound.{IsMain, CallsIf}
 use Rattle.sky_state.specs.Stand.{Stand}
 use Rattle.sky_state.specs.Start.{StartsIn, StartsCall, CanStart}
 use Rattle.sky_state.specs.Fits.{Fits}

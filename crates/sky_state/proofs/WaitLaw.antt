@@ -5,8 +5,8 @@ use Rattle.sky_base.specs.Needed as n
 use Rattle.sky_base.specs.Needed.{StandsAt}
 use Rattle.sky_base.specs.Read.{run_of_halt}
 use Rattle.sky_base.specs.See as s
-use Rattle.sky_law.specs.NamesLaws.{Tag}
-use Rattle.sky_law.proofs.Lists.{some_is, none_some}
+use Rattle.sky_base_law.specs.NamesLaws.{Tag}
+use Rattle.sky_base_law.proofs.Lists.{some_is, none_some}
 use Rattle.sky_state.specs.Pending.{stand_wait}
 use Rattle.sky_state.specs.Stand.{Stand, low_state}
 use Rattle.sky_state.specs.Stands.{Stands}

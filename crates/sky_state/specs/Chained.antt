@@ -6,10 +6,10 @@ use Rattle.sky_base.specs.Tree.{Script}
 use Rattle.sky_base.specs.Res.{Entry, node_of, step_of, kept_of, opens}
 use Rattle.sky_base.specs.Eval.{Body, body_of}
 use Rattle.sky_base.specs.Read.{Frame, frames_of}
-use Rattle.sky_law.specs.Opened.{Node, Opened}
-use Rattle.sky_law.specs.Nodes.{node_at}
-use Rattle.sky_law.specs.Tasks.{In}
-use Rattle.sky_law.specs.Sound.{IsFun}
+use Rattle.sky_base_law.specs.Opened.{Node, Opened}
+use Rattle.sky_base_law.specs.Nodes.{node_at}
+use Rattle.sky_base_law.specs.Tasks.{In}
+use Rattle.sky_base_law.specs.Sound.{IsFun}
 use Rattle.sky_state.specs.Table.{Row, part, turn, star, outputs, open_call, row, keeps}
 use Rattle.sky_state.specs.Fits.{OfKinds, TakenFrom}
 

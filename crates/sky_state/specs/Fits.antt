@@ -6,9 +6,9 @@ use Rattle.sky_base.specs.Res.{visits, bodies}
 use Rattle.sky_base.specs.Eval.{find_fun, is_one_of, Body, body_of}
 use Rattle.sky_base.specs.Read.{Todo, Frame, Run}
 use Rattle.sky_base.specs.See.{most_waves}
-use Rattle.sky_law.specs.Nodes.{node_at}
-use Rattle.sky_law.specs.Tasks.{In, Each}
-use Rattle.sky_law.specs.Sound.{IsFun, Sound, SoundVars}
+use Rattle.sky_base_law.specs.Nodes.{node_at}
+use Rattle.sky_base_law.specs.Tasks.{In, Each}
+use Rattle.sky_base_law.specs.Sound.{IsFun, Sound, SoundVars}
 use Rattle.sky_state.specs.Stand.{Stand}
 use Rattle.sky_state.specs.Table.{Row, turn, star, outputs, row, keeps, places, IsStep, IsOpenCall, IsWaiting}
 

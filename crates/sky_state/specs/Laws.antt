@@ -9,11 +9,11 @@ use Rattle.sky_base.specs.Eval.{body_of}
 use Rattle.sky_base.specs.Read.{Halt, Run, run_of_halt}
 use Rattle.sky_base.specs.See.{Vals, Pairs, Desc, Job, Around, main_call}
 use Rattle.sky_base.specs.Needed.{Task, WaitOf}
-use Rattle.sky_law.specs.Lower.{low_ref}
-use Rattle.sky_law.specs.NamesLaws.{Tag, no_name, NoClash}
-use Rattle.sky_law.specs.Nodes.{node_at}
-use Rattle.sky_law.specs.Sound.{SoundFrame, SoundReads, SoundTask}
-use Rattle.sky_law.specs.Tasks.{Each, HeldAt}
+use Rattle.sky_base_law.specs.Lower.{low_ref}
+use Rattle.sky_base_law.specs.NamesLaws.{Tag, no_name, NoClash}
+use Rattle.sky_base_law.specs.Nodes.{node_at}
+use Rattle.sky_base_law.specs.Sound.{SoundFrame, SoundReads, SoundTask}
+use Rattle.sky_base_law.specs.Tasks.{Each, HeldAt}
 use Rattle.sky_state.specs.Stand.{Stand}
 use Rattle.sky_state.specs.Start.{StartsCall}
 use Rattle.sky_state.specs.Stands.{Stands, Next}

@@ -5,8 +5,8 @@ use Rattle.sky_base.specs.Val.{Val}
 use Rattle.sky_base.specs.Read.{Run}
 use Rattle.sky_base.specs.Needed.{State}
 use Rattle.sky_base.specs.Name.{low}
-use Rattle.sky_law.specs.Lower.{low_run}
-use Rattle.sky_law.specs.NamesLaws.{Tag, no_name}
+use Rattle.sky_base_law.specs.Lower.{low_run}
+use Rattle.sky_base_law.specs.NamesLaws.{Tag, no_name}
 
 pub data Stand (N : Type 0) : Type 0 where
   run : Run N → Stand N

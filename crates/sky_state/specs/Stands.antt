@@ -6,8 +6,8 @@ use Rattle.sky_base.specs.Name.{low_vals, low_pairs, name}
 use Rattle.sky_base.specs.Tree.{Script}
 use Rattle.sky_base.specs.See.{Vals, Pairs, Desc, Job, Around, main_call}
 use Rattle.sky_base.specs.Needed.{Task, State, StandsAt}
-use Rattle.sky_law.specs.NamesLaws.{Tag, no_name}
-use Rattle.sky_law.specs.Tasks.{NextWait, NextEnd}
+use Rattle.sky_base_law.specs.NamesLaws.{Tag, no_name}
+use Rattle.sky_base_law.specs.Tasks.{NextWait, NextEnd}
 use Rattle.sky_state.specs.Stand.{Stand, low_state}
 
 module _ (job : Job) (around : Around) where

@@ -3,7 +3,7 @@ use Rattle.std.specs.Prelude.{◌≡◌, ℕ, List, [], ◌∷◌, Option, Some,
 use Rattle.sky_base.specs.Val.{Vals, Pairs, no_vals, val}
 use Rattle.sky_base.specs.Tree.{Script}
 use Rattle.sky_base.specs.Eval.{Body, bind, body_of, find_fun}
-use Rattle.sky_law.specs.Sound.{IsMain, CallsIf, Sound, SoundVars}
+use Rattle.sky_base_law.specs.Sound.{IsMain, CallsIf, Sound, SoundVars}
 use Rattle.sky_state.specs.Stand.{Stand}
 
 module _ {N : Type 0} where

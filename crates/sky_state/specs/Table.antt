@@ -3,7 +3,7 @@ use Rattle.std.specs.Prelude.{ℕ, zero, suc, ◌+◌, List, [], ◌∷◌, ◌+
 use Rattle.std.specs.Option.{option_and_then}
 use Rattle.sky_base.specs.Tree.{Place, Sign, SignAt, Form, Exp, Exps, Links, Ands, Steps, Stm, Stms, Arms, Else, nodes, stm_nodes, block_nodes}
 use Rattle.sky_base.specs.Tree.{arms_nodes}
-use Rattle.sky_law.specs.Opened.{Node, exp_node, stm_node, block_node}
+use Rattle.sky_base_law.specs.Opened.{Node, exp_node, stm_node, block_node}
 
 pub data Row : Type 0 where
   -- one of these nodes is pending or runs; so many values are kept, of any kind

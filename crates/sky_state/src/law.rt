@@ -1,6 +1,6 @@
 // Laws of states. Each is the contract of a function that does nothing.
 
-ghost use Rattle.sky_law.specs.NamesLaws.{Tag};
+ghost use Rattle.sky_base_law.specs.NamesLaws.{Tag};
 ghost use Rattle.sky_state.specs.Laws.{OneNext, StackIsSaved, StackOpens, StandsFits, StandsHolds, StandsPending, StartOfCall, StartOfShow};
 
 /// The start of a call stands for the call at its start, and the start of the root task for the root task.

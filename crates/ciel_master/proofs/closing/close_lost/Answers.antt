@@ -1,6 +1,6 @@
 use Rattle.std.proofs.Common.{◌≡◌, map, filter, not, Some, ap, sym, ◌∙◌}
 use Rattle.std.specs.Option.{option_map}
-use Rattle.ciel_board.specs.Board.{tasks_out}
+use Rattle.ciel_master_board.specs.Board.{tasks_out}
 use Rattle.ciel_want.specs.Waited.{same_id}
 use Rattle.ciel_master.specs.Orders.{worker_order}
 use Rattle.ciel_master.specs.Views.{kept_view}

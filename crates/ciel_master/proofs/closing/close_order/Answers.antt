@@ -1,5 +1,5 @@
 use Rattle.std.proofs.Common.{map, filter, not, ap, sym, ◌∙◌}
-use Rattle.ciel_board.specs.Board.{tasks_out}
+use Rattle.ciel_master_board.specs.Board.{tasks_out}
 use Rattle.ciel_want.specs.Waited.{same_id}
 use Rattle.ciel_master.specs.Views.{kept_view}
 use Rattle.ciel_master.proofs.Stays.{closed_tasks}

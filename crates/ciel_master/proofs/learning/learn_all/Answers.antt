@@ -1,9 +1,9 @@
 -- What is refused first of the rest is what is refused first of all, and what comes before it there comes before it here.
 use Rattle.std.proofs.Common.{◌≡◌, ◌+◌, ◌∷◌, drop, sym, ap, ◌∙◌, subst}
 use Rattle.std.proofs.lemmas.List.{drop_more}
-use Rattle.ciel_board.specs.Reports.{AllLearned, learned_all}
-use Rattle.ciel_ready.specs.Seen.{ReadySeen, with_table}
-use Rattle.ciel_task.specs.Views.{P}
+use Rattle.ciel_master_board.specs.Reports.{AllLearned, learned_all}
+use Rattle.ciel_want_ready.specs.Seen.{ReadySeen, with_table}
+use Rattle.ciel_task_order.specs.Views.{P}
 use Rattle.ciel_master.specs.Refusals.{FirstStops, UnlessMemory, learned_before}
 use Rattle.ciel_master.proofs.Steps.{more_before, none_before, refused_so, stops_here, stops_later, unless_more}
 use Rattle.ciel_master.proofs.learning.learn_all.Goals as goal

@@ -1,6 +1,6 @@
 use Rattle.std.proofs.Common.{◌≡◌, drop}
-use Rattle.ciel_board.specs.Reports.{AllLearned, learned_all}
-use Rattle.ciel_ready.specs.Seen.{with_table}
+use Rattle.ciel_master_board.specs.Reports.{AllLearned, learned_all}
+use Rattle.ciel_want_ready.specs.Seen.{with_table}
 use Rattle.ciel_master.specs.Refusals.{FirstStops, learned_before}
 use Rattle.ciel_master.specs.declared.stop.Stop.{Stop}
 use Rattle.ciel_master.proofs.learning.learn_all.Given as goal

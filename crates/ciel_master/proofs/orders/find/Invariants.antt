@@ -1,6 +1,6 @@
 use Rattle.std.proofs.Common.{◌≡◌, ◌≤◌, length, drop, map}
 use Rattle.std.specs.Option.{option_map}
-use Rattle.ciel_board.specs.Board.{find_order}
+use Rattle.ciel_master_board.specs.Board.{find_order}
 use Rattle.ciel_master.specs.Views.{kept_view}
 use Rattle.ciel_master.proofs.orders.find.Given as goal
 

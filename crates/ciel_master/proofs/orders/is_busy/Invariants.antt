@@ -1,6 +1,6 @@
 use Rattle.std.proofs.Common.{◌≡◌, ◌≤◌, length, drop, map, nat_eq}
 use Rattle.std.specs.List.{list_any}
-use Rattle.ciel_board.specs.Board.{workers_out}
+use Rattle.ciel_master_board.specs.Board.{workers_out}
 use Rattle.ciel_master.specs.Views.{kept_view}
 use Rattle.ciel_master.proofs.orders.is_busy.Given as goal
 

@@ -1,5 +1,5 @@
 use Rattle.std.proofs.Common.{◌≡◌, ◌++◌, drop, map}
-use Rattle.ciel_board.specs.Board.{workers_out}
+use Rattle.ciel_master_board.specs.Board.{workers_out}
 use Rattle.ciel_master.specs.Views.{kept_view}
 use Rattle.ciel_master.proofs.orders.workers.Given as goal
 

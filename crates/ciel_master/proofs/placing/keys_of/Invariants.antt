@@ -1,6 +1,6 @@
 use Rattle.std.proofs.Common.{◌≡◌, ◌++◌, drop, map}
-use Rattle.ciel_board.specs.Reports.{made_keys}
-use Rattle.ciel_task.specs.Views.{output_view}
+use Rattle.ciel_master_board.specs.Reports.{made_keys}
+use Rattle.ciel_task_order.specs.Views.{output_view}
 use Rattle.ciel_master.proofs.placing.keys_of.Given as goal
 
 abbrev pub invariant-loop-i : goal.invariant-loop-i

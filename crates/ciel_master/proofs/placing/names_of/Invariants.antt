@@ -1,6 +1,6 @@
 use Rattle.std.proofs.Common.{◌≡◌, ◌++◌, drop}
-use Rattle.ciel_board.specs.Reports.{copy_names}
-use Rattle.ciel_task.specs.Views.{copies_view}
+use Rattle.ciel_master_board.specs.Reports.{copy_names}
+use Rattle.ciel_task_order.specs.Views.{copies_view}
 use Rattle.ciel_master.proofs.placing.names_of.Given as goal
 
 abbrev pub invariant-loop-i : goal.invariant-loop-i

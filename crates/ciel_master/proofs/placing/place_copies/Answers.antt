@@ -1,10 +1,10 @@
 use Rattle.std.proofs.Common.{◌≡◌, ◌+◌, ◌∷◌, [], drop, sym, ap, ◌∙◌, subst}
 use Rattle.std.proofs.lemmas.List.{drop_more}
-use Rattle.ciel_board.specs.Moves.{with_copies}
-use Rattle.ciel_board.specs.Reports.{Copy}
+use Rattle.ciel_master_board.specs.Moves.{with_copies}
+use Rattle.ciel_master_board.specs.Reports.{Copy}
 use Rattle.ciel_journal.specs.Job.{Each}
-use Rattle.ciel_ready.specs.Seen.{ReadySeen, with_table}
-use Rattle.ciel_task.specs.Views.{P, copies_view}
+use Rattle.ciel_want_ready.specs.Seen.{ReadySeen, with_table}
+use Rattle.ciel_task_order.specs.Views.{P, copies_view}
 use Rattle.ciel_master.proofs.Steps.{CanPlace, after_copy, can_after, first_copy, later_copies}
 use Rattle.ciel_master.proofs.placing.place_copies.Goals as goal
 

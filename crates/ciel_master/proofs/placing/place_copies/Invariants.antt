@@ -1,10 +1,10 @@
 use Rattle.std.proofs.Common.{◌≡◌, drop}
-use Rattle.ciel_board.specs.Moves.{with_copies}
-use Rattle.ciel_board.specs.Reports.{Copy}
+use Rattle.ciel_master_board.specs.Moves.{with_copies}
+use Rattle.ciel_master_board.specs.Reports.{Copy}
 use Rattle.ciel_journal.specs.Job.{Each}
-use Rattle.ciel_bring.specs.Brings.{worker_of}
-use Rattle.ciel_task.specs.Views.{P, copies_view}
-use Rattle.ciel_ready.specs.Seen.{with_table}
+use Rattle.ciel_master_bring.specs.Brings.{worker_of}
+use Rattle.ciel_task_order.specs.Views.{P, copies_view}
+use Rattle.ciel_want_ready.specs.Seen.{with_table}
 use Rattle.ciel_table.specs.Seen.{Known}
 use Rattle.ciel_table.specs.Sound.{Here}
 use Rattle.ciel_master.proofs.placing.place_copies.Given as goal

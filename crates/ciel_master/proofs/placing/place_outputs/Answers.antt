@@ -1,11 +1,11 @@
 use Rattle.std.proofs.Common.{◌≡◌, ◌+◌, ◌∷◌, drop, map, sym, ap, ◌∙◌, subst}
 use Rattle.std.proofs.lemmas.List.{drop_more}
-use Rattle.ciel_board.specs.Moves.{with_outputs}
+use Rattle.ciel_master_board.specs.Moves.{with_outputs}
 use Rattle.ciel_journal.specs.Job.{Each}
-use Rattle.ciel_ready.specs.Seen.{ReadySeen, with_table}
+use Rattle.ciel_want_ready.specs.Seen.{ReadySeen, with_table}
 use Rattle.ciel_table.specs.Changes.{placed}
-use Rattle.ciel_task.specs.Views.{P, output_view}
-use Rattle.ciel_task.specs.declared.report.Made.{Made}
+use Rattle.ciel_task_order.specs.Views.{P, output_view}
+use Rattle.ciel_task_order.specs.declared.report.Made.{Made}
 use Rattle.ciel_master.proofs.Steps.{CanPlace, can_still}
 use Rattle.ciel_master.proofs.placing.place_outputs.Goals as goal
 

@@ -1,7 +1,7 @@
 use Rattle.std.proofs.Common.{map, subst, sym}
-use Rattle.ciel_board.specs.Reports.{Copy}
-use Rattle.ciel_ready.specs.Seen.{ReadySeen}
-use Rattle.ciel_task.specs.Views.{P, copies_view, output_view}
+use Rattle.ciel_master_board.specs.Reports.{Copy}
+use Rattle.ciel_want_ready.specs.Seen.{ReadySeen}
+use Rattle.ciel_task_order.specs.Views.{P, copies_view, output_view}
 use Rattle.ciel_master.specs.Taking.{CopiesPlace}
 use Rattle.ciel_master.proofs.Steps.{can_beside}
 use Rattle.ciel_master.proofs.taking.take_made.Goals as goal

@@ -3,10 +3,10 @@ use Rattle.std.proofs.Common.{◌≡◌, ◌++◌, ℕ, List, map}
 use Rattle.ciel_io.specs.Faults.{HasRisen}
 use Rattle.ciel_io.specs.Tells.{Tells}
 use Rattle.ciel_master.specs.Views.{entry_view}
-use Rattle.ciel_lines.specs.Line.{OfLine, is_traced}
-use Rattle.ciel_lines.specs.Runs.{IsDriven}
+use Rattle.ciel_run_line.specs.Line.{OfLine, is_traced}
+use Rattle.ciel_run_line.specs.Runs.{IsDriven}
 use Rattle.ciel_run.specs.Ending.{Answers, IsExpected, TellsParts, trace_of}
-use Rattle.ciel_why.specs.Message.{message_of}
+use Rattle.ciel_run_log.specs.Message.{message_of}
 use Rattle.ciel_run.proofs.Headline.{few, missing, needed, one_value, one_wait}
 use Rattle.ciel_run.proofs.Modest.{answers}
 use Rattle.ciel_run.proofs.Over.{at_line, expected, no_write, not_usage, over_line, read_fault, too_deep}

@@ -1,5 +1,5 @@
 -- The message, or where the log failed a part of it.
-use Rattle.ciel_why.specs.Message.{message_of}
+use Rattle.ciel_run_log.specs.Message.{message_of}
 use Rattle.ciel_io.proofs.Joined.{part_of}
 use Rattle.ciel_run.proofs.top.refused.Goals as goal
 

@@ -2,11 +2,11 @@
 use Rattle.std.proofs.Common.{ℕ, List, map, subst, sym}
 use Rattle.std.specs.Prelude.{IfErr, Result}
 use Rattle.ciel_io.specs.Faults.{HasRisen}
-use Rattle.ciel_lines.specs.Causes.{CauseOf}
+use Rattle.ciel_run_line.specs.Causes.{CauseOf}
 use Rattle.ciel_master.specs.Views.{entry_view}
 use Rattle.ciel_run.specs.Ending.{EndCause}
-use Rattle.ciel_why.specs.declared.why.Ended.{Ended}
-use Rattle.ciel_why.specs.declared.why.Why.{Why}
+use Rattle.ciel_run_log.specs.declared.why.Ended.{Ended}
+use Rattle.ciel_run_log.specs.declared.why.Why.{Why}
 use Rattle.ciel_run.proofs.Over.{end_cause}
 use Rattle.ciel_run.proofs.top.run.Goals as goal
 

@@ -2,7 +2,7 @@
 use Rattle.std.proofs.Common.{ℕ, List, subst}
 use Rattle.ciel_io.specs.Tells.{TellsPart}
 use Rattle.ciel_io.proofs.Joined.{part_whole}
-use Rattle.ciel_why.specs.Summary.{output_of}
+use Rattle.ciel_run_log.specs.Summary.{output_of}
 use Rattle.ciel_run.proofs.top.write.Goals as goal
 
 pub returns-in-Ok-clause-part : goal.returns-in-Ok-clause-part

@@ -1,5 +1,5 @@
 use Rattle.std.proofs.Common.{◌≡◌, ◌≤◌, drop}
-use Rattle.sky_grammar.specs.Nesting.{too_nested}
+use Rattle.sky_parse_grammar.specs.Nesting.{too_nested}
 use Rattle.sky_parse.proofs.brackets.too_nested.Given as goal
 
 abbrev pub invariant-loop-t : goal.invariant-loop-t

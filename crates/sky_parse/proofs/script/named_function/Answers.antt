@@ -1,10 +1,10 @@
 use Rattle.std.proofs.Common.{List, ap, ◌∙◌, []}
 use Rattle.sky_base.specs.TreeView.{at}
-use Rattle.sky_grammar.specs.Lifted.{param_names}
-use Rattle.sky_grammar.specs.Names.{at_twice, same_params}
-use Rattle.sky_grammar.specs.Nesting.{place_of}
-use Rattle.sky_held.specs.declared.made.Parameter.{Parameter}
-use Rattle.sky_held.specs.Params.{params_view}
+use Rattle.sky_parse_grammar.specs.Lifted.{param_names}
+use Rattle.sky_parse_grammar.specs.Names.{at_twice, same_params}
+use Rattle.sky_parse_grammar.specs.Nesting.{place_of}
+use Rattle.sky_parse_held.specs.declared.made.Parameter.{Parameter}
+use Rattle.sky_parse_held.specs.Params.{params_view}
 use Rattle.sky_parse.proofs.ScriptLaw.{read_fun}
 use Rattle.sky_parse.proofs.script.named_function.Goals as goal
 

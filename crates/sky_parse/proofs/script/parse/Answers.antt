@@ -1,7 +1,7 @@
 use Rattle.std.proofs.Common.{[]}
 use Rattle.sky_base.specs.TreeView.{at}
-use Rattle.sky_grammar.proofs.Counts.{script_fits}
-use Rattle.sky_grammar.proofs.Exact.{exact}
+use Rattle.sky_parse_grammar.proofs.Counts.{script_fits}
+use Rattle.sky_parse_grammar.proofs.Exact.{exact}
 use Rattle.sky_parse.proofs.ParsedLaw.{is_valid, is_twice, refused_at}
 use Rattle.sky_parse.proofs.script.parse.Goals as goal
 

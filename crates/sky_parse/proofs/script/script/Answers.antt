@@ -1,7 +1,7 @@
 use Rattle.std.proofs.Common.{◌<◌, ◌∙◌, ap, sym, subst, []}
 use Rattle.sky_base.specs.Tree.{script_nodes}
-use Rattle.sky_grammar.specs.Names.{same_names}
-use Rattle.sky_grammar.specs.Nesting.{place_of}
+use Rattle.sky_parse_grammar.specs.Names.{same_names}
+use Rattle.sky_parse_grammar.specs.Nesting.{place_of}
 use Rattle.sky_parse.proofs.ParsedLaw.{whole_script, made_script}
 use Rattle.sky_parse.proofs.script.script.Goals as goal
 

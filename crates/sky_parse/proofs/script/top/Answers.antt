@@ -2,7 +2,7 @@ use Rattle.std.proofs.Common.{List, ap, ◌≡◌, refl, ◌∙◌, ◌∷◌, [
 use Rattle.sky_base.specs.declared.stmt.Stmt.{Stmt}
 use Rattle.sky_base.specs.declared.script.FunDef.{FunDef}
 use Rattle.sky_text.specs.declared.token.Sign.{Sign}
-use Rattle.sky_grammar.specs.Machine.{Item, run, kinds}
+use Rattle.sky_parse_grammar.specs.Machine.{Item, run, kinds}
 use Rattle.sky_parse.specs.declared.script.Read.{Read}
 use Rattle.sky_parse_expr.proofs.Moves.{exit}
 use Rattle.sky_parse.proofs.StmtMoves.{top_fun, top_stmt}

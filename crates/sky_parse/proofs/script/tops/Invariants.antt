@@ -1,5 +1,5 @@
 use Rattle.std.proofs.Common.{◌≡◌, ◌∷◌, List, length}
-use Rattle.sky_grammar.specs.Machine.{Item, run, kinds}
+use Rattle.sky_parse_grammar.specs.Machine.{Item, run, kinds}
 use Rattle.sky_parse.specs.Scripts.{SoFar}
 use Rattle.sky_parse.proofs.script.tops.Given as goal
 

@@ -8,10 +8,10 @@ use Rattle.sky_base.specs.declared.stmt.Arm.{Arm}
 use Rattle.sky_text.specs.declared.token.Sign.{Sign}
 use Rattle.sky_text.specs.declared.token.Word.{Word}
 use Rattle.sky_text.specs.declared.token.Token.{Token}
-use Rattle.sky_grammar.specs.declared.level.Level.{Level}
-use Rattle.sky_grammar.specs.Grammar.{place}
-use Rattle.sky_grammar.specs.Machine.{Item, test_then, run, kinds}
-use Rattle.sky_held.specs.Held.{Held}
+use Rattle.sky_parse_grammar.specs.declared.level.Level.{Level}
+use Rattle.sky_parse_grammar.specs.Grammar.{place}
+use Rattle.sky_parse_grammar.specs.Machine.{Item, test_then, run, kinds}
+use Rattle.sky_parse_held.specs.Held.{Held}
 use Rattle.sky_parse_expr.specs.Reads.{Onto}
 use Rattle.sky_parse.specs.Statements.{ReadsEnded, ReadsStm, ReadsStms}
 use Rattle.sky_parse_expr.proofs.Moves.{exit}

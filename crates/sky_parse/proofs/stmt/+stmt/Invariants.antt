@@ -3,7 +3,7 @@ use Rattle.sky_base.specs.TreeView.{at}
 use Rattle.sky_base.specs.StmtView.{stms_view}
 use Rattle.sky_base.specs.declared.stmt.Stmt.{Stmt}
 use Rattle.sky_text.specs.declared.token.Sign.{Sign}
-use Rattle.sky_grammar.specs.Machine.{Item, test_then, run, kinds}
+use Rattle.sky_parse_grammar.specs.Machine.{Item, test_then, run, kinds}
 use Rattle.sky_parse_expr.specs.Reads.{Onto}
 use Rattle.sky_parse.specs.Statements.{ReadsStms}
 use Rattle.sky_parse.proofs.StmLaw.{ChoiceSo}

@@ -1,8 +1,8 @@
 use Rattle.std.proofs.Common.{◌∷◌}
 use Rattle.sky_base.specs.TreeView.{at}
 use Rattle.sky_text.specs.declared.token.Sign.{Sign}
-use Rattle.sky_grammar.specs.declared.level.Level.{Level}
-use Rattle.sky_grammar.specs.Machine.{Item, run, kinds}
+use Rattle.sky_parse_grammar.specs.declared.level.Level.{Level}
+use Rattle.sky_parse_grammar.specs.Machine.{Item, run, kinds}
 use Rattle.sky_parse_expr.proofs.Moves.{exit}
 use Rattle.sky_parse.proofs.StmtMoves.{back_else}
 use Rattle.sky_parse_expr.proofs.ReadsLaw.{sign_front}

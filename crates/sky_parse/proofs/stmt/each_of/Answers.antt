@@ -1,7 +1,7 @@
 use Rattle.std.proofs.Common.{ℕ, List, ◌∷◌, sym, ap, subst, ◌∙◌}
 use Rattle.sky_text.specs.declared.token.TokenKind.{TokenKind}
-use Rattle.sky_grammar.specs.Grammar.{Mark, Spelled}
-use Rattle.sky_held.specs.Held.{seen_name}
+use Rattle.sky_parse_grammar.specs.Grammar.{Mark, Spelled}
+use Rattle.sky_parse_held.specs.Held.{seen_name}
 use Rattle.sky_parse.proofs.StmLaw.{read_each}
 use Rattle.sky_parse.proofs.stmt.each_of.Goals as goal
 

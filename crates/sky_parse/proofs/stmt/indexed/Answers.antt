@@ -3,9 +3,9 @@ use Rattle.sky_base.specs.declared.tree.Step.{Step}
 use Rattle.sky_base.specs.TreeView.{at, steps_view}
 use Rattle.sky_text.specs.declared.token.Sign.{Sign}
 use Rattle.sky_text.specs.declared.token.Token.{Token}
-use Rattle.sky_grammar.specs.declared.level.Level.{Level}
-use Rattle.sky_grammar.specs.Machine.{Item, tails, run, kinds}
-use Rattle.sky_held.specs.Held.{Held}
+use Rattle.sky_parse_grammar.specs.declared.level.Level.{Level}
+use Rattle.sky_parse_grammar.specs.Machine.{Item, tails, run, kinds}
+use Rattle.sky_parse_held.specs.Held.{Held}
 use Rattle.sky_parse_expr.specs.Reads.{Onto, ReadsSteps}
 use Rattle.sky_parse_expr.proofs.Moves.{passed}
 use Rattle.sky_parse.proofs.StmtMoves.{indexed_else}

@@ -2,8 +2,8 @@ use Rattle.std.proofs.Common.{◌∷◌, List, arith}
 use Rattle.sky_base.specs.declared.tree.Step.{Step}
 use Rattle.sky_base.specs.TreeView.{at, steps_view}
 use Rattle.sky_text.specs.declared.token.Token.{Token}
-use Rattle.sky_grammar.specs.Grammar.{name_at}
-use Rattle.sky_held.specs.Held.{Held}
+use Rattle.sky_parse_grammar.specs.Grammar.{name_at}
+use Rattle.sky_parse_held.specs.Held.{Held}
 use Rattle.sky_parse_expr.specs.Reads.{ReadsSteps}
 use Rattle.sky_parse_expr.proofs.ReadsLaw.{at_front, onto_end}
 use Rattle.sky_parse_expr.proofs.ExpLaw.{as_is, lower, read_name, read_stepped, read_no_steps}

@@ -3,10 +3,10 @@ use Rattle.sky_base.specs.Tree.{Place}
 use Rattle.sky_base.specs.TreeView.{at}
 use Rattle.sky_text.specs.declared.token.Sign.{Sign}
 use Rattle.sky_text.specs.declared.token.Token.{Token}
-use Rattle.sky_grammar.specs.declared.parts.Head.{Head}
-use Rattle.sky_grammar.specs.Machine.{sign_head}
-use Rattle.sky_grammar.specs.Grammar.{sign_at, Fits, Spelled}
-use Rattle.sky_grammar.specs.Parts.{spell_head}
+use Rattle.sky_parse_grammar.specs.declared.parts.Head.{Head}
+use Rattle.sky_parse_grammar.specs.Machine.{sign_head}
+use Rattle.sky_parse_grammar.specs.Grammar.{sign_at, Fits, Spelled}
+use Rattle.sky_parse_grammar.specs.Parts.{spell_head}
 use Rattle.sky_parse_expr.proofs.Moves.{no_sign}
 use Rattle.sky_parse_expr.proofs.begin.begin_sign.Goals as goal
 

@@ -2,8 +2,8 @@ use Rattle.std.proofs.Common.{sym, arith, ◌∙◌, ◌∷◌}
 use Rattle.sky_base.specs.TreeView.{at, lit_view}
 use Rattle.sky_text.specs.declared.token.Sign.{Sign}
 use Rattle.sky_text.specs.declared.token.TokenKind.{TokenKind}
-use Rattle.sky_grammar.specs.Machine.{Item, run, kinds}
-use Rattle.sky_grammar.specs.Parts.{head_shape}
+use Rattle.sky_parse_grammar.specs.Machine.{Item, run, kinds}
+use Rattle.sky_parse_grammar.specs.Parts.{head_shape}
 use Rattle.sky_parse_expr.specs.Runs.{behind}
 use Rattle.sky_parse_expr.proofs.Moves.{exit, leaf_word, function_word, head_word, no_word}
 use Rattle.sky_parse_expr.proofs.ExpLaw.{read_literal}

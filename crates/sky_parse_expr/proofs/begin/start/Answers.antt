@@ -2,7 +2,7 @@ use Rattle.std.proofs.Common.{◌∷◌, sym, ap, ◌∙◌, rules, w64}
 use Rattle.std.proofs.lemmas.Int.{to_z-of_z}
 use Rattle.sky_text.specs.declared.token.TokenKind.{TokenKind}
 use Rattle.sky_base.specs.Tree.{Lit}
-use Rattle.sky_grammar.specs.Machine.{Item, run, kinds}
+use Rattle.sky_parse_grammar.specs.Machine.{Item, run, kinds}
 use Rattle.sky_parse_expr.specs.Runs.{behind}
 use Rattle.sky_parse_expr.proofs.Moves.{on_kind, passed}
 use Rattle.sky_parse_expr.proofs.ExpLaw.{leaf_literal, leaf_name}

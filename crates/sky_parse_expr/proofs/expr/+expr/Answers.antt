@@ -7,18 +7,18 @@ use Rattle.sky_base.specs.TreeView.{at, arith_view, order_view, exps_view, links
 use Rattle.sky_base.specs.Tree as tree
 use Rattle.sky_text.specs.declared.token.Sign.{Sign}
 use Rattle.sky_text.specs.declared.token.Token.{Token}
-use Rattle.sky_grammar.specs.Signs.{is, at_sign}
-use Rattle.sky_grammar.specs.Levels.{rank, junction, join_sign, at_oper}
-use Rattle.sky_grammar.specs.declared.level.Level.{Level}
-use Rattle.sky_grammar.specs.declared.parts.Shape.{Shape}
-use Rattle.sky_grammar.specs.Machine.{Item, tails, run, kinds}
-use Rattle.sky_grammar.specs.Parts.{separator, ready, step_shape, step_sign, head_shape}
-use Rattle.sky_grammar.specs.Grammar as g
-use Rattle.sky_grammar.specs.Grammar.{place, oper_sign, order_sign, Spelled}
-use Rattle.sky_grammar.proofs.Operands.{level_is}
+use Rattle.sky_parse_grammar.specs.Signs.{is, at_sign}
+use Rattle.sky_parse_grammar.specs.Levels.{rank, junction, join_sign, at_oper}
+use Rattle.sky_parse_grammar.specs.declared.level.Level.{Level}
+use Rattle.sky_parse_grammar.specs.declared.parts.Shape.{Shape}
+use Rattle.sky_parse_grammar.specs.Machine.{Item, tails, run, kinds}
+use Rattle.sky_parse_grammar.specs.Parts.{separator, ready, step_shape, step_sign, head_shape}
+use Rattle.sky_parse_grammar.specs.Grammar as g
+use Rattle.sky_parse_grammar.specs.Grammar.{place, oper_sign, order_sign, Spelled}
+use Rattle.sky_parse_grammar.proofs.Operands.{level_is}
 use Rattle.sky_parse_expr.specs.Runs.{at_next}
 use Rattle.sky_parse_expr.specs.Begun.{Begun}
-use Rattle.sky_held.specs.Held.{Held}
+use Rattle.sky_parse_held.specs.Held.{Held}
 use Rattle.sky_parse_expr.specs.Reads.{Onto, ReadsExp, ReadsLinks, ReadsAnds, ReadsSteps, ReadsParts}
 use Rattle.sky_parse_expr.proofs.ReadsLaw.{sign_front, sign_placed, onto_none, onto_one, onto_end}
 use Rattle.sky_parse_expr.proofs.ExpLaw.{as_is, lower, read_chained, read_link, read_no_links, read_compared, read_joined, read_and, read_no_ands}

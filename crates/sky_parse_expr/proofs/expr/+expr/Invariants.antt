@@ -5,9 +5,9 @@ use Rattle.sky_base.specs.declared.tree.Join.{Join}
 use Rattle.sky_base.specs.declared.tree.Step.{Step}
 use Rattle.sky_base.specs.TreeView.{exps_view, links_view, ands_view, steps_view}
 use Rattle.sky_text.specs.declared.token.Token.{Token}
-use Rattle.sky_grammar.specs.Levels.{rank, junction}
-use Rattle.sky_grammar.specs.Machine.{Item, run, kinds}
-use Rattle.sky_held.specs.Held.{Held}
+use Rattle.sky_parse_grammar.specs.Levels.{rank, junction}
+use Rattle.sky_parse_grammar.specs.Machine.{Item, run, kinds}
+use Rattle.sky_parse_held.specs.Held.{Held}
 use Rattle.sky_parse_expr.specs.Reads.{Onto, ReadsLinks, ReadsAnds, ReadsSteps, ReadsMore, ReadsParts}
 use Rattle.sky_parse_expr.proofs.expr.+expr.Given as goal
 

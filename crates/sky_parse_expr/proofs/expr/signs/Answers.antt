@@ -1,7 +1,7 @@
 use Rattle.std.proofs.Common.{◌∙◌, ap, length, arith}
 use Rattle.sky_base.specs.declared.tree.SignAt.{SignAt}
 use Rattle.sky_base.specs.TreeView.{sign_view}
-use Rattle.sky_grammar.specs.Grammar.{prefix_sign}
+use Rattle.sky_parse_grammar.specs.Grammar.{prefix_sign}
 use Rattle.sky_parse_expr.proofs.ReadsLaw.{sign_placed}
 use Rattle.sky_parse_expr.proofs.ExpLaw.{signs_spelled}
 use Rattle.sky_parse_expr.proofs.Moves.{prefix_goes, prefix_ends}

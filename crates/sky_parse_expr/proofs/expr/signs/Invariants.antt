@@ -1,8 +1,8 @@
 use Rattle.std.proofs.Common.{◌≡◌, ◌∷◌, List, ◌≤◌, length}
 use Rattle.sky_base.specs.TreeView.{signs_view}
-use Rattle.sky_grammar.specs.declared.level.Level.{Level}
-use Rattle.sky_grammar.specs.Machine.{Item, run, kinds}
-use Rattle.sky_grammar.specs.Grammar.{Spelled, spell_signs}
+use Rattle.sky_parse_grammar.specs.declared.level.Level.{Level}
+use Rattle.sky_parse_grammar.specs.Machine.{Item, run, kinds}
+use Rattle.sky_parse_grammar.specs.Grammar.{Spelled, spell_signs}
 use Rattle.sky_parse_expr.proofs.expr.signs.Given as goal
 
 abbrev pub invariant-loop-op : goal.invariant-loop-op

@@ -1,9 +1,9 @@
 use Rattle.std.proofs.Common.{◌≡◌, ◌∙◌, ◌∷◌, refl, subst, List}
 use Rattle.sky_base.specs.TreeView.{at}
-use Rattle.sky_held.specs.declared.made.Parameter.{Parameter}
-use Rattle.sky_held.specs.Params.{params_view}
+use Rattle.sky_parse_held.specs.declared.made.Parameter.{Parameter}
+use Rattle.sky_parse_held.specs.Params.{params_view}
 use Rattle.sky_text.specs.declared.token.Sign.{Sign}
-use Rattle.sky_grammar.specs.Machine.{Item, run, kinds}
+use Rattle.sky_parse_grammar.specs.Machine.{Item, run, kinds}
 use Rattle.sky_parse_expr.proofs.FunctionLaw.{inside, read_function}
 use Rattle.sky_parse_expr.proofs.Moves.{exit}
 use Rattle.sky_parse_expr.proofs.function.function.Goals as goal

@@ -1,8 +1,8 @@
 use Rattle.std.proofs.Common.{◌∷◌, ◌∙◌, [], length, length-append, ap, arith}
 use Rattle.sky_parse_expr.proofs.ParamsLaw.{params_spelled}
 use Rattle.sky_text.specs.declared.token.Sign.{Sign}
-use Rattle.sky_grammar.specs.Machine.{Item, run, kinds}
-use Rattle.sky_grammar.specs.Grammar.{sign}
+use Rattle.sky_parse_grammar.specs.Machine.{Item, run, kinds}
+use Rattle.sky_parse_grammar.specs.Grammar.{sign}
 use Rattle.sky_parse_expr.proofs.Moves.{exit}
 use Rattle.sky_parse_expr.proofs.ParamsLaw.{params_empty, params_go, params_first, params_end}
 use Rattle.sky_parse_expr.proofs.function.params.Goals as goal

@@ -1,7 +1,7 @@
 use Rattle.std.proofs.Common.{◌≡◌, ◌∷◌, List, ◌<◌, length}
-use Rattle.sky_grammar.specs.Machine.{Item, run, kinds}
-use Rattle.sky_grammar.specs.Grammar.{Spelled, spell_params}
-use Rattle.sky_held.specs.Params.{params_view}
+use Rattle.sky_parse_grammar.specs.Machine.{Item, run, kinds}
+use Rattle.sky_parse_grammar.specs.Grammar.{Spelled, spell_params}
+use Rattle.sky_parse_held.specs.Params.{params_view}
 use Rattle.sky_parse_expr.proofs.function.params.Given as goal
 
 abbrev pub invariant-loop-after : goal.invariant-loop-after

@@ -1,16 +1,16 @@
 use Rattle.std.proofs.Common.{◌≡◌, ◌≤◌, ◌<◌, [], ◌∷◌, length, None, sym, ap, subst, ◌∙◌, arith}
 use Rattle.std.specs.Option.{MatchOption}
 use Rattle.sky_base.specs.JobView.{job_view}
-use Rattle.sky_law.specs.Tasks.{In}
+use Rattle.sky_base_law.specs.Tasks.{In}
 use Rattle.sky_base.specs.Val.{known, refs}
 use Rattle.sky_base.specs.View.{view}
 use Rattle.ciel_json.specs.Around.{json_around}
-use Rattle.sky_rows.specs.Walk.{known_of, number_of, object_at}
+use Rattle.sky_base_known.specs.Walk.{known_of, number_of, object_at}
 use Rattle.sky_plain.specs.Settle.{count, SettledSo}
 use Rattle.sky_plain.specs.Stage.{AllKnown}
 use Rattle.sky_plain.specs.Stand.{Opens}
 use Rattle.sky_plain.proofs.Counts.{count_most, count_less}
-use Rattle.sky_rows.proofs.Learn.{most_is}
+use Rattle.sky_base_known.proofs.Learn.{most_is}
 use Rattle.sky_plain.proofs.OpenWork.{begins_self, begins_over}
 use Rattle.sky_plain.proofs.Rounds.{opens_all_grow}
 use Rattle.sky_plain.proofs.plain.gather.Goals as goal

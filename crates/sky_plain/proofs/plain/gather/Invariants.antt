@@ -3,7 +3,7 @@ use Rattle.sky_base.specs.JobView.{job_view}
 use Rattle.sky_base.specs.Val.{refs}
 use Rattle.sky_base.specs.View.{view}
 use Rattle.ciel_json.specs.Around.{json_around}
-use Rattle.sky_body.specs.Ran.{Begins}
+use Rattle.sky_plain_body.specs.Ran.{Begins}
 use Rattle.sky_plain.specs.Settle.{count}
 use Rattle.sky_plain.specs.Stand.{Standing}
 use Rattle.sky_plain.specs.Whole.{OpensAll}

@@ -4,7 +4,7 @@ use Rattle.sky_base.specs.JobView.{job_view}
 use Rattle.sky_base.specs.Val.{call, no_pairs, no_vals}
 use Rattle.ciel_json.specs.Around.{json_around}
 use Rattle.sky_plain.specs.Stand.{Standing}
-use Rattle.sky_rows.specs.Walk.{learn_to}
+use Rattle.sky_base_known.specs.Walk.{learn_to}
 use Rattle.sky_plain.proofs.Rounds.{main_learned, never_full}
 use Rattle.sky_plain.proofs.Steps.{standing_start}
 use Rattle.sky_plain.proofs.plain.plain.Goals as goal

@@ -1,20 +1,20 @@
 use Rattle.std.proofs.Common.{◌≤◌, ◌-◌, [], length, sym, subst, arith}
 use Rattle.sky_base.specs.JobView.{job_view}
 use Rattle.sky_base.specs.See.{Job, Around, Answered}
-use Rattle.sky_law.specs.Sound.{SoundOver}
+use Rattle.sky_base_law.specs.Sound.{SoundOver}
 use Rattle.sky_base.specs.Val.{call, known, no_pairs, no_vals, ref, refs}
 use Rattle.sky_base.specs.View.{view}
 use Rattle.ciel_json.specs.Around.{json_around}
-use Rattle.sky_rows.specs.Data.{data_of}
-use Rattle.sky_rows.specs.Walk.{known_of}
-use Rattle.sky_waves.specs.Wave.{last_at, turn_at}
-use Rattle.sky_waves.specs.WaveView.{EndsSo, TurnsSo}
+use Rattle.sky_base_known.specs.Data.{data_of}
+use Rattle.sky_base_known.specs.Walk.{known_of}
+use Rattle.sky_base_waves.specs.Wave.{last_at, turn_at}
+use Rattle.sky_base_waves.specs.WaveView.{EndsSo, TurnsSo}
 use Rattle.sky_plain.specs.Stage.{Stage}
 use Rattle.sky_plain.specs.Stand.{Below}
 use Rattle.sky_plain.specs.Whole.{GatheredSo}
 use Rattle.sky_plain.proofs.Called.{Writes}
-use Rattle.sky_rows.proofs.Learn.{most_is}
-use Rattle.sky_rows.proofs.Numbers.{got_below}
+use Rattle.sky_base_known.proofs.Learn.{most_is}
+use Rattle.sky_base_known.proofs.Numbers.{got_below}
 use Rattle.sky_plain.proofs.OpenWork.{most_open_is}
 use Rattle.sky_plain.proofs.Rounds.{bytes_some, fault_some, fine_more, next_fine, opens_all, start_fine, wave_ends, wave_last, wave_next}
 use Rattle.sky_plain.proofs.Stages.{stage_more, stage_start}

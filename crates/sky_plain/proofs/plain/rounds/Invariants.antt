@@ -1,6 +1,6 @@
 use Rattle.std.proofs.Common.{◌≤◌, ◌+◌, ◌-◌, length}
 use Rattle.sky_base.specs.JobView.{job_view}
-use Rattle.sky_law.specs.Sound.{SoundOver}
+use Rattle.sky_base_law.specs.Sound.{SoundOver}
 use Rattle.sky_base.specs.View.{view}
 use Rattle.ciel_json.specs.Around.{json_around}
 use Rattle.sky_plain.specs.Stage.{Stage}

@@ -2,12 +2,12 @@ use Rattle.std.proofs.Common.{◌≡◌, ◌≤◌, ◌<◌, ◌∷◌, length, 
 use Rattle.sky_base.specs.ObjectView.{object_view}
 use Rattle.sky_base.specs.JobView.{job_view}
 use Rattle.ciel_json.specs.Around.{json_around}
-use Rattle.sky_rows.specs.Data.{data_of}
-use Rattle.sky_rows.specs.Walk.{number_of, object_at}
+use Rattle.sky_base_known.specs.Data.{data_of}
+use Rattle.sky_base_known.specs.Walk.{number_of, object_at}
 use Rattle.sky_plain.specs.Stand.{Opens, Standing}
-use Rattle.sky_body.specs.Ran.{RanSo}
-use Rattle.sky_body.specs.declared.run.Ran.{Ran}
-use Rattle.sky_rows.proofs.Learn.{most_is}
+use Rattle.sky_plain_body.specs.Ran.{RanSo}
+use Rattle.sky_plain_body.specs.declared.run.Ran.{Ran}
+use Rattle.sky_base_known.proofs.Learn.{most_is}
 use Rattle.sky_base.specs.Val.{call}
 use Rattle.sky_plain.proofs.OpenWork.{known_with, stays_put, small_with, held_more}
 use Rattle.sky_plain.proofs.Called.{called_ends, called_waits, called_unknown, called_many}

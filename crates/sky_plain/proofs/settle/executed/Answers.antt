@@ -3,13 +3,13 @@ use Rattle.std.specs.Option.{MatchOption}
 use Rattle.sky_base.specs.Val.{known, refs}
 use Rattle.sky_base.specs.View.{view}
 use Rattle.sky_base.specs.JobView.{job_view}
-use Rattle.sky_law.specs.Tasks.{In}
+use Rattle.sky_base_law.specs.Tasks.{In}
 use Rattle.ciel_json.specs.Around.{json_around}
-use Rattle.sky_rows.specs.Walk.{known_of, number_of, object_at}
+use Rattle.sky_base_known.specs.Walk.{known_of, number_of, object_at}
 use Rattle.sky_plain.specs.Stage.{AllKnown}
 use Rattle.sky_plain.specs.Stand.{Opens}
-use Rattle.sky_rows.proofs.Learn.{most_is}
-use Rattle.sky_perform.specs.Outputs.{OnlyOutputs}
+use Rattle.sky_base_known.proofs.Learn.{most_is}
+use Rattle.sky_base_exec.specs.Outputs.{OnlyOutputs}
 use Rattle.sky_plain.proofs.Called.{executed_waits, executed_known, executed_here}
 use Rattle.sky_plain.proofs.OpenWork.{stays_keeps}
 use Rattle.sky_plain.proofs.settle.executed.Goals as goal

@@ -3,10 +3,10 @@ use Rattle.sky_base.specs.Res.{Object}
 use Rattle.sky_base.specs.JobView.{job_view}
 use Rattle.sky_base.specs.See.{input_bytes}
 use Rattle.ciel_json.specs.Around.{json_around}
-use Rattle.sky_rows.specs.Known.{with_object}
+use Rattle.sky_base_known.specs.Known.{with_object}
 use Rattle.sky_plain.specs.Stand.{Standing}
 use Rattle.sky_base.specs.Val.{input}
-use Rattle.sky_rows.proofs.Numbers.{got_below}
+use Rattle.sky_base_known.proofs.Numbers.{got_below}
 use Rattle.sky_plain.proofs.Called.{inputs_known}
 use Rattle.sky_plain.proofs.OpenWork.{known_with, stays_put, small_with}
 use Rattle.sky_plain.proofs.settle.given.Goals as goal

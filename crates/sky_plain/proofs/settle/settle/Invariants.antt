@@ -1,7 +1,7 @@
 use Rattle.std.proofs.Common.{◌≤◌, length}
 use Rattle.sky_base.specs.JobView.{job_view}
 use Rattle.ciel_json.specs.Around.{json_around}
-use Rattle.sky_body.specs.Ran.{Begins}
+use Rattle.sky_plain_body.specs.Ran.{Begins}
 use Rattle.sky_plain.specs.Stand.{Standing}
 use Rattle.sky_plain.specs.Settle.{rank, Stays, Open}
 use Rattle.sky_plain.proofs.settle.settle.Given as goal

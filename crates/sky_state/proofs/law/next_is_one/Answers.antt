@@ -1,4 +1,4 @@
-use Rattle.sky_law.proofs.TaskMade.{next_one, next_or_end}
+use Rattle.sky_base_law.proofs.TaskMade.{next_one, next_or_end}
 use Rattle.sky_state.specs.Laws.{AtHand}
 use Rattle.sky_state.proofs.law.next_is_one.Goals as goal
 

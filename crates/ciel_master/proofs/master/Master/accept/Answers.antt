@@ -2,7 +2,7 @@ use Rattle.std.proofs.Common.{◌≡◌, ℕ, List, Some, sym, subst, vec_capaci
 use Rattle.std.specs.Arc.{arc_value}
 use Rattle.ciel_master.specs.Seen.{board_of}
 use Rattle.ciel_master.proofs.Kept.{carried_now}
-use Rattle.ciel_board.specs.Board.{Board, Order, find_order}
+use Rattle.ciel_master_board.specs.Board.{Board, Order, find_order}
 use Rattle.sky_base.specs.Tree.{Script}
 use Rattle.ciel_master.specs.Fitting.{FitsOneOut, FitsUnlessMissing, IsMissedOf}
 use Rattle.ciel_master.specs.Marked.{SeenOf, unseen}
@@ -10,8 +10,8 @@ use Rattle.ciel_master.proofs.Marking.{miss_fits}
 use Rattle.ciel_store.specs.Seen.{ShelvesSeen}
 use Rattle.ciel_master.specs.Seen.{MasterSeen}
 use Rattle.ciel_master.proofs.Kept.{unseen_fits}
-use Rattle.ciel_task.specs.Views.{P}
-use Rattle.ciel_task.specs.declared.report.Report.{Report}
+use Rattle.ciel_task_order.specs.Views.{P}
+use Rattle.ciel_task_order.specs.declared.report.Report.{Report}
 use Rattle.ciel_master.proofs.master.Master.accept.Goals as goal
 
 pub returns-in_err-now-clause-carried : goal.returns-in_err-now-clause-carried

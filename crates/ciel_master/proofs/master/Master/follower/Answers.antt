@@ -1,7 +1,7 @@
 use Rattle.std.proofs.Common.{sym, subst, vec_capacity}
 use Rattle.std.specs.Arc.{arc_value}
-use Rattle.ciel_ready.specs.Seen.{ReadySeen}
-use Rattle.ciel_task.specs.Views.{P}
+use Rattle.ciel_want_ready.specs.Seen.{ReadySeen}
+use Rattle.ciel_task_order.specs.Views.{P}
 use Rattle.ciel_want.specs.Followers.{FollowerIs}
 use Rattle.ciel_master.specs.Seen.{MasterStands, board_of}
 use Rattle.ciel_master.proofs.Kept.{execs_start, ready_is, ready_whole}

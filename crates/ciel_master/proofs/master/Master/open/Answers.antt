@@ -1,9 +1,9 @@
 -- A master that knows the main call alone is sound.
 use Rattle.std.proofs.Common.{◌≡◌, ◌≤◌, ℕ, ◌∙◌, ap, arith, vec_capacity}
 use Rattle.std.specs.Arc.{arc_value}
-use Rattle.ciel_board.specs.Moves.{empty}
-use Rattle.ciel_ready.specs.Seen.{ReadySeen}
-use Rattle.ciel_task.specs.Views.{P}
+use Rattle.ciel_master_board.specs.Moves.{empty}
+use Rattle.ciel_want_ready.specs.Seen.{ReadySeen}
+use Rattle.ciel_task_order.specs.Views.{P}
 use Rattle.ciel_table.specs.Learning.{learned}
 use Rattle.ciel_master.specs.Seen.{most_descriptions}
 use Rattle.ciel_master.proofs.Kept.{open_going, open_gone, open_ready, open_room}

@@ -1,8 +1,8 @@
 use Rattle.std.proofs.Common.{◌≡◌, ◌∙◌, map, ap, rules, vec_capacity}
 use Rattle.std.specs.Arc.{arc_value}
-use Rattle.ciel_board.specs.Board.{Order, wait_number}
+use Rattle.ciel_master_board.specs.Board.{Order, wait_number}
 use Rattle.ciel_table.specs.Seen.{TableSeen, last_wait}
-use Rattle.ciel_task.specs.Views.{P}
+use Rattle.ciel_task_order.specs.Views.{P}
 use Rattle.ciel_master.specs.Seen.{board_of}
 use Rattle.ciel_master.specs.Views.{entry_view, kept_view}
 use Rattle.ciel_master.proofs.Kept.{going_started, good_now, gone_started, marked_now, ready_started, room_written}

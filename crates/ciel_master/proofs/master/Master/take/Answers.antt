@@ -1,10 +1,10 @@
 use Rattle.std.proofs.Common.{◌≡◌, Some, map, ap, sym, ◌∙◌, vec_capacity}
 use Rattle.std.specs.Arc.{arc_value}
 use Rattle.std.specs.Option.{option_map}
-use Rattle.ciel_board.specs.Board.{find_order}
-use Rattle.ciel_board.proofs.Sounding.{order_in}
-use Rattle.ciel_ready.specs.Seen.{ReadySeen, with_table}
-use Rattle.ciel_task.specs.Views.{P, how_view}
+use Rattle.ciel_master_board.specs.Board.{find_order}
+use Rattle.ciel_master_board.proofs.Sounding.{order_in}
+use Rattle.ciel_want_ready.specs.Seen.{ReadySeen, with_table}
+use Rattle.ciel_task_order.specs.Views.{P, how_view}
 use Rattle.ciel_master.specs.Taking.{table_after}
 use Rattle.ciel_master.specs.Seen.{board_of}
 use Rattle.ciel_master.specs.Views.{entry_view, kept_view}

@@ -1,4 +1,0 @@
-pub mod Finding
-pub mod Bringing
-pub mod Copying
-pub mod Fetching

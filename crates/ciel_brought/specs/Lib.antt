@@ -1,4 +1,0 @@
-pub mod Brought
-pub mod Copies
-pub mod Laws
-pub mod Fetched

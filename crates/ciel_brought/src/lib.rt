@@ -1,5 +1,0 @@
-//! What an order brings along is what the job's task holds there, and what was copied of it is the job's too: laws that a worker's
-//! reports rest on.
-#![tactic(auto)]
-
-pub mod law;

@@ -1,1 +1,0 @@
-pub use Rattle.ciel_shifts.specs.Onward

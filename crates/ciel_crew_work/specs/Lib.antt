@@ -1,0 +1,2 @@
+pub use Rattle.ciel_task.specs.Onward
+pub mod Crewed

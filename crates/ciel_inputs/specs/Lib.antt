@@ -1,3 +1,0 @@
-pub mod Lies
-pub mod Index
-pub mod Gathers

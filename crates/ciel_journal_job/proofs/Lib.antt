@@ -1,0 +1,11 @@
+pub mod RealLaw
+pub mod ToldRun
+pub mod ToldWaves
+pub mod AlikeLaw
+pub mod KnownLaw
+pub mod HistoriesLaw
+pub mod Growing
+pub mod Learning
+pub mod Walking
+pub mod Reporting
+pub mod Filled

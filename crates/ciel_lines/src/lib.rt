@@ -1,8 +1,0 @@
-//! From a line of the command to what its job comes to: the job is loaded or generated, and answered by the sequential interpreter or on
-//! the engine.
-#![tactic(auto)]
-
-pub mod answer;
-pub mod lines;
-
-pub use ciel_engine::law;

@@ -1,6 +1,0 @@
-pub mod Line
-pub mod Found
-pub mod Reading
-pub mod Syntax
-pub mod Loading
-pub mod Generated

@@ -1,0 +1,12 @@
+pub mod Board
+pub mod Moves
+pub mod Reports
+pub mod Sound
+pub mod Setting
+pub mod Follows
+pub mod Laws
+pub mod Driving
+pub mod Left
+pub mod Handed
+pub mod TurnsLaws
+pub mod Ends

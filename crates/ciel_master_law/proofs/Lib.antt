@@ -1,0 +1,4 @@
+pub mod Meaning
+pub mod Binds
+mod Binding
+pub mod Telling

@@ -1,0 +1,5 @@
+use Rattle.ciel_master_safe.proofs.Staying.{goes_accepted, goes_lost}
+use Rattle.ciel_master_safe.proofs.tasks_stay.Goals as goal
+
+pub returns : goal.returns
+returns c = record { accepted = goes_accepted; lost = goes_lost }

@@ -1,4 +1,0 @@
-pub mod Real
-pub mod Inner
-pub mod RealLaws
-pub mod Histories

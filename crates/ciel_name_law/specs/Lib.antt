@@ -1,0 +1,3 @@
+pub mod Typed
+pub mod Laws
+pub mod Told

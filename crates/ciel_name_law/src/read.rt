@@ -1,0 +1,85 @@
+//! Reading values and descriptions.
+
+ghost use Rattle.sky_base.specs.ObjectView.{desc_view};
+ghost use Rattle.sky_base.specs.View.{pairs_of, vals_of, view};
+ghost use Rattle.sky_base.specs.declared.object.Named.{Named as NamedSeen};
+ghost use Rattle.sky_base_law.specs.Tasks.{Each};
+ghost use Rattle.ciel_name_law.specs.Told.{DescTold, PairsTold, Told, ValsTold};
+
+use sky_base::object::{Desc1, Named};
+use sky_base::value::{Pair, Value};
+
+/// Reads a description as a whole. It takes no memory.
+pub fn read_desc(desc: &Desc1)
+    ensures told { DescTold (desc_view desc.now) }
+{
+    match desc {
+        Desc1::Call { fun, caught, args } => {
+            let _fun = fun.as_str();
+            read_pairs(caught.as_slice());
+            read_values(args.as_slice());
+        }
+        Desc1::Exec { executor, args, .. } => {
+            let _executor = executor.as_str();
+            read(args);
+        }
+        Desc1::Input { key } => {
+            let _key = key.as_str();
+        }
+    }
+}
+
+/// Reads each of these descriptions. It takes no memory.
+pub fn read_all(descs: &[Named])
+    ensures told { Each (λ (n : NamedSeen). DescTold (desc_view n.desc)) descs.now }
+{
+    for named in descs {
+        read_desc(&named.desc);
+    }
+}
+
+// Reads a value with all that it holds.
+#[cycle(read)]
+fn read(value: &Value)
+    ensures told { Told (view value.now) }
+{
+    match value {
+        Value::Int(number) => {
+            let _number = *number;
+        }
+        Value::Text(text) => {
+            let _text = text.as_str();
+        }
+        Value::List(values) => read_values(values.as_slice()),
+        Value::Dict(pairs) => read_pairs(pairs.as_slice()),
+        Value::Fun { name, caught } => {
+            let _name = name.as_str();
+            read_pairs(caught.as_slice());
+        }
+        Value::Ref(name) => {
+            let _name = name.bytes();
+        }
+        Value::Null | Value::Bool(_) => {}
+    }
+}
+
+#[cycle(read)]
+#[tactic(auto, using(sky_base::proofs::Values::inside))]
+fn read_values(values: &[Value])
+    ensures told { ValsTold (vals_of values.now) }
+{
+    for value in values {
+        read(value);
+    }
+}
+
+#[cycle(read)]
+#[tactic(auto, using(sky_base::proofs::Values::inside))]
+fn read_pairs(pairs: &[Pair])
+    ensures told { PairsTold (pairs_of pairs.now) }
+{
+    for pair in pairs {
+        let _key = pair.key.as_str();
+        read(&pair.value);
+    }
+}

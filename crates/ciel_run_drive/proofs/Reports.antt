@@ -1,0 +1,292 @@
+-- What a history says between two turns is kept by a report, or the run ends for a reason.
+use Rattle.std.proofs.Common.{◌≡◌, ℕ, ◌*◌, List, [], ◌∷◌, ◌++◌, map, Bool, Option, Some, None}
+use Rattle.std.proofs.Common.{refl, ap, sym, ◌∙◌, subst, slice_set}
+use Rattle.sky_base.specs.JobView.{job_view}
+use Rattle.sky_base.specs.KitView.{Gives}
+use Rattle.sky_base.specs.See as s
+use Rattle.sky_base.specs.declared.fault.Fault.{Fault}
+use Rattle.sky_base.specs.declared.object.Desc1.{Desc1}
+use Rattle.sky_base.specs.declared.object.Named.{Named}
+use Rattle.sky_base.specs.declared.object.TaskId.{TaskId}
+use Rattle.sky_machine_show.specs.Shows.{shown_view}
+use Rattle.sky_state.specs.declared.shown.Shown.{Shown}
+use Rattle.ciel_master_board.specs.Board.{Board, OrderOut, find_order}
+use Rattle.ciel_master_board.specs.Board as board
+use Rattle.ciel_master_board.specs.Driving.{RestsNow}
+use Rattle.ciel_master_board.specs.Moves.{accepted}
+use Rattle.ciel_master_board.specs.Reports as rep
+use Rattle.ciel_master_board.specs.Reports.{AllLearned, FirstRefused, named_view, report_view}
+use Rattle.ciel_master_board.specs.Setting.{IsSetting, Setting}
+use Rattle.ciel_task_crew.specs.Crews.{Answers, Reports}
+use Rattle.ciel_master_law.proofs.Meaning.{performs_promises, shop_is, shown_meant}
+use Rattle.ciel_journal.specs.Entries.{Entry}
+use Rattle.ciel_journal.specs.History.{Event, Plan}
+use Rattle.ciel_journal.specs.Turns.{Driven, state_after}
+use Rattle.ciel_json.specs.Around.{json_around}
+use Rattle.ciel_journal.specs.Journals.{DrivenJournal}
+use Rattle.ciel_master.specs.Marked.{IsCarriedOut}
+use Rattle.ciel_master.specs.Refusals.{FirstStops}
+use Rattle.ciel_master.specs.Seen.{MasterSeen}
+use Rattle.ciel_master.specs.Taking.{LearnedFor, now_of}
+use Rattle.ciel_master.specs.declared.stop.Now.{Now}
+use Rattle.ciel_master.specs.declared.stop.RunEnd.{RunEnd}
+use Rattle.ciel_master.specs.declared.stop.Stop.{Stop}
+use Rattle.ciel_master_safe.proofs.Turning.{plan_same, starts_same}
+use Rattle.ciel_journal_job.specs.Report as report
+use Rattle.ciel_table.specs.declared.refusal.Learn.{Learn}
+use Rattle.ciel_task_order.specs.Performs.{HasRows, IsMissing, OfTask, the_shop}
+use Rattle.ciel_task_order.specs.Shop as shop
+use Rattle.ciel_task_order.specs.Views.{P, how_view, order_view, report_end}
+use Rattle.ciel_task_order.specs.declared.block.Block.{Block}
+use Rattle.ciel_task_order.specs.declared.order.Order.{Order}
+use Rattle.ciel_task_order.specs.declared.report.End.{End}
+use Rattle.ciel_task_order.specs.declared.report.Made.{Made}
+use Rattle.ciel_task_order.specs.declared.report.Report.{Report}
+use Rattle.ciel_task_order.specs.declared.shop.Shop.{Shop}
+use Rattle.ciel_master_board.specs.Handed.{OneEventMore, OrdersOf}
+use Rattle.ciel_master_board.specs.TurnsLaws as laws
+use Rattle.ciel_master_board.specs.TurnsLaws.{IsOut, Promised}
+use Rattle.ciel_master_board.proofs.Ending.{clash_ends, overflow_ends}
+use Rattle.ciel_master_board.proofs.Handing.{fewer_orders}
+use Rattle.ciel_master_board.proofs.Turning.{missed_turns, out_is_open, report_turns}
+use Rattle.ciel_run_drive.specs.Ended.{Because, Ended, Shows}
+use Rattle.ciel_run_drive.specs.Kept.{Kept, slots_of}
+use Rattle.ciel_run_drive.specs.Working.{Working}
+use Rattle.ciel_run_drive.proofs.Names as names
+
+nothing : (ns : List Named) → map named_view ns ≡ [] → ns ≡ []
+nothing [] e = refl
+nothing (n ∷ ns) e = cc
+
+module _ {K N : Type 0} {gives : K → Gives} {digest : N → List ℕ → List ℕ} {shop_ : Shop K N} {unbroken : Bool} {m : MasterSeen N}
+    {out : List (Option Order)} {draw : ℕ} (at : Working gives digest shop_ unbroken m out) (k : Kept gives digest shop_ unbroken m out draw)
+    (r : Report) (then : List (Option Order)) (reports : Reports gives digest shop_ out then r) where
+  abbrev D : List ℕ → List ℕ
+  D = digest shop_.namer
+
+  abbrev J : s.Job
+  J = job_view shop_.job
+
+  abbrev G : Gives
+  G = gives shop_.kit
+
+  abbrev S : Setting s.Desc P shop.Block
+  S = the_shop D J G
+
+  abbrev b : Board P
+  b = m.board
+
+  abbrev is : IsSetting S
+  is = shop_is D J G k.orderly
+
+  abbrev order : Order
+  order = reports.0
+
+  abbrev a : Answers gives digest shop_ order r
+  a = reports.3
+
+  now_driven : DrivenJournal S.job b.plan b.journal
+  now_driven = (k.history, k.runs.driven, sym k.runs.follows.journal)
+
+  -- with a slot less
+  fewer : (h : List (Event s.Desc)) → OrdersOf S h (slice_set (slots_of out) r.worker None) → OrdersOf S h (slots_of then)
+  fewer h orders = subst (OrdersOf S h) (sym (names.taken_slots at r then reports)) orders
+
+  -- ---- thrown away
+
+  pub thrown_kept : {again : Shop K N} → again ≡ shop_ → {still : Bool} → Kept gives digest again still m then draw
+  thrown_kept {again} same {still} =
+      subst (λ z. Kept gives digest z still m then draw) (sym same) (record {
+        orderly = k.orderly;
+        history = k.history;
+        runs = k.runs;
+        orders = fewer k.history (fewer_orders S k.history k.history (slots_of out) k.orders (λ o i. i) r.worker);
+        draws = k.draws;
+      })
+
+  -- ---- taken
+
+  module _ (there : (y : OrderOut) × (find_order r.number b.orders ≡ Some y)) where
+    out_is : IsOut S k.history b (order_view order)
+    out_is =
+        out_is_open S is k.history b at.work.going at.work.safe.sound k.runs (slots_of out) k.orders r.worker (order_view order)
+        (names.has at r then reports) (names.found_own at r then reports there)
+
+    rows_now : HasRows D b.table order
+    rows_now = at.rows r.worker order reports.1
+
+    -- what something missing spawned: nothing
+    spawned_none : IsMissing r.end → r.spawned.items ≡ []
+    spawned_none miss =
+        pick r.end refl miss (a.performs.says out_is.start out_is.order out_is.apart)
+      where
+        pick : (end : End) → r.end ≡ end → IsMissing end
+            → report.Says S.job S.inner S.lower out_is.start (report_view order.number r.spawned.items (report_end r)) → r.spawned.items ≡ []
+        pick (End.Missing name loss seen) q i (report.at_end ds next spawns sp rest) =
+            nothing r.spawned.items (subst (λ z. report.Spawns S.job S.inner S.lower out_is.start ds (map named_view r.spawned.items)
+            (rep.end_view (how_view r.copied.items z))) q sp)
+        pick (End.Missing name loss seen) q i (report.at_wait n refs ds next spawns sp rest) =
+            nothing r.spawned.items (subst (λ z. report.Spawns S.job S.inner S.lower out_is.start ds (map named_view r.spawned.items)
+            (rep.end_view (how_view r.copied.items z))) q sp)
+        pick (End.Made ms) q i says = absurd i
+        pick (End.Shown shown) q i says = absurd i
+        pick (End.Saved p j refs holds mark) q i says = absurd i
+
+    promised : (IsMissing r.end → ⊥) → Promised S k.history b (order_view order) r.spawned.items (report_end r)
+    promised none =
+        performs_promises D J G k.orderly k.history b at.work.going at.work.safe.sound k.runs order out_is rows_now r a.performs none
+
+    -- ---- refused
+
+    none_refused : (n : Named) (why : Learn) → FirstRefused D r.spawned.items b.table n why → IsMissing r.end → ⊥
+    none_refused n why f i = empty f.before (sym (spawned_none i) ∙ f.split)
+      where
+        empty : (xs : List Named) → [] ≡ xs ++ n ∷ f.after → ⊥
+        empty [] q = cc
+        empty (x ∷ xs) q = cc
+
+    clash_at : (n : Named) (kept given : List ℕ) → FirstRefused D r.spawned.items b.table n (Learn.Clash kept given) → (J2 : List Entry) → J2
+        ≡ b.journal → Ended gives digest shop_ b.plan J2 (RunEnd.NameClash kept given)
+    clash_at n kept given f J2 q =
+        subst (λ z. Ended gives digest shop_ b.plan z (RunEnd.NameClash kept given)) (sym q)
+        (record {
+          driven = now_driven;
+          cause = clash_ends S is k.history b at.work.safe.sound k.runs (order_view order)
+              out_is r.spawned.items (report_end r) (promised (none_refused n (Learn.Clash kept given) f)) n kept given f;
+        })
+
+    overflow_at : (n : Named) (held : ℕ) (given : Desc1) → given ≡ n.desc → FirstRefused D r.spawned.items b.table n (Learn.Full held)
+        → (J2 : List Entry) → J2 ≡ b.journal → Ended gives digest shop_ b.plan J2 (RunEnd.TooMany held given)
+    overflow_at n held given g f J2 q =
+        subst (λ z. Ended gives digest shop_ b.plan z (RunEnd.TooMany held given)) (sym q)
+        (record {
+          driven = now_driven;
+          cause = (
+            n,
+            g,
+            overflow_ends S is k.history b at.work.safe.sound k.runs (order_view order) out_is r.spawned.items (report_end r)
+                (promised (none_refused n (Learn.Full held) f)) n held f,
+          );
+        })
+
+    -- by what accept refuses
+    module _ {J2 : List Entry} (same : J2 ≡ b.journal) where
+      pub clash_ended : (kept given : List ℕ) → FirstStops (digest m.namer) r.spawned.items b.table (Stop.NameClash kept given)
+          → Ended gives digest shop_ b.plan J2 (RunEnd.NameClash kept given)
+      clash_ended kept given why =
+          let f = subst (λ n. FirstStops (digest n) r.spawned.items b.table (Stop.NameClash kept given)) at.namer why in
+          clash_at f.0 kept given f.1 J2 same
+
+      pub overflow_ended : (held : ℕ) (given : Desc1) → FirstStops (digest m.namer) r.spawned.items b.table (Stop.TooMany held given)
+          → Ended gives digest shop_ b.plan J2 (RunEnd.TooMany held given)
+      overflow_ended held given why =
+          let f = subst (λ n. FirstStops (digest n) r.spawned.items b.table (Stop.TooMany held given)) at.namer why in
+          overflow_at f.0 held given f.2 f.1 J2 same
+
+    -- ---- accepted
+
+    module _ (rest : RestsNow b) (carried : IsCarriedOut b r.end) (learns : LearnedFor (digest m.namer) r.end r.spawned.items b.table)
+        {m2 : MasterSeen N} (took : (x : OrderOut) × (find_order r.number b.orders ≡ Some x)
+        × (m2 ≡ record m { board = accepted (digest m.namer) b x r.spawned.items (report_end r) })) where
+      abbrev next : Board P
+      next = accepted D b (order_view order).out r.spawned.items (report_end r)
+
+      new_is : m2 ≡ record m { board = next }
+      new_is = names.new_is at r then reports there carried learns took
+
+      all : (IsMissing r.end → ⊥) → AllLearned D r.spawned.items b.table
+      all = names.all at r then reports there carried learns took
+
+      plan_next : next.plan ≡ b.plan
+      plan_next = plan_same D b (order_view order).out r.spawned.items (report_end r)
+
+      -- ---- the run goes on
+
+      abbrev To : rep.End P → Type 0
+      To e = OneEventMore S k.history (accepted D b (order_view order).out r.spawned.items e) (slice_set (slots_of out) r.worker None)
+
+      more : To (report_end r)
+      more = pick r.end refl
+        where
+          whole : (IsMissing r.end → ⊥) → (laws.IsMissing (report_end r) → ⊥) → To (report_end r)
+          whole none also =
+              report_turns S is k.history b at.work.going at.work.safe.sound k.runs (order_view order) out_is rest (slots_of out) k.orders r.worker
+              r.spawned.items (report_end r) (promised none) also (all none)
+
+          others : (e : End) → r.end ≡ e → (IsMissing e → ⊥) → (laws.IsMissing (how_view r.copied.items e) → ⊥) → To (report_end r)
+          others e q none also =
+              whole (λ i. none (subst IsMissing q i)) (λ i. also (subst laws.IsMissing (ap (how_view r.copied.items) q) i))
+
+          pick : (e : End) → r.end ≡ e → To (report_end r)
+          pick (End.Made ms) q = others (End.Made ms) q (λ i. i) (λ i. i)
+          pick (End.Saved p j refs holds mark) q = others (End.Saved p j refs holds mark) q (λ i. i) (λ i. i)
+          pick (End.Shown shown) q = others (End.Shown shown) q (λ i. i) (λ i. i)
+          pick (End.Missing name loss seen) q =
+              let v : report_end r ≡ rep.missing name loss.number = ap (how_view r.copied.items) q in
+              subst To (sym v) (missed_turns S is k.history b at.work.going at.work.safe.sound k.runs (order_view order) out_is rest (slots_of out)
+              k.orders r.worker name loss.number (names.missing_is at r then reports there name loss seen q carried))
+
+      pub taken_kept : {again : Shop K N} → again ≡ shop_ → {still : Bool} → Kept gives digest again still m2 then draw
+      taken_kept {again} same {still} =
+          subst (λ z. Kept gives digest z still m2 then draw) (sym same)
+          (subst (λ z. Kept gives digest shop_ still z then draw) (sym new_is) (record {
+            orderly = k.orderly;
+            history = k.history ++ more.event ∷ [];
+            runs = more.runs;
+            orders = fewer (k.history ++ more.event ∷ []) more.orders;
+            draws = draw_now;
+          }))
+        where
+          draw_now : draw ≡ state_after next.plan.seed (2 * next.starts)
+          draw_now =
+              k.draws ∙ (ap (λ (z : Plan). state_after z.seed (2 * b.starts)) (sym plan_next)
+              ∙ ap (λ n. state_after next.plan.seed (2 * n)) (sym (starts_same D b (order_view order).out r.spawned.items (report_end r))))
+
+      -- ---- or it is the end
+
+      shows : (shown : Shown) → r.end ≡ End.Shown shown → s.Means J (json_around G) (shown_view shown) × Shows D J G b.plan m2.board.journal
+      shows shown q =
+          let x = shown_meant D J G k.orderly k.history b at.work.going at.work.safe.sound k.runs order out_is rows_now rest
+          (root order.task (subst (OfTask order.task) q a.performs.kind)) r a.performs shown q (all (λ i. subst IsMissing q i)) in (
+            x.0,
+            record {
+              history = k.history ++ x.1.event ∷ [];
+              driven = subst (λ z. Driven S.job z (k.history ++ x.1.event ∷ [])) plan_next x.1.runs.driven;
+              journal = sym x.1.runs.follows.journal ∙ ap (λ (z : MasterSeen N). z.board.journal) (sym new_is);
+              done = x.1.done;
+            },
+          )
+        where
+          root : (task : TaskId) → OfTask task (End.Shown shown) → task ≡ TaskId.Show
+          root TaskId.Show i = refl
+          root (TaskId.Of n) i = absurd i
+
+      over : (shown : Shown) → r.end ≡ End.Shown shown → (e : RunEnd) → Because D J G b.plan m2.board.journal e
+          → Ended gives digest shop_ b.plan m2.board.journal e
+      over shown q e why =
+          let x = (shows shown q).1 in
+          record { driven = (x.history, x.driven, x.journal); cause = why }
+
+      answer_is : (text : List ℕ) (e : End) → Now.Answer text ≡ now_of e → e ≡ End.Shown (Shown.Text text)
+      answer_is text (End.Made ms) g = cc
+      answer_is text (End.Saved p j refs holds mark) g = cc
+      answer_is text (End.Shown (Shown.Text t)) g = cc
+      answer_is text (End.Shown (Shown.Fault f)) g = cc
+      answer_is text (End.Missing name loss seen) g = cc
+
+      fault_is : (fault : Fault) (e : End) → Now.Fault fault ≡ now_of e → e ≡ End.Shown (Shown.Fault fault)
+      fault_is fault (End.Made ms) g = cc
+      fault_is fault (End.Saved p j refs holds mark) g = cc
+      fault_is fault (End.Shown (Shown.Text t)) g = cc
+      fault_is fault (End.Shown (Shown.Fault f)) g = cc
+      fault_is fault (End.Missing name loss seen) g = cc
+
+      pub answer_ended : {text : List ℕ} → Now.Answer text ≡ now_of r.end → Ended gives digest shop_ b.plan m2.board.journal (RunEnd.Answer text)
+      answer_ended {text} g =
+          let q = answer_is text r.end g in
+          over (Shown.Text text) q (RunEnd.Answer text) (shows (Shown.Text text) q)
+
+      pub fault_ended : {fault : Fault} → Now.Fault fault ≡ now_of r.end → Ended gives digest shop_ b.plan m2.board.journal (RunEnd.Fault fault)
+      fault_ended {fault} g =
+          let q = fault_is fault r.end g in
+          over (Shown.Fault fault) q (RunEnd.Fault fault) (shows (Shown.Fault fault) q)

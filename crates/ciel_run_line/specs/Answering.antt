@@ -1,0 +1,44 @@
+-- What the program's run of a job asks for, and what its parts come to.
+use Rattle.std.specs.Prelude.{◌≡◌, ◌<◌, ◌^◌, ℕ, List, Some, None, Result, Ok, Err, length}
+use Rattle.sky_base.specs.See as s
+use Rattle.sky_base.specs.See.{Answered}
+use Rattle.ciel_run_load.specs.Loading.{IsReadJob}
+use Rattle.ciel_run_load.specs.declared.load.NoJob.{NoJob}
+use Rattle.ciel_run_load.specs.declared.script.NoScript.{NoScript}
+use Rattle.ciel_master.specs.declared.stop.RunEnd.{RunEnd}
+use Rattle.sky_plain.specs.Needs.{Chain, MakesMany}
+use Rattle.ciel_run_line.specs.Source.{over_lines}
+use Rattle.ciel_run_log.specs.declared.why.Why.{Why}
+
+-- its script was read, over inputs of these names, not too many
+abbrev pub CanRunJob : s.Job → Type 0
+CanRunJob job = (names : List (List ℕ)) × IsReadJob names job × (length names < 2 ^ 32)
+
+-- why the sequential interpreter has no bytes
+abbrev pub PlainCause : s.Job → Why → Type 0
+PlainCause job (Why.Fault fault) = s.Means job over_lines (Answered.fault fault)
+PlainCause job (Why.TooMany held None) = (held ≡ 65536) × MakesMany job over_lines 65537
+PlainCause job (Why.TooDeepPlain depth) = (depth ≡ 4096) × ((d : s.Desc) × Chain job over_lines 4096 d)
+PlainCause job Why.Memory = Unit {0}
+PlainCause job _ = ⊥
+
+-- the end of a run, as what comes of it
+abbrev pub end_view : RunEnd → Result (List ℕ) Why
+end_view (RunEnd.Answer bytes) = Ok bytes
+end_view (RunEnd.Fault fault) = Err (Why.Fault fault)
+end_view (RunEnd.Endless names) = Err (Why.Endless names)
+end_view (RunEnd.TooMany held given) = Err (Why.TooMany held (Some given))
+end_view RunEnd.AllLost = Err Why.AllLost
+end_view (RunEnd.NameClash kept given) = Err (Why.NameClash kept given)
+end_view RunEnd.Memory = Err Why.Memory
+
+-- why there is no job, as what ends a call
+abbrev pub no_job_view : NoJob → Why
+no_job_view (NoJob.Syntax kind line col) = Why.Syntax kind line col
+no_job_view (NoJob.Failed path) = Why.ReadFault path
+no_job_view (NoJob.TooLong path at) = Why.TooLongInput path at
+no_job_view NoJob.Memory = Why.Memory
+
+abbrev pub no_script_view : NoScript → Why
+no_script_view (NoScript.Syntax kind line col) = Why.Syntax kind line col
+no_script_view NoScript.Memory = Why.Memory

@@ -1,0 +1,104 @@
+-- Why a call of the program ends as it does, before anything is written.
+use Rattle.std.specs.Prelude.{◌≡◌, ℕ, List, [], true, false, ◌⊎◌, Option, Some, None, Result, Ok, Err, Contains, IfErr, IfOk}
+use Rattle.sky_base.specs.See as s
+use Rattle.sky_base.specs.See.{Answered}
+use Rattle.sky_base.specs.declared.object.Desc1.{Desc1}
+use Rattle.sky_base.specs.declared.object.Named.{Named}
+use Rattle.ciel_journal.specs.Entries.{Entry}
+use Rattle.ciel_journal.specs.Job.{Digest}
+use Rattle.ciel_journal.specs.Journals.{CircleOf, DrivenJournal}
+use Rattle.ciel_run_load.specs.Found.{Holds, IsOver, IsTooLong}
+use Rattle.ciel_run_load.specs.Line as files
+use Rattle.ciel_run_load.specs.Line.{Input}
+use Rattle.ciel_run_load.specs.Syntax.{IsSyntaxFault}
+use Rattle.ciel_master_board.specs.Ends.{AllAreLost, ClashOf, OverflowOf}
+use Rattle.ciel_words.specs.declared.words.Words.{Words}
+use Rattle.sky_plain.specs.Needs.{Chain, MakesMany}
+use Rattle.ciel_run_line.specs.Line.{FitsIn, OfLine, OfSource, SourceFits, files_of, paths_in}
+use Rattle.ciel_run_line.specs.Runs.{RootEnds, plan_of, run_of, told_of}
+use Rattle.ciel_run_line.specs.Source.{OfJob, over_lines}
+use Rattle.ciel_run_log.specs.declared.why.Why.{Why}
+
+-- ---- of a job that ran, whose journal is J
+
+module _ (w : Words) (J : List Entry) (job : s.Job) where
+  -- the tasks of what has these names wait for one another, nothing is open, and the job never means an answer
+  abbrev pub GoesRound : List Digest → Type 0
+  GoesRound names = (w.plain ≡ false) × CircleOf (told_of w job) (plan_of w) J names × s.Never job over_lines
+
+  -- as many descriptions are held as there may be, and one more is made: on the engine by an open Start, where it is given
+  abbrev pub HasTooMany : ℕ → Option Desc1 → Type 0
+  HasTooMany held None = (w.plain ≡ true) × (held ≡ 65536) × MakesMany job over_lines 65537
+  HasTooMany held (Some given) =
+      (w.plain ≡ false) × (held ≡ 65536) × ((n : Named) × (n.desc ≡ given) × OverflowOf (run_of w job) (plan_of w) J held n)
+
+  -- these are canonical bytes of two descriptions of the run that differ and have one digest
+  abbrev pub Clashes : (kept given : List ℕ) → Type 0
+  Clashes kept given = (w.plain ≡ false) × ClashOf (run_of w job) (plan_of w) J kept given
+
+  -- each worker has a Lost
+  abbrev pub LosesAll : Type 0
+  LosesAll = (w.plain ≡ false) × AllAreLost (plan_of w) J
+
+  -- so many descriptions wait for each other
+  abbrev pub IsTooDeep : ℕ → Type 0
+  IsTooDeep depth = (w.plain ≡ true) × (depth ≡ 4096) × ((d : s.Desc) × Chain job over_lines 4096 d)
+
+  -- why the job has no bytes
+  abbrev pub JobCause : Why → Type 0
+  JobCause (Why.Fault fault) = s.Means job over_lines (Answered.fault fault)
+  JobCause (Why.Endless names) = GoesRound names
+  JobCause (Why.TooMany held given) = HasTooMany held given
+  JobCause Why.AllLost = LosesAll
+  JobCause (Why.NameClash kept given) = Clashes kept given
+  JobCause (Why.TooDeepPlain depth) = IsTooDeep depth
+  JobCause Why.Memory = Unit {0}
+  JobCause _ = ⊥
+
+  -- the root task came to its end where the job has bytes, or a fault
+  abbrev pub EndsRoot : Result (List ℕ) Why → Type 0
+  EndsRoot (Ok bytes) = RootEnds w J job
+  EndsRoot (Err (Why.Fault fault)) = RootEnds w J job
+  EndsRoot (Err _) = Unit {0}
+
+  -- what a job comes to: the bytes that it means, or why it has none; by a driven journal on the engine, and with none by the sequential
+  -- interpreter
+  pub record AnswersSo (result : Result (List ℕ) Why) : Type 0 where
+    pub bytes : IfOk result (λ b. s.Means job over_lines (Answered.bytes b))
+    pub none : IfErr result JobCause
+    pub driven : (J ≡ []) ⊎ DrivenJournal (told_of w job) (plan_of w) J
+    pub plain : w.plain ≡ true → J ≡ []
+    pub root : w.plain ≡ false → EndsRoot result
+
+-- ---- of a line
+
+-- a file is longer than its limit
+abbrev pub TooLongOf : (List ℕ → Option (List ℕ)) → Option files.Line → List ℕ → ℕ → Type 0
+TooLongOf content None path at = ⊥
+TooLongOf content (Some f) path at =
+    IsOver content f path at
+    × ((source : List ℕ) (inputs : List Input) → Holds content f source inputs → IsTooLong f source inputs path at)
+
+-- `risen` says that the count of faults of the files rose, and J is the journal
+module _ (content : List ℕ → Option (List ℕ)) (w : Words) (risen : Type 0) (J : List Entry) where
+  -- the fact, of the job of the line, which is within the limits, where files tell it
+  abbrev pub OfRun : (s.Job → Type 0) → Type 0
+  OfRun P = OfLine content w (λ source inputs. FitsIn (files_of w) source inputs × OfJob source inputs P)
+
+  -- why there is no job to run
+  abbrev pub NoJobBy : Why → Type 0
+  NoJobBy (Why.Syntax kind l c) = OfSource content w (λ source. SourceFits (files_of w) source × IsSyntaxFault source kind l c)
+  NoJobBy (Why.ReadFault path) = Contains (paths_in (files_of w)) path × risen
+  NoJobBy (Why.TooLongInput path at) = TooLongOf content (files_of w) path at
+  NoJobBy Why.Memory = Unit {0}
+  NoJobBy _ = ⊥
+
+  -- why nothing is to be written
+  abbrev pub CauseOf : Why → Type 0
+  CauseOf Why.AllLost = (w.plain ≡ false) × AllAreLost (plan_of w) J × OfRun (λ job. Unit {0})
+  CauseOf (Why.TooDeepPlain depth) = (w.plain ≡ true) × OfRun (λ job. IsTooDeep w J job depth)
+  CauseOf (Why.Fault fault) = OfRun (λ job. JobCause w J job (Why.Fault fault))
+  CauseOf (Why.Endless names) = OfRun (λ job. GoesRound w J job names)
+  CauseOf (Why.TooMany held given) = OfRun (λ job. HasTooMany w J job held given)
+  CauseOf (Why.NameClash kept given) = OfRun (λ job. Clashes w J job kept given)
+  CauseOf why = NoJobBy why

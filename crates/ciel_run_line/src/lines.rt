@@ -1,0 +1,117 @@
+//! From a line to what its job comes to: the job is loaded or generated, and answered.
+
+ghost use Rattle.std.specs.Prelude.{◌≡◌, ◌≢◌, [], None, Err, false, IfErr, IfOk, OnOk, drop, length, map};
+ghost use Rattle.sky_base.specs.JobView.{job_view};
+ghost use Rattle.sky_base.specs.See.{Answered as Meant, Means};
+ghost use Rattle.ciel_run_job.specs.Told.{ToldBy};
+ghost use Rattle.ciel_run_job.specs.Told.{told_of};
+ghost use Rattle.ciel_io.specs.Faults.{HasRisen};
+ghost use Rattle.ciel_io.specs.Tells.{Tells};
+ghost use Rattle.ciel_run_load.specs.Loading.{IsOf};
+ghost use Rattle.ciel_master.specs.Views.{entry_view};
+ghost use Rattle.ciel_words.specs.Sound.{LineIsSound};
+ghost use Rattle.ciel_run_line.specs.Answering.{CanRunJob, no_job_view, no_script_view};
+ghost use Rattle.ciel_run_line.specs.Causes.{CauseOf, NoJobBy, OfRun};
+ghost use Rattle.ciel_run_line.specs.Asked.{AsksFor, AsksOf, NoRunOf, ShowsResult};
+ghost use Rattle.ciel_run_line.specs.Line.{FitsIn, OfLine, files_of, paths_in};
+ghost use Rattle.ciel_run_line.specs.Runs.{EndsShown, IsDriven, IsModestFor};
+ghost use Rattle.ciel_run_line.specs.Source.{over_lines};
+ghost use Rattle.ciel_run_log.specs.declared.why.Why.{Why};
+
+use crate::answer::{Answered, answer};
+use ciel_gate::gate::Gate;
+use ciel_io::files::Files;
+use ciel_run_load::generated::generated_job;
+use ciel_run_load::load::{NoJob, load};
+use ciel_run_load::script::NoScript;
+use ciel_run_log::why::Why;
+use ciel_words::words::Words;
+use sky_base::job::Job;
+use std::alloc::Global;
+use std::sync::Wait;
+use std::thread::Threads;
+
+/// Why a line names no job that can be run.
+fn why_no_job(no: NoJob) -> Why
+    ensures { result ≡ no_job_view no }
+{
+    match no {
+        NoJob::Syntax { kind, line, col } => Why::Syntax { kind, line, col },
+        NoJob::Failed { path } => Why::ReadFault { path },
+        NoJob::TooLong { path, limit } => Why::TooLongInput { path, limit },
+        NoJob::Memory => Why::Memory,
+    }
+}
+
+/// Why there is no script.
+fn why_no_script(no: NoScript) -> Why
+    ensures { result ≡ no_script_view no }
+{
+    match no {
+        NoScript::Syntax { kind, line, col } => Why::Syntax { kind, line, col },
+        NoScript::Memory => Why::Memory,
+    }
+}
+
+/// The job of a line: its script is read, or it is generated.
+fn job_of<F: Files>(alloc: Global, line: &Words, files: &mut F) -> Result<Job, Why>
+    requires line { LineIsSound line.now }
+    ensures read { IfOk result (λ job. CanRunJob (job_view job)) }
+    ensures job { IfOk result (λ job. OfLine (F.content files.old) line.now
+        (λ source inputs. FitsIn (files_of line.now) source inputs × IsOf source inputs (job_view job))) }
+    ensures none { IfErr result (NoJobBy (F.content files.old) line.now (HasRisen (F.faults files.old) (F.faults files.new)) []) }
+    ensures asked { OnOk result (Tells (F.asked files.old) (F.asked files.new) (paths_in (files_of line.now))) }
+    ensures asks { IfErr result (λ why. AsksFor why (paths_in (files_of line.now)) (F.asked files.old) (F.asked files.new)) }
+{
+    if let Some(path) = &line.script {
+        return match load(alloc, path, line.inputs.as_slice(), files) {
+            Ok(job) => Ok(job),
+            Err(no) => Err(why_no_job(no)),
+        };
+    }
+    let Some(lines) = line.generate else {
+        unreachable!()
+    };
+    match generated_job(alloc, lines) {
+        Ok(job) => Ok(job),
+        Err(no) => Err(why_no_script(no)),
+    }
+}
+
+/// What the job of a line comes to.
+pub fn answer_line<F: Files, G, R>(
+    rt: R,
+    alloc: Global,
+    line: &Words,
+    files: &mut F,
+    gates: &mut Vec<G>,
+) -> Answered
+where
+    G: Gate + Send + 'static,
+    R: Threads + Wait + Copy + Send + Drop + 'static,
+    requires line { LineIsSound line.now }
+    requires gates { length gates.old.items ≡ 64 }
+    ensures bytes { IfOk result.result (λ b. OfRun (F.content files.old) line.now (HasRisen (F.faults files.old) (F.faults files.new))
+        (map entry_view result.journal.items) (λ job. Means job over_lines (Meant.bytes b))) }
+    ensures none { IfErr result.result (CauseOf (F.content files.old) line.now (HasRisen (F.faults files.old) (F.faults files.new))
+        (map entry_view result.journal.items)) }
+    ensures driven { OfLine (F.content files.old) line.now (λ source inputs. IsDriven line.now source inputs (map entry_view result.journal.items)) }
+    ensures root { line.now.plain ≡ false → ShowsResult result.result
+        → OfLine (F.content files.old) line.now (λ source inputs. EndsShown line.now source inputs (map entry_view result.journal.items)) }
+    ensures empty { NoRunOf line.now.plain result.result → map entry_view result.journal.items ≡ [] }
+    ensures kept { NoRunOf line.now.plain result.result → gates.new ≡ gates.old }
+    ensures told { result.result ≢ Err Why.Memory
+        → ToldBy (map entry_view result.journal.items) (told_of G.entered line.now.workers gates.old.items)
+        (told_of G.entered line.now.workers gates.new.items) }
+    ensures others { result.result ≢ Err Why.Memory → drop line.now.workers gates.new.items ≡ drop line.now.workers gates.old.items }
+    ensures all { result.result ≢ Err Why.Memory → length gates.new.items ≡ 64 }
+    ensures asks { AsksOf result.result (paths_in (files_of line.now)) (F.asked files.old) (F.asked files.new) }
+{
+    match job_of(alloc, line, files) {
+        Ok(job) => answer(rt, alloc, line, job, gates),
+        Err(why) => Answered {
+            result: Err(why),
+            journal: Vec::new(alloc),
+        },
+    }
+}

@@ -1,0 +1,3 @@
+mod Loaded
+mod Taken
+mod Going

@@ -1,0 +1,58 @@
+-- What the script and the inputs of a line come to: a job, or why there is none.
+use Rattle.std.specs.Prelude.{◌≡◌, ◌≤◌, ℕ, List, [], ◌∷◌, Option, Some, Contains, length, map, take}
+use Rattle.sky_base.specs.See.{Job}
+use Rattle.sky_parse.specs.Source.{IsScript}
+use Rattle.ciel_io.specs.Tells.{Tells, TellsPart}
+use Rattle.ciel_run_load.specs.Line.{Input, Line, keys_of, name_in, paths_of}
+use Rattle.ciel_run_load.specs.Found.{Fits, Holds, IsOver, IsTooLong, limit}
+use Rattle.ciel_run_load.specs.Reading.{AsksUpTo}
+use Rattle.ciel_run_load.specs.Syntax.{IsSyntaxFault}
+use Rattle.ciel_run_load.specs.declared.read.Unread.{Unread}
+use Rattle.ciel_run_load.specs.declared.load.NoJob.{NoJob}
+use Rattle.ciel_run_load.specs.declared.script.NoScript.{NoScript}
+
+abbrev pub unread : Unread → NoJob
+unread (Unread.Failed path) = NoJob.Failed path
+unread (Unread.TooLong path at) = NoJob.TooLong path at
+unread Unread.Memory = NoJob.Memory
+
+-- bytes are no script
+abbrev pub RefusedSo : List ℕ → NoScript → Type 0
+RefusedSo source (NoScript.Syntax kind line col) = IsSyntaxFault source kind line col
+RefusedSo source NoScript.Memory = Unit {0}
+
+-- the script is that of some bytes, not too many, over inputs of these names, and so are the job's inputs
+pub record IsReadJob (names : List (List ℕ)) (job : Job) : Type 0 where
+  pub source : List ℕ
+  pub is : IsScript source names job.script
+  pub within : length source ≤ limit
+  pub named : keys_of job.inputs ≡ names
+
+-- the job is that of the script that these bytes are, over these inputs
+abbrev pub IsOf : List ℕ → List Input → Job → Type 0
+IsOf source inputs job = IsScript source (keys_of inputs) job.script × (job.inputs ≡ inputs)
+
+module _ (content : List ℕ → Option (List ℕ)) (line : Line) where
+  -- the job is that of the script and the inputs that stand where the line says, where files tell them
+  pub record IsLoaded (job : Job) : Type 0 where
+    pub read : IsReadJob (map name_in line.inputs) job
+    pub stands : (source : List ℕ) (inputs : List Input) → Holds content line source inputs
+        → Fits source inputs × IsOf source inputs job
+
+  -- the line names no job that can be run
+  abbrev pub NotLoaded : Type 0 → NoJob → Type 0
+  NotLoaded risen (NoJob.Syntax kind l c) =
+      (source : List ℕ) → content line.script ≡ Some source → (length source ≤ limit) × IsSyntaxFault source kind l c
+  NotLoaded risen (NoJob.Failed path) = Contains (paths_of line) path × risen
+  NotLoaded risen (NoJob.TooLong path at) =
+      IsOver content line path at
+      × ((source : List ℕ) (inputs : List Input) → Holds content line source inputs → IsTooLong line source inputs path at)
+  NotLoaded risen NoJob.Memory = Unit {0}
+
+-- which paths were asked where there is none: that of the script where it is none, those up to the one that could not be read, or for want
+-- of memory some of the first
+abbrev pub AsksJob : NoJob → List (List ℕ) → Option (List (List ℕ)) → Option (List (List ℕ)) → Type 0
+AsksJob (NoJob.Syntax kind l c) paths before now = Tells before now (take 1 paths)
+AsksJob (NoJob.Failed path) paths before now = AsksUpTo path paths before now
+AsksJob (NoJob.TooLong path at) paths before now = AsksUpTo path paths before now
+AsksJob NoJob.Memory paths before now = TellsPart before now paths

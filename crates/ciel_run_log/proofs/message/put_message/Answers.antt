@@ -1,0 +1,96 @@
+-- What was put is the message of the end.
+use Rattle.std.proofs.Common.{◌≡◌, ◌∙◌, ℕ, List, [], ◌∷◌, codes, OnOk, OnErr, sym, ap, ap₂, subst}
+use Rattle.std.specs.List.{concat}
+use Rattle.ciel_io.specs.Tells.{Tells, TellsPart}
+use Rattle.ciel_run_log.specs.Message.{placed, counted, message_of}
+use Rattle.ciel_run_log.proofs.message.put_message.Goals as goal
+
+pub returns-in-Syntax-clause-written : goal.returns-in-Syntax-clause-written
+returns-in-Syntax-clause-written g c =
+    let same : placed (codes "ciel: syntax ") c.syntax_name.result.now c.in-Syntax.line c.in-Syntax.col ≡ message_of c.args.why.now =
+    ap (λ n. placed (codes "ciel: syntax ") n c.in-Syntax.line c.in-Syntax.col) c.syntax_name.ensures ∙ ap message_of (sym c.in-Syntax.is) in
+    subst (λ (m : List ℕ). OnOk c.put_place.result (Tells (g.J.Sink.written c.args.log.now) (g.J.Sink.written c.put_place.new.log) m)) same
+    c.put_place.ensures.written
+
+pub returns-in-Syntax-clause-part : goal.returns-in-Syntax-clause-part
+returns-in-Syntax-clause-part g c =
+    let same : placed (codes "ciel: syntax ") c.syntax_name.result.now c.in-Syntax.line c.in-Syntax.col ≡ message_of c.args.why.now =
+    ap (λ n. placed (codes "ciel: syntax ") n c.in-Syntax.line c.in-Syntax.col) c.syntax_name.ensures ∙ ap message_of (sym c.in-Syntax.is) in
+    subst (λ (m : List ℕ). OnErr c.put_place.result (TellsPart (g.J.Sink.written c.args.log.now) (g.J.Sink.written c.put_place.new.log) m)) same
+    c.put_place.ensures.part
+
+pub returns-in-Fault-clause-written : goal.returns-in-Fault-clause-written
+returns-in-Fault-clause-written g c =
+    let same : placed (codes "ciel: fault ") c.fault_name.result.now c.in-Fault.fault.line c.in-Fault.fault.col ≡ message_of c.args.why.now =
+    ap (λ n. placed (codes "ciel: fault ") n c.in-Fault.fault.line c.in-Fault.fault.col) c.fault_name.ensures ∙ ap message_of (sym c.in-Fault.is) in
+    subst (λ (m : List ℕ). OnOk c.put_place-in-Fault.result
+    (Tells (g.J.Sink.written c.args.log.now) (g.J.Sink.written c.put_place-in-Fault.new.log) m)) same c.put_place-in-Fault.ensures.written
+
+pub returns-in-Fault-clause-part : goal.returns-in-Fault-clause-part
+returns-in-Fault-clause-part g c =
+    let same : placed (codes "ciel: fault ") c.fault_name.result.now c.in-Fault.fault.line c.in-Fault.fault.col ≡ message_of c.args.why.now =
+    ap (λ n. placed (codes "ciel: fault ") n c.in-Fault.fault.line c.in-Fault.fault.col) c.fault_name.ensures ∙ ap message_of (sym c.in-Fault.is) in
+    subst (λ (m : List ℕ). OnErr c.put_place-in-Fault.result
+    (TellsPart (g.J.Sink.written c.args.log.now) (g.J.Sink.written c.put_place-in-Fault.new.log) m)) same c.put_place-in-Fault.ensures.part
+
+pub returns-in-TooMany-clause-written : goal.returns-in-TooMany-clause-written
+returns-in-TooMany-clause-written g c =
+    let same : counted (codes "ciel: too many descriptions: ") c.in-TooMany.held ≡ message_of c.args.why.now =
+    ap message_of (sym c.in-TooMany.is) in
+    subst (λ (m : List ℕ). OnOk c.put_count.result (Tells (g.J.Sink.written c.args.log.now) (g.J.Sink.written c.put_count.new.log) m)) same
+    c.put_count.ensures.written
+
+pub returns-in-TooMany-clause-part : goal.returns-in-TooMany-clause-part
+returns-in-TooMany-clause-part g c =
+    let same : counted (codes "ciel: too many descriptions: ") c.in-TooMany.held ≡ message_of c.args.why.now =
+    ap message_of (sym c.in-TooMany.is) in
+    subst (λ (m : List ℕ). OnErr c.put_count.result (TellsPart (g.J.Sink.written c.args.log.now) (g.J.Sink.written c.put_count.new.log) m)) same
+    c.put_count.ensures.part
+
+pub returns-in-TooDeepPlain-clause-written : goal.returns-in-TooDeepPlain-clause-written
+returns-in-TooDeepPlain-clause-written g c =
+    let same : counted (codes "ciel: plain run too deep ") c.in-TooDeepPlain.depth ≡ message_of c.args.why.now =
+    ap message_of (sym c.in-TooDeepPlain.is) in
+    subst (λ (m : List ℕ). OnOk c.put_count-in-TooDeepPlain.result
+    (Tells (g.J.Sink.written c.args.log.now) (g.J.Sink.written c.put_count-in-TooDeepPlain.new.log) m)) same
+    c.put_count-in-TooDeepPlain.ensures.written
+
+pub returns-in-TooDeepPlain-clause-part : goal.returns-in-TooDeepPlain-clause-part
+returns-in-TooDeepPlain-clause-part g c =
+    let same : counted (codes "ciel: plain run too deep ") c.in-TooDeepPlain.depth ≡ message_of c.args.why.now =
+    ap message_of (sym c.in-TooDeepPlain.is) in
+    subst (λ (m : List ℕ). OnErr c.put_count-in-TooDeepPlain.result
+    (TellsPart (g.J.Sink.written c.args.log.now) (g.J.Sink.written c.put_count-in-TooDeepPlain.new.log) m)) same
+    c.put_count-in-TooDeepPlain.ensures.part
+
+pub returns-in-TooLongInput-clause-part : goal.returns-in-TooLongInput-clause-part
+returns-in-TooLongInput-clause-part g c =
+    let same : concat (codes "ciel: too long " ∷ c.as_str-in-TooLongInput.result.now ∷ codes " " ∷ c.format-limit.result.now ∷ codes "\n" ∷ [])
+    ≡ message_of c.args.why.now =
+    ap₂ (λ p n. concat (codes "ciel: too long " ∷ p ∷ codes " " ∷ n ∷ codes "\n" ∷ [])) c.as_str-in-TooLongInput.ensures.value
+    c.format-limit.ensures.text
+    ∙ ap message_of (sym c.in-TooLongInput.is) in
+    subst (λ (m : List ℕ). OnErr c.put_all-in-TooLongInput.result
+    (TellsPart (g.J.Sink.written c.args.log.now) (g.J.Sink.written c.put_all-in-TooLongInput.new.sink) m)) same
+    c.put_all-in-TooLongInput.ensures.part
+
+pub returns-in-Usage-clause-written : goal.returns-in-Usage-clause-written
+returns-in-Usage-clause-written g c =
+    subst (λ (m : List ℕ). OnOk c.put.result (Tells (g.J.Sink.written c.args.log.now) (g.J.Sink.written c.put.new.self) m))
+    (ap message_of (sym c.in-Usage.is)) c.put.ensures.written
+
+pub returns-in-Usage-clause-part : goal.returns-in-Usage-clause-part
+returns-in-Usage-clause-part g c =
+    subst (λ (m : List ℕ). OnErr c.put.result (TellsPart (g.J.Sink.written c.args.log.now) (g.J.Sink.written c.put.new.self) m))
+    (ap message_of (sym c.in-Usage.is)) c.put.ensures.part
+
+pub returns-in-AllLost-clause-written : goal.returns-in-AllLost-clause-written
+returns-in-AllLost-clause-written g c =
+    subst (λ (m : List ℕ). OnOk c.put-in-AllLost.result (Tells (g.J.Sink.written c.args.log.now) (g.J.Sink.written c.put-in-AllLost.new.self) m))
+    (ap message_of (sym c.in-AllLost.is)) c.put-in-AllLost.ensures.written
+
+pub returns-in-AllLost-clause-part : goal.returns-in-AllLost-clause-part
+returns-in-AllLost-clause-part g c =
+    subst (λ (m : List ℕ). OnErr c.put-in-AllLost.result
+    (TellsPart (g.J.Sink.written c.args.log.now) (g.J.Sink.written c.put-in-AllLost.new.self) m)) (ap message_of (sym c.in-AllLost.is))
+    c.put-in-AllLost.ensures.part

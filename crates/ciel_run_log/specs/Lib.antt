@@ -1,0 +1,4 @@
+pub mod Status
+pub mod Message
+pub mod Summary
+pub mod Text

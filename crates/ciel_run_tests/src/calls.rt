@@ -1,0 +1,81 @@
+// The program over a script at the path `s` and an input at the path `f`, in memory. One helper calls it, and its contract says nothing: what
+// the program promises would else be carried through every row.
+
+ghost use Rattle.std.specs.Prelude.{◌≡◌, length};
+
+use ciel_gate::gate::Gate;
+use ciel_io::mem_files::MemFiles;
+use ciel_io::mem_sink::MemSink;
+use ciel_run::top::ciel_main;
+use ciel_run_log::why::Ended;
+use sky_base::text::{Bytes, Txt};
+use std::alloc::Global;
+use std::sync::Wait;
+use std::test::Fail;
+use std::thread::Threads;
+
+/// Which read, which write of the result and which write on the log fails, counted from 1; 0 where none does.
+pub type Fails = (u32, u32, u32);
+
+/// A file with these bytes.
+fn file(alloc: Global, path: &str, text: &str) -> Result<(Txt, Bytes), Fail> {
+    let bytes = Bytes::new(alloc, Vec::from_slice(alloc, text.as_bytes())?)?;
+    Ok((Txt::new(alloc, path)?, bytes))
+}
+
+/// A list of this number.
+fn only(alloc: Global, number: u32) -> Result<Vec<u32>, Fail> {
+    let mut numbers = Vec::new(alloc);
+    numbers.push(number)?;
+    Ok(numbers)
+}
+
+/// The script and the input.
+fn files(alloc: Global, source: &str, fails: u32) -> Result<MemFiles, Fail> {
+    let mut files = Vec::new(alloc);
+    files.push(file(alloc, "s", source)?)?;
+    files.push(file(alloc, "f", "x")?)?;
+    let files = MemFiles::new(alloc, files, only(alloc, fails)?)?;
+    Ok(files)
+}
+
+fn sink(alloc: Global, fails: u32) -> Result<MemSink, Fail> {
+    let sink = MemSink::new(alloc, 1_000, only(alloc, fails)?)?;
+    Ok(sink)
+}
+
+/// The words of a row: a space stands between two words.
+fn words_of(alloc: Global, row: &str) -> Result<Vec<Txt>, Fail> {
+    let mut words = Vec::new(alloc);
+    for word in row.split(' ') {
+        words.push(Txt::new(alloc, word)?)?;
+    }
+    Ok(words)
+}
+
+/// How the program ended, what it wrote, and what it told on its log.
+#[derive(Drop)]
+pub struct Got {
+    pub ended: Ended,
+    pub out: MemSink,
+    pub log: MemSink,
+}
+
+/// The program over the words of a row, a script and these gates.
+pub fn outcome<G: Gate + Send + 'static, R: Threads + Wait + Copy + Send + Drop + 'static>(
+    rt: R,
+    alloc: Global,
+    row: &str,
+    source: &str,
+    fails: Fails,
+    gates: &mut Vec<G>,
+) -> Result<Got, Fail>
+    requires { length gates.old.items ≡ 64 }
+{
+    let mut files = files(alloc, source, fails.0)?;
+    let words = words_of(alloc, row)?;
+    let mut out = sink(alloc, fails.1)?;
+    let mut log = sink(alloc, fails.2)?;
+    let ended = ciel_main(rt, alloc, &words, &mut files, &mut out, &mut log, gates);
+    Ok(Got { ended, out, log })
+}

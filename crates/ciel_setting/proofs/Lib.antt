@@ -1,3 +1,0 @@
-pub mod Binds
-mod Binding
-pub mod Telling

@@ -1,2 +1,0 @@
-pub use Rattle.ciel_worker.specs.Onward
-pub mod Crewed

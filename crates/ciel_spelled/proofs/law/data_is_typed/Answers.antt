@@ -1,5 +1,0 @@
-use Rattle.ciel_spelled.proofs.JsonTyped.{json_reads_typed}
-use Rattle.ciel_spelled.proofs.law.data_is_typed.Goals as goal
-
-pub returns : goal.returns
-returns c = record { reads = json_reads_typed }

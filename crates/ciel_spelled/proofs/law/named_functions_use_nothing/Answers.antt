@@ -1,5 +1,0 @@
-use Rattle.ciel_spelled.proofs.Made.{script_uses}
-use Rattle.ciel_spelled.proofs.law.named_functions_use_nothing.Goals as goal
-
-pub returns : goal.returns
-returns c = record { scripts = script_uses }

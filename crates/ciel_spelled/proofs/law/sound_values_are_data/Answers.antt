@@ -1,5 +1,0 @@
-use Rattle.ciel_spelled.proofs.Bare.{sound_data, sound_spelled}
-use Rattle.ciel_spelled.proofs.law.sound_values_are_data.Goals as goal
-
-pub returns : goal.returns
-returns c = record { values = sound_data; descriptions = sound_spelled }

@@ -1,0 +1,16 @@
+pub mod Begins
+pub mod Ends
+pub mod Runs
+pub use Rattle.sky_machine_through.specs.Comes
+pub use Rattle.sky_machine_through.specs.Asked
+pub use Rattle.sky_machine_through.specs.Through
+pub use Rattle.sky_machine_through.specs.Found
+pub use Rattle.sky_machine_through.specs.Step
+pub use Rattle.sky_machine_through.specs.Steps
+pub use Rattle.sky_machine_through.specs.Onward
+pub use Rattle.sky_machine_through.specs.Knows
+pub use Rattle.sky_machine_through.specs.Exactly
+pub mod Walks
+pub mod Saying
+pub mod Finds
+pub mod Stays

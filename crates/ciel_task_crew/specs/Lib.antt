@@ -1,0 +1,4 @@
+pub mod Calls
+pub mod Crews
+pub mod Hints
+pub mod Seen

@@ -1,5 +1,0 @@
-use Rattle.ciel_through.proofs.Says.{says_where}
-use Rattle.ciel_through.proofs.law.going_through_says.Goals as goal
-
-pub returns : goal.returns
-returns c = says_where

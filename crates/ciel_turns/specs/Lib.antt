@@ -1,4 +1,0 @@
-pub mod Left
-pub mod Handed
-pub mod Laws
-pub mod Ends

@@ -1,9 +1,0 @@
-use Rattle.ciel_walks.proofs.Saying.{missing_one}
-use Rattle.ciel_walks.proofs.law.missing_says.Goals as goal
-
-pub returns : goal.returns
-returns c =
-    record {
-      says = λ tag mark frozen job around plain o finds r name loss b answered. missing_one tag mark frozen job around plain o finds r b
-          answered name loss;
-    }

@@ -1,2 +1,0 @@
-pub use Rattle.ciel_perform.specs.Onward
-pub mod Told

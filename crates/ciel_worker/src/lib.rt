@@ -1,4 +1,0 @@
-//! A worker: what it does with any order, between its gate's entrance and exit.
-#![tactic(auto)]
-
-pub mod perform;

@@ -1,6 +1,0 @@
-use Rattle.sky_state.specs.StateView.{stand_of}
-use Rattle.resume_rows.specs.Rows.{FitsUnless}
-use Rattle.resume_rows.proofs.kinds.ends.Given as goal
-
-abbrev pub invariant-loop-waits : goal.invariant-loop-waits
-invariant-loop-waits l = FitsUnless l.script.code (stand_of l.state) l.step

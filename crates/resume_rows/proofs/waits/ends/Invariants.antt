@@ -1,6 +1,0 @@
-use Rattle.sky_state.specs.StateView.{stand_of}
-use Rattle.resume_rows.specs.Rows.{FitsUnless}
-use Rattle.resume_rows.proofs.waits.ends.Given as goal
-
-abbrev pub invariant-loop-stop : goal.invariant-loop-stop
-invariant-loop-stop l = FitsUnless l.script.code (stand_of l.state) l.step

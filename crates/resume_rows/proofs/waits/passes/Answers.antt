@@ -1,7 +1,0 @@
-use Rattle.std.proofs.Common.{sym, subst}
-use Rattle.sky_onward.specs.Onward.{AnswersSound}
-use Rattle.resume_rows.proofs.waits.passes.Goals as goal
-
-pub resumed-requires-clause-answers : goal.resumed-requires-clause-answers
-resumed-requires-clause-answers c =
-    subst (AnswersSound c.args.script.now.code) (sym c.as_slice.ensures.value) (c.in_ok-given.ensures c.args.script.now.code)

@@ -1,0 +1,12 @@
+pub mod Lower
+pub mod Opened
+pub mod Nodes
+pub mod Tasks
+pub mod Sound
+pub mod Written
+pub mod Typed
+pub mod Refers
+pub mod Bounds
+pub mod Laws
+pub mod NamesLaws
+pub mod EndsLaws

@@ -1,4 +1,0 @@
-pub mod Gathering
-pub mod Running
-pub mod Showing
-pub mod Nexts

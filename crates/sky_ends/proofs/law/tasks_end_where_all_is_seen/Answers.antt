@@ -1,5 +1,0 @@
-use Rattle.sky_ends.proofs.Nexts.{task_ends}
-use Rattle.sky_ends.proofs.law.tasks_end_where_all_is_seen.Goals as goal
-
-pub returns : goal.returns
-returns c = record { ends = λ job around n t h. task_ends job around n t h }

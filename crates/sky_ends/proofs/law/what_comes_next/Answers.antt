@@ -1,5 +1,0 @@
-use Rattle.sky_ends.proofs.Nexts.{next_there}
-use Rattle.sky_ends.proofs.law.what_comes_next.Goals as goal
-
-pub returns : goal.returns
-returns c = record { next = λ job around n t j picks seen before. next_there job around n t j picks seen before }

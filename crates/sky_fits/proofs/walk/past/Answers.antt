@@ -1,4 +1,0 @@
-use Rattle.sky_fits.proofs.walk.past.Goals as goal
-
-pub after_exp-requires : goal.after_exp-requires
-after_exp-requires c = let has = rw c.in-Index.is at c.requires.has in has.0

@@ -1,8 +1,0 @@
-use Rattle.sky_base.specs.View.{view}
-use Rattle.sky_base.specs.Op as op
-use Rattle.sky_base.specs.Eval as run
-use Rattle.sky_scope.specs.Plain as plain
-use Rattle.sky_forms.proofs.given.has_given.Goals as goal
-
-pub returns-clause-answer : goal.returns-clause-answer
-returns-clause-answer c = λ rows. c.give_exact.ensures.answer (op.has (view c.args.dict.now) (view c.args.key.now)) c.has.ensures.answer rows

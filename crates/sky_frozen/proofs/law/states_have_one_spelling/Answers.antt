@@ -1,5 +1,0 @@
-use Rattle.sky_frozen.proofs.Parts.{one_state}
-use Rattle.sky_frozen.proofs.law.states_have_one_spelling.Goals as goal
-
-pub returns : goal.returns
-returns c = one_state

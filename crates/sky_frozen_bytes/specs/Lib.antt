@@ -1,0 +1,4 @@
+pub mod Bytes
+pub mod FrozenCode
+pub mod Codes
+pub mod Spelled

@@ -1,0 +1,23 @@
+use Rattle.std.proofs.Common.{◌+◌, sym, subst}
+use Rattle.sky_base.specs.Tree.{Exp}
+use Rattle.sky_base.specs.TreeView.{exp_view, ands_view}
+use Rattle.sky_base_law.specs.Nodes.{node_at}
+use Rattle.sky_base_law.specs.Opened.{exp_node, HasAnds}
+use Rattle.sky_machine_code.specs.Shapes.{stops_at}
+use Rattle.sky_machine_open.proofs.Places.{exp_in, second_is}
+use Rattle.sky_frozen_fits.proofs.exprs.logic_row.Goals as goal
+
+pub after_exp-second-requires : goal.after_exp-second-requires
+after_exp-second-requires c =
+    let e = c.args.first.now in
+    let here = c.inside-in_default.ensures.here (exp_node (Exp.logic (stops_at c.args.stop) e (ands_view c.args.rest.now))) c.requires.0 in
+    exp_in (λ i. node_at c.args.code.now i) e (exp_view c.get.result.now) (c.args.number + 1) c.inside-in_default.result c.get.ensures here
+    c.requires.1
+
+pub join_row-requires-clause-has : goal.join_row-requires-clause-has
+join_row-requires-clause-has c =
+    let e = c.args.first.now in
+    let here = c.inside-in_default.ensures.here (exp_node (Exp.logic (stops_at c.args.stop) e (ands_view c.args.rest.now))) c.requires.0 in
+    let second = second_is e (exp_view c.get.result.now) c.args.number c.inside-in_default.result c.after_exp-second.result c.get.ensures here
+    c.after_exp-second.ensures in
+    subst (HasAnds (λ i. node_at c.args.code.now i) (ands_view c.args.rest.now)) (sym second) c.requires.2

@@ -1,6 +1,0 @@
--- The law is proved over the definitions alone.
-use Rattle.sky_grammar.proofs.WordsLaw as law
-use Rattle.sky_grammar.proofs.law.at_their_words.Goals as goal
-
-pub returns : goal.returns
-returns c = law.at_their_words

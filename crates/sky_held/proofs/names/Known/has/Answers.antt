@@ -1,8 +1,0 @@
-use Rattle.std.proofs.Common.{◌∙◌}
-use Rattle.sky_base.specs.Eval.{is_one_of}
-use Rattle.sky_held.proofs.NamesLaw.{contains_is}
-use Rattle.sky_held.proofs.names.Known.has.Goals as goal
-
-pub returns : goal.returns
-returns c = c.contains.ensures ∙ contains_is c.in_ok-share.field-0 c.self.inside.keys.keys
-    ∙ (λ i. is_one_of (c.in_ok-share.ensures i) (c.self.view_is i))

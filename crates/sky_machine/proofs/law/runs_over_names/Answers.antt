@@ -1,5 +1,0 @@
-use Rattle.std.proofs.Common.{refl}
-use Rattle.sky_machine.proofs.law.runs_over_names.Goals as goal
-
-pub returns : goal.returns
-returns c = λ digest sc reads. record { script = refl; make = λ d. refl }

@@ -1,0 +1,16 @@
+use Rattle.std.proofs.Common.{sym, ap}
+use Rattle.sky_machine_entries.specs.Config.{body_in, rest_in}
+use Rattle.sky_machine_entries.specs.Entries.{forms}
+use Rattle.sky_machine_loop.proofs.Passes.{stmt_passes, same_out}
+use Rattle.sky_machine_loop.proofs.got.finish_stmt.Goals as goal
+
+pub returns-in-Got-clause-same : goal.returns-in-Got-clause-same
+returns-in-Got-clause-same g c = λ w h. rw c.in-Got.is (c.in_ok-control-in-Got.ensures.same w h)
+
+pub returns-clause-same : goal.returns-clause-same
+returns-clause-same g c = λ w h.
+    ap (rest_in w c.args.entries.now.items) (sym
+    (stmt_passes w (body_in w (forms c.args.entries.now.items)) c.args.stmt c.args.end c.args.state.now c.in_default.not-Got))
+
+pub returns-clause-falls : goal.returns-clause-falls
+returns-clause-falls g c = same_out c.args.end _ c.args.entries.now.items c.requires.within

@@ -1,0 +1,10 @@
+pub use Rattle.sky_machine.specs.Onward
+pub use Rattle.sky_machine.specs.Knows
+pub use Rattle.sky_machine.specs.Exactly
+pub use Rattle.sky_machine.specs.declared.step.Step
+pub use Rattle.sky_machine.specs.Steps
+pub use Rattle.sky_machine.specs.Comes
+pub mod Asked
+pub mod Through
+pub mod Went
+pub mod Found

@@ -1,0 +1,15 @@
+pub mod AskLaw
+pub mod Found
+pub mod Signs
+pub mod Innermost
+pub mod AfterLaw
+pub mod RestLaw
+pub mod TakeLaw
+pub mod FitTaken
+pub mod Soundly
+pub mod Climb
+pub mod Fines
+pub mod Back
+pub mod Asked
+pub mod Again
+pub mod Begin

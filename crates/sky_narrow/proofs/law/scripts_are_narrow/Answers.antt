@@ -1,5 +1,0 @@
-use Rattle.sky_narrow.proofs.Narrows.{script_narrow}
-use Rattle.sky_narrow.proofs.law.scripts_are_narrow.Goals as goal
-
-pub returns : goal.returns
-returns c = record { scripts = script_narrow }

@@ -1,5 +1,0 @@
-use Rattle.sky_onward.proofs.Waiting.{stack_left}
-use Rattle.sky_onward.proofs.law.stacks_are_left_at_waits.Goals as goal
-
-pub returns : goal.returns
-returns c = record { stacks = stack_left }

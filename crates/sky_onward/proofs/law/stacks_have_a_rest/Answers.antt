@@ -1,5 +1,0 @@
-use Rattle.sky_onward.proofs.Rests.{has_rest}
-use Rattle.sky_onward.proofs.law.stacks_have_a_rest.Goals as goal
-
-pub returns : goal.returns
-returns c = record { rest = has_rest }

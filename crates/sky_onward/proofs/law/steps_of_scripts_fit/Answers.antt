@@ -1,5 +1,0 @@
-use Rattle.sky_onward.proofs.Onward.{steps_fit}
-use Rattle.sky_onward.proofs.law.steps_of_scripts_fit.Goals as goal
-
-pub returns : goal.returns
-returns c = record { steps = steps_fit }

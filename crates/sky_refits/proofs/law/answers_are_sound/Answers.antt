@@ -1,5 +1,0 @@
-use Rattle.sky_refits.proofs.Again.{wait_ends}
-use Rattle.sky_refits.proofs.law.answers_are_sound.Goals as goal
-
-pub returns : goal.returns
-returns c = record { ends = λ w q os sound s h. wait_ends w sound q os s h }

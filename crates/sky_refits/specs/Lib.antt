@@ -1,2 +1,0 @@
-pub mod Sounds
-pub mod Laws

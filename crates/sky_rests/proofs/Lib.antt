@@ -1,4 +1,0 @@
-pub mod AfterLaw
-pub mod RestLaw
-pub mod TakeLaw
-pub mod FitTaken

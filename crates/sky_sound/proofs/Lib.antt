@@ -1,2 +1,0 @@
-pub mod UsesLaw
-pub mod KeysLaw

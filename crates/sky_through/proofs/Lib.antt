@@ -1,6 +1,0 @@
-pub use Rattle.sky_onward.proofs.Knows
-pub mod Goes
-pub mod Turns
-pub mod Knowing
-pub mod Wholes
-pub mod Asking

@@ -1,4 +1,0 @@
-pub mod AskLaw
-pub mod Found
-pub mod Signs
-pub mod Innermost
