@@ -1,4 +1,4 @@
-pub mod Crewing
-pub mod Crossing
+pub mod CrewSteps
+pub mod ThreadSafety
 pub mod Gathered
 pub mod Opened

@@ -4,8 +4,8 @@ pub mod ToldWaves
 pub mod AlikeLaw
 pub mod KnownLaw
 pub mod HistoriesLaw
-pub mod Growing
-pub mod Learning
-pub mod Walking
-pub mod Reporting
+pub mod CleanLists
+pub mod NamesLearned
+pub mod CleanWalks
+pub mod ReportLemmas
 pub mod Filled

@@ -1,4 +1,4 @@
-pub mod Telling
+pub mod ReportContents
 pub mod Middle
 pub mod Right
-pub mod Saying
+pub mod WalkResults

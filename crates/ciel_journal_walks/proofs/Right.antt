@@ -23,9 +23,9 @@ use Rattle.sky_state.specs.Pending.{pending_in}
 use Rattle.sky_state.specs.Stand.{Stand, low_state}
 use Rattle.sky_state.specs.Stands.{Stands}
 use Rattle.sky_state.proofs.HeldLaw.{stands_pending, stands_waits}
-use Rattle.sky_base_law.proofs.Gathering.{all_there}
+use Rattle.sky_base_law.proofs.GatheredObjects.{all_there}
 use Rattle.sky_state_law.specs.Moves.{Answers, SeenAs, Step, waits}
-use Rattle.sky_state_law.proofs.Making.{all_to, between_none, between_two, see_to, stands_to, wait_to}
+use Rattle.sky_state_law.proofs.MadeSegments.{all_to, between_none, between_two, see_to, stands_to, wait_to}
 use Rattle.ciel_journal.specs.History.{OpenStart, live_in}
 use Rattle.ciel_journal.specs.Job.{Digest, Held, Job}
 use Rattle.ciel_journal.specs.Lawful.{Given, HeldAt}
@@ -36,8 +36,8 @@ use Rattle.ciel_journal_job.specs.Report.{First, Met, at_first, brought, held_th
 use Rattle.ciel_journal_walks.specs.Laws.{Begins, Brings, the}
 use Rattle.ciel_journal_walks.specs.Walk.{AreFound}
 use Rattle.ciel_journal_walks.proofs.Middle.{middle}
-use Rattle.ciel_journal_walks.proofs.Telling.{Clashing}
-use Rattle.sky_state_law.proofs.Standing.{held_there}
+use Rattle.ciel_journal_walks.proofs.ReportContents.{Clashing}
+use Rattle.sky_state_law.proofs.HeldDescriptions.{held_there}
 
 true_not : false ≡ true → ⊥
 true_not e = cc

@@ -11,9 +11,9 @@ use Rattle.ciel_master_board.specs.Moves.{accepted, closed, empty, lost_at, orde
 use Rattle.ciel_master_board.specs.Reports as r
 use Rattle.ciel_master_board.specs.Reports.{Copy, IsNamed, learned_all}
 use Rattle.ciel_master_board.specs.Sound.{CopyFits, OrderSound, OutputFits, Sound}
-use Rattle.ciel_master_board.proofs.Learning.{grown}
-use Rattle.ciel_master_board.proofs.Saving.{same_waits}
-use Rattle.ciel_master_board.proofs.Sounding.{accepted_sound, closed_sound, lost_sound, opened_sound, order_in, sound_whole, started_sound}
+use Rattle.ciel_master_board.proofs.LearnedNames.{grown}
+use Rattle.ciel_master_board.proofs.WaitsByName.{same_waits}
+use Rattle.ciel_master_board.proofs.SoundLemmas.{accepted_sound, closed_sound, lost_sound, opened_sound, order_in, sound_whole, started_sound}
 use Rattle.ciel_journal.specs.Entries as j
 use Rattle.ciel_journal.specs.Graph.{Runnable}
 use Rattle.ciel_journal.specs.Job.{Each, In}
@@ -42,15 +42,15 @@ use Rattle.ciel_master.specs.Marked.{IsCarriedOut, Marked, WasMarked, unseen}
 use Rattle.sky_base.specs.Tree.{Script}
 use Rattle.ciel_master_safe.specs.Laws.{OrderIsGood, SafeOrders}
 use Rattle.ciel_master_safe.specs.Safe.{IsCall, Safe}
-use Rattle.ciel_master_safe.proofs.Sending.{waits_of_calls}
-use Rattle.ciel_master_safe.proofs.Keeping.{loss_safe, opened_safe, report_safe, start_safe}
+use Rattle.ciel_master_safe.proofs.SoundOrders.{waits_of_calls}
+use Rattle.ciel_master_safe.proofs.SafeLemmas.{loss_safe, opened_safe, report_safe, start_safe}
 use Rattle.ciel_task_order.specs.declared.order.Order as rust
 use Rattle.ciel_master.specs.Seen.{Going, HasRoom, MasterSeen, MasterStands, board_of, most_descriptions, plan_view}
 use Rattle.ciel_master.specs.Taking.{CanTake, CopiesPlace, LearnedFor, OutputsPlace, entry_for, is_last, learned_for, table_after}
 use Rattle.ciel_master_board.specs.Left.{losses_left}
-use Rattle.ciel_master_board.proofs.Working.{fewer_losses}
+use Rattle.ciel_master_board.proofs.WorkMeasure.{fewer_losses}
 use Rattle.ciel_master.proofs.Stays.{tasks_join}
-use Rattle.ciel_master.proofs.Marking.{carried_out, has_shelf, marked_more}
+use Rattle.ciel_master.proofs.MarkedLosses.{carried_out, has_shelf, marked_more}
 use Rattle.ciel_master_bring.specs.Brings.{worker_of}
 use Rattle.ciel_master.specs.Views.{entry_view, kept_view}
 use Rattle.ciel_master.specs.declared.entry.Entry.{Entry}

@@ -1,5 +1,5 @@
 mod Lists
 mod Steps
-pub mod Marking
+pub mod MarkedLosses
 mod Stays
 mod Kept

@@ -4,7 +4,7 @@ use Rattle.std.proofs.Common.{refl, ap, sym, ◌∙◌, subst}
 use Rattle.sky_base.specs.declared.object.TaskId.{TaskId}
 use Rattle.ciel_master_board.specs.Board.{OrderOut, tasks_out}
 use Rattle.ciel_master_board.specs.Moves.{without}
-use Rattle.ciel_master_board.proofs.Sounding.{same_self}
+use Rattle.ciel_master_board.proofs.SoundLemmas.{same_self}
 use Rattle.ciel_journal.specs.Job.{In}
 use Rattle.ciel_journal.proofs.Members.{agree, bool_cases}
 use Rattle.ciel_want.specs.Waited.{same_id}

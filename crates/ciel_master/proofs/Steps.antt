@@ -4,7 +4,7 @@ use Rattle.std.specs.Result.{IfErr, IsErrAnd}
 use Rattle.sky_base.specs.declared.object.Named.{Named}
 use Rattle.ciel_master_board.specs.Moves.{with_copies, with_outputs}
 use Rattle.ciel_master_board.specs.Reports.{Copy, Output}
-use Rattle.ciel_master_board.proofs.Sounding.{same_names}
+use Rattle.ciel_master_board.proofs.SoundLemmas.{same_names}
 use Rattle.ciel_journal.specs.Job.{Digest, Each}
 use Rattle.ciel_journal.proofs.Booked.{each_more}
 use Rattle.ciel_table.specs.Changes.{placed, row_with}

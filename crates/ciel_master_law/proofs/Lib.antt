@@ -1,4 +1,4 @@
-pub mod Meaning
+pub mod ShopLaws
 pub mod Binds
-mod Binding
-pub mod Telling
+mod CallVariables
+pub mod DescriptionsTold

@@ -12,7 +12,7 @@ use Rattle.sky_base_law.proofs.WorkLaw.{in_left, in_right}
 use Rattle.sky_base_law.specs.NamesLaws.{Tag, NoClash, no_name}
 use Rattle.ciel_name.specs.Spelled.{IsText, CapturesSo, Spelled, AllSpelled, PairsSpelled}
 use Rattle.ciel_name.specs.Laws.{OneSpelling, OneCanon, SpelledDesc, inner, canon_of, ApartInSet, ApartByInner}
-use Rattle.ciel_name.proofs.Spelling.{four_free, text_free, val_free, vals_free, pairs_free}
+use Rattle.ciel_name.proofs.PrefixFreeBytes.{four_free, text_free, val_free, vals_free, pairs_free}
 
 heads : (a b : ℕ) (r s : List ℕ) → nat_eq a b ≡ false → a ∷ r ≡ b ∷ s → ⊥
 heads a b r s n e = let h : a ≡ b = cc in false≢true (sym n ∙ eq-eqb a b h)

@@ -15,7 +15,7 @@ use Rattle.sky_base.proofs.Values.{depths-add}
 use Rattle.sky_base.proofs.Keys.{Rising-put}
 use Rattle.ciel_name.specs.Spelled.{IsText, Spelled, AllSpelled, PairsSpelled, Read, NoneRead, TextRead, NoTextRead}
 use Rattle.ciel_name.specs.Bodies.{ItemsRead, NoItems, PairsRead, NoPairs, above_from, is_above}
-use Rattle.ciel_name.proofs.Spelling.{val_free, text_free, pair_bytes}
+use Rattle.ciel_name.proofs.PrefixFreeBytes.{val_free, text_free, pair_bytes}
 
 -- ---- values
 

@@ -1,6 +1,6 @@
 pub mod Numbers
 pub mod Tags
-pub mod Spelling
-pub mod Reading
+pub mod PrefixFreeBytes
+pub mod DecodeSteps
 pub mod Items
 pub mod Canon

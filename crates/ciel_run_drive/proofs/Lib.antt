@@ -1,8 +1,8 @@
 mod Slots
-mod Telling
+mod ToldLemmas
 mod Names
 mod Turns
 mod Reports
 mod Over
 mod Modest
-mod Moving
+mod MovedLemmas

@@ -3,7 +3,7 @@ use Rattle.std.proofs.Common.{◌≡◌, ℕ, List, [], ◌∷◌, Some, inl, in
 use Rattle.sky_base.specs.KitView.{Gives}
 use Rattle.sky_base.specs.See as s
 use Rattle.ciel_master_law.specs.Ends.{IsModest, IsOrderly}
-use Rattle.ciel_master_law.proofs.Meaning.{modest_alike, shop_is}
+use Rattle.ciel_master_law.proofs.ShopLaws.{modest_alike, shop_is}
 use Rattle.ciel_journal.specs.Entries.{Entry, journal_of}
 use Rattle.ciel_journal.specs.History.{Event, Plan, Standing, after, before_all, done, lost, missed, saved, start}
 use Rattle.ciel_journal.specs.Job.{In, Job}
@@ -14,7 +14,7 @@ use Rattle.ciel_task_order.specs.Shop as shop
 use Rattle.ciel_task_order.specs.Views.{P}
 use Rattle.ciel_master_board.specs.Setting.{Setting}
 use Rattle.ciel_master_board.specs.Ends.{Modest}
-use Rattle.ciel_master_board.proofs.Ending.{none_circles, none_clashes, none_overflows}
+use Rattle.ciel_master_board.proofs.EndsLemmas.{none_circles, none_clashes, none_overflows}
 use Rattle.ciel_run_drive.specs.Ended.{EndsSo, HasAnswer, SomeStays}
 
 -- a Lost in a driven history is of a loss of the plan

@@ -18,7 +18,7 @@ use Rattle.ciel_master_board.specs.Reports.{AllLearned}
 use Rattle.ciel_master_board.specs.Sound.{MissingFits, own_name}
 use Rattle.ciel_task_crew.specs.Crews.{Answers, FadesEach, IsOut as IsOutOf, Reports, Takes, TellsTask, order_at}
 use Rattle.ciel_master_law.specs.Ends.{worker_of}
-use Rattle.ciel_master_law.proofs.Meaning.{missed_fits}
+use Rattle.ciel_master_law.proofs.ShopLaws.{missed_fits}
 use Rattle.ciel_journal.specs.Entries.{Entry}
 use Rattle.ciel_journal.specs.Graph.{Runnable}
 use Rattle.ciel_journal.specs.Job.{Digest, In}
@@ -41,8 +41,8 @@ use Rattle.ciel_task_order.specs.declared.report.Report.{Report}
 use Rattle.ciel_task_order.specs.declared.shop.Shop.{Shop}
 use Rattle.ciel_master_board.specs.TurnsLaws as laws
 use Rattle.ciel_master_board.specs.Left.{Has, work}
-use Rattle.ciel_master_board.proofs.Handing.{had_out}
-use Rattle.ciel_master_board.proofs.Idling.{none_can_run, some_is_idle}
+use Rattle.ciel_master_board.proofs.HandedLemmas.{had_out}
+use Rattle.ciel_master_board.proofs.StartChoices.{none_can_run, some_is_idle}
 use Rattle.ciel_master_safe.specs.Laws.{GoesStay, GrowsTo, RowsStay, SafeOrders}
 use Rattle.ciel_master_safe.specs.Safe.{GoesBy}
 use Rattle.std.specs.Option.{option_map}
@@ -51,12 +51,12 @@ use Rattle.ciel_table.specs.declared.row.Row.{Row}
 use Rattle.ciel_master_safe.specs.Reports.{FitsSafely}
 use Rattle.ciel_master_safe.specs.Turns as names
 use Rattle.ciel_master_safe.specs.Turns.{AtWork, Turned, most_waits}
-use Rattle.ciel_master_safe.proofs.Turning.{plan_same}
+use Rattle.ciel_master_safe.proofs.TurnsLemmas.{plan_same}
 use Rattle.ciel_run_drive.specs.Kept.{left, slots_of}
 use Rattle.ciel_run_drive.specs.Told.{ToldOn}
 use Rattle.ciel_run_drive.specs.Working.{IsSentOf, Working}
 use Rattle.ciel_run_drive.proofs.Slots.{at_slots, below_slots, free_at, set_at, slots_at, slots_sent, slots_set}
-use Rattle.ciel_run_drive.proofs.Telling.{IsQuiet, none_fades, tells_quiet, tells_start}
+use Rattle.ciel_run_drive.proofs.ToldLemmas.{IsQuiet, none_fades, tells_quiet, tells_start}
 
 -- ---- small things
 

@@ -6,8 +6,8 @@ use Rattle.sky_base.specs.KitView.{Gives}
 use Rattle.sky_base.specs.See as s
 use Rattle.ciel_master_board.specs.Board.{Board, board_graph}
 use Rattle.ciel_master_board.specs.Setting.{Setting}
-use Rattle.ciel_master_board.proofs.Searching.{circle_follows}
-use Rattle.ciel_master_law.proofs.Meaning.{circle_never, shop_is}
+use Rattle.ciel_master_board.proofs.SearchResults.{circle_follows}
+use Rattle.ciel_master_law.proofs.ShopLaws.{circle_never, shop_is}
 use Rattle.ciel_journal.specs.Entries.{Entry}
 use Rattle.ciel_journal.specs.Graph.{Circle}
 use Rattle.ciel_journal.specs.History.{Plan}
@@ -20,7 +20,7 @@ use Rattle.ciel_task_order.specs.Shop as shop
 use Rattle.ciel_task_order.specs.Views.{P}
 use Rattle.ciel_task_order.specs.declared.order.Order.{Order}
 use Rattle.ciel_task_order.specs.declared.shop.Shop.{Shop}
-use Rattle.ciel_master_board.proofs.Ending.{lost_ends}
+use Rattle.ciel_master_board.proofs.EndsLemmas.{lost_ends}
 use Rattle.ciel_run_drive.specs.Ended.{Ended}
 use Rattle.ciel_run_drive.specs.Kept.{Kept}
 use Rattle.ciel_run_drive.specs.Working.{Working}

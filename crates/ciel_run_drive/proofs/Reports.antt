@@ -18,7 +18,7 @@ use Rattle.ciel_master_board.specs.Reports as rep
 use Rattle.ciel_master_board.specs.Reports.{AllLearned, FirstRefused, named_view, report_view}
 use Rattle.ciel_master_board.specs.Setting.{IsSetting, Setting}
 use Rattle.ciel_task_crew.specs.Crews.{Answers, Reports}
-use Rattle.ciel_master_law.proofs.Meaning.{performs_promises, shop_is, shown_meant}
+use Rattle.ciel_master_law.proofs.ShopLaws.{performs_promises, shop_is, shown_meant}
 use Rattle.ciel_journal.specs.Entries.{Entry}
 use Rattle.ciel_journal.specs.History.{Event, Plan}
 use Rattle.ciel_journal.specs.Turns.{Driven, state_after}
@@ -31,7 +31,7 @@ use Rattle.ciel_master.specs.Taking.{LearnedFor, now_of}
 use Rattle.ciel_master.specs.declared.stop.Now.{Now}
 use Rattle.ciel_master.specs.declared.stop.RunEnd.{RunEnd}
 use Rattle.ciel_master.specs.declared.stop.Stop.{Stop}
-use Rattle.ciel_master_safe.proofs.Turning.{plan_same, starts_same}
+use Rattle.ciel_master_safe.proofs.TurnsLemmas.{plan_same, starts_same}
 use Rattle.ciel_journal_job.specs.Report as report
 use Rattle.ciel_table.specs.declared.refusal.Learn.{Learn}
 use Rattle.ciel_task_order.specs.Performs.{HasRows, IsMissing, OfTask, the_shop}
@@ -46,9 +46,9 @@ use Rattle.ciel_task_order.specs.declared.shop.Shop.{Shop}
 use Rattle.ciel_master_board.specs.Handed.{OneEventMore, OrdersOf}
 use Rattle.ciel_master_board.specs.TurnsLaws as laws
 use Rattle.ciel_master_board.specs.TurnsLaws.{IsOut, Promised}
-use Rattle.ciel_master_board.proofs.Ending.{clash_ends, overflow_ends}
-use Rattle.ciel_master_board.proofs.Handing.{fewer_orders}
-use Rattle.ciel_master_board.proofs.Turning.{missed_turns, out_is_open, report_turns}
+use Rattle.ciel_master_board.proofs.EndsLemmas.{clash_ends, overflow_ends}
+use Rattle.ciel_master_board.proofs.HandedLemmas.{fewer_orders}
+use Rattle.ciel_master_board.proofs.TurnEvents.{missed_turns, out_is_open, report_turns}
 use Rattle.ciel_run_drive.specs.Ended.{Because, Ended, Shows}
 use Rattle.ciel_run_drive.specs.Kept.{Kept, slots_of}
 use Rattle.ciel_run_drive.specs.Working.{Working}

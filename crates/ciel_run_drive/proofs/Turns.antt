@@ -10,7 +10,7 @@ use Rattle.ciel_master_board.specs.Driving.{Picked, Quiet}
 use Rattle.ciel_master_board.specs.Moves.{lost_at, order_for, started}
 use Rattle.ciel_master_board.specs.Setting.{IsSetting, Setting}
 use Rattle.ciel_master_law.specs.Ends.{worker_of}
-use Rattle.ciel_master_law.proofs.Meaning.{shop_is}
+use Rattle.ciel_master_law.proofs.ShopLaws.{shop_is}
 use Rattle.ciel_journal.specs.Graph.{Runnable}
 use Rattle.ciel_journal.specs.Turns.{FirstDue, state_after}
 use Rattle.ciel_journal.proofs.Picked.{picks_unique}
@@ -25,7 +25,7 @@ use Rattle.ciel_task_order.specs.Views.{P, order_view}
 use Rattle.ciel_task_order.specs.declared.order.Order.{Order}
 use Rattle.ciel_task_order.specs.declared.shop.Shop.{Shop}
 use Rattle.ciel_master_board.specs.Handed.{OneEventMore, OrdersOf}
-use Rattle.ciel_master_board.proofs.Turning.{loss_turns, start_turns}
+use Rattle.ciel_master_board.proofs.TurnEvents.{loss_turns, start_turns}
 use Rattle.ciel_run_drive.specs.Ended.{Ended}
 use Rattle.ciel_run_drive.specs.Kept.{Kept, slots_of}
 use Rattle.ciel_run_drive.specs.Working.{Working}

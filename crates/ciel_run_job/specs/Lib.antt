@@ -1,4 +1,4 @@
 pub use Rattle.ciel_run_drive.specs.Ended
-pub use Rattle.ciel_crew.specs.Onward
+pub use Rattle.ciel_crew_channels.specs.Onward
 pub mod Opened
 pub mod Told

@@ -5,7 +5,7 @@ ghost use Rattle.std.specs.Arc.{arc_value};
 ghost use Rattle.sky_base.specs.JobView.{job_view};
 ghost use Rattle.sky_base.specs.Val.{no_pairs, no_vals};
 ghost use Rattle.sky_base.specs.declared.object.Desc1.{Desc1};
-ghost use Rattle.ciel_crew.specs.Onward.{IsRead};
+ghost use Rattle.ciel_crew_channels.specs.Onward.{IsRead};
 ghost use Rattle.ciel_master_board.specs.Reports.{IsNamed};
 ghost use Rattle.ciel_journal.specs.Job.{Each};
 ghost use Rattle.ciel_task_order.specs.Shop.{InputsInOrder};

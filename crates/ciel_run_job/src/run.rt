@@ -3,7 +3,7 @@
 ghost use Rattle.std.specs.Prelude.{[], ◌≡◌, ◌≢◌, ◌≤◌, ◌⊎◌, ◌++◌, ◌<◌, ◌^◌, ℕ, IfOk, drop, length, map, take};
 ghost use Rattle.std.specs.Arc.{arc_value};
 ghost use Rattle.sky_base.specs.JobView.{job_view};
-ghost use Rattle.ciel_crew.specs.Onward.{IsRead};
+ghost use Rattle.ciel_crew_channels.specs.Onward.{IsRead};
 ghost use Rattle.ciel_journal.specs.Job.{Each};
 ghost use Rattle.ciel_run_drive.specs.Working.{Working};
 ghost use Rattle.ciel_run_drive.specs.Ended.{EndsSo};
@@ -18,7 +18,7 @@ ghost use Rattle.ciel_run_job.specs.Told.{told_of};
 
 use crate::gates::{put_behind, set_aside};
 use crate::opening::{Opened, open};
-use ciel_crew::channels::Channels;
+use ciel_crew_channels::channels::Channels;
 use ciel_crew_inline::inline::Inline;
 use ciel_gate::gate::Gate;
 use ciel_master::entry::Entry;

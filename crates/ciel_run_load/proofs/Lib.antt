@@ -1,3 +1,3 @@
 mod Loaded
 mod Taken
-mod Going
+mod LinesLemmas

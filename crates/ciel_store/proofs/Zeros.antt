@@ -4,7 +4,7 @@ use Rattle.std.specs.Prelude.{replicate}
 use Rattle.std.proofs.lemmas.List.{length-replicate}
 use Rattle.atomic_table.specs.Table.{opening}
 use Rattle.ciel_store.specs.Words.{Kept, marker}
-use Rattle.ciel_store.proofs.Keeping.{opens}
+use Rattle.ciel_store.proofs.WordSteps.{opens}
 
 zeros : (n w : ℕ) → get_or (replicate {A = ℕ} n 0) w 0 ≡ 0
 zeros zero w = refl

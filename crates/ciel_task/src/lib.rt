@@ -2,3 +2,6 @@
 #![tactic(auto)]
 
 pub mod perform;
+
+pub use ciel_task_crew::crew;
+pub use ciel_task_order::{block, order, report, shop};

@@ -1,18 +1,18 @@
-pub mod Starting
-pub mod Beginning
-pub mod Clearing
-pub mod Making
-pub mod Telling
-pub mod Lying
-pub mod Passing
-pub mod Going
-pub mod Binding
-pub mod Fitting
-pub mod Performing
-mod Safing
+pub mod TaskStart
+pub mod ResumeStates
+pub mod NameClashes
+pub mod SpawnedNames
+pub mod ReportTruth
+pub mod ReportPlaces
+pub mod FinderRuns
+pub mod RunOutcome
+pub mod CallVariables
+pub mod ReportFit
+pub mod OrderPerformed
+mod ReportSafety
 pub use Rattle.sky_machine_through.proofs.Knows
-pub use Rattle.sky_machine_through.proofs.Asking
+pub use Rattle.sky_machine_through.proofs.AskedLemmas
 pub mod Walks
 pub mod Says
-pub mod Copying
-pub mod Finding
+pub mod CopySteps
+pub mod FoundInputs

@@ -13,9 +13,9 @@ use Rattle.ciel_task_order.specs.declared.block.Held.{Held}
 use Rattle.ciel_task_inputs.specs.Gathers.{CopiedFor, none, one}
 use Rattle.ciel_task_inputs.specs.Copies.{Copies}
 use Rattle.ciel_task_inputs.specs.Fetched.{fetched, told_next}
-use Rattle.ciel_task_inputs.proofs.Fetching.{fetched_both, fetched_of, stands_not, told_copied}
-use Rattle.ciel_task_inputs.proofs.Copying.{copies_more}
-use Rattle.ciel_task_inputs.proofs.Finding.{found_named}
+use Rattle.ciel_task_inputs.proofs.FetchedNames.{fetched_both, fetched_of, stands_not, told_copied}
+use Rattle.ciel_task_inputs.proofs.CopiedObjects.{copies_more}
+use Rattle.ciel_task_inputs.proofs.NameSpots.{found_named}
 
 -- ---- the names
 

@@ -1,7 +1,7 @@
-pub mod Knowing
+pub mod GivenObjects
 pub mod Copied
-pub mod Going
-pub mod Saying
-pub mod Lying
-pub mod Reporting
-mod Safing
+pub mod OrderTask
+pub mod ReportTruth
+pub mod ReportPlaces
+pub mod ReportPromise
+mod ReportSafety

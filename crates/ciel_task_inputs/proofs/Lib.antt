@@ -1,6 +1,6 @@
-pub mod Gathering
+pub mod GatheredInputs
 pub mod Indexes
-pub mod Finding
-pub mod Bringing
-pub mod Copying
-pub mod Fetching
+pub mod NameSpots
+pub mod BroughtInputs
+pub mod CopiedObjects
+pub mod FetchedNames

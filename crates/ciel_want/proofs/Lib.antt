@@ -1,19 +1,19 @@
-mod Searching
-mod Walking
-pub mod Marking
+mod SearchInvariants
+mod UnmetWalks
+pub mod SeenFlags
 pub mod Rows
-pub mod Picking
-pub mod Waiting
-pub mod Reaching
-pub mod Listing
-pub mod Ringing
+pub mod PickedLists
+pub mod WaitedRows
+pub mod ReachedRows
+pub mod FlaggedTasks
+pub mod RowCircles
 pub mod Listed
-pub mod Outing
-pub mod Running
-pub mod Readying
+pub mod OutFlags
+pub mod RunnableTasks
+pub mod ReadyFlags
 pub mod ReadyRows
-pub mod Wanting
-pub mod Naming
-pub mod Testing
-pub mod Agreeing
-pub mod Holding
+pub mod WantAnswers
+pub mod NamedWaits
+pub mod WholenessTest
+pub mod HistoryAgreement
+pub mod HistoryTables

@@ -9,8 +9,8 @@ use Rattle.ciel_table.specs.Seen.{TableSeen, find}
 use Rattle.ciel_want.specs.Board.{IsFlagged, blockers_of, can_run_test, is_none, is_set, leads, never, task_at, task_row}
 use Rattle.ciel_want.specs.Marked.{Flagged}
 use Rattle.ciel_want.specs.Waited.{Whole, graph, is_in, needs}
-use Rattle.ciel_want.proofs.Reaching.{at_own, led_row, row_led}
-use Rattle.ciel_want.proofs.Running.{runs_test, test_runs}
+use Rattle.ciel_want.proofs.ReachedRows.{at_own, led_row, row_led}
+use Rattle.ciel_want.proofs.RunnableTasks.{runs_test, test_runs}
 
 module _ {P : Type 0} (main : List ℕ) (t : TableSeen P) (out : List TaskId) where
   -- a task can run where it isn't out and leads nowhere

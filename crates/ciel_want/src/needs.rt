@@ -89,7 +89,7 @@ fn push_some(rows: &mut Vec<u32>, row: Option<u32>) -> Result<(), Memory>
 }
 
 /// The rows of the tasks that make those of the names which aren't live.
-#[tactic(auto, using(crate::proofs::Waiting::with_split))]
+#[tactic(auto, using(crate::proofs::WaitedRows::with_split))]
 fn blockers_of<P: At + Drop>(
     alloc: Global,
     table: &Table<P>,

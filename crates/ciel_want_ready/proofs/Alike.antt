@@ -15,7 +15,7 @@ use Rattle.ciel_table.specs.Seen.{TableSeen, find, has_place, is_input, is_live_
 use Rattle.ciel_table.specs.declared.row.Row.{Row}
 use Rattle.ciel_table.specs.declared.wait.Wait.{Wait}
 use Rattle.ciel_table.proofs.ByName.{flip_text, names_changed, place_same}
-use Rattle.ciel_want.proofs.Listing.{drop_at}
+use Rattle.ciel_want.proofs.FlaggedTasks.{drop_at}
 use Rattle.ciel_want.specs.Board.{task_at}
 use Rattle.ciel_want.specs.Waited.{first_needs, first_refs, is_in, needs, needs_at, same_id}
 

@@ -1,6 +1,6 @@
 pub mod LinesLaw
 pub mod Places
-pub mod Growing
+pub mod GrownInputs
 pub mod Results
 pub mod PairLaw
 pub mod ReadLaw

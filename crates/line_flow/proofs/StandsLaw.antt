@@ -21,8 +21,8 @@ use Rattle.line_flow.specs.Drained.{Follows, Completes}
 use Rattle.line_flow.specs.Kept.{Seen, Keeps, seen_of, seen_more, nothing_seen}
 use Rattle.line_flow.specs.Stands.{EndsAt, Stands, IsWhole, Took}
 use Rattle.line_flow.specs.declared.flow.Flow.{Flow}
-use Rattle.line_flow.proofs.Growing.{grow-grow, grow-append, length-grow, seen-grow, no-second, ends-grow, ends-next, settled-more, settled-grow}
-use Rattle.line_flow.proofs.Growing.{seen-more}
+use Rattle.line_flow.proofs.GrownInputs.{grow-grow, grow-append, length-grow, seen-grow, no-second, ends-grow, ends-next, settled-more, settled-grow}
+use Rattle.line_flow.proofs.GrownInputs.{seen-more}
 
 none_of : (e : Executor) → may_have e 0 ≡ true → ⊥
 none_of Cat h = absurd (true≢false (sym h))

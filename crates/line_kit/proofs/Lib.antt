@@ -4,12 +4,12 @@ pub mod Cut
 pub mod Found
 pub mod Digits
 pub mod OpenLaw
-pub mod Splitting
+pub mod FirstWord
 pub mod TotalsLaw
 pub mod Seen
 pub mod SumsLaw
 pub mod HalfLaw
 pub mod PartsLaw
 pub mod FindLaw
-pub mod Sorting
+pub mod SortedLines
 pub mod FeedLaw

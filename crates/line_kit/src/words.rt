@@ -33,7 +33,7 @@ fn word_len(bytes: &[u8]) -> usize
 }
 
 /// The first word, and what follows it.
-#[tactic(auto, using(crate::proofs::Splitting::splits))]
+#[tactic(auto, using(crate::proofs::FirstWord::splits))]
 pub fn first_word<'a>(bytes: &'a [u8]) -> Option<(&'a [u8], &'a [u8])>
     ensures { MatchOption result (words bytes.now ≡ [])
         (λ w. (words bytes.now ≡ w.0.now ∷ words w.1.now) × (length w.1.now < length bytes.now)) }

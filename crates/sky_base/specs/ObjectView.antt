@@ -1,12 +1,9 @@
--- What a description, a task and an object of the code stand for.
-use Rattle.std.specs.Prelude.{◌≡◌, ℕ, List}
+-- What a description and an object of the code stand for.
+use Rattle.std.specs.Prelude.{ℕ, List}
 use Rattle.sky_base.specs.Val.{Desc, call, out, input}
 use Rattle.sky_base.specs.View.{view}
-use Rattle.sky_base.specs.Name.{name}
 use Rattle.sky_base.specs.Res as logic
-use Rattle.sky_base.specs.Needed.{Task}
 use Rattle.sky_base.specs.declared.object.Desc1.{Desc1}
-use Rattle.sky_base.specs.declared.object.TaskId.{TaskId}
 use Rattle.sky_base.specs.declared.object.Object.{Object}
 
 abbrev pub desc_view : Desc1 → Desc (List ℕ)
@@ -18,10 +15,3 @@ abbrev pub object_view : Object → logic.Object (List ℕ)
 object_view (Object.Bytes b) = logic.Object.bytes b
 object_view (Object.Data v) = logic.Object.data_of (view v)
 object_view (Object.Fault f) = logic.Object.fault f
-
--- whether an identity stands for a task, where names are made by this tag
-abbrev pub StandsForTask : (Desc (List ℕ) → List ℕ) → TaskId → Task → Type 0
-StandsForTask tag TaskId.Show Task.show = Unit {0}
-StandsForTask tag TaskId.Show (Task.of d) = ⊥
-StandsForTask tag (TaskId.Of n) Task.show = ⊥
-StandsForTask tag (TaskId.Of n) (Task.of d) = n ≡ name (λ b. absurd b) tag d

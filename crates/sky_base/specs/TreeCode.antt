@@ -405,14 +405,8 @@ mutual
   else_same Else.no_else = refl
   else_same (Else.otherwise x0) = λ i. Else.otherwise (stms_same x0 i)
 
-abbrev pub stm_code : Coded Stm
-stm_code = record { code = stm_to; inj = λ x y e. sym (stm_same x) ∙ ap stm_from e ∙ stm_same y }
-
 abbrev pub stms_code : Coded Stms
 stms_code = record { code = stms_to; inj = λ x y e. sym (stms_same x) ∙ ap stms_from e ∙ stms_same y }
 
 abbrev pub arms_code : Coded Arms
 arms_code = record { code = arms_to; inj = λ x y e. sym (arms_same x) ∙ ap arms_from e ∙ arms_same y }
-
-abbrev pub else_code : Coded Else
-else_code = record { code = else_to; inj = λ x y e. sym (else_same x) ∙ ap else_from e ∙ else_same y }

@@ -36,30 +36,3 @@ pub trait Kit {
     ghost counts: { (k : Self) (executor : _) (args : _) (inputs : _) (n : _)
         → IfOk (gives k executor args inputs n) (λ outputs. length outputs ≡ n) };
 }
-
-/// A kit with no executors.
-pub struct NoKit;
-
-impl Kit for NoKit {
-    ghost use Rattle.std.specs.Prelude.{Err};
-    ghost use Rattle.sky_base.specs.declared.fault.FaultKind.{FaultKind as kind};
-
-    ghost gives = { λ _ x args inputs n. Err kind.BadExec };
-
-    ghost counts = { λ _ x args inputs n. tt };
-
-    fn known(&self, _executor: &Txt) -> bool {
-        false
-    }
-
-    fn run(
-        &self,
-        _alloc: Global,
-        _executor: &Txt,
-        _args: &Value,
-        _inputs: &[Bytes],
-        _outputs: u32,
-    ) -> Result<Result<Vec<Bytes>, FaultKind>, Memory> {
-        Ok(Err(FaultKind::BadExec))
-    }
-}

@@ -1,4 +1,4 @@
-pub mod Slotting
+pub mod RefSlots
 pub mod Takes
 pub mod Tells
 pub mod Withs

@@ -14,7 +14,7 @@ use sky_base_known::objects::slot;
 use std::alloc::Global;
 
 /// The value with the reference that occurs k-th in it, from 0 on, replaced by slot k.
-#[tactic(auto, using(crate::proofs::Slotting::few))]
+#[tactic(auto, using(crate::proofs::RefSlots::few))]
 pub fn slots(alloc: Global, args: &Value) -> Result<Value, Memory>
     requires { Kept (view args.now) }
     ensures { IfOk result (λ v. view v ≡ slots (view args.now)) }
@@ -48,7 +48,7 @@ fn slotted(alloc: Global, value: &Value, next: &mut u32) -> Result<Value, Memory
 }
 
 #[cycle(slotted)]
-#[tactic(auto, using(sky_base::proofs::Values::inside, crate::proofs::Slotting::slotting))]
+#[tactic(auto, using(sky_base::proofs::Values::inside, crate::proofs::RefSlots::slotting))]
 fn slotted_values(alloc: Global, values: &[Value], next: &mut u32) -> Result<Vals, Memory>
     requires few { next.old + length (vals_refs (vals_of values.now)) < 2 ^ 32 }
     ensures values { IfOk result (λ v. v ≡ vals_replaced in_slot next.old (vals_of values.now)) }
@@ -62,7 +62,7 @@ fn slotted_values(alloc: Global, values: &[Value], next: &mut u32) -> Result<Val
 }
 
 #[cycle(slotted)]
-#[tactic(auto, using(sky_base::proofs::Values::inside, crate::proofs::Slotting::slotting))]
+#[tactic(auto, using(sky_base::proofs::Values::inside, crate::proofs::RefSlots::slotting))]
 fn slotted_pairs(alloc: Global, pairs: &[Pair], next: &mut u32) -> Result<Pairs, Memory>
     requires rising { Rising (pairs_of pairs.now) }
     requires few { next.old + length (pairs_refs (pairs_of pairs.now)) < 2 ^ 32 }

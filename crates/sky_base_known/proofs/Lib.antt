@@ -1,6 +1,5 @@
 pub mod Learn
 pub mod Numbers
-pub mod Uneven
 pub mod Found
 pub mod Places
 pub mod KnownAt

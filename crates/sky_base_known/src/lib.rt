@@ -5,5 +5,4 @@
 pub mod data;
 pub mod objects;
 pub mod rows;
-mod same;
 pub mod sum;

@@ -1,9 +1,9 @@
 // The descriptions that a run holds, each once, under their numbers. A description is looked up by its
 // sum, and then compared itself with each that has this sum.
 
-use crate::same::is_same_desc;
 use crate::sum::sum;
 use sky_base::object::Desc1;
+use sky_base::same::is_same_desc;
 use sky_base::text::Memory;
 use std::alloc::Global;
 use std::collections::BTreeMap;

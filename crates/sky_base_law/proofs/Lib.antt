@@ -39,7 +39,7 @@ pub mod Endless
 pub mod NeededEnds
 pub mod WorkLaw
 pub mod RefsLow
-pub mod Gathering
-pub mod Running
-pub mod Showing
+pub mod GatheredObjects
+pub mod RunEnds
+pub mod WaveEnds
 pub mod Nexts

@@ -14,9 +14,9 @@ use Rattle.sky_base_law.proofs.SeenLaw.{wait_one}
 use Rattle.sky_base_law.proofs.TaskFuel.{waits_at, wave_zero}
 use Rattle.sky_base_law.proofs.TaskOutputs.{in_each, each_in, in_distinct_refs}
 use Rattle.sky_base_law.specs.EndsLaws.{AllSeen, ComesToEnd, Next, Picked, PicksSeen, SeenUpTo, WaitsSeen}
-use Rattle.sky_base_law.proofs.Gathering.{gathered}
-use Rattle.sky_base_law.proofs.Running.{run_ends}
-use Rattle.sky_base_law.proofs.Showing.{answers}
+use Rattle.sky_base_law.proofs.GatheredObjects.{gathered}
+use Rattle.sky_base_law.proofs.RunEnds.{run_ends}
+use Rattle.sky_base_law.proofs.WaveEnds.{answers}
 
 same_or : (k i : ℕ) → k < suc i → (k < i) ⊎ (k ≡ i)
 same_or k i lt = go (above_or i k)

@@ -31,11 +31,6 @@ cut_of (Cut.Waits n) = Cutoff.waits (known n)
 cut_of Cut.Full = Cutoff.full
 cut_of Cut.Memory = Cutoff.full
 
--- an operator's value, or its fault at this place, but for want of memory
-abbrev pub AnswersAt : Result Value Cut → Answer → Place → Type 0
-AnswersAt (Ok v) a p = a ≡ Ok (view v)
-AnswersAt (Err c) a p = c ≢ Cut.Memory → (rows : List Row) (k : Val → Out) → answer a p rows k ≡ Out.cut (cut_of c) rows
-
 -- what an expression comes to, but for want of memory
 abbrev pub Comes : Result Value Cut → List Row → Vars → Out → Type 0
 Comes (Ok v) rows st o = o ≡ Out.got (view v) rows st

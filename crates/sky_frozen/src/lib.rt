@@ -14,3 +14,5 @@ mod start;
 pub mod starts;
 pub mod state;
 pub mod values;
+
+pub use sky_frozen_bytes::{frozen, refusal};

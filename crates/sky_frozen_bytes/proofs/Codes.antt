@@ -4,7 +4,7 @@ use Rattle.std.proofs.Common.{append-nil, length-append}
 use Rattle.std.proofs.lemmas.Grind.{flat_map-append}
 use Rattle.sky_base.specs.Name.{big_endian}
 use Rattle.sky_base_law.specs.Tasks.{Each}
-use Rattle.ciel_name.proofs.Spelling.{four_free}
+use Rattle.ciel_name.proofs.PrefixFreeBytes.{four_free}
 use Rattle.sky_frozen_bytes.specs.Bytes.{counted}
 use Rattle.sky_frozen_bytes.specs.Codes.{ReadAs, NoneAs, Free, ListRead, NoList, Fits32, Counted}
 

@@ -5,7 +5,7 @@ use Rattle.sky_base.specs.Name.{big_endian, bytes, bytes_of_text, pairs_bytes}
 use Rattle.sky_base.specs.Read.{Todo, Frame}
 use Rattle.ciel_name.specs.Spelled.{IsText, IsData, Read, NoneRead}
 use Rattle.ciel_name.specs.Bodies.{PairsRead, NoPairs}
-use Rattle.ciel_name.proofs.Spelling.{val_free, text_free, pairs_free, four_free}
+use Rattle.ciel_name.proofs.PrefixFreeBytes.{val_free, text_free, pairs_free, four_free}
 use Rattle.sky_state.specs.Stand.{Stand}
 use Rattle.sky_frozen_bytes.specs.Bytes.{counted, todo_bytes, vars_bytes, frame_bytes, run_bytes, frozen_bytes}
 use Rattle.sky_frozen_bytes.specs.Codes.{ReadAs, NoneAs, Free, Fits32, Counted}

@@ -44,7 +44,7 @@ use Rattle.sky_machine.specs.Onward.{ComesOf, MakesOf}
 use Rattle.sky_machine.specs.Rest.{IsRest}
 use Rattle.sky_machine.specs.Steps.{Spawned, step_of}
 use Rattle.sky_machine.proofs.Starts.{is_start, start_calls}
-use Rattle.sky_machine.proofs.Waiting.{stack_left}
+use Rattle.sky_machine.proofs.InnermostWaits.{stack_left}
 use Rattle.sky_machine.proofs.Refs.{left, right, refs_each, pairs_each, each_refs, each_vals, each_pairs, Inside, inside_each, P, Q, V, M, read_so}
 use Rattle.sky_machine.proofs.Refs.{closed}
 

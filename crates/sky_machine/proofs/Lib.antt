@@ -1,4 +1,4 @@
-pub mod Waiting
+pub mod InnermostWaits
 pub mod Onward
 pub mod Starts
 pub mod Rests

@@ -18,7 +18,7 @@ use Rattle.sky_machine_waits.proofs.Again.{fits_answered, makes_answered}
 use Rattle.sky_machine_resume.specs.Comes.{StepsFit, over_names, LeftAt, object_at, Comes}
 use Rattle.sky_machine_resume.specs.declared.on.Came.{Came}
 use Rattle.sky_machine.specs.Laws.{Answered, CameTo, Stays}
-use Rattle.sky_machine.proofs.Waiting.{stack_left}
+use Rattle.sky_machine.proofs.InnermostWaits.{stack_left}
 
 pub steps_fit : (source : List ℕ) (keys : List (List ℕ)) (script : Script) → IsScript source keys script → length source < 2 ^ 31 → StepsFit script
 steps_fit source keys script is few t n k step at =

@@ -33,7 +33,7 @@ use Rattle.sky_machine.specs.Rest.{IsWhole, IsLeft, IsRest}
 use Rattle.sky_machine.specs.Onward.{IsRead, AnswersSound, ComesOf, MakesOf, GrewSoundly}
 use Rattle.sky_machine.proofs.Onward.{steps_fit, sound_world, sound_at, makes_next, stays}
 use Rattle.sky_machine.proofs.Starts.{is_start, start_calls}
-use Rattle.sky_machine.proofs.Waiting.{stack_left}
+use Rattle.sky_machine.proofs.InnermostWaits.{stack_left}
 
 pub read_fits : (sc : Script) → IsRead sc → StepsFit sc
 read_fits sc (source, keys, is, few) = steps_fit source keys sc is few

@@ -11,7 +11,7 @@ use Rattle.sky_state.specs.Fits.{Last, AtStart, OnBody, row_of, StartFrame, OneF
 use Rattle.sky_state.specs.Stand.{Stand}
 use Rattle.sky_state.specs.Start.{StartsIn, StartsCall}
 use Rattle.sky_machine_waits.proofs.Begin.{bind_none}
-use Rattle.sky_machine.proofs.Waiting.{stm_not, block_not}
+use Rattle.sky_machine.proofs.InnermostWaits.{stm_not, block_not}
 
 exp_not : (x : Exp) (n : ℕ) → IsWaiting (exp_row x n 0) → ⊥
 exp_not (Exp.literal l p) n h = h

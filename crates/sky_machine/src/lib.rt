@@ -10,3 +10,5 @@ pub mod law;
 pub mod narrow_law;
 pub mod resume;
 pub mod step;
+
+pub use sky_state::shown;

@@ -1,3 +1,3 @@
 pub mod Inside
-pub mod Filling
-pub mod Finding
+pub mod FilledLemmas
+pub mod NodesByNumber

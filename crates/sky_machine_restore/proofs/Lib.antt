@@ -1,5 +1,5 @@
 pub mod Restores
 pub mod ReadyLaw
 pub mod Walk
-pub mod Keeping
+pub mod KeptCounts
 pub mod Fewer

@@ -8,7 +8,7 @@ use Rattle.sky_base_law.specs.Tasks.{waits_in, acts_of, ended}
 use Rattle.sky_base_law.proofs.MoreFuel.{ended_stays_to}
 use Rattle.sky_base_law.proofs.TaskFuel.{waits_at}
 use Rattle.sky_state_law.specs.Moves.{WaitsNoMore}
-use Rattle.sky_state_law.proofs.Making.{wait_to}
+use Rattle.sky_state_law.proofs.MadeSegments.{wait_to}
 
 some_not : {A : Type 0} (a : A) → Some a ≢ None
 some_not a e = cc

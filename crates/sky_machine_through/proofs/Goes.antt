@@ -26,7 +26,7 @@ use Rattle.sky_machine.specs.Comes.{with_name}
 use Rattle.sky_base_waves.specs.Seen.{WritesAlike}
 use Rattle.sky_machine_show.specs.Shows.{shown_view}
 use Rattle.sky_state_law.specs.Moves.{SeenAs, WaitsNoMore, Answers, EndsAs, ShowsAs, StepsTo}
-use Rattle.sky_state_law.proofs.Making.{between_two, after_between, after_last, wait_to, all_to}
+use Rattle.sky_state_law.proofs.MadeSegments.{between_two, after_between, after_last, wait_to, all_to}
 use Rattle.sky_machine.specs.Steps.{Spawned, stop_of}
 use Rattle.sky_machine.specs.declared.step.Step.{Step}
 use Rattle.sky_machine_through.specs.Through.{AreFound, Lacks, StopsAt, Through, last, more}

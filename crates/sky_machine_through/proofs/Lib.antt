@@ -1,6 +1,6 @@
 pub use Rattle.sky_machine.proofs.Knows
 pub mod Goes
 pub mod Turns
-pub mod Knowing
+pub mod KnownNames
 pub mod Wholes
-pub mod Asking
+pub mod AskedLemmas

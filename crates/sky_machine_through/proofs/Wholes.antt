@@ -20,7 +20,7 @@ use Rattle.sky_machine.specs.Rest.{IsRest, IsWhole, IsLeft}
 use Rattle.sky_machine.specs.Steps.{Spawned}
 use Rattle.sky_machine.proofs.Rests.{has_rest}
 use Rattle.sky_machine_through.specs.Found.{GrewWhole, HasAllOutputs}
-use Rattle.sky_machine_through.proofs.Knowing.{in_parts}
+use Rattle.sky_machine_through.proofs.KnownNames.{in_parts}
 
 -- ---- lists
 

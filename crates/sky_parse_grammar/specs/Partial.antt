@@ -128,9 +128,6 @@ abbrev mutual
   cut_else Else.no_else K = K
   cut_else (Else.otherwise b) K = tok (word Word.Else) (tok (sign Sign.OpenCurly) (cut_stms b (tok (sign Sign.CloseCurly) K)))
 
-abbrev pub cut_test : Exp → (List Mark → Type 0) → List Mark → Type 0
-cut_test e K = tok (sign Sign.OpenRound) (cut e (tok (sign Sign.CloseRound) K))
-
 abbrev pub cut_block : Stms → (List Mark → Type 0) → List Mark → Type 0
 cut_block b K = tok (sign Sign.OpenCurly) (cut_stms b (tok (sign Sign.CloseCurly) K))
 

@@ -15,7 +15,7 @@ use Rattle.sky_parse_grammar.proofs.UsesLaw.{one_of, uses_has}
 use Rattle.sky_base_law.specs.Tasks.{Apart, Each, In}
 use Rattle.sky_base_law.proofs.Lists.{each_both}
 use Rattle.sky_parse_law.specs.Orderly.{Orderly}
-use Rattle.sky_parse_law.proofs.Naming.{HasByte, TopNamed}
+use Rattle.sky_parse_law.proofs.NonemptyNames.{HasByte, TopNamed}
 
 none_is : {A : Type 0} {p : A} → Some p ≡ None → ⊥
 none_is e = cc

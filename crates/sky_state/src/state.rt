@@ -7,7 +7,6 @@ ghost use Rattle.sky_base.specs.Val.{refs, vals_refs, pairs_refs, known, same_te
 ghost use Rattle.sky_base.specs.View.{view};
 ghost use Rattle.sky_base.specs.Names.{known_of};
 ghost use Rattle.sky_base.specs.Eval.{body_of};
-ghost use Rattle.sky_state.specs.BodyView.{IsBody};
 ghost use Rattle.sky_state.specs.Fits.{Fits};
 ghost use Rattle.sky_state.specs.Pending.{pending_in, held_in, frames_refs, stack_refs};
 ghost use Rattle.sky_state.specs.Stand.{Stand};
@@ -64,27 +63,6 @@ impl State {
         ensures stands { IfOk result (λ s. StandsForCall script.now fun.now caught.now args.now (stand_of s)) }
     {
         let body = find_body(script, fun);
-        let state = State::start_body(alloc, body, fun, caught, args)?;
-        Ok(state)
-    }
-
-    /// The start of a call whose body is at hand, as a script that is ready to be run gives it: it takes no search. The clauses hold
-    /// for each script whose function of this name has this body, where the call may be started.
-    pub fn start_body(
-        alloc: Global,
-        body: Body,
-        fun: &Txt,
-        caught: &Pairs,
-        args: &Vals,
-    ) -> Result<State, Memory>
-        ensures start { IfOk result (λ s. (script : tree.Script) → CanStart script fun.now caught.now args.now
-            → IsBody body.entry (body_of fun.now script) → StartsCall script fun.now caught.now args.now (stand_of s)) }
-        ensures spawned { IfOk result (λ s. spawned_of s ≡ []) }
-        ensures fits { IfOk result (λ s. (script : tree.Script) → CanStart script fun.now caught.now args.now
-            → IsBody body.entry (body_of fun.now script) → Fits script (stand_of s)) }
-        ensures stands { IfOk result (λ s. (script : tree.Script) → CanStart script fun.now caught.now args.now
-            → IsBody body.entry (body_of fun.now script) → StandsForCall script fun.now caught.now args.now (stand_of s)) }
-    {
         let vars = bound(caught, body.params, args)?;
         let run = at_start(alloc, fun, vars, body.node)?;
         Ok(State::Run(run))

@@ -1,3 +1,3 @@
-pub mod Making
+pub mod MadeSegments
 pub mod Before
-pub mod Standing
+pub mod HeldDescriptions

@@ -3,7 +3,7 @@ pub mod Leaves
 pub mod TextUtf8
 pub mod Spans
 pub mod Places
-pub mod Reading
+pub mod LexingSteps
 pub mod SpellingUtf8
 pub mod Decimal
 pub mod SpellingLaw

@@ -24,7 +24,7 @@ use Rattle.sky_text.specs.declared.token.TokenKind.{TokenKind}
 use Rattle.sky_text.specs.declared.token.Token.{Token}
 use Rattle.sky_text.specs.declared.lex.LexRefusal.{LexRefusal}
 use Rattle.sky_text.proofs.Decimal.{both}
-use Rattle.sky_text.proofs.Reading.{Read, at_gap, at_refusal, at_token, from_tokens}
+use Rattle.sky_text.proofs.LexingSteps.{Read, at_gap, at_refusal, at_token, from_tokens}
 use Rattle.sky_text.proofs.Spans.{gap_within, token_span}
 
 -- Gaps.

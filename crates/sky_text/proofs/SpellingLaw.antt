@@ -18,7 +18,7 @@ use Rattle.sky_text.specs.declared.token.Token.{Token}
 use Rattle.sky_text.specs.declared.lex.LexRefusal.{LexRefusal}
 use Rattle.sky_text.proofs.Decimal.{both, decimal_digits, decimal_some, decimal_value, name_goes_on}
 use Rattle.sky_text.proofs.Leaves.{text_plain}
-use Rattle.sky_text.proofs.Reading.{Read, at_token, of_utf8}
+use Rattle.sky_text.proofs.LexingSteps.{Read, at_token, of_utf8}
 use Rattle.sky_text.proofs.SpellingUtf8.{spelled_utf8}
 
 -- what stands behind a token: nothing, or a blank and more

@@ -1,4 +1,4 @@
-use Rattle.ciel_master_board.proofs.Missing.{missed_follows}
+use Rattle.ciel_master_board.proofs.MissesFollowed.{missed_follows}
 use Rattle.ciel_master_board.proofs.missing_follows.Goals as goal
 
 pub returns : goal.returns

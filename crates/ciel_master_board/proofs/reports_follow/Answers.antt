@@ -1,5 +1,5 @@
-use Rattle.ciel_master_board.proofs.Accepting.{lost_follows}
-use Rattle.ciel_master_board.proofs.Telling.{clash_follows, overflow_follows, report_follows}
+use Rattle.ciel_master_board.proofs.EventsFollowed.{lost_follows}
+use Rattle.ciel_master_board.proofs.ReportsFollowed.{clash_follows, overflow_follows, report_follows}
 use Rattle.ciel_master_board.proofs.reports_follow.Goals as goal
 
 pub returns : goal.returns

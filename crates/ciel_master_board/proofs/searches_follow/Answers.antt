@@ -1,4 +1,4 @@
-use Rattle.ciel_master_board.proofs.Searching.{circle_follows, led_reached, runnable_ready}
+use Rattle.ciel_master_board.proofs.SearchResults.{circle_follows, led_reached, runnable_ready}
 use Rattle.ciel_master_board.proofs.searches_follow.Goals as goal
 
 pub returns : goal.returns

@@ -1,4 +1,4 @@
-use Rattle.ciel_master_board.proofs.Sounding.{accepted_sound, lost_sound, opened_sound, sound_whole, started_sound}
+use Rattle.ciel_master_board.proofs.SoundLemmas.{accepted_sound, lost_sound, opened_sound, sound_whole, started_sound}
 use Rattle.ciel_master_board.proofs.soundness_stays.Goals as goal
 
 pub returns : goal.returns

@@ -1,5 +1,5 @@
-use Rattle.ciel_master_board.proofs.Following.{start_follows, table_holds}
-use Rattle.ciel_master_board.proofs.Opening.{opened_follows}
+use Rattle.ciel_master_board.proofs.FollowsLemmas.{start_follows, table_holds}
+use Rattle.ciel_master_board.proofs.InitialState.{opened_follows}
 use Rattle.ciel_master_board.proofs.starts_follow.Goals as goal
 
 pub returns : goal.returns

@@ -1,4 +1,4 @@
-use Rattle.ciel_master_board.proofs.Driving.{loss_runs, missed_runs, report_runs, start_runs}
+use Rattle.ciel_master_board.proofs.DueEvents.{loss_runs, missed_runs, report_runs, start_runs}
 use Rattle.ciel_master_board.proofs.turns_are_kept.Goals as goal
 
 pub returns : goal.returns

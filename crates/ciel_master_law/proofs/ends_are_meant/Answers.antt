@@ -1,4 +1,4 @@
-use Rattle.ciel_master_law.proofs.Meaning.{circle_never, modest_alike, shown_meant}
+use Rattle.ciel_master_law.proofs.ShopLaws.{circle_never, modest_alike, shown_meant}
 use Rattle.ciel_master_law.proofs.ends_are_meant.Goals as goal
 
 pub returns : goal.returns

@@ -1,4 +1,4 @@
-use Rattle.ciel_master_law.proofs.Meaning.{missed_fits, performs_promises, shop_is}
+use Rattle.ciel_master_law.proofs.ShopLaws.{missed_fits, performs_promises, shop_is}
 use Rattle.ciel_master_law.proofs.reports_are_promised.Goals as goal
 
 pub returns : goal.returns

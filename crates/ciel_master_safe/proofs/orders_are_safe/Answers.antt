@@ -1,4 +1,4 @@
-use Rattle.ciel_master_safe.proofs.Sending.{sent_good}
+use Rattle.ciel_master_safe.proofs.SoundOrders.{sent_good}
 use Rattle.ciel_master_safe.proofs.orders_are_safe.Goals as goal
 
 pub returns : goal.returns

@@ -1,4 +1,4 @@
-use Rattle.ciel_master_safe.proofs.Staying.{accepted_rows, lost_rows, order_grows}
+use Rattle.ciel_master_safe.proofs.BoardGrowth.{accepted_rows, lost_rows, order_grows}
 use Rattle.ciel_master_safe.proofs.rows_stay.Goals as goal
 
 pub returns : goal.returns

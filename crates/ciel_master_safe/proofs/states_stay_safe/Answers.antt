@@ -1,4 +1,4 @@
-use Rattle.ciel_master_safe.proofs.Keeping.{loss_safe, opened_safe, report_safe, start_safe}
+use Rattle.ciel_master_safe.proofs.SafeLemmas.{loss_safe, opened_safe, report_safe, start_safe}
 use Rattle.ciel_master_safe.proofs.states_stay_safe.Goals as goal
 
 pub returns : goal.returns

@@ -1,4 +1,4 @@
-use Rattle.ciel_master_safe.proofs.Turning.{loss_turns, missed_turns, opened_works, report_turns, start_turns, thrown_turns}
+use Rattle.ciel_master_safe.proofs.TurnsLemmas.{loss_turns, missed_turns, opened_works, report_turns, start_turns, thrown_turns}
 use Rattle.ciel_master_safe.proofs.turns_come_to_an_end.Goals as goal
 
 pub returns : goal.returns

@@ -1,4 +1,4 @@
-use Rattle.ciel_journal_job.proofs.Reporting.{clash, overflow}
+use Rattle.ciel_journal_job.proofs.ReportLemmas.{clash, overflow}
 use Rattle.ciel_journal_job.proofs.reports.refusals_are_told.Goals as goal
 
 pub returns : goal.returns

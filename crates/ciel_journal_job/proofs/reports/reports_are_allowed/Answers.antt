@@ -1,4 +1,4 @@
-use Rattle.ciel_journal_job.proofs.Reporting.{allowed, said}
+use Rattle.ciel_journal_job.proofs.ReportLemmas.{allowed, said}
 use Rattle.ciel_journal_job.proofs.reports.reports_are_allowed.Goals as goal
 
 pub returns : goal.returns

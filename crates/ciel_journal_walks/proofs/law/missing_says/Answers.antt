@@ -1,4 +1,4 @@
-use Rattle.ciel_journal_walks.proofs.Saying.{missing_one}
+use Rattle.ciel_journal_walks.proofs.WalkResults.{missing_one}
 use Rattle.ciel_journal_walks.proofs.law.missing_says.Goals as goal
 
 pub returns : goal.returns

@@ -1,4 +1,4 @@
-use Rattle.ciel_journal_walks.proofs.Saying.{walks, walks_true}
+use Rattle.ciel_journal_walks.proofs.WalkResults.{walks, walks_true}
 use Rattle.ciel_journal_walks.proofs.law.walks_say.Goals as goal
 
 pub returns : goal.returns

@@ -1,4 +1,4 @@
-use Rattle.ciel_master.proofs.Marking.{seen_is}
+use Rattle.ciel_master.proofs.MarkedLosses.{seen_is}
 use Rattle.ciel_master.proofs.marks.confirm_seen.Goals as goal
 
 pub returns-in-Some-clause-marked : goal.returns-in-Some-clause-marked

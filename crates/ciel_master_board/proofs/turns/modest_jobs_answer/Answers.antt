@@ -1,4 +1,4 @@
-use Rattle.ciel_master_board.proofs.Ending.{none_circles, none_clashes, none_overflows}
+use Rattle.ciel_master_board.proofs.EndsLemmas.{none_circles, none_clashes, none_overflows}
 use Rattle.ciel_master_board.proofs.turns.modest_jobs_answer.Goals as goal
 
 pub returns : goal.returns

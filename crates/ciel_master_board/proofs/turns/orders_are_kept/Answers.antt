@@ -1,5 +1,5 @@
-use Rattle.ciel_master_board.proofs.Handing.{had_out, none_out}
-use Rattle.ciel_master_board.proofs.Turning.{out_is_open, promised_taken}
+use Rattle.ciel_master_board.proofs.HandedLemmas.{had_out, none_out}
+use Rattle.ciel_master_board.proofs.TurnEvents.{out_is_open, promised_taken}
 use Rattle.ciel_master_board.proofs.turns.orders_are_kept.Goals as goal
 
 pub returns : goal.returns

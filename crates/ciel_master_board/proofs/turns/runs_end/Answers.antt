@@ -1,6 +1,6 @@
 use Rattle.std.proofs.Common.{sym}
-use Rattle.ciel_master_board.proofs.Ending.{clash_ends, lost_ends, overflow_ends}
-use Rattle.ciel_master_board.proofs.Turning.{shown_ends}
+use Rattle.ciel_master_board.proofs.EndsLemmas.{clash_ends, lost_ends, overflow_ends}
+use Rattle.ciel_master_board.proofs.TurnEvents.{shown_ends}
 use Rattle.ciel_master_board.proofs.turns.runs_end.Goals as goal
 
 pub returns : goal.returns

@@ -1,5 +1,5 @@
-use Rattle.ciel_master_board.proofs.Handing.{fewer_orders}
-use Rattle.ciel_master_board.proofs.Turning.{loss_turns, missed_turns, opened_runs, report_turns, start_turns}
+use Rattle.ciel_master_board.proofs.HandedLemmas.{fewer_orders}
+use Rattle.ciel_master_board.proofs.TurnEvents.{loss_turns, missed_turns, opened_runs, report_turns, start_turns}
 use Rattle.ciel_master_board.proofs.turns.turns_are_events.Goals as goal
 
 pub returns : goal.returns

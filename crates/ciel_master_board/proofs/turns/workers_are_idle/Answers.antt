@@ -1,4 +1,4 @@
-use Rattle.ciel_master_board.proofs.Idling.{idle_is_listed, none_can_run, picked_can_start, some_is_idle}
+use Rattle.ciel_master_board.proofs.StartChoices.{idle_is_listed, none_can_run, picked_can_start, some_is_idle}
 use Rattle.ciel_master_board.proofs.turns.workers_are_idle.Goals as goal
 
 pub returns : goal.returns

@@ -2,7 +2,7 @@ use Rattle.std.proofs.Common.{◌∙◌, ap, sym}
 use Rattle.sky_base.specs.Val.{distinct, same_text}
 use Rattle.ciel_master_board.specs.Board.{start_refs}
 use Rattle.ciel_want.specs.Waited.{names_of}
-use Rattle.ciel_want.proofs.Waiting.{names_known}
+use Rattle.ciel_want.proofs.WaitedRows.{names_known}
 use Rattle.ciel_master_bring.proofs.bring.start_refs.Goals as goal
 
 pub returns-in_ok-names-in-Call : goal.returns-in_ok-names-in-Call

@@ -4,7 +4,7 @@ use Rattle.ciel_journal_job.proofs.KnownLaw.{real_knows}
 use Rattle.ciel_journal_job.proofs.RealLaw.{real_laws}
 use Rattle.ciel_journal_job.proofs.Filled.{real_exact}
 use Rattle.ciel_master_law.proofs.Binds.{all_bind}
-use Rattle.ciel_master_law.proofs.Telling.{tells}
+use Rattle.ciel_master_law.proofs.DescriptionsTold.{tells}
 use Rattle.ciel_master_law.proofs.setting.real_job_is_a_setting.Goals as goal
 
 pub returns : goal.returns

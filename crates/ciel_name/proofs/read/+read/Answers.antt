@@ -5,7 +5,7 @@ use Rattle.sky_base.specs.Val.{Val, Pairs, add_val}
 use Rattle.sky_base.specs.Op.{put}
 use Rattle.sky_base.specs.View.{view}
 use Rattle.ciel_name.specs.Bodies.{ItemsRead, PairsRead, is_above}
-use Rattle.ciel_name.proofs.Reading.{refuses_more, none_deep, none_empty, none_is, read_is, anonymous_none}
+use Rattle.ciel_name.proofs.DecodeSteps.{refuses_more, none_deep, none_empty, none_is, read_is, anonymous_none}
 use Rattle.ciel_name.proofs.Items.{items_more, items_none, pairs_more, pairs_text, pairs_low, pairs_none}
 use Rattle.ciel_name.proofs.read.+read.Goals as goal
 

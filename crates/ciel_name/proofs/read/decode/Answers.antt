@@ -4,7 +4,7 @@ use Rattle.std.proofs.lemmas.Bool.{false≢true}
 use Rattle.sky_base.specs.Val.{most_size, size}
 use Rattle.sky_base.specs.View.{view}
 use Rattle.ciel_name.specs.Spelled.{NoData}
-use Rattle.ciel_name.proofs.Reading.{refuses_more, data_none, data_more, data_large}
+use Rattle.ciel_name.proofs.DecodeSteps.{refuses_more, data_none, data_more, data_large}
 use Rattle.ciel_name.proofs.read.decode.Goals as goal
 
 pub returns-in-Err-clause-refused : goal.returns-in-Err-clause-refused

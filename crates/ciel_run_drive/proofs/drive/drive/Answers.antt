@@ -1,9 +1,9 @@
 use Rattle.std.proofs.Common.{refl, subst, ◌∙◌}
 use Rattle.ciel_run_drive.proofs.Over.{ended_on}
-use Rattle.ciel_run_drive.proofs.Telling.{none_fades, tells_both, tells_none}
+use Rattle.ciel_run_drive.proofs.ToldLemmas.{none_fades, tells_both, tells_none}
 use Rattle.ciel_task_order.specs.declared.shop.Shop.{Shop}
 use Rattle.ciel_run_drive.specs.Moved.{Does, Ends}
-use Rattle.ciel_run_drive.proofs.Moving.{does_both, does_none, ends_after}
+use Rattle.ciel_run_drive.proofs.MovedLemmas.{does_both, does_none, ends_after}
 use Rattle.ciel_run_drive.proofs.drive.drive.Goals as goal
 
 pub run-init : goal.run-init

@@ -2,7 +2,7 @@ use Rattle.std.proofs.Common.{ap}
 use Rattle.ciel_master.specs.Seen.{MasterSeen}
 use Rattle.ciel_run_drive.proofs.Names as names
 use Rattle.ciel_run_drive.proofs.Turns.{lost_kept}
-use Rattle.ciel_run_drive.proofs.Moving.{does_lost}
+use Rattle.ciel_run_drive.proofs.MovedLemmas.{does_lost}
 use Rattle.ciel_run_drive.proofs.turn.lose_one.Goals as goal
 
 pub returns-clause-working : goal.returns-clause-working

@@ -1,8 +1,8 @@
 use Rattle.std.proofs.Common.{◌≡◌, ap, sym, subst, ◌∙◌}
 use Rattle.ciel_master_board.specs.Board.{Order, board_graph, idle_of}
 use Rattle.ciel_master_board.specs.Moves.{order_for, started}
-use Rattle.ciel_master_board.proofs.Driving.{got_in}
-use Rattle.ciel_master_board.proofs.Searching.{picked_has}
+use Rattle.ciel_master_board.proofs.DueEvents.{got_in}
+use Rattle.ciel_master_board.proofs.SearchResults.{picked_has}
 use Rattle.ciel_master_law.specs.Ends.{worker_of}
 use Rattle.ciel_journal.specs.Graph.{Runnable}
 use Rattle.ciel_journal.specs.Job.{In}

@@ -1,15 +1,15 @@
 use Rattle.std.proofs.Common.{ap, subst, ◌∙◌}
 use Rattle.ciel_master_board.specs.Board.{board_graph}
-use Rattle.ciel_master_board.proofs.Searching.{picked_has}
+use Rattle.ciel_master_board.proofs.SearchResults.{picked_has}
 use Rattle.ciel_journal.specs.Graph.{Runnable}
 use Rattle.ciel_want.specs.Waited.{tasks_in_order}
-use Rattle.ciel_master_board.proofs.Driving.{got_in}
+use Rattle.ciel_master_board.proofs.DueEvents.{got_in}
 use Rattle.ciel_journal.specs.Job.{In}
 use Rattle.ciel_run_drive.proofs.Slots.{got_index}
 use Rattle.ciel_run_drive.proofs.Names as names
 use Rattle.ciel_run_drive.proofs.Turns.{draws_after, picked, start_ends, start_kept}
 use Rattle.ciel_master.specs.Seen.{MasterSeen}
-use Rattle.ciel_run_drive.proofs.Moving.{does_start}
+use Rattle.ciel_run_drive.proofs.MovedLemmas.{does_start}
 use Rattle.ciel_run_drive.proofs.turn.start_one.Goals as goal
 
 pub start_at-requires : goal.start_at-requires

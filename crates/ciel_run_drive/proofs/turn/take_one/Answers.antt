@@ -3,9 +3,9 @@ use Rattle.ciel_master_board.specs.Board.{find_order}
 use Rattle.ciel_run_drive.proofs.Names as names
 use Rattle.ciel_run_drive.proofs.Names.{none_of, some_of}
 use Rattle.ciel_run_drive.proofs.Reports.{answer_ended, clash_ended, fault_ended, overflow_ended, taken_kept, thrown_kept}
-use Rattle.ciel_run_drive.proofs.Telling.{tells_none}
+use Rattle.ciel_run_drive.proofs.ToldLemmas.{tells_none}
 use Rattle.ciel_run_drive.specs.Moved.{over, refused}
-use Rattle.ciel_run_drive.proofs.Moving.{does_accept, does_none, does_throw}
+use Rattle.ciel_run_drive.proofs.MovedLemmas.{does_accept, does_none, does_throw}
 use Rattle.ciel_run_drive.proofs.turn.take_one.Goals as goal
 
 pub next-requires-clause-out : goal.next-requires-clause-out

@@ -3,10 +3,10 @@ use Rattle.std.proofs.lemmas.List.{nil_from_length}
 use Rattle.ciel_master.specs.Seen.{MasterSeen}
 use Rattle.ciel_run_drive.proofs.Names.{some_busy}
 use Rattle.ciel_run_drive.proofs.Over.{all_lost}
-use Rattle.ciel_run_drive.proofs.Telling.{none_fades, tells_none}
+use Rattle.ciel_run_drive.proofs.ToldLemmas.{none_fades, tells_none}
 use Rattle.ciel_master.specs.declared.stop.RunEnd.{RunEnd as End}
 use Rattle.ciel_run_drive.specs.Moved.{Ends}
-use Rattle.ciel_run_drive.proofs.Moving.{ends_none}
+use Rattle.ciel_run_drive.proofs.MovedLemmas.{ends_none}
 use Rattle.ciel_run_drive.proofs.turn.turn.Goals as goal
 
 pub returns-then-all_lost-clause-end : goal.returns-then-all_lost-clause-end

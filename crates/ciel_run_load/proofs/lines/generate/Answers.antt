@@ -1,7 +1,7 @@
 -- One line more was put.
 use Rattle.std.proofs.Common.{◌<◌, ◌+◌, ◌-◌, ◌++◌, ◌∙◌, ap, arith}
 use Rattle.ciel_run_load.specs.Lines.{generated, line_of, lines_after}
-use Rattle.ciel_run_load.proofs.Going.{one_more}
+use Rattle.ciel_run_load.proofs.LinesLemmas.{one_more}
 use Rattle.ciel_run_load.proofs.lines.generate.Goals as goal
 
 pub loop-line-preserved : goal.loop-line-preserved

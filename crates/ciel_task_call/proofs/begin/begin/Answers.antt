@@ -4,7 +4,7 @@ use Rattle.sky_base.specs.Tree.{Script}
 use Rattle.sky_state.specs.Fits.{Fits}
 use Rattle.sky_state.specs.StateView.{stand_of}
 use Rattle.ciel_task_call.specs.Begins.{IsStartOf}
-use Rattle.ciel_task_call.proofs.Starting.{start_begins}
+use Rattle.ciel_task_call.proofs.TaskStart.{start_begins}
 use Rattle.ciel_task_call.proofs.begin.begin.Goals as goal
 
 pub returns-in_ok-state-in-None-clause-begun : goal.returns-in_ok-state-in-None-clause-begun

@@ -1,5 +1,5 @@
 use Rattle.sky_state.specs.StateView.{stand_of}
-use Rattle.ciel_task_call.proofs.Starting.{starts_call}
+use Rattle.ciel_task_call.proofs.TaskStart.{starts_call}
 use Rattle.ciel_task_call.proofs.begin.start.Goals as goal
 
 pub returns-in_ok-state-in-Call-clause-start : goal.returns-in_ok-state-in-Call-clause-start

@@ -1,6 +1,6 @@
 use Rattle.std.proofs.Common.{sym, subst}
 use Rattle.sky_base_law.specs.Tasks.{In}
-use Rattle.ciel_task_call.proofs.Starting.{in_end}
+use Rattle.ciel_task_call.proofs.TaskStart.{in_end}
 use Rattle.ciel_task_call.proofs.begin.thaw.Goals as goal
 
 pub returns-in-Err-clause-thawed : goal.returns-in-Err-clause-thawed

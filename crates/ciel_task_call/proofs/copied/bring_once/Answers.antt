@@ -1,8 +1,8 @@
 use Rattle.std.proofs.Common.{◌≡◌, IfOk, length, subst, sym, ap, ◌∙◌, arith}
 use Rattle.sky_base.specs.JobView.{job_view}
 use Rattle.ciel_task_call.specs.Finds.{Noted}
-use Rattle.ciel_task_call.proofs.Copying.{fresh_place, names_after, stands_after, told_place}
-use Rattle.ciel_task_call.proofs.Finding.{fetched_so, spot_of}
+use Rattle.ciel_task_call.proofs.CopySteps.{fresh_place, names_after, stands_after, told_place}
+use Rattle.ciel_task_call.proofs.FoundInputs.{fetched_so, spot_of}
 use Rattle.ciel_task_call.proofs.copied.bring_once.Goals as goal
 
 pub fetch-requires-clause-spot : goal.fetch-requires-clause-spot

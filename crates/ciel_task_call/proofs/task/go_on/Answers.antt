@@ -1,6 +1,6 @@
 use Rattle.sky_state.specs.StateView.{stand_of, spawned_of}
 use Rattle.ciel_task_call.specs.Runs.{went}
-use Rattle.ciel_task_call.proofs.Going.{ran_lost, went_of}
+use Rattle.ciel_task_call.proofs.RunOutcome.{ran_lost, went_of}
 use Rattle.ciel_task_call.proofs.task.go_on.Goals as goal
 
 pub returns-in_ok-report-in-Ok-clause-ran : goal.returns-in_ok-report-in-Ok-clause-ran

@@ -1,4 +1,4 @@
-use Rattle.ciel_task_call.proofs.Going.{ran_stack}
+use Rattle.ciel_task_call.proofs.RunOutcome.{ran_stack}
 use Rattle.ciel_task_call.proofs.task.run.Goals as goal
 
 pub returns-in-Lost-clause-ran : goal.returns-in-Lost-clause-ran

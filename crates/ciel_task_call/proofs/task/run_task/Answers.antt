@@ -1,7 +1,7 @@
 use Rattle.std.proofs.Common.{◌∙◌}
 use Rattle.sky_base.specs.JobView.{job_view}
-use Rattle.ciel_task_call.proofs.Performing.{performs, places}
-use Rattle.ciel_task_call.proofs.Safing.{ran_safe}
+use Rattle.ciel_task_call.proofs.OrderPerformed.{performs, places}
+use Rattle.ciel_task_call.proofs.ReportSafety.{ran_safe}
 use Rattle.ciel_task_call.proofs.task.run_task.Goals as goal
 
 pub returns-clause-performs : goal.returns-clause-performs

@@ -2,7 +2,7 @@ use Rattle.std.proofs.Common.{refl, rules, subst, sym}
 use Rattle.sky_state.specs.StateView.{stand_of, spawned_of}
 use Rattle.ciel_table.specs.Inside.{IsIndex}
 use Rattle.ciel_task_inputs.specs.Lies.{held_name}
-use Rattle.ciel_task_call.proofs.Passing.{all_there, can_bring, finds_sound, passed, went_same}
+use Rattle.ciel_task_call.proofs.FinderRuns.{all_there, can_bring, finds_sound, passed, went_same}
 use Rattle.ciel_task_call.proofs.task.through.Goals as goal
 
 pub run_through-requires-clause-sound : goal.run_through-requires-clause-sound

@@ -5,9 +5,9 @@ use Rattle.sky_base.specs.Val.{refs}
 use Rattle.sky_base.specs.View.{view}
 use Rattle.ciel_task_order.specs.Orders.{names_in}
 use Rattle.ciel_task_inputs.specs.Gathers.{AllSound, CopiedUpTo, GatheredSo}
-use Rattle.ciel_task_inputs.proofs.Gathering.{lies, seen_of}
+use Rattle.ciel_task_inputs.proofs.GatheredInputs.{lies, seen_of}
 use Rattle.ciel_task_exec.proofs.Copied.{copied_refs, names_refer, names_there}
-use Rattle.ciel_task_exec.proofs.Knowing.{bytes_lie, objects_kept}
+use Rattle.ciel_task_exec.proofs.GivenObjects.{bytes_lie, objects_kept}
 use Rattle.ciel_task_exec.proofs.found.find_inputs.Goals as goal
 
 pub gather-requires-clause-names : goal.gather-requires-clause-names

@@ -7,8 +7,8 @@ use Rattle.ciel_task_order.specs.Orders.{names_in}
 use Rattle.ciel_task_order.specs.declared.block.Held.{Held}
 use Rattle.ciel_task_exec.specs.Runs.{SeenBy}
 use Rattle.ciel_task_exec.specs.Outputs.{AreOutputs}
-use Rattle.ciel_task_exec.proofs.Reporting.{performs_made, places_made}
-use Rattle.ciel_task_exec.proofs.Safing.{made_safe}
+use Rattle.ciel_task_exec.proofs.ReportPromise.{performs_made, places_made}
+use Rattle.ciel_task_exec.proofs.ReportSafety.{made_safe}
 use Rattle.ciel_task_exec.proofs.order.tell.Goals as goal
 
 pub returns-clause-performs : goal.returns-clause-performs

@@ -1,7 +1,7 @@
 use Rattle.std.proofs.Common.{Some, ap, ◌∙◌, subst, sym}
 use Rattle.sky_base.specs.JobView.{job_view}
 use Rattle.ciel_store.specs.Seen.{SeatSeen}
-use Rattle.ciel_task_exec.proofs.Reporting.{performs_missing}
+use Rattle.ciel_task_exec.proofs.ReportPromise.{performs_missing}
 use Rattle.ciel_task_exec.specs.Runs.{SeenBy}
 use Rattle.ciel_task_order.specs.Performs.{IsMissing}
 use Rattle.ciel_task_exec.proofs.order.tell_loss.Goals as goal

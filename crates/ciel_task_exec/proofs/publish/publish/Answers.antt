@@ -4,7 +4,7 @@ use Rattle.sky_base_law.proofs.Lists.{length_push}
 use Rattle.ciel_task_order.specs.declared.report.Made.{Made}
 use Rattle.sky_base_exec.specs.Perform.{listed}
 use Rattle.ciel_task_exec.specs.Outputs.{OutputsFrom}
-use Rattle.ciel_task_exec.proofs.Knowing.{outputs_push}
+use Rattle.ciel_task_exec.proofs.GivenObjects.{outputs_push}
 use Rattle.ciel_task_exec.proofs.publish.publish.Goals as goal
 
 pub loop-index-preserved : goal.loop-index-preserved

@@ -9,7 +9,7 @@ use Rattle.ciel_task_order.specs.Orders.{SpotSound, names_in}
 use Rattle.ciel_task_order.specs.declared.block.Held.{Held}
 use Rattle.ciel_task_inputs.specs.Gathers.{CopiedFor}
 use Rattle.ciel_task_inputs.specs.Lies.{CopiedSo, LostAt, held_name, lies_at}
-use Rattle.ciel_task_inputs.proofs.Gathering.{copied_more, each_found, each_index, found_some, gathered_more, in_index, seen_of, split_at}
+use Rattle.ciel_task_inputs.proofs.GatheredInputs.{copied_more, each_found, each_index, found_some, gathered_more, in_index, seen_of, split_at}
 use Rattle.ciel_task_inputs.proofs.gather.gather.Goals as goal
 
 pub unreachable-requires : goal.unreachable-requires

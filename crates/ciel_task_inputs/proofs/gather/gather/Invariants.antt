@@ -4,7 +4,7 @@ use Rattle.sky_base.specs.ObjectView.{object_view}
 use Rattle.sky_base_law.specs.Sound.{SoundObject}
 use Rattle.sky_base_law.specs.Tasks.{Each}
 use Rattle.ciel_task_inputs.specs.Gathers.{CopiedFor}
-use Rattle.ciel_task_inputs.proofs.Gathering.{lies, seen_of}
+use Rattle.ciel_task_inputs.proofs.GatheredInputs.{lies, seen_of}
 use Rattle.ciel_task_inputs.proofs.gather.gather.Given as goal
 
 abbrev pub invariant-loop-name : goal.invariant-loop-name

@@ -1,4 +1,4 @@
-use Rattle.ciel_task_inputs.proofs.Copying.{copies_fit, copies_named, copies_sound, copy_fetched}
+use Rattle.ciel_task_inputs.proofs.CopiedObjects.{copies_fit, copies_named, copies_sound, copy_fetched}
 use Rattle.ciel_task_inputs.proofs.law.copies_are_fetched.Goals as goal
 
 pub returns-clause-fetched : goal.returns-clause-fetched

@@ -1,4 +1,4 @@
-use Rattle.ciel_task_inputs.proofs.Bringing.{named_given, order_brings}
+use Rattle.ciel_task_inputs.proofs.BroughtInputs.{named_given, order_brings}
 use Rattle.ciel_task_inputs.proofs.law.orders_bring.Goals as goal
 
 pub returns-clause-bring : goal.returns-clause-bring

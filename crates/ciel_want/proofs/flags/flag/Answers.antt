@@ -3,7 +3,7 @@ use Rattle.ciel_table.specs.Seen.{row_name}
 use Rattle.ciel_table.proofs.ByName.{place_within}
 use Rattle.ciel_want.specs.Board.{IsSet, task_at}
 use Rattle.ciel_want.specs.Waited.{same_id}
-use Rattle.ciel_want.proofs.Outing.{flag_none, flag_some}
+use Rattle.ciel_want.proofs.OutFlags.{flag_none, flag_some}
 use Rattle.ciel_want.proofs.flags.flag.Goals as goal
 
 pub index_mut-requires : goal.index_mut-requires

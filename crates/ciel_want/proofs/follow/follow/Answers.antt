@@ -5,13 +5,13 @@ use Rattle.std.specs.Option.{option_map_or}
 use Rattle.std.proofs.lemmas.List.{length-replicate}
 use Rattle.sky_base.specs.declared.object.TaskId.{TaskId}
 use Rattle.ciel_want.specs.Search.{Among, unmet}
-use Rattle.ciel_want.proofs.Walking.{Walking, walk_circle, walk_met, walk_start, walk_step}
+use Rattle.ciel_want.proofs.UnmetWalks.{Walking, walk_circle, walk_met, walk_start, walk_step}
 use Rattle.ciel_table.specs.declared.row.Row.{Row}
 use Rattle.ciel_want.specs.Board.{first_unmet, live_at, row_leads}
 use Rattle.ciel_want.specs.Marked.{AllBelow, Marked}
 use Rattle.ciel_want.specs.Waited.{needs}
-use Rattle.ciel_want.proofs.Marking.{flag_is, marked_more, none_marked}
-use Rattle.ciel_want.proofs.Ringing.{below_push, next_below, ring_within}
+use Rattle.ciel_want.proofs.SeenFlags.{flag_is, marked_more, none_marked}
+use Rattle.ciel_want.proofs.RowCircles.{below_push, next_below, ring_within}
 use Rattle.ciel_want.proofs.follow.follow.Goals as goal
 
 pub walk-init : goal.walk-init

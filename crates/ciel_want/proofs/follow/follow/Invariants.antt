@@ -1,5 +1,5 @@
 use Rattle.std.proofs.Common.{◌≡◌, ◌-◌, length}
-use Rattle.ciel_want.proofs.Walking.{Walking}
+use Rattle.ciel_want.proofs.UnmetWalks.{Walking}
 use Rattle.ciel_want.specs.Board.{live_at, row_leads}
 use Rattle.ciel_want.specs.Marked.{AllBelow, Marked}
 use Rattle.ciel_want.proofs.follow.follow.Given as goal

@@ -1,7 +1,7 @@
 use Rattle.std.proofs.Common.{sym, subst, length, refl}
-use Rattle.ciel_want.proofs.Walking.{take_rest}
+use Rattle.ciel_want.proofs.UnmetWalks.{take_rest}
 use Rattle.ciel_want.specs.Marked.{AllBelow}
-use Rattle.ciel_want.proofs.Ringing.{below_drop}
+use Rattle.ciel_want.proofs.RowCircles.{below_drop}
 use Rattle.ciel_want.proofs.follow.names_from.Goals as goal
 
 pub names_of-requires : goal.names_of-requires

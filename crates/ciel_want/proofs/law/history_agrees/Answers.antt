@@ -1,5 +1,5 @@
-use Rattle.ciel_want.proofs.Agreeing.{history_agrees}
-use Rattle.ciel_want.proofs.Holding.{lawful_agrees}
+use Rattle.ciel_want.proofs.HistoryAgreement.{history_agrees}
+use Rattle.ciel_want.proofs.HistoryTables.{lawful_agrees}
 use Rattle.ciel_want.proofs.law.history_agrees.Goals as goal
 
 pub returns-clause-agree : goal.returns-clause-agree

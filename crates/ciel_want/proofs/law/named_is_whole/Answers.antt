@@ -1,4 +1,4 @@
-use Rattle.ciel_want.proofs.Naming.{named_whole}
+use Rattle.ciel_want.proofs.NamedWaits.{named_whole}
 use Rattle.ciel_want.proofs.law.named_is_whole.Goals as goal
 
 pub returns : goal.returns

@@ -2,7 +2,7 @@ use Rattle.std.proofs.Common.{sym, subst, add-one, arith}
 use Rattle.ciel_journal.specs.Graph.{Picks}
 use Rattle.ciel_want.specs.Board.{IsFlagged}
 use Rattle.ciel_want.specs.Waited.{tasks_in_order}
-use Rattle.ciel_want.proofs.Listing.{Listing, list_at, list_end, list_end_without, list_start}
+use Rattle.ciel_want.proofs.FlaggedTasks.{Listing, list_at, list_end, list_end_without, list_start}
 use Rattle.ciel_want.proofs.order.in_order.Goals as goal
 
 pub loop-row-init : goal.loop-row-init

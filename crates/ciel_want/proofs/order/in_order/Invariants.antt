@@ -1,4 +1,4 @@
-use Rattle.ciel_want.proofs.Listing.{Listing}
+use Rattle.ciel_want.proofs.FlaggedTasks.{Listing}
 use Rattle.ciel_want.proofs.order.in_order.Given as goal
 
 abbrev pub invariant-loop-row : goal.invariant-loop-row

@@ -3,8 +3,8 @@ use Rattle.std.specs.Option.{option_map_or}
 use Rattle.sky_base.specs.declared.object.TaskId.{TaskId}
 use Rattle.ciel_table.specs.declared.row.Row.{Row}
 use Rattle.ciel_want.specs.Board.{is_set, maker_at}
-use Rattle.ciel_want.proofs.Listing.{flag_is}
-use Rattle.ciel_want.proofs.Reaching.{task_row_within}
+use Rattle.ciel_want.proofs.FlaggedTasks.{flag_is}
+use Rattle.ciel_want.proofs.ReachedRows.{task_row_within}
 use Rattle.ciel_want.proofs.order.list.Goals as goal
 
 pub index-is_new-requires : goal.index-is_new-requires

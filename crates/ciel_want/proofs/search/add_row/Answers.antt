@@ -1,7 +1,7 @@
 use Rattle.std.proofs.Common.{◌≡◌, ◌++◌, ◌∷◌, [], arith, refl, sym, subst, length-set, List, Bool, true, set}
 use Rattle.std.proofs.lemmas.Grind.{common_steps}
 use Rattle.ciel_want.specs.Marked.{Marked}
-use Rattle.ciel_want.proofs.Marking.{marked_more}
+use Rattle.ciel_want.proofs.SeenFlags.{marked_more}
 use Rattle.ciel_want.proofs.search.add_row.Goals as goal
 
 pub returns-clause-marked : goal.returns-clause-marked

@@ -2,14 +2,14 @@ use Rattle.std.proofs.Common.{◌≡◌, Bool, ◌&&◌, not, set, length-set, �
 use Rattle.std.proofs.Common.{List, false, Some, None, replicate}
 use Rattle.std.proofs.lemmas.List.{length-replicate}
 use Rattle.ciel_want.specs.Search.{Among, first, further, news, unmet}
-use Rattle.ciel_want.proofs.Searching.{Searching, search_start, search_step, search_end, nothing}
+use Rattle.ciel_want.proofs.SearchInvariants.{Searching, search_start, search_step, search_end, nothing}
 use Rattle.ciel_want.specs.Board.{can_run_test, is_none, leads, never, task_at}
 use Rattle.ciel_want.specs.Marked.{AllBelow, Marked}
 use Rattle.ciel_want.specs.Waited.{is_in}
-use Rattle.ciel_want.proofs.Marking.{below_of, flagged_seen, last_among, none_marked}
-use Rattle.ciel_want.proofs.Readying.{Readied, ready_end, ready_start, ready_step}
+use Rattle.ciel_want.proofs.SeenFlags.{below_of, flagged_seen, last_among, none_marked}
+use Rattle.ciel_want.proofs.ReadyFlags.{Readied, ready_end, ready_start, ready_step}
 use Rattle.ciel_want.proofs.ReadyRows.{leads_test}
-use Rattle.ciel_want.proofs.Reaching.{keep_all, led_below, led_within}
+use Rattle.ciel_want.proofs.ReachedRows.{keep_all, led_below, led_within}
 use Rattle.ciel_want.proofs.search.reached.Goals as goal
 
 pub add_rows-requires-clause-marked : goal.add_rows-requires-clause-marked

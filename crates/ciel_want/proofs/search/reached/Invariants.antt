@@ -1,8 +1,8 @@
 use Rattle.std.proofs.Common.{◌≡◌, ◌+◌, ◌-◌, ◌*◌, length, Some}
-use Rattle.ciel_want.proofs.Searching.{Searching}
+use Rattle.ciel_want.proofs.SearchInvariants.{Searching}
 use Rattle.ciel_want.specs.Board.{can_run_test, leads, never, task_at}
 use Rattle.ciel_want.specs.Marked.{Marked}
-use Rattle.ciel_want.proofs.Readying.{Readied}
+use Rattle.ciel_want.proofs.ReadyFlags.{Readied}
 use Rattle.ciel_want.proofs.search.reached.Given as goal
 
 abbrev pub invariant-search : goal.invariant-search

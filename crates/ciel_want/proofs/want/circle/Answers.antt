@@ -1,6 +1,6 @@
 use Rattle.std.proofs.Common.{◌≡◌, ◌==◌, ◌∙◌, sym, arith, length, true, false, eqb-true, eq-eqb}
 use Rattle.std.specs.Vec.{vec_len}
-use Rattle.ciel_want.proofs.Wanting.{met_is, none_runs, one_runs, ring_apart, ring_is}
+use Rattle.ciel_want.proofs.WantAnswers.{met_is, none_runs, one_runs, ring_apart, ring_is}
 use Rattle.ciel_want.proofs.want.circle.Goals as goal
 
 pub returns-then-is_empty-clause-circle : goal.returns-then-is_empty-clause-circle

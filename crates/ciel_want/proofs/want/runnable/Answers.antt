@@ -1,4 +1,4 @@
-use Rattle.ciel_want.proofs.Wanting.{ready_picks}
+use Rattle.ciel_want.proofs.WantAnswers.{ready_picks}
 use Rattle.ciel_want.proofs.want.runnable.Goals as goal
 
 pub returns : goal.returns

@@ -1,4 +1,4 @@
-use Rattle.ciel_want.proofs.Wanting.{wanted_picks}
+use Rattle.ciel_want.proofs.WantAnswers.{wanted_picks}
 use Rattle.ciel_want.proofs.want.wanted.Goals as goal
 
 pub returns : goal.returns

@@ -1,4 +1,4 @@
-use Rattle.ciel_want.proofs.Testing.{root_goes, root_stops}
+use Rattle.ciel_want.proofs.WholenessTest.{root_goes, root_stops}
 use Rattle.ciel_want.proofs.whole.is_whole.Goals as goal
 
 pub returns-then-not-branch : goal.returns-then-not-branch

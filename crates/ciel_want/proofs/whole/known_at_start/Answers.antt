@@ -1,7 +1,7 @@
 use Rattle.std.proofs.Common.{◌∙◌, ap, sym}
 use Rattle.ciel_want.specs.Board.{all_known}
 use Rattle.ciel_want.specs.Waited.{first_refs, names_of}
-use Rattle.ciel_want.proofs.Waiting.{names_known}
+use Rattle.ciel_want.proofs.WaitedRows.{names_known}
 use Rattle.ciel_want.proofs.whole.known_at_start.Goals as goal
 
 pub returns-in_ok-refs-in-Exec : goal.returns-in_ok-refs-in-Exec

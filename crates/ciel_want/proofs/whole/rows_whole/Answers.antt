@@ -1,6 +1,6 @@
 use Rattle.std.proofs.Common.{◌∙◌, add-one, ap, drop}
 use Rattle.ciel_want.specs.Board.{rows_whole}
-use Rattle.ciel_want.proofs.Testing.{row_goes, row_stops}
+use Rattle.ciel_want.proofs.WholenessTest.{row_goes, row_stops}
 use Rattle.ciel_want.proofs.whole.rows_whole.Goals as goal
 
 pub returns-then-not-branch : goal.returns-then-not-branch

@@ -1,5 +1,5 @@
 use Rattle.std.proofs.Common.{arith}
-use Rattle.ciel_want_marks.proofs.Settling.{settled_beyond}
+use Rattle.ciel_want_marks.proofs.SettledLists.{settled_beyond}
 use Rattle.ciel_want_marks.proofs.lists.settle_at.Goals as goal
 
 pub returns-else-i-len : goal.returns-else-i-len

@@ -2,7 +2,7 @@ use Rattle.std.proofs.Common.{sym, subst, [], IfNone, IfSome}
 use Rattle.ciel_want_marks.specs.Marks.{Needs, Stands}
 use Rattle.ciel_want_marks.specs.Moves.{IsGraph, IsUnmade}
 use Rattle.ciel_want_ready.specs.Fits.{lives, makers, needs_by}
-use Rattle.ciel_want_ready.proofs.Searching.{is_graph, not_unmade}
+use Rattle.ciel_want_ready.proofs.SearchLookups.{is_graph, not_unmade}
 use Rattle.ciel_want_ready.proofs.anew.anew.Goals as goal
 
 pub begin-requires-clause-graph : goal.begin-requires-clause-graph

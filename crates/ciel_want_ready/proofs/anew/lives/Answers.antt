@@ -1,7 +1,7 @@
 use Rattle.std.proofs.Common.{◌∙◌, ◌++◌, ◌∷◌, [], ap, map, drop, length, length-append, arith}
 use Rattle.ciel_table.specs.Seen.{is_live_row}
 use Rattle.ciel_want_ready.proofs.Alike.{map_step}
-use Rattle.ciel_want_ready.proofs.Numbering.{length_map}
+use Rattle.ciel_want_ready.proofs.NumberedGraph.{length_map}
 use Rattle.ciel_want_ready.proofs.anew.lives.Goals as goal
 
 pub loop-row-preserved : goal.loop-row-preserved

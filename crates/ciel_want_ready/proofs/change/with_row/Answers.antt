@@ -1,5 +1,5 @@
 use Rattle.std.proofs.Common.{◌∙◌, sym}
-use Rattle.ciel_want_ready.proofs.Holding.{same_row}
+use Rattle.ciel_want_ready.proofs.FitsAfterCall.{same_row}
 use Rattle.ciel_want_ready.proofs.change.with_row.Goals as goal
 
 pub returns-in-Ok-true : goal.returns-in-Ok-true

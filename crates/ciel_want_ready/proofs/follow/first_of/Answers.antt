@@ -1,7 +1,7 @@
 use Rattle.std.proofs.Common.{ℕ, None}
 use Rattle.ciel_journal.specs.Job.{In}
 use Rattle.ciel_want_ready.specs.Following.{Near, Runs, Waits}
-use Rattle.ciel_want_ready.proofs.Looking.{better_both, better_fewer, near_some, near_waits}
+use Rattle.ciel_want_ready.proofs.LeastFollower.{better_both, better_fewer, near_some, near_waits}
 use Rattle.ciel_want_ready.proofs.follow.first_of.Goals as goal
 
 pub returns-then-some_live : goal.returns-then-some_live

@@ -1,6 +1,6 @@
 use Rattle.std.proofs.Common.{◌∙◌, None, sym}
 use Rattle.ciel_want_ready.specs.Following.{MayFollow, Near}
-use Rattle.ciel_want_ready.proofs.Looking.{better_fewer, may_near}
+use Rattle.ciel_want_ready.proofs.LeastFollower.{better_fewer, may_near}
 use Rattle.ciel_want_ready.proofs.follow.first_row.Goals as goal
 
 pub returns-in-Some : goal.returns-in-Some

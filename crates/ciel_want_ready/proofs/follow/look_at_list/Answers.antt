@@ -2,7 +2,7 @@ use Rattle.std.proofs.Common.{◌≡◌, ℕ, Some, sym, subst}
 use Rattle.ciel_journal.specs.Job.{In}
 use Rattle.ciel_want_marks.specs.Lists.{entry}
 use Rattle.ciel_want_ready.specs.Following.{Runs}
-use Rattle.ciel_want_ready.proofs.Looking.{better_fewer, looked_all, looked_more}
+use Rattle.ciel_want_ready.proofs.LeastFollower.{better_fewer, looked_all, looked_more}
 use Rattle.ciel_want_ready.proofs.follow.look_at_list.Goals as goal
 
 pub loop-i-preserved : goal.loop-i-preserved

@@ -1,6 +1,6 @@
 use Rattle.std.proofs.Common.{◌≡◌, Some}
 use Rattle.ciel_want_marks.specs.Lists.{entry}
-use Rattle.ciel_want_ready.proofs.Looking.{Looked}
+use Rattle.ciel_want_ready.proofs.LeastFollower.{Looked}
 use Rattle.ciel_want_ready.proofs.follow.look_at_list.Given as goal
 
 abbrev pub invariant-loop-i : goal.invariant-loop-i

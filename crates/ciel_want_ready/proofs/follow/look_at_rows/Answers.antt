@@ -1,6 +1,6 @@
 use Rattle.std.proofs.Common.{None}
 use Rattle.ciel_want_ready.specs.Following.{Waits}
-use Rattle.ciel_want_ready.proofs.Looking.{looked_all, looked_more}
+use Rattle.ciel_want_ready.proofs.LeastFollower.{looked_all, looked_more}
 use Rattle.ciel_want_ready.proofs.follow.look_at_rows.Goals as goal
 
 pub loop-i-preserved : goal.loop-i-preserved

@@ -1,6 +1,6 @@
 use Rattle.std.proofs.Common.{None}
 use Rattle.ciel_want_ready.specs.Following.{Waits}
-use Rattle.ciel_want_ready.proofs.Looking.{Looked}
+use Rattle.ciel_want_ready.proofs.LeastFollower.{Looked}
 use Rattle.ciel_want_ready.proofs.follow.look_at_rows.Given as goal
 
 abbrev pub invariant-loop-i : goal.invariant-loop-i

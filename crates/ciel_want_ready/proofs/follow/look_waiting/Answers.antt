@@ -1,7 +1,7 @@
 use Rattle.std.proofs.Common.{◌≡◌, ℕ, sym, subst, refl}
 use Rattle.ciel_journal.specs.Job.{In}
 use Rattle.ciel_want_ready.specs.Following.{Waits}
-use Rattle.ciel_want_ready.proofs.Looking.{better_fewer, looked_all, looked_more}
+use Rattle.ciel_want_ready.proofs.LeastFollower.{better_fewer, looked_all, looked_more}
 use Rattle.ciel_want_ready.proofs.follow.look_waiting.Goals as goal
 
 pub loop-i-preserved : goal.loop-i-preserved

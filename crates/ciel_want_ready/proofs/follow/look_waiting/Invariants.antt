@@ -1,5 +1,5 @@
 use Rattle.std.proofs.Common.{◌≡◌}
-use Rattle.ciel_want_ready.proofs.Looking.{Looked}
+use Rattle.ciel_want_ready.proofs.LeastFollower.{Looked}
 use Rattle.ciel_want_ready.proofs.follow.look_waiting.Given as goal
 
 abbrev pub invariant-loop-i : goal.invariant-loop-i

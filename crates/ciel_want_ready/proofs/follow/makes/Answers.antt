@@ -2,7 +2,7 @@ use Rattle.std.proofs.Common.{◌∙◌, not, ◌&&◌, ap, sym}
 use Rattle.ciel_table.specs.Seen.{row_name}
 use Rattle.ciel_table.proofs.ByName.{place_within}
 use Rattle.ciel_want.specs.Waited.{same_id}
-use Rattle.ciel_want_ready.proofs.Telling.{tells_maker, tells_unknown}
+use Rattle.ciel_want_ready.proofs.FollowerTests.{tells_maker, tells_unknown}
 use Rattle.ciel_want_ready.proofs.follow.makes.Goals as goal
 
 pub row-held-requires : goal.row-held-requires

@@ -2,7 +2,7 @@ use Rattle.std.proofs.Common.{◌≡◌, ◌↔◌, ◌∙◌, true, sym, subst}
 use Rattle.sky_base.specs.Val.{refs}
 use Rattle.sky_base.specs.View.{view}
 use Rattle.ciel_want.specs.Followers.{ReadsOne}
-use Rattle.ciel_want_ready.proofs.Telling.{tells_one}
+use Rattle.ciel_want_ready.proofs.FollowerTests.{tells_one}
 use Rattle.ciel_want_ready.proofs.follow.reads_one.Goals as goal
 
 pub returns-in-One : goal.returns-in-One

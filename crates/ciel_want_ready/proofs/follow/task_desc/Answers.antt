@@ -2,7 +2,7 @@ use Rattle.std.proofs.Common.{◌∙◌, ap, sym, Some}
 use Rattle.ciel_table.specs.Seen.{row_name}
 use Rattle.ciel_table.proofs.ByName.{place_within}
 use Rattle.ciel_want_ready.specs.Following.{task_desc}
-use Rattle.ciel_want_ready.proofs.Telling.{desc_found, desc_unknown}
+use Rattle.ciel_want_ready.proofs.FollowerTests.{desc_found, desc_unknown}
 use Rattle.ciel_want_ready.proofs.follow.task_desc.Goals as goal
 
 pub row-requires : goal.row-requires

@@ -1,6 +1,6 @@
 use Rattle.std.proofs.Common.{◌∙◌, ap, sym}
 use Rattle.ciel_want.specs.Waited.{first_refs, names_of}
-use Rattle.ciel_want.proofs.Waiting.{names_known}
+use Rattle.ciel_want.proofs.WaitedRows.{names_known}
 use Rattle.ciel_want_ready.specs.Fits.{dead_rows}
 use Rattle.ciel_want_ready.proofs.needs.dead_first.Goals as goal
 

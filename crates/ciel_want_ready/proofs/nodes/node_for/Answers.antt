@@ -1,6 +1,6 @@
 use Rattle.std.proofs.Common.{sym, subst, ◌<◌, length, IfSome}
 use Rattle.sky_base.specs.declared.object.TaskId.{TaskId}
-use Rattle.ciel_want.proofs.Reaching.{task_row_within}
+use Rattle.ciel_want.proofs.ReachedRows.{task_row_within}
 use Rattle.ciel_want_ready.proofs.nodes.node_for.Goals as goal
 
 pub node_after-requires : goal.node_after-requires

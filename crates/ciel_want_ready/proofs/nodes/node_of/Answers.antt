@@ -1,5 +1,5 @@
 use Rattle.std.proofs.Common.{sym, subst, ◌<◌, length, IfSome}
-use Rattle.ciel_want.proofs.Reaching.{task_row_within}
+use Rattle.ciel_want.proofs.ReachedRows.{task_row_within}
 use Rattle.ciel_want_ready.proofs.nodes.node_of.Goals as goal
 
 pub node_after-requires : goal.node_after-requires

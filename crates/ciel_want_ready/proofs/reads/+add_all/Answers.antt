@@ -2,7 +2,7 @@ use Rattle.std.proofs.Common.{◌≡◌, ◌+◌, ◌∷◌, suc, drop, sym, ap,
 use Rattle.sky_base.specs.Val.{pairs_refs, refs, vals_refs}
 use Rattle.sky_base.specs.View.{pairs_of, vals_of, view}
 use Rattle.ciel_want_ready.specs.Reading.{and_all}
-use Rattle.ciel_want_ready.proofs.Reading.{all_append, more_stays}
+use Rattle.ciel_want_ready.proofs.FirstTwoRefs.{all_append, more_stays}
 use Rattle.ciel_want_ready.proofs.reads.+add_all.Goals as goal
 
 pub add_pairs-returns-then-is_more : goal.add_pairs-returns-then-is_more

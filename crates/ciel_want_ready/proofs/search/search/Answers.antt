@@ -1,6 +1,6 @@
 use Rattle.std.proofs.Common.{◌∙◌, ◌<◌, sym, subst, arith, length, IfSome}
 use Rattle.ciel_want_ready.specs.Fits.{needs_by}
-use Rattle.ciel_want_ready.proofs.Searching.{are_dead, node_within, unfit}
+use Rattle.ciel_want_ready.proofs.SearchLookups.{are_dead, node_within, unfit}
 use Rattle.ciel_want_ready.proofs.search.search.Goals as goal
 
 pub dead_needs-requires : goal.dead_needs-requires

@@ -3,7 +3,7 @@ use Rattle.std.specs.Prelude.{replicate}
 use Rattle.sky_base.specs.View.{view, pairs_of}
 use Rattle.line_flow.specs.Told.{grow}
 use Rattle.line_flow.specs.Kept.{Keeps}
-use Rattle.line_flow.proofs.Growing.{grow-nothing, ends-start}
+use Rattle.line_flow.proofs.GrownInputs.{grow-nothing, ends-start}
 use Rattle.line_flow.proofs.StandsLaw.{seen-start}
 use Rattle.line_flow.proofs.flow.begin.Goals as goal
 

@@ -1,7 +1,7 @@
 use Rattle.std.proofs.Common.{◌≡◌, ℕ, List, ◌++◌, ap, ap₂, ◌∙◌, arith}
 use Rattle.std.proofs.lemmas.List.{take-append-drop}
 use Rattle.line_flow.specs.Told.{fed_more}
-use Rattle.line_flow.proofs.Growing.{length-grow}
+use Rattle.line_flow.proofs.GrownInputs.{length-grow}
 use Rattle.line_flow.proofs.StandsLaw.{more_twice}
 use Rattle.line_flow.proofs.kit.feed_all.Goals as goal
 

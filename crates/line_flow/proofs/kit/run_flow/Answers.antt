@@ -6,7 +6,7 @@ use Rattle.line_kit.specs.Gives.{gives}
 use Rattle.line_flow.specs.Told.{Told}
 use Rattle.line_flow.specs.Drained.{Completes}
 use Rattle.line_flow.specs.Stands.{Stands}
-use Rattle.line_flow.proofs.Growing.{grow_next, all-parts}
+use Rattle.line_flow.proofs.GrownInputs.{grow_next, all-parts}
 use Rattle.line_flow.proofs.Results.{on_ok}
 use Rattle.line_flow.proofs.KeptLaw.{runs_whole}
 use Rattle.line_flow.proofs.kit.run_flow.Goals as goal

@@ -6,7 +6,7 @@ use Rattle.sky_base.specs.View.{view, vals_of, pairs_of}
 use Rattle.sky_base.proofs.Values.{value_inside, pair_inside}
 use Rattle.sky_base_waves.proofs.Fills.{joined, Meets}
 use Rattle.sky_base_exec.specs.Perform.{in_slot}
-use Rattle.sky_base_exec.proofs.Slotting.{vals_left, pairs_left, vals_step, pairs_step, meets_step}
+use Rattle.sky_base_exec.proofs.RefSlots.{vals_left, pairs_left, vals_step, pairs_step, meets_step}
 use Rattle.sky_base_exec.proofs.slots.+slotted.Goals as goal
 
 pub slotted_values-slotted-requires : goal.slotted_values-slotted-requires

@@ -1,4 +1,4 @@
-use Rattle.ciel_name.proofs.Reading.{refuses_more}
+use Rattle.ciel_name.proofs.DecodeSteps.{refuses_more}
 use Rattle.sky_frozen_bytes.proofs.Parts.{no_variables, no_lists}
 use Rattle.sky_frozen_bytes.proofs.read.read_frame.Goals as goal
 

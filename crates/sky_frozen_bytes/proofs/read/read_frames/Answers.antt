@@ -1,5 +1,5 @@
 use Rattle.std.proofs.Common.{arith}
-use Rattle.ciel_name.proofs.Reading.{refuses_more}
+use Rattle.ciel_name.proofs.DecodeSteps.{refuses_more}
 use Rattle.sky_frozen_bytes.specs.Bytes.{frame_bytes}
 use Rattle.sky_frozen_bytes.specs.Spelled.{FrameSpelled}
 use Rattle.sky_state.specs.StandView.{frames_view}

@@ -1,4 +1,4 @@
-use Rattle.ciel_name.proofs.Reading.{refuses_more}
+use Rattle.ciel_name.proofs.DecodeSteps.{refuses_more}
 use Rattle.sky_frozen_bytes.proofs.Parts.{no_kind_run, no_kind_show}
 use Rattle.sky_frozen_bytes.proofs.read.read_kind.Goals as goal
 

@@ -1,4 +1,4 @@
-use Rattle.ciel_name.proofs.Reading.{refuses_more}
+use Rattle.ciel_name.proofs.DecodeSteps.{refuses_more}
 use Rattle.sky_state.specs.StandView.{stack_view}
 use Rattle.sky_frozen_bytes.proofs.Parts.{no_lists_second}
 use Rattle.sky_frozen_bytes.proofs.read.read_lists.Goals as goal

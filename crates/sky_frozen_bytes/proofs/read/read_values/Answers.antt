@@ -1,5 +1,5 @@
 use Rattle.std.proofs.Common.{arith}
-use Rattle.ciel_name.proofs.Reading.{refuses_more}
+use Rattle.ciel_name.proofs.DecodeSteps.{refuses_more}
 use Rattle.sky_base.specs.Name.{bytes}
 use Rattle.ciel_name.specs.Spelled.{IsData}
 use Rattle.sky_state.specs.StandView.{stack_view}

@@ -1,5 +1,5 @@
 use Rattle.std.proofs.Common.{arith, subst, sym, refl}
-use Rattle.ciel_name.proofs.Reading.{refuses_more}
+use Rattle.ciel_name.proofs.DecodeSteps.{refuses_more}
 use Rattle.sky_frozen_bytes.specs.Spelled.{EachKept}
 use Rattle.sky_frozen_bytes.proofs.Parts.{no_vars, vars_large}
 use Rattle.sky_frozen_bytes.proofs.read.read_vars.Goals as goal

@@ -1,4 +1,4 @@
-use Rattle.sky_machine.proofs.Waiting.{stack_left}
+use Rattle.sky_machine.proofs.InnermostWaits.{stack_left}
 use Rattle.sky_machine.proofs.law.stacks_are_left_at_waits.Goals as goal
 
 pub returns : goal.returns

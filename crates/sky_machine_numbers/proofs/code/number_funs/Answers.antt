@@ -3,7 +3,7 @@ use Rattle.std.specs.Vec.{vec_len}
 use Rattle.sky_base.specs.ScriptView.{fun_view, funs_view}
 use Rattle.sky_base_law.specs.Nodes.{pre_funs, pre_block}
 use Rattle.sky_machine_code.specs.Numbers.{starts_from}
-use Rattle.sky_machine_numbers.proofs.Filling.{left_next, left_done, no_more, starts_next}
+use Rattle.sky_machine_numbers.proofs.FilledLemmas.{left_next, left_done, no_more, starts_next}
 use Rattle.sky_machine_numbers.proofs.code.number_funs.Goals as goal
 
 pub loop-fun-preserved : goal.loop-fun-preserved

@@ -2,7 +2,7 @@ use Rattle.std.proofs.Common.{◌≡◌, ◌++◌, length}
 use Rattle.sky_base.specs.ScriptView.{funs_view}
 use Rattle.sky_base_law.specs.Nodes.{pre_funs}
 use Rattle.sky_machine_code.specs.Numbers.{starts_from}
-use Rattle.sky_machine_numbers.proofs.Filling.{Left}
+use Rattle.sky_machine_numbers.proofs.FilledLemmas.{Left}
 use Rattle.sky_machine_numbers.proofs.code.number_funs.Given as goal
 
 abbrev pub invariant-loop-fun : goal.invariant-loop-fun

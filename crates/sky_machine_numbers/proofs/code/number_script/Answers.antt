@@ -5,7 +5,7 @@ use Rattle.sky_base_law.specs.Nodes.{pre_block, pre_funs}
 use Rattle.sky_machine_code.specs.Numbers.{starts_from}
 use Rattle.sky_machine_numbers.specs.Filled.{Filled, Fits}
 use Rattle.sky_machine_numbers.specs.Tabled.{TablesOf}
-use Rattle.sky_machine_numbers.proofs.Filling.{fits_first, fits_more, script_fits, ends_are, starts_are}
+use Rattle.sky_machine_numbers.proofs.FilledLemmas.{fits_first, fits_more, script_fits, ends_are, starts_are}
 use Rattle.sky_machine_numbers.proofs.code.number_script.Goals as goal
 
 pub number_block-requires : goal.number_block-requires

@@ -4,7 +4,7 @@ use Rattle.sky_base_law.specs.Opened.{exp_node}
 use Rattle.sky_base_law.specs.Nodes.{pre_exp, pre_exps, pre_links, pre_ands, pre_steps}
 use Rattle.sky_machine_code.specs.Shapes.{shape_view, rest_view, operands_view}
 use Rattle.sky_machine_numbers.specs.Filled.{Filled, Fits, in_exp, in_step}
-use Rattle.sky_machine_numbers.proofs.Filling.{filled_both, fits_more, end_in, node_ended, exp_nodes, exp_size, left_next, left_done, no_more, steps_first}
+use Rattle.sky_machine_numbers.proofs.FilledLemmas.{filled_both, fits_more, end_in, node_ended, exp_nodes, exp_size, left_next, left_done, no_more, steps_first}
 use Rattle.sky_machine_numbers.proofs.exprs.+exp.Goals as goal
 
 pub number_exp-end-requires-clause-fits : goal.number_exp-end-requires-clause-fits

@@ -3,7 +3,7 @@ use Rattle.sky_base.specs.TreeView.{exp_view, ands_view, steps_view}
 use Rattle.sky_base_law.specs.Nodes.{pre_exp, pre_exps, pre_links, pre_ands, pre_steps}
 use Rattle.sky_machine_code.specs.Shapes.{shape_view, rest_view, operands_view}
 use Rattle.sky_machine_numbers.specs.Filled.{in_exp, in_step}
-use Rattle.sky_machine_numbers.proofs.Filling.{Left}
+use Rattle.sky_machine_numbers.proofs.FilledLemmas.{Left}
 use Rattle.sky_machine_numbers.proofs.exprs.+exp.Given as goal
 
 abbrev pub decreases-number_exp : goal.decreases-number_exp

@@ -6,7 +6,7 @@ use Rattle.sky_base_law.specs.Opened.{HasExp, HasExps, HasLinks, HasAnds, HasSte
 use Rattle.sky_machine_code.specs.Shapes.{shape_view, rest_view, operands_view}
 use Rattle.sky_machine_code.proofs.Bodies.{nodes_pos}
 use Rattle.sky_machine_numbers.specs.Standing.{HasStep}
-use Rattle.sky_machine_numbers.proofs.Finding.{step_size, step_stands}
+use Rattle.sky_machine_numbers.proofs.NodesByNumber.{step_size, step_stands}
 use Rattle.sky_machine_numbers.proofs.find_exp.+exp.Goals as goal
 
 pub node_in_parts-loop-next-preserved : goal.node_in_parts-loop-next-preserved

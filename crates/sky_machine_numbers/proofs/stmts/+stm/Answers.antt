@@ -4,8 +4,8 @@ use Rattle.sky_base.specs.StmtView.{stm_view, stms_view, arms_view, else_view}
 use Rattle.sky_base_law.specs.Opened.{stm_node, block_node}
 use Rattle.sky_base_law.specs.Nodes.{pre_exp, pre_stm, pre_stms, pre_arms, pre_else, pre_block}
 use Rattle.sky_machine_numbers.specs.Filled.{Filled, Fits, in_stm}
-use Rattle.sky_machine_numbers.proofs.Filling.{filled_both, fits_more, end_in, node_ended, stm_nodes_are, stm_size, block_size, left_next, left_done, no_more}
-use Rattle.sky_machine_numbers.proofs.Filling.{arms_first}
+use Rattle.sky_machine_numbers.proofs.FilledLemmas.{filled_both, fits_more, end_in, node_ended, stm_nodes_are, stm_size, block_size, left_next, left_done, no_more}
+use Rattle.sky_machine_numbers.proofs.FilledLemmas.{arms_first}
 use Rattle.sky_machine_numbers.proofs.stmts.+stm.Goals as goal
 
 pub number_block-end-requires-clause-fits : goal.number_block-end-requires-clause-fits

@@ -3,7 +3,7 @@ use Rattle.sky_base.specs.TreeView.{exp_view}
 use Rattle.sky_base.specs.StmtView.{stm_view, stms_view, arms_view}
 use Rattle.sky_base_law.specs.Nodes.{pre_exp, pre_stm, pre_stms, pre_arms, pre_block}
 use Rattle.sky_machine_numbers.specs.Filled.{in_stm}
-use Rattle.sky_machine_numbers.proofs.Filling.{Left}
+use Rattle.sky_machine_numbers.proofs.FilledLemmas.{Left}
 use Rattle.sky_machine_numbers.proofs.stmts.+stm.Given as goal
 
 abbrev pub decreases-number_block : goal.decreases-number_block

@@ -3,7 +3,7 @@ use Rattle.sky_base.specs.Tree.{Exp}
 use Rattle.sky_base.specs.TreeView.{exp_view, steps_view}
 use Rattle.sky_machine_code.specs.Shapes.{shape_view}
 use Rattle.sky_state.specs.Table.{keeps, exp_row}
-use Rattle.sky_machine_restore.proofs.Keeping.{postfix_keeps}
+use Rattle.sky_machine_restore.proofs.KeptCounts.{postfix_keeps}
 use Rattle.sky_machine_restore.proofs.keeps.exp_keeps.Goals as goal
 
 pub returns-else-step-lt2 : goal.returns-else-step-lt2

@@ -4,7 +4,7 @@ use Rattle.sky_base.specs.TreeView.{at, exp_view}
 use Rattle.sky_base_law.specs.Nodes.{node_at}
 use Rattle.sky_base_law.specs.Opened.{exp_node, HasExps}
 use Rattle.sky_machine_code.specs.Shapes.{form_view, rest_view}
-use Rattle.sky_machine_restore.proofs.Keeping.{part_keeps, all_keep}
+use Rattle.sky_machine_restore.proofs.KeptCounts.{part_keeps, all_keep}
 use Rattle.sky_machine_restore.proofs.keeps.parts_keep.Goals as goal
 
 pub skip_parts-place-requires : goal.skip_parts-place-requires

@@ -1,7 +1,7 @@
 use Rattle.std.proofs.Common.{◌≡◌, ◌+◌, suc, ◌∷◌, drop, sym, ap, ◌∙◌, arith, add-one, drop-cons}
 use Rattle.sky_base.specs.TreeView.{at, exp_view, steps_view}
 use Rattle.sky_machine_restore.specs.Kept.{kept_after}
-use Rattle.sky_machine_restore.proofs.Keeping.{at_index, at_call, arg_keeps, body_keeps, after_keeps, index_keeps}
+use Rattle.sky_machine_restore.proofs.KeptCounts.{at_index, at_call, arg_keeps, body_keeps, after_keeps, index_keeps}
 use Rattle.sky_machine_restore.proofs.keeps.spot_keeps.Goals as goal
 use Rattle.sky_machine_restore.proofs.keeps.spot_keeps.Goals.{in-Index+else-left-eq0, in-Call+else-left-args+else-left-args-2}
 

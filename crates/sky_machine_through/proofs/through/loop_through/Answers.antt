@@ -2,8 +2,8 @@ use Rattle.std.proofs.Common.{Some, None, refl, ◌∙◌, subst, arith}
 use Rattle.sky_state.specs.StateView.{stand_of, spawned_of}
 use Rattle.sky_machine.specs.declared.step.Step.{Step}
 use Rattle.sky_machine_through.specs.Found.{Turns}
-use Rattle.sky_machine_through.proofs.Asking.{before_last, before_more, before_none}
-use Rattle.sky_machine_through.proofs.Knowing.{known_both, known_self}
+use Rattle.sky_machine_through.proofs.AskedLemmas.{before_last, before_more, before_none}
+use Rattle.sky_machine_through.proofs.KnownNames.{known_both, known_self}
 use Rattle.sky_machine_through.proofs.Turns.{further_both, grew_none, grew_both, kind_self, kind_both}
 use Rattle.sky_machine_through.proofs.Wholes.{grew_whole_none, grew_whole_both}
 use Rattle.sky_machine_through.proofs.through.loop_through.Goals as goal

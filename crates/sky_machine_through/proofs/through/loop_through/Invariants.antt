@@ -6,7 +6,7 @@ use Rattle.sky_machine.specs.Knows.{KnowsNames}
 use Rattle.sky_machine.specs.Onward.{GrewSoundly}
 use Rattle.sky_machine.specs.declared.step.Step.{Step}
 use Rattle.sky_machine_through.specs.Found.{CameFrom, GrewWhole, HasAll, SameKind, still_to_come}
-use Rattle.sky_machine_through.proofs.Asking.{Before}
+use Rattle.sky_machine_through.proofs.AskedLemmas.{Before}
 use Rattle.sky_machine_through.proofs.through.loop_through.Given as goal
 
 abbrev pub invariant-turns : goal.invariant-turns

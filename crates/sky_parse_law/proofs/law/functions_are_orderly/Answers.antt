@@ -2,7 +2,7 @@ use Rattle.std.proofs.Common.{sym, subst}
 use Rattle.sky_base.specs.Tree.{Script}
 use Rattle.sky_base_law.specs.Tasks.{Each}
 use Rattle.sky_parse_law.specs.Orderly.{Orderly}
-use Rattle.sky_parse_law.proofs.Naming.{tops_named}
+use Rattle.sky_parse_law.proofs.NonemptyNames.{tops_named}
 use Rattle.sky_parse_law.proofs.Ordered.{script_orderly}
 use Rattle.sky_parse_law.proofs.law.functions_are_orderly.Goals as goal
 

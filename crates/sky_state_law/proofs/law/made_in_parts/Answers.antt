@@ -1,4 +1,4 @@
-use Rattle.sky_state_law.proofs.Making.{after_between, between_two}
+use Rattle.sky_state_law.proofs.MadeSegments.{after_between, between_two}
 use Rattle.sky_state_law.proofs.law.made_in_parts.Goals as goal
 
 pub returns : goal.returns

@@ -1,6 +1,6 @@
 -- Where the bytes are not UTF-8.
 use Rattle.std.proofs.Common.{◌∙◌, arith, inr}
-use Rattle.sky_text.proofs.Reading.{of_others}
+use Rattle.sky_text.proofs.LexingSteps.{of_others}
 use Rattle.sky_text.proofs.Within.{few_tokens, refused_within}
 use Rattle.sky_text.proofs.lex.lex.Goals as goal
 

@@ -9,7 +9,7 @@ use Rattle.std.proofs.lemmas.Result.{err_from_is_err_and}
 use Rattle.std.proofs.lemmas.Str.{IsCharBoundary-after_ascii, IsUtf8-drop}
 use Rattle.sky_text.specs.Lexing.{gap_len, tokens_from}
 use Rattle.sky_text.proofs.Places.{past_gap, past_token}
-use Rattle.sky_text.proofs.Reading.{keeps_end, keeps_gap, keeps_refusal, keeps_token, of_utf8}
+use Rattle.sky_text.proofs.LexingSteps.{keeps_end, keeps_gap, keeps_refusal, keeps_token, of_utf8}
 use Rattle.sky_text.proofs.Spans.{token_span}
 use Rattle.sky_text.proofs.lex.read.Goals as goal
 

@@ -1,7 +1,7 @@
 use Rattle.std.proofs.Common.{◌≡◌, ◌+◌, ◌≤◌, length, drop}
 use Rattle.sky_text.specs.Lexing.{tokens_from}
 use Rattle.sky_text.specs.Place.{column_of, line_of}
-use Rattle.sky_text.proofs.Reading.{with_tokens}
+use Rattle.sky_text.proofs.LexingSteps.{with_tokens}
 use Rattle.sky_text.proofs.lex.read.Given as goal
 
 abbrev pub invariant-loop-first : goal.invariant-loop-first

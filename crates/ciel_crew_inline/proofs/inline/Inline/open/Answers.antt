@@ -1,6 +1,6 @@
 use Rattle.std.proofs.Common.{length, map, arith}
 use Rattle.std.specs.Arc.{arc_value}
-use Rattle.ciel_crew_inline.proofs.Keeping.{opened_as}
+use Rattle.ciel_crew_inline.proofs.KeptReports.{opened_as}
 use Rattle.ciel_crew_inline.proofs.inline.Inline.open.Goals as goal
 
 pub returns-in-Ok-clause-opened : goal.returns-in-Ok-clause-opened

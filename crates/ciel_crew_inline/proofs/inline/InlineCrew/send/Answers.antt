@@ -3,7 +3,7 @@ use Rattle.std.proofs.lemmas.List.{length-set}
 use Rattle.std.specs.Arc.{arc_value}
 use Rattle.ciel_task_crew.specs.Crews.{Answers, TellsTask}
 use Rattle.ciel_task_crew.specs.Seen.{CrewSeen}
-use Rattle.ciel_crew_inline.proofs.Keeping.{enters, kept_at, kept_set, looks_there, out_set, stands_after, within}
+use Rattle.ciel_crew_inline.proofs.KeptReports.{enters, kept_at, kept_set, looks_there, out_set, stands_after, within}
 use Rattle.ciel_crew_inline.proofs.inline.InlineCrew.send.Goals as goal
 
 pub invariant_of-self : goal.invariant_of-self

@@ -1,6 +1,6 @@
 use Rattle.std.proofs.Common.{ap, ◌∙◌, ◌++◌, ◌∷◌, [], Some}
 use Rattle.ciel_crew_lanes.specs.Seen.{known, DeskSeen}
-use Rattle.ciel_crew_lanes.proofs.Seeing.{none_out, seen_put, is_put}
+use Rattle.ciel_crew_lanes.proofs.DeskSteps.{none_out, seen_put, is_put}
 use Rattle.ciel_crew_lanes.proofs.desk.Desk.put.Goals as goal
 
 pub send-requires-clause-may : goal.send-requires-clause-may

@@ -1,5 +1,5 @@
 use Rattle.ciel_crew_lanes.specs.Seen.{known}
-use Rattle.ciel_crew_lanes.proofs.Seeing.{after_take}
+use Rattle.ciel_crew_lanes.proofs.DeskSteps.{after_take}
 use Rattle.ciel_crew_lanes.proofs.desk.Desk.take.Goals as goal
 
 pub returns-in-Output : goal.returns-in-Output

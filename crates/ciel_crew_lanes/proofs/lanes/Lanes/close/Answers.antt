@@ -1,5 +1,5 @@
 use Rattle.std.proofs.Common.{◌++◌, ◌∷◌, [], sym, ap, ◌∙◌, arith, length-append, append_assoc}
-use Rattle.ciel_crew_lanes.proofs.Closing.{closes, longer}
+use Rattle.ciel_crew_lanes.proofs.LaneOutputs.{closes, longer}
 use Rattle.ciel_crew_lanes.proofs.lanes.Lanes.close.Goals as goal
 
 pub loop-lane-preserved : goal.loop-lane-preserved

@@ -6,7 +6,7 @@ use Rattle.ciel_master_board.specs.Board.{Board, Order, find_order}
 use Rattle.sky_base.specs.Tree.{Script}
 use Rattle.ciel_master.specs.Fitting.{FitsOneOut, FitsUnlessMissing, IsMissedOf}
 use Rattle.ciel_master.specs.Marked.{SeenOf, unseen}
-use Rattle.ciel_master.proofs.Marking.{miss_fits}
+use Rattle.ciel_master.proofs.MarkedLosses.{miss_fits}
 use Rattle.ciel_store.specs.Seen.{ShelvesSeen}
 use Rattle.ciel_master.specs.Seen.{MasterSeen}
 use Rattle.ciel_master.proofs.Kept.{unseen_fits}

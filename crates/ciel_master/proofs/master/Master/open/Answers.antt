@@ -7,7 +7,7 @@ use Rattle.ciel_task_order.specs.Views.{P}
 use Rattle.ciel_table.specs.Learning.{learned}
 use Rattle.ciel_master.specs.Seen.{most_descriptions}
 use Rattle.ciel_master.proofs.Kept.{open_going, open_gone, open_ready, open_room}
-use Rattle.ciel_master.proofs.Marking.{open_marked}
+use Rattle.ciel_master.proofs.MarkedLosses.{open_marked}
 use Rattle.ciel_master.proofs.master.Master.open.Goals as goal
 
 wide_of : {m n : ℕ} → m ≡ n → m ≤ n

@@ -2,7 +2,7 @@ use Rattle.std.proofs.Common.{◌≡◌, Some, map, ap, sym, ◌∙◌, vec_capa
 use Rattle.std.specs.Arc.{arc_value}
 use Rattle.std.specs.Option.{option_map}
 use Rattle.ciel_master_board.specs.Board.{find_order}
-use Rattle.ciel_master_board.proofs.Sounding.{order_in}
+use Rattle.ciel_master_board.proofs.SoundLemmas.{order_in}
 use Rattle.ciel_want_ready.specs.Seen.{ReadySeen, with_table}
 use Rattle.ciel_task_order.specs.Views.{P, how_view}
 use Rattle.ciel_master.specs.Taking.{table_after}

@@ -1,6 +1,6 @@
 use Rattle.std.proofs.Common.{sym, ap, ◌∙◌, arith, subst}
 use Rattle.ciel_store.specs.Words.{Has}
-use Rattle.ciel_store.proofs.Keeping.{takes, confirms}
+use Rattle.ciel_store.proofs.WordSteps.{takes, confirms}
 use Rattle.ciel_store.proofs.shelves.Shelves.confirm.Goals as goal
 
 pub join_seat-requires : goal.join_seat-requires

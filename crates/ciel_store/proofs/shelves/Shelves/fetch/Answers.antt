@@ -1,6 +1,6 @@
 use Rattle.std.proofs.Common.{◌≡◌, ◌<◌, ◌-◌, length, sym, ap, ◌∙◌, subst, arith}
 use Rattle.ciel_store.specs.Words.{loss, Has}
-use Rattle.ciel_store.proofs.Keeping.{looks}
+use Rattle.ciel_store.proofs.WordSteps.{looks}
 use Rattle.ciel_store.proofs.shelves.Shelves.fetch.Goals as goal
 
 pub load-found-requires : goal.load-found-requires

@@ -1,7 +1,7 @@
 use Rattle.std.proofs.Common.{◌<◌, ◌^◌, length, sym, refl, ap, ◌∙◌, arith}
 use Rattle.ciel_store.specs.Seen.{marked}
-use Rattle.ciel_store.proofs.Keeping.{marks}
-use Rattle.ciel_store.proofs.Marking.{marked_is}
+use Rattle.ciel_store.proofs.WordSteps.{marks}
+use Rattle.ciel_store.proofs.MarkerList.{marked_is}
 use Rattle.ciel_store.proofs.shelves.Shelves.mark_lost.Goals as goal
 
 pub compare_exchange-requires : goal.compare_exchange-requires

@@ -1,5 +1,5 @@
 use Rattle.std.proofs.Common.{sym, ap, ◌∙◌, arith}
-use Rattle.ciel_store.proofs.Keeping.{begins_eye}
+use Rattle.ciel_store.proofs.WordSteps.{begins_eye}
 use Rattle.ciel_store.proofs.shelves.Shelves.new_eye.Goals as goal
 
 pub split_seat-seat-requires : goal.split_seat-seat-requires

@@ -1,5 +1,5 @@
 use Rattle.std.proofs.Common.{sym, ap, ◌∙◌, arith}
-use Rattle.ciel_store.proofs.Keeping.{shows}
+use Rattle.ciel_store.proofs.WordSteps.{shows}
 use Rattle.ciel_store.proofs.shelves.Shelves.show.Goals as goal
 
 pub split_seat-seat-requires : goal.split_seat-seat-requires

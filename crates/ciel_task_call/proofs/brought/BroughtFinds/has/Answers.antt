@@ -1,6 +1,6 @@
 use Rattle.std.proofs.Common.{◌∙◌}
 use Rattle.sky_base.specs.JobView.{job_view}
-use Rattle.ciel_task_call.proofs.Finding.{has_so}
+use Rattle.ciel_task_call.proofs.FoundInputs.{has_so}
 use Rattle.ciel_task_call.proofs.brought.BroughtFinds.has.Goals as goal
 
 pub returns : goal.returns

@@ -1,5 +1,5 @@
 use Rattle.std.proofs.Common.{drop}
-use Rattle.ciel_want.proofs.Outing.{Outing}
+use Rattle.ciel_want.proofs.OutFlags.{Outing}
 use Rattle.ciel_want.proofs.flags.Out.of.Given as goal
 
 abbrev pub invariant-loop-i : goal.invariant-loop-i

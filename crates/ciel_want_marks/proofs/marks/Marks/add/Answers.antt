@@ -1,6 +1,6 @@
 use Rattle.std.proofs.Common.{◌∙◌, sym, refl}
 use Rattle.ciel_want_marks.proofs.Slots.{not_both}
-use Rattle.ciel_want_marks.proofs.Adding.{adds, not_added}
+use Rattle.ciel_want_marks.proofs.AddedRow.{adds, not_added}
 use Rattle.ciel_want_marks.proofs.marks.Marks.add.Goals as goal
 
 pub returns-clause-right : goal.returns-clause-right

@@ -1,7 +1,7 @@
 use Rattle.std.proofs.Common.{◌∙◌, ap, sym, get_or}
 use Rattle.ciel_want_marks.specs.Lists.{at, flag}
 use Rattle.ciel_want_marks.specs.Marks.{MarksSeen}
-use Rattle.ciel_want_marks.proofs.Closing.{makes_dead}
+use Rattle.ciel_want_marks.proofs.ClosedNode.{makes_dead}
 use Rattle.ciel_want_marks.proofs.marks.Marks.all_live.Goals as goal
 
 pub returns-then-not-flag-clause-dead : goal.returns-then-not-flag-clause-dead

@@ -1,6 +1,6 @@
 use Rattle.std.proofs.Common.{◌∙◌, ap, sym, subst, length, arith, add-one}
 use Rattle.ciel_want_marks.specs.Lists.{entry, flag}
-use Rattle.ciel_want_marks.proofs.Beginning.{Filing, files_all, files_none, files_one, made_or_live, unmade}
+use Rattle.ciel_want_marks.proofs.InitialMarks.{Filing, files_all, files_none, files_one, made_or_live, unmade}
 use Rattle.ciel_want_marks.proofs.marks.Marks.begin.Goals as goal
 
 pub loop-row-init : goal.loop-row-init

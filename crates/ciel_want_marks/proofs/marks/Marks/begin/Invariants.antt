@@ -1,5 +1,5 @@
 use Rattle.std.proofs.Common.{◌≤◌, length}
-use Rattle.ciel_want_marks.proofs.Beginning.{Filing}
+use Rattle.ciel_want_marks.proofs.InitialMarks.{Filing}
 use Rattle.ciel_want_marks.proofs.marks.Marks.begin.Given as goal
 
 abbrev pub invariant-loop-row : goal.invariant-loop-row

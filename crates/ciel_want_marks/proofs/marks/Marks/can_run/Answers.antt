@@ -3,7 +3,7 @@ use Rattle.ciel_journal.specs.Job.{In}
 use Rattle.ciel_want_marks.specs.Marks.{MarksSeen}
 use Rattle.ciel_want_marks.specs.Lists.{flag}
 use Rattle.ciel_want_marks.proofs.Slots.{not_both}
-use Rattle.ciel_want_marks.proofs.Starting.{makes_none, node_can_run, root_can_go_out}
+use Rattle.ciel_want_marks.proofs.StartedNode.{makes_none, node_can_run, root_can_go_out}
 use Rattle.ciel_want_marks.proofs.marks.Marks.can_run.Goals as goal
 
 pub returns-then-node-eq0 : goal.returns-then-node-eq0

@@ -4,7 +4,7 @@ use Rattle.ciel_journal.specs.Job.{In}
 use Rattle.ciel_want_marks.specs.Marks.{MarksSeen, Stands}
 use Rattle.ciel_want_marks.specs.Moves.{MakesDead}
 use Rattle.ciel_want_marks.proofs.Slots.{not_both}
-use Rattle.ciel_want_marks.proofs.Closing.{closes_ended, closes_open, closes_unwanted, not_open, not_open_touched, open_not, open_why}
+use Rattle.ciel_want_marks.proofs.ClosedNode.{closes_ended, closes_open, closes_unwanted, not_open, not_open_touched, open_not, open_why}
 use Rattle.ciel_want_marks.proofs.marks.Marks.close.Goals as goal
 
 pub returns-then-not-is_wanted-clause-stands : goal.returns-then-not-is_wanted-clause-stands

@@ -1,4 +1,4 @@
-use Rattle.ciel_want_marks.proofs.Counting.{counts, counts_same}
+use Rattle.ciel_want_marks.proofs.CountedNeeds.{counts, counts_same}
 use Rattle.ciel_want_marks.proofs.marks.Marks.count.Goals as goal
 
 pub returns-clause-same : goal.returns-clause-same

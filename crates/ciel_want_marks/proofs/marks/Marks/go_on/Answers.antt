@@ -1,6 +1,6 @@
 use Rattle.std.proofs.Common.{◌∙◌, sym}
 use Rattle.ciel_want_marks.proofs.Slots.{on_ok}
-use Rattle.ciel_want_marks.proofs.Going.{goes_listed, goes_not, goes_watching, is_active, not_active}
+use Rattle.ciel_want_marks.proofs.NodeAdvance.{goes_listed, goes_not, goes_watching, is_active, not_active}
 use Rattle.ciel_want_marks.proofs.marks.Marks.go_on.Goals as goal
 
 pub returns-in-None-clause-stands : goal.returns-in-None-clause-stands

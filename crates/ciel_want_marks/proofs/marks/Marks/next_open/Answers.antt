@@ -1,6 +1,6 @@
 use Rattle.std.proofs.Common.{◌∙◌, sym}
-use Rattle.ciel_want_marks.proofs.Opening.{opens_none, opens_not, opens_some, pops_fewer, pops_same, was_idle}
-use Rattle.ciel_want_marks.proofs.Going.{not_active}
+use Rattle.ciel_want_marks.proofs.NextOpenNode.{opens_none, opens_not, opens_some, pops_fewer, pops_same, was_idle}
+use Rattle.ciel_want_marks.proofs.NodeAdvance.{not_active}
 use Rattle.ciel_want_marks.proofs.marks.Marks.next_open.Goals as goal
 
 pub returns-then-is_active-clause-stands : goal.returns-then-is_active-clause-stands

@@ -1,8 +1,8 @@
 use Rattle.std.proofs.Common.{◌∙◌, ap, sym, subst, refl, [], inl, inr}
 use Rattle.ciel_want_marks.specs.Lists.{at}
 use Rattle.ciel_want_marks.specs.Marks.{MarksSeen, Stands}
-use Rattle.ciel_want_marks.proofs.Placing.{goes_next, placed_more, placed_stands, placed_why}
-use Rattle.ciel_want_marks.proofs.Going.{is_active, not_active}
+use Rattle.ciel_want_marks.proofs.PlacedRow.{goes_next, placed_more, placed_stands, placed_why}
+use Rattle.ciel_want_marks.proofs.NodeAdvance.{is_active, not_active}
 use Rattle.ciel_want_marks.proofs.marks.Marks.place.Goals as goal
 
 pub waiting-init : goal.waiting-init

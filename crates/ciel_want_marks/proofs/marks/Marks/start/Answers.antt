@@ -1,6 +1,6 @@
 use Rattle.std.proofs.Common.{refl}
 use Rattle.ciel_want_marks.proofs.Slots.{not_both}
-use Rattle.ciel_want_marks.proofs.Starting.{starts}
+use Rattle.ciel_want_marks.proofs.StartedNode.{starts}
 use Rattle.ciel_want_marks.proofs.marks.Marks.start.Goals as goal
 
 pub returns-clause-right : goal.returns-clause-right

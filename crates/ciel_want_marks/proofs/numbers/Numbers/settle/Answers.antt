@@ -1,5 +1,5 @@
 use Rattle.std.proofs.Common.{◌∙◌, sym}
-use Rattle.ciel_want_marks.proofs.Settling.{popped_inside, popped_left, settled_some}
+use Rattle.ciel_want_marks.proofs.SettledLists.{popped_inside, popped_left, settled_some}
 use Rattle.ciel_want_marks.proofs.numbers.Numbers.settle.Goals as goal
 
 pub returns-then-not-flag : goal.returns-then-not-flag

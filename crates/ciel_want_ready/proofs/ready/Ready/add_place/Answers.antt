@@ -2,7 +2,7 @@ use Rattle.std.proofs.Common.{sym, subst, IfSome}
 use Rattle.ciel_table.specs.Seen.{Known}
 use Rattle.ciel_want_ready.specs.Fits.{FitsOut}
 use Rattle.ciel_want_ready.specs.Seen.{ReadySeen}
-use Rattle.ciel_want_ready.proofs.Holding.{placed_fits}
+use Rattle.ciel_want_ready.proofs.FitsAfterCall.{placed_fits}
 use Rattle.ciel_want_ready.proofs.ready.Ready.add_place.Goals as goal
 
 pub invariant_of-self : goal.invariant_of-self

@@ -1,6 +1,6 @@
 use Rattle.std.proofs.Common.{sym, subst, IfSome}
 use Rattle.ciel_want_ready.specs.Fits.{FitsOut}
-use Rattle.ciel_want_ready.proofs.Holding.{closed_fits, keeps_fits}
+use Rattle.ciel_want_ready.proofs.FitsAfterCall.{closed_fits, keeps_fits}
 use Rattle.ciel_want_ready.proofs.ready.Ready.close.Goals as goal
 
 pub closed-requires : goal.closed-requires

@@ -1,6 +1,6 @@
 use Rattle.std.proofs.Common.{sym, subst}
 use Rattle.ciel_want_ready.specs.Seen.{CanRunMany}
-use Rattle.ciel_want_ready.proofs.Listing.{runs_many}
+use Rattle.ciel_want_ready.proofs.RunnableList.{runs_many}
 use Rattle.ciel_want_ready.proofs.ready.Ready.count.Goals as goal
 
 pub returns-clause-count : goal.returns-clause-count

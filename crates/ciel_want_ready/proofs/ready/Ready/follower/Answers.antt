@@ -1,7 +1,7 @@
 use Rattle.std.proofs.Common.{◌≡◌, ◌∙◌, ◌<◌, ap, sym, subst, length, None, IfOk, IfSome}
 use Rattle.ciel_want_ready.specs.Following.{Better, MayFollow, row_desc}
 use Rattle.ciel_want_ready.specs.Seen.{ReadySeen}
-use Rattle.ciel_want_ready.proofs.Following.{answered, row_within}
+use Rattle.ciel_want_ready.proofs.FollowerCandidates.{answered, row_within}
 use Rattle.ciel_table.specs.Seen.{TableSeen}
 use Rattle.ciel_want_ready.proofs.ready.Ready.follower.Goals as goal
 

@@ -3,7 +3,7 @@ use Rattle.ciel_table.specs.Seen.{find, row_name}
 use Rattle.ciel_table.proofs.ByName.{place_within}
 use Rattle.ciel_want_ready.specs.Changed.{LearnedFrom}
 use Rattle.ciel_want_ready.specs.Fits.{FitsOut}
-use Rattle.ciel_want_ready.proofs.Holding.{learned_fits}
+use Rattle.ciel_want_ready.proofs.FitsAfterCall.{learned_fits}
 use Rattle.ciel_want_ready.proofs.ready.Ready.learn.Goals as goal
 
 pub learned-requires : goal.learned-requires

@@ -1,7 +1,7 @@
 use Rattle.std.proofs.Common.{◌∙◌, ◌<◌, ap, sym, subst, length}
 use Rattle.ciel_want_ready.specs.Fits.{runs_at}
 use Rattle.ciel_want_ready.specs.Seen.{CanRunAt, ReadySeen}
-use Rattle.ciel_want_ready.proofs.Listing.{list_within, runs_kth}
+use Rattle.ciel_want_ready.proofs.RunnableList.{list_within, runs_kth}
 use Rattle.ciel_want_ready.proofs.ready.Ready.nth.Goals as goal
 
 pub task_at-task-requires : goal.task_at-task-requires

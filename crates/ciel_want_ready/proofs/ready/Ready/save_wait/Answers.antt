@@ -1,6 +1,6 @@
 use Rattle.std.proofs.Common.{sym, subst, IfSome}
 use Rattle.ciel_want_ready.specs.Fits.{FitsOut}
-use Rattle.ciel_want_ready.proofs.Holding.{saved_fits}
+use Rattle.ciel_want_ready.proofs.FitsAfterCall.{saved_fits}
 use Rattle.ciel_want_ready.proofs.ready.Ready.save_wait.Goals as goal
 
 pub invariant_of-self : goal.invariant_of-self

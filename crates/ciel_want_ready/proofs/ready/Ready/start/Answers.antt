@@ -1,6 +1,6 @@
 use Rattle.std.proofs.Common.{◌∙◌, ◌++◌, ◌∷◌, [], ap, sym, subst, IfSome}
 use Rattle.ciel_want_ready.specs.Fits.{FitsOut}
-use Rattle.ciel_want_ready.proofs.Holding.{started_fits}
+use Rattle.ciel_want_ready.proofs.FitsAfterCall.{started_fits}
 use Rattle.ciel_want_ready.proofs.ready.Ready.start.Goals as goal
 
 pub invariant_of-self-2 : goal.invariant_of-self-2

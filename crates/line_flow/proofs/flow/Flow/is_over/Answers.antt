@@ -1,7 +1,7 @@
 use Rattle.std.proofs.Common.{◌≡◌, ℕ, List, ◌++◌, sym, ap, ◌∙◌, append_assoc}
 use Rattle.line_kit.specs.Lines.{lines, all_lines}
 use Rattle.line_flow.specs.Kept.{seen_of}
-use Rattle.line_flow.proofs.Growing.{all-grow, all-more}
+use Rattle.line_flow.proofs.GrownInputs.{all-grow, all-more}
 use Rattle.line_flow.proofs.StandsLaw.{gives_right}
 use Rattle.line_flow.proofs.flow.Flow.is_over.Goals as goal
 

@@ -2,7 +2,7 @@ use Rattle.std.proofs.Common.{ℕ, subst}
 use Rattle.sky_base_law.specs.Nodes.{node_at}
 use Rattle.sky_machine_numbers.specs.Filled.{node_view}
 use Rattle.sky_machine_numbers.specs.Standing.{HasNode}
-use Rattle.sky_machine_numbers.proofs.Finding.{own_node}
+use Rattle.sky_machine_numbers.proofs.NodesByNumber.{own_node}
 use Rattle.sky_machine_numbers.proofs.nodes.Nodes.at.Goals as goal
 
 pub returns-in-Some-clause-whole : goal.returns-in-Some-clause-whole
