@@ -9,7 +9,6 @@ use crate::value::{Pairs, Vals, Value};
 
 /// A description one level deep: what an object is the result of. The script's main body is the call
 /// with the empty function name, nothing captured and no arguments.
-#[derive(Drop)]
 pub enum Desc1 {
     /// What a call of a function of the script returns. `caught` is what the function captured, none for
     /// a named one.
@@ -31,6 +30,25 @@ pub enum Desc1 {
     },
 }
 
+impl Drop for Desc1 {
+    fn drop(self) {
+        match self {
+            Desc1::Call {
+                fun: _,
+                caught: _,
+                args: _,
+            } => {}
+            Desc1::Exec {
+                executor: _,
+                args: _,
+                outputs: _,
+                index: _,
+            } => {}
+            Desc1::Input { key: _ } => {}
+        }
+    }
+}
+
 /// A description with its name.
 #[derive(Drop)]
 pub struct Named {
@@ -48,11 +66,20 @@ pub enum TaskId {
 }
 
 /// What is known of a description once its task has ended.
-#[derive(Drop)]
 pub enum Object {
     Bytes(Bytes),
     Data(Value),
     Fault(Fault),
+}
+
+impl Drop for Object {
+    fn drop(self) {
+        match self {
+            Object::Bytes(_) => {}
+            Object::Data(_) => {}
+            Object::Fault(_) => {}
+        }
+    }
 }
 
 impl Desc1 {
