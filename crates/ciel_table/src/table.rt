@@ -24,7 +24,6 @@ use std::marker::Model;
 
 /// What is known of each description of a run, where its object lies, and the saved waits of each task. Contracts see
 /// `TableSeen`.
-#[derive(Drop)]
 pub struct Table<P: At> {
     limit: u32,
     rows: Vec<Row<P>>,
@@ -35,6 +34,20 @@ pub struct Table<P: At> {
     // The place in `saves` of each name.
     saves_of: BTreeMap<Name, usize>,
     dropped: Dropped,
+}
+
+impl<P: At> Drop for Table<P> {
+    fn drop(self) {
+        let Table {
+            limit: _,
+            rows: _,
+            row_of: _,
+            shown: _,
+            saves: _,
+            saves_of: _,
+            dropped: _,
+        } = self;
+    }
 }
 
 impl<P: At> Model for Table<P> {

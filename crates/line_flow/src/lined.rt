@@ -22,7 +22,6 @@ use sky_base::text::{Bytes, Memory};
 use std::alloc::Global;
 
 /// What is kept of the settled lines.
-#[derive(Drop)]
 pub(crate) enum Lined {
     /// `words`: the words that weren't handed out.
     Words(Stream),
@@ -36,6 +35,19 @@ pub(crate) enum Lined {
     Sum(Sums),
     /// `tally`: the counts by line.
     Tally(Totals),
+}
+
+impl Drop for Lined {
+    fn drop(self) {
+        match self {
+            Lined::Words(_) => {}
+            Lined::Head(_) => {}
+            Lined::Deal(_) => {}
+            Lined::Half(_) => {}
+            Lined::Sum(_) => {}
+            Lined::Tally(_) => {}
+        }
+    }
 }
 
 impl Lined {

@@ -29,12 +29,20 @@ use sky_base::value::{Pair as Entry, Value};
 use std::alloc::Global;
 
 /// What is kept of the settled lines.
-#[derive(Drop)]
 pub(crate) enum Settled {
     /// Of an executor that takes blocks.
     Blocks(Blocks),
     /// Of an executor that takes lines.
     Lined(Lined),
+}
+
+impl Drop for Settled {
+    fn drop(self) {
+        match self {
+            Settled::Blocks(_) => {}
+            Settled::Lined(_) => {}
+        }
+    }
 }
 
 fn grep(alloc: Global, text: &[u8]) -> Result<Blocks, Memory>
