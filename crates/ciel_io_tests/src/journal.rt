@@ -33,6 +33,7 @@ fn the_laws_hold_at_a_type() {
     law::ready_or_circle::<u32>();
     law::ready_is_listed::<u32>();
     law::few_starts::<u32>();
+    law::few_between::<u32>();
     law::names_have_one_mark::<u32>();
     law::names_determine::<u32>();
     law::one_worker_is_determined::<u32>();

@@ -6,13 +6,14 @@ use Rattle.std.specs.List.{list_any, IsDistinct}
 use Rattle.ciel_journal.specs.Job.{Digest, Each, In, IsJob, Job, Task, WaitOf, of, show}
 use Rattle.ciel_journal.specs.History.{Event, OpenStart, Plan, Save, Standing, after, after_all, before_all, better, closed, done, done_with}
 use Rattle.ciel_journal.specs.History.{ends_show, last, last_save, live, live_if, lost, missed, names_of, needs, order_of, placed, same_task, saved}
-use Rattle.ciel_journal.specs.History.{saved_with, start, wait_number}
+use Rattle.ciel_journal.specs.History.{saved_with, standing, start, wait_number}
 use Rattle.ciel_journal.specs.Lawful.{Lawful, LawfulFrom, Marked, Step}
 use Rattle.ciel_journal.specs.Work.{Covers, Slot, losses_of, same_slot}
+use Rattle.ciel_journal.proofs.Append.{lawful_split}
 use Rattle.ciel_journal.proofs.Members.{bool_cases, or_true, any_in, distinct_more, distinct_none, fewer}
-use Rattle.ciel_journal.proofs.Good.{after_done, after_saved, after_missed, SavesOk, saves_step, saves_start, last_ok}
+use Rattle.ciel_journal.proofs.Good.{after_done, after_saved, after_missed, SavesOk, saves_all, saves_step, saves_start, last_ok}
 use Rattle.ciel_journal.proofs.Booked.{each_more}
-use Rattle.ciel_journal.proofs.Numbers.{Numbered, numbered_step, stays, in_left, each_at, last_in}
+use Rattle.ciel_journal.proofs.Numbers.{Numbered, numbered_all, numbered_step, stays, in_left, each_at, last_in}
 
 module _ {D : Type 0} (job : Job D) (laws : IsJob job) where
   pub task_refl : (t : Task D) → same_task job t t ≡ true
@@ -259,16 +260,17 @@ module _ {D : Type 0} (job : Job D) (laws : IsJob job) where
   budget_times zero n = sym (zero-mul n)
   budget_times (suc c) n = ap (λ x. x + n) (budget_times c n) ∙ sym (suc-mul c n)
 
-  module _ (slots : List (Slot D)) (covers : Covers job slots) where
+  -- counted from what there were before, `base`
+  module _ (slots : List (Slot D)) (covers : Covers job slots) (base : ℕ) where
     pub record Paced (v : Standing D) (used : List (Slot D)) (c : ℕ) : Type 0 where
       pub numbered : Numbered job laws v
       pub saves : SavesOk job laws v
       pub spent : Each (Spent v) used
       pub distinct : IsDistinct (same_slot job) used
       pub inside : Each (λ s. list_any ((same_slot job) s) slots ≡ true) used
-      pub count : v.starts ≤ budget c (length slots) + length used
+      pub count : v.starts ≤ base + (budget c (length slots) + length used)
 
-    few : (v : Standing D) (used : List (Slot D)) (c : ℕ) → Paced v used c → v.starts ≤ budget (suc c) (length slots)
+    few : (v : Standing D) (used : List (Slot D)) (c : ℕ) → Paced v used c → v.starts ≤ base + budget (suc c) (length slots)
     few v used c q = let n = fewer (same_slot job) slot_refl slot_exact used slots q.distinct q.inside in let k = q.count in omega (arith, n, k)
 
     unused : (p : Plan) (v : Standing D) (k w : ℕ) (t : Task D) (from : ℕ) (used : List (Slot D)) → Step job p v (start k w t from)
@@ -280,8 +282,8 @@ module _ {D : Type 0} (job : Job D) (laws : IsJob job) where
         pick (inl h) = absurd (not_spent p v k w t from s step e f (each_at (Spent v) s used (any_in (same_slot job) slot_exact s used h) sp))
 
     paced_all : (p : Plan) (v : Standing D) (h : List (Event D)) (used : List (Slot D)) (c : ℕ) → Paced v used c → LawfulFrom job p v h
-        → (after_all job v h).starts ≤ budget (suc (losses_of job h + c)) (length slots)
-    paced_all p v [] used c q l = subst (λ n. v.starts ≤ budget (suc n) (length slots)) (sym (zero-add c)) (few v used c q)
+        → (after_all job v h).starts ≤ base + budget (suc (losses_of job h + c)) (length slots)
+    paced_all p v [] used c q l = subst (λ n. v.starts ≤ base + budget (suc n) (length slots)) (sym (zero-add c)) (few v used c q)
     paced_all p v (start k w t from ∷ es) used c q l =
         let s : Slot D = record { task = t; from = from } in
         let u : Standing D = after job v (start k w t from) in
@@ -309,7 +311,7 @@ module _ {D : Type 0} (job : Job D) (laws : IsJob job) where
               (λ x y. spent_done p v x k made copied spawned q.numbered l.0 y) used q.spent;
           distinct = q.distinct;
           inside = q.inside;
-          count = subst (λ (u : Standing D). u.starts ≤ budget c (length slots) + length used)
+          count = subst (λ (u : Standing D). u.starts ≤ base + (budget c (length slots) + length used))
               (sym (after_done job laws v k made copied spawned l.0.allowed.0 l.0.allowed.1)) q.count;
         }) l.1
     paced_all p v (saved k j mark refs holds spawned ∷ es) used c q l =
@@ -321,7 +323,7 @@ module _ {D : Type 0} (job : Job D) (laws : IsJob job) where
               (λ x y. spent_saved p v x k j mark refs holds spawned q.numbered l.0 y) used q.spent;
           distinct = q.distinct;
           inside = q.inside;
-          count = subst (λ (u : Standing D). u.starts ≤ budget c (length slots) + length used)
+          count = subst (λ (u : Standing D). u.starts ≤ base + (budget c (length slots) + length used))
               (sym (after_saved job laws v k j mark refs holds spawned l.0.allowed.0 l.0.allowed.1)) q.count;
         }) l.1
     paced_all p v (missed k d loss ∷ es) used c q l =
@@ -332,11 +334,12 @@ module _ {D : Type 0} (job : Job D) (laws : IsJob job) where
           spent = each_more (Spent v) (Spent (after job v (missed k d loss))) (λ x y. spent_missed p v x k d loss q.numbered l.0 y) used q.spent;
           distinct = q.distinct;
           inside = q.inside;
-          count = subst (λ (u : Standing D). u.starts ≤ budget c (length slots) + length used)
+          count = subst (λ (u : Standing D). u.starts ≤ base + (budget c (length slots) + length used))
               (sym (after_missed job laws v k d loss l.0.allowed.0 l.0.allowed.1)) q.count;
         }) l.1
     paced_all p v (lost w closes ∷ es) used c q l =
-        subst (λ n. (after_all job (after job v (lost w closes)) es).starts ≤ budget (suc n) (length slots)) (swap (losses_of job es) c)
+        subst (λ n. (after_all job (after job v (lost w closes)) es).starts ≤ base + budget (suc n) (length slots))
+        (swap (losses_of job es) c)
         (paced_all p (after job v (lost w closes)) es [] (suc c)
         (record {
           numbered = numbered_step job laws p v (lost w closes) q.numbered l.0;
@@ -347,14 +350,15 @@ module _ {D : Type 0} (job : Job D) (laws : IsJob job) where
           count = let k = few v used c q in omega (arith, k);
         }) l.1)
 
-    -- at most one Start for each slot, and again for each loss
-    pub starts_bound : (p : Plan) (h : List (Event D)) → Lawful job p h
-        → (after_all job (before_all job) h).starts ≤ (losses_of job h + 1) * length slots
-    starts_bound p h l =
-        let b = paced_all p (before_all job) h [] 0
+  module _ (slots : List (Slot D)) (covers : Covers job slots) where
+    -- from what stands after a lawful history on, at most one Start for each slot, and again for each loss
+    starts_from : (p : Plan) (v : Standing D) (h : List (Event D)) → Numbered job laws v → SavesOk job laws v → LawfulFrom job p v h
+        → (after_all job v h).starts ≤ v.starts + (losses_of job h + 1) * length slots
+    starts_from p v h n s l =
+        let b = paced_all slots covers v.starts p v h [] 0
         (record {
-          numbered = record { below = tt; one = λ a b i j q. absurd i };
-          saves = saves_start job laws;
+          numbered = n;
+          saves = s;
           spent = tt;
           distinct =
               distinct_none (same_slot job);
@@ -362,5 +366,14 @@ module _ {D : Type 0} (job : Job D) (laws : IsJob job) where
           count = omega arith;
         }) l in
         let e : suc (losses_of job h + 0) ≡ losses_of job h + 1 = omega arith in
-        subst (λ n. (after_all job (before_all job) h).starts ≤ n)
+        subst (λ n. (after_all job v h).starts ≤ v.starts + n)
         (budget_times (suc (losses_of job h + 0)) (length slots) ∙ ap (λ n. n * length slots) e) b
+
+    -- so of what comes after any part of a lawful history
+    pub starts_bound : (p : Plan) (g h : List (Event D)) → Lawful job p (g ++ h)
+        → (after_all job (standing job g) h).starts ≤ (standing job g).starts + (losses_of job h + 1) * length slots
+    starts_bound p g h l =
+        let q = lawful_split job p (before_all job) g h l in
+        starts_from p (standing job g) h
+        (numbered_all job laws p (before_all job) g (record { below = tt; one = λ a b i j q. absurd i }) q.0)
+        (saves_all job laws p (before_all job) g (saves_start job laws) q.0) q.1

@@ -2,9 +2,9 @@
 use Rattle.std.proofs.Common.{◌≡◌, ℕ, ◌+◌, ◌<◌, List, [], ◌∷◌, ◌++◌, Bool, true, false, not, cond, nat_eq, Some, ◌⊎◌, inl, inr, refl, ap, sym, ◌∙◌}
 use Rattle.std.proofs.Common.{subst, arith, filter, eqb-true}
 use Rattle.ciel_journal.specs.Job.{Each, In, IsJob, Job}
-use Rattle.ciel_journal.specs.History.{Event, OpenStart, Plan, Standing, after, closed, done, done_with, find_open, lost, missed, saved, saved_with}
-use Rattle.ciel_journal.specs.History.{start}
-use Rattle.ciel_journal.specs.Lawful.{Step}
+use Rattle.ciel_journal.specs.History.{Event, OpenStart, Plan, Standing, after, after_all, closed, done, done_with, find_open, lost, missed}
+use Rattle.ciel_journal.specs.History.{saved, saved_with, start}
+use Rattle.ciel_journal.specs.Lawful.{LawfulFrom, Step}
 use Rattle.ciel_journal.proofs.Members.{bool_cases}
 use Rattle.ciel_journal.proofs.Good.{after_done, after_saved, after_missed, each_join, each_filter}
 use Rattle.ciel_journal.proofs.Booked.{each_more}
@@ -121,3 +121,7 @@ module _ {D : Type 0} (job : Job D) (laws : IsJob job) where
       let a = s.allowed in subst Numbered (sym (after_missed job laws v k d loss a.0 a.1))
       (numbered_filter v (closed job v k) (λ (x : OpenStart D). not (nat_eq k x.number)) n refl refl)
   numbered_step p v (lost w closes) n s = numbered_filter v (after job v (lost w closes)) (λ (x : OpenStart D). not (nat_eq w x.worker)) n refl refl
+
+  pub numbered_all : (p : Plan) (v : Standing D) (h : List (Event D)) → Numbered v → LawfulFrom job p v h → Numbered (after_all job v h)
+  numbered_all p v [] n l = n
+  numbered_all p v (e ∷ es) n l = numbered_all p (after job v e) es (numbered_step p v e n l.0) l.1

@@ -122,24 +122,36 @@ module _ {D : Type 0} (job : Job D) (laws : IsJob job) where
       in_left s (slots_to x.0 x.1) (all_slots xs) (slot_in s x.0 x.1 a (subst (λ n. s.from ≤ n) b l))
   all_in (x ∷ xs) s k (inr i) l = in_right s (slots_to x.0 x.1) (all_slots xs) (all_in xs s k i l)
 
-  -- at most so much work for each loss, and once more
-  pub few_starts : (m : ℕ) → Work job m → (p : Plan) (h : List (Event D)) → Lawful job p h → starts_of job h ≤ (losses_of job h + 1) * m
-  few_starts m work p h l =
-      let b = starts_bound job laws (all_slots work.tasks) covers p h l in
-      let c = starts_after (before_all job) h in
-      let e : length (all_slots work.tasks) ≡ m = all_length work.tasks ∙ work.sum in
-      subst (λ n. starts_of job h ≤ (losses_of job h + 1) * n) e
-      (subst (λ n. n ≤ (losses_of job h + 1) * length (all_slots work.tasks)) (c ∙ zero_left (starts_of job h)) b)
+  covered : (m : ℕ) (work : Work job m) → Covers job (all_slots work.tasks)
+  covered m work t j ds n w s e f =
+      let k = (work.needed t).0 n in
+      in_any (same_slot job) (slot_refl job laws) s (all_slots work.tasks)
+      (all_in work.tasks s k.0 (subst (λ u. In (u, k.0) work.tasks) (sym e) k.1) (subst (λ i. i ≤ k.0) (sym f) (below j w)))
     where
-      zero_left : (n : ℕ) → 0 + n ≡ n
-      zero_left n = omega arith
+      below : (i : ℕ) → WaitOf job t i ds → i ≤ ((work.needed t).0 n).0
+      below zero x = omega arith
+      below (suc i) x = (work.waits t ((work.needed t).0 n).0 ((work.needed t).0 n).1 (suc i) (omega arith)).1 (ds, x)
 
-      covers : Covers job (all_slots work.tasks)
-      covers t j ds n w s e f =
-          let k = (work.needed t).0 n in
-          in_any (same_slot job) (slot_refl job laws) s (all_slots work.tasks)
-          (all_in work.tasks s k.0 (subst (λ u. In (u, k.0) work.tasks) (sym e) k.1) (subst (λ i. i ≤ k.0) (sym f) (below j w)))
-        where
-          below : (i : ℕ) → WaitOf job t i ds → i ≤ ((work.needed t).0 n).0
-          below zero x = omega arith
-          below (suc i) x = (work.waits t ((work.needed t).0 n).0 ((work.needed t).0 n).1 (suc i) (omega arith)).1 (ds, x)
+  -- after any part of a lawful history, at most so much work for each loss, and once more
+  few_after : (m : ℕ) → Work job m → (p : Plan) (g h : List (Event D)) → Lawful job p (g ++ h) → starts_of job h ≤ (losses_of job h + 1) * m
+  few_after m work p g h l =
+      let b = starts_bound job laws (all_slots work.tasks) (covered m work) p g h l in
+      let c = starts_after (standing job g) h in
+      let e : length (all_slots work.tasks) ≡ m = all_length work.tasks ∙ work.sum in
+      subst (λ n. starts_of job h ≤ (losses_of job h + 1) * n) e (rest _ _ _ ((losses_of job h + 1) * length (all_slots work.tasks)) c b)
+    where
+      rest : (a s n r : ℕ) → a ≡ s + n → a ≤ s + r → n ≤ r
+      rest a s n r c b = omega (arith, c, b)
+
+  pub few_starts : (m : ℕ) → Work job m → (p : Plan) (h : List (Event D)) → Lawful job p h → starts_of job h ≤ (losses_of job h + 1) * m
+  few_starts m work p h l = few_after m work p [] h l
+
+  -- and no more than the work where there is no loss
+  pub few_between : (m : ℕ) → Work job m → (p : Plan) (g h i : List (Event D)) → Lawful job p (g ++ h ++ i) → losses_of job h ≡ 0
+      → starts_of job h ≤ m
+  few_between m work p g h i l none =
+      let b = few_after m work p g h (lawful_split job p (before_all job) (g ++ h) i l).0 in
+      subst (λ n. starts_of job h ≤ n) (ap (λ n. (n + 1) * m) none ∙ once m) b
+    where
+      once : (n : ℕ) → (0 + 1) * n ≡ n
+      once n = omega arith

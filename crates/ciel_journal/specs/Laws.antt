@@ -193,6 +193,12 @@ module _ (D : Type 0) where
   FewStarts =
       OfJob (λ job. (m : ℕ) → Work job m → (p : Plan) (h : List (Event D)) → Lawful job p h → starts_of job h ≤ (losses_of job h + 1) * m)
 
+  -- between two losses: a stretch of a lawful history that has no Lost has no more Starts than there is work
+  abbrev pub FewBetween : Type 0
+  FewBetween =
+      OfJob (λ job. (m : ℕ) → Work job m → (p : Plan) (before stretch rest : List (Event D)) → Lawful job p (before ++ stretch ++ rest)
+      → losses_of job stretch ≡ 0 → starts_of job stretch ≤ m)
+
   -- ---- what can go on
 
   -- a circle of waits after a lawful history means that the job has no answer

@@ -12,8 +12,9 @@ ghost use Rattle.ciel_journal.specs.Turns.{CircleAtRest, Driven};
 ghost use Rattle.ciel_journal.specs.Work.{Work};
 ghost use Rattle.ciel_journal.specs.Known.{Knows};
 ghost use Rattle.ciel_journal.specs.Laws.{BookIsMade, BookIsOnce, BookIsTold, BookIsWhole, CircleIsEndless, CountsAreTold, DrivenGoesOn};
-ghost use Rattle.ciel_journal.specs.Laws.{DrivenInParts, DrivenIsLawful, EnteredAlike, FewStarts, FirstsComeFirst, GoneIsTold, LawfulGoesOn};
-ghost use Rattle.ciel_journal.specs.Laws.{ListedOrCircle, LiveIsTold, MadeIsSeen, NamedCircleIsEndless, NamesDetermine, NextIsOne, NewIsWhole};
+ghost use Rattle.ciel_journal.specs.Laws.{DrivenInParts, DrivenIsLawful, EnteredAlike, FewBetween, FewStarts, FirstsComeFirst};
+ghost use Rattle.ciel_journal.specs.Laws.{GoneIsTold, LawfulGoesOn, ListedOrCircle, LiveIsTold, MadeIsSeen, NamedCircleIsEndless};
+ghost use Rattle.ciel_journal.specs.Laws.{NamesDetermine, NextIsOne, NewIsWhole};
 ghost use Rattle.ciel_journal.specs.Laws.{OneBook, OneMark, OneState, OneWhole, OneWorker, OpenIsBooked, OpenIsNeeded, OpenIsTold, OpenStood};
 ghost use Rattle.ciel_journal.specs.Laws.{OverIsTold, PlacedAlike, PlacedIsBooked, PlacesAreTold, ReachedIsBooked, ReadyOrCircle, ReadyStarts};
 ghost use Rattle.ciel_journal.specs.Laws.{SavedIsBooked, SavedIsState, SavedIsTold, StandsOn, StartedIsMissing, StartedIsNeeded};
@@ -144,6 +145,13 @@ pub fn ready_is_listed<D>()
 /// A lawful history has no more Starts than there is work, once for each loss and once more.
 pub fn few_starts<D>()
     ensures starts { FewStarts D }
+{}
+
+/// Between two losses, before the first and after the last, there are no more Starts than there is work, which is one for each
+/// needed task and one for each of its waits: so of any stretch of a lawful history that has no Lost, wherever it begins and ends.
+/// A Start from before the stretch that is open or missed in it isn't counted; one that makes it again there is.
+pub fn few_between<D>()
+    ensures starts { FewBetween D }
 {}
 
 /// From a wait on, a task has one next wait for something outside a list, and none where it comes to its end.
