@@ -12,10 +12,11 @@ ghost use Rattle.ciel_master_board.specs.Board.{FollowerOf, board_graph, find_or
 ghost use Rattle.ciel_master_board.specs.Moves.{accepted, empty, lost_at, opened, order_for, started};
 ghost use Rattle.ciel_master_board.specs.Reports.{IsNamed};
 ghost use Rattle.ciel_master_board.specs.Sound.{MissFits};
-ghost use Rattle.ciel_journal.specs.Graph.{Circle, Runnable};
+ghost use Rattle.ciel_journal.specs.Graph.{Circle, Picks, Runnable};
 ghost use Rattle.ciel_journal.specs.Job.{Each, In};
 ghost use Rattle.ciel_journal.specs.Turns.{FirstDue, NothingDue, is_idle};
 ghost use Rattle.ciel_table.specs.Learning.{learned};
+ghost use Rattle.ciel_want.specs.Waited.{tasks_in_order};
 ghost use Rattle.ciel_want_ready.specs.Seen.{CanRunAt, CanRunMany};
 ghost use Rattle.ciel_task_order.specs.Views.{P, order_view, report_end};
 ghost use Rattle.ciel_master_safe.specs.Laws.{OrderIsGood};
@@ -32,7 +33,7 @@ use crate::closing::{close_lost, close_order};
 use crate::entry::Entry;
 use crate::learning::learn_for;
 use crate::marks::confirm;
-use crate::orders::{OrderOut, all_among, can_work, find, workers};
+use crate::orders::{OrderOut, all_among, can_work, find, tasks, workers};
 use crate::plan::RunPlan;
 use crate::stop::{Now, Stop};
 use crate::taking::{begin, is_last, note_loss, take_end};
@@ -47,7 +48,7 @@ use ciel_task_order::block::Block;
 use ciel_task_order::order::Order;
 use ciel_task_order::report::Report;
 use ciel_task_order::shop::Shop;
-use ciel_want::want::circle;
+use ciel_want::want::{circle, runnable};
 use ciel_want_ready::ready::Ready;
 use sky_base::name::Name;
 use sky_base::names::Names;
@@ -177,6 +178,19 @@ impl<K: Drop, N: Namer + Drop> Master<K, N> {
             marker,
             alloc,
         })
+    }
+
+    /// The tasks that can run, in the order of their least rows, the root task last: the whole table is searched. For tests and callers
+    /// that want them all; a run asks how many there are (`count`) and for the one that it draws (`nth`).
+    ///
+    /// Answers `Memory` for want of memory.
+    pub fn runnable(&self) -> Result<Vec<TaskId>, Memory>
+        requires going { self.now.board.stopped ≡ false }
+        ensures runnable { IfOk result (λ ts. Picks (Runnable (board_graph self.now.board)) (tasks_in_order self.now.board.table) ts.items) }
+    {
+        let out = tasks(self.alloc, &self.orders)?;
+        let tasks = runnable(self.alloc, self.ready.table(), &self.main, &out)?;
+        Ok(tasks)
     }
 
     /// How many tasks can run. It costs as much as what has changed since it was asked for last, and after a loss as much as the table.

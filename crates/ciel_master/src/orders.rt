@@ -4,7 +4,7 @@ ghost use Rattle.std.specs.Prelude.{◌≡◌, ◌<◌, ℕ, false, filter, map,
 ghost use Rattle.std.specs.Option.{option_map};
 ghost use Rattle.std.specs.List.{list_any};
 ghost use Rattle.ciel_master_board.specs.Board as b;
-ghost use Rattle.ciel_master_board.specs.Board.{find_order, workers_out};
+ghost use Rattle.ciel_master_board.specs.Board.{find_order, tasks_out, workers_out};
 ghost use Rattle.ciel_journal.specs.Turns.{is_idle};
 ghost use Rattle.ciel_master_board.specs.Moves.{without};
 ghost use Rattle.ciel_master.specs.Orders.{worker_order};
@@ -119,6 +119,19 @@ pub(crate) fn close_at(orders: &mut Vec<OrderOut>, worker: u32)
     ensures { map kept_view orders.new.items ≡ filter (λ (x : b.OrderOut). not (nat_eq worker x.worker)) (map kept_view orders.old.items) }
 {
     orders.retain(|order| worker != order.worker);
+}
+
+/// The tasks that are out.
+pub(crate) fn tasks(alloc: Global, orders: &[OrderOut]) -> Result<Vec<TaskId>, Memory>
+    ensures { IfOk result (λ ts. ts.items ≡ tasks_out (map kept_view orders.now)) }
+{
+    let mut tasks = Vec::new(alloc);
+    for i in 0..orders.len() {
+        if tasks.push(orders[i].task).is_err() {
+            return Err(Memory);
+        }
+    }
+    Ok(tasks)
 }
 
 /// The workers that have an order.

@@ -111,7 +111,7 @@ module _ (w : Words) (job : s.Job) (J : List Entry) where
     no_other (Why.Fault fault) c = tt
     no_other Why.Memory c = tt
     no_other (Why.TooDeepPlain depth) c = c.0
-    no_other (Why.Endless names) c = has (RunEnd.Endless names) (record { driven = d; cause = (c.1, c.2) })
+    no_other (Why.Endless names) c = has (RunEnd.Endless names) (record { driven = d; cause = (c.1, c.2, c.3) })
     no_other (Why.TooMany held None) c = not_many (digest_of w.names) job m c.2
     no_other (Why.TooMany held (Some given)) c = has (RunEnd.TooMany held given) (record { driven = d; cause = (c.2.0, sym c.2.1, c.2.2) })
     no_other Why.AllLost c = has RunEnd.AllLost (record { driven = d; cause = c.1 })
@@ -177,11 +177,13 @@ module _ (content : List ℕ → Option (List ℕ)) (w : Words) (risen : Type 0)
   answers (Why.Fault fault) c quiet nw dr source inputs st fits m stays = tt
   answers (Why.TooDeepPlain depth) c quiet nw dr source inputs st fits m stays = c.0
   answers (Why.Endless names) c quiet nw dr source inputs st fits m stays =
-      answered source inputs m stays (dr source inputs st) (Why.Endless names) (c source inputs st).1
-  answers (Why.TooMany held given) c quiet nw dr source inputs st fits m stays =
-      answered source inputs m stays (dr source inputs st) (Why.TooMany held given) (c source inputs st).1
+      answered source inputs m stays (dr source inputs st) (Why.Endless names) (c.2 source inputs st).1
+  answers (Why.TooMany held None) c quiet nw dr source inputs st fits m stays =
+      answered source inputs m stays (dr source inputs st) (Why.TooMany held None) (c.1 source inputs st).1
+  answers (Why.TooMany held (Some given)) c quiet nw dr source inputs st fits m stays =
+      answered source inputs m stays (dr source inputs st) (Why.TooMany held (Some given)) (c.1 source inputs st).1
   answers (Why.NameClash kept given) c quiet nw dr source inputs st fits m stays =
-      answered source inputs m stays (dr source inputs st) (Why.NameClash kept given) (c source inputs st).1
+      answered source inputs m stays (dr source inputs st) (Why.NameClash kept given) (c.1 source inputs st).1
   answers Why.AllLost c quiet nw dr source inputs st fits m stays = lost_answered source inputs m stays (dr source inputs st) (c.0, c.1)
   answers (Why.Syntax kind l k) c quiet nw dr source inputs st fits m stays = absurd (no_syntax kind l k c source inputs st fits m.0 m.1)
   answers (Why.TooLongInput path at) c quiet nw dr source inputs st fits m stays = absurd (no_too_long path at c source inputs st fits m.0 m.1)

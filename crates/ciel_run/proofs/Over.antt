@@ -2,8 +2,10 @@
 use Rattle.std.proofs.Common.{◌≡◌, ◌≢◌, ◌≤◌, ◌<◌, ◌⊎◌, inl, inr, ℕ, zero, suc, ◌+◌, List, [], ◌∷◌, ◌++◌, true, false, Option, Some, None, Result, Ok}
 use Rattle.std.proofs.Common.{Err, OnErr, OnOk, Contains, length, take, refl, sym, ap, subst, ◌∙◌, arith}
 use Rattle.std.proofs.lemmas.List.{append-nil, take_all}
+use Rattle.std.specs.List.{IsDistinct}
 use Rattle.sky_base.specs.See as s
 use Rattle.sky_base.specs.See.{Answered}
+use Rattle.sky_base.specs.Val.{same_text}
 use Rattle.sky_base_law.specs.Tasks as t
 use Rattle.sky_parse_law.specs.Orderly.{FunctionsAreOrderly}
 use Rattle.sky_plain.specs.Needs as p
@@ -24,10 +26,11 @@ use Rattle.ciel_master.specs.declared.stop.RunEnd.{RunEnd}
 use Rattle.ciel_words.specs.Line.{line_of}
 use Rattle.ciel_words.specs.declared.words.Words.{Words}
 use Rattle.line_kit.specs.Gives.{gives}
-use Rattle.ciel_run_line.specs.Causes.{CauseOf, IsTooDeep, JobCause, OfRun, TooLongOf}
-use Rattle.ciel_run.specs.Ending.{Answers, EndCause, IfReadFault, IfTooDeep, IsAnswered, IsExpected, MayEnd, TellsParts, TooLongIn, Writes}
-use Rattle.ciel_run.specs.Ending.{WritesAnswer, WritesPart}
-use Rattle.ciel_run_line.specs.Line.{FitsIn, OfLine, OfSource, OverFiles, SourceFits, SourceIn, StandsIn, files_of, paths}
+use Rattle.ciel_run_line.specs.Causes.{CauseOf, Clashes, GoesRound, HasTooMany, IsTooDeep, JobCause, OfRun, TooLongOf}
+use Rattle.ciel_run.specs.Ending.{Answers, ComesBy, EndCause, HasRun, IfEndless, IfNameClash, IfReadFault, IfTooDeep, IfTooMany, IsAnswered}
+use Rattle.ciel_run.specs.Ending.{IsExpected, MayEnd, TellsParts, TooLongIn, Writes, WritesAnswer, WritesPart}
+use Rattle.ciel_run_line.specs.Asked.{StopsFor}
+use Rattle.ciel_run_line.specs.Line.{FitsIn, OfLine, OfSource, OverFiles, SourceFits, SourceIn, StandsIn, files_of, is_plain, paths}
 use Rattle.ciel_run_line.specs.Runs.{IsDriven, IsModestFor, digest_of, plan_of, told_of}
 use Rattle.ciel_run_line.specs.Source.{IsAnswer, OfJob, job_of, over_lines}
 use Rattle.ciel_run_log.specs.declared.why.Why.{Why}
@@ -134,14 +137,14 @@ module _ (content : List ℕ → Option (List ℕ)) (w : Words) where
     expected_of Why.Memory x quiet nw source inputs st = tt
     expected_of (Why.Fault fault) x quiet nw source inputs st = x source inputs st
     expected_of (Why.Endless names) x quiet nw source inputs st =
-        let y = x source inputs st in (y.0, (y.1.0, y.1.1, y.1.2.2))
+        let y = x.2 source inputs st in (y.0, (y.1.0, y.1.1, y.1.2.2))
     expected_of (Why.TooMany held None) x quiet nw source inputs st =
-        let y = x source inputs st in (y.0, (y.1.0, y.1.1, y.1.2.2))
+        let y = x.1 source inputs st in (y.0, (y.1.0, y.1.1, y.1.2.2))
     expected_of (Why.TooMany held (Some given)) x quiet nw source inputs st =
-        let y = x source inputs st in (y.0, (y.1.0, y.1.1, tt))
+        let y = x.1 source inputs st in (y.0, (y.1.0, y.1.1, tt))
     expected_of Why.AllLost x quiet nw source inputs st = x.2 source inputs st
     expected_of (Why.NameClash kept given) x quiet nw source inputs st =
-        let y = x source inputs st in (y.0, (y.1.0, y.1.1, tt))
+        let y = x.1 source inputs st in (y.0, (y.1.0, y.1.1, tt))
     expected_of (Why.TooDeepPlain depth) x quiet nw source inputs st =
         let y = x.1 source inputs st in (y.0, (y.1.0, y.1.1, y.1.2.2))
     expected_of (Why.ReadFault path) x quiet nw source inputs st = absurd (quiet x.1)
@@ -162,7 +165,8 @@ module _ (content : List ℕ → Option (List ℕ)) (w : Words) where
     expected Why.Memory b n c d quiet nw = expected_of Why.Memory c quiet nw
     expected (Why.Fault fault) b n c d quiet nw = expected_of (Why.Fault fault) c quiet nw
     expected (Why.Endless names) b n c d quiet nw = expected_of (Why.Endless names) c quiet nw
-    expected (Why.TooMany held given) b n c d quiet nw = expected_of (Why.TooMany held given) c quiet nw
+    expected (Why.TooMany held None) b n c d quiet nw = expected_of (Why.TooMany held None) c quiet nw
+    expected (Why.TooMany held (Some given)) b n c d quiet nw = expected_of (Why.TooMany held (Some given)) c quiet nw
     expected Why.AllLost b n c d quiet nw = expected_of Why.AllLost c quiet nw
     expected (Why.NameClash kept given) b n c d quiet nw = expected_of (Why.NameClash kept given) c quiet nw
     expected (Why.TooDeepPlain depth) b n c d quiet nw = expected_of (Why.TooDeepPlain depth) c quiet nw
@@ -206,6 +210,124 @@ module _ (content : List ℕ → Option (List ℕ)) (words : List (List ℕ)) (l
   read_fault (Why.TooLongInput path at) c = tt
   read_fault (Why.TooDeepPlain depth) c = tt
 
+  pub endless : (why : Why) → EndCause content line risen J why
+      → IfEndless why (λ names. OverFiles content words (λ w source inputs. OfJob source inputs (λ job. GoesRound w J job names)))
+  endless Why.Done c = tt
+  endless Why.Usage c = tt
+  endless (Why.Syntax kind l k) c = tt
+  endless (Why.Fault fault) c = tt
+  endless (Why.Endless names) c = 
+      over_line words line (λ w. OfLine content w (λ source inputs. OfJob source inputs (λ job. GoesRound w J job names))) e
+      (λ source inputs st. (c.2 source inputs st).1)
+  endless (Why.TooMany held None) c = tt
+  endless (Why.TooMany held (Some given)) c = tt
+  endless Why.AllLost c = tt
+  endless (Why.NameClash kept given) c = tt
+  endless (Why.ReadFault path) c = tt
+  endless Why.WriteFault c = tt
+  endless Why.Memory c = tt
+  endless (Why.TooLongInput path at) c = tt
+  endless (Why.TooDeepPlain depth) c = tt
+
+  pub too_many : (why : Why) → EndCause content line risen J why
+      → IfTooMany why (λ held given. OverFiles content words (λ w source inputs. OfJob source inputs (λ job. HasTooMany w J job held given)))
+  too_many Why.Done c = tt
+  too_many Why.Usage c = tt
+  too_many (Why.Syntax kind l k) c = tt
+  too_many (Why.Fault fault) c = tt
+  too_many (Why.Endless names) c = tt
+  too_many (Why.TooMany held None) c = 
+      over_line words line (λ w. OfLine content w (λ source inputs. OfJob source inputs (λ job. HasTooMany w J job held None))) e
+      (λ source inputs st. (c.1 source inputs st).1)
+  too_many (Why.TooMany held (Some given)) c = 
+      over_line words line (λ w. OfLine content w (λ source inputs. OfJob source inputs (λ job. HasTooMany w J job held (Some given)))) e
+      (λ source inputs st. (c.1 source inputs st).1)
+  too_many Why.AllLost c = tt
+  too_many (Why.NameClash kept given) c = tt
+  too_many (Why.ReadFault path) c = tt
+  too_many Why.WriteFault c = tt
+  too_many Why.Memory c = tt
+  too_many (Why.TooLongInput path at) c = tt
+  too_many (Why.TooDeepPlain depth) c = tt
+
+  pub name_clash : (why : Why) → EndCause content line risen J why
+      → IfNameClash why (λ kept given. OverFiles content words (λ w source inputs. OfJob source inputs (λ job. Clashes w J job kept given)))
+  name_clash Why.Done c = tt
+  name_clash Why.Usage c = tt
+  name_clash (Why.Syntax kind l k) c = tt
+  name_clash (Why.Fault fault) c = tt
+  name_clash (Why.Endless names) c = tt
+  name_clash (Why.TooMany held None) c = tt
+  name_clash (Why.TooMany held (Some given)) c = tt
+  name_clash Why.AllLost c = tt
+  name_clash (Why.NameClash kept given) c = 
+      over_line words line (λ w. OfLine content w (λ source inputs. OfJob source inputs (λ job. Clashes w J job kept given))) e
+      (λ source inputs st. (c.1 source inputs st).1)
+  name_clash (Why.ReadFault path) c = tt
+  name_clash Why.WriteFault c = tt
+  name_clash Why.Memory c = tt
+  name_clash (Why.TooLongInput path at) c = tt
+  name_clash (Why.TooDeepPlain depth) c = tt
+
+  pub distinct : (why : Why) → EndCause content line risen J why → IfEndless why (IsDistinct same_text)
+  distinct Why.Done c = tt
+  distinct Why.Usage c = tt
+  distinct (Why.Syntax kind l k) c = tt
+  distinct (Why.Fault fault) c = tt
+  distinct (Why.Endless names) c = c.1
+  distinct (Why.TooMany held None) c = tt
+  distinct (Why.TooMany held (Some given)) c = tt
+  distinct Why.AllLost c = tt
+  distinct (Why.NameClash kept given) c = tt
+  distinct (Why.ReadFault path) c = tt
+  distinct Why.WriteFault c = tt
+  distinct Why.Memory c = tt
+  distinct (Why.TooLongInput path at) c = tt
+  distinct (Why.TooDeepPlain depth) c = tt
+
+  -- which run it ends
+
+  comes_by : (why : Why) → EndCause content line risen J why → ComesBy line.plain why
+  comes_by Why.Done c = tt
+  comes_by Why.Usage c = tt
+  comes_by (Why.Syntax kind l k) c = tt
+  comes_by (Why.Fault fault) c = tt
+  comes_by (Why.Endless names) c = c.0
+  comes_by (Why.TooMany held None) c = c.0
+  comes_by (Why.TooMany held (Some given)) c = c.0
+  comes_by Why.AllLost c = c.0
+  comes_by (Why.NameClash kept given) c = c.0
+  comes_by (Why.ReadFault path) c = tt
+  comes_by Why.WriteFault c = tt
+  comes_by Why.Memory c = tt
+  comes_by (Why.TooLongInput path at) c = tt
+  comes_by (Why.TooDeepPlain depth) c = c.0
+
+  pub way : (why : Why) → EndCause content line risen J why → ComesBy (is_plain (line_of words)) why
+  way why c = at_line words line (λ o. ComesBy (is_plain o) why) e (comes_by why c)
+
+  fits : (b n : Option (List ℕ)) (why : Why) → EndCause content line risen J why → (why ≡ Why.Done → Writes content line (Tells b n))
+      → (why ≡ Why.WriteFault → Writes content line (TellsPart b n)) → HasRun why → OfLine content line (FitsIn (files_of line))
+  fits b n Why.Done c d p r = λ source inputs st. ((d refl).1 source inputs st).0
+  fits b n Why.Usage c d p r = absurd r
+  fits b n (Why.Syntax kind l k) c d p r = absurd r
+  fits b n (Why.Fault fault) c d p r = λ source inputs st. (c source inputs st).0
+  fits b n (Why.Endless names) c d p r = λ source inputs st. (c.2 source inputs st).0
+  fits b n (Why.TooMany held None) c d p r = λ source inputs st. (c.1 source inputs st).0
+  fits b n (Why.TooMany held (Some given)) c d p r = λ source inputs st. (c.1 source inputs st).0
+  fits b n Why.AllLost c d p r = λ source inputs st. (c.2 source inputs st).0
+  fits b n (Why.NameClash kept given) c d p r = λ source inputs st. (c.1 source inputs st).0
+  fits b n (Why.ReadFault path) c d p r = absurd r
+  fits b n Why.WriteFault c d p r = λ source inputs st. ((p refl).1 source inputs st).0
+  fits b n Why.Memory c d p r = absurd r
+  fits b n (Why.TooLongInput path at) c d p r = absurd r
+  fits b n (Why.TooDeepPlain depth) c d p r = λ source inputs st. (c.1 source inputs st).0
+
+  pub limits : (b n : Option (List ℕ)) (why : Why) → EndCause content line risen J why → (why ≡ Why.Done → Writes content line (Tells b n))
+      → (why ≡ Why.WriteFault → Writes content line (TellsPart b n)) → HasRun why
+      → OverFiles content words (λ w source inputs. FitsIn (files_of w) source inputs)
+  limits b n why c d p r = over_line words line (λ w. OfLine content w (λ source inputs. FitsIn (files_of w) source inputs)) e (fits b n why c d p r)
+
   pub not_usage : (why : Why) → EndCause content line risen J why → why ≡ Why.Usage → ⊥
   not_usage why c u = subst (EndCause content line risen J) u c
 
@@ -226,7 +348,8 @@ module _ (content : List ℕ → Option (List ℕ)) (line : Words) (risen : Type
   end_cause (Why.Syntax kind l k) c = c
   end_cause (Why.Fault fault) c = c
   end_cause (Why.Endless names) c = c
-  end_cause (Why.TooMany held given) c = c
+  end_cause (Why.TooMany held None) c = c
+  end_cause (Why.TooMany held (Some given)) c = c
   end_cause Why.AllLost c = c
   end_cause (Why.NameClash kept given) c = c
   end_cause (Why.ReadFault path) c = c
@@ -238,3 +361,18 @@ module _ (content : List ℕ → Option (List ℕ)) (line : Words) (risen : Type
 -- a text that was put whole, and nothing behind it
 pub parts_whole : (b n : Option (List ℕ)) (text : List ℕ) → Tells b n text → TellsParts b n text []
 parts_whole b n text t = parts b n n text [] (part_whole b n text t) (0, tells_none n)
+
+-- ---- in which order
+
+-- what was written, or wasn't written whole, has read all
+pub written_order : (content : List ℕ → Option (List ℕ)) (f : Option files.Line) (b n : Option (List (List ℕ))) (why : Why)
+    → (why ≡ Why.Done) ⊎ (why ≡ Why.WriteFault) → StopsFor content f b n why
+written_order content f b n why (inl e) = subst (StopsFor content f b n) (sym e) tt
+written_order content f b n why (inr e) = subst (StopsFor content f b n) (sym e) tt
+
+-- where not all was written the answer was, or the output failed
+pub first_of : (content : List ℕ → Option (List ℕ)) (words : List (List ℕ)) (line : Words) → line_of words ≡ Some line → (A : Type 0)
+    (b n : Option (List ℕ)) → A ⊎ Writes content line (Tells b n) → A ⊎ OverFiles content words (λ w source inputs. WritesAnswer w source inputs b n)
+first_of content words line e A b n (inl a) = inl a
+first_of content words line e A b n (inr x) =
+    inr (over_line words line (λ w. OfLine content w (λ source inputs. WritesAnswer w source inputs b n)) e (writes content line b n x))

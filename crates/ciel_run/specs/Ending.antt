@@ -58,6 +58,30 @@ abbrev pub IfTooDeep : Why → (ℕ → Type 0) → Type 0
 IfTooDeep (Why.TooDeepPlain depth) P = P depth
 IfTooDeep _ P = Unit {0}
 
+-- ---- which run it ends
+
+-- the way of running that the line asks for, where an end comes of one of the two alone: of the engine, or of the sequential interpreter
+abbrev pub ComesBy : (plain : Bool) → Why → Type 0
+ComesBy plain (Why.Endless names) = plain ≡ false
+ComesBy plain (Why.TooMany held None) = plain ≡ true
+ComesBy plain (Why.TooMany held (Some given)) = plain ≡ false
+ComesBy plain Why.AllLost = plain ≡ false
+ComesBy plain (Why.NameClash kept given) = plain ≡ false
+ComesBy plain (Why.TooDeepPlain depth) = plain ≡ true
+ComesBy plain _ = Unit {0}
+
+-- the job of the line was read, and ran
+abbrev pub HasRun : Why → Type 0
+HasRun Why.Done = Unit {0}
+HasRun (Why.Fault fault) = Unit {0}
+HasRun (Why.Endless names) = Unit {0}
+HasRun (Why.TooMany held given) = Unit {0}
+HasRun Why.AllLost = Unit {0}
+HasRun (Why.NameClash kept given) = Unit {0}
+HasRun Why.WriteFault = Unit {0}
+HasRun (Why.TooDeepPlain depth) = Unit {0}
+HasRun _ = ⊥
+
 -- ---- what is written
 
 -- what was written is the answer of the script with this source over these inputs, as the line wants it

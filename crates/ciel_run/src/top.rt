@@ -2,7 +2,9 @@
 //! has a clause that says when it comes.
 
 ghost use Rattle.std.specs.Prelude.{◌≡◌, ◌≢◌, ◌≤◌, ◌⊎◌, ◌++◌, [], None, Contains, OnErr, OnOk, drop, false, length, map, true};
+ghost use Rattle.std.specs.List.{IsDistinct};
 ghost use Rattle.sky_base.specs.See.{Answered as Meant};
+ghost use Rattle.sky_base.specs.Val.{same_text};
 ghost use Rattle.ciel_run_line.specs.Told.{ToldBy};
 ghost use Rattle.ciel_run_line.specs.Told.{told_of};
 ghost use Rattle.ciel_io.specs.Faults.{HasRisen};
@@ -14,10 +16,10 @@ ghost use Rattle.ciel_words.specs.Line.{line_of};
 ghost use Rattle.ciel_words.specs.Sound.{LineIsSound};
 ghost use Rattle.ciel_run_line.specs.Causes.{Clashes, GoesRound, HasTooMany, IsTooDeep, TooLongOf};
 ghost use Rattle.ciel_run.specs.Ending.{IfEndless, IfFault, IfNameClash, IfReadFault, IfSyntax, IfTooDeep, IfTooLong, IfTooMany};
-ghost use Rattle.ciel_run_line.specs.Asked.{AsksFor, NoRun, ShowsEnd};
+ghost use Rattle.ciel_run_line.specs.Asked.{AsksFor, NoRun, ShowsEnd, StopsFor};
 ghost use Rattle.ciel_run_log.specs.Status.{status_of};
-ghost use Rattle.ciel_run.specs.Ending.{Answers, EndCause, IsExpected, TellsParts, Writes, WritesAnswer, WritesPart, trace_of};
-ghost use Rattle.ciel_run_line.specs.Line.{OfLine, OverFiles, OverLine, OverScript, files_of, is_plain, is_traced, paths, paths_in, workers_of};
+ghost use Rattle.ciel_run.specs.Ending.{Answers, ComesBy, EndCause, HasRun, IsExpected, TellsParts, Writes, WritesAnswer, WritesPart, trace_of};
+ghost use Rattle.ciel_run_line.specs.Line.{FitsIn, OfLine, OverFiles, OverLine, OverScript, files_of, is_plain, is_traced, paths, paths_in, workers_of};
 ghost use Rattle.ciel_run_log.specs.Message.{message_of};
 ghost use Rattle.ciel_run_line.specs.Runs.{EndsShown, IsDriven, NamesHaveOne, StartsFew, StartsMissing, StartsNeeded, WaitsHaveOne};
 ghost use Rattle.ciel_run_line.specs.Runs.{plan_of};
@@ -84,6 +86,7 @@ where
     ensures one_wait { OverFiles (F.content files.old) words.now
         (λ w source inputs. WaitsHaveOne w source inputs (map entry_view result.journal.items)) }
     ensures empty { NoRun (is_plain (line_of words.now)) result.why → map entry_view result.journal.items ≡ [] }
+    ensures none_begins { line_of words.now ≡ None → map entry_view result.journal.items ≡ [] }
 
     // What the gates tell.
     ensures told { result.why ≢ Why.Memory → ToldBy (map entry_view result.journal.items)
@@ -93,16 +96,20 @@ where
         ≡ drop (workers_of (line_of words.now)) gates.old.items }
     ensures all { result.why ≢ Why.Memory → length gates.new.items ≡ 64 }
     ensures kept { NoRun (is_plain (line_of words.now)) result.why → gates.new ≡ gates.old }
+    ensures none_enters { line_of words.now ≡ None → gates.new ≡ gates.old }
 
     // When each other end comes.
     ensures usage { result.why ≡ Why.Usage → line_of words.now ≡ None }
     ensures no_line { line_of words.now ≡ None → (result.why ≡ Why.Usage) ⊎ (result.why ≡ Why.Memory) }
+    ensures way { ComesBy (is_plain (line_of words.now)) result.why }
+    ensures limits { HasRun result.why → OverFiles (F.content files.old) words.now (λ w source inputs. FitsIn (files_of w) source inputs) }
     ensures syntax { IfSyntax result.why (λ kind line col. OverScript (F.content files.old) words.now
         (λ w source. IsSyntaxFault source kind line col)) }
     ensures fault { IfFault result.why (λ fault. OverFiles (F.content files.old) words.now
         (λ w source inputs. IsAnswer source inputs (Meant.fault fault))) }
     ensures endless { IfEndless result.why (λ names. OverFiles (F.content files.old) words.now
         (λ w source inputs. OfJob source inputs (λ job. GoesRound w (map entry_view result.journal.items) job names))) }
+    ensures distinct { IfEndless result.why (IsDistinct same_text) }
     ensures too_many { IfTooMany result.why (λ held given. OverFiles (F.content files.old) words.now
         (λ w source inputs. OfJob source inputs (λ job. HasTooMany w (map entry_view result.journal.items) job held given))) }
     ensures all_lost { result.why ≡ Why.AllLost
@@ -118,6 +125,8 @@ where
         (λ path. Contains (paths (line_of words.now)) path × HasRisen (F.faults files.old) (F.faults files.new)) }
     ensures write_fault { result.why ≡ Why.WriteFault → HasRisen (O.faults out.old) (O.faults out.new)
         ⊎ ((is_traced (line_of words.now) ≡ true) × HasRisen (J.faults log.old) (J.faults log.new)) }
+    ensures answer_first { result.why ≡ Why.WriteFault → HasRisen (O.faults out.old) (O.faults out.new)
+        ⊎ OverFiles (F.content files.old) words.now (λ w source inputs. WritesAnswer w source inputs (O.written out.old) (O.written out.new)) }
 
     // Which end comes where files tell, and reading and writing go well; and that it is the answer, where the job means one and some worker
     // stays.
@@ -130,6 +139,8 @@ where
 
     // What was asked, and what was written where it doesn't end well.
     ensures asked { AsksFor result.why (paths (line_of words.now)) (F.asked files.old) (F.asked files.new) }
+    ensures order { OverLine (F.content files.old) words.now
+        (λ w. StopsFor (F.content files.old) (files_of w) (F.asked files.old) (F.asked files.new) result.why) }
     ensures part { result.why ≡ Why.WriteFault → OverFiles (F.content files.old) words.now
         (λ w source inputs. WritesPart w source inputs (O.written out.old) (O.written out.new)) }
     ensures nothing { result.why ≢ Why.Done → result.why ≢ Why.WriteFault → out.new ≡ out.old }
@@ -201,6 +212,8 @@ where
         (map entry_view result.journal.items) result.why }
     ensures write_fault { result.why ≡ Why.WriteFault → HasRisen (O.faults out.old) (O.faults out.new)
         ⊎ ((line.now.trace ≡ true) × HasRisen (J.faults log.old) (J.faults log.new)) }
+    ensures answer_first { result.why ≡ Why.WriteFault → HasRisen (O.faults out.old) (O.faults out.new)
+        ⊎ Writes (F.content files.old) line.now (Tells (O.written out.old) (O.written out.new)) }
     ensures driven { OfLine (F.content files.old) line.now (λ source inputs. IsDriven line.now source inputs (map entry_view result.journal.items)) }
     ensures root { line.now.plain ≡ false → ShowsEnd result.why
         → OfLine (F.content files.old) line.now (λ source inputs. EndsShown line.now source inputs (map entry_view result.journal.items)) }
@@ -211,6 +224,7 @@ where
     ensures others { result.why ≢ Why.Memory → drop line.now.workers gates.new.items ≡ drop line.now.workers gates.old.items }
     ensures all { result.why ≢ Why.Memory → length gates.new.items ≡ 64 }
     ensures asked { AsksFor result.why (paths_in (files_of line.now)) (F.asked files.old) (F.asked files.new) }
+    ensures order { StopsFor (F.content files.old) (files_of line.now) (F.asked files.old) (F.asked files.new) result.why }
     ensures message { ¬ HasRisen (J.faults log.old) (J.faults log.new)
         → Tells (J.written log.old) (J.written log.new) (trace_of line.now.trace result.journal.items ++ message_of result.why) }
     ensures message_part { TellsParts (J.written log.old) (J.written log.new) (trace_of line.now.trace result.journal.items) (message_of result.why) }
@@ -243,6 +257,8 @@ fn write<O: Sink, J: Sink>(
     ensures part { result ≡ Why.WriteFault → TellsPart (O.written out.old) (O.written out.new) (output_of line.now.generate answer.now) }
     ensures write_fault { result ≡ Why.WriteFault → HasRisen (O.faults out.old) (O.faults out.new)
         ⊎ ((line.now.trace ≡ true) × HasRisen (J.faults log.old) (J.faults log.new)) }
+    ensures answer_first { result ≡ Why.WriteFault → HasRisen (O.faults out.old) (O.faults out.new)
+        ⊎ Tells (O.written out.old) (O.written out.new) (output_of line.now.generate answer.now) }
     ensures message { ¬ HasRisen (J.faults log.old) (J.faults log.new)
         → Tells (J.written log.old) (J.written log.new) (trace_of line.now.trace journal.now ++ message_of result) }
     ensures message_part { TellsParts (J.written log.old) (J.written log.new) (trace_of line.now.trace journal.now) (message_of result) }

@@ -1,9 +1,10 @@
 -- How a run ends where no report is taken.
 use Rattle.std.proofs.Common.{◌≡◌, ℕ, ◌<◌, List, [], Option, Bool, true, nat_eq, sym, subst}
-use Rattle.std.specs.List.{list_any}
+use Rattle.std.specs.List.{IsDistinct, list_any}
 use Rattle.sky_base.specs.JobView.{job_view}
 use Rattle.sky_base.specs.KitView.{Gives}
 use Rattle.sky_base.specs.See as s
+use Rattle.sky_base.specs.Val.{same_text}
 use Rattle.ciel_master_board.specs.Board.{Board, board_graph}
 use Rattle.ciel_master_board.specs.Setting.{Setting}
 use Rattle.ciel_master_board.proofs.SearchResults.{circle_follows}
@@ -56,10 +57,10 @@ module _ {K N : Type 0} {gives : K → Gives} {digest : N → List ℕ → List 
 
   -- where tasks wait for each other
   pub comes_round : Working gives digest shop_ unbroken m out → b.orders ≡ [] → (names : List Digest) → Circle (board_graph b) names
-      → Ended gives digest shop_ b.plan b.journal (RunEnd.Endless names)
-  comes_round at none names circle =
+      → IsDistinct same_text names → Ended gives digest shop_ b.plan b.journal (RunEnd.Endless names)
+  comes_round at none names circle distinct =
       let c = (circle_follows S (shop_is D J G k.orderly) k.history b at.work.safe.sound k.runs.follows none names circle).0 in
-      record { driven = driven; cause = (c, circle_never D J G k.orderly b.plan b.journal names c) }
+      record { driven = driven; cause = (c, circle_never D J G k.orderly b.plan b.journal names c, distinct) }
 
 -- an end later in the run is one of the run
 pub ended_on : {K N : Type 0} (gives : K → Gives) (digest : N → List ℕ → List ℕ) {shop shop_ : Shop K N} {p q : Plan} (journal : List Entry)

@@ -1,8 +1,10 @@
 -- How a run ends, and why.
 use Rattle.std.specs.Prelude.{◌≡◌, ℕ, ◌<◌, List, Some, slice_get}
+use Rattle.std.specs.List.{IsDistinct}
 use Rattle.sky_base.specs.JobView.{job_view}
 use Rattle.sky_base.specs.KitView.{Gives}
 use Rattle.sky_base.specs.See as s
+use Rattle.sky_base.specs.Val.{same_text}
 use Rattle.sky_base.specs.declared.object.Named.{Named}
 use Rattle.ciel_journal.specs.Entries.{Entry, journal_of}
 use Rattle.ciel_journal.specs.History.{Event, Plan}
@@ -28,7 +30,8 @@ module _ (digest : List ℕ → List ℕ) (job : s.Job) (gives : Gives) (p : Pla
   abbrev pub Because : RunEnd → Type 0
   Because (RunEnd.Answer text) = s.Means job (json_around gives) (s.Answered.bytes text) × Shows
   Because (RunEnd.Fault fault) = s.Means job (json_around gives) (s.Answered.fault fault) × Shows
-  Because (RunEnd.Endless names) = CircleOf (the_shop digest job gives).job p J names × s.Never job (json_around gives)
+  Because (RunEnd.Endless names) =
+      CircleOf (the_shop digest job gives).job p J names × s.Never job (json_around gives) × IsDistinct same_text names
   Because (RunEnd.TooMany held given) = (n : Named) × (given ≡ n.desc) × OverflowOf (the_shop digest job gives) p J held n
   Because RunEnd.AllLost = AllAreLost p J
   Because (RunEnd.NameClash kept given) = ClashOf (the_shop digest job gives) p J kept given

@@ -1,15 +1,16 @@
 -- From what a job comes to what the line comes to whose job it is.
-use Rattle.std.proofs.Common.{◌≡◌, ◌≢◌, ℕ, List, [], ◌⊎◌, inl, inr, true, false, Option, Result, Ok, Err, IfErr, IfOk, refl, sym, ap, subst, ◌∙◌}
+use Rattle.std.proofs.Common.{◌≡◌, ◌≢◌, ℕ, List, [], ◌⊎◌, inl, inr, true, false, Option, Some, None, Result, Ok, Err, IfErr, IfOk, refl, sym, ap, subst, ◌∙◌}
 use Rattle.sky_base.specs.See as s
 use Rattle.sky_base.specs.See.{Answered}
 use Rattle.ciel_io.specs.Tells.{Tells}
 use Rattle.ciel_journal.specs.Entries.{Entry}
 use Rattle.ciel_journal.specs.Journals.{DrivenJournal}
+use Rattle.ciel_run_load.specs.Line as files
 use Rattle.ciel_run_load.specs.Line.{Input}
 use Rattle.ciel_run_load.specs.Loading.{IsOf}
 use Rattle.ciel_words.specs.declared.words.Words.{Words}
 use Rattle.ciel_run_line.specs.Causes.{AnswersSo, CauseOf, JobCause, OfRun}
-use Rattle.ciel_run_line.specs.Asked.{AsksFor, AsksOf, NoRun, NoRunOf, ShowsResult}
+use Rattle.ciel_run_line.specs.Asked.{AsksFor, AsksOf, NoRun, NoRunOf, ShowsResult, StopsFor}
 use Rattle.ciel_run_line.specs.Line.{FitsIn, OfLine, StandsIn, files_of, paths_in}
 use Rattle.ciel_run_line.specs.Runs.{EndsShown, IsDriven, RootEnds, plan_of, told_of}
 use Rattle.ciel_run_line.specs.Source.{OfJob, job_of, over_lines}
@@ -34,10 +35,11 @@ module _ (content : Files) (w : Words) (risen : Type 0) (J : List Entry) (job : 
 
   cause : IsTheJob → (why : Why) → JobCause w J job why → CauseOf content w risen J why
   cause t (Why.Fault fault) c = of_run (λ j. JobCause w J j (Why.Fault fault)) t c
-  cause t (Why.Endless names) c = of_run (λ j. JobCause w J j (Why.Endless names)) t c
-  cause t (Why.TooMany held given) c = of_run (λ j. JobCause w J j (Why.TooMany held given)) t c
+  cause t (Why.Endless names) c = (c.0, c.3, of_run (λ j. JobCause w J j (Why.Endless names)) t c)
+  cause t (Why.TooMany held None) c = (c.0, of_run (λ j. JobCause w J j (Why.TooMany held None)) t c)
+  cause t (Why.TooMany held (Some given)) c = (c.0, of_run (λ j. JobCause w J j (Why.TooMany held (Some given))) t c)
   cause t Why.AllLost c = (c.0, c.1, of_run (λ j. Unit {0}) t tt)
-  cause t (Why.NameClash kept given) c = of_run (λ j. JobCause w J j (Why.NameClash kept given)) t c
+  cause t (Why.NameClash kept given) c = (c.0, of_run (λ j. JobCause w J j (Why.NameClash kept given)) t c)
   cause t (Why.TooDeepPlain depth) c = (c.0, of_run (λ j. JobCause w J j (Why.TooDeepPlain depth)) t c)
   cause t Why.Memory c = tt
   cause t Why.Done c = absurd c
@@ -120,3 +122,21 @@ job_asks w J job (Err Why.AllLost) ps b n a t = t
 job_asks w J job (Err (Why.NameClash kept given)) ps b n a t = t
 job_asks w J job (Err Why.WriteFault) ps b n a t = t
 job_asks w J job (Err (Why.TooDeepPlain depth)) ps b n a t = t
+
+-- a job that was read has no file that wasn't
+pub job_order : (content : Files) (w : Words) (J : List Entry) (job : s.Job) (r : Result (List ℕ) Why) (f : Option files.Line)
+    (b n : Option (List (List ℕ))) → AnswersSo w J job r → IfErr r (StopsFor content f b n)
+job_order content w J job (Ok x) f b n a = tt
+job_order content w J job (Err (Why.ReadFault path)) f b n a = absurd a.none
+job_order content w J job (Err (Why.TooLongInput path at)) f b n a = absurd a.none
+job_order content w J job (Err Why.Memory) f b n a = tt
+job_order content w J job (Err (Why.Syntax kind line col)) f b n a = tt
+job_order content w J job (Err Why.Done) f b n a = tt
+job_order content w J job (Err Why.Usage) f b n a = tt
+job_order content w J job (Err (Why.Fault fault)) f b n a = tt
+job_order content w J job (Err (Why.Endless names)) f b n a = tt
+job_order content w J job (Err (Why.TooMany held given)) f b n a = tt
+job_order content w J job (Err Why.AllLost) f b n a = tt
+job_order content w J job (Err (Why.NameClash kept given)) f b n a = tt
+job_order content w J job (Err Why.WriteFault) f b n a = tt
+job_order content w J job (Err (Why.TooDeepPlain depth)) f b n a = tt

@@ -8,14 +8,14 @@ use Rattle.ciel_run_load.specs.Found.{Holds}
 use Rattle.ciel_run_load.specs.Generated.{generated_inputs, generator}
 use Rattle.ciel_run_load.specs.Line as files
 use Rattle.ciel_run_load.specs.Line.{Input, keys_of, name_in}
-use Rattle.ciel_run_load.specs.Loading.{AsksJob, IsLoaded, IsOf, IsReadJob, NotLoaded, RefusedSo}
+use Rattle.ciel_run_load.specs.Loading.{AsksJob, IsLoaded, IsOf, IsReadJob, NotLoaded, RefusedSo, StopsJob}
 use Rattle.ciel_run_load.specs.declared.load.NoJob.{NoJob}
 use Rattle.ciel_run_load.specs.declared.script.NoScript.{NoScript}
 use Rattle.ciel_words.specs.declared.words.Words.{Words}
 use Rattle.ciel_run_line.specs.Answering.{CanRunJob, no_job_view, no_script_view}
 use Rattle.ciel_run_load.specs.Syntax.{IsSyntaxFault}
 use Rattle.ciel_run_line.specs.Causes.{CauseOf, NoJobBy, TooLongOf}
-use Rattle.ciel_run_line.specs.Asked.{AsksFor}
+use Rattle.ciel_run_line.specs.Asked.{AsksFor, StopsFor}
 use Rattle.ciel_run_line.specs.Line.{FitsIn, OfLine, SourceFits, SourceIn, StandsIn, files_named, files_of, paths_in}
 use Rattle.ciel_run_log.specs.declared.why.Why.{Why}
 
@@ -142,3 +142,20 @@ module _ (content : Files) (w : Words) where
       → AsksJob why (files.paths_of (at path w.inputs)) b n → AsksFor (no_job_view why) (paths_in (files_of w)) b n
   not_loaded_asks path why b n e a = by_path (λ f g. AsksFor (no_job_view why) (paths_in f) b n) path e
       (asked_so why (files.paths_of (at path w.inputs)) b n a)
+
+  -- ---- in which order
+
+  order_so : (why : NoJob) (path : List ℕ) (b n : Option (List (List ℕ))) → StopsJob content (at path w.inputs) b n why
+      → StopsFor content (Some (at path w.inputs)) b n (no_job_view why)
+  order_so (NoJob.Syntax kind l c) path b n s = tt
+  order_so (NoJob.Failed p) path b n s = s
+  order_so (NoJob.TooLong p m) path b n s = s
+  order_so NoJob.Memory path b n s = tt
+
+  pub not_loaded_order : (path : List ℕ) (why : NoJob) (b n : Option (List (List ℕ))) → w.script ≡ Some path
+      → StopsJob content (at path w.inputs) b n why → StopsFor content (files_of w) b n (no_job_view why)
+  not_loaded_order path why b n e s = by_path (λ f g. StopsFor content f b n (no_job_view why)) path e (order_so why path b n s)
+
+  pub not_generated_order : (why : NoScript) (f : Option files.Line) (b n : Option (List (List ℕ))) → StopsFor content f b n (no_script_view why)
+  not_generated_order (NoScript.Syntax kind l c) f b n = tt
+  not_generated_order NoScript.Memory f b n = tt

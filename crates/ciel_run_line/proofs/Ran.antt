@@ -81,7 +81,7 @@ module _ (w : Words) (job : s.Job) where
     }
     run_answers (RunEnd.Endless names) e = record {
       bytes = tt;
-      none = (p, e.cause.0, e.cause.1);
+      none = (p, e.cause.0, e.cause.1, e.cause.2);
       driven = inr e.driven;
       plain = λ q. absurd cc;
       root = λ q. tt;

@@ -1,6 +1,8 @@
 -- Which run began, and which paths were asked, by how a call ends.
-use Rattle.std.specs.Prelude.{◌≡◌, ℕ, List, Bool, true, Option, Result, Ok, Err, take}
+use Rattle.std.specs.Prelude.{◌≡◌, ℕ, List, Bool, true, Option, Some, None, Result, Ok, Err, IfErr, take}
 use Rattle.ciel_io.specs.Tells.{Tells, TellsPart}
+use Rattle.ciel_run_load.specs.Line as files
+use Rattle.ciel_run_load.specs.Loading.{StopsAt}
 use Rattle.ciel_run_load.specs.Reading.{AsksUpTo}
 use Rattle.ciel_run_log.specs.declared.why.Why.{Why}
 
@@ -45,3 +47,16 @@ AsksFor _ paths before now = Tells before now paths
 abbrev pub AsksOf : Result (List ℕ) Why → List (List ℕ) → Option (List (List ℕ)) → Option (List (List ℕ)) → Type 0
 AsksOf (Ok answer) paths before now = Tells before now paths
 AsksOf (Err why) paths before now = AsksFor why paths before now
+
+-- ---- in which order
+
+-- the file at this path is the last one asked, and what stands before it in the line was within its limits
+abbrev pub StopsIn : (List ℕ → Option (List ℕ)) → Option files.Line → List ℕ → Option (List (List ℕ)) → Option (List (List ℕ)) → Type 0
+StopsIn content None path before now = ⊥
+StopsIn content (Some f) path before now = StopsAt content f path before now
+
+-- so it is where a file could not be read, or is too long
+abbrev pub StopsFor : (List ℕ → Option (List ℕ)) → Option files.Line → Option (List (List ℕ)) → Option (List (List ℕ)) → Why → Type 0
+StopsFor content f before now (Why.ReadFault path) = StopsIn content f path before now
+StopsFor content f before now (Why.TooLongInput path at) = StopsIn content f path before now
+StopsFor content f before now _ = Unit {0}

@@ -1,7 +1,9 @@
 -- Why a call of the program ends as it does, before anything is written.
 use Rattle.std.specs.Prelude.{◌≡◌, ℕ, List, [], true, false, ◌⊎◌, Option, Some, None, Result, Ok, Err, Contains, IfErr, IfOk}
+use Rattle.std.specs.List.{IsDistinct}
 use Rattle.sky_base.specs.See as s
 use Rattle.sky_base.specs.See.{Answered}
+use Rattle.sky_base.specs.Val.{same_text}
 use Rattle.sky_base.specs.declared.object.Desc1.{Desc1}
 use Rattle.sky_base.specs.declared.object.Named.{Named}
 use Rattle.ciel_journal.specs.Entries.{Entry}
@@ -22,9 +24,10 @@ use Rattle.ciel_run_log.specs.declared.why.Why.{Why}
 -- ---- of a job that ran, whose journal is J
 
 module _ (w : Words) (J : List Entry) (job : s.Job) where
-  -- the tasks of what has these names wait for one another, nothing is open, and the job never means an answer
+  -- the tasks of what has these names, which are distinct, wait for one another, nothing is open, and the job never means an answer
   abbrev pub GoesRound : List Digest → Type 0
-  GoesRound names = (w.plain ≡ false) × CircleOf (told_of w job) (plan_of w) J names × s.Never job over_lines
+  GoesRound names =
+      (w.plain ≡ false) × CircleOf (told_of w job) (plan_of w) J names × s.Never job over_lines × IsDistinct same_text names
 
   -- as many descriptions are held as there may be, and one more is made: on the engine by an open Start, where it is given
   abbrev pub HasTooMany : ℕ → Option Desc1 → Type 0
@@ -98,7 +101,8 @@ module _ (content : List ℕ → Option (List ℕ)) (w : Words) (risen : Type 0)
   CauseOf Why.AllLost = (w.plain ≡ false) × AllAreLost (plan_of w) J × OfRun (λ job. Unit {0})
   CauseOf (Why.TooDeepPlain depth) = (w.plain ≡ true) × OfRun (λ job. IsTooDeep w J job depth)
   CauseOf (Why.Fault fault) = OfRun (λ job. JobCause w J job (Why.Fault fault))
-  CauseOf (Why.Endless names) = OfRun (λ job. GoesRound w J job names)
-  CauseOf (Why.TooMany held given) = OfRun (λ job. HasTooMany w J job held given)
-  CauseOf (Why.NameClash kept given) = OfRun (λ job. Clashes w J job kept given)
+  CauseOf (Why.Endless names) = (w.plain ≡ false) × IsDistinct same_text names × OfRun (λ job. GoesRound w J job names)
+  CauseOf (Why.TooMany held None) = (w.plain ≡ true) × OfRun (λ job. HasTooMany w J job held None)
+  CauseOf (Why.TooMany held (Some given)) = (w.plain ≡ false) × OfRun (λ job. HasTooMany w J job held (Some given))
+  CauseOf (Why.NameClash kept given) = (w.plain ≡ false) × OfRun (λ job. Clashes w J job kept given)
   CauseOf why = NoJobBy why

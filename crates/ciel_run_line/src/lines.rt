@@ -12,7 +12,7 @@ ghost use Rattle.ciel_master.specs.Views.{entry_view};
 ghost use Rattle.ciel_words.specs.Sound.{LineIsSound};
 ghost use Rattle.ciel_run_line.specs.Answering.{CanRunJob, no_job_view, no_script_view};
 ghost use Rattle.ciel_run_line.specs.Causes.{CauseOf, NoJobBy, OfRun};
-ghost use Rattle.ciel_run_line.specs.Asked.{AsksFor, AsksOf, NoRunOf, ShowsResult};
+ghost use Rattle.ciel_run_line.specs.Asked.{AsksFor, AsksOf, NoRunOf, ShowsResult, StopsFor};
 ghost use Rattle.ciel_run_line.specs.Line.{FitsIn, OfLine, files_of, paths_in};
 ghost use Rattle.ciel_run_line.specs.Runs.{EndsShown, IsDriven, IsModestFor};
 ghost use Rattle.ciel_run_line.specs.Source.{over_lines};
@@ -62,6 +62,7 @@ fn job_of<F: Files>(alloc: Global, line: &Words, files: &mut F) -> Result<Job, W
     ensures none { IfErr result (NoJobBy (F.content files.old) line.now (HasRisen (F.faults files.old) (F.faults files.new)) []) }
     ensures asked { OnOk result (Tells (F.asked files.old) (F.asked files.new) (paths_in (files_of line.now))) }
     ensures asks { IfErr result (λ why. AsksFor why (paths_in (files_of line.now)) (F.asked files.old) (F.asked files.new)) }
+    ensures order { IfErr result (StopsFor (F.content files.old) (files_of line.now) (F.asked files.old) (F.asked files.new)) }
 {
     if let Some(path) = &line.script {
         return match load(alloc, path, line.inputs.as_slice(), files) {
@@ -106,6 +107,7 @@ where
     ensures others { result.result ≢ Err Why.Memory → drop line.now.workers gates.new.items ≡ drop line.now.workers gates.old.items }
     ensures all { result.result ≢ Err Why.Memory → length gates.new.items ≡ 64 }
     ensures asks { AsksOf result.result (paths_in (files_of line.now)) (F.asked files.old) (F.asked files.new) }
+    ensures order { IfErr result.result (StopsFor (F.content files.old) (files_of line.now) (F.asked files.old) (F.asked files.new)) }
 {
     match job_of(alloc, line, files) {
         Ok(job) => answer(rt, alloc, line, job, gates),

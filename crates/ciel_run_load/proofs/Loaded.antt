@@ -1,13 +1,14 @@
 -- From what was read to the job that a line names, and why there is none.
-use Rattle.std.proofs.Common.{◌≡◌, ◌≤◌, inl, inr, ℕ, List, [], ◌∷◌, Option, Some, None, IfSome, Err, length, map, refl, sym, ap, subst, ◌∙◌, arith}
+use Rattle.std.proofs.Common.{◌≡◌, ◌≤◌, inl, inr, ℕ, zero, suc, ◌+◌, List, [], ◌∷◌, Option, Some, None, IfSome, Err, length, map, slice_get, take}
+use Rattle.std.proofs.Common.{refl, sym, ap, subst, ◌∙◌, arith}
 use Rattle.sky_base.specs.See.{Job}
 use Rattle.sky_base.specs.Tree.{Script}
 use Rattle.ciel_io.specs.Tells.{Tells, TellsPart}
 use Rattle.sky_parse.specs.Source.{IsScript}
 use Rattle.ciel_run_load.specs.Line.{Input, Line, keys_of, name_in, path_in, paths_of}
 use Rattle.ciel_run_load.specs.Found.{HoldAll, Holds, PassesIfTold, limit}
-use Rattle.ciel_run_load.specs.Reading.{AsksEach, ReadAll, UnreadOf, UnreadSo}
-use Rattle.ciel_run_load.specs.Loading.{AsksJob, IsLoaded, NotLoaded, unread}
+use Rattle.ciel_run_load.specs.Reading.{AsksEach, ReadAll, StopsIn, StopsSo, UnreadOf, UnreadSo}
+use Rattle.ciel_run_load.specs.Loading.{AsksJob, HasScript, IsLoaded, NotLoaded, StopsAt, StopsJob, unread}
 use Rattle.ciel_run_load.specs.declared.read.Unread.{Unread}
 use Rattle.ciel_io.proofs.Joined.{tells_more}
 use Rattle.ciel_run_load.proofs.Taken.{all_read, asks_first, asks_more, there}
@@ -116,3 +117,43 @@ module _ (content : Files) (path : List ℕ) (is : List Named) where
   pub script_asked : (A : Type 0) (e : Unread) (b n : Option (List (List ℕ))) → AsksEach {A = A} (Err e) (path ∷ []) b n
       → AsksJob (unread e) (paths_of line) b n
   script_asked A e b n u = job_asks A e b n (paths_of line) (asks_first A A e b n path (map path_in is) u)
+
+  -- ---- in which order
+
+  -- the script is within its limit and is one, where files tell it
+  has_script : (told : Option (List ℕ)) (read : List ℕ) (keys : List (List ℕ)) (script : Script) → IfSome told (λ file. read ≡ file)
+      → length read ≤ limit → keys ≡ map name_in is → IsScript read keys script
+      → IfSome told (λ source. (length source ≤ limit) × ((script : Script) × IsScript source (map name_in is) script))
+  has_script None read keys script found within named s = tt
+  has_script (Some file) read keys script found within named s = (
+    subst (λ (bytes : List ℕ). length bytes ≤ limit) found within,
+    (script, subst (λ (bytes : List ℕ). IsScript bytes (map name_in is) script) found (subst (λ (ks : List (List ℕ)). IsScript read ks script) named s)),
+  )
+
+  -- the script wasn't read
+  script_stops_at : (at : List ℕ) (b n : Option (List (List ℕ))) (k : ℕ) → slice_get (path ∷ []) k ≡ Some at → Tells b n (take (k + 1) (path ∷ []))
+      → StopsAt content line at b n
+  script_stops_at at b n zero e t =
+      let same : path ≡ at = cc in
+      inl (sym same, subst (λ (p : List ℕ). Tells b n (p ∷ [])) same t)
+  script_stops_at at b n (suc k) e t = absurd cc
+
+  pub script_stops : (A : Type 0) (e : Unread) (b n : Option (List (List ℕ))) → AsksEach {A = A} (Err e) (path ∷ []) b n
+      → StopsJob content line b n (unread e)
+  script_stops A (Unread.Failed at) b n a = script_stops_at at b n a.0 a.1 a.2
+  script_stops A (Unread.TooLong at most) b n a = script_stops_at at b n a.0 a.1 a.2
+  script_stops A Unread.Memory b n a = tt
+
+  -- an input wasn't
+  input_stops_at : (at : List ℕ) (b m n : Option (List (List ℕ))) → HasScript content line → Tells b m (path ∷ []) → StopsIn content is at m n
+      → StopsAt content line at b n
+  input_stops_at at b m n h t s = inr (h, (s.0, s.1, s.2, tells_more b m n (path ∷ []) (take (s.0 + 1) (map path_in is)) t s.3))
+
+  pub input_stops : (e : Unread) (b m n : Option (List (List ℕ))) (read : List ℕ) (keys : List (List ℕ)) (script : Script)
+      → IfSome (content path) (λ file. read ≡ file) → length read ≤ limit → keys ≡ map name_in is → IsScript read keys script
+      → Tells b m (path ∷ []) → StopsSo content is m n e → StopsJob content line b n (unread e)
+  input_stops (Unread.Failed at) b m n read keys script found within named s t u =
+      input_stops_at at b m n (has_script (content path) read keys script found within named s) t u
+  input_stops (Unread.TooLong at most) b m n read keys script found within named s t u =
+      input_stops_at at b m n (has_script (content path) read keys script found within named s) t u
+  input_stops Unread.Memory b m n read keys script found within named s t u = tt

@@ -5,7 +5,7 @@ use Rattle.ciel_io.specs.Faults.{HasRisen}
 use Rattle.ciel_io.specs.Tells.{Tells, TellsPart}
 use Rattle.ciel_run_load.specs.Line.{Input, path_in}
 use Rattle.ciel_run_load.specs.Found.{input_limit, AllWithin, HoldAll, IsFirstOver, PassesIfTold}
-use Rattle.ciel_run_load.specs.Reading.{AsksUpTo, ReadSo, ReadAll, UnreadSo, UnreadOf, AsksEach}
+use Rattle.ciel_run_load.specs.Reading.{AsksUpTo, FitIfTold, ReadSo, ReadAll, StopsIn, StopsSo, UnreadSo, UnreadOf, AsksEach}
 use Rattle.ciel_run_load.specs.declared.read.Unread.{Unread}
 use Rattle.ciel_io.proofs.Joined.{tells_more}
 
@@ -123,3 +123,38 @@ pub results_later : {A : Type 0} (content : Files) (i : Named) (is : List Named)
     → (risen → later) → ReadSo content i x → IfErr r (UnreadOf content is risen) → IfErr r (UnreadOf content (i ∷ is) later)
 results_later content i is x risen later (Ok a) f s u = tt
 results_later content i is x risen later (Err e) f s u = unread_later content i is x risen later e f s u
+
+-- ---- in which order
+
+-- what was read is within the limit, where files tell it
+fits : (told : Option (List ℕ)) (read : List ℕ) → IfSome told (λ file. read ≡ file) → length read ≤ input_limit
+    → IfSome told (λ file. length file ≤ input_limit)
+fits None read h w = tt
+fits (Some file) read h w = subst (λ (bytes : List ℕ). length bytes ≤ input_limit) h w
+
+-- the first one wasn't read
+stops_first_at : (content : Files) (i : Named) (is : List Named) (path : List ℕ) (b n : Option (List (List ℕ))) (k : ℕ)
+    → slice_get (i.1 ∷ []) k ≡ Some path → Tells b n (take (k + 1) (i.1 ∷ [])) → StopsIn content (i ∷ is) path b n
+stops_first_at content i is path b n zero e t = (0, e, tt, t)
+stops_first_at content i is path b n (suc k) e t = absurd cc
+
+pub stops_first : (A : Type 0) (content : Files) (i : Named) (is : List Named) (e : Unread) (b n : Option (List (List ℕ)))
+    → AsksEach {A = A} (Err e) (i.1 ∷ []) b n → StopsSo content (i ∷ is) b n e
+stops_first A content i is (Unread.Failed path) b n a = stops_first_at content i is path b n a.0 a.1 a.2
+stops_first A content i is (Unread.TooLong path at) b n a = stops_first_at content i is path b n a.0 a.1 a.2
+stops_first A content i is Unread.Memory b n a = tt
+
+-- it was, and another wasn't
+stops_later_at : (content : Files) (i : Named) (is : List Named) (x : Input) (path : List ℕ) (b m n : Option (List (List ℕ)))
+    → ReadSo content i x → Tells b m (i.1 ∷ []) → StopsIn content is path m n → StopsIn content (i ∷ is) path b n
+stops_later_at content i is x path b m n r t s =
+    let next : suc s.0 + 1 ≡ suc (s.0 + 1) = omega arith in
+    (suc s.0, s.1, (fits (content i.1) x.1 r.1 r.2, s.2), rw next (tells_more b m n (i.1 ∷ []) (take (s.0 + 1) (map path_in is)) t s.3))
+
+-- as the result of a call
+pub stops_later : {A : Type 0} (content : Files) (i : Named) (is : List Named) (x : Input) (b m n : Option (List (List ℕ))) (r : Result A Unread)
+    → ReadSo content i x → Tells b m (i.1 ∷ []) → IfErr r (StopsSo content is m n) → IfErr r (StopsSo content (i ∷ is) b n)
+stops_later content i is x b m n (Ok a) s t h = tt
+stops_later content i is x b m n (Err (Unread.Failed path)) s t h = stops_later_at content i is x path b m n s t h
+stops_later content i is x b m n (Err (Unread.TooLong path at)) s t h = stops_later_at content i is x path b m n s t h
+stops_later content i is x b m n (Err Unread.Memory) s t h = tt

@@ -1,11 +1,12 @@
 -- What the script and the inputs of a line come to: a job, or why there is none.
-use Rattle.std.specs.Prelude.{◌≡◌, ◌≤◌, ℕ, List, [], ◌∷◌, Option, Some, Contains, length, map, take}
+use Rattle.std.specs.Prelude.{◌≡◌, ◌≤◌, ◌⊎◌, ◌+◌, ℕ, List, [], ◌∷◌, Option, Some, IfSome, Contains, length, map, slice_get, take}
+use Rattle.sky_base.specs.Tree.{Script}
 use Rattle.sky_base.specs.See.{Job}
 use Rattle.sky_parse.specs.Source.{IsScript}
 use Rattle.ciel_io.specs.Tells.{Tells, TellsPart}
-use Rattle.ciel_run_load.specs.Line.{Input, Line, keys_of, name_in, paths_of}
+use Rattle.ciel_run_load.specs.Line.{Input, Line, keys_of, name_in, path_in, paths_of}
 use Rattle.ciel_run_load.specs.Found.{Fits, Holds, IsOver, IsTooLong, limit}
-use Rattle.ciel_run_load.specs.Reading.{AsksUpTo}
+use Rattle.ciel_run_load.specs.Reading.{AsksUpTo, FitIfTold}
 use Rattle.ciel_run_load.specs.Syntax.{IsSyntaxFault}
 use Rattle.ciel_run_load.specs.declared.read.Unread.{Unread}
 use Rattle.ciel_run_load.specs.declared.load.NoJob.{NoJob}
@@ -56,3 +57,25 @@ AsksJob (NoJob.Syntax kind l c) paths before now = Tells before now (take 1 path
 AsksJob (NoJob.Failed path) paths before now = AsksUpTo path paths before now
 AsksJob (NoJob.TooLong path at) paths before now = AsksUpTo path paths before now
 AsksJob NoJob.Memory paths before now = TellsPart before now paths
+
+-- ---- in which order
+
+module _ (content : List ℕ → Option (List ℕ)) (line : Line) where
+  -- the script's bytes are within the limit and are a script, where files tell them
+  abbrev pub HasScript : Type 0
+  HasScript = IfSome (content line.script)
+      (λ source. (length source ≤ limit) × ((script : Script) × IsScript source (map name_in line.inputs) script))
+
+  -- the file at this path is the last one asked: it is the script's, or the script is one and each input before this one fits
+  abbrev pub StopsAt : List ℕ → Option (List (List ℕ)) → Option (List (List ℕ)) → Type 0
+  StopsAt path before now =
+      ((path ≡ line.script) × Tells before now (path ∷ []))
+      ⊎ (HasScript
+      × ((k : ℕ) × (slice_get (map path_in line.inputs) k ≡ Some path) × FitIfTold content (take k line.inputs)
+      × Tells before now (line.script ∷ take (k + 1) (map path_in line.inputs))))
+
+  -- so it is where a file wasn't read, but for want of memory
+  abbrev pub StopsJob : Option (List (List ℕ)) → Option (List (List ℕ)) → NoJob → Type 0
+  StopsJob before now (NoJob.Failed path) = StopsAt path before now
+  StopsJob before now (NoJob.TooLong path at) = StopsAt path before now
+  StopsJob before now _ = Unit {0}

@@ -45,3 +45,21 @@ AsksEach (Ok a) paths before now = Tells before now paths
 AsksEach (Err (Unread.Failed path)) paths before now = AsksUpTo path paths before now
 AsksEach (Err (Unread.TooLong path at)) paths before now = AsksUpTo path paths before now
 AsksEach (Err Unread.Memory) paths before now = TellsPart before now paths
+
+-- ---- in which order
+
+-- each of these inputs has no more bytes than the limit, where files tell it
+abbrev pub FitIfTold : (List ℕ → Option (List ℕ)) → List (List ℕ × List ℕ) → Type 0
+FitIfTold content [] = Unit {0}
+FitIfTold content (i ∷ is) = IfSome (content i.1) (λ file. length file ≤ input_limit) × FitIfTold content is
+
+-- an input with this path is the last one asked, and each before it fits
+abbrev pub StopsIn : (List ℕ → Option (List ℕ)) → List (List ℕ × List ℕ) → List ℕ → Option (List (List ℕ)) → Option (List (List ℕ)) → Type 0
+StopsIn content is path before now =
+    (k : ℕ) × (slice_get (map path_in is) k ≡ Some path) × FitIfTold content (take k is) × Tells before now (take (k + 1) (map path_in is))
+
+-- so it is where inputs weren't read, but for want of memory
+abbrev pub StopsSo : (List ℕ → Option (List ℕ)) → List (List ℕ × List ℕ) → Option (List (List ℕ)) → Option (List (List ℕ)) → Unread → Type 0
+StopsSo content is before now (Unread.Failed path) = StopsIn content is path before now
+StopsSo content is before now (Unread.TooLong path at) = StopsIn content is path before now
+StopsSo content is before now Unread.Memory = Unit {0}

@@ -4,7 +4,7 @@ ghost use Rattle.std.specs.Prelude.{◌≤◌, ◌≡◌, ◌∷◌, [], IfOk, I
 ghost use Rattle.ciel_io.specs.Faults.{HasRisen};
 ghost use Rattle.ciel_run_load.specs.Line.{name_in, path_in};
 ghost use Rattle.ciel_run_load.specs.Found.{input_limit};
-ghost use Rattle.ciel_run_load.specs.Reading.{ReadSo, ReadAll, ReadOn, UnreadOf, UnreadSo, AsksEach};
+ghost use Rattle.ciel_run_load.specs.Reading.{ReadSo, ReadAll, ReadOn, UnreadOf, UnreadSo, AsksEach, StopsSo};
 
 use crate::read::{Unread, read};
 use ciel_io::files::Files;
@@ -59,6 +59,7 @@ fn read_on<F: Files>(
     ensures read { OnOk result (ReadOn (F.content files.old) inputs.now items.old.items items.new.items) }
     ensures unread { IfErr result (UnreadOf (F.content files.old) inputs.now (HasRisen (F.faults files.old) (F.faults files.new))) }
     ensures asks { AsksEach result (map path_in inputs.now) (F.asked files.old) (F.asked files.new) }
+    ensures order { IfErr result (StopsSo (F.content files.old) inputs.now (F.asked files.old) (F.asked files.new)) }
     ensures never_falls { F.faults files.old ≤ F.faults files.new }
 {
     let Some((first, more)) = inputs.split_first() else {
@@ -83,6 +84,7 @@ pub(crate) fn inputs<F: Files>(
     ensures read { IfOk result (ReadAll (F.content files.old) inputs.now) }
     ensures unread { IfErr result (UnreadOf (F.content files.old) inputs.now (HasRisen (F.faults files.old) (F.faults files.new))) }
     ensures asks { AsksEach result (map path_in inputs.now) (F.asked files.old) (F.asked files.new) }
+    ensures order { IfErr result (StopsSo (F.content files.old) inputs.now (F.asked files.old) (F.asked files.new)) }
 {
     let mut items = Vec::new(alloc);
     read_on(alloc, inputs, files, &mut items)?;

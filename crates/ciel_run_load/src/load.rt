@@ -6,7 +6,7 @@ ghost use Rattle.ciel_io.specs.Faults.{HasRisen};
 ghost use Rattle.ciel_io.specs.Tells.{Tells};
 ghost use Rattle.ciel_run_load.specs.Line as of;
 ghost use Rattle.ciel_run_load.specs.Line.{paths_of};
-ghost use Rattle.ciel_run_load.specs.Loading.{unread, IsLoaded, NotLoaded, AsksJob};
+ghost use Rattle.ciel_run_load.specs.Loading.{unread, IsLoaded, NotLoaded, AsksJob, StopsJob};
 
 use crate::inputs::{inputs, keys};
 use crate::read::{Unread, read};
@@ -68,6 +68,8 @@ pub fn load<F: Files>(
         (HasRisen (F.faults files.old) (F.faults files.new))) }
     ensures asked { OnOk result (Tells (F.asked files.old) (F.asked files.new) (paths_of (record { script = path.now; inputs = named.now }))) }
     ensures asks { IfErr result (λ why. AsksJob why (paths_of (record { script = path.now; inputs = named.now })) (F.asked files.old)
+        (F.asked files.new)) }
+    ensures order { IfErr result (StopsJob (F.content files.old) (record { script = path.now; inputs = named.now }) (F.asked files.old)
         (F.asked files.new)) }
 {
     let Ok(keys) = keys(alloc, named) else {

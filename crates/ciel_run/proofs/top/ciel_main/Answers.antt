@@ -1,16 +1,22 @@
 -- What the run of the line that the words are says, the words say.
-use Rattle.std.proofs.Common.{◌≡◌, ◌++◌, ℕ, List, map}
+use Rattle.std.proofs.Common.{◌≡◌, ◌++◌, ◌∙◌, ℕ, List, None, Option, Some, map, sym}
 use Rattle.ciel_io.specs.Faults.{HasRisen}
 use Rattle.ciel_io.specs.Tells.{Tells}
 use Rattle.ciel_master.specs.Views.{entry_view}
-use Rattle.ciel_run_line.specs.Line.{OfLine, is_traced}
+use Rattle.ciel_run_line.specs.Asked.{StopsFor}
+use Rattle.ciel_run_line.specs.Line.{OfLine, files_of, is_traced}
 use Rattle.ciel_run_line.specs.Runs.{IsDriven}
 use Rattle.ciel_run.specs.Ending.{Answers, IsExpected, TellsParts, trace_of}
 use Rattle.ciel_run_log.specs.Message.{message_of}
 use Rattle.ciel_run.proofs.Headline.{few, missing, needed, one_value, one_wait}
 use Rattle.ciel_run.proofs.Modest.{answers}
-use Rattle.ciel_run.proofs.Over.{at_line, expected, no_write, not_usage, over_line, read_fault, too_deep}
+use Rattle.ciel_run.proofs.Over.{at_line, distinct, endless, expected, first_of, limits, name_clash, no_write, not_usage, over_line}
+use Rattle.ciel_run.proofs.Over.{read_fault, too_deep, too_many, way}
 use Rattle.ciel_run.proofs.top.ciel_main.Goals as goal
+
+-- words that are a line are not none
+none_some : {A : Type 0} {o : Option A} {a : A} → o ≡ None → o ≡ Some a → ⊥
+none_some none some = let e : None ≡ Some _ = sym none ∙ some in absurd cc
 
 pub run-requires-clause-line : goal.run-requires-clause-line
 run-requires-clause-line g c κs within = c.lines_are_sound.ensures c.args.words.now c.in-Ok.line c.in-Ok.ensures.line
@@ -116,3 +122,51 @@ pub returns-clause-usage : goal.returns-clause-usage
 returns-clause-usage g c = λ u. absurd (not_usage (g.F.Files.content c.args.files.now) c.args.words.now c.in-Ok.line c.in-Ok.ensures.line
     (HasRisen (g.F.Files.faults c.args.files.now) (g.F.Files.faults c.run.new.files)) (map entry_view c.run.result.journal.items)
     c.run.result.why c.run.ensures.cause u)
+
+pub returns-clause-endless : goal.returns-clause-endless
+returns-clause-endless g c = endless (g.F.Files.content c.args.files.now) c.args.words.now c.in-Ok.line c.in-Ok.ensures.line
+    (HasRisen (g.F.Files.faults c.args.files.now) (g.F.Files.faults c.run.new.files)) (map entry_view c.run.result.journal.items)
+    c.run.result.why c.run.ensures.cause
+
+pub returns-clause-too_many : goal.returns-clause-too_many
+returns-clause-too_many g c = too_many (g.F.Files.content c.args.files.now) c.args.words.now c.in-Ok.line c.in-Ok.ensures.line
+    (HasRisen (g.F.Files.faults c.args.files.now) (g.F.Files.faults c.run.new.files)) (map entry_view c.run.result.journal.items)
+    c.run.result.why c.run.ensures.cause
+
+pub returns-clause-name_clash : goal.returns-clause-name_clash
+returns-clause-name_clash g c = name_clash (g.F.Files.content c.args.files.now) c.args.words.now c.in-Ok.line c.in-Ok.ensures.line
+    (HasRisen (g.F.Files.faults c.args.files.now) (g.F.Files.faults c.run.new.files)) (map entry_view c.run.result.journal.items)
+    c.run.result.why c.run.ensures.cause
+
+pub returns-clause-distinct : goal.returns-clause-distinct
+returns-clause-distinct g c = distinct (g.F.Files.content c.args.files.now) c.args.words.now c.in-Ok.line c.in-Ok.ensures.line
+    (HasRisen (g.F.Files.faults c.args.files.now) (g.F.Files.faults c.run.new.files)) (map entry_view c.run.result.journal.items)
+    c.run.result.why c.run.ensures.cause
+
+pub returns-clause-way : goal.returns-clause-way
+returns-clause-way g c = way (g.F.Files.content c.args.files.now) c.args.words.now c.in-Ok.line c.in-Ok.ensures.line
+    (HasRisen (g.F.Files.faults c.args.files.now) (g.F.Files.faults c.run.new.files)) (map entry_view c.run.result.journal.items)
+    c.run.result.why c.run.ensures.cause
+
+pub returns-clause-limits : goal.returns-clause-limits
+returns-clause-limits g c = limits (g.F.Files.content c.args.files.now) c.args.words.now c.in-Ok.line c.in-Ok.ensures.line
+    (HasRisen (g.F.Files.faults c.args.files.now) (g.F.Files.faults c.run.new.files)) (map entry_view c.run.result.journal.items)
+    (g.O.Sink.written c.args.out.now) (g.O.Sink.written c.run.new.out) c.run.result.why c.run.ensures.cause c.run.ensures.done
+    c.run.ensures.part
+
+pub returns-clause-answer_first : goal.returns-clause-answer_first
+returns-clause-answer_first g c = λ failed.
+    first_of (g.F.Files.content c.args.files.now) c.args.words.now c.in-Ok.line c.in-Ok.ensures.line
+    (HasRisen (g.O.Sink.faults c.args.out.now) (g.O.Sink.faults c.run.new.out)) (g.O.Sink.written c.args.out.now)
+    (g.O.Sink.written c.run.new.out) (c.run.ensures.answer_first failed)
+
+pub returns-clause-order : goal.returns-clause-order
+returns-clause-order g c =
+    over_line c.args.words.now c.in-Ok.line (λ w. StopsFor (g.F.Files.content c.args.files.now) (files_of w)
+    (g.F.Files.asked c.args.files.now) (g.F.Files.asked c.run.new.files) c.run.result.why) c.in-Ok.ensures.line c.run.ensures.order
+
+pub returns-clause-none_begins : goal.returns-clause-none_begins
+returns-clause-none_begins g c = λ none. absurd (none_some none c.in-Ok.ensures.line)
+
+pub returns-clause-none_enters : goal.returns-clause-none_enters
+returns-clause-none_enters g c = λ none. absurd (none_some none c.in-Ok.ensures.line)

@@ -5,7 +5,8 @@ use Rattle.ciel_run_drive.proofs.turn.come_round.Goals as goal
 pub returns-in-Ok-Some : goal.returns-in-Ok-Some
 returns-in-Ok-Some g c =
     let circle = rw c.in-Ok-Some.field-0-is at c.in-Ok-Some.ensures.circle in
-    record { end = λ k. comes_round k c.requires.working c.requires.none_out c.in-Ok-Some.names circle }
+    let distinct = rw c.in-Ok-Some.field-0-is at c.in-Ok-Some.ensures.distinct in
+    record { end = λ k. comes_round k c.requires.working c.requires.none_out c.in-Ok-Some.names circle distinct }
 
 pub returns-in-Err : goal.returns-in-Err
 returns-in-Err g c = record { end = λ k. stops k }

@@ -4,7 +4,7 @@ use Rattle.sky_base.specs.JobView.{job_view}
 use Rattle.ciel_io.specs.Faults.{HasRisen}
 use Rattle.ciel_master.specs.Views.{entry_view}
 use Rattle.ciel_run_line.specs.Line.{files_of, paths_in}
-use Rattle.ciel_run_line.proofs.Comes.{causes, job_asks}
+use Rattle.ciel_run_line.proofs.Comes.{causes, job_asks, job_order}
 use Rattle.ciel_run_line.proofs.lines.answer_line.Goals as goal
 
 pub returns-in-Ok-clause-none : goal.returns-in-Ok-clause-none
@@ -19,3 +19,8 @@ returns-in-Ok-clause-asks g c =
     job_asks c.args.line.now (map entry_view c.answer.result.journal.items) (job_view c.in-Ok.job) c.answer.result.result
     (paths_in (files_of c.args.line.now)) (g.F.Files.asked c.args.files.now) (g.F.Files.asked c.job_of.new.files)
     c.answer.ensures.answers c.in-Ok.ensures.asked
+
+pub returns-in-Ok-clause-order : goal.returns-in-Ok-clause-order
+returns-in-Ok-clause-order g c =
+    job_order (g.F.Files.content c.args.files.now) c.args.line.now (map entry_view c.answer.result.journal.items) (job_view c.in-Ok.job)
+    c.answer.result.result (files_of c.args.line.now) (g.F.Files.asked c.args.files.now) (g.F.Files.asked c.job_of.new.files) c.answer.ensures.answers

@@ -3,8 +3,8 @@ use Rattle.std.proofs.Common.{◌≡◌, ℕ, List, ◌∷◌, Err, IfErr, map, 
 use Rattle.ciel_io.specs.Faults.{HasRisen}
 use Rattle.ciel_io.specs.Tells.{TellsPart}
 use Rattle.ciel_run_load.specs.Line.{Input, path_in}
-use Rattle.ciel_run_load.specs.Reading.{UnreadOf, AsksEach}
-use Rattle.ciel_run_load.proofs.Taken.{asks_first, asks_more, results_later, risen_before}
+use Rattle.ciel_run_load.specs.Reading.{UnreadOf, AsksEach, StopsSo}
+use Rattle.ciel_run_load.proofs.Taken.{asks_first, asks_more, results_later, risen_before, stops_first, stops_later}
 use Rattle.ciel_run_load.proofs.inputs.+read_on.Goals as goal
 
 abbrev Named : Type 0
@@ -46,3 +46,22 @@ returns-in-Err-clause-asks g t c =
     (g.F.Files.asked c.input.new.files)) (sym first)
     (asks_first Input (Unit {0}) c.in-Err.why (g.F.Files.asked c.args.files.now) (g.F.Files.asked c.input.new.files)
     (path_in c.in-Some.first.now) (map path_in c.in-Some.more.now) c.in-Err.ensures.asks)
+
+pub returns-clause-order : goal.returns-clause-order
+returns-clause-order g t c =
+    let first : c.args.inputs.now ≡ c.in-Some.first.now ∷ c.in-Some.more.now = c.in-Some.ensures.cases.0 in
+    let later = subst (λ (content : List ℕ → _). IfErr c.read_on.result
+    (StopsSo content c.in-Some.more.now (g.F.Files.asked c.input.new.files) (g.F.Files.asked c.read_on.new.files))) c.in-Ok.ensures.kept
+    c.read_on.ensures.order in
+    subst (λ (is : List Named). IfErr c.read_on.result
+    (StopsSo (g.F.Files.content c.args.files.now) is (g.F.Files.asked c.args.files.now) (g.F.Files.asked c.read_on.new.files))) (sym first)
+    (stops_later (g.F.Files.content c.args.files.now) c.in-Some.first.now c.in-Some.more.now c.in-Ok.input (g.F.Files.asked c.args.files.now)
+    (g.F.Files.asked c.input.new.files) (g.F.Files.asked c.read_on.new.files) c.read_on.result c.in-Ok.ensures.read c.in-Ok.ensures.asks later)
+
+pub returns-in-Err-clause-order : goal.returns-in-Err-clause-order
+returns-in-Err-clause-order g t c =
+    let first : c.args.inputs.now ≡ c.in-Some.first.now ∷ c.in-Some.more.now = c.in-Some.ensures.cases.0 in
+    subst (λ (is : List Named). StopsSo (g.F.Files.content c.args.files.now) is (g.F.Files.asked c.args.files.now)
+    (g.F.Files.asked c.input.new.files) c.in-Err.why) (sym first)
+    (stops_first Input (g.F.Files.content c.args.files.now) c.in-Some.first.now c.in-Some.more.now c.in-Err.why
+    (g.F.Files.asked c.args.files.now) (g.F.Files.asked c.input.new.files) c.in-Err.ensures.asks)

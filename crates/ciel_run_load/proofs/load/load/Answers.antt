@@ -5,11 +5,12 @@ use Rattle.ciel_io.specs.Tells.{Tells}
 use Rattle.sky_parse.specs.Source.{IsScript}
 use Rattle.ciel_run_load.specs.Found.{limit}
 use Rattle.ciel_run_load.specs.Line.{Input, Line, paths_of}
-use Rattle.ciel_run_load.specs.Reading.{AsksEach, ReadAll, UnreadOf, UnreadSo}
-use Rattle.ciel_run_load.specs.Loading.{AsksJob, NotLoaded, unread}
+use Rattle.ciel_run_load.specs.Reading.{AsksEach, ReadAll, StopsSo, UnreadOf, UnreadSo}
+use Rattle.ciel_run_load.specs.Loading.{AsksJob, NotLoaded, StopsJob, unread}
 use Rattle.ciel_run_load.specs.declared.load.NoJob.{NoJob}
 use Rattle.ciel_run_load.proofs.Taken.{risen_before}
-use Rattle.ciel_run_load.proofs.Loaded.{all_asked, input_asked, input_unread, loaded, script_asked, script_part, script_unread, syntax_is}
+use Rattle.ciel_run_load.proofs.Loaded.{all_asked, input_asked, input_stops, input_unread, loaded, script_asked, script_part, script_stops}
+use Rattle.ciel_run_load.proofs.Loaded.{script_unread, syntax_is}
 use Rattle.ciel_run_load.proofs.load.load.Goals as goal
 
 pub returns-in-Err-clause-refused : goal.returns-in-Err-clause-refused
@@ -82,3 +83,28 @@ returns-clause-asks g c =
     (g.F.Files.asked c.args.files.now) (g.F.Files.asked c.read.new.files) (g.F.Files.asked c.inputs.new.files)
     (subst (λ (p : List ℕ). Tells (g.F.Files.asked c.args.files.now) (g.F.Files.asked c.read.new.files) (p ∷ [])) c.in-Ok-share.ensures
     c.in-Ok-read.ensures.asks) c.in-Err-inputs.ensures.asks)
+
+pub returns-in-Err-clause-order : goal.returns-in-Err-clause-order
+returns-in-Err-clause-order g c =
+    subst (StopsJob (g.F.Files.content c.args.files.now) (record { script = c.args.path.now; inputs = c.args.named.now })
+    (g.F.Files.asked c.args.files.now) (g.F.Files.asked c.read.new.files)) (sym c.unread.ensures)
+    (script_stops (g.F.Files.content c.args.files.now) c.args.path.now c.args.named.now (List ℕ) c.in-Err.why (g.F.Files.asked c.args.files.now)
+    (g.F.Files.asked c.read.new.files)
+    (subst (λ (p : List ℕ). AsksEach {A = List ℕ} (Err c.in-Err.why) (p ∷ []) (g.F.Files.asked c.args.files.now)
+    (g.F.Files.asked c.read.new.files)) c.in-Ok-share.ensures c.in-Err.ensures.asks))
+
+pub returns-clause-order : goal.returns-clause-order
+returns-clause-order g c =
+    let found : IfSome (g.F.Files.content c.args.files.now c.args.path.now) (λ file. c.in-Ok-read.source ≡ file) =
+    subst (λ (p : List ℕ). IfSome (g.F.Files.content c.args.files.now p) (λ file. c.in-Ok-read.source ≡ file)) c.in-Ok-share.ensures
+    c.in-Ok-read.ensures.found in
+    let is = subst (λ (bytes : List ℕ). IsScript bytes c.in-Ok.keys c.in-Ok-script.script) c.as_slice.ensures c.in-Ok-script.ensures.script in
+    let order = subst (λ (content : List ℕ → Option (List ℕ)). StopsSo content c.args.named.now (g.F.Files.asked c.read.new.files)
+    (g.F.Files.asked c.inputs.new.files) c.in-Err-inputs.why) c.read.ensures.kept c.in-Err-inputs.ensures.order in
+    subst (StopsJob (g.F.Files.content c.args.files.now) (record { script = c.args.path.now; inputs = c.args.named.now })
+    (g.F.Files.asked c.args.files.now) (g.F.Files.asked c.inputs.new.files)) (sym c.unread-in-Err-inputs.ensures)
+    (input_stops (g.F.Files.content c.args.files.now) c.args.path.now c.args.named.now c.in-Err-inputs.why (g.F.Files.asked c.args.files.now)
+    (g.F.Files.asked c.read.new.files) (g.F.Files.asked c.inputs.new.files) c.in-Ok-read.source c.in-Ok.keys c.in-Ok-script.script found
+    c.in-Ok-read.ensures.within c.in-Ok.ensures is
+    (subst (λ (p : List ℕ). Tells (g.F.Files.asked c.args.files.now) (g.F.Files.asked c.read.new.files) (p ∷ [])) c.in-Ok-share.ensures
+    c.in-Ok-read.ensures.asks) order)
