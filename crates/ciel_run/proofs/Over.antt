@@ -216,7 +216,7 @@ module _ (content : List ℕ → Option (List ℕ)) (words : List (List ℕ)) (l
   endless Why.Usage c = tt
   endless (Why.Syntax kind l k) c = tt
   endless (Why.Fault fault) c = tt
-  endless (Why.Endless names) c = 
+  endless (Why.Endless names) c =
       over_line words line (λ w. OfLine content w (λ source inputs. OfJob source inputs (λ job. GoesRound w J job names))) e
       (λ source inputs st. (c.2 source inputs st).1)
   endless (Why.TooMany held None) c = tt
@@ -236,10 +236,10 @@ module _ (content : List ℕ → Option (List ℕ)) (words : List (List ℕ)) (l
   too_many (Why.Syntax kind l k) c = tt
   too_many (Why.Fault fault) c = tt
   too_many (Why.Endless names) c = tt
-  too_many (Why.TooMany held None) c = 
+  too_many (Why.TooMany held None) c =
       over_line words line (λ w. OfLine content w (λ source inputs. OfJob source inputs (λ job. HasTooMany w J job held None))) e
       (λ source inputs st. (c.1 source inputs st).1)
-  too_many (Why.TooMany held (Some given)) c = 
+  too_many (Why.TooMany held (Some given)) c =
       over_line words line (λ w. OfLine content w (λ source inputs. OfJob source inputs (λ job. HasTooMany w J job held (Some given)))) e
       (λ source inputs st. (c.1 source inputs st).1)
   too_many Why.AllLost c = tt
@@ -260,7 +260,7 @@ module _ (content : List ℕ → Option (List ℕ)) (words : List (List ℕ)) (l
   name_clash (Why.TooMany held None) c = tt
   name_clash (Why.TooMany held (Some given)) c = tt
   name_clash Why.AllLost c = tt
-  name_clash (Why.NameClash kept given) c = 
+  name_clash (Why.NameClash kept given) c =
       over_line words line (λ w. OfLine content w (λ source inputs. OfJob source inputs (λ job. Clashes w J job kept given))) e
       (λ source inputs st. (c.1 source inputs st).1)
   name_clash (Why.ReadFault path) c = tt

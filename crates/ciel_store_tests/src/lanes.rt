@@ -75,3 +75,18 @@ fn lanes_give_each_output_once(rt: HostRuntime) -> Result<(), Fail> {
     assert_eq!(rt; other, if second == 0 { 10 } else { 12 });
     Ok(())
 }
+
+// Each lane has a thread of its own here, and an output is taken at the lane that is named, whichever is done first.
+#[test]
+fn an_output_is_taken_at_its_lane(rt: HostRuntime) -> Result<(), Fail> {
+    let mut lanes = Lanes::<Doubles, HostRuntime>::open(rt, rt.alloc(), 2)?;
+    let beside = lanes.runs_beside(0) && lanes.runs_beside(1);
+    lanes.put(0, 5);
+    lanes.put(1, 6);
+    let twelve = lanes.take_at(1);
+    let ten = lanes.take_at(0);
+    assert!(rt; beside);
+    assert_eq!(rt; twelve, 12);
+    assert_eq!(rt; ten, 10);
+    Ok(())
+}

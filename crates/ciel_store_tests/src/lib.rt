@@ -6,10 +6,4 @@ mod gates;
 #[cfg(test)]
 mod lanes;
 #[cfg(test)]
-mod line_calls;
-#[cfg(test)]
-mod line_faults;
-#[cfg(test)]
-mod line_rows;
-#[cfg(test)]
 mod store;

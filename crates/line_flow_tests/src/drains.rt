@@ -1,9 +1,8 @@
 // What a drain hands out, and what is left for the end.
 
-use crate::calls::{
-    Arg, Args, Given, ONE, Outputs, are, dictionary, drain, ended, no_bytes, opened,
-};
+use crate::calls::{Given, Outputs, are, drain, ended, no_bytes, opened};
 use line_flow::flow::Flow;
+use line_kit_tests::calls::{Arg, Args, ONE, dictionary};
 use std::alloc::Global;
 use std::test::Fail;
 

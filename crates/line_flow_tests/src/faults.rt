@@ -1,6 +1,7 @@
 // Which fault comes: the flow's, and those of lines and sums at its end.
 
-use crate::calls::{Arg, Args, Given, ONE, cut, dictionary, kit};
+use crate::calls::{Given, cut, kit};
+use line_kit_tests::calls::{Arg, Args, ONE, dictionary};
 use sky_base::fault::FaultKind;
 use sky_base::value::Value;
 use std::alloc::Global;

@@ -1,6 +1,7 @@
 // What each executor gives, whatever place its inputs are cut at, with drains between and without.
 
-use crate::calls::{Arg, Args, Given, ONE, TWO, are, cut, dictionary, kit};
+use crate::calls::{Given, are, cut, kit};
+use line_kit_tests::calls::{Arg, Args, ONE, TWO, dictionary};
 use sky_base::value::Value;
 use std::alloc::Global;
 use std::test::Fail;

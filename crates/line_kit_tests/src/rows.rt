@@ -1,6 +1,7 @@
 // What each executor gives.
 
-use crate::line_calls::{Arg, Args, ONE, TWO, eight_times, gives};
+use crate::calls::{Arg, Args, ONE, TWO};
+use crate::kit::{eight_times, gives};
 use std::test::Fail;
 
 type Row = (

@@ -1,6 +1,7 @@
 // Each fault, and which of two comes.
 
-use crate::line_calls::{Arg, Args, ONE, answer, faults};
+use crate::calls::{Arg, Args, ONE};
+use crate::kit::{answer, faults};
 use line_kit::kit::LineKit;
 use sky_base::fault::FaultKind;
 use sky_base::kit::Kit;
