@@ -243,17 +243,17 @@ pub data_none : (bs : List ℕ) → NoneRead most_depth bs → NoData bs
 data_none bs n v d e = n v [] d.spelled d.kept.deep (sym e ∙ sym (append-nil (bytes v)))
 
 -- where a value stands in front, no other has all the bytes
-the_value : (bs : List ℕ) (v : Val (List ℕ)) (rest : List ℕ) (w : Val (List ℕ)) → Read most_depth bs v rest → IsData w → bytes w ≡ bs → (v ≡ w)
-    × (rest ≡ [])
-the_value bs v rest w r d e =
-    val_free v w rest [] r.1.0 d.spelled (sym r.0 ∙ sym e ∙ sym (append-nil (bytes w)))
+pub the_value : (bs : List ℕ) (v : Val (List ℕ)) (rest : List ℕ) (w : Val (List ℕ)) → Read most_depth bs v rest → Spelled w → bytes w ≡ bs
+    → (v ≡ w) × (rest ≡ [])
+the_value bs v rest w r p e =
+    val_free v w rest [] r.1.0 p (sym r.0 ∙ sym e ∙ sym (append-nil (bytes w)))
 
 pub data_more : (bs : List ℕ) (v : Val (List ℕ)) (rest : List ℕ) → Read most_depth bs v rest → (rest ≡ [] → ⊥) → NoData bs
-data_more bs v rest r n w d e = n (the_value bs v rest w r d e).1
+data_more bs v rest r n w d e = n (the_value bs v rest w r d.spelled e).1
 
 pub data_large : (bs : List ℕ) (v : Val (List ℕ)) (rest : List ℕ) → Read most_depth bs v rest → most_size < size v → NoData bs
 data_large bs v rest r n w d e =
-    let same = (the_value bs v rest w r d e).0 in
+    let same = (the_value bs v rest w r d.spelled e).0 in
     let small : size v ≤ most_size = subst (λ x. size x ≤ most_size) (sym same) d.kept.large in
     absurd (omega (arith, n, small))
 

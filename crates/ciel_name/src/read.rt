@@ -1,10 +1,11 @@
 // Bytes read as values. Each value has one spelling, so bytes that are no value's spelling are refused, and a name or
 // a mark can't be given to two ways of writing one value. The calls nest no deeper than a value may.
 
-ghost use Rattle.std.specs.Prelude.{◌≡◌, ◌<◌, IfOk, IfErr};
+ghost use Rattle.std.specs.Prelude.{◌≡◌, ◌<◌, IfOk, IfErr, ℕ, List};
 ghost use Rattle.sky_base.specs.Name.{bytes};
+ghost use Rattle.sky_base.specs.Val.{Val};
 ghost use Rattle.sky_base.specs.View.{view, pairs_of};
-ghost use Rattle.ciel_name.specs.Spelled.{IsData, NoData, Refuses, Read, NoneRead, TextRead, NoTextRead};
+ghost use Rattle.ciel_name.specs.Spelled.{Spelled, IsData, NoData, Refuses, Read, NoneRead, TextRead, NoTextRead};
 ghost use Rattle.ciel_name.specs.Bodies.{BodyRead, NoBody, ItemsRead, NoItems, PairsRead, NoPairs, is_above};
 
 use crate::reader::Reader;
@@ -16,7 +17,8 @@ use sky_base::value::{MOST_DEPTH, Pair, Pairs, Vals, Value};
 use std::alloc::Global;
 use std::str;
 
-/// The value that has these bytes.
+/// The value that has these bytes. It is the inverse of `encode`: what was written for a value that keeps the limits is
+/// read as this very value.
 ///
 /// Answers `NotValue` exactly where no value has them that keeps the limits of depth and size: where they end too early
 /// or something follows, no kind has the first byte of a value, a text isn't UTF-8, keys don't rise, a function with a
@@ -25,6 +27,7 @@ use std::str;
 pub fn decode(alloc: Global, encoded: &[u8]) -> Result<Value, Decode>
     ensures value { IfOk result (λ v. bytes (view v) ≡ encoded.now) }
     ensures data { IfOk result (λ v. IsData (view v)) }
+    ensures inverse { IfOk result (λ v. (w : Val (List ℕ)) → Spelled w → bytes w ≡ encoded.now → view v ≡ w) }
     ensures refused { IfErr result (λ e. Refuses e (NoData encoded.now)) }
 {
     let mut reader = Reader::new(encoded);

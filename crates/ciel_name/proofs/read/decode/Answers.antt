@@ -4,7 +4,7 @@ use Rattle.std.proofs.lemmas.Bool.{false≢true}
 use Rattle.sky_base.specs.Val.{most_size, size}
 use Rattle.sky_base.specs.View.{view}
 use Rattle.ciel_name.specs.Spelled.{NoData}
-use Rattle.ciel_name.proofs.DecodeSteps.{refuses_more, data_none, data_more, data_large}
+use Rattle.ciel_name.proofs.DecodeSteps.{refuses_more, the_value, data_none, data_more, data_large}
 use Rattle.ciel_name.proofs.read.decode.Goals as goal
 
 pub returns-in-Err-clause-refused : goal.returns-in-Err-clause-refused
@@ -21,3 +21,7 @@ returns-then-is_too_large-clause-refused c =
     let large : most_size < size (view c.in-Ok.value) =
     ltb-true most_size (size (view c.in-Ok.value)) (sym c.is_too_large.ensures ∙ c.if-is_too_large.true) in
     subst NoData c.new-reader.ensures (data_large c.new-reader.result (view c.in-Ok.value) c.read_value.new.reader c.in-Ok.ensures.value large)
+
+pub returns-clause-inverse : goal.returns-clause-inverse
+returns-clause-inverse c w p e =
+    (the_value c.new-reader.result (view c.in-Ok.value) c.read_value.new.reader w c.in-Ok.ensures.value p (e ∙ sym c.new-reader.ensures)).0
