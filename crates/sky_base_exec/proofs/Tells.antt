@@ -25,14 +25,6 @@ only-self rows d u os k o e = inl e
 pub room-self : (rows : List Row) (os : List (Option Obj)) → InRoom rows os os
 room-self rows os m a b = a
 
--- only places with no object at the end
-
-pub keeps-same : (a b : List (Option Obj)) → ((k : ℕ) → object_at b k ≡ object_at a k) → Keeps a b
-keeps-same a b h k o e = h k ∙ e
-
-pub only-same : (rows : List Row) (d : Row) (u : Obj) (a b : List (Option Obj)) → ((k : ℕ) → object_at b k ≡ object_at a k) → OnlyOf rows d u a b
-only-same rows d u a b h k o e = inl (sym (h k) ∙ e)
-
 -- ---- a description that isn't held, and one whose object is known
 
 no_true : (b : Bool) → b ≡ false → b ≡ true → ⊥
@@ -127,7 +119,7 @@ module _ (rows : List Row) (x : List ℕ) (v : Val (List ℕ)) (n : ℕ) where
         go (inl h) = only-less m (m + 1) a b (omega arith) only k o h
         go (inr (at, is)) = inr (m, omega arith, at, is)
 
-pub ruleset puts = (keeps-self, only-self, room-self, keeps-same, only-same, known-none, known-here, keeps-with, only-with, known-with, room-with)
+pub ruleset puts = (keeps-self, only-self, room-self, known-none, known-here, keeps-with, only-with, known-with, room-with)
 
 -- ---- an output
 

@@ -5,7 +5,6 @@ use Rattle.std.specs.Option.{option_map}
 use Rattle.std.proofs.lemmas.List.{length-map}
 use Rattle.sky_base.specs.ObjectView.{object_view}
 use Rattle.sky_base.specs.declared.object.Object.{Object}
-use Rattle.sky_base_known.specs.Walk as known
 use Rattle.sky_base_known.specs.Walk.{number_of, from_digits, object_at}
 use Rattle.sky_base_known.specs.Walk.{Obj}
 use Rattle.sky_base_known.specs.Known.{with_object, KeptOption, KeptObjects, KeptObject}
@@ -64,14 +63,6 @@ object_pad [] (suc k) o h = refl
 object_pad (x ∷ os) zero o h = absurd (omega arith)
 object_pad (x ∷ os) (suc k) o h = ap (λ r. option_map object_view x ∷ r) (object_pad os k o (omega arith))
 
--- a place with no object in it changes no number's object
-pub pad_at : (os : List (Option Object)) (k : ℕ) → object_at (map (option_map object_view) (os ++ None ∷ [])) k
-    ≡ object_at (map (option_map object_view) os) k
-pad_at [] zero = refl
-pad_at [] (suc k) = refl
-pad_at (x ∷ os) zero = refl
-pad_at (x ∷ os) (suc k) = pad_at os k
-
 pub object_set : (os : List (Option Object)) (k : ℕ) (o : Object) → k < length os → map (option_map object_view) (set os k (Some o))
     ≡ with_object k (object_view o) (map (option_map object_view) os)
 object_set [] k o h = absurd (omega arith)
@@ -84,4 +75,4 @@ kept_set [] k o a h = tt
 kept_set (x ∷ os) zero o a h = (a, h.1)
 kept_set (x ∷ os) (suc k) o a h = (h.0, kept_set os k o a h.1)
 
-pub ruleset knowns = (known_past, known_here, kept_object_at, kept_push, object_pad, pad_at, object_set, kept_set)
+pub ruleset knowns = (known_past, known_here, kept_object_at, kept_push, object_pad, object_set, kept_set)

@@ -80,13 +80,12 @@ impl Objects {
         }
     }
 
-    /// Puts an object under a number. After `Memory` each number still has the object that it had, if it had one; the list
-    /// that contracts see may have more places with none at its end.
+    /// Puts an object under a number. After `Memory` the objects are as they were.
     #[tactic(auto, using(crate::proofs::KnownAt::knowns))]
     pub fn set(&mut self, number: u32, object: Object) -> Result<(), Memory>
         requires { KeptObject (object_view object) }
         ensures put { IfOk result (λ _. self.new ≡ with_object number (object_view object) self.old) }
-        ensures err { IfErr result (λ _. (k : ℕ) → object_at self.new k ≡ object_at self.old k) }
+        ensures err { IfErr result (λ _. self.new ≡ self.old) }
     {
         let at = number as usize;
         let Ok(()) = pad(&mut self.items, at + 1) else {
@@ -97,19 +96,20 @@ impl Objects {
     }
 }
 
-// Puts places at the end, with no object in them, until there are so many. Each number keeps its object.
+// Puts places at the end, with no object in them, until there are so many. Each number keeps its object; after `Memory`
+// the places are as they were.
 fn pad(items: &mut Vec<Option<Object>>, count: usize) -> Result<(), Memory>
     ensures long { IfOk result (λ _. count ≤ length items.new.items) }
     ensures same { IfOk result (λ _. (k : ℕ) (o : Obj) → k + 1 ≡ count → with_object k o (map (option_map object_view) items.new.items)
         ≡ with_object k o (map (option_map object_view) items.old.items)) }
-    ensures places { (k : ℕ) → object_at (map (option_map object_view) items.new.items) k
-        ≡ object_at (map (option_map object_view) items.old.items) k }
+    ensures err { IfErr result (λ _. items.new.items ≡ items.old.items) }
     ensures kept { KeptObjects (map (option_map object_view) items.old.items) → KeptObjects (map (option_map object_view) items.new.items) }
 {
+    let Ok(()) = items.reserve(count.saturating_sub(items.len())) else {
+        return Err(Memory)
+    };
     while items.len() < count {
-        let Ok(()) = items.push(None) else {
-            return Err(Memory)
-        };
+        items.push_reserved(None);
     }
     Ok(())
 }

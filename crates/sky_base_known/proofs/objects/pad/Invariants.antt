@@ -1,7 +1,7 @@
-use Rattle.std.proofs.Common.{◌≡◌, ◌+◌, ◌-◌, ℕ, map, length}
+use Rattle.std.proofs.Common.{◌≡◌, ◌≤◌, ◌+◌, ◌-◌, ℕ, map, length}
 use Rattle.std.specs.Option.{option_map}
+use Rattle.std.specs.Vec.{vec_capacity}
 use Rattle.sky_base.specs.ObjectView.{object_view}
-use Rattle.sky_base_known.specs.Walk.{object_at}
 use Rattle.sky_base_known.specs.Known.{with_object, KeptObjects}
 use Rattle.sky_base_known.specs.Walk.{Obj}
 use Rattle.sky_base_known.proofs.objects.pad.Given as goal
@@ -9,9 +9,9 @@ use Rattle.sky_base_known.proofs.objects.pad.Given as goal
 abbrev pub invariant-loop-items : goal.invariant-loop-items
 invariant-loop-items l = record {
   same : (k : ℕ) (o : Obj) → k + 1 ≡ l.count → with_object k o (map (option_map object_view) l.items.items)
-      ≡ with_object k o (map (option_map object_view) l.initial.items.items);
-  places : (k : ℕ) → object_at (map (option_map object_view) l.items.items) k ≡ object_at (map (option_map object_view) l.initial.items.items) k;
-  kept : KeptObjects (map (option_map object_view) l.initial.items.items) → KeptObjects (map (option_map object_view) l.items.items);
+      ≡ with_object k o (map (option_map object_view) l.fn.items.items);
+  room : l.count ≤ vec_capacity l.items;
+  kept : KeptObjects (map (option_map object_view) l.fn.items.items) → KeptObjects (map (option_map object_view) l.items.items);
 }
 
 abbrev pub decreases-loop-items : goal.decreases-loop-items
