@@ -76,7 +76,8 @@ impl<K: Kit + Drop, N: Namer + Drop, G: Gate, R: Wait + Drop> Work for Performin
 
 /// Performs an order with its worker's gate and eye.
 ///
-/// Answers `Memory` for want of memory.
+/// Answers `Memory` for want of memory. The gate has entered the task then too, and the eye is as it was. What was copied or made may lie
+/// on the worker's shelf, where no report names it.
 pub fn performed<K: Kit, N: Namer, G: Gate, R: Wait>(
     rt: &R,
     alloc: Global,

@@ -48,7 +48,8 @@ pub struct Ran {
 /// Runs a job on as many workers as the plan has, each with its gate, to the end of the run. Each of several workers is a thread; where
 /// there is one, orders are performed in the caller's. The first gates are the workers', and the others stay as they are.
 ///
-/// There are 1 to 64 workers. The end is `Memory` for want of memory; the gates may then be fewer.
+/// There are 1 to 64 workers. The end is `Memory` for want of memory. The workers' gates may then have entered tasks, and the others may be
+/// gone.
 pub fn run_job<K, N, G, R>(
     rt: R,
     alloc: Global,
@@ -96,7 +97,8 @@ where
 
 /// The same in the caller's thread alone, for any number of workers: each order is performed where it is sent.
 ///
-/// There are 1 to 64 workers. The end is `Memory` for want of memory; the gates may then be fewer.
+/// There are 1 to 64 workers. The end is `Memory` for want of memory. The workers' gates may then have entered tasks, and the others may be
+/// gone.
 pub fn run_inline<K, N, G, R>(
     rt: R,
     alloc: Global,

@@ -30,7 +30,8 @@ use std::sync::Wait;
 /// A call or the root task goes on from its saved stack or from its start, through every wait whose objects the order brings along, up
 /// to its end or to the first other wait, where it is frozen. An executor's task is run once on its inputs.
 ///
-/// Answers `Memory` for want of memory.
+/// Answers `Memory` for want of memory. The eye is then as it was. What was copied or made may lie on the worker's shelf, where no report
+/// names it.
 pub fn perform<K: Kit, N: Namer, G: Gate, R: Wait>(
     rt: &R,
     alloc: Global,

@@ -30,8 +30,8 @@ pub enum Begun {
 
 /// The state from which the task of an order goes on, which is a call or the root task.
 ///
-/// Answers `Memory` for want of memory.
-pub fn begin<K, N: Namer>(
+/// Answers `Memory` for want of memory. The eye is then as it was.
+pub(crate) fn begin<K, N: Namer>(
     alloc: Global,
     shop: &Shop<K, N>,
     order: &Order,

@@ -29,7 +29,8 @@ pub struct Lost {
 }
 
 /// The objects that an order brings along, by the places of their names, for the worker that performs it; and what was copied to that
-/// worker's shelf so far.
+/// worker's shelf so far. Where `find` answers `Memory`, it is as `bring_once` says: the eye is as it was, and what was copied may only be
+/// dropped.
 #[derive(Drop)]
 pub struct Brought<'a, R> {
     pub rt: &'a R,

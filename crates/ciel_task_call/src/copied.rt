@@ -49,7 +49,8 @@ impl Copied {
 /// The object that an order has of this name, for a worker. Where it lies on another worker's shelf and wasn't copied yet it is put on
 /// the own one too, and named at the end of what was copied. Where it is lost nothing is named.
 ///
-/// Answers `Memory` for want of memory.
+/// Answers `Memory` for want of memory. The eye is then as it was. What was copied may have one copy more, whose place isn't noted, and may
+/// only be dropped; a copy that nothing names may lie on the worker's shelf.
 pub fn bring_once<R: Wait>(
     rt: &R,
     job: &ReadyJob,

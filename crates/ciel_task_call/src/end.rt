@@ -26,7 +26,7 @@ use std::sync::Wait;
 
 /// The end of a run that came to this step, with the state after it: an object or a stack is put on the worker's shelf.
 ///
-/// Answers `Memory` for want of memory.
+/// Answers `Memory` for want of memory. An object that nothing names may then lie on the worker's shelf.
 pub fn end_of<R: Wait>(
     rt: &R,
     alloc: Global,

@@ -41,7 +41,8 @@ use std::sync::Wait;
 /// brings along, up to its end or the first other wait. An object, or the stack of that wait, is put on the worker's shelf and told in
 /// the report.
 ///
-/// Answers `Memory` for want of memory.
+/// Answers `Memory` for want of memory. The eye is then as it was. Copies, and the object of the call, may lie on the worker's shelf, where
+/// no report names them.
 pub fn run_task<K: Kit, N: Namer, R: Wait>(
     rt: &R,
     alloc: Global,

@@ -50,7 +50,7 @@ pub trait Crew {
 
     /// Sends an order to its worker, which has none.
     ///
-    /// Answers `Memory` for want of memory.
+    /// Answers `Memory` for want of memory. The order is then gone, and the crew can only be closed.
     fn send(&mut self, order: Order) -> Result<(), Memory>
         requires sound { is_sound self.old ≡ true }
         requires worker { order.worker < length (out self.old) }
@@ -67,7 +67,7 @@ pub trait Crew {
     /// Says that the order, which is sent next, makes what this executor's task reads, so that a crew may begin on it meanwhile. It
     /// changes nothing that is promised, and does nothing where a crew has no use for it.
     ///
-    /// Answers `Memory` for want of memory.
+    /// Answers `Memory` for want of memory. The crew can then only be closed.
     fn hint(&mut self, order: &Order, consumer: &Desc1) -> Result<(), Memory>
         requires sound { is_sound self.old ≡ true }
         requires reach { LeadsTo Self.N.digest (shop self.old) order.now consumer.now }
@@ -85,7 +85,7 @@ pub trait Crew {
 
     /// The report of an order that is out. That of each order is given once.
     ///
-    /// Answers `Memory` for want of memory.
+    /// Answers `Memory` for want of memory. The crew can then only be closed.
     fn next(&mut self) -> Result<Report, Memory>
         requires sound { is_sound self.old ≡ true }
         requires out { IsOut (out self.old) }

@@ -46,8 +46,8 @@ pub enum Found {
 
 /// Gathers what the names in the arguments refer to, for a worker.
 ///
-/// Answers `Memory` for want of memory.
-pub fn find_inputs<R: Wait>(
+/// Answers `Memory` for want of memory. The eye is then as it was. Copies that nothing names may lie on the worker's shelf.
+pub(crate) fn find_inputs<R: Wait>(
     rt: &R,
     alloc: Global,
     job: &ReadyJob,

@@ -41,7 +41,8 @@ use std::sync::Wait;
 /// them in order, each with its mark, and what was copied to that shelf; or the first name in the arguments whose object lay at a worker
 /// that is lost.
 ///
-/// Answers `Memory` for want of memory.
+/// Answers `Memory` for want of memory. The eye is then as it was. Copies and outputs may lie on the worker's shelf, where no report names
+/// them.
 pub fn run_order<K: Kit, N: Namer, R: Wait>(
     rt: &R,
     alloc: Global,
@@ -82,7 +83,7 @@ pub fn run_order<K: Kit, N: Namer, R: Wait>(
 
 /// Gathers what an executor's order reads.
 ///
-/// Answers `Memory` for want of memory.
+/// Answers `Memory` for want of memory. The eye is then as it was. Copies that nothing names may lie on the worker's shelf.
 pub fn find_order<K: Kit, N: Namer, R: Wait>(
     rt: &R,
     alloc: Global,
@@ -118,7 +119,7 @@ pub fn find_order<K: Kit, N: Namer, R: Wait>(
 /// Puts the outputs of an executor's order on the worker's shelf and reports them: those that its executor gives for what the order brings
 /// along, whoever made them.
 ///
-/// Answers `Memory` for want of memory.
+/// Answers `Memory` for want of memory. Some of the outputs may then lie on the worker's shelf, where no report names them.
 pub fn tell<K: Kit, N: Namer, R: Wait>(
     rt: &R,
     alloc: Global,

@@ -25,7 +25,7 @@ use std::sync::Wait;
 
 /// Puts the outputs of a task on a worker's shelf, in order, each with its name and its mark.
 ///
-/// Answers `Memory` for want of memory.
+/// Answers `Memory` for want of memory. Some of them may then lie on the shelf, where nothing names them.
 pub(crate) fn publish<N: Namer, R: Wait>(
     rt: &R,
     alloc: Global,

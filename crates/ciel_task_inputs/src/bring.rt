@@ -20,7 +20,8 @@ use std::sync::Wait;
 /// The object that lies there, for a worker. Where it lay on another worker's shelf it is put on the own one too, and named at the end
 /// of what was copied.
 ///
-/// Answers `Memory` for want of memory.
+/// Answers `Memory` for want of memory. The eye and the list of what was copied are then as they were. A copy that nothing names may lie on
+/// the worker's shelf.
 pub fn bring<R: Wait>(
     rt: &R,
     job: &ReadyJob,

@@ -18,7 +18,7 @@ use sky_base::text::Memory;
 /// The object that lies there: one on a worker's shelf, which is shared and not copied, or an input of the job; or the loss of the
 /// worker at whose shelf it lies, where that was marked. An eye that has seen a loss of that worker gets that loss again.
 ///
-/// Answers `Memory` for want of memory.
+/// Answers `Memory` for want of memory. The eye is then as it was.
 pub fn fetch(
     job: &ReadyJob,
     shelves: &Shelves<Block>,

@@ -35,7 +35,8 @@ pub enum Gathered {
 /// The objects of these names, each of which is brought along, for a worker, up to the first that is lost. What lay on other workers'
 /// shelves is put on the own one too, and named at the end of what was copied.
 ///
-/// Answers `Memory` for want of memory.
+/// Answers `Memory` for want of memory. The eye is then as it was. Of the first names what lay on other workers' shelves is put on the own
+/// one and named at the end of what was copied already. One copy more, which nothing names, may lie there.
 pub fn gather<R: Wait>(
     rt: &R,
     alloc: Global,
