@@ -1,7 +1,7 @@
 //! The marks: which nodes are wanted, which wait for which rows, and which can run.
 
 ghost use Rattle.std.specs.Prelude.{◌^◌, ◌&&◌, ◌||◌, nat_eq, not, ◌≡◌, ◌↔◌, ◌≤◌, ◌<◌, ◌+◌, ◌++◌, ◌∷◌, [], ℕ, true, false};
-ghost use Rattle.std.specs.Prelude.{IfOk, IfSome, MatchOption, None, Ok, OnOk, Option, Some, length, slice_get, slice_set, is_some};
+ghost use Rattle.std.specs.Prelude.{IfOk, IfSome, MatchOption, None, Ok, OnErr, OnOk, Option, Some, length, slice_get, slice_set, is_some};
 ghost use Rattle.ciel_journal.specs.Job.{In};
 ghost use Rattle.ciel_want_marks.specs.Lists.{Rising, at, entry, flag};
 ghost use Rattle.ciel_want_marks.specs.Marks.{Active, MarksSeen};
@@ -258,7 +258,8 @@ impl Marks {
 
     /// Looks at the needs of a node that is wanted and not out. `rows` are those of the names that it waits for and aren't live.
     ///
-    /// Answers `Memory` for want of memory. The node is neither listed nor waits for a row then: the marks may be wrong.
+    /// Answers `Memory` for want of memory. Some of the nodes that make the rows may be wanted then, and `rows`, or the first of them, may be
+    /// kept as what the node lacks; but the node is put neither into the list nor among those that wait for a row. So the marks may be wrong.
     pub fn count(&mut self, node: u32, rows: Numbers) -> Result<(), Memory>
         ensures same { OnOk result (SameGraph self.old self.new) }
         ensures stands { OnOk result (LooksAt node rows self.old self.new) }
@@ -302,7 +303,9 @@ impl Marks {
     /// A row became live. False exactly where it has no maker, or its maker is wanted and not out: the marks stay as they were, which may
     /// be wrong then.
     ///
-    /// Answers `Memory` for want of memory. Some nodes that wait for the row may be left out then: the marks may be wrong.
+    /// Answers `Memory` for want of memory. The row is live then, its maker is marked as one that made a row live, and nobody waits for the
+    /// row any more. Of the nodes that waited for it some may have gone on, and some are neither in the list nor wait for another row: the
+    /// marks may be wrong.
     pub fn place(&mut self, row: u32) -> Result<bool, Memory>
         ensures placed { IfOk result (λ fits. fits ≡ true → Placed row self.old self.new) }
         ensures right { IfOk result (λ fits. fits ≡ true → PlacesRight row self.old self.new) }
@@ -392,15 +395,22 @@ impl Marks {
         true
     }
 
-    /// A node is out no longer. What it waits for is still to be looked at then, if it isn't at its end: that is a search. False exactly
-    /// where it is wanted and isn't the root, and some row that it makes became live, and another one isn't: the marks may be wrong then.
+    /// A node is out no longer. If it isn't wanted, that is all. If it is the root, or no row that it makes became live, it goes on: its needs
+    /// are put among those that are to be looked at, and looking at them is a search (`next_open`, `count`). Else it is wanted no longer,
+    /// where all rows that it makes are live: it came to its end.
     ///
-    /// Answers `Memory` for want of memory. The node is out no longer then, and isn't looked at: the marks may be wrong.
+    /// False exactly where it is wanted and isn't the root, and some row that it makes became live, and another one isn't live. It is out no
+    /// longer then too, and nothing else changes, so the marks may be wrong.
+    ///
+    /// Answers `Memory` for want of memory. The node is out no longer then, and nothing else changes: its needs aren't put among those that
+    /// are to be looked at, so the marks may be wrong.
     pub fn close(&mut self, node: u32) -> Result<bool, Memory>
         ensures out { OnOk result (self.new.out ≡ slice_set self.old.out node false) }
         ensures graph { OnOk result ((self.new.live ≡ self.old.live) × (self.new.makers ≡ self.old.makers)) }
         ensures stands { IfOk result (λ fits. fits ≡ true → ClosesRight node self.old self.new) }
         ensures cause { IfOk result (λ fits. (fits ≡ false) ↔ EndsPartly node self.old) }
+        ensures partly { IfOk result (λ fits. fits ≡ false → self.new ≡ record self.old { out = slice_set self.old.out node false }) }
+        ensures kept { OnErr result (self.new ≡ record self.old { out = slice_set self.old.out node false }) }
     {
         self.set_out(node, false);
         if !self.is_wanted(node) {
@@ -433,7 +443,8 @@ impl Marks {
 
     // The needs of a node are to be looked at.
     fn open(&mut self, node: u32) -> Result<(), Memory>
-        ensures { OnOk result (self.new ≡ record self.old { todo = self.old.todo ++ node ∷ [] }) }
+        ensures opened { OnOk result (self.new ≡ record self.old { todo = self.old.todo ++ node ∷ [] }) }
+        ensures kept { OnErr result (self.new ≡ self.old) }
     {
         self.todo.push(node)
     }
@@ -473,7 +484,8 @@ impl Marks {
     /// One row more, at the end, which nobody waits for yet. False exactly where it is made by no node and isn't live, or another row is
     /// made by no node: the marks stay as they were, which may be wrong then.
     ///
-    /// Answers `Memory` for want of memory. Only some of the lists may have the row then: the marks are of no use.
+    /// Answers `Memory` for want of memory. Some of the lists may have the row then and others not, and it may be missing among the rows
+    /// that its maker makes. The marks may only be dropped then.
     pub fn add(&mut self, live: bool, maker: Option<u32>) -> Result<bool, Memory>
         requires few { length self.old.live < 2 ^ 32 }
         ensures right { IfOk result (λ fits. fits ≡ true → AddsRight live maker self.old self.new) }

@@ -1,6 +1,6 @@
 //! Lists of numbers.
 
-ghost use Rattle.std.specs.Prelude.{◌≡◌, ◌++◌, ◌∷◌, [], MatchOption, OnOk};
+ghost use Rattle.std.specs.Prelude.{◌≡◌, ◌++◌, ◌∷◌, [], MatchOption, OnErr, OnOk};
 ghost use Rattle.ciel_want_marks.specs.Lists.{Settled, flag};
 
 use crate::lists::flag;
@@ -34,9 +34,10 @@ impl Numbers {
 
     /// Puts a number at the end.
     ///
-    /// Answers `Memory` for want of memory.
+    /// Answers `Memory` for want of memory. The list is then as it was.
     pub fn push(&mut self, number: u32) -> Result<(), Memory>
-        ensures { OnOk result (self.new ≡ self.old ++ number ∷ []) }
+        ensures pushed { OnOk result (self.new ≡ self.old ++ number ∷ []) }
+        ensures kept { OnErr result (self.new ≡ self.old) }
     {
         match self.items.push(number) {
             Ok(()) => Ok(()),

@@ -65,7 +65,7 @@ impl RisingNumbers {
 
     /// Puts a number in, if it isn't there.
     ///
-    /// Answers `Memory` for want of memory.
+    /// Answers `Memory` for want of memory. The list is then as it was.
     pub(crate) fn insert(&mut self, number: u32) -> Result<(), Memory>
         ensures { OnOk result (HasAlso number self.old self.new) }
     {

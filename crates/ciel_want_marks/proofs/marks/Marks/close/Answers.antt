@@ -21,7 +21,7 @@ returns-then-goes_on-clause-stands c =
     let n = c.set_out.new.self in
     let z = sym c.goes_on.ensures ∙ c.if-goes_on.true in
     let t = open_why u (flag m.touched u) (subst (λ (x : MarksSeen). nat_eq u 0 || not (flag x.touched u) ≡ true) c.set_out.ensures z) in
-    let p = c.in_ok-open.ensures ∙ ap (λ (x : MarksSeen). record x { todo = x.todo ++ u ∷ [] }) c.set_out.ensures in
+    let p = c.in_ok-open.ensures.opened ∙ ap (λ (x : MarksSeen). record x { todo = x.todo ++ u ∷ [] }) c.set_out.ensures in
     subst (λ x. Stands x needs [] []) (sym p) (closes_open m u needs r was t)
 
 pub returns-clause-stands : goal.returns-clause-stands
