@@ -2,7 +2,7 @@
 use Rattle.std.proofs.Common.{◌≡◌, ◌≤◌, ◌<◌, ◌+◌, ◌-◌, ◌^◌, max, ℕ, zero, suc, ℤ, List, [], ◌∷◌, ◌++◌, Bool, true, false, nat_eq, length, refl, ap}
 use Rattle.std.proofs.Common.{ap₂, sym, ◌∙◌, subst, arith, append_assoc, length-append, append-nil, FitsSigned, IsUtf8, ◌⊎◌, inl, inr}
 use Rattle.sky_base.specs.Val.{Val, Vals, Pairs, Desc, null, truth, num, text, list, dict, fun, ref, no_vals, val, no_pairs, pair, known, count}
-use Rattle.sky_base.specs.Val.{pair_count, depth, depths, pair_depths, add_val, Rising, most_depth, most_size, size, sizes, pair_sizes}
+use Rattle.sky_base.specs.Val.{pair_count, depth, depths, pair_depths, add_val, Rising, most_depth, most_size, size}
 use Rattle.sky_base.specs.Name.{bytes, vals_bytes, pairs_bytes, bytes_of_int, bytes_of_text, big_endian, is_anonymous, held_name}
 use Rattle.ciel_name.specs.declared.refusal.Decode.{Decode}
 use Rattle.ciel_name.specs.Spelled.{IsText, IsName, CapturesSo, Spelled, AllSpelled, PairsSpelled, Refuses, Read, NoneRead, TextRead, NoTextRead}

@@ -1,7 +1,6 @@
 -- What was read, and what can't be read, at each end of the reading functions.
-use Rattle.std.proofs.Common.{◌≡◌, ◌<◌, ◌+◌, ◌-◌, suc, true, false, ap, sym, ◌∙◌, subst, arith, length, ltb-true}
-use Rattle.std.proofs.lemmas.Result.{IfErr-weaker, IfOk-weaker}
-use Rattle.sky_base.specs.Val.{Val, Pairs, add_val, size, sizes, pair_sizes, most_size}
+use Rattle.std.proofs.Common.{◌≡◌, ◌<◌, ◌+◌, ◌-◌, true, false, ap, sym, ◌∙◌, subst, arith, ltb-true}
+use Rattle.sky_base.specs.Val.{add_val, size, sizes, pair_sizes, most_size}
 use Rattle.sky_base.specs.Op.{put}
 use Rattle.sky_base.specs.View.{view}
 use Rattle.ciel_name.specs.Bodies.{ItemsRead, PairsRead, is_above}
