@@ -1,7 +1,7 @@
 -- The list of the parts of nodes, as it grows.
 use Rattle.std.proofs.Common.{◌≡◌, ◌<◌, ◌≤◌, ℕ, zero, suc, ◌+◌, List, [], ◌∷◌, ◌++◌, ◌⊎◌, inl, inr, length, length-append, append-nil, append_assoc, slice_index, refl, sym, ap}
 use Rattle.std.proofs.Common.{◌∙◌, subst, arith}
-use Rattle.sky_machine_code.specs.Parts.{Chain, Stand, PartsAt}
+use Rattle.sky_machine_code.specs.Parts.{Chain, PartsAt}
 use Rattle.sky_machine_numbers.specs.Listed.{Listed}
 
 -- ---- the parts of one node

@@ -1,4 +1,4 @@
-use Rattle.std.proofs.Common.{◌≡◌, ◌-◌, ◌+◌, ℕ, length, ltb-true, ltb-false, sym, subst, arith}
+use Rattle.std.proofs.Common.{◌-◌, ◌+◌, ℕ, length, ltb-true, ltb-false, sym, subst, arith}
 use Rattle.std.specs.List.Sorted.{IsNonDecreasing}
 use Rattle.sky_base_law.specs.Nodes.{node_at}
 use Rattle.sky_machine_code.proofs.BlockParts.{begins_sorted}

@@ -1,4 +1,4 @@
-use Rattle.std.proofs.Common.{◌+◌, subst, sym, arith, slice_index}
+use Rattle.std.proofs.Common.{◌+◌, subst, arith}
 use Rattle.sky_machine_numbers.specs.Listed.{Listed}
 use Rattle.sky_machine_numbers.proofs.PartsLemmas.{begun_all}
 use Rattle.sky_machine_numbers.proofs.parts.list_parts_of.Goals as goal

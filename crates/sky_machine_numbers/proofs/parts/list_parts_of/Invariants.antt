@@ -1,4 +1,4 @@
-use Rattle.std.proofs.Common.{◌+◌, ◌-◌, slice_index}
+use Rattle.std.proofs.Common.{◌+◌, ◌-◌}
 use Rattle.sky_machine_numbers.proofs.PartsLemmas.{Begun}
 use Rattle.sky_machine_numbers.proofs.parts.list_parts_of.Given as goal
 
