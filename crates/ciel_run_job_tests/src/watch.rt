@@ -75,6 +75,14 @@ impl Watch {
         }
     }
 
+    // Whether this task was entered, and is not left yet.
+    fn is_inside(&self, task: &TaskId) -> bool {
+        match &self.inside {
+            Some(inside) => *inside == *task,
+            None => false,
+        }
+    }
+
     /// Whether so many tasks came by, each of them entered and then left, and no other meanwhile.
     pub(crate) fn has_seen(&self, tasks: u64) -> bool {
         !self.astray && self.inside.is_none() && self.enters == tasks && self.leaves == tasks
@@ -96,9 +104,8 @@ impl Gate for Watch {
     }
 
     fn leave(&mut self, task: &TaskId) {
-        match self.inside {
-            Some(inside) if inside == *task => {}
-            _ => self.astray = true,
+        if !self.is_inside(task) {
+            self.astray = true;
         }
         self.inside = None;
         self.leaves = self.leaves.saturating_add(1);
