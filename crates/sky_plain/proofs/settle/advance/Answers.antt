@@ -8,5 +8,5 @@ if_ok (Err e) P Q f h = tt
 
 pub returns-in-Exec-clause-step : goal.returns-in-Exec-clause-step
 returns-in-Exec-clause-step g c =
-    if_ok c.executed.result _ _ (λ s h. h c.in-Exec.index.now
+    if_ok c.executed.result _ _ (λ s h. h c.in-Exec.index
     (c.desc.ensures ∙ ap (λ d. Some (desc_view d)) (sym c.in_ok-desc.ensures ∙ c.in-Exec.is))) c.executed.ensures.step
