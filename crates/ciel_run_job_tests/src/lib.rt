@@ -15,6 +15,10 @@ mod meetings;
 #[cfg(test)]
 mod missing;
 #[cfg(test)]
+mod rounds;
+#[cfg(test)]
+mod same;
+#[cfg(test)]
 mod squares;
 #[cfg(test)]
 mod too_many;
