@@ -45,4 +45,5 @@ fn the_laws_hold_at_a_type() {
     law::small_jobs_are_jobs();
     law::small_histories_are_driven();
     law::small_histories_break_laws();
+    law::small_histories_break_turns();
 }

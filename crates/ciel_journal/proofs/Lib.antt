@@ -25,6 +25,7 @@ pub mod SmallHistories
 pub mod OtherJobs
 pub mod SmallWork
 pub mod SmallBroken
+pub mod SmallTurns
 pub mod IdleLaw
 pub mod DueLaw
 pub mod Splits

@@ -222,7 +222,7 @@ module _ {D : Type 0} (job : Job D) (laws : IsJob job) where
 
   -- ---- one event for each turn
 
-  first_one : (p : Plan) (v : Standing D) (w u i j : ℕ) → FirstDue p.losses v.closes v.gone i w → FirstDue p.losses v.closes v.gone j u → w ≡ u
+  pub first_one : (p : Plan) (v : Standing D) (w u i j : ℕ) → FirstDue p.losses v.closes v.gone i w → FirstDue p.losses v.closes v.gone j u → w ≡ u
   first_one p v w u i j x y = pick (x.least j y.count u y.due) (y.least i x.count w x.due)
     where
       at : i ≡ j → w ≡ u
@@ -241,7 +241,7 @@ module _ {D : Type 0} (job : Job D) (laws : IsJob job) where
       pick (inr a) (inl b) = let c = a.0 in absurd (omega (arith, b, c))
       pick (inr a) (inr b) = let c = a.1 in let d = b.1 in at (omega (arith, c, d))
 
-  not_rests : (p : Plan) (v : Standing D) (w : ℕ) (t : Task D) → Chosen job p v w t → Rests job p v → ⊥
+  pub not_rests : (p : Plan) (v : Standing D) (w : ℕ) (t : Task D) → Chosen job p v w t → Rests job p v → ⊥
   not_rests p v w t c (n, inl r) =
       let e : c.tasks ≡ [] = picks_unique (Ready job v) (tasks_of job v.book) c.tasks [] c.ready r in
       let a : slice_get [] (draw p.seed (2 * v.starts) % length c.tasks) ≡ Some t =
@@ -250,7 +250,7 @@ module _ {D : Type 0} (job : Job D) (laws : IsJob job) where
       let a : slice_get [] (draw p.seed (2 * v.starts + 1) % length (idle job p v)) ≡ Some w =
       subst (λ ws. slice_get ws (draw p.seed (2 * v.starts + 1) % length (idle job p v)) ≡ Some w) r c.worker in cc
 
-  same_chosen : (p : Plan) (v : Standing D) (w u : ℕ) (t s : Task D) → Chosen job p v w t → Chosen job p v u s → (w ≡ u) × (t ≡ s)
+  pub same_chosen : (p : Plan) (v : Standing D) (w u : ℕ) (t s : Task D) → Chosen job p v w t → Chosen job p v u s → (w ≡ u) × (t ≡ s)
   same_chosen p v w u t s x y = (workers (x.worker), tasks)
     where
       workers : slice_get (idle job p v) (draw p.seed (2 * v.starts + 1) % length (idle job p v)) ≡ Some w → w ≡ u

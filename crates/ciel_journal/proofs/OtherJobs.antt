@@ -1,5 +1,5 @@
 -- The other small jobs have the laws of a job, and what their histories show.
-use Rattle.std.proofs.Common.{◌≡◌, ℕ, ◌<◌, [], ◌∷◌, false, Some, inl, inr, refl, arith, eq-eqb}
+use Rattle.std.proofs.Common.{◌≡◌, ℕ, ◌<◌, List, [], ◌∷◌, false, Some, inl, inr, refl, arith, eq-eqb}
 use Rattle.ciel_journal.specs.Job.{Task, show, of, In, Each, IsJob, Needed, root, waited}
 use Rattle.ciel_journal.specs.Graph as g
 use Rattle.ciel_journal.specs.History.{before_all, standing}
@@ -57,7 +57,10 @@ fetch_main = waited root 0 (f.main ∷ []) f.main refl (inl refl) refl
 fetch_left : Needed o.fetching (of f.left)
 fetch_left = waited fetch_main 1 (f.left ∷ f.two ∷ []) f.left (1, refl) (inl refl) refl
 
-fetch_are : Each (Needed o.fetching) (show ∷ of f.main ∷ of f.one ∷ of f.two ∷ of f.left ∷ [])
+abbrev pub fetch_needed : List (Task Piece)
+fetch_needed = show ∷ of f.main ∷ of f.one ∷ of f.two ∷ of f.left ∷ []
+
+pub fetch_are : Each (Needed o.fetching) fetch_needed
 fetch_are = (
   root,
   (
@@ -71,8 +74,7 @@ fetch_are = (
 
 pub fetched : Driven o.fetching o.third_lost o.fetch_missed
 fetched =
-    driven_true o.fetching fetch_laws o.third_lost 4 8 (show ∷ of f.main ∷ of f.one ∷ of f.two ∷ of f.left ∷ []) fetch_are
-    (before_all o.fetching) o.fetch_missed tt refl
+    driven_true o.fetching fetch_laws o.third_lost 4 8 fetch_needed fetch_are (before_all o.fetching) o.fetch_missed tt refl
 
 -- ---- the square that waits for itself
 
@@ -115,6 +117,43 @@ reached_one = g.through reached_main refl f.one (inl refl) refl refl
 
 pub in_circle : CircleAtRest o.circling (standing o.circling o.comes_round) (f.one ∷ [])
 in_circle = (refl, (of f.one, refl, reached_one, refl, inl refl))
+
+-- ---- the square that waits for the other
+
+follow_fixed : IsFixed o.follow_lists
+follow_fixed =
+    record {
+      same_refl = λ d. eq-eqb (number d) (number d) refl;
+      same_exact = piece_exact;
+      first_show = refl;
+      outputs_show = refl;
+      made_by = piece_made;
+      makes = piece_makes;
+      own = piece_own;
+      size = λ d. 1;
+      first_smaller = circle_small;
+    }
+
+pub follow_laws : IsJob o.following
+follow_laws = fixed_laws o.follow_lists follow_fixed
+
+follow_main : Needed o.following (of f.main)
+follow_main = waited root 0 (f.main ∷ []) f.main refl (inl refl) refl
+
+abbrev pub follow_needed : List (Task Piece)
+follow_needed = show ∷ of f.main ∷ of f.one ∷ of f.two ∷ []
+
+pub follow_are : Each (Needed o.following) follow_needed
+follow_are = (
+  root,
+  (
+    follow_main,
+    (
+      waited follow_main 1 (f.one ∷ f.two ∷ []) f.one (1, refl) (inl refl) refl,
+      (waited follow_main 1 (f.one ∷ f.two ∷ []) f.two (1, refl) (inr (inl refl)) refl, tt),
+    ),
+  ),
+)
 
 -- ---- one name for all
 

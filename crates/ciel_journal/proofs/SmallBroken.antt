@@ -8,7 +8,7 @@ use Rattle.std.specs.List.{list_any}
 use Rattle.ciel_journal.specs.Fixed.{Fixed, Piece, all_seen, until, acts_by, seen_with, fixed_job, small_lists, squares, piece_task}
 use Rattle.ciel_journal.specs.Fixed as f
 use Rattle.ciel_journal.specs.SmallHistories as h
-use Rattle.ciel_journal.specs.SmallFacts.{BreaksLaw, BreaksTurns}
+use Rattle.ciel_journal.specs.SmallFacts.{BreaksLaw}
 use Rattle.ciel_journal.proofs.Check.{lawful_true}
 use Rattle.ciel_journal.proofs.Circle.{get_front, waits_join}
 use Rattle.ciel_journal.proofs.SmallHistories.{laws_of, squares_needed, squares_are}
@@ -146,14 +146,6 @@ dropped =
       broken = λ l. let a = l.1.0.allowed.2.spawns in
           let o = l.1.0.allowed.1 in
           cc;
-    }
-
-pub undone : BreaksTurns h.loss_of_the_only h.leaves_losses_undone
-undone =
-    record {
-      lawful = lawful_true squares (laws_of false) 8 squares_needed squares_are h.loss_of_the_only (before_all squares) h.leaves_losses_undone tt
-          refl;
-      broken = λ d. d.2.2.2.2.1.nothing_due 0 2 0 (record { planned = refl; reached = omega arith; here = refl });
     }
 
 -- ---- more

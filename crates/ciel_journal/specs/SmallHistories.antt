@@ -149,10 +149,6 @@ abbrev pub drops_spawned_at_a_save : List (Event Piece)
 drops_spawned_at_a_save =
     begun ++ saved 0 1 (state_mark 1) (one ∷ []) (one ∷ two ∷ left ∷ right ∷ []) [] ∷ []
 
--- a Start, though a loss is due
-abbrev pub leaves_losses_undone : List (Event Piece)
-leaves_losses_undone = saved_once ++ (first_square ++ start 2 0 (of main) 1 ∷ [])
-
 abbrev pub loss_of_the_only : Plan
 loss_of_the_only = record { workers = 1; seed = 0; losses = (2, 0) ∷ []; limit = 65536 }
 

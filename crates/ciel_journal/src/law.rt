@@ -1,10 +1,10 @@
 //! Laws of histories, over every job. Each is the contract of a function that does nothing.
 
 ghost use Rattle.std.specs.Prelude.{[], ◌∷◌, ◌++◌, false, true};
-ghost use Rattle.ciel_journal.specs.Fixed.{one, squares, lines, small_inner};
-ghost use Rattle.ciel_journal.specs.Job.{IsJob};
+ghost use Rattle.ciel_journal.specs.Fixed.{main, one, two, squares, lines, small_inner};
+ghost use Rattle.ciel_journal.specs.Job.{IsJob, of};
 ghost use Rattle.ciel_journal.specs.Lawful.{Lawful};
-ghost use Rattle.ciel_journal.specs.History.{standing};
+ghost use Rattle.ciel_journal.specs.History.{lost, missed, standing, start};
 ghost use Rattle.ciel_journal.specs.OtherJobs as o;
 ghost use Rattle.ciel_journal.specs.SmallFacts.{BreaksLaw, BreaksLawOf, BreaksTurns};
 ghost use Rattle.ciel_journal.specs.SmallHistories as h;
@@ -28,6 +28,7 @@ pub fn small_jobs_are_jobs()
     ensures lines_known { Knows lines (small_inner true) }
     ensures fetching { IsJob o.fetching }
     ensures circling { IsJob o.circling }
+    ensures following { IsJob o.following }
     ensures work { Work squares 6 }
 {}
 
@@ -52,20 +53,34 @@ pub fn small_histories_are_driven()
 /// nobody needs, one runs a live task again, one keeps places of a lost worker, one resumes another
 /// wait, one drops what was spawned at a save, one has more descriptions than there is room for, one
 /// a mark of another object, one copies what its own worker has, one misses what is there, one loses a worker that the
-/// plan doesn't, and one has two descriptions of one name. One more is lawful and not driven: it leaves a loss undone.
+/// plan doesn't, and one has two descriptions of one name.
 pub fn small_histories_break_laws()
     ensures needless { BreaksLaw h.one_worker h.saved_once h.starts_what_nobody_needs }
     ensures again { BreaksLaw h.one_worker (h.saved_once ++ h.first_square) h.runs_a_live_task_again }
     ensures kept_places { BreaksLaw h.loss_of_the_first h.square_lost h.keeps_places_of_a_lost_worker }
     ensures other_wait { BreaksLaw h.one_worker (h.saved_once ++ h.first_square) h.resumes_another_wait }
     ensures dropped { BreaksLaw h.one_worker h.begun h.drops_spawned_at_a_save }
-    ensures undone { BreaksTurns h.loss_of_the_only h.leaves_losses_undone }
     ensures room { BreaksLaw h.little_room h.begun h.saved_once }
     ensures mark { BreaksLaw h.one_worker h.one_running h.another_mark }
     ensures copy { BreaksLaw h.one_worker h.main_last h.copies_its_own }
     ensures missed { BreaksLaw h.loss_of_the_only h.main_again h.misses_what_is_there }
     ensures lost { BreaksLaw h.one_worker h.saved_once h.loses_unplanned }
     ensures clash { BreaksLawOf o.namesakes h.one_worker h.begun h.saved_once }
+{}
+
+/// Histories of the small jobs that are lawful and not driven, each by its last event: with another event in its place it is driven.
+/// A task is started though a loss is due, and a report is taken though one is; of two due losses with one count the one that is listed
+/// later comes first; a start has another task than the one that is drawn, and another worker; and a Done, a Saved and a Missed are each
+/// taken before a task that is ready is started at a worker that is idle.
+pub fn small_histories_break_turns()
+    ensures undone { BreaksTurns squares h.loss_of_the_only (h.saved_once ++ h.first_square) (lost 0 2) (start 2 0 (of main) 1) }
+    ensures unheeded { BreaksTurns o.fetching o.two_lost o.two_due (lost 2 3) o.left_reported }
+    ensures order { BreaksTurns o.fetching o.two_lost o.two_due (lost 2 3) (lost 1 3) }
+    ensures task { BreaksTurns o.fetching o.two_lost o.two_ready (start 1 2 (of one) 0) (start 1 2 (of two) 0) }
+    ensures worker { BreaksTurns o.fetching o.two_lost o.two_ready (start 1 2 (of one) 0) (start 1 0 (of one) 0) }
+    ensures done { BreaksTurns o.fetching o.two_lost o.one_started (start 2 1 (of two) 0) o.one_reported }
+    ensures saved { BreaksTurns o.following h.two_workers o.first_started (start 2 0 (of two) 0) o.first_saved }
+    ensures missed { BreaksTurns o.fetching o.two_lost o.both_lost (start 4 0 (of two) 0) (missed 3 one 0) }
 {}
 
 /// What stands after a history, said of the whole of it. What is live after a lawful one is an input,

@@ -1,5 +1,5 @@
 -- Each call keeps what holds of a master.
-use Rattle.std.proofs.Common.{◌≡◌, ℕ, zero, suc, ◌+◌, ◌≤◌, ◌<◌, ◌^◌, List, [], ◌∷◌, ◌++◌, length, length-append, Bool, Some, true, false, cond}
+use Rattle.std.proofs.Common.{◌≡◌, ◌⊎◌, inl, inr, ℕ, zero, suc, ◌+◌, ◌≤◌, ◌<◌, ◌^◌, List, [], ◌∷◌, ◌++◌, length, length-append, Bool, Some, true, false, cond}
 use Rattle.std.proofs.Common.{filter, map, nat_eq, not, slice_get, slice_index_or, refl, ap, ◌∙◌, sym, subst, arith}
 use Rattle.sky_base.specs.Val.{no_pairs, no_vals}
 use Rattle.sky_base.specs.declared.object.Desc1.{Desc1}
@@ -38,7 +38,7 @@ use Rattle.ciel_want_ready.specs.Following.{ExecsAtStart, IsExec}
 use Rattle.ciel_want_ready.specs.Seen.{ReadySeen, with_out, with_table}
 use Rattle.ciel_master.specs.Orders.{OneEach, ready_of}
 use Rattle.ciel_master.specs.Fitting.{FitsUnlessMissing}
-use Rattle.ciel_master.specs.Marked.{IsCarriedOut, Marked, WasMarked, unseen}
+use Rattle.ciel_master.specs.Marked.{IsCarriedOut, IsFirstLoss, Marked, WasMarked, unseen}
 use Rattle.sky_base.specs.Tree.{Script}
 use Rattle.ciel_master_safe.specs.Laws.{OrderIsGood, SafeOrders}
 use Rattle.ciel_master_safe.specs.Safe.{IsCall, Safe}
@@ -71,6 +71,15 @@ module _ (digest : List ℕ → List ℕ) (shelves : ShelvesSeen) (sc : Script) 
       (subst (λ xs. Going digest shelves sc (board_of p keys main.name (learned digest main (empty most_descriptions)) xs 0 0 es false)) (sym none)
       (subst (λ xs. Going digest shelves sc (board_of p keys main.name (learned digest main (empty most_descriptions)) [] 0 0 xs false)) (sym nothing)
       first))
+
+le_or_lt : (k c : ℕ) → (k ≤ c) ⊎ (c < k)
+le_or_lt zero c = inl (omega arith)
+le_or_lt (suc k) zero = inr (omega arith)
+le_or_lt (suc k) (suc c) = up (le_or_lt k c)
+  where
+    up : (k ≤ c) ⊎ (c < k) → (suc k ≤ suc c) ⊎ (suc c < suc k)
+    up (inl l) = inl (omega (arith, l))
+    up (inr l) = inr (omega (arith, l))
 
 some_same : {A : Type 0} (x y : A) → Some x ≡ Some y → x ≡ y
 some_same x y e = cc
@@ -304,6 +313,12 @@ module _ {N : Type 0} (dig : N → (List ℕ → List ℕ)) (m : MasterSeen N) (
   pub marked_now : Marked b.plan.losses lost shelves marker
   marked_now = (stands goes).3
 
+  -- what is marked, as contracts see it
+  pub marked_seen : Marked m.board.plan.losses m.board.table.gone m.shelves marker
+  marked_seen =
+      subst (λ (z : MasterSeen N). Marked z.board.plan.losses z.board.table.gone z.shelves marker) e
+      (subst (λ gs. Marked b.plan.losses gs shelves marker) (sym gone_now) marked_now)
+
   pub carried_now : (now : SeatSeen) → now ≡ marker → (end : End) → WasMarked now.losses end → IsCarriedOut m.board end
   carried_now now same end k =
       subst (λ (z : MasterSeen N). IsCarriedOut z.board end) e
@@ -439,6 +454,14 @@ module _ {N : Type 0} (dig : N → (List ℕ → List ℕ)) (m : MasterSeen N) (
     pub planned_now : slice_get b.plan.losses number ≡ Some (due_now.count, the_worker)
     planned_now = due_now.due.planned
 
+    first_now : IsFirstLoss b.plan.losses (record { number = number; worker = the_worker })
+    first_now = (due_now.count, planned_now, λ i k p. before i k p (le_or_lt k b.closes))
+      where
+        before : (i k : ℕ) → slice_get b.plan.losses i ≡ Some (k, the_worker) → (k ≤ b.closes) ⊎ (b.closes < k)
+            → (due_now.count < k) ⊎ ((due_now.count ≡ k) × (number ≤ i))
+        before i k p (inl reached) = due_now.least i k the_worker (record { planned = p; reached = reached; here = due_now.due.here })
+        before i k p (inr later) = let r = due_now.due.reached in inl (omega (arith, later, r))
+
     pub here_now : list_any (nat_eq the_worker) lost ≡ false
     here_now = subst (λ gs. list_any (nat_eq the_worker) gs ≡ false) gone_now due_now.due.here
 
@@ -484,7 +507,7 @@ module _ {N : Type 0} (dig : N → (List ℕ → List ℕ)) (m : MasterSeen N) (
           → Marked b.plan.losses more shelves seat
       marked_lost more is seat so =
           marked_more b.plan.losses lost shelves marker marked_now (record { number = number; worker = the_worker }) (due_now.count, planned_now)
-          here_now more is seat so
+          first_now here_now more is seat so
 
       pub lost_so : (w : ℕ) → FirstDue m.board.plan.losses m.board.closes m.board.table.gone number w
           → record { namer = n; shelves = shelves; script = sc; board = record b { table = u; orders = os; journal = js } }

@@ -18,7 +18,7 @@ use Rattle.ciel_task_order.specs.Views.{P, how_view}
 use Rattle.ciel_task_order.specs.declared.block.Held.{Held}
 use Rattle.ciel_task_order.specs.declared.report.End.{End}
 use Rattle.ciel_master.specs.Fitting.{IsMissedOf}
-use Rattle.ciel_master.specs.Marked.{HasShelf, IsCarriedOut, IsPlanned, Marked, WasMarked, worker_lost}
+use Rattle.ciel_master.specs.Marked.{HasShelf, IsCarriedOut, IsFirstLoss, IsPlanned, Marked, WasMarked, worker_lost}
 
 -- ---- two ways to say that it is in a list
 
@@ -91,9 +91,9 @@ module _ (losses : List (ℕ × ℕ)) (lost : List ℕ) (shelves : ShelvesSeen) 
       at (x ∷ xs) (suc k) e a = at xs k e a.1
 
   -- with a loss more
-  pub marked_more : (l : Loss) → IsPlanned losses l → list_any (nat_eq l.worker) lost ≡ false → (more : List ℕ) → more ≡ lost ++ l.worker ∷ []
+  pub marked_more : (l : Loss) → IsPlanned losses l → IsFirstLoss losses l → list_any (nat_eq l.worker) lost ≡ false → (more : List ℕ) → more ≡ lost ++ l.worker ∷ []
       → (now : SeatSeen) → now ≡ record { of = marker.of; losses = marked marker.losses l } → Marked losses more shelves now
-  marked_more l planned here more is now so =
+  marked_more l planned first here more is now so =
       let fresh : is_lost marker.losses l.worker ≡ false =
       not_lost marker.losses l.worker (subst (λ ws. list_any (nat_eq l.worker) ws ≡ false) (sym m.workers) here) in
       let list : now.losses ≡ marker.losses ++ l ∷ [] = ap (λ (z : SeatSeen). z.losses) so
@@ -102,6 +102,7 @@ module _ (losses : List (ℕ × ℕ)) (lost : List ℕ) (shelves : ShelvesSeen) 
         of = ap (λ (z : SeatSeen). z.of) so ∙ m.of;
         workers = ap (map worker_lost) list ∙ (map_end marker.losses l ∙ (ap (λ ws. ws ++ l.worker ∷ []) m.workers ∙ sym is));
         planned = subst (Each (IsPlanned losses)) (sym list) (each_end (IsPlanned losses) marker.losses l m.planned planned);
+        first = subst (Each (IsFirstLoss losses)) (sym list) (each_end (IsFirstLoss losses) marker.losses l m.first first);
         shelved = m.shelved;
       }
 
@@ -147,5 +148,6 @@ open_marked losses lost shelves marker workers of none nothing many small =
       of = of;
       workers = ap (map worker_lost) none ∙ sym nothing;
       planned = subst (Each (IsPlanned losses)) (sym none) tt;
+      first = subst (Each (IsFirstLoss losses)) (sym none) tt;
       shelved = each_more (λ (loss : ℕ × ℕ). loss.1 < workers) (HasShelf shelves) (λ loss l. omega (arith, many, l)) losses small;
     }

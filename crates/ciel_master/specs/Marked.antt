@@ -1,5 +1,5 @@
 -- Losses that were carried out, as the seat that marks them at the words of the shelves has them.
-use Rattle.std.specs.Prelude.{◌⊎◌, Option, ◌≡◌, ℕ, ◌<◌, List, true, Some, None, length, map, nat_eq, slice_get}
+use Rattle.std.specs.Prelude.{◌⊎◌, Option, ◌≡◌, ℕ, ◌<◌, ◌≤◌, List, true, Some, None, length, map, nat_eq, slice_get}
 use Rattle.std.specs.List.{list_any}
 use Rattle.ciel_master_board.specs.Board.{Board, shelf, spot_of}
 use Rattle.ciel_master_board.specs.Sound.{own_name}
@@ -26,16 +26,23 @@ worker_lost l = l.worker
 abbrev pub IsPlanned : List (ℕ × ℕ) → Loss → Type 0
 IsPlanned losses l = (count : ℕ) × (slice_get losses l.number ≡ Some (count, l.worker))
 
+-- the plan has this loss, and of all losses of its worker it comes first, by its count and then by its place
+abbrev pub IsFirstLoss : List (ℕ × ℕ) → Loss → Type 0
+IsFirstLoss losses l =
+    (count : ℕ) × (slice_get losses l.number ≡ Some (count, l.worker))
+    × ((i k : ℕ) → slice_get losses i ≡ Some (k, l.worker) → (count < k) ⊎ ((count ≡ k) × (l.number ≤ i)))
+
 -- a loss names a worker that has a shelf
 abbrev pub HasShelf : ShelvesSeen → (ℕ × ℕ) → Type 0
 HasShelf shelves loss = loss.1 < length shelves.rows
 
--- it sits at the words of the shelves and has marked one loss of each lost worker, in order, each a loss of the plan; and each worker
--- that the plan names has a shelf
+-- it sits at the words of the shelves and has marked one loss of each lost worker, in order, each a loss of the plan and the first of its
+-- worker's; and each worker that the plan names has a shelf
 pub record Marked (losses : List (ℕ × ℕ)) (lost : List ℕ) (shelves : ShelvesSeen) (marker : SeatSeen) : Type 0 where
   pub of : marker.of ≡ shelves.of
   pub workers : map worker_lost marker.losses ≡ lost
   pub planned : Each (IsPlanned losses) marker.losses
+  pub first : Each (IsFirstLoss losses) marker.losses
   pub shelved : Each (HasShelf shelves) losses
 
 -- what the eye had seen of something that was missing, it saw at the shelves

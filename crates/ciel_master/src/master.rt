@@ -22,7 +22,7 @@ ghost use Rattle.ciel_task_order.specs.Views.{P, order_view, report_end};
 ghost use Rattle.ciel_master_safe.specs.Laws.{OrderIsGood};
 ghost use Rattle.ciel_master.specs.Orders.{ready_of};
 ghost use Rattle.ciel_master.specs.Fitting.{FitsOneOut, FitsUnlessMissing, IsMissedOf};
-ghost use Rattle.ciel_master.specs.Marked.{IsCarriedOut};
+ghost use Rattle.ciel_master.specs.Marked.{IsCarriedOut, Marked};
 ghost use Rattle.ciel_master.specs.Refusals.{FirstStops, UnlessMemory, refused_at};
 ghost use Rattle.ciel_master.specs.Seen.{MasterSeen, most_descriptions, plan_view};
 ghost use Rattle.ciel_master.specs.Taking.{LearnedFor, now_of};
@@ -414,6 +414,15 @@ impl<K: Drop, N: Namer + Drop> Master<K, N> {
         ensures { map entry_view result.now.items ≡ self.now.board.journal }
     {
         &self.journal
+    }
+
+    /// The marker, which has marked one loss of each lost worker, in order: a loss of the plan that names it, and of these the one that was
+    /// carried out, the first by its count and then by its place.
+    pub fn marker(&self) -> &Marker
+        requires going { self.now.board.stopped ≡ false }
+        ensures marked { Marked self.now.board.plan.losses self.now.board.table.gone self.now.shelves result.now }
+    {
+        &self.marker
     }
 
     /// Whether an order of this number is out. It takes no memory.

@@ -6,14 +6,14 @@ use Rattle.std.specs.Cmp.Lexicographic.{slice_cmp}
 use Rattle.std.specs.declared.cmp.Ordering.{Ordering}
 use Rattle.std.proofs.lemmas.Cmp.{nat_list_cmp_total}
 use Rattle.sky_base.specs.Val.{Val, Vals, Pairs, no_vals, val, no_pairs, pair, count, pair_count, depth, depths, pair_depths, add_val, Rising}
-use Rattle.sky_base.specs.Val.{RisingFrom}
+use Rattle.sky_base.specs.Val.{RisingFrom, size, sizes, pair_sizes}
 use Rattle.sky_base.specs.Op.{put}
 use Rattle.sky_base.specs.Name.{bytes, vals_bytes, pairs_bytes, bytes_of_text}
 use Rattle.sky_base.specs.View.{view, pairs_of}
 use Rattle.sky_base.specs.declared.value.Pair.{Pair}
 use Rattle.sky_base.proofs.Values.{depths-add}
 use Rattle.sky_base.proofs.Keys.{Rising-put}
-use Rattle.ciel_name.specs.Spelled.{IsText, Spelled, AllSpelled, PairsSpelled, Read, NoneRead, TextRead, NoTextRead}
+use Rattle.ciel_name.specs.Spelled.{IsText, Spelled, AllSpelled, PairsSpelled, Read, NoneRead, TextRead, NoTextWithin}
 use Rattle.ciel_name.specs.Bodies.{ItemsRead, NoItems, PairsRead, NoPairs, above_from, is_above}
 use Rattle.ciel_name.proofs.PrefixFreeBytes.{val_free, text_free, pair_bytes}
 
@@ -31,6 +31,10 @@ count-add : (vs : Vals (List ℕ)) (v : Val (List ℕ)) → count (add_val vs v)
 count-add no_vals v = refl
 count-add (val w vs) v = omega (arith, count-add vs v)
 
+pub sizes-add : (vs : Vals (List ℕ)) (v : Val (List ℕ)) → sizes (add_val vs v) ≡ sizes vs + size v
+sizes-add no_vals v = omega arith
+sizes-add (val w vs) v = omega (arith, sizes-add vs v)
+
 pub items_start : (left : ℕ) (old : List ℕ) → ItemsRead 0 left old no_vals old
 items_start left old = (refl, (tt, (omega arith, refl)))
 
@@ -43,20 +47,23 @@ items_more i left old vs mid v new p q = (
 
 -- where more values stand in front, one more stands behind the first ones
 vals_prefix : {P : Type 0} (vs ws : Vals (List ℕ)) (mid rest : List ℕ) → AllSpelled vs → AllSpelled ws → count vs < count ws → vals_bytes vs
-    ++ mid ≡ vals_bytes ws ++ rest → ((w : Val (List ℕ)) (more : List ℕ) → Spelled w → depth w ≤ depths ws → mid ≡ bytes w ++ more → P) → P
+    ++ mid ≡ vals_bytes ws ++ rest
+    → ((w : Val (List ℕ)) (more : List ℕ) → Spelled w → depth w ≤ depths ws → sizes vs + size w ≤ sizes ws → mid ≡ bytes w ++ more → P) → P
 vals_prefix no_vals no_vals mid rest p q c e go = absurd (omega arith)
 vals_prefix no_vals (val w us) mid rest p q c e go =
-    go w (vals_bytes us ++ rest) q.0 (omega arith) (e ∙ append_assoc (bytes w) (vals_bytes us) rest)
+    go w (vals_bytes us ++ rest) q.0 (omega arith) (omega arith) (e ∙ append_assoc (bytes w) (vals_bytes us) rest)
 vals_prefix (val v vs) no_vals mid rest p q c e go = absurd (omega arith)
 vals_prefix (val v vs) (val w us) mid rest p q c e go =
     let g = sym (append_assoc (bytes v) (vals_bytes vs) mid) ∙ e ∙ append_assoc (bytes w) (vals_bytes us) rest in
     let h = val_free v w (vals_bytes vs ++ mid) (vals_bytes us ++ rest) p.0 q.0 g in
-    vals_prefix vs us mid rest p.1 q.1 (omega arith) h.1 (λ x more s d f. go x more s (omega (arith, d)) f)
+    let same : size v ≡ size w = ap size h.0 in
+    vals_prefix vs us mid rest p.1 q.1 (omega arith) h.1 (λ x more s d z f. go x more s (omega (arith, d)) (omega (arith, z, same)) f)
 
-pub items_none : (i n left : ℕ) (old : List ℕ) (vs : Vals (List ℕ)) (mid : List ℕ) → ItemsRead i left old vs mid → i < n → NoneRead left mid
-    → NoItems n left old
-items_none i n left old vs mid p h none ws rest s d c e =
-    vals_prefix vs ws mid rest p.1.0 s (omega (arith, p.1.1.1, c)) (sym p.0 ∙ e) (λ w more t g f. none w more t (omega (arith, g, d)) f)
+pub items_none : (i n left room spare : ℕ) (old : List ℕ) (vs : Vals (List ℕ)) (mid : List ℕ) → ItemsRead i left old vs mid
+    → spare + sizes vs ≡ room → i < n → NoneRead left spare mid → NoItems n left room old
+items_none i n left room spare old vs mid p o h none ws rest s d z c e =
+    vals_prefix vs ws mid rest p.1.0 s (omega (arith, p.1.1.1, c)) (sym p.0 ∙ e)
+    (λ w more t g y f. none w more t (omega (arith, g, d)) (omega (arith, y, z, o)) f)
 
 -- ---- keys
 
@@ -82,20 +89,23 @@ abbrev Behind : Pairs (List ℕ) → List ℕ → Val (List ℕ) → Pairs (List
 Behind ps k v qs =
     (pairs_bytes qs ≡ pairs_bytes ps ++ (bytes_of_text k ++ bytes v))
     × ((pair_count qs ≡ pair_count ps + 1) × ((pair_depths qs ≡ max (pair_depths ps) (depth v))
-    × (PairsSpelled ps → IsText k → Spelled v → PairsSpelled qs)))
+    × ((PairsSpelled ps → IsText k → Spelled v → PairsSpelled qs) × (pair_sizes qs ≡ pair_sizes ps + length k + size v))))
 
 behind_step : (l : List ℕ) (w : Val (List ℕ)) (ps : Pairs (List ℕ)) (k : List ℕ) (v : Val (List ℕ)) (qs : Pairs (List ℕ)) → Behind ps k v qs
     → Behind (pair l w ps) k v (pair l w qs)
 behind_step l w ps k v qs b = (
   ap (λ x. bytes_of_text l ++ (bytes w ++ x)) b.0 ∙ sym (pair_bytes (bytes_of_text l) (bytes w) (pairs_bytes ps) (bytes_of_text k ++ bytes v)),
-  (omega (arith, b.1.0), (omega (arith, b.1.1.0), λ p q r. (p.0, (p.1.0, b.1.1.1 p.1.1 q r)))),
+  (
+    omega (arith, b.1.0),
+    (omega (arith, b.1.1.0), (λ p q r. (p.0, (p.1.0, b.1.1.1.0 p.1.1 q r)), omega (arith, b.1.1.1.1))),
+  ),
 )
 
 behind_from : (l : List ℕ) (w : Val (List ℕ)) (ps : Pairs (List ℕ)) (k : List ℕ) (v : Val (List ℕ)) → RisingFrom l ps → above_from l ps k ≡ true
     → Behind (pair l w ps) k v (put k v (pair l w ps))
 behind_from l w no_pairs k v r a =
     let one : Behind no_pairs k v (pair k v no_pairs) =
-    (ap (λ b. bytes_of_text k ++ b) (append-nil (bytes v)), (refl, (omega arith, λ p q s. (q, (s, tt))))) in
+    (ap (λ b. bytes_of_text k ++ b) (append-nil (bytes v)), (refl, (omega arith, (λ p q s. (q, (s, tt)), omega arith)))) in
     subst (Behind (pair l w no_pairs) k v) (sym (put_last k l v w no_pairs (above_first l no_pairs k r a)))
     (behind_step l w no_pairs k v (pair k v no_pairs) one)
 behind_from l w (pair m u ps) k v r a =
@@ -103,7 +113,7 @@ behind_from l w (pair m u ps) k v r a =
     (behind_step l w (pair m u ps) k v (put k v (pair m u ps)) (behind_from m u ps k v r.1 a))
 
 behind : (ps : Pairs (List ℕ)) (k : List ℕ) (v : Val (List ℕ)) → Rising ps → is_above k ps ≡ true → Behind ps k v (put k v ps)
-behind no_pairs k v r a = (ap (λ b. bytes_of_text k ++ b) (append-nil (bytes v)), (refl, (omega arith, λ p q s. (q, (s, tt)))))
+behind no_pairs k v r a = (ap (λ b. bytes_of_text k ++ b) (append-nil (bytes v)), (refl, (omega arith, (λ p q s. (q, (s, tt)), omega arith))))
 behind (pair l w ps) k v r a = behind_from l w ps k v r a
 
 pub pairs_start : (left : ℕ) (old : List ℕ) → PairsRead 0 left old no_pairs old
@@ -116,72 +126,95 @@ pairs_more i left old ps mid k inner v new p t a q =
     let b = behind ps k v p.1.1.0 a in (
       p.0 ∙ ap (λ x. pairs_bytes ps ++ x) (t.0 ∙ ap (λ x. bytes_of_text k ++ x) q.0)
           ∙ sym (pair_bytes (pairs_bytes ps) (bytes_of_text k) (bytes v) new) ∙ ap (λ x. x ++ new) (sym b.0),
-      (b.1.1.1 p.1.0 t.1 q.1.0, (Rising-put k v ps p.1.1.0, (omega (arith, b.1.1.0, p.1.1.1.0, q.1.1), b.1.0 ∙ ap (λ n. n + 1) p.1.1.1.1))),
+      (b.1.1.1.0 p.1.0 t.1 q.1.0, (Rising-put k v ps p.1.1.0, (omega (arith, b.1.1.0, p.1.1.1.0, q.1.1), b.1.0 ∙ ap (λ n. n + 1) p.1.1.1.1))),
     )
 
--- a further pair, whose key is above the last one
-abbrev Further : Pairs (List ℕ) → ℕ → List ℕ → Type 0 → Type 0
-Further ps left mid P =
-    (k : List ℕ) (v : Val (List ℕ)) (more : List ℕ) → IsText k → Spelled v → depth v ≤ left → is_above k ps ≡ true → mid ≡ bytes_of_text k
-    ++ (bytes v ++ more) → P
+pub pair_sizes-put : (k : List ℕ) (v : Val (List ℕ)) (ps : Pairs (List ℕ)) → Rising ps → is_above k ps ≡ true → pair_sizes (put k v ps)
+    ≡ pair_sizes ps + length k + size v
+pair_sizes-put k v ps r a = (behind ps k v r a).1.1.1.1
 
-abbrev FurtherFrom : List ℕ → Pairs (List ℕ) → ℕ → List ℕ → Type 0 → Type 0
-FurtherFrom l ps left mid P =
-    (k : List ℕ) (v : Val (List ℕ)) (more : List ℕ) → IsText k → Spelled v → depth v ≤ left → above_from l ps k ≡ true → mid ≡ bytes_of_text k
-    ++ (bytes v ++ more) → P
+-- pairs with others behind them
+abbrev pub followed : Pairs (List ℕ) → Pairs (List ℕ) → Pairs (List ℕ)
+followed no_pairs us = us
+followed (pair k v ps) us = pair k v (followed ps us)
+
+followed_depth : (ps : Pairs (List ℕ)) (k : List ℕ) (v : Val (List ℕ)) (us : Pairs (List ℕ)) → depth v ≤ pair_depths (followed ps (pair k v us))
+followed_depth no_pairs k v us = omega arith
+followed_depth (pair l w ps) k v us = omega (arith, followed_depth ps k v us)
+
+followed_size : (ps : Pairs (List ℕ)) (k : List ℕ) (v : Val (List ℕ)) (us : Pairs (List ℕ)) → pair_sizes ps + (length k + size v)
+    ≤ pair_sizes (followed ps (pair k v us))
+followed_size no_pairs k v us = omega arith
+followed_size (pair l w ps) k v us = omega (arith, followed_size ps k v us)
+
+-- a further pair, whose key is above the last one
+abbrev pub Further : Pairs (List ℕ) → Pairs (List ℕ) → List ℕ → Type 0 → Type 0
+Further ps qs mid P =
+    (k : List ℕ) (v : Val (List ℕ)) (us : Pairs (List ℕ)) (more : List ℕ) → IsText k → Spelled v → is_above k ps ≡ true → mid
+    ≡ bytes_of_text k ++ (bytes v ++ more) → qs ≡ followed ps (pair k v us) → P
+
+abbrev FurtherFrom : List ℕ → Pairs (List ℕ) → Pairs (List ℕ) → List ℕ → Type 0 → Type 0
+FurtherFrom l ps qs mid P =
+    (k : List ℕ) (v : Val (List ℕ)) (us : Pairs (List ℕ)) (more : List ℕ) → IsText k → Spelled v → above_from l ps k ≡ true → mid
+    ≡ bytes_of_text k ++ (bytes v ++ more) → qs ≡ followed ps (pair k v us) → P
 
 pairs_from : {P : Type 0} (last : List ℕ) (ps qs : Pairs (List ℕ)) (mid rest : List ℕ) → PairsSpelled ps → PairsSpelled qs → RisingFrom last qs
-    → pair_count ps < pair_count qs → pairs_bytes ps ++ mid ≡ pairs_bytes qs ++ rest → FurtherFrom last ps (pair_depths qs) mid P → P
+    → pair_count ps < pair_count qs → pairs_bytes ps ++ mid ≡ pairs_bytes qs ++ rest → FurtherFrom last ps qs mid P → P
 pairs_from last no_pairs no_pairs mid rest p q r c e go = absurd (omega arith)
 pairs_from last no_pairs (pair k v qs) mid rest p q r c e go =
-    go k v (pairs_bytes qs ++ rest) q.0 q.1.0 (omega arith) (ap is_lt r.0) (e ∙ pair_bytes (bytes_of_text k) (bytes v) (pairs_bytes qs) rest)
+    go k v qs (pairs_bytes qs ++ rest) q.0 q.1.0 (ap is_lt r.0) (e ∙ pair_bytes (bytes_of_text k) (bytes v) (pairs_bytes qs) rest) refl
 pairs_from last (pair l u ps) no_pairs mid rest p q r c e go = absurd (omega arith)
 pairs_from last (pair l u ps) (pair k v qs) mid rest p q r c e go =
     let g = sym (pair_bytes (bytes_of_text l) (bytes u) (pairs_bytes ps) mid) ∙ e ∙ pair_bytes (bytes_of_text k) (bytes v) (pairs_bytes qs) rest in
     let j = text_free l k (bytes u ++ (pairs_bytes ps ++ mid)) (bytes v ++ (pairs_bytes qs ++ rest)) p.0 q.0 g in
     let h = val_free u v (pairs_bytes ps ++ mid) (pairs_bytes qs ++ rest) p.1.0 q.1.0 j.1 in
     pairs_from l ps qs mid rest p.1.1 q.1.1 (subst (λ x. RisingFrom x qs) (sym j.0) r.1) (omega arith) h.1
-    (λ x w more t s d a f. go x w more t s (omega (arith, d)) a f)
+    (λ x w us more t s a f y. go x w us more t s a f (λ i. pair (sym j.0 i) (sym h.0 i) (y i)))
 
 pairs_prefix : {P : Type 0} (ps qs : Pairs (List ℕ)) (mid rest : List ℕ) → PairsSpelled ps → PairsSpelled qs → Rising qs
-    → pair_count ps < pair_count qs → pairs_bytes ps ++ mid ≡ pairs_bytes qs ++ rest → Further ps (pair_depths qs) mid P → P
+    → pair_count ps < pair_count qs → pairs_bytes ps ++ mid ≡ pairs_bytes qs ++ rest → Further ps qs mid P → P
 pairs_prefix no_pairs no_pairs mid rest p q r c e go = absurd (omega arith)
 pairs_prefix no_pairs (pair k v qs) mid rest p q r c e go =
-    go k v (pairs_bytes qs ++ rest) q.0 q.1.0 (omega arith) refl (e ∙ pair_bytes (bytes_of_text k) (bytes v) (pairs_bytes qs) rest)
+    go k v qs (pairs_bytes qs ++ rest) q.0 q.1.0 refl (e ∙ pair_bytes (bytes_of_text k) (bytes v) (pairs_bytes qs) rest) refl
 pairs_prefix (pair l u ps) no_pairs mid rest p q r c e go = absurd (omega arith)
 pairs_prefix (pair l u ps) (pair k v qs) mid rest p q r c e go =
     let g = sym (pair_bytes (bytes_of_text l) (bytes u) (pairs_bytes ps) mid) ∙ e ∙ pair_bytes (bytes_of_text k) (bytes v) (pairs_bytes qs) rest in
     let j = text_free l k (bytes u ++ (pairs_bytes ps ++ mid)) (bytes v ++ (pairs_bytes qs ++ rest)) p.0 q.0 g in
     let h = val_free u v (pairs_bytes ps ++ mid) (pairs_bytes qs ++ rest) p.1.0 q.1.0 j.1 in
     pairs_from l ps qs mid rest p.1.1 q.1.1 (subst (λ x. RisingFrom x qs) (sym j.0) r) (omega arith) h.1
-    (λ x w more t s d a f. go x w more t s (omega (arith, d)) a f)
+    (λ x w us more t s a f y. go x w us more t s a f (λ i. pair (sym j.0 i) (sym h.0 i) (y i)))
 
 -- so where no pair can stand next, not so many stand in front
-pairs_next : {P : Type 0} (i n left : ℕ) (old : List ℕ) (ps : Pairs (List ℕ)) (mid : List ℕ) → PairsRead i left old ps mid → i < n
-    → (qs : Pairs (List ℕ)) (rest : List ℕ) → PairsSpelled qs → Rising qs → pair_depths qs ≤ left → pair_count qs ≡ n → old ≡ pairs_bytes qs
-    ++ rest → Further ps left mid P → P
-pairs_next i n left old ps mid p h qs rest s r d c e go =
-    pairs_prefix ps qs mid rest p.1.0 s r (omega (arith, p.1.1.1.1, c)) (sym p.0 ∙ e)
-    (λ k v more t q g a f. go k v more t q (omega (arith, g, d)) a f)
+pub pairs_next : {P : Type 0} (i n left : ℕ) (old : List ℕ) (ps : Pairs (List ℕ)) (mid : List ℕ) → PairsRead i left old ps mid → i < n
+    → (qs : Pairs (List ℕ)) (rest : List ℕ) → PairsSpelled qs → Rising qs → pair_count qs ≡ n → old ≡ pairs_bytes qs ++ rest
+    → Further ps qs mid P → P
+pairs_next i n left old ps mid p h qs rest s r c e go =
+    pairs_prefix ps qs mid rest p.1.0 s r (omega (arith, p.1.1.1.1, c)) (sym p.0 ∙ e) go
 
-pub pairs_text : (i n left : ℕ) (old : List ℕ) (ps : Pairs (List ℕ)) (mid : List ℕ) → PairsRead i left old ps mid → i < n → NoTextRead mid
-    → NoPairs n left old
-pairs_text i n left old ps mid p h none qs rest s r d c e =
-    pairs_next i n left old ps mid p h qs rest s r d c e (λ k v more t q g a f. none k (bytes v ++ more) t f)
+pub pairs_text : (i n left room spare : ℕ) (old : List ℕ) (ps : Pairs (List ℕ)) (mid : List ℕ) → PairsRead i left old ps mid
+    → spare + pair_sizes ps ≡ room → i < n → NoTextWithin spare mid → NoPairs n left room old
+pairs_text i n left room spare old ps mid p o h none qs rest s r d z c e =
+    pairs_next i n left old ps mid p h qs rest s r c e (λ k v us more t q a f y.
+    let sz : pair_sizes (followed ps (pair k v us)) ≤ room = subst (λ x. pair_sizes x ≤ room) y z in
+    none k (bytes v ++ more) t (omega (arith, sz, followed_size ps k v us, o)) f)
 
-pub pairs_low : (i n left : ℕ) (old : List ℕ) (ps : Pairs (List ℕ)) (mid k inner : List ℕ) → PairsRead i left old ps mid → i < n
-    → TextRead mid k inner → is_above k ps ≡ false → NoPairs n left old
-pairs_low i n left old ps mid k inner p h t b qs rest s r d c e =
-    pairs_next i n left old ps mid p h qs rest s r d c e (λ l v more u q g a f.
+pub pairs_low : (i n left room : ℕ) (old : List ℕ) (ps : Pairs (List ℕ)) (mid k inner : List ℕ) → PairsRead i left old ps mid → i < n
+    → TextRead mid k inner → is_above k ps ≡ false → NoPairs n left room old
+pairs_low i n left room old ps mid k inner p h t b qs rest s r d z c e =
+    pairs_next i n left old ps mid p h qs rest s r c e (λ l v us more u q a f y.
     let j = text_free k l inner (bytes v ++ more) t.1 u (sym t.0 ∙ f) in
     let no : false ≡ true = sym b ∙ ap (λ x. is_above x ps) j.0 ∙ a in
     absurd cc)
 
-pub pairs_none : (i n left : ℕ) (old : List ℕ) (ps : Pairs (List ℕ)) (mid k inner : List ℕ) → PairsRead i left old ps mid → i < n
-    → TextRead mid k inner → NoneRead left inner → NoPairs n left old
-pairs_none i n left old ps mid k inner p h t none qs rest s r d c e =
-    pairs_next i n left old ps mid p h qs rest s r d c e (λ l v more u q g a f.
-    let j = text_free k l inner (bytes v ++ more) t.1 u (sym t.0 ∙ f) in none v more q g j.1)
+pub pairs_none : (i n left room spare : ℕ) (old : List ℕ) (ps : Pairs (List ℕ)) (mid k inner : List ℕ) → PairsRead i left old ps mid
+    → spare + (length k + pair_sizes ps) ≡ room → i < n → TextRead mid k inner → NoneRead left spare inner → NoPairs n left room old
+pairs_none i n left room spare old ps mid k inner p o h t none qs rest s r d z c e =
+    pairs_next i n left old ps mid p h qs rest s r c e (λ l v us more u q a f y.
+    let j = text_free k l inner (bytes v ++ more) t.1 u (sym t.0 ∙ f) in
+    let dp : pair_depths (followed ps (pair l v us)) ≤ left = subst (λ x. pair_depths x ≤ left) y d in
+    let sz : pair_sizes (followed ps (pair l v us)) ≤ room = subst (λ x. pair_sizes x ≤ room) y z in
+    let same : length k ≡ length l = ap length j.0 in
+    none v more q (omega (arith, dp, followed_depth ps l v us)) (omega (arith, sz, followed_size ps l v us, same, o)) j.1)
 
 -- the last of the pairs as they are held
 above_from-last : (l : List ℕ) (ps : List Pair) (i : ℕ) (p : Pair) (k : List ℕ) → i + 1 ≡ length ps → p ≡ get_or ps i p

@@ -1,7 +1,7 @@
 -- A value's bytes as a first byte, which tells its kind, and what stands behind it.
 use Rattle.std.specs.Prelude.{◌≡◌, ◌≤◌, ◌<◌, ◌^◌, ℕ, List, [], ◌++◌, Bool, true, false, nat_eq, length}
-use Rattle.sky_base.specs.Val.{Val, Vals, Pairs, Desc, null, truth, num, text, list, dict, fun, ref, no_pairs, pair, count, pair_count, depth, depths}
-use Rattle.sky_base.specs.Val.{pair_depths, Rising}
+use Rattle.sky_base.specs.Val.{Val, Vals, Pairs, Desc, null, truth, num, text, list, dict, fun, ref, no_pairs, pair, count, pair_count, depth, depths, size, sizes}
+use Rattle.sky_base.specs.Val.{pair_depths, pair_sizes, Rising}
 use Rattle.std.specs.Ordering.{nat_cmp, is_lt}
 use Rattle.std.specs.Cmp.Lexicographic.{slice_cmp}
 use Rattle.sky_base.specs.Name.{vals_bytes, pairs_bytes, bytes_of_int, bytes_of_text, big_endian, is_anonymous, held_name}
@@ -48,23 +48,29 @@ body (ref d) = held_name d
 abbrev pub BodyRead : ℕ → ℕ → List ℕ → Val (List ℕ) → List ℕ → Type 0
 BodyRead k left old v new = (tag v ≡ k) × ((old ≡ body v ++ new) × (Spelled v × (depth v ≤ left)))
 
-abbrev pub NoBody : ℕ → ℕ → List ℕ → Type 0
-NoBody k left old = (v : Val (List ℕ)) (rest : List ℕ) → Spelled v → depth v ≤ left → tag v ≡ k → old ≡ body v ++ rest → ⊥
+-- no such value of at most this size has
+abbrev pub NoBody : ℕ → ℕ → ℕ → List ℕ → Type 0
+NoBody k left room old =
+    (v : Val (List ℕ)) (rest : List ℕ) → Spelled v → depth v ≤ left → size v ≤ room → tag v ≡ k → old ≡ body v ++ rest → ⊥
 
 -- so many values stand in front
 abbrev pub ItemsRead : ℕ → ℕ → List ℕ → Vals (List ℕ) → List ℕ → Type 0
 ItemsRead n left old vs new = (old ≡ vals_bytes vs ++ new) × (AllSpelled vs × ((depths vs ≤ left) × (count vs ≡ n)))
 
-abbrev pub NoItems : ℕ → ℕ → List ℕ → Type 0
-NoItems n left old = (vs : Vals (List ℕ)) (rest : List ℕ) → AllSpelled vs → depths vs ≤ left → count vs ≡ n → old ≡ vals_bytes vs ++ rest → ⊥
+-- so many of at most this size together don't
+abbrev pub NoItems : ℕ → ℕ → ℕ → List ℕ → Type 0
+NoItems n left room old =
+    (vs : Vals (List ℕ)) (rest : List ℕ) → AllSpelled vs → depths vs ≤ left → sizes vs ≤ room → count vs ≡ n → old ≡ vals_bytes vs ++ rest → ⊥
 
 -- so many pairs stand in front, with keys that rise
 abbrev pub PairsRead : ℕ → ℕ → List ℕ → Pairs (List ℕ) → List ℕ → Type 0
 PairsRead n left old ps new = (old ≡ pairs_bytes ps ++ new) × (PairsSpelled ps × (Rising ps × ((pair_depths ps ≤ left) × (pair_count ps ≡ n))))
 
-abbrev pub NoPairs : ℕ → ℕ → List ℕ → Type 0
-NoPairs n left old = (ps : Pairs (List ℕ)) (rest : List ℕ) → PairsSpelled ps → Rising ps → pair_depths ps ≤ left → pair_count ps ≡ n → old
-    ≡ pairs_bytes ps ++ rest → ⊥
+-- so many of at most this size together don't
+abbrev pub NoPairs : ℕ → ℕ → ℕ → List ℕ → Type 0
+NoPairs n left room old =
+    (ps : Pairs (List ℕ)) (rest : List ℕ) → PairsSpelled ps → Rising ps → pair_depths ps ≤ left → pair_sizes ps ≤ room → pair_count ps ≡ n
+    → old ≡ pairs_bytes ps ++ rest → ⊥
 
 -- whether a key is above the last one of the pairs
 abbrev pub above_from : List ℕ → Pairs (List ℕ) → List ℕ → Bool

@@ -3,7 +3,7 @@ use Rattle.std.specs.Prelude.{◌≡◌, ◌≤◌, ◌<◌, ◌^◌, ◌⊎◌,
 use Rattle.std.specs.Str.{IsUtf8}
 use Rattle.std.specs.Int.{w64}
 use Rattle.sky_base.specs.Val.{Val, Vals, Pairs, Desc, null, truth, num, text, list, dict, fun, ref, no_vals, val, no_pairs, pair, call, out, input}
-use Rattle.sky_base.specs.Val.{known, count, pair_count, depth, Rising}
+use Rattle.sky_base.specs.Val.{known, count, pair_count, depth, size, Rising}
 use Rattle.sky_base.specs.Kept.{Kept}
 use Rattle.sky_base.specs.Name.{bytes, bytes_of_text, is_anonymous}
 use Rattle.ciel_name.specs.declared.refusal.Decode.{Decode}
@@ -64,12 +64,16 @@ Refuses Decode.NotValue P = P
 abbrev pub Read : ℕ → List ℕ → Val (List ℕ) → List ℕ → Type 0
 Read left old v new = (old ≡ bytes v ++ new) × (Spelled v × (depth v ≤ left))
 
--- no such value does
-abbrev pub NoneRead : ℕ → List ℕ → Type 0
-NoneRead left old = (v : Val (List ℕ)) (rest : List ℕ) → Spelled v → depth v ≤ left → old ≡ bytes v ++ rest → ⊥
+-- no such value of at most this size does
+abbrev pub NoneRead : ℕ → ℕ → List ℕ → Type 0
+NoneRead left room old = (v : Val (List ℕ)) (rest : List ℕ) → Spelled v → depth v ≤ left → size v ≤ room → old ≡ bytes v ++ rest → ⊥
 
 abbrev pub TextRead : List ℕ → List ℕ → List ℕ → Type 0
 TextRead old t new = (old ≡ bytes_of_text t ++ new) × IsText t
 
 abbrev pub NoTextRead : List ℕ → Type 0
 NoTextRead old = (t rest : List ℕ) → IsText t → old ≡ bytes_of_text t ++ rest → ⊥
+
+-- no text of at most so many bytes does
+abbrev pub NoTextWithin : ℕ → List ℕ → Type 0
+NoTextWithin most old = (t rest : List ℕ) → IsText t → length t ≤ most → old ≡ bytes_of_text t ++ rest → ⊥

@@ -28,6 +28,8 @@ pub fn encode(alloc: Global, value: &Value) -> Result<Bytes, Memory>
 }
 
 /// Writes the bytes of a value.
+///
+/// After `Memory` the buffer holds what it held and then a first part of these bytes, or none of them.
 #[cycle(put)]
 #[tactic(auto, using(crate::proofs::Numbers::appends))]
 pub fn put_value(out: &mut Writer, value: &Value) -> Result<(), Memory>
@@ -70,9 +72,11 @@ pub fn put_value(out: &mut Writer, value: &Value) -> Result<(), Memory>
 }
 
 /// Writes the count of the elements, and then each.
+///
+/// After `Memory` the buffer holds what it held and then a first part of these bytes, or none of them.
 #[cycle(put)]
 #[tactic(auto, using(crate::proofs::Numbers::appends, sky_base::proofs::Values::inside))]
-pub fn put_values(out: &mut Writer, values: &Vals) -> Result<(), Memory>
+pub(crate) fn put_values(out: &mut Writer, values: &Vals) -> Result<(), Memory>
     ensures { IfOk result (λ _. out.new ≡ out.old ++ (big_endian 4 (count values.now) ++ vals_bytes values.now)) }
 {
     out.count(values.len())?;
@@ -83,6 +87,8 @@ pub fn put_values(out: &mut Writer, values: &Vals) -> Result<(), Memory>
 }
 
 /// Writes the count of the pairs, and then each: its key as text, its value.
+///
+/// After `Memory` the buffer holds what it held and then a first part of these bytes, or none of them.
 #[cycle(put)]
 #[tactic(auto, using(crate::proofs::Numbers::appends, sky_base::proofs::Values::inside))]
 pub fn put_pairs(out: &mut Writer, pairs: &Pairs) -> Result<(), Memory>

@@ -76,7 +76,8 @@ impl Writer {
         self.raw(&bytes[4..])
     }
 
-    /// Writes the number of bytes of a text in four bytes, and then the text.
+    /// Writes the number of bytes of a text in four bytes, and then the text. After `Memory` the four bytes may have been
+    /// written, without the text.
     #[tactic(auto, using(crate::proofs::Numbers::appends))]
     pub fn text(&mut self, text: &Txt) -> Result<(), Memory>
         ensures { IfOk result (λ _. self.new ≡ self.old ++ bytes_of_text text.now) }

@@ -4,7 +4,7 @@
 //! leaves less to do, so a run comes to its end without a budget. `specs/Ended` says how runs end, and why.
 #![tactic(auto)]
 
-mod draws;
+pub mod draws;
 pub mod drive;
 pub mod law;
 mod turn;

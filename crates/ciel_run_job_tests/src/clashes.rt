@@ -70,6 +70,15 @@ fn two_descriptions_of_one_name(rt: HostRuntime) -> Result<(), Fail> {
     Ok(())
 }
 
+// Two equal spawns are one description, and it is the main call that clashes with it.
+#[test]
+fn equal_spawns_clash_with_the_main_call(rt: HostRuntime) -> Result<(), Fail> {
+    let text = "function f(x) { return x; } a = spawn(f, [3]); b = spawn(f, [3]); return *a;";
+    let ran = ran(rt, rt.alloc(), text)?;
+    assert!(&rt; clashes(&ran.end));
+    Ok(())
+}
+
 fn answers(end: &RunEnd) -> bool {
     match end {
         RunEnd::Answer(bytes) => bytes.as_slice() == b"7\n".as_slice(),

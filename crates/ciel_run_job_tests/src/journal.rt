@@ -1,6 +1,7 @@
 // What a journal of the two squares says, by names and marks that were computed apart from the program.
 
 use ciel_master::entry::Entry;
+use ciel_run_drive::draws::state_after;
 use sky_base::name::Name;
 use sky_base::object::TaskId;
 
@@ -86,4 +87,16 @@ pub(crate) fn starts_are(journal: &[Entry], want: &[(TaskId, u32)]) -> bool {
         }
     }
     next == want.len()
+}
+
+// The first states from seed 0, computed apart.
+#[test]
+fn the_generator_goes_on_from_its_seed(rt: HostRuntime) {
+    assert_eq!(rt; state_after(0, 0), 0);
+    assert_eq!(rt; state_after(0, 1), 1_442_695_040_888_963_407);
+    assert_eq!(rt; state_after(0, 2), 1_876_011_003_808_476_466);
+    assert_eq!(rt;
+        state_after(18_446_744_073_709_551_615, 1_000),
+        2_590_738_312_200_969_575
+    );
 }

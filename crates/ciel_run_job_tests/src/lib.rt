@@ -1,11 +1,15 @@
-// Rows of whole runs that no program shows: ends that a message doesn't tell whole, namers and gates of their own (names that clash, a
-// description too many, an object that is lost on the way to it, two tasks that wait for each other), and runs in one thread beside the
-// same on threads. They stand in one crate of their own, since a crate with tests is proved twice, and each that stands on the engine loads
-// it.
+// Rows of whole runs that no program shows: ends that a message doesn't tell whole, namers, kits and gates of their own (names that clash,
+// a description too many, an object that is lost on the way to it, two tasks that wait for each other, tasks that run between their gates'
+// entrances and exits), and runs in one thread beside the same on threads. They stand in one crate of their own, since a crate with tests
+// is proved twice, and each that stands on the engine loads it.
 #![tactic(auto)]
 
 #[cfg(test)]
 mod clashes;
+#[cfg(test)]
+mod counting;
+#[cfg(test)]
+mod entering;
 #[cfg(test)]
 mod job;
 #[cfg(test)]
@@ -22,3 +26,5 @@ mod same;
 mod squares;
 #[cfg(test)]
 mod too_many;
+#[cfg(test)]
+mod watch;

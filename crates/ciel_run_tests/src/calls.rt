@@ -1,5 +1,5 @@
-// The program over a script at the path `s` and an input at the path `f`, in memory. One helper calls it, and its contract says nothing: what
-// the program promises would else be carried through every row.
+// The program over a script at the path `s` and an input of the lines `b` and `a` at the path `f`, in memory. One helper calls it, and its
+// contract says nothing: what the program promises would else be carried through every row.
 
 ghost use Rattle.std.specs.Prelude.{◌≡◌, length};
 
@@ -34,7 +34,7 @@ fn only(alloc: Global, number: u32) -> Result<Vec<u32>, Fail> {
 fn files(alloc: Global, source: &str, fails: u32) -> Result<MemFiles, Fail> {
     let mut files = Vec::new(alloc);
     files.push(file(alloc, "s", source)?)?;
-    files.push(file(alloc, "f", "x")?)?;
+    files.push(file(alloc, "f", "b\na\n")?)?;
     let files = MemFiles::new(alloc, files, only(alloc, fails)?)?;
     Ok(files)
 }

@@ -45,7 +45,7 @@ type Row = (
 
 const SUM: &str = "return 1 + 2;";
 
-static ROWS: [Row; 8] = [
+static ROWS: [Row; 9] = [
     ("s", SUM, (1, 0, 0), 8, "", "ciel: read fault s\n"),
     ("s t=f", SUM, (2, 0, 0), 8, "", "ciel: read fault f\n"),
     (
@@ -67,6 +67,14 @@ static ROWS: [Row; 8] = [
     ("s a=f b=f", SUM, (3, 0, 0), 8, "", "ciel: read fault f\n"),
     ("s", SUM, (0, 1, 0), 9, "3\n", "ciel: write fault\n"),
     ("s --plain", SUM, (0, 1, 0), 9, "3\n", "ciel: write fault\n"),
+    (
+        "s",
+        "function bad(){return 1/0;} return *spawn(bad, []);",
+        (0, 0, 1),
+        3,
+        "",
+        "ciel: fault DivZero 1:24\n",
+    ),
     (
         "s",
         "return 9223372036854775807 + 1;",

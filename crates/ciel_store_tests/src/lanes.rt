@@ -45,6 +45,7 @@ fn a_job_taken_back_is_still_out(rt: HostRuntime) -> Result<(), Fail> {
     let none = desk.take(&rt);
     assert_eq!(rt; none, None);
     assert!(rt; chair.work_one(&rt));
+    assert_eq!(rt; desk.take(&rt), Some(8));
     Ok(())
 }
 
@@ -88,5 +89,18 @@ fn an_output_is_taken_at_its_lane(rt: HostRuntime) -> Result<(), Fail> {
     assert!(rt; beside);
     assert_eq!(rt; twelve, 12);
     assert_eq!(rt; ten, 10);
+    Ok(())
+}
+
+// A lane whose output was taken takes another job, and what is out at the end comes back at its lane.
+#[test]
+fn a_lane_is_used_again(rt: HostRuntime) -> Result<(), Fail> {
+    let mut lanes = Lanes::<Doubles, HostRuntime>::open(rt, rt.alloc(), 1)?;
+    lanes.put(0, 5);
+    let ten = lanes.take_at(0);
+    lanes.put(0, 7);
+    let left = lanes.close();
+    assert_eq!(rt; ten, 10);
+    assert!(rt; left.as_slice() == [(0, 14)].as_slice());
     Ok(())
 }

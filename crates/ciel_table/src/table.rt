@@ -36,7 +36,7 @@ pub struct Table<P: At> {
     dropped: Dropped,
 }
 
-impl<P: At> Drop for Table<P> {
+impl<P: At + Drop> Drop for Table<P> {
     fn drop(self) {
         let Table {
             limit: _,

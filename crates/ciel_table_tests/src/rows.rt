@@ -338,3 +338,24 @@ fn a_name_has_one_description(rt: HostRuntime) -> Result<(), Fail> {
     assert_eq!(rt; table.len(), 1);
     Ok(())
 }
+
+/// One description that is learned twice has one row.
+const TWICE: &[Step] = &[
+    Step::Learn {
+        what: SQUARE,
+        told: ("row", 0),
+    },
+    Step::Learn {
+        what: SQUARE,
+        told: ("row", 0),
+    },
+];
+
+#[test]
+fn equal_descriptions_have_one_row(rt: HostRuntime) -> Result<(), Fail> {
+    let two = make_two(rt.alloc())?;
+    let mut table = open(rt.alloc(), 2)?;
+    play(&rt, rt.alloc(), &mut table, &two, TWICE)?;
+    assert_eq!(rt; table.len(), 1);
+    Ok(())
+}

@@ -194,18 +194,24 @@ fn is_above(table: &Table<Spot>, task: &TaskId, j: u32) -> bool
     }
 }
 
-/// A saved wait for one name.
+fn only(alloc: Global, name: &Name) -> Result<Names, Memory> {
+    let mut names = Names::new(alloc);
+    names.push(*name)?;
+    Ok(names)
+}
+
+/// A saved wait for one name, which it holds too.
 fn wait_for(alloc: Global, j: u32, worker: u32, name: &Name) -> Result<Wait<Spot>, Memory>
     ensures number { IfOk result (λ w. w.j ≡ j) }
     ensures place { IfOk result (λ w. w.place.worker ≡ worker) }
 {
-    let mut refs = Names::new(alloc);
-    refs.push(*name)?;
+    let refs = only(alloc, name)?;
+    let holds = only(alloc, name)?;
     Ok(Wait {
         j,
         place: spot_at(worker),
         refs,
-        holds: Names::new(alloc),
+        holds,
     })
 }
 

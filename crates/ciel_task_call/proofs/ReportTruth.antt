@@ -27,7 +27,7 @@ use Rattle.sky_base_waves.specs.Seen.{WritesAlike}
 use Rattle.ciel_task_call.specs.Steps.{stop_of}
 use Rattle.ciel_task_call.specs.Step.{Step}
 use Rattle.ciel_task_call.specs.Through.{PassedAt, asked_in}
-use Rattle.ciel_task_call.proofs.Asking.{asked_passed}
+use Rattle.ciel_task_call.proofs.AskedLemmas.{asked_passed}
 use Rattle.ciel_master_board.specs.Follows.{OrderIs}
 use Rattle.ciel_master_board.specs.Reports.{copy_names, end_view, made_keys, report_view}
 use Rattle.ciel_master_board.specs.Setting.{Setting}

@@ -26,6 +26,7 @@ use sky_base::value::Value;
 use std::alloc::Global;
 
 /// What is kept of the settled lines.
+#[derive(Drop)]
 pub(crate) enum Blocks {
     /// `cat`: the lines that weren't handed out.
     Cat(Stream),
@@ -37,18 +38,6 @@ pub(crate) enum Blocks {
     Same(Pair),
     /// `sort` and `split`: all of them.
     Kept(Vec<u8>),
-}
-
-impl Drop for Blocks {
-    fn drop(self) {
-        match self {
-            Blocks::Cat(_) => {}
-            Blocks::Grep(_, _) => {}
-            Blocks::Count(_) => {}
-            Blocks::Same(_) => {}
-            Blocks::Kept(_) => {}
-        }
-    }
 }
 
 // Adds the lines of a block. More than 128 bits can count are as want of memory.

@@ -40,6 +40,7 @@ pub enum FlowRefusal {
 /// its output while that isn't too large, for `sum` and `tally` each distinct rest or line with its sum, for `same` the first input
 /// and how far the second agrees with it, for `sort` and `split` all. Beside these it holds what follows the last line feed
 /// of the last input, and lines for which there was no memory when they came.
+#[derive(Drop)]
 pub struct Flow {
     pub(crate) alloc: Global,
     pub(crate) executor: Txt,
@@ -50,20 +51,6 @@ pub struct Flow {
     // what of it isn't settled
     pub(crate) rest: Vec<u8>,
     pub(crate) settled: Settled,
-}
-
-impl Drop for Flow {
-    fn drop(self) {
-        let Flow {
-            alloc: _,
-            executor: _,
-            args: _,
-            outputs: _,
-            last: _,
-            rest: _,
-            settled: _,
-        } = self;
-    }
 }
 
 // The pairs of the arguments, where they are right, or their fault.

@@ -1,7 +1,8 @@
 // What each executor gives, whatever place its inputs are cut at, with drains between and without.
 
 use crate::calls::{Given, are, cut, kit};
-use line_kit_tests::calls::{Arg, Args, ONE, TWO, dictionary};
+use line_flow::kit::FlowKit;
+use line_kit_tests::calls::{Arg, Args, ONE, TWO, dictionary, eight_times};
 use sky_base::value::Value;
 use std::alloc::Global;
 use std::test::Fail;
@@ -135,5 +136,13 @@ fn rows_hold_by_the_kit(rt: HostRuntime) -> Result<(), Fail> {
     for row in &ROWS {
         assert!(rt; holds_whole(rt.alloc(), row)?, "{}", row.0);
     }
+    Ok(())
+}
+
+// The input in eight places has as many bytes as an output may have, or eight more.
+#[test]
+fn outputs_at_their_limit(rt: HostRuntime) -> Result<(), Fail> {
+    assert!(rt; eight_times(rt.alloc(), &FlowKit, 8_388_608)?);
+    assert!(rt; !eight_times(rt.alloc(), &FlowKit, 8_388_609)?);
     Ok(())
 }

@@ -1,5 +1,7 @@
 // Arguments and inputs of executors that are short to write.
 
+use sky_base::fault::FaultKind;
+use sky_base::kit::Kit;
 use sky_base::name::Name;
 use sky_base::text::{Bytes, Txt};
 use sky_base::value::{Pairs, Vals, Value};
@@ -70,4 +72,25 @@ pub fn bytes_of(alloc: Global, inputs: &[&str]) -> Result<Vec<Bytes>, Fail> {
         }
     }
     Ok(all)
+}
+
+/// Whether `cat` of a kit gives a line of so many bytes eight times. Otherwise it says that they are too many.
+pub fn eight_times<K: Kit>(alloc: Global, kit: &K, bytes: usize) -> Result<bool, Fail> {
+    let mut line = vec![in alloc; b'a'; bytes]?;
+    if let Some(last) = line.last_mut() {
+        *last = b'\n';
+    }
+    let input = Bytes::new(alloc, line)?;
+    let mut inputs = Vec::new(alloc);
+    for _ in 0..8 {
+        if inputs.push(input.share()?).is_err() {
+            return Err(Fail::from("memory"));
+        }
+    }
+    let args = dictionary(alloc, &[("in", Arg::Many(8))])?;
+    match kit.run(alloc, &Txt::new(alloc, "cat")?, &args, inputs.as_slice(), 1)? {
+        Ok(_) => Ok(true),
+        Err(FaultKind::TooLarge) => Ok(false),
+        Err(_) => Err(Fail::from("another fault")),
+    }
 }

@@ -65,24 +65,3 @@ pub fn faults(
     }
     Ok(())
 }
-
-/// Whether `cat` gives a line of so many bytes eight times. Otherwise it says that they are too many.
-pub fn eight_times(alloc: Global, bytes: usize) -> Result<bool, Fail> {
-    let mut line = vec![in alloc; b'a'; bytes]?;
-    if let Some(last) = line.last_mut() {
-        *last = b'\n';
-    }
-    let input = Bytes::new(alloc, line)?;
-    let mut inputs = Vec::new(alloc);
-    for _ in 0..8 {
-        if inputs.push(input.share()?).is_err() {
-            return Err(Fail::from("memory"));
-        }
-    }
-    let args = dictionary(alloc, &[("in", Arg::Many(8))])?;
-    match LineKit.run(alloc, &Txt::new(alloc, "cat")?, &args, inputs.as_slice(), 1)? {
-        Ok(_) => Ok(true),
-        Err(FaultKind::TooLarge) => Ok(false),
-        Err(_) => Err(Fail::from("another fault")),
-    }
-}

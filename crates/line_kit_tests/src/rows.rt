@@ -1,7 +1,8 @@
 // What each executor gives.
 
-use crate::calls::{Arg, Args, ONE, TWO};
-use crate::kit::{eight_times, gives};
+use crate::calls::{Arg, Args, ONE, TWO, eight_times};
+use crate::kit::gives;
+use line_kit::kit::LineKit;
 use std::test::Fail;
 
 type Row = (
@@ -136,7 +137,7 @@ fn executors_give_their_outputs(rt: HostRuntime) -> Result<(), Fail> {
 // The input in eight places has as many bytes as an output may have, or eight more.
 #[test]
 fn outputs_at_their_limit(rt: HostRuntime) -> Result<(), Fail> {
-    assert!(rt; eight_times(rt.alloc(), 8_388_608)?);
-    assert!(rt; !eight_times(rt.alloc(), 8_388_609)?);
+    assert!(rt; eight_times(rt.alloc(), &LineKit, 8_388_608)?);
+    assert!(rt; !eight_times(rt.alloc(), &LineKit, 8_388_609)?);
     Ok(())
 }

@@ -1,6 +1,6 @@
 // The variables of a body that is run, and how many nodes its task has visited.
 
-ghost use Rattle.std.specs.Prelude.{List, ◌≡◌, ◌≢◌, ◌<◌, ◌^◌, ◌+◌, true, false, nat_lt, Option, Some, None, IfOk, IfErr, IfSome, MatchOption};
+ghost use Rattle.std.specs.Prelude.{List, ◌≡◌, ◌≢◌, ◌<◌, ◌^◌, ◌+◌, ◌⊎◌, true, false, nat_lt, Option, Some, None, IfOk, IfErr, IfSome, MatchOption};
 ghost use Rattle.std.specs.Option.{option_map};
 ghost use Rattle.sky_base.specs.Kept.{Kept};
 ghost use Rattle.sky_base.specs.Val.{no_pairs, null};
@@ -112,20 +112,23 @@ impl State {
         }
     }
 
-    /// Sets a variable.
+    /// Sets a variable. After `Memory` the state is as it was.
     #[tactic(auto, using(crate::proofs::Vars::vars))]
     pub fn set(&mut self, name: &Txt, v: Value) -> Result<(), Memory>
         requires { Kept (view v) }
-        ensures { IfOk result (λ _. self.new ≡ set_var name.now (view v) self.old) }
+        ensures ok { IfOk result (λ _. self.new ≡ set_var name.now (view v) self.old) }
+        ensures still { IfErr result (λ _. self.new ≡ self.old) }
     {
         self.vars.insert(name.share()?, v)
     }
 
-    /// Binds parameters to arguments, over what the function captured, in place of all variables.
+    /// Binds parameters to arguments, over what the function captured, in place of all variables. After `Memory` the
+    /// state is as it was.
     pub fn bind(&mut self, caught: &Pairs, params: &[Txt], args: &Vals) -> Result<(), Memory>
         requires caught { KeptPairs caught.now }
         requires args { KeptVals args.now }
-        ensures { IfOk result (λ _. self.new ≡ with_vars (bind params.now args.now caught.now) self.old) }
+        ensures ok { IfOk result (λ _. self.new ≡ with_vars (bind params.now args.now caught.now) self.old) }
+        ensures still { IfErr result (λ _. self.new ≡ self.old) }
     {
         self.vars = bound(caught, params, args)?;
         Ok(())
@@ -147,13 +150,15 @@ impl State {
         Ok(caught)
     }
 
-    // The value of a variable, which is null from then on, so that nobody else need hold the value.
+    // The value of a variable, which is null from then on, so that nobody else need hold the value. After `Memory` the
+    // state is as it was.
     #[tactic(auto, using(crate::proofs::Vars::vars))]
     fn take(&mut self, name: &Txt) -> Result<Option<Value>, Memory>
         ensures none { IfOk result (λ o. o ≡ None → find name.now self.old.vars ≡ None) }
         ensures some { IfOk result (λ o. IfSome o (λ v. (find name.now self.old.vars ≡ Some (view v))
             × (self.new ≡ set_var name.now null self.old) × Kept (view v))) }
         ensures still { IfOk result (λ o. o ≡ None → self.new ≡ self.old) }
+        ensures err { IfErr result (λ _. self.new ≡ self.old) }
     {
         let Some(v) = self.find(name)? else {
             return Ok(None);
@@ -163,7 +168,8 @@ impl State {
     }
 
     /// `x += e;` with the places of the name and of the `+=`. A list that nobody else holds grows in
-    /// place. After a fault the variables are as they were.
+    /// place. After a fault the variables are as they were. After `Memory` the variable may be
+    /// null, and nothing else has changed.
     #[tactic(auto, using(crate::proofs::Vars::vars))]
     pub fn grow(
         &mut self,
@@ -179,6 +185,7 @@ impl State {
         ensures changes { (rows : List Row) → Changes result rows self.new
             (add_to (find name.now self.old.vars) name.now (at name_line name_col) (at line col) (view e) rows self.old) }
         ensures still { IfErr result (λ c. c ≢ Cut.Memory → self.new ≡ self.old) }
+        ensures memory { IfErr result (λ _. (self.new ≡ self.old) ⊎ (self.new ≡ set_var name.now null self.old)) }
     {
         let Some(mut v) = self.take(name)? else {
             return Err(fault(FaultKind::Unknown, name_line, name_col));
@@ -195,7 +202,8 @@ impl State {
     }
 
     /// `x[i] = e;` with the places of the name and of the `[`. A list or a dictionary that nobody else
-    /// holds is changed in place. After a fault the variables are as they were.
+    /// holds is changed in place. After a fault the variables are as they were. After `Memory` the variable may be
+    /// null, and nothing else has changed.
     #[tactic(auto, using(crate::proofs::Vars::vars))]
     pub fn put(
         &mut self,
@@ -212,6 +220,7 @@ impl State {
         ensures changes { (rows : List Row) → Changes result rows self.new
             (put_in (find name.now self.old.vars) name.now (at name_line name_col) (at line col) (view i.now) (view e) rows self.old) }
         ensures still { IfErr result (λ c. c ≢ Cut.Memory → self.new ≡ self.old) }
+        ensures memory { IfErr result (λ _. (self.new ≡ self.old) ⊎ (self.new ≡ set_var name.now null self.old)) }
     {
         let Some(mut v) = self.take(name)? else {
             return Err(fault(FaultKind::Unknown, name_line, name_col));

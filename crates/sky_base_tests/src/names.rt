@@ -40,7 +40,8 @@ fn copies_a_description(alloc: Global) -> Result<bool, Fail> {
     let desc = Desc1::Input {
         key: Txt::new(alloc, "a")?,
     };
-    match (Named { name, desc }).copy()?.desc {
+    let copy = Named { name, desc }.copy()?;
+    match &copy.desc {
         Desc1::Input { key } => Ok(key.share()?.as_str() == "a"),
         _ => Ok(false),
     }
@@ -49,7 +50,8 @@ fn copies_a_description(alloc: Global) -> Result<bool, Fail> {
 fn copies_an_object(alloc: Global) -> Result<bool, Fail> {
     let mut bytes = Vec::new(alloc);
     bytes.push(b'a')?;
-    match Object::Bytes(Bytes::new(alloc, bytes)?).copy()? {
+    let copy = Object::Bytes(Bytes::new(alloc, bytes)?).copy()?;
+    match &copy {
         Object::Bytes(bytes) => Ok(bytes.as_slice() == b"a".as_slice()),
         _ => Ok(false),
     }

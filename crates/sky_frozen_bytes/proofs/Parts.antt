@@ -1,10 +1,16 @@
 -- The parts of a state by their bytes: none begins another of its kind.
-use Rattle.std.proofs.Common.{◌≡◌, ◌≤◌, ◌<◌, ℕ, List, [], ◌∷◌, ◌++◌, length, refl, ap, ap₂, sym, ◌∙◌, subst, arith, append_assoc, append-nil}
-use Rattle.sky_base.specs.Val.{Val, Pairs, no_pairs, pair, pair_count, pair_depths, most_depth, most_size, size}
+use Rattle.std.proofs.Common.{◌≡◌, ◌≤◌, ◌<◌, ℕ, List, [], ◌∷◌, ◌++◌, length, Bool, true, false, ◌+◌, refl, ap, ap₂, sym, ◌∙◌, subst, arith, append_assoc, append-nil}
+use Rattle.sky_base.specs.Val.{Val, Pairs, no_pairs, pair, pair_count, most_depth, most_size, size, Rising}
+use Rattle.sky_base.specs.Kept.{Kept}
+use Rattle.sky_base.specs.Op.{put}
+use Rattle.std.specs.Ordering.{nat_cmp, match_ordering}
+use Rattle.std.specs.Cmp.Lexicographic.{slice_cmp}
+use Rattle.std.specs.declared.cmp.Ordering.{Ordering}
 use Rattle.sky_base.specs.Name.{big_endian, bytes, bytes_of_text, pairs_bytes}
 use Rattle.sky_base.specs.Read.{Todo, Frame}
-use Rattle.ciel_name.specs.Spelled.{IsText, IsData, Read, NoneRead}
-use Rattle.ciel_name.specs.Bodies.{PairsRead, NoPairs}
+use Rattle.ciel_name.specs.Spelled.{IsText, IsData, PairsSpelled, Read, NoneRead, TextRead, NoTextRead}
+use Rattle.ciel_name.specs.Bodies.{PairsRead, is_above}
+use Rattle.ciel_name.proofs.Items.{followed, pairs_more, pairs_next}
 use Rattle.ciel_name.proofs.PrefixFreeBytes.{val_free, text_free, pairs_free, four_free}
 use Rattle.sky_state.specs.Stand.{Stand}
 use Rattle.sky_frozen_bytes.specs.Bytes.{counted, todo_bytes, vars_bytes, frame_bytes, run_bytes, frozen_bytes}
@@ -21,14 +27,8 @@ data_free v w r s p q e = val_free v w r s p.spelled q.spelled e
 
 -- ---- values within the limits
 
-pub no_value : (old : List ℕ) → NoneRead most_depth old → NoneAs bytes IsData old
-no_value old none v rest d e = none v rest d.spelled d.kept.deep e
-
-pub value_large : (old : List ℕ) (v : Val (List ℕ)) (new : List ℕ) → Read most_depth old v new → most_size < size v → NoneAs bytes IsData old
-value_large old v new p h w rest d e =
-    let same = val_free v w new rest p.1.0 d.spelled (sym p.0 ∙ e) in
-    let small : size v ≤ most_size = subst (λ x. size x ≤ most_size) (sym same.0) d.kept.large in
-    absurd (omega (arith, h, small))
+pub no_value : (old : List ℕ) → NoneRead most_depth most_size old → NoneAs bytes IsData old
+no_value old none v rest d e = none v rest d.spelled d.kept.deep d.kept.large e
 
 pub value_read : (old : List ℕ) (v : Val (List ℕ)) (new : List ℕ) → Read most_depth old v new → size v ≤ most_size → ReadAs bytes IsData old v new
 value_read old v new p h = (p.0, record { spelled = p.1.0; kept = record { deep = p.1.1; large = h } })
@@ -42,35 +42,72 @@ vars_free ps qs r s p q e =
     ∙ append_assoc (big_endian 4 (pair_count qs)) (pairs_bytes qs) s) in
     pairs_free ps qs r s p.0 q.0 same.0 same.1
 
-kept_depths : (ps : Pairs (List ℕ)) → EachKept ps → pair_depths ps ≤ most_depth
-kept_depths no_pairs h = omega arith
-kept_depths (pair k v ps) h = let d = h.0.deep in omega (arith, d, kept_depths ps h.1)
+-- so many variables don't stand in front
+abbrev pub NoVars : ℕ → List ℕ → Type 0
+NoVars n old =
+    (ps : Pairs (List ℕ)) (rest : List ℕ) → PairsSpelled ps → Rising ps → EachKept ps → pair_count ps ≡ n → old ≡ pairs_bytes ps ++ rest → ⊥
+
+-- so many do
+abbrev pub VarsRead : ℕ → List ℕ → Pairs (List ℕ) → List ℕ → Type 0
+VarsRead n old ps new = PairsRead n most_depth old ps new × EachKept ps
+
+kept_either : (o : Ordering) (a b c : Pairs (List ℕ)) → EachKept a → EachKept b → EachKept c → EachKept (match_ordering o a b c)
+kept_either Ordering.Less a b c p q r = p
+kept_either Ordering.Equal a b c p q r = q
+kept_either Ordering.Greater a b c p q r = r
+
+kept_put : (k : List ℕ) (v : Val (List ℕ)) (ps : Pairs (List ℕ)) → EachKept ps → Kept v → EachKept (put k v ps)
+kept_put k v no_pairs h g = (g, tt)
+kept_put k v (pair l w ps) h g =
+    kept_either (slice_cmp nat_cmp k l) (pair k v (pair l w ps)) (pair l v ps) (pair l w (put k v ps)) (g, h) (g, h.1)
+    (h.0, kept_put k v ps h.1 g)
+
+kept_next : (ps : Pairs (List ℕ)) (k : List ℕ) (v : Val (List ℕ)) (us : Pairs (List ℕ)) → EachKept (followed ps (pair k v us)) → Kept v
+kept_next no_pairs k v us h = h.0
+kept_next (pair l w ps) k v us h = kept_next ps k v us h.1
+
+pub vars_more : (i : ℕ) (old : List ℕ) (ps : Pairs (List ℕ)) (mid k inner : List ℕ) (v : Val (List ℕ)) (new : List ℕ) → VarsRead i old ps mid
+    → TextRead mid k inner → is_above k ps ≡ true → ReadAs bytes IsData inner v new → VarsRead (i + 1) old (put k v ps) new
+vars_more i old ps mid k inner v new p t a q = (
+  pairs_more i most_depth old ps mid k inner v new p.0 t a (q.0, (q.1.spelled, q.1.kept.deep)),
+  kept_put k v ps p.1 q.1.kept,
+)
+
+pub vars_text : (i n : ℕ) (old : List ℕ) (ps : Pairs (List ℕ)) (mid : List ℕ) → VarsRead i old ps mid → i < n → NoTextRead mid → NoVars n old
+vars_text i n old ps mid p h none qs rest s r g c e =
+    pairs_next i n most_depth old ps mid p.0 h qs rest s r c e (λ k v us more t q a f y. none k (bytes v ++ more) t f)
+
+pub vars_low : (i n : ℕ) (old : List ℕ) (ps : Pairs (List ℕ)) (mid k inner : List ℕ) → VarsRead i old ps mid → i < n → TextRead mid k inner
+    → is_above k ps ≡ false → NoVars n old
+vars_low i n old ps mid k inner p h t b qs rest s r g c e =
+    pairs_next i n most_depth old ps mid p.0 h qs rest s r c e (λ l v us more u q a f y.
+    let j = text_free k l inner (bytes v ++ more) t.1 u (sym t.0 ∙ f) in
+    let no : false ≡ true = sym b ∙ ap (λ x. is_above x ps) j.0 ∙ a in
+    absurd cc)
+
+pub vars_none : (i n : ℕ) (old : List ℕ) (ps : Pairs (List ℕ)) (mid k inner : List ℕ) → VarsRead i old ps mid → i < n → TextRead mid k inner
+    → NoneAs bytes IsData inner → NoVars n old
+vars_none i n old ps mid k inner p h t none qs rest s r g c e =
+    pairs_next i n most_depth old ps mid p.0 h qs rest s r c e (λ l v us more u q a f y.
+    let j = text_free k l inner (bytes v ++ more) t.1 u (sym t.0 ∙ f) in
+    none v more (record { spelled = q; kept = kept_next ps l v us (subst EachKept y g) }) j.1)
 
 pub no_vars_count : (old : List ℕ) → length old < 4 → NoneAs vars_bytes VarsSpelled old
 no_vars_count old h ps rest good e =
     four_short old h (pair_count ps) (pairs_bytes ps ++ rest) good.2 (e ∙ append_assoc (big_endian 4 (pair_count ps)) (pairs_bytes ps) rest)
 
-pub no_vars : (old : List ℕ) (n : ℕ) (mid : List ℕ) → old ≡ big_endian 4 n ++ mid → Fits32 n → NoPairs n most_depth mid
-    → NoneAs vars_bytes VarsSpelled old
+pub no_vars : (old : List ℕ) (n : ℕ) (mid : List ℕ) → old ≡ big_endian 4 n ++ mid → Fits32 n → NoVars n mid → NoneAs vars_bytes VarsSpelled old
 no_vars old n mid e h none ps rest good g =
     let same = four_free n (pair_count ps) mid (pairs_bytes ps ++ rest) h good.2
     (sym e ∙ g ∙ append_assoc (big_endian 4 (pair_count ps)) (pairs_bytes ps) rest) in
-    none ps rest good.0 good.1 (kept_depths ps good.3) (sym same.0) same.1
-
-pub vars_large : (old : List ℕ) (n : ℕ) (mid : List ℕ) (ps : Pairs (List ℕ)) (new : List ℕ) → old ≡ big_endian 4 n ++ mid → Fits32 n
-    → PairsRead n most_depth mid ps new → (EachKept ps → ⊥) → NoneAs vars_bytes VarsSpelled old
-vars_large old n mid ps new e h p bad qs rest good g =
-    let same = four_free n (pair_count qs) mid (pairs_bytes qs ++ rest) h good.2
-    (sym e ∙ g ∙ append_assoc (big_endian 4 (pair_count qs)) (pairs_bytes qs) rest) in
-    let it = pairs_free ps qs new rest p.1.0 good.0 (p.1.1.1.1 ∙ same.0) (sym p.0 ∙ same.1) in
-    bad (subst EachKept (sym it.0) good.3)
+    none ps rest good.0 good.1 good.3 (sym same.0) same.1
 
 pub vars_read : (old : List ℕ) (n : ℕ) (mid : List ℕ) (ps : Pairs (List ℕ)) (new : List ℕ) → old ≡ big_endian 4 n ++ mid → Fits32 n
-    → PairsRead n most_depth mid ps new → EachKept ps → ReadAs vars_bytes VarsSpelled old ps new
-vars_read old n mid ps new e h p kept =
-    let counted : pair_count ps ≡ n = p.1.1.1.1 in (
-      e ∙ ap₂ (λ k b. big_endian 4 k ++ b) (sym counted) p.0 ∙ sym (append_assoc (big_endian 4 (pair_count ps)) (pairs_bytes ps) new),
-      (p.1.0, p.1.1.0, subst Fits32 (sym counted) h, kept),
+    → VarsRead n mid ps new → ReadAs vars_bytes VarsSpelled old ps new
+vars_read old n mid ps new e h p =
+    let counted : pair_count ps ≡ n = p.0.1.1.1.1 in (
+      e ∙ ap₂ (λ k b. big_endian 4 k ++ b) (sym counted) p.0.0 ∙ sym (append_assoc (big_endian 4 (pair_count ps)) (pairs_bytes ps) new),
+      (p.0.1.0, p.0.1.1.0, subst Fits32 (sym counted) h, p.1),
     )
 
 -- ---- forms under way

@@ -13,10 +13,10 @@ ghost use Rattle.sky_state.specs.StandView.{todo_view, todos_view, stack_view, f
 ghost use Rattle.sky_state.specs.StateView.{stand_of, spawned_of};
 
 use crate::refusal::ReadFrozen;
-use ciel_name::read::{read_pairs, read_text, read_value};
+use ciel_name::read::{is_above, read_text, read_value};
 use ciel_name::reader::Reader;
 use ciel_name::refusal::Decode;
-use sky_base::value::{MOST_DEPTH, Pair, Pairs, Value};
+use sky_base::value::{MOST_DEPTH, MOST_SIZE, Pairs, Value};
 use sky_state::frame::{Frame, Frames, Stack, Todo, Todos};
 use sky_state::spawned::Spawned;
 use sky_state::state::{RunState, State};
@@ -62,14 +62,10 @@ fn read_data(alloc: Global, reader: &mut Reader) -> Result<Value, Decode>
     ensures read { IfOk result (λ v. ReadAs bytes IsData reader.old (view v) reader.new) }
     ensures refused { IfErr result (λ e. Refuses e (NoneAs bytes IsData reader.old)) }
 {
-    let value = match read_value(alloc, reader, MOST_DEPTH) {
-        Ok(value) => value,
-        Err(refusal) => return Err(refusal),
-    };
-    if value.is_too_large() {
-        return Err(Decode::NotValue);
+    match read_value(alloc, reader, MOST_DEPTH, MOST_SIZE) {
+        Ok(value) => Ok(value),
+        Err(refusal) => Err(refusal),
     }
-    Ok(value)
 }
 
 /// Values, behind their number.
@@ -93,20 +89,7 @@ fn read_values(alloc: Global, reader: &mut Reader) -> Result<Vec<Value>, Decode>
     Ok(values)
 }
 
-/// Whether each value keeps the limits.
-fn are_kept(pairs: &[Pair]) -> bool
-    ensures kept { IsTrue result → EachKept (pairs_of pairs.now) }
-    ensures some_not { IsFalse result → EachKept (pairs_of pairs.now) → ⊥ }
-{
-    for pair in pairs {
-        if pair.value.is_too_deep() || pair.value.is_too_large() {
-            return false;
-        }
-    }
-    true
-}
-
-/// Variables, behind their number, each within the limits.
+/// Variables, behind their number: names that rise, each with a value within the limits.
 fn read_vars(alloc: Global, reader: &mut Reader) -> Result<Pairs, Decode>
     ensures read { IfOk result (λ ps. ReadAs vars_bytes VarsSpelled reader.old ps reader.new) }
     ensures refused { IfErr result (λ e. Refuses e (NoneAs vars_bytes VarsSpelled reader.old)) }
@@ -114,12 +97,20 @@ fn read_vars(alloc: Global, reader: &mut Reader) -> Result<Pairs, Decode>
     let Some(count) = reader.number() else {
         return Err(Decode::NotValue);
     };
-    let vars = match read_pairs(alloc, reader, count, MOST_DEPTH) {
-        Ok(vars) => vars,
-        Err(refusal) => return Err(refusal),
-    };
-    if !are_kept(vars.as_slice()) {
-        return Err(Decode::NotValue);
+    let mut vars = Pairs::new(alloc);
+    for _var in 0..count {
+        let name = match read_text(alloc, reader) {
+            Ok(name) => name,
+            Err(refusal) => return Err(refusal),
+        };
+        if !is_above(&name, vars.as_slice()) {
+            return Err(Decode::NotValue);
+        }
+        let value = match read_data(alloc, reader) {
+            Ok(value) => value,
+            Err(refusal) => return Err(refusal),
+        };
+        vars.insert(name, value)?;
     }
     Ok(vars)
 }

@@ -133,6 +133,14 @@ ends_count sc = ends_length (pre_script sc) 0 ∙ script_count sc
 pub no_node : (sc : Script) (i : ℕ) → length (ends_of sc) ≤ i → node_at sc i ≡ None
 no_node sc i h = get_past (pre_script sc) i (omega (arith, h, ends_length (pre_script sc) 0))
 
+in_list : {A : Type 0} (xs : List A) (i : ℕ) (x : A) → slice_get xs i ≡ Some x → i < length xs
+in_list [] i x e = absurd cc
+in_list (y ∷ xs) zero x e = omega arith
+in_list (y ∷ xs) (suc i) x e = omega (arith, in_list xs i x e)
+
+pub in_script : (sc : Script) (i : ℕ) (t : Node) → node_at sc i ≡ Some t → i < length (ends_of sc)
+in_script sc i t e = omega (arith, in_list (pre_script sc) i t e, ends_length (pre_script sc) 0)
+
 -- the main body's
 pub main_end : (sc : Script) → slice_index (ends_of sc) 0 ≡ block_nodes sc.main
 main_end sc = end_at sc 0 (block_node sc.main) (has_script sc).0.0 ∙ omega arith

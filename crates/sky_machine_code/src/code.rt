@@ -1,15 +1,16 @@
 // A script with the numbers of its nodes.
 
-ghost use Rattle.std.specs.Prelude.{◌≡◌, ◌<◌, ◌≤◌, ◌+◌, ℕ, [], Some, None, MatchOption, leb, length, slice_index};
+ghost use Rattle.std.specs.Prelude.{◌≡◌, ◌<◌, ◌≤◌, ◌+◌, ℕ, [], Some, None, MatchOption, leb, length, slice_index, take, drop};
 ghost use Rattle.std.specs.List.Sorted.{IsNonDecreasing};
 ghost use Rattle.sky_base.specs.Tree.{nodes, stm_nodes, block_nodes};
 ghost use Rattle.sky_base.specs.TreeView.{exp_view};
 ghost use Rattle.sky_base.specs.StmtView.{stm_view};
 ghost use Rattle.sky_base.specs.Eval.{body_of};
 ghost use Rattle.sky_base.specs.ScriptView.{funs_view};
-ghost use Rattle.sky_base_law.specs.Opened.{Node, block_node, HasExp, HasStm};
+ghost use Rattle.sky_base_law.specs.Opened.{Node, block_node, HasExp, HasStm, HasStms};
 ghost use Rattle.sky_base_law.specs.Nodes.{node_at};
 ghost use Rattle.sky_machine_code.specs.Numbers.{Holds, ends_of, starts_of, node_size};
+ghost use Rattle.sky_machine_code.specs.Parts.{Parted, begins_from};
 
 use sky_base::stmt::{Block, Stmt};
 use sky_base::text::Txt;
@@ -25,6 +26,9 @@ pub struct Code<'a> {
     ends: &'a [u32],
     // The nodes of the functions' blocks.
     starts: &'a [u32],
+    // For each node the place in `parts` where the numbers of the nodes directly in it begin.
+    firsts: &'a [usize],
+    parts: &'a [u32],
 }
 
 impl<'a> Model for Code<'a> {
@@ -32,6 +36,7 @@ impl<'a> Model for Code<'a> {
     ghost use Rattle.sky_base.specs.Tree as logic;
     ghost use Rattle.sky_base.specs.ScriptCode.{script_code};
     ghost use Rattle.sky_machine_code.specs.Numbers.{ends_of, starts_of};
+    ghost use Rattle.sky_machine_code.specs.Parts.{Parted};
 
     ghost Value = { logic.Script };
 
@@ -39,7 +44,7 @@ impl<'a> Model for Code<'a> {
 
     ghost view = { λ c. c.program };
 
-    ghost invariant = { λ c. (c.ends.now ≡ ends_of c.program) × (c.starts.now ≡ starts_of c.program) };
+    ghost invariant = { λ c. (c.ends.now ≡ ends_of c.program) × (c.starts.now ≡ starts_of c.program) × Parted c.ends.now c.firsts.now c.parts.now };
 }
 
 /// What a call of a function runs: its parameters, its block and the node of the block.
@@ -52,15 +57,24 @@ pub struct Body<'a> {
 
 impl<'a> Code<'a> {
     /// The script with these numbers, in constant time.
-    pub fn of(program: Program<'a>, ends: &'a [u32], starts: &'a [u32]) -> Code<'a>
+    pub fn of(
+        program: Program<'a>,
+        ends: &'a [u32],
+        starts: &'a [u32],
+        firsts: &'a [usize],
+        parts: &'a [u32],
+    ) -> Code<'a>
         requires ends { ends.now ≡ ends_of program }
         requires starts { starts.now ≡ starts_of program }
+        requires parts { Parted ends.now firsts.now parts.now }
         ensures { result ≡ program.entry }
     {
         Code {
             program,
             ends,
             starts,
+            firsts,
+            parts,
         }
     }
 
@@ -111,6 +125,16 @@ impl<'a> Code<'a> {
         let _here = number_at(self.ends, node as usize);
         let _end = number_at(self.ends, node as usize + 1);
         node.saturating_add(1)
+    }
+
+    /// The numbers of a block's statements, in order: in constant time.
+    pub fn begins(&self, node: u32, block: &Block) -> &'a [u32]
+        requires here { node_at self.now node ≡ Some (block_node block.now) }
+        requires has { HasStms (λ i. node_at self.now i) block.now (node + 1) }
+        ensures { result.now ≡ begins_from block.now (node + 1) }
+    {
+        let first = place_at(self.firsts, node as usize);
+        cut(self.parts, first, block.as_slice().len())
     }
 
     /// What a call of the function of this name runs; the empty name is that of the main body.
@@ -169,8 +193,8 @@ impl<'a> Code<'a> {
     }
 }
 
-// How many of these numbers, which rise, are at most this one.
-fn begun(starts: &[u32], number: u32) -> usize
+/// How many of these numbers, which rise, are at most this one: found by halves.
+pub fn begun(starts: &[u32], number: u32) -> usize
     requires { IsNonDecreasing starts.now }
     ensures most { result ≤ length starts.now }
     ensures first { (k : ℕ) → k < result → slice_index starts.now k ≤ number }
@@ -188,4 +212,19 @@ fn number_at(numbers: &[u32], at: usize) -> u32
     ensures { result ≡ slice_index numbers.now at }
 {
     numbers.get(at).copied().unwrap_or(0)
+}
+
+// The place of a node, or 0 past the end.
+fn place_at(places: &[usize], at: usize) -> usize
+    ensures { result ≡ slice_index places.now at }
+{
+    places.get(at).copied().unwrap_or(0)
+}
+
+// So many numbers from this place on.
+fn cut<'a>(numbers: &'a [u32], from: usize, count: usize) -> &'a [u32]
+    requires { from + count ≤ length numbers.now }
+    ensures { result.now ≡ take count (drop from numbers.now) }
+{
+    &numbers[from..from + count]
 }

@@ -19,6 +19,7 @@ pub struct Parens {
 }
 
 /// A form with parts, one of which is pending.
+#[derive(Drop)]
 pub struct Part<'a> {
     pub node: u32,
     pub step: usize,
@@ -28,21 +29,6 @@ pub struct Part<'a> {
     pub col: u32,
     pub values: Vals,
     pub rest: Rest<'a>,
-}
-
-impl<'a> Drop for Part<'a> {
-    fn drop(self) {
-        let Part {
-            node: _,
-            step: _,
-            next: _,
-            form: _,
-            line: _,
-            col: _,
-            values: _,
-            rest: _,
-        } = self;
-    }
 }
 
 /// A chain whose first operand is pending.
@@ -122,6 +108,7 @@ pub struct Index<'a> {
 }
 
 /// An argument that is pending, with the function and the arguments so far.
+#[derive(Drop)]
 pub struct Arg<'a> {
     pub node: u32,
     pub step: u128,
@@ -134,23 +121,8 @@ pub struct Arg<'a> {
     pub rest: &'a [Step],
 }
 
-impl<'a> Drop for Arg<'a> {
-    fn drop(self) {
-        let Arg {
-            node: _,
-            step: _,
-            next: _,
-            line: _,
-            col: _,
-            fun: _,
-            args: _,
-            more: _,
-            rest: _,
-        } = self;
-    }
-}
-
 /// A call whose body is open, with the function's name and the caller's variables.
+#[derive(Drop)]
 pub struct Open<'a> {
     pub node: u32,
     pub step: u128,
@@ -158,19 +130,6 @@ pub struct Open<'a> {
     pub fun: Txt,
     pub caller: State,
     pub rest: &'a [Step],
-}
-
-impl<'a> Drop for Open<'a> {
-    fn drop(self) {
-        let Open {
-            node: _,
-            step: _,
-            next: _,
-            fun: _,
-            caller: _,
-            rest: _,
-        } = self;
-    }
 }
 
 /// `x = e;`, whose expression is pending.
@@ -292,6 +251,7 @@ pub struct BlockAt<'a> {
 }
 
 /// A form of an expression under way, but for indices and calls.
+#[derive(Drop)]
 pub enum InForm<'a> {
     Parens(Parens),
     Part(Part<'a>),
@@ -303,22 +263,8 @@ pub enum InForm<'a> {
     ExecWait(ExecWait),
 }
 
-impl<'a> Drop for InForm<'a> {
-    fn drop(self) {
-        match self {
-            InForm::Parens(_) => {}
-            InForm::Part(_) => {}
-            InForm::ChainFirst(_) => {}
-            InForm::ChainMore(_) => {}
-            InForm::Logic(_) => {}
-            InForm::Prefix(_) => {}
-            InForm::Star(_) => {}
-            InForm::ExecWait(_) => {}
-        }
-    }
-}
-
 /// Indices and calls under way.
+#[derive(Drop)]
 pub enum InPostfix<'a> {
     First(PostfixFirst<'a>),
     Index(Index<'a>),
@@ -326,18 +272,8 @@ pub enum InPostfix<'a> {
     Open(Open<'a>),
 }
 
-impl<'a> Drop for InPostfix<'a> {
-    fn drop(self) {
-        match self {
-            InPostfix::First(_) => {}
-            InPostfix::Index(_) => {}
-            InPostfix::Arg(_) => {}
-            InPostfix::Open(_) => {}
-        }
-    }
-}
-
 /// A statement under way that has no block.
+#[derive(Drop)]
 pub enum InStmt<'a> {
     Set(Set<'a>),
     Add(Add<'a>),
@@ -347,20 +283,8 @@ pub enum InStmt<'a> {
     Just(Whole),
 }
 
-impl<'a> Drop for InStmt<'a> {
-    fn drop(self) {
-        match self {
-            InStmt::Set(_) => {}
-            InStmt::Add(_) => {}
-            InStmt::PutIndex(_) => {}
-            InStmt::PutValue(_) => {}
-            InStmt::Return(_) => {}
-            InStmt::Just(_) => {}
-        }
-    }
-}
-
 /// A block under way, or a statement that has one.
+#[derive(Drop)]
 pub enum InBlock<'a> {
     Arm(ArmTest<'a>),
     WhileTest(While<'a>),
@@ -372,36 +296,11 @@ pub enum InBlock<'a> {
     Block(BlockAt<'a>),
 }
 
-impl<'a> Drop for InBlock<'a> {
-    fn drop(self) {
-        match self {
-            InBlock::Arm(_) => {}
-            InBlock::WhileTest(_) => {}
-            InBlock::WhileBody(_) => {}
-            InBlock::RepeatBody(_) => {}
-            InBlock::RepeatTest(_) => {}
-            InBlock::ForList(_) => {}
-            InBlock::ForBody(_) => {}
-            InBlock::Block(_) => {}
-        }
-    }
-}
-
 /// A form under way.
+#[derive(Drop)]
 pub enum Entry<'a> {
     Form(InForm<'a>),
     Postfix(InPostfix<'a>),
     Stmt(InStmt<'a>),
     Block(InBlock<'a>),
-}
-
-impl<'a> Drop for Entry<'a> {
-    fn drop(self) {
-        match self {
-            Entry::Form(_) => {}
-            Entry::Postfix(_) => {}
-            Entry::Stmt(_) => {}
-            Entry::Block(_) => {}
-        }
-    }
 }

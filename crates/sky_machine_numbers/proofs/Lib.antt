@@ -1,3 +1,5 @@
 pub mod Inside
 pub mod FilledLemmas
 pub mod NodesByNumber
+pub mod PartsLemmas
+pub mod BlockSearch

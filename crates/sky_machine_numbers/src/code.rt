@@ -8,6 +8,7 @@ ghost use Rattle.sky_machine_numbers.specs.Filled.{Filled, Fits};
 ghost use Rattle.sky_machine_numbers.specs.Tabled.{TablesOf};
 
 use crate::nodes::Nodes;
+use crate::parts::list_parts;
 use crate::stmts::number_block;
 use crate::tables::Tables;
 use sky_base::script::{FunDef, Script};
@@ -36,7 +37,10 @@ pub fn number_script(alloc: Global, script: &Script) -> Result<Tables, Memory>
     let mut starts = Vec::new(alloc);
     number_block(&mut ends, script.main())?;
     number_funs(&mut ends, &mut starts, script.funs().as_slice())?;
-    Ok(Tables::of(places, ends, starts))
+    let mut firsts = Vec::new(alloc);
+    let mut parts = Vec::new(alloc);
+    list_parts(ends.as_slice(), &mut firsts, &mut parts)?;
+    Ok(Tables::of(places, ends, starts, firsts, parts))
 }
 
 // The blocks of functions, with the node of each.

@@ -1,9 +1,9 @@
 // The node of a number inside a block or a statement.
 
 ghost use Rattle.std.specs.Prelude.{◌≡◌, ◌≤◌, ◌<◌, ◌+◌, Some};
-ghost use Rattle.sky_base.specs.Tree.{nodes, stm_nodes, stms_nodes, arms_nodes, block_nodes};
+ghost use Rattle.sky_base.specs.Tree.{nodes, stm_nodes, arms_nodes, block_nodes};
 ghost use Rattle.sky_base.specs.TreeView.{exp_view};
-ghost use Rattle.sky_base.specs.StmtView.{stm_view, stms_view, arms_view};
+ghost use Rattle.sky_base.specs.StmtView.{stm_view, arms_view};
 ghost use Rattle.sky_base_law.specs.Nodes.{node_at};
 ghost use Rattle.sky_base_law.specs.Opened.{block_node, HasExp, HasStm, HasStms, HasArms};
 ghost use Rattle.sky_machine_numbers.specs.Filled.{node_view};
@@ -13,7 +13,7 @@ use crate::find_exp::node_in_exp;
 use crate::node::NodeRef;
 use sky_base::stmt::{Arm, Block, Stmt};
 use sky_base::tree::Expr;
-use sky_machine_code::code::Code;
+use sky_machine_code::code::{Code, begun};
 
 /// The node of a number in a block at this node.
 #[cycle(stm)]
@@ -27,27 +27,38 @@ pub fn node_in_block<'a>(code: &Code, block: &'a Block, node: u32, number: u32) 
     if number == node {
         return NodeRef::Block(block);
     }
-    node_in_stmts(code, block.as_slice(), node + 1, number)
+    let held = stmt_holding(code, block, node, number);
+    node_in_stmt(code, held.stmt, held.node, number)
 }
 
-// The node of a number in the statements of a block.
-#[cycle(stm)]
-fn node_in_stmts<'a>(code: &Code, stmts: &'a [Stmt], node: u32, number: u32) -> NodeRef<'a>
-    requires has { HasStms (λ i. node_at code.now i) (stms_view stmts.now) node }
-    requires from { node ≤ number }
-    requires to { number < node + stms_nodes (stms_view stmts.now) }
-    ensures { HasNode (λ i. node_at code.now i) (node_view result) number }
+// A statement and its node.
+#[derive(Drop)]
+struct Held<'a> {
+    stmt: &'a Stmt,
+    node: u32,
+}
+
+// The statement of a block in which a number is, found by halves.
+fn stmt_holding<'a>(code: &Code, block: &'a Block, node: u32, number: u32) -> Held<'a>
+    requires here { node_at code.now node ≡ Some (block_node block.now) }
+    requires has { HasStms (λ i. node_at code.now i) block.now (node + 1) }
+    requires from { node < number }
+    requires to { number < node + block_nodes block.now }
+    ensures has { HasStm (λ i. node_at code.now i) (stm_view result.stmt.now) result.node }
+    ensures from { result.node ≤ number }
+    ensures to { number < result.node + stm_nodes (stm_view result.stmt.now) }
+    ensures less { stm_nodes (stm_view result.stmt.now) < block_nodes block.now }
 {
-    let (mut rest, mut node) = (stmts, node);
-    while let Some((stmt, more)) = rest.split_first() {
-        let after = code.after_stmt(node, stmt);
-        if number < after {
-            return node_in_stmt(code, stmt, node, number);
-        }
-        rest = more;
-        node = after;
+    let stmts = block.as_slice();
+    let begins = code.begins(node, block);
+    let last = begun(begins, number) - 1;
+    match stmts.get(last) {
+        Some(stmt) => Held {
+            stmt,
+            node: begins[last],
+        },
+        None => unreachable!(),
     }
-    unreachable!()
 }
 
 // The node of a number in a statement at this node.

@@ -9,5 +9,6 @@ mod find_exp;
 mod find_stm;
 pub mod node;
 pub mod nodes;
+mod parts;
 mod stmts;
 pub mod tables;

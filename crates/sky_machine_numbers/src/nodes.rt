@@ -1,5 +1,5 @@
 // The nodes of a script by their numbers. No list of them is kept: a node is found by going down from the body that holds
-// its number, and each part before it is passed over by its end.
+// its number: the statement of a block by halves, and in other forms each part before it is passed over by its end.
 
 ghost use Rattle.std.specs.Prelude.{◌≡◌, Some, None, MatchOption, IfSome};
 ghost use Rattle.sky_base_law.specs.Nodes.{node_at};
@@ -36,8 +36,8 @@ impl<'a> Nodes<'a> {
         Nodes { code }
     }
 
-    /// The node of this number, if there is one; all that is in it stands at the numbers that follow. It takes time in the number
-    /// of parts that stand before it, in its form and in each form round it.
+    /// The node of this number, if there is one; all that is in it stands at the numbers that follow. In each form round it it takes
+    /// time in the number of parts before it; in a block, in the logarithm of the number of statements.
     pub fn at(&self, number: u32) -> Option<NodeRef<'a>>
         ensures node { MatchOption result (node_at self.now number ≡ None) (λ r. node_at self.now number ≡ Some (node_view r)) }
         ensures whole { IfSome result (λ r. HasNode (λ i. node_at self.now i) (node_view r) number) }

@@ -13,12 +13,15 @@ use sky_machine_code::code::Code;
 use std::marker::Model;
 
 /// What is counted once for a script: the place of the first function of each name, for each node the number after all that
-/// is in it, and the nodes of the functions' blocks.
+/// is in it, the nodes of the functions' blocks, and for each node the numbers of the nodes directly in it.
 #[derive(Drop)]
 pub struct Tables {
     places: Places,
     ends: Vec<u32>,
     starts: Vec<u32>,
+    // For each node the place in `parts` where the numbers of the nodes directly in it begin.
+    firsts: Vec<usize>,
+    parts: Vec<u32>,
 }
 
 impl Model for Tables {
@@ -26,18 +29,32 @@ impl Model for Tables {
 
     ghost Value = { TablesSeen };
 
-    ghost view = { λ t. record { places = t.places; ends = t.ends.items; starts = t.starts.items } };
+    ghost view = { λ t. record {
+      places = t.places;
+      ends = t.ends.items;
+      starts = t.starts.items;
+      firsts = t.firsts.items;
+      parts = t.parts.items;
+    } };
 }
 
 impl Tables {
     // The tables of these parts.
-    pub(crate) fn of(places: Places, ends: Vec<u32>, starts: Vec<u32>) -> Tables
-        ensures { result ≡ record { places = places; ends = ends.items; starts = starts.items } }
+    pub(crate) fn of(
+        places: Places,
+        ends: Vec<u32>,
+        starts: Vec<u32>,
+        firsts: Vec<usize>,
+        parts: Vec<u32>,
+    ) -> Tables
+        ensures { result ≡ record { places = places; ends = ends.items; starts = starts.items; firsts = firsts.items; parts = parts.items } }
     {
         Tables {
             places,
             ends,
             starts,
+            firsts,
+            parts,
         }
     }
 
@@ -59,6 +76,12 @@ impl Tables {
         ensures { result ≡ script.now }
     {
         let program = Program::of(script, &self.places);
-        Code::of(program, self.ends.as_slice(), self.starts.as_slice())
+        Code::of(
+            program,
+            self.ends.as_slice(),
+            self.starts.as_slice(),
+            self.firsts.as_slice(),
+            self.parts.as_slice(),
+        )
     }
 }

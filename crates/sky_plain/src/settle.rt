@@ -146,9 +146,9 @@ fn advance<K: Kit>(
     ensures step { IfOk result (Steps (job_view job.now) (json_around (K.gives kit.now)) number rows.old rows.new objects.old objects.new) }
 {
     let desc = rows.desc(number).copy()?;
-    match desc {
+    match &desc {
         Desc1::Call { fun, caught, args } => called(
-            alloc, job, program, kit, rows, objects, number, &fun, &caught, &args,
+            alloc, job, program, kit, rows, objects, number, fun, caught, args,
         ),
         Desc1::Exec {
             executor,
@@ -156,9 +156,9 @@ fn advance<K: Kit>(
             outputs,
             ..
         } => executed(
-            alloc, job, kit, rows, objects, number, &executor, &args, outputs,
+            alloc, job, kit, rows, objects, number, executor, args, *outputs,
         ),
-        Desc1::Input { key } => given(alloc, job, kit, rows, objects, number, &key),
+        Desc1::Input { key } => given(alloc, job, kit, rows, objects, number, key),
     }
 }
 

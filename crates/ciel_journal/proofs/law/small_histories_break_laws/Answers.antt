@@ -17,9 +17,6 @@ returns-clause-other_wait c = h.other_wait
 pub returns-clause-dropped : goal.returns-clause-dropped
 returns-clause-dropped c = h.dropped
 
-pub returns-clause-undone : goal.returns-clause-undone
-returns-clause-undone c = h.undone
-
 pub returns-clause-room : goal.returns-clause-room
 returns-clause-room c = h.no_room
 

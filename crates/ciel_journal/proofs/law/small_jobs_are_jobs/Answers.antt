@@ -1,7 +1,7 @@
 use Rattle.std.proofs.Common.{true, false}
 use Rattle.ciel_journal.specs.Fixed.{small_lists}
 use Rattle.ciel_journal.proofs.FixedLaw.{fixed_laws, small_fixed}
-use Rattle.ciel_journal.proofs.OtherJobs.{circle_laws, fetch_laws}
+use Rattle.ciel_journal.proofs.OtherJobs.{circle_laws, fetch_laws, follow_laws}
 use Rattle.ciel_journal.proofs.SmallKnown.{small_knows}
 use Rattle.ciel_journal.proofs.SmallWork.{squares_work}
 use Rattle.ciel_journal.proofs.law.small_jobs_are_jobs.Goals as goal
@@ -23,6 +23,9 @@ returns-clause-fetching c = fetch_laws
 
 pub returns-clause-circling : goal.returns-clause-circling
 returns-clause-circling c = circle_laws
+
+pub returns-clause-following : goal.returns-clause-following
+returns-clause-following c = follow_laws
 
 pub returns-clause-work : goal.returns-clause-work
 returns-clause-work c = squares_work

@@ -1,5 +1,6 @@
--- Each level of a value is read with one level less left; what was read so far stands in front.
-use Rattle.std.proofs.Common.{◌+◌, ◌*◌}
+-- Each level of a value is read with one level less left; what was read so far stands in front, and its size is gone from the room.
+use Rattle.std.proofs.Common.{◌≡◌, ◌+◌, ◌*◌}
+use Rattle.sky_base.specs.Val.{sizes, pair_sizes}
 use Rattle.ciel_name.specs.Bodies.{ItemsRead, PairsRead}
 use Rattle.ciel_name.proofs.read.+read.Given as goal
 
@@ -25,7 +26,9 @@ abbrev pub decreases-read_pairs : goal.decreases-read_pairs
 decreases-read_pairs l = 4 * l.left + 3
 
 abbrev pub invariant-read_items-loop-item : goal.invariant-read_items-loop-item
-invariant-read_items-loop-item l = ItemsRead l._item l.left l.initial.reader l.values l.reader
+invariant-read_items-loop-item l =
+    ItemsRead l._item l.left l.initial.reader l.values l.reader × (l.spare + sizes l.values ≡ l.room)
 
 abbrev pub invariant-read_pairs-loop-pair : goal.invariant-read_pairs-loop-pair
-invariant-read_pairs-loop-pair l = PairsRead l._pair l.left l.initial.reader l.pairs l.reader
+invariant-read_pairs-loop-pair l =
+    PairsRead l._pair l.left l.initial.reader l.pairs l.reader × (l.spare + pair_sizes l.pairs ≡ l.room)

@@ -1,10 +1,9 @@
 -- The value that was read is the only one that the bytes can be.
-use Rattle.std.proofs.Common.{◌≡◌, ◌<◌, [], sym, ◌∙◌, subst, ltb-true}
+use Rattle.std.proofs.Common.{◌≡◌, [], sym, ◌∙◌, subst}
 use Rattle.std.proofs.lemmas.Bool.{false≢true}
-use Rattle.sky_base.specs.Val.{most_size, size}
 use Rattle.sky_base.specs.View.{view}
 use Rattle.ciel_name.specs.Spelled.{NoData}
-use Rattle.ciel_name.proofs.DecodeSteps.{refuses_more, the_value, data_none, data_more, data_large}
+use Rattle.ciel_name.proofs.DecodeSteps.{refuses_more, the_value, data_none, data_more}
 use Rattle.ciel_name.proofs.read.decode.Goals as goal
 
 pub returns-in-Err-clause-refused : goal.returns-in-Err-clause-refused
@@ -15,12 +14,6 @@ pub returns-then-not-is_empty-clause-refused : goal.returns-then-not-is_empty-cl
 returns-then-not-is_empty-clause-refused c =
     let more : c.read_value.new.reader ≡ [] → ⊥ = λ e. false≢true (sym c.if-not-is_empty.true ∙ c.is_empty.ensures.1 e) in
     subst NoData c.new-reader.ensures (data_more c.new-reader.result (view c.in-Ok.value) c.read_value.new.reader c.in-Ok.ensures.value more)
-
-pub returns-then-is_too_large-clause-refused : goal.returns-then-is_too_large-clause-refused
-returns-then-is_too_large-clause-refused c =
-    let large : most_size < size (view c.in-Ok.value) =
-    ltb-true most_size (size (view c.in-Ok.value)) (sym c.is_too_large.ensures ∙ c.if-is_too_large.true) in
-    subst NoData c.new-reader.ensures (data_large c.new-reader.result (view c.in-Ok.value) c.read_value.new.reader c.in-Ok.ensures.value large)
 
 pub returns-clause-inverse : goal.returns-clause-inverse
 returns-clause-inverse c w p e =

@@ -98,7 +98,7 @@ returns-clause-same c = λ w h.
     ∙ ap (rest_in w old) (enters w d a.node a.step a.next p g.name.now g.caught.now a.args ss st c.args.code.now c.args.left.now i b inner
     c.replace-caller.result c.in_ok-fun-in-Ok.fun (room_is w (forms old) others c.args.left.now c.requires.room) c.if-left-eq0.false
     c.in_ok-fun-in-Ok.ensures c.replace-caller.ensures.value (c.in_ok-push-in-Ok.ensures.room w) h c.in-Some.ensures
-    (starts_so (bind b.params a.args g.caught.now) st c.new-inner.result inner c.count.result c.in_ok-bind-in-Ok.ensures c.new-inner.ensures
+    (starts_so (bind b.params a.args g.caught.now) st c.new-inner.result inner c.count.result c.in_ok-bind-in-Ok.ensures.ok c.new-inner.ensures
     c.count.ensures) ∙ sym (c.in-Ok.ensures.ok w p st (entering w d a.node a.step a.next p a.args ss st) h)
     ∙ sym (c.visit.ensures.more c.if-not-visit.false (opens w d a.node a.step a.next p (view a.fun) a.args ss))
     ∙ call_is w d a.node a.step a.next p (view a.fun) a.args (exps_view a.more.now) ss c.args.state.now c.requires.done)

@@ -29,4 +29,4 @@ returns-clause-same c = λ w h.
     c.in_ok-control.ensures.same w st ∙ ap (λ es. rest_in w es (eval_block w (body_in w (forms es)) b.block b.node st)) c.requires.none
     ∙ body_opened w bodies others others c.args.fun.now c.args.caught.now c.args.args.now nowhere b start_st st refl refl
     (ap (body_of c.args.fun.now) h ∙ c.in-Some.ensures)
-    (c.in_ok-bind.ensures ∙ ap (λ (s : Vars). with_vars (bind b.params c.args.args.now c.args.caught.now) s) c.requires.state)
+    (c.in_ok-bind.ensures.ok ∙ ap (λ (s : Vars). with_vars (bind b.params c.args.args.now c.args.caught.now) s) c.requires.state)

@@ -3,6 +3,7 @@ use Rattle.sky_base.specs.Tree.{script_nodes}
 use Rattle.sky_base.specs.ScriptView.{funs_view}
 use Rattle.sky_base_law.specs.Nodes.{pre_block, pre_funs}
 use Rattle.sky_machine_code.specs.Numbers.{starts_from}
+use Rattle.sky_machine_code.specs.Parts.{Parted}
 use Rattle.sky_machine_numbers.specs.Filled.{Filled, Fits}
 use Rattle.sky_machine_numbers.specs.Tabled.{TablesOf}
 use Rattle.sky_machine_numbers.proofs.FilledLemmas.{fits_first, fits_more, script_fits, ends_are, starts_are}
@@ -43,4 +44,5 @@ returns c =
       places = c.in_ok-places.ensures;
       ends = ends_are sc few mid last main funs;
       starts = starts_are sc few mid last main funs c.number_funs.new.starts.items starts;
+      parts = subst (λ xs. Parted xs c.list_parts.new.firsts.items c.list_parts.new.parts.items) c.as_slice-2.ensures.value c.in_ok-list_parts.ensures;
     })

@@ -1,35 +1,10 @@
 use Rattle.std.proofs.Common.{ℕ, ◌≡◌, ◌+◌, Some, sym, ap, ◌∙◌, subst, arith}
-use Rattle.sky_base.specs.Tree.{Else, stm_nodes, stms_nodes, arms_nodes, else_nodes}
+use Rattle.sky_base.specs.Tree.{Else, stm_nodes, arms_nodes, else_nodes}
 use Rattle.sky_base.specs.TreeView.{exp_view}
-use Rattle.sky_base.specs.StmtView.{stm_view, stms_view, arms_view, else_view}
+use Rattle.sky_base.specs.StmtView.{stm_view, arms_view, else_view}
 use Rattle.sky_base_law.specs.Nodes.{node_at}
 use Rattle.sky_base_law.specs.Opened.{block_node, HasExp, HasStm, HasStms, HasArms, HasElse}
 use Rattle.sky_machine_numbers.proofs.find_stm.+stm.Goals as goal
-
-pub node_in_block-node_in_stmts-requires : goal.node_in_block-node_in_stmts-requires
-node_in_block-node_in_stmts-requires t c =
-    let at = λ (i : ℕ). node_at c.args.code.now i in
-    let size = ap stms_nodes c.as_slice.ensures in (
-      omega (arith, size),
-      (
-        subst (λ b. HasStms at b (c.args.node + 1)) (sym c.as_slice.ensures) c.requires.has,
-        (omega (arith, c.requires.from, c.if-number-node.false), omega (arith, c.requires.to, size)),
-      ),
-    )
-
-pub node_in_stmts-loop-stmt-preserved : goal.node_in_stmts-loop-stmt-preserved
-node_in_stmts-loop-stmt-preserved t c =
-    let l = c.loop-stmt in
-    let at = λ (i : ℕ). node_at c.args.code.now i in
-    let is = ap stms_view c.in-Some.ensures.cases.0 in
-    let has = subst (λ b. HasStms at b l.node) is l.invariant.has in
-    let after = c.after_stmt-after.ensures in
-    record {
-      has = subst (HasStms at (stms_view c.in-Some.more.now)) (sym after) has.1;
-      from = omega (arith, c.if-number-after.false);
-      to = omega (arith, l.invariant.to, ap stms_nodes is, after);
-      most = omega (arith, l.invariant.most, ap stms_nodes is);
-    }
 
 pub node_in_arms-loop-arm-preserved : goal.node_in_arms-loop-arm-preserved
 node_in_arms-loop-arm-preserved t c =

@@ -1,16 +1,13 @@
 use Rattle.std.proofs.Common.{◌≤◌, ◌<◌, ◌+◌, ◌*◌, ◌-◌, length}
-use Rattle.sky_base.specs.Tree.{nodes, stm_nodes, stms_nodes, arms_nodes, block_nodes}
+use Rattle.sky_base.specs.Tree.{nodes, stm_nodes, arms_nodes, block_nodes}
 use Rattle.sky_base.specs.TreeView.{exp_view}
-use Rattle.sky_base.specs.StmtView.{stm_view, stms_view, arms_view}
+use Rattle.sky_base.specs.StmtView.{stm_view, arms_view}
 use Rattle.sky_base_law.specs.Nodes.{node_at}
-use Rattle.sky_base_law.specs.Opened.{HasStms, HasArms}
+use Rattle.sky_base_law.specs.Opened.{HasArms}
 use Rattle.sky_machine_numbers.proofs.find_stm.+stm.Given as goal
 
 abbrev pub decreases-node_in_block : goal.decreases-node_in_block
 decreases-node_in_block l = 4 * block_nodes l.block.now
-
-abbrev pub decreases-node_in_stmts : goal.decreases-node_in_stmts
-decreases-node_in_stmts l = 4 * stms_nodes (stms_view l.stmts.now) + 1
 
 abbrev pub decreases-node_in_stmt : goal.decreases-node_in_stmt
 decreases-node_in_stmt l = 4 * stm_nodes (stm_view l.s.now)
@@ -25,17 +22,6 @@ abbrev pub decreases-node_in_arms : goal.decreases-node_in_arms
 decreases-node_in_arms l = 4 * arms_nodes (arms_view l.arms.now) + 2
 
 -- ---- loops
-
-abbrev pub invariant-node_in_stmts-loop-stmt : goal.invariant-node_in_stmts-loop-stmt
-invariant-node_in_stmts-loop-stmt l = record {
-  has : HasStms (λ i. node_at l.code i) (stms_view l.rest) l.node;
-  from : l.node ≤ l.number;
-  to : l.number < l.node + stms_nodes (stms_view l.rest);
-  most : stms_nodes (stms_view l.rest) ≤ stms_nodes (stms_view l.stmts);
-}
-
-abbrev pub decreases-node_in_stmts-loop-stmt : goal.decreases-node_in_stmts-loop-stmt
-decreases-node_in_stmts-loop-stmt l = length l.rest
 
 abbrev pub invariant-node_in_arms-loop-arm : goal.invariant-node_in_arms-loop-arm
 invariant-node_in_arms-loop-arm l = record {

@@ -43,7 +43,7 @@ returns-clause-same c = λ w.
     let old = c.args.entries.now.items in
     let now = room w (forms old) in
     let inside = room w (forms c.push.new.entries.items) in
-    let set = c.in_ok-set.ensures ∙ ap (λ u. set_var t.name.now (view u) c.visit.new.state) c.in_ok-v-in-Some.ensures in
+    let set = c.in_ok-set.ensures.ok ∙ ap (λ u. set_var t.name.now (view u) c.visit.new.state) c.in_ok-v-in-Some.ensures in
     c.in_ok-control.ensures.same w st ∙ c.in_ok-push.ensures.rest w (eval_block w (body_at w inside) t.body.now t.block st)
     ∙ ap (rest_in w old) (each_begun w now inside (c.in_ok-push.ensures.room w) t.node t.block t.taken (t.taken + 1) p t.name.now t.list
     (left t.taken t.list) v t.body.now c.args.state.now c.visit.new.state st refl (left_here t.list t.taken v c.in-Some.ensures)

@@ -9,7 +9,7 @@ use Rattle.sky_state.proofs.state.State.start_call.Goals as goal
 pub returns-clause-start : goal.returns-clause-start
 returns-clause-start c =
     let script = c.args.script.now in
-    let b = c.find_body-body.body in
+    let b = c.find_body-body.result in
     let f = c.args.fun.now in
     let vars : c.in_ok-vars.vars ≡ bind b.params.now c.args.args.now c.args.caught.now = c.in_ok-vars.ensures in
     let is : begun f c.args.caught.now c.args.args.now b
