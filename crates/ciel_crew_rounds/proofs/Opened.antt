@@ -17,7 +17,7 @@ use Rattle.ciel_crew_work.specs.declared.performing.Job.{Job}
 use Rattle.ciel_crew_rounds.specs.Seats.{IsSeatOf, Stands, away_of, order_of, outs_of, seat_at, seats_of, told_of}
 use Rattle.ciel_crew_rounds.specs.declared.seat.Seat.{Seat}
 
-module _ {K N G R : Type 0} where
+module _ (K N G R : Type 0) where
   -- a lane on which nothing was put
   abbrev IsFresh : LaneSeen (Job K N G R) → Type 0
   IsFresh l = l ≡ record { put = []; out = None }
