@@ -170,7 +170,7 @@ impl<K: Kit + Drop, N: Namer + Drop, G: Gate, R: Threads + Wait + Copy + Drop> C
     fn next(&mut self) -> Result<Report, Memory> {
         self.broken = true;
         let (worker, done) = self.lanes.take();
-        let Done { report, tools } = done;
+        let Done { report, tools, .. } = done;
         self.idle[worker as usize] = Some(tools);
         let report = report?;
         self.broken = false;

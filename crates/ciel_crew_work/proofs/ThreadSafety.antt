@@ -368,6 +368,7 @@ work_send K N G R k k' n n' g r = search (
 pub done_send : (G : RattleType) → IsSend G → IsSend (done_row.the_row G)
 done_send G g = search (
   report_field_send,
+  order_field_send,
   tools_field_send,
   result_result.the_field_send,
   result_result.the_send,

@@ -27,8 +27,10 @@ module _ {K N G R : Type 0} (gives : K → Gives) (digest : N → List ℕ → L
     pub read : IsRead (job_view (arc_value job.shop).job).script
     pub look : job.tools.eye.of ≡ (arc_value job.shop).shelves.of
 
-  -- the gate has entered the task, the eye looks where it looked, and the report is one that a worker may give of the order
+  -- the order is that of the job, the gate has entered its task, the eye looks where it looked, and the report is one that a worker may give
+  -- of the order
   pub record IsDoneOf (entered : G → Option (List TaskId)) (job : Job K N G R) (done : Done G) : Type 0 where
+    pub order : done.order ≡ job.order
     pub gate : IsEntered (entered job.tools.gate) job.order.task (entered done.tools.gate)
     pub look : done.tools.eye.of ≡ job.tools.eye.of
     pub report : IfOk done.report (Answers gives digest (arc_value job.shop) job.order)

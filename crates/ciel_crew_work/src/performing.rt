@@ -38,9 +38,10 @@ pub struct Job<K, N, G, R> {
     pub tools: Tools<G>,
 }
 
-/// The report, or want of memory, with the gate and the eye.
+/// The report, or want of memory, with the order that it is of, the gate and the eye.
 #[derive(Drop)]
 pub struct Done<G> {
+    pub order: Order,
     pub report: Result<Report, Memory>,
     pub tools: Tools<G>,
 }
@@ -70,7 +71,11 @@ impl<K: Kit + Drop, N: Namer + Drop, G: Gate, R: Wait + Drop> Work for Performin
             mut tools,
         } = job;
         let report = performed(&rt, alloc, &shop, &order, &mut tools);
-        Done { report, tools }
+        Done {
+            order,
+            report,
+            tools,
+        }
     }
 }
 

@@ -1,7 +1,8 @@
 //! A job on the engine: a shop, a master and a crew are opened over it, and the run is driven to its end.
 //!
-//! What executes is a crew of threads (`ciel_crew_channels`), or with one worker the crew in one thread (`ciel_crew_inline`). Nothing that is said here
-//! speaks of either: the end, the journal and what the gates tell are those that driving promises of any crew.
+//! What executes is a crew of threads (`ciel_crew_channels`), or with one worker the crew in one thread (`ciel_crew_inline`); `run_rounds` has
+//! one that performs its orders by rounds (`ciel_crew_rounds`). Nothing that is said here speaks of any of them: the end, the journal and what
+//! the gates tell are those that driving promises of any crew.
 #![tactic(auto)]
 
 mod gates;

@@ -1,95 +1,66 @@
-// An object that is lost while a worker is on the way to it: a gate holds the worker back until the loss is marked.
+// An object that is lost while the order that reads it is out: by rounds, the order is performed only after the loss.
 
-ghost use Rattle.std.specs.Prelude.{◌≡◌, ◌∷◌, [], IfOk, None, length};
+ghost use Rattle.std.specs.Prelude.{◌≡◌, ◌∷◌, [], IfOk, length};
 
-use ciel_gate::gate::Gate;
+use crate::same::are_same;
+use ciel_gate::open::Open;
 use ciel_master::entry::Entry;
 use ciel_master::plan::{Losses, RunPlan};
 use ciel_master::stop::RunEnd;
 use ciel_name::name::Sha1Namer;
-use ciel_run_job::run::{Ran, run_job};
+use ciel_run_job::run::{Ran, run_rounds};
 use line_kit::kit::LineKit;
 use sky_base::job::{Inputs, Job};
-use sky_base::name::Name;
-use sky_base::object::TaskId;
 use sky_base::script::Texts;
 use sky_machine_test_scripts::script::script_over;
 use std::alloc::Global;
 use std::sync::Wait;
 use std::test::Fail;
-use std::thread::{Threads, sleep};
-use std::time::{Clock, Duration};
+use std::thread::Threads;
 
-// So long is the worker held back: longer than the master takes for a report and a loss.
-static MILLISECONDS: u64 = 400;
-
-// The name of the call of `h`, which reads what lies at the other worker.
-static READER: [u8; 20] = [
-    248, 175, 161, 239, 201, 188, 248, 231, 186, 1, 11, 36, 61, 133, 139, 184, 160, 163, 179, 237,
-];
-
-// A gate that holds the call of `h` back.
-#[derive(Drop)]
-struct Late<R> {
-    clock: R,
-}
-
-impl<R: Clock + Drop> Gate for Late<R> {
-    ghost entered = { λ _. None };
-
-    fn enter(&mut self, task: &TaskId) {
-        if *task == TaskId::Of(Name::short(READER)) {
-            sleep(&self.clock, Duration::from_millis(MILLISECONDS));
-        }
-    }
-
-    fn leave(&mut self, _task: &TaskId) {}
-}
-
-fn gates<R: Clock + Copy + Drop>(clock: R, alloc: Global) -> Result<Vec<Late<R>>, Fail>
+// The gates of two workers.
+fn gates(alloc: Global) -> Result<Vec<Open>, Fail>
     ensures { IfOk result (λ gates. length gates.items ≡ 2) }
 {
-    let Ok(mut gates) = Vec::with_capacity(alloc, 2) else {
-        return Err(Fail::from("memory"));
-    };
-    gates.push_reserved(Late { clock });
-    gates.push_reserved(Late { clock });
-    Ok(gates)
+    match Vec::from_elem(alloc, Open, 2) {
+        Ok(gates) => Ok(gates),
+        Err(_) => Err(Fail::from("memory")),
+    }
 }
 
-// The plan: by its draws the first call and what comes behind it run at worker 0, and the call of `h` at worker 1, beside the call of 5
-// at worker 0. As soon as that has ended, worker 0 is lost.
-fn plan(alloc: Global) -> Result<RunPlan, Fail>
-    ensures { IfOk result (λ plan. (plan.workers ≡ 2) × (plan.losses ≡ (5, 0) ∷ [])) }
+// The plan: worker 1 is lost as soon as six Starts were closed.
+fn plan(alloc: Global, seed: u64) -> Result<RunPlan, Fail>
+    ensures { IfOk result (λ plan. (plan.workers ≡ 2) × (plan.losses ≡ (6, 1) ∷ [])) }
 {
     let mut losses = Vec::new(alloc);
-    losses.push((5, 0))?;
+    losses.push((6, 1))?;
     Ok(RunPlan {
         workers: 2,
-        seed: 21,
+        seed,
         losses: Losses::of(losses),
     })
 }
 
-fn ran<R: Threads + Wait + Clock + Copy + Send + Drop + 'static>(
+fn ran<R: Threads + Wait + Copy + Send + Drop + 'static>(
     rt: R,
     alloc: Global,
+    seed: u64,
 ) -> Result<Ran, Fail> {
     let text = concat!(
         "function f(x) { return x; } function h(r) { return *r + 1; } ",
-        "a = spawn(f, [3]); x = *a; return [spawn(h, [a]), spawn(f, [5])];",
+        "a = spawn(f, [3]); x = *a; return [spawn(h, [a]), spawn(f, [5]), spawn(f, [6])];",
     );
     let script = script_over(alloc, text, Texts::of(Vec::new(alloc)))?;
     let job = Job {
         script,
         inputs: Inputs::of(Vec::new(alloc)),
     };
-    let mut gates = gates(rt, alloc)?;
-    let plan = plan(alloc)?;
-    Ok(run_job(rt, alloc, job, LineKit, Sha1Namer, &mut gates, plan))
+    let mut gates = gates(alloc)?;
+    let plan = plan(alloc, seed)?;
+    Ok(run_rounds(rt, alloc, job, LineKit, Sha1Namer, &mut gates, plan))
 }
 
-// How many entries tell that something was missing.
+// How many entries tell that something was missing with the one loss.
 fn missed(journal: &[Entry]) -> usize {
     let mut count = 0usize;
     for entry in journal {
@@ -102,15 +73,33 @@ fn missed(journal: &[Entry]) -> usize {
 
 fn answers(end: &RunEnd) -> bool {
     match end {
-        RunEnd::Answer(bytes) => bytes.as_slice() == b"[4,5]\n".as_slice(),
+        RunEnd::Answer(bytes) => bytes.as_slice() == b"[4,5,6]\n".as_slice(),
         _ => false,
     }
 }
 
 #[test]
 fn what_is_missing_is_made_again(rt: HostRuntime) -> Result<(), Fail> {
-    let ran = ran(rt, rt.alloc())?;
-    assert!(&rt; answers(&ran.end));
-    assert_eq!(&rt; missed(ran.journal.as_slice()), 1);
+    let one = ran(rt, rt.alloc(), 4)?;
+    let other = ran(rt, rt.alloc(), 4)?;
+    assert!(&rt; answers(&one.end));
+    assert_eq!(&rt; missed(one.journal.as_slice()), 1);
+    assert!(&rt; are_same(one.journal.as_slice(), other.journal.as_slice()));
+    Ok(())
+}
+
+#[test]
+fn try13(rt: HostRuntime) -> Result<(), Fail> {
+    let one = ran(rt, rt.alloc(), 13)?;
+    assert!(&rt; answers(&one.end));
+    assert_eq!(&rt; missed(one.journal.as_slice()), 1);
+    Ok(())
+}
+
+#[test]
+fn try51(rt: HostRuntime) -> Result<(), Fail> {
+    let one = ran(rt, rt.alloc(), 51)?;
+    assert!(&rt; answers(&one.end));
+    assert_eq!(&rt; missed(one.journal.as_slice()), 1);
     Ok(())
 }

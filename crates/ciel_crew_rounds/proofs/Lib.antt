@@ -1,0 +1,4 @@
+pub mod SeatSteps
+pub mod Gates
+pub mod RoundsSeen
+pub mod Opened

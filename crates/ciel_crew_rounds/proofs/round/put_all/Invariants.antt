@@ -1,0 +1,9 @@
+use Rattle.std.proofs.Common.{◌≡◌, ◌<◌, ℕ, None}
+use Rattle.ciel_crew_rounds.specs.Seats.{CanPlay, GoEach, seat_at, sent_of}
+use Rattle.ciel_crew_rounds.proofs.round.put_all.Given as goal
+
+abbrev pub invariant-loop-worker : goal.invariant-loop-worker
+invariant-loop-worker g l =
+    CanPlay g.K.Kit.gives g.N.Namer.digest l.lanes l.seats.items
+    × GoEach g.K.Kit.gives g.N.Namer.digest g.G.Gate.entered l.fn.seats.items l.seats.items
+    × ((k : ℕ) → k < l.worker → sent_of (seat_at l.seats.items k) ≡ None)

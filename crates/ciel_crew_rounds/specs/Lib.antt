@@ -1,0 +1,2 @@
+pub use Rattle.ciel_crew_work.specs.Onward
+pub mod Seats
