@@ -14,7 +14,7 @@ use std::alloc::Global;
 use std::test::Fail;
 
 /// The sum of the squares of 3 and of 4, by two tasks.
-pub(crate) fn job(alloc: Global) -> Result<Job, Fail>
+pub fn job(alloc: Global) -> Result<Job, Fail>
     ensures read { IfOk result (λ job. IsRead (job_view job).script) }
     ensures inputs { IfOk result (λ job. InputsInOrder (job_view job)) }
     ensures keys { IfOk result (λ job. length job.script.keys < 2 ^ 32) }
@@ -31,7 +31,7 @@ pub(crate) fn job(alloc: Global) -> Result<Job, Fail>
 }
 
 /// So many workers, none of which is lost.
-pub(crate) fn plan(alloc: Global, workers: u32) -> RunPlan
+pub fn plan(alloc: Global, workers: u32) -> RunPlan
     ensures { (result.workers ≡ workers) × (result.losses ≡ []) }
 {
     RunPlan {
@@ -42,7 +42,7 @@ pub(crate) fn plan(alloc: Global, workers: u32) -> RunPlan
 }
 
 /// Two workers, of which this one is lost after so many tasks.
-pub(crate) fn losing(alloc: Global, after: u32, worker: u32) -> Result<RunPlan, Fail>
+pub fn losing(alloc: Global, after: u32, worker: u32) -> Result<RunPlan, Fail>
     ensures { IfOk result (λ plan. (plan.workers ≡ 2) × (plan.losses ≡ (after, worker) ∷ [])) }
 {
     let mut losses = Vec::new(alloc);
@@ -55,7 +55,7 @@ pub(crate) fn losing(alloc: Global, after: u32, worker: u32) -> Result<RunPlan, 
 }
 
 /// Gates for five workers.
-pub(crate) fn gates(alloc: Global) -> Result<Vec<Open>, Fail>
+pub fn gates(alloc: Global) -> Result<Vec<Open>, Fail>
     ensures { IfOk result (λ gates. length gates.items ≡ 5) }
 {
     match Vec::from_elem(alloc, Open, 5) {

@@ -4,12 +4,12 @@
 ghost use Rattle.std.specs.Prelude.{◌≡◌, ◌<◌, ◌≤◌, IfOk, length};
 
 use crate::counting::{answers, job};
-use crate::job::plan;
 use crate::watch::{Flags, Watch, Watched};
 use ciel_master::entry::Entry;
 use ciel_master::stop::RunEnd;
 use ciel_name::name::Sha1Namer;
 use ciel_run_job::run::{Ran, run_job};
+use ciel_run_job_tests::job::plan;
 use std::alloc::Global;
 use std::process::Abort;
 use std::sync::{Arc, Wait};

@@ -4,11 +4,11 @@
 ghost use Rattle.std.specs.Prelude.{◌≡◌, ◌<◌, ◌≤◌, IfOk, length};
 
 use crate::counting::{FIRST, SECOND, answers, job};
-use crate::job::plan;
 use ciel_gate::meeting::Meeting;
 use ciel_master::entry::Entry;
 use ciel_name::name::Sha1Namer;
 use ciel_run_job::run::{Ran, run_inline, run_job};
+use ciel_run_job_tests::job::plan;
 use line_kit::kit::LineKit;
 use sky_base::name::Name;
 use sky_base::object::TaskId;
