@@ -28,15 +28,17 @@ fn gates(alloc: Global) -> Result<Vec<Open>, Fail>
     }
 }
 
-// The plan: worker 1 is lost as soon as six Starts were closed.
-fn plan(alloc: Global, seed: u64) -> Result<RunPlan, Fail>
+// The plan. By its draws the first call and what comes behind it run at worker 1, and then the calls of 5 and of 6 at both workers, in one
+// round. When the report of worker 0 is taken, the call of `h` is sent there, and when that of worker 1 is, worker 1 is lost: six Starts are
+// closed. Only then is the call of `h` performed.
+fn plan(alloc: Global) -> Result<RunPlan, Fail>
     ensures { IfOk result (λ plan. (plan.workers ≡ 2) × (plan.losses ≡ (6, 1) ∷ [])) }
 {
     let mut losses = Vec::new(alloc);
     losses.push((6, 1))?;
     Ok(RunPlan {
         workers: 2,
-        seed,
+        seed: 4,
         losses: Losses::of(losses),
     })
 }
@@ -44,7 +46,6 @@ fn plan(alloc: Global, seed: u64) -> Result<RunPlan, Fail>
 fn ran<R: Threads + Wait + Copy + Send + Drop + 'static>(
     rt: R,
     alloc: Global,
-    seed: u64,
 ) -> Result<Ran, Fail> {
     let text = concat!(
         "function f(x) { return x; } function h(r) { return *r + 1; } ",
@@ -56,7 +57,7 @@ fn ran<R: Threads + Wait + Copy + Send + Drop + 'static>(
         inputs: Inputs::of(Vec::new(alloc)),
     };
     let mut gates = gates(alloc)?;
-    let plan = plan(alloc, seed)?;
+    let plan = plan(alloc)?;
     Ok(run_rounds(rt, alloc, job, LineKit, Sha1Namer, &mut gates, plan))
 }
 
@@ -80,26 +81,10 @@ fn answers(end: &RunEnd) -> bool {
 
 #[test]
 fn what_is_missing_is_made_again(rt: HostRuntime) -> Result<(), Fail> {
-    let one = ran(rt, rt.alloc(), 4)?;
-    let other = ran(rt, rt.alloc(), 4)?;
+    let one = ran(rt, rt.alloc())?;
+    let other = ran(rt, rt.alloc())?;
     assert!(&rt; answers(&one.end));
     assert_eq!(&rt; missed(one.journal.as_slice()), 1);
     assert!(&rt; are_same(one.journal.as_slice(), other.journal.as_slice()));
-    Ok(())
-}
-
-#[test]
-fn try13(rt: HostRuntime) -> Result<(), Fail> {
-    let one = ran(rt, rt.alloc(), 13)?;
-    assert!(&rt; answers(&one.end));
-    assert_eq!(&rt; missed(one.journal.as_slice()), 1);
-    Ok(())
-}
-
-#[test]
-fn try51(rt: HostRuntime) -> Result<(), Fail> {
-    let one = ran(rt, rt.alloc(), 51)?;
-    assert!(&rt; answers(&one.end));
-    assert_eq!(&rt; missed(one.journal.as_slice()), 1);
     Ok(())
 }

@@ -7,7 +7,7 @@ use Rattle.ciel_run_job.proofs.Lent.{all_back, others_back, told_back}
 use Rattle.ciel_run_job.proofs.run.run_rounds.Goals as goal
 
 pub by_rounds-ran-requires-clause-read : goal.by_rounds-ran-requires-clause-read
-by_rounds-ran-requires-clause-read g c = subst (λ j. IsRead (job_view j).script) (sym c.in-Ok.ensures.shop.job_is) c.requires.read
+by_rounds-ran-requires-clause-read g c κs within = subst (λ j. IsRead (job_view j).script) (sym c.in-Ok.ensures.shop.job_is) c.requires.read
 
 pub returns-clause-told : goal.returns-clause-told
 returns-clause-told g c =
