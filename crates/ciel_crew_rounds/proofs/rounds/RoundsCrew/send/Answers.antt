@@ -24,8 +24,9 @@ give-requires g c =
     let e = ap (λ (s : CrewSeen g.row.K.Denot g.row.N.Denot). s.out) c.self.view_is in
     let lt : w < length ss = omega (arith, c.requires.worker, ap length e, length-map ss order_of) in
     let none = sym (order_here ss w) ∙ (ap (λ (o : List (Option Order)). order_at o w) e ∙ c.requires.free) in
-    record { idle = idle_there g.K.Kit.gives g.N.Namer.digest g.G.Gate.entered shop i.lanes ss i.room.items room w seen seen c.self.invariant lt
-    c.index_mut.ensures.value none;
+    record {
+      idle = idle_there g.K.Kit.gives g.N.Namer.digest g.G.Gate.entered shop i.lanes ss i.room.items room w seen seen c.self.invariant lt
+          c.index_mut.ensures.value none;
     }
 
 pub invariant_of-self-2 : goal.invariant_of-self-2
