@@ -1,2 +1,4 @@
+mod DrawerLaw
 pub mod Joined
 mod Limits
+pub mod RowsLaw
