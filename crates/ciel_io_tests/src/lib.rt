@@ -8,3 +8,5 @@ mod data;
 mod files;
 #[cfg(test)]
 mod journal;
+#[cfg(test)]
+mod keep;

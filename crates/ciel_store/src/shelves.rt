@@ -122,6 +122,15 @@ impl<B: Drop> Shelves<B> {
         Seen { seat }
     }
 
+    /// A further eye, which has seen what this one has. It takes no memory.
+    pub fn another(&self, eye: &mut Eye) -> Eye
+        requires { eye.old.of ≡ self.now.of }
+        ensures { (result ≡ eye.old) × (eye.new ≡ eye.old) }
+    {
+        let Seen { seat } = self.show(eye);
+        Eye { seat }
+    }
+
     /// Marks the loss of a worker; where it is lost already nothing changes. It takes no lock and no memory.
     pub fn mark_lost(&self, marker: &mut Marker, loss: Loss)
         requires of { marker.old.of ≡ self.now.of }
