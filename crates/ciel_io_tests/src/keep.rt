@@ -91,7 +91,7 @@ fn kept_files_of_the_host(rt: HostRuntime) -> Result<(), Fail> {
         ("other", true, "6", true),
     ];
     assert_eq!(&rt; as_said(alloc, &mut keep, rows.as_slice())?, 6);
-    assert!(&rt; fs::read(&rt, alloc, "log")?.as_slice() == b"one two".as_slice());
-    assert!(&rt; fs::read(&rt, alloc, "other")?.as_slice() == b"6".as_slice());
+    assert!(&rt; fs::read(&rt, "log")?.as_slice() == b"one two".as_slice());
+    assert!(&rt; fs::read(&rt, "other")?.as_slice() == b"6".as_slice());
     Ok(())
 }

@@ -4,3 +4,4 @@ pub mod Texts
 pub mod Spelled
 pub mod Bodies
 pub mod Laws
+pub mod Descs

@@ -6,6 +6,7 @@ pub mod law;
 pub mod name;
 pub mod object;
 pub mod read;
+pub mod read_object;
 pub mod reader;
 pub mod refusal;
 pub mod text;

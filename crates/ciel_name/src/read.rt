@@ -4,7 +4,7 @@
 
 ghost use Rattle.std.specs.Prelude.{◌≡◌, ◌<◌, ◌≤◌, IfOk, IfErr, ℕ, List, length};
 ghost use Rattle.sky_base.specs.Name.{bytes};
-ghost use Rattle.sky_base.specs.Val.{Val, size, most_size};
+ghost use Rattle.sky_base.specs.Val.{Val, pair_sizes, size, sizes, most_size};
 ghost use Rattle.sky_base.specs.View.{view, pairs_of};
 ghost use Rattle.ciel_name.specs.Spelled.{Spelled, IsData, NoData, Refuses, Read, NoneRead, TextRead, NoTextRead, NoTextWithin};
 ghost use Rattle.ciel_name.specs.Bodies.{BodyRead, NoBody, ItemsRead, NoItems, PairsRead, NoPairs, is_above};
@@ -180,7 +180,7 @@ fn read_list(alloc: Global, reader: &mut Reader, left: u32, room: u64) -> Result
 
 /// So many values, each of at most `left` levels, and together of at most the size `room`.
 #[cycle(read)]
-fn read_items(
+pub(crate) fn read_items(
     alloc: Global,
     reader: &mut Reader,
     count: u32,
@@ -189,6 +189,7 @@ fn read_items(
 ) -> Result<Vals, Decode>
     requires within { room ≤ most_size }
     ensures values { IfOk result (λ vs. ItemsRead count left reader.old vs reader.new) }
+    ensures fits { IfOk result (λ vs. sizes vs ≤ room) }
     ensures refused { IfErr result (λ e. Refuses e (NoItems count left room reader.old)) }
 {
     let mut values = Vals::new(alloc);
@@ -223,7 +224,7 @@ fn read_dict(alloc: Global, reader: &mut Reader, left: u32, room: u64) -> Result
 
 /// So many pairs with keys that rise, each with a value of at most `left` levels, and together of at most the size `room`.
 #[cycle(read)]
-fn read_pairs(
+pub(crate) fn read_pairs(
     alloc: Global,
     reader: &mut Reader,
     count: u32,
@@ -232,6 +233,7 @@ fn read_pairs(
 ) -> Result<Pairs, Decode>
     requires within { room ≤ most_size }
     ensures pairs { IfOk result (λ ps. PairsRead count left reader.old ps reader.new) }
+    ensures fits { IfOk result (λ ps. pair_sizes ps ≤ room) }
     ensures refused { IfErr result (λ e. Refuses e (NoPairs count left room reader.old)) }
 {
     let mut pairs = Pairs::new(alloc);
