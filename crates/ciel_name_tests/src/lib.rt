@@ -9,4 +9,6 @@ mod hexadecimal;
 #[cfg(test)]
 mod objects;
 #[cfg(test)]
+mod reads;
+#[cfg(test)]
 mod values;
