@@ -124,7 +124,7 @@ fn put_object(out: &mut Writer, object: &Object) -> Result<(), Memory>
 }
 
 /// A kind's place among the kinds, from 0.
-fn kind_number(kind: FaultKind) -> u8
+pub fn kind_number(kind: FaultKind) -> u8
     ensures { result ≡ kind_number kind }
 {
     kind as u8
