@@ -5,7 +5,7 @@ use Rattle.std.specs.Map.{lookup}
 use Rattle.sky_base.specs.NameOrder.{name_cmp}
 use Rattle.sky_base.specs.Val.{same_text}
 use Rattle.sky_base.proofs.Exact.{exact_text}
-use Rattle.sky_base.proofs.Found.{same_test}
+use Rattle.sky_base.proofs.NameTests.{same_test}
 use Rattle.ciel_table.specs.Named.{place_of}
 use Rattle.ciel_table.specs.Inside.{IsIndex}
 use Rattle.ciel_table.proofs.Lists.{bool_cases}

@@ -1,17 +1,11 @@
 -- Lists of names, and the names in a value.
-use Rattle.std.specs.Prelude.{◌≡◌, ℕ, List, [], ◌∷◌, ◌++◌, Bool, true, false, ◌||◌}
-use Rattle.std.specs.BTreeSet.{BTreeSet, contains}
+use Rattle.std.specs.Prelude.{ℕ, List, [], ◌∷◌, ◌++◌, Bool, true, false, ◌||◌}
 use Rattle.sky_base.specs.Val.{Desc, known, same_text, stands_in}
-use Rattle.sky_base.specs.NameOrder.{name_cmp}
 
 -- whether a name is in a list
 abbrev pub is_among : List ℕ → List (List ℕ) → Bool
 is_among n [] = false
 is_among n (m ∷ ms) = same_text n m || is_among n ms
-
--- the set has the names of the list
-abbrev pub HasSame : BTreeSet (List ℕ) → List (List ℕ) → Type 0
-HasSame seen ns = (n : List ℕ) → contains name_cmp seen n ≡ is_among n ns
 
 -- the descriptions that a value with names holds in place of these names
 abbrev pub known_of : List (List ℕ) → List (Desc (List ℕ))

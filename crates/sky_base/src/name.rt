@@ -44,7 +44,11 @@ impl PartialEq for Name {
     ghost laws = { Prim.search (comparing, rules) };
 
     fn eq(&self, other: &Name) -> bool {
-        self.bytes() == other.bytes()
+        match (&self.held, &other.held) {
+            (Held::Short(left), Held::Short(right)) => left == right,
+            (Held::Long(left), Held::Long(right)) => left == right,
+            _ => false,
+        }
     }
 }
 

@@ -1,72 +1,15 @@
-// The names that a value holds. Beside the list of those found so far stands an ordered set of them,
-// so that a value with many references is read in little more than linear time.
+// The names that a value holds, in little more than linear time.
 
-ghost use Rattle.std.specs.Prelude.{◌≡◌, [], ◌∷◌, IfOk};
+ghost use Rattle.std.specs.Prelude.{◌≡◌, IfOk};
 ghost use Rattle.sky_base.specs.Names.{known_of, gathered};
-ghost use Rattle.sky_base.specs.Val.{refs, vals_refs, pairs_refs, distinct, same_text, known};
+ghost use Rattle.sky_base.specs.Val.{refs, vals_refs, pairs_refs, distinct, same_text};
 ghost use Rattle.sky_base.specs.View.{view, vals_of, pairs_of};
 
-use crate::name::Name;
+use crate::found::Found;
 use crate::names::Names;
 use crate::text::Memory;
 use crate::value::{Pair, Value};
 use std::alloc::Global;
-use std::collections::BTreeSet;
-use std::marker::Model;
-
-// The names found so far, in order, and the set of them.
-#[derive(Drop)]
-struct Found {
-    names: Vec<Name>,
-    seen: BTreeSet<Name>,
-}
-
-impl Model for Found {
-    ghost use Rattle.std.specs.Prelude.{List, ℕ};
-    ghost use Rattle.sky_base.specs.Names.{HasSame};
-
-    ghost Value = { List (List ℕ) };
-
-    ghost view = { λ a. a.names.items };
-
-    ghost invariant = { λ a. HasSame a.seen a.names.items };
-}
-
-impl Found {
-    fn new(alloc: Global) -> Found
-        ensures { result ≡ [] }
-    {
-        Found {
-            names: Vec::new(alloc),
-            seen: BTreeSet::new(alloc),
-        }
-    }
-
-    // Puts a name at the end, unless it is there.
-    fn add(&mut self, name: &Name) -> Result<(), Memory>
-        ensures { IfOk result (λ _. known_of self.new ≡ gathered (known_of self.old) (known name.now ∷ [])) }
-    {
-        if self.names.reserve(1).is_err() {
-            return Err(Memory);
-        }
-        match self.seen.insert(*name) {
-            Ok(true) => {
-                self.names.push_reserved(*name);
-                Ok(())
-            }
-            Ok(false) => Ok(()),
-            Err(_) => Err(Memory),
-        }
-    }
-
-    fn into_names(self) -> Names
-        ensures { result ≡ self }
-    {
-        let Found { names, seen } = self;
-        drop(seen);
-        Names::of(names)
-    }
-}
 
 impl Value {
     /// The distinct names in the value, in the order of their first places.

@@ -7,7 +7,7 @@ use Rattle.sky_base.specs.Name.{low, low_vals, low_pairs, name}
 use Rattle.sky_base_law.specs.Lower.{low_ref}
 use Rattle.sky_base_law.specs.Tasks.{In}
 use Rattle.sky_base.proofs.Exact.{exact_text, self_text, exact_desc, self_desc}
-use Rattle.sky_base.proofs.Found.{bools_alike}
+use Rattle.sky_base.proofs.NameTests.{bools_alike}
 
 module _ {N : Type 0} (spell : N → List ℕ) (tag : Desc (List ℕ) → List ℕ) where
   mutual

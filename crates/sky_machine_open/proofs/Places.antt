@@ -2,15 +2,14 @@
 use Rattle.std.proofs.Common.{◌≡◌, ◌<◌, ◌≤◌, ◌+◌, ◌-◌, ℕ, zero, suc, List, [], ◌∷◌, length, Option, None, true, refl, sym, ap, ◌∙◌, subst, arith}
 use Rattle.std.proofs.Common.{add-one}
 use Rattle.sky_base.specs.Val.{Val, Pairs}
-use Rattle.sky_base.specs.Tree.{Place, Oper, Junction, Form, Exp, Exps, Links, Ands, Steps, Stm, Stms, Arms, Else, nodes, stm_nodes, block_nodes}
+use Rattle.sky_base.specs.Tree.{Place, Oper, Junction, Form, Exp, Exps, Links, Ands, Steps, Stms, Arms, Else, nodes, block_nodes}
 use Rattle.sky_base.specs.Tree.{arms_nodes}
-use Rattle.sky_base_law.specs.Opened.{Node, Pos, finished, in_index, in_args, HasExp, HasExps, HasLinks, HasAnds, HasSteps, HasStm, HasStms, HasArms}
-use Rattle.sky_base_law.specs.Opened.{next_part, next_link, next_and, next_arm, next_stm, enter_pos, next_pos, times, part_open, link_open, and_open}
+use Rattle.sky_base_law.specs.Opened.{Node, Pos, finished, in_index, in_args, HasExp, HasExps, HasLinks, HasAnds, HasSteps, HasArms}
+use Rattle.sky_base_law.specs.Opened.{next_part, next_link, next_and, next_arm, enter_pos, next_pos, times, part_open, link_open, and_open}
 use Rattle.sky_base_law.specs.Opened.{pos_open, arm_open, chain_open, logic_open, postfix_open, form_open, cases_open}
 use Rattle.sky_base.specs.TreeView.{ands_view}
-use Rattle.sky_base.specs.StmtView.{stms_view, arms_view}
+use Rattle.sky_base.specs.StmtView.{arms_view}
 use Rattle.sky_base.specs.declared.tree.Join.{Join}
-use Rattle.sky_base.specs.declared.stmt.Stmt.{Stmt}
 use Rattle.sky_base.specs.declared.stmt.Arm.{Arm}
 use Rattle.sky_machine_open.specs.Spots.{HasPos, is_finished}
 use Rattle.sky_machine_open.proofs.Walks.{times_stay}
@@ -39,13 +38,6 @@ and_step i m next x p e xs ls h g f = rw add-one (ap next_and h ∙ ap (λ y. ne
 
 pub and_stop : (i k m : ℕ) (x : ℕ × Ands) (xs : Ands) → times next_and i x ≡ (m, xs) → xs ≡ Ands.no_ands → i ≤ k → times next_and k x ≡ (m, xs)
 and_stop i k m x xs h g le = times_stay next_and x (m, xs) i k h (ap (λ y. next_and (m, y)) g ∙ ap (λ y. (m, y)) (sym g)) le
-
-pub stm_step : (i m next : ℕ) (x : ℕ × Stms) (a : Stm) (xs more : Stms) → times next_stm i x ≡ (m, xs) → xs ≡ Stms.stm a more → next
-    ≡ m + stm_nodes a → times next_stm (i + 1) x ≡ (next, more)
-stm_step i m next x a xs more h g f = rw add-one (ap next_stm h ∙ ap (λ y. next_stm (m, y)) g ∙ ap (λ k. (k, more)) (sym f))
-
-pub stm_stop : (i k m : ℕ) (x : ℕ × Stms) (xs : Stms) → times next_stm i x ≡ (m, xs) → xs ≡ Stms.no_stms → i ≤ k → times next_stm k x ≡ (m, xs)
-stm_stop i k m x xs h g le = times_stay next_stm x (m, xs) i k h (ap (λ y. next_stm (m, y)) g ∙ ap (λ y. (m, y)) (sym g)) le
 
 pub arm_step : (i m next : ℕ) (x : ℕ × Arms) (p : Place) (e : Exp) (b : Stms) (xs more : Arms) → times next_arm i x ≡ (m, xs) → xs
     ≡ Arms.arm p e b more → next ≡ m + nodes e + block_nodes b → times next_arm (i + 1) x ≡ (next, more)
@@ -79,15 +71,9 @@ module _ (at : ℕ → Option Node) where
   pub and_has : (m : ℕ) (p : Place) (e : Exp) (xs ls : Ands) → xs ≡ Ands.and p e ls → HasAnds at xs m → HasExp at e m
   and_has m p e xs ls g h = (subst (λ y. HasAnds at y m) g h).0
 
-  pub stms_left : (m next : ℕ) (a : Stm) (xs more : Stms) → xs ≡ Stms.stm a more → next ≡ m + stm_nodes a → HasStms at xs m → HasStms at more next
-  stms_left m next a xs more g f h = subst (HasStms at more) (sym f) (subst (λ y. HasStms at y m) g h).1
-
   pub arms_left : (m next : ℕ) (p : Place) (e : Exp) (b : Stms) (xs more : Arms) → xs ≡ Arms.arm p e b more → next ≡ m + nodes e + block_nodes b
       → HasArms at xs m → HasArms at more next
   arms_left m next p e b xs more g f h = subst (HasArms at more) (sym f) (subst (λ y. HasArms at y m) g h).3
-
-  pub stm_has : (m : ℕ) (a : Stm) (xs more : Stms) → xs ≡ Stms.stm a more → HasStms at xs m → HasStm at a m
-  stm_has m a xs more g h = (subst (λ y. HasStms at y m) g h).0
 
   pub enter_has : (m : ℕ) (ss : Steps) → HasSteps at ss m → HasPos at (enter_pos m ss)
   enter_has m Steps.no_steps h = tt
@@ -146,10 +132,6 @@ pub pos_stop : (i k : ℕ) (x y : Pos) → y ≡ times next_pos i x → is_finis
 pos_stop i k x finished e h le = sym (times_stay next_pos x finished i k (sym e) refl le)
 pos_stop i k x (in_index m y p ss) e h le = absurd cc
 pos_stop i k x (in_args m es p ss) e h le = absurd cc
-
-pub no_stms : (xs : List Stmt) → length xs ≡ 0 → stms_view xs ≡ Stms.no_stms
-no_stms [] e = refl
-no_stms (x ∷ xs) e = absurd (omega (arith, e))
 
 pub no_joins : (xs : List Join) → length xs ≡ 0 → ands_view xs ≡ Ands.no_ands
 no_joins [] e = refl

@@ -8,7 +8,7 @@ use Rattle.sky_base.specs.ObjectView.{object_view}
 use Rattle.sky_base.specs.Val.{known, same_text}
 use Rattle.sky_base.specs.declared.object.Object.{Object}
 use Rattle.sky_base.proofs.Exact.{exact_text}
-use Rattle.sky_base.proofs.Found.{same_test}
+use Rattle.sky_base.proofs.NameTests.{same_test}
 use Rattle.sky_base_known.specs.Walk.{Obj}
 use Rattle.sky_machine_show.specs.Given.{given_for, name_place, place_at, or_here}
 

@@ -1,5 +1,5 @@
 -- The words and the signs of the language.
-use Rattle.std.specs.Prelude.{ℕ, ◌==◌, ◌&&◌, if◌then◌else◌, List, [], ◌∷◌, Option, Some, None, codes}
+use Rattle.std.specs.Prelude.{ℕ, ◌==◌, ◌&&◌, if◌then◌else◌, List, [], ◌∷◌, Option, Some, None, codes, length}
 use Rattle.std.specs.Str.{bytes_eq}
 use Rattle.sky_text.specs.declared.token.Word.{Word}
 use Rattle.sky_text.specs.declared.token.Sign.{Sign}
@@ -18,6 +18,11 @@ words =
 abbrev pub look_up : {A : Type 0} → List (List ℕ × A) → List ℕ → Option A
 look_up [] text = None
 look_up (entry ∷ more) text = if bytes_eq text entry.0 then Some entry.1 else look_up more text
+
+-- those of a table whose text is so long
+abbrev pub as_long : {A : Type 0} → ℕ → List (List ℕ × A) → List (List ℕ × A)
+as_long n [] = []
+as_long n (entry ∷ more) = if length entry.0 == n then entry ∷ as_long n more else as_long n more
 
 -- the word that is spelled so
 abbrev pub word_of : List ℕ → Option Word

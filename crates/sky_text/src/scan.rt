@@ -8,7 +8,7 @@ ghost use Rattle.sky_text.specs.Place.{is_line_feed};
 ghost use Rattle.std.specs.Str.{IsUtf8};
 ghost use Rattle.sky_text.specs.Lexing.{is_blank, begins_with, gap_len, begins_name, goes_on_name, named, number, number_of, is_escape, unescaped};
 ghost use Rattle.sky_text.specs.Lexing.{text_from, text_at, sign_at, token_at, and_then};
-ghost use Rattle.sky_text.specs.Words.{word_of, short_sign, long_sign};
+ghost use Rattle.sky_text.specs.Words.{words, look_up, as_long, word_of, short_sign, long_sign};
 
 use crate::lex::LexRefusal;
 use crate::token::{Sign, TokenKind, Word};
@@ -66,44 +66,107 @@ fn goes_on_name(b: u8) -> bool
 fn word(name: &str) -> Option<Word>
     ensures { result ≡ word_of name.now }
 {
-    if name == "function" {
-        Some(Word::Function)
-    } else if name == "return" {
-        Some(Word::Return)
-    } else if name == "if" {
+    match name.len() {
+        2 => word_of_two(name),
+        3 => word_of_three(name),
+        4 => word_of_four(name),
+        5 => word_of_five(name),
+        6 => word_of_six(name),
+        8 => word_of_eight(name),
+        10 => word_of_ten(name),
+        _ => None,
+    }
+}
+
+fn word_of_two(name: &str) -> Option<Word>
+    ensures { result ≡ look_up (as_long 2 words) name.now }
+{
+    if name == "if" {
         Some(Word::If)
-    } else if name == "else" {
-        Some(Word::Else)
-    } else if name == "while" {
-        Some(Word::While)
     } else if name == "do" {
         Some(Word::Do)
-    } else if name == "for" {
-        Some(Word::For)
     } else if name == "in" {
         Some(Word::In)
-    } else if name == "true" {
-        Some(Word::True)
-    } else if name == "false" {
-        Some(Word::False)
-    } else if name == "null" {
-        Some(Word::Null)
-    } else if name == "spawn" {
-        Some(Word::Spawn)
-    } else if name == "spawn_exec" {
-        Some(Word::SpawnExec)
-    } else if name == "exec" {
-        Some(Word::Exec)
+    } else {
+        None
+    }
+}
+
+fn word_of_three(name: &str) -> Option<Word>
+    ensures { result ≡ look_up (as_long 3 words) name.now }
+{
+    if name == "for" {
+        Some(Word::For)
     } else if name == "ref" {
         Some(Word::Ref)
     } else if name == "len" {
         Some(Word::Len)
-    } else if name == "keys" {
-        Some(Word::Keys)
     } else if name == "has" {
         Some(Word::Has)
+    } else {
+        None
+    }
+}
+
+fn word_of_four(name: &str) -> Option<Word>
+    ensures { result ≡ look_up (as_long 4 words) name.now }
+{
+    if name == "else" {
+        Some(Word::Else)
+    } else if name == "true" {
+        Some(Word::True)
+    } else if name == "null" {
+        Some(Word::Null)
+    } else if name == "exec" {
+        Some(Word::Exec)
+    } else if name == "keys" {
+        Some(Word::Keys)
+    } else {
+        None
+    }
+}
+
+fn word_of_five(name: &str) -> Option<Word>
+    ensures { result ≡ look_up (as_long 5 words) name.now }
+{
+    if name == "while" {
+        Some(Word::While)
+    } else if name == "false" {
+        Some(Word::False)
+    } else if name == "spawn" {
+        Some(Word::Spawn)
     } else if name == "range" {
         Some(Word::Range)
+    } else {
+        None
+    }
+}
+
+fn word_of_six(name: &str) -> Option<Word>
+    ensures { result ≡ look_up (as_long 6 words) name.now }
+{
+    if name == "return" {
+        Some(Word::Return)
+    } else {
+        None
+    }
+}
+
+fn word_of_eight(name: &str) -> Option<Word>
+    ensures { result ≡ look_up (as_long 8 words) name.now }
+{
+    if name == "function" {
+        Some(Word::Function)
+    } else {
+        None
+    }
+}
+
+fn word_of_ten(name: &str) -> Option<Word>
+    ensures { result ≡ look_up (as_long 10 words) name.now }
+{
+    if name == "spawn_exec" {
+        Some(Word::SpawnExec)
     } else {
         None
     }

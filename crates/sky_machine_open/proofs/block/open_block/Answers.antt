@@ -1,43 +1,38 @@
-use Rattle.std.proofs.Common.{◌≡◌, ◌+◌, ℕ, sym, ap, subst}
+use Rattle.std.proofs.Common.{◌≡◌, ◌+◌, ℕ, List, length, ltb-true, ltb-false, sym, ap, ◌∙◌}
+use Rattle.std.specs.Borrow.{Bor}
 use Rattle.sky_base.specs.Tree.{Stms}
-use Rattle.sky_base.specs.StmtView.{stm_view, stms_view}
-use Rattle.sky_base_law.specs.Nodes.{node_at}
-use Rattle.sky_base_law.specs.Opened.{block_node, HasStms, next_stm, times, stms_open}
-use Rattle.sky_machine_open.proofs.Walks.{times_all}
-use Rattle.sky_machine_open.proofs.Places.{stm_step, stm_stop, stms_left, no_stms}
+use Rattle.sky_base.specs.StmtView.{stms_view}
+use Rattle.sky_base.specs.declared.stmt.Stmt.{Stmt}
+use Rattle.sky_base_law.specs.Opened.{next_stm, times, stms_open}
+use Rattle.sky_machine_open.proofs.BlockSteps.{within, next_at, all_begun}
 use Rattle.sky_machine_open.proofs.block.open_block.Goals as goal
-use Rattle.sky_machine_open.proofs.block.open_block.Goals.{else-loop-begun-test, then-loop-begun-test+in_default}
+use Rattle.sky_machine_open.proofs.block.open_block.Goals.{in-Some, in-None}
 
-pub loop-begun-init : goal.loop-begun-init
-loop-begun-init c =
-    let here = c.inside-next.ensures.here (block_node c.args.block.now) c.requires.here in
-    record {
-      place = λ i. (sym here i, sym c.as_slice-rest.ensures i);
-      has = subst (λ b. HasStms (λ i. node_at c.args.code.now i) b c.inside-next.result) (sym c.as_slice-rest.ensures)
-          (subst (HasStms (λ i. node_at c.args.code.now i) c.args.block.now) (sym here) c.requires.has);
-    }
+pub slice_bounds-next-count : goal.slice_bounds-next-count
+slice_bounds-next-count c =
+    within c.as_slice-stmts.result.now c.args.block.now c.as_slice-stmts.ensures c.args.node c.begins-begins.result.now
+    c.begins-begins.ensures c.args.step (ltb-true c.args.step (length c.begins-begins.result.now) (sym c.in-Some.ensures.lookup.0))
 
-pub loop-begun-preserved : goal.loop-begun-preserved
-loop-begun-preserved c =
-    let l = c.loop-begun in
-    let a = stm_view c.in-Some.stmt.now in
-    let more = stms_view c.in-Some.more.now in
-    let is = ap stms_view c.in-Some.ensures.cases.0 in
-    record {
-      place = stm_step l._begun l.next c.after_stmt-next.result (c.args.node + 1, c.args.block.now) a (stms_view l.rest.now) more
-          l.invariant.place is c.after_stmt-next.ensures;
-      has = stms_left (λ i. node_at c.args.code.now i) l.next c.after_stmt-next.result a (stms_view l.rest.now) more is c.after_stmt-next.ensures
-          l.invariant.has;
-    }
+pub slice_bounds-next-start : goal.slice_bounds-next-start
+slice_bounds-next-start c =
+    within c.as_slice-stmts.result.now c.args.block.now c.as_slice-stmts.ensures c.args.node c.begins-begins.result.now
+    c.begins-begins.ensures c.args.step (ltb-true c.args.step (length c.begins-begins.result.now) (sym c.in-Some.ensures.lookup.0))
 
 pub returns : goal.returns
 returns c =
-    let l = c.loop-begun in
-    let is : times next_stm c.args.step (c.args.node + 1, c.args.block.now) ≡ (l.next, stms_view l.rest.now) =
-    elim c.loop-begun-test.branch [
-      | else-loop-begun-test w ↦ times_all next_stm (c.args.node + 1, c.args.block.now)
-          (l.next, stms_view l.rest.now) l._begun c.args.step l.invariant.place w.loop-begun-test.false l.auto._begun-end
-      | then-loop-begun-test+in_default w ↦ stm_stop l._begun c.args.step l.next (c.args.node + 1, c.args.block.now) (stms_view l.rest.now)
-          l.invariant.place (no_stms l.rest.now w.in_default.ensures.cases) l.auto._begun-end
+    let ss = c.as_slice-stmts.result.now in
+    let b = c.args.block.now in
+    let n = c.args.node in
+    let xs = c.begins-begins.result.now in
+    let k = c.args.step in
+    let both : ℕ × Bor (List Stmt) → ℕ × Stms = λ p. (p.0, stms_view p.1.now) in
+    let is : times next_stm k (n + 1, b) ≡ (c.match-get.next.0, stms_view c.match-get.next.1.now) =
+    elim c.match-get.branch [
+      | in-Some w ↦ next_at ss b c.as_slice-stmts.ensures n xs c.begins-begins.ensures k w.in-Some.next.now
+          (ltb-true k (length xs) (sym w.in-Some.ensures.lookup.0)) w.in-Some.ensures.lookup.1
+          ∙ sym (ap both w.next-is)
+      | in-None w ↦ all_begun ss b c.as_slice-stmts.ensures n xs c.begins-begins.ensures k w.after_block.result
+          (ltb-false k (length xs) (sym w.in-None.ensures.lookup.0)) w.after_block.ensures
+          ∙ sym (ap both w.next-is)
     ] in
-    ap (λ (r : ℕ × Stms). stms_open r c.args.node c.args.step) is
+    ap (λ (r : ℕ × Stms). stms_open r n k) is
