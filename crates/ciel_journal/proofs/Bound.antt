@@ -72,7 +72,7 @@ module _ {D : Type 0} (job : Job D) (laws : IsJob job) where
       one (Some t) [] = refl
       one (Some t) (u ∷ us) = refl
 
-  better_low : (s : Save D) (o : Option (Save D)) → (s.j ≤ wait_number job (better job s o)) × (wait_number job o ≤ wait_number job (better job s o))
+  pub better_low : (s : Save D) (o : Option (Save D)) → (s.j ≤ wait_number job (better job s o)) × (wait_number job o ≤ wait_number job (better job s o))
   better_low s None = (omega arith, omega arith)
   better_low s (Some r) = pick (bool_cases (nat_lt r.j s.j))
     where

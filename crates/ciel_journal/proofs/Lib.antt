@@ -39,3 +39,4 @@ pub mod Startable
 pub mod SmallKnown
 pub mod Picked
 pub mod SeenAs
+pub mod SavesRise

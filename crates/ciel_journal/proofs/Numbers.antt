@@ -30,6 +30,16 @@ module _ {A : Type 0} where
       pick true r = inr r
       pick false r = r
 
+  -- what a filter keeps passes the test
+  pub kept_test : (p : A → Bool) (x : A) (xs : List A) → In x (filter p xs) → p x ≡ true
+  kept_test p x [] i = absurd i
+  kept_test p x (y ∷ ys) i = pick (p y) refl i (kept_test p x ys)
+    where
+      pick : (b : Bool) → p y ≡ b → In x (cond b (y ∷ filter p ys) (filter p ys)) → (In x (filter p ys) → p x ≡ true) → p x ≡ true
+      pick true e (inl s) r = subst (λ z. p z ≡ true) (sym s) e
+      pick true e (inr j) r = r j
+      pick false e j r = r j
+
   pub in_left : (x : A) (xs ys : List A) → In x xs → In x (xs ++ ys)
   in_left x [] ys i = absurd i
   in_left x (y ∷ xs) ys (inl s) = inl s

@@ -1,5 +1,5 @@
 -- Which Starts are open and which waits are saved, said of the whole history.
-use Rattle.std.proofs.Common.{◌≡◌, ℕ, ◌<◌, List, [], ◌∷◌, ◌++◌, Bool, true, false, not, cond, nat_eq, Some, ◌⊎◌, inl, inr, refl, ap, sym, ◌∙◌, subst}
+use Rattle.std.proofs.Common.{◌≡◌, ℕ, ◌<◌, List, [], ◌∷◌, ◌++◌, Bool, true, false, not, nat_eq, Some, ◌⊎◌, inl, inr, refl, ap, sym, ◌∙◌, subst}
 use Rattle.std.proofs.Common.{arith, filter, eqb-true, eq-eqb, append-nil, append_assoc, ◌↔◌}
 use Rattle.ciel_journal.specs.Job.{Digest, Task, Job, In, IsJob}
 use Rattle.ciel_journal.specs.History.{Event, OpenStart, Plan, Save, Standing, after, after_all, before_all, closed, done, done_with, find_open, lost}
@@ -8,7 +8,7 @@ use Rattle.ciel_journal.specs.Lawful.{Lawful, LawfulFrom, Step}
 use Rattle.ciel_journal.specs.Live.{ClosedIn, LostIn, OpenIn, SavedIn, closer}
 use Rattle.ciel_journal.proofs.Members.{bool_cases, each_of}
 use Rattle.ciel_journal.proofs.Good.{after_done, after_missed, after_saved}
-use Rattle.ciel_journal.proofs.Numbers.{filter_in, found_in, in_filter, in_last, in_left, last_in}
+use Rattle.ciel_journal.proofs.Numbers.{filter_in, found_in, in_filter, in_last, in_left, kept_test, last_in}
 use Rattle.ciel_journal.proofs.Text.{Says, says_start_none, says_step}
 
 module _ {D : Type 0} where
@@ -24,24 +24,6 @@ module _ {D : Type 0} where
       pick : (In c.0 g ⊎ (c.0 ≡ e)) → ClosedIn g k ⊎ (closer e ≡ Some k)
       pick (inl i) = inl (c.0, i, c.2)
       pick (inr s) = inr (sym (ap closer s) ∙ c.2)
-
-  kept_by : (q : OpenStart D → Bool) (os : List (OpenStart D)) (o : OpenStart D) → In o (filter q os) → q o ≡ true
-  kept_by q [] o i = absurd i
-  kept_by q (x ∷ xs) o i = pick (q x) refl i (kept_by q xs o)
-    where
-      pick : (b : Bool) → q x ≡ b → In o (cond b (x ∷ filter q xs) (filter q xs)) → (In o (filter q xs) → q o ≡ true) → q o ≡ true
-      pick true e (inl s) r = subst (λ y. q y ≡ true) (sym s) e
-      pick true e (inr j) r = r j
-      pick false e j r = r j
-
-  save_by : (q : Save D → Bool) (os : List (Save D)) (o : Save D) → In o (filter q os) → q o ≡ true
-  save_by q [] o i = absurd i
-  save_by q (x ∷ xs) o i = pick (q x) refl i (save_by q xs o)
-    where
-      pick : (b : Bool) → q x ≡ b → In o (cond b (x ∷ filter q xs) (filter q xs)) → (In o (filter q xs) → q o ≡ true) → q o ≡ true
-      pick true e (inl s) r = subst (λ y. q y ≡ true) (sym s) e
-      pick true e (inr j) r = r j
-      pick false e j r = r j
 
   abbrev save_of : Task D → (j worker : ℕ) → (refs holds : List D) → Save D
   save_of t j w r h = record { task = t; j = j; worker = w; refs = r; holds = h }
@@ -126,7 +108,7 @@ module _ {D : Type 0} (job : Job D) (laws : IsJob job) where
           pick (inr y) =
               let a : Some k ≡ Some x.number = sym c ∙ y in
               let b : k ≡ x.number = cc in
-              differ k x.number (kept_by (λ (y : OpenStart D). not (nat_eq k y.number)) v.orders x i') b
+              differ k x.number (kept_test (λ (y : OpenStart D). not (nat_eq k y.number)) x v.orders i') b
 
       opened : (n w : ℕ) (t : Task D) (f' : ℕ) → OpenIn (g ++ e ∷ []) n w t f' → OrderOf u n w t f'
       opened n w t f' y =
@@ -432,7 +414,7 @@ module _ {D : Type 0} (job : Job D) (laws : IsJob job) where
           here : {n : ℕ} → (LostIn g x.worker → ⊥) → (In (lost x.worker n) g ⊎ Same {D = D} (lost x.worker n) (lost w c)) → ⊥
           here {n} h (inl j) = h (n, j)
           here {n} h (inr q) =
-              let a : w ≡ x.worker = cc in differ w x.worker (save_by (λ (y : Save D). not (nat_eq w y.worker)) v.saves x i) a
+              let a : w ≡ x.worker = cc in differ w x.worker (kept_test (λ (y : Save D). not (nat_eq w y.worker)) x v.saves i) a
 
       stands : (x : ℕ) (t : Task D) (j : ℕ) (r h : List D) → SavedIn (g ++ lost w c ∷ []) x t j r h
           → In (record { task = t; j = j; worker = x; refs = r; holds = h }) (filter (λ (y : Save D). not (nat_eq w y.worker)) v.saves)

@@ -102,7 +102,7 @@ module _ (digest : List ℕ → List ℕ) (shelves : ShelvesSeen) (sc : Script) 
       (entry_for x.number (how_view copied end))) { stopped = is_last x.task (how_view copied end) }
 
   pub taken_is : (x : board.OrderOut) (spawned : List Named) (copied : List Held) (end : End) → b.stopped ≡ false → taken x spawned copied end
-      ≡ accepted digest b x spawned (how_view copied end)
+      ≡ accepted digest worker_of b x spawned (how_view copied end)
   taken_is x spawned copied (End.Made ms) e = refl
   taken_is x spawned copied (End.Saved p k refs holds mark) e =
       ap (λ z. record (taken x spawned copied (End.Saved p k refs holds mark)) { stopped = z }) (sym e)
@@ -112,7 +112,7 @@ module _ (digest : List ℕ → List ℕ) (shelves : ShelvesSeen) (sc : Script) 
 
   module _ (x : Order P) (k : ℕ) (out : find_order k b.orders ≡ Some x.out) (spawned : List Named) (copied : List Held) where
     accepted_is_sound : (end : End) → FitsUnlessMissing digest shelves sc b x spawned copied end → LearnedFor digest end spawned b.table
-        → Sound digest worker_of (accepted digest b x.out spawned (how_view copied end))
+        → Sound digest worker_of (accepted digest worker_of b x.out spawned (how_view copied end))
     accepted_is_sound (End.Made ms) fits all =
         accepted_sound digest worker_of b g.safe.sound x k out spawned (how_view copied (End.Made ms)) (fits (λ z. z)).fits all
     accepted_is_sound (End.Saved p n refs holds mark) fits all =
@@ -126,7 +126,7 @@ module _ (digest : List ℕ → List ℕ) (shelves : ShelvesSeen) (sc : Script) 
         (record { rows = s.rows; shown = s.shown; saved = s.saved }) s.room refl (λ y i q. (q.here, q.last))
 
     accepted_is_safe : (end : End) → FitsUnlessMissing digest shelves sc b x spawned copied end → LearnedFor digest end spawned b.table
-        → Safe digest shelves sc (length sc.keys) (accepted digest b x.out spawned (how_view copied end))
+        → Safe digest shelves sc (length sc.keys) (accepted digest worker_of b x.out spawned (how_view copied end))
     accepted_is_safe (End.Made ms) fits all =
         report_safe digest shelves sc (length sc.keys) b g.safe x k out spawned (how_view copied (End.Made ms)) (fits (λ z. z)) all
     accepted_is_safe (End.Saved p n refs holds mark) fits all =
@@ -581,12 +581,12 @@ module _ {N : Type 0} (dig : N → (List ℕ → List ℕ)) (m : MasterSeen N) (
 
       pub accepted_so : (x : board.OrderOut) × (find_order number m.board.orders ≡ Some x)
           × (record { namer = n; shelves = shelves; script = sc; board = now }
-          ≡ record m { board = accepted (dig m.namer) m.board x spawned (how_view copied end) })
+          ≡ record m { board = accepted (dig m.namer) worker_of m.board x spawned (how_view copied end) })
       accepted_so =
           let so = now_is ∙ taken_is (dig n) shelves sc b going o spawned copied end goes in (
             o,
             subst (λ (z : MasterSeen N). find_order number z.board.orders ≡ Some o) e found,
             subst (λ (z : MasterSeen N). record { namer = n; shelves = shelves; script = sc; board = now }
-                ≡ record z { board = accepted (dig z.namer) z.board o spawned (how_view copied end) }) e
+                ≡ record z { board = accepted (dig z.namer) worker_of z.board o spawned (how_view copied end) }) e
                 (ap (λ z. record { namer = n; shelves = shelves; script = sc; board = z }) so),
           )

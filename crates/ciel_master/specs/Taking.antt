@@ -21,7 +21,7 @@ use Rattle.ciel_master.specs.declared.stop.Now.{Now}
 -- the table after it
 abbrev pub table_after : TaskId → r.End P → TableSeen P → TableSeen P
 table_after task (r.made ms cs) t = with_copies cs (with_outputs ms t)
-table_after task (r.saved s) t = saved task (wait_of s) t
+table_after task (r.saved s) t = saved worker_of task (wait_of s) t
 table_after task (r.missing name loss) t = t
 
 -- what the journal has of it

@@ -300,7 +300,7 @@ impl<K: Drop, N: Namer + Drop> Master<K, N> {
         requires fits { FitsOneOut (N.digest self.old.namer) self.old.shelves self.old.script self.old.board report }
         ensures accepted { OnOk result ((x : b.OrderOut) × (find_order report.number self.old.board.orders ≡ Some x)
             × (self.new ≡ record self.old {
-              board = accepted (N.digest self.old.namer) self.old.board x report.spawned.items (report_end report);
+              board = accepted (N.digest self.old.namer) worker_of self.old.board x report.spawned.items (report_end report);
             })) }
         ensures learned { OnOk result (LearnedFor (N.digest self.old.namer) report.end report.spawned.items self.old.board.table) }
         ensures carried { IsCarriedOut self.old.board report.end }
@@ -441,7 +441,7 @@ impl<K: Drop, N: Namer + Drop> Master<K, N> {
             × FitsUnlessMissing (N.digest self.old.namer) self.old.shelves self.old.script self.old.board x report.spawned.items report.copied.items report.end }
         ensures accepted { OnOk result ((x : b.OrderOut) × (find_order report.number self.old.board.orders ≡ Some x)
             × (self.new ≡ record self.old {
-              board = accepted (N.digest self.old.namer) self.old.board x report.spawned.items (report_end report);
+              board = accepted (N.digest self.old.namer) worker_of self.old.board x report.spawned.items (report_end report);
             })) }
         ensures learned { OnOk result (LearnedFor (N.digest self.old.namer) report.end report.spawned.items self.old.board.table) }
         ensures now { IfOk result (λ now. now ≡ now_of report.end) }

@@ -136,7 +136,7 @@ fn take_saved(
     requires few { room < 2 ^ 32 }
     requires later { IsAbove wait.j (waits_of order.now.task ready.old.table) }
     requires here { Here ready.old.table.gone (worker_of wait.place) }
-    ensures ready { OnOk result (ready.new ≡ with_table ready.old (saved order.now.task wait ready.old.table)) }
+    ensures ready { OnOk result (ready.new ≡ with_table ready.old (saved worker_of order.now.task wait ready.old.table)) }
     ensures journal { OnOk result (map entry_view journal.new.items ≡ map entry_view journal.old.items
         ++ j.Entry.Saved order.now.number wait.j mark ∷ []) }
     ensures room { OnOk result (length journal.new.items + room ≤ vec_capacity journal.new) }

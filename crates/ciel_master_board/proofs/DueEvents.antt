@@ -23,7 +23,7 @@ use Rattle.ciel_master_board.specs.Reports.{AllLearned, End, report_view}
 use Rattle.ciel_master_board.specs.Setting.{IsSetting, Setting}
 use Rattle.ciel_master_board.specs.Sound.{MissingFits, Sound}
 use Rattle.ciel_master_board.proofs.EventsFollowed.{lost_follows}
-use Rattle.ciel_master_board.proofs.FollowsLemmas.{apart, informed, known, made, start_follows, traced}
+use Rattle.ciel_master_board.proofs.FollowsLemmas.{apart, informed, known, made, rises, start_follows, traced}
 use Rattle.ciel_master_board.proofs.MissesFollowed.{missed_follows}
 use Rattle.ciel_master_board.proofs.SearchResults.{picked_has, reached_book, reached_one, runnable_ready}
 use Rattle.ciel_master_board.proofs.StartsByName.{idle_same}
@@ -70,7 +70,7 @@ module _ {D P B : Type 0} (s : Setting D P B) (is : IsSetting s) (h : List (Even
 
   idle_are : idle_of b ≡ idle s.job b.plan v
   idle_are =
-      idle_same s is v (informed s is h b sound f) (apart s is h b sound f) (made s is h b sound f) (traced s is h b sound f) b sound f.stands
+      idle_same s is v (informed s is h b sound f) (apart s is h b sound f) (made s is h b sound f) (traced s is h b sound f) (rises s is h b sound f) b sound f.stands
       (known s is h b sound f)
 
   rests : RestsNow b → Rests s.job b.plan v
@@ -119,12 +119,12 @@ module _ {D P B : Type 0} (s : Setting D P B) (is : IsSetting s) (h : List (Even
   -- a report comes where nothing can be started
   pub report_runs : b.stopped ≡ false → RestsNow b → (x : Order P) (o : OpenStart D) (k : ℕ) (spawned : List Named) (end : End P)
       → Taken s h b x o k spawned end → (r.IsMissing (report_view k spawned end).end → ⊥) → AllLearned s.digest spawned b.table
-      → LiesUnlessClash s h b.plan o k spawned end → RunsOn s h (accepted s.digest b x.out spawned end)
+      → LiesUnlessClash s h b.plan o k spawned end → RunsOn s h (accepted s.digest s.at b x.out spawned end)
   report_runs going rest x o k spawned end taken none all lies =
       let a = report_follows s is h b sound f x o k spawned end taken going all none lies in
-      runs_on a.event (accepted s.digest b x.out spawned end) (plan_same end) a.follows (turn a.event a.tells)
+      runs_on a.event (accepted s.digest s.at b x.out spawned end) (plan_same end) a.follows (turn a.event a.tells)
     where
-      plan_same : (e : End P) → (accepted s.digest b x.out spawned e).plan ≡ b.plan
+      plan_same : (e : End P) → (accepted s.digest s.at b x.out spawned e).plan ≡ b.plan
       plan_same (End.made ms cs) = refl
       plan_same (End.saved q) = refl
       plan_same (End.missing name loss) = refl

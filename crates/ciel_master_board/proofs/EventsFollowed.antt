@@ -33,7 +33,7 @@ use Rattle.ciel_table.proofs.Lists.{all_filter, all_more}
 use Rattle.ciel_want.specs.History.{task_id}
 use Rattle.ciel_want.proofs.Rows.{all_found, item_at, some_place}
 use Rattle.ciel_master_board.specs.Board.{Board, Order, OrderOut, find_order}
-use Rattle.ciel_master_board.specs.Follows.{Follows, OneByOne, OutIs, RowIs, StandsFor, WaitIs, saves_of}
+use Rattle.ciel_master_board.specs.Follows.{Follows, OneByOne, OutIs, RowIs, StandsFor, WaitIs, saves_of, standing_saves}
 use Rattle.ciel_master_board.specs.Laws.{CopyLies, OutputLies, Taken}
 use Rattle.ciel_master_board.specs.Moves.{accepted, is_root, lost_at, wait_of, with_copies, with_outputs, without}
 use Rattle.ciel_master_board.specs.Reports as rep
@@ -273,17 +273,18 @@ module _ {D P B : Type 0} (s : Setting D P B) (is : IsSetting s) (h : List (Even
 
   module _ (book : List D) (clear : NoClash s.job book) (all : (d : D) → In d v.book → In d book) where
     -- each task that goes by a name of the grown book has its saved waits
-    waits_still : (u : Task D) → In (own_name s.job u) book → OneByOne (WaitIs s) (saves_of s.job u v.saves) (waits_of (task_id s.job u) b.table)
+    waits_still : (u : Task D) → In (own_name s.job u) book
+        → OneByOne (WaitIs s) (standing_saves (saves_of s.job u v.saves)) (waits_of (task_id s.job u) b.table)
     waits_still show i = f.stands.waits show inf.shelved.main
     waits_still (of d) i = pick (bool_cases (list_any (s.job.same d) v.book))
       where
         pick : ((list_any (s.job.same d) v.book ≡ true) ⊎ (list_any (s.job.same d) v.book ≡ false))
-            → OneByOne (WaitIs s) (saves_of s.job (of d) v.saves) (waits_of (task_id s.job (of d)) b.table)
+            → OneByOne (WaitIs s) (standing_saves (saves_of s.job (of d) v.saves)) (waits_of (task_id s.job (of d)) b.table)
         pick (inl y) = f.stands.waits (of d) (any_in s.job.same is.laws.same_exact d v.book y)
         pick (inr n) =
             let out : In d v.book → ⊥ = not_in n in
-            subst (λ ws. OneByOne (WaitIs s) (saves_of s.job (of d) v.saves) ws) (sym (new_waits book clear all d i out))
-            (subst (λ qs. OneByOne (WaitIs s) qs [])
+            subst (λ ws. OneByOne (WaitIs s) (standing_saves (saves_of s.job (of d) v.saves)) ws) (sym (new_waits book clear all d i out))
+            (subst (λ qs. OneByOne (WaitIs s) (standing_saves qs) [])
             (sym (none_saved s is (of d) v.saves (λ q j e. out
             (subst (λ t. In (own_name s.job t) v.book) e (traced s is h b sound f q j).1)))) tt)
           where
@@ -340,9 +341,9 @@ module _ {D P B : Type 0} (s : Setting D P B) (is : IsSetting s) (h : List (Even
       kept d i = learned_in s.job is.laws v.book sp d i
 
       waits_after : (t : TableSeen P) → t.shown ≡ after_table.shown → t.saved ≡ after_table.saved → (u : Task D) → In (own_name s.job u) book
-          → OneByOne (WaitIs s) (saves_of s.job u v.saves) (waits_of (task_id s.job u) t)
+          → OneByOne (WaitIs s) (standing_saves (saves_of s.job u v.saves)) (waits_of (task_id s.job u) t)
       waits_after t a e u i =
-          subst (OneByOne (WaitIs s) (saves_of s.job u v.saves))
+          subst (OneByOne (WaitIs s) (standing_saves (saves_of s.job u v.saves)))
           (sym (same_waits (task_id s.job u) b.table t (a ∙ growth.shown) (e ∙ growth.saved))) (waits_still book clear kept u i)
 
       once : Once [] book
@@ -372,10 +373,10 @@ module _ {D P B : Type 0} (s : Setting D P B) (is : IsSetting s) (h : List (Even
             state = lies;
           }
 
-      pub saved_follows : b.stopped ≡ false → Follows s (h ++ saved k q.j q.mark refs holds sp ∷ []) (accepted s.digest b x.out spawned (rep.saved q))
+      pub saved_follows : b.stopped ≡ false → Follows s (h ++ saved k q.j q.mark refs holds sp ∷ []) (accepted s.digest s.at b x.out spawned (rep.saved q))
       saved_follows going =
           let now = after_saved s.job is.laws v k q.j q.mark refs holds sp o taken.is_open in
-          goes_on s is h b sound f (saved k q.j q.mark refs holds sp) (accepted s.digest b x.out spawned (rep.saved q)) refl
+          goes_on s is h b sound f (saved k q.j q.mark refs holds sp) (accepted s.digest s.at b x.out spawned (rep.saved q)) refl
           (ap (λ n. b.journal ++ Entry.Saved n q.j q.mark ∷ []) (sym number))
           (record {
             going = f.stands.going going;
@@ -383,7 +384,7 @@ module _ {D P B : Type 0} (s : Setting D P B) (is : IsSetting s) (h : List (Even
             room = subst (λ (u : Standing D). length u.book ≤ b.plan.limit) (sym now) (size sp clear told);
             apart = subst (λ (u : Standing D). NoClash s.job u.book) (sym now) clear;
           })
-          (subst (λ u. StandsFor s u (accepted s.digest b x.out spawned (rep.saved q))) (sym now) (record {
+          (subst (λ u. StandsFor s u (accepted s.digest s.at b x.out spawned (rep.saved q))) (sym now) (record {
             keys = f.stands.keys;
             main = f.stands.main;
             rows = rows_after sp clear told;
@@ -462,12 +463,12 @@ module _ {D P B : Type 0} (s : Setting D P B) (is : IsSetting s) (h : List (Even
           copies_placed s is book' (once sp clear told) clear o.worker (placed s.job (names_of made) o.worker v.places) made_table copied cs
           copied_are (copies_are copied cs copied_are a.fetched copy_lies copies_fit) made_rows.1 made_rows.0
 
-      pub done_follows : b.stopped ≡ false → Follows s (h ++ done k made copied sp ∷ []) (accepted s.digest b x.out spawned (rep.made ms cs))
+      pub done_follows : b.stopped ≡ false → Follows s (h ++ done k made copied sp ∷ []) (accepted s.digest s.at b x.out spawned (rep.made ms cs))
       done_follows going =
           let now = after_done s.job is.laws v k made copied sp o taken.is_open in
           let outs = outputs_same ms after_table in
           let copies = copies_same cs made_table in
-          goes_on s is h b sound f (done k made copied sp) (accepted s.digest b x.out spawned (rep.made ms cs)) refl
+          goes_on s is h b sound f (done k made copied sp) (accepted s.digest s.at b x.out spawned (rep.made ms cs)) refl
           (ap (λ n. b.journal ++ Entry.Done n (made_keys ms) (copy_names cs) ∷ []) (sym number)
           ∙ (ap (λ ks. b.journal ++ Entry.Done k ks (copy_names cs) ∷ []) made_are
           ∙ ap (λ ks. b.journal ++ Entry.Done k (low_made s.job made) ks ∷ []) copied_are))
@@ -477,7 +478,7 @@ module _ {D P B : Type 0} (s : Setting D P B) (is : IsSetting s) (h : List (Even
             room = subst (λ (u : Standing D). length u.book ≤ b.plan.limit) (sym now) (size sp clear told);
             apart = subst (λ (u : Standing D). NoClash s.job u.book) (sym now) clear;
           })
-          (subst (λ u. StandsFor s u (accepted s.digest b x.out spawned (rep.made ms cs))) (sym now) (record {
+          (subst (λ u. StandsFor s u (accepted s.digest s.at b x.out spawned (rep.made ms cs))) (sym now) (record {
             keys = f.stands.keys;
             main = f.stands.main;
             rows = copied_rows;

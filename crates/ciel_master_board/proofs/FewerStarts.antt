@@ -321,13 +321,13 @@ module _ {P : Type 0} (digest : List ℕ → List ℕ) (at : P → ℕ) (most : 
         same_le {l} {m} e = omega (arith, e)
 
     -- its own, after a later wait, too
-    pub own_left : (w : Wait P) → x.from < w.j → waits_of x.task then.table ≡ waits_of x.task b.table ++ w ∷ []
+    pub own_left : (w : Wait P) → x.from < w.j → waits_of x.task then.table ≡ c.waits_with at w (waits_of x.task b.table)
         → starts_left most then x.task ≤ starts_left most b x.task
     own_left w later waits =
         let o = each_of (OrderSound b) x b.orders there sound.orders in
         let before : wait_number (last_wait x.task b.table) ≤ x.from = last_below x.from (waits_of x.task b.table) o.last in
         let after : w.j ≤ wait_number (last_wait x.task then.table) =
-        subst (λ ws. w.j ≤ wait_number (latest ws)) (sym waits) (last_above (waits_of x.task b.table) w) in
+        subst (λ ws. w.j ≤ wait_number (latest ws)) (sym waits) (last_above (c.waits_without at (at w.place) (waits_of x.task b.table)) w) in
         let e : starts_left most b x.task ≡ most - wait_number (last_wait x.task b.table) =
         ap (λ c. cond c most (suc most) - wait_number (last_wait x.task b.table)) (has_out b.orders x there) in
         subst (λ z. starts_left most then x.task ≤ z) (sym e)
@@ -357,17 +357,18 @@ module _ {P : Type 0} (digest : List ℕ → List ℕ) (at : P → ℕ) (most : 
     learned_waits y =
         let g = grown digest spawned b.table in same_waits y b.table learned_then g.shown g.saved
 
-    pub saved_less : (q : Stack P) → x.from < q.j → all_left most (saved_at digest b x spawned q) ≤ all_left most b
+    pub saved_less : (q : Stack P) → x.from < q.j → all_left most (saved_at digest at b x spawned q) ≤ all_left most b
     saved_less q later =
         let g = grown digest spawned b.table in
         all_lighter most b then g.news (subst (λ rs. OneByOne (Lighter most b then) (b.table.rows ++ g.news) rs) (sym g.rows)
         (one_self (Lighter most b then) (same_row x there then refl left) (b.table.rows ++ g.news))) g.limit fits (left TaskId.Show)
       where
         then : Board P
-        then = saved_at digest b x spawned q
+        then = saved_at digest at b x spawned q
 
-        waits : (y : TaskId) → waits_of y then.table ≡ cond (same_id y x.task) (waits_of y learned_then ++ wait_of q ∷ []) (waits_of y learned_then)
-        waits y = more_waits y x.task (wait_of q) learned_then
+        waits : (y : TaskId) → waits_of y then.table
+            ≡ cond (same_id y x.task) (c.waits_with at (wait_of q) (waits_of y learned_then)) (waits_of y learned_then)
+        waits y = more_waits at y x.task (wait_of q) learned_then
 
         left : (y : TaskId) → starts_left most then y ≤ starts_left most b y
         left y = pick (bool_cases (same_id y x.task))
@@ -376,11 +377,11 @@ module _ {P : Type 0} (digest : List ℕ → List ℕ) (at : P → ℕ) (most : 
             pick (inl t) =
                 subst (λ z. starts_left most then z ≤ starts_left most b z) (sym (same_exact y x.task t))
                 (own_left x there then refl (wait_of q) later
-                (waits x.task ∙ (ap (λ c. cond c (waits_of x.task learned_then ++ wait_of q ∷ []) (waits_of x.task learned_then))
-                (same_self x.task) ∙ ap (λ ws. ws ++ wait_of q ∷ []) (learned_waits x.task))))
+                (waits x.task ∙ (ap (λ e. cond e (c.waits_with at (wait_of q) (waits_of x.task learned_then)) (waits_of x.task learned_then))
+                (same_self x.task) ∙ ap (c.waits_with at (wait_of q)) (learned_waits x.task))))
             pick (inr f) =
                 other_left x there then refl y f (waits y
-                ∙ (ap (λ c. cond c (waits_of y learned_then ++ wait_of q ∷ []) (waits_of y learned_then)) f ∙ learned_waits y))
+                ∙ (ap (λ e. cond e (c.waits_with at (wait_of q) (waits_of y learned_then)) (waits_of y learned_then)) f ∙ learned_waits y))
 
     -- where each row of its task is live then
     pub done_less : (ms : List (Output P)) (cs : List (Copy P)) → same_id TaskId.Show x.task ≡ false

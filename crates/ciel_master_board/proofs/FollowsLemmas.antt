@@ -10,6 +10,7 @@ use Rattle.ciel_journal.specs.Turns.{Reached}
 use Rattle.ciel_journal.proofs.Append.{after_append, journal_last, lawful_append}
 use Rattle.ciel_journal.proofs.BookKnown.{Informed}
 use Rattle.ciel_journal.proofs.Published.{book_apart}
+use Rattle.ciel_journal.proofs.SavesRise.{EachRises, rising}
 use Rattle.ciel_journal.proofs.Startable as startable
 use Rattle.ciel_journal.proofs.Traced as t
 use Rattle.ciel_table.specs.Seen.{last_wait}
@@ -42,11 +43,14 @@ module _ {D P B : Type 0} (s : Setting D P B) (is : IsSetting s) (h : List (Even
   pub traced : (q : Save D) → In q (standing s.job h).saves → t.SaveTraced s.job is.laws (standing s.job h).book q
   traced q i = (t.traced s.job is.laws b.plan h f.lawful).saves q i
 
+  pub rises : EachRises (standing s.job h).saves
+  rises = (rising s.job is.laws b.plan h f.lawful).saves
+
   pub known : (u : Task D) → Reached s.job (standing s.job h) u → Each (λ d. In d (standing s.job h).book) (needs_after s.job (standing s.job h) u)
   known u r = startable.reached_needs s.job is.laws s.inner is.knows b.plan h f.lawful u r
 
   pub table_holds : Holds s.job (standing s.job h) b.main b.table (tasks_out b.orders)
-  table_holds = holding.table_holds s is (standing s.job h) informed apart made b sound f.stands known
+  table_holds = holding.table_holds s is (standing s.job h) informed apart made b sound f.stands rises known
 
   pub agrees : Agree s.job (standing s.job h) b.main b.table (tasks_out b.orders)
   agrees =
@@ -71,10 +75,10 @@ module _ {D P B : Type 0} (s : Setting D P B) (is : IsSetting s) (h : List (Even
             task = q.0;
             is = refl;
             reached = q.2;
-            order = start_order s is (standing s.job h) informed apart made traced b sound f.stands known q.0 q.2 w;
+            order = start_order s is (standing s.job h) informed apart made traced rises b sound f.stands known q.0 q.2 w;
             follows = goes_on (start b.starts w q.0 (wait_number (last_wait (task_id s.job q.0) b.table))) (started s.at b (task_id s.job q.0) w)
                 refl (ap (λ k. b.journal ++ Entry.Start b.starts w k (wait_number (last_wait (task_id s.job q.0) b.table)) ∷ [])
-                (key_is s.job q.0)) (start_step s is (standing s.job h) informed apart made traced b sound f.stands known q.0 q.2
+                (key_is s.job q.0)) (start_step s is (standing s.job h) informed apart made traced rises b sound f.stands known q.0 q.2
                 (subst (Runnable (board_graph b)) (sym q.1) r) w i going)
-                (start_stands s is (standing s.job h) informed apart made traced b sound f.stands known q.0 q.2 w);
+                (start_stands s is (standing s.job h) informed apart made traced rises b sound f.stands known q.0 q.2 w);
           })

@@ -1,4 +1,5 @@
 pub mod Pairs
+pub mod StandingSaves
 pub mod TableLookups
 pub mod TableContents
 pub mod OrderPlaces

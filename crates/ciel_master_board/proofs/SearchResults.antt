@@ -20,7 +20,7 @@ use Rattle.ciel_master_board.specs.Follows.{Follows, OneByOne, OutIs}
 use Rattle.ciel_master_board.specs.Setting.{IsSetting, Setting}
 use Rattle.ciel_master_board.specs.Sound.{Sound}
 use Rattle.ciel_master_board.proofs.EventsFollowed.{low_is}
-use Rattle.ciel_master_board.proofs.FollowsLemmas.{agrees, apart, informed, known, made, table_holds, traced}
+use Rattle.ciel_master_board.proofs.FollowsLemmas.{agrees, apart, informed, known, made, rises, table_holds, traced}
 use Rattle.ciel_master_board.proofs.TableContents as holding
 use Rattle.ciel_master_board.proofs.TableLookups.{same_named}
 use Rattle.ciel_master_board.proofs.SoundLemmas.{same_self}
@@ -83,7 +83,7 @@ module _ {D P B : Type 0} (s : Setting D P B) (is : IsSetting s) (h : List (Even
       pick : ((t : Task D) × (task_id s.job t ≡ task_id s.job u) × Reached s.job v t) → Ready s.job v u
       pick q =
           let same : q.0 ≡ u = reached_one q.0 u (reached_book q.0 q.2) i q.1 in
-          starting.ready s is v (informed s is h b sound f) (apart s is h b sound f) (made s is h b sound f) (traced s is h b sound f) b sound
+          starting.ready s is v (informed s is h b sound f) (apart s is h b sound f) (made s is h b sound f) (traced s is h b sound f) (rises s is h b sound f) b sound
           f.stands (known s is h b sound f) u (subst (Reached s.job v) same q.2) r
 
   -- and a ready one can run

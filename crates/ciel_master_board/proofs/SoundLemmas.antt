@@ -20,7 +20,7 @@ use Rattle.ciel_journal.specs.Turns.{idle_from, is_idle}
 use Rattle.ciel_journal.proofs.Booked.{each_more}
 use Rattle.ciel_journal.proofs.Good.{each_filter, each_join}
 use Rattle.ciel_journal.proofs.Members.{bool_cases, each_of, in_any}
-use Rattle.ciel_journal.proofs.Numbers.{in_filter, in_last}
+use Rattle.ciel_journal.proofs.Numbers.{in_filter, in_last, kept_test}
 use Rattle.ciel_name.specs.Names.{first_output}
 use Rattle.ciel_table.specs.Changes as c
 use Rattle.ciel_table.specs.Changes.{row_with}
@@ -185,34 +185,41 @@ module _ {P : Type 0} where
       let r = copies_whole digest xs (c.placed x.name x.place t) (placed_whole digest x.name x.place t w) in
       (r.0, λ n k. r.1 n (placed_keeps x.name x.place t n k), r.2 ∙ length_changed row_name (row_with x.place) x.name t.rows)
 
-  -- a saved wait more
-  save_whole : (t : TableSeen P) (n : List ℕ) (w : Wait P) (qs : List (Saves P)) (o : Option (Saves P)) → found saves_name n qs ≡ o → Known t n
-      → WaitSound t w → AllByRecursion (SavesSound t) qs → AllByRecursion (SavesSound t) (c.save_at o n w qs)
-  save_whole t n w qs None e k a all =
-      all_push (SavesSound t) qs (record { name = n; waits = w ∷ [] }) all (record { task = k; waits = (a, tt) })
-  save_whole t n w qs (Some q) e k a all =
-      all_changed saves_name (SavesSound t) (c.saves_with w) n qs
-      (λ x f y. record { task = y.task; waits = all_push (WaitSound t) x.waits w y.waits a }) all
+  module _ (at : P → ℕ) where
+    -- a saved wait more
+    all_with : (t : TableSeen P) (w : Wait P) (ws : List (Wait P)) → WaitSound t w → AllByRecursion (WaitSound t) ws
+        → AllByRecursion (WaitSound t) (c.waits_with at w ws)
+    all_with t w ws a all =
+        all_push (WaitSound t) (c.waits_without at (at w.place) ws) w
+        (all_filter (WaitSound t) (WaitSound t) (λ (x : Wait P). not (nat_eq (at w.place) (at x.place))) (λ x k e. k) ws all) a
 
-  pub saved_whole : (digest : List ℕ → List ℕ) (z : TaskId) (w : Wait P) (t : TableSeen P) → IsTask t z → WaitSound t w → Whole' digest t
-      → Whole' digest (c.saved z w t)
-  saved_whole digest TaskId.Show w t k a h =
-      let u = c.saved TaskId.Show w t in
-      let j : Keeps t u = λ n i. i in
-      record {
-        rows = rows_kept digest t u j t.rows h.rows;
-        shown = all_push (WaitSound u) t.shown w (waits_kept t u j t.shown h.shown) (wait_kept t u j w a);
-        saved = saved_kept t u j t.saved h.saved;
-      }
-  saved_whole digest (TaskId.Of n) w t k a h =
-      let u = c.saved (TaskId.Of n) w t in
-      let j : Keeps t u = λ m i. i in
-      record {
-        rows = rows_kept digest t u j t.rows h.rows;
-        shown = waits_kept t u j t.shown h.shown;
-        saved = saved_kept t u j (c.save_at (found saves_name n t.saved) n w t.saved)
-            (save_whole t n w t.saved (found saves_name n t.saved) refl k a h.saved);
-      }
+    save_whole : (t : TableSeen P) (n : List ℕ) (w : Wait P) (qs : List (Saves P)) (o : Option (Saves P)) → found saves_name n qs ≡ o → Known t n
+        → WaitSound t w → AllByRecursion (SavesSound t) qs → AllByRecursion (SavesSound t) (c.save_at at o n w qs)
+    save_whole t n w qs None e k a all =
+        all_push (SavesSound t) qs (record { name = n; waits = w ∷ [] }) all (record { task = k; waits = (a, tt) })
+    save_whole t n w qs (Some q) e k a all =
+        all_changed saves_name (SavesSound t) (c.saves_with at w) n qs
+        (λ x f y. record { task = y.task; waits = all_with t w x.waits a y.waits }) all
+
+    pub saved_whole : (digest : List ℕ → List ℕ) (z : TaskId) (w : Wait P) (t : TableSeen P) → IsTask t z → WaitSound t w → Whole' digest t
+        → Whole' digest (c.saved at z w t)
+    saved_whole digest TaskId.Show w t k a h =
+        let u = c.saved at TaskId.Show w t in
+        let j : Keeps t u = λ n i. i in
+        record {
+          rows = rows_kept digest t u j t.rows h.rows;
+          shown = all_with u w t.shown (wait_kept t u j w a) (waits_kept t u j t.shown h.shown);
+          saved = saved_kept t u j t.saved h.saved;
+        }
+    saved_whole digest (TaskId.Of n) w t k a h =
+        let u = c.saved at (TaskId.Of n) w t in
+        let j : Keeps t u = λ m i. i in
+        record {
+          rows = rows_kept digest t u j t.rows h.rows;
+          shown = waits_kept t u j t.shown h.shown;
+          saved = saved_kept t u j (c.save_at at (found saves_name n t.saved) n w t.saved)
+              (save_whole t n w t.saved (found saves_name n t.saved) refl k a h.saved);
+        }
 
 -- ---- saved waits and numbers
 
@@ -294,16 +301,6 @@ order_in k (y ∷ ys) x e = pick (nat_eq k y.number) e (order_in k ys x)
 pub same_self : (x : TaskId) → same_id x x ≡ true
 same_self TaskId.Show = refl
 same_self (TaskId.Of n) = self_text n
-
--- what a filter keeps passes the test
-kept_test : {A : Type 0} (p : A → Bool) (x : A) (xs : List A) → In x (filter p xs) → p x ≡ true
-kept_test p x [] i = absurd i
-kept_test p x (y ∷ ys) i = pick (p y) refl i (kept_test p x ys)
-  where
-    pick : (b : Bool) → p y ≡ b → In x (cond b (y ∷ filter p ys) (filter p ys)) → (In x (filter p ys) → p x ≡ true) → p x ≡ true
-    pick true e (inl s) r = subst (λ z. p z ≡ true) (sym s) e
-    pick true e (inr j) r = r j
-    pick false e j r = r j
 
 not_true : (b : Bool) → not b ≡ true → b ≡ false
 not_true true h = cc
@@ -474,12 +471,12 @@ module _ {P : Type 0} (digest : List ℕ → List ℕ) (at : P → ℕ) where
       subst (AllByRecursion (λ (w : Wait P). w.j ≤ y.from)) (sym (same_waits y.task b.table u a e)) q.last,
     )
 
-    missing_sound : (name : Digest) (loss : ℕ) → Sound digest at (accepted digest b x.out spawned (rep.missing name loss))
+    missing_sound : (name : Digest) (loss : ℕ) → Sound digest at (accepted digest at b x.out spawned (rep.missing name loss))
     missing_sound name loss =
         closed_sound b s (λ (q : OrderOut). not (nat_eq x.out.number q.number)) b.table (b.journal ++ Entry.Missed x.out.number name loss ∷ [])
         (b.closes + 1) b.stopped (λ n k. k) (whole_of b s) s.room refl (λ y i q. (q.here, q.last))
 
-    made_sound : (ms : List (Output P)) (cs : List (Copy P)) → Sound digest at (accepted digest b x.out spawned (rep.made ms cs))
+    made_sound : (ms : List (Output P)) (cs : List (Copy P)) → Sound digest at (accepted digest at b x.out spawned (rep.made ms cs))
     made_sound ms cs =
         let o = outputs_whole digest ms then then_whole in
         let m = outputs_same ms then in
@@ -495,18 +492,18 @@ module _ {P : Type 0} (digest : List ℕ → List ℕ) (at : P → ℕ) where
         (λ y i q. still (with_copies cs (with_outputs ms then)) (n.shown ∙ (m.shown ∙ g.shown)) (n.saved ∙ (m.saved ∙ g.saved))
         (n.gone ∙ (m.gone ∙ g.gone)) y q)
 
-    saved_sound : (q : Stack P) → StackFits digest at then x q → Sound digest at (accepted digest b x.out spawned (rep.saved q))
+    saved_sound : (q : Stack P) → StackFits digest at then x q → Sound digest at (accepted digest at b x.out spawned (rep.saved q))
     saved_sound q f =
         let g = grown digest spawned b.table in
-        closed_sound b s (λ (z : OrderOut). not (nat_eq x.out.number z.number)) (c.saved x.out.task (wait_of q) then)
+        closed_sound b s (λ (z : OrderOut). not (nat_eq x.out.number z.number)) (c.saved at x.out.task (wait_of q) then)
         (b.journal ++ Entry.Saved x.out.number q.j q.mark ∷ []) (b.closes + 1) b.stopped
         (λ n j. same_rows n (all_keeps digest spawned b.table n j))
-        (saved_whole digest x.out.task (wait_of q)
+        (saved_whole at digest x.out.task (wait_of q)
         then (task_then x.out.task (each_of (OrderSound b) x.out b.orders (order_in k b.orders x.out out) s.orders).task)
         (record { refs = f.refs; holds = f.holds }) then_whole) then_room g.limit
         (λ y i o. (subst (λ gs. Here gs y.worker) (sym g.gone) o.here, last_still y i o))
       where
-        same_rows : (n : List ℕ) → Known then n → Known (c.saved x.out.task (wait_of q) then) n
+        same_rows : (n : List ℕ) → Known then n → Known (c.saved at x.out.task (wait_of q) then) n
         same_rows n j = j
 
         task_then : (z : TaskId) → IsTask b.table z → IsTask then z
@@ -514,23 +511,23 @@ module _ {P : Type 0} (digest : List ℕ → List ℕ) (at : P → ℕ) where
         task_then (TaskId.Of n) t = all_keeps digest spawned b.table n t
 
         last_still : (y : OrderOut) → In y (without x.out.number b.orders) → OrderSound b y
-            → AllByRecursion (λ (w : Wait P). w.j ≤ y.from) (waits_of y.task (c.saved x.out.task (wait_of q) then))
+            → AllByRecursion (λ (w : Wait P). w.j ≤ y.from) (waits_of y.task (c.saved at x.out.task (wait_of q) then))
         last_still y i o = pick (bool_cases (same_id y.task x.out.task))
           where
             pick : ((same_id y.task x.out.task ≡ true) ⊎ (same_id y.task x.out.task ≡ false))
-                → AllByRecursion (λ (w : Wait P). w.j ≤ y.from) (waits_of y.task (c.saved x.out.task (wait_of q) then))
+                → AllByRecursion (λ (w : Wait P). w.j ≤ y.from) (waits_of y.task (c.saved at x.out.task (wait_of q) then))
             pick (inl t) = absurd (other_task y i (same_exact y.task x.out.task t))
             pick (inr t) =
                 let g = grown digest spawned b.table in
                 subst (AllByRecursion (λ (w : Wait P). w.j ≤ y.from))
-                (sym (more_waits y.task x.out.task (wait_of q) then
-                ∙ (ap (λ b. cond b (waits_of y.task then ++ wait_of q ∷ []) (waits_of y.task then)) t
+                (sym (more_waits at y.task x.out.task (wait_of q) then
+                ∙ (ap (λ b. cond b (c.waits_with at (wait_of q) (waits_of y.task then)) (waits_of y.task then)) t
                 ∙ same_waits y.task b.table then g.shown g.saved))) o.last
 
-    pub accepted_sound : Sound digest at (accepted digest b x.out spawned end)
+    pub accepted_sound : Sound digest at (accepted digest at b x.out spawned end)
     accepted_sound = pick end (fits.learned all).end
       where
-        pick : (e : End P) → EndFits digest at x then e → Sound digest at (accepted digest b x.out spawned e)
+        pick : (e : End P) → EndFits digest at x then e → Sound digest at (accepted digest at b x.out spawned e)
         pick (rep.missing name loss) f = missing_sound name loss
         pick (rep.made ms cs) f = made_sound ms cs
         pick (rep.saved q) f = saved_sound q f

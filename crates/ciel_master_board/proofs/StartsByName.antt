@@ -13,6 +13,7 @@ use Rattle.ciel_journal.specs.Turns.{Reached, Ready, busy, idle, idle_workers}
 use Rattle.ciel_journal.proofs.BookKnown.{Informed, last_cases, start_known}
 use Rattle.ciel_journal.proofs.Good.{last_ok, reached_needed}
 use Rattle.ciel_journal.proofs.Members.{each_of}
+use Rattle.ciel_journal.proofs.SavesRise.{EachRises}
 use Rattle.ciel_journal.proofs.SeenAs.{in_names}
 use Rattle.ciel_journal.proofs.Startable.{ready_step}
 use Rattle.ciel_journal.proofs.Traced.{SaveTraced}
@@ -68,8 +69,8 @@ module _ {D P B : Type 0} (s : Setting D P B) (is : IsSetting s) where
   stack_is (Some q) (Some w) k = ap (λ n. Some n) k.worker
 
   module _ (v : Standing D) (inf : Informed s.job is.laws s.inner is.knows v) (apart : NoClash s.job v.book)
-      (made : (d : D) → In d v.book → IsMade s d) (traced : (q : Save D) → In q v.saves → SaveTraced s.job is.laws v.book q) (b : Board P)
-      (sound : Sound s.digest s.at b) (st : StandsFor s v b) where
+      (made : (d : D) → In d v.book → IsMade s d) (traced : (q : Save D) → In q v.saves → SaveTraced s.job is.laws v.book q)
+      (rises : EachRises v.saves) (b : Board P) (sound : Sound s.digest s.at b) (st : StandsFor s v b) where
     -- a save that is a task's last is one of its own
     pub last_own : (u : Task D) (q : Save D) → last_save s.job u v.saves ≡ Some q → In q v.saves × (q.task ≡ u)
     last_own u q e = pick (last_cases s.job is.laws s.inner is.knows u v.saves)
@@ -117,7 +118,7 @@ module _ {D P B : Type 0} (s : Setting D P B) (is : IsSetting s) where
       -- ---- and where it goes on
 
       both : BothWaits s is (last_save s.job u v.saves) (last_wait (task_id s.job u) b.table)
-      both = last_is s is v inf apart made b sound st u i
+      both = last_is s is v inf apart made b sound st rises u i
 
       state_of : (q : Save D) → last_save s.job u v.saves ≡ Some q → (mark : Digest) × StateOf s.job u q.j (record { names = q.holds; mark = mark })
       state_of q e =
@@ -237,7 +238,7 @@ module _ {D P B : Type 0} (s : Setting D P B) (is : IsSetting s) where
             not_out = sym (outs_are s is v inf apart made b sound st u i) ∙ k.not_out;
             met = each_met (λ n. is_live n b.table ≡ true) (λ d. h.live s.job v d ≡ true) s.job.name (needs_after s.job v u)
                 (λ d j e. sym (lives s is v inf apart made b sound st d (each_of (λ x. In x v.book) d (needs_after s.job v u) j (known u r)))
-                ∙ e) (subst (Each (λ n. is_live n b.table ≡ true)) (needs_are s is v inf apart made b sound st u i own) k.met);
+                ∙ e) (subst (Each (λ n. is_live n b.table ≡ true)) (needs_are s is v inf apart made b sound st rises u i own) k.met);
           }
 
       pub idle_same : idle_of b ≡ idle s.job b.plan v
@@ -258,7 +259,7 @@ module _ {D P B : Type 0} (s : Setting D P B) (is : IsSetting s) where
           (subst (In w) idle_same j) in
           subst (λ n. Step s.job b.plan v (start n w u (wait_number (last_wait (task_id s.job u) b.table)))) (sym st.starts)
           (subst (λ n. Step s.job b.plan v (start v.starts w u n))
-          (sym (number_is (last_save s.job u v.saves) (last_wait (task_id s.job u) b.table) (last_is s is v inf apart made b sound st u i)))
+          (sym (number_is (last_save s.job u v.saves) (last_wait (task_id s.job u) b.table) (last_is s is v inf apart made b sound st rises u i)))
           step)
 
       -- the order that is handed out is that of the new open Start
@@ -268,7 +269,7 @@ module _ {D P B : Type 0} (s : Setting D P B) (is : IsSetting s) where
           let i = reached_booked s is v inf apart made b sound st known u r in
           let own = reached_own s is v inf apart made b sound st known u r in
           let needed = reached_needed s.job is.laws v inf.saves_ok u r in
-          let from = number_is (last_save s.job u v.saves) (last_wait (task_id s.job u) b.table) (last_is s is v inf apart made b sound st u i) in
+          let from = number_is (last_save s.job u v.saves) (last_wait (task_id s.job u) b.table) (last_is s is v inf apart made b sound st rises u i) in
           subst (λ n. OrderIs s (order_of s.job v b.starts w u n) (order_for s.at b (task_id s.job u) w)) (sym from) (order_is u i own needed w)
 
       pub start_stands : (u : Task D) → Reached s.job v u → (w : ℕ)

@@ -13,6 +13,7 @@ use Rattle.ciel_journal.specs.Lawful.{NoClash, own_name}
 use Rattle.ciel_journal.specs.Turns.{Reached}
 use Rattle.ciel_journal.proofs.BookKnown.{Informed}
 use Rattle.ciel_journal.proofs.Members.{each_of}
+use Rattle.ciel_journal.proofs.SavesRise.{EachRises}
 use Rattle.ciel_name.specs.Names.{first_output}
 use Rattle.ciel_table.specs.Seen.{has_place, is_input, is_live, is_live_row, last_wait, row_named, waits_of}
 use Rattle.ciel_table.specs.declared.row.Row.{Row}
@@ -125,8 +126,9 @@ module _ {D P B : Type 0} (s : Setting D P B) (is : IsSetting s) where
       reached_own u root d q = cc
       reached_own u (through r o d i n e) x q = task_own d u e x q
 
-    pub last_is : (u : Task D) → In (own_name s.job u) v.book → BothWaits s is (last_save s.job u v.saves) (last_wait (task_id s.job u) b.table)
-    last_is u i = last_both s is u v.saves (waits_of (task_id s.job u) b.table) (st.waits u i)
+    pub last_is : EachRises v.saves → (u : Task D) → In (own_name s.job u) v.book
+        → BothWaits s is (last_save s.job u v.saves) (last_wait (task_id s.job u) b.table)
+    last_is rises u i = last_both s is u v.saves (waits_of (task_id s.job u) b.table) rises (st.waits u i)
 
     first_is : (u : Task D) → In (own_name s.job u) v.book → Own u → first_needs b.main b.table (task_id s.job u) ≡ map s.job.name (s.job.first u)
     first_is show i o = ap (λ n. n ∷ []) st.main ∙ ap (map s.job.name) (sym is.laws.first_show)
@@ -135,9 +137,9 @@ module _ {D P B : Type 0} (s : Setting D P B) (is : IsSetting s) where
         ap (λ r. option_map_or (λ (r : Row P). first_refs r.desc) r []) q.1
         ∙ is.tells.first q.0.desc d q.2.spells (o d refl) (inside_apart d i)
 
-    pub needs_are : (u : Task D) → In (own_name s.job u) v.book → Own u → needs b.main b.table (task_id s.job u)
-        ≡ map s.job.name (needs_after s.job v u)
-    needs_are u i o = pick (last_save s.job u v.saves) (last_wait (task_id s.job u) b.table) (last_is u i)
+    pub needs_are : EachRises v.saves → (u : Task D) → In (own_name s.job u) v.book → Own u
+        → needs b.main b.table (task_id s.job u) ≡ map s.job.name (needs_after s.job v u)
+    needs_are rises u i o = pick (last_save s.job u v.saves) (last_wait (task_id s.job u) b.table) (last_is rises u i)
       where
         pick : (x : Option (Save D)) (y : Option (Wait P)) → BothWaits s is x y → needs_at b.main b.table y (task_id s.job u)
             ≡ map s.job.name (needs_of s.job u x)
@@ -149,12 +151,12 @@ module _ {D P B : Type 0} (s : Setting D P B) (is : IsSetting s) where
     pub outs_are : (u : Task D) → In (own_name s.job u) v.book → is_in (tasks_out b.orders) (task_id s.job u) ≡ is_out s.job v u
     outs_are u i = outs s is v.book apart u i v.orders b.orders st.orders inf.shelved.own
 
-    pub table_holds : ((u : Task D) → Reached s.job v u → Each (λ d. In d v.book) (needs_after s.job v u))
+    pub table_holds : EachRises v.saves → ((u : Task D) → Reached s.job v u → Each (λ d. In d v.book) (needs_after s.job v u))
         → Holds s.job v b.main b.table (tasks_out b.orders)
-    table_holds known =
+    table_holds rises known =
         record {
           rows = rows_are v.book b.table.rows made st.rows sound.rows;
           lives = lives;
-          waits = λ u r. needs_are u (reached_booked known u r) (reached_own known u r);
+          waits = λ u r. needs_are rises u (reached_booked known u r) (reached_own known u r);
           outs = λ u r. outs_are u (reached_booked known u r);
         }

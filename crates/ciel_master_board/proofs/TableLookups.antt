@@ -10,6 +10,7 @@ use Rattle.ciel_journal.specs.History.{OpenStart, Save, better, last_save, same_
 use Rattle.ciel_journal.specs.Job.{Each, In, Task, of, show}
 use Rattle.ciel_journal.specs.Lawful.{NoClash, own_name}
 use Rattle.ciel_journal.proofs.Members.{agree, bool_cases}
+use Rattle.ciel_journal.proofs.SavesRise.{EachRises}
 use Rattle.ciel_table.specs.Named.{found}
 use Rattle.ciel_table.specs.Seen.{later, latest, row_name}
 use Rattle.ciel_table.specs.declared.row.Row.{Row}
@@ -17,8 +18,9 @@ use Rattle.ciel_table.specs.declared.wait.Wait.{Wait}
 use Rattle.ciel_want.specs.History.{task_id}
 use Rattle.ciel_want.specs.Waited.{is_in, same_id}
 use Rattle.ciel_master_board.specs.Board.{OrderOut, tasks_out}
-use Rattle.ciel_master_board.specs.Follows.{OneByOne, OutIs, RowIs, WaitIs, saves_of}
+use Rattle.ciel_master_board.specs.Follows.{OneByOne, OutIs, RowIs, WaitIs, saves_of, standing_saves}
 use Rattle.ciel_master_board.specs.Setting.{IsSetting, Setting}
+use Rattle.ciel_master_board.proofs.StandingSaves.{best, last_standing}
 
 module _ {D P B : Type 0} (s : Setting D P B) (is : IsSetting s) where
   -- it has the name of its description
@@ -60,19 +62,6 @@ module _ {D P B : Type 0} (s : Setting D P B) (is : IsSetting s) where
 
   -- ---- the last saved wait
 
-  abbrev best : List (Save D) → Option (Save D)
-  best [] = None
-  best (q ∷ qs) = better s.job q (best qs)
-
-  last_best : (u : Task D) (qs : List (Save D)) → last_save s.job u qs ≡ best (saves_of s.job u qs)
-  last_best u [] = refl
-  last_best u (q ∷ qs) = pick (same_task s.job u q.task) (last_best u qs)
-    where
-      pick : (b : Bool) → last_save s.job u qs ≡ best (saves_of s.job u qs)
-          → cond b (better s.job q (last_save s.job u qs)) (last_save s.job u qs) ≡ best (cond b (q ∷ saves_of s.job u qs) (saves_of s.job u qs))
-      pick true r = ap (better s.job q) r
-      pick false r = r
-
   -- both have one and they agree, or none has
   abbrev pub BothWaits : Option (Save D) → Option (Wait P) → Type 0
   BothWaits None None = Unit {0}
@@ -80,11 +69,11 @@ module _ {D P B : Type 0} (s : Setting D P B) (is : IsSetting s) where
   BothWaits (Some q) None = ⊥
   BothWaits (Some q) (Some w) = WaitIs s q w
 
-  latest_best : (qs : List (Save D)) (ws : List (Wait P)) → OneByOne (WaitIs s) qs ws → BothWaits (best qs) (latest ws)
+  latest_best : (qs : List (Save D)) (ws : List (Wait P)) → OneByOne (WaitIs s) qs ws → BothWaits (best s.job qs) (latest ws)
   latest_best [] [] h = tt
   latest_best [] (w ∷ ws) h = absurd h
   latest_best (q ∷ qs) [] h = absurd h
-  latest_best (q ∷ qs) (w ∷ ws) h = pick (best qs) (latest ws) (latest_best qs ws h.1)
+  latest_best (q ∷ qs) (w ∷ ws) h = pick (best s.job qs) (latest ws) (latest_best qs ws h.1)
     where
       pick : (x : Option (Save D)) (y : Option (Wait P)) → BothWaits x y → BothWaits (better s.job q x) (later w y)
       pick None None k = h.0
@@ -99,10 +88,10 @@ module _ {D P B : Type 0} (s : Setting D P B) (is : IsSetting s) where
           turn false true e = cc
           turn false false e = k
 
-  pub last_both : (u : Task D) (qs : List (Save D)) (ws : List (Wait P)) → OneByOne (WaitIs s) (saves_of s.job u qs) ws
-      → BothWaits (last_save s.job u qs) (latest ws)
-  last_both u qs ws h =
-      subst (λ o. BothWaits o (latest ws)) (sym (last_best u qs)) (latest_best (saves_of s.job u qs) ws h)
+  pub last_both : (u : Task D) (qs : List (Save D)) (ws : List (Wait P)) → EachRises qs
+      → OneByOne (WaitIs s) (standing_saves (saves_of s.job u qs)) ws → BothWaits (last_save s.job u qs) (latest ws)
+  last_both u qs ws r h =
+      subst (λ o. BothWaits o (latest ws)) (sym (last_standing s.job is.laws u qs r)) (latest_best (standing_saves (saves_of s.job u qs)) ws h)
 
   -- ---- tasks by their names
 

@@ -199,9 +199,9 @@ module _ {D P B : Type 0} (s : Setting D P B) (is : IsSetting s) where
         accepted_as =
             report_follows s is h b sound f x out.start x.out.number spawned end is_taken going all none lies
 
-        accepted_runs : Runs s (h ++ accepted_as.event ∷ []) (accepted s.digest b x.out spawned end)
+        accepted_runs : Runs s (h ++ accepted_as.event ∷ []) (accepted s.digest s.at b x.out spawned end)
         accepted_runs =
-            same_runs accepted_as.event (accepted s.digest b x.out spawned end) accepted_as.follows
+            same_runs accepted_as.event (accepted s.digest s.at b x.out spawned end) accepted_as.follows
             (report_runs s is h b sound runs going rest x out.start x.out.number spawned end is_taken none all lies)
 
         close_told : (e : Event D) → r.report_of s.job s.inner s.lower e ≡ Some (report_view x.out.number spawned end)
@@ -222,7 +222,7 @@ module _ {D P B : Type 0} (s : Setting D P B) (is : IsSetting s) where
             (ap (λ (u : Standing D). u.orders) (after_missed s.job is.laws v x.out.number d n out.start out.is_open))
 
         accepted_more : (slots : Slots P) → OrdersOf s h slots → (w : ℕ)
-            → OneEventMore s h (accepted s.digest b x.out spawned end) (slice_set slots w None)
+            → OneEventMore s h (accepted s.digest s.at b x.out spawned end) (slice_set slots w None)
         accepted_more slots a w =
             record {
               event = accepted_as.event;
@@ -232,7 +232,7 @@ module _ {D P B : Type 0} (s : Setting D P B) (is : IsSetting s) where
 
       pub report_turns : RestsNow b → (slots : Slots P) → OrdersOf s h slots → (w : ℕ) (spawned : List Named) (end : End P)
           → Promised s h b x spawned end → (IsMissing end → ⊥) → AllLearned s.digest spawned b.table
-          → OneEventMore s h (accepted s.digest b x.out spawned end) (slice_set slots w None)
+          → OneEventMore s h (accepted s.digest s.at b x.out spawned end) (slice_set slots w None)
       report_turns rest slots a w spawned (rep.missing name loss) p none all = absurd (none tt)
       report_turns rest slots a w spawned (rep.saved q) p none all =
           accepted_more rest spawned (rep.saved q) p all (λ z. z) slots a w
@@ -243,7 +243,7 @@ module _ {D P B : Type 0} (s : Setting D P B) (is : IsSetting s) where
 
       pub shown_ends : RestsNow b → x.out.task ≡ TaskId.Show → (spawned : List Named) (cs : List (Copy P))
           → Promised s h b x spawned (rep.made [] cs) → AllLearned s.digest spawned b.table
-          → RunEnded s h x spawned (rep.made [] cs) (accepted s.digest b x.out spawned (rep.made [] cs))
+          → RunEnded s h x spawned (rep.made [] cs) (accepted s.digest s.at b x.out spawned (rep.made [] cs))
       shown_ends rest root spawned cs p all =
           record {
             event = got.event;

@@ -65,7 +65,7 @@ module _ (D P B : Type 0) where
       OfRun (λ s h b. RestsNow b → (x : Order P) (o : OpenStart D) (k : ℕ) (spawned : List Named) (end : End P)
       → Taken s h b x o k spawned end → (r.IsMissing (report_view k spawned end).end → ⊥)
       → AllLearned s.digest spawned b.table → LiesUnlessClash s h b.plan o k spawned end
-      → RunsOn s h (accepted s.digest b x.out spawned end))
+      → RunsOn s h (accepted s.digest s.at b x.out spawned end))
 
   abbrev pub MissedRuns : Type 0
   MissedRuns =

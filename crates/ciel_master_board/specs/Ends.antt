@@ -60,7 +60,7 @@ module _ (D P B : Type 0) where
   ShownEnds =
       OfRun D P B (λ s h b. RestsNow b → (x : Order P) → IsOut s h b x → x.out.task ≡ TaskId.Show
       → (spawned : List Named) (cs : List (Copy P)) → Promised s h b x spawned (made [] cs)
-      → AllLearned s.digest spawned b.table → RunEnded s h x spawned (made [] cs) (accepted s.digest b x.out spawned (made [] cs)))
+      → AllLearned s.digest spawned b.table → RunEnded s h x spawned (made [] cs) (accepted s.digest s.at b x.out spawned (made [] cs)))
 
   -- a description that is refused for its name
   abbrev pub ClashEnds : Type 0

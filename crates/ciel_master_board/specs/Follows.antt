@@ -22,6 +22,13 @@ OneByOne R [] (y ∷ ys) = ⊥
 OneByOne R (x ∷ xs) [] = ⊥
 OneByOne R (x ∷ xs) (y ∷ ys) = R x y × OneByOne R xs ys
 
+module _ {D : Type 0} where
+  -- of the saved waits of one task those that have no later one at their worker. The task never goes on from another, since what lies
+  -- at a worker is lost together
+  abbrev pub standing_saves : List (Save D) → List (Save D)
+  standing_saves [] = []
+  standing_saves (q ∷ qs) = cond (list_any (λ (r : Save D). nat_eq q.worker r.worker) qs) (standing_saves qs) (q ∷ standing_saves qs)
+
 module _ {D : Type 0} (job : Job D) where
   -- the saved waits of a task
   abbrev pub saves_of : Task D → List (Save D) → List (Save D)
@@ -81,13 +88,14 @@ module _ {D P B : Type 0} (s : Setting D P B) where
     pub inputs : (d : D) → HeldAt s.job o.task o.from d → BroughtFor o d (s.job.task_of d) (spot_of (s.job.name d) x.inputs)
     pub only : (n : Digest) → In n (brought_names x.inputs) → (d : D) × HeldAt s.job o.task o.from d × (n ≡ s.job.name d)
 
-  -- What stands, by names: the rows are the book; a task that goes by a name of the book has its saved waits; each open Start
-  -- has its order
+  -- What stands, by names: the rows are the book; a task that goes by a name of the book has its last saved wait at each worker;
+  -- each open Start has its order
   pub record StandsFor (v : Standing D) (b : Board P) : Type 0 where
     pub keys : b.keys ≡ s.keys
     pub main : b.main ≡ s.job.name s.job.main
     pub rows : OneByOne (RowIs v.places) v.book b.table.rows
-    pub waits : (u : Task D) → In (own_name s.job u) v.book → OneByOne WaitIs (saves_of s.job u v.saves) (waits_of (task_id s.job u) b.table)
+    pub waits : (u : Task D) → In (own_name s.job u) v.book
+        → OneByOne WaitIs (standing_saves (saves_of s.job u v.saves)) (waits_of (task_id s.job u) b.table)
     pub orders : OneByOne OutIs v.orders b.orders
     pub gone : b.table.gone ≡ v.gone
     pub starts : b.starts ≡ v.starts

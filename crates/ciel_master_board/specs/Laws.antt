@@ -60,7 +60,7 @@ module _ {D P B : Type 0} (s : Setting D P B) where
   pub record AcceptedAs (h : List (Event D)) (b : Board P) (x : OrderOut) (k : ℕ) (spawned : List Named) (end : End P) : Type 0 where
     pub event : Event D
     pub tells : r.report_of s.job s.inner s.lower event ≡ Some (report_view k spawned end)
-    pub follows : Follows s (h ++ event ∷ []) (accepted s.digest b x spawned end)
+    pub follows : Follows s (h ++ event ∷ []) (accepted s.digest s.at b x spawned end)
 
   -- what is missing has this name, and the master's state follows
   pub record MissedAs (h : List (Event D)) (b : Board P) (x : OrderOut) (name : Digest) (loss : ℕ) : Type 0 where
@@ -116,7 +116,7 @@ module _ (P : Type 0) where
   ReportIsSound =
       OfSound (λ digest at b. (x : Order P) (k : ℕ) → find_order k b.orders ≡ Some x.out
       → (spawned : List Named) (end : End P) → Fits digest at b x spawned end → AllLearned digest spawned b.table
-      → Sound digest at (accepted digest b x.out spawned end))
+      → Sound digest at (accepted digest at b x.out spawned end))
 
   abbrev pub LossIsSound : Type 0
   LossIsSound = OfSound (λ digest at b. (w : ℕ) → Sound digest at (lost_at at w b))

@@ -86,20 +86,21 @@ module _ {P : Type 0} where
         let t = with_copies cs (with_outputs ms (learned_all digest spawned b.table)) in
         record (closed b x t (Entry.Done x.number (made_keys ms) (copy_names cs))) { stopped = is_root x.task }
 
-    -- it waits, and its stack is saved
-    abbrev pub saved_at : Board P → OrderOut → List Named → Stack P → Board P
-    saved_at b x spawned s =
-        closed b x (c.saved x.task (wait_of s) (learned_all digest spawned b.table)) (Entry.Saved x.number s.j s.mark)
-
     -- something that the order brings along was missing
     abbrev pub missed_at : Board P → OrderOut → Digest → ℕ → Board P
     missed_at b x name loss = closed b x b.table (Entry.Missed x.number name loss)
 
-    -- by how the run ended
-    abbrev pub accepted : Board P → OrderOut → List Named → End P → Board P
-    accepted b x spawned (made ms cs) = done_at b x spawned ms cs
-    accepted b x spawned (saved s) = saved_at b x spawned s
-    accepted b x spawned (missing name loss) = missed_at b x name loss
+    module _ (at : P → ℕ) where
+      -- it waits, and its stack is saved; of its earlier ones that at the same worker goes
+      abbrev pub saved_at : Board P → OrderOut → List Named → Stack P → Board P
+      saved_at b x spawned s =
+          closed b x (c.saved at x.task (wait_of s) (learned_all digest spawned b.table)) (Entry.Saved x.number s.j s.mark)
+
+      -- by how the run ended
+      abbrev pub accepted : Board P → OrderOut → List Named → End P → Board P
+      accepted b x spawned (made ms cs) = done_at b x spawned ms cs
+      accepted b x spawned (saved s) = saved_at b x spawned s
+      accepted b x spawned (missing name loss) = missed_at b x name loss
 
   -- ---- a loss
 

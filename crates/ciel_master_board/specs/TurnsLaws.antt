@@ -134,7 +134,7 @@ module _ (D P B : Type 0) where
   ReportTurns =
       OfRun (λ s h b. RestsNow b → (slots : Slots P) → OrdersOf s h slots → (w : ℕ) (x : Order P) → IsOut s h b x
       → (spawned : List Named) (end : End P) → Promised s h b x spawned end → (IsMissing end → ⊥) → AllLearned s.digest spawned b.table
-      → OneEventMore s h (accepted s.digest b x.out spawned end) (slice_set slots w None))
+      → OneEventMore s h (accepted s.digest s.at b x.out spawned end) (slice_set slots w None))
 
   -- one that something is missing
   abbrev pub MissedTurns : Type 0

@@ -122,12 +122,46 @@ fn spot_in(keys: &[Txt], worker: u32, row: &Row<Place<Block>>) -> Option<Spot>
     }
 }
 
-/// Where the object of a name is for this worker, if it is live.
-fn spot_for(keys: &[Txt], worker: u32, table: &Table<Place<Block>>, name: &Name) -> Option<Spot>
+/// A row that may have this name: this one, or else the one that has it.
+fn near_of(table: &Table<Place<Block>>, near: u32, name: &Name) -> u32 {
+    if near < table.len() && table.row(near).name == *name {
+        return near;
+    }
+    match table.find(name) {
+        Some(id) => id,
+        None => near,
+    }
+}
+
+/// The row of a name, which is looked for at this row first.
+fn row_near<'a>(
+    table: &'a Table<Place<Block>>,
+    near: u32,
+    name: &Name,
+) -> Option<&'a Row<Place<Block>>>
+    ensures { MatchOption result (row_named name.now table.now ≡ None) (λ r. row_named name.now table.now ≡ Some r.now) }
+{
+    if near < table.len() {
+        let row = table.row(near);
+        if row.name == *name {
+            return Some(row);
+        }
+    }
+    row_named(table, name)
+}
+
+/// Where the object of a name is for this worker, if it is live. Its row is looked for at this one first.
+fn spot_for(
+    keys: &[Txt],
+    worker: u32,
+    table: &Table<Place<Block>>,
+    near: u32,
+    name: &Name,
+) -> Option<Spot>
     requires few { length keys.now < 2 ^ 32 }
     ensures { option_map spot_view result ≡ spot_for worker_of keys.now worker table.now name.now }
 {
-    match row_named(table, name) {
+    match row_near(table, near, name) {
         Some(row) => spot_in(keys, worker, row),
         None => None,
     }
@@ -160,8 +194,11 @@ fn brought(
     ensures { IfOk result (λ hs. map brought_view hs.items ≡ brought worker_of keys.now worker table.now names.now) }
 {
     let mut inputs = Vec::new(alloc);
+    let mut near = 0;
     for i in 0..names.len() {
-        let spot = spot_for(keys, worker, table, &names[i]);
+        near = near_of(table, near, &names[i]);
+        let spot = spot_for(keys, worker, table, near, &names[i]);
+        near = near.saturating_add(1);
         push_spot(&mut inputs, &names[i], spot)?;
     }
     Ok(inputs)

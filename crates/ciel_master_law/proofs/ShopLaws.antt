@@ -93,19 +93,19 @@ module _ (digest : List ℕ → List ℕ) (job : s.Job) (gives : Gives) where
       promised =
           subst (Promised S h b (order_view order) r.spawned.items) end_is (performs_promises orderly h b going sound runs order out rows r p none)
 
-      ended : RunEnded S h (order_view order) r.spawned.items (report_end r) (accepted digest b (order_view order).out r.spawned.items (report_end r))
+      ended : RunEnded S h (order_view order) r.spawned.items (report_end r) (accepted digest worker_of b (order_view order).out r.spawned.items (report_end r))
       ended =
-          subst (λ e. RunEnded S h (order_view order) r.spawned.items e (accepted digest b (order_view order).out r.spawned.items e))
+          subst (λ e. RunEnded S h (order_view order) r.spawned.items e (accepted digest worker_of b (order_view order).out r.spawned.items e))
           (sym end_is) (shown_ends S is h b going sound runs (order_view order) out rest root r.spawned.items (copies_view r.copied.items)
           promised all)
 
-      step : Step S.job (accepted digest b (order_view order).out r.spawned.items (report_end r)).plan (standing S.job h) ended.event
+      step : Step S.job (accepted digest worker_of b (order_view order).out r.spawned.items (report_end r)).plan (standing S.job h) ended.event
       step =
-          (lawful_split S.job (accepted digest b (order_view order).out r.spawned.items (report_end r)).plan (before_all S.job) h
+          (lawful_split S.job (accepted digest worker_of b (order_view order).out r.spawned.items (report_end r)).plan (before_all S.job) h
           (ended.event ∷ []) ended.runs.follows.lawful).1.0
 
-      same_plan : (accepted digest b (order_view order).out r.spawned.items (report_end r)).plan ≡ b.plan
-      same_plan = ap (λ e. (accepted digest b (order_view order).out r.spawned.items e).plan) end_is
+      same_plan : (accepted digest worker_of b (order_view order).out r.spawned.items (report_end r)).plan ≡ b.plan
+      same_plan = ap (λ e. (accepted digest worker_of b (order_view order).out r.spawned.items e).plan) end_is
 
       answer : AnswerIs digest job gives r.end
       answer =

@@ -85,7 +85,7 @@ module _ (digest : List ℕ → List ℕ) (job : s.Job) (gives : Gives) where
   abbrev pub EndsWith : List (Event s.Desc) → Board P → Order → Report → Type 0
   EndsWith h b order r =
       RunEnded (the_shop digest job gives) h (order_view order) r.spawned.items (report_end r)
-      (accepted digest b (order_view order).out r.spawned.items (report_end r))
+      (accepted digest worker_of b (order_view order).out r.spawned.items (report_end r))
 
   -- with what is shown the run ends, and the job means it
   abbrev pub ShownIsMeant : Type 0

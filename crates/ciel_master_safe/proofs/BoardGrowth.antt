@@ -62,18 +62,18 @@ dropped_grows w t =
     }
 
 accepted_grows : (digest : List ℕ → List ℕ) (b : Board P) (x : OrderOut) (spawned : List Named) (end : End P)
-    → Grows b.table (accepted digest b x spawned end).table
+    → Grows b.table (accepted digest W b x spawned end).table
 accepted_grows digest b x spawned (rep.made ms cs) =
     let t = learned_all digest spawned b.table in
     grows_join b.table (with_outputs ms t) (with_copies cs (with_outputs ms t))
     (grows_join b.table t (with_outputs ms t) (all_grow digest spawned b.table) (with_outputs_grows ms t)) (with_copies_grows cs (with_outputs ms t))
 accepted_grows digest b x spawned (rep.saved q) =
     let t = learned_all digest spawned b.table in
-    grows_join b.table t (c.saved x.task (wait_of q) t) (all_grow digest spawned b.table) (rows_grow t (c.saved x.task (wait_of q) t) refl)
+    grows_join b.table t (c.saved W x.task (wait_of q) t) (all_grow digest spawned b.table) (rows_grow t (c.saved W x.task (wait_of q) t) refl)
 accepted_grows digest b x spawned (rep.missing name loss) = grows_self b.table
 
 pub accepted_rows : (digest : List ℕ → List ℕ) (b : Board P) (x : OrderOut) (spawned : List Named) (end : End P)
-    → GrowsTo b.table (accepted digest b x spawned end).table
+    → GrowsTo b.table (accepted digest W b x spawned end).table
 accepted_rows digest b x spawned end = (accepted_grows digest b x spawned end).known
 
 pub lost_rows : (b : Board P) (w : ℕ) → GrowsTo b.table (lost_at W w b).table
@@ -88,9 +88,9 @@ goes_grow t u g (TaskId.Of n) None h = h
 goes_grow t u g (TaskId.Of n) (Some d) h = let q = g.found n h.0 h.1 in (q.0, q.1, q.2 ∙ h.2)
 
 pub goes_accepted : (digest : List ℕ → List ℕ) (b : Board P) (x : OrderOut) (spawned : List Named) (end : End P) (task : TaskId) (d : Option Desc1)
-    → GoesBy b.table task d → GoesBy (accepted digest b x spawned end).table task d
+    → GoesBy b.table task d → GoesBy (accepted digest W b x spawned end).table task d
 goes_accepted digest b x spawned end task d h =
-    goes_grow b.table (accepted digest b x spawned end).table (accepted_grows digest b x spawned end) task d h
+    goes_grow b.table (accepted digest W b x spawned end).table (accepted_grows digest b x spawned end) task d h
 
 pub goes_lost : (b : Board P) (w : ℕ) (task : TaskId) (d : Option Desc1) → GoesBy b.table task d → GoesBy (lost_at W w b).table task d
 goes_lost b w task d h = goes_grow b.table (c.dropped W w b.table) (dropped_grows w b.table) task d h

@@ -31,7 +31,7 @@ use Rattle.ciel_table.proofs.ByName.{names_changed}
 use Rattle.ciel_task_order.specs.Views.{P}
 use Rattle.ciel_want.proofs.Rows.{item_at}
 use Rattle.ciel_master_safe.specs.Reports.{FitsSafely, names_from, outputs_of}
-use Rattle.ciel_master_safe.specs.Safe.{HasDesc, HasOutputs, RowSafe, Safe}
+use Rattle.ciel_master_safe.specs.Safe.{HasDesc, HasOutputs, RowSafe, Safe, W}
 use Rattle.ciel_master_safe.proofs.TableGrowth.{Grows, all_grow, grows_join}
 use Rattle.ciel_master_safe.proofs.SafeLemmas.{all_once, report_safe}
 use Rattle.ciel_master_safe.proofs.BoardGrowth.{with_copies_grows, with_outputs_grows}
@@ -143,7 +143,7 @@ module _ (digest : List ℕ → List ℕ) (shelves : ShelvesSeen) (sc : Script) 
   t = learned_all digest spawned b.table
 
   abbrev d : Board P
-  d = accepted digest b x.out spawned (rep.made ms cs)
+  d = accepted digest W b x.out spawned (rep.made ms cs)
 
   safe : Safe digest shelves sc inputs d
   safe = report_safe digest shelves sc inputs b s x k is_out spawned (rep.made ms cs) f all

@@ -193,15 +193,19 @@ module _ (digest : List ℕ → List ℕ) (shelves : ShelvesSeen) (sc : Script) 
         found = λ n r f. (r, subst (λ rs. found row_name n rs ≡ Some r) (sym e) f, refl);
       }
 
+  all_with : (Q : Wait P → Type 0) (w : Wait P) (ws : List (Wait P)) → AllByRecursion Q ws → Q w → AllByRecursion Q (c.waits_with W w ws)
+  all_with Q w ws all a =
+      all_push Q (c.waits_without W (W w.place) ws) w (all_filter Q Q (λ (x : Wait P). not (nat_eq (W w.place) (W x.place))) (λ x k e. k) ws all) a
+
   pub saved_safe : (task : TaskId) (w : Wait P) (t : TableSeen P) → IsTask t task → ((n : List ℕ) → task ≡ TaskId.Of n → (r : Row P)
-      × (row_named n t ≡ Some r) × IsCall r.desc) → OnWait t task w → T t → T (c.saved task w t)
+      × (row_named n t ≡ Some r) × IsCall r.desc) → OnWait t task w → T t → T (c.saved W task w t)
   saved_safe TaskId.Show w t k row o a =
-      let u = c.saved TaskId.Show w t in
+      let u = c.saved W TaskId.Show w t in
       let g = same_rows t u refl in
       record {
         once = a.once;
         rows = all_more (OnRow t) (OnRow u) (row_grows digest shelves sc t u g refl keys) t.rows a.rows;
-        shown = all_push (OnWait u TaskId.Show) t.shown w
+        shown = all_with (OnWait u TaskId.Show) w t.shown
             (all_more (OnWait t TaskId.Show) (OnWait u TaskId.Show) (wait_grows digest shelves sc t u g refl TaskId.Show) t.shown a.shown)
             (wait_grows digest shelves sc t u g refl TaskId.Show w o);
         saved = all_more (OnSaves t) (OnSaves u) (saves_grows digest shelves sc t u g refl) t.saved a.saved;
@@ -215,7 +219,7 @@ module _ (digest : List ℕ → List ℕ) (shelves : ShelvesSeen) (sc : Script) 
       }
     where
       u : TableSeen P
-      u = c.saved (TaskId.Of n) w t
+      u = c.saved W (TaskId.Of n) w t
 
       g : Grows t u
       g = same_rows t u refl
@@ -226,18 +230,18 @@ module _ (digest : List ℕ → List ℕ) (shelves : ShelvesSeen) (sc : Script) 
       now : OnWait u (TaskId.Of n) w
       now = wait_grows digest shelves sc t u g refl (TaskId.Of n) w o
 
-      at : (q : Option (Saves P)) → found saves_name n t.saved ≡ q → AllByRecursion (OnSaves u) (c.save_at q n w t.saved)
+      at : (q : Option (Saves P)) → found saves_name n t.saved ≡ q → AllByRecursion (OnSaves u) (c.save_at W q n w t.saved)
       at None e =
           let r = row n refl in
           all_push (OnSaves u) t.saved (record { name = n; waits = w ∷ [] }) before
           (record { row = r.0; found = r.1; call = r.2; waits = (now, tt) })
       at (Some s) e =
-          all_changed saves_name (OnSaves u) (c.saves_with w) n t.saved
+          all_changed saves_name (OnSaves u) (c.saves_with W w) n t.saved
           (λ x f y. record {
             row = y.row;
             found = y.found;
             call = y.call;
-            waits = all_push (OnWait u (TaskId.Of x.name)) x.waits w y.waits
+            waits = all_with (OnWait u (TaskId.Of x.name)) w x.waits y.waits
                 (subst (λ m. OnWait u (TaskId.Of m) w) (sym (found_named saves_name n t.saved x f)) now);
           }) before
 
@@ -402,7 +406,7 @@ module _ (digest : List ℕ → List ℕ) (shelves : ShelvesSeen) (sc : Script) 
         go (TaskId.Of n) h = (all_grow digest spawned b.table).known n h
 
     table_after : (how : End P) → FitsSafely digest shelves sc b x spawned how → AllLearned digest spawned b.table
-        → TableSafe digest shelves sc b.keys (accepted digest b x.out spawned how).table
+        → TableSafe digest shelves sc b.keys (accepted digest W b x.out spawned how).table
     table_after (rep.made ms cs) f all =
         let fit = (f.fits.learned all).end in
         let o = outputs_safe digest shelves sc b.keys ms t
@@ -425,39 +429,39 @@ module _ (digest : List ℕ → List ℕ) (shelves : ShelvesSeen) (sc : Script) 
     table_after (rep.missing name loss) f all = s.table
 
     pub report_safe : (how : End P) → FitsSafely digest shelves sc b x spawned how → AllLearned digest spawned b.table
-        → Safe digest shelves sc inputs (accepted digest b x.out spawned how)
+        → Safe digest shelves sc inputs (accepted digest W b x.out spawned how)
     report_safe how f all = go how refl
       where
-        table : TableSafe digest shelves sc b.keys (accepted digest b x.out spawned how).table
+        table : TableSafe digest shelves sc b.keys (accepted digest W b x.out spawned how).table
         table = table_after how f all
 
-        sound : Sound digest W (accepted digest b x.out spawned how)
+        sound : Sound digest W (accepted digest W b x.out spawned how)
         sound = accepted_sound digest W b s.sound x k out spawned how f.fits all
 
-        go : (e : End P) → how ≡ e → Safe digest shelves sc inputs (accepted digest b x.out spawned how)
+        go : (e : End P) → how ≡ e → Safe digest shelves sc inputs (accepted digest W b x.out spawned how)
         go (rep.made ms cs) e =
-            subst (λ z. Safe digest shelves sc inputs (accepted digest b x.out spawned z)) (sym e)
+            subst (λ z. Safe digest shelves sc inputs (accepted digest W b x.out spawned z)) (sym e)
             (record {
-              sound = subst (λ z. Sound digest W (accepted digest b x.out spawned z)) e sound;
-              table = subst (λ z. TableSafe digest shelves sc b.keys (accepted digest b x.out spawned z).table) e table;
+              sound = subst (λ z. Sound digest W (accepted digest W b x.out spawned z)) e sound;
+              table = subst (λ z. TableSafe digest shelves sc b.keys (accepted digest W b x.out spawned z).table) e table;
               keys = s.keys;
               few = s.few;
               wide = s.wide;
             })
         go (rep.saved q) e =
-            subst (λ z. Safe digest shelves sc inputs (accepted digest b x.out spawned z)) (sym e)
+            subst (λ z. Safe digest shelves sc inputs (accepted digest W b x.out spawned z)) (sym e)
             (record {
-              sound = subst (λ z. Sound digest W (accepted digest b x.out spawned z)) e sound;
-              table = subst (λ z. TableSafe digest shelves sc b.keys (accepted digest b x.out spawned z).table) e table;
+              sound = subst (λ z. Sound digest W (accepted digest W b x.out spawned z)) e sound;
+              table = subst (λ z. TableSafe digest shelves sc b.keys (accepted digest W b x.out spawned z).table) e table;
               keys = s.keys;
               few = s.few;
               wide = s.wide;
             })
         go (rep.missing name loss) e =
-            subst (λ z. Safe digest shelves sc inputs (accepted digest b x.out spawned z)) (sym e)
+            subst (λ z. Safe digest shelves sc inputs (accepted digest W b x.out spawned z)) (sym e)
             (record {
-              sound = subst (λ z. Sound digest W (accepted digest b x.out spawned z)) e sound;
-              table = subst (λ z. TableSafe digest shelves sc b.keys (accepted digest b x.out spawned z).table) e table;
+              sound = subst (λ z. Sound digest W (accepted digest W b x.out spawned z)) e sound;
+              table = subst (λ z. TableSafe digest shelves sc b.keys (accepted digest W b x.out spawned z).table) e table;
               keys = s.keys;
               few = s.few;
               wide = s.wide;

@@ -52,29 +52,29 @@ use Rattle.ciel_master_safe.proofs.SoundOrders.{IsFor, SpotGood, brought_for, sp
 -- ---- what a report leaves as it was
 
 module _ (digest : List ℕ → List ℕ) (b : Board P) (x : OrderOut) (spawned : List Named) where
-  pub plan_same : (e : End P) → (accepted digest b x spawned e).plan ≡ b.plan
+  pub plan_same : (e : End P) → (accepted digest W b x spawned e).plan ≡ b.plan
   plan_same (rep.made ms cs) = refl
   plan_same (rep.saved q) = refl
   plan_same (rep.missing name loss) = refl
 
-  pub starts_same : (e : End P) → (accepted digest b x spawned e).starts ≡ b.starts
+  pub starts_same : (e : End P) → (accepted digest W b x spawned e).starts ≡ b.starts
   starts_same (rep.made ms cs) = refl
   starts_same (rep.saved q) = refl
   starts_same (rep.missing name loss) = refl
 
-  orders_same : (e : End P) → (accepted digest b x spawned e).orders ≡ without x.number b.orders
+  orders_same : (e : End P) → (accepted digest W b x spawned e).orders ≡ without x.number b.orders
   orders_same (rep.made ms cs) = refl
   orders_same (rep.saved q) = refl
   orders_same (rep.missing name loss) = refl
 
-  gone_same : (e : End P) → (accepted digest b x spawned e).table.gone ≡ b.table.gone
+  gone_same : (e : End P) → (accepted digest W b x spawned e).table.gone ≡ b.table.gone
   gone_same (rep.made ms cs) =
       let t = learned_all digest spawned b.table in
       (copies_same cs (with_outputs ms t)).gone ∙ ((outputs_same ms t).gone ∙ (grown digest spawned b.table).gone)
   gone_same (rep.saved q) = (grown digest spawned b.table).gone
   gone_same (rep.missing name loss) = refl
 
-  limit_same : (e : End P) → (accepted digest b x spawned e).table.limit ≡ b.table.limit
+  limit_same : (e : End P) → (accepted digest W b x spawned e).table.limit ≡ b.table.limit
   limit_same (rep.made ms cs) =
       let t = learned_all digest spawned b.table in
       (copies_same cs (with_outputs ms t)).limit ∙ ((outputs_same ms t).limit ∙ (grown digest spawned b.table).limit)
@@ -330,26 +330,26 @@ module _ (digest : List ℕ → List ℕ) (shelves : ShelvesSeen) (sc : Script) 
       -- ---- a report
 
       module _ (spawned : List Named) (how : End P) (f : FitsSafely digest shelves sc b x spawned how) (all : AllLearned digest spawned b.table) where
-        turned_with : (accepted digest b x.out spawned how).stopped ≡ false → all_left most_waits (accepted digest b x.out spawned how) ≤ all_left most_waits b
-            → Turned digest shelves sc inputs b slots (accepted digest b x.out spawned how) taken
+        turned_with : (accepted digest W b x.out spawned how).stopped ≡ false → all_left most_waits (accepted digest W b x.out spawned how) ≤ all_left most_waits b
+            → Turned digest shelves sc inputs b slots (accepted digest W b x.out spawned how) taken
         turned_with going m =
-            let c = accepted digest b x.out spawned how in
+            let c = accepted digest W b x.out spawned how in
             let plan = plan_same digest b x.out spawned how in
             let gone = gone_same digest b x.out spawned how in
             record {
               at_work = record {
                 going = going;
                 safe = report_safe digest shelves sc inputs b a.safe x x.out.number found spawned how f all;
-                handed = closed_handed b slots a.handed w x i (accepted digest b x.out spawned how) plan
+                handed = closed_handed b slots a.handed w x i (accepted digest W b x.out spawned how) plan
                     (starts_same digest b x.out spawned how) gone there (orders_same digest b x.out spawned how);
               };
-              less = work_small W most_waits b (accepted digest b x.out spawned how) slots taken long (limit_same digest b x.out spawned how)
-                  (same_big (accepted digest b x.out spawned how) plan gone) (same_small (accepted digest b x.out spawned how) m);
+              less = work_small W most_waits b (accepted digest W b x.out spawned how) slots taken long (limit_same digest b x.out spawned how)
+                  (same_big (accepted digest W b x.out spawned how) plan gone) (same_small (accepted digest W b x.out spawned how) m);
             }
 
       pub report_turns : (spawned : List Named) (how : End P) → FitsSafely digest shelves sc b x spawned how → (IsMissing how → ⊥)
-          → AllLearned digest spawned b.table → (accepted digest b x.out spawned how).stopped ≡ false
-          → Turned digest shelves sc inputs b slots (accepted digest b x.out spawned how) taken
+          → AllLearned digest spawned b.table → (accepted digest W b x.out spawned how).stopped ≡ false
+          → Turned digest shelves sc inputs b slots (accepted digest W b x.out spawned how) taken
       report_turns spawned (rep.missing name loss) f other all going = absurd (other tt)
       report_turns spawned (rep.saved q) f other all going =
           turned_with spawned (rep.saved q) f all going

@@ -46,7 +46,7 @@ abbrev pub SafeReport : Type 0
 SafeReport =
     OfSafe (λ digest shelves sc inputs b. (x : Order P) (k : ℕ) → find_order k b.orders ≡ Some x.out → (spawned : List Named) (end : End P)
     → FitsSafely digest shelves sc b x spawned end → AllLearned digest spawned b.table
-    → Safe digest shelves sc inputs (accepted digest b x.out spawned end))
+    → Safe digest shelves sc inputs (accepted digest W b x.out spawned end))
 
 abbrev pub SafeLoss : Type 0
 SafeLoss = OfSafe (λ digest shelves sc inputs b. (w : ℕ) → Safe digest shelves sc inputs (lost_at W w b))
@@ -60,7 +60,7 @@ SafeOpened =
 -- what an order goes by stays
 pub record GoesStay : Type 0 where
   pub accepted : (digest : List ℕ → List ℕ) (b : Board P) (x : OrderOut) (spawned : List Named) (end : End P) (task : TaskId) (d : Option Desc1)
-      → GoesBy b.table task d → GoesBy (accepted digest b x spawned end).table task d
+      → GoesBy b.table task d → GoesBy (accepted digest W b x spawned end).table task d
   pub lost : (b : Board P) (w : ℕ) (task : TaskId) (d : Option Desc1) → GoesBy b.table task d → GoesBy (lost_at W w b).table task d
 
 -- each name that has a row keeps one
@@ -70,6 +70,6 @@ GrowsTo t u = (n : List ℕ) → Known t n → Known u n
 -- what a master's table has rows for it keeps rows for, and so for what an order brings along
 pub record RowsStay : Type 0 where
   pub accepted : (digest : List ℕ → List ℕ) (b : Board P) (x : OrderOut) (spawned : List Named) (end : End P)
-      → GrowsTo b.table (accepted digest b x spawned end).table
+      → GrowsTo b.table (accepted digest W b x spawned end).table
   pub lost : (b : Board P) (w : ℕ) → GrowsTo b.table (lost_at W w b).table
   pub order : (digest : List ℕ → List ℕ) (t u : TableSeen P) (order : rust.Order) → GrowsTo t u → HasRows digest t order → HasRows digest u order

@@ -73,8 +73,8 @@ abbrev pub ReportTurns : Type 0
 ReportTurns =
     OfWork (λ digest shelves sc inputs b slots. (w : ℕ) (x : Order P) → Has slots w x → find_order x.out.number b.orders ≡ Some x.out
     → (spawned : List Named) (how : End P) → FitsSafely digest shelves sc b x spawned how → (IsMissing how → ⊥)
-    → AllLearned digest spawned b.table → (accepted digest b x.out spawned how).stopped ≡ false
-    → Turned digest shelves sc inputs b slots (accepted digest b x.out spawned how) (slice_set slots w None))
+    → AllLearned digest spawned b.table → (accepted digest W b x.out spawned how).stopped ≡ false
+    → Turned digest shelves sc inputs b slots (accepted digest W b x.out spawned how) (slice_set slots w None))
 
 abbrev pub MissedTurns : Type 0
 MissedTurns =

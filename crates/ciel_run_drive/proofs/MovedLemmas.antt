@@ -23,7 +23,7 @@ module _ (digest : List ℕ → List ℕ) where
   moved_both b xs c ys d (loses w m) v = loses w (moved_both (lost_at worker_of w b) xs c ys d m v)
   moved_both b xs c ys d (starts {calls = cs} x w order e m) v = starts x w order e (moved_both (started worker_of b x w) cs c ys d m v)
   moved_both b xs c ys d (takes {calls = cs} r x f m) v =
-      takes r x f (moved_both (accepted digest b x r.spawned.items (report_end r)) cs c ys d m v)
+      takes r x f (moved_both (accepted digest worker_of b x r.spawned.items (report_end r)) cs c ys d m v)
   moved_both b xs c ys d (throws {calls = cs} r f m) v = throws r f (moved_both b cs c ys d m v)
 
   module _ {S : Type 0} (goes : S → Call → S → Type 0) where
@@ -40,7 +40,7 @@ module _ (digest : List ℕ → List ℕ) where
         record { calls = sent order ∷ []; went = (t, g, refl); moved = starts x w order v (subst (λ z. Moved digest z [] c) e stays) }
 
     pub does_take : (s t : S) (b : Board P) (r : Report) (x : OrderOut) (c : Board P) → find_order r.number b.orders ≡ Some x
-        → c ≡ accepted digest b x r.spawned.items (report_end r) → goes s (given r) t → Does digest goes s b t c
+        → c ≡ accepted digest worker_of b x r.spawned.items (report_end r) → goes s (given r) t → Does digest goes s b t c
     does_take s t b r x c f e g =
         record { calls = given r ∷ []; went = (t, g, refl); moved = takes r x f (subst (λ z. Moved digest z [] c) e stays) }
 
@@ -69,7 +69,7 @@ module _ (digest : List ℕ → List ℕ) where
 module _ {N S : Type 0} (dig : N → List ℕ → List ℕ) (n : N) (goes : S → Call → S → Type 0) where
   pub does_accept : (s t : S) (m m2 : MasterSeen N) (r : Report) → m.namer ≡ n → goes s (given r) t
       → (x : OrderOut) × (find_order r.number m.board.orders ≡ Some x)
-      × (m2 ≡ record m { board = accepted (dig m.namer) m.board x r.spawned.items (report_end r) }) → Does (dig n) goes s m.board t m2.board
+      × (m2 ≡ record m { board = accepted (dig m.namer) worker_of m.board x r.spawned.items (report_end r) }) → Does (dig n) goes s m.board t m2.board
   does_accept s t m m2 r e g (x, f, new) =
       does_take (dig n) goes s t m.board r x m2.board f
-      (subst (λ z. m2.board ≡ accepted (dig z) m.board x r.spawned.items (report_end r)) e (ap (λ (z : MasterSeen N). z.board) new)) g
+      (subst (λ z. m2.board ≡ accepted (dig z) worker_of m.board x r.spawned.items (report_end r)) e (ap (λ (z : MasterSeen N). z.board) new)) g

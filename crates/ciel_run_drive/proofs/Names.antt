@@ -89,13 +89,13 @@ learned_cases digest ns t (End.Missing name loss seen) l none = absurd (none tt)
 -- ---- what a report leaves as it was
 
 main_same : (digest : List ℕ → List ℕ) (b : Board P) (x : OrderOut) (spawned : List Named) (e : rep.End P)
-    → (accepted digest b x spawned e).main ≡ b.main
+    → (accepted digest worker_of b x spawned e).main ≡ b.main
 main_same digest b x spawned (rep.made ms cs) = refl
 main_same digest b x spawned (rep.saved q) = refl
 main_same digest b x spawned (rep.missing name loss) = refl
 
 journal_next : (digest : List ℕ → List ℕ) (b : Board P) (x : OrderOut) (spawned : List Named) (e : rep.End P)
-    → (accepted digest b x spawned e).journal ≡ b.journal ++ entry_for x.number e ∷ []
+    → (accepted digest worker_of b x spawned e).journal ≡ b.journal ++ entry_for x.number e ∷ []
 journal_next digest b x spawned (rep.made ms cs) = refl
 journal_next digest b x spawned (rep.saved q) = refl
 journal_next digest b x spawned (rep.missing name loss) = refl
@@ -425,19 +425,19 @@ module _ {K N : Type 0} {gives : K → Gives} {digest : N → List ℕ → List 
 
       module _ (carried : IsCarriedOut b r.end) (learns : LearnedFor (digest m.namer) r.end r.spawned.items b.table) {m2 : MasterSeen N}
           (took : (x : OrderOut) × (find_order r.number b.orders ≡ Some x)
-          × (m2 ≡ record m { board = accepted (digest m.namer) b x r.spawned.items (report_end r) })) where
+          × (m2 ≡ record m { board = accepted (digest m.namer) worker_of b x r.spawned.items (report_end r) })) where
         law : LearnedFor D r.end r.spawned.items b.table
         law = subst (λ n. LearnedFor (digest n) r.end r.spawned.items b.table) k.namer learns
 
-        new : m2 ≡ record m { board = accepted D b took.0 r.spawned.items (report_end r) }
-        new = subst (λ n. m2 ≡ record m { board = accepted (digest n) b took.0 r.spawned.items (report_end r) }) k.namer took.2
+        new : m2 ≡ record m { board = accepted D worker_of b took.0 r.spawned.items (report_end r) }
+        new = subst (λ n. m2 ≡ record m { board = accepted (digest n) worker_of b took.0 r.spawned.items (report_end r) }) k.namer took.2
 
         abbrev next : Board P
-        next = accepted D b (order_view order).out r.spawned.items (report_end r)
+        next = accepted D worker_of b (order_view order).out r.spawned.items (report_end r)
 
         pub new_is : m2 ≡ record m { board = next }
         new_is =
-            new ∙ ap (λ z. record m { board = accepted D b z r.spawned.items (report_end r) })
+            new ∙ ap (λ z. record m { board = accepted D worker_of b z r.spawned.items (report_end r) })
             (same_order took.0 (order_view order).out (sym took.1 ∙ found_is))
 
         pub all : (IsMissing r.end → ⊥) → AllLearned D r.spawned.items b.table
@@ -455,7 +455,7 @@ module _ {K N : Type 0} {gives : K → Gives} {digest : N → List ℕ → List 
 
         abbrev Then : rep.End P → Type 0
         Then q =
-            Turned D shop_.shelves J.script (length J.inputs) b (slots_of out) (accepted D b (order_view order).out r.spawned.items q)
+            Turned D shop_.shelves J.script (length J.inputs) b (slots_of out) (accepted D worker_of b (order_view order).out r.spawned.items q)
             (slice_set (slots_of out) r.worker None)
 
         module _ (report : names.ReportTurns) (missed : names.MissedTurns) (goes : Now.Goes ≡ now_of r.end) where
@@ -471,7 +471,7 @@ module _ {K N : Type 0} {gives : K → Gives} {digest : N → List ℕ → List 
               pick (End.Made ms) q g kind =
                   let v : report_end r ≡ rep.made (map output_view ms.items) (copies_view r.copied.items) = ap (how_view r.copied.items) q in
                   whole (λ i. subst IsMissing q i) (λ i. subst laws.IsMissing v i)
-                  (subst (λ z. (accepted D b (order_view order).out r.spawned.items z).stopped ≡ false) (sym v)
+                  (subst (λ z. (accepted D worker_of b (order_view order).out r.spawned.items z).stopped ≡ false) (sym v)
                   (not_root order.task (subst (OfTask order.task) q kind)))
                 where
                   not_root : (task : TaskId) → OfTask task (End.Made ms) → is_root task ≡ false
@@ -480,7 +480,7 @@ module _ {K N : Type 0} {gives : K → Gives} {digest : N → List ℕ → List 
               pick (End.Saved p j refs holds mark) q g kind =
                   let v : report_end r ≡ how_view r.copied.items (End.Saved p j refs holds mark) = ap (how_view r.copied.items) q in
                   whole (λ i. subst IsMissing q i) (λ i. subst laws.IsMissing v i)
-                  (subst (λ z. (accepted D b (order_view order).out r.spawned.items z).stopped ≡ false) (sym v) k.work.going)
+                  (subst (λ z. (accepted D worker_of b (order_view order).out r.spawned.items z).stopped ≡ false) (sym v) k.work.going)
               pick (End.Shown (Shown.Text text)) q g kind = let bad : Now.Goes ≡ Now.Answer text = g in cc
               pick (End.Shown (Shown.Fault fault)) q g kind = let bad : Now.Goes ≡ Now.Fault fault = g in cc
               pick (End.Missing name loss seen) q g kind =

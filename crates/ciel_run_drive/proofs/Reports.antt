@@ -18,6 +18,7 @@ use Rattle.ciel_master_board.specs.Reports as rep
 use Rattle.ciel_master_board.specs.Reports.{AllLearned, FirstRefused, named_view, report_view}
 use Rattle.ciel_master_board.specs.Setting.{IsSetting, Setting}
 use Rattle.ciel_task_crew.specs.Crews.{Answers, Reports}
+use Rattle.ciel_master_law.specs.Ends.{worker_of}
 use Rattle.ciel_master_law.proofs.ShopLaws.{performs_promises, shop_is, shown_meant}
 use Rattle.ciel_journal.specs.Entries.{Entry}
 use Rattle.ciel_journal.specs.History.{Event, Plan}
@@ -187,9 +188,9 @@ module _ {K N : Type 0} {gives : K → Gives} {digest : N → List ℕ → List 
 
     module _ (rest : RestsNow b) (carried : IsCarriedOut b r.end) (learns : LearnedFor (digest m.namer) r.end r.spawned.items b.table)
         {m2 : MasterSeen N} (took : (x : OrderOut) × (find_order r.number b.orders ≡ Some x)
-        × (m2 ≡ record m { board = accepted (digest m.namer) b x r.spawned.items (report_end r) })) where
+        × (m2 ≡ record m { board = accepted (digest m.namer) worker_of b x r.spawned.items (report_end r) })) where
       abbrev next : Board P
-      next = accepted D b (order_view order).out r.spawned.items (report_end r)
+      next = accepted D worker_of b (order_view order).out r.spawned.items (report_end r)
 
       new_is : m2 ≡ record m { board = next }
       new_is = names.new_is at r then reports there carried learns took
@@ -203,7 +204,7 @@ module _ {K N : Type 0} {gives : K → Gives} {digest : N → List ℕ → List 
       -- ---- the run goes on
 
       abbrev To : rep.End P → Type 0
-      To e = OneEventMore S k.history (accepted D b (order_view order).out r.spawned.items e) (slice_set (slots_of out) r.worker None)
+      To e = OneEventMore S k.history (accepted D worker_of b (order_view order).out r.spawned.items e) (slice_set (slots_of out) r.worker None)
 
       more : To (report_end r)
       more = pick r.end refl

@@ -19,7 +19,7 @@ module _ (digest : List ℕ → List ℕ) where
     starts : {b c : Board P} {calls : List Call} (x : TaskId) (w : ℕ) (order : Order) → order_view order ≡ order_for worker_of b x w
         → Moved (started worker_of b x w) calls c → Moved b (sent order ∷ calls) c
     takes : {b c : Board P} {calls : List Call} (r : Report) (x : OrderOut) → find_order r.number b.orders ≡ Some x
-        → Moved (accepted digest b x r.spawned.items (report_end r)) calls c → Moved b (given r ∷ calls) c
+        → Moved (accepted digest worker_of b x r.spawned.items (report_end r)) calls c → Moved b (given r ∷ calls) c
     throws : {b c : Board P} {calls : List Call} (r : Report) → find_order r.number b.orders ≡ None → Moved b calls c
         → Moved b (given r ∷ calls) c
 

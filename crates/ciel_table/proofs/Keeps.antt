@@ -13,7 +13,7 @@ use Rattle.sky_base.specs.declared.text.Memory.{Memory}
 use Rattle.ciel_table.specs.Named.{found, place_of, changed}
 use Rattle.ciel_table.specs.Seen.{TableSeen, row_name, saves_name, find, waits_of}
 use Rattle.ciel_table.specs.Learning.{new_row}
-use Rattle.ciel_table.specs.Changes.{placed, row_with, saves_with, dropped, row_without, saves_without, waits_without}
+use Rattle.ciel_table.specs.Changes.{placed, row_with, saves_with, waits_with, dropped, row_without, saves_without, waits_without}
 use Rattle.ciel_table.specs.Sound.{Here, IsAbove, WaitsSound}
 use Rattle.ciel_table.specs.Inside.{IsIndex, Stands, seen_of}
 use Rattle.ciel_table.specs.declared.row.Row.{Row}
@@ -22,7 +22,7 @@ use Rattle.ciel_table.specs.declared.wait.Saves.{Saves}
 use Rattle.ciel_table.proofs.Lists.{any_last, flip_nat, on_ok, on_err, either, all_push, all_map, all_filter}
 use Rattle.ciel_table.proofs.ByName.{once_push, names_changed, names_mapped, all_changed, length_changed, one_changed, none_changed}
 use Rattle.ciel_table.proofs.Index.{index_more, index_same}
-use Rattle.ciel_table.proofs.Waits.{sound_push, sound_filter}
+use Rattle.ciel_table.proofs.Waits.{sound_first, sound_push, sound_filter}
 
 -- who isn't at a dropped worker, and not at this one, isn't at one of both
 here_more : (gone : List ℕ) (worker w : ℕ) → Here gone w → not (nat_eq worker w) ≡ true → Here (gone ++ worker ∷ []) w
@@ -46,7 +46,7 @@ module _ {P : Type 0} (at : P → ℕ) where
           room = omega arith;
           once = tt;
           here = tt;
-          shown = record { rising = tt; here = tt };
+          shown = record { rising = tt; apart = tt; here = tt };
           saved = tt;
         };
         rows = r;
@@ -107,7 +107,7 @@ module _ {P : Type 0} (at : P → ℕ) where
 
   -- a saved wait of the root task more
   pub shown_stands : (t : TableSeen P) (row_of saves_of : BTreeMap (List ℕ) ℕ) (w : Wait P) → Stands at t row_of saves_of → IsAbove w.j t.shown
-      → Here t.gone (at w.place) → Stands at (record t { shown = t.shown ++ w ∷ [] }) row_of saves_of
+      → Here t.gone (at w.place) → Stands at (record t { shown = waits_with at w t.shown }) row_of saves_of
   shown_stands t row_of saves_of w s a h =
       record {
         sound = record {
@@ -127,7 +127,7 @@ module _ {P : Type 0} (at : P → ℕ) where
   -- of a task that had some
   pub more_saved_stands : (t : TableSeen P) (row_of saves_of : BTreeMap (List ℕ) ℕ) (n : List ℕ) (w : Wait P) → Stands at t row_of saves_of
       → IsAbove w.j (waits_of (TaskId.Of n) t) → Here t.gone (at w.place)
-      → Stands at (record t { saved = changed saves_name (saves_with w) n t.saved }) row_of saves_of
+      → Stands at (record t { saved = changed saves_name (saves_with at w) n t.saved }) row_of saves_of
   more_saved_stands t row_of saves_of n w k a h =
       record {
         sound = record {
@@ -135,42 +135,42 @@ module _ {P : Type 0} (at : P → ℕ) where
           once = k.sound.once;
           here = k.sound.here;
           shown = k.sound.shown;
-          saved = all_changed saves_name (SavesSound t.gone) (saves_with w) n t.saved pushed k.sound.saved;
+          saved = all_changed saves_name (SavesSound t.gone) (saves_with at w) n t.saved pushed k.sound.saved;
         };
         rows = k.rows;
-        saves = index_same saves_name saves_of t.saved (changed saves_name (saves_with w) n t.saved)
-            (names_changed saves_name (saves_with w) (λ x. refl) n t.saved) k.saves;
+        saves = index_same saves_name saves_of t.saved (changed saves_name (saves_with at w) n t.saved)
+            (names_changed saves_name (saves_with at w) (λ x. refl) n t.saved) k.saves;
       }
     where
       above : (x : Saves P) → found saves_name n t.saved ≡ Some x → IsAbove w.j x.waits
       above x g = subst (λ o. IsAbove w.j (option_map_or (λ (y : Saves P). y.waits) o [])) g a
 
-      pushed : (x : Saves P) → found saves_name n t.saved ≡ Some x → SavesSound t.gone x → SavesSound t.gone (saves_with w x)
+      pushed : (x : Saves P) → found saves_name n t.saved ≡ Some x → SavesSound t.gone x → SavesSound t.gone (saves_with at w x)
       pushed x g b = sound_push at t.gone x.waits w b (above x g) h
 
   -- by how the call went
   pub saved_rows : (t : TableSeen P) (n : List ℕ) (w : Wait P) (i : ℕ) (x : Saves P) (ws : List (Wait P)) → place_of saves_name n t.saved
-      ≡ Some i → x ≡ get_or t.saved i x → ws ≡ x.waits ++ w ∷ [] → set t.saved i (record x { waits = ws })
-      ≡ changed saves_name (saves_with w) n t.saved
+      ≡ Some i → x ≡ get_or t.saved i x → ws ≡ waits_with at w x.waits → set t.saved i (record x { waits = ws })
+      ≡ changed saves_name (saves_with at w) n t.saved
   saved_rows t n w i x ws e s h =
-      one_changed saves_name (saves_with w) n t.saved i x (record x { waits = ws }) e s (ap (λ vs. record x { waits = vs }) h)
+      one_changed saves_name (saves_with at w) n t.saved i x (record x { waits = ws }) e s (ap (λ vs. record x { waits = vs }) h)
 
   pub saved_maybe : (t : TableSeen P) (row_of saves_of : BTreeMap (List ℕ) ℕ) (n : List ℕ) (w : Wait P) (i : ℕ) (x : Saves P)
       (ws : List (Wait P)) (r : Result (Unit {0}) Memory) → Stands at t row_of saves_of → place_of saves_name n t.saved ≡ Some i → x
-      ≡ get_or t.saved i x → IsAbove w.j (waits_of (TaskId.Of n) t) → Here t.gone (at w.place) → OnOk r (ws ≡ x.waits ++ w ∷ [])
+      ≡ get_or t.saved i x → IsAbove w.j (waits_of (TaskId.Of n) t) → Here t.gone (at w.place) → OnOk r (ws ≡ waits_with at w x.waits)
       → OnErr r (ws ≡ x.waits) → Stands at (record t { saved = set t.saved i (record x { waits = ws }) }) row_of saves_of
   saved_maybe t row_of saves_of n w i x ws r k e s a h ok err =
-      either (λ ss. Stands at (record t { saved = ss }) row_of saves_of) (changed saves_name (saves_with w) n t.saved) t.saved
+      either (λ ss. Stands at (record t { saved = ss }) row_of saves_of) (changed saves_name (saves_with at w) n t.saved) t.saved
       (set t.saved i (record x { waits = ws })) r
       (on_ok r (saved_rows t n w i x ws e s) ok)
       (on_err r (λ q. none_changed t.saved i x (record x { waits = ws }) s (ap (λ vs. record x { waits = vs }) q)) err)
       (more_saved_stands t row_of saves_of n w k a h) k
 
   pub shown_maybe : (t : TableSeen P) (row_of saves_of : BTreeMap (List ℕ) ℕ) (w : Wait P) (ws : List (Wait P)) (r : Result (Unit {0}) Memory)
-      → Stands at t row_of saves_of → IsAbove w.j t.shown → Here t.gone (at w.place) → OnOk r (ws ≡ t.shown ++ w ∷ []) → OnErr r (ws ≡ t.shown)
+      → Stands at t row_of saves_of → IsAbove w.j t.shown → Here t.gone (at w.place) → OnOk r (ws ≡ waits_with at w t.shown) → OnErr r (ws ≡ t.shown)
       → Stands at (record t { shown = ws }) row_of saves_of
   shown_maybe t row_of saves_of w ws r k a h ok err =
-      either (λ vs. Stands at (record t { shown = vs }) row_of saves_of) (t.shown ++ w ∷ []) t.shown ws r ok err
+      either (λ vs. Stands at (record t { shown = vs }) row_of saves_of) (waits_with at w t.shown) t.shown ws r ok err
       (shown_stands t row_of saves_of w k a h) k
 
   -- of a task that had none
@@ -185,7 +185,7 @@ module _ {P : Type 0} (at : P → ℕ) where
           once = k.sound.once;
           here = k.sound.here;
           shown = k.sound.shown;
-          saved = all_push (SavesSound t.gone) t.saved one k.sound.saved (record { rising = (tt, tt); here = (h, tt) });
+          saved = all_push (SavesSound t.gone) t.saved one k.sound.saved (sound_first at t.gone w h);
         };
         rows = k.rows;
         saves = index_more saves_name saves_of new t.saved one n i refl l k.saves e u;

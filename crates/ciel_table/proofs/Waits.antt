@@ -1,13 +1,14 @@
--- Saved waits of one task: their numbers rise, so the last one has the greatest.
+-- Saved waits of one task: their numbers rise, so the last one has the greatest; and no two are at one worker.
 use Rattle.std.proofs.Common.{◌≡◌, ℕ, ◌<◌, ◌-◌, List, [], ◌∷◌, ◌++◌, Bool, true, false, cond, filter, length, slice_get, refl, ap, sym, ◌∙◌, subst}
-use Rattle.std.proofs.Common.{arith, Option, Some, None, MatchOption, Bor, nat_lt}
-use Rattle.std.specs.List.{AllByRecursion}
+use Rattle.std.proofs.Common.{arith, not, nat_eq, Option, Some, None, MatchOption, Bor, nat_lt}
+use Rattle.std.specs.List.{AllByRecursion, IsDistinct}
 use Rattle.std.specs.Option.{option_copied}
 use Rattle.std.proofs.lemmas.Bool.{le-ltb, ltb-true, ltb-false}
+use Rattle.ciel_table.specs.Changes.{waits_with, waits_without}
 use Rattle.ciel_table.specs.Seen.{latest, later}
-use Rattle.ciel_table.specs.Sound.{Rising, IsAbove, WaitsSound, Here}
+use Rattle.ciel_table.specs.Sound.{Rising, IsAbove, WaitsSound, Here, same_worker}
 use Rattle.ciel_table.specs.declared.wait.Wait.{Wait}
-use Rattle.ciel_table.proofs.Lists.{all_push, all_filter}
+use Rattle.ciel_table.proofs.Lists.{all_push, all_filter, flip_nat}
 
 module _ {P : Type 0} where
   record Last (w : Wait P) (ws : List (Wait P)) : Type 0 where
@@ -50,13 +51,52 @@ module _ {P : Type 0} where
       turn true k = (all_filter (λ (x : Wait P). w.j < x.j) (λ (x : Wait P). w.j < x.j) test (λ x h e. h) ws r.0, k)
       turn false k = k
 
-  -- one wait more
+  apart_push : (at : P → ℕ) (ws : List (Wait P)) (w : Wait P) → IsDistinct (same_worker at) ws
+      → AllByRecursion (λ (v : Wait P). same_worker at v w ≡ false) ws → IsDistinct (same_worker at) (ws ++ w ∷ [])
+  unfolding IsDistinct
+  apart_push at [] w d a = (tt, tt)
+  apart_push at (v ∷ vs) w d a =
+      (all_push (λ (x : Wait P). same_worker at v x ≡ false) vs w d.0 a.0, apart_push at vs w d.1 a.1)
+
+  apart_cond : (at : P → ℕ) (b : Bool) (w : Wait P) (ws : List (Wait P)) → AllByRecursion (λ (v : Wait P). same_worker at w v ≡ false) ws
+      → IsDistinct (same_worker at) ws → IsDistinct (same_worker at) (cond b (w ∷ ws) ws)
+  unfolding IsDistinct
+  apart_cond at true w ws a d = (a, d)
+  apart_cond at false w ws a d = d
+
+  apart_filter : (at : P → ℕ) (test : Wait P → Bool) (ws : List (Wait P)) → IsDistinct (same_worker at) ws
+      → IsDistinct (same_worker at) (filter test ws)
+  unfolding IsDistinct
+  apart_filter at test [] d = tt
+  apart_filter at test (w ∷ ws) d =
+      apart_cond at (test w) w (filter test ws)
+      (all_filter (λ (v : Wait P). same_worker at w v ≡ false) (λ (v : Wait P). same_worker at w v ≡ false) test (λ v h e. h) ws d.0)
+      (apart_filter at test ws d.1)
+
+  -- those that aren't at a worker are elsewhere
+  elsewhere : (at : P → ℕ) (worker : ℕ) (ws : List (Wait P))
+      → AllByRecursion (λ (v : Wait P). nat_eq (at v.place) worker ≡ false) (waits_without at worker ws)
+  elsewhere at worker [] = tt
+  elsewhere at worker (w ∷ ws) = turn (nat_eq worker (at w.place)) refl (elsewhere at worker ws)
+    where
+      turn : (b : Bool) → nat_eq worker (at w.place) ≡ b
+          → AllByRecursion (λ (v : Wait P). nat_eq (at v.place) worker ≡ false) (waits_without at worker ws)
+          → AllByRecursion (λ (v : Wait P). nat_eq (at v.place) worker ≡ false) (cond (not b) (w ∷ waits_without at worker ws) (waits_without at worker ws))
+      turn true e k = k
+      turn false e k = (flip_nat worker (at w.place) e, k)
+
+  -- one wait more, in place of one at its worker
   pub sound_push : (at : P → ℕ) (gone : List ℕ) (ws : List (Wait P)) (w : Wait P) → WaitsSound at gone ws → IsAbove w.j ws
-      → Here gone (at w.place) → WaitsSound at gone (ws ++ w ∷ [])
+      → Here gone (at w.place) → WaitsSound at gone (waits_with at w ws)
   sound_push at gone ws w s a h =
+      let test = λ (x : Wait P). not (nat_eq (at w.place) (at x.place)) in
+      let left = waits_without at (at w.place) ws in
       record {
-        rising = rising_push ws w s.rising a;
-        here = all_push (λ (x : Wait P). Here gone (at x.place)) ws w s.here h;
+        rising = rising_push left w (rising_filter test ws s.rising)
+            (all_filter (λ (x : Wait P). x.j < w.j) (λ (x : Wait P). x.j < w.j) test (λ x k e. k) ws a);
+        apart = apart_push at left w (apart_filter at test ws s.apart) (elsewhere at (at w.place) ws);
+        here = all_push (λ (x : Wait P). Here gone (at x.place)) left w
+            (all_filter (λ (x : Wait P). Here gone (at x.place)) (λ (x : Wait P). Here gone (at x.place)) test (λ x k e. k) ws s.here) h;
       }
 
   -- those that pass a test
@@ -65,8 +105,14 @@ module _ {P : Type 0} where
   sound_filter at gone after test ws s f =
       record {
         rising = rising_filter test ws s.rising;
+        apart = apart_filter at test ws s.apart;
         here = all_filter (λ (x : Wait P). Here gone (at x.place)) (λ (x : Wait P). Here after (at x.place)) test f ws s.here;
       }
+
+  -- the first wait
+  pub sound_first : (at : P → ℕ) (gone : List ℕ) (w : Wait P) → Here gone (at w.place) → WaitsSound at gone (w ∷ [])
+  unfolding IsDistinct
+  sound_first at gone w h = record { rising = (tt, tt); apart = (tt, tt); here = (h, tt) }
 
   latest_none : (ws : List (Wait P)) → latest ws ≡ None → ws ≡ []
   latest_none [] e = refl

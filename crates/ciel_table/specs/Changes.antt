@@ -17,48 +17,54 @@ module _ {P : Type 0} where
   abbrev pub placed : List ℕ → P → TableSeen P → TableSeen P
   placed n p t = record t { rows = changed row_name (row_with p) n t.rows }
 
-  -- ---- one more saved wait
+  module _ (at : P → ℕ) where
+    -- the saved waits whose stack isn't at this worker
+    abbrev pub waits_without : ℕ → List (Wait P) → List (Wait P)
+    waits_without worker ws = filter (λ (w : Wait P). not (nat_eq worker (at w.place))) ws
 
-  abbrev pub saves_with : Wait P → Saves P → Saves P
-  saves_with w s = record s { waits = s.waits ++ w ∷ [] }
+    -- ---- one more saved wait
 
-  abbrev pub save_at : Option (Saves P) → List ℕ → Wait P → List (Saves P) → List (Saves P)
-  save_at None n w ss = ss ++ record { name = n; waits = w ∷ [] } ∷ []
-  save_at (Some s) n w ss = changed saves_name (saves_with w) n ss
+    -- it stands at the end, and one at its worker goes
+    abbrev pub waits_with : Wait P → List (Wait P) → List (Wait P)
+    waits_with w ws = waits_without (at w.place) ws ++ w ∷ []
 
-  abbrev pub saved_with : TaskId → Wait P → List (Saves P) → List (Saves P)
-  saved_with TaskId.Show w ss = ss
-  saved_with (TaskId.Of n) w ss = save_at (found saves_name n ss) n w ss
+    abbrev pub saves_with : Wait P → Saves P → Saves P
+    saves_with w s = record s { waits = waits_with w s.waits }
 
-  abbrev pub shown_with : TaskId → Wait P → List (Wait P) → List (Wait P)
-  shown_with TaskId.Show w ws = ws ++ w ∷ []
-  shown_with (TaskId.Of n) w ws = ws
+    abbrev pub save_at : Option (Saves P) → List ℕ → Wait P → List (Saves P) → List (Saves P)
+    save_at None n w ss = ss ++ record { name = n; waits = w ∷ [] } ∷ []
+    save_at (Some s) n w ss = changed saves_name (saves_with w) n ss
 
-  -- the task has one more saved wait, at the end
-  abbrev pub saved : TaskId → Wait P → TableSeen P → TableSeen P
-  saved task w t = record t { shown = shown_with task w t.shown; saved = saved_with task w t.saved }
+    abbrev pub saved_with : TaskId → Wait P → List (Saves P) → List (Saves P)
+    saved_with TaskId.Show w ss = ss
+    saved_with (TaskId.Of n) w ss = save_at (found saves_name n ss) n w ss
 
-  -- ---- a worker less
+    abbrev pub shown_with : TaskId → Wait P → List (Wait P) → List (Wait P)
+    shown_with TaskId.Show w ws = waits_with w ws
+    shown_with (TaskId.Of n) w ws = ws
 
-  module _ (at : P → ℕ) (worker : ℕ) where
-    abbrev pub places_without : List P → List P
-    places_without ps = filter (λ p. not (nat_eq worker (at p))) ps
+    -- the task has one more saved wait, in place of one at its worker
+    abbrev pub saved : TaskId → Wait P → TableSeen P → TableSeen P
+    saved task w t = record t { shown = shown_with task w t.shown; saved = saved_with task w t.saved }
 
-    abbrev pub waits_without : List (Wait P) → List (Wait P)
-    waits_without ws = filter (λ (w : Wait P). not (nat_eq worker (at w.place))) ws
+    -- ---- a worker less
 
-    abbrev pub row_without : Row P → Row P
-    row_without r = record r { places = places_without r.places }
+    module _ (worker : ℕ) where
+      abbrev pub places_without : List P → List P
+      places_without ps = filter (λ p. not (nat_eq worker (at p))) ps
 
-    abbrev pub saves_without : Saves P → Saves P
-    saves_without s = record s { waits = waits_without s.waits }
+      abbrev pub row_without : Row P → Row P
+      row_without r = record r { places = places_without r.places }
 
-    -- no place and no saved wait at the worker is left
-    abbrev pub dropped : TableSeen P → TableSeen P
-    dropped t =
-        record t {
-          rows = map row_without t.rows;
-          shown = waits_without t.shown;
-          saved = map saves_without t.saved;
-          gone = t.gone ++ worker ∷ [];
-        }
+      abbrev pub saves_without : Saves P → Saves P
+      saves_without s = record s { waits = waits_without worker s.waits }
+
+      -- no place and no saved wait at the worker is left
+      abbrev pub dropped : TableSeen P → TableSeen P
+      dropped t =
+          record t {
+            rows = map row_without t.rows;
+            shown = waits_without worker t.shown;
+            saved = map saves_without t.saved;
+            gone = t.gone ++ worker ∷ [];
+          }

@@ -197,11 +197,11 @@ impl<P: At + Drop> Table<P> {
         }
     }
 
-    /// Adds a saved wait of a task. After `Memory` the table is as it was.
+    /// Adds a saved wait of a task; an earlier one at its worker goes. After `Memory` the table is as it was.
     pub fn save_wait(&mut self, task: &TaskId, wait: Wait<P>) -> Result<(), Memory>
         requires later { IsAbove wait.j (waits_of task.now self.old) }
         requires here { Here self.old.gone (P.at wait.place) }
-        ensures saved { OnOk result (self.new ≡ saved task.now wait self.old) }
+        ensures saved { OnOk result (self.new ≡ saved P.at task.now wait self.old) }
         ensures kept { OnErr result (self.new ≡ self.old) }
     {
         match task {
@@ -214,7 +214,7 @@ impl<P: At + Drop> Table<P> {
     fn save(&mut self, name: &Name, wait: Wait<P>) -> Result<(), Memory>
         requires later { IsAbove wait.j (waits_of (TaskId.Of name.now) self.old) }
         requires here { Here self.old.gone (P.at wait.place) }
-        ensures saved { OnOk result (self.new ≡ saved (TaskId.Of name.now) wait self.old) }
+        ensures saved { OnOk result (self.new ≡ saved P.at (TaskId.Of name.now) wait self.old) }
         ensures kept { OnErr result (self.new ≡ self.old) }
     {
         match self.saves_of.get(name).copied() {

@@ -1,7 +1,7 @@
 //! Saved waits: where a task goes on.
 
-ghost use Rattle.std.specs.Prelude.{◌≡◌, [], ◌∷◌, ◌++◌, None, Some, IfOk, OnOk, OnErr, MatchOption};
-ghost use Rattle.ciel_table.specs.Changes.{waits_without};
+ghost use Rattle.std.specs.Prelude.{◌≡◌, ◌≤◌, [], ◌∷◌, None, Some, IfOk, OnOk, OnErr, MatchOption, vec_capacity, vec_len};
+ghost use Rattle.ciel_table.specs.Changes.{waits_with, waits_without};
 ghost use Rattle.ciel_table.specs.Seen.{latest};
 ghost use Rattle.ciel_table.specs.Sound.{Rising};
 
@@ -22,7 +22,7 @@ pub struct Wait<P> {
     pub holds: Names,
 }
 
-/// Saved waits of one task, in the order of saving. Contracts see them as a list.
+/// Saved waits of one task, in the order of saving: for each worker the last one there. Contracts see them as a list.
 #[derive(Drop)]
 pub struct Waits<P> {
     items: Vec<Wait<P>>,
@@ -64,23 +64,34 @@ impl<P> Waits<P> {
 }
 
 impl<P: At + Drop> Waits<P> {
-    // Puts a wait at the end. After `Memory` the list is as it was.
+    // Puts a wait at the end. An earlier one at its worker goes: both would be lost together. After `Memory` the list is as it was.
     pub(crate) fn add(&mut self, wait: Wait<P>) -> Result<(), Memory>
-        ensures ok { OnOk result (self.new ≡ self.old ++ wait ∷ []) }
+        ensures ok { OnOk result (self.new ≡ waits_with P.at wait self.old) }
         ensures err { OnErr result (self.new ≡ self.old) }
     {
-        match self.items.push(wait) {
-            Ok(()) => Ok(()),
-            Err(_) => Err(Memory),
+        if self.items.reserve(1).is_err() {
+            return Err(Memory);
         }
+        take_away(&mut self.items, wait.place.worker());
+        self.items.push_reserved(wait);
+        Ok(())
     }
 
     // Takes the waits whose stack lies at a worker away.
     pub(crate) fn drop_worker(&mut self, worker: u32)
         ensures { self.new ≡ waits_without P.at worker self.old }
     {
-        self.items.retain(|wait| worker != wait.place.worker());
+        take_away(&mut self.items, worker);
     }
+}
+
+// Takes the waits whose stack lies at a worker off a list, which has as much room as before.
+fn take_away<P: At + Drop>(waits: &mut Vec<Wait<P>>, worker: u32)
+    ensures left { waits.new.items ≡ waits_without P.at worker waits.old.items }
+    ensures fewer { vec_len waits.new ≤ vec_len waits.old }
+    ensures room { vec_capacity waits.new ≡ vec_capacity waits.old }
+{
+    waits.retain(|wait| worker != wait.place.worker());
 }
 
 impl<P: At + Drop> Saves<P> {

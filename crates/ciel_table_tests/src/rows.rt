@@ -101,6 +101,25 @@ const SAVED: &[Step] = &[
     },
 ];
 
+/// The main call saves at one worker, at another, and at the first again.
+const AGAIN: &[Step] = &[
+    LEARN_MAIN,
+    LEARN_SQUARE,
+    MAIN_WAITS,
+    Step::Save {
+        task: MAIN,
+        j: 2,
+        worker: 1,
+        refs: SQUARE,
+    },
+    Step::Save {
+        task: MAIN,
+        j: 4,
+        worker: 0,
+        refs: SQUARE,
+    },
+];
+
 /// The object of the call of `f` is at two workers, that of the main call at one.
 const PLACED: &[Step] = &[
     LEARN_MAIN,
@@ -119,7 +138,7 @@ const PLACED: &[Step] = &[
     },
 ];
 
-static ROWS: [Row; 10] = [
+static ROWS: [Row; 13] = [
     Row {
         steps: OPENED,
         gone: None,
@@ -195,6 +214,36 @@ static ROWS: [Row; 10] = [
         gone: Some(1),
         live: (false, false),
         lasts: [1, 0, 0],
+        wanted: &[MAIN, SQUARE, SHOW],
+        out: &[],
+        runs: &[SQUARE],
+        circle: false,
+    },
+    Row {
+        steps: AGAIN,
+        gone: None,
+        live: (false, false),
+        lasts: [4, 0, 0],
+        wanted: &[MAIN, SQUARE, SHOW],
+        out: &[],
+        runs: &[SQUARE],
+        circle: false,
+    },
+    Row {
+        steps: AGAIN,
+        gone: Some(0),
+        live: (false, false),
+        lasts: [2, 0, 0],
+        wanted: &[MAIN, SQUARE, SHOW],
+        out: &[],
+        runs: &[SQUARE],
+        circle: false,
+    },
+    Row {
+        steps: AGAIN,
+        gone: Some(1),
+        live: (false, false),
+        lasts: [4, 0, 0],
         wanted: &[MAIN, SQUARE, SHOW],
         out: &[],
         runs: &[SQUARE],

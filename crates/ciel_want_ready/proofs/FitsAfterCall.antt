@@ -64,11 +64,11 @@ module _ {P : Type 0} (main : List ℕ) (t : TableSeen P) (out : List TaskId) (o
               subst (λ x. FitsOut main (placed n p t) out x) (sym y.1) (fits_again main t out q.0 f n p e.0 e.1 (sym w ∙ y.0))
           turn (inr y) = fits_placed main t out q.0 f n p y.1 (sym r ∙ y.2) k (sym w ∙ y.0) y.3 y.4
 
-  pub saved_fits : (res : Option MarksSeen) (task : TaskId) (w : Wait P) (node : Option ℕ) → IsOnce row_name t.rows → node ≡ node_for t task
-      → IfSome res (λ k. SavedFrom marks node k) → IfSome res (λ k. FitsOut main (saved task w t) out k)
-  saved_fits res task w node once e h =
-      if_some (λ k. SavedFrom marks node k) (λ k. FitsOut main (saved task w t) out k)
-      (λ k q. fits_saved main t out k (fits_of k q.1) task w q.0 once (sym e ∙ q.2) q.3) res h
+  pub saved_fits : (at : P → ℕ) (res : Option MarksSeen) (task : TaskId) (w : Wait P) (node : Option ℕ) → IsOnce row_name t.rows → node ≡ node_for t task
+      → IfSome res (λ k. SavedFrom marks node k) → IfSome res (λ k. FitsOut main (saved at task w t) out k)
+  saved_fits at res task w node once e h =
+      if_some (λ k. SavedFrom marks node k) (λ k. FitsOut main (saved at task w t) out k)
+      (λ k q. fits_saved main t out k (fits_of k q.1) at task w q.0 once (sym e ∙ q.2) q.3) res h
 
   pub started_fits : (res : Option MarksSeen) (task : TaskId) (node : Option ℕ) → IsOnce row_name t.rows → node ≡ node_for t task
       → IfSome res (λ k. StartedFrom marks node k) → IfSome res (λ k. FitsOut main t (out ++ task ∷ []) k)

@@ -162,24 +162,25 @@ module _ {P : Type 0} (main : List ℕ) (t : TableSeen P) (out : List TaskId) (m
   found_last n [] x d = ap (λ b. cond b (Some x) None) d
   found_last n (y ∷ ys) x d = ap (λ o. cond (same_text n y.name) (Some y) o) (found_last n ys x d)
 
-  waits_other : (n k : List ℕ) (w : Wait P) → same_text n k ≡ false → waits_in n (saved (TaskId.Of k) w t).saved ≡ waits_in n t.saved
-  waits_other n k w d = turn (found saves_name k t.saved)
+  waits_other : (at : P → ℕ) (n k : List ℕ) (w : Wait P) → same_text n k ≡ false → waits_in n (saved at (TaskId.Of k) w t).saved
+      ≡ waits_in n t.saved
+  waits_other at n k w d = turn (found saves_name k t.saved)
     where
-      turn : (o : Option (Saves P)) → waits_in n (save_at o k w t.saved) ≡ waits_in n t.saved
+      turn : (o : Option (Saves P)) → waits_in n (save_at at o k w t.saved) ≡ waits_in n t.saved
       turn None =
           ap (λ (o : Option (Saves P)). option_map_or (λ (x : Saves P). x.waits) o []) (found_last n t.saved (record { name = k; waits = w ∷ [] }) d)
       turn (Some x) =
-          ap (λ (o : Option (Saves P)). option_map_or (λ (x : Saves P). x.waits) o []) (found_changed n k (saves_with w) (λ x. refl) t.saved d)
+          ap (λ (o : Option (Saves P)). option_map_or (λ (x : Saves P). x.waits) o []) (found_changed n k (saves_with at w) (λ x. refl) t.saved d)
 
-  last_other : (x task : TaskId) (w : Wait P) → same_id x task ≡ false → last_wait x (saved task w t) ≡ last_wait x t
-  last_other TaskId.Show TaskId.Show w d = cc
-  last_other TaskId.Show (TaskId.Of k) w d = refl
-  last_other (TaskId.Of n) TaskId.Show w d = refl
-  last_other (TaskId.Of n) (TaskId.Of k) w d = ap latest (waits_other n k w d)
+  last_other : (at : P → ℕ) (x task : TaskId) (w : Wait P) → same_id x task ≡ false → last_wait x (saved at task w t) ≡ last_wait x t
+  last_other at TaskId.Show TaskId.Show w d = cc
+  last_other at TaskId.Show (TaskId.Of k) w d = refl
+  last_other at (TaskId.Of n) TaskId.Show w d = refl
+  last_other at (TaskId.Of n) (TaskId.Of k) w d = ap latest (waits_other at n k w d)
 
-  firsts_saved : (x task : TaskId) (w : Wait P) → first_needs main (saved task w t) x ≡ first_needs main t x
-  firsts_saved TaskId.Show task w = refl
-  firsts_saved (TaskId.Of n) task w = refl
+  firsts_saved : (at : P → ℕ) (x task : TaskId) (w : Wait P) → first_needs main (saved at task w t) x ≡ first_needs main t x
+  firsts_saved at TaskId.Show task w = refl
+  firsts_saved at (TaskId.Of n) task w = refl
 
   -- the node of a row's task
   node_at : IsOnce row_name t.rows → (v : ℕ) → v ≤ length t.rows → node_for t (task_at t (row_of v)) ≡ Some v
@@ -196,23 +197,23 @@ module _ {P : Type 0} (main : List ℕ) (t : TableSeen P) (out : List TaskId) (m
       let y = long main t m ff.fits in
       omega (arith, l, x, y)
 
-  pub fits_saved : (task : TaskId) (w : Wait P) (u : ℕ) → IsOnce row_name t.rows → node_for t task ≡ Some u → flag m.out u ≡ true
-      → FitsOut main (saved task w t) out m
-  fits_saved task w u once h o =
+  pub fits_saved : (at : P → ℕ) (task : TaskId) (w : Wait P) (u : ℕ) → IsOnce row_name t.rows → node_for t task ≡ Some u → flag m.out u ≡ true
+      → FitsOut main (saved at task w t) out m
+  fits_saved at task w u once h o =
       record {
         fits = record {
           live = ff.fits.live;
-          makers_are = ff.fits.makers_are ∙ sym (map_alike (maker_of (saved task w t)) (maker_of t) (λ r. same_node r.task) t.rows);
-          right = right_needs m (needs_by main t) (needs_by main (saved task w t)) ff.fits.right same;
+          makers_are = ff.fits.makers_are ∙ sym (map_alike (maker_of (saved at task w t)) (maker_of t) (λ r. same_node r.task) t.rows);
+          right = right_needs m (needs_by main t) (needs_by main (saved at task w t)) ff.fits.right same;
         };
         outs_are = ff.outs_are;
       }
     where
-      same_node : (x : TaskId) → node_of (saved task w t) x ≡ node_of t x
+      same_node : (x : TaskId) → node_of (saved at task w t) x ≡ node_of t x
       same_node TaskId.Show = refl
       same_node (TaskId.Of n) = refl
 
-      same_task : (o : Option ℕ) → task_at (saved task w t) o ≡ task_at t o
+      same_task : (o : Option ℕ) → task_at (saved at task w t) o ≡ task_at t o
       same_task None = refl
       same_task (Some e) = refl
 
@@ -227,11 +228,11 @@ module _ {P : Type 0} (main : List ℕ) (t : TableSeen P) (out : List TaskId) (m
               let i : v ≡ u = cc in
               not_both (flag m.out u) o (subst (λ x. flag m.out x ≡ false) i a.1)
 
-      same : (v : ℕ) → Active m v → needs_by main (saved task w t) v ≡ needs_by main t v
+      same : (v : ℕ) → Active m v → needs_by main (saved at task w t) v ≡ needs_by main t v
       same v a =
-          ap (λ x. rows_of t (needs main (saved task w t) x)) (same_task (row_of v))
-          ∙ ap (rows_of t) (needs_alike main t (saved task w t) (task_at t (row_of v)) (last_other (task_at t (row_of v)) task w (apart v a))
-          (firsts_saved (task_at t (row_of v)) task w))
+          ap (λ x. rows_of t (needs main (saved at task w t) x)) (same_task (row_of v))
+          ∙ ap (rows_of t) (needs_alike main t (saved at task w t) (task_at t (row_of v)) (last_other at (task_at t (row_of v)) task w (apart v a))
+          (firsts_saved at (task_at t (row_of v)) task w))
 
   -- ---- one row more
 

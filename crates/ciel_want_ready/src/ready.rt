@@ -151,11 +151,11 @@ impl<P: At + Drop> Ready<P> {
         }
     }
 
-    /// Adds a saved wait of a task. After `Memory` nothing has changed.
+    /// Adds a saved wait of a task; an earlier one at its worker goes. After `Memory` nothing has changed.
     pub fn save_wait(&mut self, task: &TaskId, wait: Wait<P>) -> Result<(), Memory>
         requires later { IsAbove wait.j (waits_of task.now self.old.table) }
         requires here { Here self.old.table.gone (P.at wait.place) }
-        ensures saved { OnOk result (self.new ≡ with_table self.old (saved task.now wait self.old.table)) }
+        ensures saved { OnOk result (self.new ≡ with_table self.old (saved P.at task.now wait self.old.table)) }
         ensures kept { OnErr result (self.new ≡ self.old) }
     {
         let node = node_for(&self.table, &mut self.near, task);

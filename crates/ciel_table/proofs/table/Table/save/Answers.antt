@@ -37,7 +37,7 @@ returns-in-Some-clause-saved g c =
     let o = found_at saves_name n f.saves.items c.in-Some.at c.index_mut-saves.result.now e in
     on_ok c.add.result (λ k. ap (λ ss. seen_of f.limit f.rows.items f.shown ss f.dropped.workers)
     (saved_rows g.P.At.at t n w c.in-Some.at c.index_mut-saves.result.now c.add.new.self e c.index_mut-saves.ensures.value k
-    ∙ ap (λ x. save_at x n w f.saves.items) (sym o.1)) ∙ ap (saved (TaskId.Of n) w) c.self.view_is) c.add.ensures.ok
+    ∙ ap (λ x. save_at g.P.At.at x n w f.saves.items) (sym o.1)) ∙ ap (saved g.P.At.at (TaskId.Of n) w) c.self.view_is) c.add.ensures.ok
 
 pub invariant_of-self-in-None : goal.invariant_of-self-in-None
 invariant_of-self-in-None g c =
@@ -63,5 +63,5 @@ returns-in-Ok-insert-clause-saved g c =
     let grew : c.push_reserved.new.self.items ≡ f.saves.items ++ one ∷ [] = c.push_reserved.ensures.items
     ∙ (λ i. c.in-Ok.ensures.items i ++ c.in_ok-first-in-None.ensures i ∷ []) in
     ap (λ ss. seen_of f.limit f.rows.items f.shown ss f.dropped.workers)
-    (grew ∙ ap (λ x. save_at x n w f.saves.items) (sym (found_none saves_name n f.saves.items e)))
-    ∙ ap (saved (TaskId.Of n) w) c.self.view_is
+    (grew ∙ ap (λ x. save_at g.P.At.at x n w f.saves.items) (sym (found_none saves_name n f.saves.items e)))
+    ∙ ap (saved g.P.At.at (TaskId.Of n) w) c.self.view_is

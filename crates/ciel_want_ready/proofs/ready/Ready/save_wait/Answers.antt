@@ -10,5 +10,5 @@ invariant_of-self g c =
     let out = c.self.inside.out.items in
     let res = c.saved.result in
     subst (λ x. IfSome res (λ m. FitsOut main x out m)) (sym c.in-Ok.ensures.saved)
-    (saved_fits main t out c.self.inside.marks c.self.invariant c.take-marks.result c.take-marks.ensures.value res c.args.task.now
+    (saved_fits main t out c.self.inside.marks c.self.invariant c.take-marks.result c.take-marks.ensures.value g.P.At.at res c.args.task.now
     c.args.wait c.node_for-node.result c.node_for-node.ensures.sound.once c.node_for-node.ensures.node c.saved.ensures)
