@@ -4,7 +4,9 @@ pub mod GrownInputs
 pub mod Results
 pub mod PairLaw
 pub mod ReadLaw
-pub mod SeenLaw
+pub mod SameTotals
+pub mod MergedLaw
+pub mod EntriesLaw
 pub mod HalfLaw
 pub mod StandsLaw
 pub mod TurnsLaw

@@ -1,10 +1,6 @@
 -- What the code keeps of the lines that it has settled, against these lines. Nothing above a flow needs it.
 use Rattle.std.specs.Prelude.{◌≡◌, ℕ, zero, suc, ◌+◌, ◌-◌, ◌^◌, ◌%◌, ◌<◌, ◌≤◌, nat_lt, min, Bool, true, false, ℤ, pos, int_div, List, [], ◌∷◌, ◌++◌}
-use Rattle.std.specs.Prelude.{length, take, drop, map, replicate, slice_index_or, Vec, Option, Some, None}
-use Rattle.std.specs.declared.alloc.Global.{Global}
-use Rattle.std.specs.declared.cmp.Ordering.{Ordering}
-use Rattle.std.specs.Ordering.{nat_cmp}
-use Rattle.std.specs.Cmp.Lexicographic.{slice_cmp}
+use Rattle.std.specs.Prelude.{length, take, drop, map, replicate, slice_index_or, Option, Some, None}
 use Rattle.std.specs.Fmt.{signed_decimal}
 use Rattle.std.specs.Bool.{MatchBool}
 use Rattle.std.specs.List.{flat_map}
@@ -116,19 +112,9 @@ WritesHalves h ls = (zs : List ℤ) × (read_each signed_number ls ≡ Some zs) 
 abbrev pub HasHalves : Halves → List (List ℕ) → Type 0
 HasHalves h ls = MatchBool h.bad (Unread signed_number ls) (WritesHalves h ls)
 
--- the lines of the map with their sums
-abbrev pub seen_sums : List (Vec ℕ Global × ℕ) → List (List ℕ × ℕ)
-seen_sums entries = map (λ e. (e.0.items, e.1)) entries
-
+-- each line with the sum of the numbers at it, in order
 abbrev pub sums_in : Kept → List (List ℕ × ℕ)
-sums_in t = seen_sums t.sums.entries
-
--- how a line compares with one that the map owns
-abbrev pub asks : List ℕ → Vec ℕ Global → Ordering
-asks line k = slice_cmp nat_cmp line k.items
-
-abbrev pub by_bytes : Vec ℕ Global → Vec ℕ Global → Ordering
-by_bytes x y = slice_cmp nat_cmp x.items y.items
+sums_in t = totals t.entries
 
 abbrev pub SumsUp : Sums → List (List ℕ) → Type 0
 SumsUp s ls = (es : List (List ℕ × ℕ)) × (read_each counted ls ≡ Some es) × (sums_in s.totals ≡ totals es)

@@ -4,15 +4,18 @@
 
 mod blocks;
 mod buffer;
+mod entries;
 pub mod flow;
 mod found;
 mod halves;
 mod head;
 pub mod kit;
 mod lined;
+mod order;
 mod pair;
 mod rest;
 mod settled;
+mod slots;
 mod stream;
 mod sums;
 mod totals;

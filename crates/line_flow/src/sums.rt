@@ -1,9 +1,13 @@
 // The sums of the numbers in front of equal rests, and how often lines occur.
 
-ghost use Rattle.std.specs.Prelude.{◌∷◌, ◌++◌, [], IfOk, IfErr, map};
+ghost use Rattle.std.specs.Prelude.{◌≡◌, ◌∷◌, ◌++◌, [], IfOk, IfErr, map, nat_lt};
+ghost use Rattle.std.specs.List.{list_any};
 ghost use Rattle.sky_base.specs.KitView.{RunsSo};
 ghost use Rattle.line_kit.specs.Numbers.{counted, count_line};
 ghost use Rattle.line_kit.specs.Gives.{one, summed, read_each};
+ghost use Rattle.line_kit.specs.Lines.{joined};
+ghost use Rattle.line_kit.specs.Written.{extended, finished};
+ghost use Rattle.line_flow.specs.Entries.{lent};
 ghost use Rattle.line_flow.specs.Kept.{HasSums, sums_in};
 
 use crate::totals::Totals;
@@ -20,13 +24,38 @@ pub(crate) struct Sums {
     pub(crate) bad: bool,
 }
 
+// Whether a sum is above this number.
+fn is_any_above(sums: &[(&[u8], u128)], most: u64) -> bool
+    ensures { result ≡ list_any (λ e. nat_lt most e.1) sums.now }
+{
+    sums.iter().any(|(_, sum)| *sum > u128::from(most))
+}
+
+#[tactic(auto, using(line_kit::proofs::WrittenLaw::pieces))]
+fn put_all(out: &mut Output, sums: &[(&[u8], u128)]) -> Result<(), Memory>
+    ensures { IfOk result (λ _. finished out.new ≡ extended out.old (joined (map (λ e. count_line e.1 e.0) (lent sums.now)))) }
+{
+    for (line, sum) in sums {
+        out.put_count(*sum, *line)?;
+    }
+    Ok(())
+}
+
+// The answer with each sum and its line.
+fn written_sums(alloc: Global, sums: &[(&[u8], u128)]) -> Answer
+    ensures { IfOk result (λ r. RunsSo r (one (map (λ e. count_line e.1 e.0) (lent sums.now)))) }
+{
+    let mut out = Output::new(alloc);
+    put_all(&mut out, sums)?;
+    out.alone(alloc)
+}
+
 /// The answer with each sum and its line.
 pub(crate) fn written(alloc: Global, totals: &Totals) -> Answer
     ensures { IfOk result (λ r. RunsSo r (one (map (λ e. count_line e.1 e.0) (sums_in totals.now)))) }
 {
-    let mut out = Output::new(alloc);
-    totals.put_onto(&mut out)?;
-    out.alone(alloc)
+    let sums = totals.in_order(alloc)?;
+    written_sums(alloc, sums.as_slice())
 }
 
 impl Sums {
@@ -64,9 +93,10 @@ impl Sums {
         if self.bad {
             return Ok(Err(FaultKind::BadLine));
         }
-        if self.totals.has_above(MOST) {
+        let sums = self.totals.in_order(alloc)?;
+        if is_any_above(sums.as_slice(), MOST) {
             return Ok(Err(FaultKind::Overflow));
         }
-        written(alloc, &self.totals)
+        written_sums(alloc, sums.as_slice())
     }
 }

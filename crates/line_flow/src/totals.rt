@@ -1,51 +1,60 @@
-// Sums by line, in the order of the lines' bytes, each with a copy of its line.
+// Sums by line. A line is found by its hash, and the lines come in the order of their bytes at the end.
+//
+// The table of hints decides nothing: a line that isn't found stands among the entries once more, and equal lines are
+// added up at the end. Where a hint finds no place equal lines may stand there twice; once half of the entries may be
+// such ones, equal lines are added up before the end. So a number takes a search of a bounded number of steps and a share
+// of a sort, and there are at most twice as many entries as different lines, whatever the lines are.
 
-ghost use Rattle.std.specs.Prelude.{◌≡◌, [], IfOk, IfErr, map, nat_lt, Some, None, true, false};
-ghost use Rattle.std.specs.Ordering.{nat_cmp};
-ghost use Rattle.std.specs.Cmp.Lexicographic.{slice_cmp};
-ghost use Rattle.std.specs.BTreeMap.{insert_entry, is_at, values};
-ghost use Rattle.std.specs.Map.{lookup};
-ghost use Rattle.std.specs.List.{list_any};
-ghost use Rattle.line_kit.specs.Lines.{joined};
-ghost use Rattle.line_kit.specs.Numbers.{count_line};
-ghost use Rattle.line_kit.specs.Totals.{with_more};
-ghost use Rattle.line_kit.specs.Written.{extended, finished};
-ghost use Rattle.line_flow.specs.Kept.{sums_in, seen_sums, asks};
+ghost use Rattle.std.specs.Prelude.{◌≡◌, [], IfOk, IfErr, IfSome, true};
+ghost use Rattle.line_kit.specs.Totals.{totals, with_more};
+ghost use Rattle.line_flow.specs.Entries.{lent, IsAt};
+ghost use Rattle.line_flow.specs.Kept.{sums_in};
 
-use line_kit::output::Output;
+use crate::entries::Entries;
+use crate::order::in_order;
+use crate::slots::{MOST_STEPS, Slots, hash_of};
 use sky_base::text::Memory;
 use std::alloc::Global;
-use std::collections::BTreeMap;
-
-// Adds a number at a line that is there, and answers whether its sum has room: one search does both.
-fn add_there(sums: &mut BTreeMap<Vec<u8>, u128>, line: &[u8], number: u64) -> Option<bool>
-    ensures absent { result ≡ None → lookup (is_at (asks line.now)) sums.old.entries ≡ None }
-    ensures same { result ≡ None → sums.new.entries ≡ sums.old.entries }
-    ensures added { result ≡ Some true → seen_sums sums.new.entries ≡ with_more (seen_sums sums.old.entries) line.now number }
-    ensures full { result ≡ Some false → sums.new.entries ≡ sums.old.entries }
-{
-    match sums.get_mut(line) {
-        Some(sum) => match sum.checked_add(u128::from(number)) {
-            Some(more) => {
-                *sum = more;
-                Some(true)
-            }
-            None => Some(false),
-        },
-        None => None,
-    }
-}
-
-fn is_any_above(sums: &BTreeMap<Vec<u8>, u128>, most: u64) -> bool
-    ensures { result ≡ list_any (λ sum. nat_lt most sum) (values sums.now) }
-{
-    sums.values().any(|sum| *sum > u128::from(most))
-}
 
 /// For each line the sum of the numbers that were added at it.
 #[derive(Drop)]
 pub(crate) struct Totals {
-    pub(crate) sums: BTreeMap<Vec<u8>, u128>,
+    pub(crate) entries: Entries,
+    slots: Slots,
+    unplaced: usize,
+}
+
+// The entry of a line, where a hint tells it.
+fn find(slots: &Slots, entries: &Entries, hash: u32, line: &[u8]) -> Option<usize>
+    ensures { IfSome result (λ at. IsAt entries.now at line.now) }
+{
+    for step in 0..MOST_STEPS {
+        let (held, at) = slots.at(hash, step)?;
+        if held == hash && is_at(entries, at, line) {
+            return Some(at);
+        }
+    }
+    None
+}
+
+fn is_at(entries: &Entries, at: usize, line: &[u8]) -> bool
+    ensures { result ≡ true → IsAt entries.now at line.now }
+{
+    match entries.line(at) {
+        Some(own) => own == line,
+        None => false,
+    }
+}
+
+// The lines with their sums, one after the other.
+fn copied(alloc: Global, sums: &[(&[u8], u128)]) -> Result<Entries, Memory>
+    ensures { IfOk result (λ es. es ≡ lent sums.now) }
+{
+    let mut all = Entries::new(alloc);
+    for (line, sum) in sums {
+        all.push(*line, *sum)?;
+    }
+    Ok(all)
 }
 
 impl Totals {
@@ -54,22 +63,56 @@ impl Totals {
         ensures { sums_in result ≡ [] }
     {
         Totals {
-            sums: BTreeMap::new(alloc),
+            entries: Entries::new(alloc),
+            slots: Slots::new(alloc),
+            unplaced: 0,
         }
     }
 
-    // The first number at a line.
-    fn begin(&mut self, alloc: Global, line: &[u8], number: u64) -> Result<(), Memory>
-        ensures ok { IfOk result (λ _. sums_in self.new ≡ insert_entry (slice_cmp nat_cmp) (sums_in self.old) line.now number) }
+    // Adds up the sums of equal lines, while there is memory.
+    fn merge(&mut self, alloc: Global) -> Result<(), Memory>
+        ensures { sums_in self.new ≡ sums_in self.old }
+    {
+        self.unplaced = 0;
+        let entries = copied(alloc, in_order(alloc, &self.entries)?.as_slice())?;
+        self.slots = self.slots.again(alloc, &entries)?;
+        self.entries = entries;
+        Ok(())
+    }
+
+    // Makes room in the table for one more.
+    fn make_room(&mut self, alloc: Global) -> Result<(), Memory>
+        ensures { self.new.entries ≡ self.old.entries }
+    {
+        if self.slots.is_full(self.entries.len()) {
+            self.slots = self.slots.grown(alloc, &self.entries)?;
+        }
+        Ok(())
+    }
+
+    // Notes an entry.
+    fn note(&mut self, alloc: Global, hash: u32, at: usize)
+        ensures { sums_in self.new ≡ sums_in self.old }
+    {
+        if self.slots.note(hash, at) {
+            return;
+        }
+        self.unplaced = self.unplaced.saturating_add(1);
+        if self.unplaced > self.entries.len() / 2 {
+            let _ = self.merge(alloc);
+        }
+    }
+
+    // A number at a line that wasn't found.
+    fn begin(&mut self, alloc: Global, hash: u32, line: &[u8], number: u64) -> Result<(), Memory>
+        ensures ok { IfOk result (λ _. sums_in self.new ≡ with_more (sums_in self.old) line.now number) }
         ensures err { IfErr result (λ _. sums_in self.new ≡ sums_in self.old) }
     {
-        let Ok(key) = Vec::from_slice(alloc, line) else {
-            return Err(Memory);
-        };
-        match self.sums.insert(key, u128::from(number)) {
-            Ok(_) => Ok(()),
-            Err(_) => Err(Memory),
-        }
+        self.make_room(alloc)?;
+        let at = self.entries.len();
+        self.entries.push(line, u128::from(number))?;
+        self.note(alloc, hash, at);
+        Ok(())
     }
 
     /// Adds a number at a line. A sum that more than 128 bits would write is as want of memory.
@@ -77,28 +120,17 @@ impl Totals {
         ensures ok { IfOk result (λ _. sums_in self.new ≡ with_more (sums_in self.old) line.now number) }
         ensures err { IfErr result (λ _. sums_in self.new ≡ sums_in self.old) }
     {
-        match add_there(&mut self.sums, line, number) {
-            Some(true) => Ok(()),
-            Some(false) => Err(Memory),
-            None => self.begin(alloc, line, number),
+        let hash = hash_of(line);
+        match find(&self.slots, &self.entries, hash, line) {
+            Some(at) => self.entries.add(at, number),
+            None => self.begin(alloc, hash, line, number),
         }
     }
 
-    /// Whether a sum is above this number.
-    pub(crate) fn has_above(&self, most: u64) -> bool
-        ensures { result ≡ list_any (λ e. nat_lt most e.1) (sums_in self.now) }
+    /// The lines with their sums, in order.
+    pub(crate) fn in_order(&self, alloc: Global) -> Result<Vec<(&[u8], u128)>, Memory>
+        ensures { IfOk result (λ v. lent v.items ≡ sums_in self.now) }
     {
-        is_any_above(&self.sums, most)
-    }
-
-    /// Puts each sum with its line.
-    #[tactic(auto, using(line_kit::proofs::WrittenLaw::pieces))]
-    pub(crate) fn put_onto(&self, out: &mut Output) -> Result<(), Memory>
-        ensures { IfOk result (λ _. finished out.new ≡ extended out.old (joined (map (λ e. count_line e.1 e.0) (sums_in self.now)))) }
-    {
-        for (line, sum) in &self.sums {
-            out.put_count(*sum, line.as_slice())?;
-        }
-        Ok(())
+        in_order(alloc, &self.entries)
     }
 }

@@ -22,32 +22,32 @@ cmp = slice_cmp nat_cmp
 
 -- ---- the order of lines
 
-same_if_equal : (k l : List ℕ) → cmp k l ≡ Equal → k ≡ l
+pub same_if_equal : (k l : List ℕ) → cmp k l ≡ Equal → k ≡ l
 same_if_equal k l e = (bytes_eq-Decides k l).0 (sym (is_eq-slice_cmp k l) ∙ ap is_eq e)
 
-turned : (k l : List ℕ) (o : Ordering) → cmp k l ≡ o → cmp l k ≡ ordering_reverse o
+pub turned : (k l : List ℕ) (o : Ordering) → cmp k l ≡ o → cmp l k ≡ ordering_reverse o
 turned k l o e = nat_list_cmp_total.antisymm l k ∙ ap ordering_reverse e
 
 other : (k l : List ℕ) (o : Ordering) → cmp k l ≡ o → is_eq o ≡ false → bytes_eq k l ≡ false
 other k l o e f = sym (is_eq-slice_cmp k l) ∙ ap is_eq e ∙ f
 
-same_self : (k : List ℕ) → bytes_eq k k ≡ true
+pub same_self : (k : List ℕ) → bytes_eq k k ≡ true
 same_self k = (bytes_eq-Decides k k).1 refl
 
 -- each line is above the one given, and each further one above the one before it
-abbrev Above : List ℕ → List (List ℕ) → Type 0
+abbrev pub Above : List ℕ → List (List ℕ) → Type 0
 Above x [] = Unit {0}
 Above x (z ∷ zs) = (cmp x z ≡ Less) × Above x zs
 
-abbrev Rises : List (List ℕ) → Type 0
+abbrev pub Rises : List (List ℕ) → Type 0
 Rises [] = Unit {0}
 Rises (y ∷ ys) = Above y ys × Rises ys
 
-Above-under : (x y : List ℕ) (zs : List (List ℕ)) → cmp x y ≡ Less → Above y zs → Above x zs
+pub Above-under : (x y : List ℕ) (zs : List (List ℕ)) → cmp x y ≡ Less → Above y zs → Above x zs
 Above-under x y [] h a = tt
 Above-under x y (z ∷ zs) h a = (nat_list_cmp_total.trans x y z h a.0, Above-under x y zs h a.1)
 
-abbrev put_key : List (List ℕ) → List ℕ → List (List ℕ)
+abbrev pub put_key : List (List ℕ) → List ℕ → List (List ℕ)
 put_key = insert_key cmp
 
 Above-by : (x k y : List ℕ) (ys : List (List ℕ)) (o : Ordering) → cmp x k ≡ Less → Above x (y ∷ ys) → Above x (put_key ys k)
@@ -70,7 +70,7 @@ Rises-put : (k : List ℕ) (ys : List (List ℕ)) → Rises ys → Rises (put_ke
 Rises-put k [] r = (tt, tt)
 Rises-put k (y ∷ ys) r = Rises-by k y ys (cmp k y) refl r (Rises-put k ys r.1)
 
-Rises-fold : (xs ks : List (List ℕ)) → Rises ks → Rises (fold put_key ks xs)
+pub Rises-fold : (xs ks : List (List ℕ)) → Rises ks → Rises (fold put_key ks xs)
 Rises-fold [] ks r = r
 Rises-fold (x ∷ xs) ks r = Rises-fold xs (put_key ks x) (Rises-put x ks r)
 
@@ -153,7 +153,7 @@ any-put : (q k : List ℕ) (ks : List (List ℕ)) → list_any (bytes_eq q) (put
 any-put q k [] = refl
 any-put q k (y ∷ ys) = any_by q k y ys (cmp k y) refl (any-put q k ys)
 
-any-fold : (q : List ℕ) (xs ks : List (List ℕ)) → list_any (bytes_eq q) (fold put_key ks xs) ≡ list_any (bytes_eq q) xs || list_any (bytes_eq q) ks
+pub any-fold : (q : List ℕ) (xs ks : List (List ℕ)) → list_any (bytes_eq q) (fold put_key ks xs) ≡ list_any (bytes_eq q) xs || list_any (bytes_eq q) ks
 any-fold q [] ks = refl
 any-fold q (x ∷ xs) ks =
     any-fold q xs (put_key ks x) ∙ ap (λ b. list_any (bytes_eq q) xs || b) (any-put q x ks)
