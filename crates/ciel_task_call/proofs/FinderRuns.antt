@@ -1,6 +1,5 @@
 -- What the run of an order came to, by what its finder says.
 use Rattle.std.proofs.Common.{◌≡◌, ◌<◌, ℕ, List, [], ◌∷◌, length, Result, Ok, Err, IfErr, IfOk, refl, sym, ap, subst, ◌∙◌}
-use Rattle.std.specs.BTreeMap.{BTreeMap}
 use Rattle.sky_base.specs.Name.{held_name, held_name as name_of_desc}
 use Rattle.sky_base.specs.Tree.{Script}
 use Rattle.sky_base.specs.Val.{Desc, known, same_text}
@@ -50,11 +49,9 @@ module _ (shelves : ShelvesSeen) (sc : Script) (inputs : List (List ℕ × List 
       (in_each (λ d. In (held_name d) (names_in order.inputs.items)) (pending_in same_text x) (known n) b.pending i))
 
   -- it stands where nothing was copied yet
-  pub can_bring : (w : ℕ) → w < length shelves.rows → (places : BTreeMap (List ℕ) ℕ) → IsIndex name_of_held places held → (eye : SeatSeen)
-      → eye.of ≡ shelves.of → (copied : Copied) → copied.items.items ≡ [] → IsIndex name_of_held copied.places []
-      → CanBring shelves w sc inputs held places eye copied
-  can_bring w worker places index eye of copied none empty = record {
-    index = index;
+  pub can_bring : (w : ℕ) → w < length shelves.rows → (eye : SeatSeen) → eye.of ≡ shelves.of → (copied : Copied)
+      → copied.items.items ≡ [] → IsIndex name_of_held copied.places [] → CanBring shelves w sc inputs held eye copied
+  can_bring w worker eye of copied none empty = record {
     spots = subst (Each (λ (h : Held). SpotSound shelves sc (length inputs) h.at)) (sym same) spots;
     eye = of;
     worker = worker;

@@ -34,10 +34,9 @@ NotedIf false name k old new = new ≡ old
 abbrev pub Noted : (name : List ℕ) → ℕ → List Held → BTreeMap (List ℕ) ℕ → BTreeMap (List ℕ) ℕ → Type 0
 Noted name k items old new = NotedIf (nat_lt k (length items)) name k old new
 
--- what an order brings along for worker w, with the place of each name, an eye of the shelves, and what was copied
-pub record CanBring (shelves : ShelvesSeen) (w : ℕ) (sc : Script) (inputs : List (List ℕ × List ℕ)) (held : List Held)
-    (places : BTreeMap (List ℕ) ℕ) (e : SeatSeen) (c : Copied) : Type 0 where
-  pub index : IsIndex held_name places held
+-- what an order brings along for worker w, with an eye of the shelves, and what was copied
+pub record CanBring (shelves : ShelvesSeen) (w : ℕ) (sc : Script) (inputs : List (List ℕ × List ℕ)) (held : List Held) (e : SeatSeen)
+    (c : Copied) : Type 0 where
   pub spots : Each (λ (h : Held). SpotSound shelves sc (length inputs) h.at) held
   pub eye : e.of ≡ shelves.of
   pub worker : w < length shelves.rows

@@ -10,15 +10,14 @@ use crate::copied::{Copied, bring_once};
 use ciel_store::loss::Loss;
 use ciel_store::seats::Eye;
 use ciel_store::shelves::Shelves;
-use ciel_task_inputs::index::find;
-use ciel_task_order::block::{Block, Held};
+use ciel_task_inputs::places::Places;
+use ciel_task_order::block::Block;
 use ciel_task_order::ready::ReadyJob;
 use sky_base::name::Name;
 use sky_base::object::Object;
 use sky_base::text::Memory;
 use sky_machine_through::find::Finds;
 use std::alloc::Global;
-use std::collections::BTreeMap;
 use std::sync::Wait;
 
 /// The object of this name lay at a worker that is lost.
@@ -28,28 +27,26 @@ pub struct Lost {
     pub loss: Loss,
 }
 
-/// The objects that an order brings along, by the places of their names, for the worker that performs it; and what was copied to that
-/// worker's shelf so far. Where `find` answers `Memory`, it is as `bring_once` says: the eye is as it was, and what was copied may only be
-/// dropped.
+/// The objects that an order brings along, by their names, for the worker that performs it; and what was copied to that worker's shelf so
+/// far. Where `find` answers `Memory`, it is as `bring_once` says: the eye is as it was, and what was copied may only be dropped.
 #[derive(Drop)]
-pub struct Brought<'a, R> {
+pub struct Brought<'a, 'h, R> {
     pub rt: &'a R,
     pub job: &'a ReadyJob,
     pub shelves: &'a Shelves<Block>,
     pub worker: u32,
-    pub held: &'a [Held],
-    pub places: &'a BTreeMap<Name, usize>,
+    pub held: &'a Places<'h>,
     pub eye: &'a mut Eye,
     pub copied: &'a mut Copied,
 }
 
-impl<'a, R: Wait> Finds for Brought<'a, R> {
+impl<'a, 'h, R: Wait> Finds for Brought<'a, 'h, R> {
     type Refusal = Lost;
 
     ghost finds = { λ b. lies_known (job_view b.job.now).inputs b.held.now };
 
-    ghost ready = { λ b. CanBring b.shelves.now b.worker (job_view b.job.now).script (job_view b.job.now).inputs b.held.now b.places.now
-        b.eye.now b.copied.now };
+    ghost ready = { λ b. CanBring b.shelves.now b.worker (job_view b.job.now).script (job_view b.job.now).inputs b.held.now b.eye.now
+        b.copied.now };
 
     ghost Stays = { Stays };
 
@@ -73,7 +70,7 @@ impl<'a, R: Wait> Finds for Brought<'a, R> {
     ghost refuses = { λ b r. IsLost b.held.now r.name r.loss b.eye.now };
 
     fn has(&self, name: &Name) -> bool {
-        find(self.held, self.places, name).is_some()
+        self.held.find(name).is_some()
     }
 
     fn find(&mut self, _alloc: Global, name: &Name) -> Result<Result<Object, Lost>, Memory> {
@@ -83,7 +80,6 @@ impl<'a, R: Wait> Finds for Brought<'a, R> {
             self.shelves,
             self.worker,
             self.held,
-            self.places,
             name,
             self.eye,
             self.copied,

@@ -16,7 +16,7 @@ use ciel_store::seats::Eye;
 use ciel_store::shelves::{Gone, Shelves};
 use ciel_task_inputs::bring::bring;
 use ciel_task_inputs::fetch::fetch;
-use ciel_task_inputs::index::find;
+use ciel_task_inputs::places::Places;
 use ciel_task_order::block::{Block, Held};
 use ciel_task_order::ready::ReadyJob;
 use sky_base::name::Name;
@@ -56,13 +56,11 @@ pub fn bring_once<R: Wait>(
     job: &ReadyJob,
     shelves: &Shelves<Block>,
     worker: u32,
-    held: &[Held],
-    places: &BTreeMap<Name, usize>,
+    held: &Places<'_>,
     name: &Name,
     eye: &mut Eye,
     copied: &mut Copied,
 ) -> Result<Result<Object, Gone>, Memory>
-    requires index { IsIndex held_name places.now held.now }
     requires spots { Each (λ (h : Held). SpotSound shelves.now (job_view job.now).script (length (job_view job.now).inputs) h.at) held.now }
     requires there { IsSome (lies_of (job_view job.now).inputs held.now name.now) }
     requires eye { eye.old.of ≡ shelves.now.of }
@@ -76,7 +74,7 @@ pub fn bring_once<R: Wait>(
         (λ _. names_in copied.new.items.items ≡ told_next worker held.now (names_in copied.old.items.items) name.now)
         (λ _. names_in copied.new.items.items ≡ names_in copied.old.items.items)) }
 {
-    let Some(one) = find(held, places, name) else {
+    let Some(one) = held.find(name) else {
         unreachable!()
     };
     if copied.places.contains_key(name) {

@@ -24,17 +24,15 @@ use crate::through::run_through;
 use ciel_name::name::Namer;
 use ciel_name_law::read::read_all;
 use ciel_store::seats::Eye;
-use ciel_task_inputs::index::index;
+use ciel_task_inputs::places::Places;
 use ciel_task_order::block::Held;
 use ciel_task_order::order::Order;
 use ciel_task_order::report::Report;
 use ciel_task_order::shop::Shop;
 use sky_base::kit::Kit;
-use sky_base::name::Name;
 use sky_base::text::Memory;
 use sky_state::state::State;
 use std::alloc::Global;
-use std::collections::BTreeMap;
 use std::sync::Wait;
 
 /// Performs an order of a call or of the root task: from its stack or its start it goes on through each wait whose objects the order
@@ -115,18 +113,9 @@ fn go_on<K, N: Namer, R: Wait>(
     ensures ran { IfOk result (Ran (N.digest shop.now.namer) shop.now.shelves (job_view shop.now.job).script (job_view shop.now.job).inputs
         order.now eye.new) }
 {
-    let places = index(alloc, order.inputs.as_slice())?;
+    let held = Places::new(alloc, order.inputs.as_slice());
     let mut copied = Copied::new(alloc);
-    let went = through(
-        rt,
-        alloc,
-        shop,
-        order,
-        &places,
-        &mut state,
-        eye,
-        &mut copied,
-    )?;
+    let went = through(rt, alloc, shop, order, &held, &mut state, eye, &mut copied)?;
     match went {
         Ok(step) => {
             let report = came_to(rt, alloc, shop, order, step, state, copied.items)?;
@@ -137,12 +126,12 @@ fn go_on<K, N: Namer, R: Wait>(
 }
 
 // The task goes through its waits as far as the order brings along what it waits for. What was copied is noted.
-fn through<'a, K, N: Namer, R: Wait>(
+fn through<'a, 'h, K, N: Namer, R: Wait>(
     rt: &'a R,
     alloc: Global,
     shop: &'a Shop<K, N>,
     order: &'a Order,
-    places: &'a BTreeMap<Name, usize>,
+    held: &'a Places<'h>,
     state: &mut State,
     eye: &'a mut Eye,
     copied: &'a mut Copied,
@@ -150,7 +139,7 @@ fn through<'a, K, N: Namer, R: Wait>(
     requires sound { OrderSound (N.digest shop.now.namer) shop.now.shelves (job_view shop.now.job).script (length (job_view shop.now.job).inputs)
         order.now }
     requires read { IsRead (job_view shop.now.job).script }
-    requires index { IsIndex held_name places.now order.now.inputs.items }
+    requires list { held.now ≡ order.now.inputs.items }
     requires begins { BeginsAt (job_view shop.now.job).script order.now (stand_of state.old) }
     requires spawned { spawned_of state.old ≡ [] }
     requires eye { eye.old.of ≡ shop.now.shelves.of }
@@ -167,8 +156,7 @@ fn through<'a, K, N: Namer, R: Wait>(
         job: &shop.job,
         shelves: &shop.shelves,
         worker: order.worker,
-        held: order.inputs.as_slice(),
-        places,
+        held,
         eye,
         copied,
     };

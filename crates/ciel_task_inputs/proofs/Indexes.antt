@@ -42,7 +42,8 @@ module _ {X : Type 0} (name : X → List ℕ) where
       go None g u = index_more name old new xs x k i s l h (sym (h k) ∙ g) u
       go (Some j) g e = subst (λ m. IsIndex name m (xs ++ x ∷ [])) (sym e) (index_old old xs x k j s h (sym (h k) ∙ g))
 
-  take_next : (xs : List X) (i : ℕ) (x : X) → i < length xs → x ≡ get_or xs i x → take (i + 1) xs ≡ take i xs ++ x ∷ []
+  -- one more entry
+  pub take_next : (xs : List X) (i : ℕ) (x : X) → i < length xs → x ≡ get_or xs i x → take (i + 1) xs ≡ take i xs ++ x ∷ []
   take_next [] i x h e = absurd (omega (arith, h))
   take_next (y ∷ xs) zero x h e = ap (λ z. z ∷ []) (sym e)
   take_next (y ∷ xs) (suc i) x h e =

@@ -1,5 +1,6 @@
 pub mod GatheredInputs
 pub mod Indexes
+pub mod NamedEntries
 pub mod NameSpots
 pub mod BroughtInputs
 pub mod CopiedObjects

@@ -9,3 +9,4 @@ pub mod fetch;
 pub mod gather;
 pub mod index;
 pub mod law;
+pub mod places;

@@ -1,7 +1,13 @@
+use Rattle.std.proofs.Common.{subst, sym}
 use Rattle.sky_state.specs.StateView.{stand_of, spawned_of}
+use Rattle.ciel_table.specs.Named.{IsOnce}
+use Rattle.ciel_task_inputs.specs.Lies.{held_name}
 use Rattle.ciel_task_call.specs.Runs.{went}
 use Rattle.ciel_task_call.proofs.RunOutcome.{ran_lost, went_of}
 use Rattle.ciel_task_call.proofs.task.go_on.Goals as goal
+
+pub new-held-requires : goal.new-held-requires
+new-held-requires g c = record { once = subst (IsOnce held_name) (sym c.as_slice.ensures.value) c.requires.sound.distinct }
 
 pub returns-in_ok-report-in-Ok-clause-ran : goal.returns-in_ok-report-in-Ok-clause-ran
 returns-in_ok-report-in-Ok-clause-ran g c =
