@@ -8,7 +8,7 @@ use Rattle.sky_base.specs.StmtView.{arms_view, stms_view}
 use Rattle.sky_base.specs.declared.tree.Join.{Join}
 use Rattle.sky_base.specs.declared.stmt.Arm.{Arm}
 use Rattle.sky_base.specs.declared.stmt.Stmt.{Stmt}
-use Rattle.sky_base_law.specs.Opened.{Node, HasSteps}
+use Rattle.sky_base_law.specs.Opened.{Node, HasSteps, HasStms}
 use Rattle.sky_base_law.proofs.Lists.{some_is}
 use Rattle.sky_state.specs.Table.{on_by, past_part, past_link, past_and, past_arm, past_stm, Spot, finished, in_index, in_call, spot_of, past_spot}
 use Rattle.sky_frozen_fits.specs.Rows.{HasSpot}
@@ -95,3 +95,8 @@ module _ (at : ℕ → Option Node) where
 
   pub spot_left : (x y : Spot) → past_spot x ≡ Some y → HasSpot at x → HasSpot at y
   spot_left x y e h = past_has x y e h
+
+-- what stands behind the first of a block's statements stands where that one ends
+pub stms_left : (at : ℕ → Option Node) (m next : ℕ) (a : Stm) (xs more : Stms) → xs ≡ Stms.stm a more → next ≡ m + stm_nodes a → HasStms at xs m
+    → HasStms at more next
+stms_left at m next a xs more g f h = subst (HasStms at more) (sym f) (subst (λ y. HasStms at y m) g h).1

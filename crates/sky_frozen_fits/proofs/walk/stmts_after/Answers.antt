@@ -2,8 +2,7 @@ use Rattle.std.proofs.Common.{ap}
 use Rattle.sky_base.specs.StmtView.{stm_view, stms_view}
 use Rattle.sky_base_law.specs.Nodes.{node_at}
 use Rattle.sky_state.specs.Table.{past_stm}
-use Rattle.sky_machine_open.proofs.Places.{stms_left}
-use Rattle.sky_frozen_fits.proofs.Walks.{on_more, on_none, none_stm, one_stm}
+use Rattle.sky_frozen_fits.proofs.Walks.{on_more, on_none, none_stm, one_stm, stms_left}
 use Rattle.sky_frozen_fits.proofs.walk.stmts_after.Goals as goal
 
 pub returns-in_default-clause-place : goal.returns-in_default-clause-place
