@@ -10,6 +10,7 @@ ghost use Rattle.ciel_run_log.specs.declared.why.Why.{Why};
 
 use ciel_gate::open::Open;
 use ciel_io::host::{HostErr, HostFiles, HostOut};
+use ciel_io::host_keep::HostKeep;
 use ciel_run::top::ciel_main;
 use ciel_run_log::message::put_message;
 use ciel_run_log::why::Why;
@@ -85,8 +86,9 @@ where
         return refused(&Why::Memory, &mut log);
     };
     let mut files = HostFiles::new(&rt);
+    let mut keep = HostKeep::new(rt);
     ciel_main(
-        rt, alloc, &words, &mut files, &mut out, &mut log, &mut gates,
+        rt, alloc, &words, &mut files, &mut out, &mut log, &mut gates, &mut keep,
     )
     .status
 }

@@ -169,6 +169,8 @@ end_script w source inputs (Why.Endless names) m = (m.0, m.1, tt)
 end_script w source inputs Why.AllLost m = m
 end_script w source inputs (Why.NameClash kept given) m = m
 end_script w source inputs (Why.TooDeepPlain depth) m = (m.0, m.1, tt)
+end_script w source inputs (Why.LogFull path held) m = (m.1.1.0, m.1.1.1, tt)
+end_script w source inputs (Why.KeepFault path) m = absurd m
 end_script w source inputs Why.Usage m = absurd m
 end_script w source inputs (Why.Syntax kind l c) m = absurd m
 end_script w source inputs (Why.ReadFault path) m = absurd m
@@ -209,6 +211,8 @@ refused_so w source inputs end x h why y = of why y
     of Why.AllLost y = absurd (no_end w source inputs Why.AllLost none y.1)
     of (Why.NameClash kept given) y = absurd (no_end w source inputs (Why.NameClash kept given) none y.1)
     of (Why.TooDeepPlain depth) y = absurd (no_end w source inputs (Why.TooDeepPlain depth) none y.1)
+    of (Why.LogFull path held) y = absurd (no_end w source inputs (Why.LogFull path held) none y.1)
+    of (Why.KeepFault path) y = absurd y.1
     of Why.Usage y = absurd y.1
     of (Why.ReadFault path) y = absurd y.1
     of Why.WriteFault y = absurd y.1
@@ -250,6 +254,9 @@ script_ends w source inputs script s h (Why.TooMany held (Some given)) y = tt
 script_ends w source inputs script s h Why.AllLost y = tt
 script_ends w source inputs script s h (Why.NameClash kept given) y = tt
 script_ends w source inputs script s h (Why.TooDeepPlain depth) y = as_script source inputs script (λ j. (d : Desc) × Chain j over_lines 4096 d) s y.1
+script_ends w source inputs script s h (Why.LogFull path held) y =
+    (y.1.1.0, as_script source inputs script (λ j. Means j over_lines (Answered.bytes y.1.1.0)) s y.1.1.1)
+script_ends w source inputs script s h (Why.KeepFault path) y = absurd y.1
 script_ends w source inputs script s h Why.Memory y = tt
 script_ends w source inputs script s h (Why.Syntax kind l c) y =
     absurd (no_script source (Why.Syntax kind l c) (keys_of inputs) script (of_syntax source kind l c y.1) s)
@@ -288,6 +295,8 @@ module _ (w : Words) (f : files.Line) (is : files_of w ≡ Some f) (source : Lis
       of Why.AllLost y = absurd (unfit y.0)
       of (Why.NameClash kept given) y = absurd (unfit y.0)
       of (Why.TooDeepPlain depth) y = absurd (unfit y.0)
+      of (Why.LogFull path held) y = absurd (unfit y.0)
+      of (Why.KeepFault path) y = absurd y.1
       of Why.Usage y = absurd y.1
       of (Why.ReadFault path) y = absurd y.1
       of Why.WriteFault y = absurd y.1

@@ -2,3 +2,4 @@ pub mod Exact
 mod Over
 mod Modest
 mod Headline
+mod Troubles

@@ -25,7 +25,7 @@ use Rattle.ciel_run_line.specs.Runs.{IsDriven, IsModestFor, digest_of, plan_of, 
 use Rattle.ciel_run_line.specs.Source.{OfJob, job_of, over_lines}
 use Rattle.ciel_run_log.specs.declared.why.Why.{Why}
 use Rattle.ciel_run.proofs.Exact.{same_script, script_is_run}
-use Rattle.ciel_run.proofs.Over.{source_of, too_long_in}
+use Rattle.ciel_run.proofs.Over.{Begun, source_of, too_long_in}
 
 -- ---- distinct members of a list are no more than it has
 
@@ -107,21 +107,23 @@ module _ (w : Words) (job : s.Job) (J : List Entry) where
     has : (end : RunEnd) → EndsSo (digest_of w.names) job gives (plan_of w) J end → HasAnswer end
     has end e = laws (digest_of w.names) job gives orderly (plan_of w) m stays J end e
 
-    pub no_other : (why : Why) → JobCause w J job why → IsAnswered w.plain why
-    no_other (Why.Fault fault) c = tt
-    no_other Why.Memory c = tt
-    no_other (Why.TooDeepPlain depth) c = c.0
-    no_other (Why.Endless names) c = has (RunEnd.Endless names) (record { driven = d; cause = (c.1, c.2, c.3) })
-    no_other (Why.TooMany held None) c = not_many (digest_of w.names) job m c.2
-    no_other (Why.TooMany held (Some given)) c = has (RunEnd.TooMany held given) (record { driven = d; cause = (c.2.0, sym c.2.1, c.2.2) })
-    no_other Why.AllLost c = has RunEnd.AllLost (record { driven = d; cause = c.1 })
-    no_other (Why.NameClash kept given) c = has (RunEnd.NameClash kept given) (record { driven = d; cause = c.1 })
-    no_other Why.Done c = tt
-    no_other Why.Usage c = c
-    no_other (Why.Syntax kind line col) c = c
-    no_other (Why.ReadFault path) c = c
-    no_other Why.WriteFault c = c
-    no_other (Why.TooLongInput path at) c = c
+    pub no_other : (why : Why) → Begun why → JobCause w J job why → IsAnswered w.plain why
+    no_other (Why.Fault fault) n c = tt
+    no_other Why.Memory n c = tt
+    no_other (Why.TooDeepPlain depth) n c = c.0
+    no_other (Why.Endless names) n c = has (RunEnd.Endless names) (record { driven = d; cause = (c.1, c.2, c.3) })
+    no_other (Why.TooMany held None) n c = not_many (digest_of w.names) job m c.2
+    no_other (Why.TooMany held (Some given)) n c = has (RunEnd.TooMany held given) (record { driven = d; cause = (c.2.0, sym c.2.1, c.2.2) })
+    no_other Why.AllLost n c = has RunEnd.AllLost (record { driven = d; cause = c.1 })
+    no_other (Why.NameClash kept given) n c = has (RunEnd.NameClash kept given) (record { driven = d; cause = c.1 })
+    no_other Why.Done n c = tt
+    no_other Why.Usage n c = c
+    no_other (Why.Syntax kind line col) n c = c
+    no_other (Why.ReadFault path) n c = c
+    no_other Why.WriteFault n c = c
+    no_other (Why.TooLongInput path at) n c = c
+    no_other (Why.LogFull path held) n c = absurd c
+    no_other (Why.KeepFault path) n c = absurd (n path refl)
 
 -- ---- of a line
 
@@ -145,14 +147,14 @@ module _ (content : List ℕ → Option (List ℕ)) (w : Words) (risen : Type 0)
         of (inl e) = driven_or w job J (inl e)
         of (inr x) = same_job source inputs (λ j. DrivenJournal (told_of w j) (plan_of w) J) m.0 m.1 x
 
-    one : (why : Why) → JobCause w J job why → IsAnswered w.plain why
-    one why c = no_other w job J laws (functions source (keys_of inputs) m.0 m.1) m.2 stays d why c
+    one : (why : Why) → Begun why → JobCause w J job why → IsAnswered w.plain why
+    one why n c = no_other w job J laws (functions source (keys_of inputs) m.0 m.1) m.2 stays d why n c
 
-    pub answered : (why : Why) → OfJob source inputs (λ j. JobCause w J j why) → IsAnswered w.plain why
-    answered why o = one why (same_job source inputs (λ j. JobCause w J j why) m.0 m.1 o)
+    pub answered : (why : Why) → Begun why → OfJob source inputs (λ j. JobCause w J j why) → IsAnswered w.plain why
+    answered why n o = one why n (same_job source inputs (λ j. JobCause w J j why) m.0 m.1 o)
 
     pub lost_answered : JobCause w J job Why.AllLost → IsAnswered w.plain Why.AllLost
-    lost_answered c = one Why.AllLost c
+    lost_answered c = one Why.AllLost (λ path e. absurd cc) c
 
   -- bytes that are a script within the limits are refused neither as none nor as too long
   no_syntax : (kind : SyntaxKind) (l c : ℕ) → CauseOf content w risen J (Why.Syntax kind l c) → (source : List ℕ) (inputs : List Input)
@@ -168,24 +170,26 @@ module _ (content : List ℕ → Option (List ℕ)) (w : Words) (risen : Type 0)
       script_is_run w source inputs script is fits (Why.TooLongInput path at)
       (too_long_in content w (files_of w) w.generate source inputs path at st x)
 
-  pub answers : (why : Why) → EndCause content w risen J why → ¬ risen → (why ≡ Why.WriteFault → ⊥)
+  pub answers : (why : Why) → EndCause content w risen J why → ¬ risen → (why ≡ Why.WriteFault → ⊥) → Begun why
       → OfLine content w (λ source inputs. IsDriven w source inputs J)
       → OfLine content w (λ source inputs. Answers w source inputs why)
-  answers Why.Done c quiet nw dr source inputs st fits m stays = tt
-  answers Why.WriteFault c quiet nw dr source inputs st fits m stays = absurd (nw refl)
-  answers Why.Memory c quiet nw dr source inputs st fits m stays = tt
-  answers (Why.Fault fault) c quiet nw dr source inputs st fits m stays = tt
-  answers (Why.TooDeepPlain depth) c quiet nw dr source inputs st fits m stays = c.0
-  answers (Why.Endless names) c quiet nw dr source inputs st fits m stays =
-      answered source inputs m stays (dr source inputs st) (Why.Endless names) (c.2 source inputs st).1
-  answers (Why.TooMany held None) c quiet nw dr source inputs st fits m stays =
-      answered source inputs m stays (dr source inputs st) (Why.TooMany held None) (c.1 source inputs st).1
-  answers (Why.TooMany held (Some given)) c quiet nw dr source inputs st fits m stays =
-      answered source inputs m stays (dr source inputs st) (Why.TooMany held (Some given)) (c.1 source inputs st).1
-  answers (Why.NameClash kept given) c quiet nw dr source inputs st fits m stays =
-      answered source inputs m stays (dr source inputs st) (Why.NameClash kept given) (c.1 source inputs st).1
-  answers Why.AllLost c quiet nw dr source inputs st fits m stays = lost_answered source inputs m stays (dr source inputs st) (c.0, c.1)
-  answers (Why.Syntax kind l k) c quiet nw dr source inputs st fits m stays = absurd (no_syntax kind l k c source inputs st fits m.0 m.1)
-  answers (Why.TooLongInput path at) c quiet nw dr source inputs st fits m stays = absurd (no_too_long path at c source inputs st fits m.0 m.1)
-  answers (Why.ReadFault path) c quiet nw dr source inputs st fits m stays = absurd (quiet c.1)
-  answers Why.Usage c quiet nw dr source inputs st fits m stays = absurd c
+  answers Why.Done c quiet nw bg dr source inputs st fits m stays = tt
+  answers Why.WriteFault c quiet nw bg dr source inputs st fits m stays = absurd (nw refl)
+  answers Why.Memory c quiet nw bg dr source inputs st fits m stays = tt
+  answers (Why.Fault fault) c quiet nw bg dr source inputs st fits m stays = tt
+  answers (Why.TooDeepPlain depth) c quiet nw bg dr source inputs st fits m stays = c.0
+  answers (Why.Endless names) c quiet nw bg dr source inputs st fits m stays =
+      answered source inputs m stays (dr source inputs st) (Why.Endless names) bg (c.2 source inputs st).1
+  answers (Why.TooMany held None) c quiet nw bg dr source inputs st fits m stays =
+      answered source inputs m stays (dr source inputs st) (Why.TooMany held None) bg (c.1 source inputs st).1
+  answers (Why.TooMany held (Some given)) c quiet nw bg dr source inputs st fits m stays =
+      answered source inputs m stays (dr source inputs st) (Why.TooMany held (Some given)) bg (c.1 source inputs st).1
+  answers (Why.NameClash kept given) c quiet nw bg dr source inputs st fits m stays =
+      answered source inputs m stays (dr source inputs st) (Why.NameClash kept given) bg (c.1 source inputs st).1
+  answers Why.AllLost c quiet nw bg dr source inputs st fits m stays = lost_answered source inputs m stays (dr source inputs st) (c.0, c.1)
+  answers (Why.Syntax kind l k) c quiet nw bg dr source inputs st fits m stays = absurd (no_syntax kind l k c source inputs st fits m.0 m.1)
+  answers (Why.TooLongInput path at) c quiet nw bg dr source inputs st fits m stays = absurd (no_too_long path at c source inputs st fits m.0 m.1)
+  answers (Why.ReadFault path) c quiet nw bg dr source inputs st fits m stays = absurd (quiet c.1)
+  answers Why.Usage c quiet nw bg dr source inputs st fits m stays = absurd c
+  answers (Why.LogFull path held) c quiet nw bg dr source inputs st fits m stays = c.0
+  answers (Why.KeepFault path) c quiet nw bg dr source inputs st fits m stays = absurd (bg path refl)

@@ -27,7 +27,7 @@ use Rattle.ciel_words.specs.Line.{line_of}
 use Rattle.ciel_words.specs.declared.words.Words.{Words}
 use Rattle.line_kit.specs.Gives.{gives}
 use Rattle.ciel_run_line.specs.Causes.{CauseOf, Clashes, GoesRound, HasTooMany, IsTooDeep, JobCause, OfRun, TooLongOf}
-use Rattle.ciel_run.specs.Ending.{Answers, ComesBy, EndCause, HasRun, IfEndless, IfNameClash, IfReadFault, IfTooDeep, IfTooMany, IsAnswered}
+use Rattle.ciel_run.specs.Ending.{Answers, ComesBy, EndCause, HasRun, IfEndless, IfKeepFault, IfNameClash, IfReadFault, IfTooDeep, IfTooMany, IsAnswered}
 use Rattle.ciel_run.specs.Ending.{IsExpected, MayEnd, TellsParts, TooLongIn, Writes, WritesAnswer, WritesPart}
 use Rattle.ciel_run_line.specs.Asked.{StopsFor}
 use Rattle.ciel_run_line.specs.Line.{FitsIn, OfLine, OfSource, OverFiles, SourceFits, SourceIn, StandsIn, files_of, is_plain, paths}
@@ -75,7 +75,7 @@ risen_since a f z k (inr r) = inr r
 -- ---- two texts on the log
 
 module _ (b m n : Option (List ℕ)) (text more : List ℕ) where
-  parts : TellsPart b m text → TellsPart m n more → TellsParts b n text more
+  pub parts : TellsPart b m text → TellsPart m n more → TellsParts b n text more
   parts x y = (x.0, y.0, tells_more b m n (take x.0 text) (take y.0 more) x.1 y.1)
 
   part_then : {T E : Type 0} (r : Result T E) → OnOk r (Tells b m text) → OnErr r (TellsPart b m text) → TellsPart b m text
@@ -105,6 +105,13 @@ module _ (b m n : Option (List ℕ)) (text more : List ℕ) where
 
 -- ---- what is written
 
+-- a log that couldn't be begun isn't why a call ends
+abbrev pub Begun : Why → Type 0
+Begun why = (path : List ℕ) → why ≡ Why.KeepFault path → ⊥
+
+pub begun_of : (risen : Type 0) (why : Why) → IfKeepFault why (λ path. risen) → ¬ risen → Begun why
+begun_of risen why f quiet path e = quiet (subst (λ (y : Why). IfKeepFault y (λ p. risen)) e f)
+
 module _ (content : List ℕ → Option (List ℕ)) (w : Words) where
   -- the answer that is written is that of the script over the inputs
   pub writes : (b n : Option (List ℕ)) → Writes content w (Tells b n) → OfLine content w (λ source inputs. WritesAnswer w source inputs b n)
@@ -130,48 +137,53 @@ module _ (content : List ℕ → Option (List ℕ)) (w : Words) where
 
   module _ (risen : Type 0) (J : List Entry) where
     -- each end that isn't an answer written, by its cause
-    expected_of : (why : Why) → CauseOf content w risen J why → ¬ risen → (why ≢ Why.WriteFault)
+    expected_of : (why : Why) → CauseOf content w risen J why → ¬ risen → (why ≢ Why.WriteFault) → Begun why
         → OfLine content w (λ source inputs. IsExpected w source inputs why)
-    expected_of (Why.Syntax kind l c) x quiet nw source inputs st = x source (source_of (files_of w) w.generate source inputs st)
-    expected_of (Why.TooLongInput path at) x quiet nw source inputs st = too_long_in (files_of w) w.generate source inputs path at st x
-    expected_of Why.Memory x quiet nw source inputs st = tt
-    expected_of (Why.Fault fault) x quiet nw source inputs st = x source inputs st
-    expected_of (Why.Endless names) x quiet nw source inputs st =
+    expected_of (Why.Syntax kind l c) x quiet nw bg source inputs st = x source (source_of (files_of w) w.generate source inputs st)
+    expected_of (Why.TooLongInput path at) x quiet nw bg source inputs st = too_long_in (files_of w) w.generate source inputs path at st x
+    expected_of Why.Memory x quiet nw bg source inputs st = tt
+    expected_of (Why.Fault fault) x quiet nw bg source inputs st = x source inputs st
+    expected_of (Why.Endless names) x quiet nw bg source inputs st =
         let y = x.2 source inputs st in (y.0, (y.1.0, y.1.1, y.1.2.2))
-    expected_of (Why.TooMany held None) x quiet nw source inputs st =
+    expected_of (Why.TooMany held None) x quiet nw bg source inputs st =
         let y = x.1 source inputs st in (y.0, (y.1.0, y.1.1, y.1.2.2))
-    expected_of (Why.TooMany held (Some given)) x quiet nw source inputs st =
+    expected_of (Why.TooMany held (Some given)) x quiet nw bg source inputs st =
         let y = x.1 source inputs st in (y.0, (y.1.0, y.1.1, tt))
-    expected_of Why.AllLost x quiet nw source inputs st = x.2 source inputs st
-    expected_of (Why.NameClash kept given) x quiet nw source inputs st =
+    expected_of Why.AllLost x quiet nw bg source inputs st = x.2 source inputs st
+    expected_of (Why.NameClash kept given) x quiet nw bg source inputs st =
         let y = x.1 source inputs st in (y.0, (y.1.0, y.1.1, tt))
-    expected_of (Why.TooDeepPlain depth) x quiet nw source inputs st =
+    expected_of (Why.TooDeepPlain depth) x quiet nw bg source inputs st =
         let y = x.1 source inputs st in (y.0, (y.1.0, y.1.1, y.1.2.2))
-    expected_of (Why.ReadFault path) x quiet nw source inputs st = absurd (quiet x.1)
-    expected_of Why.Done x quiet nw source inputs st = absurd x
-    expected_of Why.Usage x quiet nw source inputs st = absurd x
-    expected_of Why.WriteFault x quiet nw source inputs st = absurd x
+    expected_of (Why.ReadFault path) x quiet nw bg source inputs st = absurd (quiet x.1)
+    expected_of (Why.KeepFault path) x quiet nw bg source inputs st = absurd (bg path refl)
+    expected_of (Why.LogFull path held) x quiet nw bg source inputs st = absurd x
+    expected_of Why.Done x quiet nw bg source inputs st = absurd x
+    expected_of Why.Usage x quiet nw bg source inputs st = absurd x
+    expected_of Why.WriteFault x quiet nw bg source inputs st = absurd x
 
     done_expected : (b n : Option (List ℕ)) → Writes content w (Tells b n) → OfLine content w (λ source inputs. IsExpected w source inputs Why.Done)
     done_expected b n x source inputs st = ((x.1 source inputs st).0, (x.0, (x.1 source inputs st).1))
 
     pub expected : (why : Why) (b n : Option (List ℕ)) → EndCause content w risen J why → (why ≡ Why.Done → Writes content w (Tells b n))
-        → ¬ risen → (why ≡ Why.WriteFault → ⊥)
+        → ¬ risen → (why ≡ Why.WriteFault → ⊥) → Begun why
         → OfLine content w (λ source inputs. IsExpected w source inputs why)
-    expected Why.Done b n c d quiet nw = done_expected b n (d refl)
-    expected Why.WriteFault b n c d quiet nw = absurd (nw refl)
-    expected (Why.Syntax kind l k) b n c d quiet nw = expected_of (Why.Syntax kind l k) c quiet nw
-    expected (Why.TooLongInput path at) b n c d quiet nw = expected_of (Why.TooLongInput path at) c quiet nw
-    expected Why.Memory b n c d quiet nw = expected_of Why.Memory c quiet nw
-    expected (Why.Fault fault) b n c d quiet nw = expected_of (Why.Fault fault) c quiet nw
-    expected (Why.Endless names) b n c d quiet nw = expected_of (Why.Endless names) c quiet nw
-    expected (Why.TooMany held None) b n c d quiet nw = expected_of (Why.TooMany held None) c quiet nw
-    expected (Why.TooMany held (Some given)) b n c d quiet nw = expected_of (Why.TooMany held (Some given)) c quiet nw
-    expected Why.AllLost b n c d quiet nw = expected_of Why.AllLost c quiet nw
-    expected (Why.NameClash kept given) b n c d quiet nw = expected_of (Why.NameClash kept given) c quiet nw
-    expected (Why.TooDeepPlain depth) b n c d quiet nw = expected_of (Why.TooDeepPlain depth) c quiet nw
-    expected (Why.ReadFault path) b n c d quiet nw = expected_of (Why.ReadFault path) c quiet nw
-    expected Why.Usage b n c d quiet nw = expected_of Why.Usage c quiet nw
+    expected Why.Done b n c d quiet nw bg = done_expected b n (d refl)
+    expected Why.WriteFault b n c d quiet nw bg = absurd (nw refl)
+    expected (Why.Syntax kind l k) b n c d quiet nw bg = expected_of (Why.Syntax kind l k) c quiet nw bg
+    expected (Why.TooLongInput path at) b n c d quiet nw bg = expected_of (Why.TooLongInput path at) c quiet nw bg
+    expected Why.Memory b n c d quiet nw bg = expected_of Why.Memory c quiet nw bg
+    expected (Why.Fault fault) b n c d quiet nw bg = expected_of (Why.Fault fault) c quiet nw bg
+    expected (Why.Endless names) b n c d quiet nw bg = expected_of (Why.Endless names) c quiet nw bg
+    expected (Why.TooMany held None) b n c d quiet nw bg = expected_of (Why.TooMany held None) c quiet nw bg
+    expected (Why.TooMany held (Some given)) b n c d quiet nw bg = expected_of (Why.TooMany held (Some given)) c quiet nw bg
+    expected Why.AllLost b n c d quiet nw bg = expected_of Why.AllLost c quiet nw bg
+    expected (Why.NameClash kept given) b n c d quiet nw bg = expected_of (Why.NameClash kept given) c quiet nw bg
+    expected (Why.TooDeepPlain depth) b n c d quiet nw bg = expected_of (Why.TooDeepPlain depth) c quiet nw bg
+    expected (Why.ReadFault path) b n c d quiet nw bg = expected_of (Why.ReadFault path) c quiet nw bg
+    expected Why.Usage b n c d quiet nw bg = expected_of Why.Usage c quiet nw bg
+    expected (Why.KeepFault path) b n c d quiet nw bg = absurd (bg path refl)
+    expected (Why.LogFull path held) b n c d quiet nw bg =
+        λ source inputs st. ((c.2.1 source inputs st).0, (c.1, (c.2.0, (c.2.1 source inputs st).1)))
 
 -- ---- causes, of the words
 
@@ -194,6 +206,8 @@ module _ (content : List ℕ → Option (List ℕ)) (words : List (List ℕ)) (l
   too_deep (Why.TooDeepPlain depth) c =
       over_line words line (λ w. OfLine content w (λ source inputs. OfJob source inputs (λ job. IsTooDeep w J job depth))) e
       (λ source inputs st. (c.1 source inputs st).1)
+  too_deep (Why.KeepFault path) c = tt
+  too_deep (Why.LogFull path held) c = tt
 
   pub read_fault : (why : Why) → EndCause content line risen J why → IfReadFault why (λ path. Contains (paths (line_of words)) path × risen)
   read_fault Why.Done c = tt
@@ -209,6 +223,8 @@ module _ (content : List ℕ → Option (List ℕ)) (words : List (List ℕ)) (l
   read_fault Why.Memory c = tt
   read_fault (Why.TooLongInput path at) c = tt
   read_fault (Why.TooDeepPlain depth) c = tt
+  read_fault (Why.KeepFault path) c = tt
+  read_fault (Why.LogFull path held) c = tt
 
   pub endless : (why : Why) → EndCause content line risen J why
       → IfEndless why (λ names. OverFiles content words (λ w source inputs. OfJob source inputs (λ job. GoesRound w J job names)))
@@ -228,6 +244,8 @@ module _ (content : List ℕ → Option (List ℕ)) (words : List (List ℕ)) (l
   endless Why.Memory c = tt
   endless (Why.TooLongInput path at) c = tt
   endless (Why.TooDeepPlain depth) c = tt
+  endless (Why.KeepFault path) c = tt
+  endless (Why.LogFull path held) c = tt
 
   pub too_many : (why : Why) → EndCause content line risen J why
       → IfTooMany why (λ held given. OverFiles content words (λ w source inputs. OfJob source inputs (λ job. HasTooMany w J job held given)))
@@ -249,6 +267,8 @@ module _ (content : List ℕ → Option (List ℕ)) (words : List (List ℕ)) (l
   too_many Why.Memory c = tt
   too_many (Why.TooLongInput path at) c = tt
   too_many (Why.TooDeepPlain depth) c = tt
+  too_many (Why.KeepFault path) c = tt
+  too_many (Why.LogFull path held) c = tt
 
   pub name_clash : (why : Why) → EndCause content line risen J why
       → IfNameClash why (λ kept given. OverFiles content words (λ w source inputs. OfJob source inputs (λ job. Clashes w J job kept given)))
@@ -268,6 +288,8 @@ module _ (content : List ℕ → Option (List ℕ)) (words : List (List ℕ)) (l
   name_clash Why.Memory c = tt
   name_clash (Why.TooLongInput path at) c = tt
   name_clash (Why.TooDeepPlain depth) c = tt
+  name_clash (Why.KeepFault path) c = tt
+  name_clash (Why.LogFull path held) c = tt
 
   pub distinct : (why : Why) → EndCause content line risen J why → IfEndless why (IsDistinct same_text)
   distinct Why.Done c = tt
@@ -284,6 +306,8 @@ module _ (content : List ℕ → Option (List ℕ)) (words : List (List ℕ)) (l
   distinct Why.Memory c = tt
   distinct (Why.TooLongInput path at) c = tt
   distinct (Why.TooDeepPlain depth) c = tt
+  distinct (Why.KeepFault path) c = tt
+  distinct (Why.LogFull path held) c = tt
 
   -- which run it ends
 
@@ -302,6 +326,8 @@ module _ (content : List ℕ → Option (List ℕ)) (words : List (List ℕ)) (l
   comes_by Why.Memory c = tt
   comes_by (Why.TooLongInput path at) c = tt
   comes_by (Why.TooDeepPlain depth) c = c.0
+  comes_by (Why.KeepFault path) c = c.0
+  comes_by (Why.LogFull path held) c = c.0
 
   pub way : (why : Why) → EndCause content line risen J why → ComesBy (is_plain (line_of words)) why
   way why c = at_line words line (λ o. ComesBy (is_plain o) why) e (comes_by why c)
@@ -322,6 +348,8 @@ module _ (content : List ℕ → Option (List ℕ)) (words : List (List ℕ)) (l
   fits b n Why.Memory c d p r = absurd r
   fits b n (Why.TooLongInput path at) c d p r = absurd r
   fits b n (Why.TooDeepPlain depth) c d p r = λ source inputs st. (c.1 source inputs st).0
+  fits b n (Why.KeepFault path) c d p r = λ source inputs st. (c.2 source inputs st).0
+  fits b n (Why.LogFull path held) c d p r = λ source inputs st. (c.2.1 source inputs st).0
 
   pub limits : (b n : Option (List ℕ)) (why : Why) → EndCause content line risen J why → (why ≡ Why.Done → Writes content line (Tells b n))
       → (why ≡ Why.WriteFault → Writes content line (TellsPart b n)) → HasRun why
@@ -357,6 +385,8 @@ module _ (content : List ℕ → Option (List ℕ)) (line : Words) (risen : Type
   end_cause Why.Memory c = c
   end_cause (Why.TooLongInput path at) c = c
   end_cause (Why.TooDeepPlain depth) c = c
+  end_cause (Why.KeepFault path) c = (c.0, c.1, c.3)
+  end_cause (Why.LogFull path held) c = absurd c
 
 -- a text that was put whole, and nothing behind it
 pub parts_whole : (b n : Option (List ℕ)) (text : List ℕ) → Tells b n text → TellsParts b n text []

@@ -1,8 +1,9 @@
 -- How a call of the program ends.
 use Rattle.std.specs.Prelude.{◌≡◌, ◌≤◌, ◌⊎◌, ◌++◌, ℕ, List, [], Bool, true, false, Option, Some, None, Result, Ok, Err, if◌then◌else◌, take}
-use Rattle.sky_base.specs.See.{Answered}
+use Rattle.sky_base.specs.See.{Answered, Means}
 use Rattle.sky_base.specs.declared.fault.Fault.{Fault}
 use Rattle.sky_base.specs.declared.object.Desc1.{Desc1}
+use Rattle.ciel_io.specs.Kept.{Files}
 use Rattle.ciel_io.specs.Tells.{Tells, TellsPart}
 use Rattle.ciel_journal.specs.Entries.{Entry}
 use Rattle.ciel_journal.specs.History.{Plan}
@@ -16,11 +17,13 @@ use Rattle.ciel_run_load.specs.declared.script.SyntaxKind.{SyntaxKind}
 use Rattle.ciel_master.specs.declared.entry.Entry.{Entry as Line}
 use Rattle.ciel_run_log.specs.Text.{journal_text}
 use Rattle.ciel_words.specs.declared.words.Words.{Words}
+use Rattle.ciel_log.specs.declared.state.LogState.{LogState}
 use Rattle.ciel_run_line.specs.Line.{FitsIn, OfLine, SourceFits, files_of}
-use Rattle.ciel_run_line.specs.Causes.{CauseOf}
+use Rattle.ciel_run_line.specs.Causes.{CauseOf, OfRun}
 use Rattle.ciel_run_line.specs.Ended.{SomeStays}
+use Rattle.ciel_run_line.specs.Keeping.{AsksOnly, BeginsLog, FillsLog, IsLog, OfLog}
 use Rattle.ciel_run_line.specs.Runs.{IsModestFor, plan_of}
-use Rattle.ciel_run_line.specs.Source.{HasChain, HasNone, IsAnswer, IsSource, Makes}
+use Rattle.ciel_run_line.specs.Source.{HasChain, HasNone, IsAnswer, IsSource, Makes, over_lines}
 use Rattle.ciel_run_log.specs.Summary.{output_of}
 use Rattle.ciel_run_log.specs.declared.why.Why.{Why}
 
@@ -58,6 +61,14 @@ abbrev pub IfTooDeep : Why → (ℕ → Type 0) → Type 0
 IfTooDeep (Why.TooDeepPlain depth) P = P depth
 IfTooDeep _ P = Unit {0}
 
+abbrev pub IfKeepFault : Why → (List ℕ → Type 0) → Type 0
+IfKeepFault (Why.KeepFault path) P = P path
+IfKeepFault _ P = Unit {0}
+
+abbrev pub IfLogFull : Why → (List ℕ → ℕ → Type 0) → Type 0
+IfLogFull (Why.LogFull path held) P = P path held
+IfLogFull _ P = Unit {0}
+
 -- ---- which run it ends
 
 -- the way of running that the line asks for, where an end comes of one of the two alone: of the engine, or of the sequential interpreter
@@ -68,9 +79,11 @@ ComesBy plain (Why.TooMany held (Some given)) = plain ≡ false
 ComesBy plain Why.AllLost = plain ≡ false
 ComesBy plain (Why.NameClash kept given) = plain ≡ false
 ComesBy plain (Why.TooDeepPlain depth) = plain ≡ true
+ComesBy plain (Why.KeepFault path) = plain ≡ false
+ComesBy plain (Why.LogFull path held) = plain ≡ false
 ComesBy plain _ = Unit {0}
 
--- the job of the line was read, and ran
+-- the job of the line was read, and ran, or its log couldn't be begun
 abbrev pub HasRun : Why → Type 0
 HasRun Why.Done = Unit {0}
 HasRun (Why.Fault fault) = Unit {0}
@@ -80,6 +93,8 @@ HasRun Why.AllLost = Unit {0}
 HasRun (Why.NameClash kept given) = Unit {0}
 HasRun Why.WriteFault = Unit {0}
 HasRun (Why.TooDeepPlain depth) = Unit {0}
+HasRun (Why.KeepFault path) = Unit {0}
+HasRun (Why.LogFull path held) = Unit {0}
 HasRun _ = ⊥
 
 -- ---- what is written
@@ -105,7 +120,45 @@ Writes content w P =
 abbrev pub EndCause : (List ℕ → Option (List ℕ)) → Words → Type 0 → List Entry → Why → Type 0
 EndCause content w risen J Why.Done = Unit {0}
 EndCause content w risen J Why.WriteFault = Unit {0}
+EndCause content w risen J (Why.KeepFault path) = (w.plain ≡ false) × (w.log ≡ Some path) × OfRun content w risen J (λ job. Unit {0})
+EndCause content w risen J (Why.LogFull path held) =
+    (w.plain ≡ false) × (w.log ≡ Some path)
+    × ((a : List ℕ) × OfRun content w risen J (λ job. Means job over_lines (Answered.bytes a)))
 EndCause content w risen J why = CauseOf content w risen J why
+
+-- where nothing is written
+abbrev pub WritesNothing : Why → Type 0
+WritesNothing Why.Done = ⊥
+WritesNothing Why.WriteFault = ⊥
+WritesNothing Why.Memory = ⊥
+WritesNothing (Why.KeepFault path) = ⊥
+WritesNothing (Why.LogFull path held) = ⊥
+WritesNothing _ = Unit {0}
+
+-- ---- the log of the run
+
+-- what a call comes to whose answer was written, by the path of the log and how it stands: want of memory may come besides where it isn't whole
+abbrev pub IsTrouble : Option (List ℕ) → LogState → Why → Type 0
+IsTrouble log LogState.Whole why = why ≡ Why.Done
+IsTrouble None state why = why ≡ Why.Done
+IsTrouble (Some path) LogState.Failed why = (why ≡ Why.KeepFault path) ⊎ (why ≡ Why.Memory)
+IsTrouble (Some path) (LogState.Full held) why = (why ≡ Why.LogFull path held) ⊎ (why ≡ Why.Memory)
+IsTrouble (Some path) LogState.Memory why = why ≡ Why.Memory
+
+-- by the path of the log, if there is one: no other was asked, but for want of memory
+abbrev pub AsksLog : Option (List ℕ) → Why → Option (List (List ℕ)) → Option (List (List ℕ)) → Type 0
+AsksLog None why before now = before ≡ now
+AsksLog (Some path) Why.Memory before now = Unit {0}
+AsksLog (Some path) why before now = AsksOnly path before now
+
+-- what its file tells of the journal: a whole log, the beginning of one where it isn't known that it is whole, or as much as there may be
+abbrev pub LogSays : Words → List ℕ → List Input → List Entry → Option Files → Why → Type 0
+LogSays w source inputs J files Why.Done = OfLog w source inputs J files (IsLog w source inputs J)
+LogSays w source inputs J files (Why.Fault fault) = OfLog w source inputs J files (BeginsLog w source inputs J)
+LogSays w source inputs J files (Why.Endless names) = OfLog w source inputs J files (BeginsLog w source inputs J)
+LogSays w source inputs J files Why.AllLost = OfLog w source inputs J files (BeginsLog w source inputs J)
+LogSays w source inputs J files (Why.LogFull path held) = OfLog w source inputs J files (FillsLog w source inputs J held)
+LogSays w source inputs J files _ = Unit {0}
 
 -- the text of a journal, where the line asks for it
 abbrev pub trace_of : Bool → List Line → List ℕ
@@ -127,6 +180,7 @@ MayEnd w source inputs (Why.Endless names) = HasNone source inputs
 MayEnd w source inputs Why.AllLost = IsSource source inputs
 MayEnd w source inputs (Why.NameClash kept given) = IsSource source inputs
 MayEnd w source inputs (Why.TooDeepPlain depth) = HasChain source inputs 4096
+MayEnd w source inputs (Why.LogFull path held) = (w.log ≡ Some path) × ((a : List ℕ) × IsAnswer source inputs (Answered.bytes a))
 MayEnd w source inputs _ = ⊥
 
 -- a file of the line is too long
@@ -142,12 +196,13 @@ IsExpected w source inputs (Why.TooLongInput path at) = TooLongIn (files_of w) s
 IsExpected w source inputs Why.Memory = Unit {0}
 IsExpected w source inputs why = FitsIn (files_of w) source inputs × MayEnd w source inputs why
 
--- an end with the job's answer, or for want of memory; a sequential run may find a chain too long
+-- an end with the job's answer, or for want of memory; a sequential run may find a chain too long, and another's log may be full
 abbrev pub IsAnswered : Bool → Why → Type 0
 IsAnswered plain Why.Done = Unit {0}
 IsAnswered plain (Why.Fault fault) = Unit {0}
 IsAnswered plain Why.Memory = Unit {0}
 IsAnswered plain (Why.TooDeepPlain depth) = plain ≡ true
+IsAnswered plain (Why.LogFull path held) = plain ≡ false
 IsAnswered plain _ = ⊥
 
 -- over files within the limits, a job that means an answer, that makes few descriptions, no two of which share a name, and that some

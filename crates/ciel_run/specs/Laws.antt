@@ -36,6 +36,7 @@ EndsScript script inputs (Why.TooMany held None) = MakesMany (job_of script inpu
 EndsScript script inputs (Why.TooMany held (Some given)) = Unit {0}
 EndsScript script inputs Why.AllLost = Unit {0}
 EndsScript script inputs (Why.NameClash kept given) = Unit {0}
+EndsScript script inputs (Why.LogFull path held) = (a : List ℕ) × Means (job_of script inputs) over_lines (Answered.bytes a)
 EndsScript script inputs (Why.TooDeepPlain depth) = (d : Desc) × Chain (job_of script inputs) over_lines 4096 d
 EndsScript script inputs Why.Memory = Unit {0}
 EndsScript script inputs _ = ⊥

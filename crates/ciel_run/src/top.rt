@@ -1,7 +1,7 @@
 //! The top call: the words, the reading, the run, and the writing. Each way in which it ends is a `Why`, and each `Why` but want of memory
 //! has a clause that says when it comes.
 
-ghost use Rattle.std.specs.Prelude.{◌≡◌, ◌≢◌, ◌≤◌, ◌⊎◌, ◌++◌, [], None, Contains, OnErr, OnOk, drop, false, length, map, true};
+ghost use Rattle.std.specs.Prelude.{◌≡◌, ◌≢◌, ◌≤◌, ◌⊎◌, ◌++◌, [], None, Some, Contains, OnErr, OnOk, drop, false, length, map, true};
 ghost use Rattle.std.specs.List.{IsDistinct};
 ghost use Rattle.sky_base.specs.See.{Answered as Meant};
 ghost use Rattle.sky_base.specs.Val.{same_text};
@@ -15,11 +15,15 @@ ghost use Rattle.ciel_master_board.specs.Ends.{AllAreLost};
 ghost use Rattle.ciel_words.specs.Line.{line_of};
 ghost use Rattle.ciel_words.specs.Sound.{LineIsSound};
 ghost use Rattle.ciel_run_line.specs.Causes.{Clashes, GoesRound, HasTooMany, IsTooDeep, TooLongOf};
-ghost use Rattle.ciel_run.specs.Ending.{IfEndless, IfFault, IfNameClash, IfReadFault, IfSyntax, IfTooDeep, IfTooLong, IfTooMany};
+ghost use Rattle.ciel_run.specs.Ending.{IfEndless, IfFault, IfKeepFault, IfLogFull, IfNameClash, IfReadFault, IfSyntax, IfTooDeep, IfTooLong, IfTooMany};
 ghost use Rattle.ciel_run_line.specs.Asked.{AsksFor, NoRun, ShowsEnd, StopsFor};
 ghost use Rattle.ciel_run_log.specs.Status.{status_of};
-ghost use Rattle.ciel_run.specs.Ending.{Answers, ComesBy, EndCause, HasRun, IsExpected, TellsParts, Writes, WritesAnswer, WritesPart, trace_of};
-ghost use Rattle.ciel_run_line.specs.Line.{FitsIn, OfLine, OverFiles, OverLine, OverScript, files_of, is_plain, is_traced, paths, paths_in, workers_of};
+ghost use Rattle.ciel_run.specs.Ending.{Answers, AsksLog, ComesBy, EndCause, HasRun, IsExpected, IsTrouble, LogSays, TellsParts, Writes, WritesAnswer};
+ghost use Rattle.ciel_run.specs.Ending.{WritesNothing, WritesPart, trace_of};
+ghost use Rattle.ciel_log.specs.Logging.{most};
+ghost use Rattle.ciel_run_line.specs.Keeping.{HasBytes};
+ghost use Rattle.ciel_run_line.specs.Line.{FitsIn, OfLine, OverFiles, OverLine, OverScript, files_of, is_plain, is_traced, log_of, paths, paths_in};
+ghost use Rattle.ciel_run_line.specs.Line.{workers_of};
 ghost use Rattle.ciel_run_log.specs.Message.{message_of};
 ghost use Rattle.ciel_run_line.specs.Runs.{EndsShown, IsDriven, NamesHaveOne, StartsFew, StartsMissing, StartsNeeded, WaitsHaveOne};
 ghost use Rattle.ciel_run_line.specs.Runs.{plan_of};
@@ -29,7 +33,9 @@ ghost use Rattle.ciel_run_log.specs.declared.why.Why.{Why};
 
 use ciel_gate::gate::Gate;
 use ciel_io::files::Files;
+use ciel_io::keep::Keep;
 use ciel_io::sink::{Failed, Sink};
+use ciel_log::state::LogState;
 use ciel_master::entry::Entry;
 use ciel_run_line::answer::Answered;
 use ciel_run_line::law::modest_runs_answer;
@@ -49,11 +55,12 @@ use std::thread::Threads;
 /// Runs the program on the words of its command line, without the program's own name. A script and its inputs are read, or a job is
 /// generated; it is run on as many workers as the words say, each with its gate, or by the sequential interpreter; and its answer, or the
 /// summary of a generated one, is written to `out`. With `--trace` the journal's text goes to `log` then. Where the status isn't 0, the
-/// message goes there too, and a failure there changes nothing else.
+/// message goes there too, and a failure there changes nothing else. With `--log` a log of the run is kept at a path of `keep`, and where
+/// not all of it can be, that is told once the answer is written.
 ///
 /// A script has at most 1,048,576 bytes, and an input at most 16,777,216. The inputs are read in the order of the words, after the script
 /// was seen to be one. The executors are those over lines. There are 64 gates, of which the first are the workers'.
-pub fn ciel_main<F: Files, O: Sink, J: Sink, G, R>(
+pub fn ciel_main<F: Files, O: Sink, J: Sink, G, D, R>(
     rt: R,
     alloc: Global,
     words: &[Txt],
@@ -61,9 +68,11 @@ pub fn ciel_main<F: Files, O: Sink, J: Sink, G, R>(
     out: &mut O,
     log: &mut J,
     gates: &mut Vec<G>,
+    keep: &mut D,
 ) -> Ended
 where
     G: Gate + Send + 'static,
+    D: Keep,
     R: Threads + Wait + Copy + Send + Drop + 'static,
     requires gates { length gates.old.items ≡ 64 }
 
@@ -131,10 +140,10 @@ where
     // Which end comes where files tell, and reading and writing go well; and that it is the answer, where the job means one and some worker
     // stays.
     ensures complete { ¬ HasRisen (F.faults files.old) (F.faults files.new) → ¬ HasRisen (O.faults out.old) (O.faults out.new)
-        → ¬ HasRisen (J.faults log.old) (J.faults log.new)
+        → ¬ HasRisen (J.faults log.old) (J.faults log.new) → ¬ HasRisen (D.faults keep.old) (D.faults keep.new)
         → OverFiles (F.content files.old) words.now (λ w source inputs. IsExpected w source inputs result.why) }
     ensures answers { ¬ HasRisen (F.faults files.old) (F.faults files.new) → ¬ HasRisen (O.faults out.old) (O.faults out.new)
-        → ¬ HasRisen (J.faults log.old) (J.faults log.new)
+        → ¬ HasRisen (J.faults log.old) (J.faults log.new) → ¬ HasRisen (D.faults keep.old) (D.faults keep.new)
         → OverFiles (F.content files.old) words.now (λ w source inputs. Answers w source inputs result.why) }
 
     // What was asked, and what was written where it doesn't end well.
@@ -143,7 +152,24 @@ where
         (λ w. StopsFor (F.content files.old) (files_of w) (F.asked files.old) (F.asked files.new) result.why) }
     ensures part { result.why ≡ Why.WriteFault → OverFiles (F.content files.old) words.now
         (λ w source inputs. WritesPart w source inputs (O.written out.old) (O.written out.new)) }
-    ensures nothing { result.why ≢ Why.Done → result.why ≢ Why.WriteFault → out.new ≡ out.old }
+    ensures nothing { WritesNothing result.why → out.new ≡ out.old }
+    ensures all_or_nothing { result.why ≡ Why.Memory → (out.new ≡ out.old)
+        ⊎ OverFiles (F.content files.old) words.now (λ w source inputs. WritesAnswer w source inputs (O.written out.old) (O.written out.new)) }
+
+    // The log of the run. Where it couldn't be begun nothing ran; and where it is not whole the answer was written.
+    ensures keep_fault { IfKeepFault result.why
+        (λ path. (log_of (line_of words.now) ≡ Some path) × HasRisen (D.faults keep.old) (D.faults keep.new)) }
+    ensures begun { IfKeepFault result.why (λ path. ((map entry_view result.journal.items ≡ []) × (gates.new ≡ gates.old) × (out.new ≡ out.old))
+        ⊎ OverFiles (F.content files.old) words.now (λ w source inputs. EndsShown w source inputs (map entry_view result.journal.items)
+        × WritesAnswer w source inputs (O.written out.old) (O.written out.new))) }
+    ensures log_full { IfLogFull result.why
+        (λ path held. (log_of (line_of words.now) ≡ Some path) × (held ≤ most) × HasBytes path (D.files keep.new) held) }
+    ensures full { IfLogFull result.why (λ path held. OverFiles (F.content files.old) words.now
+        (λ w source inputs. WritesAnswer w source inputs (O.written out.old) (O.written out.new))) }
+    ensures unasked { log_of (line_of words.now) ≡ None → keep.new ≡ keep.old }
+    ensures keep_asked { AsksLog (log_of (line_of words.now)) result.why (D.asked keep.old) (D.asked keep.new) }
+    ensures log_told { OverFiles (F.content files.old) words.now
+        (λ w source inputs. LogSays w source inputs (map entry_view result.journal.items) (D.files keep.new) result.why) }
 
     // What is put on the log: the journal's text where it is asked for, and the message, which is empty for an answer that was written.
     ensures message { ¬ HasRisen (J.faults log.old) (J.faults log.new)
@@ -164,7 +190,7 @@ where
     lines_are_sound();
     modest_runs_answer();
     functions_are_orderly();
-    run(rt, alloc, &line, files, out, log, gates)
+    run(rt, alloc, &line, files, out, log, gates, keep)
 }
 
 /// Ends a call whose words are no line, with its message.
@@ -191,7 +217,7 @@ fn ended(why: Why, journal: Vec<Entry>) -> Ended
 }
 
 /// Runs a line, and writes what it comes to.
-fn run<F: Files, O: Sink, J: Sink, G, R>(
+fn run<F: Files, O: Sink, J: Sink, G, D, R>(
     rt: R,
     alloc: Global,
     line: &Words,
@@ -199,15 +225,29 @@ fn run<F: Files, O: Sink, J: Sink, G, R>(
     out: &mut O,
     log: &mut J,
     gates: &mut Vec<G>,
+    keep: &mut D,
 ) -> Ended
 where
     G: Gate + Send + 'static,
+    D: Keep,
     R: Threads + Wait + Copy + Send + Drop + 'static,
     requires line { LineIsSound line.now }
     requires gates { length gates.old.items ≡ 64 }
     ensures done { result.why ≡ Why.Done → Writes (F.content files.old) line.now (Tells (O.written out.old) (O.written out.new)) }
     ensures part { result.why ≡ Why.WriteFault → Writes (F.content files.old) line.now (TellsPart (O.written out.old) (O.written out.new)) }
-    ensures nothing { result.why ≢ Why.Done → result.why ≢ Why.WriteFault → out.new ≡ out.old }
+    ensures nothing { WritesNothing result.why → out.new ≡ out.old }
+    ensures all_or_nothing { result.why ≡ Why.Memory → (out.new ≡ out.old)
+        ⊎ Writes (F.content files.old) line.now (Tells (O.written out.old) (O.written out.new)) }
+    ensures keep_fault { IfKeepFault result.why (λ path. HasRisen (D.faults keep.old) (D.faults keep.new)) }
+    ensures begun { IfKeepFault result.why (λ path. ((map entry_view result.journal.items ≡ []) × (gates.new ≡ gates.old) × (out.new ≡ out.old))
+        ⊎ (Writes (F.content files.old) line.now (Tells (O.written out.old) (O.written out.new))
+        × OfLine (F.content files.old) line.now (λ source inputs. EndsShown line.now source inputs (map entry_view result.journal.items)))) }
+    ensures log_full { IfLogFull result.why (λ path held. (held ≤ most) × HasBytes path (D.files keep.new) held) }
+    ensures full { IfLogFull result.why (λ path held. Writes (F.content files.old) line.now (Tells (O.written out.old) (O.written out.new))) }
+    ensures unasked { line.now.log ≡ None → keep.new ≡ keep.old }
+    ensures keep_asked { AsksLog line.now.log result.why (D.asked keep.old) (D.asked keep.new) }
+    ensures log_told { OfLine (F.content files.old) line.now
+        (λ source inputs. LogSays line.now source inputs (map entry_view result.journal.items) (D.files keep.new) result.why) }
     ensures cause { EndCause (F.content files.old) line.now (HasRisen (F.faults files.old) (F.faults files.new))
         (map entry_view result.journal.items) result.why }
     ensures write_fault { result.why ≡ Why.WriteFault → HasRisen (O.faults out.old) (O.faults out.new)
@@ -231,10 +271,14 @@ where
     ensures logged { result.why ≡ Why.Done → Tells (J.written log.old) (J.written log.new) (trace_of line.now.trace result.journal.items) }
     ensures status { result.status ≡ status_of result.why }
 {
-    let Answered { result, journal } = answer_line(rt, alloc, line, files, gates);
+    let Answered {
+        result,
+        journal,
+        state,
+    } = answer_line(rt, alloc, line, files, gates, keep);
     match result {
         Ok(answer) => {
-            let why = write(line, &answer, journal.as_slice(), out, log);
+            let why = finish(line, &answer, journal.as_slice(), state, out, log);
             ended(why, journal)
         }
         Err(why) => {
@@ -242,6 +286,65 @@ where
             ended(why, journal)
         }
     }
+}
+
+/// Writes an answer, and the journal's text where the line asks for it. Where both went well, it is told what came in the way of the log.
+fn finish<O: Sink, J: Sink>(
+    line: &Words,
+    answer: &Bytes,
+    journal: &[Entry],
+    state: LogState,
+    out: &mut O,
+    log: &mut J,
+) -> Why
+    ensures ends { (result ≡ Why.WriteFault) ⊎ IsTrouble line.now.log state result }
+    ensures written { result ≢ Why.WriteFault → Tells (O.written out.old) (O.written out.new) (output_of line.now.generate answer.now) }
+    ensures part { result ≡ Why.WriteFault → TellsPart (O.written out.old) (O.written out.new) (output_of line.now.generate answer.now) }
+    ensures write_fault { result ≡ Why.WriteFault → HasRisen (O.faults out.old) (O.faults out.new)
+        ⊎ ((line.now.trace ≡ true) × HasRisen (J.faults log.old) (J.faults log.new)) }
+    ensures answer_first { result ≡ Why.WriteFault → HasRisen (O.faults out.old) (O.faults out.new)
+        ⊎ Tells (O.written out.old) (O.written out.new) (output_of line.now.generate answer.now) }
+    ensures message { ¬ HasRisen (J.faults log.old) (J.faults log.new)
+        → Tells (J.written log.old) (J.written log.new) (trace_of line.now.trace journal.now ++ message_of result) }
+    ensures message_part { TellsParts (J.written log.old) (J.written log.new) (trace_of line.now.trace journal.now) (message_of result) }
+    ensures logged { result ≡ Why.Done → Tells (J.written log.old) (J.written log.new) (trace_of line.now.trace journal.now) }
+{
+    match write(line, answer, journal, out, log) {
+        Why::Done => tell_trouble(line, state, log),
+        why => why,
+    }
+}
+
+/// Why a call doesn't end well whose answer was written, where the log stands so.
+fn trouble(line: &Words, state: LogState) -> Why
+    ensures { IsTrouble line.now.log state result }
+{
+    if state == LogState::Whole {
+        return Why::Done;
+    }
+    let Some(path) = &line.log else {
+        return Why::Done;
+    };
+    match (state, path.share()) {
+        (LogState::Failed, Ok(path)) => Why::KeepFault { path },
+        (LogState::Full { held }, Ok(path)) => Why::LogFull { path, held },
+        _ => Why::Memory,
+    }
+}
+
+/// The same, and where it doesn't end well the message is put on the log.
+fn tell_trouble<J: Sink>(line: &Words, state: LogState, log: &mut J) -> Why
+    ensures trouble { IsTrouble line.now.log state result }
+    ensures never_falls { J.faults log.old ≤ J.faults log.new }
+    ensures message { ¬ HasRisen (J.faults log.old) (J.faults log.new) → Tells (J.written log.old) (J.written log.new) (message_of result) }
+    ensures message_part { TellsPart (J.written log.old) (J.written log.new) (message_of result) }
+    ensures quiet { result ≡ Why.Done → log.new ≡ log.old }
+{
+    let why = trouble(line, state);
+    if !matches!(&why, Why::Done) {
+        let _ = put_message(&why, log);
+    }
+    why
 }
 
 /// Writes an answer, and then the journal's text where the line asks for it. Where either fails, the message follows.
@@ -259,6 +362,7 @@ fn write<O: Sink, J: Sink>(
         ⊎ ((line.now.trace ≡ true) × HasRisen (J.faults log.old) (J.faults log.new)) }
     ensures answer_first { result ≡ Why.WriteFault → HasRisen (O.faults out.old) (O.faults out.new)
         ⊎ Tells (O.written out.old) (O.written out.new) (output_of line.now.generate answer.now) }
+    ensures never_falls { J.faults log.old ≤ J.faults log.new }
     ensures message { ¬ HasRisen (J.faults log.old) (J.faults log.new)
         → Tells (J.written log.old) (J.written log.new) (trace_of line.now.trace journal.now ++ message_of result) }
     ensures message_part { TellsParts (J.written log.old) (J.written log.new) (trace_of line.now.trace journal.now) (message_of result) }
@@ -277,6 +381,7 @@ fn write<O: Sink, J: Sink>(
 fn trace<J: Sink>(traced: bool, journal: &[Entry], log: &mut J) -> Why
     ensures ends { (result ≡ Why.Done) ⊎ (result ≡ Why.WriteFault) }
     ensures write_fault { result ≡ Why.WriteFault → (traced ≡ true) × HasRisen (J.faults log.old) (J.faults log.new) }
+    ensures never_falls { J.faults log.old ≤ J.faults log.new }
     ensures message { ¬ HasRisen (J.faults log.old) (J.faults log.new)
         → Tells (J.written log.old) (J.written log.new) (trace_of traced journal.now ++ message_of result) }
     ensures message_part { TellsParts (J.written log.old) (J.written log.new) (trace_of traced journal.now) (message_of result) }
@@ -308,6 +413,7 @@ fn put_trace<J: Sink>(traced: bool, journal: &[Entry], log: &mut J) -> Result<()
 /// Puts the journal's text on the log, where it is asked for, and the message behind it. What fails there changes nothing else.
 fn tell<J: Sink>(traced: bool, journal: &[Entry], why: &Why, log: &mut J)
     requires why { why.now ≢ Why.Done }
+    ensures never_falls { J.faults log.old ≤ J.faults log.new }
     ensures message { ¬ HasRisen (J.faults log.old) (J.faults log.new)
         → Tells (J.written log.old) (J.written log.new) (trace_of traced journal.now ++ message_of why.now) }
     ensures message_part { TellsParts (J.written log.old) (J.written log.new) (trace_of traced journal.now) (message_of why.now) }

@@ -1,6 +1,6 @@
 -- What a history says between two turns is kept by a report, or the run ends for a reason.
-use Rattle.std.proofs.Common.{◌≡◌, ℕ, ◌*◌, List, [], ◌∷◌, ◌++◌, map, Bool, Option, Some, None}
-use Rattle.std.proofs.Common.{refl, ap, sym, ◌∙◌, subst, slice_set}
+use Rattle.std.proofs.Common.{◌≡◌, ℕ, ◌*◌, ◌<◌, ◌^◌, List, [], ◌∷◌, ◌++◌, map, Bool, true, false, cond, nat_eq, Option, Some, None}
+use Rattle.std.proofs.Common.{◌⊎◌, inl, inr, refl, ap, sym, ◌∙◌, subst, slice_set}
 use Rattle.sky_base.specs.JobView.{job_view}
 use Rattle.sky_base.specs.KitView.{Gives}
 use Rattle.sky_base.specs.See as s
@@ -11,7 +11,6 @@ use Rattle.sky_base.specs.declared.object.TaskId.{TaskId}
 use Rattle.sky_machine_show.specs.Shows.{shown_view}
 use Rattle.sky_state.specs.declared.shown.Shown.{Shown}
 use Rattle.ciel_master_board.specs.Board.{Board, OrderOut, find_order}
-use Rattle.ciel_master_board.specs.Board as board
 use Rattle.ciel_master_board.specs.Driving.{RestsNow}
 use Rattle.ciel_master_board.specs.Moves.{accepted}
 use Rattle.ciel_master_board.specs.Reports as rep
@@ -21,10 +20,13 @@ use Rattle.ciel_task_crew.specs.Crews.{Answers, Reports}
 use Rattle.ciel_master_law.specs.Ends.{worker_of}
 use Rattle.ciel_master_law.proofs.ShopLaws.{performs_promises, shop_is, shown_meant}
 use Rattle.ciel_journal.specs.Entries.{Entry}
-use Rattle.ciel_journal.specs.History.{Event, Plan}
+use Rattle.ciel_journal.specs.History.{Event, OpenStart, Plan, before_all, find_open, missed, standing}
 use Rattle.ciel_journal.specs.Turns.{Driven, state_after}
 use Rattle.ciel_json.specs.Around.{json_around}
 use Rattle.ciel_journal.specs.Journals.{DrivenJournal}
+use Rattle.ciel_journal.specs.Lawful.{Lawful, Step}
+use Rattle.ciel_journal.proofs.Append.{lawful_split}
+use Rattle.ciel_journal.proofs.Members.{bool_cases}
 use Rattle.ciel_master.specs.Marked.{IsCarriedOut}
 use Rattle.ciel_master.specs.Refusals.{FirstStops}
 use Rattle.ciel_master.specs.Seen.{MasterSeen}
@@ -36,28 +38,49 @@ use Rattle.ciel_master_safe.proofs.TurnsLemmas.{plan_same, starts_same}
 use Rattle.ciel_journal_job.specs.Report as report
 use Rattle.ciel_table.specs.declared.refusal.Learn.{Learn}
 use Rattle.ciel_task_order.specs.Performs.{HasRows, IsMissing, OfTask, the_shop}
+use Rattle.ciel_task_order.specs.Places.{PlacesSound}
 use Rattle.ciel_task_order.specs.Shop as shop
 use Rattle.ciel_task_order.specs.Views.{P, how_view, order_view, report_end}
-use Rattle.ciel_task_order.specs.declared.block.Block.{Block}
 use Rattle.ciel_task_order.specs.declared.order.Order.{Order}
 use Rattle.ciel_task_order.specs.declared.report.End.{End}
-use Rattle.ciel_task_order.specs.declared.report.Made.{Made}
 use Rattle.ciel_task_order.specs.declared.report.Report.{Report}
 use Rattle.ciel_task_order.specs.declared.shop.Shop.{Shop}
+use Rattle.ciel_master_board.specs.Follows.{Follows, OneByOne, OutIs}
 use Rattle.ciel_master_board.specs.Handed.{OneEventMore, OrdersOf}
+use Rattle.ciel_master_board.specs.Laws.{AcceptedAs}
 use Rattle.ciel_master_board.specs.TurnsLaws as laws
 use Rattle.ciel_master_board.specs.TurnsLaws.{IsOut, Promised}
 use Rattle.ciel_master_board.proofs.EndsLemmas.{clash_ends, overflow_ends}
 use Rattle.ciel_master_board.proofs.HandedLemmas.{fewer_orders}
-use Rattle.ciel_master_board.proofs.TurnEvents.{missed_turns, out_is_open, report_turns}
+use Rattle.ciel_master_board.proofs.TurnEvents.{missed_turns, out_is_open, promised_taken, report_turns}
+use Rattle.ciel_master_board.proofs.MissesFollowed.{missed_follows}
+use Rattle.ciel_master_board.proofs.ReportsFollowed.{report_follows}
 use Rattle.ciel_run_drive.specs.Ended.{Because, Ended, Shows}
 use Rattle.ciel_run_drive.specs.Kept.{Kept, slots_of}
+use Rattle.ciel_run_drive.specs.Telling.{TakenAs, ThrownAs}
 use Rattle.ciel_run_drive.specs.Working.{Working}
 use Rattle.ciel_run_drive.proofs.Names as names
 
 nothing : (ns : List Named) → map named_view ns ≡ [] → ns ≡ []
 nothing [] e = refl
 nothing (n ∷ ns) e = cc
+
+-- where no order of this number is out, no Start of it is open
+none_open : {D Q B : Type 0} (z : Setting D Q B) (k : ℕ) (os : List (OpenStart D)) (xs : List OrderOut) → OneByOne (OutIs z) os xs
+    → find_order k xs ≡ None → find_open z.job k os ≡ None
+none_open z k [] xs h e = refl
+none_open z k (o ∷ os) [] h e = absurd h
+none_open z k (o ∷ os) (x ∷ xs) h e = pick (bool_cases (nat_eq k o.number)) (none_open z k os xs h.1)
+  where
+    pick : ((nat_eq k o.number ≡ true) ⊎ (nat_eq k o.number ≡ false)) → (find_order k xs ≡ None → find_open z.job k os ≡ None)
+        → find_open z.job k (o ∷ os) ≡ None
+    pick (inl t) rest =
+        let u : nat_eq k x.number ≡ true = ap (nat_eq k) h.0.number ∙ t in
+        let bad : Some x ≡ None = sym (ap (λ b. cond b (Some x) (find_order k xs)) u) ∙ e in
+        cc
+    pick (inr f) rest =
+        let u : nat_eq k x.number ≡ false = ap (nat_eq k) h.0.number ∙ f in
+        ap (λ b. cond b (Some o) (find_open z.job k os)) f ∙ rest (sym (ap (λ b. cond b (Some x) (find_order k xs)) u) ∙ e)
 
 module _ {K N : Type 0} {gives : K → Gives} {digest : N → List ℕ → List ℕ} {shop_ : Shop K N} {unbroken : Bool} {m : MasterSeen N}
     {out : List (Option Order)} {draw : ℕ} (at : Working gives digest shop_ unbroken m out) (k : Kept gives digest shop_ unbroken m out draw)
@@ -104,6 +127,16 @@ module _ {K N : Type 0} {gives : K → Gives} {digest : N → List ℕ → List 
         orders = fewer k.history (fewer_orders S k.history k.history (slots_of out) k.orders (λ o i. i) r.worker);
         draws = k.draws;
       })
+
+  pub thrown_as : r.number < 2 ^ 64 → find_order r.number b.orders ≡ None → ThrownAs gives digest shop_ b r
+  thrown_as fits none =
+      record {
+        history = k.history;
+        lawful = k.runs.follows.lawful;
+        journal = sym k.runs.follows.journal;
+        closed = none_open S r.number (standing S.job k.history).orders b.orders k.runs.follows.stands.orders none;
+        number = fits;
+      }
 
   -- ---- taken
 
@@ -242,6 +275,72 @@ module _ {K N : Type 0} {gives : K → Gives} {digest : N → List ℕ → List 
           draw_now =
               k.draws ∙ (ap (λ (z : Plan). state_after z.seed (2 * b.starts)) (sym plan_next)
               ∙ ap (λ n. state_after next.plan.seed (2 * n)) (sym (starts_same D b (order_view order).out r.spawned.items (report_end r))))
+
+      -- ---- what it tells
+
+      abbrev As : rep.End P → Type 0
+      As e = AcceptedAs S k.history b (order_view order).out order.number r.spawned.items e
+
+      -- the event
+      accepted_as : As (report_end r)
+      accepted_as = pick r.end refl
+        where
+          whole : (IsMissing r.end → ⊥) → (report.IsMissing (report_view order.number r.spawned.items (report_end r)).end → ⊥) → As (report_end r)
+          whole none also =
+              report_follows S is k.history b at.work.safe.sound k.runs.follows (order_view order) out_is.start order.number r.spawned.items
+              (report_end r) (promised_taken S k.history b (order_view order) out_is r.spawned.items (report_end r) (promised none)) at.work.going
+              (all none) also ((promised none).lies out_is.start out_is.is_open out_is.order)
+
+          others : (e : End) → r.end ≡ e → (IsMissing e → ⊥)
+              → (report.IsMissing (report_view order.number r.spawned.items (how_view r.copied.items e)).end → ⊥) → As (report_end r)
+          others e q none also =
+              whole (λ i. none (subst IsMissing q i))
+              (λ i. also (subst (λ z. report.IsMissing (report_view order.number r.spawned.items (how_view r.copied.items z)).end) q i))
+
+          pick : (e : End) → r.end ≡ e → As (report_end r)
+          pick (End.Made ms) q = others (End.Made ms) q (λ i. i) (λ i. i)
+          pick (End.Saved p j refs holds mark) q = others (End.Saved p j refs holds mark) q (λ i. i) (λ i. i)
+          pick (End.Shown shown) q = others (End.Shown shown) q (λ i. i) (λ i. i)
+          pick (End.Missing name loss seen) q =
+              let v : report_end r ≡ rep.missing name loss.number = ap (how_view r.copied.items) q in
+              let got = missed_follows S is k.history b at.work.safe.sound k.runs.follows (order_view order) out_is.start order.number out_is.found
+              out_is.is_open out_is.order at.work.going name loss.number (names.missing_is at r then reports there name loss seen q carried) in
+              let none : r.spawned.items ≡ [] = spawned_none (subst IsMissing (sym q) tt) in
+              subst As (sym v) (record {
+                event = missed order.number got.what loss.number;
+                tells = ap (λ n. Some (report_view {P = P} order.number [] (rep.missing n loss.number))) got.is
+                    ∙ ap (λ ns. Some (report_view {P = P} order.number ns (rep.missing name loss.number))) (sym none);
+                follows = subst (λ ns. Follows S (k.history ++ missed order.number got.what loss.number ∷ [])
+                    (accepted D worker_of b (order_view order).out ns (rep.missing name loss.number))) (sym none) got.follows;
+              })
+
+      step : Step S.job b.plan (standing S.job k.history) accepted_as.event
+      step =
+          (lawful_split S.job b.plan (before_all S.job) k.history (accepted_as.event ∷ [])
+          (subst (λ p. Lawful S.job p (k.history ++ accepted_as.event ∷ [])) plan_next accepted_as.follows.lawful)).1.0
+
+      taken_now : TakenAs gives digest shop_ b next r
+      taken_now =
+          record {
+            history = k.history;
+            event = accepted_as.event;
+            lawful = subst (λ p. Lawful S.job p (k.history ++ accepted_as.event ∷ [])) plan_next accepted_as.follows.lawful;
+            was = sym k.runs.follows.journal;
+            now = sym accepted_as.follows.journal;
+            tells = accepted_as.tells ∙ ap (λ n. Some (report_view n r.spawned.items (report_end r))) (sym a.performs.number);
+            start = out_is.start;
+            is_open = subst (λ n. find_open S.job n (standing S.job k.history).orders ≡ Some out_is.start) (sym a.performs.number) out_is.is_open;
+            task = a.performs.task ∙ out_is.order.out.task;
+            kind = subst (λ t. OfTask t r.end) (sym a.performs.task) a.performs.kind;
+            lies = a.performs.lies k.history b.plan out_is.start k.runs.follows.lawful out_is.is_open out_is.order accepted_as.event
+                accepted_as.tells step.allowed step.apart;
+            shows = a.performs.answers k.history b.plan out_is.start k.runs.follows.lawful out_is.is_open out_is.order accepted_as.event
+                accepted_as.tells step.allowed step.apart;
+            places = subst (λ w. PlacesSound shop_.shelves w J.script r) (sym a.performs.worker) a.places;
+          }
+
+      pub taken_as : TakenAs gives digest shop_ b m2.board r
+      taken_as = subst (λ (z : MasterSeen N). TakenAs gives digest shop_ b z.board r) (sym new_is) taken_now
 
       -- ---- or it is the end
 

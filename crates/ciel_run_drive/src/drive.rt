@@ -32,8 +32,9 @@ pub fn drive<K: Kit + Drop, N: Namer + Drop, C: Crew<K = K, N = N>>(
         → Ended K.gives N.digest (C.shop crew.old) master.old.board.plan master.new.board.journal result }
     ensures sound { result ≢ End.Memory → C.is_sound crew.new ≡ true }
     ensures told { result ≢ End.Memory → ToldOn master.old.board.journal master.new.board.journal (C.told crew.old) (C.told crew.new) }
-    ensures calls { result ≢ End.Memory → Ends (N.digest (C.shop crew.old).namer) C.goes (C.record_of crew.old) master.old.board
-        (C.record_of crew.new) master.new.board.journal }
+    ensures calls { Ends K.gives N.digest (C.shop crew.old)
+        (Kept K.gives N.digest (C.shop crew.old) (C.is_sound crew.old) master.old (C.out crew.old) seed) C.goes
+        (C.record_of crew.old) master.old.board (C.record_of crew.new) master.new.board.journal result }
 {
     let mut state = seed;
     'run: loop {

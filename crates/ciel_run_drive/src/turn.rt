@@ -44,7 +44,9 @@ fn lose_one<K: Kit + Drop, N: Namer + Drop, C: Crew<K = K, N = N>>(
     ensures less { left master.new (C.out crew.now) < left master.old (C.out crew.now) }
     ensures plan { master.new.board.plan ≡ master.old.board.plan }
     ensures told { ToldOn master.old.board.journal master.new.board.journal (C.told crew.now) (C.told crew.now) }
-    ensures does { Does (N.digest (C.shop crew.now).namer) C.goes (C.record_of crew.now) master.old.board (C.record_of crew.now) master.new.board }
+    ensures does { Does K.gives N.digest (C.shop crew.now)
+        (Kept K.gives N.digest (C.shop crew.now) (C.is_sound crew.now) master.old (C.out crew.now) state) C.goes
+        (C.record_of crew.now) master.old.board (C.record_of crew.now) master.new.board }
 {
     rows_stay();
     turns_come_to_an_end();
@@ -140,8 +142,9 @@ fn start_one<K: Kit + Drop, N: Namer + Drop, C: Crew<K = K, N = N>>(
     ensures less { OnOk result (left master.new (C.out crew.new) < left master.old (C.out crew.old)) }
     ensures plan { OnOk result (master.new.board.plan ≡ master.old.board.plan) }
     ensures told { OnOk result (ToldOn master.old.board.journal master.new.board.journal (C.told crew.old) (C.told crew.new)) }
-    ensures does { OnOk result (Does (N.digest (C.shop crew.old).namer) C.goes (C.record_of crew.old) master.old.board
-        (C.record_of crew.new) master.new.board) }
+    ensures does { OnOk result (Does K.gives N.digest (C.shop crew.old)
+        (Kept K.gives N.digest (C.shop crew.old) (C.is_sound crew.old) master.old (C.out crew.old) state.old) C.goes
+        (C.record_of crew.old) master.old.board (C.record_of crew.new) master.new.board) }
     ensures shop { C.shop crew.new ≡ C.shop crew.old }
     ensures stays { C.stays crew.new ≡ C.stays crew.old }
     ensures memory { IfErr result (λ e. e ≡ End.Memory) }
@@ -175,15 +178,17 @@ fn take_one<K: Kit + Drop, N: Namer + Drop, C: Crew<K = K, N = N>>(
     ensures less { OnOk result (left master.new (C.out crew.new) < left master.old (C.out crew.old)) }
     ensures plan { OnOk result (master.new.board.plan ≡ master.old.board.plan) }
     ensures told { OnOk result (ToldOn master.old.board.journal master.new.board.journal (C.told crew.old) (C.told crew.new)) }
-    ensures does { OnOk result (Does (N.digest (C.shop crew.old).namer) C.goes (C.record_of crew.old) master.old.board
-        (C.record_of crew.new) master.new.board) }
+    ensures does { OnOk result (Does K.gives N.digest (C.shop crew.old)
+        (Kept K.gives N.digest (C.shop crew.old) (C.is_sound crew.old) master.old (C.out crew.old) state) C.goes
+        (C.record_of crew.old) master.old.board (C.record_of crew.new) master.new.board) }
     ensures shop { C.shop crew.new ≡ C.shop crew.old }
     ensures stays { C.stays crew.new ≡ C.stays crew.old }
     ensures end { IfErr result (λ e. Kept K.gives N.digest (C.shop crew.old) (C.is_sound crew.old) master.old (C.out crew.old) state → Ended K.gives N.digest (C.shop crew.old) master.old.board.plan master.new.board.journal e) }
     ensures sound { IfErr result (λ e. e ≢ End.Memory → C.is_sound crew.new ≡ true) }
     ensures last { IfErr result (λ e. e ≢ End.Memory → ToldOn master.old.board.journal master.new.board.journal (C.told crew.old) (C.told crew.new)) }
-    ensures ends { IfErr result (λ e. e ≢ End.Memory → Ends (N.digest (C.shop crew.old).namer) C.goes (C.record_of crew.old) master.old.board
-        (C.record_of crew.new) master.new.board.journal) }
+    ensures ends { IfErr result (λ e. Ends K.gives N.digest (C.shop crew.old)
+        (Kept K.gives N.digest (C.shop crew.old) (C.is_sound crew.old) master.old (C.out crew.old) state) C.goes
+        (C.record_of crew.old) master.old.board (C.record_of crew.new) master.new.board.journal e) }
 {
     rows_stay();
     turns_come_to_an_end();
@@ -215,6 +220,9 @@ fn come_round<K: Kit + Drop, N: Namer + Drop, C: Crew<K = K, N = N>>(
     requires none_out { master.now.board.orders ≡ [] }
     requires none_runs { CanRun master.now.board [] }
     ensures end { Kept K.gives N.digest (C.shop crew.now) (C.is_sound crew.now) master.now (C.out crew.now) state → Ended K.gives N.digest (C.shop crew.now) master.now.board.plan master.now.board.journal result }
+    ensures ends { Ends K.gives N.digest (C.shop crew.now)
+        (Kept K.gives N.digest (C.shop crew.now) (C.is_sound crew.now) master.now (C.out crew.now) state) C.goes
+        (C.record_of crew.now) master.now.board (C.record_of crew.now) master.now.board.journal result }
 {
     match master.circle() {
         Ok(Some(names)) => RunEnd::Endless(names),
@@ -235,15 +243,17 @@ pub(crate) fn turn<K: Kit + Drop, N: Namer + Drop, C: Crew<K = K, N = N>>(
     ensures less { OnOk result (left master.new (C.out crew.new) < left master.old (C.out crew.old)) }
     ensures plan { OnOk result (master.new.board.plan ≡ master.old.board.plan) }
     ensures told { OnOk result (ToldOn master.old.board.journal master.new.board.journal (C.told crew.old) (C.told crew.new)) }
-    ensures does { OnOk result (Does (N.digest (C.shop crew.old).namer) C.goes (C.record_of crew.old) master.old.board
-        (C.record_of crew.new) master.new.board) }
+    ensures does { OnOk result (Does K.gives N.digest (C.shop crew.old)
+        (Kept K.gives N.digest (C.shop crew.old) (C.is_sound crew.old) master.old (C.out crew.old) state.old) C.goes
+        (C.record_of crew.old) master.old.board (C.record_of crew.new) master.new.board) }
     ensures shop { C.shop crew.new ≡ C.shop crew.old }
     ensures stays { C.stays crew.new ≡ C.stays crew.old }
     ensures end { IfErr result (λ e. Kept K.gives N.digest (C.shop crew.old) (C.is_sound crew.old) master.old (C.out crew.old) state.old → Ended K.gives N.digest (C.shop crew.old) master.old.board.plan master.new.board.journal e) }
     ensures sound { IfErr result (λ e. e ≢ End.Memory → C.is_sound crew.new ≡ true) }
     ensures last { IfErr result (λ e. e ≢ End.Memory → ToldOn master.old.board.journal master.new.board.journal (C.told crew.old) (C.told crew.new)) }
-    ensures ends { IfErr result (λ e. e ≢ End.Memory → Ends (N.digest (C.shop crew.old).namer) C.goes (C.record_of crew.old) master.old.board
-        (C.record_of crew.new) master.new.board.journal) }
+    ensures ends { IfErr result (λ e. Ends K.gives N.digest (C.shop crew.old)
+        (Kept K.gives N.digest (C.shop crew.old) (C.is_sound crew.old) master.old (C.out crew.old) state.old) C.goes
+        (C.record_of crew.old) master.old.board (C.record_of crew.new) master.new.board.journal e) }
 {
     if let Some(loss) = master.due() {
         lose_one(master, crew, *state, loss);

@@ -1,2 +1,2 @@
-mod Began
-mod Lent
+pub mod Began
+pub mod Lent

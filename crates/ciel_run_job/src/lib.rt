@@ -6,7 +6,7 @@
 #![tactic(auto)]
 
 mod gates;
-mod opening;
+pub mod opening;
 pub mod run;
 
 pub use ciel_run_drive::law;

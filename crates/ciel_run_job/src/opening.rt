@@ -28,7 +28,7 @@ use std::sync::Arc;
 
 /// What a run begins with.
 #[derive(Drop)]
-pub(crate) struct Opened<K, N: Namer> {
+pub struct Opened<K, N: Namer> {
     pub shop: Arc<Shop<K, N>, Global>,
     pub master: Master<K, N>,
     pub eyes: Vec<Eye>,
@@ -51,7 +51,7 @@ fn main_call<N: Namer>(alloc: Global, namer: &N) -> Result<Named, Memory>
 /// A shop with this job and empty shelves, its master, and its workers' eyes.
 ///
 /// Answers `Memory` for want of memory.
-pub(crate) fn open<K: Drop, N: Namer + Drop>(
+pub fn open<K: Drop, N: Namer + Drop>(
     alloc: Global,
     job: Job,
     kit: K,

@@ -192,18 +192,18 @@ where
 
 /// A run that can begin: what was opened, with the gates of its workers, and the others beside them.
 #[derive(Drop)]
-struct Begun<K, N: Namer, G: Drop> {
-    opened: Opened<K, N>,
-    own: Vec<G>,
-    others: Vec<G>,
-    plan: Snapshot<RunPlan>,
-    seed: u64,
+pub struct Begun<K, N: Namer, G: Drop> {
+    pub opened: Opened<K, N>,
+    pub own: Vec<G>,
+    pub others: Vec<G>,
+    pub plan: Snapshot<RunPlan>,
+    pub seed: u64,
 }
 
 /// Opens a run, and takes the gates for it.
 ///
 /// Answers `Memory` for want of memory.
-fn begin<K: Drop, N: Namer + Drop, G: Drop>(
+pub fn begin<K: Drop, N: Namer + Drop, G: Drop>(
     alloc: Global,
     job: Job,
     kit: K,
@@ -237,7 +237,7 @@ fn begin<K: Drop, N: Namer + Drop, G: Drop>(
 }
 
 /// Puts the other gates back behind the workers'. Where there is no memory for it, the run ends so.
-fn put_back<G: Drop>(ran: Ran, mut gates: Vec<G>, mut others: Vec<G>) -> (Ran, Vec<G>)
+pub fn put_back<G: Drop>(ran: Ran, mut gates: Vec<G>, mut others: Vec<G>) -> (Ran, Vec<G>)
     ensures journal { result.0.journal ≡ ran.journal }
     ensures end { (result.0.end ≡ ran.end) ⊎ (result.0.end ≡ RunEnd.Memory) }
     ensures gates { result.0.end ≢ RunEnd.Memory → result.1.items ≡ gates.items ++ others.items }
@@ -253,7 +253,7 @@ fn put_back<G: Drop>(ran: Ran, mut gates: Vec<G>, mut others: Vec<G>) -> (Ran, V
 }
 
 /// A run that didn't begin, for want of memory.
-fn not_begun(alloc: Global) -> Ran
+pub fn not_begun(alloc: Global) -> Ran
     ensures end { result.end ≡ RunEnd.Memory }
     ensures empty { result.journal.items ≡ [] }
 {

@@ -24,9 +24,9 @@ Files = List ℕ → Option (List ℕ)
 pub of_job : (source : List ℕ) (inputs : List Input) (job : s.Job) (P : s.Job → Type 0) → IsOf source inputs job → P job → OfJob source inputs P
 of_job source inputs job P o p = (job.script, o.0, subst (λ (is : List Input). P (job_of job.script is)) o.1 p)
 
-module _ (content : Files) (w : Words) (risen : Type 0) (J : List Entry) (job : s.Job) where
+module _ (content : Files) (w : Words) (risen : Type 0) (J : List Entry) (read : List ℕ) (job : s.Job) where
   abbrev IsTheJob : Type 0
-  IsTheJob = OfLine content w (λ source inputs. FitsIn (files_of w) source inputs × IsOf source inputs job)
+  IsTheJob = OfLine content w (λ source inputs. FitsIn (files_of w) source inputs × IsOf source inputs job × (read ≡ source))
 
   pub of_run : (P : s.Job → Type 0) → IsTheJob → P job → OfRun content w risen J P
   of_run P t p = λ source inputs st. ((t source inputs st).0, of_job source inputs job P (t source inputs st).1 p)
@@ -48,6 +48,8 @@ module _ (content : Files) (w : Words) (risen : Type 0) (J : List Entry) (job : 
   cause t (Why.ReadFault path) c = absurd c
   cause t Why.WriteFault c = absurd c
   cause t (Why.TooLongInput path at) c = absurd c
+  cause t (Why.KeepFault path) c = (c.0, c.1, c.2, of_run (λ j. Unit {0}) t tt)
+  cause t (Why.LogFull path held) c = absurd c
 
   pub causes : IsTheJob → (r : Result (List ℕ) Why) → AnswersSo w J job r → IfErr r (CauseOf content w risen J)
   causes t (Ok b) a = tt
@@ -86,23 +88,36 @@ module _ (content : Files) (w : Words) (risen : Type 0) (J : List Entry) (job : 
   root t (Err Why.Memory) a p x = absurd x
   root t (Err (Why.TooLongInput path at)) a p x = absurd x
   root t (Err (Why.TooDeepPlain depth)) a p x = absurd x
+  root t (Err (Why.KeepFault path)) a p x = absurd x
+  root t (Err (Why.LogFull path held)) a p x = absurd a.none
 
--- where no run on the engine began, the line asks for the sequential interpreter
-pub no_run : (w : Words) (J : List Entry) (job : s.Job) (r : Result (List ℕ) Why) → AnswersSo w J job r → NoRunOf w.plain r → w.plain ≡ true
-no_run w J job (Ok b) a n = n
-no_run w J job (Err Why.Done) a n = n
+  -- ---- the log
+
+  -- what the log's file tells of the run of this job
+  pub logged : (P : List ℕ → List Input → Type 0) → IsTheJob → ((inputs : List Input) → IsOf read inputs job → P read inputs) → OfLine content w P
+  logged P t told = λ source inputs st.
+      let here = t source inputs st in
+      subst (λ (bytes : List ℕ). P bytes inputs) here.2
+      (told inputs (subst (λ (bytes : List ℕ). IsOf bytes inputs job) (sym here.2) here.1))
+
+-- where no run on the engine began, the line asks for the sequential interpreter; or its log couldn't be begun
+pub no_run : (w : Words) (J : List Entry) (job : s.Job) (r : Result (List ℕ) Why) → AnswersSo w J job r → NoRunOf w.plain r → J ≡ []
+no_run w J job (Ok b) a n = a.plain n
+no_run w J job (Err Why.Done) a n = a.plain n
 no_run w J job (Err Why.Usage) a n = absurd a.none
 no_run w J job (Err (Why.Syntax kind line col)) a n = absurd a.none
-no_run w J job (Err (Why.Fault fault)) a n = n
-no_run w J job (Err (Why.Endless names)) a n = n
-no_run w J job (Err (Why.TooMany held given)) a n = n
-no_run w J job (Err Why.AllLost) a n = n
-no_run w J job (Err (Why.NameClash kept given)) a n = n
+no_run w J job (Err (Why.Fault fault)) a n = a.plain n
+no_run w J job (Err (Why.Endless names)) a n = a.plain n
+no_run w J job (Err (Why.TooMany held given)) a n = a.plain n
+no_run w J job (Err Why.AllLost) a n = a.plain n
+no_run w J job (Err (Why.NameClash kept given)) a n = a.plain n
 no_run w J job (Err (Why.ReadFault path)) a n = absurd a.none
-no_run w J job (Err Why.WriteFault) a n = n
-no_run w J job (Err Why.Memory) a n = n
+no_run w J job (Err Why.WriteFault) a n = a.plain n
+no_run w J job (Err Why.Memory) a n = a.plain n
 no_run w J job (Err (Why.TooLongInput path at)) a n = absurd a.none
-no_run w J job (Err (Why.TooDeepPlain depth)) a n = a.none.0
+no_run w J job (Err (Why.TooDeepPlain depth)) a n = a.plain a.none.0
+no_run w J job (Err (Why.KeepFault path)) a n = a.none.2
+no_run w J job (Err (Why.LogFull path held)) a n = absurd a.none
 
 -- ---- which paths were asked
 
@@ -122,6 +137,8 @@ job_asks w J job (Err Why.AllLost) ps b n a t = t
 job_asks w J job (Err (Why.NameClash kept given)) ps b n a t = t
 job_asks w J job (Err Why.WriteFault) ps b n a t = t
 job_asks w J job (Err (Why.TooDeepPlain depth)) ps b n a t = t
+job_asks w J job (Err (Why.KeepFault path)) ps b n a t = t
+job_asks w J job (Err (Why.LogFull path held)) ps b n a t = t
 
 -- a job that was read has no file that wasn't
 pub job_order : (content : Files) (w : Words) (J : List Entry) (job : s.Job) (r : Result (List ℕ) Why) (f : Option files.Line)
@@ -140,3 +157,5 @@ job_order content w J job (Err Why.AllLost) f b n a = tt
 job_order content w J job (Err (Why.NameClash kept given)) f b n a = tt
 job_order content w J job (Err Why.WriteFault) f b n a = tt
 job_order content w J job (Err (Why.TooDeepPlain depth)) f b n a = tt
+job_order content w J job (Err (Why.KeepFault path)) f b n a = tt
+job_order content w J job (Err (Why.LogFull path held)) f b n a = tt

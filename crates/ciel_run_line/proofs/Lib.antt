@@ -1,3 +1,5 @@
 pub mod Ran
 pub mod Named
 mod Comes
+mod ShortHeader
+mod Began

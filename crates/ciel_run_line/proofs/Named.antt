@@ -1,6 +1,7 @@
 -- From what was loaded or generated to the job of a line, and why there is none.
-use Rattle.std.proofs.Common.{◌≡◌, ◌<◌, ◌≤◌, ◌^◌, ℕ, List, [], Option, Some, None, Contains, length, map, refl, sym, ap, subst, ◌∙◌, arith}
+use Rattle.std.proofs.Common.{◌≡◌, ◌<◌, ◌≤◌, ◌^◌, ℕ, List, [], ◌∷◌, Option, Some, None, IfSome, Contains, length, map, refl, sym, ap, subst, ◌∙◌, arith}
 use Rattle.std.proofs.lemmas.List.{length-map}
+use Rattle.std.specs.List.{AllByRecursion}
 use Rattle.sky_base.specs.See as s
 use Rattle.ciel_io.specs.Tells.{Tells}
 use Rattle.ciel_journal.specs.Entries.{Entry}
@@ -27,14 +28,14 @@ at path inputs = record { script = path; inputs = inputs }
 
 -- ---- can be run
 
-pub loaded_can : (content : Files) (path : List ℕ) (inputs : List (List ℕ × List ℕ)) (job : s.Job) → length inputs ≤ 256
-    → IsLoaded content (at path inputs) job → CanRunJob job
-loaded_can content path inputs job few l =
+pub loaded_can : (content : Files) (path : List ℕ) (inputs : List (List ℕ × List ℕ)) (read : List ℕ) (job : s.Job) → length inputs ≤ 256
+    → IsLoaded content (at path inputs) read job → CanRunJob job
+loaded_can content path inputs read job few l =
     let n : length (map name_in inputs) ≡ length inputs = length-map inputs name_in in
-    (map name_in inputs, l.read, omega (arith, n, few))
+    (map name_in inputs, read, l.read, omega (arith, n, few))
 
-pub generated_can : (lines : ℕ) (job : s.Job) → IsReadJob (keys_of (generated_inputs lines)) job → CanRunJob job
-generated_can lines job r = (keys_of (generated_inputs lines), r, omega arith)
+pub generated_can : (lines : ℕ) (job : s.Job) → IsReadJob (keys_of (generated_inputs lines)) generator job → CanRunJob job
+generated_can lines job r = (keys_of (generated_inputs lines), generator, r, omega arith)
 
 -- ---- the job of a line
 
@@ -50,18 +51,28 @@ module _ (content : Files) (w : Words) where
   by_lines P lines e g p =
       subst (λ (o : Option (List ℕ)). P (files_named o w.inputs) w.generate) (sym e) (subst (P None) (sym g) p)
 
-  pub loaded_of : (path : List ℕ) (job : s.Job) → w.script ≡ Some path → IsLoaded content (at path w.inputs) job
-      → OfLine content w (λ source inputs. FitsIn (files_of w) source inputs × IsOf source inputs job)
-  loaded_of path job e l =
-      by_path (λ f g. (source : List ℕ) (inputs : List Input) → StandsIn content f g source inputs → FitsIn f source inputs
-      × IsOf source inputs job) path e l.stands
+  told_is : (told : Option (List ℕ)) (read file : List ℕ) → told ≡ Some file → IfSome told (λ f. read ≡ f) → read ≡ file
+  told_is None read file e h = absurd cc
+  told_is (Some f) read file e h = h ∙ cc
 
-  pub generated_of : (lines : ℕ) (job : s.Job) → w.script ≡ None → w.generate ≡ Some lines → IsOf generator (generated_inputs lines) job
-      → OfLine content w (λ source inputs. FitsIn (files_of w) source inputs × IsOf source inputs job)
-  generated_of lines job e g o =
+  pub loaded_of : (path read : List ℕ) (job : s.Job) → w.script ≡ Some path → IsLoaded content (at path w.inputs) read job
+      → OfLine content w (λ source inputs. FitsIn (files_of w) source inputs × IsOf source inputs job × (read ≡ source))
+  loaded_of path read job e l =
+      by_path (λ f g. (source : List ℕ) (inputs : List Input) → StandsIn content f g source inputs → FitsIn f source inputs
+      × IsOf source inputs job × (read ≡ source)) path e
+      (λ source inputs h. (
+        (l.stands source inputs h).0,
+        (l.stands source inputs h).1,
+        told_is (content path) read source h.source_there l.found,
+      ))
+
+  pub generated_of : (lines : ℕ) (read : List ℕ) (job : s.Job) → w.script ≡ None → w.generate ≡ Some lines → read ≡ generator
+      → IsOf generator (generated_inputs lines) job
+      → OfLine content w (λ source inputs. FitsIn (files_of w) source inputs × IsOf source inputs job × (read ≡ source))
+  generated_of lines read job e g same o =
       by_lines (λ f g. (source : List ℕ) (inputs : List Input) → StandsIn content f g source inputs → FitsIn f source inputs
-      × IsOf source inputs job) lines e g
-      (λ source inputs st. (tt, generated_is source inputs st))
+      × IsOf source inputs job × (read ≡ source)) lines e g
+      (λ source inputs st. (tt, generated_is source inputs st, same ∙ sym st.0))
     where
       generated_is : (source : List ℕ) (inputs : List Input) → (source ≡ generator) × (inputs ≡ generated_inputs lines) → IsOf source inputs job
       generated_is source inputs st = subst (λ (x : List ℕ × List Input). IsOf x.0 x.1 job) (λ i. (sym st.0 i, sym st.1 i)) o
@@ -89,6 +100,8 @@ module _ (content : Files) (w : Words) where
     back (Why.NameClash kept given) n = absurd n
     back Why.WriteFault n = absurd n
     back (Why.TooDeepPlain depth) n = absurd n
+    back (Why.KeepFault path) n = absurd n
+    back (Why.LogFull path held) n = absurd n
 
     unloaded : (path : List ℕ) (why : NoJob) → NotLoaded content (at path w.inputs) risen why
         → None_of (Some (at path w.inputs)) w.generate (no_job_view why)
@@ -123,6 +136,8 @@ module _ (content : Files) (w : Words) where
     no_job_cause J (Why.TooMany held given) n = absurd n
     no_job_cause J Why.AllLost n = absurd n
     no_job_cause J (Why.NameClash kept given) n = absurd n
+    no_job_cause J (Why.KeepFault path) n = absurd n
+    no_job_cause J (Why.LogFull path held) n = absurd n
     no_job_cause J Why.WriteFault n = absurd n
     no_job_cause J (Why.TooDeepPlain depth) n = absurd n
 
@@ -159,3 +174,21 @@ module _ (content : Files) (w : Words) where
   pub not_generated_order : (why : NoScript) (f : Option files.Line) (b n : Option (List (List ℕ))) → StopsFor content f b n (no_script_view why)
   not_generated_order (NoScript.Syntax kind l c) f b n = tt
   not_generated_order NoScript.Memory f b n = tt
+
+-- ---- the names of its inputs are short, and there are few
+
+pub short_keys : (is : List (List ℕ × List ℕ)) (inputs : List Input) → keys_of inputs ≡ map name_in is
+    → AllByRecursion (λ (i : List ℕ × List ℕ). length i.0 ≤ 64) is → AllByRecursion (λ (i : List ℕ × List ℕ). length i.0 ≤ 64) inputs
+short_keys is [] e s = tt
+short_keys [] (b ∷ bs) e s = absurd cc
+short_keys (i ∷ is) (b ∷ bs) e s =
+    let one : i.0 ≡ b.0 = cc in
+    let rest : keys_of bs ≡ map name_in is = cc in
+    (subst (λ (key : List ℕ). length key ≤ 64) one s.0, short_keys is bs rest s.1)
+
+pub few_inputs : (is : List (List ℕ × List ℕ)) (inputs : List Input) → keys_of inputs ≡ map name_in is → length is ≤ 256 → length inputs ≤ 256
+few_inputs is inputs e few =
+    let a : length (keys_of inputs) ≡ length inputs = length-map inputs (λ (i : Input). i.0) in
+    let b : length (map name_in is) ≡ length is = length-map is name_in in
+    let c = ap length e in
+    omega (arith, a, b, c, few)

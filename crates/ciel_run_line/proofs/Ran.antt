@@ -33,6 +33,8 @@ module _ (w : Words) (job : s.Job) where
   plain_cause p (Why.ReadFault path) c = absurd c
   plain_cause p Why.WriteFault c = absurd c
   plain_cause p (Why.TooLongInput path at) c = absurd c
+  plain_cause p (Why.KeepFault path) c = absurd c
+  plain_cause p (Why.LogFull path held) c = absurd c
 
   -- by the sequential interpreter
   pub plain_answers : w.plain ≡ true → (r : Result (List ℕ) Why) → IfOk r (λ b. s.Means job over_lines (Answered.bytes b)) → IfErr r (PlainCause job)
@@ -60,6 +62,16 @@ module _ (w : Words) (job : s.Job) where
     driven = inl refl;
     plain = λ e. refl;
     root = λ e. tt;
+  }
+
+  -- where the log couldn't be begun
+  pub unbegun_answers : (path : List ℕ) → w.plain ≡ false → w.log ≡ Some path → AnswersSo w [] job (Err (Why.KeepFault path))
+  unbegun_answers path p e = record {
+    bytes = tt;
+    none = (p, e, refl);
+    driven = inl refl;
+    plain = λ q. refl;
+    root = λ q. tt;
   }
 
   module _ (J : List Entry) (p : w.plain ≡ false) where
@@ -119,13 +131,13 @@ module _ (w : Words) (job : s.Job) where
 
 pub can_read : (job : s.Job) → CanRunJob job → IsRead job.script
 can_read job c =
-    let w = c.1.within in
-    (c.1.source, c.0, c.1.is, omega (arith, w))
+    let w = c.2.within in
+    (c.1, c.0, c.2.is, omega (arith, w))
 
 pub can_inputs : (job : s.Job) → CanRunJob job → InputsInOrder job
-can_inputs job c = c.1.named ∙ sym (ap (λ sc. sc.keys) c.1.is.4)
+can_inputs job c = c.2.named ∙ sym (ap (λ sc. sc.keys) c.2.is.4)
 
 pub can_keys : (job : s.Job) → CanRunJob job → length job.script.keys < 2 ^ 32
 can_keys job c =
-    let e = ap (λ sc. length sc.keys) c.1.is.4 in
-    subst (λ n. n < 2 ^ 32) (sym e) c.2
+    let e = ap (λ sc. length sc.keys) c.2.is.4 in
+    subst (λ n. n < 2 ^ 32) (sym e) c.3

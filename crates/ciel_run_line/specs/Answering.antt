@@ -12,7 +12,7 @@ use Rattle.ciel_run_log.specs.declared.why.Why.{Why}
 
 -- its script was read, over inputs of these names, not too many
 abbrev pub CanRunJob : s.Job → Type 0
-CanRunJob job = (names : List (List ℕ)) × IsReadJob names job × (length names < 2 ^ 32)
+CanRunJob job = (names : List (List ℕ)) × (source : List ℕ) × IsReadJob names source job × (length names < 2 ^ 32)
 
 -- why the sequential interpreter has no bytes
 abbrev pub PlainCause : s.Job → Why → Type 0

@@ -17,9 +17,10 @@ NoRun plain (Why.TooLongInput path at) = Unit {0}
 NoRun plain (Why.TooDeepPlain depth) = Unit {0}
 NoRun plain _ = plain ≡ true
 
--- of a result, where none is there
+-- of a result, where none is there; where the log couldn't be begun, none began
 abbrev pub NoRunOf : Bool → Result (List ℕ) Why → Type 0
 NoRunOf plain (Ok answer) = plain ≡ true
+NoRunOf plain (Err (Why.KeepFault path)) = Unit {0}
 NoRunOf plain (Err why) = NoRun plain why
 
 -- the root task came to its end
@@ -27,6 +28,7 @@ abbrev pub ShowsEnd : Why → Type 0
 ShowsEnd Why.Done = Unit {0}
 ShowsEnd (Why.Fault fault) = Unit {0}
 ShowsEnd Why.WriteFault = Unit {0}
+ShowsEnd (Why.LogFull path held) = Unit {0}
 ShowsEnd _ = ⊥
 
 abbrev pub ShowsResult : Result (List ℕ) Why → Type 0

@@ -55,6 +55,7 @@ module _ (w : Words) (J : List Entry) (job : s.Job) where
   JobCause Why.AllLost = LosesAll
   JobCause (Why.NameClash kept given) = Clashes kept given
   JobCause (Why.TooDeepPlain depth) = IsTooDeep depth
+  JobCause (Why.KeepFault path) = (w.plain ≡ false) × (w.log ≡ Some path) × (J ≡ [])
   JobCause Why.Memory = Unit {0}
   JobCause _ = ⊥
 
@@ -105,4 +106,5 @@ module _ (content : List ℕ → Option (List ℕ)) (w : Words) (risen : Type 0)
   CauseOf (Why.TooMany held None) = (w.plain ≡ true) × OfRun (λ job. HasTooMany w J job held None)
   CauseOf (Why.TooMany held (Some given)) = (w.plain ≡ false) × OfRun (λ job. HasTooMany w J job held (Some given))
   CauseOf (Why.NameClash kept given) = (w.plain ≡ false) × OfRun (λ job. Clashes w J job kept given)
+  CauseOf (Why.KeepFault path) = (w.plain ≡ false) × (w.log ≡ Some path) × (J ≡ []) × OfRun (λ job. Unit {0})
   CauseOf why = NoJobBy why

@@ -6,3 +6,4 @@ pub mod Runs
 pub mod Causes
 pub mod Asked
 pub mod Answering
+pub mod Keeping

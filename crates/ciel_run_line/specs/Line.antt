@@ -77,6 +77,11 @@ abbrev pub is_plain : Option Words → Bool
 is_plain None = false
 is_plain (Some w) = w.plain
 
+-- the path of the log that it asks for
+abbrev pub log_of : Option Words → Option (List ℕ)
+log_of None = None
+log_of (Some w) = w.log
+
 -- how many workers it asks for
 abbrev pub workers_of : Option Words → ℕ
 workers_of None = 0

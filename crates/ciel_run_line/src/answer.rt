@@ -1,6 +1,7 @@
 //! What a job comes to, before anything is written: by the sequential interpreter, or on the engine.
 
-ghost use Rattle.std.specs.Prelude.{◌≡◌, ◌≢◌, ◌≤◌, ◌<◌, ◌^◌, ℕ, List, Err, IfErr, IfOk, drop, length, map, true};
+ghost use Rattle.std.specs.Prelude.{◌≡◌, ◌≢◌, ◌≤◌, ◌<◌, ◌^◌, ℕ, List, [], None, Some, Err, IfErr, IfOk, drop, false, length, map, true};
+ghost use Rattle.std.specs.List.{AllByRecursion};
 ghost use Rattle.sky_base.specs.JobView.{job_view};
 ghost use Rattle.sky_base.specs.See.{Answered as Meant, Means};
 ghost use Rattle.ciel_journal.specs.Job.{Each};
@@ -9,6 +10,15 @@ ghost use Rattle.ciel_run_job.specs.Told.{ToldBy};
 ghost use Rattle.ciel_run_job.specs.Told.{told_of};
 ghost use Rattle.ciel_master.specs.Seen.{plan_view};
 ghost use Rattle.ciel_master.specs.Views.{entry_view};
+ghost use Rattle.ciel_log.specs.Logging.{most};
+ghost use Rattle.ciel_log.specs.Logs.{LogWritten};
+ghost use Rattle.ciel_log.specs.declared.state.LogState.{LogState as LogStateSeen};
+ghost use Rattle.ciel_run_load.specs.Line.{Input, keys_of};
+ghost use Rattle.ciel_run_load.specs.Loading.{IsOf};
+ghost use Rattle.ciel_run_logged.specs.Keeping.{IfOver, Keeps};
+ghost use Rattle.ciel_words.specs.Inputs.{most_inputs, most_name};
+ghost use Rattle.ciel_run_line.specs.Asked.{NoRunOf};
+ghost use Rattle.ciel_run_line.specs.Keeping.{KeepsLog, LogTold};
 ghost use Rattle.line_kit.specs.Gives.{gives};
 ghost use Rattle.ciel_words.specs.Sound.{LineIsSound};
 ghost use Rattle.ciel_run_line.specs.Answering.{CanRunJob, PlainCause, end_view};
@@ -18,27 +28,33 @@ ghost use Rattle.ciel_run_line.specs.Runs.{digest_of, plan_of};
 ghost use Rattle.ciel_run_line.specs.Source.{over_lines};
 ghost use Rattle.ciel_master.specs.declared.stop.RunEnd.{RunEnd};
 
+use crate::header::begin_log;
 use ciel_gate::gate::Gate;
+use ciel_io::keep::Keep;
+use ciel_log::state::LogState;
 use ciel_master::entry::Entry;
 use ciel_master::plan::{Losses, RunPlan};
 use ciel_master::stop::RunEnd;
 use ciel_name::name::{Sha1Namer, Sha256Namer};
 use ciel_run_job::run::{Ran, run_job};
+use ciel_run_load::load::Loaded;
 use ciel_run_log::why::Why;
+use ciel_run_logged::run::{Begins, RanLogged, run_logged};
 use ciel_words::words::{NameKind, Words};
 use line_flow::kit::FlowKit;
 use sky_base::job::Job;
-use sky_base::text::{Bytes, Memory};
+use sky_base::text::{Bytes, Memory, Txt};
 use sky_plain::plain::{Answer, plain};
 use std::alloc::Global;
 use std::sync::Wait;
 use std::thread::Threads;
 
-/// What a job comes to, and the journal of its run.
+/// What a job comes to, the journal of its run, and how its log stands, where it has one.
 #[derive(Drop)]
 pub struct Answered {
     pub result: Result<Bytes, Why>,
     pub journal: Vec<Entry>,
+    pub state: LogState,
 }
 
 /// What a job comes to by the sequential interpreter.
@@ -116,37 +132,168 @@ where
     }
 }
 
-/// What the job of a line comes to.
-pub fn answer<G, R>(rt: R, alloc: Global, line: &Words, job: Job, gates: &mut Vec<G>) -> Answered
+/// The same with a log, which was begun.
+fn run_with_log<G, D, R>(
+    rt: R,
+    alloc: Global,
+    names: NameKind,
+    job: Job,
+    gates: &mut Vec<G>,
+    plan: RunPlan,
+    keep: &mut D,
+    log: Begins,
+) -> RanLogged
 where
     G: Gate + Send + 'static,
+    D: Keep,
+    R: Threads + Wait + Copy + Send + Drop + 'static,
+    requires job { CanRunJob (job_view job) }
+    requires workers { (0 < plan.workers) × (plan.workers ≤ 64) }
+    requires losses { Each (λ (loss : ℕ × ℕ). loss.1 < plan.workers) plan.losses }
+    requires gates { length gates.old.items ≡ 64 }
+    requires held { log.held ≤ most }
+    ensures end { EndsSo (digest_of names) (job_view job) gives (plan_view plan) (map entry_view result.ran.journal.items) result.ran.end }
+    ensures told { result.ran.end ≢ RunEnd.Memory
+        → ToldBy (map entry_view result.ran.journal.items) (told_of G.entered plan.workers gates.old.items)
+        (told_of G.entered plan.workers gates.new.items) }
+    ensures others { result.ran.end ≢ RunEnd.Memory → drop plan.workers gates.new.items ≡ drop plan.workers gates.old.items }
+    ensures all { result.ran.end ≢ RunEnd.Memory → length gates.new.items ≡ 64 }
+    ensures keeps { result.ran.end ≢ RunEnd.Memory → Keeps log.path log.held
+        (record { files = D.files keep.old; asked = D.asked keep.old; faults = D.faults keep.old })
+        (record { files = D.files keep.new; asked = D.asked keep.new; faults = D.faults keep.new }) result.state }
+    ensures written { IfOver result.ran.end (LogWritten (digest_of names) (job_view job) gives (plan_view plan) log.path log.held (D.files keep.old)
+        (D.files keep.new) (map entry_view result.ran.journal.items) result.state) }
+{
+    match names {
+        NameKind::Sha1 => run_logged(rt, alloc, job, FlowKit, Sha1Namer, gates, plan, keep, log),
+        NameKind::Sha256 => run_logged(
+            rt,
+            alloc,
+            job,
+            FlowKit,
+            Sha256Namer,
+            gates,
+            plan,
+            keep,
+            log,
+        ),
+    }
+}
+
+/// What a line comes to whose job didn't run.
+pub(crate) fn not_run(alloc: Global, why: Why) -> Answered
+    ensures result { result.result ≡ Err why }
+    ensures empty { result.journal.items ≡ [] }
+    ensures whole { result.state ≡ LogStateSeen.Whole }
+{
+    Answered {
+        result: Err(why),
+        journal: Vec::new(alloc),
+        state: LogState::Whole,
+    }
+}
+
+/// What the job of a line comes to on the engine, with a log at this path, which is begun before.
+fn answer_with_log<G, D, R>(
+    rt: R,
+    alloc: Global,
+    line: &Words,
+    path: &Txt,
+    loaded: Loaded,
+    plan: RunPlan,
+    gates: &mut Vec<G>,
+    keep: &mut D,
+) -> Answered
+where
+    G: Gate + Send + 'static,
+    D: Keep,
     R: Threads + Wait + Copy + Send + Drop + 'static,
     requires line { LineIsSound line.now }
-    requires job { CanRunJob (job_view job) }
+    requires plain { line.now.plain ≡ false }
+    requires path { line.now.log ≡ Some path.now }
+    requires plan { plan_view plan ≡ plan_of line.now }
+    requires job { CanRunJob (job_view loaded.job) }
+    requires keys { AllByRecursion (λ (i : List ℕ × List ℕ). length i.0 ≤ most_name) (job_view loaded.job).inputs }
+    requires few { length (job_view loaded.job).inputs ≤ most_inputs }
     requires gates { length gates.old.items ≡ 64 }
-    ensures answers { AnswersSo line.now (map entry_view result.journal.items) (job_view job) result.result }
+    ensures answers { AnswersSo line.now (map entry_view result.journal.items) (job_view loaded.job) result.result }
     ensures told { result.result ≢ Err Why.Memory
         → ToldBy (map entry_view result.journal.items) (told_of G.entered line.now.workers gates.old.items)
         (told_of G.entered line.now.workers gates.new.items) }
     ensures others { result.result ≢ Err Why.Memory → drop line.now.workers gates.new.items ≡ drop line.now.workers gates.old.items }
     ensures all { result.result ≢ Err Why.Memory → length gates.new.items ≡ 64 }
-    ensures plain { line.now.plain ≡ true → gates.new ≡ gates.old }
+    ensures keeps { KeepsLog line.now.log
+        (record { files = D.files keep.old; asked = D.asked keep.old; faults = D.faults keep.old })
+        (record { files = D.files keep.new; asked = D.asked keep.new; faults = D.faults keep.new }) result.result result.state }
+    ensures logged { (inputs : List Input) → IsOf loaded.source inputs (job_view loaded.job)
+        → LogTold line.now loaded.source inputs (map entry_view result.journal.items) (D.files keep.new) result.state result.result }
+    ensures kept { NoRunOf false result.result → gates.new ≡ gates.old }
 {
-    if line.plain {
-        return Answered {
-            result: plainly(alloc, &job),
-            journal: Vec::new(alloc),
-        };
-    }
-    let Ok(plan) = plan(alloc, line) else {
-        return Answered {
-            result: Err(Why::Memory),
-            journal: Vec::new(alloc),
-        };
+    let Loaded { source, job } = loaded;
+    let log = match begin_log(alloc, line, path, source.as_slice(), &job, keep) {
+        Ok(log) => log,
+        Err(why) => return not_run(alloc, why),
     };
-    let Ran { end, journal } = run(rt, alloc, line.names, job, gates, plan);
+    let RanLogged {
+        ran: Ran { end, journal },
+        state,
+    } = run_with_log(rt, alloc, line.names, job, gates, plan, keep, log);
     Answered {
         result: end_of(end),
         journal,
+        state,
+    }
+}
+
+/// What the job of a line comes to.
+pub fn answer<G, D, R>(
+    rt: R,
+    alloc: Global,
+    line: &Words,
+    loaded: Loaded,
+    gates: &mut Vec<G>,
+    keep: &mut D,
+) -> Answered
+where
+    G: Gate + Send + 'static,
+    D: Keep,
+    R: Threads + Wait + Copy + Send + Drop + 'static,
+    requires line { LineIsSound line.now }
+    requires job { CanRunJob (job_view loaded.job) }
+    requires keys { AllByRecursion (λ (i : List ℕ × List ℕ). length i.0 ≤ most_name) (job_view loaded.job).inputs }
+    requires few { length (job_view loaded.job).inputs ≤ most_inputs }
+    requires gates { length gates.old.items ≡ 64 }
+    ensures answers { AnswersSo line.now (map entry_view result.journal.items) (job_view loaded.job) result.result }
+    ensures told { result.result ≢ Err Why.Memory
+        → ToldBy (map entry_view result.journal.items) (told_of G.entered line.now.workers gates.old.items)
+        (told_of G.entered line.now.workers gates.new.items) }
+    ensures others { result.result ≢ Err Why.Memory → drop line.now.workers gates.new.items ≡ drop line.now.workers gates.old.items }
+    ensures all { result.result ≢ Err Why.Memory → length gates.new.items ≡ 64 }
+    ensures kept { NoRunOf line.now.plain result.result → gates.new ≡ gates.old }
+    ensures unasked { line.now.log ≡ None → keep.new ≡ keep.old }
+    ensures keeps { KeepsLog line.now.log
+        (record { files = D.files keep.old; asked = D.asked keep.old; faults = D.faults keep.old })
+        (record { files = D.files keep.new; asked = D.asked keep.new; faults = D.faults keep.new }) result.result result.state }
+    ensures logged { (inputs : List Input) → IsOf loaded.source inputs (job_view loaded.job)
+        → LogTold line.now loaded.source inputs (map entry_view result.journal.items) (D.files keep.new) result.state result.result }
+{
+    if line.plain {
+        return Answered {
+            result: plainly(alloc, &loaded.job),
+            journal: Vec::new(alloc),
+            state: LogState::Whole,
+        };
+    }
+    let Ok(plan) = plan(alloc, line) else {
+        return not_run(alloc, Why::Memory);
+    };
+    if let Some(path) = &line.log {
+        return answer_with_log(rt, alloc, line, path, loaded, plan, gates, keep);
+    }
+    let Ran { end, journal } = run(rt, alloc, line.names, loaded.job, gates, plan);
+    Answered {
+        result: end_of(end),
+        journal,
+        state: LogState::Whole,
     }
 }

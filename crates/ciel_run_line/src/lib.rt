@@ -3,6 +3,7 @@
 #![tactic(auto)]
 
 pub mod answer;
+mod header;
 pub mod lines;
 
 pub use ciel_run_job::law;

@@ -1,6 +1,6 @@
 //! From a line to what its job comes to: the job is loaded or generated, and answered.
 
-ghost use Rattle.std.specs.Prelude.{◌≡◌, ◌≢◌, [], None, Err, false, IfErr, IfOk, OnOk, drop, length, map};
+ghost use Rattle.std.specs.Prelude.{◌≡◌, ◌≢◌, ◌≤◌, ℕ, List, [], None, Err, false, IfErr, IfOk, OnOk, drop, length, map};
 ghost use Rattle.sky_base.specs.JobView.{job_view};
 ghost use Rattle.sky_base.specs.See.{Answered as Meant, Means};
 ghost use Rattle.ciel_run_job.specs.Told.{ToldBy};
@@ -9,24 +9,27 @@ ghost use Rattle.ciel_io.specs.Faults.{HasRisen};
 ghost use Rattle.ciel_io.specs.Tells.{Tells};
 ghost use Rattle.ciel_run_load.specs.Loading.{IsOf};
 ghost use Rattle.ciel_master.specs.Views.{entry_view};
+ghost use Rattle.std.specs.List.{AllByRecursion};
+ghost use Rattle.ciel_words.specs.Inputs.{most_inputs, most_name};
 ghost use Rattle.ciel_words.specs.Sound.{LineIsSound};
 ghost use Rattle.ciel_run_line.specs.Answering.{CanRunJob, no_job_view, no_script_view};
 ghost use Rattle.ciel_run_line.specs.Causes.{CauseOf, NoJobBy, OfRun};
 ghost use Rattle.ciel_run_line.specs.Asked.{AsksFor, AsksOf, NoRunOf, ShowsResult, StopsFor};
 ghost use Rattle.ciel_run_line.specs.Line.{FitsIn, OfLine, files_of, paths_in};
+ghost use Rattle.ciel_run_line.specs.Keeping.{KeepsLog, LogTold};
 ghost use Rattle.ciel_run_line.specs.Runs.{EndsShown, IsDriven, IsModestFor};
 ghost use Rattle.ciel_run_line.specs.Source.{over_lines};
 ghost use Rattle.ciel_run_log.specs.declared.why.Why.{Why};
 
-use crate::answer::{Answered, answer};
+use crate::answer::{Answered, answer, not_run};
 use ciel_gate::gate::Gate;
 use ciel_io::files::Files;
+use ciel_io::keep::Keep;
 use ciel_run_load::generated::generated_job;
-use ciel_run_load::load::{NoJob, load};
+use ciel_run_load::load::{Loaded, NoJob, load};
 use ciel_run_load::script::NoScript;
 use ciel_run_log::why::Why;
 use ciel_words::words::Words;
-use sky_base::job::Job;
 use std::alloc::Global;
 use std::sync::Wait;
 use std::thread::Threads;
@@ -54,11 +57,13 @@ fn why_no_script(no: NoScript) -> Why
 }
 
 /// The job of a line: its script is read, or it is generated.
-fn job_of<F: Files>(alloc: Global, line: &Words, files: &mut F) -> Result<Job, Why>
+fn job_of<F: Files>(alloc: Global, line: &Words, files: &mut F) -> Result<Loaded, Why>
     requires line { LineIsSound line.now }
-    ensures read { IfOk result (λ job. CanRunJob (job_view job)) }
-    ensures job { IfOk result (λ job. OfLine (F.content files.old) line.now
-        (λ source inputs. FitsIn (files_of line.now) source inputs × IsOf source inputs (job_view job))) }
+    ensures read { IfOk result (λ l. CanRunJob (job_view l.job)) }
+    ensures keys { IfOk result (λ l. AllByRecursion (λ (i : List ℕ × List ℕ). length i.0 ≤ most_name) (job_view l.job).inputs) }
+    ensures few { IfOk result (λ l. length (job_view l.job).inputs ≤ most_inputs) }
+    ensures job { IfOk result (λ l. OfLine (F.content files.old) line.now
+        (λ source inputs. FitsIn (files_of line.now) source inputs × IsOf source inputs (job_view l.job) × (l.source ≡ source))) }
     ensures none { IfErr result (NoJobBy (F.content files.old) line.now (HasRisen (F.faults files.old) (F.faults files.new)) []) }
     ensures asked { OnOk result (Tells (F.asked files.old) (F.asked files.new) (paths_in (files_of line.now))) }
     ensures asks { IfErr result (λ why. AsksFor why (paths_in (files_of line.now)) (F.asked files.old) (F.asked files.new)) }
@@ -66,7 +71,7 @@ fn job_of<F: Files>(alloc: Global, line: &Words, files: &mut F) -> Result<Job, W
 {
     if let Some(path) = &line.script {
         return match load(alloc, path, line.inputs.as_slice(), files) {
-            Ok(job) => Ok(job),
+            Ok(loaded) => Ok(loaded),
             Err(no) => Err(why_no_job(no)),
         };
     }
@@ -74,21 +79,23 @@ fn job_of<F: Files>(alloc: Global, line: &Words, files: &mut F) -> Result<Job, W
         unreachable!()
     };
     match generated_job(alloc, lines) {
-        Ok(job) => Ok(job),
+        Ok(loaded) => Ok(loaded),
         Err(no) => Err(why_no_script(no)),
     }
 }
 
 /// What the job of a line comes to.
-pub fn answer_line<F: Files, G, R>(
+pub fn answer_line<F: Files, G, D, R>(
     rt: R,
     alloc: Global,
     line: &Words,
     files: &mut F,
     gates: &mut Vec<G>,
+    keep: &mut D,
 ) -> Answered
 where
     G: Gate + Send + 'static,
+    D: Keep,
     R: Threads + Wait + Copy + Send + Drop + 'static,
     requires line { LineIsSound line.now }
     requires gates { length gates.old.items ≡ 64 }
@@ -108,12 +115,15 @@ where
     ensures all { result.result ≢ Err Why.Memory → length gates.new.items ≡ 64 }
     ensures asks { AsksOf result.result (paths_in (files_of line.now)) (F.asked files.old) (F.asked files.new) }
     ensures order { IfErr result.result (StopsFor (F.content files.old) (files_of line.now) (F.asked files.old) (F.asked files.new)) }
+    ensures unasked { line.now.log ≡ None → keep.new ≡ keep.old }
+    ensures keeps { KeepsLog line.now.log
+        (record { files = D.files keep.old; asked = D.asked keep.old; faults = D.faults keep.old })
+        (record { files = D.files keep.new; asked = D.asked keep.new; faults = D.faults keep.new }) result.result result.state }
+    ensures logged { OfLine (F.content files.old) line.now (λ source inputs. LogTold line.now source inputs
+        (map entry_view result.journal.items) (D.files keep.new) result.state result.result) }
 {
     match job_of(alloc, line, files) {
-        Ok(job) => answer(rt, alloc, line, job, gates),
-        Err(why) => Answered {
-            result: Err(why),
-            journal: Vec::new(alloc),
-        },
+        Ok(loaded) => answer(rt, alloc, line, loaded, gates, keep),
+        Err(why) => not_run(alloc, why),
     }
 }

@@ -61,14 +61,14 @@ module _ (content : Files) (path : List ℕ) (is : List Named) where
 
   pub loaded : (job : Job) (read : List ℕ) (keys : List (List ℕ)) → IfSome (content path) (λ file. read ≡ file) → length read ≤ limit → keys
       ≡ map name_in is → IsScript read keys job.script
-      → ReadAll content is job.inputs → IsLoaded content line job
+      → ReadAll content is job.inputs → IsLoaded content line read job
   loaded job read keys found within named s all = record {
     read = record {
-      source = read;
       is = subst (λ (ks : List (List ℕ)). IsScript read ks job.script) named s;
       within = within;
       named = read_keys content is job.inputs all;
     };
+    found = found;
     stands = λ source inputs h.
         let t = script_is read keys job.script found within named s source inputs h in
         let r = all_read content is job.inputs inputs all h.inputs_there in

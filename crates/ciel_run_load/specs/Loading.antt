@@ -22,9 +22,8 @@ abbrev pub RefusedSo : List ℕ → NoScript → Type 0
 RefusedSo source (NoScript.Syntax kind line col) = IsSyntaxFault source kind line col
 RefusedSo source NoScript.Memory = Unit {0}
 
--- the script is that of some bytes, not too many, over inputs of these names, and so are the job's inputs
-pub record IsReadJob (names : List (List ℕ)) (job : Job) : Type 0 where
-  pub source : List ℕ
+-- the script is that of these bytes, not too many, over inputs of these names, and so are the job's inputs
+pub record IsReadJob (names : List (List ℕ)) (source : List ℕ) (job : Job) : Type 0 where
   pub is : IsScript source names job.script
   pub within : length source ≤ limit
   pub named : keys_of job.inputs ≡ names
@@ -34,11 +33,11 @@ abbrev pub IsOf : List ℕ → List Input → Job → Type 0
 IsOf source inputs job = IsScript source (keys_of inputs) job.script × (job.inputs ≡ inputs)
 
 module _ (content : List ℕ → Option (List ℕ)) (line : Line) where
-  -- the job is that of the script and the inputs that stand where the line says, where files tell them
-  pub record IsLoaded (job : Job) : Type 0 where
-    pub read : IsReadJob (map name_in line.inputs) job
-    pub stands : (source : List ℕ) (inputs : List Input) → Holds content line source inputs
-        → Fits source inputs × IsOf source inputs job
+  -- the job is that of the script with these bytes and of the inputs that stand where the line says, where files tell them
+  pub record IsLoaded (source : List ℕ) (job : Job) : Type 0 where
+    pub read : IsReadJob (map name_in line.inputs) source job
+    pub found : IfSome (content line.script) (λ file. source ≡ file)
+    pub stands : (file : List ℕ) (inputs : List Input) → Holds content line file inputs → Fits file inputs × IsOf file inputs job
 
   -- the line names no job that can be run
   abbrev pub NotLoaded : Type 0 → NoJob → Type 0

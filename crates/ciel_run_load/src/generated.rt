@@ -7,6 +7,7 @@ ghost use Rattle.ciel_run_load.specs.Line.{keys_of};
 ghost use Rattle.ciel_run_load.specs.Loading.{IsOf, IsReadJob, RefusedSo};
 
 use crate::lines::generate;
+use crate::load::Loaded;
 use crate::script::{NoScript, script};
 use sky_base::job::{Inputs, Job};
 use sky_base::script::Texts;
@@ -16,6 +17,16 @@ use std::alloc::Global;
 /// The script of the job.
 const GENERATOR: &str =
     "parts = spawn_exec(\"split\", {\"in\": ref(\"lines\")}, 8);\ntallies = [];\nfor (p in parts) { tallies += spawn_exec(\"tally\", {\"in\": p}, 1)[0]; }\nreturn spawn_exec(\"sum\", {\"in\": tallies}, 1)[0];\n";
+
+/// Its bytes.
+fn source(alloc: Global) -> Result<Bytes, Memory>
+    ensures { IfOk result (λ b. b ≡ generator) }
+{
+    let Ok(bytes) = Vec::from_slice(alloc, GENERATOR.as_bytes()) else {
+        return Err(Memory);
+    };
+    Bytes::new(alloc, bytes)
+}
 
 /// The name of its input.
 fn keys(alloc: Global) -> Result<Texts, Memory>
@@ -45,9 +56,10 @@ fn inputs(alloc: Global, lines: u32) -> Result<Inputs, Memory>
 /// The generated job, of so many lines.
 ///
 /// Answers `Memory` for want of memory.
-pub fn generated_job(alloc: Global, lines: u32) -> Result<Job, NoScript>
-    ensures read { IfOk result (λ job. IsReadJob (keys_of (generated_inputs lines)) (job_view job)) }
-    ensures script { IfOk result (λ job. IsOf generator (generated_inputs lines) (job_view job)) }
+pub fn generated_job(alloc: Global, lines: u32) -> Result<Loaded, NoScript>
+    ensures source { IfOk result (λ l. l.source ≡ generator) }
+    ensures read { IfOk result (λ l. IsReadJob (keys_of (generated_inputs lines)) generator (job_view l.job)) }
+    ensures script { IfOk result (λ l. IsOf generator (generated_inputs lines) (job_view l.job)) }
     ensures refused { IfErr result (RefusedSo generator) }
 {
     let Ok(keys) = keys(alloc) else {
@@ -57,8 +69,14 @@ pub fn generated_job(alloc: Global, lines: u32) -> Result<Job, NoScript>
         Ok(script) => script,
         Err(no) => return Err(no),
     };
-    match inputs(alloc, lines) {
-        Ok(inputs) => Ok(Job { script, inputs }),
-        Err(Memory) => Err(NoScript::Memory),
-    }
+    let Ok(inputs) = inputs(alloc, lines) else {
+        return Err(NoScript::Memory);
+    };
+    let Ok(source) = source(alloc) else {
+        return Err(NoScript::Memory);
+    };
+    Ok(Loaded {
+        source,
+        job: Job { script, inputs },
+    })
 }

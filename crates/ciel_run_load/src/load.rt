@@ -13,11 +13,18 @@ use crate::read::{Unread, read};
 use crate::script::{NoScript, SyntaxKind, script};
 use ciel_io::files::Files;
 use sky_base::job::Job;
-use sky_base::text::Txt;
+use sky_base::text::{Bytes, Txt};
 use std::alloc::Global;
 
 /// The greatest number of bytes of a script.
 pub const LIMIT: u64 = 1_048_576;
+
+/// A job, with the bytes of its script.
+#[derive(Drop)]
+pub struct Loaded {
+    pub source: Bytes,
+    pub job: Job,
+}
 
 /// Why there is no job.
 #[derive(Drop)]
@@ -62,8 +69,8 @@ pub fn load<F: Files>(
     path: &Txt,
     named: &[(Txt, Txt)],
     files: &mut F,
-) -> Result<Job, NoJob>
-    ensures job { IfOk result (λ job. IsLoaded (F.content files.old) (record { script = path.now; inputs = named.now }) (job_view job)) }
+) -> Result<Loaded, NoJob>
+    ensures job { IfOk result (λ l. IsLoaded (F.content files.old) (record { script = path.now; inputs = named.now }) l.source (job_view l.job)) }
     ensures refused { IfErr result (NotLoaded (F.content files.old) (record { script = path.now; inputs = named.now })
         (HasRisen (F.faults files.old) (F.faults files.new))) }
     ensures asked { OnOk result (Tells (F.asked files.old) (F.asked files.new) (paths_of (record { script = path.now; inputs = named.now }))) }
@@ -88,7 +95,10 @@ pub fn load<F: Files>(
         Err(NoScript::Memory) => return Err(NoJob::Memory),
     };
     match inputs(alloc, named, files) {
-        Ok(inputs) => Ok(Job { script, inputs }),
+        Ok(inputs) => Ok(Loaded {
+            source,
+            job: Job { script, inputs },
+        }),
         Err(why) => Err(unread(why)),
     }
 }

@@ -42,6 +42,10 @@ placed head name line col =
 abbrev pub counted : List ℕ → ℕ → List ℕ
 counted head number = concat (head ∷ decimal number ∷ codes "\n" ∷ [])
 
+-- a line that ends with a path and a number
+abbrev pub pathed : List ℕ → List ℕ → ℕ → List ℕ
+pathed head path number = concat (head ∷ path ∷ codes " " ∷ decimal number ∷ codes "\n" ∷ [])
+
 -- a name behind a space
 abbrev pub spaced : Digest → List ℕ
 spaced name = codes " " ++ encode_lower name
@@ -58,7 +62,7 @@ clash_text kept given =
 -- the message with its line feed; there is none where the answer was written
 abbrev pub message_of : Why → List ℕ
 message_of Why.Done = []
-message_of Why.Usage = codes "ciel: usage: ciel SCRIPT [--workers N] [--seed N] [--lose K:W,K:W] [--trace] [--plain] [NAME=PATH]... [--names sha1|sha256] or ciel --generate N\n"
+message_of Why.Usage = codes "ciel: usage: ciel SCRIPT [--workers N] [--seed N] [--lose K:W,K:W] [--trace] [--plain] [NAME=PATH]... [--names sha1|sha256] [--log PATH] or ciel --generate N\n"
 message_of (Why.Syntax kind line col) = placed (codes "ciel: syntax ") (syntax_name kind) line col
 message_of (Why.Fault fault) = placed (codes "ciel: fault ") (fault_name fault.kind) fault.line fault.col
 message_of (Why.Endless names) = endless_text names
@@ -68,6 +72,7 @@ message_of (Why.NameClash kept given) = clash_text kept given
 message_of (Why.ReadFault path) = concat (codes "ciel: read fault " ∷ path ∷ codes "\n" ∷ [])
 message_of Why.WriteFault = codes "ciel: write fault\n"
 message_of Why.Memory = codes "ciel: no memory\n"
-message_of (Why.TooLongInput path limit) =
-    concat (codes "ciel: too long " ∷ path ∷ codes " " ∷ decimal limit ∷ codes "\n" ∷ [])
+message_of (Why.TooLongInput path limit) = pathed (codes "ciel: too long ") path limit
 message_of (Why.TooDeepPlain depth) = counted (codes "ciel: plain run too deep ") depth
+message_of (Why.KeepFault path) = concat (codes "ciel: keep fault " ∷ path ∷ codes "\n" ∷ [])
+message_of (Why.LogFull path held) = pathed (codes "ciel: log full ") path held

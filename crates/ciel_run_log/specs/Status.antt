@@ -17,3 +17,5 @@ status_of Why.WriteFault = 9
 status_of Why.Memory = 10
 status_of (Why.TooLongInput path at) = 11
 status_of (Why.TooDeepPlain depth) = 13
+status_of (Why.KeepFault path) = 14
+status_of (Why.LogFull path held) = 18

@@ -5,7 +5,7 @@ ghost use Rattle.std.specs.Prelude.{◌≡◌, ◌≢◌, ◌≤◌, map, codes,
 ghost use Rattle.std.specs.List.{concat, flat_map};
 ghost use Rattle.ciel_io.specs.Faults.{HasRisen};
 ghost use Rattle.ciel_io.specs.Tells.{Tells, TellsPart};
-ghost use Rattle.ciel_run_log.specs.Message.{clash_text, counted, endless_text, fault_name, message_of, placed, spaced, syntax_name};
+ghost use Rattle.ciel_run_log.specs.Message.{clash_text, counted, endless_text, fault_name, message_of, pathed, placed, spaced, syntax_name};
 
 use crate::text::put_hex;
 use crate::why::Why;
@@ -15,6 +15,7 @@ use ciel_run_load::script::SyntaxKind;
 use itoa::Buffer;
 use sky_base::fault::FaultKind;
 use sky_base::name::Name;
+use sky_base::text::Txt;
 
 /// Puts the message of an end on the log: one line, with its line feed.
 ///
@@ -30,7 +31,7 @@ pub fn put_message<J: Sink>(why: &Why, log: &mut J) -> Result<(), Failed>
     match why {
         Why::Done => Ok(()),
         Why::Usage => log.put(
-            b"ciel: usage: ciel SCRIPT [--workers N] [--seed N] [--lose K:W,K:W] [--trace] [--plain] [NAME=PATH]... [--names sha1|sha256] or ciel --generate N\n",
+            b"ciel: usage: ciel SCRIPT [--workers N] [--seed N] [--lose K:W,K:W] [--trace] [--plain] [NAME=PATH]... [--names sha1|sha256] [--log PATH] or ciel --generate N\n",
         ),
         Why::Syntax { kind, line, col } => put_place(
             log,
@@ -53,12 +54,10 @@ pub fn put_message<J: Sink>(why: &Why, log: &mut J) -> Result<(), Failed>
         Why::ReadFault { path } => put_all(log, &["ciel: read fault ", path.as_str(), "\n"]),
         Why::WriteFault => log.put(b"ciel: write fault\n"),
         Why::Memory => log.put(b"ciel: no memory\n"),
-        Why::TooLongInput { path, limit } => {
-            let mut digits = Buffer::new();
-            let limit = digits.format(*limit);
-            put_all(log, &["ciel: too long ", path.as_str(), " ", limit, "\n"])
-        }
+        Why::TooLongInput { path, limit } => put_path(log, "ciel: too long ", path, *limit),
         Why::TooDeepPlain { depth } => put_count(log, "ciel: plain run too deep ", *depth),
+        Why::KeepFault { path } => put_all(log, &["ciel: keep fault ", path.as_str(), "\n"]),
+        Why::LogFull { path, held } => put_path(log, "ciel: log full ", path, *held),
     }
 }
 
@@ -92,6 +91,18 @@ fn put_count<J: Sink>(log: &mut J, head: &str, number: u32) -> Result<(), Failed
     let mut digits = Buffer::new();
     let number = digits.format(number);
     put_all(log, &[head, number, "\n"])
+}
+
+/// A line that ends with a path and a number.
+fn put_path<J: Sink>(log: &mut J, head: &str, path: &Txt, number: u64) -> Result<(), Failed>
+    ensures written { OnOk result (Tells (J.written log.old) (J.written log.new) (pathed head.now path.now number)) }
+    ensures part { OnErr result (TellsPart (J.written log.old) (J.written log.new) (pathed head.now path.now number)) }
+    ensures cause { OnErr result (HasRisen (J.faults log.old) (J.faults log.new)) }
+    ensures never_falls { J.faults log.old ≤ J.faults log.new }
+{
+    let mut digits = Buffer::new();
+    let number = digits.format(number);
+    put_all(log, &[head, path.as_str(), " ", number, "\n"])
 }
 
 /// The names of what waits for one another.

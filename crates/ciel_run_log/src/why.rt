@@ -56,6 +56,15 @@ pub enum Why {
     TooDeepPlain {
         depth: u32,
     },
+    /// The log at the path could not be begun, or not all of it could be written; the answer was written then. Status 14.
+    KeepFault {
+        path: Txt,
+    },
+    /// The log at the path has so many bytes, and the next record would go past the most that it may have; the answer was written. Status 18.
+    LogFull {
+        path: Txt,
+        held: u64,
+    },
 }
 
 /// How a call of the program ended: the status of the process, why, and the journal of the run, empty where none began.
@@ -88,6 +97,8 @@ impl Why {
             Why::Memory => 10,
             Why::TooLongInput { .. } => 11,
             Why::TooDeepPlain { .. } => 13,
+            Why::KeepFault { .. } => 14,
+            Why::LogFull { .. } => 18,
         }
     }
 }

@@ -5,6 +5,7 @@ ghost use Rattle.std.specs.Prelude.{◌≡◌, length};
 
 use ciel_gate::gate::Gate;
 use ciel_io::mem_files::MemFiles;
+use ciel_io::mem_keep::MemKeep;
 use ciel_io::mem_sink::MemSink;
 use ciel_run::top::ciel_main;
 use ciel_run_log::why::Ended;
@@ -14,8 +15,8 @@ use std::sync::Wait;
 use std::test::Fail;
 use std::thread::Threads;
 
-/// Which read, which write of the result and which write on the log fails, counted from 1; 0 where none does.
-pub type Fails = (u32, u32, u32);
+/// Which read, which write of the result, which write on the log and which call of the keeper fails, counted from 1; 0 where none does.
+pub type Fails = (u32, u32, u32, u32);
 
 /// A file with these bytes.
 fn file(alloc: Global, path: &str, text: &str) -> Result<(Txt, Bytes), Fail> {
@@ -44,6 +45,11 @@ fn sink(alloc: Global, fails: u32) -> Result<MemSink, Fail> {
     Ok(sink)
 }
 
+fn keep(alloc: Global, fails: u32) -> Result<MemKeep, Fail> {
+    let keep = MemKeep::new(alloc, 10_000, only(alloc, fails)?)?;
+    Ok(keep)
+}
+
 /// The words of a row: a space stands between two words.
 fn words_of(alloc: Global, row: &str) -> Result<Vec<Txt>, Fail> {
     let mut words = Vec::new(alloc);
@@ -53,12 +59,13 @@ fn words_of(alloc: Global, row: &str) -> Result<Vec<Txt>, Fail> {
     Ok(words)
 }
 
-/// How the program ended, what it wrote, and what it told on its log.
+/// How the program ended, what it wrote, what it told on its log, and what files it keeps.
 #[derive(Drop)]
 pub struct Got {
     pub ended: Ended,
     pub out: MemSink,
     pub log: MemSink,
+    pub keep: MemKeep,
 }
 
 /// The program over the words of a row, a script and these gates.
@@ -76,6 +83,14 @@ pub fn outcome<G: Gate + Send + 'static, R: Threads + Wait + Copy + Send + Drop 
     let words = words_of(alloc, row)?;
     let mut out = sink(alloc, fails.1)?;
     let mut log = sink(alloc, fails.2)?;
-    let ended = ciel_main(rt, alloc, &words, &mut files, &mut out, &mut log, gates);
-    Ok(Got { ended, out, log })
+    let mut keep = keep(alloc, fails.3)?;
+    let ended = ciel_main(
+        rt, alloc, &words, &mut files, &mut out, &mut log, gates, &mut keep,
+    );
+    Ok(Got {
+        ended,
+        out,
+        log,
+        keep,
+    })
 }

@@ -45,13 +45,13 @@ type Row = (
 
 const SUM: &str = "return 1 + 2;";
 
-static ROWS: [Row; 9] = [
-    ("s", SUM, (1, 0, 0), 8, "", "ciel: read fault s\n"),
-    ("s t=f", SUM, (2, 0, 0), 8, "", "ciel: read fault f\n"),
+static ROWS: [Row; 15] = [
+    ("s", SUM, (1, 0, 0, 0), 8, "", "ciel: read fault s\n"),
+    ("s t=f", SUM, (2, 0, 0, 0), 8, "", "ciel: read fault f\n"),
     (
         "s t=f u=g v=h",
         SUM,
-        (9, 0, 0),
+        (9, 0, 0, 0),
         8,
         "",
         "ciel: read fault g\n",
@@ -59,18 +59,32 @@ static ROWS: [Row; 9] = [
     (
         "s t=g",
         "return 1",
-        (9, 0, 0),
+        (9, 0, 0, 0),
         2,
         "",
         "ciel: syntax NoSentence 1:9\n",
     ),
-    ("s a=f b=f", SUM, (3, 0, 0), 8, "", "ciel: read fault f\n"),
-    ("s", SUM, (0, 1, 0), 9, "3\n", "ciel: write fault\n"),
-    ("s --plain", SUM, (0, 1, 0), 9, "3\n", "ciel: write fault\n"),
+    (
+        "s a=f b=f",
+        SUM,
+        (3, 0, 0, 0),
+        8,
+        "",
+        "ciel: read fault f\n",
+    ),
+    ("s", SUM, (0, 1, 0, 0), 9, "3\n", "ciel: write fault\n"),
+    (
+        "s --plain",
+        SUM,
+        (0, 1, 0, 0),
+        9,
+        "3\n",
+        "ciel: write fault\n",
+    ),
     (
         "s",
         "function bad(){return 1/0;} return *spawn(bad, []);",
-        (0, 0, 1),
+        (0, 0, 1, 0),
         3,
         "",
         "ciel: fault DivZero 1:24\n",
@@ -78,10 +92,51 @@ static ROWS: [Row; 9] = [
     (
         "s",
         "return 9223372036854775807 + 1;",
-        (0, 0, 1),
+        (0, 0, 1, 0),
         3,
         "",
         "ciel: fault Overflow 1:28\n",
+    ),
+    (
+        "s --log l",
+        SUM,
+        (0, 0, 0, 1),
+        14,
+        "",
+        "ciel: keep fault l\n",
+    ),
+    (
+        "s --log l",
+        SUM,
+        (0, 0, 0, 2),
+        14,
+        "3\n",
+        "ciel: keep fault l\n",
+    ),
+    (
+        "s --log=l",
+        SUM,
+        (0, 0, 0, 5),
+        14,
+        "3\n",
+        "ciel: keep fault l\n",
+    ),
+    ("s --log l", SUM, (0, 0, 0, 6), 0, "3\n", ""),
+    (
+        "s --log l",
+        SUM,
+        (0, 1, 0, 2),
+        9,
+        "3\n",
+        "ciel: write fault\n",
+    ),
+    (
+        "s --log l",
+        "return 1 / 0;",
+        (0, 0, 0, 2),
+        3,
+        "",
+        "ciel: fault DivZero 1:10\n",
     ),
 ];
 
@@ -125,7 +180,7 @@ static JOURNALS: [(&str, u32, u8, &str); 7] = [
 #[test]
 fn journals_that_fail(rt: HostRuntime) -> Result<(), Fail> {
     for row in &JOURNALS {
-        let got = over(rt, rt.alloc(), "s --trace", row.0, (0, 0, row.1))?;
+        let got = over(rt, rt.alloc(), "s --trace", row.0, (0, 0, row.1, 0))?;
         assert_eq!(&rt; got.ended.status, row.2);
         assert!(&rt; is(got.out.bytes(), row.3, 0));
     }

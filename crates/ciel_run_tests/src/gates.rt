@@ -81,7 +81,7 @@ fn told<R: Abort + Threads + Wait + Copy + Send + Drop + 'static>(
     let source =
         "function f(x) { return x * x; } a = spawn(f, [3]); b = spawn(f, [4]); return *a + *b;";
     let mut gates = recorders(alloc)?;
-    let got = outcome(rt, alloc, row, source, (0, 0, 0), &mut gates)?;
+    let got = outcome(rt, alloc, row, source, (0, 0, 0, 0), &mut gates)?;
     assert_eq!(rt; got.ended.status, 0);
     assert_eq!(rt; gates.len(), 64);
     all_tell(&rt, alloc, got.ended.journal.as_slice(), gates.as_slice())
@@ -154,7 +154,7 @@ fn meets<R: Abort + Threads + Wait + Copy + Send + Drop + 'static>(
         "return spawn_exec(\"sum\", {\"in\": ts}, 1)[0];",
     );
     let mut gates = pairs(alloc, limit)?;
-    let got = outcome(rt, alloc, row, source, (0, 0, 0), &mut gates)?;
+    let got = outcome(rt, alloc, row, source, (0, 0, 0, 0), &mut gates)?;
     assert_eq!(rt; got.ended.status, 0);
     assert!(rt; got.out.bytes() == b"1 a\n1 b\n".as_slice());
     assert_eq!(rt; gates.len(), 64);

@@ -99,6 +99,16 @@ fn messages_of_files(rt: HostRuntime) -> Result<(), Fail> {
         Why::TooLongInput { path, limit },
         "ciel: too long s 1048576\n",
     )?;
+    let path = Txt::new(alloc, "l")?;
+    says(&rt, alloc, Why::KeepFault { path }, "ciel: keep fault l\n")?;
+    let path = Txt::new(alloc, "l")?;
+    let held = 268_435_450;
+    says(
+        &rt,
+        alloc,
+        Why::LogFull { path, held },
+        "ciel: log full l 268435450\n",
+    )?;
     says(&rt, alloc, Why::WriteFault, "ciel: write fault\n")?;
     says(&rt, alloc, Why::Memory, "ciel: no memory\n")
 }

@@ -8,6 +8,7 @@ ghost use Rattle.ciel_store.specs.Seen.{IsPlaceOf};
 ghost use Rattle.ciel_task_order.specs.Orders.{OrderSound};
 ghost use Rattle.ciel_task_call.specs.Begins.{BegunSo, CanStartAt, HasState, IsStack, IsStartOf, ThawedSo};
 
+use crate::start::start_call;
 use ciel_name::name::Namer;
 use ciel_store::loss::Loss;
 use ciel_store::seats::Eye;
@@ -16,8 +17,8 @@ use ciel_task_order::block::Block;
 use ciel_task_order::order::Order;
 use ciel_task_order::shop::Shop;
 use sky_base::object::Desc1;
-use sky_base::script::Script;
 use sky_base::text::Memory;
+use sky_machine_code::code::Code;
 use sky_state::state::State;
 use std::alloc::Global;
 
@@ -50,7 +51,8 @@ pub(crate) fn begin<K, N: Namer>(
             Ok(begun)
         }
         None => {
-            let state = start(alloc, shop.job.script(), order)?;
+            let numbered = shop.job.numbered();
+            let state = start(alloc, &numbered.code, order)?;
             Ok(Begun::State(state))
         }
     }
@@ -80,16 +82,16 @@ fn thaw(
 }
 
 // The state of the task at its start.
-fn start(alloc: Global, script: &Script, order: &Order) -> Result<State, Memory>
-    requires start { CanStartAt script.now order.now.desc }
-    ensures start { IfOk result (λ s. IsStartOf script.now order.now.main order.now.desc (stand_of s)) }
-    ensures fits { IfOk result (λ s. Fits script.now (stand_of s)) }
+fn start(alloc: Global, code: &Code<'_>, order: &Order) -> Result<State, Memory>
+    requires start { CanStartAt code.now order.now.desc }
+    ensures start { IfOk result (λ s. IsStartOf code.now order.now.main order.now.desc (stand_of s)) }
+    ensures fits { IfOk result (λ s. Fits code.now (stand_of s)) }
     ensures spawned { IfOk result (λ s. spawned_of s ≡ []) }
 {
     match &order.desc {
         Some(desc) => match desc {
             Desc1::Call { fun, caught, args } => {
-                let state = State::start_call(alloc, script, fun, caught, args)?;
+                let state = start_call(alloc, code, fun, caught, args)?;
                 Ok(state)
             }
             _ => unreachable!(),

@@ -13,6 +13,7 @@ pub mod brought;
 pub mod copied;
 pub mod end;
 pub mod law;
+mod start;
 pub mod task;
 
 pub use sky_machine_through::{step, through};

@@ -16,6 +16,7 @@ use ciel_name::object::{canon, object_bytes};
 use ciel_store::shelves::{Place, Shelves};
 use ciel_task_order::block::Block;
 use ciel_task_order::report::Made;
+use sha1::Sha1;
 use sky_base::fault::Fault;
 use sky_base::object::{Desc1, Object};
 use sky_base::text::{Bytes, Memory, Txt};
@@ -108,9 +109,24 @@ fn put<N: Namer, R: Wait>(
     ensures made { IfOk result (λ m. IsMade (N.digest namer.now) shelves.now worker (desc_view desc.now) (object_view object) m) }
 {
     let name = namer.name(canon(alloc, desc)?.as_slice());
-    let mark = mark(object_bytes(alloc, &object)?.as_slice());
+    let mark = mark_of(alloc, &object)?;
     match shelves.put(rt, worker, Block::Object(object)) {
         Ok(place) => Ok(Made { name, place, mark }),
         Err(_) => Err(Memory),
+    }
+}
+
+// The digest of the bytes of an object. The bytes of an output are hashed where they lie, and take no second room.
+fn mark_of(alloc: Global, object: &Object) -> Result<[u8; 20], Memory>
+    ensures { IfOk result (λ m. m ≡ sha1 (object_bytes (object_view object.now))) }
+{
+    match object {
+        Object::Bytes(bytes) => {
+            let mut hash = Sha1::new();
+            hash.update(b"B");
+            hash.update(bytes.as_slice());
+            Ok(hash.finalize())
+        }
+        _ => Ok(mark(object_bytes(alloc, object)?.as_slice())),
     }
 }

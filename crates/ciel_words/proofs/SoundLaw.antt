@@ -1,12 +1,12 @@
 -- The numbers of a line are within their limits.
 use Rattle.std.proofs.Common.{◌≡◌, ◌≢◌, ◌<◌, ◌≤◌, ◌-◌, ◌^◌, ℕ, suc, Bool, true, false, cond, List, [], ◌∷◌, Option, Some, None, codes, length, map}
-use Rattle.std.proofs.Common.{nat_le, nat_lt, refl, ap, subst, arith}
+use Rattle.std.proofs.Common.{nat_le, nat_lt, refl, ap, subst, arith, ◌∙◌}
 use Rattle.std.specs.Prelude.{◌&&◌, option_and_then, option_map}
 use Rattle.std.specs.List.{AllByRecursion, list_all}
 use Rattle.std.specs.Str.Parse.{digits_value}
 use Rattle.std.proofs.lemmas.Bool.Decides.{nat_tests}
-use Rattle.ciel_words.specs.Inputs.{all_apart, are_inputs, input_in, is_input, key_in, most_inputs}
-use Rattle.ciel_words.specs.Line.{files_in, line_said, line_with, lines_in, most_workers, with}
+use Rattle.ciel_words.specs.Inputs.{all_apart, are_inputs, begins_key, goes_on_key, input_in, is_input, is_key, key_in, most_inputs, most_name, path_in}
+use Rattle.ciel_words.specs.Line.{files_in, line_said, line_with, lines_in, log_in, most_workers, with}
 use Rattle.ciel_words.specs.Parts.{Part, Text, has_flag, names_of, parts_of, texts_of, value_of}
 use Rattle.ciel_words.specs.Sound.{LineIsSound, LinesAreSound}
 use Rattle.ciel_words.specs.Values.{count_in, each_loss, is_number, loss_in, losses_in, most_losses, names_in, number_within, or_absent, pieces}
@@ -93,8 +93,11 @@ losses_sound : (workers : ℕ) → 0 < workers → (o : Option (List ℕ)) (ls :
 losses_sound workers h None ls e = subst (LossesSound workers) (some_is [] ls e) (tt, omega arith)
 losses_sound workers h (Some t) ls e = losses_within workers h t ls e
 
+abbrev pub ShortKeys : List (Text × Text) → Type 0
+ShortKeys is = AllByRecursion (λ (i : Text × Text). length i.0 ≤ most_name) is
+
 abbrev pub FilesSound : Option ℕ → Option Text × List (Text × Text) → Type 0
-FilesSound g f = (length f.1 ≤ most_inputs) × (f.0 ≡ None → g ≢ None)
+FilesSound g f = (length f.1 ≤ most_inputs) × ShortKeys f.1 × (f.0 ≡ None → g ≢ None)
 
 length_map : {A B : Type 0} (f : A → B) (xs : List A) → length (map f xs) ≡ length xs
 length_map f [] = refl
@@ -108,6 +111,22 @@ front : (a b : Bool) → (a && b) ≡ true → a ≡ true
 front true b e = refl
 front false b e = absurd (let bad : false ≡ true = e in cc)
 
+key_short : (t : Text) → is_key t ≡ true → length t ≤ most_name
+key_short [] e = absurd (let bad : false ≡ true = e in cc)
+key_short (b ∷ bs) e =
+    let test : nat_lt (length bs) most_name ≡ true =
+    first_two (list_all goes_on_key bs) (nat_lt (length bs) most_name)
+    (first_two (begins_key b) (list_all goes_on_key bs && nat_lt (length bs) most_name) e) in
+    let few : length bs < most_name = grind (arith, nat_tests) in
+    omega (arith, few)
+
+keys_short : (ws : List Text) → list_all is_input ws ≡ true → ShortKeys (map input_in ws)
+keys_short [] e = tt
+keys_short (w ∷ ws) e = (
+  key_short (key_in w) (front (is_key (key_in w)) (nat_lt 0 (length (path_in w))) (front (is_input w) (list_all is_input ws) e)),
+  keys_short ws (first_two (is_input w) (list_all is_input ws) e),
+)
+
 files_sound : (g : Option ℕ) (ws : List Text) (f : Option Text × List (Text × Text)) → files_in g ws ≡ Some f → FilesSound g f
 files_sound None [] f e = absurd (no_some f e)
 files_sound None (w ∷ ws) f e = split (nat_lt 0 (length w) && are_inputs ws) refl e
@@ -118,22 +137,40 @@ files_sound None (w ∷ ws) f e = split (nat_lt 0 (length w) && are_inputs ws) r
         front (nat_le (length ws) most_inputs) (list_all is_input ws && all_apart (map key_in ws))
         (first_two (nat_lt 0 (length w)) (are_inputs ws) b) in
         let few : length ws ≤ most_inputs = grind (arith, nat_tests) in
+        let keys : list_all is_input ws ≡ true =
+        front (list_all is_input ws) (all_apart (map key_in ws))
+        (first_two (nat_le (length ws) most_inputs) (list_all is_input ws && all_apart (map key_in ws))
+        (first_two (nat_lt 0 (length w)) (are_inputs ws) b)) in
         subst (FilesSound None) (some_is (Some w, map input_in ws) f h)
-        (omega (arith, few, length_map input_in ws), λ none. absurd (let bad : Some w ≡ None = none in cc))
+        (omega (arith, few, length_map input_in ws), keys_short ws keys, λ none. absurd (let bad : Some w ≡ None = none in cc))
     split false b h = absurd (no_some f h)
 files_sound (Some n) [] f e =
-    subst (FilesSound (Some n)) (some_is (None, []) f e) (omega arith, λ z none. (let bad : Some n ≡ None = none in cc))
+    subst (FilesSound (Some n)) (some_is (None, []) f e) (omega arith, tt, λ z none. (let bad : Some n ≡ None = none in cc))
 files_sound (Some n) (w ∷ ws) f e = absurd (no_some f e)
 
-said_sound : (workers seed lose names generate : Option Text) (trace plain : Bool) (texts : List Text) (w : Words)
-    → line_said workers seed lose names generate trace plain texts ≡ Some w
+log_sound : (plain : Bool) (o d : Option Text) → or_absent None (log_in plain) o ≡ Some d → (path : Text) → d ≡ Some path
+    → (plain ≡ false) × (0 < length path)
+log_sound plain None d e path h = absurd (no_some path (some_is None d e ∙ h))
+log_sound true (Some t) d e path h = absurd (no_some d e)
+log_sound false (Some t) d e path h = split (nat_lt 0 (length t)) refl e
+  where
+    split : (b : Bool) → nat_lt 0 (length t) ≡ b → cond b (Some (Some t)) None ≡ Some d → (false ≡ false) × (0 < length path)
+    split true b f =
+        let same : t ≡ path = some_is t path (some_is (Some t) d f ∙ h) in
+        let some : 0 < length t = grind (arith, nat_tests) in
+        (refl, subst (λ (p : Text). 0 < length p) same some)
+    split false b f = absurd (no_some d f)
+
+said_sound : (workers seed lose names log generate : Option Text) (trace plain : Bool) (texts : List Text) (w : Words)
+    → line_said workers seed lose names log generate trace plain texts ≡ Some w
     → LineIsSound w
-said_sound workers seed lose names generate trace plain texts w e =
+said_sound workers seed lose names log generate trace plain texts w e =
     let one = given (or_absent 1 (number_within 1 most_workers) workers) _ w e in
     let two = given (or_absent 0 (number_within 0 (2 ^ 64 - 1)) seed) _ w one.2 in
     let three = given (or_absent [] (losses_in one.0) lose) _ w two.2 in
     let four = given (or_absent NameKind.Sha1 names_in names) _ w three.2 in
-    let five = given (or_absent None lines_in generate) _ w four.2 in
+    let logs = given (or_absent None (log_in plain) log) _ w four.2 in
+    let five = given (or_absent None lines_in generate) _ w logs.2 in
     let six = given (files_in five.0 texts) _ w five.2 in
     let count = workers_within workers one.0 one.1 in
     let losses = losses_sound one.0 count.0 lose three.0 three.1 in
@@ -144,7 +181,9 @@ said_sound workers seed lose names generate trace plain texts w e =
       losses = losses.0;
       few = losses.1;
       inputs = files.0;
-      named = files.1;
+      keys = files.1;
+      named = files.2;
+      logged = log_sound plain log logs.0 logs.1;
     })
 
 pub lines_are_sound : LinesAreSound
@@ -156,6 +195,6 @@ lines_are_sound words w e =
     split : (ps : List Part) (b : Bool) → cond b (line_with ps) None ≡ Some w → LineIsSound w
     split ps true h =
         said_sound (value_of (codes "workers") ps) (value_of (codes "seed") ps) (value_of (codes "lose") ps) (value_of (codes "names") ps)
-        (value_of (codes "generate") ps)
+        (value_of (codes "log") ps) (value_of (codes "generate") ps)
         (has_flag (codes "trace") ps) (has_flag (codes "plain") ps) (texts_of ps) w h
     split ps false h = absurd (no_some w h)

@@ -1,30 +1,24 @@
--- The parts of a line, beside those where the value of an option may be `-` too: they differ only where some value is `-`, and then the words are no
--- line.
-use Rattle.std.proofs.Common.{◌≡◌, ℕ, Bool, true, false, ◌||◌, cond, List, [], ◌∷◌, Option, Some, None, codes, map, refl, sym, ap, subst, ◌∙◌, inl}
-use Rattle.std.proofs.Common.{inr, ◌⊎◌, ⊎_elim}
-use Rattle.std.specs.Prelude.{not, ◌&&◌, ◌^◌, ◌-◌}
+-- The parts of a line, beside those where the value of an option may be `-` too: they are the same but where `-` stands as such a value behind its
+-- option, and then the words are no line.
+use Rattle.std.proofs.Common.{◌≡◌, ℕ, Bool, true, false, ◌||◌, ◌&&◌, cond, List, [], ◌∷◌, ◌++◌, Option, Some, None, codes, drop, map, take, refl, sym, ap, ap₂}
+use Rattle.std.proofs.Common.{◌∙◌, ◌+◌, suc, ⊎_elim, subst, arith}
+use Rattle.std.specs.List.{before_first, list_any, position_or_len}
 use Rattle.std.specs.Str.{bytes_eq}
 use Rattle.std.proofs.lemmas.Bool.{cases_Bool}
-use Rattle.sky_base.specs.Eval.{is_one_of}
-use Rattle.ciel_words.specs.Inputs.{all_apart}
-use Rattle.ciel_words.specs.Line.{with, line_with, line_of, most_workers}
+use Rattle.std.proofs.lemmas.List.{take-append-drop}
+use Rattle.ciel_words.specs.Inputs.{all_apart, is_equals}
+use Rattle.ciel_words.specs.Line.{line_with, line_of}
 use Rattle.ciel_words.specs.Parts.{Text, Part, option, flag, word, dashes, before, begins_with_dash, begins_with_two, is_positional, is_valued}
-use Rattle.ciel_words.specs.Parts.{is_unvalued, name_in, names_of, option_parts, parts_of, value_in, value_of, with_value}
-use Rattle.ciel_words.specs.Values.{losses_in, names_in, number_within, or_absent}
-use Rattle.ciel_words.specs.declared.words.NameKind.{NameKind}
+use Rattle.ciel_words.specs.Parts.{is_unvalued, name_in, names_of, option_parts, parts_of, value_in, with_value}
+use Rattle.ciel_words.specs.Raw.{dash_behind, takes_next}
 use Rattle.ciel_words.proofs.Loose.{loose, loose_value}
-use Rattle.ciel_words.proofs.Rows.{AllOk, either_is, is, same}
+use Rattle.ciel_words.proofs.Rows.{AllOk, differ, is, same}
 
--- some option has the value `-`
-abbrev pub HasDash : List Part → Type 0
-HasDash [] = ⊥
-HasDash (option n v ∷ ps) = (v ≡ codes "-") ⊎ HasDash ps
-HasDash (flag n ∷ ps) = HasDash ps
-HasDash (word w ∷ ps) = HasDash ps
+-- ---- each part is one of the command's
 
-abbrev pub Fits : (loosely strictly : Option (List Part)) → Type 0
-Fits None s = s ≡ None
-Fits (Some ps) s = AllOk ps × ((s ≡ Some ps) ⊎ ((s ≡ None) × HasDash ps))
+abbrev pub Ok : Option (List Part) → Type 0
+Ok None = Unit {0}
+Ok (Some ps) = AllOk ps
 
 abbrev pub PartOk : Part → Type 0
 PartOk (option n v) = is_valued n ≡ true
@@ -36,31 +30,20 @@ ok_more (option n v) ps e ok = (e, ok)
 ok_more (flag n) ps e ok = (e.0, e.1, ok)
 ok_more (word w) ps e ok = ok
 
-dash_more : (p : Part) (ps : List Part) → HasDash ps → HasDash (p ∷ ps)
-dash_more (option n v) ps d = inr d
-dash_more (flag n) ps d = d
-dash_more (word w) ps d = d
+ok_before : (p : Part) → PartOk p → (o : Option (List Part)) → Ok o → Ok (before p o)
+ok_before p e None ok = tt
+ok_before p e (Some ps) ok = ok_more p ps e ok
 
-fits_before : (p : Part) → PartOk p → (o s : Option (List Part)) → Fits o s → Fits (before p o) (before p s)
-fits_before p e None s f = ap (before p) f
-fits_before p e (Some ps) s f =
-    (ok_more p ps e f.0, ⊎_elim (λ h. inl (ap (before p) h)) (λ h. inr (ap (before p) h.0, dash_more p ps h.1)) f.1)
-
-fits_dash : (n v : Text) → is_valued n ≡ true → v ≡ codes "-" → (o s : Option (List Part)) → Fits o s → Fits (before (option n v) o) None
-fits_dash n v e d None s f = refl
-fits_dash n v e d (Some ps) s f = ((e, f.0), inr (refl, inl d))
-
-parts_fit : (n : Text) (v : Option Text) (l s ln sn : Option (List Part)) → Fits l s → (is_valued n ≡ true → Fits ln sn)
-    → Fits (option_parts n v l ln) (option_parts n v s sn)
-parts_fit n (Some x) l s ln sn f later = ⊎_elim
-    (λ (t : is_valued n ≡ true). rw t (fits_before (option n x) t l s f))
-    (λ (t : is_valued n ≡ false). rw t refl)
+parts_are_ok : (n : Text) (v : Option Text) (l next : Option (List Part)) → Ok l → (is_valued n ≡ true → Ok next) → Ok (option_parts n v l next)
+parts_are_ok n (Some x) l next ok later = ⊎_elim
+    (λ (t : is_valued n ≡ true). rw t (ok_before (option n x) t l ok))
+    (λ (t : is_valued n ≡ false). rw t tt)
     (cases_Bool (is_valued n))
-parts_fit n None l s ln sn f later = ⊎_elim
+parts_are_ok n None l next ok later = ⊎_elim
     (λ (t : is_valued n ≡ true). rw t (later t))
     (λ (t : is_valued n ≡ false). ⊎_elim
-    (λ (u : is_unvalued n ≡ true). rw (t, u) (fits_before (flag n) (t, u) l s f))
-    (λ (u : is_unvalued n ≡ false). rw (t, u) refl)
+    (λ (u : is_unvalued n ≡ true). rw (t, u) (ok_before (flag n) (t, u) l ok))
+    (λ (u : is_unvalued n ≡ false). rw (t, u) tt)
     (cases_Bool (is_unvalued n)))
     (cases_Bool (is_valued n))
 
@@ -68,168 +51,219 @@ words_ok : (ws : List Text) → AllOk (map word ws)
 words_ok [] = tt
 words_ok (w ∷ ws) = words_ok ws
 
-abbrev pub FitHere : List Text → Type 0
-FitHere ws = Fits (loose ws) (parts_of ws)
+abbrev pub OkBehind : List Text → Type 0
+OkBehind ws = (n : Text) → is_valued n ≡ true → Ok (loose_value n ws)
 
-abbrev pub FitBehind : List Text → Type 0
-FitBehind ws = (n : Text) → is_valued n ≡ true → Fits (loose_value n ws) (with_value n ws)
-
-fit_word : (w : Text) (ws : List Text) → FitHere ws → FitBehind ws → FitHere (w ∷ ws)
-unfolding loose parts_of
-fit_word w ws here behind = ⊎_elim
-    (λ (d : bytes_eq w dashes ≡ true). rw d (words_ok ws, inl refl))
+ok_word : (w : Text) (ws : List Text) → Ok (loose ws) → OkBehind ws → Ok (loose (w ∷ ws))
+unfolding loose
+ok_word w ws here behind = ⊎_elim
+    (λ (d : bytes_eq w dashes ≡ true). rw d (words_ok ws))
     (λ (d : bytes_eq w dashes ≡ false). ⊎_elim
-    (λ (p : is_positional w ≡ true). rw (d, p) (fits_before (word w) tt (loose ws) (parts_of ws) here))
+    (λ (p : is_positional w ≡ true). rw (d, p) (ok_before (word w) tt (loose ws) here))
     (λ (p : is_positional w ≡ false). ⊎_elim
     (λ (t : begins_with_two w ≡ true). rw (d, p, t)
-    (parts_fit (name_in w) (value_in w) (loose ws) (parts_of ws) (loose_value (name_in w) ws) (with_value (name_in w) ws) here
-    (behind (name_in w))))
-    (λ (t : begins_with_two w ≡ false). rw (d, p, t) refl)
+    (parts_are_ok (name_in w) (value_in w) (loose ws) (loose_value (name_in w) ws) here (behind (name_in w))))
+    (λ (t : begins_with_two w ≡ false). rw (d, p, t) tt)
     (cases_Bool (begins_with_two w)))
     (cases_Bool (is_positional w)))
     (cases_Bool (bytes_eq w dashes))
 
-fit_value : (v : Text) (ws : List Text) → FitHere ws → FitBehind (v ∷ ws)
+ok_value : (v : Text) (ws : List Text) → Ok (loose ws) → OkBehind (v ∷ ws)
+unfolding loose
+ok_value v ws here n e = ⊎_elim
+    (λ (p : is_positional v ≡ true). rw p (ok_before (option n v) e (loose ws) here))
+    (λ (p : is_positional v ≡ false). rw p tt)
+    (cases_Bool (is_positional v))
+
+ok_here : Ok (loose [])
+unfolding loose
+ok_here = tt
+
+ok_behind : OkBehind []
+unfolding loose
+ok_behind n e = tt
+
+both_ok : (ws : List Text) → Ok (loose ws) × OkBehind ws
+both_ok [] = (ok_here, ok_behind)
+both_ok (w ∷ ws) = let rec : Ok (loose ws) × OkBehind ws = both_ok ws in (ok_word w ws rec.0 rec.1, ok_value w ws rec.0)
+
+pub parts_ok : (ws : List Text) (ps : List Part) → loose ws ≡ Some ps → AllOk ps
+parts_ok ws ps e = subst Ok e (both_ok ws).0
+
+-- ---- an option whose value is the next word
+
+abbrev pub has_equals : Text → Bool
+has_equals t = list_any is_equals t
+
+whole : (t : Text) → has_equals t ≡ false → before_first is_equals t ≡ t
+whole [] e = refl
+whole (b ∷ bs) e = ⊎_elim
+    (λ (h : is_equals b ≡ true). absurd (let bad : true ≡ false = rw h at e in cc))
+    (λ (h : is_equals b ≡ false).
+    let one : 1 + position_or_len is_equals bs ≡ suc (position_or_len is_equals bs) = omega arith in
+    rw (h, one) (ap (λ xs. b ∷ xs) (whole bs (rw h at e))))
+    (cases_Bool (is_equals b))
+
+turned : (m n : Text) → bytes_eq m n ≡ bytes_eq n m
+turned m n = ⊎_elim
+    (λ (h : bytes_eq m n ≡ true). h ∙ sym (ap (λ t. bytes_eq n t) (is m n h) ∙ same n))
+    (λ (h : bytes_eq m n ≡ false). ⊎_elim
+    (λ (k : bytes_eq n m ≡ true). absurd (let bad : true ≡ false = sym (same m) ∙ ap (λ t. bytes_eq m t) (sym (is n m k)) ∙ h in cc))
+    (λ (k : bytes_eq n m ≡ false). h ∙ sym k)
+    (cases_Bool (bytes_eq n m)))
+    (cases_Bool (bytes_eq m n))
+
+-- `--NAME` where NAME has a value
+waits_for : (rest : Text) → has_equals rest ≡ false → takes_next (45 ∷ 45 ∷ rest) ≡ is_valued rest
+waits_for rest e =
+    ap₂ (λ a b. a || b) (turned rest (codes "workers"))
+    (ap₂ (λ a b. a || b) (turned rest (codes "seed"))
+    (ap₂ (λ a b. a || b) (turned rest (codes "lose"))
+    (ap₂ (λ a b. a || b) (turned rest (codes "names"))
+    (ap₂ (λ a b. a || b) (turned rest (codes "log"))
+    (ap (λ a. a || false) (turned rest (codes "generate")))))))
+
+no_wait : (rest : Text) → has_equals rest ≡ true → takes_next (45 ∷ 45 ∷ rest) ≡ false
+no_wait rest e =
+    let other = λ (name : Text) (none : has_equals name ≡ false). differ has_equals rest name true e none in
+    rw (
+      other (codes "workers") refl,
+      other (codes "seed") refl,
+      other (codes "lose") refl,
+      other (codes "names") refl,
+      other (codes "log") refl,
+      other (codes "generate") refl,
+    ) refl
+
+-- what a word that begins with `--` says of the next: a value stands behind `=`, or may be the next word
+abbrev pub WaitsAs : Text → Option Text → Bool → Type 0
+WaitsAs n (Some x) b = b ≡ false
+WaitsAs n None b = b ≡ is_valued n
+
+behind_two : (rest : Text) → WaitsAs (name_in (45 ∷ 45 ∷ rest)) (value_in (45 ∷ 45 ∷ rest)) (takes_next (45 ∷ 45 ∷ rest))
+behind_two rest = ⊎_elim
+    (λ (h : has_equals rest ≡ true). rw h (no_wait rest h))
+    (λ (h : has_equals rest ≡ false). rw h (waits_for rest h ∙ ap is_valued (sym (whole rest h))))
+    (cases_Bool (has_equals rest))
+
+two_first : (w : Text) → begins_with_two w ≡ true → 45 ∷ 45 ∷ drop 2 w ≡ w
+two_first w e = ap (λ t. t ++ drop 2 w) (sym (is (take 2 w) dashes e)) ∙ take-append-drop 2 w
+
+waits_as : (w : Text) → begins_with_two w ≡ true → WaitsAs (name_in w) (value_in w) (takes_next w)
+waits_as w e = subst (λ (t : Text). WaitsAs (name_in t) (value_in t) (takes_next t)) (two_first w e) (behind_two (drop 2 w))
+
+no_wait_positional : (w : Text) → is_positional w ≡ true → takes_next w ≡ false
+no_wait_positional w e =
+    let other = λ (name : Text) (none : is_positional name ≡ false). differ is_positional w name true e none in
+    rw (
+      other (codes "--workers") refl,
+      other (codes "--seed") refl,
+      other (codes "--lose") refl,
+      other (codes "--names") refl,
+      other (codes "--log") refl,
+      other (codes "--generate") refl,
+    ) refl
+
+-- ---- the parts of a line are those, but where a value behind its option is `-`
+
+abbrev pub Here : List Text → Type 0
+Here ws = parts_of ws ≡ cond (dash_behind false ws) None (loose ws)
+
+abbrev pub Behind : List Text → Type 0
+Behind ws = (n : Text) → with_value n ws ≡ cond (dash_behind true ws) None (loose_value n ws)
+
+none_either : (b : Bool) → cond {A = Option (List Part)} b None None ≡ None
+none_either true = refl
+none_either false = refl
+
+before_either : (p : Part) (b : Bool) (o : Option (List Part)) → before p (cond b None o) ≡ cond b None (before p o)
+before_either p true o = refl
+before_either p false o = refl
+
+step : (n : Text) (v : Option Text) (b : Bool) (ws : List Text) → Here ws → Behind ws → WaitsAs n v b
+    → option_parts n v (parts_of ws) (with_value n ws) ≡ cond (dash_behind b ws) None (option_parts n v (loose ws) (loose_value n ws))
+step n (Some x) b ws here behind e = ⊎_elim
+    (λ (t : is_valued n ≡ true). rw (t, e) (ap (before (option n x)) here ∙ before_either (option n x) (dash_behind false ws) (loose ws)))
+    (λ (t : is_valued n ≡ false). rw (t, e) (sym (none_either (dash_behind false ws))))
+    (cases_Bool (is_valued n))
+step n None b ws here behind e = ⊎_elim
+    (λ (t : is_valued n ≡ true). rw (e, t) (behind n))
+    (λ (t : is_valued n ≡ false). ⊎_elim
+    (λ (u : is_unvalued n ≡ true). rw (e, t, u) (ap (before (flag n)) here ∙ before_either (flag n) (dash_behind false ws) (loose ws)))
+    (λ (u : is_unvalued n ≡ false). rw (e, t, u) (sym (none_either (dash_behind false ws))))
+    (cases_Bool (is_unvalued n)))
+    (cases_Bool (is_valued n))
+
+word_here : (w : Text) (ws : List Text) → Here ws → Behind ws → Here (w ∷ ws)
 unfolding loose parts_of
-fit_value v ws here n e = ⊎_elim
+word_here w ws here behind = ⊎_elim
+    (λ (d : bytes_eq w dashes ≡ true). rw d refl)
+    (λ (d : bytes_eq w dashes ≡ false). ⊎_elim
+    (λ (p : is_positional w ≡ true). rw (d, p, no_wait_positional w p)
+    (ap (before (word w)) here ∙ before_either (word w) (dash_behind false ws) (loose ws)))
+    (λ (p : is_positional w ≡ false). ⊎_elim
+    (λ (t : begins_with_two w ≡ true). rw (d, p, t) (step (name_in w) (value_in w) (takes_next w) ws here behind (waits_as w t)))
+    (λ (t : begins_with_two w ≡ false). rw (d, p, t) (sym (none_either (dash_behind (takes_next w) ws))))
+    (cases_Bool (begins_with_two w)))
+    (cases_Bool (is_positional w)))
+    (cases_Bool (bytes_eq w dashes))
+
+no_dash : (v : Text) → begins_with_dash v ≡ false → (bytes_eq v dashes ≡ false) × (bytes_eq v (codes "-") ≡ false)
+no_dash v e = (differ begins_with_dash v dashes false e refl, differ begins_with_dash v (codes "-") false e refl)
+
+positional : (v : Text) → begins_with_dash v ≡ false → is_positional v ≡ true
+positional v e = rw e refl
+
+not_one : (v : Text) → bytes_eq v dashes ≡ true → bytes_eq v (codes "-") ≡ false
+not_one v e = ap (λ t. bytes_eq t (codes "-")) (is v dashes e)
+
+word_behind : (v : Text) (ws : List Text) → Here ws → Behind (v ∷ ws)
+unfolding loose parts_of
+word_behind v ws here n = ⊎_elim
     (λ (b : begins_with_dash v ≡ true). ⊎_elim
-    (λ (d : bytes_eq v (codes "-") ≡ true). rw (b, d) (fits_dash n v e (is v (codes "-") d) (loose ws) (parts_of ws) here))
-    (λ (d : bytes_eq v (codes "-") ≡ false). rw (b, d) refl)
+    (λ (d : bytes_eq v dashes ≡ true). rw (b, d, not_one v d) refl)
+    (λ (d : bytes_eq v dashes ≡ false). ⊎_elim
+    (λ (o : bytes_eq v (codes "-") ≡ true). rw (b, d, o) refl)
+    (λ (o : bytes_eq v (codes "-") ≡ false). rw (b, d, o) (sym (none_either (dash_behind (takes_next v) ws))))
     (cases_Bool (bytes_eq v (codes "-"))))
-    (λ (b : begins_with_dash v ≡ false). rw b (fits_before (option n v) e (loose ws) (parts_of ws) here))
+    (cases_Bool (bytes_eq v dashes)))
+    (λ (b : begins_with_dash v ≡ false). rw (b, (no_dash v b).0, (no_dash v b).1, no_wait_positional v (positional v b))
+    (ap (before (option n v)) here ∙ before_either (option n v) (dash_behind false ws) (loose ws)))
     (cases_Bool (begins_with_dash v))
 
-none_here : FitHere []
+nothing_here : Here []
 unfolding loose parts_of
-none_here = (tt, inl refl)
+nothing_here = refl
 
-none_behind : FitBehind []
+nothing_behind : Behind []
 unfolding loose parts_of
-none_behind n e = refl
+nothing_behind n = refl
 
-both : (ws : List Text) → FitHere ws × FitBehind ws
-both [] = (none_here, none_behind)
-both (w ∷ ws) = let rec : FitHere ws × FitBehind ws = both ws in (fit_word w ws rec.0 rec.1, fit_value w ws rec.0)
-
-pub fits : (ws : List Text) → Fits (loose ws) (parts_of ws)
-fits ws = (both ws).0
-
--- ---- no value of an option is `-`
-
--- a name with a value is among the names
-among : (m : Text) (ps : List Part) (v : Text) → value_of m ps ≡ Some v → (n : Text) → is_one_of n (names_of ps) ≡ false → bytes_eq n m ≡ false
-among m [] v e n h = absurd (let bad : None ≡ Some v = e in cc)
-among m (option k x ∷ ps) v e n h =
-    let apart = or_none_true (bytes_eq n k) (is_one_of n (names_of ps)) (sym (either_is n k (names_of ps)) ∙ h) in
-    step (bytes_eq k m) refl e apart.0 (λ later. among m ps v later n apart.1)
-  where
-    or_none_true : (a b : Bool) → (a || b) ≡ false → (a ≡ false) × (b ≡ false)
-    or_none_true true b z = absurd (let bad : true ≡ false = z in cc)
-    or_none_true false b z = (refl, z)
-
-    step : (b : Bool) → bytes_eq k m ≡ b → cond b (Some x) (value_of m ps) ≡ Some v → bytes_eq n k ≡ false
-        → (value_of m ps ≡ Some v → bytes_eq n m ≡ false) → bytes_eq n m ≡ false
-    step true b z apart later = subst (λ (t : Text). bytes_eq n t ≡ false) (is k m b) apart
-    step false b z apart later = later z
-among m (flag k ∷ ps) v e n h =
-    let apart = either_is n k (names_of ps) in among m ps v e n (second (bytes_eq n k) (is_one_of n (names_of ps)) (sym apart ∙ h))
-  where
-    second : (a b : Bool) → (a || b) ≡ false → b ≡ false
-    second true b z = absurd (let bad : true ≡ false = z in cc)
-    second false b z = z
-among m (word w ∷ ps) v e n h = among m ps v e n h
-
-and_both : (a b : Bool) → (a && b) ≡ true → (a ≡ true) × (b ≡ true)
-and_both true true e = (refl, refl)
-and_both true false e = absurd (let bad : false ≡ true = e in cc)
-and_both false b e = absurd (let bad : false ≡ true = e in cc)
-
-not_true : (a : Bool) → not a ≡ true → a ≡ false
-not_true true e = absurd (let bad : false ≡ true = e in cc)
-not_true false e = refl
-
-abbrev pub Dashed : List Part → Type 0
-Dashed ps = (n : Text) × (is_valued n ≡ true) × (value_of n ps ≡ Some (codes "-"))
-
-dashed : (ps : List Part) → AllOk ps → all_apart (names_of ps) ≡ true → HasDash ps → Dashed ps
-dashed [] ok a d = absurd d
-dashed (option n v ∷ ps) ok a d =
-    let apart = and_both (not (is_one_of n (names_of ps))) (all_apart (names_of ps)) a in
-    first d (λ h. dashed ps ok.1 apart.1 h) (not_true (is_one_of n (names_of ps)) apart.0)
-  where
-    first : (v ≡ codes "-") ⊎ HasDash ps → (HasDash ps → Dashed ps) → is_one_of n (names_of ps) ≡ false → Dashed (option n v ∷ ps)
-    first (inl e) rec apart = (n, ok.0, rw (same n) (ap (λ t. Some t) e))
-    first (inr h) rec apart =
-        let found = rec h in
-        let other : bytes_eq n found.0 ≡ false = among found.0 ps (codes "-") found.2 n apart in
-        (found.0, found.1, rw other found.2)
-dashed (flag n ∷ ps) ok a d =
-    let apart = and_both (not (is_one_of n (names_of ps))) (all_apart (names_of ps)) a in
-    dashed ps ok.2 apart.1 d
-dashed (word w ∷ ps) ok a d = dashed ps ok a d
-
-pub all_none : {A B : Type 0} (o : Option A) (f : A → Option B) → ((a : A) → f a ≡ None) → with o f ≡ None
-all_none None f h = refl
-all_none (Some a) f h = h a
-
-five : (n : Text) → is_valued n ≡ true → (P : Text → Type 0) → P (codes "workers") → P (codes "seed") → P (codes "lose") → P (codes "names")
-    → P (codes "generate") → P n
-five n e P w s l k g =
-    pick (bytes_eq (codes "workers") n) (bytes_eq (codes "seed") n) (bytes_eq (codes "lose") n) (bytes_eq (codes "names") n)
-    (bytes_eq (codes "generate") n)
-    (is _ n) (is _ n) (is _ n) (is _ n) (is _ n) e
-  where
-    pick : (a b c d x : Bool) → (a ≡ true → codes "workers" ≡ n) → (b ≡ true → codes "seed" ≡ n) → (c ≡ true → codes "lose" ≡ n)
-        → (d ≡ true → codes "names" ≡ n)
-        → (x ≡ true → codes "generate" ≡ n) → (a || (b || (c || (d || (x || false))))) ≡ true → P n
-    pick true b c d x ha hb hc hd hx z = subst P (ha refl) w
-    pick false true c d x ha hb hc hd hx z = subst P (hb refl) s
-    pick false false true d x ha hb hc hd hx z = subst P (hc refl) l
-    pick false false false true x ha hb hc hd hx z = subst P (hd refl) k
-    pick false false false false true ha hb hc hd hx z = subst P (hx refl) g
-    pick false false false false false ha hb hc hd hx z = absurd (let bad : false ≡ true = z in cc)
-
-no_line : (ps : List Part) → Dashed ps → line_with ps ≡ None
-no_line ps d =
-    let workers : Option ℕ = or_absent 1 (number_within 1 most_workers) (value_of (codes "workers") ps) in
-    let seed : Option ℕ = or_absent 0 (number_within 0 (2 ^ 64 - 1)) (value_of (codes "seed") ps) in
-    let losses : ℕ → Option (List (ℕ × ℕ)) = λ w. or_absent [] (losses_in w) (value_of (codes "lose") ps) in
-    let names : Option NameKind = or_absent NameKind.Sha1 names_in (value_of (codes "names") ps) in
-    five d.0 d.1 (λ n. value_of n ps ≡ Some (codes "-") → line_with ps ≡ None)
-    (λ e. rw e refl)
-    (λ e. rw e (all_none workers _ (λ w. refl)))
-    (λ e. rw e (all_none workers _ (λ w. all_none seed _ (λ s. refl))))
-    (λ e. rw e (all_none workers _ (λ w. all_none seed _ (λ s. all_none (losses w) _ (λ l. refl)))))
-    (λ e. rw e (all_none workers _ (λ w. all_none seed _ (λ s. all_none (losses w) _ (λ l. all_none names _ (λ k. refl))))))
-    d.2
+both : (ws : List Text) → Here ws × Behind ws
+both [] = (nothing_here, nothing_behind)
+both (w ∷ ws) = let rec : Here ws × Behind ws = both ws in (word_here w ws rec.0 rec.1, word_behind w ws rec.0)
 
 -- ---- the line
 
 -- where the parts have no name twice, the line says what they say
-pub line_is : (ws : List Text) (ps : List Part) → loose ws ≡ Some ps → all_apart (names_of ps) ≡ true → line_of ws ≡ line_with ps
-line_is ws ps e a = by_fit (subst (λ (o : Option (List Part)). Fits o (parts_of ws)) e (fits ws))
-  where
-    by_fit : Fits (Some ps) (parts_of ws) → line_of ws ≡ line_with ps
-    by_fit f = ⊎_elim
-        (λ (h : parts_of ws ≡ Some ps). rw (h, a) refl)
-        (λ (h : (parts_of ws ≡ None) × HasDash ps). rw h.0 (sym (no_line ps (dashed ps f.0 a h.1))))
-        f.1
+pub line_is : (ws : List Text) (ps : List Part) → dash_behind false ws ≡ false → loose ws ≡ Some ps → all_apart (names_of ps) ≡ true
+    → line_of ws ≡ line_with ps
+line_is ws ps d e a = let parts : parts_of ws ≡ Some ps = (both ws).0 ∙ ap (λ b. cond b None (loose ws)) d ∙ e in rw (parts, a) refl
 
-pub parts_ok : (ws : List Text) (ps : List Part) → loose ws ≡ Some ps → AllOk ps
-parts_ok ws ps e = (subst (λ (o : Option (List Part)). Fits o (parts_of ws)) e (fits ws)).0
+-- where a value behind its option is `-` there is no line
+pub no_line_dash : (ws : List Text) → dash_behind false ws ≡ true → line_of ws ≡ None
+no_line_dash ws d = let none : parts_of ws ≡ None = (both ws).0 ∙ ap (λ b. cond b None (loose ws)) d in rw none refl
 
--- where a name stands twice there is no line
+-- nor where a name stands twice
 pub no_line_twice : (ws : List Text) (ps : List Part) → loose ws ≡ Some ps → all_apart (names_of ps) ≡ false → line_of ws ≡ None
-no_line_twice ws ps e a = by_fit (subst (λ (o : Option (List Part)). Fits o (parts_of ws)) e (fits ws))
-  where
-    by_fit : Fits (Some ps) (parts_of ws) → line_of ws ≡ None
-    by_fit f = ⊎_elim
-        (λ (h : parts_of ws ≡ Some ps). rw (h, a) refl)
-        (λ (h : (parts_of ws ≡ None) × HasDash ps). rw h.0 refl)
-        f.1
+no_line_twice ws ps e a = ⊎_elim
+    (λ (d : dash_behind false ws ≡ true). no_line_dash ws d)
+    (λ (d : dash_behind false ws ≡ false).
+    let parts : parts_of ws ≡ Some ps = (both ws).0 ∙ ap (λ b. cond b None (loose ws)) d ∙ e in rw (parts, a) refl)
+    (cases_Bool (dash_behind false ws))
 
 -- nor where there are no parts
 pub no_line_apart : (ws : List Text) → loose ws ≡ None → line_of ws ≡ None
 no_line_apart ws e =
-    let none : parts_of ws ≡ None = subst (λ (o : Option (List Part)). Fits o (parts_of ws)) e (fits ws) in
+    let none : parts_of ws ≡ None = (both ws).0 ∙ ap (cond (dash_behind false ws) None) e ∙ none_either (dash_behind false ws) in
     rw none refl

@@ -1,7 +1,7 @@
 -- What holds of every line: its numbers are within their limits.
-use Rattle.std.specs.Prelude.{◌≡◌, ◌≢◌, ◌<◌, ◌≤◌, ℕ, List, None, Some, length}
+use Rattle.std.specs.Prelude.{◌≡◌, ◌≢◌, ◌<◌, ◌≤◌, ℕ, List, None, Some, false, length}
 use Rattle.std.specs.List.{AllByRecursion}
-use Rattle.ciel_words.specs.Inputs.{most_inputs}
+use Rattle.ciel_words.specs.Inputs.{most_inputs, most_name}
 use Rattle.ciel_words.specs.Line.{line_of, most_workers}
 use Rattle.ciel_words.specs.Parts.{Text}
 use Rattle.ciel_words.specs.Values.{most_losses}
@@ -13,8 +13,11 @@ pub record LineIsSound (w : Words) : Type 0 where
   pub losses : AllByRecursion (λ (l : ℕ × ℕ). l.1 < w.workers) w.losses
   pub few : length w.losses ≤ most_losses
   pub inputs : length w.inputs ≤ most_inputs
+  pub keys : AllByRecursion (λ (i : Text × Text). length i.0 ≤ most_name) w.inputs
   -- where there is no script, a job is generated
   pub named : w.script ≡ None → w.generate ≢ None
+  -- the path of a log isn't empty, and a sequential run has none
+  pub logged : (path : Text) → w.log ≡ Some path → (w.plain ≡ false) × (0 < length path)
 
 abbrev pub LinesAreSound : Type 0
 LinesAreSound = (words : List Text) (w : Words) → line_of words ≡ Some w → LineIsSound w

@@ -1,7 +1,7 @@
 //! What the values of a line say.
 
 ghost use Rattle.std.specs.Prelude.{◌≡◌, ◌<◌, [], Some, None, Err, IfOk, map};
-ghost use Rattle.ciel_words.specs.Line.{files_in, lines_in};
+ghost use Rattle.ciel_words.specs.Line.{files_in, lines_in, log_in};
 ghost use Rattle.ciel_words.specs.Raw.{said_by, text_of};
 ghost use Rattle.ciel_words.specs.Values.{losses_in, names_in, or_absent};
 
@@ -43,6 +43,21 @@ fn name_kind(value: Option<&str>) -> Option<NameKind>
         None | Some("sha1") => Some(NameKind::Sha1),
         Some("sha256") => Some(NameKind::Sha256),
         Some(_) => None,
+    }
+}
+
+// The path of the log, where one is asked for.
+fn log_path(alloc: Global, plain: bool, value: Option<&str>) -> Result<Option<Txt>, WordsRefusal>
+    ensures path { IfOk result (λ d. or_absent None (log_in plain) (text_of value.entry) ≡ Some d) }
+    ensures usage { result ≡ Err WordsRefusal.Usage → or_absent None (log_in plain) (text_of value.entry) ≡ None }
+{
+    match value {
+        None => Ok(None),
+        Some(path) if !plain && !path.is_empty() => match Txt::new(alloc, path) {
+            Ok(path) => Ok(Some(path)),
+            Err(_) => Err(WordsRefusal::Memory),
+        },
+        Some(_) => Err(WordsRefusal::Usage),
     }
 }
 
@@ -115,6 +130,7 @@ pub(crate) fn line_from(alloc: Global, raw: &Raw<'_>) -> Result<Words, WordsRefu
     let Some(names) = name_kind(raw.names) else {
         return Err(WordsRefusal::Usage);
     };
+    let log = log_path(alloc, raw.plain, raw.log)?;
     let Some(generate) = generated(raw.generate) else {
         return Err(WordsRefusal::Usage);
     };
@@ -128,6 +144,7 @@ pub(crate) fn line_from(alloc: Global, raw: &Raw<'_>) -> Result<Words, WordsRefu
         trace: raw.trace,
         plain: raw.plain,
         names,
+        log,
         generate,
     })
 }

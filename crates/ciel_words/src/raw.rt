@@ -1,6 +1,6 @@
 //! The words taken apart, each value as text.
 
-ghost use Rattle.std.specs.Prelude.{◌≡◌, ◌≢◌, [], None, Some, Err, IfOk, codes, map, unwrap_or};
+ghost use Rattle.std.specs.Prelude.{◌≡◌, ◌≢◌, [], None, Some, Err, IfOk, codes, false, map, unwrap_or};
 ghost use Rattle.std.specs.List.{AllByRecursion};
 ghost use Rattle.std.specs.Str.{IsUtf8};
 ghost use Rattle.clap.specs.Walk.{all_of, first_of, one_of};
@@ -8,7 +8,7 @@ ghost use Rattle.clap.specs.Words.{found_of, kind_of, rows_of};
 ghost use Rattle.clap.specs.declared.error.kind.ErrorKind.TheVariants.{OutOfMemory};
 ghost use Rattle.ciel_words.specs.Command.{FlagSays};
 ghost use Rattle.ciel_words.specs.Line.{line_of};
-ghost use Rattle.ciel_words.specs.Raw.{said_by, text_of};
+ghost use Rattle.ciel_words.specs.Raw.{dash_behind, said_by, takes_next, text_of};
 
 use crate::command::command;
 use crate::words::WordsRefusal;
@@ -24,6 +24,7 @@ pub(crate) struct Raw<'a> {
     pub seed: Option<&'a str>,
     pub lose: Option<&'a str>,
     pub names: Option<&'a str>,
+    pub log: Option<&'a str>,
     pub generate: Option<&'a str>,
     pub trace: bool,
     pub plain: bool,
@@ -36,6 +37,7 @@ fn gather<'a>(alloc: Global, matches: &ArgMatches<'a>) -> Result<Raw<'a>, AllocE
     ensures seed { IfOk result (λ r. text_of r.seed ≡ first_of (codes "seed") (rows_of (found_of matches.now))) }
     ensures lose { IfOk result (λ r. text_of r.lose ≡ first_of (codes "lose") (rows_of (found_of matches.now))) }
     ensures names { IfOk result (λ r. text_of r.names ≡ first_of (codes "names") (rows_of (found_of matches.now))) }
+    ensures log { IfOk result (λ r. text_of r.log ≡ first_of (codes "log") (rows_of (found_of matches.now))) }
     ensures generate { IfOk result (λ r. text_of r.generate ≡ first_of (codes "generate") (rows_of (found_of matches.now))) }
     ensures trace { IfOk result (λ r. FlagSays (one_of (codes "trace") (rows_of (found_of matches.now))) r.trace) }
     ensures plain { IfOk result (λ r. FlagSays (one_of (codes "plain") (rows_of (found_of matches.now))) r.plain) }
@@ -50,6 +52,7 @@ fn gather<'a>(alloc: Global, matches: &ArgMatches<'a>) -> Result<Raw<'a>, AllocE
         seed: matches.get_str("seed"),
         lose: matches.get_str("lose"),
         names: matches.get_str("names"),
+        log: matches.get_str("log"),
         generate: matches.get_str("generate"),
         trace: matches.get_flag("trace"),
         plain: matches.get_flag("plain"),
@@ -66,6 +69,34 @@ fn refusal_of(error: &Error) -> WordsRefusal
     }
 }
 
+// Whether a word is an option whose value is the next word.
+fn takes_next(word: &str) -> bool
+    ensures { result ≡ takes_next word.now }
+{
+    matches!(
+        word,
+        "--workers" | "--seed" | "--lose" | "--names" | "--log" | "--generate"
+    )
+}
+
+// Whether the value of an option is the next word and is `-`. Of the words taken apart it can't be told from one behind `=`.
+fn has_dash_behind(words: &[Txt]) -> bool
+    ensures { result ≡ dash_behind false words.now }
+{
+    let mut waits = false;
+    for word in words {
+        let word = word.as_str();
+        if word == "--" {
+            return false;
+        }
+        if waits && word == "-" {
+            return true;
+        }
+        waits = takes_next(word);
+    }
+    false
+}
+
 // That each word is a text, as its type keeps, told of the list.
 fn are_texts(words: &[Txt])
     ensures { AllByRecursion IsUtf8 words.now }
@@ -80,6 +111,9 @@ pub(crate) fn read_raw<'a>(alloc: Global, words: &'a [Txt]) -> Result<Raw<'a>, W
     ensures raw { IfOk result (λ r. line_of words.entry.now ≡ said_by r) }
     ensures usage { result ≡ Err WordsRefusal.Usage → line_of words.entry.now ≡ None }
 {
+    if has_dash_behind(words) {
+        return Err(WordsRefusal::Usage);
+    }
     are_texts(words);
     let Ok(command) = command(alloc) else {
         return Err(WordsRefusal::Memory);

@@ -121,6 +121,8 @@ pub struct Words {
     pub plain: bool,
     /// By which digest names are made.
     pub names: NameKind,
+    /// The path of the log, which isn't empty; none where no log is asked for, and with `plain`.
+    pub log: Option<Txt>,
     /// How many lines the generated job has, 1 to 1,000,000; none where a script is run.
     pub generate: Option<u32>,
 }

@@ -77,6 +77,14 @@ fn put_flags(out: &mut String, line: &Words) -> Result<(), Fail> {
     Ok(())
 }
 
+fn put_log(out: &mut String, line: &Words) -> Result<(), Fail> {
+    if let Some(path) = &line.log {
+        out.push_str(" log ")?;
+        out.push_str(path.as_str())?;
+    }
+    Ok(())
+}
+
 fn put_lines(alloc: Global, out: &mut String, line: &Words) -> Result<(), Fail> {
     if let Some(lines) = line.generate {
         out.push_str(" ")?;
@@ -92,10 +100,11 @@ fn put_line(alloc: Global, out: &mut String, line: &Words) -> Result<(), Fail> {
     put_workers(alloc, out, line)?;
     put_losses(alloc, out, line)?;
     put_flags(out, line)?;
+    put_log(out, line)?;
     put_lines(alloc, out, line)
 }
 
-/// What the words say: the script, the inputs, the workers, the seed, the losses, the digest, the flags and the lines of a generated job, with
+/// What the words say: the script, the inputs, the workers, the seed, the losses, the digest, the flags, the log and the lines of a generated job, with
 /// spaces between; or `no line`.
 pub(crate) fn picture_of(alloc: Global, words: &[Txt]) -> Result<String, Fail> {
     let mut out = String::new(alloc);

@@ -5,7 +5,7 @@ use std::alloc::Global;
 use std::test::Fail;
 
 // Words, and what they say: a bar stands between two words.
-static LINES: [(&str, &str); 15] = [
+static LINES: [(&str, &str); 22] = [
     ("s", "s w1 s0 sha1"),
     ("--workers=2|s|--|a=x", "s a=x w2 s0 sha1"),
     ("--|--seed", "--seed w1 s0 sha1"),
@@ -33,6 +33,13 @@ static LINES: [(&str, &str); 15] = [
         "--trace|--plain|--generate|1|--names=sha256",
         "w1 s0 sha256 trace plain 1 lines",
     ),
+    ("s|--log|a=b|--trace", "s w1 s0 sha1 trace log a=b"),
+    ("--log=-|--|s", "s w1 s0 sha1 log -"),
+    ("--log=--|--generate=2", "w1 s0 sha1 log -- 2 lines"),
+    ("--log|-|s", "no line"),
+    ("--log=-l|s", "s w1 s0 sha1 log -l"),
+    ("s|--log=a|--plain", "no line"),
+    ("--log|l|--|-", "- w1 s0 sha1 log l"),
 ];
 
 // Whether the words of a row say what stands beside them.

@@ -1,17 +1,18 @@
 -- What the run of the line that the words are says, the words say.
-use Rattle.std.proofs.Common.{◌≡◌, ◌++◌, ◌∙◌, ℕ, List, None, Option, Some, map, sym}
+use Rattle.std.proofs.Common.{◌≡◌, ◌⊎◌, ◌++◌, ◌∙◌, ℕ, List, [], None, Option, Some, map, sym}
 use Rattle.ciel_io.specs.Faults.{HasRisen}
 use Rattle.ciel_io.specs.Tells.{Tells}
 use Rattle.ciel_master.specs.Views.{entry_view}
 use Rattle.ciel_run_line.specs.Asked.{StopsFor}
-use Rattle.ciel_run_line.specs.Line.{OfLine, files_of, is_traced}
-use Rattle.ciel_run_line.specs.Runs.{IsDriven}
-use Rattle.ciel_run.specs.Ending.{Answers, IsExpected, TellsParts, trace_of}
+use Rattle.ciel_run_line.specs.Line.{OfLine, OverFiles, files_of, is_traced}
+use Rattle.ciel_run_line.specs.Runs.{EndsShown, IsDriven}
+use Rattle.ciel_run.specs.Ending.{Answers, IsExpected, TellsParts, Writes, WritesAnswer, trace_of}
 use Rattle.ciel_run_log.specs.Message.{message_of}
 use Rattle.ciel_run.proofs.Headline.{few, missing, needed, one_value, one_wait}
 use Rattle.ciel_run.proofs.Modest.{answers}
-use Rattle.ciel_run.proofs.Over.{at_line, distinct, endless, expected, first_of, limits, name_clash, no_write, not_usage, over_line}
-use Rattle.ciel_run.proofs.Over.{read_fault, too_deep, too_many, way}
+use Rattle.ciel_run.proofs.Over.{at_line, begun_of, distinct, endless, expected, first_of, limits, name_clash, no_write, not_usage, over_line}
+use Rattle.ciel_run.proofs.Over.{read_fault, too_deep, too_many, way, writes}
+use Rattle.ciel_run.proofs.Troubles.{keep_fault_map, on_right}
 use Rattle.ciel_run.proofs.top.ciel_main.Goals as goal
 
 -- words that are a line are not none
@@ -84,22 +85,24 @@ returns-clause-read_fault g c = read_fault (g.F.Files.content c.args.files.now) 
     c.run.result.why c.run.ensures.cause
 
 pub returns-clause-complete : goal.returns-clause-complete
-returns-clause-complete g c = λ quiet still silent.
+returns-clause-complete g c = λ quiet still silent kept.
     over_line c.args.words.now c.in-Ok.line (λ w. OfLine (g.F.Files.content c.args.files.now) w
     (λ source inputs. IsExpected w source inputs c.run.result.why)) c.in-Ok.ensures.line
     (expected (g.F.Files.content c.args.files.now) c.in-Ok.line (HasRisen (g.F.Files.faults c.args.files.now) (g.F.Files.faults c.run.new.files))
     (map entry_view c.run.result.journal.items) c.run.result.why (g.O.Sink.written c.args.out.now) (g.O.Sink.written c.run.new.out)
     c.run.ensures.cause c.run.ensures.done quiet
-    (λ failed. no_write _ _ _ (c.run.ensures.write_fault failed) still silent))
+    (λ failed. no_write _ _ _ (c.run.ensures.write_fault failed) still silent)
+    (begun_of _ c.run.result.why c.run.ensures.keep_fault kept))
 
 pub returns-clause-answers : goal.returns-clause-answers
-returns-clause-answers g c = λ quiet still silent.
+returns-clause-answers g c = λ quiet still silent kept.
     over_line c.args.words.now c.in-Ok.line (λ w. OfLine (g.F.Files.content c.args.files.now) w
     (λ source inputs. Answers w source inputs c.run.result.why)) c.in-Ok.ensures.line
     (answers (g.F.Files.content c.args.files.now) c.in-Ok.line (HasRisen (g.F.Files.faults c.args.files.now) (g.F.Files.faults c.run.new.files))
     (map entry_view c.run.result.journal.items) c.modest_runs_answer.ensures c.functions_are_orderly.ensures.orderly c.run.result.why
     c.run.ensures.cause quiet
-    (λ failed. no_write _ _ _ (c.run.ensures.write_fault failed) still silent) c.run.ensures.driven)
+    (λ failed. no_write _ _ _ (c.run.ensures.write_fault failed) still silent)
+    (begun_of _ c.run.result.why c.run.ensures.keep_fault kept) c.run.ensures.driven)
 
 pub returns-clause-message : goal.returns-clause-message
 returns-clause-message g c = λ nl.
@@ -170,3 +173,25 @@ returns-clause-none_begins g c = λ none. absurd (none_some none c.in-Ok.ensures
 
 pub returns-clause-none_enters : goal.returns-clause-none_enters
 returns-clause-none_enters g c = λ none. absurd (none_some none c.in-Ok.ensures.line)
+
+pub returns-clause-all_or_nothing : goal.returns-clause-all_or_nothing
+returns-clause-all_or_nothing g c = λ memory.
+    first_of (g.F.Files.content c.args.files.now) c.args.words.now c.in-Ok.line c.in-Ok.ensures.line (c.run.new.out ≡ c.args.out.now)
+    (g.O.Sink.written c.args.out.now) (g.O.Sink.written c.run.new.out) (c.run.ensures.all_or_nothing memory)
+
+pub returns-clause-begun : goal.returns-clause-begun
+returns-clause-begun g c =
+    let content = g.F.Files.content c.args.files.now in
+    let b = g.O.Sink.written c.args.out.now in
+    let n = g.O.Sink.written c.run.new.out in
+    let J = map entry_view c.run.result.journal.items in
+    let none : Type 0 = (J ≡ []) × (c.run.new.gates ≡ c.args.gates.now) × (c.run.new.out ≡ c.args.out.now) in
+    let shown : Type 0 =
+    OverFiles content c.args.words.now (λ w source inputs. EndsShown w source inputs J × WritesAnswer w source inputs b n) in
+    let ended : Writes content c.in-Ok.line (Tells b n) × OfLine content c.in-Ok.line (λ source inputs. EndsShown c.in-Ok.line source inputs J) → shown =
+    (λ x. over_line c.args.words.now c.in-Ok.line
+    (λ w. OfLine content w (λ source inputs. EndsShown w source inputs J × WritesAnswer w source inputs b n)) c.in-Ok.ensures.line
+    (λ source inputs st. (x.1 source inputs st, writes content c.in-Ok.line b n x.0 source inputs st))) in
+    keep_fault_map c.run.result.why
+    (λ path. none ⊎ (Writes content c.in-Ok.line (Tells b n) × OfLine content c.in-Ok.line (λ source inputs. EndsShown c.in-Ok.line source inputs J)))
+    (λ path. none ⊎ shown) (λ path x. on_right ended x) c.run.ensures.begun

@@ -1,15 +1,24 @@
 -- What was written has no other cause, and what wasn't has that of its job.
-use Rattle.std.proofs.Common.{ℕ, List, map, subst, sym}
-use Rattle.std.specs.Prelude.{IfErr, Result}
+use Rattle.std.proofs.Common.{◌≡◌, ◌≢◌, ◌≤◌, ◌⊎◌, ◌∙◌, inr, ℕ, List, [], map, subst, sym}
+use Rattle.std.specs.Prelude.{IfErr, IfOk, Result}
+use Rattle.sky_base.specs.See as s
+use Rattle.sky_base.specs.See.{Answered}
 use Rattle.ciel_io.specs.Faults.{HasRisen}
-use Rattle.ciel_run_line.specs.Asked.{StopsFor}
-use Rattle.ciel_run_line.specs.Causes.{CauseOf}
-use Rattle.ciel_run_line.specs.Line.{files_of}
+use Rattle.ciel_io.specs.Tells.{Tells}
+use Rattle.ciel_run_line.specs.Asked.{AsksFor, AsksOf, ShowsResult, StopsFor}
+use Rattle.ciel_log.specs.Logging.{most}
+use Rattle.ciel_run_line.specs.Causes.{CauseOf, OfRun}
+use Rattle.ciel_run_line.specs.Keeping.{HasBytes, KeeperSeen, KeepsLog, LogTold}
+use Rattle.ciel_run_line.specs.Source.{over_lines}
+use Rattle.ciel_run_line.specs.Line.{OfLine, files_of, paths_in}
+use Rattle.ciel_run_line.specs.Runs.{EndsShown, IsDriven}
+use Rattle.ciel_run_line.specs.Told.{ToldBy, told_of}
 use Rattle.ciel_master.specs.Views.{entry_view}
-use Rattle.ciel_run.specs.Ending.{EndCause}
+use Rattle.ciel_run.specs.Ending.{AsksLog, EndCause, IfKeepFault, IfLogFull, LogSays, Writes, WritesNothing}
 use Rattle.ciel_run_log.specs.declared.why.Ended.{Ended}
 use Rattle.ciel_run_log.specs.declared.why.Why.{Why}
 use Rattle.ciel_run.proofs.Over.{end_cause}
+use Rattle.ciel_run.proofs.Troubles.{asked_so, asked_then, begun_then, err_is, files_asked, keep_fault, keep_fault_so, keep_named, log_full, says, says_so, something, trouble_cause}
 use Rattle.ciel_run.proofs.top.run.Goals as goal
 
 pub returns-in-Err-clause-cause : goal.returns-in-Err-clause-cause
@@ -30,3 +39,264 @@ returns-in-Err-clause-order g c =
     let n = g.F.Files.asked c.answer_line-result.new.files in
     subst (λ (r : Ended). StopsFor content f b n r.why) (sym c.ended-in-Err.ensures)
     (subst (λ (r : Result (List ℕ) Why). IfErr r (StopsFor content f b n)) c.in-Err.is c.answer_line-result.ensures.order)
+
+pub returns-in-Ok-clause-cause : goal.returns-in-Ok-clause-cause
+returns-in-Ok-clause-cause g c =
+    let content = g.F.Files.content c.args.files.now in
+    let line = c.args.line.now in
+    let risen = HasRisen (g.F.Files.faults c.args.files.now) (g.F.Files.faults c.answer_line-result.new.files) in
+    let J = map entry_view c.answer_line-result.result.journal.items in
+    let state = c.answer_line-result.result.state in
+    let before : KeeperSeen =
+    record {
+      files = g.D.Keep.files c.args.keep.now;
+      asked = g.D.Keep.asked c.args.keep.now;
+      faults = g.D.Keep.faults c.args.keep.now;
+    } in
+    let now : KeeperSeen =
+    record {
+      files = g.D.Keep.files c.answer_line-result.new.keep;
+      asked = g.D.Keep.asked c.answer_line-result.new.keep;
+      faults = g.D.Keep.faults c.answer_line-result.new.keep;
+    } in
+    let keeps = subst (λ (r : Result (List ℕ) Why). KeepsLog line.log before now r state) c.in-Ok.is c.answer_line-result.ensures.keeps in
+    let answer = subst (λ (r : Result (List ℕ) Why). IfOk r (λ b. OfRun content line risen J (λ job. s.Means job over_lines (Answered.bytes b))))
+    c.in-Ok.is c.answer_line-result.ensures.bytes in
+    subst (λ (r : Ended). EndCause content line risen (map entry_view r.journal.items) r.why) (sym c.ended.ensures)
+    (trouble_cause content line risen J (λ path n. (c.requires.line.logged path n).0) c.in-Ok.answer answer state c.finish-why.result
+    c.finish-why.ensures.ends)
+
+pub returns-in-Ok-clause-nothing : goal.returns-in-Ok-clause-nothing
+returns-in-Ok-clause-nothing g c =
+    let content = g.F.Files.content c.args.files.now in
+    let line = c.args.line.now in
+    let risen = HasRisen (g.F.Files.faults c.args.files.now) (g.F.Files.faults c.answer_line-result.new.files) in
+    let J = map entry_view c.answer_line-result.result.journal.items in
+    let state = c.answer_line-result.result.state in
+    let before : KeeperSeen =
+    record {
+      files = g.D.Keep.files c.args.keep.now;
+      asked = g.D.Keep.asked c.args.keep.now;
+      faults = g.D.Keep.faults c.args.keep.now;
+    } in
+    let now : KeeperSeen =
+    record {
+      files = g.D.Keep.files c.answer_line-result.new.keep;
+      asked = g.D.Keep.asked c.answer_line-result.new.keep;
+      faults = g.D.Keep.faults c.answer_line-result.new.keep;
+    } in
+    let keeps = subst (λ (r : Result (List ℕ) Why). KeepsLog line.log before now r state) c.in-Ok.is c.answer_line-result.ensures.keeps in
+    λ none. absurd (something line.log state c.finish-why.result c.finish-why.ensures.ends
+    (subst (λ (r : Ended). WritesNothing r.why) c.ended.ensures none))
+
+pub returns-in-Ok-clause-keep_fault : goal.returns-in-Ok-clause-keep_fault
+returns-in-Ok-clause-keep_fault g c =
+    let content = g.F.Files.content c.args.files.now in
+    let line = c.args.line.now in
+    let risen = HasRisen (g.F.Files.faults c.args.files.now) (g.F.Files.faults c.answer_line-result.new.files) in
+    let J = map entry_view c.answer_line-result.result.journal.items in
+    let state = c.answer_line-result.result.state in
+    let before : KeeperSeen =
+    record {
+      files = g.D.Keep.files c.args.keep.now;
+      asked = g.D.Keep.asked c.args.keep.now;
+      faults = g.D.Keep.faults c.args.keep.now;
+    } in
+    let now : KeeperSeen =
+    record {
+      files = g.D.Keep.files c.answer_line-result.new.keep;
+      asked = g.D.Keep.asked c.answer_line-result.new.keep;
+      faults = g.D.Keep.faults c.answer_line-result.new.keep;
+    } in
+    let keeps = subst (λ (r : Result (List ℕ) Why). KeepsLog line.log before now r state) c.in-Ok.is c.answer_line-result.ensures.keeps in
+    subst (λ (r : Ended). IfKeepFault r.why (λ path. HasRisen before.faults now.faults)) (sym c.ended.ensures)
+    (keep_fault line.log before now c.in-Ok.answer state keeps c.finish-why.result c.finish-why.ensures.ends)
+
+pub returns-in-Ok-clause-log_full : goal.returns-in-Ok-clause-log_full
+returns-in-Ok-clause-log_full g c =
+    let content = g.F.Files.content c.args.files.now in
+    let line = c.args.line.now in
+    let risen = HasRisen (g.F.Files.faults c.args.files.now) (g.F.Files.faults c.answer_line-result.new.files) in
+    let J = map entry_view c.answer_line-result.result.journal.items in
+    let state = c.answer_line-result.result.state in
+    let before : KeeperSeen =
+    record {
+      files = g.D.Keep.files c.args.keep.now;
+      asked = g.D.Keep.asked c.args.keep.now;
+      faults = g.D.Keep.faults c.args.keep.now;
+    } in
+    let now : KeeperSeen =
+    record {
+      files = g.D.Keep.files c.answer_line-result.new.keep;
+      asked = g.D.Keep.asked c.answer_line-result.new.keep;
+      faults = g.D.Keep.faults c.answer_line-result.new.keep;
+    } in
+    let keeps = subst (λ (r : Result (List ℕ) Why). KeepsLog line.log before now r state) c.in-Ok.is c.answer_line-result.ensures.keeps in
+    subst (λ (r : Ended). IfLogFull r.why (λ path held. (held ≤ most) × HasBytes path now.files held)) (sym c.ended.ensures)
+    (log_full line.log before now c.in-Ok.answer state keeps c.finish-why.result c.finish-why.ensures.ends)
+
+pub returns-in-Ok-clause-keep_asked : goal.returns-in-Ok-clause-keep_asked
+returns-in-Ok-clause-keep_asked g c =
+    let content = g.F.Files.content c.args.files.now in
+    let line = c.args.line.now in
+    let risen = HasRisen (g.F.Files.faults c.args.files.now) (g.F.Files.faults c.answer_line-result.new.files) in
+    let J = map entry_view c.answer_line-result.result.journal.items in
+    let state = c.answer_line-result.result.state in
+    let before : KeeperSeen =
+    record {
+      files = g.D.Keep.files c.args.keep.now;
+      asked = g.D.Keep.asked c.args.keep.now;
+      faults = g.D.Keep.faults c.args.keep.now;
+    } in
+    let now : KeeperSeen =
+    record {
+      files = g.D.Keep.files c.answer_line-result.new.keep;
+      asked = g.D.Keep.asked c.answer_line-result.new.keep;
+      faults = g.D.Keep.faults c.answer_line-result.new.keep;
+    } in
+    let keeps = subst (λ (r : Result (List ℕ) Why). KeepsLog line.log before now r state) c.in-Ok.is c.answer_line-result.ensures.keeps in
+    subst (λ (r : Ended). AsksLog line.log r.why before.asked now.asked) (sym c.ended.ensures)
+    (asked_then line.log before now c.in-Ok.answer state keeps c.finish-why.result)
+
+pub returns-in-Ok-clause-log_told : goal.returns-in-Ok-clause-log_told
+returns-in-Ok-clause-log_told g c =
+    let content = g.F.Files.content c.args.files.now in
+    let line = c.args.line.now in
+    let risen = HasRisen (g.F.Files.faults c.args.files.now) (g.F.Files.faults c.answer_line-result.new.files) in
+    let J = map entry_view c.answer_line-result.result.journal.items in
+    let state = c.answer_line-result.result.state in
+    let before : KeeperSeen =
+    record {
+      files = g.D.Keep.files c.args.keep.now;
+      asked = g.D.Keep.asked c.args.keep.now;
+      faults = g.D.Keep.faults c.args.keep.now;
+    } in
+    let now : KeeperSeen =
+    record {
+      files = g.D.Keep.files c.answer_line-result.new.keep;
+      asked = g.D.Keep.asked c.answer_line-result.new.keep;
+      faults = g.D.Keep.faults c.answer_line-result.new.keep;
+    } in
+    let keeps = subst (λ (r : Result (List ℕ) Why). KeepsLog line.log before now r state) c.in-Ok.is c.answer_line-result.ensures.keeps in
+    λ source inputs st.
+    let told = subst (λ (r : Result (List ℕ) Why). LogTold line source inputs J now.files state r) c.in-Ok.is
+    (c.answer_line-result.ensures.logged source inputs st) in
+    subst (λ (r : Ended). LogSays line source inputs (map entry_view r.journal.items) now.files r.why) (sym c.ended.ensures)
+    (says line source inputs J now.files state c.finish-why.result c.finish-why.ensures.ends told)
+
+pub returns-in-Err-clause-keep_fault : goal.returns-in-Err-clause-keep_fault
+returns-in-Err-clause-keep_fault g c =
+    let content = g.F.Files.content c.args.files.now in
+    let line = c.args.line.now in
+    let risen = HasRisen (g.F.Files.faults c.args.files.now) (g.F.Files.faults c.answer_line-result.new.files) in
+    let J = map entry_view c.answer_line-result.result.journal.items in
+    let state = c.answer_line-result.result.state in
+    let before : KeeperSeen =
+    record {
+      files = g.D.Keep.files c.args.keep.now;
+      asked = g.D.Keep.asked c.args.keep.now;
+      faults = g.D.Keep.faults c.args.keep.now;
+    } in
+    let now : KeeperSeen =
+    record {
+      files = g.D.Keep.files c.answer_line-result.new.keep;
+      asked = g.D.Keep.asked c.answer_line-result.new.keep;
+      faults = g.D.Keep.faults c.answer_line-result.new.keep;
+    } in
+    let keeps = subst (λ (r : Result (List ℕ) Why). KeepsLog line.log before now r state) c.in-Err.is c.answer_line-result.ensures.keeps in
+    let cause = subst (λ (r : Result (List ℕ) Why). IfErr r (CauseOf content line risen J)) c.in-Err.is c.answer_line-result.ensures.none in
+    subst (λ (r : Ended). IfKeepFault r.why (λ path. HasRisen before.faults now.faults)) (sym c.ended-in-Err.ensures)
+    (keep_fault_so line.log before now c.in-Err.why state keeps (keep_named content line risen J c.in-Err.why cause))
+
+pub returns-in-Err-clause-keep_asked : goal.returns-in-Err-clause-keep_asked
+returns-in-Err-clause-keep_asked g c =
+    let content = g.F.Files.content c.args.files.now in
+    let line = c.args.line.now in
+    let risen = HasRisen (g.F.Files.faults c.args.files.now) (g.F.Files.faults c.answer_line-result.new.files) in
+    let J = map entry_view c.answer_line-result.result.journal.items in
+    let state = c.answer_line-result.result.state in
+    let before : KeeperSeen =
+    record {
+      files = g.D.Keep.files c.args.keep.now;
+      asked = g.D.Keep.asked c.args.keep.now;
+      faults = g.D.Keep.faults c.args.keep.now;
+    } in
+    let now : KeeperSeen =
+    record {
+      files = g.D.Keep.files c.answer_line-result.new.keep;
+      asked = g.D.Keep.asked c.answer_line-result.new.keep;
+      faults = g.D.Keep.faults c.answer_line-result.new.keep;
+    } in
+    let keeps = subst (λ (r : Result (List ℕ) Why). KeepsLog line.log before now r state) c.in-Err.is c.answer_line-result.ensures.keeps in
+    let cause = subst (λ (r : Result (List ℕ) Why). IfErr r (CauseOf content line risen J)) c.in-Err.is c.answer_line-result.ensures.none in
+    subst (λ (r : Ended). AsksLog line.log r.why before.asked now.asked) (sym c.ended-in-Err.ensures)
+    (asked_so line.log before now c.in-Err.why state keeps)
+
+pub returns-in-Err-clause-log_told : goal.returns-in-Err-clause-log_told
+returns-in-Err-clause-log_told g c =
+    let content = g.F.Files.content c.args.files.now in
+    let line = c.args.line.now in
+    let risen = HasRisen (g.F.Files.faults c.args.files.now) (g.F.Files.faults c.answer_line-result.new.files) in
+    let J = map entry_view c.answer_line-result.result.journal.items in
+    let state = c.answer_line-result.result.state in
+    let before : KeeperSeen =
+    record {
+      files = g.D.Keep.files c.args.keep.now;
+      asked = g.D.Keep.asked c.args.keep.now;
+      faults = g.D.Keep.faults c.args.keep.now;
+    } in
+    let now : KeeperSeen =
+    record {
+      files = g.D.Keep.files c.answer_line-result.new.keep;
+      asked = g.D.Keep.asked c.answer_line-result.new.keep;
+      faults = g.D.Keep.faults c.answer_line-result.new.keep;
+    } in
+    let keeps = subst (λ (r : Result (List ℕ) Why). KeepsLog line.log before now r state) c.in-Err.is c.answer_line-result.ensures.keeps in
+    let cause = subst (λ (r : Result (List ℕ) Why). IfErr r (CauseOf content line risen J)) c.in-Err.is c.answer_line-result.ensures.none in
+    λ source inputs st.
+    let told = subst (λ (r : Result (List ℕ) Why). LogTold line source inputs J now.files state r) c.in-Err.is
+    (c.answer_line-result.ensures.logged source inputs st) in
+    subst (λ (r : Ended). LogSays line source inputs (map entry_view r.journal.items) now.files r.why) (sym c.ended-in-Err.ensures)
+    (says_so line source inputs J now.files state content risen c.in-Err.why cause told)
+
+pub returns-in-Ok-clause-asked : goal.returns-in-Ok-clause-asked
+returns-in-Ok-clause-asked g c =
+    let ps = paths_in (files_of c.args.line.now) in
+    let b = g.F.Files.asked c.args.files.now in
+    let n = g.F.Files.asked c.answer_line-result.new.files in
+    subst (λ (r : Ended). AsksFor r.why ps b n) (sym c.ended.ensures)
+    (files_asked c.args.line.now.log c.answer_line-result.result.state c.finish-why.result ps b n c.finish-why.ensures.ends
+    (subst (λ (r : Result (List ℕ) Why). AsksOf r ps b n) c.in-Ok.is c.answer_line-result.ensures.asks))
+
+pub returns-in-Ok-clause-begun : goal.returns-in-Ok-clause-begun
+returns-in-Ok-clause-begun g c =
+    let content = g.F.Files.content c.args.files.now in
+    let line = c.args.line.now in
+    let risen = HasRisen (g.F.Files.faults c.args.files.now) (g.F.Files.faults c.answer_line-result.new.files) in
+    let J = map entry_view c.answer_line-result.result.journal.items in
+    let state = c.answer_line-result.result.state in
+    let answer = subst (λ (r : Result (List ℕ) Why). IfOk r (λ b. OfRun content line risen J (λ job. s.Means job over_lines (Answered.bytes b))))
+    c.in-Ok.is c.answer_line-result.ensures.bytes in
+    let shows : ShowsResult c.answer_line-result.result.result = subst ShowsResult (sym c.in-Ok.is) tt in
+    subst (λ (r : Ended). IfKeepFault r.why (λ path. ((map entry_view r.journal.items ≡ [])
+    × (c.answer_line-result.new.gates ≡ c.args.gates.now) × (c.finish-why.new.out ≡ c.args.out.now))
+    ⊎ (Writes content line (Tells (g.O.Sink.written c.args.out.now) (g.O.Sink.written c.finish-why.new.out))
+    × OfLine content line (λ source inputs. EndsShown line source inputs (map entry_view r.journal.items))))) (sym c.ended.ensures)
+    (begun_then line.log state c.finish-why.result _ c.finish-why.ensures.ends
+    (λ path n k. inr (
+      (c.in-Ok.answer, answer, c.finish-why.ensures.written (λ w. let bad : Why.KeepFault path ≡ Why.WriteFault = sym k ∙ w in cc)),
+      c.answer_line-result.ensures.root (c.requires.line.logged path n).0 shows,
+    )))
+
+pub returns-in-Err-clause-driven : goal.returns-in-Err-clause-driven
+returns-in-Err-clause-driven g c =
+    subst (λ (r : Ended). OfLine (g.F.Files.content c.args.files.now) c.args.line.now
+    (λ source inputs. IsDriven c.args.line.now source inputs (map entry_view r.journal.items))) (sym c.ended-in-Err.ensures)
+    c.answer_line-result.ensures.driven
+
+pub returns-in-Err-clause-told : goal.returns-in-Err-clause-told
+returns-in-Err-clause-told g c =
+    let workers = c.args.line.now.workers in
+    subst (λ (r : Ended). r.why ≢ Why.Memory → ToldBy (map entry_view r.journal.items) (told_of g.G.Gate.entered workers c.args.gates.now.items)
+    (told_of g.G.Gate.entered workers c.answer_line-result.new.gates.items)) (sym c.ended-in-Err.ensures)
+    (λ n. c.answer_line-result.ensures.told (λ e. n (err_is c.in-Err.why Why.Memory c.answer_line-result.result.result c.in-Err.is e)))

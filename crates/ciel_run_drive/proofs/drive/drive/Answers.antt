@@ -3,7 +3,8 @@ use Rattle.ciel_run_drive.proofs.Over.{ended_on}
 use Rattle.ciel_run_drive.proofs.ToldLemmas.{none_fades, tells_both, tells_none}
 use Rattle.ciel_task_order.specs.declared.shop.Shop.{Shop}
 use Rattle.ciel_run_drive.specs.Moved.{Does, Ends}
-use Rattle.ciel_run_drive.proofs.MovedLemmas.{does_both, does_none, ends_after}
+use Rattle.ciel_run_drive.specs.Kept.{Kept}
+use Rattle.ciel_run_drive.proofs.MovedLemmas.{does_both, does_none, does_under, ends_after, ends_under}
 use Rattle.ciel_run_drive.proofs.drive.drive.Goals as goal
 
 pub run-init : goal.run-init
@@ -18,7 +19,7 @@ run-init g c =
       stays = refl;
       told = tells_none journal journal told told refl (none_fades told);
       does =
-          does_none (g.N.Namer.digest (g.C.Crew.shop c.args.crew.now).namer) g.C.Crew.goes (g.C.Crew.record_of c.args.crew.now)
+          does_none g.K.Kit.gives g.N.Namer.digest (g.C.Crew.shop c.args.crew.now) _ g.C.Crew.goes (g.C.Crew.record_of c.args.crew.now)
           c.args.master.now.board;
     }
 
@@ -35,9 +36,12 @@ run-preserved g c =
       told =
           tells_both c.args.master.now.board.journal c.run.master.board.journal c.turn.new.master.board.journal (g.C.Crew.told c.args.crew.now)
           (g.C.Crew.told c.run.crew) (g.C.Crew.told c.turn.new.crew) v.told n.told;
-      does = does_both (g.N.Namer.digest (g.C.Crew.shop c.args.crew.now).namer) g.C.Crew.goes v.does
-          (subst (λ (a : Shop _ _). Does (g.N.Namer.digest a.namer) g.C.Crew.goes (g.C.Crew.record_of c.run.crew) c.run.master.board
-          (g.C.Crew.record_of c.turn.new.crew) c.turn.new.master.board) v.shop n.does);
+      does =
+          does_both g.K.Kit.gives g.N.Namer.digest (g.C.Crew.shop c.args.crew.now) _ g.C.Crew.goes v.does
+          (does_under g.K.Kit.gives g.N.Namer.digest (g.C.Crew.shop c.args.crew.now) v.model g.C.Crew.goes
+          (subst (λ (a : Shop _ _). Does g.K.Kit.gives g.N.Namer.digest a (Kept g.K.Kit.gives g.N.Namer.digest (g.C.Crew.shop c.run.crew)
+          (g.C.Crew.is_sound c.run.crew) c.run.master (g.C.Crew.out c.run.crew) c.run.state) g.C.Crew.goes (g.C.Crew.record_of c.run.crew)
+          c.run.master.board (g.C.Crew.record_of c.turn.new.crew) c.turn.new.master.board) v.shop n.does));
     }
 
 pub run-smaller : goal.run-smaller
@@ -55,8 +59,13 @@ returns-in-Err-clause-told g c n =
     (g.C.Crew.told c.run.crew) (g.C.Crew.told c.turn.new.crew) v.told (c.in-Err.ensures.last n)
 
 pub returns-in-Err-clause-calls : goal.returns-in-Err-clause-calls
-returns-in-Err-clause-calls g c n =
+returns-in-Err-clause-calls g c =
     let v = c.run.invariant in
-    ends_after (g.N.Namer.digest (g.C.Crew.shop c.args.crew.now).namer) g.C.Crew.goes v.does
-    (subst (λ (a : Shop _ _). Ends (g.N.Namer.digest a.namer) g.C.Crew.goes (g.C.Crew.record_of c.run.crew) c.run.master.board
-    (g.C.Crew.record_of c.turn.new.crew) c.turn.new.master.board.journal) v.shop (c.in-Err.ensures.ends n))
+    ends_after g.K.Kit.gives g.N.Namer.digest (g.C.Crew.shop c.args.crew.now) _ g.C.Crew.goes (g.C.Crew.record_of c.args.crew.now)
+    c.args.master.now.board (g.C.Crew.record_of c.run.crew) c.run.master.board (g.C.Crew.record_of c.turn.new.crew)
+    c.turn.new.master.board.journal v.does c.in-Err.end
+    (ends_under g.K.Kit.gives g.N.Namer.digest (g.C.Crew.shop c.args.crew.now) v.model g.C.Crew.goes (g.C.Crew.record_of c.run.crew)
+    c.run.master.board (g.C.Crew.record_of c.turn.new.crew) c.turn.new.master.board.journal c.in-Err.end
+    (subst (λ (a : Shop _ _). Ends g.K.Kit.gives g.N.Namer.digest a (Kept g.K.Kit.gives g.N.Namer.digest (g.C.Crew.shop c.run.crew)
+    (g.C.Crew.is_sound c.run.crew) c.run.master (g.C.Crew.out c.run.crew) c.run.state) g.C.Crew.goes (g.C.Crew.record_of c.run.crew)
+    c.run.master.board (g.C.Crew.record_of c.turn.new.crew) c.turn.new.master.board.journal c.in-Err.end) v.shop c.in-Err.ensures.ends))

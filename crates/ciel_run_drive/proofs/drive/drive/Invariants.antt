@@ -15,8 +15,9 @@ invariant-run g l =
       shop : g.C.Crew.shop l.crew ≡ g.C.Crew.shop l.fn.crew;
       stays : g.C.Crew.stays l.crew ≡ g.C.Crew.stays l.fn.crew;
       told : ToldOn l.fn.master.board.journal l.master.board.journal (g.C.Crew.told l.fn.crew) (g.C.Crew.told l.crew);
-      does : Does (g.N.Namer.digest (g.C.Crew.shop l.fn.crew).namer) g.C.Crew.goes (g.C.Crew.record_of l.fn.crew) l.fn.master.board
-          (g.C.Crew.record_of l.crew) l.master.board;
+      does : Does g.K.Kit.gives g.N.Namer.digest (g.C.Crew.shop l.fn.crew)
+          (Kept g.K.Kit.gives g.N.Namer.digest (g.C.Crew.shop l.fn.crew) (g.C.Crew.is_sound l.fn.crew) l.fn.master (g.C.Crew.out l.fn.crew) l.fn.seed)
+          g.C.Crew.goes (g.C.Crew.record_of l.fn.crew) l.fn.master.board (g.C.Crew.record_of l.crew) l.master.board;
     }
 
 abbrev pub decreases-run : goal.decreases-run

@@ -34,5 +34,5 @@ returns-clause-told g c =
 pub returns-clause-does : goal.returns-clause-does
 returns-clause-does g c =
     let due = c.requires.due in
-    does_lost (g.N.Namer.digest (g.C.Crew.shop c.args.crew.now).namer) g.C.Crew.goes (g.C.Crew.record_of c.args.crew.now)
+    does_lost g.K.Kit.gives g.N.Namer.digest (g.C.Crew.shop c.args.crew.now) _ g.C.Crew.goes (g.C.Crew.record_of c.args.crew.now)
     c.args.master.now.board due.0 c.lose.new.self.board (ap (λ (m : MasterSeen _). m.board) (c.lose.ensures.lost due.0 due.1))

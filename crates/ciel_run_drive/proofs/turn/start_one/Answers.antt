@@ -132,6 +132,6 @@ returns-in-Err-send_order-clause-end g c k =
 
 pub returns-in-Ok-send_order-clause-does : goal.returns-in-Ok-send_order-clause-does
 returns-in-Ok-send_order-clause-does g c =
-    does_start (g.N.Namer.digest (g.C.Crew.shop c.args.crew.now).namer) g.C.Crew.goes (g.C.Crew.record_of c.args.crew.now)
+    does_start g.K.Kit.gives g.N.Namer.digest (g.C.Crew.shop c.args.crew.now) _ g.C.Crew.goes (g.C.Crew.record_of c.args.crew.now)
     (g.C.Crew.record_of c.send_order.new.crew) c.args.master.now.board c.in-Ok.order.task _ c.in-Ok.order c.send_order.new.master.board
     c.in-Ok.ensures.order (ap (λ (m : MasterSeen _). m.board) (c.send_order.ensures.master ∙ c.in-Ok.ensures.started)) c.in-Ok-send_order.ensures.goes

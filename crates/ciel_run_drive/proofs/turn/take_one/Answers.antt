@@ -1,11 +1,10 @@
-use Rattle.std.proofs.Common.{refl, sym, ◌∙◌}
+use Rattle.std.proofs.Common.{◌<◌, ◌^◌, refl, rules, sym, ◌∙◌}
 use Rattle.ciel_master_board.specs.Board.{find_order}
 use Rattle.ciel_run_drive.proofs.Names as names
 use Rattle.ciel_run_drive.proofs.Names.{none_of, some_of}
-use Rattle.ciel_run_drive.proofs.Reports.{answer_ended, clash_ended, fault_ended, overflow_ended, taken_kept, thrown_kept}
+use Rattle.ciel_run_drive.proofs.Reports.{answer_ended, clash_ended, fault_ended, overflow_ended, taken_as, taken_kept, thrown_as, thrown_kept}
 use Rattle.ciel_run_drive.proofs.ToldLemmas.{tells_none}
-use Rattle.ciel_run_drive.specs.Moved.{over, refused}
-use Rattle.ciel_run_drive.proofs.MovedLemmas.{does_accept, does_none, does_throw}
+use Rattle.ciel_run_drive.proofs.MovedLemmas.{does_accept, does_throw, ends_all, ends_but_last}
 use Rattle.ciel_run_drive.proofs.turn.take_one.Goals as goal
 
 pub next-requires-clause-out : goal.next-requires-clause-out
@@ -152,38 +151,61 @@ returns-in-Err-TooMany-clause-last g c =
 
 pub returns-then-not-is_out-clause-does : goal.returns-then-not-is_out-clause-does
 returns-then-not-is_out-clause-does g c =
+    let report = c.in-Ok.ensures.report in
+    let then = g.C.Crew.out c.next.new.self in
     let none = none_of (find_order c.in-Ok.report.number c.args.master.now.board.orders) c.is_out.ensures c.if-not-is_out.true in
-    does_throw (g.N.Namer.digest (g.C.Crew.shop c.args.crew.now).namer) g.C.Crew.goes (g.C.Crew.record_of c.args.crew.now)
-    (g.C.Crew.record_of c.next.new.self) c.args.master.now.board c.in-Ok.report none c.in-Ok.ensures.goes
+    let fits : c.in-Ok.report.number < 2 ^ 64 = search rules in
+    does_throw g.K.Kit.gives g.N.Namer.digest (g.C.Crew.shop c.args.crew.now) _ g.C.Crew.goes (g.C.Crew.record_of c.args.crew.now)
+    (g.C.Crew.record_of c.next.new.self) c.args.master.now.board c.in-Ok.report none
+    (λ k. thrown_as c.requires.working k c.in-Ok.report then report fits none) c.in-Ok.ensures.goes
 
 pub returns-in-Ok-Goes-clause-does : goal.returns-in-Ok-Goes-clause-does
 returns-in-Ok-Goes-clause-does g c =
-    does_accept g.N.Namer.digest (g.C.Crew.shop c.args.crew.now).namer g.C.Crew.goes (g.C.Crew.record_of c.args.crew.now)
+    let report = c.in-Ok.ensures.report in
+    let then = g.C.Crew.out c.next.new.self in
+    let there = some_of (find_order c.in-Ok.report.number c.args.master.now.board.orders) c.is_out.ensures c.if-not-is_out.false in
+    does_accept g.K.Kit.gives g.N.Namer.digest (g.C.Crew.shop c.args.crew.now) _ g.C.Crew.goes (g.C.Crew.record_of c.args.crew.now)
     (g.C.Crew.record_of c.next.new.self) c.args.master.now c.accept.new.self c.in-Ok.report c.requires.working.namer c.in-Ok.ensures.goes
     c.in-Ok-Goes.ensures.accepted
+    (λ k. taken_as c.requires.working k c.in-Ok.report then report there c.requires.rests c.accept.ensures.carried c.in-Ok-Goes.ensures.learned
+    c.in-Ok-Goes.ensures.accepted)
 
 pub returns-in-Ok-Answer-clause-ends : goal.returns-in-Ok-Answer-clause-ends
-returns-in-Ok-Answer-clause-ends g c _ =
-    over c.accept.new.self.board (does_accept g.N.Namer.digest (g.C.Crew.shop c.args.crew.now).namer g.C.Crew.goes
-    (g.C.Crew.record_of c.args.crew.now) (g.C.Crew.record_of c.next.new.self) c.args.master.now c.accept.new.self c.in-Ok.report
-    c.requires.working.namer c.in-Ok.ensures.goes c.in-Ok-Answer.ensures.accepted) refl
+returns-in-Ok-Answer-clause-ends g c =
+    let report = c.in-Ok.ensures.report in
+    let then = g.C.Crew.out c.next.new.self in
+    let there = some_of (find_order c.in-Ok.report.number c.args.master.now.board.orders) c.is_out.ensures c.if-not-is_out.false in
+    ends_all g.K.Kit.gives g.N.Namer.digest (g.C.Crew.shop c.args.crew.now) _ g.C.Crew.goes (g.C.Crew.record_of c.args.crew.now)
+    c.args.master.now.board (g.C.Crew.record_of c.next.new.self) c.accept.new.self.board c.accept.new.self.board.journal
+    (does_accept g.K.Kit.gives g.N.Namer.digest (g.C.Crew.shop c.args.crew.now) _ g.C.Crew.goes (g.C.Crew.record_of c.args.crew.now)
+    (g.C.Crew.record_of c.next.new.self) c.args.master.now c.accept.new.self c.in-Ok.report c.requires.working.namer c.in-Ok.ensures.goes
+    c.in-Ok-Answer.ensures.accepted
+    (λ k. taken_as c.requires.working k c.in-Ok.report then report there c.requires.rests c.accept.ensures.carried c.in-Ok-Answer.ensures.learned
+    c.in-Ok-Answer.ensures.accepted)) refl
 
 pub returns-in-Ok-Fault-clause-ends : goal.returns-in-Ok-Fault-clause-ends
-returns-in-Ok-Fault-clause-ends g c _ =
-    over c.accept.new.self.board (does_accept g.N.Namer.digest (g.C.Crew.shop c.args.crew.now).namer g.C.Crew.goes
-    (g.C.Crew.record_of c.args.crew.now) (g.C.Crew.record_of c.next.new.self) c.args.master.now c.accept.new.self c.in-Ok.report
-    c.requires.working.namer c.in-Ok.ensures.goes c.in-Ok-Fault.ensures.accepted) refl
+returns-in-Ok-Fault-clause-ends g c =
+    let report = c.in-Ok.ensures.report in
+    let then = g.C.Crew.out c.next.new.self in
+    let there = some_of (find_order c.in-Ok.report.number c.args.master.now.board.orders) c.is_out.ensures c.if-not-is_out.false in
+    ends_all g.K.Kit.gives g.N.Namer.digest (g.C.Crew.shop c.args.crew.now) _ g.C.Crew.goes (g.C.Crew.record_of c.args.crew.now)
+    c.args.master.now.board (g.C.Crew.record_of c.next.new.self) c.accept.new.self.board c.accept.new.self.board.journal
+    (does_accept g.K.Kit.gives g.N.Namer.digest (g.C.Crew.shop c.args.crew.now) _ g.C.Crew.goes (g.C.Crew.record_of c.args.crew.now)
+    (g.C.Crew.record_of c.next.new.self) c.args.master.now c.accept.new.self c.in-Ok.report c.requires.working.namer c.in-Ok.ensures.goes
+    c.in-Ok-Fault.ensures.accepted
+    (λ k. taken_as c.requires.working k c.in-Ok.report then report there c.requires.rests c.accept.ensures.carried c.in-Ok-Fault.ensures.learned
+    c.in-Ok-Fault.ensures.accepted)) refl
 
 pub returns-in-Err-NameClash-clause-ends : goal.returns-in-Err-NameClash-clause-ends
-returns-in-Err-NameClash-clause-ends g c _ =
+returns-in-Err-NameClash-clause-ends g c =
     let there = some_of (find_order c.in-Ok.report.number c.args.master.now.board.orders) c.is_out.ensures c.if-not-is_out.false in
-    refused (g.C.Crew.record_of c.args.crew.now) c.args.master.now.board c.in-Ok.report there.0
-    (does_none (g.N.Namer.digest (g.C.Crew.shop c.args.crew.now).namer) g.C.Crew.goes (g.C.Crew.record_of c.args.crew.now) c.args.master.now.board)
-    there.1 c.in-Ok.ensures.goes c.in-Err-NameClash.ensures.journal
+    ends_but_last g.K.Kit.gives g.N.Namer.digest (g.C.Crew.shop c.args.crew.now) _ g.C.Crew.goes (g.C.Crew.record_of c.args.crew.now)
+    (g.C.Crew.record_of c.next.new.self) c.args.master.now.board c.accept.new.self.board.journal c.in-Ok.report there c.in-Ok.ensures.goes
+    c.in-Err-NameClash.ensures.journal
 
 pub returns-in-Err-TooMany-clause-ends : goal.returns-in-Err-TooMany-clause-ends
-returns-in-Err-TooMany-clause-ends g c _ =
+returns-in-Err-TooMany-clause-ends g c =
     let there = some_of (find_order c.in-Ok.report.number c.args.master.now.board.orders) c.is_out.ensures c.if-not-is_out.false in
-    refused (g.C.Crew.record_of c.args.crew.now) c.args.master.now.board c.in-Ok.report there.0
-    (does_none (g.N.Namer.digest (g.C.Crew.shop c.args.crew.now).namer) g.C.Crew.goes (g.C.Crew.record_of c.args.crew.now) c.args.master.now.board)
-    there.1 c.in-Ok.ensures.goes c.in-Err-TooMany.ensures.journal
+    ends_but_last g.K.Kit.gives g.N.Namer.digest (g.C.Crew.shop c.args.crew.now) _ g.C.Crew.goes (g.C.Crew.record_of c.args.crew.now)
+    (g.C.Crew.record_of c.next.new.self) c.args.master.now.board c.accept.new.self.board.journal c.in-Ok.report there c.in-Ok.ensures.goes
+    c.in-Err-TooMany.ensures.journal

@@ -57,8 +57,8 @@ returns-in-Ok-inputs-clause-asked g c =
     (subst (λ (p : List ℕ). Tells (g.F.Files.asked c.args.files.now) (g.F.Files.asked c.read.new.files) (p ∷ [])) at c.in-Ok-read.ensures.asks)
     c.in-Ok-inputs.ensures.asks
 
-pub returns-clause-refused : goal.returns-clause-refused
-returns-clause-refused g c =
+pub returns-in-Err-inputs-clause-refused : goal.returns-in-Err-inputs-clause-refused
+returns-in-Err-inputs-clause-refused g c =
     let found : IfSome (g.F.Files.content c.args.files.now c.args.path.now) (λ file. c.in-Ok-read.source ≡ file) =
     subst (λ (p : List ℕ). IfSome (g.F.Files.content c.args.files.now p) (λ file. c.in-Ok-read.source ≡ file)) c.in-Ok-share.ensures
     c.in-Ok-read.ensures.found in
@@ -75,8 +75,8 @@ returns-clause-refused g c =
     c.in-Ok-read.ensures.never_falls)
     found c.in-Ok-read.ensures.within c.in-Ok.ensures is why)
 
-pub returns-clause-asks : goal.returns-clause-asks
-returns-clause-asks g c =
+pub returns-in-Err-inputs-clause-asks : goal.returns-in-Err-inputs-clause-asks
+returns-in-Err-inputs-clause-asks g c =
     subst (λ (why : NoJob). AsksJob why (paths_of (record { script = c.args.path.now; inputs = c.args.named.now }))
     (g.F.Files.asked c.args.files.now) (g.F.Files.asked c.inputs.new.files)) (sym c.unread-in-Err-inputs.ensures)
     (input_asked (g.F.Files.content c.args.files.now) c.args.path.now c.args.named.now (List Input) c.in-Err-inputs.why
@@ -93,8 +93,8 @@ returns-in-Err-clause-order g c =
     (subst (λ (p : List ℕ). AsksEach {A = List ℕ} (Err c.in-Err.why) (p ∷ []) (g.F.Files.asked c.args.files.now)
     (g.F.Files.asked c.read.new.files)) c.in-Ok-share.ensures c.in-Err.ensures.asks))
 
-pub returns-clause-order : goal.returns-clause-order
-returns-clause-order g c =
+pub returns-in-Err-inputs-clause-order : goal.returns-in-Err-inputs-clause-order
+returns-in-Err-inputs-clause-order g c =
     let found : IfSome (g.F.Files.content c.args.files.now c.args.path.now) (λ file. c.in-Ok-read.source ≡ file) =
     subst (λ (p : List ℕ). IfSome (g.F.Files.content c.args.files.now p) (λ file. c.in-Ok-read.source ≡ file)) c.in-Ok-share.ensures
     c.in-Ok-read.ensures.found in

@@ -2,7 +2,7 @@
 use Rattle.std.proofs.Common.{◌≡◌, ◌∙◌, ℕ, List, [], ◌∷◌, codes, OnOk, OnErr, sym, ap, ap₂, subst}
 use Rattle.std.specs.List.{concat}
 use Rattle.ciel_io.specs.Tells.{Tells, TellsPart}
-use Rattle.ciel_run_log.specs.Message.{placed, counted, message_of}
+use Rattle.ciel_run_log.specs.Message.{placed, counted, pathed, message_of}
 use Rattle.ciel_run_log.proofs.message.put_message.Goals as goal
 
 pub returns-in-Syntax-clause-written : goal.returns-in-Syntax-clause-written
@@ -63,16 +63,29 @@ returns-in-TooDeepPlain-clause-part g c =
     (TellsPart (g.J.Sink.written c.args.log.now) (g.J.Sink.written c.put_count-in-TooDeepPlain.new.log) m)) same
     c.put_count-in-TooDeepPlain.ensures.part
 
+pub returns-in-TooLongInput-clause-written : goal.returns-in-TooLongInput-clause-written
+returns-in-TooLongInput-clause-written g c =
+    let same : pathed (codes "ciel: too long ") c.in-TooLongInput.path c.in-TooLongInput.limit ≡ message_of c.args.why.now = ap message_of (sym c.in-TooLongInput.is) in
+    subst (λ (m : List ℕ). OnOk c.put_path.result (Tells (g.J.Sink.written c.args.log.now) (g.J.Sink.written c.put_path.new.log) m)) same
+    c.put_path.ensures.written
+
 pub returns-in-TooLongInput-clause-part : goal.returns-in-TooLongInput-clause-part
 returns-in-TooLongInput-clause-part g c =
-    let same : concat (codes "ciel: too long " ∷ c.as_str-in-TooLongInput.result.now ∷ codes " " ∷ c.format-limit.result.now ∷ codes "\n" ∷ [])
-    ≡ message_of c.args.why.now =
-    ap₂ (λ p n. concat (codes "ciel: too long " ∷ p ∷ codes " " ∷ n ∷ codes "\n" ∷ [])) c.as_str-in-TooLongInput.ensures.value
-    c.format-limit.ensures.text
-    ∙ ap message_of (sym c.in-TooLongInput.is) in
-    subst (λ (m : List ℕ). OnErr c.put_all-in-TooLongInput.result
-    (TellsPart (g.J.Sink.written c.args.log.now) (g.J.Sink.written c.put_all-in-TooLongInput.new.sink) m)) same
-    c.put_all-in-TooLongInput.ensures.part
+    let same : pathed (codes "ciel: too long ") c.in-TooLongInput.path c.in-TooLongInput.limit ≡ message_of c.args.why.now = ap message_of (sym c.in-TooLongInput.is) in
+    subst (λ (m : List ℕ). OnErr c.put_path.result (TellsPart (g.J.Sink.written c.args.log.now) (g.J.Sink.written c.put_path.new.log) m)) same
+    c.put_path.ensures.part
+
+pub returns-in-LogFull-clause-written : goal.returns-in-LogFull-clause-written
+returns-in-LogFull-clause-written g c =
+    let same : pathed (codes "ciel: log full ") c.in-LogFull.path c.in-LogFull.held ≡ message_of c.args.why.now = ap message_of (sym c.in-LogFull.is) in
+    subst (λ (m : List ℕ). OnOk c.put_path-in-LogFull.result (Tells (g.J.Sink.written c.args.log.now) (g.J.Sink.written c.put_path-in-LogFull.new.log) m)) same
+    c.put_path-in-LogFull.ensures.written
+
+pub returns-in-LogFull-clause-part : goal.returns-in-LogFull-clause-part
+returns-in-LogFull-clause-part g c =
+    let same : pathed (codes "ciel: log full ") c.in-LogFull.path c.in-LogFull.held ≡ message_of c.args.why.now = ap message_of (sym c.in-LogFull.is) in
+    subst (λ (m : List ℕ). OnErr c.put_path-in-LogFull.result (TellsPart (g.J.Sink.written c.args.log.now) (g.J.Sink.written c.put_path-in-LogFull.new.log) m)) same
+    c.put_path-in-LogFull.ensures.part
 
 pub returns-in-Usage-clause-written : goal.returns-in-Usage-clause-written
 returns-in-Usage-clause-written g c =

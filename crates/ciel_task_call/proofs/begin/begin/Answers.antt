@@ -11,8 +11,8 @@ pub returns-in_ok-state-in-None-clause-begun : goal.returns-in_ok-state-in-None-
 returns-in_ok-state-in-None-clause-begun g c =
     let order = c.args.order.now in
     let x = stand_of c.in_ok-state-in-None.state in
-    let starts = subst (λ (sc : Script). IsStartOf sc order.main order.desc x) c.script.ensures c.in_ok-state-in-None.ensures.start in
-    let fits = subst (λ (sc : Script). Fits sc x) c.script.ensures c.in_ok-state-in-None.ensures.fits in (
+    let starts = subst (λ (sc : Script). IsStartOf sc order.main order.desc x) c.numbered-numbered.ensures.code c.in_ok-state-in-None.ensures.start in
+    let fits = subst (λ (sc : Script). Fits sc x) c.numbered-numbered.ensures.code c.in_ok-state-in-None.ensures.fits in (
       start_begins (g.N.Namer.digest c.args.shop.now.namer) c.args.shop.now.shelves (job_view c.args.shop.now.job).script
           (length (job_view c.args.shop.now.job).inputs) order x c.requires.sound c.requires.state c.in-None.is starts fits,
       c.in_ok-state-in-None.ensures.spawned,

@@ -4,5 +4,5 @@ use Rattle.ciel_task_call.proofs.begin.start.Goals as goal
 
 pub returns-in_ok-state-in-Call-clause-start : goal.returns-in_ok-state-in-Call-clause-start
 returns-in_ok-state-in-Call-clause-start c =
-    starts_call c.args.script.now c.args.order.now.main _ _ c.in-Some.is _ _ _ c.in-Call.is (stand_of c.in_ok-state-in-Call.state)
+    starts_call c.args.code.now c.args.order.now.main _ _ c.in-Some.is _ _ _ c.in-Call.is (stand_of c.in_ok-state-in-Call.state)
     c.in_ok-state-in-Call.ensures.start c.in_ok-state-in-Call.ensures.stands

@@ -1,9 +1,10 @@
-use Rattle.std.proofs.Common.{◌≡◌, List, subst, map}
+use Rattle.std.proofs.Common.{◌≡◌, List, false, true, subst, map}
 use Rattle.ciel_words.specs.declared.words.WordsRefusal.{WordsRefusal}
 use Rattle.clap.specs.Simple.{app_of}
 use Rattle.clap.specs.Walk.{Row}
-use Rattle.ciel_words.specs.Raw.{text_of}
+use Rattle.ciel_words.specs.Raw.{dash_behind, text_of}
 use Rattle.ciel_words.proofs.Said.{Matched, no_fault, refused, rows_are, said, some_fault}
+use Rattle.ciel_words.proofs.Strict.{no_line_dash}
 use Rattle.ciel_words.proofs.raw.read_raw.Goals as goal
 
 pub returns-in-Ok-gather-clause-raw : goal.returns-in-Ok-gather-clause-raw
@@ -14,15 +15,17 @@ returns-in-Ok-gather-clause-raw c =
     let same = rows_are (app_of c.in-Ok.command) c.in-Ok-try_get_matches_from.matches ws c.in-Ok.ensures
     c.in-Ok-try_get_matches_from.ensures.matches in
     let fine = no_fault (app_of c.in-Ok.command) ws c.in-Ok.ensures c.in-Ok-try_get_matches_from.ensures.kinds in
-    said ws c.are_texts.ensures fine (text_of raw.workers) (text_of raw.seed) (text_of raw.lose) (text_of raw.names) (text_of raw.generate)
-    raw.trace raw.plain (map (λ w. w.now) raw.words.items)
-    (subst (λ (R : List Row). Matched R (text_of raw.workers) (text_of raw.seed) (text_of raw.lose) (text_of raw.names) (text_of raw.generate)
-    raw.trace raw.plain (map (λ w. w.now) raw.words.items)) same
+    let behind : dash_behind false ws ≡ false = cc in
+    said ws c.are_texts.ensures behind fine (text_of raw.workers) (text_of raw.seed) (text_of raw.lose) (text_of raw.names) (text_of raw.log)
+    (text_of raw.generate) raw.trace raw.plain (map (λ w. w.now) raw.words.items)
+    (subst (λ (R : List Row). Matched R (text_of raw.workers) (text_of raw.seed) (text_of raw.lose) (text_of raw.names) (text_of raw.log)
+    (text_of raw.generate) raw.trace raw.plain (map (λ w. w.now) raw.words.items)) same
     (record {
       workers_is = told.workers;
       seed_is = told.seed;
       lose_is = told.lose;
       names_is = told.names;
+      log_is = told.log;
       generate_is = told.generate;
       trace_is = told.trace;
       plain_is = told.plain;
@@ -35,3 +38,6 @@ returns-clause-usage c e =
     let usage : c.refusal_of.result ≡ WordsRefusal.Usage = cc in
     refused ws c.are_texts.ensures (some_fault (app_of c.in-Ok.command) ws c.in-Err.error c.in-Ok.ensures c.in-Err.ensures.kinds
     (c.refusal_of.ensures usage))
+
+pub returns-then-has_dash_behind-clause-usage : goal.returns-then-has_dash_behind-clause-usage
+returns-then-has_dash_behind-clause-usage c e = let behind : dash_behind false c.args.words.now ≡ true = cc in no_line_dash c.args.words.now behind

@@ -1,0 +1,26 @@
+-- The opening and the end are the report's record; where a place was lost, the record is the dropped one.
+use Rattle.std.proofs.Common.{◌++◌, ◌∙◌, ap, ap₂, map, refl}
+use Rattle.sky_base.specs.ObjectView.{desc_view}
+use Rattle.sky_base.specs.declared.object.Named.{Named}
+use Rattle.ciel_task_order.specs.declared.block.Held.{Held}
+use Rattle.ciel_log_records.specs.Records.{report_opening}
+use Rattle.ciel_log.proofs.Lying.{told_dropped, told_whole}
+use Rattle.ciel_log.proofs.reading.record_of.Goals as goal
+
+pub returns-in-Ok-clause-record : goal.returns-in-Ok-clause-record
+returns-in-Ok-clause-record c =
+    let r = c.args.report.now in
+    let opening = report_opening r.number in
+    told_whole c.args.shelves.now r.worker c.requires.places.0 r c.put_opening.new.out c.put_end.new.out c.args.eye.now c.put_end.new.eye
+    c.in_ok-put_end.field-0 c.in_ok-put_end.ensures.put c.in-Ok.field-0 c.in-Ok.is
+    (c.in_ok-put_opening.ensures
+    ∙ ap (λ o. o ++ opening (map (λ (n : Named). desc_view n.desc) c.as_slice.result.now) (map (λ (h : Held). h.name) c.copies_told.result.now))
+    c.new-out.ensures
+    ∙ ap₂ (λ ns hs. opening (map (λ (n : Named). desc_view n.desc) ns) hs) c.as_slice.ensures.value c.copies_told.ensures)
+
+pub returns-in_ok-dropped-in-Err-clause-record : goal.returns-in_ok-dropped-in-Err-clause-record
+returns-in_ok-dropped-in-Err-clause-record c =
+    let r = c.args.report.now in
+    told_dropped c.args.shelves.now r.worker c.requires.places.0 r c.put_opening.new.out c.put_end.new.out c.args.eye.now c.put_end.new.eye
+    c.in_ok-put_end.field-0 c.in_ok-put_end.ensures.put c.in-Err.field-0 c.in-Err.is refl c.in_ok-dropped-in-Err.dropped
+    c.in_ok-dropped-in-Err.ensures

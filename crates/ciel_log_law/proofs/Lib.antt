@@ -1,0 +1,6 @@
+pub mod Files
+mod Pieces
+mod Calls
+mod Reported
+mod Runs
+mod Written

@@ -1,0 +1,288 @@
+-- What comes in the way of a log, behind an answer that was written, and before.
+use Rattle.std.proofs.Common.{◌≡◌, ◌≢◌, ◌≤◌, ◌⊎◌, inl, inr, ℕ, List, [], true, false, Option, Some, None, Result, Ok, Err, refl, sym, ap, subst, ◌∙◌}
+use Rattle.std.specs.Prelude.{IfErr, IfSome}
+use Rattle.sky_base.specs.See as s
+use Rattle.sky_base.specs.See.{Answered}
+use Rattle.ciel_io.specs.Faults.{HasRisen}
+use Rattle.ciel_io.specs.HeldFiles.{bytes_at}
+use Rattle.ciel_io.specs.Kept.{Files}
+use Rattle.ciel_io.specs.Tells.{Tells}
+use Rattle.ciel_io.proofs.Joined.{part_whole}
+use Rattle.ciel_journal.specs.Entries.{Entry}
+use Rattle.ciel_log.specs.Logging.{most}
+use Rattle.ciel_log.specs.Logs.{HasDropped}
+use Rattle.ciel_log.specs.declared.state.LogState.{LogState}
+use Rattle.ciel_run_load.specs.Line.{Input}
+use Rattle.ciel_run_line.specs.Asked.{AsksFor}
+use Rattle.ciel_run_line.specs.Causes.{CauseOf, OfRun}
+use Rattle.ciel_run_line.specs.Keeping.{AsksOnly, BeginsLog, FillsLog, HasBytes, IsLog, KeeperSeen, KeepsLog, LogTold, OfLog, Told}
+use Rattle.ciel_run_line.specs.Source.{over_lines}
+use Rattle.ciel_run_log.specs.declared.why.Why.{Why}
+use Rattle.ciel_words.specs.declared.words.Words.{Words}
+use Rattle.ciel_run.specs.Ending.{AsksLog, EndCause, IfKeepFault, IfLogFull, IsTrouble, LogSays, WritesNothing}
+
+-- an answer was written, or it wasn't whole; then that is told which came in the way of the log
+abbrev pub Finished : Option (List ℕ) → LogState → Why → Type 0
+Finished log state why = (why ≡ Why.WriteFault) ⊎ IsTrouble log state why
+
+-- ---- the whys of a trouble
+
+data Kind (log : Option (List ℕ)) (state : LogState) (why : Why) : Type 0 where
+  done : why ≡ Why.Done → ((path : List ℕ) → log ≡ Some path → state ≡ LogState.Whole) → Kind log state why
+  failed : (path : List ℕ) → log ≡ Some path → state ≡ LogState.Failed → why ≡ Why.KeepFault path → Kind log state why
+  full : (path : List ℕ) (held : ℕ) → log ≡ Some path → state ≡ LogState.Full held → why ≡ Why.LogFull path held → Kind log state why
+  memory : why ≡ Why.Memory → Kind log state why
+  unwritten : why ≡ Why.WriteFault → Kind log state why
+
+kind : (log : Option (List ℕ)) (state : LogState) (why : Why) → Finished log state why → Kind log state why
+kind log state why (inl e) = unwritten e
+kind None LogState.Whole why (inr t) = done t (λ path e. cc)
+kind (Some path) LogState.Whole why (inr t) = done t (λ p e. refl)
+kind None LogState.Failed why (inr t) = done t (λ path e. cc)
+kind None (LogState.Full held) why (inr t) = done t (λ path e. cc)
+kind None LogState.Memory why (inr t) = done t (λ path e. cc)
+kind (Some path) LogState.Failed why (inr (inl e)) = failed path refl refl e
+kind (Some path) LogState.Failed why (inr (inr e)) = memory e
+kind (Some path) (LogState.Full held) why (inr (inl e)) = full path held refl refl e
+kind (Some path) (LogState.Full held) why (inr (inr e)) = memory e
+kind (Some path) LogState.Memory why (inr t) = memory t
+
+-- something is written
+writes_something : (log : Option (List ℕ)) (state : LogState) (why : Why) → Kind log state why → WritesNothing why → ⊥
+writes_something log state why (done e w) n = subst WritesNothing e n
+writes_something log state why (failed path a b e) n = subst WritesNothing e n
+writes_something log state why (full path held a b e) n = subst WritesNothing e n
+writes_something log state why (memory e) n = subst WritesNothing e n
+writes_something log state why (unwritten e) n = subst WritesNothing e n
+
+pub something : (log : Option (List ℕ)) (state : LogState) (why : Why) → Finished log state why → WritesNothing why → ⊥
+something log state why f n = writes_something log state why (kind log state why f) n
+
+module _ (content : List ℕ → Option (List ℕ)) (w : Words) (risen : Type 0) (J : List Entry)
+    (plain : (path : List ℕ) → w.log ≡ Some path → w.plain ≡ false) (a : List ℕ)
+    (answer : OfRun content w risen J (λ job. s.Means job over_lines (Answered.bytes a))) where
+  ran : OfRun content w risen J (λ job. Unit {0})
+  ran source inputs st = let y = answer source inputs st in (y.0, (y.1.0, y.1.1, tt))
+
+  cause_of : (state : LogState) (why : Why) → Kind w.log state why → EndCause content w risen J why
+  cause_of state why (done e x) = subst (EndCause content w risen J) (sym e) tt
+  cause_of state why (failed path n t e) = subst (EndCause content w risen J) (sym e) (plain path n, n, ran)
+  cause_of state why (full path held n t e) = subst (EndCause content w risen J) (sym e) (plain path n, n, (a, answer))
+  cause_of state why (memory e) = subst (EndCause content w risen J) (sym e) tt
+  cause_of state why (unwritten e) = subst (EndCause content w risen J) (sym e) tt
+
+  pub trouble_cause : (state : LogState) (why : Why) → Finished w.log state why → EndCause content w risen J why
+  trouble_cause state why f = cause_of state why (kind w.log state why f)
+
+-- ---- what is known of the keeper
+
+module _ (log : Option (List ℕ)) (before now : KeeperSeen) (a : List ℕ) (state : LogState) (k : KeepsLog log before now (Ok a) state) where
+  failing : (path : List ℕ) → log ≡ Some path → state ≡ LogState.Failed → HasRisen before.faults now.faults
+  failing path n t =
+      let here : KeepsLog (Some path) before now (Ok a) LogState.Failed =
+      subst (λ (x : Option (List ℕ) × LogState). KeepsLog x.0 before now (Ok a) x.1) (λ i. (n i, t i)) k in
+      here.1
+
+  filling : (path : List ℕ) (held : ℕ) → log ≡ Some path → state ≡ LogState.Full held → (held ≤ most) × HasBytes path now.files held
+  filling path held n t =
+      let here : KeepsLog (Some path) before now (Ok a) (LogState.Full held) =
+      subst (λ (x : Option (List ℕ) × LogState). KeepsLog x.0 before now (Ok a) x.1) (λ i. (n i, t i)) k in
+      here.1
+
+  keep_fault_of : (why : Why) → Kind log state why → IfKeepFault why (λ path. HasRisen before.faults now.faults)
+  keep_fault_of why (done e x) = subst (λ (y : Why). IfKeepFault y (λ path. HasRisen before.faults now.faults)) (sym e) tt
+  keep_fault_of why (failed path n t e) =
+      subst (λ (y : Why). IfKeepFault y (λ p. HasRisen before.faults now.faults)) (sym e) (failing path n t)
+  keep_fault_of why (full path held n t e) = subst (λ (y : Why). IfKeepFault y (λ p. HasRisen before.faults now.faults)) (sym e) tt
+  keep_fault_of why (memory e) = subst (λ (y : Why). IfKeepFault y (λ p. HasRisen before.faults now.faults)) (sym e) tt
+  keep_fault_of why (unwritten e) = subst (λ (y : Why). IfKeepFault y (λ p. HasRisen before.faults now.faults)) (sym e) tt
+
+  pub keep_fault : (why : Why) → Finished log state why → IfKeepFault why (λ path. HasRisen before.faults now.faults)
+  keep_fault why f = keep_fault_of why (kind log state why f)
+
+  abbrev Fills : List ℕ → ℕ → Type 0
+  Fills path held = (held ≤ most) × HasBytes path now.files held
+
+  log_full_of : (why : Why) → Kind log state why → IfLogFull why Fills
+  log_full_of why (done e x) = subst (λ (y : Why). IfLogFull y Fills) (sym e) tt
+  log_full_of why (failed path n t e) = subst (λ (y : Why). IfLogFull y Fills) (sym e) tt
+  log_full_of why (full path held n t e) = subst (λ (y : Why). IfLogFull y Fills) (sym e) (filling path held n t)
+  log_full_of why (memory e) = subst (λ (y : Why). IfLogFull y Fills) (sym e) tt
+  log_full_of why (unwritten e) = subst (λ (y : Why). IfLogFull y Fills) (sym e) tt
+
+  pub log_full : (why : Why) → Finished log state why → IfLogFull why Fills
+  log_full why f = log_full_of why (kind log state why f)
+
+-- which paths the keeper was asked
+asks_any : (path : List ℕ) (before now : Option (List (List ℕ))) (why : Why) → AsksOnly path before now → AsksLog (Some path) why before now
+asks_any path before now Why.Memory a = tt
+asks_any path before now Why.Done a = a
+asks_any path before now Why.Usage a = a
+asks_any path before now (Why.Syntax kind line col) a = a
+asks_any path before now (Why.Fault fault) a = a
+asks_any path before now (Why.Endless names) a = a
+asks_any path before now (Why.TooMany held given) a = a
+asks_any path before now Why.AllLost a = a
+asks_any path before now (Why.NameClash kept given) a = a
+asks_any path before now (Why.ReadFault p) a = a
+asks_any path before now Why.WriteFault a = a
+asks_any path before now (Why.TooLongInput p at) a = a
+asks_any path before now (Why.TooDeepPlain depth) a = a
+asks_any path before now (Why.KeepFault p) a = a
+asks_any path before now (Why.LogFull p held) a = a
+
+pub asked_then : (log : Option (List ℕ)) (before now : KeeperSeen) (a : List ℕ) (state : LogState) → KeepsLog log before now (Ok a) state → (why : Why)
+    → AsksLog log why before.asked now.asked
+asked_then None before now a state k why = ap (λ (x : KeeperSeen). x.asked) (sym k.0)
+asked_then (Some path) before now a state k why = asks_any path before.asked now.asked why k.0
+
+-- where the job has no answer
+pub asked_so : (log : Option (List ℕ)) (before now : KeeperSeen) (why : Why) (state : LogState) → KeepsLog log before now (Err why) state
+    → AsksLog log why before.asked now.asked
+asked_so None before now why state k = ap (λ (x : KeeperSeen). x.asked) (sym k.0)
+asked_so (Some path) before now Why.Memory state k = tt
+asked_so (Some path) before now (Why.KeepFault p) state k = k.1
+asked_so (Some path) before now Why.Done state k = k.0
+asked_so (Some path) before now Why.Usage state k = k.0
+asked_so (Some path) before now (Why.Syntax kind line col) state k = k.0
+asked_so (Some path) before now (Why.Fault fault) state k = k.0
+asked_so (Some path) before now (Why.Endless names) state k = k.0
+asked_so (Some path) before now (Why.TooMany held given) state k = k.0
+asked_so (Some path) before now Why.AllLost state k = k.0
+asked_so (Some path) before now (Why.NameClash kept given) state k = k.0
+asked_so (Some path) before now (Why.ReadFault p) state k = k.0
+asked_so (Some path) before now Why.WriteFault state k = k.0
+asked_so (Some path) before now (Why.TooLongInput p at) state k = k.0
+asked_so (Some path) before now (Why.TooDeepPlain depth) state k = k.0
+asked_so (Some path) before now (Why.LogFull p held) state k = k.0
+
+pub keep_fault_so : (log : Option (List ℕ)) (before now : KeeperSeen) (why : Why) (state : LogState) → KeepsLog log before now (Err why) state
+    → ((path : List ℕ) → why ≡ Why.KeepFault path → log ≡ Some path) → IfKeepFault why (λ path. HasRisen before.faults now.faults)
+keep_fault_so None before now (Why.KeepFault p) state k n = let none : None ≡ Some p = n p refl in absurd cc
+keep_fault_so (Some path) before now (Why.KeepFault p) state k n = k.2
+keep_fault_so log before now Why.Memory state k n = tt
+keep_fault_so log before now Why.Done state k n = tt
+keep_fault_so log before now Why.Usage state k n = tt
+keep_fault_so log before now (Why.Syntax kind line col) state k n = tt
+keep_fault_so log before now (Why.Fault fault) state k n = tt
+keep_fault_so log before now (Why.Endless names) state k n = tt
+keep_fault_so log before now (Why.TooMany held given) state k n = tt
+keep_fault_so log before now Why.AllLost state k n = tt
+keep_fault_so log before now (Why.NameClash kept given) state k n = tt
+keep_fault_so log before now (Why.ReadFault p) state k n = tt
+keep_fault_so log before now Why.WriteFault state k n = tt
+keep_fault_so log before now (Why.TooLongInput p at) state k n = tt
+keep_fault_so log before now (Why.TooDeepPlain depth) state k n = tt
+keep_fault_so log before now (Why.LogFull p held) state k n = tt
+
+-- ---- what the log's file tells
+
+-- a part of what is known of the file
+of_file : (files : Option Files) (path : List ℕ) (P Q : List ℕ → Type 0) → ((bytes : List ℕ) → P bytes → Q bytes)
+    → IfSome files (λ fs. (HasDropped (bytes_at fs path) → ⊥) → P (bytes_at fs path))
+    → IfSome files (λ fs. (HasDropped (bytes_at fs path) → ⊥) → Q (bytes_at fs path))
+of_file None path P Q f t = tt
+of_file (Some fs) path P Q f t = λ clean. f (bytes_at fs path) (t clean)
+
+module _ (w : Words) (source : List ℕ) (inputs : List Input) (J : List Entry) (files : Option Files) (state : LogState) where
+  abbrev Known : Type 0
+  Known = OfLog w source inputs J files (Told w source inputs J state)
+
+  of_kind : (why : Why) → Kind w.log state why → Known → LogSays w source inputs J files why
+  of_kind why (done e x) t =
+      subst (LogSays w source inputs J files) (sym e) (λ path n. of_file files path (Told w source inputs J state) (IsLog w source inputs J)
+      (λ bytes k. k.1 (x path n)) (t path n))
+  of_kind why (failed path n f e) t = subst (LogSays w source inputs J files) (sym e) tt
+  of_kind why (full path held n f e) t =
+      subst (LogSays w source inputs J files) (sym e) (λ p m. of_file files p (Told w source inputs J state) (FillsLog w source inputs J held)
+      (λ bytes k. k.2 held f) (t p m))
+  of_kind why (memory e) t = subst (LogSays w source inputs J files) (sym e) tt
+  of_kind why (unwritten e) t = subst (LogSays w source inputs J files) (sym e) tt
+
+  pub says : (why : Why) → Finished w.log state why → Known → LogSays w source inputs J files why
+  says why f t = of_kind why (kind w.log state why f) t
+
+  begins : Known → OfLog w source inputs J files (BeginsLog w source inputs J)
+  begins t = λ path n. of_file files path (Told w source inputs J state) (BeginsLog w source inputs J) (λ bytes k. k.0) (t path n)
+
+  -- where the job has no answer
+  pub says_so : (content : List ℕ → Option (List ℕ)) (risen : Type 0) (why : Why) → CauseOf content w risen J why
+      → LogTold w source inputs J files state (Err why) → LogSays w source inputs J files why
+  says_so content risen (Why.Fault fault) c t = begins t
+  says_so content risen (Why.Endless names) c t = begins t
+  says_so content risen Why.AllLost c t = begins t
+  says_so content risen Why.Done c t = absurd c
+  says_so content risen (Why.LogFull path held) c t = absurd c
+  says_so content risen Why.Usage c t = tt
+  says_so content risen (Why.Syntax kind line col) c t = tt
+  says_so content risen (Why.TooMany held given) c t = tt
+  says_so content risen (Why.NameClash kept given) c t = tt
+  says_so content risen (Why.ReadFault path) c t = tt
+  says_so content risen Why.WriteFault c t = tt
+  says_so content risen Why.Memory c t = tt
+  says_so content risen (Why.TooLongInput path at) c t = tt
+  says_so content risen (Why.TooDeepPlain depth) c t = tt
+  says_so content risen (Why.KeepFault path) c t = tt
+
+-- ---- where the job has no answer
+
+pub keep_named : (content : List ℕ → Option (List ℕ)) (w : Words) (risen : Type 0) (J : List Entry) (why : Why) → CauseOf content w risen J why
+    → (path : List ℕ) → why ≡ Why.KeepFault path → w.log ≡ Some path
+keep_named content w risen J why c path e = (subst (CauseOf content w risen J) e c).1
+
+pub none_begun : (content : List ℕ → Option (List ℕ)) (w : Words) (risen : Type 0) (J : List Entry) (why : Why) → CauseOf content w risen J why
+    → (path : List ℕ) → why ≡ Why.KeepFault path → J ≡ []
+none_begun content w risen J why c path e = (subst (CauseOf content w risen J) e c).2
+
+-- ---- where the log couldn't be begun, or couldn't be kept
+
+-- a fact of the end of a run whose log failed
+given_failed : (log : Option (List ℕ)) (state : LogState) (why : Why) (F : Type 0) → Kind log state why
+    → ((path : List ℕ) → log ≡ Some path → why ≡ Why.KeepFault path → F)
+    → IfKeepFault why (λ path. F)
+given_failed log state why F (done e x) f = subst (λ (y : Why). IfKeepFault y (λ path. F)) (sym e) tt
+given_failed log state why F (failed path n t e) f = subst (λ (y : Why). IfKeepFault y (λ p. F)) (sym e) (f path n e)
+given_failed log state why F (full path held n t e) f = subst (λ (y : Why). IfKeepFault y (λ p. F)) (sym e) tt
+given_failed log state why F (memory e) f = subst (λ (y : Why). IfKeepFault y (λ path. F)) (sym e) tt
+given_failed log state why F (unwritten e) f = subst (λ (y : Why). IfKeepFault y (λ path. F)) (sym e) tt
+
+pub begun_then : (log : Option (List ℕ)) (state : LogState) (why : Why) (F : Type 0) → Finished log state why
+    → ((path : List ℕ) → log ≡ Some path → why ≡ Why.KeepFault path → F) → IfKeepFault why (λ path. F)
+begun_then log state why F f g = given_failed log state why F (kind log state why f) g
+
+-- which files were asked: all of the line's
+asks_files : (log : Option (List ℕ)) (state : LogState) (why : Why) (ps : List (List ℕ)) (b n : Option (List (List ℕ))) → Kind log state why
+    → Tells b n ps → AsksFor why ps b n
+asks_files log state why ps b n (done e x) t = subst (λ (y : Why). AsksFor y ps b n) (sym e) t
+asks_files log state why ps b n (failed path m f e) t = subst (λ (y : Why). AsksFor y ps b n) (sym e) t
+asks_files log state why ps b n (full path held m f e) t = subst (λ (y : Why). AsksFor y ps b n) (sym e) t
+asks_files log state why ps b n (memory e) t = subst (λ (y : Why). AsksFor y ps b n) (sym e) (part_whole b n ps t)
+asks_files log state why ps b n (unwritten e) t = subst (λ (y : Why). AsksFor y ps b n) (sym e) t
+
+pub files_asked : (log : Option (List ℕ)) (state : LogState) (why : Why) (ps : List (List ℕ)) (b n : Option (List (List ℕ)))
+    → Finished log state why → Tells b n ps → AsksFor why ps b n
+files_asked log state why ps b n f t = asks_files log state why ps b n (kind log state why f) t
+
+pub keep_fault_map : (why : Why) (P Q : List ℕ → Type 0) → ((path : List ℕ) → P path → Q path) → IfKeepFault why P → IfKeepFault why Q
+keep_fault_map (Why.KeepFault path) P Q f p = f path p
+keep_fault_map Why.Done P Q f p = tt
+keep_fault_map Why.Usage P Q f p = tt
+keep_fault_map (Why.Syntax kind line col) P Q f p = tt
+keep_fault_map (Why.Fault fault) P Q f p = tt
+keep_fault_map (Why.Endless names) P Q f p = tt
+keep_fault_map (Why.TooMany held given) P Q f p = tt
+keep_fault_map Why.AllLost P Q f p = tt
+keep_fault_map (Why.NameClash kept given) P Q f p = tt
+keep_fault_map (Why.ReadFault path) P Q f p = tt
+keep_fault_map Why.WriteFault P Q f p = tt
+keep_fault_map Why.Memory P Q f p = tt
+keep_fault_map (Why.TooLongInput path at) P Q f p = tt
+keep_fault_map (Why.TooDeepPlain depth) P Q f p = tt
+keep_fault_map (Why.LogFull path held) P Q f p = tt
+
+pub err_is : (a b : Why) (r : Result (List ℕ) Why) → r ≡ Err a → r ≡ Err b → a ≡ b
+err_is a b r e f = cc
+
+pub on_right : {A B C : Type 0} → (B → C) → A ⊎ B → A ⊎ C
+on_right f (inl a) = inl a
+on_right f (inr b) = inr (f b)

@@ -1,0 +1,2 @@
+mod KeepingLaw
+mod WrittenLaw

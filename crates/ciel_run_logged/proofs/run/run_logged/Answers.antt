@@ -1,0 +1,33 @@
+-- The gates are those that were lent, and the others; and what the run says of its log stays.
+use Rattle.std.proofs.Common.{map, ap, subst, sym}
+use Rattle.sky_base.specs.JobView.{job_view}
+use Rattle.ciel_crew_channels.specs.Onward.{IsRead}
+use Rattle.ciel_master.specs.Views.{entry_view}
+use Rattle.ciel_run_job.proofs.Lent.{all_back, others_back, still, told_back}
+use Rattle.ciel_run_logged.proofs.run.run_logged.Goals as goal
+
+pub on_crew-logged-requires-clause-read : goal.on_crew-logged-requires-clause-read
+on_crew-logged-requires-clause-read g c κs within = subst (λ j. IsRead (job_view j).script) (sym c.in-Ok.ensures.shop.job_is) c.requires.read
+
+pub returns-clause-keeps : goal.returns-clause-keeps
+returns-clause-keeps g c = λ ends. c.on_crew-logged.ensures.keeps (still _ _ c.put_back-ran.ensures.end ends)
+
+pub returns-clause-told : goal.returns-clause-told
+returns-clause-told g c =
+    told_back g.G.Gate.entered c.args.plan.workers c.args.gates.now.items c.in-Ok.begun.own.items c.in-Ok.begun.others.items
+    c.on_crew-logged.result.1.items c.put_back-ran.result.1.items c.in-Ok.ensures.own c.in-Ok.ensures.others c.requires.gates
+    c.on_crew-logged.result.0.ran.end c.put_back-ran.result.0.end c.put_back-ran.ensures.end c.put_back-ran.ensures.gates c.on_crew-logged.ensures.all
+    (map entry_view c.on_crew-logged.result.0.ran.journal.items) (map entry_view c.put_back-ran.result.0.journal.items)
+    (ap (λ j. map entry_view j.items) c.put_back-ran.ensures.journal) c.on_crew-logged.ensures.told
+
+pub returns-clause-others : goal.returns-clause-others
+returns-clause-others g c =
+    others_back g.G.Gate.entered c.args.plan.workers c.args.gates.now.items c.in-Ok.begun.own.items c.in-Ok.begun.others.items
+    c.on_crew-logged.result.1.items c.put_back-ran.result.1.items c.in-Ok.ensures.own c.in-Ok.ensures.others c.requires.gates
+    c.on_crew-logged.result.0.ran.end c.put_back-ran.result.0.end c.put_back-ran.ensures.end c.put_back-ran.ensures.gates c.on_crew-logged.ensures.all
+
+pub returns-clause-all : goal.returns-clause-all
+returns-clause-all g c =
+    all_back g.G.Gate.entered c.args.plan.workers c.args.gates.now.items c.in-Ok.begun.own.items c.in-Ok.begun.others.items
+    c.on_crew-logged.result.1.items c.put_back-ran.result.1.items c.in-Ok.ensures.own c.in-Ok.ensures.others c.requires.gates
+    c.on_crew-logged.result.0.ran.end c.put_back-ran.result.0.end c.put_back-ran.ensures.end c.put_back-ran.ensures.gates c.on_crew-logged.ensures.all
