@@ -10,7 +10,6 @@ ghost use Rattle.ciel_log.specs.declared.state.LogState.{LogState as state};
 use crate::reading::record_of;
 use crate::state::LogState;
 use ciel_io::keep::Keep;
-use ciel_log_records::parts::put_block;
 use ciel_log_records::start::put_start;
 use ciel_name::writer::Writer;
 use ciel_store::seats::Eye;
@@ -19,7 +18,7 @@ use ciel_task_order::block::Block;
 use ciel_task_order::order::Order;
 use ciel_task_order::report::Report;
 use sky_base::text::{Memory, Txt};
-use std::alloc::Global;
+use std::alloc::{AllocError, Global};
 use std::marker::Model;
 
 /// The most bytes that a log has.
@@ -185,11 +184,14 @@ fn start_of(alloc: Global, order: &Order) -> Result<Writer, Memory>
     Ok(out)
 }
 
-// A record, as it stands in the file.
-fn in_file(alloc: Global, record: &[u8]) -> Result<Writer, Memory>
-    ensures { IfOk result (λ out. out ≡ in_file record.now) }
+// A record, as it stands in the file, in one piece of memory.
+#[tactic(auto, using(ciel_name::proofs::Numbers::numbers))]
+fn in_file(alloc: Global, record: &[u8]) -> Result<Vec<u8>, AllocError>
+    ensures { IfOk result (λ out. out.items ≡ in_file record.now) }
 {
-    let mut out = Writer::new(alloc);
-    put_block(&mut out, record)?;
+    let length = (record.len() as u64).to_be_bytes();
+    let mut out = Vec::with_capacity(alloc, record.len() + 4)?;
+    out.extend_from_slice(&length[4..])?;
+    out.extend_from_slice(record)?;
     Ok(out)
 }

@@ -15,7 +15,7 @@ returns-then-length-self-clause-tried g c whole =
 pub returns-in-Ok-append-clause-tried : goal.returns-in-Ok-append-clause-tried
 returns-in-Ok-append-clause-tried g c whole =
     let long = in_file_length c.args.record.now in
-    let piece = c.as_slice.ensures ∙ c.in-Ok.ensures in
+    let piece = c.as_slice.ensures.value ∙ c.in-Ok.ensures in
     let seen = ap (λ (l : LogKept). l.seen) c.self.view_is in
     tried_from seen
     (put c.args.record.now refl (omega (arith, long, c.if-length-self.false, c.self.invariant))
@@ -26,7 +26,7 @@ returns-in-Ok-append-clause-tried g c whole =
 pub returns-clause-tried : goal.returns-clause-tried
 returns-clause-tried g c whole =
     let long = in_file_length c.args.record.now in
-    let piece = c.as_slice.ensures ∙ c.in-Ok.ensures in
+    let piece = c.as_slice.ensures.value ∙ c.in-Ok.ensures in
     tried_from (ap (λ (l : LogKept). l.seen) c.self.view_is)
     (failed c.args.record.now refl (omega (arith, long, c.if-length-self.false, c.self.invariant))
     (subst (λ p. Changes (g.D.Keep.files c.self.inside.keep.now) (g.D.Keep.files c.append.new.self) c.self.inside.path (AppendedPart p)) piece
