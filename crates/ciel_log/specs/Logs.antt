@@ -107,17 +107,18 @@ module _ (digest : List ℕ → List ℕ) (job : s.Job) (gives : Gives) where
   abbrev pub PartOfLog : Plan → List ℕ → List Entry → List ℕ → Type 0
   PartOfLog p header journal bytes = (all : List ℕ) × Logs p header journal all × IsPrefix bytes all
 
-  -- so it does; or it does up to the beginning of a dropped record, at which the keeper failed
-  abbrev pub WrittenPart : Plan → List ℕ → List Entry → List ℕ → Type 0
-  WrittenPart p header journal bytes =
+  -- so it does; or the keeper failed, and it does up to the beginning of a dropped record
+  abbrev pub WrittenPart : Plan → List ℕ → List Entry → (failed : Type 0) → List ℕ → Type 0
+  WrittenPart p header journal failed bytes =
       PartOfLog p header journal bytes
-      ⊎ ((before : List ℕ) × (number count : ℕ) × PartOfLog p header journal before
+      ⊎ (failed × (before : List ℕ) × (number count : ℕ) × PartOfLog p header journal before
       × (bytes ≡ before ++ take count (in_file (dropped_record number))))
 
-  -- the file has so many bytes, and with the next record it would have more than a log has at most: the next one of this log, or a dropped one
+  -- it begins a log of the journal and has so many bytes, and with the next record it would have more than a log has at most: the next one of
+  -- this log, or a dropped one
   abbrev pub FullAt : Plan → List ℕ → List Entry → ℕ → List ℕ → Type 0
   FullAt p header journal has bytes =
-      (has ≡ length bytes) × (next : List ℕ) × (most < has + length (in_file next))
+      PartOfLog p header journal bytes × (has ≡ length bytes) × (next : List ℕ) × (most < has + length (in_file next))
       × (((rest : List ℕ) × Logs p header journal (bytes ++ (in_file next ++ rest))) ⊎ ((number : ℕ) × (next ≡ dropped_record number)))
 
   -- Where the file at the path was the header alone, of so many bytes, and is told afterwards: with no dropped record in it, it begins a log of
@@ -125,6 +126,6 @@ module _ (digest : List ℕ → List ℕ) (job : s.Job) (gives : Gives) where
   abbrev pub LogWritten : Plan → (path : List ℕ) → (held : ℕ) → (before after : Option Files) → List Entry → LogState → Type 0
   LogWritten p path held before after journal state =
       (header : List ℕ) (was : Files) → before ≡ Some was → bytes_at was path ≡ in_file header
-      → IfSome after (λ files. (HasDropped (bytes_at files path) → ⊥) → WrittenPart p header journal (bytes_at files path)
+      → IfSome after (λ files. (HasDropped (bytes_at files path) → ⊥) → WrittenPart p header journal (state ≡ LogState.Failed) (bytes_at files path)
       × (state ≡ LogState.Whole → Logs p header journal (bytes_at files path))
       × ((has : ℕ) → state ≡ LogState.Full has → held ≡ length (in_file header) → FullAt p header journal has (bytes_at files path)))

@@ -146,19 +146,19 @@ impl<'k, D: Keep> Log<'k, D> {
     }
 
     // Puts a record behind it, where every one before is there.
-    fn put(&mut self, record: &[u8])
+    fn put(&mut self, told: &[u8])
         ensures keep { self.new.keep ≡ self.old.keep }
         ensures of { self.new.of ≡ self.old.of }
         ensures path { self.new.seen.path ≡ self.old.seen.path }
         ensures losses { self.new.seen.losses ≡ self.old.seen.losses }
-        ensures tried { self.old.seen.state ≡ state.Whole → Tried (λ bytes. bytes ≡ record.now) self.old.seen self.new.seen }
+        ensures tried { self.old.seen.state ≡ state.Whole → Tried (λ bytes. bytes ≡ told.now) self.old.seen self.new.seen }
     {
-        let length = record.len() as u64 + 4;
+        let length = told.len() as u64 + 4;
         if length > MOST - self.held {
             self.state = LogState::Full { held: self.held };
             return;
         }
-        let Ok(piece) = in_file(self.alloc, record) else {
+        let Ok(piece) = in_file(self.alloc, told) else {
             self.state = LogState::Memory;
             return;
         };
@@ -186,12 +186,12 @@ fn start_of(alloc: Global, order: &Order) -> Result<Writer, Memory>
 
 // A record, as it stands in the file, in one piece of memory.
 #[tactic(auto, using(ciel_name::proofs::Numbers::numbers))]
-fn in_file(alloc: Global, record: &[u8]) -> Result<Vec<u8>, AllocError>
-    ensures { IfOk result (λ out. out.items ≡ in_file record.now) }
+fn in_file(alloc: Global, told: &[u8]) -> Result<Vec<u8>, AllocError>
+    ensures { IfOk result (λ out. out.items ≡ in_file told.now) }
 {
-    let length = (record.len() as u64).to_be_bytes();
-    let mut out = Vec::with_capacity(alloc, record.len() + 4)?;
+    let length = (told.len() as u64).to_be_bytes();
+    let mut out = Vec::with_capacity(alloc, told.len() + 4)?;
     out.extend_from_slice(&length[4..])?;
-    out.extend_from_slice(record)?;
+    out.extend_from_slice(told)?;
     Ok(out)
 }

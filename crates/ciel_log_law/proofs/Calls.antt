@@ -115,7 +115,7 @@ module _ (digest : List ℕ → List ℕ) (job : s.Job) (gives : Gives) where
           is = c.1;
           more = take c.2.0 (in_file x);
           grew = ap (bytes_at files) (r.path ∙ path) ∙ c.2.1;
-          piece = put_part digest job gives x (λ e. ne (sym r.state ∙ e)) would2.0 would2.1 would.0 would.1 (ok x q) c.2.0;
+          piece = put_part digest job gives x (r.state ∙ st) would2.0 would2.1 would.0 would.1 (ok x q) c.2.0;
           full = λ has e. let bad : LogState.Failed ≡ LogState.Full has = sym st ∙ (sym r.state ∙ e) in cc;
         }
     tried (full x q over un st) =

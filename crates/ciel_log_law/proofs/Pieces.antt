@@ -41,7 +41,7 @@ module _ (digest : List ℕ → List ℕ) (job : s.Job) (gives : Gives) where
   pub data Piece (past es : List (Event s.Desc)) (state : LogState) : List ℕ → Type 0 where
     all : (bytes : List ℕ) → Rs past es bytes → Piece past es state bytes
     cut : (state ≡ LogState.Whole → ⊥) → (bytes rest : List ℕ) → Rs past es rest → IsPrefix bytes rest → Piece past es state bytes
-    cut_dropped : (state ≡ LogState.Whole → ⊥) → (bytes rest : List ℕ) → Rs past es rest → IsPrefix bytes rest → (number count : ℕ)
+    cut_dropped : state ≡ LogState.Failed → (bytes rest : List ℕ) → Rs past es rest → IsPrefix bytes rest → (number count : ℕ)
         → Piece past es state (bytes ++ take count (in_file (dropped_record number)))
     drops : (bytes : List ℕ) → HasDropped bytes → Piece past es state bytes
 
@@ -56,7 +56,7 @@ module _ (digest : List ℕ → List ℕ) (job : s.Job) (gives : Gives) where
       → Piece past2 es2 state bytes → Piece past es state bytes
   onward f (all bytes r) = all bytes (f bytes r)
   onward f (cut ne bytes rest r p) = cut ne bytes rest (f rest r) p
-  onward f (cut_dropped ne bytes rest r p number count) = cut_dropped ne bytes rest (f rest r) p number count
+  onward f (cut_dropped fails bytes rest r p number count) = cut_dropped fails bytes rest (f rest r) p number count
   onward f (drops bytes d) = drops bytes d
 
   -- nothing is put
@@ -71,9 +71,9 @@ module _ (digest : List ℕ → List ℕ) (job : s.Job) (gives : Gives) where
     put_fine : Fine past es past2 es2 x → {bytes : List ℕ} → Piece past2 es2 state bytes → Piece past es state (in_file x ++ bytes)
     put_fine f (all bytes r) = all (in_file x ++ bytes) (f bytes r)
     put_fine f (cut ne bytes rest r p) = cut ne (in_file x ++ bytes) (in_file x ++ rest) (f rest r) (prefix_behind (in_file x) bytes rest p)
-    put_fine f (cut_dropped ne bytes rest r p number count) =
+    put_fine f (cut_dropped fails bytes rest r p number count) =
         subst (Piece past es state) (append_assoc (in_file x) bytes (take count (in_file (dropped_record number))))
-        (cut_dropped ne (in_file x ++ bytes) (in_file x ++ rest) (f rest r) (prefix_behind (in_file x) bytes rest p) number count)
+        (cut_dropped fails (in_file x ++ bytes) (in_file x ++ rest) (f rest r) (prefix_behind (in_file x) bytes rest p) number count)
     put_fine f (drops bytes d) = drops (in_file x ++ bytes) (dropped_behind x bytes d)
 
     -- a record is put whole
@@ -82,12 +82,13 @@ module _ (digest : List ℕ → List ℕ) (job : s.Job) (gives : Gives) where
     put_whole (inr d) {bytes} p = drops (in_file x ++ bytes) ([], d.0, bytes, ap (λ z. in_file z ++ bytes) d.1)
 
     -- a part of it is put, and then nothing
-    pub put_part : (state ≡ LogState.Whole → ⊥) → (rest2 : List ℕ) → Rs past2 es2 rest2 → (rest : List ℕ) → Rs past es rest
+    pub put_part : state ≡ LogState.Failed → (rest2 : List ℕ) → Rs past2 es2 rest2 → (rest : List ℕ) → Rs past es rest
         → Fine past es past2 es2 x ⊎ IsDropped x → (k : ℕ) → Piece past es state (take k (in_file x))
-    put_part ne rest2 r2 rest r (inl f) k =
-        cut ne (take k (in_file x)) (in_file x ++ rest2) (f rest2 r2) (prefix_taken k (in_file x) rest2)
-    put_part ne rest2 r2 rest r (inr d) k =
-        subst (λ z. Piece past es state (take k (in_file z))) (sym d.1) (cut_dropped ne [] rest r (rest, refl) d.0 k)
+    put_part fails rest2 r2 rest r (inl f) k =
+        cut (λ e. let bad : LogState.Failed ≡ LogState.Whole = sym fails ∙ e in cc)
+        (take k (in_file x)) (in_file x ++ rest2) (f rest2 r2) (prefix_taken k (in_file x) rest2)
+    put_part fails rest2 r2 rest r (inr d) k =
+        subst (λ z. Piece past es state (take k (in_file z))) (sym d.1) (cut_dropped fails [] rest r (rest, refl) d.0 k)
 
   -- ---- a log that is full
 

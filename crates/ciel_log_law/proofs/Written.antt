@@ -48,21 +48,22 @@ module _ (digest : List ℕ → List ℕ) (job : s.Job) (gives : Gives) (p : Pla
   -- what is said of these bytes
   abbrev Tells : LogState → List ℕ → Type 0
   Tells state file =
-      WrittenPart digest job gives p header journal file × (state ≡ LogState.Whole → Logs digest job gives p header journal file)
+      WrittenPart digest job gives p header journal (state ≡ LogState.Failed) file × (state ≡ LogState.Whole → Logs digest job gives p header journal file)
 
   piece_tells : (state : LogState) (bytes : List ℕ) → Piece digest job gives [] d.0 state bytes → (HasDropped (in_file header ++ bytes) → ⊥)
       → Tells state (in_file header ++ bytes)
   piece_tells state bytes (all x r) none = (inl (begins_log x x r (prefix_self x)), λ e. log_of x r)
   piece_tells state bytes (cut ne x rest r pre) none = (inl (begins_log x rest r pre), λ e. absurd (ne e))
-  piece_tells state bytes (cut_dropped ne x rest r pre number count) none = (
+  piece_tells state bytes (cut_dropped fails x rest r pre number count) none = (
     inr (
+      fails,
       in_file header ++ x,
       number,
       count,
       begins_log x rest r pre,
       sym (append_assoc (in_file header) x (take count (in_file (dropped_record number)))),
     ),
-    λ e. absurd (ne e),
+    λ e. let bad : LogState.Failed ≡ LogState.Whole = sym fails ∙ e in cc,
   )
   piece_tells state bytes (drops x has) none = absurd (none (dropped_behind header x has))
 
@@ -122,6 +123,12 @@ module _ {K N R : Type 0} (gives : K → Gives) (digest : N → List ℕ → Lis
       fulls : Full
       fulls has e room = pick (grown.full has e)
         where
+          -- a log that is full didn't fail
+          whole_part : WrittenPart D J G m.board.plan header journal (t.log.state ≡ LogState.Failed) (in_file header ++ grown.more)
+              → PartOfLog D J G m.board.plan header journal (in_file header ++ grown.more)
+          whole_part (inl part) = part
+          whole_part (inr cut) = let bad : LogState.Full has ≡ LogState.Failed = sym e ∙ cut.0 in absurd cc
+
           tells : (next : List ℕ) → ((rest : List ℕ) × Records D J G [] d.0 (grown.more ++ (in_file next ++ rest))) ⊎ IsDropped D J G next
               → ((rest : List ℕ) × Logs D J G m.board.plan header journal ((in_file header ++ grown.more) ++ (in_file next ++ rest)))
               ⊎ IsDropped D J G next
@@ -138,16 +145,17 @@ module _ {K N R : Type 0} (gives : K → Gives) (digest : N → List ℕ → Lis
           pick (inl h) = absurd (none_there (dropped_behind header grown.more h))
           pick (inr (n, stops)) =
               subst (FullAt D J G m.board.plan header journal has) (sym file_is) (
+                whole_part (piece_tells D J G m.board.plan header journal d t.log.state grown.more grown.piece none_there).0,
                 n ∙ (ap (λ z. z + length grown.more) room ∙ sym (length-append (in_file header) grown.more)),
                 stops.next,
                 stops.over,
                 tells stops.next stops.tells,
               )
 
-      tells : WrittenPart D J G m.board.plan header journal (bytes_at files a.log.path) × Whole × Full
+      tells : WrittenPart D J G m.board.plan header journal (t.log.state ≡ LogState.Failed) (bytes_at files a.log.path) × Whole × Full
       tells =
           let got = piece_tells D J G m.board.plan header journal d t.log.state grown.more grown.piece none_there in (
-            subst (WrittenPart D J G m.board.plan header journal) (sym file_is) got.0,
+            subst (WrittenPart D J G m.board.plan header journal (t.log.state ≡ LogState.Failed)) (sym file_is) got.0,
             λ e. subst (Logs D J G m.board.plan header journal) (sym file_is) (got.1 e),
             fulls,
           )
@@ -156,7 +164,7 @@ module _ {K N R : Type 0} (gives : K → Gives) (digest : N → List ℕ → Lis
     written header was before first = pick t.log.files refl
       where
         pick : (o : Option Files) → t.log.files ≡ o → IfSome o (λ files. (HasDropped (bytes_at files a.log.path) → ⊥)
-            → WrittenPart D J G m.board.plan header journal (bytes_at files a.log.path)
+            → WrittenPart D J G m.board.plan header journal (t.log.state ≡ LogState.Failed) (bytes_at files a.log.path)
             × (t.log.state ≡ LogState.Whole → Logs D J G m.board.plan header journal (bytes_at files a.log.path))
             × ((has : ℕ) → t.log.state ≡ LogState.Full has → a.log.held ≡ length (in_file header)
             → FullAt D J G m.board.plan header journal has (bytes_at files a.log.path)))

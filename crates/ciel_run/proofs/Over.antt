@@ -30,7 +30,7 @@ use Rattle.ciel_run_line.specs.Causes.{CauseOf, Clashes, GoesRound, HasTooMany, 
 use Rattle.ciel_run.specs.Ending.{Answers, ComesBy, EndCause, HasRun, IfEndless, IfKeepFault, IfNameClash, IfReadFault, IfTooDeep, IfTooMany, IsAnswered}
 use Rattle.ciel_run.specs.Ending.{IsExpected, MayEnd, TellsParts, TooLongIn, Writes, WritesAnswer, WritesPart}
 use Rattle.ciel_run_line.specs.Asked.{StopsFor}
-use Rattle.ciel_run_line.specs.Line.{FitsIn, OfLine, OfSource, OverFiles, SourceFits, SourceIn, StandsIn, files_of, is_plain, paths}
+use Rattle.ciel_run_line.specs.Line.{FitsIn, OfLine, OfSource, OverFiles, SourceFits, SourceIn, StandsIn, files_of, is_plain, log_of, paths}
 use Rattle.ciel_run_line.specs.Runs.{IsDriven, IsModestFor, digest_of, plan_of, told_of}
 use Rattle.ciel_run_line.specs.Source.{IsAnswer, OfJob, job_of, over_lines}
 use Rattle.ciel_run_log.specs.declared.why.Why.{Why}
@@ -109,8 +109,13 @@ module _ (b m n : Option (List ℕ)) (text more : List ℕ) where
 abbrev pub Begun : Why → Type 0
 Begun why = (path : List ℕ) → why ≡ Why.KeepFault path → ⊥
 
-pub begun_of : (risen : Type 0) (why : Why) → IfKeepFault why (λ path. risen) → ¬ risen → Begun why
-begun_of risen why f quiet path e = quiet (subst (λ (y : Why). IfKeepFault y (λ p. risen)) e f)
+-- no log was refused, where one that is asked for has a keeper that did not fail
+pub begun_of : (content : List ℕ → Option (List ℕ)) (w : Words) (risen failed : Type 0) (entries : List Entry) (why : Why) (o : Option Words)
+    → o ≡ Some w → EndCause content w risen entries why → IfKeepFault why (λ path. failed) → (log_of o ≢ None → ¬ failed) → Begun why
+begun_of content w risen failed entries why o line cause fault quiet path e =
+    let named : w.log ≡ Some path = (subst (λ (y : Why). EndCause content w risen entries y) e cause).1 in
+    let rose : failed = subst (λ (y : Why). IfKeepFault y (λ p. failed)) e fault in
+    quiet (λ none. let clash : None ≡ Some path = sym none ∙ ap log_of line ∙ named in absurd cc) rose
 
 module _ (content : List ℕ → Option (List ℕ)) (w : Words) where
   -- the answer that is written is that of the script over the inputs

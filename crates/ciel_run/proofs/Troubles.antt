@@ -15,7 +15,7 @@ use Rattle.ciel_log.specs.declared.state.LogState.{LogState}
 use Rattle.ciel_run_load.specs.Line.{Input}
 use Rattle.ciel_run_line.specs.Asked.{AsksFor}
 use Rattle.ciel_run_line.specs.Causes.{CauseOf, OfRun}
-use Rattle.ciel_run_line.specs.Keeping.{AsksOnly, BeginsLog, FillsLog, HasBytes, IsLog, KeeperSeen, KeepsLog, LogTold, OfLog, Told}
+use Rattle.ciel_run_line.specs.Keeping.{AsksOnly, BeginsLog, FillsLog, HasBytes, IsLog, KeeperSeen, KeepsLog, LogTold, OfLog, StandsBy, Told}
 use Rattle.ciel_run_line.specs.Source.{over_lines}
 use Rattle.ciel_run_log.specs.declared.why.Why.{Why}
 use Rattle.ciel_words.specs.declared.words.Words.{Words}
@@ -184,45 +184,60 @@ of_file : (files : Option Files) (path : List ℕ) (P Q : List ℕ → Type 0) �
 of_file None path P Q f t = tt
 of_file (Some fs) path P Q f t = λ clean. f (bytes_at fs path) (t clean)
 
-module _ (w : Words) (source : List ℕ) (inputs : List Input) (J : List Entry) (files : Option Files) (state : LogState) where
+-- where the keeper failed in a run, its count rose
+module _ (before now : KeeperSeen) (state : LogState) (result : Result (List ℕ) Why)
+    (ran : (path : List ℕ) → KeepsLog (Some path) before now result state → AsksOnly path before.asked now.asked × StandsBy path before now state) where
+  rises : (log : Option (List ℕ)) → KeepsLog log before now result state → state ≡ LogState.Failed → HasRisen before.faults now.faults
+  rises None k e = let whole : LogState.Whole ≡ LogState.Failed = sym k.1 ∙ e in absurd cc
+  rises (Some path) k e = subst (StandsBy path before now) e (ran path k).1
+
+-- the bytes begin a log by another reason for which they may not be all of one
+begins_so : (w : Words) (source : List ℕ) (inputs : List Input) (J : List Entry) (failed fails : Type 0) → (failed → fails) → (bytes : List ℕ)
+    → BeginsLog w source inputs J failed bytes → BeginsLog w source inputs J fails bytes
+begins_so w source inputs J failed fails f bytes (script, is, inl part) = (script, is, inl part)
+begins_so w source inputs J failed fails f bytes (script, is, inr cut) = (script, is, inr (f cut.0, cut.1))
+
+module _ (w : Words) (source : List ℕ) (inputs : List Input) (J : List Entry) (failed : Type 0) (files : Option Files) (state : LogState) where
   abbrev Known : Type 0
   Known = OfLog w source inputs J files (Told w source inputs J state)
 
-  of_kind : (why : Why) → Kind w.log state why → Known → LogSays w source inputs J files why
+  of_kind : (why : Why) → Kind w.log state why → Known → LogSays w source inputs J failed files why
   of_kind why (done e x) t =
-      subst (LogSays w source inputs J files) (sym e) (λ path n. of_file files path (Told w source inputs J state) (IsLog w source inputs J)
+      subst (LogSays w source inputs J failed files) (sym e) (λ path n. of_file files path (Told w source inputs J state) (IsLog w source inputs J)
       (λ bytes k. k.1 (x path n)) (t path n))
-  of_kind why (failed path n f e) t = subst (LogSays w source inputs J files) (sym e) tt
+  of_kind why (failed path n f e) t = subst (LogSays w source inputs J failed files) (sym e) tt
   of_kind why (full path held n f e) t =
-      subst (LogSays w source inputs J files) (sym e) (λ p m. of_file files p (Told w source inputs J state) (FillsLog w source inputs J held)
+      subst (LogSays w source inputs J failed files) (sym e) (λ p m. of_file files p (Told w source inputs J state) (FillsLog w source inputs J held)
       (λ bytes k. k.2 held f) (t p m))
-  of_kind why (memory e) t = subst (LogSays w source inputs J files) (sym e) tt
-  of_kind why (unwritten e) t = subst (LogSays w source inputs J files) (sym e) tt
+  of_kind why (memory e) t = subst (LogSays w source inputs J failed files) (sym e) tt
+  of_kind why (unwritten e) t = subst (LogSays w source inputs J failed files) (sym e) tt
 
-  pub says : (why : Why) → Finished w.log state why → Known → LogSays w source inputs J files why
+  pub says : (why : Why) → Finished w.log state why → Known → LogSays w source inputs J failed files why
   says why f t = of_kind why (kind w.log state why f) t
 
-  begins : Known → OfLog w source inputs J files (BeginsLog w source inputs J)
-  begins t = λ path n. of_file files path (Told w source inputs J state) (BeginsLog w source inputs J) (λ bytes k. k.0) (t path n)
+  begins : (state ≡ LogState.Failed → failed) → Known → OfLog w source inputs J files (BeginsLog w source inputs J failed)
+  begins f t = λ path n. of_file files path (Told w source inputs J state) (BeginsLog w source inputs J failed)
+      (λ bytes k. begins_so w source inputs J (state ≡ LogState.Failed) failed f bytes k.0) (t path n)
 
   -- where the job has no answer
-  pub says_so : (content : List ℕ → Option (List ℕ)) (risen : Type 0) (why : Why) → CauseOf content w risen J why
-      → LogTold w source inputs J files state (Err why) → LogSays w source inputs J files why
-  says_so content risen (Why.Fault fault) c t = begins t
-  says_so content risen (Why.Endless names) c t = begins t
-  says_so content risen Why.AllLost c t = begins t
-  says_so content risen Why.Done c t = absurd c
-  says_so content risen (Why.LogFull path held) c t = absurd c
-  says_so content risen Why.Usage c t = tt
-  says_so content risen (Why.Syntax kind line col) c t = tt
-  says_so content risen (Why.TooMany held given) c t = tt
-  says_so content risen (Why.NameClash kept given) c t = tt
-  says_so content risen (Why.ReadFault path) c t = tt
-  says_so content risen Why.WriteFault c t = tt
-  says_so content risen Why.Memory c t = tt
-  says_so content risen (Why.TooLongInput path at) c t = tt
-  says_so content risen (Why.TooDeepPlain depth) c t = tt
-  says_so content risen (Why.KeepFault path) c t = tt
+  pub says_so : (content : List ℕ → Option (List ℕ)) (risen : Type 0) (before now : KeeperSeen) (why : Why) → CauseOf content w risen J why
+      → KeepsLog w.log before now (Err why) state → (HasRisen before.faults now.faults → failed)
+      → LogTold w source inputs J files state (Err why) → LogSays w source inputs J failed files why
+  says_so content risen before now (Why.Fault fault) c k f t = begins (λ e. f (rises before now state (Err (Why.Fault fault)) (λ p x. x) w.log k e)) t
+  says_so content risen before now (Why.Endless names) c k f t = begins (λ e. f (rises before now state (Err (Why.Endless names)) (λ p x. x) w.log k e)) t
+  says_so content risen before now Why.AllLost c k f t = begins (λ e. f (rises before now state (Err Why.AllLost) (λ p x. x) w.log k e)) t
+  says_so content risen before now Why.Done c k f t = absurd c
+  says_so content risen before now (Why.LogFull path held) c k f t = absurd c
+  says_so content risen before now Why.Usage c k f t = tt
+  says_so content risen before now (Why.Syntax kind line col) c k f t = tt
+  says_so content risen before now (Why.TooMany held given) c k f t = tt
+  says_so content risen before now (Why.NameClash kept given) c k f t = tt
+  says_so content risen before now (Why.ReadFault path) c k f t = tt
+  says_so content risen before now Why.WriteFault c k f t = tt
+  says_so content risen before now Why.Memory c k f t = tt
+  says_so content risen before now (Why.TooLongInput path at) c k f t = tt
+  says_so content risen before now (Why.TooDeepPlain depth) c k f t = tt
+  says_so content risen before now (Why.KeepFault path) c k f t = tt
 
 -- ---- where the job has no answer
 

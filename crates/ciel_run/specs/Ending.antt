@@ -151,14 +151,15 @@ AsksLog None why before now = before ≡ now
 AsksLog (Some path) Why.Memory before now = Unit {0}
 AsksLog (Some path) why before now = AsksOnly path before now
 
--- what its file tells of the journal: a whole log, the beginning of one where it isn't known that it is whole, or as much as there may be
-abbrev pub LogSays : Words → List ℕ → List Input → List Entry → Option Files → Why → Type 0
-LogSays w source inputs J files Why.Done = OfLog w source inputs J files (IsLog w source inputs J)
-LogSays w source inputs J files (Why.Fault fault) = OfLog w source inputs J files (BeginsLog w source inputs J)
-LogSays w source inputs J files (Why.Endless names) = OfLog w source inputs J files (BeginsLog w source inputs J)
-LogSays w source inputs J files Why.AllLost = OfLog w source inputs J files (BeginsLog w source inputs J)
-LogSays w source inputs J files (Why.LogFull path held) = OfLog w source inputs J files (FillsLog w source inputs J held)
-LogSays w source inputs J files _ = Unit {0}
+-- what its file tells of the journal, where it is known whether the keeper may have failed: a whole log, the beginning of one where it isn't
+-- known that it is whole, or as much as there may be
+abbrev pub LogSays : Words → List ℕ → List Input → List Entry → (failed : Type 0) → Option Files → Why → Type 0
+LogSays w source inputs J failed files Why.Done = OfLog w source inputs J files (IsLog w source inputs J)
+LogSays w source inputs J failed files (Why.Fault fault) = OfLog w source inputs J files (BeginsLog w source inputs J failed)
+LogSays w source inputs J failed files (Why.Endless names) = OfLog w source inputs J files (BeginsLog w source inputs J failed)
+LogSays w source inputs J failed files Why.AllLost = OfLog w source inputs J files (BeginsLog w source inputs J failed)
+LogSays w source inputs J failed files (Why.LogFull path held) = OfLog w source inputs J files (FillsLog w source inputs J held)
+LogSays w source inputs J failed files _ = Unit {0}
 
 -- the text of a journal, where the line asks for it
 abbrev pub trace_of : Bool → List Line → List ℕ

@@ -140,10 +140,12 @@ where
     // Which end comes where files tell, and reading and writing go well; and that it is the answer, where the job means one and some worker
     // stays.
     ensures complete { ¬ HasRisen (F.faults files.old) (F.faults files.new) → ¬ HasRisen (O.faults out.old) (O.faults out.new)
-        → ¬ HasRisen (J.faults log.old) (J.faults log.new) → ¬ HasRisen (D.faults keep.old) (D.faults keep.new)
+        → ¬ HasRisen (J.faults log.old) (J.faults log.new)
+        → (log_of (line_of words.now) ≢ None → ¬ HasRisen (D.faults keep.old) (D.faults keep.new))
         → OverFiles (F.content files.old) words.now (λ w source inputs. IsExpected w source inputs result.why) }
     ensures answers { ¬ HasRisen (F.faults files.old) (F.faults files.new) → ¬ HasRisen (O.faults out.old) (O.faults out.new)
-        → ¬ HasRisen (J.faults log.old) (J.faults log.new) → ¬ HasRisen (D.faults keep.old) (D.faults keep.new)
+        → ¬ HasRisen (J.faults log.old) (J.faults log.new)
+        → (log_of (line_of words.now) ≢ None → ¬ HasRisen (D.faults keep.old) (D.faults keep.new))
         → OverFiles (F.content files.old) words.now (λ w source inputs. Answers w source inputs result.why) }
 
     // What was asked, and what was written where it doesn't end well.
@@ -169,7 +171,8 @@ where
     ensures unasked { log_of (line_of words.now) ≡ None → keep.new ≡ keep.old }
     ensures keep_asked { AsksLog (log_of (line_of words.now)) result.why (D.asked keep.old) (D.asked keep.new) }
     ensures log_told { OverFiles (F.content files.old) words.now
-        (λ w source inputs. LogSays w source inputs (map entry_view result.journal.items) (D.files keep.new) result.why) }
+        (λ w source inputs. LogSays w source inputs (map entry_view result.journal.items) (HasRisen (D.faults keep.old) (D.faults keep.new))
+        (D.files keep.new) result.why) }
 
     // What is put on the log: the journal's text where it is asked for, and the message, which is empty for an answer that was written.
     ensures message { ¬ HasRisen (J.faults log.old) (J.faults log.new)
@@ -247,7 +250,8 @@ where
     ensures unasked { line.now.log ≡ None → keep.new ≡ keep.old }
     ensures keep_asked { AsksLog line.now.log result.why (D.asked keep.old) (D.asked keep.new) }
     ensures log_told { OfLine (F.content files.old) line.now
-        (λ source inputs. LogSays line.now source inputs (map entry_view result.journal.items) (D.files keep.new) result.why) }
+        (λ source inputs. LogSays line.now source inputs (map entry_view result.journal.items) (HasRisen (D.faults keep.old) (D.faults keep.new))
+        (D.files keep.new) result.why) }
     ensures cause { EndCause (F.content files.old) line.now (HasRisen (F.faults files.old) (F.faults files.new))
         (map entry_view result.journal.items) result.why }
     ensures write_fault { result.why ≡ Why.WriteFault → HasRisen (O.faults out.old) (O.faults out.new)

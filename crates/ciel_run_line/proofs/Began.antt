@@ -101,7 +101,7 @@ module _ (w : Words) (path : List ℕ) (named : w.log ≡ Some path) (header : L
         stood path header old begun now placed rises t.0 t.1 ∙ ap in_file same in
         let told = l (header_of w source inputs) t.0 t.1 there clean in (
           of_job source inputs job
-              (λ j. WrittenPart (digest_of w.names) j gives (plan_of w) (header_of w source inputs) J (bytes_at fs path)) of told.0,
+              (λ j. WrittenPart (digest_of w.names) j gives (plan_of w) (header_of w source inputs) J (state ≡ LogState.Failed) (bytes_at fs path)) of told.0,
           λ whole. of_job source inputs job
               (λ j. Logs (digest_of w.names) j gives (plan_of w) (header_of w source inputs) J (bytes_at fs path)) of (told.1 whole),
           λ has full. of_job source inputs job

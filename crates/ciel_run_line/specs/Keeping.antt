@@ -52,10 +52,10 @@ KeepsLog (Some path) before now _ state = AsksOnly path before.asked now.asked �
 -- ---- what its file tells
 
 module _ (w : Words) (source : List ℕ) (inputs : List Input) (J : List Entry) where
-  -- the bytes begin a log of the run, or are a whole one
-  abbrev pub BeginsLog : List ℕ → Type 0
-  BeginsLog bytes =
-      OfJob source inputs (λ job. WrittenPart (digest_of w.names) job gives (plan_of w) (header_of w source inputs) J bytes)
+  -- the bytes begin a log of the run; or the keeper failed, and they do up to the beginning of a dropped record
+  abbrev pub BeginsLog : (failed : Type 0) → List ℕ → Type 0
+  BeginsLog failed bytes =
+      OfJob source inputs (λ job. WrittenPart (digest_of w.names) job gives (plan_of w) (header_of w source inputs) J failed bytes)
 
   abbrev pub IsLog : List ℕ → Type 0
   IsLog bytes = OfJob source inputs (λ job. Logs (digest_of w.names) job gives (plan_of w) (header_of w source inputs) J bytes)
@@ -68,7 +68,7 @@ module _ (w : Words) (source : List ℕ) (inputs : List Input) (J : List Entry) 
   -- what the bytes are of the run's log, as it stands
   abbrev pub Told : LogState → List ℕ → Type 0
   Told state bytes =
-      BeginsLog bytes × (state ≡ LogState.Whole → IsLog bytes) × ((held : ℕ) → state ≡ LogState.Full held → FillsLog held bytes)
+      BeginsLog (state ≡ LogState.Failed) bytes × (state ≡ LogState.Whole → IsLog bytes) × ((held : ℕ) → state ≡ LogState.Full held → FillsLog held bytes)
 
   -- the fact, of what stands at the path of the log, where it is told and has no record of a dropped report
   abbrev pub OfLog : Option Files → (List ℕ → Type 0) → Type 0

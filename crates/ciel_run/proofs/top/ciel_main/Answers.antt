@@ -92,7 +92,7 @@ returns-clause-complete g c = λ quiet still silent kept.
     (map entry_view c.run.result.journal.items) c.run.result.why (g.O.Sink.written c.args.out.now) (g.O.Sink.written c.run.new.out)
     c.run.ensures.cause c.run.ensures.done quiet
     (λ failed. no_write _ _ _ (c.run.ensures.write_fault failed) still silent)
-    (begun_of _ c.run.result.why c.run.ensures.keep_fault kept))
+    (begun_of _ _ _ _ _ c.run.result.why _ c.in-Ok.ensures.line c.run.ensures.cause c.run.ensures.keep_fault kept))
 
 pub returns-clause-answers : goal.returns-clause-answers
 returns-clause-answers g c = λ quiet still silent kept.
@@ -102,7 +102,7 @@ returns-clause-answers g c = λ quiet still silent kept.
     (map entry_view c.run.result.journal.items) c.modest_runs_answer.ensures c.functions_are_orderly.ensures.orderly c.run.result.why
     c.run.ensures.cause quiet
     (λ failed. no_write _ _ _ (c.run.ensures.write_fault failed) still silent)
-    (begun_of _ c.run.result.why c.run.ensures.keep_fault kept) c.run.ensures.driven)
+    (begun_of _ _ _ _ _ c.run.result.why _ c.in-Ok.ensures.line c.run.ensures.cause c.run.ensures.keep_fault kept) c.run.ensures.driven)
 
 pub returns-clause-message : goal.returns-clause-message
 returns-clause-message g c = λ nl.

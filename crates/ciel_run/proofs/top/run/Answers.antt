@@ -181,8 +181,8 @@ returns-in-Ok-clause-log_told g c =
     λ source inputs st.
     let told = subst (λ (r : Result (List ℕ) Why). LogTold line source inputs J now.files state r) c.in-Ok.is
     (c.answer_line-result.ensures.logged source inputs st) in
-    subst (λ (r : Ended). LogSays line source inputs (map entry_view r.journal.items) now.files r.why) (sym c.ended.ensures)
-    (says line source inputs J now.files state c.finish-why.result c.finish-why.ensures.ends told)
+    subst (λ (r : Ended). LogSays line source inputs (map entry_view r.journal.items) (HasRisen before.faults now.faults) now.files r.why) (sym c.ended.ensures)
+    (says line source inputs J (HasRisen before.faults now.faults) now.files state c.finish-why.result c.finish-why.ensures.ends told)
 
 pub returns-in-Err-clause-keep_fault : goal.returns-in-Err-clause-keep_fault
 returns-in-Err-clause-keep_fault g c =
@@ -256,8 +256,9 @@ returns-in-Err-clause-log_told g c =
     λ source inputs st.
     let told = subst (λ (r : Result (List ℕ) Why). LogTold line source inputs J now.files state r) c.in-Err.is
     (c.answer_line-result.ensures.logged source inputs st) in
-    subst (λ (r : Ended). LogSays line source inputs (map entry_view r.journal.items) now.files r.why) (sym c.ended-in-Err.ensures)
-    (says_so line source inputs J now.files state content risen c.in-Err.why cause told)
+    subst (λ (r : Ended). LogSays line source inputs (map entry_view r.journal.items) (HasRisen before.faults now.faults) now.files r.why)
+    (sym c.ended-in-Err.ensures)
+    (says_so line source inputs J (HasRisen before.faults now.faults) now.files state content risen before now c.in-Err.why cause keeps (λ r. r) told)
 
 pub returns-in-Ok-clause-asked : goal.returns-in-Ok-clause-asked
 returns-in-Ok-clause-asked g c =
