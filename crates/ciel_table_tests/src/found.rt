@@ -1,6 +1,7 @@
 // What a table holds, and what is searched in it.
 
-use crate::steps::{MAIN, SHOW, SQUARE, Spot, Two, task};
+use crate::made::{Spot, Two};
+use crate::steps::{MAIN, SHOW, SQUARE, task};
 use ciel_table::table::Table;
 use ciel_want::want::{circle, runnable, wanted};
 use ciel_want::whole::is_whole;

@@ -3,7 +3,8 @@
 ghost use Rattle.std.specs.Prelude.{◌≡◌, []};
 
 use crate::found::{circles, last, runs, wants};
-use crate::steps::{MAIN, SHOW, SQUARE, Spot, Step, Two, act, make_two, open, task};
+use crate::made::{Spot, Two, make_two};
+use crate::steps::{MAIN, SHOW, SQUARE, Step, act, open, task};
 use ciel_table::table::Table;
 use sky_base::object::TaskId;
 use std::alloc::Global;

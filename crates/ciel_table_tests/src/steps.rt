@@ -4,41 +4,19 @@ ghost use Rattle.std.specs.Prelude.{◌≡◌, [], IfOk, true};
 ghost use Rattle.ciel_table.specs.Seen.{waits_of};
 ghost use Rattle.ciel_table.specs.Sound.{Here, IsAbove};
 
-use ciel_name::name::{Namer, Sha1Namer};
+use crate::made::{Spot, Two};
+use ciel_name::name::Sha1Namer;
 use ciel_name::object::canon;
 use ciel_table::refusal::Learn;
 use ciel_table::table::Table;
 use ciel_table::wait::Wait;
-use sky_base::at::At;
 use sky_base::name::Name;
 use sky_base::names::Names;
 use sky_base::object::{Desc1, Named, TaskId};
-use sky_base::text::{Bytes, Memory, Txt};
-use sky_base::value::{Pairs, Vals, Value};
+use sky_base::text::{Bytes, Memory};
 use std::alloc::Global;
 use std::process::Abort;
 use std::test::Fail;
-
-/// A place, of which the table asks only the worker.
-#[derive(Drop)]
-pub struct Spot {
-    pub worker: u32,
-}
-
-impl At for Spot {
-    ghost at = { λ s. s.worker };
-
-    fn worker(&self) -> u32 {
-        self.worker
-    }
-}
-
-/// The main call and the call of `f` of 3, each with its name.
-#[derive(Drop)]
-pub struct Two {
-    pub main: Named,
-    pub square: Named,
-}
 
 /// Which is meant: the main call, the call of `f`, or the root task.
 pub const MAIN: u32 = 0;
@@ -69,37 +47,6 @@ pub enum Step {
         worker: u32,
         refs: u32,
     },
-}
-
-/// The description with its name.
-pub fn named(alloc: Global, desc: Desc1) -> Result<Named, Memory> {
-    let name = Sha1Namer.name(canon(alloc, &desc)?.as_slice());
-    Ok(Named { name, desc })
-}
-
-fn call(alloc: Global, fun: &str, args: Vals) -> Result<Named, Memory> {
-    let fun = Txt::new(alloc, fun)?;
-    named(
-        alloc,
-        Desc1::Call {
-            fun,
-            caught: Pairs::new(alloc),
-            args,
-        },
-    )
-}
-
-fn three(alloc: Global) -> Result<Vals, Memory> {
-    let mut args = Vals::new(alloc);
-    args.push(Value::Int(3))?;
-    Ok(args)
-}
-
-/// The two.
-pub fn make_two(alloc: Global) -> Result<Two, Memory> {
-    let main = call(alloc, "", Vals::new(alloc))?;
-    let square = call(alloc, "f", three(alloc)?)?;
-    Ok(Two { main, square })
 }
 
 /// A table with no rows, that takes so many.

@@ -1,6 +1,7 @@
 // The tasks of rows that are no calls: an executor's outputs have one task, and an input is live.
 
-use crate::steps::{Spot, learn, named, open};
+use crate::made::{Spot, named};
+use crate::steps::{learn, open};
 use ciel_name::name::{Sha1Namer, task_of};
 use ciel_table::table::Table;
 use sky_base::object::{Desc1, Named, TaskId};

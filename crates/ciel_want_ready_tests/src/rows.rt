@@ -2,9 +2,8 @@
 
 ghost use Rattle.std.specs.Prelude.{◌≡◌, [], IfOk};
 
-use crate::steps::{
-    Spot, Two, close, exec, is_next, learn, lose, make_two, open, place, save, turn,
-};
+use crate::steps::{close, exec, is_next, learn, lose, open, place, save, turn};
+use ciel_table_tests::made::{Spot, Two, make_two};
 use ciel_want_ready::ready::Ready;
 use sky_base::object::{Named, TaskId};
 use sky_base::value::{Vals, Value};

@@ -5,64 +5,20 @@ ghost use Rattle.ciel_table.specs.Seen.{waits_of};
 ghost use Rattle.ciel_table.specs.Sound.{IsAbove};
 ghost use Rattle.ciel_want.specs.Waited.{Whole};
 
-use ciel_name::name::{Namer, Sha1Namer};
+use ciel_name::name::Sha1Namer;
 use ciel_name::object::canon;
 use ciel_table::table::Table;
 use ciel_table::wait::Wait;
+use ciel_table_tests::made::{Spot, named};
 use ciel_want::whole::is_whole;
 use ciel_want_ready::ready::Ready;
-use sky_base::at::At;
 use sky_base::name::Name;
 use sky_base::names::Names;
 use sky_base::object::{Desc1, Named, TaskId};
 use sky_base::text::{Memory, Txt};
-use sky_base::value::{Pairs, Vals, Value};
+use sky_base::value::Value;
 use std::alloc::Global;
 use std::test::Fail;
-
-/// A place, of which the table asks only the worker.
-#[derive(Drop)]
-pub struct Spot {
-    pub worker: u32,
-}
-
-impl At for Spot {
-    ghost at = { λ s. s.worker };
-
-    fn worker(&self) -> u32 {
-        self.worker
-    }
-}
-
-/// The main call, and the call of `f` of 3.
-#[derive(Drop)]
-pub struct Two {
-    pub main: Named,
-    pub square: Named,
-}
-
-fn named(alloc: Global, desc: Desc1) -> Result<Named, Memory> {
-    let name = Sha1Namer.name(canon(alloc, &desc)?.as_slice());
-    Ok(Named { name, desc })
-}
-
-fn call(alloc: Global, fun: &str, args: Vals) -> Result<Named, Memory> {
-    let fun = Txt::new(alloc, fun)?;
-    named(
-        alloc,
-        Desc1::Call {
-            fun,
-            caught: Pairs::new(alloc),
-            args,
-        },
-    )
-}
-
-fn three(alloc: Global) -> Result<Vals, Memory> {
-    let mut args = Vals::new(alloc);
-    args.push(Value::Int(3))?;
-    Ok(args)
-}
 
 /// An executor's task with one output.
 pub fn exec(alloc: Global, args: Value) -> Result<Named, Memory> {
@@ -76,13 +32,6 @@ pub fn exec(alloc: Global, args: Value) -> Result<Named, Memory> {
             index: 0,
         },
     )
-}
-
-/// The two.
-pub fn make_two(alloc: Global) -> Result<Two, Memory> {
-    let main = call(alloc, "", Vals::new(alloc))?;
-    let square = call(alloc, "f", three(alloc)?)?;
-    Ok(Two { main, square })
 }
 
 /// A table with no rows.
