@@ -4,20 +4,20 @@ ghost use Rattle.std.specs.Prelude.{◌≡◌, ◌<◌, ◌^◌, true, None, IfE
 ghost use Rattle.std.specs.Arc.{arc_value};
 ghost use Rattle.sky_base.specs.JobView.{job_view};
 ghost use Rattle.ciel_crew_work.specs.Onward.{IsRead};
-ghost use Rattle.ciel_task_order.specs.Shop.{InputsInOrder};
-ghost use Rattle.ciel_task_crew.specs.Seen.{AllLook};
+ghost use Rattle.ciel_crew_work.specs.Shop.{InputsInOrder};
+ghost use Rattle.ciel_crew_work.specs.Seen.{AllLook};
 
 use ciel_crew_lanes::lanes::Lanes;
 use ciel_crew_work::closing::gather;
+use ciel_crew_work::crew::Crew;
 use ciel_crew_work::opening::{equipped, room_for};
+use ciel_crew_work::order::Order;
 use ciel_crew_work::performing::{Done, Job, Performing, Tools};
+use ciel_crew_work::report::Report;
+use ciel_crew_work::shop::Shop;
 use ciel_gate::gate::Gate;
 use ciel_name::name::Namer;
 use ciel_store::seats::Eye;
-use ciel_task_crew::crew::Crew;
-use ciel_task_order::order::Order;
-use ciel_task_order::report::Report;
-use ciel_task_order::shop::Shop;
 use sky_base::kit::Kit;
 use sky_base::text::Memory;
 use std::alloc::Global;
@@ -45,7 +45,7 @@ impl<K: Kit + Drop, N: Namer + Drop, G: Gate, R: Wait + Drop> Model for Channels
     ghost use Rattle.sky_base.specs.Code.{pairs_code, val_code, vals_code};
     ghost use Rattle.sky_base.specs.ScriptCode.{script_code};
     ghost use Rattle.sky_frozen_bytes.specs.FrozenCode.{stand_code};
-    ghost use Rattle.ciel_task_crew.specs.Seen.{CrewSeen};
+    ghost use Rattle.ciel_crew_work.specs.Seen.{CrewSeen};
     ghost use Rattle.ciel_crew_work.specs.Crewed.{Stands, lanes_told, orders_of};
 
     ghost Value = { CrewSeen K N };

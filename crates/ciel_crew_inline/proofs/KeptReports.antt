@@ -9,9 +9,9 @@ use Rattle.ciel_gate.specs.Entered.{IsEntered}
 use Rattle.ciel_task_order.specs.declared.order.Order.{Order}
 use Rattle.ciel_task_order.specs.declared.shop.Shop.{Shop}
 use Rattle.ciel_store.specs.Seen.{SeatSeen}
-use Rattle.ciel_task_crew.specs.Crews.{Answers, Fades, FadesEach, IsOut, Reports, extended, order_at, told_at}
-use Rattle.ciel_task_crew.specs.Seen.{AllLook}
-use Rattle.ciel_task_crew.proofs.ToldTasks.{fades_one, seen_as}
+use Rattle.ciel_task.specs.Crews.{Answers, Fades, FadesEach, IsOut, Reports, extended, order_at, told_at}
+use Rattle.ciel_task.specs.Seen.{AllLook}
+use Rattle.ciel_task.proofs.ToldTasks.{fades_one, seen_as}
 use Rattle.ciel_crew_inline.specs.Kept.{KeptAt, KeptSo, Stands, order_of}
 use Rattle.ciel_crew_inline.specs.declared.seats.Kept.{Kept}
 

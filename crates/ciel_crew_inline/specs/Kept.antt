@@ -7,8 +7,8 @@ use Rattle.ciel_store.specs.Seen.{SeatSeen}
 use Rattle.ciel_task_order.specs.Shop.{InputsInOrder}
 use Rattle.ciel_task_order.specs.declared.order.Order.{Order}
 use Rattle.ciel_task_order.specs.declared.shop.Shop.{Shop}
-use Rattle.ciel_task_crew.specs.Crews.{Answers}
-use Rattle.ciel_task_crew.specs.Seen.{AllLook}
+use Rattle.ciel_task.specs.Crews.{Answers}
+use Rattle.ciel_task.specs.Seen.{AllLook}
 use Rattle.ciel_crew_inline.specs.declared.seats.Kept.{Kept}
 
 -- the order of a report that is kept

@@ -5,13 +5,13 @@ ghost use Rattle.std.specs.Arc.{arc_value};
 ghost use Rattle.sky_base.specs.JobView.{job_view};
 ghost use Rattle.ciel_task.specs.Onward.{IsRead};
 ghost use Rattle.ciel_task_order.specs.Shop.{InputsInOrder};
-ghost use Rattle.ciel_task_crew.specs.Seen.{AllLook};
+ghost use Rattle.ciel_task.specs.Seen.{AllLook};
 
 use crate::seats::{Kept, first_kept, perform_one};
 use ciel_gate::gate::Gate;
 use ciel_name::name::Namer;
 use ciel_store::seats::Eye;
-use ciel_task_crew::crew::Crew;
+use ciel_task::crew::Crew;
 use ciel_task_order::order::Order;
 use ciel_task_order::report::Report;
 use ciel_task_order::shop::Shop;
@@ -41,7 +41,7 @@ impl<K: Kit, N: Namer, G: Gate, R> Model for Inline<K, N, G, R> {
     ghost use Rattle.sky_base.specs.Code.{pairs_code, val_code, vals_code};
     ghost use Rattle.sky_base.specs.ScriptCode.{script_code};
     ghost use Rattle.sky_frozen_bytes.specs.FrozenCode.{stand_code};
-    ghost use Rattle.ciel_task_crew.specs.Seen.{CrewSeen};
+    ghost use Rattle.ciel_task.specs.Seen.{CrewSeen};
     ghost use Rattle.ciel_crew_inline.specs.Kept.{Stands, order_of};
 
     ghost Value = { CrewSeen K N };

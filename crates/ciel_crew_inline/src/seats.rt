@@ -5,7 +5,7 @@ ghost use Rattle.sky_base.specs.JobView.{job_view};
 ghost use Rattle.ciel_task.specs.Onward.{IsRead};
 ghost use Rattle.ciel_gate.specs.Entered.{IsEntered};
 ghost use Rattle.ciel_task_order.specs.Shop.{InputsInOrder};
-ghost use Rattle.ciel_task_crew.specs.Crews.{Answers, Takes};
+ghost use Rattle.ciel_task.specs.Crews.{Answers, Takes};
 
 use ciel_gate::gate::Gate;
 use ciel_name::name::Namer;

@@ -15,8 +15,8 @@ use Rattle.ciel_task_order.specs.Shop.{InputsInOrder}
 use Rattle.ciel_task_order.specs.declared.order.Order.{Order}
 use Rattle.ciel_task_order.specs.declared.report.Report.{Report}
 use Rattle.ciel_task_order.specs.declared.shop.Shop.{Shop}
-use Rattle.ciel_task_crew.specs.Crews.{Answers, Fades, FadesEach, Reports, Takes, TellsTask, extended, order_at}
-use Rattle.ciel_task_crew.proofs.ToldTasks.{fades_one}
+use Rattle.ciel_task.specs.Crews.{Answers, Fades, FadesEach, Reports, Takes, TellsTask, extended, order_at}
+use Rattle.ciel_task.proofs.ToldTasks.{fades_one}
 use Rattle.ciel_crew_work.specs.Crewed.{CanBeDone, IsDoneOf, Keeps, KeepsAt, Stands, gathered, lane_told, lanes_told, order_in, orders_of}
 use Rattle.ciel_crew_work.specs.declared.performing.Done.{Done}
 use Rattle.ciel_crew_work.specs.declared.performing.Job.{Job}

@@ -9,8 +9,8 @@ use Rattle.ciel_crew_lanes.specs.Seen.{LaneSeen, lane_at}
 use Rattle.ciel_store.specs.Seen.{SeatSeen}
 use Rattle.ciel_task_order.specs.Shop.{InputsInOrder}
 use Rattle.ciel_task_order.specs.declared.shop.Shop.{Shop}
-use Rattle.ciel_task_crew.specs.Seen.{AllLook}
-use Rattle.ciel_task_crew.proofs.ToldTasks.{seen_as}
+use Rattle.ciel_task.specs.Seen.{AllLook}
+use Rattle.ciel_task.proofs.ToldTasks.{seen_as}
 use Rattle.ciel_crew_work.specs.Crewed.{Keeps, KeepsAt, Stands, lanes_told, orders_of, tools_of}
 use Rattle.ciel_crew_work.specs.declared.performing.Job.{Job}
 use Rattle.ciel_crew_work.specs.declared.performing.Tools.{Tools}

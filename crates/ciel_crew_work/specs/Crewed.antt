@@ -11,7 +11,7 @@ use Rattle.ciel_store.specs.Seen.{SeatSeen}
 use Rattle.ciel_task_order.specs.Shop.{InputsInOrder}
 use Rattle.ciel_task_order.specs.declared.order.Order.{Order}
 use Rattle.ciel_task_order.specs.declared.shop.Shop.{Shop}
-use Rattle.ciel_task_crew.specs.Crews.{Answers, Takes, extended}
+use Rattle.ciel_task.specs.Crews.{Answers, Takes, extended}
 use Rattle.ciel_crew_work.specs.declared.performing.Done.{Done}
 use Rattle.ciel_crew_work.specs.declared.performing.Job.{Job}
 use Rattle.ciel_crew_work.specs.declared.performing.Tools.{Tools}

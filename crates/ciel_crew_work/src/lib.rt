@@ -8,3 +8,6 @@
 pub mod closing;
 pub mod opening;
 pub mod performing;
+
+pub use ciel_task::crew;
+pub use ciel_task_order::{order, report, shop};

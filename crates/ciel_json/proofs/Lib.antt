@@ -1,3 +1,4 @@
+pub use Rattle.sky_base_law.proofs.Lists
 mod Nested
 mod Given
 mod Taken

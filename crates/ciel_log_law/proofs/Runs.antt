@@ -14,14 +14,14 @@ use Rattle.ciel_journal.specs.Job.{Job, Task, of, show}
 use Rattle.ciel_journal.specs.Lawful.{Lawful}
 use Rattle.ciel_journal.proofs.Append.{journal_last, lawful_split}
 use Rattle.ciel_journal.proofs.Unique.{names_determine}
-use Rattle.ciel_master.specs.Taking.{entry_for}
+use Rattle.ciel_run_drive.specs.Taking.{entry_for}
 use Rattle.ciel_master_board.specs.Board as board
 use Rattle.ciel_master_board.specs.Board.{Board, OrderOut, task_key, wait_number}
 use Rattle.ciel_master_board.specs.Moves.{accepted, lost_at, order_for, started}
 use Rattle.ciel_master_board.specs.Reports as rep
 use Rattle.ciel_master_board.specs.Setting.{IsSetting, Setting}
-use Rattle.ciel_master_law.specs.Ends.{IsOrderly, worker_of}
-use Rattle.ciel_master_law.proofs.ShopLaws.{shop_is}
+use Rattle.ciel_run_drive.specs.Ends.{IsOrderly, worker_of}
+use Rattle.ciel_run_drive.proofs.ShopLaws.{shop_is}
 use Rattle.ciel_task_crew.specs.Calls.{Call, Went, given, sent}
 use Rattle.ciel_task_order.specs.Performs.{the_shop}
 use Rattle.ciel_task_order.specs.Shop.{Block}

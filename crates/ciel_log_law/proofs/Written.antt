@@ -21,7 +21,7 @@ use Rattle.ciel_log_law.proofs.Calls.{Grows, paths}
 use Rattle.ciel_log_law.proofs.Pieces.{IsDropped, Piece, Stops, all, cut, cut_dropped, dropped_behind, drops, prefix_behind, prefix_self}
 use Rattle.ciel_log_law.proofs.Runs.{At, runs}
 use Rattle.ciel_log_records.specs.Records.{dropped_record, in_file}
-use Rattle.ciel_master.specs.Seen.{MasterSeen}
+use Rattle.ciel_run_drive.specs.Seen.{MasterSeen}
 use Rattle.ciel_run_drive.specs.Kept.{Kept}
 use Rattle.ciel_run_drive.specs.Moved.{DoesAll}
 use Rattle.ciel_task_crew.specs.Calls.{Call}

@@ -7,7 +7,7 @@ use Rattle.ciel_journal.specs.Journals.{DrivenJournal}
 use Rattle.ciel_log.specs.Logging.{CrewLog, GoesOn}
 use Rattle.ciel_log.specs.Logs.{LogWritten}
 use Rattle.ciel_log.specs.declared.state.LogState.{LogState}
-use Rattle.ciel_master.specs.Seen.{MasterSeen}
+use Rattle.ciel_run_drive.specs.Seen.{MasterSeen}
 use Rattle.ciel_run_drive.specs.Kept.{Kept}
 use Rattle.ciel_run_drive.specs.Moved.{DoesAll}
 use Rattle.ciel_task_crew.specs.Calls.{Call}

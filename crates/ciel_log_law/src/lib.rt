@@ -2,3 +2,6 @@
 #![tactic(auto)]
 
 pub mod law;
+
+pub use ciel_log::{logged, state};
+pub use ciel_run_drive::{draws, drive, master, plan};

@@ -1,3 +1,4 @@
+pub use Rattle.ciel_want.proofs.Rows
 pub mod Pairs
 pub mod StandingSaves
 pub mod TableLookups

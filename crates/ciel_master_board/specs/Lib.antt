@@ -1,3 +1,17 @@
+pub use Rattle.sky_base_law.specs.Tasks
+pub use Rattle.sky_base_law.specs.Sound as BaseLawSound
+pub use Rattle.sky_base_law.specs.NamesLaws
+pub use Rattle.sky_base_law.specs.Lower
+pub use Rattle.ciel_journal.specs.Lawful
+pub use Rattle.ciel_journal.specs.History
+pub use Rattle.ciel_journal.specs.Job
+pub use Rattle.ciel_name.specs.Names
+pub use Rattle.ciel_name.specs.Object
+pub use Rattle.ciel_journal_job.specs.Inner
+pub use Rattle.ciel_journal_job.specs.Report
+pub use Rattle.ciel_journal_job.specs.Real
+pub use Rattle.ciel_table.specs.Seen
+pub use Rattle.ciel_want.specs.Waited
 pub mod Board
 pub mod Moves
 pub mod Reports

@@ -20,7 +20,7 @@ use Rattle.ciel_journal.proofs.Members.{bool_cases}
 use Rattle.ciel_name.specs.Laws.{SpelledDesc}
 use Rattle.ciel_name.specs.Spelled.{AllSpelled, IsName, PairsSpelled, Spelled}
 use Rattle.ciel_name.proofs.PrefixFreeBytes.{held_known}
-use Rattle.ciel_want.specs.Waited.{names_of}
+use Rattle.ciel_master_board.specs.Waited.{names_of}
 use Rattle.ciel_master_board.specs.Board.{start_refs}
 
 each_join : {A : Type 0} (Q : A → Type 0) (xs ys : List A) → t.Each Q xs → t.Each Q ys → t.Each Q (xs ++ ys)

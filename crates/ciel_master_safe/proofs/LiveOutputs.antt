@@ -29,7 +29,7 @@ use Rattle.ciel_table.specs.Seen.{TableSeen, has_place, is_input, is_live_row, r
 use Rattle.ciel_table.specs.declared.row.Row.{Row}
 use Rattle.ciel_table.proofs.ByName.{names_changed}
 use Rattle.ciel_task_order.specs.Views.{P}
-use Rattle.ciel_want.proofs.Rows.{item_at}
+use Rattle.ciel_master_board.proofs.Rows.{item_at}
 use Rattle.ciel_master_safe.specs.Reports.{FitsSafely, names_from, outputs_of}
 use Rattle.ciel_master_safe.specs.Safe.{HasDesc, HasOutputs, RowSafe, Safe, W}
 use Rattle.ciel_master_safe.proofs.TableGrowth.{Grows, all_grow, grows_join}

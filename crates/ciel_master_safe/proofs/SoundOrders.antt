@@ -45,7 +45,7 @@ use Rattle.ciel_task_order.specs.declared.block.Block as rust
 use Rattle.ciel_task_order.specs.declared.block.Held.{Held as HeldOf}
 use Rattle.ciel_task_order.specs.declared.block.Spot as given
 use Rattle.ciel_task_order.specs.declared.order.Order.{Order}
-use Rattle.ciel_want.specs.Waited.{AllKnown, first_needs, first_refs, made_by, needs, needs_at}
+use Rattle.ciel_master_board.specs.Waited.{AllKnown, first_needs, first_refs, made_by, needs, needs_at}
 use Rattle.ciel_master_safe.specs.Laws.{OrderIsGood}
 use Rattle.ciel_master_safe.specs.Safe.{GoesBy, HasDesc, HasOutputs, IsCall, IsStackOf, ObjectSafe, RowSafe, Safe, SavesSafe, Serves, W, WaitSafe}
 use Rattle.ciel_master_safe.proofs.InnerNames.{Once, exec_named, held_named, names_once, once_distinct, start_once, waited_held, waited_named}

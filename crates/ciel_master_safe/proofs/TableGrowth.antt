@@ -29,7 +29,7 @@ use Rattle.ciel_table.specs.declared.wait.Wait.{Wait}
 use Rattle.ciel_table.proofs.ByName.{found_none}
 use Rattle.ciel_table.proofs.Lists.{all_more, all_push}
 use Rattle.ciel_task_order.specs.Views.{P}
-use Rattle.ciel_want.specs.Waited.{AllKnown}
+use Rattle.ciel_master_board.specs.Waited.{AllKnown}
 use Rattle.ciel_master_safe.specs.Safe.{HasDesc, HasOutputs, IsCall, ObjectLies, ObjectSafe, RowSafe, SavesSafe, WaitSafe}
 
 -- ---- look-ups

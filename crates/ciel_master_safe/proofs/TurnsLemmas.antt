@@ -41,7 +41,7 @@ use Rattle.ciel_master_board.proofs.HandedLemmas.{closed_handed, free, lost_hand
 use Rattle.ciel_master_board.proofs.FewerStarts.{Early, Within, done_less, saved_less, start_less}
 use Rattle.ciel_master_board.proofs.StartSums.{all_most}
 use Rattle.ciel_master_board.proofs.WorkMeasure.{fewer_big, fewer_losses, work_big, work_small}
-use Rattle.ciel_want.specs.Waited.{same_id}
+use Rattle.ciel_master_board.specs.Waited.{same_id}
 use Rattle.ciel_master_safe.specs.Reports.{FitsSafely}
 use Rattle.ciel_master_safe.specs.Safe.{IsStackOf, Safe, SavesSafe, W, WaitSafe}
 use Rattle.ciel_master_safe.specs.Turns.{AtWork, Turned, most_waits}

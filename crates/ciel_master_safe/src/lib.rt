@@ -37,3 +37,5 @@ pub fn turns_come_to_an_end()
     ensures report { ReportTurns }
     ensures missed { MissedTurns }
 {}
+
+pub use ciel_task_order::{order, report};

@@ -7,13 +7,13 @@ use Rattle.sky_base_law.specs.Tasks as t
 use Rattle.sky_parse_law.specs.Orderly.{FunctionsAreOrderly}
 use Rattle.sky_plain.specs.Needs as p
 use Rattle.ciel_run_line.specs.Ended.{EndsSo, HasAnswer, ModestRunsAnswer, SomeStays}
-use Rattle.ciel_master_law.specs.Ends.{IsModest, IsOrderly}
+use Rattle.ciel_run_line.specs.Ends.{IsModest, IsOrderly}
 use Rattle.ciel_journal.specs.Entries.{Entry}
 use Rattle.ciel_journal.specs.Journals.{DrivenJournal}
 use Rattle.ciel_run_load.specs.Line.{Input, keys_of}
 use Rattle.ciel_run_load.specs.declared.script.SyntaxKind.{SyntaxKind}
-use Rattle.ciel_master.specs.Seen.{most_descriptions}
-use Rattle.ciel_master.specs.declared.stop.RunEnd.{RunEnd}
+use Rattle.ciel_run_line.specs.Seen.{most_descriptions}
+use Rattle.ciel_run_line.specs.RunEnd.{RunEnd}
 use Rattle.ciel_words.specs.declared.words.Words.{Words}
 use Rattle.line_kit.specs.Gives.{gives}
 use Rattle.sky_parse.specs.Source.{IsScript}

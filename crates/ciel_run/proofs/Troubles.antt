@@ -9,9 +9,9 @@ use Rattle.ciel_io.specs.Kept.{Files}
 use Rattle.ciel_io.specs.Tells.{Tells}
 use Rattle.ciel_io.proofs.Joined.{part_whole}
 use Rattle.ciel_journal.specs.Entries.{Entry}
-use Rattle.ciel_log.specs.Logging.{most}
-use Rattle.ciel_log.specs.Logs.{HasDropped}
-use Rattle.ciel_log.specs.declared.state.LogState.{LogState}
+use Rattle.ciel_run_line.specs.Logging.{most}
+use Rattle.ciel_run_line.specs.Logs.{HasDropped}
+use Rattle.ciel_run_line.specs.LogState.{LogState}
 use Rattle.ciel_run_load.specs.Line.{Input}
 use Rattle.ciel_run_line.specs.Asked.{AsksFor}
 use Rattle.ciel_run_line.specs.Causes.{CauseOf, OfRun}

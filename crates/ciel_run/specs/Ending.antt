@@ -14,10 +14,10 @@ use Rattle.ciel_run_load.specs.Line.{Input}
 use Rattle.ciel_run_load.specs.Reading.{AsksUpTo}
 use Rattle.ciel_run_load.specs.Syntax.{IsSyntaxFault}
 use Rattle.ciel_run_load.specs.declared.script.SyntaxKind.{SyntaxKind}
-use Rattle.ciel_master.specs.declared.entry.Entry.{Entry as Line}
+use Rattle.ciel_run_line.specs.Entry.{Entry as Line}
 use Rattle.ciel_run_log.specs.Text.{journal_text}
 use Rattle.ciel_words.specs.declared.words.Words.{Words}
-use Rattle.ciel_log.specs.declared.state.LogState.{LogState}
+use Rattle.ciel_run_line.specs.LogState.{LogState}
 use Rattle.ciel_run_line.specs.Line.{FitsIn, OfLine, SourceFits, files_of}
 use Rattle.ciel_run_line.specs.Causes.{CauseOf, OfRun}
 use Rattle.ciel_run_line.specs.Ended.{SomeStays}

@@ -43,15 +43,15 @@ use Rattle.ciel_master_board.specs.TurnsLaws as laws
 use Rattle.ciel_master_board.specs.Left.{Has, work}
 use Rattle.ciel_master_board.proofs.HandedLemmas.{had_out}
 use Rattle.ciel_master_board.proofs.StartChoices.{none_can_run, some_is_idle}
-use Rattle.ciel_master_safe.specs.Laws.{GoesStay, GrowsTo, RowsStay, SafeOrders}
-use Rattle.ciel_master_safe.specs.Safe.{GoesBy}
+use Rattle.ciel_task_crew.specs.Laws.{GoesStay, GrowsTo, RowsStay, SafeOrders}
+use Rattle.ciel_task_crew.specs.Safe.{GoesBy}
 use Rattle.std.specs.Option.{option_map}
 use Rattle.sky_base.specs.declared.object.Desc1.{Desc1}
 use Rattle.ciel_table.specs.declared.row.Row.{Row}
-use Rattle.ciel_master_safe.specs.Reports.{FitsSafely}
-use Rattle.ciel_master_safe.specs.Turns as names
-use Rattle.ciel_master_safe.specs.Turns.{AtWork, Turned, most_waits}
-use Rattle.ciel_master_safe.proofs.TurnsLemmas.{plan_same}
+use Rattle.ciel_task_crew.specs.Reports.{FitsSafely}
+use Rattle.ciel_task_crew.specs.Turns as names
+use Rattle.ciel_task_crew.specs.Turns.{AtWork, Turned, most_waits}
+use Rattle.ciel_task_crew.proofs.TurnsLemmas.{plan_same}
 use Rattle.ciel_run_drive.specs.Kept.{left, slots_of}
 use Rattle.ciel_run_drive.specs.Told.{ToldOn}
 use Rattle.ciel_run_drive.specs.Working.{IsSentOf, Working}

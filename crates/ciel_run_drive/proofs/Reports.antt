@@ -34,7 +34,7 @@ use Rattle.ciel_master.specs.Taking.{LearnedFor, now_of}
 use Rattle.ciel_master.specs.declared.stop.Now.{Now}
 use Rattle.ciel_master.specs.declared.stop.RunEnd.{RunEnd}
 use Rattle.ciel_master.specs.declared.stop.Stop.{Stop}
-use Rattle.ciel_master_safe.proofs.TurnsLemmas.{plan_same, starts_same}
+use Rattle.ciel_task_crew.proofs.TurnsLemmas.{plan_same, starts_same}
 use Rattle.ciel_journal_job.specs.Report as report
 use Rattle.ciel_table.specs.declared.refusal.Learn.{Learn}
 use Rattle.ciel_task_order.specs.Performs.{HasRows, IsMissing, OfTask, the_shop}

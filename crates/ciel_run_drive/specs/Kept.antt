@@ -7,7 +7,7 @@ use Rattle.sky_base.specs.See as s
 use Rattle.ciel_journal.specs.History.{Event}
 use Rattle.ciel_journal.specs.Turns.{state_after}
 use Rattle.ciel_master_board.specs.Driving.{Runs}
-use Rattle.ciel_master_safe.specs.Turns.{most_waits}
+use Rattle.ciel_task_crew.specs.Turns.{most_waits}
 use Rattle.ciel_master_law.specs.Ends.{IsOrderly, worker_of}
 use Rattle.ciel_master.specs.Seen.{MasterSeen}
 use Rattle.ciel_task_order.specs.Performs.{the_shop}

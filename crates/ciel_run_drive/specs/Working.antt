@@ -6,8 +6,8 @@ use Rattle.ciel_task_crew.specs.Crews.{order_at}
 use Rattle.ciel_master.specs.Seen.{MasterSeen}
 use Rattle.ciel_master_board.specs.Board.{Board}
 use Rattle.ciel_journal.specs.Job.{In}
-use Rattle.ciel_master_safe.specs.Safe.{GoesBy, Safe}
-use Rattle.ciel_master_safe.specs.Turns.{AtWork}
+use Rattle.ciel_task_crew.specs.Safe.{GoesBy, Safe}
+use Rattle.ciel_task_crew.specs.Turns.{AtWork}
 use Rattle.ciel_task_order.specs.Performs.{HasRows}
 use Rattle.ciel_task_order.specs.Views.{P, out_view}
 use Rattle.ciel_task_order.specs.declared.order.Order.{Order}

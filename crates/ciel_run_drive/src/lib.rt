@@ -8,3 +8,6 @@ pub mod draws;
 pub mod drive;
 pub mod law;
 mod turn;
+
+pub use ciel_master::{entry, master, plan, stop};
+pub use ciel_task_crew::crew;

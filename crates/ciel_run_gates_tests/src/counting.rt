@@ -2,14 +2,14 @@
 
 ghost use Rattle.std.specs.Prelude.{◌≡◌, ◌<◌, ◌^◌, ℕ, IfOk, List, length, map};
 ghost use Rattle.sky_base.specs.JobView.{job_view};
-ghost use Rattle.ciel_run_job.specs.Onward.{IsRead};
+ghost use Rattle.ciel_run_job_tests.specs.Onward.{IsRead};
 ghost use Rattle.ciel_task_order.specs.Shop.{InputsInOrder};
 
 use ciel_master::stop::RunEnd;
+use ciel_run_job_tests::script::script_over;
 use sky_base::job::{Inputs, Job};
 use sky_base::script::Texts;
 use sky_base::text::{Bytes, Txt};
-use sky_machine_test_scripts::script::script_over;
 use std::alloc::Global;
 use std::test::Fail;
 

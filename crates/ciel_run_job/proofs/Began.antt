@@ -10,13 +10,13 @@ use Rattle.ciel_crew_channels.specs.Onward.{IsRead}
 use Rattle.sky_parse_law.specs.Orderly.{FunctionsAreOrderly}
 use Rattle.ciel_master_board.specs.Board.{Board}
 use Rattle.ciel_master_board.specs.Moves.{opened}
-use Rattle.ciel_task_crew.specs.Crews.{order_at}
+use Rattle.ciel_run_drive.specs.Crews.{order_at}
 use Rattle.ciel_run_drive.specs.Kept.{Kept, slots_of}
-use Rattle.ciel_master_law.specs.Ends.{IsOrderly}
-use Rattle.ciel_master_law.proofs.ShopLaws.{shop_is}
-use Rattle.ciel_task_crew.specs.Seen.{CrewSeen}
-use Rattle.ciel_master.specs.Seen.{MasterSeen, plan_view}
-use Rattle.ciel_master.specs.declared.plan.RunPlan.{RunPlan}
+use Rattle.ciel_run_drive.specs.Ends.{IsOrderly}
+use Rattle.ciel_run_drive.proofs.ShopLaws.{shop_is}
+use Rattle.ciel_run_drive.specs.TaskCrewSeen.{CrewSeen}
+use Rattle.ciel_run_drive.specs.Seen.{MasterSeen, plan_view}
+use Rattle.ciel_run_drive.specs.RunPlan.{RunPlan}
 use Rattle.ciel_store.specs.Seen.{SeatSeen}
 use Rattle.ciel_task_order.specs.Performs.{the_shop}
 use Rattle.ciel_task_order.specs.Shop.{InputsInOrder}
@@ -28,8 +28,8 @@ use Rattle.ciel_master_board.proofs.TurnEvents.{opened_runs}
 use Rattle.ciel_run_job.specs.Opened.{IsOpened}
 use Rattle.std.proofs.lemmas.List.{length-map}
 use Rattle.ciel_run_drive.specs.Working.{Working}
-use Rattle.ciel_master_safe.specs.Turns.{AtWork}
-use Rattle.ciel_master_safe.proofs.TurnsLemmas.{opened_works}
+use Rattle.ciel_run_drive.specs.Turns.{AtWork}
+use Rattle.ciel_run_drive.proofs.TurnsLemmas.{opened_works}
 
 -- workers without an order, as the turns see them
 pub none_out : (n : ℕ) → slots_of (replicate n None) ≡ replicate n None

@@ -3,11 +3,11 @@ use Rattle.std.proofs.Common.{◌≡◌, ◌≢◌, ◌⊎◌, ◌+◌, ℕ, zer
 use Rattle.std.proofs.Common.{inl, inr, refl, sym, ap, subst, ◌∙◌, arith, length-append}
 use Rattle.std.proofs.lemmas.List.{length-map}
 use Rattle.sky_base.specs.declared.object.TaskId.{TaskId}
-use Rattle.ciel_task_crew.specs.Crews.{Fades, FadesEach, told_at}
+use Rattle.ciel_run_drive.specs.Crews.{Fades, FadesEach, told_at}
 use Rattle.ciel_run_drive.specs.Told.{ToldBy, ToldOf, ToldOn}
 use Rattle.ciel_journal.specs.Entries.{Entry}
 use Rattle.ciel_journal.specs.Job.{Digest, Task}
-use Rattle.ciel_master.specs.declared.stop.RunEnd.{RunEnd}
+use Rattle.ciel_run_drive.specs.RunEnd.{RunEnd}
 use Rattle.ciel_run_job.specs.Told.{told_of}
 
 abbrev Told : Type 0

@@ -1,3 +1,4 @@
+pub use Rattle.ciel_run_drive.specs.Ends
 pub use Rattle.ciel_run_drive.specs.Ended
 pub use Rattle.ciel_crew_channels.specs.Onward
 pub mod Opened

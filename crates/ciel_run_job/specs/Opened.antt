@@ -6,8 +6,8 @@ use Rattle.sky_base.specs.declared.object.Desc1.{Desc1}
 use Rattle.sky_base.specs.declared.object.Named.{Named}
 use Rattle.ciel_master_board.specs.Moves.{opened}
 use Rattle.ciel_master_board.specs.Reports.{IsNamed}
-use Rattle.ciel_master.specs.Seen.{MasterSeen, plan_view}
-use Rattle.ciel_master.specs.declared.plan.RunPlan.{RunPlan}
+use Rattle.ciel_run_drive.specs.Seen.{MasterSeen, plan_view}
+use Rattle.ciel_run_drive.specs.RunPlan.{RunPlan}
 use Rattle.ciel_store.specs.Seen.{SeatSeen}
 use Rattle.ciel_task_order.specs.declared.shop.Shop.{Shop}
 

@@ -9,4 +9,6 @@ mod gates;
 pub mod opening;
 pub mod run;
 
-pub use ciel_run_drive::law;
+pub use ciel_crew_channels::channels;
+pub use ciel_crew_inline::inline;
+pub use ciel_run_drive::{draws, law};

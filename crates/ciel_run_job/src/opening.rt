@@ -11,10 +11,10 @@ ghost use Rattle.ciel_journal.specs.Job.{Each};
 ghost use Rattle.ciel_task_order.specs.Shop.{InputsInOrder};
 ghost use Rattle.ciel_run_job.specs.Opened.{IsOpened, ShopOf};
 
-use ciel_master::master::Master;
-use ciel_master::plan::RunPlan;
 use ciel_name::name::Namer;
 use ciel_name::object::canon;
+use ciel_run_drive::master::Master;
+use ciel_run_drive::plan::RunPlan;
 use ciel_store::seats::Eye;
 use ciel_store::shelves::Shelves;
 use ciel_task_order::ready::ReadyJob;

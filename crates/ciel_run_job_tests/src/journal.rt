@@ -1,7 +1,7 @@
 // What a journal of the two squares says, by names and marks that were computed apart from the program.
 
 use ciel_master::entry::Entry;
-use ciel_run_drive::draws::state_after;
+use ciel_run_job::draws::state_after;
 use sky_base::name::Name;
 use sky_base::object::TaskId;
 

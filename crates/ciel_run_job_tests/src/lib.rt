@@ -12,3 +12,6 @@ mod journal;
 mod squares;
 #[cfg(test)]
 mod too_many;
+
+pub use ciel_run_job::run;
+pub use sky_machine_test_scripts::script;

@@ -11,7 +11,7 @@ use Rattle.ciel_io.proofs.Joined.{tells_more}
 use Rattle.ciel_journal.specs.Entries.{Entry}
 use Rattle.ciel_log.specs.Logs.{FullAt, HasDropped, LogWritten, Logs, WrittenPart}
 use Rattle.ciel_log.specs.declared.state.LogState.{LogState}
-use Rattle.ciel_log_law.proofs.Files.{changed_at}
+use Rattle.ciel_run_logged.proofs.Files.{changed_at}
 use Rattle.ciel_log_records.specs.Records.{in_file}
 use Rattle.ciel_master.specs.declared.stop.RunEnd.{RunEnd}
 use Rattle.ciel_run_load.specs.Line.{Input}

@@ -3,8 +3,8 @@ use Rattle.std.proofs.Common.{◌≡◌, ◌<◌, ◌≤◌, ◌^◌, ℕ, List,
 use Rattle.std.proofs.Common.{sym, ap, subst, ◌∙◌, arith}
 use Rattle.sky_base.specs.See as s
 use Rattle.sky_base.specs.See.{Answered}
-use Rattle.ciel_run_job.specs.Onward.{IsRead}
-use Rattle.ciel_run_job.specs.Ended.{EndsSo}
+use Rattle.ciel_run_logged.specs.Onward.{IsRead}
+use Rattle.ciel_run_logged.specs.Ended.{EndsSo}
 use Rattle.ciel_journal.specs.Entries.{Entry}
 use Rattle.ciel_run_load.specs.Loading.{IsReadJob}
 use Rattle.ciel_master.specs.declared.stop.RunEnd.{RunEnd}

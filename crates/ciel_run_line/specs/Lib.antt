@@ -1,5 +1,13 @@
-pub use Rattle.ciel_run_job.specs.Ended
-pub use Rattle.ciel_run_job.specs.Told
+pub use Rattle.ciel_run_logged.specs.Ends
+pub use Rattle.ciel_master.specs.declared.stop.RunEnd
+pub use Rattle.ciel_master.specs.Seen
+pub use Rattle.ciel_master.specs.declared.entry.Entry
+pub use Rattle.ciel_master.specs.Views
+pub use Rattle.ciel_log.specs.Logs
+pub use Rattle.ciel_log.specs.declared.state.LogState
+pub use Rattle.ciel_log.specs.Logging
+pub use Rattle.ciel_run_logged.specs.Ended
+pub use Rattle.ciel_run_logged.specs.Told
 pub mod Source
 pub mod Line
 pub mod Runs

@@ -4,7 +4,7 @@ use Rattle.sha1.specs.Sha1.{sha1}
 use Rattle.sha2.specs.Sha256.{sha256}
 use Rattle.sky_base.specs.See as s
 use Rattle.ciel_master_board.specs.Setting.{Setting}
-use Rattle.ciel_master_law.specs.Ends.{IsModest}
+use Rattle.ciel_run_logged.specs.Ends.{IsModest}
 use Rattle.ciel_journal.specs.Entries.{Entry, journal_of}
 use Rattle.ciel_journal.specs.History.{Event, Plan, done, saved, start}
 use Rattle.ciel_journal.specs.Job.{Digest, In, Job, Task, show}

@@ -6,4 +6,6 @@ pub mod answer;
 mod header;
 pub mod lines;
 
-pub use ciel_run_job::law;
+pub use ciel_log::state;
+pub use ciel_master::entry;
+pub use ciel_run_logged::{draws, drive, law, run_job_run};

@@ -3,8 +3,8 @@
 ghost use Rattle.std.specs.Prelude.{◌≡◌, ◌≢◌, ◌≤◌, ℕ, List, [], None, Err, false, IfErr, IfOk, OnOk, drop, length, map};
 ghost use Rattle.sky_base.specs.JobView.{job_view};
 ghost use Rattle.sky_base.specs.See.{Answered as Meant, Means};
-ghost use Rattle.ciel_run_job.specs.Told.{ToldBy};
-ghost use Rattle.ciel_run_job.specs.Told.{told_of};
+ghost use Rattle.ciel_run_logged.specs.Told.{ToldBy};
+ghost use Rattle.ciel_run_logged.specs.Told.{told_of};
 ghost use Rattle.ciel_io.specs.Faults.{HasRisen};
 ghost use Rattle.ciel_io.specs.Tells.{Tells};
 ghost use Rattle.ciel_run_load.specs.Loading.{IsOf};

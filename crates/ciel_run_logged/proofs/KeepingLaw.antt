@@ -9,14 +9,14 @@ use Rattle.ciel_io.specs.Kept.{Appended, AppendedPart, Changes, Files}
 use Rattle.ciel_io.specs.Tells.{Tells}
 use Rattle.ciel_io.proofs.Joined.{tells_more, tells_none}
 use Rattle.ciel_journal.specs.Entries.{Entry}
-use Rattle.ciel_log.specs.Logging.{Adds, AddsAt, CrewLog, GoesOn, LogGoes, LogSeen, Tried, Unasked, failed, full, most, put, short}
-use Rattle.ciel_log.specs.declared.state.LogState.{LogState}
+use Rattle.ciel_log_law.specs.Logging.{Adds, AddsAt, CrewLog, GoesOn, LogGoes, LogSeen, Tried, Unasked, failed, full, most, put, short}
+use Rattle.ciel_log_law.specs.LogState.{LogState}
 use Rattle.ciel_log_law.proofs.Files.{changed_at}
 use Rattle.ciel_log_records.specs.Records.{in_file}
-use Rattle.ciel_master.specs.declared.stop.RunEnd.{RunEnd}
+use Rattle.ciel_log_law.specs.RunEnd.{RunEnd}
 use Rattle.ciel_master_board.specs.Board.{Board}
 use Rattle.ciel_run_logged.specs.Keeping.{AsksOnly, GrowsTo, KeeperSeen, Keeps, StandsSo, ToldBefore}
-use Rattle.ciel_run_drive.specs.Moved.{DoesAll, DoesAllButLast, Ends}
+use Rattle.ciel_log_law.specs.Moved.{DoesAll, DoesAllButLast, Ends}
 use Rattle.ciel_task_crew.specs.Calls.{Call, Went, given, sent, ungiven, unsent}
 use Rattle.ciel_task_order.specs.Views.{P}
 use Rattle.ciel_task_order.specs.declared.shop.Shop.{Shop}

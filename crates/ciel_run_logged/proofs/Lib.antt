@@ -1,2 +1,3 @@
+pub use Rattle.ciel_log_law.proofs.Files
 mod KeepingLaw
 mod WrittenLaw

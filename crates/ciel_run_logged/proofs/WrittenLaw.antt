@@ -6,14 +6,14 @@ use Rattle.ciel_io.specs.Kept.{Files}
 use Rattle.ciel_journal.specs.Entries.{Entry}
 use Rattle.ciel_journal.specs.History.{Plan}
 use Rattle.ciel_journal.specs.Journals.{DrivenJournal}
-use Rattle.ciel_log.specs.Logging.{CrewLog, GoesOn, LogSeen}
-use Rattle.ciel_log.specs.Logs.{LogWritten}
-use Rattle.ciel_log.specs.declared.state.LogState.{LogState}
+use Rattle.ciel_log_law.specs.Logging.{CrewLog, GoesOn, LogSeen}
+use Rattle.ciel_log_law.specs.Logs.{LogWritten}
+use Rattle.ciel_log_law.specs.LogState.{LogState}
 use Rattle.ciel_log_law.specs.Told.{LogTellsJournal}
-use Rattle.ciel_master.specs.Seen.{MasterSeen}
-use Rattle.ciel_master.specs.declared.stop.RunEnd.{RunEnd}
-use Rattle.ciel_run_drive.specs.Kept.{Kept}
-use Rattle.ciel_run_drive.specs.Moved.{DoesAll, Ends}
+use Rattle.ciel_log_law.specs.Seen.{MasterSeen}
+use Rattle.ciel_log_law.specs.RunEnd.{RunEnd}
+use Rattle.ciel_log_law.specs.Kept.{Kept}
+use Rattle.ciel_log_law.specs.Moved.{DoesAll, Ends}
 use Rattle.ciel_run_logged.specs.Keeping.{IfOver}
 use Rattle.ciel_task_crew.specs.Calls.{Call}
 use Rattle.ciel_task_order.specs.Performs.{the_shop}

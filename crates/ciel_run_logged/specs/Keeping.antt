@@ -4,9 +4,9 @@ use Rattle.ciel_io.specs.Faults.{HasRisen}
 use Rattle.ciel_io.specs.HeldFiles.{bytes_at}
 use Rattle.ciel_io.specs.Kept.{Files}
 use Rattle.ciel_io.specs.Tells.{Tells}
-use Rattle.ciel_log.specs.Logging.{most}
-use Rattle.ciel_log.specs.declared.state.LogState.{LogState}
-use Rattle.ciel_master.specs.declared.stop.RunEnd.{RunEnd}
+use Rattle.ciel_log_law.specs.Logging.{most}
+use Rattle.ciel_log_law.specs.LogState.{LogState}
+use Rattle.ciel_log_law.specs.RunEnd.{RunEnd}
 
 -- the fact, where the run came to an answer, a fault, a circle or the loss of all workers
 abbrev pub IfOver : RunEnd → Type 0 → Type 0

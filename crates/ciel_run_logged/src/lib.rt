@@ -6,3 +6,6 @@
 #![tactic(auto)]
 
 pub mod run;
+
+pub use ciel_log_law::{draws, drive};
+pub use ciel_run_job::{law, run as run_job_run};

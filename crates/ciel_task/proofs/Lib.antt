@@ -1,0 +1,1 @@
+pub use Rattle.ciel_task_crew.proofs.ToldTasks

@@ -4,12 +4,12 @@ use Rattle.sky_base.specs.Tree.{Script}
 use Rattle.sky_base.specs.Val.{distinct, refs, same_text}
 use Rattle.sky_base.specs.View.{view}
 use Rattle.sky_base.specs.declared.object.Desc1.{Desc1}
-use Rattle.ciel_task_inputs.specs.Fetched.{TellsFetched}
+use Rattle.ciel_task_exec.specs.Fetched.{TellsFetched}
 use Rattle.ciel_task_exec.specs.Runs.{SeenBy}
 use Rattle.ciel_task_call.specs.Runs.{Ran}
 use Rattle.ciel_store.specs.Seen.{SeatSeen, ShelvesSeen}
-use Rattle.ciel_task_order.specs.declared.order.Order.{Order}
-use Rattle.ciel_task_order.specs.declared.report.Report.{Report}
+use Rattle.ciel_task_exec.specs.Order.{Order}
+use Rattle.ciel_task_exec.specs.Report.{Report}
 
 module _ (digest : List ℕ → List ℕ) (shelves : ShelvesSeen) (sc : Script) (inputs : List (List ℕ × List ℕ)) (order : Order) (eye : SeatSeen)
     (r : Report) where

@@ -4,4 +4,4 @@
 pub mod perform;
 
 pub use ciel_task_crew::crew;
-pub use ciel_task_order::{block, order, report, shop};
+pub use ciel_task_exec::{block, report, shop, task_order_order as order};

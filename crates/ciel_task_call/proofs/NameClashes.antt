@@ -13,7 +13,7 @@ use Rattle.ciel_journal.proofs.Shelved.{fetched_in, learned_in}
 use Rattle.ciel_journal.proofs.Unique.{spawned_end_unique, spawned_to_unique}
 use Rattle.ciel_journal_job.specs.Report as report
 use Rattle.ciel_journal_job.specs.Report.{Clear, ClashAmong, IsMissing, Met, Or, Report, at_first, brought, held_then, made_then, report_of}
-use Rattle.ciel_journal_walks.specs.Laws.{SaysAnd, to_end, to_wait}
+use Rattle.ciel_task_inputs.specs.JournalWalksLaws.{SaysAnd, to_end, to_wait}
 
 module _ {D B : Type 0} (job : Job D) (laws : IsJob job) (inner : Inner D) (knows : Knows job inner) (lower : D → B) (p : Plan)
     (h : List (Event D)) (lawful : Lawful job p h) where

@@ -57,9 +57,9 @@ use Rattle.ciel_task_order.specs.declared.order.Order.{Order}
 use Rattle.ciel_task_order.specs.declared.report.End as rust_end
 use Rattle.ciel_task_order.specs.declared.report.Made.{Made}
 use Rattle.ciel_task_order.specs.declared.report.Report as rust
-use Rattle.ciel_journal_walks.specs.Laws.{Begins}
-use Rattle.ciel_journal_walks.proofs.Right.{held_of}
-use Rattle.ciel_journal_walks.proofs.WalkResults.{missing_one, only_says}
+use Rattle.ciel_task_inputs.specs.JournalWalksLaws.{Begins}
+use Rattle.ciel_task_inputs.proofs.Right.{held_of}
+use Rattle.ciel_task_inputs.proofs.WalkResults.{missing_one, only_says}
 use Rattle.ciel_task_inputs.specs.Brought.{lies_known}
 use Rattle.ciel_task_inputs.proofs.CopiedObjects.{copies_sound}
 use Rattle.ciel_task_inputs.proofs.NameSpots.{spot_at, spot_found}

@@ -18,7 +18,7 @@ use Rattle.sky_base_law.specs.Tasks as t
 use Rattle.sky_state_law.specs.Moves.{EndsAs}
 use Rattle.ciel_task_call.specs.Steps.{stop_of}
 use Rattle.ciel_task_call.specs.Step.{Step}
-use Rattle.sky_machine_show.specs.Shows.{shown_view}
+use Rattle.ciel_task_order.specs.Shows.{shown_view}
 use Rattle.sky_state.specs.Pending.{stand_wait}
 use Rattle.sky_state.specs.Stand.{Stand, low_state}
 use Rattle.sky_state.specs.Stands.{Stands}
@@ -51,7 +51,7 @@ use Rattle.ciel_task_order.specs.declared.block.Held.{Held}
 use Rattle.ciel_task_order.specs.declared.order.Order.{Order}
 use Rattle.ciel_task_order.specs.declared.report.End as rust_end
 use Rattle.ciel_task_order.specs.declared.report.Report as rust
-use Rattle.ciel_journal_walks.specs.Laws.{CameTo}
+use Rattle.ciel_task_inputs.specs.JournalWalksLaws.{CameTo}
 use Rattle.ciel_task_inputs.specs.Copies.{IsCopy}
 use Rattle.ciel_task_inputs.proofs.CopiedObjects.{copy_fetched, copy_seen}
 use Rattle.ciel_task_inputs.proofs.NameSpots.{found_stands, names_brought}

@@ -60,9 +60,9 @@ use Rattle.ciel_task_order.specs.declared.report.Made.{Made}
 use Rattle.ciel_task_order.specs.declared.report.Report as rust
 use Rattle.ciel_task_call.specs.Saying.{SaysWhere}
 use Rattle.ciel_task_call.proofs.Says.{says_where}
-use Rattle.ciel_journal_walks.specs.Laws.{CameTo, SaysAnd, WaitsAt, end_of, object_made, to_end, to_wait}
+use Rattle.ciel_task_inputs.specs.JournalWalksLaws.{CameTo, SaysAnd, WaitsAt, end_of, object_made, to_end, to_wait}
 use Rattle.ciel_want.specs.History.{task_id}
-use Rattle.ciel_journal_walks.proofs.Right.{haves_apart}
+use Rattle.ciel_task_inputs.proofs.Right.{haves_apart}
 use Rattle.ciel_task_inputs.specs.Brought.{lies_known}
 use Rattle.ciel_task_inputs.specs.Copies.{IsCopy}
 use Rattle.ciel_task_inputs.proofs.CopiedObjects.{copies_named, copy_fetched}

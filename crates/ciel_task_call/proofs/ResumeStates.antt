@@ -38,7 +38,7 @@ use Rattle.ciel_task_order.specs.Shop.{InputsInOrder, block_view, shop_setting}
 use Rattle.ciel_task_order.specs.Views.{P, order_view}
 use Rattle.ciel_task_order.specs.declared.block.Block.{Block}
 use Rattle.ciel_task_order.specs.declared.order.Order.{Order}
-use Rattle.ciel_journal_walks.specs.Laws.{Begins}
+use Rattle.ciel_task_inputs.specs.JournalWalksLaws.{Begins}
 use Rattle.ciel_task_inputs.specs.Brought.{lies_known}
 use Rattle.ciel_task_inputs.proofs.BroughtInputs.{order_brings}
 use Rattle.ciel_task_call.specs.Begins.{BeginsAt, IsFrom, IsStartOf}

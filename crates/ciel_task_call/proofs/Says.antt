@@ -3,8 +3,8 @@ use Rattle.std.proofs.Common.{refl}
 use Rattle.sky_base.specs.Name.{digested}
 use Rattle.ciel_journal_job.specs.Inner.{real_inner}
 use Rattle.ciel_journal_job.specs.Real.{back}
-use Rattle.ciel_journal_walks.specs.Laws.{lower, the}
-use Rattle.ciel_journal_walks.proofs.WalkResults.{says_more, walks_true}
+use Rattle.ciel_task_inputs.specs.JournalWalksLaws.{lower, the}
+use Rattle.ciel_task_inputs.proofs.WalkResults.{says_more, walks_true}
 use Rattle.sky_machine_through.specs.Steps.{stop_of}
 use Rattle.ciel_task_call.specs.Saying.{ThroughSays}
 use Rattle.ciel_task_call.proofs.Walks.{walked}

@@ -20,7 +20,7 @@ use Rattle.ciel_store.specs.Seen.{ShelvesSeen}
 use Rattle.ciel_task_order.specs.Orders.{Describes, OfKind, OrderSound, Saved, ShowsMain, names_in}
 use Rattle.ciel_task_order.specs.Views.{P}
 use Rattle.ciel_task_order.specs.declared.order.Order.{Order}
-use Rattle.ciel_journal_walks.specs.Laws.{names_of}
+use Rattle.ciel_task_inputs.specs.JournalWalksLaws.{names_of}
 use Rattle.ciel_task_call.specs.Begins.{BeginsAt, CanStartAt, HasState, IsFrom, IsStartOf}
 
 pub in_end : {A : Type 0} (xs : List A) (y : A) → In y (xs ++ y ∷ [])

@@ -8,8 +8,8 @@ use Rattle.sky_base.specs.Res.{Object}
 use Rattle.sky_base.specs.See.{Job, Around}
 use Rattle.sky_base.specs.Needed.{Task}
 use Rattle.sky_state.specs.Stand.{Stand}
-use Rattle.ciel_journal_walks.specs.Walk as walk
-use Rattle.ciel_journal_walks.specs.Walk.{Walk}
+use Rattle.ciel_task_inputs.specs.Walk as walk
+use Rattle.ciel_task_inputs.specs.Walk.{Walk}
 use Rattle.sky_machine_through.specs.Comes.{with_name}
 use Rattle.sky_machine_through.specs.Steps.{Spawned, stop_of}
 use Rattle.sky_machine_through.specs.Step.{Step}

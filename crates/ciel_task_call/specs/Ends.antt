@@ -25,7 +25,7 @@ use Rattle.ciel_task_order.specs.declared.order.Order.{Order}
 use Rattle.ciel_task_order.specs.declared.report.End.{End}
 use Rattle.ciel_task_order.specs.declared.report.Made.{Made}
 use Rattle.ciel_task_order.specs.declared.report.Report.{Report}
-use Rattle.ciel_journal_walks.specs.Laws.{names_of}
+use Rattle.ciel_task_inputs.specs.JournalWalksLaws.{names_of}
 
 -- a call comes to an object, the root task to an answer
 abbrev pub StepOf : TaskId → Step → Type 0

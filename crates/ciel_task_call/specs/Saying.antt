@@ -12,7 +12,7 @@ use Rattle.sky_base_waves.specs.Seen.{WritesAlike}
 use Rattle.ciel_journal.specs.History.{OpenStart}
 use Rattle.ciel_journal.specs.Job.{Digest}
 use Rattle.ciel_journal_job.specs.Inner.{real_inner}
-use Rattle.ciel_journal_walks.specs.Laws.{Begins, CameTo, SaysAnd, WaitsAt, the, lower, end_of}
+use Rattle.ciel_task_inputs.specs.JournalWalksLaws.{Begins, CameTo, SaysAnd, WaitsAt, the, lower, end_of}
 use Rattle.sky_machine_through.specs.Comes.{with_name}
 use Rattle.sky_machine_through.specs.Steps.{Spawned, stop_of}
 use Rattle.sky_machine_through.specs.Step.{Step}

@@ -10,7 +10,7 @@ use Rattle.sky_base_law.specs.NamesLaws.{ReadsAlike}
 use Rattle.sky_base_known.specs.Data.{data_of}
 use Rattle.sky_state.specs.Stand.{Stand}
 use Rattle.sky_base_waves.specs.Seen.{WritesAlike}
-use Rattle.ciel_journal_walks.specs.Walk.{PassedIn, Walk}
+use Rattle.ciel_task_inputs.specs.Walk.{PassedIn, Walk}
 use Rattle.sky_machine_through.specs.Comes.{with_name}
 use Rattle.sky_machine_through.specs.Steps.{Spawned, stop_of}
 use Rattle.sky_machine_through.specs.Step.{Step}

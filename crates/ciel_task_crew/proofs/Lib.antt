@@ -1,1 +1,2 @@
+pub use Rattle.ciel_master_safe.proofs.TurnsLemmas
 pub mod ToldTasks

@@ -2,8 +2,8 @@
 use Rattle.std.proofs.Common.{List, Option, Some, None, true, inl, inr, refl, sym, ap, ◌∙◌}
 use Rattle.sky_base.specs.declared.object.TaskId.{TaskId}
 use Rattle.ciel_gate.specs.Entered.{IsEntered}
-use Rattle.ciel_task_order.specs.declared.order.Order.{Order}
-use Rattle.ciel_task_order.specs.declared.shop.Shop.{Shop}
+use Rattle.ciel_master_safe.specs.Order.{Order}
+use Rattle.ciel_master_safe.specs.Shop.{Shop}
 use Rattle.ciel_task_crew.specs.Crews.{Fades, extended}
 use Rattle.ciel_task_crew.specs.Seen.{CrewSeen}
 

@@ -1,7 +1,7 @@
 -- What calls of a crew did, one after another.
 use Rattle.std.specs.Prelude.{◌≡◌, List, [], ◌∷◌, Result, Ok, Err}
-use Rattle.ciel_task_order.specs.declared.order.Order.{Order}
-use Rattle.ciel_task_order.specs.declared.report.Report.{Report}
+use Rattle.ciel_master_safe.specs.Order.{Order}
+use Rattle.ciel_master_safe.specs.Report.{Report}
 
 -- an order was sent, or wasn't for want of memory; a report was given, or none was for want of memory
 pub data Call : Type 0 where

@@ -4,12 +4,12 @@ use Rattle.sky_base.specs.JobView.{job_view}
 use Rattle.sky_base.specs.KitView.{Gives}
 use Rattle.sky_base.specs.declared.object.TaskId.{TaskId}
 use Rattle.ciel_master_safe.specs.Performs.{PerformsSafely}
-use Rattle.ciel_task_order.specs.Orders.{OrderSound}
-use Rattle.ciel_task_order.specs.Performs.{Performs}
-use Rattle.ciel_task_order.specs.Places.{PlacesSound}
-use Rattle.ciel_task_order.specs.declared.order.Order.{Order}
-use Rattle.ciel_task_order.specs.declared.report.Report.{Report}
-use Rattle.ciel_task_order.specs.declared.shop.Shop.{Shop}
+use Rattle.ciel_master_safe.specs.Orders.{OrderSound}
+use Rattle.ciel_master_safe.specs.TaskOrderPerforms.{Performs}
+use Rattle.ciel_master_safe.specs.Places.{PlacesSound}
+use Rattle.ciel_master_safe.specs.Order.{Order}
+use Rattle.ciel_master_safe.specs.Report.{Report}
+use Rattle.ciel_master_safe.specs.Shop.{Shop}
 
 -- ---- orders, by worker
 

@@ -3,13 +3,13 @@ use Rattle.std.specs.Prelude.{ℕ, List, Some, length}
 use Rattle.sky_base.specs.JobView.{job_view}
 use Rattle.sky_base.specs.Tree.{Script}
 use Rattle.sky_base.specs.declared.object.Desc1.{Desc1}
-use Rattle.ciel_master_board.specs.Board.{Board, FollowerOf}
+use Rattle.ciel_master_safe.specs.Board.{Board, FollowerOf}
 use Rattle.ciel_journal.specs.Job.{In}
 use Rattle.ciel_master_safe.specs.Safe.{Safe}
 use Rattle.ciel_store.specs.Seen.{ShelvesSeen}
-use Rattle.ciel_task_order.specs.Views.{P, out_view}
-use Rattle.ciel_task_order.specs.declared.order.Order.{Order}
-use Rattle.ciel_task_order.specs.declared.shop.Shop.{Shop}
+use Rattle.ciel_master_safe.specs.Views.{P, out_view}
+use Rattle.ciel_master_safe.specs.Order.{Order}
+use Rattle.ciel_master_safe.specs.Shop.{Shop}
 
 -- in a state of a master that is safe for this shop the order is out, and this is the task that follows its own, by its first output.
 -- So where the state follows a history, the task is reached after it

@@ -1,3 +1,8 @@
+pub use Rattle.ciel_master_safe.specs.Reports
+pub use Rattle.ciel_master_safe.specs.Laws
+pub use Rattle.ciel_master_safe.specs.Safe
+pub use Rattle.ciel_master_safe.specs.Turns
+pub use Rattle.ciel_master_safe.specs.Performs
 pub mod Calls
 pub mod Crews
 pub mod Hints

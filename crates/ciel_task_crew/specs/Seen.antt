@@ -2,8 +2,8 @@
 use Rattle.std.specs.Prelude.{◌≡◌, ℕ, ◌<◌, List, Bool, length, slice_index_or, Option}
 use Rattle.sky_base.specs.declared.object.TaskId.{TaskId}
 use Rattle.ciel_store.specs.Seen.{SeatSeen}
-use Rattle.ciel_task_order.specs.declared.order.Order.{Order}
-use Rattle.ciel_task_order.specs.declared.shop.Shop.{Shop}
+use Rattle.ciel_master_safe.specs.Order.{Order}
+use Rattle.ciel_master_safe.specs.Shop.{Shop}
 
 -- the shop; the order of each worker that has one, whose report wasn't given yet; for each worker the tasks that its gate tells, or will have
 -- told; and whether no call has failed

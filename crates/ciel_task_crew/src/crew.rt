@@ -2,16 +2,16 @@
 
 ghost use Rattle.std.specs.Prelude.{◌≡◌, ◌<◌, ℕ, Bool, true, List, Option, Some, None, IfOk, OnOk, length, map, slice_set};
 ghost use Rattle.sky_base.specs.declared.object.TaskId.{TaskId};
-ghost use Rattle.ciel_task_order.specs.declared.order.Order.{Order as OrderSeen};
-ghost use Rattle.ciel_task_order.specs.declared.shop.Shop.{Shop};
+ghost use Rattle.ciel_master_safe.specs.Order.{Order as OrderSeen};
+ghost use Rattle.ciel_master_safe.specs.Shop.{Shop};
 ghost use Rattle.ciel_task_crew.specs.Calls.{Call, next_call, send_call};
 ghost use Rattle.ciel_task_crew.specs.Crews.{FadesEach, IsOut, Reports, Takes, TellsTask, order_at};
 ghost use Rattle.ciel_task_crew.specs.Hints.{LeadsTo};
 
 use ciel_gate::gate::Gate;
+use ciel_master_safe::order::Order;
+use ciel_master_safe::report::Report;
 use ciel_name::name::Namer;
-use ciel_task_order::order::Order;
-use ciel_task_order::report::Report;
 use sky_base::kit::Kit;
 use sky_base::object::Desc1;
 use sky_base::text::Memory;

@@ -3,3 +3,5 @@
 #![tactic(auto)]
 
 pub mod crew;
+
+pub use ciel_master_safe::{orders_are_safe, rows_stay, tasks_stay, turns_come_to_an_end};

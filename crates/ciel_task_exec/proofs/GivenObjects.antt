@@ -22,7 +22,7 @@ use Rattle.sky_base_law.proofs.TaskOutputs.{in_distinct}
 use Rattle.sky_base_known.specs.Known.{KeptObject}
 use Rattle.sky_base_known.specs.Walk.{Row}
 use Rattle.sky_base_waves.specs.Seen.{Sees}
-use Rattle.sky_machine_show.specs.Given.{given_for}
+use Rattle.ciel_task_order.specs.Given.{given_for}
 use Rattle.sky_base_exec.specs.Perform.{all_bytes, bytes_seen, collect, one_more, output_of}
 use Rattle.sky_base_exec.proofs.Lowered.{sees_out}
 use Rattle.ciel_store.specs.Seen.{ShelvesSeen}

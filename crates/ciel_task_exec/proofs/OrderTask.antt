@@ -48,7 +48,7 @@ use Rattle.ciel_task_order.specs.Shop.{InputsInOrder, shop_setting}
 use Rattle.ciel_task_order.specs.Views.{P, order_view}
 use Rattle.ciel_task_order.specs.declared.block.Held as rust
 use Rattle.ciel_task_order.specs.declared.order.Order.{Order}
-use Rattle.ciel_journal_walks.specs.Laws.{Brings}
+use Rattle.ciel_task_inputs.specs.JournalWalksLaws.{Brings}
 use Rattle.ciel_task_inputs.specs.Brought.{lies_known}
 use Rattle.ciel_task_inputs.proofs.BroughtInputs.{named_given, order_brings}
 

@@ -1,2 +1,9 @@
+pub use Rattle.ciel_task_order.specs.declared.report.Report
+pub use Rattle.ciel_task_order.specs.declared.order.Order
+pub use Rattle.ciel_task_order.specs.Shop
+pub use Rattle.ciel_task_order.specs.Places
+pub use Rattle.ciel_task_order.specs.Performs
+pub use Rattle.ciel_task_order.specs.Orders
+pub use Rattle.ciel_task_inputs.specs.Fetched
 pub mod Outputs
 pub mod Runs

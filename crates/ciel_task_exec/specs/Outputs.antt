@@ -11,7 +11,7 @@ use Rattle.sky_base.specs.Val.{Desc, Val, out}
 use Rattle.sky_base.specs.declared.object.Object as rust
 use Rattle.sky_base.specs.declared.fault.Fault.{Fault}
 use Rattle.sky_base_exec.specs.Perform.{made, output_of}
-use Rattle.sky_machine_show.specs.Given.{given_for}
+use Rattle.ciel_task_order.specs.Given.{given_for}
 use Rattle.ciel_name.specs.Object.{object_bytes}
 use Rattle.ciel_store.specs.Seen.{IsPlaceOf, ShelvesSeen}
 use Rattle.ciel_task_inputs.specs.Lies.{object_in}

@@ -6,3 +6,5 @@ pub mod found;
 pub mod make;
 pub mod order;
 mod publish;
+
+pub use ciel_task_order::{block, order as task_order_order, report, shop};

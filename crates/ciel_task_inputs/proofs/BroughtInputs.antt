@@ -15,10 +15,10 @@ use Rattle.sky_base_law.specs.NamesLaws.{Tag, no_name}
 use Rattle.sky_base_law.specs.Tasks as t
 use Rattle.sky_base_law.proofs.Lists.{some_is}
 use Rattle.sky_state_law.specs.Moves.{SeenAs}
-use Rattle.ciel_master_board.specs.Board as board
-use Rattle.ciel_master_board.specs.Board.{brought_names, key_number, spot_of}
-use Rattle.ciel_master_board.specs.Follows.{BroughtFor, FetchedAt, OrderIs, worker_for}
-use Rattle.ciel_master_board.specs.Setting.{HasObject, Setting}
+use Rattle.ciel_task_order.specs.Board as board
+use Rattle.ciel_task_order.specs.Board.{brought_names, key_number, spot_of}
+use Rattle.ciel_task_order.specs.Follows.{BroughtFor, FetchedAt, OrderIs, worker_for}
+use Rattle.ciel_task_order.specs.Setting.{HasObject, Setting}
 use Rattle.ciel_journal.specs.History.{OpenStart, live_if}
 use Rattle.ciel_journal.specs.Job.{Digest, In, Job, Task}
 use Rattle.ciel_journal.specs.Lawful.{Given, HeldAt, least, least_with}

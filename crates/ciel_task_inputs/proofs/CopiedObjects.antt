@@ -15,12 +15,12 @@ use Rattle.sky_base.proofs.Exact.{exact_text}
 use Rattle.sky_base_law.specs.Sound.{SoundObject}
 use Rattle.sky_base_law.specs.Tasks.{Each, In}
 use Rattle.sky_base_law.proofs.Lists.{each_both, some_is}
-use Rattle.ciel_master_board.specs.Board as board
-use Rattle.ciel_master_board.specs.Board.{spot_of}
-use Rattle.ciel_master_board.specs.Follows.{BroughtFor, FetchedAt, OrderIs, worker_for}
-use Rattle.ciel_master_board.specs.Reports.{copy_names}
-use Rattle.ciel_master_board.specs.Setting.{HasObject, Setting}
-use Rattle.ciel_master_board.specs.Sound.{CopyFits}
+use Rattle.ciel_task_order.specs.Board as board
+use Rattle.ciel_task_order.specs.Board.{spot_of}
+use Rattle.ciel_task_order.specs.Follows.{BroughtFor, FetchedAt, OrderIs, worker_for}
+use Rattle.ciel_task_order.specs.Reports.{copy_names}
+use Rattle.ciel_task_order.specs.Setting.{HasObject, Setting}
+use Rattle.ciel_task_order.specs.Sound.{CopyFits}
 use Rattle.ciel_journal.specs.History.{OpenStart}
 use Rattle.ciel_journal.specs.Job as j
 use Rattle.ciel_journal.specs.Job.{Job, Task}

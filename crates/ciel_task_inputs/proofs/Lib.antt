@@ -1,3 +1,5 @@
+pub use Rattle.ciel_journal_walks.proofs.WalkResults
+pub use Rattle.ciel_journal_walks.proofs.Right
 pub mod GatheredInputs
 pub mod Indexes
 pub mod NamedEntries

@@ -8,8 +8,8 @@ use Rattle.sky_base.specs.See.{input_bytes, input_bytes_if}
 use Rattle.sky_base.specs.Val.{same_text}
 use Rattle.sky_base.proofs.Exact.{exact_text}
 use Rattle.sky_base_law.proofs.Lists.{some_is}
-use Rattle.ciel_master_board.specs.Board as board
-use Rattle.ciel_master_board.specs.Board.{brought_names, spot_of}
+use Rattle.ciel_task_order.specs.Board as board
+use Rattle.ciel_task_order.specs.Board.{brought_names, spot_of}
 use Rattle.ciel_journal.specs.Job.{In}
 use Rattle.ciel_table.specs.Named.{found, place_of}
 use Rattle.ciel_task_inputs.specs.Lies.{held_name, object_in}

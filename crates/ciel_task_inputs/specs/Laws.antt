@@ -5,10 +5,10 @@ use Rattle.sky_base.specs.Name.{digested}
 use Rattle.sky_base.specs.See as s
 use Rattle.sky_base.specs.Tree.{Script}
 use Rattle.sky_base_law.specs.Tasks.{Each, In}
-use Rattle.ciel_master_board.specs.Follows.{OrderIs}
-use Rattle.ciel_master_board.specs.Reports.{copy_names}
-use Rattle.ciel_master_board.specs.Setting.{HasObject}
-use Rattle.ciel_master_board.specs.Sound.{CopyFits}
+use Rattle.ciel_task_order.specs.Follows.{OrderIs}
+use Rattle.ciel_task_order.specs.Reports.{copy_names}
+use Rattle.ciel_task_order.specs.Setting.{HasObject}
+use Rattle.ciel_task_order.specs.Sound.{CopyFits}
 use Rattle.ciel_journal.specs.History.{OpenStart}
 use Rattle.ciel_journal.specs.Job as j
 use Rattle.ciel_journal.specs.Lawful.{FetchedFrom, Given, HeldAt}

@@ -1,3 +1,10 @@
+pub use Rattle.ciel_master_board.specs.Board
+pub use Rattle.ciel_master_board.specs.Sound
+pub use Rattle.ciel_master_board.specs.Setting
+pub use Rattle.ciel_master_board.specs.Reports
+pub use Rattle.ciel_master_board.specs.Follows
+pub use Rattle.sky_machine_show.specs.Given
+pub use Rattle.sky_machine_show.specs.Shows
 pub mod Named
 pub mod Orders
 pub mod Shop

@@ -7,12 +7,12 @@ use Rattle.sky_base.specs.Needed as n
 use Rattle.sky_base.specs.Res.{Object}
 use Rattle.sky_base.specs.See as s
 use Rattle.sky_base.specs.Val as v
-use Rattle.sky_base_law.specs.Lower.{low_obj}
-use Rattle.sky_base_law.specs.NamesLaws.{no_name}
-use Rattle.ciel_journal.specs.Job.{Digest, Job}
+use Rattle.ciel_master_board.specs.Lower.{low_obj}
+use Rattle.ciel_master_board.specs.NamesLaws.{no_name}
+use Rattle.ciel_master_board.specs.Job.{Digest, Job}
 use Rattle.ciel_json.specs.Around.{json_around}
-use Rattle.ciel_journal_job.specs.Real.{real_job}
-use Rattle.ciel_name.specs.Object.{object_bytes}
+use Rattle.ciel_master_board.specs.Real.{real_job}
+use Rattle.ciel_master_board.specs.Object.{object_bytes}
 use Rattle.sky_frozen_bytes.specs.Bytes.{frozen_bytes}
 use Rattle.sky_state.specs.Stand.{Stand, low_state}
 

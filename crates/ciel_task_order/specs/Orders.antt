@@ -9,13 +9,13 @@ use Rattle.sky_base.specs.Val.{refs, same_text}
 use Rattle.sky_base.specs.View.{view}
 use Rattle.sky_base.specs.declared.object.Desc1.{Desc1}
 use Rattle.sky_base.specs.declared.object.TaskId.{TaskId}
-use Rattle.sky_base_law.specs.Sound.{SoundObject}
-use Rattle.sky_base_law.specs.Tasks.{Each, In}
+use Rattle.ciel_master_board.specs.BaseLawSound.{SoundObject}
+use Rattle.ciel_master_board.specs.Tasks.{Each, In}
 use Rattle.sky_state.specs.Fits.{Fits}
 use Rattle.sky_state.specs.Pending.{pending_in, stand_wait}
 use Rattle.sky_state.specs.Stand.{Stand}
 use Rattle.sky_state.specs.Start.{CanStart}
-use Rattle.ciel_name.specs.Names.{first_output}
+use Rattle.ciel_master_board.specs.Names.{first_output}
 use Rattle.ciel_store.specs.Seen.{IsPlaceOf, PlaceSeen, ShelvesSeen}
 use Rattle.ciel_task_order.specs.declared.block.Block.{Block}
 use Rattle.ciel_task_order.specs.declared.block.Held.{Held}

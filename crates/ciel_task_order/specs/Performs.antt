@@ -8,7 +8,7 @@ use Rattle.sky_base.specs.See as s
 use Rattle.sky_base.specs.Val.{Desc, call, out}
 use Rattle.sky_base.specs.declared.object.Desc1.{Desc1}
 use Rattle.sky_base.specs.declared.object.TaskId.{TaskId}
-use Rattle.sky_base_law.specs.Tasks.{Each}
+use Rattle.ciel_master_board.specs.Tasks.{Each}
 use Rattle.sky_machine_show.specs.Shows.{shown_view}
 use Rattle.sky_state.specs.Pending.{all_refs}
 use Rattle.ciel_master_board.specs.Board.{Board, find_order, shelf, spot_of, start_refs}
@@ -18,15 +18,15 @@ use Rattle.ciel_master_board.specs.Reports.{report_view}
 use Rattle.ciel_master_board.specs.Setting.{Setting}
 use Rattle.ciel_master_board.specs.Sound as board
 use Rattle.ciel_master_board.specs.Sound.{own_name}
-use Rattle.ciel_journal.specs.History.{Event, OpenStart, Plan, after, find_open, standing}
-use Rattle.ciel_journal.specs.Job.{Digest, In}
-use Rattle.ciel_journal.specs.Lawful.{Allowed, Lawful, NoClash}
+use Rattle.ciel_master_board.specs.History.{Event, OpenStart, Plan, after, find_open, standing}
+use Rattle.ciel_master_board.specs.Job.{Digest, In}
+use Rattle.ciel_master_board.specs.Lawful.{Allowed, Lawful, NoClash}
 use Rattle.ciel_json.specs.Around.{json_around}
-use Rattle.ciel_journal_job.specs.Report.{FirstApart, Says, report_of}
+use Rattle.ciel_master_board.specs.Report.{FirstApart, Says, report_of}
 use Rattle.ciel_store.specs.Seen.{SeatSeen}
 use Rattle.ciel_store.specs.declared.loss.Loss.{Loss}
-use Rattle.ciel_table.specs.Seen.{Known, TableSeen}
-use Rattle.ciel_want.specs.Waited.{AllKnown}
+use Rattle.ciel_master_board.specs.Seen.{Known, TableSeen}
+use Rattle.ciel_master_board.specs.Waited.{AllKnown}
 use Rattle.ciel_task_order.specs.Shop as shop
 use Rattle.ciel_task_order.specs.Shop.{shop_setting}
 use Rattle.ciel_task_order.specs.Orders.{names_in}

@@ -4,7 +4,7 @@ use Rattle.sky_base.specs.Name.{held_name}
 use Rattle.sky_base.specs.Tree.{Script}
 use Rattle.sky_base.specs.Val.{same_text}
 use Rattle.sky_base.specs.declared.object.TaskId.{TaskId}
-use Rattle.sky_base_law.specs.Tasks.{Each}
+use Rattle.ciel_master_board.specs.Tasks.{Each}
 use Rattle.sky_state.specs.Fits.{Fits}
 use Rattle.sky_state.specs.Pending.{held_in, pending_in, stand_wait}
 use Rattle.ciel_store.specs.Seen.{IsPlaceOf, PlaceSeen, SeatSeen, ShelvesSeen}

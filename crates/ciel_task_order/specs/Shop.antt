@@ -8,8 +8,8 @@ use Rattle.sky_base.specs.Res as logic
 use Rattle.sky_base.specs.See as s
 use Rattle.ciel_master_board.specs.Setting.{Setting}
 use Rattle.ciel_json.specs.Around.{json_around}
-use Rattle.ciel_journal_job.specs.Inner.{real_inner}
-use Rattle.ciel_journal_job.specs.Real.{back}
+use Rattle.ciel_master_board.specs.Inner.{real_inner}
+use Rattle.ciel_master_board.specs.Real.{back}
 use Rattle.ciel_store.specs.Seen.{PlaceSeen}
 use Rattle.ciel_task_order.specs.Named.{by_names, object_by_names, shop_job, state_by_names}
 use Rattle.ciel_task_order.specs.declared.block.Block as rust

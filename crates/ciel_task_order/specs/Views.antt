@@ -2,7 +2,7 @@
 use Rattle.std.specs.Prelude.{List, [], ◌∷◌, map}
 use Rattle.ciel_master_board.specs.Board as board
 use Rattle.ciel_master_board.specs.Reports as reports
-use Rattle.ciel_journal.specs.Job.{Digest}
+use Rattle.ciel_master_board.specs.Job.{Digest}
 use Rattle.ciel_store.specs.Seen.{PlaceSeen}
 use Rattle.ciel_task_order.specs.declared.block.Block.{Block}
 use Rattle.ciel_task_order.specs.declared.block.Held.{Held}

@@ -7,3 +7,5 @@ pub mod order;
 pub mod ready;
 pub mod report;
 pub mod shop;
+
+pub use sky_machine_show::given;

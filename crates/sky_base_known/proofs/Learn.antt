@@ -2,7 +2,7 @@
 use Rattle.std.proofs.Common.{◌≡◌, ◌≤◌, List, [], ◌∷◌, ◌++◌, length, Bool, true, false, ◌||◌, Option, Some, None, ◌⊎◌, inl, inr, nat_lt, refl, sym}
 use Rattle.std.proofs.Common.{ap, subst, ◌∙◌, ltb-false}
 use Rattle.sky_base.specs.Val.{same_text, same_desc, stands_in}
-use Rattle.sky_base_law.specs.Tasks.{In}
+use Rattle.ciel_json.specs.Tasks.{In}
 use Rattle.sky_base.proofs.Exact.{self_text, self_desc}
 use Rattle.sky_base_known.specs.Walk.{Row, is_held, in_room, if_new, learn_to, most_rows}
 

@@ -3,9 +3,9 @@ use Rattle.std.proofs.Common.{◌≡◌, ◌<◌, ℕ, zero, suc, List, [], ◌�
 use Rattle.std.proofs.Common.{subst, ◌∙◌, arith}
 use Rattle.sky_base.specs.Val.{known, same_text, same_desc}
 use Rattle.sky_base.specs.See.{slot}
-use Rattle.sky_base_law.specs.Tasks.{In, Apart}
+use Rattle.ciel_json.specs.Tasks.{In, Apart}
 use Rattle.sky_base.proofs.Exact.{exact_text, self_text, exact_desc, self_desc}
-use Rattle.sky_base_law.proofs.Lists.{some_is}
+use Rattle.ciel_json.proofs.Lists.{some_is}
 use Rattle.sky_base_known.specs.Walk.{Row, number_of, Numbers}
 use Rattle.sky_base_known.specs.Number.{index_if, index_of, tag_of}
 

@@ -8,7 +8,7 @@ use Rattle.sky_base.proofs.Exact.{exact_text, exact_desc}
 use Rattle.sky_base_known.specs.HeldView.{row_of, rows_of}
 use Rattle.sky_base_known.specs.declared.rows.Held.{Held}
 use Rattle.sky_base_known.specs.Walk.{Row, is_held, in_room, if_new, learn_to, most_rows}
-use Rattle.sky_base_law.specs.Tasks.{In, Apart}
+use Rattle.ciel_json.specs.Tasks.{In, Apart}
 use Rattle.sky_base_known.proofs.Learn.{most_is}
 use Rattle.sky_base_known.proofs.Learn.{in_end}
 use Rattle.sky_base_known.proofs.Numbers.{got_in, index_at}

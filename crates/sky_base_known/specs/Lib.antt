@@ -1,3 +1,5 @@
+pub use Rattle.ciel_json.specs.Read
+pub use Rattle.ciel_json.specs.Text
 pub mod Walk
 pub mod RowCode
 pub mod Data

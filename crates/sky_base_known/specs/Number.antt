@@ -5,7 +5,7 @@ use Rattle.sky_base.specs.Op.{Answer}
 use Rattle.sky_base.specs.Tree.{Script}
 use Rattle.sky_base.specs.Eval.{World}
 use Rattle.sky_base.specs.See.{slot}
-use Rattle.sky_base_law.specs.Tasks.{Apart}
+use Rattle.ciel_json.specs.Tasks.{Apart}
 use Rattle.sky_base_known.specs.Walk.{Row, most_rows}
 
 abbrev pub index_if : Bool → ℕ → ℕ

@@ -6,3 +6,5 @@ pub mod data;
 pub mod objects;
 pub mod rows;
 pub mod sum;
+
+pub use ciel_json::write;

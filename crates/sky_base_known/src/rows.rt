@@ -29,7 +29,7 @@ struct Held {
 
 impl Model for Rows {
     ghost use Rattle.std.specs.Prelude.{◌≤◌, List, length};
-    ghost use Rattle.sky_base_law.specs.Tasks.{Apart};
+    ghost use Rattle.ciel_json.specs.Tasks.{Apart};
     ghost use Rattle.sky_base_known.specs.HeldView.{rows_of, Finds};
     ghost use Rattle.sky_base_known.specs.RowCode.{rows_code};
     ghost use Rattle.sky_base_known.specs.Walk.{Row, most_rows};
@@ -46,7 +46,7 @@ impl Model for Rows {
 impl Rows {
     ghost use Rattle.std.specs.Prelude.{◌≡◌, Option, Some, None, IfOk, IfErr, IfSome, IfNone, MatchOption, slice_get, false, [], ◌∷◌, ◌++◌, ◌<◌, ◌≤◌};
     ghost use Rattle.std.specs.Prelude.{length};
-    ghost use Rattle.sky_base_law.specs.Tasks.{Apart};
+    ghost use Rattle.ciel_json.specs.Tasks.{Apart};
     ghost use Rattle.sky_base.specs.ObjectView.{desc_view};
     ghost use Rattle.sky_base_known.specs.Walk.{learn_to, is_held, most_rows};
     ghost use Rattle.sky_base_known.specs.Number.{index_of};

@@ -3,7 +3,7 @@ use Rattle.std.specs.Prelude.{◌≡◌, ℕ, List, Option, Some}
 use Rattle.sky_base.specs.Name.{low}
 use Rattle.sky_base.specs.Res.{Object}
 use Rattle.sky_base.specs.See.{Val, Desc, Obj, Job, Around, see}
-use Rattle.ciel_json.specs.Text.{text_of as writes}
+use Rattle.sky_base_known.specs.Text.{text_of as writes}
 use Rattle.sky_base_law.specs.Lower.{low_obj, low_ref}
 use Rattle.sky_base_law.specs.NamesLaws.{Tag, no_name}
 use Rattle.sky_base_law.specs.Tasks.{In}

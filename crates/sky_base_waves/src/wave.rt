@@ -10,15 +10,15 @@ ghost use Rattle.sky_base_waves.specs.WaveView.{FilledBy, ValsFilledBy, PairsFil
 ghost use Rattle.sky_base.specs.Kept.{Kept};
 ghost use Rattle.sky_base.specs.See.{text_of};
 ghost use Rattle.sky_base_known.specs.Data.{data_of};
-ghost use Rattle.ciel_json.specs.Text.{text_of as writes};
+ghost use Rattle.sky_base_known.specs.Text.{text_of as writes};
 
 use crate::known::Known;
-use ciel_json::write::{ToText, to_text};
 use sky_base::fault::{Fault, FaultKind};
 use sky_base::object::Object;
 use sky_base::text::{Bytes, Memory, Txt};
 use sky_base::value::{Pair, Pairs, Vals, Value};
 use sky_base_known::data::read;
+use sky_base_known::write::{ToText, to_text};
 use std::alloc::Global;
 
 /// A fault that has no place in the script.

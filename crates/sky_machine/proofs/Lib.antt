@@ -1,3 +1,4 @@
+pub use Rattle.sky_machine_waits.proofs.Climb
 pub mod InnermostWaits
 pub mod Onward
 pub mod Starts

@@ -3,3 +3,5 @@
 
 pub mod call;
 pub mod postfix;
+
+pub use sky_machine_stmts::{arms, at_once, block, loops, rounds, stmt};

@@ -4,3 +4,5 @@
 
 pub mod code;
 pub mod shape;
+
+pub use sky_base_scope::{ops, places, program, state};

@@ -7,7 +7,7 @@ use Rattle.sky_base.specs.StmtView.{stm_view}
 use Rattle.sky_base.specs.Res.{others, call_open, End, Res, Fin}
 use Rattle.sky_base.specs.Eval.{World, eval, eval_stm, ask, after, body_at, plug}
 use Rattle.sky_base_law.proofs.FormsLaw.{inner}
-use Rattle.sky_base_scope.specs.Plain.{Pairs, Vars}
+use Rattle.sky_machine_code.specs.Plain.{Pairs, Vars}
 use Rattle.sky_machine_entries.specs.Entries.{Form, forms, end_of, wait_of}
 use Rattle.sky_machine_entries.specs.declared.entry.Entry as rust
 use Rattle.sky_machine_entries.specs.declared.control.Control.{Control}

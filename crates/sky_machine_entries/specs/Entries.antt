@@ -8,7 +8,7 @@ use Rattle.sky_base.specs.TreeView.{at, exp_view, exps_view, ands_view, signs_vi
 use Rattle.sky_base.specs.StmtView.{stms_view, arms_view}
 use Rattle.sky_base.specs.Names.{known_of}
 use Rattle.sky_base.specs.Res as logic
-use Rattle.sky_base_scope.specs.Plain.{items}
+use Rattle.sky_machine_code.specs.Plain.{items}
 use Rattle.sky_machine_code.specs.Shapes.{form_view, op_view, rest_view, operands_view, stops_at}
 use Rattle.sky_machine_entries.specs.declared.entry.InForm.{InForm}
 use Rattle.sky_machine_entries.specs.declared.entry.InPostfix.{InPostfix}

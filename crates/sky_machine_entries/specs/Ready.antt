@@ -12,7 +12,7 @@ use Rattle.sky_base.specs.Res.{while_body, repeat_body, repeat_test, for_list, f
 use Rattle.sky_base.specs.View.{view}
 use Rattle.sky_base_law.specs.Opened.{Node, block_node, HasExp, HasExps, HasLinks, HasAnds, HasSteps, HasStm, HasStms, HasArms, HasElse}
 use Rattle.sky_base_law.specs.Nodes.{node_at}
-use Rattle.sky_base_scope.specs.RunView.{KeptVals, KeptPairs}
+use Rattle.sky_machine_code.specs.RunView.{KeptVals, KeptPairs}
 use Rattle.sky_machine_entries.specs.Entries.{Form, forms}
 use Rattle.sky_machine_entries.specs.declared.control.End.{End}
 use Rattle.sky_machine_entries.specs.declared.control.Control.{Control}

@@ -9,8 +9,8 @@ use sky_base::stmt::{Arm, Block, Stmt};
 use sky_base::text::Txt;
 use sky_base::tree::{Expr, Join, SignAt, Step};
 use sky_base::value::{Vals, Value};
-use sky_base_scope::state::State;
 use sky_machine_code::shape::{Op, Operands, PartForm, Rest};
+use sky_machine_code::state::State;
 
 /// Parentheses, whose inner expression is pending.
 #[derive(Drop)]

@@ -9,7 +9,7 @@ ghost use Rattle.sky_base.specs.Res.{visits, fault_at, Fin, gives, Res};
 ghost use Rattle.sky_base.specs.Eval as run;
 ghost use Rattle.sky_base.specs.TreeView.{at};
 ghost use Rattle.sky_base.specs.OpView.{Answers, Exactly};
-ghost use Rattle.sky_base_scope.specs.Plain.{Vars, Val, Answer};
+ghost use Rattle.sky_machine_code.specs.Plain.{Vars, Val, Answer};
 ghost use Rattle.sky_machine_entries.specs.Config.{Run};
 ghost use Rattle.sky_machine_entries.specs.Entries.{end_of};
 ghost use Rattle.sky_machine_entries.specs.Ready.{EndReady};
@@ -19,8 +19,8 @@ use sky_base::fault::{Fault, FaultKind};
 use sky_base::op::OpRefusal;
 use sky_base::text::Memory;
 use sky_base::value::Value;
-use sky_base_scope::ops::truth;
-use sky_base_scope::state::State;
+use sky_machine_code::ops::truth;
+use sky_machine_code::state::State;
 
 /// One visit more, or false where the task has visited 1,000,000 nodes.
 pub fn visit(state: &mut State, line: u32, col: u32) -> bool

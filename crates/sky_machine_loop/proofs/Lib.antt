@@ -1,3 +1,4 @@
+pub use Rattle.sky_machine_calls.proofs.Begun
 pub mod Ends
 pub mod Stopped
 pub mod Steps

@@ -1,2 +1,3 @@
+pub use Rattle.sky_machine_parts.specs.Made
 pub mod Stops
 pub mod Laws

@@ -23,7 +23,12 @@ use sky_base::text::Memory;
 use sky_base::tree::SignAt;
 use sky_base::value::Value;
 use sky_base_scope::state::State;
+use sky_machine_calls::arms::got_arm;
+use sky_machine_calls::at_once::go_stmts;
+use sky_machine_calls::loops::{each, got_list, got_repeat, got_while, test_again};
 use sky_machine_calls::postfix::{Postfix, close, got_arg, got_index, next_step};
+use sky_machine_calls::rounds::turns;
+use sky_machine_calls::stmt::{add, put_index, put_value, set};
 use sky_machine_entries::control::{Control, End};
 use sky_machine_entries::entry::{Entry, InBlock, InForm, InPostfix, InStmt};
 use sky_machine_exprs::chain::{Chain, got_link, next_link};
@@ -31,11 +36,6 @@ use sky_machine_exprs::logic::got_and;
 use sky_machine_exprs::signs::next_signs;
 use sky_machine_parts::made::Ground;
 use sky_machine_parts::parts::got_part;
-use sky_machine_stmts::arms::got_arm;
-use sky_machine_stmts::at_once::go_stmts;
-use sky_machine_stmts::loops::{each, got_list, got_repeat, got_while, test_again};
-use sky_machine_stmts::rounds::turns;
-use sky_machine_stmts::stmt::{add, put_index, put_value, set};
 
 // As many signs as there are fit in memory.
 fn how_many(signs: &[SignAt]) -> usize

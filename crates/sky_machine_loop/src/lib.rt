@@ -6,3 +6,6 @@ pub mod got;
 pub mod law;
 pub mod run;
 pub mod start;
+
+pub use sky_machine_calls::block;
+pub use sky_machine_parts::made;

@@ -25,13 +25,13 @@ use sky_base::stmt::Stmt;
 use sky_base::text::Memory;
 use sky_base::tree::Expr;
 use sky_base_scope::state::State;
+use sky_machine_calls::at_once::stmt_end;
+use sky_machine_calls::stmt::perform;
 use sky_machine_code::code::Code;
 use sky_machine_entries::control::{Control, End, Wait};
 use sky_machine_entries::entry::Entry;
 use sky_machine_entries::list::pop;
 use sky_machine_parts::made::Ground;
-use sky_machine_stmts::at_once::stmt_end;
-use sky_machine_stmts::stmt::perform;
 use std::alloc::Global;
 
 /// What a run has come to.

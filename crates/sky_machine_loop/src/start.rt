@@ -20,11 +20,11 @@ use sky_base::object::Named;
 use sky_base::text::{Memory, Txt};
 use sky_base::value::{Pairs, Vals};
 use sky_base_scope::state::State;
+use sky_machine_calls::block::open_block;
 use sky_machine_code::code::Code;
 use sky_machine_entries::control::{Control, fail};
 use sky_machine_entries::entry::Entry;
 use sky_machine_parts::made::Ground;
-use sky_machine_stmts::block::open_block;
 
 /// How many bodies a task may have open beside its own.
 pub const MOST_OPEN: u32 = 63;

@@ -1,7 +1,7 @@
 -- The tables by which a script is run.
 use Rattle.std.specs.Prelude.{◌≡◌, ℕ, List}
 use Rattle.sky_base.specs.Tree.{Script}
-use Rattle.sky_base_scope.specs.FunPlace.{FindsEach}
+use Rattle.sky_machine_code.specs.FunPlace.{FindsEach}
 use Rattle.sky_machine_code.specs.Numbers.{ends_of, starts_of}
 use Rattle.sky_machine_code.specs.Parts.{Parted}
 

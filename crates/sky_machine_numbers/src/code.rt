@@ -13,8 +13,8 @@ use crate::stmts::number_block;
 use crate::tables::Tables;
 use sky_base::script::{FunDef, Script};
 use sky_base::text::Memory;
-use sky_base_scope::places::Places;
 use sky_machine_code::code::Code;
+use sky_machine_code::places::Places;
 use std::alloc::Global;
 
 /// A script that can be run: with its functions by their names and the numbers of its nodes, and with its nodes by their

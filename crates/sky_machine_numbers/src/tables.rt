@@ -7,9 +7,9 @@ ghost use Rattle.sky_machine_numbers.specs.Tabled.{TablesOf};
 use crate::code::Numbered;
 use crate::nodes::Nodes;
 use sky_base::script::Script;
-use sky_base_scope::places::Places;
-use sky_base_scope::program::Program;
 use sky_machine_code::code::Code;
+use sky_machine_code::places::Places;
+use sky_machine_code::program::Program;
 use std::marker::Model;
 
 /// What is counted once for a script: the place of the first function of each name, for each node the number after all that

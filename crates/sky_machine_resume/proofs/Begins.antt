@@ -17,7 +17,7 @@ use Rattle.sky_machine_entries.specs.Config.{body_in, rest_in}
 use Rattle.sky_machine_entries.specs.Entries.{forms}
 use Rattle.sky_machine_entries.specs.Ready.{AreReady}
 use Rattle.sky_machine_entries.specs.declared.entry.Entry.{Entry}
-use Rattle.sky_machine_calls.proofs.Begun.{body_opened}
+use Rattle.sky_machine_loop.proofs.Begun.{body_opened}
 use Rattle.sky_machine_save.specs.Saving.{AllCanSave}
 use Rattle.sky_state.specs.Stand.{Stand}
 use Rattle.sky_state.specs.Start.{StartsIn, StartsCall}

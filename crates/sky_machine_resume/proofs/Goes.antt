@@ -15,7 +15,7 @@ use Rattle.sky_machine_entries.specs.Ready.{AreReady}
 use Rattle.sky_machine_entries.specs.declared.control.End as rust
 use Rattle.sky_machine_entries.specs.declared.control.Control.{Control}
 use Rattle.sky_machine_entries.specs.declared.entry.Entry as held
-use Rattle.sky_machine_parts.specs.Made.{descs, names, RunsOn}
+use Rattle.sky_machine_loop.specs.Made.{descs, names, RunsOn}
 use Rattle.sky_machine_save.specs.Saving.{AllCanSave}
 use Rattle.sky_state.specs.Chained.{body_places, Formed}
 use Rattle.sky_state.specs.StandView.{spawned_view}

@@ -20,9 +20,9 @@ use sky_base::object::Object;
 use sky_base::text::Memory;
 use sky_base::value::Pairs;
 use sky_base_scope::state::State;
+use sky_machine_loop::block::open_block;
+use sky_machine_loop::made::Ground;
 use sky_machine_numbers::code::Numbered;
-use sky_machine_parts::made::Ground;
-use sky_machine_stmts::block::open_block;
 use sky_state::state::RunState;
 use std::alloc::Global;
 

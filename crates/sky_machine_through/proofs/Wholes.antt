@@ -11,7 +11,7 @@ use Rattle.sky_base.specs.See.{start_st}
 use Rattle.sky_base_law.specs.Tasks.{In, IsBatch, Lone}
 use Rattle.sky_base_law.proofs.CountLaw.{Climbs, climbs_call}
 use Rattle.sky_base_law.proofs.FormsLaw.{Late, Within}
-use Rattle.sky_machine_waits.proofs.Climb.{plug_climbs}
+use Rattle.sky_machine.proofs.Climb.{plug_climbs}
 use Rattle.sky_state.specs.Fits.{Fits, FitsRun}
 use Rattle.sky_state.specs.Stand.{Stand}
 use Rattle.sky_machine.specs.Comes.{over_names, with_name}

@@ -2,7 +2,7 @@
 use Rattle.std.proofs.Common.{◌≡◌, ◌⊎◌, ◌++◌, ◌∙◌, ℕ, List, [], None, Option, Some, map, sym}
 use Rattle.ciel_io.specs.Faults.{HasRisen}
 use Rattle.ciel_io.specs.Tells.{Tells}
-use Rattle.ciel_master.specs.Views.{entry_view}
+use Rattle.ciel_run_line.specs.Views.{entry_view}
 use Rattle.ciel_run_line.specs.Asked.{StopsFor}
 use Rattle.ciel_run_line.specs.Line.{OfLine, OverFiles, files_of, is_traced}
 use Rattle.ciel_run_line.specs.Runs.{EndsShown, IsDriven}

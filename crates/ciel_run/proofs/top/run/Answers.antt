@@ -6,14 +6,14 @@ use Rattle.sky_base.specs.See.{Answered}
 use Rattle.ciel_io.specs.Faults.{HasRisen}
 use Rattle.ciel_io.specs.Tells.{Tells}
 use Rattle.ciel_run_line.specs.Asked.{AsksFor, AsksOf, ShowsResult, StopsFor}
-use Rattle.ciel_log.specs.Logging.{most}
+use Rattle.ciel_run_line.specs.Logging.{most}
 use Rattle.ciel_run_line.specs.Causes.{CauseOf, OfRun}
 use Rattle.ciel_run_line.specs.Keeping.{HasBytes, KeeperSeen, KeepsLog, LogTold}
 use Rattle.ciel_run_line.specs.Source.{over_lines}
 use Rattle.ciel_run_line.specs.Line.{OfLine, files_of, paths_in}
 use Rattle.ciel_run_line.specs.Runs.{EndsShown, IsDriven}
 use Rattle.ciel_run_line.specs.Told.{ToldBy, told_of}
-use Rattle.ciel_master.specs.Views.{entry_view}
+use Rattle.ciel_run_line.specs.Views.{entry_view}
 use Rattle.ciel_run.specs.Ending.{AsksLog, EndCause, IfKeepFault, IfLogFull, LogSays, Writes, WritesNothing}
 use Rattle.ciel_run_log.specs.declared.why.Ended.{Ended}
 use Rattle.ciel_run_log.specs.declared.why.Why.{Why}

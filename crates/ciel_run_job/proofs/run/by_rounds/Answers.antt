@@ -1,7 +1,7 @@
 -- A crew by rounds that was opened is at work, and tells at first what its gates tell.
 use Rattle.std.proofs.Common.{map, ap}
 use Rattle.std.specs.Arc.{arc_value}
-use Rattle.ciel_master.specs.Views.{entry_view}
+use Rattle.ciel_run_drive.specs.Views.{entry_view}
 use Rattle.ciel_run_job.proofs.Began.{kept_of, working_of}
 use Rattle.ciel_run_job.proofs.Lent.{many_after, told_first}
 use Rattle.ciel_run_job.proofs.run.by_rounds.Goals as goal

@@ -2,7 +2,7 @@
 use Rattle.std.proofs.Common.{map, ap, subst, sym}
 use Rattle.sky_base.specs.JobView.{job_view}
 use Rattle.ciel_crew_channels.specs.Onward.{IsRead}
-use Rattle.ciel_master.specs.Views.{entry_view}
+use Rattle.ciel_run_drive.specs.Views.{entry_view}
 use Rattle.ciel_run_job.proofs.Lent.{all_back, others_back, told_back}
 use Rattle.ciel_run_job.proofs.run.run_job.Goals as goal
 

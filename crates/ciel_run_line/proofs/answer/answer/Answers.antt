@@ -4,7 +4,7 @@ use Rattle.sky_base.specs.JobView.{job_view}
 use Rattle.ciel_journal.specs.History.{Plan}
 use Rattle.ciel_journal.specs.Job.{Each}
 use Rattle.ciel_log.specs.declared.state.LogState.{LogState}
-use Rattle.ciel_run_job.specs.Ended.{EndsSo}
+use Rattle.ciel_run_logged.specs.Ended.{EndsSo}
 use Rattle.ciel_master.specs.Views.{entry_view}
 use Rattle.line_kit.specs.Gives.{gives}
 use Rattle.ciel_run_line.specs.Causes.{AnswersSo}

@@ -9,7 +9,7 @@ use Rattle.ciel_journal.specs.Job.{Each}
 use Rattle.ciel_log.specs.Logs.{LogWritten}
 use Rattle.ciel_master.specs.Views.{entry_view}
 use Rattle.ciel_master.specs.declared.stop.RunEnd.{RunEnd}
-use Rattle.ciel_run_job.specs.Ended.{EndsSo}
+use Rattle.ciel_run_logged.specs.Ended.{EndsSo}
 use Rattle.ciel_run_logged.specs.Keeping.{IfOver, KeeperSeen, Keeps}
 use Rattle.ciel_run_line.specs.Causes.{AnswersSo}
 use Rattle.ciel_run_line.specs.Keeping.{KeepsLog, LogTold, header_of}

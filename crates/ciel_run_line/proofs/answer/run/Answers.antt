@@ -1,7 +1,7 @@
 -- The names are those that the line asks for.
 use Rattle.std.proofs.Common.{map, subst, sym}
 use Rattle.sky_base.specs.JobView.{job_view}
-use Rattle.ciel_run_job.specs.Ended.{EndsSo}
+use Rattle.ciel_run_logged.specs.Ended.{EndsSo}
 use Rattle.ciel_master.specs.Seen.{plan_view}
 use Rattle.ciel_master.specs.Views.{entry_view}
 use Rattle.ciel_words.specs.declared.words.NameKind.{NameKind}

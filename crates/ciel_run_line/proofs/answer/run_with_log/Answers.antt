@@ -2,7 +2,7 @@
 use Rattle.std.proofs.Common.{map, subst, sym}
 use Rattle.sky_base.specs.JobView.{job_view}
 use Rattle.ciel_log.specs.Logs.{LogWritten}
-use Rattle.ciel_run_job.specs.Ended.{EndsSo}
+use Rattle.ciel_run_logged.specs.Ended.{EndsSo}
 use Rattle.ciel_run_logged.specs.Keeping.{IfOver}
 use Rattle.ciel_master.specs.Seen.{plan_view}
 use Rattle.ciel_master.specs.Views.{entry_view}

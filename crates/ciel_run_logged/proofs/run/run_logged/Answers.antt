@@ -1,8 +1,8 @@
 -- The gates are those that were lent, and the others; and what the run says of its log stays.
 use Rattle.std.proofs.Common.{map, ap, subst, sym}
 use Rattle.sky_base.specs.JobView.{job_view}
-use Rattle.ciel_crew_channels.specs.Onward.{IsRead}
-use Rattle.ciel_master.specs.Views.{entry_view}
+use Rattle.ciel_run_job.specs.Onward.{IsRead}
+use Rattle.ciel_log_law.specs.Views.{entry_view}
 use Rattle.ciel_run_job.proofs.Lent.{all_back, others_back, still, told_back}
 use Rattle.ciel_run_logged.proofs.run.run_logged.Goals as goal
 

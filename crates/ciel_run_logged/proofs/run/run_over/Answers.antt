@@ -1,7 +1,7 @@
 -- What the keeper tells after a run, and what the log's file does.
 use Rattle.std.proofs.Common.{◌≤◌, ◌∙◌, sym, ap, subst}
-use Rattle.ciel_log.specs.Logging.{LogSeen, most}
-use Rattle.ciel_run_drive.specs.Kept.{Kept}
+use Rattle.ciel_log_law.specs.Logging.{LogSeen, most}
+use Rattle.ciel_log_law.specs.Kept.{Kept}
 use Rattle.ciel_run_logged.proofs.KeepingLaw.{keeper_same, keeps, keeps_so, so_far}
 use Rattle.ciel_run_logged.proofs.WrittenLaw.{written, written_so}
 use Rattle.ciel_run_logged.proofs.run.run_over.Goals as goal

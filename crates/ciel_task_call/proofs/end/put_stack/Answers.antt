@@ -2,7 +2,7 @@ use Rattle.std.proofs.Common.{sym, ap, subst, ◌∙◌}
 use Rattle.sha1.specs.Sha1.{sha1}
 use Rattle.sky_frozen_bytes.specs.Bytes.{frozen_bytes}
 use Rattle.ciel_task_order.specs.declared.block.Block.{Block}
-use Rattle.ciel_journal_walks.specs.Laws.{names_of}
+use Rattle.ciel_task_inputs.specs.JournalWalksLaws.{names_of}
 use Rattle.ciel_task_call.specs.Ends.{LiesAt}
 use Rattle.ciel_task_call.proofs.TaskStart.{names_known}
 use Rattle.ciel_task_call.proofs.end.put_stack.Goals as goal

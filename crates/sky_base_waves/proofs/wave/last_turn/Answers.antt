@@ -2,7 +2,7 @@ use Rattle.std.proofs.Common.{List, ℕ, sym, ap, ◌∙◌}
 use Rattle.sky_base.specs.Val.{refs}
 use Rattle.sky_base.specs.View.{view}
 use Rattle.sky_base.specs.See.{Answered}
-use Rattle.ciel_json.specs.Text.{text_of as writes}
+use Rattle.sky_base_known.specs.Text.{text_of as writes}
 use Rattle.sky_base_waves.proofs.Turns.{last_some, some_refs}
 use Rattle.sky_base_waves.proofs.wave.last_turn.Goals as goal
 

@@ -2,8 +2,8 @@ use Rattle.std.proofs.Common.{List, ℕ, sym, subst, ◌∙◌}
 use Rattle.std.specs.Result.{IfOk}
 use Rattle.sky_base.specs.Val.{refs}
 use Rattle.sky_base.specs.View.{view}
-use Rattle.ciel_json.specs.Read.{reads}
-use Rattle.ciel_json.specs.Text.{text_of as writes}
+use Rattle.sky_base_known.specs.Read.{reads}
+use Rattle.sky_base_known.specs.Text.{text_of as writes}
 use Rattle.sky_base_waves.specs.WaveView.{TurnsSo}
 use Rattle.sky_base_waves.proofs.Turns.{other_turn, some_refs}
 use Rattle.sky_base_waves.proofs.wave.turn.Goals as goal

@@ -1,7 +1,7 @@
 use Rattle.std.proofs.Common.{List, ap, ◌∙◌, length, map, subst, sym}
 use Rattle.std.proofs.lemmas.List.{length-map}
-use Rattle.ciel_task_crew.specs.Crews.{FadesEach}
-use Rattle.ciel_task_crew.specs.Seen.{CrewSeen}
+use Rattle.ciel_crew_work.specs.Crews.{FadesEach}
+use Rattle.ciel_crew_work.specs.Seen.{CrewSeen}
 use Rattle.ciel_crew_work.proofs.CrewSteps.{all_gates}
 use Rattle.ciel_crew_channels.proofs.channels.ChannelsCrew.close.Goals as goal
 

@@ -2,8 +2,8 @@ use Rattle.std.proofs.Common.{None, ap, ◌∙◌, get_or, subst}
 use Rattle.std.specs.Prelude.{IfOk}
 use Rattle.std.specs.Arc.{arc_value}
 use Rattle.std.specs.Vec.{vec_capacity}
-use Rattle.ciel_task_crew.specs.Crews.{Answers, Reports}
-use Rattle.ciel_task_crew.specs.Seen.{CrewSeen}
+use Rattle.ciel_crew_work.specs.Crews.{Answers, Reports}
+use Rattle.ciel_crew_work.specs.Seen.{CrewSeen}
 use Rattle.ciel_crew_work.specs.Crewed.{orders_of}
 use Rattle.ciel_crew_work.proofs.CrewSteps.{out_at, stands_taken, takes_report, takes_told, told_many}
 use Rattle.ciel_crew_channels.proofs.channels.ChannelsCrew.next.Goals as goal

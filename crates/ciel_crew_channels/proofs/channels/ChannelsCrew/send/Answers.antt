@@ -1,8 +1,8 @@
 use Rattle.std.proofs.Common.{ap, refl, subst, sym}
 use Rattle.std.specs.Arc.{arc_value}
 use Rattle.std.specs.Vec.{vec_capacity}
-use Rattle.ciel_task_crew.specs.Crews.{Takes}
-use Rattle.ciel_task_crew.specs.Seen.{CrewSeen}
+use Rattle.ciel_crew_work.specs.Crews.{Takes}
+use Rattle.ciel_crew_work.specs.Seen.{CrewSeen}
 use Rattle.ciel_crew_work.specs.declared.performing.Job.{Job}
 use Rattle.ciel_crew_work.proofs.CrewSteps.{can_be_done, looks_there, none_there, orders_put, sent_told, stands_put, told_many, tools_there}
 use Rattle.ciel_crew_channels.proofs.channels.ChannelsCrew.send.Goals as goal

@@ -1,7 +1,7 @@
 use Rattle.std.proofs.Common.{◌<◌, length, map, slice_set, subst, ap}
 use Rattle.std.specs.Arc.{arc_value}
-use Rattle.ciel_task_crew.specs.Crews.{Reports}
-use Rattle.ciel_task_crew.specs.Seen.{CrewSeen}
+use Rattle.ciel_task.specs.Crews.{Reports}
+use Rattle.ciel_task.specs.Seen.{CrewSeen}
 use Rattle.ciel_crew_inline.specs.Kept.{order_of}
 use Rattle.ciel_crew_inline.proofs.KeptReports.{handed, none_out, stands_handed, taken_is}
 use Rattle.ciel_crew_inline.proofs.inline.InlineCrew.next.Goals as goal

@@ -1,8 +1,8 @@
 use Rattle.std.proofs.Common.{◌<◌, Some, length, map, slice_set, refl, subst, sym, ap, ◌∙◌, arith}
 use Rattle.std.proofs.lemmas.List.{length-set}
 use Rattle.std.specs.Arc.{arc_value}
-use Rattle.ciel_task_crew.specs.Crews.{Answers, TellsTask}
-use Rattle.ciel_task_crew.specs.Seen.{CrewSeen}
+use Rattle.ciel_task.specs.Crews.{Answers, TellsTask}
+use Rattle.ciel_task.specs.Seen.{CrewSeen}
 use Rattle.ciel_crew_inline.proofs.KeptReports.{enters, kept_at, kept_set, looks_there, out_set, stands_after, within}
 use Rattle.ciel_crew_inline.proofs.inline.InlineCrew.send.Goals as goal
 

@@ -1,0 +1,1 @@
+pub use Rattle.ciel_run_job.specs.Onward
