@@ -1,5 +1,7 @@
 -- Records one behind the other in a log's file.
-use Rattle.std.specs.Prelude.{◌≡◌, ◌+◌, ℕ, List, ◌++◌, drop, length}
+use Rattle.std.specs.Prelude.{◌≡◌, ◌+◌, ℕ, List, [], ◌∷◌, ◌++◌, drop, length, take}
+use Rattle.std.specs.List.{flat_map}
+use Rattle.sky_base_law.specs.Tasks.{Each}
 use Rattle.sky_frozen_bytes.specs.Codes.{NoneAs}
 use Rattle.ciel_log_records.specs.Records.{in_file}
 use Rattle.ciel_log_read.specs.Recorded.{FitsBlock}
@@ -13,3 +15,18 @@ pub record StandsAt (log : List ℕ) (at : ℕ) (bytes : List ℕ) (next : ℕ) 
 -- nothing stands there behind its length: the file has ended, or what comes is cut
 abbrev pub NothingAt : List ℕ → ℕ → Type 0
 NothingAt log at = NoneAs in_file FitsBlock (drop at log)
+
+-- from this place on these stand there, one behind the other, and then nothing
+abbrev pub Holds : List ℕ → ℕ → List (List ℕ) → Type 0
+Holds log at [] = NothingAt log at
+Holds log at (bytes ∷ more) = (next : ℕ) × StandsAt log at bytes next × Holds log next more
+
+-- they are told in one way
+abbrev pub OneReading : Type 0
+OneReading = (log : List ℕ) (at : ℕ) (a b : List (List ℕ)) → Holds log at a → Holds log at b → a ≡ b
+
+-- in a file of records that is cut anywhere stand the first ones of them
+abbrev pub CutFile : Type 0
+CutFile =
+    (records : List (List ℕ)) (n : ℕ) → Each FitsBlock records
+    → (whole rest : List (List ℕ)) × (whole ++ rest ≡ records) × Holds (take n (flat_map in_file records)) 0 whole
