@@ -8,11 +8,11 @@ use Rattle.ciel_name.specs.Descs.{IsObjectData, NoObject, fault_bytes}
 use Rattle.ciel_name.specs.Object.{kind_number, object_bytes}
 use Rattle.ciel_name.proofs.Canon.{one_spelling}
 use Rattle.ciel_name.proofs.PrefixFreeBytes.{four_free, split_same}
-use Rattle.sky_frozen_bytes.specs.Codes.{Counted, Fits32, Free, NoneAs, ReadAs}
+use Rattle.sky_frozen_bytes.specs.Codes.{Fits32, Free, NoneAs, ReadAs}
 use Rattle.sky_frozen_bytes.proofs.Codes.{both_free, counted_free, no_second, numbers_free}
 use Rattle.ciel_log_records.specs.Records.{HowEnded, answered, block, counted, end_bytes, failed, made, missing, saved}
-use Rattle.ciel_log_read.specs.Bodies.{IsOf, end_body, end_tag}
-use Rattle.ciel_log_read.specs.Recorded.{FitsBlock, IsEnd, IsMade, IsNamed}
+use Rattle.ciel_log_read.specs.Bodies.{IsOfKind, end_body, end_tag}
+use Rattle.ciel_log_read.specs.Recorded.{FitsBlock, IsEnd, IsOutput, IsNamed}
 use Rattle.ciel_log_read.proofs.Pieces.{blocks_free, inner_free, names_free}
 
 -- ---- things by their first byte
@@ -25,11 +25,11 @@ module _ {A : Type 0} (spell body : A → List ℕ) (tag : A → ℕ) (Is : A �
       let m : mid ≡ body x ++ rest = cc in
       (t, m)
 
-  pub tagged_none : (old mid : List ℕ) (k : ℕ) → old ≡ k ∷ mid → NoneAs body (IsOf tag Is k) mid → NoneAs spell Is old
+  pub tagged_none : (old mid : List ℕ) (k : ℕ) → old ≡ k ∷ mid → NoneAs body (IsOfKind tag Is k) mid → NoneAs spell Is old
   tagged_none old mid k h none x rest p e =
       let t = behind old mid k x rest h e in none x rest (t.0, p) t.1
 
-  pub tagged_free : ((k : ℕ) → Free body (IsOf tag Is k)) → Free spell Is
+  pub tagged_free : ((k : ℕ) → Free body (IsOfKind tag Is k)) → Free spell Is
   tagged_free free x y r s p q e =
       let t = behind (spell x ++ r) (body x ++ r) (tag x) y s (ap (λ b. b ++ r) (is x)) e in
       free (tag x) x y r s (refl, p) (t.0, q) t.1
@@ -80,7 +80,7 @@ one_object (Object.fault f) (Object.fault g) p q e =
     ap Object.fault (faults_free f g [] [] p q (append-nil (fault_bytes f) ∙ b ∙ sym (append-nil (fault_bytes g)))).0
 one_object o p h g e = absurd (omega (arith, ap (λ b. get_or b 0 0) e))
 
-pub objects_free : Free (λ o. block (object_bytes o)) IsMade
+pub objects_free : Free (λ o. block (object_bytes o)) IsOutput
 objects_free = inner_free object_bytes IsObjectData one_object
 
 -- ---- the kinds of ends
@@ -93,20 +93,20 @@ end_is (failed fault) = refl
 end_is (missing name loss) = refl
 
 pub failed_refused : (old bs mid object : List ℕ) → old ≡ bs ++ mid → length bs ≡ 9 → object ≡ 70 ∷ bs → NoObject object
-    → NoneAs end_body (IsOf end_tag IsEnd 4) old
+    → NoneAs end_body (IsOfKind end_tag IsEnd 4) old
 failed_refused old bs mid object e l h none (failed fault) rest p g =
     let t = split_same bs (fault_bytes fault) mid rest l (sym e ∙ g) in none (Object.fault fault) p.1 (ap (λ b. 70 ∷ b) (sym t.0) ∙ sym h)
 failed_refused old bs mid object e l h none how rest p g = absurd (omega (arith, p.0))
 
 pub missing_loss : (old name mid : List ℕ) → ReadAs name_bytes IsNamed old name mid → NoneAs (big_endian 4) Fits32 mid
-    → NoneAs end_body (IsOf end_tag IsEnd 5) old
+    → NoneAs end_body (IsOfKind end_tag IsEnd 5) old
 missing_loss old name mid p none (missing other loss) rest q e =
     no_second name_bytes IsNamed (big_endian 4) Fits32 names_free old name mid p none (other, loss) rest q.1 e
 missing_loss old name mid p none how rest q e = absurd (omega (arith, q.0))
 
-bodies_free : (k : ℕ) → Free end_body (IsOf end_tag IsEnd k)
+bodies_free : (k : ℕ) → Free end_body (IsOfKind end_tag IsEnd k)
 bodies_free k (made os) (made ps) r s p q e =
-    let t = counted_free (λ o. block (object_bytes o)) IsMade objects_free os ps r s p.1 q.1 e in (ap made t.0, t.1)
+    let t = counted_free (λ o. block (object_bytes o)) IsOutput objects_free os ps r s p.1 q.1 e in (ap made t.0, t.1)
 bodies_free k (saved i a) (saved j b) r s p q e =
     let t = both_free (big_endian 4) Fits32 block FitsBlock numbers_free blocks_free (i, a) (j, b) r s p.1 q.1 e in
     (ap (λ (x : ℕ × List ℕ). saved x.0 x.1) t.0, t.1)
@@ -122,5 +122,5 @@ bodies_free k x y r s p q e = absurd (omega (arith, p.0, q.0))
 pub ends_free : Free end_bytes IsEnd
 ends_free = tagged_free end_bytes end_body end_tag IsEnd end_is bodies_free
 
-pub end_none : (old mid : List ℕ) (k : ℕ) → old ≡ k ∷ mid → NoneAs end_body (IsOf end_tag IsEnd k) mid → NoneAs end_bytes IsEnd old
+pub end_none : (old mid : List ℕ) (k : ℕ) → old ≡ k ∷ mid → NoneAs end_body (IsOfKind end_tag IsEnd k) mid → NoneAs end_bytes IsEnd old
 end_none = tagged_none end_bytes end_body end_tag IsEnd end_is

@@ -1,15 +1,14 @@
 -- The bytes of a record, and of a report's end, as a first byte, which tells its kind, and what stands behind it.
-use Rattle.std.specs.Prelude.{◌≡◌, ℕ, List, [], ◌∷◌, ◌++◌}
+use Rattle.std.specs.Prelude.{◌≡◌, ℕ, List, ◌++◌}
 use Rattle.sky_base.specs.Name.{big_endian, canon, name_bytes}
-use Rattle.sky_base.specs.declared.object.TaskId.{TaskId}
 use Rattle.ciel_name.specs.Descs.{fault_bytes}
 use Rattle.ciel_name.specs.Object.{object_bytes}
 use Rattle.ciel_log_records.specs.Records.{HowEnded, answered, block, counted, end_bytes, failed, made, missing, saved, task_bytes}
 use Rattle.ciel_log_read.specs.Recorded.{Recorded, dropped, reported, started}
 
 -- this is the first byte, and it can be written and read again
-abbrev pub IsOf : {A : Type 0} → (A → ℕ) → (A → Type 0) → ℕ → A → Type 0
-IsOf tag Is k x = (tag x ≡ k) × Is x
+abbrev pub IsOfKind : {A : Type 0} → (A → ℕ) → (A → Type 0) → ℕ → A → Type 0
+IsOfKind tag Is k x = (tag x ≡ k) × Is x
 
 abbrev pub record_tag : Recorded → ℕ
 record_tag (started number worker from task) = 83

@@ -43,11 +43,11 @@ IsTask (TaskId.Of name) = IsNamed name
 abbrev pub IsSpawned : Desc (List ℕ) → Type 0
 IsSpawned d = IsDescData d × FitsBlock (canon d)
 
-abbrev pub IsMade : Object (List ℕ) → Type 0
-IsMade o = IsObjectData o × FitsBlock (object_bytes o)
+abbrev pub IsOutput : Object (List ℕ) → Type 0
+IsOutput o = IsObjectData o × FitsBlock (object_bytes o)
 
 abbrev pub IsEnd : HowEnded → Type 0
-IsEnd (made objects) = Counted IsMade objects
+IsEnd (made objects) = Counted IsOutput objects
 IsEnd (saved j stack) = Fits32 j × FitsBlock stack
 IsEnd (answered bytes) = FitsBlock bytes
 IsEnd (failed fault) = Fits32 fault.line × Fits32 fault.col

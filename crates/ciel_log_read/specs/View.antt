@@ -1,5 +1,5 @@
 -- What a record of the code stands for.
-use Rattle.std.specs.Prelude.{List, map}
+use Rattle.std.specs.Prelude.{map}
 use Rattle.sky_base.specs.ObjectView.{desc_view, object_view}
 use Rattle.ciel_log_records.specs.Records.{HowEnded, answered, failed, made, missing, saved}
 use Rattle.ciel_log_read.specs.Recorded.{Recorded, dropped, reported, started}

@@ -1,13 +1,13 @@
 //! The end of a report's record. No room is made for a count before what it counts is there.
 
-ghost use Rattle.std.specs.Prelude.{◌≡◌, ◌++◌, IfErr, IfOk, map};
+ghost use Rattle.std.specs.Prelude.{IfErr, IfOk, map};
 ghost use Rattle.sky_base.specs.ObjectView.{object_view};
 ghost use Rattle.sky_frozen_bytes.specs.Codes.{Counted, NoneAs, ReadAs};
 ghost use Rattle.ciel_name.specs.Object.{object_bytes};
 ghost use Rattle.ciel_name.specs.Spelled.{Refuses};
 ghost use Rattle.ciel_log_records.specs.Records.{block, counted, end_bytes};
-ghost use Rattle.ciel_log_read.specs.Bodies.{IsOf, end_body, end_tag};
-ghost use Rattle.ciel_log_read.specs.Recorded.{FitsBlock, IsEnd, IsMade};
+ghost use Rattle.ciel_log_read.specs.Bodies.{IsOfKind, end_body, end_tag};
+ghost use Rattle.ciel_log_read.specs.Recorded.{FitsBlock, IsEnd, IsOutput};
 ghost use Rattle.ciel_log_read.specs.View.{end_view};
 
 use crate::parts::{read_block, read_name, read_number};
@@ -35,8 +35,8 @@ pub fn read_end(alloc: Global, reader: &mut Reader) -> Result<LoggedEnd, Decode>
 
 /// What stands behind the first byte of an end.
 fn read_kind(alloc: Global, reader: &mut Reader, kind: u8) -> Result<LoggedEnd, Decode>
-    ensures end { IfOk result (λ e. ReadAs end_body (IsOf end_tag IsEnd kind) reader.old (end_view e) reader.new) }
-    ensures refused { IfErr result (λ e. Refuses e (NoneAs end_body (IsOf end_tag IsEnd kind) reader.old)) }
+    ensures end { IfOk result (λ e. ReadAs end_body (IsOfKind end_tag IsEnd kind) reader.old (end_view e) reader.new) }
+    ensures refused { IfErr result (λ e. Refuses e (NoneAs end_body (IsOfKind end_tag IsEnd kind) reader.old)) }
 {
     match kind {
         1 => read_made(alloc, reader),
@@ -50,8 +50,8 @@ fn read_kind(alloc: Global, reader: &mut Reader, kind: u8) -> Result<LoggedEnd, 
 
 /// The objects of a task's outputs.
 fn read_made(alloc: Global, reader: &mut Reader) -> Result<LoggedEnd, Decode>
-    ensures end { IfOk result (λ e. ReadAs end_body (IsOf end_tag IsEnd 1) reader.old (end_view e) reader.new) }
-    ensures refused { IfErr result (λ e. Refuses e (NoneAs end_body (IsOf end_tag IsEnd 1) reader.old)) }
+    ensures end { IfOk result (λ e. ReadAs end_body (IsOfKind end_tag IsEnd 1) reader.old (end_view e) reader.new) }
+    ensures refused { IfErr result (λ e. Refuses e (NoneAs end_body (IsOfKind end_tag IsEnd 1) reader.old)) }
 {
     match read_objects(alloc, reader) {
         Ok(objects) => Ok(LoggedEnd::Made(objects)),
@@ -61,9 +61,9 @@ fn read_made(alloc: Global, reader: &mut Reader) -> Result<LoggedEnd, Decode>
 
 /// Objects, behind their number.
 fn read_objects(alloc: Global, reader: &mut Reader) -> Result<Vec<Object>, Decode>
-    ensures objects { IfOk result (λ os. ReadAs (counted (λ o. block (object_bytes o))) (Counted IsMade) reader.old (map object_view os.items)
+    ensures objects { IfOk result (λ os. ReadAs (counted (λ o. block (object_bytes o))) (Counted IsOutput) reader.old (map object_view os.items)
         reader.new) }
-    ensures refused { IfErr result (λ e. Refuses e (NoneAs (counted (λ o. block (object_bytes o))) (Counted IsMade) reader.old)) }
+    ensures refused { IfErr result (λ e. Refuses e (NoneAs (counted (λ o. block (object_bytes o))) (Counted IsOutput) reader.old)) }
 {
     let Some(count) = reader.number() else {
         return Err(Decode::NotValue);
@@ -83,8 +83,8 @@ fn read_objects(alloc: Global, reader: &mut Reader) -> Result<Vec<Object>, Decod
 
 /// An object whose bytes stand as a block.
 fn read_one(alloc: Global, reader: &mut Reader) -> Result<Object, Decode>
-    ensures object { IfOk result (λ o. ReadAs (λ o. block (object_bytes o)) IsMade reader.old (object_view o) reader.new) }
-    ensures refused { IfErr result (λ e. Refuses e (NoneAs (λ o. block (object_bytes o)) IsMade reader.old)) }
+    ensures object { IfOk result (λ o. ReadAs (λ o. block (object_bytes o)) IsOutput reader.old (object_view o) reader.new) }
+    ensures refused { IfErr result (λ e. Refuses e (NoneAs (λ o. block (object_bytes o)) IsOutput reader.old)) }
 {
     let Some(bytes) = read_block(reader) else {
         return Err(Decode::NotValue);
@@ -97,8 +97,8 @@ fn read_one(alloc: Global, reader: &mut Reader) -> Result<Object, Decode>
 
 /// A wait and a stack.
 fn read_saved(alloc: Global, reader: &mut Reader) -> Result<LoggedEnd, Decode>
-    ensures end { IfOk result (λ e. ReadAs end_body (IsOf end_tag IsEnd 2) reader.old (end_view e) reader.new) }
-    ensures refused { IfErr result (λ e. Refuses e (NoneAs end_body (IsOf end_tag IsEnd 2) reader.old)) }
+    ensures end { IfOk result (λ e. ReadAs end_body (IsOfKind end_tag IsEnd 2) reader.old (end_view e) reader.new) }
+    ensures refused { IfErr result (λ e. Refuses e (NoneAs end_body (IsOfKind end_tag IsEnd 2) reader.old)) }
 {
     let Some(j) = read_number(reader) else {
         return Err(Decode::NotValue);
@@ -111,8 +111,8 @@ fn read_saved(alloc: Global, reader: &mut Reader) -> Result<LoggedEnd, Decode>
 
 /// The answer of the root task.
 fn read_answer(alloc: Global, reader: &mut Reader) -> Result<LoggedEnd, Decode>
-    ensures end { IfOk result (λ e. ReadAs end_body (IsOf end_tag IsEnd 3) reader.old (end_view e) reader.new) }
-    ensures refused { IfErr result (λ e. Refuses e (NoneAs end_body (IsOf end_tag IsEnd 3) reader.old)) }
+    ensures end { IfOk result (λ e. ReadAs end_body (IsOfKind end_tag IsEnd 3) reader.old (end_view e) reader.new) }
+    ensures refused { IfErr result (λ e. Refuses e (NoneAs end_body (IsOfKind end_tag IsEnd 3) reader.old)) }
 {
     match read_bytes(alloc, reader) {
         Ok(bytes) => Ok(LoggedEnd::Answer(bytes)),
@@ -136,8 +136,8 @@ fn read_bytes(alloc: Global, reader: &mut Reader) -> Result<Bytes, Decode>
 
 /// The fault of the root task. It has the bytes that its object has behind the first one.
 fn read_fault(alloc: Global, reader: &mut Reader) -> Result<LoggedEnd, Decode>
-    ensures end { IfOk result (λ e. ReadAs end_body (IsOf end_tag IsEnd 4) reader.old (end_view e) reader.new) }
-    ensures refused { IfErr result (λ e. Refuses e (NoneAs end_body (IsOf end_tag IsEnd 4) reader.old)) }
+    ensures end { IfOk result (λ e. ReadAs end_body (IsOfKind end_tag IsEnd 4) reader.old (end_view e) reader.new) }
+    ensures refused { IfErr result (λ e. Refuses e (NoneAs end_body (IsOfKind end_tag IsEnd 4) reader.old)) }
 {
     let Some(bytes) = reader.array::<9>() else {
         return Err(Decode::NotValue);
@@ -156,8 +156,8 @@ fn read_fault(alloc: Global, reader: &mut Reader) -> Result<LoggedEnd, Decode>
 
 /// The name of what was missing, and the number of the loss.
 fn read_missing(reader: &mut Reader) -> Result<LoggedEnd, Decode>
-    ensures end { IfOk result (λ e. ReadAs end_body (IsOf end_tag IsEnd 5) reader.old (end_view e) reader.new) }
-    ensures refused { IfErr result (λ e. Refuses e (NoneAs end_body (IsOf end_tag IsEnd 5) reader.old)) }
+    ensures end { IfOk result (λ e. ReadAs end_body (IsOfKind end_tag IsEnd 5) reader.old (end_view e) reader.new) }
+    ensures refused { IfErr result (λ e. Refuses e (NoneAs end_body (IsOfKind end_tag IsEnd 5) reader.old)) }
 {
     let Some(name) = read_name(reader) else {
         return Err(Decode::NotValue);

@@ -1,6 +1,6 @@
 //! What records are made of: numbers, blocks and names.
 
-ghost use Rattle.std.specs.Prelude.{◌≡◌, MatchOption, length};
+ghost use Rattle.std.specs.Prelude.{◌≡◌, MatchOption};
 ghost use Rattle.sky_base.specs.Name.{big_endian, name_bytes};
 ghost use Rattle.sky_frozen_bytes.specs.Codes.{Fits32, NoneAs, ReadAs};
 ghost use Rattle.ciel_log_records.specs.Records.{block};

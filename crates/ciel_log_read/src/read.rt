@@ -3,7 +3,7 @@
 ghost use Rattle.std.specs.Prelude.{◌≡◌, IfErr, IfOk};
 ghost use Rattle.sky_frozen_bytes.specs.Codes.{NoneAs, ReadAs};
 ghost use Rattle.ciel_name.specs.Spelled.{Refuses};
-ghost use Rattle.ciel_log_read.specs.Bodies.{IsOf, record_body, record_tag};
+ghost use Rattle.ciel_log_read.specs.Bodies.{IsOfKind, record_body, record_tag};
 ghost use Rattle.ciel_log_read.specs.Recorded.{IsRecord, NoRecord, Recorded, record_bytes};
 ghost use Rattle.ciel_log_read.specs.View.{record_view};
 
@@ -41,8 +41,8 @@ pub fn read_record(alloc: Global, bytes: &[u8]) -> Result<Record, Decode>
 
 /// What stands behind the first byte of a record.
 fn read_kind(alloc: Global, reader: &mut Reader, kind: u8) -> Result<Record, Decode>
-    ensures record { IfOk result (λ r. ReadAs record_body (IsOf record_tag IsRecord kind) reader.old (record_view r) reader.new) }
-    ensures refused { IfErr result (λ e. Refuses e (NoneAs record_body (IsOf record_tag IsRecord kind) reader.old)) }
+    ensures record { IfOk result (λ r. ReadAs record_body (IsOfKind record_tag IsRecord kind) reader.old (record_view r) reader.new) }
+    ensures refused { IfErr result (λ e. Refuses e (NoneAs record_body (IsOfKind record_tag IsRecord kind) reader.old)) }
 {
     match kind {
         b'S' => read_start(reader).ok_or(Decode::NotValue),

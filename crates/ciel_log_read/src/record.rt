@@ -6,6 +6,7 @@ use sky_base::object::{Desc1, Object, TaskId};
 use sky_base::text::Bytes;
 
 /// How an order ended, as the record of its report tells.
+#[derive(Drop)]
 pub enum LoggedEnd {
     /// The task came to its end: the objects of its outputs, in order.
     Made(Vec<Object>),
@@ -19,20 +20,9 @@ pub enum LoggedEnd {
     Missing { name: Name, loss: u32 },
 }
 
-impl Drop for LoggedEnd {
-    fn drop(self) {
-        match self {
-            LoggedEnd::Made(_) => {}
-            LoggedEnd::Saved { j: _, stack: _ } => {}
-            LoggedEnd::Answer(_) => {}
-            LoggedEnd::Fault(_) => {}
-            LoggedEnd::Missing { name: _, loss: _ } => {}
-        }
-    }
-}
-
 /// A report, as its record tells it: the number of its order, the descriptions that were spawned, the names of the objects that were copied,
 /// and how the order ended.
+#[derive(Drop)]
 pub struct LoggedReport {
     pub number: u64,
     pub spawned: Vec<Desc1>,
@@ -40,18 +30,8 @@ pub struct LoggedReport {
     pub end: LoggedEnd,
 }
 
-impl Drop for LoggedReport {
-    fn drop(self) {
-        let LoggedReport {
-            number: _,
-            spawned: _,
-            copied: _,
-            end: _,
-        } = self;
-    }
-}
-
 /// A record of a log, behind its header.
+#[derive(Drop)]
 pub enum Record {
     /// An order went to its worker: its number, the worker, the wait from which its task goes on, and the task.
     Start {
@@ -66,19 +46,4 @@ pub enum Record {
     Dropped {
         number: u64,
     },
-}
-
-impl Drop for Record {
-    fn drop(self) {
-        match self {
-            Record::Start {
-                number: _,
-                worker: _,
-                from: _,
-                task: _,
-            } => {}
-            Record::Report(_) => {}
-            Record::Dropped { number: _ } => {}
-        }
-    }
 }

@@ -1,12 +1,12 @@
 //! The record of a report. No room is made for a count before what it counts is there.
 
-ghost use Rattle.std.specs.Prelude.{◌≡◌, ◌++◌, IfErr, IfOk, map};
+ghost use Rattle.std.specs.Prelude.{IfErr, IfOk, map};
 ghost use Rattle.sky_base.specs.Name.{canon, name_bytes};
 ghost use Rattle.sky_base.specs.ObjectView.{desc_view};
 ghost use Rattle.sky_frozen_bytes.specs.Codes.{Counted, NoneAs, ReadAs};
 ghost use Rattle.ciel_name.specs.Spelled.{Refuses};
 ghost use Rattle.ciel_log_records.specs.Records.{block, counted};
-ghost use Rattle.ciel_log_read.specs.Bodies.{IsOf, record_body, record_tag};
+ghost use Rattle.ciel_log_read.specs.Bodies.{IsOfKind, record_body, record_tag};
 ghost use Rattle.ciel_log_read.specs.Recorded.{IsNamed, IsRecord, IsSpawned};
 ghost use Rattle.ciel_log_read.specs.View.{report_view};
 
@@ -22,8 +22,8 @@ use std::alloc::Global;
 
 /// What stands behind the first byte of a report's record.
 pub fn read_report(alloc: Global, reader: &mut Reader) -> Result<LoggedReport, Decode>
-    ensures report { IfOk result (λ r. ReadAs record_body (IsOf record_tag IsRecord 82) reader.old (report_view r) reader.new) }
-    ensures refused { IfErr result (λ e. Refuses e (NoneAs record_body (IsOf record_tag IsRecord 82) reader.old)) }
+    ensures report { IfOk result (λ r. ReadAs record_body (IsOfKind record_tag IsRecord 82) reader.old (report_view r) reader.new) }
+    ensures refused { IfErr result (λ e. Refuses e (NoneAs record_body (IsOfKind record_tag IsRecord 82) reader.old)) }
 {
     let Some(number) = read_long(reader) else {
         return Err(Decode::NotValue);

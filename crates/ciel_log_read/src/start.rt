@@ -3,7 +3,7 @@
 ghost use Rattle.std.specs.Prelude.{MatchOption};
 ghost use Rattle.sky_frozen_bytes.specs.Codes.{NoneAs, ReadAs};
 ghost use Rattle.ciel_log_records.specs.Records.{task_bytes};
-ghost use Rattle.ciel_log_read.specs.Bodies.{IsOf, record_body, record_tag};
+ghost use Rattle.ciel_log_read.specs.Bodies.{IsOfKind, record_body, record_tag};
 ghost use Rattle.ciel_log_read.specs.Recorded.{IsRecord, IsTask};
 ghost use Rattle.ciel_log_read.specs.View.{record_view};
 
@@ -14,8 +14,8 @@ use sky_base::object::TaskId;
 
 /// What stands behind the first byte of a start's record.
 pub fn read_start(reader: &mut Reader) -> Option<Record>
-    ensures { MatchOption result (NoneAs record_body (IsOf record_tag IsRecord 83) reader.old)
-        (λ r. ReadAs record_body (IsOf record_tag IsRecord 83) reader.old (record_view r) reader.new) }
+    ensures { MatchOption result (NoneAs record_body (IsOfKind record_tag IsRecord 83) reader.old)
+        (λ r. ReadAs record_body (IsOfKind record_tag IsRecord 83) reader.old (record_view r) reader.new) }
 {
     let number = read_long(reader)?;
     let worker = read_number(reader)?;
@@ -42,8 +42,8 @@ fn read_task(reader: &mut Reader) -> Option<TaskId>
 
 /// What stands behind the first byte of the record of a report that was dropped.
 pub fn read_dropped(reader: &mut Reader) -> Option<Record>
-    ensures { MatchOption result (NoneAs record_body (IsOf record_tag IsRecord 68) reader.old)
-        (λ r. ReadAs record_body (IsOf record_tag IsRecord 68) reader.old (record_view r) reader.new) }
+    ensures { MatchOption result (NoneAs record_body (IsOfKind record_tag IsRecord 68) reader.old)
+        (λ r. ReadAs record_body (IsOfKind record_tag IsRecord 68) reader.old (record_view r) reader.new) }
 {
     let number = read_long(reader)?;
     Some(Record::Dropped { number })
