@@ -1,0 +1,4 @@
+pub mod Pieces
+pub mod Ends
+pub mod Records
+pub mod Files
