@@ -127,7 +127,7 @@ module _ {K N R : Type 0} (gives : K → Gives) (digest : N → List ℕ → Lis
           whole_part : WrittenPart D J G m.board.plan header journal (t.log.state ≡ LogState.Failed) (in_file header ++ grown.more)
               → PartOfLog D J G m.board.plan header journal (in_file header ++ grown.more)
           whole_part (inl part) = part
-          whole_part (inr cut) = let bad : LogState.Full has ≡ LogState.Failed = sym e ∙ cut.0 in absurd cc
+          whole_part (inr failed) = let bad : LogState.Full has ≡ LogState.Failed = sym e ∙ failed.0 in absurd cc
 
           tells : (next : List ℕ) → ((rest : List ℕ) × Records D J G [] d.0 (grown.more ++ (in_file next ++ rest))) ⊎ IsDropped D J G next
               → ((rest : List ℕ) × Logs D J G m.board.plan header journal ((in_file header ++ grown.more) ++ (in_file next ++ rest)))
