@@ -9,7 +9,8 @@ use Rattle.sky_base.proofs.Exact.{exact_text, self_text}
 use Rattle.ciel_name.specs.Laws.{SpelledDesc}
 use Rattle.ciel_name.proofs.Canon.{one_canon}
 use Rattle.ciel_journal.specs.Job.{Each, In}
-use Rattle.ciel_log_fits.specs.Early.{StandsWhole, named_view}
+use Rattle.ciel_master_safe.specs.Reports.{StandsWhole}
+use Rattle.ciel_master_board.specs.Reports.{named_view}
 use Rattle.ciel_log_fits.specs.Whole.{NextStands, is_output_in, next_index, with_output}
 
 abbrev D : Type 0

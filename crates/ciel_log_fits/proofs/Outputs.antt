@@ -2,7 +2,7 @@
 use Rattle.std.proofs.Common.{◌≡◌, ◌<◌, ◌-◌, ◌+◌, ℕ, suc, List, [], ◌∷◌, ◌++◌, append_assoc, sym, ap, ◌∙◌, arith}
 use Rattle.sky_base.specs.Name.{digested}
 use Rattle.sky_base.specs.Val.{Val, out}
-use Rattle.ciel_log_fits.specs.Early.{names_from}
+use Rattle.ciel_master_safe.specs.Reports.{names_from}
 
 module _ (digest : List ℕ → List ℕ) (x : List ℕ) (a : Val (List ℕ)) (n : ℕ) where
   pub outputs_step : (k : ℕ) (names new : List (List ℕ)) (d : List ℕ) (all : List (List ℕ)) → k < n → d ≡ digested digest (out x a n k)

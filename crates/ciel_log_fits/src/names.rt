@@ -8,7 +8,8 @@ ghost use Rattle.sky_base.specs.View.{view};
 ghost use Rattle.sky_base.specs.declared.object.Desc1.{Desc1 as DescSeen};
 ghost use Rattle.ciel_name.specs.Laws.{SpelledDesc};
 ghost use Rattle.ciel_journal.specs.Job.{Each};
-ghost use Rattle.ciel_log_fits.specs.Early.{IsNamed, names_from, outputs_of};
+ghost use Rattle.ciel_master_board.specs.Reports.{IsNamed};
+ghost use Rattle.ciel_master_safe.specs.Reports.{names_from, outputs_of};
 ghost use Rattle.ciel_log_fits.specs.Named.{desc_of};
 
 use ciel_name::name::Namer;

@@ -8,7 +8,8 @@ ghost use Rattle.sky_base.specs.Names.{is_among};
 ghost use Rattle.sky_base.specs.ObjectView.{desc_view};
 ghost use Rattle.ciel_name.specs.Laws.{SpelledDesc};
 ghost use Rattle.ciel_journal.specs.Job.{Each};
-ghost use Rattle.ciel_log_fits.specs.Early.{StandsWhole, named_view};
+ghost use Rattle.ciel_master_safe.specs.Reports.{StandsWhole};
+ghost use Rattle.ciel_master_board.specs.Reports.{named_view};
 ghost use Rattle.ciel_log_fits.specs.Whole.{NextStands, is_output_in, next_index, with_output};
 
 use crate::spellings::Spellings;

@@ -45,7 +45,7 @@ impl<'b, 'a> Fitting<'b, 'a> {
     }
 
     /// The script, with the numbers of its nodes.
-    pub fn code(&self) -> &'b Code<'a>
+    pub(crate) fn code(&self) -> &'b Code<'a>
         ensures { result.now ≡ self.now }
     {
         &self.script.code
@@ -59,7 +59,7 @@ impl<'b, 'a> Fitting<'b, 'a> {
     }
 
     /// The names that its functions use.
-    pub fn captures(&self) -> &Captures<'b, 'a>
+    pub(crate) fn captures(&self) -> &Captures<'b, 'a>
         ensures { result.now ≡ self.now }
     {
         &self.captures

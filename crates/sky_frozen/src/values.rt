@@ -48,8 +48,8 @@ pub fn values_are_sound(captures: &Captures, values: &[Value]) -> bool
     true
 }
 
-/// Whether a value keeps the limits of depth and size.
-pub fn is_kept(value: &Value) -> bool
+// Whether a value keeps the limits of depth and size.
+fn is_kept(value: &Value) -> bool
     ensures yes { IsTrue result → Kept (view value.now) }
     ensures no { IsFalse result → Kept (view value.now) → ⊥ }
 {
@@ -100,8 +100,8 @@ fn functions_in_fit(captures: &Captures, pairs: &[Pair]) -> bool
     true
 }
 
-/// Whether the function is one of the script, and uses each name that it captured.
-pub fn takes(captures: &Captures, fun: &Txt, caught: &Pairs) -> bool
+// Whether the function is one of the script, and uses each name that it captured.
+fn takes(captures: &Captures, fun: &Txt, caught: &Pairs) -> bool
     ensures yes { IsTrue result → TakesIf (find_fun fun.now captures.now.funs) caught.now }
     ensures no { IsFalse result → TakesIf (find_fun fun.now captures.now.funs) caught.now → ⊥ }
 {

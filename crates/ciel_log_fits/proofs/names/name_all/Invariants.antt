@@ -4,7 +4,7 @@ use Rattle.ciel_journal.specs.Job.{Each}
 use Rattle.sky_base.specs.ObjectView.{desc_view}
 use Rattle.sky_base.specs.declared.object.Desc1.{Desc1}
 use Rattle.ciel_name.specs.Laws.{SpelledDesc}
-use Rattle.ciel_log_fits.specs.Early.{IsNamed}
+use Rattle.ciel_master_board.specs.Reports.{IsNamed}
 use Rattle.ciel_log_fits.specs.Named.{desc_of}
 use Rattle.ciel_log_fits.proofs.names.name_all.Given as goal
 

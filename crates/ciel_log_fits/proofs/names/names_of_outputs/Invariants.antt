@@ -1,7 +1,7 @@
 -- The names so far, and those of the outputs that are left, are all.
 use Rattle.std.proofs.Common.{◌≡◌, ◌++◌, ◌-◌}
 use Rattle.sky_base.specs.View.{view}
-use Rattle.ciel_log_fits.specs.Early.{names_from}
+use Rattle.ciel_master_safe.specs.Reports.{names_from}
 use Rattle.ciel_log_fits.proofs.names.names_of_outputs.Given as goal
 
 abbrev pub invariant-loop-index : goal.invariant-loop-index

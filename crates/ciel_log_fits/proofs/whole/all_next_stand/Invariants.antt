@@ -3,7 +3,7 @@ use Rattle.std.proofs.Common.{drop}
 use Rattle.sky_base.specs.ObjectView.{desc_view}
 use Rattle.sky_base.specs.declared.object.Named.{Named}
 use Rattle.ciel_journal.specs.Job.{Each}
-use Rattle.ciel_log_fits.specs.Early.{named_view}
+use Rattle.ciel_master_board.specs.Reports.{named_view}
 use Rattle.ciel_log_fits.specs.Whole.{NextStands}
 use Rattle.ciel_log_fits.proofs.whole.all_next_stand.Given as goal
 

@@ -1,7 +1,7 @@
 -- Those so far, and those that are left, are all.
 use Rattle.std.proofs.Common.{◌≡◌, ℕ, List, ◌||◌, drop, map}
 use Rattle.sky_base.specs.Names.{is_among}
-use Rattle.ciel_log_fits.specs.Early.{named_view}
+use Rattle.ciel_master_board.specs.Reports.{named_view}
 use Rattle.ciel_log_fits.specs.Whole.{is_output_in}
 use Rattle.ciel_log_fits.proofs.whole.spellings_of.Given as goal
 
