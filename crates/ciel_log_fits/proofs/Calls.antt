@@ -5,7 +5,7 @@ use Rattle.sky_base.specs.Eval.{find_fun, is_one_of}
 use Rattle.sky_base.specs.Kept.{Kept}
 use Rattle.sky_base.specs.ObjectView.{desc_view}
 use Rattle.sky_base.specs.Tree.{FunDef, Script}
-use Rattle.sky_base.specs.Val.{Val, Vals, Pairs, call, count, dict, fun, list, no_pairs, no_vals, pair, pair_count, same_text, val}
+use Rattle.sky_base.specs.Val.{Vals, Pairs, call, count, dict, fun, list, no_pairs, no_vals, pair, pair_count, same_text, val}
 use Rattle.sky_base.specs.declared.object.Desc1.{Desc1}
 use Rattle.sky_base.specs.declared.object.Named.{Named}
 use Rattle.sky_base_law.specs.Sound.{CallsIf, IsMain, PairsSound, Sound, SoundDesc, SoundVars, TakesIf, ValsSound}

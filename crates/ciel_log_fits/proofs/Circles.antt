@@ -1,6 +1,6 @@
 -- Outputs of which each has its next one are all outputs of their tasks.
-use Rattle.std.proofs.Common.{◌≡◌, ◌<◌, ◌-◌, ◌+◌, ◌^◌, inl, inr, ℕ, zero, suc, List, [], ◌∷◌, map, Bool, true, false, ◌||◌, cond, nat_lt}
-use Rattle.std.proofs.Common.{refl, sym, ap, ◌∙◌, subst, arith, ltb-true, ltb-false}
+use Rattle.std.proofs.Common.{◌≡◌, ◌<◌, ◌-◌, ◌+◌, inl, inr, ℕ, zero, suc, List, [], ◌∷◌, map, Bool, true, false, ◌||◌, cond, nat_lt}
+use Rattle.std.proofs.Common.{refl, sym, ◌∙◌, subst, arith, ltb-true, ltb-false}
 use Rattle.sky_base.specs.Name.{canon}
 use Rattle.sky_base.specs.Names.{is_among}
 use Rattle.sky_base.specs.Val.{Val, Desc, call, input, known, out, same_text}
@@ -109,7 +109,7 @@ module _ (ds : List D) (y : List ℕ) (a : Val (List ℕ)) (n : ℕ)
       let last = n - 1 in
       let is : (last - i) + i ≡ last = omega (arith, below) in
       let end : In (out y a n last) ds =
-          subst (λ j. In (out y a n j) ds) is (up (last - i) i (omega (arith, below)) at) in
+      subst (λ j. In (out y a n j) ds) is (up (last - i) i (omega (arith, below)) at) in
       subst (λ j. In (out y a n j) ds) (next_round n last (omega (arith, below))) (step last end).1
 
   pub all_round : (i : ℕ) → In (out y a n i) ds → (k : ℕ) → k < n → In (out y a n k) ds

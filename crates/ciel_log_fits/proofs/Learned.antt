@@ -1,6 +1,6 @@
 -- The names that have rows once descriptions are learned.
-use Rattle.std.proofs.Common.{◌≡◌, ◌<◌, ℕ, suc, List, [], ◌∷◌, ◌++◌, Bool, true, false, ◌||◌, cond, is_some, Option, Some, None, length, map, inl, inr}
-use Rattle.std.proofs.Common.{refl, sym, ap, ◌∙◌, subst, option_map, IsSome}
+use Rattle.std.proofs.Common.{◌≡◌, ℕ, suc, List, [], ◌∷◌, ◌++◌, Bool, true, false, ◌||◌, cond, is_some, Option, Some, None, map, inl, inr}
+use Rattle.std.proofs.Common.{refl, sym, ap, ◌∙◌, subst, option_map}
 use Rattle.std.specs.BTreeSet.{BTreeSet, Updates, contains}
 use Rattle.std.specs.BTreeMap.{is_at}
 use Rattle.std.specs.List.{AllByRecursion}
@@ -20,7 +20,6 @@ use Rattle.sky_base.proofs.NameTests.{same_test}
 use Rattle.ciel_table.specs.Learning.{learned, new_row, rows_after}
 use Rattle.ciel_table.specs.Named.{place_of}
 use Rattle.ciel_table.specs.Seen.{Known, TableSeen, find, row_name}
-use Rattle.ciel_table.specs.declared.row.Row.{Row}
 use Rattle.ciel_want.specs.Waited.{AllKnown, names_of}
 use Rattle.ciel_master_board.specs.Reports.{learned_all}
 use Rattle.ciel_master_board.specs.Board.{start_refs}

@@ -1,5 +1,5 @@
 -- A report that was read fits, once its parts passed the tests.
-use Rattle.std.proofs.Common.{◌≡◌, ◌<◌, ◌≤◌, ◌+◌, ◌⊎◌, inl, inr, ℕ, zero, suc, List, [], ◌∷◌, ◌++◌, Bool, true, false, ◌||◌, cond, is_some, map, Option, Some, None}
+use Rattle.std.proofs.Common.{◌≡◌, ◌<◌, ◌≤◌, ◌+◌, ◌⊎◌, inl, inr, ℕ, zero, suc, List, [], ◌∷◌, Bool, true, false, ◌||◌, cond, is_some, map, Option, Some, None}
 use Rattle.std.proofs.Common.{option_map, refl, sym, ap, ◌∙◌, subst, arith}
 use Rattle.std.specs.List.{IsDistinct}
 use Rattle.sky_base.specs.Name.{digested}
@@ -12,13 +12,13 @@ use Rattle.sky_base.specs.declared.object.Named.{Named}
 use Rattle.sky_base.specs.declared.object.TaskId.{TaskId}
 use Rattle.sky_base.proofs.Exact.{exact_text, self_text}
 use Rattle.ciel_journal.specs.Job.{Digest, Each, In}
-use Rattle.ciel_master.specs.Fitting.{FitsOneOut, FitsUnlessMissing, IsMissedOf, IsOf, MissedOf}
+use Rattle.ciel_master.specs.Fitting.{FitsUnlessMissing, IsMissedOf}
 use Rattle.ciel_master.specs.Marked.{SeenOf}
-use Rattle.ciel_master_board.specs.Board.{Board, Spot, find_order, spot_of, start_refs, task_desc}
-use Rattle.ciel_master_board.specs.Reports.{Copy, IsNamed, Output, copy_names, learned_all, made, made_names, named_view, saved}
+use Rattle.ciel_master_board.specs.Board.{Board, Spot, find_order, spot_of, task_desc}
+use Rattle.ciel_master_board.specs.Reports.{Copy, IsNamed, Output, copy_names, learned_all, made, made_names, named_view}
 use Rattle.ciel_master_board.specs.Sound as board
 use Rattle.ciel_master_board.specs.Sound.{own_name}
-use Rattle.ciel_master_safe.specs.Reports.{CanWait, EndSafe, FitsSafely, ReportSafe, StandsWhole, names_from, outputs_of}
+use Rattle.ciel_master_safe.specs.Reports.{CanWait, FitsSafely, StandsWhole, names_from, outputs_of}
 use Rattle.ciel_master_safe.specs.Safe.{GoesBy, ObjectLies, Serves, W}
 use Rattle.ciel_name.specs.Names.{first_output}
 use Rattle.ciel_store.specs.Seen.{ShelvesSeen}
@@ -26,18 +26,15 @@ use Rattle.sky_state.specs.declared.shown.Shown.{Shown}
 use Rattle.ciel_table.specs.Seen.{Known, TableSeen, find}
 use Rattle.ciel_table.specs.declared.row.Row.{Row}
 use Rattle.ciel_task_order.specs.Orders.{names_in}
-use Rattle.ciel_task_order.specs.Performs.{HasRows, IsMissing, OfTask, OutputsKnown}
-use Rattle.ciel_task_order.specs.Views.{P, brought_view, copies_view, copy_at, how_view, order_view, out_view, output_view}
+use Rattle.ciel_task_order.specs.Performs.{IsMissing, OfTask, OutputsKnown}
+use Rattle.ciel_task_order.specs.Views.{P, brought_view, copies_view, copy_at, order_view, output_view}
 use Rattle.ciel_task_order.specs.declared.block.Held.{Held}
-use Rattle.ciel_task_order.specs.declared.block.Spot as rust
 use Rattle.ciel_task_order.specs.declared.order.Order.{Order}
 use Rattle.ciel_task_order.specs.declared.report.End.{End}
 use Rattle.ciel_task_order.specs.declared.report.Made.{Made}
-use Rattle.ciel_task_order.specs.declared.report.Report.{Report}
 use Rattle.ciel_want.specs.Waited.{AllKnown}
-use Rattle.ciel_log_fits.specs.Given.{IsGivenAt}
 use Rattle.ciel_log_fits.specs.Known.{is_named}
-use Rattle.ciel_log_fits.specs.Read.{CopiesPut, CopyPut, EndPut, IsOut, IsPut, ObjectPut, ReadReportsFit, SpawnedPass}
+use Rattle.ciel_log_fits.specs.Read.{CopiesPut, CopyPut, EndPut, IsOut, ObjectPut, ReadReportsFit, SpawnedPass}
 use Rattle.ciel_log_fits.proofs.Circles.{to_each}
 use Rattle.ciel_log_fits.proofs.Learned.{known_is}
 
@@ -211,7 +208,7 @@ module _ (digest : List ℕ → List ℕ) (shelves : ShelvesSeen) (sc : Script) 
         → EndPut digest shelves sc b order then copied end → FitsUnlessMissing digest shelves sc b (order_view order) ns copied end
     whole_fits (End.Made ms) copied kind s h = λ none.
         let e : map (λ (m : Made). m.name) ms.items ≡ outputs_of digest (task_desc b.main b.table order.task) =
-            h.0 ∙ ap (outputs_of digest) (sym desc_is) in
+        h.0 ∙ ap (outputs_of digest) (sym desc_is) in
         made_fits copied ms.items (s none) e
         (λ m i. output_known digest b.table order.desc o.rows.outputs m (subst (In m) h.0 i)) h.1 h.2
     whole_fits (End.Shown shown) copied kind s h = λ none.
@@ -259,8 +256,7 @@ module _ (digest : List ℕ → List ℕ) (shelves : ShelvesSeen) (sc : Script) 
 
 pub read_reports_fit : ReadReportsFit
 read_reports_fit digest shelves sc b order r o h =
-    let ns = r.spawned.items in
-    (
+    let ns = r.spawned.items in (
       order_view order,
       ap (λ n. find_order n b.orders) h.number ∙ o.out,
       record {

@@ -1,5 +1,5 @@
 -- What is so of a report that was read, once its parts passed the tests and its blocks were put on a shelf: then it fits.
-use Rattle.std.specs.Prelude.{◌≡◌, ◌<◌, ℕ, List, Option, Some, None, map, nat_eq, true}
+use Rattle.std.specs.Prelude.{◌≡◌, ◌<◌, ℕ, List, Some, None, map, nat_eq, true}
 use Rattle.std.specs.List.{IsDistinct, list_any}
 use Rattle.sky_base.specs.Tree.{Script}
 use Rattle.sky_base.specs.Val.{same_text}

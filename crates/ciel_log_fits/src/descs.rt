@@ -123,10 +123,12 @@ fn is_sound_output(
     ensures no { IfOk result (λ b. IsFalse b → SoundDesc script.now (out executor.now (view args.now) outputs index) → ⊥) }
 {
     let name = Value::Text(executor.share()?);
-    Ok(index < outputs
-        && outputs <= MOST_OUTPUTS
-        && script.is_sound(&name)
-        && script.is_sound(args))
+    Ok(
+        index < outputs
+            && outputs <= MOST_OUTPUTS
+            && script.is_sound(&name)
+            && script.is_sound(args),
+    )
 }
 
 /// Whether an input is one of the job's, by a name that keeps the limits.

@@ -1,9 +1,7 @@
 //! Whether what a report tells of what its order brings along is so: what was copied, and something that was missing.
 
 ghost use Rattle.std.specs.Prelude.{◌≡◌, ℕ, List, IfOk, IsFalse, IsTrue, MatchOption, Some, map};
-ghost use Rattle.std.specs.BTreeSet.{contains};
 ghost use Rattle.std.specs.List.{IsDistinct};
-ghost use Rattle.sky_base.specs.NameOrder.{name_cmp};
 ghost use Rattle.sky_base.specs.Val.{same_text};
 ghost use Rattle.ciel_journal.specs.Job.{Each};
 ghost use Rattle.ciel_master_board.specs.Board.{shelf, spot_of};
@@ -103,12 +101,7 @@ pub fn are_distinct(alloc: Global, names: &[Name]) -> Result<bool, Memory>
 /// Whether the place that the order gives for a name, or for its stack by the name that stands for its task, is at this worker.
 ///
 /// Answers `Memory` for want of memory.
-pub fn is_given_at(
-    alloc: Global,
-    order: &Order,
-    name: &Name,
-    worker: u32,
-) -> Result<bool, Memory>
+pub fn is_given_at(alloc: Global, order: &Order, name: &Name, worker: u32) -> Result<bool, Memory>
     ensures yes { IfOk result (λ b. IsTrue b → (digest : List ℕ → List ℕ) → IsGivenAt digest order.now name.now worker) }
     ensures no { IfOk result (λ b. IsFalse b → (digest : List ℕ → List ℕ) → IsGivenAt digest order.now name.now worker → ⊥) }
 {

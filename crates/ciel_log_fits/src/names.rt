@@ -1,9 +1,8 @@
 //! The names of descriptions, and of what a task makes.
 
-ghost use Rattle.std.specs.Prelude.{◌≡◌, ◌++◌, ◌∷◌, [], IfOk, map, take};
+ghost use Rattle.std.specs.Prelude.{◌≡◌, IfOk, map};
 ghost use Rattle.sky_base.specs.Name.{digested};
 ghost use Rattle.sky_base.specs.ObjectView.{desc_view};
-ghost use Rattle.sky_base.specs.Val.{out};
 ghost use Rattle.sky_base.specs.View.{view};
 ghost use Rattle.sky_base.specs.declared.object.Desc1.{Desc1 as DescSeen};
 ghost use Rattle.ciel_name.specs.Laws.{SpelledDesc};
@@ -24,11 +23,7 @@ use std::alloc::Global;
 /// These descriptions, each with its name.
 ///
 /// Answers `Memory` for want of memory.
-pub fn name_all<N: Namer>(
-    alloc: Global,
-    namer: &N,
-    descs: &[Desc1],
-) -> Result<Vec<Named>, Memory>
+pub fn name_all<N: Namer>(alloc: Global, namer: &N, descs: &[Desc1]) -> Result<Vec<Named>, Memory>
     requires spelled { Each (λ (d : DescSeen). SpelledDesc (desc_view d)) descs.now }
     ensures descs { IfOk result (λ ns. map desc_of ns.items ≡ descs.now) }
     ensures named { IfOk result (λ ns. Each (IsNamed (N.digest namer.now)) ns.items) }
@@ -73,12 +68,14 @@ pub fn output_names<N: Namer>(
 {
     match desc {
         None | Some(Desc1::Input { .. }) => Ok(Names::new(alloc)),
-        Some(Desc1::Exec {
-            executor,
-            args,
-            outputs,
-            ..
-        }) => names_of_outputs(alloc, namer, executor, args, *outputs),
+        Some(
+            Desc1::Exec {
+                executor,
+                args,
+                outputs,
+                ..
+            },
+        ) => names_of_outputs(alloc, namer, executor, args, *outputs),
         Some(call) => {
             let mut names = Names::new(alloc);
             names.push(name_of(alloc, namer, call)?)?;

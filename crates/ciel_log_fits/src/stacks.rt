@@ -52,12 +52,7 @@ pub fn read_stack(
 }
 
 /// The stack, if it is of this task and stands at this wait.
-fn of_task(
-    alloc: Global,
-    frozen: Frozen,
-    task: &TaskId,
-    wait: u32,
-) -> Result<Option<Stack>, Memory>
+fn of_task(alloc: Global, frozen: Frozen, task: &TaskId, wait: u32) -> Result<Option<Stack>, Memory>
     ensures stack { IfOk result (λ o. IfSome o (λ s. IsAt task.now wait s.frozen)) }
     ensures frozen { IfOk result (λ o. IfSome o (λ s. s.frozen ≡ frozen)) }
     ensures refs { IfOk result (λ o. IfSome o (λ s. known_of s.refs ≡ pending_in same_text s.frozen)) }

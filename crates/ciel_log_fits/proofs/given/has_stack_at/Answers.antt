@@ -9,8 +9,7 @@ pub returns-then-worker-clause-yes : goal.returns-then-worker-clause-yes
 returns-then-worker-clause-yes c = λ t digest.
     let name = c.args.name.now in
     let own = c.own_name.result in
-    let same : same_text name own ≡ true = sym (texts_ties name own) ∙ (sym c.eq.ensures ∙ t) in
-    (
+    let same : same_text name own ≡ true = sym (texts_ties name own) ∙ (sym c.eq.ensures ∙ t) in (
       c.in-Some.place,
       c.in-Some.is,
       exact_text name own same ∙ c.own_name.ensures.name digest,

@@ -1,4 +1,4 @@
-use Rattle.std.proofs.Common.{◌∙◌, ap}
+use Rattle.std.proofs.Common.{◌∙◌}
 use Rattle.sky_base.specs.Name.{digested}
 use Rattle.sky_base.specs.View.{view}
 use Rattle.sky_base.specs.Val.{out}

@@ -1,6 +1,5 @@
 -- All have it exactly where those that are left have.
 use Rattle.std.proofs.Common.{drop}
-use Rattle.sky_base.specs.ObjectView.{desc_view}
 use Rattle.sky_base.specs.declared.object.Named.{Named}
 use Rattle.ciel_journal.specs.Job.{Each}
 use Rattle.ciel_master_board.specs.Reports.{named_view}
