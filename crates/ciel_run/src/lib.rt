@@ -6,6 +6,6 @@
 pub mod law;
 pub mod top;
 
-pub use ciel_run_line::{draws, drive, run};
+pub use ciel_run_line::{draws, drive, run_job_run as run};
 pub use ciel_run_load::{lines, script};
 pub use ciel_run_log::{message, text, why};
