@@ -192,37 +192,37 @@ module _ (before now : KeeperSeen) (state : LogState) (result : Result (List ℕ
   rises (Some path) k e = subst (StandsBy path before now) e (ran path k).1
 
 -- the bytes begin a log by another reason for which they may not be all of one
-begins_so : (w : Words) (source : List ℕ) (inputs : List Input) (J : List Entry) (failed fails : Type 0) → (failed → fails) → (bytes : List ℕ)
-    → BeginsLog w source inputs J failed bytes → BeginsLog w source inputs J fails bytes
-begins_so w source inputs J failed fails f bytes (script, is, inl part) = (script, is, inl part)
-begins_so w source inputs J failed fails f bytes (script, is, inr cut) = (script, is, inr (f cut.0, cut.1))
+begins_so : (w : Words) (source : List ℕ) (inputs : List Input) (J : List Entry) (broken breaks : Type 0) → (broken → breaks) → (bytes : List ℕ)
+    → BeginsLog w source inputs J broken bytes → BeginsLog w source inputs J breaks bytes
+begins_so w source inputs J broken breaks f bytes (script, is, inl part) = (script, is, inl part)
+begins_so w source inputs J broken breaks f bytes (script, is, inr cut) = (script, is, inr (f cut.0, cut.1))
 
-module _ (w : Words) (source : List ℕ) (inputs : List Input) (J : List Entry) (failed : Type 0) (files : Option Files) (state : LogState) where
+module _ (w : Words) (source : List ℕ) (inputs : List Input) (J : List Entry) (broken : Type 0) (files : Option Files) (state : LogState) where
   abbrev Known : Type 0
   Known = OfLog w source inputs J files (Told w source inputs J state)
 
-  of_kind : (why : Why) → Kind w.log state why → Known → LogSays w source inputs J failed files why
+  of_kind : (why : Why) → Kind w.log state why → Known → LogSays w source inputs J broken files why
   of_kind why (done e x) t =
-      subst (LogSays w source inputs J failed files) (sym e) (λ path n. of_file files path (Told w source inputs J state) (IsLog w source inputs J)
+      subst (LogSays w source inputs J broken files) (sym e) (λ path n. of_file files path (Told w source inputs J state) (IsLog w source inputs J)
       (λ bytes k. k.1 (x path n)) (t path n))
-  of_kind why (failed path n f e) t = subst (LogSays w source inputs J failed files) (sym e) tt
+  of_kind why (failed path n f e) t = subst (LogSays w source inputs J broken files) (sym e) tt
   of_kind why (full path held n f e) t =
-      subst (LogSays w source inputs J failed files) (sym e) (λ p m. of_file files p (Told w source inputs J state) (FillsLog w source inputs J held)
+      subst (LogSays w source inputs J broken files) (sym e) (λ p m. of_file files p (Told w source inputs J state) (FillsLog w source inputs J held)
       (λ bytes k. k.2 held f) (t p m))
-  of_kind why (memory e) t = subst (LogSays w source inputs J failed files) (sym e) tt
-  of_kind why (unwritten e) t = subst (LogSays w source inputs J failed files) (sym e) tt
+  of_kind why (memory e) t = subst (LogSays w source inputs J broken files) (sym e) tt
+  of_kind why (unwritten e) t = subst (LogSays w source inputs J broken files) (sym e) tt
 
-  pub says : (why : Why) → Finished w.log state why → Known → LogSays w source inputs J failed files why
+  pub says : (why : Why) → Finished w.log state why → Known → LogSays w source inputs J broken files why
   says why f t = of_kind why (kind w.log state why f) t
 
-  begins : (state ≡ LogState.Failed → failed) → Known → OfLog w source inputs J files (BeginsLog w source inputs J failed)
-  begins f t = λ path n. of_file files path (Told w source inputs J state) (BeginsLog w source inputs J failed)
-      (λ bytes k. begins_so w source inputs J (state ≡ LogState.Failed) failed f bytes k.0) (t path n)
+  begins : (state ≡ LogState.Failed → broken) → Known → OfLog w source inputs J files (BeginsLog w source inputs J broken)
+  begins f t = λ path n. of_file files path (Told w source inputs J state) (BeginsLog w source inputs J broken)
+      (λ bytes k. begins_so w source inputs J (state ≡ LogState.Failed) broken f bytes k.0) (t path n)
 
   -- where the job has no answer
   pub says_so : (content : List ℕ → Option (List ℕ)) (risen : Type 0) (before now : KeeperSeen) (why : Why) → CauseOf content w risen J why
-      → KeepsLog w.log before now (Err why) state → (HasRisen before.faults now.faults → failed)
-      → LogTold w source inputs J files state (Err why) → LogSays w source inputs J failed files why
+      → KeepsLog w.log before now (Err why) state → (HasRisen before.faults now.faults → broken)
+      → LogTold w source inputs J files state (Err why) → LogSays w source inputs J broken files why
   says_so content risen before now (Why.Fault fault) c k f t = begins (λ e. f (rises before now state (Err (Why.Fault fault)) (λ p x. x) w.log k e)) t
   says_so content risen before now (Why.Endless names) c k f t = begins (λ e. f (rises before now state (Err (Why.Endless names)) (λ p x. x) w.log k e)) t
   says_so content risen before now Why.AllLost c k f t = begins (λ e. f (rises before now state (Err Why.AllLost) (λ p x. x) w.log k e)) t
