@@ -195,7 +195,8 @@ module _ (before now : KeeperSeen) (state : LogState) (result : Result (List ℕ
 begins_so : (w : Words) (source : List ℕ) (inputs : List Input) (J : List Entry) (broken breaks : Type 0) → (broken → breaks) → (bytes : List ℕ)
     → BeginsLog w source inputs J broken bytes → BeginsLog w source inputs J breaks bytes
 begins_so w source inputs J broken breaks f bytes (script, is, inl part) = (script, is, inl part)
-begins_so w source inputs J broken breaks f bytes (script, is, inr cut) = (script, is, inr (f cut.0, cut.1))
+begins_so w source inputs J broken breaks f bytes (script, is, inr (x, before, number, count, part, same)) =
+    (script, is, inr (f x, before, number, count, part, same))
 
 module _ (w : Words) (source : List ℕ) (inputs : List Input) (J : List Entry) (broken : Type 0) (files : Option Files) (state : LogState) where
   abbrev Known : Type 0
