@@ -10,4 +10,6 @@ mod logged;
 #[cfg(test)]
 mod made;
 #[cfg(test)]
+mod reads;
+#[cfg(test)]
 mod records;
