@@ -1,9 +1,9 @@
 pub use Rattle.ciel_task_crew.proofs.TurnsLemmas
 pub use Rattle.ciel_master_law.proofs.ShopLaws
-mod Slots
+pub mod Slots
 mod ToldLemmas
-mod Names
-mod Turns
+pub mod Names
+pub mod Turns
 mod Reports
 mod Over
 mod Modest

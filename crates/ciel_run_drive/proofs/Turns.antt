@@ -31,16 +31,12 @@ use Rattle.ciel_run_drive.specs.Kept.{Kept, slots_of}
 use Rattle.ciel_run_drive.specs.Working.{Working}
 use Rattle.ciel_run_drive.proofs.Slots.{got_index, slots_sent}
 
-module _ {K N : Type 0} {gives : K → Gives} {digest : N → List ℕ → List ℕ} {shop_ : Shop K N} {sound : Bool} {m : MasterSeen N}
-    {out : List (Option Order)} {state : ℕ} (k : Kept gives digest shop_ sound m out state) where
-  abbrev b : Board P
-  b = m.board
-
+module _ (b : Board P) {state : ℕ} (drawn : state ≡ state_after b.plan.seed (2 * b.starts)) where
   -- ---- draws
 
   module _ {first : ℕ} (one : first ≡ (state * 6364136223846793005 + 1442695040888963407) % 2 ^ 64) where
     first_is : first ≡ state_after b.plan.seed (suc (2 * b.starts))
-    first_is = one ∙ ap (λ z. (z * 6364136223846793005 + 1442695040888963407) % 2 ^ 64) k.draws
+    first_is = one ∙ ap (λ z. (z * 6364136223846793005 + 1442695040888963407) % 2 ^ 64) drawn
 
     module _ {second : ℕ} (two : second ≡ (first * 6364136223846793005 + 1442695040888963407) % 2 ^ 64) where
       second_is : second ≡ state_after b.plan.seed (suc (2 * b.starts + 1))

@@ -4,7 +4,7 @@ ghost use Rattle.std.specs.Prelude.{◌≡◌, ◌+◌, ◌*◌, ◌/◌, ◌%�
 ghost use Rattle.ciel_journal.specs.Turns.{state_after};
 
 /// The next number of the generator, below `count`, and its state then.
-pub(crate) fn pick(state: &mut u64, count: usize) -> usize
+pub fn pick(state: &mut u64, count: usize) -> usize
     requires some { 0 < count }
     ensures state { state.new ≡ (state.old * 6364136223846793005 + 1442695040888963407) % 2 ^ 64 }
     ensures pick { result ≡ (state.new / 2 ^ 33) % count }

@@ -7,7 +7,7 @@
 pub mod draws;
 pub mod drive;
 pub mod law;
-mod turn;
+pub mod turn;
 
 pub use ciel_master::{entry, master, plan, stop};
 pub use ciel_task_crew::crew;

@@ -55,7 +55,7 @@ fn lose_one<K: Kit + Drop, N: Namer + Drop, C: Crew<K = K, N = N>>(
 }
 
 /// Starts the task at a place among those that can run. After `Memory` the master is as it was.
-fn start_at<K: Drop, N: Namer + Drop>(
+pub fn start_at<K: Drop, N: Namer + Drop>(
     master: &mut Master<K, N>,
     place: usize,
     worker: u32,

@@ -95,9 +95,9 @@ pub returns-in-Ok-send_order-clause-model : goal.returns-in-Ok-send_order-clause
 returns-in-Ok-send_order-clause-model g c k =
     let one = c.pick-place.ensures in
     let two = c.pick-worker.ensures in
-    let p = picked k one.state two.state c.requires.count c.requires.quiet c.in-Ok.ensures.task c.requires.idle one.pick two.pick two.below in
+    let p = picked c.args.master.now.board k.draws one.state two.state c.requires.count c.requires.quiet c.in-Ok.ensures.task c.requires.idle one.pick two.pick two.below in
     start_kept c.requires.working k p (c.send_order.ensures.master ∙ c.in-Ok.ensures.started) c.in-Ok.order c.in-Ok.ensures.order
-    c.in-Ok-send_order.ensures.out c.send_order.ensures.shop (draws_after k one.state two.state)
+    c.in-Ok-send_order.ensures.out c.send_order.ensures.shop (draws_after c.args.master.now.board k.draws one.state two.state)
 
 pub returns-in-Ok-send_order-clause-less : goal.returns-in-Ok-send_order-clause-less
 returns-in-Ok-send_order-clause-less g c =
@@ -127,7 +127,7 @@ pub returns-in-Err-send_order-clause-end : goal.returns-in-Err-send_order-clause
 returns-in-Err-send_order-clause-end g c k =
     let one = c.pick-place.ensures in
     let two = c.pick-worker.ensures in
-    let p = picked k one.state two.state c.requires.count c.requires.quiet c.in-Ok.ensures.task c.requires.idle one.pick two.pick two.below in
+    let p = picked c.args.master.now.board k.draws one.state two.state c.requires.count c.requires.quiet c.in-Ok.ensures.task c.requires.idle one.pick two.pick two.below in
     start_ends c.requires.working k p (c.send_order.ensures.master ∙ c.in-Ok.ensures.started)
 
 pub returns-in-Ok-send_order-clause-does : goal.returns-in-Ok-send_order-clause-does
