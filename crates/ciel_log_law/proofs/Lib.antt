@@ -3,4 +3,5 @@ mod Pieces
 mod Calls
 mod Reported
 mod Runs
+mod Joined
 mod Written

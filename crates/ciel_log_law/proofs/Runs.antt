@@ -139,13 +139,14 @@ module _ {K N R : Type 0} (gives : K → Gives) (digest : N → List ℕ → Lis
     pub entry : low T.job event ≡ x
     pub at : At (h ++ event ∷ []) rest b2 c
 
-  abbrev More : Board P → Board P → Type 0
+  abbrev pub More : Board P → Board P → Type 0
   More b c = (more : List Entry) × (c.journal ≡ b.journal ++ more)
 
   abbrev more_by : (b b2 c : Board P) (x : Entry) → b2.journal ≡ b.journal ++ x ∷ [] → More b2 c → More b c
   more_by b b2 c x e m = (x ∷ m.0, m.1 ∙ (ap (λ z. z ++ m.0) e ∙ append_assoc b.journal (x ∷ []) m.0))
 
-  more : (b : Board P) (xs : List Call) (c : Board P) → Ms b xs c → More b c
+  -- what calls make of a state: entries more
+  pub more : (b : Board P) (xs : List Call) (c : Board P) → Ms b xs c → More b c
   more b xs c moved.stays = ([], sym (append-nil b.journal))
   more b xs c (moved.loses w m) =
       more_by b (lost_at worker_of w b) c (Entry.Lost w b.closes) refl (more (lost_at worker_of w b) xs c m)

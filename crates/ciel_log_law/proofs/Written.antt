@@ -1,29 +1,31 @@
--- The file of a run's log tells the run's journal.
+-- The file of a run's log tells the run's journal: from its header alone, or from a log of the journal that the master had.
 use Rattle.std.proofs.Common.{◌≡◌, ◌+◌, ◌⊎◌, length, ℕ, List, [], ◌∷◌, ◌++◌, take, IfSome, Bool, Option, Some, None, inl, inr, ap}
 use Rattle.std.proofs.Common.{sym, ◌∙◌, refl, subst}
-use Rattle.std.proofs.lemmas.List.{append_assoc, length-append}
+use Rattle.std.proofs.lemmas.List.{append_assoc, append-nil, length-append}
 use Rattle.sky_base.specs.JobView.{job_view}
 use Rattle.sky_base.specs.KitView.{Gives}
 use Rattle.sky_base.specs.See as s
 use Rattle.ciel_io.specs.HeldFiles.{bytes_at}
 use Rattle.ciel_io.specs.Kept.{Files}
-use Rattle.ciel_journal.specs.Entries.{Entry}
+use Rattle.ciel_journal.specs.Entries.{Entry, journal_of}
 use Rattle.ciel_journal.specs.Job.{IsPrefix, Job}
 use Rattle.ciel_journal.specs.Journals.{DrivenJournal}
 use Rattle.ciel_journal.specs.History.{Event, Plan, Standing, after, before_all}
 use Rattle.ciel_journal.specs.Lawful.{LawfulFrom}
 use Rattle.ciel_journal.specs.Turns.{DrivenFrom}
 use Rattle.ciel_log.specs.Logging.{CrewLog, GoesOn}
-use Rattle.ciel_log.specs.Logs.{FullAt, HasDropped, LogWritten, Logs, PartOfLog, Records, WrittenPart}
+use Rattle.ciel_log.specs.Logs.{FullAt, HasDropped, LogWritten, Logs, PartOfLog, Records, WrittenPart, over}
 use Rattle.ciel_log.specs.declared.state.LogState.{LogState}
-use Rattle.ciel_log_law.specs.Told.{LogTellsJournal}
+use Rattle.ciel_log_law.specs.Told.{LogContinued, LogContinues, LogTellsJournal}
 use Rattle.ciel_log_law.proofs.Calls.{Grows, paths}
-use Rattle.ciel_log_law.proofs.Pieces.{IsDropped, Piece, Stops, all, cut, cut_dropped, dropped_behind, drops, prefix_behind, prefix_self}
-use Rattle.ciel_log_law.proofs.Runs.{At, runs}
+use Rattle.ciel_log_law.proofs.Joined.{full_joined, goes_on_from, piece_joined}
+use Rattle.ciel_log_law.proofs.Pieces.{FullSo, IsDropped, Piece, Stops, all, cut, cut_dropped, dropped_behind, drops, prefix_behind, prefix_self}
+use Rattle.ciel_log_law.proofs.Runs.{At, more, runs}
 use Rattle.ciel_log_records.specs.Records.{dropped_record, in_file}
 use Rattle.ciel_run_drive.specs.Seen.{MasterSeen}
 use Rattle.ciel_run_drive.specs.Kept.{Kept}
 use Rattle.ciel_run_drive.specs.Moved.{DoesAll}
+use Rattle.ciel_run_drive.proofs.ShopLaws.{shop_is}
 use Rattle.ciel_task_crew.specs.Calls.{Call}
 use Rattle.ciel_task_order.specs.Performs.{the_shop}
 use Rattle.ciel_task_order.specs.declared.order.Order.{Order}
@@ -67,8 +69,42 @@ module _ (digest : List ℕ → List ℕ) (job : s.Job) (gives : Gives) (p : Pla
   )
   piece_tells state bytes (drops x has) none = absurd (none (dropped_behind header x has))
 
+  module _ (state : LogState) (more : List ℕ) (piece : Piece digest job gives [] d.0 state more)
+      (full : FullSo digest job gives [] d.0 state (length (in_file header)) more) (none : HasDropped (in_file header ++ more) → ⊥) where
+    fulls : (has : ℕ) → state ≡ LogState.Full has → FullAt digest job gives p header journal has (in_file header ++ more)
+    fulls has e = pick (full has e)
+      where
+        -- a log that is full didn't fail
+        whole_part : WrittenPart digest job gives p header journal (state ≡ LogState.Failed) (in_file header ++ more)
+            → PartOfLog digest job gives p header journal (in_file header ++ more)
+        whole_part (inl part) = part
+        whole_part (inr failed) = let bad : LogState.Full has ≡ LogState.Failed = sym e ∙ failed.0 in absurd cc
+
+        tells : (next : List ℕ) → ((rest : List ℕ) × Records digest job gives [] d.0 (more ++ (in_file next ++ rest)))
+            ⊎ IsDropped digest job gives next
+            → ((rest : List ℕ) × Logs digest job gives p header journal ((in_file header ++ more) ++ (in_file next ++ rest)))
+            ⊎ IsDropped digest job gives next
+        tells next (inl r) =
+            inl (
+              r.0,
+              subst (Logs digest job gives p header journal) (sym (append_assoc (in_file header) more (in_file next ++ r.0)))
+                  (log_of (more ++ (in_file next ++ r.0)) r.1),
+            )
+        tells next (inr n) = inr n
+
+        pick : HasDropped more ⊎ ((has ≡ length (in_file header) + length more) × Stops digest job gives [] d.0 has more)
+            → FullAt digest job gives p header journal has (in_file header ++ more)
+        pick (inl h) = absurd (none (dropped_behind header more h))
+        pick (inr (n, stops)) = (
+          whole_part (piece_tells state more piece none).0,
+          n ∙ sym (length-append (in_file header) more),
+          stops.next,
+          stops.over,
+          tells stops.next stops.tells,
+        )
+
 module _ {K N R : Type 0} (gives : K → Gives) (digest : N → List ℕ → List ℕ) (goes : R → Call → R → Type 0) (shop : Shop K N) (unbroken : Bool)
-    (m : MasterSeen N) (out : List (Option Order)) (draw : ℕ) (k : Kept gives digest shop unbroken m out draw) (empty : m.board.journal ≡ [])
+    (m : MasterSeen N) (out : List (Option Order)) (draw : ℕ) (k : Kept gives digest shop unbroken m out draw)
     (a t : CrewLog R) (st : a.log.state ≡ LogState.Whole) (journal : List Entry) where
   abbrev Q : Type 0
   Q = Kept gives digest shop unbroken m out draw
@@ -83,95 +119,118 @@ module _ {K N R : Type 0} (gives : K → Gives) (digest : N → List ℕ → Lis
   G = gives shop.kit
 
   module _ (d : DrivenJournal (the_shop D J G).job m.board.plan journal) (x : DoesAll gives digest shop Q (GoesOn goes) a m.board t journal) where
-    at : At gives digest goes shop Q k.orderly k [] d.0 m.board x.board
-    at =
-        record {
-          lawful = (m.board.plan, driven_lawful (the_shop D J G).job m.board.plan (before_all (the_shop D J G).job) d.0 d.1);
-          was = sym empty;
-          ends = d.2 ∙ x.journal;
-        }
-
     path_same : t.log.path ≡ a.log.path
     path_same = paths goes a x.does.calls t x.does.went
 
-    module _ (header : List ℕ) (was : Files) (before : a.log.files ≡ Some was) (first : bytes_at was a.log.path ≡ in_file header) (files : Files)
-        (told : t.log.files ≡ Some files) (none : HasDropped (bytes_at files a.log.path) → ⊥) where
-      grown : Grows D J G [] d.0 a.log t.log files
-      grown =
-          runs gives digest goes shop Q k.orderly k [] d.0 m.board x.does.calls x.board x.does.moved at a t
-          x.does.went st files told
+    -- the events that the file tells already, and those that come
+    module _ (header : List ℕ) (was : Files) (before : a.log.files ≡ Some was)
+        (l : Logs D J G m.board.plan header m.board.journal (bytes_at was a.log.path)) where
+      moves : (more : List Entry) × (x.board.journal ≡ m.board.journal ++ more)
+      moves = more gives digest goes shop Q k.orderly k m.board x.does.calls x.board x.does.moved
 
-      same_was : grown.was ≡ was
-      same_was = let e : Some grown.was ≡ Some was = sym grown.is ∙ before in cc
+      lawful : LawfulFrom (the_shop D J G).job m.board.plan (before_all (the_shop D J G).job) d.0
+      lawful = driven_lawful (the_shop D J G).job m.board.plan (before_all (the_shop D J G).job) d.0 d.1
 
-      file_is : bytes_at files a.log.path ≡ in_file header ++ grown.more
-      file_is =
-          ap (bytes_at files) (sym path_same)
-          ∙ (grown.grew ∙ ap (λ z. z ++ grown.more) (ap (λ z. bytes_at z a.log.path) same_was ∙ first))
+      split : (es : List (Event s.Desc)) × (d.0 ≡ l.history ++ es)
+      split =
+          goes_on_from (the_shop D J G).job (shop_is D J G k.orderly).laws m.board.plan m.board.plan l.history d.0 moves.0
+          (driven_lawful (the_shop D J G).job m.board.plan (before_all (the_shop D J G).job) l.history l.driven) lawful
+          (d.2 ∙ (x.journal ∙ (moves.1 ∙ ap (λ z. z ++ moves.0) (sym l.entries))))
 
-      none_there : HasDropped (in_file header ++ grown.more) → ⊥
-      none_there h = none (subst HasDropped (sym file_is) h)
+      at : At gives digest goes shop Q k.orderly k l.history split.0 m.board x.board
+      at =
+          record {
+            lawful = (m.board.plan, subst (LawfulFrom (the_shop D J G).job m.board.plan (before_all (the_shop D J G).job)) split.1 lawful);
+            was = l.entries;
+            ends = ap (journal_of (the_shop D J G).job) (sym split.1) ∙ (d.2 ∙ x.journal);
+          }
 
-      abbrev Whole : Type 0
-      Whole = t.log.state ≡ LogState.Whole → Logs D J G m.board.plan header journal (bytes_at files a.log.path)
+      module _ (files : Files) (told : t.log.files ≡ Some files) (none : HasDropped (bytes_at files a.log.path) → ⊥) where
+        grown : Grows D J G l.history split.0 a.log t.log files
+        grown =
+            runs gives digest goes shop Q k.orderly k l.history split.0 m.board x.does.calls x.board x.does.moved at a t
+            x.does.went st files told
 
-      abbrev Full : Type 0
-      Full =
-          (has : ℕ) → t.log.state ≡ LogState.Full has → a.log.held ≡ length (in_file header)
-          → FullAt D J G m.board.plan header journal has (bytes_at files a.log.path)
+        same_was : grown.was ≡ was
+        same_was = let e : Some grown.was ≡ Some was = sym grown.is ∙ before in cc
 
-      fulls : Full
-      fulls has e room = pick (grown.full has e)
-        where
-          -- a log that is full didn't fail
-          whole_part : WrittenPart D J G m.board.plan header journal (t.log.state ≡ LogState.Failed) (in_file header ++ grown.more)
-              → PartOfLog D J G m.board.plan header journal (in_file header ++ grown.more)
-          whole_part (inl part) = part
-          whole_part (inr failed) = let bad : LogState.Full has ≡ LogState.Failed = sym e ∙ failed.0 in absurd cc
+        file_is : bytes_at files a.log.path ≡ in_file header ++ (l.rest ++ grown.more)
+        file_is =
+            ap (bytes_at files) (sym path_same)
+            ∙ (grown.grew ∙ (ap (λ z. z ++ grown.more) (ap (λ z. bytes_at z a.log.path) same_was ∙ l.all)
+            ∙ append_assoc (in_file header) l.rest grown.more))
 
-          tells : (next : List ℕ) → ((rest : List ℕ) × Records D J G [] d.0 (grown.more ++ (in_file next ++ rest))) ⊎ IsDropped D J G next
-              → ((rest : List ℕ) × Logs D J G m.board.plan header journal ((in_file header ++ grown.more) ++ (in_file next ++ rest)))
-              ⊎ IsDropped D J G next
-          tells next (inl r) =
-              inl (
-                r.0,
-                subst (Logs D J G m.board.plan header journal) (sym (append_assoc (in_file header) grown.more (in_file next ++ r.0)))
-                    (log_of D J G m.board.plan header journal d (grown.more ++ (in_file next ++ r.0)) r.1),
-              )
-          tells next (inr n) = inr n
+        piece : Piece D J G [] d.0 t.log.state (l.rest ++ grown.more)
+        piece =
+            subst (λ z. Piece D J G [] z t.log.state (l.rest ++ grown.more)) (sym split.1)
+            (piece_joined D J G l.history split.0 l.rest l.records grown.piece)
 
-          pick : HasDropped grown.more ⊎ ((has ≡ a.log.held + length grown.more) × Stops D J G [] d.0 has grown.more)
-              → FullAt D J G m.board.plan header journal has (bytes_at files a.log.path)
-          pick (inl h) = absurd (none_there (dropped_behind header grown.more h))
-          pick (inr (n, stops)) =
-              subst (FullAt D J G m.board.plan header journal has) (sym file_is) (
-                whole_part (piece_tells D J G m.board.plan header journal d t.log.state grown.more grown.piece none_there).0,
-                n ∙ (ap (λ z. z + length grown.more) room ∙ sym (length-append (in_file header) grown.more)),
-                stops.next,
-                stops.over,
-                tells stops.next stops.tells,
-              )
+        full : a.log.held ≡ length (bytes_at was a.log.path) → FullSo D J G [] d.0 t.log.state (length (in_file header)) (l.rest ++ grown.more)
+        full held =
+            subst (λ z. FullSo D J G [] z t.log.state (length (in_file header)) (l.rest ++ grown.more)) (sym split.1)
+            (full_joined D J G l.history split.0 l.rest l.records t.log.state a.log.held (length (in_file header)) grown.more
+            (held ∙ (ap length l.all ∙ length-append (in_file header) l.rest)) grown.full)
 
-      tells : WrittenPart D J G m.board.plan header journal (t.log.state ≡ LogState.Failed) (bytes_at files a.log.path) × Whole × Full
-      tells =
-          let got = piece_tells D J G m.board.plan header journal d t.log.state grown.more grown.piece none_there in (
-            subst (WrittenPart D J G m.board.plan header journal (t.log.state ≡ LogState.Failed)) (sym file_is) got.0,
-            λ e. subst (Logs D J G m.board.plan header journal) (sym file_is) (got.1 e),
-            fulls,
-          )
+        none_there : HasDropped (in_file header ++ (l.rest ++ grown.more)) → ⊥
+        none_there h = none (subst HasDropped (sym file_is) h)
 
-    written : LogWritten D J G m.board.plan a.log.path a.log.held a.log.files t.log.files journal t.log.state
-    written header was before first = pick t.log.files refl
+        tells : WrittenPart D J G m.board.plan header journal (t.log.state ≡ LogState.Failed) (bytes_at files a.log.path)
+            × (t.log.state ≡ LogState.Whole → Logs D J G m.board.plan header journal (bytes_at files a.log.path))
+            × ((has : ℕ) → t.log.state ≡ LogState.Full has → a.log.held ≡ length (bytes_at was a.log.path)
+            → FullAt D J G m.board.plan header journal has (bytes_at files a.log.path))
+        tells =
+            let got = piece_tells D J G m.board.plan header journal d t.log.state (l.rest ++ grown.more) piece none_there in (
+              subst (WrittenPart D J G m.board.plan header journal (t.log.state ≡ LogState.Failed)) (sym file_is) got.0,
+              λ e. subst (Logs D J G m.board.plan header journal) (sym file_is) (got.1 e),
+              λ has e held. subst (FullAt D J G m.board.plan header journal has) (sym file_is)
+                  (fulls D J G m.board.plan header journal d t.log.state (l.rest ++ grown.more) piece (full held) none_there has e),
+            )
+
+    continued : LogContinued D J G m.board.plan a.log.path a.log.held a.log.files t.log.files m.board.journal journal t.log.state
+    continued header was before l = pick t.log.files refl
       where
         pick : (o : Option Files) → t.log.files ≡ o → IfSome o (λ files. (HasDropped (bytes_at files a.log.path) → ⊥)
             → WrittenPart D J G m.board.plan header journal (t.log.state ≡ LogState.Failed) (bytes_at files a.log.path)
             × (t.log.state ≡ LogState.Whole → Logs D J G m.board.plan header journal (bytes_at files a.log.path))
-            × ((has : ℕ) → t.log.state ≡ LogState.Full has → a.log.held ≡ length (in_file header)
+            × ((has : ℕ) → t.log.state ≡ LogState.Full has → a.log.held ≡ length (bytes_at was a.log.path)
             → FullAt D J G m.board.plan header journal has (bytes_at files a.log.path)))
         pick None e = tt
-        pick (Some files) e = λ none. tells header was before first files e none
+        pick (Some files) e = λ none. tells header was before l files e none
+
+    -- the header alone is a log of no entries
+    written : m.board.journal ≡ [] → LogWritten D J G m.board.plan a.log.path a.log.held a.log.files t.log.files journal t.log.state
+    written empty header was before first = pick t.log.files (continued header was before alone)
+      where
+        alone : Logs D J G m.board.plan header m.board.journal (bytes_at was a.log.path)
+        alone =
+            record {
+              history = [];
+              driven = tt;
+              entries = sym empty;
+              rest = [];
+              records = over;
+              all = first ∙ sym (append-nil (in_file header));
+            }
+
+        pick : (o : Option Files) → IfSome o (λ files. (HasDropped (bytes_at files a.log.path) → ⊥)
+            → WrittenPart D J G m.board.plan header journal (t.log.state ≡ LogState.Failed) (bytes_at files a.log.path)
+            × (t.log.state ≡ LogState.Whole → Logs D J G m.board.plan header journal (bytes_at files a.log.path))
+            × ((has : ℕ) → t.log.state ≡ LogState.Full has → a.log.held ≡ length (bytes_at was a.log.path)
+            → FullAt D J G m.board.plan header journal has (bytes_at files a.log.path)))
+            → IfSome o (λ files. (HasDropped (bytes_at files a.log.path) → ⊥)
+            → WrittenPart D J G m.board.plan header journal (t.log.state ≡ LogState.Failed) (bytes_at files a.log.path)
+            × (t.log.state ≡ LogState.Whole → Logs D J G m.board.plan header journal (bytes_at files a.log.path))
+            × ((has : ℕ) → t.log.state ≡ LogState.Full has → a.log.held ≡ length (in_file header)
+            → FullAt D J G m.board.plan header journal has (bytes_at files a.log.path)))
+        pick None q = tt
+        pick (Some files) q = λ none. let got = q none in (got.0, got.1, λ has e held. got.2 has e (held ∙ ap length (sym first)))
 
 pub tells_journal : {K N R : Type 0} (gives : K → Gives) (digest : N → List ℕ → List ℕ) (goes : R → Call → R → Type 0)
     → LogTellsJournal gives digest goes
 tells_journal gives digest goes shop unbroken m out draw k empty a t st journal d x =
-    written gives digest goes shop unbroken m out draw k empty a t st journal d x
+    written gives digest goes shop unbroken m out draw k a t st journal d x empty
+
+pub continues : {K N R : Type 0} (gives : K → Gives) (digest : N → List ℕ → List ℕ) (goes : R → Call → R → Type 0)
+    → LogContinues gives digest goes
+continues gives digest goes shop unbroken m out draw k a t st journal d x =
+    continued gives digest goes shop unbroken m out draw k a t st journal d x
