@@ -12,7 +12,7 @@ use Rattle.sky_base.specs.declared.object.Named.{Named}
 use Rattle.sky_base.specs.declared.object.TaskId.{TaskId}
 use Rattle.sky_base.proofs.Exact.{exact_text, self_text}
 use Rattle.ciel_journal.specs.Job.{Digest, Each, In}
-use Rattle.ciel_master.specs.Fitting.{FitsUnlessMissing, IsMissedOf}
+use Rattle.ciel_master.specs.Fitting.{FitsOrder, FitsUnlessMissing, IsMissedOf}
 use Rattle.ciel_master.specs.Marked.{SeenOf}
 use Rattle.ciel_master_board.specs.Board.{Board, Spot, find_order, spot_of, task_desc}
 use Rattle.ciel_master_board.specs.Reports.{Copy, IsNamed, Output, copy_names, learned_all, made, made_names, named_view}
@@ -32,9 +32,10 @@ use Rattle.ciel_task_order.specs.declared.block.Held.{Held}
 use Rattle.ciel_task_order.specs.declared.order.Order.{Order}
 use Rattle.ciel_task_order.specs.declared.report.End.{End}
 use Rattle.ciel_task_order.specs.declared.report.Made.{Made}
+use Rattle.ciel_task_order.specs.declared.report.Report.{Report}
 use Rattle.ciel_want.specs.Waited.{AllKnown}
 use Rattle.ciel_log_fits.specs.Known.{is_named}
-use Rattle.ciel_log_fits.specs.Read.{CopiesPut, CopyPut, EndPut, IsOut, ObjectPut, ReadReportsFit, SpawnedPass}
+use Rattle.ciel_log_fits.specs.Read.{CopiesPut, CopyPut, EndPut, IsOut, IsPut, ObjectPut, ReadReportsFit, SpawnedPass}
 use Rattle.ciel_log_fits.proofs.Circles.{to_each}
 use Rattle.ciel_log_fits.proofs.Learned.{known_is}
 
@@ -254,15 +255,18 @@ module _ (digest : List ℕ → List ℕ) (shelves : ShelvesSeen) (sc : Script) 
     seen_fits (End.Saved p j refs holds mark) copied h = tt
     seen_fits (End.Missing name loss seen) copied h = subst (λ s. SeenOf shelves (End.Missing name loss s)) (sym h.1) tt
 
+-- it fits the order that it is of
+pub read_fits_order : (digest : List ℕ → List ℕ) (shelves : ShelvesSeen) (sc : Script) (b : Board P) (order : Order) (r : Report)
+    → IsOut digest sc b order → IsPut digest shelves sc b order r → FitsOrder digest shelves sc b (order_view order) r
+read_fits_order digest shelves sc b order r o h =
+    let ns = r.spawned.items in
+    record {
+      of = record { worker = h.worker; task = h.task; kind = h.kind };
+      whole = whole_fits digest shelves sc b order o ns r.end r.copied.items h.kind h.spawned h.end;
+      missed = missed_fits digest shelves sc b order o ns r.end r.copied.items h.end;
+      seen = seen_fits digest shelves sc b order o ns r.end r.copied.items h.end;
+    }
+
 pub read_reports_fit : ReadReportsFit
 read_reports_fit digest shelves sc b order r o h =
-    let ns = r.spawned.items in (
-      order_view order,
-      ap (λ n. find_order n b.orders) h.number ∙ o.out,
-      record {
-        of = record { worker = h.worker; task = h.task; kind = h.kind };
-        whole = whole_fits digest shelves sc b order o ns r.end r.copied.items h.kind h.spawned h.end;
-        missed = missed_fits digest shelves sc b order o ns r.end r.copied.items h.end;
-        seen = seen_fits digest shelves sc b order o ns r.end r.copied.items h.end;
-      },
-    )
+    (order_view order, ap (λ n. find_order n b.orders) h.number ∙ o.out, read_fits_order digest shelves sc b order r o h)

@@ -33,7 +33,7 @@ use crate::closing::{close_lost, close_order};
 use crate::entry::Entry;
 use crate::learning::learn_for;
 use crate::marks::confirm;
-use crate::orders::{OrderOut, all_among, can_work, find, tasks, workers};
+use crate::orders::{OrderOut, all_among, can_work, find, has, tasks, workers};
 use crate::plan::RunPlan;
 use crate::stop::{Now, Stop};
 use crate::taking::{begin, is_last, note_loss, take_end};
@@ -44,6 +44,7 @@ use ciel_name::name::Namer;
 use ciel_store::loss::Loss;
 use ciel_store::seats::Marker;
 use ciel_store::shelves::Place;
+use ciel_table::table::Table;
 use ciel_task_order::block::Block;
 use ciel_task_order::order::Order;
 use ciel_task_order::report::Report;
@@ -423,6 +424,28 @@ impl<K: Drop, N: Namer + Drop> Master<K, N> {
         ensures marked { Marked self.now.board.plan.losses self.now.board.table.gone self.now.shelves result.now }
     {
         &self.marker
+    }
+
+    /// The plan of the run.
+    pub fn plan(&self) -> &RunPlan
+        ensures { plan_view result.now ≡ self.now.board.plan }
+    {
+        &self.plan
+    }
+
+    /// What is known: a row for each description, with the places of its object, and the waits that were saved.
+    pub fn table(&self) -> &Table<Place<Block>>
+        ensures { result.now ≡ self.now.board.table }
+    {
+        self.ready.table()
+    }
+
+    /// Whether a worker is lost. It takes no memory.
+    pub fn is_lost(&self, worker: u32) -> bool
+        requires going { self.now.board.stopped ≡ false }
+        ensures { result ≡ list_any (nat_eq worker) self.now.board.table.gone }
+    {
+        has(&self.lost, worker)
     }
 
     /// Whether an order of this number is out. It takes no memory.
