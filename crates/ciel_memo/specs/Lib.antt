@@ -1,0 +1,5 @@
+pub mod Right
+pub mod Gives
+pub mod Counts
+pub mod Seen
+pub mod Laws

@@ -1,0 +1,8 @@
+pub mod Spelling
+pub mod Files
+mod Windows
+mod Places
+pub mod Keys
+mod Finding
+mod Added
+pub mod Crossing
