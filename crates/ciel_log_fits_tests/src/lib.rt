@@ -5,8 +5,6 @@
 #[cfg(test)]
 mod allowed;
 #[cfg(test)]
-mod given;
-#[cfg(test)]
 mod known;
 #[cfg(test)]
 mod names;
@@ -16,3 +14,5 @@ mod read;
 mod stacks;
 #[cfg(test)]
 mod whole;
+#[cfg(test)]
+mod waits;

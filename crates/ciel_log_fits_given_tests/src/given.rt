@@ -1,12 +1,11 @@
 // What an order gives: places of what it brings along, and of its stack.
 
-use crate::read::desc;
-use ciel_log_fits::given::{are_distinct, are_elsewhere, can_wait, is_given_at};
+use ciel_log_fits::given::{are_distinct, are_elsewhere, is_given_at};
 use ciel_store::shelves::{Place, Shelves};
 use ciel_task_order::block::{Block, Held, Spot};
 use ciel_task_order::order::Order;
 use sky_base::name::Name;
-use sky_base::object::{Desc1, Object, TaskId};
+use sky_base::object::{Object, TaskId};
 use sky_base::text::Bytes;
 use std::alloc::Global;
 use std::sync::Wait;
@@ -106,19 +105,5 @@ fn names_are_given(rt: HostRuntime) -> Result<(), Fail> {
             number == 2 || number == 5
         );
     }
-    Ok(())
-}
-
-fn waits(desc: Option<Desc1>) -> bool {
-    can_wait(&TaskId::Of(name(5)), &desc)
-}
-
-// The root task, and that of a call; not that of an executor, and not one without a description.
-#[test]
-fn tasks_can_wait(rt: HostRuntime) -> Result<(), Fail> {
-    assert!(&rt; can_wait(&TaskId::Show, &None));
-    assert!(&rt; waits(Some(desc(rt.alloc(), "430000000000000000")?)));
-    assert!(&rt; !waits(Some(desc(rt.alloc(), "4500000003636174000000000200000001")?)));
-    assert!(&rt; !waits(None));
     Ok(())
 }
