@@ -5,17 +5,15 @@ use std::alloc::Global;
 use std::test::Fail;
 
 /// Puts an entry of so many bytes, at least 59, whose input begins with this byte where it has one: `NINE` with a longer input.
-fn put(alloc: Global, bytes: &mut Vec<u8>, length: usize, first: u8) -> Result<(), Fail> {
+fn put(bytes: &mut Vec<u8>, length: usize, first: u8) -> Result<(), Fail> {
     let Some(more) = length.checked_sub(NINE.len()) else {
         return Err(Fail::from("too short"));
     };
-    let mut input = vec![in alloc; 0u8; more]?;
-    if let Some(byte) = input.first_mut() {
-        *byte = first;
-    }
     bytes.extend_from_slice(&NINE[..49])?;
     bytes.extend_from_slice(&u32::try_from(more)?.to_be_bytes())?;
-    bytes.extend_from_slice(input.as_slice())?;
+    for place in 0..more {
+        bytes.push(if place == 0 { first } else { 0 })?;
+    }
     bytes.extend_from_slice(&NINE[53..])?;
     Ok(())
 }
@@ -23,7 +21,7 @@ fn put(alloc: Global, bytes: &mut Vec<u8>, length: usize, first: u8) -> Result<(
 /// A file of one entry of so many bytes.
 fn one(alloc: Global, length: usize) -> Result<Vec<u8>, Fail> {
     let mut bytes = Vec::from_slice(alloc, b"M\x01")?;
-    put(alloc, &mut bytes, length, 0)?;
+    put(&mut bytes, length, 0)?;
     Ok(bytes)
 }
 
@@ -35,28 +33,24 @@ fn an_entry_at_its_limit(rt: HostRuntime) -> Result<(), Fail> {
     Ok(())
 }
 
-/// A file of 63 entries of the greatest length.
-fn many(alloc: Global) -> Result<Vec<u8>, Fail> {
+/// A file of 63 entries of the greatest length, and one more of this length.
+fn many(alloc: Global, last: usize) -> Result<Vec<u8>, Fail> {
     let mut bytes = Vec::from_slice(alloc, b"M\x01")?;
     for first in 0..63 {
-        put(alloc, &mut bytes, 1_048_576, first)?;
+        put(&mut bytes, 1_048_576, first)?;
     }
+    put(&mut bytes, last, 63)?;
     Ok(bytes)
 }
 
 #[test]
 fn a_file_at_its_limit(rt: HostRuntime) -> Result<(), Fail> {
     let alloc = rt.alloc();
-    let mut bytes = many(alloc)?;
-    let place = bytes.len();
-    assert_eq!(rt; place, 66_060_290);
-    put(alloc, &mut bytes, 1_048_574, 63)?;
+    let mut bytes = many(alloc, 1_048_574)?;
     assert_eq!(rt; bytes.len(), 67_108_864);
     assert_eq!(rt; bad(alloc, &bytes)?, None);
-    put(alloc, &mut bytes, 59, 64)?;
+    put(&mut bytes, 59, 64)?;
     assert_eq!(rt; bad(alloc, &bytes)?, Some(67_108_864));
-    bytes.truncate(place);
-    put(alloc, &mut bytes, 1_048_575, 63)?;
-    assert_eq!(rt; bad(alloc, &bytes)?, Some(66_060_290));
+    assert_eq!(rt; bad(alloc, &many(alloc, 1_048_575)?)?, Some(66_060_290));
     Ok(())
 }
