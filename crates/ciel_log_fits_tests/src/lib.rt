@@ -13,6 +13,6 @@ mod read;
 #[cfg(test)]
 mod stacks;
 #[cfg(test)]
-mod whole;
-#[cfg(test)]
 mod waits;
+#[cfg(test)]
+mod whole;
