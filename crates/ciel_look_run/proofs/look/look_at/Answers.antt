@@ -1,0 +1,14 @@
+-- Where there is a story, what is written says how it ends; else nothing is written.
+use Rattle.ciel_look_run.specs.View.{asked_view}
+use Rattle.ciel_look_run.proofs.EndLemmas.{unwritten, written}
+use Rattle.ciel_look_run.proofs.look.look_at.Goals as goal
+
+pub returns-in-Ok-clause-because : goal.returns-in-Ok-clause-because
+returns-in-Ok-clause-because g c =
+    written _ _ _ c.args.line.now.log (asked_view c.args.line.now.asked) c.in-Ok.ensures.story c.write.result c.write.ensures.ends
+
+pub returns-in-Err-clause-because : goal.returns-in-Err-clause-because
+returns-in-Err-clause-because g c = c.in-Err.ensures.refused (asked_view c.args.line.now.asked)
+
+pub returns-in-Err-clause-wrote : goal.returns-in-Err-clause-wrote
+returns-in-Err-clause-wrote g c = unwritten _ _ (asked_view c.args.line.now.asked) c.in-Err.why c.in-Err.ensures.unwritten

@@ -1,0 +1,14 @@
+-- The picture was put, or a first part of it.
+use Rattle.std.proofs.Common.{sym, subst}
+use Rattle.ciel_look_picture.specs.Picture.{IsPicture}
+use Rattle.ciel_look_run.specs.Line as seen
+use Rattle.ciel_look_run.proofs.EndLemmas.{put_ends, put_wrote}
+use Rattle.ciel_look_run.proofs.look.write_picture.Goals as goal
+
+pub returns-clause-ends : goal.returns-clause-ends
+returns-clause-ends g c = put_ends _ _ _ _ seen.picture c.as_slice.result.now c.put.result c.put.ensures.put
+
+pub returns-clause-wrote : goal.returns-clause-wrote
+returns-clause-wrote g c =
+    put_wrote _ _ _ _ seen.picture c.as_slice.result.now (subst IsPicture (sym c.as_slice.ensures.value) c.in-Ok.ensures.picture) c.put.result
+    c.put.ensures.put

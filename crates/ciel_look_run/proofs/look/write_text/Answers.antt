@@ -1,0 +1,14 @@
+-- The lines were put, or a first part of them.
+use Rattle.std.proofs.Common.{sym, subst}
+use Rattle.ciel_look_shown.specs.Lines.{IsLines}
+use Rattle.ciel_look_run.specs.Line as seen
+use Rattle.ciel_look_run.proofs.EndLemmas.{put_ends, put_wrote}
+use Rattle.ciel_look_run.proofs.look.write_text.Goals as goal
+
+pub returns-clause-ends : goal.returns-clause-ends
+returns-clause-ends g c = put_ends _ _ _ _ seen.text c.as_slice.result.now c.put.result c.put.ensures.put
+
+pub returns-clause-wrote : goal.returns-clause-wrote
+returns-clause-wrote g c =
+    put_wrote _ _ _ _ seen.text c.as_slice.result.now (subst IsLines (sym c.as_slice.ensures.value) c.as_slice.ensures.lines) c.put.result
+    c.put.ensures.put

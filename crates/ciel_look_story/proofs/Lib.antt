@@ -1,0 +1,4 @@
+pub mod Heads
+pub mod Tellings
+pub mod Refusals
+pub mod Stands

@@ -1,0 +1,6 @@
+//! The tasks of a run, from its story: which were started where, how each order ended, what lay where, and what each loss took.
+#![tactic(auto)]
+
+pub mod make;
+mod places;
+pub mod scene;

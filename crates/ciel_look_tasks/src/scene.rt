@@ -1,0 +1,102 @@
+//! What was seen of a run.
+
+use ciel_look_told::header::Header;
+use ciel_look_told::told::Outcome;
+use ciel_look_words::known::Known;
+use sky_base::name::Name;
+use sky_base::object::TaskId;
+use std::collections::BTreeMap;
+
+/// How an order ended.
+#[derive(Drop)]
+pub enum How {
+    /// As its report tells, with the names of the outputs that it made.
+    Told { outcome: Outcome, made: Vec<Name> },
+    /// With its worker, by the loss of this place.
+    Lost { loss: usize },
+}
+
+/// The end of an order: its place among all that happened, and how.
+#[derive(Drop)]
+pub struct End {
+    pub at: usize,
+    pub how: How,
+}
+
+/// An order: its number, its worker, the wait from which its task goes on, the task's place, the place of its start among all that happened,
+/// whether the task had been started from that wait before, and its end, none where it is still out.
+#[derive(Drop)]
+pub struct Run {
+    pub number: u64,
+    pub worker: u32,
+    pub from: u32,
+    pub task: usize,
+    pub begun: usize,
+    pub again: bool,
+    pub end: Option<End>,
+}
+
+/// A task: its description's place among those known, none for the root task and where none is known, and the places of its orders.
+#[derive(Drop)]
+pub struct Task {
+    pub id: TaskId,
+    pub known: Option<usize>,
+    pub runs: Vec<usize>,
+}
+
+/// A loss: the worker, how many started tasks had been closed, its place among all that happened, the names of the objects that lay at no
+/// other worker, the places of the tasks whose last stack lay there, and those of the orders that were out there.
+#[derive(Drop)]
+pub struct Loss {
+    pub worker: u32,
+    pub after: u64,
+    pub at: usize,
+    pub objects: Vec<Name>,
+    pub stacks: Vec<usize>,
+    pub runs: Vec<usize>,
+}
+
+/// A copy: the name of the object, the place of the order that took it along, and that of the one that had made it, if it is known.
+#[derive(Clone, Copy)]
+pub struct Copied {
+    pub name: Name,
+    pub run: usize,
+    pub from: Option<usize>,
+}
+
+/// What happened, by places: an order began, or ended; a worker was lost.
+#[derive(Clone, Copy)]
+pub enum Happening {
+    Begun(usize),
+    Ended(usize),
+    Lost(usize),
+}
+
+/// All that was seen of a run. Each name of `known_at` and each task of `task_at` has its place there.
+#[derive(Drop)]
+pub struct Scene {
+    pub header: Header,
+    pub known: Vec<Known>,
+    pub known_at: BTreeMap<Name, usize>,
+    pub tasks: Vec<Task>,
+    pub task_at: BTreeMap<TaskId, usize>,
+    pub runs: Vec<Run>,
+    pub losses: Vec<Loss>,
+    pub copies: Vec<Copied>,
+    pub happened: Vec<Happening>,
+    /// How many reports came of orders that were out no longer.
+    pub late: usize,
+}
+
+impl Scene {
+    /// The description that is known under a name.
+    pub fn find(&self, name: &Name) -> Option<&Known> {
+        let place = self.known_at.get(name)?;
+        self.known.get(*place)
+    }
+
+    /// The description of a task.
+    pub fn desc_of(&self, task: &Task) -> Option<&Known> {
+        self.known.get(task.known?)
+    }
+}

@@ -1,0 +1,7 @@
+//! A run in lines of text: its tasks, its losses and its sum; and why a task was started, by the chain of needs from the result.
+#![tactic(auto)]
+
+mod label;
+mod replay;
+pub mod text;
+pub mod why;
