@@ -1,7 +1,7 @@
 //! The graph of the tasks: what each is made from, inputs left, the result right.
 
-use crate::draw::{Area, Look, Sheet, Way};
-use crate::nodes::{
+use ciel_look_sheet::sheet::{Area, Look, Sheet, Way};
+use ciel_look_sheet::nodes::{
     MOST_DRAWN, colour_of, known_tip, say, task_colour, task_head, task_tip, task_words,
 };
 use ciel_look_shown::plain::Plain;

@@ -2,7 +2,7 @@
 use Rattle.std.specs.Prelude.{◌≡◌, ◌⊎◌, ◌<◌, ℕ, List, Option, Some, None, IfSome, MatchOption, length}
 use Rattle.ciel_io.specs.Faults.{HasRisen}
 use Rattle.ciel_io.specs.Tells.{Tells as Grows, TellsPart}
-use Rattle.ciel_look_picture.specs.Picture.{IsPicture}
+use Rattle.ciel_look_sheet.specs.Picture.{IsPicture}
 use Rattle.ciel_look_shown.specs.Lines.{IsLines}
 use Rattle.ciel_look_told.specs.Head.{Head}
 use Rattle.ciel_look_story.specs.Story.{NotLog, Tells}

@@ -1,6 +1,6 @@
 -- The picture was put, or a first part of it.
 use Rattle.std.proofs.Common.{sym, subst}
-use Rattle.ciel_look_picture.specs.Picture.{IsPicture}
+use Rattle.ciel_look_sheet.specs.Picture.{IsPicture}
 use Rattle.ciel_look_run.specs.Line as seen
 use Rattle.ciel_look_run.proofs.EndLemmas.{put_ends, put_wrote}
 use Rattle.ciel_look_run.proofs.look.write_picture.Goals as goal

@@ -1,7 +1,7 @@
 //! Elements of the picture. Lengths are in pixels.
 
 ghost use Rattle.std.specs.Prelude.{IfOk};
-ghost use Rattle.ciel_look_picture.specs.Picture.{IsPicture};
+ghost use Rattle.ciel_look_sheet.specs.Picture.{IsPicture};
 
 use ciel_look_shown::markup::{Attributes, Markup};
 use ciel_look_shown::plain::Plain;
