@@ -1,6 +1,6 @@
 // Channels of bells. A bell carries no fact: it says that it is worth while to look at a desk. Each end notes its own bells, for proofs alone.
 
-ghost use Rattle.std.specs.Prelude.{◌≡◌, ◌<◌, ◌++◌, [], ◌∷◌, IfOk};
+ghost use Rattle.std.specs.Prelude.{◌≡◌, ◌<◌, ◌++◌, [], ◌∷◌, IfOk, replicate};
 ghost use Rattle.ciel_crew_lanes.specs.Seen.{BellsSeen, known};
 ghost use Rattle.crossbeam_channel.specs.Claims.{IsSeatAt};
 ghost use Rattle.crossbeam_channel.specs.Ends.{sends_on, receives_on, ruled_capacity};
@@ -157,4 +157,28 @@ pub fn bells<T: Drop>(alloc: Global, room: usize) -> Result<(Ringer<T>, Listener
     let (to, from, mut pass) = bounded_with::<T, LinkedList<T>, Noted, Global>(alloc, room)?;
     let other = to.another::<Noted>(&mut pass);
     Ok((Ringer { to, pass }, Listener { from, pass: other }))
+}
+
+/// The ends of a channel of bells with room for so many: one that rings, and so many that hear. Each bell is heard at one of them.
+///
+/// Answers `AllocError` for want of memory.
+pub fn bells_of<T: Drop>(
+    alloc: Global,
+    room: usize,
+    ears: usize,
+) -> Result<(Ringer<T>, Vec<Listener<T>>), AllocError>
+    requires room { 0 < room }
+    ensures room { IfOk result (λ r. r.0.room ≡ room) }
+    ensures none { IfOk result (λ r. r.0.bells ≡ []) }
+    ensures ears { IfOk result (λ r. r.1.items ≡ replicate ears r.0) }
+{
+    let made = bounded_with::<T, LinkedList<T>, Noted, Global>(alloc, room);
+    let (to, from, mut pass) = made?;
+    let mut all = Vec::new(alloc);
+    for _ in 0..ears {
+        let pass = to.another::<Noted>(&mut pass);
+        let from = from.try_clone()?;
+        all.push(Listener { from, pass })?;
+    }
+    Ok((Ringer { to, pass }, all))
 }

@@ -1,8 +1,8 @@
 //! The lanes of the workers: a bar from each start to its end, losses and copies.
 
 use crate::axis::{Axis, LANE, LEFT, MOST_LANES, lane_of, lane_top};
-use ciel_look_sheet::sheet::{Area, Look, Sheet, Way, room};
 use ciel_look_sheet::nodes::{MOST_DRAWN, say, task_colour, task_head, task_tip, task_words};
+use ciel_look_sheet::sheet::{Area, Look, Sheet, Way, room};
 use ciel_look_shown::plain::Plain;
 use ciel_look_tasks::scene::{Copied, How, Loss, Run, Scene, Task};
 use ciel_look_told::told::Outcome;

@@ -1,9 +1,9 @@
 //! The graph of the tasks: what each is made from, inputs left, the result right.
 
-use ciel_look_sheet::sheet::{Area, Look, Sheet, Way};
 use ciel_look_sheet::nodes::{
     MOST_DRAWN, colour_of, known_tip, say, task_colour, task_head, task_tip, task_words,
 };
+use ciel_look_sheet::sheet::{Area, Look, Sheet, Way};
 use ciel_look_shown::plain::Plain;
 use ciel_look_tasks::scene::{How, Scene, Task};
 use ciel_look_told::told::Outcome;

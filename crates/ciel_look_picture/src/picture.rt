@@ -3,9 +3,9 @@
 ghost use Rattle.std.specs.Prelude.{IfOk};
 ghost use Rattle.ciel_look_sheet.specs.Picture.{IsPicture};
 
-use ciel_look_sheet::sheet::Sheet;
 use crate::graph::draw_graph;
 use ciel_look_lanes::lanes::draw_lanes;
+use ciel_look_sheet::sheet::Sheet;
 use ciel_look_shown::markup::Markup;
 use ciel_look_shown::plain::Plain;
 use ciel_look_tasks::scene::Scene;

@@ -1,7 +1,7 @@
 pub use Rattle.ciel_task_crew.proofs.TurnsLemmas
 pub use Rattle.ciel_master_law.proofs.ShopLaws
 pub mod Slots
-mod ToldLemmas
+pub mod ToldLemmas
 pub mod Names
 pub mod Turns
 mod Reports

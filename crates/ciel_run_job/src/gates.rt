@@ -5,7 +5,7 @@ ghost use Rattle.std.specs.Prelude.{◌≡◌, ◌≤◌, ◌++◌, IfOk, OnOk, 
 use sky_base::text::Memory;
 
 /// Takes the gates behind the first so many away.
-pub(crate) fn set_aside<G: Drop>(gates: &mut Vec<G>, workers: usize) -> Result<Vec<G>, Memory>
+pub fn set_aside<G: Drop>(gates: &mut Vec<G>, workers: usize) -> Result<Vec<G>, Memory>
     requires enough { workers ≤ length gates.old.items }
     ensures first { OnOk result (gates.new.items ≡ take workers gates.old.items) }
     ensures others { IfOk result (λ v. v.items ≡ drop workers gates.old.items) }
@@ -17,7 +17,7 @@ pub(crate) fn set_aside<G: Drop>(gates: &mut Vec<G>, workers: usize) -> Result<V
 }
 
 /// Puts gates behind others.
-pub(crate) fn put_behind<G: Drop>(gates: &mut Vec<G>, others: &mut Vec<G>) -> Result<(), Memory>
+pub fn put_behind<G: Drop>(gates: &mut Vec<G>, others: &mut Vec<G>) -> Result<(), Memory>
     ensures { OnOk result (gates.new.items ≡ gates.old.items ++ others.old.items) }
 {
     match gates.append(others) {

@@ -5,7 +5,7 @@
 //! the gates tell are those that driving promises of any crew.
 #![tactic(auto)]
 
-mod gates;
+pub mod gates;
 pub mod opening;
 pub mod run;
 

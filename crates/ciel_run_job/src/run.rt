@@ -366,7 +366,7 @@ where
 }
 
 /// Drives a crew to the end of its run, and closes it. `seed` is that of the master's plan.
-fn run_over<K: Kit + Drop, N: Namer + Drop, C: Crew<K = K, N = N>>(
+pub fn run_over<K: Kit + Drop, N: Namer + Drop, C: Crew<K = K, N = N>>(
     mut master: Master<K, N>,
     mut crew: C,
     seed: u64,

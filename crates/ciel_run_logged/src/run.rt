@@ -119,7 +119,7 @@ where
 }
 
 /// A run that didn't begin, for want of memory. Nothing was put behind its log.
-fn no_run(alloc: Global) -> RanLogged
+pub fn no_run(alloc: Global) -> RanLogged
     ensures end { result.ran.end ≡ RunEnd.Memory }
     ensures empty { result.ran.journal.items ≡ [] }
 {
@@ -279,7 +279,7 @@ where
 }
 
 /// An eye for the log, beside those of the workers.
-fn another_eye<K, N: Namer>(shop: &Shop<K, N>, eyes: &mut Vec<Eye>) -> Eye
+pub fn another_eye<K, N: Namer>(shop: &Shop<K, N>, eyes: &mut Vec<Eye>) -> Eye
     requires some { 0 < length eyes.old.items }
     requires look { AllLook shop.now eyes.old.items }
     ensures of { result.of ≡ shop.now.shelves.of }
@@ -338,7 +338,7 @@ fn run_over<K: Kit + Drop, N: Namer + Drop, C: Crew<K = K, N = N>, D: Keep>(
 }
 
 /// The keeper that was lent, handed back.
-fn handed_back<D>(lent: &mut D) -> &mut D
+pub fn handed_back<D>(lent: &mut D) -> &mut D
     ensures same { result ≡ lent.entry }
 {
     lent

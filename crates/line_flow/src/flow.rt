@@ -240,8 +240,8 @@ impl Flow {
         self.settled.drain(self.alloc, self.outputs)
     }
 
-    // Whether an output is too large whatever is fed.
-    pub(crate) fn is_over(&self) -> bool
+    /// Whether an output is too large whatever is fed: the answer is then `TooLarge`, for these inputs and more.
+    pub fn is_over(&self) -> bool
         ensures { result ≡ true → (t : _) (inputs : _) (more : _) → Stands self.now t → all_lines inputs ≡ all_lines t.fed ++ more
             → gives t.executor t.args inputs t.outputs ≡ Err TooLarge }
     {
