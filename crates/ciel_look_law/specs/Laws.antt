@@ -1,0 +1,67 @@
+-- What is told of a log of a journal is the journal's own.
+use Rattle.std.specs.Prelude.{◌≡◌, ◌≤◌, ◌<◌, ◌^◌, ℕ, List, [], ◌∷◌, ◌++◌, map, length}
+use Rattle.sky_base.specs.KitView.{Gives}
+use Rattle.sky_base.specs.See as s
+use Rattle.sky_frozen_bytes.specs.Codes.{Fits32}
+use Rattle.ciel_journal.specs.Entries.{Entry, journal_of}
+use Rattle.ciel_journal.specs.History.{Event, Plan, lost, standing}
+use Rattle.ciel_journal.specs.Job.{Each, IsPrefix, Job}
+use Rattle.ciel_journal.specs.Turns.{Driven}
+use Rattle.ciel_log.specs.Logging.{most}
+use Rattle.ciel_log.specs.Logs.{Logs}
+use Rattle.ciel_log_read.specs.Recorded.{IsNamed}
+use Rattle.ciel_look_law.specs.Events.{AllTold, DueThere}
+use Rattle.ciel_look_law.specs.Journal.{IsJournal}
+use Rattle.ciel_look_story.specs.Story.{Tells}
+use Rattle.ciel_look_told.specs.Head.{Head, head_bytes, losses}
+use Rattle.ciel_look_told.specs.Told.{Told}
+use Rattle.ciel_task_order.specs.Named.{shop_job}
+
+-- ---- what is asked
+
+-- the digest gives names of 20 or of 32 bytes
+abbrev pub NamesFit : (List ℕ → List ℕ) → Type 0
+NamesFit digest = (bytes : List ℕ) → IsNamed (digest bytes)
+
+-- the number of a wait has 32 bits
+abbrev pub WaitFits : Entry → Type 0
+WaitFits (Entry.Saved number j mark) = Fits32 j
+WaitFits _ = Unit {0}
+
+-- the header has the plan's workers and losses
+abbrev pub HasPlan : Head → Plan → Type 0
+HasPlan head p = (head.0 ≡ p.workers) × (losses head ≡ p.losses)
+
+-- ---- what is so then
+
+module _ (digest : List ℕ → List ℕ) (job : s.Job) (gives : Gives) (p : Plan) where
+  abbrev J : Job s.Desc
+  J = shop_job digest job gives
+
+  -- a driven history has the journal; it is told, and behind it the losses that are due
+  pub record Own (journal : List Entry) (ts : List Told) : Type 0 where
+    pub history : List (Event s.Desc)
+    pub driven : Driven J p history
+    pub entries : journal_of J history ≡ journal
+    pub due : List ℕ
+    pub there : DueThere p (standing J history) due
+    pub told : AllTold digest job gives [] (history ++ map (λ w. lost w (standing J history).closes) due) ts
+    pub own : IsJournal ts (journal ++ map (λ w. Entry.Lost w (standing J history).closes) due)
+
+-- ---- the laws
+
+-- of a whole log
+abbrev pub LogTellsOwn : Type 0
+LogTellsOwn =
+    (digest : List ℕ → List ℕ) → NamesFit digest → (job : s.Job) (gives : Gives) (p : Plan) (header : List ℕ) (journal : List Entry)
+    (bytes : List ℕ) → Logs digest job gives p header journal bytes → length bytes ≤ most → Each WaitFits journal
+    → (head : Head) (ts : List Told) → HasPlan head p → Tells bytes head ts
+    → (header ≡ head_bytes head) × Own digest job gives p journal ts
+
+-- of its beginning, of which a header can be read
+abbrev pub CutLogTellsOwn : Type 0
+CutLogTellsOwn =
+    (digest : List ℕ → List ℕ) → NamesFit digest → (job : s.Job) (gives : Gives) (p : Plan) (header : List ℕ) (journal : List Entry)
+    (all bytes : List ℕ) → Logs digest job gives p header journal all → length all < 2 ^ 32 → Each WaitFits journal → IsPrefix bytes all
+    → (head : Head) (ts : List Told) → HasPlan head p → Tells bytes head ts
+    → (header ≡ head_bytes head) × ((front rest : List Entry) × (front ++ rest ≡ journal) × Own digest job gives p front ts)
