@@ -1,6 +1,6 @@
 -- What the bytes of a record tell, where they are few: its counts and lengths have four bytes, though its descriptions may be none that can be
 -- read.
-use Rattle.std.proofs.Common.{◌≡◌, ◌≤◌, ◌<◌, ◌+◌, ◌-◌, ◌^◌, ℕ, List, [], ◌∷◌, ◌++◌, Bool, true, false, length, map, flat_map, nat_eq, tt}
+use Rattle.std.proofs.Common.{◌≡◌, ◌≤◌, ◌<◌, ◌+◌, ◌-◌, ◌^◌, ℕ, List, [], ◌∷◌, ◌++◌, Bool, true, false, get_or, length, map, flat_map, nat_eq}
 use Rattle.std.proofs.Common.{refl, ap, ap₂, sym, ◌∙◌, subst, arith, append_assoc, append-nil, length-append}
 use Rattle.std.proofs.lemmas.List.{length-map}
 use Rattle.sky_base.specs.Name.{big_endian, canon, name_bytes, name_bytes_if}
@@ -194,8 +194,8 @@ pub record IsReport (r : Recorded) (k : ℕ) (ds : List (Desc (List ℕ))) (ns :
 
 pub is_report : (r : Recorded) → IsRecord r → (k : ℕ) (ds : List (Desc (List ℕ))) (ns : List (List ℕ)) (how : HowEnded) → Fits64 k → Each IsNamed ns
     → Narrow how → length (record_bytes r) < 2 ^ 32 → record_bytes r ≡ report_record k ds ns how → IsReport r k ds ns how
-is_report (started n w from t) g k ds ns how a b c few e = absurd cc
-is_report (dropped n) g k ds ns how a b c few e = absurd cc
+is_report (started n w from t) g k ds ns how a b c few e = let h = ap (λ b. get_or b 0 0) e in absurd (omega (arith, h))
+is_report (dropped n) g k ds ns how a b c few e = let h = ap (λ b. get_or b 0 0) e in absurd (omega (arith, h))
 is_report (reported n es ms way) g k ds ns how a b c few e =
     let s = same_report n k es ds ms ns way how g.0 a g.1.1.0.1 b few e in
     let l = long (big_endian 8 n) (descs_bytes es) (names_bytes ms) (end_bytes way) in

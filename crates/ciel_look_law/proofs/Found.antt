@@ -1,5 +1,5 @@
 -- A story of a log's records tells the first events of the log's history, and behind them losses that are due.
-use Rattle.std.proofs.Common.{◌≡◌, ◌≤◌, ◌<◌, ◌+◌, ◌^◌, ℕ, List, [], ◌∷◌, ◌++◌, Bool, true, false, length, map, tt, ◌⊎◌, inl, inr, Option, None, Some, slice_get}
+use Rattle.std.proofs.Common.{◌≡◌, ◌≤◌, ◌<◌, ◌+◌, ◌^◌, ℕ, List, [], ◌∷◌, ◌++◌, Bool, true, false, length, map, ◌⊎◌, inl, inr, Option, None, Some, slice_get}
 use Rattle.std.proofs.Common.{refl, ap, ap₂, sym, ◌∙◌, subst, arith, append_assoc, append-nil, length-append, flat_map}
 use Rattle.sky_base.specs.KitView.{Gives}
 use Rattle.sky_base.specs.See as s
@@ -81,9 +81,9 @@ module _ (digest : List ℕ → List ℕ) (named : NamesFit digest) (job : s.Job
       (past : Events) (rest more : List ℕ) → Frees digest job gives past v → Rs digest job gives past [] rest → rest ≡ bytes_of rs ++ more
       → tasks.Each IsRecord rs → length rest < 2 ^ 32 → Beyond v ts
 
-  beyond_lose : {v : Stand} {rs : List Recorded} {ts : List Told} (loss w : ℕ) → v.over ≡ false → FirstDue p.losses v.closes v.gone loss w
+  beyond_lose : {v : Stand} (rs : List Recorded) {ts : List Told} (loss w : ℕ) → v.over ≡ false → FirstDue p.losses v.closes v.gone loss w
       → AllBeyond (lose v w) rs ts → AllBeyond v rs (told.lost w v.closes ∷ ts)
-  beyond_lose {v} {rs} {ts} loss w going d ih past rest more free r e good few =
+  beyond_lose {v} rs {ts} loss w going d ih past rest more free r e good few =
       let b = ih past rest more (λ k n. here_less v.gone w (v.worker_of k) (free k n)) r e good few in
       record {
         due = w ∷ b.due;
@@ -104,9 +104,9 @@ module _ (digest : List ℕ → List ℕ) (named : NamesFit digest) (job : s.Job
       let m = ap length e in
       (omega (arith, l, m, h), omega (arith, l, m, h), omega (arith, h), omega (arith, h))
 
-  beyond_tell : {v : Stand} {rs : List Recorded} {ts : List Told} (r : Recorded) → AllBeyond (after_record v r) rs ts
+  beyond_tell : {v : Stand} (rs : List Recorded) {ts : List Told} (r : Recorded) → AllBeyond (after_record v r) rs ts
       → AllBeyond v (r ∷ rs) (tell v r ∷ ts)
-  beyond_tell {v} {rs} {ts} r ih past rest more free left e good few =
+  beyond_tell {v} rs {ts} r ih past rest more free left e good few =
       pick (next_is digest job gives left r (bytes_of rs ++ more) (split r rs more rest e) few)
     where
       pick : NextIs digest job gives past r (bytes_of rs ++ more) [] → Beyond v (tell v r ∷ ts)
@@ -134,8 +134,8 @@ module _ (digest : List ℕ → List ℕ) (named : NamesFit digest) (job : s.Job
       record { due = []; from = none_due v rests; tells = λ before. events.ends; own = journal.ends }
 
   beyond : {v : Stand} {rs : List Recorded} {ts : List Told} → Story p.losses v rs ts → AllBeyond v rs ts
-  beyond (Story.loses loss w going d s) = beyond_lose loss w going d (beyond s)
-  beyond (Story.tells r rests s) = beyond_tell r (beyond s)
+  beyond (Story.loses loss w going d s) = beyond_lose _ loss w going d (beyond s)
+  beyond (Story.tells r rests s) = beyond_tell _ r (beyond s)
   beyond (Story.ends rests) = beyond_end rests
 
   -- ---- the first events
@@ -229,9 +229,9 @@ module _ (digest : List ℕ → List ℕ) (named : NamesFit digest) (job : s.Job
 
   -- ---- a loss
 
-  found_lose : {v : Stand} {rs : List Recorded} {ts : List Told} (loss w : ℕ) → v.over ≡ false → FirstDue p.losses v.closes v.gone loss w
+  found_lose : {v : Stand} (rs : List Recorded) {ts : List Told} (loss w : ℕ) → v.over ≡ false → FirstDue p.losses v.closes v.gone loss w
       → AllBeyond v rs (told.lost w v.closes ∷ ts) → Finds (lose v w) rs ts → Finds v rs (told.lost w v.closes ∷ ts)
-  found_lose {v} {rs} {ts} loss w going d far ih past es rest more a driven fits left e good few = pick es driven fits left
+  found_lose {v} rs {ts} loss w going d far ih past es rest more a driven fits left e good few = pick es driven fits left
     where
       due : FirstDue p.losses (M past).closes (M past).gone loss w
       due = subst (λ k. FirstDue p.losses k (M past).gone loss w) a.closes (subst (λ g. FirstDue p.losses v.closes g loss w) a.gone d)
@@ -262,9 +262,9 @@ module _ (digest : List ℕ → List ℕ) (named : NamesFit digest) (job : s.Job
 
   -- ---- a record
 
-  found_tell : {v : Stand} {rs : List Recorded} {ts : List Told} (r : Recorded) → Rests p.losses v → AllBeyond v (r ∷ rs) (tell v r ∷ ts)
+  found_tell : {v : Stand} (rs : List Recorded) {ts : List Told} (r : Recorded) → Rests p.losses v → AllBeyond v (r ∷ rs) (tell v r ∷ ts)
       → Finds (after_record v r) rs ts → Finds v (r ∷ rs) (tell v r ∷ ts)
-  found_tell {v} {rs} {ts} r rests far ih past es rest more a driven fits left e good few =
+  found_tell {v} rs {ts} r rests far ih past es rest more a driven fits left e good few =
       pick es driven fits left
     where
       sizes : ((M past).starts + 1 + length (bytes_of rs ++ more) < 2 ^ 32) × (length (record_bytes r) < 2 ^ 32) × ((M past).starts < 2 ^ 32)
@@ -324,40 +324,36 @@ module _ (digest : List ℕ → List ℕ) (named : NamesFit digest) (job : s.Job
 
   -- ---- the end
 
-  found_end : {v : Stand} → Rests p.losses v → AllBeyond v [] [] → Finds v [] []
-  found_end {v} rests far past es rest more a driven fits left e good few = pick es driven left e
-    where
-      stands_first : (x : List ℕ) (rest : List ℕ) → rest ≡ more → (more2 : List ℕ) → rest ≡ in_file x ++ more2 → length rest < 2 ^ 32
-          → NoneAs in_file FitsBlock more → ⊥
-      stands_first x rest e more2 q h none =
-          let l = length-append (in_file x) more2 in
-          let m = ap length q in
-          none x more2 (omega (arith, l, m, h)) (sym e ∙ q)
+  stands_first : (x left rest more : List ℕ) → rest ≡ in_file x ++ left → rest ≡ more → length rest < 2 ^ 32 → NoneAs in_file FitsBlock more → ⊥
+  stands_first x left rest more q e h none =
+      let l = length-append (in_file x) left in
+      let m = ap length q in
+      none x left (omega (arith, l, m, h)) (sym e ∙ q)
 
-      nothing_more : (x : Event s.Desc) (es : Events) → DrivenFrom Jb p (M past) (x ∷ es) → {rest : List ℕ} → Rs digest job gives past (x ∷ es) rest
-          → rest ≡ more → length rest < 2 ^ 32 → NoneAs in_file FitsBlock more → ⊥
-      nothing_more x es dr (logs.idle {past} {es} {rest} bytes i then) e h none = stands_first bytes _ e rest refl h none
-      nothing_more x es dr (logs.loses u c then) e h none = no_loss v (M past) a rests u c dr.0 dr.1
-      nothing_more x es dr (logs.tells {past} {es} {rest} y bytes o then) e h none = stands_first bytes _ e rest refl h none
+  -- no event is left where no record is, and the story rests
+  nothing_left : {past es : Events} {rest : List ℕ} → Rs digest job gives past es rest → (v : Stand) → Agrees Jb v (M past) → Rests p.losses v
+      → DrivenFrom Jb p (M past) es → (more : List ℕ) → rest ≡ more → length rest < 2 ^ 32 → NoneAs in_file FitsBlock more → es ≡ []
+  nothing_left logs.over v a rests dr more e h none = refl
+  nothing_left (logs.idle {past} {es} {rest} bytes i then) v a rests dr more e h none =
+      absurd (stands_first bytes rest (in_file bytes ++ rest) more refl e h none)
+  nothing_left (logs.loses {past} {es} {rest} u c then) v a rests dr more e h none = absurd (no_loss v (M past) a rests u c dr.0 dr.1)
+  nothing_left (logs.tells {past} {es} {rest} x bytes o then) v a rests dr more e h none =
+      absurd (stands_first bytes rest (in_file bytes ++ rest) more refl e h none)
 
-      room : length rest < 2 ^ 32
-      room = omega (arith, few)
-
-      pick : (es : Events) → DrivenFrom Jb p (M past) es → Rs digest job gives past es rest → rest ≡ more → Found past es more []
-      pick [] dr left e = no_event past more a (far past rest more a.free left e tt room)
-      pick (x ∷ es) dr left e =
-          record {
-            first = [];
-            then = x ∷ es;
-            parts = refl;
-            due = [];
-            there = due_there v (M past) a [] (none_due v rests);
-            tells = events.ends;
-            own = journal.ends;
-            whole = λ nothing. absurd (nothing_more x es dr left e room nothing);
-          }
+  found_end : {v : Stand} → Rests p.losses v → Finds v [] []
+  found_end {v} rests past es rest more a driven fits left e good few =
+      record {
+        first = [];
+        then = es;
+        parts = refl;
+        due = [];
+        there = due_there v (M past) a [] (none_due v rests);
+        tells = events.ends;
+        own = journal.ends;
+        whole = λ none. nothing_left left v a rests driven more e (omega (arith, few)) none;
+      }
 
   pub found : {v : Stand} {rs : List Recorded} {ts : List Told} → Story p.losses v rs ts → Finds v rs ts
-  found (Story.loses loss w going d s) = found_lose loss w going d (beyond (Story.loses loss w going d s)) (found s)
-  found (Story.tells r rests s) = found_tell r rests (beyond (Story.tells r rests s)) (found s)
-  found (Story.ends rests) = found_end rests (beyond (Story.ends rests))
+  found (Story.loses loss w going d s) = found_lose _ loss w going d (beyond (Story.loses loss w going d s)) (found s)
+  found (Story.tells r rests s) = found_tell _ r rests (beyond (Story.tells r rests s)) (found s)
+  found (Story.ends rests) = found_end rests

@@ -1,5 +1,5 @@
 -- The record of an event: what is told of it, and what stands then.
-use Rattle.std.proofs.Common.{◌≡◌, ◌≤◌, ◌<◌, ◌+◌, ◌^◌, ℕ, zero, suc, List, [], ◌∷◌, ◌++◌, Bool, true, false, not, cond, ◌||◌, length, map, nat_eq, tt}
+use Rattle.std.proofs.Common.{◌≡◌, ◌≤◌, ◌<◌, ◌+◌, ◌^◌, ℕ, zero, suc, List, [], ◌∷◌, ◌++◌, Bool, true, false, not, cond, ◌||◌, length, map, nat_eq}
 use Rattle.std.proofs.Common.{Option, Some, filter, slice_get, refl, ap, ap₂, sym, ◌∙◌, subst, arith}
 use Rattle.std.proofs.lemmas.List.{length-map}
 use Rattle.sky_base.specs.KitView.{Gives}
@@ -30,7 +30,7 @@ use Rattle.ciel_look_story.specs.Story.{Stand, after as after_record, is_out, is
 use Rattle.ciel_look_told.specs.Told as told
 use Rattle.ciel_look_told.specs.Told.{Told, outcome, weight}
 use Rattle.ciel_master_board.specs.Follows.{OneByOne}
-use Rattle.ciel_master_board.specs.NamesLaws.{no_name}
+use Rattle.sky_base_law.specs.NamesLaws.{no_name}
 use Rattle.ciel_task_order.specs.Named.{by_names, shop_job}
 use Rattle.ciel_want.specs.History.{task_id}
 

@@ -1,5 +1,5 @@
 -- What is left of a log behind some records, and which record stands there.
-use Rattle.std.proofs.Common.{◌≡◌, ◌<◌, ◌^◌, ℕ, List, [], ◌∷◌, ◌++◌, Bool, true, false, not, cond, nat_eq, length, None, Option, Some, filter, ◌⊎◌, inl, inr}
+use Rattle.std.proofs.Common.{◌≡◌, ◌<◌, ◌^◌, ℕ, List, [], ◌∷◌, ◌++◌, Bool, true, false, not, cond, nat_eq, get_or, length, None, Option, Some, filter, ◌⊎◌, inl, inr}
 use Rattle.std.proofs.Common.{refl, ap, sym, ◌∙◌, subst, arith, append_assoc, length-append}
 use Rattle.sky_base.specs.KitView.{Gives}
 use Rattle.sky_base.specs.See as s
@@ -115,8 +115,10 @@ module _ (digest : List ℕ → List ℕ) (job : s.Job) (gives : Gives) where
 
   pub idle_late : (past : List (Event s.Desc)) (v : Stand) → Frees past v → (r : Recorded) → IsRecord r → (bytes : List ℕ)
       → Idle digest job gives past bytes → record_bytes r ≡ bytes → Late v r
-  idle_late past v f (read.started n w from t) g bytes (logs.reported k free ds ns how) e = absurd cc
-  idle_late past v f (read.started n w from t) g bytes (logs.dropped k free) e = absurd cc
+  idle_late past v f (read.started n w from t) g bytes (logs.reported k free ds ns how) e =
+      let h = ap (λ b. get_or b 0 0) e in absurd (omega (arith, h))
+  idle_late past v f (read.started n w from t) g bytes (logs.dropped k free) e =
+      let h = ap (λ b. get_or b 0 0) e in absurd (omega (arith, h))
   idle_late past v f (read.reported n es ms way) g bytes (logs.reported k free ds ns how) e =
       let same = one_number n k es ds ms ns way how g.0 free.0 e in
       let out : is_out v n ≡ false = ap (is_out v) same ∙ f k free.1 in
@@ -125,5 +127,6 @@ module _ (digest : List ℕ → List ℕ) (job : s.Job) (gives : Gives) where
         told = ap (λ b. cond b (told.ended n es ms (outcome way)) (told.late n)) out;
         still = ap (λ b. cond b (closed v n (is_shown way)) v) out;
       }
-  idle_late past v f (read.reported n es ms way) g bytes (logs.dropped k free) e = absurd cc
+  idle_late past v f (read.reported n es ms way) g bytes (logs.dropped k free) e =
+      let h = ap (λ b. get_or b 0 0) e in absurd (omega (arith, h))
   idle_late past v f (read.dropped n) g bytes i e = record { number = n; told = refl; still = refl }

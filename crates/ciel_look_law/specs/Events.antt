@@ -1,5 +1,5 @@
 -- What is told of a history: one entry for each of its events, in order, and between them reports that came too late.
-use Rattle.std.specs.Prelude.{◌≡◌, ℕ, List, [], ◌∷◌, ◌++◌, true, false, map}
+use Rattle.std.specs.Prelude.{◌≡◌, ℕ, List, [], ◌∷◌, ◌++◌, true, false, Some, map}
 use Rattle.sky_base.specs.KitView.{Gives}
 use Rattle.sky_base.specs.Name.{canon}
 use Rattle.sky_base.specs.See as s
@@ -7,10 +7,10 @@ use Rattle.sky_base.specs.Val.{Desc}
 use Rattle.sky_base.specs.declared.fault.Fault.{Fault}
 use Rattle.ciel_name.specs.Descs.{fault_bytes}
 use Rattle.ciel_journal.specs.Entries.{low_names}
-use Rattle.ciel_journal.specs.History.{Event, Plan, Standing, done, lost, missed, names_of, saved, start}
+use Rattle.ciel_journal.specs.History.{Event, OpenStart, Plan, Standing, done, find_open, lost, missed, names_of, saved, standing, start}
 use Rattle.ciel_journal.specs.Job.{Job}
 use Rattle.ciel_journal.specs.Turns.{FirstDue, NothingDue}
-use Rattle.ciel_log.specs.Logs.{Closes, IsDone, IsStackOf}
+use Rattle.ciel_log.specs.Logs.{IsDone, IsStackOf}
 use Rattle.ciel_log_records.specs.Records.{HowEnded, failed}
 use Rattle.ciel_look_told.specs.Told as told
 use Rattle.ciel_look_told.specs.Told.{Outcome, Told, outcome}
@@ -37,14 +37,18 @@ module _ (digest : List ℕ → List ℕ) (job : s.Job) (gives : Gives) where
   abbrev J : Job s.Desc
   J = shop_job digest job gives
 
+  -- of the open Start with this number, behind a history
+  abbrev OfOpen : List (Event s.Desc) → ℕ → (OpenStart s.Desc → Type 0) → Type 0
+  OfOpen past k P = (o : OpenStart s.Desc) × (find_open J k (standing J past).orders ≡ Some o) × P o
+
   -- of an event behind a history: the objects of a task's outputs, its state at a wait and what the job means are those of the model
   abbrev pub EventTold : List (Event s.Desc) → Event s.Desc → Told → Type 0
   EventTold past (start k w t from) x = x ≡ told.started k w from (task_id J t)
   EventTold past (done k made copied spawned) x =
-      Closes digest job gives past k (λ o. (how : HowEnded) × IsDone digest job gives o.task (names_of made) how
+      OfOpen past k (λ o. (how : HowEnded) × IsDone digest job gives o.task (names_of made) how
       × EndTold k (map (by_names digest) spawned) (low_names J copied) how x)
   EventTold past (saved k j mark refs holds spawned) x =
-      Closes digest job gives past k (λ o. (stack : List ℕ) × IsStackOf digest job gives o.task j stack
+      OfOpen past k (λ o. (stack : List ℕ) × IsStackOf digest job gives o.task j stack
       × EndTold k (map (by_names digest) spawned) [] (HowEnded.saved j stack) x)
   EventTold past (missed k d loss) x = EndTold k [] [] (HowEnded.missing (J.name d) loss) x
   EventTold past (lost w closes) x = x ≡ told.lost w closes
