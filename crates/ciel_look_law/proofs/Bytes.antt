@@ -12,7 +12,8 @@ use Rattle.ciel_name.specs.Object.{object_bytes}
 use Rattle.ciel_name.proofs.PrefixFreeBytes.{four_free}
 use Rattle.sky_frozen_bytes.specs.Codes.{Counted, Fits32}
 use Rattle.sky_frozen_bytes.proofs.Codes.{both_free, counted_free, numbers_free}
-use Rattle.ciel_log_records.specs.Records.{HowEnded, answered, block, counted, end_bytes, failed, made, missing, report_record, saved, start_record}
+use Rattle.ciel_log_records.specs.Records.{HowEnded, answered, block, counted, dropped_record, end_bytes, failed, made, missing, report_record, saved}
+use Rattle.ciel_log_records.specs.Records.{start_record}
 use Rattle.ciel_log_read.specs.Recorded as read
 use Rattle.ciel_log_read.specs.Recorded.{Fits64, FitsBlock, IsEnd, IsNamed, IsRecord, IsTask, Recorded, dropped, record_bytes, reported, started}
 use Rattle.ciel_log_read.proofs.Pieces.{blocks_free, longs_free, names_free}
@@ -115,6 +116,10 @@ first_number k n ds es ms ns how way p q e =
 pub one_number : (k n : ℕ) (ds es : List (Desc (List ℕ))) (ms ns : List (List ℕ)) (how way : HowEnded) → Fits64 k → Fits64 n
     → report_record k ds ms how ≡ report_record n es ns way → k ≡ n
 one_number k n ds es ms ns how way p q e = (first_number k n ds es ms ns how way p q e).0
+
+pub one_dropped : (k n : ℕ) → Fits64 k → Fits64 n → dropped_record k ≡ dropped_record n → k ≡ n
+one_dropped k n p q e =
+    let t : big_endian 8 k ≡ big_endian 8 n = cc in (longs_free k n [] [] p q (ap (λ b. b ++ []) t)).0
 
 same_report : (k n : ℕ) (ds es : List (Desc (List ℕ))) (ms ns : List (List ℕ)) (how way : HowEnded) → Fits64 k → Fits64 n → Each IsNamed ms
     → Each IsNamed ns → length (report_record k ds ms how) < 2 ^ 32 → report_record k ds ms how ≡ report_record n es ns way

@@ -8,9 +8,10 @@ use Rattle.sky_frozen_bytes.specs.Codes.{Fits32, NoneAs}
 use Rattle.ciel_journal.specs.Entries.{Entry, journal_of, low}
 use Rattle.ciel_journal.specs.History.{Event, OpenStart, Plan, Standing, after, after_all, close_with, done, done_with, find_open, lost, missed}
 use Rattle.ciel_journal.specs.History.{missed_with, saved, saved_with, standing, start}
-use Rattle.ciel_journal.specs.Job.{Each, Job}
+use Rattle.ciel_journal.specs.Job.{Each, IsJob, Job}
 use Rattle.ciel_journal.specs.Lawful.{Step}
 use Rattle.ciel_journal.specs.Turns.{DrivenFrom, FirstDue, NothingDue, Turn}
+use Rattle.ciel_journal.proofs.OneWorker.{first_one}
 use Rattle.ciel_log.specs.Logs as logs
 use Rattle.ciel_log_records.specs.Records.{in_file}
 use Rattle.ciel_log_read.specs.Recorded.{FitsBlock, IsRecord, Recorded, record_bytes}
@@ -21,7 +22,7 @@ use Rattle.ciel_look_law.specs.Journal.{IsJournal, IsOf}
 use Rattle.ciel_look_law.specs.Laws.{NamesFit, WaitFits}
 use Rattle.ciel_look_law.proofs.Happened.{happens}
 use Rattle.ciel_look_law.proofs.Left as next
-use Rattle.ciel_look_law.proofs.Left.{Frees, J, NextIs, Rs, idle_late, lose_first, next_is, one_more}
+use Rattle.ciel_look_law.proofs.Left.{Frees, J, NextIs, Rs, free_on, idle_late, laws, lose_first, next_is, one_more}
 use Rattle.ciel_look_law.proofs.Stands.{Agrees, agrees_lost, here_less}
 use Rattle.ciel_look_story.specs.Story.{Rests, Stand, Story, after as after_record, lose, tell}
 use Rattle.ciel_look_told.specs.Told as told
@@ -30,27 +31,13 @@ use Rattle.ciel_look_told.specs.Told.{Told}
 abbrev pub bytes_of : List Recorded → List ℕ
 bytes_of rs = flat_map in_file (map record_bytes rs)
 
--- two first losses that are due are of one worker
-one_due : (losses : List (ℕ × ℕ)) (closes : ℕ) (gone : List ℕ) (w u i j : ℕ) → FirstDue losses closes gone i w → FirstDue losses closes gone j u → w ≡ u
-one_due losses closes gone w u i j x y = pick (x.least j y.count u y.due) (y.least i x.count w x.due)
-  where
-    at : i ≡ j → w ≡ u
-    at e =
-        let a : slice_get losses j ≡ Some (x.count, w) = subst (λ l. slice_get losses l ≡ Some (x.count, w)) e x.due.planned in
-        let b : Some (x.count, w) ≡ Some (y.count, u) = sym a ∙ y.due.planned in
-        let c : (x.count, w) ≡ (y.count, u) = cc in
-        ap (λ (z : ℕ × ℕ). z.1) c
-
-    pick : ((x.count < y.count) ⊎ ((x.count ≡ y.count) × (i ≤ j))) → ((y.count < x.count) ⊎ ((y.count ≡ x.count) × (j ≤ i))) → w ≡ u
-    pick (inl a) (inl b) = absurd (omega (arith, a, b))
-    pick (inl a) (inr b) = let c = b.0 in absurd (omega (arith, a, c))
-    pick (inr a) (inl b) = let c = a.0 in absurd (omega (arith, b, c))
-    pick (inr a) (inr b) = let c = a.1 in let d = b.1 in at (omega (arith, c, d))
-
 module _ (digest : List ℕ → List ℕ) (named : NamesFit digest) (job : s.Job) (gives : Gives) (p : Plan) (workers : Fits32 p.workers)
     (losses : length p.losses ≤ 64) where
   abbrev Jb : Job s.Desc
   Jb = J digest job gives
+
+  abbrev lw : IsJob Jb
+  lw = laws digest job gives
 
   abbrev Events : Type 0
   Events = List (Event s.Desc)
@@ -70,16 +57,20 @@ module _ (digest : List ℕ → List ℕ) (named : NamesFit digest) (job : s.Job
   abbrev DueFrom : Stand → List ℕ → Type 0
   DueFrom v due = (v.over ≡ true → due ≡ []) × (v.over ≡ false → AllLost p.losses v.closes v.gone due)
 
-  record Beyond (v : Stand) (ts : List Told) : Type 0 where
+  -- what isn't open behind the first history isn't open behind the second
+  abbrev StaysFree : Events → Events → Type 0
+  StaysFree past later = (k : ℕ) → find_open Jb k (M past).orders ≡ None → find_open Jb k (M later).orders ≡ None
+
+  record Beyond (past : Events) (v : Stand) (ts : List Told) : Type 0 where
     due : List ℕ
     from : DueFrom v due
-    tells : (past : Events) → AllTold digest job gives past (lost_all v.closes due) ts
+    tells : (later : Events) → StaysFree past later → AllTold digest job gives later (lost_all v.closes due) ts
     own : IsJournal ts (entries_lost v.closes due)
 
   abbrev AllBeyond : Stand → List Recorded → List Told → Type 0
   AllBeyond v rs ts =
       (past : Events) (rest more : List ℕ) → Frees digest job gives past v → Rs digest job gives past [] rest → rest ≡ bytes_of rs ++ more
-      → tasks.Each IsRecord rs → length rest < 2 ^ 32 → Beyond v ts
+      → tasks.Each IsRecord rs → length rest < 2 ^ 32 → Beyond past v ts
 
   beyond_lose : {v : Stand} (rs : List Recorded) {ts : List Told} (loss w : ℕ) → v.over ≡ false → FirstDue p.losses v.closes v.gone loss w
       → AllBeyond (lose v w) rs ts → AllBeyond v rs (told.lost w v.closes ∷ ts)
@@ -88,7 +79,8 @@ module _ (digest : List ℕ → List ℕ) (named : NamesFit digest) (job : s.Job
       record {
         due = w ∷ b.due;
         from = (λ over. let bad : true ≡ false = sym over ∙ going in absurd cc, λ not. events.loses loss w d (b.from.1 not));
-        tells = λ before. events.tells (lost w v.closes) (told.lost w v.closes) refl (b.tells (before ++ lost w v.closes ∷ []));
+        tells = λ later free. events.tells (lost w v.closes) (told.lost w v.closes) refl
+            (b.tells (later ++ lost w v.closes ∷ []) (λ k h. free_on digest job gives later w v.closes k (free k h)));
         own = journal.tells (told.lost w v.closes) (Entry.Lost w v.closes) (refl, refl) b.own;
       }
 
@@ -109,17 +101,17 @@ module _ (digest : List ℕ → List ℕ) (named : NamesFit digest) (job : s.Job
   beyond_tell {v} rs {ts} r ih past rest more free left e good few =
       pick (next_is digest job gives left r (bytes_of rs ++ more) (split r rs more rest e) few)
     where
-      pick : NextIs digest job gives past r (bytes_of rs ++ more) [] → Beyond v (tell v r ∷ ts)
+      pick : NextIs digest job gives past r (bytes_of rs ++ more) [] → Beyond past v (tell v r ∷ ts)
       pick (next.idles bytes i q then) =
           let late = idle_late digest job gives past v free r good.0 bytes i q in
           let h = shorter (record_bytes r) (bytes_of rs ++ more) rest (split r rs more rest e) 0 (omega (arith, few)) in
           let l = h.0 in
-          let b : Beyond v ts = subst (λ z. AllBeyond z rs ts) late.still ih past (bytes_of rs ++ more) more free then refl good.1 (omega (arith, l)) in
+          let b : Beyond past v ts = subst (λ z. AllBeyond z rs ts) late.still ih past (bytes_of rs ++ more) more free then refl good.1 (omega (arith, l)) in
           record {
             due = b.due;
             from = b.from;
-            tells = λ before. subst (λ t. AllTold digest job gives before (lost_all v.closes b.due) (t ∷ ts)) (sym late.told)
-                (events.late late.number (b.tells before));
+            tells = λ later frees. subst (λ t. AllTold digest job gives later (lost_all v.closes b.due) (t ∷ ts)) (sym late.told)
+                (events.late late.number (frees late.number late.free) (b.tells later frees));
             own = subst (λ t. IsJournal (t ∷ ts) (entries_lost v.closes b.due)) (sym late.told) (journal.late late.number b.own);
           }
 
@@ -131,7 +123,7 @@ module _ (digest : List ℕ → List ℕ) (named : NamesFit digest) (job : s.Job
 
   beyond_end : {v : Stand} → Rests p.losses v → AllBeyond v [] []
   beyond_end {v} rests past rest more free left e good few =
-      record { due = []; from = none_due v rests; tells = λ before. events.ends; own = journal.ends }
+      record { due = []; from = none_due v rests; tells = λ later free. events.ends; own = journal.ends }
 
   beyond : {v : Stand} {rs : List Recorded} {ts : List Told} → Story p.losses v rs ts → AllBeyond v rs ts
   beyond (Story.loses loss w going d s) = beyond_lose _ loss w going d (beyond s)
@@ -157,11 +149,11 @@ module _ (digest : List ℕ → List ℕ) (named : NamesFit digest) (job : s.Job
 
   abbrev pub Finds : Stand → List Recorded → List Told → Type 0
   Finds v rs ts =
-      (past es : Events) (rest more : List ℕ) → Agrees Jb v (M past) → DrivenFrom Jb p (M past) es → Each WaitFits (journal_of Jb es)
+      (past es : Events) (rest more : List ℕ) → Agrees Jb lw v (M past) → DrivenFrom Jb p (M past) es → Each WaitFits (journal_of Jb es)
       → Rs digest job gives past es rest → rest ≡ bytes_of rs ++ more → tasks.Each IsRecord rs → (M past).starts + length rest < 2 ^ 32
       → Found past es more ts
 
-  due_there : (v : Stand) (m : Standing s.Desc) → Agrees Jb v m → (due : List ℕ) → DueFrom v due → DueThere p m due
+  due_there : (v : Stand) (m : Standing s.Desc) → Agrees Jb lw v m → (due : List ℕ) → DueFrom v due → DueThere p m due
   due_there v m a due from =
       record {
         done = λ over. from.0 (a.over ∙ over);
@@ -170,7 +162,7 @@ module _ (digest : List ℕ → List ℕ) (named : NamesFit digest) (job : s.Job
       }
 
   -- where no event is left
-  no_event : {v : Stand} {ts : List Told} (past : Events) (more : List ℕ) → Agrees Jb v (M past) → Beyond v ts → Found past [] more ts
+  no_event : {v : Stand} {ts : List Told} (past : Events) (more : List ℕ) → Agrees Jb lw v (M past) → Beyond past v ts → Found past [] more ts
   no_event {v} {ts} past more a b =
       record {
         first = [];
@@ -178,7 +170,7 @@ module _ (digest : List ℕ → List ℕ) (named : NamesFit digest) (job : s.Job
         parts = refl;
         due = b.due;
         there = due_there v (M past) a b.due b.from;
-        tells = subst (λ c. AllTold digest job gives past (lost_all c b.due) ts) a.closes (b.tells past);
+        tells = subst (λ c. AllTold digest job gives past (lost_all c b.due) ts) a.closes (b.tells past (λ k h. h));
         own = subst (λ c. IsJournal ts (entries_lost c b.due)) a.closes b.own;
         whole = λ none. refl;
       }
@@ -203,9 +195,9 @@ module _ (digest : List ℕ → List ℕ) (named : NamesFit digest) (job : s.Job
       }
 
   -- a late report more
-  late_too : (past es : Events) (more : List ℕ) (ts : List Told) (t : Told) (k : ℕ) → t ≡ told.late k → Found past es more ts
+  late_too : (past es : Events) (more : List ℕ) (ts : List Told) (t : Told) (k : ℕ) → find_open Jb k (M past).orders ≡ None → t ≡ told.late k → Found past es more ts
       → Found past es more (t ∷ ts)
-  late_too past es more ts t k e f =
+  late_too past es more ts t k free e f =
       record {
         first = f.first;
         then = f.then;
@@ -213,14 +205,14 @@ module _ (digest : List ℕ → List ℕ) (named : NamesFit digest) (job : s.Job
         due = f.due;
         there = f.there;
         tells = subst (λ z. AllTold digest job gives past (f.first ++ lost_all (then_stands past f.first).closes f.due) (z ∷ ts)) (sym e)
-            (events.late k f.tells);
+            (events.late k free f.tells);
         own = subst (λ z. IsJournal (z ∷ ts) (journal_of Jb f.first ++ entries_lost (then_stands past f.first).closes f.due)) (sym e)
             (journal.late k f.own);
         whole = f.whole;
       }
 
   -- a driven history has no loss where a story rests
-  no_loss : (v : Stand) (m : Standing s.Desc) → Agrees Jb v m → Rests p.losses v → (w c : ℕ) → Step Jb p m (lost w c) → Turn Jb p m (lost w c) → ⊥
+  no_loss : (v : Stand) (m : Standing s.Desc) → Agrees Jb lw v m → Rests p.losses v → (w c : ℕ) → Step Jb p m (lost w c) → Turn Jb p m (lost w c) → ⊥
   no_loss v m a (inl over) w c st t = let bad : true ≡ false = sym over ∙ (a.over ∙ st.going) in absurd cc
   no_loss v m a (inr none) w c st t =
       let d : FirstDue p.losses v.closes v.gone t.0 w =
@@ -241,11 +233,11 @@ module _ (digest : List ℕ → List ℕ) (named : NamesFit digest) (job : s.Job
           → DrivenFrom Jb p (after Jb (M past) (lost u c)) es → Each WaitFits (journal_of Jb es) → Rs digest job gives past (lost u c ∷ es) rest
           → Found past (lost u c ∷ es) more (told.lost w v.closes ∷ ts)
       lost_next u c es st turn dr fs left =
-          let same : w ≡ u = one_due p.losses (M past).closes (M past).gone w u loss turn.0 due turn.1 in
+          let same : w ≡ u = first_one Jb lw p (M past) w u loss turn.0 due turn.1 in
           let at : M (past ++ lost u c ∷ []) ≡ after Jb (M past) (lost u c) = one_more digest job gives past (lost u c) in
-          let stands : Agrees Jb (lose v w) (after Jb (M past) (lost u c)) =
-          subst (λ z. Agrees Jb (lose v w) (after Jb (M past) (lost z c))) same (agrees_lost Jb v (M past) a w c) in
-          let f = ih (past ++ lost u c ∷ []) es rest more (subst (Agrees Jb (lose v w)) (sym at) stands)
+          let stands : Agrees Jb lw (lose v w) (after Jb (M past) (lost u c)) =
+          subst (λ z. Agrees Jb lw (lose v w) (after Jb (M past) (lost z c))) same (agrees_lost Jb lw v (M past) a w c) in
+          let f = ih (past ++ lost u c ∷ []) es rest more (subst (Agrees Jb lw (lose v w)) (sym at) stands)
           (subst (λ (m : Standing s.Desc). DrivenFrom Jb p m es) (sym at) dr) fs (lose_first digest job gives past es u c rest left) e good
           (subst (λ (m : Standing s.Desc). m.starts + length rest < 2 ^ 32) (sym at) few) in
           let count : v.closes ≡ c = a.closes ∙ sym st.allowed.now in
@@ -302,7 +294,7 @@ module _ (digest : List ℕ → List ℕ) (named : NamesFit digest) (job : s.Job
       go x es dr fs (next.idles bytes i q then) =
           let late = idle_late digest job gives past v a.free r good.0 bytes i q in
           let l = sizes.0 in
-          late_too past (x ∷ es) more ts (tell v r) late.number late.told
+          late_too past (x ∷ es) more ts (tell v r) late.number late.free late.told
           (subst (λ z. Finds z rs ts) late.still ih past (x ∷ es) (bytes_of rs ++ more) more a dr fs then refl good.1 (omega (arith, l)))
       go x es dr fs (next.loses u c) = absurd (no_loss v (M past) a rests u c dr.0 dr.1)
       go x es dr fs (next.tells y bytes o q then) =
@@ -312,7 +304,7 @@ module _ (digest : List ℕ → List ℕ) (named : NamesFit digest) (job : s.Job
           let up = rises x in
           let room : (after Jb (M past) x).starts + length (bytes_of rs ++ more) < 2 ^ 32 = omega (arith, l, up) in
           prepend past es more ts x (tell v r) h.event h.entry
-          (ih (past ++ x ∷ []) es (bytes_of rs ++ more) more (subst (Agrees Jb (after_record v r)) (sym at) h.agrees)
+          (ih (past ++ x ∷ []) es (bytes_of rs ++ more) more (subst (Agrees Jb lw (after_record v r)) (sym at) h.agrees)
           (subst (λ (m : Standing s.Desc). DrivenFrom Jb p m es) (sym at) dr.2) fs.1 then refl good.1
           (subst (λ (m : Standing s.Desc). m.starts + length (bytes_of rs ++ more) < 2 ^ 32) (sym at) room))
 
@@ -331,7 +323,7 @@ module _ (digest : List ℕ → List ℕ) (named : NamesFit digest) (job : s.Job
       none x left (omega (arith, l, m, h)) (sym e ∙ q)
 
   -- no event is left where no record is, and the story rests
-  nothing_left : {past es : Events} {rest : List ℕ} → Rs digest job gives past es rest → (v : Stand) → Agrees Jb v (M past) → Rests p.losses v
+  nothing_left : {past es : Events} {rest : List ℕ} → Rs digest job gives past es rest → (v : Stand) → Agrees Jb lw v (M past) → Rests p.losses v
       → DrivenFrom Jb p (M past) es → (more : List ℕ) → rest ≡ more → length rest < 2 ^ 32 → NoneAs in_file FitsBlock more → es ≡ []
   nothing_left logs.over v a rests dr more e h none = refl
   nothing_left (logs.idle {past} {es} {rest} bytes i then) v a rests dr more e h none =

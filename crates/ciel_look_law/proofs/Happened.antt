@@ -1,7 +1,7 @@
 -- The record of an event: what is told of it, and what stands then.
 use Rattle.std.proofs.Common.{◌≡◌, ◌≤◌, ◌<◌, ◌+◌, ◌^◌, ℕ, zero, suc, List, [], ◌∷◌, ◌++◌, Bool, true, false, not, cond, ◌||◌, length, map, nat_eq}
-use Rattle.std.proofs.Common.{Option, Some, filter, slice_get, refl, ap, ap₂, sym, ◌∙◌, subst, arith}
-use Rattle.std.proofs.lemmas.List.{length-map}
+use Rattle.std.proofs.Common.{None, Option, Some, filter, slice_get, refl, ap, ap₂, sym, ◌∙◌, subst, arith}
+use Rattle.sha1.specs.Sha1.{sha1}
 use Rattle.sky_base.specs.KitView.{Gives}
 use Rattle.sky_base.specs.Name.{canon, digested, low_desc}
 use Rattle.sky_base.specs.Res.{Object}
@@ -10,20 +10,24 @@ use Rattle.sky_base.specs.Val as v
 use Rattle.sky_base.specs.Val.{Desc}
 use Rattle.sky_base_law.specs.Tasks as tasks
 use Rattle.sky_frozen_bytes.specs.Codes.{Fits32}
+use Rattle.ciel_name.specs.Object.{object_bytes}
 use Rattle.ciel_journal.specs.Entries.{Entry, low, low_made, low_names, low_task}
 use Rattle.ciel_journal.specs.History.{Event, OpenStart, Plan, Save, Standing, after, close_with, closed, done, done_with, ends_show, find_open, lost}
 use Rattle.ciel_journal.specs.History.{missed, missed_with, names_of, saved, saved_with, standing, start}
-use Rattle.ciel_journal.specs.Job.{Digest, Each, Job, Task, of, show}
-use Rattle.ciel_journal.specs.Lawful.{Marked, Step}
+use Rattle.ciel_journal.specs.Job.{Digest, Each, Held, IsJob, Job, ObjectOf, StateOf, Task, of, show}
+use Rattle.ciel_journal.specs.Lawful.{Marked, SavedAllowed, Step}
 use Rattle.ciel_journal.proofs.Good.{each_join}
-use Rattle.ciel_log.specs.Logs.{IsDone, IsObjectOf, RecordOf}
+use Rattle.ciel_journal.proofs.Unique.{object_unique, same_found, state_unique}
+use Rattle.ciel_journal_job.specs.Real.{held_if, mark_if}
+use Rattle.ciel_json.specs.Around.{json_around}
+use Rattle.ciel_log.specs.Logs.{IsDone, IsObjectOf, IsStackOf, RecordOf}
 use Rattle.ciel_log_records.specs.Records.{HowEnded}
 use Rattle.ciel_log_read.specs.Recorded.{IsNamed, IsRecord, IsTask, Recorded, record_bytes, reported, started}
 use Rattle.ciel_look_law.specs.Events.{EndTold, EventTold, IsOutcome}
-use Rattle.ciel_look_law.specs.Journal.{IsEnd, IsOf, id_of}
+use Rattle.ciel_look_law.specs.Journal.{IsEnd, IsOf, Weighs, id_of}
 use Rattle.ciel_look_law.specs.Laws.{NamesFit, WaitFits}
 use Rattle.ciel_look_law.proofs.Bytes.{IsReport, Narrow, is_report, is_start}
-use Rattle.ciel_look_law.proofs.Left.{J}
+use Rattle.ciel_look_law.proofs.Left.{J, laws}
 use Rattle.ciel_look_law.proofs.Stands.{Agrees, agrees_closed, agrees_start, from_fits, number_below, out_there}
 use Rattle.ciel_look_story.specs.Story as story
 use Rattle.ciel_look_story.specs.Story.{Stand, after as after_record, is_out, is_shown, tell}
@@ -31,7 +35,7 @@ use Rattle.ciel_look_told.specs.Told as told
 use Rattle.ciel_look_told.specs.Told.{Told, outcome, weight}
 use Rattle.ciel_master_board.specs.Follows.{OneByOne}
 use Rattle.sky_base_law.specs.NamesLaws.{no_name}
-use Rattle.ciel_task_order.specs.Named.{by_names, shop_job}
+use Rattle.ciel_task_order.specs.Named.{by_names, frozen_mark, mark_of, name_of}
 use Rattle.ciel_want.specs.History.{task_id}
 
 -- ---- small facts
@@ -41,18 +45,12 @@ got_below [] i x e = absurd cc
 got_below (y ∷ xs) zero x e = omega arith
 got_below (y ∷ xs) (suc i) x e = let m = got_below xs i x e in omega (arith, m)
 
-same_some : {A : Type 0} {x y : A} {o : Option A} → o ≡ Some x → o ≡ Some y → x ≡ y
-same_some {A} {x} {y} e g = let s : Some x ≡ Some y = sym e ∙ g in cc
-
-as_many : {A B : Type 0} (R : A → B → Type 0) (xs : List A) (ys : List B) → OneByOne R xs ys → length ys ≡ length xs
-as_many R [] [] o = refl
-as_many R [] (y ∷ ys) o = absurd o
-as_many R (x ∷ xs) [] o = absurd o
-as_many R (x ∷ xs) (y ∷ ys) o = let m = as_many R xs ys o.1 in omega (arith, m)
-
 module _ (digest : List ℕ → List ℕ) (named : NamesFit digest) (job : s.Job) (gives : Gives) where
   abbrev Jb : Job s.Desc
   Jb = J digest job gives
+
+  abbrev lw : IsJob Jb
+  lw = laws digest job gives
 
   -- ---- names
 
@@ -86,9 +84,37 @@ module _ (digest : List ℕ → List ℕ) (named : NamesFit digest) (job : s.Job
   done_end show outputs (HowEnded.missing name loss) d = absurd d
   done_end (of e) outputs how d = subst (λ h. Narrow h × (is_shown h ≡ false)) (sym d.2) (tt, refl)
 
-  made_many : (made : List (s.Desc × Digest)) → length (low_made Jb made) ≡ length (names_of made)
-  made_many [] = refl
-  made_many (m ∷ ms) = let r = made_many ms in omega (arith, r)
+  -- the mark of an output is that of its object
+  marks_weigh : (ds : List s.Desc) (made : List (s.Desc × Digest)) (objects : List (Object (List ℕ))) → Marked Jb ds made
+      → OneByOne (IsObjectOf digest job gives) (names_of made) objects → OneByOne Weighs (map weight objects) (low_made Jb made)
+  marks_weigh ds [] [] k o = tt
+  marks_weigh ds [] (x ∷ xs) k o = absurd o
+  marks_weigh ds (d ∷ made) [] k o = absurd o
+  marks_weigh [] (d ∷ made) (x ∷ xs) k o = absurd k
+  marks_weigh (c ∷ ds) (d ∷ made) (x ∷ xs) k o =
+      let seen : ObjectOf Jb d.0 (mark_of digest o.0.1) =
+      (o.0.0, ap (mark_if job (json_around gives) (name_of digest) (mark_of digest) (frozen_mark digest)) o.0.2) in
+      let marked : ObjectOf Jb d.0 d.1 = subst (λ z. ObjectOf Jb z d.1) (sym k.0) k.1 in
+      let same = object_unique Jb lw d.0 (mark_of digest o.0.1) d.1 seen marked in
+      ((x, ap (λ z. sha1 (object_bytes z)) o.0.3 ∙ same, refl), marks_weigh ds made xs k.2 o.1)
+
+  -- the mark of a state at a wait is that of its bytes
+  stack_mark : (t : Task s.Desc) (j : ℕ) (h : Held s.Desc) → StateOf Jb t j h → 0 < j → (stack : List ℕ) → IsStackOf digest job gives t j stack
+      → sha1 stack ≡ h.mark
+  stack_mark show j h st l stack i =
+      let one : Held s.Desc = record { names = tasks.held i.1; mark = frozen_mark digest i.1 } in
+      let at : StateOf Jb show j one =
+      (i.0, ap (held_if job (json_around gives) (name_of digest) (mark_of digest) (frozen_mark digest)) i.2) in
+      ap sha1 i.3 ∙ ap (λ (z : Held s.Desc). z.mark) (state_unique Jb lw show j one h at st)
+  stack_mark (of (v.call f c vs)) j h st l stack i =
+      let one : Held s.Desc = record { names = tasks.held i.1; mark = frozen_mark digest i.1 } in
+      let at : StateOf Jb (of (v.call f c vs)) j one =
+      (i.0, ap (held_if job (json_around gives) (name_of digest) (mark_of digest) (frozen_mark digest)) i.2) in
+      ap sha1 i.3 ∙ ap (λ (z : Held s.Desc). z.mark) (state_unique Jb lw (of (v.call f c vs)) j one h at st)
+  stack_mark (of (v.out x a m i)) zero h st l stack k = absurd (omega (arith, l))
+  stack_mark (of (v.out x a m i)) (suc j) h st l stack k = let bad : None ≡ Some h = st.1 in absurd cc
+  stack_mark (of (v.input y)) j h st l stack i = let bad : None ≡ Some h = st.1 in absurd cc
+  stack_mark (of (v.known b)) j h st l stack i = absurd b
 
   none_made : (made : List (s.Desc × Digest)) → Marked Jb [] made → low_made Jb made ≡ []
   none_made [] m = refl
@@ -104,7 +130,7 @@ module _ (digest : List ℕ → List ℕ) (named : NamesFit digest) (job : s.Job
   done_of (of e) made how d m x o =
       let is : x ≡ told.made (map weight d.0) = subst (λ h. IsOutcome h x) d.2 o in
       subst (λ z. IsEnd z (low_made Jb made)) (sym is)
-      (length-map d.0 weight ∙ (as_many (IsObjectOf digest job gives) (names_of made) d.0 d.1 ∙ sym (made_many made)))
+      (marks_weigh (Jb.outputs (of e)) made d.0 m d.1)
 
   -- ---- events
 
@@ -116,9 +142,9 @@ module _ (digest : List ℕ → List ℕ) (named : NamesFit digest) (job : s.Job
     pub record Happens (e : Event s.Desc) (r : Recorded) : Type 0 where
       pub event : EventTold digest job gives past e (tell w r)
       pub entry : IsOf (tell w r) (low Jb e)
-      pub agrees : Agrees Jb (after_record w r) (after Jb m e)
+      pub agrees : Agrees Jb lw (after_record w r) (after Jb m e)
 
-    module _ (a : Agrees Jb w m) (few : m.starts < 2 ^ 32) (r : Recorded) (good : IsRecord r) (short : length (record_bytes r) < 2 ^ 32) where
+    module _ (a : Agrees Jb lw w m) (few : m.starts < 2 ^ 32) (r : Recorded) (good : IsRecord r) (short : length (record_bytes r) < 2 ^ 32) where
       -- a report of an open Start: what is told, and what stands
       record Closed (k : ℕ) (ds : List (Desc (List ℕ))) (ns : List (List ℕ)) (how : HowEnded) : Type 0 where
         is : IsReport r k ds ns how
@@ -129,9 +155,9 @@ module _ (digest : List ℕ → List ℕ) (named : NamesFit digest) (job : s.Job
           → (o : OpenStart s.Desc) → find_open Jb k m.orders ≡ Some o → record_bytes r ≡ record_bytes (reported k ds ns how)
           → Closed k ds ns how
       closes k ds ns how names narrow o f e =
-          let l = number_below Jb w m a k o f in
+          let l = number_below Jb lw w m a k o f in
           let q = is_report r good k ds ns how (omega (arith, l, few)) names narrow short e in
-          let out = out_there Jb w m a k o f in
+          let out = out_there Jb lw w m a k o f in
           record {
             is = q;
             told = ap (tell w) q.is ∙ ap (λ b. cond b (told.ended k q.descs ns (outcome q.way)) (told.late k)) out;
@@ -145,11 +171,11 @@ module _ (digest : List ℕ → List ℕ) (named : NamesFit digest) (job : s.Job
       stands_so : (k : ℕ) (ds : List (Desc (List ℕ))) (ns : List (List ℕ)) (how : HowEnded) (c : Closed k ds ns how) (u : Standing s.Desc)
           → u.orders ≡ filter (λ (o : OpenStart s.Desc). not (nat_eq k o.number)) m.orders → u.starts ≡ m.starts → u.closes ≡ m.closes + 1
           → u.gone ≡ m.gone → m.over ≡ false → is_shown how ≡ u.over → Each (λ (s : Save s.Desc). Fits32 s.j) u.saves
-          → (e : Event s.Desc) → after Jb m e ≡ u → Agrees Jb (after_record w r) (after Jb m e)
+          → (e : Event s.Desc) → after Jb m e ≡ u → Agrees Jb lw (after_record w r) (after Jb m e)
       stands_so k ds ns how c u orders starts closes gone going over waits e is =
-          subst (Agrees Jb (after_record w r)) (sym is)
-          (subst (λ z. Agrees Jb z u) (sym c.stands)
-          (agrees_closed Jb w m u k (is_shown c.is.way) a orders starts closes gone
+          subst (Agrees Jb lw (after_record w r)) (sym is)
+          (subst (λ z. Agrees Jb lw z u) (sym c.stands)
+          (agrees_closed Jb lw w m u k (is_shown c.is.way) a orders starts closes gone
           (ap (λ b. b || is_shown c.is.way) (a.over ∙ going) ∙ (c.is.shown ∙ over)) waits))
 
       pub happens : (e : Event s.Desc) → Step Jb p m e → WaitFits (low Jb e) → (bytes : List ℕ) → RecordOf digest job gives past e bytes
@@ -159,17 +185,17 @@ module _ (digest : List ℕ → List ℕ) (named : NamesFit digest) (job : s.Job
           let number = x.number in
           let at = x.worker in
           let is = is_start r good k u from (task_id Jb t) (omega (arith, number, few)) (omega (arith, at, workers))
-          (subst Fits32 (sym x.from_last) (from_fits Jb w m a t)) (task_fits t) (e ∙ o) in
+          (subst Fits32 (sym x.from_last) (from_fits Jb lw w m a t)) (task_fits t) (e ∙ o) in
           let says : tell w r ≡ told.started k u from (task_id Jb t) = ap (tell w) is in
           record {
             event = says;
             entry = subst (λ z. IsOf z (Entry.Start k u (low_task Jb t) from)) (sym says) (refl, refl, id_is t, refl);
-            agrees = subst (λ z. Agrees Jb z (after Jb m (start k u t from))) (sym (ap (after_record w) is))
-                (agrees_start Jb w m a k u t from x.number x.here);
+            agrees = subst (λ z. Agrees Jb lw z (after Jb m (start k u t from))) (sym (ap (after_record w) is))
+                (agrees_start Jb lw w m a k u t from x.number x.here);
           }
       happens (done k made copied spawned) st fits bytes o e =
           let x = st.allowed in
-          let same : x.0 ≡ o.0 = same_some x.1 o.1 in
+          let same : x.0 ≡ o.0 = same_found Jb lw m k x.0 o.0 x.1 o.1 in
           let how = o.2.0 in
           let d = done_end o.0.task (names_of made) how o.2.1 in
           let c = closes k (map (by_names digest) spawned) (low_names Jb copied) how (all_named copied) d.0 o.0 o.1 (e ∙ o.2.2) in
@@ -185,10 +211,15 @@ module _ (digest : List ℕ → List ℕ) (named : NamesFit digest) (job : s.Job
       happens (saved k j mark refs holds spawned) st fits bytes o e =
           let how : HowEnded = HowEnded.saved j o.2.0 in
           let c = closes k (map (by_names digest) spawned) [] how tt fits o.0 o.1 (e ∙ o.2.2) in
+          let x = st.allowed in
+          let same : x.0 ≡ o.0 = same_found Jb lw m k x.0 o.0 x.1 o.1 in
+          let ok : SavedAllowed Jb o.0 j mark refs holds spawned = subst (λ q. SavedAllowed Jb q j mark refs holds spawned) same x.2 in
+          let after_from = ok.next.later in
+          let is = stack_mark o.0.task j (record { names = holds; mark = mark }) ok.frozen (omega (arith, after_from)) o.2.0 o.2.1 in
           let new : Save s.Desc = record { task = o.0.task; j = j; worker = o.0.worker; refs = refs; holds = holds } in
           record {
             event = (o.0, o.1, (o.2.0, o.2.1, end_of k (map (by_names digest) spawned) [] how c));
-            entry = subst (λ z. IsOf z (Entry.Saved k j mark)) (sym c.told) (refl, refl, (length o.2.0, c.is.ended));
+            entry = subst (λ z. IsOf z (Entry.Saved k j mark)) (sym c.told) (refl, refl, (o.2.0, is, c.is.ended));
             agrees = stands_so k (map (by_names digest) spawned) [] how c (saved_with Jb j refs holds spawned o.0 (closed Jb m k))
                 refl refl refl refl st.going (sym st.going) (each_join (λ (q : Save s.Desc). Fits32 q.j) m.saves (new ∷ []) a.waits (fits, tt))
                 (saved k j mark refs holds spawned) (ap (close_with Jb (saved_with Jb j refs holds spawned) m k) o.1);

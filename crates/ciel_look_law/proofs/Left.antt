@@ -4,20 +4,22 @@ use Rattle.std.proofs.Common.{refl, ap, sym, ◌∙◌, subst, arith, append_ass
 use Rattle.sky_base.specs.KitView.{Gives}
 use Rattle.sky_base.specs.See as s
 use Rattle.ciel_journal.specs.History.{Event, OpenStart, Standing, after, before_all, find_open, lost, standing}
-use Rattle.ciel_journal.specs.Job.{Job}
+use Rattle.ciel_journal.specs.Job.{IsJob, Job}
 use Rattle.ciel_journal.proofs.Append.{after_append}
 use Rattle.ciel_journal.proofs.Members.{bool_cases}
+use Rattle.ciel_journal_job.proofs.RealLaw.{real_laws}
+use Rattle.ciel_json.specs.Around.{json_around}
 use Rattle.ciel_log.specs.Logs as logs
 use Rattle.ciel_log.specs.Logs.{Idle, RecordOf, Records}
 use Rattle.ciel_log_records.specs.Records.{in_file}
 use Rattle.ciel_log_read.specs.Recorded as read
 use Rattle.ciel_log_read.specs.Recorded.{FitsBlock, IsRecord, Recorded, record_bytes}
 use Rattle.ciel_log_read.proofs.Pieces.{blocks_free}
-use Rattle.ciel_look_law.proofs.Bytes.{one_number}
+use Rattle.ciel_look_law.proofs.Bytes.{one_dropped, one_number}
 use Rattle.ciel_look_story.specs.Story.{Stand, after as after_record, closed, is_out, is_shown, tell}
 use Rattle.ciel_look_told.specs.Told as told
 use Rattle.ciel_look_told.specs.Told.{outcome}
-use Rattle.ciel_task_order.specs.Named.{shop_job}
+use Rattle.ciel_task_order.specs.Named.{frozen_mark, mark_of, name_of, shop_job}
 
 -- what isn't found is found among none of them
 none_among : {D : Type 0} (job : Job D) (p : OpenStart D → Bool) (k : ℕ) (os : List (OpenStart D)) → find_open job k os ≡ None
@@ -41,6 +43,10 @@ module _ (digest : List ℕ → List ℕ) (job : s.Job) (gives : Gives) where
   abbrev pub J : Job s.Desc
   J = shop_job digest job gives
 
+  -- which is a job, whatever its names and marks are
+  pub laws : IsJob J
+  laws = real_laws job (json_around gives) (name_of digest) (mark_of digest) (frozen_mark digest)
+
   abbrev pub Rs : List (Event s.Desc) → List (Event s.Desc) → List ℕ → Type 0
   Rs past es bytes = Records digest job gives past es bytes
 
@@ -50,20 +56,17 @@ module _ (digest : List ℕ → List ℕ) (job : s.Job) (gives : Gives) where
 
   -- ---- a loss carried out before idle records
 
+  pub free_on : (past : List (Event s.Desc)) (w closes k : ℕ) → find_open J k (standing J past).orders ≡ None
+      → find_open J k (standing J (past ++ lost w closes ∷ [])).orders ≡ None
+  free_on past w closes k h =
+      subst (λ (v : Standing s.Desc). find_open J k v.orders ≡ None) (sym (one_more past (lost w closes)))
+      (none_among J (λ (o : OpenStart s.Desc). not (nat_eq w o.worker)) k (standing J past).orders h)
+
   idle_on : (past : List (Event s.Desc)) (w closes : ℕ) (bytes : List ℕ) → Idle digest job gives past bytes
       → Idle digest job gives (past ++ lost w closes ∷ []) bytes
-  idle_on past w closes bytes (logs.reported k free spawned copied how) = logs.reported k (free.0, gone) spawned copied how
-    where
-      gone : find_open J k (standing J (past ++ lost w closes ∷ [])).orders ≡ None
-      gone =
-          subst (λ (v : Standing s.Desc). find_open J k v.orders ≡ None) (sym (one_more past (lost w closes)))
-          (none_among J (λ (o : OpenStart s.Desc). not (nat_eq w o.worker)) k (standing J past).orders free.1)
-  idle_on past w closes bytes (logs.dropped k free) = logs.dropped k (free.0, gone)
-    where
-      gone : find_open J k (standing J (past ++ lost w closes ∷ [])).orders ≡ None
-      gone =
-          subst (λ (v : Standing s.Desc). find_open J k v.orders ≡ None) (sym (one_more past (lost w closes)))
-          (none_among J (λ (o : OpenStart s.Desc). not (nat_eq w o.worker)) k (standing J past).orders free.1)
+  idle_on past w closes bytes (logs.reported k free spawned copied how) =
+      logs.reported k (free.0, free_on past w closes k free.1) spawned copied how
+  idle_on past w closes bytes (logs.dropped k free) = logs.dropped k (free.0, free_on past w closes k free.1)
 
   pub lose_first : (past es : List (Event s.Desc)) (w closes : ℕ) (rest : List ℕ) → Rs past (lost w closes ∷ es) rest
       → Rs (past ++ lost w closes ∷ []) es rest
@@ -108,13 +111,14 @@ module _ (digest : List ℕ → List ℕ) (job : s.Job) (gives : Gives) where
   abbrev pub Frees : List (Event s.Desc) → Stand → Type 0
   Frees past v = (k : ℕ) → find_open J k (standing J past).orders ≡ None → is_out v k ≡ false
 
-  pub record Late (v : Stand) (r : Recorded) : Type 0 where
+  pub record Late (past : List (Event s.Desc)) (v : Stand) (r : Recorded) : Type 0 where
     pub number : ℕ
+    pub free : find_open J number (standing J past).orders ≡ None
     pub told : tell v r ≡ told.late number
     pub still : after_record v r ≡ v
 
   pub idle_late : (past : List (Event s.Desc)) (v : Stand) → Frees past v → (r : Recorded) → IsRecord r → (bytes : List ℕ)
-      → Idle digest job gives past bytes → record_bytes r ≡ bytes → Late v r
+      → Idle digest job gives past bytes → record_bytes r ≡ bytes → Late past v r
   idle_late past v f (read.started n w from t) g bytes (logs.reported k free ds ns how) e =
       let h = ap (λ b. get_or b 0 0) e in absurd (omega (arith, h))
   idle_late past v f (read.started n w from t) g bytes (logs.dropped k free) e =
@@ -124,9 +128,19 @@ module _ (digest : List ℕ → List ℕ) (job : s.Job) (gives : Gives) where
       let out : is_out v n ≡ false = ap (is_out v) same ∙ f k free.1 in
       record {
         number = n;
+        free = subst (λ q. find_open J q (standing J past).orders ≡ None) (sym same) free.1;
         told = ap (λ b. cond b (told.ended n es ms (outcome way)) (told.late n)) out;
         still = ap (λ b. cond b (closed v n (is_shown way)) v) out;
       }
   idle_late past v f (read.reported n es ms way) g bytes (logs.dropped k free) e =
       let h = ap (λ b. get_or b 0 0) e in absurd (omega (arith, h))
-  idle_late past v f (read.dropped n) g bytes i e = record { number = n; told = refl; still = refl }
+  idle_late past v f (read.dropped n) g bytes (logs.reported k free ds ns how) e =
+      let h = ap (λ b. get_or b 0 0) e in absurd (omega (arith, h))
+  idle_late past v f (read.dropped n) g bytes (logs.dropped k free) e =
+      let same = one_dropped n k g free.0 e in
+      record {
+        number = n;
+        free = subst (λ q. find_open J q (standing J past).orders ≡ None) (sym same) free.1;
+        told = refl;
+        still = refl;
+      }

@@ -6,12 +6,13 @@ use Rattle.std.specs.Ordering.{is_eq, nat_cmp}
 use Rattle.std.proofs.lemmas.Bool.Decides.{nat_tests}
 use Rattle.std.proofs.lemmas.List.Folds.{list_any-append}
 use Rattle.sky_frozen_bytes.specs.Codes.{Fits32}
-use Rattle.ciel_journal.specs.Job.{Each, Job, Task}
+use Rattle.ciel_journal.specs.Job.{Each, IsJob, Job, Task}
 use Rattle.ciel_journal.specs.History.{OpenStart, Save, Standing, after, before_all, better, find_open, last, last_save, lost, order_of, same_task, start}
 use Rattle.ciel_journal.specs.History.{wait_number}
 use Rattle.ciel_journal.proofs.Booked.{each_more}
 use Rattle.ciel_journal.proofs.Good.{each_filter, each_join}
 use Rattle.ciel_journal.proofs.Members.{bool_cases}
+use Rattle.ciel_journal.proofs.Numbers.{each_at, found_in}
 use Rattle.ciel_look_story.specs.Story as story
 use Rattle.ciel_look_story.specs.Story.{Stand, closed, is_here, is_out, lose, with_open, with_worker}
 
@@ -78,19 +79,12 @@ each_kept P Q p f (x ∷ xs) h = pick (p x) refl (each_kept P Q p f xs h.1)
     pick true e r = (f x h.0 e, r)
     pick false e r = r
 
-module _ {D : Type 0} (job : Job D) where
+module _ {D : Type 0} (job : Job D) (laws : IsJob job) where
   -- ---- the open Start of a number
 
-  pub each_found : (P : OpenStart D → Type 0) (os : List (OpenStart D)) → Each P os → (k : ℕ) (o : OpenStart D) → find_open job k os ≡ Some o
+  each_found : (P : OpenStart D → Type 0) (os : List (OpenStart D)) → Each P os → (k : ℕ) (o : OpenStart D) → find_open job k os ≡ Some o
       → P o × (k ≡ o.number)
-  each_found P [] h k o e = absurd cc
-  each_found P (q ∷ qs) h k o e = pick (bool_cases (nat_eq k q.number)) (each_found P qs h.1 k o)
-    where
-      pick : ((nat_eq k q.number ≡ true) ⊎ (nat_eq k q.number ≡ false)) → (find_open job k qs ≡ Some o → P o × (k ≡ o.number)) → P o × (k ≡ o.number)
-      pick (inl t) r =
-          let s : Some q ≡ Some o = sym (ap (λ b. cond b (Some q) (find_open job k qs)) t) ∙ e in
-          let w : q ≡ o = cc in (subst P w h.0, eqb-true k q.number t ∙ ap (λ (x : OpenStart D). x.number) w)
-      pick (inr f) r = r (sym (ap (λ b. cond b (Some q) (find_open job k qs)) f) ∙ e)
+  each_found P os h k o e = let f = found_in job laws k os o e in (each_at P o os f.0 h, f.1)
 
   -- where none is found behind one more
   none_more : (k : ℕ) (os : List (OpenStart D)) (o : OpenStart D) → find_open job k (os ++ o ∷ []) ≡ None

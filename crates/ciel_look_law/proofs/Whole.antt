@@ -15,7 +15,7 @@ use Rattle.ciel_log_read.specs.Recorded.{FitsBlock, Recorded, record_bytes}
 use Rattle.ciel_log_read.proofs.Pieces.{blocks_free}
 use Rattle.ciel_look_law.specs.Laws.{CutLogTellsOwn, HasPlan, LogTellsOwn, NamesFit, Own, WaitFits}
 use Rattle.ciel_look_law.proofs.Found.{Found, bytes_of, found}
-use Rattle.ciel_look_law.proofs.Left.{J}
+use Rattle.ciel_look_law.proofs.Left.{J, laws}
 use Rattle.ciel_look_law.proofs.Stands.{agrees_first}
 use Rattle.ciel_look_story.specs.Story.{StandUpTo, Tells}
 use Rattle.ciel_look_told.specs.Head.{Head, head_bytes, losses}
@@ -84,7 +84,7 @@ module _ (digest : List ℕ → List ℕ) (named : NamesFit digest) (job : s.Job
   got =
       found digest named job gives p workers losses_few
       (subst (λ xs. Rattle.ciel_look_story.specs.Story.Story xs Rattle.ciel_look_story.specs.Story.before_all rs ts) plan.1 t.2) [] l.history l.rest more
-      (agrees_first Jb) l.driven (subst (Each WaitFits) (sym l.entries) waits) l.records rest_is t.1.1.whole room
+      (agrees_first Jb (laws digest job gives)) l.driven (subst (Each WaitFits) (sym l.entries) waits) l.records rest_is t.1.1.whole room
 
   pub same_header : header ≡ head_bytes head
   same_header = sym same.0

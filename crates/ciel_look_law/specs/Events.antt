@@ -1,5 +1,5 @@
 -- What is told of a history: one entry for each of its events, in order, and between them reports that came too late.
-use Rattle.std.specs.Prelude.{◌≡◌, ℕ, List, [], ◌∷◌, ◌++◌, true, false, Some, map}
+use Rattle.std.specs.Prelude.{◌≡◌, ℕ, List, [], ◌∷◌, ◌++◌, true, false, None, Some, map}
 use Rattle.sky_base.specs.KitView.{Gives}
 use Rattle.sky_base.specs.Name.{canon}
 use Rattle.sky_base.specs.See as s
@@ -55,10 +55,11 @@ module _ (digest : List ℕ → List ℕ) (job : s.Job) (gives : Gives) where
 
   -- ---- of a history
 
-  -- these events behind a history are told so, with late reports between them
+  -- these events behind a history are told so, and between them reports that are late: of no open Start
   pub data AllTold : List (Event s.Desc) → List (Event s.Desc) → List Told → Type 0 where
     ends : {past : List (Event s.Desc)} → AllTold past [] []
-    late : {past es : List (Event s.Desc)} {ts : List Told} (k : ℕ) → AllTold past es ts → AllTold past es (told.late k ∷ ts)
+    late : {past es : List (Event s.Desc)} {ts : List Told} (k : ℕ) → find_open J k (standing J past).orders ≡ None → AllTold past es ts
+        → AllTold past es (told.late k ∷ ts)
     tells : {past es : List (Event s.Desc)} {ts : List Told} (e : Event s.Desc) (t : Told) → EventTold past e t
         → AllTold (past ++ e ∷ []) es ts → AllTold past (e ∷ es) (t ∷ ts)
 

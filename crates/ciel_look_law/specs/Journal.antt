@@ -1,18 +1,26 @@
 -- What is told is a journal's own, said of its entries alone.
 use Rattle.std.specs.Prelude.{◌≡◌, ℕ, List, [], ◌∷◌, length}
+use Rattle.sha1.specs.Sha1.{sha1}
+use Rattle.sky_base.specs.Res.{Object}
 use Rattle.sky_base.specs.declared.object.TaskId.{TaskId}
+use Rattle.ciel_name.specs.Object.{object_bytes}
 use Rattle.ciel_journal.specs.Entries.{Entry}
 use Rattle.ciel_journal.specs.Job.{Digest, Task, of, show}
 use Rattle.ciel_look_told.specs.Told as told
 use Rattle.ciel_look_told.specs.Told.{Outcome, Told}
+use Rattle.ciel_master_board.specs.Follows.{OneByOne}
 
 abbrev pub id_of : Task Digest → TaskId
 id_of show = TaskId.Show
 id_of (of name) = TaskId.Of name
 
--- a task came to its end: with as many objects as were made, or the root task, which makes none, with an answer or a fault
+-- so much weighs an object with the mark of this one that was made
+abbrev pub Weighs : ℕ → Digest × Digest → Type 0
+Weighs weight made = (o : Object (List ℕ)) × (sha1 (object_bytes o) ≡ made.1) × (weight ≡ told.weight o)
+
+-- a task came to its end: with the objects that were made, or the root task, which makes none, with an answer or a fault
 abbrev pub IsEnd : Outcome → List (Digest × Digest) → Type 0
-IsEnd (told.made weights) made = length weights ≡ length made
+IsEnd (told.made weights) made = OneByOne Weighs weights made
 IsEnd (told.answered weight) made = made ≡ []
 IsEnd (told.failed fault) made = made ≡ []
 IsEnd _ made = ⊥
@@ -22,7 +30,7 @@ abbrev pub IsOf : Told → Entry → Type 0
 IsOf (told.started k w from task) (Entry.Start number worker t i) = (k ≡ number) × (w ≡ worker) × (task ≡ id_of t) × (from ≡ i)
 IsOf (told.ended k spawned names how) (Entry.Done number made copied) = (k ≡ number) × (names ≡ copied) × IsEnd how made
 IsOf (told.ended k spawned names how) (Entry.Saved number j mark) =
-    (k ≡ number) × (names ≡ []) × ((weight : ℕ) × (how ≡ told.saved j weight))
+    (k ≡ number) × (names ≡ []) × ((stack : List ℕ) × (sha1 stack ≡ mark) × (how ≡ told.saved j (length stack)))
 IsOf (told.ended k spawned names how) (Entry.Missed number name loss) = (k ≡ number) × (names ≡ []) × (how ≡ told.missing name loss)
 IsOf (told.lost w c) (Entry.Lost worker closes) = (w ≡ worker) × (c ≡ closes)
 IsOf _ _ = ⊥
