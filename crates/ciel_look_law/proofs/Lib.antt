@@ -4,3 +4,4 @@ pub mod Left
 pub mod Happened
 pub mod Found
 pub mod Whole
+pub mod Header

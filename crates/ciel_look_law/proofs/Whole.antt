@@ -4,9 +4,10 @@ use Rattle.std.proofs.Common.{append-nil, length-append}
 use Rattle.sky_base.specs.KitView.{Gives}
 use Rattle.sky_base.specs.See as s
 use Rattle.sky_frozen_bytes.specs.Codes.{Fits32, NoneAs}
-use Rattle.ciel_journal.specs.Entries.{Entry, journal_of}
+use Rattle.ciel_journal.specs.Entries.{Entry, journal_of, low}
 use Rattle.ciel_journal.specs.History.{Event, Plan, before_all, standing}
 use Rattle.ciel_journal.specs.Job.{Each, IsPrefix, Job}
+use Rattle.ciel_journal.specs.Turns.{Driven}
 use Rattle.ciel_journal.proofs.Append.{driven_split}
 use Rattle.ciel_log.specs.Logs.{Logs}
 use Rattle.ciel_log_records.specs.Records.{in_file}
@@ -17,7 +18,8 @@ use Rattle.ciel_look_law.specs.Laws.{CutLogTellsOwn, HasPlan, LogTellsOwn, Names
 use Rattle.ciel_look_law.proofs.Found.{Found, bytes_of, found}
 use Rattle.ciel_look_law.proofs.Left.{J, laws}
 use Rattle.ciel_look_law.proofs.Stands.{agrees_first}
-use Rattle.ciel_look_story.specs.Story.{StandUpTo, Tells}
+use Rattle.ciel_look_story.specs.Story as story
+use Rattle.ciel_look_story.specs.Story.{StandUpTo, Story, Tells}
 use Rattle.ciel_look_told.specs.Head.{Head, head_bytes, losses}
 use Rattle.ciel_look_told.specs.Told.{Told}
 
@@ -29,11 +31,11 @@ stand_there log at (x ∷ xs) end h =
 
 journal_parts : {D : Type 0} (job : Job D) (g h : List (Event D)) → journal_of job (g ++ h) ≡ journal_of job g ++ journal_of job h
 journal_parts job [] h = refl
-journal_parts job (e ∷ g) h = ap (λ z. Rattle.ciel_journal.specs.Entries.low job e ∷ z) (journal_parts job g h)
+journal_parts job (e ∷ g) h = ap (λ z. low job e ∷ z) (journal_parts job g h)
 
 module _ (digest : List ℕ → List ℕ) (named : NamesFit digest) (job : s.Job) (gives : Gives) (p : Plan) (header : List ℕ) (journal : List Entry)
     (all bytes behind : List ℕ) (l : Logs digest job gives p header journal all) (few : length all < 2 ^ 32) (waits : Each WaitFits journal)
-    (begins : bytes ++ behind ≡ all) (head : Head) (ts : List Told) (plan : HasPlan head p) (t : Tells bytes head ts) where
+    (begins : bytes ++ behind ≡ all) (head : Head) (ts : List Told) (t : Tells bytes head ts) where
   abbrev Jb : Job s.Desc
   Jb = J digest job gives
 
@@ -74,56 +76,59 @@ module _ (digest : List ℕ → List ℕ) (named : NamesFit digest) (job : s.Job
       let b = length-append (in_file header) l.rest in
       omega (arith, a, b, few)
 
-  workers : Fits32 p.workers
-  workers = subst Fits32 plan.0 t.1.1.good.0
-
-  losses_few : length p.losses ≤ 64
-  losses_few = subst (λ xs. length xs ≤ 64) plan.1 t.1.1.good.1.1.0.1
-
-  got : Found digest named job gives p workers losses_few [] l.history more ts
-  got =
-      found digest named job gives p workers losses_few
-      (subst (λ xs. Rattle.ciel_look_story.specs.Story.Story xs Rattle.ciel_look_story.specs.Story.before_all rs ts) plan.1 t.2) [] l.history l.rest more
-      (agrees_first Jb (laws digest job gives)) l.driven (subst (Each WaitFits) (sym l.entries) waits) l.records rest_is t.1.1.whole room
-
   pub same_header : header ≡ head_bytes head
   same_header = sym same.0
 
-  own : Own digest job gives p (journal_of Jb got.first) ts
-  own =
-      record {
-        history = got.first;
-        driven = (driven_split Jb p (before_all Jb) got.first got.then (subst (Rattle.ciel_journal.specs.Turns.Driven Jb p) got.parts l.driven)).0;
-        entries = refl;
-        due = got.due;
-        there = got.there;
-        told = got.tells;
-        own = got.own;
-      }
+  module _ (plan : HasPlan head p) where
+    workers : Fits32 p.workers
+    workers = subst Fits32 plan.0 t.1.1.good.0
 
-  pub own_part : (front rest : List Entry) × (front ++ rest ≡ journal) × Own digest job gives p front ts
-  own_part = (
-    journal_of Jb got.first,
-    journal_of Jb got.then,
-    sym (journal_parts Jb got.first got.then) ∙ (ap (journal_of Jb) (sym got.parts) ∙ l.entries),
-    own,
-  )
+    losses_few : length p.losses ≤ 64
+    losses_few = subst (λ xs. length xs ≤ 64) plan.1 t.1.1.good.1.1.0.1
 
-  pub own_whole : behind ≡ [] → Own digest job gives p journal ts
-  own_whole none =
-      let nothing : NoRecordAt bytes end = t.1.2 in
-      let left : drop end bytes ≡ more = sym (append-nil (drop end bytes)) ∙ ap (λ b. drop end bytes ++ b) (sym none) in
-      let empty = got.whole (subst (NoneAs in_file FitsBlock) left nothing) in
-      let parts : l.history ≡ got.first = got.parts ∙ (ap (λ z. got.first ++ z) empty ∙ append-nil got.first) in
-      subst (λ z. Own digest job gives p z ts) (ap (journal_of Jb) (sym parts) ∙ l.entries) own
+    got : Found digest named job gives p workers losses_few [] l.history more ts
+    got =
+        found digest named job gives p workers losses_few
+        (subst (λ xs. Story xs story.before_all rs ts) plan.1 t.2) [] l.history l.rest more
+        (agrees_first Jb (laws digest job gives)) l.driven (subst (Each WaitFits) (sym l.entries) waits) l.records rest_is t.1.1.whole room
+
+    own : Own digest job gives p (journal_of Jb got.first) ts
+    own =
+        record {
+          history = got.first;
+          driven = (driven_split Jb p (before_all Jb) got.first got.then (subst (Driven Jb p) got.parts l.driven)).0;
+          entries = refl;
+          due = got.due;
+          there = got.there;
+          told = got.tells;
+          own = got.own;
+        }
+
+    pub own_part : (front rest : List Entry) × (front ++ rest ≡ journal) × Own digest job gives p front ts
+    own_part = (
+      journal_of Jb got.first,
+      journal_of Jb got.then,
+      sym (journal_parts Jb got.first got.then) ∙ (ap (journal_of Jb) (sym got.parts) ∙ l.entries),
+      own,
+    )
+
+    pub own_whole : behind ≡ [] → Own digest job gives p journal ts
+    own_whole none =
+        let nothing : NoRecordAt bytes end = t.1.2 in
+        let left : drop end bytes ≡ more = sym (append-nil (drop end bytes)) ∙ ap (λ b. drop end bytes ++ b) (sym none) in
+        let empty = got.whole (subst (NoneAs in_file FitsBlock) left nothing) in
+        let parts : l.history ≡ got.first = got.parts ∙ (ap (λ z. got.first ++ z) empty ∙ append-nil got.first) in
+        subst (λ z. Own digest job gives p z ts) (ap (journal_of Jb) (sym parts) ∙ l.entries) own
 
 pub log_tells_own : LogTellsOwn
-log_tells_own digest named job gives p header journal bytes l few waits head ts plan t =
-    let short : length bytes < 2 ^ 32 = omega (arith, few) in
-    (same_header digest named job gives p header journal bytes bytes [] l short waits (append-nil bytes) head ts plan t,
-      own_whole digest named job gives p header journal bytes bytes [] l short waits (append-nil bytes) head ts plan t refl)
+log_tells_own digest named job gives p header journal bytes l few waits head ts t =
+    let short : length bytes < 2 ^ 32 = omega (arith, few) in (
+      same_header digest named job gives p header journal bytes bytes [] l short waits (append-nil bytes) head ts t,
+      λ plan. own_whole digest named job gives p header journal bytes bytes [] l short waits (append-nil bytes) head ts t plan refl,
+    )
 
 pub cut_log_tells_own : CutLogTellsOwn
-cut_log_tells_own digest named job gives p header journal all bytes l few waits begins head ts plan t =
-    (same_header digest named job gives p header journal all bytes begins.0 l few waits begins.1 head ts plan t,
-      own_part digest named job gives p header journal all bytes begins.0 l few waits begins.1 head ts plan t)
+cut_log_tells_own digest named job gives p header journal all bytes l few waits begins head ts t = (
+  same_header digest named job gives p header journal all bytes begins.0 l few waits begins.1 head ts t,
+  λ plan. own_part digest named job gives p header journal all bytes begins.0 l few waits begins.1 head ts t plan,
+)

@@ -1,5 +1,6 @@
 -- What is told of a log of a journal is the journal's own.
-use Rattle.std.specs.Prelude.{◌≡◌, ◌≤◌, ◌<◌, ◌^◌, ℕ, List, [], ◌∷◌, ◌++◌, map, length}
+use Rattle.std.specs.Prelude.{◌≡◌, ◌≤◌, ◌<◌, ◌^◌, ℕ, List, [], ◌∷◌, ◌++◌, Bool, map, length}
+use Rattle.sha1.specs.Sha1.{sha1}
 use Rattle.sky_base.specs.KitView.{Gives}
 use Rattle.sky_base.specs.See as s
 use Rattle.sky_frozen_bytes.specs.Codes.{Fits32}
@@ -9,11 +10,12 @@ use Rattle.ciel_journal.specs.Job.{Each, IsPrefix, Job}
 use Rattle.ciel_journal.specs.Turns.{Driven}
 use Rattle.ciel_log.specs.Logging.{most}
 use Rattle.ciel_log.specs.Logs.{Logs}
+use Rattle.ciel_log_records.specs.Records.{header_record}
 use Rattle.ciel_log_read.specs.Recorded.{IsNamed}
 use Rattle.ciel_look_law.specs.Events.{AllTold, DueThere}
 use Rattle.ciel_look_law.specs.Journal.{IsJournal}
 use Rattle.ciel_look_story.specs.Story.{Tells}
-use Rattle.ciel_look_told.specs.Head.{Head, head_bytes, losses}
+use Rattle.ciel_look_told.specs.Head.{Head, IsHead, head_bytes, losses}
 use Rattle.ciel_look_told.specs.Told.{Told}
 use Rattle.ciel_task_order.specs.Named.{shop_job}
 
@@ -31,6 +33,11 @@ WaitFits _ = Unit {0}
 -- the header has the plan's workers and losses
 abbrev pub HasPlan : Head → Plan → Type 0
 HasPlan head p = (head.0 ≡ p.workers) × (losses head ≡ p.losses)
+
+-- what the header of a run tells, of a script of these bytes and these inputs
+abbrev pub head_of : (workers seed : ℕ) → List (ℕ × ℕ) → (short : Bool) → (script : List ℕ) → List (List ℕ × List ℕ) → Head
+head_of workers seed planned short script inputs =
+    (workers, (seed, (planned, (short, (sha1 script, map (λ (input : List ℕ × List ℕ). (input.0, sha1 input.1)) inputs)))))
 
 -- ---- what is so then
 
@@ -55,13 +62,21 @@ abbrev pub LogTellsOwn : Type 0
 LogTellsOwn =
     (digest : List ℕ → List ℕ) → NamesFit digest → (job : s.Job) (gives : Gives) (p : Plan) (header : List ℕ) (journal : List Entry)
     (bytes : List ℕ) → Logs digest job gives p header journal bytes → length bytes ≤ most → Each WaitFits journal
-    → (head : Head) (ts : List Told) → HasPlan head p → Tells bytes head ts
-    → (header ≡ head_bytes head) × Own digest job gives p journal ts
+    → (head : Head) (ts : List Told) → Tells bytes head ts
+    → (header ≡ head_bytes head) × (HasPlan head p → Own digest job gives p journal ts)
 
--- of its beginning, of which a header can be read
+-- of its beginning, where that has the header
 abbrev pub CutLogTellsOwn : Type 0
 CutLogTellsOwn =
     (digest : List ℕ → List ℕ) → NamesFit digest → (job : s.Job) (gives : Gives) (p : Plan) (header : List ℕ) (journal : List Entry)
     (all bytes : List ℕ) → Logs digest job gives p header journal all → length all < 2 ^ 32 → Each WaitFits journal → IsPrefix bytes all
-    → (head : Head) (ts : List Told) → HasPlan head p → Tells bytes head ts
-    → (header ≡ head_bytes head) × ((front rest : List Entry) × (front ++ rest ≡ journal) × Own digest job gives p front ts)
+    → (head : Head) (ts : List Told) → Tells bytes head ts
+    → (header ≡ head_bytes head)
+    × (HasPlan head p → (front rest : List Entry) × (front ++ rest ≡ journal) × Own digest job gives p front ts)
+
+-- what is told of a header is what was written
+abbrev pub HeaderTold : Type 0
+HeaderTold =
+    (workers seed : ℕ) (planned : List (ℕ × ℕ)) (short : Bool) (script : List ℕ) (inputs : List (List ℕ × List ℕ)) (head : Head)
+    → IsHead (head_of workers seed planned short script inputs) → IsHead head
+    → header_record workers seed planned short script inputs ≡ head_bytes head → head ≡ head_of workers seed planned short script inputs

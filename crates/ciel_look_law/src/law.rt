@@ -1,13 +1,21 @@
-//! The laws of what is told of a log.
+//! The laws of what is told of a log. Each is the contract of a function that does nothing.
 
-ghost use Rattle.ciel_look_law.specs.Laws.{CutLogTellsOwn, LogTellsOwn};
+ghost use Rattle.ciel_look_law.specs.Laws.{CutLogTellsOwn, HeaderTold, LogTellsOwn};
 
-/// What is told of a log of a journal is the journal's own, and behind it only losses that are due.
+/// What is told of a log of a journal, as long as a log may be, is the journal's own: entry by entry, with the weights of the objects and
+/// stacks that the journal marks, and behind it only the losses that are due and weren't carried out. The header is the one that is told. It
+/// is asked that names have 20 bytes or 32, that each wait's number has 32 bits, and that the header has the plan's workers and losses.
 pub fn log_tells_own()
     ensures { LogTellsOwn }
 {}
 
-/// What is told of the beginning of such a log is a first part of the journal, and behind it only losses that are due.
+/// What is told of a file that begins a log of a journal, and has the header, is so a first part of the journal. It is asked that the log
+/// has fewer bytes than 2^32.
 pub fn cut_log_tells_own()
     ensures { CutLogTellsOwn }
+{}
+
+/// What is told of the header of a run is what was written: the plan, how long names are, and the marks of the script and of the inputs.
+pub fn header_told()
+    ensures { HeaderTold }
 {}
