@@ -1,7 +1,7 @@
 -- What the bytes of a record tell, where they are few: its counts and lengths have four bytes, though its descriptions may be none that can be
 -- read.
 use Rattle.std.proofs.Common.{◌≡◌, ◌≤◌, ◌<◌, ◌+◌, ◌-◌, ◌^◌, ℕ, List, [], ◌∷◌, ◌++◌, Bool, true, false, get_or, length, map, flat_map, nat_eq}
-use Rattle.std.proofs.Common.{refl, ap, ap₂, sym, ◌∙◌, subst, arith, append_assoc, append-nil, length-append}
+use Rattle.std.proofs.Common.{refl, ap, ap₂, sym, ◌∙◌, subst, arith, append_assoc, length-append}
 use Rattle.std.proofs.lemmas.List.{length-map}
 use Rattle.sky_base.specs.Name.{big_endian, canon, name_bytes, name_bytes_if}
 use Rattle.sky_base.specs.Res.{Object}
@@ -14,7 +14,6 @@ use Rattle.sky_frozen_bytes.specs.Codes.{Counted, Fits32}
 use Rattle.sky_frozen_bytes.proofs.Codes.{both_free, counted_free, numbers_free}
 use Rattle.ciel_log_records.specs.Records.{HowEnded, answered, block, counted, dropped_record, end_bytes, failed, made, missing, report_record, saved}
 use Rattle.ciel_log_records.specs.Records.{start_record}
-use Rattle.ciel_log_read.specs.Recorded as read
 use Rattle.ciel_log_read.specs.Recorded.{Fits64, FitsBlock, IsEnd, IsNamed, IsRecord, IsTask, Recorded, dropped, record_bytes, reported, started}
 use Rattle.ciel_log_read.proofs.Pieces.{blocks_free, longs_free, names_free}
 use Rattle.ciel_log_read.proofs.Records.{one_record}

@@ -1,6 +1,6 @@
 -- A story of a log's records tells the first events of the log's history, and behind them losses that are due.
-use Rattle.std.proofs.Common.{◌≡◌, ◌≤◌, ◌<◌, ◌+◌, ◌^◌, ℕ, List, [], ◌∷◌, ◌++◌, Bool, true, false, length, map, ◌⊎◌, inl, inr, Option, None, Some, slice_get}
-use Rattle.std.proofs.Common.{refl, ap, ap₂, sym, ◌∙◌, subst, arith, append_assoc, append-nil, length-append, flat_map}
+use Rattle.std.proofs.Common.{◌≡◌, ◌≤◌, ◌<◌, ◌+◌, ◌^◌, ℕ, List, [], ◌∷◌, ◌++◌, true, false, length, map, inl, inr, Option, None, Some}
+use Rattle.std.proofs.Common.{refl, ap, ap₂, sym, ◌∙◌, subst, arith, append_assoc, length-append, flat_map}
 use Rattle.sky_base.specs.KitView.{Gives}
 use Rattle.sky_base.specs.See as s
 use Rattle.sky_base_law.specs.Tasks as tasks
@@ -10,7 +10,7 @@ use Rattle.ciel_journal.specs.History.{Event, OpenStart, Plan, Standing, after, 
 use Rattle.ciel_journal.specs.History.{missed_with, saved, saved_with, standing, start}
 use Rattle.ciel_journal.specs.Job.{Each, IsJob, Job}
 use Rattle.ciel_journal.specs.Lawful.{Step}
-use Rattle.ciel_journal.specs.Turns.{DrivenFrom, FirstDue, NothingDue, Turn}
+use Rattle.ciel_journal.specs.Turns.{DrivenFrom, FirstDue, Turn}
 use Rattle.ciel_journal.proofs.OneWorker.{first_one}
 use Rattle.ciel_log.specs.Logs as logs
 use Rattle.ciel_log_records.specs.Records.{in_file}

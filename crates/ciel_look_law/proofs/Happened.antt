@@ -1,6 +1,6 @@
 -- The record of an event: what is told of it, and what stands then.
-use Rattle.std.proofs.Common.{◌≡◌, ◌≤◌, ◌<◌, ◌+◌, ◌^◌, ℕ, zero, suc, List, [], ◌∷◌, ◌++◌, Bool, true, false, not, cond, ◌||◌, length, map, nat_eq}
-use Rattle.std.proofs.Common.{None, Option, Some, filter, slice_get, refl, ap, ap₂, sym, ◌∙◌, subst, arith}
+use Rattle.std.proofs.Common.{◌≡◌, ◌≤◌, ◌<◌, ◌+◌, ◌^◌, ℕ, zero, suc, List, [], ◌∷◌, false, not, cond, ◌||◌, length, map, nat_eq}
+use Rattle.std.proofs.Common.{None, Some, filter, slice_get, refl, ap, sym, ◌∙◌, subst, arith}
 use Rattle.sha1.specs.Sha1.{sha1}
 use Rattle.sky_base.specs.KitView.{Gives}
 use Rattle.sky_base.specs.Name.{canon, digested, low_desc}
@@ -22,7 +22,7 @@ use Rattle.ciel_journal_job.specs.Real.{held_if, mark_if}
 use Rattle.ciel_json.specs.Around.{json_around}
 use Rattle.ciel_log.specs.Logs.{IsDone, IsObjectOf, IsStackOf, RecordOf}
 use Rattle.ciel_log_records.specs.Records.{HowEnded}
-use Rattle.ciel_log_read.specs.Recorded.{IsNamed, IsRecord, IsTask, Recorded, record_bytes, reported, started}
+use Rattle.ciel_log_read.specs.Recorded.{IsNamed, IsRecord, IsTask, Recorded, record_bytes, reported}
 use Rattle.ciel_look_law.specs.Events.{EndTold, EventTold, IsOutcome}
 use Rattle.ciel_look_law.specs.Journal.{IsEnd, IsOf, Weighs, id_of}
 use Rattle.ciel_look_law.specs.Laws.{NamesFit, WaitFits}

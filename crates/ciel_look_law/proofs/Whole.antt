@@ -6,7 +6,7 @@ use Rattle.sky_base.specs.See as s
 use Rattle.sky_frozen_bytes.specs.Codes.{Fits32, NoneAs}
 use Rattle.ciel_journal.specs.Entries.{Entry, journal_of, low}
 use Rattle.ciel_journal.specs.History.{Event, Plan, before_all, standing}
-use Rattle.ciel_journal.specs.Job.{Each, IsPrefix, Job}
+use Rattle.ciel_journal.specs.Job.{Each, Job}
 use Rattle.ciel_journal.specs.Turns.{Driven}
 use Rattle.ciel_journal.proofs.Append.{driven_split}
 use Rattle.ciel_log.specs.Logs.{Logs}
@@ -20,7 +20,7 @@ use Rattle.ciel_look_law.proofs.Left.{J, laws}
 use Rattle.ciel_look_law.proofs.Stands.{agrees_first}
 use Rattle.ciel_look_story.specs.Story as story
 use Rattle.ciel_look_story.specs.Story.{StandUpTo, Story, Tells}
-use Rattle.ciel_look_told.specs.Head.{Head, head_bytes, losses}
+use Rattle.ciel_look_told.specs.Head.{Head, head_bytes}
 use Rattle.ciel_look_told.specs.Told.{Told}
 
 -- what stands there up to a place, and what is behind it
