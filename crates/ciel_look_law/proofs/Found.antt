@@ -19,10 +19,10 @@ use Rattle.ciel_look_law.specs.Events as events
 use Rattle.ciel_look_law.specs.Events.{AllLost, AllTold, DueThere, EventTold}
 use Rattle.ciel_look_law.specs.Journal as journal
 use Rattle.ciel_look_law.specs.Journal.{IsJournal, IsOf}
-use Rattle.ciel_look_law.specs.Laws.{NamesFit, WaitFits}
+use Rattle.ciel_look_law.specs.Laws.{AllFit, NamesFit, WaitFits}
 use Rattle.ciel_look_law.proofs.Happened.{happens}
 use Rattle.ciel_look_law.proofs.Left as next
-use Rattle.ciel_look_law.proofs.Left.{Frees, J, NextIs, Rs, free_on, idle_late, laws, lose_first, next_is, one_more}
+use Rattle.ciel_look_law.proofs.Left.{FitRecords, Frees, J, NextIs, Rs, free_on, idle_late, laws, lose_first, next_is, one_more}
 use Rattle.ciel_look_law.proofs.Stands.{Agrees, agrees_lost, here_less}
 use Rattle.ciel_look_story.specs.Story.{Rests, Stand, Story, after as after_record, lose, tell}
 use Rattle.ciel_look_told.specs.Told as told
@@ -69,8 +69,8 @@ module _ (digest : List ℕ → List ℕ) (named : NamesFit digest) (job : s.Job
 
   abbrev AllBeyond : Stand → List Recorded → List Told → Type 0
   AllBeyond v rs ts =
-      (past : Events) (rest more : List ℕ) → Frees digest job gives past v → Rs digest job gives past [] rest → rest ≡ bytes_of rs ++ more
-      → tasks.Each IsRecord rs → length rest < 2 ^ 32 → Beyond past v ts
+      (past : Events) (rest more : List ℕ) → Frees digest job gives past v → FitRecords digest job gives past [] rest
+      → rest ≡ bytes_of rs ++ more → tasks.Each IsRecord rs → length (bytes_of rs) < 2 ^ 32 → Beyond past v ts
 
   beyond_lose : {v : Stand} (rs : List Recorded) {ts : List Told} (loss w : ℕ) → v.over ≡ false → FirstDue p.losses v.closes v.gone loss w
       → AllBeyond (lose v w) rs ts → AllBeyond v rs (told.lost w v.closes ∷ ts)
@@ -89,23 +89,24 @@ module _ (digest : List ℕ → List ℕ) (named : NamesFit digest) (job : s.Job
       → rest ≡ in_file (record_bytes r) ++ (bytes_of rs ++ more)
   split r rs more rest e = e ∙ append_assoc (in_file (record_bytes r)) (bytes_of rs) more
 
-  shorter : (x left rest : List ℕ) → rest ≡ in_file x ++ left → (n : ℕ) → n + length rest < 2 ^ 32
-      → (n + 1 + length left < 2 ^ 32) × (length x < 2 ^ 32) × (n < 2 ^ 32) × (length rest < 2 ^ 32)
-  shorter x left rest e n h =
-      let l = length-append (in_file x) left in
-      let m = ap length e in
-      (omega (arith, l, m, h), omega (arith, l, m, h), omega (arith, h), omega (arith, h))
+  shorter : (r : Recorded) (rs : List Recorded) (n : ℕ) → n + length (bytes_of (r ∷ rs)) < 2 ^ 32
+      → (n + 1 + length (bytes_of rs) < 2 ^ 32) × (length (record_bytes r) < 2 ^ 32) × (n < 2 ^ 32) × (length (bytes_of (r ∷ rs)) < 2 ^ 32)
+  shorter r rs n h =
+      let l = length-append (in_file (record_bytes r)) (bytes_of rs) in
+      (omega (arith, l, h), omega (arith, l, h), omega (arith, h), omega (arith, h))
 
   beyond_tell : {v : Stand} (rs : List Recorded) {ts : List Told} (r : Recorded) → AllBeyond (after_record v r) rs ts
       → AllBeyond v (r ∷ rs) (tell v r ∷ ts)
   beyond_tell {v} rs {ts} r ih past rest more free left e good few =
-      pick (next_is digest job gives left r (bytes_of rs ++ more) (split r rs more rest e) few)
+      pick (next_is digest job gives left.records left.fit r (bytes_of rs ++ more) (split r rs more rest e) sizes.1)
     where
+      sizes : (0 + 1 + length (bytes_of rs) < 2 ^ 32) × (length (record_bytes r) < 2 ^ 32) × (0 < 2 ^ 32) × (length (bytes_of (r ∷ rs)) < 2 ^ 32)
+      sizes = shorter r rs 0 (omega (arith, few))
+
       pick : NextIs digest job gives past r (bytes_of rs ++ more) [] → Beyond past v (tell v r ∷ ts)
       pick (next.idles bytes i q then) =
           let late = idle_late digest job gives past v free r good.0 bytes i q in
-          let h = shorter (record_bytes r) (bytes_of rs ++ more) rest (split r rs more rest e) 0 (omega (arith, few)) in
-          let l = h.0 in
+          let l = sizes.0 in
           let b : Beyond past v ts = subst (λ z. AllBeyond z rs ts) late.still ih past (bytes_of rs ++ more) more free then refl good.1 (omega (arith, l)) in
           record {
             due = b.due;
@@ -150,7 +151,8 @@ module _ (digest : List ℕ → List ℕ) (named : NamesFit digest) (job : s.Job
   abbrev pub Finds : Stand → List Recorded → List Told → Type 0
   Finds v rs ts =
       (past es : Events) (rest more : List ℕ) → Agrees Jb lw v (M past) → DrivenFrom Jb p (M past) es → Each WaitFits (journal_of Jb es)
-      → Rs digest job gives past es rest → rest ≡ bytes_of rs ++ more → tasks.Each IsRecord rs → (M past).starts + length rest < 2 ^ 32
+      → FitRecords digest job gives past es rest → rest ≡ bytes_of rs ++ more → tasks.Each IsRecord rs
+      → (M past).starts + length (bytes_of rs) < 2 ^ 32
       → Found past es more ts
 
   due_there : (v : Stand) (m : Standing s.Desc) → Agrees Jb lw v m → (due : List ℕ) → DueFrom v due → DueThere p m due
@@ -230,7 +232,7 @@ module _ (digest : List ℕ → List ℕ) (named : NamesFit digest) (job : s.Job
 
       -- of the worker that the history loses
       lost_next : (u c : ℕ) (es : Events) → Step Jb p (M past) (lost u c) → Turn Jb p (M past) (lost u c)
-          → DrivenFrom Jb p (after Jb (M past) (lost u c)) es → Each WaitFits (journal_of Jb es) → Rs digest job gives past (lost u c ∷ es) rest
+          → DrivenFrom Jb p (after Jb (M past) (lost u c)) es → Each WaitFits (journal_of Jb es) → FitRecords digest job gives past (lost u c ∷ es) rest
           → Found past (lost u c ∷ es) more (told.lost w v.closes ∷ ts)
       lost_next u c es st turn dr fs left =
           let same : w ≡ u = first_one Jb lw p (M past) w u loss turn.0 due turn.1 in
@@ -238,12 +240,12 @@ module _ (digest : List ℕ → List ℕ) (named : NamesFit digest) (job : s.Job
           let stands : Agrees Jb lw (lose v w) (after Jb (M past) (lost u c)) =
           subst (λ z. Agrees Jb lw (lose v w) (after Jb (M past) (lost z c))) same (agrees_lost Jb lw v (M past) a w c) in
           let f = ih (past ++ lost u c ∷ []) es rest more (subst (Agrees Jb lw (lose v w)) (sym at) stands)
-          (subst (λ (m : Standing s.Desc). DrivenFrom Jb p m es) (sym at) dr) fs (lose_first digest job gives past es u c rest left) e good
-          (subst (λ (m : Standing s.Desc). m.starts + length rest < 2 ^ 32) (sym at) few) in
+          (subst (λ (m : Standing s.Desc). DrivenFrom Jb p m es) (sym at) dr) fs (lose_first digest job gives past es u c rest left.records left.fit) e good
+          (subst (λ (m : Standing s.Desc). m.starts + length (bytes_of rs) < 2 ^ 32) (sym at) few) in
           let count : v.closes ≡ c = a.closes ∙ sym st.allowed.now in
           prepend past es more ts (lost u c) (told.lost w v.closes) (ap₂ told.lost same count) (same, count) f
 
-      pick : (es : Events) → DrivenFrom Jb p (M past) es → Each WaitFits (journal_of Jb es) → Rs digest job gives past es rest
+      pick : (es : Events) → DrivenFrom Jb p (M past) es → Each WaitFits (journal_of Jb es) → FitRecords digest job gives past es rest
           → Found past es more (told.lost w v.closes ∷ ts)
       pick [] dr fs left = no_event past more a (far past rest more a.free left e good (omega (arith, few)))
       pick (lost u c ∷ es) dr fs left = lost_next u c es dr.0 dr.1 dr.2 fs.1 left
@@ -259,9 +261,9 @@ module _ (digest : List ℕ → List ℕ) (named : NamesFit digest) (job : s.Job
   found_tell {v} rs {ts} r rests far ih past es rest more a driven fits left e good few =
       pick es driven fits left
     where
-      sizes : ((M past).starts + 1 + length (bytes_of rs ++ more) < 2 ^ 32) × (length (record_bytes r) < 2 ^ 32) × ((M past).starts < 2 ^ 32)
-          × (length rest < 2 ^ 32)
-      sizes = shorter (record_bytes r) (bytes_of rs ++ more) rest (split r rs more rest e) (M past).starts few
+      sizes : ((M past).starts + 1 + length (bytes_of rs) < 2 ^ 32) × (length (record_bytes r) < 2 ^ 32) × ((M past).starts < 2 ^ 32)
+          × (length (bytes_of (r ∷ rs)) < 2 ^ 32)
+      sizes = shorter r rs (M past).starts few
 
       -- starts rise by one at most
       rises : (x : Event s.Desc) → (after Jb (M past) x).starts ≤ (M past).starts + 1
@@ -302,35 +304,28 @@ module _ (digest : List ℕ → List ℕ) (named : NamesFit digest) (job : s.Job
           let at : M (past ++ x ∷ []) ≡ after Jb (M past) x = one_more digest job gives past x in
           let l = sizes.0 in
           let up = rises x in
-          let room : (after Jb (M past) x).starts + length (bytes_of rs ++ more) < 2 ^ 32 = omega (arith, l, up) in
+          let room : (after Jb (M past) x).starts + length (bytes_of rs) < 2 ^ 32 = omega (arith, l, up) in
           prepend past es more ts x (tell v r) h.event h.entry
           (ih (past ++ x ∷ []) es (bytes_of rs ++ more) more (subst (Agrees Jb lw (after_record v r)) (sym at) h.agrees)
           (subst (λ (m : Standing s.Desc). DrivenFrom Jb p m es) (sym at) dr.2) fs.1 then refl good.1
-          (subst (λ (m : Standing s.Desc). m.starts + length (bytes_of rs ++ more) < 2 ^ 32) (sym at) room))
+          (subst (λ (m : Standing s.Desc). m.starts + length (bytes_of rs) < 2 ^ 32) (sym at) room))
 
-      pick : (es : Events) → DrivenFrom Jb p (M past) es → Each WaitFits (journal_of Jb es) → Rs digest job gives past es rest
+      pick : (es : Events) → DrivenFrom Jb p (M past) es → Each WaitFits (journal_of Jb es) → FitRecords digest job gives past es rest
           → Found past es more (tell v r ∷ ts)
       pick [] dr fs left = no_event past more a (far past rest more a.free left e good sizes.3)
       pick (x ∷ es) dr fs left =
-          go x es dr fs (next_is digest job gives left r (bytes_of rs ++ more) (split r rs more rest e) sizes.3)
+          go x es dr fs (next_is digest job gives left.records left.fit r (bytes_of rs ++ more) (split r rs more rest e) sizes.1)
 
   -- ---- the end
 
-  stands_first : (x left rest more : List ℕ) → rest ≡ in_file x ++ left → rest ≡ more → length rest < 2 ^ 32 → NoneAs in_file FitsBlock more → ⊥
-  stands_first x left rest more q e h none =
-      let l = length-append (in_file x) left in
-      let m = ap length q in
-      none x left (omega (arith, l, m, h)) (sym e ∙ q)
-
   -- no event is left where no record is, and the story rests
-  nothing_left : {past es : Events} {rest : List ℕ} → Rs digest job gives past es rest → (v : Stand) → Agrees Jb lw v (M past) → Rests p.losses v
-      → DrivenFrom Jb p (M past) es → (more : List ℕ) → rest ≡ more → length rest < 2 ^ 32 → NoneAs in_file FitsBlock more → es ≡ []
-  nothing_left logs.over v a rests dr more e h none = refl
-  nothing_left (logs.idle {past} {es} {rest} bytes i then) v a rests dr more e h none =
-      absurd (stands_first bytes rest (in_file bytes ++ rest) more refl e h none)
-  nothing_left (logs.loses {past} {es} {rest} u c then) v a rests dr more e h none = absurd (no_loss v (M past) a rests u c dr.0 dr.1)
-  nothing_left (logs.tells {past} {es} {rest} x bytes o then) v a rests dr more e h none =
-      absurd (stands_first bytes rest (in_file bytes ++ rest) more refl e h none)
+  nothing_left : {past es : Events} {rest : List ℕ} → (l : Rs digest job gives past es rest) → AllFit digest job gives l → (v : Stand)
+      → Agrees Jb lw v (M past) → Rests p.losses v → DrivenFrom Jb p (M past) es → (more : List ℕ) → rest ≡ more → NoneAs in_file FitsBlock more
+      → es ≡ []
+  nothing_left logs.over f v a rests dr more e none = refl
+  nothing_left (logs.idle {past} {es} {rest} bytes i then) f v a rests dr more e none = absurd (none bytes rest f.0 (sym e))
+  nothing_left (logs.loses {past} {es} {rest} u c then) f v a rests dr more e none = absurd (no_loss v (M past) a rests u c dr.0 dr.1)
+  nothing_left (logs.tells {past} {es} {rest} x bytes o then) f v a rests dr more e none = absurd (none bytes rest f.0 (sym e))
 
   found_end : {v : Stand} → Rests p.losses v → Finds v [] []
   found_end {v} rests past es rest more a driven fits left e good few =
@@ -342,7 +337,7 @@ module _ (digest : List ℕ → List ℕ) (named : NamesFit digest) (job : s.Job
         there = due_there v (M past) a [] (none_due v rests);
         tells = events.ends;
         own = journal.ends;
-        whole = λ none. nothing_left left v a rests driven more e (omega (arith, few)) none;
+        whole = λ none. nothing_left left.records left.fit v a rests driven more e none;
       }
 
   pub found : {v : Stand} {rs : List Recorded} {ts : List Told} → Story p.losses v rs ts → Finds v rs ts

@@ -15,6 +15,7 @@ use Rattle.ciel_log_records.specs.Records.{in_file}
 use Rattle.ciel_log_read.specs.Recorded as read
 use Rattle.ciel_log_read.specs.Recorded.{FitsBlock, IsRecord, Recorded, record_bytes}
 use Rattle.ciel_log_read.proofs.Pieces.{blocks_free}
+use Rattle.ciel_look_law.specs.Laws.{AllFit}
 use Rattle.ciel_look_law.proofs.Bytes.{one_dropped, one_number}
 use Rattle.ciel_look_story.specs.Story.{Stand, after as after_record, closed, is_out, is_shown, tell}
 use Rattle.ciel_look_told.specs.Told as told
@@ -68,42 +69,47 @@ module _ (digest : List ℕ → List ℕ) (job : s.Job) (gives : Gives) where
       logs.reported k (free.0, free_on past w closes k free.1) spawned copied how
   idle_on past w closes bytes (logs.dropped k free) = logs.dropped k (free.0, free_on past w closes k free.1)
 
-  pub lose_first : (past es : List (Event s.Desc)) (w closes : ℕ) (rest : List ℕ) → Rs past (lost w closes ∷ es) rest
-      → Rs (past ++ lost w closes ∷ []) es rest
-  lose_first past es w closes rest (logs.idle bytes i more) =
-      logs.idle bytes (idle_on past w closes bytes i) (lose_first past es w closes _ more)
-  lose_first past es w closes rest (logs.loses v n more) = more
-  lose_first past es w closes rest (logs.tells e bytes r more) = absurd r
+  -- records that each have a length of four bytes
+  pub record FitRecords (past es : List (Event s.Desc)) (bytes : List ℕ) : Type 0 where
+    pub records : Rs past es bytes
+    pub fit : AllFit digest job gives records
+
+  pub all_fit : {past es : List (Event s.Desc)} {rest : List ℕ} → (r : Rs past es rest) → length rest < 2 ^ 32 → AllFit digest job gives r
+  all_fit logs.over b = tt
+  all_fit (logs.idle {past} {es} {rest} bytes i more) b =
+      let l = length-append (in_file bytes) rest in (omega (arith, l, b), all_fit more (omega (arith, l, b)))
+  all_fit (logs.loses w closes more) b = all_fit more b
+  all_fit (logs.tells {past} {es} {rest} e bytes o more) b =
+      let l = length-append (in_file bytes) rest in (omega (arith, l, b), all_fit more (omega (arith, l, b)))
+
+  pub lose_first : (past es : List (Event s.Desc)) (w closes : ℕ) (rest : List ℕ) → (r : Rs past (lost w closes ∷ es) rest)
+      → AllFit digest job gives r → FitRecords (past ++ lost w closes ∷ []) es rest
+  lose_first past es w closes rest (logs.idle bytes i more) f =
+      let n = lose_first past es w closes _ more f.1 in
+      record { records = logs.idle bytes (idle_on past w closes bytes i) n.records; fit = (f.0, n.fit) }
+  lose_first past es w closes rest (logs.loses v n more) f = record { records = more; fit = f }
+  lose_first past es w closes rest (logs.tells e bytes r more) f = absurd r
 
   -- ---- the record that stands there
 
   -- it is an idle one; or that of the next event, where this is no loss
   pub data NextIs (past : List (Event s.Desc)) (r : Recorded) (left : List ℕ) : List (Event s.Desc) → Type 0 where
-    idles : {es : List (Event s.Desc)} (bytes : List ℕ) → Idle digest job gives past bytes → record_bytes r ≡ bytes → Rs past es left
+    idles : {es : List (Event s.Desc)} (bytes : List ℕ) → Idle digest job gives past bytes → record_bytes r ≡ bytes → FitRecords past es left
         → NextIs past r left es
     tells : {es : List (Event s.Desc)} (e : Event s.Desc) (bytes : List ℕ) → RecordOf digest job gives past e bytes → record_bytes r ≡ bytes
-        → Rs (past ++ e ∷ []) es left → NextIs past r left (e ∷ es)
+        → FitRecords (past ++ e ∷ []) es left → NextIs past r left (e ∷ es)
     loses : {es : List (Event s.Desc)} (w closes : ℕ) → NextIs past r left (lost w closes ∷ es)
 
-  both_fit : (x y rest left : List ℕ) → in_file x ++ rest ≡ in_file y ++ left → length (in_file x ++ rest) < 2 ^ 32 → FitsBlock x × FitsBlock y
-  both_fit x y rest left e b =
-      let l = length-append (in_file x) rest in
-      let m = length-append (in_file y) left in
-      let n = ap length e in
-      (omega (arith, l, b), omega (arith, m, n, b))
-
-  pub next_is : {past es : List (Event s.Desc)} {rest : List ℕ} → Rs past es rest → (r : Recorded) (left : List ℕ)
-      → rest ≡ in_file (record_bytes r) ++ left → length rest < 2 ^ 32 → NextIs past r left es
-  next_is logs.over r left e b = absurd cc
-  next_is (logs.idle {past} {es} {rest} bytes i more) r left e b =
-      let f = both_fit bytes (record_bytes r) rest left e b in
-      let same = blocks_free bytes (record_bytes r) rest left f.0 f.1 e in
-      idles bytes i (sym same.0) (subst (Rs past es) same.1 more)
-  next_is (logs.loses w closes more) r left e b = loses w closes
-  next_is (logs.tells {past} {es} {rest} e bytes o more) r left q b =
-      let f = both_fit bytes (record_bytes r) rest left q b in
-      let same = blocks_free bytes (record_bytes r) rest left f.0 f.1 q in
-      tells e bytes o (sym same.0) (subst (Rs (past ++ e ∷ []) es) same.1 more)
+  pub next_is : {past es : List (Event s.Desc)} {rest : List ℕ} → (l : Rs past es rest) → AllFit digest job gives l → (r : Recorded)
+      (left : List ℕ) → rest ≡ in_file (record_bytes r) ++ left → FitsBlock (record_bytes r) → NextIs past r left es
+  next_is logs.over f r left e b = absurd cc
+  next_is (logs.idle {past} {es} {rest} bytes i more) f r left e b =
+      let same = blocks_free bytes (record_bytes r) rest left f.0 b e in
+      idles bytes i (sym same.0) (subst (FitRecords past es) same.1 (record { records = more; fit = f.1 }))
+  next_is (logs.loses w closes more) f r left e b = loses w closes
+  next_is (logs.tells {past} {es} {rest} e bytes o more) f r left q b =
+      let same = blocks_free bytes (record_bytes r) rest left f.0 b q in
+      tells e bytes o (sym same.0) (subst (FitRecords (past ++ e ∷ []) es) same.1 (record { records = more; fit = f.1 }))
 
   -- ---- idle records are told as late
 

@@ -14,9 +14,9 @@ use Rattle.ciel_log_records.specs.Records.{in_file}
 use Rattle.ciel_log_read.specs.File.{NoRecordAt}
 use Rattle.ciel_log_read.specs.Recorded.{FitsBlock, Recorded, record_bytes}
 use Rattle.ciel_log_read.proofs.Pieces.{blocks_free}
-use Rattle.ciel_look_law.specs.Laws.{CutLogTellsOwn, HasPlan, LogTellsOwn, NamesFit, Own, WaitFits}
+use Rattle.ciel_look_law.specs.Laws.{AllFit, CutLogTellsOwn, HasPlan, LogTellsOwn, NamesFit, Own, WaitFits}
 use Rattle.ciel_look_law.proofs.Found.{Found, bytes_of, found}
-use Rattle.ciel_look_law.proofs.Left.{J, laws}
+use Rattle.ciel_look_law.proofs.Left.{J, all_fit, laws}
 use Rattle.ciel_look_law.proofs.Stands.{agrees_first}
 use Rattle.ciel_look_story.specs.Story as story
 use Rattle.ciel_look_story.specs.Story.{StandUpTo, Story, Tells}
@@ -34,8 +34,8 @@ journal_parts job [] h = refl
 journal_parts job (e ∷ g) h = ap (λ z. low job e ∷ z) (journal_parts job g h)
 
 module _ (digest : List ℕ → List ℕ) (named : NamesFit digest) (job : s.Job) (gives : Gives) (p : Plan) (header : List ℕ) (journal : List Entry)
-    (all bytes behind : List ℕ) (l : Logs digest job gives p header journal all) (few : length all < 2 ^ 32) (waits : Each WaitFits journal)
-    (begins : bytes ++ behind ≡ all) (head : Head) (ts : List Told) (t : Tells bytes head ts) where
+    (all bytes behind : List ℕ) (l : Logs digest job gives p header journal all) (short : FitsBlock header) (fit : AllFit digest job gives l.records)
+    (waits : Each WaitFits journal) (begins : bytes ++ behind ≡ all) (few : length bytes < 2 ^ 32) (head : Head) (ts : List Told) (t : Tells bytes head ts) where
   abbrev Jb : Job s.Desc
   Jb = J digest job gives
 
@@ -54,27 +54,23 @@ module _ (digest : List ℕ → List ℕ) (named : NamesFit digest) (job : s.Job
       sym (append_assoc (in_file (head_bytes head)) (drop t.1.1.first bytes) behind)
       ∙ (ap (λ b. b ++ behind) (sym t.1.1.header.here) ∙ (begins ∙ l.all))
 
-  header_fits : FitsBlock header
-  header_fits =
-      let a = ap length l.all in
-      let b = length-append (in_file header) l.rest in
-      omega (arith, a, b, few)
-
   same : (head_bytes head ≡ header) × (drop t.1.1.first bytes ++ behind ≡ l.rest)
   same =
-      blocks_free (head_bytes head) header (drop t.1.1.first bytes ++ behind) l.rest t.1.1.header.fits header_fits same_log
+      blocks_free (head_bytes head) header (drop t.1.1.first bytes ++ behind) l.rest t.1.1.header.fits short same_log
+
+  left_is : drop t.1.1.first bytes ≡ bytes_of rs ++ drop end bytes
+  left_is = stand_there bytes t.1.1.first (map record_bytes rs) end t.1.1.records
 
   rest_is : l.rest ≡ bytes_of rs ++ more
-  rest_is =
-      sym same.1
-      ∙ (ap (λ b. b ++ behind) (stand_there bytes t.1.1.first (map record_bytes rs) end t.1.1.records)
-      ∙ append_assoc (flat_map in_file (map record_bytes rs)) (drop end bytes) behind)
+  rest_is = sym same.1 ∙ (ap (λ b. b ++ behind) left_is ∙ append_assoc (bytes_of rs) (drop end bytes) behind)
 
-  room : (standing Jb []).starts + length l.rest < 2 ^ 32
+  room : (standing Jb []).starts + length (bytes_of rs) < 2 ^ 32
   room =
-      let a = ap length l.all in
-      let b = length-append (in_file header) l.rest in
-      omega (arith, a, b, few)
+      let a = ap length t.1.1.header.here in
+      let b = length-append (in_file (head_bytes head)) (drop t.1.1.first bytes) in
+      let c = ap length left_is in
+      let d = length-append (bytes_of rs) (drop end bytes) in
+      omega (arith, a, b, c, d, few)
 
   pub same_header : header ≡ head_bytes head
   same_header = sym same.0
@@ -90,7 +86,8 @@ module _ (digest : List ℕ → List ℕ) (named : NamesFit digest) (job : s.Job
     got =
         found digest named job gives p workers losses_few
         (subst (λ xs. Story xs story.before_all rs ts) plan.1 t.2) [] l.history l.rest more
-        (agrees_first Jb (laws digest job gives)) l.driven (subst (Each WaitFits) (sym l.entries) waits) l.records rest_is t.1.1.whole room
+        (agrees_first Jb (laws digest job gives)) l.driven (subst (Each WaitFits) (sym l.entries) waits)
+        (record { records = l.records; fit = fit }) rest_is t.1.1.whole room
 
     own : Own digest job gives p (journal_of Jb got.first) ts
     own =
@@ -121,14 +118,28 @@ module _ (digest : List ℕ → List ℕ) (named : NamesFit digest) (job : s.Job
         subst (λ z. Own digest job gives p z ts) (ap (journal_of Jb) (sym parts) ∙ l.entries) own
 
 pub log_tells_own : LogTellsOwn
-log_tells_own digest named job gives p header journal bytes l few waits head ts t =
-    let short : length bytes < 2 ^ 32 = omega (arith, few) in (
-      same_header digest named job gives p header journal bytes bytes [] l short waits (append-nil bytes) head ts t,
-      λ plan. own_whole digest named job gives p header journal bytes bytes [] l short waits (append-nil bytes) head ts t plan refl,
-    )
+log_tells_own digest named job gives p header journal bytes l few waits head ts t = (
+  same_header digest named job gives p header journal bytes bytes [] l head_fits fit waits (append-nil bytes) short head ts t,
+  λ plan. own_whole digest named job gives p header journal bytes bytes [] l head_fits fit waits (append-nil bytes) short head ts t plan refl,
+)
+  where
+    short : length bytes < 2 ^ 32
+    short = omega (arith, few)
+
+    sum : length bytes ≡ length (in_file header) + length l.rest
+    sum = ap length l.all ∙ length-append (in_file header) l.rest
+
+    head_fits : FitsBlock header
+    head_fits = let a = sum in let b = short in omega (arith, a, b)
+
+    fit : AllFit digest job gives l.records
+    fit = let a = sum in let b = short in all_fit digest job gives l.records (omega (arith, a, b))
 
 pub cut_log_tells_own : CutLogTellsOwn
-cut_log_tells_own digest named job gives p header journal all bytes l few waits begins head ts t = (
-  same_header digest named job gives p header journal all bytes begins.0 l few waits begins.1 head ts t,
-  λ plan. own_part digest named job gives p header journal all bytes begins.0 l few waits begins.1 head ts t plan,
+cut_log_tells_own digest named job gives p header journal all l header_fits fit waits bytes begins few head ts t = (
+  same_header digest named job gives p header journal all bytes begins.0 l header_fits fit waits begins.1 short head ts t,
+  λ plan. own_part digest named job gives p header journal all bytes begins.0 l header_fits fit waits begins.1 short head ts t plan,
 )
+  where
+    short : length bytes < 2 ^ 32
+    short = omega (arith, few)

@@ -1,5 +1,5 @@
 -- What is told of a log of a journal is the journal's own.
-use Rattle.std.specs.Prelude.{◌≡◌, ◌≤◌, ◌<◌, ◌^◌, ℕ, List, [], ◌++◌, Bool, map, length}
+use Rattle.std.specs.Prelude.{◌≡◌, ◌≤◌, ℕ, List, [], ◌++◌, Bool, map, length}
 use Rattle.sha1.specs.Sha1.{sha1}
 use Rattle.sky_base.specs.KitView.{Gives}
 use Rattle.sky_base.specs.See as s
@@ -9,9 +9,10 @@ use Rattle.ciel_journal.specs.History.{Event, Plan, lost, standing}
 use Rattle.ciel_journal.specs.Job.{Each, IsPrefix, Job}
 use Rattle.ciel_journal.specs.Turns.{Driven}
 use Rattle.ciel_log.specs.Logging.{most}
-use Rattle.ciel_log.specs.Logs.{Logs}
+use Rattle.ciel_log.specs.Logs as logs
+use Rattle.ciel_log.specs.Logs.{Logs, Records}
 use Rattle.ciel_log_records.specs.Records.{header_record}
-use Rattle.ciel_log_read.specs.Recorded.{IsNamed}
+use Rattle.ciel_log_read.specs.Recorded.{FitsBlock, IsNamed}
 use Rattle.ciel_look_law.specs.Events.{AllTold, DueThere}
 use Rattle.ciel_look_law.specs.Journal.{IsJournal}
 use Rattle.ciel_look_story.specs.Story.{Tells}
@@ -39,14 +40,22 @@ abbrev pub head_of : (workers seed : ℕ) → List (ℕ × ℕ) → (short : Boo
 head_of workers seed planned short script inputs =
     (workers, (seed, (planned, (short, (sha1 script, map (λ (input : List ℕ × List ℕ). (input.0, sha1 input.1)) inputs)))))
 
--- ---- what is so then
-
-module _ (digest : List ℕ → List ℕ) (job : s.Job) (gives : Gives) (p : Plan) where
+-- the job of a script over its inputs, with executors that give so, and the digest that gives the names
+module _ (digest : List ℕ → List ℕ) (job : s.Job) (gives : Gives) where
   abbrev J : Job s.Desc
   J = shop_job digest job gives
 
+  -- each record has a length of four bytes
+  abbrev pub AllFit : {past es : List (Event s.Desc)} {bytes : List ℕ} → Records digest job gives past es bytes → Type 0
+  AllFit logs.over = Unit {0}
+  AllFit (logs.idle bytes i more) = FitsBlock bytes × AllFit more
+  AllFit (logs.loses w closes more) = AllFit more
+  AllFit (logs.tells e bytes r more) = FitsBlock bytes × AllFit more
+
+  -- ---- what is so then
+
   -- a driven history has the journal; it is told, and behind it the losses that are due
-  pub record Own (journal : List Entry) (ts : List Told) : Type 0 where
+  pub record Own (p : Plan) (journal : List Entry) (ts : List Told) : Type 0 where
     pub history : List (Event s.Desc)
     pub driven : Driven J p history
     pub entries : journal_of J history ≡ journal
@@ -69,7 +78,8 @@ LogTellsOwn =
 abbrev pub CutLogTellsOwn : Type 0
 CutLogTellsOwn =
     (digest : List ℕ → List ℕ) → NamesFit digest → (job : s.Job) (gives : Gives) (p : Plan) (header : List ℕ) (journal : List Entry)
-    (all bytes : List ℕ) → Logs digest job gives p header journal all → length all < 2 ^ 32 → Each WaitFits journal → IsPrefix bytes all
+    (all : List ℕ) (log : Logs digest job gives p header journal all) → FitsBlock header → AllFit digest job gives log.records
+    → Each WaitFits journal → (bytes : List ℕ) → IsPrefix bytes all → length bytes ≤ most
     → (head : Head) (ts : List Told) → Tells bytes head ts
     → (header ≡ head_bytes head)
     × (HasPlan head p → (front rest : List Entry) × (front ++ rest ≡ journal) × Own digest job gives p front ts)
