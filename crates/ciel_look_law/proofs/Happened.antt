@@ -201,9 +201,12 @@ module _ (digest : List ℕ → List ℕ) (named : NamesFit digest) (job : s.Job
           let c = closes k (map (by_names digest) spawned) (low_names Jb copied) how (all_named copied) d.0 o.0 o.1 (e ∙ o.2.2) in
           record {
             event = (o.0, o.1, (how, o.2.1, end_of k (map (by_names digest) spawned) (low_names Jb copied) how c));
-            entry = subst (λ z. IsOf z (Entry.Done k (low_made Jb made) (low_names Jb copied))) (sym c.told)
-                (refl, refl, done_of o.0.task made how o.2.1
-                (subst (λ (q : OpenStart s.Desc). Marked Jb (Jb.outputs q.task) made) same x.2.marked) (outcome c.is.way) c.is.ended);
+            entry = subst (λ z. IsOf z (Entry.Done k (low_made Jb made) (low_names Jb copied))) (sym c.told) (
+              refl,
+              refl,
+              done_of o.0.task made how o.2.1
+                  (subst (λ (q : OpenStart s.Desc). Marked Jb (Jb.outputs q.task) made) same x.2.marked) (outcome c.is.way) c.is.ended,
+            );
             agrees = stands_so k (map (by_names digest) spawned) (low_names Jb copied) how c (done_with Jb made copied spawned o.0 (closed Jb m k))
                 refl refl refl refl st.going d.1 a.waits (done k made copied spawned)
                 (ap (close_with Jb (done_with Jb made copied spawned) m k) o.1);
