@@ -1,5 +1,5 @@
 -- A story of a log's records tells the first events of the log's history, and behind them losses that are due.
-use Rattle.std.proofs.Common.{◌≡◌, ◌≤◌, ◌<◌, ◌+◌, ◌^◌, ℕ, List, [], ◌∷◌, ◌++◌, true, false, length, map, inl, inr, Option, None, Some}
+use Rattle.std.proofs.Common.{◌≡◌, ◌≤◌, ◌<◌, ◌+◌, ◌^◌, ◌⊎◌, ℕ, List, [], ◌∷◌, ◌++◌, true, false, length, map, inl, inr, Option, None, Some}
 use Rattle.std.proofs.Common.{refl, ap, ap₂, sym, ◌∙◌, subst, arith, append_assoc, length-append, flat_map}
 use Rattle.sky_base.specs.KitView.{Gives}
 use Rattle.sky_base.specs.See as s
@@ -145,6 +145,8 @@ module _ (digest : List ℕ → List ℕ) (named : NamesFit digest) (job : s.Job
     pub there : DueThere p (then_stands past first) due
     pub tells : AllTold digest job gives past (first ++ lost_all (then_stands past first).closes due) ts
     pub own : IsJournal ts (journal_of Jb first ++ entries_lost (then_stands past first).closes due)
+    -- no loss is due where events are left
+    pub stops : (then ≡ []) ⊎ (due ≡ [])
     -- all of them, where no record stands behind
     pub whole : NoneAs in_file FitsBlock more → then ≡ []
 
@@ -174,6 +176,7 @@ module _ (digest : List ℕ → List ℕ) (named : NamesFit digest) (job : s.Job
         there = due_there v (M past) a b.due b.from;
         tells = subst (λ c. AllTold digest job gives past (lost_all c b.due) ts) a.closes (b.tells past (λ k h. h));
         own = subst (λ c. IsJournal ts (entries_lost c b.due)) a.closes b.own;
+        stops = inl refl;
         whole = λ none. refl;
       }
 
@@ -193,6 +196,7 @@ module _ (digest : List ℕ → List ℕ) (named : NamesFit digest) (job : s.Job
             at f.tells);
         own = journal.tells t (low Jb e) entry
             (subst (λ (m : Standing s.Desc). IsJournal ts (journal_of Jb f.first ++ entries_lost (after_all Jb m f.first).closes f.due)) at f.own);
+        stops = f.stops;
         whole = f.whole;
       }
 
@@ -210,6 +214,7 @@ module _ (digest : List ℕ → List ℕ) (named : NamesFit digest) (job : s.Job
             (events.late k free f.tells);
         own = subst (λ z. IsJournal (z ∷ ts) (journal_of Jb f.first ++ entries_lost (then_stands past f.first).closes f.due)) (sym e)
             (journal.late k f.own);
+        stops = f.stops;
         whole = f.whole;
       }
 
@@ -337,6 +342,7 @@ module _ (digest : List ℕ → List ℕ) (named : NamesFit digest) (job : s.Job
         there = due_there v (M past) a [] (none_due v rests);
         tells = events.ends;
         own = journal.ends;
+        stops = inr refl;
         whole = λ none. nothing_left left.records left.fit v a rests driven more e none;
       }
 

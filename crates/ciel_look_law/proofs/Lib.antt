@@ -5,3 +5,4 @@ pub mod Happened
 pub mod Found
 pub mod Whole
 pub mod Header
+pub mod Names

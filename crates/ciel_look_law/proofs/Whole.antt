@@ -1,5 +1,5 @@
 -- A file that begins a log of a journal: what it tells is the journal's own.
-use Rattle.std.proofs.Common.{◌≡◌, ◌≤◌, ◌<◌, ◌+◌, ◌^◌, ℕ, List, [], ◌∷◌, ◌++◌, length, map, drop, flat_map, refl, ap, sym, ◌∙◌, subst, arith, append_assoc}
+use Rattle.std.proofs.Common.{◌≡◌, ◌≤◌, ◌<◌, ◌+◌, ◌^◌, ◌⊎◌, inl, inr, ℕ, List, [], ◌∷◌, ◌++◌, length, map, drop, flat_map, refl, ap, sym, ◌∙◌, subst, arith, append_assoc}
 use Rattle.std.proofs.Common.{append-nil, length-append}
 use Rattle.sky_base.specs.KitView.{Gives}
 use Rattle.sky_base.specs.See as s
@@ -89,11 +89,14 @@ module _ (digest : List ℕ → List ℕ) (named : NamesFit digest) (job : s.Job
         (agrees_first Jb (laws digest job gives)) l.driven (subst (Each WaitFits) (sym l.entries) waits)
         (record { records = l.records; fit = fit }) rest_is t.1.1.whole room
 
+    driven_first : Driven Jb p got.first
+    driven_first = (driven_split Jb p (before_all Jb) got.first got.then (subst (Driven Jb p) got.parts l.driven)).0
+
     own : Own digest job gives p (journal_of Jb got.first) ts
     own =
         record {
           history = got.first;
-          driven = (driven_split Jb p (before_all Jb) got.first got.then (subst (Driven Jb p) got.parts l.driven)).0;
+          driven = driven_first;
           entries = refl;
           due = got.due;
           there = got.there;
@@ -101,13 +104,26 @@ module _ (digest : List ℕ → List ℕ) (named : NamesFit digest) (job : s.Job
           own = got.own;
         }
 
-    pub own_part : (front rest : List Entry) × (front ++ rest ≡ journal) × Own digest job gives p front ts
+    pub own_part : (front rest : List Entry) × (front ++ rest ≡ journal) × (o : Own digest job gives p front ts) × ((rest ≡ []) ⊎ (o.due ≡ []))
     own_part = (
       journal_of Jb got.first,
       journal_of Jb got.then,
       sym (journal_parts Jb got.first got.then) ∙ (ap (journal_of Jb) (sym got.parts) ∙ l.entries),
-      own,
+      record {
+        history = got.first;
+        driven = driven_first;
+        entries = refl;
+        due = got.due;
+        there = got.there;
+        told = got.tells;
+        own = got.own;
+      },
+      pick got.stops,
     )
+      where
+        pick : ((got.then ≡ []) ⊎ (got.due ≡ [])) → ((journal_of Jb got.then ≡ []) ⊎ (got.due ≡ []))
+        pick (inl e) = inl (ap (journal_of Jb) e)
+        pick (inr e) = inr e
 
     pub own_whole : behind ≡ [] → Own digest job gives p journal ts
     own_whole none =

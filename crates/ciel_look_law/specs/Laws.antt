@@ -1,5 +1,5 @@
 -- What is told of a log of a journal is the journal's own.
-use Rattle.std.specs.Prelude.{◌≡◌, ◌≤◌, ℕ, List, [], ◌++◌, Bool, map, length}
+use Rattle.std.specs.Prelude.{◌≡◌, ◌≤◌, ◌⊎◌, ℕ, List, [], ◌++◌, Bool, map, length}
 use Rattle.sha1.specs.Sha1.{sha1}
 use Rattle.sky_base.specs.KitView.{Gives}
 use Rattle.sky_base.specs.See as s
@@ -74,7 +74,7 @@ LogTellsOwn =
     → (head : Head) (ts : List Told) → Tells bytes head ts
     → (header ≡ head_bytes head) × (HasPlan head p → Own digest job gives p journal ts)
 
--- of its beginning, where that has the header
+-- of its beginning, where that has the header: a first part of the journal, behind which no loss is due where it isn't all of it
 abbrev pub CutLogTellsOwn : Type 0
 CutLogTellsOwn =
     (digest : List ℕ → List ℕ) → NamesFit digest → (job : s.Job) (gives : Gives) (p : Plan) (header : List ℕ) (journal : List Entry)
@@ -82,7 +82,8 @@ CutLogTellsOwn =
     → Each WaitFits journal → (bytes : List ℕ) → IsPrefix bytes all → length bytes ≤ most
     → (head : Head) (ts : List Told) → Tells bytes head ts
     → (header ≡ head_bytes head)
-    × (HasPlan head p → (front rest : List Entry) × (front ++ rest ≡ journal) × Own digest job gives p front ts)
+    × (HasPlan head p → (front rest : List Entry) × (front ++ rest ≡ journal) × (own : Own digest job gives p front ts)
+    × ((rest ≡ []) ⊎ (own.due ≡ [])))
 
 -- what is told of a header is what was written
 abbrev pub HeaderTold : Type 0
