@@ -107,7 +107,8 @@ module _ (digest : List ℕ → List ℕ) (named : NamesFit digest) (job : s.Job
       pick (next.idles bytes i q then) =
           let late = idle_late digest job gives past v free r good.0 bytes i q in
           let l = sizes.0 in
-          let b : Beyond past v ts = subst (λ z. AllBeyond z rs ts) late.still ih past (bytes_of rs ++ more) more free then refl good.1 (omega (arith, l)) in
+          let b : Beyond past v ts =
+          subst (λ z. AllBeyond z rs ts) late.still ih past (bytes_of rs ++ more) more free then refl good.1 (omega (arith, l)) in
           record {
             due = b.due;
             from = b.from;
@@ -201,7 +202,8 @@ module _ (digest : List ℕ → List ℕ) (named : NamesFit digest) (job : s.Job
       }
 
   -- a late report more
-  late_too : (past es : Events) (more : List ℕ) (ts : List Told) (t : Told) (k : ℕ) → find_open Jb k (M past).orders ≡ None → t ≡ told.late k → Found past es more ts
+  late_too : (past es : Events) (more : List ℕ) (ts : List Told) (t : Told) (k : ℕ) → find_open Jb k (M past).orders ≡ None → t ≡ told.late k
+      → Found past es more ts
       → Found past es more (t ∷ ts)
   late_too past es more ts t k free e f =
       record {
@@ -237,7 +239,8 @@ module _ (digest : List ℕ → List ℕ) (named : NamesFit digest) (job : s.Job
 
       -- of the worker that the history loses
       lost_next : (u c : ℕ) (es : Events) → Step Jb p (M past) (lost u c) → Turn Jb p (M past) (lost u c)
-          → DrivenFrom Jb p (after Jb (M past) (lost u c)) es → Each WaitFits (journal_of Jb es) → FitRecords digest job gives past (lost u c ∷ es) rest
+          → DrivenFrom Jb p (after Jb (M past) (lost u c)) es → Each WaitFits (journal_of Jb es)
+          → FitRecords digest job gives past (lost u c ∷ es) rest
           → Found past (lost u c ∷ es) more (told.lost w v.closes ∷ ts)
       lost_next u c es st turn dr fs left =
           let same : w ≡ u = first_one Jb lw p (M past) w u loss turn.0 due turn.1 in
@@ -245,7 +248,8 @@ module _ (digest : List ℕ → List ℕ) (named : NamesFit digest) (job : s.Job
           let stands : Agrees Jb lw (lose v w) (after Jb (M past) (lost u c)) =
           subst (λ z. Agrees Jb lw (lose v w) (after Jb (M past) (lost z c))) same (agrees_lost Jb lw v (M past) a w c) in
           let f = ih (past ++ lost u c ∷ []) es rest more (subst (Agrees Jb lw (lose v w)) (sym at) stands)
-          (subst (λ (m : Standing s.Desc). DrivenFrom Jb p m es) (sym at) dr) fs (lose_first digest job gives past es u c rest left.records left.fit) e good
+          (subst (λ (m : Standing s.Desc). DrivenFrom Jb p m es) (sym at) dr) fs
+          (lose_first digest job gives past es u c rest left.records left.fit) e good
           (subst (λ (m : Standing s.Desc). m.starts + length (bytes_of rs) < 2 ^ 32) (sym at) few) in
           let count : v.closes ≡ c = a.closes ∙ sym st.allowed.now in
           prepend past es more ts (lost u c) (told.lost w v.closes) (ap₂ told.lost same count) (same, count) f

@@ -1,6 +1,6 @@
 -- What is left of a log behind some records, and which record stands there.
-use Rattle.std.proofs.Common.{◌≡◌, ◌<◌, ◌^◌, ℕ, List, [], ◌∷◌, ◌++◌, Bool, true, false, not, cond, nat_eq, get_or, length, None, Some, filter, ◌⊎◌, inl, inr}
-use Rattle.std.proofs.Common.{refl, ap, sym, ◌∙◌, subst, arith, length-append}
+use Rattle.std.proofs.Common.{◌≡◌, ◌<◌, ◌^◌, ℕ, List, [], ◌∷◌, ◌++◌, Bool, true, false, not, cond, nat_eq, get_or, length, None, Some}
+use Rattle.std.proofs.Common.{filter, ◌⊎◌, inl, inr, refl, ap, sym, ◌∙◌, subst, arith, length-append}
 use Rattle.sky_base.specs.KitView.{Gives}
 use Rattle.sky_base.specs.See as s
 use Rattle.ciel_journal.specs.History.{Event, OpenStart, Standing, after, before_all, find_open, lost, standing}

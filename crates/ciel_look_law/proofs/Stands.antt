@@ -1,14 +1,14 @@
 -- What stands after records as a story keeps it, and what stands after the events that they tell.
-use Rattle.std.proofs.Common.{◌≡◌, ◌<◌, ◌+◌, ℕ, List, [], ◌∷◌, ◌++◌, Bool, true, false, not, cond, ◌||◌, nat_eq, nat_lt, Option, Some, None, filter, ◌⊎◌, inl, inr}
-use Rattle.std.proofs.Common.{refl, ap, sym, ◌∙◌, subst, arith, eqb-true, eq-eqb}
+use Rattle.std.proofs.Common.{◌≡◌, ◌<◌, ◌+◌, ℕ, List, [], ◌∷◌, ◌++◌, Bool, true, false, not, cond, ◌||◌, nat_eq, nat_lt, Option, Some, None}
+use Rattle.std.proofs.Common.{filter, ◌⊎◌, inl, inr, refl, ap, sym, ◌∙◌, subst, arith, eqb-true, eq-eqb}
 use Rattle.std.specs.List.{list_any}
 use Rattle.std.specs.Ordering.{is_eq, nat_cmp}
 use Rattle.std.proofs.lemmas.Bool.Decides.{nat_tests}
 use Rattle.std.proofs.lemmas.List.Folds.{list_any-append}
 use Rattle.sky_frozen_bytes.specs.Codes.{Fits32}
 use Rattle.ciel_journal.specs.Job.{Each, IsJob, Job, Task}
-use Rattle.ciel_journal.specs.History.{OpenStart, Save, Standing, after, before_all, better, find_open, last, last_save, lost, order_of, same_task, start}
-use Rattle.ciel_journal.specs.History.{wait_number}
+use Rattle.ciel_journal.specs.History.{OpenStart, Save, Standing, after, before_all, better, find_open, last, last_save}
+use Rattle.ciel_journal.specs.History.{lost, order_of, same_task, start, wait_number}
 use Rattle.ciel_journal.proofs.Booked.{each_more}
 use Rattle.ciel_journal.proofs.Good.{each_filter, each_join}
 use Rattle.ciel_journal.proofs.Members.{bool_cases}
@@ -196,7 +196,8 @@ module _ {D : Type 0} (job : Job D) (laws : IsJob job) where
         gone = a.gone;
         over = a.over;
         below = each_join (λ (o : OpenStart D). o.number < m.starts + 1) m.orders (order_of job m k w t from ∷ [])
-            (each_more (λ (o : OpenStart D). o.number < m.starts) (λ (o : OpenStart D). o.number < m.starts + 1) (λ o l. omega (arith, l)) m.orders a.below)
+            (each_more (λ (o : OpenStart D). o.number < m.starts) (λ (o : OpenStart D). o.number < m.starts + 1) (λ o l. omega (arith, l))
+            m.orders a.below)
             (omega (arith, n), tt);
         here = each_join (Holds (with_open v k w) m.gone) m.orders (order_of job m k w t from ∷ []) (both m.orders a.below a.here)
             ((ap (λ b. cond b (Some w) (v.worker_of k)) (number_is k), h), tt);
@@ -236,7 +237,8 @@ module _ {D : Type 0} (job : Job D) (laws : IsJob job) where
       still o h e =
           (ap (λ x. cond x None (v.worker_of o.number)) (number_not k o.number (not_true (nat_eq k o.number) e)) ∙ h.0, h.1)
 
-      none : (q : ℕ) → ((nat_eq k q ≡ true) ⊎ (nat_eq k q ≡ false)) → find_open job q (filter (other k) m.orders) ≡ None → is_out (closed v k shown) q ≡ false
+      none : (q : ℕ) → ((nat_eq k q ≡ true) ⊎ (nat_eq k q ≡ false)) → find_open job q (filter (other k) m.orders) ≡ None
+          → is_out (closed v k shown) q ≡ false
       none q (inl t) e =
           let s : k ≡ q = eqb-true k q t in
           ap (λ x. is_here v.gone (cond x None (v.worker_of q))) (ap (λ z. is_eq (nat_cmp k z)) (sym s) ∙ number_is k)

@@ -1,6 +1,6 @@
 -- A file that begins a log of a journal: what it tells is the journal's own.
-use Rattle.std.proofs.Common.{◌≡◌, ◌≤◌, ◌<◌, ◌+◌, ◌^◌, ◌⊎◌, inl, inr, ℕ, List, [], ◌∷◌, ◌++◌, length, map, drop, flat_map, refl, ap, sym, ◌∙◌, subst, arith, append_assoc}
-use Rattle.std.proofs.Common.{append-nil, length-append}
+use Rattle.std.proofs.Common.{◌≡◌, ◌≤◌, ◌<◌, ◌+◌, ◌^◌, ◌⊎◌, inl, inr, ℕ, List, [], ◌∷◌, ◌++◌, length, map, drop, flat_map}
+use Rattle.std.proofs.Common.{refl, ap, sym, ◌∙◌, subst, arith, append_assoc, append-nil, length-append}
 use Rattle.sky_base.specs.KitView.{Gives}
 use Rattle.sky_base.specs.See as s
 use Rattle.sky_frozen_bytes.specs.Codes.{Fits32, NoneAs}
@@ -35,7 +35,8 @@ journal_parts job (e ∷ g) h = ap (λ z. low job e ∷ z) (journal_parts job g 
 
 module _ (digest : List ℕ → List ℕ) (named : NamesFit digest) (job : s.Job) (gives : Gives) (p : Plan) (header : List ℕ) (journal : List Entry)
     (all bytes behind : List ℕ) (l : Logs digest job gives p header journal all) (short : FitsBlock header) (fit : AllFit digest job gives l.records)
-    (waits : Each WaitFits journal) (begins : bytes ++ behind ≡ all) (few : length bytes < 2 ^ 32) (head : Head) (ts : List Told) (t : Tells bytes head ts) where
+    (waits : Each WaitFits journal) (begins : bytes ++ behind ≡ all) (few : length bytes < 2 ^ 32) (head : Head) (ts : List Told)
+    (t : Tells bytes head ts) where
   abbrev Jb : Job s.Desc
   Jb = J digest job gives
 
