@@ -1,0 +1,4 @@
+//! The law of what is told of a run's log: it is the journal's own.
+#![tactic(auto)]
+
+pub mod law;
