@@ -1,6 +1,6 @@
 -- New entries, and how a file grows by them.
 use Rattle.std.proofs.Common.{◌≡◌, ◌≤◌, ◌<◌, ◌+◌, ◌^◌, ◌⊎◌, inl, inr, ℕ, List, [], ◌∷◌, ◌++◌, Bool, true, false, Option}
-use Rattle.std.proofs.Common.{Some, None, Ordering, Less, Equal, Greater}
+use Rattle.std.proofs.Common.{Some, None, Ordering, Less, Equal, Greater, is_some}
 use Rattle.std.proofs.Common.{flat_map, length, map, refl, ap, sym, ◌∙◌, subst, arith, append_assoc, append-nil, length-append, if◌then◌else◌}
 use Rattle.std.proofs.lemmas.Cmp.{nat_list_cmp_total, tied_itself}
 use Rattle.std.proofs.lemmas.List.{map-append}
@@ -13,7 +13,7 @@ use Rattle.std.specs.List.Sorted.{IsStrictlySortedBy}
 use Rattle.std.specs.Map.{keys_of}
 use Rattle.std.specs.Ordering.{is_eq, match_ordering, nat_cmp}
 use Rattle.std.specs.Str.{IsUtf8}
-use Rattle.sky_base.proofs.Exact.{exact_text, exact_val}
+use Rattle.sky_base.proofs.Exact.{exact_text, exact_val, self_text, self_val}
 use Rattle.sky_base.specs.Name.{big_endian, bytes, bytes_of_text}
 use Rattle.sky_base.specs.Val.{Val, same_text, same_val}
 use Rattle.sky_base_law.specs.Tasks.{Each, In}
@@ -21,12 +21,12 @@ use Rattle.ciel_name.specs.Spelled.{IsData}
 use Rattle.sky_frozen_bytes.specs.Bytes.{counted}
 use Rattle.ciel_memo_key.specs.Keys.{block}
 use Rattle.ciel_memo_file.specs.declared.entry.Entry.{Entry as Held}
-use Rattle.ciel_memo_file.specs.Added.{IsKeyed, Keyed, Puts, entries_of, made_by}
+use Rattle.ciel_memo_file.specs.Added.{HasNoRoom, IsKeyed, IsNew, Keyed, Puts, entries_of, made_by}
 use Rattle.ciel_memo_file.specs.Added.Puts.{put, left}
 use Rattle.ciel_memo_file.specs.Entries.{Entry, entry_view, has_key}
-use Rattle.ciel_memo_file.specs.File.{IsBlock, IsMemo, IsWhole, entry_bytes, file_bytes, key_bytes, most_of_an_entry}
-use Rattle.ciel_memo_file.proofs.Files.{each_push, file_push, one_more}
-use Rattle.ciel_memo_file.proofs.Keys.{same_has}
+use Rattle.ciel_memo_file.specs.File.{IsBlock, IsMemo, IsSpelled, IsWhole, entry_bytes, file_bytes, key_bytes, most_of_an_entry}
+use Rattle.ciel_memo_file.proofs.Files.{each_push, file_push, in_front, one_more}
+use Rattle.ciel_memo_file.proofs.Keys.{has_bytes, same_has}
 use Rattle.ciel_memo_file.proofs.Spelling.{one_key}
 
 abbrev cmp : List ℕ → List ℕ → Ordering
@@ -51,6 +51,33 @@ among_if k v p ps Greater more e (inr h) = elim (more e h) [
 pub among_more : (k : List ℕ) (v : Bor Held) (ps : List Keyed) → Among (insert_entry cmp ps k v) ps (k, v)
 among_more k v [] e h = h
 among_more k v (p ∷ ps) e h = among_if k v p ps (cmp k p.0) (among_more k v ps) e h
+
+added_if : (k : List ℕ) (v : Bor Held) (p : Keyed) (ps : List Keyed) (o : Ordering)
+    → In (entry_view v.now) (entries_of (insert_entry cmp ps k v))
+    → In (entry_view v.now) (entries_of (match_ordering o ((k, v) ∷ p ∷ ps) ((p.0, v) ∷ ps) (p ∷ insert_entry cmp ps k v)))
+added_if k v p ps Less more = inl refl
+added_if k v p ps Equal more = inl refl
+added_if k v p ps Greater more = inr more
+
+pub added_now : (k : List ℕ) (v : Bor Held) (ps : List Keyed) → In (entry_view v.now) (entries_of (insert_entry cmp ps k v))
+added_now k v [] = inl refl
+added_now k v (p ∷ ps) = added_if k v p ps (cmp k p.0) (added_now k v ps)
+
+-- one with another key stays
+stays_if : (k : List ℕ) (v : Bor Held) (p : Keyed) (ps : List Keyed) (e : Entry) (o : Ordering) → cmp k p.0 ≡ o → IsKeyed p
+    → (key_bytes e ≡ k → ⊥) → In e (entries_of (p ∷ ps)) → (In e (entries_of ps) → In e (entries_of (insert_entry cmp ps k v)))
+    → In e (entries_of (match_ordering o ((k, v) ∷ p ∷ ps) ((p.0, v) ∷ ps) (p ∷ insert_entry cmp ps k v)))
+stays_if k v p ps e Less h here apart i more = inr i
+stays_if k v p ps e Equal h here apart (inl g) more = absurd (apart (ap key_bytes g ∙ sym here ∙ sym (exact_text k p.0 (ap is_eq h))))
+stays_if k v p ps e Equal h here apart (inr i) more = inr i
+stays_if k v p ps e Greater h here apart (inl g) more = inl g
+stays_if k v p ps e Greater h here apart (inr i) more = inr (more i)
+
+pub stays_there : (k : List ℕ) (v : Bor Held) (ps : List Keyed) (e : Entry) → Each IsKeyed ps → (key_bytes e ≡ k → ⊥) → In e (entries_of ps)
+    → In e (entries_of (insert_entry cmp ps k v))
+stays_there k v [] e all apart i = absurd i
+stays_there k v (p ∷ ps) e all apart i =
+    stays_if k v p ps e (cmp k p.0) refl all.0 apart i (stays_there k v ps e all.1 apart)
 
 keyed_if : (k : List ℕ) (v : Bor Held) (p : Keyed) (ps : List Keyed) (o : Ordering) → cmp k p.0 ≡ o → IsKeyed (k, v) → Each IsKeyed (p ∷ ps)
     → Each IsKeyed (insert_entry cmp ps k v) → Each IsKeyed (match_ordering o ((k, v) ∷ p ∷ ps) ((p.0, v) ∷ ps) (p ∷ insert_entry cmp ps k v))
@@ -79,6 +106,21 @@ not_held (d ∷ es) e all w none (inl i) =
     (same_has d e (one_key d e all.0 w (sym i))) none
 not_held (d ∷ es) e all w none (inr h) =
     not_held es e all.1 w (rest_if (has_key e.executor e.args e.inputs (length e.made) d) d.made (made_by e es) none) h
+
+held_if : (d e : Entry) (es : List Entry) (b : Bool) → (b ≡ true → key_bytes d ≡ key_bytes e)
+    → (is_some (made_by e es) ≡ true → In (key_bytes e) (map key_bytes es)) → is_some (if b then Some d.made else made_by e es) ≡ true
+    → In (key_bytes e) (map key_bytes (d ∷ es))
+held_if d e es true f more h = inl (sym (f refl))
+held_if d e es false f more h = inr (more h)
+
+pub none_if : (o : Option (List (List ℕ))) → is_some o ≡ false → o ≡ None
+none_if None h = refl
+none_if (Some made) h = absurd cc
+
+pub held : (es : List Entry) (e : Entry) → is_some (made_by e es) ≡ true → In (key_bytes e) (map key_bytes es)
+held [] e h = absurd cc
+held (d ∷ es) e h =
+    held_if d e es (has_key e.executor e.args e.inputs (length e.made) d) (has_bytes e.executor e.args e.inputs (length e.made) d) (held es e) h
 
 -- ---- numbers that fit, since the entry is short
 
@@ -134,10 +176,21 @@ whole_short e text args h =
 pub same_args : (v w : Val (List ℕ)) → same_val same_text v w ≡ true → IsData v → IsData w
 same_args v w h d = subst IsData (exact_val same_text exact_text v w h) d
 
+-- what was read again is the arguments, so the test said so
+pub read_again : (v w : Val (List ℕ)) (b : Bool) → b ≡ same_val same_text v w → v ≡ w → b ≡ false → ⊥
+read_again v w b test same none =
+    let yes : same_val same_text v w ≡ true = ap (same_val same_text v) (sym same) ∙ self_val same_text self_text v in
+    let no : true ≡ false = sym (test ∙ yes) ∙ none in
+    cc
+
 -- ---- the file grows
 
 abbrev Under : List ℕ → Keyed → Type 0
 Under k p = cmp k p.0 ≡ Less
+
+-- where it is whole and new, it is among those that were added, or has no room
+abbrev Settled : (memo added : List Entry) → List ℕ → Entry → Type 0
+Settled memo added out e = IsWhole e → IsNew memo e → (In e added) ⊎ HasNoRoom (length out) e
 
 -- behind those of the memo stand some of the new ones, whose keys are below those that are left
 pub record Grown (memo all : List Entry) (rest : List Keyed) (out : List ℕ) : Type 0 where
@@ -149,6 +202,7 @@ pub record Grown (memo all : List Entry) (rest : List Keyed) (out : List ℕ) : 
   pub sorted : IsStrictlySortedBy cmp (keys_of rest)
   pub keyed : Each IsKeyed rest
   pub others : Each (λ p. In (entry_view p.1.now) all) rest
+  pub seen : (e : Entry) → In e all → Settled memo added out e ⊎ In e (entries_of rest)
 
 each_in : (ps qs : List Keyed) → ((p : Keyed) → In p ps → In p qs) → Each (λ p. In (entry_view p.1.now) (entries_of qs)) ps
 each_in [] qs h = tt
@@ -172,6 +226,7 @@ grown_none memo ps out m o s k =
       sorted = s;
       keyed = k;
       others = each_in ps ps (λ p i. i);
+      seen = λ e i. inr i;
     }
 
 module _ (memo all : List Entry) (p : Keyed) (ps : List Keyed) where
@@ -200,8 +255,38 @@ module _ (memo all : List Entry) (p : Keyed) (ps : List Keyed) where
     | inr j ↦ inr j
   ]
 
+  in_last : (d : Entry) (es : List Entry) → In d (es ++ d ∷ [])
+  in_last d [] = inl refl
+  in_last d (x ∷ es) = inr (in_last d es)
+
+  still_left : (old new : List ℕ) (added : List Entry) (e : Entry) → new ≡ old → Settled memo added old e → Settled memo added new e
+  still_left old new added e same s = subst (λ (out : List ℕ). Settled memo added out e) (sym same) s
+
+  still_put : (old new : List ℕ) (added : List Entry) (d e : Entry) → length old ≤ length new → Settled memo added old e
+      → Settled memo (added ++ d ∷ []) new e
+  still_put old new added d e le s whole other = elim (s whole other) [
+    | inl i ↦ inl (in_front e added (d ∷ []) i)
+    | inr h ↦ inr (omega (arith, le, h))
+  ]
+
+  seen_left : (old new : List ℕ) (added : List Entry) → new ≡ old
+      → (IsWhole (entry_view p.1.now) → IsNew memo (entry_view p.1.now) → HasNoRoom (length old) (entry_view p.1.now)) → (e : Entry)
+      → Settled memo added old e ⊎ In e (entries_of (p ∷ ps)) → Settled memo added new e ⊎ In e (entries_of ps)
+  seen_left old new added same why e (inl s) = inl (still_left old new added e same s)
+  seen_left old new added same why e (inr (inl h)) =
+      inl (still_left old new added e same (λ whole other. inr (subst (HasNoRoom (length old)) (sym h) (why (subst IsWhole h whole)
+      (subst (IsNew memo) h other)))))
+  seen_left old new added same why e (inr (inr i)) = inr i
+
+  seen_put : (old new : List ℕ) (added : List Entry) → length old ≤ length new → (e : Entry)
+      → Settled memo added old e ⊎ In e (entries_of (p ∷ ps)) → Settled memo (added ++ entry_view p.1.now ∷ []) new e ⊎ In e (entries_of ps)
+  seen_put old new added le e (inl s) = inl (still_put old new added (entry_view p.1.now) e le s)
+  seen_put old new added le e (inr (inl h)) =
+      inl (λ whole other. inl (subst (λ (d : Entry). In d (added ++ entry_view p.1.now ∷ [])) (sym h) (in_last (entry_view p.1.now) added)))
+  seen_put old new added le e (inr (inr i)) = inr i
+
   pub grown_more : (old new : List ℕ) → Grown memo all (p ∷ ps) old → Puts memo old new (entry_view p.1.now) → Grown memo all ps new
-  grown_more old new g (left same) = record {
+  grown_more old new g (left same why) = record {
     added = g.added;
     text = same ∙ g.text;
     is_memo = g.is_memo;
@@ -210,6 +295,7 @@ module _ (memo all : List Entry) (p : Keyed) (ps : List Keyed) where
     sorted = sorted_tail cmp p.0 (keys_of ps) g.sorted;
     keyed = g.keyed.1;
     others = g.others.1;
+    seen = λ e i. seen_left old new g.added same why e (g.seen e i);
   }
   grown_more old new g (put text whole fits other) =
       let e : Entry = entry_view p.1.now in
@@ -235,4 +321,5 @@ module _ (memo all : List Entry) (p : Keyed) (ps : List Keyed) where
         sorted = sorted_tail cmp p.0 (keys_of ps) g.sorted;
         keyed = g.keyed.1;
         others = g.others.1;
+        seen = λ d i. seen_put old new g.added (omega (arith, ap length text, length-append old (entry_bytes e))) d (g.seen d i);
       }

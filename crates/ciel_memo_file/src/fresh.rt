@@ -1,12 +1,12 @@
 //! New entries, which are put behind those of a memo.
 
-ghost use Rattle.std.specs.Prelude.{◌≡◌, ◌≤◌, ◌++◌, ◌⊎◌, [], None, false, true, IfOk, List, OnErr, length};
+ghost use Rattle.std.specs.Prelude.{◌≡◌, ◌≢◌, ◌≤◌, ◌⊎◌, [], false, true, is_some, IfOk, List, OnErr, length};
 ghost use Rattle.std.specs.Str.{IsUtf8};
-ghost use Rattle.sky_base_law.specs.Tasks.{Each, In};
+ghost use Rattle.sky_base_law.specs.Tasks.{In};
 ghost use Rattle.ciel_name.specs.Spelled.{IsData};
-ghost use Rattle.ciel_memo_file.specs.Added.{Puts, made_by};
+ghost use Rattle.ciel_memo_file.specs.Added.{Behind, Puts, made_by};
 ghost use Rattle.ciel_memo_file.specs.Entries.{Entry as Seen, entry_view};
-ghost use Rattle.ciel_memo_file.specs.File.{IsMemo, entry_bytes, file_bytes, most_of_an_entry};
+ghost use Rattle.ciel_memo_file.specs.File.{IsMemo, IsSpelled, entry_bytes, file_bytes, key_bytes, most_of_an_entry};
 
 use crate::entry::Entry;
 use crate::memo::Memo;
@@ -59,6 +59,8 @@ impl<'a> Fresh<'a> {
     ///
     /// Answers `Memory` for want of memory. The entries are then as they were.
     pub fn add(&mut self, alloc: Global, entry: &'a Entry) -> Result<(), Memory>
+        ensures added { IfOk result (λ _. In (entry_view entry.now) self.new) }
+        ensures others { IfOk result (λ _. (e : Seen) → In e self.old → key_bytes e ≢ key_bytes (entry_view entry.now) → In e self.new) }
         ensures among { IfOk result (λ _. (e : Seen) → In e self.new → (e ≡ entry_view entry.now) ⊎ In e self.old) }
         ensures kept { OnErr result (self.new ≡ self.old) }
     {
@@ -76,7 +78,7 @@ impl Memo {
     ///
     /// Answers `Memory` for want of memory.
     pub fn file_with(&self, alloc: Global, fresh: &Fresh) -> Result<Bytes, Memory>
-        ensures file { IfOk result (λ b. (new : List Seen) × IsMemo b (self.now ++ new) × Each (λ e. In e fresh.now) new) }
+        ensures file { IfOk result (λ b. (new : List Seen) × Behind self.now fresh.now b new) }
     {
         let mut out = Writer::new(alloc);
         out.byte(MARK)?;
@@ -125,7 +127,7 @@ fn put_short(alloc: Global, memo: &Memo, out: &mut Writer, entry: &Entry) -> Res
 /// Whether the memo has the key of an entry.
 fn is_held(memo: &Memo, entry: &Entry) -> bool
     requires { length (entry_bytes (entry_view entry.now)) ≤ most_of_an_entry }
-    ensures { result ≡ false → made_by (entry_view entry.now) memo.now ≡ None }
+    ensures { result ≡ is_some (made_by (entry_view entry.now) memo.now) }
 {
     let inputs = entry.inputs.as_slice();
     let outputs = entry.made.len() as u32;
@@ -138,6 +140,7 @@ fn is_held(memo: &Memo, entry: &Entry) -> bool
 fn is_readable(alloc: Global, entry: &Entry) -> Result<bool, Memory>
     ensures text { IfOk result (λ _. IsUtf8 (entry_view entry.now).executor) }
     ensures args { IfOk result (λ b. b ≡ true → IsData (entry_view entry.now).args) }
+    ensures refused { IfOk result (λ b. b ≡ false → IsSpelled (entry_view entry.now) → ⊥) }
 {
     let _text = entry.executor.as_str();
     let bytes = encode(alloc, &entry.args)?;

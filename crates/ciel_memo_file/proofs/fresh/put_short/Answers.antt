@@ -1,9 +1,9 @@
 -- The entry is whole, and no entry of the memo has its key.
-use Rattle.std.proofs.Common.{◌≡◌, ◌≤◌, ◌++◌, List, ℕ, ap, length, ◌∙◌, arith, length-append}
-use Rattle.ciel_memo_file.specs.Added.Puts.{put}
+use Rattle.std.proofs.Common.{◌≡◌, ◌≤◌, ◌++◌, List, ℕ, ap, refl, sym, length, ◌∙◌, arith, length-append}
+use Rattle.ciel_memo_file.specs.Added.Puts.{left, put}
 use Rattle.ciel_memo_file.specs.Entries.{Entry, entry_view}
 use Rattle.ciel_memo_file.specs.File.{IsWhole, entry_bytes, most_of_an_entry}
-use Rattle.ciel_memo_file.proofs.Added.{not_held, whole_short}
+use Rattle.ciel_memo_file.proofs.Added.{held, none_if, not_held, whole_short}
 use Rattle.ciel_memo_file.proofs.fresh.put_short.Goals as goal
 
 pub returns : goal.returns
@@ -23,4 +23,9 @@ returns c =
       ap length c.as_slice.ensures,
       c.if-as_slice-bytes.false,
     ))
-    (not_held c.args.memo.now e c.requires.memo.whole whole (c.is_held.ensures c.if-is_held.false))
+    (not_held c.args.memo.now e c.requires.memo.whole whole (none_if _ (sym c.is_held.ensures ∙ c.if-is_held.false)))
+
+pub returns-then-is_held : goal.returns-then-is_held
+returns-then-is_held c =
+    left refl
+    (λ whole other. absurd (other (held c.args.memo.now (entry_view c.args.entry.now) (sym c.is_held.ensures ∙ c.if-is_held.true))))
