@@ -1,3 +1,4 @@
 pub mod Line
 pub mod Ends
 pub mod View
+pub mod Told

@@ -24,8 +24,13 @@ pub enum Why {
 }
 
 impl Why {
+    ghost use Rattle.std.specs.Prelude.{◌≡◌};
+    ghost use Rattle.ciel_look_run.specs.Told.{status_of};
+
     /// The status of the process.
-    pub fn status(&self) -> u8 {
+    pub fn status(&self) -> u8
+        ensures status { result ≡ status_of self.now }
+    {
         match self {
             Why::Done => 0,
             Why::Usage => 1,

@@ -241,7 +241,7 @@ impl Flow {
     }
 
     /// Whether an output is too large whatever is fed: the answer is then `TooLarge`, for these inputs and more.
-    pub fn is_over(&self) -> bool
+    pub(crate) fn is_over(&self) -> bool
         ensures { result ≡ true → (t : _) (inputs : _) (more : _) → Stands self.now t → all_lines inputs ≡ all_lines t.fed ++ more
             → gives t.executor t.args inputs t.outputs ≡ Err TooLarge }
     {
