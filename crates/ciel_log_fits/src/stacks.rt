@@ -2,6 +2,7 @@
 
 ghost use Rattle.std.specs.Prelude.{◌≡◌, IfNone, IfOk, IfSome, IsFalse, IsTrue};
 ghost use Rattle.sky_frozen_bytes.specs.Bytes.{frozen_bytes};
+ghost use Rattle.sky_frozen_bytes.specs.Spelled.{StandSpelled};
 ghost use Rattle.sky_base.specs.Names.{known_of};
 ghost use Rattle.sky_base.specs.Val.{same_text};
 ghost use Rattle.sky_state.specs.Pending.{held_in, pending_in};
@@ -39,6 +40,7 @@ pub fn read_stack(
 ) -> Result<Option<Stack>, Memory>
     ensures stack { IfOk result (λ o. IfSome o (λ s. IsStackOf fitting.now task.now wait s.refs s.holds s.frozen)) }
     ensures bytes { IfOk result (λ o. IfSome o (λ s. frozen_bytes s.frozen ≡ bytes.now)) }
+    ensures spelled { IfOk result (λ o. IfSome o (λ s. StandSpelled s.frozen)) }
     ensures none { IfOk result (λ o. IfNone o (NoStackOf fitting.now task.now wait bytes.now)) }
 {
     match read_frozen(alloc, bytes, fitting) {

@@ -1,7 +1,7 @@
 mod Swept
-mod Alone
-mod Nexts
-mod Choices
-mod LostLemmas
-mod Listed
-mod Stays
+pub mod Alone
+pub mod Nexts
+pub mod Choices
+pub mod LostLemmas
+pub mod Listed
+pub mod Stays
