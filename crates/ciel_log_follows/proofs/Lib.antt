@@ -1,0 +1,14 @@
+mod Left
+mod LogAt
+mod RunAt
+mod Learned
+mod Told
+mod Waits
+mod Objects
+mod Closes
+mod Ended
+mod Stopped
+mod Reported
+mod Steps
+mod Taken
+mod Replayed
