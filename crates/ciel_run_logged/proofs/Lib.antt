@@ -1,3 +1,3 @@
 pub use Rattle.ciel_log_law.proofs.Files
-mod KeepingLaw
+pub mod KeepingLaw
 mod WrittenLaw
