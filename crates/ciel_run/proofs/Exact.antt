@@ -156,6 +156,9 @@ none_over (i ∷ is) (b ∷ bs) p (inr x) w = none_over is bs p x.1 w.1
 no_script : (source : List ℕ) (end : Why) (keys : List (List ℕ)) (script : Script) → Ends source (Some end) → IsScript source keys script → ⊥
 no_script source end keys script x s = let e = one_end source (Some end) None x (of_script source keys script s) in absurd cc
 
+pub no_syntax : (source : List ℕ) (inputs : List Input) (kind : SyntaxKind) (l c : ℕ) → IsSource source inputs → IsSyntaxFault source kind l c → ⊥
+no_syntax source inputs kind l c s x = no_script source (Why.Syntax kind l c) (keys_of inputs) s.0 (of_syntax source kind l c x) s.1
+
 same_end : (source : List ℕ) (end why : Why) → Ends source (Some end) → Ends source (Some why) → why ≡ end
 same_end source end why x y = let e = one_end source (Some end) (Some why) x y in cc
 
@@ -169,6 +172,8 @@ end_script w source inputs (Why.Endless names) m = (m.0, m.1, tt)
 end_script w source inputs Why.AllLost m = m
 end_script w source inputs (Why.NameClash kept given) m = m
 end_script w source inputs (Why.TooDeepPlain depth) m = (m.0, m.1, tt)
+end_script w source inputs (Why.BadLog path at) m = m.1
+end_script w source inputs (Why.OtherJob path) m = absurd m
 end_script w source inputs (Why.LogFull path held) m = (m.1.1.0, m.1.1.1, tt)
 end_script w source inputs (Why.KeepFault path) m = absurd m
 end_script w source inputs Why.Usage m = absurd m
@@ -199,9 +204,10 @@ refused_so w source inputs end x h why y = of why y
 
     of : (why : Why) → IsExpected w source inputs why → (why ≡ Why.Memory) ⊎ (why ≡ end)
     of (Why.Syntax kind l c) y = inr (same_end source end (Why.Syntax kind l c) x (of_syntax source kind l c y.1))
-    of (Why.TooLongInput path at) y =
+    of (Why.TooLongInput path at) (inl y) =
         let s = too_long_script (files_of w) source inputs path at h y in
         absurd (no_script source end (keys_of inputs) s.0 x s.1)
+    of (Why.TooLongInput path at) (inr y) = absurd (none y.3)
     of Why.Memory y = inl refl
     of (Why.TooMany held None) y = absurd (no_end w source inputs (Why.TooMany held None) none y.1)
     of (Why.TooMany held (Some given)) y = absurd (no_end w source inputs (Why.TooMany held (Some given)) none y.1)
@@ -211,6 +217,8 @@ refused_so w source inputs end x h why y = of why y
     of Why.AllLost y = absurd (no_end w source inputs Why.AllLost none y.1)
     of (Why.NameClash kept given) y = absurd (no_end w source inputs (Why.NameClash kept given) none y.1)
     of (Why.TooDeepPlain depth) y = absurd (no_end w source inputs (Why.TooDeepPlain depth) none y.1)
+    of (Why.BadLog path at) y = absurd (no_end w source inputs (Why.BadLog path at) none y.1)
+    of (Why.OtherJob path) y = absurd y.1
     of (Why.LogFull path held) y = absurd (no_end w source inputs (Why.LogFull path held) none y.1)
     of (Why.KeepFault path) y = absurd y.1
     of Why.Usage y = absurd y.1
@@ -237,14 +245,14 @@ as_script source inputs script P s o =
     subst (λ (t : Script). P (job_of t inputs)) (same_script source (keys_of inputs) o.0 script o.1 s) o.2
 
 -- a script within the limits isn't too long
-not_too_long : (f : Option files.Line) (source : List ℕ) (inputs : List Input) (path : List ℕ) (at : ℕ) → FitsIn f source inputs
+pub not_too_long : (f : Option files.Line) (source : List ℕ) (inputs : List Input) (path : List ℕ) (at : ℕ) → FitsIn f source inputs
     → TooLongIn f source inputs path at → ⊥
 not_too_long None source inputs path at h t = t
 not_too_long (Some f) source inputs path at h (inl t) = let k = h.0 in omega (arith, k, t.2)
 not_too_long (Some f) source inputs path at h (inr t) = none_over f.inputs inputs path t.3 h.1
 
 script_ends : (w : Words) (source : List ℕ) (inputs : List Input) (script : Script) → IsScript source (keys_of inputs) script
-    → FitsIn (files_of w) source inputs → (why : Why) → IsExpected w source inputs why → EndsScript script inputs why
+    → FitsIn (files_of w) source inputs → (why : Why) → IsExpected w source inputs why → EndsScript w script inputs why
 script_ends w source inputs script s h Why.Done y =
     (y.1.0, as_script source inputs script (λ j. Means j over_lines (Answered.bytes y.1.0)) s y.1.1)
 script_ends w source inputs script s h (Why.Fault fault) y = as_script source inputs script (λ j. Means j over_lines (Answered.fault fault)) s y.1
@@ -260,7 +268,10 @@ script_ends w source inputs script s h (Why.KeepFault path) y = absurd y.1
 script_ends w source inputs script s h Why.Memory y = tt
 script_ends w source inputs script s h (Why.Syntax kind l c) y =
     absurd (no_script source (Why.Syntax kind l c) (keys_of inputs) script (of_syntax source kind l c y.1) s)
-script_ends w source inputs script s h (Why.TooLongInput path at) y = absurd (not_too_long (files_of w) source inputs path at h y)
+script_ends w source inputs script s h (Why.TooLongInput path at) (inl y) = absurd (not_too_long (files_of w) source inputs path at h y)
+script_ends w source inputs script s h (Why.TooLongInput path at) (inr y) = y.0
+script_ends w source inputs script s h (Why.BadLog path at) y = y.1.0
+script_ends w source inputs script s h (Why.OtherJob path) y = absurd y.1
 script_ends w source inputs script s h Why.Usage y = absurd y.1
 script_ends w source inputs script s h (Why.ReadFault path) y = absurd y.1
 script_ends w source inputs script s h Why.WriteFault y = absurd y.1
@@ -285,7 +296,10 @@ module _ (w : Words) (f : files.Line) (is : files_of w ≡ Some f) (source : Lis
 
       of : (why : Why) → IsExpected w source inputs why → (why ≡ Why.Memory) ⊎ (why ≡ end)
       of (Why.Syntax kind l c) y = absurd (no_kind kind l c (fit_of (λ g. SourceFits g source × IsSyntaxFault source kind l c) y))
-      of (Why.TooLongInput path at) y = inr (same path at (fit_of (λ g. TooLongIn g source inputs path at) y))
+      of (Why.TooLongInput path at) (inl y) = inr (same path at (fit_of (λ g. TooLongIn g source inputs path at) y))
+      of (Why.TooLongInput path at) (inr y) = absurd (unfit y.2)
+      of (Why.BadLog path at) y = absurd (unfit y.0)
+      of (Why.OtherJob path) y = absurd (unfit y.0)
       of Why.Memory y = inl refl
       of (Why.TooMany held None) y = absurd (unfit y.0)
       of (Why.TooMany held (Some given)) y = absurd (unfit y.0)

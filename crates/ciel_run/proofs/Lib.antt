@@ -3,3 +3,4 @@ mod Over
 mod Modest
 mod Headline
 mod Troubles
+mod Others

@@ -18,14 +18,15 @@ use Rattle.ciel_words.specs.declared.words.Words.{Words}
 use Rattle.line_kit.specs.Gives.{gives}
 use Rattle.sky_parse.specs.Source.{IsScript}
 use Rattle.sky_base.specs.Tree.{Script}
-use Rattle.ciel_run_line.specs.Causes.{CauseOf, JobCause}
+use Rattle.ciel_run_line.specs.Causes.{CauseOf, JobCause, TooLongOf}
 use Rattle.ciel_run.specs.Ending.{Answers, EndCause, IsAnswered}
 use Rattle.ciel_run_line.specs.Line.{FitsIn, OfLine, StandsIn, files_of}
+use Rattle.ciel_run_line.proofs.Comes.{surely_line}
 use Rattle.ciel_run_line.specs.Runs.{IsDriven, IsModestFor, digest_of, plan_of, told_of}
 use Rattle.ciel_run_line.specs.Source.{OfJob, job_of, over_lines}
 use Rattle.ciel_run_log.specs.declared.why.Why.{Why}
-use Rattle.ciel_run.proofs.Exact.{same_script, script_is_run}
-use Rattle.ciel_run.proofs.Over.{Begun, source_of, too_long_in}
+use Rattle.ciel_run.proofs.Exact.{not_too_long, same_script, script_is_run}
+use Rattle.ciel_run.proofs.Over.{Begun, own_header, source_of, too_long_in}
 
 -- ---- distinct members of a list are no more than it has
 
@@ -96,6 +97,15 @@ module _ (digest : List ℕ → List ℕ) (job : s.Job) where
       omega (arith, k, f, l)
 
 -- the end of a run with this cause
+-- an end of the job, of which there is such a cause
+abbrev pub OfTheJob : Why → Type 0
+OfTheJob (Why.Fault fault) = Unit {0}
+OfTheJob (Why.Endless names) = Unit {0}
+OfTheJob (Why.TooMany held given) = Unit {0}
+OfTheJob Why.AllLost = Unit {0}
+OfTheJob (Why.NameClash kept given) = Unit {0}
+OfTheJob _ = ⊥
+
 module _ (w : Words) (job : s.Job) (J : List Entry) where
   driven_or : (J ≡ []) ⊎ DrivenJournal (told_of w job) (plan_of w) J → DrivenJournal (told_of w job) (plan_of w) J
   driven_or (inl e) = ([], tt, sym e)
@@ -107,23 +117,25 @@ module _ (w : Words) (job : s.Job) (J : List Entry) where
     has : (end : RunEnd) → EndsSo (digest_of w.names) job gives (plan_of w) J end → HasAnswer end
     has end e = laws (digest_of w.names) job gives orderly (plan_of w) m stays J end e
 
-    pub no_other : (why : Why) → Begun why → JobCause w J job why → IsAnswered w.plain why
+    pub no_other : (why : Why) → OfTheJob why → JobCause w J job why → IsAnswered w why
     no_other (Why.Fault fault) n c = tt
-    no_other Why.Memory n c = tt
-    no_other (Why.TooDeepPlain depth) n c = c.0
     no_other (Why.Endless names) n c = has (RunEnd.Endless names) (record { driven = d; cause = (c.1, c.2, c.3) })
     no_other (Why.TooMany held None) n c = not_many (digest_of w.names) job m c.2
     no_other (Why.TooMany held (Some given)) n c = has (RunEnd.TooMany held given) (record { driven = d; cause = (c.2.0, sym c.2.1, c.2.2) })
     no_other Why.AllLost n c = has RunEnd.AllLost (record { driven = d; cause = c.1 })
     no_other (Why.NameClash kept given) n c = has (RunEnd.NameClash kept given) (record { driven = d; cause = c.1 })
+    no_other Why.Memory n c = tt
+    no_other (Why.TooDeepPlain depth) n c = absurd n
     no_other Why.Done n c = tt
-    no_other Why.Usage n c = c
-    no_other (Why.Syntax kind line col) n c = c
-    no_other (Why.ReadFault path) n c = c
-    no_other Why.WriteFault n c = c
-    no_other (Why.TooLongInput path at) n c = c
-    no_other (Why.LogFull path held) n c = absurd c
-    no_other (Why.KeepFault path) n c = absurd (n path refl)
+    no_other Why.Usage n c = n
+    no_other (Why.Syntax kind line col) n c = n
+    no_other (Why.ReadFault path) n c = n
+    no_other Why.WriteFault n c = n
+    no_other (Why.TooLongInput path at) n c = absurd n
+    no_other (Why.LogFull path held) n c = absurd n
+    no_other (Why.BadLog path at) n c = absurd n
+    no_other (Why.OtherJob path) n c = absurd n
+    no_other (Why.KeepFault path) n c = absurd n
 
 -- ---- of a line
 
@@ -147,14 +159,14 @@ module _ (content : List ℕ → Option (List ℕ)) (w : Words) (risen : Type 0)
         of (inl e) = driven_or w job J (inl e)
         of (inr x) = same_job source inputs (λ j. DrivenJournal (told_of w j) (plan_of w) J) m.0 m.1 x
 
-    one : (why : Why) → Begun why → JobCause w J job why → IsAnswered w.plain why
+    one : (why : Why) → OfTheJob why → JobCause w J job why → IsAnswered w why
     one why n c = no_other w job J laws (functions source (keys_of inputs) m.0 m.1) m.2 stays d why n c
 
-    pub answered : (why : Why) → Begun why → OfJob source inputs (λ j. JobCause w J j why) → IsAnswered w.plain why
+    pub answered : (why : Why) → OfTheJob why → OfJob source inputs (λ j. JobCause w J j why) → IsAnswered w why
     answered why n o = one why n (same_job source inputs (λ j. JobCause w J j why) m.0 m.1 o)
 
-    pub lost_answered : JobCause w J job Why.AllLost → IsAnswered w.plain Why.AllLost
-    lost_answered c = one Why.AllLost (λ path e. absurd cc) c
+    pub lost_answered : JobCause w J job Why.AllLost → IsAnswered w Why.AllLost
+    lost_answered c = one Why.AllLost tt c
 
   -- bytes that are a script within the limits are refused neither as none nor as too long
   no_syntax : (kind : SyntaxKind) (l c : ℕ) → CauseOf content w risen J (Why.Syntax kind l c) → (source : List ℕ) (inputs : List Input)
@@ -163,12 +175,11 @@ module _ (content : List ℕ → Option (List ℕ)) (w : Words) (risen : Type 0)
   no_syntax kind l c x source inputs st fits script is =
       script_is_run w source inputs script is fits (Why.Syntax kind l c) (x source (source_of content w (files_of w) w.generate source inputs st))
 
-  no_too_long : (path : List ℕ) (at : ℕ) → CauseOf content w risen J (Why.TooLongInput path at) → (source : List ℕ) (inputs : List Input)
+  no_too_long : (path : List ℕ) (at : ℕ) → TooLongOf content (files_of w) path at → (source : List ℕ) (inputs : List Input)
       → StandsIn content (files_of w) w.generate source inputs → FitsIn (files_of w) source inputs → (script : Script)
       → IsScript source (keys_of inputs) script → ⊥
   no_too_long path at x source inputs st fits script is =
-      script_is_run w source inputs script is fits (Why.TooLongInput path at)
-      (too_long_in content w (files_of w) w.generate source inputs path at st x)
+      not_too_long (files_of w) source inputs path at fits (too_long_in content w (files_of w) w.generate source inputs path at st x)
 
   pub answers : (why : Why) → EndCause content w risen J why → ¬ risen → (why ≡ Why.WriteFault → ⊥) → Begun why
       → OfLine content w (λ source inputs. IsDriven w source inputs J)
@@ -179,17 +190,22 @@ module _ (content : List ℕ → Option (List ℕ)) (w : Words) (risen : Type 0)
   answers (Why.Fault fault) c quiet nw bg dr source inputs st fits m stays = tt
   answers (Why.TooDeepPlain depth) c quiet nw bg dr source inputs st fits m stays = c.0
   answers (Why.Endless names) c quiet nw bg dr source inputs st fits m stays =
-      answered source inputs m stays (dr source inputs st) (Why.Endless names) bg (c.2 source inputs st).1
+      answered source inputs m stays (dr source inputs st) (Why.Endless names) tt (c.2 source inputs st).1
   answers (Why.TooMany held None) c quiet nw bg dr source inputs st fits m stays =
-      answered source inputs m stays (dr source inputs st) (Why.TooMany held None) bg (c.1 source inputs st).1
+      answered source inputs m stays (dr source inputs st) (Why.TooMany held None) tt (c.1 source inputs st).1
   answers (Why.TooMany held (Some given)) c quiet nw bg dr source inputs st fits m stays =
-      answered source inputs m stays (dr source inputs st) (Why.TooMany held (Some given)) bg (c.1 source inputs st).1
+      answered source inputs m stays (dr source inputs st) (Why.TooMany held (Some given)) tt (c.1 source inputs st).1
   answers (Why.NameClash kept given) c quiet nw bg dr source inputs st fits m stays =
-      answered source inputs m stays (dr source inputs st) (Why.NameClash kept given) bg (c.1 source inputs st).1
-  answers Why.AllLost c quiet nw bg dr source inputs st fits m stays = lost_answered source inputs m stays (dr source inputs st) (c.0, c.1)
-  answers (Why.Syntax kind l k) c quiet nw bg dr source inputs st fits m stays = absurd (no_syntax kind l k c source inputs st fits m.0 m.1)
-  answers (Why.TooLongInput path at) c quiet nw bg dr source inputs st fits m stays = absurd (no_too_long path at c source inputs st fits m.0 m.1)
+      answered source inputs m stays (dr source inputs st) (Why.NameClash kept given) tt (c.1 source inputs st).1
+  answers Why.AllLost c quiet nw bg dr source inputs st fits m stays = lost_answered source inputs m stays (dr source inputs st) (c.0, surely_line content w _ c.1 source inputs st)
+  answers (Why.Syntax kind l k) c quiet nw bg dr source inputs st fits m stays = absurd (no_syntax kind l k c source inputs st.there fits m.0 m.1)
+  answers (Why.TooLongInput path at) (inl c) quiet nw bg dr source inputs st fits m stays =
+      absurd (no_too_long path at c source inputs st.there fits m.0 m.1)
+  answers (Why.TooLongInput path at) (inr c) quiet nw bg dr source inputs st fits m stays = c.0
   answers (Why.ReadFault path) c quiet nw bg dr source inputs st fits m stays = absurd (quiet c.1)
   answers Why.Usage c quiet nw bg dr source inputs st fits m stays = absurd c
   answers (Why.LogFull path held) c quiet nw bg dr source inputs st fits m stays = c.0
+  answers (Why.BadLog path at) c quiet nw bg dr source inputs st fits m stays = c.1
+  answers (Why.OtherJob path) c quiet nw bg dr source inputs st fits m stays =
+      absurd (own_header content w path c.1 source inputs (c.3 source inputs st.there).0 (c.3 source inputs st.there).1 st.own)
   answers (Why.KeepFault path) c quiet nw bg dr source inputs st fits m stays = absurd (bg path refl)

@@ -10,6 +10,7 @@ use Rattle.sky_base_law.specs.Tasks as t
 use Rattle.sky_parse_law.specs.Orderly.{FunctionsAreOrderly}
 use Rattle.sky_plain.specs.Needs as p
 use Rattle.ciel_run_line.specs.Ended.{EndsSo, HasAnswer, ModestRunsAnswer, SomeStays}
+use Rattle.ciel_master_board.specs.Ends.{AllAreLost}
 use Rattle.ciel_run_line.specs.Ends.{IsModest, IsOrderly, MadeBy}
 use Rattle.ciel_io.specs.Faults.{HasRisen}
 use Rattle.ciel_io.specs.Tells.{Tells, TellsPart}
@@ -26,13 +27,19 @@ use Rattle.ciel_run_line.specs.RunEnd.{RunEnd}
 use Rattle.ciel_words.specs.Line.{line_of}
 use Rattle.ciel_words.specs.declared.words.Words.{Words}
 use Rattle.line_kit.specs.Gives.{gives}
-use Rattle.ciel_run_line.specs.Causes.{CauseOf, Clashes, GoesRound, HasTooMany, IsTooDeep, JobCause, OfRun, TooLongOf}
+use Rattle.ciel_run_line.specs.Causes.{CauseOf, Clashes, GoesRound, HasBadRecord, HasOtherHeader, HasTooMany, IsTooDeep, JobCause, OfRun, TooLongBy}
+use Rattle.ciel_run_line.specs.Causes.{TooLongOf}
 use Rattle.ciel_run.specs.Ending.{Answers, ComesBy, EndCause, HasRun, IfEndless, IfKeepFault, IfNameClash, IfReadFault, IfTooDeep, IfTooMany, IsAnswered}
-use Rattle.ciel_run.specs.Ending.{IsExpected, MayEnd, TellsParts, TooLongIn, Writes, WritesAnswer, WritesPart}
+use Rattle.ciel_run.specs.Ending.{IfBadLog, IfOtherJob, IsExpected, LogTooLong, MayEnd, TellsParts, TooLongIn, Writes, WritesAnswer, WritesPart}
 use Rattle.ciel_run_line.specs.Asked.{StopsFor}
-use Rattle.ciel_run_line.specs.Line.{FitsIn, OfLine, OfSource, OverFiles, SourceFits, SourceIn, StandsIn, files_of, is_plain, log_of, paths}
-use Rattle.ciel_run_line.specs.Runs.{IsDriven, IsModestFor, digest_of, plan_of, told_of}
+use Rattle.ciel_run_line.specs.Line.{FitsIn, LogIsOwn, OfLine, OfSource, OverFiles, OverLine, SourceFits, SourceIn, Stands, StandsIn, Surely, files_of, is_plain, log_of}
+use Rattle.ciel_run_line.specs.Line.{paths, resume_of}
+use Rattle.ciel_run_line.specs.Keeping.{header_of}
+use Rattle.ciel_run_line.proofs.Own.{not_other}
+use Rattle.ciel_run_line.specs.Whole.{BeginsOther}
+use Rattle.ciel_run_line.specs.Runs.{IsDriven, IsModestFor, digest_of, log_path, plan_of, told_of}
 use Rattle.ciel_run_line.specs.Source.{IsAnswer, OfJob, job_of, over_lines}
+use Rattle.ciel_run_log.specs.Status.{status_of}
 use Rattle.ciel_run_log.specs.declared.why.Why.{Why}
 use Rattle.ciel_run.proofs.Exact.{same_script}
 
@@ -113,7 +120,7 @@ Begun why = (path : List ℕ) → why ≡ Why.KeepFault path → ⊥
 pub begun_of : (content : List ℕ → Option (List ℕ)) (w : Words) (risen failed : Type 0) (entries : List Entry) (why : Why) (o : Option Words)
     → o ≡ Some w → EndCause content w risen entries why → IfKeepFault why (λ path. failed) → (log_of o ≢ None → ¬ failed) → Begun why
 begun_of content w risen failed entries why o line cause fault quiet path e =
-    let named : w.log ≡ Some path = (subst (λ (y : Why). EndCause content w risen entries y) e cause).1 in
+    let named : log_path w ≡ Some path = (subst (λ (y : Why). EndCause content w risen entries y) e cause).1 in
     let rose : failed = subst (λ (y : Why). IfKeepFault y (λ p. failed)) e fault in
     quiet (λ none. let clash : None ≡ Some path = sym none ∙ ap log_of line ∙ named in absurd cc) rose
 
@@ -140,12 +147,25 @@ module _ (content : List ℕ → Option (List ℕ)) (w : Words) where
   too_long_in None g source inputs path at st t = absurd t
   too_long_in (Some f) g source inputs path at st t = t.1 source inputs st
 
+  too_long_by : (source : List ℕ) (inputs : List Input) (path : List ℕ) (at : ℕ) → StandsIn content (files_of w) w.generate source inputs
+      → TooLongBy content w path at → TooLongIn (files_of w) source inputs path at ⊎ LogTooLong w source inputs path at
+  too_long_by source inputs path at st (inl t) = inl (too_long_in (files_of w) w.generate source inputs path at st t)
+  too_long_by source inputs path at st (inr t) = let y = t.3 source inputs st in inr (t.0, t.1, y.0, y.1)
+
+  -- a log that is the line's own has its header
+  pub own_header : (path : List ℕ) → w.resume ≡ Some path → (source : List ℕ) (inputs : List Input) → FitsIn (files_of w) source inputs
+      → OfJob source inputs (λ job. (bytes : List ℕ) → content path ≡ Some bytes → BeginsOther bytes (header_of w source inputs))
+      → LogIsOwn content w source inputs → ⊥
+  own_header path e source inputs fits o own =
+      let b = own path e fits o.0 o.1 in not_other (digest_of w.names) (job_of o.0 inputs) gives (plan_of w) (header_of w source inputs) b.0 b.2
+      (o.2 b.0 b.1)
+
   module _ (risen : Type 0) (J : List Entry) where
     -- each end that isn't an answer written, by its cause
     expected_of : (why : Why) → CauseOf content w risen J why → ¬ risen → (why ≢ Why.WriteFault) → Begun why
         → OfLine content w (λ source inputs. IsExpected w source inputs why)
-    expected_of (Why.Syntax kind l c) x quiet nw bg source inputs st = x source (source_of (files_of w) w.generate source inputs st)
-    expected_of (Why.TooLongInput path at) x quiet nw bg source inputs st = too_long_in (files_of w) w.generate source inputs path at st x
+    expected_of (Why.Syntax kind l c) x quiet nw bg source inputs st = x source (source_of (files_of w) w.generate source inputs st.there)
+    expected_of (Why.TooLongInput path at) x quiet nw bg source inputs st = too_long_by source inputs path at st.there x
     expected_of Why.Memory x quiet nw bg source inputs st = tt
     expected_of (Why.Fault fault) x quiet nw bg source inputs st = x source inputs st
     expected_of (Why.Endless names) x quiet nw bg source inputs st =
@@ -161,6 +181,10 @@ module _ (content : List ℕ → Option (List ℕ)) (w : Words) where
         let y = x.1 source inputs st in (y.0, (y.1.0, y.1.1, y.1.2.2))
     expected_of (Why.ReadFault path) x quiet nw bg source inputs st = absurd (quiet x.1)
     expected_of (Why.KeepFault path) x quiet nw bg source inputs st = absurd (bg path refl)
+    expected_of (Why.BadLog path at) x quiet nw bg source inputs st =
+        let y = x.3 source inputs st.there in (y.0, (x.1, (y.1.0, y.1.1, tt)))
+    expected_of (Why.OtherJob path) x quiet nw bg source inputs st =
+        absurd (own_header path x.1 source inputs (x.3 source inputs st.there).0 (x.3 source inputs st.there).1 st.own)
     expected_of (Why.LogFull path held) x quiet nw bg source inputs st = absurd x
     expected_of Why.Done x quiet nw bg source inputs st = absurd x
     expected_of Why.Usage x quiet nw bg source inputs st = absurd x
@@ -187,6 +211,8 @@ module _ (content : List ℕ → Option (List ℕ)) (w : Words) where
     expected (Why.ReadFault path) b n c d quiet nw bg = expected_of (Why.ReadFault path) c quiet nw bg
     expected Why.Usage b n c d quiet nw bg = expected_of Why.Usage c quiet nw bg
     expected (Why.KeepFault path) b n c d quiet nw bg = absurd (bg path refl)
+    expected (Why.BadLog path at) b n c d quiet nw bg = expected_of (Why.BadLog path at) c quiet nw bg
+    expected (Why.OtherJob path) b n c d quiet nw bg = expected_of (Why.OtherJob path) c quiet nw bg
     expected (Why.LogFull path held) b n c d quiet nw bg =
         λ source inputs st. ((c.2.1 source inputs st).0, (c.1, (c.2.0, (c.2.1 source inputs st).1)))
 
@@ -212,6 +238,8 @@ module _ (content : List ℕ → Option (List ℕ)) (words : List (List ℕ)) (l
       over_line words line (λ w. OfLine content w (λ source inputs. OfJob source inputs (λ job. IsTooDeep w J job depth))) e
       (λ source inputs st. (c.1 source inputs st).1)
   too_deep (Why.KeepFault path) c = tt
+  too_deep (Why.BadLog path at) c = tt
+  too_deep (Why.OtherJob path) c = tt
   too_deep (Why.LogFull path held) c = tt
 
   pub read_fault : (why : Why) → EndCause content line risen J why → IfReadFault why (λ path. Contains (paths (line_of words)) path × risen)
@@ -229,6 +257,8 @@ module _ (content : List ℕ → Option (List ℕ)) (words : List (List ℕ)) (l
   read_fault (Why.TooLongInput path at) c = tt
   read_fault (Why.TooDeepPlain depth) c = tt
   read_fault (Why.KeepFault path) c = tt
+  read_fault (Why.BadLog path at) c = tt
+  read_fault (Why.OtherJob path) c = tt
   read_fault (Why.LogFull path held) c = tt
 
   pub endless : (why : Why) → EndCause content line risen J why
@@ -250,6 +280,8 @@ module _ (content : List ℕ → Option (List ℕ)) (words : List (List ℕ)) (l
   endless (Why.TooLongInput path at) c = tt
   endless (Why.TooDeepPlain depth) c = tt
   endless (Why.KeepFault path) c = tt
+  endless (Why.BadLog path at) c = tt
+  endless (Why.OtherJob path) c = tt
   endless (Why.LogFull path held) c = tt
 
   pub too_many : (why : Why) → EndCause content line risen J why
@@ -273,6 +305,8 @@ module _ (content : List ℕ → Option (List ℕ)) (words : List (List ℕ)) (l
   too_many (Why.TooLongInput path at) c = tt
   too_many (Why.TooDeepPlain depth) c = tt
   too_many (Why.KeepFault path) c = tt
+  too_many (Why.BadLog path at) c = tt
+  too_many (Why.OtherJob path) c = tt
   too_many (Why.LogFull path held) c = tt
 
   pub name_clash : (why : Why) → EndCause content line risen J why
@@ -294,14 +328,17 @@ module _ (content : List ℕ → Option (List ℕ)) (words : List (List ℕ)) (l
   name_clash (Why.TooLongInput path at) c = tt
   name_clash (Why.TooDeepPlain depth) c = tt
   name_clash (Why.KeepFault path) c = tt
+  name_clash (Why.BadLog path at) c = tt
+  name_clash (Why.OtherJob path) c = tt
   name_clash (Why.LogFull path held) c = tt
 
-  pub distinct : (why : Why) → EndCause content line risen J why → IfEndless why (IsDistinct same_text)
+  pub distinct : (why : Why) → EndCause content line risen J why
+      → IfEndless why (λ names. OverLine content words (λ w. Surely content w (IsDistinct same_text names)))
   distinct Why.Done c = tt
   distinct Why.Usage c = tt
   distinct (Why.Syntax kind l k) c = tt
   distinct (Why.Fault fault) c = tt
-  distinct (Why.Endless names) c = c.1
+  distinct (Why.Endless names) c = over_line words line (λ w. Surely content w (IsDistinct same_text names)) e c.1
   distinct (Why.TooMany held None) c = tt
   distinct (Why.TooMany held (Some given)) c = tt
   distinct Why.AllLost c = tt
@@ -312,7 +349,57 @@ module _ (content : List ℕ → Option (List ℕ)) (words : List (List ℕ)) (l
   distinct (Why.TooLongInput path at) c = tt
   distinct (Why.TooDeepPlain depth) c = tt
   distinct (Why.KeepFault path) c = tt
+  distinct (Why.BadLog path at) c = tt
+  distinct (Why.OtherJob path) c = tt
   distinct (Why.LogFull path held) c = tt
+
+  pub all_lost : (why : Why) → EndCause content line risen J why → why ≡ Why.AllLost
+      → OverLine content words (λ w. (w.plain ≡ false) × Surely content w (AllAreLost (plan_of w) J))
+  all_lost why c lost =
+      let x = subst (EndCause content line risen J) lost c in
+      over_line words line (λ w. (w.plain ≡ false) × Surely content w (AllAreLost (plan_of w) J)) e (x.0, x.1)
+
+  pub bad_log : (why : Why) → EndCause content line risen J why
+      → IfBadLog why (λ path at. (resume_of (line_of words) ≡ Some path) × OverLine content words (λ w. HasBadRecord content w path at))
+  bad_log Why.Done c = tt
+  bad_log Why.Usage c = tt
+  bad_log (Why.Syntax kind l k) c = tt
+  bad_log (Why.Fault fault) c = tt
+  bad_log (Why.Endless names) c = tt
+  bad_log (Why.TooMany held given) c = tt
+  bad_log Why.AllLost c = tt
+  bad_log (Why.NameClash kept given) c = tt
+  bad_log (Why.ReadFault path) c = tt
+  bad_log Why.WriteFault c = tt
+  bad_log Why.Memory c = tt
+  bad_log (Why.TooLongInput path at) c = tt
+  bad_log (Why.TooDeepPlain depth) c = tt
+  bad_log (Why.KeepFault path) c = tt
+  bad_log (Why.BadLog path at) c =
+      (at_line words line (λ o. resume_of o ≡ Some path) e c.1, over_line words line (λ w. HasBadRecord content w path at) e c.3)
+  bad_log (Why.OtherJob path) c = tt
+  bad_log (Why.LogFull path held) c = tt
+
+  pub other_job : (why : Why) → EndCause content line risen J why
+      → IfOtherJob why (λ path. (resume_of (line_of words) ≡ Some path) × OverLine content words (λ w. HasOtherHeader content w path))
+  other_job Why.Done c = tt
+  other_job Why.Usage c = tt
+  other_job (Why.Syntax kind l k) c = tt
+  other_job (Why.Fault fault) c = tt
+  other_job (Why.Endless names) c = tt
+  other_job (Why.TooMany held given) c = tt
+  other_job Why.AllLost c = tt
+  other_job (Why.NameClash kept given) c = tt
+  other_job (Why.ReadFault path) c = tt
+  other_job Why.WriteFault c = tt
+  other_job Why.Memory c = tt
+  other_job (Why.TooLongInput path at) c = tt
+  other_job (Why.TooDeepPlain depth) c = tt
+  other_job (Why.KeepFault path) c = tt
+  other_job (Why.BadLog path at) c = tt
+  other_job (Why.OtherJob path) c =
+      (at_line words line (λ o. resume_of o ≡ Some path) e c.1, over_line words line (λ w. HasOtherHeader content w path) e c.3)
+  other_job (Why.LogFull path held) c = tt
 
   -- which run it ends
 
@@ -332,6 +419,8 @@ module _ (content : List ℕ → Option (List ℕ)) (words : List (List ℕ)) (l
   comes_by (Why.TooLongInput path at) c = tt
   comes_by (Why.TooDeepPlain depth) c = c.0
   comes_by (Why.KeepFault path) c = c.0
+  comes_by (Why.BadLog path at) c = c.0
+  comes_by (Why.OtherJob path) c = c.0
   comes_by (Why.LogFull path held) c = c.0
 
   pub way : (why : Why) → EndCause content line risen J why → ComesBy (is_plain (line_of words)) why
@@ -354,6 +443,8 @@ module _ (content : List ℕ → Option (List ℕ)) (words : List (List ℕ)) (l
   fits b n (Why.TooLongInput path at) c d p r = absurd r
   fits b n (Why.TooDeepPlain depth) c d p r = λ source inputs st. (c.1 source inputs st).0
   fits b n (Why.KeepFault path) c d p r = λ source inputs st. (c.2 source inputs st).0
+  fits b n (Why.BadLog path at) c d p r = λ source inputs st. (c.3 source inputs st.there).0
+  fits b n (Why.OtherJob path) c d p r = λ source inputs st. (c.3 source inputs st.there).0
   fits b n (Why.LogFull path held) c d p r = λ source inputs st. (c.2.1 source inputs st).0
 
   pub limits : (b n : Option (List ℕ)) (why : Why) → EndCause content line risen J why → (why ≡ Why.Done → Writes content line (Tells b n))
@@ -391,6 +482,8 @@ module _ (content : List ℕ → Option (List ℕ)) (line : Words) (risen : Type
   end_cause (Why.TooLongInput path at) c = c
   end_cause (Why.TooDeepPlain depth) c = c
   end_cause (Why.KeepFault path) c = (c.0, c.1, c.3)
+  end_cause (Why.BadLog path at) c = c
+  end_cause (Why.OtherJob path) c = c
   end_cause (Why.LogFull path held) c = absurd c
 
 -- a text that was put whole, and nothing behind it
@@ -400,10 +493,10 @@ parts_whole b n text t = parts b n n text [] (part_whole b n text t) (0, tells_n
 -- ---- in which order
 
 -- what was written, or wasn't written whole, has read all
-pub written_order : (content : List ℕ → Option (List ℕ)) (f : Option files.Line) (b n : Option (List (List ℕ))) (why : Why)
-    → (why ≡ Why.Done) ⊎ (why ≡ Why.WriteFault) → StopsFor content f b n why
-written_order content f b n why (inl e) = subst (StopsFor content f b n) (sym e) tt
-written_order content f b n why (inr e) = subst (StopsFor content f b n) (sym e) tt
+pub written_order : (content : List ℕ → Option (List ℕ)) (f : Option files.Line) (resume : Option (List ℕ)) (b n : Option (List (List ℕ))) (why : Why)
+    → (why ≡ Why.Done) ⊎ (why ≡ Why.WriteFault) → StopsFor content f resume b n why
+written_order content f resume b n why (inl e) = subst (StopsFor content f resume b n) (sym e) tt
+written_order content f resume b n why (inr e) = subst (StopsFor content f resume b n) (sym e) tt
 
 -- where not all was written the answer was, or the output failed
 pub first_of : (content : List ℕ → Option (List ℕ)) (words : List (List ℕ)) (line : Words) → line_of words ≡ Some line → (A : Type 0)
@@ -411,3 +504,24 @@ pub first_of : (content : List ℕ → Option (List ℕ)) (words : List (List �
 first_of content words line e A b n (inl a) = inl a
 first_of content words line e A b n (inr x) =
     inr (over_line words line (λ w. OfLine content w (λ source inputs. WritesAnswer w source inputs b n)) e (writes content line b n x))
+
+-- ---- the status 0
+
+pub done_at : (why : Why) → status_of why ≡ 0 → why ≡ Why.Done
+done_at Why.Done e = refl
+done_at Why.Usage e = absurd (omega (arith, e))
+done_at (Why.Syntax kind line col) e = absurd (omega (arith, e))
+done_at (Why.Fault fault) e = absurd (omega (arith, e))
+done_at (Why.Endless names) e = absurd (omega (arith, e))
+done_at (Why.TooMany held given) e = absurd (omega (arith, e))
+done_at Why.AllLost e = absurd (omega (arith, e))
+done_at (Why.NameClash kept given) e = absurd (omega (arith, e))
+done_at (Why.ReadFault path) e = absurd (omega (arith, e))
+done_at Why.WriteFault e = absurd (omega (arith, e))
+done_at Why.Memory e = absurd (omega (arith, e))
+done_at (Why.TooLongInput path at) e = absurd (omega (arith, e))
+done_at (Why.TooDeepPlain depth) e = absurd (omega (arith, e))
+done_at (Why.KeepFault path) e = absurd (omega (arith, e))
+done_at (Why.BadLog path at) e = absurd (omega (arith, e))
+done_at (Why.OtherJob path) e = absurd (omega (arith, e))
+done_at (Why.LogFull path held) e = absurd (omega (arith, e))

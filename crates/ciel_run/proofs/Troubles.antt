@@ -1,5 +1,5 @@
 -- What comes in the way of a log, behind an answer that was written, and before.
-use Rattle.std.proofs.Common.{◌≡◌, ◌≢◌, ◌≤◌, ◌⊎◌, inl, inr, ℕ, List, [], true, false, Option, Some, None, Result, Ok, Err, refl, sym, ap, subst, ◌∙◌}
+use Rattle.std.proofs.Common.{◌≡◌, ◌≢◌, ◌≤◌, ◌⊎◌, ◌++◌, inl, inr, ℕ, List, [], true, false, Option, Some, None, Result, Ok, Err, refl, sym, ap, subst, ◌∙◌}
 use Rattle.std.specs.Prelude.{IfErr, IfSome}
 use Rattle.sky_base.specs.See as s
 use Rattle.sky_base.specs.See.{Answered}
@@ -19,11 +19,21 @@ use Rattle.ciel_run_line.specs.Keeping.{AsksOnly, BeginsLog, FillsLog, HasBytes,
 use Rattle.ciel_run_line.specs.Source.{over_lines}
 use Rattle.ciel_run_log.specs.declared.why.Why.{Why}
 use Rattle.ciel_words.specs.declared.words.Words.{Words}
+use Rattle.ciel_run_line.specs.Runs.{log_at, log_path}
+use Rattle.ciel_words.specs.Sound.{LineIsSound}
 use Rattle.ciel_run.specs.Ending.{AsksLog, EndCause, IfKeepFault, IfLogFull, IsTrouble, LogSays, WritesNothing}
 
 -- an answer was written, or it wasn't whole; then that is told which came in the way of the log
 abbrev pub Finished : Option (List ℕ) → LogState → Why → Type 0
 Finished log state why = (why ≡ Why.WriteFault) ⊎ IsTrouble log state why
+
+-- a line with a log isn't one of a sequential run
+pub log_plain : (w : Words) → LineIsSound w → (path : List ℕ) → log_path w ≡ Some path → w.plain ≡ false
+log_plain w s path e = at w.log w.resume refl refl e
+  where
+    at : (log resume : Option (List ℕ)) → w.log ≡ log → w.resume ≡ resume → log_at log resume ≡ Some path → w.plain ≡ false
+    at (Some p) resume f g h = (s.logged p f).0
+    at None resume f g h = (s.resumed path (g ∙ h)).0
 
 -- ---- the whys of a trouble
 
@@ -59,20 +69,20 @@ pub something : (log : Option (List ℕ)) (state : LogState) (why : Why) → Fin
 something log state why f n = writes_something log state why (kind log state why f) n
 
 module _ (content : List ℕ → Option (List ℕ)) (w : Words) (risen : Type 0) (J : List Entry)
-    (plain : (path : List ℕ) → w.log ≡ Some path → w.plain ≡ false) (a : List ℕ)
+    (plain : (path : List ℕ) → log_path w ≡ Some path → w.plain ≡ false) (a : List ℕ)
     (answer : OfRun content w risen J (λ job. s.Means job over_lines (Answered.bytes a))) where
   ran : OfRun content w risen J (λ job. Unit {0})
   ran source inputs st = let y = answer source inputs st in (y.0, (y.1.0, y.1.1, tt))
 
-  cause_of : (state : LogState) (why : Why) → Kind w.log state why → EndCause content w risen J why
+  cause_of : (state : LogState) (why : Why) → Kind (log_path w) state why → EndCause content w risen J why
   cause_of state why (done e x) = subst (EndCause content w risen J) (sym e) tt
   cause_of state why (failed path n t e) = subst (EndCause content w risen J) (sym e) (plain path n, n, ran)
   cause_of state why (full path held n t e) = subst (EndCause content w risen J) (sym e) (plain path n, n, (a, answer))
   cause_of state why (memory e) = subst (EndCause content w risen J) (sym e) tt
   cause_of state why (unwritten e) = subst (EndCause content w risen J) (sym e) tt
 
-  pub trouble_cause : (state : LogState) (why : Why) → Finished w.log state why → EndCause content w risen J why
-  trouble_cause state why f = cause_of state why (kind w.log state why f)
+  pub trouble_cause : (state : LogState) (why : Why) → Finished (log_path w) state why → EndCause content w risen J why
+  trouble_cause state why f = cause_of state why (kind (log_path w) state why f)
 
 -- ---- what is known of the keeper
 
@@ -129,6 +139,8 @@ asks_any path before now Why.WriteFault a = a
 asks_any path before now (Why.TooLongInput p at) a = a
 asks_any path before now (Why.TooDeepPlain depth) a = a
 asks_any path before now (Why.KeepFault p) a = a
+asks_any path before now (Why.BadLog p at) a = a
+asks_any path before now (Why.OtherJob p) a = a
 asks_any path before now (Why.LogFull p held) a = a
 
 pub asked_then : (log : Option (List ℕ)) (before now : KeeperSeen) (a : List ℕ) (state : LogState) → KeepsLog log before now (Ok a) state → (why : Why)
@@ -154,6 +166,8 @@ asked_so (Some path) before now (Why.ReadFault p) state k = k.0
 asked_so (Some path) before now Why.WriteFault state k = k.0
 asked_so (Some path) before now (Why.TooLongInput p at) state k = k.0
 asked_so (Some path) before now (Why.TooDeepPlain depth) state k = k.0
+asked_so (Some path) before now (Why.BadLog p at) state k = k.0
+asked_so (Some path) before now (Why.OtherJob p) state k = k.0
 asked_so (Some path) before now (Why.LogFull p held) state k = k.0
 
 pub keep_fault_so : (log : Option (List ℕ)) (before now : KeeperSeen) (why : Why) (state : LogState) → KeepsLog log before now (Err why) state
@@ -173,6 +187,8 @@ keep_fault_so log before now (Why.ReadFault p) state k n = tt
 keep_fault_so log before now Why.WriteFault state k n = tt
 keep_fault_so log before now (Why.TooLongInput p at) state k n = tt
 keep_fault_so log before now (Why.TooDeepPlain depth) state k n = tt
+keep_fault_so log before now (Why.BadLog p at) state k n = tt
+keep_fault_so log before now (Why.OtherJob p) state k n = tt
 keep_fault_so log before now (Why.LogFull p held) state k n = tt
 
 -- ---- what the log's file tells
@@ -202,7 +218,7 @@ module _ (w : Words) (source : List ℕ) (inputs : List Input) (J : List Entry) 
   abbrev Known : Type 0
   Known = OfLog w source inputs J files (Told w source inputs J state)
 
-  of_kind : (why : Why) → Kind w.log state why → Known → LogSays w source inputs J broken files why
+  of_kind : (why : Why) → Kind (log_path w) state why → Known → LogSays w source inputs J broken files why
   of_kind why (done e x) t =
       subst (LogSays w source inputs J broken files) (sym e) (λ path n. of_file files path (Told w source inputs J state) (IsLog w source inputs J)
       (λ bytes k. k.1 (x path n)) (t path n))
@@ -213,8 +229,8 @@ module _ (w : Words) (source : List ℕ) (inputs : List Input) (J : List Entry) 
   of_kind why (memory e) t = subst (LogSays w source inputs J broken files) (sym e) tt
   of_kind why (unwritten e) t = subst (LogSays w source inputs J broken files) (sym e) tt
 
-  pub says : (why : Why) → Finished w.log state why → Known → LogSays w source inputs J broken files why
-  says why f t = of_kind why (kind w.log state why f) t
+  pub says : (why : Why) → Finished (log_path w) state why → Known → LogSays w source inputs J broken files why
+  says why f t = of_kind why (kind (log_path w) state why f) t
 
   begins : (state ≡ LogState.Failed → broken) → Known → OfLog w source inputs J files (BeginsLog w source inputs J broken)
   begins f t = λ path n. of_file files path (Told w source inputs J state) (BeginsLog w source inputs J broken)
@@ -222,11 +238,11 @@ module _ (w : Words) (source : List ℕ) (inputs : List Input) (J : List Entry) 
 
   -- where the job has no answer
   pub says_so : (content : List ℕ → Option (List ℕ)) (risen : Type 0) (before now : KeeperSeen) (why : Why) → CauseOf content w risen J why
-      → KeepsLog w.log before now (Err why) state → (HasRisen before.faults now.faults → broken)
+      → KeepsLog (log_path w) before now (Err why) state → (HasRisen before.faults now.faults → broken)
       → LogTold w source inputs J files state (Err why) → LogSays w source inputs J broken files why
-  says_so content risen before now (Why.Fault fault) c k f t = begins (λ e. f (rises before now state (Err (Why.Fault fault)) (λ p x. x) w.log k e)) t
-  says_so content risen before now (Why.Endless names) c k f t = begins (λ e. f (rises before now state (Err (Why.Endless names)) (λ p x. x) w.log k e)) t
-  says_so content risen before now Why.AllLost c k f t = begins (λ e. f (rises before now state (Err Why.AllLost) (λ p x. x) w.log k e)) t
+  says_so content risen before now (Why.Fault fault) c k f t = begins (λ e. f (rises before now state (Err (Why.Fault fault)) (λ p x. x) (log_path w) k e)) t
+  says_so content risen before now (Why.Endless names) c k f t = begins (λ e. f (rises before now state (Err (Why.Endless names)) (λ p x. x) (log_path w) k e)) t
+  says_so content risen before now Why.AllLost c k f t = begins (λ e. f (rises before now state (Err Why.AllLost) (λ p x. x) (log_path w) k e)) t
   says_so content risen before now Why.Done c k f t = absurd c
   says_so content risen before now (Why.LogFull path held) c k f t = absurd c
   says_so content risen before now Why.Usage c k f t = tt
@@ -239,11 +255,13 @@ module _ (w : Words) (source : List ℕ) (inputs : List Input) (J : List Entry) 
   says_so content risen before now (Why.TooLongInput path at) c k f t = tt
   says_so content risen before now (Why.TooDeepPlain depth) c k f t = tt
   says_so content risen before now (Why.KeepFault path) c k f t = tt
+  says_so content risen before now (Why.BadLog path at) c k f t = tt
+  says_so content risen before now (Why.OtherJob path) c k f t = tt
 
 -- ---- where the job has no answer
 
 pub keep_named : (content : List ℕ → Option (List ℕ)) (w : Words) (risen : Type 0) (J : List Entry) (why : Why) → CauseOf content w risen J why
-    → (path : List ℕ) → why ≡ Why.KeepFault path → w.log ≡ Some path
+    → (path : List ℕ) → why ≡ Why.KeepFault path → log_path w ≡ Some path
 keep_named content w risen J why c path e = (subst (CauseOf content w risen J) e c).1
 
 pub none_begun : (content : List ℕ → Option (List ℕ)) (w : Words) (risen : Type 0) (J : List Entry) (why : Why) → CauseOf content w risen J why
@@ -267,17 +285,17 @@ pub begun_then : (log : Option (List ℕ)) (state : LogState) (why : Why) (F : T
 begun_then log state why F f g = given_failed log state why F (kind log state why f) g
 
 -- which files were asked: all of the line's
-asks_files : (log : Option (List ℕ)) (state : LogState) (why : Why) (ps : List (List ℕ)) (b n : Option (List (List ℕ))) → Kind log state why
-    → Tells b n ps → AsksFor why ps b n
-asks_files log state why ps b n (done e x) t = subst (λ (y : Why). AsksFor y ps b n) (sym e) t
-asks_files log state why ps b n (failed path m f e) t = subst (λ (y : Why). AsksFor y ps b n) (sym e) t
-asks_files log state why ps b n (full path held m f e) t = subst (λ (y : Why). AsksFor y ps b n) (sym e) t
-asks_files log state why ps b n (memory e) t = subst (λ (y : Why). AsksFor y ps b n) (sym e) (part_whole b n ps t)
-asks_files log state why ps b n (unwritten e) t = subst (λ (y : Why). AsksFor y ps b n) (sym e) t
+asks_files : (log : Option (List ℕ)) (state : LogState) (why : Why) (ps others : List (List ℕ)) (b n : Option (List (List ℕ))) → Kind log state why
+    → Tells b n (ps ++ others) → AsksFor why ps others b n
+asks_files log state why ps others b n (done e x) t = subst (λ (y : Why). AsksFor y ps others b n) (sym e) t
+asks_files log state why ps others b n (failed path m f e) t = subst (λ (y : Why). AsksFor y ps others b n) (sym e) t
+asks_files log state why ps others b n (full path held m f e) t = subst (λ (y : Why). AsksFor y ps others b n) (sym e) t
+asks_files log state why ps others b n (memory e) t = subst (λ (y : Why). AsksFor y ps others b n) (sym e) (part_whole b n (ps ++ others) t)
+asks_files log state why ps others b n (unwritten e) t = subst (λ (y : Why). AsksFor y ps others b n) (sym e) t
 
-pub files_asked : (log : Option (List ℕ)) (state : LogState) (why : Why) (ps : List (List ℕ)) (b n : Option (List (List ℕ)))
-    → Finished log state why → Tells b n ps → AsksFor why ps b n
-files_asked log state why ps b n f t = asks_files log state why ps b n (kind log state why f) t
+pub files_asked : (log : Option (List ℕ)) (state : LogState) (why : Why) (ps others : List (List ℕ)) (b n : Option (List (List ℕ)))
+    → Finished log state why → Tells b n (ps ++ others) → AsksFor why ps others b n
+files_asked log state why ps others b n f t = asks_files log state why ps others b n (kind log state why f) t
 
 pub keep_fault_map : (why : Why) (P Q : List ℕ → Type 0) → ((path : List ℕ) → P path → Q path) → IfKeepFault why P → IfKeepFault why Q
 keep_fault_map (Why.KeepFault path) P Q f p = f path p
@@ -294,6 +312,8 @@ keep_fault_map Why.WriteFault P Q f p = tt
 keep_fault_map Why.Memory P Q f p = tt
 keep_fault_map (Why.TooLongInput path at) P Q f p = tt
 keep_fault_map (Why.TooDeepPlain depth) P Q f p = tt
+keep_fault_map (Why.BadLog path at) P Q f p = tt
+keep_fault_map (Why.OtherJob path) P Q f p = tt
 keep_fault_map (Why.LogFull path held) P Q f p = tt
 
 pub err_is : (a b : Why) (r : Result (List ℕ) Why) → r ≡ Err a → r ≡ Err b → a ≡ b

@@ -22,7 +22,8 @@ use Rattle.ciel_run_line.specs.Line.{FitsIn, OfLine, SourceFits, files_of}
 use Rattle.ciel_run_line.specs.Causes.{CauseOf, OfRun}
 use Rattle.ciel_run_line.specs.Ended.{SomeStays}
 use Rattle.ciel_run_line.specs.Keeping.{AsksOnly, BeginsLog, FillsLog, IsLog, OfLog}
-use Rattle.ciel_run_line.specs.Runs.{IsModestFor, plan_of}
+use Rattle.ciel_run_line.specs.Logging.{most}
+use Rattle.ciel_run_line.specs.Runs.{IsModestFor, log_path, plan_of}
 use Rattle.ciel_run_line.specs.Source.{HasChain, HasNone, IsAnswer, IsSource, Makes, over_lines}
 use Rattle.ciel_run_log.specs.Summary.{output_of}
 use Rattle.ciel_run_log.specs.declared.why.Why.{Why}
@@ -69,6 +70,14 @@ abbrev pub IfLogFull : Why → (List ℕ → ℕ → Type 0) → Type 0
 IfLogFull (Why.LogFull path held) P = P path held
 IfLogFull _ P = Unit {0}
 
+abbrev pub IfBadLog : Why → (List ℕ → ℕ → Type 0) → Type 0
+IfBadLog (Why.BadLog path at) P = P path at
+IfBadLog _ P = Unit {0}
+
+abbrev pub IfOtherJob : Why → (List ℕ → Type 0) → Type 0
+IfOtherJob (Why.OtherJob path) P = P path
+IfOtherJob _ P = Unit {0}
+
 -- ---- which run it ends
 
 -- the way of running that the line asks for, where an end comes of one of the two alone: of the engine, or of the sequential interpreter
@@ -80,10 +89,12 @@ ComesBy plain Why.AllLost = plain ≡ false
 ComesBy plain (Why.NameClash kept given) = plain ≡ false
 ComesBy plain (Why.TooDeepPlain depth) = plain ≡ true
 ComesBy plain (Why.KeepFault path) = plain ≡ false
+ComesBy plain (Why.BadLog path at) = plain ≡ false
+ComesBy plain (Why.OtherJob path) = plain ≡ false
 ComesBy plain (Why.LogFull path held) = plain ≡ false
 ComesBy plain _ = Unit {0}
 
--- the job of the line was read, and ran, or its log couldn't be begun
+-- the job of the line was read, and ran, or its log couldn't be begun, or gone on from
 abbrev pub HasRun : Why → Type 0
 HasRun Why.Done = Unit {0}
 HasRun (Why.Fault fault) = Unit {0}
@@ -94,6 +105,8 @@ HasRun (Why.NameClash kept given) = Unit {0}
 HasRun Why.WriteFault = Unit {0}
 HasRun (Why.TooDeepPlain depth) = Unit {0}
 HasRun (Why.KeepFault path) = Unit {0}
+HasRun (Why.BadLog path at) = Unit {0}
+HasRun (Why.OtherJob path) = Unit {0}
 HasRun (Why.LogFull path held) = Unit {0}
 HasRun _ = ⊥
 
@@ -120,9 +133,9 @@ Writes content w P =
 abbrev pub EndCause : (List ℕ → Option (List ℕ)) → Words → Type 0 → List Entry → Why → Type 0
 EndCause content w risen J Why.Done = Unit {0}
 EndCause content w risen J Why.WriteFault = Unit {0}
-EndCause content w risen J (Why.KeepFault path) = (w.plain ≡ false) × (w.log ≡ Some path) × OfRun content w risen J (λ job. Unit {0})
+EndCause content w risen J (Why.KeepFault path) = (w.plain ≡ false) × (log_path w ≡ Some path) × OfRun content w risen J (λ job. Unit {0})
 EndCause content w risen J (Why.LogFull path held) =
-    (w.plain ≡ false) × (w.log ≡ Some path)
+    (w.plain ≡ false) × (log_path w ≡ Some path)
     × ((a : List ℕ) × OfRun content w risen J (λ job. Means job over_lines (Answered.bytes a)))
 EndCause content w risen J why = CauseOf content w risen J why
 
@@ -181,7 +194,8 @@ MayEnd w source inputs (Why.Endless names) = HasNone source inputs
 MayEnd w source inputs Why.AllLost = IsSource source inputs
 MayEnd w source inputs (Why.NameClash kept given) = IsSource source inputs
 MayEnd w source inputs (Why.TooDeepPlain depth) = HasChain source inputs 4096
-MayEnd w source inputs (Why.LogFull path held) = (w.log ≡ Some path) × ((a : List ℕ) × IsAnswer source inputs (Answered.bytes a))
+MayEnd w source inputs (Why.BadLog path at) = (w.resume ≡ Some path) × IsSource source inputs
+MayEnd w source inputs (Why.LogFull path held) = (log_path w ≡ Some path) × ((a : List ℕ) × IsAnswer source inputs (Answered.bytes a))
 MayEnd w source inputs _ = ⊥
 
 -- a file of the line is too long
@@ -189,25 +203,33 @@ abbrev pub TooLongIn : Option files.Line → List ℕ → List Input → List �
 TooLongIn None source inputs path at = ⊥
 TooLongIn (Some f) source inputs path at = IsTooLong f source inputs path at
 
+-- the log that the line goes on from is too long, and the job is there
+abbrev pub LogTooLong : Words → List ℕ → List Input → List ℕ → ℕ → Type 0
+LogTooLong w source inputs path at = (w.resume ≡ Some path) × (at ≡ most) × FitsIn (files_of w) source inputs × IsSource source inputs
+
 -- how a call ends over a script with this source and these inputs, where reading and writing go well: what is too long is refused, bytes
--- that are no script are, and any other call ends with what its job comes to, but for want of memory
+-- that are no script are, and any other call ends with what its job comes to, but for want of memory. That a log of its own is never refused
+-- isn't said
 abbrev pub IsExpected : Words → List ℕ → List Input → Why → Type 0
 IsExpected w source inputs (Why.Syntax kind l c) = SourceFits (files_of w) source × IsSyntaxFault source kind l c
-IsExpected w source inputs (Why.TooLongInput path at) = TooLongIn (files_of w) source inputs path at
+IsExpected w source inputs (Why.TooLongInput path at) = TooLongIn (files_of w) source inputs path at ⊎ LogTooLong w source inputs path at
 IsExpected w source inputs Why.Memory = Unit {0}
 IsExpected w source inputs why = FitsIn (files_of w) source inputs × MayEnd w source inputs why
 
--- an end with the job's answer, or for want of memory; a sequential run may find a chain too long, and another's log may be full
-abbrev pub IsAnswered : Bool → Why → Type 0
-IsAnswered plain Why.Done = Unit {0}
-IsAnswered plain (Why.Fault fault) = Unit {0}
-IsAnswered plain Why.Memory = Unit {0}
-IsAnswered plain (Why.TooDeepPlain depth) = plain ≡ true
-IsAnswered plain (Why.LogFull path held) = plain ≡ false
-IsAnswered plain _ = ⊥
+-- an end with the job's answer, or for want of memory; a sequential run may find a chain too long, and another's log may be full; one that is
+-- gone on from may be too long, or refused
+abbrev pub IsAnswered : Words → Why → Type 0
+IsAnswered w Why.Done = Unit {0}
+IsAnswered w (Why.Fault fault) = Unit {0}
+IsAnswered w Why.Memory = Unit {0}
+IsAnswered w (Why.TooDeepPlain depth) = w.plain ≡ true
+IsAnswered w (Why.LogFull path held) = w.plain ≡ false
+IsAnswered w (Why.BadLog path at) = w.resume ≡ Some path
+IsAnswered w (Why.TooLongInput path at) = w.resume ≡ Some path
+IsAnswered w _ = ⊥
 
 -- over files within the limits, a job that means an answer, that makes few descriptions, no two of which share a name, and that some
 -- worker is left to run, comes to its answer
 abbrev pub Answers : Words → List ℕ → List Input → Why → Type 0
 Answers w source inputs why =
-    FitsIn (files_of w) source inputs → IsModestFor w source inputs → SomeStays (plan_of w) → IsAnswered w.plain why
+    FitsIn (files_of w) source inputs → IsModestFor w source inputs → SomeStays (plan_of w) → IsAnswered w why

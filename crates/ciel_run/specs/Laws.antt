@@ -27,26 +27,28 @@ NoScriptIsRefused =
     → SourceFits (files_of w) source → EndsSo w source inputs (Why.Syntax kind l c)
 
 -- the end is what the job of this script comes to: an answer, a fault, none, too many descriptions, a chain that is too long, the loss of all
--- workers, or two descriptions with one name
-abbrev pub EndsScript : Script → List Input → Why → Type 0
-EndsScript script inputs Why.Done = (a : List ℕ) × Means (job_of script inputs) over_lines (Answered.bytes a)
-EndsScript script inputs (Why.Fault fault) = Means (job_of script inputs) over_lines (Answered.fault fault)
-EndsScript script inputs (Why.Endless names) = Never (job_of script inputs) over_lines
-EndsScript script inputs (Why.TooMany held None) = MakesMany (job_of script inputs) over_lines 65537
-EndsScript script inputs (Why.TooMany held (Some given)) = Unit {0}
-EndsScript script inputs Why.AllLost = Unit {0}
-EndsScript script inputs (Why.NameClash kept given) = Unit {0}
-EndsScript script inputs (Why.LogFull path held) = (a : List ℕ) × Means (job_of script inputs) over_lines (Answered.bytes a)
-EndsScript script inputs (Why.TooDeepPlain depth) = (d : Desc) × Chain (job_of script inputs) over_lines 4096 d
-EndsScript script inputs Why.Memory = Unit {0}
-EndsScript script inputs _ = ⊥
+-- workers, or two descriptions with one name; or it is of the log that is gone on from
+abbrev pub EndsScript : Words → Script → List Input → Why → Type 0
+EndsScript w script inputs Why.Done = (a : List ℕ) × Means (job_of script inputs) over_lines (Answered.bytes a)
+EndsScript w script inputs (Why.Fault fault) = Means (job_of script inputs) over_lines (Answered.fault fault)
+EndsScript w script inputs (Why.Endless names) = Never (job_of script inputs) over_lines
+EndsScript w script inputs (Why.TooMany held None) = MakesMany (job_of script inputs) over_lines 65537
+EndsScript w script inputs (Why.TooMany held (Some given)) = Unit {0}
+EndsScript w script inputs Why.AllLost = Unit {0}
+EndsScript w script inputs (Why.NameClash kept given) = Unit {0}
+EndsScript w script inputs (Why.LogFull path held) = (a : List ℕ) × Means (job_of script inputs) over_lines (Answered.bytes a)
+EndsScript w script inputs (Why.TooDeepPlain depth) = (d : Desc) × Chain (job_of script inputs) over_lines 4096 d
+EndsScript w script inputs Why.Memory = Unit {0}
+EndsScript w script inputs (Why.BadLog path at) = w.resume ≡ Some path
+EndsScript w script inputs (Why.TooLongInput path at) = w.resume ≡ Some path
+EndsScript w script inputs _ = ⊥
 
 -- Bytes that are a script are never refused as none, nor as too long where no limit is passed: the end is what the job of that script
 -- comes to.
 abbrev pub ScriptIsRun : Type 0
 ScriptIsRun =
     (w : Words) (source : List ℕ) (inputs : List Input) (script : Script) → IsScript source (keys_of inputs) script
-    → FitsIn (files_of w) source inputs → (why : Why) → IsExpected w source inputs why → EndsScript script inputs why
+    → FitsIn (files_of w) source inputs → (why : Why) → IsExpected w source inputs why → EndsScript w script inputs why
 
 -- Bytes that are too many for a script are refused as such, whatever they are.
 abbrev pub TooLongIsRefused : Type 0

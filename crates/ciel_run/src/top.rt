@@ -1,11 +1,11 @@
 //! The top call: the words, the reading, the run, and the writing. Each way in which it ends is a `Why`, and each `Why` but want of memory
 //! has a clause that says when it comes.
 
-ghost use Rattle.std.specs.Prelude.{◌≡◌, ◌≢◌, ◌≤◌, ◌⊎◌, ◌++◌, [], None, Some, Contains, OnErr, OnOk, drop, false, length, map, true};
+ghost use Rattle.std.specs.Prelude.{◌≡◌, ◌≢◌, ◌≤◌, ◌⊎◌, ◌++◌, [], None, Some, Contains, OnErr, OnOk, drop, false, length, map, option_map, true};
 ghost use Rattle.std.specs.List.{IsDistinct};
 ghost use Rattle.sky_base.specs.See.{Answered as Meant};
 ghost use Rattle.sky_base.specs.Val.{same_text};
-ghost use Rattle.ciel_run_line.specs.Told.{ToldBy};
+ghost use Rattle.ciel_run_line.specs.Gates.{GatesTell};
 ghost use Rattle.ciel_run_line.specs.Told.{told_of};
 ghost use Rattle.ciel_io.specs.Faults.{HasRisen};
 ghost use Rattle.ciel_io.specs.Tells.{Tells, TellsPart};
@@ -14,19 +14,20 @@ ghost use Rattle.ciel_run_line.specs.Views.{entry_view};
 ghost use Rattle.ciel_master_board.specs.Ends.{AllAreLost};
 ghost use Rattle.ciel_words.specs.Line.{line_of};
 ghost use Rattle.ciel_words.specs.Sound.{LineIsSound};
-ghost use Rattle.ciel_run_line.specs.Causes.{Clashes, GoesRound, HasTooMany, IsTooDeep, TooLongOf};
-ghost use Rattle.ciel_run.specs.Ending.{IfEndless, IfFault, IfKeepFault, IfLogFull, IfNameClash, IfReadFault, IfSyntax, IfTooDeep, IfTooLong, IfTooMany};
+ghost use Rattle.ciel_run_line.specs.Causes.{Clashes, GoesRound, HasBadRecord, HasOtherHeader, IfOther, HasTooMany, IsTooDeep, TooLongBy};
+ghost use Rattle.ciel_run.specs.Ending.{IfBadLog, IfEndless, IfFault, IfKeepFault, IfLogFull, IfOtherJob, IfNameClash, IfReadFault, IfSyntax, IfTooDeep, IfTooLong, IfTooMany};
 ghost use Rattle.ciel_run_line.specs.Asked.{AsksFor, NoRun, ShowsEnd, StopsFor};
 ghost use Rattle.ciel_run_log.specs.Status.{status_of};
 ghost use Rattle.ciel_run.specs.Ending.{Answers, AsksLog, ComesBy, EndCause, HasRun, IsExpected, IsTrouble, LogSays, TellsParts, Writes, WritesAnswer};
 ghost use Rattle.ciel_run.specs.Ending.{WritesNothing, WritesPart, trace_of};
 ghost use Rattle.ciel_run_line.specs.Logging.{most};
 ghost use Rattle.ciel_run_line.specs.Keeping.{HasBytes};
-ghost use Rattle.ciel_run_line.specs.Line.{FitsIn, OfLine, OverFiles, OverLine, OverScript, files_of, is_plain, is_traced, log_of, paths, paths_in};
+ghost use Rattle.ciel_run_line.specs.Line.{FitsIn, OfLine, OverFiles, OverLine, OverScript, Surely, files_of, is_plain, is_traced, job_paths, last_paths};
+ghost use Rattle.ciel_run_line.specs.Line.{log_of, paths, paths_in, resume_of, resumed};
 ghost use Rattle.ciel_run_line.specs.Line.{workers_of};
 ghost use Rattle.ciel_run_log.specs.Message.{message_of};
 ghost use Rattle.ciel_run_line.specs.Runs.{EndsShown, IsDriven, NamesHaveOne, StartsFew, StartsMissing, StartsNeeded, WaitsHaveOne};
-ghost use Rattle.ciel_run_line.specs.Runs.{plan_of};
+ghost use Rattle.ciel_run_line.specs.Runs.{log_path, plan_of};
 ghost use Rattle.ciel_run_line.specs.Source.{IsAnswer, OfJob};
 ghost use Rattle.ciel_run_log.specs.Summary.{output_of};
 ghost use Rattle.ciel_run_log.specs.declared.why.Why.{Why};
@@ -98,7 +99,7 @@ where
     ensures none_begins { line_of words.now ≡ None → map entry_view result.journal.items ≡ [] }
 
     // What the gates tell.
-    ensures told { result.why ≢ Why.Memory → ToldBy (map entry_view result.journal.items)
+    ensures told { result.why ≢ Why.Memory → GatesTell (F.content files.old) (line_of words.now) (map entry_view result.journal.items)
         (told_of G.entered (workers_of (line_of words.now)) gates.old.items)
         (told_of G.entered (workers_of (line_of words.now)) gates.new.items) }
     ensures others { result.why ≢ Why.Memory → drop (workers_of (line_of words.now)) gates.new.items
@@ -118,18 +119,19 @@ where
         (λ w source inputs. IsAnswer source inputs (Meant.fault fault))) }
     ensures endless { IfEndless result.why (λ names. OverFiles (F.content files.old) words.now
         (λ w source inputs. OfJob source inputs (λ job. GoesRound w (map entry_view result.journal.items) job names))) }
-    ensures distinct { IfEndless result.why (IsDistinct same_text) }
+    ensures distinct { IfEndless result.why (λ names. OverLine (F.content files.old) words.now (λ w. Surely (F.content files.old) w (IsDistinct same_text names))) }
     ensures too_many { IfTooMany result.why (λ held given. OverFiles (F.content files.old) words.now
         (λ w source inputs. OfJob source inputs (λ job. HasTooMany w (map entry_view result.journal.items) job held given))) }
     ensures all_lost { result.why ≡ Why.AllLost
-        → OverLine (F.content files.old) words.now (λ w. (w.plain ≡ false) × AllAreLost (plan_of w) (map entry_view result.journal.items)) }
+        → OverLine (F.content files.old) words.now
+        (λ w. (w.plain ≡ false) × Surely (F.content files.old) w (AllAreLost (plan_of w) (map entry_view result.journal.items))) }
     ensures name_clash { IfNameClash result.why
         (λ kept given. OverFiles (F.content files.old) words.now
         (λ w source inputs. OfJob source inputs (λ job. Clashes w (map entry_view result.journal.items) job kept given))) }
     ensures too_deep { IfTooDeep result.why (λ depth. OverFiles (F.content files.old) words.now
         (λ w source inputs. OfJob source inputs (λ job. IsTooDeep w (map entry_view result.journal.items) job depth))) }
     ensures too_long { IfTooLong result.why (λ path at. OverLine (F.content files.old) words.now
-        (λ w. TooLongOf (F.content files.old) (files_of w) path at)) }
+        (λ w. TooLongBy (F.content files.old) w path at)) }
     ensures read_fault { IfReadFault result.why
         (λ path. Contains (paths (line_of words.now)) path × HasRisen (F.faults files.old) (F.faults files.new)) }
     ensures write_fault { result.why ≡ Why.WriteFault → HasRisen (O.faults out.old) (O.faults out.new)
@@ -149,9 +151,9 @@ where
         → OverFiles (F.content files.old) words.now (λ w source inputs. Answers w source inputs result.why) }
 
     // What was asked, and what was written where it doesn't end well.
-    ensures asked { AsksFor result.why (paths (line_of words.now)) (F.asked files.old) (F.asked files.new) }
+    ensures asked { AsksFor result.why (job_paths (line_of words.now)) (last_paths (line_of words.now)) (F.asked files.old) (F.asked files.new) }
     ensures order { OverLine (F.content files.old) words.now
-        (λ w. StopsFor (F.content files.old) (files_of w) (F.asked files.old) (F.asked files.new) result.why) }
+        (λ w. StopsFor (F.content files.old) (files_of w) w.resume (F.asked files.old) (F.asked files.new) result.why) }
     ensures part { result.why ≡ Why.WriteFault → OverFiles (F.content files.old) words.now
         (λ w source inputs. WritesPart w source inputs (O.written out.old) (O.written out.new)) }
     ensures nothing { WritesNothing result.why → out.new ≡ out.old }
@@ -173,6 +175,14 @@ where
     ensures log_told { OverFiles (F.content files.old) words.now
         (λ w source inputs. LogSays w source inputs (map entry_view result.journal.items) (HasRisen (D.faults keep.old) (D.faults keep.new))
         (D.files keep.new) result.why) }
+
+    // The log that a run goes on from. Where it is refused nothing ran.
+    ensures bad_log { IfBadLog result.why (λ path at. (resume_of (line_of words.now) ≡ Some path)
+        × OverLine (F.content files.old) words.now (λ w. HasBadRecord (F.content files.old) w path at)) }
+    ensures other_job { IfOtherJob result.why (λ path. (resume_of (line_of words.now) ≡ Some path)
+        × OverLine (F.content files.old) words.now (λ w. HasOtherHeader (F.content files.old) w path)) }
+    ensures of_other { ¬ HasRisen (F.faults files.old) (F.faults files.new) → OverLine (F.content files.old) words.now
+        (λ w. IfOther (F.content files.old) w (λ path. (result.why ≡ Why.OtherJob path) ⊎ (result.why ≡ Why.Memory))) }
 
     // What is put on the log: the journal's text where it is asked for, and the message, which is empty for an answer that was written.
     ensures message { ¬ HasRisen (J.faults log.old) (J.faults log.new)
@@ -247,11 +257,13 @@ where
         × OfLine (F.content files.old) line.now (λ source inputs. EndsShown line.now source inputs (map entry_view result.journal.items)))) }
     ensures log_full { IfLogFull result.why (λ path held. (held ≤ most) × HasBytes path (D.files keep.new) held) }
     ensures full { IfLogFull result.why (λ path held. Writes (F.content files.old) line.now (Tells (O.written out.old) (O.written out.new))) }
-    ensures unasked { line.now.log ≡ None → keep.new ≡ keep.old }
-    ensures keep_asked { AsksLog line.now.log result.why (D.asked keep.old) (D.asked keep.new) }
+    ensures unasked { log_path line.now ≡ None → keep.new ≡ keep.old }
+    ensures keep_asked { AsksLog (log_path line.now) result.why (D.asked keep.old) (D.asked keep.new) }
     ensures log_told { OfLine (F.content files.old) line.now
         (λ source inputs. LogSays line.now source inputs (map entry_view result.journal.items) (HasRisen (D.faults keep.old) (D.faults keep.new))
         (D.files keep.new) result.why) }
+    ensures of_other { ¬ HasRisen (F.faults files.old) (F.faults files.new)
+        → IfOther (F.content files.old) line.now (λ path. (result.why ≡ Why.OtherJob path) ⊎ (result.why ≡ Why.Memory)) }
     ensures cause { EndCause (F.content files.old) line.now (HasRisen (F.faults files.old) (F.faults files.new))
         (map entry_view result.journal.items) result.why }
     ensures write_fault { result.why ≡ Why.WriteFault → HasRisen (O.faults out.old) (O.faults out.new)
@@ -263,12 +275,13 @@ where
         → OfLine (F.content files.old) line.now (λ source inputs. EndsShown line.now source inputs (map entry_view result.journal.items)) }
     ensures empty { NoRun line.now.plain result.why → map entry_view result.journal.items ≡ [] }
     ensures kept { NoRun line.now.plain result.why → gates.new ≡ gates.old }
-    ensures told { result.why ≢ Why.Memory → ToldBy (map entry_view result.journal.items) (told_of G.entered line.now.workers gates.old.items)
+    ensures told { result.why ≢ Why.Memory → GatesTell (F.content files.old) (Some line.now) (map entry_view result.journal.items)
+        (told_of G.entered line.now.workers gates.old.items)
         (told_of G.entered line.now.workers gates.new.items) }
     ensures others { result.why ≢ Why.Memory → drop line.now.workers gates.new.items ≡ drop line.now.workers gates.old.items }
     ensures all { result.why ≢ Why.Memory → length gates.new.items ≡ 64 }
-    ensures asked { AsksFor result.why (paths_in (files_of line.now)) (F.asked files.old) (F.asked files.new) }
-    ensures order { StopsFor (F.content files.old) (files_of line.now) (F.asked files.old) (F.asked files.new) result.why }
+    ensures asked { AsksFor result.why (paths_in (files_of line.now)) (resumed line.now.resume) (F.asked files.old) (F.asked files.new) }
+    ensures order { StopsFor (F.content files.old) (files_of line.now) line.now.resume (F.asked files.old) (F.asked files.new) result.why }
     ensures message { ¬ HasRisen (J.faults log.old) (J.faults log.new)
         → Tells (J.written log.old) (J.written log.new) (trace_of line.now.trace result.journal.items ++ message_of result.why) }
     ensures message_part { TellsParts (J.written log.old) (J.written log.new) (trace_of line.now.trace result.journal.items) (message_of result.why) }
@@ -301,7 +314,7 @@ fn finish<O: Sink, J: Sink>(
     out: &mut O,
     log: &mut J,
 ) -> Why
-    ensures ends { (result ≡ Why.WriteFault) ⊎ IsTrouble line.now.log state result }
+    ensures ends { (result ≡ Why.WriteFault) ⊎ IsTrouble (log_path line.now) state result }
     ensures written { result ≢ Why.WriteFault → Tells (O.written out.old) (O.written out.new) (output_of line.now.generate answer.now) }
     ensures part { result ≡ Why.WriteFault → TellsPart (O.written out.old) (O.written out.new) (output_of line.now.generate answer.now) }
     ensures write_fault { result ≡ Why.WriteFault → HasRisen (O.faults out.old) (O.faults out.new)
@@ -319,14 +332,24 @@ fn finish<O: Sink, J: Sink>(
     }
 }
 
+/// The path of the log of a line's run, whether it is begun or gone on from.
+fn log_path(line: &Words) -> Option<&Txt>
+    ensures { option_map (λ p. p.now) result ≡ log_path line.now }
+{
+    match &line.log {
+        Some(path) => Some(path),
+        None => line.resume.as_ref(),
+    }
+}
+
 /// Why a call doesn't end well whose answer was written, where the log stands so.
 fn trouble(line: &Words, state: LogState) -> Why
-    ensures { IsTrouble line.now.log state result }
+    ensures { IsTrouble (log_path line.now) state result }
 {
     if state == LogState::Whole {
         return Why::Done;
     }
-    let Some(path) = &line.log else {
+    let Some(path) = log_path(line) else {
         return Why::Done;
     };
     match (state, path.share()) {
@@ -338,7 +361,7 @@ fn trouble(line: &Words, state: LogState) -> Why
 
 /// The same, and where it doesn't end well the message is put on the log.
 fn tell_trouble<J: Sink>(line: &Words, state: LogState, log: &mut J) -> Why
-    ensures trouble { IsTrouble line.now.log state result }
+    ensures trouble { IsTrouble (log_path line.now) state result }
     ensures never_falls { J.faults log.old ≤ J.faults log.new }
     ensures message { ¬ HasRisen (J.faults log.old) (J.faults log.new) → Tells (J.written log.old) (J.written log.new) (message_of result) }
     ensures message_part { TellsPart (J.written log.old) (J.written log.new) (message_of result) }

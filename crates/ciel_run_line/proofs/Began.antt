@@ -1,5 +1,5 @@
 -- From what a run with a log makes of its keeper, which began the log before, to what the line's call makes of it.
-use Rattle.std.proofs.Common.{◌≡◌, ◌≢◌, ◌⊎◌, ◌≤◌, ◌+◌, ◌∙◌, ◌<◌, ℕ, List, [], ◌∷◌, Option, Some, None, Result, Ok, Err, length, replicate, refl, sym, ap, subst, arith}
+use Rattle.std.proofs.Common.{◌≡◌, ◌≢◌, ◌⊎◌, ◌≤◌, ◌+◌, ◌∙◌, ◌<◌, ℕ, List, [], ◌∷◌, true, false, Option, Some, None, Result, Ok, Err, length, replicate, refl, sym, ap, subst, arith}
 use Rattle.std.proofs.Common.{inl, inr, ⊎_elim, suc}
 use Rattle.std.specs.Prelude.{IfSome}
 use Rattle.sky_base.specs.See as s
@@ -7,51 +7,27 @@ use Rattle.ciel_io.specs.Faults.{HasRisen}
 use Rattle.ciel_io.specs.HeldFiles.{bytes_at}
 use Rattle.ciel_io.specs.Kept.{Changes, Files, Replaced}
 use Rattle.ciel_io.specs.Tells.{Tells}
-use Rattle.ciel_io.proofs.Joined.{tells_more}
+use Rattle.ciel_io.proofs.Joined.{tells_none}
 use Rattle.ciel_journal.specs.Entries.{Entry}
 use Rattle.ciel_log.specs.Logs.{FullAt, HasDropped, LogWritten, Logs, WrittenPart}
 use Rattle.ciel_log.specs.declared.state.LogState.{LogState}
-use Rattle.ciel_run_logged.proofs.Files.{changed_at}
 use Rattle.ciel_log_records.specs.Records.{in_file}
 use Rattle.ciel_master.specs.declared.stop.RunEnd.{RunEnd}
 use Rattle.ciel_run_load.specs.Line.{Input}
 use Rattle.ciel_run_load.specs.Loading.{IsOf}
 use Rattle.ciel_run_logged.specs.Keeping.{AsksOnly, GrowsTo, IfOver, KeeperSeen, Keeps, StandsSo, ToldBefore}
-use Rattle.ciel_run_line.specs.Answering.{end_view}
+use Rattle.ciel_run_line.specs.Answering.{NoLogBy, WhyNot, end_view}
 use Rattle.ciel_run_line.specs.Keeping.{HasBytes, KeepsLog, LogTold, OfLog, StandsBy, Told, header_of}
-use Rattle.ciel_run_line.specs.Runs.{digest_of, plan_of}
+use Rattle.ciel_run_line.specs.Runs.{digest_of, log_at, log_path, plan_of}
+use Rattle.ciel_run_resumed.proofs.Began.{asks, stands, stood}
+use Rattle.ciel_run_resumed.specs.Keeping.{KeptBy}
+use Rattle.ciel_run_resumed.specs.Resuming.{FileTells, RefusesSo}
+use Rattle.ciel_run_resumed.specs.declared.run.NotResumed.{NotResumed}
 use Rattle.ciel_run_log.specs.declared.why.Why.{Why}
+use Rattle.ciel_words.specs.Sound.{LineIsSound}
 use Rattle.ciel_words.specs.declared.words.Words.{Words}
 use Rattle.line_kit.specs.Gives.{gives}
 use Rattle.ciel_run_line.proofs.Comes.{of_job}
-
-module _ (path : List ℕ) (header : List ℕ) (old begun now : KeeperSeen) (placed : Changes old.files begun.files path (Replaced (in_file header)))
-    (rises : old.faults ≤ begun.faults) where
-  -- what stood there when the run began is the header
-  stood : (files : Files) → begun.files ≡ Some files → bytes_at files path ≡ in_file header
-  stood files e = (changed_at old.files begun.files path (Replaced (in_file header)) placed files e).2
-
-  risen : HasRisen begun.faults now.faults → HasRisen old.faults now.faults
-  risen r = ⊎_elim (λ (less : begun.faults < now.faults). inl (omega (arith, rises, less))) (λ e. inr e) r
-
-  grown : (held more : ℕ) → held ≡ length (in_file header) → GrowsTo path held more begun.files now.files → HasBytes path now.files more
-  grown held more e g = of now.files g
-    where
-      of : (o : Option Files) → GrowsTo path held more begun.files o → HasBytes path o more
-      of None h = tt
-      of (Some files) h =
-          let was : length (bytes_at h.0 path) ≡ length (in_file header) = ap length (stood h.0 h.1) in
-          let all = h.2 in
-          omega (arith, e, was, all)
-
-  pub stands : (held : ℕ) → held ≡ length (in_file header) → (state : LogState) → StandsSo path held begun now state → StandsBy path old now state
-  stands held e LogState.Whole s = tt
-  stands held e LogState.Failed s = risen s
-  stands held e (LogState.Full more) s = (s.0, grown held more e s.1)
-  stands held e LogState.Memory s = tt
-
-  pub asks : Tells old.asked begun.asked (path ∷ []) → AsksOnly path begun.asked now.asked → AsksOnly path old.asked now.asked
-  asks t a = (suc a.0, tells_more old.asked begun.asked now.asked (path ∷ []) (replicate a.0 path) t a.1)
 
 -- ---- by the line
 
@@ -64,11 +40,11 @@ unbegun_keeps log path e old now why state (inl m) =
 unbegun_keeps log path e old now why state (inr f) =
     subst (λ (x : Option (List ℕ) × Why). KeepsLog x.0 old now (Err x.1) state) (λ i. (sym e i, sym f.0 i)) (refl, (1, f.2), f.1)
 
-module _ (w : Words) (path : List ℕ) (named : w.log ≡ Some path) (header : List ℕ) (old begun now : KeeperSeen)
+module _ (w : Words) (path : List ℕ) (named : log_path w ≡ Some path) (header : List ℕ) (old begun now : KeeperSeen)
     (placed : Changes old.files begun.files path (Replaced (in_file header))) (rises : old.faults ≤ begun.faults)
     (asked : Tells old.asked begun.asked (path ∷ [])) (held : ℕ) (size : held ≡ length (in_file header)) (state : LogState) where
   kept : Keeps path held begun now state → AsksOnly path old.asked now.asked × StandsBy path old now state
-  kept k = (asks path header old begun now placed rises asked k.asked, stands path header old begun now placed rises held size state k.stands)
+  kept k = (asks path (in_file header) old begun now placed rises asked k.asked, stands path (in_file header) old begun now placed rises held size state k.stands)
 
   -- what the run makes of the keeper, by its end
   by_end : (end : RunEnd) → (end ≢ RunEnd.Memory → Keeps path held begun now state) → KeepsLog (Some path) old now (end_view end) state
@@ -80,7 +56,7 @@ module _ (w : Words) (path : List ℕ) (named : w.log ≡ Some path) (header : L
   by_end (RunEnd.NameClash one other) k = kept (k (λ e. cc))
   by_end RunEnd.Memory k = tt
 
-  pub run_keeps : (end : RunEnd) → (end ≢ RunEnd.Memory → Keeps path held begun now state) → KeepsLog w.log old now (end_view end) state
+  pub run_keeps : (end : RunEnd) → (end ≢ RunEnd.Memory → Keeps path held begun now state) → KeepsLog (log_path w) old now (end_view end) state
   run_keeps end k = subst (λ (x : Option (List ℕ)). KeepsLog x old now (end_view end) state) (sym named) (by_end end k)
 
   -- what the file tells of the run
@@ -98,7 +74,7 @@ module _ (w : Words) (path : List ℕ) (named : w.log ≡ Some path) (header : L
     at_path None t l = tt
     at_path (Some fs) t l = λ clean.
         let there : bytes_at t.0 path ≡ in_file (header_of w source inputs) =
-        stood path header old begun now placed rises t.0 t.1 ∙ ap in_file same in
+        stood path (in_file header) old begun now placed rises t.0 t.1 ∙ ap in_file same in
         let told = l (header_of w source inputs) t.0 t.1 there clean in (
           of_job source inputs job
               (λ j. WrittenPart (digest_of w.names) j gives (plan_of w) (header_of w source inputs) J (state ≡ LogState.Failed) (bytes_at fs path)) of told.0,
@@ -138,8 +114,19 @@ pub plain_keeps : (log : Option (List ℕ)) → ((path : List ℕ) → log ≡ S
 plain_keeps None n k r = (refl, refl)
 plain_keeps (Some path) n k r = absurd (n path refl)
 
+-- a sequential run has none
+pub plain_no_log : (w : Words) → LineIsSound w → w.plain ≡ true → (path : List ℕ) → log_path w ≡ Some path → ⊥
+plain_no_log w s p path e = at w.log refl
+  where
+    clash : w.plain ≡ false → ⊥
+    clash q = let bad : false ≡ true = sym q ∙ p in cc
+
+    at : (o : Option (List ℕ)) → w.log ≡ o → ⊥
+    at None n = clash (s.resumed path (sym (ap (λ (x : Option (List ℕ)). log_at x w.resume) n) ∙ e)).0
+    at (Some q) y = clash (s.logged q y).0
+
 pub untold : (w : Words) (source : List ℕ) (inputs : List Input) (J : List Entry) (files : Option Files) (state : LogState)
-    → ((path : List ℕ) → w.log ≡ Some path → ⊥) → (r : Result (List ℕ) Why) → LogTold w source inputs J files state r
+    → ((path : List ℕ) → log_path w ≡ Some path → ⊥) → (r : Result (List ℕ) Why) → LogTold w source inputs J files state r
 untold w source inputs J files state n (Ok a) = λ path e. absurd (n path e)
 untold w source inputs J files state n (Err (Why.Fault fault)) = λ path e. absurd (n path e)
 untold w source inputs J files state n (Err (Why.Endless names)) = λ path e. absurd (n path e)
@@ -155,4 +142,124 @@ untold w source inputs J files state n (Err Why.Memory) = tt
 untold w source inputs J files state n (Err (Why.TooLongInput path at)) = tt
 untold w source inputs J files state n (Err (Why.TooDeepPlain depth)) = tt
 untold w source inputs J files state n (Err (Why.KeepFault path)) = tt
+untold w source inputs J files state n (Err (Why.BadLog path at)) = tt
+untold w source inputs J files state n (Err (Why.OtherJob path)) = tt
 untold w source inputs J files state n (Err (Why.LogFull path held)) = tt
+
+-- ---- where a log is gone on from
+
+onward_end : (path : List ℕ) (old now : KeeperSeen) (state : LogState) (end : RunEnd) → (end ≢ RunEnd.Memory → KeptBy path old now state)
+    → KeepsLog (Some path) old now (end_view end) state
+onward_end path old now state (RunEnd.Answer text) k = let y = k (λ e. cc) in (y.asked, y.stands)
+onward_end path old now state (RunEnd.Fault fault) k = let y = k (λ e. cc) in (y.asked, y.stands)
+onward_end path old now state (RunEnd.Endless names) k = let y = k (λ e. cc) in (y.asked, y.stands)
+onward_end path old now state (RunEnd.TooMany count given) k = let y = k (λ e. cc) in (y.asked, y.stands)
+onward_end path old now state RunEnd.AllLost k = let y = k (λ e. cc) in (y.asked, y.stands)
+onward_end path old now state (RunEnd.NameClash one other) k = let y = k (λ e. cc) in (y.asked, y.stands)
+onward_end path old now state RunEnd.Memory k = tt
+
+refused_end : (path : List ℕ) (old now : KeeperSeen) (not : NotResumed) (why : Why) → WhyNot not path why → RefusesSo path old now not
+    → KeepsLog (Some path) old now (Err why) LogState.Whole
+refused_end path old now NotResumed.OtherJob why (inl e) r =
+    subst (λ (y : Why). KeepsLog (Some path) old now (Err y) LogState.Whole) (sym e)
+    (subst (λ (k : KeeperSeen). AsksOnly path old.asked k.asked) (sym r) (0, tells_none old.asked), tt)
+refused_end path old now NotResumed.OtherJob why (inr e) r = subst (λ (y : Why). KeepsLog (Some path) old now (Err y) LogState.Whole) (sym e) tt
+refused_end path old now (NotResumed.BadLog at) why (inl e) r =
+    subst (λ (y : Why). KeepsLog (Some path) old now (Err y) LogState.Whole) (sym e)
+    (subst (λ (k : KeeperSeen). AsksOnly path old.asked k.asked) (sym r) (0, tells_none old.asked), tt)
+refused_end path old now (NotResumed.BadLog at) why (inr e) r = subst (λ (y : Why). KeepsLog (Some path) old now (Err y) LogState.Whole) (sym e) tt
+refused_end path old now NotResumed.Failed why (inl e) r =
+    subst (λ (y : Why). KeepsLog (Some path) old now (Err y) LogState.Whole) (sym e) (refl, (1, r.1), r.0)
+refused_end path old now NotResumed.Failed why (inr e) r = subst (λ (y : Why). KeepsLog (Some path) old now (Err y) LogState.Whole) (sym e) tt
+refused_end path old now NotResumed.Memory why e r = subst (λ (y : Why). KeepsLog (Some path) old now (Err y) LogState.Whole) (sym e) tt
+
+module _ (w : Words) (path : List ℕ) (named : log_path w ≡ Some path) (old now : KeeperSeen) where
+  pub onward_keeps : (state : LogState) (end : RunEnd) → (end ≢ RunEnd.Memory → KeptBy path old now state)
+      → KeepsLog (log_path w) old now (end_view end) state
+  onward_keeps state end k =
+      subst (λ (x : Option (List ℕ)). KeepsLog x old now (end_view end) state) (sym named) (onward_end path old now state end k)
+
+  pub refused_keeps : (not : NotResumed) (why : Why) → WhyNot not path why → RefusesSo path old now not
+      → KeepsLog (log_path w) old now (Err why) LogState.Whole
+  refused_keeps not why y r =
+      subst (λ (x : Option (List ℕ)). KeepsLog x old now (Err why) LogState.Whole) (sym named) (refused_end path old now not why y r)
+
+  -- what the file tells of the run
+  module _ (source : List ℕ) (inputs : List Input) (J : List Entry) (job : s.Job) (of : IsOf source inputs job) (state : LogState) where
+    abbrev Tells_there : Type 0
+    Tells_there = FileTells (digest_of w.names) job gives (plan_of w) (header_of w source inputs) path now.files J state
+
+    onward_path : (files : Option Files) → FileTells (digest_of w.names) job gives (plan_of w) (header_of w source inputs) path files J state
+        → IfSome files (λ fs. (HasDropped (bytes_at fs path) → ⊥) → Told w source inputs J state (bytes_at fs path))
+    onward_path None t = tt
+    onward_path (Some fs) t = λ clean. let told = t clean in (
+      of_job source inputs job
+          (λ j. WrittenPart (digest_of w.names) j gives (plan_of w) (header_of w source inputs) J (state ≡ LogState.Failed) (bytes_at fs path)) of told.0,
+      λ whole. of_job source inputs job
+          (λ j. Logs (digest_of w.names) j gives (plan_of w) (header_of w source inputs) J (bytes_at fs path)) of (told.1 whole),
+      λ has full. of_job source inputs job
+          (λ j. FullAt (digest_of w.names) j gives (plan_of w) (header_of w source inputs) J has (bytes_at fs path)) of (told.2 has full),
+    )
+
+    onward_log : Tells_there → OfLog w source inputs J now.files (Told w source inputs J state)
+    onward_log t p e =
+        let both : Some path ≡ Some p = sym named ∙ e in
+        let one : path ≡ p = cc in
+        subst (λ (q : List ℕ). IfSome now.files (λ fs. (HasDropped (bytes_at fs q) → ⊥) → Told w source inputs J state (bytes_at fs q))) one
+        (onward_path now.files t)
+
+    pub onward_told : (end : RunEnd) → IfOver end Tells_there → LogTold w source inputs J now.files state (end_view end)
+    onward_told (RunEnd.Answer text) t = onward_log t
+    onward_told (RunEnd.Fault fault) t = onward_log t
+    onward_told (RunEnd.Endless names) t = onward_log t
+    onward_told RunEnd.AllLost t = onward_log t
+    onward_told (RunEnd.TooMany count given) t = tt
+    onward_told (RunEnd.NameClash one other) t = tt
+    onward_told RunEnd.Memory t = tt
+
+-- where it wasn't gone on from nothing is told
+pub refused_told : (w : Words) (source : List ℕ) (inputs : List Input) (J : List Entry) (files : Option Files) (state : LogState) (path : List ℕ)
+    (not : NotResumed) (why : Why) → WhyNot not path why → LogTold w source inputs J files state (Err why)
+refused_told w source inputs J files state path NotResumed.OtherJob why (inl e) =
+    subst (λ (y : Why). LogTold w source inputs J files state (Err y)) (sym e) tt
+refused_told w source inputs J files state path NotResumed.OtherJob why (inr e) =
+    subst (λ (y : Why). LogTold w source inputs J files state (Err y)) (sym e) tt
+refused_told w source inputs J files state path (NotResumed.BadLog at) why (inl e) =
+    subst (λ (y : Why). LogTold w source inputs J files state (Err y)) (sym e) tt
+refused_told w source inputs J files state path (NotResumed.BadLog at) why (inr e) =
+    subst (λ (y : Why). LogTold w source inputs J files state (Err y)) (sym e) tt
+refused_told w source inputs J files state path NotResumed.Failed why (inl e) =
+    subst (λ (y : Why). LogTold w source inputs J files state (Err y)) (sym e) tt
+refused_told w source inputs J files state path NotResumed.Failed why (inr e) =
+    subst (λ (y : Why). LogTold w source inputs J files state (Err y)) (sym e) tt
+refused_told w source inputs J files state path NotResumed.Memory why e =
+    subst (λ (y : Why). LogTold w source inputs J files state (Err y)) (sym e) tt
+
+-- where its run wasn't planned, for want of memory
+pub unplanned_keeps : (log : Option (List ℕ)) (k : KeeperSeen) (state : LogState) → state ≡ LogState.Whole → KeepsLog log k k (Err Why.Memory) state
+unplanned_keeps None k state e = (refl, e)
+unplanned_keeps (Some path) k state e = tt
+
+-- where the log that it goes on from wasn't read
+pub unread_keeps : (content : List ℕ → Option (List ℕ)) (resume log : Option (List ℕ)) (risen : Type 0) (k : KeeperSeen) (why : Why)
+    → NoLogBy content resume risen why → (state : LogState) → state ≡ LogState.Whole → KeepsLog log k k (Err why) state
+unread_keeps content resume None risen k why n state e = (refl, e)
+unread_keeps content resume (Some path) risen k Why.Memory n state e = tt
+unread_keeps content resume (Some path) risen k (Why.ReadFault p) n state e =
+    subst (KeepsLog (Some path) k k (Err (Why.ReadFault p))) (sym e) ((0, tells_none k.asked), tt)
+unread_keeps content resume (Some path) risen k (Why.TooLongInput p at) n state e =
+    subst (KeepsLog (Some path) k k (Err (Why.TooLongInput p at))) (sym e) ((0, tells_none k.asked), tt)
+unread_keeps content resume (Some path) risen k Why.Done n state e = absurd n
+unread_keeps content resume (Some path) risen k Why.Usage n state e = absurd n
+unread_keeps content resume (Some path) risen k (Why.Syntax kind line col) n state e = absurd n
+unread_keeps content resume (Some path) risen k (Why.Fault fault) n state e = absurd n
+unread_keeps content resume (Some path) risen k (Why.Endless names) n state e = absurd n
+unread_keeps content resume (Some path) risen k (Why.TooMany held given) n state e = absurd n
+unread_keeps content resume (Some path) risen k Why.AllLost n state e = absurd n
+unread_keeps content resume (Some path) risen k (Why.NameClash one other) n state e = absurd n
+unread_keeps content resume (Some path) risen k Why.WriteFault n state e = absurd n
+unread_keeps content resume (Some path) risen k (Why.TooDeepPlain depth) n state e = absurd n
+unread_keeps content resume (Some path) risen k (Why.KeepFault p) n state e = absurd n
+unread_keeps content resume (Some path) risen k (Why.BadLog p at) n state e = absurd n
+unread_keeps content resume (Some path) risen k (Why.OtherJob p) n state e = absurd n
+unread_keeps content resume (Some path) risen k (Why.LogFull p held) n state e = absurd n

@@ -1,5 +1,5 @@
 -- From what a job comes to what the line comes to whose job it is.
-use Rattle.std.proofs.Common.{◌≡◌, ◌≢◌, ℕ, List, [], ◌⊎◌, inl, inr, true, false, Option, Some, None, Result, Ok, Err, IfErr, IfOk, refl, sym, ap, subst, ◌∙◌}
+use Rattle.std.proofs.Common.{◌≡◌, ◌≢◌, ◌++◌, ℕ, List, [], ◌⊎◌, inl, inr, true, false, Option, Some, None, Result, Ok, Err, IfErr, IfOk, refl, sym, ap, subst, ◌∙◌}
 use Rattle.sky_base.specs.See as s
 use Rattle.sky_base.specs.See.{Answered}
 use Rattle.ciel_io.specs.Tells.{Tells}
@@ -9,12 +9,16 @@ use Rattle.ciel_run_load.specs.Line as files
 use Rattle.ciel_run_load.specs.Line.{Input}
 use Rattle.ciel_run_load.specs.Loading.{IsOf}
 use Rattle.ciel_words.specs.declared.words.Words.{Words}
-use Rattle.ciel_run_line.specs.Causes.{AnswersSo, CauseOf, JobCause, OfRun}
+use Rattle.ciel_run_line.specs.Causes.{AnswersSo, CauseOf, HasBadRecord, HasOtherHeader, JobCause, OfRun, OtherEnds, Way, WaySo}
 use Rattle.ciel_run_line.specs.Asked.{AsksFor, AsksOf, NoRun, NoRunOf, ShowsResult, StopsFor}
-use Rattle.ciel_run_line.specs.Line.{FitsIn, OfLine, StandsIn, files_of, paths_in}
-use Rattle.ciel_run_line.specs.Runs.{EndsShown, IsDriven, RootEnds, plan_of, told_of}
+use Rattle.ciel_run_line.specs.Line.{FitsIn, OfJobFiles, OfLine, Stands, StandsIn, Surely, SurelyAt, files_of, paths_in}
+use Rattle.ciel_run_line.specs.Resuming.{RefusesLog}
+use Rattle.ciel_run_line.specs.Runs.{EndsShown, IsDriven, RootEnds, digest_of, plan_of, told_of}
 use Rattle.ciel_run_line.specs.Source.{OfJob, job_of, over_lines}
 use Rattle.ciel_run_log.specs.declared.why.Why.{Why}
+use Rattle.ciel_log_file.specs.Whole.{BeginsAt, BeginsOther}
+use Rattle.ciel_run_line.specs.Keeping.{header_of}
+use Rattle.line_kit.specs.Gives.{gives}
 use Rattle.ciel_io.proofs.Joined.{part_whole}
 
 abbrev Files : Type 0
@@ -24,138 +28,231 @@ Files = List ℕ → Option (List ℕ)
 pub of_job : (source : List ℕ) (inputs : List Input) (job : s.Job) (P : s.Job → Type 0) → IsOf source inputs job → P job → OfJob source inputs P
 of_job source inputs job P o p = (job.script, o.0, subst (λ (is : List Input). P (job_of job.script is)) o.1 p)
 
+-- ---- facts that need the log's premise, where the run goes on from one
+
+module _ (content : Files) (w : Words) where
+  pub surely_of : (P : Type 0) → (w.resume ≡ None → P) → OfLine content w (λ source inputs. P) → Surely content w P
+  surely_of P alone onward = at w.resume refl
+    where
+      at : (o : Option (List ℕ)) → w.resume ≡ o → SurelyAt o P (OfLine content w (λ source inputs. P))
+      at None e = alone e
+      at (Some path) e = onward
+
+  pub surely_line : (P : Type 0) → Surely content w P → OfLine content w (λ source inputs. P)
+  surely_line P p = at w.resume p
+    where
+      at : (o : Option (List ℕ)) → SurelyAt o P (OfLine content w (λ source inputs. P)) → OfLine content w (λ source inputs. P)
+      at None q = λ source inputs st. q
+      at (Some path) q = q
+
+  pub surely_map : (P Q : Type 0) → (P → Q) → Surely content w P → Surely content w Q
+  surely_map P Q f p = at w.resume p
+    where
+      at : (o : Option (List ℕ)) → SurelyAt o P (OfLine content w (λ source inputs. P)) → SurelyAt o Q (OfLine content w (λ source inputs. Q))
+      at None q = f q
+      at (Some path) q = λ source inputs st. f (q source inputs st)
+
 module _ (content : Files) (w : Words) (risen : Type 0) (J : List Entry) (read : List ℕ) (job : s.Job) where
   abbrev IsTheJob : Type 0
-  IsTheJob = OfLine content w (λ source inputs. FitsIn (files_of w) source inputs × IsOf source inputs job × (read ≡ source))
+  IsTheJob = OfJobFiles content w (λ source inputs. FitsIn (files_of w) source inputs × IsOf source inputs job × (read ≡ source))
 
-  pub of_run : (P : s.Job → Type 0) → IsTheJob → P job → OfRun content w risen J P
-  of_run P t p = λ source inputs st. ((t source inputs st).0, of_job source inputs job P (t source inputs st).1 p)
+  abbrev Sure : Type 0 → Type 0
+  Sure P = Surely content w P
+
+  pub of_run : (P : s.Job → Type 0) → IsTheJob → Sure (P job) → OfRun content w risen J P
+  of_run P t p = λ source inputs st. (
+    (t source inputs st.there).0,
+    of_job source inputs job P (t source inputs st.there).1 (surely_line content w (P job) p source inputs st),
+  )
+
+  -- that the job was read
+  of_any : IsTheJob → OfRun content w risen J (λ j. Unit {0})
+  of_any t = λ source inputs st. ((t source inputs st.there).0, of_job source inputs job (λ j. Unit {0}) (t source inputs st.there).1 tt)
 
   -- ---- causes
 
-  cause : IsTheJob → (why : Why) → JobCause w J job why → CauseOf content w risen J why
-  cause t (Why.Fault fault) c = of_run (λ j. JobCause w J j (Why.Fault fault)) t c
-  cause t (Why.Endless names) c = (c.0, c.3, of_run (λ j. JobCause w J j (Why.Endless names)) t c)
-  cause t (Why.TooMany held None) c = (c.0, of_run (λ j. JobCause w J j (Why.TooMany held None)) t c)
-  cause t (Why.TooMany held (Some given)) c = (c.0, of_run (λ j. JobCause w J j (Why.TooMany held (Some given))) t c)
-  cause t Why.AllLost c = (c.0, c.1, of_run (λ j. Unit {0}) t tt)
-  cause t (Why.NameClash kept given) c = (c.0, of_run (λ j. JobCause w J j (Why.NameClash kept given)) t c)
-  cause t (Why.TooDeepPlain depth) c = (c.0, of_run (λ j. JobCause w J j (Why.TooDeepPlain depth)) t c)
-  cause t Why.Memory c = tt
-  cause t Why.Done c = absurd c
-  cause t Why.Usage c = absurd c
-  cause t (Why.Syntax kind line col) c = absurd c
-  cause t (Why.ReadFault path) c = absurd c
-  cause t Why.WriteFault c = absurd c
-  cause t (Why.TooLongInput path at) c = absurd c
-  cause t (Why.KeepFault path) c = (c.0, c.1, c.2, of_run (λ j. Unit {0}) t tt)
-  cause t (Why.LogFull path held) c = absurd c
+  abbrev Refused : Why → Type 0
+  Refused (Why.BadLog path at) = w.resume ≡ Some path → HasBadRecord content w path at
+  Refused (Why.OtherJob path) = w.resume ≡ Some path → HasOtherHeader content w path
+  Refused _ = Unit {0}
 
-  pub causes : IsTheJob → (r : Result (List ℕ) Why) → AnswersSo w J job r → IfErr r (CauseOf content w risen J)
-  causes t (Ok b) a = tt
-  causes t (Err why) a = cause t why a.none
+  cause : IsTheJob → (why : Why) → Way w J why → Sure (JobCause w J job why) → Refused why → CauseOf content w risen J why
+  cause t (Why.Fault fault) v c r = of_run (λ j. JobCause w J j (Why.Fault fault)) t c
+  cause t (Why.Endless names) v c r = (v, surely_map content w _ _ (λ g. g.3) c, of_run (λ j. JobCause w J j (Why.Endless names)) t c)
+  cause t (Why.TooMany held None) v c r = (v, of_run (λ j. JobCause w J j (Why.TooMany held None)) t c)
+  cause t (Why.TooMany held (Some given)) v c r = (v, of_run (λ j. JobCause w J j (Why.TooMany held (Some given))) t c)
+  cause t Why.AllLost v c r = (v, surely_map content w _ _ (λ g. g.1) c, of_any t)
+  cause t (Why.NameClash kept given) v c r = (v, of_run (λ j. JobCause w J j (Why.NameClash kept given)) t c)
+  cause t (Why.TooDeepPlain depth) v c r = (v, of_run (λ j. JobCause w J j (Why.TooDeepPlain depth)) t c)
+  cause t Why.Memory v c r = tt
+  cause t Why.Done v c r = absurd v
+  cause t Why.Usage v c r = absurd v
+  cause t (Why.Syntax kind line col) v c r = absurd v
+  cause t (Why.ReadFault path) v c r = absurd v
+  cause t Why.WriteFault v c r = absurd v
+  cause t (Why.TooLongInput path at) v c r = absurd v
+  cause t (Why.KeepFault path) v c r = (v.0, v.1, v.2, of_any t)
+  cause t (Why.BadLog path at) v c r = (v.0, v.1, v.2, r v.1)
+  cause t (Why.OtherJob path) v c r = (v.0, v.1, v.2, r v.1)
+  cause t (Why.LogFull path held) v c r = absurd v
 
-  pub bytes : IsTheJob → (r : Result (List ℕ) Why) → AnswersSo w J job r
+  -- what was refused of the log that was read is so of the file
+  module _ (log : Option (List ℕ)) (some : (path bytes : List ℕ) → w.resume ≡ Some path → content path ≡ Some bytes → log ≡ Some bytes) where
+    refused : IsTheJob → (why : Why) → RefusesLog w read job log why → Refused why
+    refused t (Why.BadLog path at) f = λ e source inputs st. (
+      (t source inputs st).0,
+      of_job source inputs job (λ j. (bytes : List ℕ) → content path ≡ Some bytes
+          → BeginsAt bytes (header_of w source inputs) at) (t source inputs st).1
+          (λ bytes there. subst (λ (x : List ℕ × List Input). BeginsAt bytes (header_of w x.0 x.1) at)
+          (λ i. ((t source inputs st).2 i, (t source inputs st).1.1 i)) (f bytes (some path bytes e there))),
+    )
+    refused t (Why.OtherJob path) f = λ e source inputs st. (
+      (t source inputs st).0,
+      of_job source inputs job (λ j. (bytes : List ℕ) → content path ≡ Some bytes → BeginsOther bytes (header_of w source inputs))
+          (t source inputs st).1
+          (λ bytes there. subst (λ (x : List ℕ × List Input). BeginsOther bytes (header_of w x.0 x.1))
+          (λ i. ((t source inputs st).2 i, (t source inputs st).1.1 i)) (f bytes (some path bytes e there))),
+    )
+    refused t Why.Done f = tt
+    refused t Why.Usage f = tt
+    refused t (Why.Syntax kind line col) f = tt
+    refused t (Why.Fault fault) f = tt
+    refused t (Why.Endless names) f = tt
+    refused t (Why.TooMany held given) f = tt
+    refused t Why.AllLost f = tt
+    refused t (Why.NameClash kept given) f = tt
+    refused t (Why.ReadFault path) f = tt
+    refused t Why.WriteFault f = tt
+    refused t Why.Memory f = tt
+    refused t (Why.TooLongInput path at) f = tt
+    refused t (Why.TooDeepPlain depth) f = tt
+    refused t (Why.KeepFault path) f = tt
+    refused t (Why.LogFull path held) f = tt
+
+    pub causes : IsTheJob → (r : Result (List ℕ) Why) → WaySo w J r → Sure (AnswersSo w J job r) → IfErr r (RefusesLog w read job log)
+        → IfErr r (CauseOf content w risen J)
+    causes t (Ok b) v a f = tt
+    causes t (Err why) v a f = cause t why v.way (surely_map content w _ _ (λ x. x.none) a) (refused t why f)
+
+  pub bytes : IsTheJob → (r : Result (List ℕ) Why) → Sure (AnswersSo w J job r)
       → IfOk r (λ b. OfRun content w risen J (λ j. s.Means j over_lines (Answered.bytes b)))
-  bytes t (Ok b) a = of_run (λ j. s.Means j over_lines (Answered.bytes b)) t a.bytes
+  bytes t (Ok b) a = of_run (λ j. s.Means j over_lines (Answered.bytes b)) t (surely_map content w _ _ (λ x. x.bytes) a)
   bytes t (Err why) a = tt
 
   -- ---- the journal
 
-  driven_of : IsTheJob → (J ≡ []) ⊎ DrivenJournal (told_of w job) (plan_of w) J → OfLine content w (λ source inputs. IsDriven w source inputs J)
-  driven_of t (inl e) = λ source inputs st. inl e
-  driven_of t (inr d) = λ source inputs st. inr (of_job source inputs job (λ j. DrivenJournal (told_of w j) (plan_of w) J) (t source inputs st).1 d)
+  driven_at : (source : List ℕ) (inputs : List Input) → IsOf source inputs job → (J ≡ []) ⊎ DrivenJournal (told_of w job) (plan_of w) J
+      → IsDriven w source inputs J
+  driven_at source inputs o (inl e) = inl e
+  driven_at source inputs o (inr d) = inr (of_job source inputs job (λ j. DrivenJournal (told_of w j) (plan_of w) J) o d)
 
-  pub driven : IsTheJob → (r : Result (List ℕ) Why) → AnswersSo w J job r → OfLine content w (λ source inputs. IsDriven w source inputs J)
-  driven t r a = driven_of t a.driven
+  pub driven : IsTheJob → (r : Result (List ℕ) Why) → Sure (AnswersSo w J job r) → OfLine content w (λ source inputs. IsDriven w source inputs J)
+  driven t r a = λ source inputs st.
+      driven_at source inputs (t source inputs st.there).1 (surely_line content w _ a source inputs st).driven
 
-  root_of : IsTheJob → RootEnds w J job → OfLine content w (λ source inputs. EndsShown w source inputs J)
-  root_of t x = λ source inputs st. of_job source inputs job (RootEnds w J) (t source inputs st).1 x
+  root_of : IsTheJob → OfLine content w (λ source inputs. RootEnds w J job) → OfLine content w (λ source inputs. EndsShown w source inputs J)
+  root_of t x = λ source inputs st. of_job source inputs job (RootEnds w J) (t source inputs st.there).1 (x source inputs st)
 
-  pub root : IsTheJob → (r : Result (List ℕ) Why) → AnswersSo w J job r → w.plain ≡ false → ShowsResult r
+  pub root : IsTheJob → (r : Result (List ℕ) Why) → WaySo w J r → Sure (AnswersSo w J job r) → w.plain ≡ false → ShowsResult r
       → OfLine content w (λ source inputs. EndsShown w source inputs J)
-  root t (Ok b) a p x = root_of t (a.root p)
-  root t (Err (Why.Fault fault)) a p x = root_of t (a.root p)
-  root t (Err Why.Done) a p x = absurd a.none
-  root t (Err Why.WriteFault) a p x = absurd a.none
-  root t (Err Why.Usage) a p x = absurd x
-  root t (Err (Why.Syntax kind line col)) a p x = absurd x
-  root t (Err (Why.Endless names)) a p x = absurd x
-  root t (Err (Why.TooMany held given)) a p x = absurd x
-  root t (Err Why.AllLost) a p x = absurd x
-  root t (Err (Why.NameClash kept given)) a p x = absurd x
-  root t (Err (Why.ReadFault path)) a p x = absurd x
-  root t (Err Why.Memory) a p x = absurd x
-  root t (Err (Why.TooLongInput path at)) a p x = absurd x
-  root t (Err (Why.TooDeepPlain depth)) a p x = absurd x
-  root t (Err (Why.KeepFault path)) a p x = absurd x
-  root t (Err (Why.LogFull path held)) a p x = absurd a.none
+  root t (Ok b) v a p x = root_of t (λ source inputs st. (surely_line content w _ a source inputs st).root p)
+  root t (Err (Why.Fault fault)) v a p x = root_of t (λ source inputs st. (surely_line content w _ a source inputs st).root p)
+  root t (Err Why.Done) v a p x = absurd v.way
+  root t (Err Why.WriteFault) v a p x = absurd v.way
+  root t (Err Why.Usage) v a p x = absurd x
+  root t (Err (Why.Syntax kind line col)) v a p x = absurd x
+  root t (Err (Why.Endless names)) v a p x = absurd x
+  root t (Err (Why.TooMany held given)) v a p x = absurd x
+  root t (Err Why.AllLost) v a p x = absurd x
+  root t (Err (Why.NameClash kept given)) v a p x = absurd x
+  root t (Err (Why.ReadFault path)) v a p x = absurd x
+  root t (Err Why.Memory) v a p x = absurd x
+  root t (Err (Why.TooLongInput path at)) v a p x = absurd x
+  root t (Err (Why.TooDeepPlain depth)) v a p x = absurd x
+  root t (Err (Why.KeepFault path)) v a p x = absurd x
+  root t (Err (Why.BadLog path at)) v a p x = absurd x
+  root t (Err (Why.OtherJob path)) v a p x = absurd x
+  root t (Err (Why.LogFull path held)) v a p x = absurd v.way
 
   -- ---- the log
 
   -- what the log's file tells of the run of this job
-  pub logged : (P : List ℕ → List Input → Type 0) → IsTheJob → ((inputs : List Input) → IsOf read inputs job → P read inputs) → OfLine content w P
+  pub logged : (P : List ℕ → List Input → Type 0) → IsTheJob → OfLine content w (λ source inputs. (is : List Input) → IsOf read is job → P read is)
+      → OfLine content w P
   logged P t told = λ source inputs st.
-      let here = t source inputs st in
+      let here = t source inputs st.there in
       subst (λ (bytes : List ℕ). P bytes inputs) here.2
-      (told inputs (subst (λ (bytes : List ℕ). IsOf bytes inputs job) (sym here.2) here.1))
+      (told source inputs st inputs (subst (λ (bytes : List ℕ). IsOf bytes inputs job) (sym here.2) here.1))
 
--- where no run on the engine began, the line asks for the sequential interpreter; or its log couldn't be begun
-pub no_run : (w : Words) (J : List Entry) (job : s.Job) (r : Result (List ℕ) Why) → AnswersSo w J job r → NoRunOf w.plain r → J ≡ []
-no_run w J job (Ok b) a n = a.plain n
-no_run w J job (Err Why.Done) a n = a.plain n
-no_run w J job (Err Why.Usage) a n = absurd a.none
-no_run w J job (Err (Why.Syntax kind line col)) a n = absurd a.none
-no_run w J job (Err (Why.Fault fault)) a n = a.plain n
-no_run w J job (Err (Why.Endless names)) a n = a.plain n
-no_run w J job (Err (Why.TooMany held given)) a n = a.plain n
-no_run w J job (Err Why.AllLost) a n = a.plain n
-no_run w J job (Err (Why.NameClash kept given)) a n = a.plain n
-no_run w J job (Err (Why.ReadFault path)) a n = absurd a.none
-no_run w J job (Err Why.WriteFault) a n = a.plain n
-no_run w J job (Err Why.Memory) a n = a.plain n
-no_run w J job (Err (Why.TooLongInput path at)) a n = absurd a.none
-no_run w J job (Err (Why.TooDeepPlain depth)) a n = a.plain a.none.0
-no_run w J job (Err (Why.KeepFault path)) a n = a.none.2
-no_run w J job (Err (Why.LogFull path held)) a n = absurd a.none
+-- where no run on the engine began, the line asks for the sequential interpreter; or its log couldn't be begun, or gone on from
+pub no_run : (w : Words) (J : List Entry) (r : Result (List ℕ) Why) → WaySo w J r → NoRunOf w.plain r → J ≡ []
+no_run w J (Ok b) a n = a.plain n
+no_run w J (Err Why.Done) a n = a.plain n
+no_run w J (Err Why.Usage) a n = absurd a.way
+no_run w J (Err (Why.Syntax kind line col)) a n = absurd a.way
+no_run w J (Err (Why.Fault fault)) a n = a.plain n
+no_run w J (Err (Why.Endless names)) a n = a.plain n
+no_run w J (Err (Why.TooMany held given)) a n = a.plain n
+no_run w J (Err Why.AllLost) a n = a.plain n
+no_run w J (Err (Why.NameClash kept given)) a n = a.plain n
+no_run w J (Err (Why.ReadFault path)) a n = absurd a.way
+no_run w J (Err Why.WriteFault) a n = a.plain n
+no_run w J (Err Why.Memory) a n = a.plain n
+no_run w J (Err (Why.TooLongInput path at)) a n = absurd a.way
+no_run w J (Err (Why.TooDeepPlain depth)) a n = a.plain a.way
+no_run w J (Err (Why.KeepFault path)) a n = a.way.2
+no_run w J (Err (Why.BadLog path at)) a n = a.way.2
+no_run w J (Err (Why.OtherJob path)) a n = a.way.2
+no_run w J (Err (Why.LogFull path held)) a n = absurd a.way
 
 -- ---- which paths were asked
 
-pub job_asks : (w : Words) (J : List Entry) (job : s.Job) (r : Result (List ℕ) Why) (ps : List (List ℕ)) (b n : Option (List (List ℕ)))
-    → AnswersSo w J job r → Tells b n ps → AsksOf r ps b n
-job_asks w J job (Ok x) ps b n a t = t
-job_asks w J job (Err Why.Memory) ps b n a t = part_whole b n ps t
-job_asks w J job (Err (Why.Syntax kind line col)) ps b n a t = absurd a.none
-job_asks w J job (Err (Why.ReadFault path)) ps b n a t = absurd a.none
-job_asks w J job (Err (Why.TooLongInput path at)) ps b n a t = absurd a.none
-job_asks w J job (Err Why.Done) ps b n a t = t
-job_asks w J job (Err Why.Usage) ps b n a t = t
-job_asks w J job (Err (Why.Fault fault)) ps b n a t = t
-job_asks w J job (Err (Why.Endless names)) ps b n a t = t
-job_asks w J job (Err (Why.TooMany held given)) ps b n a t = t
-job_asks w J job (Err Why.AllLost) ps b n a t = t
-job_asks w J job (Err (Why.NameClash kept given)) ps b n a t = t
-job_asks w J job (Err Why.WriteFault) ps b n a t = t
-job_asks w J job (Err (Why.TooDeepPlain depth)) ps b n a t = t
-job_asks w J job (Err (Why.KeepFault path)) ps b n a t = t
-job_asks w J job (Err (Why.LogFull path held)) ps b n a t = t
+pub job_asks : (w : Words) (J : List Entry) (r : Result (List ℕ) Why) (ps others : List (List ℕ)) (b n : Option (List (List ℕ)))
+    → WaySo w J r → Tells b n (ps ++ others) → AsksOf r ps others b n
+job_asks w J (Ok x) ps others b n a t = t
+job_asks w J (Err Why.Memory) ps others b n a t = part_whole b n (ps ++ others) t
+job_asks w J (Err (Why.Syntax kind line col)) ps others b n a t = absurd a.way
+job_asks w J (Err (Why.ReadFault path)) ps others b n a t = absurd a.way
+job_asks w J (Err (Why.TooLongInput path at)) ps others b n a t = absurd a.way
+job_asks w J (Err Why.Done) ps others b n a t = t
+job_asks w J (Err Why.Usage) ps others b n a t = t
+job_asks w J (Err (Why.Fault fault)) ps others b n a t = t
+job_asks w J (Err (Why.Endless names)) ps others b n a t = t
+job_asks w J (Err (Why.TooMany held given)) ps others b n a t = t
+job_asks w J (Err Why.AllLost) ps others b n a t = t
+job_asks w J (Err (Why.NameClash kept given)) ps others b n a t = t
+job_asks w J (Err Why.WriteFault) ps others b n a t = t
+job_asks w J (Err (Why.TooDeepPlain depth)) ps others b n a t = t
+job_asks w J (Err (Why.KeepFault path)) ps others b n a t = t
+job_asks w J (Err (Why.BadLog path at)) ps others b n a t = t
+job_asks w J (Err (Why.OtherJob path)) ps others b n a t = t
+job_asks w J (Err (Why.LogFull path held)) ps others b n a t = t
 
 -- a job that was read has no file that wasn't
-pub job_order : (content : Files) (w : Words) (J : List Entry) (job : s.Job) (r : Result (List ℕ) Why) (f : Option files.Line)
-    (b n : Option (List (List ℕ))) → AnswersSo w J job r → IfErr r (StopsFor content f b n)
-job_order content w J job (Ok x) f b n a = tt
-job_order content w J job (Err (Why.ReadFault path)) f b n a = absurd a.none
-job_order content w J job (Err (Why.TooLongInput path at)) f b n a = absurd a.none
-job_order content w J job (Err Why.Memory) f b n a = tt
-job_order content w J job (Err (Why.Syntax kind line col)) f b n a = tt
-job_order content w J job (Err Why.Done) f b n a = tt
-job_order content w J job (Err Why.Usage) f b n a = tt
-job_order content w J job (Err (Why.Fault fault)) f b n a = tt
-job_order content w J job (Err (Why.Endless names)) f b n a = tt
-job_order content w J job (Err (Why.TooMany held given)) f b n a = tt
-job_order content w J job (Err Why.AllLost) f b n a = tt
-job_order content w J job (Err (Why.NameClash kept given)) f b n a = tt
-job_order content w J job (Err Why.WriteFault) f b n a = tt
-job_order content w J job (Err (Why.TooDeepPlain depth)) f b n a = tt
-job_order content w J job (Err (Why.KeepFault path)) f b n a = tt
-job_order content w J job (Err (Why.LogFull path held)) f b n a = tt
+pub job_order : (content : Files) (w : Words) (J : List Entry) (r : Result (List ℕ) Why) (f : Option files.Line) (resume : Option (List ℕ))
+    (b n : Option (List (List ℕ))) → WaySo w J r → IfErr r (StopsFor content f resume b n)
+job_order content w J (Ok x) f resume b n a = tt
+job_order content w J (Err Why.Memory) f resume b n a = tt
+job_order content w J (Err (Why.Syntax kind line col)) f resume b n a = tt
+job_order content w J (Err (Why.ReadFault path)) f resume b n a = absurd a.way
+job_order content w J (Err (Why.TooLongInput path at)) f resume b n a = absurd a.way
+job_order content w J (Err Why.Done) f resume b n a = tt
+job_order content w J (Err Why.Usage) f resume b n a = tt
+job_order content w J (Err (Why.Fault fault)) f resume b n a = tt
+job_order content w J (Err (Why.Endless names)) f resume b n a = tt
+job_order content w J (Err (Why.TooMany held given)) f resume b n a = tt
+job_order content w J (Err Why.AllLost) f resume b n a = tt
+job_order content w J (Err (Why.NameClash kept given)) f resume b n a = tt
+job_order content w J (Err Why.WriteFault) f resume b n a = tt
+job_order content w J (Err (Why.TooDeepPlain depth)) f resume b n a = tt
+job_order content w J (Err (Why.KeepFault path)) f resume b n a = tt
+job_order content w J (Err (Why.BadLog path at)) f resume b n a = tt
+job_order content w J (Err (Why.OtherJob path)) f resume b n a = tt
+job_order content w J (Err (Why.LogFull path held)) f resume b n a = tt
+
+-- ---- a log of another job
+
+pub other_ends : (content : Files) (w : Words) (risen : Type 0) (path : List ℕ) (r : Result (List ℕ) Why)
+    → (r ≡ Err (Why.OtherJob path)) ⊎ (r ≡ Err Why.Memory) → OtherEnds content w risen [] r path
+other_ends content w risen path r (inl e) = inl e
+other_ends content w risen path r (inr e) = inr (Why.Memory, e, tt)

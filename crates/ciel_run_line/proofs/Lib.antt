@@ -1,5 +1,9 @@
 pub mod Ran
 pub mod Named
-mod Comes
+pub mod Comes
 mod ShortHeader
+pub mod Own
+mod Last
+mod Onward
 mod Began
+mod Refused

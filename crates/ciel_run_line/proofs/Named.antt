@@ -1,23 +1,27 @@
 -- From what was loaded or generated to the job of a line, and why there is none.
-use Rattle.std.proofs.Common.{◌≡◌, ◌<◌, ◌≤◌, ◌^◌, ℕ, List, [], ◌∷◌, Option, Some, None, IfSome, Contains, length, map, refl, sym, ap, subst, ◌∙◌, arith}
+use Rattle.std.proofs.Common.{◌≡◌, ◌<◌, ◌≤◌, ◌^◌, ◌+◌, ◌++◌, inl, inr, zero, suc, take, slice_get, ℕ, List, [], ◌∷◌, Option, Some, None, IfSome, Contains, length, map, refl, sym, ap, subst, ◌∙◌, arith}
 use Rattle.std.proofs.lemmas.List.{length-map}
+use Rattle.std.proofs.lemmas.List.Elements.{Contains-append_left, Contains-push}
 use Rattle.std.specs.List.{AllByRecursion}
 use Rattle.sky_base.specs.See as s
-use Rattle.ciel_io.specs.Tells.{Tells}
+use Rattle.ciel_io.specs.Tells.{Tells, TellsPart}
+use Rattle.ciel_run_load.specs.Reading.{AsksUpTo}
 use Rattle.ciel_journal.specs.Entries.{Entry}
 use Rattle.ciel_run_load.specs.Found.{Holds}
 use Rattle.ciel_run_load.specs.Generated.{generated_inputs, generator}
 use Rattle.ciel_run_load.specs.Line as files
 use Rattle.ciel_run_load.specs.Line.{Input, keys_of, name_in}
-use Rattle.ciel_run_load.specs.Loading.{AsksJob, IsLoaded, IsOf, IsReadJob, NotLoaded, RefusedSo, StopsJob}
+use Rattle.ciel_run_load.specs.Loading.{AllRead, AsksJob, IsLoaded, IsOf, IsReadJob, NotLoaded, RefusedSo, StopsJob}
 use Rattle.ciel_run_load.specs.declared.load.NoJob.{NoJob}
 use Rattle.ciel_run_load.specs.declared.script.NoScript.{NoScript}
 use Rattle.ciel_words.specs.declared.words.Words.{Words}
-use Rattle.ciel_run_line.specs.Answering.{CanRunJob, no_job_view, no_script_view}
+use Rattle.ciel_io.proofs.Joined.{tells_more}
+use Rattle.ciel_run_line.specs.Answering.{AsksLast, CanRunJob, NoLogBy, no_job_view, no_script_view}
+use Rattle.ciel_run_line.specs.Source.{IsSource}
 use Rattle.ciel_run_load.specs.Syntax.{IsSyntaxFault}
 use Rattle.ciel_run_line.specs.Causes.{CauseOf, NoJobBy, TooLongOf}
-use Rattle.ciel_run_line.specs.Asked.{AsksFor, StopsFor}
-use Rattle.ciel_run_line.specs.Line.{FitsIn, OfLine, SourceFits, SourceIn, StandsIn, files_named, files_of, paths_in}
+use Rattle.ciel_run_line.specs.Asked.{AsksFor, IsRead, StopsFor, StopsIn, StopsLast}
+use Rattle.ciel_run_line.specs.Line.{FitsIn, OfJobFiles, SourceFits, SourceIn, StandsIn, files_named, files_of, paths_in, resumed}
 use Rattle.ciel_run_log.specs.declared.why.Why.{Why}
 
 abbrev Files : Type 0
@@ -25,6 +29,33 @@ Files = List ℕ → Option (List ℕ)
 
 abbrev at : List ℕ → List (List ℕ × List ℕ) → files.Line
 at path inputs = record { script = path; inputs = inputs }
+
+-- ---- a list, and more behind it
+
+get_more : (xs ys : List (List ℕ)) (i : ℕ) (x : List ℕ) → slice_get xs i ≡ Some x → slice_get (xs ++ ys) i ≡ Some x
+get_more [] ys i x e = absurd cc
+get_more (z ∷ zs) ys zero x e = e
+get_more (z ∷ zs) ys (suc i) x e = get_more zs ys i x e
+
+take_more : (xs ys : List (List ℕ)) (i : ℕ) (x : List ℕ) → slice_get xs i ≡ Some x → take (suc i) (xs ++ ys) ≡ take (suc i) xs
+take_more [] ys i x e = absurd cc
+take_more (z ∷ zs) ys zero x e = refl
+take_more (z ∷ zs) ys (suc i) x e = ap (λ l. z ∷ l) (take_more zs ys i x e)
+
+up_to_more : (path : List ℕ) (ps others : List (List ℕ)) (b n : Option (List (List ℕ))) → AsksUpTo path ps b n → AsksUpTo path (ps ++ others) b n
+up_to_more path ps others b n a =
+    let one : a.0 + 1 ≡ suc a.0 = omega arith in
+    let same : take (a.0 + 1) ps ≡ take (a.0 + 1) (ps ++ others) = rw one (sym (take_more ps others a.0 path a.1)) in
+    (a.0, get_more ps others a.0 path a.1, subst (Tells b n) same a.2)
+
+-- the first so many of a list are the first of it and what comes behind
+first_more : (k : ℕ) (xs ys : List (List ℕ)) → (m : ℕ) × (take m (xs ++ ys) ≡ take k xs)
+first_more zero xs ys = (0, refl)
+first_more (suc k) [] ys = (0, refl)
+first_more (suc k) (x ∷ xs) ys = let r = first_more k xs ys in (suc r.0, ap (λ l. x ∷ l) r.1)
+
+part_of_more : (ps others : List (List ℕ)) (b n : Option (List (List ℕ))) → TellsPart b n ps → TellsPart b n (ps ++ others)
+part_of_more ps others b n t = let m = first_more t.0 ps others in (m.0, subst (Tells b n) (sym m.1) t.1)
 
 -- ---- can be run
 
@@ -56,7 +87,7 @@ module _ (content : Files) (w : Words) where
   told_is (Some f) read file e h = h ∙ cc
 
   pub loaded_of : (path read : List ℕ) (job : s.Job) → w.script ≡ Some path → IsLoaded content (at path w.inputs) read job
-      → OfLine content w (λ source inputs. FitsIn (files_of w) source inputs × IsOf source inputs job × (read ≡ source))
+      → OfJobFiles content w (λ source inputs. FitsIn (files_of w) source inputs × IsOf source inputs job × (read ≡ source))
   loaded_of path read job e l =
       by_path (λ f g. (source : List ℕ) (inputs : List Input) → StandsIn content f g source inputs → FitsIn f source inputs
       × IsOf source inputs job × (read ≡ source)) path e
@@ -68,7 +99,7 @@ module _ (content : Files) (w : Words) where
 
   pub generated_of : (lines : ℕ) (read : List ℕ) (job : s.Job) → w.script ≡ None → w.generate ≡ Some lines → read ≡ generator
       → IsOf generator (generated_inputs lines) job
-      → OfLine content w (λ source inputs. FitsIn (files_of w) source inputs × IsOf source inputs job × (read ≡ source))
+      → OfJobFiles content w (λ source inputs. FitsIn (files_of w) source inputs × IsOf source inputs job × (read ≡ source))
   generated_of lines read job e g same o =
       by_lines (λ f g. (source : List ℕ) (inputs : List Input) → StandsIn content f g source inputs → FitsIn f source inputs
       × IsOf source inputs job × (read ≡ source)) lines e g
@@ -88,8 +119,8 @@ module _ (content : Files) (w : Words) where
 
     back : (why : Why) → None_of (files_of w) w.generate why → NoJobBy content w risen [] why
     back (Why.Syntax kind l c) n = n
-    back (Why.ReadFault path) n = n
-    back (Why.TooLongInput path at) n = n
+    back (Why.ReadFault path) n = (Contains-append_left (paths_in (files_of w)) (resumed w.resume) path n.0, n.1)
+    back (Why.TooLongInput path at) n = inl n
     back Why.Memory n = n
     back Why.Done n = absurd n
     back Why.Usage n = absurd n
@@ -101,6 +132,8 @@ module _ (content : Files) (w : Words) where
     back Why.WriteFault n = absurd n
     back (Why.TooDeepPlain depth) n = absurd n
     back (Why.KeepFault path) n = absurd n
+    back (Why.BadLog path at) n = absurd n
+    back (Why.OtherJob path) n = absurd n
     back (Why.LogFull path held) n = absurd n
 
     unloaded : (path : List ℕ) (why : NoJob) → NotLoaded content (at path w.inputs) risen why
@@ -137,9 +170,19 @@ module _ (content : Files) (w : Words) where
     no_job_cause J Why.AllLost n = absurd n
     no_job_cause J (Why.NameClash kept given) n = absurd n
     no_job_cause J (Why.KeepFault path) n = absurd n
+    no_job_cause J (Why.BadLog path at) n = absurd n
+    no_job_cause J (Why.OtherJob path) n = absurd n
     no_job_cause J (Why.LogFull path held) n = absurd n
     no_job_cause J Why.WriteFault n = absurd n
     no_job_cause J (Why.TooDeepPlain depth) n = absurd n
+
+  -- ---- all was read
+
+  pub loaded_all : (path : List ℕ) → w.script ≡ Some path → AllRead content (at path w.inputs) → IsRead content (files_of w)
+  loaded_all path e a = by_path (λ f g. IsRead content f) path e a
+
+  pub generated_all : (lines : ℕ) → w.script ≡ None → w.generate ≡ Some lines → IsRead content (files_of w)
+  generated_all lines e g = by_lines (λ f h. IsRead content f) lines e g tt
 
   -- ---- which paths were asked
 
@@ -147,33 +190,146 @@ module _ (content : Files) (w : Words) where
       → Tells b n (paths_in (files_of w))
   loaded_asks path b n e t = by_path (λ f g. Tells b n (paths_in f)) path e t
 
-  asked_so : (why : NoJob) (ps : List (List ℕ)) (b n : Option (List (List ℕ))) → AsksJob why ps b n → AsksFor (no_job_view why) ps b n
-  asked_so (NoJob.Syntax kind l c) ps b n a = a
-  asked_so (NoJob.Failed p) ps b n a = a
-  asked_so (NoJob.TooLong p m) ps b n a = a
-  asked_so NoJob.Memory ps b n a = a
+  asked_so : (why : NoJob) (ps others : List (List ℕ)) (b n : Option (List (List ℕ))) → AsksJob why ps b n → AsksFor (no_job_view why) ps others b n
+  asked_so (NoJob.Syntax kind l c) ps others b n a = a
+  asked_so (NoJob.Failed p) ps others b n a = up_to_more p ps others b n a
+  asked_so (NoJob.TooLong p m) ps others b n a = up_to_more p ps others b n a
+  asked_so NoJob.Memory ps others b n a = part_of_more ps others b n a
 
-  pub not_loaded_asks : (path : List ℕ) (why : NoJob) (b n : Option (List (List ℕ))) → w.script ≡ Some path
-      → AsksJob why (files.paths_of (at path w.inputs)) b n → AsksFor (no_job_view why) (paths_in (files_of w)) b n
-  not_loaded_asks path why b n e a = by_path (λ f g. AsksFor (no_job_view why) (paths_in f) b n) path e
-      (asked_so why (files.paths_of (at path w.inputs)) b n a)
+  pub not_loaded_asks : (path : List ℕ) (why : NoJob) (others : List (List ℕ)) (b n : Option (List (List ℕ))) → w.script ≡ Some path
+      → AsksJob why (files.paths_of (at path w.inputs)) b n → AsksFor (no_job_view why) (paths_in (files_of w)) others b n
+  not_loaded_asks path why others b n e a = by_path (λ f g. AsksFor (no_job_view why) (paths_in f) others b n) path e
+      (asked_so why (files.paths_of (at path w.inputs)) others b n a)
 
   -- ---- in which order
 
+  stops_first : (f : Option files.Line) (resume : Option (List ℕ)) (path : List ℕ) (b n : Option (List (List ℕ))) → StopsIn content f path b n
+      → StopsLast content f resume path b n
+  stops_first f None path b n s = s
+  stops_first f (Some log) path b n s = inl s
+
   order_so : (why : NoJob) (path : List ℕ) (b n : Option (List (List ℕ))) → StopsJob content (at path w.inputs) b n why
-      → StopsFor content (Some (at path w.inputs)) b n (no_job_view why)
+      → StopsFor content (Some (at path w.inputs)) w.resume b n (no_job_view why)
   order_so (NoJob.Syntax kind l c) path b n s = tt
-  order_so (NoJob.Failed p) path b n s = s
-  order_so (NoJob.TooLong p m) path b n s = s
+  order_so (NoJob.Failed p) path b n s = stops_first (Some (at path w.inputs)) w.resume p b n s
+  order_so (NoJob.TooLong p m) path b n s = stops_first (Some (at path w.inputs)) w.resume p b n s
   order_so NoJob.Memory path b n s = tt
 
   pub not_loaded_order : (path : List ℕ) (why : NoJob) (b n : Option (List (List ℕ))) → w.script ≡ Some path
-      → StopsJob content (at path w.inputs) b n why → StopsFor content (files_of w) b n (no_job_view why)
-  not_loaded_order path why b n e s = by_path (λ f g. StopsFor content f b n (no_job_view why)) path e (order_so why path b n s)
+      → StopsJob content (at path w.inputs) b n why → StopsFor content (files_of w) w.resume b n (no_job_view why)
+  not_loaded_order path why b n e s = by_path (λ f g. StopsFor content f w.resume b n (no_job_view why)) path e (order_so why path b n s)
 
-  pub not_generated_order : (why : NoScript) (f : Option files.Line) (b n : Option (List (List ℕ))) → StopsFor content f b n (no_script_view why)
-  not_generated_order (NoScript.Syntax kind l c) f b n = tt
-  not_generated_order NoScript.Memory f b n = tt
+  pub not_generated_order : (why : NoScript) (f : Option files.Line) (resume : Option (List ℕ)) (b n : Option (List (List ℕ)))
+      → StopsFor content f resume b n (no_script_view why)
+  not_generated_order (NoScript.Syntax kind l c) f resume b n = tt
+  not_generated_order NoScript.Memory f resume b n = tt
+
+-- ---- the log, which is read last
+
+get_last : (xs : List (List ℕ)) (x : List ℕ) → slice_get (xs ++ x ∷ []) (length xs) ≡ Some x
+get_last [] x = refl
+get_last (z ∷ zs) x = get_last zs x
+
+take_whole : (xs : List (List ℕ)) (x : List ℕ) → take (length xs + 1) (xs ++ x ∷ []) ≡ xs ++ x ∷ []
+take_whole [] x = refl
+take_whole (z ∷ zs) x = let one : suc (length zs) + 1 ≡ suc (length zs + 1) = omega arith in rw one (ap (λ l. z ∷ l) (take_whole zs x))
+
+up_to_last : (ps : List (List ℕ)) (path : List ℕ) (b m n : Option (List (List ℕ))) → Tells b m ps → Tells m n (path ∷ [])
+    → AsksUpTo path (ps ++ path ∷ []) b n
+up_to_last ps path b m n t u =
+    (length ps, get_last ps path, subst (Tells b n) (sym (take_whole ps path)) (tells_more b m n ps (path ∷ []) t u))
+
+take_behind : (ps : List (List ℕ)) (k : ℕ) (qs : List (List ℕ)) → take (length ps + k) (ps ++ qs) ≡ ps ++ take k qs
+take_behind [] k qs = let none : 0 + k ≡ k = omega arith in rw none refl
+take_behind (p ∷ ps) k qs = let one : suc (length ps) + k ≡ suc (length ps + k) = omega arith in rw one (ap (λ l. p ∷ l) (take_behind ps k qs))
+
+module _ (content : Files) (w : Words) (ps : List (List ℕ)) (b m n : Option (List (List ℕ))) (t : Tells b m ps) where
+  asks_at : (resume : Option (List ℕ)) (risen : Type 0) (why : Why) → NoLogBy content resume risen why → AsksLast why (resumed resume) m n
+      → AsksFor why ps (resumed resume) b n
+  asks_at None risen (Why.ReadFault path) c a = let bad : None ≡ Some path = c.0 in absurd cc
+  asks_at None risen (Why.TooLongInput path at) c a = let bad : None ≡ Some path = c.0 in absurd cc
+  asks_at (Some log) risen (Why.ReadFault path) c a =
+      let same : log ≡ path = cc in
+      subst (λ (q : List ℕ). AsksUpTo q (ps ++ log ∷ []) b n) same (up_to_last ps log b m n t a)
+  asks_at (Some log) risen (Why.TooLongInput path at) c a =
+      let same : log ≡ path = cc in
+      subst (λ (q : List ℕ). AsksUpTo q (ps ++ log ∷ []) b n) same (up_to_last ps log b m n t a)
+  asks_at resume risen Why.Memory c a =
+      (length ps + a.0, subst (Tells b n) (sym (take_behind ps a.0 (resumed resume))) (tells_more b m n ps (take a.0 (resumed resume)) t a.1))
+  asks_at resume risen Why.Done c a = absurd c
+  asks_at resume risen Why.Usage c a = absurd c
+  asks_at resume risen (Why.Syntax kind l k) c a = absurd c
+  asks_at resume risen (Why.Fault fault) c a = absurd c
+  asks_at resume risen (Why.Endless names) c a = absurd c
+  asks_at resume risen (Why.TooMany held given) c a = absurd c
+  asks_at resume risen Why.AllLost c a = absurd c
+  asks_at resume risen (Why.NameClash kept given) c a = absurd c
+  asks_at resume risen Why.WriteFault c a = absurd c
+  asks_at resume risen (Why.TooDeepPlain depth) c a = absurd c
+  asks_at resume risen (Why.KeepFault path) c a = absurd c
+  asks_at resume risen (Why.BadLog path at) c a = absurd c
+  asks_at resume risen (Why.OtherJob path) c a = absurd c
+  asks_at resume risen (Why.LogFull path held) c a = absurd c
+
+  pub unread_asks : (risen : Type 0) (why : Why) → NoLogBy content w.resume risen why → AsksLast why (resumed w.resume) m n
+      → AsksFor why ps (resumed w.resume) b n
+  unread_asks risen why c a = asks_at w.resume risen why c a
+
+-- where it wasn't read, all before it was
+module _ (content : Files) (f : Option files.Line) (b m n : Option (List (List ℕ))) (t : Tells b m (paths_in f)) (read : IsRead content f) where
+  order_at : (resume : Option (List ℕ)) (risen : Type 0) (why : Why) → NoLogBy content resume risen why → AsksLast why (resumed resume) m n
+      → StopsFor content f resume b n why
+  order_at None risen (Why.ReadFault path) c a = let bad : None ≡ Some path = c.0 in absurd cc
+  order_at None risen (Why.TooLongInput path at) c a = let bad : None ≡ Some path = c.0 in absurd cc
+  order_at (Some log) risen (Why.ReadFault path) c a =
+      let same : path ≡ log = cc in inr (same, read, tells_more b m n (paths_in f) (log ∷ []) t a)
+  order_at (Some log) risen (Why.TooLongInput path at) c a =
+      let same : path ≡ log = cc in inr (same, read, tells_more b m n (paths_in f) (log ∷ []) t a)
+  order_at resume risen Why.Memory c a = tt
+  order_at resume risen Why.Done c a = tt
+  order_at resume risen Why.Usage c a = tt
+  order_at resume risen (Why.Syntax kind l k) c a = tt
+  order_at resume risen (Why.Fault fault) c a = tt
+  order_at resume risen (Why.Endless names) c a = tt
+  order_at resume risen (Why.TooMany held given) c a = tt
+  order_at resume risen Why.AllLost c a = tt
+  order_at resume risen (Why.NameClash kept given) c a = tt
+  order_at resume risen Why.WriteFault c a = tt
+  order_at resume risen (Why.TooDeepPlain depth) c a = tt
+  order_at resume risen (Why.KeepFault path) c a = tt
+  order_at resume risen (Why.BadLog path at) c a = tt
+  order_at resume risen (Why.OtherJob path) c a = tt
+  order_at resume risen (Why.LogFull path held) c a = tt
+
+  pub unread_order : (w : Words) (risen : Type 0) (why : Why) → NoLogBy content w.resume risen why → AsksLast why (resumed w.resume) m n
+      → StopsFor content f w.resume b n why
+  unread_order w risen why c a = order_at w.resume risen why c a
+
+-- why it wasn't read is a cause
+module _ (content : Files) (w : Words) (first risen : Type 0) (later : first → risen)
+    (job : OfJobFiles content w (λ source inputs. FitsIn (files_of w) source inputs × IsSource source inputs)) where
+  named_last : (resume : Option (List ℕ)) (ps : List (List ℕ)) (path : List ℕ) → resume ≡ Some path → Contains (ps ++ resumed resume) path
+  named_last None ps path e = let bad : None ≡ Some path = e in absurd cc
+  named_last (Some log) ps path e = let same : log ≡ path = cc in subst (λ (q : List ℕ). Contains (ps ++ log ∷ []) q) same (Contains-push ps log)
+
+  pub unread_job : (why : Why) → NoLogBy content w.resume first why → NoJobBy content w risen [] why
+  unread_job (Why.ReadFault path) c = (named_last w.resume (paths_in (files_of w)) path c.0, later c.1)
+  unread_job (Why.TooLongInput path at) c = inr (c.0, c.1, c.2, job)
+  unread_job Why.Memory c = tt
+  unread_job Why.Done c = absurd c
+  unread_job Why.Usage c = absurd c
+  unread_job (Why.Syntax kind l k) c = absurd c
+  unread_job (Why.Fault fault) c = absurd c
+  unread_job (Why.Endless names) c = absurd c
+  unread_job (Why.TooMany held given) c = absurd c
+  unread_job Why.AllLost c = absurd c
+  unread_job (Why.NameClash kept given) c = absurd c
+  unread_job Why.WriteFault c = absurd c
+  unread_job (Why.TooDeepPlain depth) c = absurd c
+  unread_job (Why.KeepFault path) c = absurd c
+  unread_job (Why.BadLog path at) c = absurd c
+  unread_job (Why.OtherJob path) c = absurd c
+  unread_job (Why.LogFull path held) c = absurd c
 
 -- ---- the names of its inputs are short, and there are few
 

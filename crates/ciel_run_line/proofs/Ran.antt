@@ -12,8 +12,8 @@ use Rattle.ciel_task_order.specs.Shop.{InputsInOrder}
 use Rattle.ciel_words.specs.declared.words.Words.{Words}
 use Rattle.line_kit.specs.Gives.{gives}
 use Rattle.ciel_run_line.specs.Answering.{CanRunJob, PlainCause, end_view}
-use Rattle.ciel_run_line.specs.Causes.{AnswersSo, JobCause}
-use Rattle.ciel_run_line.specs.Runs.{digest_of, plan_of}
+use Rattle.ciel_run_line.specs.Causes.{AnswersSo, JobCause, Way, WaySo}
+use Rattle.ciel_run_line.specs.Runs.{digest_of, log_path, plan_of}
 use Rattle.ciel_run_line.specs.Source.{over_lines}
 use Rattle.ciel_run_log.specs.declared.why.Why.{Why}
 
@@ -34,6 +34,8 @@ module _ (w : Words) (job : s.Job) where
   plain_cause p Why.WriteFault c = absurd c
   plain_cause p (Why.TooLongInput path at) c = absurd c
   plain_cause p (Why.KeepFault path) c = absurd c
+  plain_cause p (Why.BadLog path at) c = absurd c
+  plain_cause p (Why.OtherJob path) c = absurd c
   plain_cause p (Why.LogFull path held) c = absurd c
 
   -- by the sequential interpreter
@@ -43,14 +45,12 @@ module _ (w : Words) (job : s.Job) where
     bytes = m;
     none = tt;
     driven = inl refl;
-    plain = λ e. refl;
     root = λ e. absurd cc;
   }
   plain_answers p (Err why) m c = record {
     bytes = tt;
     none = plain_cause p why c;
     driven = inl refl;
-    plain = λ e. refl;
     root = λ e. absurd cc;
   }
 
@@ -60,17 +60,15 @@ module _ (w : Words) (job : s.Job) where
     bytes = tt;
     none = tt;
     driven = inl refl;
-    plain = λ e. refl;
     root = λ e. tt;
   }
 
   -- where the log couldn't be begun
-  pub unbegun_answers : (path : List ℕ) → w.plain ≡ false → w.log ≡ Some path → AnswersSo w [] job (Err (Why.KeepFault path))
-  unbegun_answers path p e = record {
+  pub unbegun_answers : (path : List ℕ) → AnswersSo w [] job (Err (Why.KeepFault path))
+  unbegun_answers path = record {
     bytes = tt;
-    none = (p, e, refl);
+    none = tt;
     driven = inl refl;
-    plain = λ q. refl;
     root = λ q. tt;
   }
 
@@ -81,51 +79,93 @@ module _ (w : Words) (job : s.Job) where
       bytes = e.cause.0;
       none = tt;
       driven = inr e.driven;
-      plain = λ q. absurd cc;
       root = λ q. (e.cause.1.history, e.cause.1.driven, e.cause.1.journal, e.cause.1.done);
     }
     run_answers (RunEnd.Fault fault) e = record {
       bytes = tt;
       none = e.cause.0;
       driven = inr e.driven;
-      plain = λ q. absurd cc;
       root = λ q. (e.cause.1.history, e.cause.1.driven, e.cause.1.journal, e.cause.1.done);
     }
     run_answers (RunEnd.Endless names) e = record {
       bytes = tt;
       none = (p, e.cause.0, e.cause.1, e.cause.2);
       driven = inr e.driven;
-      plain = λ q. absurd cc;
       root = λ q. tt;
     }
     run_answers (RunEnd.TooMany held given) e = record {
       bytes = tt;
       none = (p, e.cause.2.full, (e.cause.0, sym e.cause.1, e.cause.2));
       driven = inr e.driven;
-      plain = λ q. absurd cc;
       root = λ q. tt;
     }
     run_answers RunEnd.AllLost e = record {
       bytes = tt;
       none = (p, e.cause);
       driven = inr e.driven;
-      plain = λ q. absurd cc;
       root = λ q. tt;
     }
     run_answers (RunEnd.NameClash kept given) e = record {
       bytes = tt;
       none = (p, e.cause);
       driven = inr e.driven;
-      plain = λ q. absurd cc;
       root = λ q. tt;
     }
     run_answers RunEnd.Memory e = record {
       bytes = tt;
       none = tt;
       driven = inr e.driven;
-      plain = λ q. absurd cc;
       root = λ q. tt;
     }
+
+-- ---- by which way
+
+module _ (w : Words) where
+  plain_way : (job : s.Job) → w.plain ≡ true → (why : Why) → PlainCause job why → Way w [] why
+  plain_way job p (Why.Fault fault) c = tt
+  plain_way job p (Why.TooMany held None) c = p
+  plain_way job p (Why.TooMany held (Some given)) c = absurd c
+  plain_way job p (Why.TooDeepPlain depth) c = p
+  plain_way job p Why.Memory c = tt
+  plain_way job p Why.Done c = absurd c
+  plain_way job p Why.Usage c = absurd c
+  plain_way job p (Why.Syntax kind line col) c = absurd c
+  plain_way job p (Why.Endless names) c = absurd c
+  plain_way job p Why.AllLost c = absurd c
+  plain_way job p (Why.NameClash kept given) c = absurd c
+  plain_way job p (Why.ReadFault path) c = absurd c
+  plain_way job p Why.WriteFault c = absurd c
+  plain_way job p (Why.TooLongInput path at) c = absurd c
+  plain_way job p (Why.KeepFault path) c = absurd c
+  plain_way job p (Why.BadLog path at) c = absurd c
+  plain_way job p (Why.OtherJob path) c = absurd c
+  plain_way job p (Why.LogFull path held) c = absurd c
+
+  pub plain_ways : (job : s.Job) → w.plain ≡ true → (r : Result (List ℕ) Why) → IfErr r (PlainCause job) → WaySo w [] r
+  plain_ways job p (Ok b) c = record { way = tt; plain = λ e. refl }
+  plain_ways job p (Err why) c = record { way = plain_way job p why c; plain = λ e. refl }
+
+  pub memory_ways : WaySo w [] (Err Why.Memory)
+  memory_ways = record { way = tt; plain = λ e. refl }
+
+  pub unbegun_ways : (path : List ℕ) → w.plain ≡ false → log_path w ≡ Some path → WaySo w [] (Err (Why.KeepFault path))
+  unbegun_ways path p e = record { way = (p, e, refl); plain = λ q. refl }
+
+  module _ (J : List Entry) (p : w.plain ≡ false) where
+    end_way : (end : RunEnd) → IfErr (end_view end) (Way w J)
+    end_way (RunEnd.Answer text) = tt
+    end_way (RunEnd.Fault fault) = tt
+    end_way (RunEnd.Endless names) = p
+    end_way (RunEnd.TooMany held given) = p
+    end_way RunEnd.AllLost = p
+    end_way (RunEnd.NameClash kept given) = p
+    end_way RunEnd.Memory = tt
+
+    pub run_ways : (end : RunEnd) → WaySo w J (end_view end)
+    run_ways end = record { way = end_way end; plain = λ q. let bad : false ≡ true = sym p ∙ q in absurd (no_both bad) }
+      where
+        no_both : false ≡ true → ⊥
+        no_both e = cc
 
 -- ---- a job that was read can be run
 

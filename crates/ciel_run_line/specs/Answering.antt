@@ -1,5 +1,9 @@
 -- What the program's run of a job asks for, and what its parts come to.
-use Rattle.std.specs.Prelude.{◌≡◌, ◌<◌, ◌^◌, ℕ, List, Some, None, Result, Ok, Err, length}
+use Rattle.std.specs.Prelude.{◌≡◌, ◌⊎◌, ◌<◌, ◌^◌, ℕ, List, Option, Some, None, Result, Ok, Err, length}
+use Rattle.ciel_io.specs.Tells.{Tells, TellsPart}
+use Rattle.ciel_log.specs.Logging.{most}
+use Rattle.ciel_run_load.specs.Found.{PassesIfTold}
+use Rattle.ciel_run_resumed.specs.declared.run.NotResumed.{NotResumed}
 use Rattle.sky_base.specs.See as s
 use Rattle.sky_base.specs.See.{Answered}
 use Rattle.ciel_run_load.specs.Loading.{IsReadJob}
@@ -42,3 +46,22 @@ no_job_view NoJob.Memory = Why.Memory
 abbrev pub no_script_view : NoScript → Why
 no_script_view (NoScript.Syntax kind line col) = Why.Syntax kind line col
 no_script_view NoScript.Memory = Why.Memory
+
+-- why a job didn't go on from the log at this path, as what ends a call
+abbrev pub WhyNot : NotResumed → (path : List ℕ) → Why → Type 0
+WhyNot NotResumed.OtherJob path why = (why ≡ Why.OtherJob path) ⊎ (why ≡ Why.Memory)
+WhyNot (NotResumed.BadLog at) path why = (why ≡ Why.BadLog path at) ⊎ (why ≡ Why.Memory)
+WhyNot NotResumed.Failed path why = (why ≡ Why.KeepFault path) ⊎ (why ≡ Why.Memory)
+WhyNot NotResumed.Memory path why = why ≡ Why.Memory
+
+-- why the log wasn't read that a line goes on from
+abbrev pub NoLogBy : (List ℕ → Option (List ℕ)) → (resume : Option (List ℕ)) → (risen : Type 0) → Why → Type 0
+NoLogBy content resume risen (Why.ReadFault path) = (resume ≡ Some path) × risen
+NoLogBy content resume risen (Why.TooLongInput path at) = (resume ≡ Some path) × (at ≡ most) × PassesIfTold (content path) most
+NoLogBy content resume risen Why.Memory = Unit {0}
+NoLogBy content resume risen _ = ⊥
+
+-- which paths were asked then
+abbrev pub AsksLast : Why → List (List ℕ) → Option (List (List ℕ)) → Option (List (List ℕ)) → Type 0
+AsksLast Why.Memory paths before now = TellsPart before now paths
+AsksLast _ paths before now = Tells before now paths

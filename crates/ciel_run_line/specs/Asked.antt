@@ -1,9 +1,10 @@
 -- Which run began, and which paths were asked, by how a call ends.
-use Rattle.std.specs.Prelude.{◌≡◌, ℕ, List, Bool, true, Option, Some, None, Result, Ok, Err, IfErr, take}
+use Rattle.std.specs.Prelude.{◌≡◌, ◌++◌, ◌⊎◌, ℕ, List, [], ◌∷◌, Bool, true, Option, Some, None, Result, Ok, Err, IfErr, take}
 use Rattle.ciel_io.specs.Tells.{Tells, TellsPart}
 use Rattle.ciel_run_load.specs.Line as files
-use Rattle.ciel_run_load.specs.Loading.{StopsAt}
+use Rattle.ciel_run_load.specs.Loading.{AllRead, StopsAt}
 use Rattle.ciel_run_load.specs.Reading.{AsksUpTo}
+use Rattle.ciel_run_line.specs.Line.{paths_in}
 use Rattle.ciel_run_log.specs.declared.why.Why.{Why}
 
 -- ---- which run began
@@ -15,6 +16,8 @@ NoRun plain (Why.Syntax kind line col) = Unit {0}
 NoRun plain (Why.ReadFault path) = Unit {0}
 NoRun plain (Why.TooLongInput path at) = Unit {0}
 NoRun plain (Why.TooDeepPlain depth) = Unit {0}
+NoRun plain (Why.BadLog path at) = Unit {0}
+NoRun plain (Why.OtherJob path) = Unit {0}
 NoRun plain _ = plain ≡ true
 
 -- of a result, where none is there; where the log couldn't be begun, none began
@@ -37,18 +40,19 @@ ShowsResult (Err why) = ShowsEnd why
 
 -- ---- which paths were asked
 
--- where the paths asked are told, they grew by all paths of the words, by the script's alone where it is none, by those up to the one that
--- could not be read, or for want of memory by some of the first; words that are no line name none
-abbrev pub AsksFor : Why → List (List ℕ) → Option (List (List ℕ)) → Option (List (List ℕ)) → Type 0
-AsksFor Why.Memory paths before now = TellsPart before now paths
-AsksFor (Why.Syntax kind line col) paths before now = Tells before now (take 1 paths)
-AsksFor (Why.ReadFault path) paths before now = AsksUpTo path paths before now
-AsksFor (Why.TooLongInput path at) paths before now = AsksUpTo path paths before now
-AsksFor _ paths before now = Tells before now paths
+-- where the paths asked are told, they grew by all paths of the words, those of the job's files and then the others; by the script's alone
+-- where it is none, by those up to the one that could not be read, or for want of memory by some of the first; words that are no line name
+-- none
+abbrev pub AsksFor : Why → (job others : List (List ℕ)) → Option (List (List ℕ)) → Option (List (List ℕ)) → Type 0
+AsksFor Why.Memory job others before now = TellsPart before now (job ++ others)
+AsksFor (Why.Syntax kind line col) job others before now = Tells before now (take 1 job)
+AsksFor (Why.ReadFault path) job others before now = AsksUpTo path (job ++ others) before now
+AsksFor (Why.TooLongInput path at) job others before now = AsksUpTo path (job ++ others) before now
+AsksFor _ job others before now = Tells before now (job ++ others)
 
-abbrev pub AsksOf : Result (List ℕ) Why → List (List ℕ) → Option (List (List ℕ)) → Option (List (List ℕ)) → Type 0
-AsksOf (Ok answer) paths before now = Tells before now paths
-AsksOf (Err why) paths before now = AsksFor why paths before now
+abbrev pub AsksOf : Result (List ℕ) Why → (job others : List (List ℕ)) → Option (List (List ℕ)) → Option (List (List ℕ)) → Type 0
+AsksOf (Ok answer) job others before now = Tells before now (job ++ others)
+AsksOf (Err why) job others before now = AsksFor why job others before now
 
 -- ---- in which order
 
@@ -57,8 +61,21 @@ abbrev pub StopsIn : (List ℕ → Option (List ℕ)) → Option files.Line → 
 StopsIn content None path before now = ⊥
 StopsIn content (Some f) path before now = StopsAt content f path before now
 
+-- the script is one and each input fits, where files tell them
+abbrev pub IsRead : (List ℕ → Option (List ℕ)) → Option files.Line → Type 0
+IsRead content None = Unit {0}
+IsRead content (Some f) = AllRead content f
+
+-- or it is the log that is gone on from, and all before it was read
+abbrev pub StopsLast : (List ℕ → Option (List ℕ)) → Option files.Line → (resume : Option (List ℕ)) → List ℕ → Option (List (List ℕ))
+    → Option (List (List ℕ)) → Type 0
+StopsLast content f None path before now = StopsIn content f path before now
+StopsLast content f (Some log) path before now =
+    StopsIn content f path before now ⊎ ((path ≡ log) × IsRead content f × Tells before now (paths_in f ++ log ∷ []))
+
 -- so it is where a file could not be read, or is too long
-abbrev pub StopsFor : (List ℕ → Option (List ℕ)) → Option files.Line → Option (List (List ℕ)) → Option (List (List ℕ)) → Why → Type 0
-StopsFor content f before now (Why.ReadFault path) = StopsIn content f path before now
-StopsFor content f before now (Why.TooLongInput path at) = StopsIn content f path before now
-StopsFor content f before now _ = Unit {0}
+abbrev pub StopsFor : (List ℕ → Option (List ℕ)) → Option files.Line → (resume : Option (List ℕ)) → Option (List (List ℕ))
+    → Option (List (List ℕ)) → Why → Type 0
+StopsFor content f resume before now (Why.ReadFault path) = StopsLast content f resume path before now
+StopsFor content f resume before now (Why.TooLongInput path at) = StopsLast content f resume path before now
+StopsFor content f resume before now _ = Unit {0}

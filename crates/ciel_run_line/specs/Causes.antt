@@ -1,5 +1,5 @@
 -- Why a call of the program ends as it does, before anything is written.
-use Rattle.std.specs.Prelude.{◌≡◌, ℕ, List, [], true, false, ◌⊎◌, Option, Some, None, Result, Ok, Err, Contains, IfErr, IfOk}
+use Rattle.std.specs.Prelude.{◌≡◌, ◌≤◌, ℕ, List, [], length, true, false, ◌⊎◌, Option, Some, None, Result, Ok, Err, Contains, IfErr, IfOk}
 use Rattle.std.specs.List.{IsDistinct}
 use Rattle.sky_base.specs.See as s
 use Rattle.sky_base.specs.See.{Answered}
@@ -9,16 +9,20 @@ use Rattle.sky_base.specs.declared.object.Named.{Named}
 use Rattle.ciel_journal.specs.Entries.{Entry}
 use Rattle.ciel_journal.specs.Job.{Digest}
 use Rattle.ciel_journal.specs.Journals.{CircleOf, DrivenJournal}
-use Rattle.ciel_run_load.specs.Found.{Holds, IsOver, IsTooLong}
+use Rattle.ciel_log_file.specs.Whole.{BeginsAt, BeginsOther}
+use Rattle.ciel_run_load.specs.Found.{Holds, IsOver, IsTooLong, PassesIfTold}
 use Rattle.ciel_run_load.specs.Line as files
 use Rattle.ciel_run_load.specs.Line.{Input}
 use Rattle.ciel_run_load.specs.Syntax.{IsSyntaxFault}
 use Rattle.ciel_master_board.specs.Ends.{AllAreLost, ClashOf, OverflowOf}
 use Rattle.ciel_words.specs.declared.words.Words.{Words}
 use Rattle.sky_plain.specs.Needs.{Chain, MakesMany}
-use Rattle.ciel_run_line.specs.Line.{FitsIn, OfLine, OfSource, SourceFits, files_of, paths_in}
-use Rattle.ciel_run_line.specs.Runs.{RootEnds, plan_of, run_of, told_of}
-use Rattle.ciel_run_line.specs.Source.{OfJob, over_lines}
+use Rattle.ciel_run_line.specs.Keeping.{header_of}
+use Rattle.ciel_run_line.specs.Line.{FitsIn, OfJobFiles, OfLine, OfSource, SourceFits, Surely, files_of, paths_of}
+use Rattle.ciel_run_line.specs.Runs.{RootEnds, digest_of, log_path, plan_of, run_of, told_of}
+use Rattle.ciel_run_line.specs.Source.{IsSource, OfJob, over_lines}
+use Rattle.ciel_log.specs.Logging.{most}
+use Rattle.line_kit.specs.Gives.{gives}
 use Rattle.ciel_run_log.specs.declared.why.Why.{Why}
 
 -- ---- of a job that ran, whose journal is J
@@ -55,9 +59,7 @@ module _ (w : Words) (J : List Entry) (job : s.Job) where
   JobCause Why.AllLost = LosesAll
   JobCause (Why.NameClash kept given) = Clashes kept given
   JobCause (Why.TooDeepPlain depth) = IsTooDeep depth
-  JobCause (Why.KeepFault path) = (w.plain ≡ false) × (w.log ≡ Some path) × (J ≡ [])
-  JobCause Why.Memory = Unit {0}
-  JobCause _ = ⊥
+  JobCause _ = Unit {0}
 
   -- the root task came to its end where the job has bytes, or a fault
   abbrev pub EndsRoot : Result (List ℕ) Why → Type 0
@@ -71,17 +73,66 @@ module _ (w : Words) (J : List Entry) (job : s.Job) where
     pub bytes : IfOk result (λ b. s.Means job over_lines (Answered.bytes b))
     pub none : IfErr result JobCause
     pub driven : (J ≡ []) ⊎ DrivenJournal (told_of w job) (plan_of w) J
-    pub plain : w.plain ≡ true → J ≡ []
     pub root : w.plain ≡ false → EndsRoot result
+
+-- by which way of running a job that was read comes to an end without bytes, whatever log it went on from; and where none began
+abbrev pub Way : Words → List Entry → Why → Type 0
+Way w J (Why.Fault fault) = Unit {0}
+Way w J (Why.Endless names) = w.plain ≡ false
+Way w J (Why.TooMany held None) = w.plain ≡ true
+Way w J (Why.TooMany held (Some given)) = w.plain ≡ false
+Way w J Why.AllLost = w.plain ≡ false
+Way w J (Why.NameClash kept given) = w.plain ≡ false
+Way w J (Why.TooDeepPlain depth) = w.plain ≡ true
+Way w J (Why.KeepFault path) = (w.plain ≡ false) × (log_path w ≡ Some path) × (J ≡ [])
+Way w J (Why.BadLog path at) = (w.plain ≡ false) × (w.resume ≡ Some path) × (J ≡ [])
+Way w J (Why.OtherJob path) = (w.plain ≡ false) × (w.resume ≡ Some path) × (J ≡ [])
+Way w J Why.Memory = Unit {0}
+Way w J _ = ⊥
+
+pub record WaySo (w : Words) (J : List Entry) (result : Result (List ℕ) Why) : Type 0 where
+  pub way : IfErr result (Way w J)
+  pub plain : w.plain ≡ true → J ≡ []
 
 -- ---- of a line
 
--- a file is longer than its limit
+-- a file of its job is longer than its limit
 abbrev pub TooLongOf : (List ℕ → Option (List ℕ)) → Option files.Line → List ℕ → ℕ → Type 0
 TooLongOf content None path at = ⊥
 TooLongOf content (Some f) path at =
     IsOver content f path at
     × ((source : List ℕ) (inputs : List Input) → Holds content f source inputs → IsTooLong f source inputs path at)
+
+module _ (content : List ℕ → Option (List ℕ)) (w : Words) where
+  -- a file of the line is longer than its limit: one of its job's; or the log that it goes on from, and the job was read
+  abbrev pub TooLongBy : List ℕ → ℕ → Type 0
+  TooLongBy path at =
+      TooLongOf content (files_of w) path at
+      ⊎ ((w.resume ≡ Some path) × (at ≡ most) × PassesIfTold (content path) most
+      × OfJobFiles content w (λ source inputs. FitsIn (files_of w) source inputs × IsSource source inputs))
+
+  -- the fact, of the log at this path, where files tell it and the job
+  abbrev pub OfLog : List ℕ → (List ℕ → List Input → s.Job → List ℕ → Type 0) → Type 0
+  OfLog path P =
+      OfJobFiles content w (λ source inputs. FitsIn (files_of w) source inputs
+      × OfJob source inputs (λ job. (bytes : List ℕ) → content path ≡ Some bytes → P source inputs job bytes))
+
+  -- behind the header of this line and whole records, a whole record of the log begins at this place
+  abbrev pub HasBadRecord : List ℕ → ℕ → Type 0
+  HasBadRecord path at =
+      OfLog path (λ source inputs job bytes. BeginsAt bytes (header_of w source inputs) at)
+
+  -- its first record is whole and isn't the header of this line
+  abbrev pub HasOtherHeader : List ℕ → Type 0
+  HasOtherHeader path = OfLog path (λ source inputs job bytes. BeginsOther bytes (header_of w source inputs))
+
+  -- where files tell the job and the log, which are within their limits, and the log's first record is whole and isn't the header of this
+  -- line: the fact, of the log's path
+  abbrev pub IfOther : (List ℕ → Type 0) → Type 0
+  IfOther P =
+      (path bytes : List ℕ) → w.resume ≡ Some path → content path ≡ Some bytes → length bytes ≤ most
+      → OfJobFiles content w (λ source inputs. FitsIn (files_of w) source inputs → IsSource source inputs
+      → BeginsOther bytes (header_of w source inputs) → P path)
 
 -- `risen` says that the count of faults of the files rose, and J is the journal
 module _ (content : List ℕ → Option (List ℕ)) (w : Words) (risen : Type 0) (J : List Entry) where
@@ -92,19 +143,25 @@ module _ (content : List ℕ → Option (List ℕ)) (w : Words) (risen : Type 0)
   -- why there is no job to run
   abbrev pub NoJobBy : Why → Type 0
   NoJobBy (Why.Syntax kind l c) = OfSource content w (λ source. SourceFits (files_of w) source × IsSyntaxFault source kind l c)
-  NoJobBy (Why.ReadFault path) = Contains (paths_in (files_of w)) path × risen
-  NoJobBy (Why.TooLongInput path at) = TooLongOf content (files_of w) path at
+  NoJobBy (Why.ReadFault path) = Contains (paths_of w) path × risen
+  NoJobBy (Why.TooLongInput path at) = TooLongBy content w path at
   NoJobBy Why.Memory = Unit {0}
   NoJobBy _ = ⊥
 
+  -- a log of another job at this path ends the call so; or there is no job to run
+  abbrev pub OtherEnds : Result (List ℕ) Why → List ℕ → Type 0
+  OtherEnds result path = (result ≡ Err (Why.OtherJob path)) ⊎ ((why : Why) × (result ≡ Err why) × NoJobBy why)
+
   -- why nothing is to be written
   abbrev pub CauseOf : Why → Type 0
-  CauseOf Why.AllLost = (w.plain ≡ false) × AllAreLost (plan_of w) J × OfRun (λ job. Unit {0})
+  CauseOf Why.AllLost = (w.plain ≡ false) × Surely content w (AllAreLost (plan_of w) J) × OfRun (λ job. Unit {0})
   CauseOf (Why.TooDeepPlain depth) = (w.plain ≡ true) × OfRun (λ job. IsTooDeep w J job depth)
   CauseOf (Why.Fault fault) = OfRun (λ job. JobCause w J job (Why.Fault fault))
-  CauseOf (Why.Endless names) = (w.plain ≡ false) × IsDistinct same_text names × OfRun (λ job. GoesRound w J job names)
+  CauseOf (Why.Endless names) = (w.plain ≡ false) × Surely content w (IsDistinct same_text names) × OfRun (λ job. GoesRound w J job names)
   CauseOf (Why.TooMany held None) = (w.plain ≡ true) × OfRun (λ job. HasTooMany w J job held None)
   CauseOf (Why.TooMany held (Some given)) = (w.plain ≡ false) × OfRun (λ job. HasTooMany w J job held (Some given))
   CauseOf (Why.NameClash kept given) = (w.plain ≡ false) × OfRun (λ job. Clashes w J job kept given)
-  CauseOf (Why.KeepFault path) = (w.plain ≡ false) × (w.log ≡ Some path) × (J ≡ []) × OfRun (λ job. Unit {0})
+  CauseOf (Why.KeepFault path) = (w.plain ≡ false) × (log_path w ≡ Some path) × (J ≡ []) × OfRun (λ job. Unit {0})
+  CauseOf (Why.BadLog path at) = (w.plain ≡ false) × (w.resume ≡ Some path) × (J ≡ []) × HasBadRecord content w path at
+  CauseOf (Why.OtherJob path) = (w.plain ≡ false) × (w.resume ≡ Some path) × (J ≡ []) × HasOtherHeader content w path
   CauseOf why = NoJobBy why

@@ -1,17 +1,17 @@
 -- The log of a line's run: the header that it begins with, what the run makes of its keeper, and what its file tells.
-use Rattle.std.specs.Prelude.{◌≡◌, ◌≤◌, ℕ, List, Bool, true, false, Option, Some, None, IfSome, Result, Ok, Err, length}
+use Rattle.std.specs.Prelude.{◌≡◌, ℕ, List, Bool, true, false, Option, Some, None, IfSome, Result, Ok, Err, length}
 use Rattle.sky_base.specs.See as s
 use Rattle.ciel_io.specs.Faults.{HasRisen}
 use Rattle.ciel_io.specs.HeldFiles.{bytes_at}
 use Rattle.ciel_io.specs.Kept.{Files}
 use Rattle.ciel_journal.specs.Entries.{Entry}
-use Rattle.ciel_log.specs.Logging.{most}
 use Rattle.ciel_log.specs.Logs.{FullAt, HasDropped, Logs, WrittenPart}
 use Rattle.ciel_log.specs.declared.state.LogState.{LogState}
 use Rattle.ciel_log_records.specs.Records.{header_record}
-pub use Rattle.ciel_run_logged.specs.Keeping.{AsksOnly, KeeperSeen}
+pub use Rattle.ciel_run_resumed.specs.Keeping.{HasBytes, StandsBy}
+pub use Rattle.ciel_run_resumed.specs.RunLoggedKeeping.{AsksOnly, KeeperSeen}
 use Rattle.ciel_run_load.specs.Line.{Input}
-use Rattle.ciel_run_line.specs.Runs.{digest_of, plan_of}
+use Rattle.ciel_run_line.specs.Runs.{digest_of, log_path, plan_of}
 use Rattle.ciel_run_line.specs.Source.{OfJob}
 use Rattle.ciel_run_log.specs.declared.why.Why.{Why}
 use Rattle.ciel_words.specs.declared.words.NameKind.{NameKind}
@@ -28,18 +28,6 @@ abbrev pub header_of : Words → (source : List ℕ) → List Input → List ℕ
 header_of w source inputs = header_record w.workers w.seed w.losses (is_short w.names) source inputs
 
 -- ---- what is made of the keeper
-
--- where it is told, the file at the path has so many bytes
-abbrev pub HasBytes : List ℕ → Option Files → ℕ → Type 0
-HasBytes path files count = IfSome files (λ fs. length (bytes_at fs path) ≡ count)
-
-module _ (path : List ℕ) (before now : KeeperSeen) where
-  -- a failure is the keeper's; a log that is full has no more bytes than there may be, those of its file
-  abbrev pub StandsBy : LogState → Type 0
-  StandsBy LogState.Whole = Unit {0}
-  StandsBy LogState.Failed = HasRisen before.faults now.faults
-  StandsBy (LogState.Full held) = (held ≤ most) × HasBytes path now.files held
-  StandsBy LogState.Memory = Unit {0}
 
 -- by the path of the log, if there is one: no other path was asked; where no run began for it, the keeper has failed
 abbrev pub KeepsLog : Option (List ℕ) → (before now : KeeperSeen) → Result (List ℕ) Why → LogState → Type 0
@@ -73,7 +61,7 @@ module _ (w : Words) (source : List ℕ) (inputs : List Input) (J : List Entry) 
   -- the fact, of what stands at the path of the log, where it is told and has no record of a dropped report
   abbrev pub OfLog : Option Files → (List ℕ → Type 0) → Type 0
   OfLog files P =
-      (path : List ℕ) → w.log ≡ Some path → IfSome files (λ fs. (HasDropped (bytes_at fs path) → ⊥) → P (bytes_at fs path))
+      (path : List ℕ) → log_path w ≡ Some path → IfSome files (λ fs. (HasDropped (bytes_at fs path) → ⊥) → P (bytes_at fs path))
 
   -- so it is after a run that came to an answer, a fault, a circle or the loss of all workers
   abbrev pub LogTold : Option Files → LogState → Result (List ℕ) Why → Type 0

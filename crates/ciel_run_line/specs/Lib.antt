@@ -6,12 +6,15 @@ pub use Rattle.ciel_master.specs.Views
 pub use Rattle.ciel_log.specs.Logs
 pub use Rattle.ciel_log.specs.declared.state.LogState
 pub use Rattle.ciel_log.specs.Logging
+pub use Rattle.ciel_log_file.specs.Whole
 pub use Rattle.ciel_run_logged.specs.Ended
 pub use Rattle.ciel_run_logged.specs.Told
 pub mod Source
+pub mod Resuming
 pub mod Line
 pub mod Runs
+pub mod Keeping
+pub mod Gates
 pub mod Causes
 pub mod Asked
 pub mod Answering
-pub mod Keeping

@@ -1,9 +1,14 @@
--- What a line of the command names: a script with its inputs, read from files or generated.
-use Rattle.std.specs.Prelude.{◌≡◌, ◌≤◌, ℕ, List, [], Bool, false, Option, Some, None, length}
+-- What a line of the command names: a script with its inputs, read from files or generated, and the log that it goes on from.
+use Rattle.std.specs.Prelude.{◌≡◌, ◌≤◌, ℕ, List, [], ◌∷◌, ◌++◌, Bool, false, Option, Some, None, length}
+use Rattle.sky_base.specs.Tree.{Script}
+use Rattle.sky_parse.specs.Source.{IsScript}
 use Rattle.ciel_run_load.specs.Found.{Fits, Holds, limit}
 use Rattle.ciel_run_load.specs.Generated.{generated_inputs, generator}
 use Rattle.ciel_run_load.specs.Line as files
-use Rattle.ciel_run_load.specs.Line.{Input}
+use Rattle.ciel_run_load.specs.Line.{Input, keys_of}
+use Rattle.ciel_run_line.specs.Resuming.{IsOwnLog}
+use Rattle.ciel_run_line.specs.Runs.{log_path}
+use Rattle.ciel_run_line.specs.Source.{job_of}
 use Rattle.ciel_words.specs.Line.{line_of}
 use Rattle.ciel_words.specs.declared.words.Words.{Words}
 
@@ -20,9 +25,26 @@ abbrev pub paths_in : Option files.Line → List (List ℕ)
 paths_in None = []
 paths_in (Some f) = files.paths_of f
 
+-- the path of the log that it goes on from, which is read last
+abbrev pub resumed : Option (List ℕ) → List (List ℕ)
+resumed None = []
+resumed (Some path) = path ∷ []
+
+abbrev pub paths_of : Words → List (List ℕ)
+paths_of w = paths_in (files_of w) ++ resumed w.resume
+
 abbrev pub paths : Option Words → List (List ℕ)
 paths None = []
-paths (Some w) = paths_in (files_of w)
+paths (Some w) = paths_of w
+
+-- those of the job's files, and those behind
+abbrev pub job_paths : Option Words → List (List ℕ)
+job_paths None = []
+job_paths (Some w) = paths_in (files_of w)
+
+abbrev pub last_paths : Option Words → List (List ℕ)
+last_paths None = []
+last_paths (Some w) = resumed w.resume
 
 -- ---- what stands there
 
@@ -46,10 +68,35 @@ abbrev pub SourceFits : Option files.Line → List ℕ → Type 0
 SourceFits None source = Unit {0}
 SourceFits (Some f) source = length source ≤ limit
 
+-- one fact where a run begins itself, and another where it goes on from a log
+abbrev pub SurelyAt : (resume : Option (List ℕ)) → (alone onward : Type 0) → Type 0
+SurelyAt None alone onward = alone
+SurelyAt (Some path) alone onward = onward
+
 module _ (content : List ℕ → Option (List ℕ)) (w : Words) where
-  -- the fact, of the script and the inputs of this line, where files tell them all
+  -- where the line goes on from a log, and what it reads is within the limits and is a script: the log's file is told, and it begins a log of a
+  -- run of this job
+  abbrev pub LogIsOwn : List ℕ → List Input → Type 0
+  LogIsOwn source inputs =
+      (path : List ℕ) → w.resume ≡ Some path → FitsIn (files_of w) source inputs → (script : Script) → IsScript source (keys_of inputs) script
+      → (bytes : List ℕ) × (content path ≡ Some bytes) × IsOwnLog w source inputs (job_of script inputs) bytes
+
+  -- files tell the script and the inputs of this line, and the log that it goes on from is its own
+  pub record Stands (source : List ℕ) (inputs : List Input) : Type 0 where
+    pub there : StandsIn content (files_of w) w.generate source inputs
+    pub own : LogIsOwn source inputs
+
+  -- the fact, of the script and the inputs of this line, where files tell them all, and the log that it goes on from is its own
   abbrev pub OfLine : (List ℕ → List Input → Type 0) → Type 0
-  OfLine P = (source : List ℕ) (inputs : List Input) → StandsIn content (files_of w) w.generate source inputs → P source inputs
+  OfLine P = (source : List ℕ) (inputs : List Input) → Stands source inputs → P source inputs
+
+  -- the same, whatever the log is
+  abbrev pub OfJobFiles : (List ℕ → List Input → Type 0) → Type 0
+  OfJobFiles P = (source : List ℕ) (inputs : List Input) → StandsIn content (files_of w) w.generate source inputs → P source inputs
+
+  -- the fact of a run of this line, which needs no premise where the run begins itself
+  abbrev pub Surely : Type 0 → Type 0
+  Surely P = SurelyAt w.resume P (OfLine (λ source inputs. P))
 
   -- the fact, of its script, where files tell it
   abbrev pub OfSource : (List ℕ → Type 0) → Type 0
@@ -77,10 +124,15 @@ abbrev pub is_plain : Option Words → Bool
 is_plain None = false
 is_plain (Some w) = w.plain
 
--- the path of the log that it asks for
+-- the path of the log of its run
 abbrev pub log_of : Option Words → Option (List ℕ)
 log_of None = None
-log_of (Some w) = w.log
+log_of (Some w) = log_path w
+
+-- the path of the log that it goes on from
+abbrev pub resume_of : Option Words → Option (List ℕ)
+resume_of None = None
+resume_of (Some w) = w.resume
 
 -- how many workers it asks for
 abbrev pub workers_of : Option Words → ℕ

@@ -1,5 +1,5 @@
 -- The run of a line's job on the engine, as its journal tells it.
-use Rattle.std.specs.Prelude.{◌≡◌, ◌≤◌, ◌+◌, ◌*◌, ℕ, List, ◌∷◌, ◌++◌, [], ◌⊎◌}
+use Rattle.std.specs.Prelude.{◌≡◌, ◌≤◌, ◌+◌, ◌*◌, ℕ, List, ◌∷◌, ◌++◌, [], ◌⊎◌, Option, Some, None}
 use Rattle.sha1.specs.Sha1.{sha1}
 use Rattle.sha2.specs.Sha256.{sha256}
 use Rattle.sky_base.specs.See as s
@@ -35,6 +35,14 @@ digest_of NameKind.Sha256 = λ bytes. sha256 bytes
 -- the plan of a line: its workers, its seed number and its losses
 abbrev pub plan_of : Words → Plan
 plan_of w = record { workers = w.workers; seed = w.seed; losses = w.losses; limit = most_descriptions }
+
+-- the path of the log of its run, whether that is begun or gone on from
+abbrev pub log_at : (log resume : Option (List ℕ)) → Option (List ℕ)
+log_at None resume = resume
+log_at (Some path) resume = Some path
+
+abbrev pub log_path : Words → Option (List ℕ)
+log_path w = log_at w.log w.resume
 
 -- a job with the names that a line asks for, as its journal tells it
 abbrev pub run_of : Words → s.Job → Setting s.Desc P shop.Block

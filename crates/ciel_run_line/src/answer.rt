@@ -1,6 +1,6 @@
 //! What a job comes to, before anything is written: by the sequential interpreter, or on the engine.
 
-ghost use Rattle.std.specs.Prelude.{◌≡◌, ◌≢◌, ◌≤◌, ◌<◌, ◌^◌, ℕ, List, [], None, Some, Err, IfErr, IfOk, drop, false, length, map, true};
+ghost use Rattle.std.specs.Prelude.{◌≡◌, ◌≢◌, ◌≤◌, ◌⊎◌, ◌<◌, ◌^◌, ℕ, List, [], None, Some, Err, IfErr, IfOk, IfSome, drop, false, is_some, length, map, true};
 ghost use Rattle.std.specs.List.{AllByRecursion};
 ghost use Rattle.sky_base.specs.JobView.{job_view};
 ghost use Rattle.sky_base.specs.See.{Answered as Meant, Means};
@@ -15,20 +15,30 @@ ghost use Rattle.ciel_log.specs.Logs.{LogWritten};
 ghost use Rattle.ciel_log.specs.declared.state.LogState.{LogState as LogStateSeen};
 ghost use Rattle.ciel_run_load.specs.Line.{Input, keys_of};
 ghost use Rattle.ciel_run_load.specs.Loading.{IsOf};
+ghost use Rattle.ciel_journal.specs.Entries.{Entry as Line};
+ghost use Rattle.ciel_log_follows.specs.Begins.{BeginsLog};
+ghost use Rattle.ciel_log_file.specs.Whole.{BeginsAt, BeginsOther};
+ghost use Rattle.ciel_log_records.specs.Records.{in_file};
 ghost use Rattle.ciel_run_logged.specs.Keeping.{IfOver, Keeps};
+ghost use Rattle.ciel_run_resumed.specs.Gates.{ToldSince};
+ghost use Rattle.ciel_run_resumed.specs.Keeping.{KeptBy};
+ghost use Rattle.ciel_run_resumed.specs.Resuming.{FileTells, RefusesSo, Replays};
+ghost use Rattle.ciel_run_resumed.specs.declared.run.NotResumed.{NotResumed as NotResumedSeen};
 ghost use Rattle.ciel_words.specs.Inputs.{most_inputs, most_name};
 ghost use Rattle.ciel_run_line.specs.Asked.{NoRunOf};
-ghost use Rattle.ciel_run_line.specs.Keeping.{KeepsLog, LogTold};
+ghost use Rattle.ciel_run_line.specs.Keeping.{KeepsLog, LogTold, header_of};
 ghost use Rattle.line_kit.specs.Gives.{gives};
 ghost use Rattle.ciel_words.specs.Sound.{LineIsSound};
-ghost use Rattle.ciel_run_line.specs.Answering.{CanRunJob, PlainCause, end_view};
-ghost use Rattle.ciel_run_line.specs.Causes.{AnswersSo};
+ghost use Rattle.ciel_run_line.specs.Answering.{CanRunJob, PlainCause, WhyNot, end_view};
+ghost use Rattle.ciel_run_line.specs.Causes.{AnswersSo, WaySo};
 ghost use Rattle.ciel_run_log.specs.declared.why.Why.{Why};
-ghost use Rattle.ciel_run_line.specs.Runs.{digest_of, plan_of};
+ghost use Rattle.ciel_run_line.specs.Line.{SurelyAt};
+ghost use Rattle.ciel_run_line.specs.Resuming.{OnwardTold, OwnIfRead, RefusesLog, ReplaysLog};
+ghost use Rattle.ciel_run_line.specs.Runs.{digest_of, log_path, plan_of};
 ghost use Rattle.ciel_run_line.specs.Source.{over_lines};
 ghost use Rattle.ciel_master.specs.declared.stop.RunEnd.{RunEnd};
 
-use crate::header::begin_log;
+use crate::header::{begin_log, header};
 use ciel_gate::gate::Gate;
 use ciel_io::keep::Keep;
 use ciel_log::state::LogState;
@@ -40,6 +50,7 @@ use ciel_run_load::load::Loaded;
 use ciel_run_log::why::Why;
 use ciel_run_logged::run::{Begins, RanLogged, run_logged};
 use ciel_run_logged::run_job_run::{Ran, run_job};
+use ciel_run_resumed::run::{NotResumed, Resumes, run_resumed};
 use ciel_words::words::{NameKind, Words};
 use line_flow::kit::FlowKit;
 use sky_base::job::Job;
@@ -217,12 +228,13 @@ where
     requires few { length (job_view loaded.job).inputs ≤ most_inputs }
     requires gates { length gates.old.items ≡ 64 }
     ensures answers { AnswersSo line.now (map entry_view result.journal.items) (job_view loaded.job) result.result }
+    ensures ways { WaySo line.now (map entry_view result.journal.items) result.result }
     ensures told { result.result ≢ Err Why.Memory
         → ToldBy (map entry_view result.journal.items) (told_of G.entered line.now.workers gates.old.items)
         (told_of G.entered line.now.workers gates.new.items) }
     ensures others { result.result ≢ Err Why.Memory → drop line.now.workers gates.new.items ≡ drop line.now.workers gates.old.items }
     ensures all { result.result ≢ Err Why.Memory → length gates.new.items ≡ 64 }
-    ensures keeps { KeepsLog line.now.log
+    ensures keeps { KeepsLog (log_path line.now)
         (record { files = D.files keep.old; asked = D.asked keep.old; faults = D.faults keep.old })
         (record { files = D.files keep.new; asked = D.asked keep.new; faults = D.faults keep.new }) result.result result.state }
     ensures logged { (inputs : List Input) → IsOf loaded.source inputs (job_view loaded.job)
@@ -245,12 +257,162 @@ where
     }
 }
 
-/// What the job of a line comes to.
+/// The same with a log that it goes on from.
+fn run_from_log<G, D, R>(
+    rt: R,
+    alloc: Global,
+    names: NameKind,
+    job: Job,
+    gates: &mut Vec<G>,
+    plan: RunPlan,
+    keep: &mut D,
+    resumes: Resumes<'_>,
+) -> Result<RanLogged, NotResumed>
+where
+    G: Gate + Send + 'static,
+    D: Keep,
+    R: Threads + Wait + Copy + Send + Drop + 'static,
+    requires job { CanRunJob (job_view job) }
+    requires workers { (0 < plan.workers) × (plan.workers ≤ 64) }
+    requires losses { Each (λ (loss : ℕ × ℕ). loss.1 < plan.workers) plan.losses }
+    requires gates { length gates.old.items ≡ 64 }
+    requires short { length (in_file resumes.header.now) ≤ most }
+    requires log { length resumes.log.now ≤ most }
+    ensures other { result ≡ Err NotResumedSeen.OtherJob → BeginsOther resumes.entry.log.now resumes.entry.header.now }
+    ensures of_other { BeginsOther resumes.entry.log.now resumes.entry.header.now
+        → (result ≡ Err NotResumedSeen.OtherJob) ⊎ (result ≡ Err NotResumedSeen.Memory) }
+    ensures bad { (at : ℕ) → result ≡ Err (NotResumedSeen.BadLog at) → BeginsAt resumes.entry.log.now resumes.entry.header.now at }
+    ensures kept { IfErr result (λ why. why ≢ NotResumedSeen.Memory → gates.new ≡ gates.old) }
+    ensures refused { IfErr result (λ why. RefusesSo resumes.entry.path
+        (record { files = D.files keep.old; asked = D.asked keep.old; faults = D.faults keep.old })
+        (record { files = D.files keep.new; asked = D.asked keep.new; faults = D.faults keep.new }) why) }
+    ensures end { BeginsLog (digest_of names) (job_view job) gives (plan_view plan) resumes.entry.header.now resumes.entry.log.now
+        → IfOk result (λ r. EndsSo (digest_of names) (job_view job) gives (plan_view plan) (map entry_view r.ran.journal.items) r.ran.end) }
+    ensures told { IfOk result (λ r. r.ran.end ≢ RunEnd.Memory → (replayed : List Line)
+        × (BeginsLog (digest_of names) (job_view job) gives (plan_view plan) resumes.entry.header.now resumes.entry.log.now
+        → Replays (digest_of names) (job_view job) gives (plan_view plan) resumes.entry.header.now resumes.entry.log.now replayed)
+        × ToldSince replayed (map entry_view r.ran.journal.items) (told_of G.entered plan.workers gates.old.items)
+        (told_of G.entered plan.workers gates.new.items)) }
+    ensures written { BeginsLog (digest_of names) (job_view job) gives (plan_view plan) resumes.entry.header.now resumes.entry.log.now
+        → IfOk result (λ r. IfOver r.ran.end (FileTells (digest_of names) (job_view job) gives (plan_view plan) resumes.entry.header.now resumes.entry.path
+        (D.files keep.new) (map entry_view r.ran.journal.items) r.state)) }
+    ensures others { IfOk result (λ r. r.ran.end ≢ RunEnd.Memory → drop plan.workers gates.new.items ≡ drop plan.workers gates.old.items) }
+    ensures all { IfOk result (λ r. r.ran.end ≢ RunEnd.Memory → length gates.new.items ≡ 64) }
+    ensures keeps { IfOk result (λ r. r.ran.end ≢ RunEnd.Memory → KeptBy resumes.entry.path
+        (record { files = D.files keep.old; asked = D.asked keep.old; faults = D.faults keep.old })
+        (record { files = D.files keep.new; asked = D.asked keep.new; faults = D.faults keep.new }) r.state) }
+{
+    match names {
+        NameKind::Sha1 => run_resumed(
+            rt, alloc, job, FlowKit, Sha1Namer, gates, plan, keep, resumes,
+        ),
+        NameKind::Sha256 => run_resumed(
+            rt,
+            alloc,
+            job,
+            FlowKit,
+            Sha256Namer,
+            gates,
+            plan,
+            keep,
+            resumes,
+        ),
+    }
+}
+
+/// Why a job didn't go on from the log at this path.
+fn why_not(not: NotResumed, path: &Txt) -> Why
+    ensures { WhyNot not path.now result }
+{
+    let Ok(path) = path.share() else {
+        return Why::Memory;
+    };
+    match not {
+        NotResumed::OtherJob => Why::OtherJob { path },
+        NotResumed::BadLog { at } => Why::BadLog { path, at },
+        NotResumed::Failed => Why::KeepFault { path },
+        NotResumed::Memory => Why::Memory,
+    }
+}
+
+/// What the job of a line comes to on the engine, from where the log at this path stands.
+fn answer_from_log<G, D, R>(
+    rt: R,
+    alloc: Global,
+    line: &Words,
+    path: &Txt,
+    loaded: Loaded,
+    log: &Bytes,
+    plan: RunPlan,
+    gates: &mut Vec<G>,
+    keep: &mut D,
+) -> Answered
+where
+    G: Gate + Send + 'static,
+    D: Keep,
+    R: Threads + Wait + Copy + Send + Drop + 'static,
+    requires line { LineIsSound line.now }
+    requires plain { line.now.plain ≡ false }
+    requires path { line.now.resume ≡ Some path.now }
+    requires plan { plan_view plan ≡ plan_of line.now }
+    requires job { CanRunJob (job_view loaded.job) }
+    requires keys { AllByRecursion (λ (i : List ℕ × List ℕ). length i.0 ≤ most_name) (job_view loaded.job).inputs }
+    requires few { length (job_view loaded.job).inputs ≤ most_inputs }
+    requires gates { length gates.old.items ≡ 64 }
+    requires log { length log.now ≤ most }
+    ensures answers { OwnIfRead line.now loaded.source (job_view loaded.job).inputs (job_view loaded.job) (Some log.now)
+        → AnswersSo line.now (map entry_view result.journal.items) (job_view loaded.job) result.result }
+    ensures ways { WaySo line.now (map entry_view result.journal.items) result.result }
+    ensures refuses { IfErr result.result (RefusesLog line.now loaded.source (job_view loaded.job) (Some log.now)) }
+    ensures of_other { BeginsOther log.now (header_of line.now loaded.source (job_view loaded.job).inputs)
+        → (result.result ≡ Err (Why.OtherJob path.now)) ⊎ (result.result ≡ Err Why.Memory) }
+    ensures told { result.result ≢ Err Why.Memory
+        → OnwardTold (λ replayed. OwnIfRead line.now loaded.source (job_view loaded.job).inputs (job_view loaded.job) (Some log.now)
+        → ReplaysLog line.now loaded.source (job_view loaded.job).inputs (job_view loaded.job) log.now replayed)
+        (map entry_view result.journal.items) (told_of G.entered line.now.workers gates.old.items)
+        (told_of G.entered line.now.workers gates.new.items) }
+    ensures others { result.result ≢ Err Why.Memory → drop line.now.workers gates.new.items ≡ drop line.now.workers gates.old.items }
+    ensures all { result.result ≢ Err Why.Memory → length gates.new.items ≡ 64 }
+    ensures keeps { KeepsLog (log_path line.now)
+        (record { files = D.files keep.old; asked = D.asked keep.old; faults = D.faults keep.old })
+        (record { files = D.files keep.new; asked = D.asked keep.new; faults = D.faults keep.new }) result.result result.state }
+    ensures logged { OwnIfRead line.now loaded.source (job_view loaded.job).inputs (job_view loaded.job) (Some log.now)
+        → (inputs : List Input) → IsOf loaded.source inputs (job_view loaded.job)
+        → LogTold line.now loaded.source inputs (map entry_view result.journal.items) (D.files keep.new) result.state result.result }
+    ensures kept { NoRunOf false result.result → gates.new ≡ gates.old }
+{
+    let Loaded { source, job } = loaded;
+    let (Ok(header), Ok(at)) = (header(alloc, line, source.as_slice(), &job), path.share()) else {
+        return not_run(alloc, Why::Memory);
+    };
+    let resumes = Resumes {
+        path: at,
+        header: header.as_slice(),
+        log: log.as_slice(),
+    };
+    match run_from_log(rt, alloc, line.names, job, gates, plan, keep, resumes) {
+        Ok(logged) => {
+            let RanLogged {
+                ran: Ran { end, journal },
+                state,
+            } = logged;
+            Answered {
+                result: end_of(end),
+                journal,
+                state,
+            }
+        }
+        Err(not) => not_run(alloc, why_not(not, path)),
+    }
+}
+
+/// What the job of a line comes to; `log` has the bytes of the log that it goes on from, where it does.
 pub fn answer<G, D, R>(
     rt: R,
     alloc: Global,
     line: &Words,
     loaded: Loaded,
+    log: Option<Bytes>,
     gates: &mut Vec<G>,
     keep: &mut D,
 ) -> Answered
@@ -263,18 +425,30 @@ where
     requires keys { AllByRecursion (λ (i : List ℕ × List ℕ). length i.0 ≤ most_name) (job_view loaded.job).inputs }
     requires few { length (job_view loaded.job).inputs ≤ most_inputs }
     requires gates { length gates.old.items ≡ 64 }
-    ensures answers { AnswersSo line.now (map entry_view result.journal.items) (job_view loaded.job) result.result }
+    requires log { is_some log ≡ is_some line.now.resume }
+    requires within { IfSome log (λ b. length b ≤ most) }
+    ensures answers { OwnIfRead line.now loaded.source (job_view loaded.job).inputs (job_view loaded.job) log
+        → AnswersSo line.now (map entry_view result.journal.items) (job_view loaded.job) result.result }
+    ensures ways { WaySo line.now (map entry_view result.journal.items) result.result }
+    ensures refuses { IfErr result.result (RefusesLog line.now loaded.source (job_view loaded.job) log) }
+    ensures of_other { (path bytes : List ℕ) → line.now.resume ≡ Some path → log ≡ Some bytes
+        → BeginsOther bytes (header_of line.now loaded.source (job_view loaded.job).inputs)
+        → (result.result ≡ Err (Why.OtherJob path)) ⊎ (result.result ≡ Err Why.Memory) }
     ensures told { result.result ≢ Err Why.Memory
-        → ToldBy (map entry_view result.journal.items) (told_of G.entered line.now.workers gates.old.items)
-        (told_of G.entered line.now.workers gates.new.items) }
+        → SurelyAt line.now.resume (ToldBy (map entry_view result.journal.items) (told_of G.entered line.now.workers gates.old.items)
+        (told_of G.entered line.now.workers gates.new.items))
+        (OnwardTold (λ replayed. (bytes : List ℕ) → log ≡ Some bytes → OwnIfRead line.now loaded.source (job_view loaded.job).inputs (job_view loaded.job) log
+        → ReplaysLog line.now loaded.source (job_view loaded.job).inputs (job_view loaded.job) bytes replayed)
+        (map entry_view result.journal.items) (told_of G.entered line.now.workers gates.old.items)
+        (told_of G.entered line.now.workers gates.new.items)) }
     ensures others { result.result ≢ Err Why.Memory → drop line.now.workers gates.new.items ≡ drop line.now.workers gates.old.items }
     ensures all { result.result ≢ Err Why.Memory → length gates.new.items ≡ 64 }
     ensures kept { NoRunOf line.now.plain result.result → gates.new ≡ gates.old }
-    ensures unasked { line.now.log ≡ None → keep.new ≡ keep.old }
-    ensures keeps { KeepsLog line.now.log
+    ensures unasked { log_path line.now ≡ None → keep.new ≡ keep.old }
+    ensures keeps { KeepsLog (log_path line.now)
         (record { files = D.files keep.old; asked = D.asked keep.old; faults = D.faults keep.old })
         (record { files = D.files keep.new; asked = D.asked keep.new; faults = D.faults keep.new }) result.result result.state }
-    ensures logged { (inputs : List Input) → IsOf loaded.source inputs (job_view loaded.job)
+    ensures logged { OwnIfRead line.now loaded.source (job_view loaded.job).inputs (job_view loaded.job) log → (inputs : List Input) → IsOf loaded.source inputs (job_view loaded.job)
         → LogTold line.now loaded.source inputs (map entry_view result.journal.items) (D.files keep.new) result.state result.result }
 {
     if line.plain {
@@ -289,6 +463,10 @@ where
     };
     if let Some(path) = &line.log {
         return answer_with_log(rt, alloc, line, path, loaded, plan, gates, keep);
+    }
+    if let Some(path) = &line.resume {
+        let Some(log) = &log else { unreachable!() };
+        return answer_from_log(rt, alloc, line, path, loaded, log, plan, gates, keep);
     }
     let Ran { end, journal } = run(rt, alloc, line.names, loaded.job, gates, plan);
     Answered {

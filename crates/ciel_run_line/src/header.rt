@@ -30,9 +30,14 @@ fn is_short(names: NameKind) -> bool
     names == NameKind::Sha1
 }
 
-// The header of a line's log, as it stands in the file.
-fn header(alloc: Global, line: &Words, source: &[u8], job: &Job) -> Result<Writer, Memory>
-    ensures { IfOk result (λ out. out ≡ in_file (header_of line.now source.now job.now.inputs)) }
+/// The header of a line's log.
+pub(crate) fn header(
+    alloc: Global,
+    line: &Words,
+    source: &[u8],
+    job: &Job,
+) -> Result<Writer, Memory>
+    ensures { IfOk result (λ out. out ≡ header_of line.now source.now job.now.inputs) }
 {
     let mut record = Writer::new(alloc);
     put_header(
@@ -44,6 +49,14 @@ fn header(alloc: Global, line: &Words, source: &[u8], job: &Job) -> Result<Write
         source,
         job.inputs.as_slice(),
     )?;
+    Ok(record)
+}
+
+// The same, as it stands in the file.
+fn header_in_file(alloc: Global, line: &Words, source: &[u8], job: &Job) -> Result<Writer, Memory>
+    ensures { IfOk result (λ out. out ≡ in_file (header_of line.now source.now job.now.inputs)) }
+{
+    let record = header(alloc, line, source, job)?;
     let mut out = Writer::new(alloc);
     put_block(&mut out, record.as_slice())?;
     Ok(out)
@@ -73,7 +86,7 @@ pub(crate) fn begin_log<D: Keep>(
     ensures failed { IfErr result (λ why. (why ≡ Why.Memory) ⊎ ((why ≡ Why.KeepFault path.now)
         × HasRisen (D.faults keep.old) (D.faults keep.new) × Tells (D.asked keep.old) (D.asked keep.new) (path.now ∷ []))) }
 {
-    let (Ok(header), Ok(path)) = (header(alloc, line, source, job), path.share()) else {
+    let (Ok(header), Ok(path)) = (header_in_file(alloc, line, source, job), path.share()) else {
         return Err(Why::Memory);
     };
     match keep.replace(&path, header.as_slice()) {

@@ -6,9 +6,9 @@ use Rattle.sky_base.specs.Tree.{Script}
 use Rattle.ciel_io.specs.Tells.{Tells, TellsPart}
 use Rattle.sky_parse.specs.Source.{IsScript}
 use Rattle.ciel_run_load.specs.Line.{Input, Line, keys_of, name_in, path_in, paths_of}
-use Rattle.ciel_run_load.specs.Found.{HoldAll, Holds, PassesIfTold, limit}
-use Rattle.ciel_run_load.specs.Reading.{AsksEach, ReadAll, StopsIn, StopsSo, UnreadOf, UnreadSo}
-use Rattle.ciel_run_load.specs.Loading.{AsksJob, HasScript, IsLoaded, NotLoaded, StopsAt, StopsJob, unread}
+use Rattle.ciel_run_load.specs.Found.{HoldAll, Holds, PassesIfTold, input_limit, limit}
+use Rattle.ciel_run_load.specs.Reading.{AsksEach, FitIfTold, ReadAll, StopsIn, StopsSo, UnreadOf, UnreadSo}
+use Rattle.ciel_run_load.specs.Loading.{AllRead, AsksJob, HasScript, IsLoaded, NotLoaded, StopsAt, StopsJob, unread}
 use Rattle.ciel_run_load.specs.declared.read.Unread.{Unread}
 use Rattle.ciel_io.proofs.Joined.{tells_more}
 use Rattle.ciel_run_load.proofs.Taken.{all_read, asks_first, asks_more, there}
@@ -157,3 +157,21 @@ module _ (content : Files) (path : List ℕ) (is : List Named) where
   input_stops (Unread.TooLong at most) b m n read keys script found within named s t u =
       input_stops_at at b m n (has_script (content path) read keys script found within named s) t u
   input_stops Unread.Memory b m n read keys script found within named s t u = tt
+
+-- ---- all was read
+
+fit_one : (told : Option (List ℕ)) (bytes : List ℕ) → IfSome told (λ file. bytes ≡ file) → length bytes ≤ input_limit
+    → IfSome told (λ file. length file ≤ input_limit)
+fit_one None bytes e h = tt
+fit_one (Some file) bytes e h = subst (λ (b : List ℕ). length b ≤ input_limit) e h
+
+fit_all : (content : Files) (is : List Named) (bs : List Input) → ReadAll content is bs → FitIfTold content is
+fit_all content [] bs r = tt
+fit_all content (i ∷ is) [] r = absurd r
+fit_all content (i ∷ is) (b ∷ bs) r = (fit_one (content i.1) b.1 r.0.1 r.0.2, fit_all content is bs r.1)
+
+pub all_fit : (content : Files) (path : List ℕ) (is : List Named) (read : List ℕ) (keys : List (List ℕ)) (script : Script) (bs : List Input)
+    → IfSome (content path) (λ file. read ≡ file) → length read ≤ limit → keys ≡ map name_in is → IsScript read keys script → ReadAll content is bs
+    → AllRead content (record { script = path; inputs = is })
+all_fit content path is read keys script bs found within named s all =
+    (has_script content path is (content path) read keys script found within named s, fit_all content is bs all)

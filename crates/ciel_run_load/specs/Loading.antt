@@ -65,6 +65,10 @@ module _ (content : List ℕ → Option (List ℕ)) (line : Line) where
   HasScript = IfSome (content line.script)
       (λ source. (length source ≤ limit) × ((script : Script) × IsScript source (map name_in line.inputs) script))
 
+  -- and each input has no more bytes than its limit, where files tell it
+  abbrev pub AllRead : Type 0
+  AllRead = HasScript × FitIfTold content line.inputs
+
   -- the file at this path is the last one asked: it is the script's, or the script is one and each input before this one fits
   abbrev pub StopsAt : List ℕ → Option (List (List ℕ)) → Option (List (List ℕ)) → Type 0
   StopsAt path before now =

@@ -61,6 +61,7 @@ fn read_on<F: Files>(
     ensures asks { AsksEach result (map path_in inputs.now) (F.asked files.old) (F.asked files.new) }
     ensures order { IfErr result (StopsSo (F.content files.old) inputs.now (F.asked files.old) (F.asked files.new)) }
     ensures never_falls { F.faults files.old ≤ F.faults files.new }
+    ensures kept { F.content files.new ≡ F.content files.old }
 {
     let Some((first, more)) = inputs.split_first() else {
         return Ok(());
@@ -85,6 +86,8 @@ pub(crate) fn inputs<F: Files>(
     ensures unread { IfErr result (UnreadOf (F.content files.old) inputs.now (HasRisen (F.faults files.old) (F.faults files.new))) }
     ensures asks { AsksEach result (map path_in inputs.now) (F.asked files.old) (F.asked files.new) }
     ensures order { IfErr result (StopsSo (F.content files.old) inputs.now (F.asked files.old) (F.asked files.new)) }
+    ensures never_falls { F.faults files.old ≤ F.faults files.new }
+    ensures kept { F.content files.new ≡ F.content files.old }
 {
     let mut items = Vec::new(alloc);
     read_on(alloc, inputs, files, &mut items)?;

@@ -8,5 +8,5 @@ pub mod generated;
 mod inputs;
 pub mod lines;
 pub mod load;
-mod read;
+pub mod read;
 pub mod script;

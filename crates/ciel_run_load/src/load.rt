@@ -6,7 +6,7 @@ ghost use Rattle.ciel_io.specs.Faults.{HasRisen};
 ghost use Rattle.ciel_io.specs.Tells.{Tells};
 ghost use Rattle.ciel_run_load.specs.Line as of;
 ghost use Rattle.ciel_run_load.specs.Line.{paths_of};
-ghost use Rattle.ciel_run_load.specs.Loading.{unread, IsLoaded, NotLoaded, AsksJob, StopsJob};
+ghost use Rattle.ciel_run_load.specs.Loading.{unread, AllRead, IsLoaded, NotLoaded, AsksJob, StopsJob};
 
 use crate::inputs::{inputs, keys};
 use crate::read::{Unread, read};
@@ -76,6 +76,9 @@ pub fn load<F: Files>(
     ensures asked { OnOk result (Tells (F.asked files.old) (F.asked files.new) (paths_of (record { script = path.now; inputs = named.now }))) }
     ensures asks { IfErr result (λ why. AsksJob why (paths_of (record { script = path.now; inputs = named.now })) (F.asked files.old)
         (F.asked files.new)) }
+    ensures read { OnOk result (AllRead (F.content files.old) (record { script = path.now; inputs = named.now })) }
+    ensures never_falls { F.faults files.old ≤ F.faults files.new }
+    ensures kept { F.content files.new ≡ F.content files.old }
     ensures order { IfErr result (StopsJob (F.content files.old) (record { script = path.now; inputs = named.now }) (F.asked files.old)
         (F.asked files.new)) }
 {

@@ -18,4 +18,6 @@ status_of Why.Memory = 10
 status_of (Why.TooLongInput path at) = 11
 status_of (Why.TooDeepPlain depth) = 13
 status_of (Why.KeepFault path) = 14
+status_of (Why.BadLog path at) = 15
+status_of (Why.OtherJob path) = 16
 status_of (Why.LogFull path held) = 18

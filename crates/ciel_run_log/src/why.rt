@@ -60,6 +60,15 @@ pub enum Why {
     KeepFault {
         path: Txt,
     },
+    /// The log at the path can't be gone on from: the record at this byte is none that a log of this run may have there. Status 15.
+    BadLog {
+        path: Txt,
+        at: u64,
+    },
+    /// The log at the path can't be gone on from: it is that of another script, of other inputs or of another plan. Status 16.
+    OtherJob {
+        path: Txt,
+    },
     /// The log at the path has so many bytes, and the next record would go past the most that it may have; the answer was written. Status 18.
     LogFull {
         path: Txt,
@@ -98,6 +107,8 @@ impl Why {
             Why::TooLongInput { .. } => 11,
             Why::TooDeepPlain { .. } => 13,
             Why::KeepFault { .. } => 14,
+            Why::BadLog { .. } => 15,
+            Why::OtherJob { .. } => 16,
             Why::LogFull { .. } => 18,
         }
     }

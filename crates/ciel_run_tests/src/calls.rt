@@ -1,5 +1,5 @@
-// The program over a script at the path `s` and an input of the lines `b` and `a` at the path `f`, in memory. One helper calls it, and its
-// contract says nothing: what the program promises would else be carried through every row.
+// The program over a script at the path `s`, an input of the lines `b` and `a` at the path `f` and a log at the path `l`, in memory. One helper
+// calls it, and its contract says nothing: what the program promises would else be carried through every row.
 
 ghost use Rattle.std.specs.Prelude.{◌≡◌, length};
 
@@ -19,8 +19,8 @@ use std::thread::Threads;
 pub type Fails = (u32, u32, u32, u32);
 
 /// A file with these bytes.
-fn file(alloc: Global, path: &str, text: &str) -> Result<(Txt, Bytes), Fail> {
-    let bytes = Bytes::new(alloc, Vec::from_slice(alloc, text.as_bytes())?)?;
+fn file(alloc: Global, path: &str, bytes: &[u8]) -> Result<(Txt, Bytes), Fail> {
+    let bytes = Bytes::new(alloc, Vec::from_slice(alloc, bytes)?)?;
     Ok((Txt::new(alloc, path)?, bytes))
 }
 
@@ -31,11 +31,12 @@ fn only(alloc: Global, number: u32) -> Result<Vec<u32>, Fail> {
     Ok(numbers)
 }
 
-/// The script and the input.
-fn files(alloc: Global, source: &str, fails: u32) -> Result<MemFiles, Fail> {
+/// The script, the input and the log.
+fn files(alloc: Global, source: &str, log: &[u8], fails: u32) -> Result<MemFiles, Fail> {
     let mut files = Vec::new(alloc);
-    files.push(file(alloc, "s", source)?)?;
-    files.push(file(alloc, "f", "b\na\n")?)?;
+    files.push(file(alloc, "s", source.as_bytes())?)?;
+    files.push(file(alloc, "f", b"b\na\n")?)?;
+    files.push(file(alloc, "l", log)?)?;
     let files = MemFiles::new(alloc, files, only(alloc, fails)?)?;
     Ok(files)
 }
@@ -68,7 +69,7 @@ pub struct Got {
     pub keep: MemKeep,
 }
 
-/// The program over the words of a row, a script and these gates.
+/// The program over the words of a row, a script and these gates; the log that stands at its path is empty.
 pub fn outcome<G: Gate + Send + 'static, R: Threads + Wait + Copy + Send + Drop + 'static>(
     rt: R,
     alloc: Global,
@@ -79,7 +80,23 @@ pub fn outcome<G: Gate + Send + 'static, R: Threads + Wait + Copy + Send + Drop 
 ) -> Result<Got, Fail>
     requires { length gates.old.items ≡ 64 }
 {
-    let mut files = files(alloc, source, fails.0)?;
+    let got = outcome_from(rt, alloc, row, source, &[], fails, gates)?;
+    Ok(got)
+}
+
+/// The same with the bytes of the log.
+pub fn outcome_from<G: Gate + Send + 'static, R: Threads + Wait + Copy + Send + Drop + 'static>(
+    rt: R,
+    alloc: Global,
+    row: &str,
+    source: &str,
+    log: &[u8],
+    fails: Fails,
+    gates: &mut Vec<G>,
+) -> Result<Got, Fail>
+    requires { length gates.old.items ≡ 64 }
+{
+    let mut files = files(alloc, source, log, fails.0)?;
     let words = words_of(alloc, row)?;
     let mut out = sink(alloc, fails.1)?;
     let mut log = sink(alloc, fails.2)?;

@@ -45,7 +45,7 @@ type Row = (
 
 const SUM: &str = "return 1 + 2;";
 
-static ROWS: [Row; 15] = [
+static ROWS: [Row; 19] = [
     ("s", SUM, (1, 0, 0, 0), 8, "", "ciel: read fault s\n"),
     ("s t=f", SUM, (2, 0, 0, 0), 8, "", "ciel: read fault f\n"),
     (
@@ -130,6 +130,31 @@ static ROWS: [Row; 15] = [
         "3\n",
         "ciel: write fault\n",
     ),
+    (
+        "s --resume l",
+        SUM,
+        (2, 0, 0, 0),
+        8,
+        "",
+        "ciel: read fault l\n",
+    ),
+    (
+        "s --resume l",
+        SUM,
+        (0, 0, 0, 1),
+        14,
+        "",
+        "ciel: keep fault l\n",
+    ),
+    (
+        "s --resume l",
+        SUM,
+        (0, 0, 0, 2),
+        14,
+        "3\n",
+        "ciel: keep fault l\n",
+    ),
+    ("s --resume l", SUM, (0, 0, 0, 6), 0, "3\n", ""),
     (
         "s --log l",
         "return 1 / 0;",

@@ -1,6 +1,6 @@
-// What the program puts into the log of a run, to the byte.
+// What the program puts into the log of a run, to the byte, and how it goes on from one.
 
-use crate::calls::outcome;
+use crate::calls::{outcome, outcome_from};
 use ciel_gate::open::Open;
 use sky_base::text::Txt;
 use std::alloc::Global;
@@ -33,6 +33,29 @@ fn the_log_of_a_sum(rt: HostRuntime) -> Result<(), Fail> {
         alloc,
         "s --log l",
         "return 1 + 2;",
+        (0, 0, 0, 0),
+        &mut gates,
+    )?;
+    assert_eq!(&rt; got.ended.status, 0);
+    assert!(&rt; got.out.bytes() == b"3\n".as_slice());
+    let log = joined(alloc, SUM.as_slice())?;
+    let path = Txt::new(alloc, "l")?;
+    assert!(&rt; got.keep.file(&path) == Some(log.as_slice()));
+    Ok(())
+}
+
+// The log is cut within the report of the first task: that report comes again.
+#[test]
+fn a_sum_goes_on_from_its_log(rt: HostRuntime) -> Result<(), Fail> {
+    let alloc = rt.alloc();
+    let mut gates = Vec::from_elem(alloc, Open, 64)?;
+    let cut = joined(alloc, &[SUM[0], SUM[1], b"\x00\x00\x00$R\x00"])?;
+    let got = outcome_from(
+        rt,
+        alloc,
+        "s --resume l",
+        "return 1 + 2;",
+        cut.as_slice(),
         (0, 0, 0, 0),
         &mut gates,
     )?;

@@ -109,6 +109,25 @@ fn messages_of_files(rt: HostRuntime) -> Result<(), Fail> {
         Why::LogFull { path, held },
         "ciel: log full l 268435450\n",
     )?;
+    messages_of_logs(&rt, alloc)?;
     says(&rt, alloc, Why::WriteFault, "ciel: write fault\n")?;
     says(&rt, alloc, Why::Memory, "ciel: no memory\n")
+}
+
+fn messages_of_logs(rt: &impl Abort, alloc: Global) -> Result<(), Fail> {
+    let path = Txt::new(alloc, "l")?;
+    let at = 18_446_744_073_709_551_615;
+    says(
+        rt,
+        alloc,
+        Why::BadLog { path, at },
+        "ciel: bad log l 18446744073709551615\n",
+    )?;
+    let path = Txt::new(alloc, "a b.log")?;
+    says(
+        rt,
+        alloc,
+        Why::OtherJob { path },
+        "ciel: other job a b.log\n",
+    )
 }

@@ -25,15 +25,19 @@ finished : (R : List Row) → fold with_default R top.rules ≡ with_flag (codes
 finished R =
     let none = λ (n : Text) (S : List Row). either_way {A = List Row} (has_row n S) S in
     ap (λ S. fold with_default S (own.option (codes "seed") ∷ own.option (codes "lose") ∷ own.option (codes "names") ∷ own.option (codes "log")
-    ∷ own.option (codes "generate") ∷ own.flag (codes "trace") ∷ own.flag (codes "plain") ∷ words ∷ [])) (none (codes "workers") R)
+    ∷ own.option (codes "resume") ∷ own.option (codes "generate") ∷ own.flag (codes "trace") ∷ own.flag (codes "plain") ∷ words
+    ∷ [])) (none (codes "workers") R)
     ∙ ap (λ S. fold with_default S (own.option (codes "lose") ∷ own.option (codes "names") ∷ own.option (codes "log")
-    ∷ own.option (codes "generate") ∷ own.flag (codes "trace") ∷ own.flag (codes "plain") ∷ words ∷ [])) (none (codes "seed") R)
-    ∙ ap (λ S. fold with_default S (own.option (codes "names") ∷ own.option (codes "log") ∷ own.option (codes "generate") ∷ own.flag (codes "trace")
-    ∷ own.flag (codes "plain") ∷ words ∷ [])) (none (codes "lose") R)
-    ∙ ap (λ S. fold with_default S (own.option (codes "log") ∷ own.option (codes "generate") ∷ own.flag (codes "trace") ∷ own.flag (codes "plain")
-    ∷ words ∷ [])) (none (codes "names") R)
-    ∙ ap (λ S. fold with_default S (own.option (codes "generate") ∷ own.flag (codes "trace") ∷ own.flag (codes "plain") ∷ words ∷ []))
-    (none (codes "log") R)
+    ∷ own.option (codes "resume") ∷ own.option (codes "generate") ∷ own.flag (codes "trace") ∷ own.flag (codes "plain") ∷ words
+    ∷ [])) (none (codes "seed") R)
+    ∙ ap (λ S. fold with_default S (own.option (codes "names") ∷ own.option (codes "log") ∷ own.option (codes "resume")
+    ∷ own.option (codes "generate") ∷ own.flag (codes "trace") ∷ own.flag (codes "plain") ∷ words ∷ [])) (none (codes "lose") R)
+    ∙ ap (λ S. fold with_default S (own.option (codes "log") ∷ own.option (codes "resume") ∷ own.option (codes "generate")
+    ∷ own.flag (codes "trace") ∷ own.flag (codes "plain") ∷ words ∷ [])) (none (codes "names") R)
+    ∙ ap (λ S. fold with_default S (own.option (codes "resume") ∷ own.option (codes "generate") ∷ own.flag (codes "trace")
+    ∷ own.flag (codes "plain") ∷ words ∷ [])) (none (codes "log") R)
+    ∙ ap (λ S. fold with_default S (own.option (codes "generate") ∷ own.flag (codes "trace") ∷ own.flag (codes "plain") ∷ words
+    ∷ [])) (none (codes "resume") R)
     ∙ ap (λ S. fold with_default S (own.flag (codes "trace") ∷ own.flag (codes "plain") ∷ words ∷ [])) (none (codes "generate") R)
     ∙ none (codes "words") (with_flag (codes "plain") (with_flag (codes "trace") R))
 

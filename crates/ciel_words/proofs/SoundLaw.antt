@@ -1,7 +1,7 @@
 -- The numbers of a line are within their limits.
 use Rattle.std.proofs.Common.{◌≡◌, ◌≢◌, ◌<◌, ◌≤◌, ◌-◌, ◌^◌, ℕ, suc, Bool, true, false, cond, List, [], ◌∷◌, Option, Some, None, codes, length, map}
 use Rattle.std.proofs.Common.{nat_le, nat_lt, refl, ap, subst, arith, ◌∙◌}
-use Rattle.std.specs.Prelude.{◌&&◌, option_and_then, option_map}
+use Rattle.std.specs.Prelude.{◌&&◌, ◌||◌, is_some, option_and_then, option_map}
 use Rattle.std.specs.List.{AllByRecursion, list_all}
 use Rattle.std.specs.Str.Parse.{digits_value}
 use Rattle.std.proofs.lemmas.Bool.Decides.{nat_tests}
@@ -148,9 +148,9 @@ files_sound (Some n) [] f e =
     subst (FilesSound (Some n)) (some_is (None, []) f e) (omega arith, tt, λ z none. (let bad : Some n ≡ None = none in cc))
 files_sound (Some n) (w ∷ ws) f e = absurd (no_some f e)
 
-log_sound : (plain : Bool) (o d : Option Text) → or_absent None (log_in plain) o ≡ Some d → (path : Text) → d ≡ Some path
-    → (plain ≡ false) × (0 < length path)
-log_sound plain None d e path h = absurd (no_some path (some_is None d e ∙ h))
+log_sound : (without : Bool) (o d : Option Text) → or_absent None (log_in without) o ≡ Some d → (path : Text) → d ≡ Some path
+    → (without ≡ false) × (0 < length path)
+log_sound without None d e path h = absurd (no_some path (some_is None d e ∙ h))
 log_sound true (Some t) d e path h = absurd (no_some d e)
 log_sound false (Some t) d e path h = split (nat_lt 0 (length t)) refl e
   where
@@ -161,16 +161,29 @@ log_sound false (Some t) d e path h = split (nat_lt 0 (length t)) refl e
         (refl, subst (λ (p : Text). 0 < length p) same some)
     split false b f = absurd (no_some d f)
 
-said_sound : (workers seed lose names log generate : Option Text) (trace plain : Bool) (texts : List Text) (w : Words)
-    → line_said workers seed lose names log generate trace plain texts ≡ Some w
+neither : (plain : Bool) (log : Option Text) → (plain || is_some log) ≡ false → (plain ≡ false) × (log ≡ None)
+neither true log e = absurd (let bad : true ≡ false = e in cc)
+neither false None e = (refl, refl)
+neither false (Some t) e = absurd (let bad : true ≡ false = e in cc)
+
+resume_sound : (plain : Bool) (log o r : Option Text) → or_absent None (log_in (plain || is_some log)) o ≡ Some r → (path : Text) → r ≡ Some path
+    → (plain ≡ false) × (log ≡ None) × (0 < length path)
+resume_sound plain log o r e path h =
+    let sound = log_sound (plain || is_some log) o r e path h in
+    let none = neither plain log sound.0 in
+    (none.0, none.1, sound.1)
+
+said_sound : (workers seed lose names log resume generate : Option Text) (trace plain : Bool) (texts : List Text) (w : Words)
+    → line_said workers seed lose names log resume generate trace plain texts ≡ Some w
     → LineIsSound w
-said_sound workers seed lose names log generate trace plain texts w e =
+said_sound workers seed lose names log resume generate trace plain texts w e =
     let one = given (or_absent 1 (number_within 1 most_workers) workers) _ w e in
     let two = given (or_absent 0 (number_within 0 (2 ^ 64 - 1)) seed) _ w one.2 in
     let three = given (or_absent [] (losses_in one.0) lose) _ w two.2 in
     let four = given (or_absent NameKind.Sha1 names_in names) _ w three.2 in
     let logs = given (or_absent None (log_in plain) log) _ w four.2 in
-    let five = given (or_absent None lines_in generate) _ w logs.2 in
+    let resumes = given (or_absent None (log_in (plain || is_some logs.0)) resume) _ w logs.2 in
+    let five = given (or_absent None lines_in generate) _ w resumes.2 in
     let six = given (files_in five.0 texts) _ w five.2 in
     let count = workers_within workers one.0 one.1 in
     let losses = losses_sound one.0 count.0 lose three.0 three.1 in
@@ -184,6 +197,7 @@ said_sound workers seed lose names log generate trace plain texts w e =
       keys = files.1;
       named = files.2;
       logged = log_sound plain log logs.0 logs.1;
+      resumed = resume_sound plain logs.0 resume resumes.0 resumes.1;
     })
 
 pub lines_are_sound : LinesAreSound
@@ -195,6 +209,6 @@ lines_are_sound words w e =
     split : (ps : List Part) (b : Bool) → cond b (line_with ps) None ≡ Some w → LineIsSound w
     split ps true h =
         said_sound (value_of (codes "workers") ps) (value_of (codes "seed") ps) (value_of (codes "lose") ps) (value_of (codes "names") ps)
-        (value_of (codes "log") ps) (value_of (codes "generate") ps)
+        (value_of (codes "log") ps) (value_of (codes "resume") ps) (value_of (codes "generate") ps)
         (has_flag (codes "trace") ps) (has_flag (codes "plain") ps) (texts_of ps) w h
     split ps false h = absurd (no_some w h)

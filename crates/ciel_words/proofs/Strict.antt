@@ -121,7 +121,8 @@ waits_for rest e =
     (ap₂ (λ a b. a || b) (turned rest (codes "lose"))
     (ap₂ (λ a b. a || b) (turned rest (codes "names"))
     (ap₂ (λ a b. a || b) (turned rest (codes "log"))
-    (ap (λ a. a || false) (turned rest (codes "generate")))))))
+    (ap₂ (λ a b. a || b) (turned rest (codes "resume"))
+    (ap (λ a. a || false) (turned rest (codes "generate"))))))))
 
 no_wait : (rest : Text) → has_equals rest ≡ true → takes_next (45 ∷ 45 ∷ rest) ≡ false
 no_wait rest e =
@@ -132,6 +133,7 @@ no_wait rest e =
       other (codes "lose") refl,
       other (codes "names") refl,
       other (codes "log") refl,
+      other (codes "resume") refl,
       other (codes "generate") refl,
     ) refl
 
@@ -161,6 +163,7 @@ no_wait_positional w e =
       other (codes "--lose") refl,
       other (codes "--names") refl,
       other (codes "--log") refl,
+      other (codes "--resume") refl,
       other (codes "--generate") refl,
     ) refl
 

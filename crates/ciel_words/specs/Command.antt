@@ -26,7 +26,8 @@ with_flag name app = with_rule app (flag_rule name)
 abbrev pub command : App
 command =
     let numbers = with_option (codes "lose") (with_option (codes "seed") (with_option (codes "workers") (bare (codes "ciel")))) in
-    let options = with_option (codes "generate") (with_option (codes "log") (with_option (codes "names") numbers)) in
+    let logs = with_option (codes "resume") (with_option (codes "log") (with_option (codes "names") numbers)) in
+    let options = with_option (codes "generate") logs in
     with_rule (with_flag (codes "plain") (with_flag (codes "trace") options)) words_rule
 
 -- what clap reads of the words

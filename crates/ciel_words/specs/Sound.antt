@@ -16,8 +16,9 @@ pub record LineIsSound (w : Words) : Type 0 where
   pub keys : AllByRecursion (λ (i : Text × Text). length i.0 ≤ most_name) w.inputs
   -- where there is no script, a job is generated
   pub named : w.script ≡ None → w.generate ≢ None
-  -- the path of a log isn't empty, and a sequential run has none
+  -- the path of a log isn't empty, and a sequential run has none, whether it is begun or gone on from; no line has both
   pub logged : (path : Text) → w.log ≡ Some path → (w.plain ≡ false) × (0 < length path)
+  pub resumed : (path : Text) → w.resume ≡ Some path → (w.plain ≡ false) × (w.log ≡ None) × (0 < length path)
 
 abbrev pub LinesAreSound : Type 0
 LinesAreSound = (words : List Text) (w : Words) → line_of words ≡ Some w → LineIsSound w

@@ -46,14 +46,14 @@ fn name_kind(value: Option<&str>) -> Option<NameKind>
     }
 }
 
-// The path of the log, where one is asked for.
-fn log_path(alloc: Global, plain: bool, value: Option<&str>) -> Result<Option<Txt>, WordsRefusal>
-    ensures path { IfOk result (λ d. or_absent None (log_in plain) (text_of value.entry) ≡ Some d) }
-    ensures usage { result ≡ Err WordsRefusal.Usage → or_absent None (log_in plain) (text_of value.entry) ≡ None }
+// The path of a log, where one is asked for; `without` says that the run may have none.
+fn log_path(alloc: Global, without: bool, value: Option<&str>) -> Result<Option<Txt>, WordsRefusal>
+    ensures path { IfOk result (λ d. or_absent None (log_in without) (text_of value.entry) ≡ Some d) }
+    ensures usage { result ≡ Err WordsRefusal.Usage → or_absent None (log_in without) (text_of value.entry) ≡ None }
 {
     match value {
         None => Ok(None),
-        Some(path) if !plain && !path.is_empty() => match Txt::new(alloc, path) {
+        Some(path) if !without && !path.is_empty() => match Txt::new(alloc, path) {
             Ok(path) => Ok(Some(path)),
             Err(_) => Err(WordsRefusal::Memory),
         },
@@ -131,6 +131,7 @@ pub(crate) fn line_from(alloc: Global, raw: &Raw<'_>) -> Result<Words, WordsRefu
         return Err(WordsRefusal::Usage);
     };
     let log = log_path(alloc, raw.plain, raw.log)?;
+    let resume = log_path(alloc, raw.plain || log.is_some(), raw.resume)?;
     let Some(generate) = generated(raw.generate) else {
         return Err(WordsRefusal::Usage);
     };
@@ -145,6 +146,7 @@ pub(crate) fn line_from(alloc: Global, raw: &Raw<'_>) -> Result<Words, WordsRefu
         plain: raw.plain,
         names,
         log,
+        resume,
         generate,
     })
 }

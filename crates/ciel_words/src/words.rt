@@ -123,6 +123,8 @@ pub struct Words {
     pub names: NameKind,
     /// The path of the log, which isn't empty; none where no log is asked for, and with `plain`.
     pub log: Option<Txt>,
+    /// The path of the log that the run goes on from, which isn't empty; none where the run begins, and with `plain`.
+    pub resume: Option<Txt>,
     /// How many lines the generated job has, 1 to 1,000,000; none where a script is run.
     pub generate: Option<u32>,
 }

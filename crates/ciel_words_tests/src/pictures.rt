@@ -82,6 +82,10 @@ fn put_log(out: &mut String, line: &Words) -> Result<(), Fail> {
         out.push_str(" log ")?;
         out.push_str(path.as_str())?;
     }
+    if let Some(path) = &line.resume {
+        out.push_str(" resume ")?;
+        out.push_str(path.as_str())?;
+    }
     Ok(())
 }
 
@@ -104,8 +108,8 @@ fn put_line(alloc: Global, out: &mut String, line: &Words) -> Result<(), Fail> {
     put_lines(alloc, out, line)
 }
 
-/// What the words say: the script, the inputs, the workers, the seed, the losses, the digest, the flags, the log and the lines of a generated job, with
-/// spaces between; or `no line`.
+/// What the words say: the script, the inputs, the workers, the seed, the losses, the digest, the flags, the log that is written or
+/// gone on from and the lines of a generated job, with spaces between; or `no line`.
 pub(crate) fn picture_of(alloc: Global, words: &[Txt]) -> Result<String, Fail> {
     let mut out = String::new(alloc);
     match read_words(alloc, words) {

@@ -5,7 +5,7 @@ use std::alloc::Global;
 use std::test::Fail;
 
 // Words, and what they say: a bar stands between two words.
-static LINES: [(&str, &str); 22] = [
+static LINES: [(&str, &str); 29] = [
     ("s", "s w1 s0 sha1"),
     ("--workers=2|s|--|a=x", "s a=x w2 s0 sha1"),
     ("--|--seed", "--seed w1 s0 sha1"),
@@ -40,6 +40,13 @@ static LINES: [(&str, &str); 22] = [
     ("--log=-l|s", "s w1 s0 sha1 log -l"),
     ("s|--log=a|--plain", "no line"),
     ("--log|l|--|-", "- w1 s0 sha1 log l"),
+    ("--resume=a|s|--trace", "s w1 s0 sha1 trace resume a"),
+    ("--resume|--|--|s", "no line"),
+    ("--generate=2|--resume|=", "w1 s0 sha1 resume = 2 lines"),
+    ("s|--resume=|--seed=1", "no line"),
+    ("s|--log=a|--resume=a", "no line"),
+    ("s|--resume=a|--plain", "no line"),
+    ("s|--resume=a|--resume=a", "no line"),
 ];
 
 // Whether the words of a row say what stands beside them.

@@ -1,17 +1,21 @@
 -- What the run of the line that the words are says, the words say.
-use Rattle.std.proofs.Common.{◌≡◌, ◌⊎◌, ◌++◌, ◌∙◌, ℕ, List, [], None, Option, Some, map, sym}
+use Rattle.std.proofs.Common.{◌≡◌, ◌⊎◌, ◌++◌, ◌∙◌, ℕ, List, [], None, Option, Some, map, sym, true}
 use Rattle.ciel_io.specs.Faults.{HasRisen}
 use Rattle.ciel_io.specs.Tells.{Tells}
 use Rattle.ciel_run_line.specs.Views.{entry_view}
-use Rattle.ciel_run_line.specs.Asked.{StopsFor}
-use Rattle.ciel_run_line.specs.Line.{OfLine, OverFiles, files_of, is_traced}
+use Rattle.ciel_run_line.specs.Asked.{AsksFor, StopsFor}
+use Rattle.ciel_run_line.specs.Causes.{IfOther}
+use Rattle.ciel_run_line.specs.Gates.{GatesTell}
+use Rattle.ciel_run_line.specs.Line.{OfLine, OverFiles, files_of, is_traced, job_paths, last_paths, workers_of}
 use Rattle.ciel_run_line.specs.Runs.{EndsShown, IsDriven}
 use Rattle.ciel_run.specs.Ending.{Answers, IsExpected, TellsParts, Writes, WritesAnswer, trace_of}
+use Rattle.ciel_run_line.specs.Told.{told_of}
 use Rattle.ciel_run_log.specs.Message.{message_of}
+use Rattle.ciel_run_log.specs.declared.why.Why.{Why}
 use Rattle.ciel_run.proofs.Headline.{few, missing, needed, one_value, one_wait}
 use Rattle.ciel_run.proofs.Modest.{answers}
 use Rattle.ciel_run.proofs.Over.{at_line, begun_of, distinct, endless, expected, first_of, limits, name_clash, no_write, not_usage, over_line}
-use Rattle.ciel_run.proofs.Over.{read_fault, too_deep, too_many, way, writes}
+use Rattle.ciel_run.proofs.Over.{all_lost, bad_log, done_at, other_job, read_fault, too_deep, too_many, way, writes}
 use Rattle.ciel_run.proofs.Troubles.{keep_fault_map, on_right}
 use Rattle.ciel_run.proofs.top.ciel_main.Goals as goal
 
@@ -21,6 +25,25 @@ none_some none some = let e : None ≡ Some _ = sym none ∙ some in absurd cc
 
 pub run-requires-clause-line : goal.run-requires-clause-line
 run-requires-clause-line g c κs within = c.lines_are_sound.ensures c.args.words.now c.in-Ok.line c.in-Ok.ensures.line
+
+pub returns-clause-bytes : goal.returns-clause-bytes
+returns-clause-bytes g c = λ zero.
+    let content = g.F.Files.content c.args.files.now in
+    let b = g.O.Sink.written c.args.out.now in
+    let n = g.O.Sink.written c.run.new.out in
+    over_line c.args.words.now c.in-Ok.line (λ w. OfLine content w (λ source inputs. WritesAnswer w source inputs b n)) c.in-Ok.ensures.line
+    (writes content c.in-Ok.line b n (c.run.ensures.done (done_at c.run.result.why (sym c.run.ensures.status ∙ zero))))
+
+pub returns-clause-all_lost : goal.returns-clause-all_lost
+returns-clause-all_lost g c = all_lost (g.F.Files.content c.args.files.now) c.args.words.now c.in-Ok.line c.in-Ok.ensures.line
+    (HasRisen (g.F.Files.faults c.args.files.now) (g.F.Files.faults c.run.new.files)) (map entry_view c.run.result.journal.items)
+    c.run.result.why c.run.ensures.cause
+
+pub returns-clause-write_fault : goal.returns-clause-write_fault
+returns-clause-write_fault g c = λ failed.
+    at_line c.args.words.now c.in-Ok.line (λ o. HasRisen (g.O.Sink.faults c.args.out.now) (g.O.Sink.faults c.run.new.out)
+    ⊎ ((is_traced o ≡ true) × HasRisen (g.J.Sink.faults c.args.log.now) (g.J.Sink.faults c.run.new.log))) c.in-Ok.ensures.line
+    (c.run.ensures.write_fault failed)
 
 pub returns-clause-driven : goal.returns-clause-driven
 returns-clause-driven g c =
@@ -146,6 +169,16 @@ returns-clause-distinct g c = distinct (g.F.Files.content c.args.files.now) c.ar
     (HasRisen (g.F.Files.faults c.args.files.now) (g.F.Files.faults c.run.new.files)) (map entry_view c.run.result.journal.items)
     c.run.result.why c.run.ensures.cause
 
+pub returns-clause-bad_log : goal.returns-clause-bad_log
+returns-clause-bad_log g c = bad_log (g.F.Files.content c.args.files.now) c.args.words.now c.in-Ok.line c.in-Ok.ensures.line
+    (HasRisen (g.F.Files.faults c.args.files.now) (g.F.Files.faults c.run.new.files)) (map entry_view c.run.result.journal.items)
+    c.run.result.why c.run.ensures.cause
+
+pub returns-clause-other_job : goal.returns-clause-other_job
+returns-clause-other_job g c = other_job (g.F.Files.content c.args.files.now) c.args.words.now c.in-Ok.line c.in-Ok.ensures.line
+    (HasRisen (g.F.Files.faults c.args.files.now) (g.F.Files.faults c.run.new.files)) (map entry_view c.run.result.journal.items)
+    c.run.result.why c.run.ensures.cause
+
 pub returns-clause-way : goal.returns-clause-way
 returns-clause-way g c = way (g.F.Files.content c.args.files.now) c.args.words.now c.in-Ok.line c.in-Ok.ensures.line
     (HasRisen (g.F.Files.faults c.args.files.now) (g.F.Files.faults c.run.new.files)) (map entry_view c.run.result.journal.items)
@@ -165,7 +198,7 @@ returns-clause-answer_first g c = λ failed.
 
 pub returns-clause-order : goal.returns-clause-order
 returns-clause-order g c =
-    over_line c.args.words.now c.in-Ok.line (λ w. StopsFor (g.F.Files.content c.args.files.now) (files_of w)
+    over_line c.args.words.now c.in-Ok.line (λ w. StopsFor (g.F.Files.content c.args.files.now) (files_of w) w.resume
     (g.F.Files.asked c.args.files.now) (g.F.Files.asked c.run.new.files) c.run.result.why) c.in-Ok.ensures.line c.run.ensures.order
 
 pub returns-clause-none_begins : goal.returns-clause-none_begins
@@ -195,3 +228,19 @@ returns-clause-begun g c =
     keep_fault_map c.run.result.why
     (λ path. none ⊎ (Writes content c.in-Ok.line (Tells b n) × OfLine content c.in-Ok.line (λ source inputs. EndsShown c.in-Ok.line source inputs J)))
     (λ path. none ⊎ shown) (λ path x. on_right ended x) c.run.ensures.begun
+
+pub returns-clause-told : goal.returns-clause-told
+returns-clause-told g c = λ some.
+    at_line c.args.words.now c.in-Ok.line (λ o. GatesTell (g.F.Files.content c.args.files.now) o (map entry_view c.run.result.journal.items)
+    (told_of g.G.Gate.entered (workers_of o) c.args.gates.now.items) (told_of g.G.Gate.entered (workers_of o) c.run.new.gates.items))
+    c.in-Ok.ensures.line (c.run.ensures.told some)
+
+pub returns-clause-asked : goal.returns-clause-asked
+returns-clause-asked g c =
+    at_line c.args.words.now c.in-Ok.line (λ o. AsksFor c.run.result.why (job_paths o) (last_paths o) (g.F.Files.asked c.args.files.now)
+    (g.F.Files.asked c.run.new.files)) c.in-Ok.ensures.line c.run.ensures.asked
+
+pub returns-clause-of_other : goal.returns-clause-of_other
+returns-clause-of_other g c = λ quiet.
+    over_line c.args.words.now c.in-Ok.line (λ w. IfOther (g.F.Files.content c.args.files.now) w
+    (λ path. (c.run.result.why ≡ Why.OtherJob path) ⊎ (c.run.result.why ≡ Why.Memory))) c.in-Ok.ensures.line (c.run.ensures.of_other quiet)

@@ -1,5 +1,5 @@
 -- What was written has no other cause, and what wasn't has that of its job.
-use Rattle.std.proofs.Common.{◌≡◌, ◌≢◌, ◌≤◌, ◌⊎◌, ◌∙◌, inr, ℕ, List, [], map, subst, sym}
+use Rattle.std.proofs.Common.{◌≡◌, ◌≢◌, ◌≤◌, ◌⊎◌, ◌∙◌, inr, ℕ, List, [], Some, map, subst, sym}
 use Rattle.std.specs.Prelude.{IfErr, IfOk, Result}
 use Rattle.sky_base.specs.See as s
 use Rattle.sky_base.specs.See.{Answered}
@@ -10,15 +10,17 @@ use Rattle.ciel_run_line.specs.Logging.{most}
 use Rattle.ciel_run_line.specs.Causes.{CauseOf, OfRun}
 use Rattle.ciel_run_line.specs.Keeping.{HasBytes, KeeperSeen, KeepsLog, LogTold}
 use Rattle.ciel_run_line.specs.Source.{over_lines}
-use Rattle.ciel_run_line.specs.Line.{OfLine, files_of, paths_in}
-use Rattle.ciel_run_line.specs.Runs.{EndsShown, IsDriven}
-use Rattle.ciel_run_line.specs.Told.{ToldBy, told_of}
+use Rattle.ciel_run_line.specs.Line.{OfLine, files_of, paths_in, resumed}
+use Rattle.ciel_run_line.specs.Runs.{EndsShown, IsDriven, log_path}
+use Rattle.ciel_run_line.specs.Gates.{GatesTell}
+use Rattle.ciel_run_line.specs.Told.{told_of}
 use Rattle.ciel_run_line.specs.Views.{entry_view}
 use Rattle.ciel_run.specs.Ending.{AsksLog, EndCause, IfKeepFault, IfLogFull, LogSays, Writes, WritesNothing}
 use Rattle.ciel_run_log.specs.declared.why.Ended.{Ended}
 use Rattle.ciel_run_log.specs.declared.why.Why.{Why}
+use Rattle.ciel_run.proofs.Others.{other_no_answer, other_why}
 use Rattle.ciel_run.proofs.Over.{end_cause}
-use Rattle.ciel_run.proofs.Troubles.{asked_so, asked_then, begun_then, err_is, files_asked, keep_fault, keep_fault_so, keep_named, log_full, says, says_so, something, trouble_cause}
+use Rattle.ciel_run.proofs.Troubles.{asked_so, asked_then, begun_then, err_is, files_asked, keep_fault, keep_fault_so, keep_named, log_full, log_plain, says, says_so, something, trouble_cause}
 use Rattle.ciel_run.proofs.top.run.Goals as goal
 
 pub returns-in-Err-clause-cause : goal.returns-in-Err-clause-cause
@@ -37,8 +39,8 @@ returns-in-Err-clause-order g c =
     let f = files_of c.args.line.now in
     let b = g.F.Files.asked c.args.files.now in
     let n = g.F.Files.asked c.answer_line-result.new.files in
-    subst (λ (r : Ended). StopsFor content f b n r.why) (sym c.ended-in-Err.ensures)
-    (subst (λ (r : Result (List ℕ) Why). IfErr r (StopsFor content f b n)) c.in-Err.is c.answer_line-result.ensures.order)
+    subst (λ (r : Ended). StopsFor content f c.args.line.now.resume b n r.why) (sym c.ended-in-Err.ensures)
+    (subst (λ (r : Result (List ℕ) Why). IfErr r (StopsFor content f c.args.line.now.resume b n)) c.in-Err.is c.answer_line-result.ensures.order)
 
 pub returns-in-Ok-clause-cause : goal.returns-in-Ok-clause-cause
 returns-in-Ok-clause-cause g c =
@@ -59,11 +61,11 @@ returns-in-Ok-clause-cause g c =
       asked = g.D.Keep.asked c.answer_line-result.new.keep;
       faults = g.D.Keep.faults c.answer_line-result.new.keep;
     } in
-    let keeps = subst (λ (r : Result (List ℕ) Why). KeepsLog line.log before now r state) c.in-Ok.is c.answer_line-result.ensures.keeps in
+    let keeps = subst (λ (r : Result (List ℕ) Why). KeepsLog (log_path line) before now r state) c.in-Ok.is c.answer_line-result.ensures.keeps in
     let answer = subst (λ (r : Result (List ℕ) Why). IfOk r (λ b. OfRun content line risen J (λ job. s.Means job over_lines (Answered.bytes b))))
     c.in-Ok.is c.answer_line-result.ensures.bytes in
     subst (λ (r : Ended). EndCause content line risen (map entry_view r.journal.items) r.why) (sym c.ended.ensures)
-    (trouble_cause content line risen J (λ path n. (c.requires.line.logged path n).0) c.in-Ok.answer answer state c.finish-why.result
+    (trouble_cause content line risen J (λ path n. log_plain line c.requires.line path n) c.in-Ok.answer answer state c.finish-why.result
     c.finish-why.ensures.ends)
 
 pub returns-in-Ok-clause-nothing : goal.returns-in-Ok-clause-nothing
@@ -85,8 +87,8 @@ returns-in-Ok-clause-nothing g c =
       asked = g.D.Keep.asked c.answer_line-result.new.keep;
       faults = g.D.Keep.faults c.answer_line-result.new.keep;
     } in
-    let keeps = subst (λ (r : Result (List ℕ) Why). KeepsLog line.log before now r state) c.in-Ok.is c.answer_line-result.ensures.keeps in
-    λ none. absurd (something line.log state c.finish-why.result c.finish-why.ensures.ends
+    let keeps = subst (λ (r : Result (List ℕ) Why). KeepsLog (log_path line) before now r state) c.in-Ok.is c.answer_line-result.ensures.keeps in
+    λ none. absurd (something (log_path line) state c.finish-why.result c.finish-why.ensures.ends
     (subst (λ (r : Ended). WritesNothing r.why) c.ended.ensures none))
 
 pub returns-in-Ok-clause-keep_fault : goal.returns-in-Ok-clause-keep_fault
@@ -108,9 +110,9 @@ returns-in-Ok-clause-keep_fault g c =
       asked = g.D.Keep.asked c.answer_line-result.new.keep;
       faults = g.D.Keep.faults c.answer_line-result.new.keep;
     } in
-    let keeps = subst (λ (r : Result (List ℕ) Why). KeepsLog line.log before now r state) c.in-Ok.is c.answer_line-result.ensures.keeps in
+    let keeps = subst (λ (r : Result (List ℕ) Why). KeepsLog (log_path line) before now r state) c.in-Ok.is c.answer_line-result.ensures.keeps in
     subst (λ (r : Ended). IfKeepFault r.why (λ path. HasRisen before.faults now.faults)) (sym c.ended.ensures)
-    (keep_fault line.log before now c.in-Ok.answer state keeps c.finish-why.result c.finish-why.ensures.ends)
+    (keep_fault (log_path line) before now c.in-Ok.answer state keeps c.finish-why.result c.finish-why.ensures.ends)
 
 pub returns-in-Ok-clause-log_full : goal.returns-in-Ok-clause-log_full
 returns-in-Ok-clause-log_full g c =
@@ -131,9 +133,9 @@ returns-in-Ok-clause-log_full g c =
       asked = g.D.Keep.asked c.answer_line-result.new.keep;
       faults = g.D.Keep.faults c.answer_line-result.new.keep;
     } in
-    let keeps = subst (λ (r : Result (List ℕ) Why). KeepsLog line.log before now r state) c.in-Ok.is c.answer_line-result.ensures.keeps in
+    let keeps = subst (λ (r : Result (List ℕ) Why). KeepsLog (log_path line) before now r state) c.in-Ok.is c.answer_line-result.ensures.keeps in
     subst (λ (r : Ended). IfLogFull r.why (λ path held. (held ≤ most) × HasBytes path now.files held)) (sym c.ended.ensures)
-    (log_full line.log before now c.in-Ok.answer state keeps c.finish-why.result c.finish-why.ensures.ends)
+    (log_full (log_path line) before now c.in-Ok.answer state keeps c.finish-why.result c.finish-why.ensures.ends)
 
 pub returns-in-Ok-clause-keep_asked : goal.returns-in-Ok-clause-keep_asked
 returns-in-Ok-clause-keep_asked g c =
@@ -154,9 +156,9 @@ returns-in-Ok-clause-keep_asked g c =
       asked = g.D.Keep.asked c.answer_line-result.new.keep;
       faults = g.D.Keep.faults c.answer_line-result.new.keep;
     } in
-    let keeps = subst (λ (r : Result (List ℕ) Why). KeepsLog line.log before now r state) c.in-Ok.is c.answer_line-result.ensures.keeps in
-    subst (λ (r : Ended). AsksLog line.log r.why before.asked now.asked) (sym c.ended.ensures)
-    (asked_then line.log before now c.in-Ok.answer state keeps c.finish-why.result)
+    let keeps = subst (λ (r : Result (List ℕ) Why). KeepsLog (log_path line) before now r state) c.in-Ok.is c.answer_line-result.ensures.keeps in
+    subst (λ (r : Ended). AsksLog (log_path line) r.why before.asked now.asked) (sym c.ended.ensures)
+    (asked_then (log_path line) before now c.in-Ok.answer state keeps c.finish-why.result)
 
 pub returns-in-Ok-clause-log_told : goal.returns-in-Ok-clause-log_told
 returns-in-Ok-clause-log_told g c =
@@ -177,7 +179,7 @@ returns-in-Ok-clause-log_told g c =
       asked = g.D.Keep.asked c.answer_line-result.new.keep;
       faults = g.D.Keep.faults c.answer_line-result.new.keep;
     } in
-    let keeps = subst (λ (r : Result (List ℕ) Why). KeepsLog line.log before now r state) c.in-Ok.is c.answer_line-result.ensures.keeps in
+    let keeps = subst (λ (r : Result (List ℕ) Why). KeepsLog (log_path line) before now r state) c.in-Ok.is c.answer_line-result.ensures.keeps in
     λ source inputs st.
     let told = subst (λ (r : Result (List ℕ) Why). LogTold line source inputs J now.files state r) c.in-Ok.is
     (c.answer_line-result.ensures.logged source inputs st) in
@@ -203,10 +205,10 @@ returns-in-Err-clause-keep_fault g c =
       asked = g.D.Keep.asked c.answer_line-result.new.keep;
       faults = g.D.Keep.faults c.answer_line-result.new.keep;
     } in
-    let keeps = subst (λ (r : Result (List ℕ) Why). KeepsLog line.log before now r state) c.in-Err.is c.answer_line-result.ensures.keeps in
+    let keeps = subst (λ (r : Result (List ℕ) Why). KeepsLog (log_path line) before now r state) c.in-Err.is c.answer_line-result.ensures.keeps in
     let cause = subst (λ (r : Result (List ℕ) Why). IfErr r (CauseOf content line risen J)) c.in-Err.is c.answer_line-result.ensures.none in
     subst (λ (r : Ended). IfKeepFault r.why (λ path. HasRisen before.faults now.faults)) (sym c.ended-in-Err.ensures)
-    (keep_fault_so line.log before now c.in-Err.why state keeps (keep_named content line risen J c.in-Err.why cause))
+    (keep_fault_so (log_path line) before now c.in-Err.why state keeps (keep_named content line risen J c.in-Err.why cause))
 
 pub returns-in-Err-clause-keep_asked : goal.returns-in-Err-clause-keep_asked
 returns-in-Err-clause-keep_asked g c =
@@ -227,10 +229,10 @@ returns-in-Err-clause-keep_asked g c =
       asked = g.D.Keep.asked c.answer_line-result.new.keep;
       faults = g.D.Keep.faults c.answer_line-result.new.keep;
     } in
-    let keeps = subst (λ (r : Result (List ℕ) Why). KeepsLog line.log before now r state) c.in-Err.is c.answer_line-result.ensures.keeps in
+    let keeps = subst (λ (r : Result (List ℕ) Why). KeepsLog (log_path line) before now r state) c.in-Err.is c.answer_line-result.ensures.keeps in
     let cause = subst (λ (r : Result (List ℕ) Why). IfErr r (CauseOf content line risen J)) c.in-Err.is c.answer_line-result.ensures.none in
-    subst (λ (r : Ended). AsksLog line.log r.why before.asked now.asked) (sym c.ended-in-Err.ensures)
-    (asked_so line.log before now c.in-Err.why state keeps)
+    subst (λ (r : Ended). AsksLog (log_path line) r.why before.asked now.asked) (sym c.ended-in-Err.ensures)
+    (asked_so (log_path line) before now c.in-Err.why state keeps)
 
 pub returns-in-Err-clause-log_told : goal.returns-in-Err-clause-log_told
 returns-in-Err-clause-log_told g c =
@@ -251,7 +253,7 @@ returns-in-Err-clause-log_told g c =
       asked = g.D.Keep.asked c.answer_line-result.new.keep;
       faults = g.D.Keep.faults c.answer_line-result.new.keep;
     } in
-    let keeps = subst (λ (r : Result (List ℕ) Why). KeepsLog line.log before now r state) c.in-Err.is c.answer_line-result.ensures.keeps in
+    let keeps = subst (λ (r : Result (List ℕ) Why). KeepsLog (log_path line) before now r state) c.in-Err.is c.answer_line-result.ensures.keeps in
     let cause = subst (λ (r : Result (List ℕ) Why). IfErr r (CauseOf content line risen J)) c.in-Err.is c.answer_line-result.ensures.none in
     λ source inputs st.
     let told = subst (λ (r : Result (List ℕ) Why). LogTold line source inputs J now.files state r) c.in-Err.is
@@ -263,11 +265,12 @@ returns-in-Err-clause-log_told g c =
 pub returns-in-Ok-clause-asked : goal.returns-in-Ok-clause-asked
 returns-in-Ok-clause-asked g c =
     let ps = paths_in (files_of c.args.line.now) in
+    let others = resumed c.args.line.now.resume in
     let b = g.F.Files.asked c.args.files.now in
     let n = g.F.Files.asked c.answer_line-result.new.files in
-    subst (λ (r : Ended). AsksFor r.why ps b n) (sym c.ended.ensures)
-    (files_asked c.args.line.now.log c.answer_line-result.result.state c.finish-why.result ps b n c.finish-why.ensures.ends
-    (subst (λ (r : Result (List ℕ) Why). AsksOf r ps b n) c.in-Ok.is c.answer_line-result.ensures.asks))
+    subst (λ (r : Ended). AsksFor r.why ps others b n) (sym c.ended.ensures)
+    (files_asked (log_path c.args.line.now) c.answer_line-result.result.state c.finish-why.result ps others b n c.finish-why.ensures.ends
+    (subst (λ (r : Result (List ℕ) Why). AsksOf r ps others b n) c.in-Ok.is c.answer_line-result.ensures.asks))
 
 pub returns-in-Ok-clause-begun : goal.returns-in-Ok-clause-begun
 returns-in-Ok-clause-begun g c =
@@ -283,10 +286,10 @@ returns-in-Ok-clause-begun g c =
     × (c.answer_line-result.new.gates ≡ c.args.gates.now) × (c.finish-why.new.out ≡ c.args.out.now))
     ⊎ (Writes content line (Tells (g.O.Sink.written c.args.out.now) (g.O.Sink.written c.finish-why.new.out))
     × OfLine content line (λ source inputs. EndsShown line source inputs (map entry_view r.journal.items))))) (sym c.ended.ensures)
-    (begun_then line.log state c.finish-why.result _ c.finish-why.ensures.ends
+    (begun_then (log_path line) state c.finish-why.result _ c.finish-why.ensures.ends
     (λ path n k. inr (
       (c.in-Ok.answer, answer, c.finish-why.ensures.written (λ w. let bad : Why.KeepFault path ≡ Why.WriteFault = sym k ∙ w in cc)),
-      c.answer_line-result.ensures.root (c.requires.line.logged path n).0 shows,
+      c.answer_line-result.ensures.root (log_plain line c.requires.line path n) shows,
     )))
 
 pub returns-in-Err-clause-driven : goal.returns-in-Err-clause-driven
@@ -298,6 +301,24 @@ returns-in-Err-clause-driven g c =
 pub returns-in-Err-clause-told : goal.returns-in-Err-clause-told
 returns-in-Err-clause-told g c =
     let workers = c.args.line.now.workers in
-    subst (λ (r : Ended). r.why ≢ Why.Memory → ToldBy (map entry_view r.journal.items) (told_of g.G.Gate.entered workers c.args.gates.now.items)
+    subst (λ (r : Ended). r.why ≢ Why.Memory → GatesTell (g.F.Files.content c.args.files.now) (Some c.args.line.now) (map entry_view r.journal.items) (told_of g.G.Gate.entered workers c.args.gates.now.items)
     (told_of g.G.Gate.entered workers c.answer_line-result.new.gates.items)) (sym c.ended-in-Err.ensures)
     (λ n. c.answer_line-result.ensures.told (λ e. n (err_is c.in-Err.why Why.Memory c.answer_line-result.result.result c.in-Err.is e)))
+
+-- where it is known that the log is another job's
+
+pub returns-in-Ok-clause-of_other : goal.returns-in-Ok-clause-of_other
+returns-in-Ok-clause-of_other g c = λ quiet path bytes named log short source inputs there fits is other.
+    let content = g.F.Files.content c.args.files.now in
+    let risen = HasRisen (g.F.Files.faults c.args.files.now) (g.F.Files.faults c.answer_line-result.new.files) in
+    absurd (other_no_answer content c.args.line.now risen quiet path bytes named log short source inputs there fits is
+    c.answer_line-result.result.result (c.answer_line-result.ensures.of_other path bytes named log short source inputs there fits is other)
+    c.in-Ok.answer c.in-Ok.is)
+
+pub returns-in-Err-clause-of_other : goal.returns-in-Err-clause-of_other
+returns-in-Err-clause-of_other g c = λ quiet path bytes named log short source inputs there fits is other.
+    let content = g.F.Files.content c.args.files.now in
+    let risen = HasRisen (g.F.Files.faults c.args.files.now) (g.F.Files.faults c.answer_line-result.new.files) in
+    subst (λ (r : Ended). (r.why ≡ Why.OtherJob path) ⊎ (r.why ≡ Why.Memory)) (sym c.ended-in-Err.ensures)
+    (other_why content c.args.line.now risen quiet path bytes named log short source inputs there fits is c.answer_line-result.result.result
+    (c.answer_line-result.ensures.of_other path bytes named log short source inputs there fits is other) c.in-Err.why c.in-Err.is)

@@ -9,7 +9,7 @@ use Rattle.ciel_run_load.specs.Reading.{AsksEach, ReadAll, StopsSo, UnreadOf, Un
 use Rattle.ciel_run_load.specs.Loading.{AsksJob, NotLoaded, StopsJob, unread}
 use Rattle.ciel_run_load.specs.declared.load.NoJob.{NoJob}
 use Rattle.ciel_run_load.proofs.Taken.{risen_before}
-use Rattle.ciel_run_load.proofs.Loaded.{all_asked, input_asked, input_stops, input_unread, loaded, script_asked, script_part, script_stops}
+use Rattle.ciel_run_load.proofs.Loaded.{all_asked, all_fit, input_asked, input_stops, input_unread, loaded, script_asked, script_part, script_stops}
 use Rattle.ciel_run_load.proofs.Loaded.{script_unread, syntax_is}
 use Rattle.ciel_run_load.proofs.load.load.Goals as goal
 
@@ -48,6 +48,17 @@ returns-in-Ok-inputs-clause-job g c =
     loaded (g.F.Files.content c.args.files.now) c.args.path.now c.args.named.now
     (record { script = c.in-Ok-script.script; inputs = c.in-Ok-inputs.inputs }) c.in-Ok-read.source c.in-Ok.keys found
     c.in-Ok-read.ensures.within c.in-Ok.ensures is all
+
+pub returns-in-Ok-inputs-clause-read : goal.returns-in-Ok-inputs-clause-read
+returns-in-Ok-inputs-clause-read g c =
+    let found : IfSome (g.F.Files.content c.args.files.now c.args.path.now) (λ file. c.in-Ok-read.source ≡ file) =
+    subst (λ (p : List ℕ). IfSome (g.F.Files.content c.args.files.now p) (λ file. c.in-Ok-read.source ≡ file)) c.in-Ok-share.ensures
+    c.in-Ok-read.ensures.found in
+    let is = subst (λ (bytes : List ℕ). IsScript bytes c.in-Ok.keys c.in-Ok-script.script) c.as_slice.ensures c.in-Ok-script.ensures.script in
+    let all = subst (λ (content : List ℕ → Option (List ℕ)). ReadAll content c.args.named.now c.in-Ok-inputs.inputs) c.read.ensures.kept
+    c.in-Ok-inputs.ensures.read in
+    all_fit (g.F.Files.content c.args.files.now) c.args.path.now c.args.named.now c.in-Ok-read.source c.in-Ok.keys c.in-Ok-script.script
+    c.in-Ok-inputs.inputs found c.in-Ok-read.ensures.within c.in-Ok.ensures is all
 
 pub returns-in-Ok-inputs-clause-asked : goal.returns-in-Ok-inputs-clause-asked
 returns-in-Ok-inputs-clause-asked g c =

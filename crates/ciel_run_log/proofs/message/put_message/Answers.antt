@@ -75,6 +75,32 @@ returns-in-TooLongInput-clause-part g c =
     subst (λ (m : List ℕ). OnErr c.put_path.result (TellsPart (g.J.Sink.written c.args.log.now) (g.J.Sink.written c.put_path.new.log) m)) same
     c.put_path.ensures.part
 
+pub returns-in-BadLog-clause-written : goal.returns-in-BadLog-clause-written
+returns-in-BadLog-clause-written g c =
+    let same : pathed (codes "ciel: bad log ") c.in-BadLog.path c.in-BadLog.at ≡ message_of c.args.why.now = ap message_of (sym c.in-BadLog.is) in
+    subst (λ (m : List ℕ). OnOk c.put_path-in-BadLog.result (Tells (g.J.Sink.written c.args.log.now) (g.J.Sink.written c.put_path-in-BadLog.new.log) m)) same
+    c.put_path-in-BadLog.ensures.written
+
+pub returns-in-BadLog-clause-part : goal.returns-in-BadLog-clause-part
+returns-in-BadLog-clause-part g c =
+    let same : pathed (codes "ciel: bad log ") c.in-BadLog.path c.in-BadLog.at ≡ message_of c.args.why.now = ap message_of (sym c.in-BadLog.is) in
+    subst (λ (m : List ℕ). OnErr c.put_path-in-BadLog.result (TellsPart (g.J.Sink.written c.args.log.now) (g.J.Sink.written c.put_path-in-BadLog.new.log) m)) same
+    c.put_path-in-BadLog.ensures.part
+
+pub returns-in-OtherJob-clause-written : goal.returns-in-OtherJob-clause-written
+returns-in-OtherJob-clause-written g c =
+    let same : concat (codes "ciel: other job " ∷ c.as_str-in-OtherJob.result.now ∷ codes "\n" ∷ []) ≡ message_of c.args.why.now =
+    ap (λ (p : List ℕ). concat (codes "ciel: other job " ∷ p ∷ codes "\n" ∷ [])) c.as_str-in-OtherJob.ensures.value ∙ ap message_of (sym c.in-OtherJob.is) in
+    subst (λ (m : List ℕ). OnOk c.put_all-in-OtherJob.result
+    (Tells (g.J.Sink.written c.args.log.now) (g.J.Sink.written c.put_all-in-OtherJob.new.sink) m)) same c.put_all-in-OtherJob.ensures.written
+
+pub returns-in-OtherJob-clause-part : goal.returns-in-OtherJob-clause-part
+returns-in-OtherJob-clause-part g c =
+    let same : concat (codes "ciel: other job " ∷ c.as_str-in-OtherJob.result.now ∷ codes "\n" ∷ []) ≡ message_of c.args.why.now =
+    ap (λ (p : List ℕ). concat (codes "ciel: other job " ∷ p ∷ codes "\n" ∷ [])) c.as_str-in-OtherJob.ensures.value ∙ ap message_of (sym c.in-OtherJob.is) in
+    subst (λ (m : List ℕ). OnErr c.put_all-in-OtherJob.result
+    (TellsPart (g.J.Sink.written c.args.log.now) (g.J.Sink.written c.put_all-in-OtherJob.new.sink) m)) same c.put_all-in-OtherJob.ensures.part
+
 pub returns-in-LogFull-clause-written : goal.returns-in-LogFull-clause-written
 returns-in-LogFull-clause-written g c =
     let same : pathed (codes "ciel: log full ") c.in-LogFull.path c.in-LogFull.held ≡ message_of c.args.why.now = ap message_of (sym c.in-LogFull.is) in

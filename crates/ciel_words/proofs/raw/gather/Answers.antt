@@ -19,8 +19,11 @@ returns-clause-names c = c.get_str-4.ensures ∙ first_value-rows (found_of c.ar
 pub returns-clause-log : goal.returns-clause-log
 returns-clause-log c = c.get_str-5.ensures ∙ first_value-rows (found_of c.args.matches.now) (codes "log")
 
+pub returns-clause-resume : goal.returns-clause-resume
+returns-clause-resume c = c.get_str-6.ensures ∙ first_value-rows (found_of c.args.matches.now) (codes "resume")
+
 pub returns-clause-generate : goal.returns-clause-generate
-returns-clause-generate c = c.get_str-6.ensures ∙ first_value-rows (found_of c.args.matches.now) (codes "generate")
+returns-clause-generate c = c.get_str-7.ensures ∙ first_value-rows (found_of c.args.matches.now) (codes "generate")
 
 pub returns-clause-trace : goal.returns-clause-trace
 returns-clause-trace c =

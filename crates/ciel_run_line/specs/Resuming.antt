@@ -1,0 +1,43 @@
+-- The log that a line goes on from.
+use Rattle.std.specs.Prelude.{◌≡◌, ◌⊎◌, ℕ, List, [], Option, Some}
+use Rattle.sky_base.specs.See as s
+use Rattle.sky_base.specs.declared.object.TaskId.{TaskId}
+use Rattle.ciel_journal.specs.Entries.{Entry}
+use Rattle.ciel_log_follows.specs.Begins.{BeginsLog}
+use Rattle.ciel_log_file.specs.Whole.{BeginsAt, BeginsOther}
+use Rattle.ciel_run_load.specs.Line.{Input}
+use Rattle.ciel_run_log.specs.declared.why.Why.{Why}
+use Rattle.ciel_run_resumed.specs.Gates.{ToldSince}
+use Rattle.ciel_run_resumed.specs.Resuming.{Replays}
+use Rattle.ciel_run_line.specs.Keeping.{header_of}
+use Rattle.ciel_run_line.specs.Runs.{digest_of, plan_of}
+use Rattle.ciel_words.specs.declared.words.Words.{Words}
+use Rattle.line_kit.specs.Gives.{gives}
+
+module _ (w : Words) (source : List ℕ) (inputs : List Input) (job : s.Job) where
+  -- the bytes begin a log of a run of this job by this line
+  abbrev pub IsOwnLog : List ℕ → Type 0
+  IsOwnLog bytes = BeginsLog (digest_of w.names) job gives (plan_of w) (header_of w source inputs) bytes
+
+  -- these are the entries that its whole records tell
+  abbrev pub ReplaysLog : List ℕ → List Entry → Type 0
+  ReplaysLog bytes entries = Replays (digest_of w.names) job gives (plan_of w) (header_of w source inputs) bytes entries
+
+  -- the log is of this job: what an answer of the job asks of the log that was read, where one was
+  abbrev pub OwnIfRead : Option (List ℕ) → Type 0
+  OwnIfRead log = (bytes : List ℕ) → log ≡ Some bytes → IsOwnLog bytes
+
+-- why the log wasn't gone on from: a whole record stands there, behind whole ones; or its header is another one
+abbrev pub RefusesLog : Words → (source : List ℕ) → s.Job → Option (List ℕ) → Why → Type 0
+RefusesLog w source job log (Why.BadLog path at) =
+    (bytes : List ℕ) → log ≡ Some bytes → BeginsAt bytes (header_of w source job.inputs) at
+RefusesLog w source job log (Why.OtherJob path) = (bytes : List ℕ) → log ≡ Some bytes → BeginsOther bytes (header_of w source job.inputs)
+RefusesLog w source job log _ = Unit {0}
+
+-- ---- what gates tell
+
+-- of a run that went on from a log: none began; or its journal begins with entries that were replayed, of which this is so, and gates grew by
+-- the Starts that those leave open and by those since
+abbrev pub OnwardTold : (List Entry → Type 0) → List Entry → (before after : List (Option (List TaskId))) → Type 0
+OnwardTold P J before after =
+    ((J ≡ []) × (after ≡ before)) ⊎ ((replayed : List Entry) × P replayed × ToldSince replayed J before after)
