@@ -1,5 +1,5 @@
 -- Records that stand one behind the other, and what nobody has.
-use Rattle.std.proofs.Common.{◌≡◌, ◌<◌, ◌≤◌, ◌+◌, ◌-◌, ℕ, zero, suc, List, [], ◌∷◌, ◌++◌, length, replicate, Bool, true, false, Option, Some, None, IfNone, refl, ap, sym}
+use Rattle.std.proofs.Common.{◌≡◌, ◌<◌, ◌≤◌, ◌+◌, ◌-◌, ℕ, zero, suc, List, [], ◌∷◌, ◌++◌, length, Bool, true, false, Option, Some, refl, ap, sym}
 use Rattle.std.proofs.Common.{◌∙◌, subst, arith}
 use Rattle.std.specs.BTreeMap.{BTreeMap, IsEmpty}
 use Rattle.sky_base.specs.Tree.{Script}
@@ -7,10 +7,11 @@ use Rattle.sky_base.specs.Val.{same_text}
 use Rattle.sky_base.specs.declared.object.Object.{Object}
 use Rattle.sky_base.proofs.Exact.{exact_text, self_text}
 use Rattle.ciel_journal.specs.Job.{Digest}
-use Rattle.ciel_log_file.specs.Replays.{At, HasReplayed, Replays, ReplaysTo, TakesBehind, over, takes}
+use Rattle.ciel_log_file.specs.Refused.{IsRefused, RefusedAfter}
+use Rattle.ciel_log_file.specs.Replays.{At, HasReplayed, ReplaysRecords, ReplaysTo, TakesBehind, over, takes}
 use Rattle.ciel_log_file.specs.Sending.{CanSend, Placed, nobody, sent_to}
 use Rattle.ciel_log_file.specs.declared.refusal.LogRefusal.{LogRefusal}
-use Rattle.ciel_log_file.specs.Whole.{BeginsAt, BeginsOther, IsWhole, RecordsTo}
+use Rattle.ciel_log_file.specs.Whole.{BeginsAt, BeginsOther, RecordsTo}
 use Rattle.ciel_log_read.specs.File.{NoRecordAt, RecordAt}
 use Rattle.ciel_log_read.proofs.Files.{one_at, record_not, record_within}
 use Rattle.ciel_master.specs.declared.stop.RunEnd.{RunEnd}
@@ -48,10 +49,9 @@ pub is_cut : (log header : List ℕ) → NoRecordAt log 0 → BeginsOther log he
 is_cut log header none o = record_not log 0 o.0 o.1 o.2 none
 
 -- behind the header and these
-pub is_behind : (log header : List ℕ) (behind at : ℕ) → RecordAt log 0 header behind
-    → ((records : List (List ℕ)) × RecordsTo log behind records at × (bytes : List ℕ) × (next : ℕ) × RecordAt log at bytes next)
-    → BeginsAt log header at
-is_behind log header behind at r x = (x.0, (behind, r, x.1), x.2, x.3, x.4)
+pub is_behind : (digest : List ℕ → List ℕ) (sc : Script) (shelves : ShelvesSeen) (log header : List ℕ) (at : ℕ) (b : Board P)
+    (out : List (Option Order)) → IsRefused digest sc shelves log header at b out → BeginsAt log header at
+is_behind digest sc shelves log header at b out r = (r.records, r.stand, r.bytes, r.next, r.here)
 
 -- one place is told
 pub one_bad : (here at : ℕ) (e : LogRefusal) → e ≡ LogRefusal.BadLog here → e ≡ LogRefusal.BadLog at → here ≡ at
@@ -100,15 +100,11 @@ free_back n before after xs is long free = subst (λ k. CanSend (nobody k) xs) (
 -- ---- one record more
 
 pub replays_more : (digest : List ℕ → List ℕ) (shelves : ShelvesSeen) (sc : Script) (a b c : At) (xs : List (List ℕ)) (x : List ℕ)
-    → Replays digest shelves sc a xs b → TakesBehind digest shelves sc b x c → Replays digest shelves sc a (xs ++ x ∷ []) c
+    → ReplaysRecords digest shelves sc a xs b → TakesBehind digest shelves sc b x c → ReplaysRecords digest shelves sc a (xs ++ x ∷ []) c
 replays_more digest shelves sc a b c [] x over t = takes t over
 replays_more digest shelves sc a b c (y ∷ ys) x (takes u more) t = takes u (replays_more digest shelves sc _ b c ys x more t)
 
 -- ---- all of them
-
-pub none_under : {A : Type 0} (P Q : Type 0) (o : Option A) → (P → Q) → IfNone o P → IfNone o Q
-none_under P Q None f p = f p
-none_under P Q (Some x) f p = tt
 
 pub replayed_is : (digest : List ℕ → List ℕ) (shelves : ShelvesSeen) (sc same : Script) (log header : List ℕ) (behind whole : ℕ) (end : Option RunEnd)
     (b : Board P) (out first : List (Option Order)) (c : Board P) (then last : List (Option Order)) (kept keeps : BTreeMap Digest Object)
@@ -129,4 +125,24 @@ replayed_is digest shelves sc same log header behind whole end b out first c the
           (record { board = c; out = last; kept = keeps })) begins
           (subst (λ z. ReplaysTo digest shelves sc (record { board = b; out = out; kept = kept }) records end
           (record { board = c; out = z; kept = keeps })) ends replays));
+    }
+
+-- ---- one that is refused
+
+pub refused_is : (digest : List ℕ → List ℕ) (shelves : ShelvesSeen) (sc same : Script) (log header : List ℕ) (behind at : ℕ) (b : Board P)
+    (out first : List (Option Order)) (kept : BTreeMap Digest Object) → sc ≡ same → out ≡ first → IsEmpty kept → RecordAt log 0 header behind
+    → ((records : List (List ℕ)) × RecordsTo log behind records at × (bytes : List ℕ) × (next : ℕ) × RecordAt log at bytes next
+    × RefusedAfter digest sc shelves (record { board = b; out = out; kept = kept }) records bytes)
+    → IsRefused digest same shelves log header at b first
+refused_is digest shelves sc same log header behind at b out first kept is begins none here x =
+    record {
+      records = x.0;
+      stand = (behind, here, x.1);
+      bytes = x.2;
+      next = x.3;
+      here = x.4;
+      first = kept;
+      empty = none;
+      cause = subst (λ z. RefusedAfter digest z shelves (record { board = b; out = first; kept = kept }) x.0 x.2) is
+          (subst (λ z. RefusedAfter digest sc shelves (record { board = b; out = z; kept = kept }) x.0 x.2) begins x.5);
     }

@@ -1,5 +1,5 @@
 -- What one record keeps: orders at their own workers, each of which can be performed.
-use Rattle.std.proofs.Common.{◌≡◌, ◌*◌, ℕ, List, [], ◌∷◌, length, map, true, Option, Some, None, ◌⊎◌, inl, inr, refl, ap, sym, ◌∙◌, subst, slice_set}
+use Rattle.std.proofs.Common.{◌≡◌, ◌*◌, ℕ, List, [], ◌∷◌, length, map, true, Option, Some, ◌⊎◌, inl, inr, ap, sym, ◌∙◌, subst}
 use Rattle.sky_base.specs.JobView.{job_view}
 use Rattle.sky_base.specs.KitView.{Gives}
 use Rattle.sky_base.specs.declared.object.TaskId.{TaskId}
@@ -17,11 +17,8 @@ use Rattle.ciel_master_board.specs.Board.{Board, board_graph, idle_of}
 use Rattle.ciel_journal.specs.Graph.{Runnable}
 use Rattle.ciel_journal.specs.Job.{Each, In}
 use Rattle.ciel_journal.specs.Turns.{state_after}
-use Rattle.ciel_master_board.specs.Moves.{order_for}
 use Rattle.ciel_master_board.proofs.StartChoices.{picked_can_start}
-use Rattle.ciel_master_law.specs.Ends.{worker_of}
 use Rattle.ciel_master_safe.specs.Laws.{SafeOrders}
-use Rattle.ciel_run_drive.specs.Kept.{slots_of}
 use Rattle.ciel_run_drive.specs.Working.{Working}
 use Rattle.ciel_run_drive.proofs.Slots.{set_at, slots_at}
 use Rattle.ciel_task_crew.specs.Crews.{Takes, order_at}

@@ -1,3 +1,4 @@
+pub mod Refused
 pub mod Replays
 pub mod Sending
 pub mod Whole

@@ -40,25 +40,25 @@ pub record LosesDue (a b : At) : Type 0 where
 module _ (digest : List ℕ → List ℕ) (shelves : ShelvesSeen) (sc : Script) where
   -- with no loss due, what comes of a record with these bytes: the Start that comes next; the report of an order that is out, which it fits;
   -- nothing, where the order of its number isn't out
-  pub data Takes (b : At) (bytes : List ℕ) : At → Type 0 where
+  pub data TakesRecord (b : At) (bytes : List ℕ) : At → Type 0 where
     starts : (number worker from : ℕ) (task : TaskId) → IsRecord (started number worker from task)
         → record_bytes (started number worker from task) ≡ bytes → IsNextStart b.board number worker from task
-        → {c : At} → HasStarted b.board c.board b.out c.out task worker → c.kept ≡ b.kept → Takes b bytes c
+        → {c : At} → HasStarted b.board c.board b.out c.out task worker → c.kept ≡ b.kept → TakesRecord b bytes c
     reports : (logged : LoggedReport) → IsRecord (report_view logged) → record_bytes (report_view logged) ≡ bytes → (r : Report)
-        → now_of r.end ≡ Now.Goes → {c : At} → ReportTaken digest shelves sc b.board b.out b.kept logged c.board c.out c.kept r → Takes b bytes c
+        → now_of r.end ≡ Now.Goes → {c : At} → ReportTaken digest shelves sc b.board b.out b.kept logged c.board c.out c.kept r → TakesRecord b bytes c
     passes : (logged : LoggedReport) → IsRecord (report_view logged) → record_bytes (report_view logged) ≡ bytes
-        → find_order logged.number b.board.orders ≡ None → Takes b bytes b
+        → find_order logged.number b.board.orders ≡ None → TakesRecord b bytes b
     drops : (number : ℕ) → IsRecord (dropped number) → record_bytes (dropped number) ≡ bytes → find_order number b.board.orders ≡ None
-        → Takes b bytes b
+        → TakesRecord b bytes b
 
   -- a record, behind the losses that are due
   abbrev pub TakesBehind : At → List ℕ → At → Type 0
-  TakesBehind a bytes c = (b : At) × LosesDue a b × Takes b bytes c
+  TakesBehind a bytes c = (b : At) × LosesDue a b × TakesRecord b bytes c
 
   -- the records, in order
-  pub data Replays : At → List (List ℕ) → At → Type 0 where
-    over : {a : At} → Replays a [] a
-    takes : {a c d : At} {bytes : List ℕ} {more : List (List ℕ)} → TakesBehind a bytes c → Replays c more d → Replays a (bytes ∷ more) d
+  pub data ReplaysRecords : At → List (List ℕ) → At → Type 0 where
+    over : {a : At} → ReplaysRecords a [] a
+    takes : {a c d : At} {bytes : List ℕ} {more : List (List ℕ)} → TakesBehind a bytes c → ReplaysRecords c more d → ReplaysRecords a (bytes ∷ more) d
 
   -- with no loss due, the run ended so with a record of these bytes
   pub record EndsSo (b : At) (bytes : List ℕ) (end : RunEnd) (c : At) : Type 0 where
@@ -73,9 +73,9 @@ module _ (digest : List ℕ → List ℕ) (shelves : ShelvesSeen) (sc : Script) 
 
   -- the run goes on behind these records; or it ended with the last of them
   abbrev pub ReplaysTo : At → List (List ℕ) → Option RunEnd → At → Type 0
-  ReplaysTo a records None c = Replays a records c
+  ReplaysTo a records None c = ReplaysRecords a records c
   ReplaysTo a records (Some end) c =
-      (front : List (List ℕ)) × (bytes : List ℕ) × (records ≡ front ++ bytes ∷ []) × (b : At) × Replays a front b × EndsBy b bytes end c
+      (front : List (List ℕ)) × (bytes : List ℕ) × (records ≡ front ++ bytes ∷ []) × (b : At) × ReplaysRecords a front b × EndsBy b bytes end c
 
   -- the records of the log were replayed from this state and these orders on, with no object kept, to that state and those orders
   pub record HasReplayed (log : List ℕ) (header : List ℕ) (whole : ℕ) (end : Option RunEnd) (b : Board P) (out : List (Option Order)) (c : Board P)

@@ -2,12 +2,13 @@
 
 ghost use Rattle.std.specs.Prelude.{◌≡◌, IfOk, OnOk, length};
 ghost use Rattle.sky_base.specs.JobView.{job_view};
-ghost use Rattle.ciel_log_file.specs.Replays.{EndsBy, EndsSo, Takes, TakesBehind};
+ghost use Rattle.ciel_log_file.specs.Refused.{RefusedBehind, RefusedNow};
+ghost use Rattle.ciel_log_file.specs.Replays.{EndsBy, EndsSo, TakesBehind, TakesRecord};
 ghost use Rattle.ciel_log_file.specs.Sending.{AllTake, Placed};
 ghost use Rattle.ciel_log_read.specs.Recorded.{IsRecord, record_bytes};
 ghost use Rattle.ciel_log_read.specs.View.{record_view};
 ghost use Rattle.ciel_log_replay.specs.Between.{Between};
-ghost use Rattle.ciel_log_report.specs.Comes.{GoesOn, IsTold};
+ghost use Rattle.ciel_log_report.specs.Comes.{GoesOn, NotRefused};
 ghost use Rattle.ciel_log_report.specs.declared.take.Came.{Came as CameSeen};
 ghost use Rattle.ciel_master.specs.declared.stop.RunEnd.{RunEnd};
 ghost use Rattle.ciel_master_board.specs.Driving.{Quiet};
@@ -58,18 +59,20 @@ pub(crate) fn take_record<K: Kit + Drop, N: Namer + Drop, R: Wait>(
     ensures ends { IfOk result (λ c. (e : RunEnd) → c ≡ CameSeen.Ends e → EndsBy (N.digest shop.now.namer) shop.now.shelves script.now
         (record { board = master.old.board; out = out.old; kept = kept.old }) bytes.now e
         (record { board = master.new.board; out = out.new; kept = kept.new })) }
+    ensures refused { IfOk result (λ c. c ≡ CameSeen.Refused → RefusedBehind (N.digest shop.now.namer) script.now
+        (record { board = master.old.board; out = out.old; kept = kept.old }) bytes.now) }
     ensures between { IfOk result (λ c. GoesOn c → Between K.gives N.digest shop.now master.new out.new draws.new) }
-    ensures placed { IfOk result (λ c. IsTold c → Placed out.new) }
-    ensures takes { IfOk result (λ c. IsTold c → AllTake K.gives N.digest shop.now out.new) }
-    ensures many { IfOk result (λ c. IsTold c → length out.new ≡ length out.old) }
-    ensures plan { IfOk result (λ c. IsTold c → master.new.board.plan ≡ master.old.board.plan) }
+    ensures placed { IfOk result (λ c. NotRefused c → Placed out.new) }
+    ensures takes { IfOk result (λ c. NotRefused c → AllTake K.gives N.digest shop.now out.new) }
+    ensures many { IfOk result (λ c. NotRefused c → length out.new ≡ length out.old) }
+    ensures plan { IfOk result (λ c. NotRefused c → master.new.board.plan ≡ master.old.board.plan) }
 {
+    lose_due(master, shop, out, *draws);
     let record = match read_record(alloc, bytes) {
         Ok(record) => record,
         Err(Decode::NotValue) => return Ok(Came::Refused),
         Err(Decode::Memory) => return Err(Memory),
     };
-    lose_due(master, shop, out, *draws);
     let came = take_read(
         rt, alloc, master, shop, script, fitting, out, draws, kept, &record,
     )?;
@@ -95,17 +98,19 @@ fn take_read<K: Kit + Drop, N: Namer + Drop, R: Wait>(
     requires script { script.now ≡ (job_view shop.now.job).script }
     requires fitting { fitting.now ≡ (job_view shop.now.job).script }
     requires data { IsRecord (record_view told.now) }
-    ensures takes_it { IfOk result (λ c. GoesOn c → Takes (N.digest shop.now.namer) shop.now.shelves script.now
+    ensures takes_it { IfOk result (λ c. GoesOn c → TakesRecord (N.digest shop.now.namer) shop.now.shelves script.now
         (record { board = master.old.board; out = out.old; kept = kept.old }) (record_bytes (record_view told.now))
         (record { board = master.new.board; out = out.new; kept = kept.new })) }
     ensures ends { IfOk result (λ c. (e : RunEnd) → c ≡ CameSeen.Ends e → EndsSo (N.digest shop.now.namer) shop.now.shelves script.now
         (record { board = master.old.board; out = out.old; kept = kept.old }) (record_bytes (record_view told.now)) e
         (record { board = master.new.board; out = out.new; kept = kept.new })) }
+    ensures refused { IfOk result (λ c. c ≡ CameSeen.Refused → RefusedNow (N.digest shop.now.namer) script.now
+        (record { board = master.old.board; out = out.old; kept = kept.old }) (record_bytes (record_view told.now))) }
     ensures between { IfOk result (λ c. GoesOn c → Between K.gives N.digest shop.now master.new out.new draws.new) }
-    ensures placed { IfOk result (λ c. IsTold c → Placed out.new) }
-    ensures takes { IfOk result (λ c. IsTold c → AllTake K.gives N.digest shop.now out.new) }
-    ensures many { IfOk result (λ c. IsTold c → length out.new ≡ length out.old) }
-    ensures plan { IfOk result (λ c. IsTold c → master.new.board.plan ≡ master.old.board.plan) }
+    ensures placed { IfOk result (λ c. NotRefused c → Placed out.new) }
+    ensures takes { IfOk result (λ c. NotRefused c → AllTake K.gives N.digest shop.now out.new) }
+    ensures many { IfOk result (λ c. NotRefused c → length out.new ≡ length out.old) }
+    ensures plan { IfOk result (λ c. NotRefused c → master.new.board.plan ≡ master.old.board.plan) }
 {
     orders_are_safe();
     match told {

@@ -3,6 +3,7 @@
 ghost use Rattle.std.specs.Prelude.{◌≡◌, ◌≢◌, ◌<◌, ℕ, List, [], Err, IfErr, IfNone, IfOk, None, OnErr, OnOk, length, true};
 ghost use Rattle.sky_base.specs.JobView.{job_view};
 ghost use Rattle.ciel_journal.specs.Job.{Each};
+ghost use Rattle.ciel_log_file.specs.Refused.{IsRefused, RefusedAfter};
 ghost use Rattle.ciel_log_file.specs.Replays.{HasReplayed, ReplaysTo};
 ghost use Rattle.ciel_log_file.specs.Sending.{AllTake, CanSend, NumbersRise, Placed, nobody, sent_to};
 ghost use Rattle.ciel_log_file.specs.Whole.{BeginsAt, BeginsOther, IsWhole, RecordsTo};
@@ -51,6 +52,8 @@ pub fn replay<K: Kit + Drop, N: Namer + Drop, R: Wait>(
     ensures other { IfErr result (λ e. e ≡ Refusal.OtherJob → BeginsOther log.now header.now) }
     ensures of_other { BeginsOther log.now header.now → result ≡ Err Refusal.OtherJob }
     ensures bad { IfErr result (λ e. (at : ℕ) → e ≡ Refusal.BadLog at → BeginsAt log.now header.now at) }
+    ensures refused { IfErr result (λ e. (at : ℕ) → e ≡ Refusal.BadLog at → IsRefused (N.digest shop.now.namer) (job_view shop.now.job).script
+        shop.now.shelves log.now header.now at master.old.board (nobody master.old.board.plan.workers)) }
     ensures whole { IfOk result (λ r. IsWhole log.now header.now r.whole) }
     ensures cut { IfOk result (λ r. r.whole ≡ 0 → master.new ≡ master.old) }
     ensures none { IfOk result (λ r. r.whole ≡ 0 → (r.out.items ≡ []) × (r.end ≡ None)) }
@@ -93,8 +96,9 @@ fn replay_behind<K: Kit + Drop, N: Namer + Drop, R: Wait>(
 ) -> Result<Replayed, LogRefusal>
     requires working { Working K.gives N.digest shop.now true master.old (nobody master.old.board.plan.workers) }
     requires first { master.old.board.starts ≡ 0 }
-    ensures bad { IfErr result (λ e. (at : ℕ) → e ≡ Refusal.BadLog at
-        → (records : List (List ℕ)) × RecordsTo log.now behind records at × (bytes : List ℕ) × (next : ℕ) × RecordAt log.now at bytes next) }
+    ensures bad { IfErr result (λ e. (at : ℕ) → e ≡ Refusal.BadLog at → (header : List ℕ) → RecordAt log.now 0 header behind
+        → IsRefused (N.digest shop.now.namer) (job_view shop.now.job).script shop.now.shelves log.now header at master.old.board
+        (nobody master.old.board.plan.workers)) }
     ensures same { IfErr result (λ e. e ≢ Refusal.OtherJob) }
     ensures end { IfOk result (λ r. NoRecordAt log.now r.whole) }
     ensures goes_on { IfOk result (λ r. IfNone r.end
@@ -137,8 +141,9 @@ fn replay_from<K: Kit + Drop, N: Namer + Drop, R: Wait>(
     requires script { script.now ≡ (job_view shop.now.job).script }
     requires fitting { fitting.now ≡ (job_view shop.now.job).script }
     requires nobody { out.old ≡ nobody master.old.board.plan.workers }
-    ensures bad { IfErr result (λ e. (at : ℕ) → e ≡ Refusal.BadLog at
-        → (records : List (List ℕ)) × RecordsTo log.now behind records at × (bytes : List ℕ) × (next : ℕ) × RecordAt log.now at bytes next) }
+    ensures bad { IfErr result (λ e. (at : ℕ) → e ≡ Refusal.BadLog at → (header : List ℕ) → RecordAt log.now 0 header behind
+        → IsRefused (N.digest shop.now.namer) (job_view shop.now.job).script shop.now.shelves log.now header at master.old.board
+        (nobody master.old.board.plan.workers)) }
     ensures same { IfErr result (λ e. e ≢ Refusal.OtherJob) }
     ensures end { IfOk result (λ r. NoRecordAt log.now r.whole) }
     ensures goes_on { IfOk result (λ r. IfNone r.end
@@ -196,7 +201,9 @@ fn replay_records<K: Kit + Drop, N: Namer + Drop, R: Wait>(
         records r.1 (record { board = master.new.board; out = out.new; kept = kept.new })) }
     ensures none { IfOk result (λ r. NoRecordAt log.now r.0) }
     ensures bad { IfErr result (λ e. (at : ℕ) → e ≡ Refusal.BadLog at
-        → (records : List (List ℕ)) × RecordsTo log.now behind records at × (bytes : List ℕ) × (next : ℕ) × RecordAt log.now at bytes next) }
+        → (records : List (List ℕ)) × RecordsTo log.now behind records at × (bytes : List ℕ) × (next : ℕ) × RecordAt log.now at bytes next
+        × RefusedAfter (N.digest shop.now.namer) script.now shop.now.shelves (record { board = master.old.board; out = out.old; kept = kept.old })
+        records bytes) }
     ensures same { IfErr result (λ e. e ≢ Refusal.OtherJob) }
 {
     let mut at = behind;

@@ -6,7 +6,7 @@ use Rattle.ciel_journal.specs.History.{Event, find_open, lost, standing}
 use Rattle.ciel_journal.specs.Job.{IsPrefix, Job}
 use Rattle.ciel_log.specs.Logs as logs
 use Rattle.ciel_log.specs.Logs.{Idle, RecordOf, Records}
-use Rattle.ciel_log_follows.specs.Begins.{AllRead, ReadsEvent, ReadsIdle}
+use Rattle.ciel_log_follows.specs.Begins.{AllReadable, ReadsEvent, ReadsIdle}
 use Rattle.ciel_log_read.specs.File.{RecordAt}
 use Rattle.ciel_log_read.specs.Recorded.{FitsBlock}
 use Rattle.ciel_log_read.proofs.Pieces.{blocks_free}
@@ -39,11 +39,11 @@ module _ (digest : List ℕ → List ℕ) (job : s.Job) (gives : Gives) where
   -- records of events that can all be read
   pub record ReadLog (past es : List (Event s.Desc)) (bytes : List ℕ) : Type 0 where
     pub records : Rs past es bytes
-    pub read : AllRead digest job gives records
+    pub read : AllReadable digest job gives records
 
   -- the loss that comes first is carried out, and the idle records before it stand behind it
   pub lose_first : (past es : List (Event s.Desc)) (w closes : ℕ) (rest : List ℕ) → StaysFree past (past ++ lost w closes ∷ [])
-      → (r : Rs past (lost w closes ∷ es) rest) → AllRead digest job gives r → ReadLog (past ++ lost w closes ∷ []) es rest
+      → (r : Rs past (lost w closes ∷ es) rest) → AllReadable digest job gives r → ReadLog (past ++ lost w closes ∷ []) es rest
   lose_first past es w closes rest f (logs.idle bytes i more) a =
       let n = lose_first past es w closes _ f more a.2 in
       record {
@@ -55,7 +55,7 @@ module _ (digest : List ℕ → List ℕ) (job : s.Job) (gives : Gives) where
 
   -- where no event is left, idle records stand behind a loss too
   pub lose_last : (past : List (Event s.Desc)) (w closes : ℕ) (rest : List ℕ) → StaysFree past (past ++ lost w closes ∷ [])
-      → (r : Rs past [] rest) → AllRead digest job gives r → ReadLog (past ++ lost w closes ∷ []) [] rest
+      → (r : Rs past [] rest) → AllReadable digest job gives r → ReadLog (past ++ lost w closes ∷ []) [] rest
   lose_last past w closes rest f logs.over a = record { records = logs.over; read = tt }
   lose_last past w closes rest f (logs.idle bytes i more) a =
       let n = lose_last past w closes _ f more a.2 in
@@ -83,7 +83,7 @@ module _ (digest : List ℕ → List ℕ) (job : s.Job) (gives : Gives) where
   none_before a x p = let bad : in_file a ++ (x ++ p.0) ≡ [] = sym (append_assoc (in_file a) x p.0) ∙ p.1 in cc
 
   pub next_is : (log : List ℕ) (at : ℕ) (bytes : List ℕ) (next : ℕ) → RecordAt log at bytes next → (past es : List (Event s.Desc)) (rest : List ℕ)
-      → (r : Rs past es rest) → AllRead digest job gives r → IsPrefix (drop at log) rest → NextIs past bytes (drop next log) es
+      → (r : Rs past es rest) → AllReadable digest job gives r → IsPrefix (drop at log) rest → NextIs past bytes (drop next log) es
   next_is log at bytes next s past es rest logs.over a p =
       absurd (none_before bytes (drop next log) (subst (λ z. IsPrefix z []) s.here p))
   next_is log at bytes next s past es rest (logs.idle {rest = behind} x i more) a p =

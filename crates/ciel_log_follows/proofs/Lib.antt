@@ -1,14 +1,14 @@
 mod Left
-mod LogAt
-mod RunAt
+pub mod LogAt
+pub mod RunAt
 mod Learned
 mod Told
-mod Waits
-mod Objects
-mod Closes
+pub mod Waits
+pub mod Objects
+pub mod Closes
 mod Ended
 mod Stopped
-mod Reported
-mod Steps
-mod Taken
-mod Replayed
+pub mod Reported
+pub mod Steps
+pub mod Taken
+pub mod Replayed

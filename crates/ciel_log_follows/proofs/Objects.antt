@@ -15,8 +15,8 @@ use Rattle.ciel_journal.specs.Job.{Digest, In, Job}
 use Rattle.ciel_journal.proofs.Members.{bool_cases}
 use Rattle.ciel_log.specs.Logs.{IsObjectOf}
 use Rattle.ciel_log_follows.specs.Keeping.{KeepsObjects}
-use Rattle.ciel_log_report.specs.Comes as comes
-use Rattle.ciel_log_report.specs.Comes.{Keeps}
+use Rattle.ciel_log_objects.specs.Objects as put
+use Rattle.ciel_log_objects.specs.Objects.{KeepsEach}
 use Rattle.ciel_master_board.specs.Follows.{OneByOne}
 use Rattle.ciel_task_order.specs.Named.{shop_job}
 
@@ -63,12 +63,12 @@ module _ (digest : List ℕ → List ℕ) (job : s.Job) (gives : Gives) where
       pick (inr f) = k q x (at false f)
 
   -- with those of outputs
-  pub keeps_more : (book : List s.Desc) {ns : List Digest} {os : List Object} {a b : BTreeMap Digest Object} → Keeps ns os a b → (ds : List s.Desc)
+  pub keeps_more : (book : List s.Desc) {ns : List Digest} {os : List Object} {a b : BTreeMap Digest Object} → KeepsEach ns os a b → (ds : List s.Desc)
       → ((d : s.Desc) → In d ds → In d book) → ns ≡ map J.name ds → OneByOne (IsObjectOf digest job gives) ds (map object_view os)
       → KeepsIn book a → KeepsIn book b
-  keeps_more book comes.none ds i names objects k = k
-  keeps_more book (comes.one u more) [] i names objects k = absurd objects
-  keeps_more book (comes.one {n} {ns} {o} {os} {a} {b} {c} u more) (d ∷ ds) i names objects k =
+  keeps_more book put.none ds i names objects k = k
+  keeps_more book (put.one u more) [] i names objects k = absurd objects
+  keeps_more book (put.one {n} {ns} {o} {os} {a} {b} {c} u more) (d ∷ ds) i names objects k =
       let name : n ≡ J.name d = cc in
       let rest : ns ≡ map J.name ds = cc in
       keeps_more book more ds (λ x j. i x (inr j)) rest objects.1 (keeps_one book a b n o d u.0 (i d (inl refl)) name objects.0 k)

@@ -15,7 +15,7 @@ use Rattle.ciel_journal.specs.Job.{Digest, Job}
 use Rattle.ciel_journal.specs.Turns.{Driven, state_after}
 use Rattle.ciel_log.specs.Logs.{Logs}
 use Rattle.ciel_log_file.specs.Replays as rp
-use Rattle.ciel_log_file.specs.Replays.{At, HasReplayed, Replays, ReplaysTo, Takes}
+use Rattle.ciel_log_file.specs.Replays.{At, HasReplayed, ReplaysRecords, ReplaysTo, TakesRecord}
 use Rattle.ciel_log_file.specs.Sending.{nobody, sent_to}
 use Rattle.ciel_log_file.specs.Whole.{RecordsTo}
 use Rattle.ciel_log_follows.specs.Begins.{BeginsLog}
@@ -51,7 +51,7 @@ use Rattle.ciel_task_order.specs.declared.report.Report.{Report}
 use Rattle.ciel_task_order.specs.declared.shop.Shop.{Shop}
 
 -- the last of some records stands behind the others
-records_split : (log : List ℕ) (xs : List (List ℕ)) (x : List ℕ) (at to : ℕ) → RecordsTo log at (xs ++ x ∷ []) to
+pub records_split : (log : List ℕ) (xs : List (List ℕ)) (x : List ℕ) (at to : ℕ) → RecordsTo log at (xs ++ x ∷ []) to
     → (here : ℕ) × RecordsTo log at xs here × RecordAt log here x to
 records_split log [] x at to r = (at, refl, subst (RecordAt log at x) r.2 r.1)
 records_split log (y ∷ ys) x at to r =
@@ -63,7 +63,7 @@ no_events job [] e = refl
 no_events job (x ∷ xs) e = cc
 
 -- nobody has an order
-nobody_at : (n w : ℕ) (x : Order) → order_at (nobody n) w ≡ Some x → ⊥
+pub nobody_at : (n w : ℕ) (x : Order) → order_at (nobody n) w ≡ Some x → ⊥
 nobody_at zero w x e = cc
 nobody_at (suc n) zero x e = cc
 nobody_at (suc n) (suc w) x e = nobody_at n w x e
@@ -87,8 +87,8 @@ module _ {K N : Type 0} (gives : K → Gives) (digest : N → List ℕ → List 
 
   -- ---- records, one after another
 
-  take_one : (b c : At) (at : ℕ) (bytes : List ℕ) (next : ℕ) → Here b at → Quiet b.board → RecordAt log at bytes next
-      → Takes D shop_.shelves J.script b bytes c → Here c next
+  pub take_one : (b c : At) (at : ℕ) (bytes : List ℕ) (next : ℕ) → Here b at → Quiet b.board → RecordAt log at bytes next
+      → TakesRecord D shop_.shelves J.script b bytes c → Here c next
   take_one b c at bytes next x quiet there (rp.starts number worker from task is e only made same) =
       starts gives digest shop_ m header log orderly b at x bytes next there c number worker from task is e only made same
   take_one b c at bytes next x quiet there (rp.reports logged is e r goes k) =
@@ -99,7 +99,7 @@ module _ {K N : Type 0} (gives : K → Gives) (digest : N → List ℕ → List 
   take_one b c at bytes next x quiet there (rp.drops number is e none) =
       drops gives digest shop_ m header log orderly b at x bytes next there quiet number is e none
 
-  replay_all : {a c : At} {records : List (List ℕ)} → Replays D shop_.shelves J.script a records c → (at to : ℕ) → RecordsTo log at records to
+  pub replay_all : {a c : At} {records : List (List ℕ)} → ReplaysRecords D shop_.shelves J.script a records c → (at to : ℕ) → RecordsTo log at records to
       → Here a at → Here c to
   replay_all (rp.over {a}) at to e x = subst (Here a) e x
   replay_all (rp.takes {a} {c} {d} {bytes} {more} t rest) at to r x =
@@ -109,7 +109,7 @@ module _ {K N : Type 0} (gives : K → Gives) (digest : N → List ℕ → List 
   -- ---- the end
 
   -- what stands whole is a log of this journal, which the run ended with so
-  record Came (journal : List Entry) (end : RunEnd) (at : ℕ) : Type 0 where
+  pub record Came (journal : List Entry) (end : RunEnd) (at : ℕ) : Type 0 where
     pub logs : Logs D J G m.board.plan header journal (take at log)
     pub ended : Ended gives digest shop_ m.board.plan journal end
 
@@ -148,7 +148,7 @@ module _ {K N : Type 0} (gives : K → Gives) (digest : N → List ℕ → List 
         k.stops.0 (Learn.Full held) k.stops.1
     never_stops Stop.Memory k = tt
 
-    end_with : (end : RunEnd) → EndsWith D shop_.shelves J.script b.board b.out b.kept logged end c.board c.out c.kept → Came c.board.journal end next
+    pub end_with : (end : RunEnd) → EndsWith D shop_.shelves J.script b.board b.out b.kept logged end c.board c.out c.kept → Came c.board.journal end next
     end_with (RunEnd.Answer text) e = shown_came (Shown.Text text) e.0 e.1 e.2 (RunEnd.Answer text) (λ J2 means shows. (means, shows))
     end_with (RunEnd.Fault fault) e = shown_came (Shown.Fault fault) e.0 e.1 e.2 (RunEnd.Fault fault) (λ J2 means shows. (means, shows))
     end_with (RunEnd.NameClash kept given) e = absurd (never_stops (Stop.NameClash kept given) e)
@@ -157,7 +157,7 @@ module _ {K N : Type 0} (gives : K → Gives) (digest : N → List ℕ → List 
     end_with RunEnd.AllLost e = absurd e
     end_with RunEnd.Memory e = absurd e
 
-  replay_end : (a c : At) (records : List (List ℕ)) (end : RunEnd) → ReplaysTo D shop_.shelves J.script a records (Some end) c → (at to : ℕ)
+  pub replay_end : (a c : At) (records : List (List ℕ)) (end : RunEnd) → ReplaysTo D shop_.shelves J.script a records (Some end) c → (at to : ℕ)
       → RecordsTo log at records to → Here a at → Came c.board.journal end to
   replay_end a c records end f at to r x =
       let q = records_split log f.0 f.1 at to (subst (λ z. RecordsTo log at z to) f.2 r) in
@@ -176,7 +176,7 @@ module _ {K N : Type 0} (gives : K → Gives) (digest : N → List ℕ → List 
     nothing_yet : first.kept.history ≡ []
     nothing_yet = no_events S.job first.kept.history (sym first.kept.runs.follows.journal ∙ first.journal)
 
-    here_first : (kept : BTreeMap Digest Object) → IsEmpty kept → (next : ℕ) → RecordAt log 0 header next → Here (starting kept) next
+    pub here_first : (kept : BTreeMap Digest Object) → IsEmpty kept → (next : ℕ) → RecordAt log 0 header next → Here (starting kept) next
     here_first kept none next there =
         record {
           history = [];

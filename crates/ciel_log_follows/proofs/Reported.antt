@@ -54,13 +54,13 @@ use Rattle.ciel_want.specs.History.{task_id}
 -- ---- records that are the same
 
 -- what two reports' records say
-record Same (k l : ℕ) (ds es : List (Desc (List ℕ))) (ns ms : List (List ℕ)) (a b : HowEnded) : Type 0 where
+pub record Same (k l : ℕ) (ds es : List (Desc (List ℕ))) (ns ms : List (List ℕ)) (a b : HowEnded) : Type 0 where
   pub numbers : k ≡ l
   pub spawned : ds ≡ es
   pub copied : ns ≡ ms
   pub ends : a ≡ b
 
-same_reports : (k l : ℕ) (ds es : List (Desc (List ℕ))) (ns ms : List (List ℕ)) (a b : HowEnded)
+pub same_reports : (k l : ℕ) (ds es : List (Desc (List ℕ))) (ns ms : List (List ℕ)) (a b : HowEnded)
     → read.reported k ds ns a ≡ read.reported l es ms b → Same k l ds es ns ms a b
 same_reports k l ds es ns ms a b e =
     let p : k ≡ l = cc in

@@ -50,7 +50,7 @@ pub same_number : (logged : LoggedReport) (l : ℕ) (ds : List (Desc (List ℕ))
     → report_view logged ≡ read.reported l ds ns how → l ≡ logged.number
 same_number logged l ds ns how e = let same : logged.number ≡ l = cc in sym same
 
-not_started : (logged : LoggedReport) (l w from : ℕ) (t : TaskId) → report_view logged ≡ started l w from t → ⊥
+pub not_started : (logged : LoggedReport) (l w from : ℕ) (t : TaskId) → report_view logged ≡ started l w from t → ⊥
 not_started logged l w from t e = cc
 
 -- where no order of a number is out, no Start of it is open
@@ -170,7 +170,7 @@ module _ {K N : Type 0} (gives : K → Gives) (digest : N → List ℕ → List 
 
       -- ---- a Start
 
-      idle_starts : (number worker from : ℕ) (task : TaskId) → IsRecord (started number worker from task)
+      pub idle_starts : (number worker from : ℕ) (task : TaskId) → IsRecord (started number worker from task)
           → (z : List ℕ) → record_bytes (started number worker from task) ≡ z → (i : Idle D J G h z) → ReadsIdle D J G h z i → ⊥
       idle_starts number worker from task is z e (logs.reported k free spawned copied how) reads =
           let same = one_record (started number worker from task) (read.reported k spawned copied how) is reads e in cc

@@ -27,7 +27,7 @@ use Rattle.ciel_journal_job.specs.Real.{mark_if}
 use Rattle.ciel_json.specs.Around.{json_around}
 use Rattle.ciel_log.specs.Logs.{IsObjectOf}
 use Rattle.ciel_log_follows.specs.Keeping.{KeepsObjects}
-use Rattle.ciel_log_report.specs.Objects.{IsCopyOf}
+use Rattle.ciel_log_objects.specs.Objects.{IsCopyOf}
 use Rattle.ciel_log_fits.specs.Known.{AfterSeen}
 use Rattle.ciel_master_board.specs.Board.{Board}
 use Rattle.ciel_master_board.specs.Follows as follows

@@ -58,6 +58,10 @@ known_same job (x ∷ xs) (d ∷ ds) e =
     let rest : known_of xs ≡ map (λ z. known (job.name z)) ds = cc in
     ap (λ z. z ∷ xs) one ∙ ap (λ zs. job.name d ∷ zs) (known_same job xs ds rest)
 
+known_low : {D : Type 0} (job : Job D) (ds : List D) → known_of (low_names job ds) ≡ map (λ d. known (job.name d)) ds
+known_low job [] = refl
+known_low job (d ∷ ds) = ap (λ z. known (job.name d) ∷ z) (known_low job ds)
+
 module _ (digest : List ℕ → List ℕ) (job : s.Job) (gives : Gives) where
   abbrev S : Setting s.Desc P shop.Block
   S = the_shop digest job gives
@@ -126,6 +130,12 @@ module _ (digest : List ℕ → List ℕ) (job : s.Job) (gives : Gives) where
     holds_known =
         is.knows.holds_told then.book o.task j refs (record { names = holds; mark = mark }) save_known.told ok.next.waits ok.frozen
 
+    pub refs_booked : Each (λ d. In d then.book) refs
+    refs_booked = save_known.refs
+
+    pub holds_booked : Each (λ d. In d then.book) holds
+    holds_booked = holds_known
+
     clear : (ds : List s.Desc) → Each (λ d. In d then.book) ds → laws.NoClash tag ds
     clear ds all d e i q same =
         step.apart d e (each_of (λ x. In x then.book) d ds (in_to d ds i) all) (each_of (λ x. In x then.book) e ds (in_to e ds q) all) same
@@ -150,17 +160,32 @@ module _ (digest : List ℕ → List ℕ) (job : s.Job) (gives : Gives) where
       abbrev Q : Stand (List ℕ)
       Q = state_by_names digest a
 
+      pub waits_at : n.WaitOf job around (back o.task) j refs
+      waits_at =
+          wait_to job around (name_of digest) (mark_of digest) (frozen_mark digest) o.task
+          (is_one job around (name_of digest) (mark_of digest) (frozen_mark digest) o.task needed) j refs ok.next.waits
+
+      pending : pending_in same_text Q ≡ map (λ d. known (S.job.name d)) refs
+      pending =
+          stands_pending tag job around Q (back o.task) j refs (a, stands, refl) waits_at (clear refs save_known.refs)
+          ∙ ap (map (λ d. low_ref no_name tag d)) (apart_refs refs (waits_apart job around waits_at.0 (back o.task) j refs waits_at.1))
+
+      held : held_in same_text Q ≡ map (λ d. known (S.job.name d)) holds
+      held =
+          stands_holds tag job around Q (back o.task) j holds (a, stands, refl)
+          (subst (t.HeldAt job around (back o.task) j) (sym names_is) (held_at o.task j a stands)) (clear holds holds_known)
+
       pub refs_are : (ns : List (List ℕ)) → known_of ns ≡ pending_in same_text Q → ns ≡ low_names S.job refs
-      refs_are ns e =
-          let w = wait_to job around (name_of digest) (mark_of digest) (frozen_mark digest) o.task
-          (is_one job around (name_of digest) (mark_of digest) (frozen_mark digest) o.task needed) j refs ok.next.waits in
-          let pending = stands_pending tag job around Q (back o.task) j refs (a, stands, refl) w (clear refs save_known.refs) in
-          known_same S.job ns refs (e ∙ (pending ∙ ap (map (λ d. low_ref no_name tag d)) (apart_refs refs (waits_apart job around w.0 (back o.task) j refs w.1))))
+      refs_are ns e = known_same S.job ns refs (e ∙ pending)
 
       pub holds_are : (ns : List (List ℕ)) → known_of ns ≡ held_in same_text Q → ns ≡ low_names S.job holds
-      holds_are ns e =
-          known_same S.job ns holds (e ∙ stands_holds tag job around Q (back o.task) j holds (a, stands, refl)
-          (subst (t.HeldAt job around (back o.task) j) (sym names_is) (held_at o.task j a stands)) (clear holds holds_known))
+      holds_are ns e = known_same S.job ns holds (e ∙ held)
+
+      pub refs_told : known_of (low_names S.job refs) ≡ pending_in same_text Q
+      refs_told = known_low S.job refs ∙ sym pending
+
+      pub holds_told : known_of (low_names S.job holds) ≡ held_in same_text Q
+      holds_told = known_low S.job holds ∙ sym held
 
       -- the stack with its bytes is this one, where both can be spelled
       pub stack_is : (q : Stand (List ℕ)) → StandSpelled q → StandSpelled Q → frozen_bytes q ≡ frozen_bytes Q → q ≡ Q

@@ -35,11 +35,11 @@ module _ (digest : List ℕ → List ℕ) (job : s.Job) (gives : Gives) where
   ReadsIdle past bytes (logs.dropped k free) = Unit {0}
 
   -- all of them can be read, and each has a length of four bytes
-  abbrev pub AllRead : {past es : List (Event s.Desc)} {bytes : List ℕ} → Records digest job gives past es bytes → Type 0
-  AllRead logs.over = Unit {0}
-  AllRead {past} (logs.idle bytes i more) = FitsBlock bytes × ReadsIdle past bytes i × AllRead more
-  AllRead (logs.loses w closes more) = AllRead more
-  AllRead {past} (logs.tells e bytes r more) = FitsBlock bytes × ReadsEvent past e bytes r × AllRead more
+  abbrev pub AllReadable : {past es : List (Event s.Desc)} {bytes : List ℕ} → Records digest job gives past es bytes → Type 0
+  AllReadable logs.over = Unit {0}
+  AllReadable {past} (logs.idle bytes i more) = FitsBlock bytes × ReadsIdle past bytes i × AllReadable more
+  AllReadable (logs.loses w closes more) = AllReadable more
+  AllReadable {past} (logs.tells e bytes r more) = FitsBlock bytes × ReadsEvent past e bytes r × AllReadable more
 
   -- the file begins such a log of a journal
   pub record BeginsLog (p : Plan) (header bytes : List ℕ) : Type 0 where
@@ -47,7 +47,7 @@ module _ (digest : List ℕ → List ℕ) (job : s.Job) (gives : Gives) where
     pub all : List ℕ
     pub log : Logs digest job gives p header journal all
     pub short : FitsBlock header
-    pub read : AllRead log.records
+    pub read : AllReadable log.records
     pub prefix : IsPrefix bytes all
 
   -- nothing stands there, and nothing has happened; or it is a whole log of the journal

@@ -23,10 +23,9 @@ use Rattle.ciel_log_read.specs.Recorded.{IsRecord, IsSpawned}
 use Rattle.ciel_log_read.specs.View.{report_view}
 use Rattle.ciel_log_read.specs.declared.record.LoggedEnd.{LoggedEnd}
 use Rattle.ciel_log_read.specs.declared.record.LoggedReport.{LoggedReport}
-use Rattle.ciel_log_report.specs.Comes.{Keeps, KeepsOutputs}
+use Rattle.ciel_log_report.specs.Comes.{KeepsOutputs}
 use Rattle.ciel_log_report.specs.Ends.{CopiedSo, IsEndOf, IsMadeOf, IsMissedOf, IsSavedOf, IsShownOf}
-use Rattle.ciel_log_report.specs.Objects.{AreCopies, AreMade}
-use Rattle.ciel_master.specs.Marked.{IsPlanned}
+use Rattle.ciel_log_objects.specs.Objects.{AreCopies, AreMade, KeepsEach}
 use Rattle.ciel_master.specs.Seen.{MasterSeen}
 use Rattle.ciel_master.specs.Taking.{now_of}
 use Rattle.ciel_master.specs.declared.stop.Now.{Now}
@@ -39,7 +38,6 @@ use Rattle.ciel_master_safe.specs.Safe.{IsStackOf}
 use Rattle.ciel_master_safe.proofs.TurnsLemmas.{plan_same}
 use Rattle.ciel_name.specs.Laws.{SpelledDesc}
 use Rattle.ciel_store.specs.Seen.{IsPlaceOf, ShelvesSeen}
-use Rattle.ciel_store.specs.declared.loss.Loss.{Loss}
 use Rattle.ciel_table.specs.Seen.{TableSeen}
 use Rattle.ciel_task_order.specs.Orders.{HasStack}
 use Rattle.ciel_task_order.specs.Performs.{IsMissing, OfTask}
@@ -229,12 +227,12 @@ module _ (order : Order) (shelves : ShelvesSeen) (sc : Script) (kept : BTreeMap 
 -- the objects that were made are kept
 pub made_keeps : (order : Order) (digest : List ℕ → List ℕ) (end : LoggedEnd) (o : Option (Vec Held Global × End)) (objects : Vec Object Global)
     (listed : List Object) (before then : BTreeMap Digest Object) → end ≡ LoggedEnd.Made objects → listed ≡ objects.items
-    → IfSome o (λ _. Keeps (outputs_of digest order.desc) listed before then) → IfSome o (λ _. KeepsOutputs digest order end before then)
+    → IfSome o (λ _. KeepsEach (outputs_of digest order.desc) listed before then) → IfSome o (λ _. KeepsOutputs digest order end before then)
 made_keeps order digest end o objects listed before then is same =
-    under (λ (_ : Vec Held Global × End). Keeps (outputs_of digest order.desc) listed before then)
+    under (λ (_ : Vec Held Global × End). KeepsEach (outputs_of digest order.desc) listed before then)
     (λ (_ : Vec Held Global × End). KeepsOutputs digest order end before then) o
     (λ _ k. subst (λ e. KeepsOutputs digest order e before then) (sym is)
-    (subst (λ os. Keeps (outputs_of digest order.desc) os before then) same k))
+    (subst (λ os. KeepsEach (outputs_of digest order.desc) os before then) same k))
 
 -- ---- what comes of a report
 

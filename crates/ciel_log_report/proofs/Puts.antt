@@ -1,5 +1,5 @@
 -- A report that a record tells of an order fits the order.
-use Rattle.std.proofs.Common.{◌≡◌, ℕ, List, [], ◌∷◌, length, map, Some, None, refl, ap, sym, ◌∙◌, subst, Vec}
+use Rattle.std.proofs.Common.{◌≡◌, ℕ, List, [], ◌∷◌, map, None, refl, ap, sym, subst}
 use Rattle.std.specs.BTreeMap.{BTreeMap}
 use Rattle.std.specs.List.{IsDistinct}
 use Rattle.sha1.specs.Sha1.{sha1}
@@ -22,7 +22,7 @@ use Rattle.ciel_master_safe.specs.Safe.{IsStackOf}
 use Rattle.ciel_store.specs.Seen.{ShelvesSeen}
 use Rattle.ciel_table.specs.Seen.{TableSeen}
 use Rattle.ciel_task_order.specs.Orders.{HasObject, HasStack, names_in}
-use Rattle.ciel_task_order.specs.Performs.{BlockKnown, OfTask, block_refs}
+use Rattle.ciel_task_order.specs.Performs.{OfTask, block_refs}
 use Rattle.ciel_task_order.specs.Shop as shop
 use Rattle.ciel_task_order.specs.Shop.{block_view}
 use Rattle.ciel_task_order.specs.Views.{P}
@@ -35,11 +35,11 @@ use Rattle.ciel_task_order.specs.declared.report.Report.{Report}
 use Rattle.ciel_want.specs.Waited.{AllKnown}
 use Rattle.ciel_log_fits.specs.Given.{IsElsewhere}
 use Rattle.ciel_log_fits.specs.Known.{AfterSeen}
-use Rattle.ciel_log_fits.specs.Read.{CopiesPut, CopyPut, EndPut, IsPut, ObjectPut, StackPut}
+use Rattle.ciel_log_fits.specs.Read.{CopiesPut, CopyPut, EndPut, IsPut, ObjectPut}
 use Rattle.ciel_log_read.specs.declared.record.LoggedEnd.{LoggedEnd}
 use Rattle.ciel_log_read.specs.declared.record.LoggedReport.{LoggedReport}
-use Rattle.ciel_log_report.specs.Ends.{CopiedSo, IsEndOf, IsMadeOf, IsMissedOf, IsReportOf, IsSavedOf, IsShownOf, SavedSo}
-use Rattle.ciel_log_report.specs.Objects.{IsCopyOf, LiesThere, PassedThere, Passes}
+use Rattle.ciel_log_report.specs.Ends.{CopiedSo, IsEndOf, IsMadeOf, IsReportOf, IsSavedOf}
+use Rattle.ciel_log_objects.specs.Objects.{IsCopyOf, LiesThere, PassedThere, Passes}
 
 -- ---- what lies at a place
 

@@ -1,6 +1,6 @@
 -- What holds between two records is kept where a report that fits is taken.
-use Rattle.std.proofs.Common.{◌≡◌, ℕ, zero, suc, ◌*◌, List, [], ◌∷◌, ◌++◌, length, map, Bool, true, false, cond, not, Option, Some, None, ◌⊎◌, inl, inr}
-use Rattle.std.proofs.Common.{refl, ap, sym, ◌∙◌, ◌<◌, subst, arith, nat_eq, eqb-true, eq-eqb, slice_set, filter}
+use Rattle.std.proofs.Common.{◌≡◌, ℕ, ◌*◌, List, [], ◌∷◌, length, map, true, false, cond, not, Option, Some, None, ◌⊎◌, inl, inr}
+use Rattle.std.proofs.Common.{refl, ap, sym, ◌∙◌, ◌<◌, subst, arith, nat_eq, eqb-true, slice_set}
 use Rattle.std.proofs.lemmas.List.{length-map}
 use Rattle.std.specs.BTreeMap.{BTreeMap}
 use Rattle.std.specs.Option.{option_map}
@@ -8,7 +8,6 @@ use Rattle.sky_base.specs.JobView.{job_view}
 use Rattle.sky_base.specs.KitView.{Gives}
 use Rattle.sky_base.specs.See as s
 use Rattle.sky_base.specs.Tree.{Script}
-use Rattle.sky_base.specs.declared.object.Desc1.{Desc1}
 use Rattle.sky_base.specs.declared.object.Named.{Named}
 use Rattle.sky_base.specs.declared.object.Object.{Object}
 use Rattle.sky_base.specs.declared.object.TaskId.{TaskId}
@@ -42,8 +41,6 @@ use Rattle.ciel_master_board.proofs.EventsFollowed.{found_number}
 use Rattle.ciel_master_board.proofs.SoundLemmas.{order_in}
 use Rattle.ciel_master_law.specs.Ends.{worker_of}
 use Rattle.ciel_master_safe.specs.Laws.{GoesStay, RowsStay}
-use Rattle.ciel_master_safe.specs.Reports.{FitsSafely}
-use Rattle.ciel_master_safe.specs.Safe.{GoesBy}
 use Rattle.ciel_master_safe.specs.Turns as safe
 use Rattle.ciel_master_safe.specs.Turns.{AtWork, Turned}
 use Rattle.ciel_master_safe.proofs.TurnsLemmas.{plan_same, starts_same}
@@ -53,7 +50,7 @@ use Rattle.ciel_run_drive.proofs.Slots.{at_slots, slots_at, slots_set}
 use Rattle.ciel_store.specs.Seen.{SeatSeen}
 use Rattle.ciel_store.specs.declared.loss.Loss.{Loss}
 use Rattle.ciel_task_crew.specs.Crews.{order_at}
-use Rattle.ciel_task_order.specs.Performs.{HasRows, IsMissing, OfTask}
+use Rattle.ciel_task_order.specs.Performs.{IsMissing, OfTask}
 use Rattle.ciel_task_order.specs.Views.{P, copies_view, how_view, order_view, out_view, output_view, report_end}
 use Rattle.ciel_task_order.specs.declared.order.Order.{Order}
 use Rattle.ciel_task_order.specs.declared.report.End.{End}

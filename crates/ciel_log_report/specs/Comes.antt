@@ -1,11 +1,11 @@
 -- What comes of a report's record.
-use Rattle.std.specs.Prelude.{◌≡◌, ◌⊎◌, ℕ, List, [], ◌∷◌, Option, Some, None, slice_set}
-use Rattle.std.specs.BTreeMap.{BTreeMap, Updates}
-use Rattle.sky_base.specs.NameOrder.{name_cmp}
+use Rattle.std.specs.Prelude.{◌≡◌, ◌⊎◌, ℕ, List, Option, Some, None, slice_set}
+use Rattle.std.specs.BTreeMap.{BTreeMap}
 use Rattle.sky_base.specs.Tree.{Script}
 use Rattle.sky_base.specs.declared.object.Object.{Object}
 use Rattle.sky_state.specs.declared.shown.Shown.{Shown}
 use Rattle.ciel_journal.specs.Job.{Digest}
+use Rattle.ciel_log_objects.specs.Objects.{KeepsEach}
 use Rattle.ciel_log_read.specs.declared.record.LoggedEnd.{LoggedEnd}
 use Rattle.ciel_log_read.specs.declared.record.LoggedReport.{LoggedReport}
 use Rattle.ciel_log_report.specs.Ends.{IsReportOf}
@@ -32,25 +32,17 @@ GoesOn Came.Taken = Unit {0}
 GoesOn _ = ⊥
 
 -- it isn't refused
-abbrev pub IsTold : Came → Type 0
-IsTold Came.Refused = ⊥
-IsTold _ = Unit {0}
+abbrev pub NotRefused : Came → Type 0
+NotRefused Came.Refused = ⊥
+NotRefused _ = Unit {0}
 
 -- the list is the same, or one worker has none any more
 abbrev pub IsLess : List (Option Order) → List (Option Order) → Type 0
 IsLess before after = (after ≡ before) ⊎ ((w : ℕ) × (after ≡ slice_set before w None))
 
--- ---- objects that are kept
-
--- these are kept besides, in order, each by its name
-pub data Keeps : List Digest → List Object → BTreeMap Digest Object → BTreeMap Digest Object → Type 0 where
-  none : {kept : BTreeMap Digest Object} → Keeps [] [] kept kept
-  one : {n : Digest} {ns : List Digest} {o : Object} {os : List Object} {a b c : BTreeMap Digest Object} → Updates name_cmp a b n (Some o)
-      → Keeps ns os b c → Keeps (n ∷ ns) (o ∷ os) a c
-
--- those of the outputs are, where the task came to its end
+-- the objects of the outputs are kept besides, where the task came to its end
 abbrev pub KeepsOutputs : (List ℕ → List ℕ) → Order → LoggedEnd → BTreeMap Digest Object → BTreeMap Digest Object → Type 0
-KeepsOutputs digest order (LoggedEnd.Made objects) before after = Keeps (outputs_of digest order.desc) objects.items before after
+KeepsOutputs digest order (LoggedEnd.Made objects) before after = KeepsEach (outputs_of digest order.desc) objects.items before after
 KeepsOutputs digest order end before after = after ≡ before
 
 -- ---- a report that may come, of an order of the list

@@ -35,7 +35,7 @@ use Rattle.ciel_log_fits.specs.Named.{desc_of}
 use Rattle.ciel_log_fits.specs.Read.{SpawnedPass}
 use Rattle.ciel_log_read.specs.declared.record.LoggedEnd.{LoggedEnd}
 use Rattle.ciel_log_read.specs.declared.record.LoggedReport.{LoggedReport}
-use Rattle.ciel_log_report.specs.Objects.{AreCopies, AreMade}
+use Rattle.ciel_log_objects.specs.Objects.{AreCopies, AreMade}
 
 module _ (order : Order) where
   -- ---- something that was missing

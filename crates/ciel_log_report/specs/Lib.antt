@@ -1,4 +1,4 @@
 pub mod Accepts
 pub mod Comes
 pub mod Ends
-pub mod Objects
+pub mod Tests

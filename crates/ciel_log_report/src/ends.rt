@@ -1,16 +1,17 @@
 //! How a report of a log ends: each kind of end, if it fits the order.
 
-ghost use Rattle.std.specs.Prelude.{◌≡◌, ◌<◌, [], IfOk, IfSome, false, length, true};
+ghost use Rattle.std.specs.Prelude.{◌≡◌, ◌<◌, [], IfNone, IfOk, IfSome, false, length, true};
 ghost use Rattle.ciel_master_safe.specs.Reports.{outputs_of};
-ghost use Rattle.ciel_log_report.specs.Comes.{Keeps};
+ghost use Rattle.ciel_log_objects.specs.Objects.{KeepsEach};
 ghost use Rattle.ciel_log_report.specs.Ends.{CopiedSo, IsMadeOf, IsMissedOf, IsSavedOf, IsShownOf};
+ghost use Rattle.ciel_log_report.specs.Tests.{CopiesPass, MissedPasses, OutputsPass, ShownPasses, StackPasses};
 
-use crate::objects::{put_copies, put_outputs};
 use ciel_log_fits::allowed::Allowed;
 use ciel_log_fits::given::{are_distinct, are_elsewhere, can_wait, is_given_at};
 use ciel_log_fits::known::KnownAfter;
 use ciel_log_fits::names::output_names;
 use ciel_log_fits::stacks::read_stack;
+use ciel_log_objects::objects::{put_copies, put_outputs};
 use ciel_master::master::Master;
 use ciel_name::name::{Namer, mark};
 use ciel_store::loss::Loss;
@@ -41,6 +42,7 @@ fn copies<R: Wait>(
 ) -> Result<Option<Vec<Held>>, Memory>
     requires worker { order.now.worker < length shelves.now.rows }
     ensures copied { IfOk result (λ o. IfSome o (λ hs. CopiedSo order.now shelves.now script.now known.now kept.now names.now hs.items)) }
+    ensures refused { IfOk result (λ o. IfNone o (CopiesPass order.now script.now known.now kept.now names.now → ⊥)) }
 {
     let distinct = are_distinct(alloc, names)?;
     if !distinct {
@@ -70,7 +72,8 @@ pub(crate) fn made<N: Namer, R: Wait>(
     requires worker { order.now.worker < length shelves.now.rows }
     ensures made { IfOk result (λ o. IfSome o (λ t. IsMadeOf order.now shelves.now script.now known.now kept.old (N.digest namer.now)
         objects.now copied.now t.0.items t.1)) }
-    ensures kept { IfOk result (λ o. IfSome o (λ _. Keeps (outputs_of (N.digest namer.now) order.now.desc) objects.now kept.old kept.new)) }
+    ensures kept { IfOk result (λ o. IfSome o (λ _. KeepsEach (outputs_of (N.digest namer.now) order.now.desc) objects.now kept.old kept.new)) }
+    ensures refused { IfOk result (λ o. IfNone o (OutputsPass order.now script.now known.now kept.old (N.digest namer.now) copied.now objects.now → ⊥)) }
 {
     let TaskId::Of(_) = &order.task else {
         return Ok(None);
@@ -115,6 +118,7 @@ pub(crate) fn shown<R: Wait>(
 ) -> Result<Option<(Vec<Held>, End)>, Memory>
     requires worker { order.now.worker < length shelves.now.rows }
     ensures shown { IfOk result (λ o. IfSome o (λ t. IsShownOf order.now shelves.now script.now known.now kept.now shown copied.now t.0.items t.1)) }
+    ensures refused { IfOk result (λ o. IfNone o (ShownPasses order.now script.now known.now kept.now copied.now → ⊥)) }
 {
     let TaskId::Show = &order.task else {
         return Ok(None);
@@ -140,6 +144,7 @@ pub(crate) fn saved<R: Wait>(
 ) -> Result<Option<(Vec<Held>, End)>, Memory>
     requires worker { order.now.worker < length shelves.now.rows }
     ensures saved { IfOk result (λ o. IfSome o (λ t. IsSavedOf order.now shelves.now fitting.now known.now j bytes.now copied.now t.0.items t.1)) }
+    ensures refused { IfOk result (λ o. IfNone o (StackPasses order.now fitting.now known.now copied.now j bytes.now → ⊥)) }
 {
     if !has_none(copied) {
         return Ok(None);
@@ -194,6 +199,7 @@ pub(crate) fn missing<K: Drop, N: Namer + Drop>(
     requires going { master.now.board.stopped ≡ false }
     ensures missed { IfOk result (λ o. IfSome o (λ t. IsMissedOf order.now (N.digest master.now.namer) master.now.board spawned name.now number
         copied.now t.0.items t.1)) }
+    ensures refused { IfOk result (λ o. IfNone o (MissedPasses order.now (N.digest master.now.namer) master.now.board spawned copied.now name.now number → ⊥)) }
 {
     if spawned > 0 {
         return Ok(None);
@@ -226,6 +232,7 @@ pub(crate) fn missing<K: Drop, N: Namer + Drop>(
 /// Whether these are none.
 fn has_none(names: &[Name]) -> bool
     ensures none { result ≡ true → names.now ≡ [] }
+    ensures some { result ≡ false → names.now ≡ [] → ⊥ }
 {
     names.is_empty()
 }

@@ -3,6 +3,5 @@
 #![tactic(auto)]
 
 pub mod ends;
-pub mod objects;
 pub mod report;
 pub mod take;

@@ -1,6 +1,6 @@
 //! The report that a record tells of an order.
 
-ghost use Rattle.std.specs.Prelude.{◌≡◌, ◌<◌, ℕ, IfOk, IfSome, IsTrue, List, false, length, map};
+ghost use Rattle.std.specs.Prelude.{◌≡◌, ◌<◌, ℕ, IfNone, IfOk, IfSome, IsFalse, IsTrue, List, false, length, map};
 ghost use Rattle.sky_base.specs.declared.object.Named as rust;
 ghost use Rattle.sky_base_law.specs.Sound.{SoundDesc};
 ghost use Rattle.ciel_journal.specs.Job.{Each};
@@ -15,6 +15,7 @@ ghost use Rattle.ciel_log_read.specs.Recorded.{IsRecord};
 ghost use Rattle.ciel_log_read.specs.View.{report_view};
 ghost use Rattle.ciel_log_report.specs.Comes.{KeepsOutputs};
 ghost use Rattle.ciel_log_report.specs.Ends.{IsEndOf, IsReportOf};
+ghost use Rattle.ciel_log_report.specs.Tests.{AllPass, EndPasses, HasCome, ReportPasses};
 ghost use Rattle.ciel_task_order.specs.Performs.{IsMissing};
 ghost use Rattle.ciel_task_order.specs.Views.{P};
 
@@ -64,6 +65,7 @@ pub fn report_of<K: Drop, N: Namer + Drop, R: Wait>(
     ensures report { IfOk result (λ o. IfSome o (IsReportOf (N.digest shop.now.namer) shop.now.shelves script.now master.now.board kept.old order.now
         logged.now)) }
     ensures kept { IfOk result (λ o. IfSome o (λ _. KeepsOutputs (N.digest shop.now.namer) order.now logged.now.end kept.old kept.new)) }
+    ensures refused { IfOk result (λ o. IfNone o (ReportPasses (N.digest shop.now.namer) script.now master.now.board kept.old order.now logged.now → ⊥)) }
 {
     let spawned = name_all(alloc, &shop.namer, logged.spawned.as_slice())?;
     let named = spawned.as_slice();
@@ -108,6 +110,8 @@ fn end_of<K: Drop, N: Namer + Drop, R: Wait>(
         (record { table = master.now.board.table; spawned = spawned.now }) kept.old (N.digest shop.now.namer) master.now.board logged.now.end
         logged.now.copied.items t.0.items t.1)) }
     ensures kept { IfOk result (λ o. IfSome o (λ _. KeepsOutputs (N.digest shop.now.namer) order.now logged.now.end kept.old kept.new)) }
+    ensures refused { IfOk result (λ o. IfNone o (AllPass (N.digest shop.now.namer) script.now master.now.board kept.old order.now spawned.now
+        logged.now.copied.items logged.now.end → ⊥)) }
 {
     let copied = logged.copied.as_slice();
     if let LoggedEnd::Missing { name, loss } = &logged.end {
@@ -154,6 +158,8 @@ fn end_with<N: Namer, R: Wait>(
     ensures end { IfOk result (λ o. IfSome o (λ t. (b : Board P)
         → IsEndOf order.now shelves.now script.now known.now kept.old (N.digest namer.now) b end.now copied.now t.0.items t.1)) }
     ensures kept { IfOk result (λ o. IfSome o (λ _. KeepsOutputs (N.digest namer.now) order.now end.now kept.old kept.new)) }
+    ensures refused { IfOk result (λ o. IfNone o (HasCome end.now → (b : Board P)
+        → EndPasses order.now script.now known.now kept.old (N.digest namer.now) b copied.now end.now → ⊥)) }
 {
     match end {
         LoggedEnd::Made(objects) => {
@@ -209,9 +215,16 @@ fn is_allowed(
     ensures whole { IfOk result (λ b. IsTrue b → Each (λ (n : rust.Named). StandsWhole (map named_view spawned.now) (named_view n)) spawned.now) }
     ensures inside { IfOk result (λ b. IsTrue b → (digest : List ℕ → List ℕ)
         → Each (λ (n : rust.Named). AllKnown (learned_all digest spawned.now known.now.table) (start_refs n.desc)) spawned.now) }
+    ensures refused { IfOk result (λ b. IsFalse b → (digest : List ℕ → List ℕ)
+        → Each (λ (n : rust.Named). SoundDesc script.now (named_view n)) spawned.now
+        → Each (λ (n : rust.Named). StandsWhole (map named_view spawned.now) (named_view n)) spawned.now
+        → Each (λ (n : rust.Named). AllKnown (learned_all digest spawned.now known.now.table) (start_refs n.desc)) spawned.now → ⊥) }
 {
+    if !known.is_closed() {
+        return Ok(false);
+    }
     let allowed = all_allowed(script, spawned)?;
-    if !known.is_closed() || !allowed {
+    if !allowed {
         return Ok(false);
     }
     let whole = stands_whole(alloc, spawned)?;

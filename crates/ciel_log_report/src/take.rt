@@ -7,6 +7,7 @@ ghost use Rattle.ciel_log_read.specs.View.{report_view};
 ghost use Rattle.ciel_log_replay.specs.Between.{Between};
 ghost use Rattle.ciel_log_report.specs.Accepts.{Closes, IsCame, StopsSo};
 ghost use Rattle.ciel_log_report.specs.Comes.{EndsWith, GoesOn, IsLess, ReportTaken};
+ghost use Rattle.ciel_log_report.specs.Tests.{ReportRefused};
 ghost use Rattle.ciel_log_report.specs.declared.take.Came.{Came as CameSeen};
 ghost use Rattle.ciel_master.specs.Fitting.{FitsOneOut, IsMissedOf};
 ghost use Rattle.ciel_master.specs.Taking.{LearnedFor, now_of};
@@ -81,6 +82,8 @@ pub fn take_report<K: Kit + Drop, N: Namer + Drop, R: Wait>(
         master.old.board out.old kept.old logged.now master.new.board out.new kept.new r × (now_of r.end ≡ NowSeen.Goes)) }
     ensures ends { IfOk result (λ c. (e : RunEndSeen) → c ≡ CameSeen.Ends e → EndsWith (N.digest shop.now.namer) shop.now.shelves script.now
         master.old.board out.old kept.old logged.now e master.new.board out.new kept.new) }
+    ensures refused { IfOk result (λ c. c ≡ CameSeen.Refused → ReportRefused (N.digest shop.now.namer) script.now master.old.board out.old kept.old
+        logged.now) }
     ensures less { OnOk result (IsLess out.old out.new) }
     ensures plan { OnOk result (master.new.board.plan ≡ master.old.board.plan) }
 {

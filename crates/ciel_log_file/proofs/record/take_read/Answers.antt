@@ -1,6 +1,6 @@
-use Rattle.std.proofs.Common.{ap, refl, ◌∙◌, ◌≡◌}
+use Rattle.std.proofs.Common.{ap, refl, ◌∙◌}
 use Rattle.ciel_log_file.specs.Replays.{At}
-use Rattle.ciel_log_file.proofs.Read.{drop_passes, less_long, report_comes, report_ends, start_taken, started_long}
+use Rattle.ciel_log_file.proofs.Read.{drop_passes, less_long, report_comes, report_ends, drop_refused, report_refused, start_refused, start_taken, started_long}
 use Rattle.ciel_log_file.proofs.Steps.{placed_less, placed_of, takes_less, takes_started}
 use Rattle.ciel_master.specs.Seen.{MasterSeen}
 use Rattle.ciel_master_board.specs.Board.{Board, find_order}
@@ -73,3 +73,21 @@ returns-else-is_out-clause-takes_it g c _ =
 
 pub returns-else-is_out-clause-placed : goal.returns-else-is_out-clause-placed
 returns-else-is_out-clause-placed g c _ = placed_of c.requires.between
+
+pub returns-else-taken-clause-refused : goal.returns-else-taken-clause-refused
+returns-else-taken-clause-refused g c _ =
+    start_refused (g.N.Namer.digest c.args.shop.now.namer) c.args.shop.now.shelves c.args.script.now
+    (record { board = c.args.master.now.board; out = c.args.out.now; kept = c.args.kept.now }) c.args.told.now c.requires.data
+    c.in-Start.number c.in-Start.worker c.in-Start.from c.in-Start.task c.in-Start.is (c.in_ok-taken-in-Start.ensures.refused c.if-taken.false)
+
+pub returns-in_ok-came-in-Report-clause-refused : goal.returns-in_ok-came-in-Report-clause-refused
+returns-in_ok-came-in-Report-clause-refused g c q =
+    report_refused (g.N.Namer.digest c.args.shop.now.namer) c.args.shop.now.shelves c.args.script.now
+    (record { board = c.args.master.now.board; out = c.args.out.now; kept = c.args.kept.now }) c.args.told.now c.requires.data
+    c.in-Report.logged c.in-Report.is (c.in_ok-came-in-Report.ensures.refused q)
+
+pub returns-then-is_out-clause-refused : goal.returns-then-is_out-clause-refused
+returns-then-is_out-clause-refused g c _ =
+    drop_refused (g.N.Namer.digest c.args.shop.now.namer) c.args.shop.now.shelves c.args.script.now
+    (record { board = c.args.master.now.board; out = c.args.out.now; kept = c.args.kept.now }) c.args.told.now c.requires.data
+    c.in-Dropped.number c.in-Dropped.is c.is_out.ensures c.if-is_out.true

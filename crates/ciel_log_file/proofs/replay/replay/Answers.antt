@@ -1,4 +1,4 @@
-use Rattle.std.proofs.Common.{ap, inl, inr, refl, subst, sym, ◌∙◌}
+use Rattle.std.proofs.Common.{ap, inl, inr, refl, subst, ◌∙◌}
 use Rattle.std.specs.Cmp.Lexicographic.{texts_ties}
 use Rattle.ciel_journal.specs.History.{Plan}
 use Rattle.ciel_log_file.specs.Sending.{nobody, sent_to}
@@ -81,8 +81,16 @@ returns-in-Err-clause-bad g c at q =
     let first = c.in-Some.first.now in
     let header = c.args.header.now in
     let same = is_same first header c.eq.result (c.eq.ensures ∙ texts_ties first header) c.if-eq.true in
-    is_behind c.args.log.now header c.in-Some.behind at (subst (λ x. RecordAt c.args.log.now 0 x c.in-Some.behind) same c.in-Some.ensures)
-    (c.in-Err.ensures.bad at q)
+    is_behind (g.N.Namer.digest c.args.shop.now.namer) _ c.args.shop.now.shelves c.args.log.now header at c.args.master.now.board
+    (nobody c.args.master.now.board.plan.workers)
+    (c.in-Err.ensures.bad at q header (subst (λ x. RecordAt c.args.log.now 0 x c.in-Some.behind) same c.in-Some.ensures))
+
+pub returns-in-Err-clause-refused : goal.returns-in-Err-clause-refused
+returns-in-Err-clause-refused g c at q =
+    let first = c.in-Some.first.now in
+    let header = c.args.header.now in
+    let same = is_same first header c.eq.result (c.eq.ensures ∙ texts_ties first header) c.if-eq.true in
+    c.in-Err.ensures.bad at q header (subst (λ x. RecordAt c.args.log.now 0 x c.in-Some.behind) same c.in-Some.ensures)
 
 pub returns-else-eq-clause-other : goal.returns-else-eq-clause-other
 returns-else-eq-clause-other g c _ =

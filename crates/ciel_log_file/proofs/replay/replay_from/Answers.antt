@@ -1,9 +1,10 @@
 use Rattle.std.proofs.Common.{ap, subst, sym}
 use Rattle.ciel_journal.specs.History.{Plan}
 use Rattle.ciel_log_file.specs.Sending.{AllTake, nobody, sent_to}
-use Rattle.ciel_log_file.proofs.Places.{free_back, none_under, replayed_is, sent_back}
+use Rattle.ciel_log_file.proofs.Places.{free_back, refused_is, replayed_is, sent_back}
 use Rattle.ciel_log_file.proofs.Steps.{each_takes, first_between, takes_nobody}
 use Rattle.ciel_log_replay.specs.Between.{Between}
+use Rattle.ciel_log_report.proofs.Refused.{none_under}
 use Rattle.ciel_log_file.proofs.replay.replay_from.Goals as goal
 
 pub replay_records-requires-clause-between : goal.replay_records-requires-clause-between
@@ -50,3 +51,9 @@ returns-clause-replays g c header here =
     (sent_to (nobody w) orders) c.new-kept.result c.replay_records.new.kept r.0 c.requires.script c.requires.nobody
     (sym (sent_back w c.args.out.now then orders c.requires.nobody c.in-Ok.ensures.many c.in_ok-orders.ensures.sent)) c.new-kept.ensures.empty here
     r.1 r.2
+
+pub returns-in-Err-clause-bad : goal.returns-in-Err-clause-bad
+returns-in-Err-clause-bad g c at q header here =
+    refused_is (g.N.Namer.digest c.args.shop.now.namer) c.args.shop.now.shelves c.args.script.now _ c.args.log.now header c.args.behind at
+    c.args.master.now.board c.args.out.now (nobody c.args.master.now.board.plan.workers) c.new-kept.result c.requires.script c.requires.nobody
+    c.new-kept.ensures.empty here (c.in-Err.ensures.bad at q)

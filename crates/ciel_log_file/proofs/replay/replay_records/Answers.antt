@@ -1,11 +1,11 @@
-use Rattle.std.proofs.Common.{◌≡◌, [], ◌∷◌, ◌++◌, ◌∙◌, refl, subst, sym}
+use Rattle.std.proofs.Common.{[], ◌∷◌, ◌++◌, ◌∙◌, inl, inr, refl, subst, sym}
 use Rattle.ciel_log_file.specs.Replays.{At, over}
 use Rattle.ciel_log_file.specs.Whole.{RecordsTo}
 use Rattle.ciel_log_file.proofs.Places.{one_bad, place_smaller, records_more, replays_more}
 use Rattle.ciel_log_file.proofs.Read.{goes_of}
 use Rattle.ciel_log_file.proofs.Steps.{placed_of}
 use Rattle.ciel_log_read.specs.File.{NoRecordAt, RecordAt}
-use Rattle.ciel_log_report.specs.Comes.{IsTold}
+use Rattle.ciel_log_report.specs.Comes.{NotRefused}
 use Rattle.ciel_log_file.proofs.replay.replay_records.Goals as goal
 
 pub records-init : goal.records-init
@@ -60,19 +60,27 @@ returns-in-Err-clause-bad g c at q =
     let more = records_more log c.args.behind xs bytes c.records.at c.in-Some.next v.replays.1 c.in-Some.ensures in
     let some = c.in-Err.ensures.some in
     let same = one_bad c.in-Some.next at c.in-Err.refusal c.in-Err.ensures.bad q in
-    (xs ++ bytes ∷ [], subst (RecordsTo log c.args.behind (xs ++ bytes ∷ [])) same more, some.0, some.1, subst (λ n. RecordAt log n some.0 some.1) same some.2)
+    let last : At = record { board = c.records.master.board; out = c.records.out; kept = c.records.kept } in
+    let then : At = record { board = c.take_record.new.master.board; out = c.take_record.new.out; kept = c.take_record.new.kept } in (
+      xs ++ bytes ∷ [],
+      subst (RecordsTo log c.args.behind (xs ++ bytes ∷ [])) same more,
+      some.0,
+      some.1,
+      subst (λ n. RecordAt log n some.0 some.1) same some.2,
+      inl (c.in-Ends.end, then, (xs, bytes, refl, last, v.replays.2, c.in_ok-came.ensures.ends c.in-Ends.end c.in-Ends.is)),
+    )
 
 pub returns-in-Ends-clause-placed : goal.returns-in-Ends-clause-placed
-returns-in-Ends-clause-placed g c = c.in_ok-came.ensures.placed (subst IsTold (sym c.in-Ends.is) tt)
+returns-in-Ends-clause-placed g c = c.in_ok-came.ensures.placed (subst NotRefused (sym c.in-Ends.is) tt)
 
 pub returns-in-Ends-clause-takes : goal.returns-in-Ends-clause-takes
-returns-in-Ends-clause-takes g c = c.in_ok-came.ensures.takes (subst IsTold (sym c.in-Ends.is) tt)
+returns-in-Ends-clause-takes g c = c.in_ok-came.ensures.takes (subst NotRefused (sym c.in-Ends.is) tt)
 
 pub returns-in-Ends-clause-many : goal.returns-in-Ends-clause-many
-returns-in-Ends-clause-many g c = c.in_ok-came.ensures.many (subst IsTold (sym c.in-Ends.is) tt) ∙ c.records.invariant.many
+returns-in-Ends-clause-many g c = c.in_ok-came.ensures.many (subst NotRefused (sym c.in-Ends.is) tt) ∙ c.records.invariant.many
 
 pub returns-in-Ends-clause-plan : goal.returns-in-Ends-clause-plan
-returns-in-Ends-clause-plan g c = c.in_ok-came.ensures.plan (subst IsTold (sym c.in-Ends.is) tt) ∙ c.records.invariant.plan
+returns-in-Ends-clause-plan g c = c.in_ok-came.ensures.plan (subst NotRefused (sym c.in-Ends.is) tt) ∙ c.records.invariant.plan
 
 pub returns-in-Ends-clause-none : goal.returns-in-Ends-clause-none
 returns-in-Ends-clause-none g c = subst (NoRecordAt c.args.log.now) (sym c.in-Ok.ensures.at) c.in-Ok.ensures.none
@@ -100,4 +108,9 @@ returns-in-Refused-clause-bad g c at q =
       c.in-Some.bytes.now,
       c.in-Some.next,
       subst (λ n. RecordAt log n c.in-Some.bytes.now c.in-Some.next) same c.in-Some.ensures,
+      inr (
+        record { board = c.records.master.board; out = c.records.out; kept = c.records.kept },
+        v.replays.2,
+        c.in_ok-came.ensures.refused c.in-Refused.is,
+      ),
     )

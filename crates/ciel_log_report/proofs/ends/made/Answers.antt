@@ -1,6 +1,5 @@
-use Rattle.std.proofs.Common.{IfSome, ◌∙◌}
+use Rattle.std.proofs.Common.{ap, arith, length, ◌∙◌}
 use Rattle.ciel_log_report.proofs.Parts.{made_is}
-use Rattle.ciel_log_report.specs.Comes.{Keeps}
 use Rattle.ciel_log_report.proofs.ends.made.Goals as goal
 
 pub returns-clause-made : goal.returns-clause-made
@@ -15,3 +14,18 @@ pub returns-clause-kept : goal.returns-clause-kept
 returns-clause-kept g c =
     let kept = rw c.in-Some-put.is at c.in_ok-put.ensures.kept in
     rw (c.as_slice-listed.ensures ∙ c.in_ok-names.ensures) at kept
+
+pub returns-in_default-clause-refused : goal.returns-in_default-clause-refused
+returns-in_default-clause-refused g c p = c.in_default.not-Of p.task.0 p.task.1
+
+pub returns-then-listed-objects-clause-refused : goal.returns-then-listed-objects-clause-refused
+returns-then-listed-objects-clause-refused g c p =
+    absurd (omega (arith, c.if-listed-objects.true, p.many, ap length (c.as_slice-listed.ensures ∙ c.in_ok-names.ensures)))
+
+pub returns-in_default-copies-clause-refused : goal.returns-in_default-copies-clause-refused
+returns-in_default-copies-clause-refused g c p =
+    let no = rw c.in_default-copies.is at c.in_ok-copies.ensures.refused in no p.copies
+
+pub returns-in_default-put-clause-refused : goal.returns-in_default-put-clause-refused
+returns-in_default-put-clause-refused g c p =
+    let no = rw c.in_default-put.is at c.in_ok-put.ensures.refused in no p.each

@@ -5,6 +5,7 @@ use Rattle.sky_base_law.specs.Sound.{SoundDesc}
 use Rattle.ciel_journal.specs.Job.{Each}
 use Rattle.ciel_log_fits.specs.Read.{SpawnedPass}
 use Rattle.ciel_log_report.proofs.Parts.{after_is, always, lasting_end, missing_end, missing_none, spelled_named}
+use Rattle.ciel_log_report.proofs.Refused.{end_fails, lack_fails, none_under, spawned_fails}
 use Rattle.ciel_master_board.specs.Reports.{named_view}
 use Rattle.ciel_task_order.specs.Performs.{IsMissing}
 use Rattle.ciel_task_order.specs.declared.block.Held.{Held}
@@ -58,3 +59,30 @@ returns-clause-end g c =
     c.args.logged.now.end c.args.logged.now.copied.items c.in_ok-told.told c.in_ok-known.known _ c.as_slice-copied.result.now c.args.master.now.board
     (after_is c.in_ok-known.known c.args.master.now.board.table c.args.spawned.now table c.in_ok-known.ensures.spawned)
     c.as_slice-copied.ensures.value c.in_ok-told.ensures.end
+
+pub returns-in-Missing-clause-refused : goal.returns-in-Missing-clause-refused
+returns-in-Missing-clause-refused g c =
+    let digest = g.N.Namer.digest c.args.shop.now.namer in
+    let lost = c.in_ok-lost.ensures.refused in
+    none_under _ _ c.in_ok-lost.lost
+    (lack_fails digest c.args.script.now c.args.master.now.board c.args.kept.now c.args.order.now c.args.spawned.now c.args.logged.now.copied.items
+    c.args.logged.now.end c.as_slice-copied.result.now c.in-Missing.name c.in-Missing.loss c.in-Missing.is c.as_slice-copied.ensures.value)
+    (rw c.requires.namer at lost)
+
+pub returns-then-not-allowed-clause-refused : goal.returns-then-not-allowed-clause-refused
+returns-then-not-allowed-clause-refused g c =
+    let digest = g.N.Namer.digest c.args.shop.now.namer in
+    spawned_fails digest c.args.script.now c.args.master.now.board c.args.kept.now c.args.order.now c.args.spawned.now
+    c.args.logged.now.copied.items c.args.logged.now.end c.in_default.not-Missing c.in_ok-known.known.table
+    (c.in_ok-known.ensures.table ∙ c.table.ensures) (c.in_ok-allowed.ensures.refused c.if-not-allowed.true digest)
+
+pub returns-clause-refused : goal.returns-clause-refused
+returns-clause-refused g c =
+    let digest = g.N.Namer.digest c.args.shop.now.namer in
+    let table = c.in_ok-known.ensures.table ∙ c.table.ensures in
+    none_under _ _ c.in_ok-told.told
+    (end_fails digest c.args.script.now c.args.master.now.board c.args.kept.now c.args.order.now c.args.spawned.now
+    c.args.logged.now.copied.items c.args.logged.now.end c.in_default.not-Missing c.in_ok-known.known
+    c.as_slice-copied.result.now
+    (after_is c.in_ok-known.known c.args.master.now.board.table c.args.spawned.now table c.in_ok-known.ensures.spawned)
+    c.as_slice-copied.ensures.value) c.in_ok-told.ensures.refused

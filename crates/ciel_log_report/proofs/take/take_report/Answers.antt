@@ -1,7 +1,9 @@
-use Rattle.std.proofs.Common.{◌≡◌, ◌⊎◌, None, inl, inr, refl, slice_set, subst, sym}
+use Rattle.std.proofs.Common.{◌≡◌, None, inl, inr, refl, slice_set, subst, sym}
 use Rattle.ciel_log_replay.specs.Between.{Between}
 use Rattle.ciel_log_report.specs.Accepts.{Closes, IsCame, StopsSo}
 use Rattle.ciel_log_report.specs.Comes.{EndsWith, ReportTaken}
+use Rattle.ciel_log_report.proofs.Refused.{not_refused}
+use Rattle.ciel_log_report.specs.Tests.{ReportPasses}
 use Rattle.ciel_log_report.proofs.Ended.{ends_stopped, ends_taken, not_passed, taken_when}
 use Rattle.ciel_log_report.proofs.Takes.{has_shelf, passed_none, report_between, report_fits, report_is, report_taken, within}
 use Rattle.ciel_master.specs.Seen.{MasterSeen}
@@ -153,3 +155,34 @@ returns-clause-ends g c e q =
 
 pub returns-clause-less : goal.returns-clause-less
 returns-clause-less g c = inr (c.in-Some.order.now.worker, refl)
+
+pub returns-then-not-may-clause-refused : goal.returns-then-not-may-clause-refused
+returns-then-not-may-clause-refused g c _ =
+    let there = c.in-Some.ensures.there in
+    record {
+      worker = there.0;
+      order = c.in-Some.order.now;
+      there = there.1;
+      number = c.in-Some.ensures.number;
+      cause = inl (c.in_ok-may.ensures.goes_on c.if-not-may.true);
+    }
+
+pub returns-in_default-told-clause-refused : goal.returns-in_default-told-clause-refused
+returns-in_default-told-clause-refused g c _ =
+    let there = c.in-Some.ensures.there in
+    let no = rw c.in_default-told.is at c.in_ok-told.ensures.refused in
+    record {
+      worker = there.0;
+      order = c.in-Some.order.now;
+      there = there.1;
+      number = c.in-Some.ensures.number;
+      cause = inr (subst (λ (m : MasterSeen _). ReportPasses (g.N.Namer.digest c.args.shop.now.namer) c.args.script.now m.board c.args.kept.now
+          c.in-Some.order.now c.args.logged.now → ⊥) c.rests.ensures.same no);
+    }
+
+pub returns-then-not-is_closed-clause-refused : goal.returns-then-not-is_closed-clause-refused
+returns-then-not-is_closed-clause-refused g c q =
+    absurd (not_refused c.in_ok-came.came c.in-Some-told.report.end c.in_ok-came.ensures.came q)
+
+pub returns-clause-refused : goal.returns-clause-refused
+returns-clause-refused g c q = absurd (not_refused c.in_ok-came.came c.in-Some-told.report.end c.in_ok-came.ensures.came q)

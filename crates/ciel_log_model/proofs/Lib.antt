@@ -1,0 +1,12 @@
+pub mod Books
+pub mod Spawned
+pub mod Closed
+pub mod Had
+pub mod Given
+pub mod Waits
+pub mod Copies
+pub mod Outputs
+pub mod Made
+pub mod Saves
+pub mod Ends
+pub mod Own

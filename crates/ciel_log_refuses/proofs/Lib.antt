@@ -1,0 +1,9 @@
+mod Cut
+mod Chosen
+mod Kept
+mod Never
+mod Whole
+mod Fits
+mod Views
+mod Ends
+mod Refusals

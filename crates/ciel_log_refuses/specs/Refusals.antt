@@ -1,0 +1,58 @@
+-- What is so of a file that a replay refuses.
+use Rattle.std.specs.Prelude.{◌≡◌, ℕ, List, [], drop, take}
+use Rattle.sky_base.specs.JobView.{job_view}
+use Rattle.sky_base.specs.KitView.{Gives}
+use Rattle.sky_base.specs.See as s
+use Rattle.sky_base.specs.Tree.{Script}
+use Rattle.ciel_journal.specs.Entries.{Entry}
+use Rattle.ciel_journal.specs.History.{Plan}
+use Rattle.ciel_journal.specs.Laws.{ShowDone}
+use Rattle.ciel_log.specs.Logs.{Logs}
+use Rattle.ciel_log_file.specs.Refused.{IsRefused, RefusedBehind}
+use Rattle.ciel_log_file.specs.Replays.{At, EndsBy}
+use Rattle.ciel_log_file.specs.Sending.{nobody}
+use Rattle.ciel_log_follows.specs.Begins.{BeginsLog}
+use Rattle.ciel_log_follows.specs.Follows.{IsAtFirst}
+use Rattle.ciel_master.specs.Seen.{MasterSeen}
+use Rattle.ciel_master.specs.declared.stop.RunEnd.{RunEnd}
+use Rattle.ciel_store.specs.Seen.{ShelvesSeen}
+use Rattle.ciel_task_order.specs.Named.{shop_job}
+use Rattle.ciel_task_order.specs.declared.shop.Shop.{Shop}
+
+-- it is the whole log of a run that has come to its end: the root task is done
+pub record IsWholeRun (digest : List ℕ → List ℕ) (job : s.Job) (gives : Gives) (p : Plan) (header bytes : List ℕ) : Type 0 where
+  pub journal : List Entry
+  pub log : Logs digest job gives p header journal bytes
+  pub done : ShowDone (shop_job digest job gives) log.history
+
+-- for each kit what it gives, and for each namer its digest
+module _ {K N : Type 0} (gives : K → Gives) (digest : N → List ℕ → List ℕ) where
+  -- said of each shop, and of each file that is refused at a place where nothing had happened before the replay
+  abbrev OfRefusals : ((shop : Shop K N) (log header : List ℕ) (m : MasterSeen N) (at : ℕ)
+      → IsRefused (digest shop.namer) (job_view shop.job).script shop.shelves log header at m.board (nobody m.board.plan.workers) → Type 0) → Type 0
+  OfRefusals Q =
+      (shop : Shop K N) (log header : List ℕ) (m : MasterSeen N) (at : ℕ) → IsAtFirst gives digest shop m
+      → (r : IsRefused (digest shop.namer) (job_view shop.job).script shop.shelves log header at m.board (nobody m.board.plan.workers))
+      → Q shop log header m at r
+
+  -- the records up to and with that one begin no log of a journal, but where those before it are the whole log of a run that has come to its
+  -- end, behind which nothing is logged
+  abbrev pub RefusedForCause : Type 0
+  RefusedForCause =
+      OfRefusals (λ shop log header m at r.
+      BeginsLog (digest shop.namer) (job_view shop.job) (gives shop.kit) m.board.plan header (take r.next log)
+      → IsWholeRun (digest shop.namer) (job_view shop.job) (gives shop.kit) m.board.plan header (take at log))
+
+  -- so no file is refused that begins a log of a journal, and in which nothing stands behind the whole log of a run that has come to its end
+  abbrev pub LogsAreReplayed : Type 0
+  LogsAreReplayed =
+      OfRefusals (λ shop log header m at r.
+      BeginsLog (digest shop.namer) (job_view shop.job) (gives shop.kit) m.board.plan header log
+      → ((n : ℕ) → IsWholeRun (digest shop.namer) (job_view shop.job) (gives shop.kit) m.board.plan header (take n log) → drop n log ≡ []) → ⊥)
+
+-- a record that is refused while the run goes on is no report with which the run ends: none that fits its order, and which the master refuses
+-- then since a name clashes or there is no room for a description
+abbrev pub RefusedEndNothing : Type 0
+RefusedEndNothing =
+    (digest : List ℕ → List ℕ) (shelves : ShelvesSeen) (sc : Script) (a : At) (bytes : List ℕ) → RefusedBehind digest sc a bytes
+    → (end : RunEnd) (c : At) → EndsBy digest shelves sc a bytes end c → ⊥

@@ -1,0 +1,4 @@
+//! The law of refusals: which files a replay refuses.
+#![tactic(auto)]
+
+pub mod law;

@@ -1,6 +1,0 @@
--- So many of the outputs stand in the list.
-use Rattle.ciel_log_report.proofs.Built.{MadeTo}
-use Rattle.ciel_log_report.proofs.objects.put_outputs.Given as goal
-
-abbrev pub invariant-loop-index : goal.invariant-loop-index
-invariant-loop-index g l = MadeTo l.shelves l.worker l.script l.known l.names l.objects l.fn.kept l.index l.made.items l.kept
