@@ -20,7 +20,7 @@ pub fn draw_lanes(alloc: Global, sheet: &mut Sheet, scene: &Scene) -> Result<(),
     for lane in 0..lanes {
         draw_lane(alloc, sheet, scene, &axis, lane)?;
     }
-    if scene.tasks.len() <= MOST_DRAWN {
+    if scene.roll.tasks.len() <= MOST_DRAWN {
         for run in &scene.runs {
             draw_run(alloc, sheet, scene, &axis, run)?;
         }
@@ -102,7 +102,7 @@ fn draw_run(
     axis: &Axis,
     run: &Run,
 ) -> Result<(), Memory> {
-    let Some(task) = scene.tasks.get(run.task) else {
+    let Some(task) = scene.roll.tasks.get(run.task) else {
         return Ok(());
     };
     let x = axis.x(run.begun);
@@ -272,7 +272,7 @@ fn draw_some(
     let (Some(first), Some(last)) = (run_at(scene, some.first()), run_at(scene, some.last())) else {
         return Ok(());
     };
-    let Some(task) = scene.tasks.get(first.task) else {
+    let Some(task) = scene.roll.tasks.get(first.task) else {
         return Ok(());
     };
     let head = task_head(alloc, scene, task)?;
@@ -331,7 +331,7 @@ fn is_again(scene: &Scene, place: usize) -> bool {
 fn are_alike(alloc: Global, scene: &Scene, some: &[usize], head: &Plain) -> Result<bool, Memory> {
     for place in some {
         if let Some(run) = scene.runs.get(*place) {
-            if let Some(task) = scene.tasks.get(run.task) {
+            if let Some(task) = scene.roll.tasks.get(run.task) {
                 let other = task_head(alloc, scene, task)?;
                 if other.as_slice() != head.as_slice() {
                     return Ok(false);

@@ -119,8 +119,8 @@ impl Graph {
 
     /// A node for each task, or for each head where there are many tasks.
     fn add_tasks(&mut self, alloc: Global, scene: &Scene) -> Result<(), Memory> {
-        let folded = scene.tasks.len() > MOST_DRAWN;
-        for task in &scene.tasks {
+        let folded = scene.roll.tasks.len() > MOST_DRAWN;
+        for task in &scene.roll.tasks {
             let node = if folded {
                 self.fold(alloc, scene, task)?
             } else {
@@ -189,7 +189,7 @@ impl Graph {
 
     /// Who is made from whom.
     fn add_edges(&mut self, alloc: Global, scene: &Scene) -> Result<(), Memory> {
-        for task in &scene.tasks {
+        for task in &scene.roll.tasks {
             let Some(to) = self.of_task.get(&task.id).copied() else {
                 continue;
             };

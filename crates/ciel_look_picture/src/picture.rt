@@ -33,7 +33,7 @@ fn head_of(alloc: Global, scene: &Scene) -> Result<Plain, Memory> {
     let mut head = Plain::new(alloc);
     let again = scene.runs.iter().filter(|run| run.again).count();
     put_count(&mut head, scene.runs.len(), " start of ", " starts of ")?;
-    put_count(&mut head, scene.tasks.len(), " task, ", " tasks, ")?;
+    put_count(&mut head, scene.roll.tasks.len(), " task, ", " tasks, ")?;
     put_count(&mut head, scene.losses.len(), " loss, ", " losses, ")?;
     put_count(&mut head, again, " begun again, ", " begun again, ")?;
     put_count(&mut head, scene.copies.len(), " copy", " copies")?;

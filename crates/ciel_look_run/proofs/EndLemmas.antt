@@ -1,5 +1,7 @@
 -- The causes of ends, from what inner calls say.
-use Rattle.std.proofs.Common.{◌≡◌, ◌⊎◌, ◌<◌, ℕ, List, Option, Some, None, IfSome, MatchOption, Result, Err, Ok, refl, sym, ap, ◌∙◌, subst, inl, inr, length}
+use Rattle.std.proofs.Common.{◌≡◌, ◌⊎◌, ◌<◌, ℕ, List, Option, Some, None, IfSome, MatchOption, Result, Err, Ok, inl, inr, length}
+use Rattle.std.proofs.Common.{refl, sym, ap, ◌∙◌, subst}
+use Rattle.std.proofs.Common.{false, flat_map}
 use Rattle.ciel_io.specs.Faults.{HasRisen}
 use Rattle.ciel_io.specs.Reads.{IfTooLong}
 use Rattle.ciel_io.specs.declared.files.FileRefusal.{FileRefusal}
@@ -8,7 +10,12 @@ use Rattle.ciel_look_story.specs.Story.{NotLog, Tells}
 use Rattle.ciel_look_story.specs.declared.story.NoStory.{NoStory}
 use Rattle.ciel_look_told.specs.Head.{Head}
 use Rattle.ciel_look_told.specs.Told.{Told}
-use Rattle.ciel_look_run.specs.Ends.{Because, HasStory, IsNoLine, IsUnwritten, IsWriteEnd, IsWritten, NoTaskOf, Put, Unread, Untold, Wrote, most}
+use Rattle.sky_base.specs.declared.object.TaskId.{TaskId}
+use Rattle.ciel_look_tasks.specs.Tasks.{begun, tasks as told_tasks}
+use Rattle.ciel_look_tasks.proofs.TaskLists.{any_once}
+use Rattle.ciel_look_text.specs.Asked.{any_has, has_digits, is_started}
+use Rattle.ciel_look_run.specs.Ends.{Because, HasStory, IsNoLine, IsOf, IsThere, IsTold, IsUnwritten, IsWriteEnd, IsWritten, NoTaskOf, Parts}
+use Rattle.ciel_look_run.specs.Ends.{Put, Unread, Untold, Wrote, WroteSo, most, told_parts}
 use Rattle.ciel_look_run.specs.Line as line
 use Rattle.ciel_look_run.specs.Line.{Asked}
 use Rattle.ciel_look_run.specs.declared.ends.Why.{Why}
@@ -25,6 +32,21 @@ of_file (Some file) bytes P e p = subst P e p
 too_long : (content : Option (List ℕ)) (at : ℕ) → at ≡ most → IfSome content (λ file. at < length file) → IfSome content (λ log. most < length log)
 too_long None at e p = tt
 too_long (Some file) at e p = subst (λ n. n < length file) e p
+
+-- what is said of a story
+pub story_so : (content : Option (List ℕ)) (P Q : List Told → Type 0) → HasStory content P → ((ts : List Told) → P ts → Q ts) → HasStory content Q
+story_so None P Q h f = tt
+story_so (Some log) P Q h f = (h.0, h.1, h.2, f h.1 h.3)
+
+-- the tasks have the digits if the starts have them
+told_has : (digits : List ℕ) (tasks : List TaskId) (ts : List Told) → tasks ≡ told_tasks ts → any_has digits tasks ≡ is_started digits ts
+told_has digits tasks ts e =
+    ap (any_has digits) e ∙ any_once (has_digits digits) (flat_map begun ts)
+
+there_told : (asked : Asked) (tasks : List TaskId) (ts : List Told) → tasks ≡ told_tasks ts → IsThere asked tasks → IsTold asked ts
+there_told line.text tasks ts e h = tt
+there_told (line.why digits) tasks ts e h = sym (told_has digits tasks ts e) ∙ h
+there_told line.picture tasks ts e h = tt
 
 module _ (content : Option (List ℕ)) (before after : ℕ) (path : List ℕ) (asked : Asked) where
   abbrev Here : Why → Type 0
@@ -44,16 +66,21 @@ module _ (content : Option (List ℕ)) (before after : ℕ) (path : List ℕ) (a
   untold (NoStory.NotLog at) why bytes f n (inr e) = subst Here (sym e) tt
   untold NoStory.Memory why bytes f n e = subst Here (sym e) tt
 
-  -- where there is a story
-  pub written : HasStory content → (why : Why) → IsWriteEnd asked why → Here why
-  written s Why.Done e = s
-  written s Why.Usage e = absurd e
-  written s (Why.ReadFault p) e = absurd e
-  written s (Why.TooLong p) e = absurd e
-  written s (Why.NotLog p at) e = absurd e
-  written s (Why.NoTask digits) e = (e, s)
-  written s Why.WriteFault e = s
-  written s Why.Memory e = tt
+  -- where there is a story, with these tasks
+  pub written : (p : Parts) → HasStory content (λ ts. p ≡ told_parts ts) → (why : Why) → IsWriteEnd p.0 asked why → Here why
+  written p s Why.Done e = story_so content (λ ts. p ≡ told_parts ts) (IsTold asked) s (λ ts h. there_told asked p.0 ts (ap (λ (q : Parts). q.0) h) e)
+  written p s Why.Usage e = absurd e
+  written p s (Why.ReadFault q) e = absurd e
+  written p s (Why.TooLong q) e = absurd e
+  written p s (Why.NotLog q at) e = absurd e
+  written p s (Why.NoTask digits) e = (
+    e.0,
+    story_so content (λ ts. p ≡ told_parts ts) (λ ts. is_started digits ts ≡ false) s
+        (λ ts h. sym (told_has digits p.0 ts (ap (λ (q : Parts). q.0) h)) ∙ e.1),
+  )
+  written p s Why.WriteFault e =
+      story_so content (λ ts. p ≡ told_parts ts) (IsTold asked) s (λ ts h. there_told asked p.0 ts (ap (λ (q : Parts). q.0) h) e)
+  written p s Why.Memory e = tt
 
 pub unread_writes_nothing : (path : List ℕ) (refusal : FileRefusal) (why : Why) → Unread path refusal why → IsUnwritten why
 unread_writes_nothing path FileRefusal.Failed why (inl e) = subst IsUnwritten (sym e) tt
@@ -70,41 +97,64 @@ untold_writes_nothing path NoStory.Memory why e = subst IsUnwritten (sym e) tt
 -- ---- what was written
 
 module _ (had has : Option (List ℕ)) (before after : ℕ) where
-  pub put_wrote : (asked : Asked) (text : List ℕ) → IsWritten asked text → (why : Why) → Put had has before after text why
-      → Wrote had has before after asked why
-  put_wrote asked text w Why.Done p = (text, w, p)
-  put_wrote asked text w Why.Usage p = absurd p
-  put_wrote asked text w (Why.ReadFault q) p = absurd p
-  put_wrote asked text w (Why.TooLong q) p = absurd p
-  put_wrote asked text w (Why.NotLog q at) p = absurd p
-  put_wrote asked text w (Why.NoTask q) p = absurd p
-  put_wrote asked text w Why.WriteFault p = (text, w, p.0, p.1)
-  put_wrote asked text w Why.Memory p = absurd p
+  pub put_wrote : (asked : Asked) (P : List ℕ → Type 0) (text : List ℕ) → IsWritten asked text → P text → (why : Why)
+      → Put had has before after text why → WroteSo P had has before after asked why
+  put_wrote asked P text w h Why.Done p = (text, w, h, p)
+  put_wrote asked P text w h Why.Usage p = absurd p
+  put_wrote asked P text w h (Why.ReadFault q) p = absurd p
+  put_wrote asked P text w h (Why.TooLong q) p = absurd p
+  put_wrote asked P text w h (Why.NotLog q at) p = absurd p
+  put_wrote asked P text w h (Why.NoTask q) p = absurd p
+  put_wrote asked P text w h Why.WriteFault p = (text, w, h, p.0, p.1)
+  put_wrote asked P text w h Why.Memory p = absurd p
 
-  pub put_ends : (asked : Asked) (text : List ℕ) (why : Why) → Put had has before after text why → IsWriteEnd asked why
-  put_ends asked text Why.Done p = tt
-  put_ends asked text Why.Usage p = absurd p
-  put_ends asked text (Why.ReadFault q) p = absurd p
-  put_ends asked text (Why.TooLong q) p = absurd p
-  put_ends asked text (Why.NotLog q at) p = absurd p
-  put_ends asked text (Why.NoTask q) p = absurd p
-  put_ends asked text Why.WriteFault p = tt
-  put_ends asked text Why.Memory p = absurd p
+  -- more is said of the text
+  pub wrote_so : (asked : Asked) (P Q : List ℕ → Type 0) → ((text : List ℕ) → P text → Q text) → (why : Why)
+      → WroteSo P had has before after asked why → WroteSo Q had has before after asked why
+  wrote_so asked P Q f Why.Done w = (w.0, w.1, f w.0 w.2, w.3)
+  wrote_so asked P Q f Why.Usage w = w
+  wrote_so asked P Q f (Why.ReadFault q) w = w
+  wrote_so asked P Q f (Why.TooLong q) w = w
+  wrote_so asked P Q f (Why.NotLog q at) w = w
+  wrote_so asked P Q f (Why.NoTask q) w = w
+  wrote_so asked P Q f Why.WriteFault w = (w.0, w.1, f w.0 w.2, w.3, w.4)
+  wrote_so asked P Q f Why.Memory w = w
+
+  -- of the story
+  pub wrote_told : (content : Option (List ℕ)) (p : Parts) (asked : Asked) (why : Why) → HasStory content (λ ts. p ≡ told_parts ts)
+      → WroteSo (IsOf asked p) had has before after asked why → Wrote content had has before after asked why
+  wrote_told content p asked why s w =
+      wrote_so asked (IsOf asked p) (λ text. HasStory content (λ ts. IsOf asked (told_parts ts) text))
+      (λ text h. story_so content (λ ts. p ≡ told_parts ts) (λ ts. IsOf asked (told_parts ts) text) s
+      (λ ts e. subst (λ q. IsOf asked q text) e h)) why w
+
+  pub put_ends : (tasks : List TaskId) (asked : Asked) (text : List ℕ) → IsThere asked tasks → (why : Why) → Put had has before after text why
+      → IsWriteEnd tasks asked why
+  put_ends tasks asked text h Why.Done p = h
+  put_ends tasks asked text h Why.Usage p = absurd p
+  put_ends tasks asked text h (Why.ReadFault q) p = absurd p
+  put_ends tasks asked text h (Why.TooLong q) p = absurd p
+  put_ends tasks asked text h (Why.NotLog q at) p = absurd p
+  put_ends tasks asked text h (Why.NoTask q) p = absurd p
+  put_ends tasks asked text h Why.WriteFault p = h
+  put_ends tasks asked text h Why.Memory p = absurd p
 
 -- nothing was
-pub unwritten : (had : Option (List ℕ)) (count : ℕ) (asked : Asked) (why : Why) → IsUnwritten why → Wrote had had count count asked why
-unwritten had count asked Why.Done u = absurd u
-unwritten had count asked Why.Usage u = refl
-unwritten had count asked (Why.ReadFault p) u = refl
-unwritten had count asked (Why.TooLong p) u = refl
-unwritten had count asked (Why.NotLog p at) u = refl
-unwritten had count asked (Why.NoTask p) u = refl
-unwritten had count asked Why.WriteFault u = absurd u
-unwritten had count asked Why.Memory u = refl
+pub unwritten : (P : List ℕ → Type 0) (had : Option (List ℕ)) (count : ℕ) (asked : Asked) (why : Why) → IsUnwritten why
+    → WroteSo P had had count count asked why
+unwritten P had count asked Why.Done u = absurd u
+unwritten P had count asked Why.Usage u = refl
+unwritten P had count asked (Why.ReadFault p) u = refl
+unwritten P had count asked (Why.TooLong p) u = refl
+unwritten P had count asked (Why.NotLog p at) u = refl
+unwritten P had count asked (Why.NoTask p) u = refl
+unwritten P had count asked Why.WriteFault u = absurd u
+unwritten P had count asked Why.Memory u = refl
 
-pub no_task_ends : (digits : List ℕ) (why : Why) → NoTaskOf digits why → IsWriteEnd (line.why digits) why
-no_task_ends digits why (inl e) = subst (IsWriteEnd (line.why digits)) (sym e) refl
-no_task_ends digits why (inr e) = subst (IsWriteEnd (line.why digits)) (sym e) tt
+pub no_task_ends : (tasks : List TaskId) (digits : List ℕ) → any_has digits tasks ≡ false → (why : Why) → NoTaskOf digits why
+    → IsWriteEnd tasks (line.why digits) why
+no_task_ends tasks digits h why (inl e) = subst (IsWriteEnd tasks (line.why digits)) (sym e) (refl, h)
+no_task_ends tasks digits h why (inr e) = subst (IsWriteEnd tasks (line.why digits)) (sym e) tt
 
 pub no_task_unwritten : (digits : List ℕ) (why : Why) → NoTaskOf digits why → IsUnwritten why
 no_task_unwritten digits why (inl e) = subst IsUnwritten (sym e) tt

@@ -1,5 +1,6 @@
 -- How the program ends, and what it has written.
-use Rattle.std.specs.Prelude.{◌≡◌, ◌⊎◌, ◌<◌, ℕ, List, Option, Some, None, IfSome, MatchOption, length}
+use Rattle.std.specs.Prelude.{◌≡◌, ◌⊎◌, ◌<◌, ℕ, List, true, false, Option, Some, None, IfSome, MatchOption, flat_map, length}
+use Rattle.sky_base.specs.declared.object.TaskId.{TaskId}
 use Rattle.ciel_io.specs.Faults.{HasRisen}
 use Rattle.ciel_io.specs.Tells.{Tells as Grows, TellsPart}
 use Rattle.ciel_look_sheet.specs.Picture.{IsPicture}
@@ -7,6 +8,10 @@ use Rattle.ciel_look_shown.specs.Lines.{IsLines}
 use Rattle.ciel_look_told.specs.Head.{Head}
 use Rattle.ciel_look_story.specs.Story.{NotLog, Tells}
 use Rattle.ciel_look_told.specs.Told.{Told}
+use Rattle.ciel_look_tasks.specs.Tasks.{begun, losses, starts, tasks}
+use Rattle.ciel_look_text.specs.Asked.{any_has, is_started}
+use Rattle.ciel_look_text.specs.Lines.{LinesBegin}
+use Rattle.ciel_look_text.specs.Text.{beginnings}
 use Rattle.ciel_look_run.specs.Line as line
 use Rattle.ciel_look_run.specs.Line.{Asked, line_of}
 use Rattle.ciel_io.specs.declared.files.FileRefusal.{FileRefusal}
@@ -23,30 +28,60 @@ IsWritten line.text text = IsLines text
 IsWritten (line.why digits) text = IsLines text
 IsWritten line.picture text = IsPicture text
 
--- the file, where it is told, is a log that has a story
-abbrev pub HasStory : Option (List ℕ) → Type 0
-HasStory content = IfSome content (λ log. (head : Head) × (ts : List Told) × Tells log head ts)
+-- the file, where it is told, is a log of which is told what is said of it
+abbrev pub HasStory : Option (List ℕ) → (List Told → Type 0) → Type 0
+HasStory content P = IfSome content (λ log. (head : Head) × (ts : List Told) × Tells log head ts × P ts)
+
+-- what a text is of: the tasks, the losses, and how many starts there were
+abbrev pub Parts : Type 0
+Parts = List TaskId × (List (ℕ × ℕ) × ℕ)
+
+abbrev pub told_parts : List Told → Parts
+told_parts ts = (tasks ts, (losses ts, length (starts ts)))
+
+-- what is asked is there: some of the tasks has these first digits, where they are asked for
+abbrev pub IsThere : Asked → List TaskId → Type 0
+IsThere line.text tasks = Unit {0}
+IsThere (line.why digits) tasks = any_has digits tasks ≡ true
+IsThere line.picture tasks = Unit {0}
+
+-- the starts that are told are of such a task
+abbrev pub IsTold : Asked → List Told → Type 0
+IsTold asked ts = IsThere asked (flat_map begun ts)
+
+-- the text is of these
+abbrev pub IsOf : Asked → Parts → List ℕ → Type 0
+IsOf line.text parts text = LinesBegin (beginnings parts.0 parts.1.0 parts.1.1) text
+IsOf (line.why digits) parts text = Unit {0}
+IsOf line.picture parts text = Unit {0}
 
 -- the cause of each end, where the words name this path and ask so: of the file at the path, and of the files' faults before and after
 abbrev pub Because : Option (List ℕ) → (before after : ℕ) → List ℕ × Asked → Why → Type 0
-Because content before after l Why.Done = HasStory content
+Because content before after l Why.Done = HasStory content (IsTold l.1)
 Because content before after l Why.Usage = ⊥
 Because content before after l (Why.ReadFault path) = (path ≡ l.0) × HasRisen before after
 Because content before after l (Why.TooLong path) = (path ≡ l.0) × IfSome content (λ log. most < length log)
 Because content before after l (Why.NotLog path at) = (path ≡ l.0) × IfSome content (λ log. NotLog log at)
-Because content before after l (Why.NoTask digits) = (l.1 ≡ line.why digits) × HasStory content
-Because content before after l Why.WriteFault = HasStory content
+Because content before after l (Why.NoTask digits) = (l.1 ≡ line.why digits) × HasStory content (λ ts. is_started digits ts ≡ false)
+Because content before after l Why.WriteFault = HasStory content (IsTold l.1)
 Because content before after l Why.Memory = Unit {0}
 
 -- where the words are no line, that is said, but for want of memory
 abbrev pub IsNoLine : Why → Type 0
 IsNoLine why = (why ≡ Why.Usage) ⊎ (why ≡ Why.Memory)
 
--- what the output holds afterwards: with an end that is Done what was asked; where it failed a first part of that; else what it held
-abbrev pub Wrote : Option (List ℕ) → Option (List ℕ) → (before after : ℕ) → Asked → Why → Type 0
-Wrote had has before after asked Why.Done = (text : List ℕ) × IsWritten asked text × Grows had has text
-Wrote had has before after asked Why.WriteFault = (text : List ℕ) × IsWritten asked text × TellsPart had has text × HasRisen before after
-Wrote had has before after asked why = has ≡ had
+-- what the output holds afterwards: with an end that is Done what was asked, of which P is said; where it failed a first part of that; else what
+-- it held
+abbrev pub WroteSo : (List ℕ → Type 0) → Option (List ℕ) → Option (List ℕ) → (before after : ℕ) → Asked → Why → Type 0
+WroteSo P had has before after asked Why.Done = (text : List ℕ) × IsWritten asked text × P text × Grows had has text
+WroteSo P had has before after asked Why.WriteFault =
+    (text : List ℕ) × IsWritten asked text × P text × TellsPart had has text × HasRisen before after
+WroteSo P had has before after asked why = has ≡ had
+
+-- what was asked of the file, where it is told: the text is of what the file tells
+abbrev pub Wrote : Option (List ℕ) → Option (List ℕ) → Option (List ℕ) → (before after : ℕ) → Asked → Why → Type 0
+Wrote content had has before after asked why =
+    WroteSo (λ text. HasStory content (λ ts. IsOf asked (told_parts ts) text)) had has before after asked why
 
 -- ---- of inner calls
 
@@ -62,13 +97,13 @@ IsUnwritten Why.Done = ⊥
 IsUnwritten Why.WriteFault = ⊥
 IsUnwritten why = Unit {0}
 
--- the ends that come where there is a story
-abbrev pub IsWriteEnd : Asked → Why → Type 0
-IsWriteEnd asked Why.Done = Unit {0}
-IsWriteEnd asked Why.WriteFault = Unit {0}
-IsWriteEnd asked Why.Memory = Unit {0}
-IsWriteEnd asked (Why.NoTask digits) = asked ≡ line.why digits
-IsWriteEnd asked why = ⊥
+-- the ends that come where there is a story, with these tasks
+abbrev pub IsWriteEnd : List TaskId → Asked → Why → Type 0
+IsWriteEnd tasks asked Why.Done = IsThere asked tasks
+IsWriteEnd tasks asked Why.WriteFault = IsThere asked tasks
+IsWriteEnd tasks asked Why.Memory = Unit {0}
+IsWriteEnd tasks asked (Why.NoTask digits) = (asked ≡ line.why digits) × (any_has digits tasks ≡ false)
+IsWriteEnd tasks asked why = ⊥
 
 -- no task has such a name, or there was no memory to say so
 abbrev pub NoTaskOf : List ℕ → Why → Type 0

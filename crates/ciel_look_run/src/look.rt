@@ -1,10 +1,11 @@
 //! The call that the program makes.
 
 ghost use Rattle.std.specs.Prelude.{◌≡◌, IfErr, IfOk, MatchOption};
-ghost use Rattle.ciel_look_run.specs.Ends.{Because, HasStory, IsNoLine, IsUnwritten, IsWriteEnd, NoTaskOf, Put, Unread, Untold, Wrote};
+ghost use Rattle.ciel_look_run.specs.Ends.{Because, HasStory, IsNoLine, IsOf, IsUnwritten, IsWriteEnd, NoTaskOf, Put, Unread, Untold, Wrote};
+ghost use Rattle.ciel_look_run.specs.Ends.{WroteSo, told_parts};
 ghost use Rattle.ciel_look_run.specs.Line as seen;
 ghost use Rattle.ciel_look_run.specs.Line.{line_of};
-ghost use Rattle.ciel_look_run.specs.View.{asked_view, line_view};
+ghost use Rattle.ciel_look_run.specs.View.{asked_view, line_view, parts_of};
 
 use crate::ends::Why;
 use crate::line::{Asked, Line, read_words};
@@ -27,7 +28,7 @@ pub fn look<F: Files, O: Sink>(alloc: Global, words: &[Txt], files: &mut F, out:
     ensures because { MatchOption (line_of words.now) (IsNoLine result)
         (λ l. Because (F.content files.old l.0) (F.faults files.old) (F.faults files.new) l result) }
     ensures wrote { MatchOption (line_of words.now) (O.written out.new ≡ O.written out.old)
-        (λ l. Wrote (O.written out.old) (O.written out.new) (O.faults out.old) (O.faults out.new) l.1 result) }
+        (λ l. Wrote (F.content files.old l.0) (O.written out.old) (O.written out.new) (O.faults out.old) (O.faults out.new) l.1 result) }
 {
     let line = match read_words(words) {
         Ok(line) => line,
@@ -42,7 +43,8 @@ pub fn look<F: Files, O: Sink>(alloc: Global, words: &[Txt], files: &mut F, out:
 /// Reads the log of a line, and writes what it asks.
 fn look_at<F: Files, O: Sink>(alloc: Global, line: &Line, files: &mut F, out: &mut O) -> Why
     ensures because { Because (F.content files.old line.now.log) (F.faults files.old) (F.faults files.new) (line_view line.now) result }
-    ensures wrote { Wrote (O.written out.old) (O.written out.new) (O.faults out.old) (O.faults out.new) (asked_view line.now.asked) result }
+    ensures wrote { Wrote (F.content files.old line.now.log) (O.written out.old) (O.written out.new) (O.faults out.old) (O.faults out.new)
+        (asked_view line.now.asked) result }
 {
     match read_scene(alloc, &line.log, files) {
         Ok(scene) => write(alloc, &scene, &line.asked, out),
@@ -52,7 +54,7 @@ fn look_at<F: Files, O: Sink>(alloc: Global, line: &Line, files: &mut F, out: &m
 
 /// What is seen of the run whose log stands at a path.
 fn read_scene<F: Files>(alloc: Global, path: &Txt, files: &mut F) -> Result<Scene, Why>
-    ensures story { IfOk result (λ _. HasStory (F.content files.old path.now)) }
+    ensures story { IfOk result (λ s. HasStory (F.content files.old path.now) (λ ts. parts_of s ≡ told_parts ts)) }
     ensures refused { IfErr result (λ why. (asked : seen.Asked) → Because (F.content files.old path.now) (F.faults files.old) (F.faults files.new)
         (path.now, asked) why) }
     ensures unwritten { IfErr result IsUnwritten }
@@ -100,8 +102,9 @@ fn why_untold(path: &Txt, refusal: NoStory) -> Why
 
 /// Writes what is asked.
 fn write<O: Sink>(alloc: Global, scene: &Scene, asked: &Asked, out: &mut O) -> Why
-    ensures ends { IsWriteEnd (asked_view asked.now) result }
-    ensures wrote { Wrote (O.written out.old) (O.written out.new) (O.faults out.old) (O.faults out.new) (asked_view asked.now) result }
+    ensures ends { IsWriteEnd (parts_of scene.now).0 (asked_view asked.now) result }
+    ensures wrote { WroteSo (IsOf (asked_view asked.now) (parts_of scene.now)) (O.written out.old) (O.written out.new) (O.faults out.old)
+        (O.faults out.new) (asked_view asked.now) result }
 {
     match asked {
         Asked::Text => write_text(alloc, scene, out),
@@ -112,8 +115,9 @@ fn write<O: Sink>(alloc: Global, scene: &Scene, asked: &Asked, out: &mut O) -> W
 
 /// Writes the text.
 fn write_text<O: Sink>(alloc: Global, scene: &Scene, out: &mut O) -> Why
-    ensures ends { IsWriteEnd seen.text result }
-    ensures wrote { Wrote (O.written out.old) (O.written out.new) (O.faults out.old) (O.faults out.new) seen.text result }
+    ensures ends { IsWriteEnd (parts_of scene.now).0 seen.text result }
+    ensures wrote { WroteSo (IsOf seen.text (parts_of scene.now)) (O.written out.old) (O.written out.new) (O.faults out.old)
+        (O.faults out.new) seen.text result }
 {
     let lines = match text_of(alloc, scene) {
         Ok(lines) => lines,
@@ -124,8 +128,9 @@ fn write_text<O: Sink>(alloc: Global, scene: &Scene, out: &mut O) -> Why
 
 /// Writes why a task was started.
 fn write_why<O: Sink>(alloc: Global, scene: &Scene, digits: &Txt, out: &mut O) -> Why
-    ensures ends { IsWriteEnd (seen.why digits.now) result }
-    ensures wrote { Wrote (O.written out.old) (O.written out.new) (O.faults out.old) (O.faults out.new) (seen.why digits.now) result }
+    ensures ends { IsWriteEnd (parts_of scene.now).0 (seen.why digits.now) result }
+    ensures wrote { WroteSo (IsOf (seen.why digits.now) (parts_of scene.now)) (O.written out.old) (O.written out.new) (O.faults out.old)
+        (O.faults out.new) (seen.why digits.now) result }
 {
     let found = match why_of(alloc, scene, digits) {
         Ok(found) => found,
@@ -139,8 +144,9 @@ fn write_why<O: Sink>(alloc: Global, scene: &Scene, digits: &Txt, out: &mut O) -
 
 /// Writes the picture.
 fn write_picture<O: Sink>(alloc: Global, scene: &Scene, out: &mut O) -> Why
-    ensures ends { IsWriteEnd seen.picture result }
-    ensures wrote { Wrote (O.written out.old) (O.written out.new) (O.faults out.old) (O.faults out.new) seen.picture result }
+    ensures ends { IsWriteEnd (parts_of scene.now).0 seen.picture result }
+    ensures wrote { WroteSo (IsOf seen.picture (parts_of scene.now)) (O.written out.old) (O.written out.new) (O.faults out.old)
+        (O.faults out.new) seen.picture result }
 {
     let picture = match picture_of(alloc, scene) {
         Ok(picture) => picture,

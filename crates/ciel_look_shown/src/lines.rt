@@ -2,6 +2,7 @@
 
 ghost use Rattle.std.specs.Prelude.{◌≡◌, [], ◌∷◌, ◌++◌, IfOk};
 ghost use Rattle.ciel_look_shown.specs.Lines.{IsLines};
+ghost use Rattle.ciel_look_shown.specs.Plain.{IsPlain};
 
 use crate::plain::Plain;
 use sky_base::text::Memory;
@@ -38,6 +39,7 @@ impl Lines {
     /// Puts a line at the end.
     pub fn put(&mut self, line: &Plain) -> Result<(), Memory>
         ensures put { IfOk result (λ _. self.new ≡ self.old ++ line.now ++ 10 ∷ []) }
+        ensures plain { IsPlain line.now }
     {
         let Ok(()) = self.held.extend_from_slice(line.as_slice()) else {
             return Err(Memory);

@@ -1,6 +1,6 @@
 //! Text without control characters.
 
-ghost use Rattle.std.specs.Prelude.{◌≡◌, ◌≤◌, ◌<◌, [], ◌++◌, IfOk, length, take};
+ghost use Rattle.std.specs.Prelude.{◌≡◌, ◌≤◌, ◌<◌, [], ◌++◌, IfOk, decimal, length, take};
 ghost use Rattle.ciel_look_shown.specs.Plain.{IsPlain, digit, is_printable, shown, shown_byte};
 
 use itoa::Buffer;
@@ -45,8 +45,10 @@ impl Plain {
         Ok(())
     }
 
-    /// Puts a number in decimal at the end.
-    pub fn put_number(&mut self, number: u64) -> Result<(), Memory> {
+    /// Puts a number in decimal at the end. After `Memory` a first part may be there.
+    pub fn put_number(&mut self, number: u64) -> Result<(), Memory>
+        ensures put { IfOk result (λ _. self.new ≡ self.old ++ shown (decimal number)) }
+    {
         let mut digits = Buffer::new();
         self.put(digits.format(number).as_bytes())
     }

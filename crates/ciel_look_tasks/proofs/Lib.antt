@@ -1,0 +1,2 @@
+pub mod TaskLists
+pub mod RollSteps

@@ -1,48 +1,46 @@
 //! The scene of a story, made entry by entry.
 
-use crate::places::{Place, Places, push};
+ghost use Rattle.std.specs.Prelude.{◌≡◌, [], ◌∷◌, ◌++◌, IfOk, map};
+ghost use Rattle.ciel_look_told.specs.View.{told_view};
+ghost use Rattle.ciel_look_tasks.specs.Tasks.{begun, loss_of, losses, start_of, starts, tasks, with_task, with_tasks};
+ghost use Rattle.ciel_look_tasks.specs.View.{ids, losses_view, starts_view};
+
+use crate::book::Book;
+use crate::places::{Place, Places, push, put_all};
+use crate::roll::Roll;
 use crate::scene::{Copied, End, Happening, How, Loss, Run, Scene, Task};
+use crate::starts::Starts;
 use ciel_look_told::header::Header;
 use ciel_look_told::told::{Ended, Outcome, Story, Told};
-use ciel_look_words::known::named;
 use sky_base::name::Name;
-use sky_base::object::{Desc1, TaskId};
-use sky_base::text::{Memory, Txt};
-use sky_base::value::{Pairs, Vals};
+use sky_base::object::TaskId;
+use sky_base::text::Memory;
 use std::alloc::Global;
-use std::collections::{BTreeMap, BTreeSet};
 
-/// An output of a task.
-#[derive(Clone, Copy, PartialEq, Eq, PartialOrd, Ord)]
-struct Output {
-    task: TaskId,
-    index: u32,
-}
-
-/// A task and a wait.
-#[derive(Clone, Copy, PartialEq, Eq, PartialOrd, Ord)]
-struct Origin {
-    task: usize,
-    wait: u32,
-}
-
-/// A scene, and what it is made with: the order of each number, the name of each output, what was started from where, and where objects lie.
+/// The parts of a scene, and what it is made with.
 #[derive(Drop)]
 struct Maker {
-    scene: Scene,
-    run_of: BTreeMap<u64, usize>,
-    outputs: BTreeMap<Output, Name>,
-    begun: BTreeSet<Origin>,
+    header: Header,
+    book: Book,
+    roll: Roll,
+    starts: Starts,
     places: Places,
+    losses: Vec<Loss>,
+    copies: Vec<Copied>,
+    happened: Vec<Happening>,
+    late: usize,
 }
 
 /// What was seen of a run, by its story.
 ///
 /// Answers `Memory` for want of memory.
-pub fn scene_of(alloc: Global, story: Story) -> Result<Scene, Memory> {
+pub fn scene_of(alloc: Global, story: Story) -> Result<Scene, Memory>
+    ensures tasks { IfOk result (λ s. ids s.roll.tasks.items ≡ tasks (map told_view story.told.items)) }
+    ensures starts { IfOk result (λ s. starts_view s.runs.items ≡ starts (map told_view story.told.items)) }
+    ensures losses { IfOk result (λ s. losses_view s.losses.items ≡ losses (map told_view story.told.items)) }
+{
     let Story { header, told } = story;
-    let mut maker = Maker::new(alloc, header);
-    maker.learn_first(alloc)?;
+    let mut maker = Maker::new(alloc, header)?;
     for one in told {
         maker.take(alloc, one)?;
     }
@@ -50,129 +48,96 @@ pub fn scene_of(alloc: Global, story: Story) -> Result<Scene, Memory> {
 }
 
 impl Maker {
-    fn new(alloc: Global, header: Header) -> Maker {
-        Maker {
-            scene: Scene {
-                header,
-                known: Vec::new(alloc),
-                known_at: BTreeMap::new(alloc),
-                tasks: Vec::new(alloc),
-                task_at: BTreeMap::new(alloc),
-                runs: Vec::new(alloc),
-                losses: Vec::new(alloc),
-                copies: Vec::new(alloc),
-                happened: Vec::new(alloc),
-                late: 0,
-            },
-            run_of: BTreeMap::new(alloc),
-            outputs: BTreeMap::new(alloc),
-            begun: BTreeSet::new(alloc),
+    /// Nothing is told; the main call and the inputs are known.
+    fn new(alloc: Global, header: Header) -> Result<Maker, Memory>
+        ensures tasks { IfOk result (λ m. ids m.roll.tasks.items ≡ []) }
+        ensures starts { IfOk result (λ m. starts_view m.starts.runs.items ≡ []) }
+        ensures losses { IfOk result (λ m. losses_view m.losses.items ≡ []) }
+    {
+        let book = Book::new(alloc, &header)?;
+        Ok(Maker {
+            header,
+            book,
+            roll: Roll::new(alloc),
+            starts: Starts::new(alloc),
             places: Places::new(alloc),
-        }
+            losses: Vec::new(alloc),
+            copies: Vec::new(alloc),
+            happened: Vec::new(alloc),
+            late: 0,
+        })
     }
 
-    fn into_scene(self) -> Scene {
+    fn into_scene(self) -> Scene
+        ensures tasks { ids result.roll.tasks.items ≡ ids self.roll.tasks.items }
+        ensures starts { starts_view result.runs.items ≡ starts_view self.starts.runs.items }
+        ensures losses { losses_view result.losses.items ≡ losses_view self.losses.items }
+    {
         let Maker {
-            scene,
-            run_of: _,
-            outputs: _,
-            begun: _,
+            header,
+            book,
+            roll,
+            starts,
             places: _,
+            losses,
+            copies,
+            happened,
+            late,
         } = self;
-        scene
-    }
-
-    /// Learns what is known before anything is spawned: the main call, and the inputs.
-    fn learn_first(&mut self, alloc: Global) -> Result<(), Memory> {
-        let main = Desc1::Call {
-            fun: Txt::new(alloc, "")?,
-            caught: Pairs::new(alloc),
-            args: Vals::new(alloc),
-        };
-        self.learn(alloc, main)?;
-        let count = self.scene.header.job.inputs.len();
-        for i in 0..count {
-            let key = match self.scene.header.job.inputs.get(i) {
-                Some(input) => input.key.share()?,
-                None => return Ok(()),
-            };
-            self.learn(alloc, Desc1::Input { key })?;
-        }
-        Ok(())
-    }
-
-    /// Learns a description, where its name is new.
-    fn learn(&mut self, alloc: Global, desc: Desc1) -> Result<(), Memory> {
-        let one = named(alloc, self.scene.header.job.short, desc)?;
-        if let Desc1::Exec {
-            executor: _,
-            args: _,
+        let Book {
+            short: _,
+            known,
+            known_at,
             outputs: _,
-            index,
-        } = &one.desc
-        {
-            let output = Output {
-                task: one.task,
-                index: *index,
-            };
-            if self.outputs.insert(output, one.name).is_err() {
-                return Err(Memory);
-            }
+        } = book;
+        let Starts {
+            runs,
+            run_of: _,
+            begun: _,
+        } = starts;
+        Scene {
+            header,
+            known,
+            known_at,
+            roll,
+            runs,
+            losses,
+            copies,
+            happened,
+            late,
         }
-        if self.scene.known_at.contains_key(&one.name) {
-            return Ok(());
-        }
-        if self
-            .scene
-            .known_at
-            .insert(one.name, self.scene.known.len())
-            .is_err()
-        {
-            return Err(Memory);
-        }
-        push(&mut self.scene.known, one)
     }
 
     /// Takes an entry of the story.
-    fn take(&mut self, alloc: Global, told: Told) -> Result<(), Memory> {
+    fn take(&mut self, alloc: Global, told: Told) -> Result<(), Memory>
+        ensures tasks { IfOk result (λ _. ids self.new.roll.tasks.items ≡ with_tasks (ids self.old.roll.tasks.items) (begun (told_view told))) }
+        ensures starts { IfOk result (λ _. starts_view self.new.starts.runs.items
+            ≡ starts_view self.old.starts.runs.items ++ start_of (told_view told)) }
+        ensures losses { IfOk result (λ _. losses_view self.new.losses.items ≡ losses_view self.old.losses.items ++ loss_of (told_view told)) }
+    {
         match told {
             Told::Start {
                 number,
                 worker,
                 from,
                 task,
-            } => self.begin(alloc, number, worker, from, &task),
-            Told::Ended(ended) => self.end(alloc, ended),
-            Told::Lost { worker, after } => self.lose(alloc, worker, after),
+            } => {
+                self.begin(alloc, number, worker, from, &task)?;
+                Ok(())
+            }
+            Told::Ended(ended) => {
+                self.end(alloc, ended)?;
+                Ok(())
+            }
+            Told::Lost { worker, after } => {
+                self.lose(alloc, worker, after)?;
+                Ok(())
+            }
             Told::Late { number: _ } => {
-                self.scene.late = self.scene.late.saturating_add(1);
+                self.late = self.late.saturating_add(1);
                 Ok(())
             }
         }
-    }
-
-    /// The place of a task, which is a new one where it has none.
-    fn place_of(&mut self, alloc: Global, id: &TaskId) -> Result<usize, Memory> {
-        if let Some(place) = self.scene.task_at.get(id) {
-            return Ok(*place);
-        }
-        let place = self.scene.tasks.len();
-        if self.scene.task_at.insert(*id, place).is_err() {
-            return Err(Memory);
-        }
-        let known = match id {
-            TaskId::Show => None,
-            TaskId::Of(name) => self.scene.known_at.get(name).copied(),
-        };
-        push(
-            &mut self.scene.tasks,
-            Task {
-                id: *id,
-                known,
-                runs: Vec::new(alloc),
-            },
-        )?;
-        Ok(place)
     }
 
     /// A task is started.
@@ -183,123 +148,75 @@ impl Maker {
         worker: u32,
         from: u32,
         id: &TaskId,
-    ) -> Result<(), Memory> {
-        let task = self.place_of(alloc, id)?;
-        let Ok(first) = self.begun.insert(Origin { task, wait: from }) else {
-            return Err(Memory);
-        };
-        let run = self.scene.runs.len();
-        push(
-            &mut self.scene.runs,
-            Run {
-                number,
-                worker,
-                from,
-                task,
-                begun: self.scene.happened.len(),
-                again: !first,
-                end: None,
-            },
-        )?;
-        if let Some(held) = self.scene.tasks.get_mut(task) {
-            push(&mut held.runs, run)?;
-        }
-        if self.run_of.insert(number, run).is_err() {
-            return Err(Memory);
-        }
-        push(&mut self.scene.happened, Happening::Begun(run))
+    ) -> Result<(), Memory>
+        ensures tasks { IfOk result (λ _. ids self.new.roll.tasks.items ≡ with_task (ids self.old.roll.tasks.items) id.now) }
+        ensures starts { IfOk result (λ _. starts_view self.new.starts.runs.items
+            ≡ starts_view self.old.starts.runs.items ++ (number, (worker, (from, id.now))) ∷ []) }
+        ensures losses { IfOk result (λ _. losses_view self.new.losses.items ≡ losses_view self.old.losses.items) }
+    {
+        let known = self.book.of_task(id);
+        let task = self.roll.enter(alloc, id, known)?;
+        let at = self.happened.len();
+        let run = self.starts.begin(number, worker, from, *id, task, at)?;
+        self.roll.note(task, run)?;
+        push(&mut self.happened, Happening::Begun(run))?;
+        Ok(())
     }
 
     /// An order ended.
-    fn end(&mut self, alloc: Global, ended: Ended) -> Result<(), Memory> {
+    fn end(&mut self, alloc: Global, ended: Ended) -> Result<(), Memory>
+        ensures tasks { IfOk result (λ _. ids self.new.roll.tasks.items ≡ ids self.old.roll.tasks.items) }
+        ensures starts { IfOk result (λ _. starts_view self.new.starts.runs.items ≡ starts_view self.old.starts.runs.items) }
+        ensures losses { IfOk result (λ _. losses_view self.new.losses.items ≡ losses_view self.old.losses.items) }
+    {
         let Ended {
             number,
             spawned,
             copied,
             how,
         } = ended;
-        for desc in spawned {
-            self.learn(alloc, desc)?;
-        }
-        let Some(run) = self.run_of.get(&number).copied() else {
+        self.book.learn_all(alloc, spawned)?;
+        let Some(run) = self.starts.order(number) else {
             return Ok(());
         };
-        let Some(held) = self.scene.runs.get(run) else {
+        let Some((worker, task)) = self.starts.held(run) else {
             return Ok(());
         };
-        let (worker, task) = (held.worker, held.task);
-        let made = self.made(alloc, task, &how)?;
-        for name in &made {
-            self.places.put(alloc, *name, Place { worker, run })?;
-        }
-        for name in &copied {
-            let from = self.places.first(name);
-            push(
-                &mut self.scene.copies,
-                Copied {
-                    name: *name,
-                    run,
-                    from,
-                },
-            )?;
-            self.places.put(alloc, *name, Place { worker, run })?;
-        }
-        let at = self.scene.happened.len();
-        if let Some(held) = self.scene.runs.get_mut(run) {
-            held.end = Some(End {
+        let place = Place { worker, run };
+        let made = made(alloc, &self.book, &self.roll, task, &how)?;
+        put_all(alloc, &mut self.places, made.as_slice(), place)?;
+        copy_all(
+            alloc,
+            &mut self.places,
+            &mut self.copies,
+            copied.as_slice(),
+            place,
+        )?;
+        let at = self.happened.len();
+        self.starts.close(
+            run,
+            End {
                 at,
                 how: How::Told { outcome: how, made },
-            });
-        }
-        push(&mut self.scene.happened, Happening::Ended(run))
-    }
-
-    /// The names of the outputs that an order made, as far as they are known.
-    fn made(&self, alloc: Global, task: usize, how: &Outcome) -> Result<Vec<Name>, Memory> {
-        let mut names = Vec::new(alloc);
-        let Outcome::Made(weights) = how else {
-            return Ok(names);
-        };
-        let Some(held) = self.scene.tasks.get(task) else {
-            return Ok(names);
-        };
-        let TaskId::Of(name) = &held.id else {
-            return Ok(names);
-        };
-        push(&mut names, *name)?;
-        let mut index = 0u32;
-        for _more in 1..weights.len() {
-            index = index.saturating_add(1);
-            if let Some(other) = self.outputs.get(&Output {
-                task: held.id,
-                index,
-            }) {
-                push(&mut names, *other)?;
-            }
-        }
-        Ok(names)
+            },
+        );
+        push(&mut self.happened, Happening::Ended(run))?;
+        Ok(())
     }
 
     /// A worker is lost, and the orders that it had end so.
-    fn lose(&mut self, alloc: Global, worker: u32, after: u64) -> Result<(), Memory> {
-        let at = self.scene.happened.len();
-        let loss = self.scene.losses.len();
+    fn lose(&mut self, alloc: Global, worker: u32, after: u64) -> Result<(), Memory>
+        ensures tasks { IfOk result (λ _. ids self.new.roll.tasks.items ≡ ids self.old.roll.tasks.items) }
+        ensures starts { IfOk result (λ _. starts_view self.new.starts.runs.items ≡ starts_view self.old.starts.runs.items) }
+        ensures losses { IfOk result (λ _. losses_view self.new.losses.items ≡ losses_view self.old.losses.items ++ (worker, after) ∷ []) }
+    {
+        let at = self.happened.len();
+        let loss = self.losses.len();
         let objects = self.places.lose(alloc, worker)?;
-        let stacks = self.stacks_at(alloc, worker)?;
-        let mut runs = Vec::new(alloc);
-        for run in 0..self.scene.runs.len() {
-            if let Some(held) = self.scene.runs.get_mut(run) {
-                if held.worker == worker && held.end.is_none() {
-                    held.end = Some(End {
-                        at,
-                        how: How::Lost { loss },
-                    });
-                    push(&mut runs, run)?;
-                }
-            }
-        }
+        let stacks = stacks_at(alloc, &self.roll, &self.starts, worker)?;
+        let runs = self.starts.cut(alloc, worker, at, loss)?;
         push(
-            &mut self.scene.losses,
+            &mut self.losses,
             Loss {
                 worker,
                 after,
@@ -309,29 +226,87 @@ impl Maker {
                 runs,
             },
         )?;
-        push(&mut self.scene.happened, Happening::Lost(loss))
+        push(&mut self.happened, Happening::Lost(loss))?;
+        Ok(())
     }
+}
 
-    /// The places of the tasks whose last order ended at a wait, with the stack at this worker.
-    fn stacks_at(&self, alloc: Global, worker: u32) -> Result<Vec<usize>, Memory> {
-        let mut stacks = Vec::new(alloc);
-        for (place, task) in self.scene.tasks.iter().enumerate() {
-            if self.waits_at(task, worker) {
-                push(&mut stacks, place)?;
-            }
+/// The names of the outputs that an order made, as far as they are known.
+fn made(
+    alloc: Global,
+    book: &Book,
+    roll: &Roll,
+    task: usize,
+    how: &Outcome,
+) -> Result<Vec<Name>, Memory> {
+    let mut names = Vec::new(alloc);
+    let Outcome::Made(weights) = how else {
+        return Ok(names);
+    };
+    let Some(held) = roll.tasks.get(task) else {
+        return Ok(names);
+    };
+    let TaskId::Of(name) = &held.id else {
+        return Ok(names);
+    };
+    push(&mut names, *name)?;
+    let mut index = 0u32;
+    for _more in 1..weights.len() {
+        index = index.saturating_add(1);
+        if let Some(other) = book.output(held.id, index) {
+            push(&mut names, other)?;
         }
-        Ok(stacks)
     }
+    Ok(names)
+}
 
-    fn waits_at(&self, task: &Task, worker: u32) -> bool {
-        let Some(last) = task.runs.last() else {
-            return false;
-        };
-        let Some(run) = self.scene.runs.get(*last) else {
-            return false;
-        };
-        run.worker == worker && is_saved(run)
+/// What an order took along is copied.
+fn copy_all(
+    alloc: Global,
+    places: &mut Places,
+    copies: &mut Vec<Copied>,
+    names: &[Name],
+    place: Place,
+) -> Result<(), Memory> {
+    for name in names {
+        let from = places.first(name);
+        push(
+            copies,
+            Copied {
+                name: *name,
+                run: place.run,
+                from,
+            },
+        )?;
+        places.put(alloc, *name, place)?;
     }
+    Ok(())
+}
+
+/// The places of the tasks whose last order ended at a wait, with the stack at this worker.
+fn stacks_at(
+    alloc: Global,
+    roll: &Roll,
+    starts: &Starts,
+    worker: u32,
+) -> Result<Vec<usize>, Memory> {
+    let mut stacks = Vec::new(alloc);
+    for (place, task) in roll.tasks.iter().enumerate() {
+        if waits_at(starts.runs.as_slice(), task, worker) {
+            push(&mut stacks, place)?;
+        }
+    }
+    Ok(stacks)
+}
+
+fn waits_at(runs: &[Run], task: &Task, worker: u32) -> bool {
+    let Some(last) = task.runs.last() else {
+        return false;
+    };
+    let Some(run) = runs.get(*last) else {
+        return false;
+    };
+    run.worker == worker && is_saved(run)
 }
 
 /// Whether an order ended at a wait.

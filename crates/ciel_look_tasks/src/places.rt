@@ -1,5 +1,7 @@
 //! Where objects lie.
 
+ghost use Rattle.std.specs.Prelude.{◌≡◌, [], ◌∷◌, ◌++◌, IfOk, OnErr};
+
 use sky_base::name::Name;
 use sky_base::text::Memory;
 use std::alloc::Global;
@@ -64,6 +66,19 @@ impl Places {
     }
 }
 
+/// One more for each name.
+pub fn put_all(
+    alloc: Global,
+    places: &mut Places,
+    names: &[Name],
+    place: Place,
+) -> Result<(), Memory> {
+    for name in names {
+        places.put(alloc, *name, place)?;
+    }
+    Ok(())
+}
+
 /// Whether one of the places is at the worker, and none at one that isn't lost.
 fn is_lost(places: &[Place], worker: u32, gone: &[u32]) -> bool {
     places.iter().any(|place| place.worker == worker)
@@ -74,6 +89,8 @@ fn is_lost(places: &[Place], worker: u32, gone: &[u32]) -> bool {
 pub fn push<T>(list: &mut Vec<T>, thing: T) -> Result<(), Memory>
 where
     T: Drop,
+    ensures pushed { IfOk result (λ _. list.new.items ≡ list.old.items ++ thing ∷ []) }
+    ensures kept { OnErr result (list.new.items ≡ list.old.items) }
 {
     match list.push(thing) {
         Ok(()) => Ok(()),

@@ -1,5 +1,6 @@
 //! What was seen of a run.
 
+use crate::roll::Roll;
 use ciel_look_told::header::Header;
 use ciel_look_told::told::Outcome;
 use ciel_look_words::known::Known;
@@ -23,13 +24,14 @@ pub struct End {
     pub how: How,
 }
 
-/// An order: its number, its worker, the wait from which its task goes on, the task's place, the place of its start among all that happened,
+/// An order: its number, its worker, the wait from which its task goes on, the task, its place, the place of its start among all that happened,
 /// whether the task had been started from that wait before, and its end, none where it is still out.
 #[derive(Drop)]
 pub struct Run {
     pub number: u64,
     pub worker: u32,
     pub from: u32,
+    pub id: TaskId,
     pub task: usize,
     pub begun: usize,
     pub again: bool,
@@ -72,14 +74,13 @@ pub enum Happening {
     Lost(usize),
 }
 
-/// All that was seen of a run. Each name of `known_at` and each task of `task_at` has its place there.
+/// All that was seen of a run. Each name of `known_at` has its place there.
 #[derive(Drop)]
 pub struct Scene {
     pub header: Header,
     pub known: Vec<Known>,
     pub known_at: BTreeMap<Name, usize>,
-    pub tasks: Vec<Task>,
-    pub task_at: BTreeMap<TaskId, usize>,
+    pub roll: Roll,
     pub runs: Vec<Run>,
     pub losses: Vec<Loss>,
     pub copies: Vec<Copied>,

@@ -65,7 +65,7 @@ impl Replay {
         if let Some(run) = self.last_save(scene, task) {
             return waits_of(alloc, run);
         }
-        let Some(held) = scene.tasks.get(task) else {
+        let Some(held) = scene.roll.tasks.get(task) else {
             return Ok(Vec::new(alloc));
         };
         match &held.id {

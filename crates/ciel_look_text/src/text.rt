@@ -1,6 +1,13 @@
 //! A run in lines of text.
 
-use crate::label::{put_digits, say, say_count, say_ends, say_name, say_number, say_task};
+ghost use Rattle.std.specs.Prelude.{◌≡◌, ◌++◌, IfOk, List, length, map, ℕ};
+ghost use Rattle.ciel_look_tasks.specs.View.{ids, loss_view, losses_view};
+ghost use Rattle.ciel_look_text.specs.Lines.{Begins, LinesBegin};
+ghost use Rattle.ciel_look_text.specs.Text.{beginnings, loss_begin, sum_begin, task_begin};
+
+use crate::label::{
+    put_digits, say, say_count, say_ends, say_name, say_number, say_task, say_words,
+};
 use ciel_look_shown::lines::Lines;
 use ciel_look_shown::plain::Plain;
 use ciel_look_tasks::scene::{How, Loss, Run, Scene, Task};
@@ -15,31 +22,69 @@ const MOST_TOLD: usize = 8;
 /// The lines of a run: one for each task, in the order of their first starts; one for each loss; and a sum.
 ///
 /// Answers `Memory` for want of memory.
-pub fn text_of(alloc: Global, scene: &Scene) -> Result<Lines, Memory> {
+pub fn text_of(alloc: Global, scene: &Scene) -> Result<Lines, Memory>
+    ensures text { IfOk result (λ text. LinesBegin (beginnings (ids scene.now.roll.tasks.items) (losses_view scene.now.losses.items)
+        (length scene.now.runs.items)) text) }
+{
     let mut lines = Lines::new(alloc);
-    for task in &scene.tasks {
-        let line = task_line(alloc, scene, task)?;
-        lines.put(&line)?;
-    }
-    for loss in &scene.losses {
-        let line = loss_line(alloc, scene, loss)?;
-        lines.put(&line)?;
-    }
+    let tasks = scene.roll.tasks.as_slice();
+    put_tasks(alloc, &mut lines, scene, tasks)?;
+    let losses = scene.losses.as_slice();
+    put_losses(alloc, &mut lines, scene, losses)?;
     let line = sum_line(alloc, scene)?;
     lines.put(&line)?;
     Ok(lines)
 }
 
+/// A line more for each of these tasks.
+fn put_tasks(alloc: Global, lines: &mut Lines, scene: &Scene, tasks: &[Task]) -> Result<(), Memory>
+    ensures lines { IfOk result (λ _. (fs : List (List ℕ)) → LinesBegin fs lines.old → LinesBegin (fs ++ map task_begin (ids tasks.now)) lines.new) }
+{
+    for task in tasks {
+        let line = task_line(alloc, scene, task)?;
+        lines.put(&line)?;
+    }
+    Ok(())
+}
+
+/// A line more for each of these losses.
+fn put_losses(
+    alloc: Global,
+    lines: &mut Lines,
+    scene: &Scene,
+    losses: &[Loss],
+) -> Result<(), Memory>
+    ensures lines { IfOk result (λ _. (fs : List (List ℕ)) → LinesBegin fs lines.old
+        → LinesBegin (fs ++ map loss_begin (losses_view losses.now)) lines.new) }
+{
+    for loss in losses {
+        let line = loss_line(alloc, scene, loss)?;
+        lines.put(&line)?;
+    }
+    Ok(())
+}
+
 /// A task, with each of its orders.
-fn task_line(alloc: Global, scene: &Scene, task: &Task) -> Result<Plain, Memory> {
+fn task_line(alloc: Global, scene: &Scene, task: &Task) -> Result<Plain, Memory>
+    ensures begins { IfOk result (Begins (task_begin task.now.id)) }
+{
     let mut line = Plain::new(alloc);
-    say_task(alloc, &mut line, scene, task)?;
+    say_task(alloc, &mut line, &task.id)?;
+    let rest = task_rest(alloc, scene, task)?;
+    line.put_all(&rest)?;
+    Ok(line)
+}
+
+/// The words of a task, and its orders.
+fn task_rest(alloc: Global, scene: &Scene, task: &Task) -> Result<Plain, Memory> {
+    let mut line = Plain::new(alloc);
+    say_words(alloc, &mut line, scene, task)?;
     for (i, place) in task.runs.iter().enumerate() {
         if i >= MOST_TOLD {
             say(&mut line, "; and ")?;
             say_count(
                 &mut line,
-                task.runs.len().saturating_sub(MOST_TOLD),
+                task.runs.len().saturating_sub(MOST_TOLD) as u64,
                 " more start",
                 " more starts",
             )?;
@@ -86,9 +131,9 @@ fn say_outcome(
         Outcome::Made(weights) => {
             say(line, ", made ")?;
             if made > 1 {
-                say_count(line, weights.len(), " object of ", " objects of ")?;
+                say_count(line, weights.len() as u64, " object of ", " objects of ")?;
             }
-            say_count(line, total(weights.as_slice()), " byte", " bytes")
+            say_count(line, total(weights.as_slice()) as u64, " byte", " bytes")
         }
         Outcome::Saved {
             j: _,
@@ -100,7 +145,7 @@ fn say_outcome(
         }
         Outcome::Answer(weight) => {
             say(line, ", shows ")?;
-            say_count(line, *weight, " byte", " bytes")
+            say_count(line, *weight as u64, " byte", " bytes")
         }
         Outcome::Fault(_) => say(line, ", shows a fault"),
         Outcome::Missing { name, loss: _ } => {
@@ -120,7 +165,7 @@ fn say_names(alloc: Global, line: &mut Plain, scene: &Scene, names: &[Name]) -> 
             say(line, " and ")?;
             return say_count(
                 line,
-                names.len().saturating_sub(MOST_TOLD),
+                names.len().saturating_sub(MOST_TOLD) as u64,
                 " more",
                 " more",
             );
@@ -132,12 +177,30 @@ fn say_names(alloc: Global, line: &mut Plain, scene: &Scene, names: &[Name]) -> 
 }
 
 /// A loss, with what it took.
-fn loss_line(alloc: Global, scene: &Scene, loss: &Loss) -> Result<Plain, Memory> {
+fn loss_line(alloc: Global, scene: &Scene, loss: &Loss) -> Result<Plain, Memory>
+    ensures begins { IfOk result (Begins (loss_begin (loss_view loss.now))) }
+{
     let mut line = Plain::new(alloc);
-    say_number(&mut line, "worker ", u64::from(loss.worker))?;
-    say(&mut line, " was lost after ")?;
-    say_ends(&mut line, loss.after)?;
-    say(&mut line, "; it took ")?;
+    say_loss(&mut line, loss)?;
+    let rest = loss_rest(alloc, scene, loss)?;
+    line.put_all(&rest)?;
+    Ok(line)
+}
+
+/// Puts a loss: its worker, and how many started tasks had ended.
+fn say_loss(line: &mut Plain, loss: &Loss) -> Result<(), Memory>
+    ensures said { IfOk result (λ _. line.new ≡ line.old ++ loss_begin (loss_view loss.now)) }
+{
+    say_number(line, "worker ", loss.worker as u64)?;
+    say(line, " was lost after ")?;
+    say_ends(line, loss.after)?;
+    say(line, "; it took ")?;
+    Ok(())
+}
+
+/// What a loss took.
+fn loss_rest(alloc: Global, scene: &Scene, loss: &Loss) -> Result<Plain, Memory> {
+    let mut line = Plain::new(alloc);
     if loss.objects.is_empty() && loss.stacks.is_empty() && loss.runs.is_empty() {
         say(&mut line, "nothing")?;
         return Ok(line);
@@ -147,7 +210,7 @@ fn loss_line(alloc: Global, scene: &Scene, loss: &Loss) -> Result<Plain, Memory>
     }
     if !loss.stacks.is_empty() {
         say(&mut line, if loss.objects.is_empty() { "" } else { "; " })?;
-        say_count(&mut line, loss.stacks.len(), " stack", " stacks")?;
+        say_count(&mut line, loss.stacks.len() as u64, " stack", " stacks")?;
     }
     if !loss.runs.is_empty() {
         say(
@@ -182,22 +245,38 @@ fn total(weights: &[usize]) -> usize {
 }
 
 /// What it all comes to.
-fn sum_line(alloc: Global, scene: &Scene) -> Result<Plain, Memory> {
+fn sum_line(alloc: Global, scene: &Scene) -> Result<Plain, Memory>
+    ensures begins { IfOk result (Begins (sum_begin (length scene.now.runs.items) (length (ids scene.now.roll.tasks.items)))) }
+{
+    let starts = scene.runs.len();
+    let tasks = scene.roll.tasks.len();
+    let mut line = Plain::new(alloc);
+    say_sum(&mut line, starts as u64, tasks as u64)?;
+    let rest = sum_rest(alloc, scene)?;
+    line.put_all(&rest)?;
+    Ok(line)
+}
+
+/// Puts how many starts and tasks there were.
+fn say_sum(line: &mut Plain, starts: u64, tasks: u64) -> Result<(), Memory>
+    ensures said { IfOk result (λ _. line.new ≡ line.old ++ sum_begin starts tasks) }
+{
+    say_count(line, starts, " start", " starts")?;
+    say(line, " of ")?;
+    say_count(line, tasks, " task, ", " tasks, ")?;
+    Ok(())
+}
+
+/// How often a task was begun again, how many losses and copies there were, and how many bytes were made.
+fn sum_rest(alloc: Global, scene: &Scene) -> Result<Plain, Memory> {
     let mut line = Plain::new(alloc);
     let again = scene.runs.iter().filter(|run| run.again).count();
-    say_count(&mut line, scene.runs.len(), " start", " starts")?;
-    say(&mut line, " of ")?;
-    say_count(&mut line, scene.tasks.len(), " task", " tasks")?;
-    say(&mut line, ", ")?;
-    say_count(&mut line, again, " begun again", " begun again")?;
-    say(&mut line, ", ")?;
-    say_count(&mut line, scene.losses.len(), " loss", " losses")?;
-    say(&mut line, ", ")?;
-    say_count(&mut line, scene.copies.len(), " copy", " copies")?;
-    say(&mut line, ", ")?;
+    say_count(&mut line, again as u64, " begun again, ", " begun again, ")?;
+    say_count(&mut line, scene.losses.len() as u64, " loss, ", " losses, ")?;
+    say_count(&mut line, scene.copies.len() as u64, " copy, ", " copies, ")?;
     say_count(
         &mut line,
-        made_bytes(scene.runs.as_slice()),
+        made_bytes(scene.runs.as_slice()) as u64,
         " byte made",
         " bytes made",
     )?;

@@ -1,10 +1,14 @@
 //! Why a task was started: the chain of needs from the result to it, at each of its starts.
 
+ghost use Rattle.std.specs.Prelude.{◌≡◌, IfOk, is_some};
+ghost use Rattle.ciel_look_tasks.specs.View.{ids};
+ghost use Rattle.ciel_look_text.specs.Asked.{any_has, begins_with, has_digits};
+
 use crate::label::{say, say_ends, say_name, say_number};
 use crate::replay::{Replay, first_known, push};
 use ciel_look_shown::lines::Lines;
 use ciel_look_shown::plain::Plain;
-use ciel_look_tasks::scene::{Happening, Loss, Run, Scene};
+use ciel_look_tasks::scene::{Happening, Loss, Run, Scene, Task};
 use sky_base::name::Name;
 use sky_base::object::TaskId;
 use sky_base::text::{Memory, Txt};
@@ -22,8 +26,10 @@ struct Need {
 /// there are several.
 ///
 /// Answers `Memory` for want of memory.
-pub fn why_of(alloc: Global, scene: &Scene, digits: &Txt) -> Result<Option<Lines>, Memory> {
-    match find_task(alloc, scene, digits)? {
+pub fn why_of(alloc: Global, scene: &Scene, digits: &Txt) -> Result<Option<Lines>, Memory>
+    ensures found { IfOk result (λ found. is_some found ≡ any_has digits.now (ids scene.now.roll.tasks.items)) }
+{
+    match find_task(alloc, scene.roll.tasks.as_slice(), digits)? {
         Some(task) => {
             let lines = why_task(alloc, scene, task)?;
             Ok(Some(lines))
@@ -32,26 +38,39 @@ pub fn why_of(alloc: Global, scene: &Scene, digits: &Txt) -> Result<Option<Lines
     }
 }
 
-/// The place of the first task whose text begins so.
-fn find_task(alloc: Global, scene: &Scene, digits: &Txt) -> Result<Option<usize>, Memory> {
-    for (place, task) in scene.tasks.iter().enumerate() {
-        if begins(alloc, &task.id, digits)? {
+/// The place of the first task that is asked for by these digits.
+fn find_task(alloc: Global, tasks: &[Task], digits: &Txt) -> Result<Option<usize>, Memory>
+    ensures found { IfOk result (λ found. is_some found ≡ any_has digits.now (ids tasks.now)) }
+{
+    for (place, task) in tasks.iter().enumerate() {
+        let found = is_asked(alloc, &task.id, digits)?;
+        if found {
             return Ok(Some(place));
         }
     }
     Ok(None)
 }
 
-fn begins(alloc: Global, id: &TaskId, digits: &Txt) -> Result<bool, Memory> {
+/// Whether a task is asked for by these digits.
+fn is_asked(alloc: Global, id: &TaskId, digits: &Txt) -> Result<bool, Memory>
+    ensures { IfOk result (λ is. is ≡ has_digits digits.now id.now) }
+{
     match id {
         TaskId::Show => Ok(digits.as_str() == "show"),
         TaskId::Of(name) => {
             let Ok(text) = hex::encode(alloc, name.bytes()) else {
                 return Err(Memory);
             };
-            Ok(!digits.is_empty() && text.as_bytes().starts_with(digits.as_str().as_bytes()))
+            Ok(begins_with(digits.as_str().as_bytes(), text.as_str().as_bytes()))
         }
     }
+}
+
+/// Whether a text begins so.
+fn begins_with(part: &[u8], text: &[u8]) -> bool
+    ensures { result ≡ begins_with part.now text.now }
+{
+    0 < part.len() && text.starts_with(part)
 }
 
 /// A line for each start of the task, and for each loss that took what it had made.
@@ -127,7 +146,7 @@ fn say_chain(
 }
 
 fn is_root(scene: &Scene, task: usize) -> bool {
-    match scene.tasks.get(task) {
+    match scene.roll.tasks.get(task) {
         Some(held) => matches!(held.id, TaskId::Show),
         None => false,
     }
@@ -143,7 +162,7 @@ fn chain_to(
     let parents = search(alloc, scene, replay, task)?;
     let mut chain = Vec::new(alloc);
     let mut at = task;
-    for _step in 0..scene.tasks.len() {
+    for _step in 0..scene.roll.tasks.len() {
         let Some(need) = parents.get(&at) else {
             return Ok(chain);
         };
@@ -176,7 +195,7 @@ fn search(
     };
     let first = root_needs(alloc, scene, replay)?;
     reach(scene, replay, None, first.as_slice(), &mut reached)?;
-    for i in 0..scene.tasks.len() {
+    for i in 0..scene.roll.tasks.len() {
         let Some(from) = reached.queue.get(i).copied() else {
             return Ok(reached.parents);
         };
@@ -191,8 +210,8 @@ fn search(
 
 /// What the root task waits for: the main call, before it has started.
 fn root_needs(alloc: Global, scene: &Scene, replay: &Replay) -> Result<Vec<Name>, Memory> {
-    match scene.task_at.get(&TaskId::Show) {
-        Some(place) => replay.needs(alloc, scene, *place),
+    match scene.roll.place(&TaskId::Show) {
+        Some(place) => replay.needs(alloc, scene, place),
         None => first_known(alloc, scene),
     }
 }
@@ -212,7 +231,7 @@ fn reach(
         let Some(known) = scene.find(name) else {
             continue;
         };
-        let Some(to) = scene.task_at.get(&known.task).copied() else {
+        let Some(to) = scene.roll.place(&known.task) else {
             continue;
         };
         if reached.parents.contains_key(&to) {
@@ -278,7 +297,7 @@ fn takes_of(scene: &Scene, loss: &Loss, task: usize) -> bool {
     if loss.stacks.contains(&task) {
         return true;
     }
-    let Some(held) = scene.tasks.get(task) else {
+    let Some(held) = scene.roll.tasks.get(task) else {
         return false;
     };
     for name in &loss.objects {

@@ -23,8 +23,8 @@ pub returns-in-Some-clause-wrote : goal.returns-in-Some-clause-wrote
 returns-in-Some-clause-wrote g c =
     let e : line_of c.args.words.now ≡ Some (line_view c.in-Some.line) = rw c.in-Some.is at c.in-Ok.ensures in
     subst (λ o. MatchOption o (g.O.Sink.written c.look_at.new.out ≡ g.O.Sink.written c.args.out.now) (λ l.
-    Wrote (g.O.Sink.written c.args.out.now) (g.O.Sink.written c.look_at.new.out) (g.O.Sink.faults c.args.out.now)
-    (g.O.Sink.faults c.look_at.new.out) l.1 c.look_at.result)) (sym e) c.look_at.ensures.wrote
+    Wrote (g.F.Files.content c.args.files.now l.0) (g.O.Sink.written c.args.out.now) (g.O.Sink.written c.look_at.new.out)
+    (g.O.Sink.faults c.args.out.now) (g.O.Sink.faults c.look_at.new.out) l.1 c.look_at.result)) (sym e) c.look_at.ensures.wrote
 
 pub returns-in-None-clause-because : goal.returns-in-None-clause-because
 returns-in-None-clause-because g c =
@@ -36,5 +36,6 @@ pub returns-in-None-clause-wrote : goal.returns-in-None-clause-wrote
 returns-in-None-clause-wrote g c =
     let e : line_of c.args.words.now ≡ None = rw c.in-None.is at c.in-Ok.ensures in
     subst (λ o. MatchOption o (g.O.Sink.written c.args.out.now ≡ g.O.Sink.written c.args.out.now) (λ l.
-    Wrote (g.O.Sink.written c.args.out.now) (g.O.Sink.written c.args.out.now) (g.O.Sink.faults c.args.out.now) (g.O.Sink.faults c.args.out.now)
+    Wrote (g.F.Files.content c.args.files.now l.0) (g.O.Sink.written c.args.out.now) (g.O.Sink.written c.args.out.now)
+    (g.O.Sink.faults c.args.out.now) (g.O.Sink.faults c.args.out.now)
     l.1 Why.Usage)) (sym e) refl

@@ -4,6 +4,9 @@ use Rattle.ciel_look_told.specs.Head.{Head}
 use Rattle.ciel_look_told.specs.Told.{Told}
 use Rattle.ciel_look_told.specs.View.{head_view, told_view}
 use Rattle.ciel_look_story.specs.Story.{Tells}
+use Rattle.ciel_look_run.specs.Ends.{told_parts}
+use Rattle.ciel_look_run.specs.View.{parts_of}
+use Rattle.ciel_look_run.proofs.SceneParts.{parts_told}
 use Rattle.ciel_look_run.proofs.EndLemmas.{of_file, unread, unread_writes_nothing, untold, untold_writes_nothing}
 use Rattle.ciel_look_run.proofs.look.read_scene.Goals as goal
 
@@ -30,8 +33,12 @@ returns-in-Err-read_story-clause-unwritten g c =
 pub returns-in-Ok-scene_of-clause-story : goal.returns-in-Ok-scene_of-clause-story
 returns-in-Ok-scene_of-clause-story g c =
     let s = c.in-Ok-read_story.story in
+    let told : List Told = map told_view s.told.items in
     let content : Option (List ℕ) = g.F.Files.content c.args.files.now c.args.path.now in
     let found : IfSome content (λ file. c.as_slice.result.now ≡ file) =
     subst (λ b. IfSome content (λ file. b ≡ file)) (sym c.as_slice.ensures) c.in-Ok.ensures.found in
-    of_file content c.as_slice.result.now (λ log. (head : Head) × (ts : List Told) × Tells log head ts) found
-    (head_view s.header, map told_view s.told.items, c.in-Ok-read_story.ensures.told)
+    let same : parts_of c.in-Ok-scene_of.scene ≡ told_parts told =
+    parts_told c.in-Ok-scene_of.scene told c.in-Ok-scene_of.ensures.tasks c.in-Ok-scene_of.ensures.starts c.in-Ok-scene_of.ensures.losses in
+    of_file content c.as_slice.result.now
+    (λ log. (head : Head) × (ts : List Told) × Tells log head ts × (parts_of c.in-Ok-scene_of.scene ≡ told_parts ts))
+    found (head_view s.header, told, c.in-Ok-read_story.ensures.told, same)
