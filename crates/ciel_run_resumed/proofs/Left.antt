@@ -13,7 +13,7 @@ use Rattle.ciel_journal.specs.Entries.{Entry}
 use Rattle.ciel_journal.specs.History.{Plan}
 use Rattle.ciel_journal.specs.Job.{Digest, In, Task}
 use Rattle.ciel_journal.specs.Turns.{draw}
-use Rattle.ciel_log_file.specs.Replays.{At, EndsBy, HasReplayed, LosesDue, Replays, ReplaysTo, Takes, TakesBehind, over, takes}
+use Rattle.ciel_log_file.specs.Replays.{At, EndsBy, HasReplayed, LosesDue, ReplaysRecords, ReplaysTo, TakesRecord, TakesBehind, over, takes}
 use Rattle.ciel_log_file.specs.Replays as rs
 use Rattle.ciel_log_file.specs.Sending.{CanSend, nobody, sent_to}
 use Rattle.ciel_log_replay.specs.Steps.{HasStarted, IsNextStart, LostBy, loses, stays, while_out}
@@ -367,7 +367,7 @@ module _ (digest : List ℕ → List ℕ) (shelves : ShelvesSeen) (sc : Script) 
       (closed_inv b.board b.out k t.worker t.order t.is.there (accepted digest worker_of b.board (out_view t.order) r.spawned.items (report_end r))
       (closed_by digest b.board (out_view t.order) r.spawned.items (report_end r)))
 
-  takes_inv : (b c : At) (bytes : List ℕ) → Takes digest shelves sc b bytes c → InvAt b → InvAt c
+  takes_inv : (b c : At) (bytes : List ℕ) → TakesRecord digest shelves sc b bytes c → InvAt b → InvAt c
   takes_inv b c bytes (rs.starts number worker from task data_of is next begun same) k =
       subst (λ (x : Board P × List (Option Order)). Inv x.0 x.1) (λ i. (sym begun.board i, sym begun.listed i))
       (start_inv b.board b.out k task worker begun.order (draw b.board.plan.seed (2 * b.board.starts + 1) % length (idle_of b.board)) next.picked.worker
@@ -376,7 +376,7 @@ module _ (digest : List ℕ → List ℕ) (shelves : ShelvesSeen) (sc : Script) 
   takes_inv b c bytes (rs.passes logged data_of is none) k = k
   takes_inv b c bytes (rs.drops number data_of is none) k = k
 
-  replays_inv : (a c : At) (records : List (List ℕ)) → Replays digest shelves sc a records c → InvAt a → InvAt c
+  replays_inv : (a c : At) (records : List (List ℕ)) → ReplaysRecords digest shelves sc a records c → InvAt a → InvAt c
   replays_inv a c [] over k = k
   replays_inv a c (x ∷ xs) (takes {c = b} t more) k =
       replays_inv b c xs more (takes_inv t.0 b x t.2 (due_inv a t.0 t.1 k))
