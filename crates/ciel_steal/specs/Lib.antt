@@ -1,0 +1,1 @@
+pub use Rattle.ciel_crew_work.specs.Onward
