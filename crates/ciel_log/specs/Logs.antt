@@ -1,5 +1,5 @@
 -- The logs of a journal: which bytes tell a run's history.
-use Rattle.std.specs.Prelude.{◌≡◌, ◌<◌, ◌^◌, ◌+◌, ◌⊎◌, ℕ, List, [], ◌∷◌, ◌++◌, Option, Some, None, IfSome, length, map, take}
+use Rattle.std.specs.Prelude.{◌≡◌, ◌<◌, ◌^◌, ◌+◌, ◌⊎◌, ℕ, false, List, [], ◌∷◌, ◌++◌, Option, Some, None, IfSome, length, map, take}
 use Rattle.std.specs.List.{flat_map}
 use Rattle.sky_base.specs.KitView.{Gives}
 use Rattle.sky_base.specs.Needed as n
@@ -72,11 +72,11 @@ module _ (digest : List ℕ → List ℕ) (job : s.Job) (gives : Gives) where
     RecordOf (missed k d loss) bytes = bytes ≡ report_record k [] [] (HowEnded.missing (J.name d) loss)
     RecordOf (lost w closes) bytes = ⊥
 
-    -- no Start of this number, which has at most eight bytes, is open there
+    -- no Start of this number, which has at most eight bytes, is open there, and the run goes on
     abbrev pub IsFree : ℕ → Type 0
-    IsFree k = (k < 2 ^ 64) × (find_open J k (standing J past).orders ≡ None)
+    IsFree k = (k < 2 ^ 64) × (find_open J k (standing J past).orders ≡ None) × ((standing J past).over ≡ false)
 
-    -- a report, or a dropped one, of no open Start
+    -- a report, or a dropped one, of no open Start, before the run's end
     pub data Idle : List ℕ → Type 0 where
       reported : (k : ℕ) → IsFree k → (spawned : List (Desc (List ℕ))) (copied : List (List ℕ)) (how : HowEnded)
           → Idle (report_record k spawned copied how)

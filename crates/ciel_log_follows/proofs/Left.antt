@@ -1,9 +1,10 @@
 -- What is left of a log behind its first records.
-use Rattle.std.proofs.Common.{◌≡◌, ℕ, List, [], ◌∷◌, ◌++◌, drop, None, sym, ◌∙◌, subst, append_assoc}
+use Rattle.std.proofs.Common.{◌≡◌, ℕ, List, [], ◌∷◌, ◌++◌, drop, None, false, sym, ◌∙◌, subst, append_assoc}
 use Rattle.sky_base.specs.KitView.{Gives}
 use Rattle.sky_base.specs.See as s
-use Rattle.ciel_journal.specs.History.{Event, find_open, lost, standing}
+use Rattle.ciel_journal.specs.History.{Event, Standing, before_all, find_open, lost, standing}
 use Rattle.ciel_journal.specs.Job.{IsPrefix, Job}
+use Rattle.ciel_journal.proofs.Append.{after_append}
 use Rattle.ciel_log.specs.Logs as logs
 use Rattle.ciel_log.specs.Logs.{Idle, RecordOf, Records}
 use Rattle.ciel_log_follows.specs.Begins.{AllReadable, ReadsEvent, ReadsIdle}
@@ -26,15 +27,21 @@ module _ (digest : List ℕ → List ℕ) (job : s.Job) (gives : Gives) where
   abbrev pub StaysFree : List (Event s.Desc) → List (Event s.Desc) → Type 0
   StaysFree g h = (k : ℕ) → find_open J k (standing J g).orders ≡ None → find_open J k (standing J h).orders ≡ None
 
-  idle_on : (g h : List (Event s.Desc)) → StaysFree g h → (bytes : List ℕ) → Idle digest job gives g bytes → Idle digest job gives h bytes
-  idle_on g h f bytes (logs.reported k free spawned copied how) = logs.reported k (free.0, f k free.1) spawned copied how
-  idle_on g h f bytes (logs.dropped k free) = logs.dropped k (free.0, f k free.1)
+  module _ (past : List (Event s.Desc)) (w closes : ℕ) (f : StaysFree past (past ++ lost w closes ∷ [])) where
+    -- and a run goes on behind one
+    goes_on : (standing J past).over ≡ false → (standing J (past ++ lost w closes ∷ [])).over ≡ false
+    goes_on h =
+        subst (λ (v : Standing s.Desc). v.over ≡ false) (sym (after_append J (before_all J) past (lost w closes))) h
 
-  reads_on : (g h : List (Event s.Desc)) (f : StaysFree g h) (bytes : List ℕ) (i : Idle digest job gives g bytes) → ReadsIdle digest job gives g bytes i
-      → ReadsIdle digest job gives h bytes (idle_on g h f bytes i)
-  unfolding idle_on
-  reads_on g h f bytes (logs.reported k free spawned copied how) r = r
-  reads_on g h f bytes (logs.dropped k free) r = r
+    idle_on : (bytes : List ℕ) → Idle digest job gives past bytes → Idle digest job gives (past ++ lost w closes ∷ []) bytes
+    idle_on bytes (logs.reported k free spawned copied how) = logs.reported k (free.0, f k free.1, goes_on free.2) spawned copied how
+    idle_on bytes (logs.dropped k free) = logs.dropped k (free.0, f k free.1, goes_on free.2)
+
+    reads_on : (bytes : List ℕ) (i : Idle digest job gives past bytes) → ReadsIdle digest job gives past bytes i
+        → ReadsIdle digest job gives (past ++ lost w closes ∷ []) bytes (idle_on bytes i)
+    unfolding idle_on
+    reads_on bytes (logs.reported k free spawned copied how) r = r
+    reads_on bytes (logs.dropped k free) r = r
 
   -- records of events that can all be read
   pub record ReadLog (past es : List (Event s.Desc)) (bytes : List ℕ) : Type 0 where
@@ -47,8 +54,8 @@ module _ (digest : List ℕ → List ℕ) (job : s.Job) (gives : Gives) where
   lose_first past es w closes rest f (logs.idle bytes i more) a =
       let n = lose_first past es w closes _ f more a.2 in
       record {
-        records = logs.idle bytes (idle_on past (past ++ lost w closes ∷ []) f bytes i) n.records;
-        read = (a.0, reads_on past (past ++ lost w closes ∷ []) f bytes i a.1, n.read);
+        records = logs.idle bytes (idle_on past w closes f bytes i) n.records;
+        read = (a.0, reads_on past w closes f bytes i a.1, n.read);
       }
   lose_first past es w closes rest f (logs.loses v n more) a = record { records = more; read = a }
   lose_first past es w closes rest f (logs.tells e bytes r more) a = absurd r
@@ -60,8 +67,8 @@ module _ (digest : List ℕ → List ℕ) (job : s.Job) (gives : Gives) where
   lose_last past w closes rest f (logs.idle bytes i more) a =
       let n = lose_last past w closes _ f more a.2 in
       record {
-        records = logs.idle bytes (idle_on past (past ++ lost w closes ∷ []) f bytes i) n.records;
-        read = (a.0, reads_on past (past ++ lost w closes ∷ []) f bytes i a.1, n.read);
+        records = logs.idle bytes (idle_on past w closes f bytes i) n.records;
+        read = (a.0, reads_on past w closes f bytes i a.1, n.read);
       }
 
   -- ---- the record that stands there

@@ -1,7 +1,8 @@
 -- A log at a place: which records of a history stand before it, and which are left behind it.
-use Rattle.std.proofs.Common.{◌≡◌, ◌+◌, ℕ, List, [], ◌∷◌, ◌++◌, drop, length, take, refl, ap, sym, ◌∙◌, subst, arith, append_assoc}
+use Rattle.std.proofs.Common.{◌≡◌, ◌+◌, ℕ, List, [], ◌∷◌, ◌++◌, drop, length, take, true, false, refl, ap, sym, ◌∙◌, subst, arith, append_assoc}
 use Rattle.std.proofs.Common.{length-append, take-append-drop}
 use Rattle.std.proofs.Math.Seq.{take-append_seam}
+use Rattle.std.proofs.lemmas.Bool.{false≢true}
 use Rattle.std.proofs.lemmas.List.{append-nil, length-take-le}
 use Rattle.sky_base.specs.KitView.{Gives}
 use Rattle.sky_base.specs.Name.{big_endian}
@@ -10,7 +11,7 @@ use Rattle.ciel_journal.specs.Entries.{Entry, journal_of}
 use Rattle.ciel_journal.specs.History.{Event, Plan, before_all, lost, standing}
 use Rattle.ciel_journal.specs.Job.{IsPrefix, Job}
 use Rattle.ciel_journal.specs.Lawful.{Step}
-use Rattle.ciel_journal.specs.Turns.{Driven, Turn}
+use Rattle.ciel_journal.specs.Turns.{Driven, DrivenFrom, Turn}
 use Rattle.ciel_journal.proofs.Append.{driven_split}
 use Rattle.ciel_log.specs.Logs as logs
 use Rattle.ciel_log.specs.Logs.{Idle, Logs, RecordOf, Records}
@@ -74,6 +75,11 @@ module _ (digest : List ℕ → List ℕ) (job : s.Job) (gives : Gives) where
   told_joined h e before bytes r of =
       subst (λ z. Rs [] (h ++ e ∷ []) (before ++ z)) (append-nil (in_file bytes))
       (records_join r (e ∷ []) (in_file bytes ++ []) (logs.tells e bytes of logs.over))
+
+  -- no idle record stands behind the end of a run
+  idle_going : (h : List (Event s.Desc)) (bytes : List ℕ) → Idle digest job gives h bytes → (standing J h).over ≡ false
+  idle_going h bytes (logs.reported k free spawned copied how) = free.2
+  idle_going h bytes (logs.dropped k free) = free.2
 
   module _ (p : Plan) (header log : List ℕ) where
     -- behind these first events: the records of the log up to this place are theirs, and what comes then begins those of events that are left,
@@ -195,3 +201,14 @@ module _ (digest : List ℕ → List ℕ) (job : s.Job) (gives : Gives) where
             })
         pick (x ∷ es) (left.loses w closes) d =
             let now = (driven_split J p (before_all J) h (lost w closes ∷ es) d).1 in loses w closes now.1
+
+    -- behind the end of the run there is none
+    pub none_behind : (h : List (Event s.Desc)) (at : ℕ) (bytes : List ℕ) (next : ℕ) → RecordAt log at bytes next → LogAt h at
+        → (standing J h).over ≡ true → ⊥
+    none_behind h at bytes next r l over =
+        pick l.events (next_is digest job gives log at bytes next r h l.events l.rest l.left.records l.left.read l.prefix)
+        (driven_split J p (before_all J) h l.events l.driven).1
+      where
+        pick : (es : List (Event s.Desc)) → NextIs digest job gives h bytes (drop next log) es → DrivenFrom J p (standing J h) es → ⊥
+        pick [] (left.idles i reads rest more p_) d = false≢true (sym (idle_going h bytes i) ∙ over)
+        pick (e ∷ es) n d = let going = d.0.going in false≢true (sym going ∙ over)

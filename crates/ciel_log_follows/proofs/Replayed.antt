@@ -18,6 +18,7 @@ use Rattle.ciel_log_file.specs.Replays as rp
 use Rattle.ciel_log_file.specs.Replays.{At, HasReplayed, ReplaysRecords, ReplaysTo, TakesRecord}
 use Rattle.ciel_log_file.specs.Sending.{nobody, sent_to}
 use Rattle.ciel_log_file.specs.Whole.{RecordsTo}
+use Rattle.ciel_log_file.proofs.Places.{nobody_at}
 use Rattle.ciel_log_follows.specs.Begins.{BeginsLog}
 use Rattle.ciel_log_follows.specs.Follows.{IsAtFirst, ReplaysAreEnded, ReplaysAreKept, ReplaysAreTold}
 use Rattle.ciel_log_follows.proofs.LogAt.{log_first, told_whole}
@@ -41,7 +42,6 @@ use Rattle.ciel_master_law.specs.Ends.{IsOrderly}
 use Rattle.ciel_run_drive.specs.Ended.{Because, Ended, Shows}
 use Rattle.ciel_run_drive.specs.Kept.{Kept, slots_of}
 use Rattle.ciel_table.specs.declared.refusal.Learn.{Learn}
-use Rattle.ciel_task_crew.specs.Crews.{order_at}
 use Rattle.ciel_task_order.specs.Performs.{the_shop}
 use Rattle.ciel_task_order.specs.Shop.{Block}
 use Rattle.ciel_task_order.specs.Views.{P}
@@ -61,12 +61,6 @@ records_split log (y ∷ ys) x at to r =
 no_events : {D : Type 0} (job : Job D) (h : List (Event D)) → journal_of job h ≡ [] → h ≡ []
 no_events job [] e = refl
 no_events job (x ∷ xs) e = cc
-
--- nobody has an order
-pub nobody_at : (n w : ℕ) (x : Order) → order_at (nobody n) w ≡ Some x → ⊥
-nobody_at zero w x e = cc
-nobody_at (suc n) zero x e = cc
-nobody_at (suc n) (suc w) x e = nobody_at n w x e
 
 module _ {K N : Type 0} (gives : K → Gives) (digest : N → List ℕ → List ℕ) (shop_ : Shop K N) (m : MasterSeen N) (header log : List ℕ)
     (orderly : IsOrderly (digest shop_.namer) (job_view shop_.job) (gives shop_.kit)) where

@@ -7,7 +7,6 @@ use Rattle.sky_base.specs.ObjectView.{desc_view}
 use Rattle.sky_base.specs.See as s
 use Rattle.sky_base.specs.Val.{Desc}
 use Rattle.sky_base.specs.declared.object.Object.{Object}
-use Rattle.sky_base.specs.declared.object.TaskId.{TaskId}
 use Rattle.sky_frozen_bytes.specs.Bytes.{frozen_bytes}
 use Rattle.sky_frozen_bytes.specs.Spelled.{StandSpelled}
 use Rattle.ciel_journal.specs.Entries.{low_names}
@@ -23,6 +22,7 @@ use Rattle.ciel_log_follows.specs.Begins.{ReadsEvent}
 use Rattle.ciel_log_follows.specs.Keeping.{KeepsObjects}
 use Rattle.ciel_log_follows.proofs.Closes.{Closes, views_of}
 use Rattle.ciel_log_follows.proofs.Ended.{ends}
+use Rattle.ciel_log_follows.proofs.Steps.{not_started}
 use Rattle.ciel_log_follows.proofs.Stopped.{missed_closes, saved_closes}
 use Rattle.ciel_log_read.specs.Recorded as read
 use Rattle.ciel_log_read.specs.Recorded.{IsRecord, record_bytes, started}
@@ -69,17 +69,13 @@ same_reports k l ds es ns ms a b e =
     let t : a ≡ b = cc in
     record { numbers = p; spawned = q; copied = r; ends = t }
 
-no_start : (k w from : ℕ) (task : TaskId) (l : ℕ) (ds : List (Desc (List ℕ))) (ns : List (List ℕ)) (a : HowEnded)
-    → read.reported l ds ns a ≡ started k w from task → ⊥
-no_start k w from task l ds ns a e = cc
-
 -- ends that are of a kind
-same_saved : (j i : ℕ) (x y : List ℕ) → HowEnded.saved j x ≡ HowEnded.saved i y → (j ≡ i) × (x ≡ y)
+pub same_saved : (j i : ℕ) (x y : List ℕ) → HowEnded.saved j x ≡ HowEnded.saved i y → (j ≡ i) × (x ≡ y)
 same_saved j i x y e =
     let p : j ≡ i = cc in
     let q : x ≡ y = cc in (p, q)
 
-same_missing : (a b : List ℕ) (i j : ℕ) → HowEnded.missing a i ≡ HowEnded.missing b j → (a ≡ b) × (i ≡ j)
+pub same_missing : (a b : List ℕ) (i j : ℕ) → HowEnded.missing a i ≡ HowEnded.missing b j → (a ≡ b) × (i ≡ j)
 same_missing a b i j e =
     let p : a ≡ b = cc in
     let q : i ≡ j = cc in (p, q)
@@ -168,7 +164,7 @@ module _ (digest : List ℕ → List ℕ) (job : s.Job) (gives : Gives) (orderly
     pub closes : (e : Event s.Desc) → Step S.job b.plan v e → (rec : RecordOf digest job gives h e bytes) → ReadsEvent digest job gives h e bytes rec
         → After e logged.end
     closes (start k w t from) step rec reads =
-        absurd (no_start k w from (task_id S.job t) logged.number (map desc_view logged.spawned.items) names (end_view logged.end)
+        absurd (not_started logged k w from (task_id S.job t)
         (one_record (report_view logged) (started k w from (task_id S.job t)) readable reads (spelled ∙ rec)))
     closes (lost w n) step rec reads = absurd rec
     closes (done k made copied spawned) step rec reads =

@@ -12,7 +12,6 @@ use Rattle.ciel_journal.specs.Job.{Digest}
 use Rattle.ciel_journal.specs.Lawful.{Step}
 use Rattle.ciel_journal.specs.Turns.{Driven, Turn, state_after}
 use Rattle.ciel_journal.proofs.Append.{driven_append}
-use Rattle.ciel_log.specs.Logs as logs
 use Rattle.ciel_log.specs.Logs.{Idle}
 use Rattle.ciel_log_file.specs.Replays.{At}
 use Rattle.ciel_log_fits.specs.Known.{AfterSeen}
@@ -24,14 +23,12 @@ use Rattle.ciel_log_follows.proofs.LogAt as log_at
 use Rattle.ciel_log_follows.proofs.LogAt.{LogAt, NextAt}
 use Rattle.ciel_log_follows.proofs.Reported.{closes}
 use Rattle.ciel_log_follows.proofs.RunAt.{RunAt, goes_stay, rows_stay}
-use Rattle.ciel_log_follows.proofs.Steps.{Stands, comes, found_none, not_lost, same_number, step_here, turn_here}
+use Rattle.ciel_log_follows.proofs.Steps.{Stands, comes, idle_reports, not_lost, step_here, turn_here}
 use Rattle.ciel_log_read.specs.File.{RecordAt}
-use Rattle.ciel_log_read.specs.Recorded as read
-use Rattle.ciel_log_read.specs.Recorded.{IsRecord, dropped, record_bytes}
+use Rattle.ciel_log_read.specs.Recorded.{IsRecord, record_bytes}
 use Rattle.ciel_log_read.specs.View.{report_view}
 use Rattle.ciel_log_read.specs.declared.record.LoggedEnd.{LoggedEnd}
 use Rattle.ciel_log_read.specs.declared.record.LoggedReport.{LoggedReport}
-use Rattle.ciel_log_read.proofs.Records.{one_record}
 use Rattle.ciel_log_replay.specs.Between.{AllOut, Between}
 use Rattle.ciel_log_report.specs.Comes.{KeepsOutputs, ReportIs}
 use Rattle.ciel_log_report.specs.Ends.{IsEndOf}
@@ -147,13 +144,10 @@ module _ {K N : Type 0} (gives : K → Gives) (digest : N → List ℕ → List 
   abbrev pub After : Event s.Desc → Type 0
   After e = Closes D J G h b.board order b.kept r e logged.end
 
-  idle_told : (z : List ℕ) → record_bytes (report_view logged) ≡ z → (i : Idle D J G h z) → ReadsIdle D J G h z i → ⊥
-  idle_told z e (logs.reported k free spawned copied how) reads =
-      let same = same_number logged k spawned copied how
-      (one_record (report_view logged) (read.reported k spawned copied how) readable reads e) in
-      found_none out_is.start (sym out_is.is_open ∙ subst (λ n. find_open S.job n v.orders ≡ None) (same ∙ sym is.number) free.1)
-  idle_told z e (logs.dropped k free) reads =
-      let same = one_record (report_view logged) (dropped k) readable free.0 e in cc
+  idle_told : (i : Idle D J G h bytes) → ReadsIdle D J G h bytes i → ⊥
+  idle_told i reads =
+      idle_reports gives digest shop_ m header log orderly b at x bytes next there logged readable out_is.start
+      (subst (λ n. find_open S.job n v.orders ≡ Some out_is.start) is.number out_is.is_open) bytes spelled i reads
 
   -- it comes now, and the log stands behind it then
   pub record Next : Type 0 where
@@ -167,7 +161,7 @@ module _ {K N : Type 0} (gives : K → Gives) (digest : N → List ℕ → List 
   next_told = pick (comes gives digest shop_ m header log orderly b at x bytes next there)
     where
       pick : NextAt D J G m.board.plan header log h bytes next → Next
-      pick (log_at.idles i reads l) = absurd (idle_told bytes spelled i reads)
+      pick (log_at.idles i reads l) = absurd (idle_told i reads)
       pick (log_at.loses w n turn) =
           absurd (not_lost gives digest shop_ m header log orderly b at x bytes next there is.rests.0 w n turn)
       pick (log_at.tells e rec reads step turn l) =

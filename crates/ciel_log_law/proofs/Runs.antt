@@ -240,7 +240,7 @@ module _ {K N R : Type 0} (gives : K → Gives) (digest : N → List ℕ → Lis
       Closed past = logs.IsFree D J G past r.number
 
       closed : Closed h
-      closed = subst Closed thrown_past (x.number, x.closed)
+      closed = subst Closed thrown_past (x.number, x.closed, x.going)
 
       thrown_ok : (was now : _) (y : List ℕ) → IsRecordOf r was now y → Fine D J G h es h es y ⊎ IsDropped D J G y
       thrown_ok was now y (whole how so made same) =

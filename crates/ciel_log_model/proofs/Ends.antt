@@ -20,6 +20,7 @@ use Rattle.ciel_log.specs.Logs.{IsDone, IsObjectOf}
 use Rattle.ciel_log_fits.specs.Known.{AfterSeen}
 use Rattle.ciel_log_fits.proofs.Learned.{known_is}
 use Rattle.ciel_log_follows.specs.Keeping.{KeepsObjects}
+use Rattle.ciel_log_follows.proofs.Told.{marked_names}
 use Rattle.ciel_log_read.specs.View.{end_view}
 use Rattle.ciel_log_read.specs.declared.record.LoggedEnd.{LoggedEnd}
 use Rattle.ciel_log_records.specs.Records.{HowEnded}
@@ -44,7 +45,7 @@ use Rattle.ciel_log_model.proofs.Books.{J, S, Tells, is}
 use Rattle.ciel_log_model.proofs.Closed.{copy_passes, open_needed, output_passes}
 use Rattle.ciel_log_model.proofs.Copies.{copied_booked, copies_distinct, copies_elsewhere, copies_made}
 use Rattle.ciel_log_model.proofs.Made as made_there
-use Rattle.ciel_log_model.proofs.Outputs.{marked_names, outputs_count, outputs_sound}
+use Rattle.ciel_log_model.proofs.Outputs.{outputs_count, outputs_sound}
 
 -- what has a row once some are learned has one whatever gives the names
 pub any_names : (digest other : List ℕ → List ℕ) (ns : List Named) (t : TableSeen P) (xs : List Digest) → AllKnown (learned_all digest ns t) xs

@@ -11,9 +11,10 @@ use Rattle.ciel_journal.proofs.Numbers.{found_in}
 use Rattle.ciel_journal.proofs.Published.{in_split, lawful_step}
 use Rattle.ciel_journal.proofs.Started.{started}
 use Rattle.ciel_master_law.specs.Ends.{IsOrderly}
+use Rattle.ciel_log_follows.proofs.Told.{marked_names}
 use Rattle.ciel_log_model.proofs.Books.{J, is}
 use Rattle.ciel_log_model.proofs.Had.{MadeAt}
-use Rattle.ciel_log_model.proofs.Outputs.{marked_names, outputs_sound}
+use Rattle.ciel_log_model.proofs.Outputs.{outputs_sound}
 
 module _ (digest : List ℕ → List ℕ) (job : s.Job) (gives : Gives) (orderly : IsOrderly digest job gives) (p : Plan) where
   abbrev the : Job s.Desc

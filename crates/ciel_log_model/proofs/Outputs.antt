@@ -1,5 +1,5 @@
 -- The outputs of a task of the job: as many as the description of its order says, each allowed by the job; and the tasks that can wait.
-use Rattle.std.proofs.Common.{◌≡◌, ◌+◌, ℕ, zero, suc, List, [], ◌∷◌, Bool, true, false, Option, Some, None, length, ◌⊎◌, inl, inr, nat_lt, arith}
+use Rattle.std.proofs.Common.{◌≡◌, ◌+◌, ℕ, zero, suc, List, Bool, true, false, Option, Some, None, length, ◌⊎◌, inl, inr, nat_lt, arith}
 use Rattle.std.proofs.Common.{refl, sym, ap, ◌∙◌, subst}
 use Rattle.sky_base.specs.Eval.{outputs}
 use Rattle.sky_base.specs.KitView.{Gives}
@@ -11,9 +11,7 @@ use Rattle.sky_base.specs.declared.object.Desc1.{Desc1}
 use Rattle.sky_base_law.specs.Sound.{SoundDesc, SoundTask}
 use Rattle.sky_base_law.specs.Tasks as t
 use Rattle.sky_base_law.proofs.SoundJobs.{needed_sound}
-use Rattle.ciel_journal.specs.History.{names_of}
-use Rattle.ciel_journal.specs.Job.{Digest, In, Job, Needed, Task, of, show}
-use Rattle.ciel_journal.specs.Lawful.{Marked}
+use Rattle.ciel_journal.specs.Job.{In, Job, Needed, Task, of, show}
 use Rattle.ciel_journal_job.proofs.AlikeLaw.{is_one, needed_to}
 use Rattle.ciel_journal_job.specs.Real.{back}
 use Rattle.ciel_master_board.specs.Follows.{GoesBy}
@@ -22,13 +20,6 @@ use Rattle.ciel_master_safe.specs.Reports.{names_from, outputs_of}
 use Rattle.ciel_task_order.specs.Named.{frozen_mark, mark_of, name_of}
 use Rattle.ciel_log_model.proofs.Books.{J, S}
 use Rattle.ciel_log_model.proofs.Spawned.{around, reads}
-
--- what was made is the outputs
-pub marked_names : {D : Type 0} (job : Job D) (ds : List D) (made : List (D × Digest)) → Marked job ds made → names_of made ≡ ds
-marked_names job [] [] k = refl
-marked_names job [] (m ∷ ms) k = absurd k
-marked_names job (d ∷ ds) [] k = absurd k
-marked_names job (d ∷ ds) (m ∷ ms) k = ap (λ e. e ∷ names_of ms) k.0 ∙ ap (λ es. d ∷ es) (marked_names job ds ms k.2)
 
 module _ (digest : List ℕ → List ℕ) where
   names_long : (x : List ℕ) (a : Val (List ℕ)) (n k m : ℕ) → length (names_from digest x a n k m) ≡ m

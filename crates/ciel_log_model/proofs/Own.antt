@@ -10,7 +10,6 @@ use Rattle.sky_base.specs.Val.{Desc}
 use Rattle.sky_base.specs.declared.object.Desc1.{Desc1}
 use Rattle.sky_base.specs.declared.object.Named.{Named}
 use Rattle.sky_base.specs.declared.object.Object.{Object}
-use Rattle.sky_base.specs.declared.object.TaskId.{TaskId}
 use Rattle.sky_frozen_bytes.specs.Bytes.{frozen_bytes}
 use Rattle.sky_frozen_bytes.specs.Spelled.{StandSpelled}
 use Rattle.ciel_journal.specs.Entries.{low_names}
@@ -26,7 +25,8 @@ use Rattle.ciel_log_fits.specs.Known.{AfterSeen}
 use Rattle.ciel_log_fits.specs.Named.{desc_of}
 use Rattle.ciel_log_follows.specs.Begins.{ReadsEvent}
 use Rattle.ciel_log_follows.proofs.Closes.{views_of}
-use Rattle.ciel_log_follows.proofs.Reported.{Same, same_reports}
+use Rattle.ciel_log_follows.proofs.Reported.{Same, same_missing, same_reports, same_saved}
+use Rattle.ciel_log_follows.proofs.Steps.{not_started}
 use Rattle.ciel_log_read.specs.Recorded as read
 use Rattle.ciel_log_read.specs.Recorded.{IsRecord, record_bytes, started}
 use Rattle.ciel_log_read.specs.View.{end_view, report_view}
@@ -69,20 +69,6 @@ are_named digest (d ∷ ds) h = (record { name = refl; spelled = h.0 }, are_name
 name_none : (digest : List ℕ → List ℕ) (ds : List Desc1) → map desc_view ds ≡ [] → length (name_each digest ds) ≡ 0
 name_none digest [] e = refl
 name_none digest (d ∷ ds) e = cc
-
-no_start : (k w from : ℕ) (task : TaskId) (l : ℕ) (ds : List (Desc (List ℕ))) (ns : List (List ℕ)) (a : HowEnded)
-    → read.reported l ds ns a ≡ started k w from task → ⊥
-no_start k w from task l ds ns a e = cc
-
-same_saved : (j i : ℕ) (x y : List ℕ) → HowEnded.saved j x ≡ HowEnded.saved i y → (j ≡ i) × (x ≡ y)
-same_saved j i x y e =
-    let p : j ≡ i = cc in
-    let q : x ≡ y = cc in (p, q)
-
-same_missing : (a b : List ℕ) (i j : ℕ) → HowEnded.missing a i ≡ HowEnded.missing b j → (a ≡ b) × (i ≡ j)
-same_missing a b i j e =
-    let p : a ≡ b = cc in
-    let q : i ≡ j = cc in (p, q)
 
 module _ (digest : List ℕ → List ℕ) (job : s.Job) (gives : Gives) (h : List (Event s.Desc)) (b : Board P) (kept : BTreeMap Digest Object)
     (order : Order) (x : IsAt digest job gives h b kept order) where
@@ -217,7 +203,7 @@ module _ (digest : List ℕ → List ℕ) (job : s.Job) (gives : Gives) (h : Lis
     passes : (e : Event s.Desc) → Step the b.plan v e → (rec : RecordOf digest job gives h e bytes) → ReadsEvent digest job gives h e bytes rec
         → ReportPasses digest job.script b kept order logged
     passes (start k w t from) step rec reads =
-        absurd (no_start k w from (task_id the t) logged.number (map desc_view logged.spawned.items) logged.copied.items (end_view logged.end)
+        absurd (not_started logged k w from (task_id the t)
         (one_record (report_view logged) (started k w from (task_id the t)) readable reads (spelled ∙ rec)))
     passes (lost w n) step rec reads = absurd rec
     passes (done k made copied spawned) step rec reads =

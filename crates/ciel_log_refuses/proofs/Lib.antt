@@ -6,4 +6,4 @@ mod Whole
 mod Fits
 mod Views
 mod Ends
-mod Refusals
+pub mod Refusals

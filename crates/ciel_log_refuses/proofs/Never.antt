@@ -20,7 +20,7 @@ use Rattle.ciel_log_follows.specs.Begins.{ReadsEvent, ReadsIdle}
 use Rattle.ciel_log_follows.proofs.LogAt as log_at
 use Rattle.ciel_log_follows.proofs.LogAt.{NextAt}
 use Rattle.ciel_log_follows.proofs.RunAt.{low_last, only_next}
-use Rattle.ciel_log_follows.proofs.Steps.{Stands, comes, found_none, idle_starts, not_lost, not_started, same_number, step_here, turn_here}
+use Rattle.ciel_log_follows.proofs.Steps.{Stands, comes, idle_reports, idle_starts, not_lost, not_started, step_here, turn_here}
 use Rattle.ciel_log_model.specs.Laws.{IsAt}
 use Rattle.ciel_log_model.proofs.Own.{own_reports_pass}
 use Rattle.ciel_log_read.specs.File.{RecordAt}
@@ -216,13 +216,10 @@ module _ {K N : Type 0} (gives : K → Gives) (digest : N → List ℕ → List 
         out_is_open S is h b.board x.run.working.work.going x.run.working.work.safe.sound x.run.runs (slots_of b.out) x.run.orders
         fails.worker (order_view fails.order) (slots_at b.out fails.worker fails.order fails.there) (x.out fails.worker fails.order fails.there)
 
-    idle_told : (z : List ℕ) → record_bytes (report_view logged) ≡ z → (i : Idle D J G h z) → ReadsIdle D J G h z i → ⊥
-    idle_told z e (logs.reported k free spawned copied how) reads =
-        let same = same_number logged k spawned copied how
-        (one_record (report_view logged) (read.reported k spawned copied how) readable reads e) in
-        found_none out_is.start (sym out_is.is_open ∙ subst (λ n. find_open S.job n v.orders ≡ None) (same ∙ sym fails.number) free.1)
-    idle_told z e (logs.dropped k free) reads =
-        let same = one_record (report_view logged) (dropped k) readable free.0 e in cc
+    idle_told : (i : Idle D J G h bytes) → ReadsIdle D J G h bytes i → ⊥
+    idle_told i reads =
+        idle_reports gives digest shop_ m header log orderly b at x bytes next there logged readable out_is.start
+        (subst (λ n. find_open S.job n v.orders ≡ Some out_is.start) fails.number out_is.is_open) bytes e i reads
 
     -- a report comes where nothing can be started
     rests_then : (a : Event s.Desc) (rec : RecordOf D J G h a bytes) → ReadsEvent D J G h a bytes rec → Turn_ a → Rests S.job b.board.plan v
@@ -286,6 +283,6 @@ module _ {K N : Type 0} (gives : K → Gives) (digest : N → List ℕ → List 
       by_next (λ i reads. idle_starts gives digest shop_ m header log orderly b at x bytes next there number worker from task readable bytes e i reads)
       (λ a rec reads step turn. start_is number worker from task readable e fails a rec reads step turn)
   never_refused (refused.no_report logged readable e fails) =
-      by_next (λ i reads. idle_told logged readable e fails bytes e i reads) (λ a rec reads step turn. report_is logged readable e fails a rec reads step turn)
+      by_next (λ i reads. idle_told logged readable e fails i reads) (λ a rec reads step turn. report_is logged readable e fails a rec reads step turn)
   never_refused (refused.no_drop number readable e some) =
       by_next (λ i reads. drop_idle number readable e some bytes e i reads) (λ a rec reads step turn. drop_is number readable e some a rec reads)

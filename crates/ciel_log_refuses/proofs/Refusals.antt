@@ -1,10 +1,10 @@
--- A file is refused only where its records begin no log of a journal, or behind the end of the run.
-use Rattle.std.proofs.Common.{◌≡◌, ◌≤◌, ◌+◌, ℕ, List, [], ◌++◌, drop, take, inl, inr, sym, ◌∙◌, subst, arith}
-use Rattle.std.proofs.Math.Seq.{take-take}
+-- A file is refused only where its records begin no log of a journal.
+use Rattle.std.proofs.Common.{◌≤◌, ℕ, List, take, inl, inr, subst, arith}
 use Rattle.sky_base.specs.JobView.{job_view}
 use Rattle.sky_base.specs.KitView.{Gives}
 use Rattle.sky_base.specs.See as s
 use Rattle.ciel_journal.specs.Entries.{Entry}
+use Rattle.ciel_journal.specs.History.{Plan}
 use Rattle.ciel_journal.specs.Job.{In}
 use Rattle.ciel_log_file.specs.Refused.{IsRefused, RefusedAfter}
 use Rattle.ciel_log_file.specs.Replays.{At}
@@ -16,12 +16,11 @@ use Rattle.ciel_log_follows.specs.Follows.{IsAtFirst}
 use Rattle.ciel_log_follows.proofs.Replayed.{here_first, replay_all}
 use Rattle.ciel_log_follows.proofs.Steps.{Stands, losses}
 use Rattle.ciel_log_read.specs.File.{RecordAt}
-use Rattle.ciel_log_refuses.specs.Refusals.{IsWholeRun, LogsAreReplayed, RefusedForCause}
+use Rattle.ciel_log_refuses.specs.Refusals.{LogsAreReplayed, LogsHaveNoBadPlace, RefusedAreBad, RefusedForCause}
 use Rattle.ciel_log_refuses.proofs.Cut.{cut_prefix, record_cut, records_cut}
 use Rattle.ciel_log_refuses.proofs.Kept.{AllKept, losses_kept, replays_kept}
 use Rattle.ciel_log_refuses.proofs.Never.{never_refused}
-use Rattle.ciel_log_refuses.proofs.Whole.{ended_whole}
-use Rattle.ciel_log_records.specs.Records.{in_file}
+use Rattle.ciel_log_refuses.proofs.Whole.{none_after_end}
 use Rattle.ciel_master.specs.Seen.{MasterSeen}
 use Rattle.ciel_task_order.specs.declared.shop.Shop.{Shop}
 
@@ -69,37 +68,46 @@ module _ {K N : Type 0} (gives : K → Gives) (digest : N → List ℕ → List 
   nothing_made : AllKept m.board.journal r.first
   nothing_made k made copied i = absurd (subst (In (Entry.Done k made copied)) first.journal i)
 
-  pub whole_run : IsWholeRun D J G m.board.plan header (take at log)
-  whole_run = pick r.cause
+  pub no_log : ⊥
+  no_log = pick r.cause
     where
-      pick : RefusedAfter D J.script shop_.shelves starting r.records r.bytes → IsWholeRun D J G m.board.plan header (take at log)
+      pick : RefusedAfter D J.script shop_.shelves starting r.records r.bytes → ⊥
       pick (inl ended) =
-          subst (IsWholeRun D J G m.board.plan header) (take-take at r.next log at_before)
-          (ended_whole gives digest shop_ m header cut first.kept.orderly starting ended.1 r.records ended.0 ended.2 r.stand.0 at stand_there here)
+          none_after_end gives digest shop_ m header cut first.kept.orderly starting ended.1 r.records ended.0 ended.2 r.stand.0 at stand_there here
+          r.bytes r.next refused_there
       pick (inr goes) =
           let behind = replay_all gives digest shop_ m header cut first.kept.orderly goes.1 r.stand.0 at stand_there here in
           let then = losses gives digest shop_ m header cut first.kept.orderly goes.0 goes.2.then at goes.2.losses behind in
           let kept = losses_kept D shop_.shelves J.script goes.0 goes.2.then goes.2.losses
           (replays_kept D shop_.shelves J.script goes.1 nothing_made) in
-          absurd (never_refused gives digest shop_ m header cut first.kept.orderly goes.2.then at then r.bytes r.next refused_there goes.2.losses.quiet
-          kept goes.2.refused)
+          never_refused gives digest shop_ m header cut first.kept.orderly goes.2.then at then r.bytes r.next refused_there goes.2.losses.quiet kept
+          goes.2.refused
+
+-- a file that is cut begins the same log
+cut_begins : (digest : List ℕ → List ℕ) (job : s.Job) (gives : Gives) (p : Plan) (header log : List ℕ) (n : ℕ)
+    → BeginsLog digest job gives p header log → BeginsLog digest job gives p header (take n log)
+cut_begins digest job gives p header log n b =
+    record { journal = b.journal; all = b.all; log = b.log; short = b.short; read = b.read; prefix = cut_prefix log b.all n b.prefix }
+
+pub logs_have_no_bad_place : LogsHaveNoBadPlace
+logs_have_no_bad_place digest job gives p header log at r begins = r.cause (cut_begins digest job gives p header log r.next begins)
 
 module _ {K N : Type 0} (gives : K → Gives) (digest : N → List ℕ → List ℕ) where
   pub refused_for_cause : RefusedForCause gives digest
-  refused_for_cause shop log header m at first r begins = whole_run gives digest shop log header m at first r begins
+  refused_for_cause shop log header m at first r begins = no_log gives digest shop log header m at first r begins
 
-  -- a file that is cut begins the same log
-  cut_begins : (shop : Shop K N) (log header : List ℕ) (m : MasterSeen N) (n : ℕ)
-      → BeginsLog (digest shop.namer) (job_view shop.job) (gives shop.kit) m.board.plan header log
-      → BeginsLog (digest shop.namer) (job_view shop.job) (gives shop.kit) m.board.plan header (take n log)
-  cut_begins shop log header m n b =
-      record { journal = b.journal; all = b.all; log = b.log; short = b.short; read = b.read; prefix = cut_prefix log b.all n b.prefix }
-
-  -- behind a place where a record stands is something
-  something : (log : List ℕ) (at : ℕ) (bytes : List ℕ) (next : ℕ) → RecordAt log at bytes next → drop at log ≡ [] → ⊥
-  something log at bytes next r e = let bad : in_file bytes ++ drop next log ≡ [] = sym r.here ∙ e in cc
+  pub refused_are_bad : RefusedAreBad gives digest
+  refused_are_bad shop log header m at first r =
+      record {
+        records = r.records;
+        stand = r.stand;
+        bytes = r.bytes;
+        next = r.next;
+        here = r.here;
+        cause = λ begins. no_log gives digest shop log header m at first r begins;
+      }
 
   pub logs_are_replayed : LogsAreReplayed gives digest
-  logs_are_replayed shop log header m at first r begins last =
-      something log at r.bytes r.next r.here
-      (last at (whole_run gives digest shop log header m at first r (cut_begins shop log header m r.next begins)))
+  logs_are_replayed shop log header m at first r begins =
+      logs_have_no_bad_place (digest shop.namer) (job_view shop.job) (gives shop.kit) m.board.plan header log at
+      (refused_are_bad shop log header m at first r) begins

@@ -1,29 +1,30 @@
 -- What is so of a file that a replay refuses.
-use Rattle.std.specs.Prelude.{◌≡◌, ℕ, List, [], drop, take}
+use Rattle.std.specs.Prelude.{ℕ, List, ◌∷◌, take}
 use Rattle.sky_base.specs.JobView.{job_view}
 use Rattle.sky_base.specs.KitView.{Gives}
 use Rattle.sky_base.specs.See as s
 use Rattle.sky_base.specs.Tree.{Script}
-use Rattle.ciel_journal.specs.Entries.{Entry}
 use Rattle.ciel_journal.specs.History.{Plan}
-use Rattle.ciel_journal.specs.Laws.{ShowDone}
-use Rattle.ciel_log.specs.Logs.{Logs}
 use Rattle.ciel_log_file.specs.Refused.{IsRefused, RefusedBehind}
 use Rattle.ciel_log_file.specs.Replays.{At, EndsBy}
 use Rattle.ciel_log_file.specs.Sending.{nobody}
+use Rattle.ciel_log_file.specs.Whole.{RecordsTo}
 use Rattle.ciel_log_follows.specs.Begins.{BeginsLog}
 use Rattle.ciel_log_follows.specs.Follows.{IsAtFirst}
+use Rattle.ciel_log_read.specs.File.{RecordAt}
 use Rattle.ciel_master.specs.Seen.{MasterSeen}
 use Rattle.ciel_master.specs.declared.stop.RunEnd.{RunEnd}
 use Rattle.ciel_store.specs.Seen.{ShelvesSeen}
-use Rattle.ciel_task_order.specs.Named.{shop_job}
 use Rattle.ciel_task_order.specs.declared.shop.Shop.{Shop}
 
--- it is the whole log of a run that has come to its end: the root task is done
-pub record IsWholeRun (digest : List ℕ → List ℕ) (job : s.Job) (gives : Gives) (p : Plan) (header bytes : List ℕ) : Type 0 where
-  pub journal : List Entry
-  pub log : Logs digest job gives p header journal bytes
-  pub done : ShowDone (shop_job digest job gives) log.history
+-- Behind the header and other records a whole record begins at this place, and the records up to and with that one begin no log of a journal
+pub record IsBadAt (digest : List ℕ → List ℕ) (job : s.Job) (gives : Gives) (p : Plan) (header log : List ℕ) (at : ℕ) : Type 0 where
+  pub records : List (List ℕ)
+  pub stand : RecordsTo log 0 (header ∷ records) at
+  pub bytes : List ℕ
+  pub next : ℕ
+  pub here : RecordAt log at bytes next
+  pub cause : BeginsLog digest job gives p header (take next log) → ⊥
 
 -- for each kit what it gives, and for each namer its digest
 module _ {K N : Type 0} (gives : K → Gives) (digest : N → List ℕ → List ℕ) where
@@ -35,20 +36,23 @@ module _ {K N : Type 0} (gives : K → Gives) (digest : N → List ℕ → List 
       → (r : IsRefused (digest shop.namer) (job_view shop.job).script shop.shelves log header at m.board (nobody m.board.plan.workers))
       → Q shop log header m at r
 
-  -- the records up to and with that one begin no log of a journal, but where those before it are the whole log of a run that has come to its
-  -- end, behind which nothing is logged
+  -- the records up to and with that one begin no log of a journal
   abbrev pub RefusedForCause : Type 0
   RefusedForCause =
       OfRefusals (λ shop log header m at r.
-      BeginsLog (digest shop.namer) (job_view shop.job) (gives shop.kit) m.board.plan header (take r.next log)
-      → IsWholeRun (digest shop.namer) (job_view shop.job) (gives shop.kit) m.board.plan header (take at log))
+      BeginsLog (digest shop.namer) (job_view shop.job) (gives shop.kit) m.board.plan header (take r.next log) → ⊥)
 
-  -- so no file is refused that begins a log of a journal, and in which nothing stands behind the whole log of a run that has come to its end
+  -- so such a place is bad, of the bytes alone
+  abbrev pub RefusedAreBad : Type 0
+  RefusedAreBad =
+      OfRefusals (λ shop log header m at r.
+      IsBadAt (digest shop.namer) (job_view shop.job) (gives shop.kit) m.board.plan header log at)
+
+  -- so no file is refused that begins a log of a journal
   abbrev pub LogsAreReplayed : Type 0
   LogsAreReplayed =
       OfRefusals (λ shop log header m at r.
-      BeginsLog (digest shop.namer) (job_view shop.job) (gives shop.kit) m.board.plan header log
-      → ((n : ℕ) → IsWholeRun (digest shop.namer) (job_view shop.job) (gives shop.kit) m.board.plan header (take n log) → drop n log ≡ []) → ⊥)
+      BeginsLog (digest shop.namer) (job_view shop.job) (gives shop.kit) m.board.plan header log → ⊥)
 
 -- a record that is refused while the run goes on is no report with which the run ends: none that fits its order, and which the master refuses
 -- then since a name clashes or there is no room for a description
@@ -56,3 +60,9 @@ abbrev pub RefusedEndNothing : Type 0
 RefusedEndNothing =
     (digest : List ℕ → List ℕ) (shelves : ShelvesSeen) (sc : Script) (a : At) (bytes : List ℕ) → RefusedBehind digest sc a bytes
     → (end : RunEnd) (c : At) → EndsBy digest shelves sc a bytes end c → ⊥
+
+-- a file that begins a log of a journal has no bad place
+abbrev pub LogsHaveNoBadPlace : Type 0
+LogsHaveNoBadPlace =
+    (digest : List ℕ → List ℕ) (job : s.Job) (gives : Gives) (p : Plan) (header log : List ℕ) (at : ℕ) → IsBadAt digest job gives p header log at
+    → BeginsLog digest job gives p header log → ⊥

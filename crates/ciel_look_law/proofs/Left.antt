@@ -63,11 +63,15 @@ module _ (digest : List ℕ → List ℕ) (job : s.Job) (gives : Gives) where
       subst (λ (v : Standing s.Desc). find_open J k v.orders ≡ None) (sym (one_more past (lost w closes)))
       (none_among J (λ (o : OpenStart s.Desc). not (nat_eq w o.worker)) k (standing J past).orders h)
 
+  goes_on : (past : List (Event s.Desc)) (w closes : ℕ) → (standing J past).over ≡ false
+      → (standing J (past ++ lost w closes ∷ [])).over ≡ false
+  goes_on past w closes h = subst (λ (v : Standing s.Desc). v.over ≡ false) (sym (one_more past (lost w closes))) h
+
   idle_on : (past : List (Event s.Desc)) (w closes : ℕ) (bytes : List ℕ) → Idle digest job gives past bytes
       → Idle digest job gives (past ++ lost w closes ∷ []) bytes
   idle_on past w closes bytes (logs.reported k free spawned copied how) =
-      logs.reported k (free.0, free_on past w closes k free.1) spawned copied how
-  idle_on past w closes bytes (logs.dropped k free) = logs.dropped k (free.0, free_on past w closes k free.1)
+      logs.reported k (free.0, free_on past w closes k free.1, goes_on past w closes free.2) spawned copied how
+  idle_on past w closes bytes (logs.dropped k free) = logs.dropped k (free.0, free_on past w closes k free.1, goes_on past w closes free.2)
 
   -- records that each have a length of four bytes
   pub record FitRecords (past es : List (Event s.Desc)) (bytes : List ℕ) : Type 0 where

@@ -136,6 +136,7 @@ module _ {K N : Type 0} {gives : K → Gives} {digest : N → List ℕ → List 
         journal = sym k.runs.follows.journal;
         closed = none_open S r.number (standing S.job k.history).orders b.orders k.runs.follows.stands.orders none;
         number = fits;
+        going = k.runs.follows.stands.going at.work.going;
       }
 
   -- ---- taken

@@ -1,5 +1,5 @@
 -- What a report tells of a run's history: one that is taken an event more, and one that is thrown away nothing.
-use Rattle.std.specs.Prelude.{◌≡◌, ◌<◌, ◌^◌, ℕ, List, [], ◌∷◌, ◌++◌, Some, None}
+use Rattle.std.specs.Prelude.{◌≡◌, ◌<◌, ◌^◌, ℕ, false, List, [], ◌∷◌, ◌++◌, Some, None}
 use Rattle.sky_base.specs.JobView.{job_view}
 use Rattle.sky_base.specs.KitView.{Gives}
 use Rattle.sky_base.specs.See as s
@@ -42,10 +42,11 @@ module _ {K N : Type 0} (gives : K → Gives) (digest : N → List ℕ → List 
     pub shows : AnswerIs (digest shop.namer) (job_view shop.job) (gives shop.kit) r.end
     pub places : PlacesSound shop.shelves r.worker (job_view shop.job).script r
 
-  -- the report was thrown away in this state of the master: its number is that of no open Start
+  -- the report was thrown away in this state of the master: its number is that of no open Start, and the run goes on
   pub record ThrownAs (b : Board P) (r : Report) : Type 0 where
     pub history : List (Event s.Desc)
     pub lawful : Lawful S.job b.plan history
     pub journal : journal_of S.job history ≡ b.journal
     pub closed : find_open S.job r.number (standing S.job history).orders ≡ None
     pub number : r.number < 2 ^ 64
+    pub going : (standing S.job history).over ≡ false
