@@ -1,0 +1,2 @@
+pub mod AheadLaw
+pub mod OrderAhead
