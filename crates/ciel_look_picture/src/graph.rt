@@ -80,7 +80,7 @@ pub fn draw_graph(alloc: Global, sheet: &mut Sheet, scene: &Scene) -> Result<(),
 impl Graph {
     /// A node for each input.
     fn add_inputs(&mut self, alloc: Global, scene: &Scene) -> Result<(), Memory> {
-        for known in &scene.known {
+        for known in &scene.known.all {
             if matches!(&known.desc, Desc1::Input { key: _ }) {
                 let node = self.nodes.len();
                 let text = words::words(alloc, &known.desc)?;
@@ -206,7 +206,7 @@ impl Graph {
                 }
             }
             if matches!(task.id, TaskId::Show) {
-                if let Some(main) = scene.known.first() {
+                if let Some(main) = scene.known.all.first() {
                     self.add_names(alloc, scene, &[main.name], to)?;
                 }
             }

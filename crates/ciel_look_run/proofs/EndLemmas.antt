@@ -11,11 +11,12 @@ use Rattle.ciel_look_story.specs.declared.story.NoStory.{NoStory}
 use Rattle.ciel_look_told.specs.Head.{Head}
 use Rattle.ciel_look_told.specs.Told.{Told}
 use Rattle.sky_base.specs.declared.object.TaskId.{TaskId}
+use Rattle.ciel_look_tasks.specs.Seen.{IsSeenOf, Seen}
 use Rattle.ciel_look_tasks.specs.Tasks.{begun, tasks as told_tasks}
 use Rattle.ciel_look_tasks.proofs.TaskLists.{any_once}
 use Rattle.ciel_look_text.specs.Asked.{any_has, has_digits, is_started}
-use Rattle.ciel_look_run.specs.Ends.{Because, HasStory, IsNoLine, IsOf, IsThere, IsTold, IsUnwritten, IsWriteEnd, IsWritten, NoTaskOf, Parts}
-use Rattle.ciel_look_run.specs.Ends.{Put, Unread, Untold, Wrote, WroteSo, most, told_parts}
+use Rattle.ciel_look_run.specs.Ends.{Because, HasStory, IsNoLine, IsOf, IsThere, IsTold, IsUnwritten, IsWriteEnd, IsWritten, NoTaskOf}
+use Rattle.ciel_look_run.specs.Ends.{IsOfTold, Put, Unread, Untold, Wrote, WroteSo, most}
 use Rattle.ciel_look_run.specs.Line as line
 use Rattle.ciel_look_run.specs.Line.{Asked}
 use Rattle.ciel_look_run.specs.declared.ends.Why.{Why}
@@ -34,19 +35,21 @@ too_long None at e p = tt
 too_long (Some file) at e p = subst (λ n. n < length file) e p
 
 -- what is said of a story
-pub story_so : (content : Option (List ℕ)) (P Q : List Told → Type 0) → HasStory content P → ((ts : List Told) → P ts → Q ts) → HasStory content Q
+pub story_so : (content : Option (List ℕ)) (P Q : Head → List Told → Type 0) → HasStory content P
+    → ((head : Head) (ts : List Told) → P head ts → Q head ts) → HasStory content Q
 story_so None P Q h f = tt
-story_so (Some log) P Q h f = (h.0, h.1, h.2, f h.1 h.3)
+story_so (Some log) P Q h f = (h.0, h.1, h.2, f h.0 h.1 h.3)
 
 -- the tasks have the digits if the starts have them
 told_has : (digits : List ℕ) (tasks : List TaskId) (ts : List Told) → tasks ≡ told_tasks ts → any_has digits tasks ≡ is_started digits ts
 told_has digits tasks ts e =
     ap (any_has digits) e ∙ any_once (has_digits digits) (flat_map begun ts)
 
-there_told : (asked : Asked) (tasks : List TaskId) (ts : List Told) → tasks ≡ told_tasks ts → IsThere asked tasks → IsTold asked ts
-there_told line.text tasks ts e h = tt
-there_told (line.why digits) tasks ts e h = sym (told_has digits tasks ts e) ∙ h
-there_told line.picture tasks ts e h = tt
+there_told : (asked : Asked) (tasks : List TaskId) (head : Head) (ts : List Told) → tasks ≡ told_tasks ts → IsThere asked tasks
+    → IsTold asked head ts
+there_told line.text tasks head ts e h = tt
+there_told (line.why digits) tasks head ts e h = sym (told_has digits tasks ts e) ∙ h
+there_told line.picture tasks head ts e h = tt
 
 module _ (content : Option (List ℕ)) (before after : ℕ) (path : List ℕ) (asked : Asked) where
   abbrev Here : Why → Type 0
@@ -67,19 +70,19 @@ module _ (content : Option (List ℕ)) (before after : ℕ) (path : List ℕ) (a
   untold NoStory.Memory why bytes f n e = subst Here (sym e) tt
 
   -- where there is a story, with these tasks
-  pub written : (p : Parts) → HasStory content (λ ts. p ≡ told_parts ts) → (why : Why) → IsWriteEnd p.0 asked why → Here why
-  written p s Why.Done e = story_so content (λ ts. p ≡ told_parts ts) (IsTold asked) s (λ ts h. there_told asked p.0 ts (ap (λ (q : Parts). q.0) h) e)
+  pub written : (tasks : List TaskId) → HasStory content (λ head ts. tasks ≡ told_tasks ts) → (why : Why) → IsWriteEnd tasks asked why → Here why
+  written p s Why.Done e = story_so content (λ head ts. p ≡ told_tasks ts) (IsTold asked) s (λ head ts h. there_told asked p head ts h e)
   written p s Why.Usage e = absurd e
   written p s (Why.ReadFault q) e = absurd e
   written p s (Why.TooLong q) e = absurd e
   written p s (Why.NotLog q at) e = absurd e
   written p s (Why.NoTask digits) e = (
     e.0,
-    story_so content (λ ts. p ≡ told_parts ts) (λ ts. is_started digits ts ≡ false) s
-        (λ ts h. sym (told_has digits p.0 ts (ap (λ (q : Parts). q.0) h)) ∙ e.1),
+    story_so content (λ head ts. p ≡ told_tasks ts) (λ head ts. is_started digits ts ≡ false) s
+        (λ head ts h. sym (told_has digits p ts h) ∙ e.1),
   )
   written p s Why.WriteFault e =
-      story_so content (λ ts. p ≡ told_parts ts) (IsTold asked) s (λ ts h. there_told asked p.0 ts (ap (λ (q : Parts). q.0) h) e)
+      story_so content (λ head ts. p ≡ told_tasks ts) (IsTold asked) s (λ head ts h. there_told asked p head ts h e)
   written p s Why.Memory e = tt
 
 pub unread_writes_nothing : (path : List ℕ) (refusal : FileRefusal) (why : Why) → Unread path refusal why → IsUnwritten why
@@ -121,12 +124,11 @@ module _ (had has : Option (List ℕ)) (before after : ℕ) where
   wrote_so asked P Q f Why.Memory w = w
 
   -- of the story
-  pub wrote_told : (content : Option (List ℕ)) (p : Parts) (asked : Asked) (why : Why) → HasStory content (λ ts. p ≡ told_parts ts)
-      → WroteSo (IsOf asked p) had has before after asked why → Wrote content had has before after asked why
-  wrote_told content p asked why s w =
-      wrote_so asked (IsOf asked p) (λ text. HasStory content (λ ts. IsOf asked (told_parts ts) text))
-      (λ text h. story_so content (λ ts. p ≡ told_parts ts) (λ ts. IsOf asked (told_parts ts) text) s
-      (λ ts e. subst (λ q. IsOf asked q text) e h)) why w
+  pub wrote_told : (content : Option (List ℕ)) (s : Seen) (asked : Asked) (why : Why) → HasStory content (λ head ts. IsSeenOf head ts s)
+      → WroteSo (IsOf asked s) had has before after asked why → Wrote content had has before after asked why
+  wrote_told content s asked why h w =
+      wrote_so asked (IsOf asked s) (λ text. HasStory content (IsOfTold asked text))
+      (λ text is. story_so content (λ head ts. IsSeenOf head ts s) (IsOfTold asked text) h (λ head ts told. (s, told, is))) why w
 
   pub put_ends : (tasks : List TaskId) (asked : Asked) (text : List ℕ) → IsThere asked tasks → (why : Why) → Put had has before after text why
       → IsWriteEnd tasks asked why

@@ -8,10 +8,11 @@ use Rattle.ciel_look_shown.specs.Lines.{IsLines}
 use Rattle.ciel_look_told.specs.Head.{Head}
 use Rattle.ciel_look_story.specs.Story.{NotLog, Tells}
 use Rattle.ciel_look_told.specs.Told.{Told}
-use Rattle.ciel_look_tasks.specs.Tasks.{begun, losses, starts, tasks}
+use Rattle.ciel_look_tasks.specs.Seen.{IsSeenOf, Seen}
+use Rattle.ciel_look_tasks.specs.Tasks.{begun}
 use Rattle.ciel_look_text.specs.Asked.{any_has, is_started}
-use Rattle.ciel_look_text.specs.Lines.{LinesBegin}
-use Rattle.ciel_look_text.specs.Text.{beginnings}
+use Rattle.ciel_look_text.specs.Text as lines
+use Rattle.ciel_look_text.specs.Text.{lines_of}
 use Rattle.ciel_look_run.specs.Line as line
 use Rattle.ciel_look_run.specs.Line.{Asked, line_of}
 use Rattle.ciel_io.specs.declared.files.FileRefusal.{FileRefusal}
@@ -29,15 +30,8 @@ IsWritten (line.why digits) text = IsLines text
 IsWritten line.picture text = IsPicture text
 
 -- the file, where it is told, is a log of which is told what is said of it
-abbrev pub HasStory : Option (List ℕ) → (List Told → Type 0) → Type 0
-HasStory content P = IfSome content (λ log. (head : Head) × (ts : List Told) × Tells log head ts × P ts)
-
--- what a text is of: the tasks, the losses, and how many starts there were
-abbrev pub Parts : Type 0
-Parts = List TaskId × (List (ℕ × ℕ) × ℕ)
-
-abbrev pub told_parts : List Told → Parts
-told_parts ts = (tasks ts, (losses ts, length (starts ts)))
+abbrev pub HasStory : Option (List ℕ) → (Head → List Told → Type 0) → Type 0
+HasStory content P = IfSome content (λ log. (head : Head) × (ts : List Told) × Tells log head ts × P head ts)
 
 -- what is asked is there: some of the tasks has these first digits, where they are asked for
 abbrev pub IsThere : Asked → List TaskId → Type 0
@@ -46,14 +40,18 @@ IsThere (line.why digits) tasks = any_has digits tasks ≡ true
 IsThere line.picture tasks = Unit {0}
 
 -- the starts that are told are of such a task
-abbrev pub IsTold : Asked → List Told → Type 0
-IsTold asked ts = IsThere asked (flat_map begun ts)
+abbrev pub IsTold : Asked → Head → List Told → Type 0
+IsTold asked head ts = IsThere asked (flat_map begun ts)
 
--- the text is of these
-abbrev pub IsOf : Asked → Parts → List ℕ → Type 0
-IsOf line.text parts text = LinesBegin (beginnings parts.0 parts.1.0 parts.1.1) text
-IsOf (line.why digits) parts text = Unit {0}
-IsOf line.picture parts text = Unit {0}
+-- the text is, line by line, of what is seen
+abbrev pub IsOf : Asked → Seen → List ℕ → Type 0
+IsOf line.text s text = text ≡ lines.text (lines_of s)
+IsOf (line.why digits) s text = Unit {0}
+IsOf line.picture s text = Unit {0}
+
+-- of a run that is seen as it was told
+abbrev pub IsOfTold : Asked → List ℕ → Head → List Told → Type 0
+IsOfTold asked text head ts = (s : Seen) × IsSeenOf head ts s × IsOf asked s text
 
 -- the cause of each end, where the words name this path and ask so: of the file at the path, and of the files' faults before and after
 abbrev pub Because : Option (List ℕ) → (before after : ℕ) → List ℕ × Asked → Why → Type 0
@@ -62,7 +60,7 @@ Because content before after l Why.Usage = ⊥
 Because content before after l (Why.ReadFault path) = (path ≡ l.0) × HasRisen before after
 Because content before after l (Why.TooLong path) = (path ≡ l.0) × IfSome content (λ log. most < length log)
 Because content before after l (Why.NotLog path at) = (path ≡ l.0) × IfSome content (λ log. NotLog log at)
-Because content before after l (Why.NoTask digits) = (l.1 ≡ line.why digits) × HasStory content (λ ts. is_started digits ts ≡ false)
+Because content before after l (Why.NoTask digits) = (l.1 ≡ line.why digits) × HasStory content (λ head ts. is_started digits ts ≡ false)
 Because content before after l Why.WriteFault = HasStory content (IsTold l.1)
 Because content before after l Why.Memory = Unit {0}
 
@@ -81,7 +79,7 @@ WroteSo P had has before after asked why = has ≡ had
 -- what was asked of the file, where it is told: the text is of what the file tells
 abbrev pub Wrote : Option (List ℕ) → Option (List ℕ) → Option (List ℕ) → (before after : ℕ) → Asked → Why → Type 0
 Wrote content had has before after asked why =
-    WroteSo (λ text. HasStory content (λ ts. IsOf asked (told_parts ts) text)) had has before after asked why
+    WroteSo (λ text. HasStory content (IsOfTold asked text)) had has before after asked why
 
 -- ---- of inner calls
 

@@ -1,11 +1,14 @@
 //! The call that the program makes.
 
 ghost use Rattle.std.specs.Prelude.{◌≡◌, IfErr, IfOk, MatchOption};
+ghost use Rattle.ciel_look_tasks.specs.Seen.{IsSeenOf};
+ghost use Rattle.ciel_look_tasks.specs.SceneView.{scene_view};
+ghost use Rattle.ciel_look_tasks.specs.View.{ids};
 ghost use Rattle.ciel_look_run.specs.Ends.{Because, HasStory, IsNoLine, IsOf, IsUnwritten, IsWriteEnd, NoTaskOf, Put, Unread, Untold, Wrote};
-ghost use Rattle.ciel_look_run.specs.Ends.{WroteSo, told_parts};
+ghost use Rattle.ciel_look_run.specs.Ends.{WroteSo};
 ghost use Rattle.ciel_look_run.specs.Line as seen;
 ghost use Rattle.ciel_look_run.specs.Line.{line_of};
-ghost use Rattle.ciel_look_run.specs.View.{asked_view, line_view, parts_of};
+ghost use Rattle.ciel_look_run.specs.View.{asked_view, line_view};
 
 use crate::ends::Why;
 use crate::line::{Asked, Line, read_words};
@@ -54,7 +57,7 @@ fn look_at<F: Files, O: Sink>(alloc: Global, line: &Line, files: &mut F, out: &m
 
 /// What is seen of the run whose log stands at a path.
 fn read_scene<F: Files>(alloc: Global, path: &Txt, files: &mut F) -> Result<Scene, Why>
-    ensures story { IfOk result (λ s. HasStory (F.content files.old path.now) (λ ts. parts_of s ≡ told_parts ts)) }
+    ensures story { IfOk result (λ s. HasStory (F.content files.old path.now) (λ head ts. IsSeenOf head ts (scene_view s))) }
     ensures refused { IfErr result (λ why. (asked : seen.Asked) → Because (F.content files.old path.now) (F.faults files.old) (F.faults files.new)
         (path.now, asked) why) }
     ensures unwritten { IfErr result IsUnwritten }
@@ -102,8 +105,8 @@ fn why_untold(path: &Txt, refusal: NoStory) -> Why
 
 /// Writes what is asked.
 fn write<O: Sink>(alloc: Global, scene: &Scene, asked: &Asked, out: &mut O) -> Why
-    ensures ends { IsWriteEnd (parts_of scene.now).0 (asked_view asked.now) result }
-    ensures wrote { WroteSo (IsOf (asked_view asked.now) (parts_of scene.now)) (O.written out.old) (O.written out.new) (O.faults out.old)
+    ensures ends { IsWriteEnd (ids scene.now.roll.tasks.items) (asked_view asked.now) result }
+    ensures wrote { WroteSo (IsOf (asked_view asked.now) (scene_view scene.now)) (O.written out.old) (O.written out.new) (O.faults out.old)
         (O.faults out.new) (asked_view asked.now) result }
 {
     match asked {
@@ -115,8 +118,8 @@ fn write<O: Sink>(alloc: Global, scene: &Scene, asked: &Asked, out: &mut O) -> W
 
 /// Writes the text.
 fn write_text<O: Sink>(alloc: Global, scene: &Scene, out: &mut O) -> Why
-    ensures ends { IsWriteEnd (parts_of scene.now).0 seen.text result }
-    ensures wrote { WroteSo (IsOf seen.text (parts_of scene.now)) (O.written out.old) (O.written out.new) (O.faults out.old)
+    ensures ends { IsWriteEnd (ids scene.now.roll.tasks.items) seen.text result }
+    ensures wrote { WroteSo (IsOf seen.text (scene_view scene.now)) (O.written out.old) (O.written out.new) (O.faults out.old)
         (O.faults out.new) seen.text result }
 {
     let lines = match text_of(alloc, scene) {
@@ -128,8 +131,8 @@ fn write_text<O: Sink>(alloc: Global, scene: &Scene, out: &mut O) -> Why
 
 /// Writes why a task was started.
 fn write_why<O: Sink>(alloc: Global, scene: &Scene, digits: &Txt, out: &mut O) -> Why
-    ensures ends { IsWriteEnd (parts_of scene.now).0 (seen.why digits.now) result }
-    ensures wrote { WroteSo (IsOf (seen.why digits.now) (parts_of scene.now)) (O.written out.old) (O.written out.new) (O.faults out.old)
+    ensures ends { IsWriteEnd (ids scene.now.roll.tasks.items) (seen.why digits.now) result }
+    ensures wrote { WroteSo (IsOf (seen.why digits.now) (scene_view scene.now)) (O.written out.old) (O.written out.new) (O.faults out.old)
         (O.faults out.new) (seen.why digits.now) result }
 {
     let found = match why_of(alloc, scene, digits) {
@@ -144,8 +147,8 @@ fn write_why<O: Sink>(alloc: Global, scene: &Scene, digits: &Txt, out: &mut O) -
 
 /// Writes the picture.
 fn write_picture<O: Sink>(alloc: Global, scene: &Scene, out: &mut O) -> Why
-    ensures ends { IsWriteEnd (parts_of scene.now).0 seen.picture result }
-    ensures wrote { WroteSo (IsOf seen.picture (parts_of scene.now)) (O.written out.old) (O.written out.new) (O.faults out.old)
+    ensures ends { IsWriteEnd (ids scene.now.roll.tasks.items) seen.picture result }
+    ensures wrote { WroteSo (IsOf seen.picture (scene_view scene.now)) (O.written out.old) (O.written out.new) (O.faults out.old)
         (O.faults out.new) seen.picture result }
 {
     let picture = match picture_of(alloc, scene) {

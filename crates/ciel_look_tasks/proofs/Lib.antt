@@ -1,2 +1,9 @@
-pub mod TaskLists
+pub mod HeadSteps
+pub mod KnownSteps
+pub mod OrderPlaces
+pub mod OrderSteps
 pub mod RollSteps
+pub mod RowSteps
+pub mod RunSteps
+pub mod SceneRows
+pub mod TaskLists

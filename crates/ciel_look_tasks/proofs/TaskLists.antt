@@ -34,7 +34,7 @@ exact_task TaskId.Show (TaskId.Of m) h = absurd cc
 exact_task (TaskId.Of n) TaskId.Show h = absurd cc
 exact_task (TaskId.Of n) (TaskId.Of m) h = ap TaskId.Of (exact_text n m h)
 
-flip_task : (t u : TaskId) → same_task t u ≡ false → same_task u t ≡ false
+pub flip_task : (t u : TaskId) → same_task t u ≡ false → same_task u t ≡ false
 flip_task t u h = go (same_task u t) refl
   where
     go : (b : Bool) → same_task u t ≡ b → b ≡ false
@@ -86,7 +86,7 @@ found_more old new us k h e u n =
 
 -- ---- each once
 
-any_place : (t : TaskId) (us : List TaskId) → list_any (same_task t) us ≡ is_some (place_in t us)
+pub any_place : (t : TaskId) (us : List TaskId) → list_any (same_task t) us ≡ is_some (place_in t us)
 any_place t [] = refl
 any_place t (u ∷ us) = go (same_task t u) (place_in t us) (list_any (same_task t) us) (any_place t us)
   where

@@ -1,2 +1,9 @@
+pub mod Heads
+pub mod Known
+pub mod Learned
+pub mod Orders
+pub mod Rows
+pub mod SceneView
+pub mod Seen
 pub mod Tasks
 pub mod View

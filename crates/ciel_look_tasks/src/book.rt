@@ -1,6 +1,14 @@
-//! The descriptions of a run, each with its name.
+//! What is known of a run's descriptions.
 
-use crate::places::push;
+ghost use Rattle.std.specs.Prelude.{◌≡◌, [], IfOk, map};
+ghost use Rattle.sky_base.specs.ObjectView.{desc_view};
+ghost use Rattle.ciel_look_told.specs.Head as head;
+ghost use Rattle.ciel_look_told.specs.View.{head_view};
+ghost use Rattle.ciel_look_tasks.specs.Heads.{task_place};
+ghost use Rattle.ciel_look_tasks.specs.Known.{knowns, with_known};
+ghost use Rattle.ciel_look_tasks.specs.Learned.{given, learned, with_name};
+
+use crate::register::Register;
 use ciel_look_told::header::Header;
 use ciel_look_words::known::{Known, named};
 use sky_base::name::Name;
@@ -17,22 +25,23 @@ pub struct Output {
     index: u32,
 }
 
-/// The descriptions that are known, in the order in which they were learned; the place of each name; and the name of each output.
+/// Whether names are short, the descriptions that are known, and the name of each output.
 #[derive(Drop)]
 pub struct Book {
     pub short: bool,
-    pub known: Vec<Known>,
-    pub known_at: BTreeMap<Name, usize>,
+    pub known: Register,
     pub outputs: BTreeMap<Output, Name>,
 }
 
 impl Book {
     /// What is known before anything is spawned: the main call, and the inputs.
-    pub fn new(alloc: Global, header: &Header) -> Result<Book, Memory> {
+    pub fn new(alloc: Global, header: &Header) -> Result<Book, Memory>
+        ensures short { IfOk result (λ b. b.short ≡ head.short (head_view header.now)) }
+        ensures known { IfOk result (λ b. knowns b.known.all.items ≡ learned (head.short (head_view header.now)) [] (given (head_view header.now))) }
+    {
         let mut book = Book {
             short: header.job.short,
-            known: Vec::new(alloc),
-            known_at: BTreeMap::new(alloc),
+            known: Register::new(alloc),
             outputs: BTreeMap::new(alloc),
         };
         let main = Desc1::Call {
@@ -49,7 +58,11 @@ impl Book {
     }
 
     /// Learns descriptions.
-    pub fn learn_all(&mut self, alloc: Global, spawned: Vec<Desc1>) -> Result<(), Memory> {
+    pub fn learn_all(&mut self, alloc: Global, spawned: Vec<Desc1>) -> Result<(), Memory>
+        ensures short { self.new.short ≡ self.old.short }
+        ensures known { IfOk result (λ _. knowns self.new.known.all.items
+            ≡ learned self.old.short (knowns self.old.known.all.items) (map desc_view spawned.items)) }
+    {
         for desc in spawned {
             self.learn(alloc, desc)?;
         }
@@ -57,37 +70,24 @@ impl Book {
     }
 
     /// Learns a description, where its name is new.
-    fn learn(&mut self, alloc: Global, desc: Desc1) -> Result<(), Memory> {
+    fn learn(&mut self, alloc: Global, desc: Desc1) -> Result<(), Memory>
+        ensures short { self.new.short ≡ self.old.short }
+        ensures known { IfOk result (λ _. knowns self.new.known.all.items
+            ≡ with_known (knowns self.old.known.all.items) (with_name self.old.short (desc_view desc))) }
+    {
         let one = named(alloc, self.short, desc)?;
-        if let Desc1::Exec {
-            executor: _,
-            args: _,
-            outputs: _,
-            index,
-        } = &one.desc
-        {
-            let output = Output {
-                task: one.task,
-                index: *index,
-            };
-            if self.outputs.insert(output, one.name).is_err() {
-                return Err(Memory);
-            }
-        }
-        if self.known_at.contains_key(&one.name) {
-            return Ok(());
-        }
-        if self.known_at.insert(one.name, self.known.len()).is_err() {
-            return Err(Memory);
-        }
-        push(&mut self.known, one)
+        note_output(&mut self.outputs, &one)?;
+        self.known.learn(one)?;
+        Ok(())
     }
 
     /// The place of a task's description.
-    pub fn of_task(&self, id: &TaskId) -> Option<usize> {
+    pub fn of_task(&self, id: &TaskId) -> Option<usize>
+        ensures place { result ≡ task_place id.now self.now.known.all.items }
+    {
         match id {
             TaskId::Show => None,
-            TaskId::Of(name) => self.known_at.get(name).copied(),
+            TaskId::Of(name) => self.known.place(name),
         }
     }
 
@@ -95,4 +95,24 @@ impl Book {
     pub fn output(&self, task: TaskId, index: u32) -> Option<Name> {
         self.outputs.get(&Output { task, index }).copied()
     }
+}
+
+/// The name of an output, where the description is of one.
+fn note_output(names: &mut BTreeMap<Output, Name>, one: &Known) -> Result<(), Memory> {
+    if let Desc1::Exec {
+        executor: _,
+        args: _,
+        outputs: _,
+        index,
+    } = &one.desc
+    {
+        let output = Output {
+            task: one.task,
+            index: *index,
+        };
+        if names.insert(output, one.name).is_err() {
+            return Err(Memory);
+        }
+    }
+    Ok(())
 }

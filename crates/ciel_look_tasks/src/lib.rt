@@ -4,6 +4,7 @@
 pub mod book;
 pub mod make;
 mod places;
+pub mod register;
 pub mod roll;
 pub mod scene;
 pub mod starts;

@@ -1,9 +1,16 @@
 //! The scene of a story, made entry by entry.
 
 ghost use Rattle.std.specs.Prelude.{◌≡◌, [], ◌∷◌, ◌++◌, IfOk, map};
-ghost use Rattle.ciel_look_told.specs.View.{told_view};
+ghost use Rattle.sky_base.specs.ObjectView.{desc_view};
+ghost use Rattle.ciel_look_told.specs.Head as head;
+ghost use Rattle.ciel_look_told.specs.View.{head_view, outcome_view, told_view};
+ghost use Rattle.ciel_look_tasks.specs.Heads.{AreDescribed, task_place, with_begun, with_heading};
+ghost use Rattle.ciel_look_tasks.specs.Known.{knowns};
+ghost use Rattle.ciel_look_tasks.specs.Learned.{given, known, learned, spawned};
+ghost use Rattle.ciel_look_tasks.specs.Orders.{after_told, closed, cut, ended, is_wait, orders, out};
+ghost use Rattle.ciel_look_tasks.specs.Rows.{AreFiled};
 ghost use Rattle.ciel_look_tasks.specs.Tasks.{begun, loss_of, losses, start_of, starts, tasks, with_task, with_tasks};
-ghost use Rattle.ciel_look_tasks.specs.View.{ids, losses_view, starts_view};
+ghost use Rattle.ciel_look_tasks.specs.View.{ending_view, headings, ids, losses_view, orders_view, rows, starts_view};
 
 use crate::book::Book;
 use crate::places::{Place, Places, push, put_all};
@@ -36,8 +43,13 @@ struct Maker {
 /// Answers `Memory` for want of memory.
 pub fn scene_of(alloc: Global, story: Story) -> Result<Scene, Memory>
     ensures tasks { IfOk result (λ s. ids s.roll.tasks.items ≡ tasks (map told_view story.told.items)) }
+    ensures rows { IfOk result (λ s. AreFiled (rows s.roll.tasks.items) (starts_view s.runs.items)) }
+    ensures descs { IfOk result (λ s. AreDescribed (head_view story.header) (map told_view story.told.items) (knowns s.known.all.items)
+        (headings s.roll.tasks.items)) }
     ensures starts { IfOk result (λ s. starts_view s.runs.items ≡ starts (map told_view story.told.items)) }
     ensures losses { IfOk result (λ s. losses_view s.losses.items ≡ losses (map told_view story.told.items)) }
+    ensures orders { IfOk result (λ s. orders_view s.runs.items ≡ orders (map told_view story.told.items)) }
+    ensures known { IfOk result (λ s. knowns s.known.all.items ≡ known (head_view story.header) (map told_view story.told.items)) }
 {
     let Story { header, told } = story;
     let mut maker = Maker::new(alloc, header)?;
@@ -51,8 +63,13 @@ impl Maker {
     /// Nothing is told; the main call and the inputs are known.
     fn new(alloc: Global, header: Header) -> Result<Maker, Memory>
         ensures tasks { IfOk result (λ m. ids m.roll.tasks.items ≡ []) }
+        ensures rows { IfOk result (λ m. AreFiled (rows m.roll.tasks.items) (starts_view m.starts.runs.items)) }
+        ensures headings { IfOk result (λ m. headings m.roll.tasks.items ≡ []) }
         ensures starts { IfOk result (λ m. starts_view m.starts.runs.items ≡ []) }
+        ensures orders { IfOk result (λ m. orders_view m.starts.runs.items ≡ []) }
         ensures losses { IfOk result (λ m. losses_view m.losses.items ≡ []) }
+        ensures short { IfOk result (λ m. m.book.short ≡ head.short (head_view header)) }
+        ensures known { IfOk result (λ m. knowns m.book.known.all.items ≡ learned (head.short (head_view header)) [] (given (head_view header))) }
     {
         let book = Book::new(alloc, &header)?;
         Ok(Maker {
@@ -70,8 +87,12 @@ impl Maker {
 
     fn into_scene(self) -> Scene
         ensures tasks { ids result.roll.tasks.items ≡ ids self.roll.tasks.items }
+        ensures rows { rows result.roll.tasks.items ≡ rows self.roll.tasks.items }
+        ensures headings { headings result.roll.tasks.items ≡ headings self.roll.tasks.items }
         ensures starts { starts_view result.runs.items ≡ starts_view self.starts.runs.items }
+        ensures orders { orders_view result.runs.items ≡ orders_view self.starts.runs.items }
         ensures losses { losses_view result.losses.items ≡ losses_view self.losses.items }
+        ensures known { knowns result.known.all.items ≡ knowns self.book.known.all.items }
     {
         let Maker {
             header,
@@ -87,7 +108,6 @@ impl Maker {
         let Book {
             short: _,
             known,
-            known_at,
             outputs: _,
         } = book;
         let Starts {
@@ -98,7 +118,6 @@ impl Maker {
         Scene {
             header,
             known,
-            known_at,
             roll,
             runs,
             losses,
@@ -111,9 +130,18 @@ impl Maker {
     /// Takes an entry of the story.
     fn take(&mut self, alloc: Global, told: Told) -> Result<(), Memory>
         ensures tasks { IfOk result (λ _. ids self.new.roll.tasks.items ≡ with_tasks (ids self.old.roll.tasks.items) (begun (told_view told))) }
+        ensures headings { IfOk result (λ _. headings self.new.roll.tasks.items
+            ≡ with_begun self.old.book.known.all.items (headings self.old.roll.tasks.items) (told_view told)) }
+        ensures rows { IfOk result (λ _. AreFiled (rows self.old.roll.tasks.items) (starts_view self.old.starts.runs.items)
+            → AreFiled (rows self.new.roll.tasks.items) (starts_view self.new.starts.runs.items)) }
         ensures starts { IfOk result (λ _. starts_view self.new.starts.runs.items
             ≡ starts_view self.old.starts.runs.items ++ start_of (told_view told)) }
+        ensures orders { IfOk result (λ _. orders_view self.new.starts.runs.items
+            ≡ after_told (told_view told) (orders_view self.old.starts.runs.items)) }
         ensures losses { IfOk result (λ _. losses_view self.new.losses.items ≡ losses_view self.old.losses.items ++ loss_of (told_view told)) }
+        ensures short { self.new.book.short ≡ self.old.book.short }
+        ensures known { IfOk result (λ _. knowns self.new.book.known.all.items
+            ≡ learned self.old.book.short (knowns self.old.book.known.all.items) (spawned (told_view told))) }
     {
         match told {
             Told::Start {
@@ -150,9 +178,16 @@ impl Maker {
         id: &TaskId,
     ) -> Result<(), Memory>
         ensures tasks { IfOk result (λ _. ids self.new.roll.tasks.items ≡ with_task (ids self.old.roll.tasks.items) id.now) }
+        ensures headings { IfOk result (λ _. headings self.new.roll.tasks.items
+            ≡ with_heading (headings self.old.roll.tasks.items) id.now (task_place id.now self.old.book.known.all.items)) }
+        ensures rows { IfOk result (λ _. AreFiled (rows self.old.roll.tasks.items) (starts_view self.old.starts.runs.items)
+            → AreFiled (rows self.new.roll.tasks.items) (starts_view self.new.starts.runs.items)) }
         ensures starts { IfOk result (λ _. starts_view self.new.starts.runs.items
             ≡ starts_view self.old.starts.runs.items ++ (number, (worker, (from, id.now))) ∷ []) }
+        ensures orders { IfOk result (λ _. orders_view self.new.starts.runs.items
+            ≡ orders_view self.old.starts.runs.items ++ ((number, (worker, (from, id.now))), out) ∷ []) }
         ensures losses { IfOk result (λ _. losses_view self.new.losses.items ≡ losses_view self.old.losses.items) }
+        ensures book { self.new.book ≡ self.old.book }
     {
         let known = self.book.of_task(id);
         let task = self.roll.enter(alloc, id, known)?;
@@ -166,8 +201,15 @@ impl Maker {
     /// An order ended.
     fn end(&mut self, alloc: Global, ended: Ended) -> Result<(), Memory>
         ensures tasks { IfOk result (λ _. ids self.new.roll.tasks.items ≡ ids self.old.roll.tasks.items) }
+        ensures rows { IfOk result (λ _. rows self.new.roll.tasks.items ≡ rows self.old.roll.tasks.items) }
+        ensures headings { IfOk result (λ _. headings self.new.roll.tasks.items ≡ headings self.old.roll.tasks.items) }
         ensures starts { IfOk result (λ _. starts_view self.new.starts.runs.items ≡ starts_view self.old.starts.runs.items) }
+        ensures orders { IfOk result (λ _. orders_view self.new.starts.runs.items
+            ≡ closed ended.number (outcome_view ended.how) (orders_view self.old.starts.runs.items)) }
         ensures losses { IfOk result (λ _. losses_view self.new.losses.items ≡ losses_view self.old.losses.items) }
+        ensures short { self.new.book.short ≡ self.old.book.short }
+        ensures known { IfOk result (λ _. knowns self.new.book.known.all.items
+            ≡ learned self.old.book.short (knowns self.old.book.known.all.items) (map desc_view ended.spawned.items)) }
     {
         let Ended {
             number,
@@ -176,14 +218,14 @@ impl Maker {
             how,
         } = ended;
         self.book.learn_all(alloc, spawned)?;
-        let Some(run) = self.starts.order(number) else {
+        let Some(held) = self.starts.order(number) else {
             return Ok(());
         };
-        let Some((worker, task)) = self.starts.held(run) else {
-            return Ok(());
+        let place = Place {
+            worker: held.worker,
+            run: held.run,
         };
-        let place = Place { worker, run };
-        let made = made(alloc, &self.book, &self.roll, task, &how)?;
+        let made = made(alloc, &self.book, &self.roll, held.task, &how)?;
         put_all(alloc, &mut self.places, made.as_slice(), place)?;
         copy_all(
             alloc,
@@ -194,21 +236,25 @@ impl Maker {
         )?;
         let at = self.happened.len();
         self.starts.close(
-            run,
+            held.run,
             End {
                 at,
                 how: How::Told { outcome: how, made },
             },
         );
-        push(&mut self.happened, Happening::Ended(run))?;
+        push(&mut self.happened, Happening::Ended(held.run))?;
         Ok(())
     }
 
     /// A worker is lost, and the orders that it had end so.
     fn lose(&mut self, alloc: Global, worker: u32, after: u64) -> Result<(), Memory>
         ensures tasks { IfOk result (λ _. ids self.new.roll.tasks.items ≡ ids self.old.roll.tasks.items) }
+        ensures rows { IfOk result (λ _. rows self.new.roll.tasks.items ≡ rows self.old.roll.tasks.items) }
+        ensures headings { IfOk result (λ _. headings self.new.roll.tasks.items ≡ headings self.old.roll.tasks.items) }
         ensures starts { IfOk result (λ _. starts_view self.new.starts.runs.items ≡ starts_view self.old.starts.runs.items) }
+        ensures orders { IfOk result (λ _. orders_view self.new.starts.runs.items ≡ map (cut worker) (orders_view self.old.starts.runs.items)) }
         ensures losses { IfOk result (λ _. losses_view self.new.losses.items ≡ losses_view self.old.losses.items ++ (worker, after) ∷ []) }
+        ensures book { self.new.book ≡ self.old.book }
     {
         let at = self.happened.len();
         let loss = self.losses.len();
@@ -310,19 +356,31 @@ fn waits_at(runs: &[Run], task: &Task, worker: u32) -> bool {
 }
 
 /// Whether an order ended at a wait.
-pub fn is_saved(run: &Run) -> bool {
+pub fn is_saved(run: &Run) -> bool
+    ensures saved { result ≡ is_wait (ending_view run.now.end) }
+{
     match &run.end {
-        Some(end) => matches!(
-            &end.how,
-            How::Told {
-                outcome: Outcome::Saved {
-                    j: _,
-                    weight: _,
-                    waits: _,
-                },
-                made: _,
-            }
-        ),
+        Some(end) => match &end.how {
+            How::Told { outcome, made: _ } => is_wait(outcome),
+            How::Lost { loss: _ } => false,
+        },
         None => false,
+    }
+}
+
+/// Whether a report tells of a wait.
+fn is_wait(outcome: &Outcome) -> bool
+    ensures { result ≡ is_wait (ended (outcome_view outcome.now)) }
+{
+    match outcome {
+        Outcome::Saved {
+            j: _,
+            weight: _,
+            waits: _,
+        } => true,
+        Outcome::Made(_) => false,
+        Outcome::Answer(_) => false,
+        Outcome::Fault(_) => false,
+        Outcome::Missing { name: _, loss: _ } => false,
     }
 }

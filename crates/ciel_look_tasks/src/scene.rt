@@ -1,12 +1,16 @@
 //! What was seen of a run.
 
+ghost use Rattle.std.specs.Prelude.{◌≡◌, MatchOption, None, Some};
+ghost use Rattle.sky_base.specs.ObjectView.{desc_view};
+ghost use Rattle.ciel_look_tasks.specs.Known.{known_as, known_view, knowns, named_at};
+
+use crate::register::Register;
 use crate::roll::Roll;
 use ciel_look_told::header::Header;
 use ciel_look_told::told::Outcome;
 use ciel_look_words::known::Known;
 use sky_base::name::Name;
 use sky_base::object::TaskId;
-use std::collections::BTreeMap;
 
 /// How an order ended.
 #[derive(Drop)]
@@ -74,12 +78,11 @@ pub enum Happening {
     Lost(usize),
 }
 
-/// All that was seen of a run. Each name of `known_at` has its place there.
+/// All that was seen of a run.
 #[derive(Drop)]
 pub struct Scene {
     pub header: Header,
-    pub known: Vec<Known>,
-    pub known_at: BTreeMap<Name, usize>,
+    pub known: Register,
     pub roll: Roll,
     pub runs: Vec<Run>,
     pub losses: Vec<Loss>,
@@ -91,13 +94,21 @@ pub struct Scene {
 
 impl Scene {
     /// The description that is known under a name.
-    pub fn find(&self, name: &Name) -> Option<&Known> {
-        let place = self.known_at.get(name)?;
-        self.known.get(*place)
+    pub fn find(&self, name: &Name) -> Option<&Known>
+        ensures found { MatchOption result (known_as name.now (knowns self.now.known.all.items) ≡ None)
+            (λ k. known_as name.now (knowns self.now.known.all.items) ≡ Some (desc_view k.now.desc)) }
+    {
+        self.known.find(name)
     }
 
     /// The description of a task.
-    pub fn desc_of(&self, task: &Task) -> Option<&Known> {
-        self.known.get(task.known?)
+    pub fn desc_of(&self, task: &Task) -> Option<&Known>
+        ensures known { MatchOption result (named_at self.now.known.all.items task.now.known ≡ None)
+            (λ k. named_at self.now.known.all.items task.now.known ≡ Some (known_view k.now)) }
+    {
+        match task.known {
+            Some(place) => self.known.all.get(place),
+            None => None,
+        }
     }
 }

@@ -1,7 +1,13 @@
 //! The orders of a run.
 
-ghost use Rattle.std.specs.Prelude.{◌≡◌, [], ◌∷◌, ◌++◌, IfOk};
-ghost use Rattle.ciel_look_tasks.specs.View.{starts_view};
+ghost use Rattle.std.specs.Prelude.{◌≡◌, ◌+◌, [], ◌∷◌, ◌++◌, ℕ, List, IfOk, IfSome, MatchOption, None, Some, is_some, length, map};
+ghost use Rattle.std.specs.Prelude.{set, slice_get};
+ghost use Rattle.std.specs.BTreeMap.{get};
+ghost use Rattle.std.specs.Ordering.{nat_cmp};
+ghost use Rattle.ciel_look_told.specs.Told.{Outcome};
+ghost use Rattle.ciel_look_tasks.specs.Orders.{Ending, closed, cut, cut_so_far, ended, is_open_at, is_out, is_out_at, last_of, out};
+ghost use Rattle.ciel_look_tasks.specs.Tasks.{Start};
+ghost use Rattle.ciel_look_tasks.specs.View.{ending_view, how_ending, numbers, order_ends, orders_view, starts_view};
 
 use crate::places::push;
 use crate::scene::{End, How, Run};
@@ -17,18 +23,28 @@ pub struct Origin {
     wait: u32,
 }
 
+/// An order that is out: its place, its worker, and its task's place.
+#[derive(Clone, Copy)]
+pub struct Held {
+    pub run: usize,
+    pub worker: u32,
+    pub task: usize,
+}
+
 /// The orders, the place of the last one of each number, and what was started from where.
 #[derive(Drop)]
 pub struct Starts {
     pub runs: Vec<Run>,
     pub run_of: BTreeMap<u64, usize>,
     pub begun: BTreeSet<Origin>,
+    ghost last: { (n : ℕ) → get nat_cmp run_of n ≡ last_of n (numbers runs.items) },
 }
 
 impl Starts {
     /// None.
     pub fn new(alloc: Global) -> Starts
         ensures starts { starts_view result.runs.items ≡ [] }
+        ensures orders { orders_view result.runs.items ≡ [] }
     {
         Starts {
             runs: Vec::new(alloc),
@@ -48,39 +64,78 @@ impl Starts {
         at: usize,
     ) -> Result<usize, Memory>
         ensures starts { IfOk result (λ _. starts_view self.new.runs.items ≡ starts_view self.old.runs.items ++ (number, (worker, (from, id))) ∷ []) }
+        ensures orders { IfOk result (λ _. orders_view self.new.runs.items
+            ≡ orders_view self.old.runs.items ++ ((number, (worker, (from, id))), out) ∷ []) }
+        ensures place { IfOk result (λ p. p ≡ length (starts_view self.old.runs.items)) }
     {
         let Ok(first) = self.begun.insert(Origin { task, wait: from }) else {
             return Err(Memory);
         };
-        let run = self.runs.len();
-        push(
-            &mut self.runs,
-            Run {
-                number,
-                worker,
-                from,
-                id,
-                task,
-                begun: at,
-                again: !first,
-                end: None,
-            },
-        )?;
-        match self.run_of.insert(number, run) {
-            Ok(_) => Ok(run),
-            Err(_) => Err(Memory),
+        let place = self.add(Run {
+            number,
+            worker,
+            from,
+            id,
+            task,
+            begun: at,
+            again: !first,
+            end: None,
+        })?;
+        Ok(place)
+    }
+
+    /// One order more; its place.
+    fn add(&mut self, run: Run) -> Result<usize, Memory>
+        ensures added { IfOk result (λ _. self.new.runs.items ≡ self.old.runs.items ++ run ∷ []) }
+        ensures place { IfOk result (λ p. p ≡ length (starts_view self.old.runs.items)) }
+    {
+        let place = self.runs.len();
+        let number = run.number;
+        push(&mut self.runs, run)?;
+        match self.run_of.insert(number, place) {
+            Ok(_) => Ok(place),
+            Err(_) => {
+                self.runs.pop();
+                Err(Memory)
+            }
         }
     }
 
     /// The place of the last order of this number.
-    pub fn order(&self, number: u64) -> Option<usize> {
+    fn place(&self, number: u64) -> Option<usize>
+        ensures place { result ≡ last_of number (numbers self.now.runs.items) }
+    {
         self.run_of.get(&number).copied()
     }
 
-    /// The worker and the task's place of the order at a place.
-    pub fn held(&self, run: usize) -> Option<(u32, usize)> {
+    /// The last order of this number, where it is out.
+    pub fn order(&self, number: u64) -> Option<Held>
+        ensures order { MatchOption result ((how : Outcome) → closed number how (orders_view self.now.runs.items) ≡ orders_view self.now.runs.items)
+            (λ h. (s : Start) × (slice_get (orders_view self.now.runs.items) h.run ≡ Some (s, out))
+            × ((how : Outcome) → closed number how (orders_view self.now.runs.items) ≡ set (orders_view self.now.runs.items) h.run (s, ended how))) }
+    {
+        match self.place(number) {
+            Some(place) => self.held(place),
+            None => None,
+        }
+    }
+
+    /// The order at a place, where it is out.
+    fn held(&self, run: usize) -> Option<Held>
+        ensures open { is_some result ≡ is_open_at (slice_get (orders_view self.now.runs.items) run) }
+        ensures place { IfSome result (λ h. h.run ≡ run) }
+    {
         match self.runs.get(run) {
-            Some(held) => Some((held.worker, held.task)),
+            Some(one) => {
+                if is_out(&one.end) {
+                    return Some(Held {
+                        run,
+                        worker: one.worker,
+                        task: one.task,
+                    });
+                }
+                None
+            }
             None => None,
         }
     }
@@ -88,6 +143,8 @@ impl Starts {
     /// The order at a place ended.
     pub fn close(&mut self, run: usize, end: End)
         ensures starts { starts_view self.new.runs.items ≡ starts_view self.old.runs.items }
+        ensures orders { (s : Start) (e : Ending) → slice_get (orders_view self.old.runs.items) run ≡ Some (s, e)
+            → orders_view self.new.runs.items ≡ set (orders_view self.old.runs.items) run (s, how_ending end.how) }
     {
         if let Some(held) = self.runs.get_mut(run) {
             held.end = Some(end);
@@ -103,28 +160,72 @@ impl Starts {
         loss: usize,
     ) -> Result<Vec<usize>, Memory>
         ensures starts { starts_view self.new.runs.items ≡ starts_view self.old.runs.items }
+        ensures orders { IfOk result (λ _. orders_view self.new.runs.items ≡ map (cut worker) (orders_view self.old.runs.items)) }
     {
         let mut runs = Vec::new(alloc);
         for run in 0..self.runs.len() {
-            if self.is_out(run, worker) {
-                self.close(
-                    run,
-                    End {
-                        at,
-                        how: How::Lost { loss },
-                    },
-                );
-                push(&mut runs, run)?;
-            }
+            self.cut_at(&mut runs, run, worker, at, loss)?;
         }
         Ok(runs)
     }
 
+    /// The order at a place ends with its worker, where it is out there; its place is one more of these.
+    fn cut_at(
+        &mut self,
+        runs: &mut Vec<usize>,
+        run: usize,
+        worker: u32,
+        at: usize,
+        loss: usize,
+    ) -> Result<(), Memory>
+        ensures starts { starts_view self.new.runs.items ≡ starts_view self.old.runs.items }
+        ensures orders { IfOk result (λ _. (os : List (Start × Ending)) → orders_view self.old.runs.items ≡ cut_so_far worker run os
+            → orders_view self.new.runs.items ≡ cut_so_far worker (run + 1) os) }
+    {
+        if self.is_out_at(run, worker) {
+            self.close(
+                run,
+                End {
+                    at,
+                    how: How::Lost { loss },
+                },
+            );
+            push(runs, run)?;
+            return Ok(());
+        }
+        Ok(())
+    }
+
     /// Whether the order at a place is out at a worker.
-    fn is_out(&self, run: usize, worker: u32) -> bool {
+    fn is_out_at(&self, run: usize, worker: u32) -> bool
+        ensures { result ≡ is_out_at worker (slice_get (orders_view self.now.runs.items) run) }
+    {
         match self.runs.get(run) {
-            Some(held) => held.worker == worker && held.end.is_none(),
+            Some(held) => is_out_with(held, worker),
             None => false,
         }
+    }
+}
+
+/// Whether an order is out at a worker.
+fn is_out_with(run: &Run, worker: u32) -> bool
+    ensures { result ≡ is_out_at worker (Some (order_ends run.now)) }
+{
+    is_out(&run.end) && worker == run.worker
+}
+
+/// Whether an order with this end is out.
+fn is_out(end: &Option<End>) -> bool
+    ensures { result ≡ is_out (ending_view end.now) }
+{
+    match end {
+        None => true,
+        Some(end) => match &end.how {
+            How::Told {
+                outcome: _,
+                made: _,
+            } => false,
+            How::Lost { loss: _ } => false,
+        },
     }
 }

@@ -1,2 +1,6 @@
 pub mod FoundTasks
-pub mod Growing
+pub mod Saying
+pub mod Picking
+pub mod Sums
+pub mod Parts
+pub mod Lines

@@ -1,3 +1,5 @@
 pub mod Asked
-pub mod Lines
+pub mod Runs
+pub mod Says
 pub mod Text
+pub mod Words

@@ -2,6 +2,10 @@
 #![tactic(auto)]
 
 mod label;
+mod loss;
+mod order;
 mod replay;
+mod sum;
+mod task;
 pub mod text;
 pub mod why;

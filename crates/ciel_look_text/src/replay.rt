@@ -1,5 +1,7 @@
 //! A run, gone through again: who waits for what, and what is there.
 
+ghost use Rattle.std.specs.Prelude.{◌≡◌, [], ◌∷◌, ◌++◌, IfOk};
+
 use ciel_look_tasks::scene::{Happening, How, Run, Scene};
 use ciel_look_told::told::Outcome;
 use sky_base::name::Name;
@@ -190,7 +192,7 @@ fn waits_of(alloc: Global, run: &Run) -> Result<Vec<Name>, Memory> {
 /// The name of the main call, which is known first.
 pub fn first_known(alloc: Global, scene: &Scene) -> Result<Vec<Name>, Memory> {
     let mut names = Vec::new(alloc);
-    if let Some(main) = scene.known.first() {
+    if let Some(main) = scene.known.all.first() {
         push(&mut names, main.name)?;
     }
     Ok(names)
@@ -207,6 +209,7 @@ fn copied(alloc: Global, names: &[Name]) -> Result<Vec<Name>, Memory> {
 pub fn push<T>(list: &mut Vec<T>, thing: T) -> Result<(), Memory>
 where
     T: Drop,
+    ensures pushed { IfOk result (λ _. list.new.items ≡ list.old.items ++ thing ∷ []) }
 {
     match list.push(thing) {
         Ok(()) => Ok(()),

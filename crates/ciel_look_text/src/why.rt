@@ -4,7 +4,8 @@ ghost use Rattle.std.specs.Prelude.{◌≡◌, IfOk, is_some};
 ghost use Rattle.ciel_look_tasks.specs.View.{ids};
 ghost use Rattle.ciel_look_text.specs.Asked.{any_has, begins_with, has_digits};
 
-use crate::label::{say, say_ends, say_name, say_number};
+use crate::label::{say, say_ends, say_name, say_with};
+use crate::order::say_start;
 use crate::replay::{Replay, first_known, push};
 use ciel_look_shown::lines::Lines;
 use ciel_look_shown::plain::Plain;
@@ -98,15 +99,7 @@ fn why_task(alloc: Global, scene: &Scene, task: usize) -> Result<Lines, Memory> 
 /// A start of the task, with the chain of needs to it.
 fn start_line(alloc: Global, scene: &Scene, replay: &Replay, run: &Run) -> Result<Plain, Memory> {
     let mut line = Plain::new(alloc);
-    say_number(
-        &mut line,
-        if run.again { "again start " } else { "start " },
-        run.number,
-    )?;
-    say_number(&mut line, " at worker ", u64::from(run.worker))?;
-    if run.from > 0 {
-        say_number(&mut line, " from wait ", u64::from(run.from))?;
-    }
+    say_start(&mut line, run)?;
     say(&mut line, ": ")?;
     let chain = chain_to(alloc, scene, replay, run.task)?;
     say_chain(alloc, &mut line, scene, run.task, chain.as_slice())?;
@@ -259,8 +252,8 @@ fn put_loss(
 ) -> Result<(), Memory> {
     if let Some(run) = cut_of(scene, loss, task) {
         let mut line = Plain::new(alloc);
-        say_number(&mut line, "start ", run.number)?;
-        say_number(&mut line, " was cut: worker ", u64::from(loss.worker))?;
+        say_with(&mut line, "start ", run.number)?;
+        say_with(&mut line, " was cut: worker ", u64::from(loss.worker))?;
         say(&mut line, " was lost, after ")?;
         say_ends(&mut line, loss.after)?;
         lines.put(&line)?;
@@ -268,7 +261,7 @@ fn put_loss(
     }
     if takes_of(scene, loss, task) {
         let mut line = Plain::new(alloc);
-        say_number(
+        say_with(
             &mut line,
             "what it had made was lost with worker ",
             u64::from(loss.worker),

@@ -5,7 +5,7 @@ ghost use Rattle.hex.specs.Hex.{encode_lower};
 ghost use Rattle.sky_base.specs.ObjectView.{desc_view};
 ghost use Rattle.ciel_look_shown.specs.Plain.{shown};
 ghost use Rattle.ciel_look_words.specs.Named.{name_of};
-ghost use Rattle.ciel_look_words.specs.Words.{digits};
+ghost use Rattle.ciel_look_words.specs.Words.{digits, words};
 
 use crate::known::Known;
 use crate::words::{digits, words};
@@ -28,6 +28,7 @@ pub struct Label {
 pub fn label_of(alloc: Global, known: &Known) -> Result<Label, Memory>
     ensures digits { IfOk result (λ l. l.digits ≡ shown (digits (name_of known.now.short (desc_view known.now.desc)))) }
     ensures whole { IfOk result (λ l. l.whole ≡ shown (encode_lower (name_of known.now.short (desc_view known.now.desc)))) }
+    ensures words { IfOk result (λ l. l.words ≡ shown (words (desc_view known.now.desc))) }
 {
     let digits = digits(alloc, &known.name)?;
     let whole = whole(alloc, &known.name)?;

@@ -1,6 +1,7 @@
 //! Bytes of which the first ones are kept.
 
-ghost use Rattle.std.specs.Prelude.{◌≡◌, ◌≤◌, [], length};
+ghost use Rattle.std.specs.Prelude.{◌≡◌, ◌≤◌, ◌+◌, [], ◌++◌, IfOk, IsTrue, length};
+ghost use Rattle.ciel_look_words.specs.Kept.{Puts};
 
 use sky_base::text::Memory;
 use std::alloc::Global;
@@ -36,16 +37,34 @@ impl Short {
     }
 
     /// Puts bytes at the end, as far as they are kept. After `Memory` all is as it was.
-    pub fn put(&mut self, bytes: &[u8]) -> Result<(), Memory> {
-        let kept = bytes.len().min(MOST.saturating_sub(self.held.len()));
-        match self.held.extend_from_slice(&bytes[..kept]) {
+    pub fn put(&mut self, bytes: &[u8]) -> Result<(), Memory>
+        ensures puts { IfOk result (λ _. Puts self.old bytes.now self.new) }
+    {
+        let room = MOST - self.held.len();
+        if bytes.len() <= room {
+            self.append(bytes)?;
+            return Ok(());
+        }
+        let front = &bytes[..room];
+        self.append(front)?;
+        Ok(())
+    }
+
+    /// Puts bytes at the end, for which there is room.
+    fn append(&mut self, bytes: &[u8]) -> Result<(), Memory>
+        requires room { length self.old + length bytes.now ≤ 61 }
+        ensures all { IfOk result (λ _. self.new ≡ self.old ++ bytes.now) }
+    {
+        match self.held.extend_from_slice(bytes) {
             Ok(()) => Ok(()),
             Err(_) => Err(Memory),
         }
     }
 
     /// Whether nothing more is kept.
-    pub fn is_full(&self) -> bool {
+    pub fn is_full(&self) -> bool
+        ensures full { IsTrue result → 61 ≤ length self.now }
+    {
         self.held.len() >= MOST
     }
 

@@ -4,9 +4,9 @@ use Rattle.ciel_look_told.specs.Head.{Head}
 use Rattle.ciel_look_told.specs.Told.{Told}
 use Rattle.ciel_look_told.specs.View.{head_view, told_view}
 use Rattle.ciel_look_story.specs.Story.{Tells}
-use Rattle.ciel_look_run.specs.Ends.{told_parts}
-use Rattle.ciel_look_run.specs.View.{parts_of}
-use Rattle.ciel_look_run.proofs.SceneParts.{parts_told}
+use Rattle.ciel_look_tasks.specs.Seen.{IsSeenOf}
+use Rattle.ciel_look_tasks.specs.SceneView.{scene_view}
+use Rattle.ciel_look_run.proofs.SceneParts.{scene_told}
 use Rattle.ciel_look_run.proofs.EndLemmas.{of_file, unread, unread_writes_nothing, untold, untold_writes_nothing}
 use Rattle.ciel_look_run.proofs.look.read_scene.Goals as goal
 
@@ -37,8 +37,10 @@ returns-in-Ok-scene_of-clause-story g c =
     let content : Option (List ℕ) = g.F.Files.content c.args.files.now c.args.path.now in
     let found : IfSome content (λ file. c.as_slice.result.now ≡ file) =
     subst (λ b. IfSome content (λ file. b ≡ file)) (sym c.as_slice.ensures) c.in-Ok.ensures.found in
-    let same : parts_of c.in-Ok-scene_of.scene ≡ told_parts told =
-    parts_told c.in-Ok-scene_of.scene told c.in-Ok-scene_of.ensures.tasks c.in-Ok-scene_of.ensures.starts c.in-Ok-scene_of.ensures.losses in
+    let same : IsSeenOf (head_view s.header) told (scene_view c.in-Ok-scene_of.scene) =
+    scene_told c.in-Ok-scene_of.scene (head_view s.header) told c.in-Ok-scene_of.ensures.tasks
+    c.in-Ok-scene_of.ensures.descs c.in-Ok-scene_of.ensures.rows
+    c.in-Ok-scene_of.ensures.starts c.in-Ok-scene_of.ensures.orders c.in-Ok-scene_of.ensures.losses c.in-Ok-scene_of.ensures.known in
     of_file content c.as_slice.result.now
-    (λ log. (head : Head) × (ts : List Told) × Tells log head ts × (parts_of c.in-Ok-scene_of.scene ≡ told_parts ts))
+    (λ log. (head : Head) × (ts : List Told) × Tells log head ts × IsSeenOf head ts (scene_view c.in-Ok-scene_of.scene))
     found (head_view s.header, told, c.in-Ok-read_story.ensures.told, same)

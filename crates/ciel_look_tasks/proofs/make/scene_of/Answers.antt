@@ -1,15 +1,40 @@
 -- One entry more is told.
-use Rattle.std.proofs.Common.{◌++◌, ◌∷◌, [], ap, append_assoc, sym, ◌∙◌}
-use Rattle.ciel_look_tasks.proofs.RollSteps.{losses_next, starts_next, tasks_next}
+use Rattle.std.proofs.Common.{◌≡◌, ◌++◌, ◌∷◌, [], ap, append_assoc, length, sym, ◌∙◌}
+use Rattle.ciel_look_told.specs.View.{head_view, told_view}
+use Rattle.ciel_look_tasks.specs.Known.{knowns}
+use Rattle.ciel_look_tasks.specs.Learned.{learned, spawned}
+use Rattle.ciel_look_tasks.proofs.KnownSteps.{known_next}
+use Rattle.ciel_look_tasks.proofs.RollSteps.{all_yielded, heads_next, heads_same, losses_next, rows_same, starts_next, tasks_next}
+use Rattle.ciel_look_tasks.proofs.RunSteps.{orders_next}
 use Rattle.ciel_look_tasks.proofs.make.scene_of.Goals as goal
 
 pub loop-one-preserved : goal.loop-one-preserved
 loop-one-preserved c =
     let l = c.loop-one in
+    let more = c.in_ok-take.ensures.known
+    ∙ ap (λ b. learned b (knowns l.maker.book.known.all.items) (spawned (told_view c.in-Some.one))) l.invariant.short in
     record {
       so_far = append_assoc l.yielded (c.in-Some.one ∷ []) c.next.new.self.rest.items
           ∙ (ap (λ ts. l.yielded ++ ts) (sym c.in-Some.ensures.steps.0) ∙ l.invariant.so_far);
+      rows = c.in_ok-take.ensures.rows l.invariant.rows;
+      descs = heads_next (head_view c.args.story.header) l.yielded c.in-Some.one l.maker.roll.tasks.items _ l.maker.book.known.all.items _
+          l.invariant.descs l.invariant.known l.invariant.tasks more c.in_ok-take.ensures.headings;
       tasks = tasks_next l.yielded c.in-Some.one _ _ l.invariant.tasks c.in_ok-take.ensures.tasks;
       starts = starts_next l.yielded c.in-Some.one _ _ l.invariant.starts c.in_ok-take.ensures.starts;
+      orders = orders_next l.yielded c.in-Some.one _ _ l.invariant.orders c.in_ok-take.ensures.orders;
       losses = losses_next l.yielded c.in-Some.one _ _ l.invariant.losses c.in_ok-take.ensures.losses;
+      short = c.take.ensures.short ∙ l.invariant.short;
+      known = known_next (head_view c.args.story.header) l.yielded c.in-Some.one _ _ l.invariant.known more;
     }
+
+pub returns-clause-rows : goal.returns-clause-rows
+returns-clause-rows c =
+    rows_same _ _ _ _ c.into_scene.ensures.rows c.into_scene.ensures.starts c.loop-one.invariant.rows
+
+pub returns-clause-descs : goal.returns-clause-descs
+returns-clause-descs c =
+    let l = c.loop-one in
+    let rest = l.one-iterator.rest in
+    let none : length rest.items ≡ 0 = sym rest.ok.0 ∙ c.in-None.ensures.steps.0 in
+    let all = all_yielded l.yielded rest.items c.args.story.told.items none l.invariant.so_far in
+    heads_same (head_view c.args.story.header) _ _ _ _ _ _ c.into_scene.ensures.headings c.into_scene.ensures.known all l.invariant.descs

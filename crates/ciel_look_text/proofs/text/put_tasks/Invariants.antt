@@ -1,10 +1,11 @@
--- A line more for each before the index.
-use Rattle.std.proofs.Common.{◌++◌, ℕ, List, map, take}
-use Rattle.ciel_look_tasks.specs.View.{ids}
-use Rattle.ciel_look_text.specs.Lines.{LinesBegin}
-use Rattle.ciel_look_text.specs.Text.{task_begin}
+-- What is left of the tasks.
+use Rattle.std.proofs.Common.{◌≡◌, ◌++◌, drop}
+use Rattle.ciel_look_tasks.specs.Known.{knowns}
+use Rattle.ciel_look_tasks.specs.SceneView.{row_view}
+use Rattle.ciel_look_text.specs.Text.{task_line}
+use Rattle.ciel_look_text.proofs.Lines.{LinesLeft}
 use Rattle.ciel_look_text.proofs.text.put_tasks.Given as goal
 
 abbrev pub invariant-loop-task : goal.invariant-loop-task
 invariant-loop-task l =
-    (fs : List (List ℕ)) → LinesBegin fs l.initial.lines → LinesBegin (fs ++ map task_begin (ids (take l.task-index l.tasks))) l.lines
+    LinesLeft (row_view l.scene) (task_line (knowns l.scene.known.all.items)) l.initial.lines l.tasks l.lines l.task-index

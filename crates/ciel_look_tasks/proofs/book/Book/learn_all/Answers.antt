@@ -1,0 +1,19 @@
+-- One description more is learned.
+use Rattle.std.proofs.Common.{◌++◌, ◌∷◌, [], ap, append_assoc, sym, ◌∙◌, subst}
+use Rattle.sky_base.specs.ObjectView.{desc_view}
+use Rattle.ciel_look_tasks.specs.Known.{knowns, with_known}
+use Rattle.ciel_look_tasks.specs.Learned.{with_name}
+use Rattle.ciel_look_tasks.proofs.KnownSteps.{learned_next}
+use Rattle.ciel_look_tasks.proofs.book.Book.learn_all.Goals as goal
+
+pub loop-desc-preserved : goal.loop-desc-preserved
+loop-desc-preserved c =
+    let l = c.loop-desc in
+    record {
+      so_far = append_assoc l.yielded (c.in-Some.desc ∷ []) c.next.new.self.rest.items
+          ∙ (ap (λ ts. l.yielded ++ ts) (sym c.in-Some.ensures.steps.0) ∙ l.invariant.so_far);
+      short = c.learn.ensures.short ∙ l.invariant.short;
+      known = learned_next c.args.self.now.short (knowns c.args.self.now.known.all.items) (knowns l.self.known.all.items) _ l.yielded c.in-Some.desc
+          l.invariant.known
+          (c.in_ok-learn.ensures.known ∙ ap (λ b. with_known (knowns l.self.known.all.items) (with_name b (desc_view c.in-Some.desc))) l.invariant.short);
+    }

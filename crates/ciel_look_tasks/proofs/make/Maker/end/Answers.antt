@@ -1,0 +1,13 @@
+-- The order is closed, where it is out.
+use Rattle.std.proofs.Common.{sym, ◌∙◌}
+use Rattle.ciel_look_told.specs.View.{outcome_view}
+use Rattle.ciel_look_tasks.specs.Orders as order
+use Rattle.ciel_look_tasks.proofs.make.Maker.end.Goals as goal
+
+pub returns-in_default-clause-orders : goal.returns-in_default-clause-orders
+returns-in_default-clause-orders c = sym (c.in_default.ensures.order (outcome_view c.args.ended.how))
+
+pub returns-clause-orders : goal.returns-clause-orders
+returns-clause-orders c =
+    let o = c.in-Some.ensures.order in
+    c.close.ensures.orders o.0 order.out o.1 ∙ sym (o.2 (outcome_view c.args.ended.how))

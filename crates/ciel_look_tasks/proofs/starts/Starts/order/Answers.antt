@@ -1,0 +1,13 @@
+-- The last order of the number, where it is out.
+use Rattle.ciel_look_tasks.proofs.RunSteps.{order_held, order_none}
+use Rattle.ciel_look_tasks.proofs.starts.Starts.order.Goals as goal
+
+pub returns-in-Some : goal.returns-in-Some
+returns-in-Some c =
+    record {
+      order = order_held c.args.self.now.runs.items c.args.number c.in-Some.place c.held.result c.in-Some.ensures.place c.held.ensures.open
+          c.held.ensures.place;
+    }
+
+pub returns-in-None : goal.returns-in-None
+returns-in-None c = record { order = order_none c.args.self.now.runs.items c.args.number c.in-None.ensures.place }

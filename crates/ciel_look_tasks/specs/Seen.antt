@@ -1,0 +1,93 @@
+-- What is seen of a run.
+use Rattle.std.specs.Prelude.{◌≡◌, ℕ, ◌-◌, List, Bool, Option, length, map, take}
+use Rattle.std.specs.List.{filter}
+use Rattle.sky_base.specs.Val.{Desc}
+use Rattle.sky_base.specs.declared.object.TaskId.{TaskId}
+use Rattle.ciel_look_told.specs.Head.{Head}
+use Rattle.ciel_look_told.specs.Told.{Outcome, Told}
+use Rattle.ciel_look_tasks.specs.Known.{Named}
+use Rattle.ciel_look_tasks.specs.Learned as names
+use Rattle.ciel_look_tasks.specs.Orders as by
+use Rattle.ciel_look_tasks.specs.Orders.{Ending}
+use Rattle.ciel_look_tasks.specs.Tasks as runs
+use Rattle.ciel_look_tasks.specs.Tasks.{Start, same_task}
+
+-- how an order ended: it is still out; it was lost with its worker; or as its report tells, where it waits for these names
+pub data Close : Type 0 where
+  out : Close
+  lost : Close
+  told : Outcome → (waits : List (List ℕ)) → Close
+
+-- an order: its start, whether its task had been started from the same wait before, and how it ended
+pub record Order : Type 0 where
+  pub start : Start
+  pub again : Bool
+  pub close : Close
+
+-- a task, the description that was known under its name when it was first started, its first eight orders, and how many others it had
+pub record Row : Type 0 where
+  pub task : TaskId
+  pub desc : Option (Desc (List ℕ))
+  pub orders : List Order
+  pub others : ℕ
+
+-- a loss: its worker and how many started tasks had been closed, the names of the objects that lay nowhere else, how many stacks lay there, and
+-- the numbers of the orders that were out there
+pub record Taken : Type 0 where
+  pub loss : ℕ × ℕ
+  pub objects : List (List ℕ)
+  pub stacks : ℕ
+  pub cut : List ℕ
+
+-- a run: what is known under names, its tasks, its orders, its losses, and how many objects were copied
+pub record Seen : Type 0 where
+  pub known : List Named
+  pub rows : List Row
+  pub orders : List Order
+  pub losses : List Taken
+  pub copies : ℕ
+
+abbrev pub row_task : Row → TaskId
+row_task r = r.task
+
+abbrev pub order_start : Order → Start
+order_start o = o.start
+
+abbrev pub ending_of : Close → Ending
+ending_of out = by.out
+ending_of lost = by.lost
+ending_of (told outcome waits) = by.ended outcome
+
+abbrev pub order_ended : Order → Start × Ending
+order_ended o = (o.start, ending_of o.close)
+
+abbrev pub taken_loss : Taken → ℕ × ℕ
+taken_loss l = l.loss
+
+-- the orders of a task
+abbrev pub is_of : TaskId → Order → Bool
+is_of t o = same_task t o.start.1.1.1
+
+abbrev pub orders_of : TaskId → List Order → List Order
+orders_of t os = filter (is_of t) os
+
+-- the first eight of them, and how many others there are
+abbrev pub first_orders : List Order → TaskId → List Order × ℕ
+first_orders os t = (take 8 (orders_of t os), length (orders_of t os) - 8)
+
+abbrev pub row_desc : Row → Option (Desc (List ℕ))
+row_desc r = r.desc
+
+abbrev pub row_orders : Row → List Order × ℕ
+row_orders r = (r.orders, r.others)
+
+-- what is seen is what was told, as far as it is said here: the tasks, each with what was known of it when it was
+-- first started and with its orders, the starts, how each order ended, the losses, and what is known
+pub record IsSeenOf (head : Head) (ts : List Told) (s : Seen) : Type 0 where
+  pub tasks : map row_task s.rows ≡ runs.tasks ts
+  pub descs : map row_desc s.rows ≡ map (names.desc_of head ts) (map row_task s.rows)
+  pub rows : map row_orders s.rows ≡ map (first_orders s.orders) (map row_task s.rows)
+  pub starts : map order_start s.orders ≡ runs.starts ts
+  pub orders : map order_ended s.orders ≡ by.orders ts
+  pub losses : map taken_loss s.losses ≡ runs.losses ts
+  pub known : s.known ≡ names.known head ts

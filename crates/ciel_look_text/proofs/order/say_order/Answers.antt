@@ -1,0 +1,6 @@
+-- Piece by piece.
+use Rattle.ciel_look_text.proofs.Saying.{says_two}
+use Rattle.ciel_look_text.proofs.order.say_order.Goals as goal
+
+pub returns : goal.returns
+returns c = record { said = says_two _ _ _ _ _ c.in_ok-say_start.ensures.said c.in_ok-say_close.ensures.said }
